@@ -1,0 +1,314 @@
+-- The float ends of the program: which floats are from -1080 to 1080, that such an angle times 2 ^ 52 is exact, so that its units are what they should be, and that the result is the float of its
+-- number of units of 2 ^ -51. Assumes nothing.
+use mathlib.Core.Path.{_≡_, refl, sym, ap, _∙_, subst}
+use mathlib.Core.Logic.{_⊎_, inl, inr}
+use Prim.Native.Nat.{ℕ, _+_, _-_, _*_, _/_, _%_, _^_, _≤_, _<_, min}
+use native.Mathlib.Nat.{zero-add, mod-lt, add-mod-right, zero-div, lt-of-lt-of-le, le-trans, le-of-eq, le-of-lt, lt-irrefl, eq-or-lt-of-le, mul-comm, mul-one, zero-mul, mul-left-comm, div-lt-iff-lt-mul, mul-pos, eq-of-mul-eq-mul-right, div-eq-of-lt}
+use native.Mathlib.Omega.{arith}
+use mathlib.Core.Bool.{Bool, true, false, not, _&&_, _||_, cond, true≢false, false≢true}
+use lib.Dec.{T, ltb, eqb, lit<, lit≤, ltb→lt, nltb→le, lt→ltb, eqb→eq}
+use lib.IntN.{ℤ, pos, negsuc}
+use lib.Pow.{pow-pos}
+use lib.Ieee.{Float, nan, inf, fin, binary64, up, down, lt, le, eq, neg, mul, div, round, ofInt, toUnsigned, fits}
+use lib.Ieee.Fits.{and-l, and-r, and-i, eq→eqb, down-pos}
+use lib.Ieee.Exact.{HasValue}
+use lib.Ieee.Nearest.{div-same}
+use lib.Ieee.Back.{round-whole}
+use lib.Ieee.Scale.{round-same}
+use lib.Arith.{le→nltb}
+use lib.Ieee.Bits.{is-true}
+use borrow.Author.Tests.{ltb-false}
+use Rattle.refusals.proofs.First.{stops, goes-on}
+use Rattle.fractions.specs.Fraction.{Fraction, fraction, whole, magnitude, signed, number, _⊗_, Same, AtMost}
+use Rattle.fractions.proofs.Order.{same-refl, same-trans}
+use Rattle.fractions.proofs.Number.{number-neg, value-same, value-number}
+use Rattle.fractions.proofs.Close.{Close, Size, size-wider, close-same, close-opposite}
+use Rattle.fractions.proofs.Rounding.{Result}
+use Rattle.fractions.proofs.Operations.{mul-result}
+use Rattle.fractions.proofs.Exact.{Holds, result-number, result-exact, literal-held}
+use Rattle.fractions.proofs.Held.{float-held, power-held}
+use Rattle.series.specs.Angles as Defined
+use Rattle.angles.specs.Computed.{one, turn, isUpright, units, cut, place, rounded}
+use Rattle.angles.specs.Promise.{isInside, isRefused, refusalOf}
+
+-- ---- the floats 0, 1080 and -1080
+nought : ofInt binary64 (pos 0) ≡ fin false 0 (pos 0)
+unfolding ofInt
+nought = refl
+
+highest : ofInt binary64 (pos 1080) ≡ fin false 135 (pos 3)
+unfolding ofInt
+highest = refl
+
+lowest : ofInt binary64 (negsuc 1079) ≡ fin true 135 (pos 3)
+unfolding ofInt
+lowest = refl
+
+-- ---- which floats are inside: those of a number of 1080 at most in size
+
+either : (a b : Bool) {X : Type 0} → (T a → X) → (T b → X) → T (a || b) → X
+either true b f g t = f tt
+either false b f g t = g t
+
+-- a ≤ b, as comparing floats of one sign says it
+at-most : (a b : ℕ) (c : Bool) → T (ltb a b || (eqb a b && c)) → a ≤ b
+at-most a b c t = either (ltb a b) (eqb a b && c) (λ h. le-of-lt (ltb→lt a b h)) (λ h. le-of-eq (eqb→eq a b (and-l (eqb a b) c h))) t
+
+at-most' : (a b : ℕ) (c : Bool) → T (ltb a b || (eqb b a && c)) → a ≤ b
+at-most' a b c t = either (ltb a b) (eqb b a && c) (λ h. le-of-lt (ltb→lt a b h)) (λ h. le-of-eq (sym (eqb→eq b a (and-l (eqb b a) c h)))) t
+
+pub inside-most : (s : Bool) (m : ℕ) (e : ℤ) → T (isInside (fin s m e)) → m * up e ≤ 1080 * down e
+unfolding isInside le lt eq
+inside-most false m e t =
+    let h = and-r (le (ofInt binary64 (negsuc 1079)) (fin false m e)) (le (fin false m e) (ofInt binary64 (pos 1080))) t in
+    le-trans (le-of-eq (sym (mul-one (m * up e)))) (at-most (m * up e * 1) (1080 * down e) true (subst (λ (z : Float). T (le (fin false m e) z)) highest h))
+inside-most true m e t =
+    let h = and-l (le (ofInt binary64 (negsuc 1079)) (fin true m e)) (le (fin true m e) (ofInt binary64 (pos 1080))) t in
+    le-trans (le-of-eq (sym (mul-one (m * up e)))) (at-most' (m * up e * 1) (1080 * down e) true (subst (λ (z : Float). T (le z (fin true m e))) lowest h))
+
+or-l : (a b : Bool) → T a → T (a || b)
+or-l true b t = tt
+
+or-r : (a b : Bool) → T b → T (a || b)
+or-r true b t = tt
+or-r false b t = t
+
+most-at : (a b : ℕ) → a ≤ b → T (ltb a b || (eqb a b && true))
+most-at a b h = go (eq-or-lt-of-le h)
+  where
+    go : (a ≡ b) ⊎ (a < b) → T (ltb a b || (eqb a b && true))
+    go (inl e) = or-r (ltb a b) (eqb a b && true) (and-i (eqb a b) true (eq→eqb e) tt)
+    go (inr l) = or-l (ltb a b) (eqb a b && true) (lt→ltb a b l)
+
+most-at' : (a b : ℕ) → a ≤ b → T (ltb a b || (eqb b a && true))
+most-at' a b h = go (eq-or-lt-of-le h)
+  where
+    go : (a ≡ b) ⊎ (a < b) → T (ltb a b || (eqb b a && true))
+    go (inl e) = or-r (ltb a b) (eqb b a && true) (and-i (eqb b a) true (eq→eqb (sym e)) tt)
+    go (inr l) = or-l (ltb a b) (eqb b a && true) (lt→ltb a b l)
+
+most-inside : (s : Bool) (m : ℕ) (e : ℤ) → m * up e ≤ 1080 * down e → T (isInside (fin s m e))
+unfolding isInside le lt eq
+most-inside false m e h =
+    rw (lowest, highest)
+    (and-i (le (fin true 135 (pos 3)) (fin false m e)) (le (fin false m e) (fin false 135 (pos 3))) (or-l (lt (fin true 135 (pos 3)) (fin false m e)) _ (lt→ltb 0 (1080 * down e + m * up e * 1) (omega (arith, down-pos e)))) (most-at (m * up e * 1) (1080 * down e) (omega arith)))
+most-inside true m e h =
+    rw (lowest, highest)
+    (and-i (le (fin true 135 (pos 3)) (fin true m e)) (le (fin true m e) (fin false 135 (pos 3))) (most-at' (m * up e * 1) (1080 * down e) (omega arith)) (or-l (lt (fin true m e) (fin false 135 (pos 3))) _ (lt→ltb 0 (m * up e * 1 + 1080 * down e) (omega (arith, down-pos e)))))
+
+-- ---- what is refused is what is not inside
+pub refused-is : (d : Float) → isRefused d ≡ not (isInside d)
+unfolding isRefused isInside le lt eq ofInt
+refused-is nan = refl
+refused-is (inf true) = refl
+refused-is (inf false) = refl
+refused-is (fin s m e) = refl
+
+-- an angle of 1080 at most in size is accepted
+pub accepted : (d : Float) → 0 < number d .over → AtMost (magnitude (number d)) (whole 1080) → refusalOf d ≡ 0
+accepted nan h k = absurd (lt-irrefl 0 h)
+accepted (inf s) h k = absurd (lt-irrefl 0 h)
+accepted (fin s m e) h k = goes-on 3 0 (refused-is (fin s m e) ∙ ap not (is-true (isInside (fin s m e)) (most-inside s m e (go s k))))
+  where
+    go : (s : Bool) → AtMost (magnitude (signed s (m * up e) (down e))) (whole 1080) → m * up e ≤ 1080 * down e
+    go true k = omega arith
+    go false k = omega arith
+
+pub accepted-inside : (d : Float) → refusalOf d ≡ 0 → T (isInside d)
+accepted-inside d = go (isInside d) (refused-is d)
+  where
+    go : (b : Bool) → isRefused d ≡ not b → refusalOf d ≡ 0 → T b
+    go true e h = tt
+    go false e h = absurd (three (sym (stops 3 0 e) ∙ h))
+      where
+        three : _≡_ {A = ℕ} 3 0 → ⊥
+        three h = omega arith
+
+pub inside-number : (d : Float) → T (isInside d) → 0 < number d .over
+unfolding isInside le lt eq ofInt
+inside-number nan t = absurd t
+inside-number (inf true) t = absurd t
+inside-number (inf false) t = absurd t
+inside-number (fin s m e) t = down-pos e
+
+-- ---- cut to a whole number
+
+pub record Cut (z : Float) (n : ℕ) : Type 0 where
+  pub above : T (lt (fin true 1 (pos 0)) z)
+  pub under : T (lt z (fin false 1 (pos 64)))
+  pub is : toUnsigned 64 z ≡ n
+
+-- a float that is num / den, not below 0
+cut-number : (z : Float) (num den : ℕ) → 0 < number z .over → 0 < den → num < 2 ^ 64 * den → Same (number z) (fraction num 0 den) → Cut z (num / den)
+unfolding lt toUnsigned
+cut-number nan num den Z D h v = absurd (lt-irrefl 0 Z)
+cut-number (inf s) num den Z D h v = absurd (lt-irrefl 0 Z)
+cut-number (fin false m e) num den Z D h v =
+    let n : num / den < 2 ^ 64 = div-lt-iff-lt-mul D .1 h in
+    let d : m * up e / down e ≡ num / den = div-same (m * up e) (down e) num den (down-pos e) D (plain (m * up e) (down e) num den v) in
+    let u : m * up e < 2 ^ 64 * down e = div-lt-iff-lt-mul (down-pos e) .0 (subst (λ (x : ℕ). x < 2 ^ 64) (sym d) n) in
+    record {
+      above = lt→ltb 0 (1 * down e + m * up e * 1) (omega (arith, down-pos e));
+      under = lt→ltb (m * up e * 1) (2 ^ 64 * down e) (subst (λ (x : ℕ). x < 2 ^ 64 * down e) (sym (mul-one (m * up e))) u);
+      is = capped (m * up e / down e) (num / den) d n;
+    }
+  where
+    plain : (a c num den : ℕ) → a * den + 0 * c ≡ num * c + 0 * den → a * den ≡ num * c
+    plain a c num den v = omega arith
+
+    capped : (a n : ℕ) → a ≡ n → n < 2 ^ 64 → min a (2 ^ 64 - 1) ≡ n
+    capped a n e h = omega arith
+cut-number (fin true m e) num den Z D h v =
+    let z : m * up e ≡ 0 = eq-of-mul-eq-mul-right den D (m * up e) 0 (nothing (m * up e * den) (num * down e) (v' (m * up e) (down e) num den v) .0 ∙ sym (zero-mul den)) in
+    let n : num ≡ 0 = eq-of-mul-eq-mul-right (down e) (down-pos e) num 0 (nothing (m * up e * den) (num * down e) (v' (m * up e) (down e) num den v) .1 ∙ sym (zero-mul (down e))) in
+    record {
+      above = lt→ltb (m * up e * 1) (1 * down e) (omega (arith, down-pos e));
+      under = lt→ltb 0 (m * up e * 1 + 2 ^ 64 * down e) (omega (arith, down-pos e));
+      is = sym (ap (λ (x : ℕ). x / den) n ∙ div-eq-of-lt D);
+    }
+  where
+    v' : (a c num den : ℕ) → 0 * den + 0 * c ≡ num * c + a * den → a * den + num * c ≡ 0
+    v' a c num den v = omega arith
+
+    nothing : (a b : ℕ) → a + b ≡ 0 → (a ≡ 0) × (b ≡ 0)
+    nothing a b h = (omega arith, omega arith)
+
+-- ---- the units of an angle from 0 to 1080
+
+upright-most : (s : Bool) (m : ℕ) (e : ℤ) → T (isUpright (fin s m e)) → (m * up e ≤ 1080 * down e) × (T s → m * up e ≡ 0)
+unfolding isUpright lt le eq ofInt
+upright-most false m e t =
+    let h = and-r (not (lt (fin false m e) (ofInt binary64 (pos 0)))) (le (fin false m e) (ofInt binary64 (pos 1080))) t in
+    (le-trans (le-of-eq (sym (mul-one (m * up e)))) (at-most (m * up e * 1) (1080 * down e) true h), λ f. absurd f)
+upright-most true m e t =
+    let h = nltb→le 0 (m * up e * 1 + 0 * down e) (and-l (not (lt (fin true m e) (ofInt binary64 (pos 0)))) (le (fin true m e) (ofInt binary64 (pos 1080))) t) in
+    (omega arith, λ f. omega arith)
+
+-- times 2 ^ 52 it is exact
+module _ (s : Bool) (m : ℕ) (e : ℤ) (t : T (fits binary64 (fin s m e))) (h : m * up e ≤ 1080 * down e) (n : T s → m * up e ≡ 0) where
+  raised : Fraction
+  raised = number (fin s m e) ⊗ whole (2 ^ 52)
+
+  raised-size : (s : Bool) → Size 1 (signed s (m * up e) (down e) ⊗ whole (2 ^ 52)) (1080 * 2 ^ 52)
+  raised-size true = record { above = omega arith; below = omega arith }
+  raised-size false = record { above = omega arith; below = omega arith }
+
+  raised-pos : 0 < raised .over
+  unfolding raised
+  raised-pos = mul-pos {n = 1} (down-pos e) (lit< tt)
+
+  raised-held : Holds binary64 raised
+  unfolding raised
+  raised-held = power-held binary64 (number (fin s m e)) 52 (down-pos e) (float-held binary64 (fin s m e) (down-pos e) t) (size-wider (raised-size s) (lit≤ tt))
+
+  raised-result : Result binary64 (mul binary64 (fin s m e) (fin false 1 (pos 52))) raised
+  unfolding raised
+  raised-result = mul-result binary64 (fin s m e) (fin false 1 (pos 52)) (down-pos e) (lit< tt)
+
+  raised-is : Same raised (fraction (m * up e * 2 ^ 52) 0 (down e))
+  unfolding raised
+  raised-is = go s n
+    where
+      go : (s : Bool) → (T s → m * up e ≡ 0) → Same (signed s (m * up e) (down e) ⊗ whole (2 ^ 52)) (fraction (m * up e * 2 ^ 52) 0 (down e))
+      go true z = nought-nat (m * up e) (down e) (z tt)
+        where
+          nought-nat : (a c : ℕ) → a ≡ 0 → (0 * 2 ^ 52 + a * 0) * c + 0 * (c * 1) ≡ a * 2 ^ 52 * (c * 1) + (0 * 0 + a * 2 ^ 52) * c
+          nought-nat a c z = rw z (omega arith)
+      go false z = omega arith
+
+  raised-cut : Cut (mul binary64 (fin s m e) (fin false 1 (pos 52))) (m * up e * 2 ^ 52 / down e)
+  raised-cut =
+      let z = mul binary64 (fin s m e) (fin false 1 (pos 52)) in
+      cut-number z (m * up e * 2 ^ 52) (down e) (result-number binary64 raised-pos raised-held raised-result) (down-pos e) (omega (arith, down-pos e))
+      (same-trans (number z) raised (fraction (m * up e * 2 ^ 52) 0 (down e)) raised-pos (result-exact binary64 raised-pos raised-held raised-result) raised-is)
+
+pub upright-cut : (d : Float) → T (fits binary64 d) → T (isUpright d) → Cut (mul binary64 d (fin false 1 (pos 52))) (units d)
+unfolding units isUpright lt le eq ofInt
+upright-cut nan t a = absurd a
+upright-cut (inf true) t a = absurd a
+upright-cut (inf false) t a = absurd a
+upright-cut (fin s m e) t a = let b = upright-most s m e a in raised-cut s m e t (b .0) (b .1)
+
+-- ---- an angle inside, turned: below 0 by its opposite's units
+
+-- from 0 to 1080, from its size and the sign of what is not 0
+most-upright : (s : Bool) (m : ℕ) (e : ℤ) → (T s → m * up e ≡ 0) → m * up e ≤ 1080 * down e → T (isUpright (fin s m e))
+unfolding isUpright lt le eq ofInt
+most-upright false m e z h =
+    and-i (not (lt (fin false m e) (fin false 0 (pos 0)))) (le (fin false m e) (fin false 135 (pos 3))) (le→nltb (m * up e * 1) (0 * down e) (omega arith)) (most-at (m * up e * 1) (1080 * down e) (omega arith))
+most-upright true m e z h =
+    let n = z tt in
+    and-i (not (lt (fin true m e) (fin false 0 (pos 0)))) (le (fin true m e) (fin false 135 (pos 3))) (le→nltb 0 (m * up e * 1 + 0 * down e) (omega arith)) (or-l (lt (fin true m e) (fin false 135 (pos 3))) _ (lt→ltb 0 (m * up e * 1 + 1080 * down e) (omega (arith, down-pos e))))
+
+pub negated : (d : Float) → T (isInside d) → lt d (ofInt binary64 (pos 0)) ≡ true → T (isUpright (neg d)) × (units (neg d) ≡ units d) × ((turn - units d % turn) % turn ≡ place d)
+unfolding isInside lt le eq neg ofInt place cut units Defined.turned
+negated nan t l = absurd (false≢true l)
+negated (inf true) t l = absurd t
+negated (inf false) t l = absurd t
+negated (fin false m e) t l = absurd (lt-irrefl (m * up e * 1) (lt-of-lt-of-le (ltb→lt (m * up e * 1) (0 * down e) (subst T (sym l) tt)) (omega arith)))
+negated (fin true m e) t l =
+    let u = m * up e * 2 ^ 52 / down e in
+    (most-upright false m e (λ f. absurd f) (inside-most true m e t), refl, (ap (λ (n : ℕ). n % turn) (sym (zero-add (turn - u % turn)))))
+
+pub itself : (d : Float) → T (isInside d) → lt d (ofInt binary64 (pos 0)) ≡ false → T (isUpright d) × (units d % turn ≡ place d)
+unfolding isInside lt le eq ofInt place cut units Defined.turned
+itself nan t l = absurd t
+itself (inf true) t l = absurd t
+itself (inf false) t l = absurd t
+itself (fin false m e) t l =
+    let u = m * up e * 2 ^ 52 / down e in
+    (most-upright false m e (λ f. absurd f) (inside-most false m e t), (sym (add-mod-right u turn)))
+itself (fin true m e) t l =
+    let z : m * up e ≡ 0 = none (m * up e) (down e) (ltb-false 0 (m * up e * 1 + 0 * down e) l) in
+    let u : m * up e * 2 ^ 52 / down e ≡ 0 = ap (λ (n : ℕ). n * 2 ^ 52 / down e) z ∙ zero-div (down e) in
+    (most-upright true m e (λ f. z) (inside-most true m e t), (ap (λ (n : ℕ). n % turn) u ∙ sym (ap (λ (n : ℕ). (0 + (turn - n % turn)) % turn) u)))
+  where
+    none : (a b : ℕ) → a * 1 + 0 * b ≤ 0 → a ≡ 0
+    none a b h = omega arith
+
+pub place-less : (d : Float) → place d < turn
+unfolding place cut Defined.turned
+place-less nan = lit< tt
+place-less (inf s) = lit< tt
+place-less (fin s m e) = mod-lt _ (lit< tt)
+
+-- ---- the result: n / 2 ^ 51, exactly
+
+quotient : (v : Float) (n : ℕ) → n < 2 ^ 53 → HasValue v false n 1 → HasValue (div binary64 v (fin false 1 (pos 51))) false n (2 ^ 51)
+unfolding div
+quotient (fin true m e) n h v = absurd (true≢false (v .0))
+quotient (fin false m e) n h v =
+    subst (λ (z : Float). HasValue z false n (2 ^ 51))
+    (round-same binary64 false n (2 ^ 51) (m * up e * 1) (2 ^ 51 * down e) (lit< tt) (mul-pos (pow-pos 51) (down-pos e)) (mul-left-comm n (2 ^ 51) (down e) ∙ mul-comm (2 ^ 51) (n * down e) ∙ ap (λ (x : ℕ). x * 2 ^ 51) (sym (v .1))))
+    (literal-held binary64 false n 51 h (lit≤ tt))
+
+-- rounded from units of 2 ^ -60 to units of 2 ^ -51 it moves by 256 of the former at most
+upright-close : (s : ℕ) → Close one (fraction ((s + 256) / 512) 0 (2 ^ 51)) (fraction s 0 one) 256
+upright-close s = record { first = lit< tt; second = lit< tt; above = omega arith; below = omega arith }
+
+pub rounded-close : (b : Bool) (s : ℕ) → s < 2 ^ 62 - 256 → Close one (number (rounded b s)) (signed b s one) 256
+unfolding rounded ofInt
+rounded-close b s h = go b
+  where
+    n : ℕ
+    n = (s + 256) / 512
+
+    v : Float
+    v = div binary64 (round binary64 false n 1) (fin false 1 (pos 51))
+
+    is : HasValue v false n (2 ^ 51)
+    is = quotient (round binary64 false n 1) n (omega arith) (round-whole binary64 false n (omega arith))
+
+    plus : Close one (number v) (fraction s 0 one) 256
+    plus = close-same (number v) (fraction s 0 one) (value-number v false n (2 ^ 51) is) (lit< tt) (value-same v false n (2 ^ 51) is) (same-refl (fraction s 0 one)) (upright-close s)
+
+    minus : (z : Bool) → (T z → n ≡ 0) → Close one (number (cond z v (neg v))) (fraction 0 s one) 256
+    minus false k = rw (number-neg v) (close-opposite plus)
+    minus true k =
+        close-same (number v) (fraction 0 s one) (value-number v false n (2 ^ 51) is) (lit< tt)
+        (subst (λ (j : ℕ). Same (number v) (fraction 0 j (2 ^ 51))) (sym (k tt)) (subst (λ (j : ℕ). Same (number v) (fraction j 0 (2 ^ 51))) (k tt) (value-same v false n (2 ^ 51) is))) (same-refl (fraction 0 s one))
+        (close-opposite (upright-close s))
+
+    go : (b : Bool) → Close one (number (cond b (cond (eqb n 0) v (neg v)) v)) (signed b s one) 256
+    go false = plus
+    go true = minus (eqb n 0) (eqb→eq n 0)

@@ -1,0 +1,98 @@
+-- How large the program's numbers get, which is what its functions ask of each other. Assumes nothing.
+use mathlib.Core.Path.{_≡_, sym, ap, subst}
+use mathlib.Core.Bool.{Bool, true, false, not, cond}
+use Prim.Native.Nat.{ℕ, zero, suc, _+_, _-_, _*_, _^_, _≤_, _<_}
+use native.Mathlib.Nat.{le-refl, le-trans, le-of-eq, mul-pos, mul-comm, mul-le-mul, mul-le-mul-left, mul-le-mul-right, div-le-of-le-mul}
+use native.Mathlib.Omega.{arith}
+use lib.Dec.{T, leb, leb→le, nleb→lt, lit≤}
+use lib.Pow.{shr-mono}
+use borrow.Author.Tests.{le-leb, lt-leb}
+use Rattle.angles.specs.Computed.{one, turn, half, degree, short, times, radians, nesting, nest, fromOne}
+
+-- ---- the nestings
+
+pub nest-most : (y j n : ℕ) → nest y j n ≤ one
+unfolding nest
+nest-most y j zero = le-refl one
+nest-most y j (suc n) = omega arith
+
+-- from j = 2 on the divisor is 12 at least, and a nesting 1 at most
+pub twelve : (j : ℕ) → 2 ≤ j → 12 ≤ (j + 1) * (j + 2)
+twelve j h = mul-le-mul {n₁ = 3} {m₁ = 4} {n₂ = j + 1} {m₂ = j + 2} (omega arith) (omega arith)
+
+pub times-most : (y f : ℕ) → f ≤ one → times y f ≤ y
+unfolding times
+times-most y f h = div-le-of-le-mul one (le-trans (mul-le-mul-left y h) (le-of-eq (mul-comm y one)))
+
+pub nesting-most : (y f j : ℕ) → y ≤ 12 * one → f ≤ one → 2 ≤ j → nesting y f j ≤ one
+unfolding nesting
+nesting-most y f j h k l = div-le-of-le-mul ((j + 1) * (j + 2)) (le-trans (le-trans (times-most y f k) h) (mul-le-mul-right one (twelve j l)))
+
+pub divisor : (j : ℕ) → 0 < (j + 1) * (j + 2)
+divisor j = mul-pos {m = j + 1} {n = j + 2} (omega arith) (omega arith)
+
+-- ---- the shorter way from 0
+
+pub short-low : (a : ℕ) → a ≤ half → short a ≡ a
+unfolding short
+short-low a h = ap (λ (b : Bool). cond b a (turn - a)) (le-leb a half h)
+
+pub short-high : (a : ℕ) → half < a → short a ≡ turn - a
+unfolding short
+short-high a h = ap (λ (b : Bool). cond b a (turn - a)) (lt-leb a half h)
+
+pub short-most : (a : ℕ) → short a ≤ half
+unfolding short
+short-most a = go (leb a half) (leb→le a half) (nleb→lt a half)
+  where
+    go : (b : Bool) → (T b → a ≤ half) → (T (not b) → half < a) → cond b a (turn - a) ≤ half
+    go true l h = l tt
+    go false l h = let k = h tt in omega arith
+
+-- ---- x, half a turn at most, and its square
+
+-- a little more than half a turn, in units of 2 ^ -60
+abbrev pub largest : ℕ
+largest = 3625000000000000000
+
+pub radians-most : (r : ℕ) → r ≤ half → radians r ≤ largest
+unfolding radians times
+radians-most r h = le-trans (shr-mono 60 (mul-le-mul-right degree h)) (lit≤ tt)
+
+pub square-most : (x : ℕ) → x ≤ largest → times x x ≤ 11400000000000000000
+unfolding times
+square-most x h = omega (arith, mul-le-mul h h)
+
+pub x-most : (a x : ℕ) → x ≡ radians (short a) → x ≤ largest
+x-most a x e = subst (λ (n : ℕ). n ≤ largest) (sym e) (radians-most (short a) (short-most a))
+
+pub y-most : (a x y : ℕ) → x ≡ radians (short a) → y ≡ times x x → y ≤ 12 * one
+y-most a x y e f = le-trans (le-of-eq f) (le-trans (square-most x (x-most a x e)) (lit≤ tt))
+
+pub product-room : (a x f : ℕ) → x ≡ radians (short a) → f ≤ largest → x * f < 2 ^ 124
+product-room a x f e h = omega (arith, mul-le-mul (x-most a x e) h)
+
+-- ---- the outermost nestings, and what is left of 1
+
+abbrev pub cosine-gap : ℕ → ℕ
+cosine-gap x = nesting (times x x) (nest (times x x) 2 13) 0
+
+abbrev pub sine-gap : ℕ → ℕ
+sine-gap x = nesting (times x x) (nest (times x x) 3 12) 1
+
+pub cosine-gap-most : (x : ℕ) → x ≤ largest → cosine-gap x ≤ 5700000000000000000
+unfolding nesting
+cosine-gap-most x h = omega (arith, times-most (times x x) (nest (times x x) 2 13) (nest-most (times x x) 2 13), square-most x h)
+
+pub sine-gap-most : (x : ℕ) → x ≤ largest → sine-gap x ≤ 2 * one
+unfolding nesting
+sine-gap-most x h = omega (arith, times-most (times x x) (nest (times x x) 3 12) (nest-most (times x x) 3 12), square-most x h)
+
+pub from-one-most : (g : ℕ) → g ≤ 2 * one → fromOne g ≤ one
+from-one-most g h = omega arith
+
+pub sine-room : (x g : ℕ) → x ≤ largest → g ≤ 2 * one → times x (fromOne g) < 2 ^ 62 - 256
+sine-room x g h k = omega (arith, times-most x (fromOne g) (from-one-most g k))
+
+pub cosine-room : (g : ℕ) → g ≤ 5700000000000000000 → fromOne g < 2 ^ 62 - 256
+cosine-room g h = omega arith

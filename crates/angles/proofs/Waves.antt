@@ -1,0 +1,147 @@
+-- The program's sums at a place on the turn: in units of 2 ^ -60 the sine is 119 away from the defined sum at that place, and the cosine 85. Assumes nothing.
+use mathlib.Core.Path.{_≡_, refl, subst}
+use mathlib.Core.Bool.{Bool, true, false, cond}
+use Prim.Native.Nat.{ℕ, _+_, _*_, _/_, _^_, _≤_, _<_}
+use native.Mathlib.Nat.{le-trans, mul-le-mul-right, div-one}
+use native.Mathlib.Omega.{arith}
+use lib.Dec.{ltb, lit<, lit≤}
+use lib.Pow.{pow-pos}
+use Rattle.fractions.specs.Fraction.{Fraction, fraction, whole, opposite, square, signed, _⊗_, _⊘_}
+use Rattle.fractions.proofs.Ring.{ring}
+use Rattle.fractions.proofs.Order.{same-refl, same-sym}
+use Rattle.fractions.proofs.Restate.{over-one, ⊗-opposite}
+use Rattle.fractions.proofs.Close.{Close, Size, close-same, close-opposite, size-wider, size-mul}
+use Rattle.series.specs.Sums.{sine, cosine, sum}
+use Rattle.series.specs.Angles as Defined
+use Rattle.series.proofs.Laws.{sum-number}
+use Rattle.series.proofs.Nested.{nested, sine-nested, cosine-nested}
+use Rattle.angles.specs.Computed.{one, half, degree, times, radians, fromOne}
+use Rattle.angles.proofs.Fixed.{fixed, product-close, rest-close, nest-close, nesting-close}
+use Rattle.angles.proofs.Room.{radians-most, square-most, cosine-gap, sine-gap, sine-gap-most, from-one-most}
+
+-- ---- x, in radians: r units of 2 ^ -52 degree. The constants are variables: c for the degree, k for 180 d, p for document 01's numerator, d for 10 ^ 18, u for 2 ^ 52, v for 2 ^ 68, o for 2 ^ 60
+above-nat : (r x c k p u v o : ℕ) → x * o * (u * k) ≤ r * c * (u * k) → c * k * (r * u) ≤ p * v * (r * u) → r * p * (v * u) ≡ r * p * (o * o)
+    → (x * (u * k) + (r * 0 + 0 * p) * o) * o ≤ ((r * p + 0 * 0) * o + 0 * (u * k)) * o + 2 * (o * (u * k))
+above-nat r x c k p u v o f g e = let f' = simp ring at f in let g' = simp ring at g in let e' = simp ring at e in simp ring (omega arith)
+
+below-nat : (r x c k p u v o : ℕ) → r * c * (u * k) ≤ (x * o + o) * (u * k) → p * v * (r * u) ≤ (c * k + k) * (r * u) → r * (k * u) ≤ o * (k * u) → r * p * (v * u) ≡ r * p * (o * o)
+    → (0 * (u * k) + (r * p + 0 * 0) * o) * o ≤ ((r * 0 + 0 * p) * o + x * (u * k)) * o + 2 * (o * (u * k))
+below-nat r x c k p u v o f g h e = let f' = simp ring at f in let g' = simp ring at g in let h' = simp ring at h in let e' = simp ring at e in simp ring (omega arith)
+
+unfoldable pub angle : ℕ → Fraction
+angle r = Defined.radians (fraction r 0 (2 ^ 52))
+
+angle-number : (r : ℕ) → 0 < angle r .over
+unfolding angle Defined.radians
+angle-number r = lit< tt
+
+radians-close : (r : ℕ) → r ≤ half → Close one (fixed (radians r)) (angle r) 2
+unfolding angle radians times Defined.radians
+radians-close r h =
+    let k = Defined.degree .over in
+    let p = Defined.degree .plus in
+    let x = r * degree / one in
+    record {
+      first = pow-pos 60;
+      second = lit< tt;
+      above = above-nat r x degree k p (2 ^ 52) (2 ^ 68) one (mul-le-mul-right (2 ^ 52 * k) (low (r * degree))) (mul-le-mul-right (r * 2 ^ 52) (lit≤ tt)) refl;
+      below = below-nat r x degree k p (2 ^ 52) (2 ^ 68) one (mul-le-mul-right (2 ^ 52 * k) (high (r * degree))) (mul-le-mul-right (r * 2 ^ 52) (lit≤ tt)) (mul-le-mul-right {n = one} (k * 2 ^ 52) (le-trans h (lit≤ tt))) refl;
+    }
+  where
+    low : (n : ℕ) → n / one * one ≤ n
+    low n = omega arith
+
+    high : (n : ℕ) → n ≤ n / one * one + one
+    high n = omega arith
+
+-- ---- how large: x is pi at most, which is 3640000000000000000 in units of 2 ^ -60 at most
+
+most-nat : (r p d u o m : ℕ) → r * (p * o) ≤ 180 * u * (p * o) → 180 * u * (p * o) ≤ 180 * u * (m * d) → (r * p + 0 * 0) * o ≤ (r * 0 + 0 * p) * o + m * (u * (180 * d))
+most-nat r p d u o m h k = let h' = simp ring at h in let k' = simp ring at k in simp ring (omega arith)
+
+angle-size : (r : ℕ) → r ≤ half → Size one (angle r) 3640000000000000000
+unfolding angle Defined.radians
+angle-size r h =
+    let p = Defined.degree .plus in
+    record {
+      above = most-nat r p (10 ^ 18) (2 ^ 52) one 3640000000000000000 (mul-le-mul-right (p * one) h) (lit≤ tt);
+      below = none-nat r p one _;
+    }
+  where
+    none-nat : (r p o a : ℕ) → (r * 0 + 0 * p) * o ≤ a
+    none-nat r p o a = omega arith
+
+-- ---- x squared
+
+undivided : {v e : ℕ} {x : Fraction} → Close one (fixed (v / 1)) (x ⊘ whole 1) e → Close one (fixed v) x e
+undivided {v} {e} {x} c = subst (λ (y : Fraction). Close one (fixed v) y e) (over-one x) (subst (λ (n : ℕ). Close one (fixed n) (x ⊘ whole 1) e) (div-one v) c)
+
+module _ (r : ℕ) (h : r ≤ half) where
+  x : ℕ
+  x = radians r
+
+  y : ℕ
+  y = times x x
+
+  x-most : x ≤ 4 * one
+  unfolding x
+  x-most = le-trans (radians-most r h) (lit≤ tt)
+
+  y-most : y ≤ 12 * one
+  unfolding x y
+  y-most = le-trans (square-most (radians r) (radians-most r h)) (lit≤ tt)
+
+  square-close : Close one (fixed y) (square (angle r)) 17
+  unfolding x y times
+  square-close = undivided (product-close 1 4 4 16 (lit< tt) x-most (size-wider (angle-size r h) (lit≤ tt)) (lit≤ tt) (radians-close r h) (radians-close r h))
+
+  square-size : Size one (square (angle r)) (10 * one)
+  square-size = size-mul (10 * one) (pow-pos 60) (lit≤ tt) (angle-size r h) (angle-size r h)
+
+-- ---- a sign goes with a number and its exact one
+
+turned-over : Bool → Fraction → Fraction
+turned-over b x = cond b (opposite x) x
+
+upright : (b : Bool) {v e : ℕ} {z : Fraction} → Close one (signed b v one) z e → Close one (fixed v) (turned-over b z) e
+unfolding turned-over
+upright false c = c
+upright true c = close-opposite c
+
+back : (b : Bool) {v e : ℕ} {z : Fraction} → Close one (fixed v) (turned-over b z) e → Close one (signed b v one) z e
+unfolding turned-over
+back false c = c
+back true c = close-opposite c
+
+turned-times : (b : Bool) (x z : Fraction) → x ⊗ turned-over b z ≡ turned-over b (x ⊗ z)
+unfolding turned-over
+turned-times false x z = refl
+turned-times true x z = ⊗-opposite x z
+
+-- ---- the cosine is the bracket, and the sine x times it
+
+module _ (r : ℕ) (h : r ≤ half) where
+  pub cosine-close : Close one (signed (ltb one (cosine-gap (radians r))) (fromOne (cosine-gap (radians r))) one) (sum cosine (angle r)) 85
+  unfolding x y nested
+  cosine-close =
+      let Y = square (angle r) in
+      let c = square-close r h in
+      let s = square-size r h in
+      close-same _ (sum cosine (angle r)) (pow-pos 60) (sum-number cosine (angle r) (angle-number r)) (same-refl _) (same-sym (sum cosine (angle r)) (nested Y 0 14) (cosine-nested (angle r) (angle-number r)))
+      (rest-close (nesting-close (y r h) Y c s 0 13 84 (lit≤ tt) (nest-close (y r h) Y c s (y-most r h) 13 2 (lit≤ tt))))
+
+  pub sine-close : Close one (signed (ltb one (sine-gap (radians r))) (times (radians r) (fromOne (sine-gap (radians r)))) one) (sum sine (angle r)) 119
+  unfolding x y nested
+  sine-close =
+      let Y = square (angle r) in
+      let c = square-close r h in
+      let s = square-size r h in
+      let g = sine-gap (radians r) in
+      let b = ltb one g in
+      let N = nested Y 1 13 in
+      let d : Close one (signed b (fromOne g) one) N 29 = rest-close (nesting-close (y r h) Y c s 1 12 28 (lit≤ tt) (nest-close (y r h) Y c s (y-most r h) 12 3 (lit≤ tt))) in
+      let p : Close one (fixed (times (radians r) (fromOne g))) (angle r ⊗ turned-over b N) 119 =
+      unfold times in
+      (undivided (product-close 1 4 1 118 (lit< tt) (omega (arith, from-one-most g (sine-gap-most (radians r) (radians-most r h)))) (size-wider (angle-size r h) (lit≤ tt)) (lit≤ tt) (radians-close r h) (upright b d))) in
+      close-same _ (sum sine (angle r)) (pow-pos 60) (sum-number sine (angle r) (angle-number r)) (same-refl _) (same-sym (sum sine (angle r)) (angle r ⊗ N) (sine-nested (angle r) (angle-number r)))
+      (back b (subst (λ (z : Fraction). Close one (fixed (times (radians r) (fromOne g))) z 119) (turned-times b (angle r) N) p))

@@ -1,0 +1,37 @@
+-- `angles::nesting` meets its contract. Assumes nothing.
+use mathlib.Core.Path.{ap}
+use Prim.Native.Nat.{ℕ, _+_, _*_, _/_, _^_, _≤_, _<_}
+use native.Mathlib.Nat.{mul-le-mul}
+use native.Mathlib.Omega.{arith}
+use Rattle.angles.specs.Computed.{nesting}
+use Rattle.angles.proofs.Room.{divisor}
+use Rattle.angles.proofs.nesting.Statement.{statement}
+use Rattle.angles.proofs.nesting.Tie as tie
+
+small : (y f : ℕ) → y ≤ 12 * 2 ^ 60 → f ≤ 2 ^ 60 → y * f < 2 ^ 124
+small y f h k = omega (arith, mul-le-mul h k)
+
+few : (j : ℕ) → j ≤ 26 → (j + 1) * (j + 2) ≤ 27 * 28
+few j h = mul-le-mul {n₁ = j + 1} {m₁ = j + 2} {n₂ = 27} {m₂ = 28} (omega arith) (omega arith)
+
+times-requires : tie.Need-times-requires
+times-requires c κs = small _ _ (c .pre .0) (c .pre .1)
+
+add-result : tie.Need-add-result
+add-result c = omega arith
+
+add-result-2 : tie.Need-add-result-2
+add-result-2 c = omega arith
+
+mul-result : tie.Need-mul-result
+mul-result c = omega (arith, few (c .before .args .j) (c .before .pre .2))
+
+div-result : tie.Need-div-result
+div-result c = divisor (c .before .args .j)
+
+returns : tie.Need-returns
+unfolding nesting
+returns c = ap (λ (x : ℕ). x / ((c .before .args .j + 1) * (c .before .args .j + 2))) (c .times .ensures)
+
+pub nesting-spec : {M : Type 1} → statement M
+nesting-spec = tie.close (tie.spec times-requires add-result add-result-2 mul-result div-result returns)

@@ -1,0 +1,3 @@
+-- The promise of sine and cosine, and what the program computes.
+pub mod Computed
+pub mod Promise

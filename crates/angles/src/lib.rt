@@ -1,0 +1,202 @@
+// Sine and cosine of an angle in degrees (document 01, item 1 and 'Angles').
+//
+// `sine` and `cosine` take any f64. One that is no number from -1080 to 1080 is refused with 3 and 0.0. At
+// every other the promise (specs/Promise.antt) fixes each bit of the value, and says beside it that the
+// value is within 2^-40 of the defined one (crate `series`), how large that is at most, and that at a
+// multiple of 90 it is exactly +0.0, 1.0 or -1.0.
+//
+// The program works in whole numbers: the angle in units of 2^-52 degree, all else in units of 2^-60, and
+// only the first and the last step, which are exact, in floats. No branch is made for the multiples of 90:
+// there the last rounding gives the exact values by itself. proofs/Near.antt shows 2^-50, by this budget
+// in units of 2^-60, of which 2^-50 is 1024:
+//
+//   step                                                               sine   cosine
+//   x, the angle in radians, two cuts                                     2        2
+//   x squared                                                            17       17
+//   each inner nesting 1 - x² / ((j + 1) (j + 2)) (..)                   15       15
+//   the outermost nesting                                                29       85
+//   times x                                                             119        -
+//   the sum so far                                                      119       85
+//   rounded to a multiple of 2^-51                                      256      256
+//   the angle cut to a unit: 2^-54, and 2^-53 for crossing 180          192      192
+//   the sum in place of the exact value, at a multiple of 90: 2^-54      64       64
+//   together                                                            631      597
+//
+// Under it lie `series` (what sine and cosine are), `fractions` (what "within" is said over) and `refusals`.
+ghost use mathlib.Core.Path.{_≡_};
+ghost use Prim.Native.Nat.{_+_, _-_, _*_, _/_, _%_, _^_, _<_, _≤_};
+ghost use lib.Dec.{T};
+ghost use Rattle.angles.specs.Computed as Steps;
+ghost use Rattle.angles.specs.Promise as Said;
+ghost use Rattle.series.specs.Sums as Sums;
+
+// Refusal 3, or 0 and the value.
+pub struct Answer {
+    pub refusal: u8,
+    pub value: f64,
+}
+
+// 1 in units of 2^-60.
+const ONE: u64 = 0x1000_0000_0000_0000;
+
+// A turn and a half in units of 2^-52 degree.
+const TURN: u64 = 1621295865853378560;
+
+const HALF: u64 = 810647932926689280;
+
+// pi / 180 in units of 2^-68, cut.
+const DEGREE: u64 = 5151302725743731798;
+
+const REFUSED: u8 = 3;
+
+// a * b / 2^60, cut: the four products of halves, added column by column.
+fn times(a: u64, b: u64) -> u64
+    requires { ⌜ a * b < 2 ^ 124 ⌝ }
+    ensures { λ r. ⌜ r ≡ Steps.times a b ⌝ }
+{
+    let a1 = a / 0x1_0000_0000;
+    let a0 = a % 0x1_0000_0000;
+    let b1 = b / 0x1_0000_0000;
+    let b0 = b % 0x1_0000_0000;
+    let low = a0 * b0;
+    let middle = a1 * b0 + low / 0x1_0000_0000;
+    let second = a0 * b1 + middle % 0x1_0000_0000;
+    let high = a1 * b1 + middle / 0x1_0000_0000 + second / 0x1_0000_0000;
+    high * 16 + second % 0x1_0000_0000 / 0x1000_0000
+}
+
+// One nesting: y * f / ((j + 1) (j + 2)).
+fn nesting(y: u64, f: u64, j: u64) -> u64
+    requires { ⌜ (y ≤ 12 * 2 ^ 60) × (f ≤ 2 ^ 60) × (j ≤ 26) ⌝ }
+    ensures { λ r. ⌜ r ≡ Steps.nesting y f j ⌝ }
+{
+    times(y, f) / ((j + 1) * (j + 2))
+}
+
+// The outermost nesting of the sine (top 25) or the cosine (top 26), with y for x²: 1 less it is the sum's bracket.
+fn outermost(y: u64, top: u64) -> u64
+    requires { ⌜ (y ≤ 12 * 2 ^ 60) × (top ≤ 26) ⌝ }
+    ensures { λ r. ⌜ r ≡ Steps.nesting y (Steps.nest y (top % 2 + 2) (top / 2)) (top % 2) ⌝ }
+{
+    let mut f = ONE;
+    let mut j = top;
+    while j > 1 {
+        f = ONE - nesting(y, f, j);
+        j -= 2;
+    }
+    nesting(y, f, j)
+}
+
+// Whether d is from -1080 to 1080: no NaN is, and no infinity.
+fn is_inside(d: f64) -> bool
+    ensures { λ r. ⌜ r ≡ Said.isInside d ⌝ }
+{
+    d >= -1080.0 && d <= 1080.0
+}
+
+// An angle of 0 to 1080 degrees in units of 2^-52 degree, cut.
+fn units(d: f64) -> u64
+    requires { ⌜ T (Steps.isUpright d) ⌝ }
+    ensures { λ r. ⌜ r ≡ Steps.units d ⌝ }
+{
+    std::num::truncating_f64_to_u64(d * 4503599627370496.0)
+}
+
+// An angle from -1080 to 1080 degrees turned into 0 up to a turn, in the same units.
+fn turned(d: f64) -> u64
+    requires { ⌜ T (Said.isInside d) ⌝ }
+    ensures { λ r. ⌜ r ≡ Steps.place d ⌝ }
+{
+    if d < 0.0 {
+        (TURN - units(-d) % TURN) % TURN
+    } else {
+        units(d) % TURN
+    }
+}
+
+// The radians of a place on the turn, by the shorter way from 0, in units of 2^-60.
+fn radians(a: u64) -> u64
+    requires { ⌜ a < Steps.turn ⌝ }
+    ensures { λ r. ⌜ r ≡ Steps.radians (Steps.short a) ⌝ }
+{
+    if a <= HALF {
+        times(a, DEGREE)
+    } else {
+        times(TURN - a, DEGREE)
+    }
+}
+
+// How far g is from 1, either way.
+fn from_one(g: u64) -> u64
+    ensures { λ r. ⌜ r ≡ Steps.fromOne g ⌝ }
+{
+    if g <= ONE { ONE - g } else { g - ONE }
+}
+
+// A size in units of 2^-60 as a float, rounded to units of 2^-51. 0 has no sign.
+fn rounded(negative: bool, size: u64) -> f64
+    requires { ⌜ size < 2 ^ 62 - 256 ⌝ }
+    ensures { λ r. ⌜ r ≡ Steps.rounded negative size ⌝ }
+{
+    let n = (size + 256) / 512;
+    let v = n as f64 / 2251799813685248.0;
+    if negative {
+        if n == 0 { v } else { -v }
+    } else {
+        v
+    }
+}
+
+// The sine at a place on the turn: x times the bracket, with the other sign beyond half a turn.
+fn sine_at(a: u64) -> f64
+    requires { ⌜ a < Steps.turn ⌝ }
+    ensures { λ r. ⌜ r ≡ Steps.sineAt a ⌝ }
+{
+    let x = radians(a);
+    let g = outermost(times(x, x), 25);
+    rounded((a > HALF) != (g > ONE), times(x, from_one(g)))
+}
+
+// The cosine at a place on the turn: the bracket.
+fn cosine_at(a: u64) -> f64
+    requires { ⌜ a < Steps.turn ⌝ }
+    ensures { λ r. ⌜ r ≡ Steps.cosineAt a ⌝ }
+{
+    let x = radians(a);
+    let g = outermost(times(x, x), 26);
+    rounded(g > ONE, from_one(g))
+}
+
+// The sine of d degrees.
+pub fn sine(d: f64) -> Answer
+    ensures { λ r. ⌜ Said.Promise Sums.sine d r ⌝ }
+{
+    if is_inside(d) {
+        Answer {
+            refusal: 0,
+            value: sine_at(turned(d)),
+        }
+    } else {
+        Answer {
+            refusal: REFUSED,
+            value: 0.0,
+        }
+    }
+}
+
+// The cosine of d degrees.
+pub fn cosine(d: f64) -> Answer
+    ensures { λ r. ⌜ Said.Promise Sums.cosine d r ⌝ }
+{
+    if is_inside(d) {
+        Answer {
+            refusal: 0,
+            value: cosine_at(turned(d)),
+        }
+    } else {
+        Answer {
+            refusal: REFUSED,
+            value: 0.0,
+        }
+    }
+}

@@ -1,0 +1,175 @@
+-- One turn of each loop that fills a lent list: what stood there after i rows, or k taps, stands there after one more. Assumes nothing.
+use mathlib.Core.Path.{_≡_, refl, sym, ap, _∙_}
+use mathlib.Core.List.{List, [], _∷_, _++_, append-nil}
+use Prim.Native.Nat.{ℕ, _+_, _*_, _≤_, _<_}
+use native.Mathlib.Nat.{mul-le-mul-right}
+use native.Mathlib.Decide.{decLt}
+use native.Mathlib.Numerals.{add-one}
+use native.Mathlib.Omega.{arith}
+use lib.Ieee.{Float, nan, binary32, toBits}
+use lib.IntN.{ℤ, pos}
+use lib.ListN.{length, getD, take, drop, set, length-append, length-drop, drop-of-length-le, List·getD-eq-default}
+use lib.Seq.{take-suc, take-at, take-length, getD-drop, length-take-le}
+use mir.Syntax.{w16}
+use mir.Val.{ofZ}
+use Rattle.big_endian.specs.Bytes.{bytesOf}
+use Rattle.big_endian.specs.Fields.{signedAt, floatAt, withField, withSigned, withFloat}
+use Rattle.big_endian.proofs.Bytes.{length-bytes}
+use Rattle.big_endian.proofs.Fields.{written-lies}
+use Rattle.bank_form.specs.Bank.{Bank, rows}
+use Rattle.bank_form.specs.Encoding.{tapBytes, rowBytes, bodyBytes, encode}
+use Rattle.bank_form.proofs.RoundTrip.{length-body, length-tapBytes, length-rowBytes, tapBytes-snoc, oneRow, rowBytes-snoc, row-fits}
+use Rattle.big_endian.specs.Placed.{placed}
+use Rattle.big_endian.proofs.Placed.{placed-on, placed-start, length-placed, store-on}
+use Rattle.bank_form.specs.HoldsComputed.{Each, IsAzimuth}
+use Rattle.bank_form.specs.FaultComputed.{strided, rowSize, azimuthsFrom, rowTaps, tapsFrom}
+use Rattle.bank.specs.HeadComputed.{headBytes}
+use Rattle.bank_form.proofs.Lists.{strided-snoc, length-strided, taps-snoc, length-taps}
+
+-- where row i of n starts, in the file and in the list of taps, and that both are small
+pub record Place (l n i at q : ℕ) : Type 0 where
+  pub inside : i ≤ n
+  pub row : at ≡ 9 + i * rowSize l
+  pub tap : q ≡ i * (2 * l)
+  pub row-small : at ≤ 9 + 4098 * i
+  pub tap-small : q ≤ 1024 * i
+
+pub place-start : (l n : ℕ) → Place l n 0 9 0
+place-start l n = record { inside = omega arith; row = omega arith; tap = omega arith; row-small = omega arith; tap-small = omega arith }
+
+pub place-next : (l n i at q : ℕ) → l ≤ 512 → i < n → Place l n i at q → Place l n (i + 1) (at + (2 + 8 * l)) (q + 2 * l)
+place-next l n i at q small h p = record { inside = omega arith; row = omega arith; tap = omega arith; row-small = omega arith; tap-small = omega arith }
+
+-- one field more of those that f reads, w bytes apart
+pub field-more : {A : Type 0} (f : ℕ → A) (w at : ℕ) (xs ys : List A) (q k : ℕ) (x : A) → ys ≡ placed xs q (strided f w at k) → q + k < length xs → x ≡ f (at + k * w)
+    → set ys (q + k) x ≡ placed xs q (strided f w at (k + 1))
+field-more f w at xs ys q k x e h g =
+    let more : strided f w at k ++ (x ∷ []) ≡ strided f w at (k + 1) = rw (add-one k, g) (sym (strided-snoc f w at k)) in
+    rw e (store-on xs q k (strided f w at k) x (length-strided f w at k) h ∙ ap (placed xs q) more)
+
+module _ (s : List ℕ) (l : ℕ) where
+  pub azimuth-more : (zs ys : List ℤ) (i : ℕ) (z : ℤ) → ys ≡ placed zs 0 (azimuthsFrom s l 9 i) → i < length zs → z ≡ signedAt s (9 + i * rowSize l)
+      → set ys i z ≡ placed zs 0 (azimuthsFrom s l 9 (i + 1))
+  azimuth-more zs ys i z e h g =
+      let none : 0 + i ≡ i = omega arith in
+      rw none at (field-more (signedAt s) (rowSize l) 9 zs ys 0 i z e (omega arith) g)
+
+  pub row-more : (xs ys zs : List Float) (i q : ℕ) → ys ≡ placed xs 0 (tapsFrom s l 9 i) → q ≡ i * (2 * l) → q + 2 * l ≤ length xs → zs ≡ placed ys q (rowTaps s l (9 + i * rowSize l))
+      → zs ≡ placed xs 0 (tapsFrom s l 9 (i + 1))
+  row-more xs ys zs i q e h g k =
+      let none : 0 + q ≡ q = omega arith in
+      let long : length (tapsFrom s l 9 i) ≡ q = length-taps s l 9 i ∙ sym h in
+      let row : length (rowTaps s l (9 + i * rowSize l)) ≡ 2 * l = length-strided (floatAt s) 4 (9 + i * rowSize l + 2) (2 * l) in
+      k ∙ rw (e, add-one i, taps-snoc s l 9 i) (rw none at (placed-on xs 0 q (tapsFrom s l 9 i) (rowTaps s l (9 + i * rowSize l)) long (omega arith)))
+
+-- ---- writing
+
+-- a field that is put into a list stands there
+field-put : (ys last : List ℕ) (at count n : ℕ) → count ≤ 8 → at + count ≤ length ys → last ≡ withField ys at count n → last ≡ placed ys at (bytesOf count n)
+field-put ys last at count n h g e = e ∙ written-lies ys at count n h g
+
+pub tap-put : (ys last : List ℕ) (at : ℕ) (x : Float) → at + 4 ≤ length ys → last ≡ withFloat ys at x → last ≡ placed ys at (bytesOf 4 (toBits binary32 x))
+unfolding withFloat
+tap-put ys last at x h e = field-put ys last at 4 (toBits binary32 x) (omega arith) h e
+
+pub azimuth-put : (ys last : List ℕ) (at : ℕ) (z : ℤ) → at + 2 ≤ length ys → last ≡ withSigned ys at z → last ≡ placed ys at (bytesOf 2 (ofZ w16 z))
+unfolding withSigned
+azimuth-put ys last at z h e = field-put ys last at 2 (ofZ w16 z) (omega arith) h e
+
+-- a part more, where n bytes stand from `at` on
+pub part-more : (out ys last a b : List ℕ) (at n p : ℕ) → ys ≡ placed out at a → length a ≡ n → p ≡ at + n → at + n + length b ≤ length out → last ≡ placed ys p b → last ≡ placed out at (a ++ b)
+part-more out ys last a b at n p e g q h k = k ∙ rw (e, q) (placed-on out at n a b g h)
+
+pub length-part : (xs : List Float) (q n : ℕ) → q + n ≤ length xs → length (take n (drop q xs)) ≡ n
+length-part xs q n h = length-take-le n (drop q xs) (omega (arith, length-drop q xs))
+
+pub tap-more : (out ys last : List ℕ) (xs : List Float) (at q k : ℕ) → ys ≡ placed out at (tapBytes (take k (drop q xs))) → q + k < length xs → at + 4 * k + 4 ≤ length out
+    → last ≡ placed ys (at + 4 * k) (bytesOf 4 (toBits binary32 (getD xs (q + k) nan))) → last ≡ placed out at (tapBytes (take (k + 1) (drop q xs)))
+tap-more out ys last xs at q k e h g f =
+    let x = getD xs (q + k) nan in
+    let inside : k < length (drop q xs) = omega (arith, length-drop q xs) in
+    let long : length (tapBytes (take k (drop q xs))) ≡ 4 * k = length-tapBytes (take k (drop q xs)) ∙ ap (λ (n : ℕ). 4 * n) (length-part xs q k (omega arith)) in
+    let more : tapBytes (take k (drop q xs)) ++ bytesOf 4 (toBits binary32 x) ≡ tapBytes (take (k + 1) (drop q xs)) =
+    sym (rw (add-one k, take-suc (drop q xs) k nan inside, getD-drop q xs k nan) (tapBytes-snoc (take k (drop q xs)) x)) in
+    part-more out ys last (tapBytes (take k (drop q xs))) (bytesOf 4 (toBits binary32 x)) at (4 * k) (at + 4 * k) e long refl (omega (arith, length-bytes 4 (toBits binary32 x))) f ∙ ap (placed out at) more
+
+-- a row of its azimuth and its taps
+pub length-row : (z : ℤ) (l : ℕ) (xs : List Float) (q : ℕ) → q + 2 * l ≤ length xs → length (oneRow z l xs q) ≡ rowSize l
+length-row z l xs q h =
+    length-append (bytesOf 2 (ofZ w16 z)) (tapBytes (take (2 * l) (drop q xs)))
+    ∙ omega (arith, length-bytes 2 (ofZ w16 z), length-tapBytes (take (2 * l) (drop q xs)), length-part xs q (2 * l) h)
+
+pub length-rows : (zs : List ℤ) (l : ℕ) (xs : List Float) (i : ℕ) → i ≤ length zs → length xs ≡ length zs * (2 * l) → length (rowBytes (take i zs) l xs) ≡ i * rowSize l
+length-rows zs l xs i h count =
+    let some : length (take i zs) ≡ i = length-take-le i zs h in
+    length-rowBytes (take i zs) l xs (rw (some, count) (mul-le-mul-right (2 * l) h)) ∙ ap (λ (n : ℕ). n * rowSize l) some
+
+pub rows-more : (out ys last : List ℕ) (zs : List ℤ) (l : ℕ) (xs : List Float) (i q at : ℕ) → length xs ≡ length zs * (2 * l) → i < length zs → q ≡ i * (2 * l) → at ≡ 9 + i * rowSize l
+    → 9 + length zs * rowSize l ≤ length out → ys ≡ placed out 9 (rowBytes (take i zs) l xs) → last ≡ placed ys at (oneRow (getD zs i (pos 0)) l xs q)
+    → last ≡ placed out 9 (rowBytes (take (i + 1) zs) l xs)
+rows-more out ys last zs l xs i q at count h e f room g k =
+    let z = getD zs i (pos 0) in
+    let taps = row-fits i (length zs) (2 * l) h in
+    let bytes = row-fits i (length zs) (rowSize l) h in
+    let front = length-rows zs l xs i (omega arith) count in
+    let row : length (oneRow z l xs q) ≡ rowSize l = length-row z l xs q (omega arith) in
+    let more : rowBytes (take i zs) l xs ++ oneRow z l xs q ≡ rowBytes (take (i + 1) zs) l xs = rw (add-one i, e) (sym (rowBytes-snoc zs l xs i h)) in
+    part-more out ys last (rowBytes (take i zs) l xs) (oneRow z l xs q) 9 (i * rowSize l) at g front f (omega arith) k ∙ ap (placed out 9) more
+
+pub no-taps : tapBytes [] ≡ []
+unfolding tapBytes
+no-taps = refl
+
+pub no-rows : (l : ℕ) (xs : List Float) → rowBytes [] l xs ≡ []
+unfolding rowBytes
+no-rows l xs = refl
+
+-- the head, from four fields one behind the other
+module _ (out one two three four : List ℕ) (rest n l : ℕ) (room : 9 ≤ length out) where
+  next : (ys last a : List ℕ) (at count n : ℕ) → count ≤ 8 → at + count ≤ 9 → ys ≡ placed out 0 a → length a ≡ at → last ≡ withField ys at count n → last ≡ placed out 0 (a ++ bytesOf count n)
+  next ys last a at count n small h e g f =
+      let long : length ys ≡ length out = ap length e ∙ length-placed out 0 a (omega arith) in
+      part-more out ys last a (bytesOf count n) 0 at at e g (omega arith) (omega (arith, length-bytes count n)) (field-put ys last at count n small (omega arith) f)
+
+  pub head-put : one ≡ withField out 0 1 1 → two ≡ withField one 1 4 rest → three ≡ withField two 5 2 n → four ≡ withField three 7 2 l → four ≡ placed out 0 (headBytes rest n l)
+  unfolding headBytes bytesOf
+  head-put e f g h =
+      let a = field-put out one 0 1 1 (omega arith) (omega arith) e in
+      let b = next one two (bytesOf 1 1) 1 4 rest (omega arith) (omega arith) a refl f in
+      let d = next two three (bytesOf 1 1 ++ bytesOf 4 rest) 5 2 n (omega arith) (omega arith) b refl g in
+      next three four (bytesOf 1 1 ++ bytesOf 4 rest ++ bytesOf 2 n) 7 2 l (omega arith) (omega arith) d refl h
+
+-- the head and the rows are the file of a bank
+head-rows : (b : Bank) → headBytes (length (bodyBytes b)) (rows b) (b .length) ++ rowBytes (b .azimuths) (b .length) (b .taps) ≡ encode b
+unfolding headBytes bytesOf bodyBytes encode
+head-rows b = refl
+
+length-head : (rest n l : ℕ) → length (headBytes rest n l) ≡ 9
+unfolding headBytes bytesOf
+length-head rest n l = refl
+
+pub bank-put : (b : Bank) (out one two : List ℕ) (rest : ℕ) → length (b .taps) ≡ rows b * (2 * b .length) → 9 + rows b * rowSize (b .length) ≤ length out → rest ≡ 4 + rows b * rowSize (b .length)
+    → one ≡ placed out 0 (headBytes rest (rows b) (b .length)) → two ≡ placed one 9 (rowBytes (b .azimuths) (b .length) (b .taps)) → two ≡ placed out 0 (encode b)
+bank-put b out one two rest count room e f g =
+    let head = headBytes rest (rows b) (b .length) in
+    let tail = rowBytes (b .azimuths) (b .length) (b .taps) in
+    let long = length-rowBytes (b .azimuths) (b .length) (b .taps) (omega arith) in
+    let same : head ++ tail ≡ encode b = ap (λ (k : ℕ). headBytes k (rows b) (b .length) ++ tail) (e ∙ sym (length-body b count)) ∙ head-rows b in
+    part-more out one two head tail 0 9 9 f (length-head rest (rows b) (b .length)) (omega arith) (omega arith) g ∙ ap (placed out 0) same
+
+-- azimuths that were each seen to be one
+pub each-azimuth : (zs : List ℤ) → ((j : ℕ) → j < length zs → IsAzimuth (getD zs j (pos 0))) → Each IsAzimuth (pos 0) zs
+unfolding Each
+each-azimuth zs h j =
+    elim (decLt j (length zs)) [
+      | yes g ↦ h j g
+      | no g ↦ rw (List·getD-eq-default zs (pos 0) {n = j} (omega arith)) (omega arith)
+    ]
+
+-- a file that was made at the start of a longer list
+pub made-file : (out made part : List ℕ) (size : ℕ) → length part ≡ size → made ≡ placed out 0 part → take size made ≡ part
+made-file out made part size h e = ap (take size) (e ∙ placed-start out part) ∙ take-at part (drop (length part) out) size h
+
+-- all of a list, copied into one as long
+pub copied : (src dst : List ℕ) → length src ≡ length dst → take (length src) src ++ drop (length src) dst ≡ src
+copied src dst h = rw (take-length src, drop-of-length-le dst {i = length src} (omega arith)) (append-nil src)

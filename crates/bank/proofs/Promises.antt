@@ -1,0 +1,126 @@
+-- What the promises say: no two outcomes meet one (`read-unique`, `write-unique`); a file is accepted exactly if it is the encoding of a bank that keeps the form, and that bank is filled in
+-- (`accepted-is`, `is-accepted`); a bank is accepted exactly if it keeps the form (`written-is`, `is-written`); reading what was written gives the same bank (`read-after-write`), and
+-- writing what was read gives the same bytes (`write-after-read`). Assumes nothing.
+use mathlib.Core.Path.{_≡_, refl, sym, ap, _∙_}
+use mathlib.Core.Bool.{Bool, true, false, not, cond}
+use mathlib.Core.List.{List}
+use Prim.Native.Nat.{ℕ, _*_}
+use native.Mathlib.Omega.{arith}
+use borrow.Author.Tests.{eqb-true, eqb-false, not-false}
+use lib.Dec.{eqb}
+use lib.Ieee.{Float}
+use lib.IntN.{ℤ}
+use lib.ListN.{length, take, drop}
+use lib.Seq.{take-at}
+use Rattle.bank_form.specs.Bank.{Bank, rows, valid}
+use Rattle.bank_form.specs.Encoding.{encode}
+use Rattle.bank_form.specs.FaultComputed.{bankIn, isFile}
+use Rattle.bank_form.specs.File.{IsFile}
+use Rattle.bank_form.proofs.Exact.{keeps}
+use Rattle.bank.specs.Reading.{ReadOutcome, readRefusal, readBank, readOutcome, Reads}
+use Rattle.bank.specs.Writing.{WriteOutcome, writeRefusal, writeBank, writeOutcome, Writes}
+use Rattle.bank.proofs.Answers.{accepted, Lent, written}
+
+pub read-unique : (file : List ℕ) (zs : List ℤ) (xs : List Float) (a b : ReadOutcome) → Reads file zs xs a → Reads file zs xs b → a ≡ b
+read-unique file zs xs a b p q = p .outcome ∙ sym (q .outcome)
+
+pub write-unique : (b : Bank) (file : List ℕ) (u w : WriteOutcome) → Writes b file u → Writes b file w → u ≡ w
+write-unique b file u w p q = p ∙ sym q
+
+-- three tests, the numbers of which are not 0, of which none holds
+none-holds : (a b c : Bool) → _≡_ {A = ℕ} (cond a 5 (cond b 5 (cond c 9 0))) 0 → (a ≡ false) × (b ≡ false) × (c ≡ false)
+none-holds true b c e = absurd (omega arith)
+none-holds false true c e = absurd (omega arith)
+none-holds false false true e = absurd (omega arith)
+none-holds false false false e = (refl, refl, refl)
+
+-- ---- reading
+
+module _ (file : List ℕ) (zs : List ℤ) (xs : List Float) where
+  pub record Accepted : Type 0 where
+    pub eight : length zs ≡ 8
+    pub most : length xs ≡ 8192
+    pub file-good : isFile file ≡ true
+
+  parts : readRefusal file zs xs ≡ 0 → Accepted
+  unfolding readRefusal
+  parts e =
+      let all = none-holds (not (eqb (length zs) 8)) (not (eqb (length xs) 8192)) (not (isFile file)) e in
+      record { eight = eqb-true _ _ (not-false _ (all .0)); most = eqb-true _ _ (not-false _ (all .1)); file-good = not-false _ (all .2) }
+
+  pub accepted-parts : readOutcome file zs xs .answer .refusal ≡ 0 → Accepted
+  unfolding readOutcome
+  accepted-parts e = go (eqb (readRefusal file zs xs) 0) refl
+    where
+      go : (t : Bool) → eqb (readRefusal file zs xs) 0 ≡ t → Accepted
+      go true h = parts (eqb-true _ _ h)
+      go false h = absurd (eqb-false (readRefusal file zs xs) 0 h (rw h at e))
+
+  -- what is accepted is a bank file, and its bank is filled in
+  pub accepted-is : (o : ReadOutcome) → Reads file zs xs o → o .answer .refusal ≡ 0 → IsFile file (bankIn file) × (o ≡ readBank (bankIn file) zs xs)
+  accepted-is o r e =
+      let a = accepted-parts (ap (λ (y : ReadOutcome). y .answer .refusal) (sym (r .outcome)) ∙ e) in
+      (r .exactly .sound (a .file-good), r .outcome ∙ sym (accepted file zs xs (a .eight) (a .most) (a .file-good)))
+
+  -- and each bank file is accepted by lists of the lengths asked for
+  pub is-accepted : (o : ReadOutcome) → Reads file zs xs o → length zs ≡ 8 → length xs ≡ 8192 → (b : Bank) → IsFile file b → o ≡ readBank b zs xs
+  is-accepted o r h g b f =
+      let c = r .exactly .complete b f in
+      r .outcome ∙ sym (accepted file zs xs h g (c .0)) ∙ ap (λ (y : Bank). readBank y zs xs) (c .1)
+
+-- ---- writing
+
+module _ (b : Bank) (file : List ℕ) where
+  lengths-and-form : writeRefusal b file ≡ 0 → Lent b file × (valid b ≡ true)
+  unfolding writeRefusal
+  lengths-and-form e =
+      let all = none-holds (not (eqb (length (b .taps)) (2 * rows b * b .length))) (not (eqb (length file) (length (encode b)))) (not (valid b)) e in
+      (record { count = eqb-true _ _ (not-false _ (all .0)); size = eqb-true _ _ (not-false _ (all .1)) }, not-false _ (all .2))
+
+  written-parts : writeOutcome b file .answer .refusal ≡ 0 → Lent b file × (valid b ≡ true)
+  unfolding writeOutcome
+  written-parts e = go (eqb (writeRefusal b file) 0) refl
+    where
+      go : (t : Bool) → eqb (writeRefusal b file) 0 ≡ t → Lent b file × (valid b ≡ true)
+      go true h = lengths-and-form (eqb-true _ _ h)
+      go false h = absurd (eqb-false (writeRefusal b file) 0 h (rw h at e))
+
+  -- a bank that is accepted keeps the form, and its file is filled in
+  pub written-is : (w : WriteOutcome) → Writes b file w → w .answer .refusal ≡ 0 → (valid b ≡ true) × (w ≡ writeBank b)
+  written-is w r e =
+      let p = written-parts (ap (λ (y : WriteOutcome). y .answer .refusal) (sym r) ∙ e) in
+      (p .1, r ∙ sym (written b file (p .0) (p .1)))
+
+  -- and each bank that keeps the form is accepted, with a buffer of its file's length
+  pub is-written : (w : WriteOutcome) → Writes b file w → valid b ≡ true → length file ≡ length (encode b) → w ≡ writeBank b
+  is-written w r h g = r ∙ sym (written b file (record { count = keeps b h .count; size = g }) h)
+
+-- ---- there and back
+
+-- reading what was written gives the same bank
+pub read-after-write : (b : Bank) (buffer : List ℕ) (w : WriteOutcome) → Writes b buffer w → w .answer .refusal ≡ 0 → (zs : List ℤ) (xs : List Float) (o : ReadOutcome) → length zs ≡ 8
+    → length xs ≡ 8192 → Reads (w .file) zs xs o → o ≡ readBank b zs xs
+read-after-write b buffer w r e zs xs o h g f =
+    let p = written-is b buffer w r e in
+    is-accepted (w .file) zs xs o f h g b (record { keeps = p .0; bytes = ap (λ (y : WriteOutcome). y .file) (sym (p .1)) })
+
+-- the bank that a caller finds in its lists after an accepted reading
+abbrev pub bankOf : ReadOutcome → Bank
+bankOf o = record { azimuths = take (o .answer .rows) (o .azimuths); length = o .answer .length; taps = take (2 * o .answer .rows * o .answer .length) (o .taps) }
+
+found : (b : Bank) (zs : List ℤ) (xs : List Float) → length (b .taps) ≡ 2 * rows b * b .length → bankOf (readBank b zs xs) ≡ b
+found b zs xs h = λ i. record {
+  azimuths = take-at (b .azimuths) (drop (rows b) zs) (rows b) refl i;
+  length = b .length;
+  taps = take-at (b .taps) (drop (length (b .taps)) xs) (2 * rows b * b .length) h i;
+}
+
+-- writing what was read gives the same bytes
+pub write-after-read : (file : List ℕ) (zs : List ℤ) (xs : List Float) (o : ReadOutcome) → Reads file zs xs o → o .answer .refusal ≡ 0 → (buffer : List ℕ) (w : WriteOutcome)
+    → length buffer ≡ length file → Writes (bankOf o) buffer w → w .file ≡ file
+write-after-read file zs xs o r e buffer w h f =
+    let p = accepted-is file zs xs o r e in
+    let b = bankIn file in
+    let same : bankOf o ≡ b = ap bankOf (p .1) ∙ found b zs xs (keeps b (p .0 .keeps) .count) in
+    let long = h ∙ ap length (sym (p .0 .bytes)) in
+    ap (λ (y : WriteOutcome). y .file) (is-written b buffer w (rw same at f) (p .0 .keeps) long) ∙ p .0 .bytes

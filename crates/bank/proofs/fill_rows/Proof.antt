@@ -1,0 +1,127 @@
+-- `bank::fill_rows` meets its contract. The azimuths and the taps of the rows read so far stand at the start of their lists. Assumes nothing.
+use mathlib.Core.Path.{_≡_, sym, ap, _∙_}
+use Prim.Native.Nat.{ℕ, _-_}
+use native.Mathlib.Omega.{arith}
+use lib.ListN.{length}
+use mir.Syntax.{w16}
+use Rattle.big_endian.specs.Fields.{signedAt}
+use Rattle.big_endian.specs.Placed.{placed}
+use Rattle.big_endian.proofs.Placed.{placed-none, length-placed}
+use Rattle.big_endian.proofs.Signed.{back}
+use Rattle.bank_form.specs.FaultComputed.{strided, rowSize, azimuthsFrom, rowTaps, tapsFrom}
+use Rattle.bank_form.proofs.Lists.{strided-none, length-strided, taps-none, length-taps}
+use Rattle.bank.proofs.Fill.{Place, place-start, place-next, azimuth-more, row-more}
+use Rattle.bank.proofs.fill_rows.Statement.{statement}
+use Rattle.bank.proofs.fill_rows.Tie as tie
+
+abbrev Inv-loop : tie.InvT-loop
+Inv-loop file l n azimuths₀ taps₀ i₀ at₀ q₀ azimuths taps i at q = Place l n i at q × (azimuths ≡ placed azimuths₀ 0 (azimuthsFrom file l 9 i)) × (taps ≡ placed taps₀ 0 (tapsFrom file l 9 i))
+
+abbrev μ-loop : tie.MeasureT-loop
+μ-loop file l n azimuths₀ taps₀ i₀ at₀ q₀ azimuths taps i at q = n - i
+
+-- the lists are as long as they were
+module _ (c : tie.At-loop Inv-loop μ-loop) where
+  kept-azimuths : length (c .loop .azimuths) ≡ length (c .before .before .before .args .azimuths .now)
+  kept-azimuths =
+      let args = c .before .before .before .args in
+      let long = length-strided (signedAt (args .file .now)) (rowSize (args .l)) 9 (c .loop .i) in
+      ap length (c .loop .inv .1) ∙ length-placed _ _ _ (omega arith)
+
+  kept-taps : length (c .loop .taps) ≡ length (c .before .before .before .args .taps .now)
+  kept-taps =
+      let args = c .before .before .before .args in
+      let long = length-taps (args .file .now) (args .l) 9 (c .loop .i) in
+      ap length (c .loop .inv .2) ∙ length-placed _ _ _ (omega arith)
+
+loop-holds : tie.Need-loop-holds Inv-loop μ-loop
+loop-holds c = (place-start _ _, sym (ap (placed _ _) (strided-none _ _ _) ∙ placed-none _ _), sym (ap (placed _ _) (taps-none _ _ _) ∙ placed-none _ _))
+
+get-i16-requires : tie.Need-get-i16-requires Inv-loop μ-loop
+get-i16-requires c κs = tt
+
+mul-t11 : tie.Need-mul-t11 Inv-loop μ-loop
+mul-t11 c = omega arith
+
+slice-set-from-azimuths : tie.Need-slice-set-from-azimuths Inv-loop μ-loop
+slice-set-from-azimuths c = omega (arith, kept-azimuths (c .before .before))
+
+add-fill-taps : tie.Need-add-fill-taps Inv-loop μ-loop
+add-fill-taps c = omega arith
+
+mul-fill-taps : tie.Need-mul-fill-taps Inv-loop μ-loop
+mul-fill-taps c = omega arith
+
+fill-taps-requires : tie.Need-fill-taps-requires Inv-loop μ-loop
+fill-taps-requires c κs = omega (arith, kept-taps (c .before .before .before))
+
+mul-at : tie.Need-mul-at Inv-loop μ-loop
+mul-at c = omega arith
+
+add-at : tie.Need-add-at Inv-loop μ-loop
+add-at c = omega arith
+
+add-at-2 : tie.Need-add-at-2 Inv-loop μ-loop
+add-at-2 c = omega arith
+
+mul-q : tie.Need-mul-q Inv-loop μ-loop
+mul-q c = omega arith
+
+add-q : tie.Need-add-q Inv-loop μ-loop
+add-q c = omega arith
+
+add-i : tie.Need-add-i Inv-loop μ-loop
+add-i c = omega arith
+
+loop-less : tie.Need-loop-less Inv-loop μ-loop
+loop-less c = omega arith
+
+loop-again : tie.Need-loop-again Inv-loop μ-loop
+loop-again c =
+    let start = c .before .before .before .before .before .before .before .before .before in
+    let args = start .args in
+    let turn = c .before .before .before .before .before .before .loop in
+    let inside = c .before .before .before .before .before .loop-test .taken in
+    let call = c .before .before .before .before .get-i16 in
+    let azimuth = back w16 (call .result) (call .ok) ∙ call .ensures ∙ ap (signedAt (args .file .now)) (turn .inv .0 .row) in
+    let filled = c .before .before .fill-taps .ensures ∙ ap (λ (p : ℕ). placed (turn .taps) (turn .q) (rowTaps (args .file .now) (args .l) p)) (turn .inv .0 .row) in (
+      place-next _ _ _ _ _ (start .pre .0) inside (turn .inv .0),
+      azimuth-more (args .file .now) (args .l) (args .azimuths .now) (turn .azimuths) (turn .i) _ (turn .inv .1) (omega arith) azimuth,
+      row-more (args .file .now) (args .l) (args .taps .now) (turn .taps) _ (turn .i) (turn .q) (turn .inv .2) (turn .inv .0 .tap) (omega arith) filled,
+    )
+
+same-length : tie.Need-same-length Inv-loop μ-loop
+same-length c = kept-azimuths (c .before)
+
+same-length-2 : tie.Need-same-length-2 Inv-loop μ-loop
+same-length-2 c = kept-taps (c .before)
+
+returns : tie.Need-returns Inv-loop μ-loop
+returns c =
+    let done : c .before .loop .i ≡ c .before .before .before .before .args .n = omega arith in
+    (c .before .loop .inv .1 ∙ ap (placed _ _) (ap (strided _ _ _) done), c .before .loop .inv .2 ∙ ap (placed _ _) (ap (tapsFrom _ _ _) done))
+
+pub fill-rows-spec : {M : Type 1} → statement M
+fill-rows-spec =
+    tie.close
+    (tie.spec
+    Inv-loop
+    μ-loop
+    loop-holds
+    get-i16-requires
+    mul-t11
+    slice-set-from-azimuths
+    add-fill-taps
+    mul-fill-taps
+    fill-taps-requires
+    mul-at
+    add-at
+    add-at-2
+    mul-q
+    add-q
+    add-i
+    loop-less
+    loop-again
+    same-length
+    same-length-2
+    returns)

@@ -1,0 +1,86 @@
+-- `bank::fill_taps` meets its contract. The taps read so far stand in the list from q on. Assumes nothing.
+use mathlib.Core.Path.{_≡_, sym, ap, _∙_}
+use Prim.Native.Nat.{_-_, _≤_}
+use native.Mathlib.Omega.{arith}
+use lib.ListN.{length}
+use Rattle.big_endian.specs.Fields.{floatAt}
+use Rattle.big_endian.specs.Placed.{placed}
+use Rattle.big_endian.proofs.Placed.{placed-none, length-placed}
+use Rattle.bank_form.specs.FaultComputed.{strided}
+use Rattle.bank_form.proofs.Lists.{strided-none, length-strided}
+use Rattle.bank.proofs.Fill.{field-more}
+use Rattle.bank.proofs.fill_taps.Statement.{statement}
+use Rattle.bank.proofs.fill_taps.Tie as tie
+
+abbrev Inv-loop : tie.InvT-loop
+Inv-loop file at n taps₀ q k₀ taps k = (k ≤ n) × (taps ≡ placed taps₀ q (strided (floatAt file) 4 at k))
+
+abbrev μ-loop : tie.MeasureT-loop
+μ-loop file at n taps₀ q k₀ taps k = n - k
+
+-- the list is as long as it was
+kept : (c : tie.At-loop Inv-loop μ-loop) → length (c .loop .taps) ≡ length (c .before .before .before .args .taps .now)
+kept c =
+    let args = c .before .before .before .args in
+    let long = length-strided (floatAt (args .file .now)) 4 (args .at) (c .loop .k) in
+    ap length (c .loop .inv .1) ∙ length-placed _ _ _ (omega arith)
+
+loop-holds : tie.Need-loop-holds Inv-loop μ-loop
+loop-holds c = (omega arith, sym (ap (placed _ _) (strided-none _ _ _) ∙ placed-none _ _))
+
+mul-get-f32 : tie.Need-mul-get-f32 Inv-loop μ-loop
+mul-get-f32 c = omega arith
+
+add-get-f32 : tie.Need-add-get-f32 Inv-loop μ-loop
+add-get-f32 c = omega arith
+
+get-f32-requires : tie.Need-get-f32-requires Inv-loop μ-loop
+get-f32-requires c κs = tt
+
+add-taps : tie.Need-add-taps Inv-loop μ-loop
+add-taps c = omega arith
+
+mul-taps : tie.Need-mul-taps Inv-loop μ-loop
+mul-taps c = omega arith
+
+slice-write-taps : tie.Need-slice-write-taps Inv-loop μ-loop
+slice-write-taps c = omega (arith, kept (c .before .before))
+
+add-k : tie.Need-add-k Inv-loop μ-loop
+add-k c = omega arith
+
+loop-less : tie.Need-loop-less Inv-loop μ-loop
+loop-less c = omega arith
+
+loop-again : tie.Need-loop-again Inv-loop μ-loop
+loop-again c =
+    let args = c .before .before .before .before .before .args in
+    let turn = c .before .before .loop in
+    (omega arith, field-more (floatAt (args .file .now)) 4 (args .at) (args .taps .now) (turn .taps) (args .q) (turn .k) _ (turn .inv .1) (omega arith) (c .get-f32 .ensures))
+
+same-length : tie.Need-same-length Inv-loop μ-loop
+same-length c = kept (c .before)
+
+returns : tie.Need-returns Inv-loop μ-loop
+returns c =
+    let done : c .before .loop .k ≡ c .before .before .before .before .args .n = omega arith in
+    c .before .loop .inv .1 ∙ ap (placed _ _) (ap (strided _ _ _) done)
+
+pub fill-taps-spec : {M : Type 1} → statement M
+fill-taps-spec =
+    tie.close
+    (tie.spec
+    Inv-loop
+    μ-loop
+    loop-holds
+    mul-get-f32
+    add-get-f32
+    get-f32-requires
+    add-taps
+    mul-taps
+    slice-write-taps
+    add-k
+    loop-less
+    loop-again
+    same-length
+    returns)

@@ -1,0 +1,120 @@
+-- `bank::put_rows` meets its contract. The rows put so far stand behind the head. Assumes nothing.
+use mathlib.Core.Path.{_≡_, sym, ap, _∙_}
+use mathlib.Core.List.{List}
+use Prim.Native.Nat.{ℕ, _-_, _*_, _<_}
+use native.Mathlib.Omega.{arith}
+use borrow.Author.Count.{below-more}
+use lib.IntN.{ℤ, pos}
+use lib.ListN.{length, getD, take}
+use lib.Seq.{take-length}
+use mir.Syntax.{w16}
+use Rattle.big_endian.specs.Placed.{placed}
+use Rattle.big_endian.proofs.Placed.{placed-none, length-placed}
+use Rattle.big_endian.proofs.Signed.{back}
+use Rattle.bank_form.specs.Encoding.{rowBytes}
+use Rattle.bank_form.specs.HoldsComputed.{IsAzimuth}
+use Rattle.bank_form.proofs.RoundTrip.{oneRow, row-fits, body-small}
+use Rattle.bank.proofs.Fill.{Place, place-start, place-next, no-rows, rows-more, length-rows, each-azimuth}
+use Rattle.bank.proofs.put_rows.Statement.{statement}
+use Rattle.bank.proofs.put_rows.Tie as tie
+
+abbrev Inv-loop : tie.InvT-loop
+Inv-loop azimuths l taps file₀ i₀ at₀ q₀ file i at q = Place l (length azimuths) i at q × (file ≡ placed file₀ 9 (rowBytes (take i azimuths) l taps)) × ((j : ℕ) → j < i → IsAzimuth (getD azimuths j (pos 0)))
+
+abbrev μ-loop : tie.MeasureT-loop
+μ-loop azimuths l taps file₀ i₀ at₀ q₀ file i at q = length azimuths - i
+
+-- the file is as long as it was
+kept : (c : tie.At-loop Inv-loop μ-loop) → length (c .loop .file) ≡ length (c .before .before .before .args .file .now)
+kept c =
+    let args = c .before .before .before .args in
+    let turn = c .loop in
+    let long = length-rows (args .azimuths .now) (args .l) (args .taps .now) (turn .i) (turn .inv .0 .inside) (c .before .before .before .pre .2) in
+    ap length (turn .inv .1) ∙ length-placed _ _ _ (omega arith)
+
+loop-holds : tie.Need-loop-holds Inv-loop μ-loop
+loop-holds c = (place-start _ _, sym (ap (placed _ _) (no-rows _ _) ∙ placed-none _ _), λ j h. absurd (omega arith))
+
+mul-put-row : tie.Need-mul-put-row Inv-loop μ-loop
+mul-put-row c = omega arith
+
+shared-slice-copy-out-put-row : tie.Need-shared-slice-copy-out-put-row Inv-loop μ-loop
+shared-slice-copy-out-put-row c = c .loop-test .taken
+
+put-row-requires : tie.Need-put-row-requires Inv-loop μ-loop
+put-row-requires c κs =
+    let args = c .before .before .before .before .before .before .args in
+    let turn = c .before .before .before .loop in
+    let start = c .before .before .before .before .before .before in
+    let taps = row-fits (turn .i) (length (args .azimuths .now)) (2 * args .l) (c .before .before .loop-test .taken) in
+    let long = kept (c .before .before .before) in
+    omega arith
+
+mul-at : tie.Need-mul-at Inv-loop μ-loop
+mul-at c = omega arith
+
+add-at : tie.Need-add-at Inv-loop μ-loop
+add-at c = omega arith
+
+add-at-2 : tie.Need-add-at-2 Inv-loop μ-loop
+add-at-2 c = omega arith
+
+mul-q : tie.Need-mul-q Inv-loop μ-loop
+mul-q c = omega arith
+
+add-q : tie.Need-add-q Inv-loop μ-loop
+add-q c = omega arith
+
+add-i : tie.Need-add-i Inv-loop μ-loop
+add-i c = omega arith
+
+loop-less : tie.Need-loop-less Inv-loop μ-loop
+loop-less c = omega arith
+
+loop-again : tie.Need-loop-again Inv-loop μ-loop
+loop-again c =
+    let start = c .before .before .before .before .before .before .before .before .before in
+    let args = start .args in
+    let turn = c .before .before .before .before .before .before .loop in
+    let inside = c .before .before .before .before .before .loop-test .taken in
+    let z = getD (args .azimuths .now) (turn .i) (pos 0) in
+    let taken = back w16 z (c .before .before .before .before .put-row-arg .given) in
+    let row = c .before .before .put-row .ensures ∙ ap (placed _ _) (ap (λ (y : ℤ). oneRow y (args .l) (args .taps .now) (turn .q)) taken) in
+    let small = body-small (length (args .azimuths .now)) (args .l) (start .pre .1) (start .pre .0) in (
+      place-next _ _ _ _ _ (start .pre .0) inside (turn .inv .0),
+      rows-more (args .file .now) (turn .file) _ (args .azimuths .now) (args .l) (args .taps .now) (turn .i) (turn .q) (turn .at) (start .pre .2) inside (turn .inv .0 .tap) (turn .inv .0 .row) (omega arith) (turn .inv .1) row,
+      below-more (λ (j : ℕ). IsAzimuth (getD (args .azimuths .now) j (pos 0))) (turn .i) (turn .inv .2) (c .before .before .before .before .put-row-arg .given),
+    )
+
+same-length : tie.Need-same-length Inv-loop μ-loop
+same-length c = kept (c .before)
+
+returns : tie.Need-returns Inv-loop μ-loop
+returns c =
+    let args = c .before .before .before .before .args in
+    let done : c .before .loop .i ≡ length (args .azimuths .now) = omega arith in (
+      c .before .loop .inv .1
+          ∙ ap (λ (zs : List ℤ). placed (args .file .now) 9 (rowBytes zs (args .l) (args .taps .now))) (ap (λ (k : ℕ). take k (args .azimuths .now)) done ∙ take-length (args .azimuths .now)),
+      each-azimuth (args .azimuths .now) (λ j h. c .before .loop .inv .2 j (omega arith)),
+    )
+
+pub put-rows-spec : {M : Type 1} → statement M
+put-rows-spec =
+    tie.close
+    (tie.spec
+    Inv-loop
+    μ-loop
+    loop-holds
+    mul-put-row
+    shared-slice-copy-out-put-row
+    put-row-requires
+    mul-at
+    add-at
+    add-at-2
+    mul-q
+    add-q
+    add-i
+    loop-less
+    loop-again
+    same-length
+    returns)

@@ -1,0 +1,89 @@
+-- `bank::put_taps` meets its contract. The taps put so far stand in the file from `at` on. Assumes nothing.
+use mathlib.Core.Path.{_≡_, sym, ap, _∙_}
+use Prim.Native.Nat.{ℕ, _-_, _≤_}
+use native.Mathlib.Omega.{arith}
+use lib.ListN.{length, take, drop}
+use Rattle.big_endian.specs.Placed.{placed}
+use Rattle.big_endian.proofs.Placed.{placed-none, length-placed}
+use Rattle.bank_form.specs.Encoding.{tapBytes}
+use Rattle.bank_form.proofs.RoundTrip.{length-tapBytes}
+use Rattle.bank.proofs.Fill.{tap-put, tap-more, length-part, no-taps}
+use Rattle.bank.proofs.put_taps.Statement.{statement}
+use Rattle.bank.proofs.put_taps.Tie as tie
+
+abbrev Inv-loop : tie.InvT-loop
+Inv-loop taps q n file₀ at k₀ file k = (k ≤ n) × (file ≡ placed file₀ at (tapBytes (take k (drop q taps))))
+
+abbrev μ-loop : tie.MeasureT-loop
+μ-loop taps q n file₀ at k₀ file k = n - k
+
+-- the file is as long as it was
+kept : (c : tie.At-loop Inv-loop μ-loop) → length (c .loop .file) ≡ length (c .before .before .before .args .file .now)
+kept c =
+    let args = c .before .before .before .args in
+    let long = length-tapBytes (take (c .loop .k) (drop (args .q) (args .taps .now))) in
+    let some = length-part (args .taps .now) (args .q) (c .loop .k) (omega arith) in
+    ap length (c .loop .inv .1) ∙ length-placed _ _ _ (omega arith)
+
+loop-holds : tie.Need-loop-holds Inv-loop μ-loop
+loop-holds c = (omega arith, sym (ap (placed _ _) no-taps ∙ placed-none _ _))
+
+mul-put-f32 : tie.Need-mul-put-f32 Inv-loop μ-loop
+mul-put-f32 c = omega arith
+
+add-put-f32 : tie.Need-add-put-f32 Inv-loop μ-loop
+add-put-f32 c = omega arith
+
+add-put-f32-2 : tie.Need-add-put-f32-2 Inv-loop μ-loop
+add-put-f32-2 c = omega arith
+
+mul-put-f32-2 : tie.Need-mul-put-f32-2 Inv-loop μ-loop
+mul-put-f32-2 c = omega arith
+
+shared-slice-read-put-f32 : tie.Need-shared-slice-read-put-f32 Inv-loop μ-loop
+shared-slice-read-put-f32 c = omega arith
+
+put-f32-requires : tie.Need-put-f32-requires Inv-loop μ-loop
+put-f32-requires c κs = tt
+
+add-k : tie.Need-add-k Inv-loop μ-loop
+add-k c = omega arith
+
+loop-less : tie.Need-loop-less Inv-loop μ-loop
+loop-less c = omega arith
+
+loop-again : tie.Need-loop-again Inv-loop μ-loop
+loop-again c =
+    let args = c .before .before .before .before .before .before .before .before .before .args in
+    let turn = c .before .before .before .before .before .before .loop in
+    let long = kept (c .before .before .before .before .before .before) in
+    let tap = tap-put (turn .file) (c .before .before .put-f32 .last .0) _ _ (omega arith) (c .before .before .put-f32 .ensures) in
+    (omega arith, tap-more (args .file .now) (turn .file) _ (args .taps .now) (args .at) (args .q) (turn .k) (turn .inv .1) (omega arith) (omega arith) tap)
+
+same-length : tie.Need-same-length Inv-loop μ-loop
+same-length c = kept (c .before)
+
+returns : tie.Need-returns Inv-loop μ-loop
+returns c =
+    let args = c .before .before .before .before .args in
+    let done : c .before .loop .k ≡ args .n = omega arith in
+    c .before .loop .inv .1 ∙ ap (λ (k : ℕ). placed (args .file .now) (args .at) (tapBytes (take k (drop (args .q) (args .taps .now))))) done
+
+pub put-taps-spec : {M : Type 1} → statement M
+put-taps-spec =
+    tie.close
+    (tie.spec
+    Inv-loop
+    μ-loop
+    loop-holds
+    mul-put-f32
+    add-put-f32
+    add-put-f32-2
+    mul-put-f32-2
+    shared-slice-read-put-f32
+    put-f32-requires
+    add-k
+    loop-less
+    loop-again
+    same-length
+    returns)

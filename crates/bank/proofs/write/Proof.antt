@@ -1,0 +1,77 @@
+-- `bank::write` meets its contract. Assumes nothing.
+use mathlib.Core.Path.{_≡_, sym, _∙_}
+use mathlib.Core.List.{List}
+use Prim.Native.Nat.{ℕ, _*_}
+use native.Mathlib.Omega.{arith}
+use borrow.Author.Tests.{not-true, not-false}
+use lib.ListN.{length, length-replicate}
+use Rattle.bank_form.specs.Bank.{Bank}
+use Rattle.bank_form.proofs.RoundTrip.{length-encode}
+use Rattle.bank.proofs.Answers.{Lent, lent, unlent, breaks, many-rows, long-taps}
+use borrow.Author.Needs.{needs}
+use Rattle.bank.proofs.write.Statement.{statement}
+use Rattle.bank.proofs.write.Tie as tie
+
+-- past the test of the lengths
+module _ (c : tie.Else1) where
+  abbrev bank : Bank
+  bank = let args = c .before .before .before .before .args in record { azimuths = args .azimuths .now; length = args .length; taps = args .taps .now }
+
+  abbrev file : List ℕ
+  file = c .before .before .before .before .args .file .now
+
+  lengths : Lent bank file
+  lengths = lent bank file (sym (c .before .lengths-fit .ensures) ∙ not-false _ (c .if1 .left))
+
+lengths-fit-requires : tie.Need-lengths-fit-requires
+lengths-fit-requires c κs = search needs
+
+unwritten-requires : tie.Need-unwritten-requires
+unwritten-requires c κs = tt
+
+returns : tie.Need-returns
+returns c = rw (c .unwritten .ensures) (unlent _ _ (sym (c .before .before .lengths-fit .ensures) ∙ not-true _ (c .before .if1 .taken)))
+
+unwritten-requires-2 : tie.Need-unwritten-requires-2
+unwritten-requires-2 c κs = tt
+
+returns-2 : tie.Need-returns-2
+returns-2 c = let past = c .before .before in rw (c .unwritten2 .ensures) (breaks (bank past) (file past) (lengths past) (many-rows _ (c .before .if2 .taken)))
+
+unwritten-requires-3 : tie.Need-unwritten-requires-3
+unwritten-requires-3 c κs = tt
+
+returns-3 : tie.Need-returns-3
+returns-3 c = let past = c .before .before .before in rw (c .unwritten3 .ensures) (breaks (bank past) (file past) (lengths past) (long-taps _ (c .before .if3 .taken)))
+
+slice-aggregate-write-checked : tie.Need-slice-aggregate-write-checked
+slice-aggregate-write-checked c = search needs
+
+write-checked-requires : tie.Need-write-checked-requires
+write-checked-requires c κs =
+    let past = c .before .before .before .before in
+    let fit = lengths past in
+    let count : length (bank past .taps) ≡ length (bank past .azimuths) * (2 * bank past .length) = fit .count ∙ omega arith in
+    (c .before .before .if3 .left, c .before .before .before .if2 .left, count, fit .size ∙ length-encode (bank past) count, length-replicate {A = ℕ} 32793 0)
+
+same-length : tie.Need-same-length
+same-length c = search needs
+
+returns-4 : tie.Need-returns-4
+returns-4 c = search needs
+
+pub write-spec : {M : Type 1} → statement M
+write-spec =
+    tie.close
+    (tie.spec
+    lengths-fit-requires
+    unwritten-requires
+    returns
+    unwritten-requires-2
+    returns-2
+    unwritten-requires-3
+    returns-3
+    slice-aggregate-write-checked
+    write-checked-requires
+    same-length
+    returns-4)

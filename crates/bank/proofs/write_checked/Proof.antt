@@ -1,0 +1,127 @@
+-- `bank::write_checked` meets its contract. What was made is the encoding of the bank, which is a file exactly if the bank keeps the form. Assumes nothing.
+use mathlib.Core.Path.{_≡_, sym, ap, _∙_}
+use mathlib.Core.Bool.{Bool}
+use mathlib.Core.List.{List}
+use Prim.Native.Nat.{ℕ, _≤_}
+use native.Mathlib.Omega.{arith}
+use lib.ListN.{length, take}
+use lib.Seq.{length-take-le}
+use Rattle.bank_form.specs.declared.Fault.{Fault}
+use Rattle.bank_form.specs.Bank.{Bank, valid}
+use Rattle.bank_form.specs.Encoding.{encode}
+use Rattle.bank_form.specs.FaultComputed.{fault, isFile}
+use Rattle.bank_form.specs.HoldsComputed.{Each, Holds}
+use Rattle.bank_form.proofs.Exact.{is-file, no-file, written-exactly}
+use Rattle.bank_form.proofs.RoundTrip.{body-small, length-encode}
+use Rattle.bank.proofs.Answers.{Lent, breaks, written, wrote}
+use Rattle.bank.proofs.Fill.{made-file, copied}
+use borrow.Author.Needs.{needs}
+use Rattle.bank.proofs.write_checked.Statement.{statement}
+use Rattle.bank.proofs.write_checked.Tie as tie
+
+-- what is known once the file is made
+module _ (c : tie.After-put-bank) where
+  abbrev bank : Bank
+  bank = let args = c .before .before .before .before .before .args in record { azimuths = args .azimuths .now; length = args .l; taps = args .taps .now }
+
+  abbrev file : List ℕ
+  file = c .before .before .before .before .before .args .file .now
+
+  abbrev made : List ℕ
+  made = c .put-bank .last .1 .1 .1 .0
+
+  size : length (encode bank) ≡ length file
+  size = length-encode bank (c .before .before .before .before .before .pre .2) ∙ sym (c .before .before .before .before .before .pre .3)
+
+  same : take (length file) made ≡ encode bank
+  same = made-file _ made (encode bank) (length file) size (c .put-bank .ensures .0)
+
+  room : length file ≤ length made
+  room =
+      let start = c .before .before .before .before .before in
+      let small = body-small (length (start .args .azimuths .now)) (start .args .l) (start .pre .1) (start .pre .0) in
+      omega (arith, c .put-bank .kept .1 .1 .1 .0)
+
+  lent : Lent bank file
+  lent = record { count = c .before .before .before .before .before .pre .2 ∙ omega arith; size = sym size }
+
+  held : Holds bank
+  unfolding Each
+  held =
+      let start = c .before .before .before .before .before in
+      record { few = start .pre .1; short = start .pre .0; count = start .pre .2; azimuths = c .put-bank .ensures .1; taps = λ i. c .before .before .before .before .shared-slice-known .given i }
+
+-- what the check of it found
+module _ (c : tie.After-check-file) where
+  found : c .check-file .result ≡ fault (encode (bank (c .before .before .before .before)))
+  found = c .check-file .ensures .first ∙ ap fault (same (c .before .before .before .before))
+
+  judged : (t : Bool) → isFile (encode (bank (c .before .before .before .before))) ≡ t → valid (bank (c .before .before .before .before)) ≡ t
+  judged t e = sym (written-exactly (bank (c .before .before .before .before)) (held (c .before .before .before .before))) ∙ e
+
+put-bank-requires : tie.Need-put-bank-requires
+put-bank-requires c κs = search needs
+
+slice-reshare-prefix-check-file : tie.Need-slice-reshare-prefix-check-file
+slice-reshare-prefix-check-file c = room (c .before .before)
+
+slice-aggregate-check-file : tie.Need-slice-aggregate-check-file
+slice-aggregate-check-file c = sym (length-take-le _ _ (room (c .before .before .before)))
+
+check-file-requires : tie.Need-check-file-requires
+check-file-requires c κs = search needs
+
+unwritten-requires : tie.Need-unwritten-requires
+unwritten-requires c κs = tt
+
+same-length : tie.Need-same-length
+same-length c = search needs
+
+returns : tie.Need-returns
+returns c =
+    let check = c .before .before .before in
+    let fails = judged check _ (no-file _ (λ e. c .before .if1 .taken (ap (λ (f : Fault). f .refusal) (found check) ∙ e))) in
+    rw (c .unwritten .ensures) (breaks _ _ (lent (check .before .before .before .before)) fails)
+
+slice-reshare-prefix-copy : tie.Need-slice-reshare-prefix-copy
+slice-reshare-prefix-copy c = room (c .before .before .before .before .before .before)
+
+slice-aggregate-copy : tie.Need-slice-aggregate-copy
+slice-aggregate-copy c = sym (length-take-le _ _ (room (c .before .before .before .before .before .before .before)))
+
+copy-requires : tie.Need-copy-requires
+copy-requires c κs =
+    let put = c .before .before .before .before .before .before .before .before in
+    omega (arith, length-take-le (length (file put)) (made put) (room put))
+
+same-length-2 : tie.Need-same-length-2
+same-length-2 c = search needs
+
+same-length-3 : tie.Need-same-length-3
+same-length-3 c = search needs
+
+returns-2 : tie.Need-returns-2
+returns-2 c =
+    let check = c .before .before .before .before .before .before .before in
+    let put = check .before .before .before .before in
+    let holds = judged check _ (is-file _ (ap (λ (f : Fault). f .refusal) (sym (found check)) ∙ c .before .before .before .before .before .if1 .left)) in
+    let copy = c .before .before .copy .ensures .1 ∙ copied _ (file put) (length-take-le (length (file put)) (made put) (room put)) ∙ same put in
+    wrote (bank put) (file put) _ _ (sym (size put)) copy ∙ written (bank put) (file put) (lent put) holds
+
+pub write-checked-spec : {M : Type 1} → statement M
+write-checked-spec =
+    tie.close
+    (tie.spec
+    put-bank-requires
+    slice-reshare-prefix-check-file
+    slice-aggregate-check-file
+    check-file-requires
+    unwritten-requires
+    same-length
+    returns
+    slice-reshare-prefix-copy
+    slice-aggregate-copy
+    copy-requires
+    same-length-2
+    same-length-3
+    returns-2)

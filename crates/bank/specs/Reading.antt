@@ -1,0 +1,42 @@
+-- Document 01, 'Filter bank file': "Every breach, in reading or writing, is 9, never 2, 3, 4 or 7. Reading fills lent lists of 8 azimuths and 8,192 taps in file order and returns rows and L;
+-- entries beyond them stay. .. Other lengths are 5." And 'Refusal numbers': "A refusal returns its number, counts of 0, ..; lent memory stays the same." Definitions only.
+use mathlib.Core.Path.{_≡_}
+use mathlib.Core.Bool.{not, cond}
+use mathlib.Core.List.{List, [], _∷_, _++_}
+use Prim.Native.Nat.{ℕ}
+use lib.Dec.{eqb}
+use lib.Ieee.{Float}
+use lib.IntN.{ℤ}
+use lib.ListN.{length, drop}
+use Rattle.refusals.specs.Refusals.{_when_, firstOf}
+use Rattle.bank_form.specs.Bank.{Bank, rows}
+use Rattle.bank_form.specs.FaultComputed.{bankIn, isFile}
+use Rattle.bank_form.specs.File.{Exactly}
+use Rattle.bank.specs.declared.BankRead.{BankRead}
+
+-- what a call leaves: its answer, and the lists that it was lent
+pub record ReadOutcome : Type 0 where
+  pub answer : BankRead
+  pub azimuths : List ℤ
+  pub taps : List Float
+
+unfoldable pub readRefusal : List ℕ → List ℤ → List Float → ℕ
+readRefusal file zs xs = firstOf (5 when not (eqb (length zs) 8) ∷ 5 when not (eqb (length xs) 8192) ∷ 9 when not (isFile file) ∷ [])
+
+abbrev pub readRefused : ℕ → List ℤ → List Float → ReadOutcome
+readRefused n zs xs = record { answer = record { refusal = n; rows = 0; length = 0 }; azimuths = zs; taps = xs }
+
+-- the bank's entries, and beyond them what stood there
+abbrev pub readBank : Bank → List ℤ → List Float → ReadOutcome
+readBank b zs xs = record {
+  answer = record { refusal = 0; rows = rows b; length = b .length };
+  azimuths = b .azimuths ++ drop (rows b) zs;
+  taps = b .taps ++ drop (length (b .taps)) xs;
+}
+
+unfoldable pub readOutcome : List ℕ → List ℤ → List Float → ReadOutcome
+readOutcome file zs xs = cond (eqb (readRefusal file zs xs) 0) (readBank (bankIn file) zs xs) (readRefused (readRefusal file zs xs) zs xs)
+
+pub record Reads (file : List ℕ) (zs : List ℤ) (xs : List Float) (o : ReadOutcome) : Type 0 where
+  pub outcome : o ≡ readOutcome file zs xs
+  pub exactly : Exactly file

@@ -1,0 +1,228 @@
+// The filter bank file (document 01, item 8 and 'Filter bank file'): `read` fills lent lists from a file,
+// `write` fills a lent buffer with the file of a bank. Both take any input. Their promises: a file is
+// accepted exactly if it is the encoding of a bank that keeps the form, and what is filled in is that
+// bank; a bank is accepted exactly if it keeps the form, and what is filled in is its encoding; on a
+// refusal nothing lent changes. What is written reads as the same bank, and what is read is written as
+// the same bytes. Under it lie the form, the check of a file, the big-endian fields and the length test.
+ghost use mathlib.Core.Path.{_≡_};
+ghost use mathlib.Core.Bool.{_&&_};
+ghost use lib.Dec.{eqb};
+ghost use lib.IntN.{pos};
+ghost use Prim.Native.Nat.{_+_, _*_, _^_, _<_, _≤_};
+ghost use lib.ListN.{length, take, drop};
+ghost use mathlib.Core.List.{_++_};
+ghost use mir.Syntax.{w16};
+ghost use mir.Val.{ofZ};
+ghost use Rattle.big_endian.specs.Bytes.{bytesOf};
+ghost use Rattle.big_endian.specs.Fields.{floatAt};
+ghost use Rattle.big_endian.specs.Placed.{placed};
+ghost use Rattle.bank_form.specs.Encoding.{tapBytes, rowBytes, encode};
+ghost use Rattle.bank_form.specs.HoldsComputed.{Each, IsAzimuth};
+ghost use Rattle.bank_form.specs.FaultComputed.{strided, rowSize, azimuthsFrom, tapsFrom};
+ghost use Rattle.bank.specs.Reading.{Reads};
+ghost use Rattle.bank.specs.Writing.{Writes};
+ghost use Rattle.bank.specs.HeadComputed.{headBytes};
+
+// What reading answers: a refusal, or 0 with the rows and L.
+pub struct BankRead {
+    pub refusal: u8,
+    pub rows: usize,
+    pub length: usize,
+}
+
+// What writing answers: a refusal, or 0 with the bytes of the file.
+pub struct BankWritten {
+    pub refusal: u8,
+    pub bytes: usize,
+}
+
+// Every breach of the form, in reading or writing, is refused with this number.
+const BREACH: u8 = 9;
+
+// A refusal to read.
+fn unread(refusal: u8) -> BankRead
+    ensures { λ r. ⌜ r ≡ record { refusal = refusal; rows = 0; length = 0 } ⌝ }
+{
+    BankRead {
+        refusal,
+        rows: 0,
+        length: 0,
+    }
+}
+
+// A refusal to write.
+fn unwritten(refusal: u8) -> BankWritten
+    ensures { λ r. ⌜ r ≡ record { refusal = refusal; bytes = 0 } ⌝ }
+{
+    BankWritten { refusal, bytes: 0 }
+}
+
+// Fills n taps, which stand from `at` on, into the list from q on.
+fn fill_taps(file: &[u8], at: usize, n: usize, taps: &mut [f32], q: usize)
+    requires { ⌜ (at + 4 * n ≤ 32793) × (q + n ≤ length (now taps)) ⌝ }
+    ensures { λ _. ⌜ now (taps .exit) ≡ placed (now (taps .entry)) q (strided (floatAt (now (file .entry))) 4 at n) ⌝ }
+{
+    let mut k = 0;
+    while k < n {
+        taps[q + k] = big_endian::get_f32(file, at + k * 4);
+        k += 1;
+    }
+}
+
+// Fills the azimuths and the taps of n rows into the first entries of the lists.
+fn fill_rows(file: &[u8], l: usize, n: usize, azimuths: &mut [i16], taps: &mut [f32])
+    requires { ⌜ (l ≤ 512) × (n ≤ 8) × (length (now azimuths) ≡ 8) × (length (now taps) ≡ 8192) ⌝ }
+    ensures azimuths { λ _. ⌜ now (azimuths .exit) ≡ placed (now (azimuths .entry)) 0 (azimuthsFrom (now (file .entry)) l 9 n) ⌝ }
+    ensures taps { λ _. ⌜ now (taps .exit) ≡ placed (now (taps .entry)) 0 (tapsFrom (now (file .entry)) l 9 n) ⌝ }
+{
+    let mut i = 0;
+    let mut at = 9;
+    let mut q = 0;
+    while i < n {
+        azimuths[i] = big_endian::get_i16(file, at);
+        fill_taps(file, at + 2, 2 * l, taps, q);
+        at += 2 + 8 * l;
+        q += 2 * l;
+        i += 1;
+    }
+}
+
+// Reads a file into lists of 8 azimuths and 8,192 taps, once all of it is known to keep the form.
+pub fn read(file: &[u8], azimuths: &mut [i16], taps: &mut [f32]) -> BankRead
+    ensures { λ r. ⌜ Reads (now (file .entry)) (now (azimuths .entry)) (now (taps .entry)) (record { answer = r; azimuths = now (azimuths .exit); taps = now (taps .exit) }) ⌝ }
+{
+    if azimuths.len() != 8 {
+        return unread(5);
+    }
+    if taps.len() != 8192 {
+        return unread(5);
+    }
+    let fault = bank_check::check_file(file);
+    if fault.refusal != 0 {
+        return unread(BREACH);
+    }
+    let rows = big_endian::get(file, 5, 2) as usize;
+    let length = big_endian::get(file, 7, 2) as usize;
+    fill_rows(file, length, rows, azimuths, taps);
+    BankRead {
+        refusal: 0,
+        rows,
+        length,
+    }
+}
+
+// Puts n taps of the list, from q on, into the file from `at` on.
+fn put_taps(taps: &[f32], q: usize, n: usize, file: &mut [u8], at: usize)
+    requires { ⌜ (q + n ≤ length (now taps)) × (at + 4 * n ≤ length (now file)) ⌝ }
+    ensures { λ _. ⌜ now (file .exit) ≡ placed (now (file .entry)) at (tapBytes (take n (drop q (now (taps .entry))))) ⌝ }
+{
+    let mut k = 0;
+    while k < n {
+        big_endian::put_f32(file, at + 4 * k, taps[q + k]);
+        k += 1;
+    }
+}
+
+// Puts a row at an offset: its azimuth, and 2 * l taps of the list from q on.
+fn put_row(z: i16, l: usize, taps: &[f32], q: usize, file: &mut [u8], at: usize)
+    requires { ⌜ (l ≤ 512) × (q + 2 * l ≤ length (now taps)) × (at + rowSize l ≤ length (now file)) ⌝ }
+    ensures { λ _. ⌜ now (file .exit) ≡ placed (now (file .entry)) at (bytesOf 2 (ofZ w16 z) ++ tapBytes (take (2 * l) (drop q (now (taps .entry))))) ⌝ }
+{
+    big_endian::put_i16(file, at, z);
+    put_taps(taps, q, 2 * l, file, at + 2);
+}
+
+// Puts the rows of a bank behind the head. That each azimuth is one of sixteen bits is known once it is
+// read, so it is told here.
+fn put_rows(azimuths: &[i16], l: usize, taps: &[f32], file: &mut [u8])
+    requires { ⌜ (l ≤ 512) × (length (now azimuths) ≤ 8) × (length (now taps) ≡ length (now azimuths) * (2 * l)) × (length (now file) ≡ 32793) ⌝ }
+    ensures bytes { λ _. ⌜ now (file .exit) ≡ placed (now (file .entry)) 9 (rowBytes (now (azimuths .entry)) l (now (taps .entry))) ⌝ }
+    ensures azimuths { λ _. ⌜ Each IsAzimuth (pos 0) (now (azimuths .entry)) ⌝ }
+{
+    let mut i = 0;
+    let mut at = 9;
+    let mut q = 0;
+    while i < azimuths.len() {
+        put_row(azimuths[i], l, taps, q, file, at);
+        at += 2 + 8 * l;
+        q += 2 * l;
+        i += 1;
+    }
+}
+
+// Puts the head: the version, the length of all that follows, and the two counts.
+fn put_head(file: &mut [u8], rest: u64, rows: u64, l: u64)
+    requires { ⌜ 9 ≤ length (now file) ⌝ }
+    ensures { λ _. ⌜ now (file .exit) ≡ placed (now (file .entry)) 0 (headBytes rest rows l) ⌝ }
+{
+    big_endian::put(file, 0, 1, 1);
+    big_endian::put(file, 1, 4, rest);
+    big_endian::put(file, 5, 2, rows);
+    big_endian::put(file, 7, 2, l);
+}
+
+// Puts a bank from the start on; its file is `size` bytes long.
+fn put_bank(azimuths: &[i16], l: usize, taps: &[f32], file: &mut [u8], size: usize)
+    requires { ⌜ (l ≤ 512) × (length (now azimuths) ≤ 8) × (length (now taps) ≡ length (now azimuths) * (2 * l)) × (size ≡ 9 + length (now azimuths) * rowSize l) × (length (now file) ≡ 32793) ⌝ }
+    ensures bytes { λ _. ⌜ now (file .exit) ≡ placed (now (file .entry)) 0 (encode (record { azimuths = now (azimuths .entry); length = l; taps = now (taps .entry) })) ⌝ }
+    ensures azimuths { λ _. ⌜ Each IsAzimuth (pos 0) (now (azimuths .entry)) ⌝ }
+{
+    put_head(file, (size - 5) as u64, azimuths.len() as u64, l as u64);
+    put_rows(azimuths, l, taps, file);
+}
+
+// Whether the lengths that writing is lent fit: 2 x rows x L taps, and a buffer of the file's length.
+fn lengths_fit(rows: usize, l: usize, taps: usize, file: usize) -> bool
+    requires { ⌜ (rows * 2 < 2 ^ 63) × (taps * 4 < 2 ^ 63) ⌝ }
+    ensures { λ r. ⌜ r ≡ (eqb taps (2 * rows * l) && eqb file (9 + rows * rowSize l)) ⌝ }
+{
+    if !planes::is_product(taps, 2 * rows, l) {
+        return false;
+    }
+    if file < 9 {
+        return false;
+    }
+    file - 9 == rows * 2 + taps * 4
+}
+
+// Makes the file of a bank in `made`, checks it as any file is, and copies it if it keeps the form.
+fn write_checked(
+    azimuths: &[i16],
+    l: usize,
+    taps: &[f32],
+    file: &mut [u8],
+    made: &mut [u8],
+) -> BankWritten
+    requires { ⌜ (l ≤ 512) × (length (now azimuths) ≤ 8) × (length (now taps) ≡ length (now azimuths) * (2 * l)) × (length (now file) ≡ 9 + length (now azimuths) * rowSize l) × (length (now made) ≡ 32793) ⌝ }
+    ensures { λ r. ⌜ Writes (record { azimuths = now (azimuths .entry); length = l; taps = now (taps .entry) }) (now (file .entry)) (record { answer = r; file = now (file .exit) }) ⌝ }
+{
+    let size = file.len();
+    put_bank(azimuths, l, taps, made, size);
+    let found = bank_check::check_file(&made[..size]);
+    if found.refusal != 0 {
+        return unwritten(BREACH);
+    }
+    bytes::copy(&made[..size], file);
+    BankWritten {
+        refusal: 0,
+        bytes: size,
+    }
+}
+
+// Writes the file of a bank, with an azimuth for each row, into a buffer of its length. The file is made
+// beside the buffer, so that a bank which breaks the form changes nothing.
+pub fn write(azimuths: &[i16], length: usize, taps: &[f32], file: &mut [u8]) -> BankWritten
+    ensures { λ r. ⌜ Writes (record { azimuths = now (azimuths .entry); length = length; taps = now (taps .entry) }) (now (file .entry)) (record { answer = r; file = now (file .exit) }) ⌝ }
+{
+    if !lengths_fit(azimuths.len(), length, taps.len(), file.len()) {
+        return unwritten(5);
+    }
+    if 8 < azimuths.len() {
+        return unwritten(BREACH);
+    }
+    if 512 < length {
+        return unwritten(BREACH);
+    }
+    let mut made = [0u8; 32793];
+    write_checked(azimuths, length, taps, file, &mut made)
+}

@@ -1,0 +1,28 @@
+-- `bank_check::head_field` meets its contract. Assumes nothing.
+use mathlib.Core.Path.{_≡_, ap, _∙_}
+use Rattle.big_endian.specs.Fields.{fieldAt}
+use Rattle.bank_form.specs.Bank.{within}
+use Rattle.bank_form.specs.FaultComputed.{field, headField}
+use borrow.Author.Needs.{needs}
+use Rattle.bank_check.proofs.head_field.Statement.{statement}
+use Rattle.bank_check.proofs.head_field.Tie as tie
+
+get-requires : tie.Need-get-requires
+get-requires c κs = search needs
+
+is-within-requires : tie.Need-is-within-requires
+is-within-requires c κs = search needs
+
+field-fault-requires : tie.Need-field-fault-requires
+field-fault-requires c κs = search needs
+
+returns : tie.Need-returns
+unfolding headField
+returns c =
+    let args = c .before .before .before .before .args in
+    let good : c .before .is-within .result ≡ within (args .low) (args .high) (fieldAt (args .s .now) (args .at) (args .count)) =
+    c .before .is-within .ensures ∙ ap (within (args .low) (args .high)) (c .before .before .get .ensures .value) in
+    c .field-fault .ensures ∙ ap (field _ _ _ _) good
+
+pub head-field-spec : {M : Type 1} → statement M
+head-field-spec = tie.close (tie.spec get-requires is-within-requires field-fault-requires returns)

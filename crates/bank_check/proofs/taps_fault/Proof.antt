@@ -1,0 +1,91 @@
+-- `bank_check::taps_fault` meets its contract. What is left to walk has the fault that the whole has. Assumes nothing.
+use mathlib.Core.Path.{_≡_, refl, sym, ap, _∙_}
+use mathlib.Core.List.{List}
+use Prim.Native.Nat.{ℕ, _+_, _*_, _≤_}
+use native.Mathlib.Omega.{arith}
+use lib.Ieee.Scale.{finite}
+use lib.ListN.{length}
+use Rattle.big_endian.specs.Fields.{floatAt}
+use Rattle.bank_form.specs.FaultComputed.{field, tapsFault}
+use Rattle.bank_form.proofs.Walk.{else-stop, else-on, taps-next, taps-end}
+use Rattle.bank_check.proofs.taps_fault.Statement.{statement}
+use Rattle.bank_check.proofs.taps_fault.Tie as tie
+
+abbrev Inv-loop : tie.InvT-loop
+Inv-loop s at n p₀ k₀ p k = (p + 4 * k ≤ 32793) × (tapsFault s at n ≡ tapsFault s p k)
+
+abbrev μ-loop : tie.MeasureT-loop
+μ-loop s at n p₀ k₀ p k = k
+
+-- what the field at this turn's place comes to
+module _ (c : tie.After-field-fault Inv-loop μ-loop) where
+  abbrev file : List ℕ
+  file = c .before .before .before .before .before .before .before .args .s .now
+
+  abbrev place : ℕ
+  place = c .before .before .before .before .before .loop .p
+
+  here : c .field-fault .result ≡ field (length file) place 4 18 (finite (floatAt file place))
+  here =
+      let tap = c .before .before .f32-to-f64-with-nan .ensures ∙ c .before .before .before .get-f32 .ensures in
+      c .field-fault .ensures ∙ ap (field _ _ _ _) (c .before .is-finite .ensures ∙ ap finite tap)
+
+loop-holds : tie.Need-loop-holds Inv-loop μ-loop
+loop-holds c = (c .before .pre, refl)
+
+get-f32-requires : tie.Need-get-f32-requires Inv-loop μ-loop
+get-f32-requires c κs = tt
+
+f32-to-f64-with-nan-requires : tie.Need-f32-to-f64-with-nan-requires Inv-loop μ-loop
+f32-to-f64-with-nan-requires c κs = tt
+
+is-finite-requires : tie.Need-is-finite-requires Inv-loop μ-loop
+is-finite-requires c κs = tt
+
+field-fault-requires : tie.Need-field-fault-requires Inv-loop μ-loop
+field-fault-requires c κs = omega arith
+
+returns : tie.Need-returns Inv-loop μ-loop
+returns c =
+    let turn = c .before .before .before .before .before .before .before .loop in
+    let more = c .before .before .before .before .before .before .loop-test .taken in
+    else-stop _ _ _ (here (c .before .before)) (c .if1 .taken) ∙ sym (turn .inv .1 ∙ taps-next _ _ _ more)
+
+add-p : tie.Need-add-p Inv-loop μ-loop
+add-p c = omega arith
+
+sub-k : tie.Need-sub-k Inv-loop μ-loop
+sub-k c = omega arith
+
+loop-less : tie.Need-loop-less Inv-loop μ-loop
+loop-less c = omega arith
+
+loop-again : tie.Need-loop-again Inv-loop μ-loop
+loop-again c =
+    let turn = c .before .before .before .before .before .before .before .loop in
+    let more = c .before .before .before .before .before .before .loop-test .taken in
+    (omega arith, turn .inv .1 ∙ taps-next _ _ _ more ∙ else-on _ _ _ (here (c .before .before)) (c .if1 .left))
+
+returns-2 : tie.Need-returns-2 Inv-loop μ-loop
+returns-2 c =
+    let turn = c .before .loop in
+    let done : turn .k ≡ 0 = omega arith in
+    sym (turn .inv .1 ∙ ap (tapsFault _ _) done ∙ taps-end _ _)
+
+pub taps-fault-spec : {M : Type 1} → statement M
+taps-fault-spec =
+    tie.close
+    (tie.spec
+    Inv-loop
+    μ-loop
+    loop-holds
+    get-f32-requires
+    f32-to-f64-with-nan-requires
+    is-finite-requires
+    field-fault-requires
+    returns
+    add-p
+    sub-k
+    loop-less
+    loop-again
+    returns-2)

@@ -1,0 +1,2 @@
+-- What the check of a file promises.
+pub mod Checked

@@ -1,0 +1,6 @@
+-- Laws that a caller's proof cites.
+pub mod Lists
+pub mod Azimuths
+pub mod Walk
+pub mod RoundTrip
+pub mod Exact

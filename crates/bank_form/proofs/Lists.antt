@@ -1,0 +1,122 @@
+-- The laws of `every`, `pairwise`, `strided` and `tapsFrom`: what holds of the fields that stand a stride apart holds of their list, and the other way round. Assumes nothing.
+use mathlib.Core.Path.{_≡_, refl, sym, ap, _∙_}
+use mathlib.Core.Bool.{Bool, true, false, _&&_, and-eq-true-iff, and-assoc, and-true}
+use mathlib.Core.List.{List, [], _∷_, _++_, append-assoc, append-nil}
+use Prim.Native.Nat.{ℕ, zero, suc, _+_, _-_, _*_, _<_}
+use native.Mathlib.Nat.{le-of-suc-le-suc}
+use native.Mathlib.Decide.{decLt}
+use native.Mathlib.Numerals.{sub-one}
+use native.Mathlib.Omega.{arith}
+use lib.Ieee.{Float}
+use lib.ListN.{length, getD, length-append}
+use Rattle.big_endian.specs.Fields.{floatAt}
+use Rattle.bank_form.specs.Bank.{every, pairwise}
+use Rattle.bank_form.specs.FaultComputed.{strided, rowSize, rowTaps, tapsFrom}
+
+module _ {A : Type 0} where
+  -- ---- every
+
+  pub every-append : (p : A → Bool) (xs ys : List A) → every p (xs ++ ys) ≡ (every p xs && every p ys)
+  unfolding every
+  every-append p [] ys = refl
+  every-append p (x ∷ xs) ys = rw (every-append p xs ys) (sym (and-assoc (p x) (every p xs) (every p ys)))
+
+  pub every-same : (p q : A → Bool) → ((x : A) → p x ≡ q x) → (xs : List A) → every p xs ≡ every q xs
+  unfolding every
+  every-same p q h [] = refl
+  every-same p q h (x ∷ xs) = rw (h x, every-same p q h xs)
+
+  pub every-at : (p : A → Bool) (xs : List A) (d : A) (i : ℕ) → every p xs ≡ true → i < length xs → p (getD xs i d) ≡ true
+  unfolding every
+  every-at p [] d i h g = absurd (omega arith)
+  every-at p (x ∷ xs) d zero h g = and-eq-true-iff (p x) (every p xs) .0 h .0
+  every-at p (x ∷ xs) d (suc i) h g = every-at p xs d i (and-eq-true-iff (p x) (every p xs) .0 h .1) (le-of-suc-le-suc g)
+
+  -- ---- one more at the end
+
+  pairwise-none : (r : A → A → Bool) → pairwise r [] ≡ true
+  unfolding pairwise
+  pairwise-none r = refl
+
+  pub pairwise-snoc : (r : A → A → Bool) (xs : List A) (y : A) → pairwise r (xs ++ (y ∷ [])) ≡ (pairwise r xs && every (λ (x : A). r x y) xs)
+  unfolding pairwise every
+  pairwise-snoc r [] y = refl
+  pairwise-snoc r (x ∷ xs) y =
+      rw (every-append (r x) xs (y ∷ []), pairwise-snoc r xs y, and-true (r x y)) (turn (every (r x) xs) (r x y) (pairwise r xs) (every (λ (z : A). r z y) xs))
+    where
+      turn : (a b c d : Bool) → (a && b && (c && d)) ≡ (a && c && (b && d))
+      turn true true c d = refl
+      turn true false true d = refl
+      turn true false false d = refl
+      turn false b c d = refl
+
+  module _ (f : ℕ → A) (w : ℕ) where
+    pub strided-none : (at : ℕ) → strided f w at 0 ≡ []
+    unfolding strided
+    strided-none at = refl
+
+    pub strided-next : (at n : ℕ) → 0 < n → strided f w at n ≡ f at ∷ strided f w (at + w) (n - 1)
+    unfolding strided
+    strided-next at zero h = absurd (omega arith)
+    strided-next at (suc n) h = rw (sub-one (suc n))
+
+    pub every-none : (p : A → Bool) (at : ℕ) → every p (strided f w at 0) ≡ true
+    unfolding every strided
+    every-none p at = refl
+
+    pub every-next : (p : A → Bool) (at n : ℕ) → 0 < n → every p (strided f w at n) ≡ (p (f at) && every p (strided f w (at + w) (n - 1)))
+    unfolding every strided
+    every-next p at zero h = absurd (omega arith)
+    every-next p at (suc n) h = rw (sub-one (suc n))
+
+    pub length-strided : (at n : ℕ) → length (strided f w at n) ≡ n
+    unfolding strided
+    length-strided at zero = refl
+    length-strided at (suc n) = ap suc (length-strided (at + w) n)
+
+    pub strided-snoc : (at n : ℕ) → strided f w at (suc n) ≡ strided f w at n ++ (f (at + n * w) ∷ [])
+    unfolding strided
+    strided-snoc at zero = let q : at + 0 * w ≡ at = omega arith in rw q
+    strided-snoc at (suc n) =
+        let q : at + w + n * w ≡ at + suc n * w = omega arith in
+        ap (λ (l : List A). f at ∷ l) (strided-snoc (at + w) n ∙ ap (λ (k : ℕ). strided f w (at + w) n ++ (f k ∷ [])) q)
+
+    -- each field differs from those before it exactly if they differ pairwise
+    module _ (r : A → A → Bool) (at : ℕ) where
+      one-more : (n : ℕ) → pairwise r (strided f w at (suc n)) ≡ (pairwise r (strided f w at n) && every (λ (x : A). r x (f (at + n * w))) (strided f w at n))
+      one-more n = ap (pairwise r) (strided-snoc at n) ∙ pairwise-snoc r (strided f w at n) (f (at + n * w))
+
+      pub pairwise-before : (n : ℕ) → pairwise r (strided f w at n) ≡ true → (j : ℕ) → j < n → every (λ (x : A). r x (f (at + j * w))) (strided f w at j) ≡ true
+      pairwise-before zero h j g = absurd (omega arith)
+      pairwise-before (suc n) h j g =
+          let both = and-eq-true-iff _ _ .0 (sym (one-more n) ∙ h) in
+          elim (decLt j n) [
+            | yes k ↦ pairwise-before n (both .0) j k
+            | no k ↦ let q : j ≡ n = omega arith in rw q (both .1)
+          ]
+
+      pub before-pairwise : (n : ℕ) → ((j : ℕ) → j < n → every (λ (x : A). r x (f (at + j * w))) (strided f w at j) ≡ true) → pairwise r (strided f w at n) ≡ true
+      before-pairwise zero h = ap (pairwise r) (strided-none at) ∙ pairwise-none r
+      before-pairwise (suc n) h = one-more n ∙ and-eq-true-iff _ _ .1 (before-pairwise n (λ j g. h j (omega arith)), h n (omega arith))
+
+-- ---- the taps of rows
+
+pub taps-none : (s : List ℕ) (l at : ℕ) → tapsFrom s l at 0 ≡ []
+unfolding tapsFrom
+taps-none s l at = refl
+
+pub length-taps : (s : List ℕ) (l at n : ℕ) → length (tapsFrom s l at n) ≡ n * (2 * l)
+unfolding tapsFrom
+length-taps s l at zero = omega arith
+length-taps s l at (suc n) =
+    length-append (rowTaps s l at) (tapsFrom s l (at + rowSize l) n)
+    ∙ omega (arith, length-strided (floatAt s) 4 (at + 2) (2 * l), length-taps s l (at + rowSize l) n)
+
+pub taps-snoc : (s : List ℕ) (l at n : ℕ) → tapsFrom s l at (suc n) ≡ tapsFrom s l at n ++ rowTaps s l (at + n * rowSize l)
+unfolding tapsFrom
+taps-snoc s l at zero = let q : at + 0 * rowSize l ≡ at = omega arith in rw q (append-nil (rowTaps s l at))
+taps-snoc s l at (suc n) =
+    let w = rowSize l in
+    let q : at + w + n * w ≡ at + suc n * w = omega arith in
+    ap (λ (t : List Float). rowTaps s l at ++ t) (taps-snoc s l (at + w) n ∙ ap (λ (k : ℕ). tapsFrom s l (at + w) n ++ rowTaps s l k) q)
+    ∙ sym (append-assoc (rowTaps s l at) (tapsFrom s l (at + w) n) (rowTaps s l (at + suc n * w)))

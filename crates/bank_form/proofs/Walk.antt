@@ -1,0 +1,274 @@
+-- One turn of each walk of specs/FaultComputed.antt, and what a walk that finds nothing says. Assumes nothing.
+use mathlib.Core.Path.{_≡_, refl, sym, ap, subst₂, _∙_}
+use mathlib.Core.Bool.{Bool, true, false, _&&_, cond, and-eq-true-iff}
+use mathlib.Core.List.{List}
+use Prim.Native.Nat.{ℕ, zero, suc, _+_, _-_, _*_, _≤_, _<_, suc-le-suc}
+use native.Mathlib.Nat.{le-of-suc-le-suc}
+use native.Mathlib.Numerals.{sub-one}
+use native.Mathlib.Omega.{arith}
+use borrow.Author.Tests.{ltb-false, leb-true, eqb-true, eqb-false, lt-ltb, le-ltb, le-leb, lt-leb, eq-eqb, ne-eqb}
+use lib.Dec.{ltb, eqb}
+use lib.Ieee.{binary32, fits}
+use lib.Ieee.Bits.{is-true, ofBits-fits}
+use lib.Ieee.Scale.{finite}
+use lib.IntN.{ℤ}
+use lib.ListN.{length}
+use Rattle.big_endian.specs.Fields.{fieldAt, signedAt, floatAt}
+use Rattle.bank_form.specs.declared.Fault.{Fault}
+use Rattle.bank_form.specs.Bank.{within, inRange, differ, isTap, every}
+use Rattle.bank_form.specs.FaultComputed.{strided, rowSize, azimuthsFrom, rowTaps, tapsFrom, rowsIn, lengthIn, sound, wrong, orElse, field, tapsFault, isNew, rowFault, rowsFault, headField, headFault, fault}
+use Rattle.bank_form.proofs.Lists.{every-append, every-next, every-none}
+use Rattle.bank_form.proofs.Azimuths.{differ-same, differ-other}
+
+-- ---- one walk after another
+
+module _ (a b : Fault) where
+  -- r is what the first walk answered: it stops there, or the second goes on
+  pub else-stop : (r : Fault) → r ≡ a → (r .refusal ≡ 0 → ⊥) → r ≡ orElse a b
+  unfolding orElse
+  else-stop r e h = e ∙ sym (rw (ne-eqb (a .refusal) 0 (λ z. h (ap (λ (f : Fault). f .refusal) e ∙ z))))
+
+  pub else-on : (r : Fault) → r ≡ a → r .refusal ≡ 0 → orElse a b ≡ b
+  unfolding orElse
+  else-on r e h = rw (eq-eqb (a .refusal) 0 (ap (λ (f : Fault). f .refusal) (sym e) ∙ h))
+
+  pub else-none : orElse a b .refusal ≡ 0 → (a .refusal ≡ 0) × (b .refusal ≡ 0)
+  unfolding orElse
+  else-none h = go (eqb (a .refusal) 0) refl
+    where
+      go : (t : Bool) → eqb (a .refusal) 0 ≡ t → (a .refusal ≡ 0) × (b .refusal ≡ 0)
+      go true e = (eqb-true (a .refusal) 0 e, rw e at h)
+      go false e = absurd (eqb-false (a .refusal) 0 e (rw e at h))
+
+  pub else-sound : a ≡ sound → b ≡ sound → orElse a b ≡ sound
+  unfolding orElse
+  else-sound e f = rw (e, f)
+
+-- ---- a field
+
+module _ (size at count n : ℕ) (good : Bool) where
+  pub field-short : size < at + count → field size at count n good ≡ wrong 19 size
+  unfolding field
+  field-short h = rw (lt-ltb size (at + count) h)
+
+  pub field-bad : at + count ≤ size → good ≡ false → field size at count n good ≡ wrong n at
+  unfolding field
+  field-bad h g = rw (le-ltb size (at + count) h, g)
+
+  pub field-good : at + count ≤ size → good ≡ true → field size at count n good ≡ sound
+  unfolding field
+  field-good h g = rw (le-ltb size (at + count) h, g)
+
+  pub field-none : 0 < n → field size at count n good .refusal ≡ 0 → (at + count ≤ size) × (good ≡ true)
+  unfolding field
+  field-none h e =
+      let room = fits (ltb size (at + count)) refl in
+      (room, right good (ap (λ (b : Bool). cond b (wrong 19 size) (cond good sound (wrong n at)) .refusal) (sym (le-ltb size (at + count) room)) ∙ e))
+    where
+      fits : (t : Bool) → ltb size (at + count) ≡ t → at + count ≤ size
+      fits true k = let z : _≡_ {A = ℕ} 19 0 = rw k at e in absurd (omega arith)
+      fits false k = ltb-false size (at + count) k
+
+      right : (t : Bool) → cond t sound (wrong n at) .refusal ≡ 0 → t ≡ true
+      right true k = refl
+      right false k = absurd (omega arith)
+
+-- ---- taps
+
+module _ (s : List ℕ) where
+  pub taps-next : (at n : ℕ) → 0 < n → tapsFault s at n ≡ orElse (field (length s) at 4 18 (finite (floatAt s at))) (tapsFault s (at + 4) (n - 1))
+  unfolding tapsFault
+  taps-next at zero h = absurd (omega arith)
+  taps-next at (suc n) h = rw (sub-one (suc n))
+
+  pub taps-end : (at : ℕ) → tapsFault s at 0 ≡ sound
+  unfolding tapsFault
+  taps-end at = refl
+
+  tap-is : (at : ℕ) → isTap (floatAt s at) ≡ finite (floatAt s at)
+  unfolding floatAt isTap
+  tap-is at = rw (is-true (fits binary32 (floatAt s at)) (ofBits-fits binary32 (fieldAt s at 4)))
+
+  taps-none : (at n : ℕ) → tapsFault s at n .refusal ≡ 0 → every isTap (strided (floatAt s) 4 at n) ≡ true
+  unfolding tapsFault every strided
+  taps-none at zero e = refl
+  taps-none at (suc n) e =
+      let both = else-none (field (length s) at 4 18 (finite (floatAt s at))) (tapsFault s (at + 4) n) e in
+      let here = field-none (length s) at 4 18 (finite (floatAt s at)) (omega arith) (both .0) in
+      and-eq-true-iff _ _ .1 (tap-is at ∙ here .1, taps-none (at + 4) n (both .1))
+
+  taps-sound : (at n : ℕ) → at + 4 * n ≤ length s → every isTap (strided (floatAt s) 4 at n) ≡ true → tapsFault s at n ≡ sound
+  unfolding tapsFault every strided
+  taps-sound at zero h e = refl
+  taps-sound at (suc n) h e =
+      let both = and-eq-true-iff _ _ .0 e in
+      else-sound _ _ (field-good (length s) at 4 18 _ (omega arith) (sym (tap-is at) ∙ both .0)) (taps-sound (at + 4) n (omega arith) (both .1))
+
+-- ---- rows
+
+-- none of the i rows from 9 on has the azimuth that stands at an offset
+abbrev pub New : List ℕ → ℕ → ℕ → ℕ → Type 0
+New s l i at = isNew s l (signedAt s at) 9 i ≡ true
+
+-- what n rows from `at` on say, with i rows before them, where the walk finds nothing
+pub record Rows (s : List ℕ) (l i at n : ℕ) : Type 0 where
+  pub size : length s ≡ at + n * rowSize l
+  pub range : every inRange (azimuthsFrom s l at n) ≡ true
+  pub new : (j : ℕ) → j < n → New s l (i + j) (at + j * rowSize l)
+  pub taps : every isTap (tapsFrom s l at n) ≡ true
+
+module _ (s : List ℕ) (l : ℕ) where
+  pub rows-next : (i at n : ℕ) → 0 < n → rowsFault s l i at n ≡ orElse (rowFault s l i at) (rowsFault s l (i + 1) (at + rowSize l) (n - 1))
+  unfolding rowsFault
+  rows-next i at zero h = absurd (omega arith)
+  rows-next i at (suc n) h = rw (sub-one (suc n))
+
+  pub rows-end : (i at : ℕ) → rowsFault s l i at 0 ≡ cond (eqb (length s) at) sound (wrong 14 1)
+  unfolding rowsFault
+  rows-end i at = refl
+
+  pub row-is : (i at : ℕ) → rowFault s l i at ≡ orElse (field (length s) at 2 17 (inRange (signedAt s at) && isNew s l (signedAt s at) 9 i)) (tapsFault s (at + 2) (2 * l))
+  unfolding rowFault
+  row-is i at = refl
+
+  -- the walk over the azimuths of n rows from `at` on
+  module _ (z : ℤ) (at n : ℕ) (more : 0 < n) where
+    pub new-met : signedAt s at ≡ z → isNew s l z at n ≡ false
+    unfolding isNew
+    new-met e = rw (every-next (signedAt s) (rowSize l) (λ (y : ℤ). differ y z) at n more, e, differ-same z)
+
+    pub new-next : (signedAt s at ≡ z → ⊥) → isNew s l z at n ≡ isNew s l z (at + rowSize l) (n - 1)
+    unfolding isNew
+    new-next h = rw (every-next (signedAt s) (rowSize l) (λ (y : ℤ). differ y z) at n more, differ-other (signedAt s at) z h)
+
+  pub new-end : (z : ℤ) (at : ℕ) → isNew s l z at 0 ≡ true
+  unfolding isNew
+  new-end z at = every-none (signedAt s) (rowSize l) (λ (y : ℤ). differ y z) at
+
+  -- what a row says that the walk finds nothing in
+  record Row (i at : ℕ) : Type 0 where
+    range : inRange (signedAt s at) ≡ true
+    new : New s l i at
+    taps : every isTap (rowTaps s l at) ≡ true
+
+  row-none : (i at : ℕ) → rowFault s l i at .refusal ≡ 0 → Row i at
+  row-none i at e =
+      let both = else-none _ _ (ap (λ (f : Fault). f .refusal) (sym (row-is i at)) ∙ e) in
+      let good = and-eq-true-iff _ _ .0 (field-none (length s) at 2 17 _ (omega arith) (both .0) .1) in
+      record { range = good .0; new = good .1; taps = taps-none s (at + 2) (2 * l) (both .1) }
+
+  row-sound : (i at : ℕ) → at + rowSize l ≤ length s → Row i at → rowFault s l i at ≡ sound
+  row-sound i at h r =
+      row-is i at
+      ∙ else-sound _ _ (field-good (length s) at 2 17 _ (omega arith) (and-eq-true-iff _ _ .1 (r .range, r .new)))
+      (taps-sound s (at + 2) (2 * l) (omega arith) (r .taps))
+
+  moved : (i j at to : ℕ) → i ≡ j → at ≡ to → New s l i at → New s l j to
+  moved i j at to e f h = subst₂ (New s l) e f h
+
+  pub rows-none : (i at n : ℕ) → rowsFault s l i at n .refusal ≡ 0 → Rows s l i at n
+  unfolding rowsFault every strided tapsFrom
+  rows-none i at zero e = record { size = ended (eqb (length s) at) refl; range = refl; new = λ j h. absurd (omega arith); taps = refl }
+    where
+      ended : (t : Bool) → eqb (length s) at ≡ t → length s ≡ at + 0 * rowSize l
+      ended true k = eqb-true (length s) at k ∙ omega arith
+      ended false k = let z : _≡_ {A = ℕ} 14 0 = rw k at e in absurd (omega arith)
+  rows-none i at (suc n) e =
+      let both = else-none (rowFault s l i at) (rowsFault s l (i + 1) (at + rowSize l) n) e in
+      let row = row-none i at (both .0) in
+      let rest = rows-none (i + 1) (at + rowSize l) n (both .1) in
+      record {
+        size = rest .size ∙ omega arith;
+        range = and-eq-true-iff _ _ .1 (row .range, rest .range);
+        new = elim [
+          | zero ↦ λ h. moved i (i + 0) at (at + 0 * rowSize l) (omega arith) (omega arith) (row .new)
+          | suc j ↦ λ h. moved (i + 1 + j) (i + suc j) (at + rowSize l + j * rowSize l) (at + suc j * rowSize l) (omega arith) (omega arith) (rest .new j (le-of-suc-le-suc h))
+        ];
+        taps = every-append isTap (rowTaps s l at) (tapsFrom s l (at + rowSize l) n) ∙ and-eq-true-iff _ _ .1 (row .taps, rest .taps);
+      }
+
+  pub rows-sound : (i at n : ℕ) → Rows s l i at n → rowsFault s l i at n ≡ sound
+  unfolding rowsFault every strided tapsFrom
+  rows-sound i at zero r = rw (eq-eqb (length s) at (r .size ∙ omega arith))
+  rows-sound i at (suc n) r =
+      let ranges = and-eq-true-iff _ _ .0 (r .range) in
+      let taps = and-eq-true-iff _ _ .0 (sym (every-append isTap (rowTaps s l at) (tapsFrom s l (at + rowSize l) n)) ∙ r .taps) in
+      let size = r .size in
+      else-sound _ _
+      (row-sound i at (omega arith) (record { range = ranges .0; new = moved (i + 0) i (at + 0 * rowSize l) at (omega arith) (omega arith) (r .new 0 (omega arith)); taps = taps .0 }))
+      (rows-sound (i + 1) (at + rowSize l) n (record {
+        size = size ∙ omega arith;
+        range = ranges .1;
+        new = λ j h. moved (i + suc j) (i + 1 + j) (at + suc j * rowSize l) (at + rowSize l + j * rowSize l) (omega arith) (omega arith) (r .new (suc j) (suc-le-suc h));
+        taps = taps .1;
+      }))
+
+-- ---- the whole file
+
+pub within-true : (low high n : ℕ) → within low high n ≡ true → (low ≤ n) × (n ≤ high)
+unfolding within
+within-true low high n h = let both = and-eq-true-iff _ _ .0 h in (leb-true low n (both .0), leb-true n high (both .1))
+
+pub within-in : (low high n : ℕ) → low ≤ n → n ≤ high → within low high n ≡ true
+unfolding within
+within-in low high n h g = rw (le-leb low n h, le-leb n high g)
+
+pub within-low : (low high n : ℕ) → n < low → within low high n ≡ false
+unfolding within
+within-low low high n h = rw (lt-leb low n h)
+
+pub within-high : (low high n : ℕ) → low ≤ n → high < n → within low high n ≡ false
+unfolding within
+within-high low high n h g = rw (le-leb low n h, lt-leb n high g)
+
+-- what a head says in which the walk finds nothing, and a file
+pub record Head (s : List ℕ) : Type 0 where
+  pub version : fieldAt s 0 1 ≡ 1
+  pub rest : fieldAt s 1 4 ≡ length s - 5
+  pub few : within 1 8 (rowsIn s) ≡ true
+  pub short : within 1 512 (lengthIn s) ≡ true
+
+pub record Whole (s : List ℕ) : Type 0 where
+  pub head : Head s
+  pub all : Rows s (lengthIn s) 0 9 (rowsIn s)
+
+one-value : (n m : ℕ) → within m m n ≡ true → n ≡ m
+one-value n m h = let both = within-true m m n h in omega arith
+
+pub head-none : (s : List ℕ) → headFault s .refusal ≡ 0 → Head s
+unfolding headFault headField
+head-none s e =
+    let size = length s in
+    let version = else-none (headField s 0 1 13 1 1) _ e in
+    let rest = else-none (headField s 1 4 14 (size - 5) (size - 5)) _ (version .1) in
+    let counts = else-none (headField s 5 2 15 1 8) _ (rest .1) in
+    record {
+      version = one-value _ 1 (field-none size 0 1 13 _ (omega arith) (version .0) .1);
+      rest = one-value _ _ (field-none size 1 4 14 _ (omega arith) (rest .0) .1);
+      few = field-none size 5 2 15 _ (omega arith) (counts .0) .1;
+      short = field-none size 7 2 16 _ (omega arith) (counts .1) .1;
+    }
+
+head-sound : (s : List ℕ) → 9 ≤ length s → Head s → headFault s ≡ sound
+unfolding headFault headField within
+head-sound s nine h =
+    let size = length s in
+    let version : within 1 1 (fieldAt s 0 1) ≡ true = rw (h .version) in
+    let rest : within (size - 5) (size - 5) (fieldAt s 1 4) ≡ true = rw (h .rest) (within-in (size - 5) (size - 5) (size - 5) (omega arith) (omega arith)) in
+    else-sound _ _ (field-good size 0 1 13 _ (omega arith) version)
+    (else-sound _ _ (field-good size 1 4 14 _ (omega arith) rest)
+    (else-sound _ _ (field-good size 5 2 15 _ (omega arith) (h .few)) (field-good size 7 2 16 _ (omega arith) (h .short))))
+
+pub fault-is : (s : List ℕ) → fault s ≡ orElse (headFault s) (rowsFault s (lengthIn s) 0 9 (rowsIn s))
+unfolding fault
+fault-is s = refl
+
+pub whole : (s : List ℕ) → fault s .refusal ≡ 0 → Whole s
+whole s e =
+    let parts = else-none _ _ (ap (λ (f : Fault). f .refusal) (sym (fault-is s)) ∙ e) in
+    record { head = head-none s (parts .0); all = rows-none s (lengthIn s) 0 9 (rowsIn s) (parts .1) }
+
+pub nothing-found : (s : List ℕ) → Whole s → fault s ≡ sound
+nothing-found s w =
+    let size = w .all .size in
+    fault-is s ∙ else-sound _ _ (head-sound s (omega arith) (w .head)) (rows-sound s (lengthIn s) 0 9 (rowsIn s) (w .all))

@@ -1,0 +1,28 @@
+-- What lists of i16 and f32 are, and a bank that such lists hold. Definitions only.
+use mathlib.Core.Path.{_≡_}
+use mathlib.Core.List.{List}
+use Prim.Native.Nat.{ℕ, _*_, _^_, _≤_, _<_}
+use lib.Dec.{T}
+use lib.Ieee.{Float, nan, binary32, fits}
+use lib.IntN.{ℤ, pos}
+use lib.ListN.{length, getD}
+use lib.Signed.{mag}
+use Rattle.bank_form.specs.Bank.{Bank, rows}
+
+-- every element is of a kind, and beyond them the default is too, as in every slice
+unfoldable pub Each : {A : Type 0} → (A → Type 0) → A → List A → Type 0
+Each P d xs = (i : ℕ) → P (getD xs i d)
+
+abbrev pub IsAzimuth : ℤ → Type 0
+IsAzimuth z = mag z < 2 ^ 15
+
+abbrev pub IsFloat : Float → Type 0
+IsFloat x = T (fits binary32 x)
+
+-- a bank that lists of i16 and f32 hold, small enough that its counts and its length fit their fields
+pub record Holds (b : Bank) : Type 0 where
+  pub few : rows b ≤ 8
+  pub short : b .length ≤ 512
+  pub count : length (b .taps) ≡ rows b * (2 * b .length)
+  pub azimuths : Each IsAzimuth (pos 0) (b .azimuths)
+  pub taps : Each IsFloat nan (b .taps)

@@ -1,0 +1,7 @@
+-- Laws that a caller's proof cites, and that no two answers meet one promise.
+pub mod Bytes
+pub mod Placed
+pub mod Fields
+pub mod Signed
+mod Patterns
+mod Unique

@@ -1,0 +1,64 @@
+-- `big_endian::put_i16` meets its contract. Assumes nothing.
+use mathlib.Core.Path.{ap, _∙_}
+use Prim.Native.Nat.{_-_}
+use native.Mathlib.Omega.{arith}
+use lib.IntN.{ℤ, natAbs}
+use mir.Syntax.{w16}
+use Rattle.big_endian.specs.Fields.{withSigned, withField}
+use Rattle.big_endian.proofs.Signed.{below-part, below-whole, below-bits, above-part, above-bits}
+use borrow.Author.Needs.{needs}
+use Rattle.big_endian.proofs.put_i16.Statement.{statement}
+use Rattle.big_endian.proofs.put_i16.Tie as tie
+
+sub-k : tie.Need-sub-k
+sub-k c = let fit = c .before .before .fits .z in rw (below-part w16 _ fit (c .if1 .taken)) (record { sfits = fit .sfits })
+
+cast-put : tie.Need-cast-put
+cast-put c = let fit = c .before .before .before .fits .z in rw (below-whole w16 _ fit (c .before .if1 .taken)) (tt, let h = fit .sfits in omega arith)
+
+sub-put : tie.Need-sub-put
+sub-put c = let fit = c .before .before .before .fits .z in rw (below-whole w16 _ fit (c .before .if1 .taken)) (let h = fit .sfits in omega arith)
+
+put-requires : tie.Need-put-requires
+put-requires c κs = search needs
+
+same-length : tie.Need-same-length
+same-length c = search needs
+
+returns : tie.Need-returns
+unfolding withSigned
+returns c =
+    let below = c .before .before .before .before .if1 .taken in
+    let fit = c .before .before .before .before .before .before .fits .z in
+    c .before .before .put .ensures ∙ ap (withField _ _ _) (ap (λ (y : ℤ). 65535 - natAbs y) (below-whole w16 _ fit below) ∙ below-bits w16 _ fit below)
+
+cast-put-2 : tie.Need-cast-put-2
+cast-put-2 c = let fit = c .before .before .before .fits .z in rw (above-part w16 _ fit (c .before .if1 .left)) (tt, let h = fit .sfits in omega arith)
+
+put-requires-2 : tie.Need-put-requires-2
+put-requires-2 c κs = search needs
+
+same-length-2 : tie.Need-same-length-2
+same-length-2 c = search needs
+
+returns-2 : tie.Need-returns-2
+unfolding withSigned
+returns-2 c =
+    let above = c .before .before .before .before .if1 .left in
+    let fit = c .before .before .before .before .before .before .fits .z in
+    c .before .before .put2 .ensures ∙ ap (withField _ _ _) (ap natAbs (above-part w16 _ fit above) ∙ above-bits w16 _ fit above)
+
+pub put-i16-spec : {M : Type 1} → statement M
+put-i16-spec =
+    tie.close
+    (tie.spec
+    sub-k
+    cast-put
+    sub-put
+    put-requires
+    same-length
+    returns
+    cast-put-2
+    put-requires-2
+    same-length-2
+    returns-2)

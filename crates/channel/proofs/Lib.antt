@@ -1,0 +1,4 @@
+-- What the proofs of `channel` share, and the laws that crates above cite.
+pub mod Tables
+pub mod Counts
+pub mod Unique

@@ -1,0 +1,87 @@
+-- The tables of angles: every entry lies from -180 to 180, by one test over each table, so that an entry and ten times an entry are i32s; beyond a table stands 0. Assumes nothing.
+use mathlib.Core.Path.{_≡_, refl, sym, ap, _∙_, subst}
+use mathlib.Core.Bool.{Bool, true, _&&_}
+use mathlib.Core.List.{List, [], _∷_}
+use Prim.Native.Nat.{ℕ, zero, suc, _+_, _*_, _≤_}
+use native.Mathlib.Nat.{le-of-suc-le-suc, not-suc-le-zero}
+use native.Mathlib.Omega.{arith}
+use lib.Dec.{T, leb, leb→le}
+use lib.IntN.{ℤ, pos, negsuc, _*ℤ_, negℤ}
+use lib.ListN.{length, getD}
+use lib.Ieee.{binary64, ofInt}
+use lib.Ieee.Fits.{and-l, and-r}
+use mir.Syntax.{w32}
+use mir.Val.{SFits, toZ, ofZ}
+use mir.Facts.{toZ-ofZ}
+use Rattle.channel.specs.Layouts.{speakers, positions, degreesOf}
+use Rattle.channel.specs.declared.Layout.{Layout}
+use Rattle.channel.specs.declared.Layout.the-variants.{Mono, Stereo, Surround51, Surround71, Custom}
+
+-- from -180 to 180
+abbrev pub turned : ℤ → Bool
+turned (pos n) = leb n 180
+turned (negsuc n) = leb n 179
+
+all-turned : List ℤ → Bool
+all-turned [] = true
+all-turned (z ∷ zs) = turned z && all-turned zs
+
+turned-at : (zs : List ℤ) → T (all-turned zs) → (i : ℕ) → T (turned (getD zs i (pos 0)))
+unfolding all-turned
+turned-at [] t i = tt
+turned-at (z ∷ zs) t zero = and-l (turned z) (all-turned zs) t
+turned-at (z ∷ zs) t (suc i) = turned-at zs (and-r (turned z) (all-turned zs) t) i
+
+pub speaker-turned : (l : Layout) (i : ℕ) → T (turned (degreesOf l i))
+unfolding all-turned
+speaker-turned Mono i = turned-at (speakers Mono) tt i
+speaker-turned Stereo i = turned-at (speakers Stereo) tt i
+speaker-turned Surround51 i = turned-at (speakers Surround51) tt i
+speaker-turned Surround71 i = turned-at (speakers Surround71) tt i
+speaker-turned (Custom n) i = tt
+
+pub position-turned : (i : ℕ) → T (turned (getD positions i (pos 0)))
+unfolding all-turned
+position-turned i = turned-at positions tt i
+
+-- ---- such a number, and ten times it, are i32s
+fits : (z : ℤ) → T (turned z) → SFits w32 z
+fits (pos n) t = record { sfits = omega (arith, leb→le n 180 t) }
+fits (negsuc n) t = record { sfits = omega (arith, leb→le n 179 t) }
+
+pub tenths-fit : (z : ℤ) → T (turned z) → SFits w32 (z *ℤ pos 10)
+tenths-fit (pos n) t = record { sfits = omega (arith, leb→le n 180 t) }
+tenths-fit (negsuc n) t = subst (λ (k : ℕ). SFits w32 (negℤ (pos k))) (sym (next n)) record { sfits = omega (arith, leb→le n 179 t) }
+  where
+    next : (n : ℕ) → suc n * 10 ≡ suc (n * 10 + 9)
+    next n = omega arith
+
+pub back : (z : ℤ) → T (turned z) → toZ w32 (ofZ w32 z) ≡ z
+back z t = toZ-ofZ {w = w32} (fits z t)
+
+-- ---- beyond a table stands 0
+pub beyond : {A : Type 0} (xs : List A) (i : ℕ) (d : A) → length xs ≤ i → getD xs i d ≡ d
+beyond [] i d h = refl
+beyond (x ∷ xs) zero d h = absurd (not-suc-le-zero h)
+beyond (x ∷ xs) (suc i) d h = beyond xs i d (le-of-suc-le-suc h)
+
+-- ---- what a table gives for the layout at hand
+pub read : (m l : Layout) (i : ℕ) (z : ℤ) → m ≡ l → z ≡ degreesOf l i → toZ w32 (ofZ w32 z) ≡ degreesOf m i
+read m l i z e h = ap (λ (y : ℤ). toZ w32 (ofZ w32 y)) h ∙ back (degreesOf l i) (speaker-turned l i) ∙ ap (λ (x : Layout). degreesOf x i) (sym e)
+
+pub mono : (m : Layout) (i : ℕ) → m ≡ Mono → pos 0 ≡ degreesOf m i
+mono m i e = front i ∙ ap (λ (x : Layout). degreesOf x i) (sym e)
+  where
+    front : (i : ℕ) → pos 0 ≡ degreesOf Mono i
+    front zero = refl
+    front (suc i) = refl
+
+-- ---- an entry z, as an f64 and in tenths
+pub as-float : (z y : ℤ) → z ≡ y → T (turned y) → ofInt binary64 (toZ w32 (ofZ w32 z)) ≡ ofInt binary64 y
+as-float z y e t = ap (λ (x : ℤ). ofInt binary64 (toZ w32 (ofZ w32 x))) e ∙ ap (ofInt binary64) (back y t)
+
+pub tenths-held : (z y : ℤ) → z ≡ y → T (turned y) → SFits w32 (toZ w32 (ofZ w32 z) *ℤ pos 10)
+tenths-held z y e t = subst (λ (x : ℤ). SFits w32 (toZ w32 (ofZ w32 x) *ℤ pos 10)) (sym e) (subst (λ (x : ℤ). SFits w32 (x *ℤ pos 10)) (sym (back y t)) (tenths-fit y t))
+
+pub in-tenths : (z y : ℤ) → z ≡ y → T (turned y) → toZ w32 (ofZ w32 (toZ w32 (ofZ w32 z) *ℤ pos 10)) ≡ y *ℤ pos 10
+in-tenths z y e t = ap (λ (x : ℤ). toZ w32 (ofZ w32 (toZ w32 (ofZ w32 x) *ℤ pos 10))) e ∙ ap (λ (x : ℤ). toZ w32 (ofZ w32 (x *ℤ pos 10))) (back y t) ∙ toZ-ofZ {w = w32} (tenths-fit y t)

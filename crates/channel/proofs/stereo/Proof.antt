@@ -1,0 +1,24 @@
+-- `channel::stereo` meets its contract. Assumes nothing.
+use mathlib.Core.Path.{sym}
+use lib.IntN.{pos}
+use Rattle.channel.specs.Layouts.{speakers}
+use Rattle.channel.specs.declared.Layout.the-variants.{Stereo}
+use Rattle.channel.proofs.Tables.{beyond}
+use borrow.Author.Needs.{needs}
+use Rattle.channel.proofs.stereo.Statement.{statement}
+use Rattle.channel.proofs.stereo.Tie as tie
+
+mul-result : tie.Need-mul-result
+mul-result c = search needs
+
+array-copy-out-result : tie.Need-array-copy-out-result
+array-copy-out-result c = search needs
+
+returns : tie.Need-returns
+returns c = search needs
+
+returns-2 : tie.Need-returns-2
+returns-2 c = sym (beyond (speakers Stereo) (c .before .args .channel) (pos 0) (c .if1 .left))
+
+pub stereo-spec : {M : Type 1} → statement M
+stereo-spec = tie.close (tie.spec mul-result array-copy-out-result returns returns-2)

@@ -1,0 +1,73 @@
+-- Document 01, item 2: "Layouts: Mono, Stereo, Surround51, Surround71, Custom(n) with n 1..16"; 'Gains', surround: "speakers, in channel order. 5.1: 30, -30, 0, LFE, 110, -110.
+-- 7.1: 30, -30, 0, LFE, 90, -90, 150, -150"; decoder: "LFE takes the 0 degree row. Stereo is 30, -30; Mono 0"; and the eight positions of 003. Definitions only. Angles are whole degrees.
+use Prim.Native.Nat.{ℕ, _-_}
+use mathlib.Core.Bool.{Bool, true, false, cond, _||_}
+use mathlib.Core.List.{List, [], _∷_}
+use lib.Dec.{eqb, ltb}
+use lib.IntN.{ℤ, pos, negsuc, _*ℤ_}
+use lib.ListN.{getD}
+use lib.Ieee.{Float, binary64, ofInt}
+use Rattle.refusals.specs.Refusals.{firstOf, _when_}
+use Rattle.channel.specs.declared.Layout.{Layout}
+use Rattle.channel.specs.declared.Layout.the-variants.{Mono, Stereo, Surround51, Surround71, Custom}
+use Rattle.channel.specs.declared.Counted.{Counted}
+
+abbrev pub channelsOf : Layout → ℕ
+channelsOf Mono = 1
+channelsOf Stereo = 2
+channelsOf Surround51 = 6
+channelsOf Surround71 = 8
+channelsOf (Custom n) = n
+
+-- a number of channels that no layout has: 0, or above 16. Only a Custom can have it.
+abbrev pub uncountable : ℕ → Bool
+uncountable n = eqb n 0 || ltb 16 n
+
+abbrev pub countedBy : ℕ → Counted
+countedBy n = record { refusal = firstOf (2 when uncountable n ∷ []); channels = cond (uncountable n) 0 n }
+
+abbrev pub counted : Layout → Counted
+counted l = countedBy (channelsOf l)
+
+abbrev pub surround : Layout → Bool
+surround Surround51 = true
+surround Surround71 = true
+surround Mono = false
+surround Stereo = false
+surround (Custom n) = false
+
+-- the LFE is channel 3 of 5.1 and of 7.1
+abbrev pub lowFrequency : Layout → ℕ → Bool
+lowFrequency l c = cond (surround l) (eqb c 3) false
+
+-- -d degrees, for a d above 0
+abbrev pub minus : ℕ → ℤ
+minus d = negsuc (d - 1)
+
+-- where the speakers of a layout stand, in channel order; the LFE, which points nowhere, counts as 0 where an angle is wanted. The speakers of a Custom layout are computed.
+abbrev pub speakers : Layout → List ℤ
+speakers Mono = pos 0 ∷ []
+speakers Stereo = pos 30 ∷ minus 30 ∷ []
+speakers Surround51 = pos 30 ∷ minus 30 ∷ pos 0 ∷ pos 0 ∷ pos 110 ∷ minus 110 ∷ []
+speakers Surround71 = pos 30 ∷ minus 30 ∷ pos 0 ∷ pos 0 ∷ pos 90 ∷ minus 90 ∷ pos 150 ∷ minus 150 ∷ []
+speakers (Custom n) = []
+
+-- the eight positions of the virtual speakers
+abbrev pub positions : List ℤ
+positions = pos 0 ∷ pos 45 ∷ pos 90 ∷ pos 135 ∷ pos 180 ∷ minus 135 ∷ minus 90 ∷ minus 45 ∷ []
+
+abbrev pub degreesOf : Layout → ℕ → ℤ
+degreesOf l c = getD (speakers l) c (pos 0)
+
+-- as an f64, and in whole tenths
+abbrev pub azimuthOf : Layout → ℕ → Float
+azimuthOf l c = ofInt binary64 (degreesOf l c)
+
+abbrev pub tenthsOf : Layout → ℕ → ℤ
+tenthsOf l c = degreesOf l c *ℤ pos 10
+
+abbrev pub positionAzimuth : ℕ → Float
+positionAzimuth i = ofInt binary64 (getD positions i (pos 0))
+
+abbrev pub positionTenths : ℕ → ℤ
+positionTenths i = getD positions i (pos 0) *ℤ pos 10

@@ -1,0 +1,167 @@
+// Layouts (document 01, item 2): the five layouts, how many channels each has, and where their speakers
+// stand. One table an angle comes from: the panner, the decoder, the virtual speakers and the choice of
+// filters all read it here, in degrees as an f64 or in whole tenths of a degree.
+//
+// Every function takes any input, and its answer is a definition of it (specs/Layouts.antt, which says
+// document 01). Under it lies `refusals`.
+ghost use mathlib.Core.Path.{_≡_};
+ghost use lib.IntN.{pos};
+ghost use lib.ListN.{getD};
+ghost use Rattle.channel.specs.Layouts.{channelsOf, counted, surround, lowFrequency, speakers, positions, degreesOf, azimuthOf, tenthsOf, positionAzimuth, positionTenths};
+
+pub enum Layout {
+    Mono,
+    Stereo,
+    Surround51,
+    Surround71,
+    Custom(usize),
+}
+
+pub struct Counted {
+    pub refusal: u8,
+    pub channels: usize,
+}
+
+// How many channels a layout would have.
+fn channels(layout: Layout) -> usize
+    ensures { λ r. ⌜ r ≡ channelsOf layout ⌝ }
+{
+    match layout {
+        Layout::Mono => 1,
+        Layout::Stereo => 2,
+        Layout::Surround51 => 6,
+        Layout::Surround71 => 8,
+        Layout::Custom(n) => n,
+    }
+}
+
+// How many channels a layout has; 2 for a Custom of 0 or above 16.
+pub fn channel_count(layout: Layout) -> Counted
+    ensures { λ r. ⌜ r ≡ counted layout ⌝ }
+{
+    let n = channels(layout);
+    if n == 0 {
+        return Counted {
+            refusal: 2,
+            channels: 0,
+        };
+    }
+    if 16 < n {
+        return Counted {
+            refusal: 2,
+            channels: 0,
+        };
+    }
+    Counted {
+        refusal: 0,
+        channels: n,
+    }
+}
+
+// Whether the surround panner offers the layout.
+pub fn is_surround(layout: Layout) -> bool
+    ensures { λ r. ⌜ r ≡ surround layout ⌝ }
+{
+    match layout {
+        Layout::Surround51 => true,
+        Layout::Surround71 => true,
+        Layout::Mono => false,
+        Layout::Stereo => false,
+        Layout::Custom(_) => false,
+    }
+}
+
+// Whether a channel of the layout is the LFE, which points nowhere.
+pub fn is_low_frequency(layout: Layout, channel: usize) -> bool
+    ensures { λ r. ⌜ r ≡ lowFrequency layout channel ⌝ }
+{
+    if is_surround(layout) {
+        return channel == 3;
+    }
+    false
+}
+
+const STEREO: [i32; 2] = [30, -30];
+
+const SURROUND_51: [i32; 6] = [30, -30, 0, 0, 110, -110];
+
+const SURROUND_71: [i32; 8] = [30, -30, 0, 0, 90, -90, 150, -150];
+
+const POSITIONS: [i32; 8] = [0, 45, 90, 135, 180, -135, -90, -45];
+
+fn stereo(channel: usize) -> i32
+    ensures { λ r. ⌜ r ≡ getD (speakers Layout.Stereo) channel (pos 0) ⌝ }
+{
+    if channel < 2 {
+        return STEREO[channel];
+    }
+    0
+}
+
+fn surround_51(channel: usize) -> i32
+    ensures { λ r. ⌜ r ≡ getD (speakers Layout.Surround51) channel (pos 0) ⌝ }
+{
+    if channel < 6 {
+        return SURROUND_51[channel];
+    }
+    0
+}
+
+fn surround_71(channel: usize) -> i32
+    ensures { λ r. ⌜ r ≡ getD (speakers Layout.Surround71) channel (pos 0) ⌝ }
+{
+    if channel < 8 {
+        return SURROUND_71[channel];
+    }
+    0
+}
+
+// Where a speaker stands, in degrees; 0 for a channel that the layout does not have.
+fn degrees(layout: Layout, channel: usize) -> i32
+    ensures { λ r. ⌜ r ≡ degreesOf layout channel ⌝ }
+{
+    match layout {
+        Layout::Stereo => stereo(channel),
+        Layout::Surround51 => surround_51(channel),
+        Layout::Surround71 => surround_71(channel),
+        Layout::Mono => 0,
+        Layout::Custom(_) => 0,
+    }
+}
+
+// The same as an f64.
+pub fn speaker_azimuth(layout: Layout, channel: usize) -> f64
+    ensures { λ r. ⌜ r ≡ azimuthOf layout channel ⌝ }
+{
+    degrees(layout, channel) as f64
+}
+
+// The same in whole tenths.
+pub fn speaker_tenths(layout: Layout, channel: usize) -> i32
+    ensures { λ r. ⌜ r ≡ tenthsOf layout channel ⌝ }
+{
+    degrees(layout, channel) * 10
+}
+
+fn position(i: usize) -> i32
+    ensures { λ r. ⌜ r ≡ getD positions i (pos 0) ⌝ }
+{
+    if i < 8 {
+        return POSITIONS[i];
+    }
+    0
+}
+
+// Where virtual speaker i stands, in degrees; 0 beyond the eight.
+pub fn position_azimuth(i: usize) -> f64
+    ensures { λ r. ⌜ r ≡ positionAzimuth i ⌝ }
+{
+    position(i) as f64
+}
+
+// The same in whole tenths.
+pub fn position_tenths(i: usize) -> i32
+    ensures { λ r. ⌜ r ≡ positionTenths i ⌝ }
+{
+    position(i) * 10
+}

@@ -1,0 +1,117 @@
+-- Whole numbers by their binary digits, at every number of digits p: how many digits a number has beyond p (`drop-is`), the pattern of q * 2 ^ k (`pack`), and where the patterns
+-- end (`under-end`, `past-end`). Assumes nothing.
+use mathlib.Core.Path.{_≡_, refl, sym, ap, _∙_, subst}
+use mathlib.Core.Logic.{_⊎_, inl, inr}
+use Prim.Native.Nat.{ℕ, suc, _+_, _-_, _*_, _/_, _^_, _≤_, _<_}
+use native.Mathlib.Nat.{le-trans, le-of-eq, lt-of-lt-of-le, lt-of-le-of-lt, lt-of-not-le, lt-irrefl, not-le-of-lt, eq-or-lt-of-le, mul-assoc, mul-comm, mul-le-mul-right, lt-of-mul-lt-mul-right, le-of-mul-le-mul-right, mul-div-cancel, add-mul, pow-succ'}
+use native.Mathlib.Omega.{arith}
+use lib.Pow.{pow-add, pow-pos, pow-mono, pow-lt, shl-lt}
+use lib.Ieee.{size}
+use lib.Ieee.Digits.{size-lt, size-le}
+
+-- ---- powers of two are in the order of their exponents
+pub exponent-lt : (i p : ℕ) → 2 ^ i < 2 ^ p → i < p
+exponent-lt i p h = lt-of-not-le (λ (g : p ≤ i). lt-irrefl (2 ^ i) (lt-of-lt-of-le h (pow-mono g)))
+
+pub exponent-le : (i p : ℕ) → 2 ^ i ≤ 2 ^ p → i ≤ p
+exponent-le i p h = below (lt-of-not-le (λ (g : suc p ≤ i). lt-irrefl (2 ^ p) (lt-of-lt-of-le (pow-lt g) h)))
+  where
+    below : i < suc p → i ≤ p
+    below l = omega arith
+
+pub twice : (p : ℕ) → 0 < p → 2 ^ p ≡ 2 * 2 ^ (p - 1)
+twice p P = ap (λ (x : ℕ). 2 ^ x) (sym (suc-pred p P)) ∙ pow-succ' 2 (p - 1)
+  where
+    suc-pred : (p : ℕ) → 0 < p → suc (p - 1) ≡ p
+    suc-pred p h = omega arith
+
+-- ---- how many digits a number has, and how many of them are beyond p
+pub size-gt : (n j : ℕ) → 2 ^ j ≤ n → j < size n
+size-gt n j h = lt-of-not-le (λ (g : size n ≤ j). not-le-of-lt (lt-of-lt-of-le (size-lt n) (pow-mono g)) h)
+
+pub drop-is : (p w k : ℕ) → 0 < p → w < 2 ^ (p + k) → (k ≡ 0) ⊎ (2 ^ (p - 1 + k) ≤ w) → size w - p ≡ k
+drop-is p w k P h (inl z) = few (size w) p k z (size-le w (p + k) h)
+  where
+    few : (n p k : ℕ) → k ≡ 0 → n ≤ p + k → n - p ≡ k
+    few n p k z l = omega arith
+drop-is p w k P h (inr g) = join (size w) p k P (size-le w (p + k) h) (size-gt w (p - 1 + k) g)
+  where
+    join : (n p k : ℕ) → 0 < p → n ≤ p + k → p - 1 + k < n → n - p ≡ k
+    join n p k P a b = omega arith
+
+-- ---- the pattern of q * 2 ^ k, without its sign: q's leading digit adds one to the field k, and a q of 2 ^ p adds two
+pub pack : (p q k : ℕ) → 0 < p → q ≤ 2 ^ p → (k ≡ 0) ⊎ (2 ^ (p - 1) ≤ q) → (size (q * 2 ^ k) - p) * 2 ^ (p - 1) + q * 2 ^ k / 2 ^ (size (q * 2 ^ k) - p) ≡ k * 2 ^ (p - 1) + q
+pack p q k P h g = go (eq-or-lt-of-le h)
+  where
+    lead : (k ≡ 0) ⊎ (2 ^ (p - 1) ≤ q) → (k ≡ 0) ⊎ (2 ^ (p - 1 + k) ≤ q * 2 ^ k)
+    lead (inl z) = inl z
+    lead (inr l) = inr (le-trans (le-of-eq (pow-add 2 (p - 1) k)) (mul-le-mul-right (2 ^ k) l))
+
+    carry : (h k x q : ℕ) → x ≡ k * h → q ≡ 2 * h → h + x + h ≡ x + q
+    carry h k x q a b = omega arith
+
+    suc-times : (k h : ℕ) → suc k * h ≡ h + k * h
+    suc-times k h = omega arith
+
+    go : (q ≡ 2 ^ p) ⊎ (q < 2 ^ p) → (size (q * 2 ^ k) - p) * 2 ^ (p - 1) + q * 2 ^ k / 2 ^ (size (q * 2 ^ k) - p) ≡ k * 2 ^ (p - 1) + q
+    go (inr l) =
+        ap (λ (z : ℕ). z * 2 ^ (p - 1) + q * 2 ^ k / 2 ^ z) (drop-is p (q * 2 ^ k) k P (shl-lt p k l) (lead g))
+        ∙ ap (λ (z : ℕ). k * 2 ^ (p - 1) + z) (mul-div-cancel q (pow-pos k))
+    go (inl e) =
+        let H = 2 ^ (p - 1) in
+        let n : q * 2 ^ k ≡ H * 2 ^ suc k = ap (λ (x : ℕ). x * 2 ^ k) (e ∙ twice p P ∙ mul-comm 2 H) ∙ mul-assoc H 2 (2 ^ k) ∙ ap (λ (x : ℕ). H * x) (sym (pow-succ' 2 k)) in
+        let n2 : H * 2 ^ suc k ≡ 2 ^ (p - 1 + suc k) = sym (pow-add 2 (p - 1) (suc k)) in
+        let d : size (q * 2 ^ k) - p ≡ suc k = drop-is p (q * 2 ^ k) (suc k) P
+        (subst (λ (x : ℕ). x < 2 ^ (p + suc k)) (sym (n ∙ n2)) (pow-lt (less p k P))) (inr (le-of-eq (sym (n ∙ n2)))) in
+        ap (λ (z : ℕ). z * H + q * 2 ^ k / 2 ^ z) d
+        ∙ ap (λ (z : ℕ). suc k * H + z / 2 ^ suc k) n
+        ∙ ap (λ (z : ℕ). suc k * H + z) (mul-div-cancel H (pow-pos (suc k)))
+        ∙ ap (λ (z : ℕ). z + H) (suc-times k H)
+        ∙ carry H k (k * H) q refl (e ∙ twice p P)
+      where
+        less : (p k : ℕ) → 0 < p → p - 1 + suc k < p + suc k
+        less p k P = omega arith
+
+-- ---- where the numbers end: the pattern reaches (E + 1) * H as the number reaches 2 ^ E * H, H being the weight of the leading digit
+pub under-end : (H q k E : ℕ) → 0 < E → q ≤ 2 * H → (k ≡ 0) ⊎ (H ≤ q) → q * 2 ^ k < 2 ^ E * H → k * H + q ≤ (E + 1) * H
+under-end H q k E Z h g l = le-trans (two-more (k * H) q H h) (le-trans (le-of-eq (sym (add-mul k 2 H))) (mul-le-mul-right H (fewer k E (below g))))
+  where
+    two-more : (x q H : ℕ) → q ≤ 2 * H → x + q ≤ x + 2 * H
+    two-more x q H h = omega arith
+
+    fewer : (k E : ℕ) → k < E → k + 2 ≤ E + 1
+    fewer k E h = omega arith
+
+    below : (k ≡ 0) ⊎ (H ≤ q) → k < E
+    below (inl z) = subst (λ (x : ℕ). x < E) (sym z) Z
+    below (inr b) = exponent-lt k E (lt-of-mul-lt-mul-right H (lt-of-le-of-lt (le-trans (le-of-eq (mul-comm (2 ^ k) H)) (mul-le-mul-right (2 ^ k) b)) l))
+
+pub past-end : (H q k E : ℕ) → 0 < H → 0 < E → q ≤ 2 * H → (k ≡ 0) ⊎ (H ≤ q) → 2 ^ E * H ≤ q * 2 ^ k → (E + 1) * H ≤ k * H + q
+past-end H q k E HP Z h g l = go (eq-or-lt-of-le reach-k) g
+  where
+    reach-k : E ≤ suc k
+    reach-k =
+        exponent-le E (suc k)
+        (le-of-mul-le-mul-right (le-trans l (le-trans (mul-le-mul-right (2 ^ k) h) (le-of-eq (mul-assoc 2 H (2 ^ k) ∙ ap (λ (x : ℕ). 2 * x) (mul-comm H (2 ^ k)) ∙ sym (mul-assoc 2 (2 ^ k) H) ∙ ap (λ (x : ℕ). x * H) (sym (pow-succ' 2 k)))))) HP)
+
+    two-more : (x q H : ℕ) → 2 * H ≤ q → x + 2 * H ≤ x + q
+    two-more x q H h = omega arith
+
+    one-more : (x q H : ℕ) → H ≤ q → x + 1 * H ≤ x + q
+    one-more x q H h = omega arith
+
+    less : (E k : ℕ) → E < suc k → E + 1 ≤ k + 1
+    less E k h = omega arith
+
+    none : (E k : ℕ) → E < suc k → k ≡ 0 → 0 < E → ⊥
+    none E k h z p = omega arith
+
+    next : (E k : ℕ) → E ≡ suc k → E + 1 ≡ k + 2
+    next E k e = omega arith
+
+    go : (E ≡ suc k) ⊎ (E < suc k) → (k ≡ 0) ⊎ (H ≤ q) → (E + 1) * H ≤ k * H + q
+    go (inl e) g =
+        let b : 2 * H ≤ q = le-of-mul-le-mul-right (le-trans (le-of-eq (mul-assoc 2 H (2 ^ k) ∙ ap (λ (x : ℕ). 2 * x) (mul-comm H (2 ^ k)) ∙ sym (mul-assoc 2 (2 ^ k) H) ∙ ap (λ (x : ℕ). x * H) (sym (pow-succ' 2 k) ∙ ap (λ (x : ℕ). 2 ^ x) (sym e)))) l) (pow-pos k) in
+        le-trans (le-of-eq (ap (λ (x : ℕ). x * H) (next E k e) ∙ add-mul k 2 H)) (two-more (k * H) q H b)
+    go (inr a) (inl z) = absurd (none E k a z Z)
+    go (inr a) (inr b) = le-trans (mul-le-mul-right H (less E k a)) (le-trans (le-of-eq (add-mul k 1 H)) (one-more (k * H) q H b))

@@ -1,0 +1,93 @@
+-- The numbers that a format holds, in units of its smallest value: each is c * 2 ^ i for a c of the format's digits, below the overflow (`Grid`, `held-units`).
+-- So each is a multiple of 2 ^ k, or too short to have `prec` digits above the k lowest (`grid-or-small`). Assumes nothing.
+use mathlib.Core.Path.{_≡_, refl, sym, ap, _∙_, subst}
+use mathlib.Core.Logic.{_⊎_, inl, inr}
+use Prim.Native.Nat.{ℕ, zero, suc, _+_, _-_, _*_, _/_, _^_, _≤_, _<_}
+use native.Mathlib.Nat.{lt-of-lt-of-le, lt-of-not-le, lt-of-mul-lt-mul-right, zero-mul, mul-one, one-mul, mul-assoc, mul-comm, mul-right-comm, mul-le-mul-right, mul-lt-mul-of-pos-right, sub-add-cancel, suc-mul}
+use native.Mathlib.Decide.{decLe}
+use native.Mathlib.Omega.{arith}
+use mathlib.Core.Bool.{Bool, false}
+use lib.IntN.{ℤ, pos, negsuc}
+use lib.Dec.{T}
+use lib.Pow.{pow-pos, pow-add, pow-mono, shl-lt}
+use lib.Ieee.{Float, fin, Format, prec, emax, low, up, down, size, fits, hid, ones, toBits}
+use lib.Ieee.Digits.{size-le}
+use lib.Ieee.Fits.{two, reach, kept-lt}
+use lib.Ieee.Exact.{HasValue}
+use lib.Ieee.Scale.{overflow}
+use Rattle.formats.proofs.Digits.{exponent-le}
+use Rattle.formats.proofs.Patterns.{twice-hid, toBits-value, held}
+
+pub record Grid (f : Format) (w : ℕ) : Type 0 where
+  pub c : ℕ
+  pub i : ℕ
+  pub is : w ≡ c * 2 ^ i
+  pub fit : c < 2 ^ prec f
+  pub room : w < overflow f
+
+-- a value of the format, by its sign and its units
+pub record Units (f : Format) (s : Bool) (y : Float) : Type 0 where
+  pub w : ℕ
+  pub value : HasValue y s w (2 ^ low f)
+  pub grid : Grid f w
+
+-- 2 ^ e is 2 ^ (lift e) units
+lift : Format → ℤ → ℕ
+lift f (pos k) = k + low f
+lift f (negsuc k) = low f - suc k
+
+lift-is : (f : Format) (e : ℤ) → down e ≤ 2 ^ low f → up e * 2 ^ low f ≡ 2 ^ lift f e * down e
+unfolding lift
+lift-is f (pos k) h = sym (pow-add 2 k (low f)) ∙ sym (mul-one (2 ^ (k + low f)))
+lift-is f (negsuc k) h = one-mul (2 ^ low f) ∙ ap (λ (x : ℕ). 2 ^ x) (sym (sub-add-cancel (exponent-le (suc k) (low f) h))) ∙ pow-add 2 (low f - suc k) (suc k)
+
+pub zero-value : (s : Bool) (e : ℤ) (c : ℕ) → HasValue (fin s 0 e) s 0 c
+zero-value s e c = (refl, ap (λ (x : ℕ). x * c) (zero-mul (up e)) ∙ zero-mul c ∙ sym (zero-mul (down e)))
+
+pub zero-grid : (f : Format) → Grid f 0
+zero-grid f = record { c = 0; i = 0; is = refl; fit = pow-pos (prec f); room = pow-pos (low f + suc (emax f)) }
+
+pub held-units : (f : Format) (s : Bool) (m : ℕ) (e : ℤ) → T (fits f (fin s m e)) → Units f s (fin s m e)
+held-units f s zero e t = record { w = 0; value = zero-value s e (2 ^ low f); grid = zero-grid f }
+held-units f s (suc m) e t =
+    let h = held f s m e t in
+    let j = lift f e in
+    let is : suc m * up e * 2 ^ low f ≡ suc m * 2 ^ j * down e = mul-assoc (suc m) (up e) (2 ^ low f) ∙ ap (λ (x : ℕ). suc m * x) (lift-is f e (h .deep)) ∙ sym (mul-assoc (suc m) (2 ^ j) (down e)) in
+    let below : suc m * 2 ^ j * down e < overflow f * down e =
+    subst (λ (x : ℕ). x < overflow f * down e) is
+    (subst (λ (x : ℕ). suc m * up e * 2 ^ low f < x) (mul-right-comm (2 ^ suc (emax f)) (down e) (2 ^ low f) ∙ ap (λ (x : ℕ). x * down e) (mul-comm (2 ^ suc (emax f)) (2 ^ low f) ∙ sym (pow-add 2 (low f) (suc (emax f))))) (mul-lt-mul-of-pos-right (h .small) (pow-pos (low f)))) in
+    record {
+      w = suc m * 2 ^ j;
+      value = (refl, is);
+      grid = record { c = suc m; i = j; is = refl; fit = h .few-digits; room = lt-of-mul-lt-mul-right (down e) below };
+    }
+
+-- such a number is a multiple of 2 ^ k, or is below the numbers of prec digits times 2 ^ k
+pub grid-or-small : (f : Format) (w k : ℕ) → Grid f w → ((W : ℕ) × (w ≡ W * 2 ^ k)) ⊎ (w < hid f * 2 ^ k)
+grid-or-small f w k g = go (decLe k (g .i))
+  where
+    fewer : (p i k : ℕ) → 2 ≤ p → i < k → p + i ≤ p - 1 + k
+    fewer p i k a l = omega arith
+
+    go : Dec (k ≤ g .i) → ((W : ℕ) × (w ≡ W * 2 ^ k)) ⊎ (w < hid f * 2 ^ k)
+    go (yes l) = inl (g .c * 2 ^ (g .i - k), g .is ∙ ap (λ (x : ℕ). g .c * x) (ap (λ (x : ℕ). 2 ^ x) (sym (sub-add-cancel l)) ∙ pow-add 2 (g .i - k) k) ∙ sym (mul-assoc (g .c) (2 ^ (g .i - k)) (2 ^ k)))
+    go (no n) =
+        inr (subst (λ (x : ℕ). w < x) (pow-add 2 (prec f - 1) k)
+        (lt-of-lt-of-le (subst (λ (x : ℕ). x < 2 ^ (prec f + g .i)) (sym (g .is)) (shl-lt (prec f) (g .i) (g .fit))) (pow-mono (fewer (prec f) (g .i) k (two f) (lt-of-not-le n)))))
+
+-- ---- a finite value that is not negative has a pattern below the infinity's
+pub finite-below : (f : Format) (m : ℕ) (e : ℤ) → T (fits f (fin false m e)) → toBits f (fin false m e) < ones f * hid f
+finite-below f m e t =
+    let u = held-units f false m e t in
+    let p = prec f in
+    let w = u .w in
+    let k = size w - p in
+    subst (λ (x : ℕ). x < ones f * hid f) (sym (toBits-value f false (fin false m e) w (u .value)))
+    (lt-of-lt-of-le (fit (hid f) (k * hid f) (w / 2 ^ k) (suc (suc k) * hid f) (suc-mul (suc k) (hid f) ∙ ap (λ (x : ℕ). x + hid f) (suc-mul k (hid f))) (subst (λ (x : ℕ). w / 2 ^ k < x) (twice-hid f) (kept-lt p w)))
+    (mul-le-mul-right (hid f) (field (size w) p (emax f) (two f) (reach f) (size-le w (low f + suc (emax f)) (u .grid .room)))))
+  where
+    field : (z p e : ℕ) → 2 ≤ p → p ≤ suc e → z ≤ e + p - 2 + suc e → suc (suc (z - p)) ≤ 2 * e + 1
+    field z p e a b c = omega arith
+
+    fit : (h a b c : ℕ) → c ≡ a + h + h → b < 2 * h → 0 + (a + b) < c
+    fit h a b c e l = omega arith

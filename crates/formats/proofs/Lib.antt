@@ -1,0 +1,6 @@
+-- `Digits` names no format, only a number of digits p; `Patterns`, `Grid`, `Normal` and `Dropped` hold in every format.
+pub mod Digits
+pub mod Patterns
+pub mod Grid
+pub mod Normal
+pub mod Dropped

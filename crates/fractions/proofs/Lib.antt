@@ -1,0 +1,26 @@
+-- The laws that the crates above cite. Numbers: what is the same, what is near, what is large.
+pub mod Ring
+pub mod Order
+pub mod Restate
+pub mod Close
+pub mod Within
+pub mod Magnitude
+pub mod Divide
+-- Floats: each operation is the exact result, rounded once; how far that moves it, and where it does not.
+pub mod Closest
+pub mod Number
+pub mod Rounding
+pub mod Operations
+pub mod Exact
+pub mod Held
+pub mod Back
+-- Bounds: the calculus of errors, expressions, and quotients by a root.
+pub mod Near
+pub mod Expression
+pub mod Squares
+pub mod Roots
+pub mod Sums
+pub mod Normalised
+-- The laws at work, and the definitions at closed numbers.
+mod Example
+mod Trials

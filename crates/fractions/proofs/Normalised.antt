@@ -1,0 +1,98 @@
+-- A number over a root, as a program computes it, is `BySquares` of G / √S: from an expression for it (`run-by-squares`), and as one float divided by another where G² ≤ S, which keeps the quotient at 1
+-- (`normalised`). The root enters by its law (`RootOf`, which a correctly rounded root has with P = 2 ^ prec), for s the float whose root was taken, itself near S (`root-near`). Assumes nothing.
+use mathlib.Core.Path.{_≡_, subst}
+use mathlib.Core.Bool.{Bool, _&&_}
+use Prim.Native.Nat.{ℕ, _+_, _*_, _≤_, _<_}
+use native.Mathlib.Nat.{le-trans, le-of-lt, sub-pos-iff-lt, mul-pos, mul-le-mul-right}
+use native.Mathlib.Omega.{arith}
+use lib.Dec.{T, leb, ltb, leb→le, ltb→lt, lit<}
+use lib.Pow.{pow-pos}
+use lib.Ieee.{Float, Format, div}
+use lib.Ieee.Fits.{and-l, and-r}
+use lib.Ieee.Positive.{positive, first-pos}
+use Rattle.fractions.specs.Fraction.{Fraction, whole, unit, number, square, _⊗_, _⊘_, Same, Less, AtMost}
+use Rattle.fractions.specs.Squares.{raised, lowered, BySquares, RootOf}
+use Rattle.fractions.proofs.Order.{same-refl, same-sym, same-mul, less-same, at-most-same}
+use Rattle.fractions.proofs.Restate.{same-square, same-divide}
+use Rattle.fractions.proofs.Close.{Close, Least, same-close, close-trans, ceiling, ceiling-ge}
+use Rattle.fractions.proofs.Rounding.{fine}
+use Rattle.fractions.proofs.Operations.{positive-number, div-result}
+use Rattle.fractions.proofs.Exact.{result-not-below}
+use Rattle.fractions.proofs.Near.{Near, near-size, near-div, quotient-result, quotient-error}
+use Rattle.fractions.proofs.Expression.{Expression, run, exact, scale, bound, sound}
+use Rattle.fractions.proofs.Squares.{squares-fine, by-squares}
+use Rattle.fractions.proofs.Roots.{root-square, root-least, quotient-size}
+
+-- ---- r² is near S, where r is the root of s to one part in P and s is near S
+abbrev pub root-error : ℕ → ℕ → ℕ → ℕ
+root-error P M E = ceiling (3 * (M + E)) P + E
+
+pub root-near : {W M E : ℕ} {s S : Fraction} (P : ℕ) (r : Fraction) → 5 ≤ P → RootOf P r s → Near W s S M E → Close W (square r) S (root-error P M E)
+root-near {W} {M} {E} P r h a n = close-trans (root-square (ceiling (3 * (M + E)) P) h (ceiling-ge (3 * (M + E)) P (le-trans (lit< tt) h)) a (near-size n)) (n .close)
+
+-- ---- from an expression
+pub run-by-squares : (f : Format) (k t L : ℕ) (a : Expression) (G r S : Fraction) → exact a ≡ G ⊘ r → T (bound f a .good && squares-fine scale k (bound f a .most) (bound f a .error) t L)
+    → Close scale (square r) S t → Least scale r L → BySquares k (number (run f a)) G S
+run-by-squares f k t L a G r S e h c l =
+    let i = bound f a .good in
+    let j = squares-fine scale k (bound f a .most) (bound f a .error) t L in
+    by-squares k (number (run f a)) G r S (and-r i j h) (subst (λ (q : Fraction). Near scale (number (run f a)) q (bound f a .most) (bound f a .error)) e (sound f a (and-l i j h) .near)) c l
+
+-- ---- one float over another. The numbers, in units of 1 / scale: |G| ≤ N and the float is E off; S ≥ b, r² is t off S, r ≥ L; |G| / r ≤ M
+abbrev pub normal : Format → (k N E M t L b : ℕ) → Bool
+normal f k N E M t L b =
+    ltb 0 L && leb (L * L + t * scale) (b * scale) && leb (scale * scale * (L * L) + t * (scale * scale * scale)) (M * M * (L * L)) && fine f scale (quotient-result scale N E L 0)
+    && squares-fine scale k M (quotient-error f scale N E L 0) t L
+
+pub normalised : (f : Format) (k : ℕ) {N E t b : ℕ} (M L : ℕ) (g r : Float) (G S : Fraction) → T (normal f k N E M t L b) → Near scale (number g) G N E → Less (whole 0) (number r)
+    → Close scale (square (number r)) S t → Least scale S b → AtMost (square G) S → BySquares k (number (div f g r)) G S
+normalised f k {N} {E} {t} {b} M L g r G S h n p c s u =
+    let h1 = ltb 0 L in
+    let h2 = leb (L * L + t * scale) (b * scale) in
+    let h3 = leb (scale * scale * (L * L) + t * (scale * scale * scale)) (M * M * (L * L)) in
+    let h4 = fine f scale (quotient-result scale N E L 0) in
+    let h5 = squares-fine scale k M (quotient-error f scale N E L 0) t L in
+    let i = and-l (h1 && h2 && h3 && h4) h5 h in
+    let j = and-l (h1 && h2 && h3) h4 i in
+    let lp = ltb→lt 0 L (and-l h1 h2 (and-l (h1 && h2) h3 j)) in
+    let D>0 = first-pos (number r .over) (number r .over) (c .first) in
+    let l = root-least L (leb→le (L * L + t * scale) (b * scale) (and-r h1 h2 (and-l (h1 && h2) h3 j))) p c s in
+    let m = quotient-size M G (number r) S lp (leb→le (scale * scale * (L * L) + t * (scale * scale * scale)) (M * M * (L * L)) (and-r (h1 && h2) h3 j)) u c D>0 l in
+    let q = near-div f g r n (same-close scale (number r) (number r) D>0 D>0 (same-refl (number r))) l lp (and-r (h1 && h2 && h3) h4 i) in
+    by-squares k (number (div f g r)) G (number r) S (and-r (h1 && h2 && h3 && h4) h5 h) (record { close = q .close; size = m }) c l
+
+-- such a gain is not below 0 where the raw gain is not
+pub quotient-not-below : (f : Format) (g r : Float) → 0 < number g .over → T (positive r) → AtMost (whole 0) (number g) → AtMost (whole 0) (number (div f g r))
+quotient-not-below f g r X t h =
+    above (number (div f g r)) (result-not-below f (mul-pos X (positive-number r t)) (div-result f g r X t) (mul-le-mul-right (number r .over) (sides (number g) h)))
+  where
+    sides : (x : Fraction) → AtMost (whole 0) x → x .minus ≤ x .plus
+    sides x h = omega arith
+
+    above : (x : Fraction) → x .minus ≤ x .plus → AtMost (whole 0) x
+    above x h = omega arith
+
+-- ---- other names of the formula and of the sum
+pub by-squares-same : {k : ℕ} {x G S : Fraction} (G' S' : Fraction) → 0 < G' .over → 0 < S' .over → Same G' G → Same S' S → BySquares k x G S → BySquares k x G' S'
+by-squares-same {k} {x} {G} {S} G' S' g s e d h =
+    let p : Less (whole 0) S' = less-same (whole 0) (whole 0) S' S (same-refl (whole 0)) d (lit< tt) s (h .positive) in
+    let S>0 = strictly S (h .positive) in
+    let S'>0 = strictly S' p in
+    let E = square G ⊘ S in
+    let E' = square G' ⊘ S' in
+    let u : Same E' E = same-divide (square G') (square G) S' S (le-of-lt S'>0) (le-of-lt S>0) (same-square G' G e) d in
+    let o = mul-pos (mul-pos (h .formula) (h .formula)) (sub-pos-iff-lt .1 S>0) in
+    let w = mul-pos (mul-pos (h .gain) (pow-pos k)) (mul-pos (h .gain) (pow-pos k)) in
+    record {
+      gain = h .gain;
+      formula = g;
+      sum = s;
+      positive = p;
+      above = at-most-same E' E (square (raised k x)) (square (raised k x)) u (same-refl (square (raised k x))) o w (h .above);
+      below = at-most-same (square (lowered k x)) (square (lowered k x)) E' E (same-refl (square (lowered k x))) u w o (h .below);
+      sign = λ l. less-same (whole 0) (whole 0) (x ⊗ G') (x ⊗ G) (same-refl (whole 0)) (same-mul x x G' G (same-refl x) e) (lit< tt) (mul-pos (h .gain) g)
+          (h .sign (less-same (square (unit k)) (square (unit k)) E E' (same-refl (square (unit k))) (same-sym E' E u) (mul-pos (pow-pos k) (pow-pos k)) o l));
+    }
+  where
+    strictly : (x : Fraction) → Less (whole 0) x → x .minus < x .plus
+    strictly x h = omega arith

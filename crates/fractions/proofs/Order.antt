@@ -1,0 +1,133 @@
+-- The laws of `Same`, `Less`, `AtMost` and `AsNear`: fractions that are the same number serve each other everywhere. Assumes nothing.
+use mathlib.Core.Path.{_≡_, sym, ap, _∙_, subst}
+use Prim.Native.Nat.{ℕ, _+_, _-_, _*_, _≤_, _<_}
+use native.Mathlib.Nat.{le-of-eq, le-of-lt, lt-of-not-le, add-sub-of-le, mul-pos, mul-le-mul-right, le-of-mul-le-mul-right, lt-of-mul-lt-mul-right, mul-lt-mul-of-pos-right, eq-of-mul-eq-mul-right}
+use native.Mathlib.Decide.{decLe}
+use native.Mathlib.Omega.{arith}
+use Rattle.fractions.specs.Fraction.{Fraction, _⊕_, _⊗_, Same, Less, AtMost, gap, apart, AsNear}
+use Rattle.fractions.proofs.Ring.{ring}
+
+-- ---- an equivalence
+pub same-refl : (x : Fraction) → Same x x
+same-refl x = omega arith
+
+pub same-sym : (x y : Fraction) → Same x y → Same y x
+same-sym x y h = omega arith
+
+trans-nat : (xp xm xo yp ym yo zp zm zo : ℕ) → (xp * yo + ym * xo) * zo ≡ (yp * xo + xm * yo) * zo → (yp * zo + zm * yo) * xo ≡ (zp * yo + ym * zo) * xo
+    → (xp * zo + zm * xo) * yo ≡ (zp * xo + xm * zo) * yo
+trans-nat xp xm xo yp ym yo zp zm zo h k = let h' = simp ring at h in let k' = simp ring at k in simp ring (omega arith)
+
+pub same-trans : (x y z : Fraction) → 0 < y .over → Same x y → Same y z → Same x z
+same-trans x y z Y h k =
+    eq-of-mul-eq-mul-right (y .over) Y _ _ (trans-nat (x .plus) (x .minus) (x .over) (y .plus) (y .minus) (y .over) (z .plus) (z .minus) (z .over) (ap (λ (t : ℕ). t * z .over) h) (ap (λ (t : ℕ). t * x .over) k))
+
+-- ---- kept by sums and products
+add-nat : (xp xm xo xp' xm' xo' yp ym yo yp' ym' yo' : ℕ) → (xp * xo' + xm' * xo) * (yo * yo') ≡ (xp' * xo + xm * xo') * (yo * yo') → (yp * yo' + ym' * yo) * (xo * xo') ≡ (yp' * yo + ym * yo') * (xo * xo')
+    → (xp * yo + yp * xo) * (xo' * yo') + (xm' * yo' + ym' * xo') * (xo * yo) ≡ (xp' * yo' + yp' * xo') * (xo * yo) + (xm * yo + ym * xo) * (xo' * yo')
+add-nat xp xm xo xp' xm' xo' yp ym yo yp' ym' yo' h k = let h' = simp ring at h in let k' = simp ring at k in simp ring (omega arith)
+
+mul-nat : (xp xm xo xp' xm' xo' yp ym yo yp' ym' yo' : ℕ) → (xp * xo' + xm' * xo) * (yp * yo') ≡ (xp' * xo + xm * xo') * (yp * yo') → (xp * xo' + xm' * xo) * (ym * yo') ≡ (xp' * xo + xm * xo') * (ym * yo')
+    → (yp * yo' + ym' * yo) * (xp' * xo) ≡ (yp' * yo + ym * yo') * (xp' * xo) → (yp * yo' + ym' * yo) * (xm' * xo) ≡ (yp' * yo + ym * yo') * (xm' * xo)
+    → (xp * yp + xm * ym) * (xo' * yo') + (xp' * ym' + xm' * yp') * (xo * yo) ≡ (xp' * yp' + xm' * ym') * (xo * yo) + (xp * ym + xm * yp) * (xo' * yo')
+mul-nat xp xm xo xp' xm' xo' yp ym yo yp' ym' yo' h i j k =
+    let h' = simp ring at h in let i' = simp ring at i in let j' = simp ring at j in let k' = simp ring at k in simp ring (omega arith)
+
+module _ (x x' y y' : Fraction) (h : Same x x') (k : Same y y') where
+  pub same-add : Same (x ⊕ y) (x' ⊕ y')
+  same-add =
+      add-nat (x .plus) (x .minus) (x .over) (x' .plus) (x' .minus) (x' .over) (y .plus) (y .minus) (y .over) (y' .plus) (y' .minus) (y' .over)
+      (ap (λ (t : ℕ). t * (y .over * y' .over)) h) (ap (λ (t : ℕ). t * (x .over * x' .over)) k)
+
+  pub same-mul : Same (x ⊗ y) (x' ⊗ y')
+  same-mul =
+      mul-nat (x .plus) (x .minus) (x .over) (x' .plus) (x' .minus) (x' .over) (y .plus) (y .minus) (y .over) (y' .plus) (y' .minus) (y' .over)
+      (ap (λ (t : ℕ). t * (y .plus * y' .over)) h) (ap (λ (t : ℕ). t * (y .minus * y' .over)) h) (ap (λ (t : ℕ). t * (x' .plus * x .over)) k) (ap (λ (t : ℕ). t * (x' .minus * x .over)) k)
+
+-- ---- a comparison is one of numbers: the two sides of it differ by as much, in any fractions of the same numbers
+cross-nat : (xp xm xo xp' xm' xo' yp ym yo yp' ym' yo' : ℕ) → (xp * xo' + xm' * xo) * (yo * yo') ≡ (xp' * xo + xm * xo') * (yo * yo') → (yp * yo' + ym' * yo) * (xo * xo') ≡ (yp' * yo + ym * yo') * (xo * xo')
+    → (xp * yo + ym * xo) * (xo' * yo') + (yp' * xo' + xm' * yo') * (xo * yo) ≡ (xp' * yo' + ym' * xo') * (xo * yo) + (yp * xo + xm * yo) * (xo' * yo')
+cross-nat xp xm xo xp' xm' xo' yp ym yo yp' ym' yo' h k = let h' = simp ring at h in let k' = simp ring at k in simp ring (omega arith)
+
+module _ (x x' y y' : Fraction) (h : Same x x') (k : Same y y') where
+  cross : (x .plus * y .over + y .minus * x .over) * (x' .over * y' .over) + (y' .plus * x' .over + x' .minus * y' .over) * (x .over * y .over)
+      ≡ (x' .plus * y' .over + y' .minus * x' .over) * (x .over * y .over) + (y .plus * x .over + x .minus * y .over) * (x' .over * y' .over)
+  cross =
+      cross-nat (x .plus) (x .minus) (x .over) (x' .plus) (x' .minus) (x' .over) (y .plus) (y .minus) (y .over) (y' .plus) (y' .minus) (y' .over)
+      (ap (λ (t : ℕ). t * (y .over * y' .over)) h) (ap (λ (t : ℕ). t * (x .over * x' .over)) k)
+
+  pub less-same : 0 < x .over → 0 < y .over → Less x' y' → Less x y
+  less-same X Y l = lt-of-mul-lt-mul-right (x' .over * y' .over) (less _ _ _ _ cross (mul-lt-mul-of-pos-right l (mul-pos X Y)))
+    where
+      less : (a b c d : ℕ) → a + b ≡ c + d → c < b → a < d
+      less a b c d e l = omega arith
+
+  pub at-most-same : 0 < x' .over → 0 < y' .over → AtMost x' y' → AtMost x y
+  at-most-same X Y l = le-of-mul-le-mul-right (less _ _ _ _ cross (mul-le-mul-right (x .over * y .over) l)) (mul-pos X Y)
+    where
+      less : (a b c d : ℕ) → a + b ≡ c + d → c ≤ b → a ≤ d
+      less a b c d e l = omega arith
+
+between-nat : (xp xm xo yp ym yo zp zm zo : ℕ) → (xp * yo + ym * xo) * zo ≤ (yp * xo + xm * yo) * zo → (yp * zo + zm * yo) * xo ≤ (zp * yo + ym * zo) * xo → (xp * zo + zm * xo) * yo ≤ (zp * xo + xm * zo) * yo
+between-nat xp xm xo yp ym yo zp zm zo h k = let h' = simp ring at h in let k' = simp ring at k in simp ring (omega arith)
+
+pub at-most-trans : (x y z : Fraction) → 0 < y .over → AtMost x y → AtMost y z → AtMost x z
+at-most-trans x y z Y h k =
+    le-of-mul-le-mul-right (between-nat (x .plus) (x .minus) (x .over) (y .plus) (y .minus) (y .over) (z .plus) (z .minus) (z .over) (mul-le-mul-right (z .over) h) (mul-le-mul-right (x .over) k)) Y
+
+pub same-at-most : (x y : Fraction) → Same x y → AtMost x y
+same-at-most x y h = le-of-eq h
+
+pub less-at-most : (x y : Fraction) → Less x y → AtMost x y
+less-at-most x y h = le-of-lt h
+
+-- one of two numbers is below the other, or not above it
+pub less-not : (x y : Fraction) → AtMost x y → Less y x → ⊥
+less-not x y h k = omega arith
+
+pub not-less : (x y : Fraction) → ¬ (Less x y) → AtMost y x
+not-less x y n = omega arith
+
+-- ---- and so is a distance
+-- of two numbers one is the other and something more: what holds of a, b and gap a b follows from these two cases
+pub by-gap : (P : ℕ → ℕ → ℕ → Type 0) → ((b i : ℕ) → P (b + i) b i) → ((a i : ℕ) → P a (a + i) i) → (a b : ℕ) → P a b (gap a b)
+by-gap P f g a b = go (decLe b a)
+  where
+    more : b ≤ a → a - b ≡ gap a b
+    more h = omega arith
+
+    less : ¬ (b ≤ a) → b - a ≡ gap a b
+    less h = omega arith
+
+    go : Dec (b ≤ a) → P a b (gap a b)
+    go (yes h) = subst (λ (i : ℕ). P a b i) (more h) (subst (λ (z : ℕ). P z b (a - b)) (add-sub-of-le h) (f b (a - b)))
+    go (no n) = subst (λ (i : ℕ). P a b i) (less n) (subst (λ (z : ℕ). P a z (b - a)) (add-sub-of-le (le-of-lt (lt-of-not-le n))) (g a (b - a)))
+
+pub gap-times : (a b k : ℕ) → gap (a * k) (b * k) ≡ gap a b * k
+gap-times a b k = by-gap (λ (a b i : ℕ). gap (a * k) (b * k) ≡ i * k) (λ b i. omega arith) (λ a i. omega arith) a b
+
+gap-same : (a b c d : ℕ) → a + d ≡ c + b → gap a b ≡ gap c d
+gap-same a b c d h = omega arith
+
+pub apart-same : (x x' y y' : Fraction) → Same x x' → Same y y' → apart x y * (x' .over * y' .over) ≡ apart x' y' * (x .over * y .over)
+apart-same x x' y y' h k =
+    let K = x .over * y .over in
+    let K' = x' .over * y' .over in
+    let a = x .plus * y .over + y .minus * x .over in
+    let b = y .plus * x .over + x .minus * y .over in
+    let a' = x' .plus * y' .over + y' .minus * x' .over in
+    let b' = y' .plus * x' .over + x' .minus * y' .over in
+    sym (gap-times a b K')
+    ∙ gap-same (a * K') (b * K') (a' * K) (b' * K) (cross x x' y y' h k)
+    ∙ gap-times a' b' K
+
+near-nat : (d e d' e' xo yo zo xo' yo' zo' : ℕ) → d * (xo' * yo') * (zo * zo') ≡ d' * (xo * yo) * (zo * zo') → e * (xo' * zo') * (yo * yo') ≡ e' * (xo * zo) * (yo * yo') → d' * zo' * (xo * yo * zo) ≤ e' * yo' * (xo * yo * zo)
+    → d * zo * (xo' * yo' * zo') ≤ e * yo * (xo' * yo' * zo')
+near-nat d e d' e' xo yo zo xo' yo' zo' h k l = let h' = simp ring at h in let k' = simp ring at k in let l' = simp ring at l in simp ring (omega arith)
+
+pub near-same : (x x' y y' z z' : Fraction) → 0 < x' .over → 0 < y' .over → 0 < z' .over → Same x x' → Same y y' → Same z z' → AsNear x' y' z' → AsNear x y z
+near-same x x' y y' z z' X Y Z h k j l =
+    le-of-mul-le-mul-right
+    (near-nat (apart x y) (apart x z) (apart x' y') (apart x' z') (x .over) (y .over) (z .over) (x' .over) (y' .over) (z' .over)
+    (ap (λ (t : ℕ). t * (z .over * z' .over)) (apart-same x x' y y' h k)) (ap (λ (t : ℕ). t * (y .over * y' .over)) (apart-same x x' z z' h j))
+    (mul-le-mul-right (x .over * y .over * z .over) l)) (mul-pos (mul-pos X Y) Z)

@@ -1,0 +1,360 @@
+-- A quotient by a root, G / √S, bounded by squares, since √S is no fraction: r is a number whose square is near S, and x is near G / r. Then x is `BySquares` of G / √S (`by-squares`), for G of either sign:
+-- the square of the exact G / √S lies between those of |x| - 2 ^ -k (0 if that is negative) and |x| + 2 ^ -k, and x has the sign of G unless G / √S is 2 ^ -k in magnitude at most. Assumes nothing.
+use mathlib.Core.Path.{_≡_, refl, sym, ap, _∙_, subst}
+use mathlib.Core.Logic.{inl, inr}
+use mathlib.Core.Bool.{Bool, _&&_}
+use Prim.Native.Nat.{ℕ, _+_, _*_, _-_, _^_, _≤_, _<_}
+use native.Mathlib.Nat.{le-trans, le-of-lt, lt-of-not-le, add-sub-of-le, sub-add-cancel, sub-eq-zero-of-le, sub-pos-iff-lt, eq-zero-or-pos, mul-pos, mul-le-mul, mul-le-mul-right, le-of-mul-le-mul-right, lt-of-mul-lt-mul-right}
+use native.Mathlib.Decide.{decLe, decLt}
+use native.Mathlib.Omega.{arith}
+use lib.Dec.{T, leb, ltb, leb→le, ltb→lt}
+use lib.Pow.{pow-pos}
+use lib.Ieee.Fits.{and-l, and-r}
+use lib.Ieee.Positive.{first-pos}
+use Rattle.fractions.specs.Fraction.{Fraction, fraction, square, unit, whole, _⊗_, _⊘_, Same, Less, AtMost, gap}
+use Rattle.fractions.specs.Squares.{raised, lowered, BySquares}
+use Rattle.fractions.proofs.Ring.{ring}
+use Rattle.fractions.proofs.Order.{same-refl, by-gap, gap-times, at-most-same, not-less, less-not}
+use Rattle.fractions.proofs.Restate.{equal, equal-same}
+use Rattle.fractions.proofs.Magnitude.{close-magnitude, square-nat}
+use Rattle.fractions.proofs.Close.{Close, Least}
+use Rattle.fractions.proofs.Within.{size-gap}
+use Rattle.fractions.proofs.Divide.{left-least, least-positive}
+use Rattle.fractions.proofs.Near.{Near}
+
+-- ---- with |a - b| ≤ t, t * u ≤ h * b and 2 * t ≤ b: u² ≤ (u + h)² * (a / b), and v² * (a / b) ≤ u² where v + h ≤ u. Here u is the quotient by r, h what is left of the bound and a / b is S / r²
+raised-nat : (u h a b t : ℕ) → b ≤ a + t → t * u ≤ h * b → 2 * t ≤ b → u * u * b ≤ (u + h) * (u + h) * a
+raised-nat u h a b t x y z =
+    let x' = simp ring at (mul-le-mul-right ((u + h) * (u + h)) x) in
+    let y' = simp ring at (mul-le-mul-right u y) in
+    let v = simp ring at (mul-le-mul-right (u * h) z) in
+    let w = simp ring at (mul-le-mul-right (h * h) z) in
+    simp ring (omega arith)
+
+lowered-nat : (v h u a b t : ℕ) → a ≤ b + t → t * u ≤ h * b → v + h ≤ u → v ≤ u → v * v * a ≤ u * u * b
+lowered-nat v h u a b t x y z w =
+    let x' = simp ring at (mul-le-mul-right (v * v) x) in
+    let y' = simp ring at (mul-le-mul-right v y) in
+    let c = simp ring at (mul-le-mul-right (v * t) w) in
+    let d = simp ring at (mul-le-mul-right (v * b) z) in
+    let e = mul-le-mul-right (u * b) w in
+    simp ring (omega arith)
+
+-- ---- |G| = A / B, S = Z / C, r = R / D, |x| = X / a, in whole numbers; 1 / P is the bound, and d / W, t / W are the errors of x and of r². K = W - d * P is what x leaves of the bound
+-- the root is L / W at least, and |G| / r is M / W at most
+slack-nat : (A B R D P W M t K L : ℕ) → A * D * W * (t * P * (D * D) * W) ≤ M * (B * R) * (t * P * (D * D) * W) → t * M * P * W * (B * R * (D * D)) ≤ K * (L * L) * (B * R * (D * D))
+    → L * D * (L * D) * (K * B * R) ≤ R * W * (R * W) * (K * B * R) → t * P * A * (D * D * D) * (W * W) ≤ B * K * (R * R * R) * (W * W)
+slack-nat A B R D P W M t K L x y z = let x' = simp ring at x in let y' = simp ring at y in let z' = simp ring at z in simp ring (omega arith)
+
+slack : (A B C R D a P W M t K L : ℕ) → 0 < W → A * D * W ≤ M * (B * R) → L * D ≤ R * W → t * M * P * W ≤ K * (L * L) → t * (D * D * C) * (A * D * (a * P * W)) ≤ B * R * a * K * (C * R * R * W)
+slack A B C R D a P W M t K L w g l h =
+    let c : t * P * A * (D * D * D) ≤ B * K * (R * R * R) =
+    le-of-mul-le-mul-right (slack-nat A B R D P W M t K L (mul-le-mul-right (t * P * (D * D) * W) g) (mul-le-mul-right (B * R * (D * D)) h) (mul-le-mul-right (K * B * R) (mul-le-mul l l))) (mul-pos w w) in
+    let c' = simp ring at (mul-le-mul-right (C * a * W) c) in
+    simp ring (omega arith)
+
+half-nat : (C R D W t L : ℕ) → 2 * t * W * (D * D * C) ≤ L * L * (D * D * C) → L * D * (L * D) * C ≤ R * W * (R * W) * C → 2 * (t * (D * D * C)) * W ≤ C * R * R * W * W
+half-nat C R D W t L x y = let x' = simp ring at x in let y' = simp ring at y in simp ring (omega arith)
+
+half : (C R D W t L : ℕ) → 0 < W → L * D ≤ R * W → 2 * t * W ≤ L * L → 2 * (t * (D * D * C)) ≤ C * R * R * W
+half C R D W t L w l h = le-of-mul-le-mul-right (half-nat C R D W t L (mul-le-mul-right (D * D * C) h) (mul-le-mul-right C (mul-le-mul l l))) w
+
+module _ (A B C Z R D X a P W M d t K L : ℕ) (w : 0 < W) (rp : 0 < R) (dp : 0 < D) (k : K + d * P ≡ W) (g : A * D * W ≤ M * (B * R)) (l : L * D ≤ R * W)
+    (small : t * M * P * W ≤ K * (L * L)) (least : 2 * t * W ≤ L * L) where
+  reach : A * D * a * W * P ≤ (X * (B * R) * W + d * (a * (B * R))) * P → (K + d * P) * (B * R * a) ≡ W * (B * R * a) → A * D * (a * P * W) + B * R * a * K ≤ (X * P + a) * (B * R * W)
+  reach x e = let x' = simp ring at x in let e' = simp ring at e in simp ring (omega arith)
+
+  under : (y : ℕ) → X * (B * R) * W * P ≤ (A * D * a * W + d * (a * (B * R))) * P → (K + d * P) * (B * R * a) ≡ W * (B * R * a) → (y + a) * (B * R * W) ≡ X * P * (B * R * W)
+      → y * (B * R * W) + B * R * a * K ≤ A * D * (a * P * W)
+  under y x e f = let x' = simp ring at x in let e' = simp ring at e in let f' = simp ring at f in simp ring (omega arith)
+
+  up : (Y : ℕ) → A * D * (a * P * W) * (A * D * (a * P * W)) * (C * R * R * W) ≤ Y * (B * R * W) * (Y * (B * R * W)) * (Z * (D * D) * W)
+      → A * A * C * (a * P * (a * P)) * (D * D * (R * R) * (W * W * W)) ≤ Y * Y * (B * B * Z) * (D * D * (R * R) * (W * W * W))
+  up Y x = let x' = simp ring at x in simp ring (omega arith)
+
+  down : (Y : ℕ) → Y * (B * R * W) * (Y * (B * R * W)) * (Z * (D * D) * W) ≤ A * D * (a * P * W) * (A * D * (a * P * W)) * (C * R * R * W)
+      → Y * Y * (B * B * Z) * (D * D * (R * R) * (W * W * W)) ≤ A * A * C * (a * P * (a * P)) * (D * D * (R * R) * (W * W * W))
+  down Y x = let x' = simp ring at x in simp ring (omega arith)
+
+  all-pos : 0 < D * D * (R * R) * (W * W * W)
+  all-pos = mul-pos (mul-pos (mul-pos dp dp) (mul-pos rp rp)) (mul-pos (mul-pos w w) w)
+
+  above-nat : A * D * a * W ≤ X * (B * R) * W + d * (a * (B * R)) → C * R * R * W ≤ Z * (D * D) * W + t * (D * D * C) → A * A * C * (a * P * (a * P)) ≤ (X * P + a) * (X * P + a) * (B * B * Z)
+  above-nat x s =
+      let u = A * D * (a * P * W) in
+      let v = reach (mul-le-mul-right P x) (ap (λ (z : ℕ). z * (B * R * a)) k) in
+      let c = raised-nat u (B * R * a * K) (Z * (D * D) * W) (C * R * R * W) (t * (D * D * C)) s (slack A B C R D a P W M t K L w g l small) (half C R D W t L w l least) in
+      le-of-mul-le-mul-right (up (X * P + a) (le-trans c (mul-le-mul-right (Z * (D * D) * W) (mul-le-mul v v)))) all-pos
+
+  below-nat : (y : ℕ) → y + a ≡ X * P → X * (B * R) * W ≤ A * D * a * W + d * (a * (B * R)) → Z * (D * D) * W ≤ C * R * R * W + t * (D * D * C) → y * y * (B * B * Z) ≤ A * A * C * (a * P * (a * P))
+  below-nat y f x s =
+      let u = A * D * (a * P * W) in
+      let h = B * R * a * K in
+      let v = under y (mul-le-mul-right P x) (ap (λ (z : ℕ). z * (B * R * a)) k) (ap (λ (z : ℕ). z * (B * R * W)) f) in
+      le-of-mul-le-mul-right (down y (lowered-nat (y * (B * R * W)) h u (Z * (D * D) * W) (C * R * R * W) (t * (D * D * C)) s (slack A B C R D a P W M t K L w g l small) v (part _ h u v))) all-pos
+    where
+      part : (v h u : ℕ) → v + h ≤ u → v ≤ u
+      part v h u i = omega arith
+
+-- ---- the words of specs/, in the same letters
+plain : (u v u' v' : ℕ) → u * v' ≤ u' * v → AtMost (fraction u 0 v) (fraction u' 0 v')
+plain u v u' v' h = omega arith
+
+square-is : (y b : ℕ) → square (fraction y 0 b) ≡ fraction (y * y) 0 (b * b)
+square-is y b = equal (omega arith) (omega arith) refl
+
+module _ (k : ℕ) (x : Fraction) where
+  raised-is : square (raised k x) ≡ fraction ((gap (x .plus) (x .minus) * 2 ^ k + x .over) * (gap (x .plus) (x .minus) * 2 ^ k + x .over)) 0 (x .over * 2 ^ k * (x .over * 2 ^ k))
+  raised-is = ap square (raised-parts (gap (x .plus) (x .minus)) (x .over) (2 ^ k)) ∙ square-is _ _
+    where
+      raised-parts : (X a P : ℕ) → fraction (X * P + 1 * a) (0 * P + 0 * a) (a * P) ≡ fraction (X * P + a) 0 (a * P)
+      raised-parts X a P = equal (omega arith) (omega arith) refl
+
+  lowered-is : square (lowered k x) ≡ fraction ((gap (x .plus) (x .minus) * 2 ^ k - x .over) * (gap (x .plus) (x .minus) * 2 ^ k - x .over)) 0 (x .over * 2 ^ k * (x .over * 2 ^ k))
+  lowered-is = ap square (lowered-parts (gap (x .plus) (x .minus)) (x .over) (2 ^ k)) ∙ square-is _ _
+    where
+      lowered-parts : (X a P : ℕ) → fraction (X * P + 0 * a - (0 * P + 1 * a)) 0 (a * P) ≡ fraction (X * P - a) 0 (a * P)
+      lowered-parts X a P = equal (omega arith) refl refl
+
+exact-nat : (A p m C o : ℕ) → A * A + (p * m + m * p) ≡ p * p + m * m → (p * p + m * m) * C * o + 0 * o ≡ A * A * C * o + (p * m + m * p) * C * o
+exact-nat A p m C o e = subst (λ (n : ℕ). n * C * o + 0 * o ≡ A * A * C * o + (p * m + m * p) * C * o) e (go (A * A) (p * m + m * p))
+  where
+    go : (a b : ℕ) → (a + b) * C * o + 0 * o ≡ a * C * o + b * C * o
+    go a b = omega arith
+
+exact-is : (G S : Fraction) → Same (square G ⊘ S) (fraction (gap (G .plus) (G .minus) * gap (G .plus) (G .minus) * S .over) 0 (G .over * G .over * (S .plus - S .minus)))
+exact-is G S = exact-nat (gap (G .plus) (G .minus)) (G .plus) (G .minus) (S .over) (G .over * G .over * (S .plus - S .minus)) (square-nat (G .plus) (G .minus))
+
+-- ---- r² and S
+module _ (D C W t : ℕ) where
+  pub square-above : (m z sp sm : ℕ) → (((m + z) * (m + z) + m * m) * C + sm * (D * D)) * W ≤ (sp * (D * D) + ((m + z) * m + m * (m + z)) * C) * W + t * (D * D * C) → C * z * z * W + sm * (D * D) * W ≤ sp * (D * D) * W + t * (D * D * C)
+  square-above m z sp sm h = let h' = simp ring at h in simp ring (omega arith)
+
+  pub square-below : (m z sp sm : ℕ) → (((m + z) * m + m * (m + z)) * C + sp * (D * D)) * W ≤ (sm * (D * D) + ((m + z) * (m + z) + m * m) * C) * W + t * (D * D * C) → sp * (D * D) * W ≤ C * z * z * W + sm * (D * D) * W + t * (D * D * C)
+  square-below m z sp sm h = let h' = simp ring at h in simp ring (omega arith)
+
+  positive-nat : (z sp sm : ℕ) → C * z * z * W + sm * (D * D) * W ≤ sp * (D * D) * W + t * (D * D * C) → 2 * (t * (D * D * C)) ≤ C * z * z * W → 0 < C * z * z * W → sm * (D * D) * W < sp * (D * D) * W
+  positive-nat z sp sm h k p = omega arith
+
+  -- what is left of S over what is left of r
+  sum-above : (z Z sm : ℕ) → C * z * z * W + sm * (D * D) * W ≤ (sm + Z) * (D * D) * W + t * (D * D * C) → C * z * z * W ≤ Z * (D * D) * W + t * (D * D * C)
+  sum-above z Z sm h = omega arith
+
+  sum-below : (z Z sm : ℕ) → (sm + Z) * (D * D) * W ≤ C * z * z * W + sm * (D * D) * W + t * (D * D * C) → Z * (D * D) * W ≤ C * z * z * W + t * (D * D * C)
+  sum-below z Z sm h = omega arith
+
+-- r² within t / W of S, r being L / W at least and 2 * t * W ≤ L²: S is above 0, and the two inequalities between whole numbers
+record Root (W : ℕ) (r S : Fraction) (t : ℕ) : Type 0 where
+  pub positive : S .minus < S .plus
+  pub above : S .over * (r .plus - r .minus) * (r .plus - r .minus) * W ≤ (S .plus - S .minus) * (r .over * r .over) * W + t * (r .over * r .over * S .over)
+  pub below : (S .plus - S .minus) * (r .over * r .over) * W ≤ S .over * (r .plus - r .minus) * (r .plus - r .minus) * W + t * (r .over * r .over * S .over)
+
+root-counted : {W t L : ℕ} {r S : Fraction} → 0 < W → 0 < L → 0 < r .over → Close W (square r) S t → Least W r L → 2 * t * W ≤ L * L → Root W r S t
+root-counted {W} {t} {L} {r} {S} w lp rp h l k =
+    let D = r .over in
+    let C = S .over in
+    let z = r .plus - r .minus in
+    let m = least-positive lp rp l in
+    let e = add-sub-of-le (le-of-lt m) in
+    let a = square-above D C W t (r .minus) z (S .plus) (S .minus) (subst (λ (p : ℕ). ((p * p + r .minus * r .minus) * C + S .minus * (D * D)) * W ≤ (S .plus * (D * D) + (p * r .minus + r .minus * p) * C) * W + t * (D * D * C)) (sym e) (h .above)) in
+    let b = square-below D C W t (r .minus) z (S .plus) (S .minus) (subst (λ (p : ℕ). ((p * r .minus + r .minus * p) * C + S .plus * (D * D)) * W ≤ (S .minus * (D * D) + (p * p + r .minus * r .minus) * C) * W + t * (D * D * C)) (sym e) (h .below)) in
+    let zp : 0 < z = sub-pos-iff-lt .1 m in
+    let s : S .minus < S .plus =
+    lt-of-mul-lt-mul-right (D * D) (lt-of-mul-lt-mul-right W (positive-nat D C W t z (S .plus) (S .minus) a (half C z D W t L w (left-least (r .plus) (r .minus) D W L (le-of-lt m) (l .least)) k) (mul-pos (mul-pos (mul-pos (h .second) zp) zp) w))) in
+    let f = add-sub-of-le (le-of-lt s) in
+    record {
+      positive = s;
+      above = sum-above D C W t z (S .plus - S .minus) (S .minus) (subst (λ (p : ℕ). C * z * z * W + S .minus * (D * D) * W ≤ p * (D * D) * W + t * (D * D * C)) (sym f) a);
+      below = sum-below D C W t z (S .plus - S .minus) (S .minus) (subst (λ (p : ℕ). p * (D * D) * W ≤ C * z * z * W + S .minus * (D * D) * W + t * (D * D * C)) (sym f) b);
+    }
+
+-- ---- the sign: where x and G are not of one sign, |G| / r is d / W at most, and so G² / S is 2 ^ -2k at most
+module _ (o u W E : ℕ) where
+  -- one of i and j is 0
+  like : (i j : ℕ) → i * j ≤ 0 → j * o * W ≤ i * u * W + E * (o * u) → j * W * o ≤ E * u * o
+  like i j h k = elim (eq-zero-or-pos i) [ inl e ↦ first (subst (λ (n : ℕ). j * o * W ≤ n * u * W + E * (o * u)) e k) | inr p ↦ second (mul-le-mul-right j p) ]
+    where
+      first : j * o * W ≤ 0 * u * W + E * (o * u) → j * W * o ≤ E * u * o
+      first k = let k' = simp ring at k in simp ring (omega arith)
+
+      second : 1 * j ≤ i * j → j * W * o ≤ E * u * o
+      second p = subst (λ (n : ℕ). n * W * o ≤ E * u * o) (nought (omega arith)) (omega arith)
+        where
+          nought : j ≤ 0 → 0 ≡ j
+          nought h = omega arith
+
+  abbrev Unlike : ℕ → ℕ → ℕ → ℕ → ℕ → Type 0
+  Unlike p m q n j = p * q + m * n ≤ p * n + m * q → (p * u + n * o) * W ≤ (q * o + m * u) * W + E * (o * u) → (m * u + q * o) * W ≤ (n * o + p * u) * W + E * (o * u) → j * W * o ≤ E * u * o
+
+  unlike-nat : (p m q n : ℕ) → Unlike p m q n (gap q n)
+  unlike-nat p m q n =
+      by-gap (λ (p m i : ℕ). Unlike p m q n (gap q n))
+      (λ m i. by-gap (λ (q n j : ℕ). Unlike (m + i) m q n j) (λ n j h a b. like i j (omega arith) (omega arith)) (λ q j h a b. omega arith) q n)
+      (λ p i. by-gap (λ (q n j : ℕ). Unlike p (p + i) q n j) (λ n j h a b. omega arith) (λ q j h a b. like i j (omega arith) (omega arith)) q n)
+      p m
+
+-- 2 d² P² ≤ W² and r² ≤ 2 S
+small-nat : (A B C Z R D P W d : ℕ) → A * D * W * (A * D * W) * (P * P * C) ≤ d * (B * R) * (d * (B * R)) * (P * P * C) → C * R * R * (d * P * (d * P) * (B * B)) ≤ 2 * (Z * (D * D)) * (d * P * (d * P) * (B * B))
+    → 2 * (d * P * (d * P)) * (B * B * Z * (D * D)) ≤ W * W * (B * B * Z * (D * D)) → A * A * C * (P * P) * (D * D * (W * W)) ≤ 1 * (B * B * Z) * (D * D * (W * W))
+small-nat A B C Z R D P W d x y z = let x' = simp ring at x in let y' = simp ring at y in let z' = simp ring at z in simp ring (omega arith)
+
+twice-nat : (C Z R D W t : ℕ) → C * R * R * W ≤ Z * (D * D) * W + t * (D * D * C) → 2 * (t * (D * D * C)) ≤ C * R * R * W → C * R * R * W ≤ 2 * (Z * (D * D)) * W
+twice-nat C Z R D W t h k = omega arith
+
+-- ---- the law
+-- the tests on the bounds: d / W on x, t / W on r², M / W at least |G| / r, L / W at most r
+abbrev pub squares-fine : ℕ → ℕ → ℕ → ℕ → ℕ → ℕ → Bool
+squares-fine W k M d t L =
+    ltb 0 W && ltb 0 L && leb (d * 2 ^ k) W && leb (t * M * 2 ^ k * W) ((W - d * 2 ^ k) * (L * L)) && leb (2 * t * W) (L * L) && leb (2 * (d * 2 ^ k * (d * 2 ^ k))) (W * W)
+
+record Tests (W k M d t L : ℕ) : Type 0 where
+  pub unit : 0 < W
+  pub root : 0 < L
+  pub left : d * 2 ^ k ≤ W
+  pub small : t * M * 2 ^ k * W ≤ (W - d * 2 ^ k) * (L * L)
+  pub half : 2 * t * W ≤ L * L
+  pub sign : 2 * (d * 2 ^ k * (d * 2 ^ k)) ≤ W * W
+
+tests : (W k M d t L : ℕ) → T (squares-fine W k M d t L) → Tests W k M d t L
+tests W k M d t L h =
+    let a = ltb 0 W in
+    let b = ltb 0 L in
+    let c = leb (d * 2 ^ k) W in
+    let e = leb (t * M * 2 ^ k * W) ((W - d * 2 ^ k) * (L * L)) in
+    let f = leb (2 * t * W) (L * L) in
+    let g = leb (2 * (d * 2 ^ k * (d * 2 ^ k))) (W * W) in
+    let h1 = and-l (a && b && c && e && f) g h in
+    let h2 = and-l (a && b && c && e) f h1 in
+    let h3 = and-l (a && b && c) e h2 in
+    let h4 = and-l (a && b) c h3 in
+    record {
+      unit = ltb→lt 0 W (and-l a b h4);
+      root = ltb→lt 0 L (and-r a b h4);
+      left = leb→le _ _ (and-r (a && b) c h3);
+      small = leb→le _ _ (and-r (a && b && c) e h2);
+      half = leb→le _ _ (and-r (a && b && c && e) f h1);
+      sign = leb→le _ _ (and-r (a && b && c && e && f) g h);
+    }
+
+-- the number over its `over`, of one that may have either sign and of one above 0
+abbrev size : Fraction → ℕ
+size x = gap (x .plus) (x .minus)
+
+abbrev left : Fraction → ℕ
+left x = x .plus - x .minus
+
+module _ {W k M d t L : ℕ} (x G r S : Fraction) (f : Tests W k M d t L) (n : Near W x (G ⊘ r) M d) (c : Close W (square r) S t) (l : Least W r L) where
+  D>0 : 0 < r .over
+  D>0 = first-pos (r .over) (r .over) (c .first)
+
+  B>0 : 0 < G .over
+  B>0 = first-pos (G .over) (left r) (n .close .second)
+
+  r>0 : r .minus < r .plus
+  r>0 = least-positive (f .root) D>0 l
+
+  the-root : Root W r S t
+  the-root = root-counted (f .unit) (f .root) D>0 c l (f .half)
+
+  long : L * r .over ≤ left r * W
+  long = left-least (r .plus) (r .minus) (r .over) W L (le-of-lt r>0) (l .least)
+
+  -- |G / r| is |G| over r
+  quotient : gap (G .plus * r .over) (G .minus * r .over) ≡ size G * r .over
+  quotient = gap-times (G .plus) (G .minus) (r .over)
+
+  sized : size G * r .over * W ≤ M * (G .over * left r)
+  sized = subst (λ (m : ℕ). m * W ≤ M * (G .over * left r)) quotient (size-gap (n .size))
+
+  near-above : size G * r .over * x .over * W ≤ size x * (G .over * left r) * W + d * (x .over * (G .over * left r))
+  near-above =
+      go (size x) (x .over) (size G * r .over) (G .over * left r)
+      (subst (λ (m : ℕ). (0 * (G .over * left r) + m * x .over) * W ≤ (0 * x .over + size x * (G .over * left r)) * W + d * (x .over * (G .over * left r))) quotient (close-magnitude (n .close) .below))
+    where
+      go : (X a A Q : ℕ) → (0 * Q + A * a) * W ≤ (0 * a + X * Q) * W + d * (a * Q) → A * a * W ≤ X * Q * W + d * (a * Q)
+      go X a A Q h = omega arith
+
+  near-below : size x * (G .over * left r) * W ≤ size G * r .over * x .over * W + d * (x .over * (G .over * left r))
+  near-below =
+      go (size x) (x .over) (size G * r .over) (G .over * left r)
+      (subst (λ (m : ℕ). (size x * (G .over * left r) + 0 * x .over) * W ≤ (m * x .over + 0 * (G .over * left r)) * W + d * (x .over * (G .over * left r))) quotient (close-magnitude (n .close) .above))
+    where
+      go : (X a A Q : ℕ) → (X * Q + 0 * a) * W ≤ (A * a + 0 * Q) * W + d * (a * Q) → X * Q * W ≤ A * a * W + d * (a * Q)
+      go X a A Q h = omega arith
+
+  under-square : 0 < G .over * G .over * left S
+  under-square = mul-pos (mul-pos B>0 B>0) (sub-pos-iff-lt .1 (the-root .positive))
+
+  -- G² / S, in the same letters
+  abbrev exactly : Fraction
+  exactly = fraction (size G * size G * S .over) 0 (G .over * G .over * left S)
+
+  wide : 0 < x .over * 2 ^ k * (x .over * 2 ^ k)
+  wide = mul-pos (mul-pos (n .close .first) (pow-pos k)) (mul-pos (n .close .first) (pow-pos k))
+
+  squares-above : AtMost (square G ⊘ S) (square (raised k x))
+  squares-above =
+      at-most-same (square G ⊘ S) exactly (square (raised k x)) (fraction ((size x * 2 ^ k + x .over) * (size x * 2 ^ k + x .over)) 0 (x .over * 2 ^ k * (x .over * 2 ^ k))) (exact-is G S) (equal-same (raised-is k x)) under-square wide
+      (plain _ (G .over * G .over * left S) _ (x .over * 2 ^ k * (x .over * 2 ^ k))
+      (above-nat (size G) (G .over) (S .over) (left S) (left r) (r .over) (size x) (x .over) (2 ^ k) W M d t (W - d * 2 ^ k) L (f .unit) (sub-pos-iff-lt .1 r>0) D>0 (sub-add-cancel (f .left)) sized long (f .small) (f .half)
+      near-above (the-root .above)))
+
+  lowered-square : Dec (x .over ≤ size x * 2 ^ k) → (size x * 2 ^ k - x .over) * (size x * 2 ^ k - x .over) * (G .over * G .over * left S) ≤ size G * size G * S .over * (x .over * 2 ^ k * (x .over * 2 ^ k))
+  lowered-square (yes h) =
+      below-nat (size G) (G .over) (S .over) (left S) (left r) (r .over) (size x) (x .over) (2 ^ k) W M d t (W - d * 2 ^ k) L (f .unit) (sub-pos-iff-lt .1 r>0) D>0 (sub-add-cancel (f .left)) sized long (f .small) (f .half)
+      (size x * 2 ^ k - x .over) (sub-add-cancel h) near-below (the-root .below)
+  lowered-square (no h) = subst (λ (y : ℕ). y * y * (G .over * G .over * left S) ≤ size G * size G * S .over * (x .over * 2 ^ k * (x .over * 2 ^ k))) (sym (sub-eq-zero-of-le (le-of-lt (lt-of-not-le h)))) (none (G .over * G .over * left S))
+    where
+      none : (m : ℕ) {b : ℕ} → 0 * 0 * m ≤ b
+      none m = omega arith
+
+  squares-below : AtMost (square (lowered k x)) (square G ⊘ S)
+  squares-below =
+      at-most-same (square (lowered k x)) (fraction ((size x * 2 ^ k - x .over) * (size x * 2 ^ k - x .over)) 0 (x .over * 2 ^ k * (x .over * 2 ^ k))) (square G ⊘ S) exactly (equal-same (lowered-is k x)) (exact-is G S) wide under-square
+      (plain _ (x .over * 2 ^ k * (x .over * 2 ^ k)) _ (G .over * G .over * left S) (lowered-square (decLe (x .over) (size x * 2 ^ k))))
+
+  -- x G ≤ 0
+  apart : AtMost (x ⊗ G) (whole 0) → size G * r .over * W ≤ d * (G .over * left r)
+  apart h =
+      le-of-mul-le-mul-right
+      (subst (λ (m : ℕ). m * W * x .over ≤ d * (G .over * left r) * x .over) quotient
+      (unlike-nat (x .over) (G .over * left r) W d (x .plus) (x .minus) (G .plus * r .over) (G .minus * r .over) (turn (x .plus) (x .minus) (G .plus) (G .minus) (r .over) (mul-le-mul-right (r .over) (bare _ _ (x .over * G .over) h))) (n .close .above) (n .close .below))) (n .close .first)
+    where
+      bare : (a b o : ℕ) → a * 1 + 0 * o ≤ 0 * o + b * 1 → a ≤ b
+      bare a b o h = omega arith
+
+      turn : (p m q n D : ℕ) → (p * q + m * n) * D ≤ (p * n + m * q) * D → p * (q * D) + m * (n * D) ≤ p * (n * D) + m * (q * D)
+      turn p m q n D h = let h' = simp ring at h in omega arith
+
+  squares-small : size G * r .over * W ≤ d * (G .over * left r) → AtMost (square G ⊘ S) (square (unit k))
+  squares-small h =
+      let P = 2 ^ k in
+      let D = r .over in
+      let R = left r in
+      let B = G .over in
+      let y = le-of-mul-le-mul-right (twice-nat (S .over) (left S) R D W t (the-root .above) (half (S .over) R D W t L (f .unit) long (f .half))) (f .unit) in
+      at-most-same (square G ⊘ S) exactly (square (unit k)) (square (unit k)) (exact-is G S) (same-refl (square (unit k))) under-square (mul-pos (pow-pos k) (pow-pos k))
+      (plain _ (B * B * left S) 1 (P * P)
+      (le-of-mul-le-mul-right
+      (small-nat (size G) B (S .over) (left S) R D P W d (mul-le-mul-right (P * P * S .over) (mul-le-mul h h)) (mul-le-mul-right (d * P * (d * P) * (B * B)) y) (mul-le-mul-right (B * B * left S * (D * D)) (f .sign)))
+      (mul-pos (mul-pos D>0 D>0) (mul-pos (f .unit) (f .unit)))))
+
+  squares-sign : Less (square (unit k)) (square G ⊘ S) → Less (whole 0) (x ⊗ G)
+  squares-sign h = go (decLt _ _)
+    where
+      go : Dec (Less (whole 0) (x ⊗ G)) → Less (whole 0) (x ⊗ G)
+      go (yes p) = p
+      go (no p) = absurd (less-not (square G ⊘ S) (square (unit k)) (squares-small (apart (not-less (whole 0) (x ⊗ G) p))) h)
+
+pub by-squares : (k : ℕ) {W M d t L : ℕ} (x G r S : Fraction) → T (squares-fine W k M d t L) → Near W x (G ⊘ r) M d → Close W (square r) S t → Least W r L → BySquares k x G S
+by-squares k {W} {M} {d} {t} {L} x G r S h n c l =
+    let f = tests W k M d t L h in
+    record {
+      gain = n .close .first;
+      formula = B>0 x G r S f n c l;
+      sum = c .second;
+      positive = omega (arith, the-root x G r S f n c l .positive);
+      above = squares-above x G r S f n c l;
+      below = squares-below x G r S f n c l;
+      sign = squares-sign x G r S f n c l;
+    }

@@ -1,0 +1,63 @@
+-- Sums of squares: such a sum is a number, not below 0, and no less than each of the squares in it; and as an expression, what floats make of it and what it is exactly. Assumes nothing.
+use mathlib.Core.Path.{_≡_, refl}
+use mathlib.Core.List.{List, [], _∷_, map}
+use Prim.Native.Nat.{ℕ, zero, suc, _+_, _*_, _≤_, _<_}
+use native.Mathlib.Nat.{le-refl, mul-le-mul-right, le-of-suc-le-suc, not-suc-le-zero}
+use native.Mathlib.Omega.{arith}
+use lib.ListN.{length, getD}
+use lib.Ieee.{Float, Format, add, mul}
+use Rattle.fractions.specs.Fraction.{Fraction, whole, square, _⊕_, AtMost}
+use Rattle.fractions.specs.Squares.{sumFrom, sumSquares}
+use Rattle.fractions.proofs.Ring.{ring}
+use Rattle.fractions.proofs.Magnitude.{square-not-below}
+use Rattle.fractions.proofs.Expression.{Expression, _+'_, _*'_, run, exact}
+
+-- ---- not below 0
+sum-nat : (p m o q n u : ℕ) → m * u ≤ p * u → n * o ≤ q * o → m * u + n * o ≤ p * u + q * o
+sum-nat p m o q n u h k = omega arith
+
+step : (acc g : Fraction) → acc .minus ≤ acc .plus → (acc ⊕ square g) .minus ≤ (acc ⊕ square g) .plus
+step acc g h = sum-nat (acc .plus) (acc .minus) (acc .over) (square g .plus) (square g .minus) (square g .over) (mul-le-mul-right (square g .over) h) (mul-le-mul-right (acc .over) (square-not-below g))
+
+pub sum-not-below : (acc : Fraction) (l : List Fraction) → acc .minus ≤ acc .plus → sumFrom acc l .minus ≤ sumFrom acc l .plus
+sum-not-below acc [] h = h
+sum-not-below acc (g ∷ l) h = sum-not-below (acc ⊕ square g) l (step acc g h)
+
+-- ---- no less than each of the squares
+keep-nat : (qp qm qo sp sm so rp rm ro : ℕ) → (qp * so + sm * qo) * ro ≤ (sp * qo + qm * so) * ro → rm * (so * qo) ≤ rp * (so * qo) → qp * (so * ro) + (sm * ro + rm * so) * qo ≤ (sp * ro + rp * so) * qo + qm * (so * ro)
+keep-nat qp qm qo sp sm so rp rm ro h k = let h' = simp ring at h in let k' = simp ring at k in simp ring (omega arith)
+
+-- what is at most the sum so far is at most the whole
+kept : (l : List Fraction) (q acc : Fraction) → AtMost q acc → AtMost q (sumFrom acc l)
+kept [] q acc h = h
+kept (g ∷ l) q acc h =
+    kept l q (acc ⊕ square g)
+    (keep-nat (q .plus) (q .minus) (q .over) (acc .plus) (acc .minus) (acc .over) (square g .plus) (square g .minus) (square g .over) (mul-le-mul-right (square g .over) h) (mul-le-mul-right (acc .over * q .over) (square-not-below g)))
+
+here-nat : (rp rm ro sp sm so : ℕ) → sm * (ro * ro) ≤ sp * (ro * ro) → rp * (so * ro) + (sm * ro + rm * so) * ro ≤ (sp * ro + rp * so) * ro + rm * (so * ro)
+here-nat rp rm ro sp sm so h = let h' = simp ring at h in simp ring (omega arith)
+
+square-from : (acc : Fraction) (l : List Fraction) → acc .minus ≤ acc .plus → (i : ℕ) (d : Fraction) → i < length l → AtMost (square (getD l i d)) (sumFrom acc l)
+square-from acc [] h i d l = absurd (not-suc-le-zero l)
+square-from acc (g ∷ l) h zero d i = kept l (square g) (acc ⊕ square g) (here-nat (square g .plus) (square g .minus) (square g .over) (acc .plus) (acc .minus) (acc .over) (mul-le-mul-right (square g .over * square g .over) h))
+square-from acc (g ∷ l) h (suc j) d i = square-from (acc ⊕ square g) l (step acc g h) j d (le-of-suc-le-suc i)
+
+pub square-in-sum : (l : List Fraction) (i : ℕ) (d : Fraction) → i < length l → AtMost (square (getD l i d)) (sumSquares l)
+square-in-sum l i d h = square-from (whole 0) l (le-refl 0) i d h
+
+-- ---- as an expression, added up from `acc`
+abbrev pub squaresFrom : Expression → List Expression → Expression
+squaresFrom acc [] = acc
+squaresFrom acc (a ∷ l) = squaresFrom (acc +' a *' a) l
+
+abbrev pub floatSquares : Format → Float → List Float → Float
+floatSquares f acc [] = acc
+floatSquares f acc (x ∷ l) = floatSquares f (add f acc (mul f x x)) l
+
+pub run-squares : (f : Format) (acc : Expression) (l : List Expression) → run f (squaresFrom acc l) ≡ floatSquares f (run f acc) (map (run f) l)
+run-squares f acc [] = refl
+run-squares f acc (a ∷ l) = run-squares f (acc +' a *' a) l
+
+pub exact-squares : (acc : Expression) (l : List Expression) → exact (squaresFrom acc l) ≡ sumFrom (exact acc) (map exact l)
+exact-squares acc [] = refl
+exact-squares acc (a ∷ l) = exact-squares (acc +' a *' a) l

@@ -1,0 +1,4 @@
+-- The words of the promise of `matrix`.
+pub mod Rows
+pub mod Promise
+pub mod Steps

@@ -1,0 +1,48 @@
+-- Document 01, 'Gains': "Binaural rows (002): the literals of 002 for orders 1 to 3, both rows as they stand, times 1.0/root(2.0). Bit-exact." Definitions only. Every literal of 002 is a whole
+-- number of hundredths, so the rows are written as those; the missing and superfluous signs of the right ear, on channels 5, 11 and 14, stand as 002 has them.
+use Prim.Native.Nat.{ℕ, suc, _-_}
+use mathlib.Core.Bool.{true, false, cond}
+use lib.Dec.{eqb}
+use mathlib.Core.List.{List, [], _∷_, _++_}
+use lib.IntN.{ℤ, pos, negsuc}
+use lib.Ieee.{Float, binary64, round}
+use Rattle.rows.specs.Rows.{scaled}
+use Rattle.planes.specs.Normalization.{inverseRoot}
+
+pub data Ear : Type 0 where
+  left : Ear
+  right : Ear
+
+-- -n, for an n above 0
+abbrev minus : ℕ → ℤ
+minus n = negsuc (n - 1)
+
+-- by ear, in hundredths, in ACN order: first, second and third order
+abbrev pub foa : Ear → List ℤ
+foa left = pos 50 ∷ pos 50 ∷ pos 10 ∷ pos 35 ∷ []
+foa right = pos 50 ∷ minus 50 ∷ pos 10 ∷ pos 35 ∷ []
+
+abbrev pub soa : Ear → List ℤ
+soa left = pos 45 ∷ pos 45 ∷ pos 9 ∷ pos 32 ∷ pos 25 ∷ pos 8 ∷ pos 5 ∷ pos 8 ∷ pos 15 ∷ []
+soa right = pos 45 ∷ minus 45 ∷ pos 9 ∷ pos 32 ∷ minus 25 ∷ pos 8 ∷ pos 5 ∷ pos 8 ∷ pos 15 ∷ []
+
+abbrev pub toa : Ear → List ℤ
+toa left = pos 42 ∷ pos 42 ∷ pos 8 ∷ pos 30 ∷ pos 22 ∷ pos 7 ∷ pos 4 ∷ pos 7 ∷ pos 13 ∷ pos 15 ∷ pos 10 ∷ pos 5 ∷ pos 3 ∷ pos 5 ∷ pos 10 ∷ pos 10 ∷ []
+toa right = pos 42 ∷ minus 42 ∷ pos 8 ∷ pos 30 ∷ minus 22 ∷ pos 7 ∷ pos 4 ∷ pos 7 ∷ pos 13 ∷ minus 15 ∷ minus 10 ∷ pos 5 ∷ pos 3 ∷ pos 5 ∷ minus 10 ∷ pos 10 ∷ []
+
+-- by order
+unfoldable pub hundredths : ℕ → Ear → List ℤ
+hundredths n e = cond (eqb n 1) (foa e) (cond (eqb n 2) (soa e) (cond (eqb n 3) (toa e) []))
+
+-- a literal: the f64 nearest to so many hundredths
+unfoldable pub literal : ℤ → Float
+literal (pos n) = round binary64 false n 100
+literal (negsuc n) = round binary64 true (suc n) 100
+
+unfoldable pub literals : List ℤ → List Float
+literals [] = []
+literals (z ∷ zs) = literal z ∷ literals zs
+
+-- both rows, the left ear's first, times 1.0/root(2.0)
+unfoldable pub rows : ℕ → List Float
+rows n = scaled (inverseRoot 2) (literals (hundredths n left) ++ literals (hundredths n right))

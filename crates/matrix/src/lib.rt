@@ -1,0 +1,85 @@
+// Binaural rows (document 01, item 6 and 'Gains', from matrix.rs): the literals of 002 for orders 1 to 3, both
+// ears' rows as they stand, times 1.0/root(2.0). `compute_matrix` puts them into a lent list, the left
+// ear's row and then the right ear's, bit for bit. They are applied as a decoder matrix of two rows, by the
+// decoder's own `process`: no sum stands here.
+//
+// It takes any input; its promise (specs/Promise.antt) is one equation for the refusal and the list. Under
+// it lie `planes` (the inverse of a root), `rows` and `refusals`.
+ghost use mathlib.Core.Path.{_≡_};
+ghost use Rattle.matrix.specs.Promise.{Computes};
+ghost use Rattle.matrix.specs.Steps.{put};
+
+const FOA_LEFT: [f64; 4] = [0.5, 0.5, 0.1, 0.35];
+
+const FOA_RIGHT: [f64; 4] = [0.5, -0.5, 0.1, 0.35];
+
+const SOA_LEFT: [f64; 9] = [0.45, 0.45, 0.09, 0.32, 0.25, 0.08, 0.05, 0.08, 0.15];
+
+const SOA_RIGHT: [f64; 9] = [0.45, -0.45, 0.09, 0.32, -0.25, 0.08, 0.05, 0.08, 0.15];
+
+const TOA_LEFT: [f64; 16] = [
+    0.42,
+    0.42,
+    0.08,
+    0.30,
+    0.22,
+    0.07,
+    0.04,
+    0.07,
+    0.13,
+    0.15,
+    0.10,
+    0.05,
+    0.03,
+    0.05,
+    0.10,
+    0.10,
+];
+
+const TOA_RIGHT: [f64; 16] = [
+    0.42,
+    -0.42,
+    0.08,
+    0.30,
+    -0.22,
+    0.07,
+    0.04,
+    0.07,
+    0.13,
+    -0.15,
+    -0.10,
+    0.05,
+    0.03,
+    0.05,
+    -0.10,
+    0.10,
+];
+
+// Puts the left ear's row and then the right ear's, times 1.0/root(2.0); the refusal.
+fn put_ears(left: &[f64], right: &[f64], weights: &mut [f64]) -> u8
+    ensures { λ r. ⌜ record { refusal = r; weights = now (weights .exit) } ≡ put (now (left .entry)) (now (right .entry)) (now (weights .entry)) ⌝ }
+{
+    if weights.len() != left.len() + right.len() {
+        return 5;
+    }
+    let scale = planes::inverse_root(2);
+    rows::put_row(left, scale, weights, 0);
+    rows::put_row(right, scale, weights, left.len());
+    0
+}
+
+// The binaural rows of an order; the refusal.
+pub fn compute_matrix(order: usize, weights: &mut [f64]) -> u8
+    ensures { λ r. ⌜ Computes order (now (weights .entry)) (record { refusal = r; weights = now (weights .exit) }) ⌝ }
+{
+    if order == 1 {
+        return put_ears(&FOA_LEFT, &FOA_RIGHT, weights);
+    }
+    if order == 2 {
+        return put_ears(&SOA_LEFT, &SOA_RIGHT, weights);
+    }
+    if order == 3 {
+        return put_ears(&TOA_LEFT, &TOA_RIGHT, weights);
+    }
+    1
+}

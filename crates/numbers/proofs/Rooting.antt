@@ -1,0 +1,131 @@
+-- What a program computes against `rootOf`, in every format: k, the number M under the root in units of 2 ^ k, four times, and r, its whole root. Then the root is (r + 1) / 2 times 2 ^ k
+-- units, and its pattern k * hid + (r + 1) / 2 (`rooted`). Assumes nothing.
+use mathlib.Core.Path.{_≡_, refl, sym, ap, _∙_, subst}
+use mathlib.Core.Logic.{inr}
+use Prim.Native.Nat.{ℕ, zero, suc, _+_, _-_, _*_, _/_, _%_, _^_, _≤_, _<_}
+use native.Mathlib.Nat.{mod-lt, zero-lt-suc, mul-one, mul-assoc, mul-le-mul-left, le-trans, le-of-eq, le-of-suc-le-suc, lt-of-lt-of-le, lt-of-le-of-lt, lt-of-not-le, lt-irrefl, mul-le-mul, mul-div-cancel, mul-le-mul-right, mul-lt-mul-of-pos-right, pow-succ', zero-add, min-eq-left}
+use native.Mathlib.Omega.{arith}
+use mathlib.Core.Bool.{true, false, not}
+use lib.Dec.{T}
+use lib.Pow.{pow-pos, pow-mono, pow-add, pow-lt}
+use lib.Ieee.{Float, nan, inf, fin, Format, prec, emax, low, up, down, size, units, hid, ofBits, isNan}
+use lib.Ieee.Digits.{size-le}
+use lib.Ieee.Fits.{two, down-pos}
+use lib.Ieee.Exact.{HasValue}
+use lib.Ieee.Scale.{overflow}
+use lib.Ieee.Positive.{positive}
+use Rattle.formats.proofs.Digits.{size-gt}
+use Rattle.formats.proofs.Patterns.{twice-hid, under-inf, ofBits-units, units-no-nan}
+use Rattle.formats.proofs.Normal.{Scaled}
+use Rattle.numbers.specs.Computed.{WholeRoot, wholeRoot, drops, keeps, rootUnits, rootOf}
+use Rattle.numbers.proofs.Squares.{whole-root-unique, four, four-pow, four-pos}
+
+-- ---- by the units of x
+
+pub rootOf-value : (f : Format) (x : Float) (n : ℕ) → T (positive x) → HasValue x false n (2 ^ low f) → rootOf f x ≡ rootUnits f n
+unfolding rootOf
+rootOf-value f nan n p h = absurd p
+rootOf-value f (inf s) n p h = absurd p
+rootOf-value f (fin true m e) n p h = absurd p
+rootOf-value f (fin false zero e) n p h = absurd p
+rootOf-value f (fin false (suc m) e) n p h = ap (rootUnits f) (ap (λ (x : ℕ). x / down e) (h .1) ∙ mul-div-cancel n (down-pos e))
+
+-- ---- a number with all its digits, by an even exponent: its digits are then one more at most
+pub scaled-half : (f : Format) (n l m e : ℕ) → Scaled f n l m e → (m * 2 ^ (e % 2) * 4 ^ (e / 2) ≡ n * 2 ^ l) × (hid f ≤ m * 2 ^ (e % 2)) × (m * 2 ^ (e % 2) < 4 * hid f)
+scaled-half f n l m e s =
+    let r = e % 2 in
+    let d : r + (e / 2 + e / 2) ≡ e = omega arith in
+    let grown : m ≤ m * 2 ^ r = le-trans (le-of-eq (sym (mul-one m))) (mul-le-mul-left m (pow-pos r)) in
+    let short : m * 2 ^ r ≤ m * 2 = mul-le-mul-left m (pow-mono (le-of-suc-le-suc (mod-lt e (zero-lt-suc 1)))) in (
+      mul-assoc m (2 ^ r) (4 ^ (e / 2)) ∙ ap (λ (x : ℕ). m * (2 ^ r * x)) (four-pow (e / 2)) ∙ ap (λ (x : ℕ). m * x) (sym (pow-add 2 r (e / 2 + e / 2)) ∙ ap (λ (x : ℕ). 2 ^ x) d) ∙ s .value,
+      le-trans (s .least) grown,
+      lt-of-le-of-lt short (quadruple (hid f) m (s .most)),
+    )
+  where
+    quadruple : (h m : ℕ) → m < 2 * h → m * 2 < 4 * h
+    quadruple h m l = omega arith
+
+-- ---- how many digits are dropped
+
+half-size : (a i : ℕ) → 4 ^ i ≤ a → a < 4 ^ suc i → suc (size a) / 2 ≡ suc i
+half-size a i lo hi =
+    half (size a) i (size-gt a (i + i) (subst (λ (x : ℕ). x ≤ a) (four-pow i) lo)) (size-le a (suc i + suc i) (subst (λ (x : ℕ). a < x) (four-pow (suc i)) hi))
+  where
+    half : (z i : ℕ) → i + i < z → z ≤ suc i + suc i → suc z / 2 ≡ suc i
+    half z i l h = omega arith
+
+-- the number under the root in units of 2 ^ k, four times: it has 2 * p + 1 or 2 * p + 2 digits
+pub drops-is : (p a M k : ℕ) → 2 ≤ p → M * 4 ^ k ≡ 4 * a → 4 ^ p ≤ M → M < 4 ^ suc p → drops p a ≡ k
+drops-is p a M k P e lo hi =
+    ap (λ (x : ℕ). x - p) (half-size a (p - 1 + k) (quarter (4 ^ (p - 1 + k)) a (subst (λ (x : ℕ). x ≤ 4 * a) low-is (subst (λ (x : ℕ). 4 ^ p * 4 ^ k ≤ x) e (mul-le-mul-right (4 ^ k) lo))))
+    (quarter-lt a (4 ^ suc (p - 1 + k)) (subst (λ (x : ℕ). 4 * a < x) high-is (subst (λ (x : ℕ). x < 4 ^ suc p * 4 ^ k) e (mul-lt-mul-of-pos-right hi (four-pos k))))))
+    ∙ rest p k P
+  where
+    rest : (p k : ℕ) → 2 ≤ p → suc (p - 1 + k) - p ≡ k
+    rest p k P = omega arith
+
+    quarter : (x a : ℕ) → 4 * x ≤ 4 * a → x ≤ a
+    quarter x a h = omega arith
+
+    quarter-lt : (a x : ℕ) → 4 * a < 4 * x → a < x
+    quarter-lt a x h = omega arith
+
+    same : (p k : ℕ) → 2 ≤ p → p + k ≡ suc (p - 1 + k)
+    same p k P = omega arith
+
+    low-is : 4 ^ p * 4 ^ k ≡ 4 * 4 ^ (p - 1 + k)
+    low-is = sym (pow-add 4 p k) ∙ ap (λ (x : ℕ). 4 ^ x) (same p k P) ∙ pow-succ' 4 (p - 1 + k)
+
+    high-is : 4 ^ suc p * 4 ^ k ≡ 4 * 4 ^ suc (p - 1 + k)
+    high-is = sym (pow-add 4 (suc p) k) ∙ ap (λ (x : ℕ). 4 ^ x) (same (suc p) k (le-trans P (le-suc p))) ∙ pow-succ' 4 (suc p - 1 + k) ∙ ap (λ (x : ℕ). 4 * 4 ^ x) (again p k P)
+      where
+        le-suc : (p : ℕ) → p ≤ suc p
+        le-suc p = omega arith
+
+        again : (p k : ℕ) → 2 ≤ p → suc p - 1 + k ≡ suc (p - 1 + k)
+        again p k P = omega arith
+
+-- ---- the root of such a number has p + 1 digits
+
+pub root-digits : (p M r : ℕ) → 4 ^ p ≤ M → M < 4 ^ suc p → WholeRoot M r → (2 ^ p ≤ r) × (r < 2 ^ suc p)
+root-digits p M r lo hi h = (
+  le-of-suc-le-suc (lt-of-not-le (λ (g : suc r ≤ 2 ^ p). lt-irrefl M (lt-of-lt-of-le (h .1) (le-trans (mul-le-mul g g) (le-trans (le-of-eq (sym (four p))) lo))))),
+  lt-of-not-le (λ (g : 2 ^ suc p ≤ r). lt-irrefl M (lt-of-lt-of-le hi (le-trans (le-of-eq (four (suc p))) (le-trans (mul-le-mul g g) (h .0))))),
+)
+
+pub half-digits : (f : Format) (r : ℕ) → (2 ^ prec f ≤ r) × (r < 2 ^ suc (prec f)) → (hid f ≤ suc r / 2) × (suc r / 2 ≤ 2 * hid f)
+half-digits f r b = go (hid f) (2 ^ prec f) (2 ^ suc (prec f)) (twice-hid f) (pow-succ' 2 (prec f)) (b .0) (b .1)
+  where
+    go : (h a b : ℕ) → a ≡ 2 * h → b ≡ 2 * a → a ≤ r → r < b → (h ≤ suc r / 2) × (suc r / 2 ≤ 2 * h)
+    go h a b e e′ l g = omega arith
+
+-- ---- what a program computes: k, the number M under the root, and r, its whole root
+
+pub rooted : (f : Format) (n M k r : ℕ) → M * 4 ^ k ≡ 4 * (n * 2 ^ low f) → 4 ^ prec f ≤ M → M < 4 ^ suc (prec f) → WholeRoot M r → prec f + k < low f + suc (emax f)
+    → (rootUnits f n ≡ units f false (suc r / 2) k) × (suc r / 2 * 2 ^ k < overflow f) × (ofBits f (k * hid f + suc r / 2) ≡ rootUnits f n)
+unfolding rootUnits
+rooted f n M k r e lo hi h o =
+    let a = n * 2 ^ low f in
+    let q = suc r / 2 in
+    let ke : drops (prec f) a ≡ k = drops-is (prec f) a M k (two f) e lo hi in
+    let me : 4 * a / 4 ^ k ≡ M = ap (λ (x : ℕ). x / 4 ^ k) (sym e) ∙ mul-div-cancel M (four-pos k) in
+    let is : rootUnits f n ≡ units f false q k =
+    ap (λ (x : ℕ). units f false (keeps a x) x) ke ∙ ap (λ (x : ℕ). units f false (suc (wholeRoot x) / 2) k) me ∙ ap (λ (x : ℕ). units f false (suc x / 2) k) (whole-root-unique M r h) in
+    let d = half-digits f r (root-digits (prec f) M r lo hi h) in
+    let fit : q * 2 ^ k < overflow f =
+    lt-of-le-of-lt (mul-le-mul-right (2 ^ k) (subst (λ (x : ℕ). q ≤ x) (sym (twice-hid f)) (d .1))) (subst (λ (x : ℕ). x < overflow f) (pow-add 2 (prec f) k) (pow-lt o)) in
+    let most : q ≤ 2 ^ prec f = subst (λ (x : ℕ). q ≤ x) (sym (twice-hid f)) (d .1) in
+    let read : ofBits f (k * hid f + q) ≡ units f false q k =
+    ap (ofBits f) (sym (zero-add (k * hid f + q) ∙ refl) ∙ ap (λ (x : ℕ). 0 + x) (sym (min-eq-left (under-inf f false q k most (inr (d .0)) fit)))) ∙ ofBits-units f false q k most (inr (d .0)) in
+    (is, fit, read ∙ sym is)
+
+-- ---- the root is no NaN
+pub root-no-nan : (f : Format) (x : Float) → T (not (isNan (rootOf f x)))
+unfolding rootOf rootUnits isNan
+root-no-nan f nan = tt
+root-no-nan f (inf s) = tt
+root-no-nan f (fin s zero e) = tt
+root-no-nan f (fin true (suc m) e) = tt
+root-no-nan f (fin false (suc m) e) =
+    let a = suc m * up e * 2 ^ low f / down e * 2 ^ low f in
+    units-no-nan f false (keeps a (drops (prec f) a)) (drops (prec f) a)

@@ -1,0 +1,53 @@
+-- The whole root of a number: `wholeRoot n` is the largest r whose square is at most n (`whole-root-law`), and the only such r (`whole-root-unique`). Assumes nothing.
+use mathlib.Core.Path.{_≡_, refl, sym, ap, _∙_, subst}
+use Prim.Native.Nat.{ℕ, zero, suc, _+_, _*_, _/_, _^_, _≤_, _<_, zero-le}
+use native.Mathlib.Nat.{le-trans, le-of-eq, le-of-suc-le-suc, le-antisymm, lt-of-lt-of-le, lt-of-not-le, lt-irrefl, zero-lt-suc, mul-mul-mul-comm, mul-le-mul, suc-mul, mul-suc, pow-suc, one-le-pow, div-lt-iff-lt-mul}
+use native.Mathlib.Omega.{arith}
+use mathlib.Core.Bool.{Bool, true, false, not, cond}
+use lib.Dec.{T, leb, leb→le, nleb→lt}
+use lib.Pow.{pow-pos, pow-add}
+use lib.Ieee.{size}
+use lib.Ieee.Digits.{size-lt}
+use Rattle.numbers.specs.Computed.{WholeRoot, digit, rootIn, wholeRoot}
+
+pub sq-suc : (r : ℕ) → suc r * suc r ≡ r * r + 2 * r + 1
+sq-suc r = omega (arith, suc-mul r (suc r), mul-suc r r)
+
+pub sq-twice : (r : ℕ) → 2 * r * (2 * r) ≡ 4 * (r * r)
+sq-twice r = mul-mul-mul-comm 2 r 2 r
+
+digit-law : (n r : ℕ) → WholeRoot (n / 4) r → WholeRoot n (digit n (2 * r))
+digit-law n r h = go (leb (suc (2 * r) * suc (2 * r)) n) (leb→le (suc (2 * r) * suc (2 * r)) n) (nleb→lt (suc (2 * r) * suc (2 * r)) n)
+  where
+    go : (b : Bool) → (T b → suc (2 * r) * suc (2 * r) ≤ n) → (T (not b) → n < suc (2 * r) * suc (2 * r)) → WholeRoot n (cond b (suc (2 * r)) (2 * r))
+    go true t k = (t tt, omega (arith, h, sq-suc r, sq-twice r, sq-suc (2 * r), sq-suc (suc (2 * r))))
+    go false t k = (omega (arith, h, sq-twice r), k tt)
+
+rootIn-law : (d n : ℕ) → n < 4 ^ d → WholeRoot n (rootIn d n)
+unfolding rootIn
+rootIn-law zero n h = (zero-le, h)
+rootIn-law (suc d) n h = digit-law n (rootIn d (n / 4)) (rootIn-law d (n / 4) (div-lt-iff-lt-mul (zero-lt-suc 3) .1 (subst (λ (x : ℕ). n < x) (pow-suc 4 d) h)))
+
+pub four : (d : ℕ) → 4 ^ d ≡ 2 ^ d * 2 ^ d
+four zero = refl
+four (suc d) = pow-suc 4 d ∙ ap (λ (x : ℕ). x * 4) (four d) ∙ sym (mul-mul-mul-comm (2 ^ d) 2 (2 ^ d) 2) ∙ ap (λ (x : ℕ). x * x) (sym (pow-suc 2 d))
+
+pub four-pow : (i : ℕ) → 4 ^ i ≡ 2 ^ (i + i)
+four-pow i = four i ∙ sym (pow-add 2 i i)
+
+pub four-pos : (i : ℕ) → 0 < 4 ^ i
+four-pos i = one-le-pow i 4 (zero-lt-suc 3)
+
+pub whole-root-law : (n : ℕ) → WholeRoot n (wholeRoot n)
+unfolding wholeRoot
+whole-root-law n = rootIn-law (size n) n (lt-of-lt-of-le (size-lt n) (le-trans (grow (2 ^ size n) (pow-pos (size n))) (le-of-eq (sym (four (size n))))))
+  where
+    grow : (p : ℕ) → 0 < p → p ≤ p * p
+    grow (suc p) h = omega (arith, suc-mul p (suc p))
+
+pub root-le : (a b r s : ℕ) → a ≤ b → WholeRoot a r → WholeRoot b s → r ≤ s
+root-le a b r s l h k =
+    le-of-suc-le-suc (lt-of-not-le (λ (g : suc s ≤ r). lt-irrefl b (lt-of-lt-of-le (k .1) (le-trans (mul-le-mul g g) (le-trans (h .0) l)))))
+
+pub whole-root-unique : (n r : ℕ) → WholeRoot n r → wholeRoot n ≡ r
+whole-root-unique n r h = le-antisymm (root-le n n (wholeRoot n) r (le-of-eq refl) (whole-root-law n) h) (root-le n n r (wholeRoot n) (le-of-eq refl) h (whole-root-law n))

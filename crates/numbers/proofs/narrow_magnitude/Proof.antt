@@ -1,0 +1,95 @@
+-- `numbers::narrow_magnitude` meets its contract: each arm is a case of `Narrowing`. Assumes nothing.
+use borrow.Author.Needs.{needs}
+use mathlib.Core.Path.{_≡_, sym, ap, _∙_}
+use Prim.Native.Nat.{ℕ, _+_, _-_, _*_, _≤_, min}
+use native.Mathlib.Nat.{le-trans, le-of-eq, min-eq-left, min-eq-right}
+use native.Mathlib.Omega.{arith}
+use mathlib.Core.Bool.{Bool, true, cond}
+use lib.Ieee.{binary32, binary64, ofFields, toBits}
+use Rattle.numbers.specs.Computed.{narrowed}
+use Rattle.numbers.proofs.Narrowing.{tiny, subnormal, normal, subnormal-digits, normal-digits}
+use Rattle.numbers.proofs.narrow_magnitude.Statement.{statement}
+use Rattle.numbers.proofs.narrow_magnitude.Tie as tie
+
+-- what the shifts leave
+shifted : (c : tie.After-nearest-shift) → c .nearest-shift .result ≤ 16777216
+shifted c =
+    let a = c .before .before .before in
+    le-trans (le-of-eq (c .nearest-shift .ensures)) (subnormal-digits true (a .args .e) (a .args .d) (a .pre .1 .0) (c .before .if2 .taken))
+
+shifted-2 : (c : tie.After-nearest-shift2) → c .nearest-shift2 .result ≤ 16777216
+shifted-2 c =
+    let a = c .before .before .before in
+    le-trans (le-of-eq (c .nearest-shift2 .ensures)) (normal-digits true (a .args .e) (a .args .d) (a .pre .1 .0))
+
+add-nearest-shift : tie.Need-add-nearest-shift
+add-nearest-shift c = search needs
+
+sub-nearest-shift : tie.Need-sub-nearest-shift
+sub-nearest-shift c = search needs
+
+nearest-shift-requires : tie.Need-nearest-shift-requires
+nearest-shift-requires c κs = search needs
+
+cast-result : tie.Need-cast-result
+cast-result c = omega (arith, shifted c)
+
+mul-n : tie.Need-mul-n
+mul-n c = search needs
+
+add-nearest-shift-2 : tie.Need-add-nearest-shift-2
+add-nearest-shift-2 c = search needs
+
+nearest-shift-requires-2 : tie.Need-nearest-shift-requires-2
+nearest-shift-requires-2 c κs = search needs
+
+add-n : tie.Need-add-n
+add-n c = omega (arith, shifted-2 c)
+
+cast-result-2 : tie.Need-cast-result-2
+cast-result-2 c = search needs
+
+returns : tie.Need-returns
+returns c = ((λ s. tiny s (c .before .args .e) (c .before .args .d) (c .before .pre .1 .0) (c .if1 .taken)), omega arith)
+
+returns-2 : tie.Need-returns-2
+returns-2 c =
+    let a = c .before .before .before in (
+      (λ s.
+          subnormal s (a .args .e) (a .args .d) (a .pre .1 .0) (c .before .before .if1 .left) (c .before .if2 .taken)
+          ∙ ap (λ (x : ℕ). cond s 2147483648 0 + x) (sym (c .nearest-shift .ensures))),
+      omega (arith, shifted c),
+    )
+
+-- the pattern, cut at the infinity's
+cut : (c : tie.After-nearest-shift2) (s : Bool)
+    → toBits binary32 (narrowed (ofFields binary64 s (c .before .before .before .args .e) (c .before .before .before .args .d)))
+    ≡ cond s 2147483648 0 + min ((c .before .before .before .args .e - 897) * 8388608 + c .nearest-shift2 .result) 2139095040
+cut c s =
+    let a = c .before .before .before in
+    normal s (a .args .e) (a .args .d) (a .pre .1 .0) (c .before .if2 .left) (a .pre .0) (a .pre .1 .1)
+    ∙ ap (λ (x : ℕ). cond s 2147483648 0 + min ((a .args .e - 897) * 8388608 + x) 2139095040) (sym (c .nearest-shift2 .ensures))
+
+returns-3 : tie.Need-returns-3
+returns-3 c = ((λ s. cut (c .before) s ∙ ap (λ (x : ℕ). cond s 2147483648 0 + x) (min-eq-left (omega arith))), omega arith)
+
+returns-4 : tie.Need-returns-4
+returns-4 c = ((λ s. cut (c .before) s ∙ ap (λ (x : ℕ). cond s 2147483648 0 + x) (min-eq-right (c .if3 .left))), omega arith)
+
+pub narrow-magnitude-spec : {M : Type 1} → statement M
+narrow-magnitude-spec =
+    tie.close
+    (tie.spec
+    add-nearest-shift
+    sub-nearest-shift
+    nearest-shift-requires
+    cast-result
+    mul-n
+    add-nearest-shift-2
+    nearest-shift-requires-2
+    add-n
+    cast-result-2
+    returns
+    returns-2
+    returns-3
+    returns-4)

@@ -1,0 +1,21 @@
+-- What each public function promises: the answer by an equation, which leaves no second answer, and beside it what document 01 says of it. Definitions only.
+use mathlib.Core.Path.{_≡_}
+use mathlib.Core.Bool.{Bool}
+use lib.IntN.{pos}
+use lib.Dec.{T}
+use lib.Ieee.{Float, fin, binary32, binary64}
+use lib.Ieee.Positive.{positive}
+use Rattle.numbers.specs.Conversions.{Narrows}
+use Rattle.numbers.specs.Roots.{rootless, NearestRoot}
+use Rattle.numbers.specs.Computed.{narrowed, zero-float, rootAnswer}
+use Rattle.numbers.specs.declared.Rooted.{Rooted}
+
+pub record Narrowed (x r : Float) : Type 0 where
+  pub bits : r ≡ narrowed x
+  pub law : Narrows binary32 x r
+
+pub record Root (x : Float) (r : Rooted) : Type 0 where
+  pub answer : r ≡ rootAnswer x
+  pub refused : T (rootless x) → (r .refusal ≡ 10) × (r .value ≡ zero-float)
+  pub kept : (s : Bool) → x ≡ fin s 0 (pos 0) → (r .refusal ≡ 0) × (r .value ≡ x)
+  pub nearest : T (positive x) → (r .refusal ≡ 0) × NearestRoot binary64 x (r .value)

@@ -1,0 +1,88 @@
+-- Chains of tests, gone through one by one, and loops that stop at the first test that passes. Assumes nothing.
+use mathlib.Core.Path.{_≡_, refl, sym, ap, _∙_}
+use mathlib.Core.Bool.{Bool, true, false, not, _||_, true≢false}
+use mathlib.Core.List.{List, [], _∷_}
+use Prim.Native.Nat.{ℕ, zero, suc, _+_, _-_, _≤_, _<_, zero-le}
+use native.Mathlib.Nat.{not-suc-le-zero, add-zero, add-suc, suc-add}
+use native.Mathlib.Omega.{arith}
+use lib.ListN.{length, getD, take, drop}
+use lib.Dec.{eqb}
+use borrow.Author.Tests.{eqb-true, not-false}
+use lib.Ieee.{Float, nan}
+use lib.Ieee.Scale.{finite}
+use Rattle.planes.specs.Tables.{tab, any, unsound}
+use Rattle.planes.specs.Planes.{sampleAt}
+use Rattle.planes.proofs.Tables.{tab-shift, tab-more, tab-none, tab-all}
+
+-- ---- the first that holds makes an `||` true; one that does not leaves it to the rest
+
+pub or-yes : (a b : Bool) → a ≡ true → true ≡ (a || b)
+or-yes a b e = ap (λ (t : Bool). t || b) (sym e)
+
+pub or-next : (a b x : Bool) → a ≡ false → x ≡ b → x ≡ (a || b)
+or-next a b x e n = n ∙ ap (λ (t : Bool). t || b) (sym e)
+
+pub or-off : (a b : Bool) → (a || b) ≡ false → (a ≡ false) × (b ≡ false)
+or-off true b e = absurd (true≢false e)
+or-off false b e = (refl, e)
+
+pub any-off : (i n : ℕ) (f : ℕ → Bool) → any (tab i n f) ≡ false → (k : ℕ) → k < n → f (i + k) ≡ false
+any-off i zero f e k h = absurd (not-suc-le-zero h)
+any-off i (suc n) f e zero h = ap f (add-zero i) ∙ or-off (f i) (any (tab (suc i) n f)) e .0
+any-off i (suc n) f e (suc k) h = ap f (add-suc i k ∙ sym (suc-add i k)) ∙ any-off (suc i) n f (or-off (f i) (any (tab (suc i) n f)) e .1) k (omega arith)
+
+-- a length that was tested is that product
+pub is-equal : (a b : ℕ) → not (eqb a b) ≡ false → a ≡ b
+is-equal a b e = eqb-true a b (not-false (eqb a b) e)
+
+-- ---- a loop over places 0, 1, .. that stops at the first of which f holds
+
+pub record Passing (f : ℕ → Bool) (n s : ℕ) : Type 0 where
+  pub below : s ≤ n
+  pub same : any (tab s (n - s) f) ≡ any (tab 0 n f)
+
+module _ (f : ℕ → Bool) (n : ℕ) where
+  pub passing-none : Passing f n 0
+  passing-none = record { below = zero-le; same = ap any (tab-all n f) }
+
+  pub passing-more : (s : ℕ) → Passing f n s → s < n → f s ≡ false → Passing f n (s + 1)
+  passing-more s p h e =
+      record { below = omega arith; same = ap (λ (b : Bool). b || any (tab (s + 1) (n - (s + 1)) f)) (sym e) ∙ ap any (sym (tab-more n s f h)) ∙ p .same }
+
+  pub passing-found : (s : ℕ) → Passing f n s → s < n → f s ≡ true → true ≡ any (tab 0 n f)
+  passing-found s p h e = ap (λ (b : Bool). b || any (tab (s + 1) (n - (s + 1)) f)) (sym e) ∙ ap any (sym (tab-more n s f h)) ∙ p .same
+
+  pub passing-all : (s : ℕ) → Passing f n s → n ≤ s → false ≡ any (tab 0 n f)
+  passing-all s p h = ap any (sym (tab-none n s f h)) ∙ p .same
+
+-- ---- floats that are NaN or infinite
+
+pub unsound-tab : (i n : ℕ) (f : ℕ → Float) → any (tab i n (λ k. not (finite (f k)))) ≡ unsound (tab i n f)
+unsound-tab i zero f = refl
+unsound-tab i (suc n) f = ap (λ (b : Bool). not (finite (f i)) || b) (unsound-tab (suc i) n f)
+
+-- of plane k in a frame, and at a place of a list
+abbrev pub wrongIn : List Float → ℕ → ℕ → ℕ → Bool
+wrongIn xs stride n k = not (finite (sampleAt xs stride k n))
+
+abbrev pub wrongAt : List Float → ℕ → Bool
+wrongAt xs i = not (finite (getD xs i nan))
+
+pub unsound-any : (xs : List Float) → any (tab 0 (length xs) (wrongAt xs)) ≡ unsound xs
+unsound-any [] = refl
+unsound-any (x ∷ xs) = ap (λ (b : Bool). not (finite x) || b) (ap any (tab-shift 0 (length xs) (wrongAt (x ∷ xs))) ∙ unsound-any xs)
+
+-- what is sound is sound in its parts
+
+pub sound-take : (n : ℕ) (xs : List Float) → unsound xs ≡ false → unsound (take n xs) ≡ false
+sound-take zero xs h = refl
+sound-take (suc n) [] h = refl
+sound-take (suc n) (x ∷ xs) h = sym (or-next (not (finite x)) (unsound (take n xs)) false (o .0) (sym (sound-take n xs (o .1))))
+  where
+    o : (not (finite x) ≡ false) × (unsound xs ≡ false)
+    o = or-off (not (finite x)) (unsound xs) h
+
+pub sound-drop : (n : ℕ) (xs : List Float) → unsound xs ≡ false → unsound (drop n xs) ≡ false
+sound-drop zero xs h = h
+sound-drop (suc n) [] h = refl
+sound-drop (suc n) (x ∷ xs) h = sound-drop n xs (or-off (not (finite x)) (unsound xs) h .1)

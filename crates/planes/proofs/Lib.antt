@@ -1,0 +1,11 @@
+-- Laws that crates above cite: of lists and tables, of chains of tests, of planes and of ordered sums. Then those of this crate's loops, and that no two answers meet one promise.
+pub mod Lists
+pub mod Tables
+pub mod Checks
+pub mod Planes
+pub mod Sums
+pub mod Silence
+pub mod Framing
+mod Tests
+mod Mixing
+mod Unique

@@ -1,0 +1,106 @@
+-- What the loops of `mix` and `mix_frame` keep: the sum so far, gone on with over the channels that are left, and the frames so far, gone on with over the outputs that are left. Assumes nothing.
+use mathlib.Core.Path.{_≡_, refl, sym, ap, _∙_}
+use mathlib.Core.List.{List}
+use Prim.Native.Nat.{ℕ, suc, _+_, _-_, _*_, _≤_, _<_, min, zero-le}
+use native.Mathlib.Nat.{zero-add, zero-mul, suc-mul}
+use native.Mathlib.Numerals.{add-one}
+use native.Mathlib.Omega.{arith}
+use lib.ListN.{length, getD, take, drop, length-set, length-take, length-drop}
+use lib.Ieee.{Float, nan, binary64, add, mul}
+use Rattle.numbers.specs.Computed.{narrowed, zero-float}
+use Rattle.planes.specs.Tables.{tab, row}
+use Rattle.planes.specs.Planes.{sampleAt, frameAt, withSample, withFrameFrom, withFrame}
+use Rattle.planes.specs.Sums.{dot, mixed, mixedAll}
+use Rattle.planes.proofs.Lists.{getD-min, drop-min, take-min}
+use Rattle.planes.proofs.Tables.{length-tab, getD-tab, take-tab, tab-more, tab-none, tab-all}
+use Rattle.planes.proofs.Sums.{dot-more, dot-done, dot-take}
+
+-- ---- the loop over channels
+
+pub record Mixing (weights inputs : List Float) (stride frame : ℕ) (sum : Float) (at c : ℕ) : Type 0 where
+  pub below : c ≤ length weights
+  pub place : at ≡ min (c * stride + frame) (length inputs)
+  pub summed : dot sum (drop c (frameAt inputs stride (length weights) frame)) (drop c weights) ≡ dot zero-float (frameAt inputs stride (length weights) frame) weights
+
+module _ (weights inputs : List Float) (stride frame : ℕ) where
+  -- the sample of channel c
+  there : ℕ → Float
+  there c = sampleAt inputs stride c frame
+
+  pub mixing-none : (at : ℕ) → at ≡ min (0 + frame) (length inputs) → Mixing weights inputs stride frame zero-float at 0
+  mixing-none at e = record { below = zero-le; place = e ∙ ap (λ (k : ℕ). min (k + frame) (length inputs)) (sym (zero-mul stride)); summed = refl }
+
+  pub mixing-more : (sum : Float) (at c : ℕ) (x : Float) (next : ℕ) → Mixing weights inputs stride frame sum at c → c < length weights → x ≡ getD inputs at nan → next ≡ min (at + stride) (length inputs)
+      → Mixing weights inputs stride frame (add binary64 sum (mul binary64 x (getD weights c nan))) next (c + 1)
+  unfolding there
+  mixing-more sum at c x next m h ex en =
+      record {
+        below = omega arith;
+        place = omega (arith, m .place, en, ap (λ (k : ℕ). k * stride) (add-one c) ∙ suc-mul c stride);
+        summed =
+            dot-more (frameAt inputs stride (length weights) frame) weights c sum x (getD weights c nan) (omega (arith, length-tab 0 (length weights) there)) h
+            (ex ∙ getD-min inputs (c * stride + frame) at nan (m .place) ∙ sym (getD-tab 0 (length weights) there c nan h ∙ ap there (zero-add c))) refl
+            ∙ m .summed;
+      }
+
+  pub mixing-all : (sum : Float) (at c : ℕ) (r : Float) → Mixing weights inputs stride frame sum at c → length weights ≤ c → r ≡ narrowed sum
+      → r ≡ mixed weights (frameAt inputs stride (length weights) frame)
+  unfolding mixed there
+  mixing-all sum at c r m h e =
+      e ∙ ap narrowed (sym (dot-done sum (frameAt inputs stride (length weights) frame) weights c (omega (arith, length-tab 0 (length weights) there))) ∙ m .summed)
+
+-- ---- a row of the weights, handed on as a part
+
+pub row-part : (n i : ℕ) (xs : List Float) (from to : ℕ) → from ≡ min (i * n + 0) (length xs) → to ≡ min (from + n) (length xs) → take (to - from) (drop from xs) ≡ row n i xs
+row-part n i xs from to ef et = take-min (drop from xs) n (to - from) (omega (arith, length-drop from xs)) ∙ ap (take n) (drop-min xs (i * n) from (omega arith))
+
+-- a row is no longer than n, so that it does not reach further channels
+pub mixed-row : (n i : ℕ) (weights inputs : List Float) (stride frame : ℕ)
+    → mixed (row n i weights) (frameAt inputs stride (length (row n i weights)) frame) ≡ mixed (row n i weights) (frameAt inputs stride n frame)
+unfolding mixed
+mixed-row n i weights inputs stride frame =
+    ap narrowed
+    (ap (λ (f : List Float). dot zero-float f (row n i weights)) (sym (take-tab 0 (length (row n i weights)) n (λ p. sampleAt inputs stride p frame) (omega (arith, length-take n (drop (i * n) weights)))))
+    ∙ dot-take (length (row n i weights)) zero-float (frameAt inputs stride n frame) (row n i weights) (omega arith))
+
+-- ---- the loop over outputs
+
+pub record Laying (out₀ : List Float) (stride₁ frame₁ outputs : ℕ) (weights : List Float) (channels : ℕ) (inputs : List Float) (stride frame : ℕ) (out : List Float) (o : ℕ) : Type 0 where
+  pub below : o ≤ outputs
+  pub long : length out ≡ length out₀
+  pub laid :
+      withFrameFrom o out stride₁ frame₁ (tab o (outputs - o) (λ k. mixed (row channels k weights) (frameAt inputs stride channels frame)))
+      ≡ withFrame out₀ stride₁ frame₁ (mixedAll outputs channels weights (frameAt inputs stride channels frame))
+
+module _ (out₀ : List Float) (stride₁ frame₁ outputs : ℕ) (weights : List Float) (channels : ℕ) (inputs : List Float) (stride frame : ℕ) where
+  -- output o of the frame
+  output : ℕ → Float
+  output o = mixed (row channels o weights) (frameAt inputs stride channels frame)
+
+  pub laying-none : Laying out₀ stride₁ frame₁ outputs weights channels inputs stride frame out₀ 0
+  unfolding output
+  laying-none = record { below = zero-le; long = refl; laid = ap (withFrameFrom 0 out₀ stride₁ frame₁) (tab-all outputs output) }
+
+  pub laying-more : (out : List Float) (o from to : ℕ) (x : Float) (out₁ : List Float) → Laying out₀ stride₁ frame₁ outputs weights channels inputs stride frame out o → o < outputs
+      → from ≡ min (o * channels + 0) (length weights) → to ≡ min (from + channels) (length weights)
+      → x ≡ mixed (take (to - from) (drop from weights)) (frameAt inputs stride (length (take (to - from) (drop from weights))) frame)
+      → out₁ ≡ withSample out stride₁ o frame₁ x
+      → Laying out₀ stride₁ frame₁ outputs weights channels inputs stride frame out₁ (o + 1)
+  unfolding output
+  laying-more out o from to x out₁ l h ef et ex eo =
+      record {
+        below = omega arith;
+        long = ap length eo ∙ length-set out (o * stride₁ + frame₁) x ∙ l .long;
+        laid =
+            ap (λ (k : ℕ). withFrameFrom k out₁ stride₁ frame₁ (tab (o + 1) (outputs - (o + 1)) output)) (add-one o)
+            ∙ ap (λ (ys : List Float). withFrameFrom (suc o) ys stride₁ frame₁ (tab (o + 1) (outputs - (o + 1)) output))
+            (eo ∙ ap (withSample out stride₁ o frame₁)
+            (ex ∙ ap (λ (ws : List Float). mixed ws (frameAt inputs stride (length ws) frame)) (row-part channels o weights from to ef et) ∙ mixed-row channels o weights inputs stride frame))
+            ∙ sym (ap (withFrameFrom o out stride₁ frame₁) (tab-more outputs o output h))
+            ∙ l .laid;
+      }
+
+  pub laying-all : (out : List Float) (o : ℕ) → Laying out₀ stride₁ frame₁ outputs weights channels inputs stride frame out o → outputs ≤ o
+      → out ≡ withFrame out₀ stride₁ frame₁ (mixedAll outputs channels weights (frameAt inputs stride channels frame))
+  unfolding output
+  laying-all out o l h = ap (withFrameFrom o out stride₁ frame₁) (sym (tab-none outputs o output h)) ∙ l .laid

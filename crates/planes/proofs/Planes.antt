@@ -1,0 +1,149 @@
+-- Laws of planes: a frame that was written is read back, and everything else is as it was. Assumes nothing.
+use mathlib.Core.Path.{_≡_, refl, sym, ap, _∙_}
+use mathlib.Core.Logic.{⊎-elim}
+use mathlib.Core.List.{List, [], _∷_}
+use Prim.Native.Nat.{ℕ, zero, suc, _+_, _*_, _≤_, _<_, suc-le-suc}
+use native.Mathlib.Nat.{not-suc-le-zero, le-of-suc-le-suc, mul-le-mul-right, suc-mul, add-zero, zero-add, suc-add, add-suc}
+use native.Mathlib.Decide.{ℕ-discrete}
+use native.Mathlib.Omega.{arith}
+use lib.ListN.{length, getD, set, drop, length-set}
+use lib.Seq.{getD-set-same, getD-set-other, getD-take, getD-drop, ext-getD}
+use lib.Ieee.{Float, nan}
+use Rattle.planes.specs.Tables.{tab, row}
+use Rattle.planes.specs.Planes.{sampleAt, frameAt, withSample, withFrameFrom, withFrame, withFrames}
+use Rattle.planes.proofs.Lists.{split}
+use Rattle.planes.proofs.Tables.{length-tab, getD-tab, length-row}
+
+-- ---- places
+
+-- plane p ends before a later one begins
+pub plane-before : (stride p q n : ℕ) → p < q → n < stride → p * stride + n < q * stride
+plane-before stride p q n h b = omega (arith, mul-le-mul-right stride h, suc-mul p stride)
+
+-- two places are the same only in one plane
+pub same-plane : (stride p q n m : ℕ) → n < stride → m < stride → p * stride + n ≡ q * stride + m → p ≡ q
+same-plane stride p q n m hn hm e =
+    ⊎-elim
+    (λ (lt : p < q). absurd (below lt))
+    (λ (ge : q ≤ p). ⊎-elim (λ (lt : q < p). absurd (above lt)) (λ (le : p ≤ q). omega arith) (split q p))
+    (split p q)
+  where
+    below : p < q → ⊥
+    below lt = omega (arith, plane-before stride p q n lt hn)
+
+    above : q < p → ⊥
+    above lt = omega (arith, plane-before stride q p m lt hm)
+
+pub same-frame : (stride p q n m : ℕ) → n < stride → m < stride → p * stride + n ≡ q * stride + m → n ≡ m
+same-frame stride p q n m hn hm e = omega (arith, e, ap (λ (k : ℕ). k * stride) (same-plane stride p q n m hn hm e))
+
+-- a place of one of so many planes lies inside
+pub inside : (planes stride p n room : ℕ) → p < planes → n < stride → room ≡ planes * stride → p * stride + n < room
+inside planes stride p n room hp hn e = omega (arith, plane-before stride p planes n hp hn)
+
+-- ---- a frame
+
+pub length-with-frame : (p : ℕ) (xs : List Float) (stride n : ℕ) (f : List Float) → length (withFrameFrom p xs stride n f) ≡ length xs
+length-with-frame p xs stride n [] = refl
+length-with-frame p xs stride n (x ∷ f) = length-with-frame (suc p) (withSample xs stride p n x) stride n f ∙ length-set xs (p * stride + n) x
+
+pub with-frame-other : (p : ℕ) (xs : List Float) (stride n : ℕ) (f : List Float) (i : ℕ) → ((k : ℕ) → k < length f → i ≡ (p + k) * stride + n → ⊥)
+    → getD (withFrameFrom p xs stride n f) i nan ≡ getD xs i nan
+with-frame-other p xs stride n [] i h = refl
+with-frame-other p xs stride n (x ∷ f) i h =
+    with-frame-other (suc p) (withSample xs stride p n x) stride n f i (λ k lt e. h (suc k) (suc-le-suc lt) (e ∙ ap (λ (q : ℕ). q * stride + n) (suc-add p k ∙ sym (add-suc p k))))
+    ∙ getD-set-other xs (p * stride + n) i x nan (λ e. h 0 (suc-le-suc (omega arith)) (e ∙ ap (λ (q : ℕ). q * stride + n) (sym (add-zero p))))
+
+pub with-frame-at : (p : ℕ) (xs : List Float) (stride n : ℕ) (f : List Float) (k : ℕ) → k < length f → n < stride → (p + k) * stride + n < length xs
+    → getD (withFrameFrom p xs stride n f) ((p + k) * stride + n) nan ≡ getD f k nan
+with-frame-at p xs stride n [] k lt hn room = absurd (not-suc-le-zero lt)
+with-frame-at p xs stride n (x ∷ f) zero lt hn room =
+    with-frame-other (suc p) (withSample xs stride p n x) stride n f ((p + 0) * stride + n) (λ k h e. later k (same-plane stride (p + 0) (suc p + k) n n hn hn e))
+    ∙ ap (λ (q : ℕ). getD (withSample xs stride p n x) (q * stride + n) nan) (add-zero p)
+    ∙ getD-set-same xs (p * stride + n) x nan (rw add-zero at room)
+  where
+    later : (k : ℕ) → p + 0 ≡ suc p + k → ⊥
+    later k e = omega arith
+with-frame-at p xs stride n (x ∷ f) (suc k) lt hn room =
+    ap (λ (q : ℕ). getD (withFrameFrom (suc p) (withSample xs stride p n x) stride n f) (q * stride + n) nan) (move p k)
+    ∙ with-frame-at (suc p) (withSample xs stride p n x) stride n f k (le-of-suc-le-suc lt) hn (rw (length-set, ← move p k) room)
+  where
+    move : (p k : ℕ) → p + suc k ≡ suc p + k
+    move p k = omega arith
+
+-- what was written as a frame is read as one
+pub frame-read : (xs : List Float) (stride n : ℕ) (f : List Float) → n < stride → length xs ≡ length f * stride → frameAt (withFrame xs stride n f) stride (length f) n ≡ f
+frame-read xs stride n f hn e =
+    ext-getD nan (tab 0 (length f) sample) f (length-tab 0 (length f) sample)
+    (λ k lt. let k<f : k < length f = omega (arith, lt, length-tab 0 (length f) sample) in
+    getD-tab 0 (length f) sample k nan k<f ∙ with-frame-at 0 xs stride n f k k<f hn (rw zero-add (inside (length f) stride k n (length xs) k<f hn e)))
+  where
+    sample : ℕ → Float
+    sample p = sampleAt (withFrame xs stride n f) stride p n
+
+-- the row of plane p has that sample of the frame at n, and all else as it was
+pub row-with-frame : (planes : ℕ) (xs : List Float) (stride n : ℕ) (f : List Float) (p : ℕ) → p < length f → n < stride → length xs ≡ planes * stride → length f ≤ planes
+    → row stride p (withFrame xs stride n f) ≡ set (row stride p xs) n (getD f p nan)
+row-with-frame planes xs stride n f p hp hn e few =
+    ext-getD nan (row stride p (withFrame xs stride n f)) (set (row stride p xs) n (getD f p nan)) same-length
+    (λ i lt. let i<s : i < stride = omega (arith, lt, new-length) in read i i<s ∙ elim (ℕ-discrete i n) [
+      | yes q ↦ ap (λ (j : ℕ). getD (withFrame xs stride n f) (p * stride + j) nan) q
+          ∙ ap (λ (r : ℕ). getD (withFrame xs stride n f) (r * stride + n) nan) (sym (zero-add p))
+          ∙ with-frame-at 0 xs stride n f p hp hn (rw zero-add (room n hn))
+          ∙ sym (ap (λ (j : ℕ). getD (set (row stride p xs) n (getD f p nan)) j nan) q ∙ getD-set-same (row stride p xs) n (getD f p nan) nan (rw old-length hn))
+      | no q ↦ with-frame-other 0 xs stride n f (p * stride + i) (λ k h z. q (same-frame stride p (0 + k) i n i<s hn z))
+          ∙ sym (getD-set-other (row stride p xs) n i (getD f p nan) nan q ∙ getD-take stride (drop (p * stride) xs) i nan i<s ∙ getD-drop (p * stride) xs i nan)
+    ])
+  where
+    among : p < planes
+    among = omega (arith, hp, few)
+
+    room : (m : ℕ) → m < stride → p * stride + m < length xs
+    room m hm = inside planes stride p m (length xs) among hm e
+
+    old-length : length (row stride p xs) ≡ stride
+    old-length = length-row stride p planes xs among e
+
+    new-length : length (row stride p (withFrame xs stride n f)) ≡ stride
+    new-length = length-row stride p planes (withFrame xs stride n f) among (length-with-frame 0 xs stride n f ∙ e)
+
+    same-length : length (row stride p (withFrame xs stride n f)) ≡ length (set (row stride p xs) n (getD f p nan))
+    same-length = new-length ∙ sym (length-set (row stride p xs) n (getD f p nan) ∙ old-length)
+
+    read : (i : ℕ) → i < stride → getD (row stride p (withFrame xs stride n f)) i nan ≡ getD (withFrame xs stride n f) (p * stride + i) nan
+    read i h = getD-take stride (drop (p * stride) (withFrame xs stride n f)) i nan h ∙ getD-drop (p * stride) (withFrame xs stride n f) i nan
+
+-- ---- frames one after another
+
+pub length-with-frames : (xs : List Float) (stride n : ℕ) (fs : List (List Float)) → length (withFrames xs stride n fs) ≡ length xs
+length-with-frames xs stride n [] = refl
+length-with-frames xs stride n (f ∷ fs) = length-with-frames (withFrame xs stride n f) stride (suc n) fs ∙ length-with-frame 0 xs stride n f
+
+-- what is not among the frames written is as it was
+pub with-frames-other : (xs : List Float) (stride n : ℕ) (fs : List (List Float)) (p m : ℕ) → m < stride → n + length fs ≤ stride → ((k : ℕ) → k < length fs → m ≡ n + k → ⊥)
+    → sampleAt (withFrames xs stride n fs) stride p m ≡ sampleAt xs stride p m
+with-frames-other xs stride n [] p m hm room h = refl
+with-frames-other xs stride n (f ∷ fs) p m hm room h =
+    with-frames-other (withFrame xs stride n f) stride (suc n) fs p m hm (omega arith) (λ k lt e. h (suc k) (suc-le-suc lt) (omega arith))
+    ∙ with-frame-other 0 xs stride n f (p * stride + m) (λ k lt e. h 0 (suc-le-suc (omega arith)) (here (same-frame stride p (0 + k) m n hm (omega arith) e)))
+  where
+    here : m ≡ n → m ≡ n + 0
+    here e = omega arith
+
+pub with-frames-at : (planes : ℕ) (xs : List Float) (stride n : ℕ) (fs : List (List Float)) (p k : ℕ) → k < length fs → p < planes → n + length fs ≤ stride → length xs ≡ planes * stride
+    → ((j : ℕ) → j < length fs → length (getD fs j []) ≡ planes) → sampleAt (withFrames xs stride n fs) stride p (n + k) ≡ getD (getD fs k []) p nan
+with-frames-at planes xs stride n [] p k lt hp room e each = absurd (not-suc-le-zero lt)
+with-frames-at planes xs stride n (f ∷ fs) p zero lt hp room e each =
+    with-frames-other (withFrame xs stride n f) stride (suc n) fs p (n + 0) (omega arith) (omega arith) (λ k h q. omega arith)
+    ∙ ap (λ (m : ℕ). getD (withFrame xs stride n f) (p * stride + m) nan) (add-zero n)
+    ∙ ap (λ (q : ℕ). getD (withFrame xs stride n f) (q * stride + n) nan) (sym (zero-add p))
+    ∙ with-frame-at 0 xs stride n f p (rw (each 0 (suc-le-suc (omega arith))) hp) small (rw zero-add (inside planes stride p n (length xs) hp small e))
+  where
+    small : n < stride
+    small = omega arith
+with-frames-at planes xs stride n (f ∷ fs) p (suc k) lt hp room e each =
+    ap (λ (m : ℕ). sampleAt (withFrames (withFrame xs stride n f) stride (suc n) fs) stride p m) (move n k)
+    ∙ with-frames-at planes (withFrame xs stride n f) stride (suc n) fs p k (le-of-suc-le-suc lt) hp (omega arith) (length-with-frame 0 xs stride n f ∙ e) (λ j h. each (suc j) (suc-le-suc h))
+  where
+    move : (n k : ℕ) → n + suc k ≡ suc n + k
+    move n k = omega arith

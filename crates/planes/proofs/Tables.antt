@@ -1,0 +1,72 @@
+-- Laws of tables and rows: what a table holds, that it is known by its places, what is left of it in a loop, and where a row begins and ends. Assumes nothing.
+use mathlib.Core.Path.{_≡_, refl, sym, ap, _∙_}
+use mathlib.Core.List.{List, [], _∷_, map}
+use Prim.Native.Nat.{ℕ, zero, suc, _+_, _-_, _*_, _≤_, _<_}
+use native.Mathlib.Nat.{not-suc-le-zero, le-of-suc-le-suc, add-zero, add-suc, suc-add, sub-zero, mul-le-mul-right, suc-mul}
+use native.Mathlib.Numerals.{add-one}
+use native.Mathlib.Omega.{arith}
+use lib.ListN.{length, getD, take, drop, length-take, length-drop}
+use Rattle.planes.specs.Tables.{tab, row}
+
+module _ {A : Type 0} where
+  pub length-tab : (i n : ℕ) (f : ℕ → A) → length (tab i n f) ≡ n
+  length-tab i zero f = refl
+  length-tab i (suc n) f = ap suc (length-tab (suc i) n f)
+
+  pub getD-tab : (i n : ℕ) (f : ℕ → A) (k : ℕ) (d : A) → k < n → getD (tab i n f) k d ≡ f (i + k)
+  getD-tab i zero f k d h = absurd (not-suc-le-zero h)
+  getD-tab i (suc n) f zero d h = ap f (sym (add-zero i))
+  getD-tab i (suc n) f (suc k) d h = getD-tab (suc i) n f k d (le-of-suc-le-suc h) ∙ ap f (suc-add i k ∙ sym (add-suc i k))
+
+  -- a table is known by its places
+  pub tab-ext : (i n : ℕ) (f g : ℕ → A) → ((s : ℕ) → s < i + n → f s ≡ g s) → tab i n f ≡ tab i n g
+  tab-ext i zero f g e = refl
+  tab-ext i (suc n) f g e = cc (e i (omega arith), tab-ext (suc i) n f g (λ s h. e s (omega arith)))
+
+  pub tab-shift : (i n : ℕ) (f : ℕ → A) → tab (suc i) n f ≡ tab i n (λ k. f (suc k))
+  tab-shift i zero f = refl
+  tab-shift i (suc n) f = ap (λ (r : List A). f (suc i) ∷ r) (tab-shift (suc i) n f)
+
+  pub take-tab : (i k n : ℕ) (f : ℕ → A) → k ≤ n → take k (tab i n f) ≡ tab i k f
+  take-tab i zero n f h = refl
+  take-tab i (suc k) zero f h = absurd (not-suc-le-zero h)
+  take-tab i (suc k) (suc n) f h = ap (λ (r : List A). f i ∷ r) (take-tab (suc i) k n f (le-of-suc-le-suc h))
+
+  -- ---- a table that a loop goes through: what is left at s begins with f s
+
+  pub tab-more : (n s : ℕ) (f : ℕ → A) → s < n → tab s (n - s) f ≡ f s ∷ tab (s + 1) (n - (s + 1)) f
+  tab-more n s f h =
+      ap (λ (k : ℕ). tab s k f) (rest n s h) ∙ ap (λ (i : ℕ). f s ∷ tab i (n - (s + 1)) f) (sym (add-one s))
+    where
+      rest : (n s : ℕ) → s < n → n - s ≡ suc (n - (s + 1))
+      rest n s h = omega arith
+
+  pub tab-none : (n s : ℕ) (f : ℕ → A) → n ≤ s → _≡_ {A = List A} (tab s (n - s) f) []
+  tab-none n s f h = ap (λ (k : ℕ). tab s k f) (done n s h)
+    where
+      done : (n s : ℕ) → n ≤ s → n - s ≡ 0
+      done n s h = omega arith
+
+  pub tab-all : (n : ℕ) (f : ℕ → A) → tab 0 (n - 0) f ≡ tab 0 n f
+  tab-all n f = ap (λ (k : ℕ). tab 0 k f) (sub-zero n)
+
+  -- ---- rows
+
+  pub length-row : (n i m : ℕ) (xs : List A) → i < m → length xs ≡ m * n → length (row n i xs) ≡ n
+  length-row n i m xs lt e = simp (length-take, length-drop) (omega (arith, mul-le-mul-right n lt, suc-mul i n))
+
+  -- a part from a to a + n
+  pub part-is : (a n : ℕ) (xs : List A) → take (a + n - a) (drop a xs) ≡ take n (drop a xs)
+  part-is a n xs = ap (λ (k : ℕ). take k (drop a xs)) (less a n)
+    where
+      less : (a n : ℕ) → a + n - a ≡ n
+      less a n = omega arith
+
+-- row i of m rows ends where they end, or before
+pub row-end : (i m n room : ℕ) → i < m → room ≡ m * n → i * n + n ≤ room
+row-end i m n room h e = omega (arith, mul-le-mul-right n h, suc-mul i n)
+
+module _ {A B : Type 0} where
+  pub map-tab : (g : A → B) (i n : ℕ) (f : ℕ → A) → map g (tab i n f) ≡ tab i n (λ k. g (f k))
+  map-tab g i zero f = refl
+  map-tab g i (suc n) f = ap (λ (r : List B). g (f i) ∷ r) (map-tab g (suc i) n f)

@@ -1,0 +1,28 @@
+-- `planes::inverse_root` meets its contract: what `root` promises of the root goes with the value. Assumes nothing.
+use mathlib.Core.Path.{ap, subst}
+use mathlib.Core.Bool.{false}
+use lib.IntN.{pos}
+use lib.Ieee.{fin, binary64, div, ofBits}
+use borrow.Author.Needs.{needs}
+use Rattle.numbers.specs.Promises.{Root}
+use Rattle.numbers.specs.declared.Rooted.{Rooted}
+use Rattle.planes.specs.Normalization.{asFloat, inverseRoot}
+use Rattle.planes.proofs.inverse_root.Statement.{statement}
+use Rattle.planes.proofs.inverse_root.Tie as tie
+
+int-to-float-root : tie.Need-int-to-float-root
+int-to-float-root c = search needs
+
+root-requires : tie.Need-root-requires
+root-requires c κs = search needs
+
+returns : tie.Need-returns
+unfolding ofBits inverseRoot asFloat
+returns c =
+    record {
+      value = ap (λ (v : Rooted). div binary64 (fin false 1 (pos 0)) (v .value)) (c .before .root .ensures .answer);
+      root = subst (λ (v : Rooted). Root (asFloat (c .before .before .before .args .n)) v) (c .before .root .ensures .answer) (c .before .root .ensures);
+    }
+
+pub inverse-root-spec : {M : Type 1} → statement M
+inverse-root-spec = tie.close (tie.spec int-to-float-root root-requires returns)

@@ -1,0 +1,47 @@
+-- `planes::place` meets its contract: a place lies inside exactly if the plane is no more than a quotient, which is formed in the place of the product. Assumes nothing.
+use native.Mathlib.Omega.{arith}
+use Rattle.planes.proofs.Tests.{one-place, beyond, within}
+use borrow.Author.Needs.{needs}
+use Rattle.planes.proofs.place.Statement.{statement}
+use Rattle.planes.proofs.place.Tie as tie
+
+returns : tie.Need-returns
+returns c = search needs
+
+returns-2 : tie.Need-returns-2
+returns-2 c = let a = c .before .before .args in omega (arith, one-place (a .size) (a .stride) (a .plane) (a .frame) (c .if2 .taken))
+
+sub-if3 : tie.Need-sub-if3
+sub-if3 c = search needs
+
+sub-if3-2 : tie.Need-sub-if3-2
+sub-if3-2 c = search needs
+
+div-if3 : tie.Need-div-if3
+div-if3 c = search needs
+
+returns-3 : tie.Need-returns-3
+returns-3 c = let a = c .before .before .before .args in omega (arith, beyond (a .size) (a .stride) (a .plane) (a .frame) (omega arith) (omega arith) (c .if3 .taken))
+
+mul-result : tie.Need-mul-result
+mul-result c = let a = c .before .before .before .args in omega (arith, within (a .size) (a .stride) (a .plane) (a .frame) (omega arith) (omega arith) (c .if3 .left))
+
+add-result : tie.Need-add-result
+add-result c = let a = c .before .before .before .args in omega (arith, within (a .size) (a .stride) (a .plane) (a .frame) (omega arith) (omega arith) (c .if3 .left))
+
+returns-4 : tie.Need-returns-4
+returns-4 c = let a = c .before .before .before .args in omega (arith, within (a .size) (a .stride) (a .plane) (a .frame) (omega arith) (omega arith) (c .if3 .left))
+
+pub place-spec : {M : Type 1} → statement M
+place-spec =
+    tie.close
+    (tie.spec
+    returns
+    returns-2
+    sub-if3
+    sub-if3-2
+    div-if3
+    returns-3
+    mul-result
+    add-result
+    returns-4)

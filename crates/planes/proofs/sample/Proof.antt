@@ -1,0 +1,31 @@
+-- `planes::sample` meets its contract: a place beyond the list may as well be its end. Assumes nothing.
+use mathlib.Core.Path.{sym, _∙_}
+use lib.ListN.{List·getD-eq-default}
+use mathlib.Core.Path.{sym, _∙_}
+use lib.ListN.{List·getD-eq-default}
+use lib.Ieee.{nan, div, ofBits}
+use denote.Ref.{now}
+use Rattle.planes.proofs.Lists.{getD-min}
+use borrow.Author.Needs.{needs}
+use Rattle.planes.proofs.sample.Statement.{statement}
+use Rattle.planes.proofs.sample.Tie as tie
+
+place-requires : tie.Need-place-requires
+place-requires c κs = search needs
+
+mul-result : tie.Need-mul-result
+mul-result c = search needs
+
+shared-slice-read-result : tie.Need-shared-slice-read-result
+shared-slice-read-result c = search needs
+
+returns : tie.Need-returns
+returns c = getD-min (now (c .before .before .before .before .args .xs)) _ _ nan (c .before .before .place .ensures)
+
+returns-2 : tie.Need-returns-2
+unfolding ofBits div
+returns-2 c = sym (List·getD-eq-default (now (c .before .before .before .args .xs)) nan (c .if1 .left)) ∙ getD-min (now (c .before .before .before .args .xs)) _ _ nan (c .before .place .ensures)
+
+pub sample-spec : {M : Type 1} → statement M
+sample-spec =
+    tie.close (tie.spec place-requires mul-result shared-slice-read-result returns returns-2)

@@ -1,0 +1,26 @@
+-- Document 01, 'Sums': "each output is the f64 sum from 0.0, channels rising, of sample times coefficient, then narrowed", and of the convolver "the signal is the f64 sum from 0.0 over channels
+-- rising, narrowed to f32". Definitions only. An f32 and the f64 that it widens to are one `Float`, so widening is not written; `narrowed` is what `numbers::narrow` promises.
+use Prim.Native.Nat.{ℕ}
+use mathlib.Core.List.{List, [], _∷_}
+use lib.Ieee.{Float, binary64, add, mul}
+use Rattle.numbers.specs.Computed.{narrowed, zero-float}
+use Rattle.planes.specs.Tables.{tab, row}
+
+-- a + x₀ y₀ + x₁ y₁ + .., each product and each sum rounded, in this order; the shorter of the two lists ends it
+abbrev pub dot : Float → List Float → List Float → Float
+dot a [] ys = a
+dot a (x ∷ xs) [] = a
+dot a (x ∷ xs) (y ∷ ys) = dot (add binary64 a (mul binary64 x y)) xs ys
+
+-- a + x₀ + x₁ + .., each sum rounded, in this order
+abbrev pub total : Float → List Float → Float
+total a [] = a
+total a (x ∷ xs) = total (add binary64 a x) xs
+
+-- one output of a frame
+unfoldable pub mixed : List Float → List Float → Float
+mixed weights frame = narrowed (dot zero-float frame weights)
+
+-- every output of a frame: the weights are outputs x channels
+abbrev pub mixedAll : ℕ → ℕ → List Float → List Float → List Float
+mixedAll outputs channels weights frame = tab 0 outputs (λ o. mixed (row channels o weights) frame)

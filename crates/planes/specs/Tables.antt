@@ -1,0 +1,32 @@
+-- Lists that are said by a rule for each place: the words "rising" and "one of them" of document 01. Definitions only.
+use Prim.Native.Nat.{ℕ, zero, suc, _+_, _*_}
+use mathlib.Core.Bool.{Bool, false, not, _||_, cond}
+use mathlib.Core.List.{List, [], _∷_}
+use lib.ListN.{take, drop}
+use lib.Ieee.{Float}
+use lib.Ieee.Scale.{finite}
+
+module _ {A : Type 0} where
+  -- f i, f (i + 1), .., n of them
+  abbrev pub tab : ℕ → ℕ → (ℕ → A) → List A
+  tab i zero f = []
+  tab i (suc n) f = f i ∷ tab (suc i) n f
+
+  -- row i of a list that holds rows of n one after another
+  abbrev pub row : ℕ → ℕ → List A → List A
+  row n i xs = take n (drop (i * n) xs)
+
+-- one of them holds
+abbrev pub any : List Bool → Bool
+any [] = false
+any (b ∷ bs) = b || any bs
+
+-- how many of them hold
+abbrev pub count : List Bool → ℕ
+count [] = 0
+count (b ∷ bs) = cond b 1 0 + count bs
+
+-- one of them is NaN or infinite
+abbrev pub unsound : List Float → Bool
+unsound [] = false
+unsound (x ∷ xs) = not (finite x) || unsound xs

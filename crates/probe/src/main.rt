@@ -1,0 +1,137 @@
+// Answers requests on standard input, one after the other, until the input ends: for comparing with
+// other implementations, and for replaying recorded requests in the gate. docs/PROBE.md has the form of
+// requests and answers byte by byte. A request that breaks it is answered as such.
+//
+// The program promises nothing of its own beyond being safe and ending; what it prints is compared. Each
+// operation is a call of a proved library, its numbers read and written by `big_endian`.
+use libc::STDIN_FILENO;
+use libc::STDOUT_FILENO;
+ghost use Prim.Native.Nat.{_+_, _≤_};
+ghost use lib.ListN.{length};
+
+mod angles_requests;
+mod numbers_requests;
+
+// What is wrong with a request that no operation answers.
+const NO_SUCH_OPERATION: u8 = 1;
+
+const WRONG_LENGTH: u8 = 2;
+
+const TOO_LONG: u8 = 3;
+
+const ENDS_INSIDE: u8 = 4;
+
+// An answer begins with the operation and its length, in five bytes.
+const HEAD: usize = 5;
+
+// More bytes than any answer has.
+const UNKNOWN: usize = 0x1_0000_0000;
+
+// Writes the answer whose `count` bytes stand in out after the head.
+fn write_answer(operation: u8, count: usize, out: &mut [u8]) -> bool {
+    if out.len() < HEAD {
+        return false;
+    }
+    if out.len() - HEAD < count {
+        return false;
+    }
+    out[0] = operation;
+    big_endian::put(out, 1, 4, count as u64);
+    let end = HEAD + count;
+    io::write_all(STDOUT_FILENO, &out[..end])
+}
+
+fn write_malformed(reason: u8, out: &mut [u8]) -> bool {
+    if out.len() <= HEAD {
+        return false;
+    }
+    out[HEAD] = reason;
+    write_answer(0, 1, out)
+}
+
+// Puts the answer to a request into out, after the head: how many bytes, 0 where the arguments have not
+// the length that the operation takes, and `UNKNOWN` where there is no such operation.
+fn put_answer(operation: u8, args: &[u8], out: &mut [u8]) -> usize {
+    match operation {
+        1 => numbers_requests::widen(args, out),
+        2 => numbers_requests::narrow(args, out),
+        3 => numbers_requests::root(args, out),
+        4 => angles_requests::sine(args, out),
+        5 => angles_requests::cosine(args, out),
+        _ => UNKNOWN,
+    }
+}
+
+// Answers a request whose arguments are all there.
+fn answer(operation: u8, args: &[u8], out: &mut [u8]) -> bool {
+    let count = put_answer(operation, args, out);
+    if count == UNKNOWN {
+        return write_malformed(NO_SUCH_OPERATION, out);
+    }
+    if count == 0 {
+        return write_malformed(WRONG_LENGTH, out);
+    }
+    write_answer(operation, count, out)
+}
+
+// Reads past one part of arguments that are longer than any operation takes: how many are left, or the
+// same number where the input has ended.
+fn skip_some(left: usize, args: &mut [u8]) -> usize
+    ensures { λ r. ⌜ r ≤ left ⌝ }
+{
+    if left < args.len() {
+        return left - io::read_full(STDIN_FILENO, &mut args[..left]);
+    }
+    left - io::read_full(STDIN_FILENO, args)
+}
+
+// Reads past such arguments; whether they were all there.
+fn skip(length: usize, args: &mut [u8]) -> bool {
+    let mut left = length;
+    while 0 < left {
+        let rest = skip_some(left, args);
+        if rest == left {
+            return false;
+        }
+        left = rest;
+    }
+    true
+}
+
+// Reads one request and answers it; whether to go on.
+fn one(args: &mut [u8], out: &mut [u8]) -> bool {
+    let mut head = [0u8; 5];
+    let got = io::read_full(STDIN_FILENO, &mut head);
+    if got == 0 {
+        return false;
+    }
+    if got < 5 {
+        write_malformed(ENDS_INSIDE, out);
+        return false;
+    }
+    let length = big_endian::get(&head, 1, 4) as usize;
+    if args.len() < length {
+        if !skip(length, args) {
+            write_malformed(ENDS_INSIDE, out);
+            return false;
+        }
+        return write_malformed(TOO_LONG, out);
+    }
+    let got = io::read_full(STDIN_FILENO, &mut args[..length]);
+    if got < length {
+        write_malformed(ENDS_INSIDE, out);
+        return false;
+    }
+    answer(head[0], &args[..length], out)
+}
+
+fn main() {
+    let mut args = [0u8; 65536];
+    let mut out = [0u8; 65536];
+    // A proved loop has to end, and nothing says that the input does. So the turns are counted down
+    // from a number that no run uses up.
+    let mut turns = u64::MAX;
+    while 0 < turns && one(&mut args, &mut out) {
+        turns -= 1;
+    }
+}

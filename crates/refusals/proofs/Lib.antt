@@ -1,0 +1,3 @@
+-- Laws that a caller's proof cites.
+pub mod First
+pub mod Determined

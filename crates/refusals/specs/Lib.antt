@@ -1,0 +1,2 @@
+-- What a refusal number is.
+pub mod Refusals

@@ -1,0 +1,19 @@
+-- Document 01, 'Refusal numbers': "Checked in rising order; the first that holds is given, and none is given otherwise." Definitions only.
+-- An operation lists its tests in the order in which they are checked, each with its number. The order is that of the list, so that a number which has to stand
+-- elsewhere than its size says (as some of the later requests ask) is a matter of where it is written.
+use Prim.Native.Nat.{ℕ}
+use mathlib.Core.Bool.{Bool, cond}
+use mathlib.Core.List.{List, [], _∷_}
+
+pub record Check : Type 0 where
+  pub number : ℕ
+  pub holds : Bool
+
+infix 70 _when_
+abbrev pub _when_ : ℕ → Bool → Check
+n when b = record { number = n; holds = b }
+
+-- the number of the first test that holds; 0, accepted, where none does
+abbrev pub firstOf : List Check → ℕ
+firstOf [] = 0
+firstOf (c ∷ cs) = cond (c .holds) (c .number) (firstOf cs)

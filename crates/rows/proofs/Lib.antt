@@ -1,0 +1,4 @@
+-- Laws of rows of weights that crates above cite.
+pub mod Putting
+pub mod Behind
+pub mod Unique

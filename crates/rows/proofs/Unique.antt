@@ -1,0 +1,11 @@
+-- No two answers meet the promise. Assumes nothing.
+use Prim.Native.Nat.{ℕ}
+use mathlib.Core.Path.{_≡_}
+use mathlib.Core.List.{List}
+use lib.Seq.{sets}
+use lib.Ieee.{Float}
+use Rattle.refusals.proofs.Determined.{determined}
+use Rattle.rows.specs.Rows.{scaled}
+
+pub put-row-unique : (row : List Float) (scale : Float) (weights : List Float) (at : ℕ) (a b : List Float) → a ≡ sets weights at (scaled scale row) → b ≡ sets weights at (scaled scale row) → a ≡ b
+put-row-unique row scale weights at = determined

@@ -1,0 +1,2 @@
+-- The words of the promise of `rows`.
+pub mod Rows

@@ -1,0 +1,3 @@
+-- The defined sine and cosine.
+pub mod Sums
+pub mod Angles

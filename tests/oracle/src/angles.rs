@@ -1,0 +1,78 @@
+//! Sine and cosine, against the defined sums.
+use crate::exact::{self, Exact};
+use crate::frame::{hex, request, Answer, Case, Verdict};
+use crate::random::Random;
+
+const SINE: u8 = 4;
+const COSINE: u8 = 5;
+
+/// Document 01: within 2^-40 of the defined value.
+const ANGLE_BITS: usize = 40;
+
+/// Refusal 3: no number from -1080 to 1080.
+fn is_refused(d: f64) -> bool {
+    !(-1080.0..=1080.0).contains(&d)
+}
+
+fn angles(random: &mut Random, count: usize) -> Vec<f64> {
+    // Every tenth of a degree from -1080 to 1080, or as many of them as are asked for.
+    let tenths = 21601;
+    let mut all: Vec<f64> = if count >= tenths {
+        (0..tenths as i64).map(|i| (i - 10800) as f64 / 10.0).collect()
+    } else {
+        (0..count).map(|_| (random.below(tenths as u64) as i64 - 10800) as f64 / 10.0).collect()
+    };
+    // Anywhere in the range, and tiny angles.
+    all.extend((0..count).map(|_| (random.bits() >> 11) as f64 / (1u64 << 53) as f64 * 2160.0 - 1080.0));
+    all.extend((0..count / 4).map(|_| f64::from_bits(random.bits() & 0x800f_ffff_ffff_ffff | random.below(1024) << 52)));
+    // Multiples of 90 and their neighbours.
+    for k in -12..=12i64 {
+        let d = (90 * k) as f64;
+        let near = |off: i64| if d == 0.0 { f64::from_bits(off.unsigned_abs()) * off.signum() as f64 } else { f64::from_bits((d.to_bits() as i64 + off) as u64) };
+        all.extend((-3..=3).map(near));
+    }
+    // Outside, and what is no number.
+    all.extend([f64::NAN, f64::INFINITY, f64::NEG_INFINITY, 1e300, -1e300, 1080.0001, -1080.0001, -0.0]);
+    all
+}
+
+/// The answer to an angle: a refusal and 0.0, or 0 and a value near the defined one; at a multiple of 90 the exact value.
+fn judge(d: f64, defined: Option<Exact>, operation: u8, answer: &Answer) -> Verdict {
+    let wrong = |why: String| Verdict { wrong: Some(format!("{why}, at {d:e}: {} {}", answer.operation, hex(&answer.bytes))), error: None };
+    if answer.operation != operation || answer.bytes.len() != 9 {
+        return wrong("no such answer".to_string());
+    }
+    let value = f64::from_bits(u64::from_be_bytes(answer.bytes[1..].try_into().unwrap()));
+    let Some(defined) = defined else {
+        return if answer.bytes[0] == 3 && value.to_bits() == 0 { Verdict::default() } else { wrong("not refused".to_string()) };
+    };
+    if answer.bytes[0] != 0 || !value.is_finite() {
+        return wrong("refused".to_string());
+    }
+    let error = Exact::float(value) - defined;
+    if d % 90.0 == 0.0 && (error.log2() > f64::NEG_INFINITY || value.to_bits() == 1 << 63) {
+        return wrong("not exact".to_string());
+    }
+    if !error.within(ANGLE_BITS) {
+        return wrong(format!("off by 2^{:.2}", error.log2()));
+    }
+    Verdict { wrong: None, error: Some(error.log2()) }
+}
+
+fn cases(random: &mut Random, count: usize, operation: u8, defined: fn(&Exact) -> Exact) -> Vec<Case> {
+    angles(random, count)
+        .into_iter()
+        .map(|d| {
+            let exact = move || (!is_refused(d)).then(|| defined(&Exact::float(d)));
+            Case { request: request(operation, &d.to_bits().to_be_bytes()), judge: Box::new(move |a| judge(d, exact(), operation, a)) }
+        })
+        .collect()
+}
+
+pub fn sine(random: &mut Random, count: usize) -> Vec<Case> {
+    cases(random, count, SINE, exact::sine)
+}
+
+pub fn cosine(random: &mut Random, count: usize) -> Vec<Case> {
+    cases(random, count, COSINE, exact::cosine)
+}

@@ -1,0 +1,42 @@
+//! Requests that break the form: each is answered as such, and the next is read as if nothing had been.
+use crate::frame::{exactly, request, Case};
+use crate::random::Random;
+
+const NO_SUCH_OPERATION: u8 = 1;
+const WRONG_LENGTH: u8 = 2;
+const TOO_LONG: u8 = 3;
+const ENDS_INSIDE: u8 = 4;
+
+/// The operations, with the length of the arguments that each takes.
+const FIXED: &[(u8, usize)] = &[(1, 4), (2, 8), (3, 8), (4, 8), (5, 8)];
+
+const LONGEST: usize = 65536;
+
+pub fn inside(random: &mut Random, count: usize) -> Vec<Case> {
+    let mut all = Vec::new();
+    for operation in 0..=255u8 {
+        if FIXED.iter().all(|(known, _)| *known != operation) {
+            let length = random.below(20) as usize;
+            all.push(exactly(request(operation, &vec![0; length]), 0, vec![NO_SUCH_OPERATION]));
+        }
+    }
+    for (operation, right) in FIXED {
+        for length in (0..20).filter(|n| n != right) {
+            all.push(exactly(request(*operation, &vec![0x3f; length]), 0, vec![WRONG_LENGTH]));
+        }
+    }
+    // The longest arguments that are read whole, and longer ones, which are read past.
+    all.push(exactly(request(1, &vec![0; LONGEST]), 0, vec![WRONG_LENGTH]));
+    all.push(exactly(request(1, &vec![0; LONGEST + 1]), 0, vec![TOO_LONG]));
+    for _ in 0..count / 1000 {
+        let length = LONGEST + 2 + random.below(1 << 18) as usize;
+        all.push(exactly(request(2, &vec![0; length]), 0, vec![TOO_LONG]));
+    }
+    all
+}
+
+pub fn at_the_end() -> Case {
+    let mut cut = request(2, &[0; 8]);
+    cut.pop();
+    exactly(cut, 0, vec![ENDS_INSIDE])
+}
