@@ -1,0 +1,2 @@
+-- That a block is answered in one way.
+mod Answers

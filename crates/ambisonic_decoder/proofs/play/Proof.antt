@@ -1,0 +1,63 @@
+-- `ambisonic_decoder::play` meets its contract: `Framing`. Assumes nothing.
+use Prim.Native.Nat.{ℕ, _-_}
+use native.Mathlib.Omega.{arith}
+use mathlib.Core.List.{List}
+use denote.Ref.{now}
+use lib.Ieee.{Float}
+use Rattle.planes.specs.Planes.{frameAt}
+use Rattle.planes.specs.Sums.{mixedAll}
+use Rattle.planes.proofs.Framing.{Framing, framing-none, framing-more, framing-all}
+use Rattle.ambisonic_decoder.specs.declared.Shape.{Shape}
+use Rattle.ambisonic_decoder.proofs.play.Statement.{statement}
+use Rattle.ambisonic_decoder.proofs.play.Tie as tie
+
+-- a frame of the outputs
+abbrev outputs-at : Shape → List Float → List Float → ℕ → List Float
+outputs-at shape weights inputs n = mixedAll (shape .outputs) (shape .channels) weights (frameAt inputs (shape .stride) (shape .channels) n)
+
+abbrev Inv-loop : tie.InvT-loop
+Inv-loop shape weights inputs out₀ n₀ out n = Framing out₀ (shape .stride) (shape .frames) (outputs-at shape weights inputs) out n
+
+abbrev μ-loop : tie.MeasureT-loop
+μ-loop shape weights inputs out₀ n₀ out n = shape .frames - n
+
+loop-holds : tie.Need-loop-holds Inv-loop μ-loop
+loop-holds c = let a = c .before .before .before .args in framing-none (now (a .out)) (a .shape .stride) (a .shape .frames) (outputs-at (a .shape) (now (a .weights)) (now (a .inputs)))
+
+mix-frame-requires : tie.Need-mix-frame-requires Inv-loop μ-loop
+mix-frame-requires c κs = tt
+
+add-n : tie.Need-add-n Inv-loop μ-loop
+add-n c = omega arith
+
+loop-less : tie.Need-loop-less Inv-loop μ-loop
+loop-less c = omega arith
+
+loop-again : tie.Need-loop-again Inv-loop μ-loop
+loop-again c =
+    let a = c .before .before .before .before .before .before .before .before .before .before .args in
+    let at = c .before .before .before .before .before .before .loop in
+    framing-more (now (a .out)) (a .shape .stride) (a .shape .frames) (outputs-at (a .shape) (now (a .weights)) (now (a .inputs))) (at .out) (at .n) (at .inv) (c .before .before .mix-frame .last .0) (c .before .before .before .before .if1 .taken) (c .before .before .mix-frame .ensures)
+
+same-length : tie.Need-same-length Inv-loop μ-loop
+same-length c = omega arith
+
+returns : tie.Need-returns Inv-loop μ-loop
+returns c =
+    let a = c .before .before .before .before .before .before .args in
+    let at = c .before .before .loop in
+    framing-all (now (a .out)) (a .shape .stride) (a .shape .frames) (outputs-at (a .shape) (now (a .weights)) (now (a .inputs))) (at .out) (at .n) (at .inv) (c .if1 .left)
+
+pub play-spec : {M : Type 1} → statement M
+play-spec =
+    tie.close
+    (tie.spec
+    Inv-loop
+    μ-loop
+    loop-holds
+    mix-frame-requires
+    add-n
+    loop-less
+    loop-again
+    same-length
+    returns)

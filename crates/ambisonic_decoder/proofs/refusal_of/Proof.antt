@@ -1,0 +1,67 @@
+-- `ambisonic_decoder::refusal_of` meets its contract. Assumes nothing.
+use mathlib.Core.Path.{_≡_, sym, _∙_}
+use mathlib.Core.Bool.{false}
+use Rattle.refusals.proofs.First.{stops, goes-on}
+use Rattle.planes.specs.Planes.{outside}
+use borrow.Author.Needs.{needs}
+use Rattle.ambisonic_decoder.proofs.refusal_of.Statement.{statement}
+use Rattle.ambisonic_decoder.proofs.refusal_of.Tie as tie
+
+-- past the tests of the outputs, and of the channels
+few-outputs : (c : tie.Else1) → outside (c .before .before .before .args .shape .outputs) 16 ≡ false
+few-outputs c = sym (c .before .is-outside .ensures) ∙ c .if1 .left
+
+few-channels : (c : tie.Else2) → outside (c .before .before .before .before .before .args .shape .channels) 16 ≡ false
+few-channels c = sym (c .before .is-outside2 .ensures) ∙ c .if2 .left
+
+is-outside-requires : tie.Need-is-outside-requires
+is-outside-requires c κs = search needs
+
+returns : tie.Need-returns
+returns c = sym (stops _ _ (sym (c .before .is-outside .ensures) ∙ c .if1 .taken))
+
+is-outside-requires-2 : tie.Need-is-outside-requires-2
+is-outside-requires-2 c κs = search needs
+
+returns-2 : tie.Need-returns-2
+returns-2 c = sym (goes-on _ _ (few-outputs (c .before .before)) ∙ stops _ _ (sym (c .before .is-outside2 .ensures) ∙ c .if2 .taken))
+
+is-misfit-requires : tie.Need-is-misfit-requires
+is-misfit-requires c κs = search needs
+
+returns-3 : tie.Need-returns-3
+returns-3 c =
+    sym (goes-on _ _ (few-outputs (c .before .before .before .before)) ∙ goes-on _ _ (few-channels (c .before .before)) ∙ stops _ _ (sym (c .before .is-misfit .ensures) ∙ c .if3 .taken))
+
+unsound-f64-requires : tie.Need-unsound-f64-requires
+unsound-f64-requires c κs = search needs
+
+returns-4 : tie.Need-returns-4
+returns-4 c =
+    sym
+    (goes-on _ _ (few-outputs (c .before .before .before .before .before .before))
+    ∙ goes-on _ _ (few-channels (c .before .before .before .before))
+    ∙ goes-on _ _ (sym (c .before .before .before .is-misfit .ensures) ∙ c .before .before .if3 .left)
+    ∙ stops _ _ (sym (c .before .unsound-f64 .ensures) ∙ c .if4 .taken))
+
+returns-5 : tie.Need-returns-5
+returns-5 c =
+    sym
+    (goes-on _ _ (few-outputs (c .before .before .before .before .before .before))
+    ∙ goes-on _ _ (few-channels (c .before .before .before .before))
+    ∙ goes-on _ _ (sym (c .before .before .before .is-misfit .ensures) ∙ c .before .before .if3 .left)
+    ∙ goes-on _ _ (sym (c .before .unsound-f64 .ensures) ∙ c .if4 .left))
+
+pub refusal-of-spec : {M : Type 1} → statement M
+refusal-of-spec =
+    tie.close
+    (tie.spec
+    is-outside-requires
+    returns
+    is-outside-requires-2
+    returns-2
+    is-misfit-requires
+    returns-3
+    unsound-f64-requires
+    returns-4
+    returns-5)

@@ -1,0 +1,113 @@
+// Ambisonic decoder (document 01, item 5, from ambisonic_decoder.rs): blocks of ambisonic frames played
+// through a matrix of weights, outputs x channels. Binaural rows are played here too, as a matrix of two
+// outputs.
+//
+// `process` takes any input. Its promise (specs/Promise.antt) is one equation for the refusal, the sample
+// count and the output planes: frame n of the outputs holds document 01's ordered sum of frame n of the
+// inputs, for each output, narrowed.
+//
+// Under it lie `planes` (the ordered sum, frames with a stride, the tests) and `refusals`.
+ghost use mathlib.Core.Path.{_≡_};
+ghost use Prim.Native.Nat.{_≤_};
+ghost use Rattle.planes.specs.Planes.{withFrames};
+ghost use Rattle.ambisonic_decoder.specs.Blocks.{misfit, refusalOf, decoded};
+ghost use Rattle.ambisonic_decoder.specs.Promise.{Processed};
+
+// The refusal, and how many frames were played.
+pub struct Decoded {
+    pub refusal: u8,
+    pub samples: usize,
+}
+
+// How many of each there are: outputs, channels, frames, and places in a plane.
+struct Shape {
+    outputs: usize,
+    channels: usize,
+    frames: usize,
+    stride: usize,
+}
+
+// Whether a lent length doesn't fit.
+fn is_misfit(shape: Shape, weights: usize, inputs: usize, out: usize) -> bool
+    ensures { λ r. ⌜ r ≡ misfit shape weights inputs out ⌝ }
+{
+    if planes::is_unfit(inputs, shape.channels, shape.stride, shape.frames) {
+        return true;
+    }
+    if planes::is_unfit(out, shape.outputs, shape.stride, shape.frames) {
+        return true;
+    }
+    !planes::is_product(weights, shape.outputs, shape.channels)
+}
+
+// The first number whose test holds, or 0.
+fn refusal_of(shape: Shape, weights: &[f64], inputs: usize, out: usize) -> u8
+    ensures { λ r. ⌜ r ≡ refusalOf shape (now (weights .entry)) inputs out ⌝ }
+{
+    if planes::is_outside(shape.outputs, 16) {
+        return 2;
+    }
+    if planes::is_outside(shape.channels, 16) {
+        return 2;
+    }
+    if is_misfit(shape, weights.len(), inputs, out) {
+        return 5;
+    }
+    if planes::unsound_f64(weights) {
+        return 7;
+    }
+    0
+}
+
+// Plays every frame.
+fn play(shape: Shape, weights: &[f64], inputs: &[f32], out: &mut [f32])
+    ensures { λ _. ⌜ now (out .exit) ≡ withFrames (now (out .entry)) (shape .stride) 0 (decoded shape (now (weights .entry)) (now (inputs .entry))) ⌝ }
+{
+    let mut n = 0;
+    while n < shape.frames {
+        planes::mix_frame(
+            out,
+            shape.stride,
+            n,
+            shape.outputs,
+            weights,
+            shape.channels,
+            inputs,
+            shape.stride,
+            n,
+        );
+        n += 1;
+    }
+}
+
+// Plays a block through a matrix of weights, outputs x channels, or refuses it.
+pub fn process(
+    weights: &[f64],
+    outputs: usize,
+    channels: usize,
+    frames: usize,
+    stride: usize,
+    inputs: &[f32],
+    out: &mut [f32],
+) -> Decoded
+    ensures { λ r. ⌜ Processed (now (weights .entry)) (record { outputs = outputs; channels = channels; frames = frames; stride = stride }) (now (inputs .entry)) (now (out .entry)) r (now (out .exit)) ⌝ }
+{
+    let shape = Shape {
+        outputs,
+        channels,
+        frames,
+        stride,
+    };
+    let refusal = refusal_of(shape, weights, inputs.len(), out.len());
+    if refusal != 0 {
+        return Decoded {
+            refusal,
+            samples: 0,
+        };
+    }
+    play(shape, weights, inputs, out);
+    Decoded {
+        refusal: 0,
+        samples: frames,
+    }
+}
