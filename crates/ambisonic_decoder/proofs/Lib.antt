@@ -1,2 +1,3 @@
 -- That a block is answered in one way.
 mod Answers
+mod Unique
