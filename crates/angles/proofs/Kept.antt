@@ -29,7 +29,7 @@ module _ (w : Wave) (d : Float) where
   pub value-is : refusalOf d ≡ 0 → outcome w d .value ≡ computed w d
   value-is h = goes-on zero (computed w d) (accepted-is (isRefused d) h)
 
-  kept : Promise w d (outcome w d)
+  pub kept : Promise w d (outcome w d)
   kept = record {
     is = refl;
     near = λ h. record {

@@ -15,10 +15,14 @@ use Rattle.series.specs.Sums.{Wave}
 use Rattle.series.specs.Angles.{defined}
 use Rattle.series.proofs.Laws.{defined-size, defined-carried}
 use Rattle.angles.specs.declared.Answer.{Answer}
-use Rattle.angles.specs.Promise.{refusalOf, Promise}
+use Rattle.angles.specs.Promise.{refusalOf, outcome, Promise}
 use Rattle.angles.proofs.Floats as Floats
 use Rattle.angles.proofs.Near.{computed-near}
-use Rattle.angles.proofs.Kept.{value-is}
+use Rattle.angles.proofs.Kept.{value-is, kept}
+
+-- ---- the promise holds of the answer that the definition gives, so that all of it can be had of a value that is said by the definition alone
+pub outcome-kept : (w : Wave) (d : Float) → Promise w d (outcome w d)
+outcome-kept = kept
 
 -- ---- which angles are accepted: those of 1080 degrees at most in size, and so an angle rounded from one of 1079
 pub accepted : (d : Float) → 0 < number d .over → AtMost (magnitude (number d)) (whole 1080) → refusalOf d ≡ 0

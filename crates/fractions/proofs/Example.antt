@@ -16,7 +16,7 @@ use Rattle.fractions.proofs.Divide.{least-unit}
 use Rattle.fractions.proofs.Roots.{root-square, root-least}
 use Rattle.fractions.proofs.Expression.{literal, held, _-'_, _*'_, _/'_, scale, sound, within, value, divisor}
 use Rattle.fractions.proofs.Sums.{squaresFrom, square-in-sum}
-use Rattle.fractions.proofs.Normalised.{root-near, run-by-squares, normalised}
+use Rattle.fractions.proofs.Normalised.{root-near, over-root, normalised}
 
 -- ---- a product of three sines
 module _ {x y z : Float} {a b c : Fraction} (s : Approximates angleBits angleMost x a) (t : Approximates angleBits angleMost y b) (u : Approximates angleBits angleMost z c) where
@@ -44,15 +44,6 @@ module _ {x y : Float} {a b : Fraction} (r : Float) (s : Approximates angleBits 
       (least-unit (3 * scale / 100) (lit< tt) (lit≤ tt) (at-most-least least)) (square-in-sum (a ∷ b ∷ []) 0 a (lit< tt))
 
 -- ---- x * (1.0 / r), r the root of n = 1 .. 16
-abbrev off : ℕ
-off = 2 ^ 53
-
-abbrev least : ℕ
-least = scale - 2 ^ 54
-
 module _ {x : Float} {a : Fraction} (r : Float) (n : ℕ) (s : Approximates angleBits angleMost x a) (one : 1 ≤ n) (most : n ≤ 16) (root : RootOf (2 ^ 53) (number r) (whole n)) (fit : T (fits binary64 r)) where
   the-row : BySquares rowBits (number (mul binary64 x (div binary64 (round binary64 false 1 1) r))) a (whole n)
-  the-row =
-      let c : Close scale (square (number r)) (whole n) off = root-square off (lit≤ tt) (lit≤ tt) root (whole-size scale n most) in
-      let l : Least scale (number r) least = root-least least (lit≤ tt) (root .positive) c (whole-least scale n one) in
-      run-by-squares binary64 rowBits off least (value s *' (held false 1 0 /' divisor binary64 least r (root .root) fit l)) a (number r) (whole n) (inverse a (number r)) tt c l
+  the-row = over-root r n s one most root fit rowBits tt

@@ -1,25 +1,27 @@
 -- A number over a root, as a program computes it, is `BySquares` of G / √S: from an expression for it (`run-by-squares`), and as one float divided by another where G² ≤ S, which keeps the quotient at 1
--- (`normalised`). The root enters by its law (`RootOf`, which a correctly rounded root has with P = 2 ^ prec), for s the float whose root was taken, itself near S (`root-near`). Assumes nothing.
+-- (`normalised`), or times the inverse of one (`over-root`). The root enters by its law (`RootOf`, which a correctly rounded root has with P = 2 ^ prec), for s the float whose root was taken, itself near S (`root-near`). Assumes nothing.
 use mathlib.Core.Path.{_≡_, subst}
-use mathlib.Core.Bool.{Bool, _&&_}
-use Prim.Native.Nat.{ℕ, _+_, _*_, _≤_, _<_}
+use mathlib.Core.Bool.{Bool, false, _&&_}
+use Prim.Native.Nat.{ℕ, _+_, _-_, _*_, _^_, _≤_, _<_}
 use native.Mathlib.Nat.{le-trans, le-of-lt, sub-pos-iff-lt, mul-pos, mul-le-mul-right}
 use native.Mathlib.Omega.{arith}
-use lib.Dec.{T, leb, ltb, leb→le, ltb→lt, lit<}
+use lib.Dec.{T, leb, ltb, leb→le, ltb→lt, lit<, lit≤}
 use lib.Pow.{pow-pos}
-use lib.Ieee.{Float, Format, div}
+use lib.Ieee.{Float, Format, binary64, fits, round, mul, div}
 use lib.Ieee.Fits.{and-l, and-r}
 use lib.Ieee.Positive.{positive, first-pos}
 use Rattle.fractions.specs.Fraction.{Fraction, whole, unit, number, square, _⊗_, _⊘_, Same, Less, AtMost}
+use Rattle.fractions.specs.Approximates.{Approximates}
 use Rattle.fractions.specs.Squares.{raised, lowered, BySquares, RootOf}
 use Rattle.fractions.proofs.Order.{same-refl, same-sym, same-mul, less-same, at-most-same}
-use Rattle.fractions.proofs.Restate.{same-square, same-divide}
+use Rattle.fractions.proofs.Restate.{same-square, same-divide, inverse}
+use Rattle.fractions.proofs.Within.{whole-size, whole-least}
 use Rattle.fractions.proofs.Close.{Close, Least, same-close, close-trans, ceiling, ceiling-ge}
 use Rattle.fractions.proofs.Rounding.{fine}
 use Rattle.fractions.proofs.Operations.{positive-number, div-result}
 use Rattle.fractions.proofs.Exact.{result-not-below}
 use Rattle.fractions.proofs.Near.{Near, near-size, near-div, quotient-result, quotient-error}
-use Rattle.fractions.proofs.Expression.{Expression, run, exact, scale, bound, sound}
+use Rattle.fractions.proofs.Expression.{Expression, held, _*'_, _/'_, run, exact, scale, bound, sound, value, divisor}
 use Rattle.fractions.proofs.Squares.{squares-fine, by-squares}
 use Rattle.fractions.proofs.Roots.{root-square, root-least, quotient-size}
 
@@ -37,6 +39,27 @@ run-by-squares f k t L a G r S e h c l =
     let i = bound f a .good in
     let j = squares-fine scale k (bound f a .most) (bound f a .error) t L in
     by-squares k (number (run f a)) G r S (and-r i j h) (subst (λ (q : Fraction). Near scale (number (run f a)) q (bound f a .most) (bound f a .error)) e (sound f a (and-l i j h) .near)) c l
+
+-- ---- x * (1.0 / r), r the root of n = 1 .. 16 to one part in 2 ^ 53: in units of 1 / scale, r² is `off` from n at most, and r is `least` at least
+abbrev pub off : ℕ
+off = 2 ^ 53
+
+abbrev pub least : ℕ
+least = scale - 2 ^ 54
+
+module _ {bits : ℕ} {most : Fraction} {x : Float} {a : Fraction} (r : Float) (n : ℕ) (s : Approximates bits most x a) (one : 1 ≤ n) (top : n ≤ 16) (root : RootOf (2 ^ 53) (number r) (whole n)) (fit : T (fits binary64 r)) where
+  pub near-n : Close scale (square (number r)) (whole n) off
+  near-n = root-square off (lit≤ tt) (lit≤ tt) root (whole-size scale n top)
+
+  pub above-least : Least scale (number r) least
+  above-least = root-least least (lit≤ tt) (root .positive) near-n (whole-least scale n one)
+
+  abbrev pub over : Expression
+  over = value s *' (held false 1 0 /' divisor binary64 least r (root .root) fit above-least)
+
+  pub over-root : (k : ℕ) → T (bound binary64 over .good && squares-fine scale k (bound binary64 over .most) (bound binary64 over .error) off least)
+      → BySquares k (number (mul binary64 x (div binary64 (round binary64 false 1 1) r))) a (whole n)
+  over-root k t = run-by-squares binary64 k off least over a (number r) (whole n) (inverse a (number r)) t near-n above-least
 
 -- ---- one float over another. The numbers, in units of 1 / scale: |G| ≤ N and the float is E off; S ≥ b, r² is t off S, r ≥ L; |G| / r ≤ M
 abbrev pub normal : Format → (k N E M t L b : ℕ) → Bool

@@ -16,7 +16,7 @@ use Rattle.formats.proofs.Patterns.{twice-hid}
 use Rattle.numbers.specs.Computed.{rootOf}
 use Rattle.fractions.proofs.Number.{value-same, value-number}
 use Rattle.fractions.proofs.Operations.{positive-number}
-use Rattle.numbers.proofs.Middle.{positive-units, root-half, root-value, root-units-pos}
+use Rattle.numbers.proofs.Middle.{positive-units, root-half, root-is, root-value, root-units-pos}
 
 -- ---- within one part in 2 ^ prec
 
@@ -110,6 +110,9 @@ module _ (f : Format) (x : Float) (h : T (fits f x)) (t : T (positive x)) where
 
   pub root-positive : T (positive (rootOf f x))
   root-positive = positive-of-value (rootOf f x) (q * u) (2 ^ low f) (root-value f x h t) (root-units-pos f x h t)
+
+  pub root-fits : T (fits f (rootOf f x))
+  root-fits = subst (λ (r : Float). T (fits f r)) (sym (root-is f x h t)) (root-half f x h t .held)
 
   pub root-close : RootOf (2 ^ prec f) (number (rootOf f x)) (number x)
   unfolding scaled

@@ -1,4 +1,5 @@
 -- Laws of rows of weights that crates above cite.
 pub mod Putting
 pub mod Behind
+pub mod Joined
 pub mod Unique

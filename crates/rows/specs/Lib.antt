@@ -1,2 +1,3 @@
 -- The words of the promise of `rows`.
 pub mod Rows
+pub mod Steps

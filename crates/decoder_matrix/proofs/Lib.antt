@@ -1,0 +1,8 @@
+-- The laws of the decoder matrix.
+mod Speakers
+mod Filling
+mod Near
+mod Turned
+mod Answers
+mod Unique
+mod Refuted

@@ -1,0 +1,138 @@
+-- Each weight of a matrix is within 2 ^ -38 of its formula, by squares: the harmonic is known by its promise, the root of n by the root's, and the rest is one expression. Every speaker's azimuth is one that
+-- the harmonics take, by one test over the tables. Assumes nothing.
+use Prim.Native.Nat.{ℕ, zero, suc, _+_, _-_, _*_, _^_, _≤_, _<_, zero-le}
+use native.Mathlib.Nat.{not-suc-le-zero, le-of-suc-le-suc}
+use native.Mathlib.Omega.{arith}
+use mathlib.Core.Path.{_≡_, refl, sym, ap, _∙_, subst}
+use mathlib.Core.Bool.{Bool, true, false, not, _&&_, _||_, cond}
+use mathlib.Core.List.{List, [], _∷_}
+use lib.IntN.{pos}
+use lib.Dec.{T, eqb, ltb, lit≤, eqb→eq}
+use borrow.Author.Tests.{not-false}
+use lib.ListN.{length, getD, take, length-take}
+use lib.Ieee.{Float, nan, fin, binary64, fits, round, ofInt, sub, mul, div, lt, le, neg}
+use lib.Ieee.Fits.{and-l, and-r}
+use lib.Ieee.Positive.{positive}
+use Rattle.fractions.specs.Fraction.{Fraction, fraction, number, whole}
+use Rattle.fractions.specs.Squares.{BySquares, RootOf}
+use Rattle.fractions.specs.Approximates.{Approximates}
+use Rattle.fractions.proofs.Normalised.{over-root}
+use Rattle.numbers.specs.Computed.{rootOf}
+use Rattle.numbers.proofs.Close.{root-close, root-fits}
+use Rattle.planes.specs.Tables.{tab, any}
+use Rattle.planes.specs.Normalization.{asFloat, inverseRoot}
+use Rattle.planes.proofs.Checks.{or-off, any-off}
+use Rattle.rows.specs.Rows.{scaled}
+use Rattle.channel.specs.declared.Layout.{Layout}
+use Rattle.channel.specs.declared.Layout.the-variants.{Mono, Stereo, Surround51, Surround71, Custom}
+use Rattle.channel.specs.Layouts.{channelsOf, uncountable}
+use Rattle.channel.proofs.Counts.{in-range}
+use Rattle.harmonics.specs.Promise.{refusesOrder, refusesAngle, isInside, refusesAzimuth, refusesElevation, refusalOf, outcome}
+use Rattle.harmonics.proofs.Laws.{accepted, outcome-kept, gain-near, gains-length}
+use Rattle.decoder_matrix.specs.Speakers.{azimuthAt, azimuthBy, towards, customAzimuth, turnedBack}
+use Rattle.decoder_matrix.specs.Matrix.{channelsIn, rowBy, formulaAt}
+use Rattle.decoder_matrix.specs.Promise.{matrixBits}
+
+-- ---- the numbers 1 to 16 as floats
+whole-float : ℕ → Bool
+whole-float n = let x = asFloat n in fits binary64 x && positive x && eqb (number x .plus) n && eqb (number x .minus) 0 && eqb (number x .over) 1
+
+all-whole : any (tab 1 16 (λ n. not (whole-float n))) ≡ false
+unfolding whole-float asFloat ofInt fits
+all-whole = refl
+
+pub record Whole (n : ℕ) : Type 0 where
+  pub held : T (fits binary64 (asFloat n))
+  pub above : T (positive (asFloat n))
+  pub value : number (asFloat n) ≡ whole n
+
+is-whole : (n : ℕ) → T (whole-float n) → Whole n
+unfolding whole-float
+is-whole n t =
+    let x = asFloat n in
+    let a = fits binary64 x in
+    let b = positive x in
+    let p = eqb (number x .plus) n in
+    let m = eqb (number x .minus) 0 in
+    let o = eqb (number x .over) 1 in
+    let t4 = and-l (a && b && p && m) o t in
+    let t3 = and-l (a && b && p) m t4 in
+    let t2 = and-l (a && b) p t3 in
+    record {
+      held = and-l a b t2;
+      above = and-r a b t2;
+      value =
+          let e0 = eqb→eq (number x .plus) n (and-r (a && b) p t3) in
+          let e1 = eqb→eq (number x .minus) 0 (and-r (a && b && p) m t4) in
+          let e2 = eqb→eq (number x .over) 1 (and-r (a && b && p && m) o t) in
+          λ i. fraction (e0 i) (e1 i) (e2 i);
+    }
+
+-- what a test over a table says of each place
+pub at-each : (s m : ℕ) (f : ℕ → Bool) → any (tab s m f) ≡ false → (n : ℕ) → s ≤ n → n < s + m → f n ≡ false
+at-each s m f e n h l = subst (λ (k : ℕ). f k ≡ false) (omega arith) (any-off s m f e (n - s) (omega arith))
+
+pub whole-is : (n : ℕ) → 1 ≤ n → n ≤ 16 → Whole n
+whole-is n h l = is-whole n (subst T (sym (not-false (whole-float n) (at-each 1 16 (λ n. not (whole-float n)) all-whole n h (omega arith)))) tt)
+
+-- ---- every speaker's azimuth is one that the harmonics take
+refused-at : Layout → ℕ → Bool
+refused-at l i = refusesAzimuth (azimuthAt l i)
+
+customs : any (tab 1 16 (λ n. any (tab 0 n (refused-at (Custom n))))) ≡ false
+unfolding refused-at refusesAngle isInside ofInt asFloat customAzimuth turnedBack round sub mul div lt le neg
+customs = refl
+
+tables : (l : Layout) → uncountable (channelsOf l) ≡ false → any (tab 0 (channelsOf l) (refused-at l)) ≡ false
+unfolding refused-at refusesAngle isInside ofInt le neg
+tables Mono u = refl
+tables Stereo u = refl
+tables Surround51 u = refl
+tables Surround71 u = refl
+tables (Custom n) u = at-each 1 16 (λ n. any (tab 0 n (refused-at (Custom n)))) customs n (in-range n u .0) (omega (arith, in-range n u .1))
+
+pub taken : (l : Layout) (i : ℕ) → uncountable (channelsOf l) ≡ false → i < channelsOf l → refusesAzimuth (azimuthAt l i) ≡ false
+unfolding refused-at
+taken l i u h = at-each 0 (channelsOf l) (refused-at l) (tables l u) i zero-le (omega arith)
+
+-- ---- the weight of channel c in the row of speaker i
+getD-scaled : (f : Float) (xs : List Float) (c : ℕ) (d e : Float) → c < length xs → getD (scaled f xs) c d ≡ mul binary64 (getD xs c e) f
+getD-scaled f [] c d e h = absurd (not-suc-le-zero h)
+getD-scaled f (x ∷ xs) zero d e h = refl
+getD-scaled f (x ∷ xs) (suc c) d e h = getD-scaled f xs c d e (le-of-suc-le-suc h)
+
+getD-take : (n : ℕ) (xs : List Float) (c : ℕ) (d : Float) → c < n → getD (take n xs) c d ≡ getD xs c d
+getD-take zero xs c d h = absurd (not-suc-le-zero h)
+getD-take (suc n) [] c d h = refl
+getD-take (suc n) (x ∷ xs) zero d h = refl
+getD-take (suc n) (x ∷ xs) (suc c) d h = getD-take n xs c d (le-of-suc-le-suc h)
+
+front : refusesElevation (ofInt binary64 (pos 0)) ≡ false
+unfolding refusesAngle isInside ofInt le neg
+front = refl
+
+-- as many of them as are taken
+length-first : (k c : ℕ) (xs : List Float) → c < k → k ≤ length xs → c < length (take k xs)
+length-first k c xs h m = rw (length-take k xs) (omega arith)
+
+module _ (order : ℕ) (l : Layout) (o : refusesOrder order ≡ false) (u : uncountable (channelsOf l) ≡ false) (i : ℕ) (h : i < channelsOf l) where
+  root : RootOf (2 ^ 53) (number (rootOf binary64 (asFloat (channelsOf l)))) (whole (channelsOf l))
+  root =
+      let w = whole-is (channelsOf l) (in-range (channelsOf l) u .0) (in-range (channelsOf l) u .1) in
+      subst (RootOf (2 ^ 53) (number (rootOf binary64 (asFloat (channelsOf l))))) (w .value) (root-close binary64 (asFloat (channelsOf l)) (w .held) (w .above))
+
+  near-one : (x : Float) (a : Fraction) → Approximates 42 (whole 5) x a → BySquares matrixBits (number (mul binary64 x (inverseRoot (channelsOf l)))) a (whole (channelsOf l))
+  unfolding inverseRoot round
+  near-one x a s =
+      let w = whole-is (channelsOf l) (in-range (channelsOf l) u .0) (in-range (channelsOf l) u .1) in
+      over-root (rootOf binary64 (asFloat (channelsOf l))) (channelsOf l) s (in-range (channelsOf l) u .0) (in-range (channelsOf l) u .1) root (root-fits binary64 (asFloat (channelsOf l)) (w .held) (w .above)) matrixBits tt
+
+  pub near : (c : ℕ) → c < channelsIn order → channelsIn order ≤ 16 → BySquares matrixBits (number (getD (rowBy order l (channelsOf l) (channelsIn order) i) c nan)) (formulaAt order l i c) (whole (channelsOf l))
+  unfolding ofInt
+  near c k m =
+      let d = towards (azimuthAt l i) in
+      let g = outcome order d .gains in
+      let z = accepted order d o (taken l i u h) front in
+      subst (λ (x : Float). BySquares matrixBits (number x) (formulaAt order l i c) (whole (channelsOf l)))
+      (sym (getD-scaled (inverseRoot (channelsOf l)) (take (channelsIn order) g) c nan nan (length-first (channelsIn order) c g k (omega (arith, m, gains-length order d (outcome order d) (outcome-kept order d)))) ∙ ap (λ (x : Float). mul binary64 x (inverseRoot (channelsOf l))) (getD-take (channelsIn order) g c nan k)))
+      (near-one (getD g c nan) (formulaAt order l i c) (gain-near order d (outcome order d) (outcome-kept order d) z c nan (whole 0) (omega arith)))

@@ -1,0 +1,47 @@
+-- `decoder_matrix::put_speaker` meets its contract. Assumes nothing.
+use mathlib.Core.Path.{ap}
+use native.Mathlib.Omega.{arith}
+use denote.Ref.{now}
+use lib.Ieee.{ofBits, ofInt}
+use Rattle.harmonics.proofs.Laws.{gains-length}
+use Rattle.harmonics.specs.declared.Coefficients.{Coefficients}
+use Rattle.decoder_matrix.proofs.Filling.{first-put}
+use borrow.Author.Needs.{needs}
+use Rattle.decoder_matrix.proofs.put_speaker.Statement.{statement}
+use Rattle.decoder_matrix.proofs.put_speaker.Tie as tie
+
+compute-sh-coefficients-requires : tie.Need-compute-sh-coefficients-requires
+compute-sh-coefficients-requires c κs = search needs
+
+sub-put-row : tie.Need-sub-put-row
+sub-put-row c = search needs
+
+part-put-row-start : tie.Need-part-put-row-start
+part-put-row-start c = search needs
+
+part-put-row-end : tie.Need-part-put-row-end
+part-put-row-end c = omega (arith, gains-length _ _ _ (c .before .before .compute-sh-coefficients .ensures))
+
+put-row-requires : tie.Need-put-row-requires
+put-row-requires c κs = search needs
+
+same-length : tie.Need-same-length
+same-length c = search needs
+
+returns : tie.Need-returns
+unfolding ofBits ofInt
+returns c =
+    let a = c .before .before .before .before .before .before .before .before .before .args in
+    first-put (now (a .weights)) _ (a .at) (a .channels) (a .scale) _ _ (ap (λ (r : Coefficients). r .gains) (c .before .before .before .before .before .before .before .compute-sh-coefficients .ensures .is)) (c .before .before .put-row .ensures)
+
+pub put-speaker-spec : {M : Type 1} → statement M
+put-speaker-spec =
+    tie.close
+    (tie.spec
+    compute-sh-coefficients-requires
+    sub-put-row
+    part-put-row-start
+    part-put-row-end
+    put-row-requires
+    same-length
+    returns)

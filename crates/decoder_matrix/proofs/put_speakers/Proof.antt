@@ -1,0 +1,78 @@
+-- `decoder_matrix::put_speakers` meets its contract: `Filling`. Assumes nothing.
+use Prim.Native.Nat.{ℕ, _-_}
+use native.Mathlib.Omega.{arith}
+use mathlib.Core.Path.{_≡_, ap, _∙_}
+use mathlib.Core.List.{List}
+use denote.Ref.{now}
+use lib.Ieee.{Float}
+use lib.ListN.{take}
+use lib.Seq.{sets}
+use Rattle.rows.specs.Rows.{scaled}
+use Rattle.harmonics.specs.Promise.{outcome}
+use Rattle.decoder_matrix.specs.Speakers.{azimuthBy, towards}
+use Rattle.decoder_matrix.specs.Matrix.{rowBy}
+use Rattle.decoder_matrix.proofs.Filling.{Filling, filling-none, filling-more, filling-all}
+use Rattle.decoder_matrix.proofs.put_speakers.Statement.{statement}
+use Rattle.decoder_matrix.proofs.put_speakers.Tie as tie
+
+abbrev Inv-loop : tie.InvT-loop
+Inv-loop order layout n channels weights₀ scale at₀ i₀ weights at i = Filling weights₀ channels n (rowBy order layout n channels) weights at i
+
+abbrev μ-loop : tie.MeasureT-loop
+μ-loop order layout n channels weights₀ scale at₀ i₀ weights at i = n - i
+
+inverse-root-requires : tie.Need-inverse-root-requires Inv-loop μ-loop
+inverse-root-requires c κs = tt
+
+loop-holds : tie.Need-loop-holds Inv-loop μ-loop
+loop-holds c = let a = c .before .before .args in filling-none (now (a .weights)) (a .channels) (a .n) (rowBy (a .order) (a .layout) (a .n) (a .channels))
+
+speaker-position-requires : tie.Need-speaker-position-requires Inv-loop μ-loop
+speaker-position-requires c κs = tt
+
+put-speaker-requires : tie.Need-put-speaker-requires Inv-loop μ-loop
+put-speaker-requires c κs = omega arith
+
+add-at : tie.Need-add-at Inv-loop μ-loop
+add-at c = omega arith
+
+add-i : tie.Need-add-i Inv-loop μ-loop
+add-i c = omega arith
+
+loop-less : tie.Need-loop-less Inv-loop μ-loop
+loop-less c = omega arith
+
+loop-again : tie.Need-loop-again Inv-loop μ-loop
+loop-again c =
+    let a = c .before .before .before .before .before .before .before .before .before .args in
+    let at = c .before .before .before .before .before .before .loop in
+    filling-more (now (a .weights)) (a .channels) (a .n) (rowBy (a .order) (a .layout) (a .n) (a .channels)) (at .weights) (at .at) (at .i) (at .inv) (c .before .before .put-speaker .last .1 .1 .1 .1 .0) (omega arith) (c .before .before .before .before .before .loop-test .taken)
+    (c .before .before .put-speaker .ensures
+    ∙ ap (λ (z : Float). sets (at .weights) (at .at) (scaled (c .before .before .before .before .before .before .before .inverse-root .result) (take (a .channels) (outcome (a .order) (towards z) .gains)))) (c .before .before .before .before .speaker-position .ensures)
+    ∙ ap (λ (s : Float). sets (at .weights) (at .at) (scaled s (take (a .channels) (outcome (a .order) (towards (azimuthBy (a .layout) (a .n) (at .i))) .gains)))) (c .before .before .before .before .before .before .before .inverse-root .ensures .value))
+
+same-length : tie.Need-same-length Inv-loop μ-loop
+same-length c = omega arith
+
+returns : tie.Need-returns Inv-loop μ-loop
+returns c =
+    let a = c .before .before .before .before .args in
+    let at = c .before .loop in
+    filling-all (now (a .weights)) (a .channels) (a .n) (rowBy (a .order) (a .layout) (a .n) (a .channels)) (at .weights) (at .at) (at .i) (at .inv) (c .loop-test .left)
+
+pub put-speakers-spec : {M : Type 1} → statement M
+put-speakers-spec =
+    tie.close
+    (tie.spec
+    Inv-loop
+    μ-loop
+    inverse-root-requires
+    loop-holds
+    speaker-position-requires
+    put-speaker-requires
+    add-at
+    add-i
+    loop-less
+    loop-again
+    same-length
+    returns)

@@ -1,0 +1,99 @@
+-- The promise is kept: all of it holds of the answer that the definition gives, and so of the three answers that the program can give. Assumes nothing.
+use mathlib.Core.Path.{_≡_, refl, sym, ap, _∙_, subst}
+use mathlib.Core.Bool.{Bool, true, false, _||_, cond, true≢false}
+use mathlib.Core.List.{List}
+use Prim.Native.Nat.{ℕ, _<_}
+use native.Mathlib.Omega.{arith}
+use lib.Dec.{eqb, lit≤}
+use lib.ListN.{length}
+use lib.IntN.{pos}
+use lib.Ieee.{Float, ofInt}
+use Rattle.fractions.specs.Fraction.{number, whole, magnitude, AtMost}
+use Rattle.fractions.specs.Approximates.{EachWithin}
+use Rattle.fractions.proofs.Close.{size-wider}
+use Rattle.fractions.proofs.Within.{at-most-size, size-at-most}
+use Rattle.harmonics.specs.Formulas.{formulas}
+use Rattle.harmonics.specs.Computed.{wavesOf, upTo, gainsOf}
+use Rattle.harmonics.specs.Promise.{gainBits, refusesOrder, refusesAzimuth, refusesElevation, refusesDirection, refusalOf, silence, outcome, Promise}
+use Rattle.harmonics.specs.declared.Direction.{Direction}
+use Rattle.harmonics.specs.declared.Coefficients.{Coefficients}
+use Rattle.harmonics.proofs.Limits.{accepted-number, accepted-size}
+use Rattle.harmonics.proofs.Orders.{by-order}
+use Rattle.harmonics.proofs.Near.{Bounded, bounded}
+
+-- ---- which orders and directions are accepted
+tests : (a b : Bool) → _≡_ {A = ℕ} (cond a 1 (cond b 3 0)) 0 → (a ≡ false) × (b ≡ false)
+tests true b h = absurd (one h)
+  where
+    one : _≡_ {A = ℕ} 1 0 → ⊥
+    one h = omega arith
+tests false true h = absurd (three h)
+  where
+    three : _≡_ {A = ℕ} 3 0 → ⊥
+    three h = omega arith
+tests false false h = (refl, refl)
+
+neither : (a b : Bool) → a || b ≡ false → (a ≡ false) × (b ≡ false)
+neither true b h = absurd (true≢false h)
+neither false b h = (refl, h)
+
+-- what is known of an accepted direction
+pub record Accepted (order : ℕ) (d : Direction) : Type 0 where
+  pub order-is : refusesOrder order ≡ false
+  pub azimuth : 0 < number (d .azimuth) .over
+  pub azimuth-size : AtMost (magnitude (number (d .azimuth))) (whole 180)
+  pub elevation : 0 < number (d .elevation) .over
+  pub elevation-size : AtMost (magnitude (number (d .elevation))) (whole 90)
+
+module _ (order : ℕ) (d : Direction) where
+  pub is-accepted : refusalOf order d ≡ 0 → Accepted order d
+  unfolding ofInt
+  is-accepted h =
+      let t = tests (refusesOrder order) (refusesDirection d) h in
+      let n = neither (refusesAzimuth (d .azimuth)) (refusesElevation (d .elevation)) (t .1) in
+      record {
+        order-is = t .0;
+        azimuth = accepted-number false 45 (pos 2) (d .azimuth) (n .0);
+        azimuth-size = accepted-size false 45 (pos 2) (d .azimuth) (n .0);
+        elevation = accepted-number false 45 (pos 1) (d .elevation) (n .1);
+        elevation-size = accepted-size false 45 (pos 1) (d .elevation) (n .1);
+      }
+
+  -- ---- the answer by the two tests
+  abbrev answer : Bool → Bool → Coefficients
+  answer a b = let r : ℕ = cond a 1 (cond b 3 0) in record { refusal = r; gains = cond (eqb r 0) (upTo order (wavesOf d)) silence }
+
+  pub gains-are : refusalOf order d ≡ 0 → outcome order d .gains ≡ upTo order (wavesOf d)
+  gains-are h = let t = tests (refusesOrder order) (refusesDirection d) h in λ i. answer (t .0 i) (t .1 i) .gains
+
+  pub length-is : length (outcome order d .gains) ≡ 16
+  unfolding upTo
+  length-is = go (refusesOrder order) (refusesDirection d) (λ h. by-order (λ (n : ℕ). length (upTo n (wavesOf d)) ≡ 16) refl refl refl order h)
+    where
+      go : (a b : Bool) → (a ≡ false → length (upTo order (wavesOf d)) ≡ 16) → length (answer a b .gains) ≡ 16
+      go true b f = refl
+      go false true f = refl
+      go false false f = f refl
+
+  pub near-all : refusalOf order d ≡ 0 → Bounded d order
+  near-all h =
+      let a = is-accepted h in
+      bounded d (a .azimuth) (a .azimuth-size) (a .elevation) (size-at-most (size-wider (at-most-size (a .elevation-size)) (lit≤ tt))) order (a .order-is)
+
+  pub kept : Promise order d (outcome order d)
+  kept = record {
+    is = refl;
+    near = λ h. subst (λ (xs : List Float). EachWithin gainBits xs (formulas order (number (d .azimuth)) (number (d .elevation)))) (sym (gains-are h)) (near-all h .near);
+  }
+
+  -- ---- the three answers of the program
+  pub order-refused : (r : Coefficients) → refusesOrder order ≡ true → r ≡ record { refusal = 1; gains = silence } → Promise order d r
+  order-refused r h e = subst (Promise order d) (ap (λ (a : Bool). answer a (refusesDirection d)) h ∙ sym e) kept
+
+  pub direction-refused : (r : Coefficients) → refusesOrder order ≡ false → refusesDirection d ≡ true → r ≡ record { refusal = 3; gains = silence } → Promise order d r
+  direction-refused r h k e = subst (Promise order d) ((λ i. answer (h i) (k i)) ∙ sym e) kept
+
+  pub accepted-kept : (g : List Float) → refusesOrder order ≡ false → refusesDirection d ≡ false → g ≡ gainsOf order (wavesOf d) → Promise order d (record { refusal = 0; gains = g })
+  accepted-kept g h k e =
+      subst (Promise order d)
+      ((λ i. answer (h i) (k i)) ∙ ap (λ (xs : List Float). record { refusal = 0; gains = xs }) (sym (e ∙ by-order (λ (n : ℕ). gainsOf n (wavesOf d) ≡ upTo n (wavesOf d)) refl refl refl order h))) kept

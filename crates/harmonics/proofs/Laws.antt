@@ -1,0 +1,65 @@
+-- What the crates above cite of the coefficients, beside their promise: which orders and directions are accepted, that each coefficient is nearer its formula than promised, and how large the formula is.
+-- Assumes nothing.
+use mathlib.Core.Path.{_≡_, refl, sym, ap, _∙_, subst}
+use mathlib.Core.Bool.{Bool, false, _||_, cond}
+use mathlib.Core.List.{List}
+use Prim.Native.Nat.{ℕ, _<_}
+use lib.IntN.{pos}
+use lib.ListN.{length, getD}
+use lib.Ieee.{Float, ofInt}
+use Rattle.fractions.specs.Fraction.{Fraction, number, whole, magnitude, AtMost}
+use Rattle.fractions.specs.Approximates.{Approximates}
+use Rattle.harmonics.specs.Formulas.{formulas}
+use Rattle.harmonics.specs.Computed.{wavesOf, upTo}
+use Rattle.harmonics.specs.Promise.{refusesOrder, refusesAzimuth, refusesElevation, refusesDirection, refusalOf, silence, outcome, Promise}
+use Rattle.harmonics.specs.declared.Direction.{Direction}
+use Rattle.harmonics.specs.declared.Coefficients.{Coefficients}
+use Rattle.harmonics.proofs.Limits.{accepted-number, accepted-size, size-accepted}
+use Rattle.harmonics.proofs.Orders.{by-order}
+use Rattle.harmonics.proofs.Kept as Kept
+
+-- ---- which angles are accepted: those of 180, or of 90 degrees at most in size
+module _ (x : Float) (X : 0 < number x .over) where
+  pub azimuth-accepted : AtMost (magnitude (number x)) (whole 180) → refusesAzimuth x ≡ false
+  unfolding ofInt
+  azimuth-accepted = size-accepted false 45 (pos 2) x X
+
+  pub elevation-accepted : AtMost (magnitude (number x)) (whole 90) → refusesElevation x ≡ false
+  unfolding ofInt
+  elevation-accepted = size-accepted false 45 (pos 1) x X
+
+pub azimuth-number : (x : Float) → refusesAzimuth x ≡ false → 0 < number x .over
+unfolding ofInt
+azimuth-number = accepted-number false 45 (pos 2)
+
+pub azimuth-size : (x : Float) → refusesAzimuth x ≡ false → AtMost (magnitude (number x)) (whole 180)
+unfolding ofInt
+azimuth-size = accepted-size false 45 (pos 2)
+
+-- ---- which orders and directions are accepted, and what is known of them
+pub accepted : (order : ℕ) (d : Direction) → refusesOrder order ≡ false → refusesAzimuth (d .azimuth) ≡ false → refusesElevation (d .elevation) ≡ false → refusalOf order d ≡ 0
+accepted order d n a e = λ i. cond (n i) 1 (cond (a i || e i) 3 0)
+
+pub is-accepted : (order : ℕ) (d : Direction) → refusalOf order d ≡ 0 → Kept.Accepted order d
+is-accepted = Kept.is-accepted
+
+-- ---- the promise holds of the answer that the definition gives, so that all of it can be had of coefficients that are said by the definition alone
+pub outcome-kept : (order : ℕ) (d : Direction) → Promise order d (outcome order d)
+outcome-kept = Kept.kept
+
+module _ (order : ℕ) (d : Direction) (answer : Coefficients) (p : Promise order d answer) where
+  pub refusal-is : answer .refusal ≡ refusalOf order d
+  refusal-is = ap (λ (r : Coefficients). r .refusal) (p .is)
+
+  pub gains-are : refusalOf order d ≡ 0 → answer .gains ≡ upTo order (wavesOf d)
+  gains-are h = ap (λ (r : Coefficients). r .gains) (p .is) ∙ Kept.gains-are order d h
+
+  -- ---- each, by its channel: nearer than promised, and of what magnitude
+  pub gain-near : refusalOf order d ≡ 0 → (i : ℕ) (x : Float) (q : Fraction) → i < 16
+      → Approximates 42 (whole 5) (getD (answer .gains) i x) (getD (formulas order (number (d .azimuth)) (number (d .elevation))) i q)
+  gain-near h i x q l =
+      subst (λ (xs : List Float). Approximates 42 (whole 5) (getD xs i x) (getD (formulas order (number (d .azimuth)) (number (d .elevation))) i q)) (sym (gains-are h)) (Kept.near-all order d h .each i x q l)
+
+  -- ---- there are sixteen, refused or not
+  pub gains-length : length (answer .gains) ≡ 16
+  gains-length = ap (λ (r : Coefficients). length (r .gains)) (p .is) ∙ Kept.length-is order d

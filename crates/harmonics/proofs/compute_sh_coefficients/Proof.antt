@@ -1,0 +1,61 @@
+-- `harmonics::compute_sh_coefficients` meets its contract. Assumes nothing.
+use mathlib.Core.Path.{sym, ap, _∙_}
+use Rattle.harmonics.specs.Computed.{gainsOf}
+use Rattle.harmonics.specs.declared.Waves.{Waves}
+use Rattle.harmonics.proofs.Kept.{order-refused, direction-refused, accepted-kept}
+use borrow.Author.Needs.{needs}
+use Rattle.harmonics.proofs.compute_sh_coefficients.Statement.{statement}
+use Rattle.harmonics.proofs.compute_sh_coefficients.Tie as tie
+
+refuses-order-requires : tie.Need-refuses-order-requires
+refuses-order-requires c κs = search needs
+
+refused-requires : tie.Need-refused-requires
+refused-requires c κs = search needs
+
+returns : tie.Need-returns
+returns c =
+    let s = c .before .before in
+    let a = s .before .args in
+    order-refused (a .order) (a .direction) (c .refused .result) (sym (s .refuses-order .ensures) ∙ c .before .if1 .taken) (c .refused .ensures)
+
+refuses-direction-requires : tie.Need-refuses-direction-requires
+refuses-direction-requires c κs = search needs
+
+refused-requires-2 : tie.Need-refused-requires-2
+refused-requires-2 c κs = search needs
+
+returns-2 : tie.Need-returns-2
+returns-2 c =
+    let s = c .before .before in
+    let o = s .before .before in
+    let a = o .before .args in
+    direction-refused (a .order) (a .direction) (c .refused2 .result) (sym (o .refuses-order .ensures) ∙ s .before .if1 .left) (sym (s .refuses-direction .ensures) ∙ c .before .if2 .taken) (c .refused2 .ensures)
+
+waves-of-requires : tie.Need-waves-of-requires
+waves-of-requires c κs = search needs
+
+gains-of-requires : tie.Need-gains-of-requires
+gains-of-requires c κs = search needs
+
+returns-3 : tie.Need-returns-3
+returns-3 c =
+    let s = c .before .before .before in
+    let o = s .before .before in
+    let a = o .before .args in
+    accepted-kept (a .order) (a .direction) (c .gains-of .result) (sym (o .refuses-order .ensures) ∙ s .before .if1 .left) (sym (s .refuses-direction .ensures) ∙ c .before .before .if2 .left)
+    (c .gains-of .ensures ∙ ap (λ (w : Waves). gainsOf (a .order) w) (c .before .waves-of .ensures))
+
+pub compute-sh-coefficients-spec : {M : Type 1} → statement M
+compute-sh-coefficients-spec =
+    tie.close
+    (tie.spec
+    refuses-order-requires
+    refused-requires
+    returns
+    refuses-direction-requires
+    refused-requires-2
+    returns-2
+    waves-of-requires
+    gains-of-requires
+    returns-3)

@@ -1,0 +1,62 @@
+-- `harmonics::waves_of` meets its contract. Assumes nothing.
+use lib.Ieee.{ofBits, round}
+use Rattle.harmonics.specs.Computed.{wavesOf}
+use borrow.Author.Needs.{needs}
+use Rattle.harmonics.proofs.waves_of.Statement.{statement}
+use Rattle.harmonics.proofs.waves_of.Tie as tie
+
+cos-requires : tie.Need-cos-requires
+cos-requires c κs = search needs
+
+sin-requires : tie.Need-sin-requires
+sin-requires c κs = search needs
+
+sin-requires-2 : tie.Need-sin-requires-2
+sin-requires-2 c κs = search needs
+
+cos-requires-2 : tie.Need-cos-requires-2
+cos-requires-2 c κs = search needs
+
+sin-requires-3 : tie.Need-sin-requires-3
+sin-requires-3 c κs = search needs
+
+cos-requires-3 : tie.Need-cos-requires-3
+cos-requires-3 c κs = search needs
+
+sin-requires-4 : tie.Need-sin-requires-4
+sin-requires-4 c κs = search needs
+
+cos-requires-4 : tie.Need-cos-requires-4
+cos-requires-4 c κs = search needs
+
+sin-requires-5 : tie.Need-sin-requires-5
+sin-requires-5 c κs = search needs
+
+returns : tie.Need-returns
+unfolding wavesOf round ofBits
+returns c = λ i. record {
+  «cos_el» = c .before .before .before .before .before .before .before .before .cos .ensures i;
+  «sin_el» = c .before .before .before .before .before .before .before .sin .ensures i;
+  «sin_2el» = c .before .before .before .before .before .before .sin2 .ensures i;
+  «cos_az» = c .before .before .before .before .before .cos2 .ensures i;
+  «sin_az» = c .before .before .before .before .sin3 .ensures i;
+  «cos_2az» = c .before .before .before .cos3 .ensures i;
+  «sin_2az» = c .before .before .sin4 .ensures i;
+  «cos_3az» = c .before .cos4 .ensures i;
+  «sin_3az» = c .sin5 .ensures i;
+}
+
+pub waves-of-spec : {M : Type 1} → statement M
+waves-of-spec =
+    tie.close
+    (tie.spec
+    cos-requires
+    sin-requires
+    sin-requires-2
+    cos-requires-2
+    sin-requires-3
+    cos-requires-3
+    sin-requires-4
+    cos-requires-4
+    sin-requires-5
+    returns)

@@ -1,0 +1,4 @@
+-- The formulas, the promise, and what the program computes.
+pub mod Formulas
+pub mod Computed
+pub mod Promise

@@ -1,0 +1,62 @@
+-- Document 01, 'Refusal numbers': 1 is given exactly when "ambisonic order is not 1, 2 or 3", 3 when "an angle [..] is NaN or infinite, or azimuth is outside -180..180, elevation outside -90..90", and "A
+-- refusal returns its number, [..] 0.0 for any number or gain". 'Gains', harmonics: "Within 2^-34 of the formula over the defined sums." Definitions only.
+use Prim.Native.Nat.{ℕ}
+use mathlib.Core.Path.{_≡_}
+use mathlib.Core.Bool.{Bool, not, _&&_, _||_, cond}
+use mathlib.Core.List.{List, [], _∷_}
+use lib.Dec.{leb, eqb}
+use lib.IntN.{pos}
+use lib.ListN.{replicate}
+use lib.Ieee.{Float, binary64, le, neg, ofInt}
+use lib.Ieee.Scale.{finite}
+use Rattle.refusals.specs.Refusals.{firstOf, _when_}
+use Rattle.fractions.specs.Fraction.{number}
+use Rattle.fractions.specs.Approximates.{EachWithin}
+use Rattle.harmonics.specs.Formulas.{formulas}
+use Rattle.harmonics.specs.Computed.{wavesOf, upTo}
+use Rattle.harmonics.specs.declared.Direction.{Direction}
+use Rattle.harmonics.specs.declared.Coefficients.{Coefficients}
+
+-- within 2 ^ -gainBits: the place to change it at
+abbrev pub gainBits : ℕ
+gainBits = 34
+
+-- ---- refusals
+
+abbrev pub refusesOrder : ℕ → Bool
+refusesOrder n = not (leb 1 n && leb n 3)
+
+abbrev pub degrees : ℕ → Float
+degrees n = ofInt binary64 (pos n)
+
+-- -limit..limit
+unfoldable pub isInside : Float → Float → Bool
+isInside limit x = le (neg limit) x && le x limit
+
+unfoldable pub refusesAngle : Float → Float → Bool
+refusesAngle limit x = not (finite x) || not (isInside limit x)
+
+abbrev pub refusesAzimuth : Float → Bool
+refusesAzimuth a = refusesAngle (degrees 180) a
+
+abbrev pub refusesElevation : Float → Bool
+refusesElevation e = refusesAngle (degrees 90) e
+
+abbrev pub refusesDirection : Direction → Bool
+refusesDirection d = refusesAzimuth (d .azimuth) || refusesElevation (d .elevation)
+
+abbrev pub refusalOf : ℕ → Direction → ℕ
+refusalOf order d = firstOf (1 when refusesOrder order ∷ 3 when refusesDirection d ∷ [])
+
+-- ---- the answer
+
+abbrev pub silence : List Float
+silence = replicate 16 (degrees 0)
+
+abbrev pub outcome : ℕ → Direction → Coefficients
+outcome order d = record { refusal = refusalOf order d; gains = cond (eqb (refusalOf order d) 0) (upTo order (wavesOf d)) silence }
+
+-- every bit of the answer; and of the coefficients of an accepted direction how near each is to its formula
+pub record Promise (order : ℕ) (d : Direction) (answer : Coefficients) : Type 0 where
+  pub is : answer ≡ outcome order d
+  pub near : refusalOf order d ≡ 0 → EachWithin gainBits (answer .gains) (formulas order (number (d .azimuth)) (number (d .elevation)))
