@@ -6,9 +6,10 @@ pub mod Close
 pub mod Within
 pub mod Magnitude
 pub mod Divide
--- Floats: each operation is the exact result, rounded once; how far that moves it, and where it does not.
+-- Floats: each operation is the exact result, rounded once; how far that moves it, and where it does not; and comparing them.
 pub mod Closest
 pub mod Number
+pub mod IsLess
 pub mod Rounding
 pub mod Operations
 pub mod Exact
@@ -17,6 +18,7 @@ pub mod Back
 -- Bounds: the calculus of errors, expressions, and quotients by a root.
 pub mod Near
 pub mod Expression
+pub mod Compare
 pub mod Squares
 pub mod Roots
 pub mod Sums

@@ -3,6 +3,7 @@
 use Prim.Native.Nat.{ℕ, _+_, _-_, _*_, _^_, _≤_, _<_}
 use mathlib.Core.Path.{_≡_}
 use mathlib.Core.Bool.{Bool, cond}
+use lib.Dec.{ltb}
 use lib.Ieee.{Float, nan, inf, fin, up, down}
 
 -- (plus - minus) / over
@@ -69,6 +70,10 @@ Same x y = x .plus * y .over + y .minus * x .over ≡ y .plus * x .over + x .min
 
 abbrev pub Less : Fraction → Fraction → Type 0
 Less x y = x .plus * y .over + y .minus * x .over < y .plus * x .over + x .minus * y .over
+
+-- the same as a test, for a definition that goes by cases
+abbrev pub isLess : Fraction → Fraction → Bool
+isLess x y = ltb (x .plus * y .over + y .minus * x .over) (y .plus * x .over + x .minus * y .over)
 
 abbrev pub AtMost : Fraction → Fraction → Type 0
 AtMost x y = x .plus * y .over + y .minus * x .over ≤ y .plus * x .over + x .minus * y .over

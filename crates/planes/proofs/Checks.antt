@@ -6,12 +6,12 @@ use Prim.Native.Nat.{ℕ, zero, suc, _+_, _-_, _≤_, _<_, zero-le}
 use native.Mathlib.Nat.{not-suc-le-zero, add-zero, add-suc, suc-add}
 use native.Mathlib.Omega.{arith}
 use lib.ListN.{length, getD, take, drop}
-use lib.Dec.{eqb}
-use borrow.Author.Tests.{eqb-true, not-false}
+use lib.Dec.{eqb, ltb}
+use borrow.Author.Tests.{eqb-true, not-false, ltb-false}
 use lib.Ieee.{Float, nan}
 use lib.Ieee.Scale.{finite}
 use Rattle.planes.specs.Tables.{tab, any, unsound}
-use Rattle.planes.specs.Planes.{sampleAt}
+use Rattle.planes.specs.Planes.{outside, sampleAt}
 use Rattle.planes.proofs.Tables.{tab-shift, tab-more, tab-none, tab-all}
 
 -- ---- the first that holds makes an `||` true; one that does not leaves it to the rest
@@ -34,6 +34,17 @@ any-off i (suc n) f e (suc k) h = ap f (add-suc i k ∙ sym (suc-add i k)) ∙ a
 -- a length that was tested is that product
 pub is-equal : (a b : ℕ) → not (eqb a b) ≡ false → a ≡ b
 is-equal a b e = eqb-true a b (not-false (eqb a b) e)
+
+-- a count that was tested is 1..top
+pub not-outside : (n top : ℕ) → outside n top ≡ false → (0 < n) × (n ≤ top)
+not-outside n top e =
+    let p = or-off (eqb n 0) (ltb top n) e in
+    let q : n ≤ top = ltb-false top n (p .1) in
+    (some n (p .0), q)
+  where
+    some : (n : ℕ) → eqb n 0 ≡ false → 0 < n
+    some zero e = absurd (true≢false e)
+    some (suc n) e = omega arith
 
 -- ---- a loop over places 0, 1, .. that stops at the first of which f holds
 

@@ -13,6 +13,7 @@ use Rattle.planes.specs.Planes.{sampleAt, frameAt, withSample, withFrame
 use Rattle.planes.specs.Sums.{dot, mixed, mixedAll}
 use Rattle.planes.proofs.Lists.{getD-min, drop-min, take-min}
 use Rattle.planes.proofs.Tables.{length-tab, getD-tab, take-tab, tab-more, tab-none, tab-all}
+use Rattle.planes.proofs.Framing.{Sampling, sampling-none, sampling-more, sampling-all}
 use Rattle.planes.proofs.Sums.{dot-more, dot-done, dot-take}
 
 -- ---- the loop over channels
@@ -65,42 +66,27 @@ mixed-row n i weights inputs stride frame =
 
 -- ---- the loop over outputs
 
-pub record Laying (out₀ : List Float) (stride₁ frame₁ outputs : ℕ) (weights : List Float) (channels : ℕ) (inputs : List Float) (stride frame : ℕ) (out : List Float) (o : ℕ) : Type 0 where
-  pub below : o ≤ outputs
-  pub long : length out ≡ length out₀
-  pub laid :
-      withFrameFrom o out stride₁ frame₁ (tab o (outputs - o) (λ k. mixed (row channels k weights) (frameAt inputs stride channels frame)))
-      ≡ withFrame out₀ stride₁ frame₁ (mixedAll outputs channels weights (frameAt inputs stride channels frame))
+-- output o of a frame
+abbrev output : List Float → ℕ → List Float → ℕ → ℕ → ℕ → Float
+output weights channels inputs stride frame o = mixed (row channels o weights) (frameAt inputs stride channels frame)
+
+abbrev pub Laying : List Float → ℕ → ℕ → ℕ → List Float → ℕ → List Float → ℕ → ℕ → List Float → ℕ → Type 0
+Laying out₀ stride₁ frame₁ outputs weights channels inputs stride frame = Sampling out₀ stride₁ frame₁ outputs (output weights channels inputs stride frame)
 
 module _ (out₀ : List Float) (stride₁ frame₁ outputs : ℕ) (weights : List Float) (channels : ℕ) (inputs : List Float) (stride frame : ℕ) where
-  -- output o of the frame
-  output : ℕ → Float
-  output o = mixed (row channels o weights) (frameAt inputs stride channels frame)
-
   pub laying-none : Laying out₀ stride₁ frame₁ outputs weights channels inputs stride frame out₀ 0
-  unfolding output
-  laying-none = record { below = zero-le; long = refl; laid = ap (withFrameFrom 0 out₀ stride₁ frame₁) (tab-all outputs output) }
+  laying-none = sampling-none out₀ stride₁ frame₁ outputs (output weights channels inputs stride frame)
 
   pub laying-more : (out : List Float) (o from to : ℕ) (x : Float) (out₁ : List Float) → Laying out₀ stride₁ frame₁ outputs weights channels inputs stride frame out o → o < outputs
       → from ≡ min (o * channels + 0) (length weights) → to ≡ min (from + channels) (length weights)
       → x ≡ mixed (take (to - from) (drop from weights)) (frameAt inputs stride (length (take (to - from) (drop from weights))) frame)
       → out₁ ≡ withSample out stride₁ o frame₁ x
       → Laying out₀ stride₁ frame₁ outputs weights channels inputs stride frame out₁ (o + 1)
-  unfolding output
   laying-more out o from to x out₁ l h ef et ex eo =
-      record {
-        below = omega arith;
-        long = ap length eo ∙ length-set out (o * stride₁ + frame₁) x ∙ l .long;
-        laid =
-            ap (λ (k : ℕ). withFrameFrom k out₁ stride₁ frame₁ (tab (o + 1) (outputs - (o + 1)) output)) (add-one o)
-            ∙ ap (λ (ys : List Float). withFrameFrom (suc o) ys stride₁ frame₁ (tab (o + 1) (outputs - (o + 1)) output))
-            (eo ∙ ap (withSample out stride₁ o frame₁)
-            (ex ∙ ap (λ (ws : List Float). mixed ws (frameAt inputs stride (length ws) frame)) (row-part channels o weights from to ef et) ∙ mixed-row channels o weights inputs stride frame))
-            ∙ sym (ap (withFrameFrom o out stride₁ frame₁) (tab-more outputs o output h))
-            ∙ l .laid;
-      }
+      sampling-more out₀ stride₁ frame₁ outputs (output weights channels inputs stride frame) out o l x out₁ h
+      (ex ∙ ap (λ (ws : List Float). mixed ws (frameAt inputs stride (length ws) frame)) (row-part channels o weights from to ef et) ∙ mixed-row channels o weights inputs stride frame)
+      eo
 
   pub laying-all : (out : List Float) (o : ℕ) → Laying out₀ stride₁ frame₁ outputs weights channels inputs stride frame out o → outputs ≤ o
       → out ≡ withFrame out₀ stride₁ frame₁ (mixedAll outputs channels weights (frameAt inputs stride channels frame))
-  unfolding output
-  laying-all out o l h = ap (withFrameFrom o out stride₁ frame₁) (sym (tab-none outputs o output h)) ∙ l .laid
+  laying-all = sampling-all out₀ stride₁ frame₁ outputs (output weights channels inputs stride frame)

@@ -1,8 +1,8 @@
 -- Laws of tables and rows: what a table holds, that it is known by its places, what is left of it in a loop, and where a row begins and ends. Assumes nothing.
 use mathlib.Core.Path.{_≡_, refl, sym, ap, _∙_}
-use mathlib.Core.List.{List, [], _∷_, map}
+use mathlib.Core.List.{List, [], _∷_, _++_, map}
 use Prim.Native.Nat.{ℕ, zero, suc, _+_, _-_, _*_, _≤_, _<_}
-use native.Mathlib.Nat.{not-suc-le-zero, le-of-suc-le-suc, add-zero, add-suc, suc-add, sub-zero, mul-le-mul-right, suc-mul}
+use native.Mathlib.Nat.{not-suc-le-zero, le-of-suc-le-suc, add-zero, zero-add, add-suc, suc-add, sub-zero, mul-le-mul-right, suc-mul}
 use native.Mathlib.Numerals.{add-one}
 use native.Mathlib.Omega.{arith}
 use lib.ListN.{length, getD, take, drop, length-take, length-drop}
@@ -22,6 +22,16 @@ module _ {A : Type 0} where
   pub tab-ext : (i n : ℕ) (f g : ℕ → A) → ((s : ℕ) → s < i + n → f s ≡ g s) → tab i n f ≡ tab i n g
   tab-ext i zero f g e = refl
   tab-ext i (suc n) f g e = cc (e i (omega arith), tab-ext (suc i) n f g (λ s h. e s (omega arith)))
+
+  -- a table in two parts, and one place more at the end
+  pub tab-append : (i n m : ℕ) (f : ℕ → A) → tab i (n + m) f ≡ tab i n f ++ tab (i + n) m f
+  tab-append i zero m f = ap (λ (k : ℕ). tab i k f) (zero-add m) ∙ ap (λ (k : ℕ). tab k m f) (sym (add-zero i))
+  tab-append i (suc n) m f =
+      ap (λ (k : ℕ). tab i k f) (suc-add n m)
+      ∙ ap (λ (r : List A). f i ∷ r) (tab-append (suc i) n m f ∙ ap (λ (k : ℕ). tab (suc i) n f ++ tab k m f) (suc-add i n ∙ sym (add-suc i n)))
+
+  pub tab-snoc : (i n : ℕ) (f : ℕ → A) → tab i (suc n) f ≡ tab i n f ++ (f (i + n) ∷ [])
+  tab-snoc i n f = ap (λ (k : ℕ). tab i k f) (sym (add-one n)) ∙ tab-append i n 1 f
 
   pub tab-shift : (i n : ℕ) (f : ℕ → A) → tab (suc i) n f ≡ tab i n (λ k. f (suc k))
   tab-shift i zero f = refl

@@ -4,7 +4,7 @@ use mathlib.Core.Path.{_≡_}
 use Prim.Native.Nat.{ℕ, suc, _+_, _*_, _%_, _^_, _≤_, _<_}
 use native.Mathlib.Nat.{mul-pos, mul-le-mul-right, two-pow-succ}
 use native.Mathlib.Omega.{arith}
-use lib.Dec.{lit<}
+use lib.Dec.{lit<, lit≤}
 use lib.ListN.{getD}
 use lib.Pow.{pow-pos, pow-mono}
 use Rattle.fractions.specs.Fraction.{Fraction, fraction, whole, unit, opposite, magnitude, square, _⊕_, _⊖_, Same, AtMost, Within}
@@ -12,7 +12,7 @@ use Rattle.fractions.proofs.Order.{same-refl}
 use Rattle.fractions.proofs.Restate.{same-opposite}
 use Rattle.fractions.proofs.Close.{Close, close-trans}
 use Rattle.fractions.proofs.Close as Fractions
-use Rattle.fractions.proofs.Within.{within-close, counted-within, within-counted, within-same, within-trans, within-opposite, size-at-most, at-most-size, least-at-most}
+use Rattle.fractions.proofs.Within.{within-close, counted-within, within-counted, within-same, within-trans, within-weaken, within-opposite, size-at-most, at-most-size, least-at-most}
 use Rattle.series.specs.Sums.{Wave, sine, cosine, sum, sineSum, cosineSum}
 use Rattle.series.specs.Angles.{reduced, radians, exact, defined, definedSine, definedCosine}
 use Rattle.series.proofs.Terms as Terms
@@ -145,6 +145,12 @@ module _ (d : Fraction) (D : 0 < d .over) where
 
   pub cosine-square-least : AtMost (whole 0) d → AtMost d (whole 80) → AtMost (fraction 3 0 100) (square (definedCosine d))
   cosine-square-least l h = Least.square-least (definedCosine d) (defined-number cosine d D) (Least.cosine-least d D l h)
+
+  -- cos(90 - d) at a distance d of 0 up to 90 is not below 0, up to 2 ^ -50
+  pub rest-not-below : AtMost (whole 0) d → AtMost d (whole 90) → AtMost (opposite (unit 50)) (definedCosine (whole 90 ⊖ d))
+  rest-not-below l h =
+      Least.near-not-below (definedCosine (whole 90 ⊖ d)) (Places.wave sine (reduced d))
+      (within-close (within-trans {k = 50} (cosine-of-rest d D) (within-weaken (lit≤ tt) (Places.defined-sum sine d D)))) (Least.reduced-not-below d D l h)
 
   -- cos(90 - d) at a distance d of 10 up to 90
   pub rest-square-least : AtMost (whole 10) d → AtMost d (whole 90) → AtMost (fraction 3 0 100) (square (definedCosine (whole 90 ⊖ d)))

@@ -1,14 +1,15 @@
 -- From below: the sine from 10 to 90 degrees and the cosine from 0 to 80 are 17362 / 100000 at least (the sine of 10 degrees is 0.17364..), so that their squares are 3 / 100 at least.
--- One computed number shows it: expanded around 10 degrees the sum lies above its first coefficient as far as 90. Assumes nothing.
+-- One computed number shows it: expanded around 10 degrees the sum lies above its first coefficient as far as 90. And from 0 to 90 the sine is not below 0. Assumes nothing.
 use mathlib.Core.Path.{_≡_, refl, ap, subst}
 use mathlib.Core.List.{List, [], _∷_}
 use Prim.Native.Nat.{ℕ, _+_, _*_, _≤_, _<_}
-use native.Mathlib.Nat.{le-of-lt, mul-pos, one-mul, mul-le-mul-right, le-of-mul-le-mul-left}
+use native.Mathlib.Nat.{le-of-lt, mul-pos, one-mul, mul-comm, mul-le-mul-left, mul-le-mul-right, le-of-mul-le-mul-left, le-of-mul-le-mul-right}
 use native.Mathlib.Omega.{arith}
 use lib.Dec.{lit≤, lit<}
 use Rattle.fractions.specs.Fraction.{Fraction, fraction, whole, opposite, square, _⊕_, Same, AtMost}
-use Rattle.fractions.proofs.Order.{same-sym, same-trans}
-use Rattle.fractions.proofs.Close.{Least, close-sym, close-unit}
+use Rattle.fractions.proofs.Ring.{ring}
+use Rattle.fractions.proofs.Order.{same-refl, same-sym, same-trans, at-most-same}
+use Rattle.fractions.proofs.Close.{Close, Least, close-sym, close-unit}
 use Rattle.fractions.proofs.Within.{within-close}
 use Rattle.fractions.proofs.Divide.{least-near, least-positive, least-mul, least-same}
 use Rattle.series.specs.Sums.{factorial, sine, cosine, sum}
@@ -130,3 +131,48 @@ square-least x X h =
   where
     less : Least 100000 (square x) 3000 → AtMost (fraction 3 0 100) (square x)
     less k = omega (arith, k .least)
+
+-- ---- not below 0
+
+none-below : shortfall 29 (coefficients sine) quarter parts ≡ 0
+unfolding shortfall linear shifted coefficients gathered share monomial first others add times common factorial half quarter parts raised
+none-below = refl
+
+module _ (x : Fraction) (X : 0 < x .over) (l : x .minus ≤ x .plus) (h : x .plus * parts ≤ x .minus * parts + quarter * x .over) where
+  sum-not-below : AtMost (whole 0) (sum sine x)
+  unfolding top
+  sum-not-below =
+      let k = x .over in
+      let z = parts · numerator x in
+      let v = top sine z k in
+      at-most-same (whole 0) (whole 0) (sum sine x) (quotient v (bottom k)) (same-refl (whole 0)) (sum-larger sine x X parts k (mul-comm parts k)) (lit< tt) (bottom-pos k X)
+      (above (v .plus) (v .minus) (bottom k) (raised k 29) (rw none-below at (value-short quarter parts k 29 (coefficients sine) z (mul-le-mul-left parts l) (omega arith))))
+    where
+      above : (p m N K : ℕ) → m ≤ p + K * 0 → 0 * N + m * 1 ≤ p * 1 + 0 * N
+      above p m N K h = omega arith
+
+below-nat : (xp xm xo yp ym yo W : ℕ) → ym * (xo * W) ≤ yp * (xo * W) → (xm * yo + yp * xo) * W ≤ (ym * xo + xp * yo) * W + 1 * (xo * yo) → (0 * xo + xm * W) * yo ≤ (xp * W + 1 * xo) * yo
+below-nat xp xm xo yp ym yo W h k = let h' = simp ring at h in let k' = simp ring at k in simp ring (omega arith)
+
+-- what is near a number that is not below 0
+pub near-not-below : {W : ℕ} (x y : Fraction) → Close W x y 1 → AtMost (whole 0) y → AtMost (fraction 0 1 W) x
+near-not-below {W} x y c h =
+    le-of-mul-le-mul-right
+    (below-nat (x .plus) (x .minus) (x .over) (y .plus) (y .minus) (y .over) W (mul-le-mul-right (x .over * W) (sides y h)) (c .below)) (c .second)
+  where
+    sides : (y : Fraction) → AtMost (whole 0) y → y .minus ≤ y .plus
+    sides y h = omega arith
+
+module _ (d : Fraction) (D : 0 < d .over) (l : AtMost (whole 0) d) (h : AtMost d (whole 90)) where
+  itself : Same (reduced d) d
+  itself = same-sym d (reduced d) (reduced-unique d d (reduced d) D D (reduced-pos d D) (record { turns = (0, 0, refl); above = omega arith; most = omega arith }) (reduces d D))
+
+  wave-not-below : AtMost (whole 0) (wave sine d)
+  wave-not-below =
+      sum-not-below (radians d) (radians-pos d D) (rw (radians-is d) (low (d .plus) (d .minus) half (omega arith))) (rw (radians-is d) (high-nat (d .plus) (d .minus) (d .over) half parts quarter (omega arith) ninety-is))
+    where
+      low : (p m H : ℕ) → m ≤ p → m * H ≤ p * H
+      low p m H h = mul-le-mul-right H h
+
+  pub reduced-not-below : AtMost (whole 0) (wave sine (reduced d))
+  reduced-not-below = at-most-same (whole 0) (whole 0) (wave sine (reduced d)) (wave sine d) (same-refl (whole 0)) (wave-same sine (reduced d) d itself) (lit< tt) (wave-pos sine d D) wave-not-below
