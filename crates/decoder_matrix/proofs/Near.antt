@@ -28,7 +28,7 @@ use Rattle.channel.specs.declared.Layout.the-variants.{Mono, Stereo, Surround51
 use Rattle.channel.specs.Layouts.{channelsOf, uncountable}
 use Rattle.channel.proofs.Counts.{in-range}
 use Rattle.harmonics.specs.Promise.{refusesOrder, refusesAngle, isInside, refusesAzimuth, refusesElevation, refusalOf, outcome}
-use Rattle.harmonics.proofs.Laws.{accepted, outcome-kept, gain-near, gains-length}
+use Rattle.harmonics.proofs.Laws.{accepted, direction-accepted, outcome-kept, gain-near, gains-length}
 use Rattle.decoder_matrix.specs.Speakers.{azimuthAt, azimuthBy, towards, customAzimuth, turnedBack}
 use Rattle.decoder_matrix.specs.Matrix.{channelsIn, rowBy, formulaAt}
 use Rattle.decoder_matrix.specs.Promise.{matrixBits}
@@ -132,7 +132,7 @@ module _ (order : ℕ) (l : Layout) (o : refusesOrder order ≡ false) (u : unco
   near c k m =
       let d = towards (azimuthAt l i) in
       let g = outcome order d .gains in
-      let z = accepted order d o (taken l i u h) front in
+      let z = accepted order d o (direction-accepted d (taken l i u h) front) in
       subst (λ (x : Float). BySquares matrixBits (number x) (formulaAt order l i c) (whole (channelsOf l)))
       (sym (getD-scaled (inverseRoot (channelsOf l)) (take (channelsIn order) g) c nan nan (length-first (channelsIn order) c g k (omega (arith, m, gains-length order d (outcome order d) (outcome-kept order d)))) ∙ ap (λ (x : Float). mul binary64 x (inverseRoot (channelsOf l))) (getD-take (channelsIn order) g c nan k)))
       (near-one (getD g c nan) (formulaAt order l i c) (gain-near order d (outcome order d) (outcome-kept order d) z c nan (whole 0) (omega arith)))

@@ -1,10 +1,9 @@
 -- The marked drill table of document 01, items 1 to 3: "1. Order 3 at (0,0): channels 0, 3, 6, 8, 13, 15 are 1, 1, -0.5, h, -m, q; the rest 0. 2. Order 1 at (90,0): 1, 1, 0, 0. 3. Elevation 90: channels
--- 2, 6, 12 are 1; 1 and 3 are 0." Each of the formulas, and of the floats that the program gives; at elevation 90 for every azimuth. A float is told by its number, since some of the zeros have a sign. Assumes
--- nothing.
-use mathlib.Core.Path.{_≡_, refl, sym, ap, _∙_, subst}
+-- 2, 6, 12 are 1; 1 and 3 are 0." Each of the formulas, and of the floats that the program gives; at elevation 90 for every azimuth. Assumes nothing.
+use mathlib.Core.Path.{_≡_, refl, sym, subst}
 use mathlib.Core.Bool.{Bool, true, false, _&&_}
 use mathlib.Core.List.{List, [], _∷_, map}
-use Prim.Native.Nat.{ℕ, _+_, _*_, _^_, _<_}
+use Prim.Native.Nat.{ℕ, _+_, _*_, _<_}
 use native.Mathlib.Nat.{mul-pos}
 use native.Mathlib.Omega.{arith}
 use lib.Dec.{T, eqb, eqb→eq, lit<, lit≤}
@@ -15,7 +14,7 @@ use lib.IntN.{pos}
 use Rattle.fractions.specs.Fraction.{Fraction, fraction, number, whole, opposite, magnitude, _⊗_, Same, AtMost}
 use Rattle.fractions.proofs.Order.{same-sym, same-trans}
 use Rattle.fractions.proofs.Operations.{mul-result}
-use Rattle.fractions.proofs.Exact.{Holds, result-exact}
+use Rattle.fractions.proofs.Exact.{result-exact}
 use Rattle.fractions.proofs.Held.{whole-held, same-held}
 use Rattle.series.specs.Sums.{Wave, sine, cosine}
 use Rattle.series.specs.Angles.{turned, isMultiple, quarters, defined, definedSine, definedCosine}
@@ -26,32 +25,19 @@ use Rattle.harmonics.specs.Formulas.{h, q, m, formulasOver, formulas}
 use Rattle.harmonics.specs.Computed.{sin, cos, wavesOf, upTo, decimal}
 use Rattle.harmonics.specs.Promise as Said
 use Rattle.harmonics.specs.Promise.{degrees, refusesAzimuth, refusesAngle, outcome}
+use Rattle.harmonics.specs.Drill.{at, given, Alike, none, front, frontFloats, left, Above}
 use Rattle.harmonics.specs.declared.Direction.{Direction}
-use Rattle.harmonics.proofs.Laws.{accepted, elevation-accepted, azimuth-number, azimuth-size, outcome-kept, gains-are}
+use Rattle.harmonics.proofs.Laws.{accepted, direction-accepted, elevation-accepted, azimuth-number, azimuth-size, outcome-kept, gains-are}
 use Rattle.harmonics.proofs.Near.{single}
 
-abbrev pub at : ℕ → ℕ → Direction
-at azimuth elevation = record { azimuth = degrees azimuth; elevation = degrees elevation }
-
--- the numbers of the floats that the program gives
-abbrev pub given : ℕ → Direction → List Fraction
-given order d = map number (outcome order d .gains)
-
--- as many numbers as numbers, the same in each place
-abbrev pub Alike : List Fraction → List Fraction → Type 0
-Alike [] [] = Unit {0}
-Alike (x ∷ xs) (y ∷ ys) = Same x y × Alike xs ys
-Alike [] (y ∷ ys) = ⊥
-Alike (x ∷ xs) [] = ⊥
-
 -- of closed numbers it is decided by computing
-abbrev isAlike : List Fraction → List Fraction → Bool
+abbrev pub isAlike : List Fraction → List Fraction → Bool
 isAlike [] [] = true
 isAlike (x ∷ xs) (y ∷ ys) = eqb (x .plus * y .over + y .minus * x .over) (y .plus * x .over + x .minus * y .over) && isAlike xs ys
 isAlike [] (y ∷ ys) = false
 isAlike (x ∷ xs) [] = false
 
-alike : (xs ys : List Fraction) → T (isAlike xs ys) → Alike xs ys
+pub alike : (xs ys : List Fraction) → T (isAlike xs ys) → Alike xs ys
 alike [] [] t = tt
 alike (x ∷ xs) (y ∷ ys) t =
     let a = x .plus * y .over + y .minus * x .over in
@@ -60,27 +46,13 @@ alike (x ∷ xs) (y ∷ ys) t =
 alike [] (y ∷ ys) t = absurd t
 alike (x ∷ xs) [] t = absurd t
 
-abbrev pub none : Fraction
-none = whole 0
-
--- ---- 1. Order 3 at (0,0). In floats h, m and q are the literals
-abbrev pub front : Fraction → Fraction → Fraction → List Fraction
-front h m q = whole 1 ∷ none ∷ none ∷ whole 1 ∷ none ∷ none ∷ opposite (fraction 1 0 2) ∷ none ∷ h ∷ none ∷ none ∷ none ∷ none ∷ opposite m ∷ none ∷ q ∷ []
-
 pub drill-1 : Alike (formulas 3 (whole 0) (whole 0)) (front h m q)
 unfolding formulasOver defined isMultiple quarters turned
 drill-1 = alike (formulas 3 (whole 0) (whole 0)) (front h m q) tt
 
-abbrev pub frontFloats : List Fraction
-frontFloats = front (number (decimal 8660254037844386)) (number (decimal 6123724356957945)) (number (decimal 7905694150420949))
-
 pub drill-1-floats : Alike (given 3 (at 0 0)) frontFloats
 unfolding refusesAngle Said.isInside upTo wavesOf sin cos isRefused isInside lt le eq computed place cut units turned sineAt cosineAt short times radians nesting nest rounded ofInt div neg add sub mul round
 drill-1-floats = alike (given 3 (at 0 0)) frontFloats tt
-
--- ---- 2. Order 1 at (90,0)
-abbrev pub left : List Fraction
-left = whole 1 ∷ whole 1 ∷ none ∷ none ∷ none ∷ none ∷ none ∷ none ∷ none ∷ none ∷ none ∷ none ∷ none ∷ none ∷ none ∷ none ∷ []
 
 pub drill-2 : Alike (formulas 1 (whole 90) (whole 0)) left
 unfolding formulasOver defined isMultiple quarters turned
@@ -89,14 +61,6 @@ drill-2 = alike (formulas 1 (whole 90) (whole 0)) left tt
 pub drill-2-floats : Alike (given 1 (at 90 0)) left
 unfolding refusesAngle Said.isInside upTo wavesOf sin cos isRefused isInside lt le eq computed place cut units turned sineAt cosineAt short times radians nesting nest rounded ofInt div neg add sub mul round
 drill-2-floats = alike (given 1 (at 90 0)) left tt
-
--- ---- 3. Elevation 90, at any azimuth
-pub record Above (gains : List Fraction) : Type 0 where
-  pub one : Same (getD gains 1 none) none
-  pub two : Same (getD gains 2 none) (whole 1)
-  pub three : Same (getD gains 3 none) none
-  pub six : Same (getD gains 6 none) (whole 1)
-  pub twelve : Same (getD gains 12 none) (whole 1)
 
 -- 0 times a number
 nothing : (x : Fraction) → Same (whole 0 ⊗ x) none
@@ -129,4 +93,4 @@ pub drill-3-floats : (a : Float) → refusesAzimuth a ≡ false → Above (given
 unfolding ofInt
 drill-3-floats a A =
     let d : Direction = record { azimuth = a; elevation = degrees 90 } in
-    subst (λ (xs : List Float). Above (map number xs)) (sym (gains-are 3 d (outcome 3 d) (outcome-kept 3 d) (accepted 3 d refl A (elevation-accepted (degrees 90) (lit< tt) (lit≤ tt))))) (risen a (azimuth-number a A) (azimuth-size a A))
+    subst (λ (xs : List Float). Above (map number xs)) (sym (gains-are 3 d (outcome 3 d) (outcome-kept 3 d) (accepted 3 d refl (direction-accepted d A (elevation-accepted (degrees 90) (lit< tt) (lit≤ tt)))))) (risen a (azimuth-number a A) (azimuth-size a A))

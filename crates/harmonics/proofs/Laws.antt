@@ -1,17 +1,24 @@
 -- What the crates above cite of the coefficients, beside their promise: which orders and directions are accepted, that each coefficient is nearer its formula than promised, and how large the formula is.
 -- Assumes nothing.
 use mathlib.Core.Path.{_≡_, refl, sym, ap, _∙_, subst}
-use mathlib.Core.Bool.{Bool, false, _||_, cond}
+use mathlib.Core.Bool.{Bool, true, false, _||_, cond}
 use mathlib.Core.List.{List}
-use Prim.Native.Nat.{ℕ, _<_}
+use Prim.Native.Nat.{ℕ, _≤_, _<_}
+use native.Mathlib.Omega.{arith}
+use lib.Dec.{lit<}
 use lib.IntN.{pos}
 use lib.ListN.{length, getD}
-use lib.Ieee.{Float, ofInt}
-use Rattle.fractions.specs.Fraction.{Fraction, number, whole, magnitude, AtMost}
+use lib.Ieee.{Float, binary64, round, ofInt}
+use lib.Ieee.Exact.{HasValue}
+use lib.Ieee.Back.{round-whole}
+use Rattle.fractions.specs.Fraction.{Fraction, number, signed, whole, magnitude, AtMost}
 use Rattle.fractions.specs.Approximates.{Approximates}
-use Rattle.harmonics.specs.Formulas.{formulas}
+use Rattle.fractions.proofs.Close.{Size, size-same}
+use Rattle.fractions.proofs.Within.{size-at-most}
+use Rattle.fractions.proofs.Number.{value-same, value-number}
+use Rattle.harmonics.specs.Formulas.{formulasOver, formulas}
 use Rattle.harmonics.specs.Computed.{wavesOf, upTo}
-use Rattle.harmonics.specs.Promise.{refusesOrder, refusesAzimuth, refusesElevation, refusesDirection, refusalOf, silence, outcome, Promise}
+use Rattle.harmonics.specs.Promise.{refusesOrder, refusesAzimuth, refusesElevation, refusesDirection, refusalOf, outcome, Promise}
 use Rattle.harmonics.specs.declared.Direction.{Direction}
 use Rattle.harmonics.specs.declared.Coefficients.{Coefficients}
 use Rattle.harmonics.proofs.Limits.{accepted-number, accepted-size, size-accepted}
@@ -36,12 +43,35 @@ pub azimuth-size : (x : Float) → refusesAzimuth x ≡ false → AtMost (magnit
 unfolding ofInt
 azimuth-size = accepted-size false 45 (pos 2)
 
+-- whole degrees, of either sign
+module _ (s : Bool) (n : ℕ) (h : n ≤ 180) where
+  pub whole-number : HasValue (round binary64 s n 1) s n 1
+  whole-number = round-whole binary64 s n (omega arith)
+
+  pub whole-accepted : refusesAzimuth (round binary64 s n 1) ≡ false
+  whole-accepted =
+      let x = round binary64 s n 1 in
+      let X = value-number x s n 1 whole-number in
+      azimuth-accepted x X (size-at-most (size-same (number x) (lit< tt) X (value-same x s n 1 whole-number) (size s)))
+    where
+      size : (s : Bool) → Size 1 (signed s n 1) 180
+      size true = record { above = omega arith; below = omega arith }
+      size false = record { above = omega arith; below = omega arith }
+
 -- ---- which orders and directions are accepted, and what is known of them
-pub accepted : (order : ℕ) (d : Direction) → refusesOrder order ≡ false → refusesAzimuth (d .azimuth) ≡ false → refusesElevation (d .elevation) ≡ false → refusalOf order d ≡ 0
-accepted order d n a e = λ i. cond (n i) 1 (cond (a i || e i) 3 0)
+pub direction-accepted : (d : Direction) → refusesAzimuth (d .azimuth) ≡ false → refusesElevation (d .elevation) ≡ false → refusesDirection d ≡ false
+direction-accepted d a e = λ i. a i || e i
+
+pub accepted : (order : ℕ) (d : Direction) → refusesOrder order ≡ false → refusesDirection d ≡ false → refusalOf order d ≡ 0
+accepted order d n h = λ i. cond (n i) 1 (cond (h i) 3 0)
 
 pub is-accepted : (order : ℕ) (d : Direction) → refusalOf order d ≡ 0 → Kept.Accepted order d
 is-accepted = Kept.is-accepted
+
+-- ---- there are sixteen formulas
+pub formulas-length : (order : ℕ) (a e : Fraction) → refusesOrder order ≡ false → length (formulas order a e) ≡ 16
+unfolding formulasOver
+formulas-length order a e = by-order (λ (n : ℕ). length (formulas n a e) ≡ 16) refl refl refl order
 
 -- ---- the promise holds of the answer that the definition gives, so that all of it can be had of coefficients that are said by the definition alone
 pub outcome-kept : (order : ℕ) (d : Direction) → Promise order d (outcome order d)

@@ -1,8 +1,7 @@
--- What the proofs of `harmonics` share, and the laws that crates above cite.
-pub mod Compare
-pub mod Limits
+-- What the proofs of `harmonics` share. Crates above cite `Laws`, the orders (`Orders`), the drill table's items and `Unique`.
+mod Limits
 pub mod Orders
-pub mod Near
+mod Near
 pub mod Kept
 pub mod Laws
 pub mod Unique

@@ -11,7 +11,7 @@ use borrow.Author.Tests.{not-false}
 use Rattle.fractions.specs.Fraction.{Fraction, number, magnitude, AtMost}
 use Rattle.fractions.proofs.Number.{number-neg}
 use Rattle.harmonics.specs.Promise.{isInside, refusesAngle}
-use Rattle.harmonics.proofs.Compare.{le-at-most, at-most-le, between-magnitude, magnitude-below, magnitude-above}
+use Rattle.fractions.proofs.Compare.{le-at-most, at-most-le, between-magnitude, magnitude-below, magnitude-above}
 
 module _ (s : Bool) (m : ℕ) (e : ℤ) where
   abbrev limit : Float

@@ -3,13 +3,13 @@
 use mathlib.Core.Path.{_≡_, refl, sym, ap, _∙_, subst, subst₂}
 use mathlib.Core.Bool.{Bool, true, false, _&&_}
 use mathlib.Core.List.{List, [], _∷_, map}
-use Prim.Native.Nat.{ℕ, zero, suc, _+_, _*_, _^_, _≤_, _<_}
+use Prim.Native.Nat.{ℕ, zero, suc, _^_, _≤_, _<_}
 use native.Mathlib.Nat.{not-suc-le-zero, le-of-suc-le-suc}
 use lib.Dec.{T, lit≤, lit<}
 use lib.ListN.{length, getD, set}
-use lib.Ieee.{Float, binary64, mul, round, ofInt}
+use lib.Ieee.{Float, binary64, mul, round}
 use lib.Ieee.Fits.{and-l, and-r}
-use Rattle.fractions.specs.Fraction.{Fraction, fraction, number, whole, unit, opposite, magnitude, square, _⊕_, _⊖_, _⊗_, _⊘_, AtMost, Within}
+use Rattle.fractions.specs.Fraction.{Fraction, fraction, number, whole, unit, opposite, magnitude, square, _⊕_, _⊖_, _⊗_, _⊘_, AtMost}
 use Rattle.fractions.specs.Approximates.{Approximates, EachWithin}
 use Rattle.fractions.proofs.Close.{size-mul, size-wider}
 use Rattle.fractions.proofs.Within.{at-most-size, size-at-most, whole-size}

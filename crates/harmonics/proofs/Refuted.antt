@@ -1,15 +1,13 @@
 -- Wrong ways to answer, each held against the promise on an input where it breaks it. Assumes nothing.
 use mathlib.Core.Path.{_≡_, ap}
-use mathlib.Core.List.{List, [], _∷_}
 use Prim.Native.Nat.{ℕ}
 use native.Mathlib.Omega.{arith}
 use lib.ListN.{getD}
 use lib.Ieee.{Float, nan, inf, fin, lt, le, eq, neg, round, ofInt}
 use Rattle.harmonics.specs.Computed.{wavesOf, upTo}
 use Rattle.harmonics.specs.Promise.{isInside, refusesAngle, degrees, silence, Promise}
-use Rattle.harmonics.specs.declared.Direction.{Direction}
 use Rattle.harmonics.specs.declared.Coefficients.{Coefficients}
-use Rattle.harmonics.proofs.Drill.{at}
+use Rattle.harmonics.specs.Drill.{at}
 
 refusal : Coefficients → ℕ
 refusal r = r .refusal

@@ -2,3 +2,4 @@
 pub mod Formulas
 pub mod Computed
 pub mod Promise
+pub mod Drill

@@ -27,7 +27,7 @@ ghost use mathlib.Core.Path.{_≡_};
 ghost use Rattle.harmonics.specs.Computed as Steps;
 ghost use Rattle.harmonics.specs.Promise as Said;
 
-// Where a sound comes from, in degrees: 0 is the front, 90 the left and above.
+// Where a sound comes from, in degrees: azimuth 0 is the front and 90 the left, elevation 90 is above.
 pub struct Direction {
     pub azimuth: f64,
     pub elevation: f64,

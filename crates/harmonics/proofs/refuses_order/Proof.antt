@@ -1,5 +1,4 @@
 -- `harmonics::refuses_order` meets its contract. Assumes nothing.
-use mathlib.Core.Path.{sym, ap, _∙_}
 use Rattle.harmonics.proofs.Orders.{below-one, from-one}
 use Rattle.harmonics.proofs.refuses_order.Statement.{statement}
 use Rattle.harmonics.proofs.refuses_order.Tie as tie

@@ -1,0 +1,70 @@
+-- The answers of `process` are those promised: refused by the command, by a length, by the number of frames, and played. Assumes nothing.
+use mathlib.Core.Path.{_≡_, refl, sym, ap, _∙_}
+use mathlib.Core.Bool.{true, false}
+use mathlib.Core.List.{List, [], _∷_}
+use Prim.Native.Nat.{ℕ, zero, suc, _≤_, _<_}
+use native.Mathlib.Omega.{arith}
+use borrow.Author.Tests.{lt-ltb, le-ltb}
+use lib.Dec.{ltb, lit<}
+use lib.ListN.{length}
+use lib.Ieee.{Float}
+use Rattle.refusals.specs.Refusals.{Check, firstOf, _when_}
+use Rattle.refusals.proofs.First.{stops, goes-on}
+use Rattle.planes.specs.Planes.{withFrames}
+use Rattle.panner.specs.declared.Commanded.{Commanded}
+use Rattle.panner.specs.Commands.{noOrder, notOffered, noAngle, commandRefusal, gainsOf}
+use Rattle.panner.specs.Blocks.{Shape, misfit, mostFrames, planesIn, refusalOf, narrowedAll, pannedFrames, framesOf}
+use Rattle.panner.specs.Promise.{blockBy, Processed}
+use Rattle.panner.specs.Steps.{Commands}
+use Rattle.panner.proofs.Chains.{first-refused, first-accepted}
+
+module _ (s : Shape) (input out : List Float) where
+  abbrev refusal : ℕ
+  refusal = refusalOf s (length input) (length out)
+
+  refused-block : (n : ℕ) → (n ≡ 0 → ⊥) → record { answer = record { refusal = n; samples = 0 }; out = out } ≡ blockBy n s input out
+  refused-block zero h = absurd (h refl)
+  refused-block (suc n) h = refl
+
+  refused : (n : ℕ) → (n ≡ 0 → ⊥) → refusal ≡ n → Processed s input out (record { refusal = n; samples = 0 }) out
+  refused n h e = record { is = refused-block n h ∙ sym (ap (λ (k : ℕ). blockBy k s input out) e); gains = λ k. absurd (h (sym e ∙ k)) }
+
+  module _ (g : Commanded) (G : Commands (s .command) (s .layout) g) where
+    -- the checks of the command, and those of the block
+    abbrev first : List Check
+    first = 1 when noOrder (s .command) ∷ 2 when notOffered (s .command) (s .layout) ∷ 3 when noAngle (s .command) ∷ []
+
+    abbrev then : List Check
+    then = 5 when misfit (length input) (length out) (planesIn s) (s .stride) (s .frames) ∷ 6 when ltb mostFrames (s .frames) ∷ []
+
+    pub by-command : (g .refusal ≡ 0 → ⊥) → Processed s input out (record { refusal = g .refusal; samples = 0 }) out
+    by-command h = refused (g .refusal) h (first-refused first then (λ k. h (G .refusal ∙ k)) ∙ sym (G .refusal))
+
+    module _ (z : g .refusal ≡ 0) where
+      accepted : commandRefusal (s .command) (s .layout) ≡ 0
+      accepted = sym (G .refusal) ∙ z
+
+      goes : refusal ≡ firstOf then
+      goes = first-accepted first then (lit< tt, (lit< tt, (lit< tt, tt))) accepted
+
+      misfit-is : misfit (length input) (length out) (g .planes) (s .stride) (s .frames) ≡ misfit (length input) (length out) (planesIn s) (s .stride) (s .frames)
+      misfit-is = ap (λ (k : ℕ). misfit (length input) (length out) k (s .stride) (s .frames)) (G .planes accepted)
+
+      pub by-length : misfit (length input) (length out) (g .planes) (s .stride) (s .frames) ≡ true → Processed s input out (record { refusal = 5; samples = 0 }) out
+      by-length m = refused 5 (λ e. omega arith) (goes ∙ stops 5 _ (sym misfit-is ∙ m))
+
+      module _ (m : misfit (length input) (length out) (g .planes) (s .stride) (s .frames) ≡ false) where
+        pub by-frames : mostFrames < s .frames → Processed s input out (record { refusal = 6; samples = 0 }) out
+        by-frames h = refused 6 (λ e. omega arith) (goes ∙ goes-on 5 _ (sym misfit-is ∙ m) ∙ stops 6 0 (lt-ltb mostFrames (s .frames) h))
+
+        pub plays : (narrow after : List Float) → s .frames ≤ mostFrames → narrow ≡ narrowedAll (g .gains) → after ≡ withFrames out (s .stride) 0 (pannedFrames (s .stride) (s .frames) (g .planes) narrow input)
+            → Processed s input out (record { refusal = 0; samples = s .frames }) after
+        plays narrow after h e w =
+            let none : refusal ≡ 0 = goes ∙ goes-on 5 _ (sym misfit-is ∙ m) ∙ goes-on 6 0 (le-ltb mostFrames (s .frames) h) in
+            let narrow-is : narrow ≡ narrowedAll (gainsOf (s .command) (s .layout)) = e ∙ ap narrowedAll (G .gains accepted) in
+            let after-is : after ≡ withFrames out (s .stride) 0 (framesOf s input) =
+            w ∙ (λ i. withFrames out (s .stride) 0 (pannedFrames (s .stride) (s .frames) (G .planes accepted i) (narrow-is i) input)) in
+            record {
+              is = ap (λ (y : List Float). record { answer = record { refusal = 0; samples = s .frames }; out = y }) after-is ∙ sym (ap (λ (k : ℕ). blockBy k s input out) none);
+              gains = λ k. G .promised accepted;
+            }

@@ -1,0 +1,147 @@
+-- The gains of a command are those of the crate that computes them, and its refusal is theirs, in the panner's order. Assumes nothing.
+use mathlib.Core.Path.{_≡_, refl, sym, ap, _∙_, subst}
+use mathlib.Core.Bool.{Bool, true, false, not, _&&_, cond}
+use mathlib.Core.List.{_∷_}
+use Prim.Native.Nat.{ℕ, _+_, _*_, _≤_, _<_}
+use native.Mathlib.Nat.{mul-le-mul}
+use native.Mathlib.Omega.{arith}
+use borrow.Author.Tests.{not-false}
+use lib.Dec.{T, leb, eqb, lit≤, leb→le}
+use lib.ListN.{replicate}
+use lib.Ieee.{Float}
+use lib.Ieee.Fits.{and-r}
+use Rattle.refusals.proofs.First.{stops, goes-on}
+use Rattle.channel.specs.Layouts.{channelsOf, uncountable, surround, counted}
+use Rattle.channel.specs.declared.Layout.{Layout}
+use Rattle.channel.specs.declared.Counted.{Counted}
+use Rattle.stereo.specs.Promise as Stereo
+use Rattle.stereo.specs.declared.StereoGains.{StereoGains}
+use Rattle.surround.specs.Promise as Surround
+use Rattle.surround.specs.Computed.{zero as silent}
+use Rattle.surround.specs.declared.SurroundGains.{SurroundGains}
+use Rattle.surround.proofs.Answers.{counted-is, few}
+use Rattle.harmonics.specs.Promise as Harmonics
+use Rattle.harmonics.specs.declared.Direction.{Direction}
+use Rattle.harmonics.specs.declared.Coefficients.{Coefficients}
+use Rattle.panner.specs.declared.Command.{Command}
+use Rattle.panner.specs.declared.Command.the-variants.{Stereo, Surround, Ambisonic}
+use Rattle.panner.specs.declared.Commanded.{Commanded}
+use Rattle.panner.specs.Commands.{noOrder, notOffered, commandRefusal, planesOf}
+use Rattle.panner.specs.Steps.{isBadLayout, Commands}
+
+-- ---- a refusal
+pub refused : (c : Command) (l : Layout) (g : Commanded) (n : ℕ) → 0 < n → g .refusal ≡ n → g .planes ≤ 16 → commandRefusal c l ≡ n → Commands c l g
+refused c l g n o r f e = record {
+  refusal = r ∙ sym e;
+  few = f;
+  planes = λ k. absurd (never k);
+  gains = λ k. absurd (never k);
+  promised = λ k. absurd (never k);
+}
+  where
+    never : commandRefusal c l ≡ 0 → ⊥
+    never k = let z : n ≡ 0 = sym e ∙ k in omega arith
+
+-- whether a layout is a Custom of 0 or above 16
+pub bad-layout : (l : Layout) (k : Counted) → k ≡ counted l → not (eqb (k .refusal) 0) ≡ isBadLayout l
+bad-layout l k e = ap (λ (x : Counted). not (eqb (x .refusal) 0)) e ∙ go (uncountable (channelsOf l))
+  where
+    go : (b : Bool) → not (eqb (cond b 2 0) 0) ≡ b
+    go true = refl
+    go false = refl
+
+-- ---- a stereo position
+module _ (l : Layout) (p : Float) (s : StereoGains) (h : Stereo.Pans p s) where
+  stereo-refusal : s .refusal ≡ cond (Stereo.isRefused p) 3 0
+  unfolding Stereo.outcome
+  stereo-refusal = ap (λ (x : StereoGains). x .refusal) (h .is) ∙ go (Stereo.isRefused p)
+    where
+      go : (b : Bool) → cond b (Stereo.refused 3) (Stereo.played p) .refusal ≡ cond b 3 0
+      go true = refl
+      go false = refl
+
+  pub stereo-refused : isBadLayout l ≡ false → (s .refusal ≡ 0 → ⊥) → commandRefusal (Stereo p) l ≡ 3
+  stereo-refused b n = goes-on 2 _ b ∙ go (Stereo.isRefused p) stereo-refusal
+    where
+      go : (r : Bool) → s .refusal ≡ cond r 3 0 → _≡_ {A = ℕ} (cond r 3 0) 3
+      go true e = refl
+      go false e = absurd (n e)
+
+  pub stereo-accepted : (g : Commanded) → isBadLayout l ≡ false → s .refusal ≡ 0 → g ≡ record { refusal = 0; planes = 2; gains = s .left ∷ s .right ∷ replicate 14 silent } → Commands (Stereo p) l g
+  stereo-accepted g b z e = record {
+    refusal = ap (λ (x : Commanded). x .refusal) e ∙ sym (goes-on 2 _ b ∙ sym stereo-refusal ∙ z);
+    few = omega (arith, ap (λ (x : Commanded). x .planes) e);
+    planes = λ k. ap (λ (x : Commanded). x .planes) e;
+    gains = λ k. ap (λ (x : Commanded). x .gains) e ∙ ap (λ (x : StereoGains). x .left ∷ x .right ∷ replicate 14 silent) (h .is);
+    promised = λ k. subst (Stereo.Pans p) (λ i. record { refusal = z i; left = h .is i .left; right = h .is i .right }) h;
+  }
+
+-- ---- a surround azimuth
+module _ (l : Layout) (a : Float) (s : SurroundGains) (h : Surround.Pans l a s) where
+  pub surround-refusal : s .refusal ≡ commandRefusal (Surround a) l
+  surround-refusal = ap (λ (x : SurroundGains). x .refusal) (h .is)
+
+  offered : s .refusal ≡ 0 → surround l ≡ true
+  offered z = go (surround l) (sym surround-refusal ∙ z)
+    where
+      go : (b : Bool) → _≡_ {A = ℕ} (cond (not b) 2 (cond (Harmonics.refusesAzimuth a) 3 0)) 0 → b ≡ true
+      go true e = refl
+      go false e = absurd (two e)
+        where
+          two : _≡_ {A = ℕ} 2 0 → ⊥
+          two e = omega arith
+
+  pub surround-accepted : (g : Commanded) (k : Counted) → k ≡ counted l → s .refusal ≡ 0 → g ≡ record { refusal = 0; planes = k .channels; gains = s .gains } → Commands (Surround a) l g
+  surround-accepted g k n z e =
+      let o = offered z in
+      let count : g .planes ≡ channelsOf l = ap (λ (x : Commanded). x .planes) e ∙ ap (λ (x : Counted). x .channels) n ∙ counted-is l o in
+      record {
+        refusal = ap (λ (x : Commanded). x .refusal) e ∙ sym (sym surround-refusal ∙ z);
+        few = omega (arith, few l o);
+        planes = λ k. count;
+        gains = λ k. ap (λ (x : Commanded). x .gains) e ∙ ap (λ (x : SurroundGains). x .gains) (h .is);
+        promised = λ k. subst (Surround.Pans l a) (λ i. record { refusal = z i; gains = h .is i .gains }) h;
+      }
+
+-- ---- a direction with an order
+pub few-planes : (n : ℕ) → n ≤ 3 → (n + 1) * (n + 1) ≤ 16
+few-planes n h = let k : n + 1 ≤ 4 = omega arith in mul-le-mul k k
+
+pub order-most : (n : ℕ) → Harmonics.refusesOrder n ≡ false → n ≤ 3
+order-most n e = leb→le n 3 (and-r (leb 1 n) (leb n 3) (subst T (sym (not-false (leb 1 n && leb n 3) e)) tt))
+
+module _ (l : Layout) (d : Direction) (n : ℕ) where
+  pub order-refused : Harmonics.refusesOrder n ≡ true → commandRefusal (Ambisonic d n) l ≡ 1
+  order-refused o = stops 1 _ o
+
+  pub layout-refused : Harmonics.refusesOrder n ≡ false → isBadLayout l ≡ true → commandRefusal (Ambisonic d n) l ≡ 2
+  layout-refused o b = goes-on 1 _ o ∙ stops 2 _ b
+
+  module _ (s : Coefficients) (h : Harmonics.Promise n d s) (o : Harmonics.refusesOrder n ≡ false) (b : isBadLayout l ≡ false) where
+    direction-is : s .refusal ≡ cond (Harmonics.refusesDirection d) 3 0
+    direction-is = ap (λ (x : Coefficients). x .refusal) (h .is) ∙ goes-on 1 _ o
+
+    command-is : commandRefusal (Ambisonic d n) l ≡ cond (Harmonics.refusesDirection d) 3 0
+    command-is = goes-on 1 _ o ∙ goes-on 2 _ b
+
+    pub direction-refused : (s .refusal ≡ 0 → ⊥) → commandRefusal (Ambisonic d n) l ≡ 3
+    direction-refused k = command-is ∙ go (Harmonics.refusesDirection d) direction-is
+      where
+        go : (r : Bool) → s .refusal ≡ cond r 3 0 → _≡_ {A = ℕ} (cond r 3 0) 3
+        go true e = refl
+        go false e = absurd (k e)
+
+    pub ambisonic-accepted : (g : Commanded) → s .refusal ≡ 0 → g ≡ record { refusal = 0; planes = (n + 1) * (n + 1); gains = s .gains } → Commands (Ambisonic d n) l g
+    ambisonic-accepted g z e = record {
+      refusal = ap (λ (x : Commanded). x .refusal) e ∙ sym (command-is ∙ sym direction-is ∙ z);
+      few = omega (arith, ap (λ (x : Commanded). x .planes) e, few-planes n (order-most n o));
+      planes = λ k. ap (λ (x : Commanded). x .planes) e;
+      gains = λ k. ap (λ (x : Commanded). x .gains) e ∙ ap (λ (x : Coefficients). x .gains) (h .is);
+      promised = λ k. subst (Harmonics.Promise n d) (λ i. record { refusal = z i; gains = h .is i .gains }) h;
+    }
+
+-- ---- at most sixteen planes
+pub planes-most : (c : Command) (l : Layout) → noOrder c ≡ false → notOffered c l ≡ false → planesOf c l ≤ 16
+planes-most (Stereo p) l o b = lit≤ tt
+planes-most (Surround a) l o b = few l (not-false (surround l) b)
+planes-most (Ambisonic d n) l o b = few-planes n (order-most n o)

@@ -1,0 +1,72 @@
+-- Wrong ways to answer, each held against the promise. Assumes nothing.
+use mathlib.Core.Path.{_≡_, refl, ap, _∙_}
+use mathlib.Core.Bool.{false}
+use mathlib.Core.List.{List, [], _∷_}
+use Prim.Native.Nat.{ℕ, _<_}
+use native.Mathlib.Omega.{arith}
+use lib.Dec.{lit<}
+use lib.IntN.{pos, negsuc}
+use lib.Ieee.{Float, nan, inf, fin, binary32, mul, round, ofInt}
+use Rattle.numbers.specs.Computed.{narrowed, rounded, zero-float}
+use Rattle.planes.specs.Planes.{sampleAt}
+use Rattle.channel.specs.declared.Layout.{Layout}
+use Rattle.channel.specs.declared.Layout.the-variants.{Mono, Custom}
+use Rattle.stereo.specs.Computed.{float}
+use Rattle.stereo.specs.declared.StereoGains.{StereoGains}
+use Rattle.stereo.proofs.Drill.{at-minus-100}
+use Rattle.harmonics.specs.declared.Direction.{Direction}
+use Rattle.panner.specs.declared.Command.the-variants.{Stereo, Ambisonic}
+use Rattle.panner.specs.Blocks.{Shape, mostFrames}
+use Rattle.panner.specs.Promise.{Processed}
+use Rattle.panner.proofs.Played.{refusal-is, frames-most, every-frame}
+
+-- ---- it stops at 4,096 frames, and says nothing: a block with more is not accepted, whatever it holds
+stops-at-4096 : (s : Shape) (input out after : List Float) (n : ℕ) → mostFrames < s .frames → Processed s input out (record { refusal = 0; samples = n }) after → ⊥
+stops-at-4096 s input out after n h p = omega (arith, frames-most s input out (record { refusal = 0; samples = n }) after p refl)
+
+-- ---- it plays a wrong order as the first: order 4 is refused by 1
+order-4-played : (d : Direction) (l : Layout) (frames stride n : ℕ) (input out after : List Float)
+    → Processed (record { command = Ambisonic d 4; layout = l; frames = frames; stride = stride }) input out (record { refusal = 0; samples = n }) after → ⊥
+order-4-played d l frames stride n input out after p =
+    let e : _≡_ {A = ℕ} 0 1 = refusal-is (record { command = Ambisonic d 4; layout = l; frames = frames; stride = stride }) input out (record { refusal = 0; samples = n }) after p in
+    omega arith
+
+-- ---- beside a stereo position too a Custom layout of seventeen channels is refused
+custom-17-played : (x : Float) (frames stride n : ℕ) (input out after : List Float)
+    → Processed (record { command = Stereo x; layout = Custom 17; frames = frames; stride = stride }) input out (record { refusal = 0; samples = n }) after → ⊥
+custom-17-played x frames stride n input out after p =
+    let e : _≡_ {A = ℕ} 0 2 = refusal-is (record { command = Stereo x; layout = Custom 17; frames = frames; stride = stride }) input out (record { refusal = 0; samples = n }) after p in
+    omega arith
+
+-- ---- two frames, 1 and 1, played to the left, over planes that hold 0
+abbrev one : Float
+one = fin false 1 (pos 0)
+
+abbrev two-frames : Shape
+two-frames = record { command = Stereo (float (negsuc 99)); layout = Mono; frames = 2; stride = 2 }
+
+abbrev ones : List Float
+ones = one ∷ one ∷ []
+
+abbrev zeros : List Float
+zeros = zero-float ∷ zero-float ∷ zero-float ∷ zero-float ∷ []
+
+digits : Float → ℕ
+digits nan = 0
+digits (inf s) = 0
+digits (fin s m e) = m
+
+second-left : (after : List Float) → Processed two-frames ones zeros (record { refusal = 0; samples = 2 }) after → digits (sampleAt after 2 0 1) ≡ 1
+unfolding digits rounded round mul ofInt
+second-left after p =
+    ap digits (every-frame two-frames ones zeros (record { refusal = 0; samples = 2 }) after p refl 1 0 (lit< tt) (lit< tt) ∙ ap (λ (g : StereoGains). mul binary32 one (narrowed (g .left))) at-minus-100)
+
+-- it stops early, and keeps the tail that was there
+stops-early : Processed two-frames ones zeros (record { refusal = 0; samples = 2 }) (one ∷ zero-float ∷ zero-float ∷ zero-float ∷ []) → ⊥
+unfolding digits
+stops-early p = let e : _≡_ {A = ℕ} 0 1 = second-left _ p in omega arith
+
+-- it writes nothing
+silent : Processed two-frames ones zeros (record { refusal = 0; samples = 2 }) zeros → ⊥
+unfolding digits
+silent p = let e : _≡_ {A = ℕ} 0 1 = second-left _ p in omega arith

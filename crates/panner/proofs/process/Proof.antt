@@ -1,0 +1,62 @@
+-- `panner::process` meets its contract: `Answers`. Assumes nothing.
+use mathlib.Core.Path.{sym, _∙_}
+use denote.Ref.{now}
+use Rattle.panner.proofs.Answers.{by-command, by-length, by-frames, plays}
+use borrow.Author.Needs.{needs}
+use Rattle.panner.proofs.process.Statement.{statement}
+use Rattle.panner.proofs.process.Tie as tie
+
+gains-of-requires : tie.Need-gains-of-requires
+gains-of-requires c κs = search needs
+
+returns : tie.Need-returns
+returns c =
+    let a = c .before .before .before .before .before .args in
+    let g = c .before .before .gains-of in
+    by-command (record { command = a .command; layout = a .layout; frames = a .frames; stride = a .stride }) (now (a .input)) (now (a .out)) (g .result) (g .ensures) (c .if1 .taken)
+
+is-misfit-requires : tie.Need-is-misfit-requires
+is-misfit-requires c κs = search needs
+
+returns-2 : tie.Need-returns-2
+returns-2 c =
+    let a = c .before .before .before .before .before .before .before .args in
+    let g = c .before .before .before .before .gains-of in
+    by-length (record { command = a .command; layout = a .layout; frames = a .frames; stride = a .stride }) (now (a .input)) (now (a .out)) (g .result) (g .ensures) (c .before .before .if1 .left) (sym (c .before .is-misfit .ensures) ∙ c .if2 .taken)
+
+returns-3 : tie.Need-returns-3
+returns-3 c =
+    let a = c .before .before .before .before .before .before .before .before .args in
+    let g = c .before .before .before .before .before .gains-of in
+    by-frames (record { command = a .command; layout = a .layout; frames = a .frames; stride = a .stride }) (now (a .input)) (now (a .out)) (g .result) (g .ensures) (c .before .before .before .if1 .left) (sym (c .before .before .is-misfit .ensures) ∙ c .before .if2 .left) (c .if3 .taken)
+
+narrowed-requires : tie.Need-narrowed-requires
+narrowed-requires c κs = search needs
+
+play-requires : tie.Need-play-requires
+play-requires c κs = search needs
+
+same-length : tie.Need-same-length
+same-length c = search needs
+
+returns-4 : tie.Need-returns-4
+returns-4 c =
+    let a = c .before .before .before .before .before .before .before .before .before .before .before .before .before .before .args in
+    let g = c .before .before .before .before .before .before .before .before .before .before .before .gains-of in
+    let n = c .before .before .before .narrowed in
+    plays (record { command = a .command; layout = a .layout; frames = a .frames; stride = a .stride }) (now (a .input)) (now (a .out)) (g .result) (g .ensures) (c .before .before .before .before .before .before .before .before .before .if1 .left) (sym (c .before .before .before .before .before .before .before .before .is-misfit .ensures) ∙ c .before .before .before .before .before .before .before .if2 .left) (n .result) (c .before .before .play .last .0)
+    (c .before .before .before .before .before .before .if3 .left) (n .ensures) (c .before .before .play .ensures)
+
+pub process-spec : {M : Type 1} → statement M
+process-spec =
+    tie.close
+    (tie.spec
+    gains-of-requires
+    returns
+    is-misfit-requires
+    returns-2
+    returns-3
+    narrowed-requires
+    play-requires
+    same-length
+    returns-4)

@@ -1,0 +1,52 @@
+-- Document 01, 'Sums': "Panner: the f32 product of sample and narrowed gain." 'Refusal numbers': 5 when "a lent length doesn't fit: stride below the frame count, or a length other than planes x stride", 6 when "a
+-- panner block has more than 4,096 frames". Definitions only. The input is one plane.
+use Prim.Native.Nat.{ℕ}
+use mathlib.Core.Bool.{Bool, _||_}
+use mathlib.Core.List.{List, [], _∷_}
+use lib.Dec.{ltb}
+use lib.ListN.{getD}
+use lib.Ieee.{Float, nan, binary32, mul}
+use Rattle.refusals.specs.Refusals.{firstOf, _when_}
+use Rattle.numbers.specs.Computed.{narrowed}
+use Rattle.planes.specs.Tables.{tab}
+use Rattle.planes.specs.Planes.{unfit, sampleAt}
+use Rattle.channel.specs.declared.Layout.{Layout}
+use Rattle.panner.specs.declared.Command.{Command}
+use Rattle.panner.specs.Commands.{noOrder, notOffered, noAngle, planesOf, gainsOf}
+
+-- what a block is asked for beside the samples
+pub record Shape : Type 0 where
+  pub command : Command
+  pub layout : Layout
+  pub frames : ℕ
+  pub stride : ℕ
+
+-- the lengths of the input and of the outputs
+abbrev pub misfit : ℕ → ℕ → ℕ → ℕ → ℕ → Bool
+misfit input out planes stride frames = unfit input 1 stride frames || unfit out planes stride frames
+
+abbrev pub mostFrames : ℕ
+mostFrames = 4096
+
+abbrev pub planesIn : Shape → ℕ
+planesIn s = planesOf (s .command) (s .layout)
+
+abbrev pub refusalOf : Shape → ℕ → ℕ → ℕ
+refusalOf s input out =
+    firstOf (1 when noOrder (s .command) ∷ 2 when notOffered (s .command) (s .layout) ∷ 3 when noAngle (s .command) ∷ 5 when misfit input out (planesIn s) (s .stride) (s .frames) ∷ 6 when ltb mostFrames (s .frames) ∷ [])
+
+-- ---- what is played
+
+abbrev pub narrowedAll : List Float → List Float
+narrowedAll gains = tab 0 16 (λ p. narrowed (getD gains p nan))
+
+-- one sample, times the gain of each plane
+abbrev pub panned : ℕ → List Float → Float → List Float
+panned planes gains x = tab 0 planes (λ p. mul binary32 x (getD gains p nan))
+
+-- frame n of the outputs, of sample n of the input
+abbrev pub pannedFrames : ℕ → ℕ → ℕ → List Float → List Float → List (List Float)
+pannedFrames stride frames planes gains input = tab 0 frames (λ n. panned planes gains (sampleAt input stride 0 n))
+
+abbrev pub framesOf : Shape → List Float → List (List Float)
+framesOf s input = pannedFrames (s .stride) (s .frames) (planesIn s) (narrowedAll (gainsOf (s .command) (s .layout))) input

@@ -1,0 +1,232 @@
+// The panner (document 01, item 4, from panner.rs) at a fixed command: a stereo position, a surround azimuth,
+// or a direction with an order. `process` plays one input plane to the planes of the command: two for stereo,
+// the layout's channels for surround, (order + 1) squared for a direction. Every output is the f32 product of
+// the sample and the narrowed gain.
+//
+// It takes any input; its promise (specs/Promise.antt) is one equation for the refusal, the sample count and
+// the output planes, and says beside it that the gains played are those that `stereo`, `surround` and
+// `harmonics` promise. A block of up to 4,096 frames is played to its last frame; a longer one is refused,
+// where panner.rs stops at 4,096 and leaves the old tail.
+//
+// Under it lie these three, `planes` (samples with a stride, the tests of lengths), `numbers` (narrowing),
+// `channel` and `refusals`.
+ghost use mathlib.Core.Path.{_≡_};
+ghost use Prim.Native.Nat.{_≤_};
+ghost use Rattle.planes.specs.Planes.{withFrame, withFrames};
+ghost use Rattle.panner.specs.declared.Command.{Command};
+ghost use Rattle.panner.specs.Blocks.{misfit, panned, pannedFrames, narrowedAll};
+ghost use Rattle.panner.specs.Steps.{Commands, isBadLayout};
+ghost use Rattle.panner.specs.Promise.{Processed};
+
+pub enum Command {
+    Stereo(f64),
+    Surround(f64),
+    Ambisonic(harmonics::Direction, usize),
+}
+
+// The refusal, and how many frames were played.
+pub struct Panned {
+    pub refusal: u8,
+    pub samples: usize,
+}
+
+// What a command plays: the gains of so many planes, or its refusal.
+struct Commanded {
+    refusal: u8,
+    planes: usize,
+    gains: [f64; 16],
+}
+
+fn refused(refusal: u8) -> Commanded
+    ensures { λ r. ⌜ (r .refusal ≡ refusal) × (r .planes ≤ 16) ⌝ }
+{
+    Commanded {
+        refusal: refusal,
+        planes: 0,
+        gains: [0.0; 16],
+    }
+}
+
+// Whether a layout is a Custom of 0 or above 16.
+fn is_bad_layout(layout: channel::Layout) -> bool
+    ensures { λ r. ⌜ r ≡ isBadLayout layout ⌝ }
+{
+    let counted = channel::channel_count(layout);
+    counted.refusal != 0
+}
+
+fn stereo_gains(layout: channel::Layout, position: f64) -> Commanded
+    ensures { λ r. ⌜ Commands (Command.Stereo position) layout r ⌝ }
+{
+    if is_bad_layout(layout) {
+        return refused(2);
+    }
+    let stereo = stereo::calculate_stereo_gains(position);
+    if stereo.refusal != 0 {
+        return refused(3);
+    }
+    let mut gains = [0.0; 16];
+    gains[0] = stereo.left;
+    gains[1] = stereo.right;
+    Commanded {
+        refusal: 0,
+        planes: 2,
+        gains: gains,
+    }
+}
+
+fn surround_gains(layout: channel::Layout, azimuth: f64) -> Commanded
+    ensures { λ r. ⌜ Commands (Command.Surround azimuth) layout r ⌝ }
+{
+    let surround = surround::calculate_vbap_gains(layout, azimuth);
+    if surround.refusal != 0 {
+        return refused(surround.refusal);
+    }
+    let counted = channel::channel_count(layout);
+    let gains = surround.gains;
+    Commanded {
+        refusal: 0,
+        planes: counted.channels,
+        gains: gains,
+    }
+}
+
+fn ambisonic_gains(
+    layout: channel::Layout,
+    direction: harmonics::Direction,
+    order: usize,
+) -> Commanded
+    ensures { λ r. ⌜ Commands (Command.Ambisonic direction order) layout r ⌝ }
+{
+    if harmonics::refuses_order(order) {
+        return refused(1);
+    }
+    if is_bad_layout(layout) {
+        return refused(2);
+    }
+    let coefficients = harmonics::compute_sh_coefficients(order, direction);
+    if coefficients.refusal != 0 {
+        return refused(3);
+    }
+    let gains = coefficients.gains;
+    Commanded {
+        refusal: 0,
+        planes: (order + 1) * (order + 1),
+        gains: gains,
+    }
+}
+
+fn gains_of(command: Command, layout: channel::Layout) -> Commanded
+    ensures { λ r. ⌜ Commands command layout r ⌝ }
+{
+    match command {
+        Command::Stereo(position) => stereo_gains(layout, position),
+        Command::Surround(azimuth) => surround_gains(layout, azimuth),
+        Command::Ambisonic(direction, order) => ambisonic_gains(layout, direction, order),
+    }
+}
+
+fn narrowed(gains: [f64; 16]) -> [f32; 16]
+    ensures { λ r. ⌜ r ≡ narrowedAll gains ⌝ }
+{
+    let mut narrow = [0.0f32; 16];
+    let mut p = 0;
+    while p < 16 {
+        narrow[p] = numbers::narrow(gains[p]);
+        p += 1;
+    }
+    narrow
+}
+
+// Plays one sample to a frame of the output planes.
+fn pan(out: &mut [f32], stride: usize, frame: usize, planes: usize, gains: [f32; 16], x: f32)
+    requires { ⌜ planes ≤ 16 ⌝ }
+    ensures { λ _. ⌜ now (out .exit) ≡ withFrame (now (out .entry)) stride frame (panned planes gains x) ⌝ }
+{
+    let mut p = 0;
+    while p < planes {
+        planes::put_sample(out, stride, p, frame, x * gains[p]);
+        p += 1;
+    }
+}
+
+// Plays every frame.
+fn play(
+    out: &mut [f32],
+    stride: usize,
+    frames: usize,
+    planes: usize,
+    gains: [f32; 16],
+    input: &[f32],
+)
+    requires { ⌜ planes ≤ 16 ⌝ }
+    ensures { λ _. ⌜ now (out .exit) ≡ withFrames (now (out .entry)) stride 0 (pannedFrames stride frames planes gains (now (input .entry))) ⌝ }
+{
+    let mut n = 0;
+    while n < frames {
+        pan(
+            out,
+            stride,
+            n,
+            planes,
+            gains,
+            planes::sample(input, stride, 0, n),
+        );
+        n += 1;
+    }
+}
+
+// Whether a lent length doesn't fit.
+fn is_misfit(input: usize, out: usize, planes: usize, stride: usize, frames: usize) -> bool
+    ensures { λ r. ⌜ r ≡ misfit input out planes stride frames ⌝ }
+{
+    if planes::is_unfit(input, 1, stride, frames) {
+        return true;
+    }
+    planes::is_unfit(out, planes, stride, frames)
+}
+
+// Plays a block of one input plane to the planes of a command, or refuses it.
+pub fn process(
+    command: Command,
+    layout: channel::Layout,
+    frames: usize,
+    stride: usize,
+    input: &[f32],
+    out: &mut [f32],
+) -> Panned
+    ensures { λ r. ⌜ Processed (record { command = command; layout = layout; frames = frames; stride = stride }) (now (input .entry)) (now (out .entry)) r (now (out .exit)) ⌝ }
+{
+    let commanded = gains_of(command, layout);
+    if commanded.refusal != 0 {
+        return Panned {
+            refusal: commanded.refusal,
+            samples: 0,
+        };
+    }
+    if is_misfit(input.len(), out.len(), commanded.planes, stride, frames) {
+        return Panned {
+            refusal: 5,
+            samples: 0,
+        };
+    }
+    if 4096 < frames {
+        return Panned {
+            refusal: 6,
+            samples: 0,
+        };
+    }
+    let gains = commanded.gains;
+    play(
+        out,
+        stride,
+        frames,
+        commanded.planes,
+        narrowed(gains),
+        input,
+    );
+    Panned {
+        refusal: 0,
+        samples: frames,
+    }
+}

@@ -1,0 +1,36 @@
+-- `stereo::calculate_stereo_gains` meets its contract. Assumes nothing.
+use mathlib.Core.Path.{sym, ap, _∙_}
+use mathlib.Core.Bool.{not}
+use lib.Ieee.{ofBits, ofInt}
+use Rattle.stereo.proofs.Answers.{refuses, plays}
+use borrow.Author.Needs.{needs}
+use Rattle.stereo.proofs.calculate_stereo_gains.Statement.{statement}
+use Rattle.stereo.proofs.calculate_stereo_gains.Tie as tie
+
+is-finite-requires : tie.Need-is-finite-requires
+is-finite-requires c κs = search needs
+
+returns : tie.Need-returns
+unfolding ofBits ofInt
+returns c = refuses (c .before .before .args .position) (ap not (sym (c .before .is-finite .ensures)) ∙ c .if1 .taken)
+
+clamped-requires : tie.Need-clamped-requires
+clamped-requires c κs = search needs
+
+cosine-requires : tie.Need-cosine-requires
+cosine-requires c κs = search needs
+
+sine-requires : tie.Need-sine-requires
+sine-requires c κs = search needs
+
+returns-2 : tie.Need-returns-2
+unfolding ofBits ofInt
+returns-2 c =
+    let s = c .before .before .before .before .before in
+    plays (s .args .position) (c .before .before .clamped .result) (c .before .cosine .result) (c .sine .result) (ap not (sym (c .before .before .before .before .is-finite .ensures)) ∙ c .before .before .before .if1 .left)
+    (c .before .before .clamped .ensures) (c .before .cosine .ensures) (c .sine .ensures)
+
+pub calculate-stereo-gains-spec : {M : Type 1} → statement M
+calculate-stereo-gains-spec =
+    tie.close
+    (tie.spec is-finite-requires returns clamped-requires cosine-requires sine-requires returns-2)

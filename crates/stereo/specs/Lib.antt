@@ -1,0 +1,4 @@
+-- The words of the promise of `stereo`.
+pub mod Angle
+pub mod Computed
+pub mod Promise

@@ -1,0 +1,193 @@
+-- The gains of an accepted azimuth: each raw gain over the root of the sum of squares is within 2 ^ -30, by squares, of document 01's; not below 0; and exactly 0.0 where the raw gain is. One law for any layout
+-- of which the tests pass; 5.1 and 7.1 pass them by computing. Assumes nothing.
+use mathlib.Core.Path.{_≡_, refl, sym, ap, _∙_, subst, subst₂}
+use mathlib.Core.Logic.{_⊎_, inl, inr}
+use mathlib.Core.Bool.{Bool, true, false, _||_, not, cond, false≢true}
+use Prim.Native.Nat.{ℕ, _+_, _*_, _/_, _^_, _≤_, _<_}
+use native.Mathlib.Nat.{zero-add, zero-mul, mul-pos, lt-irrefl}
+use native.Mathlib.Omega.{arith}
+use borrow.Author.Tests.{lt-ltb, le-ltb, ne-eqb}
+use lib.Dec.{T, leb, ltb, ltb→lt, leb→le, lit<, lit≤}
+use lib.ListN.{getD}
+use lib.Ieee.{Float, nan, inf, fin, binary64, fits, up, down, round, size, span, climb, units, odd, div, ofInt}
+use lib.Ieee.Fits.{add-fits, up-pos}
+use lib.Ieee.Positive.{positive}
+use lib.Ieee.Scale.{round-same}
+use Rattle.refusals.proofs.First.{stops, goes-on}
+use Rattle.fractions.specs.Fraction.{Fraction, whole, number, magnitude, square, AtMost, isLess}
+use Rattle.fractions.specs.Squares.{BySquares, RootOf}
+use Rattle.fractions.proofs.Close.{Least}
+use Rattle.fractions.proofs.Within.{at-most-least}
+use Rattle.fractions.proofs.Divide.{least-unit, least-near, least-positive}
+use Rattle.fractions.proofs.Operations.{number-positive}
+use Rattle.fractions.proofs.Near.{Near}
+use Rattle.fractions.proofs.Expression.{Expression, held, run, exact, scale, bound, sound, value}
+use Rattle.fractions.proofs.Sums.{squaresFrom, square-in-sum}
+use Rattle.fractions.proofs.Normalised.{root-error, root-near, normal, normalised, quotient-not-below}
+use Rattle.numbers.specs.Computed.{rootOf}
+use Rattle.numbers.proofs.Close.{root-close, root-positive}
+use Rattle.planes.specs.Tables.{tab}
+use Rattle.planes.proofs.Lists.{split}
+use Rattle.planes.proofs.Tables.{length-tab, getD-tab}
+use Rattle.channel.proofs.Tables.{beyond}
+use Rattle.channel.specs.Layouts.{channelsOf, surround, lowFrequency}
+use Rattle.channel.specs.declared.Layout.{Layout}
+use Rattle.channel.specs.declared.Layout.the-variants.{Mono, Stereo, Surround51, Surround71, Custom}
+use Rattle.surround.specs.Formula.{speakerAt, distance, rawAt, sumAt, isSilent}
+use Rattle.surround.specs.Formula as Formula
+use Rattle.surround.specs.Computed.{zero, channelGain, rawGains, sumOf, dividedBy}
+use Rattle.surround.specs.Promise.{surroundBits, gainsOf, Gains}
+use Rattle.surround.proofs.Raw.{most, channel-known, channel-not-below, channel-silent, channel-low}
+use Rattle.surround.proofs.Clear.{clear}
+
+-- in units of 1 / scale: S is 3 / 100 at least, its root 17 / 100, and a gain 1 and a little at most
+abbrev leastSum : ℕ
+leastSum = 3 * scale / 100
+
+abbrev leastRoot : ℕ
+leastRoot = 17 * scale / 100
+
+abbrev mostGain : ℕ
+mostGain = scale + 2 ^ 70
+
+-- ---- 0.0 over a number above 0
+round-zero : round binary64 false 0 1 ≡ zero
+unfolding round size span climb units odd ofInt
+round-zero = refl
+
+zero-over : (r : Float) → T (positive r) → div binary64 zero r ≡ zero
+unfolding div ofInt
+zero-over nan p = absurd p
+zero-over (inf s) p = absurd p
+zero-over (fin true m e) p = absurd p
+zero-over (fin false m e) p =
+    let o : 0 < m * up e * 1 = mul-pos (mul-pos (ltb→lt 0 m p) (up-pos e)) (lit< tt) in
+    goes-on _ _ (ne-eqb m 0 (λ z. lt-irrefl 0 (subst (λ (k : ℕ). 0 < k) z (ltb→lt 0 m p))))
+    ∙ ap (λ (k : ℕ). round binary64 false k (m * up e * 1)) (zero-mul (down e))
+    ∙ round-same binary64 false 0 (m * up e * 1) 0 1 o (lit< tt) (sym (zero-mul (m * up e * 1)))
+    ∙ round-zero
+
+module _ (l : Layout) (a : Float) (A : 0 < number a .over) (H : AtMost (magnitude (number a)) (whole 180)) where
+  abbrev n : ℕ
+  n = channelsOf l
+
+  abbrev q : Fraction
+  q = number a
+
+  abbrev gain : ℕ → Expression
+  gain c = value (channel-known l a c A H)
+
+  abbrev squares : Expression
+  squares = squaresFrom (held false 0 0) (tab 0 n gain)
+
+  abbrev sum : Float
+  sum = sumOf n (rawGains l a n)
+
+  abbrev root : Float
+  root = rootOf binary64 sum
+
+  -- what a layout has to pass
+  pub record Passes : Type 0 where
+    pub good : T (bound binary64 squares .good)
+    pub clearly : T (leb (1 + bound binary64 squares .error) leastSum)
+    pub fine : T (normal binary64 surroundBits (bound binary64 (gain 0) .most) (bound binary64 (gain 0) .error) mostGain (root-error (2 ^ 53) (bound binary64 squares .most) (bound binary64 squares .error)) leastRoot leastSum)
+    pub run-is : run binary64 squares ≡ sum
+    pub exact-is : exact squares ≡ sumAt l q
+    pub fit : T (fits binary64 sum)
+    pub small : n ≤ 16
+
+  module _ (e : surround l ≡ true) (p : Passes) where
+    sum-near : Near scale (number sum) (sumAt l q) (bound binary64 squares .most) (bound binary64 squares .error)
+    sum-near = subst₂ (λ (x : Float) (s : Fraction). Near scale (number x) s (bound binary64 squares .most) (bound binary64 squares .error)) (p .run-is) (p .exact-is) (sound binary64 squares (p .good) .near)
+
+    sum-least : Least scale (sumAt l q) leastSum
+    sum-least = least-unit leastSum (lit< tt) (lit≤ tt) (at-most-least (clear q A H l e))
+
+    sum-positive : T (positive sum)
+    sum-positive = number-positive sum (least-positive (lit< tt) (sum-near .close .first) (least-near 1 (leb→le _ _ (p .clearly)) (sum-near .close) sum-least))
+
+    root-law : RootOf (2 ^ 53) (number root) (number sum)
+    root-law = root-close binary64 sum (p .fit) sum-positive
+
+    above-zero : T (positive root)
+    above-zero = root-positive binary64 sum (p .fit) sum-positive
+
+    -- ---- a channel
+    near : (c : ℕ) → c < n → BySquares surroundBits (number (div binary64 (channelGain l a c) root)) (rawAt l q c) (sumAt l q)
+    near c h =
+        normalised binary64 surroundBits mostGain leastRoot (channelGain l a c) root (rawAt l q c) (sumAt l q) (p .fine) (sound binary64 (gain c) tt .near) (root-law .positive)
+        (root-near (2 ^ 53) (number root) (lit≤ tt) root-law sum-near) sum-least
+        (subst (λ (g : Fraction). AtMost (square g) (sumAt l q)) (getD-tab 0 n (rawAt l q) c (whole 0) h ∙ ap (rawAt l q) (zero-add c)) (square-in-sum (Formula.rawGains l q) c (whole 0) (omega (arith, length-tab 0 n (rawAt l q)))))
+
+    not-below : (c : ℕ) → AtMost (whole 0) (number (div binary64 (channelGain l a c) root))
+    not-below c = quotient-not-below binary64 (channelGain l a c) root (channel-known l a c A H .near .first) above-zero (channel-not-below l a c A H)
+
+    -- ---- the sixteen places of the answer
+    quotient : ℕ → Float
+    quotient c = div binary64 (getD (rawGains l a n) c nan) root
+
+    place-is : (c : ℕ) → c < 16 → getD (gainsOf l a) c zero ≡ quotient c
+    unfolding gainsOf dividedBy quotient
+    place-is c h = getD-tab 0 16 quotient c zero h ∙ ap quotient (zero-add c)
+
+    raw : ℕ → Float
+    raw c = cond (ltb c n) (channelGain l a c) zero
+
+    raw-is : (c : ℕ) → c < 16 → getD (rawGains l a n) c nan ≡ raw c
+    unfolding rawGains raw
+    raw-is c h = getD-tab 0 16 raw c nan h ∙ ap raw (zero-add c)
+
+    channel-is : (c : ℕ) → c < n → getD (gainsOf l a) c zero ≡ div binary64 (channelGain l a c) root
+    unfolding quotient raw
+    channel-is c h =
+        let k : c < 16 = omega (arith, p .small) in
+        place-is c k ∙ ap (λ (x : Float). div binary64 x root) (raw-is c k ∙ stops (channelGain l a c) zero (lt-ltb c n h))
+
+    -- beyond the channels of the layout
+    beyond-is : (c : ℕ) → n ≤ c → getD (gainsOf l a) c zero ≡ zero
+    unfolding quotient raw gainsOf dividedBy
+    beyond-is c h = go (split c 16)
+      where
+        go : (c < 16) ⊎ (16 ≤ c) → getD (gainsOf l a) c zero ≡ zero
+        go (inl k) = place-is c k ∙ ap (λ (x : Float). div binary64 x root) (raw-is c k ∙ goes-on (channelGain l a c) zero (le-ltb c n h)) ∙ zero-over root above-zero
+        go (inr k) = beyond (gainsOf l a) c zero (omega (arith, length-tab 0 16 quotient))
+
+    zeroed : (c : ℕ) → channelGain l a c ≡ zero → getD (gainsOf l a) c zero ≡ zero
+    zeroed c e = go (split c n)
+      where
+        go : (c < n) ⊎ (n ≤ c) → getD (gainsOf l a) c zero ≡ zero
+        go (inl h) = channel-is c h ∙ ap (λ (x : Float). div binary64 x root) e ∙ zero-over root above-zero
+        go (inr h) = beyond-is c h
+
+    silent : (c : ℕ) → T (isSilent l q c) → getD (gainsOf l a) c zero ≡ zero
+    unfolding isSilent
+    silent c t = go (leb n c) (lowFrequency l c) (isLess (distance q (speakerAt l c)) (whole 90)) (leb→le n c) (channel-low l a c A H) (channel-silent l a c A H) t
+      where
+        go : (b f d : Bool) → (T b → n ≤ c) → (f ≡ true → channelGain l a c ≡ zero) → (d ≡ false → channelGain l a c ≡ zero) → T (b || f || not d) → getD (gainsOf l a) c zero ≡ zero
+        go true f d u v w t = beyond-is c (u tt)
+        go false true d u v w t = zeroed c (v refl)
+        go false false false u v w t = zeroed c (w refl)
+        go false false true u v w t = absurd t
+
+    the-gains : Gains l a (λ c. getD (gainsOf l a) c zero)
+    the-gains = record {
+      clear = clear q A H l e;
+      near = λ c h. subst (λ (x : Float). BySquares surroundBits (number x) (rawAt l q c) (sumAt l q)) (sym (channel-is c h)) (near c h);
+      above = λ c h. subst (λ (x : Float). AtMost (whole 0) (number x)) (sym (channel-is c h)) (not-below c);
+      silent = silent;
+    }
+
+passes-51 : (a : Float) (A : 0 < number a .over) (H : AtMost (magnitude (number a)) (whole 180)) → Passes Surround51 a A H
+unfolding sumOf rawGains ofInt
+passes-51 a A H = record { good = tt; clearly = tt; fine = tt; run-is = refl; exact-is = refl; fit = add-fits binary64 _ _; small = lit≤ tt }
+
+passes-71 : (a : Float) (A : 0 < number a .over) (H : AtMost (magnitude (number a)) (whole 180)) → Passes Surround71 a A H
+unfolding sumOf rawGains ofInt
+passes-71 a A H = record { good = tt; clearly = tt; fine = tt; run-is = refl; exact-is = refl; fit = add-fits binary64 _ _; small = lit≤ tt }
+
+pub gains : (l : Layout) (a : Float) → surround l ≡ true → 0 < number a .over → AtMost (magnitude (number a)) (whole 180) → Gains l a (λ c. getD (gainsOf l a) c zero)
+gains Surround51 a e A H = the-gains Surround51 a A H e (passes-51 a A H)
+gains Surround71 a e A H = the-gains Surround71 a A H e (passes-71 a A H)
+gains Mono a e A H = absurd (false≢true e)
+gains Stereo a e A H = absurd (false≢true e)
+gains (Custom n) a e A H = absurd (false≢true e)

@@ -1,0 +1,303 @@
+-- The raw gain of a speaker is within 2 ^ -47 of document 01's, and not below 0: the place that the program turns the speaker to is exact, and so is its test of nearness; the way to it and 90 less the way are
+-- rounded once each, and the slope of the cosine carries that over. Assumes nothing.
+use mathlib.Core.Path.{_≡_, refl, sym, ap, _∙_, subst}
+use mathlib.Core.Bool.{Bool, true, false, cond}
+use Prim.Native.Nat.{ℕ, suc, _+_, _-_, _*_, _^_, _≤_, _<_}
+use native.Mathlib.Nat.{mul-pos, mul-le-mul-right, le-of-mul-le-mul-right}
+use native.Mathlib.Omega.{arith}
+use lib.Dec.{lit≤, lit<}
+use lib.IntN.{ℤ, pos, negsuc}
+use lib.Ieee.{Float, binary64, lt, neg, add, sub, ofInt}
+use Rattle.fractions.specs.Fraction.{Fraction, fraction, whole, unit, opposite, magnitude, number, _⊕_, _⊖_, Same, Less, AtMost, isLess, Within}
+use Rattle.refusals.proofs.First.{stops, goes-on}
+use Rattle.fractions.specs.Approximates.{Approximates}
+use Rattle.fractions.proofs.Ring.{ring}
+use Rattle.fractions.proofs.Order.{same-refl, same-sym, at-most-same, less-at-most}
+use Rattle.fractions.proofs.Restate.{same-sub}
+use Rattle.fractions.proofs.Close.{Close, Size, same-close, close-same, close-trans, close-sub, size-same, size-unit, size-near}
+use Rattle.fractions.proofs.Within.{within-refl, within-close, close-within, within-counted, counted-within, at-most-size, size-at-most}
+use Rattle.fractions.proofs.Magnitude.{close-magnitude}
+use Rattle.fractions.proofs.Number.{number-neg}
+use Rattle.fractions.proofs.IsLess.{lt-number, less-true, less-false, is-less-same}
+use Rattle.fractions.proofs.Operations.{sub-result}
+use Rattle.fractions.proofs.Rounding.{rounding}
+use Rattle.fractions.proofs.Near.{result-close}
+use Rattle.fractions.proofs.Expression.{scale}
+use Rattle.series.specs.Sums.{cosine}
+use Rattle.series.specs.Angles.{definedCosine}
+use Rattle.series.proofs.Laws.{defined-size, defined-close, rest-not-below}
+use Rattle.angles.specs.Promise as Angles
+use Rattle.angles.proofs.Laws.{outcome-kept, accepted, value-near}
+use Rattle.channel.specs.Layouts.{lowFrequency, degreesOf, azimuthOf}
+use Rattle.channel.specs.declared.Layout.{Layout}
+use Rattle.surround.specs.Formula.{degrees, speakerAt, distance, rawGain, rawAt}
+use Rattle.surround.specs.Computed.{float, zero, absolute, notBelow, placeOf, isNear, angleOf, rawOf, channelGain}
+use Rattle.surround.proofs.Speakers.{Exactly, Sides, Stands, speaker-stands}
+use Rattle.surround.proofs.Ways.{turnedTo, isBetween, Way, the-way}
+
+abbrev pub most : Fraction
+most = whole 1 ⊕ unit 50
+
+abbrev pub rawBits : ℕ
+rawBits = 47
+
+-- in units of 1 / scale: what rounding moves the way to a speaker by, and 90 less the way
+abbrev wayError : ℕ
+wayError = rounding binary64 (90 * scale)
+
+abbrev angleError : ℕ
+angleError = rounding binary64 (90 * scale + (0 + wayError)) + (0 + wayError)
+
+zero-is : number zero ≡ whole 0
+unfolding ofInt
+zero-is = refl
+
+-- ---- comparing with what is exact
+module _ (a : Float) (A : 0 < number a .over) where
+  above-test : (x : Float) (q : Fraction) → Exactly x q → lt x a ≡ isLess q (number a)
+  above-test x q e = lt-number x a (e .first) A ∙ is-less-same (number x) q (number a) (number a) (e .first) (e .second) A A (e .same) (same-refl (number a))
+
+  below-test : (x : Float) (q : Fraction) → Exactly x q → lt a x ≡ isLess (number a) q
+  below-test x q e = lt-number a x A (e .first) ∙ is-less-same (number a) (number a) (number x) q A A (e .first) (e .second) (same-refl (number a)) (e .same)
+
+  turned-sides : (s : Float) (q : Fraction) → Stands s q → Sides (placeOf a s) (turnedTo (number a) q)
+  unfolding placeOf
+  turned-sides s q h =
+      subst (λ (b : Bool). Sides (placed b (lt a (sub binary64 s (float 180)))) (turnedTo (number a) q)) (sym (above-test _ _ (h .above)))
+      (subst (λ (c : Bool). Sides (placed (isLess (q ⊕ whole 180) (number a)) c) (turnedTo (number a) q)) (sym (below-test _ _ (h .below))) (go (isLess (q ⊕ whole 180) (number a)) (isLess (number a) (q ⊖ whole 180))))
+    where
+      placed : Bool → Bool → Float
+      placed b c = cond b (add binary64 s (float 360)) (cond c (sub binary64 s (float 360)) s)
+
+      go : (b c : Bool) → Sides (cond b (add binary64 s (float 360)) (cond c (sub binary64 s (float 360)) s)) (cond b (q ⊕ whole 360) (cond c (q ⊖ whole 360) q))
+      go true c = h .on
+      go false true = h .back
+      go false false = h .here
+
+  near-test : (t : Float) (q : Fraction) → Sides t q → isNear a t ≡ isBetween (number a) q
+  unfolding isNear
+  near-test t q h = λ i. cond (above-test _ _ (h .below) i) (below-test _ _ (h .above) i) false
+
+-- ---- the magnitude of a number, by its sign
+turned-nat : (p m o : ℕ) → p < m → m * o + 0 * o ≡ (p - m + (m - p)) * o + p * o
+turned-nat p m o h = let e : m ≡ p - m + (m - p) + p = omega arith in omega (arith, ap (λ (n : ℕ). n * o) e)
+
+left-nat : (p m o : ℕ) → m ≤ p → p * o + 0 * o ≡ (p - m + (m - p)) * o + m * o
+left-nat p m o h = let e : p ≡ p - m + (m - p) + m = omega arith in omega (arith, ap (λ (n : ℕ). n * o) e)
+
+-- ---- what is within 2 ^ -k of a number below 0, and not far below 0 itself, is within 2 ^ -k of 0
+zero-nat : (xp xm xo qp qm qo W : ℕ) → xp * (qo * W) ≤ xm * (qo * W) → (xm * qo + qp * xo) * W ≤ (qm * xo + xp * qo) * W + 1 * (xo * qo) → (0 * qo + qp * 1) * W * xo ≤ ((qm * 1 + 0 * qo) * W + 1 * (1 * qo)) * xo
+zero-nat xp xm xo qp qm qo W h k = let k' = simp ring at k in simp ring (omega arith)
+
+zero-near : (W : ℕ) (x q : Fraction) → Close W x q 1 → Less x (whole 0) → AtMost (fraction 0 1 (8 * W)) q → Close W (whole 0) q 1
+zero-near W x q c h l = record {
+  first = lit< tt;
+  second = c .second;
+  above = other (q .plus) (q .minus) (q .over) l;
+  below = le-of-mul-le-mul-right (zero-nat (x .plus) (x .minus) (x .over) (q .plus) (q .minus) (q .over) W (mul-le-mul-right (q .over * W) (under x h)) (c .below)) (c .first);
+}
+  where
+    under : (x : Fraction) → Less x (whole 0) → x .plus ≤ x .minus
+    under x h = omega arith
+
+    other : (qp qm qo : ℕ) → 0 * qo + qm * (8 * W) ≤ qp * (8 * W) + 1 * qo → (0 * qo + qm * 1) * W ≤ (qp * 1 + 0 * qo) * W + 1 * (1 * qo)
+    other qp qm qo h = omega arith
+
+-- ---- the magnitude of a float
+module _ (x : Float) (X : 0 < number x .over) where
+  sign-test : lt x zero ≡ isLess (number x) (whole 0)
+  unfolding ofInt
+  sign-test = lt-number x zero X (lit< tt)
+
+  absolute-same : Same (number (absolute x)) (magnitude (number x))
+  unfolding absolute
+  absolute-same =
+      subst (λ (b : Bool). Same (number (cond b (neg x) x)) (magnitude (number x))) (sym sign-test) (go (isLess (number x) (whole 0)) (less-true (number x) (whole 0)) (less-false (number x) (whole 0)))
+    where
+      turned : (q : Fraction) → Less q (whole 0) → Same (opposite q) (magnitude q)
+      turned q h = turned-nat (q .plus) (q .minus) (q .over) (omega arith)
+
+      left : (q : Fraction) → AtMost (whole 0) q → Same q (magnitude q)
+      left q h = left-nat (q .plus) (q .minus) (q .over) (omega arith)
+
+      go : (b : Bool) → (b ≡ true → Less (number x) (whole 0)) → (b ≡ false → AtMost (whole 0) (number x)) → Same (number (cond b (neg x) x)) (magnitude (number x))
+      go true f g = subst (λ (q : Fraction). Same q (magnitude (number x))) (sym (number-neg x)) (turned (number x) (f refl))
+      go false f g = left (number x) (g refl)
+
+  absolute-over : 0 < number (absolute x) .over
+  unfolding absolute
+  absolute-over = go (lt x zero)
+    where
+      go : (b : Bool) → 0 < number (cond b (neg x) x) .over
+      go true = subst (λ (q : Fraction). 0 < q .over) (sym (number-neg x)) X
+      go false = X
+
+  -- ---- lifted to 0, near a number that is 0 at least, up to 2 ^ -50
+  lifted : (q : Fraction) → Approximates rawBits most x q → AtMost (opposite (unit 50)) q → Approximates rawBits most (notBelow x) q
+  unfolding notBelow
+  lifted q h l =
+      subst (λ (b : Bool). Approximates rawBits most (cond b zero x) q) (sym sign-test) (go (isLess (number x) (whole 0)) (less-true (number x) (whole 0)))
+    where
+      go : (b : Bool) → (b ≡ true → Less (number x) (whole 0)) → Approximates rawBits most (cond b zero x) q
+      go true f = record { near = subst (λ (z : Fraction). Within rawBits z q) (sym zero-is) (close-within (zero-near (2 ^ rawBits) (number x) q (within-close (h .near)) (f refl) l)); size = h .size }
+      go false f = h
+
+  not-below : AtMost (whole 0) (number (notBelow x))
+  unfolding notBelow
+  not-below = subst (λ (b : Bool). AtMost (whole 0) (number (cond b zero x))) (sym sign-test) (go (isLess (number x) (whole 0)) (less-false (number x) (whole 0)))
+    where
+      go : (b : Bool) → (b ≡ false → AtMost (whole 0) (number x)) → AtMost (whole 0) (number (cond b zero x))
+      go true f = subst (λ (z : Fraction). AtMost (whole 0) z) (sym zero-is) (lit≤ tt)
+      go false f = f refl
+
+zero-known : Approximates rawBits most zero (whole 0)
+unfolding ofInt
+zero-known = record { near = within-refl rawBits (whole 0) (lit< tt); size = lit≤ tt }
+
+-- ---- the raw gain of a speaker that stands at p - m
+module _ (a s : Float) (p m : ℕ) (A : 0 < number a .over) (H : AtMost (magnitude (number a)) (whole 180)) (S : Stands s (fraction p m 1)) where
+  abbrev q : Fraction
+  q = fraction p m 1
+
+  abbrev T : Fraction
+  T = turnedTo (number a) q
+
+  abbrev t : Float
+  t = placeOf a s
+
+  abbrev d : Fraction
+  d = distance (number a) q
+
+  way : Way (number a) T d
+  way = the-way (number a) p m A H (S .size)
+
+  there : Sides t T
+  there = turned-sides a A s q S
+
+  -- ---- a speaker that is near
+  module _ (n : Less d (whole 90)) where
+    abbrev x : Float
+    x = sub binary64 a t
+
+    abbrev y : Float
+    y = absolute x
+
+    abbrev v : Float
+    v = Angles.outcome cosine (angleOf a t) .value
+
+    between : Same (number a ⊖ number t) (number a ⊖ T)
+    between = same-sub (number a) (number a) (number t) T (same-refl (number a)) (there .is .same)
+
+    between-pos : 0 < (number a ⊖ T) .over
+    between-pos = mul-pos A (there .is .second)
+
+    difference-size : Size scale (number a ⊖ number t) (90 * scale)
+    difference-size =
+        let M = magnitude (number a ⊖ T) in
+        let m : AtMost M (whole 90) = at-most-same M d (whole 90) (whole 90) (same-sym d M (way .same)) (same-refl (whole 90)) (way .over) (lit< tt) (less-at-most d (whole 90) n) in
+        size-same (number a ⊖ number t) between-pos (mul-pos A (there .is .first)) between (size-unit (lit< tt) (lit≤ tt) (at-most-size m))
+
+    difference-close : Close scale (number x) (number a ⊖ T) wayError
+    difference-close =
+        let c : Close scale (number x) (number a ⊖ number t) wayError = result-close binary64 tt (mul-pos A (there .is .first)) difference-size (sub-result binary64 a t A (there .is .first)) in
+        close-same (number x) (number a ⊖ T) (c .first) between-pos (same-refl (number x)) between c
+
+    way-close : Close scale (number y) d wayError
+    way-close =
+        let X = difference-close .first in
+        close-same (number y) d (absolute-over x X) (way .over) (absolute-same x X) (same-sym d (magnitude (number a ⊖ T)) (way .same)) (close-magnitude difference-close)
+
+    rest-size : Size scale (whole 90 ⊖ d) (90 * scale)
+    rest-size = size-unit (lit< tt) (lit≤ tt) (at-most-size (inner d (way .not-below) n))
+      where
+        inner : (d : Fraction) → AtMost (whole 0) d → Less d (whole 90) → AtMost (magnitude (whole 90 ⊖ d)) (whole 90)
+        inner d h k = omega arith
+
+    rest-close : Close scale (whole 90 ⊖ number y) (whole 90 ⊖ d) (0 + wayError)
+    rest-close = close-sub (same-close scale (whole 90) (whole 90) (lit< tt) (lit< tt) (same-refl (whole 90))) way-close
+
+    angle-close : Close scale (number (angleOf a t)) (whole 90 ⊖ d) angleError
+    unfolding angleOf ofInt
+    angle-close = close-trans (result-close binary64 tt (rest-close .first) (size-near rest-close rest-size) (sub-result binary64 (float 90) y (lit< tt) (way-close .first))) rest-close
+
+    angle-accepted : Angles.refusalOf (angleOf a t) ≡ 0
+    angle-accepted = accepted (angleOf a t) (angle-close .first) (size-at-most (size-unit (lit< tt) (lit≤ tt) (size-near angle-close rest-size)))
+
+    known-cosine : Approximates rawBits most v (definedCosine (whole 90 ⊖ d))
+    known-cosine = record {
+      near =
+          counted-within {W = 2 ^ 54 * scale} (lit< tt) (lit≤ tt)
+          (close-trans (within-counted (2 ^ 4 * scale) (lit≤ tt) (value-near cosine (angleOf a t) (Angles.outcome cosine (angleOf a t)) (outcome-kept cosine (angleOf a t)) angle-accepted)) (defined-close cosine (lit< tt) angle-close));
+      size = defined-size cosine (whole 90 ⊖ d) (rest-close .second);
+    }
+
+    raised : Approximates rawBits most (notBelow v) (definedCosine (whole 90 ⊖ d))
+    raised = lifted v (known-cosine .near .first) (definedCosine (whole 90 ⊖ d)) known-cosine (rest-not-below d (way .over) (way .not-below) (less-at-most d (whole 90) n))
+
+    raised-not-below : AtMost (whole 0) (number (notBelow v))
+    raised-not-below = not-below v (known-cosine .near .first)
+
+  pub raw-test : isNear a t ≡ isLess d (whole 90)
+  raw-test = near-test a A t T there ∙ sym (way .near)
+
+  pub raw-known : Approximates rawBits most (rawOf a s) (rawGain (number a) q)
+  unfolding rawOf rawGain
+  raw-known =
+      let v = Angles.outcome cosine (angleOf a t) .value in
+      subst (λ (b : Bool). Approximates rawBits most (cond b (notBelow v) zero) (rawGain (number a) q)) (sym raw-test) (go (isLess d (whole 90)) (less-true d (whole 90)))
+    where
+      go : (b : Bool) → (b ≡ true → Less d (whole 90)) → Approximates rawBits most (cond b (notBelow (Angles.outcome cosine (angleOf a t) .value)) zero) (cond b (definedCosine (whole 90 ⊖ d)) (whole 0))
+      go true f = raised (f refl)
+      go false f = zero-known
+
+  pub raw-not-below : AtMost (whole 0) (number (rawOf a s))
+  unfolding rawOf
+  raw-not-below =
+      let w = Angles.outcome cosine (angleOf a t) .value in
+      subst (λ (b : Bool). AtMost (whole 0) (number (cond b (notBelow w) zero))) (sym raw-test) (go (isLess d (whole 90)) (less-true d (whole 90)))
+    where
+      go : (b : Bool) → (b ≡ true → Less d (whole 90)) → AtMost (whole 0) (number (cond b (notBelow (Angles.outcome cosine (angleOf a t) .value)) zero))
+      go true f = raised-not-below (f refl)
+      go false f = subst (λ (z : Fraction). AtMost (whole 0) z) (sym zero-is) (lit≤ tt)
+
+  pub raw-silent : isLess d (whole 90) ≡ false → rawOf a s ≡ zero
+  unfolding rawOf
+  raw-silent h = goes-on _ zero (raw-test ∙ h)
+
+-- ---- of a channel
+module _ (l : Layout) (a : Float) (c : ℕ) (A : 0 < number a .over) (H : AtMost (magnitude (number a)) (whole 180)) where
+  -- what holds of a speaker that stands at a whole number holds of this one
+  at-speaker : (P : Float → Fraction → Type 0) → ((s : Float) (p m : ℕ) → Stands s (fraction p m 1) → P s (fraction p m 1)) → P (azimuthOf l c) (speakerAt l c)
+  at-speaker P f = go (degreesOf l c) (speaker-stands l c)
+    where
+      go : (z : ℤ) → Stands (ofInt binary64 z) (degrees z) → P (ofInt binary64 z) (degrees z)
+      go (pos n) h = f (ofInt binary64 (pos n)) n 0 h
+      go (negsuc n) h = f (ofInt binary64 (negsuc n)) 0 (suc n) h
+
+  pub channel-known : Approximates rawBits most (channelGain l a c) (rawAt l (number a) c)
+  unfolding channelGain rawAt
+  channel-known = go (lowFrequency l c)
+    where
+      go : (b : Bool) → Approximates rawBits most (cond b zero (rawOf a (azimuthOf l c))) (cond b (whole 0) (rawGain (number a) (speakerAt l c)))
+      go true = zero-known
+      go false = at-speaker (λ (s : Float) (q : Fraction). Approximates rawBits most (rawOf a s) (rawGain (number a) q)) (λ s p m h. raw-known a s p m A H h)
+
+  pub channel-not-below : AtMost (whole 0) (number (channelGain l a c))
+  unfolding channelGain
+  channel-not-below = go (lowFrequency l c)
+    where
+      go : (b : Bool) → AtMost (whole 0) (number (cond b zero (rawOf a (azimuthOf l c))))
+      go true = subst (λ (z : Fraction). AtMost (whole 0) z) (sym zero-is) (lit≤ tt)
+      go false = at-speaker (λ (s : Float) (q : Fraction). AtMost (whole 0) (number (rawOf a s))) (λ s p m h. raw-not-below a s p m A H h)
+
+  pub channel-silent : isLess (distance (number a) (speakerAt l c)) (whole 90) ≡ false → channelGain l a c ≡ zero
+  unfolding channelGain
+  channel-silent h = go (lowFrequency l c)
+    where
+      go : (b : Bool) → cond b zero (rawOf a (azimuthOf l c)) ≡ zero
+      go true = refl
+      go false = at-speaker (λ (s : Float) (q : Fraction). isLess (distance (number a) q) (whole 90) ≡ false → rawOf a s ≡ zero) (λ s p m k. raw-silent a s p m A H k) h
+
+  pub channel-low : lowFrequency l c ≡ true → channelGain l a c ≡ zero
+  unfolding channelGain
+  channel-low h = stops zero (rawOf a (azimuthOf l c)) h

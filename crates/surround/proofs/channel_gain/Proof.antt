@@ -1,0 +1,35 @@
+-- `surround::channel_gain` meets its contract: `Steps`. Assumes nothing.
+use lib.Ieee.{ofBits, ofInt}
+use Rattle.surround.proofs.Steps.{low, directed}
+use borrow.Author.Needs.{needs}
+use Rattle.surround.proofs.channel_gain.Statement.{statement}
+use Rattle.surround.proofs.channel_gain.Tie as tie
+
+is-low-frequency-requires : tie.Need-is-low-frequency-requires
+is-low-frequency-requires c κs = search needs
+
+returns : tie.Need-returns
+unfolding ofBits ofInt
+returns c = let a = c .before .before .args in low (a .layout) (a .azimuth) (a .channel) (c .before .is-low-frequency .result) (c .before .is-low-frequency .ensures) (c .if1 .taken)
+
+speaker-azimuth-requires : tie.Need-speaker-azimuth-requires
+speaker-azimuth-requires c κs = search needs
+
+raw-gain-requires : tie.Need-raw-gain-requires
+raw-gain-requires c κs = search needs
+
+returns-2 : tie.Need-returns-2
+returns-2 c =
+    let a = c .before .before .before .before .args in
+    let l = c .before .before .before .is-low-frequency in
+    directed (a .layout) (a .azimuth) (a .channel) (l .result) (l .ensures) (c .before .speaker-azimuth .result) (c .raw-gain .result) (c .before .before .if1 .left) (c .before .speaker-azimuth .ensures) (c .raw-gain .ensures)
+
+pub channel-gain-spec : {M : Type 1} → statement M
+channel-gain-spec =
+    tie.close
+    (tie.spec
+    is-low-frequency-requires
+    returns
+    speaker-azimuth-requires
+    raw-gain-requires
+    returns-2)

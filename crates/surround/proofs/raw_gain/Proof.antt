@@ -1,0 +1,56 @@
+-- `surround::raw_gain` meets its contract: `Steps`. Assumes nothing.
+use lib.Ieee.{ofBits, ofInt}
+use Rattle.surround.proofs.Steps.{far, lifted, kept}
+use borrow.Author.Needs.{needs}
+use Rattle.surround.proofs.raw_gain.Statement.{statement}
+use Rattle.surround.proofs.raw_gain.Tie as tie
+
+place-requires : tie.Need-place-requires
+place-requires c κs = search needs
+
+is-near-requires : tie.Need-is-near-requires
+is-near-requires c κs = search needs
+
+returns : tie.Need-returns
+unfolding ofBits ofInt
+returns c =
+    let a = c .before .before .before .args in
+    far (a .azimuth) (a .speaker) (c .before .before .place .result) (c .before .is-near .result) (c .before .before .place .ensures) (c .before .is-near .ensures) (c .if1 .taken)
+
+absolute-value-requires : tie.Need-absolute-value-requires
+absolute-value-requires c κs = search needs
+
+cosine-requires : tie.Need-cosine-requires
+cosine-requires c κs = search needs
+
+returns-2 : tie.Need-returns-2
+unfolding ofBits ofInt
+returns-2 c =
+    let a = c .before .before .before .before .before .before .before .args in
+    let p = c .before .before .before .before .before .before .place in
+    let n = c .before .before .before .before .before .is-near in
+    let x = c .before .before .before .absolute-value in
+    let g = c .before .before .cosine in
+    lifted (a .azimuth) (a .speaker) (p .result) (n .result) (p .ensures) (n .ensures) (x .result) (g .result) (c .before .before .before .before .if1 .left) (x .ensures) (g .ensures) (c .if2 .taken)
+
+returns-3 : tie.Need-returns-3
+unfolding ofBits ofInt
+returns-3 c =
+    let a = c .before .before .before .before .before .before .before .args in
+    let p = c .before .before .before .before .before .before .place in
+    let n = c .before .before .before .before .before .is-near in
+    let x = c .before .before .before .absolute-value in
+    let g = c .before .before .cosine in
+    kept (a .azimuth) (a .speaker) (p .result) (n .result) (p .ensures) (n .ensures) (x .result) (g .result) (c .before .before .before .before .if1 .left) (x .ensures) (g .ensures) (c .if2 .left)
+
+pub raw-gain-spec : {M : Type 1} → statement M
+raw-gain-spec =
+    tie.close
+    (tie.spec
+    place-requires
+    is-near-requires
+    returns
+    absolute-value-requires
+    cosine-requires
+    returns-2
+    returns-3)

@@ -1,0 +1,80 @@
+-- The promise is kept: all of it holds of the answer that the definition gives, and the program gives that. Assumes nothing.
+use mathlib.Core.Path.{_≡_, refl, sym, ap, _∙_, subst}
+use mathlib.Core.Bool.{Bool, true, false, cond}
+use mathlib.Core.List.{List}
+use Prim.Native.Nat.{ℕ, _*_, _≤_, _<_}
+use lib.Dec.{eqb, ltb, lit≤}
+use lib.ListN.{getD}
+use lib.Ieee.{Float, nan, binary64, mul, round, ofInt}
+use Rattle.fractions.specs.Fraction.{Fraction, number, whole, _⊗_, Within}
+use Rattle.fractions.specs.Approximates.{Approximates, EachWithin}
+use Rattle.fractions.proofs.Within.{within-weaken}
+use Rattle.series.specs.Sums.{power}
+use Rattle.harmonics.specs.Formulas.{formulas}
+use Rattle.harmonics.specs.Computed.{wavesOf, upTo}
+use Rattle.harmonics.specs.Promise.{refusalOf, silence}
+use Rattle.harmonics.specs.Promise as Harmonics
+use Rattle.harmonics.specs.declared.Direction.{Direction}
+use Rattle.harmonics.specs.declared.Coefficients.{Coefficients}
+use Rattle.harmonics.proofs.Laws as Laws
+use Rattle.virtual_speaker.specs.Weights.{c, degreeOf, weightedFormulas}
+use Rattle.virtual_speaker.specs.Computed.{cosineOf, weight, weigh, weighted}
+use Rattle.virtual_speaker.specs.Promise.{weightBits, outcome, Promise}
+use Rattle.virtual_speaker.proofs.Cosines.{one-of-three, cosine-near}
+use Rattle.virtual_speaker.proofs.Near.{weighted-near, each-tab}
+
+-- ---- zeros stay zeros
+silence-weighed : (n : ℕ) → weigh (cosineOf n) silence ≡ silence
+unfolding weigh mul round ofInt
+silence-weighed = one-of-three (λ (k : Float). weigh k silence ≡ silence) refl refl refl
+
+degree-most : (i : ℕ) → degreeOf i ≤ 3
+degree-most i = go (ltb i (1 * 1)) (ltb i (2 * 2)) (ltb i (3 * 3))
+  where
+    go : (s t u : Bool) → cond s 0 (cond t 1 (cond u 2 3)) ≤ 3
+    go true t u = lit≤ tt
+    go false true u = lit≤ tt
+    go false false true = lit≤ tt
+    go false false false = lit≤ tt
+
+module _ (order : ℕ) (d : Direction) where
+  abbrev a : Fraction
+  a = number (d .azimuth)
+
+  abbrev e : Fraction
+  e = number (d .elevation)
+
+  abbrev pub computed-at : ℕ → Float
+  computed-at i = mul binary64 (getD (upTo order (wavesOf d)) i nan) (weight (cosineOf order) (degreeOf i))
+
+  abbrev pub formula-at : ℕ → Fraction
+  formula-at i = getD (formulas order a e) i (whole 0) ⊗ power (c order) (degreeOf i)
+
+  -- ---- each of the weighted coefficients of an accepted direction, by its channel
+  pub near-at : refusalOf order d ≡ 0 → (i : ℕ) → i < 16 → Within 41 (number (computed-at i)) (formula-at i)
+  near-at h i l =
+      let o = Harmonics.outcome order d in
+      let p = Laws.outcome-kept order d in
+      weighted-near (cosine-near order (Laws.is-accepted order d h .order-is))
+      (subst (λ (xs : List Float). Approximates 42 (whole 5) (getD xs i nan) (getD (formulas order a e) i (whole 0))) (Laws.gains-are order d o p h) (Laws.gain-near order d o p h i nan (whole 0) l))
+      (degreeOf i) (degree-most i)
+
+  weights-are : refusalOf order d ≡ 0 → outcome order d .weights ≡ weighted order d
+  weights-are h = ap (λ (r : ℕ). cond (eqb r 0) (weighted order d) silence) h
+
+  pub kept : Promise order d (outcome order d)
+  unfolding weigh
+  kept = record {
+    is = refl;
+    near = λ h.
+        subst (λ (xs : List Float). EachWithin weightBits xs (weightedFormulas order a e)) (sym (weights-are h))
+        (each-tab weightBits 0 16 computed-at formula-at (λ i l. within-weaken (lit≤ tt) (near-at h i l)));
+  }
+
+  -- ---- the answer of the program
+  pub weighed-kept : (r : Coefficients) → Harmonics.Promise order d r → (w : List Float) → w ≡ weigh (cosineOf order) (r .gains) → Promise order d (record { refusal = r .refusal; weights = w })
+  weighed-kept r p w h = subst (Promise order d) (λ i. record { refusal = sym (Laws.refusal-is order d r p) i; weights = sym (h ∙ ap (λ (s : Coefficients). weigh (cosineOf order) (s .gains)) (p .is) ∙ through (eqb (refusalOf order d) 0)) i }) kept
+    where
+      through : (b : Bool) → weigh (cosineOf order) (cond b (upTo order (wavesOf d)) silence) ≡ cond b (weighted order d) silence
+      through true = refl
+      through false = silence-weighed order

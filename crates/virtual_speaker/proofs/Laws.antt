@@ -1,0 +1,83 @@
+-- What the crates above cite of the weighted coefficients, beside their promise: that each is nearer its formula than promised, that all are finite, whether refused or not, and that the eight positions are
+-- accepted. Assumes nothing.
+use mathlib.Core.Path.{_≡_, refl, sym, ap, _∙_, subst₂}
+use mathlib.Core.Bool.{Bool, true, false, not, _||_, cond}
+use mathlib.Core.List.{List, [], _∷_}
+use Prim.Native.Nat.{ℕ, suc, _<_}
+use native.Mathlib.Nat.{zero-add}
+use native.Mathlib.Omega.{arith}
+use lib.Dec.{T, eqb, lit<, lit≤, leb→le}
+use borrow.Author.Tests.{eqb-true}
+use lib.IntN.{ℤ, pos, negsuc}
+use lib.ListN.{length, getD}
+use lib.Ieee.{Float, binary64, ofInt}
+use lib.Ieee.Scale.{finite}
+use lib.Ieee.Bits.{is-true}
+use Rattle.fractions.specs.Fraction.{Fraction, number, Within}
+use Rattle.fractions.specs.Approximates.{EachWithin}
+use Rattle.fractions.proofs.Number.{number-finite}
+use Rattle.planes.specs.Tables.{unsound}
+use Rattle.planes.proofs.Tables.{getD-tab}
+use Rattle.channel.specs.Layouts.{positions}
+use Rattle.channel.proofs.Tables.{turned, position-turned}
+use Rattle.harmonics.specs.Promise.{refusesOrder, refusesAzimuth, refusalOf, silence, degrees}
+use Rattle.harmonics.specs.declared.Direction.{Direction}
+use Rattle.harmonics.proofs.Laws.{accepted, direction-accepted, whole-accepted, elevation-accepted}
+use Rattle.virtual_speaker.specs.Weights.{weightedFormulas}
+use Rattle.virtual_speaker.specs.Computed.{weigh, weighted}
+use Rattle.virtual_speaker.specs.Promise.{weightBits, outcome, Promise, positionOf}
+use Rattle.virtual_speaker.specs.declared.Weighted.{Weighted}
+use Rattle.virtual_speaker.proofs.Kept as Kept
+
+-- ---- what is near a number is finite
+each-sound : (k : ℕ) (xs : List Float) (qs : List Fraction) → EachWithin k xs qs → unsound xs ≡ false
+each-sound k [] qs h = refl
+each-sound k (x ∷ xs) (q ∷ qs) h = ap (λ (b : Bool). not b || unsound xs) (is-true (finite x) (number-finite x (h .0 .first))) ∙ each-sound k xs qs (h .1)
+each-sound k (x ∷ xs) [] h = absurd h
+
+-- ---- the promise holds of the answer that the definition gives
+pub outcome-kept : (order : ℕ) (d : Direction) → Promise order d (outcome order d)
+outcome-kept = Kept.kept
+
+module _ (order : ℕ) (d : Direction) (answer : Weighted) (p : Promise order d answer) where
+  pub refusal-is : answer .refusal ≡ refusalOf order d
+  refusal-is = ap (λ (r : Weighted). r .refusal) (p .is)
+
+  weights-are : (r : ℕ) → refusalOf order d ≡ r → answer .weights ≡ cond (eqb r 0) (weighted order d) silence
+  weights-are r h = ap (λ (s : Weighted). s .weights) (p .is) ∙ ap (λ (n : ℕ). cond (eqb n 0) (weighted order d) silence) h
+
+  -- ---- there are sixteen, all of them finite
+  pub weights-length : length (answer .weights) ≡ 16
+  unfolding weigh
+  weights-length = ap length (weights-are (refusalOf order d) refl) ∙ go (eqb (refusalOf order d) 0)
+    where
+      go : (b : Bool) → length (cond b (weighted order d) silence) ≡ 16
+      go true = refl
+      go false = refl
+
+  pub weights-sound : unsound (answer .weights) ≡ false
+  unfolding ofInt
+  weights-sound = go (eqb (refusalOf order d) 0) (weights-are (refusalOf order d) refl) (λ h. each-sound weightBits (answer .weights) (weightedFormulas order (number (d .azimuth)) (number (d .elevation))) (p .near (eqb-true (refusalOf order d) 0 h)))
+    where
+      go : (b : Bool) → answer .weights ≡ cond b (weighted order d) silence → (b ≡ true → unsound (answer .weights) ≡ false) → unsound (answer .weights) ≡ false
+      go true e f = f refl
+      go false e f = ap unsound e
+
+  -- ---- each, by its channel, nearer than promised
+  pub weight-near : refusalOf order d ≡ 0 → (i : ℕ) (x : Float) (q : Fraction) → i < 16
+      → Within 41 (number (getD (answer .weights) i x)) (getD (weightedFormulas order (number (d .azimuth)) (number (d .elevation))) i q)
+  unfolding weigh
+  weight-near h i x q l =
+      subst₂ (λ (y : Float) (r : Fraction). Within 41 (number y) r)
+      (sym (ap (λ (xs : List Float). getD xs i x) (weights-are 0 h) ∙ getD-tab 0 16 (Kept.computed-at order d) i x l ∙ ap (Kept.computed-at order d) (zero-add i)))
+      (sym (getD-tab 0 16 (Kept.formula-at order d) i q l ∙ ap (Kept.formula-at order d) (zero-add i))) (Kept.near-at order d h i l)
+
+-- ---- the positions
+turned-accepted : (z : ℤ) → T (turned z) → refusesAzimuth (ofInt binary64 z) ≡ false
+unfolding ofInt
+turned-accepted (pos n) t = whole-accepted false n (leb→le n 180 t)
+turned-accepted (negsuc n) t = whole-accepted true (suc n) (omega (arith, leb→le n 179 t))
+
+pub position-accepted : (order i : ℕ) → refusesOrder order ≡ false → refusalOf order (positionOf i) ≡ 0
+unfolding ofInt
+position-accepted order i h = accepted order (positionOf i) h (direction-accepted (positionOf i) (turned-accepted (getD positions i (pos 0)) (position-turned i)) (elevation-accepted (degrees 0) (lit< tt) (lit≤ tt)))

@@ -1,0 +1,49 @@
+-- A worked answer, by computation, and wrong ways to answer, each held against the promise on an input where it breaks it. Assumes nothing.
+use mathlib.Core.Path.{_≡_, ap}
+use mathlib.Core.List.{List, [], _∷_, _++_, map}
+use Prim.Native.Nat.{ℕ}
+use native.Mathlib.Omega.{arith}
+use lib.ListN.{getD, replicate}
+use lib.Ieee.{Float, nan, lt, le, eq, neg, add, sub, mul, div, round, ofInt, toBits, binary64}
+use Rattle.fractions.specs.Fraction.{Fraction, number, whole}
+use Rattle.series.specs.Angles.{turned}
+use Rattle.angles.specs.Computed.{units, cut, place, short, times, radians, nesting, nest, rounded, sineAt, cosineAt, computed}
+use Rattle.angles.specs.Promise.{isInside, isRefused}
+use Rattle.harmonics.specs.Computed.{sin, cos, wavesOf, upTo, decimal}
+use Rattle.harmonics.specs.Promise.{degrees, refusesAngle, silence}
+use Rattle.harmonics.specs.Promise as Harmonics
+use Rattle.harmonics.specs.Drill.{at, Alike, none}
+use Rattle.harmonics.proofs.Drill.{alike}
+use Rattle.virtual_speaker.specs.Computed.{weigh}
+use Rattle.virtual_speaker.specs.Promise.{outcome, Promise}
+use Rattle.virtual_speaker.specs.declared.Weighted.{Weighted}
+
+-- ---- order 1 in front: 1, 0, 0 and c, and 0 beyond the order
+abbrev front : List Fraction
+front = (whole 1 ∷ none ∷ none ∷ number (decimal 8244615675902878) ∷ []) ++ replicate 12 none
+
+in-front : Alike (map number (outcome 1 (at 0 0) .weights)) front
+unfolding refusesAngle Harmonics.isInside weigh upTo wavesOf sin cos isRefused isInside lt le eq computed place cut units turned sineAt cosineAt short times radians nesting nest rounded ofInt div neg add sub mul round
+in-front = alike (map number (outcome 1 (at 0 0) .weights)) front tt
+
+-- ---- wrong answers
+refusal : Weighted → ℕ
+refusal r = r .refusal
+
+third : Weighted → ℕ
+third r = toBits binary64 (getD (r .weights) 3 nan)
+
+-- it refuses every direction
+refuses-always : Promise 1 (at 0 0) (record { refusal = 3; weights = silence }) → ⊥
+unfolding refusal refusesAngle Harmonics.isInside lt le eq neg ofInt
+refuses-always p = let e : _≡_ {A = ℕ} 3 0 = ap refusal (p .is) in omega arith
+
+-- it takes order 4 for the third, as 003 does
+third-for-fourth : (ws : List Float) → Promise 4 (at 0 0) (record { refusal = 0; weights = ws }) → ⊥
+unfolding refusal
+third-for-fourth ws p = let e : _≡_ {A = ℕ} 0 1 = ap refusal (p .is) in omega arith
+
+-- it takes 137.9 degrees for A, as the comment of 003 has it: the cosine of a quarter of that is 0.8243...
+by-the-comment : Promise 1 (at 0 0) (record { refusal = 0; weights = (degrees 1 ∷ degrees 0 ∷ degrees 0 ∷ decimal 8243732515066312 ∷ []) ++ replicate 12 (degrees 0) }) → ⊥
+unfolding third toBits refusesAngle Harmonics.isInside weigh upTo wavesOf sin cos isRefused isInside lt le eq computed place cut units turned sineAt cosineAt short times radians nesting nest rounded ofInt div neg add sub mul round
+by-the-comment p = let e : _≡_ {A = ℕ} 4605600513681875353 4605601309162438246 = ap third (p .is) in omega arith

@@ -1,0 +1,29 @@
+-- `virtual_speaker::compute_sh_coefficients_max_re` meets its contract. Assumes nothing.
+use mathlib.Core.Path.{ap, _∙_}
+use lib.Ieee.{Float}
+use Rattle.virtual_speaker.specs.Computed.{weigh}
+use Rattle.virtual_speaker.proofs.Kept.{weighed-kept}
+use borrow.Author.Needs.{needs}
+use Rattle.virtual_speaker.proofs.compute_sh_coefficients_max_re.Statement.{statement}
+use Rattle.virtual_speaker.proofs.compute_sh_coefficients_max_re.Tie as tie
+
+compute-sh-coefficients-requires : tie.Need-compute-sh-coefficients-requires
+compute-sh-coefficients-requires c κs = search needs
+
+max-re-cosine-requires : tie.Need-max-re-cosine-requires
+max-re-cosine-requires c κs = search needs
+
+weigh-requires : tie.Need-weigh-requires
+weigh-requires c κs = search needs
+
+returns : tie.Need-returns
+returns c =
+    let s = c .before .before .before in
+    let a = s .before .args in
+    weighed-kept (a .order) (a .direction) (s .compute-sh-coefficients .result) (s .compute-sh-coefficients .ensures) (c .weigh .result)
+    (c .weigh .ensures ∙ ap (λ (k : Float). weigh k (s .compute-sh-coefficients .result .gains)) (c .before .max-re-cosine .ensures))
+
+pub compute-sh-coefficients-max-re-spec : {M : Type 1} → statement M
+compute-sh-coefficients-max-re-spec =
+    tie.close
+    (tie.spec compute-sh-coefficients-requires max-re-cosine-requires weigh-requires returns)

@@ -1,0 +1,39 @@
+-- `virtual_speaker::max_re_cosine` meets its contract: the table holds the literals of specs/Computed.antt, by computing. Assumes nothing.
+use mathlib.Core.Path.{sym}
+use lib.Ieee.{ofBits, round}
+use Rattle.virtual_speaker.proofs.Cosines.{first, second, third}
+use borrow.Author.Needs.{needs}
+use Rattle.virtual_speaker.proofs.max_re_cosine.Statement.{statement}
+use Rattle.virtual_speaker.proofs.max_re_cosine.Tie as tie
+
+array-read-result : tie.Need-array-read-result
+array-read-result c = search needs
+
+returns : tie.Need-returns
+unfolding ofBits round
+returns c = sym (first (c .before .args .order) (c .if1 .taken))
+
+array-read-result-2 : tie.Need-array-read-result-2
+array-read-result-2 c = search needs
+
+returns-2 : tie.Need-returns-2
+unfolding ofBits round
+returns-2 c = sym (second (c .before .before .args .order) (c .before .if1 .left) (c .if2 .taken))
+
+array-read-result-3 : tie.Need-array-read-result-3
+array-read-result-3 c = search needs
+
+returns-3 : tie.Need-returns-3
+unfolding ofBits round
+returns-3 c = sym (third (c .before .before .args .order) (c .before .if1 .left) (c .if2 .left))
+
+pub max-re-cosine-spec : {M : Type 1} → statement M
+max-re-cosine-spec =
+    tie.close
+    (tie.spec
+    array-read-result
+    returns
+    array-read-result-2
+    returns-2
+    array-read-result-3
+    returns-3)

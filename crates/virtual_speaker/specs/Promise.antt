@@ -1,0 +1,30 @@
+-- Document 01, 'Gains', max-rE: "Within 2^-34 on the weighted coefficient"; 'Refusal numbers' 1 and 3, as harmonics has them; and item 7: the positions of 003, "all at 0° elevation". Definitions only.
+use Prim.Native.Nat.{ℕ}
+use mathlib.Core.Path.{_≡_}
+use mathlib.Core.Bool.{cond}
+use lib.Dec.{eqb}
+use Rattle.fractions.specs.Fraction.{number}
+use Rattle.fractions.specs.Approximates.{EachWithin}
+use Rattle.channel.specs.Layouts.{positionAzimuth}
+use Rattle.harmonics.specs.Promise.{refusalOf, silence}
+use Rattle.harmonics.specs.Promise as Harmonics
+use Rattle.harmonics.specs.declared.Direction.{Direction}
+use Rattle.virtual_speaker.specs.Weights.{weightedFormulas}
+use Rattle.virtual_speaker.specs.Computed.{weighted}
+use Rattle.virtual_speaker.specs.declared.Weighted.{Weighted}
+
+-- within 2 ^ -weightBits: the place to change it at
+abbrev pub weightBits : ℕ
+weightBits = 34
+
+abbrev pub outcome : ℕ → Direction → Weighted
+outcome order d = record { refusal = refusalOf order d; weights = cond (eqb (refusalOf order d) 0) (weighted order d) silence }
+
+-- every bit of the answer; and of the weighted coefficients of an accepted direction how near each is to its formula
+pub record Promise (order : ℕ) (d : Direction) (answer : Weighted) : Type 0 where
+  pub is : answer ≡ outcome order d
+  pub near : refusalOf order d ≡ 0 → EachWithin weightBits (answer .weights) (weightedFormulas order (number (d .azimuth)) (number (d .elevation)))
+
+-- the positions of the virtual speakers
+abbrev pub positionOf : ℕ → Direction
+positionOf i = record { azimuth = positionAzimuth i; elevation = Harmonics.degrees 0 }
