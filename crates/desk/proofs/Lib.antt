@@ -1,0 +1,2 @@
+-- That no two records meet one promise.
+mod Unique

@@ -1,0 +1,11 @@
+-- No two records meet one promise. Assumes nothing.
+use Prim.Native.Nat.{ℕ}
+use mathlib.Core.Path.{_≡_}
+use mathlib.Core.Bool.{Bool}
+use Rattle.refusals.proofs.Determined.{determined}
+use Rattle.desk.specs.declared.Desk.{Desk}
+use Rattle.desk.specs.Steps.{steppedOf}
+
+-- of the answer of `stepped` and of `advance`, and of what `step` leaves where the record stands
+stepped-unique : (L : ℕ) (damaged : Bool) (d a b : Desk) → a ≡ steppedOf L damaged d → b ≡ steppedOf L damaged d → a ≡ b
+stepped-unique L damaged d = determined

@@ -1,0 +1,62 @@
+// The desk's record (document 01, 'Sums': "The desk's ring position and frames-to-go are one small record,
+// changed where it stands after each frame; a form by value comes first"). The position is the cell of
+// every ring that the next frame goes into; damage leaves L-1 frames to go. `stepped` is the form by value,
+// `step` changes a lent record where it stands, and `advance` makes a record of two numbers and lends it to `step`:
+// this is what the convolver does after each frame. They take any record, and promise the record one frame
+// on by an equation. Under it lies nothing.
+ghost use mathlib.Core.Path.{_≡_};
+ghost use mathlib.Core.Bool.{cond};
+ghost use Prim.Native.Nat.{_-_, _<_};
+ghost use Rattle.desk.specs.Steps.{steppedOf};
+
+pub struct Desk {
+    pub position: usize,
+    pub to_go: usize,
+}
+
+// How many frames are to go after a frame.
+fn left_to_go(to_go: usize, length: usize, damaged: bool) -> usize
+    requires { ⌜ 0 < length ⌝ }
+    ensures { λ r. ⌜ r ≡ cond damaged (length - 1) («to_go» - 1) ⌝ }
+{
+    if damaged {
+        return length - 1;
+    }
+    if to_go == 0 {
+        return 0;
+    }
+    to_go - 1
+}
+
+// One frame on. Where the position is not below the length, the record is as it was.
+pub fn stepped(desk: Desk, length: usize, damaged: bool) -> Desk
+    ensures { λ r. ⌜ r ≡ steppedOf length damaged desk ⌝ }
+{
+    let position = desk.position;
+    let to_go = desk.to_go;
+    if length <= position {
+        return desk;
+    }
+    Desk {
+        position: (position + 1) % length,
+        to_go: left_to_go(to_go, length, damaged),
+    }
+}
+
+// The same where it stands.
+pub fn step(desk: &mut Desk, length: usize, damaged: bool)
+    ensures { λ _. ⌜ now (desk .exit) ≡ steppedOf length damaged (now (desk .entry)) ⌝ }
+{
+    let was = *desk;
+    let is = stepped(was, length, damaged);
+    *desk = is;
+}
+
+// A record of two numbers, changed where it stands.
+pub fn advance(position: usize, to_go: usize, length: usize, damaged: bool) -> Desk
+    ensures { λ r. ⌜ r ≡ steppedOf length damaged (record { position = position; «to_go» = «to_go» }) ⌝ }
+{
+    let mut desk = Desk { position, to_go };
+    step(&mut desk, length, damaged);
+    desk
+}

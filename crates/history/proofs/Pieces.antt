@@ -1,0 +1,57 @@
+-- Frames taken in pieces: what is heard of two pieces is what is heard of the whole, frame by frame. Assumes nothing.
+use mathlib.Core.Path.{_≡_, refl, sym, ap, _∙_}
+use mathlib.Core.Logic.{⊎-elim}
+use mathlib.Core.Bool.{Bool, cond}
+use mathlib.Core.List.{List, [], _∷_, _++_, reverseAux}
+use Prim.Native.Nat.{ℕ, zero, suc, _+_, _-_, _≤_, _<_}
+use native.Mathlib.Nat.{not-suc-le-zero, le-of-suc-le-suc, add-assoc}
+use native.Mathlib.Omega.{arith}
+use borrow.Author.Tests.{le-leb, lt-leb}
+use lib.ListN.{length, getD, take, length-reverse, List·getD-eq-default}
+use lib.Seq.{getD-take, length-take-le}
+use lib.Ieee.{Float}
+use Rattle.planes.proofs.Lists.{split, getD-reverse}
+use Rattle.history.specs.Setup.{Setup}
+use Rattle.history.specs.History.{silence, frameAgo, earSamples, unsettled, heard, unsettledIn, after, upto, ago}
+
+module _ (u : Setup) where
+  pub length-heard : (past fs : List (List Float)) → length (heard u past fs) ≡ length fs
+  length-heard past [] = refl
+  length-heard past (f ∷ fs) = ap suc (length-heard (f ∷ past) fs)
+
+  pub heard-append : (past fs gs : List (List Float)) → heard u past (fs ++ gs) ≡ heard u past fs ++ heard u (after past fs) gs
+  heard-append past [] gs = refl
+  heard-append past (f ∷ fs) gs = ap (λ (l : List (List Float)). earSamples u (f ∷ past) ∷ l) (heard-append (f ∷ past) fs gs)
+
+  pub unsettled-append : (past fs gs : List (List Float)) → unsettledIn u past (fs ++ gs) ≡ unsettledIn u past fs + unsettledIn u (after past fs) gs
+  unsettled-append past [] gs = omega arith
+  unsettled-append past (f ∷ fs) gs =
+      ap (λ (n : ℕ). cond (unsettled u (f ∷ past)) 1 0 + n) (unsettled-append (f ∷ past) fs gs)
+      ∙ sym (add-assoc (cond (unsettled u (f ∷ past)) 1 0) (unsettledIn u (f ∷ past) fs) (unsettledIn u (after (f ∷ past) fs) gs))
+
+  -- frame n is heard over the history up to it
+  heard-from : (past fs : List (List Float)) (n : ℕ) (d : List Float) → n < length fs → getD (heard u past fs) n d ≡ earSamples u (reverseAux (take (suc n) fs) past)
+  heard-from past [] n d h = absurd (not-suc-le-zero h)
+  heard-from past (f ∷ fs) zero d h = refl
+  heard-from past (f ∷ fs) (suc n) d h = heard-from (f ∷ past) fs n d (le-of-suc-le-suc h)
+
+  pub heard-at : (fs : List (List Float)) (n : ℕ) (d : List Float) → n < length fs → getD (heard u [] fs) n d ≡ earSamples u (upto fs n)
+  heard-at fs n d h = heard-from [] fs n d h
+
+  -- the history up to frame n, read back
+  pub ago-upto : (fs : List (List Float)) (n k : ℕ) → n < length fs → frameAgo u (upto fs n) k ≡ ago u fs n k
+  ago-upto fs n k h =
+      ⊎-elim
+      (λ (far : n < k).
+      List·getD-eq-default (upto fs n) (silence u) (omega (arith, length-reverse (take (suc n) fs), length-take-le (suc n) fs h))
+      ∙ sym (ap (λ (b : Bool). cond b (getD fs (n - k) (silence u)) (silence u)) (lt-leb k n far)))
+      (λ (near : k ≤ n).
+      getD-reverse (take (suc n) fs) k (silence u) (omega (arith, length-take-le (suc n) fs h))
+      ∙ ap (λ (m : ℕ). getD (take (suc n) fs) (m - 1 - k) (silence u)) (length-take-le (suc n) fs h)
+      ∙ getD-take (suc n) fs (suc n - 1 - k) (silence u) (omega arith)
+      ∙ ap (λ (i : ℕ). getD fs i (silence u)) (less n k)
+      ∙ sym (ap (λ (b : Bool). cond b (getD fs (n - k) (silence u)) (silence u)) (le-leb k n near)))
+      (split n k)
+    where
+      less : (n k : ℕ) → suc n - 1 - k ≡ n - k
+      less n k = omega arith

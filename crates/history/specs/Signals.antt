@@ -1,0 +1,19 @@
+-- Document 01, 'Sums': "per frame and speaker, the signal is the f64 sum from 0.0 over channels rising, narrowed to f32", and "A frame is damaged when one of its speaker signals is NaN or infinite."
+-- Definitions only. A frame is a list of one sample for each channel.
+use Prim.Native.Nat.{ℕ}
+use mathlib.Core.Bool.{Bool}
+use mathlib.Core.List.{List}
+use lib.Ieee.{Float}
+use Rattle.planes.specs.Tables.{unsound}
+use Rattle.planes.specs.Sums.{mixed, mixedAll}
+use Rattle.history.specs.Setup.{Setup, weightsOf}
+
+abbrev pub signal : Setup → ℕ → List Float → Float
+signal u s frame = mixed (weightsOf u s) frame
+
+-- the signals of speakers 0, 1, ..
+abbrev pub signals : Setup → List Float → List Float
+signals u frame = mixedAll (u .speakers) (u .channels) (u .weights) frame
+
+abbrev pub damaged : Setup → List Float → Bool
+damaged u frame = unsound (signals u frame)

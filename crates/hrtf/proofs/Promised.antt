@@ -1,0 +1,158 @@
+-- From what the block leaves to what `process` promises, and from a filled ring to what `reset` promises. What document 01 says besides of a call: a refusal changes nothing, zero frames change
+-- nothing, and frames beyond the count are as they were. Assumes nothing.
+use mathlib.Core.Path.{_≡_, refl, sym, ap, _∙_, subst}
+use mathlib.Core.Bool.{Bool, true, false, not, cond}
+use mathlib.Core.List.{List, []}
+use Prim.Native.Nat.{ℕ, zero, suc, _*_, _≤_, _<_}
+use native.Mathlib.Nat.{suc-ne-zero}
+use native.Mathlib.Omega.{arith}
+use lib.Dec.{eqb}
+use lib.ListN.{length, replicate}
+use lib.Ieee.{Float}
+use Rattle.numbers.specs.Computed.{zero-float}
+use Rattle.refusals.proofs.First.{stops, goes-on}
+use Rattle.planes.specs.Planes.{outside, sampleAt, frameAt, framesOf, withFrames}
+use Rattle.planes.proofs.Tables.{length-tab}
+use Rattle.planes.proofs.Checks.{is-equal, not-outside}
+use Rattle.planes.proofs.Planes.{with-frames-other}
+use Rattle.desk.specs.declared.Desk.{Desk}
+use Rattle.history.specs.Setup.{Setup}
+use Rattle.rings.specs.Steps.{State, left, played, counted}
+use Rattle.rings.specs.Represents.{Represents, fresh}
+use Rattle.rings.proofs.Told.{fresh-represents}
+use Rattle.rings.proofs.Blocks.{played-heard, counted-told, left-kept, length-played}
+use Rattle.hrtf_checks.specs.Call.{Call, setup, framesIn}
+use Rattle.hrtf_checks.specs.Refusals.{refusalOf}
+use Rattle.hrtf.specs.Promise.{Outcome, refused, accepted, outcomeBy, outcome, Tells, Processes}
+use Rattle.hrtf.specs.Reset.{resetRefusal, AfterReset, resetBy, resetOutcome, Resets}
+use Rattle.hrtf.specs.Steps.{Ready, Blocked}
+use Rattle.hrtf_checks.proofs.Refusing.{ears-fit, fits}
+
+-- ---- a call
+
+-- a call that is not refused is ready
+pub ready : (c : Call) (t : State) → refusalOf c t ≡ 0 → Ready (c .shape) (t .desk .position) (c .rows) (c .taps) (t .rings)
+ready c t e = let f = fits c t e in record { few = f .few; chosen = f .chosen; tapped = f .tapped; ringed = f .ringed; within = f .within }
+
+pub outcome-by : (c : Call) (t : State) (k : ℕ) → refusalOf c t ≡ k → outcome c t ≡ outcomeBy k c t
+unfolding outcome
+outcome-by c t k e = ap (λ (n : ℕ). outcomeBy n c t) e
+
+-- an accepted call over a history
+pub accepted-tells : (c : Call) (t : State) (past : List (List Float)) → Represents (setup c) past t → Tells c past (accepted c t)
+accepted-tells c t past r =
+    record {
+      ears = ap (withFrames (c .ears) (c .stride) 0) (played-heard (setup c) past t (framesIn c) r);
+      unsettled = counted-told (setup c) past t (framesIn c) r;
+      keeps = left-kept (setup c) past t (framesIn c) r;
+    }
+
+-- the equation says it all
+pub promised : (c : Call) (t : State) (o : Outcome) → o ≡ outcome c t → Processes c t o
+promised c t o e =
+    record {
+      answer = e;
+      tells = λ past r z. subst (Tells c past) (sym (e ∙ outcome-by c t 0 z)) (accepted-tells c t past r);
+    }
+
+pub promised-refused : (c : Call) (t : State) (n : ℕ) → n ≡ refusalOf c t → (n ≡ 0 → ⊥) → Processes c t (refused n c t)
+promised-refused c t zero e some = absurd (some refl)
+promised-refused c t (suc n) e some = promised c t (refused (suc n) c t) (sym (outcome-by c t (suc n) (sym e)))
+
+pub promised-accepted : (c : Call) (t : State) (rings₁ ears₁ : List Float) (desk₁ : Desk) (more : ℕ) → 0 ≡ refusalOf c t → Blocked c t rings₁ ears₁ desk₁ more
+    → Processes c t (record { answer = record { refusal = 0; samples = c .frames; unsettled = more; desk = desk₁ }; rings = rings₁; ears = ears₁ })
+promised-accepted c t rings₁ ears₁ desk₁ more e b =
+    promised c t (record { answer = record { refusal = 0; samples = c .frames; unsettled = more; desk = desk₁ }; rings = rings₁; ears = ears₁ })
+    (same ∙ sym (outcome-by c t 0 (sym e)))
+  where
+    same : _≡_ {A = Outcome} (record { answer = record { refusal = 0; samples = c .frames; unsettled = more; desk = desk₁ }; rings = rings₁; ears = ears₁ }) (accepted c t)
+    same = cc (b .ringed, b .eared, b .desked, b .counts)
+
+-- a refusal gives its number, counts of 0 and the state given in, and leaves all lent memory
+pub refusal-keeps : (c : Call) (t : State) (k : ℕ) → refusalOf c t ≡ suc k → outcome c t ≡ refused (suc k) c t
+refusal-keeps c t k e = outcome-by c t (suc k) e
+
+-- zero frames change nothing
+pub none-played : (c : Call) (t : State) → refusalOf c t ≡ 0 → c .frames ≡ 0
+    → outcome c t ≡ record { answer = record { refusal = 0; samples = c .frames; unsettled = 0; desk = t .desk }; rings = t .rings; ears = c .ears }
+none-played c t e z = outcome-by c t 0 e ∙ ap by (ap (framesOf (c .inputs) (c .stride) (c .shape .channels)) z)
+  where
+    by : List (List Float) → Outcome
+    by fs =
+        record {
+          answer = record { refusal = 0; samples = c .frames; unsettled = counted (setup c) t fs; desk = left (setup c) t fs .desk };
+          rings = left (setup c) t fs .rings;
+          ears = withFrames (c .ears) (c .stride) 0 (played (setup c) t fs);
+        }
+
+-- frames of a plane beyond the count are unchanged
+pub beyond : (c : Call) (t : State) → refusalOf c t ≡ 0 → (plane i : ℕ) → c .frames ≤ i → i < c .stride
+    → sampleAt (outcome c t .ears) (c .stride) plane i ≡ sampleAt (c .ears) (c .stride) plane i
+beyond c t e plane i h lt =
+    ap (λ (o : Outcome). sampleAt (o .ears) (c .stride) plane i) (outcome-by c t 0 e)
+    ∙ with-frames-other (c .ears) (c .stride) 0 (played (setup c) t (framesIn c)) plane i lt (omega (arith, long, ears-fit c t e .0)) (λ k b q. omega (arith, long, b, q))
+  where
+    long : length (played (setup c) t (framesIn c)) ≡ c .frames
+    long = length-played (setup c) t (framesIn c) ∙ length-tab 0 (c .frames) (frameAt (c .inputs) (c .stride) (c .shape .channels))
+
+-- ---- a reset
+
+module _ (d : Desk) (speakers L : ℕ) (rings : List Float) where
+  reset-by : (k : ℕ) → resetRefusal speakers L rings ≡ k → resetOutcome d speakers L rings ≡ resetBy k d rings
+  unfolding resetOutcome
+  reset-by k e = ap (λ (n : ℕ). resetBy n d rings) e
+
+  -- an accepted reset is given at least one cell, and exactly those of the speakers
+  off : (b : Bool) (k x : ℕ) → cond b (suc k) x ≡ 0 → (b ≡ false) × (x ≡ 0)
+  off true k x e = absurd (suc-ne-zero k e)
+  off false k x e = (refl, e)
+
+  reset-fits : resetRefusal speakers L rings ≡ 0 → (0 < L) × (length rings ≡ speakers * L)
+  unfolding resetRefusal
+  reset-fits e =
+      let p2 = off (outside speakers 8) 1 _ e in
+      let p4 = off (outside L 512) 3 _ (p2 .1) in
+      let p5 = off (not (eqb (length rings) (speakers * L))) 4 0 (p4 .1) in
+      (not-outside L 512 (p4 .0) .0, is-equal (length rings) (speakers * L) (p5 .0))
+
+  reset-told : (o : AfterReset) → o ≡ resetOutcome d speakers L rings → Resets d speakers L rings o
+  reset-told o e =
+      record {
+        answer = e;
+        fresh = λ z u es eL w. subst (λ (p : AfterReset). Represents u [] (record { rings = p .rings; desk = p .answer .desk })) (sym (e ∙ reset-by 0 z))
+            (subst (λ (n : ℕ). Represents u [] (record { rings = replicate n zero-float; desk = record { position = 0; «to_go» = 0 } }))
+            (cells u es eL ∙ sym (reset-fits z .1)) (fresh-represents u (subst (λ (n : ℕ). 0 < n) (sym eL) (reset-fits z .0)) w));
+      }
+    where
+      cells : (u : Setup) → u .speakers ≡ speakers → u .L ≡ L → u .speakers * u .L ≡ speakers * L
+      cells u es eL = ap (λ (n : ℕ). n * u .L) es ∙ ap (λ (n : ℕ). speakers * n) eL
+
+  pub reset-refused : (k : ℕ) → resetRefusal speakers L rings ≡ suc k → Resets d speakers L rings (record { answer = record { refusal = suc k; desk = d }; rings = rings })
+  reset-refused k e = reset-told (record { answer = record { refusal = suc k; desk = d }; rings = rings }) (sym (reset-by (suc k) e))
+
+  pub reset-accepted : (rings₁ : List Float) → resetRefusal speakers L rings ≡ 0 → rings₁ ≡ replicate (length rings) zero-float
+      → Resets d speakers L rings (record { answer = record { refusal = 0; desk = record { position = 0; «to_go» = 0 } }; rings = rings₁ })
+  reset-accepted rings₁ e f =
+      reset-told (record { answer = record { refusal = 0; desk = record { position = 0; «to_go» = 0 } }; rings = rings₁ })
+      (ap (λ (l : List Float). record { answer = record { refusal = 0; desk = record { position = 0; «to_go» = 0 } }; rings = l }) f ∙ sym (reset-by 0 e))
+
+  abbrev bad5 : Bool
+  bad5 = not (eqb (length rings) (speakers * L))
+
+  pub reset-2 : outside speakers 8 ≡ true → resetRefusal speakers L rings ≡ 2
+  unfolding resetRefusal
+  reset-2 a = stops 2 (cond (outside L 512) 4 (cond bad5 5 0)) a
+
+  pub reset-4 : outside speakers 8 ≡ false → outside L 512 ≡ true → resetRefusal speakers L rings ≡ 4
+  unfolding resetRefusal
+  reset-4 a b = goes-on 2 (cond (outside L 512) 4 (cond bad5 5 0)) a ∙ stops 4 (cond bad5 5 0) b
+
+  reset-later : outside speakers 8 ≡ false → outside L 512 ≡ false → resetRefusal speakers L rings ≡ cond bad5 5 0
+  unfolding resetRefusal
+  reset-later a b = goes-on 2 (cond (outside L 512) 4 (cond bad5 5 0)) a ∙ goes-on 4 (cond bad5 5 0) b
+
+  pub reset-5 : outside speakers 8 ≡ false → outside L 512 ≡ false → bad5 ≡ true → resetRefusal speakers L rings ≡ 5
+  reset-5 a b e = reset-later a b ∙ stops 5 0 e
+
+  pub reset-0 : outside speakers 8 ≡ false → outside L 512 ≡ false → bad5 ≡ false → resetRefusal speakers L rings ≡ 0
+  reset-0 a b e = reset-later a b ∙ goes-on 5 0 e

@@ -1,0 +1,37 @@
+-- Document 01: "Reset makes every ring 0.0, both numbers 0", and of its refusals 2, 4 and 5. Definitions only.
+use Prim.Native.Nat.{ℕ, zero, suc, _*_}
+use mathlib.Core.Path.{_≡_}
+use mathlib.Core.Bool.{not, false}
+use mathlib.Core.List.{List, [], _∷_}
+use lib.Dec.{eqb}
+use lib.ListN.{length, replicate}
+use lib.Ieee.{Float}
+use Rattle.numbers.specs.Computed.{zero-float}
+use Rattle.refusals.specs.Refusals.{firstOf, _when_}
+use Rattle.planes.specs.Tables.{unsound}
+use Rattle.planes.specs.Planes.{outside}
+use Rattle.desk.specs.declared.Desk.{Desk}
+use Rattle.history.specs.Setup.{Setup}
+use Rattle.rings.specs.Represents.{Represents}
+use Rattle.hrtf.specs.declared.Rested.{Rested}
+
+unfoldable pub resetRefusal : ℕ → ℕ → List Float → ℕ
+resetRefusal speakers L rings = firstOf (2 when outside speakers 8 ∷ 4 when outside L 512 ∷ 5 when not (eqb (length rings) (speakers * L)) ∷ [])
+
+-- the answer, and what the lent rings hold
+pub record AfterReset : Type 0 where
+  pub answer : Rested
+  pub rings : List Float
+
+abbrev pub resetBy : ℕ → Desk → List Float → AfterReset
+resetBy zero d rings = record { answer = record { refusal = 0; desk = record { position = 0; «to_go» = 0 } }; rings = replicate (length rings) zero-float }
+resetBy (suc n) d rings = record { answer = record { refusal = suc n; desk = d }; rings = rings }
+
+unfoldable pub resetOutcome : Desk → ℕ → ℕ → List Float → AfterReset
+resetOutcome d speakers L rings = resetBy (resetRefusal speakers L rings) d rings
+
+-- beside the equation: what an accepted reset leaves stands for the empty history, whatever is set up with those speakers and that L and finite weights
+pub record Resets (d : Desk) (speakers L : ℕ) (rings : List Float) (o : AfterReset) : Type 0 where
+  pub answer : o ≡ resetOutcome d speakers L rings
+  pub fresh : resetRefusal speakers L rings ≡ 0 → (u : Setup) → u .speakers ≡ speakers → u .L ≡ L → unsound (u .weights) ≡ false
+      → Represents u [] (record { rings = o .rings; desk = o .answer .desk })

@@ -1,0 +1,38 @@
+-- What the functions under `process` ask and leave. Definitions only; they speak of the program, and nobody has to believe them.
+use mathlib.Core.Path.{_≡_}
+use Prim.Native.Nat.{ℕ, _*_, _≤_, _<_}
+use mathlib.Core.Bool.{cond}
+use mathlib.Core.List.{List, []}
+use lib.ListN.{length, getD}
+use lib.Ieee.{Float}
+use Rattle.planes.specs.Planes.{withFrame, withFrames}
+use Rattle.desk.specs.declared.Desk.{Desk}
+use Rattle.rings.specs.Steps.{State, stored, ringEar, ears, late, stepped, left, played, counted}
+use Rattle.hrtf_checks.specs.declared.Shape.{Shape}
+use Rattle.hrtf_checks.specs.Call.{Call, setupOf, setup, framesIn}
+
+-- what an accepted call has made sure of
+pub record Ready (h : Shape) (position : ℕ) (rows : List ℕ) (taps rings : List Float) : Type 0 where
+  pub few : h .speakers ≤ 8
+  pub chosen : (s : ℕ) → s < h .speakers → getD rows s 0 < h .rows
+  pub tapped : length taps ≡ 2 * h .rows * h .length
+  pub ringed : length rings ≡ h .speakers * h .length
+  pub within : position < h .length
+
+-- an ear's sample needs no weights
+abbrev pub earBy : Shape → List ℕ → List Float → ℕ → ℕ → List Float → Float
+earBy h rows taps side p rings = ringEar (setupOf h [] rows taps) side p rings
+
+-- what one frame leaves
+pub record Turned (h : Shape) (weights : List Float) (rows : List ℕ) (taps : List Float) (t : State) (f : List Float) (stride n : ℕ) (ears₀ rings₁ ears₁ : List Float) (desk₁ : Desk) (more : ℕ) : Type 0 where
+  pub ringed : rings₁ ≡ stored (setupOf h weights rows taps) t f
+  pub eared : ears₁ ≡ withFrame ears₀ stride n (ears (setupOf h weights rows taps) t f)
+  pub desked : desk₁ ≡ stepped (setupOf h weights rows taps) t f .desk
+  pub counts : more ≡ cond (late (setupOf h weights rows taps) t f) 1 0
+
+-- what a block leaves
+pub record Blocked (c : Call) (t : State) (rings₁ ears₁ : List Float) (desk₁ : Desk) (more : ℕ) : Type 0 where
+  pub ringed : rings₁ ≡ left (setup c) t (framesIn c) .rings
+  pub eared : ears₁ ≡ withFrames (c .ears) (c .stride) 0 (played (setup c) t (framesIn c))
+  pub desked : desk₁ ≡ left (setup c) t (framesIn c) .desk
+  pub counts : more ≡ counted (setup c) t (framesIn c)

@@ -1,0 +1,3 @@
+-- The words of the promise of `hrtf_checks`.
+pub mod Call
+pub mod Refusals

@@ -1,0 +1,253 @@
+-- From the tests and the filled lists to what the set-ups promise. Assumes nothing.
+use mathlib.Core.Path.{_≡_, refl, sym, ap, _∙_, subst}
+use mathlib.Core.Bool.{Bool, true, false, not, cond, _||_, _&&_, true≢false}
+use mathlib.Core.List.{List, []}
+use Prim.Native.Nat.{ℕ, zero, suc, _+_, _*_, _/_, _%_, _-_, _≤_, _<_}
+use native.Mathlib.Nat.{suc-ne-zero, zero-add, add-zero, mul-add-mod-self-right, mul-add-div-right, mod-eq-of-lt, div-eq-of-lt}
+use native.Mathlib.Omega.{arith}
+use borrow.Author.Tests.{eq-eqb, ne-eqb, le-leb, lt-leb, not-false}
+use lib.Dec.{eqb, leb}
+use lib.IntN.{ℤ}
+use lib.ListN.{length, getD}
+use lib.Ieee.{Float, nan}
+use Rattle.refusals.proofs.First.{stops, goes-on}
+use Rattle.fractions.specs.Fraction.{number}
+use Rattle.planes.specs.Tables.{tab}
+use Rattle.planes.specs.Planes.{outside}
+use Rattle.planes.proofs.Tables.{getD-tab}
+use Rattle.planes.proofs.Checks.{or-off, or-yes, or-next, is-equal, not-outside}
+use Rattle.planes.proofs.Planes.{inside}
+use Rattle.bank_form.specs.Bank.{within}
+use Rattle.channel.specs.declared.Layout.{Layout}
+use Rattle.channel.specs.declared.Layout.the-variants.{Mono, Stereo, Surround51, Surround71, Custom}
+use Rattle.channel.specs.Layouts.{channelsOf, counted, surround}
+use Rattle.harmonics.specs.Promise.{refusesOrder}
+use Rattle.row_choice.specs.declared.Choice.{Choice}
+use Rattle.row_choice.specs.Nearest.{Takes}
+use Rattle.row_choice.specs.NearestComputed.{nearestFrom}
+use Rattle.row_choice.specs.Choice.{choiceRefusal, choiceOf}
+use Rattle.row_choice.proofs.Takes.{takes}
+use Rattle.virtual_speaker.specs.Promise.{positionOf}
+use Rattle.virtual_speaker.proofs.Laws.{outcome-kept, position-accepted}
+use Rattle.hrtf_setup.specs.declared.Arranged.{Arranged}
+use Rattle.hrtf_setup.specs.declared.Speakers.{Speakers}
+use Rattle.hrtf_setup.specs.declared.Speakers.the-variants.{Of, Virtual}
+use Rattle.hrtf_setup.specs.Speakers.{tenthsAt, rowAt, rowsOf, weightOf, weightAt}
+use Rattle.hrtf_setup.specs.Arrangement.{Wanted, laterRefusal, refusalOf, Arrangement, arrangedBy, arrangement}
+use Rattle.hrtf_setup.specs.Promise.{Arranges, ofLayout, ofOrder, NewSurround, NewAmbisonic}
+use Rattle.hrtf_setup.proofs.Standing.{stands}
+
+-- ---- the layouts that are offered
+
+pub few-channels : (l : Layout) → surround l ≡ true → (0 < channelsOf l) × (channelsOf l ≤ 8)
+few-channels Mono e = absurd (true≢false (sym e))
+few-channels Stereo e = absurd (true≢false (sym e))
+few-channels Surround51 e = (omega arith, omega arith)
+few-channels Surround71 e = (omega arith, omega arith)
+few-channels (Custom n) e = absurd (true≢false (sym e))
+
+pub counted-all : (l : Layout) → surround l ≡ true → counted l .channels ≡ channelsOf l
+counted-all Mono e = absurd (true≢false (sym e))
+counted-all Stereo e = absurd (true≢false (sym e))
+counted-all Surround51 e = refl
+counted-all Surround71 e = refl
+counted-all (Custom n) e = absurd (true≢false (sym e))
+
+-- ---- the weights
+
+-- channel c of speaker s
+pub weighed : (k : Speakers) (n s c : ℕ) → c < n → weightAt k n (s * n + c) ≡ weightOf k s c
+weighed k n s c hc = ap (λ (q : ℕ). weightOf k q ((s * n + c) % n)) quotient ∙ ap (weightOf k s) (mul-add-mod-self-right s n c ∙ mod-eq-of-lt hc)
+  where
+    quotient : (s * n + c) / n ≡ s
+    quotient = mul-add-div-right {m = n} (omega (arith, hc)) s c ∙ ap (λ (q : ℕ). s + q) (div-eq-of-lt hc) ∙ add-zero s
+
+-- ---- the row of a speaker
+
+module _ (k : Speakers) (azimuths : List ℤ) (rows s : ℕ) (few : outside rows 8 ≡ false) (full : length azimuths ≡ 8) where
+  in-bank : within 1 8 rows ≡ true
+  unfolding within
+  in-bank = rw (le-leb 1 rows (not-outside rows 8 few .0), le-leb rows 8 (not-outside rows 8 few .1))
+
+  not-refused : choiceRefusal azimuths rows (tenthsAt k s) ≡ 0
+  unfolding choiceRefusal
+  not-refused = goes-on _ _ (ap not in-bank) ∙ goes-on _ _ (ap not (stands k s)) ∙ goes-on _ _ (ap not (eq-eqb (length azimuths) 8 full))
+
+  row-is : nearestFrom azimuths (tenthsAt k s) 0 1 (rows - 1) ≡ rowAt k azimuths rows s
+  unfolding choiceOf
+  row-is =
+      sym (ap (λ (r : ℕ). cond {A = Choice} (eqb r 0) (record { refusal = 0; row = nearestFrom azimuths (tenthsAt k s) 0 1 (rows - 1) }) (record { refusal = r; row = 0 }) .row) not-refused)
+
+  -- rows from 1 to 8 of a list of 8: the row is the one that document 01 names
+  pub row-taken : Takes azimuths rows (tenthsAt k s) (rowAt k azimuths rows s)
+  row-taken = subst (Takes azimuths rows (tenthsAt k s)) row-is (takes azimuths (tenthsAt k s) rows (not-outside rows 8 few .0))
+
+-- ---- what both set-ups do
+
+module _ (k : Speakers) (speakers channels : ℕ) (azimuths : List ℤ) (rows : ℕ) (weights : List Float) (given : List ℕ) where
+  abbrev bad5 : Bool
+  bad5 = not (eqb (length azimuths) 8) || not (eqb (length weights) (speakers * channels))
+
+  abbrev later : ℕ
+  later = laterRefusal (speakers * channels) azimuths rows weights
+
+  by : (n : ℕ) → later ≡ n → arrangedBy later k speakers channels azimuths rows weights given ≡ arrangedBy n k speakers channels azimuths rows weights given
+  by n e = ap (λ (m : ℕ). arrangedBy m k speakers channels azimuths rows weights given) e
+
+  refused : (n : ℕ) (a : Arranged) → later ≡ suc n → a ≡ record { refusal = suc n; speakers = 0; channels = 0 }
+      → record { answer = a; weights = weights; rows = given } ≡ arrangedBy later k speakers channels azimuths rows weights given
+  refused n a e ea = ap (λ (b : Arranged). record { answer = b; weights = weights; rows = given }) ea ∙ sym (by (suc n) e)
+
+  pub no-rows : (a : Arranged) → outside rows 8 ≡ true → a ≡ record { refusal = 2; speakers = 0; channels = 0 }
+      → record { answer = a; weights = weights; rows = given } ≡ arrangedBy later k speakers channels azimuths rows weights given
+  unfolding laterRefusal
+  no-rows a h ea = refused 1 a (stops 2 (cond bad5 5 0) h) ea
+
+  module _ (few : outside rows 8 ≡ false) where
+    then : later ≡ cond bad5 5 0
+    unfolding laterRefusal
+    then = goes-on 2 (cond bad5 5 0) few
+
+    pub no-azimuths : (a : Arranged) → (length azimuths ≡ 8 → ⊥) → a ≡ record { refusal = 5; speakers = 0; channels = 0 }
+        → record { answer = a; weights = weights; rows = given } ≡ arrangedBy later k speakers channels azimuths rows weights given
+    no-azimuths a h ea = refused 4 a (then ∙ stops 5 0 (sym (or-yes (not (eqb (length azimuths) 8)) (not (eqb (length weights) (speakers * channels))) (ap not (ne-eqb (length azimuths) 8 h))))) ea
+
+    module _ (full : length azimuths ≡ 8) where
+      decides : (b : Bool) → not (eqb (length weights) (speakers * channels)) ≡ b → bad5 ≡ b
+      decides b e = sym (or-next (not (eqb (length azimuths) 8)) (not (eqb (length weights) (speakers * channels))) b (ap not (eq-eqb (length azimuths) 8 full)) (sym e))
+
+      pub no-weights : (a : Arranged) → not (eqb (length weights) (speakers * channels)) ≡ true → a ≡ record { refusal = 5; speakers = 0; channels = 0 }
+          → record { answer = a; weights = weights; rows = given } ≡ arrangedBy later k speakers channels azimuths rows weights given
+      no-weights a h ea = refused 4 a (then ∙ stops 5 0 (decides true h)) ea
+
+      pub arranged : (weights₁ : List Float) (rows₁ : List ℕ) → not (eqb (length weights) (speakers * channels)) ≡ false → weights₁ ≡ tab 0 (length weights) (weightAt k channels)
+          → rows₁ ≡ rowsOf k speakers azimuths rows given
+          → record { answer = record { refusal = 0; speakers = speakers; channels = channels }; weights = weights₁; rows = rows₁ } ≡ arrangedBy later k speakers channels azimuths rows weights given
+      arranged weights₁ rows₁ h ew er =
+          cc (ew ∙ ap (λ (n : ℕ). tab 0 n (weightAt k channels)) (is-equal (length weights) (speakers * channels) h), er)
+          ∙ sym (by 0 (then ∙ goes-on 5 0 (decides false h)))
+
+-- ---- what each promises
+
+module _ (w : Wanted) (azimuths : List ℤ) (rows : ℕ) (weights : List Float) (given : List ℕ) where
+  off : (b : Bool) (k x : ℕ) → cond b (suc k) x ≡ 0 → (b ≡ false) × (x ≡ 0)
+  off true k x e = absurd (suc-ne-zero k e)
+  off false k x e = (refl, e)
+
+  -- where the check that stands first is 0, it does not hold
+  pub later-of : w .check .holds ≡ false → refusalOf w azimuths rows weights ≡ laterRefusal (w .speakers * w .channels) azimuths rows weights
+  unfolding refusalOf laterRefusal
+  later-of h = goes-on (w .check .number) _ h
+
+  passed : laterRefusal (w .speakers * w .channels) azimuths rows weights ≡ 0 → (outside rows 8 ≡ false) × (length azimuths ≡ 8)
+  unfolding laterRefusal
+  passed e =
+      let p2 = off (outside rows 8) 1 _ e in
+      let p5 = off (not (eqb (length azimuths) 8) || not (eqb (length weights) (w .speakers * w .channels))) 4 0 (p2 .1) in
+      (p2 .0, is-equal (length azimuths) 8 (or-off (not (eqb (length azimuths) 8)) _ (p5 .0) .0))
+
+  -- a check with a number above 0 does not hold of a set-up that is accepted
+  offered : (n : ℕ) → w .check .number ≡ suc n → refusalOf w azimuths rows weights ≡ 0 → w .check .holds ≡ false
+  unfolding refusalOf
+  offered n en e = off (w .check .holds) n _ (ap (λ (m : ℕ). cond (w .check .holds) m (laterAgain)) (sym en) ∙ e) .0
+    where
+      laterAgain : ℕ
+      laterAgain = cond (outside rows 8) 2 (cond (not (eqb (length azimuths) 8) || not (eqb (length weights) (w .speakers * w .channels))) 5 0)
+
+  pub by-wanted : (n : ℕ) → refusalOf w azimuths rows weights ≡ n
+      → arrangement w azimuths rows weights given ≡ arrangedBy n (w .whose) (w .speakers) (w .channels) azimuths rows weights given
+  unfolding arrangement
+  by-wanted n e = ap (λ (m : ℕ). arrangedBy m (w .whose) (w .speakers) (w .channels) azimuths rows weights given) e
+
+  arranges : (n : ℕ) → w .check .number ≡ suc n → (o : Arrangement) → o ≡ arrangement w azimuths rows weights given → Arranges w azimuths rows weights given o
+  arranges n en o e =
+      record {
+        answer = e;
+        weighs = λ z s c hs hc.
+            ap (λ (q : Arrangement). getD (q .weights) (s * w .channels + c) nan) (e ∙ by-wanted 0 z)
+            ∙ getD-tab 0 (w .speakers * w .channels) (weightAt (w .whose) (w .channels)) (s * w .channels + c) nan (inside (w .speakers) (w .channels) s c (w .speakers * w .channels) hs hc refl)
+            ∙ ap (weightAt (w .whose) (w .channels)) (zero-add (s * w .channels + c))
+            ∙ weighed (w .whose) (w .channels) s c hc;
+        takes = λ z s. let p = passed (sym (later-of (offered n en z)) ∙ z) in row-taken (w .whose) azimuths rows s (p .0) (p .1);
+      }
+
+  -- the first check decides
+  pub not-offered : (n : ℕ) → w .check .number ≡ suc n → (a : Arranged) → w .check .holds ≡ true → a ≡ record { refusal = suc n; speakers = 0; channels = 0 }
+      → Arranges w azimuths rows weights given (record { answer = a; weights = weights; rows = given })
+  unfolding refusalOf
+  not-offered n en a h ea =
+      arranges n en (record { answer = a; weights = weights; rows = given })
+      (ap (λ (b : Arranged). record { answer = b; weights = weights; rows = given }) ea ∙ sym (by-wanted (suc n) (stops (w .check .number) _ h ∙ en)))
+
+  -- or leaves it to what both do
+  pub goes-on-to : (n : ℕ) → w .check .number ≡ suc n → w .check .holds ≡ false → (o : Arrangement)
+      → o ≡ arrangedBy (laterRefusal (w .speakers * w .channels) azimuths rows weights) (w .whose) (w .speakers) (w .channels) azimuths rows weights given
+      → Arranges w azimuths rows weights given o
+  goes-on-to n en h o e = arranges n en o (e ∙ sym (by-wanted (laterRefusal (w .speakers * w .channels) azimuths rows weights) (later-of h)))
+
+-- ---- a layout
+
+module _ (l : Layout) (azimuths : List ℤ) (rows : ℕ) (weights : List Float) (given : List ℕ) where
+  pub layout-refused : (a : Arranged) → not (surround l) ≡ true → a ≡ record { refusal = 2; speakers = 0; channels = 0 }
+      → NewSurround l azimuths rows weights given (record { answer = a; weights = weights; rows = given })
+  layout-refused a h ea = not-offered (ofLayout l) azimuths rows weights given 1 refl a h ea
+
+  module _ (h : not (surround l) ≡ false) (n : ℕ) (counts : n ≡ counted l .channels) where
+    count-is : n ≡ channelsOf l
+    count-is = counts ∙ counted-all l (not-false (surround l) h)
+
+    pub few-of-layout : (n ≤ 8) × (0 < n) × (n ≤ 16)
+    few-of-layout =
+        let f = few-channels l (not-false (surround l) h) in
+        let e = count-is in
+        (omega (arith, e, f .1), omega (arith, e, f .0), omega (arith, e, f .1))
+
+    pub layout-arranged : (o : Arrangement) → o ≡ arrangedBy (laterRefusal (n * n) azimuths rows weights) (Of l) n n azimuths rows weights given → NewSurround l azimuths rows weights given o
+    layout-arranged o e =
+        goes-on-to (ofLayout l) azimuths rows weights given 1 refl h o
+        (e ∙ ap (λ (m : ℕ). arrangedBy (laterRefusal (m * m) azimuths rows weights) (Of l) m m azimuths rows weights given) count-is)
+
+-- ---- an order
+
+order-inside : (order : ℕ) → outside order 3 ≡ false → refusesOrder order ≡ false
+order-inside order e = let p = not-outside order 3 e in rw (le-leb 1 order (p .0), le-leb order 3 (p .1))
+
+order-outside : (order : ℕ) → outside order 3 ≡ true → refusesOrder order ≡ true
+order-outside zero e = refl
+order-outside (suc zero) e = absurd (true≢false (sym e))
+order-outside (suc (suc zero)) e = absurd (true≢false (sym e))
+order-outside (suc (suc (suc zero))) e = absurd (true≢false (sym e))
+order-outside (suc (suc (suc (suc n)))) e =
+    ap not (ap (λ (b : Bool). leb 1 (suc (suc (suc (suc n)))) && b) (lt-leb (suc (suc (suc (suc n)))) 3 (omega arith)) ∙ and-false (leb 1 (suc (suc (suc (suc n))))))
+  where
+    and-false : (b : Bool) → (b && false) ≡ false
+    and-false true = refl
+    and-false false = refl
+
+module _ (order : ℕ) (azimuths : List ℤ) (rows : ℕ) (weights : List Float) (given : List ℕ) where
+  ambisonic : (o : Arrangement) → Arranges (ofOrder order) azimuths rows weights given o → NewAmbisonic order azimuths rows weights given o
+  ambisonic o a =
+      record {
+        arranges = a;
+        near = λ z s. outcome-kept order (positionOf s) .near (position-accepted order s (offered (ofOrder order) azimuths rows weights given 0 refl z));
+      }
+
+  pub order-refused : (a : Arranged) → outside order 3 ≡ true → a ≡ record { refusal = 1; speakers = 0; channels = 0 }
+      → NewAmbisonic order azimuths rows weights given (record { answer = a; weights = weights; rows = given })
+  order-refused a h ea = ambisonic (record { answer = a; weights = weights; rows = given }) (not-offered (ofOrder order) azimuths rows weights given 0 refl a (order-outside order h) ea)
+
+  module _ (h : outside order 3 ≡ false) where
+    pub few-of-order : (0 < (order + 1) * (order + 1)) × ((order + 1) * (order + 1) ≤ 16)
+    few-of-order = few order (not-outside order 3 h .1)
+      where
+        few : (n : ℕ) → n ≤ 3 → (0 < (n + 1) * (n + 1)) × ((n + 1) * (n + 1) ≤ 16)
+        few zero l = (omega arith, omega arith)
+        few (suc zero) l = (omega arith, omega arith)
+        few (suc (suc zero)) l = (omega arith, omega arith)
+        few (suc (suc (suc zero))) l = (omega arith, omega arith)
+        few (suc (suc (suc (suc n)))) l = absurd (omega arith)
+
+    pub order-arranged : (o : Arrangement)
+        → o ≡ arrangedBy (laterRefusal (8 * ((order + 1) * (order + 1))) azimuths rows weights) (Virtual order) 8 ((order + 1) * (order + 1)) azimuths rows weights given
+        → NewAmbisonic order azimuths rows weights given o
+    order-arranged o e = ambisonic o (goes-on-to (ofOrder order) azimuths rows weights given 0 refl (order-inside order h) o e)

@@ -1,0 +1,68 @@
+-- `hrtf_setup::choose_rows` meets its contract: `Choosing`. Assumes nothing.
+use mathlib.Core.Path.{ap, _∙_}
+use Prim.Native.Nat.{_-_}
+use native.Mathlib.Omega.{arith}
+use denote.Ref.{now}
+use lib.IntN.{ℤ}
+use Rattle.row_choice.specs.declared.Choice.{Choice}
+use Rattle.row_choice.specs.Choice.{choiceOf}
+use Rattle.hrtf_setup.proofs.Standing.{held-16}
+use Rattle.hrtf_setup.proofs.Choosing.{Choosing, choosing-none, choosing-more, choosing-all}
+use Rattle.hrtf_setup.proofs.choose_rows.Statement.{statement}
+use Rattle.hrtf_setup.proofs.choose_rows.Tie as tie
+
+abbrev Inv-loop : tie.InvT-loop
+Inv-loop row-of₀ whose speakers azimuths rows s₀ row-of s = Choosing whose speakers azimuths rows row-of₀ row-of s
+
+abbrev μ-loop : tie.MeasureT-loop
+μ-loop row-of₀ whose speakers azimuths rows s₀ row-of s = speakers - s
+
+loop-holds : tie.Need-loop-holds Inv-loop μ-loop
+loop-holds c = let a = c .args in choosing-none (a .whose) (a .speakers) (now (a .azimuths)) (a .rows) (now (a .row-of))
+
+tenths-requires : tie.Need-tenths-requires Inv-loop μ-loop
+tenths-requires c κs = tt
+
+nearest-row-requires : tie.Need-nearest-row-requires Inv-loop μ-loop
+nearest-row-requires c κs = tt
+
+mul-row-of : tie.Need-mul-row-of Inv-loop μ-loop
+mul-row-of c = omega arith
+
+element-write-row-of : tie.Need-element-write-row-of Inv-loop μ-loop
+element-write-row-of c = omega (arith, c .before .before .before .before .pre, c .before .before .loop-test .taken)
+
+add-s : tie.Need-add-s Inv-loop μ-loop
+add-s c = omega (arith, c .before .before .before .before .pre, c .before .before .loop-test .taken)
+
+loop-less : tie.Need-loop-less Inv-loop μ-loop
+loop-less c = omega (arith, c .before .before .loop-test .taken)
+
+loop-again : tie.Need-loop-again Inv-loop μ-loop
+loop-again c =
+    let a = c .before .before .before .before .args in
+    let l = c .before .before .before .loop in
+    choosing-more (a .whose) (a .speakers) (now (a .azimuths)) (a .rows) (now (a .row-of)) (l .row-of) (l .s) (c .nearest-row .result .row) (l .inv) (c .before .before .loop-test .taken)
+    (ap (λ (r : Choice). r .row) (c .nearest-row .ensures .answer) ∙ ap (λ (p : ℤ). choiceOf (now (a .azimuths)) (a .rows) p .row) (held-16 (a .whose) (l .s) (c .before .tenths .result) (c .before .tenths .ensures)))
+
+returns : tie.Need-returns Inv-loop μ-loop
+returns c =
+    let a = c .before .before .args in
+    let l = c .before .loop in
+    choosing-all (a .whose) (a .speakers) (now (a .azimuths)) (a .rows) (now (a .row-of)) (l .row-of) (l .s) (l .inv) (c .loop-test .left)
+
+pub choose-rows-spec : {M : Type 1} → statement M
+choose-rows-spec =
+    tie.close
+    (tie.spec
+    Inv-loop
+    μ-loop
+    loop-holds
+    tenths-requires
+    nearest-row-requires
+    mul-row-of
+    element-write-row-of
+    add-s
+    loop-less
+    loop-again
+    returns)

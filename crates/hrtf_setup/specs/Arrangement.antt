@@ -1,0 +1,49 @@
+-- Everything that a set-up hands back, by its refusal: first what the operation offers, then 2 (bank rows not 1..8) and 5 (a list of azimuths that is not of 8, weights other than speakers x channels).
+-- Definitions only.
+use Prim.Native.Nat.{ℕ, zero, suc, _*_}
+use mathlib.Core.Bool.{not, _||_}
+use mathlib.Core.List.{List, [], _∷_}
+use lib.Dec.{eqb}
+use lib.IntN.{ℤ}
+use lib.ListN.{length}
+use lib.Ieee.{Float}
+use Rattle.refusals.specs.Refusals.{Check, firstOf, _when_}
+use Rattle.planes.specs.Tables.{tab}
+use Rattle.planes.specs.Planes.{outside}
+use Rattle.hrtf_setup.specs.declared.Arranged.{Arranged}
+use Rattle.hrtf_setup.specs.declared.Speakers.{Speakers}
+use Rattle.hrtf_setup.specs.Speakers.{rowsOf, weightAt}
+
+-- what is wanted: whether it is offered, whose speakers, how many of them, and how many channels
+pub record Wanted : Type 0 where
+  pub check : Check
+  pub whose : Speakers
+  pub speakers : ℕ
+  pub channels : ℕ
+
+abbrev pub laterChecks : ℕ → List ℤ → ℕ → List Float → List Check
+laterChecks size azimuths rows weights = 2 when outside rows 8 ∷ 5 when (not (eqb (length azimuths) 8) || not (eqb (length weights) size)) ∷ []
+
+unfoldable pub laterRefusal : ℕ → List ℤ → ℕ → List Float → ℕ
+laterRefusal size azimuths rows weights = firstOf (laterChecks size azimuths rows weights)
+
+unfoldable pub refusalOf : Wanted → List ℤ → ℕ → List Float → ℕ
+refusalOf w azimuths rows weights = firstOf (w .check ∷ laterChecks (w .speakers * w .channels) azimuths rows weights)
+
+-- the answer, and what the two lists hold
+pub record Arrangement : Type 0 where
+  pub answer : Arranged
+  pub weights : List Float
+  pub rows : List ℕ
+
+abbrev pub arrangedBy : ℕ → Speakers → ℕ → ℕ → List ℤ → ℕ → List Float → List ℕ → Arrangement
+arrangedBy zero k speakers channels azimuths rows weights given =
+    record {
+      answer = record { refusal = 0; speakers = speakers; channels = channels };
+      weights = tab 0 (speakers * channels) (weightAt k channels);
+      rows = rowsOf k speakers azimuths rows given;
+    }
+arrangedBy (suc n) k speakers channels azimuths rows weights given = record { answer = record { refusal = suc n; speakers = 0; channels = 0 }; weights = weights; rows = given }
+
+unfoldable pub arrangement : Wanted → List ℤ → ℕ → List Float → List ℕ → Arrangement
+arrangement w azimuths rows weights given = arrangedBy (refusalOf w azimuths rows weights) (w .whose) (w .speakers) (w .channels) azimuths rows weights given

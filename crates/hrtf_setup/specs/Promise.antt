@@ -1,0 +1,43 @@
+-- What the two set-ups promise. Definitions only.
+use Prim.Native.Nat.{ℕ, _+_, _*_, _<_}
+use mathlib.Core.Path.{_≡_}
+use mathlib.Core.Bool.{not}
+use mathlib.Core.List.{List}
+use lib.IntN.{ℤ}
+use lib.ListN.{getD}
+use lib.Ieee.{Float, nan}
+use Rattle.refusals.specs.Refusals.{_when_}
+use Rattle.fractions.specs.Fraction.{number}
+use Rattle.fractions.specs.Approximates.{EachWithin}
+use Rattle.channel.specs.declared.Layout.{Layout}
+use Rattle.channel.specs.Layouts.{channelsOf, surround}
+use Rattle.harmonics.specs.Promise.{refusesOrder}
+use Rattle.row_choice.specs.Nearest.{Takes}
+use Rattle.virtual_speaker.specs.Weights.{weightedFormulas}
+use Rattle.virtual_speaker.specs.Promise.{weightBits, outcome, positionOf}
+use Rattle.hrtf_setup.specs.declared.Speakers.the-variants.{Of, Virtual}
+use Rattle.hrtf_setup.specs.Speakers.{tenthsAt, rowAt, weightOf}
+use Rattle.hrtf_setup.specs.Arrangement.{Wanted, refusalOf, Arrangement, arrangement}
+
+-- beside the equation, of a set-up that is accepted: every weight is its speaker's for its channel, and every speaker takes the row that document 01 names for its azimuth
+pub record Arranges (w : Wanted) (azimuths : List ℤ) (rows : ℕ) (weights : List Float) (given : List ℕ) (o : Arrangement) : Type 0 where
+  pub answer : o ≡ arrangement w azimuths rows weights given
+  pub weighs : refusalOf w azimuths rows weights ≡ 0 → (s c : ℕ) → s < w .speakers → c < w .channels → getD (o .weights) (s * w .channels + c) nan ≡ weightOf (w .whose) s c
+  pub takes : refusalOf w azimuths rows weights ≡ 0 → (s : ℕ) → Takes azimuths rows (tenthsAt (w .whose) s) (rowAt (w .whose) azimuths rows s)
+
+-- 2: "the layout isn't one the operation offers"; a speaker for each channel
+abbrev pub ofLayout : Layout → Wanted
+ofLayout l = record { check = 2 when not (surround l); whose = Of l; speakers = channelsOf l; channels = channelsOf l }
+
+-- 1: "ambisonic order is not 1, 2 or 3"; eight speakers, (order + 1)² channels
+abbrev pub ofOrder : ℕ → Wanted
+ofOrder order = record { check = 1 when refusesOrder order; whose = Virtual order; speakers = 8; channels = (order + 1) * (order + 1) }
+
+abbrev pub NewSurround : Layout → List ℤ → ℕ → List Float → List ℕ → Arrangement → Type 0
+NewSurround l azimuths rows weights given o = Arranges (ofLayout l) azimuths rows weights given o
+
+-- and each weighted coefficient is near its formula
+pub record NewAmbisonic (order : ℕ) (azimuths : List ℤ) (rows : ℕ) (weights : List Float) (given : List ℕ) (o : Arrangement) : Type 0 where
+  pub arranges : Arranges (ofOrder order) azimuths rows weights given o
+  pub near : refusalOf (ofOrder order) azimuths rows weights ≡ 0 → (s : ℕ)
+      → EachWithin weightBits (outcome order (positionOf s) .weights) (weightedFormulas order (number (positionOf s .azimuth)) (number (positionOf s .elevation)))

@@ -1,0 +1,12 @@
+-- No two sums meet the promise of `convolve`. Assumes nothing.
+use Prim.Native.Nat.{ℕ, suc}
+use mathlib.Core.Path.{_≡_}
+use mathlib.Core.List.{List}
+use lib.Ieee.{Float}
+use Rattle.numbers.specs.Computed.{zero-float}
+use Rattle.planes.specs.Sums.{dot}
+use Rattle.refusals.proofs.Determined.{determined}
+use Rattle.rings.specs.Unrolled.{unrolled}
+
+convolve-unique : (ring : List Float) (newest : ℕ) (taps : List Float) (a b : Float) → a ≡ dot zero-float (unrolled (suc newest) ring) taps → b ≡ dot zero-float (unrolled (suc newest) ring) taps → a ≡ b
+convolve-unique ring newest taps = determined

@@ -1,0 +1,4 @@
+-- The rings, what the program does with them, and how they stand for a history.
+pub mod Unrolled
+pub mod Steps
+pub mod Represents

@@ -1,0 +1,42 @@
+// The rings (document 01, item 9, from hrtf.rs): speaker by speaker, L cells each, in one lent list. A frame's
+// signals go into the cell at the desk's position, one in each ring, by `planes::mix_frame`: rings are planes
+// whose stride is L. `convolve` is an ear's part of a speaker: its ring from the newest signal to the
+// oldest, times the taps. It takes any lists, and promises the ordered sum by an equation.
+//
+// The laws (proofs/) say that rings and desk stand for a history (specs/Represents.antt): what is read out of
+// them is document 01's sums over it, and a frame keeps that so. Under it lie `history`, `desk` and `planes`.
+ghost use mathlib.Core.Path.{_≡_};
+ghost use Prim.Native.Nat.{suc, min};
+ghost use Rattle.numbers.specs.Computed.{zero-float};
+ghost use Rattle.planes.specs.Sums.{dot};
+ghost use Rattle.rings.specs.Unrolled.{unrolled};
+
+fn least(a: usize, b: usize) -> usize
+    ensures { λ r. ⌜ r ≡ min a b ⌝ }
+{
+    if a < b {
+        return a;
+    }
+    b
+}
+
+// An ear's part of one speaker: its ring, whose newest signal stands in the cell `newest`, back round to the
+// oldest, times the taps. The shorter of the two ends the sum; beyond the last cell the newest is the last.
+pub fn convolve(ring: &[f32], newest: usize, taps: &[f32]) -> f64
+    ensures { λ r. ⌜ r ≡ dot zero-float (unrolled (suc newest) (now (ring .entry))) (now (taps .entry)) ⌝ }
+{
+    let n = ring.len();
+    if n == 0 {
+        return 0.0;
+    }
+    let from = least(newest, n - 1);
+    let count = least(n, taps.len());
+    let mut sum = 0.0;
+    let mut k = 0;
+    while k < count {
+        let i = (from + n - k) % n;
+        sum = sum + numbers::widen(ring[i]) * numbers::widen(taps[k]);
+        k += 1;
+    }
+    sum
+}

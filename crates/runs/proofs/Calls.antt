@@ -1,0 +1,125 @@
+-- One call, accepted or refused, and calls one after another: what is sounded, counted and left is what the frames that were fed give, one by one. Assumes nothing.
+use mathlib.Core.Path.{_≡_, refl, sym, ap, _∙_, subst}
+use mathlib.Core.Bool.{cond}
+use mathlib.Core.List.{List, [], _∷_, _++_}
+use Prim.Native.Nat.{ℕ, zero, suc, _+_, _<_}
+use native.Mathlib.Nat.{not-suc-le-zero, le-of-suc-le-suc, add-assoc}
+use native.Mathlib.Omega.{arith}
+use lib.ListN.{length, getD}
+use lib.Ieee.{Float}
+use Rattle.planes.specs.Planes.{frameAt, framesOf}
+use Rattle.planes.proofs.Tables.{length-tab}
+use Rattle.history.specs.Setup.{Setup}
+use Rattle.history.specs.History.{after}
+use Rattle.rings.specs.Steps.{State, ears, late, stepped, left, played, counted}
+use Rattle.rings.specs.Represents.{Represents}
+use Rattle.rings.proofs.Blocks.{length-played, counted-told, left-kept}
+use Rattle.hrtf_checks.specs.Call.{Call, setup, framesIn}
+use Rattle.hrtf_checks.specs.Refusals.{refusalOf}
+use Rattle.hrtf_checks.proofs.Refusing.{ears-fit}
+use Rattle.hrtf.specs.Promise.{Outcome, outcomeBy, outcome, stateAfter}
+use Rattle.hrtf.proofs.Promised.{outcome-by}
+use Rattle.runs.specs.Runs.{next, fedBy, fed, sounded, Alike, fedAll, soundedAll, end, answered, owed, sum}
+use Rattle.runs.proofs.Reading.{frames-read}
+
+-- ---- frames in two pieces
+
+module _ (u : Setup) where
+  played-append : (t : State) (fs gs : List (List Float)) → played u t (fs ++ gs) ≡ played u t fs ++ played u (left u t fs) gs
+  played-append t [] gs = refl
+  played-append t (f ∷ fs) gs = ap (λ (l : List (List Float)). ears u t f ∷ l) (played-append (stepped u t f) fs gs)
+
+  left-append : (t : State) (fs gs : List (List Float)) → left u t (fs ++ gs) ≡ left u (left u t fs) gs
+  left-append t [] gs = refl
+  left-append t (f ∷ fs) gs = left-append (stepped u t f) fs gs
+
+  counted-append : (t : State) (fs gs : List (List Float)) → counted u t (fs ++ gs) ≡ counted u t fs + counted u (left u t fs) gs
+  counted-append t [] gs = omega arith
+  counted-append t (f ∷ fs) gs =
+      ap (λ (n : ℕ). cond (late u t f) 1 0 + n) (counted-append (stepped u t f) fs gs)
+      ∙ sym (add-assoc (cond (late u t f) 1 0) (counted u (stepped u t f) fs) (counted u (left u (stepped u t f) fs) gs))
+
+  -- two ear samples a frame
+  two-ears : (t : State) (fs : List (List Float)) (j : ℕ) → j < length (played u t fs) → length (getD (played u t fs) j []) ≡ 2
+  two-ears t [] j h = absurd (not-suc-le-zero h)
+  two-ears t (f ∷ fs) zero h = refl
+  two-ears t (f ∷ fs) (suc j) h = two-ears (stepped u t f) fs j (le-of-suc-le-suc h)
+
+-- ---- one call
+
+pub record Called (u : Setup) (t : State) (c : Call) : Type 0 where
+  pub sounds : sounded c t ≡ played u t (fed c t)
+  pub counts : outcome c t .answer .unsettled ≡ counted u t (fed c t)
+  pub leaves : next c t ≡ left u t (fed c t)
+
+called-by : (u : Setup) (t : State) (c : Call) → (refusalOf c t ≡ 0 → setup c ≡ u) → (k : ℕ) → refusalOf c t ≡ k → Called u t c
+called-by u t c same zero e =
+    record {
+      sounds =
+          ap (λ (o : Outcome). framesOf (o .ears) (c .stride) 2 (o .answer .samples)) made
+          ∙ ap (framesOf (outcomeBy 0 c t .ears) (c .stride) 2) (sym long)
+          ∙ frames-read 2 (c .ears) (c .stride) (played (setup c) t (framesIn c)) (omega (arith, long, ears-fit c t e .0)) (ears-fit c t e .1) (two-ears (setup c) t (framesIn c))
+          ∙ ap (λ (v : Setup). played v t (framesIn c)) (same e)
+          ∙ ap (played u t) (sym fs);
+      counts = ap (λ (o : Outcome). o .answer .unsettled) made ∙ ap (λ (v : Setup). counted v t (framesIn c)) (same e) ∙ ap (counted u t) (sym fs);
+      leaves = ap stateAfter made ∙ ap (λ (v : Setup). left v t (framesIn c)) (same e) ∙ ap (left u t) (sym fs);
+    }
+  where
+    made : outcome c t ≡ outcomeBy 0 c t
+    made = outcome-by c t 0 e
+
+    fs : fed c t ≡ framesIn c
+    fs = ap (λ (n : ℕ). fedBy n (framesIn c)) e
+
+    long : length (played (setup c) t (framesIn c)) ≡ c .frames
+    long = length-played (setup c) t (framesIn c) ∙ length-tab 0 (c .frames) (frameAt (c .inputs) (c .stride) (c .shape .channels))
+called-by u t c same (suc k) e =
+    record {
+      sounds = ap (λ (o : Outcome). framesOf (o .ears) (c .stride) 2 (o .answer .samples)) made ∙ ap (played u t) (sym fs);
+      counts = ap (λ (o : Outcome). o .answer .unsettled) made ∙ ap (counted u t) (sym fs);
+      leaves = ap stateAfter made ∙ ap (left u t) (sym fs);
+    }
+  where
+    made : outcome c t ≡ outcomeBy (suc k) c t
+    made = outcome-by c t (suc k) e
+
+    fs : fed c t ≡ []
+    fs = ap (λ (n : ℕ). fedBy n (framesIn c)) e
+
+pub called : (u : Setup) (t : State) (c : Call) → (refusalOf c t ≡ 0 → setup c ≡ u) → Called u t c
+called u t c same = called-by u t c same (refusalOf c t) refl
+
+-- ---- calls one after another
+
+module _ (u : Setup) where
+  pub all-sounded : (t : State) (cs : List Call) → Alike u t cs → soundedAll t cs ≡ played u t (fedAll t cs)
+  all-sounded t [] a = refl
+  all-sounded t (c ∷ cs) a =
+      let w = called u t c (a .0) in
+      ap (λ (l : List (List Float)). l ++ soundedAll (next c t) cs) (w .sounds)
+      ∙ ap (λ (l : List (List Float)). played u t (fed c t) ++ l) (all-sounded (next c t) cs (a .1) ∙ ap (λ (s : State). played u s (fedAll (next c t) cs)) (w .leaves))
+      ∙ sym (played-append u t (fed c t) (fedAll (next c t) cs))
+
+  pub all-left : (t : State) (cs : List Call) → Alike u t cs → end t cs ≡ left u t (fedAll t cs)
+  all-left t [] a = refl
+  all-left t (c ∷ cs) a =
+      let w = called u t c (a .0) in
+      all-left (next c t) cs (a .1) ∙ ap (λ (s : State). left u s (fedAll (next c t) cs)) (w .leaves) ∙ sym (left-append u t (fed c t) (fedAll (next c t) cs))
+
+  pub all-counted : (t : State) (cs : List Call) → Alike u t cs → sum (answered t cs) ≡ counted u t (fedAll t cs)
+  all-counted t [] a = refl
+  all-counted t (c ∷ cs) a =
+      let w = called u t c (a .0) in
+      ap (λ (n : ℕ). n + sum (answered (next c t) cs)) (w .counts)
+      ∙ ap (λ (n : ℕ). counted u t (fed c t) + n) (all-counted (next c t) cs (a .1) ∙ ap (λ (s : State). counted u s (fedAll (next c t) cs)) (w .leaves))
+      ∙ sym (counted-append u t (fed c t) (fedAll (next c t) cs))
+
+  -- each call's count over the history before it
+  pub all-owed : (past : List (List Float)) (t : State) (cs : List Call) → Represents u past t → Alike u t cs → answered t cs ≡ owed u past t cs
+  all-owed past t [] r a = refl
+  all-owed past t (c ∷ cs) r a =
+      let w = called u t c (a .0) in
+      cc (
+        w .counts ∙ counted-told u past t (fed c t) r,
+        all-owed (after past (fed c t)) (next c t) cs (subst (Represents u (after past (fed c t))) (sym (w .leaves)) (left-kept u past t (fed c t) r)) (a .1),
+      )
