@@ -1,0 +1,243 @@
+// Plays every case of document 01's item 10 by file names, and prints what was told and what the output holds
+// then. The banks and the lines are in data/, written by tests/ears-cases from a model of its own; what is
+// printed is compared with the file `stdout`. The program promises nothing of its own beyond being safe and ending.
+use libc::STDOUT_FILENO;
+
+// No run of the tests reads more at once.
+const NO_LIMIT: usize = 65536;
+
+fn say(text: &[u8]) {
+    io::write_all(STDOUT_FILENO, text);
+}
+
+// The bytes of a list in hexadecimal, a frame of eight to a line.
+fn say_bytes(bytes: &[u8]) {
+    let mut i = 0;
+    while i < bytes.len() {
+        io::print_hex(STDOUT_FILENO, bytes[i] as u64, 2);
+        i += 1;
+        if i % 8 == 0 {
+            say(b"\n");
+        }
+    }
+    if i % 8 != 0 {
+        say(b"\n");
+    }
+}
+
+// What the output holds, as far as it has 4,096 bytes.
+fn say_file(path: &[u8]) {
+    let fd = os::open_read(path);
+    if fd < 0 {
+        say(b"no file\n");
+        return;
+    }
+    let mut space = io::buffer();
+    let n = io::read_full(fd, &mut space);
+    libc::close(fd);
+    io::print_decimal(STDOUT_FILENO, n as u64);
+    say(b" bytes\n");
+    say_bytes(&space[..n]);
+}
+
+// Leaves something in the output, as an earlier run would.
+fn leave_something(path: &[u8]) {
+    let fd = os::open_overwrite(path);
+    if fd < 0 {
+        return;
+    }
+    io::write_all(fd, b"an earlier run");
+    libc::close(fd);
+}
+
+fn play(bank: &[u8], line: &[u8], limit: usize) {
+    let out = b"ears.raw";
+    leave_something(out);
+    let from = os::open_read(line);
+    ears_file::tell(ears_file::run(bank, from, out, limit));
+    if 0 <= from {
+        libc::close(from);
+    }
+}
+
+fn case(title: &[u8], bank: &[u8], line: &[u8], limit: usize) {
+    say(title);
+    say(b"\n");
+    play(bank, line, limit);
+    say_file(b"ears.raw");
+}
+
+// Lines of document 01.
+fn worked() {
+    case(
+        b"three frames, L = 2, the first NaN throughout",
+        b"good.bank",
+        b"nan_first.line",
+        NO_LIMIT,
+    );
+    case(b"empty input", b"good.bank", b"empty.line", NO_LIMIT);
+    case(
+        b"a part frame behind three whole ones",
+        b"good.bank",
+        b"part.line",
+        NO_LIMIT,
+    );
+    case(
+        b"a part frame alone",
+        b"good.bank",
+        b"part_alone.line",
+        NO_LIMIT,
+    );
+}
+
+fn banks() {
+    case(b"no bank", b"missing.bank", b"nan_first.line", NO_LIMIT);
+    case(b"an empty bank", b"empty.line", b"nan_first.line", NO_LIMIT);
+    case(
+        b"a bank without its last byte",
+        b"short.bank",
+        b"nan_first.line",
+        NO_LIMIT,
+    );
+    case(
+        b"a bank with a byte more",
+        b"long.bank",
+        b"nan_first.line",
+        NO_LIMIT,
+    );
+    case(
+        b"a bank with a tap that is not finite",
+        b"infinite.bank",
+        b"nan_first.line",
+        NO_LIMIT,
+    );
+    case(
+        b"a folder for a bank",
+        b"folder",
+        b"nan_first.line",
+        NO_LIMIT,
+    );
+    case(
+        b"the largest bank",
+        b"largest.bank",
+        b"nan_first.line",
+        NO_LIMIT,
+    );
+    case(
+        b"the largest bank with a byte more",
+        b"too_long.bank",
+        b"nan_first.line",
+        NO_LIMIT,
+    );
+}
+
+// The same line however it is cut.
+fn cuts() {
+    case(
+        b"ramps, read at once",
+        b"good.bank",
+        b"ramps.line",
+        NO_LIMIT,
+    );
+    case(b"ramps, a byte at a time", b"good.bank", b"ramps.line", 1);
+    case(b"ramps, 7 bytes at a time", b"good.bank", b"ramps.line", 7);
+    case(
+        b"ramps, 24 bytes at a time",
+        b"good.bank",
+        b"ramps.line",
+        24,
+    );
+    case(
+        b"ramps, 25 bytes at a time",
+        b"good.bank",
+        b"ramps.line",
+        25,
+    );
+}
+
+// Whether two lists begin with the same bytes, as many as each was filled with.
+fn is_same(a: &[u8], n: usize, b: &[u8], m: usize) -> bool {
+    if n != m {
+        return false;
+    }
+    if a.len() < n {
+        return false;
+    }
+    if b.len() < n {
+        return false;
+    }
+    let mut i = 0;
+    while i < n {
+        if a[i] != b[i] {
+            return false;
+        }
+        i += 1;
+    }
+    true
+}
+
+// Compares two open files, as far as both have 65,536 bytes.
+fn say_compared(a: i32, b: i32) {
+    let mut one = io::large_buffer();
+    let mut two = io::large_buffer();
+    let n = io::read_full(a, &mut one);
+    let m = io::read_full(b, &mut two);
+    io::print_decimal(STDOUT_FILENO, n as u64);
+    if is_same(&one, n, &two, m) {
+        say(b" bytes, the same\n");
+        return;
+    }
+    say(b" bytes, not the same\n");
+}
+
+fn compare(a: &[u8], b: &[u8]) {
+    let one = os::open_read(a);
+    let two = os::open_read(b);
+    say_compared(one, two);
+    if 0 <= one {
+        libc::close(one);
+    }
+    if 0 <= two {
+        libc::close(two);
+    }
+}
+
+fn write_often(to: i32, part: &[u8]) {
+    let mut i: usize = 0;
+    while i < 200 {
+        io::write_all(to, part);
+        i += 1;
+    }
+}
+
+// Writes a line that no buffer holds: the ramps, two hundred times.
+fn write_long() {
+    let from = os::open_read(b"ramps.line");
+    let to = os::open_overwrite(b"long.line");
+    let mut ramps = io::buffer();
+    let n = io::read_full(from, &mut ramps);
+    write_often(to, &ramps[..n]);
+    libc::close(from);
+    libc::close(to);
+}
+
+// The long line at once and in parts, and its ears against those that are expected.
+fn long_cuts() {
+    write_long();
+    say(b"two hundred ramps, read at once\n");
+    play(b"good.bank", b"long.line", NO_LIMIT);
+    compare(b"ears.raw", b"long.expected");
+    say(b"two hundred ramps, 4096 bytes at a time\n");
+    play(b"good.bank", b"long.line", 4096);
+    compare(b"ears.raw", b"long.expected");
+    say(b"two hundred ramps, 25 bytes at a time\n");
+    play(b"good.bank", b"long.line", 25);
+    compare(b"ears.raw", b"long.expected");
+}
+
+fn main() {
+    worked();
+    banks();
+    cuts();
+    long_cuts();
+}

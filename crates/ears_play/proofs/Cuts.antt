@@ -1,0 +1,109 @@
+-- The same output however the input is cut: turns over parts of any sizes give what the bytes give that come at once. And a turn of the program is such a turn. Assumes nothing.
+use mathlib.Core.Path.{_≡_, refl, sym, ap, _∙_, subst}
+use mathlib.Core.List.{List, [], _∷_, _++_, append-nil, append-assoc}
+use Prim.Native.Nat.{ℕ, _+_, _*_, _≤_}
+use native.Mathlib.Omega.{arith}
+use lib.ListN.{length, take, drop, length-append, length-drop}
+use lib.Seq.{take-at}
+use lib.Ieee.{Float}
+use Rattle.big_endian.specs.Placed.{placed}
+use Rattle.big_endian.proofs.Placed.{placed-start}
+use Rattle.planes.proofs.Tables.{length-tab}
+use Rattle.history.specs.Setup.{Setup}
+use Rattle.history.specs.History.{heard, unsettledIn, after}
+use Rattle.history.proofs.Pieces.{heard-append, unsettled-append}
+use Rattle.rings.specs.Represents.{Represents}
+use Rattle.hrtf_checks.specs.Refusals.{refusalOf}
+use Rattle.hrtf.specs.Promise.{Outcome, outcome}
+use Rattle.hrtf.proofs.Promised.{outcome-by}
+use Rattle.wire.specs.Frames.{frameIn, wholeIn, framesIn, restIn}
+use Rattle.wire.specs.Ears.{earBytes}
+use Rattle.wire.proofs.Ears.{ears-append}
+use Rattle.wire.proofs.Cut.{cut-frames, cut-rest}
+use Rattle.ears_play.specs.declared.Progress.{Progress}
+use Rattle.ears_play.specs.declared.Turn.{Turn}
+use Rattle.ears_play.specs.Counting.{countedOn}
+use Rattle.ears_play.specs.Turns.{Fixed, Lent, setupIn, come, stateIn, callIn, Turned, turnPlayed, turnBy, turnOf, Told, Plays}
+use Rattle.ears_play.specs.Runs.{So, atOnce, turned, inParts, joined, Stands, Steps}
+
+-- ---- parts
+
+after-append : (past fs gs : List (List Float)) → after past (fs ++ gs) ≡ after (after past fs) gs
+after-append past [] gs = refl
+after-append past (f ∷ fs) gs = after-append (f ∷ past) fs gs
+
+module _ (u : Setup) (bytes part : List ℕ) where
+  -- the frames that were played, and those that come now
+  so-far : List (List Float)
+  so-far = framesIn bytes
+
+  now-come : List (List Float)
+  now-come = framesIn (restIn bytes ++ part)
+
+  all : framesIn (bytes ++ part) ≡ so-far ++ now-come
+  unfolding so-far now-come
+  all = cut-frames bytes part
+
+  one-more-put : earBytes (heard u [] so-far) ++ earBytes (heard u (after [] so-far) now-come) ≡ earBytes (heard u [] (framesIn (bytes ++ part)))
+  one-more-put =
+      sym (ap (λ (fs : List (List Float)). earBytes (heard u [] fs)) all ∙ ap earBytes (heard-append u [] so-far now-come) ∙ ears-append (heard u [] so-far) (heard u (after [] so-far) now-come))
+
+  one-more-counted : unsettledIn u [] so-far + unsettledIn u (after [] so-far) now-come ≡ unsettledIn u [] (framesIn (bytes ++ part))
+  one-more-counted = sym (ap (unsettledIn u []) all ∙ unsettled-append u [] so-far now-come)
+
+  one-more-past : after (after [] so-far) now-come ≡ after [] (framesIn (bytes ++ part))
+  one-more-past = sym (ap (after []) all ∙ after-append [] so-far now-come)
+
+  one-more-whole : wholeIn bytes + wholeIn (restIn bytes ++ part) ≡ wholeIn (bytes ++ part)
+  one-more-whole = omega (arith, length-append bytes part, length-append (restIn bytes) part, length-drop (wholeIn bytes * 24) bytes)
+
+  one-more : turned u (atOnce u bytes) part ≡ atOnce u (bytes ++ part)
+  unfolding so-far now-come
+  one-more = cc (one-more-put, one-more-counted, one-more-past, one-more-whole, cut-rest bytes part)
+
+-- after some bytes, and then in parts
+parts-after : (u : Setup) (bytes : List ℕ) (parts : List (List ℕ)) → inParts u (atOnce u bytes) parts ≡ atOnce u (bytes ++ joined parts)
+parts-after u bytes [] = ap (atOnce u) (sym (append-nil bytes))
+parts-after u bytes (part ∷ parts) =
+    ap (λ (s : So). inParts u s parts) (one-more u bytes part) ∙ parts-after u (bytes ++ part) parts ∙ ap (atOnce u) (append-assoc bytes part (joined parts))
+
+pub however-cut : (u : Setup) (parts : List (List ℕ)) → inParts u (atOnce u []) parts ≡ atOnce u (joined parts)
+however-cut u parts = parts-after u [] parts
+
+-- two ways of cutting the same bytes
+pub cut-alike : (u : Setup) (parts others : List (List ℕ)) → joined parts ≡ joined others → inParts u (atOnce u []) parts ≡ inParts u (atOnce u []) others
+cut-alike u parts others e = however-cut u parts ∙ ap (atOnce u) e ∙ sym (however-cut u others)
+
+-- ---- a turn of the program
+
+module _ (x : Fixed) (s : So) (part : List ℕ) (p : Progress) (size : ℕ) (l : Lent) (r : Turn) (left : Lent)
+    (stood : Stands x s p l) (comes : come size l ≡ s .held ++ part) (plays : Plays x p size l r left)
+    (e : refusalOf (callIn x size l) (stateIn p l) ≡ 0) (six : x .shape .channels ≡ 6) (room : wholeIn (come size l) * 8 ≤ length (l .out)) where
+  told : Told x p size l (s .past) r left
+  told = plays .told (s .past) (stood .history) e six room
+
+  played : _≡_ {A = Turned} (record { answer = r; lent = left }) (turnPlayed x p size l (outcome (callIn x size l) (stateIn p l)))
+  played =
+      plays .answer
+      ∙ ap (λ (k : ℕ). turnBy k x p size l (outcome (callIn x size l) (stateIn p l))) (ap (λ (o : Outcome). o .answer .refusal) (outcome-by (callIn x size l) (stateIn p l) 0 e))
+
+  -- the bytes that are kept
+  kept : take (r .progress .held) (left .bytes) ≡ restIn (come size l)
+  kept =
+      let rest = restIn (come size l) in
+      ap (λ (k : ℕ). take k (left .bytes)) (ap (λ (t : Turned). t .answer .progress .held) played)
+      ∙ ap (take (length rest)) (ap (λ (t : Turned). t .lent .bytes) played ∙ placed-start (l .bytes) rest)
+      ∙ take-at rest (drop (length rest) (l .bytes)) (length rest) refl
+
+  pub turn-steps : Steps x s part p l r left
+  turn-steps =
+      record {
+        put = told .put ∙ ap (λ (bs : List ℕ). placed (l .out) 0 (earBytes (heard (setupIn x) (s .past) (framesIn bs)))) comes;
+        stands =
+            record {
+              history = subst (λ (bs : List ℕ). Represents (setupIn x) (after (s .past) (framesIn bs)) (stateIn (r .progress) left)) comes (told .keeps);
+              keeps = kept ∙ ap restIn comes;
+            };
+        frames = ap (λ (t : Turned). t .answer .progress .frames) played ∙ ap (λ (bs : List ℕ). countedOn (p .frames) (wholeIn bs)) comes;
+        unsettled = told .unsettled ∙ ap (λ (bs : List ℕ). countedOn (p .unsettled) (unsettledIn (setupIn x) (s .past) (framesIn bs))) comes;
+      }

@@ -1,0 +1,38 @@
+-- Document 01, item 10, as worked examples: the lines that it prints, and a frame and its ears as bytes. Assumes nothing.
+use mathlib.Core.Path.{_≡_, refl}
+use mathlib.Core.Bool.{true, false}
+use mathlib.Core.List.{List, [], _∷_}
+use Prim.Native.Nat.{ℕ}
+use lib.IntN.{pos, negsuc}
+use lib.Ieee.{Float, nan, fin, toBits, ofBits}
+use Rattle.big_endian.specs.Bytes.{valueOf, bytesOf}
+use Rattle.big_endian.specs.Fields.{fieldAt, floatAt}
+use Rattle.wire.specs.Frames.{framesIn}
+use Rattle.wire.specs.Ears.{sampleBytes, earBytes}
+use Rattle.wire.specs.Line.{decimalBy, decimal, framesWord, unsettledWord, refusedWord, newline, framesLine, refusedLine}
+
+-- `frames 3 unsettled 2` and a newline
+three-frames : framesLine 3 2 ≡ 102 ∷ 114 ∷ 97 ∷ 109 ∷ 101 ∷ 115 ∷ 32 ∷ 51 ∷ 32 ∷ 117 ∷ 110 ∷ 115 ∷ 101 ∷ 116 ∷ 116 ∷ 108 ∷ 101 ∷ 100 ∷ 32 ∷ 50 ∷ 10 ∷ []
+unfolding framesLine framesWord unsettledWord newline decimal decimalBy
+three-frames = refl
+
+-- `frames 0 unsettled 0`
+no-frames : framesLine 0 0 ≡ 102 ∷ 114 ∷ 97 ∷ 109 ∷ 101 ∷ 115 ∷ 32 ∷ 48 ∷ 32 ∷ 117 ∷ 110 ∷ 115 ∷ 101 ∷ 116 ∷ 116 ∷ 108 ∷ 101 ∷ 100 ∷ 32 ∷ 48 ∷ 10 ∷ []
+unfolding framesLine framesWord unsettledWord newline decimal decimalBy
+no-frames = refl
+
+-- `refused 9`
+refused-nine : refusedLine 9 ≡ 114 ∷ 101 ∷ 102 ∷ 117 ∷ 115 ∷ 101 ∷ 100 ∷ 32 ∷ 57 ∷ 10 ∷ []
+unfolding refusedLine refusedWord newline decimal decimalBy
+refused-nine = refl
+
+-- no zero in front, none lost behind
+tens : decimal 1070 ≡ 49 ∷ 48 ∷ 55 ∷ 48 ∷ []
+unfolding decimal decimalBy
+tens = refl
+
+-- left 1.0 and right -0.5, then a NaN and 0.0
+ears-written : earBytes ((fin false 1 (pos 0) ∷ fin true 1 (negsuc 0) ∷ []) ∷ (nan ∷ fin false 0 (pos 0) ∷ []) ∷ [])
+    ≡ 0x3F ∷ 0x80 ∷ 0 ∷ 0 ∷ 0xBF ∷ 0 ∷ 0 ∷ 0 ∷ 0x7F ∷ 0xC0 ∷ 0 ∷ 0 ∷ 0 ∷ 0 ∷ 0 ∷ 0 ∷ []
+unfolding earBytes sampleBytes bytesOf toBits
+ears-written = refl

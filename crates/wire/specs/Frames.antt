@@ -1,0 +1,22 @@
+-- Document 01, item 10: "5.1 frames of six big-endian f32". Frame n stands in the 24 bytes from 24 n on, its channels in their order, four bytes each. Definitions only.
+use Prim.Native.Nat.{ℕ, _+_, _*_, _/_}
+use mathlib.Core.List.{List}
+use lib.ListN.{length, drop}
+use lib.Ieee.{Float}
+use Rattle.big_endian.specs.Fields.{floatAt}
+use Rattle.planes.specs.Tables.{tab}
+
+abbrev pub frameIn : List ℕ → ℕ → List Float
+frameIn bytes n = tab 0 6 (λ c. floatAt bytes (n * 24 + c * 4))
+
+-- how many whole frames there are
+abbrev pub wholeIn : List ℕ → ℕ
+wholeIn bytes = length bytes / 24
+
+-- the whole frames, in the order of time
+abbrev pub framesIn : List ℕ → List (List Float)
+framesIn bytes = tab 0 (wholeIn bytes) (frameIn bytes)
+
+-- the bytes behind them, fewer than a frame has
+abbrev pub restIn : List ℕ → List ℕ
+restIn bytes = drop (wholeIn bytes * 24) bytes

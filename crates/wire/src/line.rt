@@ -1,0 +1,71 @@
+// The one line that is printed. It is put at the start of a list of 64 bytes or more, which has room for the
+// longest; a shorter list stays as it was, and the answer is 0.
+ghost use mathlib.Core.Path.{_≡_};
+ghost use Prim.Native.Nat.{_+_, _≤_};
+ghost use lib.ListN.{length};
+ghost use Rattle.wire.specs.Line.{decimal, framesLine, refusedLine};
+ghost use Rattle.wire.specs.Promises.{Put, Lined};
+
+// Puts a part from `at` on, and answers where it ends.
+fn put_part(out: &mut [u8], at: usize, part: &[u8]) -> usize
+    requires { ⌜ at + length (now part) ≤ length (now out) ⌝ }
+    ensures { λ r. ⌜ Put (now (out .entry)) at (now (part .entry)) r (now (out .exit)) ⌝ }
+{
+    let mut i = 0;
+    while i < part.len() {
+        out[at + i] = part[i];
+        i += 1;
+    }
+    at + part.len()
+}
+
+// Puts the digits of a number from `at` on, and answers where they end.
+fn put_number(out: &mut [u8], at: usize, n: u64) -> usize
+    requires { ⌜ at + 20 ≤ length (now out) ⌝ }
+    ensures digits { λ r. ⌜ Put (now (out .entry)) at (decimal n) r (now (out .exit)) ⌝ }
+    ensures room { λ r. ⌜ r ≤ at + 20 ⌝ }
+{
+    let mut digits = [0u8; 20];
+    let k = io::decimal(n, &mut digits);
+    put_part(out, at, &digits[..k])
+}
+
+fn put_frames(frames: u64, unsettled: u64, out: &mut [u8]) -> usize
+    requires { ⌜ 64 ≤ length (now out) ⌝ }
+    ensures { λ r. ⌜ Put (now (out .entry)) 0 (framesLine frames unsettled) r (now (out .exit)) ⌝ }
+{
+    let a = put_part(out, 0, b"frames ");
+    let b = put_number(out, a, frames);
+    let c = put_part(out, b, b" unsettled ");
+    let d = put_number(out, c, unsettled);
+    put_part(out, d, b"\n")
+}
+
+fn put_refused(refusal: u8, out: &mut [u8]) -> usize
+    requires { ⌜ 64 ≤ length (now out) ⌝ }
+    ensures { λ r. ⌜ Put (now (out .entry)) 0 (refusedLine refusal) r (now (out .exit)) ⌝ }
+{
+    let a = put_part(out, 0, b"refused ");
+    let b = put_number(out, a, refusal as u64);
+    put_part(out, b, b"\n")
+}
+
+// The line of a run: how many frames were played, and how many of them are unsettled. Answers its length.
+pub fn frames_line(frames: u64, unsettled: u64, out: &mut [u8]) -> usize
+    ensures { λ r. ⌜ Lined (now (out .entry)) (framesLine frames unsettled) r (now (out .exit)) ⌝ }
+{
+    if out.len() < 64 {
+        return 0;
+    }
+    put_frames(frames, unsettled, out)
+}
+
+// The line of a refusal. Answers its length.
+pub fn refused_line(refusal: u8, out: &mut [u8]) -> usize
+    ensures { λ r. ⌜ Lined (now (out .entry)) (refusedLine refusal) r (now (out .exit)) ⌝ }
+{
+    if out.len() < 64 {
+        return 0;
+    }
+    put_refused(refusal, out)
+}
