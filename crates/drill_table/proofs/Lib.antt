@@ -1,0 +1,2 @@
+-- That the marked drill table holds.
+pub mod Table

@@ -1,0 +1,39 @@
+-- The marked drill table, all eleven: each example is shown in the crate that it is about. Assumes nothing.
+use Rattle.numbers.proofs.Drill.{root-four, root-two, tie-down, tie-up}
+use Rattle.harmonics.proofs.Drill.{drill-1, drill-1-floats, drill-2, drill-2-floats, drill-3, drill-3-floats}
+use Rattle.stereo.proofs.Drill.{left-at-minus-100, right-at-minus-100, left-at-250, right-at-250, at-minus-100, at-250}
+use Rattle.surround.proofs.Drill.{silent-at-120, centre, left-and-right, halves}
+use Rattle.history.proofs.Drill.{drill-8, drill-9, drill-9-heard}
+use Rattle.row_choice.proofs.Drill.{drill-tie}
+use Rattle.bank.proofs.Drill.{oneRow, itsBytes, drill-written, drill-read, drill-cut}
+use Rattle.drill_table.specs.Table.{DrillTable}
+
+pub drill-table : DrillTable
+unfolding oneRow itsBytes
+drill-table = record {
+  item-1 = drill-1;
+  item-1-given = drill-1-floats;
+  item-2 = drill-2;
+  item-2-given = drill-2-floats;
+  item-3 = drill-3;
+  item-3-given = drill-3-floats;
+  item-4-left = (left-at-minus-100, right-at-minus-100);
+  item-4-right = (left-at-250, right-at-250);
+  item-4-left-given = at-minus-100;
+  item-4-right-given = at-250;
+  item-5-at-120 = silent-at-120;
+  item-5-centre = centre;
+  item-5-equal = left-and-right;
+  item-5-halves = halves;
+  item-6-four = root-four;
+  item-6-two = root-two;
+  item-7-down = tie-down;
+  item-7-up = tie-up;
+  item-8 = drill-8;
+  item-9 = drill-9;
+  item-9-heard = drill-9-heard;
+  item-10 = λ rest six r. drill-tie rest six r;
+  item-11-written = λ buffer e w. drill-written buffer w e;
+  item-11-read = λ zs xs z x o. drill-read zs xs z x o;
+  item-11-cut = λ zs xs z x o. drill-cut zs xs z x o;
+}

@@ -1,0 +1,2 @@
+-- The marked drill table.
+pub mod Table
