@@ -10,6 +10,11 @@ ghost use Prim.Native.Nat.{_+_, _≤_};
 ghost use lib.ListN.{length};
 
 mod angles_requests;
+mod bank_requests;
+mod blocks_requests;
+mod gains_requests;
+mod hrtf_requests;
+mod lists;
 mod numbers_requests;
 
 // What is wrong with a request that no operation answers.
@@ -58,6 +63,19 @@ fn put_answer(operation: u8, args: &[u8], out: &mut [u8]) -> usize {
         3 => numbers_requests::root(args, out),
         4 => angles_requests::sine(args, out),
         5 => angles_requests::cosine(args, out),
+        6 => bank_requests::read(args, out),
+        7 => bank_requests::write(args, out),
+        8 => bank_requests::nearest_row(args, out),
+        9 => gains_requests::rows(args, out),
+        10 => gains_requests::harmonics(args, out),
+        11 => gains_requests::weighted(args, out),
+        12 => gains_requests::stereo(args, out),
+        13 => gains_requests::surround(args, out),
+        14 => blocks_requests::pan(args, out),
+        15 => gains_requests::decoder_matrix(args, out),
+        16 => blocks_requests::decode(args, out),
+        17 => hrtf_requests::process(args, out),
+        18 => hrtf_requests::reset(args, out),
         _ => UNKNOWN,
     }
 }

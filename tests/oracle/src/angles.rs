@@ -38,7 +38,7 @@ fn angles(random: &mut Random, count: usize) -> Vec<f64> {
 
 /// The answer to an angle: a refusal and 0.0, or 0 and a value near the defined one; at a multiple of 90 the exact value.
 fn judge(d: f64, defined: Option<Exact>, operation: u8, answer: &Answer) -> Verdict {
-    let wrong = |why: String| Verdict { wrong: Some(format!("{why}, at {d:e}: {} {}", answer.operation, hex(&answer.bytes))), error: None };
+    let wrong = |why: String| Verdict { wrong: Some(format!("{why}, at {d:e}: {} {}", answer.operation, hex(&answer.bytes))), ..Verdict::default() };
     if answer.operation != operation || answer.bytes.len() != 9 {
         return wrong("no such answer".to_string());
     }
@@ -56,7 +56,7 @@ fn judge(d: f64, defined: Option<Exact>, operation: u8, answer: &Answer) -> Verd
     if !error.within(ANGLE_BITS) {
         return wrong(format!("off by 2^{:.2}", error.log2()));
     }
-    Verdict { wrong: None, error: Some(error.log2()) }
+    Verdict { error: Some(error.log2()), ..Verdict::default() }
 }
 
 fn cases(random: &mut Random, count: usize, operation: u8, defined: fn(&Exact) -> Exact) -> Vec<Case> {

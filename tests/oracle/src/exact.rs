@@ -104,7 +104,7 @@ impl Exact {
         Exact { negative: n < 0, limbs: shift_up(&trim(vec![m as u32, (m >> 32) as u32]), PLACES) }
     }
 
-    /// Cut to 2^-320 where it has digits below that.
+    /// Cut to 2^-320 where it has digits below that, but never to zero: a tiny angle has a side.
     pub fn float(x: f64) -> Self {
         assert!(x.is_finite());
         let bits = x.to_bits();
@@ -113,7 +113,8 @@ impl Exact {
         let limbs = trim(vec![digits as u32, (digits >> 32) as u32]);
         // The value is digits * 2^(max(field, 1) - 1075).
         let up = field.max(1) + PLACES;
-        let limbs = if up >= 1075 { shift_up(&limbs, up - 1075) } else { shift_down(&limbs, 1075 - up) };
+        let cut = if up >= 1075 { shift_up(&limbs, up - 1075) } else { shift_down(&limbs, 1075 - up) };
+        let limbs = if cut.is_empty() && digits > 0 { vec![1] } else { cut };
         Exact { negative: bits >> 63 == 1, limbs }
     }
 

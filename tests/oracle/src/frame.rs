@@ -1,11 +1,13 @@
 //! Requests and answers as bytes: an operation, four bytes of length, and what follows, big-endian.
+use std::io::Read;
 
-/// What is wrong with an answer, if anything, and how far it is from the exact number, as a power of two,
-/// where it is held to one.
+/// What is wrong with an answer, if anything; how far it is from the exact number, as a power of two, where it is held
+/// to one; and how many of its planes are right and not the Rust's, a difference that docs/DIFFERENCES.md lists.
 #[derive(Default)]
 pub struct Verdict {
     pub wrong: Option<String>,
     pub error: Option<f64>,
+    pub aside: usize,
 }
 
 /// A request, and the judge of an answer to it.
@@ -31,23 +33,19 @@ pub fn exactly(request: Vec<u8>, operation: u8, bytes: Vec<u8>) -> Case {
     let judge = move |answer: &Answer| {
         let right = answer.operation == operation && answer.bytes == bytes;
         let wrong = (!right).then(|| format!("expected {operation} {}, got {} {}", hex(&bytes), answer.operation, hex(&answer.bytes)));
-        Verdict { wrong, error: None }
+        Verdict { wrong, ..Verdict::default() }
     };
     Case { request, judge: Box::new(judge) }
 }
 
-/// Takes the next answer off the front.
-pub fn take(rest: &mut &[u8]) -> Option<Answer> {
-    if rest.len() < 5 {
-        return None;
-    }
-    let length = u32::from_be_bytes(rest[1..5].try_into().unwrap()) as usize;
-    if rest.len() - 5 < length {
-        return None;
-    }
-    let answer = Answer { operation: rest[0], bytes: rest[5..5 + length].to_vec() };
-    *rest = &rest[5 + length..];
-    Some(answer)
+/// Takes the next answer off the front, if there is a whole one.
+pub fn take(answers: &mut impl Read) -> Option<Answer> {
+    let mut head = [0; 5];
+    answers.read_exact(&mut head).ok()?;
+    let length = u32::from_be_bytes(head[1..].try_into().unwrap());
+    let mut bytes = Vec::new();
+    answers.take(u64::from(length)).read_to_end(&mut bytes).ok()?;
+    (bytes.len() as u64 == u64::from(length)).then_some(Answer { operation: head[0], bytes })
 }
 
 /// The bytes of a float, every NaN as one.

@@ -3,12 +3,21 @@
 //!
 //!     oracle requests N SEED > requests     N requests of each kind, the same for the same SEED
 //!     oracle judge N SEED < answers         says which answers to them are wrong, and counts
+//!     oracle differences                    says what the Rust does where document 01 asks for something else
 mod angles;
+mod bank;
+mod blocks;
+mod convolver;
+mod differences;
 mod exact;
 mod frame;
+mod gains;
 mod malformed;
 mod numbers;
+mod panner;
 mod random;
+mod rows;
+mod rust;
 
 use frame::{Case, Verdict};
 use random::Random;
@@ -28,6 +37,19 @@ const KINDS: &[Kind] = &[
     Kind { name: "root", make: numbers::root },
     Kind { name: "sine", make: angles::sine },
     Kind { name: "cosine", make: angles::cosine },
+    Kind { name: "bank read", make: bank::reading },
+    Kind { name: "bank write", make: bank::writing },
+    Kind { name: "row choice", make: bank::choosing },
+    Kind { name: "rows", make: rows::cases },
+    Kind { name: "harmonics", make: gains::coefficients },
+    Kind { name: "weighted coefficients", make: gains::weighted },
+    Kind { name: "stereo gains", make: gains::stereo },
+    Kind { name: "surround gains", make: gains::surround },
+    Kind { name: "panner block", make: panner::cases },
+    Kind { name: "decoder matrix", make: gains::decoder_matrix },
+    Kind { name: "decoder block", make: blocks::decode },
+    Kind { name: "convolver block", make: convolver::process },
+    Kind { name: "convolver reset", make: convolver::reset },
     Kind { name: "malformed", make: malformed::inside },
 ];
 
@@ -37,17 +59,17 @@ struct Tally {
     all: usize,
     wrong: usize,
     worst: Option<f64>,
+    aside: usize,
 }
 
-/// All cases, each with the name of its kind. A request that the input ends in can only stand last.
-fn cases(count: usize, seed: u64) -> Vec<(&'static str, Case)> {
-    let mut all = Vec::new();
-    for kind in KINDS {
-        let mut random = Random::new(seed, kind.name);
-        all.extend((kind.make)(&mut random, count).into_iter().map(|c| (kind.name, c)));
-    }
-    all.push(("malformed", malformed::at_the_end()));
-    all
+/// All cases, each with the name of its kind; a kind's are made when the kind before is done with. A request that
+/// the input ends in can only stand last.
+fn cases(count: usize, seed: u64) -> impl Iterator<Item = (&'static str, Case)> {
+    let of_a_kind = move |kind: &Kind| {
+        let name = kind.name;
+        (kind.make)(&mut Random::new(seed, name), count).into_iter().map(move |c| (name, c))
+    };
+    KINDS.iter().flat_map(of_a_kind).chain([("malformed", malformed::at_the_end())])
 }
 
 fn requests(count: usize, seed: u64) -> io::Result<()> {
@@ -59,17 +81,16 @@ fn requests(count: usize, seed: u64) -> io::Result<()> {
 }
 
 fn judge(count: usize, seed: u64) -> io::Result<bool> {
-    let mut answers = Vec::new();
-    io::stdin().lock().read_to_end(&mut answers)?;
-    let mut rest = &answers[..];
+    let mut answers = io::BufReader::new(io::stdin().lock());
     let mut tally: BTreeMap<&str, Tally> = BTreeMap::new();
     for (name, case) in cases(count, seed) {
         let entry = tally.entry(name).or_default();
         entry.all += 1;
-        let verdict = match frame::take(&mut rest) {
+        let verdict = match frame::take(&mut answers) {
             Some(answer) => (case.judge)(&answer),
-            None => Verdict { wrong: Some("no answer".to_string()), error: None },
+            None => Verdict { wrong: Some("no answer".to_string()), ..Verdict::default() },
         };
+        entry.aside += verdict.aside;
         entry.worst = entry.worst.into_iter().chain(verdict.error).reduce(f64::max);
         if let Some(wrong) = verdict.wrong {
             entry.wrong += 1;
@@ -78,13 +99,16 @@ fn judge(count: usize, seed: u64) -> io::Result<bool> {
             }
         }
     }
+    let mut rest = Vec::new();
+    answers.read_to_end(&mut rest)?;
     let mut right = rest.is_empty();
     if !right {
         println!("{} bytes after the last answer", rest.len());
     }
     for (name, entry) in &tally {
         let worst = entry.worst.map(|e| format!(", at most 2^{e:.2} from the exact number")).unwrap_or_default();
-        println!("{name}: {} requests, {} differ{worst}", entry.all, entry.wrong);
+        let aside = if entry.aside > 0 { format!(", {} planes right and not the Rust's", entry.aside) } else { String::new() };
+        println!("{name}: {} requests, {} differ{worst}{aside}", entry.all, entry.wrong);
         right &= entry.wrong == 0;
     }
     Ok(right)
@@ -92,12 +116,16 @@ fn judge(count: usize, seed: u64) -> io::Result<bool> {
 
 fn main() -> ExitCode {
     let words: Vec<String> = std::env::args().skip(1).collect();
+    if words == ["differences"] {
+        differences::print();
+        return ExitCode::SUCCESS;
+    }
     let numbers = || Some((words.get(1)?.parse().ok()?, words.get(2)?.parse().ok()?));
     let done = match (words.first().map(String::as_str), numbers()) {
         (Some("requests"), Some((count, seed))) => requests(count, seed).map(|()| true),
         (Some("judge"), Some((count, seed))) => judge(count, seed),
         _ => {
-            eprintln!("usage: oracle requests N SEED > requests; oracle judge N SEED < answers");
+            eprintln!("usage: oracle requests N SEED > requests; oracle judge N SEED < answers; oracle differences");
             return ExitCode::from(2);
         }
     };

@@ -7,23 +7,39 @@ const WRONG_LENGTH: u8 = 2;
 const TOO_LONG: u8 = 3;
 const ENDS_INSIDE: u8 = 4;
 
-/// The operations, with the length of the arguments that each takes.
-const FIXED: &[(u8, usize)] = &[(1, 4), (2, 8), (3, 8), (4, 8), (5, 8)];
+/// The operations whose arguments have one length, with that length.
+const FIXED: &[(u8, usize)] = &[(1, 4), (2, 8), (3, 8), (4, 8), (5, 8), (10, 24), (11, 24), (12, 8), (13, 17)];
+
+/// The operations whose arguments hold lists, with arguments that are cut or too long for what they say of themselves.
+const LISTED: &[(u8, &[&[u8]])] = &[
+    (6, &[&[], &[8, 0, 0, 0]]),
+    (7, &[&[], &[0; 12], &[0; 14], &[1, 0, 0, 0, 0, 0, 0, 0, 0, 0, 0, 0, 0, 0], &[0, 0, 1, 0, 0, 0, 0, 0, 0, 0, 0, 0, 0, 0, 0]]),
+    (8, &[&[], &[0; 10], &[0; 12], &[1, 0, 0, 0, 0, 0, 0, 0, 0, 0, 0, 0]]),
+    (9, &[&[], &[0; 9], &[0; 11], &[0, 1, 0, 0, 0, 0, 0, 0, 0, 1]]),
+    (14, &[&[], &[0; 53], &[0; 55]]),
+    (15, &[&[], &[0; 18], &[0; 20]]),
+    (16, &[&[], &[0; 37], &[0; 39]]),
+    (17, &[&[], &[0; 137], &[0; 139]]),
+    (18, &[&[], &[0; 33], &[0; 35]]),
+];
 
 const LONGEST: usize = 65536;
 
 pub fn inside(random: &mut Random, count: usize) -> Vec<Case> {
     let mut all = Vec::new();
     for operation in 0..=255u8 {
-        if FIXED.iter().all(|(known, _)| *known != operation) {
+        if FIXED.iter().all(|(known, _)| *known != operation) && LISTED.iter().all(|(known, _)| *known != operation) {
             let length = random.below(20) as usize;
             all.push(exactly(request(operation, &vec![0; length]), 0, vec![NO_SUCH_OPERATION]));
         }
     }
     for (operation, right) in FIXED {
-        for length in (0..20).filter(|n| n != right) {
+        for length in (0..28).filter(|n| n != right) {
             all.push(exactly(request(*operation, &vec![0x3f; length]), 0, vec![WRONG_LENGTH]));
         }
+    }
+    for (operation, wrong) in LISTED {
+        all.extend(wrong.iter().map(|arguments| exactly(request(*operation, arguments), 0, vec![WRONG_LENGTH])));
     }
     // The longest arguments that are read whole, and longer ones, which are read past.
     all.push(exactly(request(1, &vec![0; LONGEST]), 0, vec![WRONG_LENGTH]));

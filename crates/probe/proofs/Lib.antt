@@ -1,0 +1,2 @@
+-- The laws of `probe`.
+pub mod Kept

@@ -1,0 +1,3 @@
+pub mod ambisonic_decoder;
+pub mod binaural_decoder;
+pub mod panner;

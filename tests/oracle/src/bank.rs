@@ -1,0 +1,417 @@
+//! The filter bank file and row choice, against a reader, a writer and a choice that are written here from
+//! document 01, 'Filter bank file', alone. They share no shape with the port: the reader takes a file apart from
+//! the front and forms a bank, and the writer asks the reader whether what it has made is a bank.
+use crate::frame::{exactly, request, Case};
+use crate::random::Random;
+
+const READ: u8 = 6;
+const WRITE: u8 = 7;
+const NEAREST_ROW: u8 = 8;
+
+const AZIMUTHS: usize = 8;
+const TAPS: usize = 8192;
+
+/// "Other lengths are 5", "Every breach, in reading or writing, is 9".
+const LENGTH: u8 = 5;
+const BREACH: u8 = 9;
+
+#[derive(Clone)]
+struct Bank {
+    azimuths: Vec<i16>,
+    length: usize,
+    taps: Vec<u32>,
+}
+
+// ---- the form of a file
+
+/// Takes so many bytes off the front, as one number.
+fn take(rest: &mut &[u8], count: usize) -> Option<u32> {
+    let (front, back) = rest.split_at_checked(count)?;
+    *rest = back;
+    Some(front.iter().fold(0, |n, b| n << 8 | u32::from(*b)))
+}
+
+/// The bank that a file holds, if it keeps the form.
+fn bank_of(file: &[u8]) -> Option<Bank> {
+    let mut rest = file;
+    let version = take(&mut rest, 1)?;
+    let following = take(&mut rest, 4)? as usize;
+    if version != 1 || following != rest.len() {
+        return None;
+    }
+    let rows = take(&mut rest, 2)? as usize;
+    let length = take(&mut rest, 2)? as usize;
+    if !(1..=8).contains(&rows) || !(1..=512).contains(&length) {
+        return None;
+    }
+    let mut bank = Bank { azimuths: Vec::new(), length, taps: Vec::new() };
+    for _ in 0..rows {
+        let azimuth = take(&mut rest, 2)? as u16 as i16;
+        if !(-1799..=1800).contains(&azimuth) || bank.azimuths.contains(&azimuth) {
+            return None;
+        }
+        bank.azimuths.push(azimuth);
+        for _ in 0..2 * length {
+            let tap = take(&mut rest, 4)?;
+            if !f32::from_bits(tap).is_finite() {
+                return None;
+            }
+            bank.taps.push(tap);
+        }
+    }
+    rest.is_empty().then_some(bank)
+}
+
+/// The bytes of a bank, whatever it holds; numbers that have no room lose their upper digits.
+fn file_of(bank: &Bank) -> Vec<u8> {
+    let mut rows = Vec::new();
+    for (i, azimuth) in bank.azimuths.iter().enumerate() {
+        rows.extend(azimuth.to_be_bytes());
+        for tap in &bank.taps[2 * bank.length * i..2 * bank.length * (i + 1)] {
+            rows.extend(tap.to_be_bytes());
+        }
+    }
+    let mut file = vec![1];
+    file.extend((4 + rows.len() as u32).to_be_bytes());
+    file.extend((bank.azimuths.len() as u16).to_be_bytes());
+    file.extend((bank.length as u16).to_be_bytes());
+    file.extend(rows);
+    file
+}
+
+// ---- requests and what is right
+
+/// What `probe` fills a lent list with before the call: entry i is 1000 + i, byte i the last byte of 7 i + 3.
+fn filled_azimuths(count: usize) -> Vec<i16> {
+    (0..count).map(|i| 1000 + i as i16).collect()
+}
+
+fn filled_taps(count: usize) -> Vec<u32> {
+    (0..count).map(|i| (1000.0 + i as f32).to_bits()).collect()
+}
+
+fn filled_bytes(count: usize) -> Vec<u8> {
+    (0..count).map(|i| (7 * i + 3) as u8).collect()
+}
+
+/// Reads a file into lists of so many azimuths and taps, of which the first `shown` taps are handed back.
+fn read(file: &[u8], azimuths: usize, taps: usize, shown: usize) -> Case {
+    let mut arguments = vec![azimuths as u8];
+    arguments.extend((taps as u16).to_be_bytes());
+    arguments.extend((shown as u16).to_be_bytes());
+    arguments.extend(file);
+    let shown = shown.min(taps);
+    let (mut lent_azimuths, mut lent_taps) = (filled_azimuths(azimuths), filled_taps(taps));
+    let (refusal, rows, length) = match bank_of(file) {
+        _ if azimuths != AZIMUTHS || taps != TAPS => (LENGTH, 0, 0),
+        None => (BREACH, 0, 0),
+        Some(bank) => {
+            lent_azimuths[..bank.azimuths.len()].copy_from_slice(&bank.azimuths);
+            lent_taps[..bank.taps.len()].copy_from_slice(&bank.taps);
+            (0, bank.azimuths.len(), bank.length)
+        }
+    };
+    let changed = lent_taps.iter().zip(filled_taps(taps)).skip(shown).filter(|(tap, before)| *tap != before).count();
+    let mut answer = vec![refusal];
+    answer.extend((rows as u32).to_be_bytes());
+    answer.extend((length as u32).to_be_bytes());
+    answer.extend((changed as u16).to_be_bytes());
+    answer.extend(lent_azimuths.iter().flat_map(|a| a.to_be_bytes()));
+    answer.extend(lent_taps[..shown].iter().flat_map(|t| t.to_be_bytes()));
+    exactly(request(READ, &arguments), READ, answer)
+}
+
+/// Reads a file into lists of the right lengths, and shows the taps of the bank it came from, and one more.
+fn read_damaged(file: &[u8], taps: usize) -> Case {
+    read(file, AZIMUTHS, TAPS, taps + 1)
+}
+
+/// Writes into a buffer of so many bytes. The lengths of the bank need not agree with each other.
+fn write(bank: &Bank, length: u64, bytes: usize) -> Case {
+    let rows = bank.azimuths.len();
+    let mut arguments = vec![rows as u8];
+    arguments.extend((bank.taps.len() as u16).to_be_bytes());
+    arguments.extend((bytes as u16).to_be_bytes());
+    arguments.extend(length.to_be_bytes());
+    arguments.extend(bank.azimuths.iter().flat_map(|a| a.to_be_bytes()));
+    arguments.extend(bank.taps.iter().flat_map(|t| t.to_be_bytes()));
+    let (rows, taps, wide) = (rows as u128, bank.taps.len() as u128, u128::from(length));
+    let fits = taps == 2 * rows * wide && bytes as u128 == 9 + rows * (2 + 8 * wide);
+    // With no rows every L agrees, and one that has no room in the file cannot be laid out; it is a breach.
+    let (refusal, file) = if !fits {
+        (LENGTH, filled_bytes(bytes))
+    } else {
+        let made = (length <= 512).then(|| file_of(&Bank { length: length as usize, ..bank.clone() })).filter(|made| bank_of(made).is_some());
+        made.map_or((BREACH, filled_bytes(bytes)), |made| (0, made))
+    };
+    let mut answer = vec![refusal];
+    answer.extend((if refusal == 0 { bytes as u32 } else { 0 }).to_be_bytes());
+    answer.extend(file);
+    exactly(request(WRITE, &arguments), WRITE, answer)
+}
+
+/// Writes a bank into a buffer of the length that its file has.
+fn write_fitting(bank: &Bank) -> Case {
+    write(bank, bank.length as u64, 9 + bank.azimuths.len() * (2 + 8 * bank.length))
+}
+
+/// "the one nearest it by the difference modulo 3600, the shorter way round; on a tie the earlier row"
+fn nearest(azimuths: &[i16], rows: u64, speaker: i16) -> Case {
+    let mut arguments = vec![azimuths.len() as u8];
+    arguments.extend(rows.to_be_bytes());
+    arguments.extend(speaker.to_be_bytes());
+    arguments.extend(azimuths.iter().flat_map(|a| a.to_be_bytes()));
+    let away = |azimuth: i16| {
+        let d = (i32::from(azimuth) - i32::from(speaker)).rem_euclid(3600);
+        d.min(3600 - d)
+    };
+    let (refusal, row) = if !(1..=8).contains(&rows) {
+        (2, 0)
+    } else if !(-1800..=1800).contains(&speaker) {
+        (3, 0)
+    } else if azimuths.len() != AZIMUTHS {
+        (LENGTH, 0)
+    } else {
+        // The first of the least ones.
+        (0, (0..rows as usize).min_by_key(|i| away(azimuths[*i])).unwrap())
+    };
+    let mut answer = vec![refusal];
+    answer.extend((row as u32).to_be_bytes());
+    exactly(request(NEAREST_ROW, &arguments), NEAREST_ROW, answer)
+}
+
+// ---- banks to try
+
+/// A finite tap of any size and sign, or a kind that is easy to get wrong.
+fn tap(random: &mut Random) -> u32 {
+    let bits = random.bits() as u32;
+    match random.below(16) {
+        0 => bits & 0x8000_0000,
+        1 => bits & 0x807f_ffff,
+        2 => bits & 0x8000_0000 | 0x7f7f_ffff,
+        _ if bits & 0x7f80_0000 == 0x7f80_0000 => bits & 0xbfff_ffff,
+        _ => bits,
+    }
+}
+
+fn bank(random: &mut Random, rows: usize, length: usize) -> Bank {
+    let mut azimuths = Vec::new();
+    while azimuths.len() < rows {
+        let azimuth = match random.below(8) {
+            0 => 1800,
+            1 => -1799,
+            _ => random.below(3600) as i16 - 1799,
+        };
+        if !azimuths.contains(&azimuth) {
+            azimuths.push(azimuth);
+        }
+    }
+    Bank { azimuths, length, taps: (0..2 * rows * length).map(|_| tap(random)).collect() }
+}
+
+/// Rows 1 to 8 and L 1 to 512, more often small than large.
+fn any_bank(random: &mut Random) -> Bank {
+    let rows = 1 + random.below(8) as usize;
+    let length = 1 + (random.below(512) >> random.below(10)) as usize;
+    bank(random, rows, length)
+}
+
+/// The file that document 01 prints.
+const EXAMPLE: [u8; 19] = [1, 0, 0, 0, 0x0e, 0, 1, 0, 1, 0, 0, 0x3f, 0x80, 0, 0, 0x3f, 0, 0, 0];
+
+/// Patterns that are no numbers.
+const NOT_FINITE: [u32; 6] = [0x7f80_0000, 0xff80_0000, 0x7f80_0001, 0x7fc0_0000, 0xffff_ffff, 0xffbf_ffff];
+
+/// Every truncation of a file, a byte more, and every byte of it changed: in `ways` ways, or in all 255.
+fn damages(file: &[u8], taps: usize, ways: &mut dyn FnMut() -> Vec<u8>) -> Vec<Case> {
+    let mut all: Vec<Case> = (0..file.len()).map(|n| read_damaged(&file[..n], taps)).collect();
+    all.extend([0, 1, 0xff].map(|b| read_damaged(&[file, &[b]].concat(), taps)));
+    for i in 0..file.len() {
+        for off in ways() {
+            let mut damaged = file.to_vec();
+            damaged[i] ^= off;
+            all.push(read_damaged(&damaged, taps));
+        }
+    }
+    all
+}
+
+/// A file of these fields, which need not agree.
+fn laid_out(version: u8, following: u32, rows: u16, length: u16, behind: &[u8]) -> Vec<u8> {
+    let mut file = vec![version];
+    file.extend(following.to_be_bytes());
+    file.extend(rows.to_be_bytes());
+    file.extend(length.to_be_bytes());
+    file.extend(behind);
+    file
+}
+
+/// Files with the largest and smallest counts, and with counts just outside, the length always that of the file.
+fn ends(random: &mut Random) -> Vec<Case> {
+    let mut all = Vec::new();
+    for (rows, length) in [(1, 1), (8, 1), (1, 512), (2, 511)] {
+        let bank = bank(random, rows, length);
+        all.push(read(&file_of(&bank), AZIMUTHS, TAPS, bank.taps.len() + 3));
+        all.push(write_fitting(&bank));
+    }
+    for (rows, length) in [(0u16, 1u16), (9, 1), (1, 0), (1, 513), (0, 0), (8, 0), (0xffff, 1), (1, 0xffff), (0x100, 1), (1, 0x100)] {
+        let behind = vec![0; (rows as usize * (2 + 8 * length as usize)).min(5000)];
+        all.push(read_damaged(&laid_out(1, 4 + behind.len() as u32, rows, length, &behind), 8));
+    }
+    all
+}
+
+/// The largest file, a byte more with the length as it was, and with the length grown too; a byte less.
+fn largest(random: &mut Random, count: usize) -> Vec<Case> {
+    let bank = bank(random, 8, 512);
+    let file = file_of(&bank);
+    let grown = laid_out(1, file.len() as u32 - 4, 8, 512, &[&file[9..], &[0]].concat());
+    let mut repeated = file.clone();
+    let last = 9 + 7 * (2 + 8 * 512);
+    repeated.copy_within(9..11, last);
+    let mut infinite = file.clone();
+    let end = file.len() - 4;
+    infinite[end..].copy_from_slice(&0x7f80_0000u32.to_be_bytes());
+    let mut all = vec![read(&file, AZIMUTHS, TAPS, TAPS), write_fitting(&bank)];
+    let damaged = [[&file[..], &[0]].concat(), grown, file[..file.len() - 1].to_vec(), repeated, infinite];
+    all.extend(damaged.iter().take(if count < 1000 { 2 } else { 5 }).map(|f| read_damaged(f, 8)));
+    all
+}
+
+/// Each tap that is no number, at the first, the last and a middle place, read and written.
+fn taps_that_are_no_numbers(random: &mut Random) -> Vec<Case> {
+    let mut all = Vec::new();
+    for bits in NOT_FINITE {
+        for place in [0, 5, 11] {
+            let mut bank = bank(random, 2, 3);
+            bank.taps[place] = bits;
+            all.push(read_damaged(&file_of(&bank), bank.taps.len()));
+            all.push(write_fitting(&bank));
+        }
+    }
+    all
+}
+
+/// Azimuths at and outside both ends, and repeated ones, read and written.
+fn azimuths_at_the_ends(random: &mut Random) -> Vec<Case> {
+    let mut all = Vec::new();
+    for azimuth in [-32768, -1801, -1800, -1799, 0, 1800, 1801, 3600, 32767] {
+        for place in 0..3 {
+            let mut bank = bank(random, 3, 1);
+            bank.azimuths[place] = azimuth;
+            all.push(read_damaged(&file_of(&bank), bank.taps.len()));
+            all.push(write_fitting(&bank));
+        }
+    }
+    for (i, j) in (0..8).flat_map(|j| (0..j).map(move |i| (i, j))) {
+        let mut bank = bank(random, 8, 1);
+        bank.azimuths[j] = bank.azimuths[i];
+        all.push(read_damaged(&file_of(&bank), bank.taps.len()));
+        all.push(write_fitting(&bank));
+    }
+    all
+}
+
+pub fn reading(random: &mut Random, count: usize) -> Vec<Case> {
+    let mut all = vec![read(&EXAMPLE, AZIMUTHS, TAPS, 4), read(&EXAMPLE[..18], AZIMUTHS, TAPS, 4), read(&[], AZIMUTHS, TAPS, 4)];
+    // Lent lists of other lengths, with a file that is good and with one that is not.
+    for (azimuths, taps) in [(7, TAPS), (9, TAPS), (0, TAPS), (16, TAPS), (8, 0), (8, 2), (8, TAPS - 1), (8, TAPS + 1), (7, TAPS - 1), (8, 8200)] {
+        all.extend([&EXAMPLE[..], &EXAMPLE[..18]].map(|file| read(file, azimuths, taps, 4)));
+    }
+    all.extend(damages(&EXAMPLE, 2, &mut || if count < 1000 { vec![1, 0x80, 0xff] } else { (1..=255).collect() }));
+    let small = bank(random, 3, 2);
+    all.extend(damages(&file_of(&small), small.taps.len(), &mut || if count < 1000 { vec![1 << random.below(8)] } else { (1..=255).collect() }));
+    all.extend(ends(random));
+    all.extend(taps_that_are_no_numbers(random));
+    all.extend(azimuths_at_the_ends(random));
+    for _ in 0..1 + count / 1000 {
+        all.extend(largest(random, count));
+    }
+    for _ in 0..count / 4 {
+        let bank = any_bank(random);
+        let mut file = file_of(&bank);
+        if count < 1000 && file.len() > 500 {
+            continue;
+        }
+        all.push(read(&file, AZIMUTHS, TAPS, bank.taps.len() + 2));
+        let place = random.below(file.len() as u64) as usize;
+        file[place] ^= 1 << random.below(8);
+        all.push(read_damaged(&file, bank.taps.len()));
+    }
+    all
+}
+
+pub fn writing(random: &mut Random, count: usize) -> Vec<Case> {
+    let example = Bank { azimuths: vec![0], length: 1, taps: vec![0x3f80_0000, 0x3f00_0000] };
+    let mut all = vec![write_fitting(&example)];
+    // Lengths that do not fit: of the taps, of the buffer, of L, one at a time and all together.
+    for bytes in [0, 1, 8, 9, 10, 18, 20, 27, 32793, 33000] {
+        all.push(write(&example, 1, bytes));
+    }
+    for length in [0, 2, 512, 513, 1 << 32, 1 << 61, 1 << 62, (1 << 63) + 1, u64::MAX] {
+        all.push(write(&example, length, 19));
+    }
+    for taps in [0, 1, 3, 4] {
+        all.push(write(&Bank { taps: vec![0; taps], ..example.clone() }, 1, 19));
+    }
+    // Lengths that agree with each other, of banks that have too few rows or taps, or too many.
+    for (rows, length) in [(0u64, 0u64), (0, 1), (0, 513), (0, u64::MAX), (1, 0), (8, 0), (9, 0), (16, 0), (9, 1), (16, 1), (1, 513), (2, 600), (4, 1025)] {
+        let taps = if rows == 0 { 0 } else { 2 * rows * length };
+        let bank = Bank { azimuths: (0..rows as i16).collect(), length: length as usize, taps: (0..taps).map(|_| tap(random)).collect() };
+        let bytes = 9 + if rows == 0 { 0 } else { rows * (2 + 8 * length) };
+        all.push(write(&bank, length, bytes as usize));
+        all.push(write(&bank, length, bytes as usize + 1));
+    }
+    for _ in 0..count / 4 {
+        let mut bank = any_bank(random);
+        if count < 1000 && bank.taps.len() > 120 {
+            continue;
+        }
+        all.push(write_fitting(&bank));
+        let place = random.below(bank.taps.len() as u64) as usize;
+        bank.taps[place] = random.bits() as u32 | 0x7f80_0000 * (random.below(2) as u32);
+        all.push(write_fitting(&bank));
+        let row = random.below(bank.azimuths.len() as u64) as usize;
+        bank.azimuths[row] = random.bits() as i16 >> random.below(6);
+        all.push(write_fitting(&bank));
+    }
+    all
+}
+
+pub fn choosing(random: &mut Random, count: usize) -> Vec<Case> {
+    let mut all = Vec::new();
+    // Document 01's tenth drill item, and every pair of azimuths with a speaker midway between them, both ways round.
+    all.push(nearest(&[0, 450, 0, 0, 0, 0, 0, 0], 2, 225));
+    let set = [-1800, -1799, -1350, -900, -450, -300, -1, 0, 1, 300, 450, 900, 1100, 1350, 1799, 1800, 32767, -32768];
+    for a in set {
+        for b in set {
+            let middle = ((i32::from(a) + i32::from(b)).div_euclid(2)).rem_euclid(3600);
+            for (speaker, other) in [(middle, false), (middle + 1800, false), (middle + 1, true), (middle - 1, true)] {
+                let speaker = (speaker + 1800).rem_euclid(3600) - 1800;
+                if other && count < 1000 {
+                    continue;
+                }
+                all.push(nearest(&[a, b, a, b, 7, 7, 7, 7], 2 + random.below(3), speaker as i16));
+            }
+        }
+    }
+    // Each count of rows, and those that are none.
+    for rows in [0, 1, 2, 3, 4, 5, 6, 7, 8, 9, 1 << 32, 1 << 63, u64::MAX] {
+        for speaker in [-1801, -1800, 0, 1800, 1801] {
+            for lent in [0, 7, 8, 9, 16] {
+                all.push(nearest(&[1700, -1700, 900, -900, 450, -450, 10, -10, 0, 0, 0, 0, 0, 0, 0, 0][..lent], rows, speaker));
+            }
+        }
+    }
+    for speaker in [i16::MIN, -32767, -1802, 1802, i16::MAX] {
+        all.push(nearest(&[0; 8], 8, speaker));
+    }
+    for _ in 0..count {
+        // Few steps between azimuths, so that ties are common.
+        let step = [1, 50, 225, 450][random.below(4) as usize];
+        let azimuths: Vec<i16> = (0..8).map(|_| ((random.below(3601) as i16 - 1800) / step) * step).collect();
+        let speaker = ((random.below(3601) as i16 - 1800) / step) * step;
+        all.push(nearest(&azimuths, 1 + random.below(8), speaker));
+    }
+    all
+}

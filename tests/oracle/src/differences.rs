@@ -1,0 +1,148 @@
+//! What the Rust itself does where document 01 asks for something else, each with its smallest input: run, and said in
+//! a line. tests/differences compares the lines with tests/differences.expected; docs/DIFFERENCES.md says what
+//! document 01 and the port do there.
+use crate::rust::{decode, decoder_matrix, gains, pan, weighted, Command, Convolver, Speaker};
+use bbx_dsp::blocks::effectors::binaural_decoder::hrtf::HrtfConvolver;
+use bbx_dsp::blocks::effectors::binaural_decoder::matrix::compute_matrix;
+use bbx_dsp::channel::ChannelLayout;
+use std::panic::{catch_unwind, UnwindSafe};
+
+use Command::{Ambisonic, Stereo, Surround};
+
+/// What a run gives, or that it panics.
+fn tried<T>(what: impl FnOnce() -> T + UnwindSafe, say: impl FnOnce(T) -> String) -> String {
+    catch_unwind(what).map_or_else(|_| "panics".to_string(), say)
+}
+
+fn values(list: &[f64]) -> String {
+    list.iter().map(|x| value(*x)).collect::<Vec<_>>().join(" ")
+}
+
+/// A number, to a few places: what is said here holds on every machine.
+fn value(x: f64) -> String {
+    if x == 0.0 || (1e-3..1e6).contains(&x.abs()) || !x.is_finite() { format!("{:.4}", x + 0.0) } else { format!("{x:.1e}") }
+}
+
+fn say(what: &str, then: String) {
+    println!("{what}: {then}");
+}
+
+fn orders() {
+    for order in [0, 4] {
+        say(&format!("panner, order {order} at (30, 20)"), tried(move || gains(Ambisonic(order, 30.0, 20.0)), |g| format!("{} channels, {}", g.len(), if g == gains(Ambisonic(1, 30.0, 20.0)) { "those of order 1" } else { "others than of order 1" })));
+        say(&format!("virtual speaker, order {order} at (30, 20)"), tried(move || weighted(order, 30.0, 20.0), |w| format!("accepted, {} coefficients are not 0", w.iter().filter(|x| **x != 0.0).count())));
+        say(&format!("decoder matrix, order {order}, stereo"), tried(move || decoder_matrix(order, ChannelLayout::Stereo), |_| "accepted".to_string()));
+        say(&format!("binaural rows, order {order}"), tried(move || compute_matrix(order), |_| "accepted".to_string()));
+    }
+}
+
+fn layouts() {
+    for layout in [ChannelLayout::Mono, ChannelLayout::Stereo, ChannelLayout::Custom(0), ChannelLayout::Custom(3), ChannelLayout::Custom(16), ChannelLayout::Custom(17)] {
+        say(&format!("surround panner, {layout:?} at 30"), tried(move || pan(Surround(layout, 30.0), &[1.0f64], vec![vec![9.0]; layout.channel_count()]).concat(), |g| format!("plays, {}", if g.is_empty() { "no channel".to_string() } else { values(&g[..g.len().min(4)]) })));
+        say(&format!("decoder matrix, order 1, {layout:?}"), tried(move || decoder_matrix(1, layout), |m| format!("{} rows", m.len())));
+    }
+    say("convolver for 5 surround channels", tried(|| HrtfConvolver::new_surround(5), |_| "accepted".to_string()));
+}
+
+fn angles() {
+    for position in [100.0, 250.0, f64::INFINITY, f64::NEG_INFINITY, f64::NAN] {
+        say(&format!("stereo at {position}, f64"), values(&gains(Stereo(position))));
+        say(&format!("stereo at {position}, f32"), values(&pan(Stereo(position), &[1.0f32], vec![vec![0.0]; 2]).concat().iter().map(|x| f64::from(*x)).collect::<Vec<_>>()));
+    }
+    say("order 1 at (90, 0)", values(&gains(Ambisonic(1, 90.0, 0.0))));
+    say("order 1 at (0, 90)", values(&gains(Ambisonic(1, 0.0, 90.0))));
+    say("order 1 at (NaN, 0)", values(&gains(Ambisonic(1, f64::NAN, 0.0))));
+    say("order 1 at (450, 100)", values(&gains(Ambisonic(1, 450.0, 100.0))));
+    say("order 1 at (infinity, 0)", values(&gains(Ambisonic(1, f64::INFINITY, 0.0))));
+    say("5.1 at 0", values(&gains(Surround(ChannelLayout::Surround51, 0.0))));
+    say("5.1 at NaN", values(&gains(Surround(ChannelLayout::Surround51, f64::NAN))));
+    say("5.1 at 400", values(&gains(Surround(ChannelLayout::Surround51, 400.0))));
+    say("5.1 at infinity", values(&gains(Surround(ChannelLayout::Surround51, f64::INFINITY))));
+    // The command is narrowed, and one within the smallest step of 0 is taken for 0.
+    let channel_1 = |x: f64| pan(Ambisonic(1, x, 0.0), &[1.0f32], vec![vec![0.0]; 4])[1][0];
+    say("order 1 at (0.1, 0), f32, channel 1 as that at the f32 nearest 0.1", (channel_1(0.1) == gains(Ambisonic(1, f64::from(0.1f32), 0.0))[1] as f32).to_string());
+    say("order 1 at (1e-7, 0), f32, channel 1", value(f64::from(channel_1(1e-7))));
+    say("order 1 at (1e-16, 0), f64, channel 1", value(gains(Ambisonic(1, 1e-16, 0.0))[1]));
+}
+
+/// The speakers of a layout, without the LFE.
+fn speakers(layout: ChannelLayout) -> Vec<(usize, i32)> {
+    let all: &[i32] = if layout == ChannelLayout::Surround51 { &[30, -30, 0, 0, 110, -110] } else { &[30, -30, 0, 0, 90, -90, 150, -150] };
+    all.iter().copied().enumerate().filter(|(i, _)| *i != 3).collect()
+}
+
+/// Azimuths next to 90 degrees from a speaker, where the Rust rounds radians: which it takes for the wrong side.
+fn ninety_from_a_speaker() {
+    let (mut wrong, mut farthest, mut first) = (0, 0.0f64, None);
+    for layout in [ChannelLayout::Surround51, ChannelLayout::Surround71] {
+        for (channel, speaker) in speakers(layout) {
+            // Both azimuths that are 90 away, as whole numbers from -180 to 180; a turn more or less is no other place.
+            for end in [speaker - 90, speaker + 90].map(|e| (e + 180).rem_euclid(360) - 180) {
+                for steps in -40i64..=40 {
+                    let azimuth = if end == 0 { steps as f64 * 2f64.powi(-47) } else { f64::from_bits((f64::from(end).to_bits() as i64 + steps) as u64) };
+                    if !(-180.0..=180.0).contains(&azimuth) {
+                        continue;
+                    }
+                    // Near the end, the side is told by comparing with the whole number.
+                    let is_after = azimuth > f64::from(end);
+                    let is_before = azimuth < f64::from(end);
+                    let opens_above = (end + 90 - speaker).rem_euclid(360) == 0;
+                    let near = if opens_above { is_after } else { is_before };
+                    let sounds = gains(Surround(layout, azimuth))[channel] > 0.0;
+                    if near != sounds {
+                        wrong += 1;
+                        farthest = farthest.max((azimuth - f64::from(end)).abs());
+                        first.get_or_insert(format!("{layout:?}, channel {channel}, azimuth {azimuth:?}: {}", if sounds { "sounds, and is 90 away or more" } else { "is silent, and is less than 90 away" }));
+                    }
+                }
+            }
+        }
+    }
+    say("azimuths next to 90 from a speaker that are misjudged", format!("{wrong}, the farthest {} degrees off, the first {}", value(farthest), first.unwrap_or_default()));
+}
+
+fn blocks() {
+    let long = pan(Stereo(-100.0), &vec![1.0f32; 4097], vec![vec![9.0; 4097]; 2]);
+    say("panner, 4,097 frames of 1.0 at -100 over 9.0", format!("frame 4095 is {}, frame 4096 is {}", long[0][4095], long[0][4096]));
+    let short = pan(Stereo(-100.0), &[1.0f32; 3], vec![vec![9.0; 2], vec![9.0; 2]]);
+    say("panner, 3 frames into planes of 2", format!("plays {}", short[0].iter().filter(|x| **x == 1.0).count()));
+    let short = decode(&[&[1.0]], &[vec![1.0; 3]], vec![vec![9.0; 2]]);
+    say("decoder, 3 frames into planes of 2", format!("plays {}", short[0].iter().filter(|x| **x == 1.0).count()));
+    for weight in [f64::NAN, f64::INFINITY] {
+        say(&format!("decoder, weight {weight}, sample 1.0"), value(f64::from(decode(&[&[weight]], &[vec![1.0]], vec![vec![9.0]])[0][0])));
+    }
+}
+
+/// One frame of 1.0 on one channel through speakers of weight 1.0 and one tap a place.
+fn one_frame(count: usize, length: usize, weight: f64, tap: f32) -> impl FnOnce() -> f32 + UnwindSafe {
+    move || {
+        let speaker = Speaker { weights: vec![weight], left: vec![tap; length], right: vec![tap; length] };
+        let mut convolver = Convolver::new(&vec![speaker; count.min(8)], count, length);
+        convolver.process(&[vec![1.0]], [vec![9.0], vec![9.0]])[0][0]
+    }
+}
+
+fn convolver() {
+    let show = |what: &str, count, length, weight, tap| say(what, tried(one_frame(count, length, weight, tap), |x| format!("left {}", value(f64::from(x)))));
+    show("convolver, L 0", 1, 0, 1.0, 1.0);
+    show("convolver, L 513", 1, 513, 1.0, 1.0);
+    show("convolver, 9 speakers", 9, 1, 1.0, 1.0);
+    show("convolver, 0 speakers", 0, 1, 1.0, 1.0);
+    show("convolver, weight NaN", 1, 1, f64::NAN, 1.0);
+    show("convolver, weight infinity", 1, 1, f64::INFINITY, 1.0);
+    show("convolver, tap NaN", 1, 1, 1.0, f32::NAN);
+    show("convolver, tap infinity", 1, 1, 1.0, f32::INFINITY);
+    let short = Convolver::new(&[Speaker { weights: vec![1.0], left: vec![1.0], right: vec![1.0] }], 1, 1).process(&[vec![1.0; 3]], [vec![9.0; 3], vec![9.0; 2]]);
+    say("convolver, 3 frames into a left ear of 3 and a right ear of 2", format!("left {:?}", short[0]));
+}
+
+pub fn print() {
+    // A panic is a finding here, and its message is not.
+    std::panic::set_hook(Box::new(|_| ()));
+    orders();
+    layouts();
+    angles();
+    ninety_from_a_speaker();
+    blocks();
+    convolver();
+}

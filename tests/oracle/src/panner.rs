@@ -1,0 +1,257 @@
+//! Panner blocks. A plane's gain is read off its first sample, since the first input sample is 1.0: it is held to document
+//! 01's formula, narrowed, and every other sample to the f32 product with it. At commands that are exact in f32 the Rust's
+//! own block at S = f32 is compared too, plane by plane; planes whose gain it narrows to another f32 are counted.
+use crate::exact::{self, Exact};
+use crate::frame::{f32_bytes, hex, request, Answer, Case, Verdict};
+use crate::gains::{harmonics, raw_gains, square, Layout};
+use crate::random::Random;
+use crate::rust;
+
+const PAN: u8 = 14;
+
+/// Document 01, 'Gains', for a position, an azimuth, a direction.
+const BITS: [i32; 3] = [36, 30, 34];
+
+/// A command as a request says it.
+#[derive(Clone, Copy)]
+enum Command {
+    Stereo(f64),
+    Surround(f64),
+    Direction(f64, f64, u64),
+}
+
+/// The square of the exact gain of a plane, as a fraction, and its sign; or silence.
+struct Gain {
+    over: Exact,
+    under: Exact,
+    negative: bool,
+    silent: bool,
+}
+
+fn gain(x: Exact) -> Gain {
+    Gain { negative: x.is_negative(), over: square(x), under: Exact::whole(1), silent: false }
+}
+
+struct Block {
+    command: Command,
+    layout: Layout,
+    frames: u64,
+    stride: u64,
+    input: Vec<f32>,
+    planes: Vec<f32>,
+}
+
+impl Block {
+    /// Refusals 1, 2, 3, of which the first that the command has.
+    fn refused_command(&self) -> Option<u8> {
+        let bad_layout = self.layout.channels().is_none();
+        match self.command {
+            Command::Stereo(_) if bad_layout => Some(2),
+            Command::Stereo(p) => (!p.is_finite()).then_some(3),
+            Command::Surround(_) if self.layout.0 != 2 && self.layout.0 != 3 => Some(2),
+            Command::Surround(a) => (!(-180.0..=180.0).contains(&a)).then_some(3),
+            Command::Direction(_, _, order) if !(1..=3).contains(&order) => Some(1),
+            Command::Direction(..) if bad_layout => Some(2),
+            Command::Direction(a, e, _) => (!(-180.0..=180.0).contains(&a) || !(-90.0..=90.0).contains(&e)).then_some(3),
+        }
+    }
+
+    fn plane_count(&self) -> usize {
+        match self.command {
+            Command::Stereo(_) => 2,
+            Command::Surround(_) => self.layout.channels().unwrap_or(0),
+            Command::Direction(_, _, order) => ((order & 3) as usize + 1).pow(2),
+        }
+    }
+
+    /// And 5, 6.
+    fn refusal(&self) -> u8 {
+        let is = |list: usize, planes: usize| planes as u128 * u128::from(self.stride) == list as u128;
+        if let Some(refusal) = self.refused_command() {
+            refusal
+        } else if self.stride < self.frames || !is(self.input.len(), 1) || !is(self.planes.len(), self.plane_count()) {
+            5
+        } else if self.frames > 4096 {
+            6
+        } else {
+            0
+        }
+    }
+
+    /// The exact gains of the planes of an accepted command.
+    fn gains(&self) -> Vec<Gain> {
+        match self.command {
+            Command::Stereo(p) => {
+                let angle = ((Exact::float(p.clamp(-100.0, 100.0)) + Exact::whole(100)) * Exact::whole(90)).over(200);
+                vec![gain(exact::cosine(&angle)), gain(exact::sine(&angle))]
+            }
+            Command::Surround(a) => {
+                let raw = raw_gains(self.layout, a);
+                let sum = raw.iter().flatten().fold(Exact::whole(0), |sum, g| sum + square(g.clone()));
+                raw.into_iter().map(|g| Gain { silent: g.is_none(), negative: false, over: square(g.unwrap_or(Exact::whole(0))), under: sum.clone() }).collect()
+            }
+            Command::Direction(a, e, _) => harmonics(a, e).into_iter().take(self.plane_count()).map(gain).collect(),
+        }
+    }
+
+    /// What the Rust's own block gives, at a command that is exact in f32.
+    fn by_the_rust(&self) -> Option<Vec<Vec<f32>>> {
+        let is_exact = |x: f64| f64::from(x as f32) == x;
+        let command = match self.command {
+            Command::Stereo(p) => is_exact(p).then_some(rust::Command::Stereo(p)),
+            Command::Surround(a) => is_exact(a).then_some(rust::Command::Surround(self.layout.rust(), a)),
+            Command::Direction(a, e, order) => (is_exact(a) && is_exact(e)).then_some(rust::Command::Ambisonic(order as usize, a, e)),
+        }?;
+        let frames = self.frames as usize;
+        Some(rust::pan(command, &self.input[..frames], vec![vec![0.0; frames]; self.plane_count()]))
+    }
+
+    fn arguments(&self) -> Vec<u8> {
+        let mut bytes: Vec<u8> = [self.input.len(), self.planes.len()].iter().flat_map(|n| (*n as u16).to_be_bytes()).collect();
+        let (which, angle, elevation, order) = match self.command {
+            Command::Stereo(p) => (0u8, p, 0.0f64, 0u64),
+            Command::Surround(a) => (1, a, 0.0, 0),
+            Command::Direction(a, e, order) => (2, a, e, order),
+        };
+        bytes.push(which);
+        bytes.extend([angle.to_bits(), elevation.to_bits(), order].iter().flat_map(|n| n.to_be_bytes()));
+        bytes.extend(self.layout.bytes());
+        bytes.extend([self.frames, self.stride].iter().flat_map(|n| n.to_be_bytes()));
+        bytes.extend(self.input.iter().chain(&self.planes).flat_map(|x| x.to_bits().to_be_bytes()));
+        bytes
+    }
+
+    fn case(self) -> Case {
+        Case { request: request(PAN, &self.arguments()), judge: Box::new(move |answer| self.judge(answer).unwrap_or_else(|why| Verdict { wrong: Some(format!("{why}: {} {}", answer.operation, hex(&answer.bytes))), ..Verdict::default() })) }
+    }
+
+    fn judge(&self, answer: &Answer) -> Result<Verdict, String> {
+        let refusal = self.refusal();
+        if answer.operation != PAN || answer.bytes.len() != 9 + 4 * self.planes.len() {
+            return Err("no such answer".to_string());
+        }
+        let samples = if refusal == 0 { self.frames } else { 0 };
+        if answer.bytes[0] != refusal || answer.bytes[1..9] != samples.to_be_bytes() {
+            return Err(format!("expected refusal {refusal} and {samples} samples"));
+        }
+        let after: Vec<[u8; 4]> = answer.bytes[9..].chunks(4).map(|b| b.try_into().unwrap()).collect();
+        let (frames, stride) = (samples as usize, self.stride as usize);
+        let played = |i: usize| frames > 0 && i % stride < frames;
+        if (0..after.len()).any(|i| !played(i) && after[i] != f32_bytes(self.planes[i])) {
+            return Err("a sample that is not played has changed".to_string());
+        }
+        if frames == 0 {
+            return Ok(Verdict::default());
+        }
+        let rust = self.by_the_rust();
+        let mut aside = 0;
+        for (p, exact) in self.gains().into_iter().enumerate() {
+            let plane = &after[p * stride..p * stride + frames];
+            let narrowed = f32::from_bits(u32::from_be_bytes(plane[0]));
+            self.judge_gain(narrowed, &exact).map_err(|why| format!("plane {p}, gain {narrowed:e}, {why}"))?;
+            if plane.iter().zip(&self.input).any(|(y, x)| *y != f32_bytes(x * narrowed)) {
+                return Err(format!("plane {p} is not the product with its gain"));
+            }
+            let same = rust.as_ref().is_none_or(|r| plane.iter().zip(&r[p]).all(|(y, x)| *y == f32_bytes(*x)));
+            aside += usize::from(!same);
+        }
+        Ok(Verdict { aside, ..Verdict::default() })
+    }
+
+    /// A narrowed gain: within the bound and half a step of the exact one.
+    fn judge_gain(&self, narrowed: f32, exact: &Gain) -> Result<(), String> {
+        if exact.silent {
+            return if narrowed.to_bits() == 0 { Ok(()) } else { Err("not silent".to_string()) };
+        }
+        let bits = match self.command {
+            Command::Stereo(_) => BITS[0],
+            Command::Surround(_) => BITS[1],
+            Command::Direction(..) => BITS[2],
+        };
+        if !narrowed.is_finite() {
+            return Err("no number".to_string());
+        }
+        let size = Exact::float(f64::from(narrowed.abs()));
+        let bound = Exact::float(2f64.powi(-bits) + f64::from(narrowed.abs()) * 2f64.powi(-24) + 2f64.powi(-149));
+        let low = if bound.at_most(&size) { size.clone() - bound.clone() } else { Exact::whole(0) };
+        let near = (square(low) * exact.under.clone()).at_most(&exact.over) && exact.over.at_most(&(square(size + bound.clone()) * exact.under.clone()));
+        let has_sign = !exact.over.at_most(&(square(bound) * exact.under.clone()));
+        if near && (!has_sign || narrowed.is_sign_negative() == exact.negative) { Ok(()) } else { Err("off".to_string()) }
+    }
+}
+
+/// A block whose lengths fit. Its first input sample is 1.0.
+fn fitting(random: &mut Random, command: Command, layout: Layout, frames: usize, stride: usize) -> Block {
+    let mut block = Block { command, layout, frames: frames as u64, stride: stride as u64, input: Vec::new(), planes: Vec::new() };
+    let mut sample = || if random.below(4) == 0 { f32::from_bits(random.bits() as u32) } else { f32::from_bits(random.bits() as u32 & 0x807f_ffff | (100 + random.below(40) as u32) << 23) };
+    block.input = (0..stride).map(|_| sample()).collect();
+    if stride > 0 {
+        block.input[0] = 1.0;
+    }
+    block.planes = (0..block.plane_count() * stride).map(|_| sample()).collect();
+    block
+}
+
+/// A command of one kind; every second one exact in f32.
+fn command(random: &mut Random, kind: u64) -> (Command, Layout) {
+    let part = (random.bits() >> 11) as f64 / (1u64 << 53) as f64;
+    let other = (random.bits() >> 11) as f64 / (1u64 << 53) as f64;
+    let cut = random.below(2) == 0;
+    let exact = |x: f64| if cut { f64::from(x as f32) } else { x };
+    let any = Layout(random.below(4) as u8, 0);
+    match kind {
+        0 => (Command::Stereo(exact(part * 220.0 - 110.0)), any),
+        1 => (Command::Surround(exact(part * 360.0 - 180.0)), Layout(2 + random.below(2) as u8, 0)),
+        _ => (Command::Direction(exact(part * 360.0 - 180.0), exact(other * 180.0 - 90.0), 1 + random.below(3)), any),
+    }
+}
+
+fn refused(random: &mut Random) -> Vec<Case> {
+    let mut all = Vec::new();
+    let commands = [Command::Stereo(10.0), Command::Stereo(f64::NAN), Command::Stereo(f64::INFINITY), Command::Surround(20.0), Command::Surround(181.0), Command::Surround(f64::NAN), Command::Direction(1.0, 2.0, 1), Command::Direction(1.0, 2.0, 0), Command::Direction(1.0, 2.0, 4), Command::Direction(181.0, 0.0, 1), Command::Direction(0.0, 91.0, 4), Command::Direction(0.0, f64::NAN, 2)];
+    for command in commands {
+        for layout in [Layout(0, 0), Layout(1, 0), Layout(2, 0), Layout(3, 0), Layout(4, 0), Layout(4, 6), Layout(4, 17)] {
+            all.push(fitting(random, command, layout, 1, 2).case());
+        }
+    }
+    let changes: [&dyn Fn(&mut Block); 9] = [&|b| b.stride = 1, &|b| b.frames = 4, &|b| b.frames = u64::MAX, &|b| b.stride = 1 << 62, &|b| b.stride = (1 << 63) + 3, &|b| _ = b.input.pop(), &|b| _ = b.planes.pop(), &|b| b.input.push(1.0), &|b| b.planes.push(1.0)];
+    for change in changes {
+        for kind in 0..3 {
+            let (command, layout) = command(random, kind);
+            let mut block = fitting(random, command, layout, 2, 3);
+            change(&mut block);
+            all.push(block.case());
+        }
+    }
+    all
+}
+
+pub fn cases(random: &mut Random, count: usize) -> Vec<Case> {
+    let mut all = refused(random);
+    // The longest block and one frame more; with a length that does not fit, 5 comes before 6.
+    for frames in [4096, 4097] {
+        let layout = Layout(1, 0);
+        if count >= 1000 || frames == 4097 {
+            all.push(fitting(random, Command::Stereo(-30.0), layout, frames, frames).case());
+        }
+    }
+    let mut unfit = fitting(random, Command::Stereo(0.0), Layout(1, 0), 2, 3);
+    unfit.frames = 4097;
+    all.push(unfit.case());
+    for position in [-100.0, 0.0, 100.0, 250.0, -250.0, f64::MAX] {
+        all.push(fitting(random, Command::Stereo(position), Layout(1, 0), 2, 2).case());
+    }
+    for azimuth in [-180.0, -120.0, -90.0, 0.0, 60.0, 90.0, 120.0, 119.99999999999999, 180.0] {
+        all.extend([Layout(2, 0), Layout(3, 0)].map(|layout| fitting(random, Command::Surround(azimuth), layout, 2, 2).case()));
+        all.push(fitting(random, Command::Direction(azimuth, azimuth / 2.0, 3), Layout(0, 0), 2, 2).case());
+    }
+    for kind in 0..3 {
+        for _ in 0..(if count < 1000 { count / 20 } else { count / 2 }) {
+            let (command, layout) = command(random, kind);
+            let frames = random.below(5) as usize;
+            let stride = frames + random.below(3) as usize;
+            all.push(fitting(random, command, layout, frames, stride).case());
+        }
+    }
+    all
+}
