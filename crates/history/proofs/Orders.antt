@@ -1,14 +1,16 @@
--- The order of each sum tells: on worked numbers 1, 2^60 and -2^60 the document's order gives 0.0, where the other way round gives 1.0. And a signal is narrowed: 1 + 2^-24 is no f32. By computing the
+-- The order of each sum tells: on worked numbers 1, 2^60 and -2^60 the document's order gives 0.0, where the other way round gives 1.0. And a signal is narrowed: 1 + 2^-24 is no f32; and the sum is times 1.0/root(speakers), which is not the same as divided by the root. By computing the
 -- definitions. Assumes nothing.
 use mathlib.Core.Path.{_≡_, refl}
-use mathlib.Core.Bool.{true, false}
+use mathlib.Core.Bool.{true, false, cond}
 use mathlib.Core.List.{List, [], _∷_, reverse}
 use lib.IntN.{pos, negsuc}
-use lib.Ieee.{Float, fin, add, mul, sum, round, size, span, climb, units, odd}
-use Rattle.numbers.specs.Computed.{zero-float, rounded}
+use lib.Dec.{eqb}
+use lib.Ieee.{Float, fin, binary64, add, mul, div, sum, round, size, span, climb, units, odd}
+use Rattle.numbers.specs.Computed.{zero-float, rounded, narrowed, rootOf, rootUnits, wholeRoot, rootIn}
 use Rattle.planes.specs.Sums.{dot, total, mixed}
 use Rattle.history.specs.Setup.{Setup, tapsOf}
-use Rattle.history.specs.History.{window, part}
+use Rattle.planes.specs.Normalization.{asFloat, inverseRoot}
+use Rattle.history.specs.History.{window, part, earOf}
 use Rattle.history.proofs.Drill.{one}
 
 -- 1, 2^60, -2^60
@@ -58,3 +60,16 @@ speakers-falling = refl
 narrowed-signal : mixed (one ∷ fin false 1 (negsuc 23) ∷ []) (one ∷ one ∷ []) ≡ one
 unfolding mixed rounded add mul sum round size span climb units odd
 narrowed-signal = refl
+
+-- ---- times 1.0/root(speakers): two speakers, of which one sounds. Divided by the root it would be the next f32
+
+sounding : Float
+sounding = fin false 0x197BB9E0258965 (negsuc 51)
+
+times-the-inverse : earOf 2 (λ s. cond (eqb s 0) sounding zero-float) ≡ fin false 0x2409F1 (negsuc 20)
+unfolding sounding earOf inverseRoot asFloat rootOf rootUnits wholeRoot rootIn rounded add mul div sum round size span climb units odd
+times-the-inverse = refl
+
+divided-by-the-root : narrowed (div binary64 sounding (rootOf binary64 (asFloat 2))) ≡ fin false 0x9027C5 (negsuc 22)
+unfolding sounding asFloat rootOf rootUnits wholeRoot rootIn rounded div sum round size span climb units odd
+divided-by-the-root = refl
