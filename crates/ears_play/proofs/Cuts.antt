@@ -1,29 +1,33 @@
 -- The same output however the input is cut: turns over parts of any sizes give what the bytes give that come at once. And a turn of the program is such a turn. Assumes nothing.
 use mathlib.Core.Path.{_≡_, refl, sym, ap, _∙_, subst}
+use mathlib.Core.Bool.{false}
 use mathlib.Core.List.{List, [], _∷_, _++_, append-nil, append-assoc}
-use Prim.Native.Nat.{ℕ, _+_, _*_, _≤_}
+use Prim.Native.Nat.{ℕ, _+_, _*_, _≤_, _<_}
 use native.Mathlib.Omega.{arith}
-use lib.ListN.{length, take, drop, length-append, length-drop}
+use lib.ListN.{length, take, drop, replicate, length-append, length-drop}
 use lib.Seq.{take-at}
 use lib.Ieee.{Float}
 use Rattle.big_endian.specs.Placed.{placed}
 use Rattle.big_endian.proofs.Placed.{placed-start}
-use Rattle.planes.proofs.Tables.{length-tab}
+use Rattle.numbers.specs.Computed.{zero-float}
+use Rattle.planes.specs.Tables.{unsound}
 use Rattle.history.specs.Setup.{Setup}
 use Rattle.history.specs.History.{heard, unsettledIn, after}
 use Rattle.history.proofs.Pieces.{heard-append, unsettled-append}
 use Rattle.rings.specs.Represents.{Represents}
+use Rattle.rings.proofs.Told.{fresh-represents}
 use Rattle.hrtf_checks.specs.Refusals.{refusalOf}
 use Rattle.hrtf.specs.Promise.{Outcome, outcome}
 use Rattle.hrtf.proofs.Promised.{outcome-by}
-use Rattle.wire.specs.Frames.{frameIn, wholeIn, framesIn, restIn}
+use Rattle.wire.specs.Frames.{wholeIn, framesIn, restIn}
 use Rattle.wire.specs.Ears.{earBytes}
 use Rattle.wire.proofs.Ears.{ears-append}
 use Rattle.wire.proofs.Cut.{cut-frames, cut-rest}
 use Rattle.ears_play.specs.declared.Progress.{Progress}
 use Rattle.ears_play.specs.declared.Turn.{Turn}
 use Rattle.ears_play.specs.Counting.{countedOn}
-use Rattle.ears_play.specs.Turns.{Fixed, Lent, setupIn, come, stateIn, callIn, Turned, turnPlayed, turnBy, turnOf, Told, Plays}
+use Rattle.ears_play.specs.Ending.{atStart}
+use Rattle.ears_play.specs.Turns.{Fixed, Lent, setupIn, come, stateIn, callIn, Turned, turnPlayed, turnBy, Told, Plays}
 use Rattle.ears_play.specs.Runs.{So, atOnce, turned, inParts, joined, Stands, Steps}
 
 -- ---- parts
@@ -75,6 +79,15 @@ pub cut-alike : (u : Setup) (parts others : List (List ℕ)) → joined parts �
 cut-alike u parts others e = however-cut u parts ∙ ap (atOnce u) e ∙ sym (however-cut u others)
 
 -- ---- a turn of the program
+
+-- before the first byte: silence in every ring
+pub start-stands : (x : Fixed) (l : Lent) → 0 < x .shape .length → unsound (x .weights) ≡ false → l .rings ≡ replicate (x .shape .speakers * x .shape .length) zero-float
+    → Stands x (atOnce (setupIn x) []) atStart l
+start-stands x l h w e =
+    record {
+      history = subst (λ (rs : List Float). Represents (setupIn x) [] (record { rings = rs; desk = record { position = 0; «to_go» = 0 } })) (sym e) (fresh-represents (setupIn x) h w);
+      keeps = refl;
+    }
 
 module _ (x : Fixed) (s : So) (part : List ℕ) (p : Progress) (size : ℕ) (l : Lent) (r : Turn) (left : Lent)
     (stood : Stands x s p l) (comes : come size l ≡ s .held ++ part) (plays : Plays x p size l r left)

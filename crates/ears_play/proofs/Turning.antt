@@ -1,17 +1,14 @@
 -- From what `wire` and `hrtf` promise to what a turn promises. Assumes nothing.
 use mathlib.Core.Path.{_≡_, refl, sym, ap, _∙_, subst}
-use mathlib.Core.Bool.{Bool}
 use mathlib.Core.List.{List, [], _∷_}
-use Prim.Native.Nat.{ℕ, zero, suc, _+_, _-_, _*_, _/_, _≤_, _<_, min}
-use native.Mathlib.Nat.{sub-zero, zero-sub, suc-sub-suc, zero-add, not-suc-le-zero, le-of-suc-le-suc}
+use Prim.Native.Nat.{ℕ, zero, suc, _-_, _*_, _≤_, _<_, min}
+use native.Mathlib.Nat.{sub-zero, zero-sub, suc-sub-suc, not-suc-le-zero, le-of-suc-le-suc}
 use native.Mathlib.Omega.{arith}
-use borrow.Author.Tests.{ltb-false}
 use lib.Dec.{ltb}
 use lib.ListN.{length, getD, take, drop, length-drop, length-take}
 use lib.Ieee.{Float}
 use Rattle.big_endian.specs.Placed.{placed}
-use Rattle.planes.specs.Planes.{unfit, frameAt, framesOf, withFrames}
-use Rattle.planes.specs.Tables.{tab}
+use Rattle.planes.specs.Planes.{unfit, framesOf, withFrames}
 use Rattle.planes.proofs.Lists.{take-min}
 use Rattle.planes.proofs.Tables.{length-tab, getD-tab}
 use Rattle.planes.proofs.Planes.{length-with-frames}
@@ -24,7 +21,7 @@ use Rattle.rings.specs.Represents.{Represents}
 use Rattle.hrtf_checks.specs.Call.{Call}
 use Rattle.hrtf_checks.specs.Refusals.{refusalOf}
 use Rattle.hrtf_checks.proofs.Refusing.{passed, ears-fit}
-use Rattle.hrtf.specs.Promise.{Outcome, outcome, Tells, Processes, stateAfter}
+use Rattle.hrtf.specs.Promise.{Outcome, Tells, Processes, stateAfter}
 use Rattle.hrtf.proofs.Promised.{outcome-by}
 use Rattle.runs.proofs.Reading.{frames-read}
 use Rattle.wire.specs.Frames.{frameIn, wholeIn, framesIn, restIn}
@@ -33,7 +30,7 @@ use Rattle.wire.specs.Promises.{roomFor, Taken, Given}
 use Rattle.ears_play.specs.declared.Progress.{Progress}
 use Rattle.ears_play.specs.declared.Turn.{Turn}
 use Rattle.ears_play.specs.Counting.{countedOn}
-use Rattle.ears_play.specs.Turns.{Fixed, Lent, setupIn, come, stateIn, planesIn, callIn, Turned, turnRefused, turnPlayed, turnBy, turnOf, Told, Plays}
+use Rattle.ears_play.specs.Turns.{Fixed, Lent, setupIn, come, stateIn, planesIn, callIn, Turned, turnPlayed, turnBy, turnOf, Told, Plays}
 
 -- ---- the bytes that are kept
 

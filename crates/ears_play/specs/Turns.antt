@@ -1,7 +1,7 @@
 -- One turn of the program: the bytes that have come are taken as whole frames, played, and their ears put out; the bytes of a frame that has not come whole are kept. Definitions only.
 -- The equation is over what `wire` and `hrtf` promise; what it is by document 01's words is in `Told`.
 use mathlib.Core.Path.{_≡_}
-use Prim.Native.Nat.{ℕ, zero, suc, _+_, _*_, _≤_}
+use Prim.Native.Nat.{ℕ, zero, suc, _*_, _≤_}
 use mathlib.Core.List.{List}
 use lib.ListN.{length, take}
 use lib.Ieee.{Float}

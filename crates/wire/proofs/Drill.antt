@@ -1,13 +1,10 @@
 -- Document 01, item 10, as worked examples: the lines that it prints, and a frame and its ears as bytes. Assumes nothing.
 use mathlib.Core.Path.{_≡_, refl}
 use mathlib.Core.Bool.{true, false}
-use mathlib.Core.List.{List, [], _∷_}
-use Prim.Native.Nat.{ℕ}
+use mathlib.Core.List.{[], _∷_}
 use lib.IntN.{pos, negsuc}
-use lib.Ieee.{Float, nan, fin, toBits, ofBits}
-use Rattle.big_endian.specs.Bytes.{valueOf, bytesOf}
-use Rattle.big_endian.specs.Fields.{fieldAt, floatAt}
-use Rattle.wire.specs.Frames.{framesIn}
+use lib.Ieee.{nan, fin, toBits}
+use Rattle.big_endian.specs.Bytes.{bytesOf}
 use Rattle.wire.specs.Ears.{sampleBytes, earBytes}
 use Rattle.wire.specs.Line.{decimalBy, decimal, framesWord, unsettledWord, refusedWord, newline, framesLine, refusedLine}
 

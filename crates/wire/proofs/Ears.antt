@@ -1,14 +1,14 @@
 -- The bytes of samples and of frames: how many there are, one frame more, and what two stores of four bytes leave. Assumes nothing.
 use mathlib.Core.Path.{_≡_, refl, sym, ap, _∙_}
 use mathlib.Core.List.{List, [], _∷_, _++_, append-nil, append-assoc}
-use Prim.Native.Nat.{ℕ, zero, suc, _+_, _*_, _≤_, _<_}
+use Prim.Native.Nat.{ℕ, zero, suc, _+_, _*_, _≤_}
 use native.Mathlib.Numerals.{add-one}
 use native.Mathlib.Omega.{arith}
 use lib.ListN.{length, length-append}
 use lib.Ieee.{Float, binary32, toBits}
 use Rattle.big_endian.specs.Bytes.{bytesOf}
 use Rattle.big_endian.specs.Placed.{placed}
-use Rattle.big_endian.specs.Fields.{withField, withFloat}
+use Rattle.big_endian.specs.Fields.{withFloat}
 use Rattle.big_endian.proofs.Bytes.{length-bytes}
 use Rattle.big_endian.proofs.Placed.{placed-none, placed-on, length-placed}
 use Rattle.big_endian.proofs.Fields.{written-lies}

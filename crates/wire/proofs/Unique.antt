@@ -1,10 +1,9 @@
 -- No two answers meet one promise. Assumes nothing.
-use mathlib.Core.Path.{_≡_, sym, _∙_}
+use mathlib.Core.Path.{_≡_}
 use mathlib.Core.List.{List}
 use Prim.Native.Nat.{ℕ}
 use lib.Ieee.{Float}
 use Rattle.refusals.proofs.Determined.{determined}
-use Rattle.wire.specs.Line.{framesLine, refusedLine}
 use Rattle.wire.specs.Promises.{Taken, Given, Lined}
 
 frames-from-bytes-unique : (bytes : List ℕ) (stride : ℕ) (inputs : List Float) (m n : ℕ) (a b : List Float) → Taken bytes stride inputs m a → Taken bytes stride inputs n b → (m ≡ n) × (a ≡ b)

@@ -1,6 +1,6 @@
 -- `wire::frames_from_bytes` meets its contract: `Framing`. Assumes nothing.
 use mathlib.Core.Path.{refl}
-use Prim.Native.Nat.{_-_, _*_, _/_}
+use Prim.Native.Nat.{_-_}
 use native.Mathlib.Omega.{arith}
 use denote.Ref.{now}
 use Rattle.planes.proofs.Framing.{Framing, framing-none, framing-more, framing-all}

@@ -8,7 +8,7 @@ use denote.Ref.{now}
 use lib.ListN.{length, take, getD, set, length-set}
 use lib.Seq.{take-suc, take-all, length-take-le}
 use Rattle.big_endian.specs.Placed.{placed}
-use Rattle.big_endian.proofs.Placed.{placed-none, store-on, length-placed}
+use Rattle.big_endian.proofs.Placed.{placed-none, store-on}
 use Rattle.wire.proofs.line.put_part.Statement.{statement}
 use Rattle.wire.proofs.line.put_part.Tie as tie
 
