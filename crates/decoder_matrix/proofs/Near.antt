@@ -1,4 +1,4 @@
--- Each weight of a matrix is within 2 ^ -38 of its formula, by squares: the harmonic is known by its promise, the root of n by the root's, and the rest is one expression. Every speaker's azimuth is one that
+-- Each weight of a matrix is as near its formula as is promised, by squares: the harmonic is known by its promise, the root of n by the root's, and the rest is one expression. Every speaker's azimuth is one that
 -- the harmonics take, by one test over the tables. Assumes nothing.
 use Prim.Native.Nat.{ℕ, zero, suc, _+_, _-_, _*_, _^_, _≤_, _<_, zero-le}
 use native.Mathlib.Nat.{not-suc-le-zero, le-of-suc-le-suc}

@@ -4,8 +4,8 @@
 //
 // `compute_decoder_matrix` takes any input. Its promise (specs/Promise.antt) is one equation for the
 // refusal and the list, and beside it says of each weight that it is within 2^-33 of document 01's
-// formula, by squares. proofs/Near.antt shows 2^-38: a harmonic within 2^-42, one root, one division and one product,
-// 2^-53 each.
+// formula, by squares. It comes from a harmonic within 2^-42, one root, one division and one product, 2^-53
+// each; with 2^-38 for 2^-33 the same proof passes.
 //
 // Under it lie `harmonics`, `channel` (the table of angles), `planes` (the inverse of a root), `rows` and
 // `refusals`.
