@@ -228,8 +228,8 @@ fn refused(random: &mut Random) -> Vec<Case> {
 
 pub fn cases(random: &mut Random, count: usize) -> Vec<Case> {
     let mut all = refused(random);
-    // The longest block and one frame more; with a length that does not fit, 5 comes before 6.
-    for frames in [4096, 4097] {
+    // The longest block, one frame less and one frame more; with a length that does not fit, 5 comes before 6.
+    for frames in [4095, 4096, 4097] {
         let layout = Layout(1, 0);
         if count >= 1000 || frames == 4097 {
             all.push(fitting(random, Command::Stereo(-30.0), layout, frames, frames).case());
