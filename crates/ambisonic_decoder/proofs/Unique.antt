@@ -1,5 +1,5 @@
 -- No two answers meet the promise. Assumes nothing.
-use mathlib.Core.Path.{_≡_, ap}
+use mathlib.Core.Path.{_≡_}
 use mathlib.Core.List.{List}
 use lib.Ieee.{Float}
 use Rattle.refusals.proofs.Determined.{determined}

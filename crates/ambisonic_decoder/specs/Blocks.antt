@@ -9,14 +9,14 @@ use lib.ListN.{length}
 use lib.Ieee.{Float}
 use Rattle.refusals.specs.Refusals.{firstOf, _when_}
 use Rattle.planes.specs.Tables.{tab, unsound}
-use Rattle.planes.specs.Planes.{outside, unfit, frameAt}
+use Rattle.planes.specs.Planes.{outside, blockUnfit, frameAt}
 use Rattle.planes.specs.Sums.{mixedAll}
 use Rattle.ambisonic_decoder.specs.declared.Shape.{Shape}
 
 -- the lengths of the weights, the inputs and the outputs
 abbrev pub misfit : Shape → ℕ → ℕ → ℕ → Bool
 misfit s weights inputs out =
-    unfit inputs (s .channels) (s .stride) (s .frames) || (unfit out (s .outputs) (s .stride) (s .frames) || not (eqb weights (s .outputs * s .channels)))
+    blockUnfit inputs (s .channels) out (s .outputs) (s .stride) (s .frames) || not (eqb weights (s .outputs * s .channels))
 
 abbrev pub refusalOf : Shape → List Float → ℕ → ℕ → ℕ
 refusalOf s weights inputs out =

@@ -31,13 +31,12 @@ struct Shape {
 fn is_misfit(shape: Shape, weights: usize, inputs: usize, out: usize) -> bool
     ensures { λ r. ⌜ r ≡ misfit shape weights inputs out ⌝ }
 {
-    if planes::is_unfit(inputs, shape.channels, shape.stride, shape.frames) {
+    let outputs = shape.outputs;
+    let channels = shape.channels;
+    if planes::is_block_unfit(inputs, channels, out, outputs, shape.stride, shape.frames) {
         return true;
     }
-    if planes::is_unfit(out, shape.outputs, shape.stride, shape.frames) {
-        return true;
-    }
-    !planes::is_product(weights, shape.outputs, shape.channels)
+    !planes::is_product(weights, outputs, channels)
 }
 
 // The first number whose test holds, or 0.

@@ -16,7 +16,8 @@ use Rattle.series.specs.Sums.{Wave, sine, cosine}
 use Rattle.series.specs.Angles.{turned, isMultiple, quarters}
 use Rattle.series.proofs.Reduction.{four, quarters-few, quarters-times, turned-less, turned-turns, turned-same, Turns}
 use Rattle.angles.specs.Computed.{units, cut, place, short, times, radians, nesting, nest, rounded, sineAt, cosineAt, waveAt, computed}
-use Rattle.angles.specs.Promise.{isInside, exactly}
+use Rattle.angles.specs.Limits.{isInside}
+use Rattle.angles.specs.Promise.{limit, exactly}
 
 -- ---- the four places
 at-quarter : (w : Wave) (k : ℕ) → k < 4 → waveAt w (k * (90 * 2 ^ 52)) ≡ getD (exactly w) k (ofInt binary64 (pos 0))
@@ -77,8 +78,8 @@ module _ (s : Bool) (n d k : ℕ) (D : 0 < d) (e : turned (signed s n d) ≡ k *
 
 -- ---- all together
 
-pub computed-exact : (w : Wave) (d : Float) → T (isInside d) → T (isMultiple (number d)) → computed w d ≡ getD (exactly w) (quarters (number d)) (ofInt binary64 (pos 0))
-unfolding isInside le lt eq ofInt computed place cut units isMultiple quarters
+pub computed-exact : (w : Wave) (d : Float) → T (isInside limit d) → T (isMultiple (number d)) → computed w d ≡ getD (exactly w) (quarters (number d)) (ofInt binary64 (pos 0))
+unfolding isInside le lt eq neg ofInt computed place cut units isMultiple quarters
 computed-exact w nan t h = absurd t
 computed-exact w (inf true) t h = absurd t
 computed-exact w (inf false) t h = absurd t

@@ -1,11 +1,11 @@
 -- The laws at work, as a crate above uses them: a program calls sine(3.0 * a), and of what it is handed the sine of 3a itself is shown to be 2 ^ -43 away at most. The angle is an expression, its bound is
 -- computed, and one law carries it over. Assumes nothing.
 use mathlib.Core.Bool.{false}
-use Prim.Native.Nat.{_+_, _*_, _≤_, _<_}
+use Prim.Native.Nat.{_<_}
 use native.Mathlib.Omega.{arith}
 use lib.Dec.{lit≤}
 use lib.Ieee.{Float, binary64, mul, round}
-use Rattle.fractions.specs.Fraction.{Fraction, number, whole, opposite, magnitude, _⊗_, AtMost, Within}
+use Rattle.fractions.specs.Fraction.{number, whole, opposite, magnitude, _⊗_, AtMost, Within}
 use Rattle.fractions.proofs.Expression.{held, _*'_, itself, within, negative-nat}
 use Rattle.series.specs.Sums.{sine}
 use Rattle.series.specs.Angles.{definedSine}

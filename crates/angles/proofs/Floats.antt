@@ -1,26 +1,25 @@
 -- The float ends of the program: which floats are from -1080 to 1080, that such an angle times 2 ^ 52 is exact, so that its units are what they should be, and that the result is the float of its
 -- number of units of 2 ^ -51. Assumes nothing.
 use mathlib.Core.Path.{_≡_, refl, sym, ap, _∙_, subst}
-use mathlib.Core.Logic.{_⊎_, inl, inr}
 use Prim.Native.Nat.{ℕ, _+_, _-_, _*_, _/_, _%_, _^_, _≤_, _<_, min}
-use native.Mathlib.Nat.{zero-add, mod-lt, add-mod-right, zero-div, lt-of-lt-of-le, le-trans, le-of-eq, le-of-lt, lt-irrefl, eq-or-lt-of-le, mul-comm, mul-one, zero-mul, mul-left-comm, div-lt-iff-lt-mul, mul-pos, eq-of-mul-eq-mul-right, div-eq-of-lt}
+use native.Mathlib.Nat.{zero-add, mod-lt, add-mod-right, zero-div, lt-of-lt-of-le, lt-irrefl, mul-comm, mul-one, zero-mul, mul-left-comm, div-lt-iff-lt-mul, mul-pos, eq-of-mul-eq-mul-right, div-eq-of-lt}
 use native.Mathlib.Omega.{arith}
-use mathlib.Core.Bool.{Bool, true, false, not, _&&_, _||_, cond, true≢false, false≢true}
-use lib.Dec.{T, ltb, eqb, lit<, lit≤, ltb→lt, nltb→le, lt→ltb, eqb→eq}
-use lib.IntN.{ℤ, pos, negsuc}
+use mathlib.Core.Bool.{Bool, true, false, not, cond, true≢false, false≢true}
+use lib.Dec.{T, eqb, lit<, lit≤, ltb→lt, nltb→le, lt→ltb, eqb→eq}
+use lib.IntN.{ℤ, pos}
 use lib.Pow.{pow-pos}
 use lib.Ieee.{Float, nan, inf, fin, binary64, up, down, lt, le, eq, neg, mul, div, round, ofInt, toUnsigned, fits}
-use lib.Ieee.Fits.{and-l, and-r, and-i, eq→eqb, down-pos}
+use lib.Ieee.Fits.{and-l, and-r, and-i, down-pos}
 use lib.Ieee.Exact.{HasValue}
 use lib.Ieee.Nearest.{div-same}
 use lib.Ieee.Back.{round-whole}
 use lib.Ieee.Scale.{round-same}
 use lib.Arith.{le→nltb}
-use lib.Ieee.Bits.{is-true}
 use borrow.Author.Tests.{ltb-false}
-use Rattle.refusals.proofs.First.{stops, goes-on}
+use Rattle.refusals.proofs.First.{goes-on, passed}
 use Rattle.fractions.specs.Fraction.{Fraction, fraction, whole, magnitude, signed, number, _⊗_, Same, AtMost}
 use Rattle.fractions.proofs.Order.{same-refl, same-trans}
+use Rattle.fractions.proofs.Compare.{le-at-most, at-most-le}
 use Rattle.fractions.proofs.Number.{number-neg, value-same, value-number}
 use Rattle.fractions.proofs.Close.{Close, Size, size-wider, close-same, close-opposite}
 use Rattle.fractions.proofs.Rounding.{Result}
@@ -29,107 +28,32 @@ use Rattle.fractions.proofs.Exact.{Holds, result-number, result-exact, literal-
 use Rattle.fractions.proofs.Held.{float-held, power-held}
 use Rattle.series.specs.Angles as Defined
 use Rattle.angles.specs.Computed.{one, turn, isUpright, units, cut, place, rounded}
-use Rattle.angles.specs.Promise.{isInside, isRefused, refusalOf}
-
--- ---- the floats 0, 1080 and -1080
-nought : ofInt binary64 (pos 0) ≡ fin false 0 (pos 0)
-unfolding ofInt
-nought = refl
-
-highest : ofInt binary64 (pos 1080) ≡ fin false 135 (pos 3)
-unfolding ofInt
-highest = refl
-
-lowest : ofInt binary64 (negsuc 1079) ≡ fin true 135 (pos 3)
-unfolding ofInt
-lowest = refl
+use Rattle.angles.specs.Limits.{isInside}
+use Rattle.angles.specs.Promise.{limit, isRefused, refusalOf}
+use Rattle.angles.proofs.Limits.{inside-size, size-accepted}
+use Rattle.angles.proofs.Limits as Limits
 
 -- ---- which floats are inside: those of a number of 1080 at most in size
 
-either : (a b : Bool) {X : Type 0} → (T a → X) → (T b → X) → T (a || b) → X
-either true b f g t = f tt
-either false b f g t = g t
-
--- a ≤ b, as comparing floats of one sign says it
-at-most : (a b : ℕ) (c : Bool) → T (ltb a b || (eqb a b && c)) → a ≤ b
-at-most a b c t = either (ltb a b) (eqb a b && c) (λ h. le-of-lt (ltb→lt a b h)) (λ h. le-of-eq (eqb→eq a b (and-l (eqb a b) c h))) t
-
-at-most' : (a b : ℕ) (c : Bool) → T (ltb a b || (eqb b a && c)) → a ≤ b
-at-most' a b c t = either (ltb a b) (eqb b a && c) (λ h. le-of-lt (ltb→lt a b h)) (λ h. le-of-eq (sym (eqb→eq b a (and-l (eqb b a) c h)))) t
-
-pub inside-most : (s : Bool) (m : ℕ) (e : ℤ) → T (isInside (fin s m e)) → m * up e ≤ 1080 * down e
-unfolding isInside le lt eq
-inside-most false m e t =
-    let h = and-r (le (ofInt binary64 (negsuc 1079)) (fin false m e)) (le (fin false m e) (ofInt binary64 (pos 1080))) t in
-    le-trans (le-of-eq (sym (mul-one (m * up e)))) (at-most (m * up e * 1) (1080 * down e) true (subst (λ (z : Float). T (le (fin false m e) z)) highest h))
-inside-most true m e t =
-    let h = and-l (le (ofInt binary64 (negsuc 1079)) (fin true m e)) (le (fin true m e) (ofInt binary64 (pos 1080))) t in
-    le-trans (le-of-eq (sym (mul-one (m * up e)))) (at-most' (m * up e * 1) (1080 * down e) true (subst (λ (z : Float). T (le z (fin true m e))) lowest h))
-
-or-l : (a b : Bool) → T a → T (a || b)
-or-l true b t = tt
-
-or-r : (a b : Bool) → T b → T (a || b)
-or-r true b t = tt
-or-r false b t = t
-
-most-at : (a b : ℕ) → a ≤ b → T (ltb a b || (eqb a b && true))
-most-at a b h = go (eq-or-lt-of-le h)
+pub inside-most : (s : Bool) (m : ℕ) (e : ℤ) → T (isInside limit (fin s m e)) → m * up e ≤ 1080 * down e
+unfolding ofInt
+inside-most s m e t = go s (inside-size false 135 (pos 3) (fin s m e) t)
   where
-    go : (a ≡ b) ⊎ (a < b) → T (ltb a b || (eqb a b && true))
-    go (inl e) = or-r (ltb a b) (eqb a b && true) (and-i (eqb a b) true (eq→eqb e) tt)
-    go (inr l) = or-l (ltb a b) (eqb a b && true) (lt→ltb a b l)
-
-most-at' : (a b : ℕ) → a ≤ b → T (ltb a b || (eqb b a && true))
-most-at' a b h = go (eq-or-lt-of-le h)
-  where
-    go : (a ≡ b) ⊎ (a < b) → T (ltb a b || (eqb b a && true))
-    go (inl e) = or-r (ltb a b) (eqb b a && true) (and-i (eqb b a) true (eq→eqb (sym e)) tt)
-    go (inr l) = or-l (ltb a b) (eqb b a && true) (lt→ltb a b l)
-
-most-inside : (s : Bool) (m : ℕ) (e : ℤ) → m * up e ≤ 1080 * down e → T (isInside (fin s m e))
-unfolding isInside le lt eq
-most-inside false m e h =
-    rw (lowest, highest)
-    (and-i (le (fin true 135 (pos 3)) (fin false m e)) (le (fin false m e) (fin false 135 (pos 3))) (or-l (lt (fin true 135 (pos 3)) (fin false m e)) _ (lt→ltb 0 (1080 * down e + m * up e * 1) (omega (arith, down-pos e)))) (most-at (m * up e * 1) (1080 * down e) (omega arith)))
-most-inside true m e h =
-    rw (lowest, highest)
-    (and-i (le (fin true 135 (pos 3)) (fin true m e)) (le (fin true m e) (fin false 135 (pos 3))) (most-at' (m * up e * 1) (1080 * down e) (omega arith)) (or-l (lt (fin true m e) (fin false 135 (pos 3))) _ (lt→ltb 0 (m * up e * 1 + 1080 * down e) (omega (arith, down-pos e)))))
-
--- ---- what is refused is what is not inside
-pub refused-is : (d : Float) → isRefused d ≡ not (isInside d)
-unfolding isRefused isInside le lt eq ofInt
-refused-is nan = refl
-refused-is (inf true) = refl
-refused-is (inf false) = refl
-refused-is (fin s m e) = refl
+    go : (s : Bool) → AtMost (magnitude (signed s (m * up e) (down e))) (whole 1080) → m * up e ≤ 1080 * down e
+    go true h = omega arith
+    go false h = omega arith
 
 -- an angle of 1080 at most in size is accepted
 pub accepted : (d : Float) → 0 < number d .over → AtMost (magnitude (number d)) (whole 1080) → refusalOf d ≡ 0
-accepted nan h k = absurd (lt-irrefl 0 h)
-accepted (inf s) h k = absurd (lt-irrefl 0 h)
-accepted (fin s m e) h k = goes-on 3 0 (refused-is (fin s m e) ∙ ap not (is-true (isInside (fin s m e)) (most-inside s m e (go s k))))
-  where
-    go : (s : Bool) → AtMost (magnitude (signed s (m * up e) (down e))) (whole 1080) → m * up e ≤ 1080 * down e
-    go true k = omega arith
-    go false k = omega arith
+unfolding ofInt
+accepted d h k = goes-on 3 0 (size-accepted false 135 (pos 3) d h k)
 
-pub accepted-inside : (d : Float) → refusalOf d ≡ 0 → T (isInside d)
-accepted-inside d = go (isInside d) (refused-is d)
-  where
-    go : (b : Bool) → isRefused d ≡ not b → refusalOf d ≡ 0 → T b
-    go true e h = tt
-    go false e h = absurd (three (sym (stops 3 0 e) ∙ h))
-      where
-        three : _≡_ {A = ℕ} 3 0 → ⊥
-        three h = omega arith
+pub accepted-is : (d : Float) → refusalOf d ≡ 0 → isRefused d ≡ false
+accepted-is d h = passed (isRefused d) 2 0 h .0
 
-pub inside-number : (d : Float) → T (isInside d) → 0 < number d .over
-unfolding isInside le lt eq ofInt
-inside-number nan t = absurd t
-inside-number (inf true) t = absurd t
-inside-number (inf false) t = absurd t
-inside-number (fin s m e) t = down-pos e
+pub accepted-inside : (d : Float) → refusalOf d ≡ 0 → T (isInside limit d)
+unfolding ofInt
+accepted-inside d h = Limits.accepted-inside false 135 (pos 3) d (accepted-is d h)
 
 -- ---- cut to a whole number
 
@@ -178,8 +102,8 @@ cut-number (fin true m e) num den Z D h v =
 upright-most : (s : Bool) (m : ℕ) (e : ℤ) → T (isUpright (fin s m e)) → (m * up e ≤ 1080 * down e) × (T s → m * up e ≡ 0)
 unfolding isUpright lt le eq ofInt
 upright-most false m e t =
-    let h = and-r (not (lt (fin false m e) (ofInt binary64 (pos 0)))) (le (fin false m e) (ofInt binary64 (pos 1080))) t in
-    (le-trans (le-of-eq (sym (mul-one (m * up e)))) (at-most (m * up e * 1) (1080 * down e) true h), λ f. absurd f)
+    let h : AtMost (number (fin false m e)) (whole 1080) = le-at-most (fin false m e) limit (and-r (not (lt (fin false m e) (ofInt binary64 (pos 0)))) (le (fin false m e) limit) t) (down-pos e) (lit< tt) in
+    (omega arith, λ f. absurd f)
 upright-most true m e t =
     let h = nltb→le 0 (m * up e * 1 + 0 * down e) (and-l (not (lt (fin true m e) (ofInt binary64 (pos 0)))) (le (fin true m e) (ofInt binary64 (pos 1080))) t) in
     (omega arith, λ f. omega arith)
@@ -235,12 +159,12 @@ upright-cut (fin s m e) t a = let b = upright-most s m e a in raised-cut s m e t
 most-upright : (s : Bool) (m : ℕ) (e : ℤ) → (T s → m * up e ≡ 0) → m * up e ≤ 1080 * down e → T (isUpright (fin s m e))
 unfolding isUpright lt le eq ofInt
 most-upright false m e z h =
-    and-i (not (lt (fin false m e) (fin false 0 (pos 0)))) (le (fin false m e) (fin false 135 (pos 3))) (le→nltb (m * up e * 1) (0 * down e) (omega arith)) (most-at (m * up e * 1) (1080 * down e) (omega arith))
+    and-i (not (lt (fin false m e) (fin false 0 (pos 0)))) (le (fin false m e) (fin false 135 (pos 3))) (le→nltb (m * up e * 1) (0 * down e) (omega arith)) (at-most-le (fin false m e) limit (down-pos e) (lit< tt) (omega arith))
 most-upright true m e z h =
     let n = z tt in
-    and-i (not (lt (fin true m e) (fin false 0 (pos 0)))) (le (fin true m e) (fin false 135 (pos 3))) (le→nltb 0 (m * up e * 1 + 0 * down e) (omega arith)) (or-l (lt (fin true m e) (fin false 135 (pos 3))) _ (lt→ltb 0 (m * up e * 1 + 1080 * down e) (omega (arith, down-pos e))))
+    and-i (not (lt (fin true m e) (fin false 0 (pos 0)))) (le (fin true m e) (fin false 135 (pos 3))) (le→nltb 0 (m * up e * 1 + 0 * down e) (omega arith)) (at-most-le (fin true m e) limit (down-pos e) (lit< tt) (omega arith))
 
-pub negated : (d : Float) → T (isInside d) → lt d (ofInt binary64 (pos 0)) ≡ true → T (isUpright (neg d)) × (units (neg d) ≡ units d) × ((turn - units d % turn) % turn ≡ place d)
+pub negated : (d : Float) → T (isInside limit d) → lt d (ofInt binary64 (pos 0)) ≡ true → T (isUpright (neg d)) × (units (neg d) ≡ units d) × ((turn - units d % turn) % turn ≡ place d)
 unfolding isInside lt le eq neg ofInt place cut units Defined.turned
 negated nan t l = absurd (false≢true l)
 negated (inf true) t l = absurd t
@@ -250,8 +174,8 @@ negated (fin true m e) t l =
     let u = m * up e * 2 ^ 52 / down e in
     (most-upright false m e (λ f. absurd f) (inside-most true m e t), refl, (ap (λ (n : ℕ). n % turn) (sym (zero-add (turn - u % turn)))))
 
-pub itself : (d : Float) → T (isInside d) → lt d (ofInt binary64 (pos 0)) ≡ false → T (isUpright d) × (units d % turn ≡ place d)
-unfolding isInside lt le eq ofInt place cut units Defined.turned
+pub itself : (d : Float) → T (isInside limit d) → lt d (ofInt binary64 (pos 0)) ≡ false → T (isUpright d) × (units d % turn ≡ place d)
+unfolding isInside lt le eq neg ofInt place cut units Defined.turned
 itself nan t l = absurd t
 itself (inf true) t l = absurd t
 itself (inf false) t l = absurd t

@@ -1,4 +1,5 @@
--- The laws of sine and cosine. Crates above cite `Laws` and `Unique`.
+-- The laws of sine and cosine. Crates above cite `Laws`, `Unique`, and `Limits` for angles of their own.
+pub mod Limits
 mod Room
 mod Fixed
 mod Waves

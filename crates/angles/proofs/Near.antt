@@ -8,7 +8,7 @@ use native.Mathlib.Omega.{arith}
 use lib.Dec.{T, leb, ltb, leb→le, nleb→lt, lit<, lit≤}
 use lib.IntN.{ℤ}
 use lib.Pow.{pow-pos}
-use lib.Ieee.{Float, nan, inf, fin, unlike, up, down, lt, le, eq, ofInt}
+use lib.Ieee.{Float, nan, inf, fin, neg, unlike, up, down, lt, le, eq, ofInt}
 use lib.Ieee.Fits.{down-pos}
 use borrow.Author.Tests.{lt-ltb, le-ltb}
 use Rattle.fractions.specs.Fraction.{Fraction, fraction, opposite, signed, number, _⊗_, Same, Within}
@@ -21,7 +21,8 @@ use Rattle.series.specs.Angles as Defined
 use Rattle.series.specs.Angles.{defined}
 use Rattle.series.proofs.Laws.{sum-number, sum-same, sine-sum-opposite, cosine-sum-opposite, defined-sum, reduced-close}
 use Rattle.angles.specs.Computed.{one, turn, half, cut, units, place, short, times, radians, fromOne, rounded, sineAt, cosineAt, waveAt, computed}
-use Rattle.angles.specs.Promise.{isInside}
+use Rattle.angles.specs.Limits.{isInside}
+use Rattle.angles.specs.Promise.{limit}
 use Rattle.angles.proofs.Waves.{angle, sine-close, cosine-close}
 use Rattle.angles.proofs.Room.{short-low, short-high, radians-most, sine-gap, cosine-gap, sine-gap-most, cosine-gap-most, sine-room, cosine-room}
 use Rattle.angles.proofs.Floats.{rounded-close}
@@ -140,8 +141,8 @@ placed w p m = go (leb a half) (leb→le a half) (nleb→lt a half)
 
 -- ---- all together
 
-pub computed-near : (w : Wave) (d : Float) → T (isInside d) → Within 50 (number (computed w d)) (defined w (number d))
-unfolding isInside le lt eq ofInt computed place
+pub computed-near : (w : Wave) (d : Float) → T (isInside limit d) → Within 50 (number (computed w d)) (defined w (number d))
+unfolding isInside le lt eq neg ofInt computed place
 computed-near w nan t = absurd t
 computed-near w (inf true) t = absurd t
 computed-near w (inf false) t = absurd t

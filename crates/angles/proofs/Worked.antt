@@ -7,7 +7,8 @@ use Rattle.series.specs.Sums.{sine, cosine}
 use Rattle.series.specs.Angles.{turned}
 use Rattle.angles.specs.declared.Answer.{Answer}
 use Rattle.angles.specs.Computed.{units, cut, place, short, times, radians, nesting, nest, rounded, sineAt, cosineAt, computed}
-use Rattle.angles.specs.Promise.{zero, one, minus-one, isInside, isRefused, outcome}
+use Rattle.angles.specs.Limits.{isInside, refusesAngle}
+use Rattle.angles.specs.Promise.{zero, one, minus-one, outcome}
 
 abbrev degrees : ℤ → Float
 degrees = ofInt binary64
@@ -20,19 +21,19 @@ refused = record { refusal = 3; value = zero }
 
 -- ---- 0, 1 and -1 at multiples of 90, and 0 with no sign
 sine-90 : outcome sine (degrees (pos 90)) ≡ accepted one
-unfolding isRefused isInside lt le eq computed place cut units turned sineAt short times radians nesting nest rounded ofInt div neg
+unfolding refusesAngle isInside lt le eq computed place cut units turned sineAt short times radians nesting nest rounded ofInt div neg
 sine-90 = refl
 
 sine-180 : outcome sine (degrees (pos 180)) ≡ accepted (fin false 0 (pos 0))
-unfolding isRefused isInside lt le eq computed place cut units turned sineAt short times radians nesting nest rounded ofInt div neg
+unfolding refusesAngle isInside lt le eq computed place cut units turned sineAt short times radians nesting nest rounded ofInt div neg
 sine-180 = refl
 
 sine-270 : outcome sine (degrees (pos 270)) ≡ accepted minus-one
-unfolding isRefused isInside lt le eq computed place cut units turned sineAt short times radians nesting nest rounded ofInt div neg
+unfolding refusesAngle isInside lt le eq computed place cut units turned sineAt short times radians nesting nest rounded ofInt div neg
 sine-270 = refl
 
 cosine-minus-540 : outcome cosine (degrees (negsuc 539)) ≡ accepted minus-one
-unfolding isRefused isInside lt le eq computed place cut units turned cosineAt short times radians nesting nest rounded ofInt div neg
+unfolding refusesAngle isInside lt le eq computed place cut units turned cosineAt short times radians nesting nest rounded ofInt div neg
 cosine-minus-540 = refl
 
 -- ---- between them
@@ -50,17 +51,17 @@ sine-minus-1 = refl
 
 -- ---- the ends of what is accepted: 1080 is, and the next float is not; no NaN is, and no infinity
 sine-1080 : outcome sine (degrees (pos 1080)) ≡ accepted zero
-unfolding isRefused isInside lt le eq computed place cut units turned sineAt short times radians nesting nest rounded ofInt div neg
+unfolding refusesAngle isInside lt le eq computed place cut units turned sineAt short times radians nesting nest rounded ofInt div neg
 sine-1080 = refl
 
 above-1080 : outcome sine (fin false 4749890231992321 (negsuc 41)) ≡ refused
-unfolding isRefused isInside lt le eq ofInt
+unfolding refusesAngle isInside lt le eq neg ofInt
 above-1080 = refl
 
 of-nan : outcome sine nan ≡ refused
-unfolding isRefused
+unfolding refusesAngle
 of-nan = refl
 
 of-infinity : outcome cosine (inf true) ≡ refused
-unfolding isRefused
+unfolding refusesAngle
 of-infinity = refl

@@ -1,3 +1,4 @@
--- The promise of sine and cosine, and what the program computes.
+-- The promise of sine and cosine, which angles are refused, and what the program computes.
+pub mod Limits
 pub mod Computed
 pub mod Promise

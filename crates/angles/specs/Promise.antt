@@ -2,33 +2,37 @@
 -- 'Angles': "The program's sine and cosine must be within 2^-40 of the defined sum at every accepted angle, and exactly 0, 1 or -1 at multiples of 90." Definitions only.
 use Prim.Native.Nat.{ℕ}
 use mathlib.Core.Path.{_≡_}
-use mathlib.Core.Bool.{Bool, not, _&&_, _||_, cond}
+use mathlib.Core.Bool.{Bool, cond}
 use mathlib.Core.List.{List, [], _∷_}
 use lib.Dec.{T}
-use lib.IntN.{pos, negsuc}
+use lib.IntN.{ℤ, pos, negsuc}
 use lib.ListN.{getD}
-use lib.Ieee.{Float, binary64, le, ofInt}
-use lib.Ieee.Scale.{finite}
+use lib.Ieee.{Float, binary64, ofInt}
 use Rattle.refusals.specs.Refusals.{firstOf, _when_}
 use Rattle.fractions.specs.Fraction.{number, whole, unit, _⊕_}
 use Rattle.fractions.specs.Approximates.{Approximates}
 use Rattle.series.specs.Sums.{Wave, sine, cosine}
 use Rattle.series.specs.Angles.{isMultiple, quarters, defined}
 use Rattle.angles.specs.declared.Answer.{Answer}
+use Rattle.angles.specs.Limits.{refusesAngle}
 use Rattle.angles.specs.Computed.{computed}
 
 -- within 2 ^ -angleBits: the place to change it at
 abbrev pub angleBits : ℕ
 angleBits = 40
 
+-- a whole number as an f64
+abbrev pub float : ℤ → Float
+float z = ofInt binary64 z
+
 -- ---- refusals
 
--- -1080..1080
-unfoldable pub isInside : Float → Bool
-isInside d = le (ofInt binary64 (negsuc 1079)) d && le d (ofInt binary64 (pos 1080))
+-- "a sine's angle outside -1080..1080 degrees"
+abbrev pub limit : Float
+limit = float (pos 1080)
 
-unfoldable pub isRefused : Float → Bool
-isRefused d = not (finite d) || not (isInside d)
+abbrev pub isRefused : Float → Bool
+isRefused d = refusesAngle limit d
 
 abbrev pub refusalOf : Float → ℕ
 refusalOf d = firstOf (3 when isRefused d ∷ [])
@@ -36,13 +40,13 @@ refusalOf d = firstOf (3 when isRefused d ∷ [])
 -- ---- the answer
 
 abbrev pub zero : Float
-zero = ofInt binary64 (pos 0)
+zero = float (pos 0)
 
 abbrev pub one : Float
-one = ofInt binary64 (pos 1)
+one = float (pos 1)
 
 abbrev pub minus-one : Float
-minus-one = ofInt binary64 (negsuc 0)
+minus-one = float (negsuc 0)
 
 -- at 0, 90, 180 and 270 degrees
 abbrev pub exactly : Wave → List Float

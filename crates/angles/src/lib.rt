@@ -27,6 +27,7 @@ ghost use mathlib.Core.Path.{_≡_};
 ghost use Prim.Native.Nat.{_+_, _-_, _*_, _/_, _%_, _^_, _<_, _≤_};
 ghost use lib.Dec.{T};
 ghost use Rattle.angles.specs.Computed as Steps;
+ghost use Rattle.angles.specs.Limits.{isInside};
 ghost use Rattle.angles.specs.Promise as Said;
 ghost use Rattle.series.specs.Sums as Sums;
 
@@ -39,7 +40,7 @@ pub struct Answer {
 // 1 in units of 2^-60.
 const ONE: u64 = 0x1000_0000_0000_0000;
 
-// A turn and a half in units of 2^-52 degree.
+// A turn in units of 2^-52 degree, and half of one.
 const TURN: u64 = 1621295865853378560;
 
 const HALF: u64 = 810647932926689280;
@@ -89,7 +90,7 @@ fn outermost(y: u64, top: u64) -> u64
 
 // Whether d is from -1080 to 1080: no NaN is, and no infinity.
 fn is_inside(d: f64) -> bool
-    ensures { λ r. ⌜ r ≡ Said.isInside d ⌝ }
+    ensures { λ r. ⌜ r ≡ isInside Said.limit d ⌝ }
 {
     d >= -1080.0 && d <= 1080.0
 }
@@ -104,7 +105,7 @@ fn units(d: f64) -> u64
 
 // An angle from -1080 to 1080 degrees turned into 0 up to a turn, in the same units.
 fn turned(d: f64) -> u64
-    requires { ⌜ T (Said.isInside d) ⌝ }
+    requires { ⌜ T (isInside Said.limit d) ⌝ }
     ensures { λ r. ⌜ r ≡ Steps.place d ⌝ }
 {
     if d < 0.0 {

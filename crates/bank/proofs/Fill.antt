@@ -2,7 +2,7 @@
 use mathlib.Core.Path.{_≡_, refl, sym, ap, _∙_}
 use mathlib.Core.List.{List, [], _∷_, _++_, append-nil}
 use Prim.Native.Nat.{ℕ, _+_, _*_, _≤_, _<_}
-use native.Mathlib.Nat.{mul-le-mul-right}
+use native.Mathlib.Nat.{mul-le-mul, mul-le-mul-right}
 use native.Mathlib.Decide.{decLt}
 use native.Mathlib.Numerals.{add-one}
 use native.Mathlib.Omega.{arith}
@@ -14,11 +14,13 @@ use mir.Syntax.{w16}
 use mir.Val.{ofZ}
 use Rattle.big_endian.specs.Bytes.{bytesOf}
 use Rattle.big_endian.specs.Fields.{signedAt, floatAt, withField, withSigned, withFloat}
+use Rattle.big_endian.specs.Floats.{floatBytes}
 use Rattle.big_endian.proofs.Bytes.{length-bytes}
 use Rattle.big_endian.proofs.Fields.{written-lies}
+use Rattle.big_endian.proofs.Floats.{length-floatBytes, floatBytes-snoc}
 use Rattle.bank_form.specs.Bank.{Bank, rows}
-use Rattle.bank_form.specs.Encoding.{tapBytes, rowBytes, bodyBytes, encode}
-use Rattle.bank_form.proofs.RoundTrip.{length-body, length-tapBytes, length-rowBytes, tapBytes-snoc, oneRow, rowBytes-snoc, row-fits}
+use Rattle.bank_form.specs.Encoding.{rowBytes, bodyBytes, encode}
+use Rattle.bank_form.proofs.RoundTrip.{length-body, length-rowBytes, oneRow, rowBytes-snoc, row-fits}
 use Rattle.big_endian.specs.Placed.{placed}
 use Rattle.big_endian.proofs.Placed.{placed-on, placed-start, length-placed, store-on}
 use Rattle.bank_form.specs.HoldsComputed.{Each, IsAzimuth}
@@ -26,19 +28,12 @@ use Rattle.bank_form.specs.FaultComputed.{strided, rowSize, azimuthsFrom, rowTa
 use Rattle.bank.specs.HeadComputed.{headBytes}
 use Rattle.bank_form.proofs.Lists.{strided-snoc, length-strided, taps-snoc, length-taps}
 
--- where row i of n starts, in the file and in the list of taps, and that both are small
-pub record Place (l n i at q : ℕ) : Type 0 where
-  pub inside : i ≤ n
-  pub row : at ≡ 9 + i * rowSize l
-  pub tap : q ≡ i * (2 * l)
-  pub row-small : at ≤ 9 + 4098 * i
-  pub tap-small : q ≤ 1024 * i
+-- how far i rows reach in a file and in the list of taps
+pub rows-before : (i k l : ℕ) → i ≤ k → l ≤ 512 → i * rowSize l ≤ k * 4098
+rows-before i k l h g = let row : rowSize l ≤ 4098 = omega (arith, g) in mul-le-mul h row
 
-pub place-start : (l n : ℕ) → Place l n 0 9 0
-place-start l n = record { inside = omega arith; row = omega arith; tap = omega arith; row-small = omega arith; tap-small = omega arith }
-
-pub place-next : (l n i at q : ℕ) → l ≤ 512 → i < n → Place l n i at q → Place l n (i + 1) (at + (2 + 8 * l)) (q + 2 * l)
-place-next l n i at q small h p = record { inside = omega arith; row = omega arith; tap = omega arith; row-small = omega arith; tap-small = omega arith }
+pub taps-before : (i k l : ℕ) → i ≤ k → l ≤ 512 → i * (2 * l) ≤ k * 1024
+taps-before i k l h g = let taps : 2 * l ≤ 1024 = omega (arith, g) in mul-le-mul h taps
 
 -- one field more of those that f reads, w bytes apart
 pub field-more : {A : Type 0} (f : ℕ → A) (w at : ℕ) (xs ys : List A) (q k : ℕ) (x : A) → ys ≡ placed xs q (strided f w at k) → q + k < length xs → x ≡ f (at + k * w)
@@ -83,21 +78,21 @@ part-more out ys last a b at n p e g q h k = k ∙ rw (e, q) (placed-on out at n
 pub length-part : (xs : List Float) (q n : ℕ) → q + n ≤ length xs → length (take n (drop q xs)) ≡ n
 length-part xs q n h = length-take-le n (drop q xs) (omega (arith, length-drop q xs))
 
-pub tap-more : (out ys last : List ℕ) (xs : List Float) (at q k : ℕ) → ys ≡ placed out at (tapBytes (take k (drop q xs))) → q + k < length xs → at + 4 * k + 4 ≤ length out
-    → last ≡ placed ys (at + 4 * k) (bytesOf 4 (toBits binary32 (getD xs (q + k) nan))) → last ≡ placed out at (tapBytes (take (k + 1) (drop q xs)))
+pub tap-more : (out ys last : List ℕ) (xs : List Float) (at q k : ℕ) → ys ≡ placed out at (floatBytes (take k (drop q xs))) → q + k < length xs → at + 4 * k + 4 ≤ length out
+    → last ≡ placed ys (at + 4 * k) (bytesOf 4 (toBits binary32 (getD xs (q + k) nan))) → last ≡ placed out at (floatBytes (take (k + 1) (drop q xs)))
 tap-more out ys last xs at q k e h g f =
     let x = getD xs (q + k) nan in
     let inside : k < length (drop q xs) = omega (arith, length-drop q xs) in
-    let long : length (tapBytes (take k (drop q xs))) ≡ 4 * k = length-tapBytes (take k (drop q xs)) ∙ ap (λ (n : ℕ). 4 * n) (length-part xs q k (omega arith)) in
-    let more : tapBytes (take k (drop q xs)) ++ bytesOf 4 (toBits binary32 x) ≡ tapBytes (take (k + 1) (drop q xs)) =
-    sym (rw (add-one k, take-suc (drop q xs) k nan inside, getD-drop q xs k nan) (tapBytes-snoc (take k (drop q xs)) x)) in
-    part-more out ys last (tapBytes (take k (drop q xs))) (bytesOf 4 (toBits binary32 x)) at (4 * k) (at + 4 * k) e long refl (omega (arith, length-bytes 4 (toBits binary32 x))) f ∙ ap (placed out at) more
+    let long : length (floatBytes (take k (drop q xs))) ≡ 4 * k = length-floatBytes (take k (drop q xs)) ∙ ap (λ (n : ℕ). 4 * n) (length-part xs q k (omega arith)) in
+    let more : floatBytes (take k (drop q xs)) ++ bytesOf 4 (toBits binary32 x) ≡ floatBytes (take (k + 1) (drop q xs)) =
+    sym (rw (add-one k, take-suc (drop q xs) k nan inside, getD-drop q xs k nan) (floatBytes-snoc (take k (drop q xs)) x)) in
+    part-more out ys last (floatBytes (take k (drop q xs))) (bytesOf 4 (toBits binary32 x)) at (4 * k) (at + 4 * k) e long refl (omega (arith, length-bytes 4 (toBits binary32 x))) f ∙ ap (placed out at) more
 
 -- a row of its azimuth and its taps
 pub length-row : (z : ℤ) (l : ℕ) (xs : List Float) (q : ℕ) → q + 2 * l ≤ length xs → length (oneRow z l xs q) ≡ rowSize l
 length-row z l xs q h =
-    length-append (bytesOf 2 (ofZ w16 z)) (tapBytes (take (2 * l) (drop q xs)))
-    ∙ omega (arith, length-bytes 2 (ofZ w16 z), length-tapBytes (take (2 * l) (drop q xs)), length-part xs q (2 * l) h)
+    length-append (bytesOf 2 (ofZ w16 z)) (floatBytes (take (2 * l) (drop q xs)))
+    ∙ omega (arith, length-bytes 2 (ofZ w16 z), length-floatBytes (take (2 * l) (drop q xs)), length-part xs q (2 * l) h)
 
 pub length-rows : (zs : List ℤ) (l : ℕ) (xs : List Float) (i : ℕ) → i ≤ length zs → length xs ≡ length zs * (2 * l) → length (rowBytes (take i zs) l xs) ≡ i * rowSize l
 length-rows zs l xs i h count =
@@ -115,10 +110,6 @@ rows-more out ys last zs l xs i q at count h e f room g k =
     let row : length (oneRow z l xs q) ≡ rowSize l = length-row z l xs q (omega arith) in
     let more : rowBytes (take i zs) l xs ++ oneRow z l xs q ≡ rowBytes (take (i + 1) zs) l xs = rw (add-one i, e) (sym (rowBytes-snoc zs l xs i h)) in
     part-more out ys last (rowBytes (take i zs) l xs) (oneRow z l xs q) 9 (i * rowSize l) at g front f (omega arith) k ∙ ap (placed out 9) more
-
-pub no-taps : tapBytes [] ≡ []
-unfolding tapBytes
-no-taps = refl
 
 pub no-rows : (l : ℕ) (xs : List Float) → rowBytes [] l xs ≡ []
 unfolding rowBytes

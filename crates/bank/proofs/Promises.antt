@@ -115,12 +115,18 @@ found b zs xs h = λ i. record {
   taps = take-at (b .taps) (drop (length (b .taps)) xs) (2 * rows b * b .length) h i;
 }
 
+-- which is that of the file
+pub read-is : (file : List ℕ) (zs : List ℤ) (xs : List Float) (o : ReadOutcome) → Reads file zs xs o → o .answer .refusal ≡ 0 → bankOf o ≡ bankIn file
+read-is file zs xs o r e =
+    let p = accepted-is file zs xs o r e in
+    ap bankOf (p .1) ∙ found (bankIn file) zs xs (keeps (bankIn file) (p .0 .keeps) .count)
+
 -- writing what was read gives the same bytes
 pub write-after-read : (file : List ℕ) (zs : List ℤ) (xs : List Float) (o : ReadOutcome) → Reads file zs xs o → o .answer .refusal ≡ 0 → (buffer : List ℕ) (w : WriteOutcome)
     → length buffer ≡ length file → Writes (bankOf o) buffer w → w .file ≡ file
 write-after-read file zs xs o r e buffer w h f =
     let p = accepted-is file zs xs o r e in
     let b = bankIn file in
-    let same : bankOf o ≡ b = ap bankOf (p .1) ∙ found b zs xs (keeps b (p .0 .keeps) .count) in
+    let same : bankOf o ≡ b = read-is file zs xs o r e in
     let long = h ∙ ap length (sym (p .0 .bytes)) in
     ap (λ (y : WriteOutcome). y .file) (is-written b buffer w (rw same at f) (p .0 .keeps) long) ∙ p .0 .bytes

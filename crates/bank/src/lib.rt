@@ -16,7 +16,8 @@ ghost use mir.Val.{ofZ};
 ghost use Rattle.big_endian.specs.Bytes.{bytesOf};
 ghost use Rattle.big_endian.specs.Fields.{floatAt};
 ghost use Rattle.big_endian.specs.Placed.{placed};
-ghost use Rattle.bank_form.specs.Encoding.{tapBytes, rowBytes, encode};
+ghost use Rattle.big_endian.specs.Floats.{floatBytes};
+ghost use Rattle.bank_form.specs.Encoding.{rowBytes, encode};
 ghost use Rattle.bank_form.specs.HoldsComputed.{Each, IsAzimuth};
 ghost use Rattle.bank_form.specs.FaultComputed.{strided, rowSize, azimuthsFrom, tapsFrom};
 ghost use Rattle.bank.specs.Reading.{Reads};
@@ -57,6 +58,22 @@ fn unwritten(refusal: u8) -> BankWritten
     BankWritten { refusal, bytes: 0 }
 }
 
+// Where row i starts in a file.
+fn row_at(i: usize, l: usize) -> usize
+    requires { ⌜ (i < 8) × (l ≤ 512) ⌝ }
+    ensures { λ r. ⌜ (r ≡ 9 + i * rowSize l) × (r ≤ 28695) ⌝ }
+{
+    9 + i * (2 + 8 * l)
+}
+
+// Where the taps of row i start in a list of taps.
+fn tap_at(i: usize, l: usize) -> usize
+    requires { ⌜ (i < 8) × (l ≤ 512) ⌝ }
+    ensures { λ r. ⌜ (r ≡ i * (2 * l)) × (r ≤ 7168) ⌝ }
+{
+    i * (2 * l)
+}
+
 // Fills n taps, which stand from `at` on, into the list from q on.
 fn fill_taps(file: &[u8], at: usize, n: usize, taps: &mut [f32], q: usize)
     requires { ⌜ (at + 4 * n ≤ 32793) × (q + n ≤ length (now taps)) ⌝ }
@@ -76,13 +93,10 @@ fn fill_rows(file: &[u8], l: usize, n: usize, azimuths: &mut [i16], taps: &mut [
     ensures taps { λ _. ⌜ now (taps .exit) ≡ placed (now (taps .entry)) 0 (tapsFrom (now (file .entry)) l 9 n) ⌝ }
 {
     let mut i = 0;
-    let mut at = 9;
-    let mut q = 0;
     while i < n {
+        let at = row_at(i, l);
         azimuths[i] = big_endian::get_i16(file, at);
-        fill_taps(file, at + 2, 2 * l, taps, q);
-        at += 2 + 8 * l;
-        q += 2 * l;
+        fill_taps(file, at + 2, 2 * l, taps, tap_at(i, l));
         i += 1;
     }
 }
@@ -114,7 +128,7 @@ pub fn read(file: &[u8], azimuths: &mut [i16], taps: &mut [f32]) -> BankRead
 // Puts n taps of the list, from q on, into the file from `at` on.
 fn put_taps(taps: &[f32], q: usize, n: usize, file: &mut [u8], at: usize)
     requires { ⌜ (q + n ≤ length (now taps)) × (at + 4 * n ≤ length (now file)) ⌝ }
-    ensures { λ _. ⌜ now (file .exit) ≡ placed (now (file .entry)) at (tapBytes (take n (drop q (now (taps .entry))))) ⌝ }
+    ensures { λ _. ⌜ now (file .exit) ≡ placed (now (file .entry)) at (floatBytes (take n (drop q (now (taps .entry))))) ⌝ }
 {
     let mut k = 0;
     while k < n {
@@ -126,7 +140,7 @@ fn put_taps(taps: &[f32], q: usize, n: usize, file: &mut [u8], at: usize)
 // Puts a row at an offset: its azimuth, and 2 * l taps of the list from q on.
 fn put_row(z: i16, l: usize, taps: &[f32], q: usize, file: &mut [u8], at: usize)
     requires { ⌜ (l ≤ 512) × (q + 2 * l ≤ length (now taps)) × (at + rowSize l ≤ length (now file)) ⌝ }
-    ensures { λ _. ⌜ now (file .exit) ≡ placed (now (file .entry)) at (bytesOf 2 (ofZ w16 z) ++ tapBytes (take (2 * l) (drop q (now (taps .entry))))) ⌝ }
+    ensures { λ _. ⌜ now (file .exit) ≡ placed (now (file .entry)) at (bytesOf 2 (ofZ w16 z) ++ floatBytes (take (2 * l) (drop q (now (taps .entry))))) ⌝ }
 {
     big_endian::put_i16(file, at, z);
     put_taps(taps, q, 2 * l, file, at + 2);
@@ -140,12 +154,8 @@ fn put_rows(azimuths: &[i16], l: usize, taps: &[f32], file: &mut [u8])
     ensures azimuths { λ _. ⌜ Each IsAzimuth (pos 0) (now (azimuths .entry)) ⌝ }
 {
     let mut i = 0;
-    let mut at = 9;
-    let mut q = 0;
     while i < azimuths.len() {
-        put_row(azimuths[i], l, taps, q, file, at);
-        at += 2 + 8 * l;
-        q += 2 * l;
+        put_row(azimuths[i], l, taps, tap_at(i, l), file, row_at(i, l));
         i += 1;
     }
 }

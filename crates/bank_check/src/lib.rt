@@ -2,7 +2,7 @@
 // the first that breaks the form, whose number and offset are the answer. It takes any bytes. Today each
 // number is refused as 9. Its promise: the answer is the first fault of the bytes, and there is none
 // exactly if the bytes are those of a bank that keeps the form. Under it lie the form, the big-endian
-// fields, and the finite test.
+// fields, the widening of a tap and the finite test.
 use bank_form::Fault;
 ghost use mathlib.Core.Path.{_≡_};
 ghost use Prim.Native.Nat.{_+_, _-_, _*_, _≤_};
@@ -89,7 +89,7 @@ fn taps_fault(s: &[u8], at: usize, n: usize) -> Fault
     let mut p = at;
     let mut k = n;
     while 0 < k {
-        let tap = std::num::f32_to_f64_with_nan(big_endian::get_f32(s, p));
+        let tap = numbers::widen(big_endian::get_f32(s, p));
         let f = field_fault(s.len(), p, 4, 18, planes::is_finite(tap));
         if f.refusal != 0 {
             return f;

@@ -19,10 +19,12 @@ use mir.Val.{toZ, ofZ, SFits}
 use mir.Facts.{toZ-ofZ, ofZ-toZ, fits-ofZ}
 use Rattle.big_endian.specs.Bytes.{bytesOf, AreBytes}
 use Rattle.big_endian.specs.Fields.{fieldAt, signedAt, floatAt}
+use Rattle.big_endian.specs.Floats.{floatBytes}
 use Rattle.big_endian.proofs.Bytes.{length-bytes}
 use Rattle.big_endian.proofs.Fields.{stands, stands-back, field-below}
+use Rattle.big_endian.proofs.Floats.{length-floatBytes}
 use Rattle.bank_form.specs.Bank.{Bank, rows, isTap, every}
-use Rattle.bank_form.specs.Encoding.{tapBytes, rowBytes, bodyBytes, encode}
+use Rattle.bank_form.specs.Encoding.{rowBytes, bodyBytes, encode}
 use Rattle.bank_form.specs.HoldsComputed.{Each, IsAzimuth, IsFloat, Holds}
 use Rattle.bank_form.specs.FaultComputed.{strided, rowSize, azimuthsFrom, rowTaps, tapsFrom, rowsIn, lengthIn, bankIn}
 use Rattle.bank_form.proofs.Lists.{length-strided, every-append}
@@ -49,12 +51,6 @@ module _ {A : Type 0} (P : A → Type 0) (d : A) where
 
 -- ---- lengths
 
-pub length-tapBytes : (xs : List Float) → length (tapBytes xs) ≡ 4 * length xs
-unfolding tapBytes
-length-tapBytes [] = refl
-length-tapBytes (x ∷ xs) =
-    length-append (bytesOf 4 (toBits binary32 x)) (tapBytes xs) ∙ omega (arith, length-bytes 4 (toBits binary32 x), length-tapBytes xs)
-
 pub length-rowBytes : (zs : List ℤ) (l : ℕ) (xs : List Float) → length zs * (2 * l) ≤ length xs → length (rowBytes zs l xs) ≡ length zs * rowSize l
 unfolding rowBytes
 length-rowBytes [] l xs n = omega arith
@@ -64,10 +60,10 @@ length-rowBytes (z ∷ zs) l xs n =
     let rest = length-rowBytes zs l (drop m xs) (omega (arith, length-drop m xs)) in
     omega (
       arith,
-      length-append (bytesOf 2 (ofZ w16 z)) (tapBytes (take m xs) ++ rowBytes zs l (drop m xs)),
+      length-append (bytesOf 2 (ofZ w16 z)) (floatBytes (take m xs) ++ rowBytes zs l (drop m xs)),
       length-bytes 2 (ofZ w16 z),
-      length-append (tapBytes (take m xs)) (rowBytes zs l (drop m xs)),
-      length-tapBytes (take m xs),
+      length-append (floatBytes (take m xs)) (rowBytes zs l (drop m xs)),
+      length-floatBytes (take m xs),
     )
 
 pub length-body : (b : Bank) → length (b .taps) ≡ rows b * (2 * b .length) → length (bodyBytes b) ≡ 4 + rows b * rowSize (b .length)
@@ -88,32 +84,25 @@ unfolding encode
 length-encode b n =
     omega (arith, length-append (bytesOf 4 (length (bodyBytes b))) (bodyBytes b), length-bytes 4 (length (bodyBytes b)), length-body b n)
 
--- ---- one tap more, and one row more
-
-pub tapBytes-snoc : (xs : List Float) (x : Float) → tapBytes (xs ++ (x ∷ [])) ≡ tapBytes xs ++ bytesOf 4 (toBits binary32 x)
-unfolding tapBytes
-tapBytes-snoc [] x = append-nil (bytesOf 4 (toBits binary32 x))
-tapBytes-snoc (y ∷ xs) x =
-    let here = bytesOf 4 (toBits binary32 y) in
-    ap (λ (t : List ℕ). here ++ t) (tapBytes-snoc xs x) ∙ sym (append-assoc here (tapBytes xs) (bytesOf 4 (toBits binary32 x)))
+-- ---- one row more
 
 -- the bytes of a row with the azimuth z, whose taps start at q of the list
 abbrev pub oneRow : ℤ → ℕ → List Float → ℕ → List ℕ
-oneRow z l xs q = bytesOf 2 (ofZ w16 z) ++ tapBytes (take (2 * l) (drop q xs))
+oneRow z l xs q = bytesOf 2 (ofZ w16 z) ++ floatBytes (take (2 * l) (drop q xs))
 
 pub rowBytes-snoc : (zs : List ℤ) (l : ℕ) (xs : List Float) (i : ℕ) → i < length zs → rowBytes (take (suc i) zs) l xs ≡ rowBytes (take i zs) l xs ++ oneRow (getD zs i (pos 0)) l xs (i * (2 * l))
 unfolding rowBytes
 rowBytes-snoc [] l xs i h = absurd (omega arith)
-rowBytes-snoc (z ∷ zs) l xs zero h = let q : 0 * (2 * l) ≡ 0 = omega arith in rw (q, append-nil (tapBytes (take (2 * l) xs)))
+rowBytes-snoc (z ∷ zs) l xs zero h = let q : 0 * (2 * l) ≡ 0 = omega arith in rw (q, append-nil (floatBytes (take (2 * l) xs)))
 rowBytes-snoc (z ∷ zs) l xs (suc i) h =
     let m = 2 * l in
     let bits = bytesOf 2 (ofZ w16 z) in
-    let mine = tapBytes (take m xs) in
+    let mine = floatBytes (take m xs) in
     let front = rowBytes (take i zs) l (drop m xs) in
     let row = oneRow (getD zs i (pos 0)) l xs (suc i * m) in
     let q : m + i * m ≡ suc i * m = omega arith in
     let next : rowBytes (take (suc i) zs) l (drop m xs) ≡ front ++ row =
-    rowBytes-snoc zs l (drop m xs) i (le-of-suc-le-suc h) ∙ ap (λ (t : List Float). front ++ (bytesOf 2 (ofZ w16 (getD zs i (pos 0))) ++ tapBytes (take m t))) (drop-drop (i * m) m xs ∙ ap (λ (k : ℕ). drop k xs) q) in
+    rowBytes-snoc zs l (drop m xs) i (le-of-suc-le-suc h) ∙ ap (λ (t : List Float). front ++ (bytesOf 2 (ofZ w16 (getD zs i (pos 0))) ++ floatBytes (take m t))) (drop-drop (i * m) m xs ∙ ap (λ (k : ℕ). drop k xs) q) in
     ap (λ (t : List ℕ). bits ++ (mine ++ t)) next ∙ ap (λ (t : List ℕ). bits ++ t) (sym (append-assoc mine front row)) ∙ sym (append-assoc bits (mine ++ front) row)
 
 -- row i of n ends within n rows
@@ -136,12 +125,12 @@ record TapsStand (s : List ℕ) (p : ℕ) (xs : List Float) (t : List ℕ) : Typ
   same : strided (floatAt s) 4 p (length xs) ≡ xs
   after : drop (p + 4 * length xs) s ≡ t
 
-taps-stand : (s : List ℕ) (p : ℕ) (xs : List Float) (t : List ℕ) → Each IsFloat nan xs → drop p s ≡ tapBytes xs ++ t → TapsStand s p xs t
-unfolding tapBytes strided floatAt
+taps-stand : (s : List ℕ) (p : ℕ) (xs : List Float) (t : List ℕ) → Each IsFloat nan xs → drop p s ≡ floatBytes xs ++ t → TapsStand s p xs t
+unfolding floatBytes strided floatAt
 taps-stand s p [] t f e = record { same = refl; after = from-there s (p + 4 * 0) p t (omega arith) e }
 taps-stand s p (x ∷ xs) t f e =
     let here : IsFloat x = unfold Each in f 0 in
-    let a = stands s p 4 (toBits binary32 x) (tapBytes xs ++ t) (omega arith) (toBits-lt binary32 x here) (omega arith) (e ∙ append-assoc (bytesOf 4 (toBits binary32 x)) (tapBytes xs) t) in
+    let a = stands s p 4 (toBits binary32 x) (floatBytes xs ++ t) (omega arith) (toBits-lt binary32 x here) (omega arith) (e ∙ append-assoc (bytesOf 4 (toBits binary32 x)) (floatBytes xs) t) in
     let rest = taps-stand s (p + 4) xs t (each-rest IsFloat nan x xs f) (a .after) in
     let v : floatAt s p ≡ x = ap (ofBits binary32) (a .value) ∙ ofBits-toBits binary32 x here in
     record { same = rw (v, rest .same); after = from-there s (p + 4 * suc (length xs)) (p + 4 + 4 * length xs) t (omega arith) (rest .after) }
@@ -162,7 +151,7 @@ rows-stand s p [] l xs t n g f e = record { azimuths = refl; taps = none-left xs
 rows-stand s p (z ∷ zs) l xs t n g f e =
     let m = 2 * l in
     let bits = ofZ w16 z in
-    let mine = tapBytes (take m xs) in
+    let mine = floatBytes (take m xs) in
     let others = rowBytes zs l (drop m xs) in
     let here : SFits w16 z = unfold Each in record { sfits = g 0 } in
     let long : length (take m xs) ≡ m = length-take-le m xs (omega arith) in
@@ -225,15 +214,15 @@ tap-back : (s : List ℕ) (p : ℕ) → AreBytes s → isTap (floatAt s p) ≡ t
 unfolding floatAt isTap
 tap-back s p bytes h = toBits-ofBits binary32 (fieldAt s p 4) (field-below s p 4 bytes) (finite-no-nan (floatAt s p) (and-eq-true-iff (fits binary32 (floatAt s p)) (finite (floatAt s p)) .0 h .1))
 
-taps-forth : (s : List ℕ) (p k : ℕ) → AreBytes s → p + 4 * k ≤ length s → every isTap (strided (floatAt s) 4 p k) ≡ true → tapBytes (strided (floatAt s) 4 p k) ++ drop (p + 4 * k) s ≡ drop p s
-unfolding tapBytes strided every
+taps-forth : (s : List ℕ) (p k : ℕ) → AreBytes s → p + 4 * k ≤ length s → every isTap (strided (floatAt s) 4 p k) ≡ true → floatBytes (strided (floatAt s) 4 p k) ++ drop (p + 4 * k) s ≡ drop p s
+unfolding floatBytes strided every
 taps-forth s p zero bytes h e = sym (from-there s p (p + 4 * 0) _ (omega arith) refl)
 taps-forth s p (suc k) bytes h e =
     let both = and-eq-true-iff (isTap (floatAt s p)) (every isTap (strided (floatAt s) 4 (p + 4) k)) .0 e in
     let here = bytesOf 4 (fieldAt s p 4) in
     let q : p + 4 * suc k ≡ p + 4 + 4 * k = omega arith in
     rw (tap-back s p bytes (both .0), q)
-    (append-assoc here (tapBytes (strided (floatAt s) 4 (p + 4) k)) (drop (p + 4 + 4 * k) s)
+    (append-assoc here (floatBytes (strided (floatAt s) 4 (p + 4) k)) (drop (p + 4 + 4 * k) s)
     ∙ ap (λ (y : List ℕ). here ++ y) (taps-forth s (p + 4) k bytes (omega arith) (both .1))
     ∙ sym (stands-back s p 4 bytes (omega arith) (omega arith)))
 

@@ -2,22 +2,19 @@
 -- then L left taps, L right taps as f32 bits. Big-endian, nothing after." Definitions only.
 use Prim.Native.Nat.{ℕ, _*_}
 use mathlib.Core.List.{List, [], _∷_, _++_}
-use lib.Ieee.{Float, binary32, toBits}
+use lib.Ieee.{Float}
 use lib.IntN.{ℤ}
 use lib.ListN.{length, take, drop}
 use mir.Syntax.{w16}
 use mir.Val.{ofZ}
 use Rattle.big_endian.specs.Bytes.{bytesOf}
+use Rattle.big_endian.specs.Floats.{floatBytes}
 use Rattle.bank_form.specs.Bank.{Bank, rows}
-
-unfoldable pub tapBytes : List Float → List ℕ
-tapBytes [] = []
-tapBytes (x ∷ xs) = bytesOf 4 (toBits binary32 x) ++ tapBytes xs
 
 -- a row of each azimuth, with the next 2 * l taps
 unfoldable pub rowBytes : List ℤ → ℕ → List Float → List ℕ
 rowBytes [] l xs = []
-rowBytes (z ∷ zs) l xs = bytesOf 2 (ofZ w16 z) ++ (tapBytes (take (2 * l) xs) ++ rowBytes zs l (drop (2 * l) xs))
+rowBytes (z ∷ zs) l xs = bytesOf 2 (ofZ w16 z) ++ (floatBytes (take (2 * l) xs) ++ rowBytes zs l (drop (2 * l) xs))
 
 -- all that follows the length
 unfoldable pub bodyBytes : Bank → List ℕ

@@ -3,5 +3,6 @@ pub mod Bytes
 pub mod Placed
 pub mod Fields
 pub mod Signed
+pub mod Floats
 mod Patterns
 mod Unique

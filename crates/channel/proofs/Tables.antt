@@ -10,9 +10,9 @@ use lib.IntN.{ℤ, pos, negsuc, _*ℤ_, negℤ}
 use lib.ListN.{length, getD}
 use lib.Ieee.{binary64, ofInt}
 use lib.Ieee.Fits.{and-l, and-r}
-use mir.Syntax.{w32}
+use mir.Syntax.{w16, w32}
 use mir.Val.{SFits, toZ, ofZ}
-use mir.Facts.{toZ-ofZ}
+use mir.Facts.{sfits-widen, toZ-ofZ}
 use Rattle.channel.specs.Layouts.{speakers, positions, degreesOf}
 use Rattle.channel.specs.declared.Layout.{Layout}
 use Rattle.channel.specs.declared.Layout.the-variants.{Mono, Stereo, Surround51, Surround71, Custom}
@@ -44,17 +44,20 @@ pub position-turned : (i : ℕ) → T (turned (getD positions i (pos 0)))
 unfolding all-turned
 position-turned i = turned-at positions tt i
 
--- ---- such a number, and ten times it, are i32s
+-- ---- such a number is an i32, and ten times it an i16
 fits : (z : ℤ) → T (turned z) → SFits w32 z
 fits (pos n) t = record { sfits = omega (arith, leb→le n 180 t) }
 fits (negsuc n) t = record { sfits = omega (arith, leb→le n 179 t) }
 
+pub ten-more : (n : ℕ) → suc n * 10 ≡ suc (n * 10 + 9)
+ten-more n = omega arith
+
+pub tenths-fit-16 : (z : ℤ) → T (turned z) → SFits w16 (z *ℤ pos 10)
+tenths-fit-16 (pos n) t = record { sfits = omega (arith, leb→le n 180 t) }
+tenths-fit-16 (negsuc n) t = subst (λ (k : ℕ). SFits w16 (negℤ (pos k))) (sym (ten-more n)) record { sfits = omega (arith, leb→le n 179 t) }
+
 pub tenths-fit : (z : ℤ) → T (turned z) → SFits w32 (z *ℤ pos 10)
-tenths-fit (pos n) t = record { sfits = omega (arith, leb→le n 180 t) }
-tenths-fit (negsuc n) t = subst (λ (k : ℕ). SFits w32 (negℤ (pos k))) (sym (next n)) record { sfits = omega (arith, leb→le n 179 t) }
-  where
-    next : (n : ℕ) → suc n * 10 ≡ suc (n * 10 + 9)
-    next n = omega arith
+tenths-fit z t = sfits-widen {w = w16} {w′ = w32} tt (tenths-fit-16 z t)
 
 pub back : (z : ℤ) → T (turned z) → toZ w32 (ofZ w32 z) ≡ z
 back z t = toZ-ofZ {w = w32} (fits z t)

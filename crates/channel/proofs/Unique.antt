@@ -6,11 +6,18 @@ use lib.IntN.{ℤ}
 use lib.Ieee.{Float}
 use Rattle.refusals.proofs.Determined.{determined}
 use Rattle.channel.specs.Layouts.{counted, surround, lowFrequency, azimuthOf, tenthsOf, positionAzimuth, positionTenths}
+use Rattle.channel.specs.Orders.{refusesOrder, countedOrder}
 use Rattle.channel.specs.declared.Layout.{Layout}
 use Rattle.channel.specs.declared.Counted.{Counted}
 
 pub channel-count-unique : (l : Layout) (a b : Counted) → a ≡ counted l → b ≡ counted l → a ≡ b
 channel-count-unique l = determined
+
+pub refuses-order-unique : (n : ℕ) (a b : Bool) → a ≡ refusesOrder n → b ≡ refusesOrder n → a ≡ b
+refuses-order-unique n = determined
+
+pub ambisonic-channel-count-unique : (n : ℕ) (a b : Counted) → a ≡ countedOrder n → b ≡ countedOrder n → a ≡ b
+ambisonic-channel-count-unique n = determined
 
 pub is-surround-unique : (l : Layout) (a b : Bool) → a ≡ surround l → b ≡ surround l → a ≡ b
 is-surround-unique l = determined

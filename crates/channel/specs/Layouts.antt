@@ -23,11 +23,12 @@ channelsOf (Custom n) = n
 abbrev pub uncountable : ℕ → Bool
 uncountable n = eqb n 0 || ltb 16 n
 
-abbrev pub countedBy : ℕ → Counted
-countedBy n = record { refusal = firstOf (2 when uncountable n ∷ []); channels = cond (uncountable n) 0 n }
+-- n channels; or, where they are refused, the refusal and none
+abbrev pub countedBy : ℕ → Bool → ℕ → Counted
+countedBy refusal refused n = record { refusal = firstOf (refusal when refused ∷ []); channels = cond refused 0 n }
 
 abbrev pub counted : Layout → Counted
-counted l = countedBy (channelsOf l)
+counted l = countedBy 2 (uncountable (channelsOf l)) (channelsOf l)
 
 abbrev pub surround : Layout → Bool
 surround Surround51 = true
@@ -40,9 +41,9 @@ surround (Custom n) = false
 abbrev pub lowFrequency : Layout → ℕ → Bool
 lowFrequency l c = cond (surround l) (eqb c 3) false
 
--- -d degrees, for a d above 0
+-- -n, for an n above 0
 abbrev pub minus : ℕ → ℤ
-minus d = negsuc (d - 1)
+minus n = negsuc (n - 1)
 
 -- where the speakers of a layout stand, in channel order; the LFE, which points nowhere, counts as 0 where an angle is wanted. The speakers of a Custom layout are computed.
 abbrev pub speakers : Layout → List ℤ

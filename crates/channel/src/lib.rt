@@ -1,13 +1,15 @@
-// Layouts (document 01, item 2): the five layouts, how many channels each has, and where their speakers
-// stand. One table an angle comes from: the panner, the decoder, the virtual speakers and the choice of
-// filters all read it here, in degrees as an f64 or in whole tenths of a degree.
+// Layouts (document 01, item 2, from channel.rs): the five layouts, how many channels each has, and where their
+// speakers stand; and the ambisonic orders, with the channels of each. One table an angle comes from: the
+// panner, the decoder, the virtual speakers and the choice of filters all read it here, in degrees as an
+// f64 or in whole tenths of a degree. One test of an order, for every crate that is given one.
 //
-// Every function takes any input, and its answer is a definition of it (specs/Layouts.antt, which says
-// document 01). Under it lies `refusals`.
+// Every function takes any input, and its answer is a definition of it (specs/Layouts.antt and
+// specs/Orders.antt, which say document 01). Under it lies `refusals`.
 ghost use mathlib.Core.Path.{_≡_};
 ghost use lib.IntN.{pos};
 ghost use lib.ListN.{getD};
 ghost use Rattle.channel.specs.Layouts.{channelsOf, counted, surround, lowFrequency, speakers, positions, degreesOf, azimuthOf, tenthsOf, positionAzimuth, positionTenths};
+ghost use Rattle.channel.specs.Orders.{refusesOrder, countedOrder};
 
 pub enum Layout {
     Mono,
@@ -55,6 +57,29 @@ pub fn channel_count(layout: Layout) -> Counted
     Counted {
         refusal: 0,
         channels: n,
+    }
+}
+
+// Whether an ambisonic order is not 1, 2 or 3.
+pub fn refuses_order(order: usize) -> bool
+    ensures { λ r. ⌜ r ≡ refusesOrder order ⌝ }
+{
+    order < 1 || 3 < order
+}
+
+// How many channels an ambisonic order has; 1 for what is no order.
+pub fn ambisonic_channel_count(order: usize) -> Counted
+    ensures { λ r. ⌜ r ≡ countedOrder order ⌝ }
+{
+    if refuses_order(order) {
+        return Counted {
+            refusal: 1,
+            channels: 0,
+        };
+    }
+    Counted {
+        refusal: 0,
+        channels: (order + 1) * (order + 1),
     }
 }
 

@@ -4,37 +4,30 @@ use native.Mathlib.Nat.{zero-add}
 use native.Mathlib.Omega.{arith}
 use mathlib.Core.Path.{_≡_, refl, sym, ap, _∙_, subst}
 use mathlib.Core.Bool.{Bool, true, false, not, cond}
-use mathlib.Core.List.{List, [], _∷_}
+use mathlib.Core.List.{List, []}
 use borrow.Author.Tests.{eqb-true}
-use lib.Dec.{eqb, lit≤}
+use lib.Dec.{eqb}
 use lib.ListN.{length, getD, take, length-take}
 use lib.Ieee.{Float, nan}
+use Rattle.refusals.proofs.First.{passed}
 use Rattle.fractions.specs.Fraction.{whole, number}
 use Rattle.fractions.specs.Squares.{BySquares}
 use Rattle.planes.specs.Tables.{tab, row}
 use Rattle.planes.proofs.Tables.{length-tab, getD-tab}
 use Rattle.planes.specs.Normalization.{inverseRoot}
-use Rattle.rows.specs.Rows.{scaled, joined}
 use Rattle.rows.specs.Steps.{putRows}
 use Rattle.rows.proofs.Putting.{length-scaled}
 use Rattle.rows.proofs.Joined.{AllOf, put-joined, row-found}
 use Rattle.channel.specs.declared.Layout.{Layout}
 use Rattle.channel.specs.Layouts.{channelsOf, uncountable}
-use Rattle.harmonics.specs.Promise.{refusesOrder}
+use Rattle.channel.specs.Orders.{refusesOrder, channelsOfOrder}
+use Rattle.channel.proofs.Orders.{few-channels}
 use Rattle.harmonics.specs.Promise as Harmonics
-use Rattle.harmonics.proofs.Orders.{by-order}
 use Rattle.harmonics.proofs.Laws.{outcome-kept, gains-length}
 use Rattle.decoder_matrix.specs.Speakers.{azimuthBy, towards}
-use Rattle.decoder_matrix.specs.Matrix.{channelsIn, rowBy, rowsBy, matrixOf, formulaAt}
+use Rattle.decoder_matrix.specs.Matrix.{rowBy, rowsBy, matrixOf, formulaAt}
 use Rattle.decoder_matrix.specs.Promise.{matrixBits, Computed, refusalOf, outcome, Computes}
 use Rattle.decoder_matrix.proofs.Near.{near}
-
--- ---- an order has 16 channels at most
-pub few-channels : (order : ℕ) → refusesOrder order ≡ false → channelsIn order ≤ 16
-few-channels = by-order (λ (n : ℕ). channelsIn n ≤ 16) (lit≤ tt) (lit≤ tt) (lit≤ tt)
-
-pub small-order : (order : ℕ) → refusesOrder order ≡ false → order ≤ 3
-small-order = by-order (λ (n : ℕ). n ≤ 3) (lit≤ tt) (lit≤ tt) (lit≤ tt)
 
 -- ---- the rows
 module _ (order : ℕ) (l : Layout) (n channels : ℕ) (m : channels ≤ 16) where
@@ -57,26 +50,18 @@ module _ (order : ℕ) (l : Layout) (weights : List Float) where
   answer a b c = let r : ℕ = cond a 1 (cond b 2 (cond c 5 0)) in record { refusal = r; weights = cond (eqb r 0) (matrixOf order l) weights }
 
   tests : (a b c : Bool) → _≡_ {A = ℕ} (cond a 1 (cond b 2 (cond c 5 0))) 0 → (a ≡ false) × (b ≡ false)
-  tests true b c h = absurd (one h)
-    where
-      one : _≡_ {A = ℕ} 1 0 → ⊥
-      one h = omega arith
-  tests false true c h = absurd (two h)
-    where
-      two : _≡_ {A = ℕ} 2 0 → ⊥
-      two h = omega arith
-  tests false false c h = (refl, refl)
+  tests a b c h = let p = passed a 0 (cond b 2 (cond c 5 0)) h in (p .0, passed b 1 (cond c 5 0) (p .1) .0)
 
   abbrev unlike : Bool
-  unlike = not (eqb (length weights) (channelsOf l * channelsIn order))
+  unlike = not (eqb (length weights) (channelsOf l * channelsOfOrder order))
 
   -- ---- what the definition gives keeps all of the promise
-  row-is : (i : ℕ) → refusesOrder order ≡ false → i < channelsOf l → row (channelsIn order) i (matrixOf order l) ≡ rowBy order l (channelsOf l) (channelsIn order) i
+  row-is : (i : ℕ) → refusesOrder order ≡ false → i < channelsOf l → row (channelsOfOrder order) i (matrixOf order l) ≡ rowBy order l (channelsOf l) (channelsOfOrder order) i
   row-is i o h =
       let n = channelsOf l in
-      let k = channelsIn order in
+      let k = channelsOfOrder order in
       let f = rowBy order l n k in
-      row-found k (tab 0 n f) i [] (all-rows order l n k (few-channels order o) 0 n) (subst (λ (m : ℕ). i < m) (sym (length-tab 0 n f)) h) ∙ getD-tab 0 n f i [] h ∙ ap f (zero-add i)
+      row-found k (tab 0 n f) i [] (all-rows order l n k (few-channels order o .1) 0 n) (subst (λ (m : ℕ). i < m) (sym (length-tab 0 n f)) h) ∙ getD-tab 0 n f i [] h ∙ ap f (zero-add i)
 
   weights-are : refusalOf order l weights ≡ 0 → outcome order l weights .weights ≡ matrixOf order l
   weights-are z = ap (λ (r : ℕ). cond (eqb r 0) (matrixOf order l) weights) z
@@ -87,7 +72,7 @@ module _ (order : ℕ) (l : Layout) (weights : List Float) where
     near = λ z i c h k.
         let t = tests (refusesOrder order) (uncountable (channelsOf l)) unlike z in
         subst (λ (xs : List Float). BySquares matrixBits (number (getD xs c nan)) (formulaAt order l i c) (whole (channelsOf l)))
-        (sym (ap (row (channelsIn order) i) (weights-are z) ∙ row-is i (t .0) h)) (near order l (t .0) (t .1) i h c k (few-channels order (t .0)));
+        (sym (ap (row (channelsOfOrder order) i) (weights-are z) ∙ row-is i (t .0) h)) (near order l (t .0) (t .1) i h c k (few-channels order (t .0) .1));
   }
 
   -- ---- the four answers of the program
@@ -100,15 +85,15 @@ module _ (order : ℕ) (l : Layout) (weights : List Float) where
   pub layout-refused : refusesOrder order ≡ false → uncountable (channelsOf l) ≡ true → Computes order l weights (record { refusal = 2; weights = weights })
   layout-refused o u = by-tests false true unlike o u refl
 
-  pub length-refused : refusesOrder order ≡ false → uncountable (channelsOf l) ≡ false → eqb (length weights) (channelsOf l * channelsIn order) ≡ false → Computes order l weights (record { refusal = 5; weights = weights })
+  pub length-refused : refusesOrder order ≡ false → uncountable (channelsOf l) ≡ false → eqb (length weights) (channelsOf l * channelsOfOrder order) ≡ false → Computes order l weights (record { refusal = 5; weights = weights })
   length-refused o u e = by-tests false false true o u (ap not e)
 
-  pub matrix-put : (after : List Float) → refusesOrder order ≡ false → uncountable (channelsOf l) ≡ false → eqb (length weights) (channelsOf l * channelsIn order) ≡ true
-      → after ≡ putRows (channelsIn order) weights 0 (rowsBy order l (channelsOf l) (channelsIn order)) → Computes order l weights (record { refusal = 0; weights = after })
+  pub matrix-put : (after : List Float) → refusesOrder order ≡ false → uncountable (channelsOf l) ≡ false → eqb (length weights) (channelsOf l * channelsOfOrder order) ≡ true
+      → after ≡ putRows (channelsOfOrder order) weights 0 (rowsBy order l (channelsOf l) (channelsOfOrder order)) → Computes order l weights (record { refusal = 0; weights = after })
   matrix-put after o u e h =
       let n = channelsOf l in
-      let k = channelsIn order in
+      let k = channelsOfOrder order in
       let rs = rowsBy order l n k in
       subst (λ (xs : List Float). Computes order l weights (record { refusal = 0; weights = xs }))
-      (sym (h ∙ put-joined k rs [] weights (all-rows order l n k (few-channels order o) 0 n) (eqb-true (length weights) (n * k) e ∙ ap (λ (m : ℕ). m * k) (sym (length-tab 0 n (rowBy order l n k))))))
+      (sym (h ∙ put-joined k rs [] weights (all-rows order l n k (few-channels order o .1) 0 n) (eqb-true (length weights) (n * k) e ∙ ap (λ (m : ℕ). m * k) (sym (length-tab 0 n (rowBy order l n k))))))
       (by-tests false false false o u (ap not e))

@@ -1,16 +1,16 @@
 -- Each weight of a matrix is as near its formula as is promised, by squares: the harmonic is known by its promise, the root of n by the root's, and the rest is one expression. Every speaker's azimuth is one that
 -- the harmonics take, by one test over the tables. Assumes nothing.
-use Prim.Native.Nat.{ℕ, zero, suc, _+_, _-_, _*_, _^_, _≤_, _<_, zero-le}
+use Prim.Native.Nat.{ℕ, zero, suc, _+_, _-_, _^_, _≤_, _<_, zero-le}
 use native.Mathlib.Nat.{not-suc-le-zero, le-of-suc-le-suc}
 use native.Mathlib.Omega.{arith}
 use mathlib.Core.Path.{_≡_, refl, sym, ap, _∙_, subst}
-use mathlib.Core.Bool.{Bool, true, false, not, _&&_, _||_, cond}
+use mathlib.Core.Bool.{Bool, false, not, _&&_}
 use mathlib.Core.List.{List, [], _∷_}
 use lib.IntN.{pos}
-use lib.Dec.{T, eqb, ltb, lit≤, eqb→eq}
+use lib.Dec.{T, eqb, eqb→eq}
 use borrow.Author.Tests.{not-false}
 use lib.ListN.{length, getD, take, length-take}
-use lib.Ieee.{Float, nan, fin, binary64, fits, round, ofInt, sub, mul, div, lt, le, neg}
+use lib.Ieee.{Float, nan, binary64, fits, round, ofInt, sub, mul, div, lt, le, neg}
 use lib.Ieee.Fits.{and-l, and-r}
 use lib.Ieee.Positive.{positive}
 use Rattle.fractions.specs.Fraction.{Fraction, fraction, number, whole}
@@ -21,16 +21,18 @@ use Rattle.numbers.specs.Computed.{rootOf}
 use Rattle.numbers.proofs.Close.{root-close, root-fits}
 use Rattle.planes.specs.Tables.{tab, any}
 use Rattle.planes.specs.Normalization.{asFloat, inverseRoot}
-use Rattle.planes.proofs.Checks.{or-off, any-off}
+use Rattle.planes.proofs.Checks.{any-off}
 use Rattle.rows.specs.Rows.{scaled}
 use Rattle.channel.specs.declared.Layout.{Layout}
 use Rattle.channel.specs.declared.Layout.the-variants.{Mono, Stereo, Surround51, Surround71, Custom}
 use Rattle.channel.specs.Layouts.{channelsOf, uncountable}
 use Rattle.channel.proofs.Counts.{in-range}
-use Rattle.harmonics.specs.Promise.{refusesOrder, refusesAngle, isInside, refusesAzimuth, refusesElevation, refusalOf, outcome}
+use Rattle.channel.specs.Orders.{refusesOrder, channelsOfOrder}
+use Rattle.angles.specs.Limits.{isInside, refusesAngle}
+use Rattle.harmonics.specs.Promise.{refusesAzimuth, refusesElevation, outcome}
 use Rattle.harmonics.proofs.Laws.{accepted, direction-accepted, outcome-kept, gain-near, gains-length}
-use Rattle.decoder_matrix.specs.Speakers.{azimuthAt, azimuthBy, towards, customAzimuth, turnedBack}
-use Rattle.decoder_matrix.specs.Matrix.{channelsIn, rowBy, formulaAt}
+use Rattle.decoder_matrix.specs.Speakers.{azimuthAt, towards, customAzimuth, turnedBack}
+use Rattle.decoder_matrix.specs.Matrix.{rowBy, formulaAt}
 use Rattle.decoder_matrix.specs.Promise.{matrixBits}
 
 -- ---- the numbers 1 to 16 as floats
@@ -127,12 +129,12 @@ module _ (order : ℕ) (l : Layout) (o : refusesOrder order ≡ false) (u : unco
       let w = whole-is (channelsOf l) (in-range (channelsOf l) u .0) (in-range (channelsOf l) u .1) in
       over-root (rootOf binary64 (asFloat (channelsOf l))) (channelsOf l) s (in-range (channelsOf l) u .0) (in-range (channelsOf l) u .1) root (root-fits binary64 (asFloat (channelsOf l)) (w .held) (w .above)) matrixBits tt
 
-  pub near : (c : ℕ) → c < channelsIn order → channelsIn order ≤ 16 → BySquares matrixBits (number (getD (rowBy order l (channelsOf l) (channelsIn order) i) c nan)) (formulaAt order l i c) (whole (channelsOf l))
+  pub near : (c : ℕ) → c < channelsOfOrder order → channelsOfOrder order ≤ 16 → BySquares matrixBits (number (getD (rowBy order l (channelsOf l) (channelsOfOrder order) i) c nan)) (formulaAt order l i c) (whole (channelsOf l))
   unfolding ofInt
   near c k m =
       let d = towards (azimuthAt l i) in
       let g = outcome order d .gains in
       let z = accepted order d o (direction-accepted d (taken l i u h) front) in
       subst (λ (x : Float). BySquares matrixBits (number x) (formulaAt order l i c) (whole (channelsOf l)))
-      (sym (getD-scaled (inverseRoot (channelsOf l)) (take (channelsIn order) g) c nan nan (length-first (channelsIn order) c g k (omega (arith, m, gains-length order d (outcome order d) (outcome-kept order d)))) ∙ ap (λ (x : Float). mul binary64 x (inverseRoot (channelsOf l))) (getD-take (channelsIn order) g c nan k)))
+      (sym (getD-scaled (inverseRoot (channelsOf l)) (take (channelsOfOrder order) g) c nan nan (length-first (channelsOfOrder order) c g k (omega (arith, m, gains-length order d (outcome order d) (outcome-kept order d)))) ∙ ap (λ (x : Float). mul binary64 x (inverseRoot (channelsOf l))) (getD-take (channelsOfOrder order) g c nan k)))
       (near-one (getD g c nan) (formulaAt order l i c) (gain-near order d (outcome order d) (outcome-kept order d) z c nan (whole 0) (omega arith)))

@@ -2,8 +2,8 @@
 use Prim.Native.Nat.{ℕ}
 use native.Mathlib.Omega.{arith}
 use mathlib.Core.Path.{_≡_, refl, sym, ap, _∙_}
-use mathlib.Core.Bool.{true, false, not, cond, true≢false}
-use mathlib.Core.List.{List}
+use mathlib.Core.Bool.{true, not, cond, true≢false}
+use mathlib.Core.List.{List, flatten}
 use lib.Dec.{eqb}
 use lib.ListN.{length, getD}
 use lib.Ieee.{Float, nan, size, units, round, ofInt, le, neg, mul, div}
@@ -13,7 +13,7 @@ use Rattle.planes.specs.Tables.{row}
 use Rattle.planes.specs.Normalization.{asFloat, inverseRoot}
 use Rattle.channel.specs.declared.Layout.the-variants.{Surround51}
 use Rattle.harmonics.specs.Computed.{upTo}
-use Rattle.harmonics.specs.Promise.{refusesAngle, isInside}
+use Rattle.angles.specs.Limits.{isInside, refusesAngle}
 use Rattle.decoder_matrix.specs.Matrix.{rowBy, matrixOf}
 use Rattle.decoder_matrix.specs.Promise.{Computed, Computes}
 
@@ -23,7 +23,7 @@ low-frequency-row order channels = refl
 
 -- its first weight, 1.0/root(6), is above 0
 sounds : positive (getD (row 4 3 (matrixOf 1 Surround51)) 0 nan) ≡ true
-unfolding inverseRoot asFloat rootOf wholeRoot size units div round mul ofInt le neg refusesAngle isInside upTo
+unfolding flatten inverseRoot asFloat rootOf wholeRoot size units div round mul ofInt le neg refusesAngle isInside upTo
 sounds = refl
 
 module _ (w : List Float) (long : length w ≡ 24) (r : Computed) (p : Computes 1 Surround51 w r) where

@@ -2,10 +2,10 @@
 use Prim.Native.Nat.{ℕ, _+_, _*_, _≤_, _<_, zero-le}
 use native.Mathlib.Omega.{arith}
 use mathlib.Core.Path.{_≡_, refl, sym, _∙_}
-use mathlib.Core.Bool.{Bool, true, false, not, _&&_, cond}
+use mathlib.Core.Bool.{Bool, true, false, not, cond}
 use lib.Dec.{eqb}
 use borrow.Author.Tests.{eqb-true, not-false}
-use lib.Ieee.{Float, round, ofInt, sub, mul, div, lt}
+use lib.Ieee.{round, ofInt, sub, mul, div, lt}
 use Rattle.refusals.proofs.First.{stops}
 use Rattle.fractions.specs.Fraction.{Fraction, number, whole, _⊖_, Same}
 use Rattle.planes.specs.Tables.{tab, any}

@@ -13,8 +13,8 @@ use Rattle.fractions.specs.Squares.{BySquares}
 use Rattle.planes.specs.Tables.{row}
 use Rattle.channel.specs.declared.Layout.{Layout}
 use Rattle.channel.specs.Layouts.{channelsOf, uncountable}
-use Rattle.harmonics.specs.Promise.{refusesOrder}
-use Rattle.decoder_matrix.specs.Matrix.{channelsIn, matrixOf, formulaAt}
+use Rattle.channel.specs.Orders.{refusesOrder, channelsOfOrder}
+use Rattle.decoder_matrix.specs.Matrix.{matrixOf, formulaAt}
 
 -- within 2 ^ -matrixBits: the place to change it at
 abbrev pub matrixBits : ℕ
@@ -27,7 +27,7 @@ pub record Computed : Type 0 where
 
 abbrev pub refusalOf : ℕ → Layout → List Float → ℕ
 refusalOf order l weights =
-    firstOf (1 when refusesOrder order ∷ 2 when uncountable (channelsOf l) ∷ 5 when not (eqb (length weights) (channelsOf l * channelsIn order)) ∷ [])
+    firstOf (1 when refusesOrder order ∷ 2 when uncountable (channelsOf l) ∷ 5 when not (eqb (length weights) (channelsOf l * channelsOfOrder order)) ∷ [])
 
 abbrev pub outcome : ℕ → Layout → List Float → Computed
 outcome order l weights = let r = refusalOf order l weights in record { refusal = r; weights = cond (eqb r 0) (matrixOf order l) weights }
@@ -35,5 +35,5 @@ outcome order l weights = let r = refusalOf order l weights in record { refusal 
 -- every bit; and of each weight of an accepted matrix, that of channel c in the row of speaker i, how near it is to the harmonic over the root of n
 pub record Computes (order : ℕ) (l : Layout) (weights : List Float) (r : Computed) : Type 0 where
   pub is : r ≡ outcome order l weights
-  pub near : refusalOf order l weights ≡ 0 → (i c : ℕ) → i < channelsOf l → c < channelsIn order
-      → BySquares matrixBits (number (getD (row (channelsIn order) i (r .weights)) c nan)) (formulaAt order l i c) (whole (channelsOf l))
+  pub near : refusalOf order l weights ≡ 0 → (i c : ℕ) → i < channelsOf l → c < channelsOfOrder order
+      → BySquares matrixBits (number (getD (row (channelsOfOrder order) i (r .weights)) c nan)) (formulaAt order l i c) (whole (channelsOf l))

@@ -7,7 +7,7 @@
 // formula, by squares. It comes from a harmonic within 2^-42, one root, one division and one product, 2^-53
 // each; with 2^-38 for 2^-33 the same proof passes.
 //
-// Under it lie `harmonics`, `channel` (the table of angles), `planes` (the inverse of a root), `rows` and
+// Under it lie `harmonics`, `channel` (orders, and the table of angles), `planes` (the inverse of a root), `rows` and
 // `refusals`.
 use channel::Layout;
 use harmonics::Direction;
@@ -94,14 +94,15 @@ fn put_speakers(order: usize, layout: Layout, n: u32, channels: usize, weights: 
 pub fn compute_decoder_matrix(order: usize, layout: Layout, weights: &mut [f64]) -> u8
     ensures { λ r. ⌜ Computes order layout (now (weights .entry)) (record { refusal = r; weights = now (weights .exit) }) ⌝ }
 {
-    if harmonics::refuses_order(order) {
+    let ambisonic = channel::ambisonic_channel_count(order);
+    if ambisonic.refusal != 0 {
         return 1;
     }
     let counted = channel::channel_count(layout);
     if counted.refusal != 0 {
         return 2;
     }
-    let channels = (order + 1) * (order + 1);
+    let channels = ambisonic.channels;
     if !planes::is_product(weights.len(), counted.channels, channels) {
         return 5;
     }

@@ -3,15 +3,14 @@
 use mathlib.Core.Path.{_≡_, refl, sym, subst}
 use mathlib.Core.Bool.{Bool, true, false, _&&_}
 use mathlib.Core.List.{List, [], _∷_, map}
-use Prim.Native.Nat.{ℕ, _+_, _*_, _<_}
+use Prim.Native.Nat.{_+_, _*_, _<_}
 use native.Mathlib.Nat.{mul-pos}
 use native.Mathlib.Omega.{arith}
 use lib.Dec.{T, eqb, eqb→eq, lit<, lit≤}
 use lib.Ieee.Fits.{and-l, and-r}
-use lib.ListN.{getD}
 use lib.Ieee.{Float, fin, binary64, round, add, sub, mul, div, neg, lt, le, eq, ofInt}
 use lib.IntN.{pos}
-use Rattle.fractions.specs.Fraction.{Fraction, fraction, number, whole, opposite, magnitude, _⊗_, Same, AtMost}
+use Rattle.fractions.specs.Fraction.{Fraction, number, whole, magnitude, _⊗_, Same, AtMost}
 use Rattle.fractions.proofs.Order.{same-sym, same-trans}
 use Rattle.fractions.proofs.Operations.{mul-result}
 use Rattle.fractions.proofs.Exact.{result-exact}
@@ -19,12 +18,12 @@ use Rattle.fractions.proofs.Held.{whole-held, same-held}
 use Rattle.series.specs.Sums.{Wave, sine, cosine}
 use Rattle.series.specs.Angles.{turned, isMultiple, quarters, defined, definedSine, definedCosine}
 use Rattle.angles.specs.Computed.{units, cut, place, short, times, radians, nesting, nest, rounded, sineAt, cosineAt, computed}
-use Rattle.angles.specs.Promise.{isInside, isRefused}
+use Rattle.angles.specs.Limits.{isInside, refusesAngle}
 use Rattle.angles.specs.Promise as Angles
 use Rattle.harmonics.specs.Formulas.{h, q, m, formulasOver, formulas}
-use Rattle.harmonics.specs.Computed.{sin, cos, wavesOf, upTo, decimal}
+use Rattle.harmonics.specs.Computed.{sin, cos, wavesOf, upTo}
 use Rattle.harmonics.specs.Promise as Said
-use Rattle.harmonics.specs.Promise.{degrees, refusesAzimuth, refusesAngle, outcome}
+use Rattle.harmonics.specs.Promise.{degrees, refusesAzimuth, outcome}
 use Rattle.harmonics.specs.Drill.{at, given, Alike, none, front, frontFloats, left, Above}
 use Rattle.harmonics.specs.declared.Direction.{Direction}
 use Rattle.harmonics.proofs.Laws.{accepted, direction-accepted, elevation-accepted, azimuth-number, azimuth-size, outcome-kept, gains-are}
@@ -51,7 +50,7 @@ unfolding formulasOver defined isMultiple quarters turned
 drill-1 = alike (formulas 3 (whole 0) (whole 0)) (front h m q) tt
 
 pub drill-1-floats : Alike (given 3 (at 0 0)) frontFloats
-unfolding refusesAngle Said.isInside upTo wavesOf sin cos isRefused isInside lt le eq computed place cut units turned sineAt cosineAt short times radians nesting nest rounded ofInt div neg add sub mul round
+unfolding refusesAngle isInside upTo wavesOf sin cos lt le eq computed place cut units turned sineAt cosineAt short times radians nesting nest rounded ofInt div neg add sub mul round
 drill-1-floats = alike (given 3 (at 0 0)) frontFloats tt
 
 pub drill-2 : Alike (formulas 1 (whole 90) (whole 0)) left
@@ -59,7 +58,7 @@ unfolding formulasOver defined isMultiple quarters turned
 drill-2 = alike (formulas 1 (whole 90) (whole 0)) left tt
 
 pub drill-2-floats : Alike (given 1 (at 90 0)) left
-unfolding refusesAngle Said.isInside upTo wavesOf sin cos isRefused isInside lt le eq computed place cut units turned sineAt cosineAt short times radians nesting nest rounded ofInt div neg add sub mul round
+unfolding refusesAngle isInside upTo wavesOf sin cos lt le eq computed place cut units turned sineAt cosineAt short times radians nesting nest rounded ofInt div neg add sub mul round
 drill-2-floats = alike (given 1 (at 90 0)) left tt
 
 -- 0 times a number
@@ -83,7 +82,7 @@ nought-times y Y =
     (nothing (number y))
 
 risen : (a : Float) → 0 < number a .over → AtMost (magnitude (number a)) (whole 180) → Above (map number (upTo 3 (wavesOf (record { azimuth = a; elevation = degrees 90 }))))
-unfolding nought upTo wavesOf sin cos isRefused isInside lt le eq computed place cut units turned sineAt cosineAt short times radians nesting nest rounded ofInt div neg add sub mul round
+unfolding nought upTo wavesOf sin cos refusesAngle isInside lt le eq computed place cut units turned sineAt cosineAt short times radians nesting nest rounded ofInt div neg add sub mul round
 risen a A h = record { one = number-times sine; two = refl; three = number-times cosine; six = refl; twelve = refl }
   where
     number-times : (w : Wave) → Same (number (mul binary64 nought (Angles.outcome w a .value))) none

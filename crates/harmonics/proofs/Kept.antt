@@ -1,41 +1,30 @@
 -- The promise is kept: all of it holds of the answer that the definition gives, and so of the three answers that the program can give. Assumes nothing.
 use mathlib.Core.Path.{_≡_, refl, sym, ap, _∙_, subst}
-use mathlib.Core.Bool.{Bool, true, false, _||_, cond, true≢false}
+use mathlib.Core.Bool.{Bool, true, false, cond}
 use mathlib.Core.List.{List}
 use Prim.Native.Nat.{ℕ, _<_}
-use native.Mathlib.Omega.{arith}
 use lib.Dec.{eqb, lit≤}
 use lib.ListN.{length}
 use lib.IntN.{pos}
 use lib.Ieee.{Float, ofInt}
+use Rattle.refusals.proofs.First.{passed, or-off}
+use Rattle.channel.specs.Orders.{refusesOrder}
+use Rattle.channel.proofs.Orders.{by-order}
 use Rattle.fractions.specs.Fraction.{number, whole, magnitude, AtMost}
 use Rattle.fractions.specs.Approximates.{EachWithin}
 use Rattle.fractions.proofs.Close.{size-wider}
 use Rattle.fractions.proofs.Within.{at-most-size, size-at-most}
 use Rattle.harmonics.specs.Formulas.{formulas}
 use Rattle.harmonics.specs.Computed.{wavesOf, upTo, gainsOf}
-use Rattle.harmonics.specs.Promise.{gainBits, refusesOrder, refusesAzimuth, refusesElevation, refusesDirection, refusalOf, silence, outcome, Promise}
+use Rattle.harmonics.specs.Promise.{gainBits, refusesAzimuth, refusesElevation, refusesDirection, refusalOf, silence, outcome, Promise}
 use Rattle.harmonics.specs.declared.Direction.{Direction}
 use Rattle.harmonics.specs.declared.Coefficients.{Coefficients}
-use Rattle.harmonics.proofs.Limits.{accepted-number, accepted-size}
-use Rattle.harmonics.proofs.Orders.{by-order}
+use Rattle.angles.proofs.Limits.{accepted-number, accepted-size}
 use Rattle.harmonics.proofs.Near.{Bounded, bounded}
 
 -- ---- which orders and directions are accepted
 tests : (a b : Bool) → _≡_ {A = ℕ} (cond a 1 (cond b 3 0)) 0 → (a ≡ false) × (b ≡ false)
-tests true b h = absurd (one h)
-  where
-    one : _≡_ {A = ℕ} 1 0 → ⊥
-    one h = omega arith
-tests false true h = absurd (three h)
-  where
-    three : _≡_ {A = ℕ} 3 0 → ⊥
-    three h = omega arith
-tests false false h = (refl, refl)
-
-neither : (a b : Bool) → a || b ≡ false → (a ≡ false) × (b ≡ false)
-neither true b h = absurd (true≢false h)
-neither false b h = (refl, h)
+tests a b h = let p = passed a 0 (cond b 3 0) h in (p .0, passed b 2 0 (p .1) .0)
 
 -- what is known of an accepted direction
 pub record Accepted (order : ℕ) (d : Direction) : Type 0 where
@@ -50,7 +39,7 @@ module _ (order : ℕ) (d : Direction) where
   unfolding ofInt
   is-accepted h =
       let t = tests (refusesOrder order) (refusesDirection d) h in
-      let n = neither (refusesAzimuth (d .azimuth)) (refusesElevation (d .elevation)) (t .1) in
+      let n = or-off (refusesAzimuth (d .azimuth)) (refusesElevation (d .elevation)) (t .1) in
       record {
         order-is = t .0;
         azimuth = accepted-number false 45 (pos 2) (d .azimuth) (n .0);

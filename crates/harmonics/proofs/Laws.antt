@@ -11,6 +11,8 @@ use lib.ListN.{length, getD}
 use lib.Ieee.{Float, binary64, round, ofInt}
 use lib.Ieee.Exact.{HasValue}
 use lib.Ieee.Back.{round-whole}
+use Rattle.channel.specs.Orders.{refusesOrder}
+use Rattle.channel.proofs.Orders.{by-order}
 use Rattle.fractions.specs.Fraction.{Fraction, number, signed, whole, magnitude, AtMost}
 use Rattle.fractions.specs.Approximates.{Approximates}
 use Rattle.fractions.proofs.Close.{Size, size-same}
@@ -18,11 +20,10 @@ use Rattle.fractions.proofs.Within.{size-at-most}
 use Rattle.fractions.proofs.Number.{value-same, value-number}
 use Rattle.harmonics.specs.Formulas.{formulasOver, formulas}
 use Rattle.harmonics.specs.Computed.{wavesOf, upTo}
-use Rattle.harmonics.specs.Promise.{refusesOrder, refusesAzimuth, refusesElevation, refusesDirection, refusalOf, outcome, Promise}
+use Rattle.harmonics.specs.Promise.{refusesAzimuth, refusesElevation, refusesDirection, refusalOf, outcome, Promise}
 use Rattle.harmonics.specs.declared.Direction.{Direction}
 use Rattle.harmonics.specs.declared.Coefficients.{Coefficients}
-use Rattle.harmonics.proofs.Limits.{accepted-number, accepted-size, size-accepted}
-use Rattle.harmonics.proofs.Orders.{by-order}
+use Rattle.angles.proofs.Limits.{accepted-number, accepted-size, size-accepted}
 use Rattle.harmonics.proofs.Kept as Kept
 
 -- ---- which angles are accepted: those of 180, or of 90 degrees at most in size

@@ -1,6 +1,4 @@
--- What the proofs of `harmonics` share. Crates above cite `Laws`, the orders (`Orders`), the drill table's items and `Unique`.
-mod Limits
-pub mod Orders
+-- What the proofs of `harmonics` share. Crates above cite `Laws`, the drill table's items and `Unique`.
 mod Near
 pub mod Kept
 pub mod Laws

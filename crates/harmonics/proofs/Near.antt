@@ -9,6 +9,8 @@ use lib.Dec.{T, lit≤, lit<}
 use lib.ListN.{length, getD, set}
 use lib.Ieee.{Float, binary64, mul, round}
 use lib.Ieee.Fits.{and-l, and-r}
+use Rattle.channel.specs.Orders.{refusesOrder}
+use Rattle.channel.proofs.Orders.{by-order}
 use Rattle.fractions.specs.Fraction.{Fraction, fraction, number, whole, unit, opposite, magnitude, square, _⊕_, _⊖_, _⊗_, _⊘_, AtMost}
 use Rattle.fractions.specs.Approximates.{Approximates, EachWithin}
 use Rattle.fractions.proofs.Close.{size-mul, size-wider}
@@ -22,9 +24,8 @@ use Rattle.angles.specs.Promise.{outcome}
 use Rattle.angles.proofs.Laws.{outcome-kept, accepted, value-near, value-carried}
 use Rattle.harmonics.specs.Formulas.{Sines, sinesOf, degree0, degree1, degree2, degree3, sixteen, formulasOver, formulas}
 use Rattle.harmonics.specs.Computed.{sin, cos, wavesOf, upTo}
-use Rattle.harmonics.specs.Promise.{gainBits, refusesOrder}
+use Rattle.harmonics.specs.Promise.{gainBits}
 use Rattle.harmonics.specs.declared.Direction.{Direction}
-use Rattle.harmonics.proofs.Orders.{by-order}
 
 abbrev pub most : Fraction
 most = whole 1 ⊕ unit 50

@@ -5,7 +5,8 @@ use native.Mathlib.Omega.{arith}
 use lib.ListN.{getD}
 use lib.Ieee.{Float, nan, inf, fin, lt, le, eq, neg, round, ofInt}
 use Rattle.harmonics.specs.Computed.{wavesOf, upTo}
-use Rattle.harmonics.specs.Promise.{isInside, refusesAngle, degrees, silence, Promise}
+use Rattle.angles.specs.Limits.{isInside, refusesAngle}
+use Rattle.harmonics.specs.Promise.{degrees, silence, Promise}
 use Rattle.harmonics.specs.declared.Coefficients.{Coefficients}
 use Rattle.harmonics.specs.Drill.{at}
 

@@ -4,21 +4,12 @@ use mathlib.Core.Bool.{Bool}
 use Prim.Native.Nat.{ℕ}
 use lib.Ieee.{Float}
 use Rattle.refusals.proofs.Determined.{determined}
-use Rattle.harmonics.specs.Promise.{refusesOrder, refusesAzimuth, refusesElevation, refusesDirection, Promise}
+use Rattle.harmonics.specs.Promise.{refusesAzimuth, Promise}
 use Rattle.harmonics.specs.declared.Direction.{Direction}
 use Rattle.harmonics.specs.declared.Coefficients.{Coefficients}
 
-pub refuses-order-unique : (n : ℕ) (a b : Bool) → a ≡ refusesOrder n → b ≡ refusesOrder n → a ≡ b
-refuses-order-unique n = determined
-
 pub refuses-azimuth-unique : (x : Float) (a b : Bool) → a ≡ refusesAzimuth x → b ≡ refusesAzimuth x → a ≡ b
 refuses-azimuth-unique x = determined
-
-pub refuses-elevation-unique : (x : Float) (a b : Bool) → a ≡ refusesElevation x → b ≡ refusesElevation x → a ≡ b
-refuses-elevation-unique x = determined
-
-pub refuses-direction-unique : (d : Direction) (a b : Bool) → a ≡ refusesDirection d → b ≡ refusesDirection d → a ≡ b
-refuses-direction-unique d = determined
 
 pub compute-sh-coefficients-unique : (order : ℕ) (d : Direction) (a b : Coefficients) → Promise order d a → Promise order d b → a ≡ b
 compute-sh-coefficients-unique order d a b p q = determined a b (p .is) (q .is)

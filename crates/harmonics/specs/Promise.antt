@@ -2,16 +2,17 @@
 -- refusal returns its number, [..] 0.0 for any number or gain". 'Gains', harmonics: "Within 2^-34 of the formula over the defined sums." Definitions only.
 use Prim.Native.Nat.{ℕ}
 use mathlib.Core.Path.{_≡_}
-use mathlib.Core.Bool.{Bool, not, _&&_, _||_, cond}
+use mathlib.Core.Bool.{Bool, _||_, cond}
 use mathlib.Core.List.{List, [], _∷_}
-use lib.Dec.{leb, eqb}
+use lib.Dec.{eqb}
 use lib.IntN.{pos}
 use lib.ListN.{replicate}
-use lib.Ieee.{Float, binary64, le, neg, ofInt}
-use lib.Ieee.Scale.{finite}
+use lib.Ieee.{Float, binary64, ofInt}
 use Rattle.refusals.specs.Refusals.{firstOf, _when_}
+use Rattle.channel.specs.Orders.{refusesOrder}
 use Rattle.fractions.specs.Fraction.{number}
 use Rattle.fractions.specs.Approximates.{EachWithin}
+use Rattle.angles.specs.Limits.{refusesAngle}
 use Rattle.harmonics.specs.Formulas.{formulas}
 use Rattle.harmonics.specs.Computed.{wavesOf, upTo}
 use Rattle.harmonics.specs.declared.Direction.{Direction}
@@ -23,18 +24,8 @@ gainBits = 34
 
 -- ---- refusals
 
-abbrev pub refusesOrder : ℕ → Bool
-refusesOrder n = not (leb 1 n && leb n 3)
-
 abbrev pub degrees : ℕ → Float
 degrees n = ofInt binary64 (pos n)
-
--- -limit..limit
-unfoldable pub isInside : Float → Float → Bool
-isInside limit x = le (neg limit) x && le x limit
-
-unfoldable pub refusesAngle : Float → Float → Bool
-refusesAngle limit x = not (finite x) || not (isInside limit x)
 
 abbrev pub refusesAzimuth : Float → Bool
 refusesAzimuth a = refusesAngle (degrees 180) a

@@ -5,8 +5,8 @@
 // `compute_sh_coefficients` takes any order and any direction. An order that is not 1, 2 or 3 is refused with
 // 1, a direction that is NaN, infinite or outside -180..180 and -90..90 with 3, and sixteen times 0.0. Else
 // the promise (specs/Promise.antt) fixes each bit of the sixteen, and says beside it that each is within
-// 2^-34 of document 01's formula over the defined sines and cosines; beyond the order stands 0.0. The tests of
-// an order, an azimuth and a direction are public, for the crates above to refuse by.
+// 2^-34 of document 01's formula over the defined sines and cosines; beyond the order stands 0.0. The test of
+// an azimuth is public, for `surround` to refuse by.
 //
 // proofs/Near.antt shows 2^-42, by this budget in units of 2^-50, of which 2^-42 is 256:
 //
@@ -22,9 +22,11 @@
 //   channels 10, 14                                           131
 //
 // Under it lie `angles` (the program's sine and cosine), `series` (the defined ones), `fractions` (what
-// "within" is said over, and the calculus that the budget is computed by) and `refusals`.
+// "within" is said over, and the calculus that the budget is computed by), `channel` (which orders there
+// are) and `refusals`.
 ghost use mathlib.Core.Path.{_≡_};
 ghost use Rattle.harmonics.specs.Computed as Steps;
+ghost use Rattle.angles.specs.Limits.{isInside};
 ghost use Rattle.harmonics.specs.Promise as Said;
 
 // Where a sound comes from, in degrees: azimuth 0 is the front and 90 the left, elevation 90 is above.
@@ -54,16 +56,9 @@ struct Waves {
 
 // Whether an angle is from -limit to limit: no NaN is, and no infinity.
 fn is_inside(limit: f64, angle: f64) -> bool
-    ensures { λ r. ⌜ r ≡ Said.isInside limit angle ⌝ }
+    ensures { λ r. ⌜ r ≡ isInside limit angle ⌝ }
 {
     angle >= -limit && angle <= limit
-}
-
-// Whether an order is not 1, 2 or 3.
-pub fn refuses_order(order: usize) -> bool
-    ensures { λ r. ⌜ r ≡ Said.refusesOrder order ⌝ }
-{
-    order < 1 || 3 < order
 }
 
 // Whether an azimuth is NaN, infinite or outside -180..180.
@@ -74,14 +69,14 @@ pub fn refuses_azimuth(azimuth: f64) -> bool
 }
 
 // Whether an elevation is NaN, infinite or outside -90..90.
-pub fn refuses_elevation(elevation: f64) -> bool
+fn refuses_elevation(elevation: f64) -> bool
     ensures { λ r. ⌜ r ≡ Said.refusesElevation elevation ⌝ }
 {
     !is_inside(90.0, elevation)
 }
 
 // Whether one of the two is refused.
-pub fn refuses_direction(direction: Direction) -> bool
+fn refuses_direction(direction: Direction) -> bool
     ensures { λ r. ⌜ r ≡ Said.refusesDirection direction ⌝ }
 {
     refuses_azimuth(direction.azimuth) || refuses_elevation(direction.elevation)
@@ -187,7 +182,7 @@ fn refused(refusal: u8) -> Coefficients
 pub fn compute_sh_coefficients(order: usize, direction: Direction) -> Coefficients
     ensures { λ r. ⌜ Said.Promise order direction r ⌝ }
 {
-    if refuses_order(order) {
+    if channel::refuses_order(order) {
         return refused(1);
     }
     if refuses_direction(direction) {

@@ -1,24 +1,18 @@
 -- Document 01, 'Refusal numbers': 1 is given exactly when "ambisonic order is not 1, 2 or 3", 5 when the length of the lent weights is other than outputs x channels; "lent memory stays the same" on a
 -- refusal. Definitions only.
-use Prim.Native.Nat.{ℕ, _+_, _*_}
+use Prim.Native.Nat.{ℕ, _*_}
 use mathlib.Core.Path.{_≡_}
-use mathlib.Core.Bool.{Bool, not, cond, _&&_}
+use mathlib.Core.Bool.{not, cond}
 use mathlib.Core.List.{List, [], _∷_}
-use lib.Dec.{leb, eqb}
+use lib.Dec.{eqb}
 use lib.ListN.{length}
 use lib.Ieee.{Float}
 use Rattle.refusals.specs.Refusals.{firstOf, _when_}
+use Rattle.channel.specs.Orders.{refusesOrder, channelsOfOrder}
 use Rattle.matrix.specs.Rows.{rows}
 
-abbrev pub isOrder : ℕ → Bool
-isOrder n = leb 1 n && leb n 3
-
--- (order + 1)²
-abbrev pub channels : ℕ → ℕ
-channels n = (n + 1) * (n + 1)
-
 abbrev pub refusalOf : ℕ → List Float → ℕ
-refusalOf n weights = firstOf (1 when not (isOrder n) ∷ 5 when not (eqb (length weights) (2 * channels n)) ∷ [])
+refusalOf n weights = firstOf (1 when refusesOrder n ∷ 5 when not (eqb (length weights) (2 * channelsOfOrder n)) ∷ [])
 
 -- the refusal, and what the list holds
 pub record Computed : Type 0 where

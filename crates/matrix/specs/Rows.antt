@@ -1,21 +1,18 @@
 -- Document 01, 'Gains': "Binaural rows (002): the literals of 002 for orders 1 to 3, both rows as they stand, times 1.0/root(2.0). Bit-exact." Definitions only. Every literal of 002 is a whole
 -- number of hundredths, so the rows are written as those; the missing and superfluous signs of the right ear, on channels 5, 11 and 14, stand as 002 has them.
-use Prim.Native.Nat.{ℕ, suc, _-_}
+use Prim.Native.Nat.{ℕ, suc}
 use mathlib.Core.Bool.{true, false, cond}
 use lib.Dec.{eqb}
 use mathlib.Core.List.{List, [], _∷_, _++_}
 use lib.IntN.{ℤ, pos, negsuc}
 use lib.Ieee.{Float, binary64, round}
+use Rattle.channel.specs.Layouts.{minus}
 use Rattle.rows.specs.Rows.{scaled}
 use Rattle.planes.specs.Normalization.{inverseRoot}
 
 pub data Ear : Type 0 where
   left : Ear
   right : Ear
-
--- -n, for an n above 0
-abbrev minus : ℕ → ℤ
-minus n = negsuc (n - 1)
 
 -- by ear, in hundredths, in ACN order: first, second and third order
 abbrev pub foa : Ear → List ℤ

@@ -4,7 +4,7 @@
 // decoder's own `process`: no sum stands here.
 //
 // It takes any input; its promise (specs/Promise.antt) is one equation for the refusal and the list. Under
-// it lie `planes` (the inverse of a root), `rows` and `refusals`.
+// it lie `channel` (which orders there are), `planes` (the inverse of a root), `rows` and `refusals`.
 ghost use mathlib.Core.Path.{_≡_};
 ghost use Rattle.matrix.specs.Promise.{Computes};
 ghost use Rattle.matrix.specs.Steps.{put};
@@ -72,14 +72,14 @@ fn put_ears(left: &[f64], right: &[f64], weights: &mut [f64]) -> u8
 pub fn compute_matrix(order: usize, weights: &mut [f64]) -> u8
     ensures { λ r. ⌜ Computes order (now (weights .entry)) (record { refusal = r; weights = now (weights .exit) }) ⌝ }
 {
+    if channel::refuses_order(order) {
+        return 1;
+    }
     if order == 1 {
         return put_ears(&FOA_LEFT, &FOA_RIGHT, weights);
     }
     if order == 2 {
         return put_ears(&SOA_LEFT, &SOA_RIGHT, weights);
     }
-    if order == 3 {
-        return put_ears(&TOA_LEFT, &TOA_RIGHT, weights);
-    }
-    1
+    put_ears(&TOA_LEFT, &TOA_RIGHT, weights)
 }

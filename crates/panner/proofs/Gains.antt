@@ -1,25 +1,25 @@
 -- The gains of a command are those of the crate that computes them, and its refusal is theirs, in the panner's order. Assumes nothing.
 use mathlib.Core.Path.{_≡_, refl, sym, ap, _∙_, subst}
-use mathlib.Core.Bool.{Bool, true, false, not, _&&_, cond}
+use mathlib.Core.Bool.{Bool, true, false, not, cond}
 use mathlib.Core.List.{_∷_}
-use Prim.Native.Nat.{ℕ, _+_, _*_, _≤_, _<_}
-use native.Mathlib.Nat.{mul-le-mul}
+use Prim.Native.Nat.{ℕ, _≤_, _<_}
 use native.Mathlib.Omega.{arith}
 use borrow.Author.Tests.{not-false}
-use lib.Dec.{T, leb, eqb, lit≤, leb→le}
+use lib.Dec.{eqb, lit≤}
 use lib.ListN.{replicate}
 use lib.Ieee.{Float}
-use lib.Ieee.Fits.{and-r}
-use Rattle.refusals.proofs.First.{stops, goes-on}
+use Rattle.refusals.proofs.First.{stops, goes-on, passed}
 use Rattle.channel.specs.Layouts.{channelsOf, uncountable, surround, counted}
+use Rattle.channel.specs.Orders.{refusesOrder, channelsOfOrder}
+use Rattle.channel.proofs.Counts.{surround-counted, surround-few}
+use Rattle.channel.proofs.Orders.{few-channels}
 use Rattle.channel.specs.declared.Layout.{Layout}
 use Rattle.channel.specs.declared.Counted.{Counted}
 use Rattle.stereo.specs.Promise as Stereo
 use Rattle.stereo.specs.declared.StereoGains.{StereoGains}
 use Rattle.surround.specs.Promise as Surround
-use Rattle.surround.specs.Computed.{zero as silent}
+use Rattle.angles.specs.Promise.{zero as silent}
 use Rattle.surround.specs.declared.SurroundGains.{SurroundGains}
-use Rattle.surround.proofs.Answers.{counted-is, few}
 use Rattle.harmonics.specs.Promise as Harmonics
 use Rattle.harmonics.specs.declared.Direction.{Direction}
 use Rattle.harmonics.specs.declared.Coefficients.{Coefficients}
@@ -82,42 +82,29 @@ module _ (l : Layout) (a : Float) (s : SurroundGains) (h : Surround.Pans l a s) 
   surround-refusal = ap (λ (x : SurroundGains). x .refusal) (h .is)
 
   offered : s .refusal ≡ 0 → surround l ≡ true
-  offered z = go (surround l) (sym surround-refusal ∙ z)
-    where
-      go : (b : Bool) → _≡_ {A = ℕ} (cond (not b) 2 (cond (Harmonics.refusesAzimuth a) 3 0)) 0 → b ≡ true
-      go true e = refl
-      go false e = absurd (two e)
-        where
-          two : _≡_ {A = ℕ} 2 0 → ⊥
-          two e = omega arith
+  offered z = not-false (surround l) (passed (not (surround l)) 1 _ (sym surround-refusal ∙ z) .0)
 
   pub surround-accepted : (g : Commanded) (k : Counted) → k ≡ counted l → s .refusal ≡ 0 → g ≡ record { refusal = 0; planes = k .channels; gains = s .gains } → Commands (Surround a) l g
   surround-accepted g k n z e =
       let o = offered z in
-      let count : g .planes ≡ channelsOf l = ap (λ (x : Commanded). x .planes) e ∙ ap (λ (x : Counted). x .channels) n ∙ counted-is l o in
+      let count : g .planes ≡ channelsOf l = ap (λ (x : Commanded). x .planes) e ∙ ap (λ (x : Counted). x .channels) n ∙ surround-counted l o in
       record {
         refusal = ap (λ (x : Commanded). x .refusal) e ∙ sym (sym surround-refusal ∙ z);
-        few = omega (arith, few l o);
+        few = omega (arith, surround-few l o .1);
         planes = λ k. count;
         gains = λ k. ap (λ (x : Commanded). x .gains) e ∙ ap (λ (x : SurroundGains). x .gains) (h .is);
         promised = λ k. subst (Surround.Pans l a) (λ i. record { refusal = z i; gains = h .is i .gains }) h;
       }
 
 -- ---- a direction with an order
-pub few-planes : (n : ℕ) → n ≤ 3 → (n + 1) * (n + 1) ≤ 16
-few-planes n h = let k : n + 1 ≤ 4 = omega arith in mul-le-mul k k
-
-pub order-most : (n : ℕ) → Harmonics.refusesOrder n ≡ false → n ≤ 3
-order-most n e = leb→le n 3 (and-r (leb 1 n) (leb n 3) (subst T (sym (not-false (leb 1 n && leb n 3) e)) tt))
-
 module _ (l : Layout) (d : Direction) (n : ℕ) where
-  pub order-refused : Harmonics.refusesOrder n ≡ true → commandRefusal (Ambisonic d n) l ≡ 1
+  pub order-refused : refusesOrder n ≡ true → commandRefusal (Ambisonic d n) l ≡ 1
   order-refused o = stops 1 _ o
 
-  pub layout-refused : Harmonics.refusesOrder n ≡ false → isBadLayout l ≡ true → commandRefusal (Ambisonic d n) l ≡ 2
+  pub layout-refused : refusesOrder n ≡ false → isBadLayout l ≡ true → commandRefusal (Ambisonic d n) l ≡ 2
   layout-refused o b = goes-on 1 _ o ∙ stops 2 _ b
 
-  module _ (s : Coefficients) (h : Harmonics.Promise n d s) (o : Harmonics.refusesOrder n ≡ false) (b : isBadLayout l ≡ false) where
+  module _ (s : Coefficients) (h : Harmonics.Promise n d s) (o : refusesOrder n ≡ false) (b : isBadLayout l ≡ false) where
     direction-is : s .refusal ≡ cond (Harmonics.refusesDirection d) 3 0
     direction-is = ap (λ (x : Coefficients). x .refusal) (h .is) ∙ goes-on 1 _ o
 
@@ -131,10 +118,10 @@ module _ (l : Layout) (d : Direction) (n : ℕ) where
         go true e = refl
         go false e = absurd (k e)
 
-    pub ambisonic-accepted : (g : Commanded) → s .refusal ≡ 0 → g ≡ record { refusal = 0; planes = (n + 1) * (n + 1); gains = s .gains } → Commands (Ambisonic d n) l g
+    pub ambisonic-accepted : (g : Commanded) → s .refusal ≡ 0 → g ≡ record { refusal = 0; planes = channelsOfOrder n; gains = s .gains } → Commands (Ambisonic d n) l g
     ambisonic-accepted g z e = record {
       refusal = ap (λ (x : Commanded). x .refusal) e ∙ sym (command-is ∙ sym direction-is ∙ z);
-      few = omega (arith, ap (λ (x : Commanded). x .planes) e, few-planes n (order-most n o));
+      few = omega (arith, ap (λ (x : Commanded). x .planes) e, few-channels n o .1);
       planes = λ k. ap (λ (x : Commanded). x .planes) e;
       gains = λ k. ap (λ (x : Commanded). x .gains) e ∙ ap (λ (x : Coefficients). x .gains) (h .is);
       promised = λ k. subst (Harmonics.Promise n d) (λ i. record { refusal = z i; gains = h .is i .gains }) h;
@@ -143,5 +130,5 @@ module _ (l : Layout) (d : Direction) (n : ℕ) where
 -- ---- at most sixteen planes
 pub planes-most : (c : Command) (l : Layout) → noOrder c ≡ false → notOffered c l ≡ false → planesOf c l ≤ 16
 planes-most (Stereo p) l o b = lit≤ tt
-planes-most (Surround a) l o b = few l (not-false (surround l) b)
-planes-most (Ambisonic d n) l o b = few-planes n (order-most n o)
+planes-most (Surround a) l o b = omega (arith, surround-few l (not-false (surround l) b) .1)
+planes-most (Ambisonic d n) l o b = few-channels n o .1

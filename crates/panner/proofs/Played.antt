@@ -1,20 +1,20 @@
 -- What the promise says of single samples: an accepted block plays every frame that it is given, in every plane, and counts them; beyond the count a plane is as it was; what is refused by a number is answered by it.
 -- Assumes nothing.
 use mathlib.Core.Path.{_≡_, refl, sym, ap, _∙_}
-use mathlib.Core.Bool.{false, not}
+use mathlib.Core.Bool.{false}
 use mathlib.Core.List.{List, [], _∷_}
 use Prim.Native.Nat.{ℕ, zero, suc, _*_, _≤_, _<_}
 use native.Mathlib.Nat.{zero-add}
 use native.Mathlib.Omega.{arith}
 use borrow.Author.Tests.{ltb-false}
-use lib.Dec.{ltb, eqb, lit<}
+use lib.Dec.{ltb, lit<}
 use lib.ListN.{length, getD}
 use lib.Ieee.{Float, nan, binary32, mul}
 use Rattle.refusals.specs.Refusals.{Check, _when_}
 use Rattle.numbers.specs.Computed.{narrowed}
 use Rattle.planes.specs.Tables.{tab}
 use Rattle.planes.specs.Planes.{unfit, sampleAt, withFrames}
-use Rattle.planes.proofs.Checks.{or-off, is-equal}
+use Rattle.planes.proofs.Checks.{or-off, fitted}
 use Rattle.planes.proofs.Planes.{with-frames-at, with-frames-other}
 use Rattle.planes.proofs.Tables.{length-tab, getD-tab}
 use Rattle.panner.specs.declared.Panned.{Panned}
@@ -58,10 +58,10 @@ module _ (s : Shape) (input out : List Float) (answer : Panned) (after : List Fl
     fit = or-off (unfit (length input) 1 (s .stride) (s .frames)) (unfit (length out) (planesIn s) (s .stride) (s .frames)) (off .1 .1 .1 .0) .1
 
     room : s .frames ≤ s .stride
-    room = ltb-false (s .stride) (s .frames) (or-off (ltb (s .stride) (s .frames)) (not (eqb (length out) (planesIn s * s .stride))) fit .0)
+    room = fitted (length out) (planesIn s) (s .stride) (s .frames) fit .0
 
     long : length out ≡ planesIn s * s .stride
-    long = is-equal (length out) (planesIn s * s .stride) (or-off (ltb (s .stride) (s .frames)) (not (eqb (length out) (planesIn s * s .stride))) fit .1)
+    long = fitted (length out) (planesIn s) (s .stride) (s .frames) fit .1
 
     -- every frame is counted, and there are 4,096 at most
     pub all-counted : answer .samples ≡ s .frames

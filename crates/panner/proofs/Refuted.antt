@@ -11,7 +11,7 @@ use Rattle.numbers.specs.Computed.{narrowed, rounded, zero-float}
 use Rattle.planes.specs.Planes.{sampleAt}
 use Rattle.channel.specs.declared.Layout.{Layout}
 use Rattle.channel.specs.declared.Layout.the-variants.{Mono, Custom}
-use Rattle.stereo.specs.Computed.{float}
+use Rattle.angles.specs.Promise.{float}
 use Rattle.stereo.specs.declared.StereoGains.{StereoGains}
 use Rattle.stereo.proofs.Drill.{at-minus-100}
 use Rattle.harmonics.specs.declared.Direction.{Direction}

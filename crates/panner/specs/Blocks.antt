@@ -1,7 +1,7 @@
 -- Document 01, 'Sums': "Panner: the f32 product of sample and narrowed gain." 'Refusal numbers': 5 when "a lent length doesn't fit: stride below the frame count, or a length other than planes x stride", 6 when "a
 -- panner block has more than 4,096 frames". Definitions only. The input is one plane.
 use Prim.Native.Nat.{ℕ}
-use mathlib.Core.Bool.{Bool, _||_}
+use mathlib.Core.Bool.{Bool}
 use mathlib.Core.List.{List, [], _∷_}
 use lib.Dec.{ltb}
 use lib.ListN.{getD}
@@ -9,7 +9,7 @@ use lib.Ieee.{Float, nan, binary32, mul}
 use Rattle.refusals.specs.Refusals.{firstOf, _when_}
 use Rattle.numbers.specs.Computed.{narrowed}
 use Rattle.planes.specs.Tables.{tab}
-use Rattle.planes.specs.Planes.{unfit, sampleAt}
+use Rattle.planes.specs.Planes.{blockUnfit, sampleAt}
 use Rattle.channel.specs.declared.Layout.{Layout}
 use Rattle.panner.specs.declared.Command.{Command}
 use Rattle.panner.specs.Commands.{noOrder, notOffered, noAngle, planesOf, gainsOf}
@@ -23,7 +23,7 @@ pub record Shape : Type 0 where
 
 -- the lengths of the input and of the outputs
 abbrev pub misfit : ℕ → ℕ → ℕ → ℕ → ℕ → Bool
-misfit input out planes stride frames = unfit input 1 stride frames || unfit out planes stride frames
+misfit input out planes stride frames = blockUnfit input 1 out planes stride frames
 
 abbrev pub mostFrames : ℕ
 mostFrames = 4096

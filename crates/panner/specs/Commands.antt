@@ -1,6 +1,6 @@
 -- Document 01: "A panner command is a stereo position, a surround azimuth, or a direction with an order." What each refuses ('Refusal numbers' 1, 2 and 3: "The panner offers Surround51 and Surround71 for
 -- surround"; Custom 0 or above 16 is 2 wherever a layout is handed in), how many planes it plays to, and with which gains ('Gains'). Definitions only.
-use Prim.Native.Nat.{ℕ, _+_, _*_}
+use Prim.Native.Nat.{ℕ}
 use mathlib.Core.Bool.{Bool, false, not}
 use mathlib.Core.List.{List, [], _∷_}
 use lib.ListN.{getD, replicate}
@@ -8,10 +8,11 @@ use lib.Ieee.{Float}
 use lib.Ieee.Scale.{finite}
 use Rattle.refusals.specs.Refusals.{firstOf, _when_}
 use Rattle.channel.specs.Layouts.{channelsOf, uncountable, surround}
+use Rattle.channel.specs.Orders.{refusesOrder, channelsOfOrder}
 use Rattle.channel.specs.declared.Layout.{Layout}
+use Rattle.angles.specs.Promise.{zero}
 use Rattle.stereo.specs.Promise as Stereo
 use Rattle.surround.specs.Promise as Surround
-use Rattle.surround.specs.Computed.{zero}
 use Rattle.harmonics.specs.Promise as Harmonics
 use Rattle.panner.specs.declared.Command.{Command}
 use Rattle.panner.specs.declared.Command.the-variants.{Stereo, Surround, Ambisonic}
@@ -20,7 +21,7 @@ use Rattle.panner.specs.declared.Command.the-variants.{Stereo, Surround,
 abbrev pub noOrder : Command → Bool
 noOrder (Stereo p) = false
 noOrder (Surround a) = false
-noOrder (Ambisonic d n) = Harmonics.refusesOrder n
+noOrder (Ambisonic d n) = refusesOrder n
 
 -- 2
 abbrev pub notOffered : Command → Layout → Bool
@@ -41,7 +42,7 @@ commandRefusal c l = firstOf (1 when noOrder c ∷ 2 when notOffered c l ∷ 3 w
 abbrev pub planesOf : Command → Layout → ℕ
 planesOf (Stereo p) l = 2
 planesOf (Surround a) l = channelsOf l
-planesOf (Ambisonic d n) l = (n + 1) * (n + 1)
+planesOf (Ambisonic d n) l = channelsOfOrder n
 
 -- sixteen places, of which the first planesOf are played
 abbrev pub gainsOf : Command → Layout → List Float

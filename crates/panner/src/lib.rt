@@ -1,6 +1,6 @@
 // The panner (document 01, item 4, from panner.rs) at a fixed command: a stereo position, a surround azimuth,
 // or a direction with an order. `process` plays one input plane to the planes of the command: two for stereo,
-// the layout's channels for surround, (order + 1) squared for a direction. Every output is the f32 product of
+// the layout's channels for surround, those of the order for a direction. Every output is the f32 product of
 // the sample and the narrowed gain.
 //
 // It takes any input; its promise (specs/Promise.antt) is one equation for the refusal, the sample count and
@@ -14,7 +14,7 @@ ghost use mathlib.Core.Path.{_≡_};
 ghost use Prim.Native.Nat.{_≤_};
 ghost use Rattle.planes.specs.Planes.{withFrame, withFrames};
 ghost use Rattle.panner.specs.declared.Command.{Command};
-ghost use Rattle.panner.specs.Blocks.{misfit, panned, pannedFrames, narrowedAll};
+ghost use Rattle.panner.specs.Blocks.{panned, pannedFrames, narrowedAll};
 ghost use Rattle.panner.specs.Steps.{Commands, isBadLayout};
 ghost use Rattle.panner.specs.Promise.{Processed};
 
@@ -98,7 +98,8 @@ fn ambisonic_gains(
 ) -> Commanded
     ensures { λ r. ⌜ Commands (Command.Ambisonic direction order) layout r ⌝ }
 {
-    if harmonics::refuses_order(order) {
+    let ambisonic = channel::ambisonic_channel_count(order);
+    if ambisonic.refusal != 0 {
         return refused(1);
     }
     if is_bad_layout(layout) {
@@ -111,7 +112,7 @@ fn ambisonic_gains(
     let gains = coefficients.gains;
     Commanded {
         refusal: 0,
-        planes: (order + 1) * (order + 1),
+        planes: ambisonic.channels,
         gains: gains,
     }
 }
@@ -176,16 +177,6 @@ fn play(
     }
 }
 
-// Whether a lent length doesn't fit.
-fn is_misfit(input: usize, out: usize, planes: usize, stride: usize, frames: usize) -> bool
-    ensures { λ r. ⌜ r ≡ misfit input out planes stride frames ⌝ }
-{
-    if planes::is_unfit(input, 1, stride, frames) {
-        return true;
-    }
-    planes::is_unfit(out, planes, stride, frames)
-}
-
 // Plays a block of one input plane to the planes of a command, or refuses it.
 pub fn process(
     command: Command,
@@ -204,7 +195,7 @@ pub fn process(
             samples: 0,
         };
     }
-    if is_misfit(input.len(), out.len(), commanded.planes, stride, frames) {
+    if planes::is_block_unfit(input.len(), 1, out.len(), commanded.planes, stride, frames) {
         return Panned {
             refusal: 5,
             samples: 0,

@@ -2,16 +2,17 @@
 use mathlib.Core.Path.{_≡_, refl, sym, ap, _∙_}
 use mathlib.Core.Bool.{Bool, true, false, not, _||_, true≢false}
 use mathlib.Core.List.{List, [], _∷_}
-use Prim.Native.Nat.{ℕ, zero, suc, _+_, _-_, _≤_, _<_, zero-le}
-use native.Mathlib.Nat.{not-suc-le-zero, add-zero, add-suc, suc-add}
+use Prim.Native.Nat.{ℕ, zero, suc, _+_, _-_, _*_, _≤_, _<_, zero-le}
+use native.Mathlib.Nat.{not-suc-le-zero, zero-add, add-zero, add-suc, suc-add}
 use native.Mathlib.Omega.{arith}
 use lib.ListN.{length, getD, take, drop}
 use lib.Dec.{eqb, ltb}
-use borrow.Author.Tests.{eqb-true, not-false, ltb-false}
+use borrow.Author.Tests.{eq-eqb, ne-eqb, le-ltb, eqb-true, not-false, ltb-false}
 use lib.Ieee.{Float, nan}
 use lib.Ieee.Scale.{finite}
+pub use Rattle.refusals.proofs.First.{or-off}
 use Rattle.planes.specs.Tables.{tab, any, unsound}
-use Rattle.planes.specs.Planes.{outside, sampleAt}
+use Rattle.planes.specs.Planes.{outside, unfit, sampleAt}
 use Rattle.planes.proofs.Tables.{tab-shift, tab-more, tab-none, tab-all}
 
 -- ---- the first that holds makes an `||` true; one that does not leaves it to the rest
@@ -22,14 +23,19 @@ or-yes a b e = ap (λ (t : Bool). t || b) (sym e)
 pub or-next : (a b x : Bool) → a ≡ false → x ≡ b → x ≡ (a || b)
 or-next a b x e n = n ∙ ap (λ (t : Bool). t || b) (sym e)
 
-pub or-off : (a b : Bool) → (a || b) ≡ false → (a ≡ false) × (b ≡ false)
-or-off true b e = absurd (true≢false e)
-or-off false b e = (refl, e)
-
 pub any-off : (i n : ℕ) (f : ℕ → Bool) → any (tab i n f) ≡ false → (k : ℕ) → k < n → f (i + k) ≡ false
 any-off i zero f e k h = absurd (not-suc-le-zero h)
 any-off i (suc n) f e zero h = ap f (add-zero i) ∙ or-off (f i) (any (tab (suc i) n f)) e .0
 any-off i (suc n) f e (suc k) h = ap f (add-suc i k ∙ sym (suc-add i k)) ∙ any-off (suc i) n f (or-off (f i) (any (tab (suc i) n f)) e .1) k (omega arith)
+
+pub all-off : (i n : ℕ) (f : ℕ → Bool) → ((k : ℕ) → k < n → f (i + k) ≡ false) → any (tab i n f) ≡ false
+all-off i zero f e = refl
+all-off i (suc n) f e =
+    sym (or-next (f i) (any (tab (suc i) n f)) false (ap f (sym (add-zero i)) ∙ e 0 (omega arith))
+    (sym (all-off (suc i) n f (λ k h. ap f (suc-add i k ∙ sym (add-suc i k)) ∙ e (suc k) (omega arith)))))
+
+pub both-off : (a b : Bool) → a ≡ false → b ≡ false → (a || b) ≡ false
+both-off a b p q = ap (λ (t : Bool). t || b) p ∙ q
 
 -- a length that was tested is that product
 pub is-equal : (a b : ℕ) → not (eqb a b) ≡ false → a ≡ b
@@ -45,6 +51,23 @@ not-outside n top e =
     some : (n : ℕ) → eqb n 0 ≡ false → 0 < n
     some zero e = absurd (true≢false e)
     some (suc n) e = omega arith
+
+-- planes that were tested fit
+pub fitted : (size planes stride frames : ℕ) → unfit size planes stride frames ≡ false → (frames ≤ stride) × (size ≡ planes * stride)
+fitted size planes stride frames e =
+    let p = or-off (ltb stride frames) (not (eqb size (planes * stride))) e in
+    (ltb-false stride frames (p .0), is-equal size (planes * stride) (p .1))
+
+-- and the other way: such a count, such a product and such planes pass the test
+
+pub count-inside : (n top : ℕ) → 0 < n → n ≤ top → outside n top ≡ false
+count-inside n top some most = both-off (eqb n 0) (ltb top n) (ne-eqb n 0 (λ e. omega (arith, e))) (le-ltb top n most)
+
+pub equal-passes : (a b : ℕ) → a ≡ b → not (eqb a b) ≡ false
+equal-passes a b e = ap not (eq-eqb a b e)
+
+pub planes-fit : (size planes stride frames : ℕ) → frames ≤ stride → size ≡ planes * stride → unfit size planes stride frames ≡ false
+planes-fit size planes stride frames room e = both-off (ltb stride frames) (not (eqb size (planes * stride))) (le-ltb stride frames room) (equal-passes size (planes * stride) e)
 
 -- ---- a loop over places 0, 1, .. that stops at the first of which f holds
 
@@ -82,6 +105,15 @@ wrongAt xs i = not (finite (getD xs i nan))
 pub unsound-any : (xs : List Float) → any (tab 0 (length xs) (wrongAt xs)) ≡ unsound xs
 unsound-any [] = refl
 unsound-any (x ∷ xs) = ap (λ (b : Bool). not (finite x) || b) (ap any (tab-shift 0 (length xs) (wrongAt (x ∷ xs))) ∙ unsound-any xs)
+
+-- a place of a sound list is finite, and a list of finite places is sound
+
+pub sound-at : (xs : List Float) (i : ℕ) → unsound xs ≡ false → i < length xs → finite (getD xs i nan) ≡ true
+sound-at xs i e h = not-false (finite (getD xs i nan)) (ap (wrongAt xs) (sym (zero-add i)) ∙ any-off 0 (length xs) (wrongAt xs) (unsound-any xs ∙ e) i h)
+
+pub sound-tab : (i n : ℕ) (f : ℕ → Float) → ((k : ℕ) → finite (f k) ≡ true) → unsound (tab i n f) ≡ false
+sound-tab i zero f e = refl
+sound-tab i (suc n) f e = ap (λ (b : Bool). not b || unsound (tab (suc i) n f)) (e i) ∙ sound-tab (suc i) n f e
 
 -- what is sound is sound in its parts
 

@@ -1,13 +1,18 @@
 -- A list filled from its start, place by place: up to a place it holds the table, and from there on what it held. Assumes nothing.
 use mathlib.Core.Path.{_≡_, refl, sym, ap, _∙_}
+use mathlib.Core.Bool.{Bool, cond}
 use mathlib.Core.List.{List, [], _∷_, _++_, append-nil}
-use Prim.Native.Nat.{ℕ, zero, suc, _+_, _≤_, _<_, zero-le}
+use Prim.Native.Nat.{ℕ, zero, suc, _+_, _-_, _≤_, _<_, zero-le}
 use native.Mathlib.Nat.{not-suc-le-zero, le-of-suc-le-suc, zero-add, add-zero, add-suc, suc-add}
 use native.Mathlib.Numerals.{add-one}
 use native.Mathlib.Omega.{arith}
+use borrow.Author.Tests.{lt-ltb, le-ltb}
+use lib.Dec.{ltb}
 use lib.ListN.{length, set, drop, replicate, length-set}
 use lib.Seq.{drop-length}
 use Rattle.planes.specs.Tables.{tab}
+use Rattle.planes.proofs.Lists.{drop-replicate}
+use Rattle.planes.proofs.Tables.{tab-from, tab-append}
 
 module _ {A : Type 0} where
   -- one place more
@@ -20,6 +25,21 @@ module _ {A : Type 0} where
   pub tab-constant : (i n : ℕ) (a : A) → tab i n (λ k. a) ≡ replicate n a
   tab-constant i zero a = refl
   tab-constant i (suc n) a = ap (λ (l : List A). a ∷ l) (tab-constant (suc i) n a)
+
+  -- m places of one value, of which the first n are filled
+  pub first-filled : (f : ℕ → A) (n m : ℕ) (a : A) → n ≤ m → tab 0 n f ++ drop n (replicate m a) ≡ tab 0 m (λ k. cond (ltb k n) (f k) a)
+  first-filled f n m a h =
+      cc (tab-from 0 n f at (λ k l u. sym (ap (λ (b : Bool). cond b (f k) a) (lt-ltb k n (omega arith)))), rest)
+      ∙ sym (ap (λ (k : ℕ). tab 0 k at) (parts n m h) ∙ tab-append 0 n (m - n) at ∙ ap (λ (k : ℕ). tab 0 n at ++ tab k (m - n) at) (zero-add n))
+    where
+      at : ℕ → A
+      at k = cond (ltb k n) (f k) a
+
+      rest : drop n (replicate m a) ≡ tab n (m - n) at
+      rest = drop-replicate n m a ∙ sym (tab-constant n (m - n) a) ∙ tab-from n (m - n) (λ k. a) at (λ k l u. sym (ap (λ (b : Bool). cond b (f k) a) (le-ltb k n l)))
+
+      parts : (n m : ℕ) → n ≤ m → m ≡ n + (m - n)
+      parts n m h = omega arith
 
 -- the first n places of a list are filled with f 0, f 1, .., those before i so far
 pub record Filling {A : Type 0} (f : ℕ → A) (n : ℕ) (l₀ l : List A) (i : ℕ) : Type 0 where

@@ -7,7 +7,6 @@ pub mod Sums
 pub mod Silence
 pub mod Framing
 pub mod Filling
-pub mod Filled
 mod Tests
 mod Mixing
 mod Unique

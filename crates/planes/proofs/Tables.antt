@@ -2,7 +2,7 @@
 use mathlib.Core.Path.{_≡_, refl, sym, ap, _∙_}
 use mathlib.Core.List.{List, [], _∷_, _++_, map}
 use Prim.Native.Nat.{ℕ, zero, suc, _+_, _-_, _*_, _≤_, _<_}
-use native.Mathlib.Nat.{not-suc-le-zero, le-of-suc-le-suc, add-zero, zero-add, add-suc, suc-add, sub-zero, mul-le-mul-right, suc-mul}
+use native.Mathlib.Nat.{le-refl, not-suc-le-zero, le-of-suc-le-suc, add-zero, zero-add, add-suc, suc-add, sub-zero, mul-le-mul-right, suc-mul}
 use native.Mathlib.Numerals.{add-one}
 use native.Mathlib.Omega.{arith}
 use lib.ListN.{length, getD, take, drop, length-take, length-drop}
@@ -19,9 +19,12 @@ module _ {A : Type 0} where
   getD-tab i (suc n) f (suc k) d h = getD-tab (suc i) n f k d (le-of-suc-le-suc h) ∙ ap f (suc-add i k ∙ sym (add-suc i k))
 
   -- a table is known by its places
+  pub tab-from : (i n : ℕ) (f g : ℕ → A) → ((s : ℕ) → i ≤ s → s < i + n → f s ≡ g s) → tab i n f ≡ tab i n g
+  tab-from i zero f g e = refl
+  tab-from i (suc n) f g e = cc (e i (le-refl i) (omega arith), tab-from (suc i) n f g (λ s l h. e s (omega arith) (omega arith)))
+
   pub tab-ext : (i n : ℕ) (f g : ℕ → A) → ((s : ℕ) → s < i + n → f s ≡ g s) → tab i n f ≡ tab i n g
-  tab-ext i zero f g e = refl
-  tab-ext i (suc n) f g e = cc (e i (omega arith), tab-ext (suc i) n f g (λ s h. e s (omega arith)))
+  tab-ext i n f g e = tab-from i n f g (λ s l h. e s h)
 
   -- a table in two parts, and one place more at the end
   pub tab-append : (i n m : ℕ) (f : ℕ → A) → tab i (n + m) f ≡ tab i n f ++ tab (i + n) m f

@@ -16,6 +16,10 @@ outside n top = eqb n 0 || ltb top n
 abbrev pub unfit : ℕ → ℕ → ℕ → ℕ → Bool
 unfit size planes stride frames = ltb stride frames || not (eqb size (planes * stride))
 
+-- the input planes of a block do not fit, or its output planes: one stride serves both
+abbrev pub blockUnfit : ℕ → ℕ → ℕ → ℕ → ℕ → ℕ → Bool
+blockUnfit inputs channels out outputs stride frames = unfit inputs channels stride frames || unfit out outputs stride frames
+
 -- ---- reading
 
 abbrev pub sampleAt : List Float → ℕ → ℕ → ℕ → Float

@@ -1,9 +1,10 @@
 // What the operations on lent blocks share (document 01, 'Refusal numbers' 5 and 7, and 'Sums'): planes
 // with a stride in one list, read and written a sample or a frame at a time; the ordered sum of a
 // frame's samples times weights, narrowed; the finite test; the count and length tests, which hold also where
-// a product of lengths would not fit; and the inverse of a root. Panner, decoder, rows and convolver
-// are made of these. Every public function takes any input and promises its answer by an equation:
-// what lies outside a list reads as NaN, and writing there changes nothing. Under it lies `numbers`.
+// a product of lengths would not fit; the smaller of two counts; and the inverse of a root. Panner, decoder,
+// rows and convolver are made of these. Every public function takes any input and promises its answer by an equation:
+// what lies outside a list reads as NaN, and writing there changes nothing. Under it lie
+// `numbers` and `refusals`.
 ghost use mathlib.Core.Path.{_≡_};
 ghost use Prim.Native.Nat.{_+_, _*_, _≤_, min};
 ghost use lib.Dec.{eqb};
@@ -11,7 +12,7 @@ ghost use lib.ListN.{length, getD};
 ghost use lib.Ieee.{nan};
 ghost use lib.Ieee.Scale.{finite};
 ghost use Rattle.planes.specs.Tables.{unsound};
-ghost use Rattle.planes.specs.Planes.{outside, unfit, sampleAt, frameAt, withSample, withFrame};
+ghost use Rattle.planes.specs.Planes.{outside, unfit, blockUnfit, sampleAt, frameAt, withSample, withFrame};
 ghost use Rattle.planes.specs.Sums.{mixed, mixedAll};
 ghost use Rattle.planes.specs.Normalization.{InverseRoot};
 
@@ -77,13 +78,40 @@ pub fn is_product(n: usize, a: usize, b: usize) -> bool
 }
 
 // Whether a list of `size` samples does not fit as planes of `stride` places, of which `frames` are used.
-pub fn is_unfit(size: usize, planes: usize, stride: usize, frames: usize) -> bool
+fn is_unfit(size: usize, planes: usize, stride: usize, frames: usize) -> bool
     ensures { λ r. ⌜ r ≡ unfit size planes stride frames ⌝ }
 {
     if stride < frames {
         return true;
     }
     !is_product(size, planes, stride)
+}
+
+// Whether the input planes of a block do not fit, or its output planes: one stride serves both.
+pub fn is_block_unfit(
+    inputs: usize,
+    channels: usize,
+    out: usize,
+    outputs: usize,
+    stride: usize,
+    frames: usize,
+) -> bool
+    ensures { λ r. ⌜ r ≡ blockUnfit inputs channels out outputs stride frames ⌝ }
+{
+    if is_unfit(inputs, channels, stride, frames) {
+        return true;
+    }
+    is_unfit(out, outputs, stride, frames)
+}
+
+// The smaller of two counts.
+pub fn least(a: usize, b: usize) -> usize
+    ensures { λ r. ⌜ r ≡ min a b ⌝ }
+{
+    if a < b {
+        return a;
+    }
+    b
 }
 
 // `step` places after `at` in a list of `size`, or its end where that comes first: the sum may not fit
@@ -160,7 +188,7 @@ pub fn unsound_frame(xs: &[f32], stride: usize, planes: usize, frame: usize) -> 
 }
 
 // One output of a frame: the f64 sum from 0.0, channels rising, of sample times weight, narrowed.
-pub fn mix(weights: &[f64], inputs: &[f32], stride: usize, frame: usize) -> f32
+fn mix(weights: &[f64], inputs: &[f32], stride: usize, frame: usize) -> f32
     ensures { λ r. ⌜ r ≡ mixed (now (weights .entry)) (frameAt (now (inputs .entry)) stride (length (now (weights .entry))) frame) ⌝ }
 {
     let mut sum = 0.0;

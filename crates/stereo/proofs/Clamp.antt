@@ -8,8 +8,9 @@ use lib.IntN.{pos, negsuc}
 use lib.Ieee.{Float, lt, ofInt}
 use Rattle.fractions.specs.Fraction.{Fraction, whole, magnitude, number, isLess, AtMost}
 use Rattle.fractions.proofs.IsLess.{lt-number, less-false}
+use Rattle.angles.specs.Promise.{float}
 use Rattle.stereo.specs.Angle.{leftmost, rightmost, clamped}
-use Rattle.stereo.specs.Computed.{float, clampedTo}
+use Rattle.stereo.specs.Computed.{clampedTo}
 
 number-cond : (b : Bool) (x y : Float) → number (cond b x y) ≡ cond b (number x) (number y)
 number-cond true x y = refl

@@ -6,10 +6,11 @@ use lib.Ieee.{Float, nan, inf, binary64, lt, le, eq, neg, add, mul, div, ofInt, 
 use Rattle.fractions.specs.Fraction.{whole, number}
 use Rattle.series.specs.Angles.{turned, isMultiple, quarters, defined, definedSine, definedCosine}
 use Rattle.angles.specs.Computed.{units, cut, place, short, times, radians, nesting, nest, rounded, sineAt, cosineAt, computed}
-use Rattle.angles.specs.Promise.{zero, one, isInside, isRefused}
+use Rattle.angles.specs.Promise.{float, zero, one}
+use Rattle.angles.specs.Limits.{isInside, refusesAngle}
 use Rattle.stereo.specs.declared.StereoGains.{StereoGains}
 use Rattle.stereo.specs.Angle.{clamped, angle}
-use Rattle.stereo.specs.Computed.{float, clampedTo, angleOf}
+use Rattle.stereo.specs.Computed.{clampedTo, angleOf}
 use Rattle.stereo.specs.Promise.{refused, outcome}
 
 abbrev pub accepted : Float → Float → StereoGains
@@ -34,16 +35,16 @@ right-at-250 = refl
 
 -- ---- the program's gains
 pub at-minus-100 : outcome (float (negsuc 99)) ≡ accepted one zero
-unfolding outcome angleOf clampedTo lt le eq add isRefused isInside computed place cut units turned sineAt cosineAt short times radians nesting nest rounded ofInt mul div neg
+unfolding outcome angleOf clampedTo lt le eq add refusesAngle isInside computed place cut units turned sineAt cosineAt short times radians nesting nest rounded ofInt mul div neg
 at-minus-100 = refl
 
 pub at-250 : outcome (float (pos 250)) ≡ accepted zero one
-unfolding outcome angleOf clampedTo lt le eq add isRefused isInside computed place cut units turned sineAt cosineAt short times radians nesting nest rounded ofInt mul div neg
+unfolding outcome angleOf clampedTo lt le eq add refusesAngle isInside computed place cut units turned sineAt cosineAt short times radians nesting nest rounded ofInt mul div neg
 at-250 = refl
 
 -- in the middle both are the cosine of 45 degrees, at a last place of 2 ^ -51
 in-the-middle : toBits binary64 (outcome (float (pos 0)) .left) ≡ 0x3FE6A09E667F3BCC
-unfolding outcome angleOf clampedTo lt le eq add isRefused isInside computed place cut units turned sineAt cosineAt short times radians nesting nest rounded ofInt mul div neg toBits
+unfolding outcome angleOf clampedTo lt le eq add refusesAngle isInside computed place cut units turned sineAt cosineAt short times radians nesting nest rounded ofInt mul div neg toBits
 in-the-middle = refl
 
 -- ---- what is refused

@@ -5,9 +5,8 @@ use Prim.Native.Nat.{ℕ}
 use native.Mathlib.Omega.{arith}
 use lib.IntN.{pos, negsuc}
 use lib.Ieee.{Float, nan, inf, fin, ofInt}
-use Rattle.angles.specs.Promise.{zero, one}
+use Rattle.angles.specs.Promise.{float, zero, one}
 use Rattle.stereo.specs.declared.StereoGains.{StereoGains}
-use Rattle.stereo.specs.Computed.{float}
 use Rattle.stereo.specs.Promise.{refused, Pans}
 use Rattle.stereo.proofs.Drill.{accepted, at-minus-100, at-250, of-infinity}
 

@@ -1,11 +1,8 @@
 -- What the program computes: the angle as its floats have it. Definitions only. Nobody has to believe them: `Promise` ties the gains to document 01's formula.
 use mathlib.Core.Bool.{cond}
-use lib.IntN.{ℤ, pos, negsuc}
-use lib.Ieee.{Float, binary64, lt, add, mul, div, ofInt}
-
--- a whole number as an f64
-abbrev pub float : ℤ → Float
-float z = ofInt binary64 z
+use lib.IntN.{pos, negsuc}
+use lib.Ieee.{Float, binary64, lt, add, mul, div}
+use Rattle.angles.specs.Promise.{float}
 
 unfoldable pub clampedTo : Float → Float
 clampedTo p = cond (lt p (float (negsuc 99))) (float (negsuc 99)) (cond (lt (float (pos 100)) p) (float (pos 100)) p)

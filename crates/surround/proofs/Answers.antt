@@ -1,41 +1,27 @@
 -- The answers of the program are those promised: refused by 2, by 3, and played. Assumes nothing.
-use mathlib.Core.Path.{_≡_, refl, sym, ap, _∙_, subst}
-use mathlib.Core.Bool.{Bool, true, false, not, cond, false≢true}
+use mathlib.Core.Path.{_≡_, sym, ap, _∙_, subst}
+use mathlib.Core.Bool.{Bool, true, false, not, cond}
 use mathlib.Core.List.{List}
 use Prim.Native.Nat.{ℕ, _≤_, _<_}
 use native.Mathlib.Omega.{arith}
 use borrow.Author.Tests.{not-false}
-use lib.Dec.{lit≤, lit<, eqb}
+use lib.Dec.{lit<, eqb}
 use lib.ListN.{getD}
 use lib.Ieee.{Float, binary64, ofInt}
+use Rattle.angles.specs.Promise.{zero}
 use Rattle.refusals.proofs.First.{stops, goes-on}
 use Rattle.numbers.specs.Computed.{rootOf, rootAnswer}
 use Rattle.numbers.specs.declared.Rooted.{Rooted}
 use Rattle.channel.specs.Layouts.{channelsOf, surround, counted}
 use Rattle.channel.specs.declared.Layout.{Layout}
 use Rattle.channel.specs.declared.Counted.{Counted}
-use Rattle.channel.specs.declared.Layout.the-variants.{Mono, Stereo, Surround51, Surround71, Custom}
+use Rattle.channel.proofs.Counts.{surround-counted, surround-few}
 use Rattle.harmonics.specs.Promise.{refusesAzimuth}
 use Rattle.harmonics.proofs.Laws.{azimuth-number, azimuth-size}
 use Rattle.surround.specs.declared.SurroundGains.{SurroundGains}
-use Rattle.surround.specs.Computed.{zero, rawGains, sumOf, dividedBy}
+use Rattle.surround.specs.Computed.{rawGains, sumOf, dividedBy}
 use Rattle.surround.specs.Promise.{refusalOf, silence, gainsOf, Gains, Pans}
 use Rattle.surround.proofs.Gains.{gains}
-
--- how many channels a surround layout has
-pub counted-is : (l : Layout) → surround l ≡ true → counted l .channels ≡ channelsOf l
-counted-is Surround51 e = refl
-counted-is Surround71 e = refl
-counted-is Mono e = absurd (false≢true e)
-counted-is Stereo e = absurd (false≢true e)
-counted-is (Custom n) e = absurd (false≢true e)
-
-pub few : (l : Layout) → surround l ≡ true → channelsOf l ≤ 16
-few Surround51 e = lit≤ tt
-few Surround71 e = lit≤ tt
-few Mono e = absurd (false≢true e)
-few Stereo e = absurd (false≢true e)
-few (Custom n) e = absurd (false≢true e)
 
 module _ (l : Layout) (a : Float) where
   -- the answer that goes with a refusal number
@@ -57,7 +43,7 @@ module _ (l : Layout) (a : Float) where
   unfolding gainsOf ofInt
   plays n raw s r g h i en er es eo eg =
       let surrounds = not-false (surround l) h in
-      let count = en ∙ counted-is l surrounds in
+      let count = en ∙ surround-counted l surrounds in
       let accepted : refusalOf l a ≡ 0 = goes-on 2 _ h ∙ goes-on 3 0 i in
       let raw-is : raw ≡ rawGains l a (channelsOf l) = er ∙ ap (rawGains l a) count in
       let root-is : r .value ≡ rootOf binary64 (sumOf (channelsOf l) (rawGains l a (channelsOf l))) =
@@ -69,4 +55,4 @@ module _ (l : Layout) (a : Float) where
       }
 
   pub few-counted : (b : Bool) (k : Counted) → b ≡ surround l → not b ≡ false → k ≡ counted l → k .channels ≤ 16
-  few-counted b k e h c = let s = sym e ∙ not-false b h in omega (arith, ap (λ (x : Counted). x .channels) c ∙ counted-is l s, few l s)
+  few-counted b k e h c = let s = sym e ∙ not-false b h in omega (arith, ap (λ (x : Counted). x .channels) c ∙ surround-counted l s, surround-few l s .1)

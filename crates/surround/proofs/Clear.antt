@@ -2,7 +2,7 @@
 -- sine of 10 degrees, 0.0301. Assumes nothing.
 use mathlib.Core.Path.{_≡_, refl, sym, ap, _∙_, subst}
 use mathlib.Core.Logic.{_⊎_, inl, inr}
-use mathlib.Core.Bool.{true, false≢true}
+use mathlib.Core.Bool.{true}
 use Prim.Native.Nat.{ℕ, _≤_, _<_}
 use native.Mathlib.Nat.{zero-add, mul-pos}
 use native.Mathlib.Omega.{arith}
@@ -16,9 +16,10 @@ use Rattle.series.specs.Angles.{definedCosine}
 use Rattle.series.proofs.Laws.{defined-number, rest-square-least}
 use Rattle.planes.proofs.Lists.{split}
 use Rattle.planes.proofs.Tables.{length-tab, getD-tab}
+use Rattle.channel.proofs.Counts.{by-surround}
 use Rattle.channel.specs.Layouts.{channelsOf, surround}
 use Rattle.channel.specs.declared.Layout.{Layout}
-use Rattle.channel.specs.declared.Layout.the-variants.{Mono, Stereo, Surround51, Surround71, Custom}
+use Rattle.channel.specs.declared.Layout.the-variants.{Surround51, Surround71}
 use Rattle.surround.specs.Formula.{distance, rawGain, rawAt, rawGains, sumAt}
 use Rattle.surround.proofs.Ways.{is-less, straight}
 
@@ -119,8 +120,4 @@ module _ (a : Fraction) (A : 0 < a .over) (H : AtMost (magnitude a) (whole 180))
       right (inr h) = rear-right h (sides (fraction 0 160 1) a)
 
   pub clear : (l : Layout) → surround l ≡ true → AtMost least (sumAt l a)
-  clear Surround51 e = clear-51
-  clear Surround71 e = clear-71
-  clear Mono e = absurd (false≢true e)
-  clear Stereo e = absurd (false≢true e)
-  clear (Custom n) e = absurd (false≢true e)
+  clear = by-surround (λ (l : Layout). AtMost least (sumAt l a)) clear-51 clear-71

@@ -5,7 +5,7 @@ use mathlib.Core.List.{List, [], _∷_}
 use Prim.Native.Nat.{ℕ, _+_, _-_, _*_, _≤_}
 use native.Mathlib.Nat.{le-refl, add-sub-of-le}
 use native.Mathlib.Omega.{arith}
-use lib.IntN.{negsuc}
+use lib.IntN.{pos, negsuc}
 use lib.Ieee.{Float, nan, fin, lt, le, eq, neg, add, sub, mul, div, ofInt, round, size, units}
 use Rattle.fractions.specs.Fraction.{Fraction, fraction, whole, square, _⊕_, _⊗_, _⊘_, Same}
 use Rattle.fractions.proofs.Ring.{ring}
@@ -14,14 +14,15 @@ use Rattle.fractions.proofs.Restate.{⊕-zero, zero-⊕}
 use Rattle.numbers.specs.Computed.{rootOf, wholeRoot}
 use Rattle.series.specs.Angles.{turned, isMultiple, quarters, defined}
 use Rattle.angles.specs.Computed.{cut, place, short, times, radians, nesting, nest, rounded, cosineAt, computed}
+use Rattle.angles.specs.Promise.{float, zero}
 use Rattle.angles.specs.Computed as Angles
-use Rattle.angles.specs.Promise.{isInside, isRefused}
+use Rattle.angles.specs.Limits.{isInside, refusesAngle}
 use Rattle.planes.specs.Tables.{tab}
 use Rattle.channel.specs.declared.Layout.the-variants.{Stereo, Surround51, Surround71, Custom}
 use Rattle.harmonics.specs.Promise as Harmonics
 use Rattle.surround.specs.Formula.{distance, rawGain, rawAt, sumAt, isSilent}
 use Rattle.surround.specs.Formula as Formula
-use Rattle.surround.specs.Computed.{float, zero, absolute, notBelow, placeOf, isNear, angleOf, rawOf, channelGain, rawGains, sumOf, dividedBy}
+use Rattle.surround.specs.Computed.{absolute, notBelow, placeOf, isNear, angleOf, rawOf, channelGain, rawGains, sumOf, dividedBy}
 use Rattle.surround.specs.Promise.{silence, gainsOf, outcome}
 
 abbrev sixteen : Float → Float → Float → Float → List Float
@@ -79,22 +80,22 @@ pub half-squares : Same (square (rawAt Surround51 (whole 0) 0) ⊘ sumAt Surroun
 half-squares = half-of (square (rawAt Surround51 (whole 0) 0)) (sumAt Surround51 (whole 0)) (sum-not-below (whole 0) (Formula.rawGains Surround51 (whole 0)) (le-refl 0)) halves
 
 -- ---- the program's gains, bit for bit
-pub at-120 : outcome Surround51 (float 120) ≡ record { refusal = 0; gains = sixteen zero zero zero (float 1) }
-unfolding Harmonics.refusesAngle Harmonics.isInside gainsOf dividedBy sumOf rawGains channelGain rawOf isNear placeOf angleOf absolute notBelow lt le eq add sub mul div neg round ofInt isRefused isInside computed place cut Angles.units turned cosineAt short times radians nesting nest rounded rootOf wholeRoot size units
+pub at-120 : outcome Surround51 (float (pos 120)) ≡ record { refusal = 0; gains = sixteen zero zero zero (float (pos 1)) }
+unfolding refusesAngle isInside gainsOf dividedBy sumOf rawGains channelGain rawOf isNear placeOf angleOf absolute notBelow lt le eq add sub mul div neg round ofInt computed place cut Angles.units turned cosineAt short times radians nesting nest rounded rootOf wholeRoot size units
 at-120 = refl
 
 -- the f64 next below the root of a half
-pub at-0 : outcome Surround51 (float 0) ≡ record { refusal = 0; gains = sixteen (fin false 1592262918131443 (negsuc 50)) (fin false 1592262918131443 (negsuc 50)) zero zero }
-unfolding Harmonics.refusesAngle Harmonics.isInside gainsOf dividedBy sumOf rawGains channelGain rawOf isNear placeOf angleOf absolute notBelow lt le eq add sub mul div neg round ofInt isRefused isInside computed place cut Angles.units turned cosineAt short times radians nesting nest rounded rootOf wholeRoot size units
+pub at-0 : outcome Surround51 (float (pos 0)) ≡ record { refusal = 0; gains = sixteen (fin false 1592262918131443 (negsuc 50)) (fin false 1592262918131443 (negsuc 50)) zero zero }
+unfolding refusesAngle isInside gainsOf dividedBy sumOf rawGains channelGain rawOf isNear placeOf angleOf absolute notBelow lt le eq add sub mul div neg round ofInt computed place cut Angles.units turned cosineAt short times radians nesting nest rounded rootOf wholeRoot size units
 at-0 = refl
 
 -- ---- what is refused
-pub custom-17 : outcome (Custom 17) (float 0) ≡ record { refusal = 2; gains = silence }
+pub custom-17 : outcome (Custom 17) (float (pos 0)) ≡ record { refusal = 2; gains = silence }
 custom-17 = refl
 
 stereo-and-nan : outcome Stereo nan ≡ record { refusal = 2; gains = silence }
 stereo-and-nan = refl
 
-beyond-180 : outcome Surround71 (float 181) ≡ record { refusal = 3; gains = silence }
-unfolding Harmonics.refusesAngle Harmonics.isInside lt le eq neg ofInt
+beyond-180 : outcome Surround71 (float (pos 181)) ≡ record { refusal = 3; gains = silence }
+unfolding refusesAngle isInside lt le eq neg ofInt
 beyond-180 = refl

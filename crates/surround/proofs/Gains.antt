@@ -2,7 +2,7 @@
 -- of which the tests pass; 5.1 and 7.1 pass them by computing. Assumes nothing.
 use mathlib.Core.Path.{_≡_, refl, sym, ap, _∙_, subst, subst₂}
 use mathlib.Core.Logic.{_⊎_, inl, inr}
-use mathlib.Core.Bool.{Bool, true, false, _||_, not, cond, false≢true}
+use mathlib.Core.Bool.{Bool, true, false, _||_, not, cond}
 use Prim.Native.Nat.{ℕ, _+_, _*_, _/_, _^_, _≤_, _<_}
 use native.Mathlib.Nat.{zero-add, zero-mul, mul-pos, lt-irrefl}
 use native.Mathlib.Omega.{arith}
@@ -13,6 +13,7 @@ use lib.Ieee.{Float, nan, inf, fin, binary64, fits, up, down, round, size, span,
 use lib.Ieee.Fits.{add-fits, up-pos}
 use lib.Ieee.Positive.{positive}
 use lib.Ieee.Scale.{round-same}
+use Rattle.angles.specs.Promise.{zero}
 use Rattle.refusals.proofs.First.{stops, goes-on}
 use Rattle.fractions.specs.Fraction.{Fraction, whole, number, magnitude, square, AtMost, isLess}
 use Rattle.fractions.specs.Squares.{BySquares, RootOf}
@@ -30,12 +31,13 @@ use Rattle.planes.specs.Tables.{tab}
 use Rattle.planes.proofs.Lists.{split}
 use Rattle.planes.proofs.Tables.{length-tab, getD-tab}
 use Rattle.channel.proofs.Tables.{beyond}
+use Rattle.channel.proofs.Counts.{by-surround}
 use Rattle.channel.specs.Layouts.{channelsOf, surround, lowFrequency}
 use Rattle.channel.specs.declared.Layout.{Layout}
-use Rattle.channel.specs.declared.Layout.the-variants.{Mono, Stereo, Surround51, Surround71, Custom}
+use Rattle.channel.specs.declared.Layout.the-variants.{Surround51, Surround71}
 use Rattle.surround.specs.Formula.{speakerAt, distance, rawAt, sumAt, isSilent}
 use Rattle.surround.specs.Formula as Formula
-use Rattle.surround.specs.Computed.{zero, channelGain, rawGains, sumOf, dividedBy}
+use Rattle.surround.specs.Computed.{channelGain, rawGains, sumOf, dividedBy}
 use Rattle.surround.specs.Promise.{surroundBits, gainsOf, Gains}
 use Rattle.surround.proofs.Raw.{most, channel-known, channel-not-below, channel-silent, channel-low}
 use Rattle.surround.proofs.Clear.{clear}
@@ -186,8 +188,4 @@ unfolding sumOf rawGains ofInt
 passes-71 a A H = record { good = tt; clearly = tt; fine = tt; run-is = refl; exact-is = refl; fit = add-fits binary64 _ _; small = lit≤ tt }
 
 pub gains : (l : Layout) (a : Float) → surround l ≡ true → 0 < number a .over → AtMost (magnitude (number a)) (whole 180) → Gains l a (λ c. getD (gainsOf l a) c zero)
-gains Surround51 a e A H = the-gains Surround51 a A H e (passes-51 a A H)
-gains Surround71 a e A H = the-gains Surround71 a A H e (passes-71 a A H)
-gains Mono a e A H = absurd (false≢true e)
-gains Stereo a e A H = absurd (false≢true e)
-gains (Custom n) a e A H = absurd (false≢true e)
+gains l a e A H = the-gains l a A H e (by-surround (λ (l : Layout). Passes l a A H) (passes-51 a A H) (passes-71 a A H) l e)

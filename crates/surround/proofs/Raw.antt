@@ -27,11 +27,12 @@ use Rattle.series.specs.Sums.{cosine}
 use Rattle.series.specs.Angles.{definedCosine}
 use Rattle.series.proofs.Laws.{defined-size, defined-close, rest-not-below}
 use Rattle.angles.specs.Promise as Angles
+use Rattle.angles.specs.Promise.{float, zero}
 use Rattle.angles.proofs.Laws.{outcome-kept, accepted, value-near}
 use Rattle.channel.specs.Layouts.{lowFrequency, degreesOf, azimuthOf}
 use Rattle.channel.specs.declared.Layout.{Layout}
 use Rattle.surround.specs.Formula.{degrees, speakerAt, distance, rawGain, rawAt}
-use Rattle.surround.specs.Computed.{float, zero, absolute, notBelow, placeOf, isNear, angleOf, rawOf, channelGain}
+use Rattle.surround.specs.Computed.{absolute, notBelow, placeOf, isNear, angleOf, rawOf, channelGain}
 use Rattle.surround.proofs.Speakers.{Exactly, Sides, Stands, speaker-stands}
 use Rattle.surround.proofs.Ways.{turnedTo, isBetween, Way, the-way}
 
@@ -63,13 +64,13 @@ module _ (a : Float) (A : 0 < number a .over) where
   turned-sides : (s : Float) (q : Fraction) → Stands s q → Sides (placeOf a s) (turnedTo (number a) q)
   unfolding placeOf
   turned-sides s q h =
-      subst (λ (b : Bool). Sides (placed b (lt a (sub binary64 s (float 180)))) (turnedTo (number a) q)) (sym (above-test _ _ (h .above)))
+      subst (λ (b : Bool). Sides (placed b (lt a (sub binary64 s (float (pos 180))))) (turnedTo (number a) q)) (sym (above-test _ _ (h .above)))
       (subst (λ (c : Bool). Sides (placed (isLess (q ⊕ whole 180) (number a)) c) (turnedTo (number a) q)) (sym (below-test _ _ (h .below))) (go (isLess (q ⊕ whole 180) (number a)) (isLess (number a) (q ⊖ whole 180))))
     where
       placed : Bool → Bool → Float
-      placed b c = cond b (add binary64 s (float 360)) (cond c (sub binary64 s (float 360)) s)
+      placed b c = cond b (add binary64 s (float (pos 360))) (cond c (sub binary64 s (float (pos 360))) s)
 
-      go : (b c : Bool) → Sides (cond b (add binary64 s (float 360)) (cond c (sub binary64 s (float 360)) s)) (cond b (q ⊕ whole 360) (cond c (q ⊖ whole 360) q))
+      go : (b c : Bool) → Sides (cond b (add binary64 s (float (pos 360))) (cond c (sub binary64 s (float (pos 360))) s)) (cond b (q ⊕ whole 360) (cond c (q ⊖ whole 360) q))
       go true c = h .on
       go false true = h .back
       go false false = h .here
@@ -218,7 +219,7 @@ module _ (a s : Float) (p m : ℕ) (A : 0 < number a .over) (H : AtMost (magnitu
 
     angle-close : Close scale (number (angleOf a t)) (whole 90 ⊖ d) angleError
     unfolding angleOf ofInt
-    angle-close = close-trans (result-close binary64 tt (rest-close .first) (size-near rest-close rest-size) (sub-result binary64 (float 90) y (lit< tt) (way-close .first))) rest-close
+    angle-close = close-trans (result-close binary64 tt (rest-close .first) (size-near rest-close rest-size) (sub-result binary64 (float (pos 90)) y (lit< tt) (way-close .first))) rest-close
 
     angle-accepted : Angles.refusalOf (angleOf a t) ≡ 0
     angle-accepted = accepted (angleOf a t) (angle-close .first) (size-at-most (size-unit (lit< tt) (lit≤ tt) (size-near angle-close rest-size)))

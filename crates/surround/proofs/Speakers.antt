@@ -7,12 +7,12 @@ use lib.IntN.{ℤ, pos}
 use lib.ListN.{getD}
 use lib.Ieee.{Float, binary64, add, sub, round, ofInt}
 use lib.Ieee.Fits.{and-l, and-r}
+use Rattle.angles.specs.Promise.{float}
 use Rattle.fractions.specs.Fraction.{Fraction, whole, magnitude, number, _⊕_, _⊖_, Same, AtMost}
 use Rattle.channel.specs.Layouts.{speakers, azimuthOf}
 use Rattle.channel.specs.declared.Layout.{Layout}
 use Rattle.channel.specs.declared.Layout.the-variants.{Mono, Stereo, Surround51, Surround71, Custom}
 use Rattle.surround.specs.Formula.{degrees, speakerAt}
-use Rattle.surround.specs.Computed.{float}
 
 -- the float x is the number q
 pub record Exactly (x : Float) (q : Fraction) : Type 0 where
@@ -23,16 +23,16 @@ pub record Exactly (x : Float) (q : Fraction) : Type 0 where
 -- the float t is q, and so are the ends of what is less than 90 degrees away from it
 pub record Sides (t : Float) (q : Fraction) : Type 0 where
   pub is : Exactly t q
-  pub below : Exactly (sub binary64 t (float 90)) (q ⊖ whole 90)
-  pub above : Exactly (add binary64 t (float 90)) (q ⊕ whole 90)
+  pub below : Exactly (sub binary64 t (float (pos 90))) (q ⊖ whole 90)
+  pub above : Exactly (add binary64 t (float (pos 90))) (q ⊕ whole 90)
 
 -- the same a turn on and a turn back, and half a turn either way
 pub record Stands (s : Float) (q : Fraction) : Type 0 where
-  pub below : Exactly (sub binary64 s (float 180)) (q ⊖ whole 180)
-  pub above : Exactly (add binary64 s (float 180)) (q ⊕ whole 180)
+  pub below : Exactly (sub binary64 s (float (pos 180))) (q ⊖ whole 180)
+  pub above : Exactly (add binary64 s (float (pos 180))) (q ⊕ whole 180)
   pub here : Sides s q
-  pub on : Sides (add binary64 s (float 360)) (q ⊕ whole 360)
-  pub back : Sides (sub binary64 s (float 360)) (q ⊖ whole 360)
+  pub on : Sides (add binary64 s (float (pos 360))) (q ⊕ whole 360)
+  pub back : Sides (sub binary64 s (float (pos 360))) (q ⊖ whole 360)
   pub size : AtMost (magnitude q) (whole 180)
 
 -- ---- as a test
@@ -40,12 +40,12 @@ exactly : Float → Fraction → Bool
 exactly x q = ltb 0 (number x .over) && ltb 0 (q .over) && eqb (number x .plus * q .over + q .minus * number x .over) (q .plus * number x .over + number x .minus * q .over)
 
 sides : Float → Fraction → Bool
-sides t q = exactly t q && exactly (sub binary64 t (float 90)) (q ⊖ whole 90) && exactly (add binary64 t (float 90)) (q ⊕ whole 90)
+sides t q = exactly t q && exactly (sub binary64 t (float (pos 90))) (q ⊖ whole 90) && exactly (add binary64 t (float (pos 90))) (q ⊕ whole 90)
 
 stands : Float → Fraction → Bool
 stands s q =
-    exactly (sub binary64 s (float 180)) (q ⊖ whole 180) && exactly (add binary64 s (float 180)) (q ⊕ whole 180) && sides s q && sides (add binary64 s (float 360)) (q ⊕ whole 360)
-    && sides (sub binary64 s (float 360)) (q ⊖ whole 360) && leb (magnitude q .plus * 1 + 0 * q .over) (180 * q .over + 0 * 1)
+    exactly (sub binary64 s (float (pos 180))) (q ⊖ whole 180) && exactly (add binary64 s (float (pos 180))) (q ⊕ whole 180) && sides s q && sides (add binary64 s (float (pos 360))) (q ⊕ whole 360)
+    && sides (sub binary64 s (float (pos 360))) (q ⊖ whole 360) && leb (magnitude q .plus * 1 + 0 * q .over) (180 * q .over + 0 * 1)
 
 exactly-says : (x : Float) (q : Fraction) → T (exactly x q) → Exactly x q
 unfolding exactly
@@ -60,19 +60,19 @@ sides-say : (x : Float) (q : Fraction) → T (sides x q) → Sides x q
 unfolding sides
 sides-say x q t =
     let i = exactly x q in
-    let j = exactly (sub binary64 x (float 90)) (q ⊖ whole 90) in
-    let k = exactly (add binary64 x (float 90)) (q ⊕ whole 90) in
+    let j = exactly (sub binary64 x (float (pos 90))) (q ⊖ whole 90) in
+    let k = exactly (add binary64 x (float (pos 90))) (q ⊕ whole 90) in
     let u = and-l (i && j) k t in
     record { is = exactly-says x q (and-l i j u); below = exactly-says _ _ (and-r i j u); above = exactly-says _ _ (and-r (i && j) k t) }
 
 stands-says : (s : Float) (q : Fraction) → T (stands s q) → Stands s q
 unfolding stands
 stands-says s q t =
-    let a = exactly (sub binary64 s (float 180)) (q ⊖ whole 180) in
-    let b = exactly (add binary64 s (float 180)) (q ⊕ whole 180) in
+    let a = exactly (sub binary64 s (float (pos 180))) (q ⊖ whole 180) in
+    let b = exactly (add binary64 s (float (pos 180))) (q ⊕ whole 180) in
     let c = sides s q in
-    let d = sides (add binary64 s (float 360)) (q ⊕ whole 360) in
-    let e = sides (sub binary64 s (float 360)) (q ⊖ whole 360) in
+    let d = sides (add binary64 s (float (pos 360))) (q ⊕ whole 360) in
+    let e = sides (sub binary64 s (float (pos 360))) (q ⊖ whole 360) in
     let f = leb (magnitude q .plus * 1 + 0 * q .over) (180 * q .over + 0 * 1) in
     let t5 = and-l (a && b && c && d && e) f t in
     let t4 = and-l (a && b && c && d) e t5 in

@@ -3,15 +3,16 @@ use mathlib.Core.Path.{_≡_, sym, ap, _∙_}
 use mathlib.Core.Bool.{Bool, true, false, not}
 use Prim.Native.Nat.{ℕ}
 use borrow.Author.Tests.{not-true, not-false}
+use lib.IntN.{pos}
 use lib.Ieee.{Float, binary64, lt, sub}
 use Rattle.refusals.proofs.First.{stops, goes-on}
 use Rattle.series.specs.Sums.{cosine}
 use Rattle.angles.specs.declared.Answer.{Answer}
 use Rattle.angles.specs.Promise as Angles
-use Rattle.angles.specs.Promise.{Promise}
+use Rattle.angles.specs.Promise.{float, zero, Promise}
 use Rattle.channel.specs.Layouts.{lowFrequency, azimuthOf}
 use Rattle.channel.specs.declared.Layout.{Layout}
-use Rattle.surround.specs.Computed.{float, zero, absolute, notBelow, placeOf, isNear, angleOf, rawOf, channelGain}
+use Rattle.surround.specs.Computed.{absolute, notBelow, placeOf, isNear, angleOf, rawOf, channelGain}
 
 -- t is the place, and b whether the azimuth is near it
 module _ (a s t : Float) (b : Bool) (e : t ≡ placeOf a s) (n : b ≡ isNear a t) where
@@ -23,12 +24,12 @@ module _ (a s t : Float) (b : Bool) (e : t ≡ placeOf a s) (n : b ≡ isNear a 
   far h = sym (goes-on _ _ (sym near-place ∙ not-true b h))
 
   -- x is the way to it, and g the cosine's answer
-  module _ (x : Float) (g : Answer) (h : not b ≡ false) (w : x ≡ absolute (sub binary64 a t)) (p : Promise cosine (sub binary64 (float 90) x) g) where
+  module _ (x : Float) (g : Answer) (h : not b ≡ false) (w : x ≡ absolute (sub binary64 a t)) (p : Promise cosine (sub binary64 (float (pos 90)) x) g) where
     value-is : g .value ≡ Angles.outcome cosine (angleOf a (placeOf a s)) .value
     unfolding angleOf
     value-is =
         ap (λ (r : Answer). r .value) (p .is)
-        ∙ ap (λ (y : Float). Angles.outcome cosine (sub binary64 (float 90) y) .value) (w ∙ ap (λ (z : Float). absolute (sub binary64 a z)) e)
+        ∙ ap (λ (y : Float). Angles.outcome cosine (sub binary64 (float (pos 90)) y) .value) (w ∙ ap (λ (z : Float). absolute (sub binary64 a z)) e)
 
     raw-is : rawOf a s ≡ notBelow (g .value)
     unfolding rawOf

@@ -5,20 +5,14 @@ use mathlib.Core.List.{List}
 use lib.Dec.{ltb}
 use lib.IntN.{pos}
 use lib.ListN.{getD}
-use lib.Ieee.{Float, nan, binary64, lt, neg, add, sub, mul, div, ofInt}
+use lib.Ieee.{Float, nan, binary64, lt, neg, add, sub, mul, div}
 use Rattle.series.specs.Sums.{cosine}
 use Rattle.angles.specs.Promise as Angles
+use Rattle.angles.specs.Promise.{float, zero}
 use Rattle.planes.specs.Tables.{tab}
 use Rattle.planes.specs.Sums.{total}
 use Rattle.channel.specs.Layouts.{lowFrequency, azimuthOf}
 use Rattle.channel.specs.declared.Layout.{Layout}
-
--- a whole number as an f64
-abbrev pub float : ℕ → Float
-float n = ofInt binary64 (pos n)
-
-abbrev pub zero : Float
-zero = float 0
 
 unfoldable pub absolute : Float → Float
 absolute x = cond (lt x zero) (neg x) x
@@ -27,13 +21,13 @@ unfoldable pub notBelow : Float → Float
 notBelow x = cond (lt x zero) zero x
 
 unfoldable pub placeOf : Float → Float → Float
-placeOf a s = cond (lt (add binary64 s (float 180)) a) (add binary64 s (float 360)) (cond (lt a (sub binary64 s (float 180))) (sub binary64 s (float 360)) s)
+placeOf a s = cond (lt (add binary64 s (float (pos 180))) a) (add binary64 s (float (pos 360))) (cond (lt a (sub binary64 s (float (pos 180)))) (sub binary64 s (float (pos 360))) s)
 
 unfoldable pub isNear : Float → Float → Bool
-isNear a t = cond (lt (sub binary64 t (float 90)) a) (lt a (add binary64 t (float 90))) false
+isNear a t = cond (lt (sub binary64 t (float (pos 90))) a) (lt a (add binary64 t (float (pos 90)))) false
 
 unfoldable pub angleOf : Float → Float → Float
-angleOf a t = sub binary64 (float 90) (absolute (sub binary64 a t))
+angleOf a t = sub binary64 (float (pos 90)) (absolute (sub binary64 a t))
 
 unfoldable pub rawOf : Float → Float → Float
 rawOf a s = cond (isNear a (placeOf a s)) (notBelow (Angles.outcome cosine (angleOf a (placeOf a s)) .value)) zero

@@ -8,6 +8,7 @@ use mathlib.Core.List.{List, [], _∷_}
 use lib.Dec.{T, eqb}
 use lib.ListN.{getD, replicate}
 use lib.Ieee.{Float, binary64}
+use Rattle.angles.specs.Promise.{zero}
 use Rattle.refusals.specs.Refusals.{firstOf, _when_}
 use Rattle.fractions.specs.Fraction.{fraction, whole, number, AtMost}
 use Rattle.fractions.specs.Squares.{BySquares}
@@ -17,7 +18,7 @@ use Rattle.channel.specs.declared.Layout.{Layout}
 use Rattle.harmonics.specs.Promise.{refusesAzimuth}
 use Rattle.surround.specs.declared.SurroundGains.{SurroundGains}
 use Rattle.surround.specs.Formula.{rawAt, sumAt, isSilent}
-use Rattle.surround.specs.Computed.{zero, rawGains, sumOf, dividedBy}
+use Rattle.surround.specs.Computed.{rawGains, sumOf, dividedBy}
 
 -- within 2 ^ -surroundBits: the place to change it at
 abbrev pub surroundBits : ℕ

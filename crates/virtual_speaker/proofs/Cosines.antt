@@ -10,9 +10,9 @@ use Rattle.fractions.specs.Fraction.{number, whole, magnitude, AtMost}
 use Rattle.fractions.specs.Approximates.{Approximates}
 use Rattle.fractions.proofs.Within.{isWithin, within-computed}
 use Rattle.series.specs.Sums.{factorial, power, term, cosineSum}
-use Rattle.harmonics.specs.Promise.{refusesOrder}
+use Rattle.channel.specs.Orders.{refusesOrder}
+use Rattle.channel.proofs.Orders.{by-order}
 use Rattle.harmonics.specs.Computed.{decimal}
-use Rattle.harmonics.proofs.Orders.{by-order}
 use Rattle.virtual_speaker.specs.Weights.{c}
 use Rattle.virtual_speaker.specs.Computed.{cosineOf}
 

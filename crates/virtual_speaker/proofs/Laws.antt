@@ -20,7 +20,8 @@ use Rattle.planes.specs.Tables.{unsound}
 use Rattle.planes.proofs.Tables.{getD-tab}
 use Rattle.channel.specs.Layouts.{positions}
 use Rattle.channel.proofs.Tables.{turned, position-turned}
-use Rattle.harmonics.specs.Promise.{refusesOrder, refusesAzimuth, refusalOf, silence, degrees}
+use Rattle.channel.specs.Orders.{refusesOrder}
+use Rattle.harmonics.specs.Promise.{refusesAzimuth, refusalOf, silence, degrees}
 use Rattle.harmonics.specs.declared.Direction.{Direction}
 use Rattle.harmonics.proofs.Laws.{accepted, direction-accepted, whole-accepted, elevation-accepted}
 use Rattle.virtual_speaker.specs.Weights.{weightedFormulas}

@@ -8,9 +8,9 @@ use lib.Ieee.{Float, nan, lt, le, eq, neg, add, sub, mul, div, round, ofInt, toB
 use Rattle.fractions.specs.Fraction.{Fraction, number, whole}
 use Rattle.series.specs.Angles.{turned}
 use Rattle.angles.specs.Computed.{units, cut, place, short, times, radians, nesting, nest, rounded, sineAt, cosineAt, computed}
-use Rattle.angles.specs.Promise.{isInside, isRefused}
+use Rattle.angles.specs.Limits.{isInside, refusesAngle}
 use Rattle.harmonics.specs.Computed.{sin, cos, wavesOf, upTo, decimal}
-use Rattle.harmonics.specs.Promise.{degrees, refusesAngle, silence}
+use Rattle.harmonics.specs.Promise.{degrees, silence}
 use Rattle.harmonics.specs.Promise as Harmonics
 use Rattle.harmonics.specs.Drill.{at, Alike, none}
 use Rattle.harmonics.proofs.Drill.{alike}
@@ -23,7 +23,7 @@ abbrev front : List Fraction
 front = (whole 1 ∷ none ∷ none ∷ number (decimal 8244615675902878) ∷ []) ++ replicate 12 none
 
 in-front : Alike (map number (outcome 1 (at 0 0) .weights)) front
-unfolding refusesAngle Harmonics.isInside weigh upTo wavesOf sin cos isRefused isInside lt le eq computed place cut units turned sineAt cosineAt short times radians nesting nest rounded ofInt div neg add sub mul round
+unfolding refusesAngle isInside weigh upTo wavesOf sin cos lt le eq computed place cut units turned sineAt cosineAt short times radians nesting nest rounded ofInt div neg add sub mul round
 in-front = alike (map number (outcome 1 (at 0 0) .weights)) front tt
 
 -- ---- wrong answers
@@ -35,7 +35,7 @@ third r = toBits binary64 (getD (r .weights) 3 nan)
 
 -- it refuses every direction
 refuses-always : Promise 1 (at 0 0) (record { refusal = 3; weights = silence }) → ⊥
-unfolding refusal refusesAngle Harmonics.isInside lt le eq neg ofInt
+unfolding refusal refusesAngle isInside lt le eq neg ofInt
 refuses-always p = let e : _≡_ {A = ℕ} 3 0 = ap refusal (p .is) in omega arith
 
 -- it takes order 4 for the third, as 003 does
@@ -45,5 +45,5 @@ third-for-fourth ws p = let e : _≡_ {A = ℕ} 0 1 = ap refusal (p .is) in omeg
 
 -- it takes 137.9 degrees for A, as the comment of 003 has it: the cosine of a quarter of that is 0.8243...
 by-the-comment : Promise 1 (at 0 0) (record { refusal = 0; weights = (degrees 1 ∷ degrees 0 ∷ degrees 0 ∷ decimal 8243732515066312 ∷ []) ++ replicate 12 (degrees 0) }) → ⊥
-unfolding third toBits refusesAngle Harmonics.isInside weigh upTo wavesOf sin cos isRefused isInside lt le eq computed place cut units turned sineAt cosineAt short times radians nesting nest rounded ofInt div neg add sub mul round
+unfolding third toBits refusesAngle isInside weigh upTo wavesOf sin cos lt le eq computed place cut units turned sineAt cosineAt short times radians nesting nest rounded ofInt div neg add sub mul round
 by-the-comment p = let e : _≡_ {A = ℕ} 4605600513681875353 4605601309162438246 = ap third (p .is) in omega arith

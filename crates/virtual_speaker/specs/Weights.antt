@@ -8,6 +8,7 @@ use lib.ListN.{getD}
 use Rattle.fractions.specs.Fraction.{Fraction, fraction, whole, _⊗_, _⊘_}
 use Rattle.series.specs.Sums.{cosineSum, power}
 use Rattle.planes.specs.Tables.{tab}
+use Rattle.channel.specs.Orders.{channelsOfOrder}
 use Rattle.harmonics.specs.Formulas.{formulas}
 
 abbrev pub A : Fraction
@@ -16,9 +17,9 @@ A = fraction 2406184877014388 0 (10 ^ 15)
 abbrev pub c : ℕ → Fraction
 c order = cosineSum (A ⊘ whole (2 * (order + 1)))
 
--- in ACN order the channels below (l + 1)² are of degree l at most
+-- in ACN order the channels of order l are those of degree l at most
 abbrev pub degreeOf : ℕ → ℕ
-degreeOf channel = cond (ltb channel (1 * 1)) 0 (cond (ltb channel (2 * 2)) 1 (cond (ltb channel (3 * 3)) 2 3))
+degreeOf channel = cond (ltb channel (channelsOfOrder 0)) 0 (cond (ltb channel (channelsOfOrder 1)) 1 (cond (ltb channel (channelsOfOrder 2)) 2 3))
 
 abbrev pub weightedFormulas : ℕ → Fraction → Fraction → List Fraction
 weightedFormulas order a e = tab 0 16 (λ i. getD (formulas order a e) i (whole 0) ⊗ power (c order) (degreeOf i))

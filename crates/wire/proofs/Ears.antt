@@ -1,4 +1,4 @@
--- The bytes of samples and of frames: how many there are, one frame more, and what two stores of four bytes leave. Assumes nothing.
+-- The bytes of frames: how many there are, one frame more, and what two stores of four bytes leave. Assumes nothing.
 use mathlib.Core.Path.{_≡_, refl, sym, ap, _∙_}
 use mathlib.Core.List.{List, [], _∷_, _++_, append-nil, append-assoc}
 use Prim.Native.Nat.{ℕ, zero, suc, _+_, _*_, _≤_}
@@ -9,38 +9,31 @@ use lib.Ieee.{Float, binary32, toBits}
 use Rattle.big_endian.specs.Bytes.{bytesOf}
 use Rattle.big_endian.specs.Placed.{placed}
 use Rattle.big_endian.specs.Fields.{withFloat}
+use Rattle.big_endian.specs.Floats.{floatBytes}
 use Rattle.big_endian.proofs.Bytes.{length-bytes}
 use Rattle.big_endian.proofs.Placed.{placed-none, placed-on, length-placed}
 use Rattle.big_endian.proofs.Fields.{written-lies}
+use Rattle.big_endian.proofs.Floats.{length-floatBytes, floatBytes-two}
 use Rattle.planes.specs.Tables.{tab}
 use Rattle.planes.proofs.Tables.{tab-snoc}
 use Rattle.planes.specs.Planes.{frameAt, framesOf}
-use Rattle.wire.specs.Ears.{sampleBytes, earBytes}
-
-pub length-samples : (xs : List Float) → length (sampleBytes xs) ≡ length xs * 4
-unfolding sampleBytes
-length-samples [] = refl
-length-samples (x ∷ xs) = length-append (bytesOf 4 (toBits binary32 x)) (sampleBytes xs) ∙ omega (arith, length-bytes 4 (toBits binary32 x), length-samples xs)
+use Rattle.wire.specs.Ears.{earBytes}
 
 pub ears-append : (fs gs : List (List Float)) → earBytes (fs ++ gs) ≡ earBytes fs ++ earBytes gs
 unfolding earBytes
 ears-append [] gs = refl
-ears-append (f ∷ fs) gs = ap (λ (t : List ℕ). sampleBytes f ++ t) (ears-append fs gs) ∙ sym (append-assoc (sampleBytes f) (earBytes fs) (earBytes gs))
+ears-append (f ∷ fs) gs = ap (λ (t : List ℕ). floatBytes f ++ t) (ears-append fs gs) ∙ sym (append-assoc (floatBytes f) (earBytes fs) (earBytes gs))
 
-ears-one : (f : List Float) → earBytes (f ∷ []) ≡ sampleBytes f
+ears-one : (f : List Float) → earBytes (f ∷ []) ≡ floatBytes f
 unfolding earBytes
-ears-one f = append-nil (sampleBytes f)
-
--- two samples, one store after the other
-two-samples : (a b : Float) → sampleBytes (a ∷ b ∷ []) ≡ bytesOf 4 (toBits binary32 a) ++ bytesOf 4 (toBits binary32 b)
-unfolding sampleBytes
-two-samples a b = ap (λ (t : List ℕ). bytesOf 4 (toBits binary32 a) ++ t) (append-nil (bytesOf 4 (toBits binary32 b)))
+ears-one f = append-nil (floatBytes f)
 
 stored : (ys last : List ℕ) (at : ℕ) (x : Float) → at + 4 ≤ length ys → last ≡ withFloat ys at x → last ≡ placed ys at (bytesOf 4 (toBits binary32 x))
 unfolding withFloat
 stored ys last at x h e = e ∙ written-lies ys at 4 (toBits binary32 x) (omega arith) h
 
-pub both-stored : (out one two : List ℕ) (at : ℕ) (a b : Float) → at + 8 ≤ length out → one ≡ withFloat out at a → two ≡ withFloat one (at + 4) b → two ≡ placed out at (sampleBytes (a ∷ b ∷ []))
+-- two samples, one store after the other
+pub both-stored : (out one two : List ℕ) (at : ℕ) (a b : Float) → at + 8 ≤ length out → one ≡ withFloat out at a → two ≡ withFloat one (at + 4) b → two ≡ placed out at (floatBytes (a ∷ b ∷ []))
 both-stored out one two at a b h e f =
     let first = stored out one at a (omega arith) e in
     let four = length-bytes 4 (toBits binary32 a) in
@@ -48,7 +41,7 @@ both-stored out one two at a b h e f =
     stored one two (at + 4) b (omega arith) f
     ∙ ap (λ (ys : List ℕ). placed ys (at + 4) (bytesOf 4 (toBits binary32 b))) first
     ∙ placed-on out at 4 (bytesOf 4 (toBits binary32 a)) (bytesOf 4 (toBits binary32 b)) four (omega (arith, length-bytes 4 (toBits binary32 b)))
-    ∙ ap (placed out at) (sym (two-samples a b))
+    ∙ ap (placed out at) (sym (floatBytes-two a b))
 
 -- the loop: the ears of the frames so far stand at the start
 pub length-ears : (ears : List Float) (stride n : ℕ) → length (earBytes (framesOf ears stride 2 n)) ≡ n * 8
@@ -58,24 +51,24 @@ length-ears ears stride n = go 0 n
     go : (i n : ℕ) → length (earBytes (tab i n (frameAt ears stride 2))) ≡ n * 8
     go i zero = refl
     go i (suc n) =
-        length-append (sampleBytes (frameAt ears stride 2 i)) (earBytes (tab (suc i) n (frameAt ears stride 2)))
-        ∙ omega (arith, length-samples (frameAt ears stride 2 i), go (suc i) n)
+        length-append (floatBytes (frameAt ears stride 2 i)) (earBytes (tab (suc i) n (frameAt ears stride 2)))
+        ∙ omega (arith, length-floatBytes (frameAt ears stride 2 i), go (suc i) n)
 
 module _ (ears : List Float) (stride : ℕ) (out : List ℕ) where
   pub giving-none : out ≡ placed out 0 (earBytes (framesOf ears stride 2 0))
   unfolding earBytes
   giving-none = sym (placed-none out 0)
 
-  pub giving-more : (n : ℕ) (ys last : List ℕ) → n * 8 + 8 ≤ length out → ys ≡ placed out 0 (earBytes (framesOf ears stride 2 n)) → last ≡ placed ys (n * 8) (sampleBytes (frameAt ears stride 2 n))
+  pub giving-more : (n : ℕ) (ys last : List ℕ) → n * 8 + 8 ≤ length out → ys ≡ placed out 0 (earBytes (framesOf ears stride 2 n)) → last ≡ placed ys (n * 8) (floatBytes (frameAt ears stride 2 n))
       → last ≡ placed out 0 (earBytes (framesOf ears stride 2 (n + 1)))
   giving-more n ys last h e f =
       let so-far = earBytes (framesOf ears stride 2 n) in
-      let frame = sampleBytes (frameAt ears stride 2 n) in
+      let frame = floatBytes (frameAt ears stride 2 n) in
       let start : n * 8 ≡ 0 + n * 8 = omega arith in
       let more : so-far ++ frame ≡ earBytes (framesOf ears stride 2 (n + 1)) =
-      sym (rw (add-one n, tab-snoc 0 n (frameAt ears stride 2)) (ears-append (framesOf ears stride 2 n) (frameAt ears stride 2 (0 + n) ∷ []) ∙ ap (λ (t : List ℕ). so-far ++ t) (ears-one (frameAt ears stride 2 (0 + n))) ∙ ap (λ (k : ℕ). so-far ++ sampleBytes (frameAt ears stride 2 k)) (zero n))) in
+      sym (rw (add-one n, tab-snoc 0 n (frameAt ears stride 2)) (ears-append (framesOf ears stride 2 n) (frameAt ears stride 2 (0 + n) ∷ []) ∙ ap (λ (t : List ℕ). so-far ++ t) (ears-one (frameAt ears stride 2 (0 + n))) ∙ ap (λ (k : ℕ). so-far ++ floatBytes (frameAt ears stride 2 k)) (zero n))) in
       f ∙ ap (λ (k : ℕ). placed ys k frame) start ∙ ap (λ (l : List ℕ). placed l (0 + n * 8) frame) e
-      ∙ placed-on out 0 (n * 8) so-far frame (length-ears ears stride n) (omega (arith, length-samples (frameAt ears stride 2 n)))
+      ∙ placed-on out 0 (n * 8) so-far frame (length-ears ears stride n) (omega (arith, length-floatBytes (frameAt ears stride 2 n)))
       ∙ ap (placed out 0) more
     where
       zero : (n : ℕ) → 0 + n ≡ n

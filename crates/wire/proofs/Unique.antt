@@ -13,5 +13,5 @@ bytes-from-ears-unique : (ears : List Float) (stride frames : ℕ) (out : List �
 bytes-from-ears-unique ears stride frames out m n a b p q = (determined m n (p .count) (q .count), determined a b (p .filled) (q .filled))
 
 -- of either line
-line-unique : (out line : List ℕ) (m n : ℕ) (a b : List ℕ) → Lined out line m a → Lined out line n b → (m ≡ n) × (a ≡ b)
+pub line-unique : (out line : List ℕ) (m n : ℕ) (a b : List ℕ) → Lined out line m a → Lined out line n b → (m ≡ n) × (a ≡ b)
 line-unique out line m n a b p q = (determined m n (p .count) (q .count), determined a b (p .filled) (q .filled))

@@ -1,15 +1,10 @@
 -- Document 01, item 10: "writes each frame's left then right, big-endian". Definitions only. The one NaN is written 7FC00000.
 use Prim.Native.Nat.{ℕ}
 use mathlib.Core.List.{List, [], _∷_, _++_}
-use lib.Ieee.{Float, binary32, toBits}
-use Rattle.big_endian.specs.Bytes.{bytesOf}
-
--- samples one after another, four bytes each
-unfoldable pub sampleBytes : List Float → List ℕ
-sampleBytes [] = []
-sampleBytes (x ∷ xs) = bytesOf 4 (toBits binary32 x) ++ sampleBytes xs
+use lib.Ieee.{Float}
+use Rattle.big_endian.specs.Floats.{floatBytes}
 
 -- frames one after another: of two samples, left and right
 unfoldable pub earBytes : List (List Float) → List ℕ
 earBytes [] = []
-earBytes (f ∷ fs) = sampleBytes f ++ earBytes fs
+earBytes (f ∷ fs) = floatBytes f ++ earBytes fs

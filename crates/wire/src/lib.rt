@@ -7,14 +7,15 @@
 // list that is too short takes the frames that it has room for. That frames read from a list of bytes are those
 // of its two parts, wherever it is cut between frames, is a law that the crates above cite.
 //
-// Under it lie `big_endian` (numbers in bytes), `planes` (a sample of a plane) and the kit's `io` (digits).
+// Under it lie `big_endian` (numbers in bytes), `planes` (a sample of a plane, the smaller of two counts) and the
+// kit's `io` (digits).
 ghost use mathlib.Core.Path.{_≡_};
-ghost use Prim.Native.Nat.{_+_, _*_, _/_, _≤_, min};
+ghost use Prim.Native.Nat.{_+_, _*_, _/_, _≤_};
 ghost use lib.ListN.{length};
 ghost use Rattle.planes.specs.Planes.{frameAt, withFrame};
 ghost use Rattle.big_endian.specs.Placed.{placed};
+ghost use Rattle.big_endian.specs.Floats.{floatBytes};
 ghost use Rattle.wire.specs.Frames.{frameIn, framesIn};
-ghost use Rattle.wire.specs.Ears.{sampleBytes};
 ghost use Rattle.wire.specs.Promises.{Taken, Given};
 
 mod line;
@@ -56,7 +57,7 @@ pub fn frames_from_bytes(bytes: &[u8], stride: usize, inputs: &mut [f32]) -> usi
 // Puts the two ears of frame n, left then right, where they belong.
 fn give_ears(ears: &[f32], stride: usize, n: usize, out: &mut [u8])
     requires { ⌜ n * 8 + 8 ≤ length (now out) ⌝ }
-    ensures { λ _. ⌜ now (out .exit) ≡ placed (now (out .entry)) (n * 8) (sampleBytes (frameAt (now (ears .entry)) stride 2 n)) ⌝ }
+    ensures { λ _. ⌜ now (out .exit) ≡ placed (now (out .entry)) (n * 8) (floatBytes (frameAt (now (ears .entry)) stride 2 n)) ⌝ }
 {
     let at = n * EARS;
     let left = planes::sample(ears, stride, 0, n);
@@ -65,21 +66,12 @@ fn give_ears(ears: &[f32], stride: usize, n: usize, out: &mut [u8])
     big_endian::put_f32(out, at + 4, right);
 }
 
-fn least(a: usize, b: usize) -> usize
-    ensures { λ r. ⌜ r ≡ min a b ⌝ }
-{
-    if a < b {
-        return a;
-    }
-    b
-}
-
 // Puts the ears of the first frames at the start of out, as many as it has room for, and answers how many
 // bytes that is.
 pub fn bytes_from_ears(ears: &[f32], stride: usize, frames: usize, out: &mut [u8]) -> usize
     ensures { λ r. ⌜ Given (now (ears .entry)) stride frames (now (out .entry)) r (now (out .exit)) ⌝ }
 {
-    let count = least(frames, out.len() / EARS);
+    let count = planes::least(frames, out.len() / EARS);
     let mut n = 0;
     while n < count {
         give_ears(ears, stride, n, out);

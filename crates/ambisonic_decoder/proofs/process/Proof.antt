@@ -1,6 +1,4 @@
 -- `ambisonic_decoder::process` meets its contract. Assumes nothing.
-use mathlib.Core.Path.{_≡_, sym, ap, _∙_}
-use denote.Ref.{now}
 use Rattle.ambisonic_decoder.proofs.Answers.{refused-with, accepted-with}
 use borrow.Author.Needs.{needs}
 use Rattle.ambisonic_decoder.proofs.process.Statement.{statement}

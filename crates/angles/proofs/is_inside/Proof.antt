@@ -3,7 +3,7 @@ use mathlib.Core.Path.{sym, ap, _∙_}
 use mathlib.Core.Bool.{Bool, _&&_}
 use lib.IntN.{pos}
 use lib.Ieee.{binary64, le, neg, ofInt, ofBits}
-use Rattle.angles.specs.Promise.{isInside}
+use Rattle.angles.specs.Limits.{isInside}
 use Rattle.angles.proofs.is_inside.Statement.{statement}
 use Rattle.angles.proofs.is_inside.Tie as tie
 

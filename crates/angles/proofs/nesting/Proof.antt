@@ -1,18 +1,20 @@
 -- `angles::nesting` meets its contract. Assumes nothing.
 use mathlib.Core.Path.{ap}
 use Prim.Native.Nat.{ℕ, _+_, _*_, _/_, _^_, _≤_, _<_}
-use native.Mathlib.Nat.{mul-le-mul}
+use mir.Syntax.{w64}
+use mir.Val.{Fits}
+use native.Mathlib.Nat.{mul-le-mul, mul-pos}
 use native.Mathlib.Omega.{arith}
 use Rattle.angles.specs.Computed.{nesting}
-use Rattle.angles.proofs.Room.{divisor}
 use Rattle.angles.proofs.nesting.Statement.{statement}
 use Rattle.angles.proofs.nesting.Tie as tie
 
 small : (y f : ℕ) → y ≤ 12 * 2 ^ 60 → f ≤ 2 ^ 60 → y * f < 2 ^ 124
 small y f h k = omega (arith, mul-le-mul h k)
 
-few : (j : ℕ) → j ≤ 26 → (j + 1) * (j + 2) ≤ 27 * 28
-few j h = mul-le-mul {n₁ = j + 1} {m₁ = j + 2} {n₂ = 27} {m₂ = 28} (omega arith) (omega arith)
+-- any two factors of such a size leave room
+few : (a b : ℕ) → a ≤ 32 → b ≤ 32 → Fits w64 (a * b)
+few a b h k = omega (arith, mul-le-mul h k)
 
 times-requires : tie.Need-times-requires
 times-requires c κs = small _ _ (c .pre .0) (c .pre .1)
@@ -24,10 +26,10 @@ add-result-2 : tie.Need-add-result-2
 add-result-2 c = omega arith
 
 mul-result : tie.Need-mul-result
-mul-result c = omega (arith, few (c .before .args .j) (c .before .pre .2))
+mul-result c = few _ _ (omega (arith, c .before .pre .2)) (omega (arith, c .before .pre .2))
 
 div-result : tie.Need-div-result
-div-result c = divisor (c .before .args .j)
+div-result c = mul-pos (omega arith) (omega arith)
 
 returns : tie.Need-returns
 unfolding nesting

@@ -1,6 +1,6 @@
 -- `bank::fill_rows` meets its contract. The azimuths and the taps of the rows read so far stand at the start of their lists. Assumes nothing.
 use mathlib.Core.Path.{_≡_, sym, ap, _∙_}
-use Prim.Native.Nat.{ℕ, _-_}
+use Prim.Native.Nat.{ℕ, _-_, _≤_}
 use native.Mathlib.Omega.{arith}
 use lib.ListN.{length}
 use mir.Syntax.{w16}
@@ -10,15 +10,15 @@ use Rattle.big_endian.proofs.Placed.{placed-none, length-placed}
 use Rattle.big_endian.proofs.Signed.{back}
 use Rattle.bank_form.specs.FaultComputed.{strided, rowSize, azimuthsFrom, rowTaps, tapsFrom}
 use Rattle.bank_form.proofs.Lists.{strided-none, length-strided, taps-none, length-taps}
-use Rattle.bank.proofs.Fill.{Place, place-start, place-next, azimuth-more, row-more}
+use Rattle.bank.proofs.Fill.{taps-before, azimuth-more, row-more}
 use Rattle.bank.proofs.fill_rows.Statement.{statement}
 use Rattle.bank.proofs.fill_rows.Tie as tie
 
 abbrev Inv-loop : tie.InvT-loop
-Inv-loop file l n azimuths₀ taps₀ i₀ at₀ q₀ azimuths taps i at q = Place l n i at q × (azimuths ≡ placed azimuths₀ 0 (azimuthsFrom file l 9 i)) × (taps ≡ placed taps₀ 0 (tapsFrom file l 9 i))
+Inv-loop file l n azimuths₀ taps₀ i₀ azimuths taps i = (i ≤ n) × (azimuths ≡ placed azimuths₀ 0 (azimuthsFrom file l 9 i)) × (taps ≡ placed taps₀ 0 (tapsFrom file l 9 i))
 
 abbrev μ-loop : tie.MeasureT-loop
-μ-loop file l n azimuths₀ taps₀ i₀ at₀ q₀ azimuths taps i at q = n - i
+μ-loop file l n azimuths₀ taps₀ i₀ azimuths taps i = n - i
 
 -- the lists are as long as they were
 module _ (c : tie.At-loop Inv-loop μ-loop) where
@@ -32,19 +32,23 @@ module _ (c : tie.At-loop Inv-loop μ-loop) where
   kept-taps =
       let args = c .before .before .before .args in
       let long = length-taps (args .file .now) (args .l) 9 (c .loop .i) in
+      let small = taps-before (c .loop .i) 8 (args .l) (omega arith) (c .before .before .before .pre .0) in
       ap length (c .loop .inv .2) ∙ length-placed _ _ _ (omega arith)
 
 loop-holds : tie.Need-loop-holds Inv-loop μ-loop
-loop-holds c = (place-start _ _, sym (ap (placed _ _) (strided-none _ _ _) ∙ placed-none _ _), sym (ap (placed _ _) (taps-none _ _ _) ∙ placed-none _ _))
+loop-holds c = (omega arith, sym (ap (placed _ _) (strided-none _ _ _) ∙ placed-none _ _), sym (ap (placed _ _) (taps-none _ _ _) ∙ placed-none _ _))
+
+row-at-requires : tie.Need-row-at-requires Inv-loop μ-loop
+row-at-requires c κs = omega arith
 
 get-i16-requires : tie.Need-get-i16-requires Inv-loop μ-loop
 get-i16-requires c κs = tt
 
-mul-t11 : tie.Need-mul-t11 Inv-loop μ-loop
-mul-t11 c = omega arith
+mul-t10 : tie.Need-mul-t10 Inv-loop μ-loop
+mul-t10 c = omega arith
 
 slice-set-from-azimuths : tie.Need-slice-set-from-azimuths Inv-loop μ-loop
-slice-set-from-azimuths c = omega (arith, kept-azimuths (c .before .before))
+slice-set-from-azimuths c = omega (arith, kept-azimuths (c .before .before .before))
 
 add-fill-taps : tie.Need-add-fill-taps Inv-loop μ-loop
 add-fill-taps c = omega arith
@@ -52,23 +56,11 @@ add-fill-taps c = omega arith
 mul-fill-taps : tie.Need-mul-fill-taps Inv-loop μ-loop
 mul-fill-taps c = omega arith
 
+tap-at-requires : tie.Need-tap-at-requires Inv-loop μ-loop
+tap-at-requires c κs = omega arith
+
 fill-taps-requires : tie.Need-fill-taps-requires Inv-loop μ-loop
-fill-taps-requires c κs = omega (arith, kept-taps (c .before .before .before))
-
-mul-at : tie.Need-mul-at Inv-loop μ-loop
-mul-at c = omega arith
-
-add-at : tie.Need-add-at Inv-loop μ-loop
-add-at c = omega arith
-
-add-at-2 : tie.Need-add-at-2 Inv-loop μ-loop
-add-at-2 c = omega arith
-
-mul-q : tie.Need-mul-q Inv-loop μ-loop
-mul-q c = omega arith
-
-add-q : tie.Need-add-q Inv-loop μ-loop
-add-q c = omega arith
+fill-taps-requires c κs = omega (arith, kept-taps (c .before .before .before .before .before))
 
 add-i : tie.Need-add-i Inv-loop μ-loop
 add-i c = omega arith
@@ -78,16 +70,18 @@ loop-less c = omega arith
 
 loop-again : tie.Need-loop-again Inv-loop μ-loop
 loop-again c =
-    let start = c .before .before .before .before .before .before .before .before .before in
+    let start = c .before .before .before .before .before .before .before .before .before .before .before in
     let args = start .args in
-    let turn = c .before .before .before .before .before .before .loop in
-    let inside = c .before .before .before .before .before .loop-test .taken in
-    let call = c .before .before .before .before .get-i16 in
-    let azimuth = back w16 (call .result) (call .ok) ∙ call .ensures ∙ ap (signedAt (args .file .now)) (turn .inv .0 .row) in
-    let filled = c .before .before .fill-taps .ensures ∙ ap (λ (p : ℕ). placed (turn .taps) (turn .q) (rowTaps (args .file .now) (args .l) p)) (turn .inv .0 .row) in (
-      place-next _ _ _ _ _ (start .pre .0) inside (turn .inv .0),
+    let turn = c .before .before .before .before .before .before .before .before .loop in
+    let inside = c .before .before .before .before .before .before .before .loop-test .taken in
+    let at = c .before .before .before .before .before .before .row-at .ensures .0 in
+    let call = c .before .before .before .before .before .get-i16 in
+    let azimuth = back w16 (call .result) (call .ok) ∙ call .ensures ∙ ap (signedAt (args .file .now)) at in
+    let q = c .before .before .before .tap-at in
+    let filled = c .before .before .fill-taps .ensures ∙ ap (λ (p : ℕ). placed (turn .taps) (q .result) (rowTaps (args .file .now) (args .l) p)) at in (
+      omega arith,
       azimuth-more (args .file .now) (args .l) (args .azimuths .now) (turn .azimuths) (turn .i) _ (turn .inv .1) (omega arith) azimuth,
-      row-more (args .file .now) (args .l) (args .taps .now) (turn .taps) _ (turn .i) (turn .q) (turn .inv .2) (turn .inv .0 .tap) (omega arith) filled,
+      row-more (args .file .now) (args .l) (args .taps .now) (turn .taps) _ (turn .i) (q .result) (turn .inv .2) (q .ensures .0) (omega (arith, q .ensures .1)) filled,
     )
 
 same-length : tie.Need-same-length Inv-loop μ-loop
@@ -108,17 +102,14 @@ fill-rows-spec =
     Inv-loop
     μ-loop
     loop-holds
+    row-at-requires
     get-i16-requires
-    mul-t11
+    mul-t10
     slice-set-from-azimuths
     add-fill-taps
     mul-fill-taps
+    tap-at-requires
     fill-taps-requires
-    mul-at
-    add-at
-    add-at-2
-    mul-q
-    add-q
     add-i
     loop-less
     loop-again

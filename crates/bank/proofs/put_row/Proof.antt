@@ -8,9 +8,9 @@ use mir.Val.{toZ, ofZ}
 use mir.Facts.{toZ-ofZ}
 use Rattle.big_endian.specs.Bytes.{bytesOf}
 use Rattle.big_endian.specs.Placed.{placed}
-use Rattle.bank_form.specs.Encoding.{tapBytes}
+use Rattle.big_endian.specs.Floats.{floatBytes}
 use Rattle.big_endian.proofs.Bytes.{length-bytes}
-use Rattle.bank_form.proofs.RoundTrip.{length-tapBytes}
+use Rattle.big_endian.proofs.Floats.{length-floatBytes}
 use Rattle.bank.proofs.Fill.{azimuth-put, part-more, length-part}
 use borrow.Author.Needs.{needs}
 use Rattle.bank.proofs.put_row.Statement.{statement}
@@ -40,7 +40,7 @@ returns c =
     let azimuth = azimuth-put (args .file .now) (one .last .0) (args .at) _ (omega arith) (one .ensures) ∙ ap (placed _ _) (ap (bytesOf 2) bits) in
     let row = take (2 * args .l) (drop (args .q) (args .taps .now)) in
     let long = length-part (args .taps .now) (args .q) (2 * args .l) (omega arith) in
-    part-more (args .file .now) (one .last .0) _ _ (tapBytes row) (args .at) 2 (args .at + 2) azimuth (length-bytes 2 _) refl (omega (arith, length-tapBytes row)) (c .before .before .put-taps .ensures)
+    part-more (args .file .now) (one .last .0) _ _ (floatBytes row) (args .at) 2 (args .at + 2) azimuth (length-bytes 2 _) refl (omega (arith, length-floatBytes row)) (c .before .before .put-taps .ensures)
 
 pub put-row-spec : {M : Type 1} → statement M
 put-row-spec =

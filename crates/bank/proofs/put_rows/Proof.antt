@@ -1,7 +1,7 @@
 -- `bank::put_rows` meets its contract. The rows put so far stand behind the head. Assumes nothing.
 use mathlib.Core.Path.{_≡_, sym, ap, _∙_}
 use mathlib.Core.List.{List}
-use Prim.Native.Nat.{ℕ, _-_, _*_, _<_}
+use Prim.Native.Nat.{ℕ, _-_, _*_, _≤_, _<_}
 use native.Mathlib.Omega.{arith}
 use borrow.Author.Count.{below-more}
 use lib.IntN.{ℤ, pos}
@@ -14,26 +14,27 @@ use Rattle.big_endian.proofs.Signed.{back}
 use Rattle.bank_form.specs.Encoding.{rowBytes}
 use Rattle.bank_form.specs.HoldsComputed.{IsAzimuth}
 use Rattle.bank_form.proofs.RoundTrip.{oneRow, row-fits, body-small}
-use Rattle.bank.proofs.Fill.{Place, place-start, place-next, no-rows, rows-more, length-rows, each-azimuth}
+use Rattle.bank.proofs.Fill.{rows-before, no-rows, rows-more, length-rows, each-azimuth}
 use Rattle.bank.proofs.put_rows.Statement.{statement}
 use Rattle.bank.proofs.put_rows.Tie as tie
 
 abbrev Inv-loop : tie.InvT-loop
-Inv-loop azimuths l taps file₀ i₀ at₀ q₀ file i at q = Place l (length azimuths) i at q × (file ≡ placed file₀ 9 (rowBytes (take i azimuths) l taps)) × ((j : ℕ) → j < i → IsAzimuth (getD azimuths j (pos 0)))
+Inv-loop azimuths l taps file₀ i₀ file i = (i ≤ length azimuths) × (file ≡ placed file₀ 9 (rowBytes (take i azimuths) l taps)) × ((j : ℕ) → j < i → IsAzimuth (getD azimuths j (pos 0)))
 
 abbrev μ-loop : tie.MeasureT-loop
-μ-loop azimuths l taps file₀ i₀ at₀ q₀ file i at q = length azimuths - i
+μ-loop azimuths l taps file₀ i₀ file i = length azimuths - i
 
 -- the file is as long as it was
 kept : (c : tie.At-loop Inv-loop μ-loop) → length (c .loop .file) ≡ length (c .before .before .before .args .file .now)
 kept c =
     let args = c .before .before .before .args in
     let turn = c .loop in
-    let long = length-rows (args .azimuths .now) (args .l) (args .taps .now) (turn .i) (turn .inv .0 .inside) (c .before .before .before .pre .2) in
+    let long = length-rows (args .azimuths .now) (args .l) (args .taps .now) (turn .i) (turn .inv .0) (c .before .before .before .pre .2) in
+    let small = rows-before (turn .i) 8 (args .l) (omega arith) (c .before .before .before .pre .0) in
     ap length (turn .inv .1) ∙ length-placed _ _ _ (omega arith)
 
 loop-holds : tie.Need-loop-holds Inv-loop μ-loop
-loop-holds c = (place-start _ _, sym (ap (placed _ _) (no-rows _ _) ∙ placed-none _ _), λ j h. absurd (omega arith))
+loop-holds c = (omega arith, sym (ap (placed _ _) (no-rows _ _) ∙ placed-none _ _), λ j h. absurd (omega arith))
 
 mul-put-row : tie.Need-mul-put-row Inv-loop μ-loop
 mul-put-row c = omega arith
@@ -41,29 +42,20 @@ mul-put-row c = omega arith
 shared-slice-copy-out-put-row : tie.Need-shared-slice-copy-out-put-row Inv-loop μ-loop
 shared-slice-copy-out-put-row c = c .loop-test .taken
 
+tap-at-requires : tie.Need-tap-at-requires Inv-loop μ-loop
+tap-at-requires c κs = omega arith
+
+row-at-requires : tie.Need-row-at-requires Inv-loop μ-loop
+row-at-requires c κs = omega arith
+
 put-row-requires : tie.Need-put-row-requires Inv-loop μ-loop
 put-row-requires c κs =
-    let args = c .before .before .before .before .before .before .args in
-    let turn = c .before .before .before .loop in
-    let start = c .before .before .before .before .before .before in
-    let taps = row-fits (turn .i) (length (args .azimuths .now)) (2 * args .l) (c .before .before .loop-test .taken) in
-    let long = kept (c .before .before .before) in
-    omega arith
-
-mul-at : tie.Need-mul-at Inv-loop μ-loop
-mul-at c = omega arith
-
-add-at : tie.Need-add-at Inv-loop μ-loop
-add-at c = omega arith
-
-add-at-2 : tie.Need-add-at-2 Inv-loop μ-loop
-add-at-2 c = omega arith
-
-mul-q : tie.Need-mul-q Inv-loop μ-loop
-mul-q c = omega arith
-
-add-q : tie.Need-add-q Inv-loop μ-loop
-add-q c = omega arith
+    let args = c .before .before .before .before .before .before .before .before .args in
+    let turn = c .before .before .before .before .before .loop in
+    let start = c .before .before .before .before .before .before .before .before in
+    let taps = row-fits (turn .i) (length (args .azimuths .now)) (2 * args .l) (c .before .before .before .before .loop-test .taken) in
+    let long = kept (c .before .before .before .before .before) in
+    omega (arith, c .before .before .tap-at .ensures, c .row-at .ensures)
 
 add-i : tie.Need-add-i Inv-loop μ-loop
 add-i c = omega arith
@@ -73,17 +65,18 @@ loop-less c = omega arith
 
 loop-again : tie.Need-loop-again Inv-loop μ-loop
 loop-again c =
-    let start = c .before .before .before .before .before .before .before .before .before in
+    let start = c .before .before .before .before .before .before .before .before .before .before .before in
     let args = start .args in
-    let turn = c .before .before .before .before .before .before .loop in
-    let inside = c .before .before .before .before .before .loop-test .taken in
+    let turn = c .before .before .before .before .before .before .before .before .loop in
+    let inside = c .before .before .before .before .before .before .before .loop-test .taken in
     let z = getD (args .azimuths .now) (turn .i) (pos 0) in
-    let taken = back w16 z (c .before .before .before .before .put-row-arg .given) in
-    let row = c .before .before .put-row .ensures ∙ ap (placed _ _) (ap (λ (y : ℤ). oneRow y (args .l) (args .taps .now) (turn .q)) taken) in
+    let q = c .before .before .before .before .before .tap-at in
+    let taken = back w16 z (c .before .before .before .before .before .before .put-row-arg .given) in
+    let row = c .before .before .put-row .ensures ∙ ap (placed _ _) (ap (λ (y : ℤ). oneRow y (args .l) (args .taps .now) (q .result)) taken) in
     let small = body-small (length (args .azimuths .now)) (args .l) (start .pre .1) (start .pre .0) in (
-      place-next _ _ _ _ _ (start .pre .0) inside (turn .inv .0),
-      rows-more (args .file .now) (turn .file) _ (args .azimuths .now) (args .l) (args .taps .now) (turn .i) (turn .q) (turn .at) (start .pre .2) inside (turn .inv .0 .tap) (turn .inv .0 .row) (omega arith) (turn .inv .1) row,
-      below-more (λ (j : ℕ). IsAzimuth (getD (args .azimuths .now) j (pos 0))) (turn .i) (turn .inv .2) (c .before .before .before .before .put-row-arg .given),
+      omega arith,
+      rows-more (args .file .now) (turn .file) _ (args .azimuths .now) (args .l) (args .taps .now) (turn .i) (q .result) (c .before .before .before .row-at .result) (start .pre .2) inside (q .ensures .0) (c .before .before .before .row-at .ensures .0) (omega arith) (turn .inv .1) row,
+      below-more (λ (j : ℕ). IsAzimuth (getD (args .azimuths .now) j (pos 0))) (turn .i) (turn .inv .2) (c .before .before .before .before .before .before .put-row-arg .given),
     )
 
 same-length : tie.Need-same-length Inv-loop μ-loop
@@ -107,12 +100,9 @@ put-rows-spec =
     loop-holds
     mul-put-row
     shared-slice-copy-out-put-row
+    tap-at-requires
+    row-at-requires
     put-row-requires
-    mul-at
-    add-at
-    add-at-2
-    mul-q
-    add-q
     add-i
     loop-less
     loop-again

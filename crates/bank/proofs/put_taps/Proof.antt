@@ -4,15 +4,15 @@ use Prim.Native.Nat.{ℕ, _-_, _≤_}
 use native.Mathlib.Omega.{arith}
 use lib.ListN.{length, take, drop}
 use Rattle.big_endian.specs.Placed.{placed}
+use Rattle.big_endian.specs.Floats.{floatBytes}
 use Rattle.big_endian.proofs.Placed.{placed-none, length-placed}
-use Rattle.bank_form.specs.Encoding.{tapBytes}
-use Rattle.bank_form.proofs.RoundTrip.{length-tapBytes}
-use Rattle.bank.proofs.Fill.{tap-put, tap-more, length-part, no-taps}
+use Rattle.big_endian.proofs.Floats.{floatBytes-none, length-floatBytes}
+use Rattle.bank.proofs.Fill.{tap-put, tap-more, length-part}
 use Rattle.bank.proofs.put_taps.Statement.{statement}
 use Rattle.bank.proofs.put_taps.Tie as tie
 
 abbrev Inv-loop : tie.InvT-loop
-Inv-loop taps q n file₀ at k₀ file k = (k ≤ n) × (file ≡ placed file₀ at (tapBytes (take k (drop q taps))))
+Inv-loop taps q n file₀ at k₀ file k = (k ≤ n) × (file ≡ placed file₀ at (floatBytes (take k (drop q taps))))
 
 abbrev μ-loop : tie.MeasureT-loop
 μ-loop taps q n file₀ at k₀ file k = n - k
@@ -21,12 +21,12 @@ abbrev μ-loop : tie.MeasureT-loop
 kept : (c : tie.At-loop Inv-loop μ-loop) → length (c .loop .file) ≡ length (c .before .before .before .args .file .now)
 kept c =
     let args = c .before .before .before .args in
-    let long = length-tapBytes (take (c .loop .k) (drop (args .q) (args .taps .now))) in
+    let long = length-floatBytes (take (c .loop .k) (drop (args .q) (args .taps .now))) in
     let some = length-part (args .taps .now) (args .q) (c .loop .k) (omega arith) in
     ap length (c .loop .inv .1) ∙ length-placed _ _ _ (omega arith)
 
 loop-holds : tie.Need-loop-holds Inv-loop μ-loop
-loop-holds c = (omega arith, sym (ap (placed _ _) no-taps ∙ placed-none _ _))
+loop-holds c = (omega arith, sym (ap (placed _ _) floatBytes-none ∙ placed-none _ _))
 
 mul-put-f32 : tie.Need-mul-put-f32 Inv-loop μ-loop
 mul-put-f32 c = omega arith
@@ -67,7 +67,7 @@ returns : tie.Need-returns Inv-loop μ-loop
 returns c =
     let args = c .before .before .before .before .args in
     let done : c .before .loop .k ≡ args .n = omega arith in
-    c .before .loop .inv .1 ∙ ap (λ (k : ℕ). placed (args .file .now) (args .at) (tapBytes (take k (drop (args .q) (args .taps .now))))) done
+    c .before .loop .inv .1 ∙ ap (λ (k : ℕ). placed (args .file .now) (args .at) (floatBytes (take k (drop (args .q) (args .taps .now))))) done
 
 pub put-taps-spec : {M : Type 1} → statement M
 put-taps-spec =

@@ -27,7 +27,7 @@ module _ (c : tie.After-field-fault Inv-loop μ-loop) where
 
   here : c .field-fault .result ≡ field (length file) place 4 18 (finite (floatAt file place))
   here =
-      let tap = c .before .before .f32-to-f64-with-nan .ensures ∙ c .before .before .before .get-f32 .ensures in
+      let tap = c .before .before .widen .ensures .same ∙ c .before .before .before .get-f32 .ensures in
       c .field-fault .ensures ∙ ap (field _ _ _ _) (c .before .is-finite .ensures ∙ ap finite tap)
 
 loop-holds : tie.Need-loop-holds Inv-loop μ-loop
@@ -36,8 +36,8 @@ loop-holds c = (c .before .pre, refl)
 get-f32-requires : tie.Need-get-f32-requires Inv-loop μ-loop
 get-f32-requires c κs = tt
 
-f32-to-f64-with-nan-requires : tie.Need-f32-to-f64-with-nan-requires Inv-loop μ-loop
-f32-to-f64-with-nan-requires c κs = tt
+widen-requires : tie.Need-widen-requires Inv-loop μ-loop
+widen-requires c κs = tt
 
 is-finite-requires : tie.Need-is-finite-requires Inv-loop μ-loop
 is-finite-requires c κs = tt
@@ -80,7 +80,7 @@ taps-fault-spec =
     μ-loop
     loop-holds
     get-f32-requires
-    f32-to-f64-with-nan-requires
+    widen-requires
     is-finite-requires
     field-fault-requires
     returns

@@ -2,7 +2,7 @@
 use mathlib.Core.Path.{sym, ap, _∙_}
 use mathlib.Core.Bool.{Bool, _&&_}
 use lib.Ieee.{le}
-use Rattle.harmonics.specs.Promise.{isInside}
+use Rattle.angles.specs.Limits.{isInside}
 use Rattle.harmonics.proofs.is_inside.Statement.{statement}
 use Rattle.harmonics.proofs.is_inside.Tie as tie
 

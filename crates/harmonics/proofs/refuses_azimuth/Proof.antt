@@ -4,7 +4,7 @@ use mathlib.Core.Bool.{false, not}
 use lib.IntN.{pos}
 use lib.Ieee.{ofBits, ofInt}
 use borrow.Author.Needs.{needs}
-use Rattle.harmonics.proofs.Limits.{refused-is}
+use Rattle.angles.proofs.Limits.{refused-is}
 use Rattle.harmonics.proofs.refuses_azimuth.Statement.{statement}
 use Rattle.harmonics.proofs.refuses_azimuth.Tie as tie
 

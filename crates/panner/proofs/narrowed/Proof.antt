@@ -1,23 +1,23 @@
 -- `panner::narrowed` meets its contract: `Filling`. Assumes nothing.
-use mathlib.Core.Path.{_≡_, refl, ap, _∙_}
-use Prim.Native.Nat.{ℕ, _-_, _≤_}
+use mathlib.Core.Path.{refl}
+use Prim.Native.Nat.{_-_}
 use native.Mathlib.Omega.{arith}
+use lib.Dec.{lit≤}
 use lib.ListN.{getD}
-use lib.Ieee.{Float, nan, ofBits}
-use Rattle.numbers.specs.Computed.{zero-float, narrowed}
-use Rattle.planes.proofs.Filled.{filled, filled-more, filled-all}
+use lib.Ieee.{nan}
+use Rattle.numbers.specs.Computed.{narrowed}
+use Rattle.planes.proofs.Filling.{Filling, filling-none, filling-more, filling-whole}
 use Rattle.panner.proofs.narrowed.Statement.{statement}
 use Rattle.panner.proofs.narrowed.Tie as tie
 
 abbrev Inv-loop : tie.InvT-loop
-Inv-loop gains narrow₀ p₀ narrow p = (p ≤ 16) × (narrow ≡ filled zero-float 16 (λ k. narrowed (getD gains k nan)) p)
+Inv-loop gains narrow₀ p₀ narrow p = Filling (λ k. narrowed (getD gains k nan)) 16 narrow₀ narrow p
 
 abbrev μ-loop : tie.MeasureT-loop
 μ-loop gains narrow₀ p₀ narrow p = 16 - p
 
 loop-holds : tie.Need-loop-holds Inv-loop μ-loop
-unfolding ofBits
-loop-holds c = (omega arith, refl)
+loop-holds c = filling-none _ 16 _
 
 mul-narrow : tie.Need-mul-narrow Inv-loop μ-loop
 mul-narrow c = omega arith
@@ -42,16 +42,13 @@ loop-less c = omega arith
 
 loop-again : tie.Need-loop-again Inv-loop μ-loop
 loop-again c =
-    let a = c .before .before .before .args in
     let at = c .before .before .loop in
-    (omega arith, filled-more zero-float 16 (λ k. narrowed (getD (a .t1) k nan)) (at .p) (at .narrow) (c .narrow .result) (omega arith) (at .inv .1) (c .narrow .ensures .bits))
+    filling-more _ 16 _ (at .narrow) (at .p) _ (at .inv) (omega arith) (lit≤ tt) (c .narrow .ensures .bits)
 
 returns : tie.Need-returns Inv-loop μ-loop
 returns c =
-    let a = c .before .before .args in
-    let f : ℕ → Float = λ k. narrowed (getD (a .t1) k nan) in
-    let e : c .before .loop .p ≡ 16 = omega arith in
-    c .before .loop .inv .1 ∙ ap (filled zero-float 16 f) e ∙ filled-all zero-float 16 f
+    let at = c .before .loop in
+    filling-whole _ 16 _ (at .narrow) (at .p) (at .inv) (omega arith) refl
 
 pub narrowed-spec : {M : Type 1} → statement M
 narrowed-spec =

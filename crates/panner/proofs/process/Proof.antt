@@ -15,20 +15,20 @@ returns c =
     let g = c .before .before .gains-of in
     by-command (record { command = a .command; layout = a .layout; frames = a .frames; stride = a .stride }) (now (a .input)) (now (a .out)) (g .result) (g .ensures) (c .if1 .taken)
 
-is-misfit-requires : tie.Need-is-misfit-requires
-is-misfit-requires c κs = search needs
+is-block-unfit-requires : tie.Need-is-block-unfit-requires
+is-block-unfit-requires c κs = search needs
 
 returns-2 : tie.Need-returns-2
 returns-2 c =
     let a = c .before .before .before .before .before .before .before .args in
     let g = c .before .before .before .before .gains-of in
-    by-length (record { command = a .command; layout = a .layout; frames = a .frames; stride = a .stride }) (now (a .input)) (now (a .out)) (g .result) (g .ensures) (c .before .before .if1 .left) (sym (c .before .is-misfit .ensures) ∙ c .if2 .taken)
+    by-length (record { command = a .command; layout = a .layout; frames = a .frames; stride = a .stride }) (now (a .input)) (now (a .out)) (g .result) (g .ensures) (c .before .before .if1 .left) (sym (c .before .is-block-unfit .ensures) ∙ c .if2 .taken)
 
 returns-3 : tie.Need-returns-3
 returns-3 c =
     let a = c .before .before .before .before .before .before .before .before .args in
     let g = c .before .before .before .before .before .gains-of in
-    by-frames (record { command = a .command; layout = a .layout; frames = a .frames; stride = a .stride }) (now (a .input)) (now (a .out)) (g .result) (g .ensures) (c .before .before .before .if1 .left) (sym (c .before .before .is-misfit .ensures) ∙ c .before .if2 .left) (c .if3 .taken)
+    by-frames (record { command = a .command; layout = a .layout; frames = a .frames; stride = a .stride }) (now (a .input)) (now (a .out)) (g .result) (g .ensures) (c .before .before .before .if1 .left) (sym (c .before .before .is-block-unfit .ensures) ∙ c .before .if2 .left) (c .if3 .taken)
 
 narrowed-requires : tie.Need-narrowed-requires
 narrowed-requires c κs = search needs
@@ -44,7 +44,7 @@ returns-4 c =
     let a = c .before .before .before .before .before .before .before .before .before .before .before .before .before .before .args in
     let g = c .before .before .before .before .before .before .before .before .before .before .before .gains-of in
     let n = c .before .before .before .narrowed in
-    plays (record { command = a .command; layout = a .layout; frames = a .frames; stride = a .stride }) (now (a .input)) (now (a .out)) (g .result) (g .ensures) (c .before .before .before .before .before .before .before .before .before .if1 .left) (sym (c .before .before .before .before .before .before .before .before .is-misfit .ensures) ∙ c .before .before .before .before .before .before .before .if2 .left) (n .result) (c .before .before .play .last .0)
+    plays (record { command = a .command; layout = a .layout; frames = a .frames; stride = a .stride }) (now (a .input)) (now (a .out)) (g .result) (g .ensures) (c .before .before .before .before .before .before .before .before .before .if1 .left) (sym (c .before .before .before .before .before .before .before .before .is-block-unfit .ensures) ∙ c .before .before .before .before .before .before .before .if2 .left) (n .result) (c .before .before .play .last .0)
     (c .before .before .before .before .before .before .if3 .left) (n .ensures) (c .before .before .play .ensures)
 
 pub process-spec : {M : Type 1} → statement M
@@ -53,7 +53,7 @@ process-spec =
     (tie.spec
     gains-of-requires
     returns
-    is-misfit-requires
+    is-block-unfit-requires
     returns-2
     returns-3
     narrowed-requires

@@ -1,23 +1,23 @@
 -- `surround::divided` meets its contract: `planes`' `Filling`. Assumes nothing.
-use mathlib.Core.Path.{_≡_, refl, ap, _∙_}
-use Prim.Native.Nat.{ℕ, _-_, _≤_}
+use mathlib.Core.Path.{refl}
+use Prim.Native.Nat.{_-_}
 use native.Mathlib.Omega.{arith}
+use lib.Dec.{lit≤}
 use lib.ListN.{getD}
-use lib.Ieee.{Float, nan, binary64, div, ofBits, ofInt}
-use Rattle.surround.specs.Computed.{zero, dividedBy}
-use Rattle.planes.proofs.Filled.{filled, filled-more, filled-all}
+use lib.Ieee.{nan, binary64, div}
+use Rattle.surround.specs.Computed.{dividedBy}
+use Rattle.planes.proofs.Filling.{Filling, filling-none, filling-more, filling-whole}
 use Rattle.surround.proofs.divided.Statement.{statement}
 use Rattle.surround.proofs.divided.Tie as tie
 
 abbrev Inv-loop : tie.InvT-loop
-Inv-loop root raw gains₀ c₀ gains c = (c ≤ 16) × (gains ≡ filled zero 16 (λ k. div binary64 (getD raw k nan) root) c)
+Inv-loop root raw gains₀ c₀ gains c = Filling (λ k. div binary64 (getD raw k nan) root) 16 gains₀ gains c
 
 abbrev μ-loop : tie.MeasureT-loop
 μ-loop root raw gains₀ c₀ gains c = 16 - c
 
 loop-holds : tie.Need-loop-holds Inv-loop μ-loop
-unfolding ofBits ofInt
-loop-holds c = (omega arith, refl)
+loop-holds c = filling-none _ 16 _
 
 mul-gains : tie.Need-mul-gains Inv-loop μ-loop
 mul-gains c = omega arith
@@ -39,17 +39,14 @@ loop-less c = omega arith
 
 loop-again : tie.Need-loop-again Inv-loop μ-loop
 loop-again c =
-    let a = c .before .before .args in
     let at = c .before .loop in
-    (omega arith, filled-more zero 16 (λ k. div binary64 (getD (a .t1) k nan) (a .root)) (at .c) (at .gains) _ (omega arith) (at .inv .1) refl)
+    filling-more _ 16 _ (at .gains) (at .c) _ (at .inv) (omega arith) (lit≤ tt) refl
 
 returns : tie.Need-returns Inv-loop μ-loop
 unfolding dividedBy
 returns c =
-    let a = c .before .before .args in
-    let f : ℕ → Float = λ k. div binary64 (getD (a .t1) k nan) (a .root) in
-    let e : c .before .loop .c ≡ 16 = omega arith in
-    c .before .loop .inv .1 ∙ ap (filled zero 16 f) e ∙ filled-all zero 16 f
+    let at = c .before .loop in
+    filling-whole _ 16 _ (at .gains) (at .c) (at .inv) (omega arith) refl
 
 pub divided-spec : {M : Type 1} → statement M
 divided-spec =

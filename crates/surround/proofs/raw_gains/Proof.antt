@@ -1,22 +1,22 @@
 -- `surround::raw_gains` meets its contract: `planes`' `Filling`. Assumes nothing.
-use mathlib.Core.Path.{_≡_, refl, ap, _∙_}
-use Prim.Native.Nat.{_-_, _≤_}
+use mathlib.Core.Path.{_∙_}
+use Prim.Native.Nat.{_-_}
 use native.Mathlib.Omega.{arith}
 use lib.Ieee.{ofBits, ofInt}
-use Rattle.surround.specs.Computed.{zero, channelGain, rawGains}
-use Rattle.planes.proofs.Filled.{filled, filled-more}
+use Rattle.angles.specs.Promise.{zero}
+use Rattle.surround.specs.Computed.{channelGain, rawGains}
+use Rattle.planes.proofs.Filling.{first-filled, Filling, filling-none, filling-more, filling-all}
 use Rattle.surround.proofs.raw_gains.Statement.{statement}
 use Rattle.surround.proofs.raw_gains.Tie as tie
 
 abbrev Inv-loop : tie.InvT-loop
-Inv-loop layout azimuth channels gains₀ c₀ gains c = (c ≤ channels) × (gains ≡ filled zero 16 (channelGain layout azimuth) c)
+Inv-loop layout azimuth channels gains₀ c₀ gains c = Filling (channelGain layout azimuth) channels gains₀ gains c
 
 abbrev μ-loop : tie.MeasureT-loop
 μ-loop layout azimuth channels gains₀ c₀ gains c = channels - c
 
 loop-holds : tie.Need-loop-holds Inv-loop μ-loop
-unfolding ofBits ofInt
-loop-holds c = (omega arith, refl)
+loop-holds c = filling-none _ _ _
 
 channel-gain-requires : tie.Need-channel-gain-requires Inv-loop μ-loop
 channel-gain-requires c κs = tt
@@ -35,16 +35,15 @@ loop-less c = omega arith
 
 loop-again : tie.Need-loop-again Inv-loop μ-loop
 loop-again c =
-    let a = c .before .before .before .args in
     let at = c .before .before .loop in
-    (omega arith, filled-more zero 16 (channelGain (a .layout) (a .azimuth)) (at .c) (at .gains) (c .channel-gain .result) (omega arith) (at .inv .1) (c .channel-gain .ensures))
+    filling-more _ _ _ (at .gains) (at .c) _ (at .inv) (omega arith) (omega arith) (c .channel-gain .ensures)
 
 returns : tie.Need-returns Inv-loop μ-loop
-unfolding rawGains
+unfolding rawGains ofBits ofInt
 returns c =
     let a = c .before .before .args in
-    let e : c .before .loop .c ≡ a .channels = omega arith in
-    c .before .loop .inv .1 ∙ ap (filled zero 16 (channelGain (a .layout) (a .azimuth))) e
+    let at = c .before .loop in
+    filling-all _ _ _ (at .gains) (at .c) (at .inv) (omega arith) ∙ first-filled (channelGain (a .layout) (a .azimuth)) (a .channels) 16 zero (omega arith)
 
 pub raw-gains-spec : {M : Type 1} → statement M
 raw-gains-spec =

@@ -4,11 +4,12 @@ use Prim.Native.Nat.{_-_, _≤_}
 use native.Mathlib.Omega.{arith}
 use lib.ListN.{getD}
 use lib.Ieee.{nan, binary64, mul, ofBits, ofInt}
+use Rattle.angles.specs.Promise.{zero}
 use Rattle.planes.specs.Tables.{tab}
 use Rattle.planes.specs.Sums.{total}
 use Rattle.planes.proofs.Tables.{tab-all}
 use Rattle.planes.proofs.Sums.{total-more, total-done}
-use Rattle.surround.specs.Computed.{zero, sumOf}
+use Rattle.surround.specs.Computed.{sumOf}
 use Rattle.surround.proofs.sum_of_squares.Statement.{statement}
 use Rattle.surround.proofs.sum_of_squares.Tie as tie
 

@@ -1,22 +1,25 @@
--- `virtual_speaker::weigh` meets its contract: `Weighed`. Assumes nothing.
+-- `virtual_speaker::weigh` meets its contract: `planes`' `Filling`. Assumes nothing.
 use mathlib.Core.Path.{refl, ap}
 use Prim.Native.Nat.{_-_}
 use native.Mathlib.Omega.{arith}
+use lib.Dec.{lit≤}
 use lib.ListN.{getD}
 use lib.Ieee.{Float, nan, binary64, mul}
 use borrow.Author.Needs.{needs}
-use Rattle.virtual_speaker.proofs.Weighing.{Weighed, weighed-none, weighed-next, weighed-all}
+use Rattle.planes.proofs.Filling.{Filling, filling-none, filling-more, filling-whole}
+use Rattle.virtual_speaker.specs.Weights.{degreeOf}
+use Rattle.virtual_speaker.specs.Computed.{weight, weigh}
 use Rattle.virtual_speaker.proofs.weigh.Statement.{statement}
 use Rattle.virtual_speaker.proofs.weigh.Tie as tie
 
 abbrev Inv-loop : tie.InvT-loop
-Inv-loop c coeffs weights₀ i₀ weights i = Weighed c coeffs weights i
+Inv-loop c coeffs weights₀ i₀ weights i = Filling (λ k. mul binary64 (getD coeffs k nan) (weight c (degreeOf k))) 16 weights₀ weights i
 
 abbrev μ-loop : tie.MeasureT-loop
 μ-loop c coeffs weights₀ i₀ weights i = 16 - i
 
 loop-holds : tie.Need-loop-holds Inv-loop μ-loop
-loop-holds c = weighed-none _ _ _ refl
+loop-holds c = filling-none _ 16 _
 
 mul-weights : tie.Need-mul-weights Inv-loop μ-loop
 mul-weights c = omega arith
@@ -43,10 +46,11 @@ loop-again : tie.Need-loop-again Inv-loop μ-loop
 loop-again c =
     let a = c .before .before .before .args in
     let l = c .before .before .loop in
-    weighed-next (a .c) (a .t1) (l .weights) (l .i) _ (l .inv) (omega arith) (ap (λ (w : Float). mul binary64 (getD (a .t1) (l .i) nan) w) (c .weight .ensures))
+    filling-more _ 16 _ (l .weights) (l .i) _ (l .inv) (omega arith) (lit≤ tt) (ap (λ (w : Float). mul binary64 (getD (a .t1) (l .i) nan) w) (c .weight .ensures))
 
 returns : tie.Need-returns Inv-loop μ-loop
-returns c = let a = c .before .before .args in weighed-all (a .c) (a .t1) (c .before .loop .weights) (c .before .loop .i) (c .before .loop .inv) (c .loop-test .left)
+unfolding weigh
+returns c = let l = c .before .loop in filling-whole _ 16 _ (l .weights) (l .i) (l .inv) (c .loop-test .left) refl
 
 pub weigh-spec : {M : Type 1} → statement M
 weigh-spec =

@@ -1,0 +1,33 @@
+-- How long a line is: a number has at most twenty digits, so 59 bytes at the most. Assumes nothing.
+use mathlib.Core.Bool.{Bool, true, false, cond}
+use mathlib.Core.List.{List, [], _∷_, _++_}
+use Prim.Native.Nat.{ℕ, zero, suc, _+_, _/_, _%_, _≤_}
+use native.Mathlib.Omega.{arith}
+use lib.Dec.{ltb}
+use lib.ListN.{length, length-append}
+use Rattle.wire.specs.Line.{decimalBy, decimal, framesWord, unsettledWord, refusedWord, newline, framesLine, refusedLine}
+
+-- one digit, or one more than the number's tenth has
+one-more : (t : Bool) (k digit last : ℕ) (before : List ℕ) → length before ≤ k → length (cond t (digit ∷ []) (before ++ (last ∷ []))) ≤ suc k
+one-more true k digit last before h = omega arith
+one-more false k digit last before h = omega (arith, length-append before (last ∷ []), h)
+
+digits-short : (k n : ℕ) → length (decimalBy k n) ≤ k
+unfolding decimalBy
+digits-short zero n = omega arith
+digits-short (suc k) n = one-more (ltb n 10) k (48 + n) (48 + n % 10) (decimalBy k (n / 10)) (digits-short k (n / 10))
+
+decimal-short : (n : ℕ) → length (decimal n) ≤ 20
+unfolding decimal
+decimal-short n = digits-short 20 n
+
+pub frames-short : (frames unsettled : ℕ) → length (framesLine frames unsettled) ≤ 59
+unfolding framesLine framesWord unsettledWord newline
+frames-short frames unsettled =
+    let last = decimal unsettled ++ newline in
+    let behind = unsettledWord ++ last in
+    omega (arith, length-append (decimal frames) behind, length-append (decimal unsettled) newline, decimal-short frames, decimal-short unsettled)
+
+pub refused-short : (number : ℕ) → length (refusedLine number) ≤ 59
+unfolding refusedLine refusedWord newline
+refused-short number = omega (arith, length-append (decimal number) newline, decimal-short number)
