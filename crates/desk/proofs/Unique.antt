@@ -6,6 +6,6 @@ use Rattle.refusals.proofs.Determined.{determined}
 use Rattle.desk.specs.declared.Desk.{Desk}
 use Rattle.desk.specs.Steps.{steppedOf}
 
--- of the answer of `stepped` and of `advance`, and of what `step` leaves where the record stands
+-- of the answer of `stepped`, and of what `step` leaves where the record stands
 stepped-unique : (L : ℕ) (damaged : Bool) (d a b : Desk) → a ≡ steppedOf L damaged d → b ≡ steppedOf L damaged d → a ≡ b
 stepped-unique L damaged d = determined

@@ -1,9 +1,8 @@
 // The desk's record (document 01, 'Sums': "The desk's ring position and frames-to-go are one small record,
 // changed where it stands after each frame; a form by value comes first"). The position is the cell of
-// every ring that the next frame goes into; damage leaves L-1 frames to go. `stepped` is the form by value,
-// `step` changes a lent record where it stands, and `advance` makes a record of two numbers and lends it to `step`:
-// this is what the convolver does after each frame. They take any record, and promise the record one frame
-// on by an equation. Under it lies nothing.
+// every ring that the next frame goes into; damage leaves L-1 frames to go. `stepped` is the form by value, and
+// `step` changes a lent record where it stands: the convolver's block lends it its own after each frame. They
+// take any record, and promise the record one frame on by an equation. Under it lies nothing.
 ghost use mathlib.Core.Path.{_≡_};
 ghost use mathlib.Core.Bool.{cond};
 ghost use Prim.Native.Nat.{_-_, _<_};
@@ -29,7 +28,7 @@ fn left_to_go(to_go: usize, length: usize, damaged: bool) -> usize
 }
 
 // One frame on. Where the position is not below the length, the record is as it was.
-pub fn stepped(desk: Desk, length: usize, damaged: bool) -> Desk
+fn stepped(desk: Desk, length: usize, damaged: bool) -> Desk
     ensures { λ r. ⌜ r ≡ steppedOf length damaged desk ⌝ }
 {
     let position = desk.position;
@@ -50,13 +49,4 @@ pub fn step(desk: &mut Desk, length: usize, damaged: bool)
     let was = *desk;
     let is = stepped(was, length, damaged);
     *desk = is;
-}
-
-// A record of two numbers, changed where it stands.
-pub fn advance(position: usize, to_go: usize, length: usize, damaged: bool) -> Desk
-    ensures { λ r. ⌜ r ≡ steppedOf length damaged (record { position = position; «to_go» = «to_go» }) ⌝ }
-{
-    let mut desk = Desk { position, to_go };
-    step(&mut desk, length, damaged);
-    desk
 }

@@ -44,17 +44,16 @@ module _ (h : Shape) (weights : List Float) (rows : List ℕ) (taps : List Float
   ready-stored rings₁ r e =
       record { few = r .few; chosen = r .chosen; tapped = r .tapped; ringed = ap length e ∙ length-stored u t f ∙ r .ringed; within = r .within }
 
-  pub turned : (rings₁ : List Float) (bad : Bool) (l r : Float) (ears₁ ears₂ : List Float) (desk₁ : Desk) (more : ℕ) → Ready h (t .desk .position) rows taps (t .rings)
+  pub turned : (rings₁ : List Float) (bad : Bool) (l r : Float) (ears₁ ears₂ : List Float) (count one : ℕ) → Ready h (t .desk .position) rows taps (t .rings)
       → rings₁ ≡ stored u t f
       → bad ≡ unsound (frameAt rings₁ (h .length) (h .speakers) (t .desk .position))
       → l ≡ earBy h rows taps 0 (suc (t .desk .position)) rings₁
       → r ≡ earBy h rows taps 1 (suc (t .desk .position)) rings₁
       → ears₁ ≡ withSample ears₀ stride 0 n l
       → ears₂ ≡ withSample ears₁ stride 1 n r
-      → desk₁ ≡ steppedOf (h .length) bad (t .desk)
-      → more ≡ cond (bad || ltb 0 (t .desk .«to_go»)) 1 0
-      → Turned h weights rows taps t f stride n ears₀ rings₁ ears₂ desk₁ more
-  turned rings₁ bad l r ears₁ ears₂ desk₁ more ready er eb el es e₁ e₂ ed em =
+      → one ≡ cond (bad || ltb 0 (t .desk .«to_go»)) 1 0
+      → Turned h weights rows taps t f stride n count ears₀ rings₁ ears₂ (n + 1) (count + one) bad
+  turned rings₁ bad l r ears₁ ears₂ count one ready er eb el es e₁ e₂ eo =
       record {
         ringed = er;
         eared =
@@ -63,8 +62,9 @@ module _ (h : Shape) (weights : List Float) (rows : List ℕ) (taps : List Float
             ∙ ap (λ (x : Float). withSample (withSample ears₀ stride 0 n x) stride 1 n r) (el ∙ ap (ringEar u 0 (suc (t .desk .position))) er)
             ∙ ap (λ (x : Float). withSample (withSample ears₀ stride 0 n (ringEar u 0 (suc (t .desk .position)) (stored u t f))) stride 1 n x)
             (es ∙ ap (ringEar u 1 (suc (t .desk .position))) er);
-        desked = ed ∙ ap (λ (b : Bool). steppedOf (h .length) b (t .desk)) bad-is;
-        counts = em ∙ ap (λ (b : Bool). cond (b || ltb 0 (t .desk .«to_go»)) 1 0) bad-is;
+        more = refl;
+        counts = ap (λ (k : ℕ). count + k) (eo ∙ ap (λ (b : Bool). cond (b || ltb 0 (t .desk .«to_go»)) 1 0) bad-is);
+        damage = bad-is;
       }
     where
       bad-is : bad ≡ damaged u f
@@ -73,7 +73,8 @@ module _ (h : Shape) (weights : List Float) (rows : List ℕ) (taps : List Float
 
 -- ---- the loop of `block`
 
-one-at-most : (b : Bool) → cond b 1 0 ≤ 1
+-- a frame adds one at most
+pub one-at-most : (b : Bool) → cond b 1 0 ≤ 1
 one-at-most true = omega arith
 one-at-most false = omega arith
 
@@ -88,11 +89,6 @@ pub record Playing (c : Call) (t : State) (rings ears₁ : List Float) (d : Desk
       withFrames ears₁ (c .stride) n (played (setup c) (record { rings = rings; desk = d }) (tab n (c .frames - n) (frameAt (c .inputs) (c .stride) (c .shape .channels))))
       ≡ withFrames (c .ears) (c .stride) 0 (played (setup c) t (framesIn c))
   pub counts : count + counted (setup c) (record { rings = rings; desk = d }) (tab n (c .frames - n) (frameAt (c .inputs) (c .stride) (c .shape .channels))) ≡ counted (setup c) t (framesIn c)
-
--- a frame adds one at most
-pub few-one : {h : Shape} {weights : List Float} {rows : List ℕ} {taps : List Float} {t : State} {f : List Float} {stride n : ℕ} {ears₀ rings₁ ears₁ : List Float} {desk₁ : Desk} {more : ℕ}
-    → Turned h weights rows taps t f stride n ears₀ rings₁ ears₁ desk₁ more → more ≤ 1
-few-one {h} {weights} {rows} {taps} {t} {f} r = omega (arith, r .counts, one-at-most (late (setupOf h weights rows taps) t f))
 
 module _ (c : Call) (t : State) where
   abbrev frame : ℕ → List Float
@@ -115,51 +111,63 @@ module _ (c : Call) (t : State) where
     abbrev st : State
     st = record { rings = rings; desk = d }
 
-    pub playing-more : (rings₂ ears₂ : List Float) (d₂ : Desk) (more : ℕ) → n < c .frames
-        → Turned (c .shape) (c .weights) (c .rows) (c .taps) st (frame n) (c .stride) n ears₁ rings₂ ears₂ d₂ more → Playing c t rings₂ ears₂ d₂ (count + more) (n + 1)
-    playing-more rings₂ ears₂ d₂ more h e =
-        record {
-          below = omega arith;
-          few = omega (arith, p .few, few-one e);
-          ready =
-              record {
-                few = p .ready .few;
-                chosen = p .ready .chosen;
-                tapped = p .ready .tapped;
-                ringed = long ∙ p .ready .ringed;
-                within = subst (λ (b : Desk). b .position < c .shape .length) (sym on) (mod-lt (d .position + 1) (omega (arith, p .ready .within)));
-              };
-          room = ap length (e .eared) ∙ length-with-frame 0 ears₁ (c .stride) n (ears (setup c) st (frame n)) ∙ p .room;
-          same = long ∙ p .same;
-          states = ap (λ (s : State). left (setup c) s rest) step ∙ sym (ap (left (setup c) st) more-frames) ∙ p .states;
-          sounds =
-              ap (λ (i : ℕ). withFrames ears₂ (c .stride) i (played (setup c) (record { rings = rings₂; desk = d₂ }) rest)) (add-one n)
-              ∙ ap (λ (s : State). withFrames ears₂ (c .stride) (suc n) (played (setup c) s rest)) step
-              ∙ ap (λ (l : List Float). withFrames l (c .stride) (suc n) (played (setup c) (stepped (setup c) st (frame n)) rest)) (e .eared)
-              ∙ sym (ap (λ (l : List (List Float)). withFrames ears₁ (c .stride) n (played (setup c) st l)) more-frames)
-              ∙ p .sounds;
-          counts =
-              ap (λ (s : State). count + more + counted (setup c) s rest) step
-              ∙ ap (λ (k : ℕ). count + k + counted (setup c) (stepped (setup c) st (frame n)) rest) (e .counts)
-              ∙ add-assoc count (cond (late (setup c) st (frame n)) 1 0) (counted (setup c) (stepped (setup c) st (frame n)) rest)
-              ∙ sym (ap (λ (l : List (List Float)). count + counted (setup c) st l) more-frames)
-              ∙ p .counts;
-        }
+    -- a frame further, the record changed after it
+    pub playing-more : (rings₂ ears₂ : List Float) (d₂ : Desk) (count₂ n₂ : ℕ) (bad : Bool) → n < c .frames
+        → Turned (c .shape) (c .weights) (c .rows) (c .taps) st (frame n) (c .stride) n count ears₁ rings₂ ears₂ n₂ count₂ bad
+        → d₂ ≡ steppedOf (c .shape .length) bad d
+        → Playing c t rings₂ ears₂ d₂ count₂ n₂
+    playing-more rings₂ ears₂ d₂ count₂ n₂ bad h e ed =
+        subst (λ (k : ℕ). Playing c t rings₂ ears₂ d₂ count₂ k) (sym (e .more)) (subst (λ (k : ℕ). Playing c t rings₂ ears₂ d₂ k (n + 1)) (sym (e .counts)) on-by-one)
       where
+        one : ℕ
+        one = cond (late (setup c) st (frame n)) 1 0
+
         rest : List (List Float)
         rest = tab (n + 1) (c .frames - (n + 1)) frame
 
         more-frames : tab n (c .frames - n) frame ≡ frame n ∷ rest
         more-frames = tab-more (c .frames) n frame h
 
+        desked : d₂ ≡ stepped (setup c) st (frame n) .desk
+        desked = ed ∙ ap (λ (b : Bool). steppedOf (c .shape .length) b d) (e .damage)
+
         step : _≡_ {A = State} (record { rings = rings₂; desk = d₂ }) (stepped (setup c) st (frame n))
-        step = cc (e .ringed, e .desked)
+        step = cc (e .ringed, desked)
 
         on : d₂ ≡ advanced (c .shape .length) (damaged (setup c) (frame n)) d
-        on = e .desked ∙ goes-on (c .shape .length) (damaged (setup c) (frame n)) d (p .ready .within)
+        on = desked ∙ goes-on (c .shape .length) (damaged (setup c) (frame n)) d (p .ready .within)
 
         long : length rings₂ ≡ length rings
         long = ap length (e .ringed) ∙ length-stored (setup c) st (frame n)
+
+        on-by-one : Playing c t rings₂ ears₂ d₂ (count + one) (n + 1)
+        on-by-one =
+            record {
+              below = omega arith;
+              few = omega (arith, p .few, one-at-most (late (setup c) st (frame n)));
+              ready =
+                  record {
+                    few = p .ready .few;
+                    chosen = p .ready .chosen;
+                    tapped = p .ready .tapped;
+                    ringed = long ∙ p .ready .ringed;
+                    within = subst (λ (b : Desk). b .position < c .shape .length) (sym on) (mod-lt (d .position + 1) (omega (arith, p .ready .within)));
+                  };
+              room = ap length (e .eared) ∙ length-with-frame 0 ears₁ (c .stride) n (ears (setup c) st (frame n)) ∙ p .room;
+              same = long ∙ p .same;
+              states = ap (λ (s : State). left (setup c) s rest) step ∙ sym (ap (left (setup c) st) more-frames) ∙ p .states;
+              sounds =
+                  ap (λ (i : ℕ). withFrames ears₂ (c .stride) i (played (setup c) (record { rings = rings₂; desk = d₂ }) rest)) (add-one n)
+                  ∙ ap (λ (s : State). withFrames ears₂ (c .stride) (suc n) (played (setup c) s rest)) step
+                  ∙ ap (λ (l : List Float). withFrames l (c .stride) (suc n) (played (setup c) (stepped (setup c) st (frame n)) rest)) (e .eared)
+                  ∙ sym (ap (λ (l : List (List Float)). withFrames ears₁ (c .stride) n (played (setup c) st l)) more-frames)
+                  ∙ p .sounds;
+              counts =
+                  ap (λ (s : State). count + one + counted (setup c) s rest) step
+                  ∙ add-assoc count one (counted (setup c) (stepped (setup c) st (frame n)) rest)
+                  ∙ sym (ap (λ (l : List (List Float)). count + counted (setup c) st l) more-frames)
+                  ∙ p .counts;
+            }
 
     pub playing-all : c .frames ≤ n → Blocked c t rings ears₁ d count
     playing-all h =

@@ -4,13 +4,12 @@ use mathlib.Core.Path.{_≡_, refl, sym, ap, _∙_, subst}
 use mathlib.Core.Bool.{Bool, true, false, not, cond}
 use mathlib.Core.List.{List, []}
 use Prim.Native.Nat.{ℕ, zero, suc, _*_, _≤_, _<_}
-use native.Mathlib.Nat.{suc-ne-zero}
 use native.Mathlib.Omega.{arith}
 use lib.Dec.{eqb}
 use lib.ListN.{length, replicate}
 use lib.Ieee.{Float}
 use Rattle.numbers.specs.Computed.{zero-float}
-use Rattle.refusals.proofs.First.{stops, goes-on}
+use Rattle.refusals.proofs.First.{stops, goes-on, passed}
 use Rattle.planes.specs.Planes.{outside, sampleAt, frameAt, framesOf, withFrames}
 use Rattle.planes.proofs.Tables.{length-tab}
 use Rattle.planes.proofs.Checks.{is-equal, not-outside}
@@ -103,16 +102,12 @@ module _ (d : Desk) (speakers L : ℕ) (rings : List Float) where
   reset-by k e = ap (λ (n : ℕ). resetBy n d rings) e
 
   -- an accepted reset is given at least one cell, and exactly those of the speakers
-  off : (b : Bool) (k x : ℕ) → cond b (suc k) x ≡ 0 → (b ≡ false) × (x ≡ 0)
-  off true k x e = absurd (suc-ne-zero k e)
-  off false k x e = (refl, e)
-
   reset-fits : resetRefusal speakers L rings ≡ 0 → (0 < L) × (length rings ≡ speakers * L)
   unfolding resetRefusal
   reset-fits e =
-      let p2 = off (outside speakers 8) 1 _ e in
-      let p4 = off (outside L 512) 3 _ (p2 .1) in
-      let p5 = off (not (eqb (length rings) (speakers * L))) 4 0 (p4 .1) in
+      let p2 = passed (outside speakers 8) 1 _ e in
+      let p4 = passed (outside L 512) 3 _ (p2 .1) in
+      let p5 = passed (not (eqb (length rings) (speakers * L))) 4 0 (p4 .1) in
       (not-outside L 512 (p4 .0) .0, is-equal (length rings) (speakers * L) (p5 .0))
 
   reset-told : (o : AfterReset) → o ≡ resetOutcome d speakers L rings → Resets d speakers L rings o

@@ -1,13 +1,18 @@
 -- What the functions under `process` ask and leave. Definitions only; they speak of the program, and nobody has to believe them.
 use mathlib.Core.Path.{_≡_}
-use Prim.Native.Nat.{ℕ, _*_, _≤_, _<_}
-use mathlib.Core.Bool.{cond}
+use Prim.Native.Nat.{ℕ, _+_, _*_, _≤_, _<_}
+use mathlib.Core.Bool.{Bool, cond}
 use mathlib.Core.List.{List, []}
 use lib.ListN.{length, getD}
 use lib.Ieee.{Float}
+use Rattle.numbers.specs.Computed.{zero-float}
+use Rattle.planes.specs.Tables.{row}
+use Rattle.planes.specs.Sums.{dot}
 use Rattle.planes.specs.Planes.{withFrame, withFrames}
 use Rattle.desk.specs.declared.Desk.{Desk}
-use Rattle.rings.specs.Steps.{State, stored, ringEar, ears, late, stepped, left, played, counted}
+use Rattle.history.specs.Signals.{damaged}
+use Rattle.rings.specs.Unrolled.{unrolled}
+use Rattle.rings.specs.Steps.{State, stored, ringEar, ears, late, left, played, counted}
 use Rattle.hrtf_checks.specs.declared.Shape.{Shape}
 use Rattle.hrtf_checks.specs.Call.{Call, setupOf, setup, framesIn}
 
@@ -19,16 +24,30 @@ pub record Ready (h : Shape) (position : ℕ) (rows : List ℕ) (taps rings : Li
   pub ringed : length rings ≡ h .speakers * h .length
   pub within : position < h .length
 
+-- where a speaker's ring stands, and the taps of a row and side
+pub record Stands (h : Shape) (s j side : ℕ) (taps rings : List Float) : Type 0 where
+  pub ring : s < h .speakers
+  pub row : j < h .rows
+  pub ear : side < 2
+  pub tapped : length taps ≡ 2 * h .rows * h .length
+  pub ringed : length rings ≡ h .speakers * h .length
+  pub long : 0 < h .length
+
+-- a speaker's part of an ear's sum
+abbrev pub partBy : Shape → ℕ → ℕ → ℕ → ℕ → List Float → List Float → Float
+partBy h p s j side taps rings = dot zero-float (unrolled p (row (h .length) s rings)) (row (h .length) (j * 2 + side) taps)
+
 -- an ear's sample needs no weights
 abbrev pub earBy : Shape → List ℕ → List Float → ℕ → ℕ → List Float → Float
 earBy h rows taps side p rings = ringEar (setupOf h [] rows taps) side p rings
 
--- what one frame leaves
-pub record Turned (h : Shape) (weights : List Float) (rows : List ℕ) (taps : List Float) (t : State) (f : List Float) (stride n : ℕ) (ears₀ rings₁ ears₁ : List Float) (desk₁ : Desk) (more : ℕ) : Type 0 where
+-- what one frame leaves, n having been played and `count` of them being unsettled
+pub record Turned (h : Shape) (weights : List Float) (rows : List ℕ) (taps : List Float) (t : State) (f : List Float) (stride n count : ℕ) (ears₀ rings₁ ears₁ : List Float) (n₁ count₁ : ℕ) (bad : Bool) : Type 0 where
   pub ringed : rings₁ ≡ stored (setupOf h weights rows taps) t f
   pub eared : ears₁ ≡ withFrame ears₀ stride n (ears (setupOf h weights rows taps) t f)
-  pub desked : desk₁ ≡ stepped (setupOf h weights rows taps) t f .desk
-  pub counts : more ≡ cond (late (setupOf h weights rows taps) t f) 1 0
+  pub more : n₁ ≡ n + 1
+  pub counts : count₁ ≡ count + cond (late (setupOf h weights rows taps) t f) 1 0
+  pub damage : bad ≡ damaged (setupOf h weights rows taps) f
 
 -- what a block leaves
 pub record Blocked (c : Call) (t : State) (rings₁ ears₁ : List Float) (desk₁ : Desk) (more : ℕ) : Type 0 where

@@ -5,19 +5,47 @@ use desk::Desk;
 use hrtf_checks::Shape;
 ghost use mathlib.Core.Path.{_≡_};
 ghost use mathlib.Core.Bool.{cond, _||_};
-ghost use Prim.Native.Nat.{suc, _<_};
+ghost use Prim.Native.Nat.{suc, _≤_, _<_, _^_};
 ghost use lib.Dec.{ltb};
 ghost use Rattle.planes.specs.Planes.{frameAt};
-ghost use Rattle.hrtf.specs.Steps.{Ready, earBy, Turned, Blocked};
+ghost use Rattle.hrtf.specs.Steps.{Ready, Stands, partBy, earBy, Turned, Blocked};
 
-// The desk after frames, and how many of them are unsettled.
+// The frames played so far, how many of them are unsettled, and whether the last one is damaged.
+pub(crate) struct Played {
+    pub(crate) frames: usize,
+    pub(crate) unsettled: usize,
+    pub(crate) damaged: bool,
+}
+
+// The desk after a block, and how many of its frames are unsettled.
 pub(crate) struct Turn {
     pub(crate) desk: Desk,
     pub(crate) unsettled: usize,
 }
 
-// One ear's sample, the rings being just written at the position: the left ear has side 0, the right ear 1. A
-// speaker's taps are handed on as the part of the bank in which they stand.
+// One speaker's part of an ear's sum, the rings being just written at the position. The speaker's taps are
+// handed on as the part of the bank in which they stand.
+fn part(
+    shape: Shape,
+    position: usize,
+    speaker: usize,
+    row: usize,
+    side: usize,
+    taps: &[f32],
+    rings: &[f32],
+) -> f64
+    requires { ⌜ Stands shape speaker row side (now taps) (now rings) ⌝ }
+    ensures { λ r. ⌜ r ≡ partBy shape (suc position) speaker row side (now (taps .entry)) (now (rings .entry)) ⌝ }
+{
+    let length = shape.length;
+    let a = speaker * length;
+    let e = a + length;
+    let b = (row * 2 + side) * length;
+    let f = b + length;
+    rings::convolve(&rings[a..e], position, &taps[b..f])
+}
+
+// One ear's sample: the left ear has side 0, the right ear 1.
 fn ear(
     shape: Shape,
     position: usize,
@@ -30,16 +58,11 @@ fn ear(
     ensures { λ r. ⌜ r ≡ earBy shape (now («row_of» .entry)) (now (taps .entry)) side (suc position) (now (rings .entry)) ⌝ }
 {
     let speakers = shape.speakers;
-    let length = shape.length;
     let mut sum = 0.0;
     let mut s = 0;
     while s < speakers {
-        let a = s * length;
-        let e = a + length;
         let row = row_of[s];
-        let b = (row * 2 + side) * length;
-        let f = b + length;
-        sum = sum + rings::convolve(&rings[a..e], position, &taps[b..f]);
+        sum = sum + part(shape, position, s, row, side, taps, rings);
         s += 1;
     }
     numbers::narrow(sum * planes::inverse_root(speakers as u32))
@@ -58,11 +81,11 @@ fn one_if_late(damaged: bool, to_go: usize) -> usize
     0
 }
 
-// Frame n of the planes.
+// The next frame of the planes, with the desk's record as it stands before it.
 fn one_frame(
+    played: Played,
     desk: Desk,
     shape: Shape,
-    n: usize,
     stride: usize,
     inputs: &[f32],
     weights: &[f64],
@@ -70,15 +93,17 @@ fn one_frame(
     taps: &[f32],
     rings: &mut [f32],
     ears: &mut [f32],
-) -> Turn
-    requires { ⌜ Ready shape (desk .position) (now «row_of») (now taps) (now rings) ⌝ }
+) -> Played
+    requires { ⌜ Ready shape (desk .position) (now «row_of») (now taps) (now rings) × (played .unsettled ≤ played .frames) × (suc (played .frames) < 2 ^ 64) ⌝ }
     ensures { λ r. ⌜ Turned shape (now (weights .entry)) (now («row_of» .entry)) (now (taps .entry)) (record { rings = now (rings .entry); desk = desk })
-        (frameAt (now (inputs .entry)) stride (shape .channels) n) stride n (now (ears .entry)) (now (rings .exit)) (now (ears .exit)) (r .desk) (r .unsettled) ⌝ }
+        (frameAt (now (inputs .entry)) stride (shape .channels) (played .frames)) stride (played .frames) (played .unsettled) (now (ears .entry)) (now (rings .exit)) (now (ears .exit))
+        (r .frames) (r .unsettled) (r .damaged) ⌝ }
 {
     let speakers = shape.speakers;
     let length = shape.length;
     let position = desk.position;
     let to_go = desk.to_go;
+    let n = played.frames;
     planes::mix_frame(
         rings,
         length,
@@ -95,14 +120,15 @@ fn one_frame(
     let right = ear(shape, position, row_of, taps, 1, rings);
     planes::put_sample(ears, stride, 0, n, left);
     planes::put_sample(ears, stride, 1, n, right);
-    let unsettled = one_if_late(damaged, to_go);
-    Turn {
-        desk: desk::advance(position, to_go, length, damaged),
-        unsettled,
+    Played {
+        frames: n + 1,
+        unsettled: played.unsettled + one_if_late(damaged, to_go),
+        damaged,
     }
 }
 
-// The first frames of the planes, in the order of time.
+// The first frames of the planes, in the order of time. The desk's record stands here, and is changed where
+// it stands after each frame.
 pub(crate) fn block(
     desk: Desk,
     shape: Shape,
@@ -121,13 +147,16 @@ pub(crate) fn block(
         (record { rings = now (rings .entry); desk = desk }) (now (rings .exit)) (now (ears .exit)) (r .desk) (r .unsettled) ⌝ }
 {
     let mut now_at = desk;
-    let mut unsettled = 0;
-    let mut n = 0;
-    while n < frames {
-        let turn = one_frame(
+    let mut played = Played {
+        frames: 0,
+        unsettled: 0,
+        damaged: false,
+    };
+    while played.frames < frames {
+        played = one_frame(
+            played,
             now_at,
             shape,
-            n,
             stride,
             inputs,
             weights,
@@ -136,13 +165,10 @@ pub(crate) fn block(
             rings,
             ears,
         );
-        let next = turn.desk;
-        now_at = next;
-        unsettled = unsettled + turn.unsettled;
-        n += 1;
+        desk::step(&mut now_at, shape.length, played.damaged);
     }
     Turn {
         desk: now_at,
-        unsettled,
+        unsettled: played.unsettled,
     }
 }

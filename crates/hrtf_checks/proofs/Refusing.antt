@@ -1,16 +1,16 @@
 -- What the tests of a call show: which number is given, and that the lent lists of a call that none refuses fit. Assumes nothing.
-use mathlib.Core.Path.{_≡_, refl, sym, _∙_, subst}
+use mathlib.Core.Path.{_≡_, sym, _∙_, subst}
 use mathlib.Core.Bool.{Bool, true, false, not, _||_, cond}
 use mathlib.Core.List.{List, []}
-use Prim.Native.Nat.{ℕ, suc, _*_, _≤_, _<_}
-use native.Mathlib.Nat.{zero-add, suc-ne-zero}
-use borrow.Author.Tests.{leb-false, ltb-false}
-use lib.Dec.{leb, ltb, eqb}
+use Prim.Native.Nat.{ℕ, _*_, _≤_, _<_}
+use native.Mathlib.Nat.{zero-add}
+use borrow.Author.Tests.{leb-false}
+use lib.Dec.{leb, eqb}
 use lib.ListN.{length, getD}
-use Rattle.refusals.proofs.First.{stops, goes-on}
+use Rattle.refusals.proofs.First.{stops, goes-on, passed}
 use Rattle.planes.specs.Tables.{unsound}
-use Rattle.planes.specs.Planes.{outside, unfit}
-use Rattle.planes.proofs.Checks.{or-off, any-off, is-equal, not-outside}
+use Rattle.planes.specs.Planes.{outside, unfit, blockUnfit}
+use Rattle.planes.proofs.Checks.{or-off, any-off, is-equal, not-outside, fitted}
 use Rattle.rings.specs.Steps.{State}
 use Rattle.hrtf_checks.specs.declared.Shape.{Shape}
 use Rattle.hrtf_checks.specs.Call.{Call}
@@ -68,10 +68,6 @@ module _ (c : Call) (t : State) where
 
   -- ---- a call that is not refused
 
-  off : (b : Bool) (k x : ℕ) → cond b (suc k) x ≡ 0 → (b ≡ false) × (x ≡ 0)
-  off true k x e = absurd (suc-ne-zero k e)
-  off false k x e = (refl, e)
-
   -- every test has passed
   pub record Passed : Type 0 where
     pub shaped : bad2 ≡ false
@@ -80,26 +76,31 @@ module _ (c : Call) (t : State) where
     pub sound : bad7 ≡ false
     pub there : bad8 ≡ false
 
-  pub passed : refusalOf c t ≡ 0 → Passed
+  pub every-test : refusalOf c t ≡ 0 → Passed
   unfolding refusalOf
-  passed e =
-      let p2 = off bad2 1 (cond bad4 4 from5) e in
-      let p4 = off bad4 3 from5 (p2 .1) in
-      let p5 = off bad5 4 (cond bad7 7 (cond bad8 8 0)) (p4 .1) in
-      let p7 = off bad7 6 (cond bad8 8 0) (p5 .1) in
-      let p8 = off bad8 7 0 (p7 .1) in
+  every-test e =
+      let p2 = passed bad2 1 (cond bad4 4 from5) e in
+      let p4 = passed bad4 3 from5 (p2 .1) in
+      let p5 = passed bad5 4 (cond bad7 7 (cond bad8 8 0)) (p4 .1) in
+      let p7 = passed bad7 6 (cond bad8 8 0) (p5 .1) in
+      let p8 = passed bad8 7 0 (p7 .1) in
       record { shaped = p2 .0; long = p4 .0; fits = p5 .0; sound = p7 .0; there = p8 .0 }
 
   pub weights-sound : refusalOf c t ≡ 0 → unsound (c .weights) ≡ false
-  weights-sound e = or-off (unsound (c .weights)) (unsound (c .taps)) (passed e .sound) .0
+  weights-sound e = or-off (unsound (c .weights)) (unsound (c .taps)) (every-test e .sound) .0
 
-  -- the ear planes
+  abbrev badPlanes : Bool
+  badPlanes = blockUnfit (length (c .inputs)) (c .shape .channels) (length (c .ears)) 2 (c .stride) (c .frames)
+
+  both-fit : refusalOf c t ≡ 0 → (unfit (length (c .inputs)) (c .shape .channels) (c .stride) (c .frames) ≡ false) × (unfit (length (c .ears)) 2 (c .stride) (c .frames) ≡ false)
+  both-fit e = or-off (unfit (length (c .inputs)) (c .shape .channels) (c .stride) (c .frames)) _ (or-off badPlanes _ (every-test e .fits) .0)
+
+  -- the input planes, and the ear planes
+  pub inputs-fit : refusalOf c t ≡ 0 → length (c .inputs) ≡ c .shape .channels * c .stride
+  inputs-fit e = fitted (length (c .inputs)) (c .shape .channels) (c .stride) (c .frames) (both-fit e .0) .1
+
   pub ears-fit : refusalOf c t ≡ 0 → (c .frames ≤ c .stride) × (length (c .ears) ≡ 2 * c .stride)
-  ears-fit e =
-      let a = or-off (unfit (length (c .inputs)) (c .shape .channels) (c .stride) (c .frames)) _ (passed e .fits) in
-      let b = or-off (unfit (length (c .ears)) 2 (c .stride) (c .frames)) _ (a .1) in
-      let d = or-off (ltb (c .stride) (c .frames)) _ (b .0) in
-      (ltb-false (c .stride) (c .frames) (d .0), is-equal (length (c .ears)) (2 * c .stride) (d .1))
+  ears-fit e = fitted (length (c .ears)) 2 (c .stride) (c .frames) (both-fit e .1)
 
   -- speakers, rows, taps, rings and position
   pub record Fits : Type 0 where
@@ -111,12 +112,11 @@ module _ (c : Call) (t : State) where
 
   pub fits : refusalOf c t ≡ 0 → Fits
   fits e =
-      let p = passed e in
+      let p = every-test e in
       let a1 = or-off (outside (c .shape .speakers) 8) _ (p .shaped) in
       let a2 = or-off (outside (c .shape .rows) 8) _ (a1 .1) in
       let a3 = or-off (outside (c .shape .channels) 16) _ (a2 .1) in
-      let b1 = or-off (unfit (length (c .inputs)) (c .shape .channels) (c .stride) (c .frames)) _ (p .fits) in
-      let b2 = or-off (unfit (length (c .ears)) 2 (c .stride) (c .frames)) _ (b1 .1) in
+      let b2 = or-off badPlanes _ (p .fits) in
       let b3 = or-off (not (eqb (length (t .rings)) (c .shape .speakers * c .shape .length))) _ (b2 .1) in
       let b4 = or-off (not (eqb (length (c .weights)) (c .shape .speakers * c .shape .channels))) _ (b3 .1) in
       let d1 = or-off (leb (c .shape .length) (t .desk .position)) _ (p .there) in

@@ -6,7 +6,7 @@ use lib.Dec.{leb, eqb}
 use lib.ListN.{length, getD}
 use Rattle.refusals.specs.Refusals.{firstOf, _when_}
 use Rattle.planes.specs.Tables.{tab, any, unsound}
-use Rattle.planes.specs.Planes.{outside, unfit}
+use Rattle.planes.specs.Planes.{outside, blockUnfit}
 use Rattle.desk.specs.declared.Desk.{Desk}
 use Rattle.rings.specs.Steps.{State}
 use Rattle.hrtf_checks.specs.declared.Shape.{Shape}
@@ -23,8 +23,8 @@ misshapen h rows = outside (h .speakers) 8 || (outside (h .rows) 8 || (outside (
 -- 5: "stride below the frame count, or a length other than planes x stride, rings speakers x L, weights .. speakers x channels, taps 2 x bank rows x L"
 abbrev pub misfit : Shape → ℕ → ℕ → ℕ → ℕ → ℕ → ℕ → ℕ → Bool
 misfit h frames stride inputs weights taps rings ears =
-    unfit inputs (h .channels) stride frames || (unfit ears 2 stride frames || (not (eqb rings (h .speakers * h .length))
-    || (not (eqb weights (h .speakers * h .channels)) || not (eqb taps (2 * h .rows * h .length)))))
+    blockUnfit inputs (h .channels) ears 2 stride frames || (not (eqb rings (h .speakers * h .length))
+    || (not (eqb weights (h .speakers * h .channels)) || not (eqb taps (2 * h .rows * h .length))))
 
 -- 8: "ring position or frames-to-go is not below L"
 abbrev pub astray : Desk → ℕ → Bool

@@ -66,10 +66,7 @@ fn is_misfit(
 {
     let speakers = shape.speakers;
     let length = shape.length;
-    if planes::is_unfit(inputs, shape.channels, stride, frames) {
-        return true;
-    }
-    if planes::is_unfit(ears, 2, stride, frames) {
+    if planes::is_block_unfit(inputs, shape.channels, ears, 2, stride, frames) {
         return true;
     }
     if !planes::is_product(rings, speakers, length) {

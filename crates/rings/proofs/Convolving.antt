@@ -2,7 +2,8 @@
 use mathlib.Core.Path.{_≡_, refl, sym, ap, _∙_}
 use mathlib.Core.Logic.{⊎-elim}
 use mathlib.Core.List.{List, [], _∷_}
-use Prim.Native.Nat.{ℕ, suc, _+_, _-_, _%_, _≤_, _<_, min, zero-le}
+use Prim.Native.Nat.{ℕ, suc, _+_, _-_, _*_, _%_, _^_, _≤_, _<_, min, zero-le}
+use native.Mathlib.Nat.{mod-lt}
 use native.Mathlib.Omega.{arith}
 use lib.ListN.{length, getD, drop, drop-of-length-le}
 use lib.Ieee.{Float, nan, binary64, add, mul}
@@ -19,6 +20,10 @@ pub record Convolving (ring : List Float) (newest : ℕ) (taps : List Float) (fr
   pub ends : count ≡ min (length ring) (length taps)
   pub below : k ≤ count
   pub summed : dot sum (drop k (unrolled (suc from) ring)) (drop k taps) ≡ dot zero-float (unrolled (suc from) ring) taps
+
+-- a place in the ring fits in bytes where the ring does
+pub place-fits : (x n : ℕ) → 0 < n → n * 4 < 2 ^ 64 → x % n * 4 < 2 ^ 64
+place-fits x n some room = omega (arith, mod-lt x {m = n} some, room)
 
 -- no cell, no sum
 pub convolving-nothing : (ring : List Float) (newest : ℕ) (taps : List Float) → length ring ≡ 0 → zero-float ≡ dot zero-float (unrolled (suc newest) ring) taps

@@ -6,19 +6,10 @@
 // The laws (proofs/) say that rings and desk stand for a history (specs/Represents.antt): what is read out of
 // them is document 01's sums over it, and a frame keeps that so. Under it lie `history`, `desk` and `planes`.
 ghost use mathlib.Core.Path.{_≡_};
-ghost use Prim.Native.Nat.{suc, min};
+ghost use Prim.Native.Nat.{suc};
 ghost use Rattle.numbers.specs.Computed.{zero-float};
 ghost use Rattle.planes.specs.Sums.{dot};
 ghost use Rattle.rings.specs.Unrolled.{unrolled};
-
-fn least(a: usize, b: usize) -> usize
-    ensures { λ r. ⌜ r ≡ min a b ⌝ }
-{
-    if a < b {
-        return a;
-    }
-    b
-}
 
 // An ear's part of one speaker: its ring, whose newest signal stands in the cell `newest`, back round to the
 // oldest, times the taps. The shorter of the two ends the sum; beyond the last cell the newest is the last.
@@ -29,8 +20,8 @@ pub fn convolve(ring: &[f32], newest: usize, taps: &[f32]) -> f64
     if n == 0 {
         return 0.0;
     }
-    let from = least(newest, n - 1);
-    let count = least(n, taps.len());
+    let from = planes::least(newest, n - 1);
+    let count = planes::least(n, taps.len());
     let mut sum = 0.0;
     let mut k = 0;
     while k < count {

@@ -1,11 +1,10 @@
 -- `rings::convolve` meets its contract: `Convolving`. Assumes nothing.
-use Prim.Native.Nat.{_+_, _-_}
+use Prim.Native.Nat.{_-_}
 use native.Mathlib.Nat.{mod-lt}
 use native.Mathlib.Omega.{arith}
 use denote.Ref.{now}
 use lib.Ieee.{ofBits}
-use lib.ListN.{length}
-use Rattle.rings.proofs.Convolving.{Convolving, convolving-nothing, convolving-none, convolving-more, convolving-all}
+use Rattle.rings.proofs.Convolving.{Convolving, place-fits, convolving-nothing, convolving-none, convolving-more, convolving-all}
 use Rattle.rings.proofs.convolve.Statement.{statement}
 use Rattle.rings.proofs.convolve.Tie as tie
 
@@ -33,18 +32,16 @@ unfolding ofBits
 loop-holds c = let a = c .before .before .before .before .before .args in convolving-none (now (a .ring)) (a .newest) (now (a .taps)) (c .before .least .result) (c .least2 .result) (c .before .before .if1 .left) (c .before .least .ensures) (c .least2 .ensures)
 
 add-i : tie.Need-add-i Inv-loop μ-loop
-add-i c = omega (arith, c .before .loop .inv .starts)
+add-i c = omega (arith, c .before .loop .inv .starts, c .before .loop .inv .ends)
 
 sub-i : tie.Need-sub-i Inv-loop μ-loop
-sub-i c = omega (arith, c .before .loop .inv .ends)
+sub-i c = omega (arith, c .before .loop .inv .starts, c .before .loop .inv .ends)
 
 rem-i : tie.Need-rem-i Inv-loop μ-loop
 rem-i c = c .before .loop .inv .some
 
 mul-widen : tie.Need-mul-widen Inv-loop μ-loop
-mul-widen c = let at = c .before in
-    let n = length (now (at .before .before .before .before .before .before .args .ring)) in
-    omega (arith, mod-lt (at .before .before .least .result + n - at .loop .k) {m = n} (at .loop .inv .some))
+mul-widen c = record { fits = place-fits _ _ (c .before .loop .inv .some) (omega arith) }
 
 shared-slice-read-widen : tie.Need-shared-slice-read-widen Inv-loop μ-loop
 shared-slice-read-widen c = mod-lt _ (c .before .before .loop .inv .some)

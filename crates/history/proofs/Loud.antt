@@ -1,0 +1,34 @@
+-- Damage is judged on the signals: the largest f32, at a weight of 2.0, is a finite sample whose signal narrows to an infinite one. By computing the definitions. Assumes nothing.
+use mathlib.Core.Path.{_≡_, refl}
+use mathlib.Core.Bool.{false, true}
+use mathlib.Core.List.{[], _∷_}
+use lib.IntN.{pos}
+use lib.Ieee.{Float, fin, add, mul, sum, round, size, span, climb, units, odd}
+use Rattle.numbers.specs.Computed.{zero-float, rounded}
+use Rattle.planes.specs.Tables.{unsound}
+use Rattle.planes.specs.Sums.{mixed}
+use Rattle.history.specs.Setup.{Setup}
+use Rattle.history.specs.Signals.{damaged}
+use Rattle.history.specs.History.{unsettledIn}
+use Rattle.history.proofs.Drill.{one, half}
+
+abbrev pub largest : Float
+largest = fin false 16777215 (pos 104)
+
+abbrev pub two : Float
+two = fin false 2 (pos 0)
+
+-- the drill's speaker and filters, with that weight
+abbrev pub doubled : Setup
+doubled = record { channels = 1; speakers = 1; L = 2; weights = two ∷ []; taps = one ∷ half ∷ zero-float ∷ one ∷ []; rows = 0 ∷ 0 ∷ 0 ∷ 0 ∷ 0 ∷ 0 ∷ 0 ∷ 0 ∷ [] }
+
+pub loud-finite : unsound (largest ∷ []) ≡ false
+loud-finite = refl
+
+pub loud-damaged : damaged doubled (largest ∷ []) ≡ true
+unfolding mixed rounded add mul sum round size span climb units odd
+loud-damaged = refl
+
+pub loud-unsettled : unsettledIn doubled [] ((largest ∷ []) ∷ []) ≡ 1
+unfolding mixed rounded add mul sum round size span climb units odd
+loud-unsettled = refl
