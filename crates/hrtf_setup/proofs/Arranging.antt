@@ -1,16 +1,16 @@
 -- From the tests and the filled lists to what the set-ups promise. Assumes nothing.
 use mathlib.Core.Path.{_≡_, refl, sym, ap, _∙_, subst}
-use mathlib.Core.Bool.{Bool, true, false, not, cond, _||_, _&&_, true≢false}
+use mathlib.Core.Bool.{Bool, true, false, not, cond, _||_}
 use mathlib.Core.List.{List, []}
-use Prim.Native.Nat.{ℕ, zero, suc, _+_, _*_, _/_, _%_, _-_, _≤_, _<_}
-use native.Mathlib.Nat.{suc-ne-zero, zero-add, add-zero, mul-add-mod-self-right, mul-add-div-right, mod-eq-of-lt, div-eq-of-lt}
+use Prim.Native.Nat.{ℕ, suc, _+_, _*_, _/_, _%_, _-_, _≤_, _<_}
+use native.Mathlib.Nat.{zero-add, add-zero, mul-add-mod-self-right, mul-add-div-right, mod-eq-of-lt, div-eq-of-lt}
 use native.Mathlib.Omega.{arith}
-use borrow.Author.Tests.{eq-eqb, ne-eqb, le-leb, lt-leb, not-false}
-use lib.Dec.{eqb, leb}
+use borrow.Author.Tests.{eq-eqb, ne-eqb, le-leb, not-false}
+use lib.Dec.{eqb}
 use lib.IntN.{ℤ}
 use lib.ListN.{length, getD}
 use lib.Ieee.{Float, nan}
-use Rattle.refusals.proofs.First.{stops, goes-on}
+use Rattle.refusals.proofs.First.{stops, goes-on, passed}
 use Rattle.fractions.specs.Fraction.{number}
 use Rattle.planes.specs.Tables.{tab}
 use Rattle.planes.specs.Planes.{outside}
@@ -19,9 +19,9 @@ use Rattle.planes.proofs.Checks.{or-off, or-yes, or-next, is-equal, not-outside
 use Rattle.planes.proofs.Planes.{inside}
 use Rattle.bank_form.specs.Bank.{within}
 use Rattle.channel.specs.declared.Layout.{Layout}
-use Rattle.channel.specs.declared.Layout.the-variants.{Mono, Stereo, Surround51, Surround71, Custom}
 use Rattle.channel.specs.Layouts.{channelsOf, counted, surround}
-use Rattle.harmonics.specs.Promise.{refusesOrder}
+use Rattle.channel.specs.Orders.{refusesOrder, channelsOfOrder}
+use Rattle.channel.proofs.Counts.{surround-counted, surround-few}
 use Rattle.row_choice.specs.declared.Choice.{Choice}
 use Rattle.row_choice.specs.Nearest.{Takes}
 use Rattle.row_choice.specs.NearestComputed.{nearestFrom}
@@ -36,22 +36,6 @@ use Rattle.hrtf_setup.specs.Speakers.{tenthsAt, rowAt, rowsOf, weightOf,
 use Rattle.hrtf_setup.specs.Arrangement.{Wanted, laterRefusal, refusalOf, Arrangement, arrangedBy, arrangement}
 use Rattle.hrtf_setup.specs.Promise.{Arranges, ofLayout, ofOrder, NewSurround, NewAmbisonic}
 use Rattle.hrtf_setup.proofs.Standing.{stands}
-
--- ---- the layouts that are offered
-
-pub few-channels : (l : Layout) → surround l ≡ true → (0 < channelsOf l) × (channelsOf l ≤ 8)
-few-channels Mono e = absurd (true≢false (sym e))
-few-channels Stereo e = absurd (true≢false (sym e))
-few-channels Surround51 e = (omega arith, omega arith)
-few-channels Surround71 e = (omega arith, omega arith)
-few-channels (Custom n) e = absurd (true≢false (sym e))
-
-pub counted-all : (l : Layout) → surround l ≡ true → counted l .channels ≡ channelsOf l
-counted-all Mono e = absurd (true≢false (sym e))
-counted-all Stereo e = absurd (true≢false (sym e))
-counted-all Surround51 e = refl
-counted-all Surround71 e = refl
-counted-all (Custom n) e = absurd (true≢false (sym e))
 
 -- ---- the weights
 
@@ -130,26 +114,22 @@ module _ (k : Speakers) (speakers channels : ℕ) (azimuths : List ℤ) (rows : 
 -- ---- what each promises
 
 module _ (w : Wanted) (azimuths : List ℤ) (rows : ℕ) (weights : List Float) (given : List ℕ) where
-  off : (b : Bool) (k x : ℕ) → cond b (suc k) x ≡ 0 → (b ≡ false) × (x ≡ 0)
-  off true k x e = absurd (suc-ne-zero k e)
-  off false k x e = (refl, e)
-
   -- where the check that stands first is 0, it does not hold
   pub later-of : w .check .holds ≡ false → refusalOf w azimuths rows weights ≡ laterRefusal (w .speakers * w .channels) azimuths rows weights
   unfolding refusalOf laterRefusal
   later-of h = goes-on (w .check .number) _ h
 
-  passed : laterRefusal (w .speakers * w .channels) azimuths rows weights ≡ 0 → (outside rows 8 ≡ false) × (length azimuths ≡ 8)
+  later-passed : laterRefusal (w .speakers * w .channels) azimuths rows weights ≡ 0 → (outside rows 8 ≡ false) × (length azimuths ≡ 8)
   unfolding laterRefusal
-  passed e =
-      let p2 = off (outside rows 8) 1 _ e in
-      let p5 = off (not (eqb (length azimuths) 8) || not (eqb (length weights) (w .speakers * w .channels))) 4 0 (p2 .1) in
+  later-passed e =
+      let p2 = passed (outside rows 8) 1 _ e in
+      let p5 = passed (not (eqb (length azimuths) 8) || not (eqb (length weights) (w .speakers * w .channels))) 4 0 (p2 .1) in
       (p2 .0, is-equal (length azimuths) 8 (or-off (not (eqb (length azimuths) 8)) _ (p5 .0) .0))
 
   -- a check with a number above 0 does not hold of a set-up that is accepted
-  offered : (n : ℕ) → w .check .number ≡ suc n → refusalOf w azimuths rows weights ≡ 0 → w .check .holds ≡ false
+  pub offered : (n : ℕ) → w .check .number ≡ suc n → refusalOf w azimuths rows weights ≡ 0 → w .check .holds ≡ false
   unfolding refusalOf
-  offered n en e = off (w .check .holds) n _ (ap (λ (m : ℕ). cond (w .check .holds) m (laterAgain)) (sym en) ∙ e) .0
+  offered n en e = passed (w .check .holds) n _ (ap (λ (m : ℕ). cond (w .check .holds) m (laterAgain)) (sym en) ∙ e) .0
     where
       laterAgain : ℕ
       laterAgain = cond (outside rows 8) 2 (cond (not (eqb (length azimuths) 8) || not (eqb (length weights) (w .speakers * w .channels))) 5 0)
@@ -168,7 +148,7 @@ module _ (w : Wanted) (azimuths : List ℤ) (rows : ℕ) (weights : List Float) 
             ∙ getD-tab 0 (w .speakers * w .channels) (weightAt (w .whose) (w .channels)) (s * w .channels + c) nan (inside (w .speakers) (w .channels) s c (w .speakers * w .channels) hs hc refl)
             ∙ ap (weightAt (w .whose) (w .channels)) (zero-add (s * w .channels + c))
             ∙ weighed (w .whose) (w .channels) s c hc;
-        takes = λ z s. let p = passed (sym (later-of (offered n en z)) ∙ z) in row-taken (w .whose) azimuths rows s (p .0) (p .1);
+        takes = λ z s. let p = later-passed (sym (later-of (offered n en z)) ∙ z) in row-taken (w .whose) azimuths rows s (p .0) (p .1);
       }
 
   -- the first check decides
@@ -194,11 +174,11 @@ module _ (l : Layout) (azimuths : List ℤ) (rows : ℕ) (weights : List Float) 
 
   module _ (h : not (surround l) ≡ false) (n : ℕ) (counts : n ≡ counted l .channels) where
     count-is : n ≡ channelsOf l
-    count-is = counts ∙ counted-all l (not-false (surround l) h)
+    count-is = counts ∙ surround-counted l (not-false (surround l) h)
 
     pub few-of-layout : (n ≤ 8) × (0 < n) × (n ≤ 16)
     few-of-layout =
-        let f = few-channels l (not-false (surround l) h) in
+        let f = surround-few l (not-false (surround l) h) in
         let e = count-is in
         (omega (arith, e, f .1), omega (arith, e, f .0), omega (arith, e, f .1))
 
@@ -209,21 +189,6 @@ module _ (l : Layout) (azimuths : List ℤ) (rows : ℕ) (weights : List Float) 
 
 -- ---- an order
 
-order-inside : (order : ℕ) → outside order 3 ≡ false → refusesOrder order ≡ false
-order-inside order e = let p = not-outside order 3 e in rw (le-leb 1 order (p .0), le-leb order 3 (p .1))
-
-order-outside : (order : ℕ) → outside order 3 ≡ true → refusesOrder order ≡ true
-order-outside zero e = refl
-order-outside (suc zero) e = absurd (true≢false (sym e))
-order-outside (suc (suc zero)) e = absurd (true≢false (sym e))
-order-outside (suc (suc (suc zero))) e = absurd (true≢false (sym e))
-order-outside (suc (suc (suc (suc n)))) e =
-    ap not (ap (λ (b : Bool). leb 1 (suc (suc (suc (suc n)))) && b) (lt-leb (suc (suc (suc (suc n)))) 3 (omega arith)) ∙ and-false (leb 1 (suc (suc (suc (suc n))))))
-  where
-    and-false : (b : Bool) → (b && false) ≡ false
-    and-false true = refl
-    and-false false = refl
-
 module _ (order : ℕ) (azimuths : List ℤ) (rows : ℕ) (weights : List Float) (given : List ℕ) where
   ambisonic : (o : Arrangement) → Arranges (ofOrder order) azimuths rows weights given o → NewAmbisonic order azimuths rows weights given o
   ambisonic o a =
@@ -232,22 +197,12 @@ module _ (order : ℕ) (azimuths : List ℤ) (rows : ℕ) (weights : List Float)
         near = λ z s. outcome-kept order (positionOf s) .near (position-accepted order s (offered (ofOrder order) azimuths rows weights given 0 refl z));
       }
 
-  pub order-refused : (a : Arranged) → outside order 3 ≡ true → a ≡ record { refusal = 1; speakers = 0; channels = 0 }
+  pub order-refused : (a : Arranged) → refusesOrder order ≡ true → a ≡ record { refusal = 1; speakers = 0; channels = 0 }
       → NewAmbisonic order azimuths rows weights given (record { answer = a; weights = weights; rows = given })
-  order-refused a h ea = ambisonic (record { answer = a; weights = weights; rows = given }) (not-offered (ofOrder order) azimuths rows weights given 0 refl a (order-outside order h) ea)
+  order-refused a h ea = ambisonic (record { answer = a; weights = weights; rows = given }) (not-offered (ofOrder order) azimuths rows weights given 0 refl a h ea)
 
-  module _ (h : outside order 3 ≡ false) where
-    pub few-of-order : (0 < (order + 1) * (order + 1)) × ((order + 1) * (order + 1) ≤ 16)
-    few-of-order = few order (not-outside order 3 h .1)
-      where
-        few : (n : ℕ) → n ≤ 3 → (0 < (n + 1) * (n + 1)) × ((n + 1) * (n + 1) ≤ 16)
-        few zero l = (omega arith, omega arith)
-        few (suc zero) l = (omega arith, omega arith)
-        few (suc (suc zero)) l = (omega arith, omega arith)
-        few (suc (suc (suc zero))) l = (omega arith, omega arith)
-        few (suc (suc (suc (suc n)))) l = absurd (omega arith)
-
-    pub order-arranged : (o : Arrangement)
-        → o ≡ arrangedBy (laterRefusal (8 * ((order + 1) * (order + 1))) azimuths rows weights) (Virtual order) 8 ((order + 1) * (order + 1)) azimuths rows weights given
-        → NewAmbisonic order azimuths rows weights given o
-    order-arranged o e = ambisonic o (goes-on-to (ofOrder order) azimuths rows weights given 0 refl (order-inside order h) o e)
+  pub order-arranged : (n : ℕ) → refusesOrder order ≡ false → n ≡ channelsOfOrder order → (o : Arrangement)
+      → o ≡ arrangedBy (laterRefusal (8 * n) azimuths rows weights) (Virtual order) 8 n azimuths rows weights given → NewAmbisonic order azimuths rows weights given o
+  order-arranged n h counts o e =
+      ambisonic o (goes-on-to (ofOrder order) azimuths rows weights given 0 refl h o
+      (e ∙ ap (λ (m : ℕ). arrangedBy (laterRefusal (8 * m) azimuths rows weights) (Virtual order) 8 m azimuths rows weights given) counts))

@@ -2,5 +2,6 @@
 mod Standing
 mod Choosing
 mod Arranging
+pub mod Accepted
 mod Unique
 mod Worked

@@ -11,7 +11,7 @@ use Rattle.fractions.specs.Fraction.{number}
 use Rattle.fractions.specs.Approximates.{EachWithin}
 use Rattle.channel.specs.declared.Layout.{Layout}
 use Rattle.channel.specs.Layouts.{channelsOf, surround}
-use Rattle.harmonics.specs.Promise.{refusesOrder}
+use Rattle.channel.specs.Orders.{refusesOrder, channelsOfOrder}
 use Rattle.row_choice.specs.Nearest.{Takes}
 use Rattle.virtual_speaker.specs.Weights.{weightedFormulas}
 use Rattle.virtual_speaker.specs.Promise.{weightBits, outcome, positionOf}
@@ -29,9 +29,9 @@ pub record Arranges (w : Wanted) (azimuths : List ℤ) (rows : ℕ) (weights : L
 abbrev pub ofLayout : Layout → Wanted
 ofLayout l = record { check = 2 when not (surround l); whose = Of l; speakers = channelsOf l; channels = channelsOf l }
 
--- 1: "ambisonic order is not 1, 2 or 3"; eight speakers, (order + 1)² channels
+-- 1: "ambisonic order is not 1, 2 or 3"; eight speakers, and the order's channels
 abbrev pub ofOrder : ℕ → Wanted
-ofOrder order = record { check = 1 when refusesOrder order; whose = Virtual order; speakers = 8; channels = (order + 1) * (order + 1) }
+ofOrder order = record { check = 1 when refusesOrder order; whose = Virtual order; speakers = 8; channels = channelsOfOrder order }
 
 abbrev pub NewSurround : Layout → List ℤ → ℕ → List Float → List ℕ → Arrangement → Type 0
 NewSurround l azimuths rows weights given o = Arranges (ofLayout l) azimuths rows weights given o

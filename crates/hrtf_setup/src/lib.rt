@@ -5,7 +5,7 @@
 //
 // Both take any input. Their promises (specs/Promise.antt) are one equation for the answer and both lists, and
 // beside it: each speaker's row is the one that document 01 names, each weight is its speaker's for its
-// channel, and a weighted coefficient is within 2^-34 of its formula. Under it lie `channel` (where speakers stand),
+// channel, and a weighted coefficient is within 2^-34 of its formula. Under it lie `channel` (where speakers stand, and orders),
 // `virtual_speaker`, `row_choice`, `planes` and `refusals`.
 use channel::Layout;
 ghost use mathlib.Core.Path.{_≡_};
@@ -79,20 +79,21 @@ fn own_channel(s: usize, channel: usize) -> f64
     0.0
 }
 
-// A channel's weighted coefficient at the position of virtual speaker s.
+// A channel's weighted coefficient at the position of virtual speaker s; NaN beyond the sixteen.
 fn coefficient(order: usize, s: usize, channel: usize) -> f64
-    requires { ⌜ channel < 16 ⌝ }
     ensures { λ r. ⌜ r ≡ getD (Weighing.outcome order (Weighing.positionOf s) .weights) channel nan ⌝ }
 {
     let position = virtual_speaker::foa_position(s);
     let speaker = virtual_speaker::compute_sh_coefficients_max_re(order, position);
     let weights = speaker.weights;
-    weights[channel]
+    if channel < 16 {
+        return weights[channel];
+    }
+    0.0 / 0.0
 }
 
 // Speaker s's weight for a channel.
 fn weight(whose: Speakers, s: usize, channel: usize) -> f64
-    requires { ⌜ channel < 16 ⌝ }
     ensures { λ r. ⌜ r ≡ weightOf whose s channel ⌝ }
 {
     match whose {
@@ -103,7 +104,7 @@ fn weight(whose: Speakers, s: usize, channel: usize) -> f64
 
 // Puts the weights: at place i that of channel i % n for speaker i / n.
 fn put_weights(weights: &mut [f64], whose: Speakers, n: usize)
-    requires { ⌜ (0 < n) × (n ≤ 16) ⌝ }
+    requires { ⌜ 0 < n ⌝ }
     ensures { λ _. ⌜ now (weights .exit) ≡ tab 0 (length (now (weights .entry))) (weightAt whose n) ⌝ }
 {
     let mut i = 0;
@@ -175,10 +176,11 @@ pub fn new_ambisonic(
     ensures { λ r. ⌜ NewAmbisonic order (now (azimuths .entry)) rows (now (weights .entry)) (now («row_of» .entry))
         (record { answer = r; weights = now (weights .exit); rows = now («row_of» .exit) }) ⌝ }
 {
-    if planes::is_outside(order, 3) {
+    let counted = channel::ambisonic_channel_count(order);
+    if counted.refusal != 0 {
         return unarranged(1);
     }
-    let n = (order + 1) * (order + 1);
+    let n = counted.channels;
     arrange(
         Speakers::Virtual(order),
         8,

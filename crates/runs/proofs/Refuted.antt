@@ -1,24 +1,19 @@
 -- Answers of another shape, which the promise of `process` refutes on drill table 8 and 9 played in one block: refusing always, writing nothing, silence, filtering the first frame and copying it on, an
 -- unsettled count of one's own, and damage judged on the inputs alone. Assumes nothing.
 use mathlib.Core.Path.{_≡_, refl, sym, ap, _∙_}
-use mathlib.Core.Bool.{false}
 use mathlib.Core.List.{List, [], _∷_}
 use Prim.Native.Nat.{ℕ, suc}
 use native.Mathlib.Nat.{suc-ne-zero}
 use native.Mathlib.Omega.{arith}
 use lib.ListN.{getD, replicate}
-use lib.IntN.{pos}
-use lib.Ieee.{Float, nan, inf, fin, add, mul, round, size, span, climb, units, odd}
-use lib.Ieee as ieee
-use Rattle.numbers.specs.Computed.{zero-float, rounded}
-use Rattle.planes.specs.Tables.{unsound}
+use lib.Ieee.{Float, nan, inf, fin}
+use Rattle.numbers.specs.Computed.{zero-float}
 use Rattle.planes.specs.Planes.{withFrames}
-use Rattle.planes.specs.Sums.{mixed}
-use Rattle.history.specs.History.{unsettledIn}
 use Rattle.history.proofs.Drill.{one, half, drill, drill-8, drill-9}
+use Rattle.history.proofs.Loud.{largest, two, loud-unsettled}
 use Rattle.rings.specs.Represents.{Represents, fresh}
 use Rattle.rings.proofs.Told.{fresh-represents}
-use Rattle.hrtf_checks.specs.Call.{Call, setup, framesIn}
+use Rattle.hrtf_checks.specs.Call.{Call, setup}
 use Rattle.hrtf_checks.specs.Refusals.{refusalOf}
 use Rattle.hrtf.specs.Promise.{Outcome, outcome, Processes}
 use Rattle.runs.proofs.Worked.{block, starts}
@@ -69,33 +64,19 @@ invented o p n other e = other (sym e ∙ count-is o p)
 
 -- ---- damage judged on the inputs
 
--- the largest f32, and 2.0
-largest : Float
-largest = fin false 16777215 (pos 104)
-
-two : Float
-two = fin false 2 (pos 0)
-
--- a finite sample, whose signal narrows to an infinite one
+-- the block of a finite sample, whose signal narrows to an infinite one
 loud : Call
 loud = block 1 (largest ∷ []) two
 
-loud-finite : unsound (loud .inputs) ≡ false
-unfolding loud largest
-loud-finite = refl
-
 loud-starts : Represents (setup loud) [] (fresh drill)
-unfolding loud two
+unfolding loud
 loud-starts = fresh-represents (setup loud) (omega arith) refl
 
 loud-accepted : refusalOf loud (fresh drill) ≡ 0
-unfolding refusalOf loud two
+unfolding refusalOf loud
 loud-accepted = refl
-
-loud-damaged : unsettledIn (setup loud) [] (framesIn loud) ≡ 1
-unfolding loud largest two mixed rounded add mul ieee.sum round size span climb units odd
-loud-damaged = refl
 
 -- a count that looks at the inputs alone
 inputs-only : (o : Outcome) → Processes loud (fresh drill) o → o .answer .unsettled ≡ 0 → ⊥
-inputs-only o p e = suc-ne-zero 0 (sym (p .tells [] loud-starts loud-accepted .unsettled ∙ loud-damaged) ∙ e)
+unfolding loud
+inputs-only o p e = suc-ne-zero 0 (sym (p .tells [] loud-starts loud-accepted .unsettled ∙ loud-unsettled) ∙ e)

@@ -5,4 +5,8 @@
 // settled; each call's unsettled count is the number of its frames with a damaged frame among the last L. Two
 // runs that feed the same frames sound the same, cut as they may be, and leave the same rings and desk.
 //
-// No function stands here. The statements are in specs/Demand.antt, their proofs in proofs/. Under it lies `hrtf`.
+// And a bank that keeps the form is never refused: read from its file, set up for a layout or an order, the
+// rings reset, every call whose planes fit is accepted.
+//
+// No function stands here. The statements are in specs/Demand.antt and specs/SetUp.antt, their proofs in
+// proofs/. Under it lie `hrtf`, `hrtf_setup` and `bank`.

@@ -32,7 +32,7 @@ returns-3 : tie.Need-returns-3
 returns-3 c = let a = c .before .before .before .before .before .before .before .args in no-weights (a .whose) (a .speakers) (a .channels) (now (a .azimuths)) (a .rows) (now (a .weights)) (now (a .row-of)) (sym (c .before .before .before .before .before .is-outside .ensures) ∙ c .before .before .before .before .if1 .left) (c .before .before .before .if2 .left) _ (ap not (sym (c .before .before .is-product .ensures)) ∙ c .before .if3 .taken) (c .unarranged3 .ensures)
 
 put-weights-requires : tie.Need-put-weights-requires
-put-weights-requires c κs = (c .before .before .before .before .before .before .before .pre .1, c .before .before .before .before .before .before .before .pre .2)
+put-weights-requires c κs = c .before .before .before .before .before .before .before .pre .1
 
 choose-rows-requires : tie.Need-choose-rows-requires
 choose-rows-requires c κs = c .before .before .before .before .before .before .before .before .before .before .before .pre .0

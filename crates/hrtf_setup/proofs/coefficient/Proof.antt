@@ -1,10 +1,12 @@
 -- `hrtf_setup::coefficient` meets its contract. Assumes nothing.
-use mathlib.Core.Path.{ap, _∙_}
-use lib.ListN.{getD}
-use lib.Ieee.{nan}
+use mathlib.Core.Path.{sym, ap, _∙_}
+use native.Mathlib.Omega.{arith}
+use lib.ListN.{getD, List·getD-eq-default}
+use lib.Ieee.{nan, div, ofBits}
 use Rattle.harmonics.specs.declared.Direction.{Direction}
 use Rattle.virtual_speaker.specs.declared.Weighted.{Weighted}
-use Rattle.virtual_speaker.specs.Promise.{outcome}
+use Rattle.virtual_speaker.specs.Promise.{outcome, positionOf}
+use Rattle.virtual_speaker.proofs.Laws.{outcome-kept, weights-length}
 use borrow.Author.Needs.{needs}
 use Rattle.hrtf_setup.proofs.coefficient.Statement.{statement}
 use Rattle.hrtf_setup.proofs.coefficient.Tie as tie
@@ -23,8 +25,17 @@ array-read-result c = search needs
 
 returns : tie.Need-returns
 returns c =
-    let a = c .before .before .before .args in
-    ap (λ (r : Weighted). getD (r .weights) (a .channel) nan) (c .before .compute-sh-coefficients-max-re .ensures .is) ∙ ap (λ (d : Direction). getD (outcome (a .order) d .weights) (a .channel) nan) (c .before .before .foa-position .ensures)
+    let a = c .before .before .before .before .args in
+    ap (λ (r : Weighted). getD (r .weights) (a .channel) nan) (c .before .before .compute-sh-coefficients-max-re .ensures .is)
+    ∙ ap (λ (d : Direction). getD (outcome (a .order) d .weights) (a .channel) nan) (c .before .before .before .foa-position .ensures)
+
+returns-2 : tie.Need-returns-2
+unfolding ofBits div
+returns-2 c =
+    let a = c .before .before .before .before .args in
+    let d = positionOf (a .s) in
+    let long = weights-length (a .order) d (outcome (a .order) d) (outcome-kept (a .order) d) in
+    sym (List·getD-eq-default (outcome (a .order) d .weights) nan (omega (arith, long, c .if1 .left)))
 
 pub coefficient-spec : {M : Type 1} → statement M
 coefficient-spec =
@@ -34,4 +45,5 @@ coefficient-spec =
     compute-sh-coefficients-max-re-requires
     mul-result
     array-read-result
-    returns)
+    returns
+    returns-2)

@@ -1,50 +1,51 @@
 -- `hrtf_setup::new_ambisonic` meets its contract. Assumes nothing.
-use mathlib.Core.Path.{sym, _∙_}
+use mathlib.Core.Path.{_≡_}
+use mathlib.Core.Bool.{false}
 use native.Mathlib.Omega.{arith}
 use denote.Ref.{now}
-use Rattle.planes.proofs.Checks.{not-outside}
-use Rattle.hrtf_setup.proofs.Arranging.{order-refused, few-of-order, order-arranged}
+use Rattle.channel.specs.Orders.{refusesOrder, channelsOfOrder}
+use Rattle.channel.proofs.Orders.{few-channels, order-well, order-ill}
+use Rattle.hrtf_setup.proofs.Arranging.{order-refused, order-arranged}
 use borrow.Author.Needs.{needs}
 use Rattle.hrtf_setup.proofs.new_ambisonic.Statement.{statement}
 use Rattle.hrtf_setup.proofs.new_ambisonic.Tie as tie
 
-is-outside-requires : tie.Need-is-outside-requires
-is-outside-requires c κs = search needs
+ambisonic-channel-count-requires : tie.Need-ambisonic-channel-count-requires
+ambisonic-channel-count-requires c κs = search needs
 
 unarranged-requires : tie.Need-unarranged-requires
 unarranged-requires c κs = search needs
 
 returns : tie.Need-returns
-returns c = let a = c .before .before .before .before .args in order-refused (a .order) (now (a .azimuths)) (a .rows) (now (a .weights)) (now (a .row-of)) _ (sym (c .before .before .is-outside .ensures) ∙ c .before .if1 .taken) (c .unarranged .ensures)
+returns c = let a = c .before .before .before .before .before .args in order-refused (a .order) (now (a .azimuths)) (a .rows) (now (a .weights)) (now (a .row-of)) _ (order-ill (a .order) _ (c .before .before .before .ambisonic-channel-count .ensures) (c .before .if1 .taken)) (c .unarranged .ensures)
 
-add-n : tie.Need-add-n
-add-n c = omega (arith, not-outside (c .before .before .before .args .order) 3 (sym (c .before .is-outside .ensures) ∙ c .if1 .left) .1)
-
-add-n-2 : tie.Need-add-n-2
-add-n-2 c = omega (arith, not-outside (c .before .before .before .args .order) 3 (sym (c .before .is-outside .ensures) ∙ c .if1 .left) .1)
-
-mul-n : tie.Need-mul-n
-mul-n c = let a = c .before .before .before .args in omega (arith, few-of-order (a .order) (now (a .azimuths)) (a .rows) (now (a .weights)) (now (a .row-of)) (sym (c .before .is-outside .ensures) ∙ c .if1 .left) .1)
+-- past the test of the order
+order-in : (c : tie.Else1) → (refusesOrder (c .before .before .before .before .args .order) ≡ false) × (c .before .before .ambisonic-channel-count .result .channels ≡ channelsOfOrder (c .before .before .before .before .args .order))
+order-in c = order-well (c .before .before .before .before .args .order) _ (c .before .before .ambisonic-channel-count .ensures) (c .if1 .left)
 
 arrange-requires : tie.Need-arrange-requires
-arrange-requires c κs = let a = c .before .before .before .before .before .args in let f = few-of-order (a .order) (now (a .azimuths)) (a .rows) (now (a .weights)) (now (a .row-of)) (sym (c .before .before .before .is-outside .ensures) ∙ c .before .before .if1 .left) in (omega arith, f .0, f .1)
+arrange-requires c κs =
+    let past = c .before .before in
+    let order = order-in past in
+    let f = few-channels (past .before .before .before .before .args .order) (order .0) in
+    (omega arith, omega (arith, order .1, f .0), omega (arith, order .1, f .1))
 
 same-length : tie.Need-same-length
 same-length c = search needs
 
 returns-2 : tie.Need-returns-2
-returns-2 c = let a = c .before .before .before .before .before .before .before .before .args in order-arranged (a .order) (now (a .azimuths)) (a .rows) (now (a .weights)) (now (a .row-of)) (sym (c .before .before .before .before .before .before .is-outside .ensures) ∙ c .before .before .before .before .before .if1 .left) _ (c .before .before .arrange .ensures)
+returns-2 c =
+    let past = c .before .before .before .before .before in
+    let a = past .before .before .before .before .args in
+    order-arranged (a .order) (now (a .azimuths)) (a .rows) (now (a .weights)) (now (a .row-of)) _ (order-in past .0) (order-in past .1) _ (c .before .before .arrange .ensures)
 
 pub new-ambisonic-spec : {M : Type 1} → statement M
 new-ambisonic-spec =
     tie.close
     (tie.spec
-    is-outside-requires
+    ambisonic-channel-count-requires
     unarranged-requires
     returns
-    add-n
-    add-n-2
-    mul-n
     arrange-requires
     same-length
     returns-2)

@@ -1,7 +1,6 @@
 -- `hrtf_setup::put_weights` meets its contract: `Filling`. Assumes nothing.
 use mathlib.Core.Path.{refl}
 use Prim.Native.Nat.{_-_}
-use native.Mathlib.Nat.{mod-lt}
 use native.Mathlib.Omega.{arith}
 use denote.Ref.{now}
 use lib.ListN.{length}
@@ -20,13 +19,13 @@ loop-holds : tie.Need-loop-holds Inv-loop μ-loop
 loop-holds c = let a = c .before .args in filling-none (weightAt (a .whose) (a .n)) (length (now (a .weights))) (now (a .weights))
 
 div-weight : tie.Need-div-weight Inv-loop μ-loop
-div-weight c = c .before .before .before .pre .0
+div-weight c = c .before .before .before .pre
 
 rem-weight : tie.Need-rem-weight Inv-loop μ-loop
-rem-weight c = c .before .before .before .pre .0
+rem-weight c = c .before .before .before .pre
 
 weight-requires : tie.Need-weight-requires Inv-loop μ-loop
-weight-requires c κs = omega (arith, mod-lt (c .before .loop .i) {m = c .before .before .before .args .n} (c .before .before .before .pre .0), c .before .before .before .pre .1)
+weight-requires c κs = tt
 
 mul-weights : tie.Need-mul-weights Inv-loop μ-loop
 mul-weights c = omega (arith, c .before .before .loop .inv .same)

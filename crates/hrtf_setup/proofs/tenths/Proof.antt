@@ -15,7 +15,7 @@ speaker-tenths-requires : tie.Need-speaker-tenths-requires
 speaker-tenths-requires c κs = search needs
 
 cast-result : tie.Need-cast-result
-cast-result c = cast-fits (Of (c .before .before .whose .given .0 .0)) (c .before .before .before .before .args .s) (c .speaker-tenths .result) (c .speaker-tenths .ensures)
+cast-result c = cast-fits (Of (c .before .before .whose .given .0 .0)) _ (c .speaker-tenths .result) (c .speaker-tenths .ensures)
 
 enum-told : tie.Need-enum-told
 enum-told c = search needs

@@ -1,0 +1,218 @@
+-- A bank that keeps the form is never refused: `set-up-accepted` of one call, `never-refused` of every call of a run, and from the bank file on `surround-never-refused` and
+-- `ambisonic-never-refused`; and before the first call the set-ups and the reset accept it too. Assumes nothing.
+use mathlib.Core.Path.{_≡_, refl, sym, ap, _∙_, subst}
+use mathlib.Core.Bool.{Bool, true, false, not, cond, and-eq-true-iff}
+use mathlib.Core.List.{List, [], _∷_}
+use Prim.Native.Nat.{ℕ, zero, suc, _+_, _-_, _*_, _≤_, _<_}
+use native.Mathlib.Nat.{zero-add, mod-lt}
+use native.Mathlib.Omega.{arith}
+use borrow.Author.Tests.{leb-true, lt-leb}
+use lib.Dec.{leb}
+use lib.IntN.{ℤ}
+use lib.ListN.{length, getD, drop, replicate, length-append, length-drop, length-replicate}
+use lib.Ieee.{Float, binary32, fits}
+use lib.Ieee.Scale.{finite}
+use Rattle.numbers.specs.Computed.{zero-float}
+use Rattle.planes.specs.Tables.{unsound}
+use Rattle.planes.specs.Planes.{outside}
+use Rattle.planes.proofs.Checks.{both-off, all-off, not-outside, count-inside, equal-passes, planes-fit}
+use Rattle.bank_form.specs.Bank as Form
+use Rattle.bank_form.specs.Bank.{Bank, within, isTap, every, valid}
+use Rattle.bank_form.specs.FaultComputed.{bankIn}
+use Rattle.bank_form.proofs.Exact.{Keeps, keeps}
+use Rattle.bank.specs.Reading.{ReadOutcome, Reads}
+use Rattle.bank.proofs.Promises.{accepted-parts, accepted-is, bankOf, read-is}
+use Rattle.channel.specs.declared.Layout.{Layout}
+use Rattle.desk.specs.declared.Desk.{Desk}
+use Rattle.desk.specs.Steps.{steppedOf, advanced}
+use Rattle.history.specs.Setup.{Setup}
+use Rattle.history.specs.Signals.{damaged}
+use Rattle.rings.specs.Steps.{State, stepped, left}
+use Rattle.rings.proofs.Told.{goes-on, length-stored}
+use Rattle.hrtf_checks.specs.declared.Shape.{Shape}
+use Rattle.hrtf_checks.specs.Call.{Call, setup, framesIn}
+use Rattle.hrtf_checks.specs.Refusals.{misshapen, refusalOf}
+use Rattle.hrtf_checks.proofs.Refusing.{accept}
+use Rattle.hrtf.specs.Promise.{stateAfter}
+use Rattle.hrtf.specs.Reset.{resetRefusal, AfterReset, resetBy, resetOutcome, Resets}
+use Rattle.hrtf.proofs.Promised.{outcome-by, reset-0}
+use Rattle.hrtf_setup.specs.Arrangement.{Wanted, Arrangement}
+use Rattle.hrtf_setup.specs.Arrangement as Arranging
+use Rattle.hrtf_setup.specs.Promise.{NewSurround, NewAmbisonic}
+use Rattle.hrtf_setup.proofs.Accepted.{Playable, set-up, surround-playable, ambisonic-playable}
+use Rattle.runs.specs.Runs.{next}
+use Rattle.runs.specs.SetUp.{Fitted, AllFitted, Turns, NoneRefused}
+
+-- ---- a bank that keeps the form
+
+-- a count that the form allows is one that no test refuses
+pub inside : (n top : ℕ) → within 1 top n ≡ true → outside n top ≡ false
+unfolding within
+inside n top e = let p = and-eq-true-iff (leb 1 n) (leb n top) .0 e in count-inside n top (leb-true 1 n (p .0)) (leb-true n top (p .1))
+
+pub taps-sound : (xs : List Float) → every isTap xs ≡ true → unsound xs ≡ false
+unfolding every isTap
+taps-sound [] e = refl
+taps-sound (x ∷ xs) e =
+    let p = and-eq-true-iff (isTap x) (every isTap xs) .0 e in
+    let q = and-eq-true-iff (fits binary32 x) (finite x) .0 (p .0) in
+    both-off (not (finite x)) (unsound xs) (ap not (q .1)) (taps-sound xs (p .1))
+
+-- ---- what is set up has counts and rows that the convolver takes
+
+abbrev shapeOf : ℕ → ℕ → Arrangement → Shape
+shapeOf rows L o = record { channels = o .answer .channels; speakers = o .answer .speakers; rows = rows; length = L }
+
+pub well-shaped : (rows L : ℕ) (o : Arrangement) → Playable rows o → outside rows 8 ≡ false → misshapen (shapeOf rows L o) (o .rows) ≡ false
+well-shaped rows L o p few =
+    both-off _ _ (count-inside (o .answer .speakers) 8 (p .speakers .0) (p .speakers .1))
+    (both-off _ _ few
+    (both-off _ _ (count-inside (o .answer .channels) 16 (p .channels .0) (p .channels .1))
+    (all-off 0 (o .answer .speakers) (λ s. leb rows (getD (o .rows) s 0)) (λ s h. ap (λ (k : ℕ). leb rows (getD (o .rows) k 0)) (zero-add s) ∙ lt-leb rows (getD (o .rows) s 0) (p .chosen s h)))))
+
+-- ---- one call
+
+module _ (b : Bank) (v : valid b ≡ true) (o : Arrangement) (p : Playable (Form.rows b) o) (c : Call) (f : Fitted b o c) (t : State) (turns : Turns (o .answer .speakers) (b .length) t) where
+  form : Keeps b
+  form = keeps b v
+
+  shaped : misshapen (c .shape) (c .rows) ≡ false
+  shaped = ap (λ (h : Shape). misshapen h (c .rows)) (f .shape) ∙ ap (misshapen (shapeOf (Form.rows b) (b .length) o)) (f .rows) ∙ well-shaped (Form.rows b) (b .length) o p (inside (Form.rows b) 8 (form .few))
+
+  pub set-up-accepted : refusalOf c t ≡ 0
+  set-up-accepted =
+      sym (accept c t
+      shaped
+      (ap (λ (h : Shape). outside (h .length) 512) (f .shape) ∙ inside (b .length) 512 (form .short))
+      (both-off _ _
+      (both-off _ _
+      (planes-fit (length (c .inputs)) (c .shape .channels) (c .stride) (c .frames) (f .room) (f .inputs ∙ ap (λ (h : Shape). h .channels * c .stride) (sym (f .shape))))
+      (planes-fit (length (c .ears)) 2 (c .stride) (c .frames) (f .room) (f .ears)))
+      (both-off _ _ (equal-passes (length (t .rings)) (c .shape .speakers * c .shape .length) (turns .ringed ∙ ap (λ (h : Shape). h .speakers * h .length) (sym (f .shape))))
+      (both-off _ _ (equal-passes (length (c .weights)) (c .shape .speakers * c .shape .channels) (ap length (f .weights) ∙ p .weighed ∙ ap (λ (h : Shape). h .speakers * h .channels) (sym (f .shape))))
+      (equal-passes (length (c .taps)) (2 * c .shape .rows * c .shape .length) (ap length (f .taps) ∙ form .count ∙ ap (λ (h : Shape). 2 * h .rows * h .length) (sym (f .shape)))))))
+      (both-off _ _ (ap unsound (f .weights) ∙ p .sound) (ap unsound (f .taps) ∙ taps-sound (b .taps) (form .numbers)))
+      (both-off _ _ (ap (λ (h : Shape). leb (h .length) (t .desk .position)) (f .shape) ∙ lt-leb (b .length) (t .desk .position) (turns .within))
+      (ap (λ (h : Shape). leb (h .length) (t .desk .«to_go»)) (f .shape) ∙ lt-leb (b .length) (t .desk .«to_go») (turns .waits))))
+
+-- ---- what a block leaves turns on
+
+module _ (u : Setup) (speakers : ℕ) where
+  step-turns : (t : State) (f : List Float) → Turns speakers (u .L) t → Turns speakers (u .L) (stepped u t f)
+  step-turns t f r =
+      record {
+        ringed = length-stored u t f ∙ r .ringed;
+        within = subst (λ (d : Desk). d .position < u .L) (sym on) (mod-lt (t .desk .position + 1) {m = u .L} (omega (arith, r .within)));
+        waits = subst (λ (d : Desk). d .«to_go» < u .L) (sym on) (fewer (damaged u f));
+      }
+    where
+      on : steppedOf (u .L) (damaged u f) (t .desk) ≡ advanced (u .L) (damaged u f) (t .desk)
+      on = goes-on (u .L) (damaged u f) (t .desk) (r .within)
+
+      fewer : (bad : Bool) → cond bad (u .L - 1) (t .desk .«to_go» - 1) < u .L
+      fewer true = omega (arith, r .within)
+      fewer false = omega (arith, r .waits)
+
+  left-turns : (t : State) (fs : List (List Float)) → Turns speakers (u .L) t → Turns speakers (u .L) (left u t fs)
+  left-turns t [] r = r
+  left-turns t (f ∷ fs) r = left-turns (stepped u t f) fs (step-turns t f r)
+
+pub next-turns : (speakers : ℕ) (c : Call) (t : State) → refusalOf c t ≡ 0 → Turns speakers (c .shape .length) t → Turns speakers (c .shape .length) (next c t)
+next-turns speakers c t e r = subst (Turns speakers (c .shape .length)) (sym (ap stateAfter (outcome-by c t 0 e))) (left-turns (setup c) speakers t (framesIn c) r)
+
+-- ---- and so every call of a run
+
+module _ (b : Bank) (v : valid b ≡ true) (o : Arrangement) (p : Playable (Form.rows b) o) where
+  pub never-refused : (cs : List Call) → AllFitted b o cs → (t : State) → Turns (o .answer .speakers) (b .length) t → NoneRefused t cs
+  never-refused [] fs t r = tt
+  never-refused (c ∷ cs) fs t r =
+      let e = set-up-accepted b v o p c (fs .0) t r in
+      let long : c .shape .length ≡ b .length = ap (λ (h : Shape). h .length) (fs .0 .shape) in (
+        e,
+        never-refused cs (fs .1) (next c t)
+            (subst (λ (L : ℕ). Turns (o .answer .speakers) L (next c t)) long (next-turns (o .answer .speakers) c t e (subst (λ (L : ℕ). Turns (o .answer .speakers) L t) (sym long) r))),
+      )
+
+-- and such calls there are, of any number of frames
+pub some-block : (b : Bank) (o : Arrangement) (n : ℕ) → Fitted b o (record {
+  shape = record { channels = o .answer .channels; speakers = o .answer .speakers; rows = Form.rows b; length = b .length };
+  frames = n;
+  stride = n;
+  inputs = replicate (o .answer .channels * n) zero-float;
+  weights = o .weights;
+  rows = o .rows;
+  taps = b .taps;
+  ears = replicate (2 * n) zero-float;
+})
+some-block b o n =
+    record {
+      shape = refl;
+      weights = refl;
+      rows = refl;
+      taps = refl;
+      room = omega arith;
+      inputs = length-replicate (o .answer .channels * n) zero-float;
+      ears = length-replicate (2 * n) zero-float;
+    }
+
+-- ---- a reset
+
+-- what is left turns
+pub reset-turns : (d : Desk) (speakers L : ℕ) (rings : List Float) (a : AfterReset) → Resets d speakers L rings a → a .answer .refusal ≡ 0
+    → Turns speakers L (record { rings = a .rings; desk = a .answer .desk })
+unfolding resetOutcome
+reset-turns d speakers L rings a r e =
+    let u : Setup = record { channels = 0; speakers = speakers; L = L; weights = []; taps = []; rows = [] } in
+    let s = r .fresh (sym told ∙ e) u refl refl refl in
+    let none : a .answer .desk .«to_go» ≡ 0 = s .waits in
+    record { ringed = s .room; within = s .within; waits = omega (arith, none, s .within) }
+  where
+    by : (n : ℕ) → resetBy n d rings .answer .refusal ≡ n
+    by zero = refl
+    by (suc n) = refl
+
+    told : a .answer .refusal ≡ resetRefusal speakers L rings
+    told = ap (λ (x : AfterReset). x .answer .refusal) (r .answer) ∙ by (resetRefusal speakers L rings)
+
+-- ---- from the bank file on
+
+module _ (file : List ℕ) (zs : List ℤ) (xs : List Float) (r : ReadOutcome) (reads : Reads file zs xs r) (good : r .answer .refusal ≡ 0) where
+  keeps-form : valid (bankOf r) ≡ true
+  keeps-form = ap valid (read-is file zs xs r reads good) ∙ accepted-is file zs xs r reads good .0 .keeps
+
+  rows-are : r .answer .rows ≡ Form.rows (bankOf r)
+  rows-are = ap (λ (y : ReadOutcome). y .answer .rows) (accepted-is file zs xs r reads good .1) ∙ ap Form.rows (sym (read-is file zs xs r reads good))
+
+  few-rows : outside (r .answer .rows) 8 ≡ false
+  few-rows = ap (λ (n : ℕ). outside n 8) rows-are ∙ inside (Form.rows (bankOf r)) 8 (keeps (bankOf r) keeps-form .few)
+
+  eight-azimuths : length (r .azimuths) ≡ 8
+  eight-azimuths =
+      let b = bankIn file in
+      let lent = accepted-parts file zs xs (ap (λ (y : ReadOutcome). y .answer .refusal) (sym (reads .outcome)) ∙ good) .eight in
+      let most : Form.rows b ≤ 8 = subst (λ (n : ℕ). n ≤ 8) (rows-are ∙ ap Form.rows (read-is file zs xs r reads good)) (not-outside (r .answer .rows) 8 few-rows .1) in
+      ap (λ (y : ReadOutcome). length (y .azimuths)) (accepted-is file zs xs r reads good .1)
+      ∙ length-append (b .azimuths) (drop (Form.rows b) zs)
+      ∙ omega (arith, length-drop (Form.rows b) zs, lent, most)
+
+  -- speakers that are offered are set up, and rings of their cells are reset
+  pub good-bank-set-up : (w : Wanted) (weights : List Float) → w .check .holds ≡ false → length weights ≡ w .speakers * w .channels → Arranging.refusalOf w (r .azimuths) (r .answer .rows) weights ≡ 0
+  good-bank-set-up w weights h long = set-up w (r .azimuths) (r .answer .rows) weights h few-rows eight-azimuths long
+
+  pub good-bank-reset : (speakers : ℕ) (rings : List Float) → 0 < speakers → speakers ≤ 8 → length rings ≡ speakers * r .answer .length → resetRefusal speakers (r .answer .length) rings ≡ 0
+  good-bank-reset speakers rings some few long =
+      reset-0 (record { position = 0; «to_go» = 0 }) speakers (r .answer .length) rings (count-inside speakers 8 some few) (inside (r .answer .length) 512 (keeps (bankOf r) keeps-form .short))
+      (equal-passes (length rings) (speakers * r .answer .length) long)
+
+  -- and then no call is refused
+  module _ (weights : List Float) (given : List ℕ) (o : Arrangement) (eight : length given ≡ 8) (e : o .answer .refusal ≡ 0)
+      (d : Desk) (rings : List Float) (a : AfterReset) (rested : Resets d (o .answer .speakers) (r .answer .length) rings a) (z : a .answer .refusal ≡ 0)
+      (cs : List Call) (fs : AllFitted (bankOf r) o cs) where
+    plays : Playable (r .answer .rows) o → NoneRefused (record { rings = a .rings; desk = a .answer .desk }) cs
+    plays p = never-refused (bankOf r) keeps-form o (subst (λ (n : ℕ). Playable n o) rows-are p) cs fs (record { rings = a .rings; desk = a .answer .desk }) (reset-turns d (o .answer .speakers) (r .answer .length) rings a rested z)
+
+    pub surround-never-refused : (l : Layout) → NewSurround l (r .azimuths) (r .answer .rows) weights given o → NoneRefused (record { rings = a .rings; desk = a .answer .desk }) cs
+    surround-never-refused l n = plays (surround-playable (r .azimuths) (r .answer .rows) weights given o eight e l n)
+
+    pub ambisonic-never-refused : (order : ℕ) → NewAmbisonic order (r .azimuths) (r .answer .rows) weights given o → NoneRefused (record { rings = a .rings; desk = a .answer .desk }) cs
+    ambisonic-never-refused order n = plays (ambisonic-playable (r .azimuths) (r .answer .rows) weights given o eight e order n)

@@ -1,0 +1,37 @@
+-- A run of the program: a bank file is read, speakers are set up from it, the rings are reset, and blocks are played. None is refused, whatever is heard: that a bank which keeps the form always plays
+-- is proved in proofs/SetUp.antt. Definitions only.
+use Prim.Native.Nat.{ℕ, _*_, _≤_, _<_}
+use mathlib.Core.Path.{_≡_}
+use mathlib.Core.List.{List, [], _∷_}
+use lib.ListN.{length}
+use Rattle.bank_form.specs.Bank as Form
+use Rattle.rings.specs.Steps.{State}
+use Rattle.hrtf_checks.specs.Call.{Call}
+use Rattle.hrtf_checks.specs.Refusals.{refusalOf}
+use Rattle.hrtf_setup.specs.Arrangement.{Arrangement}
+use Rattle.runs.specs.Runs.{next}
+
+-- a call that is made of a bank and of what a set-up left: their counts, weights, rows and taps, and planes as long as its frames need
+pub record Fitted (b : Form.Bank) (o : Arrangement) (c : Call) : Type 0 where
+  pub shape : c .shape ≡ record { channels = o .answer .channels; speakers = o .answer .speakers; rows = Form.rows b; length = b .length }
+  pub weights : c .weights ≡ o .weights
+  pub rows : c .rows ≡ o .rows
+  pub taps : c .taps ≡ b .taps
+  pub room : c .frames ≤ c .stride
+  pub inputs : length (c .inputs) ≡ o .answer .channels * c .stride
+  pub ears : length (c .ears) ≡ 2 * c .stride
+
+abbrev pub AllFitted : Form.Bank → Arrangement → List Call → Type 0
+AllFitted b o [] = Unit {0}
+AllFitted b o (c ∷ cs) = Fitted b o c × AllFitted b o cs
+
+-- rings and a desk that L taps and so many speakers can turn: as a reset leaves them, and every block
+pub record Turns (speakers L : ℕ) (t : State) : Type 0 where
+  pub ringed : length (t .rings) ≡ speakers * L
+  pub within : t .desk .position < L
+  pub waits : t .desk .«to_go» < L
+
+-- every call of a run is accepted
+abbrev pub NoneRefused : State → List Call → Type 0
+NoneRefused t [] = Unit {0}
+NoneRefused t (c ∷ cs) = (refusalOf c t ≡ 0) × NoneRefused (next c t) cs
