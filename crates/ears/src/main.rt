@@ -1,10 +1,21 @@
 // The program (document 01, item 10): `bank.bin`, 5.1 frames on standard input, `ears.raw`, and one line. With
 // three arguments it takes the names of the bank, of the line and of the output instead. The work is `ears_file`.
+use ears_file::Outcome;
 use libc::STDERR_FILENO;
 use libc::STDIN_FILENO;
+use libc::STDOUT_FILENO;
 
 // As many bytes as the buffer has room for are read at a time.
 const NO_LIMIT: usize = usize::MAX;
+
+// Prints the line of a run; one that failed has none.
+fn tell(run: Outcome) {
+    let mut text = [0u8; 64];
+    let n = ears_file::told(run, &mut text);
+    if !io::write_all(STDOUT_FILENO, &text[..n]) {
+        os::fail(b"standard output");
+    }
+}
 
 // Plays by the names that the arguments give. Where the line cannot be opened the output is emptied all the same.
 fn play_named(bank: &[u8], line: &[u8], out: &[u8]) {
@@ -17,14 +28,14 @@ fn play_named(bank: &[u8], line: &[u8], out: &[u8]) {
         }
         return;
     }
-    ears_file::tell(ears_file::run(bank, from, out, NO_LIMIT));
+    tell(ears_file::run(bank, from, out, NO_LIMIT));
     libc::close(from);
 }
 
 fn main() {
     let arguments = os::arg_count();
     if arguments < 2 {
-        ears_file::tell(ears_file::run(b"bank.bin", STDIN_FILENO, b"ears.raw", NO_LIMIT));
+        tell(ears_file::run(b"bank.bin", STDIN_FILENO, b"ears.raw", NO_LIMIT));
         return;
     }
     if arguments != 4 {

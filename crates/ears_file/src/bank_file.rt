@@ -1,7 +1,9 @@
 // The bank file: read whole, and judged by `bank::read`.
 use bank::BankRead;
+ghost use mathlib.Core.Path.{_≡_};
 ghost use Prim.Native.Nat.{_≤_};
 ghost use lib.ListN.{length};
+ghost use Rattle.ears_file.specs.Promise.{Found};
 
 // Whether a read failed, and how many bytes came before.
 struct Filled {
@@ -32,7 +34,9 @@ fn fill(fd: i32, file: &mut [u8]) -> Filled
 }
 
 // A bank that is missing, or that cannot be read.
-fn missing() -> BankRead {
+fn missing() -> BankRead
+    ensures { λ r. ⌜ r ≡ record { refusal = 9; rows = 0; length = 0 } ⌝ }
+{
     BankRead {
         refusal: 9,
         rows: 0,
@@ -40,17 +44,12 @@ fn missing() -> BankRead {
     }
 }
 
-// Judges the first bytes of a list, of which so many were read.
-fn judge(file: &[u8], count: usize, azimuths: &mut [i16], taps: &mut [f32]) -> BankRead {
-    if file.len() < count {
-        return missing();
-    }
-    bank::read(&file[..count], azimuths, taps)
-}
-
 // Reads the bank of a name. The buffer is one byte longer than the largest bank, so that a file that is too
 // long is seen to be.
-pub(crate) fn read(path: &[u8], azimuths: &mut [i16], taps: &mut [f32]) -> BankRead {
+pub(crate) fn read(path: &[u8], azimuths: &mut [i16], taps: &mut [f32]) -> BankRead
+    requires { ⌜ (length (now azimuths) ≡ 8) × (length (now taps) ≡ 8192) ⌝ }
+    ensures { λ r. ⌜ Found (now (azimuths .entry)) (now (taps .entry)) (record { answer = r; azimuths = now (azimuths .exit); taps = now (taps .exit) }) ⌝ }
+{
     let fd = os::open_read(path);
     if fd < 0 {
         return missing();
@@ -61,5 +60,6 @@ pub(crate) fn read(path: &[u8], azimuths: &mut [i16], taps: &mut [f32]) -> BankR
     if filled.failed {
         return missing();
     }
-    judge(&file, filled.count, azimuths, taps)
+    let n = filled.count;
+    bank::read(&file[..n], azimuths, taps)
 }

@@ -1,9 +1,16 @@
-// The loop over the input: a read, a turn of `ears_play`, and a write.
+// The loop over the input: a read, a turn of `ears_play`, and a write. What has come of the line no contract can
+// name, so a step promises that some bytes more have come, and the loop that its answer is that of some line.
 use crate::Outcome;
 use ears_play::Progress;
 use hrtf_checks::Shape;
-ghost use Prim.Native.Nat.{_≤_, _<_};
-ghost use lib.ListN.{length};
+ghost use mathlib.Core.Path.{_≡_};
+ghost use mathlib.Core.Bool.{true};
+ghost use Prim.Native.Nat.{_*_, _≤_, _<_};
+ghost use lib.ListN.{length, take, replicate};
+ghost use Rattle.numbers.specs.Computed.{zero-float};
+ghost use Rattle.hrtf_checks.specs.Call.{setupOf};
+ghost use Rattle.ears_file.specs.Playing.{Ready, Room, Playing, Stepped};
+ghost use Rattle.ears_file.specs.Promise.{OfLine, Answers};
 
 // Frames of a block, and the places of a plane.
 const BLOCK: usize = 1024;
@@ -28,16 +35,11 @@ fn end_of_read(held: usize, limit: usize, size: usize) -> usize
     size
 }
 
-// Reads behind the bytes that are held.
+// Reads behind the bytes that are held, which stay.
 fn read_some(line: i32, held: usize, limit: usize, bytes: &mut [u8]) -> Got
-    ensures { λ r. ⌜ r .size ≤ length (now (bytes .exit)) ⌝ }
+    requires { ⌜ held < length (now bytes) ⌝ }
+    ensures { λ r. ⌜ (held ≤ r .size) × (r .size ≤ length (now (bytes .exit))) × (take held (now (bytes .exit)) ≡ take held (now (bytes .entry))) ⌝ }
 {
-    if bytes.len() <= held {
-        return Got {
-            failed: true,
-            size: 0,
-        };
-    }
     let end = end_of_read(held, limit, bytes.len());
     let got = libc::read(line, &mut bytes[held..end]);
     let n = io::count(got, &bytes[held..end]);
@@ -54,20 +56,14 @@ struct Turned {
     progress: Progress,
 }
 
-fn stopped(failed: bool, progress: Progress) -> Turned {
+fn stopped(failed: bool, progress: Progress) -> Turned
+    ensures { λ r. ⌜ r ≡ record { over = true; failed = failed; progress = progress } ⌝ }
+{
     Turned {
         over: true,
         failed,
         progress,
     }
-}
-
-// Writes the first bytes of what is put out.
-fn write_out(out: i32, text: &[u8], count: usize) -> bool {
-    if text.len() < count {
-        return false;
-    }
-    io::write_all(out, &text[..count])
 }
 
 // Reads, plays and writes once.
@@ -85,7 +81,16 @@ fn step(
     inputs: &mut [f32],
     ears: &mut [f32],
     text: &mut [u8],
-) -> Turned {
+) -> Turned
+    requires { ⌜ Ready (record { shape = shape; stride = 1024; weights = now weights; rows = now «row_of»; taps = now taps }) ⌝ }
+    requires { ⌜ Room (record { bytes = now bytes; inputs = now inputs; rings = now rings; ears = now ears; out = now text }) ⌝ }
+    requires { ⌜ Playing (record { shape = shape; stride = 1024; weights = now weights; rows = now «row_of»; taps = now taps }) progress
+        (record { bytes = now bytes; inputs = now inputs; rings = now rings; ears = now ears; out = now text }) ⌝ }
+    ensures { λ r. ⌜ Stepped (record { shape = shape; stride = 1024; weights = now (weights .entry); rows = now («row_of» .entry); taps = now (taps .entry) }) progress
+        (record { bytes = now (bytes .entry); inputs = now (inputs .entry); rings = now (rings .entry); ears = now (ears .entry); out = now (text .entry) })
+        r
+        (record { bytes = now (bytes .exit); inputs = now (inputs .exit); rings = now (rings .exit); ears = now (ears .exit); out = now (text .exit) }) ⌝ }
+{
     let held = progress.held;
     let got = read_some(line, held, limit, bytes);
     if got.failed {
@@ -110,11 +115,8 @@ fn step(
         text,
     );
     let next = turn.progress;
-    if turn.refusal != 0 {
-        io::write_all(libc::STDERR_FILENO, b"ears: the convolver refused\n");
-        return stopped(true, next);
-    }
-    if !write_out(out, text, turn.bytes) {
+    let put = turn.bytes;
+    if !io::write_all(out, &text[..put]) {
         os::fail(b"ears: writing the ears");
         return stopped(true, next);
     }
@@ -140,7 +142,12 @@ fn play_on(
     inputs: &mut [f32],
     ears: &mut [f32],
     text: &mut [u8],
-) -> Outcome {
+) -> Outcome
+    requires { ⌜ Ready (record { shape = shape; stride = 1024; weights = now weights; rows = now «row_of»; taps = now taps }) ⌝ }
+    requires { ⌜ Room (record { bytes = now bytes; inputs = now inputs; rings = now rings; ears = now ears; out = now text }) ⌝ }
+    requires { ⌜ now rings ≡ replicate (shape .speakers * shape .length) zero-float ⌝ }
+    ensures { λ r. ⌜ Answers (OfLine (setupOf shape (now (weights .entry)) (now («row_of» .entry)) (now (taps .entry)))) r ⌝ }
+{
     let mut progress = ears_play::start();
     let mut steps = u64::MAX;
     while 0 < steps {
@@ -159,20 +166,17 @@ fn play_on(
             ears,
             text,
         );
+        if turned.failed {
+            return crate::failed();
+        }
         let next = turned.progress;
         if turned.over {
-            return Outcome {
-                failed: turned.failed,
-                ended: ears_play::at_end(next),
-            };
+            return crate::ended(ears_play::at_end(next));
         }
         progress = next;
         steps -= 1;
     }
-    Outcome {
-        failed: true,
-        ended: ears_play::refused(),
-    }
+    crate::failed()
 }
 
 // Plays the whole input, in blocks.
@@ -185,7 +189,11 @@ pub(crate) fn play_all(
     row_of: &[usize; 8],
     taps: &[f32],
     rings: &mut [f32],
-) -> Outcome {
+) -> Outcome
+    requires { ⌜ Ready (record { shape = shape; stride = 1024; weights = now weights; rows = now «row_of»; taps = now taps }) ⌝ }
+    requires { ⌜ now rings ≡ replicate (shape .speakers * shape .length) zero-float ⌝ }
+    ensures { λ r. ⌜ Answers (OfLine (setupOf shape (now (weights .entry)) (now («row_of» .entry)) (now (taps .entry)))) r ⌝ }
+{
     let mut bytes = [0u8; 24576];
     let mut inputs = [0.0f32; 6144];
     let mut ears = [0.0f32; 2048];

@@ -1,7 +1,7 @@
 -- The same output however the input is cut: turns over parts of any sizes give what the bytes give that come at once. And a turn of the program is such a turn. Assumes nothing.
 use mathlib.Core.Path.{_≡_, refl, sym, ap, _∙_, subst}
 use mathlib.Core.Bool.{false}
-use mathlib.Core.List.{List, [], _∷_, _++_, append-nil, append-assoc}
+use mathlib.Core.List.{List, [], _∷_, _++_, flatten, append-nil, append-assoc}
 use Prim.Native.Nat.{ℕ, _+_, _*_, _≤_, _<_}
 use native.Mathlib.Omega.{arith}
 use lib.ListN.{length, take, drop, replicate, length-append, length-drop}
@@ -28,7 +28,7 @@ use Rattle.ears_play.specs.declared.Turn.{Turn}
 use Rattle.ears_play.specs.Counting.{countedOn}
 use Rattle.ears_play.specs.Ending.{atStart}
 use Rattle.ears_play.specs.Turns.{Fixed, Lent, setupIn, come, stateIn, callIn, Turned, turnPlayed, turnBy, Told, Plays}
-use Rattle.ears_play.specs.Runs.{So, atOnce, turned, inParts, joined, Stands, Steps}
+use Rattle.ears_play.specs.Runs.{So, atOnce, turned, inParts, Stands, Steps}
 
 -- ---- parts
 
@@ -61,24 +61,29 @@ module _ (u : Setup) (bytes part : List ℕ) where
   one-more-whole : wholeIn bytes + wholeIn (restIn bytes ++ part) ≡ wholeIn (bytes ++ part)
   one-more-whole = omega (arith, length-append bytes part, length-append (restIn bytes) part, length-drop (wholeIn bytes * 24) bytes)
 
-  one-more : turned u (atOnce u bytes) part ≡ atOnce u (bytes ++ part)
+  pub one-more : turned u (atOnce u bytes) part ≡ atOnce u (bytes ++ part)
   unfolding so-far now-come
   one-more = cc (one-more-put, one-more-counted, one-more-past, one-more-whole, cut-rest bytes part)
 
 -- after some bytes, and then in parts
-parts-after : (u : Setup) (bytes : List ℕ) (parts : List (List ℕ)) → inParts u (atOnce u bytes) parts ≡ atOnce u (bytes ++ joined parts)
+parts-after : (u : Setup) (bytes : List ℕ) (parts : List (List ℕ)) → inParts u (atOnce u bytes) parts ≡ atOnce u (bytes ++ flatten parts)
+unfolding flatten
 parts-after u bytes [] = ap (atOnce u) (sym (append-nil bytes))
 parts-after u bytes (part ∷ parts) =
-    ap (λ (s : So). inParts u s parts) (one-more u bytes part) ∙ parts-after u (bytes ++ part) parts ∙ ap (atOnce u) (append-assoc bytes part (joined parts))
+    ap (λ (s : So). inParts u s parts) (one-more u bytes part) ∙ parts-after u (bytes ++ part) parts ∙ ap (atOnce u) (append-assoc bytes part (flatten parts))
 
-pub however-cut : (u : Setup) (parts : List (List ℕ)) → inParts u (atOnce u []) parts ≡ atOnce u (joined parts)
+pub however-cut : (u : Setup) (parts : List (List ℕ)) → inParts u (atOnce u []) parts ≡ atOnce u (flatten parts)
 however-cut u parts = parts-after u [] parts
 
 -- two ways of cutting the same bytes
-pub cut-alike : (u : Setup) (parts others : List (List ℕ)) → joined parts ≡ joined others → inParts u (atOnce u []) parts ≡ inParts u (atOnce u []) others
+pub cut-alike : (u : Setup) (parts others : List (List ℕ)) → flatten parts ≡ flatten others → inParts u (atOnce u []) parts ≡ inParts u (atOnce u []) others
 cut-alike u parts others e = however-cut u parts ∙ ap (atOnce u) e ∙ sym (however-cut u others)
 
 -- ---- a turn of the program
+
+-- a count that is added to is the count of all
+counted-on : (count so-far more : ℕ) → count ≡ countedOn 0 so-far → countedOn count more ≡ countedOn 0 (so-far + more)
+counted-on count so-far more e = omega (arith, e)
 
 -- before the first byte: silence in every ring
 pub start-stands : (x : Fixed) (l : Lent) → 0 < x .shape .length → unsound (x .weights) ≡ false → l .rings ≡ replicate (x .shape .speakers * x .shape .length) zero-float
@@ -87,6 +92,9 @@ start-stands x l h w e =
     record {
       history = subst (λ (rs : List Float). Represents (setupIn x) [] (record { rings = rs; desk = record { position = 0; «to_go» = 0 } })) (sym e) (fresh-represents (setupIn x) h w);
       keeps = refl;
+      holds = refl;
+      frames = refl;
+      unsettled = refl;
     }
 
 module _ (x : Fixed) (s : So) (part : List ℕ) (p : Progress) (size : ℕ) (l : Lent) (r : Turn) (left : Lent)
@@ -108,7 +116,10 @@ module _ (x : Fixed) (s : So) (part : List ℕ) (p : Progress) (size : ℕ) (l :
       ∙ ap (take (length rest)) (ap (λ (t : Turned). t .lent .bytes) played ∙ placed-start (l .bytes) rest)
       ∙ take-at rest (drop (length rest) (l .bytes)) (length rest) refl
 
-  pub turn-steps : Steps x s part p l r left
+  held : r .progress .held ≡ length (restIn (s .held ++ part))
+  held = ap (λ (t : Turned). t .answer .progress .held) played ∙ ap (λ (bs : List ℕ). length (restIn bs)) comes
+
+  pub turn-steps : Steps x s part l r left
   turn-steps =
       record {
         put = told .put ∙ ap (λ (bs : List ℕ). placed (l .out) 0 (earBytes (heard (setupIn x) (s .past) (framesIn bs)))) comes;
@@ -116,7 +127,12 @@ module _ (x : Fixed) (s : So) (part : List ℕ) (p : Progress) (size : ℕ) (l :
             record {
               history = subst (λ (bs : List ℕ). Represents (setupIn x) (after (s .past) (framesIn bs)) (stateIn (r .progress) left)) comes (told .keeps);
               keeps = kept ∙ ap restIn comes;
+              holds = held;
+              frames =
+                  ap (λ (t : Turned). t .answer .progress .frames) played ∙ ap (λ (bs : List ℕ). countedOn (p .frames) (wholeIn bs)) comes
+                  ∙ counted-on (p .frames) (s .frames) (wholeIn (s .held ++ part)) (stood .frames);
+              unsettled =
+                  told .unsettled ∙ ap (λ (bs : List ℕ). countedOn (p .unsettled) (unsettledIn (setupIn x) (s .past) (framesIn bs))) comes
+                  ∙ counted-on (p .unsettled) (s .unsettled) (unsettledIn (setupIn x) (s .past) (framesIn (s .held ++ part))) (stood .unsettled);
             };
-        frames = ap (λ (t : Turned). t .answer .progress .frames) played ∙ ap (λ (bs : List ℕ). countedOn (p .frames) (wholeIn bs)) comes;
-        unsettled = told .unsettled ∙ ap (λ (bs : List ℕ). countedOn (p .unsettled) (unsettledIn (setupIn x) (s .past) (framesIn bs))) comes;
       }

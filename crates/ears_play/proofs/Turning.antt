@@ -4,23 +4,20 @@ use mathlib.Core.List.{List, [], _∷_}
 use Prim.Native.Nat.{ℕ, zero, suc, _-_, _*_, _≤_, _<_, min}
 use native.Mathlib.Nat.{sub-zero, zero-sub, suc-sub-suc, not-suc-le-zero, le-of-suc-le-suc}
 use native.Mathlib.Omega.{arith}
-use lib.Dec.{ltb}
 use lib.ListN.{length, getD, take, drop, length-drop, length-take}
 use lib.Ieee.{Float}
 use Rattle.big_endian.specs.Placed.{placed}
-use Rattle.planes.specs.Planes.{unfit, framesOf, withFrames}
+use Rattle.planes.specs.Planes.{framesOf, withFrames}
 use Rattle.planes.proofs.Lists.{take-min}
 use Rattle.planes.proofs.Tables.{length-tab, getD-tab}
 use Rattle.planes.proofs.Planes.{length-with-frames}
-use Rattle.planes.proofs.Checks.{or-off, is-equal}
 use Rattle.history.specs.Setup.{Setup}
 use Rattle.history.specs.History.{heard, unsettledIn, after}
 use Rattle.history.proofs.Pieces.{length-heard}
-use Rattle.rings.specs.Steps.{State}
 use Rattle.rings.specs.Represents.{Represents}
 use Rattle.hrtf_checks.specs.Call.{Call}
 use Rattle.hrtf_checks.specs.Refusals.{refusalOf}
-use Rattle.hrtf_checks.proofs.Refusing.{passed, ears-fit}
+use Rattle.hrtf_checks.proofs.Refusing.{inputs-fit, ears-fit}
 use Rattle.hrtf.specs.Promise.{Outcome, Tells, Processes, stateAfter}
 use Rattle.hrtf.proofs.Promised.{outcome-by}
 use Rattle.runs.proofs.Reading.{frames-read}
@@ -43,14 +40,6 @@ drop-take zero m xs = ap (λ (n : ℕ). take n xs) (sym (sub-zero m))
 drop-take (suc k) zero xs = ap (λ (n : ℕ). take n (drop (suc k) xs)) (sym (zero-sub (suc k)))
 drop-take (suc k) (suc m) [] = sym (take-none (suc m - suc k))
 drop-take (suc k) (suc m) (x ∷ xs) = drop-take k m xs ∙ ap (λ (n : ℕ). take n (drop k xs)) (sym (suc-sub-suc m k))
-
--- ---- what the tests of the call show of the input planes
-
-inputs-fit : (c : Call) (t : State) → refusalOf c t ≡ 0 → length (c .inputs) ≡ c .shape .channels * c .stride
-inputs-fit c t e =
-    let a = or-off (unfit (length (c .inputs)) (c .shape .channels) (c .stride) (c .frames)) _ (passed c t e .fits) in
-    let d = or-off (ltb (c .stride) (c .frames)) _ (a .0) in
-    is-equal (length (c .inputs)) (c .shape .channels * c .stride) (d .1)
 
 two-each : (u : Setup) (past fs : List (List Float)) (j : ℕ) → j < length (heard u past fs) → length (getD (heard u past fs) j []) ≡ 2
 two-each u past [] j h = absurd (not-suc-le-zero h)

@@ -4,6 +4,7 @@ use mathlib.Core.List.{List}
 use Prim.Native.Nat.{ℕ}
 use Rattle.refusals.proofs.Determined.{determined}
 use Rattle.wire.specs.Promises.{Lined}
+use Rattle.wire.proofs.Unique.{line-unique}
 use Rattle.ears_play.specs.declared.Progress.{Progress}
 use Rattle.ears_play.specs.declared.Ended.{Ended}
 use Rattle.ears_play.specs.Ending.{atStart, refusedRun, endOf, lineOf}
@@ -22,4 +23,4 @@ at-end-unique : (p : Progress) (a b : Ended) → a ≡ endOf p → b ≡ endOf p
 at-end-unique p = determined
 
 line-of-unique : (e : Ended) (out : List ℕ) (m n : ℕ) (a b : List ℕ) → Lined out (lineOf e) m a → Lined out (lineOf e) n b → (m ≡ n) × (a ≡ b)
-line-of-unique e out m n a b p q = (determined m n (p .count) (q .count), determined a b (p .filled) (q .filled))
+line-of-unique e out = line-unique out (lineOf e)

@@ -2,7 +2,7 @@
 use mathlib.Core.Path.{_≡_}
 use Prim.Native.Nat.{ℕ, _+_}
 use mathlib.Core.List.{List, [], _∷_, _++_}
-use lib.ListN.{take}
+use lib.ListN.{length, take}
 use lib.Ieee.{Float}
 use Rattle.big_endian.specs.Placed.{placed}
 use Rattle.history.specs.Setup.{Setup}
@@ -44,21 +44,17 @@ abbrev pub inParts : Setup → So → List (List ℕ) → So
 inParts u s [] = s
 inParts u s (part ∷ parts) = inParts u (turned u s part) parts
 
--- the parts one behind the other
-abbrev pub joined : List (List ℕ) → List ℕ
-joined [] = []
-joined (part ∷ parts) = part ++ joined parts
-
 -- ---- a turn of the program
 
 -- the record and the lists of the program stand for what has been so far
 pub record Stands (x : Fixed) (s : So) (p : Progress) (l : Lent) : Type 0 where
   pub history : Represents (setupIn x) (s .past) (stateIn p l)
   pub keeps : take (p .held) (l .bytes) ≡ s .held
+  pub holds : p .held ≡ length (s .held)
+  pub frames : p .frames ≡ countedOn 0 (s .frames)
+  pub unsettled : p .unsettled ≡ countedOn 0 (s .unsettled)
 
--- what a turn puts out is what the parts ask, and it leaves what stands for them
-pub record Steps (x : Fixed) (s : So) (part : List ℕ) (p : Progress) (l : Lent) (r : Turn) (left : Lent) : Type 0 where
+-- what a turn puts out is what the part asks, and it leaves what stands for all that has come
+pub record Steps (x : Fixed) (s : So) (part : List ℕ) (l : Lent) (r : Turn) (left : Lent) : Type 0 where
   pub put : left .out ≡ placed (l .out) 0 (earBytes (heard (setupIn x) (s .past) (framesIn (s .held ++ part))))
   pub stands : Stands x (turned (setupIn x) s part) (r .progress) left
-  pub frames : r .progress .frames ≡ countedOn (p .frames) (wholeIn (s .held ++ part))
-  pub unsettled : r .progress .unsettled ≡ countedOn (p .unsettled) (unsettledIn (setupIn x) (s .past) (framesIn (s .held ++ part)))

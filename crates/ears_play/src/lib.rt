@@ -4,11 +4,11 @@
 //
 // Reading and writing are not done here: `ears_file` reads into the buffer and writes what is put out.
 //
-// Under it lie `wire` (frames and bytes), `hrtf` (the convolver) and `desk`.
+// Under it lie `wire` (frames and bytes), `hrtf` (the convolver), `desk` and `planes` (the smaller of two counts).
 use desk::Desk;
 use hrtf_checks::Shape;
 ghost use mathlib.Core.Path.{_≡_};
-ghost use Prim.Native.Nat.{_-_, _≤_, min};
+ghost use Prim.Native.Nat.{_-_, _≤_};
 ghost use lib.ListN.{length, take, drop};
 ghost use Rattle.big_endian.specs.Placed.{placed};
 ghost use Rattle.wire.specs.Promises.{Lined};
@@ -73,15 +73,6 @@ fn keep_rest(bytes: &mut [u8], from: usize, to: usize)
     }
 }
 
-fn least(a: usize, b: usize) -> usize
-    ensures { λ r. ⌜ r ≡ min a b ⌝ }
-{
-    if a < b {
-        return a;
-    }
-    b
-}
-
 // One turn: `size` bytes have come and stand at the start of `bytes`.
 pub fn play(
     progress: Progress,
@@ -105,7 +96,7 @@ pub fn play(
         (record { bytes = now (bytes .exit); inputs = now (inputs .exit); rings = now (rings .exit); ears = now (ears .exit); out = now (out .exit) }) ⌝ }
 {
     let desk = progress.desk;
-    let to = least(size, bytes.len());
+    let to = planes::least(size, bytes.len());
     let frames = wire::frames_from_bytes(&bytes[..to], stride, inputs);
     let played = hrtf::process(
         desk,

@@ -1,0 +1,165 @@
+-- How a run ends, by what stands for the line, and by the bank that was found. Assumes nothing.
+use mathlib.Core.Path.{_≡_, refl, sym, ap, _∙_, subst}
+use mathlib.Core.Bool.{Bool, true, false, cond, true≢false}
+use mathlib.Core.List.{List, []}
+use Prim.Native.Nat.{ℕ, _*_, _≤_}
+use native.Mathlib.Omega.{arith}
+use borrow.Author.Tests.{ltb-false}
+use lib.Dec.{ltb, eqb}
+use lib.ListN.{length, take, drop, replicate}
+use lib.Seq.{take-at, length-take-le}
+use lib.IntN.{ℤ, pos}
+use lib.Ieee.{Float}
+use Rattle.io.specs.Counts.{Counts}
+use Rattle.big_endian.specs.Placed.{placed}
+use Rattle.big_endian.proofs.Placed.{placed-none}
+use Rattle.planes.specs.Tables.{unsound}
+use Rattle.planes.specs.Planes.{outside}
+use Rattle.bank_form.specs.Bank.{Bank, rows}
+use Rattle.bank_form.specs.FaultComputed.{bankIn, orElse, field, headField, headFault, fault, isFile}
+use Rattle.bank_form.proofs.Exact.{Keeps, keeps, exactly}
+use Rattle.bank.specs.declared.BankRead.{BankRead}
+use Rattle.bank.specs.Reading.{ReadOutcome, readBank}
+use Rattle.bank.proofs.Answers.{broken, accepted}
+use Rattle.bank.proofs.Promises.{accepted-parts}
+use Rattle.history.specs.Setup.{Setup}
+use Rattle.ears_play.specs.declared.Progress.{Progress}
+use Rattle.runs.proofs.SetUp.{inside, taps-sound}
+use Rattle.ears_play.specs.declared.Ended.{Ended}
+use Rattle.wire.specs.Line.{framesLine, refusedLine}
+use Rattle.wire.specs.Promises.{Lined}
+use Rattle.wire.proofs.Lengths.{frames-short, refused-short}
+use Rattle.ears_play.specs.Ending.{refusedRun, endOf, lineOf}
+use Rattle.ears_play.specs.Turns.{Fixed, Lent, setupIn}
+use Rattle.ears_file.specs.declared.Outcome.{Outcome}
+use Rattle.ears_file.specs.Lines.{setupBy, setupWith, endsAs}
+use Rattle.ears_file.specs.Playing.{Standing}
+use Rattle.ears_file.specs.Promise.{Found, OfLine, OfFiles, Answers, toldBy}
+
+-- ---- answers
+
+pub failed-answers : (P : Ended → Type 0) (r : Outcome) → r ≡ record { failed = true; ended = refusedRun } → Answers P r
+failed-answers P r e =
+    record { failed = λ f. ap (λ (q : Outcome). q .ended) e; told = λ f. absurd (true≢false (sym (ap (λ (q : Outcome). q .failed) e) ∙ f)) }
+
+pub ended-answers : (P : Ended → Type 0) (e : Ended) (r : Outcome) → r ≡ record { failed = false; ended = e } → P e → Answers P r
+ended-answers P e r is holds =
+    record { failed = λ f. absurd (true≢false (sym f ∙ ap (λ (q : Outcome). q .failed) is)); told = λ f. subst P (ap (λ (q : Outcome). q .ended) (sym is)) holds }
+
+pub answers-on : (P Q : Ended → Type 0) (r : Outcome) → ((e : Ended) → P e → Q e) → Answers P r → Answers Q r
+answers-on P Q r on a = record { failed = a .failed; told = λ f. on (r .ended) (a .told f) }
+
+-- ---- the end of the line
+
+pub line-ends : (x : Fixed) (line : List ℕ) (p : Progress) (l : Lent) → Standing x line p l → OfLine (setupIn x) (endOf p)
+line-ends x line p l s = record { line = line; ends = cc (s .holds, s .frames, s .unsettled) }
+
+-- a list that has room for the longest line has room for this one
+short-by : (t : Bool) (frames unsettled number : ℕ) → length (cond t (framesLine frames unsettled) (refusedLine number)) ≤ 59
+short-by true frames unsettled number = frames-short frames unsettled
+short-by false frames unsettled number = refused-short number
+
+fits-by : (t : Bool) (size line : ℕ) → ltb size 64 ≡ t → line ≤ 59 → cond t 0 line ≤ size
+fits-by true size line e h = omega arith
+fits-by false size line e h = omega (arith, ltb-false size 64 e)
+
+line-fits : (e : Ended) (out : List ℕ) (size : ℕ) (after : List ℕ) → Lined out (lineOf e) size after → size ≤ length out
+line-fits e out size after put =
+    subst (λ (n : ℕ). n ≤ length out) (sym (put .count))
+    (fits-by (ltb (length out) 64) (length out) (length (lineOf e)) refl (short-by (eqb (e .refusal) 0) (e .frames) (e .unsettled) (e .refusal)))
+
+-- so does one of the same length, and a caller can cut the line from it
+pub line-counts : (e : Ended) (out : List ℕ) (size : ℕ) (after : List ℕ) → Lined out (lineOf e) size after → length after ≡ length out → Counts size after
+line-counts e out size after put same = let h : size ≤ length after = subst (λ (n : ℕ). size ≤ n) (sym same) (line-fits e out size after put) in (h, sym (length-take-le size after h))
+
+-- ---- the line of a run
+
+-- an empty line changes nothing
+either : {A : Type 0} (t : Bool) (x y : A) → x ≡ y → x ≡ cond t x y
+either true x y e = refl
+either false x y e = e
+
+none-lined : (out : List ℕ) → Lined out [] 0 out
+none-lined out = record { count = either (ltb (length out) 64) 0 0 refl; filled = either (ltb (length out) 64) out (placed out 0 []) (sym (placed-none out 0)) }
+
+told-by : (r : Outcome) (t : Bool) (out : List ℕ) (size : ℕ) (after : List ℕ) → r .failed ≡ t → Lined out (cond t [] (lineOf (r .ended))) size after → Lined out (toldBy r) size after
+told-by r t out size after e put = subst (λ (u : Bool). Lined out (cond u [] (lineOf (r .ended))) size after) (sym e) put
+
+pub told-failed : (r : Outcome) (out : List ℕ) → r .failed ≡ true → Lined out (toldBy r) 0 out
+told-failed r out e = told-by r true out 0 out e (none-lined out)
+
+pub told-ended : (r : Outcome) (out : List ℕ) (size : ℕ) (after : List ℕ) → r .failed ≡ false → Lined out (lineOf (r .ended)) size after → Lined out (toldBy r) size after
+told-ended r out size after e put = told-by r false out size after e put
+
+-- ---- the bank that was found
+
+no-bytes : isFile [] ≡ false
+unfolding isFile fault headFault orElse headField field
+no-bytes = refl
+
+-- a bank that is missing counts as one of no bytes
+pub not-there : (zs : List ℤ) (xs : List Float) (r : BankRead) → length zs ≡ 8 → length xs ≡ 8192 → r ≡ record { refusal = 9; rows = 0; length = 0 } → Found zs xs (record { answer = r; azimuths = zs; taps = xs })
+not-there zs xs r eight most e =
+    record {
+      file = [];
+      reads = record {
+        outcome = ap {B = ReadOutcome} (λ (q : BankRead). record { answer = q; azimuths = zs; taps = xs }) e ∙ broken [] zs xs eight most no-bytes;
+        exactly = exactly [] (λ i. omega arith);
+      };
+    }
+
+module _ (o : ReadOutcome) (taps : List Float) (most : length taps ≡ 8192) (f : Found (replicate 8 (pos 0)) taps o) where
+  outcome-is : isFile (f .file) ≡ true → o ≡ readBank (bankIn (f .file)) (replicate 8 (pos 0)) taps
+  outcome-is h = f .reads .outcome ∙ sym (accepted (f .file) (replicate 8 (pos 0)) taps refl most h)
+
+  -- refused
+  pub bank-refused : (o .answer .refusal ≡ 0 → ⊥) → OfFiles refusedRun
+  bank-refused not = go (isFile (f .file)) refl
+    where
+      go : (t : Bool) → isFile (f .file) ≡ t → OfFiles refusedRun
+      go true h = absurd (not (ap (λ (q : ReadOutcome). q .answer .refusal) (outcome-is h)))
+      go false h = record { bank = f .file; line = []; gives = sym (ap (λ (t : Bool). cond t (endsAs (setupWith (bankIn (f .file))) []) refusedRun) h) }
+
+  -- accepted
+  module _ (zeroth : o .answer .refusal ≡ 0) where
+    good : isFile (f .file) ≡ true
+    good = accepted-parts (f .file) (replicate 8 (pos 0)) taps (ap (λ (q : ReadOutcome). q .answer .refusal) (sym (f .reads .outcome)) ∙ zeroth) .file-good
+
+    b : Bank
+    b = bankIn (f .file)
+
+    kept : Keeps b
+    unfolding b
+    kept = keeps (bankIn (f .file)) (f .reads .exactly .sound good .keeps)
+
+    is : o ≡ readBank b (replicate 8 (pos 0)) taps
+    unfolding b
+    is = outcome-is good
+
+    tapped : take (2 * o .answer .rows * o .answer .length) (o .taps) ≡ b .taps
+    tapped =
+        ap (λ (q : ReadOutcome). take (2 * q .answer .rows * q .answer .length) (q .taps)) is
+        ∙ take-at (b .taps) (drop (length (b .taps)) taps) (2 * rows b * b .length) (kept .count)
+
+    pub few-rows : outside (o .answer .rows) 8 ≡ false
+    few-rows = ap (λ (q : ReadOutcome). outside (q .answer .rows) 8) is ∙ inside (rows b) 8 (kept .few)
+
+    pub short : outside (o .answer .length) 512 ≡ false
+    short = ap (λ (q : ReadOutcome). outside (q .answer .length) 512) is ∙ inside (b .length) 512 (kept .short)
+
+    pub sound : unsound (take (2 * o .answer .rows * o .answer .length) (o .taps)) ≡ false
+    sound = ap unsound tapped ∙ taps-sound (b .taps) (kept .numbers)
+
+    same : setupBy (o .azimuths) (o .answer .rows) (o .answer .length) (take (2 * o .answer .rows * o .answer .length) (o .taps)) ≡ setupWith b
+    same =
+        ap (setupBy (o .azimuths) (o .answer .rows) (o .answer .length)) tapped
+        ∙ ap (λ (q : ReadOutcome). setupBy (q .azimuths) (q .answer .rows) (q .answer .length) (b .taps)) is
+
+    pub of-files : (e : Ended) → OfLine (setupBy (o .azimuths) (o .answer .rows) (o .answer .length) (take (2 * o .answer .rows * o .answer .length) (o .taps))) e → OfFiles e
+    unfolding b
+    of-files e q =
+        record {
+          bank = f .file;
+          line = q .line;
+          gives = q .ends ∙ ap (λ (u : Setup). endsAs u (q .line)) same ∙ sym (ap (λ (t : Bool). cond t (endsAs (setupWith b) (q .line)) refusedRun) good);
+        }

@@ -1,0 +1,17 @@
+-- `ears_file::failed` meets its contract. Assumes nothing.
+use mathlib.Core.Path.{ap}
+use mathlib.Core.Bool.{true}
+use Rattle.ears_play.specs.declared.Ended.{Ended}
+use Rattle.ears_file.specs.declared.Outcome.{Outcome}
+use borrow.Author.Needs.{needs}
+use Rattle.ears_file.proofs.failed.Statement.{statement}
+use Rattle.ears_file.proofs.failed.Tie as tie
+
+refused-requires : tie.Need-refused-requires
+refused-requires c κs = search needs
+
+returns : tie.Need-returns
+returns c = ap {B = Outcome} (λ (e : Ended). record { failed = true; ended = e }) (c .refused .ensures)
+
+pub failed-spec : {M : Type 1} → statement M
+failed-spec = tie.close (tie.spec refused-requires returns)
