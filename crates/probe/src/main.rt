@@ -3,19 +3,11 @@
 // requests and answers byte by byte. A request that breaks it is answered as such.
 //
 // The program promises nothing of its own beyond being safe and ending; what it prints is compared. Each
-// operation is a call of a proved library, its numbers read and written by `big_endian`.
+// operation is answered by one of the crates `probe_..`, which call the proved libraries.
 use libc::STDIN_FILENO;
 use libc::STDOUT_FILENO;
-ghost use Prim.Native.Nat.{_+_, _≤_};
-ghost use lib.ListN.{length};
-
-mod angles_requests;
-mod bank_requests;
-mod blocks_requests;
-mod gains_requests;
-mod hrtf_requests;
-mod lists;
-mod numbers_requests;
+use probe_form::UNKNOWN;
+ghost use Prim.Native.Nat.{_≤_};
 
 // What is wrong with a request that no operation answers.
 const NO_SUCH_OPERATION: u8 = 1;
@@ -28,9 +20,6 @@ const ENDS_INSIDE: u8 = 4;
 
 // An answer begins with the operation and its length, in five bytes.
 const HEAD: usize = 5;
-
-// More bytes than any answer has.
-const UNKNOWN: usize = 0x1_0000_0000;
 
 // Writes the answer whose `count` bytes stand in out after the head.
 fn write_answer(operation: u8, count: usize, out: &mut [u8]) -> bool {
@@ -54,35 +43,26 @@ fn write_malformed(reason: u8, out: &mut [u8]) -> bool {
     write_answer(0, 1, out)
 }
 
-// Puts the answer to a request into out, after the head: how many bytes, 0 where the arguments have not
-// the length that the operation takes, and `UNKNOWN` where there is no such operation.
+// Puts the answer to a request into out: how many bytes, 0 where the arguments have not the length that the
+// operation takes, and `UNKNOWN` where there is no such operation.
 fn put_answer(operation: u8, args: &[u8], out: &mut [u8]) -> usize {
     match operation {
-        1 => numbers_requests::widen(args, out),
-        2 => numbers_requests::narrow(args, out),
-        3 => numbers_requests::root(args, out),
-        4 => angles_requests::sine(args, out),
-        5 => angles_requests::cosine(args, out),
-        6 => bank_requests::read(args, out),
-        7 => bank_requests::write(args, out),
-        8 => bank_requests::nearest_row(args, out),
-        9 => gains_requests::rows(args, out),
-        10 => gains_requests::harmonics(args, out),
-        11 => gains_requests::weighted(args, out),
-        12 => gains_requests::stereo(args, out),
-        13 => gains_requests::surround(args, out),
-        14 => blocks_requests::pan(args, out),
-        15 => gains_requests::decoder_matrix(args, out),
-        16 => blocks_requests::decode(args, out),
-        17 => hrtf_requests::process(args, out),
-        18 => hrtf_requests::reset(args, out),
+        1..=5 => probe_numbers::answer(operation, args, out),
+        6..=8 => probe_bank::answer(operation, args, out),
+        9..=13 | 15 => probe_gains::answer(operation, args, out),
+        14 | 16 => probe_planes::answer(operation, args, out),
+        17 | 18 => probe_hrtf::answer(operation, args, out),
+        19 | 20 => probe_setup::answer(operation, args, out),
         _ => UNKNOWN,
     }
 }
 
 // Answers a request whose arguments are all there.
 fn answer(operation: u8, args: &[u8], out: &mut [u8]) -> bool {
-    let count = put_answer(operation, args, out);
+    if out.len() < HEAD {
+        return false;
+    }
+    let count = put_answer(operation, args, &mut out[HEAD..]);
     if count == UNKNOWN {
         return write_malformed(NO_SUCH_OPERATION, out);
     }

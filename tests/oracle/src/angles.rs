@@ -1,6 +1,6 @@
 //! Sine and cosine, against the defined sums.
 use crate::exact::{self, Exact};
-use crate::frame::{hex, request, Answer, Case, Verdict};
+use crate::frame::{hex, request, Answer, Case, Sink, Verdict};
 use crate::random::Random;
 
 const SINE: u8 = 4;
@@ -59,20 +59,17 @@ fn judge(d: f64, defined: Option<Exact>, operation: u8, answer: &Answer) -> Verd
     Verdict { error: Some(error.log2()), ..Verdict::default() }
 }
 
-fn cases(random: &mut Random, count: usize, operation: u8, defined: fn(&Exact) -> Exact) -> Vec<Case> {
-    angles(random, count)
-        .into_iter()
-        .map(|d| {
-            let exact = move || (!is_refused(d)).then(|| defined(&Exact::float(d)));
-            Case { request: request(operation, &d.to_bits().to_be_bytes()), judge: Box::new(move |a| judge(d, exact(), operation, a)) }
-        })
-        .collect()
+fn cases(random: &mut Random, count: usize, sink: &mut Sink, operation: u8, defined: fn(&Exact) -> Exact) {
+    for d in angles(random, count) {
+        let exact = move || (!is_refused(d)).then(|| defined(&Exact::float(d)));
+        sink(Case { request: request(operation, &d.to_bits().to_be_bytes()), judge: Box::new(move |a| judge(d, exact(), operation, a)) });
+    }
 }
 
-pub fn sine(random: &mut Random, count: usize) -> Vec<Case> {
-    cases(random, count, SINE, exact::sine)
+pub fn sine(random: &mut Random, count: usize, sink: &mut Sink) {
+    cases(random, count, sink, SINE, exact::sine);
 }
 
-pub fn cosine(random: &mut Random, count: usize) -> Vec<Case> {
-    cases(random, count, COSINE, exact::cosine)
+pub fn cosine(random: &mut Random, count: usize, sink: &mut Sink) {
+    cases(random, count, sink, COSINE, exact::cosine);
 }

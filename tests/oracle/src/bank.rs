@@ -1,12 +1,12 @@
 //! The filter bank file and row choice, against a reader, a writer and a choice that are written here from
 //! document 01, 'Filter bank file', alone. They share no shape with the port: the reader takes a file apart from
 //! the front and forms a bank, and the writer asks the reader whether what it has made is a bank.
-use crate::frame::{exactly, request, Case};
+use crate::frame::{exactly, request, send, Case, Sink};
 use crate::random::Random;
 
 const READ: u8 = 6;
 const WRITE: u8 = 7;
-const NEAREST_ROW: u8 = 8;
+const NEAREST: u8 = 8;
 
 const AZIMUTHS: usize = 8;
 const TAPS: usize = 8192;
@@ -82,12 +82,12 @@ fn file_of(bank: &Bank) -> Vec<u8> {
 // ---- requests and what is right
 
 /// What `probe` fills a lent list with before the call: entry i is 1000 + i, byte i the last byte of 7 i + 3.
-fn filled_azimuths(count: usize) -> Vec<i16> {
-    (0..count).map(|i| 1000 + i as i16).collect()
+fn filled_azimuth(i: usize) -> i16 {
+    1000 + i as i16
 }
 
-fn filled_taps(count: usize) -> Vec<u32> {
-    (0..count).map(|i| (1000.0 + i as f32).to_bits()).collect()
+fn filled_tap(i: usize) -> u32 {
+    (1000.0 + i as f32).to_bits()
 }
 
 fn filled_bytes(count: usize) -> Vec<u8> {
@@ -101,23 +101,20 @@ fn read(file: &[u8], azimuths: usize, taps: usize, shown: usize) -> Case {
     arguments.extend((shown as u16).to_be_bytes());
     arguments.extend(file);
     let shown = shown.min(taps);
-    let (mut lent_azimuths, mut lent_taps) = (filled_azimuths(azimuths), filled_taps(taps));
-    let (refusal, rows, length) = match bank_of(file) {
-        _ if azimuths != AZIMUTHS || taps != TAPS => (LENGTH, 0, 0),
-        None => (BREACH, 0, 0),
-        Some(bank) => {
-            lent_azimuths[..bank.azimuths.len()].copy_from_slice(&bank.azimuths);
-            lent_taps[..bank.taps.len()].copy_from_slice(&bank.taps);
-            (0, bank.azimuths.len(), bank.length)
-        }
-    };
-    let changed = lent_taps.iter().zip(filled_taps(taps)).skip(shown).filter(|(tap, before)| *tap != before).count();
+    let bank = if azimuths == AZIMUTHS && taps == TAPS { bank_of(file).ok_or(BREACH) } else { Err(LENGTH) };
+    let refusal = bank.as_ref().err().copied().unwrap_or(0);
+    let bank = bank.unwrap_or(Bank { azimuths: vec![], length: 0, taps: vec![] });
+    let (rows, length) = (bank.azimuths.len(), bank.length);
+    // What is read, and behind it what the lists were filled with.
+    let lent_azimuths: Vec<i16> = bank.azimuths.iter().copied().chain((rows..azimuths).map(filled_azimuth)).collect();
+    let shown_taps = (0..shown).map(|i| bank.taps.get(i).copied().unwrap_or(filled_tap(i)));
+    let changed = (shown..bank.taps.len()).filter(|i| bank.taps[*i] != filled_tap(*i)).count();
     let mut answer = vec![refusal];
     answer.extend((rows as u32).to_be_bytes());
     answer.extend((length as u32).to_be_bytes());
     answer.extend((changed as u16).to_be_bytes());
     answer.extend(lent_azimuths.iter().flat_map(|a| a.to_be_bytes()));
-    answer.extend(lent_taps[..shown].iter().flat_map(|t| t.to_be_bytes()));
+    answer.extend(shown_taps.flat_map(|t| t.to_be_bytes()));
     exactly(request(READ, &arguments), READ, answer)
 }
 
@@ -156,15 +153,20 @@ fn write_fitting(bank: &Bank) -> Case {
 }
 
 /// "the one nearest it by the difference modulo 3600, the shorter way round; on a tie the earlier row"
+pub fn nearest_row(azimuths: &[i16], rows: u64, speaker: i16) -> usize {
+    let away = |azimuth: i16| {
+        let d = (i32::from(azimuth) - i32::from(speaker)).rem_euclid(3600);
+        d.min(3600 - d)
+    };
+    // The first of the least ones.
+    (0..rows as usize).min_by_key(|i| away(azimuths[*i])).unwrap()
+}
+
 fn nearest(azimuths: &[i16], rows: u64, speaker: i16) -> Case {
     let mut arguments = vec![azimuths.len() as u8];
     arguments.extend(rows.to_be_bytes());
     arguments.extend(speaker.to_be_bytes());
     arguments.extend(azimuths.iter().flat_map(|a| a.to_be_bytes()));
-    let away = |azimuth: i16| {
-        let d = (i32::from(azimuth) - i32::from(speaker)).rem_euclid(3600);
-        d.min(3600 - d)
-    };
     let (refusal, row) = if !(1..=8).contains(&rows) {
         (2, 0)
     } else if !(-1800..=1800).contains(&speaker) {
@@ -172,12 +174,11 @@ fn nearest(azimuths: &[i16], rows: u64, speaker: i16) -> Case {
     } else if azimuths.len() != AZIMUTHS {
         (LENGTH, 0)
     } else {
-        // The first of the least ones.
-        (0, (0..rows as usize).min_by_key(|i| away(azimuths[*i])).unwrap())
+        (0, nearest_row(azimuths, rows, speaker))
     };
     let mut answer = vec![refusal];
     answer.extend((row as u32).to_be_bytes());
-    exactly(request(NEAREST_ROW, &arguments), NEAREST_ROW, answer)
+    exactly(request(NEAREST, &arguments), NEAREST, answer)
 }
 
 // ---- banks to try
@@ -312,20 +313,20 @@ fn azimuths_at_the_ends(random: &mut Random) -> Vec<Case> {
     all
 }
 
-pub fn reading(random: &mut Random, count: usize) -> Vec<Case> {
-    let mut all = vec![read(&EXAMPLE, AZIMUTHS, TAPS, 4), read(&EXAMPLE[..18], AZIMUTHS, TAPS, 4), read(&[], AZIMUTHS, TAPS, 4)];
+pub fn reading(random: &mut Random, count: usize, sink: &mut Sink) {
+    send(sink, vec![read(&EXAMPLE, AZIMUTHS, TAPS, 4), read(&EXAMPLE[..18], AZIMUTHS, TAPS, 4), read(&[], AZIMUTHS, TAPS, 4)]);
     // Lent lists of other lengths, with a file that is good and with one that is not.
     for (azimuths, taps) in [(7, TAPS), (9, TAPS), (0, TAPS), (16, TAPS), (8, 0), (8, 2), (8, TAPS - 1), (8, TAPS + 1), (7, TAPS - 1), (8, 8200)] {
-        all.extend([&EXAMPLE[..], &EXAMPLE[..18]].map(|file| read(file, azimuths, taps, 4)));
+        send(sink, [&EXAMPLE[..], &EXAMPLE[..18]].map(|file| read(file, azimuths, taps, 4)));
     }
-    all.extend(damages(&EXAMPLE, 2, &mut || if count < 1000 { vec![1, 0x80, 0xff] } else { (1..=255).collect() }));
+    send(sink, damages(&EXAMPLE, 2, &mut || if count < 1000 { vec![1, 0x80, 0xff] } else { (1..=255).collect() }));
     let small = bank(random, 3, 2);
-    all.extend(damages(&file_of(&small), small.taps.len(), &mut || if count < 1000 { vec![1 << random.below(8)] } else { (1..=255).collect() }));
-    all.extend(ends(random));
-    all.extend(taps_that_are_no_numbers(random));
-    all.extend(azimuths_at_the_ends(random));
+    send(sink, damages(&file_of(&small), small.taps.len(), &mut || if count < 1000 { vec![1 << random.below(8)] } else { (1..=255).collect() }));
+    send(sink, ends(random));
+    send(sink, taps_that_are_no_numbers(random));
+    send(sink, azimuths_at_the_ends(random));
     for _ in 0..1 + count / 1000 {
-        all.extend(largest(random, count));
+        send(sink, largest(random, count));
     }
     for _ in 0..count / 4 {
         let bank = any_bank(random);
@@ -333,55 +334,52 @@ pub fn reading(random: &mut Random, count: usize) -> Vec<Case> {
         if count < 1000 && file.len() > 500 {
             continue;
         }
-        all.push(read(&file, AZIMUTHS, TAPS, bank.taps.len() + 2));
+        sink(read(&file, AZIMUTHS, TAPS, bank.taps.len() + 2));
         let place = random.below(file.len() as u64) as usize;
         file[place] ^= 1 << random.below(8);
-        all.push(read_damaged(&file, bank.taps.len()));
+        sink(read_damaged(&file, bank.taps.len()));
     }
-    all
 }
 
-pub fn writing(random: &mut Random, count: usize) -> Vec<Case> {
+pub fn writing(random: &mut Random, count: usize, sink: &mut Sink) {
     let example = Bank { azimuths: vec![0], length: 1, taps: vec![0x3f80_0000, 0x3f00_0000] };
-    let mut all = vec![write_fitting(&example)];
+    send(sink, vec![write_fitting(&example)]);
     // Lengths that do not fit: of the taps, of the buffer, of L, one at a time and all together.
     for bytes in [0, 1, 8, 9, 10, 18, 20, 27, 32793, 33000] {
-        all.push(write(&example, 1, bytes));
+        sink(write(&example, 1, bytes));
     }
     for length in [0, 2, 512, 513, 1 << 32, 1 << 61, 1 << 62, (1 << 63) + 1, u64::MAX] {
-        all.push(write(&example, length, 19));
+        sink(write(&example, length, 19));
     }
     for taps in [0, 1, 3, 4] {
-        all.push(write(&Bank { taps: vec![0; taps], ..example.clone() }, 1, 19));
+        sink(write(&Bank { taps: vec![0; taps], ..example.clone() }, 1, 19));
     }
     // Lengths that agree with each other, of banks that have too few rows or taps, or too many.
     for (rows, length) in [(0u64, 0u64), (0, 1), (0, 513), (0, u64::MAX), (1, 0), (8, 0), (9, 0), (16, 0), (9, 1), (16, 1), (1, 513), (2, 600), (4, 1025)] {
         let taps = if rows == 0 { 0 } else { 2 * rows * length };
         let bank = Bank { azimuths: (0..rows as i16).collect(), length: length as usize, taps: (0..taps).map(|_| tap(random)).collect() };
         let bytes = 9 + if rows == 0 { 0 } else { rows * (2 + 8 * length) };
-        all.push(write(&bank, length, bytes as usize));
-        all.push(write(&bank, length, bytes as usize + 1));
+        sink(write(&bank, length, bytes as usize));
+        sink(write(&bank, length, bytes as usize + 1));
     }
     for _ in 0..count / 4 {
         let mut bank = any_bank(random);
         if count < 1000 && bank.taps.len() > 120 {
             continue;
         }
-        all.push(write_fitting(&bank));
+        sink(write_fitting(&bank));
         let place = random.below(bank.taps.len() as u64) as usize;
         bank.taps[place] = random.bits() as u32 | 0x7f80_0000 * (random.below(2) as u32);
-        all.push(write_fitting(&bank));
+        sink(write_fitting(&bank));
         let row = random.below(bank.azimuths.len() as u64) as usize;
         bank.azimuths[row] = random.bits() as i16 >> random.below(6);
-        all.push(write_fitting(&bank));
+        sink(write_fitting(&bank));
     }
-    all
 }
 
-pub fn choosing(random: &mut Random, count: usize) -> Vec<Case> {
-    let mut all = Vec::new();
+pub fn choosing(random: &mut Random, count: usize, sink: &mut Sink) {
     // Document 01's tenth drill item, and every pair of azimuths with a speaker midway between them, both ways round.
-    all.push(nearest(&[0, 450, 0, 0, 0, 0, 0, 0], 2, 225));
+    sink(nearest(&[0, 450, 0, 0, 0, 0, 0, 0], 2, 225));
     let set = [-1800, -1799, -1350, -900, -450, -300, -1, 0, 1, 300, 450, 900, 1100, 1350, 1799, 1800, 32767, -32768];
     for a in set {
         for b in set {
@@ -391,7 +389,7 @@ pub fn choosing(random: &mut Random, count: usize) -> Vec<Case> {
                 if other && count < 1000 {
                     continue;
                 }
-                all.push(nearest(&[a, b, a, b, 7, 7, 7, 7], 2 + random.below(3), speaker as i16));
+                sink(nearest(&[a, b, a, b, 7, 7, 7, 7], 2 + random.below(3), speaker as i16));
             }
         }
     }
@@ -399,19 +397,18 @@ pub fn choosing(random: &mut Random, count: usize) -> Vec<Case> {
     for rows in [0, 1, 2, 3, 4, 5, 6, 7, 8, 9, 1 << 32, 1 << 63, u64::MAX] {
         for speaker in [-1801, -1800, 0, 1800, 1801] {
             for lent in [0, 7, 8, 9, 16] {
-                all.push(nearest(&[1700, -1700, 900, -900, 450, -450, 10, -10, 0, 0, 0, 0, 0, 0, 0, 0][..lent], rows, speaker));
+                sink(nearest(&[1700, -1700, 900, -900, 450, -450, 10, -10, 0, 0, 0, 0, 0, 0, 0, 0][..lent], rows, speaker));
             }
         }
     }
     for speaker in [i16::MIN, -32767, -1802, 1802, i16::MAX] {
-        all.push(nearest(&[0; 8], 8, speaker));
+        sink(nearest(&[0; 8], 8, speaker));
     }
     for _ in 0..count {
         // Few steps between azimuths, so that ties are common.
         let step = [1, 50, 225, 450][random.below(4) as usize];
         let azimuths: Vec<i16> = (0..8).map(|_| ((random.below(3601) as i16 - 1800) / step) * step).collect();
         let speaker = ((random.below(3601) as i16 - 1800) / step) * step;
-        all.push(nearest(&azimuths, 1 + random.below(8), speaker));
+        sink(nearest(&azimuths, 1 + random.below(8), speaker));
     }
-    all
 }

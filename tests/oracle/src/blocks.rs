@@ -1,6 +1,6 @@
 //! Blocks, bit for bit with the Rust: many of them made so that another order of summation, another start, or narrowing
 //! on the way would change a bit.
-use crate::frame::{exactly, f32_bytes, request, Case};
+use crate::frame::{exactly, f32_bytes, request, send, Case, Sink};
 use crate::random::Random;
 use crate::rust;
 
@@ -51,12 +51,14 @@ fn fused(samples: &[f32], weights: &[f64]) -> f32 {
 pub fn telling(random: &mut Random, channels: usize) -> (Vec<f32>, Vec<f64>) {
     loop {
         let mut samples: Vec<f32> = (0..channels).map(|_| f32::from_bits(random.bits() as u32 & 0x807f_ffff | (120 + random.below(14) as u32) << 23)).collect();
-        let mut weights: Vec<f64> = (0..channels).map(|_| f64::from_bits(random.bits() & 0x800f_ffff_ffff_ffff | (1000 + random.below(46)) << 52)).collect();
-        // Pairs that cancel, or nearly.
-        for _ in 0..channels / 3 {
+        let of_size = |random: &mut Random, field: u64| f64::from_bits(random.bits() & 0x800f_ffff_ffff_ffff | (field + random.below(10)) << 52);
+        let mut weights: Vec<f64> = (0..channels).map(|_| of_size(random, 1000)).collect();
+        // Large pairs that cancel, or nearly.
+        for _ in 0..1 + channels / 6 {
             let (i, j) = (random.below(channels as u64) as usize, random.below(channels as u64) as usize);
             if i != j {
                 samples[j] = -samples[i];
+                weights[i] = of_size(random, 1036);
                 weights[j] = f64::from_bits((weights[i].to_bits() as i64 + random.below(3) as i64 - 1) as u64);
             }
         }
@@ -171,21 +173,21 @@ fn refused(random: &mut Random) -> Vec<Case> {
     all
 }
 
-pub fn decode(random: &mut Random, count: usize) -> Vec<Case> {
-    let mut all = refused(random);
+pub fn decode(random: &mut Random, count: usize, sink: &mut Sink) {
+    send(sink, refused(random));
     for (outputs, channels, frames, stride) in [(1, 1, 1, 1), (1, 1, 0, 0), (16, 16, 1, 1), (16, 16, 3, 5), (2, 16, 4, 4), (1, 4, 0, 3), (16, 1, 2, 2), (1, 16, 7, 7)] {
-        all.push(Block::fitting(random, outputs, channels, frames, stride).case());
+        sink(Block::fitting(random, outputs, channels, frames, stride).case());
     }
     // Only products that are -0.0: the sum starts from 0.0.
     let mut zeros = Block::fitting(random, 1, 4, 1, 1);
     zeros.weights = vec![1.0, 2.0, 3.0, 4.0];
     zeros.inputs = vec![-0.0; 4];
-    all.push(zeros.case());
+    sink(zeros.case());
     for _ in 0..(if count < 1000 { count / 8 } else { count / 2 }) {
         let (outputs, channels) = (1 + random.below(16) as usize, 1 + random.below(16) as usize);
         let frames = random.below(4) as usize;
         let stride = frames + random.below(3) as usize;
-        all.push(Block::fitting(random, outputs, channels, frames, stride).case());
+        sink(Block::fitting(random, outputs, channels, frames, stride).case());
         // A frame of which the first output tells the orders of summation apart.
         let channels = 4 + random.below(13) as usize;
         let mut block = Block::fitting(random, 2, channels, 1, 2);
@@ -194,13 +196,12 @@ pub fn decode(random: &mut Random, count: usize) -> Vec<Case> {
         for (channel, sample) in samples.into_iter().enumerate() {
             block.inputs[2 * channel] = sample;
         }
-        all.push(block.case());
+        sink(block.case());
     }
     // Blocks of many frames, longer than the panner's limit.
     for frames in [100, 4095, 4096, 4097, 6000] {
         if count >= 1000 || frames == 100 {
-            all.push(Block::fitting(random, 1, 1, frames, frames).case());
+            sink(Block::fitting(random, 1, 1, frames, frames).case());
         }
     }
-    all
 }

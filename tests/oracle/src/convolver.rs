@@ -1,6 +1,6 @@
 //! The convolver, bit for bit with the Rust wherever the rings come from frames that were played, and with document 01's
 //! ordered sums, written here, for any rings. Many blocks are made so that another order of summation would change a bit.
-use crate::frame::{exactly, f32_bytes, request, Case};
+use crate::frame::{exactly, f32_bytes, request, send, Case, Sink};
 use crate::random::Random;
 use crate::rust::{self, Speaker};
 
@@ -340,15 +340,15 @@ fn at_the_ends(random: &mut Random) -> Vec<Case> {
     all
 }
 
-pub fn process(random: &mut Random, count: usize) -> Vec<Case> {
-    let mut all = at_the_ends(random);
+pub fn process(random: &mut Random, count: usize, sink: &mut Sink) {
+    send(sink, at_the_ends(random));
     for (channels, speakers, rows, length, frames, stride) in [(1, 1, 1, 1, 1, 1), (1, 1, 1, 2, 3, 3), (6, 6, 8, 4, 5, 7), (8, 8, 8, 3, 4, 4), (16, 8, 8, 2, 3, 3), (1, 1, 1, 1, 0, 0), (2, 2, 2, 3, 0, 4), (1, 1, 1, 512, 3, 3)] {
         let call = Call::fitting(random, channels, speakers, rows, length, frames, stride);
-        all.extend(call.session(random, 2));
+        send(sink, call.session(random, 2));
     }
     if count >= 1000 {
         let largest = Call::fitting(random, 16, 8, 8, 512, 4, 4);
-        all.extend(largest.session(random, 4));
+        send(sink, largest.session(random, 4));
     }
     for _ in 0..(if count < 1000 { count / 40 } else { count / 16 }) {
         let (channels, speakers, rows) = (1 + random.below(16) as usize, 1 + random.below(8) as usize, 1 + random.below(8) as usize);
@@ -357,21 +357,19 @@ pub fn process(random: &mut Random, count: usize) -> Vec<Case> {
         let stride = frames + random.below(2) as usize;
         let call = Call::fitting(random, channels, speakers, rows, length, frames, stride);
         let blocks = 1 + random.below(3) as usize;
-        all.extend(call.session(random, blocks));
+        send(sink, call.session(random, blocks));
         // Any rings, any place in them.
         let mut call = Call::fitting(random, channels.min(3), speakers, rows, length, frames, stride);
         call.rings = call.rings.iter().map(|_| sample(random)).collect();
         (call.position, call.to_go) = (random.below(call.length), random.below(call.length));
-        all.push(call.case());
+        sink(call.case());
         for way in OTHER_WAYS {
-            all.extend(telling(random, way).session(random, 1));
+            send(sink, telling(random, way).session(random, 1));
         }
     }
-    all
 }
 
-pub fn reset(random: &mut Random, count: usize) -> Vec<Case> {
-    let mut all = Vec::new();
+pub fn reset(random: &mut Random, count: usize, sink: &mut Sink) {
     let mut one = |speakers: u64, length: u64, cells: usize, random: &mut Random| {
         let (position, to_go) = (random.bits() >> random.below(64), random.bits() >> random.below(64));
         let rings: Vec<f32> = (0..cells).map(|_| f32::from_bits(random.bits() as u32)).collect();
@@ -391,7 +389,7 @@ pub fn reset(random: &mut Random, count: usize) -> Vec<Case> {
         let mut answer = vec![refusal];
         answer.extend([position, to_go].iter().flat_map(|n| n.to_be_bytes()));
         answer.extend(rings.iter().flat_map(|x| f32_bytes(*x)));
-        all.push(exactly(request(RESET, &arguments), RESET, answer));
+        sink(exactly(request(RESET, &arguments), RESET, answer));
     };
     for speakers in [0, 1, 2, 8, 9, 1 << 32, u64::MAX] {
         for length in [0, 1, 3, 512, 513, 1 << 61, u64::MAX] {
@@ -407,7 +405,6 @@ pub fn reset(random: &mut Random, count: usize) -> Vec<Case> {
         let (speakers, length) = (1 + random.below(8), 1 + random.below(30));
         one(speakers, length, (speakers * length) as usize, random);
     }
-    all
 }
 
 #[cfg(test)]

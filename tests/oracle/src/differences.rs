@@ -33,6 +33,7 @@ fn orders() {
         say(&format!("virtual speaker, order {order} at (30, 20)"), tried(move || weighted(order, 30.0, 20.0), |w| format!("accepted, {} coefficients are not 0", w.iter().filter(|x| **x != 0.0).count())));
         say(&format!("decoder matrix, order {order}, stereo"), tried(move || decoder_matrix(order, ChannelLayout::Stereo), |_| "accepted".to_string()));
         say(&format!("binaural rows, order {order}"), tried(move || compute_matrix(order), |_| "accepted".to_string()));
+        say(&format!("convolver for order {order}"), tried(move || HrtfConvolver::new_ambisonic(order), |_| "accepted".to_string()));
     }
 }
 

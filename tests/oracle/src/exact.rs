@@ -3,11 +3,12 @@
 //! quotient, so that what is computed here is off by less than 2^-300, where the closest bound is 2^-40.
 use std::cmp::Ordering;
 use std::ops::{Add, Mul, Neg, Sub};
+use std::sync::LazyLock;
 
 const PLACES: usize = 320;
 
-/// A magnitude in limbs of 32 bits, lowest first, without zeros at the end.
-type Limbs = Vec<u32>;
+/// A magnitude in limbs of 64 bits, lowest first, without zeros at the end.
+type Limbs = Vec<u64>;
 
 fn trim(mut a: Limbs) -> Limbs {
     while a.last() == Some(&0) {
@@ -21,75 +22,73 @@ fn compare(a: &Limbs, b: &Limbs) -> Ordering {
 }
 
 fn add(a: &Limbs, b: &Limbs) -> Limbs {
-    let mut out = Vec::new();
-    let mut carry = 0u64;
+    let mut out = Vec::with_capacity(a.len().max(b.len()) + 1);
+    let mut carry = 0u128;
     for i in 0..a.len().max(b.len()) {
-        carry += u64::from(*a.get(i).unwrap_or(&0)) + u64::from(*b.get(i).unwrap_or(&0));
-        out.push(carry as u32);
-        carry >>= 32;
+        carry += u128::from(*a.get(i).unwrap_or(&0)) + u128::from(*b.get(i).unwrap_or(&0));
+        out.push(carry as u64);
+        carry >>= 64;
     }
-    out.push(carry as u32);
+    out.push(carry as u64);
     trim(out)
 }
 
 /// a - b, for a b that is no larger.
 fn subtract(a: &Limbs, b: &Limbs) -> Limbs {
-    let mut out = Vec::new();
-    let mut borrow = 0i64;
+    let mut out = Vec::with_capacity(a.len());
+    let mut borrow = 0i128;
     for i in 0..a.len() {
-        let d = i64::from(a[i]) - i64::from(*b.get(i).unwrap_or(&0)) - borrow;
-        borrow = i64::from(d < 0);
-        out.push((d + (borrow << 32)) as u32);
+        let d = i128::from(a[i]) - i128::from(*b.get(i).unwrap_or(&0)) - borrow;
+        borrow = i128::from(d < 0);
+        out.push((d + (borrow << 64)) as u64);
     }
     assert_eq!(borrow, 0);
     trim(out)
 }
 
 fn multiply(a: &Limbs, b: &Limbs) -> Limbs {
-    let mut out = vec![0u32; a.len() + b.len()];
+    let mut out = vec![0u64; a.len() + b.len()];
     for (i, x) in a.iter().enumerate() {
-        let mut carry = 0u64;
+        let mut carry = 0u128;
         for (j, y) in b.iter().enumerate() {
-            carry += u64::from(*x) * u64::from(*y) + u64::from(out[i + j]);
-            out[i + j] = carry as u32;
-            carry >>= 32;
+            carry += u128::from(*x) * u128::from(*y) + u128::from(out[i + j]);
+            out[i + j] = carry as u64;
+            carry >>= 64;
         }
-        out[i + b.len()] = carry as u32;
+        out[i + b.len()] = carry as u64;
     }
     trim(out)
 }
 
+/// In halves of limbs, since a division of 128 bits is slow.
 fn divide_small(a: &Limbs, by: u32) -> Limbs {
-    let mut out = vec![0u32; a.len()];
+    let mut out = vec![0u64; a.len()];
+    let by = u64::from(by);
     let mut rest = 0u64;
     for i in (0..a.len()).rev() {
-        rest = rest << 32 | u64::from(a[i]);
-        out[i] = (rest / u64::from(by)) as u32;
-        rest %= u64::from(by);
+        let high = rest << 32 | a[i] >> 32;
+        let low = high % by << 32 | a[i] & 0xffff_ffff;
+        out[i] = high / by << 32 | low / by;
+        rest = low % by;
     }
     trim(out)
 }
 
 fn shift_up(a: &Limbs, bits: usize) -> Limbs {
-    let mut out = vec![0u32; bits / 32];
-    let mut carry = 0u64;
+    let mut out = vec![0u64; bits / 64];
+    let mut carry = 0u128;
     for x in a {
-        carry |= u64::from(*x) << (bits % 32);
-        out.push(carry as u32);
-        carry >>= 32;
+        carry |= u128::from(*x) << (bits % 64);
+        out.push(carry as u64);
+        carry >>= 64;
     }
-    out.push(carry as u32);
+    out.push(carry as u64);
     trim(out)
 }
 
 fn shift_down(a: &Limbs, bits: usize) -> Limbs {
-    let from = bits / 32;
-    let mut out = Vec::new();
-    for i in from..a.len() {
-        let wide = u64::from(a[i]) | u64::from(*a.get(i + 1).unwrap_or(&0)) << 32;
-        out.push((wide >> (bits % 32)) as u32);
-    }
-    trim(out)
+    let wide = |i: usize| u128::from(a[i]) | u128::from(*a.get(i + 1).unwrap_or(&0)) << 64;
+    trim((bits / 64..a.len()).map(|i| (wide(i) >> (bits % 64)) as u64).collect())
 }
 
 #[derive(Clone, Debug)]
@@ -101,7 +100,7 @@ pub struct Exact {
 impl Exact {
     pub fn whole(n: i64) -> Self {
         let m = n.unsigned_abs();
-        Exact { negative: n < 0, limbs: shift_up(&trim(vec![m as u32, (m >> 32) as u32]), PLACES) }
+        Exact { negative: n < 0, limbs: shift_up(&trim(vec![m]), PLACES) }
     }
 
     /// Cut to 2^-320 where it has digits below that, but never to zero: a tiny angle has a side.
@@ -110,7 +109,7 @@ impl Exact {
         let bits = x.to_bits();
         let field = (bits >> 52 & 0x7ff) as usize;
         let digits = bits & 0xf_ffff_ffff_ffff | u64::from(field > 0) << 52;
-        let limbs = trim(vec![digits as u32, (digits >> 32) as u32]);
+        let limbs = trim(vec![digits]);
         // The value is digits * 2^(max(field, 1) - 1075).
         let up = field.max(1) + PLACES;
         let cut = if up >= 1075 { shift_up(&limbs, up - 1075) } else { shift_down(&limbs, 1075 - up) };
@@ -149,8 +148,8 @@ impl Exact {
         match self.limbs.len() {
             0 => f64::NEG_INFINITY,
             n => {
-                let top = self.limbs[n.saturating_sub(3)..].iter().rev().fold(0.0, |v, l| v * 4294967296.0 + f64::from(*l));
-                top.log2() + 32.0 * n.saturating_sub(3) as f64 - PLACES as f64
+                let top = self.limbs[n.saturating_sub(2)..].iter().rev().fold(0.0, |v, l| v * 2f64.powi(64) + *l as f64);
+                top.log2() + 64.0 * n.saturating_sub(2) as f64 - PLACES as f64
             }
         }
     }
@@ -200,11 +199,12 @@ impl Mul for Exact {
 
 /// x - x^3/3! + ... up to x^27/27!, or the cosine's sum up to x^28/28!, x in radians.
 fn sum(x: &Exact, first: u32) -> Exact {
+    let square = x.clone() * x.clone();
     let mut term = if first == 0 { Exact::whole(1) } else { x.clone() };
     let mut total = term.clone();
     let mut n = first;
     while n + 2 <= 28 {
-        term = -(term * x.clone() * x.clone()).over((n + 1) * (n + 2));
+        term = -(term * square.clone()).over((n + 1) * (n + 2));
         total = total + term.clone();
         n += 2;
     }
@@ -236,8 +236,11 @@ fn quarter(r: &Exact) -> Option<i64> {
     (-1..=2).find(|k| (r.clone() - Exact::whole(90 * k)).limbs.is_empty())
 }
 
+/// Document 01's 3141592653589793238 / 10^18.
+static PI: LazyLock<Exact> = LazyLock::new(|| Exact::decimal("3.141592653589793238"));
+
 fn radians(r: &Exact) -> Exact {
-    (r.clone() * Exact::decimal("3.141592653589793238")).over(180)
+    (r.clone() * PI.clone()).over(180)
 }
 
 pub fn sine(d: &Exact) -> Exact {

@@ -16,6 +16,13 @@ pub struct Case {
     pub judge: Box<dyn Fn(&Answer) -> Verdict>,
 }
 
+/// Takes the cases of a kind as they are made, so that no more than one is held.
+pub type Sink<'a> = dyn FnMut(Case) + 'a;
+
+pub fn send(sink: &mut Sink, cases: impl IntoIterator<Item = Case>) {
+    cases.into_iter().for_each(sink);
+}
+
 pub struct Answer {
     pub operation: u8,
     pub bytes: Vec<u8>,

@@ -1,10 +1,11 @@
 //! Gains and matrices, against document 01's formulas over the defined sums, within its bounds, and against the Rust at
 //! S = f64, within 2^-29.
 use crate::exact::{self, Exact};
-use crate::frame::{f64_bytes, hex, request, Answer, Case, Verdict};
+use crate::frame::{f64_bytes, hex, request, send, Answer, Case, Sink, Verdict};
 use crate::random::Random;
 use crate::rust::{self, Command};
 use bbx_dsp::channel::ChannelLayout;
+use std::sync::LazyLock;
 
 const HARMONICS: u8 = 10;
 const WEIGHTED: u8 = 11;
@@ -21,7 +22,7 @@ const MATRIX_BITS: usize = 33;
 const RUST_BITS: i32 = 29;
 
 /// What is asked of one gain: how far it is from what it should be, or why it is wrong.
-type Check = Box<dyn Fn(f64) -> Result<f64, String>>;
+pub type Check = Box<dyn Fn(f64) -> Result<f64, String>>;
 
 /// What is right: a refusal with zeros, or as it was given; or a check for each gain.
 enum Right {
@@ -44,15 +45,21 @@ fn judge(operation: u8, right: Right, answer: &Answer) -> Verdict {
     if answer.bytes[0] != 0 || answer.bytes.len() != 1 + 8 * checks.len() {
         return wrong("refused, or another count of gains".to_string());
     }
-    let mut worst = f64::NEG_INFINITY;
-    for (i, (bytes, check)) in answer.bytes[1..].chunks(8).zip(checks).enumerate() {
-        let gain = f64::from_bits(u64::from_be_bytes(bytes.try_into().unwrap()));
-        match if gain.is_finite() { check(gain) } else { Err("no number".to_string()) } {
-            Ok(error) => worst = worst.max(error),
-            Err(why) => return wrong(format!("gain {i} is {gain:e}, {why}")),
-        }
+    match check_all(&answer.bytes[1..], checks) {
+        Ok(worst) => Verdict { error: (worst > f64::NEG_INFINITY).then_some(worst), ..Verdict::default() },
+        Err(why) => wrong(why),
     }
-    Verdict { error: (worst > f64::NEG_INFINITY).then_some(worst), ..Verdict::default() }
+}
+
+/// Asks of each gain what is asked of it: how far the farthest is off, or why one is wrong.
+pub fn check_all(gains: &[u8], checks: Vec<Check>) -> Result<f64, String> {
+    let mut worst = f64::NEG_INFINITY;
+    for (i, (bytes, check)) in gains.chunks(8).zip(checks).enumerate() {
+        let gain = f64::from_bits(u64::from_be_bytes(bytes.try_into().unwrap()));
+        let error = if gain.is_finite() { check(gain) } else { Err("no number".to_string()) };
+        worst = worst.max(error.map_err(|why| format!("gain {i} is {gain:e}, {why}"))?);
+    }
+    Ok(worst)
 }
 
 fn case(operation: u8, arguments: Vec<u8>, right: impl Fn() -> Right + 'static) -> Case {
@@ -105,6 +112,9 @@ fn near_by_squares(over: Exact, under: Exact, bits: usize, rust: Option<f64>) ->
 
 // ---- harmonics and weighted coefficients
 
+/// Document 01's h, q, o, m.
+static CONSTANTS: LazyLock<[Exact; 4]> = LazyLock::new(|| ["0.8660254037844386", "0.7905694150420949", "1.9364916731037085", "0.6123724356957945"].map(Exact::decimal));
+
 /// Document 01's sixteen formulas, with 2a, 3a and 2e formed exactly.
 pub fn harmonics(azimuth: f64, elevation: f64) -> Vec<Exact> {
     let (a, e) = (Exact::float(azimuth), Exact::float(elevation));
@@ -113,7 +123,7 @@ pub fn harmonics(azimuth: f64, elevation: f64) -> Vec<Exact> {
     let [sin_2a, cos_2a] = [exact::sine(&times(2, &a)), exact::cosine(&times(2, &a))];
     let [sin_3a, cos_3a] = [exact::sine(&times(3, &a)), exact::cosine(&times(3, &a))];
     let [sin_e, cos_e, sin_2e] = [exact::sine(&e), exact::cosine(&e), exact::sine(&times(2, &e))];
-    let [h, q, o, m] = ["0.8660254037844386", "0.7905694150420949", "1.9364916731037085", "0.6123724356957945"].map(Exact::decimal);
+    let [h, q, o, m] = CONSTANTS.clone();
     let cos_e2 = square(cos_e.clone());
     let cos_e3 = cos_e2.clone() * cos_e.clone();
     let sin_e2 = square(sin_e.clone());
@@ -138,11 +148,18 @@ pub fn harmonics(azimuth: f64, elevation: f64) -> Vec<Exact> {
     ]
 }
 
-/// c^l, c = cos(A/(2(N+1))), for the degree l that a channel has.
+/// c^l, c = cos(A/(2(N+1))), for l from 0 to 3 and each order N of 1, 2, 3.
+static POWERS: LazyLock<[[Exact; 4]; 3]> = LazyLock::new(|| {
+    [1, 2, 3].map(|order| {
+        let c = exact::cosine_sum(&Exact::decimal("2.406184877014388").over(2 * (order + 1)));
+        [0, 1, 2, 3].map(|degree| (0..degree).fold(Exact::whole(1), |power, _| power * c.clone()))
+    })
+});
+
+/// The power that the degree of a channel has.
 fn max_re(order: usize, channel: usize) -> Exact {
-    let c = exact::cosine_sum(&Exact::decimal("2.406184877014388").over(2 * (order as u32 + 1)));
     let degree = (0..4).find(|l| channel < (l + 1) * (l + 1)).unwrap();
-    (0..degree).fold(Exact::whole(1), |power, _| power * c.clone())
+    POWERS[order - 1][degree].clone()
 }
 
 fn refused_direction(order: u64, azimuth: f64, elevation: f64) -> Option<u8> {
@@ -195,7 +212,7 @@ fn direction_bytes(order: u64, azimuth: f64, elevation: f64) -> Vec<u8> {
 
 /// The Rust says the harmonics three times, in the panner, the decoder and the virtual speaker; the panner's are compared
 /// here, the others' with the decoder's matrix and the weighted coefficients.
-pub fn coefficients(random: &mut Random, count: usize) -> Vec<Case> {
+pub fn coefficients(random: &mut Random, count: usize, sink: &mut Sink) {
     let right = |order: u64, azimuth: f64, elevation: f64| {
         if let Some(refusal) = refused_direction(order, azimuth, elevation) {
             return Right::Refused(refusal, vec![0; 128]);
@@ -206,27 +223,32 @@ pub fn coefficients(random: &mut Random, count: usize) -> Vec<Case> {
         checks.resize_with(16, silent);
         Right::Gains(checks)
     };
-    directions(random, count).into_iter().map(|(order, a, e)| case(HARMONICS, direction_bytes(order, a, e), move || right(order, a, e))).collect()
+    send(sink, directions(random, count).into_iter().map(|(order, a, e)| case(HARMONICS, direction_bytes(order, a, e), move || right(order, a, e))));
 }
 
-pub fn weighted(random: &mut Random, count: usize) -> Vec<Case> {
+/// What is asked of the weighted coefficients of a direction that an order has.
+pub fn weighted_checks(order: u64, azimuth: f64, elevation: f64) -> Vec<Check> {
+    let channels = ((order + 1) * (order + 1)) as usize;
+    let rust = rust::weighted(order as usize, azimuth, elevation);
+    let weight = |(channel, x): (usize, Exact)| near(x * max_re(order as usize, channel), WEIGHTED_BITS, Some(rust[channel]));
+    harmonics(azimuth, elevation).into_iter().take(channels).enumerate().map(weight).collect()
+}
+
+pub fn weighted(random: &mut Random, count: usize, sink: &mut Sink) {
     let right = |order: u64, azimuth: f64, elevation: f64| {
         if let Some(refusal) = refused_direction(order, azimuth, elevation) {
             return Right::Refused(refusal, vec![0; 128]);
         }
-        let channels = ((order + 1) * (order + 1)) as usize;
-        let rust = rust::weighted(order as usize, azimuth, elevation);
-        let weight = |(channel, x): (usize, Exact)| near(x * max_re(order as usize, channel), WEIGHTED_BITS, Some(rust[channel]));
-        let mut checks: Vec<Check> = harmonics(azimuth, elevation).into_iter().take(channels).enumerate().map(weight).collect();
+        let mut checks = weighted_checks(order, azimuth, elevation);
         checks.resize_with(16, silent);
         Right::Gains(checks)
     };
-    directions(random, count).into_iter().map(|(order, a, e)| case(WEIGHTED, direction_bytes(order, a, e), move || right(order, a, e))).collect()
+    send(sink, directions(random, count).into_iter().map(|(order, a, e)| case(WEIGHTED, direction_bytes(order, a, e), move || right(order, a, e))));
 }
 
 // ---- stereo
 
-pub fn stereo(random: &mut Random, count: usize) -> Vec<Case> {
+pub fn stereo(random: &mut Random, count: usize, sink: &mut Sink) {
     let mut positions: Vec<f64> = (0..count).map(|_| (random.below(2601) as f64 - 1300.0) / 10.0).collect();
     positions.extend((0..count).map(|_| (random.bits() >> 11) as f64 / (1u64 << 53) as f64 * 220.0 - 110.0));
     positions.extend((0..count / 20).map(|_| f64::from_bits(random.bits() & 0x800f_ffff_ffff_ffff | random.below(2046) << 52)));
@@ -243,7 +265,7 @@ pub fn stereo(random: &mut Random, count: usize) -> Vec<Case> {
         let rust = rust::gains(Command::Stereo(position));
         Right::Gains(vec![near(exact::cosine(&angle), STEREO_BITS, Some(rust[0])), near(exact::sine(&angle), STEREO_BITS, Some(rust[1]))])
     };
-    positions.into_iter().map(|p| case(STEREO, p.to_bits().to_be_bytes().to_vec(), move || right(p))).collect()
+    send(sink, positions.into_iter().map(|p| case(STEREO, p.to_bits().to_be_bytes().to_vec(), move || right(p))));
 }
 
 // ---- layouts
@@ -309,7 +331,7 @@ fn is_compared(layout: Layout, azimuth: f64) -> bool {
     layout.speakers().iter().all(|s| [90.0, 270.0].iter().all(|turn| ((azimuth - s).abs() - turn).abs() > 1e-9))
 }
 
-pub fn surround(random: &mut Random, count: usize) -> Vec<Case> {
+pub fn surround(random: &mut Random, count: usize, sink: &mut Sink) {
     let mut all = Vec::new();
     let few = count < 1000;
     let count = if few { count / 5 } else { count };
@@ -337,6 +359,8 @@ pub fn surround(random: &mut Random, count: usize) -> Vec<Case> {
         }
         let raw = raw_gains(layout, azimuth);
         let sum = raw.iter().flatten().fold(Exact::whole(0), |sum, g| sum + square(g.clone()));
+        // What the promise says of every azimuth, at this one: the Rust's limit of 1e-10 is never near.
+        assert!(Exact::whole(3).over(100).at_most(&sum), "the sum of squares at {azimuth:e} is below 3/100");
         let rust = is_compared(layout, azimuth).then(|| rust::gains(Command::Surround(layout.rust(), azimuth)));
         let gain = |(channel, raw): (usize, Option<Exact>)| match raw {
             None => silent(),
@@ -349,12 +373,14 @@ pub fn surround(random: &mut Random, count: usize) -> Vec<Case> {
         checks.resize_with(16, silent);
         Right::Gains(checks)
     };
-    all.into_iter()
-        .map(|(layout, azimuth)| {
-            let arguments = [layout.bytes(), azimuth.to_bits().to_be_bytes().to_vec()].concat();
-            case(SURROUND, arguments, move || right(layout, azimuth))
-        })
-        .collect()
+    send(
+        sink,
+        all.into_iter()
+            .map(|(layout, azimuth)| {
+                let arguments = [layout.bytes(), azimuth.to_bits().to_be_bytes().to_vec()].concat();
+                case(SURROUND, arguments, move || right(layout, azimuth))
+            }),
+    );
 }
 
 // ---- decoder matrix
@@ -387,7 +413,7 @@ fn matrix_right(order: u64, layout: Layout, lent: &[f64]) -> Right {
     Right::Gains(checks)
 }
 
-pub fn decoder_matrix(random: &mut Random, count: usize) -> Vec<Case> {
+pub fn decoder_matrix(random: &mut Random, count: usize, sink: &mut Sink) {
     let mut layouts: Vec<Layout> = (0..4).map(|l| Layout(l, 0)).collect();
     layouts.extend((0..=17).filter(|n| count >= 1000 || [0, 1, 2, 3, 7, 16, 17].contains(n)).map(|n| Layout(4, n)));
     layouts.extend([Layout(4, 1 << 32), Layout(4, u64::MAX)]);
@@ -401,16 +427,18 @@ pub fn decoder_matrix(random: &mut Random, count: usize) -> Vec<Case> {
             }
         }
     }
-    all.into_iter()
-        .map(|(order, layout, weights)| {
-            let lent: Vec<f64> = (0..weights).map(|_| f64::from_bits(random.bits())).collect();
-            let mut arguments = (lent.len() as u16).to_be_bytes().to_vec();
-            arguments.extend(order.to_be_bytes());
-            arguments.extend(layout.bytes());
-            arguments.extend(lent.iter().flat_map(|w| w.to_bits().to_be_bytes()));
-            case(DECODER_MATRIX, arguments, move || matrix_right(order, layout, &lent))
-        })
-        .collect()
+    send(
+        sink,
+        all.into_iter()
+            .map(|(order, layout, weights)| {
+                let lent: Vec<f64> = (0..weights).map(|_| f64::from_bits(random.bits())).collect();
+                let mut arguments = (lent.len() as u16).to_be_bytes().to_vec();
+                arguments.extend(order.to_be_bytes());
+                arguments.extend(layout.bytes());
+                arguments.extend(lent.iter().flat_map(|w| w.to_bits().to_be_bytes()));
+                case(DECODER_MATRIX, arguments, move || matrix_right(order, layout, &lent))
+            }),
+    );
 }
 
 /// The formulas here and the Rust's are written apart from each other; that they agree is tried before the port is held

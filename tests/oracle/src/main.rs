@@ -18,8 +18,9 @@ mod panner;
 mod random;
 mod rows;
 mod rust;
+mod setup;
 
-use frame::{Case, Verdict};
+use frame::{Case, Sink, Verdict};
 use random::Random;
 use std::collections::BTreeMap;
 use std::io::{self, Read, Write};
@@ -28,7 +29,7 @@ use std::process::ExitCode;
 /// A kind of request has a name, and makes cases.
 struct Kind {
     name: &'static str,
-    make: fn(&mut Random, usize) -> Vec<Case>,
+    make: fn(&mut Random, usize, &mut Sink),
 }
 
 const KINDS: &[Kind] = &[
@@ -50,6 +51,8 @@ const KINDS: &[Kind] = &[
     Kind { name: "decoder block", make: blocks::decode },
     Kind { name: "convolver block", make: convolver::process },
     Kind { name: "convolver reset", make: convolver::reset },
+    Kind { name: "new surround", make: setup::surround },
+    Kind { name: "new ambisonic", make: setup::ambisonic },
     Kind { name: "malformed", make: malformed::inside },
 ];
 
@@ -62,28 +65,30 @@ struct Tally {
     aside: usize,
 }
 
-/// All cases, each with the name of its kind; a kind's are made when the kind before is done with. A request that
-/// the input ends in can only stand last.
-fn cases(count: usize, seed: u64) -> impl Iterator<Item = (&'static str, Case)> {
-    let of_a_kind = move |kind: &Kind| {
-        let name = kind.name;
-        (kind.make)(&mut Random::new(seed, name), count).into_iter().map(move |c| (name, c))
-    };
-    KINDS.iter().flat_map(of_a_kind).chain([("malformed", malformed::at_the_end())])
+/// Hands on every case as it is made, with the name of its kind. A request that the input ends in can only stand last.
+fn cases(count: usize, seed: u64, take: &mut dyn FnMut(&'static str, Case)) {
+    for kind in KINDS {
+        (kind.make)(&mut Random::new(seed, kind.name), count, &mut |case| take(kind.name, case));
+    }
+    take("malformed", malformed::at_the_end());
 }
 
 fn requests(count: usize, seed: u64) -> io::Result<()> {
     let mut out = io::BufWriter::new(io::stdout().lock());
-    for (_, case) in cases(count, seed) {
-        out.write_all(&case.request)?;
-    }
+    let mut written = Ok(());
+    cases(count, seed, &mut |_, case| {
+        if written.is_ok() {
+            written = out.write_all(&case.request);
+        }
+    });
+    written?;
     out.flush()
 }
 
 fn judge(count: usize, seed: u64) -> io::Result<bool> {
     let mut answers = io::BufReader::new(io::stdin().lock());
     let mut tally: BTreeMap<&str, Tally> = BTreeMap::new();
-    for (name, case) in cases(count, seed) {
+    cases(count, seed, &mut |name, case| {
         let entry = tally.entry(name).or_default();
         entry.all += 1;
         let verdict = match frame::take(&mut answers) {
@@ -98,7 +103,7 @@ fn judge(count: usize, seed: u64) -> io::Result<bool> {
                 println!("{name}: {wrong}; request {}", frame::hex(&case.request));
             }
         }
-    }
+    });
     let mut rest = Vec::new();
     answers.read_to_end(&mut rest)?;
     let mut right = rest.is_empty();

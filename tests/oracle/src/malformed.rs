@@ -1,5 +1,5 @@
 //! Requests that break the form: each is answered as such, and the next is read as if nothing had been.
-use crate::frame::{exactly, request, Case};
+use crate::frame::{exactly, request, send, Case, Sink};
 use crate::random::Random;
 
 const NO_SUCH_OPERATION: u8 = 1;
@@ -21,34 +21,34 @@ const LISTED: &[(u8, &[&[u8]])] = &[
     (16, &[&[], &[0; 37], &[0; 39]]),
     (17, &[&[], &[0; 137], &[0; 139]]),
     (18, &[&[], &[0; 33], &[0; 35]]),
+    (19, &[&[], &[0; 83], &[0; 85]]),
+    (20, &[&[], &[0; 82], &[0; 84]]),
 ];
 
 const LONGEST: usize = 65536;
 
-pub fn inside(random: &mut Random, count: usize) -> Vec<Case> {
-    let mut all = Vec::new();
+pub fn inside(random: &mut Random, count: usize, sink: &mut Sink) {
     for operation in 0..=255u8 {
         if FIXED.iter().all(|(known, _)| *known != operation) && LISTED.iter().all(|(known, _)| *known != operation) {
             let length = random.below(20) as usize;
-            all.push(exactly(request(operation, &vec![0; length]), 0, vec![NO_SUCH_OPERATION]));
+            sink(exactly(request(operation, &vec![0; length]), 0, vec![NO_SUCH_OPERATION]));
         }
     }
     for (operation, right) in FIXED {
         for length in (0..28).filter(|n| n != right) {
-            all.push(exactly(request(*operation, &vec![0x3f; length]), 0, vec![WRONG_LENGTH]));
+            sink(exactly(request(*operation, &vec![0x3f; length]), 0, vec![WRONG_LENGTH]));
         }
     }
     for (operation, wrong) in LISTED {
-        all.extend(wrong.iter().map(|arguments| exactly(request(*operation, arguments), 0, vec![WRONG_LENGTH])));
+        send(sink, wrong.iter().map(|arguments| exactly(request(*operation, arguments), 0, vec![WRONG_LENGTH])));
     }
     // The longest arguments that are read whole, and longer ones, which are read past.
-    all.push(exactly(request(1, &vec![0; LONGEST]), 0, vec![WRONG_LENGTH]));
-    all.push(exactly(request(1, &vec![0; LONGEST + 1]), 0, vec![TOO_LONG]));
+    sink(exactly(request(1, &vec![0; LONGEST]), 0, vec![WRONG_LENGTH]));
+    sink(exactly(request(1, &vec![0; LONGEST + 1]), 0, vec![TOO_LONG]));
     for _ in 0..count / 1000 {
         let length = LONGEST + 2 + random.below(1 << 18) as usize;
-        all.push(exactly(request(2, &vec![0; length]), 0, vec![TOO_LONG]));
+        sink(exactly(request(2, &vec![0; length]), 0, vec![TOO_LONG]));
     }
-    all
 }
 
 pub fn at_the_end() -> Case {

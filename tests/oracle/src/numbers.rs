@@ -1,5 +1,5 @@
 //! Conversions and roots, against the processor's own.
-use crate::frame::{exactly, f32_bytes, f64_bytes, request, Case};
+use crate::frame::{exactly, f32_bytes, f64_bytes, request, send, Sink};
 use crate::random::Random;
 
 const WIDEN: u8 = 1;
@@ -19,14 +19,11 @@ fn corners32() -> Vec<u32> {
     all
 }
 
-pub fn widen(random: &mut Random, count: usize) -> Vec<Case> {
+pub fn widen(random: &mut Random, count: usize, sink: &mut Sink) {
     let mut patterns: Vec<u32> = (0..count).map(|_| random.bits() as u32).collect();
     let corners = corners32();
     patterns.extend((0..count.min(corners.len())).map(|_| corners[random.below(corners.len() as u64) as usize]));
-    patterns
-        .into_iter()
-        .map(|bits| exactly(request(WIDEN, &bits.to_be_bytes()), WIDEN, f64_bytes(f64::from(f32::from_bits(bits))).to_vec()))
-        .collect()
+    send(sink, patterns.into_iter().map(|bits| exactly(request(WIDEN, &bits.to_be_bytes()), WIDEN, f64_bytes(f64::from(f32::from_bits(bits))).to_vec())));
 }
 
 /// An f64 near the middle between two neighbouring f32: the middle itself, or off it by a few of its last digits.
@@ -58,11 +55,8 @@ fn narrow_patterns(random: &mut Random, count: usize) -> Vec<u64> {
     all
 }
 
-pub fn narrow(random: &mut Random, count: usize) -> Vec<Case> {
-    narrow_patterns(random, count)
-        .into_iter()
-        .map(|bits| exactly(request(NARROW, &bits.to_be_bytes()), NARROW, f32_bytes(f64::from_bits(bits) as f32).to_vec()))
-        .collect()
+pub fn narrow(random: &mut Random, count: usize, sink: &mut Sink) {
+    send(sink, narrow_patterns(random, count).into_iter().map(|bits| exactly(request(NARROW, &bits.to_be_bytes()), NARROW, f32_bytes(f64::from_bits(bits) as f32).to_vec())));
 }
 
 fn root_patterns(random: &mut Random, count: usize) -> Vec<u64> {
@@ -92,9 +86,6 @@ fn root_answer(x: f64) -> Vec<u8> {
     bytes
 }
 
-pub fn root(random: &mut Random, count: usize) -> Vec<Case> {
-    root_patterns(random, count)
-        .into_iter()
-        .map(|bits| exactly(request(ROOT, &bits.to_be_bytes()), ROOT, root_answer(f64::from_bits(bits))))
-        .collect()
+pub fn root(random: &mut Random, count: usize, sink: &mut Sink) {
+    send(sink, root_patterns(random, count).into_iter().map(|bits| exactly(request(ROOT, &bits.to_be_bytes()), ROOT, root_answer(f64::from_bits(bits)))));
 }

@@ -1,5 +1,5 @@
 //! Binaural rows, against the Rust's `compute_matrix`, bit for bit.
-use crate::frame::{exactly, f64_bytes, request, Case};
+use crate::frame::{exactly, f64_bytes, request, send, Case, Sink};
 use crate::random::Random;
 use bbx_dsp::blocks::effectors::binaural_decoder::matrix;
 
@@ -25,15 +25,14 @@ fn rows(order: u64, weights: &[f64]) -> Case {
     exactly(request(ROWS, &arguments), ROWS, answer)
 }
 
-pub fn cases(random: &mut Random, count: usize) -> Vec<Case> {
+pub fn cases(random: &mut Random, count: usize, sink: &mut Sink) {
     let mut lent = |n: usize| -> Vec<f64> { (0..n).map(|_| f64::from_bits(random.bits())).collect() };
-    let mut all: Vec<Case> = [(1, 8), (2, 18), (3, 32)].map(|(order, n)| rows(order, &lent(n))).into();
+    send(sink, [(1, 8), (2, 18), (3, 32)].map(|(order, n)| rows(order, &lent(n))));
     for order in [0, 1, 2, 3, 4, 5, 255, 256, 257, 1 << 32, (1 << 32) + 1, u64::MAX] {
         for n in [0, 1, 4, 7, 8, 9, 16, 17, 18, 19, 31, 32, 33, 50, 64, 300] {
             if n < 60 || count >= 1000 {
-                all.push(rows(order, &lent(n)));
+                sink(rows(order, &lent(n)));
             }
         }
     }
-    all
 }

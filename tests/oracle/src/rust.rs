@@ -1,6 +1,7 @@
 //! The Rust that is ported, run through its public entries: what it gives for a command, a matrix, a block.
 use bbx_dsp::block::Block;
 use bbx_dsp::blocks::effectors::ambisonic_decoder::AmbisonicDecoderBlock;
+use bbx_dsp::blocks::effectors::binaural_decoder::hrir_data::HRIR_LENGTH;
 use bbx_dsp::blocks::effectors::binaural_decoder::hrtf::HrtfConvolver;
 use bbx_dsp::blocks::effectors::binaural_decoder::virtual_speaker::VirtualSpeaker;
 use bbx_dsp::blocks::effectors::panner::PannerBlock;
@@ -72,6 +73,57 @@ pub fn decode(weights: &[&[f64]], inputs: &[Vec<f32>], before: Vec<Vec<f32>>) ->
 /// The weighted coefficients of a direction.
 pub fn weighted(order: usize, azimuth: f64, elevation: f64) -> [f64; CHANNELS] {
     VirtualSpeaker::new(azimuth, elevation, order, &[], &[]).sh_weights
+}
+
+/// What a convolver plays when an impulse comes in on each channel alone, times the root of the speakers: for each channel
+/// and each direction, in steps of five degrees, the sum of the weights of the speakers that take their filters from there.
+pub struct Impulses(Vec<Vec<f64>>);
+
+impl Impulses {
+    pub fn silent(channels: usize) -> Self {
+        Impulses(vec![vec![0.0; HRIR_LENGTH]; channels])
+    }
+
+    fn of(mut convolver: HrtfConvolver, channels: usize, speakers: usize) -> Self {
+        let mut all = Impulses::silent(channels);
+        for (channel, heard) in all.0.iter_mut().enumerate() {
+            let mut inputs = vec![vec![0.0f64; HRIR_LENGTH]; channels];
+            inputs[channel][0] = 1.0;
+            let planes: Vec<&[f64]> = inputs.iter().map(Vec::as_slice).collect();
+            let mut right = vec![0.0; HRIR_LENGTH];
+            convolver.reset();
+            convolver.process(&planes, heard, &mut right, channels);
+            assert_eq!(*heard, right);
+            heard.iter_mut().for_each(|x| *x *= (speakers as f64).sqrt());
+        }
+        all
+    }
+
+    /// A speaker's weight for a channel, at the place of its direction.
+    pub fn add(&mut self, channel: usize, azimuth: f64, weight: f64) {
+        self.0[channel][(azimuth.rem_euclid(360.0) / 5.0) as usize] += weight;
+    }
+
+    pub fn is_near(&self, other: &Impulses, bound: f64) -> bool {
+        let both = self.0.concat().into_iter().zip(other.0.concat());
+        self.0.len() == other.0.len() && both.into_iter().all(|(a, b)| (a - b).abs() <= bound)
+    }
+
+    /// The direction in degrees, from -175 to 180, that alone is heard of a channel.
+    pub fn only_direction(&self, channel: usize) -> f64 {
+        let heard: Vec<usize> = (0..HRIR_LENGTH).filter(|i| self.0[channel][*i] != 0.0).collect();
+        assert_eq!(heard.len(), 1);
+        let degrees = heard[0] as f64 * 5.0;
+        if degrees > 180.0 { degrees - 360.0 } else { degrees }
+    }
+}
+
+pub fn surround_impulses(channels: usize) -> Impulses {
+    Impulses::of(HrtfConvolver::new_surround(channels), channels, channels)
+}
+
+pub fn ambisonic_impulses(order: usize) -> Impulses {
+    Impulses::of(HrtfConvolver::new_ambisonic(order), (order + 1) * (order + 1), 8)
 }
 
 /// A speaker of a convolver: its weights, and its taps for either ear.

@@ -1,7 +1,6 @@
 -- `probe::skip` is safe and ends: what is left falls with each part, or the input has ended. Assumes nothing.
-use mathlib.Core.Path.{_≡_, refl}
+use mathlib.Core.Path.{_≡_}
 use lib.ListN.{length}
-use native.Mathlib.Omega.{arith}
 use borrow.Author.Needs.{needs}
 use Rattle.probe.proofs.skip.Statement.{statement}
 use Rattle.probe.proofs.skip.Tie as tie

@@ -1,2 +1,0 @@
--- The laws of `probe`.
-pub mod Kept

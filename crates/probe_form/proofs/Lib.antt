@@ -1,0 +1,2 @@
+-- That no two answers meet one promise.
+mod Unique

@@ -1,0 +1,64 @@
+use borrow.Author.Needs.{needs}
+-- `probe_setup::set_up_in` is safe: the parts of the room that are lent have the lengths that were asked for. Assumes nothing.
+use native.Mathlib.Omega.{arith}
+use lib.ListN.{length-take}
+use borrow.Author.Needs.{needs}
+use Rattle.probe_setup.proofs.set_up_in.Statement.{statement}
+use Rattle.probe_setup.proofs.set_up_in.Tie as tie
+
+get-requires : tie.Need-get-requires
+get-requires c κs = search needs
+
+at-most-requires : tie.Need-at-most-requires
+at-most-requires c κs = search needs
+
+get-requires-2 : tie.Need-get-requires-2
+get-requires-2 c κs = search needs
+
+at-most-requires-2 : tie.Need-at-most-requires-2
+at-most-requires-2 c κs = search needs
+
+slice-relend-prefix-set-up : tie.Need-slice-relend-prefix-set-up
+slice-relend-prefix-set-up c = search needs
+
+slice-aggregate-set-up : tie.Need-slice-aggregate-set-up
+slice-aggregate-set-up c = simp length-take (omega arith)
+
+slice-relend-prefix-set-up-2 : tie.Need-slice-relend-prefix-set-up-2
+slice-relend-prefix-set-up-2 c = search needs
+
+slice-aggregate-set-up-2 : tie.Need-slice-aggregate-set-up-2
+slice-aggregate-set-up-2 c = simp length-take (omega arith)
+
+set-up-requires : tie.Need-set-up-requires
+set-up-requires c κs = search needs
+
+same-length : tie.Need-same-length
+same-length c = search needs
+
+same-length-2 : tie.Need-same-length-2
+same-length-2 c = search needs
+
+same-length-3 : tie.Need-same-length-3
+same-length-3 c = search needs
+
+returns : tie.Need-returns
+returns c = search needs
+
+pub set-up-in-spec : {M : Type 1} → statement M
+set-up-in-spec =
+    tie.close
+    (tie.spec
+    get-requires
+    at-most-requires
+    get-requires-2
+    at-most-requires-2
+    slice-relend-prefix-set-up
+    slice-aggregate-set-up
+    slice-relend-prefix-set-up-2
+    slice-aggregate-set-up-2
+    set-up-requires
+    same-length
+    same-length-2
+    same-length-3
+    returns)
