@@ -328,7 +328,7 @@ pub fn reading(random: &mut Random, count: usize, sink: &mut Sink) {
     for _ in 0..1 + count / 1000 {
         send(sink, largest(random, count));
     }
-    for _ in 0..count / 4 {
+    for _ in 0..(if count < 1000 { count / 4 } else { count / 2 }) {
         let bank = any_bank(random);
         let mut file = file_of(&bank);
         if count < 1000 && file.len() > 500 {
@@ -362,7 +362,7 @@ pub fn writing(random: &mut Random, count: usize, sink: &mut Sink) {
         sink(write(&bank, length, bytes as usize));
         sink(write(&bank, length, bytes as usize + 1));
     }
-    for _ in 0..count / 4 {
+    for _ in 0..(if count < 1000 { count / 4 } else { count / 2 }) {
         let mut bank = any_bank(random);
         if count < 1000 && bank.taps.len() > 120 {
             continue;

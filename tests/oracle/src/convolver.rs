@@ -164,33 +164,65 @@ impl Call {
         exactly(request(PROCESS, &arguments), PROCESS, answer)
     }
 
-    /// Blocks one after the other from rings at rest, the ears by the Rust's own convolver, which is given the frames and
-    /// nothing else; rings, count and desk, which it has not or does not show, as document 01 has them.
+    /// A line from rings at rest, cut into blocks as it comes, with refused calls between. The ears are those of the Rust's own
+    /// convolver, which plays the whole line at once; rings, count and desk, which it has not or does not show, are as
+    /// document 01 has them, and handed on from call to call.
     fn session(&self, random: &mut Random, blocks: usize) -> Vec<Case> {
+        let channels = self.channels as usize;
         let speakers: Vec<Speaker> = (0..self.speakers as usize)
-            .map(|s| {
-                let channels = self.channels as usize;
-                Speaker { weights: self.weights[s * channels..(s + 1) * channels].to_vec(), left: self.taps_of(s, 0).to_vec(), right: self.taps_of(s, 1).to_vec() }
-            })
+            .map(|s| Speaker { weights: self.weights[s * channels..(s + 1) * channels].to_vec(), left: self.taps_of(s, 0).to_vec(), right: self.taps_of(s, 1).to_vec() })
             .collect();
-        let mut convolver = rust::Convolver::new(&speakers, speakers.len(), self.length as usize);
-        let mut call = self.clone();
-        let mut all = Vec::new();
-        for _ in 0..blocks {
+        let mut calls = vec![self.clone()];
+        calls.extend((1..blocks).map(|_| self.next_block(random)));
+        let played = |call: &Call, c: usize| call.inputs[c * call.stride as usize..][..call.frames as usize].to_vec();
+        let line: Vec<Vec<f32>> = (0..channels).map(|c| calls.iter().flat_map(|call| played(call, c)).collect()).collect();
+        let total = line[0].len();
+        let heard = rust::Convolver::new(&speakers, speakers.len(), self.length as usize).process(&line, [vec![0.0; total], vec![0.0; total]]);
+        let (mut all, mut at) = (Vec::new(), 0);
+        let mut state = (self.position, self.to_go, self.rings.clone());
+        for mut call in calls {
+            (call.position, call.to_go, call.rings) = state;
             let (frames, stride) = (call.frames as usize, call.stride as usize);
-            let cut = |plane: &[f32]| plane[..frames].to_vec();
-            let inputs: Vec<Vec<f32>> = if stride == 0 { vec![vec![]; call.channels as usize] } else { call.inputs.chunks(stride).map(cut).collect() };
-            let ears = convolver.process(&inputs, [cut(&call.ears[..stride]), cut(&call.ears[stride..])]);
             let mut right = call.outcome();
             right.ears = call.ears.clone();
-            for (ear, plane) in ears.iter().enumerate() {
-                right.ears[ear * stride..ear * stride + frames].copy_from_slice(plane);
+            for (ear, plane) in heard.iter().enumerate() {
+                right.ears[ear * stride..ear * stride + frames].copy_from_slice(&plane[at..at + frames]);
             }
             all.push(call.judged_by(&right));
-            (call.position, call.to_go, call.rings, call.ears) = (right.position, right.to_go, right.rings, right.ears);
-            call.inputs = call.inputs.iter().map(|_| sample(random)).collect();
+            at += frames;
+            state = (right.position, right.to_go, right.rings);
+            (call.position, call.to_go, call.rings) = state.clone();
+            if random.below(2) == 0 {
+                all.push(call.refused(random).case());
+            }
         }
         all
+    }
+
+    /// The same set-up with other frames, and another number of them.
+    fn next_block(&self, random: &mut Random) -> Call {
+        let frames = random.below(6);
+        let stride = frames + random.below(2);
+        let mut next = self.clone();
+        (next.frames, next.stride) = (frames, stride);
+        next.inputs = (0..self.channels * stride).map(|_| sample(random)).collect();
+        next.ears = (0..2 * stride).map(|_| sample(random)).collect();
+        next
+    }
+
+    /// The same call with something in it that is refused: 2, 4, 5, 7 or 8.
+    fn refused(&self, random: &mut Random) -> Call {
+        let mut call = self.clone();
+        match random.below(6) {
+            0 => call.row_of[0] = call.rows,
+            1 => call.length = 513,
+            2 => call.rings.push(1.0),
+            3 => call.weights[0] = f64::NAN,
+            4 => call.taps[0] = f32::INFINITY,
+            _ => call.position = call.length,
+        }
+        assert!(call.refusal() != 0);
+        call
     }
 }
 
@@ -295,7 +327,7 @@ fn at_the_ends(random: &mut Random) -> Vec<Case> {
         change(&mut call);
         all.push(call.case());
     };
-    for n in [0, 1, 2, 3, 4, 5, 8, 9, 16, 17, 512, 513, 1 << 32, 1 << 63, u64::MAX] {
+    for n in [0, 1, 2, 3, 4, 5, 8, 9, 16, 17, 511, 512, 513, 1 << 32, 1 << 63, u64::MAX] {
         with(&|c| c.channels = n);
         with(&|c| c.speakers = n);
         with(&|c| c.rows = n);
@@ -342,21 +374,23 @@ fn at_the_ends(random: &mut Random) -> Vec<Case> {
 
 pub fn process(random: &mut Random, count: usize, sink: &mut Sink) {
     send(sink, at_the_ends(random));
-    for (channels, speakers, rows, length, frames, stride) in [(1, 1, 1, 1, 1, 1), (1, 1, 1, 2, 3, 3), (6, 6, 8, 4, 5, 7), (8, 8, 8, 3, 4, 4), (16, 8, 8, 2, 3, 3), (1, 1, 1, 1, 0, 0), (2, 2, 2, 3, 0, 4), (1, 1, 1, 512, 3, 3)] {
+    for (channels, speakers, rows, length, frames, stride) in [(1, 1, 1, 1, 1, 1), (1, 1, 1, 2, 3, 3), (6, 6, 8, 4, 5, 7), (8, 8, 8, 3, 4, 4), (16, 8, 8, 2, 3, 3), (1, 1, 1, 1, 0, 0), (2, 2, 2, 3, 0, 4), (1, 1, 1, 511, 3, 3), (1, 1, 1, 512, 3, 3)] {
         let call = Call::fitting(random, channels, speakers, rows, length, frames, stride);
         send(sink, call.session(random, 2));
     }
     if count >= 1000 {
-        let largest = Call::fitting(random, 16, 8, 8, 512, 4, 4);
-        send(sink, largest.session(random, 4));
+        for length in [511, 512] {
+            let largest = Call::fitting(random, 16, 8, 8, length, 4, 4);
+            send(sink, largest.session(random, 4));
+        }
     }
-    for _ in 0..(if count < 1000 { count / 40 } else { count / 16 }) {
+    for _ in 0..(if count < 1000 { count / 40 } else { count / 9 }) {
         let (channels, speakers, rows) = (1 + random.below(16) as usize, 1 + random.below(8) as usize, 1 + random.below(8) as usize);
         let length = 1 + (random.below(40) >> random.below(5)) as usize;
         let frames = random.below(5) as usize;
         let stride = frames + random.below(2) as usize;
         let call = Call::fitting(random, channels, speakers, rows, length, frames, stride);
-        let blocks = 1 + random.below(3) as usize;
+        let blocks = 1 + random.below(5) as usize;
         send(sink, call.session(random, blocks));
         // Any rings, any place in them.
         let mut call = Call::fitting(random, channels.min(3), speakers, rows, length, frames, stride);
@@ -401,7 +435,7 @@ pub fn reset(random: &mut Random, count: usize, sink: &mut Sink) {
             }
         }
     }
-    for _ in 0..count / 20 {
+    for _ in 0..(if count < 1000 { count / 20 } else { count }) {
         let (speakers, length) = (1 + random.below(8), 1 + random.below(30));
         one(speakers, length, (speakers * length) as usize, random);
     }

@@ -196,7 +196,7 @@ fn all(random: &mut Random, count: usize, sink: &mut Sink, all_of: &[Whose]) {
         sink(call.case());
     }
     let good: Vec<Whose> = all_of.iter().copied().filter(|w| w.counts().is_ok()).collect();
-    for _ in 0..(if few { count / 40 } else { count / 4 }) {
+    for _ in 0..(if few { count / 40 } else { count / 2 }) {
         for whose in &good {
             let rows = 1 + random.below(8);
             sink(SetUp::fitting(random, *whose, rows).case());
