@@ -13,7 +13,7 @@ use lib.Seq.{take-suc, take-at, take-length, getD-drop, length-take-le}
 use mir.Syntax.{w16}
 use mir.Val.{ofZ}
 use Rattle.big_endian.specs.Bytes.{bytesOf}
-use Rattle.big_endian.specs.Fields.{signedAt, floatAt, withField, withSigned, withFloat}
+use Rattle.big_endian.specs.Fields.{signedAt, floatAt, withField, withSigned}
 use Rattle.big_endian.specs.Floats.{floatBytes}
 use Rattle.big_endian.proofs.Bytes.{length-bytes}
 use Rattle.big_endian.proofs.Fields.{written-lies}
@@ -62,10 +62,6 @@ module _ (s : List ℕ) (l : ℕ) where
 -- a field that is put into a list stands there
 field-put : (ys last : List ℕ) (at count n : ℕ) → count ≤ 8 → at + count ≤ length ys → last ≡ withField ys at count n → last ≡ placed ys at (bytesOf count n)
 field-put ys last at count n h g e = e ∙ written-lies ys at count n h g
-
-pub tap-put : (ys last : List ℕ) (at : ℕ) (x : Float) → at + 4 ≤ length ys → last ≡ withFloat ys at x → last ≡ placed ys at (bytesOf 4 (toBits binary32 x))
-unfolding withFloat
-tap-put ys last at x h e = field-put ys last at 4 (toBits binary32 x) (omega arith) h e
 
 pub azimuth-put : (ys last : List ℕ) (at : ℕ) (z : ℤ) → at + 2 ≤ length ys → last ≡ withSigned ys at z → last ≡ placed ys at (bytesOf 2 (ofZ w16 z))
 unfolding withSigned

@@ -1,13 +1,16 @@
--- The laws of the bytes of samples: none, how many, one sample more, and two. Assumes nothing.
+-- The laws of the bytes of samples: none, how many, one sample more, two, and where one is put. Assumes nothing.
 use mathlib.Core.Path.{_≡_, refl, sym, ap, _∙_}
 use mathlib.Core.List.{List, [], _∷_, _++_, append-nil, append-assoc}
-use Prim.Native.Nat.{ℕ, _*_}
+use Prim.Native.Nat.{ℕ, _+_, _*_, _≤_}
 use native.Mathlib.Omega.{arith}
 use lib.ListN.{length, length-append}
 use lib.Ieee.{Float, binary32, toBits}
 use Rattle.big_endian.specs.Bytes.{bytesOf}
 use Rattle.big_endian.specs.Floats.{floatBytes}
+use Rattle.big_endian.specs.Placed.{placed}
+use Rattle.big_endian.specs.Fields.{withFloat}
 use Rattle.big_endian.proofs.Bytes.{length-bytes}
+use Rattle.big_endian.proofs.Fields.{written-lies}
 
 pub floatBytes-none : floatBytes [] ≡ []
 unfolding floatBytes
@@ -29,3 +32,8 @@ floatBytes-snoc (y ∷ xs) x =
 pub floatBytes-two : (a b : Float) → floatBytes (a ∷ b ∷ []) ≡ bytesOf 4 (toBits binary32 a) ++ bytesOf 4 (toBits binary32 b)
 unfolding floatBytes
 floatBytes-two a b = ap (λ (t : List ℕ). bytesOf 4 (toBits binary32 a) ++ t) (append-nil (bytesOf 4 (toBits binary32 b)))
+
+-- a sample put where there is room for it
+pub float-put : (ys last : List ℕ) (at : ℕ) (x : Float) → at + 4 ≤ length ys → last ≡ withFloat ys at x → last ≡ placed ys at (bytesOf 4 (toBits binary32 x))
+unfolding withFloat
+float-put ys last at x h e = e ∙ written-lies ys at 4 (toBits binary32 x) (omega arith) h

@@ -12,8 +12,7 @@ use Rattle.big_endian.specs.Fields.{withFloat}
 use Rattle.big_endian.specs.Floats.{floatBytes}
 use Rattle.big_endian.proofs.Bytes.{length-bytes}
 use Rattle.big_endian.proofs.Placed.{placed-none, placed-on, length-placed}
-use Rattle.big_endian.proofs.Fields.{written-lies}
-use Rattle.big_endian.proofs.Floats.{length-floatBytes, floatBytes-two}
+use Rattle.big_endian.proofs.Floats.{float-put, length-floatBytes, floatBytes-two}
 use Rattle.planes.specs.Tables.{tab}
 use Rattle.planes.proofs.Tables.{tab-snoc}
 use Rattle.planes.specs.Planes.{frameAt, framesOf}
@@ -28,17 +27,13 @@ ears-one : (f : List Float) → earBytes (f ∷ []) ≡ floatBytes f
 unfolding earBytes
 ears-one f = append-nil (floatBytes f)
 
-stored : (ys last : List ℕ) (at : ℕ) (x : Float) → at + 4 ≤ length ys → last ≡ withFloat ys at x → last ≡ placed ys at (bytesOf 4 (toBits binary32 x))
-unfolding withFloat
-stored ys last at x h e = e ∙ written-lies ys at 4 (toBits binary32 x) (omega arith) h
-
 -- two samples, one store after the other
 pub both-stored : (out one two : List ℕ) (at : ℕ) (a b : Float) → at + 8 ≤ length out → one ≡ withFloat out at a → two ≡ withFloat one (at + 4) b → two ≡ placed out at (floatBytes (a ∷ b ∷ []))
 both-stored out one two at a b h e f =
-    let first = stored out one at a (omega arith) e in
+    let first = float-put out one at a (omega arith) e in
     let four = length-bytes 4 (toBits binary32 a) in
     let long : length one ≡ length out = ap length first ∙ length-placed out at (bytesOf 4 (toBits binary32 a)) (omega arith) in
-    stored one two (at + 4) b (omega arith) f
+    float-put one two (at + 4) b (omega arith) f
     ∙ ap (λ (ys : List ℕ). placed ys (at + 4) (bytesOf 4 (toBits binary32 b))) first
     ∙ placed-on out at 4 (bytesOf 4 (toBits binary32 a)) (bytesOf 4 (toBits binary32 b)) four (omega (arith, length-bytes 4 (toBits binary32 b)))
     ∙ ap (placed out at) (sym (floatBytes-two a b))

@@ -6,8 +6,8 @@ use lib.ListN.{length, take, drop}
 use Rattle.big_endian.specs.Placed.{placed}
 use Rattle.big_endian.specs.Floats.{floatBytes}
 use Rattle.big_endian.proofs.Placed.{placed-none, length-placed}
-use Rattle.big_endian.proofs.Floats.{floatBytes-none, length-floatBytes}
-use Rattle.bank.proofs.Fill.{tap-put, tap-more, length-part}
+use Rattle.big_endian.proofs.Floats.{floatBytes-none, length-floatBytes, float-put}
+use Rattle.bank.proofs.Fill.{tap-more, length-part}
 use Rattle.bank.proofs.put_taps.Statement.{statement}
 use Rattle.bank.proofs.put_taps.Tie as tie
 
@@ -57,7 +57,7 @@ loop-again c =
     let args = c .before .before .before .before .before .before .before .before .before .args in
     let turn = c .before .before .before .before .before .before .loop in
     let long = kept (c .before .before .before .before .before .before) in
-    let tap = tap-put (turn .file) (c .before .before .put-f32 .last .0) _ _ (omega arith) (c .before .before .put-f32 .ensures) in
+    let tap = float-put (turn .file) (c .before .before .put-f32 .last .0) _ _ (omega arith) (c .before .before .put-f32 .ensures) in
     (omega arith, tap-more (args .file .now) (turn .file) _ (args .taps .now) (args .at) (args .q) (turn .k) (turn .inv .1) (omega arith) (omega arith) tap)
 
 same-length : tie.Need-same-length Inv-loop μ-loop
