@@ -9,7 +9,7 @@ use lib.IntN.{ℤ, pos, negsuc}
 use lib.ListN.{length, take}
 use Rattle.big_endian.specs.Bytes.{valueOf, bytesOf}
 use Rattle.big_endian.specs.Fields.{fieldAt}
-use Rattle.big_endian.specs.Floats.{floatBytes}
+use Rattle.big_endian.specs.Lists.{fieldBytes}
 use Rattle.bank_form.specs.Bank.{Bank, within, inRange, differ, isTap, every, pairwise, valid}
 use Rattle.bank_form.specs.Encoding.{rowBytes, bodyBytes, encode}
 use Rattle.bank_form.specs.FaultComputed.{field, orElse, headField, headFault, fault, isFile}
@@ -25,7 +25,7 @@ unfoldable pub itsBytes : List ℕ
 itsBytes = 0x01 ∷ 0x00 ∷ 0x00 ∷ 0x00 ∷ 0x0E ∷ 0x00 ∷ 0x01 ∷ 0x00 ∷ 0x01 ∷ 0x00 ∷ 0x00 ∷ 0x3F ∷ 0x80 ∷ 0x00 ∷ 0x00 ∷ 0x3F ∷ 0x00 ∷ 0x00 ∷ 0x00 ∷ []
 
 pub bank-bytes : encode oneRow ≡ itsBytes
-unfolding oneRow itsBytes encode bodyBytes rowBytes floatBytes bytesOf toBits
+unfolding oneRow itsBytes encode bodyBytes rowBytes fieldBytes bytesOf toBits
 bank-bytes = refl
 
 pub bank-keeps : valid oneRow ≡ true

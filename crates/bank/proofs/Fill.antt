@@ -1,32 +1,32 @@
 -- One turn of each loop that fills a lent list: what stood there after i rows, or k taps, stands there after one more. Assumes nothing.
 use mathlib.Core.Path.{_≡_, refl, sym, ap, _∙_}
-use mathlib.Core.List.{List, [], _∷_, _++_, append-nil}
+use mathlib.Core.List.{List, [], _++_, append-nil}
 use Prim.Native.Nat.{ℕ, _+_, _*_, _≤_, _<_}
 use native.Mathlib.Nat.{mul-le-mul, mul-le-mul-right}
 use native.Mathlib.Decide.{decLt}
 use native.Mathlib.Numerals.{add-one}
 use native.Mathlib.Omega.{arith}
-use lib.Ieee.{Float, nan, binary32, toBits}
+use lib.Ieee.{Float, binary32, toBits}
 use lib.IntN.{ℤ, pos}
 use lib.ListN.{length, getD, take, drop, set, length-append, length-drop, drop-of-length-le, List·getD-eq-default}
-use lib.Seq.{take-suc, take-at, take-length, getD-drop, length-take-le}
+use lib.Seq.{take-at, take-length, length-take-le}
 use mir.Syntax.{w16}
 use mir.Val.{ofZ}
 use Rattle.big_endian.specs.Bytes.{bytesOf}
-use Rattle.big_endian.specs.Fields.{signedAt, floatAt, withField, withSigned}
-use Rattle.big_endian.specs.Floats.{floatBytes}
+use Rattle.big_endian.specs.Fields.{signedAt, floatAt, withField}
+use Rattle.big_endian.specs.Lists.{floatBytes}
 use Rattle.big_endian.proofs.Bytes.{length-bytes}
-use Rattle.big_endian.proofs.Fields.{written-lies}
-use Rattle.big_endian.proofs.Floats.{length-floatBytes, floatBytes-snoc}
+use Rattle.big_endian.proofs.Fields.{field-put}
+use Rattle.big_endian.proofs.Lists.{length-strided, read-more, part-more, length-fieldBytes}
 use Rattle.bank_form.specs.Bank.{Bank, rows}
 use Rattle.bank_form.specs.Encoding.{rowBytes, bodyBytes, encode}
 use Rattle.bank_form.proofs.RoundTrip.{length-body, length-rowBytes, oneRow, rowBytes-snoc, row-fits}
 use Rattle.big_endian.specs.Placed.{placed}
-use Rattle.big_endian.proofs.Placed.{placed-on, placed-start, length-placed, store-on}
+use Rattle.big_endian.proofs.Placed.{placed-on, placed-start, length-placed}
 use Rattle.bank_form.specs.HoldsComputed.{Each, IsAzimuth}
-use Rattle.bank_form.specs.FaultComputed.{strided, rowSize, azimuthsFrom, rowTaps, tapsFrom}
+use Rattle.bank_form.specs.FaultComputed.{rowSize, azimuthsFrom, rowTaps, tapsFrom}
 use Rattle.bank.specs.HeadComputed.{headBytes}
-use Rattle.bank_form.proofs.Lists.{strided-snoc, length-strided, taps-snoc, length-taps}
+use Rattle.bank_form.proofs.Lists.{taps-snoc, length-taps}
 
 -- how far i rows reach in a file and in the list of taps
 pub rows-before : (i k l : ℕ) → i ≤ k → l ≤ 512 → i * rowSize l ≤ k * 4098
@@ -35,19 +35,12 @@ rows-before i k l h g = let row : rowSize l ≤ 4098 = omega (arith, g) in mul-l
 pub taps-before : (i k l : ℕ) → i ≤ k → l ≤ 512 → i * (2 * l) ≤ k * 1024
 taps-before i k l h g = let taps : 2 * l ≤ 1024 = omega (arith, g) in mul-le-mul h taps
 
--- one field more of those that f reads, w bytes apart
-pub field-more : {A : Type 0} (f : ℕ → A) (w at : ℕ) (xs ys : List A) (q k : ℕ) (x : A) → ys ≡ placed xs q (strided f w at k) → q + k < length xs → x ≡ f (at + k * w)
-    → set ys (q + k) x ≡ placed xs q (strided f w at (k + 1))
-field-more f w at xs ys q k x e h g =
-    let more : strided f w at k ++ (x ∷ []) ≡ strided f w at (k + 1) = rw (add-one k, g) (sym (strided-snoc f w at k)) in
-    rw e (store-on xs q k (strided f w at k) x (length-strided f w at k) h ∙ ap (placed xs q) more)
-
 module _ (s : List ℕ) (l : ℕ) where
   pub azimuth-more : (zs ys : List ℤ) (i : ℕ) (z : ℤ) → ys ≡ placed zs 0 (azimuthsFrom s l 9 i) → i < length zs → z ≡ signedAt s (9 + i * rowSize l)
       → set ys i z ≡ placed zs 0 (azimuthsFrom s l 9 (i + 1))
   azimuth-more zs ys i z e h g =
       let none : 0 + i ≡ i = omega arith in
-      rw none at (field-more (signedAt s) (rowSize l) 9 zs ys 0 i z e (omega arith) g)
+      rw none at (read-more (signedAt s) (rowSize l) 9 zs ys 0 i z e (omega arith) g)
 
   pub row-more : (xs ys zs : List Float) (i q : ℕ) → ys ≡ placed xs 0 (tapsFrom s l 9 i) → q ≡ i * (2 * l) → q + 2 * l ≤ length xs → zs ≡ placed ys q (rowTaps s l (9 + i * rowSize l))
       → zs ≡ placed xs 0 (tapsFrom s l 9 (i + 1))
@@ -59,36 +52,14 @@ module _ (s : List ℕ) (l : ℕ) where
 
 -- ---- writing
 
--- a field that is put into a list stands there
-field-put : (ys last : List ℕ) (at count n : ℕ) → count ≤ 8 → at + count ≤ length ys → last ≡ withField ys at count n → last ≡ placed ys at (bytesOf count n)
-field-put ys last at count n h g e = e ∙ written-lies ys at count n h g
-
-pub azimuth-put : (ys last : List ℕ) (at : ℕ) (z : ℤ) → at + 2 ≤ length ys → last ≡ withSigned ys at z → last ≡ placed ys at (bytesOf 2 (ofZ w16 z))
-unfolding withSigned
-azimuth-put ys last at z h e = field-put ys last at 2 (ofZ w16 z) (omega arith) h e
-
--- a part more, where n bytes stand from `at` on
-pub part-more : (out ys last a b : List ℕ) (at n p : ℕ) → ys ≡ placed out at a → length a ≡ n → p ≡ at + n → at + n + length b ≤ length out → last ≡ placed ys p b → last ≡ placed out at (a ++ b)
-part-more out ys last a b at n p e g q h k = k ∙ rw (e, q) (placed-on out at n a b g h)
-
 pub length-part : (xs : List Float) (q n : ℕ) → q + n ≤ length xs → length (take n (drop q xs)) ≡ n
 length-part xs q n h = length-take-le n (drop q xs) (omega (arith, length-drop q xs))
-
-pub tap-more : (out ys last : List ℕ) (xs : List Float) (at q k : ℕ) → ys ≡ placed out at (floatBytes (take k (drop q xs))) → q + k < length xs → at + 4 * k + 4 ≤ length out
-    → last ≡ placed ys (at + 4 * k) (bytesOf 4 (toBits binary32 (getD xs (q + k) nan))) → last ≡ placed out at (floatBytes (take (k + 1) (drop q xs)))
-tap-more out ys last xs at q k e h g f =
-    let x = getD xs (q + k) nan in
-    let inside : k < length (drop q xs) = omega (arith, length-drop q xs) in
-    let long : length (floatBytes (take k (drop q xs))) ≡ 4 * k = length-floatBytes (take k (drop q xs)) ∙ ap (λ (n : ℕ). 4 * n) (length-part xs q k (omega arith)) in
-    let more : floatBytes (take k (drop q xs)) ++ bytesOf 4 (toBits binary32 x) ≡ floatBytes (take (k + 1) (drop q xs)) =
-    sym (rw (add-one k, take-suc (drop q xs) k nan inside, getD-drop q xs k nan) (floatBytes-snoc (take k (drop q xs)) x)) in
-    part-more out ys last (floatBytes (take k (drop q xs))) (bytesOf 4 (toBits binary32 x)) at (4 * k) (at + 4 * k) e long refl (omega (arith, length-bytes 4 (toBits binary32 x))) f ∙ ap (placed out at) more
 
 -- a row of its azimuth and its taps
 pub length-row : (z : ℤ) (l : ℕ) (xs : List Float) (q : ℕ) → q + 2 * l ≤ length xs → length (oneRow z l xs q) ≡ rowSize l
 length-row z l xs q h =
     length-append (bytesOf 2 (ofZ w16 z)) (floatBytes (take (2 * l) (drop q xs)))
-    ∙ omega (arith, length-bytes 2 (ofZ w16 z), length-floatBytes (take (2 * l) (drop q xs)), length-part xs q (2 * l) h)
+    ∙ omega (arith, length-bytes 2 (ofZ w16 z), length-fieldBytes 4 (toBits binary32) (take (2 * l) (drop q xs)), length-part xs q (2 * l) h)
 
 pub length-rows : (zs : List ℤ) (l : ℕ) (xs : List Float) (i : ℕ) → i ≤ length zs → length xs ≡ length zs * (2 * l) → length (rowBytes (take i zs) l xs) ≡ i * rowSize l
 length-rows zs l xs i h count =

@@ -15,13 +15,14 @@ use lib.IntN.{ℤ, pos, negsuc}
 use lib.ListN.{length, getD, List·getD-eq-default}
 use Rattle.big_endian.specs.Bytes.{AreBytes}
 use Rattle.big_endian.specs.Fields.{signedAt}
+use Rattle.big_endian.proofs.Lists.{length-strided}
 use Rattle.bank_form.specs.declared.Fault.{Fault}
 use Rattle.bank_form.specs.Bank.{Bank, rows, within, inRange, differ, isTap, every, pairwise, valid}
 use Rattle.bank_form.specs.Encoding.{encode}
 use Rattle.bank_form.specs.HoldsComputed.{Each, IsAzimuth, IsFloat, Holds}
 use Rattle.bank_form.specs.FaultComputed.{rowSize, rowsIn, lengthIn, bankIn, isNew, sound, fault, isFile}
 use Rattle.bank_form.specs.File.{Exactly}
-use Rattle.bank_form.proofs.Lists.{every-at, length-strided, length-taps, pairwise-before, before-pairwise}
+use Rattle.bank_form.proofs.Lists.{every-at, length-taps, pairwise-before, before-pairwise}
 use Rattle.bank_form.proofs.Walk.{Whole, whole, nothing-found, within-true}
 use Rattle.bank_form.proofs.RoundTrip.{Written, read-write, write-read}
 

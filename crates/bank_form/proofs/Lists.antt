@@ -1,4 +1,4 @@
--- The laws of `every`, `pairwise`, `strided` and `tapsFrom`: what holds of the fields that stand a stride apart holds of their list, and the other way round. Assumes nothing.
+-- The laws of `every`, `pairwise` and `tapsFrom`: what holds of the fields that stand a stride apart holds of their list, and the other way round. Assumes nothing.
 use mathlib.Core.Path.{_≡_, refl, sym, ap, _∙_}
 use mathlib.Core.Bool.{Bool, true, false, _&&_, and-eq-true-iff, and-assoc, and-true}
 use mathlib.Core.List.{List, [], _∷_, _++_, append-assoc, append-nil}
@@ -10,8 +10,10 @@ use native.Mathlib.Omega.{arith}
 use lib.Ieee.{Float}
 use lib.ListN.{length, getD, length-append}
 use Rattle.big_endian.specs.Fields.{floatAt}
+use Rattle.big_endian.specs.Lists.{strided}
+use Rattle.big_endian.proofs.Lists.{strided-none, length-strided, strided-snoc}
 use Rattle.bank_form.specs.Bank.{every, pairwise}
-use Rattle.bank_form.specs.FaultComputed.{strided, rowSize, rowTaps, tapsFrom}
+use Rattle.bank_form.specs.FaultComputed.{rowSize, rowTaps, tapsFrom}
 
 module _ {A : Type 0} where
   -- ---- every
@@ -51,15 +53,6 @@ module _ {A : Type 0} where
       turn false b c d = refl
 
   module _ (f : ℕ → A) (w : ℕ) where
-    pub strided-none : (at : ℕ) → strided f w at 0 ≡ []
-    unfolding strided
-    strided-none at = refl
-
-    pub strided-next : (at n : ℕ) → 0 < n → strided f w at n ≡ f at ∷ strided f w (at + w) (n - 1)
-    unfolding strided
-    strided-next at zero h = absurd (omega arith)
-    strided-next at (suc n) h = rw (sub-one (suc n))
-
     pub every-none : (p : A → Bool) (at : ℕ) → every p (strided f w at 0) ≡ true
     unfolding every strided
     every-none p at = refl
@@ -69,22 +62,10 @@ module _ {A : Type 0} where
     every-next p at zero h = absurd (omega arith)
     every-next p at (suc n) h = rw (sub-one (suc n))
 
-    pub length-strided : (at n : ℕ) → length (strided f w at n) ≡ n
-    unfolding strided
-    length-strided at zero = refl
-    length-strided at (suc n) = ap suc (length-strided (at + w) n)
-
-    pub strided-snoc : (at n : ℕ) → strided f w at (suc n) ≡ strided f w at n ++ (f (at + n * w) ∷ [])
-    unfolding strided
-    strided-snoc at zero = let q : at + 0 * w ≡ at = omega arith in rw q
-    strided-snoc at (suc n) =
-        let q : at + w + n * w ≡ at + suc n * w = omega arith in
-        ap (λ (l : List A). f at ∷ l) (strided-snoc (at + w) n ∙ ap (λ (k : ℕ). strided f w (at + w) n ++ (f k ∷ [])) q)
-
     -- each field differs from those before it exactly if they differ pairwise
     module _ (r : A → A → Bool) (at : ℕ) where
       one-more : (n : ℕ) → pairwise r (strided f w at (suc n)) ≡ (pairwise r (strided f w at n) && every (λ (x : A). r x (f (at + n * w))) (strided f w at n))
-      one-more n = ap (pairwise r) (strided-snoc at n) ∙ pairwise-snoc r (strided f w at n) (f (at + n * w))
+      one-more n = ap (pairwise r) (strided-snoc f w at n) ∙ pairwise-snoc r (strided f w at n) (f (at + n * w))
 
       pub pairwise-before : (n : ℕ) → pairwise r (strided f w at n) ≡ true → (j : ℕ) → j < n → every (λ (x : A). r x (f (at + j * w))) (strided f w at j) ≡ true
       pairwise-before zero h j g = absurd (omega arith)
@@ -96,7 +77,7 @@ module _ {A : Type 0} where
           ]
 
       pub before-pairwise : (n : ℕ) → ((j : ℕ) → j < n → every (λ (x : A). r x (f (at + j * w))) (strided f w at j) ≡ true) → pairwise r (strided f w at n) ≡ true
-      before-pairwise zero h = ap (pairwise r) (strided-none at) ∙ pairwise-none r
+      before-pairwise zero h = ap (pairwise r) (strided-none f w at) ∙ pairwise-none r
       before-pairwise (suc n) h = one-more n ∙ and-eq-true-iff _ _ .1 (before-pairwise n (λ j g. h j (omega arith)), h n (omega arith))
 
 -- ---- the taps of rows

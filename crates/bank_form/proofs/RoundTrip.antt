@@ -19,15 +19,15 @@ use mir.Val.{toZ, ofZ, SFits}
 use mir.Facts.{toZ-ofZ, ofZ-toZ, fits-ofZ}
 use Rattle.big_endian.specs.Bytes.{bytesOf, AreBytes}
 use Rattle.big_endian.specs.Fields.{fieldAt, signedAt, floatAt}
-use Rattle.big_endian.specs.Floats.{floatBytes}
+use Rattle.big_endian.specs.Lists.{strided, fieldBytes, floatBytes}
 use Rattle.big_endian.proofs.Bytes.{length-bytes}
 use Rattle.big_endian.proofs.Fields.{stands, stands-back, field-below}
-use Rattle.big_endian.proofs.Floats.{length-floatBytes}
+use Rattle.big_endian.proofs.Lists.{length-strided, length-fieldBytes}
 use Rattle.bank_form.specs.Bank.{Bank, rows, isTap, every}
 use Rattle.bank_form.specs.Encoding.{rowBytes, bodyBytes, encode}
 use Rattle.bank_form.specs.HoldsComputed.{Each, IsAzimuth, IsFloat, Holds}
-use Rattle.bank_form.specs.FaultComputed.{strided, rowSize, azimuthsFrom, rowTaps, tapsFrom, rowsIn, lengthIn, bankIn}
-use Rattle.bank_form.proofs.Lists.{length-strided, every-append}
+use Rattle.bank_form.specs.FaultComputed.{rowSize, azimuthsFrom, rowTaps, tapsFrom, rowsIn, lengthIn, bankIn}
+use Rattle.bank_form.proofs.Lists.{every-append}
 use Rattle.bank_form.proofs.Walk.{Whole}
 
 -- ---- lists of which every element is of a kind
@@ -63,7 +63,7 @@ length-rowBytes (z ∷ zs) l xs n =
       length-append (bytesOf 2 (ofZ w16 z)) (floatBytes (take m xs) ++ rowBytes zs l (drop m xs)),
       length-bytes 2 (ofZ w16 z),
       length-append (floatBytes (take m xs)) (rowBytes zs l (drop m xs)),
-      length-floatBytes (take m xs),
+      length-fieldBytes 4 (toBits binary32) (take m xs),
     )
 
 pub length-body : (b : Bank) → length (b .taps) ≡ rows b * (2 * b .length) → length (bodyBytes b) ≡ 4 + rows b * rowSize (b .length)
@@ -126,7 +126,7 @@ record TapsStand (s : List ℕ) (p : ℕ) (xs : List Float) (t : List ℕ) : Typ
   after : drop (p + 4 * length xs) s ≡ t
 
 taps-stand : (s : List ℕ) (p : ℕ) (xs : List Float) (t : List ℕ) → Each IsFloat nan xs → drop p s ≡ floatBytes xs ++ t → TapsStand s p xs t
-unfolding floatBytes strided floatAt
+unfolding fieldBytes strided floatAt
 taps-stand s p [] t f e = record { same = refl; after = from-there s (p + 4 * 0) p t (omega arith) e }
 taps-stand s p (x ∷ xs) t f e =
     let here : IsFloat x = unfold Each in f 0 in
@@ -215,7 +215,7 @@ unfolding floatAt isTap
 tap-back s p bytes h = toBits-ofBits binary32 (fieldAt s p 4) (field-below s p 4 bytes) (finite-no-nan (floatAt s p) (and-eq-true-iff (fits binary32 (floatAt s p)) (finite (floatAt s p)) .0 h .1))
 
 taps-forth : (s : List ℕ) (p k : ℕ) → AreBytes s → p + 4 * k ≤ length s → every isTap (strided (floatAt s) 4 p k) ≡ true → floatBytes (strided (floatAt s) 4 p k) ++ drop (p + 4 * k) s ≡ drop p s
-unfolding floatBytes strided every
+unfolding fieldBytes strided every
 taps-forth s p zero bytes h e = sym (from-there s p (p + 4 * 0) _ (omega arith) refl)
 taps-forth s p (suc k) bytes h e =
     let both = and-eq-true-iff (isTap (floatAt s p)) (every isTap (strided (floatAt s) 4 (p + 4) k)) .0 e in

@@ -14,9 +14,10 @@ use lib.Ieee.Scale.{finite}
 use lib.IntN.{ℤ}
 use lib.ListN.{length}
 use Rattle.big_endian.specs.Fields.{fieldAt, signedAt, floatAt}
+use Rattle.big_endian.specs.Lists.{strided}
 use Rattle.bank_form.specs.declared.Fault.{Fault}
 use Rattle.bank_form.specs.Bank.{within, inRange, differ, isTap, every}
-use Rattle.bank_form.specs.FaultComputed.{strided, rowSize, azimuthsFrom, rowTaps, tapsFrom, rowsIn, lengthIn, sound, wrong, orElse, field, tapsFault, isNew, rowFault, rowsFault, headField, headFault, fault}
+use Rattle.bank_form.specs.FaultComputed.{rowSize, azimuthsFrom, rowTaps, tapsFrom, rowsIn, lengthIn, sound, wrong, orElse, field, tapsFault, isNew, rowFault, rowsFault, headField, headFault, fault}
 use Rattle.bank_form.proofs.Lists.{every-append, every-next, every-none}
 use Rattle.bank_form.proofs.Azimuths.{differ-same, differ-other}
 

@@ -8,7 +8,7 @@ use lib.ListN.{length, take, drop}
 use mir.Syntax.{w16}
 use mir.Val.{ofZ}
 use Rattle.big_endian.specs.Bytes.{bytesOf}
-use Rattle.big_endian.specs.Floats.{floatBytes}
+use Rattle.big_endian.specs.Lists.{floatBytes}
 use Rattle.bank_form.specs.Bank.{Bank, rows}
 
 -- a row of each azimuth, with the next 2 * l taps

@@ -4,22 +4,18 @@
 -- field's first byte, and 19, at the file's length, a field that does not end in the file.
 use Prim.Native.Nat.{ℕ, zero, suc, _+_, _-_, _*_}
 use mathlib.Core.Bool.{Bool, cond, _&&_}
-use mathlib.Core.List.{List, [], _∷_, _++_}
+use mathlib.Core.List.{List, [], _++_}
 use lib.Dec.{ltb, eqb}
 use lib.Ieee.{Float}
 use lib.Ieee.Scale.{finite}
 use lib.IntN.{ℤ}
 use lib.ListN.{length}
 use Rattle.big_endian.specs.Fields.{fieldAt, signedAt, floatAt}
+use Rattle.big_endian.specs.Lists.{strided}
 use Rattle.bank_form.specs.declared.Fault.{Fault}
 use Rattle.bank_form.specs.Bank.{Bank, within, inRange, differ, every}
 
 -- ---- what stands in the bytes
-
--- n fields that f reads, w bytes apart, from the offset `at` on
-unfoldable pub strided : {A : Type 0} → (ℕ → A) → ℕ → ℕ → ℕ → List A
-strided f w at zero = []
-strided f w at (suc n) = f at ∷ strided f w (at + w) n
 
 -- the bytes of a row: an azimuth, and l taps for each ear
 abbrev pub rowSize : ℕ → ℕ

@@ -104,6 +104,10 @@ module _ (s : List ℕ) (at count n : ℕ) where
   pub written-lies : count ≤ 8 → at + count ≤ length s → withField s at count n ≡ placed s at (bytesOf count n)
   written-lies h g = written-is (lies-in (length s) at count h g)
 
+-- a field that is put where there is room for it stands there
+pub field-put : (ys last : List ℕ) (at count n : ℕ) → count ≤ 8 → at + count ≤ length ys → last ≡ withField ys at count n → last ≡ placed ys at (bytesOf count n)
+field-put ys last at count n h g e = e ∙ written-lies ys at count n h g
+
 -- a loop that puts the digits in from the last to the first: those from k on stand
 unfoldable pub putFrom : List ℕ → ℕ → ℕ → ℕ → ℕ → List ℕ
 putFrom s at count n k = placed s (at + k) (drop k (bytesOf count n))

@@ -3,6 +3,6 @@ pub mod Bytes
 pub mod Placed
 pub mod Fields
 pub mod Signed
-pub mod Floats
+pub mod Lists
 mod Patterns
 mod Unique

@@ -2,4 +2,4 @@
 pub mod Bytes
 pub mod Placed
 pub mod Fields
-pub mod Floats
+pub mod Lists

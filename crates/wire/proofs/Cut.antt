@@ -53,7 +53,7 @@ module _ (a b : List ℕ) (k : ℕ) (e : length a ≡ k * 24) where
       place : (n c : ℕ) → (k + n) * 24 + c * 4 ≡ k * 24 + (n * 24 + c * 4)
       place n c = omega arith
 
-  pub frames-both : framesIn (a ++ b) ≡ framesIn a ++ framesIn b
+  frames-both : framesIn (a ++ b) ≡ framesIn a ++ framesIn b
   frames-both =
       let first : wholeIn a ≡ k = omega arith in
       ap (λ (m : ℕ). tab 0 m (frameIn (a ++ b))) whole-both
@@ -63,7 +63,7 @@ module _ (a b : List ℕ) (k : ℕ) (e : length a ≡ k * 24) where
       (ap (λ (j : ℕ). tab j (wholeIn b) (frameIn (a ++ b))) (zero-add k ∙ sym (add-zero k)) ∙ moved k 0 (wholeIn b) (frameIn (a ++ b))
       ∙ tab-ext 0 (wholeIn b) (λ n. frameIn (a ++ b) (k + n)) (frameIn b) frame-second)
 
-  pub rest-both : restIn (a ++ b) ≡ restIn b
+  rest-both : restIn (a ++ b) ≡ restIn b
   rest-both =
       let split : wholeIn (a ++ b) * 24 ≡ k * 24 + wholeIn b * 24 = omega (arith, whole-both) in
       ap (λ (m : ℕ). drop m (a ++ b)) split ∙ sym (drop-drop (wholeIn b * 24) (k * 24) (a ++ b)) ∙ ap (drop (wholeIn b * 24)) (drop-at a b (k * 24) e)

@@ -5,7 +5,7 @@ use mathlib.Core.List.{[], _∷_}
 use lib.IntN.{pos, negsuc}
 use lib.Ieee.{nan, fin, toBits}
 use Rattle.big_endian.specs.Bytes.{bytesOf}
-use Rattle.big_endian.specs.Floats.{floatBytes}
+use Rattle.big_endian.specs.Lists.{fieldBytes}
 use Rattle.wire.specs.Ears.{earBytes}
 use Rattle.wire.specs.Line.{decimalBy, decimal, framesWord, unsettledWord, refusedWord, newline, framesLine, refusedLine}
 
@@ -32,5 +32,5 @@ tens = refl
 -- left 1.0 and right -0.5, then a NaN and 0.0
 ears-written : earBytes ((fin false 1 (pos 0) ∷ fin true 1 (negsuc 0) ∷ []) ∷ (nan ∷ fin false 0 (pos 0) ∷ []) ∷ [])
     ≡ 0x3F ∷ 0x80 ∷ 0 ∷ 0 ∷ 0xBF ∷ 0 ∷ 0 ∷ 0 ∷ 0x7F ∷ 0xC0 ∷ 0 ∷ 0 ∷ 0 ∷ 0 ∷ 0 ∷ 0 ∷ []
-unfolding earBytes floatBytes bytesOf toBits
+unfolding earBytes fieldBytes bytesOf toBits
 ears-written = refl

@@ -2,6 +2,7 @@
 use mathlib.Core.Path.{_≡_, refl, sym, ap, _∙_}
 use mathlib.Core.List.{List, [], _∷_, _++_, append-nil, append-assoc}
 use Prim.Native.Nat.{ℕ, zero, suc, _+_, _*_, _≤_}
+use native.Mathlib.Nat.{zero-add}
 use native.Mathlib.Numerals.{add-one}
 use native.Mathlib.Omega.{arith}
 use lib.ListN.{length, length-append}
@@ -9,10 +10,11 @@ use lib.Ieee.{Float, binary32, toBits}
 use Rattle.big_endian.specs.Bytes.{bytesOf}
 use Rattle.big_endian.specs.Placed.{placed}
 use Rattle.big_endian.specs.Fields.{withFloat}
-use Rattle.big_endian.specs.Floats.{floatBytes}
+use Rattle.big_endian.specs.Lists.{floatBytes}
 use Rattle.big_endian.proofs.Bytes.{length-bytes}
+use Rattle.big_endian.proofs.Fields.{field-put}
 use Rattle.big_endian.proofs.Placed.{placed-none, placed-on, length-placed}
-use Rattle.big_endian.proofs.Floats.{float-put, length-floatBytes, floatBytes-two}
+use Rattle.big_endian.proofs.Lists.{length-fieldBytes, fieldBytes-two}
 use Rattle.planes.specs.Tables.{tab}
 use Rattle.planes.proofs.Tables.{tab-snoc}
 use Rattle.planes.specs.Planes.{frameAt, framesOf}
@@ -29,17 +31,18 @@ ears-one f = append-nil (floatBytes f)
 
 -- two samples, one store after the other
 pub both-stored : (out one two : List ℕ) (at : ℕ) (a b : Float) → at + 8 ≤ length out → one ≡ withFloat out at a → two ≡ withFloat one (at + 4) b → two ≡ placed out at (floatBytes (a ∷ b ∷ []))
+unfolding withFloat
 both-stored out one two at a b h e f =
-    let first = float-put out one at a (omega arith) e in
+    let first = field-put out one at 4 (toBits binary32 a) (omega arith) (omega arith) e in
     let four = length-bytes 4 (toBits binary32 a) in
     let long : length one ≡ length out = ap length first ∙ length-placed out at (bytesOf 4 (toBits binary32 a)) (omega arith) in
-    float-put one two (at + 4) b (omega arith) f
+    field-put one two (at + 4) 4 (toBits binary32 b) (omega arith) (omega arith) f
     ∙ ap (λ (ys : List ℕ). placed ys (at + 4) (bytesOf 4 (toBits binary32 b))) first
     ∙ placed-on out at 4 (bytesOf 4 (toBits binary32 a)) (bytesOf 4 (toBits binary32 b)) four (omega (arith, length-bytes 4 (toBits binary32 b)))
-    ∙ ap (placed out at) (sym (floatBytes-two a b))
+    ∙ ap (placed out at) (sym (fieldBytes-two 4 (toBits binary32) a b))
 
 -- the loop: the ears of the frames so far stand at the start
-pub length-ears : (ears : List Float) (stride n : ℕ) → length (earBytes (framesOf ears stride 2 n)) ≡ n * 8
+length-ears : (ears : List Float) (stride n : ℕ) → length (earBytes (framesOf ears stride 2 n)) ≡ n * 8
 unfolding earBytes
 length-ears ears stride n = go 0 n
   where
@@ -47,7 +50,7 @@ length-ears ears stride n = go 0 n
     go i zero = refl
     go i (suc n) =
         length-append (floatBytes (frameAt ears stride 2 i)) (earBytes (tab (suc i) n (frameAt ears stride 2)))
-        ∙ omega (arith, length-floatBytes (frameAt ears stride 2 i), go (suc i) n)
+        ∙ omega (arith, length-fieldBytes 4 (toBits binary32) (frameAt ears stride 2 i), go (suc i) n)
 
 module _ (ears : List Float) (stride : ℕ) (out : List ℕ) where
   pub giving-none : out ≡ placed out 0 (earBytes (framesOf ears stride 2 0))
@@ -61,13 +64,10 @@ module _ (ears : List Float) (stride : ℕ) (out : List ℕ) where
       let frame = floatBytes (frameAt ears stride 2 n) in
       let start : n * 8 ≡ 0 + n * 8 = omega arith in
       let more : so-far ++ frame ≡ earBytes (framesOf ears stride 2 (n + 1)) =
-      sym (rw (add-one n, tab-snoc 0 n (frameAt ears stride 2)) (ears-append (framesOf ears stride 2 n) (frameAt ears stride 2 (0 + n) ∷ []) ∙ ap (λ (t : List ℕ). so-far ++ t) (ears-one (frameAt ears stride 2 (0 + n))) ∙ ap (λ (k : ℕ). so-far ++ floatBytes (frameAt ears stride 2 k)) (zero n))) in
+      sym (rw (add-one n, tab-snoc 0 n (frameAt ears stride 2)) (ears-append (framesOf ears stride 2 n) (frameAt ears stride 2 (0 + n) ∷ []) ∙ ap (λ (t : List ℕ). so-far ++ t) (ears-one (frameAt ears stride 2 (0 + n))) ∙ ap (λ (k : ℕ). so-far ++ floatBytes (frameAt ears stride 2 k)) (zero-add n))) in
       f ∙ ap (λ (k : ℕ). placed ys k frame) start ∙ ap (λ (l : List ℕ). placed l (0 + n * 8) frame) e
-      ∙ placed-on out 0 (n * 8) so-far frame (length-ears ears stride n) (omega (arith, length-floatBytes (frameAt ears stride 2 n)))
+      ∙ placed-on out 0 (n * 8) so-far frame (length-ears ears stride n) (omega (arith, length-fieldBytes 4 (toBits binary32) (frameAt ears stride 2 n)))
       ∙ ap (placed out 0) more
-    where
-      zero : (n : ℕ) → 0 + n ≡ n
-      zero n = omega arith
 
   pub giving-long : (n : ℕ) (ys : List ℕ) → n * 8 ≤ length out → ys ≡ placed out 0 (earBytes (framesOf ears stride 2 n)) → length ys ≡ length out
   giving-long n ys h e = ap length e ∙ length-placed out 0 (earBytes (framesOf ears stride 2 n)) (omega (arith, length-ears ears stride n))

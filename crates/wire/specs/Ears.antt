@@ -2,7 +2,7 @@
 use Prim.Native.Nat.{ℕ}
 use mathlib.Core.List.{List, [], _∷_, _++_}
 use lib.Ieee.{Float}
-use Rattle.big_endian.specs.Floats.{floatBytes}
+use Rattle.big_endian.specs.Lists.{floatBytes}
 
 -- frames one after another: of two samples, left and right
 unfoldable pub earBytes : List (List Float) → List ℕ

@@ -14,7 +14,7 @@ ghost use Prim.Native.Nat.{_+_, _*_, _/_, _≤_};
 ghost use lib.ListN.{length};
 ghost use Rattle.planes.specs.Planes.{frameAt, withFrame};
 ghost use Rattle.big_endian.specs.Placed.{placed};
-ghost use Rattle.big_endian.specs.Floats.{floatBytes};
+ghost use Rattle.big_endian.specs.Lists.{floatBytes};
 ghost use Rattle.wire.specs.Frames.{frameIn, framesIn};
 ghost use Rattle.wire.specs.Promises.{Taken, Given};
 

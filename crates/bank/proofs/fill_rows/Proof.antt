@@ -6,10 +6,12 @@ use lib.ListN.{length}
 use mir.Syntax.{w16}
 use Rattle.big_endian.specs.Fields.{signedAt}
 use Rattle.big_endian.specs.Placed.{placed}
+use Rattle.big_endian.specs.Lists.{strided}
+use Rattle.big_endian.proofs.Lists.{read-none, read-kept}
 use Rattle.big_endian.proofs.Placed.{placed-none, length-placed}
 use Rattle.big_endian.proofs.Signed.{back}
-use Rattle.bank_form.specs.FaultComputed.{strided, rowSize, azimuthsFrom, rowTaps, tapsFrom}
-use Rattle.bank_form.proofs.Lists.{strided-none, length-strided, taps-none, length-taps}
+use Rattle.bank_form.specs.FaultComputed.{rowSize, azimuthsFrom, rowTaps, tapsFrom}
+use Rattle.bank_form.proofs.Lists.{taps-none, length-taps}
 use Rattle.bank.proofs.Fill.{taps-before, azimuth-more, row-more}
 use Rattle.bank.proofs.fill_rows.Statement.{statement}
 use Rattle.bank.proofs.fill_rows.Tie as tie
@@ -25,8 +27,7 @@ module _ (c : tie.At-loop Inv-loop μ-loop) where
   kept-azimuths : length (c .loop .azimuths) ≡ length (c .before .before .before .args .azimuths .now)
   kept-azimuths =
       let args = c .before .before .before .args in
-      let long = length-strided (signedAt (args .file .now)) (rowSize (args .l)) 9 (c .loop .i) in
-      ap length (c .loop .inv .1) ∙ length-placed _ _ _ (omega arith)
+      read-kept (signedAt (args .file .now)) (rowSize (args .l)) 9 _ _ 0 (c .loop .i) (c .loop .inv .1) (omega arith)
 
   kept-taps : length (c .loop .taps) ≡ length (c .before .before .before .args .taps .now)
   kept-taps =
@@ -36,7 +37,7 @@ module _ (c : tie.At-loop Inv-loop μ-loop) where
       ap length (c .loop .inv .2) ∙ length-placed _ _ _ (omega arith)
 
 loop-holds : tie.Need-loop-holds Inv-loop μ-loop
-loop-holds c = (omega arith, sym (ap (placed _ _) (strided-none _ _ _) ∙ placed-none _ _), sym (ap (placed _ _) (taps-none _ _ _) ∙ placed-none _ _))
+loop-holds c = (omega arith, read-none _ _ _ _ _, sym (ap (placed _ _) (taps-none _ _ _) ∙ placed-none _ _))
 
 row-at-requires : tie.Need-row-at-requires Inv-loop μ-loop
 row-at-requires c κs = omega arith

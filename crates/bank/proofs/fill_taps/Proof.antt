@@ -1,14 +1,12 @@
 -- `bank::fill_taps` meets its contract. The taps read so far stand in the list from q on. Assumes nothing.
-use mathlib.Core.Path.{_≡_, sym, ap, _∙_}
+use mathlib.Core.Path.{_≡_, ap, _∙_}
 use Prim.Native.Nat.{_-_, _≤_}
 use native.Mathlib.Omega.{arith}
 use lib.ListN.{length}
 use Rattle.big_endian.specs.Fields.{floatAt}
 use Rattle.big_endian.specs.Placed.{placed}
-use Rattle.big_endian.proofs.Placed.{placed-none, length-placed}
-use Rattle.bank_form.specs.FaultComputed.{strided}
-use Rattle.bank_form.proofs.Lists.{strided-none, length-strided}
-use Rattle.bank.proofs.Fill.{field-more}
+use Rattle.big_endian.specs.Lists.{strided}
+use Rattle.big_endian.proofs.Lists.{read-none, read-kept, read-more}
 use Rattle.bank.proofs.fill_taps.Statement.{statement}
 use Rattle.bank.proofs.fill_taps.Tie as tie
 
@@ -22,11 +20,10 @@ abbrev μ-loop : tie.MeasureT-loop
 kept : (c : tie.At-loop Inv-loop μ-loop) → length (c .loop .taps) ≡ length (c .before .before .before .args .taps .now)
 kept c =
     let args = c .before .before .before .args in
-    let long = length-strided (floatAt (args .file .now)) 4 (args .at) (c .loop .k) in
-    ap length (c .loop .inv .1) ∙ length-placed _ _ _ (omega arith)
+    read-kept (floatAt (args .file .now)) 4 (args .at) _ _ (args .q) (c .loop .k) (c .loop .inv .1) (omega arith)
 
 loop-holds : tie.Need-loop-holds Inv-loop μ-loop
-loop-holds c = (omega arith, sym (ap (placed _ _) (strided-none _ _ _) ∙ placed-none _ _))
+loop-holds c = (omega arith, read-none _ _ _ _ _)
 
 mul-get-f32 : tie.Need-mul-get-f32 Inv-loop μ-loop
 mul-get-f32 c = omega arith
@@ -56,7 +53,7 @@ loop-again : tie.Need-loop-again Inv-loop μ-loop
 loop-again c =
     let args = c .before .before .before .before .before .args in
     let turn = c .before .before .loop in
-    (omega arith, field-more (floatAt (args .file .now)) 4 (args .at) (args .taps .now) (turn .taps) (args .q) (turn .k) _ (turn .inv .1) (omega arith) (c .get-f32 .ensures))
+    (omega arith, read-more (floatAt (args .file .now)) 4 (args .at) (args .taps .now) (turn .taps) (args .q) (turn .k) _ (turn .inv .1) (omega arith) (c .get-f32 .ensures))
 
 same-length : tie.Need-same-length Inv-loop μ-loop
 same-length c = kept (c .before)

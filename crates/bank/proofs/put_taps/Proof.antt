@@ -1,13 +1,14 @@
 -- `bank::put_taps` meets its contract. The taps put so far stand in the file from `at` on. Assumes nothing.
 use mathlib.Core.Path.{_≡_, sym, ap, _∙_}
-use Prim.Native.Nat.{ℕ, _-_, _≤_}
+use Prim.Native.Nat.{ℕ, _+_, _-_, _*_, _≤_}
 use native.Mathlib.Omega.{arith}
-use lib.ListN.{length, take, drop}
+use lib.Ieee.{Float, nan, binary32, toBits}
+use lib.ListN.{length, take, drop, length-drop}
+use lib.Seq.{getD-drop}
 use Rattle.big_endian.specs.Placed.{placed}
-use Rattle.big_endian.specs.Floats.{floatBytes}
-use Rattle.big_endian.proofs.Placed.{placed-none, length-placed}
-use Rattle.big_endian.proofs.Floats.{floatBytes-none, length-floatBytes, float-put}
-use Rattle.bank.proofs.Fill.{tap-more, length-part}
+use Rattle.big_endian.specs.Fields.{withFloat, withField}
+use Rattle.big_endian.specs.Lists.{floatBytes}
+use Rattle.big_endian.proofs.Lists.{write-none, write-kept, write-more}
 use Rattle.bank.proofs.put_taps.Statement.{statement}
 use Rattle.bank.proofs.put_taps.Tie as tie
 
@@ -21,12 +22,11 @@ abbrev μ-loop : tie.MeasureT-loop
 kept : (c : tie.At-loop Inv-loop μ-loop) → length (c .loop .file) ≡ length (c .before .before .before .args .file .now)
 kept c =
     let args = c .before .before .before .args in
-    let long = length-floatBytes (take (c .loop .k) (drop (args .q) (args .taps .now))) in
-    let some = length-part (args .taps .now) (args .q) (c .loop .k) (omega arith) in
-    ap length (c .loop .inv .1) ∙ length-placed _ _ _ (omega arith)
+    let row = drop (args .q) (args .taps .now) in
+    write-kept 4 (toBits binary32) (args .file .now) (args .at) row _ (c .loop .k) (c .loop .inv .1) (omega (arith, length-drop (args .q) (args .taps .now))) (omega arith)
 
 loop-holds : tie.Need-loop-holds Inv-loop μ-loop
-loop-holds c = (omega arith, sym (ap (placed _ _) floatBytes-none ∙ placed-none _ _))
+loop-holds c = let args = c .before .before .args in (omega arith, write-none 4 (toBits binary32) (args .file .now) (args .at) (drop (args .q) (args .taps .now)))
 
 mul-put-f32 : tie.Need-mul-put-f32 Inv-loop μ-loop
 mul-put-f32 c = omega arith
@@ -53,12 +53,13 @@ loop-less : tie.Need-loop-less Inv-loop μ-loop
 loop-less c = omega arith
 
 loop-again : tie.Need-loop-again Inv-loop μ-loop
+unfolding withFloat
 loop-again c =
     let args = c .before .before .before .before .before .before .before .before .before .args in
     let turn = c .before .before .before .before .before .before .loop in
-    let long = kept (c .before .before .before .before .before .before) in
-    let tap = float-put (turn .file) (c .before .before .put-f32 .last .0) _ _ (omega arith) (c .before .before .put-f32 .ensures) in
-    (omega arith, tap-more (args .file .now) (turn .file) _ (args .taps .now) (args .at) (args .q) (turn .k) (turn .inv .1) (omega arith) (omega arith) tap)
+    let row = drop (args .q) (args .taps .now) in
+    let tap = c .before .before .put-f32 .ensures ∙ ap (λ (x : Float). withField (turn .file) (args .at + 4 * turn .k) 4 (toBits binary32 x)) (sym (getD-drop (args .q) (args .taps .now) (turn .k) nan)) in
+    (omega arith, write-more 4 (toBits binary32) (args .file .now) (args .at) row (turn .file) _ nan (turn .k) (omega arith) (turn .inv .1) (omega (arith, length-drop (args .q) (args .taps .now))) (omega arith) tap)
 
 same-length : tie.Need-same-length Inv-loop μ-loop
 same-length c = kept (c .before)
