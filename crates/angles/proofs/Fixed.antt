@@ -65,7 +65,7 @@ module _ {g e : ℕ} {Z : Fraction} (c : Close one (fixed g) Z e) where
   renamed : (x : Fraction) → 0 < x .over → Same x (whole 1 ⊖ fixed g) → Close one x (whole 1 ⊖ Z) e
   renamed x X h = close-same x (whole 1 ⊖ Z) X (mul-pos {m = 1} (lit< tt) (c .second)) h (same-refl (whole 1 ⊖ Z)) one-less
 
-  pub rest-upright : g ≤ one → Close one (fixed (one - g)) (whole 1 ⊖ Z) e
+  rest-upright : g ≤ one → Close one (fixed (one - g)) (whole 1 ⊖ Z) e
   rest-upright h = renamed (fixed (one - g)) (pow-pos 60) (omega arith)
 
   -- as how far it is from 1, and its sign

@@ -35,7 +35,7 @@ use Rattle.angles.proofs.Limits as Limits
 
 -- ---- which floats are inside: those of a number of 1080 at most in size
 
-pub inside-most : (s : Bool) (m : ℕ) (e : ℤ) → T (isInside limit (fin s m e)) → m * up e ≤ 1080 * down e
+inside-most : (s : Bool) (m : ℕ) (e : ℤ) → T (isInside limit (fin s m e)) → m * up e ≤ 1080 * down e
 unfolding ofInt
 inside-most s m e t = go s (inside-size false 135 (pos 3) (fin s m e) t)
   where

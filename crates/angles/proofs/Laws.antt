@@ -28,7 +28,7 @@ outcome-kept = kept
 pub accepted : (d : Float) → 0 < number d .over → AtMost (magnitude (number d)) (whole 1080) → refusalOf d ≡ 0
 accepted = Floats.accepted
 
-pub rounded-accepted : (d : Float) {k : ℕ} (a : Fraction) → Within k (number d) a → AtMost (magnitude a) (whole 1079) → refusalOf d ≡ 0
+rounded-accepted : (d : Float) {k : ℕ} (a : Fraction) → Within k (number d) a → AtMost (magnitude a) (whole 1079) → refusalOf d ≡ 0
 rounded-accepted d {k} a c h =
     let n : Size 1 (number d) 1080 = size-near (close-unit (pow-pos k) (above (2 ^ k) (pow-pos k)) (within-close c)) (at-most-size h) in
     accepted d (c .first) (size-at-most n)
@@ -37,9 +37,6 @@ rounded-accepted d {k} a c h =
     above p h = omega arith
 
 module _ (w : Wave) (d : Float) (answer : Answer) (p : Promise w d answer) where
-  pub refusal-is : answer .refusal ≡ refusalOf d
-  refusal-is = ap (λ (r : Answer). r .refusal) (p .is)
-
   -- ---- nearer than promised
   pub value-near : refusalOf d ≡ 0 → Within 50 (number (answer .value)) (defined w (number d))
   value-near h =

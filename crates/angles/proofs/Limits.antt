@@ -27,7 +27,7 @@ module _ (s : Bool) (m : ℕ) (e : ℤ) where
   pub accepted-inside : (x : Float) → refusesAngle limit x ≡ false → T (isInside limit x)
   accepted-inside x h = subst T (sym (not-false (isInside limit x) (sym (refused-is x) ∙ h))) tt
 
-  pub inside-number : (x : Float) → T (isInside limit x) → 0 < number x .over
+  inside-number : (x : Float) → T (isInside limit x) → 0 < number x .over
   unfolding isInside le lt eq neg
   inside-number nan t = absurd t
   inside-number (inf true) t = absurd t

@@ -5,6 +5,7 @@ use Prim.Native.Nat.{ℕ}
 use native.Mathlib.Omega.{arith}
 use lib.IntN.{pos, negsuc}
 use lib.Ieee.{Float, nan, inf, fin, binary64, lt, le, eq, neg, div, ofInt}
+use lib.Ieee.Positive.{num}
 use Rattle.series.specs.Sums.{sine, cosine}
 use Rattle.series.specs.Angles.{turned, isMultiple, quarters}
 use Rattle.angles.specs.declared.Answer.{Answer}
@@ -16,11 +17,6 @@ sign : Float → Bool
 sign nan = false
 sign (inf s) = s
 sign (fin s m e) = s
-
-digits : Float → ℕ
-digits nan = 0
-digits (inf s) = 0
-digits (fin s m e) = m
 
 -- it refuses every angle: that of 1 degree is accepted
 refuses-always : Promise sine (ofInt binary64 (pos 1)) (record { refusal = 3; value = zero }) → ⊥
@@ -39,8 +35,8 @@ refuses-1080 p = let e : _≡_ {A = ℕ} 3 0 = ap (λ (r : Answer). r .refusal) 
 
 -- it says 0.0 at every angle: at 90 the sine is 1.0
 always-zero : Promise sine (ofInt binary64 (pos 90)) (record { refusal = 0; value = zero }) → ⊥
-unfolding refusesAngle isInside lt le eq neg ofInt isMultiple quarters turned digits
-always-zero p = let e : _≡_ {A = ℕ} 0 1 = ap digits (p .exact refl tt) in omega arith
+unfolding refusesAngle isInside lt le eq neg ofInt isMultiple quarters turned
+always-zero p = let e : _≡_ {A = ℕ} 0 1 = ap num (p .exact refl tt) in omega arith
 
 -- it gives 0 a sign
 minus-zero : Promise sine (ofInt binary64 (pos 180)) (record { refusal = 0; value = fin true 0 (pos 0) }) → ⊥
@@ -54,5 +50,5 @@ side-forgotten p = false≢true (ap sign (p .exact refl tt))
 
 -- it takes degrees for radians: at 1 degree the sine of 1 radian, 0.8414709848078965
 radians-taken : Promise sine (ofInt binary64 (pos 1)) (record { refusal = 0; value = fin false 3789648413623927 (negsuc 51) }) → ⊥
-unfolding refusesAngle isInside lt le eq computed place cut units turned sineAt short times radians nesting nest rounded ofInt div neg digits
-radians-taken p = let e : _≡_ {A = ℕ} 3789648413623927 19649662781917 = ap (λ (r : Answer). digits (r .value)) (p .is) in omega arith
+unfolding refusesAngle isInside lt le eq computed place cut units turned sineAt short times radians nesting nest rounded ofInt div neg
+radians-taken p = let e : _≡_ {A = ℕ} 3789648413623927 19649662781917 = ap (λ (r : Answer). num (r .value)) (p .is) in omega arith

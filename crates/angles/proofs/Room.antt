@@ -20,7 +20,7 @@ nest-most y j (suc n) = omega arith
 pub twelve : (j : ℕ) → 2 ≤ j → 12 ≤ (j + 1) * (j + 2)
 twelve j h = mul-le-mul {n₁ = 3} {m₁ = 4} {n₂ = j + 1} {m₂ = j + 2} (omega arith) (omega arith)
 
-pub times-most : (y f : ℕ) → f ≤ one → times y f ≤ y
+times-most : (y f : ℕ) → f ≤ one → times y f ≤ y
 unfolding times
 times-most y f h = div-le-of-le-mul one (le-trans (mul-le-mul-left y h) (le-of-eq (mul-comm y one)))
 
@@ -41,7 +41,7 @@ pub short-high : (a : ℕ) → half < a → short a ≡ turn - a
 unfolding short
 short-high a h = ap (λ (b : Bool). cond b a (turn - a)) (lt-leb a half h)
 
-pub short-most : (a : ℕ) → short a ≤ half
+short-most : (a : ℕ) → short a ≤ half
 unfolding short
 short-most a = go (leb a half) (leb→le a half) (nleb→lt a half)
   where

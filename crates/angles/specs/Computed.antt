@@ -18,7 +18,7 @@ turn = 360 * 2 ^ 52
 abbrev pub half : ℕ
 half = 180 * 2 ^ 52
 
--- pi / 180 in units of 2 ^ -68, cut
+-- a degree in radians, by document 01's digits of pi, in units of 2 ^ -68, cut
 abbrev pub degree : ℕ
 degree = 5151302725743731798
 

@@ -3,7 +3,8 @@
 // `sine` and `cosine` take any f64. One that is no number from -1080 to 1080 is refused with 3 and 0.0. At
 // every other the promise (specs/Promise.antt) fixes each bit of the value, and says beside it that the
 // value is within 2^-40 of the defined one (crate `series`), how large that is at most, and that at a
-// multiple of 90 it is exactly +0.0, 1.0 or -1.0.
+// multiple of 90 it is exactly +0.0, 1.0 or -1.0. `is_inside` is the one test of an angle's range, which
+// `harmonics` refuses by too.
 //
 // The program works in whole numbers: the angle in units of 2^-52 degree, all else in units of 2^-60, and
 // only the first and the last step, which are exact, in floats. No branch is made for the multiples of 90:
@@ -45,7 +46,7 @@ const TURN: u64 = 1621295865853378560;
 
 const HALF: u64 = 810647932926689280;
 
-// pi / 180 in units of 2^-68, cut.
+// A degree in radians, by document 01's digits of pi, in units of 2^-68, cut.
 const DEGREE: u64 = 5151302725743731798;
 
 const REFUSED: u8 = 3;
@@ -88,11 +89,18 @@ fn outermost(y: u64, top: u64) -> u64
     nesting(y, f, j)
 }
 
-// Whether d is from -1080 to 1080: no NaN is, and no infinity.
-fn is_inside(d: f64) -> bool
+// Whether an angle is from -limit to limit.
+pub fn is_inside(limit: f64, angle: f64) -> bool
+    ensures { λ r. ⌜ r ≡ isInside limit angle ⌝ }
+{
+    angle >= -limit && angle <= limit
+}
+
+// Whether a sine is given: no NaN is from -1080 to 1080, and no infinity.
+fn is_accepted(d: f64) -> bool
     ensures { λ r. ⌜ r ≡ isInside Said.limit d ⌝ }
 {
-    d >= -1080.0 && d <= 1080.0
+    is_inside(1080.0, d)
 }
 
 // An angle of 0 to 1080 degrees in units of 2^-52 degree, cut.
@@ -172,7 +180,7 @@ fn cosine_at(a: u64) -> f64
 pub fn sine(d: f64) -> Answer
     ensures { λ r. ⌜ Said.Promise Sums.sine d r ⌝ }
 {
-    if is_inside(d) {
+    if is_accepted(d) {
         Answer {
             refusal: 0,
             value: sine_at(turned(d)),
@@ -189,7 +197,7 @@ pub fn sine(d: f64) -> Answer
 pub fn cosine(d: f64) -> Answer
     ensures { λ r. ⌜ Said.Promise Sums.cosine d r ⌝ }
 {
-    if is_inside(d) {
+    if is_accepted(d) {
         Answer {
             refusal: 0,
             value: cosine_at(turned(d)),

@@ -1,13 +1,12 @@
--- The tables of angles: every entry lies from -180 to 180, by one test over each table, so that an entry and ten times an entry are i32s; beyond a table stands 0. Assumes nothing.
+-- The tables of angles: every entry lies from -180 to 180, by one test over each table, so that an entry and ten times an entry are i32s. Assumes nothing.
 use mathlib.Core.Path.{_≡_, refl, sym, ap, _∙_, subst}
 use mathlib.Core.Bool.{Bool, true, _&&_}
 use mathlib.Core.List.{List, [], _∷_}
-use Prim.Native.Nat.{ℕ, zero, suc, _+_, _*_, _≤_}
-use native.Mathlib.Nat.{le-of-suc-le-suc, not-suc-le-zero}
+use Prim.Native.Nat.{ℕ, zero, suc, _+_, _*_}
 use native.Mathlib.Omega.{arith}
 use lib.Dec.{T, leb, leb→le}
 use lib.IntN.{ℤ, pos, negsuc, _*ℤ_, negℤ}
-use lib.ListN.{length, getD}
+use lib.ListN.{getD}
 use lib.Ieee.{binary64, ofInt}
 use lib.Ieee.Fits.{and-l, and-r}
 use mir.Syntax.{w16, w32}
@@ -56,17 +55,11 @@ pub tenths-fit-16 : (z : ℤ) → T (turned z) → SFits w16 (z *ℤ pos 10)
 tenths-fit-16 (pos n) t = record { sfits = omega (arith, leb→le n 180 t) }
 tenths-fit-16 (negsuc n) t = subst (λ (k : ℕ). SFits w16 (negℤ (pos k))) (sym (ten-more n)) record { sfits = omega (arith, leb→le n 179 t) }
 
-pub tenths-fit : (z : ℤ) → T (turned z) → SFits w32 (z *ℤ pos 10)
+tenths-fit : (z : ℤ) → T (turned z) → SFits w32 (z *ℤ pos 10)
 tenths-fit z t = sfits-widen {w = w16} {w′ = w32} tt (tenths-fit-16 z t)
 
-pub back : (z : ℤ) → T (turned z) → toZ w32 (ofZ w32 z) ≡ z
+back : (z : ℤ) → T (turned z) → toZ w32 (ofZ w32 z) ≡ z
 back z t = toZ-ofZ {w = w32} (fits z t)
-
--- ---- beyond a table stands 0
-pub beyond : {A : Type 0} (xs : List A) (i : ℕ) (d : A) → length xs ≤ i → getD xs i d ≡ d
-beyond [] i d h = refl
-beyond (x ∷ xs) zero d h = absurd (not-suc-le-zero h)
-beyond (x ∷ xs) (suc i) d h = beyond xs i d (le-of-suc-le-suc h)
 
 -- ---- what a table gives for the layout at hand
 pub read : (m l : Layout) (i : ℕ) (z : ℤ) → m ≡ l → z ≡ degreesOf l i → toZ w32 (ofZ w32 z) ≡ degreesOf m i

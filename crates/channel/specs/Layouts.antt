@@ -1,13 +1,13 @@
 -- Document 01, item 2: "Layouts: Mono, Stereo, Surround51, Surround71, Custom(n) with n 1..16"; 'Gains', surround: "speakers, in channel order. 5.1: 30, -30, 0, LFE, 110, -110.
 -- 7.1: 30, -30, 0, LFE, 90, -90, 150, -150"; decoder: "LFE takes the 0 degree row. Stereo is 30, -30; Mono 0"; and the eight positions of 003. Definitions only. Angles are whole degrees.
 use Prim.Native.Nat.{ℕ, _-_}
-use mathlib.Core.Bool.{Bool, true, false, cond, _||_}
+use mathlib.Core.Bool.{Bool, true, false, cond}
 use mathlib.Core.List.{List, [], _∷_}
-use lib.Dec.{eqb, ltb}
+use lib.Dec.{eqb}
 use lib.IntN.{ℤ, pos, negsuc, _*ℤ_}
 use lib.ListN.{getD}
 use lib.Ieee.{Float, binary64, ofInt}
-use Rattle.refusals.specs.Refusals.{firstOf, _when_}
+use Rattle.refusals.specs.Refusals.{firstOf, _when_, outside}
 use Rattle.channel.specs.declared.Layout.{Layout}
 use Rattle.channel.specs.declared.Layout.the-variants.{Mono, Stereo, Surround51, Surround71, Custom}
 use Rattle.channel.specs.declared.Counted.{Counted}
@@ -21,7 +21,7 @@ channelsOf (Custom n) = n
 
 -- a number of channels that no layout has: 0, or above 16. Only a Custom can have it.
 abbrev pub uncountable : ℕ → Bool
-uncountable n = eqb n 0 || ltb 16 n
+uncountable n = outside n 16
 
 -- n channels; or, where they are refused, the refusal and none
 abbrev pub countedBy : ℕ → Bool → ℕ → Counted

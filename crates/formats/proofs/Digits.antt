@@ -10,7 +10,7 @@ use lib.Ieee.{size}
 use lib.Ieee.Digits.{size-lt, size-le}
 
 -- ---- powers of two are in the order of their exponents
-pub exponent-lt : (i p : ℕ) → 2 ^ i < 2 ^ p → i < p
+exponent-lt : (i p : ℕ) → 2 ^ i < 2 ^ p → i < p
 exponent-lt i p h = lt-of-not-le (λ (g : p ≤ i). lt-irrefl (2 ^ i) (lt-of-lt-of-le h (pow-mono g)))
 
 pub exponent-le : (i p : ℕ) → 2 ^ i ≤ 2 ^ p → i ≤ p

@@ -144,7 +144,6 @@ unpack f b h = subst (λ (v : Float). HasValue v false (digits f (b / hid f) (b 
 
 -- ---- what `fits` says of a number that is not zero
 pub record Held (f : Format) (m : ℕ) (e : ℤ) : Type 0 where
-  pub odd-digits : m % 2 ≡ 1
   pub few-digits : m < 2 ^ prec f
   pub deep : down e ≤ 2 ^ low f
   pub small : m * up e < 2 ^ suc (emax f) * down e
@@ -158,7 +157,6 @@ held f s m e t =
     let d = ltb (suc m * up e) (2 ^ suc (emax f) * down e) in
     let abc = and-l (a && b && c) d t in
     record {
-      odd-digits = eqb→eq (suc m % 2) 1 (and-l a b (and-l (a && b) c abc));
       few-digits = ltb→lt (suc m) (2 ^ prec f) (and-r a b (and-l (a && b) c abc));
       deep = leb→le (down e) (2 ^ low f) (and-r (a && b) c abc);
       small = ltb→lt (suc m * up e) (2 ^ suc (emax f) * down e) (and-r (a && b && c) d t);

@@ -1,5 +1,5 @@
 -- a / b to the nearest whole number, a tie to the even one (`closest` of the kit): by its three cases, its bounds, and what makes it the nearest: no multiple of b is nearer to a
--- (`closest-best`), and if another is as near the number is even (`closest-even`). Assumes nothing.
+-- (`rounded-best`), and if another is as near the number is even (`rounded-even`). Assumes nothing.
 use mathlib.Core.Path.{_≡_, refl, sym, ap, _∙_, subst}
 use mathlib.Core.Logic.{_⊎_, inl, inr}
 use Prim.Native.Nat.{ℕ, suc, _+_, _*_, _/_, _%_, _≤_, _<_, compare, Ordering, Ordering·lt, Ordering·eq, Ordering·gt}

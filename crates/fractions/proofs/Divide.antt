@@ -50,7 +50,7 @@ left-least p m o W L h = subst (λ (n : ℕ). m * W + L * o ≤ n * W → L * o 
     go : (z : ℕ) → m * W + L * o ≤ (m + z) * W → L * o ≤ z * W
     go z k = omega arith
 
-pub left-close : (p m o p' m' o' W E : ℕ) → m ≤ p → m' ≤ p' → (p * o' + m' * o) * W ≤ (p' * o + m * o') * W + E * (o * o') → (p - m) * o' * W ≤ (p' - m') * o * W + E * (o * o')
+left-close : (p m o p' m' o' W E : ℕ) → m ≤ p → m' ≤ p' → (p * o' + m' * o) * W ≤ (p' * o + m * o') * W + E * (o * o') → (p - m) * o' * W ≤ (p' - m') * o * W + E * (o * o')
 left-close p m o p' m' o' W E h h' =
     subst₂ (λ (n n' : ℕ). (n * o' + m' * o) * W ≤ (n' * o + m * o') * W + E * (o * o') → (p - m) * o' * W ≤ (p' - m') * o * W + E * (o * o')) (add-sub-of-le h) (add-sub-of-le h') (go (p - m) (p' - m'))
   where

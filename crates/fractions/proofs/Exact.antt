@@ -24,7 +24,7 @@ pub record Holds (f : Format) (q : Fraction) : Type 0 where
   pub is : gap (q .plus) (q .minus) * 2 ^ low f ≡ units * q .over
 
 -- nothing is rounded away, and the sign is the one that was handed over
-pub result-value : (f : Format) {z : Float} {q : Fraction} → 0 < q .over → Holds f q → (r : Result f z q) → HasValue z (r .sign) (r .size) (q .over)
+result-value : (f : Format) {z : Float} {q : Fraction} → 0 < q .over → Holds f q → (r : Result f z q) → HasValue z (r .sign) (r .size) (q .over)
 result-value f {z} {q} D h r =
     subst (λ (x : Float). HasValue x (r .sign) (r .size) (q .over)) (sym (r .is))
     (round-exact f (r .sign) (r .size) (q .over) (h .grid .c) (h .grid .i) D (h .grid .fit) (subst (λ (n : ℕ). n < overflow f) (h .grid .is) (h .grid .room))
@@ -37,18 +37,22 @@ pub result-exact : (f : Format) {z : Float} {q : Fraction} → 0 < q .over → H
 result-exact f {z} {q} D h r =
     same-trans (number z) (signed (r .sign) (r .size) (q .over)) q D (value-same z (r .sign) (r .size) (q .over) (result-value f D h r)) (difference-same (r .sign) (r .size) q (r .difference))
 
+-- ---- the whole numbers of the format's digits are below its overflow
+pub digits-below : (f : Format) → 2 ^ (prec f + low f) ≤ 2 ^ (low f + suc (emax f))
+digits-below f = pow-mono (over (prec f) (emax f) (low f) (reach f))
+  where
+    over : (p e l : ℕ) → p ≤ suc e → p + l ≤ l + suc e
+    over p e l h = omega arith
+
 -- ---- a literal ±n / 2 ^ j
 pub literal-held : (f : Format) (s : Bool) (n j : ℕ) → n < 2 ^ prec f → j ≤ low f → HasValue (round f s n (2 ^ j)) s n (2 ^ j)
 literal-held f s n j h l =
     let i = low f - j in
-    round-exact f s n (2 ^ j) n i (pow-pos j) h (lt-of-lt-of-le (shl-lt (prec f) i h) (pow-mono (le-trans (more i (prec f) (low f) (sub-le (low f) j)) (over (prec f) (emax f) (low f) (reach f)))))
+    round-exact f s n (2 ^ j) n i (pow-pos j) h (lt-of-lt-of-le (shl-lt (prec f) i h) (le-trans (pow-mono (more i (prec f) (low f) (sub-le (low f) j))) (digits-below f)))
     (ap (λ (k : ℕ). n * k) (ap (λ (k : ℕ). 2 ^ k) (sym (sub-add-cancel l)) ∙ pow-add 2 i j) ∙ sym (mul-assoc n (2 ^ i) (2 ^ j)))
   where
     more : (i p l : ℕ) → i ≤ l → p + i ≤ p + l
     more i p l h = omega arith
-
-    over : (p e l : ℕ) → p ≤ suc e → p + l ≤ l + suc e
-    over p e l h = omega arith
 
 -- ---- the sign
 units-plus : (f : Format) (q k : ℕ) → number (written f false q k) .minus ≡ 0

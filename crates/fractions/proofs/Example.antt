@@ -2,19 +2,17 @@
 use mathlib.Core.Path.{_≡_, ap, _∙_}
 use mathlib.Core.Bool.{false}
 use mathlib.Core.List.{[], _∷_}
-use Prim.Native.Nat.{ℕ, _+_, _-_, _*_, _/_, _^_, _≤_}
+use Prim.Native.Nat.{ℕ, _+_, _*_, _/_, _^_, _≤_}
 use lib.Dec.{T, lit<, lit≤}
 use lib.Ieee.{Float, binary64, fits, round, add, sub, mul, div}
-use Rattle.fractions.specs.Fraction.{Fraction, fraction, number, whole, square, _⊗_, _⊘_, _⊖_, AtMost, Within}
+use Rattle.fractions.specs.Fraction.{Fraction, fraction, number, whole, _⊗_, _⊘_, _⊖_, AtMost, Within}
 use Rattle.fractions.specs.Approximates.{Approximates}
 use Rattle.fractions.specs.Squares.{sumSquares, BySquares, RootOf}
 use Rattle.fractions.specs.Example.{angleBits, angleMost, productBits, product, polynomialBits, polynomial, h, gainBits, leastSum, rowBits}
-use Rattle.fractions.proofs.Restate.{part-⊗, ⊗-assoc, inverse}
-use Rattle.fractions.proofs.Within.{within-equal, at-most-least, whole-size, whole-least}
-use Rattle.fractions.proofs.Close.{Close, Least}
+use Rattle.fractions.proofs.Restate.{part-⊗, ⊗-assoc}
+use Rattle.fractions.proofs.Within.{within-equal, at-most-least}
 use Rattle.fractions.proofs.Divide.{least-unit}
-use Rattle.fractions.proofs.Roots.{root-square, root-least}
-use Rattle.fractions.proofs.Expression.{literal, held, _-'_, _*'_, _/'_, scale, sound, within, value, divisor}
+use Rattle.fractions.proofs.Expression.{literal, held, _-'_, _*'_, scale, sound, within, value}
 use Rattle.fractions.proofs.Sums.{squaresFrom, square-in-sum}
 use Rattle.fractions.proofs.Normalised.{root-near, over-root, normalised}
 

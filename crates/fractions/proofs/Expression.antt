@@ -3,11 +3,10 @@
 use mathlib.Core.Path.{_≡_, refl, sym, ap, _∙_, subst}
 use mathlib.Core.List.{List, [], _∷_, map}
 use mathlib.Core.Bool.{Bool, true, false, _&&_, cond}
-use Prim.Native.Nat.{ℕ, zero, suc, _+_, _*_, _-_, _/_, _^_, _≤_, _<_, zero-le}
-use native.Mathlib.Nat.{lt-irrefl, le-of-lt, le-of-suc-le-suc, not-suc-le-zero, lt-of-le-of-lt, lt-of-not-le, sub-eq-zero-of-le, add-sub-of-le, zero-mul, zero-div, div-mul-le-self, mul-le-mul-right, le-of-mul-le-mul-right}
+use Prim.Native.Nat.{ℕ, suc, _+_, _*_, _-_, _/_, _^_, _≤_, _<_, zero-le}
+use native.Mathlib.Nat.{lt-irrefl, le-of-lt, lt-of-le-of-lt, lt-of-not-le, sub-eq-zero-of-le, add-sub-of-le, zero-mul, zero-div, div-mul-le-self, mul-le-mul-right, le-of-mul-le-mul-right}
 use native.Mathlib.Decide.{decLe}
 use native.Mathlib.Omega.{arith}
-use lib.ListN.{length, getD}
 use lib.Dec.{T, leb, ltb, leb→le, ltb→lt, lit<}
 use lib.Pow.{pow-pos}
 use lib.Ieee.{Float, Format, prec, emax, low, fits, round, neg, add, sub, mul, div}
@@ -259,13 +258,6 @@ module _ (f : Format) where
   pub each-within : (k : ℕ) (l : List Expression) → T (pass k l) → EachWithin k (map (run f) l) (map exact l)
   each-within k [] t = tt
   each-within k (a ∷ l) t = (within k a (and-l (passes k a) (pass k l) t), each-within k l (and-r (passes k a) (pass k l) t))
-
-pub each-at : (k : ℕ) (xs : List Float) (qs : List Fraction) → EachWithin k xs qs → (i : ℕ) (x : Float) (q : Fraction) → i < length xs → Within k (number (getD xs i x)) (getD qs i q)
-each-at k [] [] h i x q l = absurd (not-suc-le-zero l)
-each-at k (y ∷ ys) (p ∷ ps) h zero x q l = h .0
-each-at k (y ∷ ys) (p ∷ ps) h (suc i) x q l = each-at k ys ps (h .1) i x q (le-of-suc-le-suc l)
-each-at k [] (p ∷ ps) h i x q l = absurd h
-each-at k (y ∷ ys) [] h i x q l = absurd h
 
 -- ---- the ways to have a `Known`
 pub negative-nat : (qp qm qo mp mm mo : ℕ) → gap qp qm * mo + mm * qo ≤ mp * qo + 0 * mo → mm * qo + qm * mo ≤ qp * mo + mp * qo

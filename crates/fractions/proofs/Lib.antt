@@ -14,7 +14,6 @@ pub mod Rounding
 pub mod Operations
 pub mod Exact
 pub mod Held
-pub mod Back
 -- Bounds: the calculus of errors, expressions, and quotients by a root.
 pub mod Near
 pub mod Expression

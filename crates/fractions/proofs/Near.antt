@@ -9,7 +9,7 @@ use lib.Dec.{T}
 use lib.Pow.{pow-pos}
 use lib.Ieee.{Float, Format, prec, low, round, neg, add, sub, mul, div}
 use Rattle.fractions.specs.Fraction.{Fraction, opposite, signed, number, _⊕_, _⊖_, _⊗_, _⊘_}
-use Rattle.fractions.proofs.Close.{Close, Size, Least, close-opposite, close-wider, same-close, close-trans, close-add, close-mul, size-opposite, size-wider, size-unit, size-near, size-add, size-mul, ceiling, ceiling-ge}
+use Rattle.fractions.proofs.Close.{Close, Size, Least, close-opposite, same-close, close-trans, close-add, close-mul, size-opposite, size-unit, size-near, size-add, size-mul, ceiling, ceiling-ge}
 use Rattle.fractions.proofs.Number.{number-neg, value-same, value-number}
 use Rattle.fractions.proofs.Rounding.{rounding, fine, fine-unit, fine-most, rounds-close, Result, signed-difference, result-rounds}
 use Rattle.fractions.proofs.Operations.{add-result, mul-result, div-result, number-positive}
@@ -23,9 +23,6 @@ pub record Near (W : ℕ) (x q : Fraction) (M E : ℕ) : Type 0 where
 -- |x| ≤ (M + E) / W
 pub near-size : {W M E : ℕ} {x q : Fraction} → Near W x q M E → Size W x (M + E)
 near-size a = size-near (a .close) (a .size)
-
-pub near-wider : {W M E M' E' : ℕ} {x q : Fraction} → Near W x q M E → M ≤ M' → E ≤ E' → Near W x q M' E'
-near-wider a h k = record { close = close-wider (a .close) k; size = size-wider (a .size) h }
 
 -- a result of magnitude B / W does not overflow, and is moved by `rounding f B` units at most
 pub result-close : (f : Format) {W B : ℕ} {z : Float} {q : Fraction} → T (fine f W B) → 0 < q .over → Size W q B → Result f z q → Close W (number z) q (rounding f B)

@@ -3,18 +3,16 @@
 use mathlib.Core.Path.{_≡_, subst}
 use mathlib.Core.Bool.{Bool, false, _&&_}
 use Prim.Native.Nat.{ℕ, _+_, _-_, _*_, _^_, _≤_, _<_}
-use native.Mathlib.Nat.{le-trans, le-of-lt, sub-pos-iff-lt, mul-pos, mul-le-mul-right}
-use native.Mathlib.Omega.{arith}
+use native.Mathlib.Nat.{le-trans, mul-pos, mul-le-mul-right}
 use lib.Dec.{T, leb, ltb, leb→le, ltb→lt, lit<, lit≤}
-use lib.Pow.{pow-pos}
 use lib.Ieee.{Float, Format, binary64, fits, round, mul, div}
 use lib.Ieee.Fits.{and-l, and-r}
 use lib.Ieee.Positive.{positive, first-pos}
-use Rattle.fractions.specs.Fraction.{Fraction, whole, unit, number, square, _⊗_, _⊘_, Same, Less, AtMost}
+use Rattle.fractions.specs.Fraction.{Fraction, whole, number, square, _⊘_, Less, AtMost}
 use Rattle.fractions.specs.Approximates.{Approximates}
-use Rattle.fractions.specs.Squares.{raised, lowered, BySquares, RootOf}
-use Rattle.fractions.proofs.Order.{same-refl, same-sym, same-mul, less-same, at-most-same}
-use Rattle.fractions.proofs.Restate.{same-square, same-divide, inverse}
+use Rattle.fractions.specs.Squares.{BySquares, RootOf}
+use Rattle.fractions.proofs.Order.{same-refl, not-below, zero-at-most}
+use Rattle.fractions.proofs.Restate.{inverse}
 use Rattle.fractions.proofs.Within.{whole-size, whole-least}
 use Rattle.fractions.proofs.Close.{Close, Least, same-close, close-trans, ceiling, ceiling-ge}
 use Rattle.fractions.proofs.Rounding.{fine}
@@ -33,7 +31,7 @@ pub root-near : {W M E : ℕ} {s S : Fraction} (P : ℕ) (r : Fraction) → 5 �
 root-near {W} {M} {E} P r h a n = close-trans (root-square (ceiling (3 * (M + E)) P) h (ceiling-ge (3 * (M + E)) P (le-trans (lit< tt) h)) a (near-size n)) (n .close)
 
 -- ---- from an expression
-pub run-by-squares : (f : Format) (k t L : ℕ) (a : Expression) (G r S : Fraction) → exact a ≡ G ⊘ r → T (bound f a .good && squares-fine scale k (bound f a .most) (bound f a .error) t L)
+run-by-squares : (f : Format) (k t L : ℕ) (a : Expression) (G r S : Fraction) → exact a ≡ G ⊘ r → T (bound f a .good && squares-fine scale k (bound f a .most) (bound f a .error) t L)
     → Close scale (square r) S t → Least scale r L → BySquares k (number (run f a)) G S
 run-by-squares f k t L a G r S e h c l =
     let i = bound f a .good in
@@ -48,7 +46,7 @@ abbrev pub least : ℕ
 least = scale - 2 ^ 54
 
 module _ {bits : ℕ} {most : Fraction} {x : Float} {a : Fraction} (r : Float) (n : ℕ) (s : Approximates bits most x a) (one : 1 ≤ n) (top : n ≤ 16) (root : RootOf (2 ^ 53) (number r) (whole n)) (fit : T (fits binary64 r)) where
-  pub near-n : Close scale (square (number r)) (whole n) off
+  near-n : Close scale (square (number r)) (whole n) off
   near-n = root-square off (lit≤ tt) (lit≤ tt) root (whole-size scale n top)
 
   pub above-least : Least scale (number r) least
@@ -87,35 +85,4 @@ normalised f k {N} {E} {t} {b} M L g r G S h n p c s u =
 -- such a gain is not below 0 where the raw gain is not
 pub quotient-not-below : (f : Format) (g r : Float) → 0 < number g .over → T (positive r) → AtMost (whole 0) (number g) → AtMost (whole 0) (number (div f g r))
 quotient-not-below f g r X t h =
-    above (number (div f g r)) (result-not-below f (mul-pos X (positive-number r t)) (div-result f g r X t) (mul-le-mul-right (number r .over) (sides (number g) h)))
-  where
-    sides : (x : Fraction) → AtMost (whole 0) x → x .minus ≤ x .plus
-    sides x h = omega arith
-
-    above : (x : Fraction) → x .minus ≤ x .plus → AtMost (whole 0) x
-    above x h = omega arith
-
--- ---- other names of the formula and of the sum
-pub by-squares-same : {k : ℕ} {x G S : Fraction} (G' S' : Fraction) → 0 < G' .over → 0 < S' .over → Same G' G → Same S' S → BySquares k x G S → BySquares k x G' S'
-by-squares-same {k} {x} {G} {S} G' S' g s e d h =
-    let p : Less (whole 0) S' = less-same (whole 0) (whole 0) S' S (same-refl (whole 0)) d (lit< tt) s (h .positive) in
-    let S>0 = strictly S (h .positive) in
-    let S'>0 = strictly S' p in
-    let E = square G ⊘ S in
-    let E' = square G' ⊘ S' in
-    let u : Same E' E = same-divide (square G') (square G) S' S (le-of-lt S'>0) (le-of-lt S>0) (same-square G' G e) d in
-    let o = mul-pos (mul-pos (h .formula) (h .formula)) (sub-pos-iff-lt .1 S>0) in
-    let w = mul-pos (mul-pos (h .gain) (pow-pos k)) (mul-pos (h .gain) (pow-pos k)) in
-    record {
-      gain = h .gain;
-      formula = g;
-      sum = s;
-      positive = p;
-      above = at-most-same E' E (square (raised k x)) (square (raised k x)) u (same-refl (square (raised k x))) o w (h .above);
-      below = at-most-same (square (lowered k x)) (square (lowered k x)) E' E (same-refl (square (lowered k x))) u w o (h .below);
-      sign = λ l. less-same (whole 0) (whole 0) (x ⊗ G') (x ⊗ G) (same-refl (whole 0)) (same-mul x x G' G (same-refl x) e) (lit< tt) (mul-pos (h .gain) g)
-          (h .sign (less-same (square (unit k)) (square (unit k)) E E' (same-refl (square (unit k))) (same-sym E' E u) (mul-pos (pow-pos k) (pow-pos k)) o l));
-    }
-  where
-    strictly : (x : Fraction) → Less (whole 0) x → x .minus < x .plus
-    strictly x h = omega arith
+    zero-at-most (number (div f g r)) (result-not-below f (mul-pos X (positive-number r t)) (div-result f g r X t) (mul-le-mul-right (number r .over) (not-below (number g) h)))

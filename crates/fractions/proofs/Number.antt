@@ -10,9 +10,7 @@ use lib.Ieee.{Float, nan, inf, fin, up, down, neg}
 use lib.Ieee.Fits.{down-pos}
 use lib.Ieee.Exact.{HasValue}
 use lib.Ieee.Scale.{finite}
-use Rattle.fractions.specs.Fraction.{Fraction, opposite, signed, number, Same, gap, apart, Within}
-use Rattle.fractions.proofs.Order.{same-refl}
-use Rattle.fractions.proofs.Within.{within-same}
+use Rattle.fractions.specs.Fraction.{opposite, signed, number, Same, gap, apart}
 
 -- ---- finite
 pub finite-number : (x : Float) → T (finite x) → 0 < number x .over
@@ -50,9 +48,6 @@ value-finite (fin t m e) s a c h = tt
 
 pub value-number : (x : Float) (s : Bool) (a c : ℕ) → HasValue x s a c → 0 < number x .over
 value-number x s a c h = finite-number x (value-finite x s a c h)
-
-pub value-within : (k : ℕ) (x : Float) (s : Bool) (a c : ℕ) (y : Fraction) → HasValue x s a c → Within k (signed s a c) y → Within k (number x) y
-value-within k x s a c y h w = within-same (number x) y (value-number x s a c h) (w .second) (value-same x s a c h) (same-refl y) w
 
 -- ---- how far two signed fractions are apart
 pub apart-like : (s : Bool) (a c b d : ℕ) → apart (signed s a c) (signed s b d) ≡ gap (a * d) (b * c)

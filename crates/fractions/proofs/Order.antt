@@ -1,10 +1,10 @@
 -- The laws of `Same`, `Less`, `AtMost` and `AsNear`: fractions that are the same number serve each other everywhere. Assumes nothing.
 use mathlib.Core.Path.{_≡_, sym, ap, _∙_, subst}
 use Prim.Native.Nat.{ℕ, _+_, _-_, _*_, _≤_, _<_}
-use native.Mathlib.Nat.{le-of-eq, le-of-lt, lt-of-not-le, add-sub-of-le, mul-pos, mul-le-mul-right, le-of-mul-le-mul-right, lt-of-mul-lt-mul-right, mul-lt-mul-of-pos-right, eq-of-mul-eq-mul-right}
+use native.Mathlib.Nat.{le-of-lt, lt-of-not-le, add-sub-of-le, mul-pos, mul-le-mul-right, le-of-mul-le-mul-right, lt-of-mul-lt-mul-right, mul-lt-mul-of-pos-right, eq-of-mul-eq-mul-right}
 use native.Mathlib.Decide.{decLe}
 use native.Mathlib.Omega.{arith}
-use Rattle.fractions.specs.Fraction.{Fraction, _⊕_, _⊗_, Same, Less, AtMost, gap, apart, AsNear}
+use Rattle.fractions.specs.Fraction.{Fraction, whole, _⊕_, _⊗_, Same, Less, AtMost, gap, apart, AsNear}
 use Rattle.fractions.proofs.Ring.{ring}
 
 -- ---- an equivalence
@@ -75,9 +75,6 @@ pub at-most-trans : (x y z : Fraction) → 0 < y .over → AtMost x y → AtMost
 at-most-trans x y z Y h k =
     le-of-mul-le-mul-right (between-nat (x .plus) (x .minus) (x .over) (y .plus) (y .minus) (y .over) (z .plus) (z .minus) (z .over) (mul-le-mul-right (z .over) h) (mul-le-mul-right (x .over) k)) Y
 
-pub same-at-most : (x y : Fraction) → Same x y → AtMost x y
-same-at-most x y h = le-of-eq h
-
 pub less-at-most : (x y : Fraction) → Less x y → AtMost x y
 less-at-most x y h = le-of-lt h
 
@@ -87,6 +84,13 @@ less-not x y h k = omega arith
 
 pub not-less : (x y : Fraction) → ¬ (Less x y) → AtMost y x
 not-less x y n = omega arith
+
+-- not below 0
+pub not-below : (x : Fraction) → AtMost (whole 0) x → x .minus ≤ x .plus
+not-below x h = omega arith
+
+pub zero-at-most : (x : Fraction) → x .minus ≤ x .plus → AtMost (whole 0) x
+zero-at-most x h = omega arith
 
 -- ---- and so is a distance
 -- of two numbers one is the other and something more: what holds of a, b and gap a b follows from these two cases
@@ -106,10 +110,10 @@ by-gap P f g a b = go (decLe b a)
 pub gap-times : (a b k : ℕ) → gap (a * k) (b * k) ≡ gap a b * k
 gap-times a b k = by-gap (λ (a b i : ℕ). gap (a * k) (b * k) ≡ i * k) (λ b i. omega arith) (λ a i. omega arith) a b
 
-gap-same : (a b c d : ℕ) → a + d ≡ c + b → gap a b ≡ gap c d
+pub gap-same : (a b c d : ℕ) → a + d ≡ c + b → gap a b ≡ gap c d
 gap-same a b c d h = omega arith
 
-pub apart-same : (x x' y y' : Fraction) → Same x x' → Same y y' → apart x y * (x' .over * y' .over) ≡ apart x' y' * (x .over * y .over)
+apart-same : (x x' y y' : Fraction) → Same x x' → Same y y' → apart x y * (x' .over * y' .over) ≡ apart x' y' * (x .over * y .over)
 apart-same x x' y y' h k =
     let K = x .over * y .over in
     let K' = x' .over * y' .over in

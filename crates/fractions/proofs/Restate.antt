@@ -31,9 +31,6 @@ module _ (x : Fraction) where
   pub one-⊗ : whole 1 ⊗ x ≡ x
   one-⊗ = equal (omega arith) (omega arith) (omega arith)
 
-  pub ⊖-itself : Same (x ⊖ x) (whole 0)
-  ⊖-itself = omega arith
-
   -- 1 / n times a number is the number over n, and over 1 it stays
   pub part-⊗ : (n : ℕ) → fraction 1 0 n ⊗ x ≡ x ⊘ whole n
   part-⊗ n = equal (omega arith) (omega arith) (less-nothing n (x .over))
@@ -43,9 +40,6 @@ module _ (x : Fraction) where
 
 -- ---- order and grouping
 module _ (x y : Fraction) where
-  pub ⊕-comm : x ⊕ y ≡ y ⊕ x
-  ⊕-comm = equal (omega arith) (omega arith) (omega arith)
-
   pub ⊗-comm : x ⊗ y ≡ y ⊗ x
   ⊗-comm = equal (omega arith) (omega arith) (omega arith)
 
@@ -54,9 +48,6 @@ module _ (x y : Fraction) where
 
   pub ⊗-opposite : x ⊗ opposite y ≡ opposite (x ⊗ y)
   ⊗-opposite = equal (omega arith) (omega arith) (omega arith)
-
-  pub opposite-⊖ : opposite (x ⊖ y) ≡ y ⊖ x
-  opposite-⊖ = equal (omega arith) (omega arith) (omega arith)
 
   -- x (1 / y) is x / y
   pub inverse : x ⊗ (whole 1 ⊘ y) ≡ x ⊘ y
@@ -76,10 +67,6 @@ distrib-nat : (xp xm xo yp ym yo zp zm zo : ℕ)
     ≡ ((xp * yp + xm * ym) * (xo * zo) + (xp * zp + xm * zm) * (xo * yo)) * (xo * (yo * zo)) + (xp * (ym * zo + zm * yo) + xm * (yp * zo + zp * yo)) * (xo * yo * (xo * zo))
 distrib-nat xp xm xo yp ym yo zp zm zo = simp ring (omega arith)
 
-sum-over-nat : (xp xm xo yp ym yo zo z : ℕ)
-    → (xp * yo + yp * xo) * zo * (xo * z * (yo * z)) + (xm * zo * (yo * z) + ym * zo * (xo * z)) * (xo * yo * z) ≡ (xp * zo * (yo * z) + yp * zo * (xo * z)) * (xo * yo * z) + (xm * yo + ym * xo) * zo * (xo * z * (yo * z))
-sum-over-nat xp xm xo yp ym yo zo z = simp ring (omega arith)
-
 module _ (x y z : Fraction) where
   pub ⊕-assoc : x ⊕ y ⊕ z ≡ x ⊕ (y ⊕ z)
   ⊕-assoc = equal (sum-nat (x .plus) (y .plus) (x .over) (y .over) (z .plus) (z .over)) (sum-nat (x .minus) (y .minus) (x .over) (y .over) (z .minus) (z .over)) (mul-assoc (x .over) (y .over) (z .over))
@@ -94,9 +81,6 @@ module _ (x y z : Fraction) where
 
   pub ⊗-⊕ : Same (x ⊗ (y ⊕ z)) (x ⊗ y ⊕ x ⊗ z)
   ⊗-⊕ = distrib-nat (x .plus) (x .minus) (x .over) (y .plus) (y .minus) (y .over) (z .plus) (z .minus) (z .over)
-
-  pub ⊕-over : Same ((x ⊕ y) ⊘ z) (x ⊘ z ⊕ y ⊘ z)
-  ⊕-over = sum-over-nat (x .plus) (x .minus) (x .over) (y .plus) (y .minus) (y .over) (z .over) (z .plus - z .minus)
 
 -- ---- congruences, beside `same-add` and `same-mul`
 pub same-opposite : (x y : Fraction) → Same x y → Same (opposite x) (opposite y)

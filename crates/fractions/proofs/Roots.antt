@@ -1,5 +1,5 @@
 -- What the law by squares asks of a root: r is the root of s to one part in P (`RootOf`), so r² is within 3 / P of s (`root-square`); from below, r is as large as S lets it be (`root-least`); and where G² ≤ S the
--- quotient G / r is 1 at most, and a little (`quotient-size`). And the sum of squares: it is no less than each of them. Assumes nothing.
+-- quotient G / r is 1 at most, and a little (`quotient-size`). Assumes nothing.
 use mathlib.Core.Path.{_≡_, sym, subst, subst₂}
 use Prim.Native.Nat.{ℕ, suc, _+_, _*_, _-_, _≤_, _<_}
 use native.Mathlib.Nat.{le-of-lt, lt-of-not-le, add-sub-of-le, mul-pos, mul-le-mul, mul-le-mul-right, le-of-mul-le-mul-right, lt-of-mul-lt-mul-right}

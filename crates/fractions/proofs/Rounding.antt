@@ -59,7 +59,7 @@ counted-same f {x} {q} x' q' X e d o g = go
 
 -- ---- in whole numbers: the value is grid / 2 ^ low, and |grid * den - num * 2 ^ low| is num * 2 ^ low / 2 ^ prec at most, where digits are dropped, or den / 2, where none is
 off-grid : (q k n den : ℕ) → gap n (q * (den * k)) * 2 ≤ den * k → gap (q * k * den) n * 2 ≤ den * k
-off-grid q k n den h = subst (λ (g : ℕ). g * 2 ≤ den * k) (turned n (q * (den * k)) ∙ ap (λ (m : ℕ). gap m n) (simp (mul-assoc, mul-comm, mul-left-comm))) h
+off-grid q k n den h = subst (λ (g : ℕ). g * 2 ≤ den * k) (turned n (q * (den * k)) ∙ ap (λ (m : ℕ). gap m n) (simp (mul-assoc, mul-comm))) h
   where
     turned : (a b : ℕ) → gap a b ≡ gap b a
     turned a b = omega arith
@@ -147,7 +147,7 @@ grid-counted f s num den D = go (grid-near f num den D)
         (subst₂ (λ (d m : ℕ). d * m ≤ 1 * (2 ^ low f * den)) (sym (apart-like s (grid f num den) (2 ^ low f) num den)) (sym (pow-succ' 2 (low f)))
         (half-nat (gap (grid f num den * den) (num * 2 ^ low f)) den (2 ^ low f) h)))
 
-pub round-rounds : (f : Format) (s : Bool) (num den : ℕ) → 0 < den → num ≤ den * 2 ^ emax f → Rounds f (number (round f s num den)) (signed s num den)
+round-rounds : (f : Format) (s : Bool) (num den : ℕ) → 0 < den → num ≤ den * 2 ^ emax f → Rounds f (number (round f s num den)) (signed s num den)
 round-rounds f s num den D h =
     let x = round f s num den in
     let v = round-value f s num den D h in

@@ -127,7 +127,7 @@ exact-is G S = exact-nat (gap (G .plus) (G .minus)) (G .plus) (G .minus) (S .ove
 
 -- ---- r² and S
 module _ (D C W t : ℕ) where
-  pub square-above : (m z sp sm : ℕ) → (((m + z) * (m + z) + m * m) * C + sm * (D * D)) * W ≤ (sp * (D * D) + ((m + z) * m + m * (m + z)) * C) * W + t * (D * D * C) → C * z * z * W + sm * (D * D) * W ≤ sp * (D * D) * W + t * (D * D * C)
+  square-above : (m z sp sm : ℕ) → (((m + z) * (m + z) + m * m) * C + sm * (D * D)) * W ≤ (sp * (D * D) + ((m + z) * m + m * (m + z)) * C) * W + t * (D * D * C) → C * z * z * W + sm * (D * D) * W ≤ sp * (D * D) * W + t * (D * D * C)
   square-above m z sp sm h = let h' = simp ring at h in simp ring (omega arith)
 
   pub square-below : (m z sp sm : ℕ) → (((m + z) * m + m * (m + z)) * C + sp * (D * D)) * W ≤ (sm * (D * D) + ((m + z) * (m + z) + m * m) * C) * W + t * (D * D * C) → sp * (D * D) * W ≤ C * z * z * W + sm * (D * D) * W + t * (D * D * C)

@@ -1,16 +1,14 @@
--- Sums of squares: such a sum is a number, not below 0, and no less than each of the squares in it; and as an expression, what floats make of it and what it is exactly. Assumes nothing.
-use mathlib.Core.Path.{_≡_, refl}
-use mathlib.Core.List.{List, [], _∷_, map}
+-- Sums of squares: such a sum is a number, not below 0, and no less than each of the squares in it; and as an expression. Assumes nothing.
+use mathlib.Core.List.{List, [], _∷_}
 use Prim.Native.Nat.{ℕ, zero, suc, _+_, _*_, _≤_, _<_}
 use native.Mathlib.Nat.{le-refl, mul-le-mul-right, le-of-suc-le-suc, not-suc-le-zero}
 use native.Mathlib.Omega.{arith}
 use lib.ListN.{length, getD}
-use lib.Ieee.{Float, Format, add, mul}
 use Rattle.fractions.specs.Fraction.{Fraction, whole, square, _⊕_, AtMost}
 use Rattle.fractions.specs.Squares.{sumFrom, sumSquares}
 use Rattle.fractions.proofs.Ring.{ring}
 use Rattle.fractions.proofs.Magnitude.{square-not-below}
-use Rattle.fractions.proofs.Expression.{Expression, _+'_, _*'_, run, exact}
+use Rattle.fractions.proofs.Expression.{Expression, _+'_, _*'_}
 
 -- ---- not below 0
 sum-nat : (p m o q n u : ℕ) → m * u ≤ p * u → n * o ≤ q * o → m * u + n * o ≤ p * u + q * o
@@ -49,15 +47,3 @@ square-in-sum l i d h = square-from (whole 0) l (le-refl 0) i d h
 abbrev pub squaresFrom : Expression → List Expression → Expression
 squaresFrom acc [] = acc
 squaresFrom acc (a ∷ l) = squaresFrom (acc +' a *' a) l
-
-abbrev pub floatSquares : Format → Float → List Float → Float
-floatSquares f acc [] = acc
-floatSquares f acc (x ∷ l) = floatSquares f (add f acc (mul f x x)) l
-
-pub run-squares : (f : Format) (acc : Expression) (l : List Expression) → run f (squaresFrom acc l) ≡ floatSquares f (run f acc) (map (run f) l)
-run-squares f acc [] = refl
-run-squares f acc (a ∷ l) = run-squares f (acc +' a *' a) l
-
-pub exact-squares : (acc : Expression) (l : List Expression) → exact (squaresFrom acc l) ≡ sumFrom (exact acc) (map exact l)
-exact-squares acc [] = refl
-exact-squares acc (a ∷ l) = exact-squares (acc +' a *' a) l

@@ -22,7 +22,6 @@ use Rattle.angles.specs.Limits.{isInside, refusesAngle}
 use Rattle.angles.specs.Promise as Angles
 use Rattle.harmonics.specs.Formulas.{h, q, m, formulasOver, formulas}
 use Rattle.harmonics.specs.Computed.{sin, cos, wavesOf, upTo}
-use Rattle.harmonics.specs.Promise as Said
 use Rattle.harmonics.specs.Promise.{degrees, refusesAzimuth, outcome}
 use Rattle.harmonics.specs.Drill.{at, given, Alike, none, front, frontFloats, left, Above}
 use Rattle.harmonics.specs.declared.Direction.{Direction}

@@ -32,7 +32,7 @@ pub record Accepted (order : ℕ) (d : Direction) : Type 0 where
   pub azimuth : 0 < number (d .azimuth) .over
   pub azimuth-size : AtMost (magnitude (number (d .azimuth))) (whole 180)
   pub elevation : 0 < number (d .elevation) .over
-  pub elevation-size : AtMost (magnitude (number (d .elevation))) (whole 90)
+  elevation-size : AtMost (magnitude (number (d .elevation))) (whole 90)
 
 module _ (order : ℕ) (d : Direction) where
   pub is-accepted : refusalOf order d ≡ 0 → Accepted order d

@@ -1,6 +1,6 @@
 -- What the crates above cite of the coefficients, beside their promise: which orders and directions are accepted, that each coefficient is nearer its formula than promised, and how large the formula is.
 -- Assumes nothing.
-use mathlib.Core.Path.{_≡_, refl, sym, ap, _∙_, subst}
+use mathlib.Core.Path.{_≡_, sym, ap, _∙_, subst}
 use mathlib.Core.Bool.{Bool, true, false, _||_, cond}
 use mathlib.Core.List.{List}
 use Prim.Native.Nat.{ℕ, _≤_, _<_}
@@ -12,13 +12,12 @@ use lib.Ieee.{Float, binary64, round, ofInt}
 use lib.Ieee.Exact.{HasValue}
 use lib.Ieee.Back.{round-whole}
 use Rattle.channel.specs.Orders.{refusesOrder}
-use Rattle.channel.proofs.Orders.{by-order}
 use Rattle.fractions.specs.Fraction.{Fraction, number, signed, whole, magnitude, AtMost}
 use Rattle.fractions.specs.Approximates.{Approximates}
 use Rattle.fractions.proofs.Close.{Size, size-same}
 use Rattle.fractions.proofs.Within.{size-at-most}
 use Rattle.fractions.proofs.Number.{value-same, value-number}
-use Rattle.harmonics.specs.Formulas.{formulasOver, formulas}
+use Rattle.harmonics.specs.Formulas.{formulas}
 use Rattle.harmonics.specs.Computed.{wavesOf, upTo}
 use Rattle.harmonics.specs.Promise.{refusesAzimuth, refusesElevation, refusesDirection, refusalOf, outcome, Promise}
 use Rattle.harmonics.specs.declared.Direction.{Direction}
@@ -28,7 +27,7 @@ use Rattle.harmonics.proofs.Kept as Kept
 
 -- ---- which angles are accepted: those of 180, or of 90 degrees at most in size
 module _ (x : Float) (X : 0 < number x .over) where
-  pub azimuth-accepted : AtMost (magnitude (number x)) (whole 180) → refusesAzimuth x ≡ false
+  azimuth-accepted : AtMost (magnitude (number x)) (whole 180) → refusesAzimuth x ≡ false
   unfolding ofInt
   azimuth-accepted = size-accepted false 45 (pos 2) x X
 
@@ -46,7 +45,7 @@ azimuth-size = accepted-size false 45 (pos 2)
 
 -- whole degrees, of either sign
 module _ (s : Bool) (n : ℕ) (h : n ≤ 180) where
-  pub whole-number : HasValue (round binary64 s n 1) s n 1
+  whole-number : HasValue (round binary64 s n 1) s n 1
   whole-number = round-whole binary64 s n (omega arith)
 
   pub whole-accepted : refusesAzimuth (round binary64 s n 1) ≡ false
@@ -68,11 +67,6 @@ accepted order d n h = λ i. cond (n i) 1 (cond (h i) 3 0)
 
 pub is-accepted : (order : ℕ) (d : Direction) → refusalOf order d ≡ 0 → Kept.Accepted order d
 is-accepted = Kept.is-accepted
-
--- ---- there are sixteen formulas
-pub formulas-length : (order : ℕ) (a e : Fraction) → refusesOrder order ≡ false → length (formulas order a e) ≡ 16
-unfolding formulasOver
-formulas-length order a e = by-order (λ (n : ℕ). length (formulas n a e) ≡ 16) refl refl refl order
 
 -- ---- the promise holds of the answer that the definition gives, so that all of it can be had of coefficients that are said by the definition alone
 pub outcome-kept : (order : ℕ) (d : Direction) → Promise order d (outcome order d)

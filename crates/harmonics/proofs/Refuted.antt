@@ -3,7 +3,8 @@ use mathlib.Core.Path.{_≡_, ap}
 use Prim.Native.Nat.{ℕ}
 use native.Mathlib.Omega.{arith}
 use lib.ListN.{getD}
-use lib.Ieee.{Float, nan, inf, fin, lt, le, eq, neg, round, ofInt}
+use lib.Ieee.{nan, lt, le, eq, neg, round, ofInt}
+use lib.Ieee.Positive.{num}
 use Rattle.harmonics.specs.Computed.{wavesOf, upTo}
 use Rattle.angles.specs.Limits.{isInside, refusesAngle}
 use Rattle.harmonics.specs.Promise.{degrees, silence, Promise}
@@ -13,13 +14,8 @@ use Rattle.harmonics.specs.Drill.{at}
 refusal : Coefficients → ℕ
 refusal r = r .refusal
 
-digits : Float → ℕ
-digits nan = 0
-digits (inf s) = 0
-digits (fin s m e) = m
-
 first : Coefficients → ℕ
-first r = digits (getD (r .gains) 0 nan)
+first r = num (getD (r .gains) 0 nan)
 
 -- it refuses every direction: the front is accepted
 refuses-always : Promise 1 (at 0 0) (record { refusal = 3; gains = silence }) → ⊥
@@ -28,7 +24,7 @@ refuses-always p = let e : _≡_ {A = ℕ} 3 0 = ap refusal (p .is) in omega ari
 
 -- it is silent
 silent : Promise 1 (at 0 0) (record { refusal = 0; gains = silence }) → ⊥
-unfolding first digits upTo refusesAngle isInside lt le eq neg round ofInt
+unfolding first upTo refusesAngle isInside lt le eq neg round ofInt
 silent p = let e : _≡_ {A = ℕ} 0 1 = ap first (p .is) in omega arith
 
 -- it plays an order that it does not know as order 1, as 000 does

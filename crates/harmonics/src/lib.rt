@@ -26,7 +26,6 @@
 // are) and `refusals`.
 ghost use mathlib.Core.Path.{_≡_};
 ghost use Rattle.harmonics.specs.Computed as Steps;
-ghost use Rattle.angles.specs.Limits.{isInside};
 ghost use Rattle.harmonics.specs.Promise as Said;
 
 // Where a sound comes from, in degrees: azimuth 0 is the front and 90 the left, elevation 90 is above.
@@ -54,25 +53,18 @@ struct Waves {
     sin_3az: f64,
 }
 
-// Whether an angle is from -limit to limit: no NaN is, and no infinity.
-fn is_inside(limit: f64, angle: f64) -> bool
-    ensures { λ r. ⌜ r ≡ isInside limit angle ⌝ }
-{
-    angle >= -limit && angle <= limit
-}
-
 // Whether an azimuth is NaN, infinite or outside -180..180.
 pub fn refuses_azimuth(azimuth: f64) -> bool
     ensures { λ r. ⌜ r ≡ Said.refusesAzimuth azimuth ⌝ }
 {
-    !is_inside(180.0, azimuth)
+    !angles::is_inside(180.0, azimuth)
 }
 
 // Whether an elevation is NaN, infinite or outside -90..90.
 fn refuses_elevation(elevation: f64) -> bool
     ensures { λ r. ⌜ r ≡ Said.refusesElevation elevation ⌝ }
 {
-    !is_inside(90.0, elevation)
+    !angles::is_inside(90.0, elevation)
 }
 
 // Whether one of the two is refused.

@@ -3,7 +3,7 @@
 use mathlib.Core.Path.{_≡_, sym, ap, _∙_, subst}
 use mathlib.Core.Bool.{false}
 use Prim.Native.Nat.{ℕ, zero, suc, _-_, _*_, _^_, _≤_, _<_}
-use native.Mathlib.Nat.{le-trans, le-of-eq, lt-of-lt-of-le, lt-of-le-of-lt, sub-pos-iff-lt, suc-mul, mul-suc, mul-assoc, mul-comm, mul-left-comm, mul-right-comm, mul-mul-mul-comm, mul-pos, mul-le-mul, mul-le-mul-right, mul-lt-mul-of-pos-right}
+use native.Mathlib.Nat.{le-trans, le-of-eq, lt-of-lt-of-le, lt-of-le-of-lt, sub-pos-iff-lt, zero-lt-suc, suc-mul, mul-suc, mul-assoc, mul-comm, mul-left-comm, mul-right-comm, mul-mul-mul-comm, mul-pos, mul-le-mul, mul-le-mul-right, mul-lt-mul-of-pos-right, lt-of-mul-lt-mul-left}
 use native.Mathlib.Omega.{arith}
 use lib.Dec.{T}
 use lib.Pow.{pow-pos, suc-ones}
@@ -26,9 +26,6 @@ turn y p u = simp (mul-assoc, mul-comm, mul-left-comm)
 twice : (q p u : ℕ) → 2 * (q * p) * u * (2 * (q * p) * u) ≡ 4 * (q * u * p * (q * u * p))
 twice q p u = ap (λ (x : ℕ). x * x) (mul-assoc 2 (q * p) u ∙ ap (λ (x : ℕ). 2 * x) (mul-right-comm q p u)) ∙ mul-mul-mul-comm 2 (q * u * p) 2 (q * u * p)
 
-quarter : (x y : ℕ) → 4 * x < 4 * y → x < y
-quarter x y h = omega arith
-
 -- P' + 1 is 2 ^ prec, which is at most 2 * q
 lower-part : (q u a P' : ℕ) → suc P' ≤ 2 * q → ((y : ℕ) → suc y ≡ 2 * q → y * u * (y * u) < 4 * a) → q * u * P' * (q * u * P') < a * (suc P' * suc P')
 lower-part (suc q) u a P' h low =
@@ -38,11 +35,8 @@ lower-part (suc q) u a P' h low =
     let m : 2 * (Q * P') ≤ y * suc P' = omega (arith, suc-mul q P', mul-suc y P', suc-mul (2 * q) P', mul-assoc 2 q P') in
     let mu : 2 * (Q * P') * u ≤ y * suc P' * u = mul-le-mul-right u m in
     let sq : 2 * (Q * P') * u * (2 * (Q * P') * u) < 4 * a * (suc P' * suc P') =
-    lt-of-le-of-lt (mul-le-mul mu mu) (subst (λ (x : ℕ). x < 4 * a * (suc P' * suc P')) (sym (turn y (suc P') u)) (mul-lt-mul-of-pos-right less (mul-pos (pos P') (pos P')))) in
-    quarter (Q * u * P' * (Q * u * P')) (a * (suc P' * suc P')) (subst (λ (x : ℕ). x < 4 * (a * (suc P' * suc P'))) (twice Q P' u) (subst (λ (x : ℕ). 2 * (Q * P') * u * (2 * (Q * P') * u) < x) (mul-assoc 4 a (suc P' * suc P')) sq))
-  where
-    pos : (x : ℕ) → 0 < suc x
-    pos x = omega arith
+    lt-of-le-of-lt (mul-le-mul mu mu) (subst (λ (x : ℕ). x < 4 * a * (suc P' * suc P')) (sym (turn y (suc P') u)) (mul-lt-mul-of-pos-right less (mul-pos (zero-lt-suc P') (zero-lt-suc P')))) in
+    lt-of-mul-lt-mul-left 4 (subst (λ (x : ℕ). x < 4 * (a * (suc P' * suc P'))) (twice Q P' u) (subst (λ (x : ℕ). 2 * (Q * P') * u * (2 * (Q * P') * u) < x) (mul-assoc 4 a (suc P' * suc P')) sq))
 lower-part zero u a P' h low = absurd (none P' h)
   where
     none : (P' : ℕ) → suc P' ≤ 2 * 0 → ⊥
@@ -53,7 +47,7 @@ upper-part q u a P h pp up =
     let m : suc (2 * q) * P ≤ 2 * (q * suc P) = omega (arith, suc-mul (2 * q) P, mul-suc q P, mul-assoc 2 q P) in
     let mu : suc (2 * q) * P * u ≤ 2 * (q * suc P) * u = mul-le-mul-right u m in
     let less : 4 * a * (P * P) < suc (2 * q) * u * (suc (2 * q) * u) * (P * P) = mul-lt-mul-of-pos-right up (mul-pos pp pp) in
-    quarter (a * (P * P)) (q * u * suc P * (q * u * suc P))
+    lt-of-mul-lt-mul-left 4
     (subst (λ (x : ℕ). x < 4 * (q * u * suc P * (q * u * suc P))) (mul-assoc 4 a (P * P))
     (subst (λ (x : ℕ). 4 * a * (P * P) < x) (twice q (suc P) u) (lt-of-lt-of-le (subst (λ (x : ℕ). 4 * a * (P * P) < x) (sym (turn (suc (2 * q)) P u)) less) (mul-le-mul mu mu))))
 

@@ -34,7 +34,7 @@ half-bounds a j e =
     hi : (z j : ℕ) → suc z / 2 ≡ suc j → z ≤ suc j + suc j
     hi z j e = omega arith
 
-pub under-digits : (p a : ℕ) → 2 ≤ p → p < suc (size a) / 2 → (4 ^ p ≤ 4 * a / 4 ^ drops p a) × (4 * a / 4 ^ drops p a < 4 ^ suc p)
+under-digits : (p a : ℕ) → 2 ≤ p → p < suc (size a) / 2 → (4 ^ p ≤ 4 * a / 4 ^ drops p a) × (4 * a / 4 ^ drops p a < 4 ^ suc p)
 under-digits p a P h =
     let k = drops p a in
     let j = suc (size a) / 2 - 1 in
@@ -62,7 +62,7 @@ under-digits p a P h =
 square-of : (r k : ℕ) → r * 2 ^ k * (r * 2 ^ k) ≡ r * r * 4 ^ k
 square-of r k = mul-mul-mul-comm r (2 ^ k) r (2 ^ k) ∙ ap (λ (x : ℕ). r * r * x) (sym (four k))
 
-pub squares : (a k r : ℕ) → WholeRoot (4 * a / 4 ^ k) r → (r * 2 ^ k * (r * 2 ^ k) ≤ 4 * a) × (4 * a < suc r * 2 ^ k * (suc r * 2 ^ k))
+squares : (a k r : ℕ) → WholeRoot (4 * a / 4 ^ k) r → (r * 2 ^ k * (r * 2 ^ k) ≤ 4 * a) × (4 * a < suc r * 2 ^ k * (suc r * 2 ^ k))
 squares a k r h =
     (le-trans (le-of-eq (square-of r k)) (le-div-iff-mul-le (four-pos k) .0 (h .0)), subst (λ (x : ℕ). 4 * a < x) (sym (square-of (suc r) k)) (div-lt-iff-lt-mul (four-pos k) .0 (h .1)))
 
@@ -118,19 +118,19 @@ long-enough binary32 = lit< tt
 long-enough binary64 = lit< tt
 
 module _ (f : Format) (n : ℕ) (g : Grid f n) (N : 0 < n) where
-  pub has-digits : prec f < suc (size (n * 2 ^ low f)) / 2
+  has-digits : prec f < suc (size (n * 2 ^ low f)) / 2
   has-digits = lt-of-lt-of-le (long-enough f) (halves (low f) (size (n * 2 ^ low f)) (size-gt (n * 2 ^ low f) (low f) (le-trans (le-of-eq (sym (one-mul (2 ^ low f)))) (mul-le-mul-right (2 ^ low f) N))))
     where
       halves : (l z : ℕ) → l < z → suc (suc l) / 2 ≤ suc z / 2
       halves l z h = omega arith
 
-  pub in-range : prec f + drops (prec f) (n * 2 ^ low f) < low f + suc (emax f)
+  in-range : prec f + drops (prec f) (n * 2 ^ low f) < low f + suc (emax f)
   in-range = bound (prec f) (low f) (suc (emax f)) (size (n * 2 ^ low f)) has-digits (size-le (n * 2 ^ low f) (low f + suc (emax f) + low f) (shl-lt (low f + suc (emax f)) (low f) (g .room))) (two f) (reach f)
     where
       bound : (p l e z : ℕ) → p < suc z / 2 → z ≤ l + e + l → 2 ≤ p → p ≤ e → p + (suc z / 2 - p) < l + e
       bound p l e z a b d h = omega arith
 
-  pub tie-free : (r : ℕ) → 2 ^ prec f ≤ r → r % 2 ≡ 1 → r * 2 ^ drops (prec f) (n * 2 ^ low f) * (r * 2 ^ drops (prec f) (n * 2 ^ low f)) ≡ 4 * (n * 2 ^ low f) → ⊥
+  tie-free : (r : ℕ) → 2 ^ prec f ≤ r → r % 2 ≡ 1 → r * 2 ^ drops (prec f) (n * 2 ^ low f) * (r * 2 ^ drops (prec f) (n * 2 ^ low f)) ≡ 4 * (n * 2 ^ low f) → ⊥
   tie-free r lo o e =
       let k = drops (prec f) (n * 2 ^ low f) in
       no-tie (prec f) r (k + k) (g .c) (2 + (g .i + low f)) lo o (g .fit) (c-pos (eq-zero-or-pos (g .c)))

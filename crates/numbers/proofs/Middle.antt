@@ -4,7 +4,7 @@ use mathlib.Core.Path.{_≡_, sym, ap, _∙_, subst}
 use mathlib.Core.Logic.{_⊎_, inl, inr}
 use mathlib.Core.Bool.{Bool, true, false}
 use Prim.Native.Nat.{ℕ, suc, _+_, _-_, _*_, _^_, _≤_, _<_}
-use native.Mathlib.Nat.{le-trans, le-of-eq, le-of-lt, lt-of-lt-of-le, lt-of-le-of-lt, lt-of-not-le, lt-irrefl, mul-assoc, mul-comm, suc-mul, two-mul, mul-pos, mul-le-mul, mul-le-mul-right, mul-lt-mul-of-pos-right, lt-of-mul-lt-mul-right, eq-of-mul-eq-mul-right, add-comm}
+use native.Mathlib.Nat.{le-trans, le-of-eq, le-of-lt, lt-of-lt-of-le, lt-of-le-of-lt, lt-of-not-le, lt-irrefl, mul-assoc, mul-comm, suc-mul, two-mul, mul-pos, mul-le-mul, mul-le-mul-right, mul-lt-mul-of-pos-right, lt-of-mul-lt-mul-right, eq-of-mul-eq-mul-right, add-zero, add-comm}
 use native.Mathlib.Decide.{decLe, decLt}
 use native.Mathlib.Omega.{arith}
 use lib.Dec.{T}
@@ -61,7 +61,7 @@ closer h u q w A H lower upper floor g = (λ l. over l g, λ l. under l g)
         go (yes b) = lt-of-lt-of-le (sq-lt (q * u + w) (2 * q * u) (omega (arith, twice-mul q u))) (floor b)
         go (no n) = step h (lt-of-not-le n) (le-of-lt s)
 
-pub unit-nearest : (f : Format) (n w : ℕ) (h : HalfUnit f n) → Grid f w → Closer (4 * (n * 2 ^ low f)) (h .q * 2 ^ h .k) w
+unit-nearest : (f : Format) (n w : ℕ) (h : HalfUnit f n) → Grid f w → Closer (4 * (n * 2 ^ low f)) (h .q * 2 ^ h .k) w
 unit-nearest f n w h g = closer (hid f) (2 ^ h .k) (h .q) w (4 * (n * 2 ^ low f)) (h .least) (h .lower) (h .upper) (h .floor) (grid-or-small f w (h .k) g)
 
 -- ---- as fractions: x is n, r is p and y is w units, of which L make 1
@@ -130,10 +130,10 @@ module _ (f : Format) (x r y : Float) (n p : ℕ) (vx : HasValue x false n (2 ^ 
     negative-sum b = inl (less-same (number r ⊕ number y) z (whole 0) (whole 0) sum-same (same-refl (whole 0)) sum-pos (omega arith) b)
 
     -- the order of r and y, in units
-    pub r-below : Less (number r) (number y) → Less (signed false p L) (signed s w L)
+    r-below : Less (number r) (number y) → Less (signed false p L) (signed s w L)
     r-below = less-same (signed false p L) (number r) (signed s w L) (number y) (same-sym (number r) (signed false p L) (value-same r false p L vr)) (same-sym (number y) (signed s w L) (value-same y s w L vy)) L-pos L-pos
 
-    pub r-above : Less (number y) (number r) → Less (signed s w L) (signed false p L)
+    r-above : Less (number y) (number r) → Less (signed s w L) (signed false p L)
     r-above = less-same (signed s w L) (number y) (signed false p L) (number r) (same-sym (number y) (signed s w L) (value-same y s w L vy)) (same-sym (number r) (signed false p L) (value-same r false p L vr)) L-pos L-pos
 
   below : (s : Bool) → Units f s y → Less (number r) (number y) → HalfAbove (number r ⊕ number y) (number x)
@@ -165,10 +165,7 @@ module _ (f : Format) (x r y : Float) (n p : ℕ) (vx : HasValue x false n (2 ^ 
 
       -- zero is nearer than y
       at-zero : p * p < 4 * (n * L)
-      at-zero = subst (λ (i : ℕ). i * i < 4 * (n * L)) (none p) (nearest 0 (zero-grid f) .1 P)
-        where
-          none : (p : ℕ) → p + 0 ≡ p
-          none p = omega arith
+      at-zero = subst (λ (i : ℕ). i * i < 4 * (n * L)) (add-zero p) (nearest 0 (zero-grid f) .1 P)
 
       go : Dec (u .w ≤ p) → HalfBelow (number r ⊕ number y) (number x)
       go (yes h) = under-root true (u .w) z (u .value) (sum-unlike L n p (u .w) L-pos) (less-nat L n p (u .w) L-pos at-zero h)

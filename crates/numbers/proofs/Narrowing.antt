@@ -19,7 +19,7 @@ use Rattle.formats.proofs.Patterns.{some-digits, toBits-inf, units-bits, digits
 use Rattle.numbers.specs.Computed.{rounded, narrowed}
 
 -- ---- M * 2 ^ j / 2 ^ L rounded: M is shifted by t once, and the pattern's field is k
-pub scaled-bits : (f : Format) (s : Bool) (M j k t L : ℕ) → j + low f + t ≡ L + k → M < 2 ^ (prec f + t) → (k ≡ 0) ⊎ (2 ^ (prec f - 1 + t) ≤ M)
+scaled-bits : (f : Format) (s : Bool) (M j k t L : ℕ) → j + low f + t ≡ L + k → M < 2 ^ (prec f + t) → (k ≡ 0) ⊎ (2 ^ (prec f - 1 + t) ≤ M)
     → toBits f (round f s (M * 2 ^ j) (2 ^ L)) ≡ cond s (top f) 0 + min (k * hid f + closest M (2 ^ t)) (ones f * hid f)
 scaled-bits f s M j k t L e h g =
     let p = prec f in

@@ -1,4 +1,4 @@
--- `rounded` is what document 01 says of a conversion (`rounded-narrows`), and nothing else is (`narrows-unique`). In every format. Assumes nothing.
+-- `rounded` is what document 01 says of a conversion (`rounded-narrows`), and nothing else is (`narrows-only`). In every format. Assumes nothing.
 use mathlib.Core.Path.{_≡_, refl, sym, ap, _∙_, subst}
 use mathlib.Core.Logic.{_⊎_, inl, inr}
 use mathlib.Core.Bool.{Bool, true, false, not, cond, true≢false}
@@ -80,13 +80,10 @@ module _ (f : Format) where
   largest-units : largest f * 2 ^ low f + 2 ^ K ≡ overflow f
   largest-units =
       ap (λ (x : ℕ). x + 2 ^ K) (mul-assoc (2 ^ prec f - 1) (2 ^ (suc (emax f) - prec f)) (2 ^ low f) ∙ ap (λ (x : ℕ). (2 ^ prec f - 1) * x) (sym (pow-add 2 (suc (emax f) - prec f) (low f)) ∙ ap (λ (x : ℕ). 2 ^ x) (sum (prec f) (emax f) (two f) (reach f))))
-      ∙ one-more (2 ^ prec f - 1) (2 ^ K) ∙ ap (λ (x : ℕ). x * 2 ^ K) (suc-ones (prec f)) ∙ sym end
+      ∙ sym (suc-mul (2 ^ prec f - 1) (2 ^ K)) ∙ ap (λ (x : ℕ). x * 2 ^ K) (suc-ones (prec f)) ∙ sym end
     where
       sum : (p e : ℕ) → 2 ≤ p → p ≤ suc e → suc e - p + (e + p - 2) ≡ e + p - 2 + suc e - p
       sum p e a b = omega arith
-
-      one-more : (x y : ℕ) → x * y + y ≡ suc x * y
-      one-more x y = sym (suc-mul x y)
 
   beyond-units : beyond f * 2 ^ low f ≡ overflow f
   beyond-units = mul-comm (2 ^ suc (emax f)) (2 ^ low f) ∙ sym (pow-add 2 (low f) (suc (emax f)))

@@ -3,19 +3,19 @@
 use mathlib.Core.Path.{_≡_, refl, sym, ap, _∙_, subst}
 use mathlib.Core.Logic.{inr}
 use Prim.Native.Nat.{ℕ, zero, suc, _+_, _-_, _*_, _/_, _%_, _^_, _≤_, _<_}
-use native.Mathlib.Nat.{mod-lt, zero-lt-suc, mul-one, mul-assoc, mul-le-mul-left, le-trans, le-of-eq, le-of-suc-le-suc, lt-of-lt-of-le, lt-of-le-of-lt, lt-of-not-le, lt-irrefl, mul-le-mul, mul-div-cancel, mul-le-mul-right, mul-lt-mul-of-pos-right, pow-succ', zero-add, min-eq-left}
+use native.Mathlib.Nat.{mod-lt, zero-lt-suc, mul-one, mul-assoc, mul-le-mul-left, le-trans, le-of-eq, le-of-suc-le-suc, le-suc, lt-of-lt-of-le, lt-of-le-of-lt, lt-of-not-le, lt-irrefl, le-of-mul-le-mul-left, lt-of-mul-lt-mul-left, mul-le-mul, mul-div-cancel, mul-le-mul-right, mul-lt-mul-of-pos-right, pow-succ', zero-add, min-eq-left}
 use native.Mathlib.Omega.{arith}
-use mathlib.Core.Bool.{true, false, not}
-use lib.Dec.{T}
+use mathlib.Core.Bool.{true, false}
+use lib.Dec.{T, lit<}
 use lib.Pow.{pow-pos, pow-mono, pow-add, pow-lt}
-use lib.Ieee.{Float, nan, inf, fin, Format, prec, emax, low, up, down, size, units, hid, ofBits, isNan}
+use lib.Ieee.{Float, nan, inf, fin, Format, prec, emax, low, down, size, units, hid, ofBits}
 use lib.Ieee.Digits.{size-le}
 use lib.Ieee.Fits.{two, down-pos}
 use lib.Ieee.Exact.{HasValue}
 use lib.Ieee.Scale.{overflow}
 use lib.Ieee.Positive.{positive}
 use Rattle.formats.proofs.Digits.{size-gt}
-use Rattle.formats.proofs.Patterns.{twice-hid, under-inf, ofBits-units, units-no-nan}
+use Rattle.formats.proofs.Patterns.{twice-hid, under-inf, ofBits-units}
 use Rattle.formats.proofs.Normal.{Scaled}
 use Rattle.numbers.specs.Computed.{WholeRoot, wholeRoot, drops, keeps, rootUnits, rootOf}
 use Rattle.numbers.proofs.Squares.{whole-root-unique, four, four-pow, four-pos}
@@ -55,20 +55,14 @@ half-size a i lo hi =
     half z i l h = omega arith
 
 -- the number under the root in units of 2 ^ k, four times: it has 2 * p + 1 or 2 * p + 2 digits
-pub drops-is : (p a M k : ℕ) → 2 ≤ p → M * 4 ^ k ≡ 4 * a → 4 ^ p ≤ M → M < 4 ^ suc p → drops p a ≡ k
+drops-is : (p a M k : ℕ) → 2 ≤ p → M * 4 ^ k ≡ 4 * a → 4 ^ p ≤ M → M < 4 ^ suc p → drops p a ≡ k
 drops-is p a M k P e lo hi =
-    ap (λ (x : ℕ). x - p) (half-size a (p - 1 + k) (quarter (4 ^ (p - 1 + k)) a (subst (λ (x : ℕ). x ≤ 4 * a) low-is (subst (λ (x : ℕ). 4 ^ p * 4 ^ k ≤ x) e (mul-le-mul-right (4 ^ k) lo))))
-    (quarter-lt a (4 ^ suc (p - 1 + k)) (subst (λ (x : ℕ). 4 * a < x) high-is (subst (λ (x : ℕ). x < 4 ^ suc p * 4 ^ k) e (mul-lt-mul-of-pos-right hi (four-pos k))))))
+    ap (λ (x : ℕ). x - p) (half-size a (p - 1 + k) (le-of-mul-le-mul-left (subst (λ (x : ℕ). x ≤ 4 * a) low-is (subst (λ (x : ℕ). 4 ^ p * 4 ^ k ≤ x) e (mul-le-mul-right (4 ^ k) lo))) (lit< tt))
+    (lt-of-mul-lt-mul-left 4 (subst (λ (x : ℕ). 4 * a < x) high-is (subst (λ (x : ℕ). x < 4 ^ suc p * 4 ^ k) e (mul-lt-mul-of-pos-right hi (four-pos k))))))
     ∙ rest p k P
   where
     rest : (p k : ℕ) → 2 ≤ p → suc (p - 1 + k) - p ≡ k
     rest p k P = omega arith
-
-    quarter : (x a : ℕ) → 4 * x ≤ 4 * a → x ≤ a
-    quarter x a h = omega arith
-
-    quarter-lt : (a x : ℕ) → 4 * a < 4 * x → a < x
-    quarter-lt a x h = omega arith
 
     same : (p k : ℕ) → 2 ≤ p → p + k ≡ suc (p - 1 + k)
     same p k P = omega arith
@@ -79,9 +73,6 @@ drops-is p a M k P e lo hi =
     high-is : 4 ^ suc p * 4 ^ k ≡ 4 * 4 ^ suc (p - 1 + k)
     high-is = sym (pow-add 4 (suc p) k) ∙ ap (λ (x : ℕ). 4 ^ x) (same (suc p) k (le-trans P (le-suc p))) ∙ pow-succ' 4 (suc p - 1 + k) ∙ ap (λ (x : ℕ). 4 * 4 ^ x) (again p k P)
       where
-        le-suc : (p : ℕ) → p ≤ suc p
-        le-suc p = omega arith
-
         again : (p k : ℕ) → 2 ≤ p → suc p - 1 + k ≡ suc (p - 1 + k)
         again p k P = omega arith
 
@@ -118,14 +109,3 @@ rooted f n M k r e lo hi h o =
     let read : ofBits f (k * hid f + q) ≡ units f false q k =
     ap (ofBits f) (sym (zero-add (k * hid f + q) ∙ refl) ∙ ap (λ (x : ℕ). 0 + x) (sym (min-eq-left (under-inf f false q k most (inr (d .0)) fit)))) ∙ ofBits-units f false q k most (inr (d .0)) in
     (is, fit, read ∙ sym is)
-
--- ---- the root is no NaN
-pub root-no-nan : (f : Format) (x : Float) → T (not (isNan (rootOf f x)))
-unfolding rootOf rootUnits isNan
-root-no-nan f nan = tt
-root-no-nan f (inf s) = tt
-root-no-nan f (fin s zero e) = tt
-root-no-nan f (fin true (suc m) e) = tt
-root-no-nan f (fin false (suc m) e) =
-    let a = suc m * up e * 2 ^ low f / down e * 2 ^ low f in
-    units-no-nan f false (keeps a (drops (prec f) a)) (drops (prec f) a)

@@ -55,7 +55,7 @@ module _ (f : Format) (n c k : ℕ) (C : 0 < c) (d : Dropped f n c k) where
     at : (W : ℕ) → w ≡ W * 2 ^ k → Place w
     short : gap n (q * (c * 2 ^ k)) < gap n (w * c) → Place w
 
-  pub place : (w : ℕ) → Grid f w → Place w
+  place : (w : ℕ) → Grid f w → Place w
   place w g = go (d .least) (grid-or-small f w k g)
     where
       nearer : (x y z : ℕ) → x < y → y ≤ n → z ≤ gap n y → z < gap n x
@@ -86,21 +86,21 @@ module _ (f : Format) (n c k : ℕ) (C : 0 < c) (d : Dropped f n c k) where
       go (short s) = absurd (not-le-of-lt s l)
 
   -- zero is a value too: whatever has the other sign is no nearer than it
-  pub best-zero : gap n (q * (c * 2 ^ k)) ≤ n
-  best-zero = le-trans (rounded-best n (c * 2 ^ k) q 0 rounded-q) (le-of-eq (all n (0 * (c * 2 ^ k)) (zero-mul (c * 2 ^ k))))
+  zero-off : gap n (0 * (c * 2 ^ k)) ≡ n
+  zero-off = all n (0 * (c * 2 ^ k)) (zero-mul (c * 2 ^ k))
     where
       all : (n z : ℕ) → z ≡ 0 → gap n z ≡ n
       all n z e = omega arith
 
+  pub best-zero : gap n (q * (c * 2 ^ k)) ≤ n
+  best-zero = le-trans (rounded-best n (c * 2 ^ k) q 0 rounded-q) (le-of-eq zero-off)
+
   pub tie-zero : n ≤ gap n (q * (c * 2 ^ k)) → q % 2 ≡ 0
   tie-zero l = go (ℕ-discrete 0 q)
     where
-      all : (n z : ℕ) → z ≡ 0 → n ≡ gap n z
-      all n z e = omega arith
-
       go : Dec (0 ≡ q) → q % 2 ≡ 0
       go (yes e) = ap (λ (x : ℕ). x % 2) (sym e)
-      go (no ne) = rounded-even n (c * 2 ^ k) q 0 rounded-q (le-antisymm (rounded-best n (c * 2 ^ k) q 0 rounded-q) (subst (λ (x : ℕ). x ≤ gap n (q * (c * 2 ^ k))) (all n (0 * (c * 2 ^ k)) (zero-mul (c * 2 ^ k))) l)) ne
+      go (no ne) = rounded-even n (c * 2 ^ k) q 0 rounded-q (le-antisymm (rounded-best n (c * 2 ^ k) q 0 rounded-q) (subst (λ (x : ℕ). x ≤ gap n (q * (c * 2 ^ k))) (sym zero-off) l)) ne
 
   -- ---- another value that is as near is the next on the other side, and has its digits as q has
   pub record Next (w : ℕ) : Type 0 where

@@ -13,7 +13,7 @@ use Rattle.numbers.specs.Computed.{WholeRoot, digit, rootIn, wholeRoot}
 pub sq-suc : (r : ℕ) → suc r * suc r ≡ r * r + 2 * r + 1
 sq-suc r = omega (arith, suc-mul r (suc r), mul-suc r r)
 
-pub sq-twice : (r : ℕ) → 2 * r * (2 * r) ≡ 4 * (r * r)
+sq-twice : (r : ℕ) → 2 * r * (2 * r) ≡ 4 * (r * r)
 sq-twice r = mul-mul-mul-comm 2 r 2 r
 
 digit-law : (n r : ℕ) → WholeRoot (n / 4) r → WholeRoot n (digit n (2 * r))
@@ -45,7 +45,7 @@ whole-root-law n = rootIn-law (size n) n (lt-of-lt-of-le (size-lt n) (le-trans (
     grow : (p : ℕ) → 0 < p → p ≤ p * p
     grow (suc p) h = omega (arith, suc-mul p (suc p))
 
-pub root-le : (a b r s : ℕ) → a ≤ b → WholeRoot a r → WholeRoot b s → r ≤ s
+root-le : (a b r s : ℕ) → a ≤ b → WholeRoot a r → WholeRoot b s → r ≤ s
 root-le a b r s l h k =
     le-of-suc-le-suc (lt-of-not-le (λ (g : suc s ≤ r). lt-irrefl b (lt-of-lt-of-le (k .1) (le-trans (mul-le-mul g g) (le-trans (h .0) l)))))
 

@@ -10,9 +10,10 @@ use lib.Dec.{eqb, ltb}
 use borrow.Author.Tests.{eq-eqb, ne-eqb, le-ltb, eqb-true, not-false, ltb-false}
 use lib.Ieee.{Float, nan}
 use lib.Ieee.Scale.{finite}
+use Rattle.refusals.specs.Refusals.{outside}
 pub use Rattle.refusals.proofs.First.{or-off}
 use Rattle.planes.specs.Tables.{tab, any, unsound}
-use Rattle.planes.specs.Planes.{outside, unfit, sampleAt}
+use Rattle.planes.specs.Planes.{unfit, sampleAt}
 use Rattle.planes.proofs.Tables.{tab-shift, tab-more, tab-none, tab-all}
 
 -- ---- the first that holds makes an `||` true; one that does not leaves it to the rest

@@ -3,7 +3,7 @@ use mathlib.Core.Path.{_≡_, refl, sym, ap, _∙_}
 use mathlib.Core.Bool.{Bool, cond}
 use mathlib.Core.List.{List, [], _∷_, _++_, append-nil}
 use Prim.Native.Nat.{ℕ, zero, suc, _+_, _-_, _≤_, _<_, zero-le}
-use native.Mathlib.Nat.{not-suc-le-zero, le-of-suc-le-suc, zero-add, add-zero, add-suc, suc-add}
+use native.Mathlib.Nat.{not-suc-le-zero, le-of-suc-le-suc, add-sub-of-le, zero-add, add-zero, add-suc, suc-add}
 use native.Mathlib.Numerals.{add-one}
 use native.Mathlib.Omega.{arith}
 use borrow.Author.Tests.{lt-ltb, le-ltb}
@@ -30,16 +30,13 @@ module _ {A : Type 0} where
   pub first-filled : (f : ℕ → A) (n m : ℕ) (a : A) → n ≤ m → tab 0 n f ++ drop n (replicate m a) ≡ tab 0 m (λ k. cond (ltb k n) (f k) a)
   first-filled f n m a h =
       cc (tab-from 0 n f at (λ k l u. sym (ap (λ (b : Bool). cond b (f k) a) (lt-ltb k n (omega arith)))), rest)
-      ∙ sym (ap (λ (k : ℕ). tab 0 k at) (parts n m h) ∙ tab-append 0 n (m - n) at ∙ ap (λ (k : ℕ). tab 0 n at ++ tab k (m - n) at) (zero-add n))
+      ∙ sym (ap (λ (k : ℕ). tab 0 k at) (sym (add-sub-of-le h)) ∙ tab-append 0 n (m - n) at ∙ ap (λ (k : ℕ). tab 0 n at ++ tab k (m - n) at) (zero-add n))
     where
       at : ℕ → A
       at k = cond (ltb k n) (f k) a
 
       rest : drop n (replicate m a) ≡ tab n (m - n) at
       rest = drop-replicate n m a ∙ sym (tab-constant n (m - n) a) ∙ tab-from n (m - n) (λ k. a) at (λ k l u. sym (ap (λ (b : Bool). cond b (f k) a) (le-ltb k n l)))
-
-      parts : (n m : ℕ) → n ≤ m → m ≡ n + (m - n)
-      parts n m h = omega arith
 
 -- the first n places of a list are filled with f 0, f 1, .., those before i so far
 pub record Filling {A : Type 0} (f : ℕ → A) (n : ℕ) (l₀ l : List A) (i : ℕ) : Type 0 where

@@ -1,7 +1,7 @@
--- Laws of lists that the library lacks: a list read backwards, and a list of one value. Assumes nothing.
+-- Laws of lists that the library lacks: a place beyond the end, a list read backwards, and a list of one value. Assumes nothing.
 use mathlib.Core.Path.{_≡_, refl, sym, ap, _∙_}
 use mathlib.Core.Logic.{_⊎_, inl, inr, ⊎-elim}
-use mathlib.Core.List.{List, [], _∷_, _++_, map, reverse, reverse-cons}
+use mathlib.Core.List.{List, [], _∷_, _++_, reverse, reverse-cons}
 use Prim.Native.Nat.{ℕ, zero, suc, _+_, _-_, _≤_, _<_, min, zero-le, suc-le-suc}
 use native.Mathlib.Nat.{not-suc-le-zero, le-of-suc-le-suc, sub-zero, zero-sub, suc-sub-suc}
 use native.Mathlib.Omega.{arith}
@@ -81,9 +81,3 @@ module _ {A : Type 0} where
   drop-replicate zero n a = ap (λ (m : ℕ). replicate m a) (sym (sub-zero n))
   drop-replicate (suc k) zero a = ap (λ (m : ℕ). replicate m a) (sym (zero-sub (suc k)))
   drop-replicate (suc k) (suc n) a = drop-replicate k n a ∙ ap (λ (m : ℕ). replicate m a) (sym (suc-sub-suc n k))
-
-module _ {A B : Type 0} where
-  pub map-take : (f : A → B) (n : ℕ) (l : List A) → map f (take n l) ≡ take n (map f l)
-  map-take f zero l = refl
-  map-take f (suc n) [] = refl
-  map-take f (suc n) (x ∷ l) = ap (λ (r : List B). f x ∷ r) (map-take f n l)

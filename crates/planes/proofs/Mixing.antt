@@ -1,18 +1,18 @@
 -- What the loops of `mix` and `mix_frame` keep: the sum so far, gone on with over the channels that are left, and the frames so far, gone on with over the outputs that are left. Assumes nothing.
 use mathlib.Core.Path.{_≡_, refl, sym, ap, _∙_}
 use mathlib.Core.List.{List}
-use Prim.Native.Nat.{ℕ, suc, _+_, _-_, _*_, _≤_, _<_, min, zero-le}
+use Prim.Native.Nat.{ℕ, _+_, _-_, _*_, _≤_, _<_, min, zero-le}
 use native.Mathlib.Nat.{zero-add, zero-mul, suc-mul}
 use native.Mathlib.Numerals.{add-one}
 use native.Mathlib.Omega.{arith}
-use lib.ListN.{length, getD, take, drop, length-set, length-take, length-drop}
+use lib.ListN.{length, getD, take, drop, length-take, length-drop}
 use lib.Ieee.{Float, nan, binary64, add, mul}
 use Rattle.numbers.specs.Computed.{narrowed, zero-float}
-use Rattle.planes.specs.Tables.{tab, row}
-use Rattle.planes.specs.Planes.{sampleAt, frameAt, withSample, withFrameFrom, withFrame}
+use Rattle.planes.specs.Tables.{row}
+use Rattle.planes.specs.Planes.{sampleAt, frameAt, withSample, withFrame}
 use Rattle.planes.specs.Sums.{dot, mixed, mixedAll}
 use Rattle.planes.proofs.Lists.{getD-min, drop-min, take-min}
-use Rattle.planes.proofs.Tables.{length-tab, getD-tab, take-tab, tab-more, tab-none, tab-all}
+use Rattle.planes.proofs.Tables.{length-tab, getD-tab, take-tab}
 use Rattle.planes.proofs.Framing.{Sampling, sampling-none, sampling-more, sampling-all}
 use Rattle.planes.proofs.Sums.{dot-more, dot-done, dot-take}
 
@@ -52,11 +52,11 @@ module _ (weights inputs : List Float) (stride frame : ℕ) where
 
 -- ---- a row of the weights, handed on as a part
 
-pub row-part : (n i : ℕ) (xs : List Float) (from to : ℕ) → from ≡ min (i * n + 0) (length xs) → to ≡ min (from + n) (length xs) → take (to - from) (drop from xs) ≡ row n i xs
+row-part : (n i : ℕ) (xs : List Float) (from to : ℕ) → from ≡ min (i * n + 0) (length xs) → to ≡ min (from + n) (length xs) → take (to - from) (drop from xs) ≡ row n i xs
 row-part n i xs from to ef et = take-min (drop from xs) n (to - from) (omega (arith, length-drop from xs)) ∙ ap (take n) (drop-min xs (i * n) from (omega arith))
 
 -- a row is no longer than n, so that it does not reach further channels
-pub mixed-row : (n i : ℕ) (weights inputs : List Float) (stride frame : ℕ)
+mixed-row : (n i : ℕ) (weights inputs : List Float) (stride frame : ℕ)
     → mixed (row n i weights) (frameAt inputs stride (length (row n i weights)) frame) ≡ mixed (row n i weights) (frameAt inputs stride n frame)
 unfolding mixed
 mixed-row n i weights inputs stride frame =

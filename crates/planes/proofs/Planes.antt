@@ -3,9 +3,10 @@ use mathlib.Core.Path.{_≡_, refl, sym, ap, _∙_}
 use mathlib.Core.Logic.{⊎-elim}
 use mathlib.Core.List.{List, [], _∷_}
 use Prim.Native.Nat.{ℕ, zero, suc, _+_, _*_, _≤_, _<_, suc-le-suc}
-use native.Mathlib.Nat.{not-suc-le-zero, le-of-suc-le-suc, mul-le-mul-right, suc-mul, add-zero, zero-add, suc-add, add-suc}
+use native.Mathlib.Nat.{not-suc-le-zero, le-of-suc-le-suc, add-zero, zero-add, suc-add, add-suc}
 use native.Mathlib.Decide.{ℕ-discrete}
 use native.Mathlib.Omega.{arith}
+use lib.Arith.{digits-lt}
 use lib.ListN.{length, getD, set, drop, length-set}
 use lib.Seq.{getD-set-same, getD-set-other, getD-take, getD-drop, ext-getD}
 use lib.Ieee.{Float, nan}
@@ -16,12 +17,11 @@ use Rattle.planes.proofs.Tables.{length-tab, getD-tab, length-row}
 
 -- ---- places
 
--- plane p ends before a later one begins
-pub plane-before : (stride p q n : ℕ) → p < q → n < stride → p * stride + n < q * stride
-plane-before stride p q n h b = omega (arith, mul-le-mul-right stride h, suc-mul p stride)
+move : (n k : ℕ) → n + suc k ≡ suc n + k
+move n k = omega arith
 
 -- two places are the same only in one plane
-pub same-plane : (stride p q n m : ℕ) → n < stride → m < stride → p * stride + n ≡ q * stride + m → p ≡ q
+same-plane : (stride p q n m : ℕ) → n < stride → m < stride → p * stride + n ≡ q * stride + m → p ≡ q
 same-plane stride p q n m hn hm e =
     ⊎-elim
     (λ (lt : p < q). absurd (below lt))
@@ -29,17 +29,17 @@ same-plane stride p q n m hn hm e =
     (split p q)
   where
     below : p < q → ⊥
-    below lt = omega (arith, plane-before stride p q n lt hn)
+    below lt = omega (arith, digits-lt lt hn)
 
     above : q < p → ⊥
-    above lt = omega (arith, plane-before stride q p m lt hm)
+    above lt = omega (arith, digits-lt lt hm)
 
-pub same-frame : (stride p q n m : ℕ) → n < stride → m < stride → p * stride + n ≡ q * stride + m → n ≡ m
+same-frame : (stride p q n m : ℕ) → n < stride → m < stride → p * stride + n ≡ q * stride + m → n ≡ m
 same-frame stride p q n m hn hm e = omega (arith, e, ap (λ (k : ℕ). k * stride) (same-plane stride p q n m hn hm e))
 
 -- a place of one of so many planes lies inside
 pub inside : (planes stride p n room : ℕ) → p < planes → n < stride → room ≡ planes * stride → p * stride + n < room
-inside planes stride p n room hp hn e = omega (arith, plane-before stride p planes n hp hn)
+inside planes stride p n room hp hn e = omega (arith, digits-lt hp hn)
 
 -- ---- a frame
 
@@ -47,14 +47,14 @@ pub length-with-frame : (p : ℕ) (xs : List Float) (stride n : ℕ) (f : List F
 length-with-frame p xs stride n [] = refl
 length-with-frame p xs stride n (x ∷ f) = length-with-frame (suc p) (withSample xs stride p n x) stride n f ∙ length-set xs (p * stride + n) x
 
-pub with-frame-other : (p : ℕ) (xs : List Float) (stride n : ℕ) (f : List Float) (i : ℕ) → ((k : ℕ) → k < length f → i ≡ (p + k) * stride + n → ⊥)
+with-frame-other : (p : ℕ) (xs : List Float) (stride n : ℕ) (f : List Float) (i : ℕ) → ((k : ℕ) → k < length f → i ≡ (p + k) * stride + n → ⊥)
     → getD (withFrameFrom p xs stride n f) i nan ≡ getD xs i nan
 with-frame-other p xs stride n [] i h = refl
 with-frame-other p xs stride n (x ∷ f) i h =
     with-frame-other (suc p) (withSample xs stride p n x) stride n f i (λ k lt e. h (suc k) (suc-le-suc lt) (e ∙ ap (λ (q : ℕ). q * stride + n) (suc-add p k ∙ sym (add-suc p k))))
     ∙ getD-set-other xs (p * stride + n) i x nan (λ e. h 0 (suc-le-suc (omega arith)) (e ∙ ap (λ (q : ℕ). q * stride + n) (sym (add-zero p))))
 
-pub with-frame-at : (p : ℕ) (xs : List Float) (stride n : ℕ) (f : List Float) (k : ℕ) → k < length f → n < stride → (p + k) * stride + n < length xs
+with-frame-at : (p : ℕ) (xs : List Float) (stride n : ℕ) (f : List Float) (k : ℕ) → k < length f → n < stride → (p + k) * stride + n < length xs
     → getD (withFrameFrom p xs stride n f) ((p + k) * stride + n) nan ≡ getD f k nan
 with-frame-at p xs stride n [] k lt hn room = absurd (not-suc-le-zero lt)
 with-frame-at p xs stride n (x ∷ f) zero lt hn room =
@@ -67,9 +67,6 @@ with-frame-at p xs stride n (x ∷ f) zero lt hn room =
 with-frame-at p xs stride n (x ∷ f) (suc k) lt hn room =
     ap (λ (q : ℕ). getD (withFrameFrom (suc p) (withSample xs stride p n x) stride n f) (q * stride + n) nan) (move p k)
     ∙ with-frame-at (suc p) (withSample xs stride p n x) stride n f k (le-of-suc-le-suc lt) hn (rw (length-set, ← move p k) room)
-  where
-    move : (p k : ℕ) → p + suc k ≡ suc p + k
-    move p k = omega arith
 
 -- what was written as a frame is read as one
 pub frame-read : (xs : List Float) (stride n : ℕ) (f : List Float) → n < stride → length xs ≡ length f * stride → frameAt (withFrame xs stride n f) stride (length f) n ≡ f
@@ -144,6 +141,3 @@ with-frames-at planes xs stride n (f ∷ fs) p zero lt hp room e each =
 with-frames-at planes xs stride n (f ∷ fs) p (suc k) lt hp room e each =
     ap (λ (m : ℕ). sampleAt (withFrames (withFrame xs stride n f) stride (suc n) fs) stride p m) (move n k)
     ∙ with-frames-at planes (withFrame xs stride n f) stride (suc n) fs p k (le-of-suc-le-suc lt) hp (omega arith) (length-with-frame 0 xs stride n f ∙ e) (λ j h. each (suc j) (suc-le-suc h))
-  where
-    move : (n k : ℕ) → n + suc k ≡ suc n + k
-    move n k = omega arith

@@ -1,8 +1,8 @@
 -- Laws of tables and rows: what a table holds, that it is known by its places, what is left of it in a loop, and where a row begins and ends. Assumes nothing.
 use mathlib.Core.Path.{_≡_, refl, sym, ap, _∙_}
-use mathlib.Core.List.{List, [], _∷_, _++_, map}
+use mathlib.Core.List.{List, [], _∷_, _++_}
 use Prim.Native.Nat.{ℕ, zero, suc, _+_, _-_, _*_, _≤_, _<_}
-use native.Mathlib.Nat.{le-refl, not-suc-le-zero, le-of-suc-le-suc, add-zero, zero-add, add-suc, suc-add, sub-zero, mul-le-mul-right, suc-mul}
+use native.Mathlib.Nat.{le-refl, not-suc-le-zero, le-of-suc-le-suc, add-zero, zero-add, add-suc, suc-add, sub-zero, add-sub-cancel-left, mul-le-mul-right, suc-mul}
 use native.Mathlib.Numerals.{add-one}
 use native.Mathlib.Omega.{arith}
 use lib.ListN.{length, getD, take, drop, length-take, length-drop}
@@ -70,16 +70,8 @@ module _ {A : Type 0} where
 
   -- a part from a to a + n
   pub part-is : (a n : ℕ) (xs : List A) → take (a + n - a) (drop a xs) ≡ take n (drop a xs)
-  part-is a n xs = ap (λ (k : ℕ). take k (drop a xs)) (less a n)
-    where
-      less : (a n : ℕ) → a + n - a ≡ n
-      less a n = omega arith
+  part-is a n xs = ap (λ (k : ℕ). take k (drop a xs)) (add-sub-cancel-left a n)
 
 -- row i of m rows ends where they end, or before
 pub row-end : (i m n room : ℕ) → i < m → room ≡ m * n → i * n + n ≤ room
 row-end i m n room h e = omega (arith, mul-le-mul-right n h, suc-mul i n)
-
-module _ {A B : Type 0} where
-  pub map-tab : (g : A → B) (i n : ℕ) (f : ℕ → A) → map g (tab i n f) ≡ tab i n (λ k. g (f k))
-  map-tab g i zero f = refl
-  map-tab g i (suc n) f = ap (λ (r : List B). g (f i) ∷ r) (map-tab g (suc i) n f)

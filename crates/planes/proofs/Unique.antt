@@ -6,9 +6,10 @@ use Prim.Native.Nat.{ℕ, _*_, min}
 use lib.Dec.{eqb}
 use lib.Ieee.{Float}
 use lib.Ieee.Scale.{finite}
+use Rattle.refusals.specs.Refusals.{outside}
 use Rattle.refusals.proofs.Determined.{determined}
 use Rattle.planes.specs.Tables.{unsound}
-use Rattle.planes.specs.Planes.{outside, blockUnfit, sampleAt, frameAt, withSample, withFrame}
+use Rattle.planes.specs.Planes.{blockUnfit, sampleAt, frameAt, withSample, withFrame}
 use Rattle.planes.specs.Sums.{mixedAll}
 use Rattle.planes.specs.Normalization.{InverseRoot}
 

@@ -1,4 +1,4 @@
--- Document 01, 'What must change shape': "`&[&[S]]` becomes planes with a stride in one slice", and 'Refusal numbers' 2 and 5: "stride below the frame count, or a length other than planes x stride".
+-- Document 01, 'What must change shape': "`&[&[S]]` becomes planes with a stride in one slice", and 'Refusal numbers' 5: "stride below the frame count, or a length other than planes x stride".
 -- Frame n of plane p stands at p x stride + n. Definitions only. A place outside the list reads as NaN, and writing there changes nothing.
 use Prim.Native.Nat.{ℕ, suc, _+_, _*_}
 use mathlib.Core.Bool.{Bool, not, _||_}
@@ -7,10 +7,6 @@ use lib.Dec.{ltb, eqb}
 use lib.ListN.{getD, set}
 use lib.Ieee.{Float, nan}
 use Rattle.planes.specs.Tables.{tab}
-
--- "speakers or bank rows are not 1..8", "channels not 1..16": a count is not 1..top
-abbrev pub outside : ℕ → ℕ → Bool
-outside n top = eqb n 0 || ltb top n
 
 -- stride below the frame count, or a length other than planes x stride
 abbrev pub unfit : ℕ → ℕ → ℕ → ℕ → Bool

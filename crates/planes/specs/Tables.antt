@@ -1,4 +1,4 @@
--- Lists that are said by a rule for each place: the words "rising" and "one of them" of document 01. Definitions only.
+-- Lists that are said by a rule for each place: the words "rising" and "one of" of document 01. Definitions only.
 use Prim.Native.Nat.{ℕ, zero, suc, _+_, _*_}
 use mathlib.Core.Bool.{Bool, false, not, _||_, cond}
 use mathlib.Core.List.{List, [], _∷_}

@@ -11,8 +11,9 @@ ghost use lib.Dec.{eqb};
 ghost use lib.ListN.{length, getD};
 ghost use lib.Ieee.{nan};
 ghost use lib.Ieee.Scale.{finite};
+ghost use Rattle.refusals.specs.Refusals.{outside};
 ghost use Rattle.planes.specs.Tables.{unsound};
-ghost use Rattle.planes.specs.Planes.{outside, unfit, blockUnfit, sampleAt, frameAt, withSample, withFrame};
+ghost use Rattle.planes.specs.Planes.{unfit, blockUnfit, sampleAt, frameAt, withSample, withFrame};
 ghost use Rattle.planes.specs.Sums.{mixed, mixedAll};
 ghost use Rattle.planes.specs.Normalization.{InverseRoot};
 

@@ -2,8 +2,9 @@
 -- An operation lists its tests in the order in which they are checked, each with its number. The order is that of the list, so that a number which has to stand
 -- elsewhere than its size says (as some of the later requests ask) is a matter of where it is written.
 use Prim.Native.Nat.{ℕ}
-use mathlib.Core.Bool.{Bool, cond}
+use mathlib.Core.Bool.{Bool, cond, _||_}
 use mathlib.Core.List.{List, [], _∷_}
+use lib.Dec.{eqb, ltb}
 
 pub record Check : Type 0 where
   pub number : ℕ
@@ -17,3 +18,7 @@ n when b = record { number = n; holds = b }
 abbrev pub firstOf : List Check → ℕ
 firstOf [] = 0
 firstOf (c ∷ cs) = cond (c .holds) (c .number) (firstOf cs)
+
+-- a count is not 1..top: "Custom n is 0 or above 16", "speakers or bank rows are not 1..8", "channels not 1..16", "L is 0 or above 512"
+abbrev pub outside : ℕ → ℕ → Bool
+outside n top = eqb n 0 || ltb top n

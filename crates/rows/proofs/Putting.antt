@@ -10,7 +10,7 @@ use lib.Ieee.{Float, binary64, mul}
 use Rattle.rows.specs.Rows.{scaled}
 
 -- what falls behind the end is left out
-pub sets-out : {A : Type 0} (l : List A) (i : ℕ) (vs : List A) → length l ≤ i → sets l i vs ≡ l
+sets-out : {A : Type 0} (l : List A) (i : ℕ) (vs : List A) → length l ≤ i → sets l i vs ≡ l
 sets-out l i [] h = refl
 sets-out {A = A} l i (a ∷ vs) h = ap (λ (m : List A). sets m (suc i) vs) (set-out l i a h) ∙ sets-out l (suc i) vs (le-trans h (le-suc i))
 

@@ -3,7 +3,7 @@
 // "harmonics at the speaker times 1/root(n)", "the literals of 002 .. times 1.0/root(2.0)").
 //
 // It takes any input and promises the list by an equation (specs/Rows.antt): what falls behind the end
-// of the list is left out. Nothing lies under it.
+// of the list is left out. Under it lies `refusals`.
 ghost use mathlib.Core.Path.{_≡_};
 ghost use lib.Seq.{sets};
 ghost use Rattle.rows.specs.Rows.{scaled};

@@ -40,7 +40,7 @@ steep-enough : 12 * half * 4 ≤ 180 * parts
 unfolding half parts
 steep-enough = lit≤ tt
 
-pub degrees-close : (w : Wave) {W E : ℕ} {a b : Fraction} → 0 < W → Size 1 a 180 → Size 1 b 180 → Close W a b E → Close (4 * W) (wave w a) (wave w b) E
+degrees-close : (w : Wave) {W E : ℕ} {a b : Fraction} → 0 < W → Size 1 a 180 → Size 1 b 180 → Close W a b E → Close (4 * W) (wave w a) (wave w b) E
 degrees-close w {W} {E} {a} {b} o h g c =
     let V-pos : 0 < 180 * parts * W = mul-pos (mul-pos {m = 180} (lit< tt) parts-pos) o in
     close-unit V-pos (enough half parts W E steep-enough) (sum-close w V-pos (radians-half a h) (radians-half b g) (radians-close a b c))

@@ -8,7 +8,7 @@ use native.Mathlib.Omega.{arith}
 use lib.Dec.{lit≤, lit<}
 use Rattle.fractions.specs.Fraction.{Fraction, fraction, whole, opposite, square, _⊕_, Same, AtMost}
 use Rattle.fractions.proofs.Ring.{ring}
-use Rattle.fractions.proofs.Order.{same-refl, same-sym, same-trans, at-most-same}
+use Rattle.fractions.proofs.Order.{same-refl, same-sym, same-trans, at-most-same, not-below}
 use Rattle.fractions.proofs.Close.{Close, Least, close-sym, close-unit}
 use Rattle.fractions.proofs.Within.{within-close}
 use Rattle.fractions.proofs.Divide.{least-near, least-positive, least-mul, least-same}
@@ -108,7 +108,7 @@ module _ (d : Fraction) (D : 0 < d .over) where
       (rw (radians-is d) (low-nat (d .plus) (d .minus) (d .over) half parts ten (omega arith) ten-is))
       (rw (radians-is d) (high-nat (d .plus) (d .minus) (d .over) half parts quarter (omega arith) ninety-is))
 
-  pub sine-least : AtMost (whole 10) d → AtMost d (whole 90) → Least 100000 (defined sine d) 17363
+  sine-least : AtMost (whole 10) d → AtMost d (whole 90) → Least 100000 (defined sine d) 17363
   sine-least l h =
       let R = reduced-pos d D in
       least-near {E = 1} 17363 (lit≤ tt) (close-unit (lit< tt) (lit≤ tt) (within-close (defined-sum sine d D)))
@@ -158,10 +158,7 @@ below-nat xp xm xo yp ym yo W h k = let h' = simp ring at h in let k' = simp rin
 pub near-not-below : {W : ℕ} (x y : Fraction) → Close W x y 1 → AtMost (whole 0) y → AtMost (fraction 0 1 W) x
 near-not-below {W} x y c h =
     le-of-mul-le-mul-right
-    (below-nat (x .plus) (x .minus) (x .over) (y .plus) (y .minus) (y .over) W (mul-le-mul-right (x .over * W) (sides y h)) (c .below)) (c .second)
-  where
-    sides : (y : Fraction) → AtMost (whole 0) y → y .minus ≤ y .plus
-    sides y h = omega arith
+    (below-nat (x .plus) (x .minus) (x .over) (y .plus) (y .minus) (y .over) W (mul-le-mul-right (x .over * W) (not-below y h)) (c .below)) (c .second)
 
 module _ (d : Fraction) (D : 0 < d .over) (l : AtMost (whole 0) d) (h : AtMost d (whole 90)) where
   itself : Same (reduced d) d
@@ -169,10 +166,7 @@ module _ (d : Fraction) (D : 0 < d .over) (l : AtMost (whole 0) d) (h : AtMost d
 
   wave-not-below : AtMost (whole 0) (wave sine d)
   wave-not-below =
-      sum-not-below (radians d) (radians-pos d D) (rw (radians-is d) (low (d .plus) (d .minus) half (omega arith))) (rw (radians-is d) (high-nat (d .plus) (d .minus) (d .over) half parts quarter (omega arith) ninety-is))
-    where
-      low : (p m H : ℕ) → m ≤ p → m * H ≤ p * H
-      low p m H h = mul-le-mul-right H h
+      sum-not-below (radians d) (radians-pos d D) (rw (radians-is d) (mul-le-mul-right half (not-below d l))) (rw (radians-is d) (high-nat (d .plus) (d .minus) (d .over) half parts quarter (omega arith) ninety-is))
 
   pub reduced-not-below : AtMost (whole 0) (wave sine (reduced d))
   reduced-not-below = at-most-same (whole 0) (whole 0) (wave sine (reduced d)) (wave sine d) (same-refl (whole 0)) (wave-same sine (reduced d) d itself) (lit< tt) (wave-pos sine d D) wave-not-below

@@ -26,7 +26,7 @@ pub radians-is : (d : Fraction) → radians d ≡ fraction (d .plus * half) (d .
 unfolding radians half parts
 radians-is d = equal (omega arith) (omega arith) refl
 
-pub radians-same : (d e : Fraction) → Same d e → Same (radians d) (radians e)
+radians-same : (d e : Fraction) → Same d e → Same (radians d) (radians e)
 unfolding radians
 radians-same d e h = same-mul d e degree degree h (same-refl degree)
 

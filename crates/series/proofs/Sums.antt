@@ -2,7 +2,7 @@
 use mathlib.Core.Path.{_≡_, refl, ap, _∙_, subst}
 use mathlib.Core.List.{List, [], _∷_}
 use Prim.Native.Nat.{ℕ, _+_, _*_, _/_, _^_, _≤_, _<_}
-use native.Mathlib.Nat.{mul-pos, one-mul, mul-le-mul-left, mul-le-mul-right, le-of-mul-le-mul-left}
+use native.Mathlib.Nat.{mul-pos, one-mul, mul-right-comm, mul-le-mul-left, mul-le-mul-right, le-of-mul-le-mul-left}
 use native.Mathlib.Omega.{arith}
 use lib.Dec.{lit≤, lit<}
 use Rattle.fractions.specs.Fraction.{Fraction, fraction, whole, opposite, square, _⊕_, Same, Within}
@@ -65,11 +65,8 @@ sum-larger w x X e k i =
     (same-trans (sum w x) (valued cs x) (quotient (value 29 cs (e · numerator x) (e * d)) (common * raised (e * d) 29)) (valued-pos x X cs) (sum-valued x X w)
     (rw (value-larger e 29 cs (numerator x) d, raised-times e d 29) (larger-nat (v .plus) (v .minus) (raised e 29) common (raised d 29))))
 
-turn-nat : (f d P : ℕ) → f * P * d ≡ f * d * P
-turn-nat f d P = simp ring
-
 sum-over : (w : Wave) (x : Fraction) → 0 < x .over → (f k : ℕ) → f * x .over ≡ k → Same (sum w x) (quotient (top w (numerator-by f x) k) (bottom k))
-sum-over w x X f k i = sum-larger w x X (f * parts) k (turn-nat f (x .over) parts ∙ ap (λ (n : ℕ). n * parts) i)
+sum-over w x X f k i = sum-larger w x X (f * parts) k (mul-right-comm f parts (x .over) ∙ ap (λ (n : ℕ). n * parts) i)
 
 reach-nat : (p m d f P H : ℕ) → p * P * f ≤ (m * P + H * d) * f → f * P * p ≤ f * P * m + f * d * H
 reach-nat p m d f P H h = let h' = simp ring at h in simp ring (omega arith)

@@ -2,7 +2,7 @@
 -- are the same or opposite (180, the one angle whose opposite is reduced to itself, is a multiple of 90). Assumes nothing.
 use mathlib.Core.Path.{_≡_, refl, sym, ap, _∙_, subst}
 use mathlib.Core.Logic.{_⊎_, inl, inr}
-use mathlib.Core.Bool.{Bool, true, cond}
+use mathlib.Core.Bool.{Bool, cond}
 use Prim.Native.Nat.{ℕ, _+_, _*_, _-_, _/_, _%_, _≤_, _<_}
 use native.Mathlib.Nat.{mul-one, mul-assoc, mul-div-cancel, le-dest, le-of-lt, add-comm, add-mul, zero-mul, zero-mod, mul-pos, mul-le-mul-right, mul-lt-mul-of-pos-right, eq-of-mul-eq-mul-right, mul-mod-left}
 use native.Mathlib.Omega.{arith}
@@ -134,14 +134,11 @@ turned-multiple d D k h = sym (mul-one (turned d)) ∙ turned-same d (whole (90 
         rest : (k : ℕ) → (90 * k + (360 - 0 % 360)) % 360 ≡ k % 4 * 90
         rest k = omega arith
 
-cond-true : {b : Bool} (x y : Fraction) → b ≡ true → cond b x y ≡ x
-cond-true x y h = ap (λ (t : Bool). cond t x y) h
-
 pub defined-multiple : (w : Wave) (d : Fraction) → 0 < d .over → (k : ℕ) → Same d (whole (90 * k)) → defined w d ≡ exact-at w (k % 4)
 unfolding place
 defined-multiple w d D k h =
     let o = d .over in
     let N : 0 < 90 * o = mul-pos {m = 90} (lit< tt) D in
     defined-place w d ∙ ap (λ (r : ℕ). place r o w) (turned-multiple d D k h)
-    ∙ cond-true (exact-at w (k % 4 * (90 * o) / (90 * o))) (wave w (around (k % 4 * (90 * o)) o)) (eq-eqb (k % 4 * (90 * o) % (90 * o)) 0 (mul-mod-left (k % 4) (90 * o)))
+    ∙ ap (λ (b : Bool). cond b (exact-at w (k % 4 * (90 * o) / (90 * o))) (wave w (around (k % 4 * (90 * o)) o))) (eq-eqb (k % 4 * (90 * o) % (90 * o)) 0 (mul-mod-left (k % 4) (90 * o)))
     ∙ ap (exact-at w) (mul-div-cancel (k % 4) N)

@@ -10,10 +10,10 @@
 //   |S|, |C| ≤ 1 + 2^-50                          S² + C² = 1, up to 2^-50
 //   two angles t degrees apart                    values t / 4 + 2^-52 apart at most
 //   whole turns, the opposite angle               exact
-//   a quarter turn more, 90 less the angle        up to 2^-51; half a turn: up to 2^-50
+//   a quarter turn more, cos(90 - d)              up to 2^-51
 //   90 times a whole number                       exactly 0, 1 or -1
-//   the sine from 10 to 90, the cosine to 80      0.1736 at least, its square 3/100
 //   cos(90 - d) from 0 to 90                      not below 0, up to 2^-50
+//   cos(90 - d) from 10 to 90                     its square 3/100 at least
 //
 // The sizes behind them, exactly computed: the sine's sum at 180 degrees is -2^-54.95 and the cosine's
 // -1 + 2^-58.18; at 90 they are 1 - 2^-83.91 and 2^-61.91; the coefficients of S² + C² - 1, all taken as

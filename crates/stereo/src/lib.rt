@@ -9,7 +9,8 @@
 //   the sine or cosine a degree's part off            a quarter of that, and 2^-52
 //   the program's sine or cosine                      2^-50
 //
-// Under it lie `angles` (sine and cosine) and `planes` (the finite test).
+// Under it lie `angles` (the program's sine and cosine), `series` (the defined ones), `planes` (the finite test),
+// `fractions` and `refusals`.
 ghost use mathlib.Core.Path.{_≡_};
 ghost use Rattle.stereo.specs.Computed.{clampedTo};
 ghost use Rattle.stereo.specs.Promise.{Pans};

@@ -16,11 +16,11 @@ use Rattle.channel.specs.Layouts.{channelsOf, surround, counted}
 use Rattle.channel.specs.declared.Layout.{Layout}
 use Rattle.channel.specs.declared.Counted.{Counted}
 use Rattle.channel.proofs.Counts.{surround-counted, surround-few}
-use Rattle.harmonics.specs.Promise.{refusesAzimuth}
+use Rattle.harmonics.specs.Promise.{refusesAzimuth, silence}
 use Rattle.harmonics.proofs.Laws.{azimuth-number, azimuth-size}
 use Rattle.surround.specs.declared.SurroundGains.{SurroundGains}
 use Rattle.surround.specs.Computed.{rawGains, sumOf, dividedBy}
-use Rattle.surround.specs.Promise.{refusalOf, silence, gainsOf, Gains, Pans}
+use Rattle.surround.specs.Promise.{refusalOf, gainsOf, Gains, Pans}
 use Rattle.surround.proofs.Gains.{gains}
 
 module _ (l : Layout) (a : Float) where

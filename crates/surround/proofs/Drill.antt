@@ -19,11 +19,11 @@ use Rattle.angles.specs.Computed as Angles
 use Rattle.angles.specs.Limits.{isInside, refusesAngle}
 use Rattle.planes.specs.Tables.{tab}
 use Rattle.channel.specs.declared.Layout.the-variants.{Stereo, Surround51, Surround71, Custom}
-use Rattle.harmonics.specs.Promise as Harmonics
+use Rattle.harmonics.specs.Promise.{silence}
 use Rattle.surround.specs.Formula.{distance, rawGain, rawAt, sumAt, isSilent}
 use Rattle.surround.specs.Formula as Formula
 use Rattle.surround.specs.Computed.{absolute, notBelow, placeOf, isNear, angleOf, rawOf, channelGain, rawGains, sumOf, dividedBy}
-use Rattle.surround.specs.Promise.{silence, gainsOf, outcome}
+use Rattle.surround.specs.Promise.{gainsOf, outcome}
 
 abbrev sixteen : Float → Float → Float → Float → List Float
 sixteen l r c s = l ∷ r ∷ c ∷ zero ∷ s ∷ zero ∷ zero ∷ zero ∷ zero ∷ zero ∷ zero ∷ zero ∷ zero ∷ zero ∷ zero ∷ zero ∷ []
@@ -64,7 +64,7 @@ front-sum =
     ∙ ⊕-zero (whole 0 ⊕ g ⊕ g)
     ∙ ap (λ (x : Fraction). x ⊕ g) (zero-⊕ g)
 
-pub halves : Same (whole 2 ⊗ square (rawAt Surround51 (whole 0) 0)) (sumAt Surround51 (whole 0))
+halves : Same (whole 2 ⊗ square (rawAt Surround51 (whole 0) 0)) (sumAt Surround51 (whole 0))
 halves = subst (λ (s : Fraction). Same (whole 2 ⊗ square (rawAt Surround51 (whole 0) 0)) s) (sym front-sum) (twice (square (rawAt Surround51 (whole 0) 0)))
 
 half-nat : (p m o n u z : ℕ) → (2 * p + 0 * m) * u + n * (1 * o) ≡ (n + z) * (1 * o) + (2 * m + 0 * p) * u → p * u * 2 + 0 * (o * z) ≡ 1 * (o * z) + m * u * 2

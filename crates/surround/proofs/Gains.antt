@@ -8,7 +8,7 @@ use native.Mathlib.Nat.{zero-add, zero-mul, mul-pos, lt-irrefl}
 use native.Mathlib.Omega.{arith}
 use borrow.Author.Tests.{lt-ltb, le-ltb, ne-eqb}
 use lib.Dec.{T, leb, ltb, ltb→lt, leb→le, lit<, lit≤}
-use lib.ListN.{getD}
+use lib.ListN.{getD, List·getD-eq-default}
 use lib.Ieee.{Float, nan, inf, fin, binary64, fits, up, down, round, size, span, climb, units, odd, div, ofInt}
 use lib.Ieee.Fits.{add-fits, up-pos}
 use lib.Ieee.Positive.{positive}
@@ -30,7 +30,6 @@ use Rattle.numbers.proofs.Close.{root-close, root-positive}
 use Rattle.planes.specs.Tables.{tab}
 use Rattle.planes.proofs.Lists.{split}
 use Rattle.planes.proofs.Tables.{length-tab, getD-tab}
-use Rattle.channel.proofs.Tables.{beyond}
 use Rattle.channel.proofs.Counts.{by-surround}
 use Rattle.channel.specs.Layouts.{channelsOf, surround, lowFrequency}
 use Rattle.channel.specs.declared.Layout.{Layout}
@@ -152,7 +151,7 @@ module _ (l : Layout) (a : Float) (A : 0 < number a .over) (H : AtMost (magnitud
       where
         go : (c < 16) ⊎ (16 ≤ c) → getD (gainsOf l a) c zero ≡ zero
         go (inl k) = place-is c k ∙ ap (λ (x : Float). div binary64 x root) (raw-is c k ∙ goes-on (channelGain l a c) zero (le-ltb c n h)) ∙ zero-over root above-zero
-        go (inr k) = beyond (gainsOf l a) c zero (omega (arith, length-tab 0 16 quotient))
+        go (inr k) = List·getD-eq-default (gainsOf l a) zero {n = c} (omega (arith, length-tab 0 16 quotient))
 
     zeroed : (c : ℕ) → channelGain l a c ≡ zero → getD (gainsOf l a) c zero ≡ zero
     zeroed c e = go (split c n)

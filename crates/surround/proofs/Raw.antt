@@ -238,10 +238,10 @@ module _ (a s : Float) (p m : ℕ) (A : 0 < number a .over) (H : AtMost (magnitu
     raised-not-below : AtMost (whole 0) (number (notBelow v))
     raised-not-below = not-below v (known-cosine .near .first)
 
-  pub raw-test : isNear a t ≡ isLess d (whole 90)
+  raw-test : isNear a t ≡ isLess d (whole 90)
   raw-test = near-test a A t T there ∙ sym (way .near)
 
-  pub raw-known : Approximates rawBits most (rawOf a s) (rawGain (number a) q)
+  raw-known : Approximates rawBits most (rawOf a s) (rawGain (number a) q)
   unfolding rawOf rawGain
   raw-known =
       let v = Angles.outcome cosine (angleOf a t) .value in
@@ -251,7 +251,7 @@ module _ (a s : Float) (p m : ℕ) (A : 0 < number a .over) (H : AtMost (magnitu
       go true f = raised (f refl)
       go false f = zero-known
 
-  pub raw-not-below : AtMost (whole 0) (number (rawOf a s))
+  raw-not-below : AtMost (whole 0) (number (rawOf a s))
   unfolding rawOf
   raw-not-below =
       let w = Angles.outcome cosine (angleOf a t) .value in
@@ -261,7 +261,7 @@ module _ (a s : Float) (p m : ℕ) (A : 0 < number a .over) (H : AtMost (magnitu
       go true f = raised-not-below (f refl)
       go false f = subst (λ (z : Fraction). AtMost (whole 0) z) (sym zero-is) (lit≤ tt)
 
-  pub raw-silent : isLess d (whole 90) ≡ false → rawOf a s ≡ zero
+  raw-silent : isLess d (whole 90) ≡ false → rawOf a s ≡ zero
   unfolding rawOf
   raw-silent h = goes-on _ zero (raw-test ∙ h)
 

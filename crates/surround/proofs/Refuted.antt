@@ -5,25 +5,21 @@ use Prim.Native.Nat.{ℕ}
 use native.Mathlib.Omega.{arith}
 use lib.IntN.{pos}
 use lib.ListN.{getD}
-use lib.Ieee.{Float, nan, inf, fin, ofInt}
+use lib.Ieee.{Float, ofInt}
+use lib.Ieee.Positive.{num}
 use Rattle.angles.specs.Promise.{float, zero}
 use Rattle.channel.specs.declared.Layout.the-variants.{Surround51, Custom}
 use Rattle.surround.specs.declared.SurroundGains.{SurroundGains}
-use Rattle.surround.specs.Promise.{silence, Pans}
+use Rattle.harmonics.specs.Promise.{silence}
+use Rattle.surround.specs.Promise.{Pans}
 use Rattle.surround.proofs.Drill.{at-0, at-120, custom-17}
-
-digits : Float → ℕ
-digits nan = 0
-digits (inf s) = 0
-digits (fin s m e) = m
 
 refusal : SurroundGains → ℕ
 refusal g = g .refusal
 
--- how many digits the gain of a channel has: none, where it is 0
+-- the numerator of a channel's gain: 0 exactly where the gain is 0
 at : ℕ → SurroundGains → ℕ
-unfolding digits
-at c g = digits (getD (g .gains) c zero)
+at c g = num (getD (g .gains) c zero)
 
 -- it refuses every azimuth
 refuses-always : Pans Surround51 (float (pos 120)) (record { refusal = 3; gains = silence }) → ⊥
@@ -32,12 +28,12 @@ refuses-always p = let e : _≡_ {A = ℕ} 3 0 = ap refusal (p .is ∙ at-120) i
 
 -- it is silent
 silent : Pans Surround51 (float (pos 120)) (record { refusal = 0; gains = silence }) → ⊥
-unfolding at digits ofInt
+unfolding at ofInt
 silent p = let e : _≡_ {A = ℕ} 0 1 = ap (at 4) (p .is ∙ at-120) in omega arith
 
 -- the speaker that the azimuth points at sounds, as a reader may expect: document 01's raw gain is cos(90 - d), which is 0 there
-centre-sounds : (g : List Float) → (digits (getD g 2 zero) ≡ 0 → ⊥) → Pans Surround51 (float (pos 0)) (record { refusal = 0; gains = g }) → ⊥
-unfolding at digits ofInt
+centre-sounds : (g : List Float) → (num (getD g 2 zero) ≡ 0 → ⊥) → Pans Surround51 (float (pos 0)) (record { refusal = 0; gains = g }) → ⊥
+unfolding at ofInt
 centre-sounds g n p = n (ap (at 2) (p .is ∙ at-0))
 
 -- it plays a layout of seventeen channels

@@ -22,7 +22,7 @@ isBetween a t = cond (isLess (t ⊖ whole 90) a) (isLess a (t ⊕ whole 90)) fal
 pub is-less : (x y : Fraction) → Less x y → isLess x y ≡ true
 is-less x y h = lt-ltb _ _ h
 
-pub is-not-less : (x y : Fraction) → AtMost y x → isLess x y ≡ false
+is-not-less : (x y : Fraction) → AtMost y x → isLess x y ≡ false
 is-not-less x y h = le-ltb _ _ h
 
 -- p - m is k at most either way, times o
@@ -53,12 +53,10 @@ module _ (a : Fraction) (p m : ℕ) where
 pub record Way (a t d : Fraction) : Type 0 where
   pub over : 0 < d .over
   pub not-below : AtMost (whole 0) d
-  pub most : AtMost (magnitude d) (whole 720)
   pub same : Same d (magnitude (a ⊖ t))
   pub near : isLess d (whole 90) ≡ isBetween a t
-  pub place : AtMost (magnitude t) (whole 540)
 
-module _ (a d : Fraction) (p m : ℕ) (A : 0 < a .over) (H : AtMost (magnitude a) (whole 180)) (D : 0 < d .over) (s : Same d (magnitude (a ⊖ fraction p m 1))) (k : AtMost (magnitude (fraction p m 1)) (whole 540)) where
+module _ (a d : Fraction) (p m : ℕ) (A : 0 < a .over) (D : 0 < d .over) (s : Same d (magnitude (a ⊖ fraction p m 1))) where
   abbrev long : Fraction
   long = magnitude (a ⊖ fraction p m 1)
 
@@ -68,27 +66,16 @@ module _ (a d : Fraction) (p m : ℕ) (A : 0 < a .over) (H : AtMost (magnitude a
   long-above : AtMost (whole 0) long
   long-above = omega arith
 
-  long-most : AtMost long (whole 720)
-  long-most = let s = spread p m 540 (a .over) k in omega arith
-
   above : AtMost (whole 0) d
   above = at-most-same (whole 0) (whole 0) d long (same-refl (whole 0)) s (lit< tt) long-over long-above
-
-  below : AtMost d (whole 720)
-  below = at-most-same d long (whole 720) (whole 720) s (same-refl (whole 720)) long-over (lit< tt) long-most
 
   made : Way a (fraction p m 1) d
   made = record {
     over = D;
     not-below = above;
-    most = sides d above below;
     same = s;
     near = is-less-same d long (whole 90) (whole 90) D long-over (lit< tt) (lit< tt) s (same-refl (whole 90)) ∙ between a p m;
-    place = k;
   }
-    where
-      sides : (d : Fraction) → AtMost (whole 0) d → AtMost d (whole 720) → AtMost (magnitude d) (whole 720)
-      sides d h k = omega arith
 
 -- ---- the speaker stands at p - m
 module _ (a : Fraction) (p m : ℕ) (A : 0 < a .over) (H : AtMost (magnitude a) (whole 180)) (K : AtMost (magnitude (fraction p m 1)) (whole 180)) where
@@ -118,13 +105,13 @@ module _ (a : Fraction) (p m : ℕ) (A : 0 < a .over) (H : AtMost (magnitude a) 
       go x o e = omega (arith, ap (λ (n : ℕ). n * o) e)
 
   on : Less (q ⊕ whole 180) a → Way a (q ⊕ whole 360) (distance a q)
-  on h = let s = spread p m 180 (a .over) K in subst (λ (d : Fraction). Way a (q ⊕ whole 360) d) (sym (around (omega arith))) (made a (whole 360 ⊖ apart) (p * 1 + 360 * 1) (m * 1 + 0 * 1) A H (mul-pos {m = 1} (lit< tt) O) (left-of-turn _ (omega arith)) (omega arith))
+  on h = let s = spread p m 180 (a .over) K in subst (λ (d : Fraction). Way a (q ⊕ whole 360) d) (sym (around (omega arith))) (made a (whole 360 ⊖ apart) (p * 1 + 360 * 1) (m * 1 + 0 * 1) A (mul-pos {m = 1} (lit< tt) O) (left-of-turn _ (omega arith)))
 
   back : Less a (q ⊖ whole 180) → Way a (q ⊖ whole 360) (distance a q)
-  back h = let s = spread p m 180 (a .over) K in subst (λ (d : Fraction). Way a (q ⊖ whole 360) d) (sym (around (omega arith))) (made a (whole 360 ⊖ apart) (p * 1 + 0 * 1) (m * 1 + 360 * 1) A H (mul-pos {m = 1} (lit< tt) O) (left-of-turn _ (omega arith)) (omega arith))
+  back h = let s = spread p m 180 (a .over) K in subst (λ (d : Fraction). Way a (q ⊖ whole 360) d) (sym (around (omega arith))) (made a (whole 360 ⊖ apart) (p * 1 + 0 * 1) (m * 1 + 360 * 1) A (mul-pos {m = 1} (lit< tt) O) (left-of-turn _ (omega arith)))
 
   here : AtMost a (q ⊕ whole 180) → AtMost (q ⊖ whole 180) a → Way a q (distance a q)
-  here h k = subst (λ (d : Fraction). Way a q d) (sym (straight (omega arith))) (made a apart p m A H O (same-refl apart) (omega arith))
+  here h k = subst (λ (d : Fraction). Way a q d) (sym (straight (omega arith))) (made a apart p m A O (same-refl apart))
 
   pub the-way : Way a (turnedTo a q) (distance a q)
   the-way =

@@ -6,7 +6,7 @@ use mathlib.Core.Path.{_≡_}
 use mathlib.Core.Bool.{not, cond}
 use mathlib.Core.List.{List, [], _∷_}
 use lib.Dec.{T, eqb}
-use lib.ListN.{getD, replicate}
+use lib.ListN.{getD}
 use lib.Ieee.{Float, binary64}
 use Rattle.angles.specs.Promise.{zero}
 use Rattle.refusals.specs.Refusals.{firstOf, _when_}
@@ -15,7 +15,7 @@ use Rattle.fractions.specs.Squares.{BySquares}
 use Rattle.numbers.specs.Computed.{rootOf}
 use Rattle.channel.specs.Layouts.{channelsOf, surround}
 use Rattle.channel.specs.declared.Layout.{Layout}
-use Rattle.harmonics.specs.Promise.{refusesAzimuth}
+use Rattle.harmonics.specs.Promise.{refusesAzimuth, silence}
 use Rattle.surround.specs.declared.SurroundGains.{SurroundGains}
 use Rattle.surround.specs.Formula.{rawAt, sumAt, isSilent}
 use Rattle.surround.specs.Computed.{rawGains, sumOf, dividedBy}
@@ -26,9 +26,6 @@ surroundBits = 30
 
 abbrev pub refusalOf : Layout → Float → ℕ
 refusalOf l a = firstOf (2 when not (surround l) ∷ 3 when refusesAzimuth a ∷ [])
-
-abbrev pub silence : List Float
-silence = replicate 16 zero
 
 -- each raw gain over the root of the sum of squares
 unfoldable pub gainsOf : Layout → Float → List Float

@@ -13,12 +13,13 @@
 //   the sum of eight squares                        2^-42.9
 //   a gain, by squares, at a sum of 3/100           2^-37
 //
-// Under it lie `harmonics` (the test of an azimuth), `channel` (where speakers stand), `angles`, `numbers`
-// (the root) and `planes`.
+// Under it lie `harmonics` (the test of an azimuth), `channel` (where speakers stand), `angles` (the program's
+// cosine), `series` (the defined one), `numbers` (the root), `planes`, `fractions` and `refusals`.
 ghost use mathlib.Core.Path.{_≡_};
 ghost use Prim.Native.Nat.{_≤_};
 ghost use Rattle.surround.specs.Computed.{absolute, placeOf, isNear, rawOf, channelGain, rawGains, sumOf, dividedBy};
-ghost use Rattle.surround.specs.Promise.{Pans, silence};
+ghost use Rattle.surround.specs.Promise.{Pans};
+ghost use Rattle.harmonics.specs.Promise.{silence};
 
 pub struct SurroundGains {
     pub refusal: u8,

@@ -44,14 +44,14 @@ module _ (order : ℕ) (d : Direction) where
   abbrev e : Fraction
   e = number (d .elevation)
 
-  abbrev pub computed-at : ℕ → Float
+  abbrev computed-at : ℕ → Float
   computed-at i = mul binary64 (getD (upTo order (wavesOf d)) i nan) (weight (cosineOf order) (degreeOf i))
 
-  abbrev pub formula-at : ℕ → Fraction
+  abbrev formula-at : ℕ → Fraction
   formula-at i = getD (formulas order a e) i (whole 0) ⊗ power (c order) (degreeOf i)
 
   -- ---- each of the weighted coefficients of an accepted direction, by its channel
-  pub near-at : refusalOf order d ≡ 0 → (i : ℕ) → i < 16 → Within 41 (number (computed-at i)) (formula-at i)
+  near-at : refusalOf order d ≡ 0 → (i : ℕ) → i < 16 → Within 41 (number (computed-at i)) (formula-at i)
   near-at h i l =
       let o = Harmonics.outcome order d in
       let p = Laws.outcome-kept order d in

@@ -1,10 +1,8 @@
--- What the crates above cite of the weighted coefficients, beside their promise: that each is nearer its formula than promised, that all are finite, whether refused or not, and that the eight positions are
--- accepted. Assumes nothing.
-use mathlib.Core.Path.{_≡_, refl, sym, ap, _∙_, subst₂}
+-- What the crates above cite of the weighted coefficients, beside their promise: that all are finite, whether refused or not, and that the eight positions are accepted. Assumes nothing.
+use mathlib.Core.Path.{_≡_, refl, ap, _∙_}
 use mathlib.Core.Bool.{Bool, true, false, not, _||_, cond}
 use mathlib.Core.List.{List, [], _∷_}
-use Prim.Native.Nat.{ℕ, suc, _<_}
-use native.Mathlib.Nat.{zero-add}
+use Prim.Native.Nat.{ℕ, suc}
 use native.Mathlib.Omega.{arith}
 use lib.Dec.{T, eqb, lit<, lit≤, leb→le}
 use borrow.Author.Tests.{eqb-true}
@@ -13,11 +11,10 @@ use lib.ListN.{length, getD}
 use lib.Ieee.{Float, binary64, ofInt}
 use lib.Ieee.Scale.{finite}
 use lib.Ieee.Bits.{is-true}
-use Rattle.fractions.specs.Fraction.{Fraction, number, Within}
+use Rattle.fractions.specs.Fraction.{Fraction, number}
 use Rattle.fractions.specs.Approximates.{EachWithin}
 use Rattle.fractions.proofs.Number.{number-finite}
 use Rattle.planes.specs.Tables.{unsound}
-use Rattle.planes.proofs.Tables.{getD-tab}
 use Rattle.channel.specs.Layouts.{positions}
 use Rattle.channel.proofs.Tables.{turned, position-turned}
 use Rattle.channel.specs.Orders.{refusesOrder}
@@ -41,9 +38,6 @@ pub outcome-kept : (order : ℕ) (d : Direction) → Promise order d (outcome or
 outcome-kept = Kept.kept
 
 module _ (order : ℕ) (d : Direction) (answer : Weighted) (p : Promise order d answer) where
-  pub refusal-is : answer .refusal ≡ refusalOf order d
-  refusal-is = ap (λ (r : Weighted). r .refusal) (p .is)
-
   weights-are : (r : ℕ) → refusalOf order d ≡ r → answer .weights ≡ cond (eqb r 0) (weighted order d) silence
   weights-are r h = ap (λ (s : Weighted). s .weights) (p .is) ∙ ap (λ (n : ℕ). cond (eqb n 0) (weighted order d) silence) h
 
@@ -63,15 +57,6 @@ module _ (order : ℕ) (d : Direction) (answer : Weighted) (p : Promise order d 
       go : (b : Bool) → answer .weights ≡ cond b (weighted order d) silence → (b ≡ true → unsound (answer .weights) ≡ false) → unsound (answer .weights) ≡ false
       go true e f = f refl
       go false e f = ap unsound e
-
-  -- ---- each, by its channel, nearer than promised
-  pub weight-near : refusalOf order d ≡ 0 → (i : ℕ) (x : Float) (q : Fraction) → i < 16
-      → Within 41 (number (getD (answer .weights) i x)) (getD (weightedFormulas order (number (d .azimuth)) (number (d .elevation))) i q)
-  unfolding weigh
-  weight-near h i x q l =
-      subst₂ (λ (y : Float) (r : Fraction). Within 41 (number y) r)
-      (sym (ap (λ (xs : List Float). getD xs i x) (weights-are 0 h) ∙ getD-tab 0 16 (Kept.computed-at order d) i x l ∙ ap (Kept.computed-at order d) (zero-add i)))
-      (sym (getD-tab 0 16 (Kept.formula-at order d) i q l ∙ ap (Kept.formula-at order d) (zero-add i))) (Kept.near-at order d h i l)
 
 -- ---- the positions
 turned-accepted : (z : ℤ) → T (turned z) → refusesAzimuth (ofInt binary64 z) ≡ false

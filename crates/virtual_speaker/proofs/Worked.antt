@@ -11,7 +11,6 @@ use Rattle.angles.specs.Computed.{units, cut, place, short, times, radians, nes
 use Rattle.angles.specs.Limits.{isInside, refusesAngle}
 use Rattle.harmonics.specs.Computed.{sin, cos, wavesOf, upTo, decimal}
 use Rattle.harmonics.specs.Promise.{degrees, silence}
-use Rattle.harmonics.specs.Promise as Harmonics
 use Rattle.harmonics.specs.Drill.{at, Alike, none}
 use Rattle.harmonics.proofs.Drill.{alike}
 use Rattle.virtual_speaker.specs.Computed.{weigh}

@@ -1,8 +1,8 @@
 -- `channel::position` meets its contract. Assumes nothing.
 use mathlib.Core.Path.{sym}
 use lib.IntN.{pos}
+use lib.ListN.{List·getD-eq-default}
 use Rattle.channel.specs.Layouts.{positions}
-use Rattle.channel.proofs.Tables.{beyond}
 use borrow.Author.Needs.{needs}
 use Rattle.channel.proofs.position.Statement.{statement}
 use Rattle.channel.proofs.position.Tie as tie
@@ -17,7 +17,7 @@ returns : tie.Need-returns
 returns c = search needs
 
 returns-2 : tie.Need-returns-2
-returns-2 c = sym (beyond positions (c .before .args .i) (pos 0) (c .if1 .left))
+returns-2 c = sym (List·getD-eq-default positions (pos 0) (c .if1 .left))
 
 pub position-spec : {M : Type 1} → statement M
 position-spec = tie.close (tie.spec mul-result array-copy-out-result returns returns-2)

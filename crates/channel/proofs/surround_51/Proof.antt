@@ -1,9 +1,9 @@
 -- `channel::surround_51` meets its contract. Assumes nothing.
 use mathlib.Core.Path.{sym}
 use lib.IntN.{pos}
+use lib.ListN.{List·getD-eq-default}
 use Rattle.channel.specs.Layouts.{speakers}
 use Rattle.channel.specs.declared.Layout.the-variants.{Surround51}
-use Rattle.channel.proofs.Tables.{beyond}
 use borrow.Author.Needs.{needs}
 use Rattle.channel.proofs.surround_51.Statement.{statement}
 use Rattle.channel.proofs.surround_51.Tie as tie
@@ -18,7 +18,7 @@ returns : tie.Need-returns
 returns c = search needs
 
 returns-2 : tie.Need-returns-2
-returns-2 c = sym (beyond (speakers Surround51) (c .before .args .channel) (pos 0) (c .if1 .left))
+returns-2 c = sym (List·getD-eq-default (speakers Surround51) (pos 0) (c .if1 .left))
 
 pub surround-51-spec : {M : Type 1} → statement M
 surround-51-spec = tie.close (tie.spec mul-result array-copy-out-result returns returns-2)
