@@ -7,9 +7,9 @@ use mathlib.Core.List.{List, [], _∷_}
 use lib.Dec.{eqb}
 use lib.ListN.{length}
 use lib.Ieee.{Float}
-use Rattle.refusals.specs.Refusals.{firstOf, _when_}
+use Rattle.refusals.specs.Refusals.{firstOf, _when_, outside}
 use Rattle.planes.specs.Tables.{tab, unsound}
-use Rattle.planes.specs.Planes.{outside, blockUnfit, frameAt}
+use Rattle.planes.specs.Planes.{blockUnfit, frameAt}
 use Rattle.planes.specs.Sums.{mixedAll}
 use Rattle.ambisonic_decoder.specs.declared.Shape.{Shape}
 

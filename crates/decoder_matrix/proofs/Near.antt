@@ -10,6 +10,7 @@ use lib.IntN.{pos}
 use lib.Dec.{T, eqb, eqb→eq}
 use borrow.Author.Tests.{not-false}
 use lib.ListN.{length, getD, take, length-take}
+use lib.Seq.{getD-take}
 use lib.Ieee.{Float, nan, binary64, fits, round, ofInt, sub, mul, div, lt, le, neg}
 use lib.Ieee.Fits.{and-l, and-r}
 use lib.Ieee.Positive.{positive}
@@ -43,7 +44,7 @@ all-whole : any (tab 1 16 (λ n. not (whole-float n))) ≡ false
 unfolding whole-float asFloat ofInt fits
 all-whole = refl
 
-pub record Whole (n : ℕ) : Type 0 where
+record Whole (n : ℕ) : Type 0 where
   pub held : T (fits binary64 (asFloat n))
   pub above : T (positive (asFloat n))
   pub value : number (asFloat n) ≡ whole n
@@ -74,7 +75,7 @@ is-whole n t =
 pub at-each : (s m : ℕ) (f : ℕ → Bool) → any (tab s m f) ≡ false → (n : ℕ) → s ≤ n → n < s + m → f n ≡ false
 at-each s m f e n h l = subst (λ (k : ℕ). f k ≡ false) (omega arith) (any-off s m f e (n - s) (omega arith))
 
-pub whole-is : (n : ℕ) → 1 ≤ n → n ≤ 16 → Whole n
+whole-is : (n : ℕ) → 1 ≤ n → n ≤ 16 → Whole n
 whole-is n h l = is-whole n (subst T (sym (not-false (whole-float n) (at-each 1 16 (λ n. not (whole-float n)) all-whole n h (omega arith)))) tt)
 
 -- ---- every speaker's azimuth is one that the harmonics take
@@ -93,7 +94,7 @@ tables Surround51 u = refl
 tables Surround71 u = refl
 tables (Custom n) u = at-each 1 16 (λ n. any (tab 0 n (refused-at (Custom n)))) customs n (in-range n u .0) (omega (arith, in-range n u .1))
 
-pub taken : (l : Layout) (i : ℕ) → uncountable (channelsOf l) ≡ false → i < channelsOf l → refusesAzimuth (azimuthAt l i) ≡ false
+taken : (l : Layout) (i : ℕ) → uncountable (channelsOf l) ≡ false → i < channelsOf l → refusesAzimuth (azimuthAt l i) ≡ false
 unfolding refused-at
 taken l i u h = at-each 0 (channelsOf l) (refused-at l) (tables l u) i zero-le (omega arith)
 
@@ -102,12 +103,6 @@ getD-scaled : (f : Float) (xs : List Float) (c : ℕ) (d e : Float) → c < leng
 getD-scaled f [] c d e h = absurd (not-suc-le-zero h)
 getD-scaled f (x ∷ xs) zero d e h = refl
 getD-scaled f (x ∷ xs) (suc c) d e h = getD-scaled f xs c d e (le-of-suc-le-suc h)
-
-getD-take : (n : ℕ) (xs : List Float) (c : ℕ) (d : Float) → c < n → getD (take n xs) c d ≡ getD xs c d
-getD-take zero xs c d h = absurd (not-suc-le-zero h)
-getD-take (suc n) [] c d h = refl
-getD-take (suc n) (x ∷ xs) zero d h = refl
-getD-take (suc n) (x ∷ xs) (suc c) d h = getD-take n xs c d (le-of-suc-le-suc h)
 
 front : refusesElevation (ofInt binary64 (pos 0)) ≡ false
 unfolding refusesAngle isInside ofInt le neg

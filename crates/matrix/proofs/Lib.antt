@@ -1,5 +1,5 @@
 -- Laws of the binaural rows.
-pub mod Ears
-pub mod Orders
-pub mod Sound
-pub mod Unique
+mod Ears
+mod Orders
+mod Sound
+mod Unique

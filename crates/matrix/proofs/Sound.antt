@@ -12,7 +12,7 @@ use Rattle.planes.specs.Normalization.{asFloat, inverseRoot}
 use Rattle.matrix.specs.Rows.{left, right, rows, hundredths, literals, literal}
 
 -- 1.0/root(2.0), a unit of the last place below the root of a half
-pub inverse-root-two : inverseRoot 2 ≡ fin false 1592262918131443 (negsuc 50)
+inverse-root-two : inverseRoot 2 ≡ fin false 1592262918131443 (negsuc 50)
 unfolding inverseRoot asFloat rootOf wholeRoot size units div round
 inverse-root-two = refl
 

@@ -42,6 +42,11 @@ refused c l g n o r f e = record {
     never : commandRefusal c l ≡ 0 → ⊥
     never k = let z : n ≡ 0 = sym e ∙ k in omega arith
 
+-- a test that alone is left gives its 3 where there is a refusal
+three : (r : Bool) (n : ℕ) → n ≡ cond r 3 0 → (n ≡ 0 → ⊥) → _≡_ {A = ℕ} (cond r 3 0) 3
+three true n e h = refl
+three false n e h = absurd (h e)
+
 -- whether a layout is a Custom of 0 or above 16
 pub bad-layout : (l : Layout) (k : Counted) → k ≡ counted l → not (eqb (k .refusal) 0) ≡ isBadLayout l
 bad-layout l k e = ap (λ (x : Counted). not (eqb (x .refusal) 0)) e ∙ go (uncountable (channelsOf l))
@@ -61,11 +66,7 @@ module _ (l : Layout) (p : Float) (s : StereoGains) (h : Stereo.Pans p s) where
       go false = refl
 
   pub stereo-refused : isBadLayout l ≡ false → (s .refusal ≡ 0 → ⊥) → commandRefusal (Stereo p) l ≡ 3
-  stereo-refused b n = goes-on 2 _ b ∙ go (Stereo.isRefused p) stereo-refusal
-    where
-      go : (r : Bool) → s .refusal ≡ cond r 3 0 → _≡_ {A = ℕ} (cond r 3 0) 3
-      go true e = refl
-      go false e = absurd (n e)
+  stereo-refused b n = goes-on 2 _ b ∙ three (Stereo.isRefused p) (s .refusal) stereo-refusal n
 
   pub stereo-accepted : (g : Commanded) → isBadLayout l ≡ false → s .refusal ≡ 0 → g ≡ record { refusal = 0; planes = 2; gains = s .left ∷ s .right ∷ replicate 14 silent } → Commands (Stereo p) l g
   stereo-accepted g b z e = record {
@@ -112,11 +113,7 @@ module _ (l : Layout) (d : Direction) (n : ℕ) where
     command-is = goes-on 1 _ o ∙ goes-on 2 _ b
 
     pub direction-refused : (s .refusal ≡ 0 → ⊥) → commandRefusal (Ambisonic d n) l ≡ 3
-    direction-refused k = command-is ∙ go (Harmonics.refusesDirection d) direction-is
-      where
-        go : (r : Bool) → s .refusal ≡ cond r 3 0 → _≡_ {A = ℕ} (cond r 3 0) 3
-        go true e = refl
-        go false e = absurd (k e)
+    direction-refused k = command-is ∙ three (Harmonics.refusesDirection d) (s .refusal) direction-is k
 
     pub ambisonic-accepted : (g : Commanded) → s .refusal ≡ 0 → g ≡ record { refusal = 0; planes = channelsOfOrder n; gains = s .gains } → Commands (Ambisonic d n) l g
     ambisonic-accepted g z e = record {

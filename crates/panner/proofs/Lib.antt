@@ -1,7 +1,7 @@
--- The laws of the panner. Crates above cite `Played` and `Unique`.
+-- The laws of the panner: of its answers, of single samples, that no two answers meet the promise, and answers that it refutes.
 mod Chains
 mod Gains
 mod Answers
-pub mod Played
-pub mod Unique
+mod Played
+mod Unique
 mod Refuted

@@ -1,12 +1,13 @@
 -- Wrong ways to answer, each held against the promise. Assumes nothing.
-use mathlib.Core.Path.{_≡_, refl, ap, _∙_}
-use mathlib.Core.Bool.{false}
+use mathlib.Core.Path.{_≡_, refl, sym, ap, _∙_}
+use mathlib.Core.Bool.{true, false, true≢false}
 use mathlib.Core.List.{List, [], _∷_}
 use Prim.Native.Nat.{ℕ, _<_}
 use native.Mathlib.Omega.{arith}
 use lib.Dec.{lit<}
 use lib.IntN.{pos, negsuc}
-use lib.Ieee.{Float, nan, inf, fin, binary32, mul, round, ofInt}
+use lib.Ieee.{Float, fin, binary32, mul, round, ofInt}
+use lib.Ieee.Positive.{positive}
 use Rattle.numbers.specs.Computed.{narrowed, rounded, zero-float}
 use Rattle.planes.specs.Planes.{sampleAt}
 use Rattle.channel.specs.declared.Layout.{Layout}
@@ -51,22 +52,15 @@ ones = one ∷ one ∷ []
 abbrev zeros : List Float
 zeros = zero-float ∷ zero-float ∷ zero-float ∷ zero-float ∷ []
 
-digits : Float → ℕ
-digits nan = 0
-digits (inf s) = 0
-digits (fin s m e) = m
-
-second-left : (after : List Float) → Processed two-frames ones zeros (record { refusal = 0; samples = 2 }) after → digits (sampleAt after 2 0 1) ≡ 1
-unfolding digits rounded round mul ofInt
+second-left : (after : List Float) → Processed two-frames ones zeros (record { refusal = 0; samples = 2 }) after → positive (sampleAt after 2 0 1) ≡ true
+unfolding rounded round mul ofInt
 second-left after p =
-    ap digits (every-frame two-frames ones zeros (record { refusal = 0; samples = 2 }) after p refl 1 0 (lit< tt) (lit< tt) ∙ ap (λ (g : StereoGains). mul binary32 one (narrowed (g .left))) at-minus-100)
+    ap positive (every-frame two-frames ones zeros (record { refusal = 0; samples = 2 }) after p refl 1 0 (lit< tt) (lit< tt) ∙ ap (λ (g : StereoGains). mul binary32 one (narrowed (g .left))) at-minus-100)
 
 -- it stops early, and keeps the tail that was there
 stops-early : Processed two-frames ones zeros (record { refusal = 0; samples = 2 }) (one ∷ zero-float ∷ zero-float ∷ zero-float ∷ []) → ⊥
-unfolding digits
-stops-early p = let e : _≡_ {A = ℕ} 0 1 = second-left _ p in omega arith
+stops-early p = true≢false (sym (second-left _ p))
 
 -- it writes nothing
 silent : Processed two-frames ones zeros (record { refusal = 0; samples = 2 }) zeros → ⊥
-unfolding digits
-silent p = let e : _≡_ {A = ℕ} 0 1 = second-left _ p in omega arith
+silent p = true≢false (sym (second-left _ p))

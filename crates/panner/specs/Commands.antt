@@ -5,7 +5,6 @@ use mathlib.Core.Bool.{Bool, false, not}
 use mathlib.Core.List.{List, [], _∷_}
 use lib.ListN.{getD, replicate}
 use lib.Ieee.{Float}
-use lib.Ieee.Scale.{finite}
 use Rattle.refusals.specs.Refusals.{firstOf, _when_}
 use Rattle.channel.specs.Layouts.{channelsOf, uncountable, surround}
 use Rattle.channel.specs.Orders.{refusesOrder, channelsOfOrder}
@@ -31,7 +30,7 @@ notOffered (Ambisonic d n) l = uncountable (channelsOf l)
 
 -- 3
 abbrev pub noAngle : Command → Bool
-noAngle (Stereo p) = not (finite p)
+noAngle (Stereo p) = Stereo.isRefused p
 noAngle (Surround a) = Harmonics.refusesAzimuth a
 noAngle (Ambisonic d n) = Harmonics.refusesDirection d
 

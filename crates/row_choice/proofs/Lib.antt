@@ -1,7 +1,7 @@
--- Laws that a caller's proof cites: there is one row that a speaker takes, the walk finds it, and no two answers meet the promise; the marked example; refuted answers.
+-- Laws that crates above cite: the walk finds the row that a speaker takes, and the marked example. Then this crate's answers, that no two meet the promise and only one row does, and refuted answers.
 pub mod Takes
-pub mod Unique
 pub mod Drill
+mod Unique
 mod Refuted
 mod Round
 mod Answers

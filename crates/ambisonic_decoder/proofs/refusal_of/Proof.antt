@@ -1,8 +1,8 @@
 -- `ambisonic_decoder::refusal_of` meets its contract. Assumes nothing.
 use mathlib.Core.Path.{_≡_, sym, _∙_}
 use mathlib.Core.Bool.{false}
+use Rattle.refusals.specs.Refusals.{outside}
 use Rattle.refusals.proofs.First.{stops, goes-on}
-use Rattle.planes.specs.Planes.{outside}
 use borrow.Author.Needs.{needs}
 use Rattle.ambisonic_decoder.proofs.refusal_of.Statement.{statement}
 use Rattle.ambisonic_decoder.proofs.refusal_of.Tie as tie

@@ -1,8 +1,7 @@
 -- `decoder_matrix::put_speakers` meets its contract: `Filling`. Assumes nothing.
-use Prim.Native.Nat.{ℕ, _-_}
+use Prim.Native.Nat.{_-_}
 use native.Mathlib.Omega.{arith}
-use mathlib.Core.Path.{_≡_, ap, _∙_}
-use mathlib.Core.List.{List}
+use mathlib.Core.Path.{ap, _∙_}
 use denote.Ref.{now}
 use lib.Ieee.{Float}
 use lib.ListN.{take}
