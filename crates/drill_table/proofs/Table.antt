@@ -2,8 +2,8 @@
 use Rattle.numbers.proofs.Drill.{root-four, root-two, tie-down, tie-up}
 use Rattle.harmonics.proofs.Drill.{drill-1, drill-1-floats, drill-2, drill-2-floats, drill-3, drill-3-floats}
 use Rattle.stereo.proofs.Drill.{left-at-minus-100, right-at-minus-100, left-at-250, right-at-250, at-minus-100, at-250}
-use Rattle.surround.proofs.Drill.{silent-at-120, centre, left-and-right, halves}
-use Rattle.history.proofs.Drill.{drill-8, drill-9, drill-9-heard}
+use Rattle.surround.proofs.Drill.{silent-at-120, only-ls, centre, left-and-right, half-squares, at-120, at-0}
+use Rattle.history.proofs.Drill.{drill-8, drill-9, drill-9-each, drill-9-heard}
 use Rattle.row_choice.proofs.Drill.{drill-tie}
 use Rattle.bank.proofs.Drill.{oneRow, itsBytes, drill-written, drill-read, drill-cut}
 use Rattle.drill_table.specs.Table.{DrillTable}
@@ -22,15 +22,19 @@ drill-table = record {
   item-4-left-given = at-minus-100;
   item-4-right-given = at-250;
   item-5-at-120 = silent-at-120;
+  item-5-ls = only-ls;
   item-5-centre = centre;
   item-5-equal = left-and-right;
-  item-5-halves = halves;
+  item-5-halves = half-squares;
+  item-5-at-120-given = at-120;
+  item-5-at-0-given = at-0;
   item-6-four = root-four;
   item-6-two = root-two;
   item-7-down = tie-down;
   item-7-up = tie-up;
   item-8 = drill-8;
   item-9 = drill-9;
+  item-9-each = drill-9-each;
   item-9-heard = drill-9-heard;
   item-10 = λ rest six r. drill-tie rest six r;
   item-11-written = λ buffer e w. drill-written buffer w e;

@@ -1,4 +1,4 @@
--- Document 01, 'Marked drill table': "These are shown to follow from the definitions as a single checked list." A field or two for each of the eleven: of the definition, and of what the program hands back,
+-- Document 01, 'Marked drill table': "These are shown to follow from the definitions as a single checked list." A field or more for each of the eleven: of the definition, and of what the program hands back,
 -- where the two are not the same. Definitions only.
 use Prim.Native.Nat.{ℕ}
 use mathlib.Core.Path.{_≡_}
@@ -7,7 +7,7 @@ use mathlib.Core.List.{List, [], _∷_}
 use lib.IntN.{ℤ, pos, negsuc}
 use lib.ListN.{length, take}
 use lib.Ieee.{Float, nan, fin, binary64, ofInt, toBits}
-use Rattle.fractions.specs.Fraction.{Fraction, whole, number, square, _⊗_, Same}
+use Rattle.fractions.specs.Fraction.{Fraction, fraction, whole, number, square, _⊘_, Same}
 use Rattle.numbers.specs.Computed.{zero-float, narrowed, rootAnswer}
 use Rattle.series.specs.Angles.{definedSine, definedCosine}
 use Rattle.planes.specs.Tables.{tab}
@@ -18,8 +18,9 @@ use Rattle.harmonics.specs.Drill.{at, given, Alike, front, frontFloats, left, A
 use Rattle.stereo.specs.Angle.{angle}
 use Rattle.stereo.specs.Promise as Stereo
 use Rattle.surround.specs.Formula.{rawAt, sumAt, isSilent}
+use Rattle.surround.specs.Promise as Surround
 use Rattle.history.specs.Setup.{Setup}
-use Rattle.history.specs.History.{heard, unsettledIn}
+use Rattle.history.specs.History.{heard, unsettledEach, unsettledIn}
 use Rattle.row_choice.specs.declared.Choice.{Choice}
 use Rattle.row_choice.specs.Choice.{Chooses}
 use Rattle.bank_form.specs.Bank.{Bank}
@@ -35,6 +36,16 @@ half = fin false 1 (negsuc 0)
 
 abbrev pub position : ℤ → Float
 position p = ofInt binary64 p
+
+-- the sixteen gains of 5.1 where LFE and Rs are silent
+abbrev pub gains : Float → Float → Float → Float → List Float
+gains l r c ls =
+    let o = position (pos 0) in
+    l ∷ r ∷ c ∷ o ∷ ls ∷ o ∷ o ∷ o ∷ o ∷ o ∷ o ∷ o ∷ o ∷ o ∷ o ∷ o ∷ []
+
+-- the f64 next below the root of 1/2
+abbrev pub rootOfHalf : Float
+rootOfHalf = fin false 1592262918131443 (negsuc 50)
 
 -- "One speaker, weight 1, L = 2, left taps 1, 0.5, right 0, 1"
 abbrev pub oneSpeaker : Setup
@@ -66,11 +77,14 @@ pub record DrillTable : Type 0 where
   pub item-4-right : (definedCosine (angle (number (position (pos 250)))) ≡ whole 0) × (definedSine (angle (number (position (pos 250)))) ≡ whole 1)
   pub item-4-left-given : Stereo.outcome (position (negsuc 99)) ≡ record { refusal = 0; left = position (pos 1); right = position (pos 0) }
   pub item-4-right-given : Stereo.outcome (position (pos 250)) ≡ record { refusal = 0; left = position (pos 0); right = position (pos 1) }
-  -- 5. 5.1 at azimuth 120: only Ls sounds; at 0, C is 0, L and R have equal squares 1/2: each is half of the sum that both are divided by.
+  -- 5. 5.1 at azimuth 120: only Ls sounds; at 0, C is 0, L and R have equal squares 1/2.
   pub item-5-at-120 : tab 0 6 (isSilent Surround51 (whole 120)) ≡ true ∷ true ∷ true ∷ true ∷ false ∷ true ∷ []
+  pub item-5-ls : sumAt Surround51 (whole 120) ≡ square (rawAt Surround51 (whole 120) 4)
   pub item-5-centre : rawAt Surround51 (whole 0) 2 ≡ whole 0
   pub item-5-equal : rawAt Surround51 (whole 0) 0 ≡ rawAt Surround51 (whole 0) 1
-  pub item-5-halves : Same (whole 2 ⊗ square (rawAt Surround51 (whole 0) 0)) (sumAt Surround51 (whole 0))
+  pub item-5-halves : Same (square (rawAt Surround51 (whole 0) 0) ⊘ sumAt Surround51 (whole 0)) (fraction 1 0 2)
+  pub item-5-at-120-given : Surround.outcome Surround51 (position (pos 120)) ≡ record { refusal = 0; gains = gains (position (pos 0)) (position (pos 0)) (position (pos 0)) (position (pos 1)) }
+  pub item-5-at-0-given : Surround.outcome Surround51 (position (pos 0)) ≡ record { refusal = 0; gains = gains rootOfHalf rootOfHalf (position (pos 0)) (position (pos 0)) }
   -- 6. Root of 4 is 2; 2 gives bits 3FF6A09E667F3BCD.
   pub item-6-four : rootAnswer (fin false 1 (pos 2)) ≡ record { refusal = 0; value = fin false 1 (pos 1) }
   pub item-6-two : toBits binary64 (rootAnswer (fin false 1 (pos 1)) .value) ≡ 0x3FF6A09E667F3BCD
@@ -81,6 +95,7 @@ pub record DrillTable : Type 0 where
   pub item-8 : heard oneSpeaker [] (samples one) ≡ (one ∷ zero-float ∷ []) ∷ (half ∷ one ∷ []) ∷ (zero-float ∷ zero-float ∷ []) ∷ []
   -- 9. The same with NaN, 0, 0: two unsettled, then 0 and 0.
   pub item-9 : unsettledIn oneSpeaker [] (samples nan) ≡ 2
+  pub item-9-each : unsettledEach oneSpeaker [] (samples nan) ≡ true ∷ true ∷ false ∷ []
   pub item-9-heard : heard oneSpeaker [] (samples nan) ≡ (nan ∷ nan ∷ []) ∷ (nan ∷ nan ∷ []) ∷ (zero-float ∷ zero-float ∷ []) ∷ []
   -- 10. Rows at 0 and 450 tenths, speaker at 225 tenths: the first. Whatever stands in the list beyond the two rows.
   pub item-10 : (rest : List ℤ) → length rest ≡ 6 → (r : Choice) → Chooses (pos 0 ∷ pos 450 ∷ rest) 2 (pos 225) r → r ≡ record { refusal = 0; row = 0 }

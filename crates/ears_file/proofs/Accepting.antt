@@ -1,7 +1,7 @@
 -- With a set-up that is ready and lists of the loop's sizes the convolver refuses no turn. Assumes nothing.
 use mathlib.Core.Path.{_≡_, sym, ap, _∙_}
-use mathlib.Core.Bool.{Bool, true, false}
-use mathlib.Core.List.{List, [], _∷_, map}
+use mathlib.Core.Bool.{false}
+use mathlib.Core.List.{List, map}
 use Prim.Native.Nat.{ℕ, _*_, _≤_, _<_}
 use native.Mathlib.Omega.{arith}
 use borrow.Author.Tests.{lt-leb}
@@ -10,18 +10,14 @@ use lib.Ieee.{Float}
 use Rattle.planes.proofs.Checks.{both-off, equal-passes, planes-fit, not-outside}
 use Rattle.planes.proofs.Planes.{length-with-frames}
 use Rattle.history.specs.Signals.{damaged}
-use Rattle.rings.specs.Represents.{toGoAfter, Represents}
+use Rattle.rings.specs.Represents.{Represents}
+use Rattle.rings.proofs.ToGo.{to-go-below}
 use Rattle.hrtf_checks.specs.Refusals.{misfit, astray, refusalOf}
 use Rattle.hrtf_checks.proofs.Refusing.{accept}
 use Rattle.wire.specs.Frames.{wholeIn, framesIn}
 use Rattle.ears_play.specs.declared.Progress.{Progress}
 use Rattle.ears_play.specs.Turns.{Fixed, Lent, setupIn, come, stateIn, planesIn, callIn}
 use Rattle.ears_file.specs.Playing.{Ready, Room}
-
-to-go-below : (n : ℕ) (bs : List Bool) → 0 < n → toGoAfter n bs < n
-to-go-below n [] h = h
-to-go-below n (true ∷ bs) h = omega arith
-to-go-below n (false ∷ bs) h = omega (arith, to-go-below n bs h)
 
 module _ (x : Fixed) (p : Progress) (size : ℕ) (l : Lent) (past : List (List Float)) (ready : Ready x) (room : Room l) (stands : Represents (setupIn x) past (stateIn p l)) where
   few : wholeIn (come size l) ≤ 1024

@@ -14,7 +14,6 @@ use Rattle.io.specs.Counts.{Counts}
 use Rattle.big_endian.specs.Placed.{placed}
 use Rattle.big_endian.proofs.Placed.{placed-none}
 use Rattle.planes.specs.Tables.{unsound}
-use Rattle.planes.specs.Planes.{outside}
 use Rattle.bank_form.specs.Bank.{Bank, rows}
 use Rattle.bank_form.specs.FaultComputed.{bankIn, orElse, field, headField, headFault, fault, isFile}
 use Rattle.bank_form.proofs.Exact.{Keeps, keeps, exactly}
@@ -24,7 +23,7 @@ use Rattle.bank.proofs.Answers.{broken, accepted}
 use Rattle.bank.proofs.Promises.{accepted-parts}
 use Rattle.history.specs.Setup.{Setup}
 use Rattle.ears_play.specs.declared.Progress.{Progress}
-use Rattle.runs.proofs.SetUp.{inside, taps-sound}
+use Rattle.runs.proofs.SetUp.{taps-sound}
 use Rattle.ears_play.specs.declared.Ended.{Ended}
 use Rattle.wire.specs.Line.{framesLine, refusedLine}
 use Rattle.wire.specs.Promises.{Lined}
@@ -140,12 +139,6 @@ module _ (o : ReadOutcome) (taps : List Float) (most : length taps ≡ 8192) (f 
     tapped =
         ap (λ (q : ReadOutcome). take (2 * q .answer .rows * q .answer .length) (q .taps)) is
         ∙ take-at (b .taps) (drop (length (b .taps)) taps) (2 * rows b * b .length) (kept .count)
-
-    pub few-rows : outside (o .answer .rows) 8 ≡ false
-    few-rows = ap (λ (q : ReadOutcome). outside (q .answer .rows) 8) is ∙ inside (rows b) 8 (kept .few)
-
-    pub short : outside (o .answer .length) 512 ≡ false
-    short = ap (λ (q : ReadOutcome). outside (q .answer .length) 512) is ∙ inside (b .length) 512 (kept .short)
 
     pub sound : unsound (take (2 * o .answer .rows * o .answer .length) (o .taps)) ≡ false
     sound = ap unsound tapped ∙ taps-sound (b .taps) (kept .numbers)

@@ -25,7 +25,7 @@ use Rattle.ears_file.specs.Playing.{Ready, Room, Standing, Playing, Furt
 use Rattle.ears_file.proofs.Accepting.{all-written, not-refused}
 
 -- the list of bytes, exchanged
-abbrev pub withBytes : Lent → List ℕ → Lent
+abbrev withBytes : Lent → List ℕ → Lent
 withBytes l bytes = record { bytes = bytes; inputs = l .inputs; rings = l .rings; ears = l .ears; out = l .out }
 
 -- fewer bytes are held than a frame has

@@ -8,9 +8,9 @@ use native.Mathlib.Omega.{arith}
 use lib.IntN.{ℤ}
 use lib.ListN.{length, replicate}
 use lib.Ieee.{Float, binary32, ofBits}
+use Rattle.refusals.specs.Refusals.{outside}
 use Rattle.numbers.specs.Computed.{zero-float}
 use Rattle.planes.specs.Tables.{unsound}
-use Rattle.planes.specs.Planes.{outside}
 use Rattle.planes.proofs.Checks.{both-off}
 use Rattle.channel.specs.declared.Layout.the-variants.{Surround51}
 use Rattle.hrtf_setup.specs.Arrangement.{refusalOf, Arrangement, arrangedBy, arrangement}
@@ -30,7 +30,7 @@ zero-bits = refl
 pub taps-few : (n L : ℕ) → n ≤ 8 → L ≤ 512 → 2 * n * L ≤ 8192
 taps-few n L h g = let few : 2 * n ≤ 16 = omega (arith, h) in omega (arith, mul-le-mul few g)
 
-abbrev pub fixedBy : Arrangement → ℕ → ℕ → List Float → Fixed
+abbrev fixedBy : Arrangement → ℕ → ℕ → List Float → Fixed
 fixedBy o n L taps = record { shape = record { channels = o .answer .channels; speakers = o .answer .speakers; rows = n; length = L }; stride = 1024; weights = o .weights; rows = o .rows; taps = taps }
 
 module _ (zs : List ℤ) (n L : ℕ) (taps weights : List Float) (o : Arrangement) (few : outside n 8 ≡ false) (eight : length zs ≡ 8) (size : length weights ≡ 36)

@@ -4,9 +4,9 @@ use mathlib.Core.Bool.{true, false, _||_}
 use mathlib.Core.List.{List, [], _++_}
 use Prim.Native.Nat.{ℕ, _*_, _<_}
 use lib.ListN.{length}
+use Rattle.refusals.specs.Refusals.{outside}
 use Rattle.big_endian.specs.Placed.{placed}
 use Rattle.planes.specs.Tables.{unsound}
-use Rattle.planes.specs.Planes.{outside}
 use Rattle.history.specs.History.{heard}
 use Rattle.hrtf_checks.specs.Refusals.{misshapen}
 use Rattle.wire.specs.Frames.{framesIn, restIn}

@@ -5,6 +5,7 @@ use Prim.Native.Nat.{ℕ, zero, suc, _-_, _*_, _≤_, _<_, min}
 use native.Mathlib.Nat.{sub-zero, zero-sub, suc-sub-suc, not-suc-le-zero, le-of-suc-le-suc}
 use native.Mathlib.Omega.{arith}
 use lib.ListN.{length, getD, take, drop, length-drop, length-take}
+use lib.Seq.{take-nil}
 use lib.Ieee.{Float}
 use Rattle.big_endian.specs.Placed.{placed}
 use Rattle.planes.specs.Planes.{framesOf, withFrames}
@@ -31,14 +32,10 @@ use Rattle.ears_play.specs.Turns.{Fixed, Lent, setupIn, come, stateIn, p
 
 -- ---- the bytes that are kept
 
-take-none : (n : ℕ) → take {A = ℕ} n [] ≡ []
-take-none zero = refl
-take-none (suc n) = refl
-
 drop-take : (k m : ℕ) (xs : List ℕ) → drop k (take m xs) ≡ take (m - k) (drop k xs)
 drop-take zero m xs = ap (λ (n : ℕ). take n xs) (sym (sub-zero m))
 drop-take (suc k) zero xs = ap (λ (n : ℕ). take n (drop (suc k) xs)) (sym (zero-sub (suc k)))
-drop-take (suc k) (suc m) [] = sym (take-none (suc m - suc k))
+drop-take (suc k) (suc m) [] = sym (take-nil (suc m - suc k))
 drop-take (suc k) (suc m) (x ∷ xs) = drop-take k m xs ∙ ap (λ (n : ℕ). take n (drop k xs)) (sym (suc-sub-suc m k))
 
 two-each : (u : Setup) (past fs : List (List Float)) (j : ℕ) → j < length (heard u past fs) → length (getD (heard u past fs) j []) ≡ 2

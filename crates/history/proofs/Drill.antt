@@ -25,10 +25,6 @@ drill = record { channels = 1; speakers = 1; L = 2; weights = one ∷ []; taps =
 abbrev pub first-then-silence : Float → List (List Float)
 first-then-silence x = (x ∷ []) ∷ (zero-float ∷ []) ∷ (zero-float ∷ []) ∷ []
 
-pub inverse-root-one : inverseRoot 1 ≡ one
-unfolding inverseRoot asFloat rootOf rootUnits wholeRoot rootIn size units div round
-inverse-root-one = refl
-
 pub drill-8 : heard drill [] (first-then-silence one) ≡ (one ∷ zero-float ∷ []) ∷ (half ∷ one ∷ []) ∷ (zero-float ∷ zero-float ∷ []) ∷ []
 unfolding mixed earOf inverseRoot asFloat rootOf rootUnits wholeRoot rootIn rounded add mul div sum round size span climb units odd
 drill-8 = refl

@@ -22,10 +22,10 @@ two = fin false 2 (pos 0)
 abbrev pub doubled : Setup
 doubled = record { channels = 1; speakers = 1; L = 2; weights = two ∷ []; taps = one ∷ half ∷ zero-float ∷ one ∷ []; rows = 0 ∷ 0 ∷ 0 ∷ 0 ∷ 0 ∷ 0 ∷ 0 ∷ 0 ∷ [] }
 
-pub loud-finite : unsound (largest ∷ []) ≡ false
+loud-finite : unsound (largest ∷ []) ≡ false
 loud-finite = refl
 
-pub loud-damaged : damaged doubled (largest ∷ []) ≡ true
+loud-damaged : damaged doubled (largest ∷ []) ≡ true
 unfolding mixed rounded add mul sum round size span climb units odd
 loud-damaged = refl
 

@@ -16,7 +16,7 @@ use Rattle.history.specs.Signals.{signal, damaged}
 use Rattle.history.specs.History.{silence, signalAgo, window}
 
 module _ (u : Setup) (w : unsound (u .weights) ≡ false) where
-  pub signal-silence : (s : ℕ) → signal u s (silence u) ≡ zero-float
+  signal-silence : (s : ℕ) → signal u s (silence u) ≡ zero-float
   signal-silence s = mixed-silence (u .channels) (weightsOf u s) (sound-take (u .channels) (drop (s * u .channels) (u .weights)) (sound-drop (s * u .channels) (u .weights) w))
 
   pub silence-sound : damaged u (silence u) ≡ false

@@ -3,7 +3,7 @@ use mathlib.Core.Path.{_≡_, refl, sym, ap, _∙_, subst}
 use mathlib.Core.Bool.{Bool, true, false, _||_, cond}
 use mathlib.Core.List.{List, [], _∷_}
 use Prim.Native.Nat.{ℕ, suc, _+_, _-_, _*_, _≤_, _<_, zero-le}
-use native.Mathlib.Nat.{zero-add, add-zero, add-assoc, mod-lt}
+use native.Mathlib.Nat.{zero-add, add-zero, add-assoc}
 use native.Mathlib.Numerals.{add-one}
 use native.Mathlib.Omega.{arith}
 use lib.Dec.{ltb}
@@ -14,14 +14,14 @@ use Rattle.planes.specs.Planes.{frameAt, withSample, withFrames}
 use Rattle.planes.proofs.Tables.{length-tab, tab-more, tab-none, tab-all}
 use Rattle.planes.proofs.Planes.{length-with-frame, frame-read}
 use Rattle.desk.specs.declared.Desk.{Desk}
-use Rattle.desk.specs.Steps.{advanced, steppedOf}
+use Rattle.desk.specs.Steps.{steppedOf}
 use Rattle.history.specs.Setup.{Setup}
 use Rattle.history.specs.Signals.{signal, signals, damaged}
 use Rattle.rings.specs.Steps.{State, stored, ringEar, ears, late, stepped, left, played, counted}
-use Rattle.rings.proofs.Told.{goes-on, length-stored}
+use Rattle.rings.proofs.Told.{position-below, length-stored}
 use Rattle.hrtf_checks.specs.declared.Shape.{Shape}
-use Rattle.hrtf_checks.specs.Call.{Call, setupOf, setup, framesIn}
-use Rattle.hrtf.specs.Steps.{Ready, earBy, Turned, Blocked}
+use Rattle.hrtf_checks.specs.Call.{Call, setupOf, setup, framesIn, Ready}
+use Rattle.hrtf.specs.Steps.{earBy, Turned, Blocked}
 
 -- ---- one frame
 
@@ -134,9 +134,6 @@ module _ (c : Call) (t : State) where
         step : _≡_ {A = State} (record { rings = rings₂; desk = d₂ }) (stepped (setup c) st (frame n))
         step = cc (e .ringed, desked)
 
-        on : d₂ ≡ advanced (c .shape .length) (damaged (setup c) (frame n)) d
-        on = desked ∙ goes-on (c .shape .length) (damaged (setup c) (frame n)) d (p .ready .within)
-
         long : length rings₂ ≡ length rings
         long = ap length (e .ringed) ∙ length-stored (setup c) st (frame n)
 
@@ -151,7 +148,7 @@ module _ (c : Call) (t : State) where
                     chosen = p .ready .chosen;
                     tapped = p .ready .tapped;
                     ringed = long ∙ p .ready .ringed;
-                    within = subst (λ (b : Desk). b .position < c .shape .length) (sym on) (mod-lt (d .position + 1) (omega (arith, p .ready .within)));
+                    within = subst (λ (b : Desk). b .position < c .shape .length) (sym ed) (position-below (c .shape .length) bad d (p .ready .within));
                   };
               room = ap length (e .eared) ∙ length-with-frame 0 ears₁ (c .stride) n (ears (setup c) st (frame n)) ∙ p .room;
               same = long ∙ p .same;

@@ -8,9 +8,10 @@ use native.Mathlib.Omega.{arith}
 use lib.Dec.{eqb}
 use lib.ListN.{length, replicate}
 use lib.Ieee.{Float}
+use Rattle.refusals.specs.Refusals.{outside}
 use Rattle.numbers.specs.Computed.{zero-float}
 use Rattle.refusals.proofs.First.{stops, goes-on, passed}
-use Rattle.planes.specs.Planes.{outside, sampleAt, frameAt, framesOf, withFrames}
+use Rattle.planes.specs.Planes.{sampleAt, frameAt, framesOf, withFrames}
 use Rattle.planes.proofs.Tables.{length-tab}
 use Rattle.planes.proofs.Checks.{is-equal, not-outside}
 use Rattle.planes.proofs.Planes.{with-frames-other}
@@ -24,21 +25,17 @@ use Rattle.hrtf_checks.specs.Call.{Call, setup, framesIn}
 use Rattle.hrtf_checks.specs.Refusals.{refusalOf}
 use Rattle.hrtf.specs.Promise.{Outcome, refused, accepted, outcomeBy, outcome, Tells, Processes}
 use Rattle.hrtf.specs.Reset.{resetRefusal, AfterReset, resetBy, resetOutcome, Resets}
-use Rattle.hrtf.specs.Steps.{Ready, Blocked}
-use Rattle.hrtf_checks.proofs.Refusing.{ears-fit, fits}
+use Rattle.hrtf.specs.Steps.{Blocked}
+use Rattle.hrtf_checks.proofs.Refusing.{ears-fit}
 
 -- ---- a call
-
--- a call that is not refused is ready
-pub ready : (c : Call) (t : State) → refusalOf c t ≡ 0 → Ready (c .shape) (t .desk .position) (c .rows) (c .taps) (t .rings)
-ready c t e = let f = fits c t e in record { few = f .few; chosen = f .chosen; tapped = f .tapped; ringed = f .ringed; within = f .within }
 
 pub outcome-by : (c : Call) (t : State) (k : ℕ) → refusalOf c t ≡ k → outcome c t ≡ outcomeBy k c t
 unfolding outcome
 outcome-by c t k e = ap (λ (n : ℕ). outcomeBy n c t) e
 
 -- an accepted call over a history
-pub accepted-tells : (c : Call) (t : State) (past : List (List Float)) → Represents (setup c) past t → Tells c past (accepted c t)
+accepted-tells : (c : Call) (t : State) (past : List (List Float)) → Represents (setup c) past t → Tells c past (accepted c t)
 accepted-tells c t past r =
     record {
       ears = ap (withFrames (c .ears) (c .stride) 0) (played-heard (setup c) past t (framesIn c) r);
@@ -47,7 +44,7 @@ accepted-tells c t past r =
     }
 
 -- the equation says it all
-pub promised : (c : Call) (t : State) (o : Outcome) → o ≡ outcome c t → Processes c t o
+promised : (c : Call) (t : State) (o : Outcome) → o ≡ outcome c t → Processes c t o
 promised c t o e =
     record {
       answer = e;
@@ -84,15 +81,16 @@ none-played c t e z = outcome-by c t 0 e ∙ ap by (ap (framesOf (c .inputs) (c 
           ears = withFrames (c .ears) (c .stride) 0 (played (setup c) t fs);
         }
 
+-- two ear samples for each frame
+pub all-played : (c : Call) (t : State) → length (played (setup c) t (framesIn c)) ≡ c .frames
+all-played c t = length-played (setup c) t (framesIn c) ∙ length-tab 0 (c .frames) (frameAt (c .inputs) (c .stride) (c .shape .channels))
+
 -- frames of a plane beyond the count are unchanged
 pub beyond : (c : Call) (t : State) → refusalOf c t ≡ 0 → (plane i : ℕ) → c .frames ≤ i → i < c .stride
     → sampleAt (outcome c t .ears) (c .stride) plane i ≡ sampleAt (c .ears) (c .stride) plane i
 beyond c t e plane i h lt =
     ap (λ (o : Outcome). sampleAt (o .ears) (c .stride) plane i) (outcome-by c t 0 e)
-    ∙ with-frames-other (c .ears) (c .stride) 0 (played (setup c) t (framesIn c)) plane i lt (omega (arith, long, ears-fit c t e .0)) (λ k b q. omega (arith, long, b, q))
-  where
-    long : length (played (setup c) t (framesIn c)) ≡ c .frames
-    long = length-played (setup c) t (framesIn c) ∙ length-tab 0 (c .frames) (frameAt (c .inputs) (c .stride) (c .shape .channels))
+    ∙ with-frames-other (c .ears) (c .stride) 0 (played (setup c) t (framesIn c)) plane i lt (omega (arith, all-played c t, ears-fit c t e .0)) (λ k b q. omega (arith, all-played c t, b, q))
 
 -- ---- a reset
 

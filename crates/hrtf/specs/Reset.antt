@@ -7,9 +7,8 @@ use lib.Dec.{eqb}
 use lib.ListN.{length, replicate}
 use lib.Ieee.{Float}
 use Rattle.numbers.specs.Computed.{zero-float}
-use Rattle.refusals.specs.Refusals.{firstOf, _when_}
+use Rattle.refusals.specs.Refusals.{firstOf, _when_, outside}
 use Rattle.planes.specs.Tables.{unsound}
-use Rattle.planes.specs.Planes.{outside}
 use Rattle.desk.specs.declared.Desk.{Desk}
 use Rattle.history.specs.Setup.{Setup}
 use Rattle.rings.specs.Represents.{Represents}

@@ -1,9 +1,9 @@
 -- What the functions under `process` ask and leave. Definitions only; they speak of the program, and nobody has to believe them.
 use mathlib.Core.Path.{_≡_}
-use Prim.Native.Nat.{ℕ, _+_, _*_, _≤_, _<_}
+use Prim.Native.Nat.{ℕ, _+_, _*_, _<_}
 use mathlib.Core.Bool.{Bool, cond}
 use mathlib.Core.List.{List, []}
-use lib.ListN.{length, getD}
+use lib.ListN.{length}
 use lib.Ieee.{Float}
 use Rattle.numbers.specs.Computed.{zero-float}
 use Rattle.planes.specs.Tables.{row}
@@ -15,14 +15,6 @@ use Rattle.rings.specs.Unrolled.{unrolled}
 use Rattle.rings.specs.Steps.{State, stored, ringEar, ears, late, left, played, counted}
 use Rattle.hrtf_checks.specs.declared.Shape.{Shape}
 use Rattle.hrtf_checks.specs.Call.{Call, setupOf, setup, framesIn}
-
--- what an accepted call has made sure of
-pub record Ready (h : Shape) (position : ℕ) (rows : List ℕ) (taps rings : List Float) : Type 0 where
-  pub few : h .speakers ≤ 8
-  pub chosen : (s : ℕ) → s < h .speakers → getD rows s 0 < h .rows
-  pub tapped : length taps ≡ 2 * h .rows * h .length
-  pub ringed : length rings ≡ h .speakers * h .length
-  pub within : position < h .length
 
 -- where a speaker's ring stands, and the taps of a row and side
 pub record Stands (h : Shape) (s j side : ℕ) (taps rings : List Float) : Type 0 where

@@ -8,7 +8,8 @@ ghost use mathlib.Core.Bool.{cond, _||_};
 ghost use Prim.Native.Nat.{suc, _≤_, _<_, _^_};
 ghost use lib.Dec.{ltb};
 ghost use Rattle.planes.specs.Planes.{frameAt};
-ghost use Rattle.hrtf.specs.Steps.{Ready, Stands, partBy, earBy, Turned, Blocked};
+ghost use Rattle.hrtf_checks.specs.Call.{Ready};
+ghost use Rattle.hrtf.specs.Steps.{Stands, partBy, earBy, Turned, Blocked};
 
 // The frames played so far, how many of them are unsettled, and whether the last one is damaged.
 pub(crate) struct Played {

@@ -2,18 +2,19 @@
 use mathlib.Core.Path.{_≡_, sym, _∙_, subst}
 use mathlib.Core.Bool.{Bool, true, false, not, _||_, cond}
 use mathlib.Core.List.{List, []}
-use Prim.Native.Nat.{ℕ, _*_, _≤_, _<_}
+use Prim.Native.Nat.{ℕ, _*_, _≤_}
 use native.Mathlib.Nat.{zero-add}
 use borrow.Author.Tests.{leb-false}
 use lib.Dec.{leb, eqb}
 use lib.ListN.{length, getD}
+use Rattle.refusals.specs.Refusals.{outside}
 use Rattle.refusals.proofs.First.{stops, goes-on, passed}
 use Rattle.planes.specs.Tables.{unsound}
-use Rattle.planes.specs.Planes.{outside, unfit, blockUnfit}
+use Rattle.planes.specs.Planes.{unfit, blockUnfit}
 use Rattle.planes.proofs.Checks.{or-off, any-off, is-equal, not-outside, fitted}
 use Rattle.rings.specs.Steps.{State}
 use Rattle.hrtf_checks.specs.declared.Shape.{Shape}
-use Rattle.hrtf_checks.specs.Call.{Call}
+use Rattle.hrtf_checks.specs.Call.{Call, Ready}
 use Rattle.hrtf_checks.specs.Refusals.{misshapen, misfit, astray, refusalOf}
 
 -- a bank that is well shaped has at most 8 rows
@@ -69,14 +70,14 @@ module _ (c : Call) (t : State) where
   -- ---- a call that is not refused
 
   -- every test has passed
-  pub record Passed : Type 0 where
+  record Passed : Type 0 where
     pub shaped : bad2 ≡ false
     pub long : bad4 ≡ false
     pub fits : bad5 ≡ false
     pub sound : bad7 ≡ false
     pub there : bad8 ≡ false
 
-  pub every-test : refusalOf c t ≡ 0 → Passed
+  every-test : refusalOf c t ≡ 0 → Passed
   unfolding refusalOf
   every-test e =
       let p2 = passed bad2 1 (cond bad4 4 from5) e in
@@ -85,9 +86,6 @@ module _ (c : Call) (t : State) where
       let p7 = passed bad7 6 (cond bad8 8 0) (p5 .1) in
       let p8 = passed bad8 7 0 (p7 .1) in
       record { shaped = p2 .0; long = p4 .0; fits = p5 .0; sound = p7 .0; there = p8 .0 }
-
-  pub weights-sound : refusalOf c t ≡ 0 → unsound (c .weights) ≡ false
-  weights-sound e = or-off (unsound (c .weights)) (unsound (c .taps)) (every-test e .sound) .0
 
   abbrev badPlanes : Bool
   badPlanes = blockUnfit (length (c .inputs)) (c .shape .channels) (length (c .ears)) 2 (c .stride) (c .frames)
@@ -102,16 +100,8 @@ module _ (c : Call) (t : State) where
   pub ears-fit : refusalOf c t ≡ 0 → (c .frames ≤ c .stride) × (length (c .ears) ≡ 2 * c .stride)
   ears-fit e = fitted (length (c .ears)) 2 (c .stride) (c .frames) (both-fit e .1)
 
-  -- speakers, rows, taps, rings and position
-  pub record Fits : Type 0 where
-    pub few : c .shape .speakers ≤ 8
-    pub chosen : (s : ℕ) → s < c .shape .speakers → getD (c .rows) s 0 < c .shape .rows
-    pub tapped : length (c .taps) ≡ 2 * c .shape .rows * c .shape .length
-    pub ringed : length (t .rings) ≡ c .shape .speakers * c .shape .length
-    pub within : t .desk .position < c .shape .length
-
-  pub fits : refusalOf c t ≡ 0 → Fits
-  fits e =
+  pub ready : refusalOf c t ≡ 0 → Ready (c .shape) (t .desk .position) (c .rows) (c .taps) (t .rings)
+  ready e =
       let p = every-test e in
       let a1 = or-off (outside (c .shape .speakers) 8) _ (p .shaped) in
       let a2 = or-off (outside (c .shape .rows) 8) _ (a1 .1) in

@@ -4,9 +4,9 @@ use mathlib.Core.Bool.{Bool, not, _||_}
 use mathlib.Core.List.{List, [], _∷_}
 use lib.Dec.{leb, eqb}
 use lib.ListN.{length, getD}
-use Rattle.refusals.specs.Refusals.{firstOf, _when_}
+use Rattle.refusals.specs.Refusals.{firstOf, _when_, outside}
 use Rattle.planes.specs.Tables.{tab, any, unsound}
-use Rattle.planes.specs.Planes.{outside, blockUnfit}
+use Rattle.planes.specs.Planes.{blockUnfit}
 use Rattle.desk.specs.declared.Desk.{Desk}
 use Rattle.rings.specs.Steps.{State}
 use Rattle.hrtf_checks.specs.declared.Shape.{Shape}

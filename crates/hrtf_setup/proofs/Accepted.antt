@@ -12,9 +12,9 @@ use lib.ListN.{length, getD, drop, List·getD-append}
 use lib.Seq.{sets, sets-eq}
 use lib.Ieee.{Float, fin}
 use lib.Ieee.Scale.{finite}
+use Rattle.refusals.specs.Refusals.{outside}
 use Rattle.refusals.proofs.First.{goes-on}
 use Rattle.planes.specs.Tables.{tab, unsound}
-use Rattle.planes.specs.Planes.{outside}
 use Rattle.planes.proofs.Tables.{length-tab, getD-tab}
 use Rattle.planes.proofs.Checks.{both-off, equal-passes, sound-at, sound-tab}
 use Rattle.channel.specs.declared.Layout.{Layout}
@@ -39,7 +39,7 @@ own-finite s c = go (eqb s c)
     go true = refl
     go false = refl
 
-pub weight-finite : (k : Speakers) (s c : ℕ) → c < 16 → finite (weightOf k s c) ≡ true
+weight-finite : (k : Speakers) (s c : ℕ) → c < 16 → finite (weightOf k s c) ≡ true
 weight-finite (Of l) s c h = own-finite s c
 weight-finite (Virtual order) s c h =
     let o = outcome order (positionOf s) in
@@ -68,7 +68,7 @@ module _ (w : Wanted) (azimuths : List ℤ) (rows : ℕ) (weights : List Float) 
       go zero = refl
       go (suc n) = refl
 
-  pub accepted-of : o .answer .refusal ≡ 0 → refusalOf w azimuths rows weights ≡ 0
+  accepted-of : o .answer .refusal ≡ 0 → refusalOf w azimuths rows weights ≡ 0
   accepted-of e = sym refusal-told ∙ e
 
   module _ (few : Few w) (eight : length given ≡ 8) (z : refusalOf w azimuths rows weights ≡ 0) where
@@ -87,7 +87,7 @@ module _ (w : Wanted) (azimuths : List ℤ) (rows : ℕ) (weights : List Float) 
         ∙ getD-tab 0 (w .speakers) f s 0 h
         ∙ ap f (zero-add s)
 
-    pub playable : Playable rows o
+    playable : Playable rows o
     playable =
         let counted : (o .answer .speakers ≡ w .speakers) × (o .answer .channels ≡ w .channels) = (ap (λ (q : Arrangement). q .answer .speakers) is, ap (λ (q : Arrangement). q .answer .channels) is) in
         record {
@@ -108,7 +108,7 @@ pub set-up : (w : Wanted) (azimuths : List ℤ) (rows : ℕ) (weights : List Flo
     → length weights ≡ w .speakers * w .channels → refusalOf w azimuths rows weights ≡ 0
 unfolding laterRefusal
 set-up w azimuths rows weights h few full long =
-    later-of w azimuths rows weights [] h
+    later-of w azimuths rows weights h
     ∙ goes-on _ _ few
     ∙ goes-on _ _ (both-off (not (eqb (length azimuths) 8)) (not (eqb (length weights) (w .speakers * w .channels))) (equal-passes (length azimuths) 8 full) (equal-passes (length weights) (w .speakers * w .channels) long))
 
@@ -118,11 +118,11 @@ module _ (azimuths : List ℤ) (rows : ℕ) (weights : List Float) (given : List
   pub surround-playable : (l : Layout) → NewSurround l azimuths rows weights given o → Playable rows o
   surround-playable l p =
       let z = accepted-of (ofLayout l) azimuths rows weights given o p e in
-      let f = surround-few l (not-false (surround l) (offered (ofLayout l) azimuths rows weights given 1 refl z)) in
+      let f = surround-few l (not-false (surround l) (offered (ofLayout l) azimuths rows weights 1 refl z)) in
       playable (ofLayout l) azimuths rows weights given o p (f, (f .0, omega (arith, f .1))) eight z
 
   pub ambisonic-playable : (order : ℕ) → NewAmbisonic order azimuths rows weights given o → Playable rows o
   ambisonic-playable order p =
       let z = accepted-of (ofOrder order) azimuths rows weights given o (p .arranges) e in
       playable (ofOrder order) azimuths rows weights given o (p .arranges)
-      (by-order (λ (n : ℕ). Few (ofOrder n)) ((lit< tt, lit≤ tt), (lit< tt, lit≤ tt)) ((lit< tt, lit≤ tt), (lit< tt, lit≤ tt)) ((lit< tt, lit≤ tt), (lit< tt, lit≤ tt)) order (offered (ofOrder order) azimuths rows weights given 0 refl z)) eight z
+      (by-order (λ (n : ℕ). Few (ofOrder n)) ((lit< tt, lit≤ tt), (lit< tt, lit≤ tt)) ((lit< tt, lit≤ tt), (lit< tt, lit≤ tt)) ((lit< tt, lit≤ tt), (lit< tt, lit≤ tt)) order (offered (ofOrder order) azimuths rows weights 0 refl z)) eight z

@@ -10,10 +10,10 @@ use lib.Dec.{eqb}
 use lib.IntN.{ℤ}
 use lib.ListN.{length, getD}
 use lib.Ieee.{Float, nan}
+use Rattle.refusals.specs.Refusals.{outside}
 use Rattle.refusals.proofs.First.{stops, goes-on, passed}
 use Rattle.fractions.specs.Fraction.{number}
 use Rattle.planes.specs.Tables.{tab}
-use Rattle.planes.specs.Planes.{outside}
 use Rattle.planes.proofs.Tables.{getD-tab}
 use Rattle.planes.proofs.Checks.{or-off, or-yes, or-next, is-equal, not-outside}
 use Rattle.planes.proofs.Planes.{inside}
@@ -40,7 +40,7 @@ use Rattle.hrtf_setup.proofs.Standing.{stands}
 -- ---- the weights
 
 -- channel c of speaker s
-pub weighed : (k : Speakers) (n s c : ℕ) → c < n → weightAt k n (s * n + c) ≡ weightOf k s c
+weighed : (k : Speakers) (n s c : ℕ) → c < n → weightAt k n (s * n + c) ≡ weightOf k s c
 weighed k n s c hc = ap (λ (q : ℕ). weightOf k q ((s * n + c) % n)) quotient ∙ ap (weightOf k s) (mul-add-mod-self-right s n c ∙ mod-eq-of-lt hc)
   where
     quotient : (s * n + c) / n ≡ s
@@ -63,7 +63,7 @@ module _ (k : Speakers) (azimuths : List ℤ) (rows s : ℕ) (few : outside rows
       sym (ap (λ (r : ℕ). cond {A = Choice} (eqb r 0) (record { refusal = 0; row = nearestFrom azimuths (tenthsAt k s) 0 1 (rows - 1) }) (record { refusal = r; row = 0 }) .row) not-refused)
 
   -- rows from 1 to 8 of a list of 8: the row is the one that document 01 names
-  pub row-taken : Takes azimuths rows (tenthsAt k s) (rowAt k azimuths rows s)
+  row-taken : Takes azimuths rows (tenthsAt k s) (rowAt k azimuths rows s)
   row-taken = subst (Takes azimuths rows (tenthsAt k s)) row-is (takes azimuths (tenthsAt k s) rows (not-outside rows 8 few .0))
 
 -- ---- what both set-ups do
@@ -113,7 +113,7 @@ module _ (k : Speakers) (speakers channels : ℕ) (azimuths : List ℤ) (rows : 
 
 -- ---- what each promises
 
-module _ (w : Wanted) (azimuths : List ℤ) (rows : ℕ) (weights : List Float) (given : List ℕ) where
+module _ (w : Wanted) (azimuths : List ℤ) (rows : ℕ) (weights : List Float) where
   -- where the check that stands first is 0, it does not hold
   pub later-of : w .check .holds ≡ false → refusalOf w azimuths rows weights ≡ laterRefusal (w .speakers * w .channels) azimuths rows weights
   unfolding refusalOf laterRefusal
@@ -129,41 +129,43 @@ module _ (w : Wanted) (azimuths : List ℤ) (rows : ℕ) (weights : List Float) 
   -- a check with a number above 0 does not hold of a set-up that is accepted
   pub offered : (n : ℕ) → w .check .number ≡ suc n → refusalOf w azimuths rows weights ≡ 0 → w .check .holds ≡ false
   unfolding refusalOf
-  offered n en e = passed (w .check .holds) n _ (ap (λ (m : ℕ). cond (w .check .holds) m (laterAgain)) (sym en) ∙ e) .0
+  offered n en e = passed (w .check .holds) n _ (ap (λ (m : ℕ). cond (w .check .holds) m laterAgain) (sym en) ∙ e) .0
     where
       laterAgain : ℕ
       laterAgain = cond (outside rows 8) 2 (cond (not (eqb (length azimuths) 8) || not (eqb (length weights) (w .speakers * w .channels))) 5 0)
 
-  pub by-wanted : (n : ℕ) → refusalOf w azimuths rows weights ≡ n
-      → arrangement w azimuths rows weights given ≡ arrangedBy n (w .whose) (w .speakers) (w .channels) azimuths rows weights given
-  unfolding arrangement
-  by-wanted n e = ap (λ (m : ℕ). arrangedBy m (w .whose) (w .speakers) (w .channels) azimuths rows weights given) e
+  -- the two lists as they are handed back
+  module _ (given : List ℕ) where
+    pub by-wanted : (n : ℕ) → refusalOf w azimuths rows weights ≡ n
+        → arrangement w azimuths rows weights given ≡ arrangedBy n (w .whose) (w .speakers) (w .channels) azimuths rows weights given
+    unfolding arrangement
+    by-wanted n e = ap (λ (m : ℕ). arrangedBy m (w .whose) (w .speakers) (w .channels) azimuths rows weights given) e
 
-  arranges : (n : ℕ) → w .check .number ≡ suc n → (o : Arrangement) → o ≡ arrangement w azimuths rows weights given → Arranges w azimuths rows weights given o
-  arranges n en o e =
-      record {
-        answer = e;
-        weighs = λ z s c hs hc.
-            ap (λ (q : Arrangement). getD (q .weights) (s * w .channels + c) nan) (e ∙ by-wanted 0 z)
-            ∙ getD-tab 0 (w .speakers * w .channels) (weightAt (w .whose) (w .channels)) (s * w .channels + c) nan (inside (w .speakers) (w .channels) s c (w .speakers * w .channels) hs hc refl)
-            ∙ ap (weightAt (w .whose) (w .channels)) (zero-add (s * w .channels + c))
-            ∙ weighed (w .whose) (w .channels) s c hc;
-        takes = λ z s. let p = later-passed (sym (later-of (offered n en z)) ∙ z) in row-taken (w .whose) azimuths rows s (p .0) (p .1);
-      }
+    arranges : (n : ℕ) → w .check .number ≡ suc n → (o : Arrangement) → o ≡ arrangement w azimuths rows weights given → Arranges w azimuths rows weights given o
+    arranges n en o e =
+        record {
+          answer = e;
+          weighs = λ z s c hs hc.
+              ap (λ (q : Arrangement). getD (q .weights) (s * w .channels + c) nan) (e ∙ by-wanted 0 z)
+              ∙ getD-tab 0 (w .speakers * w .channels) (weightAt (w .whose) (w .channels)) (s * w .channels + c) nan (inside (w .speakers) (w .channels) s c (w .speakers * w .channels) hs hc refl)
+              ∙ ap (weightAt (w .whose) (w .channels)) (zero-add (s * w .channels + c))
+              ∙ weighed (w .whose) (w .channels) s c hc;
+          takes = λ z s. let p = later-passed (sym (later-of (offered n en z)) ∙ z) in row-taken (w .whose) azimuths rows s (p .0) (p .1);
+        }
 
-  -- the first check decides
-  pub not-offered : (n : ℕ) → w .check .number ≡ suc n → (a : Arranged) → w .check .holds ≡ true → a ≡ record { refusal = suc n; speakers = 0; channels = 0 }
-      → Arranges w azimuths rows weights given (record { answer = a; weights = weights; rows = given })
-  unfolding refusalOf
-  not-offered n en a h ea =
-      arranges n en (record { answer = a; weights = weights; rows = given })
-      (ap (λ (b : Arranged). record { answer = b; weights = weights; rows = given }) ea ∙ sym (by-wanted (suc n) (stops (w .check .number) _ h ∙ en)))
+    -- the first check decides
+    not-offered : (n : ℕ) → w .check .number ≡ suc n → (a : Arranged) → w .check .holds ≡ true → a ≡ record { refusal = suc n; speakers = 0; channels = 0 }
+        → Arranges w azimuths rows weights given (record { answer = a; weights = weights; rows = given })
+    unfolding refusalOf
+    not-offered n en a h ea =
+        arranges n en (record { answer = a; weights = weights; rows = given })
+        (ap (λ (b : Arranged). record { answer = b; weights = weights; rows = given }) ea ∙ sym (by-wanted (suc n) (stops (w .check .number) _ h ∙ en)))
 
-  -- or leaves it to what both do
-  pub goes-on-to : (n : ℕ) → w .check .number ≡ suc n → w .check .holds ≡ false → (o : Arrangement)
-      → o ≡ arrangedBy (laterRefusal (w .speakers * w .channels) azimuths rows weights) (w .whose) (w .speakers) (w .channels) azimuths rows weights given
-      → Arranges w azimuths rows weights given o
-  goes-on-to n en h o e = arranges n en o (e ∙ sym (by-wanted (laterRefusal (w .speakers * w .channels) azimuths rows weights) (later-of h)))
+    -- or leaves it to what both do
+    goes-on-to : (n : ℕ) → w .check .number ≡ suc n → w .check .holds ≡ false → (o : Arrangement)
+        → o ≡ arrangedBy (laterRefusal (w .speakers * w .channels) azimuths rows weights) (w .whose) (w .speakers) (w .channels) azimuths rows weights given
+        → Arranges w azimuths rows weights given o
+    goes-on-to n en h o e = arranges n en o (e ∙ sym (by-wanted (laterRefusal (w .speakers * w .channels) azimuths rows weights) (later-of h)))
 
 -- ---- a layout
 
@@ -194,7 +196,7 @@ module _ (order : ℕ) (azimuths : List ℤ) (rows : ℕ) (weights : List Float)
   ambisonic o a =
       record {
         arranges = a;
-        near = λ z s. outcome-kept order (positionOf s) .near (position-accepted order s (offered (ofOrder order) azimuths rows weights given 0 refl z));
+        near = λ z s. outcome-kept order (positionOf s) .near (position-accepted order s (offered (ofOrder order) azimuths rows weights 0 refl z));
       }
 
   pub order-refused : (a : Arranged) → refusesOrder order ≡ true → a ≡ record { refusal = 1; speakers = 0; channels = 0 }

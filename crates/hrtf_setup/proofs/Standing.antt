@@ -26,7 +26,7 @@ pub stands : (k : Speakers) (s : ℕ) → inTenths (tenthsAt k s) ≡ true
 stands (Of l) s = ten-times (degreesOf l s) (speaker-turned l s)
 stands (Virtual order) s = ten-times (getD positions s (pos 0)) (position-turned s)
 
-pub fits-16 : (k : Speakers) (s : ℕ) → SFits w16 (tenthsAt k s)
+fits-16 : (k : Speakers) (s : ℕ) → SFits w16 (tenthsAt k s)
 fits-16 (Of l) s = tenths-fit-16 (degreesOf l s) (speaker-turned l s)
 fits-16 (Virtual order) s = tenths-fit-16 (getD positions s (pos 0)) (position-turned s)
 

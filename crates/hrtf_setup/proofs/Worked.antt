@@ -21,7 +21,7 @@ use Rattle.hrtf_setup.specs.Speakers.{tenthsAt, rowAt}
 use Rattle.hrtf_setup.specs.Arrangement.{refusalOf, Arrangement, arrangement}
 use Rattle.hrtf_setup.specs.Promise.{ofLayout, ofOrder, NewSurround, NewAmbisonic}
 
--- "the LFE taking the row for 0 degrees"
+-- "LFE uses the 0 degree filters"
 pub low-frequency-in-front : (l : Layout) → surround l ≡ true → tenthsAt (Of l) 3 ≡ pos 0
 low-frequency-in-front Mono e = absurd (true≢false (sym e))
 low-frequency-in-front Stereo e = absurd (true≢false (sym e))
@@ -33,7 +33,7 @@ low-frequency-in-front (Custom n) e = absurd (true≢false (sym e))
 bank : List ℤ
 bank = pos 300 ∷ pos 0 ∷ replicate 6 (pos 0)
 
--- L the first, R as near to the second as can be, C and LFE the second, Ls the first, Rs the second
+-- L and Ls the first; R, C, LFE and Rs the second
 rows-of-51 : tab 0 6 (rowAt (Of Surround51) bank 2) ≡ 0 ∷ 1 ∷ 1 ∷ 1 ∷ 0 ∷ 1 ∷ []
 unfolding bank choiceOf choiceRefusal within inTenths nearestFrom nearer apart
 rows-of-51 = refl

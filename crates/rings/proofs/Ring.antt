@@ -37,7 +37,7 @@ unrolled-set p ring x h =
     rest = ap {B = List Float} (λ (r : List Float). take (length ring - 1) r) cut ∙ take-at (front p ring) (getD ring p nan ∷ []) (length ring - 1) length-front
 
 -- from the end on, every position reads the ring alike: back from its last cell
-pub unrolled-whole : (p : ℕ) (ring : List Float) → length ring ≤ p → unrolled p ring ≡ reverse ring
+unrolled-whole : (p : ℕ) (ring : List Float) → length ring ≤ p → unrolled p ring ≡ reverse ring
 unrolled-whole p ring ge =
     ap {B = List Float} (λ (r : List Float). reverse r ++ reverse (drop p ring)) (take-all p ring ge)
     ∙ ap {B = List Float} (λ (r : List Float). reverse ring ++ reverse r) (drop-of-length-le ring ge)

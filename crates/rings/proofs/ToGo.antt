@@ -21,6 +21,12 @@ ltb-pred j t =
     (λ (ge : t ≤ suc j). le-ltb j (t - 1) (omega arith) ∙ sym (le-ltb (suc j) t ge))
     (split (suc j) t)
 
+-- fewer than L are to go
+pub to-go-below : (n : ℕ) (bs : List Bool) → 0 < n → toGoAfter n bs < n
+to-go-below n [] h = h
+to-go-below n (true ∷ bs) h = omega arith
+to-go-below n (false ∷ bs) h = omega (arith, to-go-below n bs h)
+
 pub to-go-any : (n : ℕ) (bs : List Bool) (j k : ℕ) → k ≡ n - 1 - j → ltb j (toGoAfter n bs) ≡ any (take k bs)
 to-go-any n [] j k e = le-ltb j 0 zero-le ∙ sym (ap any (take-nil k))
 to-go-any n (true ∷ bs) j zero e = le-ltb j (n - 1) (omega arith)

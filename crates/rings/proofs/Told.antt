@@ -3,7 +3,7 @@ use mathlib.Core.Path.{_≡_, refl, sym, ap, _∙_, subst}
 use mathlib.Core.Bool.{Bool, false, _||_, cond}
 use mathlib.Core.List.{List, [], _∷_, map, reverse}
 use Prim.Native.Nat.{ℕ, suc, _+_, _-_, _*_, _%_, _≤_, _<_}
-use native.Mathlib.Nat.{mod-lt, mul-le-mul-right, suc-mul}
+use native.Mathlib.Nat.{zero-add, mod-lt, mul-le-mul-right, suc-mul}
 use native.Mathlib.Omega.{arith}
 use borrow.Author.Tests.{lt-ltb}
 use lib.Dec.{ltb}
@@ -28,9 +28,13 @@ use Rattle.rings.specs.Represents.{Represents, fresh}
 use Rattle.rings.proofs.Ring.{unrolled-set, unrolled-wrapped}
 use Rattle.rings.proofs.ToGo.{to-go-any, any-take-cons}
 
--- a desk whose position is below L goes on
-pub goes-on : (L : ℕ) (bad : Bool) (d : Desk) → d .position < L → steppedOf L bad d ≡ advanced L bad d
-goes-on L bad d h = ap (λ (b : Bool). cond b (advanced L bad d) d) (lt-ltb (d .position) L h)
+-- a desk whose position is below L goes on, and its position stays below
+module _ (L : ℕ) (bad : Bool) (d : Desk) (h : d .position < L) where
+  pub desk-on : steppedOf L bad d ≡ advanced L bad d
+  desk-on = ap (λ (b : Bool). cond b (advanced L bad d) d) (lt-ltb (d .position) L h)
+
+  pub position-below : steppedOf L bad d .position < L
+  position-below = subst (λ (e : Desk). e .position < L) (sym desk-on) (mod-lt (d .position + 1) {m = L} (omega (arith, h)))
 
 pub length-stored : (u : Setup) (t : State) (f : List Float) → length (stored u t f) ≡ length (t .rings)
 length-stored u t f = length-with-frame 0 (t .rings) (u .L) (t .desk .position) (signals u f)
@@ -40,13 +44,10 @@ module _ (u : Setup) (past : List (List Float)) (t : State) (f : List Float) (r 
   ring-stored : (s : ℕ) → s < u .speakers → row (u .L) s (stored u t f) ≡ set (row (u .L) s (t .rings)) (t .desk .position) (signal u s f)
   ring-stored s lt =
       row-with-frame (u .speakers) (t .rings) (u .L) (t .desk .position) (signals u f) s (rw long lt) (r .within) (r .room) (omega (arith, long))
-      ∙ ap (set (row (u .L) s (t .rings)) (t .desk .position)) (getD-tab 0 (u .speakers) (λ o. signal u o f) s nan lt ∙ ap (λ (o : ℕ). signal u o f) (none s))
+      ∙ ap (set (row (u .L) s (t .rings)) (t .desk .position)) (getD-tab 0 (u .speakers) (λ o. signal u o f) s nan lt ∙ ap (λ (o : ℕ). signal u o f) (zero-add s))
     where
       long : length (signals u f) ≡ u .speakers
       long = length-tab 0 (u .speakers) (λ o. signal u o f)
-
-      none : (s : ℕ) → 0 + s ≡ s
-      none s = omega arith
 
   -- once a frame's signals are put, each ring read from its newest is the window of the history with that frame
   told-stored : (s : ℕ) → s < u .speakers → unrolled (suc (t .desk .position)) (row (u .L) s (stored u t f)) ≡ window u s (f ∷ past)
@@ -71,14 +72,11 @@ module _ (u : Setup) (past : List (List Float)) (t : State) (f : List Float) (r 
   kept =
       record {
         room = same;
-        within = subst (λ (d : Desk). d .position < u .L) (sym on) (mod-lt (t .desk .position + 1) (omega (arith, r .within)));
-        told = λ s lt. ap (λ (d : Desk). unrolled (d .position) (row (u .L) s (stored u t f))) on ∙ turn s lt ∙ told-stored s lt;
-        waits = ap (λ (d : Desk). d .«to_go») on ∙ ap (λ (k : ℕ). cond (damaged u f) (u .L - 1) (k - 1)) (r .waits);
+        within = position-below (u .L) (damaged u f) (t .desk) (r .within);
+        told = λ s lt. ap (λ (d : Desk). unrolled (d .position) (row (u .L) s (stored u t f))) (desk-on (u .L) (damaged u f) (t .desk) (r .within)) ∙ turn s lt ∙ told-stored s lt;
+        waits = ap (λ (d : Desk). d .«to_go») (desk-on (u .L) (damaged u f) (t .desk) (r .within)) ∙ ap (λ (k : ℕ). cond (damaged u f) (u .L - 1) (k - 1)) (r .waits);
       }
     where
-      on : steppedOf (u .L) (damaged u f) (t .desk) ≡ advanced (u .L) (damaged u f) (t .desk)
-      on = goes-on (u .L) (damaged u f) (t .desk) (r .within)
-
       same : length (stored u t f) ≡ u .speakers * u .L
       same = length-stored u t f ∙ r .room
 

@@ -7,18 +7,17 @@ use native.Mathlib.Nat.{not-suc-le-zero, le-of-suc-le-suc, add-assoc}
 use native.Mathlib.Omega.{arith}
 use lib.ListN.{length, getD}
 use lib.Ieee.{Float}
-use Rattle.planes.specs.Planes.{frameAt, framesOf}
-use Rattle.planes.proofs.Tables.{length-tab}
+use Rattle.planes.specs.Planes.{framesOf}
 use Rattle.history.specs.Setup.{Setup}
 use Rattle.history.specs.History.{after}
 use Rattle.rings.specs.Steps.{State, ears, late, stepped, left, played, counted}
 use Rattle.rings.specs.Represents.{Represents}
-use Rattle.rings.proofs.Blocks.{length-played, counted-told, left-kept}
+use Rattle.rings.proofs.Blocks.{counted-told, left-kept}
 use Rattle.hrtf_checks.specs.Call.{Call, setup, framesIn}
 use Rattle.hrtf_checks.specs.Refusals.{refusalOf}
 use Rattle.hrtf_checks.proofs.Refusing.{ears-fit}
 use Rattle.hrtf.specs.Promise.{Outcome, outcomeBy, outcome, stateAfter}
-use Rattle.hrtf.proofs.Promised.{outcome-by}
+use Rattle.hrtf.proofs.Promised.{outcome-by, all-played}
 use Rattle.runs.specs.Runs.{next, fedBy, fed, sounded, Alike, fedAll, soundedAll, end, answered, owed, sum}
 use Rattle.runs.proofs.Reading.{frames-read}
 
@@ -57,8 +56,8 @@ called-by u t c same zero e =
     record {
       sounds =
           ap (λ (o : Outcome). framesOf (o .ears) (c .stride) 2 (o .answer .samples)) made
-          ∙ ap (framesOf (outcomeBy 0 c t .ears) (c .stride) 2) (sym long)
-          ∙ frames-read 2 (c .ears) (c .stride) (played (setup c) t (framesIn c)) (omega (arith, long, ears-fit c t e .0)) (ears-fit c t e .1) (two-ears (setup c) t (framesIn c))
+          ∙ ap (framesOf (outcomeBy 0 c t .ears) (c .stride) 2) (sym (all-played c t))
+          ∙ frames-read 2 (c .ears) (c .stride) (played (setup c) t (framesIn c)) (omega (arith, all-played c t, ears-fit c t e .0)) (ears-fit c t e .1) (two-ears (setup c) t (framesIn c))
           ∙ ap (λ (v : Setup). played v t (framesIn c)) (same e)
           ∙ ap (played u t) (sym fs);
       counts = ap (λ (o : Outcome). o .answer .unsettled) made ∙ ap (λ (v : Setup). counted v t (framesIn c)) (same e) ∙ ap (counted u t) (sym fs);
@@ -70,9 +69,6 @@ called-by u t c same zero e =
 
     fs : fed c t ≡ framesIn c
     fs = ap (λ (n : ℕ). fedBy n (framesIn c)) e
-
-    long : length (played (setup c) t (framesIn c)) ≡ c .frames
-    long = length-played (setup c) t (framesIn c) ∙ length-tab 0 (c .frames) (frameAt (c .inputs) (c .stride) (c .shape .channels))
 called-by u t c same (suc k) e =
     record {
       sounds = ap (λ (o : Outcome). framesOf (o .ears) (c .stride) 2 (o .answer .samples)) made ∙ ap (played u t) (sym fs);

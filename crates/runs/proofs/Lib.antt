@@ -1,7 +1,7 @@
 -- The theorems of demand 3, a worked run that meets their premises, the answers that the promise refutes, and that a bank which keeps the form is never refused.
 pub mod Reading
-pub mod Calls
+mod Calls
 pub mod Demand
-pub mod Worked
+mod Worked
 mod Refuted
 pub mod SetUp

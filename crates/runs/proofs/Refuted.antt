@@ -1,12 +1,14 @@
 -- Answers of another shape, which the promise of `process` refutes on drill table 8 and 9 played in one block: refusing always, writing nothing, silence, filtering the first frame and copying it on, an
 -- unsettled count of one's own, and damage judged on the inputs alone. Assumes nothing.
 use mathlib.Core.Path.{_≡_, refl, sym, ap, _∙_}
+use mathlib.Core.Bool.{true≢false}
 use mathlib.Core.List.{List, [], _∷_}
 use Prim.Native.Nat.{ℕ, suc}
 use native.Mathlib.Nat.{suc-ne-zero}
 use native.Mathlib.Omega.{arith}
 use lib.ListN.{getD, replicate}
-use lib.Ieee.{Float, nan, inf, fin}
+use lib.Ieee.{Float, nan}
+use lib.Ieee.Positive.{positive}
 use Rattle.numbers.specs.Computed.{zero-float}
 use Rattle.planes.specs.Planes.{withFrames}
 use Rattle.history.proofs.Drill.{one, half, drill, drill-8, drill-9}
@@ -38,21 +40,13 @@ refuses o p n e = suc-ne-zero n (sym e ∙ ap (λ (q : Outcome). q .answer .refu
 
 -- ---- the ear planes
 
--- tells floats apart
-digits : Float → ℕ
-digits nan = 0
-digits (inf s) = 0
-digits (fin s m e) = m
-
 -- silence, or no writing: the planes were lent as silence
 silent : (o : Outcome) → Processes (whole one) (fresh drill) o → o .ears ≡ replicate 6 zero-float → ⊥
-unfolding digits
-silent o p e = suc-ne-zero 0 (ap (λ (l : List Float). digits (getD l 0 nan)) (sym (ears o p) ∙ e))
+silent o p e = true≢false (ap (λ (l : List Float). positive (getD l 0 nan)) (sym (ears o p) ∙ e))
 
 -- the first frame's samples again in the second and third
 copied : (o : Outcome) → Processes (whole one) (fresh drill) o → o .ears ≡ one ∷ one ∷ one ∷ zero-float ∷ zero-float ∷ zero-float ∷ [] → ⊥
-unfolding digits
-copied o p e = suc-ne-zero 0 (ap (λ (l : List Float). digits (getD l 4 nan)) (sym (ears o p) ∙ e))
+copied o p e = true≢false (ap (λ (l : List Float). positive (getD l 4 nan)) (sym (ears o p) ∙ e))
 
 -- ---- an invented count
 

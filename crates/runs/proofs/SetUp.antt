@@ -3,8 +3,8 @@
 use mathlib.Core.Path.{_≡_, refl, sym, ap, _∙_, subst}
 use mathlib.Core.Bool.{Bool, true, false, not, cond, and-eq-true-iff}
 use mathlib.Core.List.{List, [], _∷_}
-use Prim.Native.Nat.{ℕ, zero, suc, _+_, _-_, _*_, _≤_, _<_}
-use native.Mathlib.Nat.{zero-add, mod-lt}
+use Prim.Native.Nat.{ℕ, zero, suc, _-_, _*_, _≤_, _<_}
+use native.Mathlib.Nat.{zero-add}
 use native.Mathlib.Omega.{arith}
 use borrow.Author.Tests.{leb-true, lt-leb}
 use lib.Dec.{leb}
@@ -12,9 +12,9 @@ use lib.IntN.{ℤ}
 use lib.ListN.{length, getD, drop, replicate, length-append, length-drop, length-replicate}
 use lib.Ieee.{Float, binary32, fits}
 use lib.Ieee.Scale.{finite}
+use Rattle.refusals.specs.Refusals.{outside}
 use Rattle.numbers.specs.Computed.{zero-float}
 use Rattle.planes.specs.Tables.{unsound}
-use Rattle.planes.specs.Planes.{outside}
 use Rattle.planes.proofs.Checks.{both-off, all-off, not-outside, count-inside, equal-passes, planes-fit}
 use Rattle.bank_form.specs.Bank as Form
 use Rattle.bank_form.specs.Bank.{Bank, within, isTap, every, valid}
@@ -24,11 +24,10 @@ use Rattle.bank.specs.Reading.{ReadOutcome, Reads}
 use Rattle.bank.proofs.Promises.{accepted-parts, accepted-is, bankOf, read-is}
 use Rattle.channel.specs.declared.Layout.{Layout}
 use Rattle.desk.specs.declared.Desk.{Desk}
-use Rattle.desk.specs.Steps.{steppedOf, advanced}
 use Rattle.history.specs.Setup.{Setup}
 use Rattle.history.specs.Signals.{damaged}
 use Rattle.rings.specs.Steps.{State, stepped, left}
-use Rattle.rings.proofs.Told.{goes-on, length-stored}
+use Rattle.rings.proofs.Told.{desk-on, position-below, length-stored}
 use Rattle.hrtf_checks.specs.declared.Shape.{Shape}
 use Rattle.hrtf_checks.specs.Call.{Call, setup, framesIn}
 use Rattle.hrtf_checks.specs.Refusals.{misshapen, refusalOf}
@@ -46,7 +45,7 @@ use Rattle.runs.specs.SetUp.{Fitted, AllFitted, Turns, NoneRefused}
 -- ---- a bank that keeps the form
 
 -- a count that the form allows is one that no test refuses
-pub inside : (n top : ℕ) → within 1 top n ≡ true → outside n top ≡ false
+inside : (n top : ℕ) → within 1 top n ≡ true → outside n top ≡ false
 unfolding within
 inside n top e = let p = and-eq-true-iff (leb 1 n) (leb n top) .0 e in count-inside n top (leb-true 1 n (p .0)) (leb-true n top (p .1))
 
@@ -102,13 +101,10 @@ module _ (u : Setup) (speakers : ℕ) where
   step-turns t f r =
       record {
         ringed = length-stored u t f ∙ r .ringed;
-        within = subst (λ (d : Desk). d .position < u .L) (sym on) (mod-lt (t .desk .position + 1) {m = u .L} (omega (arith, r .within)));
-        waits = subst (λ (d : Desk). d .«to_go» < u .L) (sym on) (fewer (damaged u f));
+        within = position-below (u .L) (damaged u f) (t .desk) (r .within);
+        waits = subst (λ (d : Desk). d .«to_go» < u .L) (sym (desk-on (u .L) (damaged u f) (t .desk) (r .within))) (fewer (damaged u f));
       }
     where
-      on : steppedOf (u .L) (damaged u f) (t .desk) ≡ advanced (u .L) (damaged u f) (t .desk)
-      on = goes-on (u .L) (damaged u f) (t .desk) (r .within)
-
       fewer : (bad : Bool) → cond bad (u .L - 1) (t .desk .«to_go» - 1) < u .L
       fewer true = omega (arith, r .within)
       fewer false = omega (arith, r .waits)
@@ -183,8 +179,11 @@ module _ (file : List ℕ) (zs : List ℤ) (xs : List Float) (r : ReadOutcome) (
   rows-are : r .answer .rows ≡ Form.rows (bankOf r)
   rows-are = ap (λ (y : ReadOutcome). y .answer .rows) (accepted-is file zs xs r reads good .1) ∙ ap Form.rows (sym (read-is file zs xs r reads good))
 
-  few-rows : outside (r .answer .rows) 8 ≡ false
+  pub few-rows : outside (r .answer .rows) 8 ≡ false
   few-rows = ap (λ (n : ℕ). outside n 8) rows-are ∙ inside (Form.rows (bankOf r)) 8 (keeps (bankOf r) keeps-form .few)
+
+  pub short-filters : outside (r .answer .length) 512 ≡ false
+  short-filters = inside (r .answer .length) 512 (keeps (bankOf r) keeps-form .short)
 
   eight-azimuths : length (r .azimuths) ≡ 8
   eight-azimuths =
@@ -201,7 +200,7 @@ module _ (file : List ℕ) (zs : List ℤ) (xs : List Float) (r : ReadOutcome) (
 
   pub good-bank-reset : (speakers : ℕ) (rings : List Float) → 0 < speakers → speakers ≤ 8 → length rings ≡ speakers * r .answer .length → resetRefusal speakers (r .answer .length) rings ≡ 0
   good-bank-reset speakers rings some few long =
-      reset-0 (record { position = 0; «to_go» = 0 }) speakers (r .answer .length) rings (count-inside speakers 8 some few) (inside (r .answer .length) 512 (keeps (bankOf r) keeps-form .short))
+      reset-0 (record { position = 0; «to_go» = 0 }) speakers (r .answer .length) rings (count-inside speakers 8 some few) short-filters
       (equal-passes (length rings) (speakers * r .answer .length) long)
 
   -- and then no call is refused

@@ -16,7 +16,7 @@ use Rattle.rings.proofs.Told.{fresh-represents}
 use Rattle.hrtf_checks.specs.Call.{Call}
 use Rattle.hrtf_checks.specs.Refusals.{refusalOf}
 use Rattle.hrtf.specs.Promise.{outcome}
-use Rattle.runs.specs.Runs.{Alike, fedAll, soundedAll, answered, sum}
+use Rattle.runs.specs.Runs.{Alike, fedAll, soundedAll, answered}
 use Rattle.runs.specs.Demand.{Run}
 use Rattle.runs.proofs.Demand.{run-heard}
 
@@ -69,6 +69,3 @@ played-9 = run-heard drill (fresh drill) (calls nan) (run nan) ∙ ap (heard dri
 pub answered-9 : answered (fresh drill) (calls nan) ≡ 1 ∷ 0 ∷ 0 ∷ 1 ∷ []
 unfolding refusalOf outcome mixed rounded add mul ieee.sum round size span climb units odd
 answered-9 = refl
-
-pub unsettled-9 : sum (answered (fresh drill) (calls nan)) ≡ 2
-unsettled-9 = ap sum answered-9

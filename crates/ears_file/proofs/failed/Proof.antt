@@ -3,12 +3,11 @@ use mathlib.Core.Path.{ap}
 use mathlib.Core.Bool.{true}
 use Rattle.ears_play.specs.declared.Ended.{Ended}
 use Rattle.ears_file.specs.declared.Outcome.{Outcome}
-use borrow.Author.Needs.{needs}
 use Rattle.ears_file.proofs.failed.Statement.{statement}
 use Rattle.ears_file.proofs.failed.Tie as tie
 
 refused-requires : tie.Need-refused-requires
-refused-requires c κs = search needs
+refused-requires c κs = tt
 
 returns : tie.Need-returns
 returns c = ap {B = Outcome} (λ (e : Ended). record { failed = true; ended = e }) (c .refused .ensures)

@@ -17,7 +17,7 @@ slice-aggregate-new-surround : tie.Need-slice-aggregate-new-surround
 slice-aggregate-new-surround c = search needs
 
 new-surround-requires : tie.Need-new-surround-requires
-new-surround-requires c κs = search needs
+new-surround-requires c κs = tt
 
 slice-aggregate-play-fitted : tie.Need-slice-aggregate-play-fitted
 slice-aggregate-play-fitted c = search needs

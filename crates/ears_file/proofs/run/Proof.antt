@@ -2,8 +2,9 @@
 use mathlib.Core.Path.{sym, subst, _∙_}
 use lib.ListN.{length-replicate}
 use Rattle.numbers.specs.Computed.{zero-float}
+use Rattle.runs.proofs.SetUp.{few-rows, short-filters}
 use Rattle.ears_file.specs.Promise.{OfFiles}
-use Rattle.ears_file.proofs.Ending.{failed-answers, ended-answers, answers-on, bank-refused, few-rows, short, sound, of-files}
+use Rattle.ears_file.proofs.Ending.{failed-answers, ended-answers, answers-on, bank-refused, sound, of-files}
 use borrow.Author.Needs.{needs}
 use Rattle.ears_file.proofs.run.Statement.{statement}
 use Rattle.ears_file.proofs.run.Tie as tie
@@ -18,25 +19,25 @@ read-requires : tie.Need-read-requires
 read-requires c κs = search needs
 
 open-out-requires : tie.Need-open-out-requires
-open-out-requires c κs = search needs
+open-out-requires c κs = tt
 
 close-requires : tie.Need-close-requires
-close-requires c κs = search needs
+close-requires c κs = tt
 
 refused-requires : tie.Need-refused-requires
-refused-requires c κs = search needs
+refused-requires c κs = tt
 
 ended-requires : tie.Need-ended-requires
-ended-requires c κs = search needs
+ended-requires c κs = tt
 
 returns : tie.Need-returns
 returns c = ended-answers OfFiles _ _ (c .ended .ensures) (subst OfFiles (sym (c .before .refused .ensures)) (bank-refused _ _ (length-replicate 8192 zero-float) (c .before .before .before .before .before .before .before .before .read .ensures) (c .before .before .before .if1 .taken)))
 
 fail-requires : tie.Need-fail-requires
-fail-requires c κs = search needs
+fail-requires c κs = tt
 
 failed-requires : tie.Need-failed-requires
-failed-requires c κs = search needs
+failed-requires c κs = tt
 
 returns-2 : tie.Need-returns-2
 returns-2 c = failed-answers _ _ (c .failed .ensures)
@@ -52,16 +53,16 @@ play-with-requires c κs =
     let read = c .before .before .before .before .before .before .before .before .read in
     let zeroth = c .before .before .before .if1 .left in
     let most = length-replicate 8192 zero-float in
-    ((few-rows _ _ most (read .ensures) zeroth, short _ _ most (read .ensures) zeroth), (read .kept .1 .0, read .kept .1 .1 .0 ∙ most, sound _ _ most (read .ensures) zeroth))
+    ((few-rows _ _ _ _ (read .ensures .reads) zeroth, short-filters _ _ _ _ (read .ensures .reads) zeroth), (read .kept .1 .0, read .kept .1 .1 .0 ∙ most, sound _ _ most (read .ensures) zeroth))
 
 close-requires-2 : tie.Need-close-requires-2
-close-requires-2 c κs = search needs
+close-requires-2 c κs = tt
 
 fail-requires-2 : tie.Need-fail-requires-2
-fail-requires-2 c κs = search needs
+fail-requires-2 c κs = tt
 
 failed-requires-2 : tie.Need-failed-requires-2
-failed-requires-2 c κs = search needs
+failed-requires-2 c κs = tt
 
 returns-3 : tie.Need-returns-3
 returns-3 c = failed-answers _ _ (c .failed2 .ensures)

@@ -8,7 +8,7 @@ returns : tie.Need-returns
 returns c = search (told-failed, needs)
 
 line-of-requires : tie.Need-line-of-requires
-line-of-requires c κs = search needs
+line-of-requires c κs = tt
 
 same-length : tie.Need-same-length
 same-length c = search needs

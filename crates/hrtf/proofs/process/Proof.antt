@@ -1,7 +1,8 @@
 -- `hrtf::process` meets its contract: `Promised`, from the refusal and from what the block leaves. Assumes nothing.
 use mathlib.Core.Path.{sym, _∙_}
 use denote.Ref.{now}
-use Rattle.hrtf.proofs.Promised.{ready, promised-refused, promised-accepted}
+use Rattle.hrtf_checks.proofs.Refusing.{ready}
+use Rattle.hrtf.proofs.Promised.{promised-refused, promised-accepted}
 use borrow.Author.Needs.{needs}
 use Rattle.hrtf.proofs.process.Statement.{statement}
 use Rattle.hrtf.proofs.process.Tie as tie

@@ -8,10 +8,10 @@ use Rattle.ears_file.proofs.bank_file.read.Statement.{statement}
 use Rattle.ears_file.proofs.bank_file.read.Tie as tie
 
 open-read-requires : tie.Need-open-read-requires
-open-read-requires c κs = search needs
+open-read-requires c κs = tt
 
 missing-requires : tie.Need-missing-requires
-missing-requires c κs = search needs
+missing-requires c κs = tt
 
 returns : tie.Need-returns
 returns c = let pre = c .before .before .before .before .before .pre in not-there _ _ _ (pre .0) (pre .1) (c .missing .ensures)
@@ -20,13 +20,13 @@ slice-aggregate-fill : tie.Need-slice-aggregate-fill
 slice-aggregate-fill c = search needs
 
 fill-requires : tie.Need-fill-requires
-fill-requires c κs = search needs
+fill-requires c κs = tt
 
 close-requires : tie.Need-close-requires
-close-requires c κs = search needs
+close-requires c κs = tt
 
 missing-requires-2 : tie.Need-missing-requires-2
-missing-requires-2 c κs = search needs
+missing-requires-2 c κs = tt
 
 returns-2 : tie.Need-returns-2
 returns-2 c = let pre = c .before .before .before .before .before .before .before .before .before .before .pre in not-there _ _ _ (pre .0) (pre .1) (c .missing2 .ensures)
@@ -38,7 +38,7 @@ slice-aggregate-read : tie.Need-slice-aggregate-read
 slice-aggregate-read c = sym (length-take-le _ _ (omega (arith, c .before .before .before .before .fill .ensures)))
 
 read-requires : tie.Need-read-requires
-read-requires c κs = search needs
+read-requires c κs = tt
 
 same-length : tie.Need-same-length
 same-length c = search needs

@@ -19,7 +19,7 @@ part-read-end : tie.Need-part-read-end
 part-read-end c = search needs
 
 read-requires : tie.Need-read-requires
-read-requires c κs = search needs
+read-requires c κs = tt
 
 sub-count : tie.Need-sub-count
 sub-count c = search needs
@@ -31,7 +31,7 @@ part-count-end : tie.Need-part-count-end
 part-count-end c = search needs
 
 count-requires : tie.Need-count-requires
-count-requires c κs = search needs
+count-requires c κs = tt
 
 add-t8 : tie.Need-add-t8
 add-t8 c = search needs

@@ -16,10 +16,10 @@ slice-aggregate-fail : tie.Need-slice-aggregate-fail
 slice-aggregate-fail c = search needs
 
 fail-requires : tie.Need-fail-requires
-fail-requires c κs = search needs
+fail-requires c κs = tt
 
 stopped-requires : tie.Need-stopped-requires
-stopped-requires c κs = search needs
+stopped-requires c κs = tt
 
 same-length : tie.Need-same-length
 same-length c = search needs
@@ -28,7 +28,7 @@ returns : tie.Need-returns
 returns c = step-failed _ _ _ _ _ _ (c .stopped .ensures)
 
 stopped-requires-2 : tie.Need-stopped-requires-2
-stopped-requires-2 c κs = search needs
+stopped-requires-2 c κs = tt
 
 same-length-2 : tie.Need-same-length-2
 same-length-2 c = search needs
@@ -37,7 +37,7 @@ returns-2 : tie.Need-returns-2
 returns-2 c = record { further = λ f line stood. none-further _ _ _ line stood _ (c .before .before .before .before .before .before .read-some .ensures .2) _ (c .stopped2 .ensures) }
 
 play-requires : tie.Need-play-requires
-play-requires c κs = search needs
+play-requires c κs = tt
 
 -- what is put out has room
 room : (c : tie.After-play) → c .play .result .bytes ≤ length (c .play .last .1 .1 .1 .1 .1 .1 .1 .1 .1 .1 .1 .0)
@@ -50,16 +50,16 @@ slice-aggregate-write-all : tie.Need-slice-aggregate-write-all
 slice-aggregate-write-all c = sym (length-take-le _ _ (room (c .before .before .before .before .before .before .before .before .before .before .before .before)))
 
 write-all-requires : tie.Need-write-all-requires
-write-all-requires c κs = search needs
+write-all-requires c κs = tt
 
 slice-aggregate-fail-2 : tie.Need-slice-aggregate-fail-2
 slice-aggregate-fail-2 c = search needs
 
 fail-requires-2 : tie.Need-fail-requires-2
-fail-requires-2 c κs = search needs
+fail-requires-2 c κs = tt
 
 stopped-requires-3 : tie.Need-stopped-requires-3
-stopped-requires-3 c κs = search needs
+stopped-requires-3 c κs = tt
 
 same-length-3 : tie.Need-same-length-3
 same-length-3 c = search needs

@@ -64,12 +64,12 @@ use Rattle.desk.proofs.step.Symbol.{name as #desk·step}
 use Rattle.desk.proofs.step.Met as step-thm
 use Rattle.rings.specs.Steps.{State}
 use Rattle.hrtf_checks.specs.declared.Shape.{Shape}
-use Rattle.hrtf_checks.specs.Call.{Call}
+use Rattle.hrtf_checks.specs.Call.{Call, Ready}
 use Rattle.hrtf_checks.proofs.Shape as S
 use Rattle.hrtf_checks.proofs.Shape.Laws as S′
 use Rattle.hrtf.specs.declared.frames.Played.{Played}
 use Rattle.hrtf.specs.declared.frames.Turn.{Turn}
-use Rattle.hrtf.specs.Steps.{Ready, Turned, Blocked}
+use Rattle.hrtf.specs.Steps.{Turned, Blocked}
 use Rattle.hrtf.proofs.Relent.{Hold, refers, loan, mine, half, rest, lends-both, takes-both}
 use Rattle.hrtf.proofs.Tests.{tests}
 use Rattle.hrtf.proofs.Playing.{Playing, playing-none, playing-more, playing-all}
