@@ -3,10 +3,9 @@
 // requests and answers byte by byte. A request that breaks it is answered as such.
 //
 // The program promises nothing of its own beyond being safe and ending; what it prints is compared. Each
-// operation is answered by one of the crates `probe_..`, which call the proved libraries.
+// operation is answered by one of the crates `probe_..`, which promise every byte of the answer.
 use libc::STDIN_FILENO;
 use libc::STDOUT_FILENO;
-use probe_form::UNKNOWN;
 ghost use Prim.Native.Nat.{_≤_};
 
 // What is wrong with a request that no operation answers.
@@ -17,6 +16,9 @@ const WRONG_LENGTH: u8 = 2;
 const TOO_LONG: u8 = 3;
 
 const ENDS_INSIDE: u8 = 4;
+
+// Operations are numbered from 1 to this.
+const LAST_OPERATION: u8 = 20;
 
 // An answer begins with the operation and its length, in five bytes.
 const HEAD: usize = 5;
@@ -43,8 +45,8 @@ fn write_malformed(reason: u8, out: &mut [u8]) -> bool {
     write_answer(0, 1, out)
 }
 
-// Puts the answer to a request into out: how many bytes, 0 where the arguments have not the length that the
-// operation takes, and `UNKNOWN` where there is no such operation.
+// Puts the answer to a request into out, by the family that has the operation: how many bytes, 0 where the
+// arguments have not the length that it takes.
 fn put_answer(operation: u8, args: &[u8], out: &mut [u8]) -> usize {
     match operation {
         1..=5 => probe_numbers::answer(operation, args, out),
@@ -53,7 +55,7 @@ fn put_answer(operation: u8, args: &[u8], out: &mut [u8]) -> usize {
         14 | 16 => probe_planes::answer(operation, args, out),
         17 | 18 => probe_hrtf::answer(operation, args, out),
         19 | 20 => probe_setup::answer(operation, args, out),
-        _ => UNKNOWN,
+        _ => 0,
     }
 }
 
@@ -62,10 +64,10 @@ fn answer(operation: u8, args: &[u8], out: &mut [u8]) -> bool {
     if out.len() < HEAD {
         return false;
     }
-    let count = put_answer(operation, args, &mut out[HEAD..]);
-    if count == UNKNOWN {
+    if operation == 0 || LAST_OPERATION < operation {
         return write_malformed(NO_SUCH_OPERATION, out);
     }
+    let count = put_answer(operation, args, &mut out[HEAD..]);
     if count == 0 {
         return write_malformed(WRONG_LENGTH, out);
     }

@@ -1,61 +1,95 @@
 // What `probe` answers to requests for the filter bank file and for row choice (docs/PROBE.md, operations 6 to 8). Test
-// code: proved to be safe and to end, and judged by comparison.
+// code, and promised by equations all the same: how many bytes are answered, and that they are the refusal, the counts
+// and the lists that `bank` and `row_choice` promise for what stands in the request, one behind the other. Under it lie
+// these two, `probe_form`, which reads requests and puts answers, and the smaller of two counts of `planes`.
+use bank::BankRead;
 use probe_form::MOST_AZIMUTHS;
 use probe_form::MOST_SAMPLES;
-use probe_form::UNKNOWN;
+ghost use mathlib.Core.Path.{_≡_};
 ghost use Prim.Native.Nat.{_≤_};
+ghost use lib.ListN.{length};
+ghost use Rattle.probe_form.specs.Requests.{lentBy};
+ghost use Rattle.probe_form.specs.Answers.{draft};
+ghost use Rattle.probe_bank.specs.Answers.{counts, thenLists, readParts, readInto, readAnswer, writeFrom, writeInto, writeAnswer, chooseFrom, chooseAnswer, answerOf};
 
 mod fillings;
 
 // Room for a file: more than the largest has.
 const MOST_BYTES: usize = 33000;
 
-// Puts what the lists hold: how many taps from one on have changed, the azimuths, and the taps before that one.
-fn put_lists(azimuths: &[i16], taps: &[f32], shown: usize, out: &mut [u8]) -> usize
-    ensures { λ r. ⌜ r ≤ 4294967296 ⌝ }
+// How many places of a list are lent: as many as a field of the arguments says, and no more than there are.
+fn lent(args: &[u8], at: usize, count: usize, most: usize) -> usize
+    ensures { λ r. ⌜ r ≡ lentBy (now (args .entry)) at count most ⌝ }
 {
-    if taps.len() < shown {
-        return 0;
-    }
-    big_endian::put(out, 9, 2, fillings::count_changed(taps, shown));
-    let after = probe_form::put_i16s(azimuths, out, 11);
-    probe_form::put_f32s(&taps[..shown], out, after)
+    planes::least(probe_form::number(args, at, count), most)
 }
 
+// Puts what every answer begins with: a refusal and a count.
+fn put_counts(refusal: u8, n: usize, out: &mut [u8]) -> usize
+    ensures { λ r. ⌜ draft r (now (out .exit)) ≡ counts refusal n (now (out .entry)) ⌝ }
+{
+    let a = probe_form::put(refusal as u64, 1, out, 0);
+    probe_form::put(n as u64, 4, out, a)
+}
+
+// Puts what the lists hold: how many taps from one on have changed, the azimuths, and the taps before that one.
+fn put_lists(azimuths: &[i16], taps: &[f32], shown: usize, out: &mut [u8], at: usize) -> usize
+    requires { ⌜ (shown ≤ length (now taps)) × (length (now taps) ≤ 8200) ⌝ }
+    ensures { λ r. ⌜ draft r (now (out .exit)) ≡ thenLists (draft at (now (out .entry))) shown (now (azimuths .entry)) (now (taps .entry)) ⌝ }
+{
+    let a = probe_form::put(fillings::count_changed(taps, shown), 2, out, at);
+    let b = probe_form::put_i16s(azimuths, out, a);
+    probe_form::put_f32s(&taps[..shown], out, b)
+}
+
+// Puts what reading answered, and what the lists hold after it.
+fn put_read(r: BankRead, azimuths: &[i16], taps: &[f32], shown: usize, out: &mut [u8]) -> usize
+    requires { ⌜ (shown ≤ length (now taps)) × (length (now taps) ≤ 8200) ⌝ }
+    ensures { λ n. ⌜ draft n (now (out .exit)) ≡ readParts (record { answer = r; azimuths = now (azimuths .entry); taps = now (taps .entry) }) shown (now (out .entry)) ⌝ }
+{
+    let a = put_counts(r.refusal, r.rows, out);
+    let b = probe_form::put(r.length as u64, 4, out, a);
+    put_lists(azimuths, taps, shown, out, b)
+}
+
+// Reads the bank that stands in the arguments behind the three lengths into lists that are filled first.
 fn read_into(args: &[u8], azimuths: &mut [i16], taps: &mut [f32], out: &mut [u8]) -> usize
-    ensures { λ r. ⌜ r ≤ 4294967296 ⌝ }
+    requires { ⌜ (5 ≤ length (now args)) × (length (now azimuths) ≤ 16) × (length (now taps) ≤ 8200) ⌝ }
+    ensures { λ r. ⌜ draft r (now (out .exit)) ≡ readInto (now (args .entry)) (length (now (azimuths .entry))) (length (now (taps .entry))) (now (out .entry)) ⌝ }
+{
+    fillings::fill_i16s(azimuths);
+    fillings::fill_f32s(taps);
+    let r = bank::read(&args[5..], azimuths, taps);
+    let shown = lent(args, 3, 2, taps.len());
+    put_read(r, azimuths, taps, shown, out)
+}
+
+// Lends as much of each list as the arguments say first; so do `write` and `choose`.
+fn read(args: &[u8], out: &mut [u8]) -> usize
+    ensures { λ r. ⌜ draft r (now (out .exit)) ≡ readAnswer (now (args .entry)) (now (out .entry)) ⌝ }
 {
     if args.len() < 5 {
         return 0;
     }
-    let r = bank::read(&args[5..], azimuths, taps);
-    big_endian::put(out, 0, 1, r.refusal as u64);
-    big_endian::put(out, 1, 4, r.rows as u64);
-    big_endian::put(out, 5, 4, r.length as u64);
-    let shown = probe_form::at_most(big_endian::get(args, 3, 2), taps.len());
-    put_lists(azimuths, taps, shown, out)
-}
-
-// Fills the lists, and lends as much of them as the arguments say first.
-fn read_in(args: &[u8], azimuths: &mut [i16], taps: &mut [f32], out: &mut [u8]) -> usize
-    ensures { λ r. ⌜ r ≤ 4294967296 ⌝ }
-{
-    let a = probe_form::at_most(big_endian::get(args, 0, 1), azimuths.len());
-    let t = probe_form::at_most(big_endian::get(args, 1, 2), taps.len());
-    fillings::fill_i16s(azimuths);
-    fillings::fill_f32s(taps);
+    let mut azimuths = [0i16; MOST_AZIMUTHS];
+    let mut taps = [0.0f32; MOST_SAMPLES];
+    let a = lent(args, 0, 1, MOST_AZIMUTHS);
+    let t = lent(args, 1, 2, MOST_SAMPLES);
     read_into(args, &mut azimuths[..a], &mut taps[..t], out)
 }
 
-// Reads the bank that stands in the arguments after the lengths of the lent lists.
-fn read(args: &[u8], out: &mut [u8]) -> usize
-    ensures { λ r. ⌜ r ≤ 4294967296 ⌝ }
+// Writes a bank into a buffer that is filled first, and puts what writing answered and the buffer as it stands then.
+fn write_from(azimuths: &[i16], l: usize, taps: &[f32], file: &mut [u8], out: &mut [u8]) -> usize
+    requires { ⌜ length (now file) ≤ 33000 ⌝ }
+    ensures { λ r. ⌜ draft r (now (out .exit)) ≡ writeFrom (record { azimuths = now (azimuths .entry); length = l; taps = now (taps .entry) }) (length (now (file .entry))) (now (out .entry)) ⌝ }
 {
-    let mut azimuths = [0i16; MOST_AZIMUTHS];
-    let mut taps = [0.0f32; MOST_SAMPLES];
-    read_in(args, &mut azimuths, &mut taps, out)
+    fillings::fill_bytes(file);
+    let r = bank::write(azimuths, l, taps, file);
+    let a = put_counts(r.refusal, r.bytes, out);
+    probe_form::put_bytes(file, out, a)
 }
 
+// The azimuths and the taps of the bank stand in the arguments behind the three lengths and L.
 fn write_into(
     args: &[u8],
     azimuths: &mut [i16],
@@ -63,87 +97,67 @@ fn write_into(
     file: &mut [u8],
     out: &mut [u8],
 ) -> usize
-    ensures { λ r. ⌜ r ≤ 4294967296 ⌝ }
+    requires { ⌜ (length (now azimuths) ≤ 16) × (length (now taps) ≤ 8200) × (length (now file) ≤ 33000) ⌝ }
+    ensures { λ r. ⌜ draft r (now (out .exit)) ≡ writeInto (now (args .entry)) (length (now (azimuths .entry))) (length (now (taps .entry))) (length (now (file .entry))) (now (out .entry)) ⌝ }
 {
-    let after_azimuths = probe_form::get_i16s(args, 13, azimuths);
-    if probe_form::get_f32s(args, after_azimuths, taps) != args.len() {
+    let behind = 13 + 2 * azimuths.len();
+    if args.len() != behind + 4 * taps.len() {
         return 0;
     }
-    let r = bank::write(azimuths, probe_form::number(args, 5), taps, file);
-    big_endian::put(out, 0, 1, r.refusal as u64);
-    big_endian::put(out, 1, 4, r.bytes as u64);
-    fillings::put_bytes(file, out)
+    probe_form::get_i16s(args, 13, azimuths);
+    probe_form::get_f32s(args, behind, taps);
+    write_from(azimuths, probe_form::number(args, 5, 8), taps, file, out)
 }
 
-fn write_in(
-    args: &[u8],
-    azimuths: &mut [i16],
-    taps: &mut [f32],
-    file: &mut [u8],
-    out: &mut [u8],
-) -> usize
-    ensures { λ r. ⌜ r ≤ 4294967296 ⌝ }
-{
-    let a = probe_form::at_most(big_endian::get(args, 0, 1), azimuths.len());
-    let t = probe_form::at_most(big_endian::get(args, 1, 2), taps.len());
-    let f = probe_form::at_most(big_endian::get(args, 3, 2), file.len());
-    fillings::fill_bytes(file);
-    write_into(
-        args,
-        &mut azimuths[..a],
-        &mut taps[..t],
-        &mut file[..f],
-        out,
-    )
-}
-
-// Writes the bank whose azimuths and taps stand in the arguments after the lengths and L.
 fn write(args: &[u8], out: &mut [u8]) -> usize
-    ensures { λ r. ⌜ r ≤ 4294967296 ⌝ }
+    ensures { λ r. ⌜ draft r (now (out .exit)) ≡ writeAnswer (now (args .entry)) (now (out .entry)) ⌝ }
 {
     let mut azimuths = [0i16; MOST_AZIMUTHS];
     let mut taps = [0.0f32; MOST_SAMPLES];
     let mut file = [0u8; MOST_BYTES];
-    write_in(args, &mut azimuths, &mut taps, &mut file, out)
+    let a = lent(args, 0, 1, MOST_AZIMUTHS);
+    let t = lent(args, 1, 2, MOST_SAMPLES);
+    let b = lent(args, 3, 2, MOST_BYTES);
+    write_into(
+        args,
+        &mut azimuths[..a],
+        &mut taps[..t],
+        &mut file[..b],
+        out,
+    )
 }
 
+// Chooses the row of a speaker in the list that stands in the arguments behind its length, the rows and the speaker.
 fn choose_from(args: &[u8], azimuths: &mut [i16], out: &mut [u8]) -> usize
-    ensures { λ r. ⌜ r ≤ 4294967296 ⌝ }
+    requires { ⌜ length (now azimuths) ≤ 16 ⌝ }
+    ensures { λ r. ⌜ draft r (now (out .exit)) ≡ chooseFrom (now (args .entry)) (length (now (azimuths .entry))) (now (out .entry)) ⌝ }
 {
-    if probe_form::get_i16s(args, 11, azimuths) != args.len() {
+    if args.len() != 11 + 2 * azimuths.len() {
         return 0;
     }
-    let rows = probe_form::number(args, 1);
+    probe_form::get_i16s(args, 11, azimuths);
+    let rows = probe_form::number(args, 1, 8);
     let r = row_choice::nearest_row(azimuths, rows, big_endian::get_i16(args, 9));
-    big_endian::put(out, 0, 1, r.refusal as u64);
-    big_endian::put(out, 1, 4, r.row as u64);
-    5
+    put_counts(r.refusal, r.row, out)
 }
 
-fn choose_in(args: &[u8], azimuths: &mut [i16], out: &mut [u8]) -> usize
-    ensures { λ r. ⌜ r ≤ 4294967296 ⌝ }
+fn choose(args: &[u8], out: &mut [u8]) -> usize
+    ensures { λ r. ⌜ draft r (now (out .exit)) ≡ chooseAnswer (now (args .entry)) (now (out .entry)) ⌝ }
 {
-    let a = probe_form::at_most(big_endian::get(args, 0, 1), azimuths.len());
+    let mut azimuths = [0i16; MOST_AZIMUTHS];
+    let a = lent(args, 0, 1, MOST_AZIMUTHS);
     choose_from(args, &mut azimuths[..a], out)
 }
 
-// Chooses the row of a speaker in the list that stands in the arguments after its length, the rows and the speaker.
-fn choose(args: &[u8], out: &mut [u8]) -> usize
-    ensures { λ r. ⌜ r ≤ 4294967296 ⌝ }
-{
-    let mut azimuths = [0i16; MOST_AZIMUTHS];
-    choose_in(args, &mut azimuths, out)
-}
-
-// Puts the answer to a request into out: how many bytes, 0 where the arguments have not the length that the
-// operation takes, and `UNKNOWN` where there is no such operation.
+// Puts the answer to a request into out: how many bytes, and 0 where the arguments have not the length that the
+// operation takes, or where it is none of this family.
 pub fn answer(operation: u8, args: &[u8], out: &mut [u8]) -> usize
-    ensures { λ r. ⌜ r ≤ 4294967296 ⌝ }
+    ensures { λ r. ⌜ draft r (now (out .exit)) ≡ answerOf operation (now (args .entry)) (now (out .entry)) ⌝ }
 {
     match operation {
         6 => read(args, out),
         7 => write(args, out),
         8 => choose(args, out),
-        _ => UNKNOWN,
+        _ => 0,
     }
 }

@@ -1,15 +1,19 @@
 // What requests and answers of the program `probe` are made of (docs/PROBE.md): how much room there is for the
-// lists that a request lends, and the reading and writing of lists, one number after the other from a place on.
+// lists that a request lends, the reading of numbers and lists from a place on, and the putting of an answer, one
+// part behind the other.
 //
-// Test code, as are the crates `probe_..` above it: every function takes any input, is proved to be safe and to
-// end, and touches nothing but what it is lent to write; what `number`, `layout` and `eight` answer is promised,
-// and that lists are read and written rightly is judged by comparison (tests/compare). A place outside the bytes
-// reads as 0 and is not written, as `big_endian` has it.
+// Test code, as are the crates `probe_..` above it, and promised by equations all the same: a list that is read is
+// what stands in the arguments, or left as it was where it does not lie inside them, and an answer grows by the bytes
+// of each part. A part that has no room is left out, and its place is `NOWHERE`, so that nothing that follows it is
+// put either. Every function takes any input. Under it lie `big_endian` and `channel`.
 use channel::Layout;
 ghost use mathlib.Core.Path.{_≡_};
-ghost use Prim.Native.Nat.{_≤_};
-ghost use Rattle.big_endian.specs.Fields.{fieldAt};
-ghost use Rattle.probe_form.specs.Requests.{layoutOf, eightAt};
+ghost use Prim.Native.Nat.{_+_, _*_, _<_};
+ghost use lib.Dec.{leb};
+ghost use Rattle.big_endian.specs.Fields.{fieldAt, signedAt, floatAt, doubleAt};
+ghost use Rattle.big_endian.specs.Lists.{signedBytes, floatBytes, doubleBytes, numberBytes};
+ghost use Rattle.probe_form.specs.Requests.{layoutOf, eightAt, listAt};
+ghost use Rattle.probe_form.specs.Answers.{draft, _then_, thenField};
 
 // More than any call takes, so that a list which is too long can be lent.
 pub const MOST_AZIMUTHS: usize = 16;
@@ -21,33 +25,30 @@ pub const MOST_SAMPLES: usize = 8200;
 
 pub const MOST_CELLS: usize = 4100;
 
-// Where there is no such operation: more bytes than any answer has.
-pub const UNKNOWN: usize = 0x1_0000_0000;
+// Where the next part of an answer goes once one had no room: behind every list.
+pub const NOWHERE: usize = 0xffff_ffff_ffff_ffff;
 
-// Where a list would end that is too long, or begins too far on: behind every request and every answer.
-const NOWHERE: usize = 0x1_0000_0000;
-
-const LONGEST: usize = 65536;
-
-// A length that a request asks for, but no more than there is room for.
-pub fn at_most(n: u64, most: usize) -> usize
-    ensures { λ r. ⌜ r ≤ most ⌝ }
+// Whether `count` fields of `width` bytes, from `at` on, lie inside a list of `size` bytes. Neither the product nor
+// the sum is formed before it is known to fit.
+fn has_room(size: usize, at: usize, width: usize, count: usize) -> bool
+    requires { ⌜ 0 < width ⌝ }
+    ensures { λ r. ⌜ r ≡ leb (at + width * count) size ⌝ }
 {
-    if (most as u64) < n {
-        return most;
+    if size / width < count {
+        return false;
     }
-    n as usize
+    at <= size - width * count
 }
 
-// The number in eight bytes.
-pub fn number(args: &[u8], at: usize) -> usize
-    ensures { λ r. ⌜ r ≡ fieldAt (now (args .entry)) at 8 ⌝ }
+// The number in `count` bytes.
+pub fn number(args: &[u8], at: usize, count: usize) -> usize
+    ensures { λ r. ⌜ r ≡ fieldAt (now (args .entry)) at count ⌝ }
 {
-    big_endian::get(args, at, 8) as usize
+    big_endian::get(args, at, count) as usize
 }
 
 // A layout: 0 Mono, 1 Stereo, 2 and 3 the surround ones, and any other number a Custom of n.
-pub fn layout(which: u64, n: usize) -> Layout
+pub fn layout(which: usize, n: usize) -> Layout
     ensures { λ r. ⌜ r ≡ layoutOf which n ⌝ }
 {
     match which {
@@ -59,31 +60,98 @@ pub fn layout(which: u64, n: usize) -> Layout
     }
 }
 
-// Each of these six answers the place behind the list.
-pub fn get_i16s(args: &[u8], at: usize, list: &mut [i16]) -> usize
-    ensures { λ r. ⌜ r ≤ 4294967296 ⌝ }
+// Eight numbers of eight bytes each. From behind the arguments on all are 0, and no place is formed.
+pub fn eight(args: &[u8], at: usize) -> [usize; 8]
+    ensures { λ r. ⌜ r ≡ eightAt (now (args .entry)) at ⌝ }
 {
-    if LONGEST < at {
+    if args.len() < at {
+        return [0usize; 8];
+    }
+    [
+        number(args, at, 8),
+        number(args, at + 8, 8),
+        number(args, at + 16, 8),
+        number(args, at + 24, 8),
+        number(args, at + 32, 8),
+        number(args, at + 40, 8),
+        number(args, at + 48, 8),
+        number(args, at + 56, 8),
+    ]
+}
+
+// Each of these three fills a list with what stands in the arguments from `at` on.
+pub fn get_i16s(args: &[u8], at: usize, list: &mut [i16])
+    ensures { λ _. ⌜ now (list .exit) ≡ listAt signedAt 2 (now (args .entry)) at (now (list .entry)) ⌝ }
+{
+    if !has_room(args.len(), at, 2, list.len()) {
+        return;
+    }
+    let mut i = 0;
+    while i < list.len() {
+        list[i] = big_endian::get_i16(args, at + i * 2);
+        i += 1;
+    }
+}
+
+pub fn get_f32s(args: &[u8], at: usize, list: &mut [f32])
+    ensures { λ _. ⌜ now (list .exit) ≡ listAt floatAt 4 (now (args .entry)) at (now (list .entry)) ⌝ }
+{
+    if !has_room(args.len(), at, 4, list.len()) {
+        return;
+    }
+    let mut i = 0;
+    while i < list.len() {
+        list[i] = big_endian::get_f32(args, at + i * 4);
+        i += 1;
+    }
+}
+
+pub fn get_f64s(args: &[u8], at: usize, list: &mut [f64])
+    ensures { λ _. ⌜ now (list .exit) ≡ listAt doubleAt 8 (now (args .entry)) at (now (list .entry)) ⌝ }
+{
+    if !has_room(args.len(), at, 8, list.len()) {
+        return;
+    }
+    let mut i = 0;
+    while i < list.len() {
+        list[i] = big_endian::get_f64(args, at + i * 8);
+        i += 1;
+    }
+}
+
+// Each of these puts the next part of an answer, which goes to `at`, and answers the place behind it: here a number
+// in `count` bytes.
+pub fn put(n: u64, count: usize, out: &mut [u8], at: usize) -> usize
+    ensures { λ r. ⌜ draft r (now (out .exit)) ≡ thenField (draft at (now (out .entry))) count n ⌝ }
+{
+    if 8 < count {
         return NOWHERE;
     }
-    if LONGEST < list.len() {
+    if !has_room(out.len(), at, 1, count) {
+        return NOWHERE;
+    }
+    big_endian::put(out, at, count, n);
+    at + count
+}
+
+pub fn put_bytes(list: &[u8], out: &mut [u8], at: usize) -> usize
+    ensures { λ r. ⌜ draft r (now (out .exit)) ≡ draft at (now (out .entry)) then now (list .entry) ⌝ }
+{
+    if !has_room(out.len(), at, 1, list.len()) {
         return NOWHERE;
     }
     let mut i = 0;
     while i < list.len() {
-        list[i] = big_endian::get_i16(args, at + 2 * i);
+        out[at + i] = list[i];
         i += 1;
     }
-    at + 2 * list.len()
+    at + list.len()
 }
 
 pub fn put_i16s(list: &[i16], out: &mut [u8], at: usize) -> usize
-    ensures { λ r. ⌜ r ≤ 4294967296 ⌝ }
+    ensures { λ r. ⌜ draft r (now (out .exit)) ≡ draft at (now (out .entry)) then signedBytes (now (list .entry)) ⌝ }
 {
-    if LONGEST < at {
-        return NOWHERE;
-    }
-    if LONGEST < list.len() {
+    if !has_room(out.len(), at, 2, list.len()) {
         return NOWHERE;
     }
     let mut i = 0;
@@ -94,30 +162,10 @@ pub fn put_i16s(list: &[i16], out: &mut [u8], at: usize) -> usize
     at + 2 * list.len()
 }
 
-pub fn get_f32s(args: &[u8], at: usize, list: &mut [f32]) -> usize
-    ensures { λ r. ⌜ r ≤ 4294967296 ⌝ }
-{
-    if LONGEST < at {
-        return NOWHERE;
-    }
-    if LONGEST < list.len() {
-        return NOWHERE;
-    }
-    let mut i = 0;
-    while i < list.len() {
-        list[i] = big_endian::get_f32(args, at + 4 * i);
-        i += 1;
-    }
-    at + 4 * list.len()
-}
-
 pub fn put_f32s(list: &[f32], out: &mut [u8], at: usize) -> usize
-    ensures { λ r. ⌜ r ≤ 4294967296 ⌝ }
+    ensures { λ r. ⌜ draft r (now (out .exit)) ≡ draft at (now (out .entry)) then floatBytes (now (list .entry)) ⌝ }
 {
-    if LONGEST < at {
-        return NOWHERE;
-    }
-    if LONGEST < list.len() {
+    if !has_room(out.len(), at, 4, list.len()) {
         return NOWHERE;
     }
     let mut i = 0;
@@ -128,30 +176,10 @@ pub fn put_f32s(list: &[f32], out: &mut [u8], at: usize) -> usize
     at + 4 * list.len()
 }
 
-pub fn get_f64s(args: &[u8], at: usize, list: &mut [f64]) -> usize
-    ensures { λ r. ⌜ r ≤ 4294967296 ⌝ }
-{
-    if LONGEST < at {
-        return NOWHERE;
-    }
-    if LONGEST < list.len() {
-        return NOWHERE;
-    }
-    let mut i = 0;
-    while i < list.len() {
-        list[i] = big_endian::get_f64(args, at + 8 * i);
-        i += 1;
-    }
-    at + 8 * list.len()
-}
-
 pub fn put_f64s(list: &[f64], out: &mut [u8], at: usize) -> usize
-    ensures { λ r. ⌜ r ≤ 4294967296 ⌝ }
+    ensures { λ r. ⌜ draft r (now (out .exit)) ≡ draft at (now (out .entry)) then doubleBytes (now (list .entry)) ⌝ }
 {
-    if LONGEST < at {
-        return NOWHERE;
-    }
-    if LONGEST < list.len() {
+    if !has_room(out.len(), at, 8, list.len()) {
         return NOWHERE;
     }
     let mut i = 0;
@@ -162,21 +190,16 @@ pub fn put_f64s(list: &[f64], out: &mut [u8], at: usize) -> usize
     at + 8 * list.len()
 }
 
-// Eight numbers of eight bytes each.
-pub fn eight(args: &[u8], at: usize) -> [usize; 8]
-    ensures { λ r. ⌜ r ≡ eightAt (now (args .entry)) at ⌝ }
+pub fn put_usizes(list: &[usize], out: &mut [u8], at: usize) -> usize
+    ensures { λ r. ⌜ draft r (now (out .exit)) ≡ draft at (now (out .entry)) then numberBytes (now (list .entry)) ⌝ }
 {
-    if LONGEST < at {
-        return [0usize; 8];
+    if !has_room(out.len(), at, 8, list.len()) {
+        return NOWHERE;
     }
-    [
-        number(args, at),
-        number(args, at + 8),
-        number(args, at + 16),
-        number(args, at + 24),
-        number(args, at + 32),
-        number(args, at + 40),
-        number(args, at + 48),
-        number(args, at + 56),
-    ]
+    let mut i = 0;
+    while i < list.len() {
+        big_endian::put(out, at + 8 * i, 8, list[i] as u64);
+        i += 1;
+    }
+    at + 8 * list.len()
 }

@@ -1,45 +1,70 @@
-// What `probe` answers to requests for the convolver (docs/PROBE.md, operations 17 and 18). Test code: proved to be
-// safe and to end, and judged by comparison.
+// What `probe` answers to requests for the convolver (docs/PROBE.md, operations 17 and 18).
+//
+// Test code, and promised by equations all the same (specs/Answers.antt): how many bytes the answer has and what they
+// are is what `hrtf` promises for the desk, the counts and the lists that stand in the arguments, one part behind the
+// other. There are 0 bytes, and the lent ones are as they were, for any other operation and for arguments that have
+// another length than the operation takes. `answer` takes any input. Under it lie `hrtf` with its `hrtf_checks` and
+// `desk`, `planes` and `probe_form`.
 use desk::Desk;
+use hrtf::Processed;
 use hrtf_checks::Shape;
 use probe_form::MOST_CELLS;
 use probe_form::MOST_SAMPLES;
 use probe_form::MOST_WEIGHTS;
-use probe_form::UNKNOWN;
-ghost use Prim.Native.Nat.{_≤_};
+ghost use mathlib.Core.Path.{_≡_};
+ghost use Prim.Native.Nat.{_≤_, min};
+ghost use lib.ListN.{length};
+ghost use Rattle.big_endian.specs.Fields.{fieldAt};
+ghost use Rattle.hrtf.specs.Promise.{outcome};
+ghost use Rattle.probe_form.specs.Answers.{draft};
+ghost use Rattle.probe_hrtf.specs.Requests.{deskAt, shapeAt, most, lentOf, lengths, Few, callOf, stateOf};
+ghost use Rattle.probe_hrtf.specs.Answers.{thenDesk, thenCounts, blockShown, blockBy, blockAnswer, resetBy, resetAnswer, answerOf};
 
 // Where the lists begin in a request for a block: behind five lengths, the desk, the four counts of the shape,
 // frames and stride, and the rows of the eight speakers.
 const LISTS: usize = 138;
 
-// The desk and the shape of a request for a block.
-fn desk(args: &[u8]) -> Desk {
-    Desk {
-        position: probe_form::number(args, 10),
-        to_go: probe_form::number(args, 18),
-    }
-}
+// Where the cells begin in a request for a reset: behind a length, the desk, the speakers and L.
+const CELLS: usize = 34;
 
-fn shape(args: &[u8]) -> Shape {
-    Shape {
-        channels: probe_form::number(args, 26),
-        speakers: probe_form::number(args, 34),
-        rows: probe_form::number(args, 42),
-        length: probe_form::number(args, 50),
-    }
-}
-
-fn put_counts(refusal: u8, samples: usize, unsettled: usize, out: &mut [u8]) {
-    big_endian::put(out, 0, 1, refusal as u64);
-    big_endian::put(out, 1, 8, samples as u64);
-    big_endian::put(out, 9, 8, unsettled as u64);
-}
-
-fn put_desk(desk: Desk, out: &mut [u8], at: usize)
-    requires { ⌜ at ≤ 100 ⌝ }
+// The desk that stands from `at` on.
+fn desk(args: &[u8], at: usize) -> Desk
+    requires { ⌜ at ≤ 10 ⌝ }
+    ensures { λ r. ⌜ r ≡ deskAt (now (args .entry)) at ⌝ }
 {
-    big_endian::put(out, at, 8, desk.position as u64);
-    big_endian::put(out, at + 8, 8, desk.to_go as u64);
+    Desk {
+        position: probe_form::number(args, at, 8),
+        to_go: probe_form::number(args, at + 8, 8),
+    }
+}
+
+// The shape of a request for a block.
+fn shape(args: &[u8]) -> Shape
+    ensures { λ r. ⌜ r ≡ shapeAt (now (args .entry)) ⌝ }
+{
+    Shape {
+        channels: probe_form::number(args, 26, 8),
+        speakers: probe_form::number(args, 34, 8),
+        rows: probe_form::number(args, 42, 8),
+        length: probe_form::number(args, 50, 8),
+    }
+}
+
+fn put_desk(desk: Desk, out: &mut [u8], at: usize) -> usize
+    ensures { λ r. ⌜ draft r (now (out .exit)) ≡ thenDesk (draft at (now (out .entry))) desk ⌝ }
+{
+    let after_position = probe_form::put(desk.position as u64, 8, out, at);
+    probe_form::put(desk.to_go as u64, 8, out, after_position)
+}
+
+fn put_counts(played: Processed, out: &mut [u8]) -> usize
+    ensures { λ r. ⌜ draft r (now (out .exit)) ≡ thenCounts (draft 0 (now (out .entry))) played ⌝ }
+{
+    let after_refusal = probe_form::put(played.refusal as u64, 1, out, 0);
+    let after_samples = probe_form::put(played.samples as u64, 8, out, after_refusal);
+    let after_unsettled = probe_form::put(played.unsettled as u64, 8, out, after_samples);
+    let left = played.desk;
+    put_desk(left, out, after_unsettled)
 }
 
 // Plays the block, the lists being read.
@@ -52,14 +77,16 @@ fn play(
     ears: &mut [f32],
     out: &mut [u8],
 ) -> usize
-    ensures { λ r. ⌜ r ≤ 4294967296 ⌝ }
+    ensures { λ r. ⌜ draft r (now (out .exit)) ≡ blockShown
+        (outcome (callOf (now (args .entry)) (now (inputs .entry)) (now (weights .entry)) (now (taps .entry)) (now (ears .entry))) (stateOf (now (args .entry)) (now (rings .entry))))
+        (now (out .entry)) ⌝ }
 {
     let row_of = probe_form::eight(args, 74);
-    let r = hrtf::process(
-        desk(args),
+    let played = hrtf::process(
+        desk(args, 10),
         shape(args),
-        probe_form::number(args, 58),
-        probe_form::number(args, 66),
+        probe_form::number(args, 58, 8),
+        probe_form::number(args, 66, 8),
         inputs,
         weights,
         &row_of,
@@ -67,12 +94,12 @@ fn play(
         rings,
         ears,
     );
-    put_counts(r.refusal, r.samples, r.unsettled, out);
-    put_desk(r.desk, out, 17);
-    let after = probe_form::put_f32s(rings, out, 33);
-    probe_form::put_f32s(ears, out, after)
+    let after_counts = put_counts(played, out);
+    let after_rings = probe_form::put_f32s(rings, out, after_counts);
+    probe_form::put_f32s(ears, out, after_rings)
 }
 
+// Reads the lists where the arguments have the length of them all, whatever they held.
 fn process_lent(
     args: &[u8],
     inputs: &mut [f32],
@@ -82,15 +109,21 @@ fn process_lent(
     ears: &mut [f32],
     out: &mut [u8],
 ) -> usize
-    ensures { λ r. ⌜ r ≤ 4294967296 ⌝ }
+    requires { ⌜ Few (lengths (now inputs) (now weights) (now taps) (now rings) (now ears)) ⌝ }
+    ensures { λ r. ⌜ draft r (now (out .exit)) ≡ blockBy (lengths (now (inputs .entry)) (now (weights .entry)) (now (taps .entry)) (now (rings .entry)) (now (ears .entry))) (now (args .entry)) (now (out .entry)) ⌝ }
 {
-    let after_inputs = probe_form::get_f32s(args, LISTS, inputs);
-    let after_weights = probe_form::get_f64s(args, after_inputs, weights);
-    let after_taps = probe_form::get_f32s(args, after_weights, taps);
-    let after_rings = probe_form::get_f32s(args, after_taps, rings);
-    if probe_form::get_f32s(args, after_rings, ears) != args.len() {
+    let at_weights = LISTS + 4 * inputs.len();
+    let at_taps = at_weights + 8 * weights.len();
+    let at_rings = at_taps + 4 * taps.len();
+    let at_ears = at_rings + 4 * rings.len();
+    if args.len() != at_ears + 4 * ears.len() {
         return 0;
     }
+    probe_form::get_f32s(args, LISTS, inputs);
+    probe_form::get_f64s(args, at_weights, weights);
+    probe_form::get_f32s(args, at_taps, taps);
+    probe_form::get_f32s(args, at_rings, rings);
+    probe_form::get_f32s(args, at_ears, ears);
     play(args, inputs, weights, taps, rings, ears, out)
 }
 
@@ -104,13 +137,14 @@ fn process_in(
     ears: &mut [f32],
     out: &mut [u8],
 ) -> usize
-    ensures { λ r. ⌜ r ≤ 4294967296 ⌝ }
+    requires { ⌜ Few (lengths (now inputs) (now weights) (now taps) (now rings) (now ears)) ⌝ }
+    ensures { λ r. ⌜ draft r (now (out .exit)) ≡ blockBy (lentOf (now (args .entry)) (lengths (now (inputs .entry)) (now (weights .entry)) (now (taps .entry)) (now (rings .entry)) (now (ears .entry)))) (now (args .entry)) (now (out .entry)) ⌝ }
 {
-    let i = probe_form::at_most(big_endian::get(args, 0, 2), inputs.len());
-    let w = probe_form::at_most(big_endian::get(args, 2, 2), weights.len());
-    let t = probe_form::at_most(big_endian::get(args, 4, 2), taps.len());
-    let r = probe_form::at_most(big_endian::get(args, 6, 2), rings.len());
-    let e = probe_form::at_most(big_endian::get(args, 8, 2), ears.len());
+    let i = planes::least(probe_form::number(args, 0, 2), inputs.len());
+    let w = planes::least(probe_form::number(args, 2, 2), weights.len());
+    let t = planes::least(probe_form::number(args, 4, 2), taps.len());
+    let r = planes::least(probe_form::number(args, 6, 2), rings.len());
+    let e = planes::least(probe_form::number(args, 8, 2), ears.len());
     process_lent(
         args,
         &mut inputs[..i],
@@ -124,7 +158,7 @@ fn process_in(
 
 // Plays a block: the lengths of inputs, weights, taps, rings and ears, then the numbers, then the five lists.
 fn process(args: &[u8], out: &mut [u8]) -> usize
-    ensures { λ r. ⌜ r ≤ 4294967296 ⌝ }
+    ensures { λ r. ⌜ draft r (now (out .exit)) ≡ blockAnswer (now (args .entry)) (now (out .entry)) ⌝ }
 {
     let mut inputs = [0.0f32; MOST_SAMPLES];
     let mut weights = [0.0f64; MOST_WEIGHTS];
@@ -142,50 +176,51 @@ fn process(args: &[u8], out: &mut [u8]) -> usize
     )
 }
 
+// Reads the cells where the arguments have their length, whatever they held.
 fn reset_lent(args: &[u8], rings: &mut [f32], out: &mut [u8]) -> usize
-    ensures { λ r. ⌜ r ≤ 4294967296 ⌝ }
+    requires { ⌜ length (now rings) ≤ most .rings ⌝ }
+    ensures { λ r. ⌜ draft r (now (out .exit)) ≡ resetBy (length (now (rings .entry))) (now (args .entry)) (now (out .entry)) ⌝ }
 {
-    if probe_form::get_f32s(args, 34, rings) != args.len() {
+    if args.len() != CELLS + 4 * rings.len() {
         return 0;
     }
-    let desk = Desk {
-        position: probe_form::number(args, 2),
-        to_go: probe_form::number(args, 10),
-    };
-    let r = hrtf::reset(
-        desk,
-        probe_form::number(args, 18),
-        probe_form::number(args, 26),
+    probe_form::get_f32s(args, CELLS, rings);
+    let rested = hrtf::reset(
+        desk(args, 2),
+        probe_form::number(args, 18, 8),
+        probe_form::number(args, 26, 8),
         rings,
     );
-    big_endian::put(out, 0, 1, r.refusal as u64);
-    put_desk(r.desk, out, 1);
-    probe_form::put_f32s(rings, out, 17)
+    let after_refusal = probe_form::put(rested.refusal as u64, 1, out, 0);
+    let left = rested.desk;
+    let after_desk = put_desk(left, out, after_refusal);
+    probe_form::put_f32s(rings, out, after_desk)
 }
 
 fn reset_in(args: &[u8], rings: &mut [f32], out: &mut [u8]) -> usize
-    ensures { λ r. ⌜ r ≤ 4294967296 ⌝ }
+    requires { ⌜ length (now rings) ≤ most .rings ⌝ }
+    ensures { λ r. ⌜ draft r (now (out .exit)) ≡ resetBy (min (fieldAt (now (args .entry)) 0 2) (length (now (rings .entry)))) (now (args .entry)) (now (out .entry)) ⌝ }
 {
-    let r = probe_form::at_most(big_endian::get(args, 0, 2), rings.len());
+    let r = planes::least(probe_form::number(args, 0, 2), rings.len());
     reset_lent(args, &mut rings[..r], out)
 }
 
 // Resets the rings that stand in the arguments after their length, the desk, the speakers and L.
 fn reset(args: &[u8], out: &mut [u8]) -> usize
-    ensures { λ r. ⌜ r ≤ 4294967296 ⌝ }
+    ensures { λ r. ⌜ draft r (now (out .exit)) ≡ resetAnswer (now (args .entry)) (now (out .entry)) ⌝ }
 {
     let mut rings = [0.0f32; MOST_CELLS];
     reset_in(args, &mut rings, out)
 }
 
-// Puts the answer to a request into out: how many bytes, 0 where the arguments have not the length that the
-// operation takes, and `UNKNOWN` where there is no such operation.
+// Puts the answer to a request into out, and says how many bytes it has: 0 where the operation is not one of these
+// two, or the arguments have not the length that it takes.
 pub fn answer(operation: u8, args: &[u8], out: &mut [u8]) -> usize
-    ensures { λ r. ⌜ r ≤ 4294967296 ⌝ }
+    ensures { λ r. ⌜ draft r (now (out .exit)) ≡ answerOf operation (now (args .entry)) (now (out .entry)) ⌝ }
 {
     match operation {
         17 => process(args, out),
         18 => reset(args, out),
-        _ => UNKNOWN,
+        _ => 0,
     }
 }

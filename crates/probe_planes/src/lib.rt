@@ -1,86 +1,38 @@
 // What `probe` answers to requests for blocks, planes of frames in and planes of frames out (docs/PROBE.md, operations
-// 14 and 16). Test code: proved to be safe and to end, and judged by comparison.
+// 14 and 16).
+//
+// Test code, and promised by equations all the same: `answer` puts what PROBE.md says, in its order, of the block that
+// `panner` or `ambisonic_decoder` promises for what stands in the request; and nothing where the arguments have not the
+// length that the operation takes, or where there is no such operation here. It takes any input. Under it lie these two,
+// `probe_form` (the parts of requests and answers), `big_endian`, `harmonics`, `planes` (the smaller of two counts),
+// `channel` and `refusals`.
 use harmonics::Direction;
 use panner::Command;
 use probe_form::MOST_SAMPLES;
 use probe_form::MOST_WEIGHTS;
-use probe_form::UNKNOWN;
-ghost use Prim.Native.Nat.{_≤_};
+ghost use mathlib.Core.Path.{_≡_};
+ghost use Prim.Native.Nat.{_+_, _*_};
+ghost use lib.ListN.{length};
+ghost use Rattle.probe_form.specs.Answers.{draft};
+ghost use Rattle.probe_planes.specs.Answers.{played, commandAt, pannedAnswer, panAnswer, decodedAnswer, decodeAnswer, answerOf};
 
 // Puts a refusal, a count of frames and the samples as they stand.
-fn put_samples(refusal: u8, samples: usize, planes: &[f32], out: &mut [u8]) -> usize
-    ensures { λ r. ⌜ r ≤ 4294967296 ⌝ }
+fn put_played(refusal: u8, samples: usize, planes: &[f32], out: &mut [u8]) -> usize
+    ensures { λ r. ⌜ draft r (now (out .exit)) ≡ played refusal samples (now (planes .entry)) (now (out .entry)) ⌝ }
 {
-    big_endian::put(out, 0, 1, refusal as u64);
-    big_endian::put(out, 1, 8, samples as u64);
-    probe_form::put_f32s(planes, out, 9)
-}
-
-fn decode_lent(
-    args: &[u8],
-    weights: &mut [f64],
-    inputs: &mut [f32],
-    planes: &mut [f32],
-    out: &mut [u8],
-) -> usize
-    ensures { λ r. ⌜ r ≤ 4294967296 ⌝ }
-{
-    let after_weights = probe_form::get_f64s(args, 38, weights);
-    let after_inputs = probe_form::get_f32s(args, after_weights, inputs);
-    if probe_form::get_f32s(args, after_inputs, planes) != args.len() {
-        return 0;
-    }
-    let r = ambisonic_decoder::process(
-        weights,
-        probe_form::number(args, 6),
-        probe_form::number(args, 14),
-        probe_form::number(args, 22),
-        probe_form::number(args, 30),
-        inputs,
-        planes,
-    );
-    put_samples(r.refusal, r.samples, planes, out)
-}
-
-// Lends as much of the room as the arguments say first.
-fn decode_in(
-    args: &[u8],
-    weights: &mut [f64],
-    inputs: &mut [f32],
-    planes: &mut [f32],
-    out: &mut [u8],
-) -> usize
-    ensures { λ r. ⌜ r ≤ 4294967296 ⌝ }
-{
-    let w = probe_form::at_most(big_endian::get(args, 0, 2), weights.len());
-    let i = probe_form::at_most(big_endian::get(args, 2, 2), inputs.len());
-    let p = probe_form::at_most(big_endian::get(args, 4, 2), planes.len());
-    decode_lent(
-        args,
-        &mut weights[..w],
-        &mut inputs[..i],
-        &mut planes[..p],
-        out,
-    )
-}
-
-// Plays a block through a matrix of weights: the lengths of weights, inputs and outputs, then outputs, channels,
-// frames and stride, then the three lists.
-fn decode(args: &[u8], out: &mut [u8]) -> usize
-    ensures { λ r. ⌜ r ≤ 4294967296 ⌝ }
-{
-    let mut weights = [0.0f64; MOST_WEIGHTS];
-    let mut inputs = [0.0f32; MOST_SAMPLES];
-    let mut planes = [0.0f32; MOST_SAMPLES];
-    decode_in(args, &mut weights, &mut inputs, &mut planes, out)
+    let a = probe_form::put(refusal as u64, 1, out, 0);
+    let b = probe_form::put(samples as u64, 8, out, a);
+    probe_form::put_f32s(planes, out, b)
 }
 
 // A panner command: 0 a stereo position, 1 a surround azimuth, any other number a direction with an order.
-fn command(args: &[u8]) -> Command {
+fn command(args: &[u8]) -> Command
+    ensures { λ r. ⌜ r ≡ commandAt (now (args .entry)) ⌝ }
+{
     let angle = big_endian::get_f64(args, 5);
     let elevation = big_endian::get_f64(args, 13);
-    let order = probe_form::number(args, 21);
-    match big_endian::get(args, 4, 1) {
+    let order = probe_form::number(args, 21, 8);
+    match probe_form::number(args, 4, 1) {
         0 => Command::Stereo(angle),
         1 => Command::Surround(angle),
         _ => Command::Ambisonic(
@@ -93,50 +45,102 @@ fn command(args: &[u8]) -> Command {
     }
 }
 
+// Plays a block at a command: after the lengths of both lists stand the command, the layout, frames and stride, then
+// both lists. What the lists lent held before does not matter.
 fn pan_lent(args: &[u8], input: &mut [f32], planes: &mut [f32], out: &mut [u8]) -> usize
-    ensures { λ r. ⌜ r ≤ 4294967296 ⌝ }
+    requires { ⌜ length (now args) ≡ 54 + 4 * length (now input) + 4 * length (now planes) ⌝ }
+    ensures { λ r. ⌜ draft r (now (out .exit)) ≡ pannedAnswer (now (args .entry)) (length (now (input .entry))) (length (now (planes .entry))) (now (out .entry)) ⌝ }
 {
-    let after_input = probe_form::get_f32s(args, 54, input);
-    if probe_form::get_f32s(args, after_input, planes) != args.len() {
-        return 0;
-    }
-    let r = panner::process(
+    let planes_at = 54 + 4 * input.len();
+    probe_form::get_f32s(args, 54, input);
+    probe_form::get_f32s(args, planes_at, planes);
+    let panned = panner::process(
         command(args),
-        probe_form::layout(big_endian::get(args, 29, 1), probe_form::number(args, 30)),
-        probe_form::number(args, 38),
-        probe_form::number(args, 46),
+        probe_form::layout(
+            probe_form::number(args, 29, 1),
+            probe_form::number(args, 30, 8),
+        ),
+        probe_form::number(args, 38, 8),
+        probe_form::number(args, 46, 8),
         input,
         planes,
     );
-    put_samples(r.refusal, r.samples, planes, out)
+    put_played(panned.refusal, panned.samples, planes, out)
 }
 
-fn pan_in(args: &[u8], input: &mut [f32], planes: &mut [f32], out: &mut [u8]) -> usize
-    ensures { λ r. ⌜ r ≤ 4294967296 ⌝ }
-{
-    let i = probe_form::at_most(big_endian::get(args, 0, 2), input.len());
-    let p = probe_form::at_most(big_endian::get(args, 2, 2), planes.len());
-    pan_lent(args, &mut input[..i], &mut planes[..p], out)
-}
-
-// Plays a block at a command: the lengths of the input and the outputs, then the command, the layout, frames and
-// stride, then both lists.
+// Lends as many samples as the arguments say first.
 fn pan(args: &[u8], out: &mut [u8]) -> usize
-    ensures { λ r. ⌜ r ≤ 4294967296 ⌝ }
+    ensures { λ r. ⌜ draft r (now (out .exit)) ≡ panAnswer (now (args .entry)) (now (out .entry)) ⌝ }
 {
+    let i = planes::least(probe_form::number(args, 0, 2), MOST_SAMPLES);
+    let o = planes::least(probe_form::number(args, 2, 2), MOST_SAMPLES);
+    if args.len() != 54 + 4 * i + 4 * o {
+        return 0;
+    }
     let mut input = [0.0f32; MOST_SAMPLES];
     let mut planes = [0.0f32; MOST_SAMPLES];
-    pan_in(args, &mut input, &mut planes, out)
+    pan_lent(args, &mut input[..i], &mut planes[..o], out)
+}
+
+// Plays a block through a matrix of weights: after the lengths of the three lists stand outputs, channels, frames and
+// stride, then the lists. What the lists lent held before does not matter.
+fn decode_lent(
+    args: &[u8],
+    weights: &mut [f64],
+    inputs: &mut [f32],
+    planes: &mut [f32],
+    out: &mut [u8],
+) -> usize
+    requires { ⌜ length (now args) ≡ 38 + 8 * length (now weights) + 4 * length (now inputs) + 4 * length (now planes) ⌝ }
+    ensures { λ r. ⌜ draft r (now (out .exit)) ≡ decodedAnswer (now (args .entry)) (length (now (weights .entry))) (length (now (inputs .entry))) (length (now (planes .entry))) (now (out .entry)) ⌝ }
+{
+    let inputs_at = 38 + 8 * weights.len();
+    let planes_at = inputs_at + 4 * inputs.len();
+    probe_form::get_f64s(args, 38, weights);
+    probe_form::get_f32s(args, inputs_at, inputs);
+    probe_form::get_f32s(args, planes_at, planes);
+    let decoded = ambisonic_decoder::process(
+        weights,
+        probe_form::number(args, 6, 8),
+        probe_form::number(args, 14, 8),
+        probe_form::number(args, 22, 8),
+        probe_form::number(args, 30, 8),
+        inputs,
+        planes,
+    );
+    put_played(decoded.refusal, decoded.samples, planes, out)
+}
+
+// Lends as many weights and samples as the arguments say first.
+fn decode(args: &[u8], out: &mut [u8]) -> usize
+    ensures { λ r. ⌜ draft r (now (out .exit)) ≡ decodeAnswer (now (args .entry)) (now (out .entry)) ⌝ }
+{
+    let w = planes::least(probe_form::number(args, 0, 2), MOST_WEIGHTS);
+    let i = planes::least(probe_form::number(args, 2, 2), MOST_SAMPLES);
+    let o = planes::least(probe_form::number(args, 4, 2), MOST_SAMPLES);
+    if args.len() != 38 + 8 * w + 4 * i + 4 * o {
+        return 0;
+    }
+    let mut weights = [0.0f64; MOST_WEIGHTS];
+    let mut inputs = [0.0f32; MOST_SAMPLES];
+    let mut planes = [0.0f32; MOST_SAMPLES];
+    decode_lent(
+        args,
+        &mut weights[..w],
+        &mut inputs[..i],
+        &mut planes[..o],
+        out,
+    )
 }
 
 // Puts the answer to a request into out: how many bytes, 0 where the arguments have not the length that the
-// operation takes, and `UNKNOWN` where there is no such operation.
+// operation takes, or where there is no such operation here.
 pub fn answer(operation: u8, args: &[u8], out: &mut [u8]) -> usize
-    ensures { λ r. ⌜ r ≤ 4294967296 ⌝ }
+    ensures { λ r. ⌜ draft r (now (out .exit)) ≡ answerOf operation (now (args .entry)) (now (out .entry)) ⌝ }
 {
     match operation {
         14 => pan(args, out),
         16 => decode(args, out),
-        _ => UNKNOWN,
+        _ => 0,
     }
 }

@@ -1,93 +1,104 @@
-// What `probe` answers to requests for setting up the convolver (docs/PROBE.md, operations 19 and 20). Test code: proved
-// to be safe and to end, and judged by comparison.
+// What `probe` answers to requests for setting up the convolver (docs/PROBE.md, operations 19 and 20).
+//
+// Test code, and promised by equations all the same: `answer` puts what PROBE.md says, in its order, of the arrangement
+// that `hrtf_setup` promises for what stands in the request; and nothing where the arguments have not the length that the
+// operation takes, or where there is no such operation here. It takes any input. Under it lie `hrtf_setup`, `probe_form`
+// (the parts of requests and answers), `big_endian`, `planes` (the smaller of two counts), `channel` and `refusals`.
 use hrtf_setup::Arranged;
 use probe_form::MOST_AZIMUTHS;
 use probe_form::MOST_WEIGHTS;
-use probe_form::UNKNOWN;
-ghost use Prim.Native.Nat.{_≤_};
+ghost use mathlib.Core.Path.{_≡_};
+ghost use Prim.Native.Nat.{_+_, _*_, _≤_};
+ghost use lib.ListN.{length};
+ghost use Rattle.big_endian.specs.Fields.{fieldAt};
+ghost use Rattle.hrtf_setup.specs.Arrangement.{arrangement};
+ghost use Rattle.probe_form.specs.Answers.{draft};
+ghost use Rattle.probe_setup.specs.Answers.{shown, wantedAt, arrangedAnswer, setUpAnswer, answerOf};
 
 // Puts the answer, and the rows and the weights as they stand.
 fn put_arranged(arranged: Arranged, row_of: &[usize; 8], weights: &[f64], out: &mut [u8]) -> usize
-    ensures { λ r. ⌜ r ≤ 4294967296 ⌝ }
+    ensures { λ r. ⌜ draft r (now (out .exit)) ≡ shown (record { answer = arranged; weights = now (weights .entry); rows = now («row_of» .entry) }) (now (out .entry)) ⌝ }
 {
-    big_endian::put(out, 0, 1, arranged.refusal as u64);
-    big_endian::put(out, 1, 8, arranged.speakers as u64);
-    big_endian::put(out, 9, 8, arranged.channels as u64);
-    let mut i = 0;
-    while i < 8 {
-        big_endian::put(out, 17 + 8 * i, 8, row_of[i] as u64);
-        i += 1;
-    }
-    probe_form::put_f64s(weights, out, 81)
+    let a = probe_form::put(arranged.refusal as u64, 1, out, 0);
+    let b = probe_form::put(arranged.speakers as u64, 8, out, a);
+    let c = probe_form::put(arranged.channels as u64, 8, out, b);
+    let d = probe_form::put_usizes(row_of, out, c);
+    probe_form::put_f64s(weights, out, d)
 }
 
-// The set-up of a layout, which stands after the lengths, the bank rows and the rows of the speakers.
-fn surround(args: &[u8], azimuths: &mut [i16], weights: &mut [f64], out: &mut [u8]) -> usize
-    ensures { λ r. ⌜ r ≤ 4294967296 ⌝ }
-{
-    let after = probe_form::get_i16s(args, 84, azimuths);
-    if probe_form::get_f64s(args, after, weights) != args.len() {
-        return 0;
-    }
-    let layout = probe_form::layout(big_endian::get(args, 75, 1), probe_form::number(args, 76));
-    let mut row_of = probe_form::eight(args, 11);
-    let rows = probe_form::number(args, 3);
-    let arranged = hrtf_setup::new_surround(layout, azimuths, rows, weights, &mut row_of);
-    put_arranged(arranged, &row_of, weights, out)
-}
-
-// The set-up of the virtual speakers for an order, which stands in the same place.
-fn ambisonic(args: &[u8], azimuths: &mut [i16], weights: &mut [f64], out: &mut [u8]) -> usize
-    ensures { λ r. ⌜ r ≤ 4294967296 ⌝ }
-{
-    let after = probe_form::get_i16s(args, 83, azimuths);
-    if probe_form::get_f64s(args, after, weights) != args.len() {
-        return 0;
-    }
-    let order = probe_form::number(args, 75);
-    let mut row_of = probe_form::eight(args, 11);
-    let rows = probe_form::number(args, 3);
-    let arranged = hrtf_setup::new_ambisonic(order, azimuths, rows, weights, &mut row_of);
-    put_arranged(arranged, &row_of, weights, out)
-}
-
-fn set_up(
+// 19 sets up a layout, 20 the virtual speakers for an order, which stands in the same place.
+fn arrange(
     operation: u8,
+    args: &[u8],
+    azimuths: &[i16],
+    weights: &mut [f64],
+    row_of: &mut [usize; 8],
+) -> Arranged
+    ensures { λ r. ⌜ record { answer = r; weights = now (weights .exit); rows = now («row_of» .exit) }
+        ≡ arrangement (wantedAt operation (now (args .entry))) (now (azimuths .entry)) (fieldAt (now (args .entry)) 3 8) (now (weights .entry)) (now («row_of» .entry)) ⌝ }
+{
+    let rows = probe_form::number(args, 3, 8);
+    if operation == 19 {
+        let layout = probe_form::layout(
+            probe_form::number(args, 75, 1),
+            probe_form::number(args, 76, 8),
+        );
+        return hrtf_setup::new_surround(layout, azimuths, rows, weights, row_of);
+    }
+    let order = probe_form::number(args, 75, 8);
+    hrtf_setup::new_ambisonic(order, azimuths, rows, weights, row_of)
+}
+
+// Both lists are read from `at` on. What they held before does not matter.
+fn set_up_lent(
+    operation: u8,
+    at: usize,
     args: &[u8],
     azimuths: &mut [i16],
     weights: &mut [f64],
     out: &mut [u8],
 ) -> usize
-    ensures { λ r. ⌜ r ≤ 4294967296 ⌝ }
+    requires { ⌜ length (now args) ≡ at + 2 * length (now azimuths) + 8 * length (now weights) ⌝ }
+    ensures { λ r. ⌜ draft r (now (out .exit)) ≡ arrangedAnswer operation (now (args .entry)) at (length (now (azimuths .entry))) (length (now (weights .entry))) (now (out .entry)) ⌝ }
 {
-    match operation {
-        19 => surround(args, azimuths, weights, out),
-        20 => ambisonic(args, azimuths, weights, out),
-        _ => UNKNOWN,
-    }
+    let weights_at = at + 2 * azimuths.len();
+    probe_form::get_i16s(args, at, azimuths);
+    probe_form::get_f64s(args, weights_at, weights);
+    let mut row_of = probe_form::eight(args, 11);
+    let arranged = arrange(operation, args, azimuths, weights, &mut row_of);
+    put_arranged(arranged, &row_of, weights, out)
 }
 
-// Lends as much of the room as the arguments say first.
-fn set_up_in(
-    operation: u8,
-    args: &[u8],
-    azimuths: &mut [i16],
-    weights: &mut [f64],
-    out: &mut [u8],
-) -> usize
-    ensures { λ r. ⌜ r ≤ 4294967296 ⌝ }
+// Lends as many azimuths and weights as the arguments say first.
+fn set_up(operation: u8, at: usize, args: &[u8], out: &mut [u8]) -> usize
+    requires { ⌜ at ≤ 84 ⌝ }
+    ensures { λ r. ⌜ draft r (now (out .exit)) ≡ setUpAnswer operation (now (args .entry)) at (now (out .entry)) ⌝ }
 {
-    let a = probe_form::at_most(big_endian::get(args, 0, 1), azimuths.len());
-    let w = probe_form::at_most(big_endian::get(args, 1, 2), weights.len());
-    set_up(operation, args, &mut azimuths[..a], &mut weights[..w], out)
+    let a = planes::least(probe_form::number(args, 0, 1), MOST_AZIMUTHS);
+    let w = planes::least(probe_form::number(args, 1, 2), MOST_WEIGHTS);
+    if args.len() != at + 2 * a + 8 * w {
+        return 0;
+    }
+    let mut azimuths = [0i16; MOST_AZIMUTHS];
+    let mut weights = [0.0f64; MOST_WEIGHTS];
+    set_up_lent(
+        operation,
+        at,
+        args,
+        &mut azimuths[..a],
+        &mut weights[..w],
+        out,
+    )
 }
 
 // Puts the answer to a request into out: how many bytes, 0 where the arguments have not the length that the
-// operation takes, and `UNKNOWN` where there is no such operation.
+// operation takes, or where there is no such operation here.
 pub fn answer(operation: u8, args: &[u8], out: &mut [u8]) -> usize
-    ensures { λ r. ⌜ r ≤ 4294967296 ⌝ }
+    ensures { λ r. ⌜ draft r (now (out .exit)) ≡ answerOf operation (now (args .entry)) (now (out .entry)) ⌝ }
 {
-    let mut azimuths = [0i16; MOST_AZIMUTHS];
-    let mut weights = [0.0f64; MOST_WEIGHTS];
-    set_up_in(operation, args, &mut azimuths, &mut weights, out)
+    match operation {
+        19 => set_up(19, 84, args, out),
+        20 => set_up(20, 83, args, out),
+        _ => 0,
+    }
 }

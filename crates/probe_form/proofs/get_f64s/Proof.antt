@@ -1,61 +1,62 @@
--- `probe_form::get_f64s` is safe and ends: the list keeps its length. Assumes nothing.
+-- `probe_form::get_f64s` meets its contract. The entries read so far stand at the start of the list. Assumes nothing.
+use mathlib.Core.Path.{_≡_, sym, _∙_}
 use Prim.Native.Nat.{_-_}
-use mathlib.Core.Path.{_≡_}
+use native.Mathlib.Omega.{arith}
+use borrow.Author.Tests.{not-true, not-false}
 use lib.ListN.{length}
-use borrow.Author.Needs.{needs}
+use Rattle.big_endian.specs.Fields.{doubleAt}
+use Rattle.probe_form.proofs.Getting.{Got, get-first, get-kept, get-more, get-all, get-none}
 use Rattle.probe_form.proofs.get_f64s.Statement.{statement}
 use Rattle.probe_form.proofs.get_f64s.Tie as tie
 
 abbrev Inv-loop : tie.InvT-loop
-Inv-loop args at list₀ i₀ list i = length list ≡ length list₀
+Inv-loop args at list₀ i₀ list i = Got doubleAt 8 args at list₀ list i
 
 abbrev μ-loop : tie.MeasureT-loop
 μ-loop args at list₀ i₀ list i = length list₀ - i
 
-returns : tie.Need-returns Inv-loop μ-loop
-returns c = search needs
+-- the list is as long as it was
+kept : (c : tie.At-loop Inv-loop μ-loop) → length (c .loop .list) ≡ length (c .before .before .before .before .before .args .list .now)
+kept c = get-kept _ _ _ _ _ _ _ (c .loop .inv)
 
-returns-2 : tie.Need-returns-2 Inv-loop μ-loop
-returns-2 c = search needs
+has-room-requires : tie.Need-has-room-requires Inv-loop μ-loop
+has-room-requires c κs = omega arith
+
+returns : tie.Need-returns Inv-loop μ-loop
+returns c = get-none _ _ _ _ _ (sym (c .before .has-room .ensures) ∙ not-true _ (c .if1 .taken))
 
 loop-holds : tie.Need-loop-holds Inv-loop μ-loop
-loop-holds c = search needs
+loop-holds c = get-first _ _ _ _ _ (sym (c .before .has-room .ensures) ∙ not-false _ (c .if1 .left))
 
 mul-get-f64 : tie.Need-mul-get-f64 Inv-loop μ-loop
-mul-get-f64 c = search needs
+mul-get-f64 c = omega (arith, kept (c .before))
 
 add-get-f64 : tie.Need-add-get-f64 Inv-loop μ-loop
-add-get-f64 c = search needs
+add-get-f64 c = omega (arith, kept (c .before))
 
 get-f64-requires : tie.Need-get-f64-requires Inv-loop μ-loop
-get-f64-requires c κs = search needs
+get-f64-requires c κs = tt
 
 mul-list : tie.Need-mul-list Inv-loop μ-loop
-mul-list c = search needs
+mul-list c = omega (arith, kept (c .before .before))
 
 slice-write-list : tie.Need-slice-write-list Inv-loop μ-loop
-slice-write-list c = search needs
+slice-write-list c = c .before .loop-test .taken
 
 add-i : tie.Need-add-i Inv-loop μ-loop
-add-i c = search needs
+add-i c = omega (arith, kept (c .before .before))
 
 loop-less : tie.Need-loop-less Inv-loop μ-loop
-loop-less c = search needs
+loop-less c = omega (arith, kept (c .before .before))
 
 loop-again : tie.Need-loop-again Inv-loop μ-loop
-loop-again c = search needs
-
-mul-result : tie.Need-mul-result Inv-loop μ-loop
-mul-result c = search needs
-
-add-result : tie.Need-add-result Inv-loop μ-loop
-add-result c = search needs
+loop-again c = let turn = c .before .before .loop in get-more _ _ _ _ _ (turn .list) (turn .i) _ (turn .inv) (c .before .loop-test .taken) (c .get-f64 .ensures)
 
 same-length : tie.Need-same-length Inv-loop μ-loop
-same-length c = search needs
+same-length c = kept (c .before)
 
-returns-3 : tie.Need-returns-3 Inv-loop μ-loop
-returns-3 c = search needs
+returns-2 : tie.Need-returns-2 Inv-loop μ-loop
+returns-2 c = get-all _ _ _ _ _ _ _ (c .before .loop .inv) (c .loop-test .left)
 
 pub get-f64s-spec : {M : Type 1} → statement M
 get-f64s-spec =
@@ -63,8 +64,8 @@ get-f64s-spec =
     (tie.spec
     Inv-loop
     μ-loop
+    has-room-requires
     returns
-    returns-2
     loop-holds
     mul-get-f64
     add-get-f64
@@ -74,7 +75,5 @@ get-f64s-spec =
     add-i
     loop-less
     loop-again
-    mul-result
-    add-result
     same-length
-    returns-3)
+    returns-2)

@@ -1,61 +1,66 @@
--- `probe_form::put_f32s` is safe and ends: the buffer keeps its length. Assumes nothing.
+-- `probe_form::put_f32s` meets its contract. The entries put so far stand from the given place on. Assumes nothing.
+use mathlib.Core.Path.{sym, _∙_}
 use Prim.Native.Nat.{_-_}
-use mathlib.Core.Path.{_≡_}
+use native.Mathlib.Omega.{arith}
+use borrow.Author.Tests.{not-true, not-false}
+use lib.Ieee.{nan, binary32, toBits}
 use lib.ListN.{length}
-use borrow.Author.Needs.{needs}
+use Rattle.big_endian.specs.Fields.{withFloat}
+use Rattle.probe_form.proofs.Putting.{put-kept, PutFields, fields-first, fields-more, fields-all, fields-none}
 use Rattle.probe_form.proofs.put_f32s.Statement.{statement}
 use Rattle.probe_form.proofs.put_f32s.Tie as tie
 
 abbrev Inv-loop : tie.InvT-loop
-Inv-loop list out₀ at i₀ out i = length out ≡ length out₀
+Inv-loop list out₀ at i₀ out i = PutFields 4 (toBits binary32) list out₀ at out i
 
 abbrev μ-loop : tie.MeasureT-loop
 μ-loop list out₀ at i₀ out i = length list - i
 
-returns : tie.Need-returns Inv-loop μ-loop
-returns c = search needs
+has-room-requires : tie.Need-has-room-requires Inv-loop μ-loop
+has-room-requires c κs = omega arith
 
-returns-2 : tie.Need-returns-2 Inv-loop μ-loop
-returns-2 c = search needs
+returns : tie.Need-returns Inv-loop μ-loop
+returns c = fields-none _ _ _ _ _ (sym (c .before .has-room .ensures) ∙ not-true _ (c .if1 .taken))
 
 loop-holds : tie.Need-loop-holds Inv-loop μ-loop
-loop-holds c = search needs
+loop-holds c = fields-first _ _ _ _ _ (sym (c .before .has-room .ensures) ∙ not-false _ (c .if1 .left))
 
 mul-put-f32 : tie.Need-mul-put-f32 Inv-loop μ-loop
-mul-put-f32 c = search needs
+mul-put-f32 c = omega arith
 
 add-put-f32 : tie.Need-add-put-f32 Inv-loop μ-loop
-add-put-f32 c = search needs
+add-put-f32 c = omega arith
 
 mul-put-f32-2 : tie.Need-mul-put-f32-2 Inv-loop μ-loop
-mul-put-f32-2 c = search needs
+mul-put-f32-2 c = omega arith
 
 shared-slice-read-put-f32 : tie.Need-shared-slice-read-put-f32 Inv-loop μ-loop
-shared-slice-read-put-f32 c = search needs
+shared-slice-read-put-f32 c = omega arith
 
 put-f32-requires : tie.Need-put-f32-requires Inv-loop μ-loop
-put-f32-requires c κs = search needs
+put-f32-requires c κs = tt
 
 add-i : tie.Need-add-i Inv-loop μ-loop
-add-i c = search needs
+add-i c = omega arith
 
 loop-less : tie.Need-loop-less Inv-loop μ-loop
-loop-less c = search needs
+loop-less c = omega arith
 
 loop-again : tie.Need-loop-again Inv-loop μ-loop
-loop-again c = search needs
+unfolding withFloat
+loop-again c = let turn = c .before .before .before .before .before .before .loop in fields-more _ _ _ _ _ (turn .out) _ (turn .i) nan (omega arith) (turn .inv) (c .before .before .before .before .before .loop-test .taken) (c .before .before .put-f32 .ensures)
 
 mul-result : tie.Need-mul-result Inv-loop μ-loop
-mul-result c = search needs
+mul-result c = omega arith
 
 add-result : tie.Need-add-result Inv-loop μ-loop
-add-result c = search needs
+add-result c = omega arith
 
 same-length : tie.Need-same-length Inv-loop μ-loop
-same-length c = search needs
+same-length c = put-kept _ _ _ _ _ _ _ (c .before .loop .inv)
 
-returns-3 : tie.Need-returns-3 Inv-loop μ-loop
-returns-3 c = search needs
+returns-2 : tie.Need-returns-2 Inv-loop μ-loop
+returns-2 c = fields-all _ _ _ _ _ _ _ (c .before .loop .inv) (c .loop-test .left)
 
 pub put-f32s-spec : {M : Type 1} → statement M
 put-f32s-spec =
@@ -63,8 +68,8 @@ put-f32s-spec =
     (tie.spec
     Inv-loop
     μ-loop
+    has-room-requires
     returns
-    returns-2
     loop-holds
     mul-put-f32
     add-put-f32
@@ -77,4 +82,4 @@ put-f32s-spec =
     mul-result
     add-result
     same-length
-    returns-3)
+    returns-2)

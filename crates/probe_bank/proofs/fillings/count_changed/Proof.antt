@@ -1,45 +1,49 @@
--- `probe_bank::fillings::count_changed` is safe and ends: no more are counted than places were passed. Assumes nothing.
-use Prim.Native.Nat.{_-_, _≤_}
-use lib.ListN.{length}
-use borrow.Author.Needs.{needs}
+-- `probe_bank::fillings::count_changed` meets its contract: what was counted, and what is left to count, make the whole. Assumes nothing.
+use mathlib.Core.Path.{_≡_}
+use Prim.Native.Nat.{_+_, _-_, _≤_}
+use native.Mathlib.Omega.{arith}
+use lib.Ieee.{nan}
+use lib.ListN.{length, getD}
+use Rattle.probe_bank.specs.Fillings.{countChanged}
+use Rattle.probe_bank.proofs.Changes.{once, count-more, count-none}
 use Rattle.probe_bank.proofs.fillings.count_changed.Statement.{statement}
 use Rattle.probe_bank.proofs.fillings.count_changed.Tie as tie
 
 abbrev Inv-loop : tie.InvT-loop
-Inv-loop list from count₀ i₀ count i = count ≤ i
+Inv-loop list from count₀ i₀ count i = (count ≤ i) × (count + countChanged i list ≡ countChanged from list)
 
 abbrev μ-loop : tie.MeasureT-loop
 μ-loop list from count₀ i₀ count i = length list - i
 
-returns : tie.Need-returns Inv-loop μ-loop
-returns c = search needs
-
 loop-holds : tie.Need-loop-holds Inv-loop μ-loop
-loop-holds c = search needs
+loop-holds c = (omega arith, omega arith)
 
 mul-changed : tie.Need-mul-changed Inv-loop μ-loop
-mul-changed c = search needs
+mul-changed c = omega arith
 
 shared-slice-read-changed : tie.Need-shared-slice-read-changed Inv-loop μ-loop
-shared-slice-read-changed c = search needs
+shared-slice-read-changed c = omega arith
 
 changed-requires : tie.Need-changed-requires Inv-loop μ-loop
-changed-requires c κs = search needs
+changed-requires c κs = omega arith
 
 add-count : tie.Need-add-count Inv-loop μ-loop
-add-count c = search needs
+add-count c = omega (arith, c .changed .ensures, once (c .before .before .before .loop .i) (getD (c .before .before .before .before .before .args .list .now) (c .before .before .before .loop .i) nan))
 
 add-i : tie.Need-add-i Inv-loop μ-loop
-add-i c = search needs
+add-i c = omega arith
 
 loop-less : tie.Need-loop-less Inv-loop μ-loop
-loop-less c = search needs
+loop-less c = omega arith
 
 loop-again : tie.Need-loop-again Inv-loop μ-loop
-loop-again c = search needs
+loop-again c =
+    let list = c .before .before .before .before .before .args .list .now in
+    let i = c .before .before .before .loop .i in
+    omega (arith, c .changed .ensures, once i (getD list i nan), count-more list i (c .before .before .loop-test .taken))
 
-returns-2 : tie.Need-returns-2 Inv-loop μ-loop
-returns-2 c = search needs
+returns : tie.Need-returns Inv-loop μ-loop
+returns c = omega (arith, count-none (c .before .before .before .args .list .now) (c .before .loop .i) (c .loop-test .left))
 
 pub count-changed-spec : {M : Type 1} → statement M
 count-changed-spec =
@@ -47,7 +51,6 @@ count-changed-spec =
     (tie.spec
     Inv-loop
     μ-loop
-    returns
     loop-holds
     mul-changed
     shared-slice-read-changed
@@ -56,4 +59,4 @@ count-changed-spec =
     add-i
     loop-less
     loop-again
-    returns-2)
+    returns)

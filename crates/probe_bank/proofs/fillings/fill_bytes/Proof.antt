@@ -1,49 +1,54 @@
--- `probe_bank::fillings::fill_bytes` is safe and ends: the list keeps its length. Assumes nothing.
+-- `probe_bank::fillings::fill_bytes` meets its contract: `Filling`. Assumes nothing.
 use Prim.Native.Nat.{_-_}
-use mathlib.Core.Path.{_≡_}
+use native.Mathlib.Omega.{arith}
+use denote.Ref.{now}
 use lib.ListN.{length}
+use mathlib.Core.Path.{refl}
 use borrow.Author.Needs.{needs}
+use Rattle.planes.proofs.Filling.{Filling, filling-none, filling-more, filling-whole}
+use Rattle.probe_bank.specs.Fillings.{byteFilling}
 use Rattle.probe_bank.proofs.fillings.fill_bytes.Statement.{statement}
 use Rattle.probe_bank.proofs.fillings.fill_bytes.Tie as tie
 
 abbrev Inv-loop : tie.InvT-loop
-Inv-loop list₀ i₀ list i = length list ≡ length list₀
+Inv-loop list₀ i₀ list i = Filling byteFilling (length list₀) list₀ list i
 
 abbrev μ-loop : tie.MeasureT-loop
 μ-loop list₀ i₀ list i = length list₀ - i
 
-returns : tie.Need-returns Inv-loop μ-loop
-returns c = search needs
-
 loop-holds : tie.Need-loop-holds Inv-loop μ-loop
-loop-holds c = search needs
+loop-holds c = let l = now (c .args .list) in filling-none byteFilling (length l) l
 
 mul-list : tie.Need-mul-list Inv-loop μ-loop
-mul-list c = search needs
+mul-list c = omega arith
 
 add-list : tie.Need-add-list Inv-loop μ-loop
-add-list c = search needs
+add-list c = omega arith
 
 cast-list : tie.Need-cast-list Inv-loop μ-loop
 cast-list c = search needs
 
 slice-write-list : tie.Need-slice-write-list Inv-loop μ-loop
-slice-write-list c = search needs
+slice-write-list c = omega arith
 
 add-i : tie.Need-add-i Inv-loop μ-loop
-add-i c = search needs
+add-i c = omega arith
 
 loop-less : tie.Need-loop-less Inv-loop μ-loop
-loop-less c = search needs
+loop-less c = omega arith
 
 loop-again : tie.Need-loop-again Inv-loop μ-loop
-loop-again c = search needs
+loop-again c =
+    let l = now (c .before .before .args .list) in
+    filling-more byteFilling (length l) l (c .before .loop .list) (c .before .loop .i) _ (c .before .loop .inv) (omega (arith, c .loop-test .taken, c .before .loop .inv .same)) (omega arith) refl
 
 same-length : tie.Need-same-length Inv-loop μ-loop
-same-length c = search needs
+same-length c = c .before .loop .inv .same
 
-returns-2 : tie.Need-returns-2 Inv-loop μ-loop
-returns-2 c = search needs
+returns : tie.Need-returns Inv-loop μ-loop
+returns c =
+    let l = now (c .before .before .args .list) in
+    filling-whole byteFilling (length l) l (c .before .loop .list) (c .before .loop .i) (c .before .loop .inv) (omega (arith, c .loop-test .left, c .before .loop .inv .same)) refl
 
 pub fill-bytes-spec : {M : Type 1} → statement M
 fill-bytes-spec =
@@ -51,7 +56,6 @@ fill-bytes-spec =
     (tie.spec
     Inv-loop
     μ-loop
-    returns
     loop-holds
     mul-list
     add-list
@@ -61,4 +65,4 @@ fill-bytes-spec =
     loop-less
     loop-again
     same-length
-    returns-2)
+    returns)

@@ -1,46 +1,51 @@
--- `probe_bank::fillings::fill_f32s` is safe and ends: the list keeps its length. Assumes nothing.
+-- `probe_bank::fillings::fill_f32s` meets its contract: `Filling`. Assumes nothing.
 use Prim.Native.Nat.{_-_}
-use mathlib.Core.Path.{_≡_}
+use native.Mathlib.Omega.{arith}
+use denote.Ref.{now}
 use lib.ListN.{length}
-use borrow.Author.Needs.{needs}
+use mathlib.Core.Path.{refl}
+use Rattle.planes.proofs.Filling.{Filling, filling-none, filling-more, filling-whole}
+use Rattle.probe_bank.specs.Fillings.{tapFilling}
 use Rattle.probe_bank.proofs.fillings.fill_f32s.Statement.{statement}
 use Rattle.probe_bank.proofs.fillings.fill_f32s.Tie as tie
 
 abbrev Inv-loop : tie.InvT-loop
-Inv-loop list₀ i₀ list i = length list ≡ length list₀
+Inv-loop list₀ i₀ list i = Filling tapFilling (length list₀) list₀ list i
 
 abbrev μ-loop : tie.MeasureT-loop
 μ-loop list₀ i₀ list i = length list₀ - i
 
-returns : tie.Need-returns Inv-loop μ-loop
-returns c = search needs
-
 loop-holds : tie.Need-loop-holds Inv-loop μ-loop
-loop-holds c = search needs
+loop-holds c = let l = now (c .before .args .list) in filling-none tapFilling (length l) l
 
 filling-requires : tie.Need-filling-requires Inv-loop μ-loop
-filling-requires c κs = search needs
+filling-requires c κs = omega arith
 
 mul-list : tie.Need-mul-list Inv-loop μ-loop
-mul-list c = search needs
+mul-list c = omega arith
 
 slice-write-list : tie.Need-slice-write-list Inv-loop μ-loop
-slice-write-list c = search needs
+slice-write-list c = omega arith
 
 add-i : tie.Need-add-i Inv-loop μ-loop
-add-i c = search needs
+add-i c = omega arith
 
 loop-less : tie.Need-loop-less Inv-loop μ-loop
-loop-less c = search needs
+loop-less c = omega arith
 
 loop-again : tie.Need-loop-again Inv-loop μ-loop
-loop-again c = search needs
+loop-again c =
+    let l = now (c .before .before .before .before .args .list) in
+    let turn = c .before .before .loop in
+    filling-more tapFilling (length l) l (turn .list) (turn .i) (c .filling .result) (turn .inv) (omega (arith, c .before .loop-test .taken, turn .inv .same)) (omega arith) (c .filling .ensures)
 
 same-length : tie.Need-same-length Inv-loop μ-loop
-same-length c = search needs
+same-length c = c .before .loop .inv .same
 
-returns-2 : tie.Need-returns-2 Inv-loop μ-loop
-returns-2 c = search needs
+returns : tie.Need-returns Inv-loop μ-loop
+returns c =
+    let l = now (c .before .before .before .args .list) in
+    filling-whole tapFilling (length l) l (c .before .loop .list) (c .before .loop .i) (c .before .loop .inv) (omega (arith, c .loop-test .left, c .before .loop .inv .same)) refl
 
 pub fill-f32s-spec : {M : Type 1} → statement M
 fill-f32s-spec =
@@ -48,7 +53,6 @@ fill-f32s-spec =
     (tie.spec
     Inv-loop
     μ-loop
-    returns
     loop-holds
     filling-requires
     mul-list
@@ -57,4 +61,4 @@ fill-f32s-spec =
     loop-less
     loop-again
     same-length
-    returns-2)
+    returns)

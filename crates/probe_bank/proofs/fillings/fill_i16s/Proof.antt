@@ -1,49 +1,56 @@
--- `probe_bank::fillings::fill_i16s` is safe and ends: the list keeps its length. Assumes nothing.
+-- `probe_bank::fillings::fill_i16s` meets its contract: `Filling`. Assumes nothing.
 use Prim.Native.Nat.{_-_}
-use mathlib.Core.Path.{_≡_}
+use native.Mathlib.Omega.{arith}
+use denote.Ref.{now}
 use lib.ListN.{length}
+use mathlib.Core.Path.{refl}
 use borrow.Author.Needs.{needs}
+use mir.Syntax.{w16}
+use mir.ValLaws.{toZ-pos}
+use Rattle.planes.proofs.Filling.{Filling, filling-none, filling-more, filling-whole}
+use Rattle.probe_bank.specs.Fillings.{azimuthFilling}
 use Rattle.probe_bank.proofs.fillings.fill_i16s.Statement.{statement}
 use Rattle.probe_bank.proofs.fillings.fill_i16s.Tie as tie
 
 abbrev Inv-loop : tie.InvT-loop
-Inv-loop list₀ i₀ list i = length list ≡ length list₀
+Inv-loop list₀ i₀ list i = Filling azimuthFilling (length list₀) list₀ list i
 
 abbrev μ-loop : tie.MeasureT-loop
 μ-loop list₀ i₀ list i = length list₀ - i
 
-returns : tie.Need-returns Inv-loop μ-loop
-returns c = search needs
-
 loop-holds : tie.Need-loop-holds Inv-loop μ-loop
-loop-holds c = search needs
+loop-holds c = let l = now (c .args .list) in filling-none azimuthFilling (length l) l
 
 add-list : tie.Need-add-list Inv-loop μ-loop
-add-list c = search needs
+add-list c = omega arith
 
 cast-list : tie.Need-cast-list Inv-loop μ-loop
 cast-list c = search needs
 
-mul-t8 : tie.Need-mul-t8 Inv-loop μ-loop
-mul-t8 c = search needs
+mul-t6 : tie.Need-mul-t6 Inv-loop μ-loop
+mul-t6 c = omega arith
 
 slice-set-from-list : tie.Need-slice-set-from-list Inv-loop μ-loop
-slice-set-from-list c = search needs
+slice-set-from-list c = omega arith
 
 add-i : tie.Need-add-i Inv-loop μ-loop
-add-i c = search needs
+add-i c = omega arith
 
 loop-less : tie.Need-loop-less Inv-loop μ-loop
-loop-less c = search needs
+loop-less c = omega arith
 
 loop-again : tie.Need-loop-again Inv-loop μ-loop
-loop-again c = search needs
+loop-again c =
+    let l = now (c .before .before .args .list) in
+    filling-more azimuthFilling (length l) l (c .before .loop .list) (c .before .loop .i) _ (c .before .loop .inv) (omega (arith, c .loop-test .taken, c .before .loop .inv .same)) (omega arith) (toZ-pos w16 _ (omega arith))
 
 same-length : tie.Need-same-length Inv-loop μ-loop
-same-length c = search needs
+same-length c = c .before .loop .inv .same
 
-returns-2 : tie.Need-returns-2 Inv-loop μ-loop
-returns-2 c = search needs
+returns : tie.Need-returns Inv-loop μ-loop
+returns c =
+    let l = now (c .before .before .args .list) in
+    filling-whole azimuthFilling (length l) l (c .before .loop .list) (c .before .loop .i) (c .before .loop .inv) (omega (arith, c .loop-test .left, c .before .loop .inv .same)) refl
 
 pub fill-i16s-spec : {M : Type 1} → statement M
 fill-i16s-spec =
@@ -51,14 +58,13 @@ fill-i16s-spec =
     (tie.spec
     Inv-loop
     μ-loop
-    returns
     loop-holds
     add-list
     cast-list
-    mul-t8
+    mul-t6
     slice-set-from-list
     add-i
     loop-less
     loop-again
     same-length
-    returns-2)
+    returns)

@@ -1,0 +1,3 @@
+-- What lent lists are filled with, and what is answered.
+pub mod Fillings
+pub mod Answers

@@ -1,0 +1,44 @@
+-- A reset: what is lent, what is read, and what is put, each from the one before. Assumes nothing.
+use mathlib.Core.Path.{_≡_, ap, _∙_}
+use mathlib.Core.List.{List}
+use Prim.Native.Nat.{ℕ, _+_, _*_, min}
+use native.Mathlib.Omega.{arith}
+use lib.ListN.{length, take}
+use lib.Ieee.{Float}
+use Rattle.big_endian.specs.Bytes.{bytesOf}
+use Rattle.big_endian.specs.Fields.{fieldAt, floatAt}
+use Rattle.big_endian.specs.Lists.{floatBytes}
+use Rattle.desk.specs.declared.Desk.{Desk}
+use Rattle.hrtf.specs.declared.Rested.{Rested}
+use Rattle.hrtf.specs.Reset.{AfterReset, resetOutcome}
+use Rattle.probe_form.specs.Requests.{floatsAt, listAt}
+use Rattle.probe_form.specs.Answers.{Draft, start, none, _then_}
+use Rattle.probe_form.proofs.Answers.{taken, untaken, behind}
+use Rattle.probe_form.proofs.Requests.{inside, lent}
+use Rattle.probe_hrtf.specs.Requests.{deskAt}
+use Rattle.probe_hrtf.specs.Answers.{thenDesk, resetShown, resetBy}
+use Rattle.probe_hrtf.proofs.Putting.{desk-behind}
+
+module _ (args out : List ℕ) (rings : List Float) where
+  pub left : (length args ≡ 34 + 4 * length rings → ⊥) → none out ≡ resetBy (length rings) args out
+  unfolding resetBy
+  left h = untaken (34 + 4 * length rings) args out _ h
+
+  -- the cells and the numbers that are read are those of the request
+  module _ (full : length args ≡ 34 + 4 * length rings) (rings₁ : List Float) (er : rings₁ ≡ listAt floatAt 4 args 34 rings) (d : Desk) (speakers L : ℕ) (ed : d ≡ deskAt args 2)
+      (es : speakers ≡ fieldAt args 18 8) (el : L ≡ fieldAt args 26 8) (p : Rested) (rings₂ : List Float) (is : record { answer = p; rings = rings₂ } ≡ resetOutcome d speakers L rings₁) where
+    asked : record { answer = p; rings = rings₂ } ≡ resetOutcome (deskAt args 2) (fieldAt args 18 8) (fieldAt args 26 8) (floatsAt args 34 (length rings))
+    asked =
+        let r = inside floatAt 4 args 34 rings rings₁ er (omega arith) in
+        is ∙ (λ i. resetOutcome (ed i) (es i) (el i) (r i))
+
+    pub rested : (a b c : Draft) → a ≡ start out then bytesOf 1 (p .refusal) → b ≡ thenDesk a (p .desk) → c ≡ b then floatBytes rings₂ → c ≡ resetBy (length rings) args out
+    unfolding resetShown resetBy
+    rested a b c refusal desk cells =
+        behind (floatBytes rings₂) (desk-behind _ a b (p .desk) refusal desk) cells
+        ∙ ap (λ (o : AfterReset). resetShown o out) asked
+        ∙ taken (34 + 4 * length rings) args out _ full
+
+  pub cells-lent : (r r₀ : ℕ) → r ≡ min r₀ (length rings) → r₀ ≡ fieldAt args 0 2 → (d : Draft) → d ≡ resetBy (length (take r rings)) args out
+      → d ≡ resetBy (min (fieldAt args 0 2) (length rings)) args out
+  cells-lent r r₀ er ar d e = e ∙ ap (λ (k : ℕ). resetBy k args out) (lent r₀ r (fieldAt args 0 2) rings er ar)

@@ -1,0 +1,49 @@
+-- docs/PROBE.md, 'Operations', 1 to 5: the count of the bytes of an answer and what the lent bytes hold with it, in the order of the page. Definitions only.
+use Prim.Native.Nat.{ℕ}
+use mathlib.Core.Bool.{cond}
+use mathlib.Core.List.{List, [], _∷_}
+use lib.Dec.{eqb}
+use lib.Ieee.{Float}
+use Rattle.numbers.specs.Computed as Numbers
+use Rattle.series.specs.Sums.{Wave, sine, cosine}
+use Rattle.angles.specs.Promise as Angles
+use Rattle.big_endian.specs.Bytes.{bytesOf}
+use Rattle.big_endian.specs.Fields.{floatAt, doubleAt}
+use Rattle.big_endian.specs.Lists.{floatBytes, doubleBytes}
+use Rattle.probe_form.specs.Answers.{Draft, start, none, taking, _then_}
+
+-- 1 widen: "f32 (4)", "f64 (8)". Widened, a float is the same number.
+unfoldable pub widenAnswer : List ℕ → List ℕ → Draft
+widenAnswer args out = taking 4 args out (start out then doubleBytes (floatAt args 0 ∷ []))
+
+-- 2 narrow: "f64 (8)", "f32 (4)"
+unfoldable pub narrowAnswer : List ℕ → List ℕ → Draft
+narrowAnswer args out = taking 8 args out (start out then floatBytes (Numbers.narrowed (doubleAt args 0) ∷ []))
+
+-- "refusal (1), f64 (8)"
+unfoldable pub refusalAndValue : ℕ → Float → List ℕ → Draft
+refusalAndValue refusal value out = start out then bytesOf 1 refusal then doubleBytes (value ∷ [])
+
+-- 3 root: "f64 (8)"
+unfoldable pub rootAnswer : List ℕ → List ℕ → Draft
+rootAnswer args out = let r = Numbers.rootAnswer (doubleAt args 0) in taking 8 args out (refusalAndValue (r .refusal) (r .value) out)
+
+-- 4 sine and 5 cosine: "f64, degrees (8)"
+unfoldable pub waveAnswer : Wave → List ℕ → List ℕ → Draft
+waveAnswer wave args out = let r = Angles.outcome wave (doubleAt args 0) in taking 8 args out (refusalAndValue (r .refusal) (r .value) out)
+
+abbrev pub sineAnswer : List ℕ → List ℕ → Draft
+sineAnswer = waveAnswer sine
+
+abbrev pub cosineAnswer : List ℕ → List ℕ → Draft
+cosineAnswer = waveAnswer cosine
+
+-- by the operation, and none to another one
+unfoldable pub answerOf : ℕ → List ℕ → List ℕ → Draft
+answerOf operation args out =
+    cond (eqb operation 1) (widenAnswer args out)
+    (cond (eqb operation 2) (narrowAnswer args out)
+    (cond (eqb operation 3) (rootAnswer args out)
+    (cond (eqb operation 4) (sineAnswer args out)
+    (cond (eqb operation 5) (cosineAnswer args out)
+    (none out)))))

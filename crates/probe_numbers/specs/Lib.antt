@@ -1,0 +1,2 @@
+-- What each operation answers.
+pub mod Answers

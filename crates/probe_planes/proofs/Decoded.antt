@@ -1,0 +1,45 @@
+-- The answer to a decoder block: of the block that `ambisonic_decoder` promises for what the request gives, or none. Assumes nothing.
+use mathlib.Core.Path.{_≡_, ap, _∙_}
+use mathlib.Core.List.{List}
+use Prim.Native.Nat.{ℕ, _+_, _*_}
+use native.Mathlib.Omega.{arith}
+use lib.Ieee.{Float}
+use lib.ListN.{length}
+use Rattle.big_endian.specs.Fields.{fieldAt, floatAt, doubleAt}
+use Rattle.ambisonic_decoder.specs.declared.Decoded.{Decoded}
+use Rattle.ambisonic_decoder.specs.Promise.{Block, block}
+use Rattle.probe_form.specs.Requests.{listAt}
+use Rattle.probe_form.specs.Answers.{Draft, none}
+use Rattle.probe_form.proofs.Answers.{taken, untaken}
+use Rattle.probe_form.proofs.Requests.{inside}
+use Rattle.probe_planes.specs.Answers.{weightsLent, samplesLent, played, decodedAnswer, decodeLent, decodeAnswer}
+
+module _ (args out : List ℕ) where
+  pub decode-plays : (weights inputs planes weighed before after last : List Float) (outputs channels frames stride : ℕ) (r : Decoded) (d : Draft)
+      → length args ≡ 38 + 8 * length weights + 4 * length inputs + 4 * length planes
+      → weighed ≡ listAt doubleAt 8 args 38 weights → before ≡ listAt floatAt 4 args (38 + 8 * length weights) inputs → after ≡ listAt floatAt 4 args (38 + 8 * length weights + 4 * length inputs) planes
+      → outputs ≡ fieldAt args 6 8 → channels ≡ fieldAt args 14 8 → frames ≡ fieldAt args 22 8 → stride ≡ fieldAt args 30 8
+      → record { answer = r; out = last } ≡ block weighed (record { outputs = outputs; channels = channels; frames = frames; stride = stride }) before after
+      → d ≡ played (r .refusal) (r .samples) last out → d ≡ decodedAnswer args (length weights) (length inputs) (length planes) out
+  unfolding decodedAnswer
+  decode-plays weights inputs planes weighed before after last outputs channels frames stride r d long e f g eo ec ef es p q =
+      let w = inside doubleAt 8 args 38 weights weighed e (omega arith) in
+      let i = inside floatAt 4 args (38 + 8 * length weights) inputs before f (omega arith) in
+      let o = inside floatAt 4 args (38 + 8 * length weights + 4 * length inputs) planes after g (omega arith) in
+      q ∙ ap (λ (b : Block). played (b .answer .refusal) (b .answer .samples) (b .out) out)
+      (p ∙ (λ j. block (w j) (record { outputs = eo j; channels = ec j; frames = ef j; stride = es j }) (i j) (o j)))
+
+  module _ (w i o : ℕ) (first : w ≡ weightsLent args 0) (second : i ≡ samplesLent args 2) (third : o ≡ samplesLent args 4) where
+    pub decode-none : (length args ≡ 38 + 8 * w + 4 * i + 4 * o → ⊥) → none out ≡ decodeAnswer args out
+    unfolding decodeAnswer
+    decode-none h = untaken _ args out (decodedAnswer args w i o out) h ∙ (λ j. decodeLent args (first j) (second j) (third j) out)
+
+    -- of parts of the room, as long as they are to be
+    pub decode-some : (d : Draft) (k l m : ℕ) → k ≡ w → l ≡ i → m ≡ o → length args ≡ 38 + 8 * w + 4 * i + 4 * o → d ≡ decodedAnswer args k l m out → d ≡ decodeAnswer args out
+    unfolding decodeAnswer
+    decode-some d k l m p q r h e =
+        e ∙ (λ j. decodedAnswer args (p j) (q j) (r j) out) ∙ taken _ args out (decodedAnswer args w i o out) h
+        ∙ (λ j. decodeLent args (first j) (second j) (third j) out)
+
+pub decode-fits : (n w i o k l m : ℕ) → k ≡ w → l ≡ i → m ≡ o → n ≡ 38 + 8 * w + 4 * i + 4 * o → n ≡ 38 + 8 * k + 4 * l + 4 * m
+decode-fits n w i o k l m p q r h = omega arith

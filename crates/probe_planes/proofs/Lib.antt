@@ -1,0 +1,4 @@
+-- What the requests give and what is answered to them, and that no two answers meet one promise.
+mod Panned
+mod Decoded
+mod Unique

@@ -1,0 +1,11 @@
+-- No two answers meet one promise. Assumes nothing.
+use mathlib.Core.Path.{_≡_}
+use mathlib.Core.List.{List}
+use Prim.Native.Nat.{ℕ}
+use Rattle.refusals.proofs.Determined.{determined}
+use Rattle.probe_form.specs.Answers.{Draft}
+use Rattle.probe_planes.specs.Answers.{answerOf}
+
+-- the count and the bytes, together
+answer-unique : (operation : ℕ) (args out : List ℕ) (a b : Draft) → a ≡ answerOf operation args out → b ≡ answerOf operation args out → a ≡ b
+answer-unique operation args out = determined

@@ -1,0 +1,40 @@
+-- What is answered to requests for setting up the convolver (docs/PROBE.md, operations 19 and 20), in its words and order. Definitions only.
+use Prim.Native.Nat.{ℕ, _+_, _*_}
+use mathlib.Core.Bool.{cond}
+use mathlib.Core.List.{List}
+use lib.Dec.{eqb}
+use Rattle.big_endian.specs.Bytes.{bytesOf}
+use Rattle.big_endian.specs.Fields.{fieldAt}
+use Rattle.big_endian.specs.Lists.{doubleBytes, numberBytes}
+use Rattle.hrtf_setup.specs.Arrangement.{Wanted, Arrangement, arrangement}
+use Rattle.hrtf_setup.specs.Promise.{ofLayout, ofOrder}
+use Rattle.probe_form.specs.Requests.{layoutAt, eightAt, lentBy, signedsAt, doublesAt}
+use Rattle.probe_form.specs.Answers.{Draft, start, none, taking, _then_}
+
+-- "refusal (1), speakers, channels (8 each), the eight rows (8 each), the w weights"
+abbrev pub shown : Arrangement → List ℕ → Draft
+shown o out =
+    start out then bytesOf 1 (o .answer .refusal) then bytesOf 8 (o .answer .speakers) then bytesOf 8 (o .answer .channels) then numberBytes (o .rows) then doubleBytes (o .weights)
+
+-- 19: "layout (9)"; 20: "the same with an order (8) in the layout's place"
+abbrev pub wantedAt : ℕ → List ℕ → Wanted
+wantedAt operation args = cond (eqb operation 19) (ofLayout (layoutAt args 75)) (ofOrder (fieldAt args 75 8))
+
+-- "bank rows (8), the list of eight speakers' rows (8 each)", and behind what is wanted "the a azimuths (2 each), the w weights (f64, 8 each)"
+abbrev pub arrangedAt : ℕ → List ℕ → ℕ → ℕ → ℕ → Arrangement
+arrangedAt operation args at a w = arrangement (wantedAt operation args) (signedsAt args at a) (fieldAt args 3 8) (doublesAt args (at + 2 * a) w) (eightAt args 11)
+
+unfoldable pub arrangedAnswer : ℕ → List ℕ → ℕ → ℕ → ℕ → List ℕ → Draft
+arrangedAnswer operation args at a w out = shown (arrangedAt operation args at a w) out
+
+-- of lists of these lengths from `at` on; no answer where the arguments have another length
+abbrev pub setUpLent : ℕ → List ℕ → ℕ → ℕ → ℕ → List ℕ → Draft
+setUpLent operation args at a w out = taking (at + 2 * a + 8 * w) args out (arrangedAnswer operation args at a w out)
+
+-- "a: azimuths lent (1), w: weights lent (2)", "up to 16 azimuths, [..] 300 weights"
+unfoldable pub setUpAnswer : ℕ → List ℕ → ℕ → List ℕ → Draft
+setUpAnswer operation args at out = setUpLent operation args at (lentBy args 0 1 16) (lentBy args 1 2 300) out
+
+-- the lists stand behind the layout, or behind the order; no other operation is answered here
+abbrev pub answerOf : ℕ → List ℕ → List ℕ → Draft
+answerOf operation args out = cond (eqb operation 19) (setUpAnswer 19 args 84 out) (cond (eqb operation 20) (setUpAnswer 20 args 83 out) (none out))

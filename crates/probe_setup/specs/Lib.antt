@@ -1,0 +1,2 @@
+-- The words of the promises of `probe_setup`.
+pub mod Answers
