@@ -38,10 +38,12 @@ fn orders() {
 }
 
 fn layouts() {
-    for layout in [ChannelLayout::Mono, ChannelLayout::Stereo, ChannelLayout::Custom(0), ChannelLayout::Custom(3), ChannelLayout::Custom(16), ChannelLayout::Custom(17)] {
+    for layout in [ChannelLayout::Mono, ChannelLayout::Stereo, ChannelLayout::AmbisonicFoa, ChannelLayout::Custom(0), ChannelLayout::Custom(3), ChannelLayout::Custom(16), ChannelLayout::Custom(17)] {
         say(&format!("surround panner, {layout:?} at 30"), tried(move || pan(Surround(layout, 30.0), &[1.0f64], vec![vec![9.0]; layout.channel_count()]).concat(), |g| format!("plays, {}", if g.is_empty() { "no channel".to_string() } else { values(&g[..g.len().min(4)]) })));
         say(&format!("decoder matrix, order 1, {layout:?}"), tried(move || decoder_matrix(1, layout), |m| format!("{} rows", m.len())));
     }
+    say("channels of Custom(17)", ChannelLayout::Custom(17).channel_count().to_string());
+    say("channels of order 0", ChannelLayout::ambisonic_channel_count(0).to_string());
     say("convolver for 5 surround channels", tried(|| HrtfConvolver::new_surround(5), |_| "accepted".to_string()));
 }
 
@@ -55,6 +57,9 @@ fn angles() {
     say("order 1 at (NaN, 0)", values(&gains(Ambisonic(1, f64::NAN, 0.0))));
     say("order 1 at (450, 100)", values(&gains(Ambisonic(1, 450.0, 100.0))));
     say("order 1 at (infinity, 0)", values(&gains(Ambisonic(1, f64::INFINITY, 0.0))));
+    for (azimuth, elevation) in [(f64::NAN, 0.0), (450.0, 100.0)] {
+        say(&format!("virtual speaker, order 1 at ({azimuth}, {elevation})"), values(&weighted(1, azimuth, elevation)[..4]));
+    }
     say("5.1 at 0", values(&gains(Surround(ChannelLayout::Surround51, 0.0))));
     say("5.1 at NaN", values(&gains(Surround(ChannelLayout::Surround51, f64::NAN))));
     say("5.1 at 400", values(&gains(Surround(ChannelLayout::Surround51, 400.0))));
@@ -109,6 +114,8 @@ fn blocks() {
     say("panner, 3 frames into planes of 2", format!("plays {}", short[0].iter().filter(|x| **x == 1.0).count()));
     let short = decode(&[&[1.0]], &[vec![1.0; 3]], vec![vec![9.0; 2]]);
     say("decoder, 3 frames into planes of 2", format!("plays {}", short[0].iter().filter(|x| **x == 1.0).count()));
+    say("panner, a stereo position and one plane", values(&pan(Stereo(-100.0), &[1.0f64], vec![vec![9.0]]).concat()));
+    say("decoder, weights for two channels and one plane", value(f64::from(decode(&[&[1.0, 1.0]], &[vec![1.0]], vec![vec![9.0]])[0][0])));
     for weight in [f64::NAN, f64::INFINITY] {
         say(&format!("decoder, weight {weight}, sample 1.0"), value(f64::from(decode(&[&[weight]], &[vec![1.0]], vec![vec![9.0]])[0][0])));
     }
@@ -133,7 +140,11 @@ fn convolver() {
     show("convolver, weight infinity", 1, 1, f64::INFINITY, 1.0);
     show("convolver, tap NaN", 1, 1, 1.0, f32::NAN);
     show("convolver, tap infinity", 1, 1, 1.0, f32::INFINITY);
-    let short = Convolver::new(&[Speaker { weights: vec![1.0], left: vec![1.0], right: vec![1.0] }], 1, 1).process(&[vec![1.0; 3]], [vec![9.0; 3], vec![9.0; 2]]);
+    let one = || Speaker { weights: vec![1.0], left: vec![1.0], right: vec![1.0] };
+    say("convolver, 17 channels", tried(move || Convolver::new(&[one()], 1, 1).process(&vec![vec![1.0]; 17], [vec![9.0], vec![9.0]]), |ears| format!("left {:?}", ears[0])));
+    say("convolver, weights for two channels and one plane", format!("left {:?}", Convolver::new(&[Speaker { weights: vec![1.0, 1.0], ..one() }], 1, 1).process(&[vec![1.0]], [vec![9.0], vec![9.0]])[0]));
+    say("convolver, L 2 and filters of one tap", format!("left {:?}", Convolver::new(&[one()], 1, 2).process(&[vec![1.0; 2]], [vec![9.0; 2], vec![9.0; 2]])[0]));
+    let short = Convolver::new(&[one()], 1, 1).process(&[vec![1.0; 3]], [vec![9.0; 3], vec![9.0; 2]]);
     say("convolver, 3 frames into a left ear of 3 and a right ear of 2", format!("left {:?}", short[0]));
 }
 

@@ -66,9 +66,20 @@ fn case(operation: u8, arguments: Vec<u8>, right: impl Fn() -> Right + 'static) 
     Case { request: request(operation, &arguments), judge: Box::new(move |answer| judge(operation, right(), answer)) }
 }
 
-/// Exactly +0.0.
+/// Exactly +0.0, and the Rust's within 2^-29 of it.
+fn silent_as(rust: Option<f64>) -> Check {
+    Box::new(move |gain| {
+        if gain.to_bits() != 0 {
+            return Err("not 0.0".to_string());
+        }
+        as_the_rust(gain, rust)?;
+        Ok(f64::NEG_INFINITY)
+    })
+}
+
+/// Exactly +0.0, where the Rust has nothing.
 fn silent() -> Check {
-    Box::new(|gain| if gain.to_bits() == 0 { Ok(f64::NEG_INFINITY) } else { Err("not 0.0".to_string()) })
+    silent_as(None)
 }
 
 /// Within 2^-bits of the exact number, and within 2^-29 of the Rust's.
@@ -363,7 +374,7 @@ pub fn surround(random: &mut Random, count: usize, sink: &mut Sink) {
         assert!(Exact::whole(3).over(100).at_most(&sum), "the sum of squares at {azimuth:e} is below 3/100");
         let rust = is_compared(layout, azimuth).then(|| rust::gains(Command::Surround(layout.rust(), azimuth)));
         let gain = |(channel, raw): (usize, Option<Exact>)| match raw {
-            None => silent(),
+            None => silent_as(rust.as_ref().map(|r| r[channel])),
             Some(raw) => {
                 let squares = near_by_squares(square(raw), sum.clone(), SURROUND_BITS, rust.as_ref().map(|r| r[channel]));
                 Box::new(move |g: f64| if g.is_sign_negative() { Err("below zero".to_string()) } else { squares(g) }) as Check

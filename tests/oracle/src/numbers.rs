@@ -22,7 +22,11 @@ fn corners32() -> Vec<u32> {
 pub fn widen(random: &mut Random, count: usize, sink: &mut Sink) {
     let mut patterns: Vec<u32> = (0..count).map(|_| random.bits() as u32).collect();
     let corners = corners32();
-    patterns.extend((0..count.min(corners.len())).map(|_| corners[random.below(corners.len() as u64) as usize]));
+    if count < corners.len() {
+        patterns.extend((0..count).map(|_| corners[random.below(corners.len() as u64) as usize]));
+    } else {
+        patterns.extend(corners);
+    }
     send(sink, patterns.into_iter().map(|bits| exactly(request(WIDEN, &bits.to_be_bytes()), WIDEN, f64_bytes(f64::from(f32::from_bits(bits))).to_vec())));
 }
 
