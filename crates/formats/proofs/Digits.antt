@@ -3,7 +3,7 @@
 use mathlib.Core.Path.{_≡_, refl, sym, ap, _∙_, subst}
 use mathlib.Core.Logic.{_⊎_, inl, inr}
 use Prim.Native.Nat.{ℕ, suc, _+_, _-_, _*_, _/_, _^_, _≤_, _<_}
-use native.Mathlib.Nat.{le-trans, le-of-eq, lt-of-lt-of-le, lt-of-le-of-lt, lt-of-not-le, lt-irrefl, not-le-of-lt, eq-or-lt-of-le, mul-assoc, mul-comm, mul-le-mul-right, lt-of-mul-lt-mul-right, le-of-mul-le-mul-right, mul-div-cancel, add-mul, pow-succ'}
+use native.Mathlib.Nat.{le-trans, le-of-eq, lt-of-lt-of-le, lt-of-le-of-lt, lt-of-not-le, lt-irrefl, eq-or-lt-of-le, mul-assoc, mul-comm, mul-le-mul-right, lt-of-mul-lt-mul-right, le-of-mul-le-mul-right, mul-div-cancel, add-mul, pow-succ'}
 use native.Mathlib.Omega.{arith}
 use lib.Pow.{pow-add, pow-pos, pow-mono, pow-lt, shl-lt}
 use lib.Ieee.{size}
@@ -27,7 +27,7 @@ twice p P = ap (λ (x : ℕ). 2 ^ x) (sym (suc-pred p P)) ∙ pow-succ' 2 (p - 1
 
 -- ---- how many digits a number has, and how many of them are beyond p
 pub size-gt : (n j : ℕ) → 2 ^ j ≤ n → j < size n
-size-gt n j h = lt-of-not-le (λ (g : size n ≤ j). not-le-of-lt (lt-of-lt-of-le (size-lt n) (pow-mono g)) h)
+size-gt n j h = lt-of-not-le (λ (few : size n ≤ j). let below = size-lt n in let most = pow-mono few in omega arith)
 
 pub drop-is : (p w k : ℕ) → 0 < p → w < 2 ^ (p + k) → (k ≡ 0) ⊎ (2 ^ (p - 1 + k) ≤ w) → size w - p ≡ k
 drop-is p w k P h (inl z) = few (size w) p k z (size-le w (p + k) h)
