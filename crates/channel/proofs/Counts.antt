@@ -1,45 +1,19 @@
--- A number of channels is refused with 2 exactly where it is 0 or above 16; and what a caller learns from a count, of a layout or of an order. Assumes nothing.
+-- How many channels a layout has, by the test of their number; what a caller learns from a count, of a layout or of an order; and what holds of 5.1 and 7.1. Assumes nothing.
 use mathlib.Core.Path.{_≡_, refl, sym, ap, _∙_}
-use mathlib.Core.Bool.{Bool, true, false, _||_, cond, false≢true}
-use Prim.Native.Nat.{ℕ, zero, suc, _≤_, _<_}
-use native.Mathlib.Omega.{arith}
-use borrow.Author.Tests.{lt-ltb, le-ltb, eq-eqb, ne-eqb, eqb-false, ltb-false}
-use lib.Dec.{eqb, ltb, lit<, lit≤}
-use Rattle.refusals.proofs.First.{goes-on, passed, or-off}
+use mathlib.Core.Bool.{Bool, true, false, cond, false≢true}
+use Prim.Native.Nat.{ℕ, suc, _≤_, _<_}
+use lib.Dec.{lit<, lit≤}
+use Rattle.refusals.proofs.First.{goes-on, passed}
 use Rattle.channel.specs.Layouts.{countedBy, channelsOf, uncountable, counted, surround}
 use Rattle.channel.specs.declared.Layout.{Layout}
 use Rattle.channel.specs.declared.Layout.the-variants.{Mono, Stereo, Surround51, Surround71, Custom}
 use Rattle.channel.specs.declared.Counted.{Counted}
 
-abbrev answer : ℕ → ℕ → Counted
-answer r n = record { refusal = r; channels = n }
-
--- n is how many the layout would have
-module _ (l : Layout) (n : ℕ) (e : n ≡ channelsOf l) where
-  -- by whether n is refused
-  abbrev pick : Bool → Counted
-  pick b = record { refusal = cond b 2 0; channels = cond b 0 n }
-
-  is : pick (uncountable n) ≡ counted l
-  is = ap (λ (k : ℕ). countedBy 2 (uncountable k) k) e
-
-  pub none : n ≡ 0 → answer 2 0 ≡ counted l
-  none z = sym (ap (λ (b : Bool). pick (b || ltb 16 n)) (eq-eqb n 0 z)) ∙ is
-
-  pub too-many : (n ≡ 0 → ⊥) → 16 < n → answer 2 0 ≡ counted l
-  too-many z h = sym (ap (λ (b : Bool). pick (b || ltb 16 n)) (ne-eqb n 0 z) ∙ ap pick (lt-ltb 16 n h)) ∙ is
-
-  pub some : (n ≡ 0 → ⊥) → n ≤ 16 → answer 0 n ≡ counted l
-  some z h = sym (ap (λ (b : Bool). pick (b || ltb 16 n)) (ne-eqb n 0 z) ∙ ap pick (le-ltb 16 n h)) ∙ is
+-- n is how many the layout would have, and b whether that is refused
+pub layout-counted : (l : Layout) (n : ℕ) (b : Bool) → n ≡ channelsOf l → uncountable n ≡ b → countedBy 2 b n ≡ counted l
+layout-counted l n b e h = ap (λ (t : Bool). countedBy 2 t n) (sym h) ∙ ap (λ (k : ℕ). countedBy 2 (uncountable k) k) e
 
 -- ---- what a caller learns from a count
-
-pub in-range : (n : ℕ) → uncountable n ≡ false → (1 ≤ n) × (n ≤ 16)
-in-range n h = (some-left n (eqb-false n 0 (or-off (eqb n 0) (ltb 16 n) h .0)), ltb-false 16 n (or-off (eqb n 0) (ltb 16 n) h .1))
-  where
-    some-left : (n : ℕ) → (n ≡ 0 → ⊥) → 1 ≤ n
-    some-left zero h = absurd (h refl)
-    some-left (suc n) h = omega arith
 
 -- by whether it was refused, with a number above 0
 module _ (r : ℕ) (refused : Bool) (n : ℕ) (c : Counted) (e : c ≡ countedBy (suc r) refused n) where

@@ -1,14 +1,14 @@
 // Layouts (document 01, item 2, from channel.rs): the five layouts, how many channels each has, and where their
-// speakers stand; and the ambisonic orders, with the channels of each. One table an angle comes from: the
+// speakers stand; and the ambisonic orders, with the channels of each. Every angle comes from one table: the
 // panner, the decoder, the virtual speakers and the choice of filters all read it here, in degrees as an
-// f64 or in whole tenths of a degree. One test of an order, for every crate that is given one.
+// f64 or in whole tenths of a degree. One test of an order serves every crate that is given one.
 //
 // Every function takes any input, and its answer is a definition of it (specs/Layouts.antt and
 // specs/Orders.antt, which say document 01). Under it lies `refusals`.
 ghost use mathlib.Core.Path.{_≡_};
 ghost use lib.IntN.{pos};
 ghost use lib.ListN.{getD};
-ghost use Rattle.channel.specs.Layouts.{channelsOf, counted, surround, lowFrequency, speakers, positions, degreesOf, azimuthOf, tenthsOf, positionAzimuth, positionTenths};
+ghost use Rattle.channel.specs.Layouts.{channelsOf, counted, surround, lowFrequency, degreesOf, azimuthOf, tenthsOf, positionAzimuth, positionTenths};
 ghost use Rattle.channel.specs.Orders.{refusesOrder, countedOrder};
 
 pub enum Layout {
@@ -42,13 +42,7 @@ pub fn channel_count(layout: Layout) -> Counted
     ensures { λ r. ⌜ r ≡ counted layout ⌝ }
 {
     let n = channels(layout);
-    if n == 0 {
-        return Counted {
-            refusal: 2,
-            channels: 0,
-        };
-    }
-    if 16 < n {
+    if refusals::is_outside(n, 16) {
         return Counted {
             refusal: 2,
             channels: 0,
@@ -64,7 +58,7 @@ pub fn channel_count(layout: Layout) -> Counted
 pub fn refuses_order(order: usize) -> bool
     ensures { λ r. ⌜ r ≡ refusesOrder order ⌝ }
 {
-    order < 1 || 3 < order
+    refusals::is_outside(order, 3)
 }
 
 // How many channels an ambisonic order has; 1 for what is no order.
@@ -114,41 +108,25 @@ const SURROUND_71: [i32; 8] = [30, -30, 0, 0, 90, -90, 150, -150];
 
 const POSITIONS: [i32; 8] = [0, 45, 90, 135, 180, -135, -90, -45];
 
-fn stereo(channel: usize) -> i32
-    ensures { λ r. ⌜ r ≡ getD (speakers Layout.Stereo) channel (pos 0) ⌝ }
+// Entry i of a table; 0 beyond its end.
+fn entry(table: &[i32], i: usize) -> i32
+    ensures { λ r. ⌜ r ≡ getD (now (table .entry)) i (pos 0) ⌝ }
 {
-    if channel < 2 {
-        return STEREO[channel];
+    if i < table.len() {
+        return table[i];
     }
     0
 }
 
-fn surround_51(channel: usize) -> i32
-    ensures { λ r. ⌜ r ≡ getD (speakers Layout.Surround51) channel (pos 0) ⌝ }
-{
-    if channel < 6 {
-        return SURROUND_51[channel];
-    }
-    0
-}
-
-fn surround_71(channel: usize) -> i32
-    ensures { λ r. ⌜ r ≡ getD (speakers Layout.Surround71) channel (pos 0) ⌝ }
-{
-    if channel < 8 {
-        return SURROUND_71[channel];
-    }
-    0
-}
-
-// Where a speaker stands, in degrees; 0 for a channel that the layout does not have.
+// Where a speaker stands, in degrees; 0 for a channel that the layout does not have, and for those of a
+// Custom layout, which are computed.
 fn degrees(layout: Layout, channel: usize) -> i32
     ensures { λ r. ⌜ r ≡ degreesOf layout channel ⌝ }
 {
     match layout {
-        Layout::Stereo => stereo(channel),
-        Layout::Surround51 => surround_51(channel),
-        Layout::Surround71 => surround_71(channel),
+        Layout::Stereo => entry(&STEREO, channel),
+        Layout::Surround51 => entry(&SURROUND_51, channel),
+        Layout::Surround71 => entry(&SURROUND_71, channel),
         Layout::Mono => 0,
         Layout::Custom(_) => 0,
     }
@@ -168,25 +146,16 @@ pub fn speaker_tenths(layout: Layout, channel: usize) -> i32
     degrees(layout, channel) * 10
 }
 
-fn position(i: usize) -> i32
-    ensures { λ r. ⌜ r ≡ getD positions i (pos 0) ⌝ }
-{
-    if i < 8 {
-        return POSITIONS[i];
-    }
-    0
-}
-
 // Where virtual speaker i stands, in degrees; 0 beyond the eight.
 pub fn position_azimuth(i: usize) -> f64
     ensures { λ r. ⌜ r ≡ positionAzimuth i ⌝ }
 {
-    position(i) as f64
+    entry(&POSITIONS, i) as f64
 }
 
 // The same in whole tenths.
 pub fn position_tenths(i: usize) -> i32
     ensures { λ r. ⌜ r ≡ positionTenths i ⌝ }
 {
-    position(i) * 10
+    entry(&POSITIONS, i) * 10
 }

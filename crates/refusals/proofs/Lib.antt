@@ -1,3 +1,6 @@
 -- Laws that a caller's proof cites.
 pub mod First
+pub mod Chains
+pub mod Counts
 pub mod Determined
+mod Unique

@@ -19,6 +19,6 @@ abbrev pub firstOf : List Check → ℕ
 firstOf [] = 0
 firstOf (c ∷ cs) = cond (c .holds) (c .number) (firstOf cs)
 
--- a count is not 1..top: "Custom n is 0 or above 16", "speakers or bank rows are not 1..8", "channels not 1..16", "L is 0 or above 512"
+-- a count is not 1..top: "ambisonic order is not 1, 2 or 3", "Custom n is 0 or above 16", "speakers or bank rows are not 1..8", "channels not 1..16", "L is 0 or above 512"
 abbrev pub outside : ℕ → ℕ → Bool
 outside n top = eqb n 0 || ltb top n

@@ -4,7 +4,6 @@ use mathlib.Core.Bool.{true}
 use mathlib.Core.List.{List, _∷_}
 use lib.IntN.{ℤ, pos}
 use lib.ListN.{length}
-use Rattle.bank_form.specs.Bank.{within}
 use Rattle.row_choice.specs.declared.Choice.{Choice}
 use Rattle.row_choice.specs.Choice.{inTenths, choiceRefusal, choiceOf, Chooses}
 use Rattle.row_choice.specs.Nearest.{apart}
@@ -13,7 +12,7 @@ use Rattle.row_choice.specs.NearestComputed.{nearer, nearestFrom}
 -- a list of 8 that starts with rows at 0 and 450; what stands beyond the two rows does not count
 module _ (rest : List ℤ) (six : length rest ≡ 6) (r : Choice) where
   accepted : (p : ℤ) → inTenths p ≡ true → choiceRefusal (pos 0 ∷ pos 450 ∷ rest) 2 p ≡ 0
-  unfolding choiceRefusal within
+  unfolding choiceRefusal
   accepted p h = rw (h, six)
 
   pub drill-tie : Chooses (pos 0 ∷ pos 450 ∷ rest) 2 (pos 225) r → r ≡ record { refusal = 0; row = 0 }

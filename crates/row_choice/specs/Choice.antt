@@ -8,8 +8,7 @@ use lib.Dec.{eqb}
 use lib.IntN.{ℤ, pos, negsuc}
 use lib.ListN.{length}
 use lib.Signed.{leZ}
-use Rattle.refusals.specs.Refusals.{_when_, firstOf}
-use Rattle.bank_form.specs.Bank.{within}
+use Rattle.refusals.specs.Refusals.{_when_, firstOf, outside}
 use Rattle.row_choice.specs.declared.Choice.{Choice}
 use Rattle.row_choice.specs.Nearest.{Takes}
 use Rattle.row_choice.specs.NearestComputed.{nearestFrom}
@@ -19,7 +18,7 @@ unfoldable pub inTenths : ℤ → Bool
 inTenths p = leZ (negsuc 1799) p && leZ p (pos 1800)
 
 unfoldable pub choiceRefusal : List ℤ → ℕ → ℤ → ℕ
-choiceRefusal zs n p = firstOf (2 when not (within 1 8 n) ∷ 3 when not (inTenths p) ∷ 5 when not (eqb (length zs) 8) ∷ [])
+choiceRefusal zs n p = firstOf (2 when outside n 8 ∷ 3 when not (inTenths p) ∷ 5 when not (eqb (length zs) 8) ∷ [])
 
 unfoldable pub choiceOf : List ℤ → ℕ → ℤ → Choice
 choiceOf zs n p = cond (eqb (choiceRefusal zs n p) 0) (record { refusal = 0; row = nearestFrom zs p 0 1 (n - 1) }) (record { refusal = choiceRefusal zs n p; row = 0 })

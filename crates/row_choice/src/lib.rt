@@ -1,7 +1,8 @@
 // Row choice (document 01, 'Filter bank file', its second paragraph): which row of a filter bank a
 // speaker takes. It takes any input. Its promise: the row is among the first rows, none of them is
 // nearer to the speaker, and each that comes before it is farther; where there is no such row to be
-// had, the number of the refusal and row 0. Under it lie the form of the bank and the refusals.
+// had, the number of the refusal and row 0. Under it lie `big_endian` (signed numbers and their bits)
+// and `refusals`.
 ghost use mathlib.Core.Path.{_≡_};
 ghost use Prim.Native.Nat.{_-_, _<_, _≤_, _%_, min};
 ghost use lib.ListN.{length};
@@ -87,10 +88,7 @@ fn nearest(azimuths: &[i16], n: usize, speaker: i16) -> usize
 pub fn nearest_row(azimuths: &[i16], rows: usize, speaker: i16) -> Choice
     ensures { λ r. ⌜ Chooses (now (azimuths .entry)) rows speaker r ⌝ }
 {
-    if rows < 1 {
-        return unchosen(2);
-    }
-    if 8 < rows {
+    if refusals::is_outside(rows, 8) {
         return unchosen(2);
     }
     if speaker < -1800 {

@@ -3,7 +3,8 @@ use mathlib.Core.Path.{_≡_, sym, _∙_}
 use mathlib.Core.Bool.{true, false}
 use native.Mathlib.Omega.{arith}
 use Rattle.channel.specs.Orders.{refusesOrder}
-use Rattle.channel.proofs.Orders.{small, few-channels, order-counted}
+use Rattle.refusals.proofs.Counts.{not-outside}
+use Rattle.channel.proofs.Orders.{few-channels, order-counted}
 use borrow.Author.Needs.{needs}
 use Rattle.channel.proofs.ambisonic_channel_count.Statement.{statement}
 use Rattle.channel.proofs.ambisonic_channel_count.Tie as tie
@@ -19,10 +20,10 @@ order-in : (c : tie.Else1) → refusesOrder (c .before .before .args .order) ≡
 order-in c = sym (c .before .refuses-order .ensures) ∙ c .if1 .left
 
 add-t3 : tie.Need-add-t3
-add-t3 c = omega (arith, small (c .before .before .args .order) (order-in c))
+add-t3 c = omega (arith, not-outside (c .before .before .args .order) 3 (order-in c) .1)
 
 add-t4 : tie.Need-add-t4
-add-t4 c = omega (arith, small (c .before .before .args .order) (order-in c))
+add-t4 c = omega (arith, not-outside (c .before .before .args .order) 3 (order-in c) .1)
 
 mul-t5 : tie.Need-mul-t5
 mul-t5 c = omega (arith, few-channels (c .before .before .args .order) (order-in c) .1)

@@ -11,20 +11,29 @@ use Rattle.channel.proofs.degrees.Tie as tie
 enum-told : tie.Need-enum-told
 enum-told c = search needs
 
-stereo-requires : tie.Need-stereo-requires
-stereo-requires c κs = search needs
+slice-aggregate-entry : tie.Need-slice-aggregate-entry
+slice-aggregate-entry c = search needs
+
+entry-requires : tie.Need-entry-requires
+entry-requires c κs = search needs
 
 enum-told-2 : tie.Need-enum-told-2
 enum-told-2 c = search needs
 
-surround-51-requires : tie.Need-surround-51-requires
-surround-51-requires c κs = search needs
+slice-aggregate-entry-2 : tie.Need-slice-aggregate-entry-2
+slice-aggregate-entry-2 c = search needs
+
+entry-requires-2 : tie.Need-entry-requires-2
+entry-requires-2 c κs = search needs
 
 enum-told-3 : tie.Need-enum-told-3
 enum-told-3 c = search needs
 
-surround-71-requires : tie.Need-surround-71-requires
-surround-71-requires c κs = search needs
+slice-aggregate-entry-3 : tie.Need-slice-aggregate-entry-3
+slice-aggregate-entry-3 c = search needs
+
+entry-requires-3 : tie.Need-entry-requires-3
+entry-requires-3 c κs = search needs
 
 enum-told-4 : tie.Need-enum-told-4
 enum-told-4 c = search needs
@@ -33,13 +42,13 @@ enum-told-5 : tie.Need-enum-told-5
 enum-told-5 c = search needs
 
 returns : tie.Need-returns
-returns c = let s = c .before .before .before in read (s .args .layout) Stereo (s .args .channel) (c .stereo .result) (c .before .enum-told .given .1) (c .stereo .ensures)
+returns c = let s = c .before .before .before .before in read (s .args .layout) Stereo (s .args .channel) (c .entry .result) (c .before .before .enum-told .given .1) (c .entry .ensures)
 
 returns-2 : tie.Need-returns-2
-returns-2 c = let s = c .before .before .before in read (s .args .layout) Surround51 (s .args .channel) (c .surround-51 .result) (c .before .enum-told2 .given .1) (c .surround-51 .ensures)
+returns-2 c = let s = c .before .before .before .before in read (s .args .layout) Surround51 (s .args .channel) (c .entry2 .result) (c .before .before .enum-told2 .given .1) (c .entry2 .ensures)
 
 returns-3 : tie.Need-returns-3
-returns-3 c = let s = c .before .before .before in read (s .args .layout) Surround71 (s .args .channel) (c .surround-71 .result) (c .before .enum-told3 .given .1) (c .surround-71 .ensures)
+returns-3 c = let s = c .before .before .before .before in read (s .args .layout) Surround71 (s .args .channel) (c .entry3 .result) (c .before .before .enum-told3 .given .1) (c .entry3 .ensures)
 
 returns-4 : tie.Need-returns-4
 returns-4 c = let s = c .before .before in mono (s .args .layout) (s .args .channel) (c .enum-told4 .given .1)
@@ -52,11 +61,14 @@ degrees-spec =
     tie.close
     (tie.spec
     enum-told
-    stereo-requires
+    slice-aggregate-entry
+    entry-requires
     enum-told-2
-    surround-51-requires
+    slice-aggregate-entry-2
+    entry-requires-2
     enum-told-3
-    surround-71-requires
+    slice-aggregate-entry-3
+    entry-requires-3
     enum-told-4
     enum-told-5
     returns

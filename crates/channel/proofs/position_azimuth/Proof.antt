@@ -4,14 +4,17 @@ use borrow.Author.Needs.{needs}
 use Rattle.channel.proofs.position_azimuth.Statement.{statement}
 use Rattle.channel.proofs.position_azimuth.Tie as tie
 
-position-requires : tie.Need-position-requires
-position-requires c κs = search needs
+slice-aggregate-entry : tie.Need-slice-aggregate-entry
+slice-aggregate-entry c = search needs
+
+entry-requires : tie.Need-entry-requires
+entry-requires c κs = search needs
 
 int-to-float-result : tie.Need-int-to-float-result
 int-to-float-result c = search needs
 
 returns : tie.Need-returns
-returns c = as-float (c .before .position .result) _ (c .before .position .ensures) (position-turned (c .before .before .args .i))
+returns c = as-float (c .before .entry .result) _ (c .before .entry .ensures) (position-turned (c .before .before .before .args .i))
 
 pub position-azimuth-spec : {M : Type 1} → statement M
-position-azimuth-spec = tie.close (tie.spec position-requires int-to-float-result returns)
+position-azimuth-spec = tie.close (tie.spec slice-aggregate-entry entry-requires int-to-float-result returns)

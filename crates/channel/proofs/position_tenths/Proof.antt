@@ -4,14 +4,17 @@ use borrow.Author.Needs.{needs}
 use Rattle.channel.proofs.position_tenths.Statement.{statement}
 use Rattle.channel.proofs.position_tenths.Tie as tie
 
-position-requires : tie.Need-position-requires
-position-requires c κs = search needs
+slice-aggregate-entry : tie.Need-slice-aggregate-entry
+slice-aggregate-entry c = search needs
+
+entry-requires : tie.Need-entry-requires
+entry-requires c κs = search needs
 
 mul-result : tie.Need-mul-result
-mul-result c = tenths-held (c .position .result) _ (c .position .ensures) (position-turned (c .before .args .i))
+mul-result c = tenths-held (c .entry .result) _ (c .entry .ensures) (position-turned (c .before .before .args .i))
 
 returns : tie.Need-returns
-returns c = in-tenths (c .position .result) _ (c .position .ensures) (position-turned (c .before .args .i))
+returns c = in-tenths (c .entry .result) _ (c .entry .ensures) (position-turned (c .before .before .args .i))
 
 pub position-tenths-spec : {M : Type 1} → statement M
-position-tenths-spec = tie.close (tie.spec position-requires mul-result returns)
+position-tenths-spec = tie.close (tie.spec slice-aggregate-entry entry-requires mul-result returns)

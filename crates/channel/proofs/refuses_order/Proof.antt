@@ -1,14 +1,13 @@
 -- `channel::refuses_order` meets its contract. Assumes nothing.
-use native.Mathlib.Omega.{arith}
-use Rattle.channel.proofs.Orders.{below-one, from-one}
+use borrow.Author.Needs.{needs}
 use Rattle.channel.proofs.refuses_order.Statement.{statement}
 use Rattle.channel.proofs.refuses_order.Tie as tie
 
-returns : tie.Need-returns
-returns c = below-one (c .before .args .order) (omega arith)
+is-outside-requires : tie.Need-is-outside-requires
+is-outside-requires c κs = search needs
 
-returns-2 : tie.Need-returns-2
-returns-2 c = from-one (c .before .args .order) (omega arith)
+returns : tie.Need-returns
+returns c = c .is-outside .ensures
 
 pub refuses-order-spec : {M : Type 1} → statement M
-refuses-order-spec = tie.close (tie.spec returns returns-2)
+refuses-order-spec = tie.close (tie.spec is-outside-requires returns)
