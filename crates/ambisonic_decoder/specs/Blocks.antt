@@ -8,8 +8,9 @@ use lib.Dec.{eqb}
 use lib.ListN.{length}
 use lib.Ieee.{Float}
 use Rattle.refusals.specs.Refusals.{firstOf, _when_, outside}
-use Rattle.planes.specs.Tables.{tab, unsound}
-use Rattle.planes.specs.Planes.{blockUnfit, frameAt}
+use Rattle.checks.specs.Tables.{tab, unsound}
+use Rattle.checks.specs.Lengths.{blockUnfit}
+use Rattle.planes.specs.Planes.{frameAt}
 use Rattle.planes.specs.Sums.{mixedAll}
 use Rattle.ambisonic_decoder.specs.declared.Shape.{Shape}
 

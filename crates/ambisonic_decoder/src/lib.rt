@@ -6,7 +6,7 @@
 // count and the output planes: frame n of the outputs holds document 01's ordered sum of frame n of the
 // inputs, for each output, narrowed.
 //
-// Under it lie `planes` (the ordered sum, frames with a stride, the tests) and `refusals`.
+// Under it lie `planes` (the ordered sum, frames with a stride), `checks` (the tests) and `refusals`.
 ghost use mathlib.Core.Path.{_≡_};
 ghost use Prim.Native.Nat.{_≤_};
 ghost use Rattle.planes.specs.Planes.{withFrames};
@@ -33,26 +33,26 @@ fn is_misfit(shape: Shape, weights: usize, inputs: usize, out: usize) -> bool
 {
     let outputs = shape.outputs;
     let channels = shape.channels;
-    if planes::is_block_unfit(inputs, channels, out, outputs, shape.stride, shape.frames) {
+    if checks::is_block_unfit(inputs, channels, out, outputs, shape.stride, shape.frames) {
         return true;
     }
-    !planes::is_product(weights, outputs, channels)
+    !checks::is_product(weights, outputs, channels)
 }
 
 // The first number whose test holds, or 0.
 fn refusal_of(shape: Shape, weights: &[f64], inputs: usize, out: usize) -> u8
     ensures { λ r. ⌜ r ≡ refusalOf shape (now (weights .entry)) inputs out ⌝ }
 {
-    if planes::is_outside(shape.outputs, 16) {
+    if refusals::is_outside(shape.outputs, 16) {
         return 2;
     }
-    if planes::is_outside(shape.channels, 16) {
+    if refusals::is_outside(shape.channels, 16) {
         return 2;
     }
     if is_misfit(shape, weights.len(), inputs, out) {
         return 5;
     }
-    if planes::unsound_f64(weights) {
+    if checks::unsound_f64(weights) {
         return 7;
     }
     0

@@ -6,9 +6,9 @@ use mathlib.Core.Path.{_≡_, refl, sym, ap, _∙_}
 use mathlib.Core.List.{List}
 use lib.ListN.{length, length-set}
 use lib.Ieee.{Float}
-use Rattle.planes.specs.Tables.{tab}
+use Rattle.checks.specs.Tables.{tab}
 use Rattle.planes.specs.Planes.{withSample, withFrameFrom, withFrame, withFrames}
-use Rattle.planes.proofs.Tables.{tab-more, tab-none, tab-all}
+use Rattle.checks.proofs.Tables.{tab-more, tab-none, tab-all}
 use Rattle.planes.proofs.Planes.{length-with-frame}
 
 -- samples 0 to p of the function f are put as one frame

@@ -1,12 +1,9 @@
--- Laws that crates above cite: of lists and tables, filled place by place or not, of chains of tests, of planes and of ordered sums. Then those of this crate's loops, and that no two answers meet one promise.
-pub mod Lists
-pub mod Tables
-pub mod Checks
+-- Laws that crates above cite: of planes, of ordered sums, and of loops that put samples and frames. Then those of this crate's loops, answers that the promise refutes, and that no two answers meet one promise.
 pub mod Planes
 pub mod Sums
 pub mod Silence
 pub mod Framing
-pub mod Filling
-mod Tests
+mod Places
 mod Mixing
+mod Refuted
 mod Unique

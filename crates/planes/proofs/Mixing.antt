@@ -1,4 +1,4 @@
--- What the loops of `mix` and `mix_frame` keep: the sum so far, gone on with over the channels that are left, and the frames so far, gone on with over the outputs that are left. Assumes nothing.
+-- What the loop of `mix` keeps: the sum so far, gone on with over the channels that are left. And what `mix_frame` puts: the sum over a row of the weights, which is handed on as a part. Assumes nothing.
 use mathlib.Core.Path.{_≡_, refl, sym, ap, _∙_}
 use mathlib.Core.List.{List}
 use Prim.Native.Nat.{ℕ, _+_, _-_, _*_, _≤_, _<_, min, zero-le}
@@ -8,12 +8,11 @@ use native.Mathlib.Omega.{arith}
 use lib.ListN.{length, getD, take, drop, length-take, length-drop}
 use lib.Ieee.{Float, nan, binary64, add, mul}
 use Rattle.numbers.specs.Computed.{narrowed, zero-float}
-use Rattle.planes.specs.Tables.{row}
-use Rattle.planes.specs.Planes.{sampleAt, frameAt, withSample, withFrame}
-use Rattle.planes.specs.Sums.{dot, mixed, mixedAll}
-use Rattle.planes.proofs.Lists.{getD-min, drop-min, take-min}
-use Rattle.planes.proofs.Tables.{length-tab, getD-tab, take-tab}
-use Rattle.planes.proofs.Framing.{Sampling, sampling-none, sampling-more, sampling-all}
+use Rattle.checks.specs.Tables.{row}
+use Rattle.planes.specs.Planes.{sampleAt, frameAt}
+use Rattle.planes.specs.Sums.{dot, mixed}
+use Rattle.checks.proofs.Lists.{getD-min, drop-min, take-min}
+use Rattle.checks.proofs.Tables.{length-tab, getD-tab, take-tab}
 use Rattle.planes.proofs.Sums.{dot-more, dot-done, dot-take}
 
 -- ---- the loop over channels
@@ -67,26 +66,12 @@ mixed-row n i weights inputs stride frame =
 -- ---- the loop over outputs
 
 -- output o of a frame
-abbrev output : List Float → ℕ → List Float → ℕ → ℕ → ℕ → Float
+abbrev pub output : List Float → ℕ → List Float → ℕ → ℕ → ℕ → Float
 output weights channels inputs stride frame o = mixed (row channels o weights) (frameAt inputs stride channels frame)
 
-abbrev pub Laying : List Float → ℕ → ℕ → ℕ → List Float → ℕ → List Float → ℕ → ℕ → List Float → ℕ → Type 0
-Laying out₀ stride₁ frame₁ outputs weights channels inputs stride frame = Sampling out₀ stride₁ frame₁ outputs (output weights channels inputs stride frame)
-
-module _ (out₀ : List Float) (stride₁ frame₁ outputs : ℕ) (weights : List Float) (channels : ℕ) (inputs : List Float) (stride frame : ℕ) where
-  pub laying-none : Laying out₀ stride₁ frame₁ outputs weights channels inputs stride frame out₀ 0
-  laying-none = sampling-none out₀ stride₁ frame₁ outputs (output weights channels inputs stride frame)
-
-  pub laying-more : (out : List Float) (o from to : ℕ) (x : Float) (out₁ : List Float) → Laying out₀ stride₁ frame₁ outputs weights channels inputs stride frame out o → o < outputs
-      → from ≡ min (o * channels + 0) (length weights) → to ≡ min (from + channels) (length weights)
-      → x ≡ mixed (take (to - from) (drop from weights)) (frameAt inputs stride (length (take (to - from) (drop from weights))) frame)
-      → out₁ ≡ withSample out stride₁ o frame₁ x
-      → Laying out₀ stride₁ frame₁ outputs weights channels inputs stride frame out₁ (o + 1)
-  laying-more out o from to x out₁ l h ef et ex eo =
-      sampling-more out₀ stride₁ frame₁ outputs (output weights channels inputs stride frame) out o l x out₁ h
-      (ex ∙ ap (λ (ws : List Float). mixed ws (frameAt inputs stride (length ws) frame)) (row-part channels o weights from to ef et) ∙ mixed-row channels o weights inputs stride frame)
-      eo
-
-  pub laying-all : (out : List Float) (o : ℕ) → Laying out₀ stride₁ frame₁ outputs weights channels inputs stride frame out o → outputs ≤ o
-      → out ≡ withFrame out₀ stride₁ frame₁ (mixedAll outputs channels weights (frameAt inputs stride channels frame))
-  laying-all = sampling-all out₀ stride₁ frame₁ outputs (output weights channels inputs stride frame)
+pub output-is : (weights : List Float) (channels : ℕ) (inputs : List Float) (stride frame o from to : ℕ) (x : Float) → from ≡ min (o * channels + 0) (length weights)
+    → to ≡ min (from + channels) (length weights)
+    → x ≡ mixed (take (to - from) (drop from weights)) (frameAt inputs stride (length (take (to - from) (drop from weights))) frame)
+    → x ≡ output weights channels inputs stride frame o
+output-is weights channels inputs stride frame o from to x ef et ex =
+    ex ∙ ap (λ (ws : List Float). mixed ws (frameAt inputs stride (length ws) frame)) (row-part channels o weights from to ef et) ∙ mixed-row channels o weights inputs stride frame

@@ -1,45 +1,29 @@
 -- Laws of planes: a frame that was written is read back, and everything else is as it was. Assumes nothing.
 use mathlib.Core.Path.{_≡_, refl, sym, ap, _∙_}
-use mathlib.Core.Logic.{⊎-elim}
 use mathlib.Core.List.{List, [], _∷_}
-use Prim.Native.Nat.{ℕ, zero, suc, _+_, _*_, _≤_, _<_, suc-le-suc}
+use Prim.Native.Nat.{ℕ, zero, suc, _+_, _*_, _/_, _%_, _≤_, _<_, suc-le-suc}
 use native.Mathlib.Nat.{not-suc-le-zero, le-of-suc-le-suc, add-zero, zero-add, suc-add, add-suc}
 use native.Mathlib.Decide.{ℕ-discrete}
 use native.Mathlib.Omega.{arith}
-use lib.Arith.{digits-lt}
+use lib.Arith.{digits-div, digits-mod}
 use lib.ListN.{length, getD, set, drop, length-set}
 use lib.Seq.{getD-set-same, getD-set-other, getD-take, getD-drop, ext-getD}
 use lib.Ieee.{Float, nan}
-use Rattle.planes.specs.Tables.{tab, row}
-use Rattle.planes.specs.Planes.{sampleAt, frameAt, withSample, withFrameFrom, withFrame, withFrames}
-use Rattle.planes.proofs.Lists.{split}
-use Rattle.planes.proofs.Tables.{length-tab, getD-tab, length-row}
+use Rattle.checks.specs.Tables.{tab, row}
+use Rattle.planes.specs.Planes.{sampleAt, frameAt, framesOf, withSample, withFrameFrom, withFrame, withFrames}
+use Rattle.checks.proofs.Tables.{tab-is, length-row, inside}
 
 -- ---- places
 
 move : (n k : ℕ) → n + suc k ≡ suc n + k
 move n k = omega arith
 
--- two places are the same only in one plane
+-- two places are the same only in one plane, and at one frame
 same-plane : (stride p q n m : ℕ) → n < stride → m < stride → p * stride + n ≡ q * stride + m → p ≡ q
-same-plane stride p q n m hn hm e =
-    ⊎-elim
-    (λ (lt : p < q). absurd (below lt))
-    (λ (ge : q ≤ p). ⊎-elim (λ (lt : q < p). absurd (above lt)) (λ (le : p ≤ q). omega arith) (split q p))
-    (split p q)
-  where
-    below : p < q → ⊥
-    below lt = omega (arith, digits-lt lt hn)
-
-    above : q < p → ⊥
-    above lt = omega (arith, digits-lt lt hm)
+same-plane stride p q n m hn hm e = sym (digits-div p hn) ∙ ap (λ (i : ℕ). i / stride) e ∙ digits-div q hm
 
 same-frame : (stride p q n m : ℕ) → n < stride → m < stride → p * stride + n ≡ q * stride + m → n ≡ m
-same-frame stride p q n m hn hm e = omega (arith, e, ap (λ (k : ℕ). k * stride) (same-plane stride p q n m hn hm e))
-
--- a place of one of so many planes lies inside
-pub inside : (planes stride p n room : ℕ) → p < planes → n < stride → room ≡ planes * stride → p * stride + n < room
-inside planes stride p n room hp hn e = omega (arith, digits-lt hp hn)
+same-frame stride p q n m hn hm e = sym (digits-mod p hn) ∙ ap (λ (i : ℕ). i % stride) e ∙ digits-mod q hm
 
 -- ---- a frame
 
@@ -71,12 +55,8 @@ with-frame-at p xs stride n (x ∷ f) (suc k) lt hn room =
 -- what was written as a frame is read as one
 pub frame-read : (xs : List Float) (stride n : ℕ) (f : List Float) → n < stride → length xs ≡ length f * stride → frameAt (withFrame xs stride n f) stride (length f) n ≡ f
 frame-read xs stride n f hn e =
-    ext-getD nan (tab 0 (length f) sample) f (length-tab 0 (length f) sample)
-    (λ k lt. let k<f : k < length f = omega (arith, lt, length-tab 0 (length f) sample) in
-    getD-tab 0 (length f) sample k nan k<f ∙ with-frame-at 0 xs stride n f k k<f hn (rw zero-add (inside (length f) stride k n (length xs) k<f hn e)))
-  where
-    sample : ℕ → Float
-    sample p = sampleAt (withFrame xs stride n f) stride p n
+    tab-is f nan (λ p. sampleAt (withFrame xs stride n f) stride p n)
+    (λ k lt. ap (λ (p : ℕ). sampleAt (withFrame xs stride n f) stride p n) (sym (zero-add k)) ∙ with-frame-at 0 xs stride n f k lt hn (rw zero-add (inside (length f) stride k n (length xs) lt hn e)))
 
 -- the row of plane p has that sample of the frame at n, and all else as it was
 pub row-with-frame : (planes : ℕ) (xs : List Float) (stride n : ℕ) (f : List Float) (p : ℕ) → p < length f → n < stride → length xs ≡ planes * stride → length f ≤ planes
@@ -141,3 +121,17 @@ with-frames-at planes xs stride n (f ∷ fs) p zero lt hp room e each =
 with-frames-at planes xs stride n (f ∷ fs) p (suc k) lt hp room e each =
     ap (λ (m : ℕ). sampleAt (withFrames (withFrame xs stride n f) stride (suc n) fs) stride p m) (move n k)
     ∙ with-frames-at planes (withFrame xs stride n f) stride (suc n) fs p k (le-of-suc-le-suc lt) hp (omega arith) (length-with-frame 0 xs stride n f ∙ e) (λ j h. each (suc j) (suc-le-suc h))
+
+-- frames that were put into planes are read back as they were
+pub frames-read : (planes : ℕ) (xs : List Float) (stride : ℕ) (fs : List (List Float)) → length fs ≤ stride → length xs ≡ planes * stride
+    → ((j : ℕ) → j < length fs → length (getD fs j []) ≡ planes) → framesOf (withFrames xs stride 0 fs) stride planes (length fs) ≡ fs
+frames-read planes xs stride fs room e each = tab-is fs [] (frameAt (withFrames xs stride 0 fs) stride planes) one
+  where
+    sample : ℕ → ℕ → Float
+    sample k p = sampleAt (withFrames xs stride 0 fs) stride p k
+
+    one : (k : ℕ) → k < length fs → frameAt (withFrames xs stride 0 fs) stride planes k ≡ getD fs k []
+    one k h =
+        ap (λ (m : ℕ). tab 0 m (sample k)) (sym (each k h))
+        ∙ tab-is (getD fs k []) nan (sample k)
+        (λ p lt. ap (λ (i : ℕ). sample i p) (sym (zero-add k)) ∙ with-frames-at planes xs stride 0 fs p k h (omega (arith, lt, each k h)) (omega (arith, room)) e each)

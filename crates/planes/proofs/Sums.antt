@@ -7,9 +7,9 @@ use native.Mathlib.Numerals.{add-one}
 use lib.ListN.{length, getD, take, drop, drop-of-length-le}
 use lib.Seq.{drop-cons}
 use lib.Ieee.{Float, nan, binary64, add, mul}
-use Rattle.planes.specs.Tables.{tab}
+use Rattle.checks.specs.Tables.{tab}
 use Rattle.planes.specs.Sums.{dot, total}
-use Rattle.planes.proofs.Tables.{tab-more, tab-none}
+use Rattle.checks.proofs.Tables.{tab-more, tab-none}
 
 -- ---- sums of products
 

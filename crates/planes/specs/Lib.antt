@@ -1,5 +1,4 @@
 -- The words of the promises of `planes`, and of the crates above that play blocks.
-pub mod Tables
 pub mod Planes
 pub mod Sums
 pub mod Normalization

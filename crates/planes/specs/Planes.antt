@@ -1,20 +1,10 @@
--- Document 01, 'What must change shape': "`&[&[S]]` becomes planes with a stride in one slice", and 'Refusal numbers' 5: "stride below the frame count, or a length other than planes x stride".
+-- Document 01, 'What must change shape': "`&[&[S]]` becomes planes with a stride in one slice".
 -- Frame n of plane p stands at p x stride + n. Definitions only. A place outside the list reads as NaN, and writing there changes nothing.
 use Prim.Native.Nat.{ℕ, suc, _+_, _*_}
-use mathlib.Core.Bool.{Bool, not, _||_}
 use mathlib.Core.List.{List, [], _∷_}
-use lib.Dec.{ltb, eqb}
 use lib.ListN.{getD, set}
 use lib.Ieee.{Float, nan}
-use Rattle.planes.specs.Tables.{tab}
-
--- stride below the frame count, or a length other than planes x stride
-abbrev pub unfit : ℕ → ℕ → ℕ → ℕ → Bool
-unfit size planes stride frames = ltb stride frames || not (eqb size (planes * stride))
-
--- the input planes of a block do not fit, or its output planes: one stride serves both
-abbrev pub blockUnfit : ℕ → ℕ → ℕ → ℕ → ℕ → ℕ → Bool
-blockUnfit inputs channels out outputs stride frames = unfit inputs channels stride frames || unfit out outputs stride frames
+use Rattle.checks.specs.Tables.{tab}
 
 -- ---- reading
 

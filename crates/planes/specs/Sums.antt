@@ -4,7 +4,7 @@ use Prim.Native.Nat.{ℕ}
 use mathlib.Core.List.{List, [], _∷_}
 use lib.Ieee.{Float, binary64, add, mul}
 use Rattle.numbers.specs.Computed.{narrowed, zero-float}
-use Rattle.planes.specs.Tables.{tab, row}
+use Rattle.checks.specs.Tables.{tab, row}
 
 -- a + x₀ y₀ + x₁ y₁ + .., each product and each sum rounded, in this order; the shorter of the two lists ends it
 abbrev pub dot : Float → List Float → List Float → Float

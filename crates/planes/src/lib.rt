@@ -1,119 +1,17 @@
-// What the operations on lent blocks share (document 01, 'Refusal numbers' 5 and 7, and 'Sums'): planes
+// What the operations on lent blocks share (document 01, 'What must change shape' and 'Sums'): planes
 // with a stride in one list, read and written a sample or a frame at a time; the ordered sum of a
-// frame's samples times weights, narrowed; the finite test; the count and length tests, which hold also where
-// a product of lengths would not fit; the smaller of two counts; and the inverse of a root. Panner, decoder,
-// rows and convolver are made of these. Every public function takes any input and promises its answer by an equation:
+// frame's samples times weights, narrowed; and the inverse of a root. Panner, decoder, rows and convolver
+// are made of these. Every public function takes any input and promises its answer by an equation:
 // what lies outside a list reads as NaN, and writing there changes nothing. Under it lie
-// `numbers` and `refusals`.
+// `checks` (the finite test, and lists said by a rule), `numbers` and `refusals`.
 ghost use mathlib.Core.Path.{_≡_};
 ghost use Prim.Native.Nat.{_+_, _*_, _≤_, min};
-ghost use lib.Dec.{eqb};
 ghost use lib.ListN.{length, getD};
 ghost use lib.Ieee.{nan};
-ghost use lib.Ieee.Scale.{finite};
-ghost use Rattle.refusals.specs.Refusals.{outside};
-ghost use Rattle.planes.specs.Tables.{unsound};
-ghost use Rattle.planes.specs.Planes.{unfit, blockUnfit, sampleAt, frameAt, withSample, withFrame};
+ghost use Rattle.checks.specs.Tables.{unsound};
+ghost use Rattle.planes.specs.Planes.{sampleAt, frameAt, withSample, withFrame};
 ghost use Rattle.planes.specs.Sums.{mixed, mixedAll};
 ghost use Rattle.planes.specs.Normalization.{InverseRoot};
-
-// Whether x is neither a NaN nor an infinity.
-pub fn is_finite(x: f64) -> bool
-    ensures { λ r. ⌜ r ≡ finite x ⌝ }
-{
-    if x < 1.0 / 0.0 {
-        return -1.0 / 0.0 < x;
-    }
-    false
-}
-
-// Whether one of the weights is NaN or infinite.
-pub fn unsound_f64(weights: &[f64]) -> bool
-    ensures { λ r. ⌜ r ≡ unsound (now (weights .entry)) ⌝ }
-{
-    let mut w = 0;
-    while w < weights.len() {
-        if !is_finite(weights[w]) {
-            return true;
-        }
-        w += 1;
-    }
-    false
-}
-
-// Whether one of the taps is NaN or infinite.
-pub fn unsound_f32(taps: &[f32]) -> bool
-    ensures { λ r. ⌜ r ≡ unsound (now (taps .entry)) ⌝ }
-{
-    let mut k = 0;
-    while k < taps.len() {
-        if !is_finite(numbers::widen(taps[k])) {
-            return true;
-        }
-        k += 1;
-    }
-    false
-}
-
-// Whether a count is not 1..top.
-pub fn is_outside(n: usize, top: usize) -> bool
-    ensures { λ r. ⌜ r ≡ outside n top ⌝ }
-{
-    if n == 0 {
-        return true;
-    }
-    top < n
-}
-
-// Whether n is a times b, which may not fit and is not formed.
-pub fn is_product(n: usize, a: usize, b: usize) -> bool
-    ensures { λ r. ⌜ r ≡ eqb n (a * b) ⌝ }
-{
-    if a == 0 {
-        return n == 0;
-    }
-    if n % a != 0 {
-        return false;
-    }
-    n / a == b
-}
-
-// Whether a list of `size` samples does not fit as planes of `stride` places, of which `frames` are used.
-fn is_unfit(size: usize, planes: usize, stride: usize, frames: usize) -> bool
-    ensures { λ r. ⌜ r ≡ unfit size planes stride frames ⌝ }
-{
-    if stride < frames {
-        return true;
-    }
-    !is_product(size, planes, stride)
-}
-
-// Whether the input planes of a block do not fit, or its output planes: one stride serves both.
-pub fn is_block_unfit(
-    inputs: usize,
-    channels: usize,
-    out: usize,
-    outputs: usize,
-    stride: usize,
-    frames: usize,
-) -> bool
-    ensures { λ r. ⌜ r ≡ blockUnfit inputs channels out outputs stride frames ⌝ }
-{
-    if is_unfit(inputs, channels, stride, frames) {
-        return true;
-    }
-    is_unfit(out, outputs, stride, frames)
-}
-
-// The smaller of two counts.
-pub fn least(a: usize, b: usize) -> usize
-    ensures { λ r. ⌜ r ≡ min a b ⌝ }
-{
-    if a < b {
-        return a;
-    }
-    b
-}
 
 // `step` places after `at` in a list of `size`, or its end where that comes first: the sum may not fit
 // and is then not formed.
@@ -143,6 +41,7 @@ fn place(size: usize, stride: usize, plane: usize, frame: usize) -> usize
     plane * stride + frame
 }
 
+// What stands at a place, widened.
 fn value(xs: &[f32], at: usize) -> f64
     ensures { λ r. ⌜ r ≡ getD (now (xs .entry)) at nan ⌝ }
 {
@@ -180,7 +79,7 @@ pub fn unsound_frame(xs: &[f32], stride: usize, planes: usize, frame: usize) -> 
     let mut p = 0;
     while p < planes {
         let x = sample(xs, stride, p, frame);
-        if !is_finite(numbers::widen(x)) {
+        if !checks::is_finite(numbers::widen(x)) {
             return true;
         }
         p += 1;
@@ -232,6 +131,8 @@ pub fn mix_frame(
 pub fn inverse_root(n: u32) -> f64
     ensures { λ r. ⌜ InverseRoot n r ⌝ }
 {
-    let r = numbers::root(n as f64);
-    1.0 / r.value
+    let number = n as f64;
+    let rooted = numbers::root(number);
+    let root = rooted.value;
+    1.0 / root
 }

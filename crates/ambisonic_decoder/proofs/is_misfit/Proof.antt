@@ -1,7 +1,7 @@
 -- `ambisonic_decoder::is_misfit` meets its contract. Assumes nothing.
 use mathlib.Core.Path.{sym, ap, _∙_}
 use mathlib.Core.Bool.{not}
-use Rattle.planes.proofs.Checks.{or-yes, or-next}
+use Rattle.checks.proofs.Checks.{or-yes, or-next}
 use borrow.Author.Needs.{needs}
 use Rattle.ambisonic_decoder.proofs.is_misfit.Statement.{statement}
 use Rattle.ambisonic_decoder.proofs.is_misfit.Tie as tie

@@ -10,8 +10,8 @@ use Rattle.planes.specs.Normalization.{asFloat, inverseRoot}
 use Rattle.planes.proofs.inverse_root.Statement.{statement}
 use Rattle.planes.proofs.inverse_root.Tie as tie
 
-int-to-float-root : tie.Need-int-to-float-root
-int-to-float-root c = search needs
+int-to-float-number : tie.Need-int-to-float-number
+int-to-float-number c = search needs
 
 root-requires : tie.Need-root-requires
 root-requires c κs = search needs
@@ -20,9 +20,9 @@ returns : tie.Need-returns
 unfolding ofBits inverseRoot asFloat
 returns c =
     record {
-      value = ap (λ (v : Rooted). div binary64 (fin false 1 (pos 0)) (v .value)) (c .before .root .ensures .answer);
-      root = subst (λ (v : Rooted). Root (asFloat (c .before .before .before .args .n)) v) (c .before .root .ensures .answer) (c .before .root .ensures);
+      value = ap (λ (v : Rooted). div binary64 (fin false 1 (pos 0)) (v .value)) (c .root .ensures .answer);
+      root = subst (λ (v : Rooted). Root (asFloat (c .before .before .args .n)) v) (c .root .ensures .answer) (c .root .ensures);
     }
 
 pub inverse-root-spec : {M : Type 1} → statement M
-inverse-root-spec = tie.close (tie.spec int-to-float-root root-requires returns)
+inverse-root-spec = tie.close (tie.spec int-to-float-number root-requires returns)

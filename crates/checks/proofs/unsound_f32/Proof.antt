@@ -1,24 +1,21 @@
--- `planes::unsound_f32` meets its contract. The loop has passed no element that is NaN or infinite. Assumes nothing.
-use mathlib.Core.Path.{sym, ap, _∙_}
-use mathlib.Core.Bool.{not}
+-- `checks::unsound_f32` meets its contract. The loop has passed no element that is NaN or infinite. Assumes nothing.
+use mathlib.Core.Path.{_∙_}
 use Prim.Native.Nat.{_-_}
 use native.Mathlib.Omega.{arith}
 use lib.ListN.{length}
-use lib.Ieee.{Float}
-use lib.Ieee.Scale.{finite}
 use denote.Ref.{now}
-use Rattle.planes.proofs.Checks.{Passing, passing-none, passing-more, passing-found, passing-all, wrongAt, unsound-any}
-use Rattle.planes.proofs.unsound_f32.Statement.{statement}
-use Rattle.planes.proofs.unsound_f32.Tie as tie
+use Rattle.checks.proofs.Checks.{Passing, passing-none, wrong, sound-more, unsound-found, sound-all, placeOf, unsound-list}
+use Rattle.checks.proofs.unsound_f32.Statement.{statement}
+use Rattle.checks.proofs.unsound_f32.Tie as tie
 
 abbrev Inv-loop : tie.InvT-loop
-Inv-loop taps k₀ k = Passing (wrongAt taps) (length taps) k
+Inv-loop taps k₀ k = Passing (wrong (placeOf taps)) (length taps) k
 
 abbrev μ-loop : tie.MeasureT-loop
 μ-loop taps k₀ k = length taps - k
 
 loop-holds : tie.Need-loop-holds Inv-loop μ-loop
-loop-holds c = passing-none (wrongAt (now (c .before .args .taps))) (length (now (c .before .args .taps)))
+loop-holds c = passing-none (wrong (placeOf (now (c .before .args .taps)))) (length (now (c .before .args .taps)))
 
 mul-widen : tie.Need-mul-widen Inv-loop μ-loop
 mul-widen c = omega arith
@@ -36,7 +33,7 @@ returns : tie.Need-returns Inv-loop μ-loop
 returns c =
     let at = c .before .before .before .before .before in
     let xs = now (c .before .before .before .before .before .before .before .args .taps) in
-    passing-found (wrongAt xs) (length xs) (at .loop .k) (at .loop .inv) (c .before .before .before .before .loop-test .taken) (ap (λ (v : Float). not (finite v)) (sym (c .before .before .widen .ensures .same)) ∙ ap not (sym (c .before .is-finite .ensures)) ∙ c .if1 .taken) ∙ unsound-any xs
+    unsound-found (placeOf xs) (length xs) (at .loop .k) _ (c .before .is-finite .result) (at .loop .inv) (c .before .before .before .before .loop-test .taken) (c .before .before .widen .ensures .same) (c .before .is-finite .ensures) (c .if1 .taken) ∙ unsound-list xs
 
 add-k : tie.Need-add-k Inv-loop μ-loop
 add-k c = omega arith
@@ -48,12 +45,12 @@ loop-again : tie.Need-loop-again Inv-loop μ-loop
 loop-again c =
     let at = c .before .before .before .before .before in
     let xs = now (c .before .before .before .before .before .before .before .args .taps) in
-    passing-more (wrongAt xs) (length xs) (at .loop .k) (at .loop .inv) (c .before .before .before .before .loop-test .taken) (ap (λ (v : Float). not (finite v)) (sym (c .before .before .widen .ensures .same)) ∙ ap not (sym (c .before .is-finite .ensures)) ∙ c .if1 .left)
+    sound-more (placeOf xs) (length xs) (at .loop .k) _ (c .before .is-finite .result) (at .loop .inv) (c .before .before .before .before .loop-test .taken) (c .before .before .widen .ensures .same) (c .before .is-finite .ensures) (c .if1 .left)
 
 returns-2 : tie.Need-returns-2 Inv-loop μ-loop
 returns-2 c =
     let xs = now (c .before .before .before .args .taps) in
-    passing-all (wrongAt xs) (length xs) (c .before .loop .k) (c .before .loop .inv) (c .loop-test .left) ∙ unsound-any xs
+    sound-all (placeOf xs) (length xs) (c .before .loop .k) (c .before .loop .inv) (c .loop-test .left) ∙ unsound-list xs
 
 pub unsound-f32-spec : {M : Type 1} → statement M
 unsound-f32-spec =

@@ -1,9 +1,9 @@
--- `planes::is_block_unfit` meets its contract. Assumes nothing.
+-- `checks::is_block_unfit` meets its contract. Assumes nothing.
 use mathlib.Core.Path.{sym, _∙_}
-use Rattle.planes.proofs.Checks.{or-yes, or-next}
+use Rattle.checks.proofs.Checks.{or-yes, or-next}
 use borrow.Author.Needs.{needs}
-use Rattle.planes.proofs.is_block_unfit.Statement.{statement}
-use Rattle.planes.proofs.is_block_unfit.Tie as tie
+use Rattle.checks.proofs.is_block_unfit.Statement.{statement}
+use Rattle.checks.proofs.is_block_unfit.Tie as tie
 
 is-unfit-requires : tie.Need-is-unfit-requires
 is-unfit-requires c κs = search needs

@@ -1,11 +1,11 @@
--- `planes::is_unfit` meets its contract. Assumes nothing.
+-- `checks::is_unfit` meets its contract. Assumes nothing.
 use mathlib.Core.Path.{ap}
 use mathlib.Core.Bool.{not}
 use borrow.Author.Tests.{lt-ltb, le-ltb}
-use Rattle.planes.proofs.Checks.{or-yes, or-next}
+use Rattle.checks.proofs.Checks.{or-yes, or-next}
 use borrow.Author.Needs.{needs}
-use Rattle.planes.proofs.is_unfit.Statement.{statement}
-use Rattle.planes.proofs.is_unfit.Tie as tie
+use Rattle.checks.proofs.is_unfit.Statement.{statement}
+use Rattle.checks.proofs.is_unfit.Tie as tie
 
 returns : tie.Need-returns
 returns c = or-yes _ _ (lt-ltb _ _ (c .if1 .taken))

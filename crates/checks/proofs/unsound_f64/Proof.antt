@@ -1,22 +1,21 @@
--- `planes::unsound_f64` meets its contract. The loop has passed no element that is NaN or infinite. Assumes nothing.
-use mathlib.Core.Path.{sym, ap, _∙_}
-use mathlib.Core.Bool.{not}
+-- `checks::unsound_f64` meets its contract. The loop has passed no element that is NaN or infinite. Assumes nothing.
+use mathlib.Core.Path.{refl, _∙_}
 use Prim.Native.Nat.{_-_}
 use native.Mathlib.Omega.{arith}
 use lib.ListN.{length}
 use denote.Ref.{now}
-use Rattle.planes.proofs.Checks.{Passing, passing-none, passing-more, passing-found, passing-all, wrongAt, unsound-any}
-use Rattle.planes.proofs.unsound_f64.Statement.{statement}
-use Rattle.planes.proofs.unsound_f64.Tie as tie
+use Rattle.checks.proofs.Checks.{Passing, passing-none, wrong, sound-more, unsound-found, sound-all, placeOf, unsound-list}
+use Rattle.checks.proofs.unsound_f64.Statement.{statement}
+use Rattle.checks.proofs.unsound_f64.Tie as tie
 
 abbrev Inv-loop : tie.InvT-loop
-Inv-loop weights w₀ w = Passing (wrongAt weights) (length weights) w
+Inv-loop weights w₀ w = Passing (wrong (placeOf weights)) (length weights) w
 
 abbrev μ-loop : tie.MeasureT-loop
 μ-loop weights w₀ w = length weights - w
 
 loop-holds : tie.Need-loop-holds Inv-loop μ-loop
-loop-holds c = passing-none (wrongAt (now (c .before .args .weights))) (length (now (c .before .args .weights)))
+loop-holds c = passing-none (wrong (placeOf (now (c .before .args .weights)))) (length (now (c .before .args .weights)))
 
 mul-is-finite : tie.Need-mul-is-finite Inv-loop μ-loop
 mul-is-finite c = omega arith
@@ -31,7 +30,7 @@ returns : tie.Need-returns Inv-loop μ-loop
 returns c =
     let at = c .before .before .before .before in
     let xs = now (c .before .before .before .before .before .before .args .weights) in
-    passing-found (wrongAt xs) (length xs) (at .loop .w) (at .loop .inv) (c .before .before .before .loop-test .taken) (ap not (sym (c .before .is-finite .ensures)) ∙ c .if1 .taken) ∙ unsound-any xs
+    unsound-found (placeOf xs) (length xs) (at .loop .w) _ (c .before .is-finite .result) (at .loop .inv) (c .before .before .before .loop-test .taken) refl (c .before .is-finite .ensures) (c .if1 .taken) ∙ unsound-list xs
 
 add-w : tie.Need-add-w Inv-loop μ-loop
 add-w c = omega arith
@@ -43,12 +42,12 @@ loop-again : tie.Need-loop-again Inv-loop μ-loop
 loop-again c =
     let at = c .before .before .before .before in
     let xs = now (c .before .before .before .before .before .before .args .weights) in
-    passing-more (wrongAt xs) (length xs) (at .loop .w) (at .loop .inv) (c .before .before .before .loop-test .taken) (ap not (sym (c .before .is-finite .ensures)) ∙ c .if1 .left)
+    sound-more (placeOf xs) (length xs) (at .loop .w) _ (c .before .is-finite .result) (at .loop .inv) (c .before .before .before .loop-test .taken) refl (c .before .is-finite .ensures) (c .if1 .left)
 
 returns-2 : tie.Need-returns-2 Inv-loop μ-loop
 returns-2 c =
     let xs = now (c .before .before .before .args .weights) in
-    passing-all (wrongAt xs) (length xs) (c .before .loop .w) (c .before .loop .inv) (c .loop-test .left) ∙ unsound-any xs
+    sound-all (placeOf xs) (length xs) (c .before .loop .w) (c .before .loop .inv) (c .loop-test .left) ∙ unsound-list xs
 
 pub unsound-f64-spec : {M : Type 1} → statement M
 unsound-f64-spec =

@@ -1,9 +1,8 @@
--- Why the tests are right: a number is finite exactly if it lies between the infinities, n is a * b exactly if a divides it b times, and a place lies in a list exactly if a quotient says so.
--- Assumes nothing.
+-- Why the tests are right: a number is finite exactly if it lies between the infinities, n is a * b exactly if a divides it b times, and of two counts the one that is below the other is the least. Assumes nothing.
 use mathlib.Core.Path.{_≡_, refl, sym, ap, _∙_}
 use mathlib.Core.Bool.{true, false, true≢false, false≢true}
-use Prim.Native.Nat.{ℕ, _+_, _-_, _*_, _/_, _%_, _≤_, _<_}
-use native.Mathlib.Nat.{div-add-mod', mul-mod-right, mul-div-right, mul-zero, le-div-iff-mul-le, div-lt-iff-lt-mul}
+use Prim.Native.Nat.{ℕ, _*_, _/_, _%_, _≤_, _<_, min}
+use native.Mathlib.Nat.{div-add-mod', mul-mod-right, mul-div-right}
 use native.Mathlib.Decide.{ℕ-discrete}
 use native.Mathlib.Omega.{arith}
 use borrow.Author.Tests.{eq-eqb, ne-eqb}
@@ -38,12 +37,8 @@ module _ (n a b : ℕ) where
         | no k ↦ ne-eqb (n / a) b k ∙ sym (ne-eqb n (a * b) (λ e. k (ap (λ (m : ℕ). m / a) e ∙ mul-div-right b h)))
       ]
 
-module _ (size stride plane frame : ℕ) where
-  pub one-place : stride ≡ 0 → plane * stride + frame ≡ frame
-  one-place h = rw (h, mul-zero) (omega arith)
+pub first-least : (a b : ℕ) → a < b → a ≡ min a b
+first-least a b h = omega arith
 
-  pub beyond : 0 < stride → frame < size → (size - 1 - frame) / stride < plane → size ≤ plane * stride + frame
-  beyond s f h = omega (arith, div-lt-iff-lt-mul {x = size - 1 - frame} {y = plane} s .0 h)
-
-  pub within : 0 < stride → frame < size → plane ≤ (size - 1 - frame) / stride → plane * stride + frame < size
-  within s f h = omega (arith, le-div-iff-mul-le {x = plane} {y = size - 1 - frame} s .0 h)
+pub second-least : (a b : ℕ) → b ≤ a → b ≡ min a b
+second-least a b h = omega arith

@@ -1,20 +1,20 @@
--- Chains of tests, gone through one by one, and loops that stop at the first test that passes. Assumes nothing.
-use mathlib.Core.Path.{_≡_, refl, sym, ap, _∙_}
-use mathlib.Core.Bool.{Bool, true, false, not, _||_, true≢false}
+-- Chains of tests, gone through one by one, and loops that stop at the first test that holds. Assumes nothing.
+use mathlib.Core.Path.{_≡_, refl, sym, ap, _∙_, subst}
+use mathlib.Core.Bool.{Bool, true, false, not, _||_}
 use mathlib.Core.List.{List, [], _∷_}
 use Prim.Native.Nat.{ℕ, zero, suc, _+_, _-_, _*_, _≤_, _<_, zero-le}
 use native.Mathlib.Nat.{not-suc-le-zero, zero-add, add-zero, add-suc, suc-add}
 use native.Mathlib.Omega.{arith}
 use lib.ListN.{length, getD, take, drop}
 use lib.Dec.{eqb, ltb}
-use borrow.Author.Tests.{eq-eqb, ne-eqb, le-ltb, eqb-true, not-false, ltb-false}
+use borrow.Author.Tests.{eq-eqb, le-ltb, eqb-true, not-false, ltb-false}
 use lib.Ieee.{Float, nan}
 use lib.Ieee.Scale.{finite}
-use Rattle.refusals.specs.Refusals.{outside}
+pub use Rattle.refusals.proofs.Counts.{not-outside, count-inside}
 pub use Rattle.refusals.proofs.First.{or-off}
-use Rattle.planes.specs.Tables.{tab, any, unsound}
-use Rattle.planes.specs.Planes.{unfit, sampleAt}
-use Rattle.planes.proofs.Tables.{tab-shift, tab-more, tab-none, tab-all}
+use Rattle.checks.specs.Tables.{tab, any, unsound}
+use Rattle.checks.specs.Lengths.{unfit}
+use Rattle.checks.proofs.Tables.{tab-more, tab-none, tab-all, tab-getD}
 
 -- ---- the first that holds makes an `||` true; one that does not leaves it to the rest
 
@@ -24,34 +24,27 @@ or-yes a b e = ap (λ (t : Bool). t || b) (sym e)
 pub or-next : (a b x : Bool) → a ≡ false → x ≡ b → x ≡ (a || b)
 or-next a b x e n = n ∙ ap (λ (t : Bool). t || b) (sym e)
 
+pub both-off : (a b : Bool) → a ≡ false → b ≡ false → (a || b) ≡ false
+both-off a b p q = ap (λ (t : Bool). t || b) p ∙ q
+
 pub any-off : (i n : ℕ) (f : ℕ → Bool) → any (tab i n f) ≡ false → (k : ℕ) → k < n → f (i + k) ≡ false
 any-off i zero f e k h = absurd (not-suc-le-zero h)
 any-off i (suc n) f e zero h = ap f (add-zero i) ∙ or-off (f i) (any (tab (suc i) n f)) e .0
 any-off i (suc n) f e (suc k) h = ap f (add-suc i k ∙ sym (suc-add i k)) ∙ any-off (suc i) n f (or-off (f i) (any (tab (suc i) n f)) e .1) k (omega arith)
 
+-- said of the places themselves
+pub at-each : (i n : ℕ) (f : ℕ → Bool) → any (tab i n f) ≡ false → (k : ℕ) → i ≤ k → k < i + n → f k ≡ false
+at-each i n f e k h l = subst (λ (j : ℕ). f j ≡ false) (omega arith) (any-off i n f e (k - i) (omega arith))
+
 pub all-off : (i n : ℕ) (f : ℕ → Bool) → ((k : ℕ) → k < n → f (i + k) ≡ false) → any (tab i n f) ≡ false
 all-off i zero f e = refl
 all-off i (suc n) f e =
-    sym (or-next (f i) (any (tab (suc i) n f)) false (ap f (sym (add-zero i)) ∙ e 0 (omega arith))
-    (sym (all-off (suc i) n f (λ k h. ap f (suc-add i k ∙ sym (add-suc i k)) ∙ e (suc k) (omega arith)))))
-
-pub both-off : (a b : Bool) → a ≡ false → b ≡ false → (a || b) ≡ false
-both-off a b p q = ap (λ (t : Bool). t || b) p ∙ q
+    both-off (f i) (any (tab (suc i) n f)) (ap f (sym (add-zero i)) ∙ e 0 (omega arith))
+    (all-off (suc i) n f (λ k h. ap f (suc-add i k ∙ sym (add-suc i k)) ∙ e (suc k) (omega arith)))
 
 -- a length that was tested is that product
 pub is-equal : (a b : ℕ) → not (eqb a b) ≡ false → a ≡ b
 is-equal a b e = eqb-true a b (not-false (eqb a b) e)
-
--- a count that was tested is 1..top
-pub not-outside : (n top : ℕ) → outside n top ≡ false → (0 < n) × (n ≤ top)
-not-outside n top e =
-    let p = or-off (eqb n 0) (ltb top n) e in
-    let q : n ≤ top = ltb-false top n (p .1) in
-    (some n (p .0), q)
-  where
-    some : (n : ℕ) → eqb n 0 ≡ false → 0 < n
-    some zero e = absurd (true≢false e)
-    some (suc n) e = omega arith
 
 -- planes that were tested fit
 pub fitted : (size planes stride frames : ℕ) → unfit size planes stride frames ≡ false → (frames ≤ stride) × (size ≡ planes * stride)
@@ -59,10 +52,7 @@ fitted size planes stride frames e =
     let p = or-off (ltb stride frames) (not (eqb size (planes * stride))) e in
     (ltb-false stride frames (p .0), is-equal size (planes * stride) (p .1))
 
--- and the other way: such a count, such a product and such planes pass the test
-
-pub count-inside : (n top : ℕ) → 0 < n → n ≤ top → outside n top ≡ false
-count-inside n top some most = both-off (eqb n 0) (ltb top n) (ne-eqb n 0 (λ e. omega (arith, e))) (le-ltb top n most)
+-- and the other way: such a product and such planes pass the test
 
 pub equal-passes : (a b : ℕ) → a ≡ b → not (eqb a b) ≡ false
 equal-passes a b e = ap not (eq-eqb a b e)
@@ -85,32 +75,47 @@ module _ (f : ℕ → Bool) (n : ℕ) where
       record { below = omega arith; same = ap (λ (b : Bool). b || any (tab (s + 1) (n - (s + 1)) f)) (sym e) ∙ ap any (sym (tab-more n s f h)) ∙ p .same }
 
   pub passing-found : (s : ℕ) → Passing f n s → s < n → f s ≡ true → true ≡ any (tab 0 n f)
-  passing-found s p h e = ap (λ (b : Bool). b || any (tab (s + 1) (n - (s + 1)) f)) (sym e) ∙ ap any (sym (tab-more n s f h)) ∙ p .same
+  passing-found s p h e = or-yes (f s) (any (tab (s + 1) (n - (s + 1)) f)) e ∙ ap any (sym (tab-more n s f h)) ∙ p .same
 
   pub passing-all : (s : ℕ) → Passing f n s → n ≤ s → false ≡ any (tab 0 n f)
   passing-all s p h = ap any (sym (tab-none n s f h)) ∙ p .same
 
 -- ---- floats that are NaN or infinite
 
-pub unsound-tab : (i n : ℕ) (f : ℕ → Float) → any (tab i n (λ k. not (finite (f k)))) ≡ unsound (tab i n f)
+abbrev pub wrong : (ℕ → Float) → ℕ → Bool
+wrong f k = not (finite (f k))
+
+unsound-tab : (i n : ℕ) (f : ℕ → Float) → any (tab i n (wrong f)) ≡ unsound (tab i n f)
 unsound-tab i zero f = refl
-unsound-tab i (suc n) f = ap (λ (b : Bool). not (finite (f i)) || b) (unsound-tab (suc i) n f)
+unsound-tab i (suc n) f = ap (λ (b : Bool). wrong f i || b) (unsound-tab (suc i) n f)
 
--- of plane k in a frame, and at a place of a list
-abbrev pub wrongIn : List Float → ℕ → ℕ → ℕ → Bool
-wrongIn xs stride n k = not (finite (sampleAt xs stride k n))
+-- the loop that stops at the first of them: x is the one looked at, and b whether it was found finite
+module _ (f : ℕ → Float) (n : ℕ) where
+  looked-at : (s : ℕ) (x : Float) (b t : Bool) → x ≡ f s → b ≡ finite x → not b ≡ t → wrong f s ≡ t
+  looked-at s x b t ex eb e = ap (λ (v : Float). not (finite v)) (sym ex) ∙ ap not (sym eb) ∙ e
 
-abbrev pub wrongAt : List Float → ℕ → Bool
-wrongAt xs i = not (finite (getD xs i nan))
+  pub sound-more : (s : ℕ) (x : Float) (b : Bool) → Passing (wrong f) n s → s < n → x ≡ f s → b ≡ finite x → not b ≡ false → Passing (wrong f) n (s + 1)
+  sound-more s x b p h ex eb e = passing-more (wrong f) n s p h (looked-at s x b false ex eb e)
 
-pub unsound-any : (xs : List Float) → any (tab 0 (length xs) (wrongAt xs)) ≡ unsound xs
-unsound-any [] = refl
-unsound-any (x ∷ xs) = ap (λ (b : Bool). not (finite x) || b) (ap any (tab-shift 0 (length xs) (wrongAt (x ∷ xs))) ∙ unsound-any xs)
+  pub unsound-found : (s : ℕ) (x : Float) (b : Bool) → Passing (wrong f) n s → s < n → x ≡ f s → b ≡ finite x → not b ≡ true → true ≡ unsound (tab 0 n f)
+  unsound-found s x b p h ex eb e = passing-found (wrong f) n s p h (looked-at s x b true ex eb e) ∙ unsound-tab 0 n f
+
+  pub sound-all : (s : ℕ) → Passing (wrong f) n s → n ≤ s → false ≡ unsound (tab 0 n f)
+  sound-all s p h = passing-all (wrong f) n s p h ∙ unsound-tab 0 n f
+
+-- the floats of a list
+abbrev pub placeOf : List Float → ℕ → Float
+placeOf xs k = getD xs k nan
+
+pub unsound-list : (xs : List Float) → unsound (tab 0 (length xs) (placeOf xs)) ≡ unsound xs
+unsound-list xs = ap unsound (tab-getD xs nan)
 
 -- a place of a sound list is finite, and a list of finite places is sound
 
 pub sound-at : (xs : List Float) (i : ℕ) → unsound xs ≡ false → i < length xs → finite (getD xs i nan) ≡ true
-sound-at xs i e h = not-false (finite (getD xs i nan)) (ap (wrongAt xs) (sym (zero-add i)) ∙ any-off 0 (length xs) (wrongAt xs) (unsound-any xs ∙ e) i h)
+sound-at xs i e h =
+    not-false (finite (getD xs i nan))
+    (ap (wrong (placeOf xs)) (sym (zero-add i)) ∙ any-off 0 (length xs) (wrong (placeOf xs)) (unsound-tab 0 (length xs) (placeOf xs) ∙ unsound-list xs ∙ e) i h)
 
 pub sound-tab : (i n : ℕ) (f : ℕ → Float) → ((k : ℕ) → finite (f k) ≡ true) → unsound (tab i n f) ≡ false
 sound-tab i zero f e = refl
@@ -121,10 +126,9 @@ sound-tab i (suc n) f e = ap (λ (b : Bool). not b || unsound (tab (suc i) n f))
 pub sound-take : (n : ℕ) (xs : List Float) → unsound xs ≡ false → unsound (take n xs) ≡ false
 sound-take zero xs h = refl
 sound-take (suc n) [] h = refl
-sound-take (suc n) (x ∷ xs) h = sym (or-next (not (finite x)) (unsound (take n xs)) false (o .0) (sym (sound-take n xs (o .1))))
-  where
-    o : (not (finite x) ≡ false) × (unsound xs ≡ false)
-    o = or-off (not (finite x)) (unsound xs) h
+sound-take (suc n) (x ∷ xs) h =
+    let o = or-off (not (finite x)) (unsound xs) h in
+    both-off (not (finite x)) (unsound (take n xs)) (o .0) (sound-take n xs (o .1))
 
 pub sound-drop : (n : ℕ) (xs : List Float) → unsound xs ≡ false → unsound (drop n xs) ≡ false
 sound-drop zero xs h = h

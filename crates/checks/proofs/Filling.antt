@@ -10,9 +10,9 @@ use borrow.Author.Tests.{lt-ltb, le-ltb}
 use lib.Dec.{ltb}
 use lib.ListN.{length, set, drop, replicate, length-set}
 use lib.Seq.{drop-length}
-use Rattle.planes.specs.Tables.{tab}
-use Rattle.planes.proofs.Lists.{drop-replicate}
-use Rattle.planes.proofs.Tables.{tab-from, tab-append}
+use Rattle.checks.specs.Tables.{tab}
+use Rattle.checks.proofs.Lists.{drop-replicate}
+use Rattle.checks.proofs.Tables.{tab-from, tab-append, tab-constant}
 
 module _ {A : Type 0} where
   -- one place more
@@ -21,10 +21,6 @@ module _ {A : Type 0} where
   fill-one f j zero (x ∷ d) h = ap (λ (k : ℕ). f k ∷ d) (add-zero j)
   fill-one f j (suc i) (x ∷ d) h =
       ap (λ (k : ℕ). f j ∷ set (tab (suc j) i f ++ drop i d) i (f k)) (add-suc j i ∙ sym (suc-add j i)) ∙ ap (λ (l : List A). f j ∷ l) (fill-one f (suc j) i d (le-of-suc-le-suc h))
-
-  pub tab-constant : (i n : ℕ) (a : A) → tab i n (λ k. a) ≡ replicate n a
-  tab-constant i zero a = refl
-  tab-constant i (suc n) a = ap (λ (l : List A). a ∷ l) (tab-constant (suc i) n a)
 
   -- m places of one value, of which the first n are filled
   pub first-filled : (f : ℕ → A) (n m : ℕ) (a : A) → n ≤ m → tab 0 n f ++ drop n (replicate m a) ≡ tab 0 m (λ k. cond (ltb k n) (f k) a)

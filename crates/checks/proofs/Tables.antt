@@ -5,8 +5,9 @@ use Prim.Native.Nat.{ℕ, zero, suc, _+_, _-_, _*_, _≤_, _<_}
 use native.Mathlib.Nat.{le-refl, not-suc-le-zero, le-of-suc-le-suc, add-zero, zero-add, add-suc, suc-add, sub-zero, add-sub-cancel-left, mul-le-mul-right, suc-mul}
 use native.Mathlib.Numerals.{add-one}
 use native.Mathlib.Omega.{arith}
-use lib.ListN.{length, getD, take, drop, length-take, length-drop}
-use Rattle.planes.specs.Tables.{tab, row}
+use lib.Arith.{digits-lt}
+use lib.ListN.{length, getD, take, drop, replicate, length-take, length-drop}
+use Rattle.checks.specs.Tables.{tab, row}
 
 module _ {A : Type 0} where
   pub length-tab : (i n : ℕ) (f : ℕ → A) → length (tab i n f) ≡ n
@@ -26,6 +27,11 @@ module _ {A : Type 0} where
   pub tab-ext : (i n : ℕ) (f g : ℕ → A) → ((s : ℕ) → s < i + n → f s ≡ g s) → tab i n f ≡ tab i n g
   tab-ext i n f g e = tab-from i n f g (λ s l h. e s h)
 
+  -- a table of one value
+  pub tab-constant : (i n : ℕ) (a : A) → tab i n (λ k. a) ≡ replicate n a
+  tab-constant i zero a = refl
+  tab-constant i (suc n) a = ap (λ (l : List A). a ∷ l) (tab-constant (suc i) n a)
+
   -- a table in two parts, and one place more at the end
   pub tab-append : (i n m : ℕ) (f : ℕ → A) → tab i (n + m) f ≡ tab i n f ++ tab (i + n) m f
   tab-append i zero m f = ap (λ (k : ℕ). tab i k f) (zero-add m) ∙ ap (λ (k : ℕ). tab k m f) (sym (add-zero i))
@@ -39,6 +45,19 @@ module _ {A : Type 0} where
   pub tab-shift : (i n : ℕ) (f : ℕ → A) → tab (suc i) n f ≡ tab i n (λ k. f (suc k))
   tab-shift i zero f = refl
   tab-shift i (suc n) f = ap (λ (r : List A). f (suc i) ∷ r) (tab-shift (suc i) n f)
+
+  -- a table from k on is one from 0 on
+  pub tab-moved : (k i n : ℕ) (f : ℕ → A) → tab (k + i) n f ≡ tab i n (λ m. f (k + m))
+  tab-moved k i zero f = refl
+  tab-moved k i (suc n) f = ap (λ (r : List A). f (k + i) ∷ r) (ap (λ (j : ℕ). tab j n f) (sym (add-suc k i)) ∙ tab-moved k (suc i) n f)
+
+  -- a list is the table of what stands at its places
+  pub tab-getD : (xs : List A) (d : A) → tab 0 (length xs) (λ k. getD xs k d) ≡ xs
+  tab-getD [] d = refl
+  tab-getD (x ∷ xs) d = ap (λ (r : List A). x ∷ r) (tab-shift 0 (length xs) (λ k. getD (x ∷ xs) k d) ∙ tab-getD xs d)
+
+  pub tab-is : (xs : List A) (d : A) (f : ℕ → A) → ((k : ℕ) → k < length xs → f k ≡ getD xs k d) → tab 0 (length xs) f ≡ xs
+  tab-is xs d f e = tab-ext 0 (length xs) f (λ k. getD xs k d) (λ k h. e k (omega arith)) ∙ tab-getD xs d
 
   pub take-tab : (i k n : ℕ) (f : ℕ → A) → k ≤ n → take k (tab i n f) ≡ tab i k f
   take-tab i zero n f h = refl
@@ -75,3 +94,7 @@ module _ {A : Type 0} where
 -- row i of m rows ends where they end, or before
 pub row-end : (i m n room : ℕ) → i < m → room ≡ m * n → i * n + n ≤ room
 row-end i m n room h e = omega (arith, mul-le-mul-right n h, suc-mul i n)
+
+-- place n of row p of so many rows lies inside
+pub inside : (rows long p n room : ℕ) → p < rows → n < long → room ≡ rows * long → p * long + n < room
+inside rows long p n room hp hn e = omega (arith, digits-lt hp hn)

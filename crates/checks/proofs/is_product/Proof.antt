@@ -1,10 +1,10 @@
--- `planes::is_product` meets its contract. Assumes nothing.
+-- `checks::is_product` meets its contract. Assumes nothing.
 use Prim.Native.Nat.{_<_}
 use native.Mathlib.Omega.{arith}
-use Rattle.planes.proofs.Tests.{none, remains, divides}
+use Rattle.checks.proofs.Tests.{none, remains, divides}
 use borrow.Author.Needs.{needs}
-use Rattle.planes.proofs.is_product.Statement.{statement}
-use Rattle.planes.proofs.is_product.Tie as tie
+use Rattle.checks.proofs.is_product.Statement.{statement}
+use Rattle.checks.proofs.is_product.Tie as tie
 
 returns : tie.Need-returns
 returns c = none _ _ _ (c .if1 .taken)

@@ -1,8 +1,8 @@
--- `planes::is_finite` meets its contract. Assumes nothing.
+-- `checks::is_finite` meets its contract. Assumes nothing.
 use lib.Ieee.{div, neg, ofBits}
-use Rattle.planes.proofs.Tests.{above, not-below}
-use Rattle.planes.proofs.is_finite.Statement.{statement}
-use Rattle.planes.proofs.is_finite.Tie as tie
+use Rattle.checks.proofs.Tests.{above, not-below}
+use Rattle.checks.proofs.is_finite.Statement.{statement}
+use Rattle.checks.proofs.is_finite.Tie as tie
 
 returns : tie.Need-returns
 unfolding ofBits div neg

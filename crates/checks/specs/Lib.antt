@@ -1,0 +1,3 @@
+-- The words of the promises of `checks`, and of the crates above.
+pub mod Tables
+pub mod Lengths
