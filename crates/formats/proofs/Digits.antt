@@ -1,9 +1,9 @@
 -- Whole numbers by their binary digits, at every number of digits p: how many digits a number has beyond p (`drop-is`), the pattern of q * 2 ^ k (`pack`), and where the patterns
 -- end (`under-end`, `past-end`). Assumes nothing.
-use mathlib.Core.Path.{_≡_, refl, sym, ap, _∙_, subst}
+use mathlib.Core.Path.{_≡_, sym, ap, _∙_, subst}
 use mathlib.Core.Logic.{_⊎_, inl, inr}
 use Prim.Native.Nat.{ℕ, suc, _+_, _-_, _*_, _/_, _^_, _≤_, _<_}
-use native.Mathlib.Nat.{le-trans, le-of-eq, lt-of-lt-of-le, lt-of-le-of-lt, lt-of-not-le, lt-irrefl, eq-or-lt-of-le, mul-assoc, mul-comm, mul-le-mul-right, lt-of-mul-lt-mul-right, le-of-mul-le-mul-right, mul-div-cancel, add-mul, pow-succ'}
+use native.Mathlib.Nat.{le-trans, le-of-eq, lt-of-lt-of-le, lt-of-le-of-lt, lt-of-not-le, lt-irrefl, eq-or-lt-of-le, mul-assoc, mul-comm, mul-le-mul-right, lt-of-mul-lt-mul-right, le-of-mul-le-mul-right, mul-div-cancel, pow-succ'}
 use native.Mathlib.Omega.{arith}
 use lib.Pow.{pow-add, pow-pos, pow-mono, pow-lt, shl-lt}
 use lib.Ieee.{size}
@@ -47,12 +47,6 @@ pack p q k P h g = go (eq-or-lt-of-le h)
     lead (inl z) = inl z
     lead (inr l) = inr (le-trans (le-of-eq (pow-add 2 (p - 1) k)) (mul-le-mul-right (2 ^ k) l))
 
-    carry : (h k x q : ℕ) → x ≡ k * h → q ≡ 2 * h → h + x + h ≡ x + q
-    carry h k x q a b = omega arith
-
-    suc-times : (k h : ℕ) → suc k * h ≡ h + k * h
-    suc-times k h = omega arith
-
     go : (q ≡ 2 ^ p) ⊎ (q < 2 ^ p) → (size (q * 2 ^ k) - p) * 2 ^ (p - 1) + q * 2 ^ k / 2 ^ (size (q * 2 ^ k) - p) ≡ k * 2 ^ (p - 1) + q
     go (inr l) =
         ap (λ (z : ℕ). z * 2 ^ (p - 1) + q * 2 ^ k / 2 ^ z) (drop-is p (q * 2 ^ k) k P (shl-lt p k l) (lead g))
@@ -66,22 +60,18 @@ pack p q k P h g = go (eq-or-lt-of-le h)
         ap (λ (z : ℕ). z * H + q * 2 ^ k / 2 ^ z) d
         ∙ ap (λ (z : ℕ). suc k * H + z / 2 ^ suc k) n
         ∙ ap (λ (z : ℕ). suc k * H + z) (mul-div-cancel H (pow-pos (suc k)))
-        ∙ ap (λ (z : ℕ). z + H) (suc-times k H)
-        ∙ carry H k (k * H) q refl (e ∙ twice p P)
+        ∙ carry H k q (e ∙ twice p P)
       where
         less : (p k : ℕ) → 0 < p → p - 1 + suc k < p + suc k
         less p k P = omega arith
 
+        carry : (h k q : ℕ) → q ≡ 2 * h → suc k * h + h ≡ k * h + q
+        carry h k q e = omega arith
+
 -- ---- where the numbers end: the pattern reaches (E + 1) * H as the number reaches 2 ^ E * H, H being the weight of the leading digit
 pub under-end : (H q k E : ℕ) → 0 < E → q ≤ 2 * H → (k ≡ 0) ⊎ (H ≤ q) → q * 2 ^ k < 2 ^ E * H → k * H + q ≤ (E + 1) * H
-under-end H q k E Z h g l = le-trans (two-more (k * H) q H h) (le-trans (le-of-eq (sym (add-mul k 2 H))) (mul-le-mul-right H (fewer k E (below g))))
+under-end H q k E Z h g l = omega (arith, mul-le-mul-right H (below g))
   where
-    two-more : (x q H : ℕ) → q ≤ 2 * H → x + q ≤ x + 2 * H
-    two-more x q H h = omega arith
-
-    fewer : (k E : ℕ) → k < E → k + 2 ≤ E + 1
-    fewer k E h = omega arith
-
     below : (k ≡ 0) ⊎ (H ≤ q) → k < E
     below (inl z) = subst (λ (x : ℕ). x < E) (sym z) Z
     below (inr b) = exponent-lt k E (lt-of-mul-lt-mul-right H (lt-of-le-of-lt (le-trans (le-of-eq (mul-comm (2 ^ k) H)) (mul-le-mul-right (2 ^ k) b)) l))
@@ -89,29 +79,18 @@ under-end H q k E Z h g l = le-trans (two-more (k * H) q H h) (le-trans (le-of-e
 pub past-end : (H q k E : ℕ) → 0 < H → 0 < E → q ≤ 2 * H → (k ≡ 0) ⊎ (H ≤ q) → 2 ^ E * H ≤ q * 2 ^ k → (E + 1) * H ≤ k * H + q
 past-end H q k E HP Z h g l = go (eq-or-lt-of-le reach-k) g
   where
+    doubled : 2 * H * 2 ^ k ≡ 2 ^ suc k * H
+    doubled = mul-assoc 2 H (2 ^ k) ∙ ap (λ (x : ℕ). 2 * x) (mul-comm H (2 ^ k)) ∙ sym (mul-assoc 2 (2 ^ k) H) ∙ ap (λ (x : ℕ). x * H) (sym (pow-succ' 2 k))
+
     reach-k : E ≤ suc k
-    reach-k =
-        exponent-le E (suc k)
-        (le-of-mul-le-mul-right (le-trans l (le-trans (mul-le-mul-right (2 ^ k) h) (le-of-eq (mul-assoc 2 H (2 ^ k) ∙ ap (λ (x : ℕ). 2 * x) (mul-comm H (2 ^ k)) ∙ sym (mul-assoc 2 (2 ^ k) H) ∙ ap (λ (x : ℕ). x * H) (sym (pow-succ' 2 k)))))) HP)
-
-    two-more : (x q H : ℕ) → 2 * H ≤ q → x + 2 * H ≤ x + q
-    two-more x q H h = omega arith
-
-    one-more : (x q H : ℕ) → H ≤ q → x + 1 * H ≤ x + q
-    one-more x q H h = omega arith
-
-    less : (E k : ℕ) → E < suc k → E + 1 ≤ k + 1
-    less E k h = omega arith
+    reach-k = exponent-le E (suc k) (le-of-mul-le-mul-right (le-trans l (le-trans (mul-le-mul-right (2 ^ k) h) (le-of-eq doubled))) HP)
 
     none : (E k : ℕ) → E < suc k → k ≡ 0 → 0 < E → ⊥
     none E k h z p = omega arith
 
-    next : (E k : ℕ) → E ≡ suc k → E + 1 ≡ k + 2
-    next E k e = omega arith
-
     go : (E ≡ suc k) ⊎ (E < suc k) → (k ≡ 0) ⊎ (H ≤ q) → (E + 1) * H ≤ k * H + q
     go (inl e) g =
-        let b : 2 * H ≤ q = le-of-mul-le-mul-right (le-trans (le-of-eq (mul-assoc 2 H (2 ^ k) ∙ ap (λ (x : ℕ). 2 * x) (mul-comm H (2 ^ k)) ∙ sym (mul-assoc 2 (2 ^ k) H) ∙ ap (λ (x : ℕ). x * H) (sym (pow-succ' 2 k) ∙ ap (λ (x : ℕ). 2 ^ x) (sym e)))) l) (pow-pos k) in
-        le-trans (le-of-eq (ap (λ (x : ℕ). x * H) (next E k e) ∙ add-mul k 2 H)) (two-more (k * H) q H b)
+        let b : 2 * H ≤ q = le-of-mul-le-mul-right (le-trans (le-of-eq (doubled ∙ ap (λ (x : ℕ). 2 ^ x * H) (sym e))) l) (pow-pos k) in
+        omega (arith, b, ap (λ (x : ℕ). x * H) e)
     go (inr a) (inl z) = absurd (none E k a z Z)
-    go (inr a) (inr b) = le-trans (mul-le-mul-right H (less E k a)) (le-trans (le-of-eq (add-mul k 1 H)) (one-more (k * H) q H b))
+    go (inr a) (inr b) = omega (arith, b, mul-le-mul-right H a)

@@ -3,7 +3,7 @@
 use mathlib.Core.Path.{_≡_, refl, sym, ap, _∙_, subst}
 use mathlib.Core.Logic.{_⊎_, inl, inr}
 use Prim.Native.Nat.{ℕ, zero, suc, _+_, _-_, _*_, _/_, _^_, _≤_, _<_}
-use native.Mathlib.Nat.{lt-of-lt-of-le, lt-of-not-le, lt-of-mul-lt-mul-right, zero-mul, mul-one, one-mul, mul-assoc, mul-comm, mul-right-comm, mul-le-mul-right, mul-lt-mul-of-pos-right, sub-add-cancel, suc-mul}
+use native.Mathlib.Nat.{lt-of-lt-of-le, lt-of-not-le, lt-of-mul-lt-mul-right, zero-mul, mul-one, one-mul, mul-assoc, mul-le-mul-right, mul-lt-mul-of-pos-right, sub-add-cancel}
 use native.Mathlib.Decide.{decLe}
 use native.Mathlib.Omega.{arith}
 use mathlib.Core.Bool.{Bool, false}
@@ -53,9 +53,7 @@ held-units f s (suc m) e t =
     let h = held f s m e t in
     let j = lift f e in
     let is : suc m * up e * 2 ^ low f ≡ suc m * 2 ^ j * down e = mul-assoc (suc m) (up e) (2 ^ low f) ∙ ap (λ (x : ℕ). suc m * x) (lift-is f e (h .deep)) ∙ sym (mul-assoc (suc m) (2 ^ j) (down e)) in
-    let below : suc m * 2 ^ j * down e < overflow f * down e =
-    subst (λ (x : ℕ). x < overflow f * down e) is
-    (subst (λ (x : ℕ). suc m * up e * 2 ^ low f < x) (mul-right-comm (2 ^ suc (emax f)) (down e) (2 ^ low f) ∙ ap (λ (x : ℕ). x * down e) (mul-comm (2 ^ suc (emax f)) (2 ^ low f) ∙ sym (pow-add 2 (low f) (suc (emax f))))) (mul-lt-mul-of-pos-right (h .small) (pow-pos (low f)))) in
+    let below : suc m * 2 ^ j * down e < overflow f * down e = omega (arith, is, mul-lt-mul-of-pos-right (h .small) (pow-pos (low f)), ap (λ (x : ℕ). x * down e) (pow-add 2 (low f) (suc (emax f)))) in
     record {
       w = suc m * 2 ^ j;
       value = (refl, is);
@@ -83,11 +81,10 @@ finite-below f m e t =
     let w = u .w in
     let k = size w - p in
     subst (λ (x : ℕ). x < ones f * hid f) (sym (toBits-value f false (fin false m e) w (u .value)))
-    (lt-of-lt-of-le (fit (hid f) (k * hid f) (w / 2 ^ k) (suc (suc k) * hid f) (suc-mul (suc k) (hid f) ∙ ap (λ (x : ℕ). x + hid f) (suc-mul k (hid f))) (subst (λ (x : ℕ). w / 2 ^ k < x) (twice-hid f) (kept-lt p w)))
-    (mul-le-mul-right (hid f) (field (size w) p (emax f) (two f) (reach f) (size-le w (low f + suc (emax f)) (u .grid .room)))))
+    (fit (hid f) k (w / 2 ^ k) (ones f) (subst (λ (x : ℕ). w / 2 ^ k < x) (twice-hid f) (kept-lt p w)) (field (size w) p (emax f) (two f) (reach f) (size-le w (low f + suc (emax f)) (u .grid .room))))
   where
     field : (z p e : ℕ) → 2 ≤ p → p ≤ suc e → z ≤ e + p - 2 + suc e → suc (suc (z - p)) ≤ 2 * e + 1
     field z p e a b c = omega arith
 
-    fit : (h a b c : ℕ) → c ≡ a + h + h → b < 2 * h → 0 + (a + b) < c
-    fit h a b c e l = omega arith
+    fit : (h k b o : ℕ) → b < 2 * h → suc (suc k) ≤ o → 0 + (k * h + b) < o * h
+    fit h k b o l g = omega (arith, mul-le-mul-right h g)

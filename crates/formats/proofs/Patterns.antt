@@ -4,17 +4,16 @@
 use mathlib.Core.Path.{_≡_, refl, sym, ap, _∙_, subst}
 use mathlib.Core.Logic.{_⊎_}
 use Prim.Native.Nat.{ℕ, zero, suc, _+_, _-_, _*_, _/_, _%_, _^_, _≤_, _<_, min}
-use native.Mathlib.Nat.{le-refl, le-suc, lt-of-lt-of-le, lt-of-le-of-lt, lt-irrefl, add-assoc, mul-comm, mul-div-cancel, mul-le-mul-right, mod-eq-of-lt, div-lt-iff-lt-mul, min-eq-left, min-eq-right}
+use native.Mathlib.Nat.{le-refl, le-suc, lt-of-lt-of-le, lt-of-le-of-lt, lt-irrefl, ne-of-lt, add-assoc, mul-comm, mul-div-cancel, mul-le-mul-right, mod-eq-of-lt, div-lt-iff-lt-mul, min-eq-left, min-eq-right}
 use native.Mathlib.Omega.{arith}
 use mathlib.Core.Bool.{Bool, true, false, not, cond, _&&_, true≢false}
 use lib.IntN.{ℤ}
-use lib.Dec.{T, leb, ltb, eqb, eqb→eq, not-T, leb→le, ltb→lt, nltb→le}
-use lib.Arith.{lt→nleb}
-use borrow.Author.Tests.{lt-ltb, le-ltb}
+use lib.Dec.{T, leb, ltb, eqb, leb→le, ltb→lt, nltb→le}
+use borrow.Author.Tests.{lt-ltb, le-ltb, lt-leb, ne-eqb}
 use lib.Pow.{pow-add, pow-pos, pow-lt}
 use lib.Ieee.{Float, nan, inf, fin, Format, binary32, binary64, prec, emax, low, up, down, size, odd, units, round, ne, fits, isNan, hid, ones, top, ofFields, ofBits, toBits, nanBits}
 use lib.Ieee.Fits.{two, reach, two-le-pos, down-pos, odd-fits, inf-fits, and-l, and-r}
-use lib.Ieee.Bits.{is-false, cond-no, ofBits-toBits, nanBits-is, nanBits-above}
+use lib.Ieee.Bits.{ofBits-toBits, nanBits-is, nanBits-above}
 use lib.Ieee.Compare.{nan-differs}
 use lib.Ieee.Exact.{HasValue, odd-sign}
 use lib.Ieee.Scale.{overflow}
@@ -113,8 +112,7 @@ unfolding ofFields
 fields-value f s zero t h = odd-sign (prec f) s t 0 (low f)
 fields-value f s (suc x) t h =
     subst (λ (j : ℕ). HasValue (ofFields f s (suc x) t) s ((hid f + t) * 2 ^ j) (2 ^ low f)) (less x)
-    (subst (λ (v : Float). HasValue v s ((hid f + t) * 2 ^ x) (2 ^ low f))
-    (sym (cond-no (eqb (suc x) (ones f)) (cond (eqb t 0) (inf s) nan) (odd (prec f) s (hid f + t) x (low f)) (not-T (eqb (suc x) (ones f)) (λ u. lt-irrefl (ones f) (subst (λ (z : ℕ). z < ones f) (eqb→eq (suc x) (ones f) u) h)))))
+    (subst (λ (b : Bool). HasValue (cond b (cond (eqb t 0) (inf s) nan) (odd (prec f) s (hid f + t) x (low f))) s ((hid f + t) * 2 ^ x) (2 ^ low f)) (sym (ne-eqb (suc x) (ones f) (ne-of-lt h)))
     (odd-sign (prec f) s (hid f + t) x (low f)))
   where
     less : (x : ℕ) → x ≡ suc x - 1
@@ -139,7 +137,7 @@ unpack f b h = subst (λ (v : Float). HasValue v false (digits f (b / hid f) (b 
     is : ofBits f b ≡ ofFields f false (b / hid f) (b % hid f)
     is =
         ofBits-fields f b
-        ∙ ap (λ (s : Bool). ofFields f s (b % top f / hid f) (b % hid f)) (is-false (leb (top f) b) (lt→nleb (top f) b under))
+        ∙ ap (λ (s : Bool). ofFields f s (b % top f / hid f) (b % hid f)) (lt-leb (top f) b under)
         ∙ ap (λ (r : ℕ). ofFields f false (r / hid f) (b % hid f)) (mod-eq-of-lt under)
 
 -- ---- what `fits` says of a number that is not zero

@@ -5,7 +5,8 @@ use mathlib.Core.Path.{_≡_, subst}
 use Prim.Native.Nat.{ℕ, suc, _+_, _*_, _/_, _≤_, _<_}
 use native.Mathlib.Nat.{mul-pos, mul-le-mul, mul-le-mul-right, le-of-mul-le-mul-right, lt-div-mul-add}
 use native.Mathlib.Omega.{arith}
-use Rattle.fractions.specs.Fraction.{Fraction, _⊕_, _⊖_, _⊗_, opposite, Same, gap}
+use lib.Dec.{lit<}
+use Rattle.fractions.specs.Fraction.{Fraction, fraction, whole, _⊕_, _⊖_, _⊗_, opposite, Same, AtMost, gap}
 use Rattle.fractions.proofs.Ring.{ring}
 use Rattle.fractions.proofs.Order.{by-gap}
 
@@ -134,6 +135,21 @@ size-near h k = record { above = near-above h k; below = near-above (close-oppos
 
 pub size-same : {W M : ℕ} {x : Fraction} (y : Fraction) → 0 < x .over → 0 < y .over → Same y x → Size W x M → Size W y M
 size-same {W} {M} {x} y X Y e h = size-wider (size-near (same-close W y x Y X e) h) (omega arith)
+
+-- ---- 0 for an x that is not above 0: what is within E / W of x, and at most E / W below 0, is within E / W of 0
+zero-nat : (xp xm xo qp qm qo W E : ℕ) → xp * (qo * W) ≤ xm * (qo * W) → (xm * qo + qp * xo) * W ≤ (qm * xo + xp * qo) * W + E * (xo * qo) → (0 * qo + qp * 1) * W * xo ≤ ((qm * 1 + 0 * qo) * W + E * (1 * qo)) * xo
+zero-nat xp xm xo qp qm qo W E h k = let k' = simp ring at k in simp ring (omega arith)
+
+pub zero-near : {W E : ℕ} (x q : Fraction) → Close W x q E → AtMost x (whole 0) → AtMost (fraction 0 E W) q → Close W (whole 0) q E
+zero-near {W} {E} x q c h l = record {
+  first = lit< tt;
+  second = c .second;
+  above = omega arith;
+  below = le-of-mul-le-mul-right (zero-nat (x .plus) (x .minus) (x .over) (q .plus) (q .minus) (q .over) W E (mul-le-mul-right (q .over * W) (under x h)) (c .below)) (c .first);
+}
+  where
+    under : (x : Fraction) → AtMost x (whole 0) → x .plus ≤ x .minus
+    under x h = omega arith
 
 -- ---- sums
 add-nat : (xp xm xo xp' xm' xo' yp ym yo yp' ym' yo' W E F : ℕ)

@@ -60,7 +60,7 @@ closest-zero a b h =
     closest-lt a b (subst (λ (x : ℕ). x * 2 < b) (sym (mod-eq-of-lt l)) h) ∙ div-eq-of-lt l
 
 -- ---- how far a is from w multiples of b
-abbrev pub off : ℕ → ℕ → ℕ → ℕ
+abbrev off : ℕ → ℕ → ℕ → ℕ
 off a b w = gap a (w * b)
 
 -- the number, its quotient being q and its remainder r: q or the next, and twice what it is off by is b at most, b only where it is even

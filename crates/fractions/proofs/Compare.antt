@@ -1,107 +1,111 @@
--- One float is at most another exactly if its number is; and what lies from -l to l is l in magnitude at most. (What is strictly below is in IsLess.antt.) Assumes nothing.
-use mathlib.Core.Path.{_≡_, refl, sym, subst}
-use mathlib.Core.Logic.{_⊎_, inl, inr}
-use mathlib.Core.Bool.{Bool, true, false, Bool·beq, _||_, cond}
-use Prim.Native.Nat.{ℕ, _+_, _*_, _≤_, _<_, zero-le}
-use native.Mathlib.Nat.{lt-irrefl, eq-or-lt-of-le}
+-- Comparing two floats that are numbers compares the numbers, exactly: nothing is rounded. So a definition that goes by cases on fractions and a program that goes by cases on floats take the same way
+-- (`lt-number`, `le-number`). Assumes nothing.
+use mathlib.Core.Path.{_≡_, refl, sym, ap, _∙_, subst}
+use mathlib.Core.Bool.{Bool, true, false, not, _&&_, _||_}
+use Prim.Native.Nat.{ℕ, _+_, _*_, _<_, zero-le}
+use native.Mathlib.Nat.{le-of-lt, lt-irrefl, not-suc-le-zero}
+use native.Mathlib.Decide.{decLt}
 use native.Mathlib.Omega.{arith}
-use lib.Dec.{T, eqb, ltb→lt, lt→ltb, eqb→eq}
+use borrow.Author.Tests.{ltb-true, ltb-false, eqb-true, not-true, lt-ltb, le-ltb, eq-eqb, ne-eqb}
+use lib.Dec.{T, ltb, eqb}
 use lib.Ieee.{Float, nan, inf, fin, up, down, below, level, lt, eq, le}
-use lib.Ieee.Fits.{and-l, and-r, and-i, eq→eqb}
-use Rattle.fractions.specs.Fraction.{Fraction, number, opposite, magnitude, AtMost, gap}
-use Rattle.fractions.proofs.Order.{by-gap}
-use Rattle.fractions.proofs.Expression.{negative-nat}
+use lib.Ieee.Bits.{is-true}
+use Rattle.fractions.specs.Fraction.{Fraction, signed, number, Same, Less, isLess, AtMost}
+use Rattle.fractions.proofs.Order.{less-same, at-most-same}
 
-either : (a b : Bool) {X : Type 0} → (T a → X) → (T b → X) → T (a || b) → X
-either true b f g t = f tt
-either false b f g t = g t
+-- ---- what a test says
+pub less-true : (x y : Fraction) → isLess x y ≡ true → Less x y
+less-true x y = ltb-true _ _
 
-or-l : (a b : Bool) → T a → T (a || b)
-or-l true b t = tt
+pub less-false : (x y : Fraction) → isLess x y ≡ false → AtMost y x
+less-false x y = ltb-false _ _
 
-or-r : (a b : Bool) → T b → T (a || b)
-or-r true b t = tt
-or-r false b t = t
+pub is-less : (x y : Fraction) → Less x y → isLess x y ≡ true
+is-less x y = lt-ltb _ _
 
--- ---- ±u ≤ ±v, as comparing floats says it
+pub is-not-less : (x y : Fraction) → AtMost y x → isLess x y ≡ false
+is-not-less x y = le-ltb _ _
 
-abbrev Signed : Bool → ℕ → Bool → ℕ → Type 0
-Signed s u t v = cond s 0 u + cond t v 0 ≤ cond t 0 v + cond s u 0
+-- ---- below, of ±a / c and ±b / d
+sides : (a b a' b' : ℕ) → a ≡ a' → b ≡ b' → ltb a b ≡ ltb a' b'
+sides a b a' b' p q = λ i. ltb (p i) (q i)
 
-level-says : (s t : Bool) (u v : ℕ) → T (level s u t v) → Signed s u t v
-level-says false false u v h = let e = eqb→eq u v (and-l (eqb u v) true h) in omega arith
-level-says true true u v h = let e = eqb→eq u v (and-l (eqb u v) true h) in omega arith
-level-says true false u v h = omega arith
-level-says false true u v h = let e = eqb→eq u v (and-l (eqb u v) (eqb u 0) h) in let z = eqb→eq u 0 (and-r (eqb u v) (eqb u 0) h) in omega arith
+signed-less : (s t : Bool) (a c b d : ℕ) → below s (a * d) t (b * c) ≡ isLess (signed s a c) (signed t b d)
+signed-less false false a c b d = sides (a * d) (b * c) (a * d + 0 * c) (b * c + 0 * d) (omega arith) (omega arith)
+signed-less false true a c b d = sym (le-ltb (a * d + b * c) (0 * c + 0 * d) (omega arith))
+signed-less true false a c b d = sides 0 (a * d + b * c) (0 * d + 0 * c) (b * c + a * d) (omega arith) (omega arith)
+signed-less true true a c b d = sides (b * c) (a * d) (0 * d + b * c) (0 * c + a * d) (omega arith) (omega arith)
 
-below-says : (s t : Bool) (u v : ℕ) → T (below s u t v) → Signed s u t v
-below-says false false u v h = let l = ltb→lt u v h in omega arith
-below-says true true u v h = let l = ltb→lt v u h in omega arith
-below-says true false u v h = omega arith
-below-says false true u v h = absurd h
+pub lt-number : (x y : Float) → 0 < number x .over → 0 < number y .over → lt x y ≡ isLess (number x) (number y)
+unfolding lt
+lt-number nan y h k = absurd (lt-irrefl 0 h)
+lt-number (inf s) y h k = absurd (lt-irrefl 0 h)
+lt-number (fin s m e) nan h k = absurd (lt-irrefl 0 k)
+lt-number (fin s m e) (inf t) h k = absurd (lt-irrefl 0 k)
+lt-number (fin s m e) (fin t n d) h k = signed-less s t (m * up e) (down e) (n * up d) (down d)
 
-level-at : (s t : Bool) (u v : ℕ) → u ≡ v → (Bool·beq s t ≡ true) ⊎ (u ≡ 0) → T (level s u t v)
-level-at s t u v e (inl b) = and-i (eqb u v) (Bool·beq s t || eqb u 0) (eq→eqb e) (or-l (Bool·beq s t) (eqb u 0) (subst T (sym b) tt))
-level-at s t u v e (inr z) = and-i (eqb u v) (Bool·beq s t || eqb u 0) (eq→eqb e) (or-r (Bool·beq s t) (eqb u 0) (eq→eqb z))
+-- ---- at most: below, or level, which is not the other way round
 
-at-once : (s t : Bool) (u v : ℕ) {a b : ℕ} → (a < b → T (below s u t v)) → (a ≡ b) ⊎ (a < b) → (a ≡ b → T (level s u t v)) → T (below s u t v || level s u t v)
-at-once s t u v f (inl e) g = or-r (below s u t v) (level s u t v) (g e)
-at-once s t u v f (inr l) g = or-l (below s u t v) (level s u t v) (f l)
+-- a < b or a = b, where w is the test of the second
+at-most-test : (a b : ℕ) (w : Bool) → (a ≡ b → w ≡ true) → (b < a → w ≡ false) → (ltb a b || w) ≡ not (ltb b a)
+at-most-test a b w f g = go (decLt a b) (decLt b a)
+  where
+    level-is : ¬ (a < b) → ¬ (b < a) → a ≡ b
+    level-is n m = omega arith
 
-signed-at : (s t : Bool) (u v : ℕ) → Signed s u t v → T (below s u t v || level s u t v)
-signed-at false false u v h = at-once false false u v (λ l. lt→ltb u v l) (eq-or-lt-of-le (omega arith)) (λ e. level-at false false u v e (inl refl))
-signed-at true true u v h = at-once true true u v (λ l. lt→ltb v u l) (eq-or-lt-of-le (omega arith)) (λ e. level-at true true u v (sym e) (inl refl))
-signed-at true false u v h = at-once true false u v (λ l. lt→ltb 0 (u + v) l) (eq-or-lt-of-le zero-le) (λ e. level-at true false u v (omega arith) (inr (omega arith)))
-signed-at false true u v h = level-at false true u v (omega arith) (inr (omega arith))
+    go : Dec (a < b) → Dec (b < a) → (ltb a b || w) ≡ not (ltb b a)
+    go (yes l) d = ap (λ (z : Bool). z || w) (lt-ltb a b l) ∙ sym (ap not (le-ltb b a (le-of-lt l)))
+    go (no n) (yes l) = ap (λ (z : Bool). z || w) (le-ltb a b (le-of-lt l)) ∙ g l ∙ sym (ap not (lt-ltb b a l))
+    go (no n) (no m) = let e = level-is n m in ap (λ (z : Bool). z || w) (le-ltb a b (omega arith)) ∙ f e ∙ sym (ap not (le-ltb b a (omega arith)))
+
+-- two signs alike, and two unlike: then both are 0
+alike : (u v : ℕ) → (u ≡ v → (eqb u v && true) ≡ true) × ((u ≡ v → ⊥) → (eqb u v && true) ≡ false)
+alike u v = (λ e. ap (λ (z : Bool). z && true) (eq-eqb u v e), λ n. ap (λ (z : Bool). z && true) (ne-eqb u v n))
+
+both-zero : (u v : ℕ) → u + v ≡ 0 → (eqb u v && eqb u 0) ≡ true
+both-zero u v e = let p : u ≡ v = omega arith in let q : u ≡ 0 = omega arith in λ i. eq-eqb u v p i && eq-eqb u 0 q i
+
+not-both-zero : (u v : ℕ) → 0 < u + v → (eqb u v && eqb u 0) ≡ false
+not-both-zero u v h = go (eqb u v) (eqb u 0) (eqb-true u v) (eqb-true u 0)
+  where
+    none : u ≡ v → u ≡ 0 → ⊥
+    none p q = omega arith
+
+    go : (a b : Bool) → (a ≡ true → u ≡ v) → (b ≡ true → u ≡ 0) → (a && b) ≡ false
+    go true true p q = absurd (none (p refl) (q refl))
+    go true false p q = refl
+    go false b p q = refl
+
+signed-at-most : (s t : Bool) (a c b d : ℕ) → (below s (a * d) t (b * c) || level s (a * d) t (b * c)) ≡ not (isLess (signed t b d) (signed s a c))
+signed-at-most false false a c b d =
+    at-most-test (a * d) (b * c) _ (alike (a * d) (b * c) .0) (λ l. alike (a * d) (b * c) .1 (λ e. omega arith)) ∙ ap not (sides (b * c) (a * d) (b * c + 0 * d) (a * d + 0 * c) (omega arith) (omega arith))
+signed-at-most true true a c b d =
+    at-most-test (b * c) (a * d) _ (λ e. alike (a * d) (b * c) .0 (sym e)) (λ l. alike (a * d) (b * c) .1 (λ e. omega arith)) ∙ ap not (sides (a * d) (b * c) (0 * c + a * d) (0 * d + b * c) (omega arith) (omega arith))
+signed-at-most true false a c b d =
+    at-most-test 0 (a * d + b * c) _ (λ e. both-zero (a * d) (b * c) (sym e)) (λ l. absurd (not-suc-le-zero l)) ∙ ap not (sides (a * d + b * c) 0 (b * c + a * d) (0 * d + 0 * c) (omega arith) (omega arith))
+signed-at-most false true a c b d =
+    let w = eqb (a * d) (b * c) && eqb (a * d) 0 in
+    sym (ap (λ (z : Bool). z || w) (le-ltb (a * d + b * c) 0 zero-le)) ∙ at-most-test (a * d + b * c) 0 w (both-zero (a * d) (b * c)) (not-both-zero (a * d) (b * c))
+    ∙ ap not (sides 0 (a * d + b * c) (0 * c + 0 * d) (a * d + b * c) (omega arith) refl)
+
+pub le-number : (x y : Float) → 0 < number x .over → 0 < number y .over → le x y ≡ not (isLess (number y) (number x))
+unfolding le lt eq
+le-number nan y h k = absurd (lt-irrefl 0 h)
+le-number (inf s) y h k = absurd (lt-irrefl 0 h)
+le-number (fin s m e) nan h k = absurd (lt-irrefl 0 k)
+le-number (fin s m e) (inf t) h k = absurd (lt-irrefl 0 k)
+le-number (fin s m e) (fin t n d) h k = signed-at-most s t (m * up e) (down e) (n * up d) (down d)
 
 pub le-at-most : (x y : Float) → T (le x y) → 0 < number x .over → 0 < number y .over → AtMost (number x) (number y)
-unfolding le lt eq
-le-at-most nan y h X Y = absurd (lt-irrefl 0 X)
-le-at-most (inf s) y h X Y = absurd (lt-irrefl 0 X)
-le-at-most (fin s m e) nan h X Y = absurd (lt-irrefl 0 Y)
-le-at-most (fin s m e) (inf t) h X Y = absurd (lt-irrefl 0 Y)
-le-at-most (fin s m e) (fin t n d) h X Y = spread s t (m * up e) (n * up d) (down e) (down d) (either (below s u t v) (level s u t v) (below-says s t u v) (level-says s t u v) h)
-  where
-    u : ℕ
-    u = m * up e * down d
-
-    v : ℕ
-    v = n * up d * down e
-
-    spread : (s t : Bool) (a b C D : ℕ) → Signed s (a * D) t (b * C) → cond s 0 a * D + cond t b 0 * C ≤ cond t 0 b * C + cond s a 0 * D
-    spread false false a b C D h = omega arith
-    spread false true a b C D h = omega arith
-    spread true false a b C D h = omega arith
-    spread true true a b C D h = omega arith
+le-at-most x y h X Y = less-false (number y) (number x) (not-true (isLess (number y) (number x)) (sym (le-number x y X Y) ∙ is-true (le x y) h))
 
 pub at-most-le : (x y : Float) → 0 < number x .over → 0 < number y .over → AtMost (number x) (number y) → T (le x y)
-unfolding le lt eq
-at-most-le nan y X Y h = absurd (lt-irrefl 0 X)
-at-most-le (inf s) y X Y h = absurd (lt-irrefl 0 X)
-at-most-le (fin s m e) nan X Y h = absurd (lt-irrefl 0 Y)
-at-most-le (fin s m e) (inf t) X Y h = absurd (lt-irrefl 0 Y)
-at-most-le (fin s m e) (fin t n d) X Y h = signed-at s t (m * up e * down d) (n * up d * down e) (gather s t (m * up e) (n * up d) (down e) (down d) h)
+at-most-le x y X Y h = subst T (sym (le-number x y X Y ∙ ap not (is-not-less (number y) (number x) h))) tt
+
+-- ---- other names of the same numbers
+pub is-less-same : (x x' y y' : Fraction) → 0 < x .over → 0 < x' .over → 0 < y .over → 0 < y' .over → Same x x' → Same y y' → isLess x y ≡ isLess x' y'
+is-less-same x x' y y' X X' Y Y' e f = go (isLess x' y') refl
   where
-    gather : (s t : Bool) (a b C D : ℕ) → cond s 0 a * D + cond t b 0 * C ≤ cond t 0 b * C + cond s a 0 * D → Signed s (a * D) t (b * C)
-    gather false false a b C D h = omega arith
-    gather false true a b C D h = omega arith
-    gather true false a b C D h = omega arith
-    gather true true a b C D h = omega arith
-
--- ---- from -l to l is a magnitude of l at most
-
-between-nat : (xp xm xo lp lm lo : ℕ) → lm * xo + xm * lo ≤ xp * lo + lp * xo → xp * lo + lm * xo ≤ lp * xo + xm * lo → gap xp xm * lo + lm * xo ≤ lp * xo + 0 * lo
-between-nat xp xm xo lp lm lo =
-    by-gap (λ (p m i : ℕ). lm * xo + m * lo ≤ p * lo + lp * xo → p * lo + lm * xo ≤ lp * xo + m * lo → i * lo + lm * xo ≤ lp * xo + 0 * lo) (λ m i h k. omega arith) (λ p i h k. omega arith) xp xm
-
-pub between-magnitude : (x l : Fraction) → AtMost (opposite l) x → AtMost x l → AtMost (magnitude x) l
-between-magnitude x l = between-nat (x .plus) (x .minus) (x .over) (l .plus) (l .minus) (l .over)
-
-pub magnitude-below : (x l : Fraction) → AtMost (magnitude x) l → AtMost x l
-magnitude-below x l = go (x .plus) (x .minus)
-  where
-    go : (p m : ℕ) → gap p m * l .over + l .minus * x .over ≤ l .plus * x .over + 0 * l .over → p * l .over + l .minus * x .over ≤ l .plus * x .over + m * l .over
-    go = by-gap (λ (p m i : ℕ). i * l .over + l .minus * x .over ≤ l .plus * x .over + 0 * l .over → p * l .over + l .minus * x .over ≤ l .plus * x .over + m * l .over) (λ m i h. omega arith) (λ p i h. omega arith)
-
-pub magnitude-above : (x l : Fraction) → AtMost (magnitude x) l → AtMost (opposite l) x
-magnitude-above x l = negative-nat (x .plus) (x .minus) (x .over) (l .plus) (l .minus) (l .over)
+    go : (b : Bool) → isLess x' y' ≡ b → isLess x y ≡ b
+    go true h = is-less x y (less-same x x' y y' e f X Y (less-true x' y' h))
+    go false h = is-not-less x y (at-most-same y y' x x' f e Y' X' (less-false x' y' h))

@@ -1,11 +1,12 @@
 -- Quotients by a number above zero: how large they are and how far apart, in units of 1 / W, where the divisor is L / W at least. And the laws of `Least`. Assumes nothing.
-use mathlib.Core.Path.{ap, subst, subst₂}
-use Prim.Native.Nat.{ℕ, _+_, _*_, _-_, _≤_, _<_}
+use mathlib.Core.Path.{sym, ap, subst, subst₂}
+use Prim.Native.Nat.{ℕ, _+_, _*_, _≤_, _<_}
 use native.Mathlib.Nat.{le-trans, le-of-eq, le-of-lt, lt-of-lt-of-le, le-add-right, add-sub-of-le, sub-pos-iff-lt, mul-pos, mul-comm, mul-le-mul, mul-le-mul-right, le-of-mul-le-mul-right, lt-of-mul-lt-mul-right}
 use native.Mathlib.Omega.{arith}
-use Rattle.fractions.specs.Fraction.{Fraction, opposite, _⊕_, _⊗_, _⊘_, Same}
+use Rattle.fractions.specs.Fraction.{Fraction, fraction, whole, opposite, _⊕_, _⊗_, _⊘_, Same, AtMost}
 use Rattle.fractions.proofs.Ring.{ring}
-use Rattle.fractions.proofs.Close.{Close, Size, Least, scaled, product-most, close-sym, same-close, close-opposite, size-opposite}
+use Rattle.fractions.proofs.Order.{same-sym, not-below, left, plain, plain-same}
+use Rattle.fractions.proofs.Close.{Close, Size, Least, scaled, product-most, close-sym, same-close, close-opposite, close-same, size-opposite}
 
 -- ---- a number that is L / W at least
 least-lt : (p m o W L : ℕ) → 0 < L * o → m * W + L * o ≤ p * W → m * W < p * W
@@ -30,6 +31,15 @@ least-near {W} {E} {L} {x} {y} K l h k = record {
       (h .second);
 }
 
+-- a number that is close to one not below 0
+near-not-below-nat : (xp xm xo yp ym yo W E : ℕ) → ym * (xo * W) ≤ yp * (xo * W) → (xm * yo + yp * xo) * W ≤ (ym * xo + xp * yo) * W + E * (xo * yo) → (0 * xo + xm * W) * yo ≤ (xp * W + E * xo) * yo
+near-not-below-nat xp xm xo yp ym yo W E h k = let h' = simp ring at h in let k' = simp ring at k in simp ring (omega arith)
+
+pub near-not-below : {W E : ℕ} (x y : Fraction) → Close W x y E → AtMost (whole 0) y → AtMost (fraction 0 E W) x
+near-not-below {W} {E} x y c h =
+    le-of-mul-le-mul-right
+    (near-not-below-nat (x .plus) (x .minus) (x .over) (y .plus) (y .minus) (y .over) W E (mul-le-mul-right (x .over * W) (not-below y h)) (c .below)) (c .second)
+
 -- a least value is one of the number, not of its name
 pub least-same : {W L : ℕ} (x y : Fraction) → 0 < x .over → 0 < y .over → Same x y → Least W y L → Least W x L
 least-same {W} {L} x y X Y e h = least-near L (omega arith) (same-close W x y X Y e) h
@@ -43,19 +53,15 @@ least-unit {W} {U} {L} {x} K w k h = record {
   least = le-of-mul-le-mul-right (least-unit-nat (x .plus) (x .minus) (x .over) W U L K (two-times (x .minus * W) (L * x .over) (x .plus * W) U (h .least)) (mul-le-mul-right (x .over) k)) w;
 }
 
--- what is left of a divisor above zero, as a difference of whole numbers
-pub left-least : (p m o W L : ℕ) → m ≤ p → m * W + L * o ≤ p * W → L * o ≤ (p - m) * W
-left-least p m o W L h = subst (λ (n : ℕ). m * W + L * o ≤ n * W → L * o ≤ (p - m) * W) (add-sub-of-le h) (go (p - m))
+-- what is left of a divisor above zero, in whole numbers
+pub left-least : {W L : ℕ} (x : Fraction) → x .minus ≤ x .plus → Least W x L → L * x .over ≤ left x * W
+left-least {W} {L} x h k = go (x .minus) (left x) (subst (λ (n : ℕ). x .minus * W + L * x .over ≤ n * W) (sym (add-sub-of-le h)) (k .least))
   where
-    go : (z : ℕ) → m * W + L * o ≤ (m + z) * W → L * o ≤ z * W
-    go z k = omega arith
+    go : (m z : ℕ) → m * W + L * x .over ≤ (m + z) * W → L * x .over ≤ z * W
+    go m z k = omega arith
 
-left-close : (p m o p' m' o' W E : ℕ) → m ≤ p → m' ≤ p' → (p * o' + m' * o) * W ≤ (p' * o + m * o') * W + E * (o * o') → (p - m) * o' * W ≤ (p' - m') * o * W + E * (o * o')
-left-close p m o p' m' o' W E h h' =
-    subst₂ (λ (n n' : ℕ). (n * o' + m' * o) * W ≤ (n' * o + m * o') * W + E * (o * o') → (p - m) * o' * W ≤ (p' - m') * o * W + E * (o * o')) (add-sub-of-le h) (add-sub-of-le h') (go (p - m) (p' - m'))
-  where
-    go : (z z' : ℕ) → ((m + z) * o' + m' * o) * W ≤ ((m' + z') * o + m * o') * W + E * (o * o') → z * o' * W ≤ z' * o * W + E * (o * o')
-    go z z' k = let k' = simp ring at k in simp ring (omega arith)
+left-close : {W E : ℕ} {x y : Fraction} → x .minus ≤ x .plus → y .minus ≤ y .plus → Close W x y E → left x * y .over * W ≤ left y * x .over * W + E * (x .over * y .over)
+left-close {x = x} {y = y} X Y h = omega (arith, close-same (plain x) (plain y) (h .first) (h .second) (same-sym x (plain x) (plain-same x X)) (plain-same y Y) h .above)
 
 -- ---- |x / y| ≤ B / W, where |x| ≤ M / W, y ≥ L / W and M * W ≤ B * L
 size-nat : (p m o W M z d L B : ℕ) → p * W * (d * L) ≤ m * W * (d * L) + M * o * (d * L) → L * d * (M * o) ≤ z * W * (M * o) → M * W * (z * o) ≤ B * L * (z * o) → p * d * W * L ≤ (m * d * W + B * (o * z)) * L
@@ -63,8 +69,8 @@ size-nat p m o W M z d L B h i j = let h' = simp ring at h in let i' = simp ring
 
 size-above : {W M L : ℕ} {x y : Fraction} (B : ℕ) → 0 < L → 0 < y .over → M * W ≤ B * L → Size W x M → Least W y L → (x ⊘ y) .plus * W ≤ (x ⊘ y) .minus * W + B * (x ⊘ y) .over
 size-above {W} {M} {L} {x} {y} B l Y b h k =
-    let z = y .plus - y .minus in
-    let i = left-least (y .plus) (y .minus) (y .over) W L (le-of-lt (least-positive l Y k)) (k .least) in
+    let z = left y in
+    let i = left-least y (le-of-lt (least-positive l Y k)) k in
     le-of-mul-le-mul-right
     (size-nat (x .plus) (x .minus) (x .over) W M z (y .over) L B (scaled _ _ _ (y .over * L) (h .above)) (mul-le-mul-right (M * x .over) i) (mul-le-mul-right (z * x .over) b)) l
 
@@ -86,27 +92,26 @@ close-nat xp xm xo qp qm qo Y d z c W E F M G K h i j k = let h' = simp ring at 
 close-above : {W E F M L : ℕ} {x q y r : Fraction} (G K : ℕ) → 0 < W → 0 < K → K + F ≤ L → W * (E * L + M * F) ≤ G * (K * L) → Close W x q E → Close W y r F → Size W q M → Least W r L
     → ((x ⊘ y) .plus * (q ⊘ r) .over + (q ⊘ r) .minus * (x ⊘ y) .over) * W ≤ ((q ⊘ r) .plus * (x ⊘ y) .over + (x ⊘ y) .minus * (q ⊘ r) .over) * W + G * ((x ⊘ y) .over * (q ⊘ r) .over)
 close-above {W} {E} {F} {M} {L} {x} {q} {y} {r} G K w kp kl g h i m l =
-    let Y = y .plus - y .minus in
-    let z = r .plus - r .minus in
+    let Y = left y in
+    let z = left r in
     let d = y .over in
     let c = r .over in
     let k = least-near K kl i l in
     let lp = lt-of-lt-of-le kp (le-trans (le-add-right K F) kl) in
     let ym = le-of-lt (least-positive kp (i .first) k) in
     let rm = le-of-lt (least-positive lp (i .second) l) in
-    let a : z * d * W ≤ Y * c * W + F * (d * c) =
-    le-trans (left-close (r .plus) (r .minus) c (y .plus) (y .minus) d W F rm ym (close-sym i .above)) (le-of-eq (ap (λ (n : ℕ). Y * c * W + F * n) (mul-comm c d))) in
-    let b = left-close (y .plus) (y .minus) d (r .plus) (r .minus) c W F ym rm (i .above) in
+    let a : z * d * W ≤ Y * c * W + F * (d * c) = le-trans (left-close rm ym (close-sym i)) (le-of-eq (ap (λ (n : ℕ). Y * c * W + F * n) (mul-comm c d))) in
+    let b = left-close ym rm i in
     let s = product-most (q .plus * W) (q .minus * W) (z * d * W) (Y * c * W) (M * q .over) (F * (d * c)) (m .above) (m .below) a b in
-    let u = le-of-mul-le-mul-right (bound-nat G K L E M F W z c (mul-le-mul-right z g) (mul-le-mul-right (M * F) (left-least (r .plus) (r .minus) c W L rm (l .least)))) lp in
+    let u = le-of-mul-le-mul-right (bound-nat G K L E M F W z c (mul-le-mul-right z g) (mul-le-mul-right (M * F) (left-least r rm l))) lp in
     le-of-mul-le-mul-right
     (close-nat (x .plus) (x .minus) (x .over) (q .plus) (q .minus) (q .over) Y d z c W E F M G K (scaled _ _ _ (d * z * W) (h .above)) (scaled _ _ _ (x .over) s) (mul-le-mul-right (x .over * q .over * d) u)
-    (mul-le-mul-right (G * z * x .over * q .over) (left-least (y .plus) (y .minus) d W K ym (k .least)))) w
+    (mul-le-mul-right (G * z * x .over * q .over) (left-least y ym k))) w
 
 -- the divisors are no less than K / W and L / W, and the bound G is W (E L + M F) / (K L)
 pub close-divide : {W E F M L : ℕ} {x q y r : Fraction} (G K : ℕ) → 0 < W → 0 < K → K + F ≤ L → W * (E * L + M * F) ≤ G * (K * L) → Close W x q E → Close W y r F → Size W q M → Least W r L
     → Close W (x ⊘ y) (q ⊘ r) G
-close-divide {L = L} {y = y} {r = r} G K w kp kl g h i m l = record {
+close-divide G K w kp kl g h i m l = record {
   first = mul-pos (h .first) (sub-pos-iff-lt .1 (least-positive kp (i .first) (least-near K kl i l)));
   second = mul-pos (h .second) (sub-pos-iff-lt .1 (least-positive (lt-of-lt-of-le kp (le-trans (le-add-right K _) kl)) (i .second) l));
   above = close-above G K w kp kl g h i m l;
@@ -118,9 +123,9 @@ over-nat : (xp xm xo qp qm qo W E z d : ℕ) → (xp * qo + qm * xo) * W * (d * 
     → (xp * d * (qo * z) + qm * d * (xo * z)) * (W * z) ≤ (qp * d * (xo * z) + xm * d * (qo * z)) * (W * z) + E * d * (xo * z * (qo * z))
 over-nat xp xm xo qp qm qo W E z d h = let h' = simp ring at h in simp ring (omega arith)
 
-pub close-over : {W E : ℕ} {x q : Fraction} (y : Fraction) → y .minus < y .plus → Close W x q E → Close (W * (y .plus - y .minus)) (x ⊘ y) (q ⊘ y) (E * y .over)
+pub close-over : {W E : ℕ} {x q : Fraction} (y : Fraction) → y .minus < y .plus → Close W x q E → Close (W * left y) (x ⊘ y) (q ⊘ y) (E * y .over)
 close-over {W} {E} {x} {q} y Y h =
-    let z = y .plus - y .minus in
+    let z = left y in
     let d = y .over in
     record {
       first = mul-pos (h .first) (sub-pos-iff-lt .1 Y);
@@ -148,7 +153,7 @@ least-mul {W} {K} {L} {x} {y} G w g X Y h i = record {
   least =
       le-of-mul-le-mul-right
       (subst₂ (λ (p q : ℕ). ((p * y .minus + x .minus * q) * W + G * (x .over * y .over)) * W ≤ (p * q + x .minus * y .minus) * W * W) (add-sub-of-le X) (add-sub-of-le Y)
-      (least-mul-nat (x .minus) (x .plus - x .minus) (x .over) (y .minus) (y .plus - y .minus) (y .over) W K L G
-      (mul-le-mul (left-least (x .plus) (x .minus) (x .over) W K X (h .least)) (left-least (y .plus) (y .minus) (y .over) W L Y (i .least))) (mul-le-mul-right (x .over * y .over) g)))
+      (least-mul-nat (x .minus) (left x) (x .over) (y .minus) (left y) (y .over) W K L G
+      (mul-le-mul (left-least x X h) (left-least y Y i)) (mul-le-mul-right (x .over * y .over) g)))
       w;
 }

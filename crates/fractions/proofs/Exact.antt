@@ -68,9 +68,9 @@ units-plus f q k = go (ltb (q * 2 ^ k) (2 ^ (low f + suc (emax f))))
     go true = value (odd (suc (prec f)) false q k (low f)) (q * 2 ^ k) (2 ^ low f) (odd-sign (suc (prec f)) false q k (low f))
     go false = refl
 
-not-below : (s : Bool) (f : Format) (k : ℕ) (q : Fraction) → 0 < q .over → Difference s k q → q .minus ≤ q .plus → number (round f s k (q .over)) .minus ≤ number (round f s k (q .over)) .plus
-not-below false f k q D e h = le-trans (le-of-eq (ap (λ (x : Float). number x .minus) (round-is f false k (q .over)) ∙ units-plus f _ _)) zero-le
-not-below true f k q D e h = subst (λ (n : ℕ). number (round f true n (q .over)) .minus ≤ number (round f true n (q .over)) .plus) (sym (nothing (q .plus) (q .minus) k e h)) zero
+round-not-below : (s : Bool) (f : Format) (k : ℕ) (q : Fraction) → 0 < q .over → Difference s k q → q .minus ≤ q .plus → number (round f s k (q .over)) .minus ≤ number (round f s k (q .over)) .plus
+round-not-below false f k q D e h = le-trans (le-of-eq (ap (λ (x : Float). number x .minus) (round-is f false k (q .over)) ∙ units-plus f _ _)) zero-le
+round-not-below true f k q D e h = subst (λ (n : ℕ). number (round f true n (q .over)) .minus ≤ number (round f true n (q .over)) .plus) (sym (nothing (q .plus) (q .minus) k e h)) zero
   where
     nothing : (p m k : ℕ) → m ≡ p + k → m ≤ p → k ≡ 0
     nothing p m k e h = omega arith
@@ -84,4 +84,4 @@ not-below true f k q D e h = subst (λ (n : ℕ). number (round f true n (q .ove
         le-of-mul-le-mul-right (same (number x .plus) (number x .minus) (number x .over) (value-same x true 0 (q .over) (round-exact f true 0 (q .over) 0 0 D (pow-pos (prec f)) (pow-pos (low f + suc (emax f))) (zero-mul (2 ^ low f) ∙ sym (zero-mul (q .over)))))) D
 
 pub result-not-below : (f : Format) {z : Float} {q : Fraction} → 0 < q .over → Result f z q → q .minus ≤ q .plus → number z .minus ≤ number z .plus
-result-not-below f {z} {q} D r h = subst (λ (x : Float). number x .minus ≤ number x .plus) (sym (r .is)) (not-below (r .sign) f (r .size) q D (r .difference) h)
+result-not-below f {z} {q} D r h = subst (λ (x : Float). number x .minus ≤ number x .plus) (sym (r .is)) (round-not-below (r .sign) f (r .size) q D (r .difference) h)

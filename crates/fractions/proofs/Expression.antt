@@ -3,22 +3,23 @@
 use mathlib.Core.Path.{_≡_, refl, sym, ap, _∙_, subst}
 use mathlib.Core.List.{List, [], _∷_, map}
 use mathlib.Core.Bool.{Bool, true, false, _&&_, cond}
-use Prim.Native.Nat.{ℕ, suc, _+_, _*_, _-_, _/_, _^_, _≤_, _<_, zero-le}
-use native.Mathlib.Nat.{lt-irrefl, le-of-lt, lt-of-le-of-lt, lt-of-not-le, sub-eq-zero-of-le, add-sub-of-le, zero-mul, zero-div, div-mul-le-self, mul-le-mul-right, le-of-mul-le-mul-right}
+use Prim.Native.Nat.{ℕ, zero, suc, _+_, _*_, _/_, _^_, _≤_, _<_, zero-le}
+use native.Mathlib.Nat.{lt-irrefl, not-suc-le-zero, le-of-suc-le-suc, le-of-lt, lt-of-le-of-lt, lt-of-not-le, sub-eq-zero-of-le, add-sub-of-le, zero-mul, zero-div, div-mul-le-self}
 use native.Mathlib.Decide.{decLe}
 use native.Mathlib.Omega.{arith}
 use lib.Dec.{T, leb, ltb, leb→le, ltb→lt, lit<}
 use lib.Pow.{pow-pos}
+use lib.ListN.{length, getD}
 use lib.Ieee.{Float, Format, prec, emax, low, fits, round, neg, add, sub, mul, div}
 use lib.Ieee.Fits.{and-l, and-r}
 use Rattle.fractions.specs.Fraction.{Fraction, fraction, whole, opposite, magnitude, signed, number, _⊕_, _⊖_, _⊗_, _⊘_, AtMost, gap, Within}
 use Rattle.fractions.specs.Approximates.{Approximates, EachWithin}
-use Rattle.fractions.proofs.Ring.{ring}
-use Rattle.fractions.proofs.Order.{by-gap}
+use Rattle.fractions.proofs.Order.{left}
+use Rattle.fractions.proofs.Magnitude.{magnitude-above}
 use Rattle.fractions.proofs.Close.{Size, Least, size-unit, ceiling, ceiling-ge}
 use Rattle.fractions.proofs.Within.{within-refl, gap-size, within-counted, counted-within, size-at-most, least-at-most}
 use Rattle.fractions.proofs.Rounding.{rounding, fine}
-use Rattle.fractions.proofs.Divide.{least-add, least-mul, least-positive}
+use Rattle.fractions.proofs.Divide.{least-unit, least-add, least-mul, least-positive}
 use Rattle.fractions.proofs.Held.{fits-most}
 use Rattle.fractions.proofs.Near.{Near, near-neg, near-add, near-sub, near-mul, near-div, near-literal, near-held, quotient-most, quotient-result, quotient-error}
 
@@ -106,7 +107,7 @@ abbrev pub bound : Format → Expression → Bound
 bound f (known v) = record {
   most = ceiling (v .most .plus * scale) (v .most .over);
   error = ceiling scale (2 ^ v .bits);
-  least = (v .least .plus - v .least .minus) * scale / v .least .over;
+  least = left (v .least) * scale / v .least .over;
   good = ltb 0 (v .most .over) && ltb 0 (v .least .over);
 }
 bound f (literal s n d) = literal-bound f s n d
@@ -132,26 +133,14 @@ most-nat n qo mp mm mo h = omega arith
 most-size : (W : ℕ) (q m : Fraction) → 0 < m .over → AtMost (magnitude q) m → Size W q (ceiling (m .plus * W) (m .over))
 most-size W q m D h = size-unit D (ceiling-ge (m .plus * W) (m .over) D) (gap-size (most-nat (gap (q .plus) (q .minus)) (q .over) (m .plus) (m .minus) (m .over) h))
 
-four : (a b c d k : ℕ) → a + b ≤ c + d → a * k + b * k ≤ c * k + d * k
-four a b c d k h = omega (arith, mul-le-mul-right k h)
-
-least-nat : (qp qm qo z lm lo W L : ℕ) → (lm + z) * qo * W + qm * lo * W ≤ qp * lo * W + lm * qo * W → L * lo * qo ≤ z * W * qo → (qm * W + L * qo) * lo ≤ qp * W * lo
-least-nat qp qm qo z lm lo W L h k = let h' = simp ring at h in let k' = simp ring at k in simp ring (omega arith)
-
-least-size : (W : ℕ) (q l : Fraction) → 0 < l .over → AtMost l q → 0 < (l .plus - l .minus) * W / l .over → Least W q ((l .plus - l .minus) * W / l .over)
-least-size W q l D h p = go (decLe (l .minus) (l .plus))
+least-size : (W : ℕ) (q l : Fraction) → 0 < l .over → AtMost l q → 0 < left l * W / l .over → Least W q (left l * W / l .over)
+least-size W q l D h p = least-unit (left l * W / l .over) D (div-mul-le-self (left l * W) (l .over)) (go (decLe (l .minus) (l .plus)))
   where
-    spread : (l .minus + (l .plus - l .minus)) * q .over + q .minus * l .over ≤ q .plus * l .over + l .minus * q .over
-        → (l .minus + (l .plus - l .minus)) * q .over * W + q .minus * l .over * W ≤ q .plus * l .over * W + l .minus * q .over * W
-    spread k = four _ _ _ _ W k
+    rest : (z : ℕ) → (l .minus + z) * q .over + q .minus * l .over ≤ q .plus * l .over + l .minus * q .over → q .minus * l .over + z * q .over ≤ q .plus * l .over
+    rest z h = omega arith
 
-    go : Dec (l .minus ≤ l .plus) → Least W q ((l .plus - l .minus) * W / l .over)
-    go (yes m) = record {
-      least =
-          le-of-mul-le-mul-right
-          (least-nat (q .plus) (q .minus) (q .over) (l .plus - l .minus) (l .minus) (l .over) W ((l .plus - l .minus) * W / l .over)
-          (spread (subst (λ (n : ℕ). n * q .over + q .minus * l .over ≤ q .plus * l .over + l .minus * q .over) (sym (add-sub-of-le m)) h)) (mul-le-mul-right (q .over) (div-mul-le-self ((l .plus - l .minus) * W) (l .over)))) D;
-    }
+    go : Dec (l .minus ≤ l .plus) → Least (l .over) q (left l)
+    go (yes m) = record { least = rest (left l) (subst (λ (n : ℕ). n * q .over + q .minus * l .over ≤ q .plus * l .over + l .minus * q .over) (sym (add-sub-of-le m)) h) }
     go (no n) = none (subst (λ (m : ℕ). 0 < m) (ap (λ (m : ℕ). m * W / l .over) (sub-eq-zero-of-le (le-of-lt (lt-of-not-le n))) ∙ ap (λ (m : ℕ). m / l .over) (zero-mul W) ∙ zero-div (l .over)) p)
 
 both-says : (k l v : ℕ) → 0 < both k l v → (0 < k) × (0 < l) × (both k l v ≡ v)
@@ -251,35 +240,42 @@ module _ (f : Format) where
       }
 
   -- a row of expressions, by one test
-  abbrev pub pass : ℕ → List Expression → Bool
-  pass k [] = true
-  pass k (a ∷ l) = passes k a && pass k l
+  abbrev pub all-pass : ℕ → List Expression → Bool
+  all-pass k [] = true
+  all-pass k (a ∷ l) = passes k a && all-pass k l
 
-  pub each-within : (k : ℕ) (l : List Expression) → T (pass k l) → EachWithin k (map (run f) l) (map exact l)
+  pub each-within : (k : ℕ) (l : List Expression) → T (all-pass k l) → EachWithin k (map (run f) l) (map exact l)
   each-within k [] t = tt
-  each-within k (a ∷ l) t = (within k a (and-l (passes k a) (pass k l) t), each-within k l (and-r (passes k a) (pass k l) t))
+  each-within k (a ∷ l) t = (within k a (and-l (passes k a) (all-pass k l) t), each-within k l (and-r (passes k a) (all-pass k l) t))
+
+  abbrev pub all-sized : ℕ → ℕ → ℕ → List Expression → Bool
+  all-sized k n d [] = true
+  all-sized k n d (a ∷ l) = sized k n d a && all-sized k n d l
+
+  pub each-approximates : (k n d : ℕ) (l : List Expression) → T (all-sized k n d l) → (i : ℕ) (x : Float) (q : Fraction) → i < length l
+      → Approximates k (fraction n 0 d) (getD (map (run f) l) i x) (getD (map exact l) i q)
+  each-approximates k n d [] t i x q h = absurd (not-suc-le-zero h)
+  each-approximates k n d (a ∷ l) t zero x q h = approximates k n d a (and-l (sized k n d a) (all-sized k n d l) t)
+  each-approximates k n d (a ∷ l) t (suc i) x q h = each-approximates k n d l (and-r (sized k n d a) (all-sized k n d l) t) i x q (le-of-suc-le-suc h)
 
 -- ---- the ways to have a `Known`
-pub negative-nat : (qp qm qo mp mm mo : ℕ) → gap qp qm * mo + mm * qo ≤ mp * qo + 0 * mo → mm * qo + qm * mo ≤ qp * mo + mp * qo
-negative-nat qp qm qo mp mm mo = by-gap (λ (p m i : ℕ). i * mo + mm * qo ≤ mp * qo + 0 * mo → mm * qo + m * mo ≤ p * mo + mp * qo) (λ m i h. omega arith) (λ p i h. omega arith) qp qm
-
 -- a float that a callee says to be near an exact number
 abbrev pub value : {k : ℕ} {b : Fraction} {x : Float} {q : Fraction} → Approximates k b x q → Expression
-value {k} {b} {x} {q} h = known (record {
-  float = x;
-  exact = q;
-  bits = k;
-  most = b;
-  least = opposite b;
-  near = h .near;
-  size = h .size;
-  above = negative-nat (q .plus) (q .minus) (q .over) (b .plus) (b .minus) (b .over) (h .size);
-})
+value {k} {b} {x} {q} h = known (record { float = x; exact = q; bits = k; most = b; least = opposite b; near = h .near; size = h .size; above = magnitude-above q b (h .size) })
 
--- a float that stands for itself, as a number that the caller gave, or a divisor: `most` and `least` are what is known of it
-abbrev pub itself : (x : Float) (most least : Fraction) → 0 < number x .over → AtMost (magnitude (number x)) most → AtMost least (number x) → Expression
-itself x m l X h k = known (record { float = x; exact = number x; bits = 200; most = m; least = l; near = within-refl 200 (number x) X; size = h; above = k })
+-- a float that stands for itself, as a number that the caller gave
+abbrev pub itself : (x : Float) (most : Fraction) → 0 < number x .over → AtMost (magnitude (number x)) most → Expression
+itself x m X h = value {k = 200} {b = m} {x = x} {q = number x} (record { near = within-refl 200 (number x) X; size = h })
 
 -- a divisor, which is L / scale at least; no float of the format is as large as 2 ^ (emax + 1)
 abbrev pub divisor : (f : Format) (L : ℕ) (y : Float) → 0 < number y .over → T (fits f y) → Least scale (number y) L → Expression
-divisor f L y Y t h = itself y (whole (2 ^ suc (emax f))) (fraction L 0 scale) Y (fits-most f y Y t) (least-at-most h)
+divisor f L y Y t h = known (record {
+  float = y;
+  exact = number y;
+  bits = 200;
+  most = whole (2 ^ suc (emax f));
+  least = fraction L 0 scale;
+  near = within-refl 200 (number y) Y;
+  size = fits-most f y Y t;
+  above = least-at-most h;
+})

@@ -9,7 +9,7 @@ pub mod Divide
 -- Floats: each operation is the exact result, rounded once; how far that moves it, and where it does not; and comparing them.
 pub mod Closest
 pub mod Number
-pub mod IsLess
+pub mod Compare
 pub mod Rounding
 pub mod Operations
 pub mod Exact
@@ -17,8 +17,7 @@ pub mod Held
 -- Bounds: the calculus of errors, expressions, and quotients by a root.
 pub mod Near
 pub mod Expression
-pub mod Compare
-pub mod Squares
+mod Squares
 pub mod Roots
 pub mod Sums
 pub mod Normalised

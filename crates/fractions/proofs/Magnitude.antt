@@ -1,13 +1,46 @@
--- Magnitudes: ||x| - |y|| ≤ |x - y|, and |x|² is x². So a law for numbers that are not below zero serves numbers of either sign. Assumes nothing.
-use mathlib.Core.Path.{_≡_}
-use Prim.Native.Nat.{ℕ, _+_, _*_, _≤_}
+-- Magnitudes: |x| ≤ l says -l ≤ x ≤ l, |x| is x or -x by the sign, ||x| - |y|| ≤ |x - y|, and |x|² is x². So a law for numbers that are not below zero serves numbers of either sign. Assumes nothing.
+use mathlib.Core.Path.{_≡_, ap}
+use Prim.Native.Nat.{ℕ, _+_, _*_, _≤_, _<_}
 use native.Mathlib.Nat.{le-trans, le-of-eq, le-add-left}
 use native.Mathlib.Omega.{arith}
-use Rattle.fractions.specs.Fraction.{Fraction, magnitude, square, gap}
-use Rattle.fractions.proofs.Order.{by-gap}
+use Rattle.fractions.specs.Fraction.{Fraction, whole, opposite, magnitude, square, Same, Less, AtMost, gap}
+use Rattle.fractions.proofs.Order.{not-below, by-gap}
 use Rattle.fractions.proofs.Close.{Close}
 
--- ---- x is ±i over o, y is ±j over u
+-- ---- from -l to l
+between-nat : (xp xm xo lp lm lo : ℕ) → lm * xo + xm * lo ≤ xp * lo + lp * xo → xp * lo + lm * xo ≤ lp * xo + xm * lo → gap xp xm * lo + lm * xo ≤ lp * xo + 0 * lo
+between-nat xp xm xo lp lm lo =
+    by-gap (λ (p m i : ℕ). lm * xo + m * lo ≤ p * lo + lp * xo → p * lo + lm * xo ≤ lp * xo + m * lo → i * lo + lm * xo ≤ lp * xo + 0 * lo) (λ m i h k. omega arith) (λ p i h k. omega arith) xp xm
+
+below-nat : (xp xm xo lp lm lo : ℕ) → gap xp xm * lo + lm * xo ≤ lp * xo + 0 * lo → (lm * xo + xm * lo ≤ xp * lo + lp * xo) × (xp * lo + lm * xo ≤ lp * xo + xm * lo)
+below-nat xp xm xo lp lm lo =
+    by-gap (λ (p m i : ℕ). i * lo + lm * xo ≤ lp * xo + 0 * lo → (lm * xo + m * lo ≤ p * lo + lp * xo) × (p * lo + lm * xo ≤ lp * xo + m * lo)) (λ m i h. (omega arith, omega arith)) (λ p i h. (omega arith, omega arith)) xp xm
+
+module _ (x l : Fraction) where
+  pub between-magnitude : AtMost (opposite l) x → AtMost x l → AtMost (magnitude x) l
+  between-magnitude = between-nat (x .plus) (x .minus) (x .over) (l .plus) (l .minus) (l .over)
+
+  pub magnitude-above : AtMost (magnitude x) l → AtMost (opposite l) x
+  magnitude-above h = below-nat (x .plus) (x .minus) (x .over) (l .plus) (l .minus) (l .over) h .0
+
+  pub magnitude-below : AtMost (magnitude x) l → AtMost x l
+  magnitude-below h = below-nat (x .plus) (x .minus) (x .over) (l .plus) (l .minus) (l .over) h .1
+
+-- ---- by the sign
+turned-nat : (p m o : ℕ) → p < m → m * o + 0 * o ≡ gap p m * o + p * o
+turned-nat p m o h = let e : m ≡ gap p m + p = omega arith in omega (arith, ap (λ (n : ℕ). n * o) e)
+
+left-nat : (p m o : ℕ) → m ≤ p → p * o + 0 * o ≡ gap p m * o + m * o
+left-nat p m o h = let e : p ≡ gap p m + m = omega arith in omega (arith, ap (λ (n : ℕ). n * o) e)
+
+module _ (x : Fraction) where
+  pub magnitude-turned : Less x (whole 0) → Same (opposite x) (magnitude x)
+  magnitude-turned h = turned-nat (x .plus) (x .minus) (x .over) (omega arith)
+
+  pub magnitude-left : AtMost (whole 0) x → Same x (magnitude x)
+  magnitude-left h = left-nat (x .plus) (x .minus) (x .over) (not-below x h)
+
+-- ---- ||x| - |y||: x is ±i over o, y is ±j over u
 module _ (o u W D : ℕ) where
   abbrev Kept : ℕ → ℕ → ℕ → ℕ → ℕ → ℕ → Type 0
   Kept p m i q n j = (p * u + n * o) * W ≤ (q * o + m * u) * W + D → (m * u + q * o) * W ≤ (n * o + p * u) * W + D

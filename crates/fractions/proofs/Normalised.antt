@@ -1,5 +1,5 @@
--- A number over a root, as a program computes it, is `BySquares` of G / √S: from an expression for it (`run-by-squares`), and as one float divided by another where G² ≤ S, which keeps the quotient at 1
--- (`normalised`), or times the inverse of one (`over-root`). The root enters by its law (`RootOf`, which a correctly rounded root has with P = 2 ^ prec), for s the float whose root was taken, itself near S (`root-near`). Assumes nothing.
+-- A number over a root, as a program computes it, is `BySquares` of G / √S: from an expression for it (`run-by-squares`), and as one float divided by another where G² ≤ S, so that the quotient is 1
+-- at most, and a little (`normalised`), or times the inverse of one (`over-root`). The root enters by its law (`RootOf`, which a correctly rounded root has with P = 2 ^ prec), for s the float whose root was taken, itself near S (`root-near`). Assumes nothing.
 use mathlib.Core.Path.{_≡_, subst}
 use mathlib.Core.Bool.{Bool, false, _&&_}
 use Prim.Native.Nat.{ℕ, _+_, _-_, _*_, _^_, _≤_, _<_}

@@ -32,7 +32,7 @@ number-neg (fin true m e) = refl
 number-neg (fin false m e) = refl
 
 -- ---- a float of the value ±a / c
-signed-same : (s : Bool) (a c b d : ℕ) → a * d ≡ b * c → Same (signed s a c) (signed s b d)
+pub signed-same : (s : Bool) (a c b d : ℕ) → a * d ≡ b * c → Same (signed s a c) (signed s b d)
 signed-same true a c b d e = omega arith
 signed-same false a c b d e = omega arith
 

@@ -1,26 +1,37 @@
 -- The laws of `Same`, `Less`, `AtMost` and `AsNear`: fractions that are the same number serve each other everywhere. Assumes nothing.
 use mathlib.Core.Path.{_≡_, sym, ap, _∙_, subst}
+use mathlib.Core.Bool.{Bool}
 use Prim.Native.Nat.{ℕ, _+_, _-_, _*_, _≤_, _<_}
-use native.Mathlib.Nat.{le-of-lt, lt-of-not-le, add-sub-of-le, mul-pos, mul-le-mul-right, le-of-mul-le-mul-right, lt-of-mul-lt-mul-right, mul-lt-mul-of-pos-right, eq-of-mul-eq-mul-right}
+use native.Mathlib.Nat.{le-of-eq, le-of-lt, le-antisymm, lt-of-not-le, add-sub-of-le, mul-pos, mul-le-mul-right, le-of-mul-le-mul-right, lt-of-mul-lt-mul-right, mul-lt-mul-of-pos-right}
 use native.Mathlib.Decide.{decLe}
 use native.Mathlib.Omega.{arith}
-use Rattle.fractions.specs.Fraction.{Fraction, whole, _⊕_, _⊗_, Same, Less, AtMost, gap, apart, AsNear}
+use lib.Dec.{T, eqb, eqb→eq}
+use Rattle.fractions.specs.Fraction.{Fraction, fraction, whole, opposite, _⊕_, _⊗_, Same, Less, AtMost, gap, apart, AsNear}
 use Rattle.fractions.proofs.Ring.{ring}
 
--- ---- an equivalence
+-- ---- an order, and an equivalence
 pub same-refl : (x : Fraction) → Same x x
 same-refl x = omega arith
 
 pub same-sym : (x y : Fraction) → Same x y → Same y x
 same-sym x y h = omega arith
 
-trans-nat : (xp xm xo yp ym yo zp zm zo : ℕ) → (xp * yo + ym * xo) * zo ≡ (yp * xo + xm * yo) * zo → (yp * zo + zm * yo) * xo ≡ (zp * yo + ym * zo) * xo
-    → (xp * zo + zm * xo) * yo ≡ (zp * xo + xm * zo) * yo
-trans-nat xp xm xo yp ym yo zp zm zo h k = let h' = simp ring at h in let k' = simp ring at k in simp ring (omega arith)
+between-nat : (xp xm xo yp ym yo zp zm zo : ℕ) → (xp * yo + ym * xo) * zo ≤ (yp * xo + xm * yo) * zo → (yp * zo + zm * yo) * xo ≤ (zp * yo + ym * zo) * xo → (xp * zo + zm * xo) * yo ≤ (zp * xo + xm * zo) * yo
+between-nat xp xm xo yp ym yo zp zm zo h k = let h' = simp ring at h in let k' = simp ring at k in simp ring (omega arith)
+
+pub at-most-trans : (x y z : Fraction) → 0 < y .over → AtMost x y → AtMost y z → AtMost x z
+at-most-trans x y z Y h k =
+    le-of-mul-le-mul-right (between-nat (x .plus) (x .minus) (x .over) (y .plus) (y .minus) (y .over) (z .plus) (z .minus) (z .over) (mul-le-mul-right (z .over) h) (mul-le-mul-right (x .over) k)) Y
 
 pub same-trans : (x y z : Fraction) → 0 < y .over → Same x y → Same y z → Same x z
-same-trans x y z Y h k =
-    eq-of-mul-eq-mul-right (y .over) Y _ _ (trans-nat (x .plus) (x .minus) (x .over) (y .plus) (y .minus) (y .over) (z .plus) (z .minus) (z .over) (ap (λ (t : ℕ). t * z .over) h) (ap (λ (t : ℕ). t * x .over) k))
+same-trans x y z Y h k = le-antisymm (at-most-trans x y z Y (le-of-eq h) (le-of-eq k)) (at-most-trans z y x Y (le-of-eq (sym k)) (le-of-eq (sym h)))
+
+-- whether two closed fractions are the same number is decided by computing
+abbrev pub isSame : Fraction → Fraction → Bool
+isSame x y = eqb (x .plus * y .over + y .minus * x .over) (y .plus * x .over + x .minus * y .over)
+
+pub same-computed : (x y : Fraction) → T (isSame x y) → Same x y
+same-computed x y t = eqb→eq _ _ t
 
 -- ---- kept by sums and products
 add-nat : (xp xm xo xp' xm' xo' yp ym yo yp' ym' yo' : ℕ) → (xp * xo' + xm' * xo) * (yo * yo') ≡ (xp' * xo + xm * xo') * (yo * yo') → (yp * yo' + ym' * yo) * (xo * xo') ≡ (yp' * yo + ym * yo') * (xo * xo')
@@ -44,17 +55,11 @@ module _ (x x' y y' : Fraction) (h : Same x x') (k : Same y y') where
       mul-nat (x .plus) (x .minus) (x .over) (x' .plus) (x' .minus) (x' .over) (y .plus) (y .minus) (y .over) (y' .plus) (y' .minus) (y' .over)
       (ap (λ (t : ℕ). t * (y .plus * y' .over)) h) (ap (λ (t : ℕ). t * (y .minus * y' .over)) h) (ap (λ (t : ℕ). t * (x' .plus * x .over)) k) (ap (λ (t : ℕ). t * (x' .minus * x .over)) k)
 
--- ---- a comparison is one of numbers: the two sides of it differ by as much, in any fractions of the same numbers
-cross-nat : (xp xm xo xp' xm' xo' yp ym yo yp' ym' yo' : ℕ) → (xp * xo' + xm' * xo) * (yo * yo') ≡ (xp' * xo + xm * xo') * (yo * yo') → (yp * yo' + ym' * yo) * (xo * xo') ≡ (yp' * yo + ym * yo') * (xo * xo')
-    → (xp * yo + ym * xo) * (xo' * yo') + (yp' * xo' + xm' * yo') * (xo * yo) ≡ (xp' * yo' + ym' * xo') * (xo * yo) + (yp * xo + xm * yo) * (xo' * yo')
-cross-nat xp xm xo xp' xm' xo' yp ym yo yp' ym' yo' h k = let h' = simp ring at h in let k' = simp ring at k in simp ring (omega arith)
-
+-- ---- a comparison is one of numbers: the two sides of it differ by x - y, which is the same number in any fractions of the same two
 module _ (x x' y y' : Fraction) (h : Same x x') (k : Same y y') where
   cross : (x .plus * y .over + y .minus * x .over) * (x' .over * y' .over) + (y' .plus * x' .over + x' .minus * y' .over) * (x .over * y .over)
       ≡ (x' .plus * y' .over + y' .minus * x' .over) * (x .over * y .over) + (y .plus * x .over + x .minus * y .over) * (x' .over * y' .over)
-  cross =
-      cross-nat (x .plus) (x .minus) (x .over) (x' .plus) (x' .minus) (x' .over) (y .plus) (y .minus) (y .over) (y' .plus) (y' .minus) (y' .over)
-      (ap (λ (t : ℕ). t * (y .over * y' .over)) h) (ap (λ (t : ℕ). t * (x .over * x' .over)) k)
+  cross = omega (arith, same-add x x' (opposite y) (opposite y') h (omega arith))
 
   pub less-same : 0 < x .over → 0 < y .over → Less x' y' → Less x y
   less-same X Y l = lt-of-mul-lt-mul-right (x' .over * y' .over) (less _ _ _ _ cross (mul-lt-mul-of-pos-right l (mul-pos X Y)))
@@ -68,13 +73,6 @@ module _ (x x' y y' : Fraction) (h : Same x x') (k : Same y y') where
       less : (a b c d : ℕ) → a + b ≡ c + d → c ≤ b → a ≤ d
       less a b c d e l = omega arith
 
-between-nat : (xp xm xo yp ym yo zp zm zo : ℕ) → (xp * yo + ym * xo) * zo ≤ (yp * xo + xm * yo) * zo → (yp * zo + zm * yo) * xo ≤ (zp * yo + ym * zo) * xo → (xp * zo + zm * xo) * yo ≤ (zp * xo + xm * zo) * yo
-between-nat xp xm xo yp ym yo zp zm zo h k = let h' = simp ring at h in let k' = simp ring at k in simp ring (omega arith)
-
-pub at-most-trans : (x y z : Fraction) → 0 < y .over → AtMost x y → AtMost y z → AtMost x z
-at-most-trans x y z Y h k =
-    le-of-mul-le-mul-right (between-nat (x .plus) (x .minus) (x .over) (y .plus) (y .minus) (y .over) (z .plus) (z .minus) (z .over) (mul-le-mul-right (z .over) h) (mul-le-mul-right (x .over) k)) Y
-
 pub less-at-most : (x y : Fraction) → Less x y → AtMost x y
 less-at-most x y h = le-of-lt h
 
@@ -85,12 +83,30 @@ less-not x y h k = omega arith
 pub not-less : (x y : Fraction) → ¬ (Less x y) → AtMost y x
 not-less x y n = omega arith
 
+-- one number is below another, or it is not
+pub by-side : {X : Type 0} (x y : Fraction) → (Less x y → X) → (AtMost y x → X) → X
+by-side {X} x y f g = go (decLe _ _)
+  where
+    go : Dec (AtMost y x) → X
+    go (yes h) = g h
+    go (no n) = f (lt-of-not-le n)
+
 -- not below 0
 pub not-below : (x : Fraction) → AtMost (whole 0) x → x .minus ≤ x .plus
 not-below x h = omega arith
 
 pub zero-at-most : (x : Fraction) → x .minus ≤ x .plus → AtMost (whole 0) x
 zero-at-most x h = omega arith
+
+-- what is left of it, over its `over`, and the same number with nothing to take away
+abbrev pub left : Fraction → ℕ
+left x = x .plus - x .minus
+
+abbrev pub plain : Fraction → Fraction
+plain x = fraction (left x) 0 (x .over)
+
+pub plain-same : (x : Fraction) → x .minus ≤ x .plus → Same x (plain x)
+plain-same x h = omega (arith, ap (λ (n : ℕ). n * x .over) (add-sub-of-le h))
 
 -- ---- and so is a distance
 -- of two numbers one is the other and something more: what holds of a, b and gap a b follows from these two cases

@@ -6,7 +6,7 @@ use native.Mathlib.Nat.{sub-zero, add-sub-of-le, mul-assoc, mul-comm}
 use native.Mathlib.Omega.{arith}
 use Rattle.fractions.specs.Fraction.{Fraction, fraction, whole, opposite, square, _⊕_, _⊖_, _⊗_, _⊘_, Same}
 use Rattle.fractions.proofs.Ring.{ring}
-use Rattle.fractions.proofs.Order.{same-refl, same-add, same-mul}
+use Rattle.fractions.proofs.Order.{same-refl, same-add, same-mul, left}
 
 pub equal-same : {x y : Fraction} → x ≡ y → Same x y
 equal-same {x} {y} e = subst (λ (z : Fraction). Same x z) e (same-refl x)
@@ -40,6 +40,9 @@ module _ (x : Fraction) where
 
 -- ---- order and grouping
 module _ (x y : Fraction) where
+  pub ⊕-comm : x ⊕ y ≡ y ⊕ x
+  ⊕-comm = equal (omega arith) (omega arith) (omega arith)
+
   pub ⊗-comm : x ⊗ y ≡ y ⊗ x
   ⊗-comm = equal (omega arith) (omega arith) (omega arith)
 
@@ -108,8 +111,8 @@ rest-nat p m o p' m' o' h h' e =
 module _ (x x' y y' : Fraction) where
   pub same-divide : y .minus ≤ y .plus → y' .minus ≤ y' .plus → Same x x' → Same y y' → Same (x ⊘ y) (x' ⊘ y')
   same-divide Y Y' h k =
-      let z = y .plus - y .minus in
-      let z' = y' .plus - y' .minus in
+      let z = left y in
+      let z' = left y' in
       let e = rest-nat (y .plus) (y .minus) (y .over) (y' .plus) (y' .minus) (y' .over) Y Y' k in
       over-same-nat (x .plus) (x .minus) (x .over) (x' .plus) (x' .minus) (x' .over) (y .over) (y' .over) z z'
       (ap (λ (t : ℕ). t * (y .over * z')) h) (ap (λ (t : ℕ). x' .minus * x .over * t) e) (ap (λ (t : ℕ). x' .plus * x .over * t) e)

@@ -1,16 +1,17 @@
--- What the law by squares asks of a root: r is the root of s to one part in P (`RootOf`), so r² is within 3 / P of s (`root-square`); from below, r is as large as S lets it be (`root-least`); and where G² ≤ S the
+-- What the law by squares asks of a root: r is the root of s to one part in P (`RootOf`), so r² is within 3 s / P of s (`root-square`); from below, r is as large as S lets it be (`root-least`); and where G² ≤ S the
 -- quotient G / r is 1 at most, and a little (`quotient-size`). Assumes nothing.
 use mathlib.Core.Path.{_≡_, sym, subst, subst₂}
 use Prim.Native.Nat.{ℕ, suc, _+_, _*_, _-_, _≤_, _<_}
 use native.Mathlib.Nat.{le-of-lt, lt-of-not-le, add-sub-of-le, mul-pos, mul-le-mul, mul-le-mul-right, le-of-mul-le-mul-right, lt-of-mul-lt-mul-right}
 use native.Mathlib.Decide.{decLe}
 use native.Mathlib.Omega.{arith}
-use Rattle.fractions.specs.Fraction.{Fraction, fraction, whole, square, _⊗_, _⊘_, Less, AtMost, gap}
+use Rattle.fractions.specs.Fraction.{Fraction, fraction, whole, square, _⊗_, _⊘_, Same, Less, AtMost, gap}
 use Rattle.fractions.specs.Squares.{RootOf}
 use Rattle.fractions.proofs.Ring.{ring}
-use Rattle.fractions.proofs.Order.{gap-times}
+use Rattle.fractions.proofs.Order.{same-refl, same-sym, same-mul, less-same, left, plain, plain-same, gap-times}
+use Rattle.fractions.proofs.Restate.{same-square}
 use Rattle.fractions.proofs.Magnitude.{square-nat, square-not-below}
-use Rattle.fractions.proofs.Close.{Close, Size, Least, scaled}
+use Rattle.fractions.proofs.Close.{Close, Size, Least, scaled, close-same, size-same}
 use Rattle.fractions.proofs.Within.{gap-size}
 use Rattle.fractions.proofs.Divide.{left-least, least-positive}
 use Rattle.fractions.proofs.Squares.{square-below}
@@ -21,17 +22,6 @@ far-nat u v q h k l = let h' = simp ring at h in let k' = simp ring at k in simp
 
 near-nat : (u v P : ℕ) → v * (P * P) * P ≤ u * ((P + 1) * (P + 1)) * P → v * P * ((P + 1) * (P + 1)) ≤ (u * P + 3 * v) * ((P + 1) * (P + 1))
 near-nat u v P h = let h' = simp ring at h in simp ring (omega arith)
-
--- ---- the square of a number y = U / yo, compared with s
-square-less : (m U yo sp sm so : ℕ) → ((m + U) * (m + U) + m * m) * so + sm * (yo * yo) < sp * (yo * yo) + ((m + U) * m + m * (m + U)) * so → U * U * so + sm * (yo * yo) < sp * (yo * yo)
-square-less m U yo sp sm so h = let h' = simp ring at h in simp ring (omega arith)
-
-less-square : (m U yo sp sm so : ℕ) → sp * (yo * yo) + ((m + U) * m + m * (m + U)) * so < ((m + U) * (m + U) + m * m) * so + sm * (yo * yo) → sp * (yo * yo) < U * U * so + sm * (yo * yo)
-less-square m U yo sp sm so h = let h' = simp ring at h in simp ring (omega arith)
-
--- r c / P, z being what is left of r
-part-of : (m z c : ℕ) → (m + z) * c + m * 0 ≡ (m + z) * 0 + m * c + z * c
-part-of m z c = omega arith
 
 -- r² o and s D², of r = z / D and s = y / o
 record Parts (P : ℕ) (z D y o : ℕ) : Type 0 where
@@ -66,62 +56,45 @@ parts q z D y o h a b =
 close-nat : (a b v w M t P W : ℕ) → a * P * W ≤ b * P * W + 3 * v * W → v * W ≤ M * w → 3 * M * w ≤ t * P * w → a * W * P ≤ (b * W + t * w) * P
 close-nat a b v w M t P W h k l = let h' = simp ring at h in let l' = simp ring at l in simp ring (omega arith)
 
-cancelled : (a b v w M t q W : ℕ) → v * W ≤ M * w → 3 * M ≤ t * (q + 1) → a * (q + 1) ≤ b * (q + 1) + 3 * v → a * W ≤ b * W + t * w
-cancelled a b v w M t q W h l k = le-of-mul-le-mul-right (close-nat a b v w M t (q + 1) W (scaled _ _ _ W k) h (mul-le-mul-right w l)) (one q)
-  where
-    one : (q : ℕ) → 0 < q + 1
-    one q = omega arith
+cancelled : (W M t q w v : ℕ) → v * W ≤ M * w → 3 * M ≤ t * (q + 1) → (a b : ℕ) → a * (q + 1) ≤ b * (q + 1) + 3 * v → a * W ≤ b * W + t * w
+cancelled W M t q w v h l a b k = le-of-mul-le-mul-right (close-nat a b v w M t (q + 1) W (scaled _ _ _ W k) h (mul-le-mul-right w l)) (omega arith)
 
--- Close W (square r) s, from what is left of r and of s
-fold-above : (m z D n y o W t : ℕ) → o * z * z * W ≤ y * (D * D) * W + t * (D * D * o) → (((m + z) * (m + z) + m * m) * o + n * (D * D)) * W ≤ ((n + y) * (D * D) + ((m + z) * m + m * (m + z)) * o) * W + t * (D * D * o)
-fold-above m z D n y o W t h = let h' = simp ring at h in simp ring (omega arith)
+-- r times c / P, squared, and s, with nothing taken away
+lower-nat : (c P z D y o : ℕ) → Less (square (fraction z 0 D ⊗ fraction c 0 P)) (fraction y 0 o) → z * c * (z * c) * o < y * (D * P * (D * P))
+lower-nat c P z D y o h = omega arith
 
-fold-below : (m z D n y o W t : ℕ) → y * (D * D) * W ≤ o * z * z * W + t * (D * D * o) → (((m + z) * m + m * (m + z)) * o + (n + y) * (D * D)) * W ≤ (n * (D * D) + ((m + z) * (m + z) + m * m) * o) * W + t * (D * D * o)
-fold-below m z D n y o W t h = let h' = simp ring at h in simp ring (omega arith)
-
-module _ (c P m z D n y o : ℕ) where
-  lower-less : Less (square (fraction (m + z) m D ⊗ fraction c 0 P)) (fraction (n + y) n o) → z * c * (z * c) * o < y * (D * P * (D * P))
-  lower-less h =
-      let j = (m + z) * 0 + m * c in
-      let e = D * P in
-      least (z * c * (z * c) * o) (e * e) (square-less j (z * c) e (n + y) n o (subst (λ (p : ℕ). (p * p + j * j) * o + n * (e * e) < (n + y) * (e * e) + (p * j + j * p) * o) (part-of m z c) h))
-    where
-      least : (u v : ℕ) → u + n * v < (n + y) * v → u < y * v
-      least u v h = omega arith
-
-  upper-less : Less (fraction (n + y) n o) (square (fraction (m + z) m D ⊗ fraction c 0 P)) → y * (D * P * (D * P)) < z * c * (z * c) * o
-  upper-less h =
-      let j = (m + z) * 0 + m * c in
-      let e = D * P in
-      least (z * c * (z * c) * o) (e * e) (less-square j (z * c) e (n + y) n o (subst (λ (p : ℕ). (n + y) * (e * e) + (p * j + j * p) * o < (p * p + j * j) * o + n * (e * e)) (part-of m z c) h))
-    where
-      least : (u v : ℕ) → (n + y) * v < u + n * v → y * v < u
-      least u v h = omega arith
-
--- P is q + 1
-abbrev Squared : ℕ → ℕ → ℕ → ℕ → Fraction → Fraction → Type 0
-Squared W M t q r s = 0 < r .over → 0 < s .over → Less (square (r ⊗ fraction q 0 (q + 1))) s → Less s (square (r ⊗ fraction (q + 1 + 1) 0 (q + 1))) → Size W s M → Close W (square r) s t
-
-squared : (W M t q m z D n y o : ℕ) → 4 ≤ q → 3 * M ≤ t * (q + 1) → Squared W M t q (fraction (m + z) m D) (fraction (n + y) n o)
-squared W M t q m z D n y o four l d>0 o>0 a b h =
-    let w = D * D * o in
-    let p = parts q z D y o four (lower-less q (q + 1) m z D n y o a) (upper-less (q + 1 + 1) (q + 1) m z D n y o b) in
-    let i = sum-size (mul-le-mul-right (D * D) (rest (h .above))) in
-    record {
-      first = mul-pos d>0 d>0;
-      second = o>0;
-      above = fold-above m z D n y o W t (cancelled (o * z * z) (y * (D * D)) (y * (D * D)) w M t q W i l (p .far));
-      below = fold-below m z D n y o W t (cancelled (y * (D * D)) (o * z * z) (y * (D * D)) w M t q W i l (p .near));
-    }
-  where
-    rest : (n + y) * W ≤ n * W + M * o → y * W ≤ M * o
-    rest h = omega arith
-
-    sum-size : y * W * (D * D) ≤ M * o * (D * D) → y * (D * D) * W ≤ M * (D * D * o)
-    sum-size h = let h' = simp ring at h in simp ring (omega arith)
+upper-nat : (c P z D y o : ℕ) → Less (fraction y 0 o) (square (fraction z 0 D ⊗ fraction c 0 P)) → y * (D * P * (D * P)) < z * c * (z * c) * o
+upper-nat c P z D y o h = omega arith
 
 above-square : (a b c m n e : ℕ) → b ≤ a → a * c + m * e < n * e + b * c → m * e < n * e
 above-square a b c m n e h k = omega (arith, mul-le-mul-right c h)
+
+module _ {P : ℕ} (r s : Fraction) (p : 0 < P) (a : RootOf P r s) where
+  r-not-below : r .minus ≤ r .plus
+  r-not-below = omega (arith, a .positive)
+
+  s-not-below : s .minus ≤ s .plus
+  s-not-below =
+      let y = r ⊗ fraction (P - 1) 0 P in
+      le-of-lt (lt-of-mul-lt-mul-right (square y .over) (above-square (square y .plus) (square y .minus) (s .over) (s .minus) (s .plus) (square y .over) (square-not-below y) (a .below)))
+
+  r-same : Same (plain r) r
+  r-same = same-sym r (plain r) (plain-same r r-not-below)
+
+  s-same : Same (plain s) s
+  s-same = same-sym s (plain s) (plain-same s s-not-below)
+
+  part-same : (c : ℕ) → Same (square (plain r ⊗ fraction c 0 P)) (square (r ⊗ fraction c 0 P))
+  part-same c = let k = fraction c 0 P in same-square (plain r ⊗ k) (r ⊗ k) (same-mul (plain r) r k k r-same (same-refl k))
+
+  part-pos : 0 < r .over * P * (r .over * P)
+  part-pos = mul-pos (mul-pos (a .root) p) (mul-pos (a .root) p)
+
+  lower-less : left r * (P - 1) * (left r * (P - 1)) * s .over < left s * (r .over * P * (r .over * P))
+  lower-less = lower-nat (P - 1) P (left r) (r .over) (left s) (s .over) (less-same (square (plain r ⊗ fraction (P - 1) 0 P)) (square (r ⊗ fraction (P - 1) 0 P)) (plain s) s (part-same (P - 1)) s-same part-pos (a .number) (a .below))
+
+  upper-less : left s * (r .over * P * (r .over * P)) < left r * suc P * (left r * suc P) * s .over
+  upper-less = upper-nat (suc P) P (left r) (r .over) (left s) (s .over) (less-same (plain s) s (square (plain r ⊗ fraction (suc P) 0 P)) (square (r ⊗ fraction (suc P) 0 P)) s-same (part-same (suc P)) (a .number) part-pos (a .above))
 
 -- the root's square and s are 3 s / P apart at most: t / W, where s is M / W at most
 pub root-square : {W P M : ℕ} {r s : Fraction} (t : ℕ) → 5 ≤ P → 3 * M ≤ t * P → RootOf P r s → Size W s M → Close W (square r) s t
@@ -129,12 +102,19 @@ root-square {W} {P} {M} {r} {s} t h l a m =
     let q = P - 1 in
     let e : P ≡ q + 1 = omega arith in
     let e' : suc P ≡ q + 1 + 1 = omega arith in
-    let r>0 : r .minus ≤ r .plus = omega (arith, a .positive) in
-    let y = r ⊗ fraction q 0 P in
-    let s>0 : s .minus < s .plus = lt-of-mul-lt-mul-right (square y .over) (above-square (square y .plus) (square y .minus) (s .over) (s .minus) (s .plus) (square y .over) (square-not-below y) (a .below)) in
-    subst₂ (λ (p p' : ℕ). Squared W M t q (fraction p (r .minus) (r .over)) (fraction p' (s .minus) (s .over))) (add-sub-of-le r>0) (add-sub-of-le (le-of-lt s>0))
-    (squared W M t q (r .minus) (r .plus - r .minus) (r .over) (s .minus) (s .plus - s .minus) (s .over) (omega arith) (subst (λ (p : ℕ). 3 * M ≤ t * p) e l))
-    (a .root) (a .number) (subst (λ (p : ℕ). Less (square (r ⊗ fraction q 0 p)) s) e (a .below)) (subst₂ (λ (c p : ℕ). Less s (square (r ⊗ fraction c 0 p))) e' e (a .above)) m
+    let p : 0 < P = omega arith in
+    let z = left r in
+    let D = r .over in
+    let y = left s in
+    let o = s .over in
+    let c = parts q z D y o (omega arith) (subst (λ (p : ℕ). z * q * (z * q) * o < y * (D * p * (D * p))) e (lower-less r s p a)) (subst₂ (λ (c p : ℕ). y * (D * p * (D * p)) < z * c * (z * c) * o) e' e (upper-less r s p a)) in
+    let i : y * W ≤ M * o = omega (arith, size-same (plain s) (a .number) (a .number) (s-same r s p a) m .above) in
+    let w = cancelled W M t q (D * D * o) (y * (D * D)) (grown y D o (mul-le-mul-right (D * D) i)) (subst (λ (p : ℕ). 3 * M ≤ t * p) e l) in
+    close-same (square r) s (mul-pos (a .root) (a .root)) (a .number) (same-square r (plain r) (plain-same r (r-not-below r s p a))) (s-same r s p a)
+    (record { first = mul-pos (a .root) (a .root); second = a .number; above = omega (arith, w (o * z * z) (y * (D * D)) (c .far)); below = omega (arith, w (y * (D * D)) (o * z * z) (c .near)) })
+  where
+    grown : (y D o : ℕ) → y * W * (D * D) ≤ M * o * (D * D) → y * (D * D) * W ≤ M * (D * D * o)
+    grown y D o h = let h' = simp ring at h in simp ring (omega arith)
 
 -- ---- r from below, and G / r from above
 from-square : (a b : ℕ) → a * a ≤ b * b → a ≤ b
@@ -147,14 +127,6 @@ from-square a b h = go (decLe a b)
     go (yes l) = l
     go (no l) = absurd (over (lt-of-not-le l))
 
--- S ≤ r² + t / W, in whole numbers: z is what is left of r
-sum-below : {W t : ℕ} (r : Fraction) {S : Fraction} → r .minus ≤ r .plus → Close W (square r) S t
-    → S .plus * (r .over * r .over) * W ≤ S .over * (r .plus - r .minus) * (r .plus - r .minus) * W + S .minus * (r .over * r .over) * W + t * (r .over * r .over * S .over)
-sum-below {W} {t} r {S} h c =
-    let D = r .over in
-    square-below D (S .over) W t (r .minus) (r .plus - r .minus) (S .plus) (S .minus)
-    (subst (λ (p : ℕ). ((p * r .minus + r .minus * p) * S .over + S .plus * (D * D)) * W ≤ (S .minus * (D * D) + (p * p + r .minus * r .minus) * S .over) * W + t * (D * D * S .over)) (sym (add-sub-of-le h)) (c .below))
-
 least-nat : (z D C W t b L sp sm : ℕ) → sp * (D * D) * W * W ≤ (C * z * z * W + sm * (D * D) * W + t * (D * D * C)) * W → (sm * W + b * C) * (D * D * W) ≤ sp * W * (D * D * W) → (L * L + t * W) * (D * D * C) ≤ b * W * (D * D * C)
     → L * D * (L * D) * C ≤ z * W * (z * W) * C
 least-nat z D C W t b L sp sm h k l = let h' = simp ring at h in let k' = simp ring at k in let l' = simp ring at l in simp ring (omega arith)
@@ -162,9 +134,9 @@ least-nat z D C W t b L sp sm h k l = let h' = simp ring at h in let k' = simp r
 pub root-least : {W t b : ℕ} {r S : Fraction} (L : ℕ) → L * L + t * W ≤ b * W → Less (whole 0) r → Close W (square r) S t → Least W S b → Least W r L
 root-least {W} {t} {b} {r} {S} L l p c h =
     let m : r .minus ≤ r .plus = omega (arith, p) in
-    let z = r .plus - r .minus in
+    let z = left r in
     let D = r .over in
-    let i = from-square (L * D) (z * W) (le-of-mul-le-mul-right (least-nat z D (S .over) W t b L (S .plus) (S .minus) (mul-le-mul-right W (sum-below r m c)) (mul-le-mul-right (D * D * W) (h .least)) (mul-le-mul-right (D * D * S .over) l)) (c .second)) in
+    let i = from-square (L * D) (z * W) (le-of-mul-le-mul-right (least-nat z D (S .over) W t b L (S .plus) (S .minus) (mul-le-mul-right W (square-below r m c)) (mul-le-mul-right (D * D * W) (h .least)) (mul-le-mul-right (D * D * S .over) l)) (c .second)) in
     record { least = subst (λ (n : ℕ). r .minus * W + L * D ≤ n * W) (add-sub-of-le m) (go (r .minus) z i) }
   where
     go : (m z : ℕ) → L * r .over ≤ z * W → m * W + L * r .over ≤ (m + z) * W
@@ -185,16 +157,16 @@ square-at-most A p m B C sp sm e h = go (A * A) (p * m + m * p) (subst (λ (n : 
 pub quotient-size : {W t L : ℕ} (M : ℕ) (G r S : Fraction) → 0 < L → W * W * (L * L) + t * (W * W * W) ≤ M * M * (L * L) → AtMost (square G) S → Close W (square r) S t → 0 < r .over → Least W r L → Size W (G ⊘ r) M
 quotient-size {W} {t} {L} M G r S lp g h c D>0 l =
     let m = le-of-lt (least-positive lp D>0 l) in
-    let z = r .plus - r .minus in
+    let z = left r in
     let A = gap (G .plus) (G .minus) in
     let B = G .over in
     let C = S .over in
     let D = r .over in
-    let i = left-least (r .plus) (r .minus) D W L m (l .least) in
+    let i = left-least r m l in
     let s = square-at-most A (G .plus) (G .minus) B C (S .plus) (S .minus) (square-nat (G .plus) (G .minus)) h in
     gap-size
     (subst (λ (n : ℕ). n * W ≤ M * (B * z)) (sym (gap-times (G .plus) (G .minus) D))
     (from-square (A * D * W) (M * (B * z))
     (le-of-mul-le-mul-right
-    (size-nat A B C z D W t M L (S .plus) (S .minus) (mul-le-mul-right (D * D * W * W * (L * L)) s) (mul-le-mul-right (B * B * W * (L * L)) (sum-below r m c)) (mul-le-mul-right (t * C * B * B * W) (mul-le-mul i i))
+    (size-nat A B C z D W t M L (S .plus) (S .minus) (mul-le-mul-right (D * D * W * W * (L * L)) s) (mul-le-mul-right (B * B * W * (L * L)) (square-below r m c)) (mul-le-mul-right (t * C * B * B * W) (mul-le-mul i i))
     (mul-le-mul-right (B * B * (z * z) * C) g)) (mul-pos (c .second) (mul-pos lp lp)))))

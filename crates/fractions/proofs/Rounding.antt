@@ -89,7 +89,7 @@ under-nat g den num L H Z x y z = let x' = simp ring at x in let z' = simp ring 
 room : (g H Z : ℕ) → g * (2 * H) ≤ Z * (2 * H) + Z + H → 2 * Z ≤ H * Z → H * 1 ≤ H * Z → 0 < H → g * (2 * H) < Z * 2 * (2 * H)
 room g H Z x a b c = let x' = simp ring at x in simp ring (omega arith)
 
-two-le-half : (f : Format) → 2 ≤ 2 ^ (prec f - 1)
+two-le-half : (f : Format) → 2 ≤ hid f
 two-le-half binary32 = lit≤ tt
 two-le-half binary64 = lit≤ tt
 
@@ -102,7 +102,7 @@ small-nat num den L T h = omega (arith, mul-assoc den T L)
 grid-under : (f : Format) (num den : ℕ) → 0 < den → num ≤ den * 2 ^ emax f → grid f num den < 2 ^ (low f + suc (emax f))
 grid-under f num den D h =
     let L = 2 ^ low f in
-    let H = 2 ^ (prec f - 1) in
+    let H = hid f in
     let Z = 2 ^ emax f * L in
     let g = grid f num den in
     let y : num * L ≤ den * Z = small-nat num den L (2 ^ emax f) (mul-le-mul-right L h) in

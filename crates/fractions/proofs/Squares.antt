@@ -4,7 +4,7 @@ use mathlib.Core.Path.{_≡_, refl, sym, ap, _∙_, subst}
 use mathlib.Core.Logic.{inl, inr}
 use mathlib.Core.Bool.{Bool, _&&_}
 use Prim.Native.Nat.{ℕ, _+_, _*_, _-_, _^_, _≤_, _<_}
-use native.Mathlib.Nat.{le-trans, le-of-lt, lt-of-not-le, add-sub-of-le, sub-add-cancel, sub-eq-zero-of-le, sub-pos-iff-lt, eq-zero-or-pos, mul-pos, mul-le-mul, mul-le-mul-right, le-of-mul-le-mul-right, lt-of-mul-lt-mul-right}
+use native.Mathlib.Nat.{le-trans, le-of-lt, lt-of-not-le, sub-add-cancel, sub-eq-zero-of-le, sub-pos-iff-lt, eq-zero-or-pos, mul-pos, mul-le-mul, mul-le-mul-right, le-of-mul-le-mul-right, lt-of-mul-lt-mul-right}
 use native.Mathlib.Decide.{decLe, decLt}
 use native.Mathlib.Omega.{arith}
 use lib.Dec.{T, leb, ltb, leb→le, ltb→lt}
@@ -14,10 +14,10 @@ use lib.Ieee.Positive.{first-pos}
 use Rattle.fractions.specs.Fraction.{Fraction, fraction, square, unit, whole, _⊗_, _⊘_, Same, Less, AtMost, gap}
 use Rattle.fractions.specs.Squares.{raised, lowered, BySquares}
 use Rattle.fractions.proofs.Ring.{ring}
-use Rattle.fractions.proofs.Order.{same-refl, by-gap, gap-times, at-most-same, not-less, less-not}
-use Rattle.fractions.proofs.Restate.{equal, equal-same}
+use Rattle.fractions.proofs.Order.{same-refl, same-sym, by-gap, gap-times, at-most-same, not-less, less-not, left, plain, plain-same}
+use Rattle.fractions.proofs.Restate.{equal, equal-same, same-square}
 use Rattle.fractions.proofs.Magnitude.{close-magnitude, square-nat}
-use Rattle.fractions.proofs.Close.{Close, Least}
+use Rattle.fractions.proofs.Close.{Close, Least, close-same}
 use Rattle.fractions.proofs.Within.{size-gap}
 use Rattle.fractions.proofs.Divide.{left-least, least-positive}
 use Rattle.fractions.proofs.Near.{Near}
@@ -97,21 +97,26 @@ module _ (A B C Z R D X a P W M d t K L : ℕ) (w : 0 < W) (rp : 0 < R) (dp : 0 
       part v h u i = omega arith
 
 -- ---- the words of specs/, in the same letters
-plain : (u v u' v' : ℕ) → u * v' ≤ u' * v → AtMost (fraction u 0 v) (fraction u' 0 v')
-plain u v u' v' h = omega arith
+
+-- the number over its `over`, of one that may have either sign, as `left` is of one that is not below 0
+abbrev size : Fraction → ℕ
+size x = gap (x .plus) (x .minus)
+
+at-most-nat : (u v u' v' : ℕ) → u * v' ≤ u' * v → AtMost (fraction u 0 v) (fraction u' 0 v')
+at-most-nat u v u' v' h = omega arith
 
 square-is : (y b : ℕ) → square (fraction y 0 b) ≡ fraction (y * y) 0 (b * b)
 square-is y b = equal (omega arith) (omega arith) refl
 
 module _ (k : ℕ) (x : Fraction) where
-  raised-is : square (raised k x) ≡ fraction ((gap (x .plus) (x .minus) * 2 ^ k + x .over) * (gap (x .plus) (x .minus) * 2 ^ k + x .over)) 0 (x .over * 2 ^ k * (x .over * 2 ^ k))
-  raised-is = ap square (raised-parts (gap (x .plus) (x .minus)) (x .over) (2 ^ k)) ∙ square-is _ _
+  raised-is : square (raised k x) ≡ fraction ((size x * 2 ^ k + x .over) * (size x * 2 ^ k + x .over)) 0 (x .over * 2 ^ k * (x .over * 2 ^ k))
+  raised-is = ap square (raised-parts (size x) (x .over) (2 ^ k)) ∙ square-is _ _
     where
       raised-parts : (X a P : ℕ) → fraction (X * P + 1 * a) (0 * P + 0 * a) (a * P) ≡ fraction (X * P + a) 0 (a * P)
       raised-parts X a P = equal (omega arith) (omega arith) refl
 
-  lowered-is : square (lowered k x) ≡ fraction ((gap (x .plus) (x .minus) * 2 ^ k - x .over) * (gap (x .plus) (x .minus) * 2 ^ k - x .over)) 0 (x .over * 2 ^ k * (x .over * 2 ^ k))
-  lowered-is = ap square (lowered-parts (gap (x .plus) (x .minus)) (x .over) (2 ^ k)) ∙ square-is _ _
+  lowered-is : square (lowered k x) ≡ fraction ((size x * 2 ^ k - x .over) * (size x * 2 ^ k - x .over)) 0 (x .over * 2 ^ k * (x .over * 2 ^ k))
+  lowered-is = ap square (lowered-parts (size x) (x .over) (2 ^ k)) ∙ square-is _ _
     where
       lowered-parts : (X a P : ℕ) → fraction (X * P + 0 * a - (0 * P + 1 * a)) 0 (a * P) ≡ fraction (X * P - a) 0 (a * P)
       lowered-parts X a P = equal (omega arith) refl refl
@@ -122,51 +127,39 @@ exact-nat A p m C o e = subst (λ (n : ℕ). n * C * o + 0 * o ≡ A * A * C * o
     go : (a b : ℕ) → (a + b) * C * o + 0 * o ≡ a * C * o + b * C * o
     go a b = omega arith
 
-exact-is : (G S : Fraction) → Same (square G ⊘ S) (fraction (gap (G .plus) (G .minus) * gap (G .plus) (G .minus) * S .over) 0 (G .over * G .over * (S .plus - S .minus)))
-exact-is G S = exact-nat (gap (G .plus) (G .minus)) (G .plus) (G .minus) (S .over) (G .over * G .over * (S .plus - S .minus)) (square-nat (G .plus) (G .minus))
+exact-is : (G S : Fraction) → Same (square G ⊘ S) (fraction (size G * size G * S .over) 0 (G .over * G .over * left S))
+exact-is G S = exact-nat (size G) (G .plus) (G .minus) (S .over) (G .over * G .over * left S) (square-nat (G .plus) (G .minus))
 
 -- ---- r² and S
-module _ (D C W t : ℕ) where
-  square-above : (m z sp sm : ℕ) → (((m + z) * (m + z) + m * m) * C + sm * (D * D)) * W ≤ (sp * (D * D) + ((m + z) * m + m * (m + z)) * C) * W + t * (D * D * C) → C * z * z * W + sm * (D * D) * W ≤ sp * (D * D) * W + t * (D * D * C)
-  square-above m z sp sm h = let h' = simp ring at h in simp ring (omega arith)
+-- r² within t / W of S, in whole numbers
+module _ {W t : ℕ} (r : Fraction) {S : Fraction} (m : r .minus ≤ r .plus) (c : Close W (square r) S t) where
+  plain-close : Close W (square (plain r)) S t
+  plain-close = close-same (square (plain r)) S (c .first) (c .second) (same-square (plain r) r (same-sym r (plain r) (plain-same r m))) (same-refl S) c
 
-  pub square-below : (m z sp sm : ℕ) → (((m + z) * m + m * (m + z)) * C + sp * (D * D)) * W ≤ (sm * (D * D) + ((m + z) * (m + z) + m * m) * C) * W + t * (D * D * C) → sp * (D * D) * W ≤ C * z * z * W + sm * (D * D) * W + t * (D * D * C)
-  square-below m z sp sm h = let h' = simp ring at h in simp ring (omega arith)
+  square-above : S .over * left r * left r * W + S .minus * (r .over * r .over) * W ≤ S .plus * (r .over * r .over) * W + t * (r .over * r .over * S .over)
+  square-above = omega (arith, plain-close .above)
 
-  positive-nat : (z sp sm : ℕ) → C * z * z * W + sm * (D * D) * W ≤ sp * (D * D) * W + t * (D * D * C) → 2 * (t * (D * D * C)) ≤ C * z * z * W → 0 < C * z * z * W → sm * (D * D) * W < sp * (D * D) * W
-  positive-nat z sp sm h k p = omega arith
+  pub square-below : S .plus * (r .over * r .over) * W ≤ S .over * left r * left r * W + S .minus * (r .over * r .over) * W + t * (r .over * r .over * S .over)
+  square-below = omega (arith, plain-close .below)
 
-  -- what is left of S over what is left of r
-  sum-above : (z Z sm : ℕ) → C * z * z * W + sm * (D * D) * W ≤ (sm + Z) * (D * D) * W + t * (D * D * C) → C * z * z * W ≤ Z * (D * D) * W + t * (D * D * C)
-  sum-above z Z sm h = omega arith
-
-  sum-below : (z Z sm : ℕ) → (sm + Z) * (D * D) * W ≤ C * z * z * W + sm * (D * D) * W + t * (D * D * C) → Z * (D * D) * W ≤ C * z * z * W + t * (D * D * C)
-  sum-below z Z sm h = omega arith
-
--- r² within t / W of S, r being L / W at least and 2 * t * W ≤ L²: S is above 0, and the two inequalities between whole numbers
+-- r being L / W at least and 2 * t * W ≤ L², S is above 0, and of it too nothing need be taken away
 record Root (W : ℕ) (r S : Fraction) (t : ℕ) : Type 0 where
   pub positive : S .minus < S .plus
-  pub above : S .over * (r .plus - r .minus) * (r .plus - r .minus) * W ≤ (S .plus - S .minus) * (r .over * r .over) * W + t * (r .over * r .over * S .over)
-  pub below : (S .plus - S .minus) * (r .over * r .over) * W ≤ S .over * (r .plus - r .minus) * (r .plus - r .minus) * W + t * (r .over * r .over * S .over)
+  pub above : S .over * left r * left r * W ≤ left S * (r .over * r .over) * W + t * (r .over * r .over * S .over)
+  pub below : left S * (r .over * r .over) * W ≤ S .over * left r * left r * W + t * (r .over * r .over * S .over)
+
+positive-nat : (a b c t : ℕ) → a + b ≤ c + t → 2 * t ≤ a → 0 < a → b < c
+positive-nat a b c t h k p = omega arith
 
 root-counted : {W t L : ℕ} {r S : Fraction} → 0 < W → 0 < L → 0 < r .over → Close W (square r) S t → Least W r L → 2 * t * W ≤ L * L → Root W r S t
 root-counted {W} {t} {L} {r} {S} w lp rp h l k =
     let D = r .over in
-    let C = S .over in
-    let z = r .plus - r .minus in
     let m = least-positive lp rp l in
-    let e = add-sub-of-le (le-of-lt m) in
-    let a = square-above D C W t (r .minus) z (S .plus) (S .minus) (subst (λ (p : ℕ). ((p * p + r .minus * r .minus) * C + S .minus * (D * D)) * W ≤ (S .plus * (D * D) + (p * r .minus + r .minus * p) * C) * W + t * (D * D * C)) (sym e) (h .above)) in
-    let b = square-below D C W t (r .minus) z (S .plus) (S .minus) (subst (λ (p : ℕ). ((p * r .minus + r .minus * p) * C + S .plus * (D * D)) * W ≤ (S .minus * (D * D) + (p * p + r .minus * r .minus) * C) * W + t * (D * D * C)) (sym e) (h .below)) in
-    let zp : 0 < z = sub-pos-iff-lt .1 m in
+    let z>0 : 0 < left r = sub-pos-iff-lt .1 m in
     let s : S .minus < S .plus =
-    lt-of-mul-lt-mul-right (D * D) (lt-of-mul-lt-mul-right W (positive-nat D C W t z (S .plus) (S .minus) a (half C z D W t L w (left-least (r .plus) (r .minus) D W L (le-of-lt m) (l .least)) k) (mul-pos (mul-pos (mul-pos (h .second) zp) zp) w))) in
-    let f = add-sub-of-le (le-of-lt s) in
-    record {
-      positive = s;
-      above = sum-above D C W t z (S .plus - S .minus) (S .minus) (subst (λ (p : ℕ). C * z * z * W + S .minus * (D * D) * W ≤ p * (D * D) * W + t * (D * D * C)) (sym f) a);
-      below = sum-below D C W t z (S .plus - S .minus) (S .minus) (subst (λ (p : ℕ). p * (D * D) * W ≤ C * z * z * W + S .minus * (D * D) * W + t * (D * D * C)) (sym f) b);
-    }
+    lt-of-mul-lt-mul-right (D * D) (lt-of-mul-lt-mul-right W (positive-nat _ _ _ _ (square-above r (le-of-lt m) h) (half (S .over) (left r) D W t L w (left-least r (le-of-lt m) l) k) (mul-pos (mul-pos (mul-pos (h .second) z>0) z>0) w))) in
+    let c = close-same (square r) (plain S) (h .first) (h .second) (same-refl (square r)) (plain-same S (le-of-lt s)) h in
+    record { positive = s; above = omega (arith, square-above r (le-of-lt m) c); below = omega (arith, square-below r (le-of-lt m) c) }
 
 -- ---- the sign: where x and G are not of one sign, |G| / r is d / W at most, and so G² / S is 2 ^ -2k at most
 module _ (o u W E : ℕ) where
@@ -236,13 +229,6 @@ tests W k M d t L h =
       sign = leb→le _ _ (and-r (a && b && c && e && f) g h);
     }
 
--- the number over its `over`, of one that may have either sign and of one above 0
-abbrev size : Fraction → ℕ
-size x = gap (x .plus) (x .minus)
-
-abbrev left : Fraction → ℕ
-left x = x .plus - x .minus
-
 module _ {W k M d t L : ℕ} (x G r S : Fraction) (f : Tests W k M d t L) (n : Near W x (G ⊘ r) M d) (c : Close W (square r) S t) (l : Least W r L) where
   D>0 : 0 < r .over
   D>0 = first-pos (r .over) (r .over) (c .first)
@@ -257,7 +243,7 @@ module _ {W k M d t L : ℕ} (x G r S : Fraction) (f : Tests W k M d t L) (n : N
   the-root = root-counted (f .unit) (f .root) D>0 c l (f .half)
 
   long : L * r .over ≤ left r * W
-  long = left-least (r .plus) (r .minus) (r .over) W L (le-of-lt r>0) (l .least)
+  long = left-least r (le-of-lt r>0) l
 
   -- |G / r| is |G| over r
   quotient : gap (G .plus * r .over) (G .minus * r .over) ≡ size G * r .over
@@ -295,7 +281,7 @@ module _ {W k M d t L : ℕ} (x G r S : Fraction) (f : Tests W k M d t L) (n : N
   squares-above : AtMost (square G ⊘ S) (square (raised k x))
   squares-above =
       at-most-same (square G ⊘ S) exactly (square (raised k x)) (fraction ((size x * 2 ^ k + x .over) * (size x * 2 ^ k + x .over)) 0 (x .over * 2 ^ k * (x .over * 2 ^ k))) (exact-is G S) (equal-same (raised-is k x)) under-square wide
-      (plain _ (G .over * G .over * left S) _ (x .over * 2 ^ k * (x .over * 2 ^ k))
+      (at-most-nat _ (G .over * G .over * left S) _ (x .over * 2 ^ k * (x .over * 2 ^ k))
       (above-nat (size G) (G .over) (S .over) (left S) (left r) (r .over) (size x) (x .over) (2 ^ k) W M d t (W - d * 2 ^ k) L (f .unit) (sub-pos-iff-lt .1 r>0) D>0 (sub-add-cancel (f .left)) sized long (f .small) (f .half)
       near-above (the-root .above)))
 
@@ -311,11 +297,11 @@ module _ {W k M d t L : ℕ} (x G r S : Fraction) (f : Tests W k M d t L) (n : N
   squares-below : AtMost (square (lowered k x)) (square G ⊘ S)
   squares-below =
       at-most-same (square (lowered k x)) (fraction ((size x * 2 ^ k - x .over) * (size x * 2 ^ k - x .over)) 0 (x .over * 2 ^ k * (x .over * 2 ^ k))) (square G ⊘ S) exactly (equal-same (lowered-is k x)) (exact-is G S) wide under-square
-      (plain _ (x .over * 2 ^ k * (x .over * 2 ^ k)) _ (G .over * G .over * left S) (lowered-square (decLe (x .over) (size x * 2 ^ k))))
+      (at-most-nat _ (x .over * 2 ^ k * (x .over * 2 ^ k)) _ (G .over * G .over * left S) (lowered-square (decLe (x .over) (size x * 2 ^ k))))
 
   -- x G ≤ 0
-  apart : AtMost (x ⊗ G) (whole 0) → size G * r .over * W ≤ d * (G .over * left r)
-  apart h =
+  unlike-small : AtMost (x ⊗ G) (whole 0) → size G * r .over * W ≤ d * (G .over * left r)
+  unlike-small h =
       le-of-mul-le-mul-right
       (subst (λ (m : ℕ). m * W * x .over ≤ d * (G .over * left r) * x .over) quotient
       (unlike-nat (x .over) (G .over * left r) W d (x .plus) (x .minus) (G .plus * r .over) (G .minus * r .over) (turn (x .plus) (x .minus) (G .plus) (G .minus) (r .over) (mul-le-mul-right (r .over) (bare _ _ (x .over * G .over) h))) (n .close .above) (n .close .below))) (n .close .first)
@@ -334,7 +320,7 @@ module _ {W k M d t L : ℕ} (x G r S : Fraction) (f : Tests W k M d t L) (n : N
       let B = G .over in
       let y = le-of-mul-le-mul-right (twice-nat (S .over) (left S) R D W t (the-root .above) (half (S .over) R D W t L (f .unit) long (f .half))) (f .unit) in
       at-most-same (square G ⊘ S) exactly (square (unit k)) (square (unit k)) (exact-is G S) (same-refl (square (unit k))) under-square (mul-pos (pow-pos k) (pow-pos k))
-      (plain _ (B * B * left S) 1 (P * P)
+      (at-most-nat _ (B * B * left S) 1 (P * P)
       (le-of-mul-le-mul-right
       (small-nat (size G) B (S .over) (left S) R D P W d (mul-le-mul-right (P * P * S .over) (mul-le-mul h h)) (mul-le-mul-right (d * P * (d * P) * (B * B)) y) (mul-le-mul-right (B * B * left S * (D * D)) (f .sign)))
       (mul-pos (mul-pos D>0 D>0) (mul-pos (f .unit) (f .unit)))))
@@ -344,7 +330,7 @@ module _ {W k M d t L : ℕ} (x G r S : Fraction) (f : Tests W k M d t L) (n : N
     where
       go : Dec (Less (whole 0) (x ⊗ G)) → Less (whole 0) (x ⊗ G)
       go (yes p) = p
-      go (no p) = absurd (less-not (square G ⊘ S) (square (unit k)) (squares-small (apart (not-less (whole 0) (x ⊗ G) p))) h)
+      go (no p) = absurd (less-not (square G ⊘ S) (square (unit k)) (squares-small (unlike-small (not-less (whole 0) (x ⊗ G) p))) h)
 
 pub by-squares : (k : ℕ) {W M d t L : ℕ} (x G r S : Fraction) → T (squares-fine W k M d t L) → Near W x (G ⊘ r) M d → Close W (square r) S t → Least W r L → BySquares k x G S
 by-squares k {W} {M} {d} {t} {L} x G r S h n c l =

@@ -68,7 +68,7 @@ not-to-zero h = ⊎-elim (le→leb _ _) (le→leb _ _) (h .near)
 too-large : Approximates 40 (whole 1) (fin true 1 (pos 1)) (fraction 0 2 1) → ⊥
 too-large h = le→leb _ _ (h .size)
 
--- ---- by squares, of 1 / √4 and of -1 / √4
+-- ---- by squares, of 1 / √4, at it, at the edges and past them; and of -1 / √4, which has the other sign
 half-squares : BySquares 30 (fraction 1 0 2) (whole 1) (whole 4)
 half-squares = record { gain = lit< tt; formula = lit< tt; sum = lit< tt; positive = lit< tt; above = lit≤ tt; below = lit≤ tt; sign = λ h. lit< tt }
 
@@ -87,12 +87,18 @@ half-short h = le→leb _ _ (h .above)
 other-sign : BySquares 30 (fraction 0 1 2) (whole 1) (whole 4) → ⊥
 other-sign h = le→leb _ _ (h .sign (lit< tt))
 
+minus-half : BySquares 30 (fraction 0 1 2) (opposite (whole 1)) (whole 4)
+minus-half = record { gain = lit< tt; formula = lit< tt; sum = lit< tt; positive = lit< tt; above = lit≤ tt; below = lit≤ tt; sign = λ h. lit< tt }
+
 -- a silent speaker: what is less than 0 counts as 0
 silent : BySquares 30 (whole 0) (whole 0) (whole 1)
 silent = record { gain = lit< tt; formula = lit< tt; sum = lit< tt; positive = lit< tt; above = lit≤ tt; below = lit≤ tt; sign = λ h. absurd (le→leb _ _ h) }
 
 -- where the exact gain is 2 ^ -30 at most, a 0 or a value of the other sign will do
-small-sign : BySquares 30 (fraction 0 0 1) (unit 30) (whole 1)
+small-zero : BySquares 30 (whole 0) (unit 30) (whole 1)
+small-zero = record { gain = lit< tt; formula = lit< tt; sum = lit< tt; positive = lit< tt; above = lit≤ tt; below = lit≤ tt; sign = λ h. absurd (le→leb _ _ h) }
+
+small-sign : BySquares 30 (opposite (unit 31)) (unit 30) (whole 1)
 small-sign = record { gain = lit< tt; formula = lit< tt; sum = lit< tt; positive = lit< tt; above = lit≤ tt; below = lit≤ tt; sign = λ h. absurd (le→leb _ _ h) }
 
 -- 3 ² + 4 ² is 5 ², and 5 is its root to one part in 8; 6 is not

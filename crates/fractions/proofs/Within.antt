@@ -1,35 +1,52 @@
 -- The laws of `Within`, and of a magnitude that is at most so much. The words of specs/ and the vocabulary of Close.antt say the same (`close-apart` and `apart-close`, `size-at-most` and `at-most-size`,
 -- `least-at-most` and `at-most-least`), and so a number `Within` another may be renamed and chained. Assumes nothing.
-use mathlib.Core.Path.{_≡_, sym, subst}
+use mathlib.Core.Path.{_≡_, sym, ap, subst}
 use mathlib.Core.Bool.{Bool, _&&_}
 use Prim.Native.Nat.{ℕ, suc, _+_, _*_, _^_, _≤_, _<_, zero-le}
-use native.Mathlib.Nat.{le-trans, le-of-eq, pow-succ', one-mul, mul-le-mul-right}
+use native.Mathlib.Nat.{le-trans, le-of-eq, add-comm, pow-succ', one-mul, mul-le-mul-right}
 use native.Mathlib.Omega.{arith}
 use lib.Dec.{T, leb, ltb, leb→le, ltb→lt}
 use lib.Pow.{pow-pos, pow-mono}
 use lib.Ieee.Fits.{and-l, and-r}
-use Rattle.fractions.specs.Fraction.{Fraction, fraction, magnitude, whole, Same, AtMost, gap, apart, Within}
+use Rattle.fractions.specs.Fraction.{Fraction, fraction, magnitude, whole, _⊖_, Same, AtMost, gap, apart, Within}
 use Rattle.fractions.proofs.Order.{same-refl, gap-times}
-use Rattle.fractions.proofs.Close.{Close, Size, Least, gap-above, gap-below, gap-most, close-wider, close-same, close-unit, close-trans, same-close}
+use Rattle.fractions.proofs.Close.{Close, Size, Least, gap-above, gap-below, gap-most, close-difference, difference-close, close-wider, close-same, close-unit, close-trans, same-close}
 
 -- ---- the words of specs/, counted in units of 1 / W
-gap-sides : (a b c d W D : ℕ) → gap (a + b) (c + d) * W ≤ D → ((a + b) * W ≤ (c + d) * W + D) × ((d + c) * W ≤ (b + a) * W + D)
-gap-sides a b c d W D h = go (subst (λ (n : ℕ). n ≤ D) (sym (gap-times (a + b) (c + d) W)) h)
-  where
-    go : gap ((a + b) * W) ((c + d) * W) ≤ D → ((a + b) * W ≤ (c + d) * W + D) × ((d + c) * W ≤ (b + a) * W + D)
-    go h = (gap-above ((a + b) * W) ((c + d) * W) D h, omega (arith, gap-below ((a + b) * W) ((c + d) * W) D h))
 
-gap-of-sides : (a b c d W D : ℕ) → (a + b) * W ≤ (c + d) * W + D → (d + c) * W ≤ (b + a) * W + D → gap (a + b) (c + d) * W ≤ D
-gap-of-sides a b c d W D h k = subst (λ (n : ℕ). n ≤ D) (gap-times (a + b) (c + d) W) (gap-most ((a + b) * W) ((c + d) * W) D h (omega (arith, k)))
+-- |x| ≤ M / W
+module _ {W M : ℕ} {x : Fraction} where
+  pub size-gap : Size W x M → gap (x .plus) (x .minus) * W ≤ M * x .over
+  size-gap h = subst (λ (n : ℕ). n ≤ M * x .over) (gap-times (x .plus) (x .minus) W) (gap-most (x .plus * W) (x .minus * W) (M * x .over) (h .above) (h .below))
+
+  pub gap-size : gap (x .plus) (x .minus) * W ≤ M * x .over → Size W x M
+  gap-size h =
+      let g : gap (x .plus * W) (x .minus * W) ≤ M * x .over = subst (λ (n : ℕ). n ≤ M * x .over) (sym (gap-times (x .plus) (x .minus) W)) h in
+      record { above = gap-above (x .plus * W) (x .minus * W) (M * x .over) g; below = gap-below (x .plus * W) (x .minus * W) (M * x .over) g }
+
+  pub size-at-most : Size W x M → AtMost (magnitude x) (fraction M 0 W)
+  size-at-most h = omega (arith, size-gap h)
+
+  pub at-most-size : AtMost (magnitude x) (fraction M 0 W) → Size W x M
+  at-most-size h = gap-size (omega (arith, h))
+
+  -- M / W ≤ x
+  pub at-most-least : AtMost (fraction M 0 W) x → Least W x M
+  at-most-least h = record { least = omega (arith, h) }
+
+  pub least-at-most : Least W x M → AtMost (fraction M 0 W) x
+  least-at-most h = omega (arith, h .least)
+
+-- |x - y| ≤ E / W
+apart-is : (x y : Fraction) → apart x y ≡ gap ((x ⊖ y) .plus) ((x ⊖ y) .minus)
+apart-is x y = ap (gap ((x ⊖ y) .plus)) (add-comm (y .plus * x .over) (x .minus * y .over))
 
 module _ {W E : ℕ} {x y : Fraction} where
   close-apart : Close W x y E → apart x y * W ≤ E * (x .over * y .over)
-  close-apart h = gap-of-sides (x .plus * y .over) (y .minus * x .over) (y .plus * x .over) (x .minus * y .over) W _ (h .above) (h .below)
+  close-apart h = subst (λ (n : ℕ). n * W ≤ E * (x .over * y .over)) (sym (apart-is x y)) (size-gap (close-difference h))
 
   pub apart-close : 0 < x .over → 0 < y .over → apart x y * W ≤ E * (x .over * y .over) → Close W x y E
-  apart-close X Y h =
-      let s = gap-sides (x .plus * y .over) (y .minus * x .over) (y .plus * x .over) (x .minus * y .over) W _ h in
-      record { first = X; second = Y; above = s .0; below = s .1 }
+  apart-close X Y h = difference-close X Y (gap-size (subst (λ (n : ℕ). n * W ≤ E * (x .over * y .over)) (apart-is x y) h))
 
 module _ {k : ℕ} {x y : Fraction} where
   pub within-close : Within k x y → Close (2 ^ k) x y 1
@@ -45,12 +62,6 @@ module _ {k : ℕ} {x y : Fraction} where
   pub counted-within : {W E : ℕ} → 0 < W → E * 2 ^ k ≤ W → Close W x y E → Within k x y
   counted-within {W} w h c = close-within (close-unit w (le-trans h (le-of-eq (sym (one-mul W)))) c)
 
-with-zeros : (n o W M : ℕ) → n * W ≤ M * o → n * W + 0 * o ≤ M * o + 0 * W
-with-zeros n o W M h = omega arith
-
-no-zeros : (n o W M : ℕ) → n * W + 0 * o ≤ M * o + 0 * W → n * W ≤ M * o
-no-zeros n o W M h = omega arith
-
 -- of two closed fractions it is decided by computing
 abbrev pub isWithin : ℕ → Fraction → Fraction → Bool
 isWithin k x y = ltb 0 (x .over) && ltb 0 (y .over) && leb (apart x y * 2 ^ k) (x .over * y .over)
@@ -65,29 +76,6 @@ within-computed k x y h =
       second = ltb→lt 0 (y .over) (and-r a b (and-l (a && b) c h));
       near = leb→le (apart x y * 2 ^ k) (x .over * y .over) (and-r (a && b) c h);
     }
-
--- |x| ≤ M / W
-module _ {W M : ℕ} {x : Fraction} where
-  pub size-gap : Size W x M → gap (x .plus) (x .minus) * W ≤ M * x .over
-  size-gap h = subst (λ (n : ℕ). n ≤ M * x .over) (gap-times (x .plus) (x .minus) W) (gap-most (x .plus * W) (x .minus * W) (M * x .over) (h .above) (h .below))
-
-  pub gap-size : gap (x .plus) (x .minus) * W ≤ M * x .over → Size W x M
-  gap-size h =
-      let g : gap (x .plus * W) (x .minus * W) ≤ M * x .over = subst (λ (n : ℕ). n ≤ M * x .over) (sym (gap-times (x .plus) (x .minus) W)) h in
-      record { above = gap-above (x .plus * W) (x .minus * W) (M * x .over) g; below = gap-below (x .plus * W) (x .minus * W) (M * x .over) g }
-
-  pub size-at-most : Size W x M → AtMost (magnitude x) (fraction M 0 W)
-  size-at-most h = with-zeros (gap (x .plus) (x .minus)) (x .over) W M (size-gap h)
-
-  pub at-most-size : AtMost (magnitude x) (fraction M 0 W) → Size W x M
-  at-most-size h = gap-size (no-zeros (gap (x .plus) (x .minus)) (x .over) W M h)
-
-  -- M / W ≤ x
-  pub at-most-least : AtMost (fraction M 0 W) x → Least W x M
-  at-most-least h = record { least = omega (arith, h) }
-
-  pub least-at-most : Least W x M → AtMost (fraction M 0 W) x
-  least-at-most h = omega (arith, h .least)
 
 -- a whole number
 pub whole-size : (W n : ℕ) {N : ℕ} → n ≤ N → Size W (whole n) (N * W)

@@ -5,4 +5,4 @@
 //
 // Definitions and laws alone: no function stands here. What a reader has to believe are specs/Fraction,
 // Rounding, Approximates and Squares; proofs/Example shows the laws at work, proofs/Trials holds the
-// definitions to closed cases. Under it lies nothing but the kit's account of IEEE 754.
+// definitions to closed cases. Under it lies `formats`, the values of a format as whole numbers.

@@ -12,6 +12,7 @@ use lib.Ieee.Positive.{positive, positive-of-value}
 use Rattle.fractions.specs.Fraction.{Fraction, fraction, whole, signed, number, _⊗_, square, Same, Less}
 use Rattle.fractions.specs.Squares.{RootOf}
 use Rattle.fractions.proofs.Order.{same-refl, same-mul, less-same}
+use Rattle.fractions.proofs.Restate.{same-square}
 use Rattle.formats.proofs.Patterns.{twice-hid}
 use Rattle.numbers.specs.Computed.{rootOf}
 use Rattle.fractions.proofs.Number.{value-same, value-number}
@@ -89,8 +90,9 @@ module _ (f : Format) (x : Float) (h : T (fits f x)) (t : T (positive x)) where
     square-same : Same (square scaled) (square (signed false (q * u) (2 ^ low f) ⊗ fraction c 0 P))
     unfolding scaled
     square-same =
-        let s = same-mul (number (rootOf f x)) (signed false (q * u) (2 ^ low f)) (fraction c 0 P) (fraction c 0 P) (value-same (rootOf f x) false (q * u) (2 ^ low f) (root-value f x h t)) (same-refl (fraction c 0 P)) in
-        same-mul scaled (signed false (q * u) (2 ^ low f) ⊗ fraction c 0 P) scaled (signed false (q * u) (2 ^ low f) ⊗ fraction c 0 P) s s
+        let k = fraction c 0 P in
+        let r = signed false (q * u) (2 ^ low f) in
+        same-square scaled (r ⊗ k) (same-mul (number (rootOf f x)) r k k (value-same (rootOf f x) false (q * u) (2 ^ low f) (root-value f x h t)) (same-refl k))
 
     scaled-below : q * u * c * (q * u * c) < n * 2 ^ low f * (P * P) → Less (square scaled) (number x)
     scaled-below l =

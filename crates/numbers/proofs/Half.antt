@@ -18,7 +18,7 @@ use Rattle.formats.proofs.Digits.{size-gt}
 use Rattle.formats.proofs.Patterns.{twice-hid, units-fits}
 use Rattle.formats.proofs.Grid.{Grid}
 use Rattle.numbers.specs.Computed.{WholeRoot, wholeRoot, drops, rootUnits}
-use Rattle.numbers.proofs.Squares.{four, four-pos, four-pow, whole-root-law, sq-suc}
+use Rattle.numbers.proofs.Squares.{four-square, four-pos, four-pow, whole-root-law, square-suc, square-lt}
 use Rattle.numbers.proofs.Rooting.{root-digits, half-digits}
 
 -- ---- the whole root r of M = 4 * a / 4 ^ k, for the k that the format drops
@@ -34,8 +34,8 @@ half-bounds a j e =
     hi : (z j : ℕ) → suc z / 2 ≡ suc j → z ≤ suc j + suc j
     hi z j e = omega arith
 
-under-digits : (p a : ℕ) → 2 ≤ p → p < suc (size a) / 2 → (4 ^ p ≤ 4 * a / 4 ^ drops p a) × (4 * a / 4 ^ drops p a < 4 ^ suc p)
-under-digits p a P h =
+under-digits : (p a : ℕ) → p < suc (size a) / 2 → (4 ^ p ≤ 4 * a / 4 ^ drops p a) × (4 * a / 4 ^ drops p a < 4 ^ suc p)
+under-digits p a h =
     let k = drops p a in
     let j = suc (size a) / 2 - 1 in
     let b = half-bounds a j (step (suc (size a) / 2) p h) in (
@@ -60,7 +60,7 @@ under-digits p a P h =
 
 -- (r * 2 ^ k) squared is at most 4 * a, and (r + 1) * 2 ^ k squared is above it
 square-of : (r k : ℕ) → r * 2 ^ k * (r * 2 ^ k) ≡ r * r * 4 ^ k
-square-of r k = mul-mul-mul-comm r (2 ^ k) r (2 ^ k) ∙ ap (λ (x : ℕ). r * r * x) (sym (four k))
+square-of r k = mul-mul-mul-comm r (2 ^ k) r (2 ^ k) ∙ ap (λ (x : ℕ). r * r * x) (sym (four-square k))
 
 squares : (a k r : ℕ) → WholeRoot (4 * a / 4 ^ k) r → (r * 2 ^ k * (r * 2 ^ k) ≤ 4 * a) × (4 * a < suc r * 2 ^ k * (suc r * 2 ^ k))
 squares a k r h =
@@ -71,7 +71,7 @@ odd-square : (r : ℕ) → r % 2 ≡ 1 → r * r % 2 ≡ 1
 odd-square r h =
     let q = r / 2 in
     let e : r ≡ suc (q + q) = omega arith in
-    let s : suc (q + q) * suc (q + q) ≡ (q + q) * (q + q) + 2 * (q + q) + 1 = sq-suc (q + q) in
+    let s : suc (q + q) * suc (q + q) ≡ (q + q) * (q + q) + 2 * (q + q) + 1 = square-suc (q + q) in
     let d : (q + q) * (q + q) ≡ q * (q + q) + q * (q + q) = add-mul q q (q + q) in
     ap (λ (x : ℕ). x * x % 2) e ∙ odd (suc (q + q) * suc (q + q)) (q * (q + q)) q (s ∙ ap (λ (x : ℕ). x + 2 * (q + q) + 1) d)
   where
@@ -110,9 +110,6 @@ pub record HalfUnit (f : Format) (n : ℕ) : Type 0 where
   pub upper : 4 * (n * 2 ^ low f) < suc (2 * q) * 2 ^ k * (suc (2 * q) * 2 ^ k)
   pub floor : q ≤ hid f → 2 * q * 2 ^ k * (2 * q * 2 ^ k) ≤ 4 * (n * 2 ^ low f)
 
-pub sq-lt : (x y : ℕ) → x < y → x * x < y * y
-sq-lt x y h = lt-of-lt-of-le (omega (arith, sq-suc x)) (mul-le-mul h h)
-
 long-enough : (f : Format) → prec f < suc (suc (low f)) / 2
 long-enough binary32 = lit< tt
 long-enough binary64 = lit< tt
@@ -150,7 +147,7 @@ module _ (f : Format) (n : ℕ) (g : Grid f n) (N : 0 < n) where
       let p = prec f in
       let k = drops p a in
       let M = 4 * a / 4 ^ k in
-      let b = under-digits p a (two f) has-digits in
+      let b = under-digits p a has-digits in
       let s = wholeRoot M in
       let u = 2 ^ k in
       let d = root-digits p M s (b .0) (b .1) (whole-root-law M) in
@@ -173,7 +170,7 @@ module _ (f : Format) (n : ℕ) (g : Grid f n) (N : 0 < n) where
       short h s a b = omega arith
 
       down : (A s y u : ℕ) → s * u * (s * u) ≤ A → (s % 2 ≡ 1 → s * u * (s * u) ≡ A → ⊥) → 0 < u → (d : ℕ) → s % 2 ≡ d → d < 2 → suc y ≡ 2 * (suc s / 2) → y * u * (y * u) < A
-      down A s y u le free U zero z b e = lt-of-lt-of-le (sq-lt (y * u) (s * u) (mul-lt-mul-of-pos-right (omega arith) U)) le
+      down A s y u le free U zero z b e = lt-of-lt-of-le (square-lt (y * u) (s * u) (mul-lt-mul-of-pos-right (omega arith) U)) le
       down A s y u le free U (suc d) z b e =
           let o : s % 2 ≡ 1 = omega arith in
           let same : y ≡ s = omega arith in

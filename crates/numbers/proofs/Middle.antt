@@ -4,7 +4,7 @@ use mathlib.Core.Path.{_≡_, sym, ap, _∙_, subst}
 use mathlib.Core.Logic.{_⊎_, inl, inr}
 use mathlib.Core.Bool.{Bool, true, false}
 use Prim.Native.Nat.{ℕ, suc, _+_, _-_, _*_, _^_, _≤_, _<_}
-use native.Mathlib.Nat.{le-trans, le-of-eq, le-of-lt, lt-of-lt-of-le, lt-of-le-of-lt, lt-of-not-le, lt-irrefl, mul-assoc, mul-comm, suc-mul, two-mul, mul-pos, mul-le-mul, mul-le-mul-right, mul-lt-mul-of-pos-right, lt-of-mul-lt-mul-right, eq-of-mul-eq-mul-right, add-zero, add-comm}
+use native.Mathlib.Nat.{le-trans, le-of-eq, le-of-lt, lt-of-lt-of-le, lt-of-le-of-lt, lt-of-not-le, lt-irrefl, mul-assoc, suc-mul, two-mul, mul-pos, mul-le-mul, mul-le-mul-right, mul-lt-mul-of-pos-right, lt-of-mul-lt-mul-right, eq-of-mul-eq-mul-right, add-zero}
 use native.Mathlib.Decide.{decLe, decLt}
 use native.Mathlib.Omega.{arith}
 use lib.Dec.{T}
@@ -15,19 +15,21 @@ use lib.Ieee.Scale.{finite}
 use lib.Ieee.Positive.{positive, value-pos}
 use Rattle.fractions.specs.Fraction.{Fraction, whole, fraction, signed, number, _⊕_, _⊗_, square, Same, Less, AtMost}
 use Rattle.fractions.proofs.Ring.{ring}
+use Rattle.fractions.proofs.Restate.{⊕-comm, same-square}
 use Rattle.fractions.proofs.Order.{same-refl, same-sym, same-trans, same-add, same-mul, less-same, at-most-same}
 use Rattle.formats.proofs.Patterns.{same-value}
 use Rattle.formats.proofs.Grid.{Grid, Units, zero-grid, held-units, grid-or-small}
 use Rattle.numbers.specs.Roots.{HalfAbove, HalfBelow, NearestRoot}
 use Rattle.numbers.specs.Computed.{rootUnits, rootOf}
 use Rattle.fractions.proofs.Number.{finite-number, value-finite, value-same, value-number}
+use Rattle.numbers.proofs.Squares.{square-lt}
 use Rattle.numbers.proofs.Rooting.{rootOf-value}
-use Rattle.numbers.proofs.Half.{HalfUnit, half-unit, sq-lt}
+use Rattle.numbers.proofs.Half.{HalfUnit, half-unit}
 
 -- ---- the root of n units, in units: nearer than any other number w of the format
 
 -- A is four times the number under the root
-abbrev pub Closer : ℕ → ℕ → ℕ → Type 0
+abbrev Closer : ℕ → ℕ → ℕ → Type 0
 Closer A r w = (r < w → A < (r + w) * (r + w)) × (w < r → (r + w) * (r + w) < A)
 
 twice-mul : (q u : ℕ) → 2 * q * u ≡ q * u + q * u
@@ -58,21 +60,22 @@ closer h u q w A H lower upper floor g = (λ l. over l g, λ l. under l g)
     under l (inr s) = go (decLe q h)
       where
         go : Dec (q ≤ h) → (q * u + w) * (q * u + w) < A
-        go (yes b) = lt-of-lt-of-le (sq-lt (q * u + w) (2 * q * u) (omega (arith, twice-mul q u))) (floor b)
+        go (yes b) = lt-of-lt-of-le (square-lt (q * u + w) (2 * q * u) (omega (arith, twice-mul q u))) (floor b)
         go (no n) = step h (lt-of-not-le n) (le-of-lt s)
 
 unit-nearest : (f : Format) (n w : ℕ) (h : HalfUnit f n) → Grid f w → Closer (4 * (n * 2 ^ low f)) (h .q * 2 ^ h .k) w
 unit-nearest f n w h g = closer (hid f) (2 ^ h .k) (h .q) w (4 * (n * 2 ^ low f)) (h .least) (h .lower) (h .upper) (h .floor) (grid-or-small f w (h .k) g)
 
 -- ---- as fractions: x is n, r is p and y is w units, of which L make 1
+
+-- r + y for a y that is not negative, and for one that is
+sum-like : (L p w : ℕ) → Same (signed false p L ⊕ signed false w L) (fraction (p + w) 0 L)
+sum-like L p w = simp ring (omega arith)
+
+sum-unlike : (L p w : ℕ) → Same (signed false p L ⊕ signed true w L) (fraction p w L)
+sum-unlike L p w = simp ring (omega arith)
+
 module _ (L n p w : ℕ) (P : 0 < L) where
-  -- r + y for a y that is not negative, and for one that is
-  sum-like : Same (signed false p L ⊕ signed false w L) (fraction (p + w) 0 L)
-  sum-like = simp ring (omega arith)
-
-  sum-unlike : Same (signed false p L ⊕ signed true w L) (fraction p w L)
-  sum-unlike = simp ring (omega arith)
-
   above-nat : 4 * (n * L) < (p + w) * (p + w) → Less (whole 4 ⊗ signed false n L) (square (fraction (p + w) 0 L))
   above-nat h = omega (arith, mul-lt-mul-of-pos-right h P)
 
@@ -104,6 +107,20 @@ module _ (f : Format) (x r y : Float) (n p : ℕ) (vx : HasValue x false n (2 ^ 
   four-same : Same (whole 4 ⊗ number x) (whole 4 ⊗ signed false n L)
   four-same = same-mul (whole 4) (whole 4) (number x) (signed false n L) (same-refl (whole 4)) (value-same x false n L vx)
 
+  r-same : Same (signed false p L) (number r)
+  r-same = same-sym (number r) (signed false p L) (value-same r false p L vr)
+
+  -- the order of r and y, in units
+  module _ (s : Bool) (w : ℕ) (vy : HasValue y s w L) where
+    y-same : Same (signed s w L) (number y)
+    y-same = same-sym (number y) (signed s w L) (value-same y s w L vy)
+
+    r-below : Less (number r) (number y) → Less (signed false p L) (signed s w L)
+    r-below = less-same (signed false p L) (number r) (signed s w L) (number y) r-same y-same L-pos L-pos
+
+    r-above : Less (number y) (number r) → Less (signed s w L) (signed false p L)
+    r-above = less-same (signed s w L) (number y) (signed false p L) (number r) y-same r-same L-pos L-pos
+
   -- the sum of r and y, as a fraction z
   module _ (s : Bool) (w : ℕ) (z : Fraction) (vy : HasValue y s w L) (e : Same (signed false p L ⊕ signed s w L) z) where
     sum-same : Same (number r ⊕ number y) z
@@ -112,7 +129,7 @@ module _ (f : Format) (x r y : Float) (n p : ℕ) (vx : HasValue x false n (2 ^ 
         (same-add (number r) (signed false p L) (number y) (signed s w L) (value-same r false p L vr) (value-same y s w L vy)) e
 
     square-same : Same (square (number r ⊕ number y)) (square z)
-    square-same = same-mul (number r ⊕ number y) z (number r ⊕ number y) z sum-same sum-same
+    square-same = same-square (number r ⊕ number y) z sum-same
 
     sum-pos : 0 < (number r ⊕ number y) .over
     sum-pos = mul-pos r-pos y-pos
@@ -129,29 +146,22 @@ module _ (f : Format) (x r y : Float) (n p : ℕ) (vx : HasValue x false n (2 ^ 
     negative-sum : Less z (whole 0) → HalfBelow (number r ⊕ number y) (number x)
     negative-sum b = inl (less-same (number r ⊕ number y) z (whole 0) (whole 0) sum-same (same-refl (whole 0)) sum-pos (omega arith) b)
 
-    -- the order of r and y, in units
-    r-below : Less (number r) (number y) → Less (signed false p L) (signed s w L)
-    r-below = less-same (signed false p L) (number r) (signed s w L) (number y) (same-sym (number r) (signed false p L) (value-same r false p L vr)) (same-sym (number y) (signed s w L) (value-same y s w L vy)) L-pos L-pos
-
-    r-above : Less (number y) (number r) → Less (signed s w L) (signed false p L)
-    r-above = less-same (signed s w L) (number y) (signed false p L) (number r) (same-sym (number y) (signed s w L) (value-same y s w L vy)) (same-sym (number r) (signed false p L) (value-same r false p L vr)) L-pos L-pos
-
   below : (s : Bool) → Units f s y → Less (number r) (number y) → HalfAbove (number r ⊕ number y) (number x)
   below false u l =
-      over-root false (u .w) (fraction (p + u .w) 0 L) (u .value) (sum-like L n p (u .w) L-pos) (omega arith)
-      (above-nat L n p (u .w) L-pos (nearest (u .w) (u .grid) .0 (lt-of-mul-lt-mul-right L (level (r-below false (u .w) (fraction (p + u .w) 0 L) (u .value) (sum-like L n p (u .w) L-pos) l))))) L-pos
+      over-root false (u .w) (fraction (p + u .w) 0 L) (u .value) (sum-like L p (u .w)) (omega arith)
+      (above-nat L n p (u .w) L-pos (nearest (u .w) (u .grid) .0 (lt-of-mul-lt-mul-right L (level (r-below false (u .w) (u .value) l))))) L-pos
     where
       level : p * L + 0 * L < u .w * L + 0 * L → p * L < u .w * L
       level h = omega arith
-  below true u l = absurd (none (r-below true (u .w) (fraction p (u .w) L) (u .value) (sum-unlike L n p (u .w) L-pos) l))
+  below true u l = absurd (none (r-below true (u .w) (u .value) l))
     where
       none : p * L + u .w * L < 0 * L + 0 * L → ⊥
       none h = omega arith
 
   above : (s : Bool) → Units f s y → Less (number y) (number r) → HalfBelow (number r ⊕ number y) (number x)
   above false u l =
-      under-root false (u .w) (fraction (p + u .w) 0 L) (u .value) (sum-like L n p (u .w) L-pos)
-      (below-nat L n p (u .w) L-pos (nearest (u .w) (u .grid) .1 (lt-of-mul-lt-mul-right L (level (r-above false (u .w) (fraction (p + u .w) 0 L) (u .value) (sum-like L n p (u .w) L-pos) l)))))
+      under-root false (u .w) (fraction (p + u .w) 0 L) (u .value) (sum-like L p (u .w))
+      (below-nat L n p (u .w) L-pos (nearest (u .w) (u .grid) .1 (lt-of-mul-lt-mul-right L (level (r-above false (u .w) (u .value) l)))))
     where
       level : u .w * L + 0 * L < p * L + 0 * L → u .w * L < p * L
       level h = omega arith
@@ -168,8 +178,8 @@ module _ (f : Format) (x r y : Float) (n p : ℕ) (vx : HasValue x false n (2 ^ 
       at-zero = subst (λ (i : ℕ). i * i < 4 * (n * L)) (add-zero p) (nearest 0 (zero-grid f) .1 P)
 
       go : Dec (u .w ≤ p) → HalfBelow (number r ⊕ number y) (number x)
-      go (yes h) = under-root true (u .w) z (u .value) (sum-unlike L n p (u .w) L-pos) (less-nat L n p (u .w) L-pos at-zero h)
-      go (no m) = negative-sum true (u .w) z (u .value) (sum-unlike L n p (u .w) L-pos) (below-zero m)
+      go (yes h) = under-root true (u .w) z (u .value) (sum-unlike L p (u .w)) (less-nat L n p (u .w) L-pos at-zero h)
+      go (no m) = negative-sum true (u .w) z (u .value) (sum-unlike L p (u .w)) (below-zero m)
 
 -- ---- the law
 units-of : (f : Format) (y : Float) → T (fits f y) → T (finite y) → (s : Bool) × Units f s y
@@ -213,9 +223,6 @@ not-both : (z x : Fraction) → HalfAbove z x → HalfBelow z x → ⊥
 not-both z x (a, b) (inl c) = omega arith
 not-both z x (a, b) (inr c) = lt-irrefl _ (lt-of-lt-of-le b (le-of-lt c))
 
-sum-comm : (x y : Fraction) → x ⊕ y ≡ y ⊕ x
-sum-comm x y = λ i. fraction (add-comm (x .plus * y .over) (y .plus * x .over) i) (add-comm (x .minus * y .over) (y .minus * x .over) i) (mul-comm (x .over) (y .over) i)
-
 pub root-only : (f : Format) (x r : Float) → T (fits f x) → T (positive x) → NearestRoot f x r → r ≡ rootOf f x
 root-only f x r h p R = go (decLt _ _) (decLt _ _)
   where
@@ -230,10 +237,10 @@ root-only f x r h p R = go (decLt _ _) (decLt _ _)
 
     -- neither is below the other
     r-under : Less (number r) (number (rootOf f x)) → ⊥
-    r-under l = not-both (number r ⊕ number (rootOf f x)) (number x) (R .below (rootOf f x) (Q .held) (Q .number-is) l) (subst (λ (z : Fraction). HalfBelow z (number x)) (sum-comm (number (rootOf f x)) (number r)) (Q .above r (R .held) (R .number-is) l))
+    r-under l = not-both (number r ⊕ number (rootOf f x)) (number x) (R .below (rootOf f x) (Q .held) (Q .number-is) l) (subst (λ (z : Fraction). HalfBelow z (number x)) (⊕-comm (number (rootOf f x)) (number r)) (Q .above r (R .held) (R .number-is) l))
 
     r-over : Less (number (rootOf f x)) (number r) → ⊥
-    r-over l = not-both (number r ⊕ number (rootOf f x)) (number x) (subst (λ (z : Fraction). HalfAbove z (number x)) (sum-comm (number (rootOf f x)) (number r)) (Q .below r (R .held) (R .number-is) l)) (R .above (rootOf f x) (Q .held) (Q .number-is) l)
+    r-over l = not-both (number r ⊕ number (rootOf f x)) (number x) (subst (λ (z : Fraction). HalfAbove z (number x)) (⊕-comm (number (rootOf f x)) (number r)) (Q .below r (R .held) (R .number-is) l)) (R .above (rootOf f x) (Q .held) (Q .number-is) l)
 
     -- so they are the same number, and the root is above zero
     same : (s : Bool) → Units f s r → Same (number r) (number (rootOf f x)) → r ≡ rootOf f x

@@ -34,7 +34,7 @@ scaled-bits f s M j k t L e h g =
     let hi : N < 2 ^ (p + k) * 2 ^ L =
     lt-of-mul-lt-mul-right (2 ^ t) (subst (λ (z : ℕ). z < 2 ^ (p + k) * 2 ^ L * 2 ^ t) (sym x)
     (lt-of-lt-of-le (mul-lt-mul-of-pos-right h UP) (le-of-eq (simp (pow-add, mul-assoc, mul-comm, mul-left-comm))))) in
-    let lo : (k ≡ 0) ⊎ (2 ^ (p - 1 + k) ≤ N / 2 ^ L) = low-of p N U x g in
+    let lo : (k ≡ 0) ⊎ (2 ^ (p - 1 + k) ≤ N / 2 ^ L) = low-of p N x g in
     let d : size (N / 2 ^ L) - p ≡ k = drop-is p (N / 2 ^ L) k P (div-lt-iff-lt-mul (pow-pos L) .1 hi) lo in
     ap (toBits f)
     (round-is f s (M * 2 ^ j) (2 ^ L)
@@ -42,9 +42,9 @@ scaled-bits f s M j k t L e h g =
     ∙ ap (λ (z : ℕ). units f s z k) (closest-same N U M (2 ^ t) UP T2 x))
     ∙ units-bits f s (closest M (2 ^ t)) k (closest-le M (2 ^ t) (2 ^ p) T2 (subst (λ (z : ℕ). M < z) (pow-add 2 p t) h)) (lead p T2 g)
   where
-    low-of : (p N U : ℕ) → N * 2 ^ t ≡ M * (2 ^ L * 2 ^ k) → (k ≡ 0) ⊎ (2 ^ (p - 1 + t) ≤ M) → (k ≡ 0) ⊎ (2 ^ (p - 1 + k) ≤ N / 2 ^ L)
-    low-of p N U x (inl z) = inl z
-    low-of p N U x (inr l) =
+    low-of : (p N : ℕ) → N * 2 ^ t ≡ M * (2 ^ L * 2 ^ k) → (k ≡ 0) ⊎ (2 ^ (p - 1 + t) ≤ M) → (k ≡ 0) ⊎ (2 ^ (p - 1 + k) ≤ N / 2 ^ L)
+    low-of p N x (inl z) = inl z
+    low-of p N x (inr l) =
         inr (le-div-iff-mul-le (pow-pos L) .1
         (le-of-mul-le-mul-right
         (le-trans (le-of-eq (simp (pow-add, mul-assoc, mul-comm, mul-left-comm))) (le-trans (mul-le-mul-right (2 ^ L * 2 ^ k) l) (le-of-eq (sym x)))) (pow-pos t)))
@@ -65,23 +65,23 @@ unfolding rounded
 rounded-inf f s = refl
 
 -- ---- the field e and the digits d of an f64 that is finite: its digits are shifted by t, and the field of the f32's pattern is k
-module _ (s : Bool) (e d : ℕ) (h : d < 4503599627370496) where
+module _ (s : Bool) (e d : ℕ) (h : d < 2 ^ 52) where
   abbrev Narrow : ℕ → Type 0
-  Narrow r = toBits binary32 (narrowed (ofFields binary64 s e d)) ≡ cond s 2147483648 0 + r
+  Narrow r = toBits binary32 (narrowed (ofFields binary64 s e d)) ≡ cond s (2 ^ 31) 0 + r
 
-  shifted : (k t : ℕ) → e < 2047 → e - 1 + 149 + t ≡ 1074 + k → digits binary64 e d < 2 ^ (24 + t) → (k ≡ 0) ⊎ (2 ^ (23 + t) ≤ digits binary64 e d) → Narrow (min (k * 8388608 + closest (digits binary64 e d) (2 ^ t)) 2139095040)
+  shifted : (k t : ℕ) → e < 2047 → e - 1 + 149 + t ≡ 1074 + k → digits binary64 e d < 2 ^ (24 + t) → (k ≡ 0) ⊎ (2 ^ (23 + t) ≤ digits binary64 e d) → Narrow (min (k * 2 ^ 23 + closest (digits binary64 e d) (2 ^ t)) (255 * 2 ^ 23))
   shifted k t l i m g =
       ap (toBits binary32) (rounded-of binary32 (ofFields binary64 s e d) s (digits binary64 e d * 2 ^ (e - 1)) (2 ^ 1074) (pow-pos 1074) (fields-value binary64 s e d l))
       ∙ scaled-bits binary32 s (digits binary64 e d) (e - 1) k t 1074 i m g
 
-  few : digits binary64 e d < 9007199254740992
+  few : digits binary64 e d < 2 ^ 53
   few = digits-lt binary64 e d h
 
   -- the leading digit is there
-  lead : 0 < e → digits binary64 e d ≡ 4503599627370496 + d
+  lead : 0 < e → digits binary64 e d ≡ 2 ^ 52 + d
   lead p = digits-normal binary64 e d p
 
-  wide : 4503599627370496 + d < 9007199254740992
+  wide : 2 ^ 52 + d < 2 ^ 53
   wide = omega arith
 
   more : (t : ℕ) → 29 ≤ t → 53 ≤ 24 + t
@@ -91,61 +91,61 @@ module _ (s : Bool) (e d : ℕ) (h : d < 4503599627370496) where
   pub tiny : e < 873 → Narrow 0
   tiny a =
       shifted 0 t (omega arith) (omega arith) (lt-of-lt-of-le few (pow-mono (more t (omega arith)))) (inl refl)
-      ∙ ap (λ (x : ℕ). cond s 2147483648 0 + min (0 * 8388608 + x) 2139095040) (closest-zero (digits binary64 e d) (2 ^ t) (lt-of-lt-of-le (double (digits binary64 e d) few) (pow-mono {i = 54} (omega arith))))
+      ∙ ap (λ (x : ℕ). cond s (2 ^ 31) 0 + min (0 * 2 ^ 23 + x) (255 * 2 ^ 23)) (closest-zero (digits binary64 e d) (2 ^ t) (lt-of-lt-of-le (double (digits binary64 e d) few) (pow-mono {i = 54} (omega arith))))
     where
       t : ℕ
       t = 925 - (e - 1)
 
-      double : (m : ℕ) → m < 9007199254740992 → m * 2 < 18014398509481984
+      double : (m : ℕ) → m < 2 ^ 53 → m * 2 < 2 ^ 54
       double m h = omega arith
 
   -- ---- a subnormal value, or the smallest normal one
-  pub subnormal-digits : e < 897 → closest (4503599627370496 + d) (2 ^ (926 - e)) ≤ 16777216
-  subnormal-digits a = closest-le (4503599627370496 + d) (2 ^ (926 - e)) 16777216 (pow-pos (926 - e)) (room (2 ^ (926 - e)) (pow-mono {i = 29} (omega arith)))
+  pub subnormal-digits : e < 897 → closest (2 ^ 52 + d) (2 ^ (926 - e)) ≤ 2 ^ 24
+  subnormal-digits a = closest-le (2 ^ 52 + d) (2 ^ (926 - e)) (2 ^ 24) (pow-pos (926 - e)) (room (2 ^ (926 - e)) (pow-mono {i = 29} (omega arith)))
     where
-      room : (u : ℕ) → 536870912 ≤ u → 4503599627370496 + d < 16777216 * u
+      room : (u : ℕ) → 2 ^ 29 ≤ u → 2 ^ 52 + d < 2 ^ 24 * u
       room u l = omega arith
 
-  pub subnormal : 873 ≤ e → e < 897 → Narrow (closest (4503599627370496 + d) (2 ^ (926 - e)))
+  pub subnormal : 873 ≤ e → e < 897 → Narrow (closest (2 ^ 52 + d) (2 ^ (926 - e)))
   subnormal b a =
       shifted 0 (926 - e) (omega arith) (omega arith) (lt-of-lt-of-le few (pow-mono (more (926 - e) (omega arith)))) (inl refl)
-      ∙ ap (λ (x : ℕ). cond s 2147483648 0 + min (0 * 8388608 + closest x (2 ^ (926 - e))) 2139095040) (lead (omega arith))
-      ∙ ap (λ (x : ℕ). cond s 2147483648 0 + x) (kept (closest (4503599627370496 + d) (2 ^ (926 - e))) (subnormal-digits a))
+      ∙ ap (λ (x : ℕ). cond s (2 ^ 31) 0 + min (0 * 2 ^ 23 + closest x (2 ^ (926 - e))) (255 * 2 ^ 23)) (lead (omega arith))
+      ∙ ap (λ (x : ℕ). cond s (2 ^ 31) 0 + x) (kept (closest (2 ^ 52 + d) (2 ^ (926 - e))) (subnormal-digits a))
     where
-      kept : (q : ℕ) → q ≤ 16777216 → min (0 * 8388608 + q) 2139095040 ≡ q
+      kept : (q : ℕ) → q ≤ 2 ^ 24 → min (0 * 2 ^ 23 + q) (255 * 2 ^ 23) ≡ q
       kept q h = omega arith
 
   -- ---- a normal value, or an infinity
-  pub normal-digits : closest (4503599627370496 + d) 536870912 ≤ 16777216
-  normal-digits = closest-le (4503599627370496 + d) 536870912 16777216 (pow-pos 29) wide
+  pub normal-digits : closest (2 ^ 52 + d) (2 ^ 29) ≤ 2 ^ 24
+  normal-digits = closest-le (2 ^ 52 + d) (2 ^ 29) (2 ^ 24) (pow-pos 29) wide
 
-  pub normal : 897 ≤ e → e < 2048 → (e ≡ 2047 → d ≡ 0) → Narrow (min ((e - 897) * 8388608 + closest (4503599627370496 + d) 536870912) 2139095040)
+  pub normal : 897 ≤ e → e < 2048 → (e ≡ 2047 → d ≡ 0) → Narrow (min ((e - 897) * 2 ^ 23 + closest (2 ^ 52 + d) (2 ^ 29)) (255 * 2 ^ 23))
   normal b a n = go (eq-or-lt-of-le last)
     where
       last : e ≤ 2047
       last = omega arith
 
-      over : (k q : ℕ) → 255 ≤ k → 2139095040 ≡ min (k * 8388608 + q) 2139095040
+      over : (k q : ℕ) → 255 ≤ k → 255 * 2 ^ 23 ≡ min (k * 2 ^ 23 + q) (255 * 2 ^ 23)
       over k q h = omega arith
 
-      go : (e ≡ 2047) ⊎ (e < 2047) → Narrow (min ((e - 897) * 8388608 + closest (4503599627370496 + d) 536870912) 2139095040)
+      go : (e ≡ 2047) ⊎ (e < 2047) → Narrow (min ((e - 897) * 2 ^ 23 + closest (2 ^ 52 + d) (2 ^ 29)) (255 * 2 ^ 23))
       go (inl i) =
           ap (λ (x : ℕ). toBits binary32 (narrowed (ofFields binary64 s x d))) i
           ∙ ap (λ (x : ℕ). toBits binary32 (narrowed (ofFields binary64 s 2047 x))) (n i)
           ∙ ap (λ (v : Float). toBits binary32 (narrowed v)) (fields-inf binary64 s)
           ∙ ap (toBits binary32) (rounded-inf binary32 s)
           ∙ toBits-inf binary32 s
-          ∙ ap (λ (x : ℕ). cond s 2147483648 0 + x) (over (e - 897) (closest (4503599627370496 + d) 536870912) (omega arith))
+          ∙ ap (λ (x : ℕ). cond s (2 ^ 31) 0 + x) (over (e - 897) (closest (2 ^ 52 + d) (2 ^ 29)) (omega arith))
       go (inr l) =
           shifted (e - 897) 29 l (omega arith) few (inr (le-trans (omega arith) (le-of-eq (sym (lead (omega arith))))))
-          ∙ ap (λ (x : ℕ). cond s 2147483648 0 + min ((e - 897) * 8388608 + closest x 536870912) 2139095040) (lead (omega arith))
+          ∙ ap (λ (x : ℕ). cond s (2 ^ 31) 0 + min ((e - 897) * 2 ^ 23 + closest x (2 ^ 29)) (255 * 2 ^ 23)) (lead (omega arith))
 
 -- ---- the whole pattern, and the value
-pub no-nan-fields : (b : ℕ) → T (not (nanBits binary64 b)) → b % 9223372036854775808 / 4503599627370496 ≡ 2047 → b % 4503599627370496 ≡ 0
+pub no-nan-fields : (b : ℕ) → T (not (nanBits binary64 b)) → b % 2 ^ 63 / 2 ^ 52 ≡ 2047 → b % 2 ^ 52 ≡ 0
 unfolding nanBits
-no-nan-fields b n e = go (eqb (b % 9223372036854775808 / 4503599627370496) 2047) (eqb (b % 4503599627370496) 0) (eq→eqb e) (eqb→eq (b % 4503599627370496) 0) n
+no-nan-fields b n e = go (eqb (b % 2 ^ 63 / 2 ^ 52) 2047) (eqb (b % 2 ^ 52) 0) (eq→eqb e) (eqb→eq (b % 2 ^ 52) 0) n
   where
-    go : (x y : Bool) → T x → (T y → b % 4503599627370496 ≡ 0) → T (not (x && not y)) → b % 4503599627370496 ≡ 0
+    go : (x y : Bool) → T x → (T y → b % 2 ^ 52 ≡ 0) → T (not (x && not y)) → b % 2 ^ 52 ≡ 0
     go true true t z n = z tt
     go true false t z n = absurd n
     go false y t z n = absurd t

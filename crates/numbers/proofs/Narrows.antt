@@ -1,9 +1,9 @@
 -- `rounded` is what document 01 says of a conversion (`rounded-narrows`), and nothing else is (`narrows-only`). In every format. Assumes nothing.
-use mathlib.Core.Path.{_≡_, refl, sym, ap, _∙_, subst}
+use mathlib.Core.Path.{_≡_, refl, sym, ap, _∙_, subst, subst₂}
 use mathlib.Core.Logic.{_⊎_, inl, inr}
 use mathlib.Core.Bool.{Bool, true, false, not, cond, true≢false}
 use Prim.Native.Nat.{ℕ, zero, suc, _+_, _-_, _*_, _/_, _%_, _^_, _≤_, _<_}
-use native.Mathlib.Nat.{le-trans, mul-assoc, mul-comm, le-of-mul-le-mul-right, lt-of-mul-lt-mul-right, eq-of-mul-eq-mul-right, le-add-right, suc-mul, min-eq-left}
+use native.Mathlib.Nat.{le-trans, mul-assoc, mul-comm, mul-le-mul-right, le-of-mul-le-mul-right, lt-of-mul-lt-mul-right, eq-of-mul-eq-mul-right, le-add-right, suc-mul, min-eq-left}
 use native.Mathlib.Decide.{ℕ-discrete}
 use native.Mathlib.Omega.{arith}
 use lib.IntN.{ℤ}
@@ -16,7 +16,7 @@ use lib.Ieee.Bits.{is-true, is-false}
 use lib.Ieee.Exact.{HasValue, units-val}
 use lib.Ieee.Scale.{finite, overflow}
 use lib.Ieee.Nearest.{closest}
-use Rattle.fractions.specs.Fraction.{Fraction, signed, number, Same, gap, apart, AsNear}
+use Rattle.fractions.specs.Fraction.{signed, number, Same, gap, apart, AsNear}
 use Rattle.fractions.proofs.Ring.{ring}
 use Rattle.fractions.proofs.Order.{same-refl, same-sym, near-same}
 use Rattle.formats.proofs.Digits.{twice}
@@ -25,7 +25,6 @@ use Rattle.formats.proofs.Grid.{Units, held-units}
 use Rattle.numbers.specs.Conversions.{infinite, negative, largest, beyond, tooLarge, Narrows}
 use Rattle.numbers.specs.Computed.{rounded}
 use Rattle.fractions.proofs.Number.{finite-number, value-finite, value-same, apart-like, apart-unlike}
-use Rattle.numbers.proofs.Apart.{near-of, of-near}
 use Rattle.formats.proofs.Dropped.{Dropped, dropped}
 use Rattle.numbers.proofs.Rounded.{most-digits, leading, best, tie, next, best-zero, tie-zero, past-middle, before-middle}
 
@@ -147,22 +146,22 @@ module _ (f : Format) (s : Bool) (m : ℕ) (e : ℤ) where
     off-r : apart (signed s a c) (signed s (q * 2 ^ k) (2 ^ low f)) ≡ gap n (q * (c * 2 ^ k))
     off-r = apart-like s a c (q * 2 ^ k) (2 ^ low f) ∙ ap (λ (z : ℕ). gap n z) lined
 
-    -- another value y of the format, as a fraction z that is j away from x
+    -- another value y of the format, w units with a sign, which is j away from x
     record Beside (y : Float) : Type 0 where
-      z : Fraction
+      sign : Bool
+      w : ℕ
       j : ℕ
-      same : Same (number y) z
-      over-is : z .over ≡ 2 ^ low f
-      away : apart (signed s a c) z ≡ j
+      same : Same (number y) (signed sign w (2 ^ low f))
+      away : apart (signed s a c) (signed sign w (2 ^ low f)) ≡ j
       nearer : gap n (q * (c * 2 ^ k)) ≤ j
       tied : j ≤ gap n (q * (c * 2 ^ k)) → (y ≡ r → ⊥) → q % 2 ≡ 0
 
     like : (y : Float) → T (fits f y) → Units f s y → Beside y
     like y h u = record {
-      z = signed s (u .w) (2 ^ low f);
+      sign = s;
+      w = u .w;
       j = gap n (u .w * c);
       same = value-same y s (u .w) (2 ^ low f) (u .value);
-      over-is = refl;
       away = apart-like s a c (u .w) (2 ^ low f);
       nearer = best f n c k (down-pos e) d (u .w) (u .grid);
       tied = λ l ne.
@@ -175,10 +174,10 @@ module _ (f : Format) (s : Bool) (m : ℕ) (e : ℤ) where
 
     unlike : (y : Float) → Units f (not s) y → Beside y
     unlike y u = record {
-      z = signed (not s) (u .w) (2 ^ low f);
+      sign = not s;
+      w = u .w;
       j = n + u .w * c;
       same = value-same y (not s) (u .w) (2 ^ low f) (u .value);
-      over-is = refl;
       away = apart-unlike s a c (u .w) (2 ^ low f);
       nearer = le-trans (best-zero f n c k (down-pos e) d) (le-add-right n (u .w * c));
       tied = λ l ne. tie-zero f n c k (down-pos e) d (le-trans (le-add-right n (u .w * c)) l);
@@ -202,16 +201,18 @@ module _ (f : Format) (s : Bool) (m : ℕ) (e : ℤ) where
     nearest : (y : Float) → T (fits f y) → T (finite y) → AsNear (number x) (number r) (number y)
     nearest y h p =
         let b = beside y h p in
-        near-same (number x) (signed s a c) (number r) (signed s (q * 2 ^ k) (2 ^ low f)) (number y) (b .z) (down-pos e) L (subst (λ (i : ℕ). 0 < i) (sym (b .over-is)) L)
+        near-same (number x) (signed s a c) (number r) (signed s (q * 2 ^ k) (2 ^ low f)) (number y) (signed (b .sign) (b .w) (2 ^ low f)) (down-pos e) L L
         (same-refl (number x)) (value-same r s (q * 2 ^ k) (2 ^ low f) value) (b .same)
-        (near-of (signed s a c) (signed s (q * 2 ^ k) (2 ^ low f)) (b .z) (gap n (q * (c * 2 ^ k))) (b .j) (2 ^ low f) refl (b .over-is) off-r (b .away) (b .nearer))
+        (mul-le-mul-right (2 ^ low f) (subst₂ (λ (i j : ℕ). i ≤ j) (sym off-r) (sym (b .away)) (b .nearer)))
 
     -- how near y is, in units
     as-near : (y : Float) (p : T (finite y)) (b : Beside y) → AsNear (number x) (number y) (number r) → b .j ≤ gap n (q * (c * 2 ^ k))
     as-near y p b l =
-        of-near (signed s a c) (b .z) (signed s (q * 2 ^ k) (2 ^ low f)) (b .j) (gap n (q * (c * 2 ^ k))) (2 ^ low f) (b .over-is) refl (b .away) off-r L
-        (near-same (signed s a c) (number x) (b .z) (number y) (signed s (q * 2 ^ k) (2 ^ low f)) (number r) (down-pos e) (finite-number y p) (finite-number r t)
-        (same-refl (number x)) (same-sym (number y) (b .z) (b .same)) (same-sym (number r) (signed s (q * 2 ^ k) (2 ^ low f)) (value-same r s (q * 2 ^ k) (2 ^ low f) value)) l)
+        let z = signed (b .sign) (b .w) (2 ^ low f) in
+        subst₂ (λ (i j : ℕ). i ≤ j) (b .away) off-r
+        (le-of-mul-le-mul-right
+        (near-same (signed s a c) (number x) z (number y) (signed s (q * 2 ^ k) (2 ^ low f)) (number r) (down-pos e) (finite-number y p) (finite-number r t)
+        (same-refl (number x)) (same-sym (number y) z (b .same)) (same-sym (number r) (signed s (q * 2 ^ k) (2 ^ low f)) (value-same r s (q * 2 ^ k) (2 ^ low f) value)) l) L)
 
     even : (y : Float) → T (fits f y) → T (finite y) → AsNear (number x) (number y) (number r) → (y ≡ r → ⊥) → toBits f r % 2 ≡ 0
     even y h p l ne = let b = beside y h p in even-pattern f s q k q-most q-leads o ∙ b .tied (as-near y p b l) ne

@@ -18,7 +18,7 @@ use Rattle.formats.proofs.Digits.{size-gt}
 use Rattle.formats.proofs.Patterns.{twice-hid, under-inf, ofBits-units}
 use Rattle.formats.proofs.Normal.{Scaled}
 use Rattle.numbers.specs.Computed.{WholeRoot, wholeRoot, drops, keeps, rootUnits, rootOf}
-use Rattle.numbers.proofs.Squares.{whole-root-unique, four, four-pow, four-pos}
+use Rattle.numbers.proofs.Squares.{whole-root-unique, four-square, four-pow, four-pos}
 
 -- ---- by the units of x
 
@@ -80,8 +80,8 @@ drops-is p a M k P e lo hi =
 
 pub root-digits : (p M r : ℕ) → 4 ^ p ≤ M → M < 4 ^ suc p → WholeRoot M r → (2 ^ p ≤ r) × (r < 2 ^ suc p)
 root-digits p M r lo hi h = (
-  le-of-suc-le-suc (lt-of-not-le (λ (g : suc r ≤ 2 ^ p). lt-irrefl M (lt-of-lt-of-le (h .1) (le-trans (mul-le-mul g g) (le-trans (le-of-eq (sym (four p))) lo))))),
-  lt-of-not-le (λ (g : 2 ^ suc p ≤ r). lt-irrefl M (lt-of-lt-of-le hi (le-trans (le-of-eq (four (suc p))) (le-trans (mul-le-mul g g) (h .0))))),
+  le-of-suc-le-suc (lt-of-not-le (λ (g : suc r ≤ 2 ^ p). lt-irrefl M (lt-of-lt-of-le (h .1) (le-trans (mul-le-mul g g) (le-trans (le-of-eq (sym (four-square p))) lo))))),
+  lt-of-not-le (λ (g : 2 ^ suc p ≤ r). lt-irrefl M (lt-of-lt-of-le hi (le-trans (le-of-eq (four-square (suc p))) (le-trans (mul-le-mul g g) (h .0))))),
 )
 
 pub half-digits : (f : Format) (r : ℕ) → (2 ^ prec f ≤ r) × (r < 2 ^ suc (prec f)) → (hid f ≤ suc r / 2) × (suc r / 2 ≤ 2 * hid f)

@@ -1,6 +1,6 @@
--- What `round` makes of a fraction is the nearest value of the format: no other is nearer, of two as near it is the even one, and what is too large is an infinity (`rounded-narrows`).
--- In units of the format's smallest value the fraction is n / c, of which k digits are dropped. So it is rounded to a multiple of U = c * 2 ^ k, and a value of the format
--- is such a multiple or is too short to be near. Over every format. Assumes nothing.
+-- What `round` makes of a fraction is the nearest value of the format: no other is nearer (`best`), of two as near it is the even one (`tie`), and what is too large is an infinity (`past-middle`,
+-- `before-middle`). In units of the format's smallest value the fraction is n / c, of which k digits are dropped. So it is rounded to a multiple of U = c * 2 ^ k, and a value of the format is such a
+-- multiple or is too short to be near. Over every format, and in whole numbers: Narrows.antt says it of floats. Assumes nothing.
 use mathlib.Core.Path.{_≡_, refl, sym, ap, _∙_, subst}
 use mathlib.Core.Logic.{_⊎_, inl, inr}
 use Prim.Native.Nat.{ℕ, suc, _+_, _*_, _%_, _^_, _≤_, _<_}
@@ -51,7 +51,7 @@ module _ (f : Format) (n c k : ℕ) (C : 0 < c) (d : Dropped f n c k) where
   multiple w W e = ap (λ (x : ℕ). x * c) e ∙ mul-assoc W (2 ^ k) c ∙ ap (λ (x : ℕ). W * x) (mul-comm (2 ^ k) c)
 
   -- w is a multiple of 2 ^ k, or is farther than hid * 2 ^ k
-  pub data Place (w : ℕ) : Type 0 where
+  data Place (w : ℕ) : Type 0 where
     at : (W : ℕ) → w ≡ W * 2 ^ k → Place w
     short : gap n (q * (c * 2 ^ k)) < gap n (w * c) → Place w
 

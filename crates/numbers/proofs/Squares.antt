@@ -10,37 +10,40 @@ use lib.Ieee.{size}
 use lib.Ieee.Digits.{size-lt}
 use Rattle.numbers.specs.Computed.{WholeRoot, digit, rootIn, wholeRoot}
 
-pub sq-suc : (r : ℕ) → suc r * suc r ≡ r * r + 2 * r + 1
-sq-suc r = omega (arith, suc-mul r (suc r), mul-suc r r)
+pub square-suc : (r : ℕ) → suc r * suc r ≡ r * r + 2 * r + 1
+square-suc r = omega (arith, suc-mul r (suc r), mul-suc r r)
 
-sq-twice : (r : ℕ) → 2 * r * (2 * r) ≡ 4 * (r * r)
-sq-twice r = mul-mul-mul-comm 2 r 2 r
+pub square-lt : (x y : ℕ) → x < y → x * x < y * y
+square-lt x y h = lt-of-lt-of-le (omega (arith, square-suc x)) (mul-le-mul h h)
+
+square-twice : (r : ℕ) → 2 * r * (2 * r) ≡ 4 * (r * r)
+square-twice r = mul-mul-mul-comm 2 r 2 r
 
 digit-law : (n r : ℕ) → WholeRoot (n / 4) r → WholeRoot n (digit n (2 * r))
 digit-law n r h = go (leb (suc (2 * r) * suc (2 * r)) n) (leb→le (suc (2 * r) * suc (2 * r)) n) (nleb→lt (suc (2 * r) * suc (2 * r)) n)
   where
     go : (b : Bool) → (T b → suc (2 * r) * suc (2 * r) ≤ n) → (T (not b) → n < suc (2 * r) * suc (2 * r)) → WholeRoot n (cond b (suc (2 * r)) (2 * r))
-    go true t k = (t tt, omega (arith, h, sq-suc r, sq-twice r, sq-suc (2 * r), sq-suc (suc (2 * r))))
-    go false t k = (omega (arith, h, sq-twice r), k tt)
+    go true t k = (t tt, omega (arith, h, square-suc r, square-twice r, square-suc (2 * r), square-suc (suc (2 * r))))
+    go false t k = (omega (arith, h, square-twice r), k tt)
 
 rootIn-law : (d n : ℕ) → n < 4 ^ d → WholeRoot n (rootIn d n)
 unfolding rootIn
 rootIn-law zero n h = (zero-le, h)
 rootIn-law (suc d) n h = digit-law n (rootIn d (n / 4)) (rootIn-law d (n / 4) (div-lt-iff-lt-mul (zero-lt-suc 3) .1 (subst (λ (x : ℕ). n < x) (pow-suc 4 d) h)))
 
-pub four : (d : ℕ) → 4 ^ d ≡ 2 ^ d * 2 ^ d
-four zero = refl
-four (suc d) = pow-suc 4 d ∙ ap (λ (x : ℕ). x * 4) (four d) ∙ sym (mul-mul-mul-comm (2 ^ d) 2 (2 ^ d) 2) ∙ ap (λ (x : ℕ). x * x) (sym (pow-suc 2 d))
+pub four-square : (d : ℕ) → 4 ^ d ≡ 2 ^ d * 2 ^ d
+four-square zero = refl
+four-square (suc d) = pow-suc 4 d ∙ ap (λ (x : ℕ). x * 4) (four-square d) ∙ sym (mul-mul-mul-comm (2 ^ d) 2 (2 ^ d) 2) ∙ ap (λ (x : ℕ). x * x) (sym (pow-suc 2 d))
 
 pub four-pow : (i : ℕ) → 4 ^ i ≡ 2 ^ (i + i)
-four-pow i = four i ∙ sym (pow-add 2 i i)
+four-pow i = four-square i ∙ sym (pow-add 2 i i)
 
 pub four-pos : (i : ℕ) → 0 < 4 ^ i
 four-pos i = one-le-pow i 4 (zero-lt-suc 3)
 
 pub whole-root-law : (n : ℕ) → WholeRoot n (wholeRoot n)
 unfolding wholeRoot
-whole-root-law n = rootIn-law (size n) n (lt-of-lt-of-le (size-lt n) (le-trans (grow (2 ^ size n) (pow-pos (size n))) (le-of-eq (sym (four (size n))))))
+whole-root-law n = rootIn-law (size n) n (lt-of-lt-of-le (size-lt n) (le-trans (grow (2 ^ size n) (pow-pos (size n))) (le-of-eq (sym (four-square (size n))))))
   where
     grow : (p : ℕ) → 0 < p → p ≤ p * p
     grow (suc p) h = omega (arith, suc-mul p (suc p))

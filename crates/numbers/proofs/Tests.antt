@@ -8,6 +8,7 @@ use native.Mathlib.Nat.{not-le-of-lt, lt-irrefl, zero-lt-suc, zero-mul, mul-one,
 use native.Mathlib.Numerals.{add-one}
 use native.Mathlib.Omega.{arith}
 use lib.IntN.{ℤ, pos}
+use denote.Floats.{passes}
 use lib.Dec.{T, eqb, eqb→eq, ltb→lt, lt→ltb}
 use lib.Pow.{pow-add}
 use lib.Ieee.{Float, nan, inf, fin, binary64, up, down, odd, units, lt, eq, fits, isNan, ofFields, ofBits, nanBits, toBits}
@@ -65,13 +66,6 @@ answer n v = record { refusal = n; value = v }
 pub zero-answer : answer 10 (ofBits binary64 0) ≡ answer 10 zero-float
 zero-answer = ap (answer 10) zero-bits
 
-as-T : (b : Bool) → b ≡ true → T b
-as-T true e = tt
-as-T false e = subst (λ (b : Bool). T b) (sym e) tt
-
-as-not : (b : Bool) → b ≡ false → T b → ⊥
-as-not b e t = subst (λ (b : Bool). T b) e t
-
 some-size : (m : ℕ) (e : ℤ) → 0 < suc m * up e * 1
 some-size m e = subst (λ (x : ℕ). 0 < x) (sym (mul-one (suc m * up e))) (mul-pos (zero-lt-suc m) (up-pos e))
 
@@ -81,42 +75,42 @@ no-size d = zero-mul d
 -- x == 0.0
 pub when-zero : (x : Float) → eq x zero-float ≡ true → answer 0 x ≡ rootAnswer x
 unfolding eq rootOf
-when-zero nan h = absurd (as-T false h)
-when-zero (inf s) h = absurd (as-T false h)
+when-zero nan h = absurd (passes false h)
+when-zero (inf s) h = absurd (passes false h)
 when-zero (fin s zero e) h = refl
 when-zero (fin s (suc m) e) h =
-    absurd (lt-irrefl 0 (subst (λ (x : ℕ). 0 < x) (eqb→eq (suc m * up e * 1) (0 * 1 * down e) (and-l (eqb (suc m * up e * 1) (0 * 1 * down e)) (Bool·beq s false || eqb (suc m * up e * 1) 0) (as-T _ h)) ∙ no-size (down e)) (some-size m e)))
+    absurd (lt-irrefl 0 (subst (λ (x : ℕ). 0 < x) (eqb→eq (suc m * up e * 1) (0 * 1 * down e) (and-l (eqb (suc m * up e * 1) (0 * 1 * down e)) (Bool·beq s false || eqb (suc m * up e * 1) 0) (passes _ h)) ∙ no-size (down e)) (some-size m e)))
 
 -- neither x == 0.0 nor x > 0.0
 pub when-not-above : (x : Float) → eq x zero-float ≡ false → lt zero-float x ≡ false → answer 10 zero-float ≡ rootAnswer x
 unfolding eq lt rootOf
 when-not-above nan h k = refl
 when-not-above (inf s) h k = refl
-when-not-above (fin s zero e) h k = absurd (as-not _ h (zeros s (0 * up e * 1) (0 * 1 * down e) (mul-one (0 * up e) ∙ zero-mul (up e)) (no-size (down e))))
+when-not-above (fin s zero e) h k = absurd (subst T h (zeros s (0 * up e * 1) (0 * 1 * down e) (mul-one (0 * up e) ∙ zero-mul (up e)) (no-size (down e))))
   where
     zeros : (s : Bool) (a b : ℕ) → a ≡ 0 → b ≡ 0 → T (eqb a b && (Bool·beq s false || eqb a 0))
     zeros true a b p q = subst (λ (z : ℕ). T (eqb z b && (false || eqb z 0))) (sym p) (subst (λ (z : ℕ). T (eqb 0 z && (false || eqb 0 0))) (sym q) tt)
     zeros false a b p q = subst (λ (z : ℕ). T (eqb z b && (true || eqb z 0))) (sym p) (subst (λ (z : ℕ). T (eqb 0 z && (true || eqb 0 0))) (sym q) tt)
 when-not-above (fin true (suc m) e) h k = refl
-when-not-above (fin false (suc m) e) h k = absurd (as-not _ k (lt→ltb (0 * 1 * down e) (suc m * up e * 1) (subst (λ (x : ℕ). x < suc m * up e * 1) (sym (no-size (down e))) (some-size m e))))
+when-not-above (fin false (suc m) e) h k = absurd (subst T k (lt→ltb (0 * 1 * down e) (suc m * up e * 1) (subst (λ (x : ℕ). x < suc m * up e * 1) (sym (no-size (down e))) (some-size m e))))
 
 -- x > 0.0
 pub above-no-nan : (x : Float) → lt zero-float x ≡ true → T (not (isNan x))
 unfolding lt isNan
-above-no-nan nan h = as-T false h
+above-no-nan nan h = passes false h
 above-no-nan (inf s) h = tt
 above-no-nan (fin s m e) h = tt
 
 zero-not-above : (s : Bool) (e : ℤ) → lt zero-float (fin s zero e) ≡ true → ⊥
 unfolding lt
-zero-not-above true e h = as-T false h
+zero-not-above true e h = passes false h
 zero-not-above false e h =
-    lt-irrefl 0 (subst (λ (x : ℕ). 0 < x) (mul-one (0 * up e) ∙ zero-mul (up e)) (subst (λ (x : ℕ). x < 0 * up e * 1) (no-size (down e)) (ltb→lt (0 * 1 * down e) (0 * up e * 1) (as-T _ h))))
+    lt-irrefl 0 (subst (λ (x : ℕ). 0 < x) (mul-one (0 * up e) ∙ zero-mul (up e)) (subst (λ (x : ℕ). x < 0 * up e * 1) (no-size (down e)) (ltb→lt (0 * 1 * down e) (0 * up e * 1) (passes _ h))))
 
 -- a pattern no less than the infinity's
 pub when-infinite : (x : Float) → T (fits binary64 x) → lt zero-float x ≡ true → 2047 * 2 ^ 52 ≤ toBits binary64 x → answer 10 zero-float ≡ rootAnswer x
 unfolding lt rootOf
-when-infinite nan t h k = absurd (as-T false h)
+when-infinite nan t h k = absurd (passes false h)
 when-infinite (inf s) t h k = refl
 when-infinite (fin s zero e) t h k = absurd (zero-not-above s e h)
 when-infinite (fin true (suc m) e) t h k = refl
@@ -125,10 +119,10 @@ when-infinite (fin false (suc m) e) t h k = absurd (not-le-of-lt (finite-below b
 -- a pattern below it
 is-positive : (x : Float) → lt zero-float x ≡ true → toBits binary64 x < 2047 * 2 ^ 52 → T (positive x)
 unfolding lt
-is-positive nan h k = absurd (as-T false h)
-is-positive (inf true) h k = absurd (as-T false h)
+is-positive nan h k = absurd (passes false h)
+is-positive (inf true) h k = absurd (passes false h)
 is-positive (inf false) h k = absurd (lt-irrefl (2047 * 2 ^ 52) (unfold toBits in k))
-is-positive (fin true m e) h k = absurd (as-T false h)
+is-positive (fin true m e) h k = absurd (passes false h)
 is-positive (fin false zero e) h k = absurd (zero-not-above false e h)
 is-positive (fin false (suc m) e) h k = lt→ltb 0 (suc m) (zero-lt-suc m)
 
@@ -138,7 +132,7 @@ bits-positive x t h = go (eq-zero-or-pos (toBits binary64 x))
   where
     go : (toBits binary64 x ≡ 0) ⊎ (0 < toBits binary64 x) → 0 < toBits binary64 x
     go (inr p) = p
-    go (inl z) = absurd (as-T (lt zero-float zero-float) (ap (lt zero-float) (sym zero-bits ∙ ap (ofBits binary64) (sym z) ∙ ofBits-toBits binary64 x t) ∙ h))
+    go (inl z) = absurd (passes (lt zero-float zero-float) (ap (lt zero-float) (sym zero-bits ∙ ap (ofBits binary64) (sym z) ∙ ofBits-toBits binary64 x t) ∙ h))
 
 pub root-short : (m r : ℕ) → 2 ^ 52 ≤ m → m < 2 ^ 54 → WholeRoot (m * 2 ^ 54) r → r < 2 ^ 54
 root-short m r lo hi h = root-digits 53 (m * 2 ^ 54) r (omega arith) (omega arith) h .1

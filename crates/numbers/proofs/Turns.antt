@@ -13,7 +13,7 @@ use Rattle.formats.proofs.Patterns.{digits}
 use Rattle.formats.proofs.Normal.{Scaled, scaled-normal, scaled-low}
 use Rattle.numbers.specs.Computed.{WholeRoot}
 use Rattle.numbers.specs.Steps.{Parted}
-use Rattle.numbers.proofs.Squares.{sq-suc}
+use Rattle.numbers.proofs.Squares.{square-suc}
 use Rattle.numbers.proofs.Rooting.{scaled-half}
 
 -- ---- the digits of a root, two of the number a turn
@@ -39,16 +39,16 @@ four-more c i = ap (λ (x : ℕ). c * x) (pow-add 4 i 1) ∙ sym (mul-assoc c (4
 two-more : (i : ℕ) → 2 ^ (i + 1) ≡ 2 ^ i * 2
 two-more i = pow-add 2 i 1
 
-sq-double : (r : ℕ) → r * 2 * (r * 2) ≡ r * r * 4
-sq-double r = mul-mul-mul-comm r 2 r 2
+square-double : (r : ℕ) → r * 2 * (r * 2) ≡ r * r * 4
+square-double r = mul-mul-mul-comm r 2 r 2
 
-sq-more : (r : ℕ) → (r * 2 + 1) * (r * 2 + 1) ≡ r * r * 4 + r * 4 + 1
-sq-more r = ap (λ (x : ℕ). x * x) (add-one (r * 2)) ∙ omega (arith, sq-suc (r * 2), sq-double r)
+square-more : (r : ℕ) → (r * 2 + 1) * (r * 2 + 1) ≡ r * r * 4 + r * 4 + 1
+square-more r = ap (λ (x : ℕ). x * x) (add-one (r * 2)) ∙ omega (arith, square-suc (r * 2), square-double r)
 
 -- the next digit is 0
 pub no-digit : (m left root rest i : ℕ) → Turn m left root rest i → i < 54 → rest * 4 + left / 2 ^ 62 < root * 4 + 1 → Turn m (left * 2 ^ 2 % 2 ^ 64) (root * 2) (rest * 4 + left / 2 ^ 62) (i + 1)
 no-digit m left root rest i t l h = record {
-  all = omega (arith, t, sq-double root, four-more (m * 2 ^ 10) i);
+  all = omega (arith, t, square-double root, four-more (m * 2 ^ 10) i);
   word = omega arith;
   small = omega arith;
   short = omega (arith, t, two-more i);
@@ -59,7 +59,7 @@ no-digit m left root rest i t l h = record {
 pub one-digit : (m left root rest i : ℕ) → Turn m left root rest i → i < 54 → root * 4 + 1 ≤ rest * 4 + left / 2 ^ 62
     → Turn m (left * 2 ^ 2 % 2 ^ 64) (root * 2 + 1) (rest * 4 + left / 2 ^ 62 - (root * 4 + 1)) (i + 1)
 one-digit m left root rest i t l h = record {
-  all = omega (arith, t, sq-more root, four-more (m * 2 ^ 10) i);
+  all = omega (arith, t, square-more root, four-more (m * 2 ^ 10) i);
   word = omega arith;
   small = omega (arith, t);
   short = omega (arith, t, two-more i);
@@ -70,7 +70,7 @@ pub last-turn : (m left root rest i : ℕ) → Turn m left root rest i → 54 �
 last-turn m left root rest i t h =
     let at : i ≡ 54 = omega (arith, t) in
     let all : (root * root + rest) * 2 ^ 64 + left ≡ m * 2 ^ 10 * 4 ^ 54 = subst (λ (x : ℕ). (root * root + rest) * 2 ^ 64 + left ≡ m * 2 ^ 10 * 4 ^ x) at (t .all) in
-    (omega (arith, t .word), omega (arith, t .word, t .small, sq-suc root))
+    (omega (arith, t .word), omega (arith, t .word, t .small, square-suc root))
 
 -- ---- the parts of a pattern
 

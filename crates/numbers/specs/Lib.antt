@@ -1,4 +1,5 @@
--- The words of the promises of `numbers`. A reader believes `Conversions` and `Roots`, which say document 01; `Computed` says what the program makes, and the promises tie it to them.
+-- The words of the promises of `numbers`. A reader believes `Conversions` and `Roots`, which say document 01; `Computed` says what the program makes, and the promises tie it to them. `Steps` is what
+-- its functions that are not public promise each other.
 pub mod Conversions
 pub mod Roots
 pub mod Computed

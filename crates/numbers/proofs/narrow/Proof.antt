@@ -6,6 +6,7 @@ use lib.Dec.{T}
 use lib.Ieee.{Float, nan, binary32, binary64, fits, isNan, div, ofBits, toBits, nanBits}
 use lib.Ieee.Bits.{ofBits-toBits}
 use lib.Ieee.Compare.{differs-from-itself}
+use denote.Floats.{passes}
 use Rattle.numbers.specs.Computed.{rounded, narrowed}
 use Rattle.numbers.specs.Conversions.{Narrows}
 use Rattle.numbers.specs.Promises.{Narrowed}
@@ -17,7 +18,7 @@ use Rattle.numbers.proofs.narrow.Tie as tie
 
 -- what owning an `f64` tells: the format holds it
 held : (c : tie.Start) → T (fits binary64 (c .args .x))
-held c = subst T (sym (c .good .0 .1)) tt
+held c = passes (fits binary64 (c .args .x)) (c .good .0 .1)
 
 number : (c : tie.Else1) → T (not (isNan (c .before .args .x)))
 number c = no-nan (c .before .args .x) (c .if1 .left)
@@ -43,7 +44,7 @@ promised x r e = record { bits = e; law = subst (λ (v : Float). Narrows binary3
 
 returns : tie.Need-returns
 unfolding div ofBits rounded
-returns c = promised (c .before .args .x) nan (sym (ap narrowed (differs-from-itself (c .before .args .x) (subst T (sym (c .if1 .taken)) tt))))
+returns c = promised (c .before .args .x) nan (sym (ap narrowed (differs-from-itself (c .before .args .x) (passes _ (c .if1 .taken)))))
 
 returns-2 : tie.Need-returns-2
 returns-2 c =

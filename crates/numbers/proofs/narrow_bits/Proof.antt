@@ -1,7 +1,7 @@
 -- `numbers::narrow_bits` meets its contract: the fields are those by which `ofBits` reads the pattern. Assumes nothing.
 use borrow.Author.Needs.{needs}
 use mathlib.Core.Path.{_≡_, sym, ap, _∙_}
-use Prim.Native.Nat.{ℕ, _/_, _%_}
+use Prim.Native.Nat.{ℕ, _/_, _%_, _^_}
 use native.Mathlib.Nat.{zero-add}
 use native.Mathlib.Omega.{arith}
 use mathlib.Core.Bool.{Bool, true, false}
@@ -22,23 +22,23 @@ add-result : tie.Need-add-result
 add-result c = search needs
 
 -- the pattern b, read with its sign s
-signed : (b : ℕ) (s : Bool) → leb 9223372036854775808 b ≡ s
-    → toBits binary32 (narrowed (ofFields binary64 s (b % 9223372036854775808 / 4503599627370496) (b % 4503599627370496))) ≡ toBits binary32 (narrowed (ofBits binary64 b))
+signed : (b : ℕ) (s : Bool) → leb (2 ^ 63) b ≡ s
+    → toBits binary32 (narrowed (ofFields binary64 s (b % 2 ^ 63 / 2 ^ 52) (b % 2 ^ 52))) ≡ toBits binary32 (narrowed (ofBits binary64 b))
 signed b s e =
     ap (λ (v : Float). toBits binary32 (narrowed v))
-    (sym (ofBits-fields binary64 b ∙ ap (λ (x : Bool). ofFields binary64 x (b % 9223372036854775808 / 4503599627370496) (b % 4503599627370496)) e))
+    (sym (ofBits-fields binary64 b ∙ ap (λ (x : Bool). ofFields binary64 x (b % 2 ^ 63 / 2 ^ 52) (b % 2 ^ 52)) e))
 
 returns : tie.Need-returns
 returns c =
     let b = c .before .before .args .b in
     sym (zero-add (c .before .narrow-magnitude .result)) ∙ sym (c .before .narrow-magnitude .ensures .0 false)
-    ∙ signed b false (is-false (leb 9223372036854775808 b) (lt→nleb 9223372036854775808 b (c .if1 .taken)))
+    ∙ signed b false (is-false (leb (2 ^ 63) b) (lt→nleb (2 ^ 63) b (c .if1 .taken)))
 
 returns-2 : tie.Need-returns-2
 returns-2 c =
     let b = c .before .before .args .b in
     sym (c .before .narrow-magnitude .ensures .0 true)
-    ∙ signed b true (is-true (leb 9223372036854775808 b) (le→leb 9223372036854775808 b (c .if1 .left)))
+    ∙ signed b true (is-true (leb (2 ^ 63) b) (le→leb (2 ^ 63) b (c .if1 .left)))
 
 pub narrow-bits-spec : {M : Type 1} → statement M
 narrow-bits-spec = tie.close (tie.spec narrow-magnitude-requires add-result returns returns-2)

@@ -14,7 +14,7 @@ use Rattle.numbers.proofs.nearest_shift.Tie as tie
 
 -- `1 << t`, as MIR has it
 abbrev unit : ℕ → ℕ
-unit t = (1 * 2 ^ t) % 18446744073709551616
+unit t = (1 * 2 ^ t) % 2 ^ 64
 
 unit-is : (t : ℕ) → t ≤ 63 → unit t ≡ 2 ^ t
 unit-is t h = shl-exact 1 t 64 (lit< tt) (omega arith) ∙ one-mul (2 ^ t)
@@ -30,11 +30,11 @@ module _ (c : tie.Start) where
   u-ge : 2 ≤ unit (c .args .t)
   u-ge = subst (λ (x : ℕ). 2 ≤ x) (sym is) (pow-mono (c .pre .0))
 
-  u-le : unit (c .args .t) ≤ 9223372036854775808
-  u-le = subst (λ (x : ℕ). x ≤ 9223372036854775808) (sym is) (pow-mono (c .pre .1))
+  u-le : unit (c .args .t) ≤ 2 ^ 63
+  u-le = subst (λ (x : ℕ). x ≤ 2 ^ 63) (sym is) (pow-mono (c .pre .1))
 
-  q-lt : c .args .m / unit (c .args .t) < 9223372036854775808
-  q-lt = div-lt-iff-lt-mul u-pos .1 (lt-of-lt-of-le (c .fits .m .fits) (mul-le-mul-left 9223372036854775808 u-ge))
+  q-lt : c .args .m / unit (c .args .t) < 2 ^ 63
+  q-lt = div-lt-iff-lt-mul u-pos .1 (lt-of-lt-of-le (c .fits .m .fits) (mul-le-mul-left (2 ^ 63) u-ge))
 
 shl-u : tie.Need-shl-u
 shl-u c = search needs
