@@ -3,7 +3,7 @@
 use mathlib.Core.Path.{_≡_, refl}
 use mathlib.Core.Bool.{Bool, true, false, not}
 use Prim.Native.Nat.{ℕ, zero, suc, _+_, _-_, _*_, _/_, _≤_, _<_}
-use native.Mathlib.Nat.{le-refl, le-trans, le-of-eq, le-of-lt, suc-mul, mul-pos, mul-comm, mul-le-mul-right, sub-zero, div-mul-le-self, div-lt-iff-lt-mul, div-div-eq-div-mul}
+use native.Mathlib.Nat.{le-of-lt, mul-pos, mul-comm, mul-le-mul-right, sub-zero, div-mul-le-self, lt-div-mul-add, div-div-eq-div-mul}
 use native.Mathlib.Omega.{arith}
 use lib.Dec.{T, ltb, ltb→lt, nltb→le, lit<, lit≤}
 use lib.Pow.{pow-pos}
@@ -14,7 +14,7 @@ use Rattle.fractions.proofs.Close.{Close, Size, close-same, close-wider, close-
 use Rattle.fractions.proofs.Divide.{close-over}
 use Rattle.series.proofs.Nested.{nested}
 use Rattle.angles.specs.Computed.{one, times, nesting, nest, fromOne}
-use Rattle.angles.proofs.Room.{nest-most, twelve, nesting-most, divisor}
+use Rattle.angles.proofs.Room.{nest-most, twelve, nesting-most, divisor-positive}
 
 abbrev pub fixed : ℕ → Fraction
 fixed v = fraction v 0 one
@@ -39,7 +39,7 @@ module _ (a b c : ℕ) (C : 0 < c) where
         first = pow-pos 60;
         second = mul-pos {m = one * one} (lit< tt) C;
         above = cut-above-nat a b c one (a * b / one / c) (rw (twice-cut) (div-mul-le-self (a * b) (c * one)));
-        below = cut-below-nat a b c one (a * b / one / c) (rw (twice-cut) (le-trans (le-of-lt (div-lt-iff-lt-mul (mul-pos C (pow-pos 60)) .0 (le-refl (suc (a * b / (c * one)))))) (le-of-eq (suc-mul (a * b / (c * one)) (c * one)))));
+        below = cut-below-nat a b c one (a * b / one / c) (rw (twice-cut) (le-of-lt (lt-div-mul-add (mul-pos C (pow-pos 60)))));
       })
 
 -- numbers divided by c are c times as near
@@ -69,7 +69,7 @@ module _ {g e : ℕ} {Z : Fraction} (c : Close one (fixed g) Z e) where
   rest-upright h = renamed (fixed (one - g)) (pow-pos 60) (omega arith)
 
   -- as how far it is from 1, and its sign
-  pub rest-close : Close one (signed (ltb one g) (fromOne g) one) (whole 1 ⊖ Z) e
+  rest-close : Close one (signed (ltb one g) (fromOne g) one) (whole 1 ⊖ Z) e
   rest-close = renamed (signed (ltb one g) (fromOne g) one) (pow-pos 60) (go (ltb one g) (ltb→lt one g) (nltb→le one g))
     where
       go : (b : Bool) → (T b → one < g) → (T (not b) → g ≤ one) → Same (signed b (fromOne g) one) (whole 1 ⊖ fixed g)
@@ -80,13 +80,18 @@ module _ {g e : ℕ} {Z : Fraction} (c : Close one (fixed g) Z e) where
 
 -- y is x squared, 17 away, and 10 at most
 module _ (y : ℕ) (Y : Fraction) (c : Close one (fixed y) Y 17) (s : Size one Y (10 * one)) where
-  pub nesting-close : (j n e : ℕ) → 167 ≤ e * ((j + 1) * (j + 2)) → Close one (fixed (nest y (j + 2) n)) (nested Y (j + 2) n) 15
+  nesting-close : (j n e : ℕ) → 167 ≤ e * ((j + 1) * (j + 2)) → Close one (fixed (nest y (j + 2) n)) (nested Y (j + 2) n) 15
       → Close one (fixed (nesting y (nest y (j + 2) n) j)) (Y ⊗ nested Y (j + 2) n ⊘ whole ((j + 1) * (j + 2))) (1 + e)
   unfolding nesting times
-  nesting-close j n e h d = product-close ((j + 1) * (j + 2)) 10 1 e (divisor j) (omega (arith, nest-most y (j + 2) n)) s (omega (arith, h)) c d
+  nesting-close j n e h d = product-close ((j + 1) * (j + 2)) 10 1 e (divisor-positive j) (omega (arith, nest-most y (j + 2) n)) s (omega (arith, h)) c d
 
-  pub nest-close : y ≤ 12 * one → (n j : ℕ) → 2 ≤ j → Close one (fixed (nest y j n)) (nested Y j n) 15
+  nest-close : y ≤ 12 * one → (n j : ℕ) → 2 ≤ j → Close one (fixed (nest y j n)) (nested Y j n) 15
   unfolding nest nested
   nest-close m zero j h = close-wider (same-close one (fixed one) (whole 1) (pow-pos 60) (lit< tt) refl) (lit≤ tt)
   nest-close m (suc n) j h =
       rest-upright (nesting-close j n 14 (omega (arith, twelve j h)) (nest-close m n (j + 2) (omega arith))) (nesting-most y (nest y (j + 2) n) j m (nest-most y (j + 2) n) h)
+
+  -- 1 less the outermost nesting
+  pub bracket-close : y ≤ 12 * one → (j n e : ℕ) → 167 ≤ e * ((j + 1) * (j + 2)) → let g = nesting y (nest y (j + 2) n) j in Close one (signed (ltb one g) (fromOne g) one) (nested Y j (suc n)) (1 + e)
+  unfolding nested
+  bracket-close m j n e h = rest-close (nesting-close j n e h (nest-close m n (j + 2) (omega arith)))

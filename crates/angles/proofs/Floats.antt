@@ -37,7 +37,7 @@ use Rattle.angles.proofs.Limits as Limits
 
 inside-most : (s : Bool) (m : ℕ) (e : ℤ) → T (isInside limit (fin s m e)) → m * up e ≤ 1080 * down e
 unfolding ofInt
-inside-most s m e t = go s (inside-size false 135 (pos 3) (fin s m e) t)
+inside-most s m e t = go s (inside-size limit (fin s m e) (lit< tt) t)
   where
     go : (s : Bool) → AtMost (magnitude (signed s (m * up e) (down e))) (whole 1080) → m * up e ≤ 1080 * down e
     go true h = omega arith
@@ -46,14 +46,13 @@ inside-most s m e t = go s (inside-size false 135 (pos 3) (fin s m e) t)
 -- an angle of 1080 at most in size is accepted
 pub accepted : (d : Float) → 0 < number d .over → AtMost (magnitude (number d)) (whole 1080) → refusalOf d ≡ 0
 unfolding ofInt
-accepted d h k = goes-on 3 0 (size-accepted false 135 (pos 3) d h k)
+accepted d h k = goes-on 3 0 (size-accepted limit d (lit< tt) h k)
 
 pub accepted-is : (d : Float) → refusalOf d ≡ 0 → isRefused d ≡ false
 accepted-is d h = passed (isRefused d) 2 0 h .0
 
-pub accepted-inside : (d : Float) → refusalOf d ≡ 0 → T (isInside limit d)
-unfolding ofInt
-accepted-inside d h = Limits.accepted-inside false 135 (pos 3) d (accepted-is d h)
+pub accepted-number : (d : Float) → refusalOf d ≡ 0 → 0 < number d .over
+accepted-number d h = Limits.accepted-number limit d (accepted-is d h)
 
 -- ---- cut to a whole number
 
@@ -105,7 +104,7 @@ upright-most false m e t =
     let h : AtMost (number (fin false m e)) (whole 1080) = le-at-most (fin false m e) limit (and-r (not (lt (fin false m e) (ofInt binary64 (pos 0)))) (le (fin false m e) limit) t) (down-pos e) (lit< tt) in
     (omega arith, λ f. absurd f)
 upright-most true m e t =
-    let h = nltb→le 0 (m * up e * 1 + 0 * down e) (and-l (not (lt (fin true m e) (ofInt binary64 (pos 0)))) (le (fin true m e) (ofInt binary64 (pos 1080))) t) in
+    let h = nltb→le 0 (m * up e * 1 + 0 * down e) (and-l (not (lt (fin true m e) (ofInt binary64 (pos 0)))) (le (fin true m e) limit) t) in
     (omega arith, λ f. omega arith)
 
 -- times 2 ^ 52 it is exact
@@ -159,10 +158,10 @@ upright-cut (fin s m e) t a = let b = upright-most s m e a in raised-cut s m e t
 most-upright : (s : Bool) (m : ℕ) (e : ℤ) → (T s → m * up e ≡ 0) → m * up e ≤ 1080 * down e → T (isUpright (fin s m e))
 unfolding isUpright lt le eq ofInt
 most-upright false m e z h =
-    and-i (not (lt (fin false m e) (fin false 0 (pos 0)))) (le (fin false m e) (fin false 135 (pos 3))) (le→nltb (m * up e * 1) (0 * down e) (omega arith)) (at-most-le (fin false m e) limit (down-pos e) (lit< tt) (omega arith))
+    and-i (not (lt (fin false m e) (fin false 0 (pos 0)))) (le (fin false m e) limit) (le→nltb (m * up e * 1) (0 * down e) (omega arith)) (at-most-le (fin false m e) limit (down-pos e) (lit< tt) (omega arith))
 most-upright true m e z h =
     let n = z tt in
-    and-i (not (lt (fin true m e) (fin false 0 (pos 0)))) (le (fin true m e) (fin false 135 (pos 3))) (le→nltb 0 (m * up e * 1 + 0 * down e) (omega arith)) (at-most-le (fin true m e) limit (down-pos e) (lit< tt) (omega arith))
+    and-i (not (lt (fin true m e) (fin false 0 (pos 0)))) (le (fin true m e) limit) (le→nltb 0 (m * up e * 1 + 0 * down e) (omega arith)) (at-most-le (fin true m e) limit (down-pos e) (lit< tt) (omega arith))
 
 pub negated : (d : Float) → T (isInside limit d) → lt d (ofInt binary64 (pos 0)) ≡ true → T (isUpright (neg d)) × (units (neg d) ≡ units d) × ((turn - units d % turn) % turn ≡ place d)
 unfolding isInside lt le eq neg ofInt place cut units Defined.turned

@@ -1,10 +1,10 @@
 -- The promise is kept: all of it holds of the answer that the definition gives, for either wave, and so of the two answers that the program can give. Assumes nothing.
 use mathlib.Core.Path.{_≡_, refl, sym, ap, _∙_, subst}
-use mathlib.Core.Bool.{true, false, not}
-use Prim.Native.Nat.{_<_}
-use lib.Dec.{lit≤}
-use lib.IntN.{pos}
+use mathlib.Core.Bool.{Bool, true, false, not}
+use Prim.Native.Nat.{ℕ, _<_}
+use lib.Dec.{T, lit<, lit≤}
 use lib.Ieee.{Float, ofInt}
+use borrow.Author.Tests.{not-false}
 use Rattle.refusals.proofs.First.{stops, goes-on}
 use Rattle.fractions.specs.Fraction.{number, Within}
 use Rattle.fractions.proofs.Within.{within-weaken}
@@ -12,21 +12,17 @@ use Rattle.series.specs.Sums.{Wave}
 use Rattle.series.specs.Angles.{defined}
 use Rattle.series.proofs.Laws.{defined-size}
 use Rattle.angles.specs.Limits.{isInside}
-use Rattle.angles.specs.Computed.{computed}
+use Rattle.angles.specs.Computed.{turn, place, waveAt, computed}
 use Rattle.angles.specs.Promise.{zero, limit, isRefused, refusalOf, outcome, Promise}
 use Rattle.angles.proofs.Limits as Limits
-use Rattle.angles.proofs.Floats.{accepted-is, accepted-inside}
+use Rattle.angles.proofs.Floats.{accepted-is, accepted-number, place-less}
 use Rattle.angles.proofs.Near.{computed-near}
 use Rattle.angles.proofs.Exact.{computed-exact}
 
 -- what is refused is what is not inside
 refused-is : (d : Float) → isRefused d ≡ not (isInside limit d)
 unfolding ofInt
-refused-is = Limits.refused-is false 135 (pos 3)
-
-number-is : (d : Float) → isRefused d ≡ false → 0 < number d .over
-unfolding ofInt
-number-is = Limits.accepted-number false 135 (pos 3)
+refused-is d = Limits.refused-is limit d (lit< tt)
 
 module _ (w : Wave) (d : Float) where
   -- the value at an accepted angle
@@ -37,19 +33,28 @@ module _ (w : Wave) (d : Float) where
   kept = record {
     is = refl;
     near = λ h. record {
-      near = within-weaken (lit≤ tt) (subst (λ (v : Float). Within 50 (number v) (defined w (number d))) (sym (value-is h)) (computed-near w d (accepted-inside d h)));
-      size = defined-size w (number d) (number-is d (accepted-is d h));
+      near = within-weaken (lit≤ tt) (subst (λ (v : Float). Within 50 (number v) (defined w (number d))) (sym (value-is h)) (computed-near w d (accepted-number d h)));
+      size = defined-size w (number d) (accepted-number d h);
     };
-    exact = λ h m. value-is h ∙ computed-exact w d (accepted-inside d h) m;
+    exact = λ h m. value-is h ∙ computed-exact w d (accepted-number d h) m;
   }
 
-  -- the two answers of the program
-  pub accepted-kept : (v : Float) → isInside limit d ≡ true → v ≡ computed w d → Promise w d (record { refusal = 0; value = v })
-  accepted-kept v h e =
-      let b : isRefused d ≡ false = refused-is d ∙ ap not h in
-      subst (Promise w d) (λ i. record { refusal = goes-on 3 0 b i; value = (goes-on zero (computed w d) b ∙ sym e) i }) kept
+  -- ---- the two answers of the program: b is what the test said, a the place on the turn and v the value there
+  pub refused-kept : (b : Bool) → b ≡ isInside limit d → not b ≡ true → Promise w d (record { refusal = 3; value = zero })
+  refused-kept b e h =
+      let r : isRefused d ≡ true = refused-is d ∙ ap not (sym e) ∙ h in
+      subst (Promise w d) (λ i. record { refusal = stops 3 0 r i; value = stops zero (computed w d) r i }) kept
 
-  pub refused-kept : isInside limit d ≡ false → Promise w d (record { refusal = 3; value = zero })
-  refused-kept h =
-      let b : isRefused d ≡ true = refused-is d ∙ ap not h in
-      subst (Promise w d) (λ i. record { refusal = stops 3 0 b i; value = stops zero (computed w d) b i }) kept
+  pub accepted-kept : (b : Bool) (a : ℕ) (v : Float) → b ≡ isInside limit d → not b ≡ false → a ≡ place d → v ≡ waveAt w a → Promise w d (record { refusal = 0; value = v })
+  unfolding computed
+  accepted-kept b a v e h p q =
+      let r : isRefused d ≡ false = refused-is d ∙ ap not (sym e) ∙ h in
+      subst (Promise w d) (λ i. record { refusal = goes-on 3 0 r i; value = (goes-on zero (computed w d) r ∙ sym (q ∙ ap (waveAt w) p)) i }) kept
+
+-- ---- what its functions ask of each other on the way
+module _ (d : Float) where
+  pub inside : (b : Bool) → b ≡ isInside limit d → not b ≡ false → T (isInside limit d)
+  inside b e h = subst T (sym (sym e ∙ not-false b h)) tt
+
+  pub placed : (a : ℕ) → a ≡ place d → a < turn
+  placed a e = subst (λ (n : ℕ). n < turn) (sym e) (place-less d)

@@ -7,12 +7,12 @@ use native.Mathlib.Omega.{arith}
 use lib.Dec.{lit≤}
 use lib.Ieee.{Float}
 use lib.Pow.{pow-pos}
-use Rattle.fractions.specs.Fraction.{Fraction, number, whole, unit, magnitude, _⊕_, AtMost, Within}
+use Rattle.fractions.specs.Fraction.{Fraction, number, whole, magnitude, AtMost, Within}
 use Rattle.fractions.specs.Approximates.{Approximates}
 use Rattle.fractions.proofs.Close.{Size, close-unit, size-near}
 use Rattle.fractions.proofs.Within.{within-close, within-weaken, at-most-size, size-at-most}
 use Rattle.series.specs.Sums.{Wave}
-use Rattle.series.specs.Angles.{defined}
+use Rattle.series.specs.Angles.{defined, definedMost}
 use Rattle.series.proofs.Laws.{defined-size, defined-carried}
 use Rattle.angles.specs.declared.Answer.{Answer}
 use Rattle.angles.specs.Promise.{refusalOf, outcome, Promise}
@@ -40,10 +40,10 @@ module _ (w : Wave) (d : Float) (answer : Answer) (p : Promise w d answer) where
   -- ---- nearer than promised
   pub value-near : refusalOf d ≡ 0 → Within 50 (number (answer .value)) (defined w (number d))
   value-near h =
-      subst (λ (v : Float). Within 50 (number v) (defined w (number d))) (sym (ap (λ (r : Answer). r .value) (p .is) ∙ value-is w d h)) (computed-near w d (Floats.accepted-inside d h))
+      subst (λ (v : Float). Within 50 (number v) (defined w (number d))) (sym (ap (λ (r : Answer). r .value) (p .is) ∙ value-is w d h)) (computed-near w d (Floats.accepted-number d h))
 
   -- ---- d is an angle rounded, and a the exact one
-  pub value-carried : {k : ℕ} (a : Fraction) → k ≤ 49 → Within k (number d) a → AtMost (magnitude a) (whole 1079) → Approximates k (whole 1 ⊕ unit 50) (answer .value) (defined w a)
+  pub value-carried : {k : ℕ} (a : Fraction) → k ≤ 49 → Within k (number d) a → AtMost (magnitude a) (whole 1079) → Approximates k definedMost (answer .value) (defined w a)
   value-carried a l c h = record {
     near = defined-carried w (le-trans l (lit≤ tt)) (within-weaken (suc-le-suc-iff .1 l) (value-near (rounded-accepted d a c h))) c;
     size = defined-size w a (c .second);

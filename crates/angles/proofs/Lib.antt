@@ -1,4 +1,4 @@
--- The laws of sine and cosine. Crates above cite `Laws`, `Unique`, and `Limits` for angles of their own.
+-- The laws of sine and cosine. Crates above cite `Laws`, and `Limits` for angles of their own.
 pub mod Limits
 mod Room
 mod Fixed
@@ -8,7 +8,6 @@ mod Near
 mod Exact
 mod Kept
 pub mod Laws
-pub mod Unique
-mod Example
+mod Unique
 mod Worked
 mod Refuted

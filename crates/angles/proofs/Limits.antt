@@ -1,59 +1,62 @@
 -- The angles that are refused: those that are no number from -limit to limit. Said over the limit, a float that is a number, and so for an azimuth, an elevation and a sine's angle. Assumes nothing.
 use mathlib.Core.Path.{_≡_, refl, sym, ap, _∙_, subst}
-use mathlib.Core.Bool.{Bool, true, false, not}
-use Prim.Native.Nat.{ℕ, _<_}
+use mathlib.Core.Bool.{true, false, not}
+use Prim.Native.Nat.{_<_}
+use native.Mathlib.Nat.{lt-irrefl}
 use lib.Dec.{T}
-use lib.IntN.{ℤ}
 use lib.Ieee.{Float, nan, inf, fin, lt, eq, le, neg}
-use lib.Ieee.Fits.{and-l, and-r, and-i, down-pos}
+use lib.Ieee.Fits.{and-l, and-r, and-i}
 use lib.Ieee.Bits.{is-true}
+use lib.Ieee.Scale.{finite}
 use borrow.Author.Tests.{not-false}
+use Rattle.refusals.proofs.First.{or-off}
 use Rattle.fractions.specs.Fraction.{Fraction, number, magnitude, AtMost}
-use Rattle.fractions.proofs.Number.{number-neg}
-use Rattle.fractions.proofs.Compare.{le-at-most, at-most-le, between-magnitude, magnitude-below, magnitude-above}
+use Rattle.fractions.proofs.Number.{number-neg, finite-number}
+use Rattle.fractions.proofs.Magnitude.{between-magnitude, magnitude-below, magnitude-above}
+use Rattle.fractions.proofs.Compare.{le-at-most, at-most-le}
 use Rattle.angles.specs.Limits.{isInside, refusesAngle}
 
-module _ (s : Bool) (m : ℕ) (e : ℤ) where
-  abbrev limit : Float
-  limit = fin s m e
+-- ---- an angle that is not refused
+module _ (limit x : Float) (h : refusesAngle limit x ≡ false) where
+  accepted-inside : T (isInside limit x)
+  unfolding refusesAngle
+  accepted-inside = subst T (sym (not-false (isInside limit x) (or-off (not (finite x)) (not (isInside limit x)) h .1))) tt
 
-  pub refused-is : (x : Float) → refusesAngle limit x ≡ not (isInside limit x)
-  unfolding refusesAngle isInside le lt eq neg
-  refused-is nan = refl
-  refused-is (inf true) = refl
-  refused-is (inf false) = refl
-  refused-is (fin t n d) = refl
+  pub accepted-number : 0 < number x .over
+  unfolding refusesAngle
+  accepted-number = finite-number x (subst T (sym (not-false (finite x) (or-off (not (finite x)) (not (isInside limit x)) h .0))) tt)
 
-  pub accepted-inside : (x : Float) → refusesAngle limit x ≡ false → T (isInside limit x)
-  accepted-inside x h = subst T (sym (not-false (isInside limit x) (sym (refused-is x) ∙ h))) tt
+-- ---- what lies inside is a number, so that one test is enough
+pub refused-is : (limit x : Float) → 0 < number limit .over → refusesAngle limit x ≡ not (isInside limit x)
+unfolding refusesAngle isInside le lt eq neg
+refused-is nan x L = absurd (lt-irrefl 0 L)
+refused-is (inf s) x L = absurd (lt-irrefl 0 L)
+refused-is (fin s m e) nan L = refl
+refused-is (fin s m e) (inf true) L = refl
+refused-is (fin s m e) (inf false) L = refl
+refused-is (fin s m e) (fin t n d) L = refl
 
-  inside-number : (x : Float) → T (isInside limit x) → 0 < number x .over
-  unfolding isInside le lt eq neg
-  inside-number nan t = absurd t
-  inside-number (inf true) t = absurd t
-  inside-number (inf false) t = absurd t
-  inside-number (fin t n d) h = down-pos d
+module _ (limit x : Float) (L : 0 < number limit .over) where
+  opposite-number : 0 < number (neg limit) .over
+  opposite-number = subst (λ (q : Fraction). 0 < q .over) (sym (number-neg limit)) L
 
-  -- ---- what an angle that is not refused is, and the other way round
-  pub accepted-number : (x : Float) → refusesAngle limit x ≡ false → 0 < number x .over
-  accepted-number x h = inside-number x (accepted-inside x h)
-
-  pub inside-size : (x : Float) → T (isInside limit x) → AtMost (magnitude (number x)) (number limit)
-  unfolding isInside neg
-  inside-size x i =
-      let X = inside-number x i in
+  -- ---- and its size is the limit at most, and the other way round
+  pub inside-size : T (isInside limit x) → AtMost (magnitude (number x)) (number limit)
+  unfolding isInside
+  inside-size i =
+      let X = accepted-number limit x (refused-is limit x L ∙ ap not (is-true (isInside limit x) i)) in
       between-magnitude (number x) (number limit)
-      (subst (λ (z : Fraction). AtMost z (number x)) (number-neg limit) (le-at-most (neg limit) x (and-l (le (neg limit) x) (le x limit) i) (down-pos e) X))
-      (le-at-most x limit (and-r (le (neg limit) x) (le x limit) i) X (down-pos e))
+      (subst (λ (z : Fraction). AtMost z (number x)) (number-neg limit) (le-at-most (neg limit) x (and-l (le (neg limit) x) (le x limit) i) opposite-number X))
+      (le-at-most x limit (and-r (le (neg limit) x) (le x limit) i) X L)
 
-  pub accepted-size : (x : Float) → refusesAngle limit x ≡ false → AtMost (magnitude (number x)) (number limit)
-  accepted-size x h = inside-size x (accepted-inside x h)
+  pub accepted-size : refusesAngle limit x ≡ false → AtMost (magnitude (number x)) (number limit)
+  accepted-size h = inside-size (accepted-inside limit x h)
 
-  pub size-accepted : (x : Float) → 0 < number x .over → AtMost (magnitude (number x)) (number limit) → refusesAngle limit x ≡ false
-  unfolding isInside neg
-  size-accepted x X h =
-      refused-is x
+  pub size-accepted : 0 < number x .over → AtMost (magnitude (number x)) (number limit) → refusesAngle limit x ≡ false
+  unfolding isInside
+  size-accepted X h =
+      refused-is limit x L
       ∙ ap not (is-true (isInside limit x)
       (and-i (le (neg limit) x) (le x limit)
-      (at-most-le (neg limit) x (down-pos e) X (subst (λ (z : Fraction). AtMost z (number x)) (sym (number-neg limit)) (magnitude-above (number x) (number limit) h)))
-      (at-most-le x limit X (down-pos e) (magnitude-below (number x) (number limit) h))))
+      (at-most-le (neg limit) x opposite-number X (subst (λ (z : Fraction). AtMost z (number x)) (sym (number-neg limit)) (magnitude-above (number x) (number limit) h)))
+      (at-most-le x limit X L (magnitude-below (number x) (number limit) h))))

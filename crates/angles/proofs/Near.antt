@@ -1,14 +1,14 @@
--- The program's sine and cosine are within 2 ^ -50 of the defined ones at every accepted angle. In units of 2 ^ -60: 375 from the float to the sum at the place that the cut angle is turned to, 192 from there
+-- The program's sine and cosine are within 2 ^ -50 of the defined ones at every angle that is a number. In units of 2 ^ -60: 375 from the float to the sum at the place that the cut angle is turned to, 192 from there
 -- to the sum at the angle's own place, and 64 from there to the defined value, 631 of 1024. Assumes nothing.
 use mathlib.Core.Path.{_≡_, refl, subst}
 use mathlib.Core.Bool.{Bool, true, false, not, cond}
-use Prim.Native.Nat.{ℕ, suc, _+_, _-_, _*_, _/_, _%_, _^_, _≤_, _<_}
-use native.Mathlib.Nat.{le-refl, le-trans, le-of-eq, le-of-lt, suc-mul, mod-lt, div-mul-le-self, div-lt-iff-lt-mul}
+use Prim.Native.Nat.{ℕ, _+_, _-_, _*_, _/_, _%_, _^_, _≤_, _<_}
+use native.Mathlib.Nat.{le-of-lt, lt-irrefl, mod-lt, div-mul-le-self, lt-div-mul-add}
 use native.Mathlib.Omega.{arith}
 use lib.Dec.{T, leb, ltb, leb→le, nleb→lt, lit<, lit≤}
 use lib.IntN.{ℤ}
 use lib.Pow.{pow-pos}
-use lib.Ieee.{Float, nan, inf, fin, neg, unlike, up, down, lt, le, eq, ofInt}
+use lib.Ieee.{Float, nan, inf, fin, unlike, up, down}
 use lib.Ieee.Fits.{down-pos}
 use borrow.Author.Tests.{lt-ltb, le-ltb}
 use Rattle.fractions.specs.Fraction.{Fraction, fraction, opposite, signed, number, _⊗_, Same, Within}
@@ -20,46 +20,41 @@ use Rattle.series.specs.Sums.{Wave, sine, cosine, sum}
 use Rattle.series.specs.Angles as Defined
 use Rattle.series.specs.Angles.{defined}
 use Rattle.series.proofs.Laws.{sum-number, sum-same, sine-sum-opposite, cosine-sum-opposite, defined-sum, reduced-close}
-use Rattle.angles.specs.Computed.{one, turn, half, cut, units, place, short, times, radians, fromOne, rounded, sineAt, cosineAt, waveAt, computed}
-use Rattle.angles.specs.Limits.{isInside}
-use Rattle.angles.specs.Promise.{limit}
+use Rattle.angles.specs.Computed.{one, turn, half, cut, units, place, short, times, radians, outermost, fromOne, rounded, sineAt, cosineAt, waveAt, computed}
 use Rattle.angles.proofs.Waves.{angle, sine-close, cosine-close}
-use Rattle.angles.proofs.Room.{short-low, short-high, radians-most, sine-gap, cosine-gap, sine-gap-most, cosine-gap-most, sine-room, cosine-room}
+use Rattle.angles.proofs.Room.{short-low, short-high, radians-most, sine-fits, cosine-fits}
 use Rattle.angles.proofs.Floats.{rounded-close}
 
 -- ---- up to half a turn: r units from 0
 
 -- the sign and the size before the last rounding
 abbrev sine-sign : ℕ → Bool
-sine-sign r = ltb one (sine-gap (radians r))
+sine-sign r = ltb one (outermost (radians r) 25)
 
 abbrev sine-size : ℕ → ℕ
-sine-size r = times (radians r) (fromOne (sine-gap (radians r)))
+sine-size r = times (radians r) (fromOne (outermost (radians r) 25))
 
 abbrev cosine-sign : ℕ → Bool
-cosine-sign r = ltb one (cosine-gap (radians r))
+cosine-sign r = ltb one (outermost (radians r) 26)
 
 abbrev cosine-size : ℕ → ℕ
-cosine-size r = fromOne (cosine-gap (radians r))
+cosine-size r = fromOne (outermost (radians r) 26)
 
 module _ (r : ℕ) (h : r ≤ half) where
-  sine-fits : sine-size r < 2 ^ 62 - 256
-  sine-fits = sine-room (radians r) (sine-gap (radians r)) (radians-most r h) (sine-gap-most (radians r) (radians-most r h))
-
   sine-up : Close one (number (rounded (sine-sign r) (sine-size r))) (sum sine (angle r)) 375
-  sine-up = close-trans (rounded-close (sine-sign r) (sine-size r) sine-fits) (sine-close r h)
+  sine-up = close-trans (rounded-close (sine-sign r) (sine-size r) (sine-fits (radians r) (radians-most r h))) (sine-close r h)
 
   -- with the other sign
   sine-down : Close one (number (rounded (not (sine-sign r)) (sine-size r))) (sum sine (opposite (angle r))) 375
   sine-down =
-      rw (sine-sum-opposite (angle r)) (close-trans (rounded-close (not (sine-sign r)) (sine-size r) sine-fits) (turned (sine-sign r) (sine-size r) (sine-close r h)))
+      rw (sine-sum-opposite (angle r)) (close-trans (rounded-close (not (sine-sign r)) (sine-size r) (sine-fits (radians r) (radians-most r h))) (turned (sine-sign r) (sine-size r) (sine-close r h)))
     where
       turned : (b : Bool) (s : ℕ) → Close one (signed b s one) (sum sine (angle r)) 119 → Close one (signed (not b) s one) (opposite (sum sine (angle r))) 119
       turned true s c = close-opposite c
       turned false s c = close-opposite c
 
   cosine-up : Close one (number (rounded (cosine-sign r) (cosine-size r))) (sum cosine (angle r)) 375
-  cosine-up = close-wider (close-trans (rounded-close (cosine-sign r) (cosine-size r) (cosine-room (cosine-gap (radians r)) (cosine-gap-most (radians r) (radians-most r h)))) (cosine-close r h)) (lit≤ tt)
+  cosine-up = close-wider (close-trans (rounded-close (cosine-sign r) (cosine-size r) (cosine-fits (radians r) (radians-most r h))) (cosine-close r h)) (lit≤ tt)
 
 -- ---- at any place on the turn: beyond half a turn the reduced angle is below 0, and its opposite is what is left of the turn
 
@@ -80,6 +75,14 @@ here-number w a = sum-number w (Defined.radians (fraction a turn (2 ^ 52))) (lit
 renamed : (w : Wave) (a : ℕ) (x y : Fraction) → Close one x (sum w y) 375 → Same y (Defined.radians (fraction a turn (2 ^ 52))) → Close one x (sum w (Defined.radians (fraction a turn (2 ^ 52)))) 375
 renamed w a x y c e = close-same x (sum w (Defined.radians (fraction a turn (2 ^ 52)))) (c .first) (here-number w a) (same-refl x) (sum-same w y (Defined.radians (fraction a turn (2 ^ 52))) e) c
 
+up-is : (b : Bool) → unlike false b ≡ b
+up-is true = refl
+up-is false = refl
+
+down-is : (b : Bool) → unlike true b ≡ not b
+down-is true = refl
+down-is false = refl
+
 module _ (a : ℕ) where
   sine-is : {r : ℕ} {s : Bool} → short a ≡ r → ltb half a ≡ s → sineAt a ≡ rounded (unlike s (sine-sign r)) (sine-size r)
   unfolding sineAt
@@ -88,14 +91,6 @@ module _ (a : ℕ) where
   cosine-is : {r : ℕ} → short a ≡ r → cosineAt a ≡ rounded (cosine-sign r) (cosine-size r)
   unfolding cosineAt
   cosine-is p = λ i. rounded (cosine-sign (p i)) (cosine-size (p i))
-
-  up-is : (b : Bool) → unlike false b ≡ b
-  up-is true = refl
-  up-is false = refl
-
-  down-is : (b : Bool) → unlike true b ≡ not b
-  down-is true = refl
-  down-is false = refl
 
   low-close : a ≤ half → (w : Wave) → Close one (number (waveAt w a)) (sum w (Defined.radians (fraction a 0 (2 ^ 52)))) 375
   unfolding angle
@@ -116,7 +111,7 @@ cut-nat : (n D : ℕ) → 0 < D → Close (2 ^ 52) (fraction n 0 D) (fraction (n
 cut-nat n D o =
     let u = n * 2 ^ 52 / D in
     let lo : u * D ≤ n * 2 ^ 52 = div-mul-le-self (n * 2 ^ 52) D in
-    let hi : n * 2 ^ 52 ≤ u * D + D = le-trans (le-of-lt (div-lt-iff-lt-mul o .0 (le-refl (suc u)))) (le-of-eq (suc-mul u D)) in
+    let hi : n * 2 ^ 52 < u * D + D = lt-div-mul-add o in
     record { first = o; second = lit< tt; above = omega arith; below = omega arith }
 
 cut-close : (s : Bool) (m : ℕ) (e : ℤ) → Close (2 ^ 52) (number (fin s m e)) (cut (fin s m e)) 1
@@ -141,12 +136,11 @@ placed w p m = go (leb a half) (leb→le a half) (nleb→lt a half)
 
 -- ---- all together
 
-pub computed-near : (w : Wave) (d : Float) → T (isInside limit d) → Within 50 (number (computed w d)) (defined w (number d))
-unfolding isInside le lt eq neg ofInt computed place
-computed-near w nan t = absurd t
-computed-near w (inf true) t = absurd t
-computed-near w (inf false) t = absurd t
-computed-near w (fin s m e) t =
+pub computed-near : (w : Wave) (d : Float) → 0 < number d .over → Within 50 (number (computed w d)) (defined w (number d))
+unfolding computed place
+computed-near w nan D = absurd (lt-irrefl 0 D)
+computed-near w (inf s) D = absurd (lt-irrefl 0 D)
+computed-near w (fin s m e) D =
     let q = number (fin s m e) in
     let c = cut (fin s m e) in
     let first : Close one (number (waveAt w (Defined.turned c))) (sum w (Defined.radians (Defined.reduced c))) 375 = unfold cut in (placed w (cond s 0 (units (fin s m e))) (cond s (units (fin s m e)) 0)) in

@@ -7,7 +7,7 @@ use native.Mathlib.Omega.{arith}
 use lib.Dec.{T, leb, leb→le, nleb→lt, lit≤}
 use lib.Pow.{shr-mono}
 use borrow.Author.Tests.{le-leb, lt-leb}
-use Rattle.angles.specs.Computed.{one, turn, half, degree, short, times, radians, nesting, nest, fromOne}
+use Rattle.angles.specs.Computed.{one, turn, half, degree, short, times, radians, nesting, nest, outermost, fromOne}
 
 -- ---- the nestings
 
@@ -28,8 +28,8 @@ pub nesting-most : (y f j : ℕ) → y ≤ 12 * one → f ≤ one → 2 ≤ j �
 unfolding nesting
 nesting-most y f j h k l = div-le-of-le-mul ((j + 1) * (j + 2)) (le-trans (le-trans (times-most y f k) h) (mul-le-mul-right one (twelve j l)))
 
-pub divisor : (j : ℕ) → 0 < (j + 1) * (j + 2)
-divisor j = mul-pos {m = j + 1} {n = j + 2} (omega arith) (omega arith)
+pub divisor-positive : (j : ℕ) → 0 < (j + 1) * (j + 2)
+divisor-positive j = mul-pos {m = j + 1} {n = j + 2} (omega arith) (omega arith)
 
 -- ---- the shorter way from 0
 
@@ -59,40 +59,43 @@ pub radians-most : (r : ℕ) → r ≤ half → radians r ≤ largest
 unfolding radians times
 radians-most r h = le-trans (shr-mono 60 (mul-le-mul-right degree h)) (lit≤ tt)
 
-pub square-most : (x : ℕ) → x ≤ largest → times x x ≤ 11400000000000000000
+pub square-most : (x : ℕ) → x * x ≤ 12 * 2 ^ 120 → times x x ≤ 12 * one
 unfolding times
-square-most x h = omega (arith, mul-le-mul h h)
-
-pub x-most : (a x : ℕ) → x ≡ radians (short a) → x ≤ largest
-x-most a x e = subst (λ (n : ℕ). n ≤ largest) (sym e) (radians-most (short a) (short-most a))
-
-pub y-most : (a x y : ℕ) → x ≡ radians (short a) → y ≡ times x x → y ≤ 12 * one
-y-most a x y e f = le-trans (le-of-eq f) (le-trans (square-most x (x-most a x e)) (lit≤ tt))
-
-pub product-room : (a x f : ℕ) → x ≡ radians (short a) → f ≤ largest → x * f < 2 ^ 124
-product-room a x f e h = omega (arith, mul-le-mul (x-most a x e) h)
+square-most x h = omega arith
 
 -- ---- the outermost nestings, and what is left of 1
 
-abbrev pub cosine-gap : ℕ → ℕ
-cosine-gap x = nesting (times x x) (nest (times x x) 2 13) 0
+module _ (x : ℕ) (h : x ≤ largest) where
+  pub square-room : x * x ≤ 12 * 2 ^ 120
+  square-room = omega (arith, mul-le-mul h h)
 
-abbrev pub sine-gap : ℕ → ℕ
-sine-gap x = nesting (times x x) (nest (times x x) 3 12) 1
+  -- y is x squared
+  y-most : times x x ≤ 11400000000000000000
+  unfolding times
+  y-most = omega (arith, mul-le-mul h h)
 
-pub cosine-gap-most : (x : ℕ) → x ≤ largest → cosine-gap x ≤ 5700000000000000000
-unfolding nesting
-cosine-gap-most x h = omega (arith, times-most (times x x) (nest (times x x) 2 13) (nest-most (times x x) 2 13), square-most x h)
+  pub sine-rest-most : fromOne (outermost x 25) ≤ one
+  unfolding nesting
+  sine-rest-most = omega (arith, times-most (times x x) (nest (times x x) 3 12) (nest-most (times x x) 3 12), y-most)
 
-pub sine-gap-most : (x : ℕ) → x ≤ largest → sine-gap x ≤ 2 * one
-unfolding nesting
-sine-gap-most x h = omega (arith, times-most (times x x) (nest (times x x) 3 12) (nest-most (times x x) 3 12), square-most x h)
+  pub sine-fits : times x (fromOne (outermost x 25)) < 2 ^ 62 - 256
+  sine-fits = omega (arith, times-most x (fromOne (outermost x 25)) sine-rest-most)
 
-pub from-one-most : (g : ℕ) → g ≤ 2 * one → fromOne g ≤ one
-from-one-most g h = omega arith
+  pub cosine-fits : fromOne (outermost x 26) < 2 ^ 62 - 256
+  unfolding nesting
+  cosine-fits = omega (arith, times-most (times x x) (nest (times x x) 2 13) (nest-most (times x x) 2 13), y-most)
 
-pub sine-room : (x g : ℕ) → x ≤ largest → g ≤ 2 * one → times x (fromOne g) < 2 ^ 62 - 256
-sine-room x g h k = omega (arith, times-most x (fromOne g) (from-one-most g k))
+-- ---- the same of what the program has, at a place on the turn
 
-pub cosine-room : (g : ℕ) → g ≤ 5700000000000000000 → fromOne g < 2 ^ 62 - 256
-cosine-room g h = omega arith
+module _ (a x : ℕ) (e : x ≡ radians (short a)) where
+  x-most : x ≤ largest
+  x-most = subst (λ (n : ℕ). n ≤ largest) (sym e) (radians-most (short a) (short-most a))
+
+  pub outermost-room : x * x ≤ 12 * 2 ^ 120
+  outermost-room = square-room x x-most
+
+  pub sine-room : (r : ℕ) → r ≡ fromOne (outermost x 25) → (x * r < 2 ^ 124) × (times x r < 2 ^ 62 - 256)
+  sine-room r f = subst (λ (n : ℕ). (x * n < 2 ^ 124) × (times x n < 2 ^ 62 - 256)) (sym f) (omega (arith, mul-le-mul x-most (sine-rest-most x x-most)), sine-fits x x-most)
+
+  pub cosine-room : (r : ℕ) → r ≡ fromOne (outermost x 26) → r < 2 ^ 62 - 256
+  cosine-room r f = subst (λ (n : ℕ). n < 2 ^ 62 - 256) (sym f) (cosine-fits x x-most)

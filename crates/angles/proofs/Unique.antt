@@ -1,5 +1,5 @@
 -- No two answers meet a promise. Document 01's words alone leave room, 2 ^ -40 either way: it is the equation that leaves none. Assumes nothing.
-use mathlib.Core.Path.{_≡_, sym, _∙_}
+use mathlib.Core.Path.{_≡_}
 use mathlib.Core.Bool.{Bool}
 use lib.Ieee.{Float}
 use Rattle.refusals.proofs.Determined.{determined}
@@ -9,7 +9,7 @@ use Rattle.angles.specs.Limits.{isInside}
 use Rattle.angles.specs.Promise.{Promise}
 
 promise-unique : (w : Wave) (d : Float) (x y : Answer) → Promise w d x → Promise w d y → x ≡ y
-promise-unique w d x y p q = p .is ∙ sym (q .is)
+promise-unique w d x y p q = determined x y (p .is) (q .is)
 
 pub sine-unique : (d : Float) (x y : Answer) → Promise sine d x → Promise sine d y → x ≡ y
 sine-unique = promise-unique sine

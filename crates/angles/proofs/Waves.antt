@@ -1,6 +1,6 @@
 -- The program's sums at a place on the turn: in units of 2 ^ -60 the sine is 119 away from the defined sum at that place, and the cosine 85. Assumes nothing.
 use mathlib.Core.Path.{_≡_, refl, subst}
-use mathlib.Core.Bool.{Bool, true, false, cond}
+use mathlib.Core.Bool.{Bool, true, false}
 use Prim.Native.Nat.{ℕ, _+_, _*_, _/_, _^_, _≤_, _<_}
 use native.Mathlib.Nat.{le-trans, mul-le-mul-right, div-one}
 use native.Mathlib.Omega.{arith}
@@ -15,9 +15,9 @@ use Rattle.series.specs.Sums.{sine, cosine, sum}
 use Rattle.series.specs.Angles as Defined
 use Rattle.series.proofs.Laws.{sum-number}
 use Rattle.series.proofs.Nested.{nested, sine-nested, cosine-nested}
-use Rattle.angles.specs.Computed.{one, half, degree, times, radians, fromOne}
-use Rattle.angles.proofs.Fixed.{fixed, product-close, rest-close, nest-close, nesting-close}
-use Rattle.angles.proofs.Room.{radians-most, square-most, cosine-gap, sine-gap, sine-gap-most, from-one-most}
+use Rattle.angles.specs.Computed.{one, half, degree, times, radians, outermost, fromOne}
+use Rattle.angles.proofs.Fixed.{fixed, product-close, bracket-close}
+use Rattle.angles.proofs.Room.{largest, radians-most, square-most, square-room, sine-rest-most}
 
 -- ---- x, in radians: r units of 2 ^ -52 degree. The constants are variables: c for the degree, k for 180 d, p for document 01's numerator, d for 10 ^ 18, u for 2 ^ 52, v for 2 ^ 68, o for 2 ^ 60
 above-nat : (r x c k p u v o : ℕ) → x * o * (u * k) ≤ r * c * (u * k) → c * k * (r * u) ≤ p * v * (r * u) → r * p * (v * u) ≡ r * p * (o * o)
@@ -54,17 +54,17 @@ radians-close r h =
     high : (n : ℕ) → n ≤ n / one * one + one
     high n = omega arith
 
--- ---- how large: x is pi at most, which is 3640000000000000000 in units of 2 ^ -60 at most
+-- ---- how large: the exact x is at most what the program's is
 
 most-nat : (r p d u o m : ℕ) → r * (p * o) ≤ 180 * u * (p * o) → 180 * u * (p * o) ≤ 180 * u * (m * d) → (r * p + 0 * 0) * o ≤ (r * 0 + 0 * p) * o + m * (u * (180 * d))
 most-nat r p d u o m h k = let h' = simp ring at h in let k' = simp ring at k in simp ring (omega arith)
 
-angle-size : (r : ℕ) → r ≤ half → Size one (angle r) 3640000000000000000
+angle-size : (r : ℕ) → r ≤ half → Size one (angle r) largest
 unfolding angle Defined.radians
 angle-size r h =
     let p = Defined.degree .plus in
     record {
-      above = most-nat r p (10 ^ 18) (2 ^ 52) one 3640000000000000000 (mul-le-mul-right (p * one) h) (lit≤ tt);
+      above = most-nat r p (10 ^ 18) (2 ^ 52) one largest (mul-le-mul-right (p * one) h) (lit≤ tt);
       below = none-nat r p one _;
     }
   where
@@ -89,7 +89,7 @@ module _ (r : ℕ) (h : r ≤ half) where
 
   y-most : y ≤ 12 * one
   unfolding x y
-  y-most = le-trans (square-most (radians r) (radians-most r h)) (lit≤ tt)
+  y-most = square-most (radians r) (square-room (radians r) (radians-most r h))
 
   square-close : Close one (fixed y) (square (angle r)) 17
   unfolding x y times
@@ -98,50 +98,29 @@ module _ (r : ℕ) (h : r ≤ half) where
   square-size : Size one (square (angle r)) (10 * one)
   square-size = size-mul (10 * one) (pow-pos 60) (lit≤ tt) (angle-size r h) (angle-size r h)
 
--- ---- a sign goes with a number and its exact one
-
-turned-over : Bool → Fraction → Fraction
-turned-over b x = cond b (opposite x) x
-
-upright : (b : Bool) {v e : ℕ} {z : Fraction} → Close one (signed b v one) z e → Close one (fixed v) (turned-over b z) e
-unfolding turned-over
-upright false c = c
-upright true c = close-opposite c
-
-back : (b : Bool) {v e : ℕ} {z : Fraction} → Close one (fixed v) (turned-over b z) e → Close one (signed b v one) z e
-unfolding turned-over
-back false c = c
-back true c = close-opposite c
-
-turned-times : (b : Bool) (x z : Fraction) → x ⊗ turned-over b z ≡ turned-over b (x ⊗ z)
-unfolding turned-over
-turned-times false x z = refl
-turned-times true x z = ⊗-opposite x z
-
 -- ---- the cosine is the bracket, and the sine x times it
 
 module _ (r : ℕ) (h : r ≤ half) where
-  pub cosine-close : Close one (signed (ltb one (cosine-gap (radians r))) (fromOne (cosine-gap (radians r))) one) (sum cosine (angle r)) 85
-  unfolding x y nested
+  product : (v : ℕ) (z : Fraction) → v ≤ one → Close one (fixed v) z 29 → Close one (fixed (times (radians r) v)) (angle r ⊗ z) 119
+  unfolding times
+  product v z m d = undivided (product-close 1 4 1 118 (lit< tt) (omega (arith, m)) (size-wider (angle-size r h) (lit≤ tt)) (lit≤ tt) (radians-close r h) d)
+
+  -- of either sign
+  signed-product : (b : Bool) (v : ℕ) (z : Fraction) → v ≤ one → Close one (signed b v one) z 29 → Close one (signed b (times (radians r) v) one) (angle r ⊗ z) 119
+  signed-product false v z m d = product v z m d
+  signed-product true v z m d = close-opposite (subst (λ (q : Fraction). Close one (fixed (times (radians r) v)) q 119) (⊗-opposite (angle r) z) (product v (opposite z) m (close-opposite d)))
+
+  pub cosine-close : Close one (signed (ltb one (outermost (radians r) 26)) (fromOne (outermost (radians r) 26)) one) (sum cosine (angle r)) 85
+  unfolding x y
   cosine-close =
       let Y = square (angle r) in
-      let c = square-close r h in
-      let s = square-size r h in
       close-same _ (sum cosine (angle r)) (pow-pos 60) (sum-number cosine (angle r) (angle-number r)) (same-refl _) (same-sym (sum cosine (angle r)) (nested Y 0 14) (cosine-nested (angle r) (angle-number r)))
-      (rest-close (nesting-close (y r h) Y c s 0 13 84 (lit≤ tt) (nest-close (y r h) Y c s (y-most r h) 13 2 (lit≤ tt))))
+      (bracket-close (y r h) Y (square-close r h) (square-size r h) (y-most r h) 0 13 84 (lit≤ tt))
 
-  pub sine-close : Close one (signed (ltb one (sine-gap (radians r))) (times (radians r) (fromOne (sine-gap (radians r)))) one) (sum sine (angle r)) 119
-  unfolding x y nested
+  pub sine-close : Close one (signed (ltb one (outermost (radians r) 25)) (times (radians r) (fromOne (outermost (radians r) 25))) one) (sum sine (angle r)) 119
+  unfolding x y
   sine-close =
       let Y = square (angle r) in
-      let c = square-close r h in
-      let s = square-size r h in
-      let g = sine-gap (radians r) in
-      let b = ltb one g in
-      let N = nested Y 1 13 in
-      let d : Close one (signed b (fromOne g) one) N 29 = rest-close (nesting-close (y r h) Y c s 1 12 28 (lit≤ tt) (nest-close (y r h) Y c s (y-most r h) 12 3 (lit≤ tt))) in
-      let p : Close one (fixed (times (radians r) (fromOne g))) (angle r ⊗ turned-over b N) 119 =
-      unfold times in
-      (undivided (product-close 1 4 1 118 (lit< tt) (omega (arith, from-one-most g (sine-gap-most (radians r) (radians-most r h)))) (size-wider (angle-size r h) (lit≤ tt)) (lit≤ tt) (radians-close r h) (upright b d))) in
-      close-same _ (sum sine (angle r)) (pow-pos 60) (sum-number sine (angle r) (angle-number r)) (same-refl _) (same-sym (sum sine (angle r)) (angle r ⊗ N) (sine-nested (angle r) (angle-number r)))
-      (back b (subst (λ (z : Fraction). Close one (fixed (times (radians r) (fromOne g))) z 119) (turned-times b (angle r) N) p))
+      let g = outermost (radians r) 25 in
+      close-same _ (sum sine (angle r)) (pow-pos 60) (sum-number sine (angle r) (angle-number r)) (same-refl _) (same-sym (sum sine (angle r)) (angle r ⊗ nested Y 1 13) (sine-nested (angle r) (angle-number r)))
+      (signed-product (ltb one g) (fromOne g) (nested Y 1 13) (sine-rest-most (radians r) (radians-most r h)) (bracket-close (y r h) Y (square-close r h) (square-size r h) (y-most r h) 1 12 28 (lit≤ tt)))

@@ -1,6 +1,6 @@
 -- What the program computes, step by step, in whole numbers: angles in units of 2 ^ -52 degree, all else in units of 2 ^ -60, and the last step in floats. Nobody has to believe it: specs/Promise.antt ties
 -- the results to the defined values. Definitions only.
-use Prim.Native.Nat.{ℕ, zero, suc, _+_, _-_, _*_, _/_, _^_}
+use Prim.Native.Nat.{ℕ, zero, suc, _+_, _-_, _*_, _/_, _%_, _^_}
 use mathlib.Core.Bool.{Bool, false, not, _&&_, cond}
 use lib.Dec.{eqb, leb, ltb}
 use lib.IntN.{pos}
@@ -8,6 +8,8 @@ use lib.Ieee.{Float, nan, inf, fin, binary64, unlike, up, down, lt, le, neg, div
 use Rattle.fractions.specs.Fraction.{Fraction, fraction, signed, gap}
 use Rattle.series.specs.Sums.{Wave, sine, cosine}
 use Rattle.series.specs.Angles.{turned}
+use Rattle.angles.specs.declared.Wave.{Wave as Asked}
+use Rattle.angles.specs.declared.Wave.the-variants.{Sine, Cosine}
 
 abbrev pub one : ℕ
 one = 2 ^ 60
@@ -61,6 +63,10 @@ unfoldable pub nest : ℕ → ℕ → ℕ → ℕ
 nest y j zero = one
 nest y j (suc n) = one - nesting y (nest y (j + 2) n) j
 
+-- the outermost nesting at x radians, of the sine (top 25) or the cosine (top 26): 1 less it is the sum's bracket
+abbrev pub outermost : ℕ → ℕ → ℕ
+outermost x top = let y = times x x in nesting y (nest y (top % 2 + 2) (top / 2)) (top % 2)
+
 -- how far from 1, either way
 abbrev pub fromOne : ℕ → ℕ
 fromOne g = gap one g
@@ -77,16 +83,19 @@ rounded negative size =
 unfoldable pub sineAt : ℕ → Float
 sineAt a =
     let x = radians (short a) in
-    let y = times x x in
-    let g = nesting y (nest y 3 12) 1 in
+    let g = outermost x 25 in
     rounded (unlike (ltb half a) (ltb one g)) (times x (fromOne g))
 
 unfoldable pub cosineAt : ℕ → Float
 cosineAt a =
     let x = radians (short a) in
-    let y = times x x in
-    let g = nesting y (nest y 2 13) 0 in
+    let g = outermost x 26 in
     rounded (ltb one g) (fromOne g)
+
+-- which of the two is asked for
+abbrev pub waveOf : Asked → Wave
+waveOf Sine = sine
+waveOf Cosine = cosine
 
 abbrev pub waveAt : Wave → ℕ → Float
 waveAt sine a = sineAt a

@@ -9,10 +9,10 @@ use lib.IntN.{ℤ, pos, negsuc}
 use lib.ListN.{getD}
 use lib.Ieee.{Float, binary64, ofInt}
 use Rattle.refusals.specs.Refusals.{firstOf, _when_}
-use Rattle.fractions.specs.Fraction.{number, whole, unit, _⊕_}
+use Rattle.fractions.specs.Fraction.{number}
 use Rattle.fractions.specs.Approximates.{Approximates}
 use Rattle.series.specs.Sums.{Wave, sine, cosine}
-use Rattle.series.specs.Angles.{isMultiple, quarters, defined}
+use Rattle.series.specs.Angles.{isMultiple, quarters, defined, definedMost}
 use Rattle.angles.specs.declared.Answer.{Answer}
 use Rattle.angles.specs.Limits.{refusesAngle}
 use Rattle.angles.specs.Computed.{computed}
@@ -59,5 +59,5 @@ outcome w d = record { refusal = refusalOf d; value = cond (isRefused d) zero (c
 -- every bit of the answer; and of the value at an accepted angle how near it is to the defined one, how large that is, and what it is at a multiple of 90
 pub record Promise (w : Wave) (d : Float) (answer : Answer) : Type 0 where
   pub is : answer ≡ outcome w d
-  pub near : refusalOf d ≡ 0 → Approximates angleBits (whole 1 ⊕ unit 50) (answer .value) (defined w (number d))
+  pub near : refusalOf d ≡ 0 → Approximates angleBits definedMost (answer .value) (defined w (number d))
   pub exact : refusalOf d ≡ 0 → T (isMultiple (number d)) → answer .value ≡ getD (exactly w) (quarters (number d)) zero

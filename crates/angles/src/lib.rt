@@ -25,7 +25,7 @@
 //
 // Under it lie `series` (what sine and cosine are), `fractions` (what "within" is said over) and `refusals`.
 ghost use mathlib.Core.Path.{_≡_};
-ghost use Prim.Native.Nat.{_+_, _-_, _*_, _/_, _%_, _^_, _<_, _≤_};
+ghost use Prim.Native.Nat.{_-_, _*_, _^_, _<_, _≤_};
 ghost use lib.Dec.{T};
 ghost use Rattle.angles.specs.Computed as Steps;
 ghost use Rattle.angles.specs.Limits.{isInside};
@@ -48,8 +48,6 @@ const HALF: u64 = 810647932926689280;
 
 // A degree in radians, by document 01's digits of pi, in units of 2^-68, cut.
 const DEGREE: u64 = 5151302725743731798;
-
-const REFUSED: u8 = 3;
 
 // a * b / 2^60, cut: the four products of halves, added column by column.
 fn times(a: u64, b: u64) -> u64
@@ -75,11 +73,12 @@ fn nesting(y: u64, f: u64, j: u64) -> u64
     times(y, f) / ((j + 1) * (j + 2))
 }
 
-// The outermost nesting of the sine (top 25) or the cosine (top 26), with y for x²: 1 less it is the sum's bracket.
-fn outermost(y: u64, top: u64) -> u64
-    requires { ⌜ (y ≤ 12 * 2 ^ 60) × (top ≤ 26) ⌝ }
-    ensures { λ r. ⌜ r ≡ Steps.nesting y (Steps.nest y (top % 2 + 2) (top / 2)) (top % 2) ⌝ }
+// The outermost nesting at x radians, of the sine (top 25) or the cosine (top 26): 1 less it is the sum's bracket.
+fn outermost(x: u64, top: u64) -> u64
+    requires { ⌜ (x * x ≤ 12 * 2 ^ 120) × (top ≤ 26) ⌝ }
+    ensures { λ r. ⌜ r ≡ Steps.outermost x top ⌝ }
 {
+    let y = times(x, x);
     let mut f = ONE;
     let mut j = top;
     while j > 1 {
@@ -94,13 +93,6 @@ pub fn is_inside(limit: f64, angle: f64) -> bool
     ensures { λ r. ⌜ r ≡ isInside limit angle ⌝ }
 {
     angle >= -limit && angle <= limit
-}
-
-// Whether a sine is given: no NaN is from -1080 to 1080, and no infinity.
-fn is_accepted(d: f64) -> bool
-    ensures { λ r. ⌜ r ≡ isInside Said.limit d ⌝ }
-{
-    is_inside(1080.0, d)
 }
 
 // An angle of 0 to 1080 degrees in units of 2^-52 degree, cut.
@@ -162,7 +154,7 @@ fn sine_at(a: u64) -> f64
     ensures { λ r. ⌜ r ≡ Steps.sineAt a ⌝ }
 {
     let x = radians(a);
-    let g = outermost(times(x, x), 25);
+    let g = outermost(x, 25);
     rounded((a > HALF) != (g > ONE), times(x, from_one(g)))
 }
 
@@ -172,40 +164,47 @@ fn cosine_at(a: u64) -> f64
     ensures { λ r. ⌜ r ≡ Steps.cosineAt a ⌝ }
 {
     let x = radians(a);
-    let g = outermost(times(x, x), 26);
+    let g = outermost(x, 26);
     rounded(g > ONE, from_one(g))
+}
+
+// Which of the two.
+enum Wave {
+    Sine,
+    Cosine,
+}
+
+// The sine or the cosine of d degrees. No NaN is from -1080 to 1080, and no infinity.
+fn of_degrees(wave: Wave, d: f64) -> Answer
+    ensures { λ r. ⌜ Said.Promise (Steps.waveOf wave) d r ⌝ }
+{
+    if !is_inside(1080.0, d) {
+        return Answer {
+            refusal: 3,
+            value: 0.0,
+        };
+    }
+    let a = turned(d);
+    let value = match wave {
+        Wave::Sine => sine_at(a),
+        Wave::Cosine => cosine_at(a),
+    };
+    Answer {
+        refusal: 0,
+        value: value,
+    }
 }
 
 // The sine of d degrees.
 pub fn sine(d: f64) -> Answer
     ensures { λ r. ⌜ Said.Promise Sums.sine d r ⌝ }
 {
-    if is_accepted(d) {
-        Answer {
-            refusal: 0,
-            value: sine_at(turned(d)),
-        }
-    } else {
-        Answer {
-            refusal: REFUSED,
-            value: 0.0,
-        }
-    }
+    of_degrees(Wave::Sine, d)
 }
 
 // The cosine of d degrees.
 pub fn cosine(d: f64) -> Answer
     ensures { λ r. ⌜ Said.Promise Sums.cosine d r ⌝ }
 {
-    if is_accepted(d) {
-        Answer {
-            refusal: 0,
-            value: cosine_at(turned(d)),
-        }
-    } else {
-        Answer {
-            refusal: REFUSED,
-            value: 0.0,
-        }
-    }
+    of_degrees(Wave::Cosine, d)
 }

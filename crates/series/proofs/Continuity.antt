@@ -1,5 +1,5 @@
 -- How far apart the values at two angles are: |a - b| / 4 + 2 ^ -52 at most, wherever the angles lie. Between -180 and 180 that is how steep the sums are; from one side of 180 to the other the
--- way goes over the sums at 180 and -180, which are 2 ^ -53 apart. Assumes nothing.
+-- way goes over the sums at 180 and -180, which are 2 ^ -53 apart at most. Assumes nothing.
 use mathlib.Core.Path.{_≡_, sym, ap, _∙_, subst}
 use Prim.Native.Nat.{ℕ, _+_, _*_, _^_, _≤_, _<_}
 use native.Mathlib.Nat.{le-of-eq, le-of-lt, le-intro, le-dest, mul-pos, mul-comm, mul-le-mul-left, mul-le-mul-right}
@@ -13,7 +13,7 @@ use Rattle.fractions.proofs.Within.{within-close, within-computed}
 use Rattle.series.specs.Sums.{factorial, power, term, sineSum, cosineSum, Wave, sine, cosine}
 use Rattle.series.specs.Angles.{turned, around, reduced, radians, defined}
 use Rattle.series.proofs.Sums.{half, parts, parts-pos, sum-close}
-use Rattle.series.proofs.Reduction.{turned-less, reduced-around, by-side, Near, beside, ahead, behind, turned-near}
+use Rattle.series.proofs.Reduction.{turned-less, reduced-around, by-side, low-size, high-size, Near, beside, ahead, behind, turned-near}
 use Rattle.series.proofs.Places.{radians-is, radians-half, wave, defined-sum}
 
 -- ---- between -180 and 180: |S(a) - S(b)| ≤ |a - b| / 4, and so for C
@@ -111,8 +111,8 @@ module _ (w : Wave) (r o s o' W E : ℕ) (O : 0 < o) (O' : 0 < o') (w-pos : 0 < 
           let U-pos : 0 < U = mul-pos w-pos N in
           let V-pos : 0 < 4 * U = mul-pos {m = 4} (lit< tt) U-pos in
           let full : Size 1 (whole 180) 180 = record { above = lit≤ tt; below = lit≤ tt } in
-          let first = close-unit V-pos (unit-nat K (t * W) U) (degrees-close w U-pos (record { above = omega arith; below = omega arith }) full a) in
-          let last = close-unit V-pos (unit-nat K (u * W) U) (degrees-close w U-pos (size-opposite full) (record { above = omega arith; below = omega arith }) b) in
+          let first = close-unit V-pos (unit-nat K (t * W) U) (degrees-close w U-pos (low-size r o h) full a) in
+          let last = close-unit V-pos (unit-nat K (u * W) U) (degrees-close w U-pos (size-opposite full) (high-size s o' l m) b) in
           let middle : Close (K * (4 * U)) (wave w (whole 180)) (wave w (opposite (whole 180))) (4 * U) = close-unit (lit< tt) (omega arith) (within-close (around-half w)) in
           close-unit (mul-pos {m = K} (lit< tt) V-pos)
           (steps-nat K t u W E n (mul-le-mul-left (K * K * W) (both-nat t u W E n (r * o') (s * o) (ap (λ (x : ℕ). x * W) e) (ap (λ (x : ℕ). x * W) f) g))) (close-trans (close-trans first middle) last)
@@ -163,7 +163,7 @@ module _ (w : Wave) (W E : ℕ) (w-pos : 0 < W) where
     low-high h l m (beside i j) = across w r o s o' W E O O' w-pos h l m j
     low-high h l m (behind i) = across w r o s o' W E O O' w-pos h l m (omega arith)
     low-high h l m (ahead i) =
-        straight (record { above = omega arith; below = omega arith }) (record { above = omega arith; below = omega arith })
+        straight (low-size r o h) (high-size s o' l m)
         (record { first = O; second = O'; above = omega (arith, i); below = omega (arith, mul-le-mul-right (o * W) (le-of-lt m)) })
 
   places : (r o s o' : ℕ) → 0 < o → 0 < o' → r < 360 * o → s < 360 * o' → Near W E (o * o') (r * o') (s * o)
@@ -175,12 +175,6 @@ module _ (w : Wave) (W E : ℕ) (w-pos : 0 < W) where
       (λ h. by-side (λ (y : Fraction). Close (2 ^ 55 * W) (wave w (fraction r (360 * o) o)) (wave w y) (2 ^ 53 * E + 4 * W)) s o'
       (λ k. close-sym (low-high s o' r o O' O k h l (subst (λ (n : ℕ). Near W E n (s * o) (r * o')) (mul-comm o o') (near-sym c))))
       (λ k. straight (high-size r o h l) (high-size s o' k m) (both-high r o s o' O O' h k l m c)))
-    where
-      low-size : (r o : ℕ) → r ≤ 180 * o → Size 1 (fraction r 0 o) 180
-      low-size r o h = record { above = omega arith; below = omega arith }
-
-      high-size : (r o : ℕ) → 180 * o < r → r < 360 * o → Size 1 (fraction r (360 * o) o) 180
-      high-size r o h l = record { above = omega arith; below = omega arith }
 
 -- the sums at the reduced angles of two angles: |a - b| / 4 + 2 ^ -53
 pub reduced-close : (w : Wave) {W E : ℕ} (a b : Fraction) → 0 < W → Close W a b E → Close (2 ^ 55 * W) (wave w (reduced a)) (wave w (reduced b)) (2 ^ 53 * E + 4 * W)

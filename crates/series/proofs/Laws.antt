@@ -1,18 +1,23 @@
 -- The laws of the defined sine and cosine, for the crates above: angles are fractions of degrees, of any size and under any name, and no law asks on which side of 180 one lies, or whether it is a
 -- multiple of 90. `w` is either wave. Then how the sums stand for them, for a program that computes those. Assumes nothing.
-use mathlib.Core.Path.{_≡_}
+use mathlib.Core.Path.{_≡_, subst}
+use mathlib.Core.List.{[], _∷_}
 use Prim.Native.Nat.{ℕ, suc, _+_, _*_, _%_, _^_, _≤_, _<_}
 use native.Mathlib.Nat.{mul-pos, mul-le-mul-right, two-pow-succ}
 use native.Mathlib.Omega.{arith}
-use lib.Dec.{lit<, lit≤}
+use lib.Dec.{T, lit<, lit≤}
 use lib.ListN.{getD}
 use lib.Pow.{pow-pos, pow-mono}
 use Rattle.fractions.specs.Fraction.{Fraction, fraction, whole, unit, opposite, magnitude, square, _⊕_, _⊖_, Same, AtMost, Within}
-use Rattle.fractions.proofs.Restate.{same-opposite}
-use Rattle.fractions.proofs.Close.{Close, close-trans}
+use Rattle.fractions.specs.Squares.{sumSquares}
+use Rattle.fractions.proofs.Restate.{zero-⊕, over-one, same-opposite}
+use Rattle.fractions.proofs.Close.{Close, Size, close-sym, close-trans}
 use Rattle.fractions.proofs.Within.{within-close, counted-within, within-counted, within-same, within-trans, within-weaken, size-at-most}
+use Rattle.fractions.proofs.Divide.{least-near, near-not-below}
+use Rattle.fractions.proofs.Roots.{quotient-size}
+use Rattle.fractions.proofs.Sums.{square-in-sum}
 use Rattle.series.specs.Sums.{Wave, sine, cosine, sum, sineSum, cosineSum}
-use Rattle.series.specs.Angles.{reduced, radians, exact, defined, definedSine, definedCosine}
+use Rattle.series.specs.Angles.{reduced, radians, isMultiple, exact, defined, definedSine, definedCosine, definedMost}
 use Rattle.series.proofs.Terms as Terms
 use Rattle.series.proofs.Places as Places
 use Rattle.series.proofs.Continuity as Continuity
@@ -20,16 +25,27 @@ use Rattle.series.proofs.Turns as Turns
 use Rattle.series.proofs.Quarters as Quarters
 use Rattle.series.proofs.Least as Least
 
--- ---- size: |S|, |C| ≤ 1 + 2 ^ -50, and S^2 + C^2 = 1 up to 2 ^ -50
+-- ---- size: S^2 + C^2 = 1 up to 2 ^ -50, and so |S|, |C| ≤ 1 + 2 ^ -50
 
 pub defined-number : (w : Wave) (d : Fraction) → 0 < d .over → 0 < defined w d .over
 defined-number = Places.defined-pos
 
-pub defined-size : (w : Wave) (d : Fraction) → 0 < d .over → AtMost (magnitude (defined w d)) (whole 1 ⊕ unit 50)
-defined-size w d D = size-at-most (Places.defined-size d D w)
-
 pub defined-squares : (d : Fraction) → 0 < d .over → Within 50 (square (definedSine d) ⊕ square (definedCosine d)) (whole 1)
 defined-squares = Places.defined-squares
+
+-- each square is at most their sum, and that is 1 + 2 ^ -50 at most
+pub defined-size : (w : Wave) (d : Fraction) → 0 < d .over → AtMost (magnitude (defined w d)) definedMost
+defined-size w d D =
+    let S = definedSine d in
+    let C = definedCosine d in
+    size-at-most
+    (subst (λ (x : Fraction). Size (2 ^ 50) x (2 ^ 50 + 1)) (over-one (defined w d))
+    (quotient-size {W = 2 ^ 50} {t = 1} {L = 2 ^ 50} (2 ^ 50 + 1) (defined w d) (whole 1) (square S ⊕ square C) (lit< tt) (lit≤ tt)
+    (subst (λ (x : Fraction). AtMost (square (defined w d)) (x ⊕ square C)) (zero-⊕ (square S)) (one-of-two w)) (close-sym (within-close (defined-squares d D))) (lit< tt) (record { least = lit≤ tt })))
+  where
+    one-of-two : (w : Wave) → AtMost (square (defined w d)) (sumSquares (definedSine d ∷ definedCosine d ∷ []))
+    one-of-two sine = square-in-sum (definedSine d ∷ definedCosine d ∷ []) 0 (whole 0) (lit< tt)
+    one-of-two cosine = square-in-sum (definedSine d ∷ definedCosine d ∷ []) 1 (whole 0) (lit< tt)
 
 -- ---- continuity: two angles that are E / W apart have values that are E / (4 W) + 2 ^ -52 apart at most
 
@@ -57,10 +73,13 @@ defined-same = Turns.defined-same
 pub defined-turns : (w : Wave) (d e : Fraction) → 0 < d .over → 0 < e .over → (i j : ℕ) → Same (d ⊕ whole (360 * i)) (e ⊕ whole (360 * j)) → Same (defined w d) (defined w e)
 defined-turns = Turns.defined-turns
 
--- ---- 90 times a whole number: exactly 0, 1 or -1
+-- ---- 90 times a whole number, which is what `isMultiple` accepts: exactly 0, 1 or -1
 
-pub defined-multiple : (w : Wave) (d : Fraction) → 0 < d .over → (k : ℕ) → Same d (whole (90 * k)) → defined w d ≡ getD (exact w) (k % 4) (whole 0)
+pub defined-multiple : (w : Wave) (d : Fraction) → 0 < d .over → (k i : ℕ) → Same d (fraction (90 * k) (90 * i) 1) → defined w d ≡ getD (exact w) ((k + 3 * i) % 4) (whole 0)
 defined-multiple = Turns.defined-multiple
+
+pub multiple-only : (d : Fraction) → 0 < d .over → T (isMultiple d) → (k : ℕ) × (i : ℕ) × Same d (fraction (90 * k) (90 * i) 1)
+multiple-only = Turns.multiple-only
 
 -- ---- the opposite angle: exact, at 180 too
 
@@ -98,14 +117,14 @@ module _ (d : Fraction) (D : 0 < d .over) where
   -- cos(90 - d) at a distance d of 0 up to 90 is not below 0, up to 2 ^ -50
   pub rest-not-below : AtMost (whole 0) d → AtMost d (whole 90) → AtMost (opposite (unit 50)) (definedCosine (whole 90 ⊖ d))
   rest-not-below l h =
-      Least.near-not-below (definedCosine (whole 90 ⊖ d)) (Places.wave sine (reduced d))
+      near-not-below (definedCosine (whole 90 ⊖ d)) (Places.wave sine (reduced d))
       (within-close (within-trans {k = 50} (cosine-of-rest d D) (within-weaken (lit≤ tt) (Places.defined-sum sine d D)))) (Least.reduced-not-below d D l h)
 
   -- and at one of 10 up to 90 its square is 3 / 100 at least
   pub rest-square-least : AtMost (whole 10) d → AtMost d (whole 90) → AtMost (fraction 3 0 100) (square (definedCosine (whole 90 ⊖ d)))
   rest-square-least l h =
-      let E : 0 < (whole 90 ⊖ d) .over = mul-pos {m = 1} (lit< tt) D in
-      Least.square-least (definedCosine (whole 90 ⊖ d)) (defined-number cosine (whole 90 ⊖ d) E) (Least.cosine-least (whole 90 ⊖ d) E (omega arith) (omega arith))
+      Least.square-least (definedCosine (whole 90 ⊖ d)) (defined-number cosine (whole 90 ⊖ d) (rest-pos d D))
+      (least-near {E = 1} 17362 (lit≤ tt) (within-counted 1 (lit≤ tt) (cosine-of-rest d D)) (Least.sine-least d D l h))
 
 -- ---- for a program that computes them: the sums stand for the defined values at the reduced angle, and go with it and with its sign
 

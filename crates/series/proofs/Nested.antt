@@ -3,7 +3,7 @@ use mathlib.Core.Path.{_≡_, refl, sym, ap, _∙_, subst}
 use mathlib.Core.Bool.{Bool, true, false, not}
 use mathlib.Core.List.{List, [], _∷_}
 use Prim.Native.Nat.{ℕ, zero, suc, _+_, _*_, _-_, _<_}
-use native.Mathlib.Nat.{mul-pos, sub-zero}
+use native.Mathlib.Nat.{add-comm, mul-pos, sub-zero}
 use native.Mathlib.Numerals.{add-one, add-two}
 use native.Mathlib.Omega.{arith}
 use lib.Dec.{lit<}
@@ -53,11 +53,8 @@ sum-tail cosine x = sum-in-turn cosine x ∙ tail-in-turn x 13 2 true (term x 0)
 
 -- ---- two exponents on the term is x^2 / ((j + 1) (j + 2)) times as large
 
-plus-nat : (xp xm pp pm : ℕ) → (xp * (xp * pp + xm * pm) + xm * (xp * pm + xm * pp)) * 1 ≡ pp * 1 * ((xp * xp + xm * xm) * 1) + pm * 1 * ((xp * xm + xm * xp) * 1)
-plus-nat xp xm pp pm = simp ring (omega arith)
-
-minus-nat : (xp xm pp pm : ℕ) → (xp * (xp * pm + xm * pp) + xm * (xp * pp + xm * pm)) * 1 ≡ pp * 1 * ((xp * xm + xm * xp) * 1) + pm * 1 * ((xp * xp + xm * xm) * 1)
-minus-nat xp xm pp pm = simp ring (omega arith)
+square-nat : (xp xm pp pm : ℕ) → (xp * (xp * pp + xm * pm) + xm * (xp * pm + xm * pp)) * 1 ≡ pp * 1 * ((xp * xp + xm * xm) * 1) + pm * 1 * ((xp * xm + xm * xp) * 1)
+square-nat xp xm pp pm = simp ring (omega arith)
 
 over-nat : (xo po f i k : ℕ) → xo * (xo * po) * (k * (i * f)) ≡ po * f * (xo * xo * (i * k))
 over-nat xo po f i k = simp ring
@@ -67,7 +64,7 @@ unfolding term power factorial
 term-two x j =
     let p = power x j in
     rw (add-two, add-one)
-    (equal (plus-nat (x .plus) (x .minus) (p .plus) (p .minus)) (minus-nat (x .plus) (x .minus) (p .plus) (p .minus))
+    (equal (square-nat (x .plus) (x .minus) (p .plus) (p .minus)) (square-nat (x .plus) (x .minus) (p .minus) (p .plus) ∙ add-comm _ _)
     (rw (sub-zero (suc (suc j) * (suc j * factorial j)), sub-zero (factorial j), sub-zero (suc j * suc (suc j))) (over-nat (x .over) (p .over) (factorial j) (suc j) (suc (suc j)))))
 
 -- ---- so the term can be taken out of the sum

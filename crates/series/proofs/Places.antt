@@ -1,10 +1,10 @@
--- The defined values from the place that an angle is turned to, at a multiple of 90 and off it. The exact values are 2 ^ -54 away from the sums in whose stead they stand, so that what holds of the
--- sums at the reduced angle holds of the defined values but for that; and they are no larger than the sums may be, and the sum of their squares is 1. Assumes nothing.
+-- The defined values from the place that an angle is turned to, at a multiple of 90 and off it. The exact values are 2 ^ -54 at most away from the sums in whose stead they stand, so that what holds of
+-- the sums at the reduced angle holds of the defined values but for that; and the sum of their squares is 1, as that of the sums is up to 2 ^ -50. Assumes nothing.
 use mathlib.Core.Path.{_≡_, refl, sym, ap, subst}
 use mathlib.Core.Bool.{Bool, true, false, cond}
 use mathlib.Core.List.{[], _∷_}
-use Prim.Native.Nat.{ℕ, _+_, _*_, _/_, _%_, _^_, _≤_, _<_}
-use native.Mathlib.Nat.{mul-pos, mul-le-mul-right}
+use Prim.Native.Nat.{ℕ, _+_, _*_, _/_, _%_, _≤_, _<_}
+use native.Mathlib.Nat.{le-refl, mul-pos, mul-le-mul-right}
 use native.Mathlib.Omega.{arith}
 use lib.Dec.{eqb, lit≤, lit<}
 use lib.ListN.{getD}
@@ -17,7 +17,7 @@ use Rattle.fractions.proofs.Within.{within-same, within-refl, within-computed}
 use Rattle.series.specs.Sums.{factorial, power, term, sineSum, cosineSum, Wave, sine, cosine, sum}
 use Rattle.series.specs.Angles.{turned, around, reduced, degree, radians, isMultiple, quarters, exact, defined}
 use Rattle.series.proofs.Terms.{sum-same, sum-pos, mirrored, sum-opposite}
-use Rattle.series.proofs.Sums.{half, parts, Half, sum-squares, sum-size}
+use Rattle.series.proofs.Sums.{half, quarter, parts, Half, sum-squares}
 use Rattle.series.proofs.Reduction.{four, quarters-few, quarters-times, turned-less, reduced-around, by-side, around-size, around-pos}
 
 -- ---- degrees as radians
@@ -38,11 +38,18 @@ pub radians-pos : (d : Fraction) → 0 < d .over → 0 < radians d .over
 unfolding radians
 radians-pos d D = mul-pos D (lit< tt)
 
-half-nat : (p m o H P : ℕ) → p * 1 ≤ m * 1 + 180 * o → p * H * P ≤ m * H * P + H * (o * (180 * P))
-half-nat p m o H P h = omega (arith, mul-le-mul-right (H * P) h)
+size-nat : (p m o H P n q : ℕ) → p * 1 ≤ m * 1 + n * o → n * H ≤ 180 * q → p * H * P ≤ m * H * P + q * (o * (180 * P))
+size-nat p m o H P n q h k = omega (arith, mul-le-mul-right (H * P) h, mul-le-mul-right (o * P) k)
+
+radians-size : (d : Fraction) {n q : ℕ} → n * half ≤ 180 * q → Size 1 d n → Size parts (radians d) q
+radians-size d {n} {q} k h =
+    rw (radians-is d) (record { above = size-nat (d .plus) (d .minus) (d .over) half parts n q (h .above) k; below = size-nat (d .minus) (d .plus) (d .over) half parts n q (h .below) k })
 
 pub radians-half : (d : Fraction) → Size 1 d 180 → Half (radians d)
-radians-half d h = rw (radians-is d) (record { above = half-nat (d .plus) (d .minus) (d .over) half parts (h .above); below = half-nat (d .minus) (d .plus) (d .over) half parts (h .below) })
+radians-half d = radians-size d (le-refl (180 * half))
+
+pub radians-quarter : (d : Fraction) → Size 1 d 90 → Size parts (radians d) quarter
+radians-quarter d = radians-size d (unfold half quarter in (lit≤ tt))
 
 -- a sum at d degrees
 abbrev pub wave : Wave → Fraction → Fraction
@@ -119,40 +126,18 @@ defined-sum w d D = rw (defined-place w d, reduced-around d) (place-sum w (turne
 pub defined-pos : (w : Wave) (d : Fraction) → 0 < d .over → 0 < defined w d .over
 defined-pos w d D = defined-sum w d D .first
 
--- ---- sizes
-
-exact-size : (w : Wave) (k : ℕ) → k < 4 → Size (2 ^ 50) (exact-at w k) (2 ^ 50 + 1)
-exact-size sine =
-    four (λ (k : ℕ). Size (2 ^ 50) (exact-at sine k) (2 ^ 50 + 1))
-    (record { above = lit≤ tt; below = lit≤ tt }) (record { above = lit≤ tt; below = lit≤ tt }) (record { above = lit≤ tt; below = lit≤ tt }) (record { above = lit≤ tt; below = lit≤ tt })
-exact-size cosine =
-    four (λ (k : ℕ). Size (2 ^ 50) (exact-at cosine k) (2 ^ 50 + 1))
-    (record { above = lit≤ tt; below = lit≤ tt }) (record { above = lit≤ tt; below = lit≤ tt }) (record { above = lit≤ tt; below = lit≤ tt }) (record { above = lit≤ tt; below = lit≤ tt })
+-- ---- the sum of the squares
 
 exact-squares : (k : ℕ) → k < 4 → Within 50 (square (exact-at sine k) ⊕ square (exact-at cosine k)) (whole 1)
 exact-squares =
     four (λ (k : ℕ). Within 50 (square (exact-at sine k) ⊕ square (exact-at cosine k)) (whole 1)) (within-computed 50 _ _ tt) (within-computed 50 _ _ tt) (within-computed 50 _ _ tt) (within-computed 50 _ _ tt)
 
-module _ (d : Fraction) (D : 0 < d .over) where
-  angle : Fraction
-  angle = around (turned d) (d .over)
-
-  angle-half : Half (radians angle)
-  unfolding angle
-  angle-half = radians-half (around (turned d) (d .over)) (around-size (turned d) (d .over) (turned-less d D))
-
-  angle-pos : 0 < radians angle .over
-  unfolding angle
-  angle-pos = radians-pos (around (turned d) (d .over)) (around-pos (turned d) (d .over) D)
-
-  pub defined-size : (w : Wave) → Size (2 ^ 50) (defined w d) (2 ^ 50 + 1)
-  unfolding angle
-  defined-size w =
-      rw (defined-place w d)
-      (by-multiple (λ (f : Wave → Fraction). Size (2 ^ 50) (f w) (2 ^ 50 + 1)) (turned d) (d .over) D (turned-less d D) (λ k l e. exact-size w k l) (λ n. sum-size (radians angle) angle-pos angle-half w))
-
-  pub defined-squares : Within 50 (square (defined sine d) ⊕ square (defined cosine d)) (whole 1)
-  unfolding angle
-  defined-squares =
-      rw (defined-place sine d, defined-place cosine d)
-      (by-multiple (λ (f : Wave → Fraction). Within 50 (square (f sine) ⊕ square (f cosine)) (whole 1)) (turned d) (d .over) D (turned-less d D) (λ k l e. exact-squares k l) (λ n. sum-squares (radians angle) angle-pos angle-half))
+pub defined-squares : (d : Fraction) → 0 < d .over → Within 50 (square (defined sine d) ⊕ square (defined cosine d)) (whole 1)
+defined-squares d D =
+    let r = turned d in
+    let o = d .over in
+    let x = around r o in
+    let l = turned-less d D in
+    rw (defined-place sine d, defined-place cosine d)
+    (by-multiple (λ (f : Wave → Fraction). Within 50 (square (f sine) ⊕ square (f cosine)) (whole 1)) r o D l (λ k h e. exact-squares k h)
+    (λ n. sum-squares (radians x) (radians-pos x (around-pos r o D)) (radians-half x (around-size r o l))))

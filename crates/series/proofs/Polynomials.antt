@@ -1,9 +1,11 @@
 -- Polynomials as lists of whole coefficients, the lowest first, evaluated at a fraction x / d over the one denominator d ^ m: at a sum, a product, a fraction written larger, and a place shifted.
--- Everything here is an equation of values. Assumes nothing.
+-- Its laws are equations of values. Assumes nothing.
 use mathlib.Core.Path.{_≡_, refl}
 use mathlib.Core.List.{List, [], _∷_}
-use Prim.Native.Nat.{ℕ, zero, suc, _*_}
+use Prim.Native.Nat.{ℕ, zero, suc, _*_, _<_}
+use native.Mathlib.Nat.{mul-pos}
 use native.Mathlib.Omega.{arith}
+use lib.Dec.{lit<}
 use Rattle.series.proofs.Wholes.{Whole, nought, more, _⊞_, _⊠_, _·_, by-parts}
 
 -- d ^ m and n + m, which unfold at a variable
@@ -14,6 +16,11 @@ raised d (suc m) = d * raised d m
 unfoldable pub further : ℕ → ℕ → ℕ
 further zero m = m
 further (suc n) m = suc (further n m)
+
+pub raised-pos : (d m : ℕ) → 0 < d → 0 < raised d m
+unfolding raised
+raised-pos d zero h = lit< tt
+raised-pos d (suc m) h = mul-pos h (raised-pos d m h)
 
 pub raised-times : (k d m : ℕ) → raised (k * d) m ≡ raised k m * raised d m
 unfolding raised

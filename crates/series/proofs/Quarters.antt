@@ -2,7 +2,7 @@
 -- around 0 serves in front, and twice or three times over behind. Assumes nothing.
 use mathlib.Core.Path.{_≡_, refl}
 use Prim.Native.Nat.{ℕ, _+_, _*_, _^_, _≤_, _<_}
-use native.Mathlib.Nat.{mul-pos, mul-le-mul-right}
+use native.Mathlib.Nat.{mul-pos}
 use native.Mathlib.Decide.{decLe}
 use native.Mathlib.Omega.{arith}
 use lib.Dec.{lit<, lit≤}
@@ -16,25 +16,18 @@ use Rattle.series.specs.Angles.{reduced, Reduces, radians, defined}
 use Rattle.series.proofs.Terms.{sum-same}
 use Rattle.series.proofs.Sums.{half, quarter, parts, after, quarter-turn, sum-quarter}
 use Rattle.series.proofs.Reduction.{reduces, reduced-pos, reduced-unique}
-use Rattle.series.proofs.Places.{radians-is, radians-pos, wave, wave-pos, wave-same, wave-opposite, defined-sum}
+use Rattle.series.proofs.Places.{radians-is, radians-pos, radians-quarter, wave, wave-pos, wave-same, wave-opposite, defined-sum}
 
 -- ---- the sums, from -180 to 180
-
-half-is : half ≡ 2 * quarter
-unfolding half quarter
-half-is = refl
-
-size-nat : (p m o Q P : ℕ) → p * 1 ≤ m * 1 + 90 * o → p * (2 * Q) * P ≤ m * (2 * Q) * P + Q * (o * (180 * P))
-size-nat p m o Q P h = omega (arith, mul-le-mul-right (Q * P) h)
-
-radians-quarter : (a : Fraction) → Size 1 a 90 → Size parts (radians a) quarter
-radians-quarter a h =
-    rw (radians-is a, half-is) (record { above = size-nat (a .plus) (a .minus) (a .over) quarter parts (h .above); below = size-nat (a .minus) (a .plus) (a .over) quarter parts (h .below) })
 
 more-nat : (p m o Q P : ℕ)
     → (90 * o + p * 1) * (2 * Q) * (P * (o * (180 * P))) + (0 * (o * (180 * P)) + m * (2 * Q) * P) * (1 * o * (180 * P))
     ≡ (Q * (o * (180 * P)) + p * (2 * Q) * P) * (1 * o * (180 * P)) + (0 * o + m * 1) * (2 * Q) * (P * (o * (180 * P)))
 more-nat p m o Q P = simp ring (omega arith)
+
+half-is : half ≡ 2 * quarter
+unfolding half quarter
+half-is = refl
 
 radians-more : (a : Fraction) → Same (radians (whole 90 ⊕ a)) (quarter-turn ⊕ radians a)
 radians-more a = rw (radians-is a, radians-is (whole 90 ⊕ a), half-is) (more-nat (a .plus) (a .minus) (a .over) quarter parts)

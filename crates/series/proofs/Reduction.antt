@@ -3,12 +3,13 @@
 use mathlib.Core.Path.{_≡_, refl, sym, ap, _∙_, subst}
 use mathlib.Core.Logic.{_⊎_, inl, inr}
 use mathlib.Core.Bool.{Bool, true, false, not, cond}
-use Prim.Native.Nat.{ℕ, zero, suc, _+_, _*_, _-_, _/_, _%_, _≤_, _<_}
+use Prim.Native.Nat.{ℕ, _+_, _*_, _-_, _/_, _%_, _≤_, _<_}
 use native.Mathlib.Nat.{le-of-lt, not-le-of-lt, add-lt-add-of-lt-of-le, add-right-cancel, mul-suc, mul-comm, mul-le-mul-left, mul-le-mul-right, mul-lt-mul-of-pos-right, eq-of-mul-eq-mul-right, mod-lt, mod-eq-of-lt, div-add-mod, div-lt-iff-lt-mul, add-mul-mod-self-left}
 use native.Mathlib.Decide.{decLt}
 use native.Mathlib.Omega.{arith}
 use lib.Dec.{T, leb, leb→le, nleb→lt}
-use Rattle.fractions.specs.Fraction.{Fraction, fraction, whole, opposite, _⊕_, Same}
+use borrow.Author.Count.{below-none, below-more}
+use Rattle.fractions.specs.Fraction.{Fraction, fraction, whole, opposite, _⊕_, Same, Less, AtMost}
 use Rattle.fractions.proofs.Ring.{ring}
 use Rattle.fractions.proofs.Close.{Close, Size}
 use Rattle.series.specs.Angles.{turned, around, reduced, Reduces}
@@ -80,8 +81,14 @@ by-side P r o f g = go (leb r (180 * o)) (leb→le r (180 * o)) (nleb→lt r (18
     go true l h = f (l tt)
     go false l h = g (h tt)
 
+pub low-size : (r o : ℕ) → r ≤ 180 * o → Size 1 (fraction r 0 o) 180
+low-size r o h = record { above = omega arith; below = omega arith }
+
+pub high-size : (r o : ℕ) → 180 * o < r → r < 360 * o → Size 1 (fraction r (360 * o) o) 180
+high-size r o h l = record { above = omega arith; below = omega arith }
+
 pub around-size : (r o : ℕ) → r < 360 * o → Size 1 (around r o) 180
-around-size r o h = by-side (λ (x : Fraction). Size 1 x 180) r o (λ l. record { above = omega arith; below = omega arith }) (λ l. record { above = omega arith; below = omega arith })
+around-size r o h = by-side (λ (x : Fraction). Size 1 x 180) r o (low-size r o) (λ l. high-size r o l h)
 
 pub around-pos : (r o : ℕ) → 0 < o → 0 < around r o .over
 around-pos r o h = by-side (λ (x : Fraction). 0 < x .over) r o (λ l. h) (λ l. h)
@@ -151,6 +158,10 @@ reduced-unique d r s D R S g h =
     go (under l) =
         absurd (far (s .plus) (s .minus) (s .over) (r .plus) (r .minus) (r .over) S R (omega (arith, h .most)) (omega (arith, g .above)) (subst (λ (n : ℕ). r .plus * s .over + s .minus * r .over + 360 * n ≤ s .plus * r .over + r .minus * s .over) (mul-comm (r .over) (s .over)) l))
 
+-- so an angle that is reduced already stays
+pub reduced-itself : (d : Fraction) → 0 < d .over → Less (opposite (whole 180)) d → AtMost d (whole 180) → Same (reduced d) d
+reduced-itself d D l h = reduced-unique d (reduced d) d D (reduced-pos d D) D (reduces d D) (record { turns = (0, 0, refl); above = l; most = h })
+
 -- ---- angles near each other are turned to places near each other, beside or on the two sides of 0
 
 -- with a and b for the places, over n: |a - b|, or a turn less it, is e / w at most
@@ -208,14 +219,7 @@ turned-opposite d D =
 -- ---- a place that is a multiple of 90 is one of four
 
 pub four : (P : ℕ → Type 0) → P 0 → P 1 → P 2 → P 3 → (k : ℕ) → k < 4 → P k
-four P a b c d zero h = a
-four P a b c d (suc zero) h = b
-four P a b c d (suc (suc zero)) h = c
-four P a b c d (suc (suc (suc zero))) h = d
-four P a b c d (suc (suc (suc (suc k)))) h = absurd (none k h)
-  where
-    none : (k : ℕ) → suc (suc (suc (suc k))) < 4 → ⊥
-    none k h = omega arith
+four P at0 at1 at2 at3 = below-more P 3 (below-more P 2 (below-more P 1 (below-more P 0 (below-none P) at0) at1) at2) at3
 
 module _ (r o : ℕ) (O : 0 < o) (h : r < 360 * o) where
   pub quarters-few : r / (90 * o) < 4

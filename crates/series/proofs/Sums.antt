@@ -1,4 +1,4 @@
--- The laws of the two sums at fractions of radians, up to half a turn: how large they are, how steep, that the sum of their squares is 1, and what a quarter turn more makes of them. P is half a turn. Assumes nothing.
+-- The laws of the two sums at fractions of radians, up to half a turn: how steep they are, that the sum of their squares is 1, and what a quarter turn more makes of them. P is half a turn. Assumes nothing.
 use mathlib.Core.Path.{_≡_, refl, ap, _∙_, subst}
 use mathlib.Core.List.{List, [], _∷_}
 use Prim.Native.Nat.{ℕ, _+_, _*_, _/_, _^_, _≤_, _<_}
@@ -9,14 +9,14 @@ use Rattle.fractions.specs.Fraction.{Fraction, fraction, whole, opposite, squar
 use Rattle.fractions.proofs.Ring.{ring}
 use Rattle.fractions.proofs.Order.{same-sym, same-trans, same-add}
 use Rattle.fractions.proofs.Restate.{same-opposite, same-square}
-use Rattle.fractions.proofs.Close.{Close, Size, close-same, size-same}
+use Rattle.fractions.proofs.Close.{Close, Size, close-same}
 use Rattle.fractions.proofs.Within.{close-within}
 use Rattle.series.specs.Angles.{degree}
 use Rattle.series.specs.Sums.{factorial, Wave, sine, cosine, sum}
-use Rattle.series.proofs.Wholes.{Whole, more, less, _⊞_, _⊟_, _⊠_, _·_, size, Bounded, by-parts, bounded-scale, root-bounded}
-use Rattle.series.proofs.Polynomials.{raised, raised-times, raised-further, further, value, add, times, product, Fits, linear, shifted, value-larger, value-constant, value-add, value-times, value-product, value-shifted}
+use Rattle.series.proofs.Wholes.{Whole, more, less, _⊞_, _⊟_, _⊠_, _·_, size, Bounded, by-parts, bounded-scale}
+use Rattle.series.proofs.Polynomials.{raised, raised-pos, raised-times, raised-further, further, value, add, times, product, Fits, linear, shifted, value-larger, value-constant, value-add, value-times, value-product, value-shifted}
 use Rattle.series.proofs.Bounds.{most, value-size, steepest, value-steep}
-use Rattle.series.proofs.Terms.{first, others, common, common-pos, monomial, share, gathered, coefficients, quotient, numerator, valued, raised-pos, valued-pos, sum-pos, sum-valued}
+use Rattle.series.proofs.Terms.{first, others, common, common-pos, monomial, share, gathered, coefficients, quotient, numerator, valued, valued-pos, sum-pos, sum-valued}
 
 -- document 01's half turn is half / parts, and a quarter turn quarter / parts
 unfoldable pub half : ℕ
@@ -39,7 +39,7 @@ Half x = Size parts x half
 
 -- ---- a sum over the denominator k * parts, k being f times that of x
 
-abbrev pub numerator-by : ℕ → Fraction → Whole
+abbrev numerator-by : ℕ → Fraction → Whole
 numerator-by f x = (f * parts) · numerator x
 
 unfoldable pub top : Wave → Whole → ℕ → Whole
@@ -129,7 +129,7 @@ module _ (w : Wave) {W E : ℕ} {x y : Fraction} (o : 0 < W) where
         below = le-of-mul-le-mul-left (steep-nat (u .minus) (u .plus) (v .minus) (v .plus) (d * e) parts W E N (s .down)) (mul-pos D parts-pos);
       })
 
--- ---- the sum of the squares is 1, for |x| ≤ P, and so neither is much above 1
+-- ---- the sum of the squares is 1, for |x| ≤ P
 
 fits : (w : Wave) → Fits 29 (coefficients w)
 unfolding Fits coefficients gathered share monomial first others add times
@@ -173,18 +173,6 @@ squares k z h =
     (small-step (2 ^ 50) (most 58 circle half parts) common (raised (k * parts) 29) (raised k 58) (raised parts 58) (raised (k * parts) 58) (value 58 circle z (k * parts))
     (raised-further (k * parts) 29 29) (raised-times k parts 58) circle-small (value-size half parts k 58 circle z h))
 
-bound : (w : Wave) (k : ℕ) (z : Whole) → Bounded z (k * half) → Bounded ((2 ^ 50) · top w z k) ((2 ^ 50 + 1) * bottom k)
-bound sine k z h = root-bounded (2 ^ 50) (bottom k) (top sine z k) (top cosine z k) (squares k z h)
-bound cosine k z h = root-bounded (2 ^ 50) (bottom k) (top cosine z k) (top sine z k) (omega (arith, squares k z h))
-
-squares-nat : (sp sm cp cm N e : ℕ) → e * (sp + cp + 0) ≤ e * (sm + cm + N) + N
-    → ((sp * N + cp * N) * 1 + 0 * (N * N)) * e ≤ (1 * (N * N) + (sm * N + cm * N) * 1) * e + 1 * (N * N * 1)
-squares-nat sp sm cp cm N e h = omega (arith, mul-le-mul-left N h)
-
-squares-nat' : (sp sm cp cm N e : ℕ) → e * (sp + cp + N) ≤ e * (sm + cm + 0) + N
-    → ((sp * N + cp * N) * 1 + 1 * (N * N)) * e ≤ (0 * (N * N) + (sm * N + cm * N) * 1) * e + 1 * (N * N * 1)
-squares-nat' sp sm cp cm N e h = omega (arith, mul-le-mul-left N h)
-
 module _ (x : Fraction) (X : 0 < x .over) (h : Half x) where
   pub sum-squares : Within 50 (square (sum sine x) ⊕ square (sum cosine x)) (whole 1)
   sum-squares =
@@ -199,23 +187,15 @@ module _ (x : Fraction) (X : 0 < x .over) (h : Half x) where
       let j : Same (sum cosine x) (quotient c N) = sum-over cosine x X 1 k (one-mul k) in
       let S = sum-pos sine x X in
       let C = sum-pos cosine x X in
-      close-within
-      (close-same (square (sum sine x) ⊕ square (sum cosine x)) (whole 1) (mul-pos (mul-pos S S) (mul-pos C C)) (lit< tt)
-      (same-add (square (sum sine x)) (square (quotient s N)) (square (sum cosine x)) (square (quotient c N)) (same-square (sum sine x) (quotient s N) i) (same-square (sum cosine x) (quotient c N) j)) refl
-      (record {
+      let n : Close (2 ^ 50) (square (quotient s N) ⊕ square (quotient c N)) (whole 1) 1 = record {
         first = mul-pos (mul-pos o o) (mul-pos o o);
         second = lit< tt;
-        above = squares-nat ((s ⊠ s) .plus) ((s ⊠ s) .minus) ((c ⊠ c) .plus) ((c ⊠ c) .minus) (N * N) (2 ^ 50) (q .up);
-        below = squares-nat' ((s ⊠ s) .minus) ((s ⊠ s) .plus) ((c ⊠ c) .minus) ((c ⊠ c) .plus) (N * N) (2 ^ 50) (q .down);
-      }))
-
-  pub sum-size : (w : Wave) → Size (2 ^ 50) (sum w x) (2 ^ 50 + 1)
-  sum-size w =
-      let k = x .over in
-      let z = numerator-by 1 x in
-      let N = bottom k in
-      let b = bound w k z (reached x 1 k (one-mul k) h) in
-      size-same (sum w x) (bottom-pos k X) (sum-pos w x X) (sum-over w x X 1 k (one-mul k)) (record { above = omega (arith, b .up); below = omega (arith, b .down) })
+        above = omega (arith, mul-le-mul-left (N * N) (q .up));
+        below = omega (arith, mul-le-mul-left (N * N) (q .down));
+      } in
+      close-within
+      (close-same (square (sum sine x) ⊕ square (sum cosine x)) (whole 1) (mul-pos (mul-pos S S) (mul-pos C C)) (lit< tt)
+      (same-add (square (sum sine x)) (square (quotient s N)) (square (sum cosine x)) (square (quotient c N)) (same-square (sum sine x) (quotient s N) i) (same-square (sum cosine x) (quotient c N) j)) refl n)
 
 -- ---- a quarter turn more: S(P / 2 + x) is C(x), and C(P / 2 + x) is -S(x), for |x| ≤ P / 2
 
@@ -227,16 +207,31 @@ after cosine f = opposite (f sine)
 abbrev pub quarter-turn : Fraction
 quarter-turn = fraction quarter 0 parts
 
--- the difference of a polynomial at x + quarter / parts and -c times another at x, times parts ^ 29
-unfoldable apart : List Whole → Whole → List Whole → List Whole
-apart us c vs = add (shifted quarter parts 29 us) (times (raised parts 29 · c) vs)
+-- the other wave, and what it is to be taken times so that the sum of the two is the difference
+abbrev other : Wave → Wave
+other sine = cosine
+other cosine = sine
 
-apart-is : (us : List Whole) (c : Whole) (vs : List Whole) (k : ℕ) (z : Whole)
-    → value 29 (apart us c vs) z (k * parts) ≡ raised parts 29 · (value 29 us (more (k * quarter) ⊞ z) (k * parts) ⊞ c ⊠ value 29 vs z (k * parts))
-unfolding apart
-apart-is us c vs k z =
-    rw (value-add z (k * parts) 29 (shifted quarter parts 29 us) (times (raised parts 29 · c) vs), value-shifted quarter parts k 29 us z, value-times z (k * parts) 29 (raised parts 29 · c) vs)
-    (by-parts (omega arith) (omega arith))
+abbrev against : Wave → Whole
+against sine = less 1
+against cosine = more 1
+
+-- that difference, of a sum at x + quarter / parts and what it is to be, times parts ^ 29
+unfoldable apart : Wave → List Whole
+apart w = add (shifted quarter parts 29 (coefficients w)) (times (raised parts 29 · against w) (coefficients (other w)))
+
+apart-small : (w : Wave) → 2 ^ 54 * most 29 (apart w) quarter parts ≤ common * raised parts 29 * raised parts 29
+unfolding apart shifted linear most size coefficients gathered share monomial first others add times common factorial quarter parts raised
+apart-small sine = lit≤ tt
+apart-small cosine = lit≤ tt
+
+apart-is : (w : Wave) (k : ℕ) (z : Whole) → value 29 (apart w) z (k * parts) ≡ raised parts 29 · (top w (more (k * quarter) ⊞ z) k ⊞ against w ⊠ top (other w) z k)
+unfolding apart top
+apart-is w k z =
+    let us = coefficients w in
+    let vs = coefficients (other w) in
+    let c = raised parts 29 · against w in
+    rw (value-add z (k * parts) 29 (shifted quarter parts 29 us) (times c vs), value-shifted quarter parts k 29 us z, value-times z (k * parts) 29 c vs) (by-parts (omega arith) (omega arith))
 
 cancelled : (e a f K R : ℕ) (v : Whole) → 0 < R → e * a ≤ f * R * R → Bounded (R · v) (K * a) → Bounded (e · v) (f * (K * R))
 cancelled e a f K R v o h s = record {
@@ -244,25 +239,12 @@ cancelled e a f K R v o h s = record {
   down = le-of-mul-le-mul-left {k = R} (omega (arith, mul-le-mul-left K h, bounded-scale e (R · v) (K * a) s)) o;
 }
 
-quartered : (e : ℕ) (v w : Wave) (c : Whole) → e * most 29 (apart (coefficients v) c (coefficients w)) quarter parts ≤ common * raised parts 29 * raised parts 29
-    → (k : ℕ) (z : Whole) → Bounded z (k * quarter) → Bounded (e · (top v (more (k * quarter) ⊞ z) k ⊞ c ⊠ top w z k)) (bottom k)
-unfolding bottom top
-quartered e v w c q k z h =
-    let qs : List Whole = apart (coefficients v) c (coefficients w) in
+quartered : (w : Wave) (k : ℕ) (z : Whole) → Bounded z (k * quarter) → Bounded ((2 ^ 54) · (top w (more (k * quarter) ⊞ z) k ⊞ against w ⊠ top (other w) z k)) (bottom k)
+unfolding bottom
+quartered w k z h =
     rw (raised-times k parts 29)
-    (cancelled e (most 29 qs quarter parts) common (raised k 29) (raised parts 29) (top v (more (k * quarter) ⊞ z) k ⊞ c ⊠ top w z k) (raised-pos parts 29 parts-pos) q
-    (rw (apart-is (coefficients v) c (coefficients w) k z) at (value-size quarter parts k 29 qs z h)))
-
-sine-small : 2 ^ 54 * most 29 (apart (coefficients sine) (less 1) (coefficients cosine)) quarter parts ≤ common * raised parts 29 * raised parts 29
-unfolding apart shifted linear most size coefficients gathered share monomial first others add times common factorial quarter parts raised
-sine-small = lit≤ tt
-
-cosine-small : 2 ^ 54 * most 29 (apart (coefficients cosine) (more 1) (coefficients sine)) quarter parts ≤ common * raised parts 29 * raised parts 29
-unfolding apart shifted linear most size coefficients gathered share monomial first others add times common factorial quarter parts raised
-cosine-small = lit≤ tt
-
-quarter-nat : (up um vp vm N e : ℕ) → e * (up + vm) ≤ e * (um + vp) + N → (up * N + vm * N) * e ≤ (vp * N + um * N) * e + 1 * (N * N)
-quarter-nat up um vp vm N e h = omega (arith, mul-le-mul-left N h)
+    (cancelled (2 ^ 54) (most 29 (apart w) quarter parts) common (raised k 29) (raised parts 29) (top w (more (k * quarter) ⊞ z) k ⊞ against w ⊠ top (other w) z k) (raised-pos parts 29 parts-pos) (apart-small w)
+    (rw (apart-is w k z) at (value-size quarter parts k 29 (apart w) z h)))
 
 module _ (x : Fraction) (X : 0 < x .over) (h : Size parts x quarter) where
   shift-is : 1 · numerator (quarter-turn ⊕ x) ≡ more (x .over * quarter) ⊞ numerator-by 1 x
@@ -277,24 +259,17 @@ module _ (x : Fraction) (X : 0 < x .over) (h : Size parts x quarter) where
       let u = top w (more (x .over * quarter) ⊞ numerator-by 1 x) (x .over) in
       let N = bottom (x .over) in
       let o : 0 < N = bottom-pos (x .over) X in
-      close-within
-      (close-same (sum w (quarter-turn ⊕ x)) y (sum-pos w (quarter-turn ⊕ x) (mul-pos parts-pos X)) Y (sum-quarter-over w) (same-sym y (quotient v N) i)
-      (record {
-        first = o;
-        second = o;
-        above = quarter-nat (u .plus) (u .minus) (v .plus) (v .minus) N (2 ^ 54) (q .up);
-        below = quarter-nat (u .minus) (u .plus) (v .minus) (v .plus) N (2 ^ 54) (q .down);
-      }))
+      let n : Close (2 ^ 54) (quotient u N) (quotient v N) 1 = record { first = o; second = o; above = omega (arith, mul-le-mul-left N (q .up)); below = omega (arith, mul-le-mul-left N (q .down)) } in
+      close-within (close-same (sum w (quarter-turn ⊕ x)) y (sum-pos w (quarter-turn ⊕ x) (mul-pos parts-pos X)) Y (sum-quarter-over w) (same-sym y (quotient v N) i) n)
 
   pub sum-quarter : (w : Wave) → Within 54 (sum w (quarter-turn ⊕ x)) (after w (λ v. sum v x))
   sum-quarter sine =
       let k = x .over in
       let z = numerator-by 1 x in
-      quartered-within sine (sum cosine x) (top cosine z k) (sum-pos cosine x X) (sum-over cosine x X 1 k (one-mul k))
-      (omega (arith, quartered (2 ^ 54) sine cosine (less 1) sine-small k z (reached x 1 k (one-mul k) h)))
+      quartered-within sine (sum cosine x) (top cosine z k) (sum-pos cosine x X) (sum-over cosine x X 1 k (one-mul k)) (omega (arith, quartered sine k z (reached x 1 k (one-mul k) h)))
   sum-quarter cosine =
       let k = x .over in
       let z = numerator-by 1 x in
       let v = top sine z k in
       quartered-within cosine (opposite (sum sine x)) (record { plus = v .minus; minus = v .plus }) (sum-pos sine x X) (same-opposite (sum sine x) (quotient v (bottom k)) (sum-over sine x X 1 k (one-mul k)))
-      (omega (arith, quartered (2 ^ 54) cosine sine (more 1) cosine-small k z (reached x 1 k (one-mul k) h)))
+      (omega (arith, quartered cosine k z (reached x 1 k (one-mul k) h)))

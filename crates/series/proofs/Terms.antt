@@ -13,7 +13,7 @@ use Rattle.fractions.proofs.Restate.{opposite-⊗, ⊗-opposite, same-opposite,
 use Rattle.fractions.proofs.Order.{same-refl, same-trans, same-add, same-mul}
 use Rattle.series.specs.Sums.{factorial, power, term, sineSum, cosineSum, Wave, sine, cosine, sum}
 use Rattle.series.proofs.Wholes.{Whole, nought, more, less, _⊠_, _·_, by-parts}
-use Rattle.series.proofs.Polynomials.{raised, further, raised-further, value, add, times, value-none, value-add, value-times}
+use Rattle.series.proofs.Polynomials.{raised, raised-pos, further, raised-further, value, add, times, value-none, value-add, value-times}
 
 -- ---- a sum is its first term, and the others taken away and added in turn
 
@@ -39,17 +39,17 @@ unfolding sineSum cosineSum in-turn first others
 sum-in-turn sine x = refl
 sum-in-turn cosine x = refl
 
--- a test that every exponent passes
+-- a test that every exponent passes, computed (the kit's `all` does not unfold here)
 unfoldable every : (ℕ → Bool) → List ℕ → Bool
 every f [] = true
 every f (j ∷ js) = f j && every f js
 
 -- ---- its denominator
 
-power-pos : (x : Fraction) → 0 < x .over → (n : ℕ) → 0 < power x n .over
-unfolding power
-power-pos x X zero = lit< tt
-power-pos x X (suc n) = mul-pos X (power-pos x X n)
+power-over : (x : Fraction) (n : ℕ) → power x n .over ≡ raised (x .over) n
+unfolding power raised
+power-over x zero = refl
+power-over x (suc n) = ap (λ (t : ℕ). x .over * t) (power-over x n)
 
 factorial-pos : (n : ℕ) → 0 < factorial n
 unfolding factorial
@@ -58,7 +58,7 @@ factorial-pos (suc n) = mul-pos (zero-lt-suc n) (factorial-pos n)
 
 pub term-pos : (x : Fraction) → 0 < x .over → (n : ℕ) → 0 < term x n .over
 unfolding term
-term-pos x X n = rw (sub-zero (factorial n)) (mul-pos (power-pos x X n) (factorial-pos n))
+term-pos x X n = rw (sub-zero (factorial n), power-over x n) (mul-pos (raised-pos (x .over) n X) (factorial-pos n))
 
 pos-in-turn : (x : Fraction) → 0 < x .over → (s : Bool) (a : Fraction) → 0 < a .over → (js : List ℕ) → 0 < in-turn x s a js .over
 unfolding in-turn
@@ -148,18 +148,17 @@ abbrev pub mirrored : Wave → Fraction → Fraction
 mirrored sine x = opposite x
 mirrored cosine x = x
 
+opposite-sum : (w : Wave) (b : Bool) (x : Fraction) → odd (first w) ≡ b → T (every (alike b) (others w)) → sum w (opposite x) ≡ flipped b (sum w x)
+opposite-sum w b x e h =
+    sum-in-turn w (opposite x)
+    ∙ ap (λ (t : Fraction). in-turn (opposite x) true t (others w)) (term-opposite x (first w) b e)
+    ∙ opposite-in-turn x b true (term x (first w)) (others w) h
+    ∙ ap (flipped b) (sym (sum-in-turn w x))
+
 pub sum-opposite : (w : Wave) (x : Fraction) → sum w (opposite x) ≡ mirrored w (sum w x)
 unfolding first others odd every alike
-sum-opposite sine x =
-    sum-in-turn sine (opposite x)
-    ∙ ap (λ (t : Fraction). in-turn (opposite x) true t (others sine)) (term-opposite x 1 true refl)
-    ∙ opposite-in-turn x true true (term x 1) (others sine) tt
-    ∙ ap opposite (sym (sum-in-turn sine x))
-sum-opposite cosine x =
-    sum-in-turn cosine (opposite x)
-    ∙ ap (λ (t : Fraction). in-turn (opposite x) true t (others cosine)) (term-opposite x 0 false refl)
-    ∙ opposite-in-turn x false true (term x 0) (others cosine) tt
-    ∙ sym (sum-in-turn cosine x)
+sum-opposite sine x = opposite-sum sine true x refl tt
+sum-opposite cosine x = opposite-sum cosine false x refl tt
 
 -- ---- as polynomials with whole coefficients, over 28!
 
@@ -193,11 +192,6 @@ quotient v d = fraction (v .plus) (v .minus) d
 abbrev pub numerator : Fraction → Whole
 numerator x = record { plus = x .plus; minus = x .minus }
 
-power-over : (x : Fraction) (n : ℕ) → power x n .over ≡ raised (x .over) n
-unfolding power raised
-power-over x zero = refl
-power-over x (suc n) = ap (λ (t : ℕ). x .over * t) (power-over x n)
-
 value-monomial : (x : Fraction) (j m : ℕ) (c : Whole) → value (further j (suc m)) (monomial j c) (numerator x) (x .over) ≡ numerator (power x j) ⊠ (raised (x .over) (suc m) · c)
 unfolding value further monomial power
 value-monomial x zero m c = rw (value-none (numerator x) (x .over) m) (by-parts (omega arith) (omega arith))
@@ -223,11 +217,6 @@ others-apt : (w : Wave) → T (every apt (others w))
 unfolding apt others every further common factorial
 others-apt sine = tt
 others-apt cosine = tt
-
-pub raised-pos : (d m : ℕ) → 0 < d → 0 < raised d m
-unfolding raised
-raised-pos d zero h = lit< tt
-raised-pos d (suc m) h = mul-pos h (raised-pos d m h)
 
 pub common-pos : 0 < common
 unfolding common factorial

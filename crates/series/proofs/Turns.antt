@@ -6,15 +6,14 @@ use mathlib.Core.Bool.{Bool, cond}
 use Prim.Native.Nat.{ℕ, _+_, _*_, _-_, _/_, _%_, _≤_, _<_}
 use native.Mathlib.Nat.{mul-one, mul-assoc, mul-div-cancel, le-dest, le-of-lt, add-comm, add-mul, zero-mul, zero-mod, mul-pos, mul-le-mul-right, mul-lt-mul-of-pos-right, eq-of-mul-eq-mul-right, mul-mod-left}
 use native.Mathlib.Omega.{arith}
-use lib.Dec.{lit<}
+use lib.Dec.{T, eqb→eq, lit<}
 use borrow.Author.Tests.{eq-eqb}
 use Rattle.fractions.specs.Fraction.{Fraction, fraction, whole, opposite, _⊕_, Same}
-use Rattle.fractions.proofs.Ring.{ring}
 use Rattle.fractions.proofs.Order.{same-refl}
 use Rattle.series.specs.Sums.{Wave, sine, cosine}
-use Rattle.series.specs.Angles.{turned, around, defined}
+use Rattle.series.specs.Angles.{turned, around, isMultiple, defined}
 use Rattle.series.proofs.Terms.{mirrored}
-use Rattle.series.proofs.Reduction.{four, turned-less, turned-same, turned-apart, by-side, turned-opposite}
+use Rattle.series.proofs.Reduction.{four, quarters-times, turned-turns, turned-less, turned-same, turned-apart, by-side, turned-opposite}
 use Rattle.series.proofs.Places.{wave, wave-same, wave-opposite, exact-at, place, defined-place, by-multiple}
 
 -- ---- whole turns, and another name of the same angle
@@ -30,29 +29,20 @@ module _ (r o s o' : ℕ) (O : 0 < o) (O' : 0 < o') (e : r * o' ≡ s * o) where
       apart : (r o s o' : ℕ) → 0 < o → r * o' ≡ s * o → r ≤ 180 * o → 180 * o' < s → ⊥
       apart r o s o' O e h k = omega (arith, mul-le-mul-right o' h, mul-lt-mul-of-pos-right k O)
 
-  off : (k : ℕ) → r ≡ k * (90 * o) → s % (90 * o') ≡ 0
-  off k f = ap (λ (t : ℕ). t % (90 * o')) (eq-of-mul-eq-mul-right o O s (k * (90 * o')) (sym e ∙ ap (λ (t : ℕ). t * o') f ∙ turn k o o')) ∙ mul-mod-left k (90 * o')
-    where
-      turn : (k o o' : ℕ) → k * (90 * o) * o' ≡ k * (90 * o') * o
-      turn k o o' = simp ring
+  also-multiple : (k : ℕ) → r ≡ k * (90 * o) → s % (90 * o') ≡ 0
+  also-multiple k f = ap (λ (t : ℕ). t % (90 * o')) (eq-of-mul-eq-mul-right o O s (k * (90 * o')) (omega (arith, ap (λ (t : ℕ). t * o') f))) ∙ mul-mod-left k (90 * o')
 
-  level : (k l : ℕ) → r ≡ k * (90 * o) → s ≡ l * (90 * o') → k ≡ l
-  level k l f g = eq-of-mul-eq-mul-right (90 * (o * o')) (mul-pos {m = 90} (omega arith) (mul-pos O O')) k l (turn k o o' ∙ sym (ap (λ (t : ℕ). t * o') f) ∙ e ∙ ap (λ (t : ℕ). t * o) g ∙ back l o o')
-    where
-      turn : (k o o' : ℕ) → k * (90 * (o * o')) ≡ k * (90 * o) * o'
-      turn k o o' = simp ring
-
-      back : (l o o' : ℕ) → l * (90 * o') * o ≡ l * (90 * (o * o'))
-      back l o o' = simp ring
+  same-multiple : (k l : ℕ) → r ≡ k * (90 * o) → s ≡ l * (90 * o') → k ≡ l
+  same-multiple k l f g = eq-of-mul-eq-mul-right (90 * (o * o')) (mul-pos {m = 90} (lit< tt) (mul-pos O O')) k l (omega (arith, ap (λ (t : ℕ). t * o') f, ap (λ (t : ℕ). t * o) g))
 
 place-same : (w : Wave) (r o s o' : ℕ) → 0 < o → 0 < o' → r < 360 * o → s < 360 * o' → r * o' ≡ s * o → Same (place r o w) (place s o' w)
 place-same w r o s o' O O' h k e =
     by-multiple (λ (f : Wave → Fraction). Same (f w) (place s o' w)) r o O h
     (λ i a p. by-multiple (λ (g : Wave → Fraction). Same (exact-at w i) (g w)) s o' O' k
-    (λ j b q. subst (λ (n : ℕ). Same (exact-at w i) (exact-at w n)) (level r o s o' O O' e i j p q) (same-refl (exact-at w i)))
-    (λ n. absurd (n (off r o s o' O O' e i p))))
+    (λ j b q. subst (λ (n : ℕ). Same (exact-at w i) (exact-at w n)) (same-multiple r o s o' O O' e i j p q) (same-refl (exact-at w i)))
+    (λ n. absurd (n (also-multiple r o s o' O O' e i p))))
     (λ n. by-multiple (λ (g : Wave → Fraction). Same (wave w (around r o)) (g w)) s o' O' k
-    (λ j b q. absurd (n (off s o' r o O' O (sym e) j q)))
+    (λ j b q. absurd (n (also-multiple s o' r o O' O (sym e) j q)))
     (λ m. wave-same w (around r o) (around s o') (around-same r o s o' O O' e)))
 
 module _ (w : Wave) (d e : Fraction) (D : 0 < d .over) (E : 0 < e .over) where
@@ -68,7 +58,7 @@ module _ (w : Wave) (d e : Fraction) (D : 0 < d .over) (E : 0 < e .over) where
 
 -- ---- the opposite angle: its place and the angle's make up a turn, or both are 0
 
--- at i and j quarter turns
+-- at i quarter turns, and at as many as are left of a turn
 exact-opposite : (w : Wave) (i : ℕ) → i < 4 → Same (exact-at w ((4 - i) % 4)) (mirrored w (exact-at w i))
 exact-opposite sine = four (λ (i : ℕ). Same (exact-at sine ((4 - i) % 4)) (opposite (exact-at sine i))) refl refl refl refl
 exact-opposite cosine = four (λ (i : ℕ). Same (exact-at cosine ((4 - i) % 4)) (exact-at cosine i)) refl refl refl refl
@@ -125,8 +115,9 @@ defined-opposite w d D = rw (defined-place w d, defined-place w (opposite d)) (g
 
 -- ---- at 90 times a whole number
 
-turned-multiple : (d : Fraction) → 0 < d .over → (k : ℕ) → Same d (whole (90 * k)) → turned d ≡ k % 4 * (90 * d .over)
-turned-multiple d D k h = sym (mul-one (turned d)) ∙ turned-same d (whole (90 * k)) D (lit< tt) h ∙ ap (λ (r : ℕ). r * d .over) (whole-place k) ∙ mul-assoc (k % 4) 90 (d .over)
+turned-multiple : (d : Fraction) → 0 < d .over → (k i : ℕ) → Same d (fraction (90 * k) (90 * i) 1) → turned d ≡ (k + 3 * i) % 4 * (90 * d .over)
+turned-multiple d D k i h =
+    sym (mul-one (turned d)) ∙ turned-apart d (whole (90 * (k + 3 * i))) D (lit< tt) i 0 (omega arith) ∙ ap (λ (r : ℕ). r * d .over) (whole-place (k + 3 * i)) ∙ mul-assoc ((k + 3 * i) % 4) 90 (d .over)
   where
     whole-place : (k : ℕ) → turned (whole (90 * k)) ≡ k % 4 * 90
     whole-place k = unfold turned in (rest k)
@@ -134,11 +125,25 @@ turned-multiple d D k h = sym (mul-one (turned d)) ∙ turned-same d (whole (90 
         rest : (k : ℕ) → (90 * k + (360 - 0 % 360)) % 360 ≡ k % 4 * 90
         rest k = omega arith
 
-pub defined-multiple : (w : Wave) (d : Fraction) → 0 < d .over → (k : ℕ) → Same d (whole (90 * k)) → defined w d ≡ exact-at w (k % 4)
+-- at 90 (k - i): 90 i less is 270 i more
+pub defined-multiple : (w : Wave) (d : Fraction) → 0 < d .over → (k i : ℕ) → Same d (fraction (90 * k) (90 * i) 1) → defined w d ≡ exact-at w ((k + 3 * i) % 4)
 unfolding place
-defined-multiple w d D k h =
+defined-multiple w d D k i h =
     let o = d .over in
+    let q = (k + 3 * i) % 4 in
     let N : 0 < 90 * o = mul-pos {m = 90} (lit< tt) D in
-    defined-place w d ∙ ap (λ (r : ℕ). place r o w) (turned-multiple d D k h)
-    ∙ ap (λ (b : Bool). cond b (exact-at w (k % 4 * (90 * o) / (90 * o))) (wave w (around (k % 4 * (90 * o)) o))) (eq-eqb (k % 4 * (90 * o) % (90 * o)) 0 (mul-mod-left (k % 4) (90 * o)))
-    ∙ ap (exact-at w) (mul-div-cancel (k % 4) N)
+    defined-place w d ∙ ap (λ (r : ℕ). place r o w) (turned-multiple d D k i h)
+    ∙ ap (λ (b : Bool). cond b (exact-at w (q * (90 * o) / (90 * o))) (wave w (around (q * (90 * o)) o))) (eq-eqb (q * (90 * o) % (90 * o)) 0 (mul-mod-left q (90 * o)))
+    ∙ ap (exact-at w) (mul-div-cancel q N)
+
+-- and nowhere else: what `isMultiple` accepts is 90 times a whole number
+pub multiple-only : (d : Fraction) → 0 < d .over → T (isMultiple d) → (k : ℕ) × (i : ℕ) × Same d (fraction (90 * k) (90 * i) 1)
+unfolding isMultiple
+multiple-only d D h =
+    let t = turned-turns d D in
+    let o = d .over in
+    let q = turned d / (90 * o) in
+    (q + 4 * t .forth, 4 * t .back, is (d .plus) (d .minus) o (turned d) q (t .back) (t .forth) (quarters-times (turned d) o D (turned-less d D) (eqb→eq (turned d % (90 * o)) 0 h)) (t .round))
+  where
+    is : (p m o r q a b : ℕ) → r ≡ q * (90 * o) → p + 360 * o * a ≡ m + r + 360 * o * b → p * 1 + 90 * (4 * a) * o ≡ 90 * (q + 4 * b) * o + m * 1
+    is p m o r q a b e f = omega arith

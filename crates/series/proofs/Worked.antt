@@ -1,9 +1,8 @@
--- Some values, by computation: that the sums are what they look like, the defined values at some angles, and the three cosines of max-rE, whose angle is given in radians. Whether a number is near a sum at a
--- given fraction is decided by computing both (`within-computed`), so a crate above can have such a cosine as a literal. Assumes nothing.
+-- Some values, by computation: that the sums are what they look like, some reduced angles, and the defined values at some angles. Whether a number is near a sum at a given fraction is decided by
+-- computing both (`within-computed`), so a crate above can have a cosine, as those of max-rE, as a literal. Assumes nothing.
 use mathlib.Core.Path.{_≡_, refl}
-use Prim.Native.Nat.{ℕ, _*_, _^_}
-use lib.Ieee.{binary64, ofBits}
-use Rattle.fractions.specs.Fraction.{Fraction, fraction, whole, opposite, number, Same, Within}
+use Prim.Native.Nat.{_^_}
+use Rattle.fractions.specs.Fraction.{fraction, whole, opposite, Same, Within}
 use Rattle.series.specs.Sums.{factorial, power, term, sineSum, cosineSum}
 use Rattle.series.specs.Angles.{turned, around, reduced, radians, isMultiple, quarters, defined, definedSine, definedCosine}
 use Rattle.fractions.proofs.Within.{within-computed}
@@ -35,7 +34,7 @@ reduced-181-and-a-half : Same (reduced (fraction 363 0 2)) (fraction 0 357 2)
 unfolding reduced around turned
 reduced-181-and-a-half = refl
 
--- ---- the defined values at 90, 180, 270 and -90 are exact; at 30 the sine is 1 / 2 but for 2 ^ -62
+-- ---- the defined values at 90, 180, 270 and -180 are exact; at 30 the sine is 1 / 2 but for 2 ^ -62
 sine-90 : definedSine (whole 90) ≡ whole 1
 unfolding defined isMultiple quarters turned
 sine-90 = refl
@@ -55,19 +54,3 @@ cosine-minus-180 = refl
 sine-30 : Within 62 (definedSine (whole 30)) (fraction 1 0 2)
 unfolding defined isMultiple quarters turned reduced around radians sineSum term power factorial
 sine-30 = within-computed 62 _ _ tt
-
--- ---- max-rE: the cosine of A / (2 (N + 1)) radians, with A = 2.406184877014388, for N = 1, 2, 3. The floats nearest 0.8244615675902878, 0.9206590873000569 and 0.9551077341301053
-abbrev rE-angle : ℕ → Fraction
-rE-angle n = fraction 2406184877014388 0 (2 * n * 10 ^ 15)
-
-first-order : Within 54 (number (ofBits binary64 0x3FEA61FD39B37E66)) (cosineSum (rE-angle 2))
-unfolding cosineSum term power factorial ofBits
-first-order = within-computed 54 _ _ tt
-
-second-order : Within 54 (number (ofBits binary64 0x3FED760A0BD701AA)) (cosineSum (rE-angle 3))
-unfolding cosineSum term power factorial ofBits
-second-order = within-computed 54 _ _ tt
-
-third-order : Within 54 (number (ofBits binary64 0x3FEE903E1847DADA)) (cosineSum (rE-angle 4))
-unfolding cosineSum term power factorial ofBits
-third-order = within-computed 54 _ _ tt

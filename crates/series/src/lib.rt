@@ -4,8 +4,8 @@
 // What a reader has to believe are specs/Sums.antt, the two sums at a fraction of radians, and
 // specs/Angles.antt, the defined values at a fraction of degrees. Both are said of any fraction, so that a
 // crate above can speak of the sine of an angle that is no float, as 3a or 90 - d. What it may then use is
-// in proofs/Laws.antt; no law there asks on which side of 180 an angle lies, or whether it is a multiple
-// of 90:
+// in proofs/Laws.antt (a program that computes the sums has proofs/Nested.antt and proofs/Reduction.antt
+// too); no law there asks on which side of 180 an angle lies, or whether it is a multiple of 90:
 //
 //   |S|, |C| ≤ 1 + 2^-50                          S² + C² = 1, up to 2^-50
 //   two angles t degrees apart                    values t / 4 + 2^-52 apart at most
