@@ -3,15 +3,15 @@
 use mathlib.Core.Path.{_≡_, refl, sym, subst}
 use mathlib.Core.Bool.{Bool, true, false, _&&_}
 use mathlib.Core.List.{List, [], _∷_, map}
-use Prim.Native.Nat.{_+_, _*_, _<_}
+use Prim.Native.Nat.{_<_}
 use native.Mathlib.Nat.{mul-pos}
 use native.Mathlib.Omega.{arith}
-use lib.Dec.{T, eqb, eqb→eq, lit<, lit≤}
+use lib.Dec.{T, lit<, lit≤}
 use lib.Ieee.Fits.{and-l, and-r}
 use lib.Ieee.{Float, fin, binary64, round, add, sub, mul, div, neg, lt, le, eq, ofInt}
 use lib.IntN.{pos}
 use Rattle.fractions.specs.Fraction.{Fraction, number, whole, magnitude, _⊗_, Same, AtMost}
-use Rattle.fractions.proofs.Order.{same-sym, same-trans}
+use Rattle.fractions.proofs.Order.{same-sym, same-trans, isSame, same-computed}
 use Rattle.fractions.proofs.Operations.{mul-result}
 use Rattle.fractions.proofs.Exact.{result-exact}
 use Rattle.fractions.proofs.Held.{whole-held, same-held}
@@ -31,16 +31,13 @@ use Rattle.harmonics.proofs.Near.{single}
 -- of closed numbers it is decided by computing
 abbrev pub isAlike : List Fraction → List Fraction → Bool
 isAlike [] [] = true
-isAlike (x ∷ xs) (y ∷ ys) = eqb (x .plus * y .over + y .minus * x .over) (y .plus * x .over + x .minus * y .over) && isAlike xs ys
+isAlike (x ∷ xs) (y ∷ ys) = isSame x y && isAlike xs ys
 isAlike [] (y ∷ ys) = false
 isAlike (x ∷ xs) [] = false
 
 pub alike : (xs ys : List Fraction) → T (isAlike xs ys) → Alike xs ys
 alike [] [] t = tt
-alike (x ∷ xs) (y ∷ ys) t =
-    let a = x .plus * y .over + y .minus * x .over in
-    let b = y .plus * x .over + x .minus * y .over in
-    (eqb→eq a b (and-l (eqb a b) (isAlike xs ys) t), alike xs ys (and-r (eqb a b) (isAlike xs ys) t))
+alike (x ∷ xs) (y ∷ ys) t = (same-computed x y (and-l (isSame x y) (isAlike xs ys) t), alike xs ys (and-r (isSame x y) (isAlike xs ys) t))
 alike [] (y ∷ ys) t = absurd t
 alike (x ∷ xs) [] t = absurd t
 

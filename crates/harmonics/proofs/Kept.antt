@@ -3,9 +3,8 @@ use mathlib.Core.Path.{_≡_, refl, sym, ap, _∙_, subst}
 use mathlib.Core.Bool.{Bool, true, false, cond}
 use mathlib.Core.List.{List}
 use Prim.Native.Nat.{ℕ, _<_}
-use lib.Dec.{eqb, lit≤}
+use lib.Dec.{eqb, lit<, lit≤}
 use lib.ListN.{length}
-use lib.IntN.{pos}
 use lib.Ieee.{Float, ofInt}
 use Rattle.refusals.proofs.First.{passed, or-off}
 use Rattle.channel.specs.Orders.{refusesOrder}
@@ -16,7 +15,7 @@ use Rattle.fractions.proofs.Close.{size-wider}
 use Rattle.fractions.proofs.Within.{at-most-size, size-at-most}
 use Rattle.harmonics.specs.Formulas.{formulas}
 use Rattle.harmonics.specs.Computed.{wavesOf, upTo, gainsOf}
-use Rattle.harmonics.specs.Promise.{gainBits, refusesAzimuth, refusesElevation, refusesDirection, refusalOf, silence, outcome, Promise}
+use Rattle.harmonics.specs.Promise.{gainBits, degrees, refusesAzimuth, refusesElevation, refusesDirection, refusalOf, silence, outcome, Promise}
 use Rattle.harmonics.specs.declared.Direction.{Direction}
 use Rattle.harmonics.specs.declared.Coefficients.{Coefficients}
 use Rattle.angles.proofs.Limits.{accepted-number, accepted-size}
@@ -42,10 +41,10 @@ module _ (order : ℕ) (d : Direction) where
       let n = or-off (refusesAzimuth (d .azimuth)) (refusesElevation (d .elevation)) (t .1) in
       record {
         order-is = t .0;
-        azimuth = accepted-number false 45 (pos 2) (d .azimuth) (n .0);
-        azimuth-size = accepted-size false 45 (pos 2) (d .azimuth) (n .0);
-        elevation = accepted-number false 45 (pos 1) (d .elevation) (n .1);
-        elevation-size = accepted-size false 45 (pos 1) (d .elevation) (n .1);
+        azimuth = accepted-number (degrees 180) (d .azimuth) (n .0);
+        azimuth-size = accepted-size (degrees 180) (d .azimuth) (lit< tt) (n .0);
+        elevation = accepted-number (degrees 90) (d .elevation) (n .1);
+        elevation-size = accepted-size (degrees 90) (d .elevation) (lit< tt) (n .1);
       }
 
   -- ---- the answer by the two tests

@@ -6,7 +6,6 @@ use mathlib.Core.List.{List}
 use Prim.Native.Nat.{ℕ, _≤_, _<_}
 use native.Mathlib.Omega.{arith}
 use lib.Dec.{lit<}
-use lib.IntN.{pos}
 use lib.ListN.{length, getD}
 use lib.Ieee.{Float, binary64, round, ofInt}
 use lib.Ieee.Exact.{HasValue}
@@ -19,7 +18,7 @@ use Rattle.fractions.proofs.Within.{size-at-most}
 use Rattle.fractions.proofs.Number.{value-same, value-number}
 use Rattle.harmonics.specs.Formulas.{formulas}
 use Rattle.harmonics.specs.Computed.{wavesOf, upTo}
-use Rattle.harmonics.specs.Promise.{refusesAzimuth, refusesElevation, refusesDirection, refusalOf, outcome, Promise}
+use Rattle.harmonics.specs.Promise.{degrees, refusesAzimuth, refusesElevation, refusesDirection, refusalOf, outcome, Promise}
 use Rattle.harmonics.specs.declared.Direction.{Direction}
 use Rattle.harmonics.specs.declared.Coefficients.{Coefficients}
 use Rattle.angles.proofs.Limits.{accepted-number, accepted-size, size-accepted}
@@ -29,19 +28,18 @@ use Rattle.harmonics.proofs.Kept as Kept
 module _ (x : Float) (X : 0 < number x .over) where
   azimuth-accepted : AtMost (magnitude (number x)) (whole 180) → refusesAzimuth x ≡ false
   unfolding ofInt
-  azimuth-accepted = size-accepted false 45 (pos 2) x X
+  azimuth-accepted = size-accepted (degrees 180) x (lit< tt) X
 
   pub elevation-accepted : AtMost (magnitude (number x)) (whole 90) → refusesElevation x ≡ false
   unfolding ofInt
-  elevation-accepted = size-accepted false 45 (pos 1) x X
+  elevation-accepted = size-accepted (degrees 90) x (lit< tt) X
 
 pub azimuth-number : (x : Float) → refusesAzimuth x ≡ false → 0 < number x .over
-unfolding ofInt
-azimuth-number = accepted-number false 45 (pos 2)
+azimuth-number = accepted-number (degrees 180)
 
 pub azimuth-size : (x : Float) → refusesAzimuth x ≡ false → AtMost (magnitude (number x)) (whole 180)
 unfolding ofInt
-azimuth-size = accepted-size false 45 (pos 2)
+azimuth-size x = accepted-size (degrees 180) x (lit< tt)
 
 -- whole degrees, of either sign
 module _ (s : Bool) (n : ℕ) (h : n ≤ 180) where

@@ -1,7 +1,7 @@
--- What the proofs of `harmonics` share. Crates above cite `Laws`, the drill table's items and `Unique`.
+-- What the proofs of `harmonics` share. Crates above cite `Laws` and the drill table's items.
 mod Near
-pub mod Kept
+mod Kept
 pub mod Laws
-pub mod Unique
+mod Unique
 pub mod Drill
 mod Refuted

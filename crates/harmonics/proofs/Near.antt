@@ -1,24 +1,22 @@
 -- Each computed coefficient is within 2 ^ -42 of document 01's formula, which is 5 in magnitude at most. The nine sines and cosines are known by the promise of `angles`, those of 2 and 3 times an angle carried
 -- from the rounded product to the exact one; the sixteen are then expressions over them, and their bound is computed. Assumes nothing.
 use mathlib.Core.Path.{_≡_, refl, sym, ap, _∙_, subst, subst₂}
-use mathlib.Core.Bool.{Bool, true, false, _&&_}
+use mathlib.Core.Bool.{false}
 use mathlib.Core.List.{List, [], _∷_, map}
-use Prim.Native.Nat.{ℕ, zero, suc, _^_, _≤_, _<_}
-use native.Mathlib.Nat.{not-suc-le-zero, le-of-suc-le-suc}
+use Prim.Native.Nat.{ℕ, _^_, _≤_, _<_}
 use lib.Dec.{T, lit≤, lit<}
 use lib.ListN.{length, getD, set}
 use lib.Ieee.{Float, binary64, mul, round}
-use lib.Ieee.Fits.{and-l, and-r}
 use Rattle.channel.specs.Orders.{refusesOrder}
 use Rattle.channel.proofs.Orders.{by-order}
-use Rattle.fractions.specs.Fraction.{Fraction, fraction, number, whole, unit, opposite, magnitude, square, _⊕_, _⊖_, _⊗_, _⊘_, AtMost}
+use Rattle.fractions.specs.Fraction.{Fraction, fraction, number, whole, magnitude, square, _⊖_, _⊗_, _⊘_, AtMost}
 use Rattle.fractions.specs.Approximates.{Approximates, EachWithin}
 use Rattle.fractions.proofs.Close.{size-mul, size-wider}
 use Rattle.fractions.proofs.Within.{at-most-size, size-at-most, whole-size}
 use Rattle.fractions.proofs.Restate.{part-⊗, ⊗-assoc}
-use Rattle.fractions.proofs.Expression.{Expression, literal, held, _-'_, _*'_, run, exact, passes, within, sized, approximates, pass, each-within, value, itself, negative-nat}
+use Rattle.fractions.proofs.Expression.{Expression, literal, held, _-'_, _*'_, run, exact, passes, within, all-pass, each-within, all-sized, each-approximates, value, itself}
 use Rattle.series.specs.Sums.{Wave, sine, cosine}
-use Rattle.series.specs.Angles.{defined}
+use Rattle.series.specs.Angles.{defined, definedMost}
 use Rattle.series.proofs.Laws.{defined-size}
 use Rattle.angles.specs.Promise.{outcome}
 use Rattle.angles.proofs.Laws.{outcome-kept, accepted, value-near, value-carried}
@@ -27,12 +25,9 @@ use Rattle.harmonics.specs.Computed.{sin, cos, wavesOf, upTo}
 use Rattle.harmonics.specs.Promise.{gainBits}
 use Rattle.harmonics.specs.declared.Direction.{Direction}
 
-abbrev pub most : Fraction
-most = whole 1 ⊕ unit 50
-
 -- ---- the sines and cosines of an angle, and of 2 or 3 times it
 module _ (w : Wave) (x : Float) (X : 0 < number x .over) (h : AtMost (magnitude (number x)) (whole 180)) where
-  pub single : Approximates 50 most (outcome w x .value) (defined w (number x))
+  pub single : Approximates 50 definedMost (outcome w x .value) (defined w (number x))
   single = record {
     near = value-near w x (outcome w x) (outcome-kept w x) (accepted x X (size-at-most (size-wider (at-most-size h) (lit≤ tt))));
     size = defined-size w (number x) X;
@@ -42,9 +37,9 @@ module _ (w : Wave) (x : Float) (X : 0 < number x .over) (h : AtMost (magnitude 
   in-range n l = size-at-most (size-mul 1079 (lit< tt) (lit≤ tt) (whole-size 1 n l) (at-most-size h))
 
   abbrev times : ℕ → Expression
-  times n = held false n 0 *' itself x (whole 180) (opposite (whole 180)) X h (negative-nat (number x .plus) (number x .minus) (number x .over) 180 0 1 h)
+  times n = held false n 0 *' itself x (whole 180) X h
 
-  multiple : (n k : ℕ) → n ≤ 3 → k ≤ 49 → T (passes binary64 k (times n)) → Approximates k most (outcome w (mul binary64 (round binary64 false n 1) x) .value) (defined w (whole n ⊗ number x))
+  multiple : (n k : ℕ) → n ≤ 3 → k ≤ 49 → T (passes binary64 k (times n)) → Approximates k definedMost (outcome w (mul binary64 (round binary64 false n 1) x) .value) (defined w (whole n ⊗ number x))
   multiple n k l m t =
       let y = mul binary64 (round binary64 false n 1) x in
       value-carried w y (outcome w y) (outcome-kept w y) (whole n ⊗ number x) m (within binary64 k (times n) t) (in-range n l)
@@ -117,17 +112,6 @@ module _ (s : Sines) where
   unfolding arranged formulasOver
   restated order = λ i. sixteen (whole 0) order (degree0 s) (degree1 s) (set (degree2 s) 2 (sixth-is i)) (set (degree3 s) 3 (twelfth-is i))
 
--- ---- a row of them: near and of a size, by one test
-abbrev all-sized : ℕ → ℕ → ℕ → List Expression → Bool
-all-sized k n d [] = true
-all-sized k n d (a ∷ l) = sized binary64 k n d a && all-sized k n d l
-
-each-approximates : (k n d : ℕ) (l : List Expression) → T (all-sized k n d l) → (i : ℕ) (x : Float) (q : Fraction) → i < length l
-    → Approximates k (fraction n 0 d) (getD (map (run binary64) l) i x) (getD (map exact l) i q)
-each-approximates k n d [] t i x q h = absurd (not-suc-le-zero h)
-each-approximates k n d (a ∷ l) t zero x q h = approximates binary64 k n d a (and-l (sized binary64 k n d a) (all-sized k n d l) t)
-each-approximates k n d (a ∷ l) t (suc i) x q h = each-approximates k n d l (and-r (sized binary64 k n d a) (all-sized k n d l) t) i x q (le-of-suc-le-suc h)
-
 -- ---- of an accepted direction
 
 -- the sixteen are near their formulas, all as promised, and each as a caller may use it
@@ -154,14 +138,14 @@ module _ (d : Direction) (A : 0 < number (d .azimuth) .over) (a : AtMost (magnit
 
   -- the expressions are what the program computes and, exactly, document 01's formulas, so the tests bound the one by the other
   tested : (n : ℕ) → map (run binary64) (expressions n known) ≡ upTo n (wavesOf d) → map exact (expressions n known) ≡ arranged sines n (sixth sines) (twelfth sines) → length (expressions n known) ≡ 16
-      → T (pass binary64 gainBits (expressions n known)) → T (all-sized 42 5 1 (expressions n known)) → Bounded d n
+      → T (all-pass binary64 gainBits (expressions n known)) → T (all-sized binary64 42 5 1 (expressions n known)) → Bounded d n
   tested n r p l s t =
       let e = p ∙ restated sines n in
       record {
         near = subst₂ (EachWithin gainBits) r e (each-within binary64 gainBits (expressions n known) s);
         each = λ i x q h.
             subst₂ (λ (xs : List Float) (qs : List Fraction). Approximates 42 (whole 5) (getD xs i x) (getD qs i q)) r e
-            (each-approximates 42 5 1 (expressions n known) t i x q (subst (λ (k : ℕ). i < k) (sym l) h));
+            (each-approximates binary64 42 5 1 (expressions n known) t i x q (subst (λ (k : ℕ). i < k) (sym l) h));
       }
 
   pub bounded : (n : ℕ) → refusesOrder n ≡ false → Bounded d n

@@ -1,11 +1,11 @@
 -- What the program computes, operation by operation, in f64. Nobody has to believe it: specs/Promise.antt ties the sixteen to document 01's formulas. Definitions only.
 use Prim.Native.Nat.{ℕ, _^_}
-use mathlib.Core.Bool.{false, cond}
+use mathlib.Core.Bool.{false}
 use mathlib.Core.List.{List, [], _∷_}
-use lib.Dec.{eqb}
 use lib.Ieee.{Float, binary64, round, sub, mul}
 use Rattle.series.specs.Sums.{sine, cosine}
 use Rattle.angles.specs.Promise.{outcome}
+use Rattle.channel.specs.Orders.{byOrder}
 use Rattle.harmonics.specs.Formulas.{sixteen}
 use Rattle.harmonics.specs.declared.Direction.{Direction}
 use Rattle.harmonics.specs.declared.Waves.{Waves}
@@ -80,4 +80,4 @@ upTo order w = sixteen (literal 0) order (degree0 w) (degree1 w) (degree2 w) (de
 
 -- as the program chooses it
 abbrev pub gainsOf : ℕ → Waves → List Float
-gainsOf order w = cond (eqb order 1) (upTo 1 w) (cond (eqb order 2) (upTo 2 w) (upTo 3 w))
+gainsOf order w = byOrder order (upTo 1 w) (upTo 2 w) (upTo 3 w)

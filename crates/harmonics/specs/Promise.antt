@@ -7,12 +7,13 @@ use mathlib.Core.List.{List, [], _∷_}
 use lib.Dec.{eqb}
 use lib.IntN.{pos}
 use lib.ListN.{replicate}
-use lib.Ieee.{Float, binary64, ofInt}
+use lib.Ieee.{Float}
 use Rattle.refusals.specs.Refusals.{firstOf, _when_}
 use Rattle.channel.specs.Orders.{refusesOrder}
 use Rattle.fractions.specs.Fraction.{number}
 use Rattle.fractions.specs.Approximates.{EachWithin}
 use Rattle.angles.specs.Limits.{refusesAngle}
+use Rattle.angles.specs.Promise.{float}
 use Rattle.harmonics.specs.Formulas.{formulas}
 use Rattle.harmonics.specs.Computed.{wavesOf, upTo}
 use Rattle.harmonics.specs.declared.Direction.{Direction}
@@ -25,7 +26,7 @@ gainBits = 34
 -- ---- refusals
 
 abbrev pub degrees : ℕ → Float
-degrees n = ofInt binary64 (pos n)
+degrees n = float (pos n)
 
 abbrev pub refusesAzimuth : Float → Bool
 refusesAzimuth a = refusesAngle (degrees 180) a

@@ -1,13 +1,12 @@
 -- The answers of the program are those promised: one that is refused, and one that is played. Assumes nothing.
-use mathlib.Core.Path.{_≡_, sym, _∙_, subst}
+use mathlib.Core.Path.{_≡_, sym, ap, _∙_, subst}
 use mathlib.Core.Bool.{true, false}
-use Prim.Native.Nat.{ℕ, _<_}
-use native.Mathlib.Omega.{arith}
+use Prim.Native.Nat.{_<_}
 use borrow.Author.Tests.{not-false}
-use lib.Dec.{T}
+use lib.Dec.{T, lit<}
 use lib.Ieee.{Float}
 use lib.Ieee.Scale.{finite}
-use Rattle.refusals.proofs.First.{stops, goes-on}
+use Rattle.refusals.proofs.First.{stops, goes-on, not-accepted}
 use Rattle.fractions.specs.Fraction.{number}
 use Rattle.fractions.proofs.Number.{finite-number}
 use Rattle.series.specs.Sums.{sine, cosine}
@@ -18,14 +17,15 @@ use Rattle.stereo.specs.Promise.{isRefused, refusalOf, played, refused, 
 use Rattle.stereo.proofs.Near.{gain-near}
 
 module _ (p : Float) where
-  never : refusalOf p ≡ 3 → refusalOf p ≡ 0 → ⊥
-  never h k = let e : _≡_ {A = ℕ} 3 0 = sym h ∙ k in omega arith
-
   pub refuses : isRefused p ≡ true → Pans p (refused 3)
   unfolding outcome
   refuses r =
       let three : refusalOf p ≡ 3 = stops 3 0 r in
-      record { is = sym (stops (refused 3) (played p) r); left = λ k. absurd (never three k); right = λ k. absurd (never three k) }
+      record {
+        is = sym (stops (refused (refusalOf p)) (played p) r ∙ ap refused three);
+        left = λ k. absurd (not-accepted 3 (lit< tt) three k);
+        right = λ k. absurd (not-accepted 3 (lit< tt) three k);
+      }
 
   -- c is the clamped position
   pub plays : (c : Float) (l r : Answer) → isRefused p ≡ false → c ≡ clampedTo p → Promise cosine (angleFrom c) l → Promise sine (angleFrom c) r → Pans p (record { refusal = 0; left = l .value; right = r .value })
@@ -35,7 +35,7 @@ module _ (p : Float) where
       let b = subst (λ (z : Float). Promise sine (angleFrom z) r) e b' in
       let P : 0 < number p .over = finite-number p (subst T (sym (not-false (finite p) h)) tt) in
       record {
-        is = (λ i. record { refusal = 0; left = a .is i .value; right = b .is i .value }) ∙ sym (goes-on (refused 3) (played p) h);
+        is = (λ i. record { refusal = 0; left = a .is i .value; right = b .is i .value }) ∙ sym (goes-on (refused (refusalOf p)) (played p) h);
         left = λ k. gain-near p P cosine l a;
         right = λ k. gain-near p P sine r b;
       }

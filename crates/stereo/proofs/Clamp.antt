@@ -7,7 +7,7 @@ use lib.Dec.{lit<}
 use lib.IntN.{pos, negsuc}
 use lib.Ieee.{Float, lt, ofInt}
 use Rattle.fractions.specs.Fraction.{Fraction, whole, magnitude, number, isLess, AtMost}
-use Rattle.fractions.proofs.IsLess.{lt-number, less-false}
+use Rattle.fractions.proofs.Compare.{lt-number, less-false}
 use Rattle.angles.specs.Promise.{float}
 use Rattle.stereo.specs.Angle.{leftmost, rightmost, clamped}
 use Rattle.stereo.specs.Computed.{clampedTo}

@@ -1,7 +1,7 @@
--- The laws of the stereo gains. Crates above cite `Unique`.
+-- The laws of the stereo gains. The drill table and the panner cite `Drill`.
 mod Clamp
 mod Near
 mod Answers
-pub mod Unique
+mod Unique
 pub mod Drill
 mod Refuted

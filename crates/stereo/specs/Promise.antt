@@ -32,7 +32,7 @@ abbrev pub refused : ℕ → StereoGains
 refused n = record { refusal = n; left = Angles.zero; right = Angles.zero }
 
 unfoldable pub outcome : Float → StereoGains
-outcome p = cond (isRefused p) (refused 3) (played p)
+outcome p = cond (isRefused p) (refused (refusalOf p)) (played p)
 
 -- every bit of the answer; and of the gains at an accepted position how near they are to document 01's formula
 pub record Pans (p : Float) (answer : StereoGains) : Type 0 where

@@ -9,7 +9,7 @@
 //   the sine or cosine a degree's part off            a quarter of that, and 2^-52
 //   the program's sine or cosine                      2^-50
 //
-// Under it lie `angles` (the program's sine and cosine), `series` (the defined ones), `planes` (the finite test),
+// Under it lie `angles` (the program's sine and cosine), `series` (the defined ones), `checks` (the finite test),
 // `fractions` and `refusals`.
 ghost use mathlib.Core.Path.{_≡_};
 ghost use Rattle.stereo.specs.Computed.{clampedTo};
@@ -36,7 +36,7 @@ fn clamped(position: f64) -> f64
 pub fn calculate_stereo_gains(position: f64) -> StereoGains
     ensures { λ r. ⌜ Pans position r ⌝ }
 {
-    if !planes::is_finite(position) {
+    if !checks::is_finite(position) {
         return StereoGains {
             refusal: 3,
             left: 0.0,

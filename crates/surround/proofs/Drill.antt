@@ -17,7 +17,7 @@ use Rattle.angles.specs.Computed.{cut, place, short, times, radians, nesting, n
 use Rattle.angles.specs.Promise.{float, zero}
 use Rattle.angles.specs.Computed as Angles
 use Rattle.angles.specs.Limits.{isInside, refusesAngle}
-use Rattle.planes.specs.Tables.{tab}
+use Rattle.checks.specs.Tables.{tab}
 use Rattle.channel.specs.declared.Layout.the-variants.{Stereo, Surround51, Surround71, Custom}
 use Rattle.harmonics.specs.Promise.{silence}
 use Rattle.surround.specs.Formula.{distance, rawGain, rawAt, sumAt, isSilent}

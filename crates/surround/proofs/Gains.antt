@@ -4,18 +4,17 @@ use mathlib.Core.Path.{_≡_, refl, sym, ap, _∙_, subst, subst₂}
 use mathlib.Core.Logic.{_⊎_, inl, inr}
 use mathlib.Core.Bool.{Bool, true, false, _||_, not, cond}
 use Prim.Native.Nat.{ℕ, _+_, _*_, _/_, _^_, _≤_, _<_}
-use native.Mathlib.Nat.{zero-add, zero-mul, mul-pos, lt-irrefl}
+use native.Mathlib.Nat.{zero-add}
 use native.Mathlib.Omega.{arith}
-use borrow.Author.Tests.{lt-ltb, le-ltb, ne-eqb}
-use lib.Dec.{T, leb, ltb, ltb→lt, leb→le, lit<, lit≤}
+use borrow.Author.Tests.{lt-ltb, le-ltb}
+use lib.Dec.{T, leb, ltb, leb→le, lit<, lit≤}
 use lib.ListN.{getD, List·getD-eq-default}
-use lib.Ieee.{Float, nan, inf, fin, binary64, fits, up, down, round, size, span, climb, units, odd, div, ofInt}
-use lib.Ieee.Fits.{add-fits, up-pos}
+use lib.Ieee.{Float, nan, binary64, fits, div, ofInt}
+use lib.Ieee.Fits.{add-fits}
 use lib.Ieee.Positive.{positive}
-use lib.Ieee.Scale.{round-same}
 use Rattle.angles.specs.Promise.{zero}
 use Rattle.refusals.proofs.First.{stops, goes-on}
-use Rattle.fractions.specs.Fraction.{Fraction, whole, number, magnitude, square, AtMost, isLess}
+use Rattle.fractions.specs.Fraction.{Fraction, whole, number, magnitude, AtMost, isLess}
 use Rattle.fractions.specs.Squares.{BySquares, RootOf}
 use Rattle.fractions.proofs.Close.{Least}
 use Rattle.fractions.proofs.Within.{at-most-least}
@@ -23,23 +22,23 @@ use Rattle.fractions.proofs.Divide.{least-unit, least-near, least-positive}
 use Rattle.fractions.proofs.Operations.{number-positive}
 use Rattle.fractions.proofs.Near.{Near}
 use Rattle.fractions.proofs.Expression.{Expression, held, run, exact, scale, bound, sound, value}
-use Rattle.fractions.proofs.Sums.{squaresFrom, square-in-sum}
+use Rattle.fractions.proofs.Sums.{squaresFrom}
 use Rattle.fractions.proofs.Normalised.{root-error, root-near, normal, normalised, quotient-not-below}
 use Rattle.numbers.specs.Computed.{rootOf}
 use Rattle.numbers.proofs.Close.{root-close, root-positive}
-use Rattle.planes.specs.Tables.{tab}
-use Rattle.planes.proofs.Lists.{split}
-use Rattle.planes.proofs.Tables.{length-tab, getD-tab}
+use Rattle.numbers.proofs.Zeros.{zero-over}
+use Rattle.checks.specs.Tables.{tab}
+use Rattle.checks.proofs.Lists.{split}
+use Rattle.checks.proofs.Tables.{length-tab, getD-tab}
 use Rattle.channel.proofs.Counts.{by-surround}
 use Rattle.channel.specs.Layouts.{channelsOf, surround, lowFrequency}
 use Rattle.channel.specs.declared.Layout.{Layout}
 use Rattle.channel.specs.declared.Layout.the-variants.{Surround51, Surround71}
 use Rattle.surround.specs.Formula.{speakerAt, distance, rawAt, sumAt, isSilent}
-use Rattle.surround.specs.Formula as Formula
 use Rattle.surround.specs.Computed.{channelGain, rawGains, sumOf, dividedBy}
 use Rattle.surround.specs.Promise.{surroundBits, gainsOf, Gains}
-use Rattle.surround.proofs.Raw.{most, channel-known, channel-not-below, channel-silent, channel-low}
-use Rattle.surround.proofs.Clear.{clear}
+use Rattle.surround.proofs.Raw.{channel-raw, channel-silent, channel-low}
+use Rattle.surround.proofs.Clear.{channel-in-sum, clear}
 
 -- in units of 1 / scale: S is 3 / 100 at least, its root 17 / 100, and a gain 1 and a little at most
 abbrev leastSum : ℕ
@@ -51,23 +50,6 @@ leastRoot = 17 * scale / 100
 abbrev mostGain : ℕ
 mostGain = scale + 2 ^ 70
 
--- ---- 0.0 over a number above 0
-round-zero : round binary64 false 0 1 ≡ zero
-unfolding round size span climb units odd ofInt
-round-zero = refl
-
-zero-over : (r : Float) → T (positive r) → div binary64 zero r ≡ zero
-unfolding div ofInt
-zero-over nan p = absurd p
-zero-over (inf s) p = absurd p
-zero-over (fin true m e) p = absurd p
-zero-over (fin false m e) p =
-    let o : 0 < m * up e * 1 = mul-pos (mul-pos (ltb→lt 0 m p) (up-pos e)) (lit< tt) in
-    goes-on _ _ (ne-eqb m 0 (λ z. lt-irrefl 0 (subst (λ (k : ℕ). 0 < k) z (ltb→lt 0 m p))))
-    ∙ ap (λ (k : ℕ). round binary64 false k (m * up e * 1)) (zero-mul (down e))
-    ∙ round-same binary64 false 0 (m * up e * 1) 0 1 o (lit< tt) (sym (zero-mul (m * up e * 1)))
-    ∙ round-zero
-
 module _ (l : Layout) (a : Float) (A : 0 < number a .over) (H : AtMost (magnitude (number a)) (whole 180)) where
   abbrev n : ℕ
   n = channelsOf l
@@ -76,7 +58,7 @@ module _ (l : Layout) (a : Float) (A : 0 < number a .over) (H : AtMost (magnitud
   q = number a
 
   abbrev gain : ℕ → Expression
-  gain c = value (channel-known l a c A H)
+  gain c = value (channel-raw l a c A H .known)
 
   abbrev squares : Expression
   squares = squaresFrom (held false 0 0) (tab 0 n gain)
@@ -88,14 +70,14 @@ module _ (l : Layout) (a : Float) (A : 0 < number a .over) (H : AtMost (magnitud
   root = rootOf binary64 sum
 
   -- what a layout has to pass
-  pub record Passes : Type 0 where
-    pub good : T (bound binary64 squares .good)
-    pub clearly : T (leb (1 + bound binary64 squares .error) leastSum)
-    pub fine : T (normal binary64 surroundBits (bound binary64 (gain 0) .most) (bound binary64 (gain 0) .error) mostGain (root-error (2 ^ 53) (bound binary64 squares .most) (bound binary64 squares .error)) leastRoot leastSum)
-    pub run-is : run binary64 squares ≡ sum
-    pub exact-is : exact squares ≡ sumAt l q
-    pub fit : T (fits binary64 sum)
-    pub small : n ≤ 16
+  record Passes : Type 0 where
+    good : T (bound binary64 squares .good)
+    clearly : T (leb (1 + bound binary64 squares .error) leastSum)
+    fine : T (normal binary64 surroundBits (bound binary64 (gain 0) .most) (bound binary64 (gain 0) .error) mostGain (root-error (2 ^ 53) (bound binary64 squares .most) (bound binary64 squares .error)) leastRoot leastSum)
+    run-is : run binary64 squares ≡ sum
+    exact-is : exact squares ≡ sumAt l q
+    fit : T (fits binary64 sum)
+    small : n ≤ 16
 
   module _ (e : surround l ≡ true) (p : Passes) where
     sum-near : Near scale (number sum) (sumAt l q) (bound binary64 squares .most) (bound binary64 squares .error)
@@ -113,15 +95,18 @@ module _ (l : Layout) (a : Float) (A : 0 < number a .over) (H : AtMost (magnitud
     above-zero : T (positive root)
     above-zero = root-positive binary64 sum (p .fit) sum-positive
 
+    zero-divided : div binary64 zero root ≡ zero
+    unfolding ofInt
+    zero-divided = zero-over root above-zero
+
     -- ---- a channel
     near : (c : ℕ) → c < n → BySquares surroundBits (number (div binary64 (channelGain l a c) root)) (rawAt l q c) (sumAt l q)
     near c h =
         normalised binary64 surroundBits mostGain leastRoot (channelGain l a c) root (rawAt l q c) (sumAt l q) (p .fine) (sound binary64 (gain c) tt .near) (root-law .positive)
-        (root-near (2 ^ 53) (number root) (lit≤ tt) root-law sum-near) sum-least
-        (subst (λ (g : Fraction). AtMost (square g) (sumAt l q)) (getD-tab 0 n (rawAt l q) c (whole 0) h ∙ ap (rawAt l q) (zero-add c)) (square-in-sum (Formula.rawGains l q) c (whole 0) (omega (arith, length-tab 0 n (rawAt l q)))))
+        (root-near (2 ^ 53) (number root) (lit≤ tt) root-law sum-near) sum-least (channel-in-sum l q c h)
 
     not-below : (c : ℕ) → AtMost (whole 0) (number (div binary64 (channelGain l a c) root))
-    not-below c = quotient-not-below binary64 (channelGain l a c) root (channel-known l a c A H .near .first) above-zero (channel-not-below l a c A H)
+    not-below c = quotient-not-below binary64 (channelGain l a c) root (channel-raw l a c A H .known .near .first) above-zero (channel-raw l a c A H .not-below)
 
     -- ---- the sixteen places of the answer
     quotient : ℕ → Float
@@ -150,14 +135,14 @@ module _ (l : Layout) (a : Float) (A : 0 < number a .over) (H : AtMost (magnitud
     beyond-is c h = go (split c 16)
       where
         go : (c < 16) ⊎ (16 ≤ c) → getD (gainsOf l a) c zero ≡ zero
-        go (inl k) = place-is c k ∙ ap (λ (x : Float). div binary64 x root) (raw-is c k ∙ goes-on (channelGain l a c) zero (le-ltb c n h)) ∙ zero-over root above-zero
+        go (inl k) = place-is c k ∙ ap (λ (x : Float). div binary64 x root) (raw-is c k ∙ goes-on (channelGain l a c) zero (le-ltb c n h)) ∙ zero-divided
         go (inr k) = List·getD-eq-default (gainsOf l a) zero {n = c} (omega (arith, length-tab 0 16 quotient))
 
     zeroed : (c : ℕ) → channelGain l a c ≡ zero → getD (gainsOf l a) c zero ≡ zero
     zeroed c e = go (split c n)
       where
         go : (c < n) ⊎ (n ≤ c) → getD (gainsOf l a) c zero ≡ zero
-        go (inl h) = channel-is c h ∙ ap (λ (x : Float). div binary64 x root) e ∙ zero-over root above-zero
+        go (inl h) = channel-is c h ∙ ap (λ (x : Float). div binary64 x root) e ∙ zero-divided
         go (inr h) = beyond-is c h
 
     silent : (c : ℕ) → T (isSilent l q c) → getD (gainsOf l a) c zero ≡ zero

@@ -1,11 +1,11 @@
--- The laws of the surround gains. Crates above cite `Answers` (how many channels) and `Unique`.
+-- The laws of the surround gains. The drill table cites `Drill`.
 mod Speakers
 mod Ways
 mod Steps
 mod Raw
 mod Clear
 mod Gains
-pub mod Answers
-pub mod Unique
+mod Answers
+mod Unique
 pub mod Drill
 mod Refuted

@@ -1,9 +1,9 @@
 -- The raw gain of a speaker is within 2 ^ -47 of document 01's, and not below 0: the place that the program turns the speaker to is exact, and so is its test of nearness; the way to it and 90 less the way are
 -- rounded once each, and the slope of the cosine carries that over. Assumes nothing.
-use mathlib.Core.Path.{_≡_, refl, sym, ap, _∙_, subst}
+use mathlib.Core.Path.{_≡_, refl, sym, _∙_, subst}
 use mathlib.Core.Bool.{Bool, true, false, cond}
-use Prim.Native.Nat.{ℕ, suc, _+_, _-_, _*_, _^_, _≤_, _<_}
-use native.Mathlib.Nat.{mul-pos, mul-le-mul-right, le-of-mul-le-mul-right}
+use Prim.Native.Nat.{ℕ, suc, _+_, _*_, _^_, _<_}
+use native.Mathlib.Nat.{mul-pos}
 use native.Mathlib.Omega.{arith}
 use lib.Dec.{lit≤, lit<}
 use lib.IntN.{ℤ, pos, negsuc}
@@ -11,20 +11,19 @@ use lib.Ieee.{Float, binary64, lt, neg, add, sub, ofInt}
 use Rattle.fractions.specs.Fraction.{Fraction, fraction, whole, unit, opposite, magnitude, number, _⊕_, _⊖_, Same, Less, AtMost, isLess, Within}
 use Rattle.refusals.proofs.First.{stops, goes-on}
 use Rattle.fractions.specs.Approximates.{Approximates}
-use Rattle.fractions.proofs.Ring.{ring}
-use Rattle.fractions.proofs.Order.{same-refl, same-sym, at-most-same, less-at-most}
+use Rattle.fractions.proofs.Order.{same-refl, same-sym, at-most-trans, at-most-same, less-at-most}
 use Rattle.fractions.proofs.Restate.{same-sub}
-use Rattle.fractions.proofs.Close.{Close, Size, same-close, close-same, close-trans, close-sub, size-same, size-unit, size-near}
+use Rattle.fractions.proofs.Close.{Close, Size, same-close, close-same, close-trans, close-sub, size-same, size-unit, size-near, zero-near}
 use Rattle.fractions.proofs.Within.{within-refl, within-close, close-within, within-counted, counted-within, at-most-size, size-at-most}
-use Rattle.fractions.proofs.Magnitude.{close-magnitude}
+use Rattle.fractions.proofs.Magnitude.{magnitude-turned, magnitude-left, close-magnitude}
 use Rattle.fractions.proofs.Number.{number-neg}
-use Rattle.fractions.proofs.IsLess.{lt-number, less-true, less-false, is-less-same}
+use Rattle.fractions.proofs.Compare.{lt-number, less-true, less-false, is-less-same}
 use Rattle.fractions.proofs.Operations.{sub-result}
 use Rattle.fractions.proofs.Rounding.{rounding}
 use Rattle.fractions.proofs.Near.{result-close}
 use Rattle.fractions.proofs.Expression.{scale}
 use Rattle.series.specs.Sums.{cosine}
-use Rattle.series.specs.Angles.{definedCosine}
+use Rattle.series.specs.Angles.{definedCosine, definedMost}
 use Rattle.series.proofs.Laws.{defined-size, defined-close, rest-not-below}
 use Rattle.angles.specs.Promise as Angles
 use Rattle.angles.specs.Promise.{float, zero}
@@ -36,10 +35,7 @@ use Rattle.surround.specs.Computed.{absolute, notBelow, placeOf, isNear,
 use Rattle.surround.proofs.Speakers.{Exactly, Sides, Stands, speaker-stands}
 use Rattle.surround.proofs.Ways.{turnedTo, isBetween, Way, the-way}
 
-abbrev pub most : Fraction
-most = whole 1 ⊕ unit 50
-
-abbrev pub rawBits : ℕ
+abbrev rawBits : ℕ
 rawBits = 47
 
 -- in units of 1 / scale: what rounding moves the way to a speaker by, and 90 less the way
@@ -49,9 +45,18 @@ wayError = rounding binary64 (90 * scale)
 abbrev angleError : ℕ
 angleError = rounding binary64 (90 * scale + (0 + wayError)) + (0 + wayError)
 
-zero-is : number zero ≡ whole 0
+-- what is known of a raw gain: it is near its formula, and not below 0
+pub record Raw (x : Float) (q : Fraction) : Type 0 where
+  pub known : Approximates rawBits definedMost x q
+  pub not-below : AtMost (whole 0) (number x)
+
+zero-not-below : AtMost (whole 0) (number zero)
 unfolding ofInt
-zero-is = refl
+zero-not-below = lit≤ tt
+
+zero-raw : Raw zero (whole 0)
+unfolding ofInt
+zero-raw = record { known = record { near = within-refl rawBits (whole 0) (lit< tt); size = lit≤ tt }; not-below = zero-not-below }
 
 -- ---- comparing with what is exact
 module _ (a : Float) (A : 0 < number a .over) where
@@ -79,31 +84,6 @@ module _ (a : Float) (A : 0 < number a .over) where
   unfolding isNear
   near-test t q h = λ i. cond (above-test _ _ (h .below) i) (below-test _ _ (h .above) i) false
 
--- ---- the magnitude of a number, by its sign
-turned-nat : (p m o : ℕ) → p < m → m * o + 0 * o ≡ (p - m + (m - p)) * o + p * o
-turned-nat p m o h = let e : m ≡ p - m + (m - p) + p = omega arith in omega (arith, ap (λ (n : ℕ). n * o) e)
-
-left-nat : (p m o : ℕ) → m ≤ p → p * o + 0 * o ≡ (p - m + (m - p)) * o + m * o
-left-nat p m o h = let e : p ≡ p - m + (m - p) + m = omega arith in omega (arith, ap (λ (n : ℕ). n * o) e)
-
--- ---- what is within 2 ^ -k of a number below 0, and not far below 0 itself, is within 2 ^ -k of 0
-zero-nat : (xp xm xo qp qm qo W : ℕ) → xp * (qo * W) ≤ xm * (qo * W) → (xm * qo + qp * xo) * W ≤ (qm * xo + xp * qo) * W + 1 * (xo * qo) → (0 * qo + qp * 1) * W * xo ≤ ((qm * 1 + 0 * qo) * W + 1 * (1 * qo)) * xo
-zero-nat xp xm xo qp qm qo W h k = let k' = simp ring at k in simp ring (omega arith)
-
-zero-near : (W : ℕ) (x q : Fraction) → Close W x q 1 → Less x (whole 0) → AtMost (fraction 0 1 (8 * W)) q → Close W (whole 0) q 1
-zero-near W x q c h l = record {
-  first = lit< tt;
-  second = c .second;
-  above = other (q .plus) (q .minus) (q .over) l;
-  below = le-of-mul-le-mul-right (zero-nat (x .plus) (x .minus) (x .over) (q .plus) (q .minus) (q .over) W (mul-le-mul-right (q .over * W) (under x h)) (c .below)) (c .first);
-}
-  where
-    under : (x : Fraction) → Less x (whole 0) → x .plus ≤ x .minus
-    under x h = omega arith
-
-    other : (qp qm qo : ℕ) → 0 * qo + qm * (8 * W) ≤ qp * (8 * W) + 1 * qo → (0 * qo + qm * 1) * W ≤ (qp * 1 + 0 * qo) * W + 1 * (1 * qo)
-    other qp qm qo h = omega arith
-
 -- ---- the magnitude of a float
 module _ (x : Float) (X : 0 < number x .over) where
   sign-test : lt x zero ≡ isLess (number x) (whole 0)
@@ -115,15 +95,9 @@ module _ (x : Float) (X : 0 < number x .over) where
   absolute-same =
       subst (λ (b : Bool). Same (number (cond b (neg x) x)) (magnitude (number x))) (sym sign-test) (go (isLess (number x) (whole 0)) (less-true (number x) (whole 0)) (less-false (number x) (whole 0)))
     where
-      turned : (q : Fraction) → Less q (whole 0) → Same (opposite q) (magnitude q)
-      turned q h = turned-nat (q .plus) (q .minus) (q .over) (omega arith)
-
-      left : (q : Fraction) → AtMost (whole 0) q → Same q (magnitude q)
-      left q h = left-nat (q .plus) (q .minus) (q .over) (omega arith)
-
       go : (b : Bool) → (b ≡ true → Less (number x) (whole 0)) → (b ≡ false → AtMost (whole 0) (number x)) → Same (number (cond b (neg x) x)) (magnitude (number x))
-      go true f g = subst (λ (q : Fraction). Same q (magnitude (number x))) (sym (number-neg x)) (turned (number x) (f refl))
-      go false f g = left (number x) (g refl)
+      go true f g = subst (λ (q : Fraction). Same q (magnitude (number x))) (sym (number-neg x)) (magnitude-turned (number x) (f refl))
+      go false f g = magnitude-left (number x) (g refl)
 
   absolute-over : 0 < number (absolute x) .over
   unfolding absolute
@@ -134,26 +108,18 @@ module _ (x : Float) (X : 0 < number x .over) where
       go false = X
 
   -- ---- lifted to 0, near a number that is 0 at least, up to 2 ^ -50
-  lifted : (q : Fraction) → Approximates rawBits most x q → AtMost (opposite (unit 50)) q → Approximates rawBits most (notBelow x) q
+  zero-within : (q : Fraction) → Within rawBits (number x) q → Less (number x) (whole 0) → AtMost (opposite (unit 50)) q → Within rawBits (number zero) q
+  unfolding ofInt
+  zero-within q h s l = close-within (zero-near (number x) q (within-close h) (less-at-most (number x) (whole 0) s) (at-most-trans (opposite (unit rawBits)) (opposite (unit 50)) q (lit< tt) (lit≤ tt) l))
+
+  lifted : (q : Fraction) → Approximates rawBits definedMost x q → AtMost (opposite (unit 50)) q → Raw (notBelow x) q
   unfolding notBelow
   lifted q h l =
-      subst (λ (b : Bool). Approximates rawBits most (cond b zero x) q) (sym sign-test) (go (isLess (number x) (whole 0)) (less-true (number x) (whole 0)))
+      subst (λ (b : Bool). Raw (cond b zero x) q) (sym sign-test) (go (isLess (number x) (whole 0)) (less-true (number x) (whole 0)) (less-false (number x) (whole 0)))
     where
-      go : (b : Bool) → (b ≡ true → Less (number x) (whole 0)) → Approximates rawBits most (cond b zero x) q
-      go true f = record { near = subst (λ (z : Fraction). Within rawBits z q) (sym zero-is) (close-within (zero-near (2 ^ rawBits) (number x) q (within-close (h .near)) (f refl) l)); size = h .size }
-      go false f = h
-
-  not-below : AtMost (whole 0) (number (notBelow x))
-  unfolding notBelow
-  not-below = subst (λ (b : Bool). AtMost (whole 0) (number (cond b zero x))) (sym sign-test) (go (isLess (number x) (whole 0)) (less-false (number x) (whole 0)))
-    where
-      go : (b : Bool) → (b ≡ false → AtMost (whole 0) (number x)) → AtMost (whole 0) (number (cond b zero x))
-      go true f = subst (λ (z : Fraction). AtMost (whole 0) z) (sym zero-is) (lit≤ tt)
-      go false f = f refl
-
-zero-known : Approximates rawBits most zero (whole 0)
-unfolding ofInt
-zero-known = record { near = within-refl rawBits (whole 0) (lit< tt); size = lit≤ tt }
+      go : (b : Bool) → (b ≡ true → Less (number x) (whole 0)) → (b ≡ false → AtMost (whole 0) (number x)) → Raw (cond b zero x) q
+      go true f g = record { known = record { near = zero-within q (h .near) (f refl) l; size = h .size }; not-below = zero-not-below }
+      go false f g = record { known = h; not-below = g refl }
 
 -- ---- the raw gain of a speaker that stands at p - m
 module _ (a s : Float) (p m : ℕ) (A : 0 < number a .over) (H : AtMost (magnitude (number a)) (whole 180)) (S : Stands s (fraction p m 1)) where
@@ -224,7 +190,7 @@ module _ (a s : Float) (p m : ℕ) (A : 0 < number a .over) (H : AtMost (magnitu
     angle-accepted : Angles.refusalOf (angleOf a t) ≡ 0
     angle-accepted = accepted (angleOf a t) (angle-close .first) (size-at-most (size-unit (lit< tt) (lit≤ tt) (size-near angle-close rest-size)))
 
-    known-cosine : Approximates rawBits most v (definedCosine (whole 90 ⊖ d))
+    known-cosine : Approximates rawBits definedMost v (definedCosine (whole 90 ⊖ d))
     known-cosine = record {
       near =
           counted-within {W = 2 ^ 54 * scale} (lit< tt) (lit≤ tt)
@@ -232,34 +198,21 @@ module _ (a s : Float) (p m : ℕ) (A : 0 < number a .over) (H : AtMost (magnitu
       size = defined-size cosine (whole 90 ⊖ d) (rest-close .second);
     }
 
-    raised : Approximates rawBits most (notBelow v) (definedCosine (whole 90 ⊖ d))
+    raised : Raw (notBelow v) (definedCosine (whole 90 ⊖ d))
     raised = lifted v (known-cosine .near .first) (definedCosine (whole 90 ⊖ d)) known-cosine (rest-not-below d (way .over) (way .not-below) (less-at-most d (whole 90) n))
-
-    raised-not-below : AtMost (whole 0) (number (notBelow v))
-    raised-not-below = not-below v (known-cosine .near .first)
 
   raw-test : isNear a t ≡ isLess d (whole 90)
   raw-test = near-test a A t T there ∙ sym (way .near)
 
-  raw-known : Approximates rawBits most (rawOf a s) (rawGain (number a) q)
+  raw-gain : Raw (rawOf a s) (rawGain (number a) q)
   unfolding rawOf rawGain
-  raw-known =
+  raw-gain =
       let v = Angles.outcome cosine (angleOf a t) .value in
-      subst (λ (b : Bool). Approximates rawBits most (cond b (notBelow v) zero) (rawGain (number a) q)) (sym raw-test) (go (isLess d (whole 90)) (less-true d (whole 90)))
+      subst (λ (b : Bool). Raw (cond b (notBelow v) zero) (rawGain (number a) q)) (sym raw-test) (go (isLess d (whole 90)) (less-true d (whole 90)))
     where
-      go : (b : Bool) → (b ≡ true → Less d (whole 90)) → Approximates rawBits most (cond b (notBelow (Angles.outcome cosine (angleOf a t) .value)) zero) (cond b (definedCosine (whole 90 ⊖ d)) (whole 0))
+      go : (b : Bool) → (b ≡ true → Less d (whole 90)) → Raw (cond b (notBelow (Angles.outcome cosine (angleOf a t) .value)) zero) (cond b (definedCosine (whole 90 ⊖ d)) (whole 0))
       go true f = raised (f refl)
-      go false f = zero-known
-
-  raw-not-below : AtMost (whole 0) (number (rawOf a s))
-  unfolding rawOf
-  raw-not-below =
-      let w = Angles.outcome cosine (angleOf a t) .value in
-      subst (λ (b : Bool). AtMost (whole 0) (number (cond b (notBelow w) zero))) (sym raw-test) (go (isLess d (whole 90)) (less-true d (whole 90)))
-    where
-      go : (b : Bool) → (b ≡ true → Less d (whole 90)) → AtMost (whole 0) (number (cond b (notBelow (Angles.outcome cosine (angleOf a t) .value)) zero))
-      go true f = raised-not-below (f refl)
-      go false f = subst (λ (z : Fraction). AtMost (whole 0) z) (sym zero-is) (lit≤ tt)
+      go false f = zero-raw
 
   raw-silent : isLess d (whole 90) ≡ false → rawOf a s ≡ zero
   unfolding rawOf
@@ -275,21 +228,13 @@ module _ (l : Layout) (a : Float) (c : ℕ) (A : 0 < number a .over) (H : AtMost
       go (pos n) h = f (ofInt binary64 (pos n)) n 0 h
       go (negsuc n) h = f (ofInt binary64 (negsuc n)) 0 (suc n) h
 
-  pub channel-known : Approximates rawBits most (channelGain l a c) (rawAt l (number a) c)
+  pub channel-raw : Raw (channelGain l a c) (rawAt l (number a) c)
   unfolding channelGain rawAt
-  channel-known = go (lowFrequency l c)
+  channel-raw = go (lowFrequency l c)
     where
-      go : (b : Bool) → Approximates rawBits most (cond b zero (rawOf a (azimuthOf l c))) (cond b (whole 0) (rawGain (number a) (speakerAt l c)))
-      go true = zero-known
-      go false = at-speaker (λ (s : Float) (q : Fraction). Approximates rawBits most (rawOf a s) (rawGain (number a) q)) (λ s p m h. raw-known a s p m A H h)
-
-  pub channel-not-below : AtMost (whole 0) (number (channelGain l a c))
-  unfolding channelGain
-  channel-not-below = go (lowFrequency l c)
-    where
-      go : (b : Bool) → AtMost (whole 0) (number (cond b zero (rawOf a (azimuthOf l c))))
-      go true = subst (λ (z : Fraction). AtMost (whole 0) z) (sym zero-is) (lit≤ tt)
-      go false = at-speaker (λ (s : Float) (q : Fraction). AtMost (whole 0) (number (rawOf a s))) (λ s p m h. raw-not-below a s p m A H h)
+      go : (b : Bool) → Raw (cond b zero (rawOf a (azimuthOf l c))) (cond b (whole 0) (rawGain (number a) (speakerAt l c)))
+      go true = zero-raw
+      go false = at-speaker (λ (s : Float) (q : Fraction). Raw (rawOf a s) (rawGain (number a) q)) (λ s p m h. raw-gain a s p m A H h)
 
   pub channel-silent : isLess (distance (number a) (speakerAt l c)) (whole 90) ≡ false → channelGain l a c ≡ zero
   unfolding channelGain

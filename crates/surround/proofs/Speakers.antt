@@ -2,13 +2,14 @@
 use mathlib.Core.Bool.{Bool, true, _&&_}
 use mathlib.Core.List.{List, [], _∷_}
 use Prim.Native.Nat.{ℕ, zero, suc, _+_, _*_, _<_}
-use lib.Dec.{T, leb, ltb, eqb, ltb→lt, leb→le, eqb→eq}
+use lib.Dec.{T, leb, ltb, ltb→lt, leb→le}
 use lib.IntN.{ℤ, pos}
 use lib.ListN.{getD}
 use lib.Ieee.{Float, binary64, add, sub, round, ofInt}
 use lib.Ieee.Fits.{and-l, and-r}
 use Rattle.angles.specs.Promise.{float}
 use Rattle.fractions.specs.Fraction.{Fraction, whole, magnitude, number, _⊕_, _⊖_, Same, AtMost}
+use Rattle.fractions.proofs.Order.{isSame, same-computed}
 use Rattle.channel.specs.Layouts.{speakers, azimuthOf}
 use Rattle.channel.specs.declared.Layout.{Layout}
 use Rattle.channel.specs.declared.Layout.the-variants.{Mono, Stereo, Surround51, Surround71, Custom}
@@ -37,7 +38,7 @@ pub record Stands (s : Float) (q : Fraction) : Type 0 where
 
 -- ---- as a test
 exactly : Float → Fraction → Bool
-exactly x q = ltb 0 (number x .over) && ltb 0 (q .over) && eqb (number x .plus * q .over + q .minus * number x .over) (q .plus * number x .over + number x .minus * q .over)
+exactly x q = ltb 0 (number x .over) && ltb 0 (q .over) && isSame (number x) q
 
 sides : Float → Fraction → Bool
 sides t q = exactly t q && exactly (sub binary64 t (float (pos 90))) (q ⊖ whole 90) && exactly (add binary64 t (float (pos 90))) (q ⊕ whole 90)
@@ -52,9 +53,9 @@ unfolding exactly
 exactly-says x q t =
     let i = ltb 0 (number x .over) in
     let j = ltb 0 (q .over) in
-    let k = eqb (number x .plus * q .over + q .minus * number x .over) (q .plus * number x .over + number x .minus * q .over) in
+    let k = isSame (number x) q in
     let u = and-l (i && j) k t in
-    record { first = ltb→lt 0 (number x .over) (and-l i j u); second = ltb→lt 0 (q .over) (and-r i j u); same = eqb→eq _ _ (and-r (i && j) k t) }
+    record { first = ltb→lt 0 (number x .over) (and-l i j u); second = ltb→lt 0 (q .over) (and-r i j u); same = same-computed (number x) q (and-r (i && j) k t) }
 
 sides-say : (x : Float) (q : Fraction) → T (sides x q) → Sides x q
 unfolding sides

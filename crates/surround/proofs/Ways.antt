@@ -5,12 +5,11 @@ use mathlib.Core.Bool.{Bool, true, false, cond}
 use Prim.Native.Nat.{ℕ, _+_, _*_, _≤_, _<_}
 use native.Mathlib.Nat.{mul-pos, mul-le-mul-right}
 use native.Mathlib.Omega.{arith}
-use borrow.Author.Tests.{lt-ltb, le-ltb}
 use lib.Dec.{lit<}
 use Rattle.refusals.proofs.First.{stops, goes-on}
 use Rattle.fractions.specs.Fraction.{Fraction, fraction, whole, magnitude, _⊕_, _⊖_, Same, Less, AtMost, isLess}
 use Rattle.fractions.proofs.Order.{same-refl, at-most-same}
-use Rattle.fractions.proofs.IsLess.{less-true, less-false, is-less-same}
+use Rattle.fractions.proofs.Compare.{less-true, less-false, is-less, is-not-less, is-less-same}
 use Rattle.surround.specs.Formula.{distance}
 
 abbrev pub turnedTo : Fraction → Fraction → Fraction
@@ -18,12 +17,6 @@ turnedTo a q = cond (isLess (q ⊕ whole 180) a) (q ⊕ whole 360) (cond (isLess
 
 abbrev pub isBetween : Fraction → Fraction → Bool
 isBetween a t = cond (isLess (t ⊖ whole 90) a) (isLess a (t ⊕ whole 90)) false
-
-pub is-less : (x y : Fraction) → Less x y → isLess x y ≡ true
-is-less x y h = lt-ltb _ _ h
-
-is-not-less : (x y : Fraction) → AtMost y x → isLess x y ≡ false
-is-not-less x y h = le-ltb _ _ h
 
 -- p - m is k at most either way, times o
 spread : (p m k o : ℕ) → AtMost (magnitude (fraction p m 1)) (whole k) → (p * o ≤ m * o + k * o) × (m * o ≤ p * o + k * o)

@@ -9,7 +9,7 @@ use lib.Ieee.{Float, nan, binary64, lt, neg, add, sub, mul, div}
 use Rattle.series.specs.Sums.{cosine}
 use Rattle.angles.specs.Promise as Angles
 use Rattle.angles.specs.Promise.{float, zero}
-use Rattle.planes.specs.Tables.{tab}
+use Rattle.checks.specs.Tables.{tab}
 use Rattle.planes.specs.Sums.{total}
 use Rattle.channel.specs.Layouts.{lowFrequency, azimuthOf}
 use Rattle.channel.specs.declared.Layout.{Layout}
@@ -39,9 +39,12 @@ channelGain l a c = cond (lowFrequency l c) zero (rawOf a (azimuthOf l c))
 unfoldable pub rawGains : Layout → Float → ℕ → List Float
 rawGains l a n = tab 0 16 (λ c. cond (ltb c n) (channelGain l a c) zero)
 
+abbrev pub squareAt : List Float → ℕ → Float
+squareAt xs c = mul binary64 (getD xs c nan) (getD xs c nan)
+
 -- the f64 sum of the squares of the first n, from 0.0
 unfoldable pub sumOf : ℕ → List Float → Float
-sumOf n xs = total zero (tab 0 n (λ c. mul binary64 (getD xs c nan) (getD xs c nan)))
+sumOf n xs = total zero (tab 0 n (squareAt xs))
 
 unfoldable pub dividedBy : Float → List Float → List Float
 dividedBy r xs = tab 0 16 (λ c. div binary64 (getD xs c nan) r)

@@ -10,6 +10,7 @@ use Rattle.fractions.specs.Fraction.{Fraction, number, whole, _⊗_, Within}
 use Rattle.fractions.specs.Approximates.{Approximates, EachWithin}
 use Rattle.fractions.proofs.Within.{within-weaken}
 use Rattle.series.specs.Sums.{power}
+use Rattle.channel.proofs.Orders.{one-of-three}
 use Rattle.harmonics.specs.Formulas.{formulas}
 use Rattle.harmonics.specs.Computed.{wavesOf, upTo}
 use Rattle.harmonics.specs.Promise.{refusalOf, silence}
@@ -20,7 +21,7 @@ use Rattle.harmonics.proofs.Laws as Laws
 use Rattle.virtual_speaker.specs.Weights.{c, degreeOf, weightedFormulas}
 use Rattle.virtual_speaker.specs.Computed.{cosineOf, weight, weigh, weighted}
 use Rattle.virtual_speaker.specs.Promise.{weightBits, outcome, Promise}
-use Rattle.virtual_speaker.proofs.Cosines.{one-of-three, cosine-near}
+use Rattle.virtual_speaker.proofs.Cosines.{cosine-near}
 use Rattle.virtual_speaker.proofs.Near.{weighted-near, each-tab}
 
 -- ---- zeros stay zeros

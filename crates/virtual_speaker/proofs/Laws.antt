@@ -14,7 +14,7 @@ use lib.Ieee.Bits.{is-true}
 use Rattle.fractions.specs.Fraction.{Fraction, number}
 use Rattle.fractions.specs.Approximates.{EachWithin}
 use Rattle.fractions.proofs.Number.{number-finite}
-use Rattle.planes.specs.Tables.{unsound}
+use Rattle.checks.specs.Tables.{unsound}
 use Rattle.channel.specs.Layouts.{positions}
 use Rattle.channel.proofs.Tables.{turned, position-turned}
 use Rattle.channel.specs.Orders.{refusesOrder}
@@ -38,13 +38,13 @@ pub outcome-kept : (order : ℕ) (d : Direction) → Promise order d (outcome or
 outcome-kept = Kept.kept
 
 module _ (order : ℕ) (d : Direction) (answer : Weighted) (p : Promise order d answer) where
-  weights-are : (r : ℕ) → refusalOf order d ≡ r → answer .weights ≡ cond (eqb r 0) (weighted order d) silence
-  weights-are r h = ap (λ (s : Weighted). s .weights) (p .is) ∙ ap (λ (n : ℕ). cond (eqb n 0) (weighted order d) silence) h
+  weights-are : answer .weights ≡ cond (eqb (refusalOf order d) 0) (weighted order d) silence
+  weights-are = ap (λ (s : Weighted). s .weights) (p .is)
 
   -- ---- there are sixteen, all of them finite
   pub weights-length : length (answer .weights) ≡ 16
   unfolding weigh
-  weights-length = ap length (weights-are (refusalOf order d) refl) ∙ go (eqb (refusalOf order d) 0)
+  weights-length = ap length weights-are ∙ go (eqb (refusalOf order d) 0)
     where
       go : (b : Bool) → length (cond b (weighted order d) silence) ≡ 16
       go true = refl
@@ -52,7 +52,7 @@ module _ (order : ℕ) (d : Direction) (answer : Weighted) (p : Promise order d 
 
   pub weights-sound : unsound (answer .weights) ≡ false
   unfolding ofInt
-  weights-sound = go (eqb (refusalOf order d) 0) (weights-are (refusalOf order d) refl) (λ h. each-sound weightBits (answer .weights) (weightedFormulas order (number (d .azimuth)) (number (d .elevation))) (p .near (eqb-true (refusalOf order d) 0 h)))
+  weights-sound = go (eqb (refusalOf order d) 0) weights-are (λ h. each-sound weightBits (answer .weights) (weightedFormulas order (number (d .azimuth)) (number (d .elevation))) (p .near (eqb-true (refusalOf order d) 0 h)))
     where
       go : (b : Bool) → answer .weights ≡ cond b (weighted order d) silence → (b ≡ true → unsound (answer .weights) ≡ false) → unsound (answer .weights) ≡ false
       go true e f = f refl

@@ -1,8 +1,7 @@
--- What the proofs of `virtual_speaker` share, and the laws that crates above cite.
-pub mod Weighing
-pub mod Cosines
-pub mod Near
-pub mod Kept
+-- What the proofs of `virtual_speaker` share. Crates above cite `Laws`.
+mod Cosines
+mod Near
+mod Kept
 pub mod Laws
-pub mod Unique
+mod Unique
 mod Worked

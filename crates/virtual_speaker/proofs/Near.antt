@@ -11,7 +11,7 @@ use Rattle.fractions.specs.Approximates.{Approximates, EachWithin}
 use Rattle.fractions.proofs.Restate.{⊗-one, ⊗-comm}
 use Rattle.fractions.proofs.Expression.{Expression, held, _*'_, run, exact, passes, within, value}
 use Rattle.series.specs.Sums.{power}
-use Rattle.planes.specs.Tables.{tab}
+use Rattle.checks.specs.Tables.{tab}
 use Rattle.virtual_speaker.specs.Computed.{weight}
 
 -- ---- the powers of c, in the program's order and in document 01's

@@ -1,17 +1,16 @@
 -- What the program computes, operation by operation, in f64. Nobody has to believe it: specs/Promise.antt ties the sixteen to document 01's formulas. Definitions only.
 use Prim.Native.Nat.{ℕ, zero, suc}
-use mathlib.Core.Bool.{cond}
 use mathlib.Core.List.{List}
-use lib.Dec.{eqb}
 use lib.ListN.{getD}
 use lib.Ieee.{Float, nan, binary64, mul}
-use Rattle.planes.specs.Tables.{tab}
+use Rattle.checks.specs.Tables.{tab}
+use Rattle.channel.specs.Orders.{byOrder}
 use Rattle.harmonics.specs.Computed.{wavesOf, upTo, decimal, literal}
 use Rattle.harmonics.specs.declared.Direction.{Direction}
 use Rattle.virtual_speaker.specs.Weights.{degreeOf}
 
 abbrev pub cosineOf : ℕ → Float
-cosineOf order = cond (eqb order 1) (decimal 8244615675902878) (cond (eqb order 2) (decimal 9206590873000569) (decimal 9551077341301053))
+cosineOf order = byOrder order (decimal 8244615675902878) (decimal 9206590873000569) (decimal 9551077341301053)
 
 -- 1.0, c, c * c and c * c * c
 abbrev pub weight : Float → ℕ → Float

@@ -1,7 +1,6 @@
 -- `harmonics::compute_sh_coefficients` meets its contract. Assumes nothing.
 use mathlib.Core.Path.{sym, ap, _∙_}
 use Rattle.harmonics.specs.Computed.{gainsOf}
-use Rattle.harmonics.specs.declared.Waves.{Waves}
 use Rattle.harmonics.proofs.Kept.{order-refused, direction-refused, accepted-kept}
 use borrow.Author.Needs.{needs}
 use Rattle.harmonics.proofs.compute_sh_coefficients.Statement.{statement}
@@ -14,10 +13,7 @@ refused-requires : tie.Need-refused-requires
 refused-requires c κs = search needs
 
 returns : tie.Need-returns
-returns c =
-    let s = c .before .before in
-    let a = s .before .args in
-    order-refused (a .order) (a .direction) (c .refused .result) (sym (s .refuses-order .ensures) ∙ c .before .if1 .taken) (c .refused .ensures)
+returns c = order-refused _ _ _ (sym (c .before .before .refuses-order .ensures) ∙ c .before .if1 .taken) (c .refused .ensures)
 
 refuses-direction-requires : tie.Need-refuses-direction-requires
 refuses-direction-requires c κs = search needs
@@ -28,9 +24,7 @@ refused-requires-2 c κs = search needs
 returns-2 : tie.Need-returns-2
 returns-2 c =
     let s = c .before .before in
-    let o = s .before .before in
-    let a = o .before .args in
-    direction-refused (a .order) (a .direction) (c .refused2 .result) (sym (o .refuses-order .ensures) ∙ s .before .if1 .left) (sym (s .refuses-direction .ensures) ∙ c .before .if2 .taken) (c .refused2 .ensures)
+    direction-refused _ _ _ (sym (s .before .before .refuses-order .ensures) ∙ s .before .if1 .left) (sym (s .refuses-direction .ensures) ∙ c .before .if2 .taken) (c .refused2 .ensures)
 
 waves-of-requires : tie.Need-waves-of-requires
 waves-of-requires c κs = search needs
@@ -42,9 +36,8 @@ returns-3 : tie.Need-returns-3
 returns-3 c =
     let s = c .before .before .before in
     let o = s .before .before in
-    let a = o .before .args in
-    accepted-kept (a .order) (a .direction) (c .gains-of .result) (sym (o .refuses-order .ensures) ∙ s .before .if1 .left) (sym (s .refuses-direction .ensures) ∙ c .before .before .if2 .left)
-    (c .gains-of .ensures ∙ ap (λ (w : Waves). gainsOf (a .order) w) (c .before .waves-of .ensures))
+    accepted-kept _ _ _ (sym (o .refuses-order .ensures) ∙ s .before .if1 .left) (sym (s .refuses-direction .ensures) ∙ c .before .before .if2 .left)
+    (c .gains-of .ensures ∙ ap (gainsOf (o .before .args .order)) (c .before .waves-of .ensures))
 
 pub compute-sh-coefficients-spec : {M : Type 1} → statement M
 compute-sh-coefficients-spec =

@@ -12,7 +12,7 @@ is-finite-requires c κs = search needs
 
 returns : tie.Need-returns
 unfolding ofBits ofInt
-returns c = refuses (c .before .before .args .position) (ap not (sym (c .before .is-finite .ensures)) ∙ c .if1 .taken)
+returns c = refuses _ (ap not (sym (c .before .is-finite .ensures)) ∙ c .if1 .taken)
 
 clamped-requires : tie.Need-clamped-requires
 clamped-requires c κs = search needs
@@ -26,9 +26,8 @@ sine-requires c κs = search needs
 returns-2 : tie.Need-returns-2
 unfolding ofBits ofInt
 returns-2 c =
-    let s = c .before .before .before .before .before in
-    plays (s .args .position) (c .before .before .clamped .result) (c .before .cosine .result) (c .sine .result) (ap not (sym (c .before .before .before .before .is-finite .ensures)) ∙ c .before .before .before .if1 .left)
-    (c .before .before .clamped .ensures) (c .before .cosine .ensures) (c .sine .ensures)
+    let f = c .before .before .before in
+    plays _ _ _ _ (ap not (sym (f .before .is-finite .ensures)) ∙ f .if1 .left) (c .before .before .clamped .ensures) (c .before .cosine .ensures) (c .sine .ensures)
 
 pub calculate-stereo-gains-spec : {M : Type 1} → statement M
 calculate-stereo-gains-spec =

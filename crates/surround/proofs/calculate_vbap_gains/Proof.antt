@@ -1,9 +1,6 @@
 -- `surround::calculate_vbap_gains` meets its contract: `Answers`. Assumes nothing.
-use mathlib.Core.Path.{sym, ap, _∙_, subst}
-use mathlib.Core.Bool.{not}
+use mathlib.Core.Path.{sym, ap, _∙_}
 use Rattle.channel.specs.declared.Counted.{Counted}
-use Rattle.surround.specs.declared.SurroundGains.{SurroundGains}
-use Rattle.surround.specs.Promise.{Pans}
 use Rattle.surround.proofs.Answers.{no-layout, no-azimuth, plays, few-counted}
 use borrow.Author.Needs.{needs}
 use Rattle.surround.proofs.calculate_vbap_gains.Statement.{statement}
@@ -16,9 +13,7 @@ refused-requires : tie.Need-refused-requires
 refused-requires c κs = search needs
 
 returns : tie.Need-returns
-returns c =
-    let a = c .before .before .before .args in
-    subst (λ (r : SurroundGains). Pans (a .layout) (a .azimuth) r) (sym (c .refused .ensures)) (no-layout (a .layout) (a .azimuth) (ap not (sym (c .before .before .is-surround .ensures)) ∙ c .before .if1 .taken))
+returns c = let s = c .before .before in no-layout (s .before .args .layout) (s .before .args .azimuth) _ (s .is-surround .ensures) _ (c .before .if1 .taken) (c .refused .ensures)
 
 refuses-azimuth-requires : tie.Need-refuses-azimuth-requires
 refuses-azimuth-requires c κs = search needs
@@ -28,24 +23,23 @@ refused-requires-2 c κs = search needs
 
 returns-2 : tie.Need-returns-2
 returns-2 c =
-    let a = c .before .before .before .before .before .args in
-    subst (λ (r : SurroundGains). Pans (a .layout) (a .azimuth) r) (sym (c .refused2 .ensures))
-    (no-azimuth (a .layout) (a .azimuth) (ap not (sym (c .before .before .before .before .is-surround .ensures)) ∙ c .before .before .before .if1 .left) (sym (c .before .before .refuses-azimuth .ensures) ∙ c .before .if2 .taken))
+    let a = c .before .before in
+    let s = a .before .before in
+    no-azimuth (s .before .args .layout) (s .before .args .azimuth) _ (s .is-surround .ensures) _ (a .before .if1 .left) (sym (a .refuses-azimuth .ensures) ∙ c .before .if2 .taken) (c .refused2 .ensures)
 
 channel-count-requires : tie.Need-channel-count-requires
 channel-count-requires c κs = search needs
 
 raw-gains-requires : tie.Need-raw-gains-requires
 raw-gains-requires c κs =
-    let a = c .before .before .before .before .before .args in
-    let s = c .before .before .before .before .is-surround in
-    few-counted (a .layout) (a .azimuth) (s .result) (c .channel-count .result) (s .ensures) (c .before .before .before .if1 .left) (c .channel-count .ensures)
+    let s = c .before .before .before .before in
+    few-counted (s .before .args .layout) _ _ (s .is-surround .ensures) (c .before .before .before .if1 .left) (c .channel-count .ensures)
 
 sum-of-squares-requires : tie.Need-sum-of-squares-requires
 sum-of-squares-requires c κs =
-    let a = c .before .before .before .before .before .before .args in
-    let s = c .before .before .before .before .before .is-surround in
-    few-counted (a .layout) (a .azimuth) (s .result) (c .before .channel-count .result) (s .ensures) (c .before .before .before .before .if1 .left) (c .before .channel-count .ensures)
+    let n = c .before in
+    let s = n .before .before .before .before in
+    few-counted (s .before .args .layout) _ _ (s .is-surround .ensures) (n .before .before .before .if1 .left) (n .channel-count .ensures)
 
 root-requires : tie.Need-root-requires
 root-requires c κs = search needs
@@ -55,15 +49,11 @@ divided-requires c κs = search needs
 
 returns-3 : tie.Need-returns-3
 returns-3 c =
-    let start = c .before .before .before .before .before .before .before .before .before in
-    let n = c .before .before .before .before .channel-count in
-    let raw = c .before .before .before .raw-gains in
-    let s = c .before .before .sum-of-squares in
-    let r = c .before .root in
-    plays (start .args .layout) (start .args .azimuth) (n .result .channels) (raw .result) (s .result) (r .result) (c .divided .result)
-    (ap not (sym (c .before .before .before .before .before .before .before .before .is-surround .ensures)) ∙ c .before .before .before .before .before .before .before .if1 .left)
-    (sym (c .before .before .before .before .before .before .refuses-azimuth .ensures) ∙ c .before .before .before .before .before .if2 .left)
-    (ap (λ (k : Counted). k .channels) (n .ensures)) (raw .ensures) (s .ensures) (r .ensures .answer) (c .divided .ensures)
+    let n = c .before .before .before .before in
+    let a = n .before .before in
+    let s = a .before .before in
+    plays (s .before .args .layout) _ _ (s .is-surround .ensures) _ _ _ _ _ (a .before .if1 .left) (sym (a .refuses-azimuth .ensures) ∙ n .before .if2 .left)
+    (ap (λ (k : Counted). k .channels) (n .channel-count .ensures)) (c .before .before .before .raw-gains .ensures) (c .before .before .sum-of-squares .ensures) (c .before .root .ensures .answer) (c .divided .ensures)
 
 pub calculate-vbap-gains-spec : {M : Type 1} → statement M
 calculate-vbap-gains-spec =

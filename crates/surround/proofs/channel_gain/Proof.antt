@@ -10,7 +10,7 @@ is-low-frequency-requires c κs = search needs
 
 returns : tie.Need-returns
 unfolding ofBits ofInt
-returns c = let a = c .before .before .args in low (a .layout) (a .azimuth) (a .channel) (c .before .is-low-frequency .result) (c .before .is-low-frequency .ensures) (c .if1 .taken)
+returns c = low _ _ _ _ (c .before .is-low-frequency .ensures) (c .if1 .taken)
 
 speaker-azimuth-requires : tie.Need-speaker-azimuth-requires
 speaker-azimuth-requires c κs = search needs
@@ -20,9 +20,7 @@ raw-gain-requires c κs = search needs
 
 returns-2 : tie.Need-returns-2
 returns-2 c =
-    let a = c .before .before .before .before .args in
-    let l = c .before .before .before .is-low-frequency in
-    directed (a .layout) (a .azimuth) (a .channel) (l .result) (l .ensures) (c .before .speaker-azimuth .result) (c .raw-gain .result) (c .before .before .if1 .left) (c .before .speaker-azimuth .ensures) (c .raw-gain .ensures)
+    directed _ _ _ _ (c .before .before .before .is-low-frequency .ensures) _ _ (c .before .before .if1 .left) (c .before .speaker-azimuth .ensures) (c .raw-gain .ensures)
 
 pub channel-gain-spec : {M : Type 1} → statement M
 channel-gain-spec =

@@ -13,9 +13,7 @@ is-near-requires c κs = search needs
 
 returns : tie.Need-returns
 unfolding ofBits ofInt
-returns c =
-    let a = c .before .before .before .args in
-    far (a .azimuth) (a .speaker) (c .before .before .place .result) (c .before .is-near .result) (c .before .before .place .ensures) (c .before .is-near .ensures) (c .if1 .taken)
+returns c = far _ _ _ _ (c .before .before .place .ensures) (c .before .is-near .ensures) (c .if1 .taken)
 
 absolute-value-requires : tie.Need-absolute-value-requires
 absolute-value-requires c κs = search needs
@@ -26,22 +24,16 @@ cosine-requires c κs = search needs
 returns-2 : tie.Need-returns-2
 unfolding ofBits ofInt
 returns-2 c =
-    let a = c .before .before .before .before .before .before .before .args in
-    let p = c .before .before .before .before .before .before .place in
-    let n = c .before .before .before .before .before .is-near in
-    let x = c .before .before .before .absolute-value in
-    let g = c .before .before .cosine in
-    lifted (a .azimuth) (a .speaker) (p .result) (n .result) (p .ensures) (n .ensures) (x .result) (g .result) (c .before .before .before .before .if1 .left) (x .ensures) (g .ensures) (c .if2 .taken)
+    let x = c .before .before .before in
+    let n = x .before .before in
+    lifted _ _ _ _ (n .before .place .ensures) (n .is-near .ensures) _ _ (x .before .if1 .left) (x .absolute-value .ensures) (c .before .before .cosine .ensures) (c .if2 .taken)
 
 returns-3 : tie.Need-returns-3
 unfolding ofBits ofInt
 returns-3 c =
-    let a = c .before .before .before .before .before .before .before .args in
-    let p = c .before .before .before .before .before .before .place in
-    let n = c .before .before .before .before .before .is-near in
-    let x = c .before .before .before .absolute-value in
-    let g = c .before .before .cosine in
-    kept (a .azimuth) (a .speaker) (p .result) (n .result) (p .ensures) (n .ensures) (x .result) (g .result) (c .before .before .before .before .if1 .left) (x .ensures) (g .ensures) (c .if2 .left)
+    let x = c .before .before .before in
+    let n = x .before .before in
+    kept _ _ _ _ (n .before .place .ensures) (n .is-near .ensures) _ _ (x .before .if1 .left) (x .absolute-value .ensures) (c .before .before .cosine .ensures) (c .if2 .left)
 
 pub raw-gain-spec : {M : Type 1} → statement M
 raw-gain-spec =

@@ -1,11 +1,11 @@
--- `surround::raw_gains` meets its contract: `planes`' `Filling`. Assumes nothing.
+-- `surround::raw_gains` meets its contract: `checks`' `Filling`. Assumes nothing.
 use mathlib.Core.Path.{_∙_}
 use Prim.Native.Nat.{_-_}
 use native.Mathlib.Omega.{arith}
 use lib.Ieee.{ofBits, ofInt}
 use Rattle.angles.specs.Promise.{zero}
 use Rattle.surround.specs.Computed.{channelGain, rawGains}
-use Rattle.planes.proofs.Filling.{first-filled, Filling, filling-none, filling-more, filling-all}
+use Rattle.checks.proofs.Filling.{first-filled, Filling, filling-none, filling-more, filling-all}
 use Rattle.surround.proofs.raw_gains.Statement.{statement}
 use Rattle.surround.proofs.raw_gains.Tie as tie
 

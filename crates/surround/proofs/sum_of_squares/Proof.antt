@@ -2,27 +2,26 @@
 use mathlib.Core.Path.{_≡_, refl, sym, ap, _∙_}
 use Prim.Native.Nat.{_-_, _≤_}
 use native.Mathlib.Omega.{arith}
-use lib.ListN.{getD}
-use lib.Ieee.{nan, binary64, mul, ofBits, ofInt}
+use lib.Ieee.{ofBits, ofInt}
 use Rattle.angles.specs.Promise.{zero}
-use Rattle.planes.specs.Tables.{tab}
+use Rattle.checks.specs.Tables.{tab}
 use Rattle.planes.specs.Sums.{total}
-use Rattle.planes.proofs.Tables.{tab-all}
+use Rattle.checks.proofs.Tables.{tab-all}
 use Rattle.planes.proofs.Sums.{total-more, total-done}
-use Rattle.surround.specs.Computed.{sumOf}
+use Rattle.surround.specs.Computed.{squareAt, sumOf}
 use Rattle.surround.proofs.sum_of_squares.Statement.{statement}
 use Rattle.surround.proofs.sum_of_squares.Tie as tie
 
 abbrev Inv-loop : tie.InvT-loop
 Inv-loop channels gains sum₀ i₀ sum i =
-    (i ≤ channels) × (total sum (tab i (channels - i) (λ k. mul binary64 (getD gains k nan) (getD gains k nan))) ≡ total zero (tab 0 channels (λ k. mul binary64 (getD gains k nan) (getD gains k nan))))
+    (i ≤ channels) × (total sum (tab i (channels - i) (squareAt gains)) ≡ total zero (tab 0 channels (squareAt gains)))
 
 abbrev μ-loop : tie.MeasureT-loop
 μ-loop channels gains sum₀ i₀ sum i = channels - i
 
 loop-holds : tie.Need-loop-holds Inv-loop μ-loop
 unfolding ofBits ofInt
-loop-holds c = (omega arith, ap (total zero) (tab-all (c .args .channels) (λ k. mul binary64 (getD (c .args .t1) k nan) (getD (c .args .t1) k nan))))
+loop-holds c = (omega arith, ap (total zero) (tab-all (c .args .channels) (squareAt (c .args .t1))))
 
 mul-sum : tie.Need-mul-sum Inv-loop μ-loop
 mul-sum c = omega arith
@@ -46,14 +45,14 @@ loop-again : tie.Need-loop-again Inv-loop μ-loop
 loop-again c =
     let a = c .before .before .args in
     let at = c .before .loop in
-    (omega arith, total-more (a .channels) (at .i) (λ k. mul binary64 (getD (a .t1) k nan) (getD (a .t1) k nan)) _ (at .sum) (c .loop-test .taken) refl ∙ at .inv .1)
+    (omega arith, total-more (a .channels) (at .i) (squareAt (a .t1)) _ (at .sum) (c .loop-test .taken) refl ∙ at .inv .1)
 
 returns : tie.Need-returns Inv-loop μ-loop
 unfolding sumOf
 returns c =
     let a = c .before .before .args in
     let at = c .before .loop in
-    sym (total-done (a .channels) (at .i) (λ k. mul binary64 (getD (a .t1) k nan) (getD (a .t1) k nan)) (at .sum) (c .loop-test .left)) ∙ at .inv .1
+    sym (total-done (a .channels) (at .i) (squareAt (a .t1)) (at .sum) (c .loop-test .left)) ∙ at .inv .1
 
 pub sum-of-squares-spec : {M : Type 1} → statement M
 sum-of-squares-spec =

@@ -18,10 +18,8 @@ weigh-requires c κs = search needs
 
 returns : tie.Need-returns
 returns c =
-    let s = c .before .before .before in
-    let a = s .before .args in
-    weighed-kept (a .order) (a .direction) (s .compute-sh-coefficients .result) (s .compute-sh-coefficients .ensures) (c .weigh .result)
-    (c .weigh .ensures ∙ ap (λ (k : Float). weigh k (s .compute-sh-coefficients .result .gains)) (c .before .max-re-cosine .ensures))
+    let s = c .before .before .before .compute-sh-coefficients in
+    weighed-kept _ _ _ (s .ensures) _ (c .weigh .ensures ∙ ap (λ (k : Float). weigh k (s .result .gains)) (c .before .max-re-cosine .ensures))
 
 pub compute-sh-coefficients-max-re-spec : {M : Type 1} → statement M
 compute-sh-coefficients-max-re-spec =
