@@ -7,16 +7,15 @@ use mathlib.Core.Bool.{Bool, true, false, not, cond}
 use mathlib.Core.List.{List, []}
 use borrow.Author.Tests.{eqb-true}
 use lib.Dec.{eqb}
-use lib.ListN.{length, getD, take, length-take}
-use lib.Ieee.{Float, nan}
-use Rattle.refusals.proofs.First.{passed}
+use lib.ListN.{length, getD, take, length-take, length-map}
+use lib.Ieee.{Float, nan, binary64, mul}
+use Rattle.refusals.proofs.Chains.{none-holds}
 use Rattle.fractions.specs.Fraction.{whole, number}
 use Rattle.fractions.specs.Squares.{BySquares}
-use Rattle.planes.specs.Tables.{tab, row}
-use Rattle.planes.proofs.Tables.{length-tab, getD-tab}
+use Rattle.checks.specs.Tables.{tab, row}
+use Rattle.checks.proofs.Tables.{length-tab, getD-tab}
 use Rattle.planes.specs.Normalization.{inverseRoot}
 use Rattle.rows.specs.Steps.{putRows}
-use Rattle.rows.proofs.Putting.{length-scaled}
 use Rattle.rows.proofs.Joined.{AllOf, put-joined, row-found}
 use Rattle.channel.specs.declared.Layout.{Layout}
 use Rattle.channel.specs.Layouts.{channelsOf, uncountable}
@@ -26,7 +25,7 @@ use Rattle.harmonics.specs.Promise as Harmonics
 use Rattle.harmonics.proofs.Laws.{outcome-kept, gains-length}
 use Rattle.decoder_matrix.specs.Speakers.{azimuthBy, towards}
 use Rattle.decoder_matrix.specs.Matrix.{rowBy, rowsBy, matrixOf, formulaAt}
-use Rattle.decoder_matrix.specs.Promise.{matrixBits, Computed, refusalOf, outcome, Computes}
+use Rattle.decoder_matrix.specs.Promise.{matrixBits, Computed, checksOf, refusalOf, outcome, Computes}
 use Rattle.decoder_matrix.proofs.Near.{near}
 
 -- ---- the rows
@@ -35,7 +34,7 @@ module _ (order : ℕ) (l : Layout) (n channels : ℕ) (m : channels ≤ 16) whe
   length-row i =
       let d = towards (azimuthBy l n i) in
       let g = Harmonics.outcome order d .gains in
-      length-scaled (inverseRoot n) (take channels g) ∙ length-take channels g ∙ shorter channels (length g) m (gains-length order d (Harmonics.outcome order d) (outcome-kept order d))
+      length-map (take channels g) (λ (x : Float). mul binary64 x (inverseRoot n)) ∙ length-take channels g ∙ shorter channels (length g) m (gains-length order d (Harmonics.outcome order d) (outcome-kept order d))
     where
       shorter : (a b : ℕ) → a ≤ 16 → b ≡ 16 → min a b ≡ a
       shorter a b m e = omega arith
@@ -48,9 +47,6 @@ module _ (order : ℕ) (l : Layout) (weights : List Float) where
   -- ---- the answer by its tests
   abbrev answer : Bool → Bool → Bool → Computed
   answer a b c = let r : ℕ = cond a 1 (cond b 2 (cond c 5 0)) in record { refusal = r; weights = cond (eqb r 0) (matrixOf order l) weights }
-
-  tests : (a b c : Bool) → _≡_ {A = ℕ} (cond a 1 (cond b 2 (cond c 5 0))) 0 → (a ≡ false) × (b ≡ false)
-  tests a b c h = let p = passed a 0 (cond b 2 (cond c 5 0)) h in (p .0, passed b 1 (cond c 5 0) (p .1) .0)
 
   abbrev unlike : Bool
   unlike = not (eqb (length weights) (channelsOf l * channelsOfOrder order))
@@ -70,9 +66,9 @@ module _ (order : ℕ) (l : Layout) (weights : List Float) where
   kept = record {
     is = refl;
     near = λ z i c h k.
-        let t = tests (refusesOrder order) (uncountable (channelsOf l)) unlike z in
+        let off = none-holds (checksOf order l weights) tt z in
         subst (λ (xs : List Float). BySquares matrixBits (number (getD xs c nan)) (formulaAt order l i c) (whole (channelsOf l)))
-        (sym (ap (row (channelsOfOrder order) i) (weights-are z) ∙ row-is i (t .0) h)) (near order l (t .0) (t .1) i h c k (few-channels order (t .0) .1));
+        (sym (ap (row (channelsOfOrder order) i) (weights-are z) ∙ row-is i (off .0) h)) (near order l (off .0) (off .1 .0) i h c k (few-channels order (off .0) .1));
   }
 
   -- ---- the four answers of the program

@@ -9,8 +9,8 @@ use lib.Seq.{sets, length-sets}
 use lib.Ieee.{Float}
 use Rattle.rows.specs.Rows.{scaled}
 use Rattle.rows.specs.Steps.{putRows}
-use Rattle.planes.specs.Tables.{tab}
-use Rattle.planes.proofs.Tables.{tab-more, tab-none, tab-all}
+use Rattle.checks.specs.Tables.{tab}
+use Rattle.checks.proofs.Tables.{tab-more, tab-none, tab-all}
 
 -- rows 0 to i of the function f are put, and `at` is where the next goes
 pub record Filling (w₀ : List Float) (channels n : ℕ) (f : ℕ → List Float) (w : List Float) (at i : ℕ) : Type 0 where

@@ -1,15 +1,14 @@
 -- Each weight of a matrix is as near its formula as is promised, by squares: the harmonic is known by its promise, the root of n by the root's, and the rest is one expression. Every speaker's azimuth is one that
 -- the harmonics take, by one test over the tables. Assumes nothing.
-use Prim.Native.Nat.{ℕ, zero, suc, _+_, _-_, _^_, _≤_, _<_, zero-le}
-use native.Mathlib.Nat.{not-suc-le-zero, le-of-suc-le-suc}
+use Prim.Native.Nat.{ℕ, _^_, _≤_, _<_, zero-le}
 use native.Mathlib.Omega.{arith}
 use mathlib.Core.Path.{_≡_, refl, sym, ap, _∙_, subst}
 use mathlib.Core.Bool.{Bool, false, not, _&&_}
-use mathlib.Core.List.{List, [], _∷_}
+use mathlib.Core.List.{List}
 use lib.IntN.{pos}
 use lib.Dec.{T, eqb, eqb→eq}
 use borrow.Author.Tests.{not-false}
-use lib.ListN.{length, getD, take, length-take}
+use lib.ListN.{getD, take, List·getD-map}
 use lib.Seq.{getD-take}
 use lib.Ieee.{Float, nan, binary64, fits, round, ofInt, sub, mul, div, lt, le, neg}
 use lib.Ieee.Fits.{and-l, and-r}
@@ -20,18 +19,18 @@ use Rattle.fractions.specs.Approximates.{Approximates}
 use Rattle.fractions.proofs.Normalised.{over-root}
 use Rattle.numbers.specs.Computed.{rootOf}
 use Rattle.numbers.proofs.Close.{root-close, root-fits}
-use Rattle.planes.specs.Tables.{tab, any}
+use Rattle.checks.specs.Tables.{tab, any}
 use Rattle.planes.specs.Normalization.{asFloat, inverseRoot}
-use Rattle.planes.proofs.Checks.{any-off}
+use Rattle.checks.proofs.Checks.{at-each}
 use Rattle.rows.specs.Rows.{scaled}
 use Rattle.channel.specs.declared.Layout.{Layout}
 use Rattle.channel.specs.declared.Layout.the-variants.{Mono, Stereo, Surround51, Surround71, Custom}
 use Rattle.channel.specs.Layouts.{channelsOf, uncountable}
-use Rattle.channel.proofs.Counts.{in-range}
+use Rattle.refusals.proofs.Counts.{not-outside}
 use Rattle.channel.specs.Orders.{refusesOrder, channelsOfOrder}
 use Rattle.angles.specs.Limits.{isInside, refusesAngle}
 use Rattle.harmonics.specs.Promise.{refusesAzimuth, refusesElevation, outcome}
-use Rattle.harmonics.proofs.Laws.{accepted, direction-accepted, outcome-kept, gain-near, gains-length}
+use Rattle.harmonics.proofs.Laws.{accepted, direction-accepted, outcome-kept, gain-near}
 use Rattle.decoder_matrix.specs.Speakers.{azimuthAt, towards, customAzimuth, turnedBack}
 use Rattle.decoder_matrix.specs.Matrix.{rowBy, formulaAt}
 use Rattle.decoder_matrix.specs.Promise.{matrixBits}
@@ -71,10 +70,6 @@ is-whole n t =
           λ i. fraction (e0 i) (e1 i) (e2 i);
     }
 
--- what a test over a table says of each place
-pub at-each : (s m : ℕ) (f : ℕ → Bool) → any (tab s m f) ≡ false → (n : ℕ) → s ≤ n → n < s + m → f n ≡ false
-at-each s m f e n h l = subst (λ (k : ℕ). f k ≡ false) (omega arith) (any-off s m f e (n - s) (omega arith))
-
 whole-is : (n : ℕ) → 1 ≤ n → n ≤ 16 → Whole n
 whole-is n h l = is-whole n (subst T (sym (not-false (whole-float n) (at-each 1 16 (λ n. not (whole-float n)) all-whole n h (omega arith)))) tt)
 
@@ -92,37 +87,32 @@ tables Mono u = refl
 tables Stereo u = refl
 tables Surround51 u = refl
 tables Surround71 u = refl
-tables (Custom n) u = at-each 1 16 (λ n. any (tab 0 n (refused-at (Custom n)))) customs n (in-range n u .0) (omega (arith, in-range n u .1))
+tables (Custom n) u = at-each 1 16 (λ n. any (tab 0 n (refused-at (Custom n)))) customs n (not-outside n 16 u .0) (omega (arith, not-outside n 16 u .1))
 
 taken : (l : Layout) (i : ℕ) → uncountable (channelsOf l) ≡ false → i < channelsOf l → refusesAzimuth (azimuthAt l i) ≡ false
 unfolding refused-at
 taken l i u h = at-each 0 (channelsOf l) (refused-at l) (tables l u) i zero-le (omega arith)
 
 -- ---- the weight of channel c in the row of speaker i
-getD-scaled : (f : Float) (xs : List Float) (c : ℕ) (d e : Float) → c < length xs → getD (scaled f xs) c d ≡ mul binary64 (getD xs c e) f
-getD-scaled f [] c d e h = absurd (not-suc-le-zero h)
-getD-scaled f (x ∷ xs) zero d e h = refl
-getD-scaled f (x ∷ xs) (suc c) d e h = getD-scaled f xs c d e (le-of-suc-le-suc h)
+getD-scaled : (f : Float) (xs : List Float) (c : ℕ) → getD (scaled f xs) c nan ≡ mul binary64 (getD xs c nan) f
+unfolding mul
+getD-scaled f xs c = List·getD-map (λ (x : Float). mul binary64 x f) xs c nan
 
 front : refusesElevation (ofInt binary64 (pos 0)) ≡ false
 unfolding refusesAngle isInside ofInt le neg
 front = refl
 
--- as many of them as are taken
-length-first : (k c : ℕ) (xs : List Float) → c < k → k ≤ length xs → c < length (take k xs)
-length-first k c xs h m = rw (length-take k xs) (omega arith)
-
 module _ (order : ℕ) (l : Layout) (o : refusesOrder order ≡ false) (u : uncountable (channelsOf l) ≡ false) (i : ℕ) (h : i < channelsOf l) where
   root : RootOf (2 ^ 53) (number (rootOf binary64 (asFloat (channelsOf l)))) (whole (channelsOf l))
   root =
-      let w = whole-is (channelsOf l) (in-range (channelsOf l) u .0) (in-range (channelsOf l) u .1) in
+      let w = whole-is (channelsOf l) (not-outside (channelsOf l) 16 u .0) (not-outside (channelsOf l) 16 u .1) in
       subst (RootOf (2 ^ 53) (number (rootOf binary64 (asFloat (channelsOf l))))) (w .value) (root-close binary64 (asFloat (channelsOf l)) (w .held) (w .above))
 
   near-one : (x : Float) (a : Fraction) → Approximates 42 (whole 5) x a → BySquares matrixBits (number (mul binary64 x (inverseRoot (channelsOf l)))) a (whole (channelsOf l))
   unfolding inverseRoot round
   near-one x a s =
-      let w = whole-is (channelsOf l) (in-range (channelsOf l) u .0) (in-range (channelsOf l) u .1) in
-      over-root (rootOf binary64 (asFloat (channelsOf l))) (channelsOf l) s (in-range (channelsOf l) u .0) (in-range (channelsOf l) u .1) root (root-fits binary64 (asFloat (channelsOf l)) (w .held) (w .above)) matrixBits tt
+      let w = whole-is (channelsOf l) (not-outside (channelsOf l) 16 u .0) (not-outside (channelsOf l) 16 u .1) in
+      over-root (rootOf binary64 (asFloat (channelsOf l))) (channelsOf l) s (not-outside (channelsOf l) 16 u .0) (not-outside (channelsOf l) 16 u .1) root (root-fits binary64 (asFloat (channelsOf l)) (w .held) (w .above)) matrixBits tt
 
   pub near : (c : ℕ) → c < channelsOfOrder order → channelsOfOrder order ≤ 16 → BySquares matrixBits (number (getD (rowBy order l (channelsOf l) (channelsOfOrder order) i) c nan)) (formulaAt order l i c) (whole (channelsOf l))
   unfolding ofInt
@@ -131,5 +121,5 @@ module _ (order : ℕ) (l : Layout) (o : refusesOrder order ≡ false) (u : unco
       let g = outcome order d .gains in
       let z = accepted order d o (direction-accepted d (taken l i u h) front) in
       subst (λ (x : Float). BySquares matrixBits (number x) (formulaAt order l i c) (whole (channelsOf l)))
-      (sym (getD-scaled (inverseRoot (channelsOf l)) (take (channelsOfOrder order) g) c nan nan (length-first (channelsOfOrder order) c g k (omega (arith, m, gains-length order d (outcome order d) (outcome-kept order d)))) ∙ ap (λ (x : Float). mul binary64 x (inverseRoot (channelsOf l))) (getD-take (channelsOfOrder order) g c nan k)))
+      (sym (getD-scaled (inverseRoot (channelsOf l)) (take (channelsOfOrder order) g) c ∙ ap (λ (x : Float). mul binary64 x (inverseRoot (channelsOf l))) (getD-take (channelsOfOrder order) g c nan k)))
       (near-one (getD g c nan) (formulaAt order l i c) (gain-near order d (outcome order d) (outcome-kept order d) z c nan (whole 0) (omega arith)))

@@ -9,7 +9,7 @@ use lib.ListN.{length, getD}
 use lib.Ieee.{Float, nan, size, units, round, ofInt, le, neg, mul, div}
 use lib.Ieee.Positive.{positive}
 use Rattle.numbers.specs.Computed.{rootOf, wholeRoot}
-use Rattle.planes.specs.Tables.{row}
+use Rattle.checks.specs.Tables.{row}
 use Rattle.planes.specs.Normalization.{asFloat, inverseRoot}
 use Rattle.channel.specs.declared.Layout.the-variants.{Surround51}
 use Rattle.harmonics.specs.Computed.{upTo}

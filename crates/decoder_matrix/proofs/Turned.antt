@@ -1,30 +1,27 @@
 -- Where an azimuth of a Custom layout is above 180, turning it back by 360 is exact; so the speaker sits where document 01 puts it, seen from the other side. By one test over the tables. Assumes nothing.
-use Prim.Native.Nat.{ℕ, _+_, _*_, _≤_, _<_, zero-le}
+use Prim.Native.Nat.{ℕ, _≤_, _<_, zero-le}
 use native.Mathlib.Omega.{arith}
 use mathlib.Core.Path.{_≡_, refl, sym, _∙_}
 use mathlib.Core.Bool.{Bool, true, false, not, cond}
-use lib.Dec.{eqb}
 use borrow.Author.Tests.{eqb-true, not-false}
 use lib.Ieee.{round, ofInt, sub, mul, div, lt}
 use Rattle.refusals.proofs.First.{stops}
-use Rattle.fractions.specs.Fraction.{Fraction, number, whole, _⊖_, Same}
-use Rattle.planes.specs.Tables.{tab, any}
+use Rattle.fractions.specs.Fraction.{number, whole, _⊖_, Same}
+use Rattle.checks.specs.Tables.{tab, any}
+use Rattle.checks.proofs.Checks.{at-each}
+use Rattle.fractions.proofs.Order.{isSame}
 use Rattle.planes.specs.Normalization.{asFloat}
 use Rattle.decoder_matrix.specs.Speakers.{customAzimuth, turnedBack}
-use Rattle.decoder_matrix.proofs.Near.{at-each}
-
-same : Fraction → Fraction → Bool
-same x y = eqb (x .plus * y .over + y .minus * x .over) (y .plus * x .over + x .minus * y .over)
 
 exact-at : ℕ → ℕ → Bool
-exact-at n i = let a = customAzimuth n i in cond (lt (asFloat 180) a) (same (number (turnedBack a)) (number a ⊖ whole 360)) true
+exact-at n i = let a = customAzimuth n i in cond (lt (asFloat 180) a) (isSame (number (turnedBack a)) (number a ⊖ whole 360)) true
 
 all-exact : any (tab 1 16 (λ n. any (tab 0 n (λ i. not (exact-at n i))))) ≡ false
-unfolding same exact-at asFloat ofInt customAzimuth turnedBack round sub mul div lt
+unfolding exact-at asFloat ofInt customAzimuth turnedBack round sub mul div lt
 all-exact = refl
 
 pub turned-exactly : (n i : ℕ) → 1 ≤ n → n ≤ 16 → i < n → lt (asFloat 180) (customAzimuth n i) ≡ true → Same (number (turnedBack (customAzimuth n i))) (number (customAzimuth n i) ⊖ whole 360)
-unfolding same exact-at
+unfolding exact-at
 turned-exactly n i h m l t =
     let e = not-false (exact-at n i) (at-each 0 n (λ i. not (exact-at n i)) (at-each 1 16 (λ n. any (tab 0 n (λ i. not (exact-at n i)))) all-exact n h (omega arith)) i zero-le (omega arith)) in
     eqb-true _ _ (sym (stops _ _ t) ∙ e)

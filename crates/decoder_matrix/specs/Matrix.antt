@@ -4,7 +4,7 @@ use mathlib.Core.List.{List, flatten}
 use lib.ListN.{getD, take}
 use lib.Ieee.{Float}
 use Rattle.fractions.specs.Fraction.{Fraction, whole, number}
-use Rattle.planes.specs.Tables.{tab}
+use Rattle.checks.specs.Tables.{tab}
 use Rattle.planes.specs.Normalization.{inverseRoot}
 use Rattle.rows.specs.Rows.{scaled}
 use Rattle.channel.specs.declared.Layout.{Layout}

@@ -7,27 +7,25 @@ use mathlib.Core.List.{List, [], _∷_}
 use lib.Dec.{eqb}
 use lib.ListN.{length, getD}
 use lib.Ieee.{Float, nan}
-use Rattle.refusals.specs.Refusals.{firstOf, _when_}
+use Rattle.refusals.specs.Refusals.{Check, firstOf, _when_}
 use Rattle.fractions.specs.Fraction.{whole, number}
 use Rattle.fractions.specs.Squares.{BySquares}
-use Rattle.planes.specs.Tables.{row}
+use Rattle.checks.specs.Tables.{row}
 use Rattle.channel.specs.declared.Layout.{Layout}
 use Rattle.channel.specs.Layouts.{channelsOf, uncountable}
 use Rattle.channel.specs.Orders.{refusesOrder, channelsOfOrder}
+pub use Rattle.rows.specs.Rows.{Computed}
 use Rattle.decoder_matrix.specs.Matrix.{matrixOf, formulaAt}
 
 -- within 2 ^ -matrixBits: the place to change it at
 abbrev pub matrixBits : ℕ
 matrixBits = 33
 
--- the refusal, and the lent weights
-pub record Computed : Type 0 where
-  pub refusal : ℕ
-  pub weights : List Float
+abbrev pub checksOf : ℕ → Layout → List Float → List Check
+checksOf order l weights = 1 when refusesOrder order ∷ 2 when uncountable (channelsOf l) ∷ 5 when not (eqb (length weights) (channelsOf l * channelsOfOrder order)) ∷ []
 
 abbrev pub refusalOf : ℕ → Layout → List Float → ℕ
-refusalOf order l weights =
-    firstOf (1 when refusesOrder order ∷ 2 when uncountable (channelsOf l) ∷ 5 when not (eqb (length weights) (channelsOf l * channelsOfOrder order)) ∷ [])
+refusalOf order l weights = firstOf (checksOf order l weights)
 
 abbrev pub outcome : ℕ → Layout → List Float → Computed
 outcome order l weights = let r = refusalOf order l weights in record { refusal = r; weights = cond (eqb r 0) (matrixOf order l) weights }

@@ -2,12 +2,12 @@
 -- An azimuth above 180 is turned back by 360, so that it is one that the harmonics take; the defined sine and cosine reduce by 360 anyway.
 use Prim.Native.Nat.{ℕ}
 use mathlib.Core.Bool.{cond}
-use lib.IntN.{pos}
-use lib.Ieee.{Float, binary64, ofInt, sub, mul, div, lt}
+use lib.Ieee.{Float, binary64, sub, mul, div, lt}
 use Rattle.planes.specs.Normalization.{asFloat}
 use Rattle.channel.specs.declared.Layout.{Layout}
 use Rattle.channel.specs.declared.Layout.the-variants.{Mono, Stereo, Surround51, Surround71, Custom}
 use Rattle.channel.specs.Layouts.{channelsOf, azimuthOf}
+use Rattle.harmonics.specs.Promise.{degrees}
 use Rattle.harmonics.specs.declared.Direction.{Direction}
 
 unfoldable pub customAzimuth : ℕ → ℕ → Float
@@ -29,4 +29,4 @@ azimuthAt l i = azimuthBy l (channelsOf l) i
 
 -- the direction of a speaker: none is above or below
 abbrev pub towards : Float → Direction
-towards a = record { azimuth = a; elevation = ofInt binary64 (pos 0) }
+towards a = record { azimuth = a; elevation = degrees 0 }

@@ -7,7 +7,7 @@
 // formula, by squares. It comes from a harmonic within 2^-42, one root, one division and one product, 2^-53
 // each; with 2^-38 for 2^-33 the same proof passes.
 //
-// Under it lie `harmonics`, `channel` (orders, and the table of angles), `planes` (the inverse of a root), `rows` and
+// Under it lie `harmonics`, `channel` (orders, and the table of angles), `planes` (the inverse of a root), `checks`, `rows` and
 // `refusals`.
 use channel::Layout;
 use harmonics::Direction;
@@ -44,13 +44,10 @@ fn turned_back(azimuth: f64) -> f64
 fn speaker_position(layout: Layout, n: u32, i: u32) -> f64
     ensures { λ r. ⌜ r ≡ azimuthBy layout n i ⌝ }
 {
-    match layout {
-        Layout::Mono => channel::speaker_azimuth(layout, i as usize),
-        Layout::Stereo => channel::speaker_azimuth(layout, i as usize),
-        Layout::Surround51 => channel::speaker_azimuth(layout, i as usize),
-        Layout::Surround71 => channel::speaker_azimuth(layout, i as usize),
-        Layout::Custom(_) => turned_back(custom_azimuth(n, i)),
+    if let Layout::Custom(_) = layout {
+        return turned_back(custom_azimuth(n, i));
     }
+    channel::speaker_azimuth(layout, i as usize)
 }
 
 // Puts the row of a speaker: the first channels of its harmonics, times the scale.
@@ -103,7 +100,7 @@ pub fn compute_decoder_matrix(order: usize, layout: Layout, weights: &mut [f64])
         return 2;
     }
     let channels = ambisonic.channels;
-    if !planes::is_product(weights.len(), counted.channels, channels) {
+    if !checks::is_product(weights.len(), counted.channels, channels) {
         return 5;
     }
     put_speakers(order, layout, counted.channels as u32, channels, weights);

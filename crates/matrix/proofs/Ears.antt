@@ -1,25 +1,20 @@
 -- Two rows put one behind the other fill a list of their length; another length is refused. Assumes nothing.
 use Prim.Native.Nat.{ℕ, _+_}
 use native.Mathlib.Omega.{arith}
-use mathlib.Core.Path.{_≡_, refl, sym, ap, _∙_}
+use mathlib.Core.Path.{_≡_, sym, ap, _∙_}
 use mathlib.Core.Bool.{Bool, not, cond}
+use mathlib.Core.List.{List, [], _∷_, _++_, append-nil, map-append}
 use borrow.Author.Tests.{eq-eqb, ne-eqb}
 use lib.Dec.{eqb}
-use Rattle.refusals.specs.Refusals.{firstOf, _when_}
-use Rattle.planes.specs.Normalization.{inverseRoot}
-use Rattle.matrix.specs.Promise.{Computed}
-use Rattle.matrix.specs.Steps.{put}
-use mathlib.Core.List.{List, [], _∷_, _++_, append-nil}
-use lib.ListN.{length, drop, length-drop, drop-of-length-le}
+use lib.ListN.{length, drop, length-drop, length-map, drop-of-length-le}
 use lib.Seq.{sets}
 use lib.Ieee.{Float, binary64, mul}
+use Rattle.refusals.specs.Refusals.{firstOf, _when_}
+use Rattle.planes.specs.Normalization.{inverseRoot}
 use Rattle.rows.specs.Rows.{scaled}
-use Rattle.rows.proofs.Putting.{length-scaled}
 use Rattle.rows.proofs.Behind.{put-behind}
-
-scaled-append : (f : Float) (xs ys : List Float) → scaled f (xs ++ ys) ≡ scaled f xs ++ scaled f ys
-scaled-append f [] ys = refl
-scaled-append f (x ∷ xs) ys = ap (λ (zs : List Float). mul binary64 x f ∷ zs) (scaled-append f xs ys)
+use Rattle.matrix.specs.Promise.{Computed}
+use Rattle.matrix.specs.Steps.{put}
 
 -- of any lists
 fill : {A : Type 0} (xs ys w : List A) → length w ≡ length xs + length ys → sets (sets w 0 xs) (length xs) ys ≡ xs ++ ys
@@ -33,9 +28,9 @@ fill {A = A} xs ys w n =
 
 ears-put : (f : Float) (left right w : List Float) → length w ≡ length left + length right → sets (sets w 0 (scaled f left)) (length left) (scaled f right) ≡ scaled f (left ++ right)
 ears-put f left right w n =
-    let l : length (scaled f left) ≡ length left = length-scaled f left in
-    let r : length (scaled f right) ≡ length right = length-scaled f right in
-    ap (λ (k : ℕ). sets (sets w 0 (scaled f left)) k (scaled f right)) (sym l) ∙ fill (scaled f left) (scaled f right) w (omega arith) ∙ sym (scaled-append f left right)
+    let l : length (scaled f left) ≡ length left = length-map left (λ (x : Float). mul binary64 x f) in
+    let r : length (scaled f right) ≡ length right = length-map right (λ (x : Float). mul binary64 x f) in
+    ap (λ (k : ℕ). sets (sets w 0 (scaled f left)) k (scaled f right)) (sym l) ∙ fill (scaled f left) (scaled f right) w (omega arith) ∙ sym (map-append (λ (x : Float). mul binary64 x f) left right)
 
 module _ (left right w : List Float) where
   -- by whether the length fits

@@ -7,7 +7,7 @@ use lib.IntN.{negsuc}
 use lib.Ieee.{Float, fin, size, units, round, mul, div}
 use Rattle.numbers.specs.Computed.{rootOf, wholeRoot}
 use Rattle.rows.specs.Rows.{scaled}
-use Rattle.planes.specs.Tables.{tab, any, unsound}
+use Rattle.checks.specs.Tables.{tab, any, unsound}
 use Rattle.planes.specs.Normalization.{asFloat, inverseRoot}
 use Rattle.matrix.specs.Rows.{left, right, rows, hundredths, literals, literal}
 
@@ -22,5 +22,5 @@ rows-are n = ap (λ (f : Float). scaled f (literals (hundredths n left) ++ liter
 
 -- none of the three orders has a number that is NaN or infinite
 pub rows-sound : any (tab 1 3 (λ n. unsound (rows n))) ≡ false
-unfolding hundredths literals literal round mul
+unfolding hundredths literal round mul
 rows-sound = ap (λ (at : ℕ → List Float). any (tab 1 3 (λ n. unsound (at n)))) (fun-ext rows-are)

@@ -9,15 +9,11 @@ use lib.ListN.{length}
 use lib.Ieee.{Float}
 use Rattle.refusals.specs.Refusals.{firstOf, _when_}
 use Rattle.channel.specs.Orders.{refusesOrder, channelsOfOrder}
+pub use Rattle.rows.specs.Rows.{Computed}
 use Rattle.matrix.specs.Rows.{rows}
 
 abbrev pub refusalOf : ℕ → List Float → ℕ
 refusalOf n weights = firstOf (1 when refusesOrder n ∷ 5 when not (eqb (length weights) (2 * channelsOfOrder n)) ∷ [])
-
--- the refusal, and what the list holds
-pub record Computed : Type 0 where
-  pub refusal : ℕ
-  pub weights : List Float
 
 unfoldable pub outcome : ℕ → List Float → Computed
 outcome n weights = record { refusal = refusalOf n weights; weights = cond (eqb (refusalOf n weights) 0) (rows n) weights }

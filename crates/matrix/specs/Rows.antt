@@ -3,7 +3,7 @@
 use Prim.Native.Nat.{ℕ, suc}
 use mathlib.Core.Bool.{true, false, cond}
 use lib.Dec.{eqb}
-use mathlib.Core.List.{List, [], _∷_, _++_}
+use mathlib.Core.List.{List, [], _∷_, _++_, map}
 use lib.IntN.{ℤ, pos, negsuc}
 use lib.Ieee.{Float, binary64, round}
 use Rattle.channel.specs.Layouts.{minus}
@@ -36,9 +36,8 @@ unfoldable pub literal : ℤ → Float
 literal (pos n) = round binary64 false n 100
 literal (negsuc n) = round binary64 true (suc n) 100
 
-unfoldable pub literals : List ℤ → List Float
-literals [] = []
-literals (z ∷ zs) = literal z ∷ literals zs
+abbrev pub literals : List ℤ → List Float
+literals = map literal
 
 -- both rows, the left ear's first, times 1.0/root(2.0)
 unfoldable pub rows : ℕ → List Float

@@ -1,22 +1,21 @@
 -- The answers of `process` are those promised: refused by the command, by a length, by the number of frames, and played. Assumes nothing.
 use mathlib.Core.Path.{_≡_, refl, sym, ap, _∙_}
 use mathlib.Core.Bool.{true, false}
-use mathlib.Core.List.{List, [], _∷_}
+use mathlib.Core.List.{List}
 use Prim.Native.Nat.{ℕ, zero, suc, _≤_, _<_}
 use native.Mathlib.Omega.{arith}
 use borrow.Author.Tests.{lt-ltb, le-ltb}
-use lib.Dec.{ltb, lit<}
 use lib.ListN.{length}
 use lib.Ieee.{Float}
-use Rattle.refusals.specs.Refusals.{Check, firstOf, _when_}
+use Rattle.refusals.specs.Refusals.{Check, firstOf}
 use Rattle.refusals.proofs.First.{stops, goes-on}
+use Rattle.refusals.proofs.Chains.{first-refused, first-accepted}
 use Rattle.planes.specs.Planes.{withFrames}
 use Rattle.panner.specs.declared.Commanded.{Commanded}
-use Rattle.panner.specs.Commands.{noOrder, notOffered, noAngle, commandRefusal, gainsOf}
-use Rattle.panner.specs.Blocks.{Shape, misfit, mostFrames, planesIn, refusalOf, narrowedAll, pannedFrames, framesOf}
+use Rattle.panner.specs.Commands.{commandChecks, gainsOf}
+use Rattle.panner.specs.Blocks.{Shape, misfit, mostFrames, planesIn, blockChecks, refusalOf, narrowedAll, pannedFrames, framesOf}
 use Rattle.panner.specs.Promise.{blockBy, Processed}
-use Rattle.panner.specs.Steps.{Commands}
-use Rattle.panner.proofs.Chains.{first-refused, first-accepted}
+use Rattle.panner.specs.Steps.{commandRefusal, Commands}
 
 module _ (s : Shape) (input out : List Float) where
   abbrev refusal : ℕ
@@ -30,12 +29,11 @@ module _ (s : Shape) (input out : List Float) where
   refused n h e = record { is = refused-block n h ∙ sym (ap (λ (k : ℕ). blockBy k s input out) e); gains = λ k. absurd (h (sym e ∙ k)) }
 
   module _ (g : Commanded) (G : Commands (s .command) (s .layout) g) where
-    -- the checks of the command, and those of the block
     abbrev first : List Check
-    first = 1 when noOrder (s .command) ∷ 2 when notOffered (s .command) (s .layout) ∷ 3 when noAngle (s .command) ∷ []
+    first = commandChecks (s .command) (s .layout)
 
     abbrev then : List Check
-    then = 5 when misfit (length input) (length out) (planesIn s) (s .stride) (s .frames) ∷ 6 when ltb mostFrames (s .frames) ∷ []
+    then = blockChecks s (length input) (length out)
 
     pub by-command : (g .refusal ≡ 0 → ⊥) → Processed s input out (record { refusal = g .refusal; samples = 0 }) out
     by-command h = refused (g .refusal) h (first-refused first then (λ k. h (G .refusal ∙ k)) ∙ sym (G .refusal))
@@ -45,7 +43,7 @@ module _ (s : Shape) (input out : List Float) where
       accepted = sym (G .refusal) ∙ z
 
       goes : refusal ≡ firstOf then
-      goes = first-accepted first then (lit< tt, (lit< tt, (lit< tt, tt))) accepted
+      goes = first-accepted first then tt accepted
 
       misfit-is : misfit (length input) (length out) (g .planes) (s .stride) (s .frames) ≡ misfit (length input) (length out) (planesIn s) (s .stride) (s .frames)
       misfit-is = ap (λ (k : ℕ). misfit (length input) (length out) k (s .stride) (s .frames)) (G .planes accepted)

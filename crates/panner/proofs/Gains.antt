@@ -8,7 +8,7 @@ use borrow.Author.Tests.{not-false}
 use lib.Dec.{eqb, lit≤}
 use lib.ListN.{replicate}
 use lib.Ieee.{Float}
-use Rattle.refusals.proofs.First.{stops, goes-on, passed}
+use Rattle.refusals.proofs.First.{stops, goes-on, passed, not-accepted}
 use Rattle.channel.specs.Layouts.{channelsOf, uncountable, surround, counted}
 use Rattle.channel.specs.Orders.{refusesOrder, channelsOfOrder}
 use Rattle.channel.proofs.Counts.{surround-counted, surround-few}
@@ -26,21 +26,18 @@ use Rattle.harmonics.specs.declared.Coefficients.{Coefficients}
 use Rattle.panner.specs.declared.Command.{Command}
 use Rattle.panner.specs.declared.Command.the-variants.{Stereo, Surround, Ambisonic}
 use Rattle.panner.specs.declared.Commanded.{Commanded}
-use Rattle.panner.specs.Commands.{noOrder, notOffered, commandRefusal, planesOf}
-use Rattle.panner.specs.Steps.{isBadLayout, Commands}
+use Rattle.panner.specs.Commands.{noOrder, notOffered, planesOf}
+use Rattle.panner.specs.Steps.{isBadLayout, commandRefusal, Commands}
 
 -- ---- a refusal
 pub refused : (c : Command) (l : Layout) (g : Commanded) (n : ℕ) → 0 < n → g .refusal ≡ n → g .planes ≤ 16 → commandRefusal c l ≡ n → Commands c l g
 refused c l g n o r f e = record {
   refusal = r ∙ sym e;
   few = f;
-  planes = λ k. absurd (never k);
-  gains = λ k. absurd (never k);
-  promised = λ k. absurd (never k);
+  planes = λ k. absurd (not-accepted n o e k);
+  gains = λ k. absurd (not-accepted n o e k);
+  promised = λ k. absurd (not-accepted n o e k);
 }
-  where
-    never : commandRefusal c l ≡ 0 → ⊥
-    never k = let z : n ≡ 0 = sym e ∙ k in omega arith
 
 -- a test that alone is left gives its 3 where there is a refusal
 three : (r : Bool) (n : ℕ) → n ≡ cond r 3 0 → (n ≡ 0 → ⊥) → _≡_ {A = ℕ} (cond r 3 0) 3
@@ -61,7 +58,7 @@ module _ (l : Layout) (p : Float) (s : StereoGains) (h : Stereo.Pans p s) where
   unfolding Stereo.outcome
   stereo-refusal = ap (λ (x : StereoGains). x .refusal) (h .is) ∙ go (Stereo.isRefused p)
     where
-      go : (b : Bool) → cond b (Stereo.refused 3) (Stereo.played p) .refusal ≡ cond b 3 0
+      go : (b : Bool) → cond b (Stereo.refused (cond b 3 0)) (Stereo.played p) .refusal ≡ cond b 3 0
       go true = refl
       go false = refl
 

@@ -1,5 +1,4 @@
 -- The laws of the panner: of its answers, of single samples, that no two answers meet the promise, and answers that it refutes.
-mod Chains
 mod Gains
 mod Answers
 mod Played

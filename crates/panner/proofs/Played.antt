@@ -2,26 +2,26 @@
 -- Assumes nothing.
 use mathlib.Core.Path.{_≡_, refl, sym, ap, _∙_}
 use mathlib.Core.Bool.{false}
-use mathlib.Core.List.{List, [], _∷_}
+use mathlib.Core.List.{List, [], _++_}
 use Prim.Native.Nat.{ℕ, zero, suc, _*_, _≤_, _<_}
 use native.Mathlib.Nat.{zero-add}
 use native.Mathlib.Omega.{arith}
 use borrow.Author.Tests.{ltb-false}
-use lib.Dec.{ltb, lit<}
 use lib.ListN.{length, getD}
 use lib.Ieee.{Float, nan, binary32, mul}
-use Rattle.refusals.specs.Refusals.{Check, _when_}
+use Rattle.refusals.specs.Refusals.{Check}
+use Rattle.refusals.proofs.Chains.{Off, none-holds}
 use Rattle.numbers.specs.Computed.{narrowed}
-use Rattle.planes.specs.Tables.{tab}
-use Rattle.planes.specs.Planes.{unfit, sampleAt, withFrames}
-use Rattle.planes.proofs.Checks.{or-off, fitted}
+use Rattle.checks.specs.Tables.{tab}
+use Rattle.checks.specs.Lengths.{unfit}
+use Rattle.planes.specs.Planes.{sampleAt, withFrames}
+use Rattle.checks.proofs.Checks.{or-off, fitted}
 use Rattle.planes.proofs.Planes.{with-frames-at, with-frames-other}
-use Rattle.planes.proofs.Tables.{length-tab, getD-tab}
+use Rattle.checks.proofs.Tables.{length-tab, getD-tab}
 use Rattle.panner.specs.declared.Panned.{Panned}
-use Rattle.panner.specs.Commands.{noOrder, notOffered, noAngle, gainsOf}
-use Rattle.panner.specs.Blocks.{Shape, misfit, mostFrames, planesIn, refusalOf, narrowedAll, panned, framesOf}
+use Rattle.panner.specs.Commands.{commandChecks, gainsOf}
+use Rattle.panner.specs.Blocks.{Shape, mostFrames, planesIn, blockChecks, refusalOf, narrowedAll, panned, framesOf}
 use Rattle.panner.specs.Promise.{Block, blockBy, Processed}
-use Rattle.panner.proofs.Chains.{Off, none-holds}
 use Rattle.panner.proofs.Gains.{planes-most}
 
 module _ (s : Shape) (input out : List Float) (answer : Panned) (after : List Float) (P : Processed s input out answer after) where
@@ -49,10 +49,10 @@ module _ (s : Shape) (input out : List Float) (answer : Panned) (after : List Fl
     played = P .is ∙ ap (λ (n : ℕ). blockBy n s input out) (sym refusal-is ∙ z)
 
     abbrev checks : List Check
-    checks = 1 when noOrder (s .command) ∷ 2 when notOffered (s .command) (s .layout) ∷ 3 when noAngle (s .command) ∷ 5 when misfit (length input) (length out) (planesIn s) (s .stride) (s .frames) ∷ 6 when ltb mostFrames (s .frames) ∷ []
+    checks = commandChecks (s .command) (s .layout) ++ blockChecks s (length input) (length out)
 
     off : Off checks
-    off = none-holds checks (lit< tt, (lit< tt, (lit< tt, (lit< tt, (lit< tt, tt))))) (sym refusal-is ∙ z)
+    off = none-holds checks tt (sym refusal-is ∙ z)
 
     fit : unfit (length out) (planesIn s) (s .stride) (s .frames) ≡ false
     fit = or-off (unfit (length input) 1 (s .stride) (s .frames)) (unfit (length out) (planesIn s) (s .stride) (s .frames)) (off .1 .1 .1 .0) .1

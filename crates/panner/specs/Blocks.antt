@@ -2,17 +2,18 @@
 -- panner block has more than 4,096 frames". Definitions only. The input is one plane.
 use Prim.Native.Nat.{ℕ}
 use mathlib.Core.Bool.{Bool}
-use mathlib.Core.List.{List, [], _∷_}
+use mathlib.Core.List.{List, [], _∷_, _++_}
 use lib.Dec.{ltb}
 use lib.ListN.{getD}
 use lib.Ieee.{Float, nan, binary32, mul}
-use Rattle.refusals.specs.Refusals.{firstOf, _when_}
+use Rattle.refusals.specs.Refusals.{Check, firstOf, _when_}
 use Rattle.numbers.specs.Computed.{narrowed}
-use Rattle.planes.specs.Tables.{tab}
-use Rattle.planes.specs.Planes.{blockUnfit, sampleAt}
+use Rattle.checks.specs.Tables.{tab}
+use Rattle.checks.specs.Lengths.{blockUnfit}
+use Rattle.planes.specs.Planes.{sampleAt}
 use Rattle.channel.specs.declared.Layout.{Layout}
 use Rattle.panner.specs.declared.Command.{Command}
-use Rattle.panner.specs.Commands.{noOrder, notOffered, noAngle, planesOf, gainsOf}
+use Rattle.panner.specs.Commands.{commandChecks, planesOf, gainsOf}
 
 -- what a block is asked for beside the samples
 pub record Shape : Type 0 where
@@ -31,9 +32,12 @@ mostFrames = 4096
 abbrev pub planesIn : Shape → ℕ
 planesIn s = planesOf (s .command) (s .layout)
 
+-- what is checked of a block: 1, 2 and 3 of its command, then its lengths and its frames
+abbrev pub blockChecks : Shape → ℕ → ℕ → List Check
+blockChecks s input out = 5 when misfit input out (planesIn s) (s .stride) (s .frames) ∷ 6 when ltb mostFrames (s .frames) ∷ []
+
 abbrev pub refusalOf : Shape → ℕ → ℕ → ℕ
-refusalOf s input out =
-    firstOf (1 when noOrder (s .command) ∷ 2 when notOffered (s .command) (s .layout) ∷ 3 when noAngle (s .command) ∷ 5 when misfit input out (planesIn s) (s .stride) (s .frames) ∷ 6 when ltb mostFrames (s .frames) ∷ [])
+refusalOf s input out = firstOf (commandChecks (s .command) (s .layout) ++ blockChecks s input out)
 
 -- ---- what is played
 

@@ -5,7 +5,7 @@ use mathlib.Core.Bool.{Bool, false, not}
 use mathlib.Core.List.{List, [], _∷_}
 use lib.ListN.{getD, replicate}
 use lib.Ieee.{Float}
-use Rattle.refusals.specs.Refusals.{firstOf, _when_}
+use Rattle.refusals.specs.Refusals.{Check, _when_}
 use Rattle.channel.specs.Layouts.{channelsOf, uncountable, surround}
 use Rattle.channel.specs.Orders.{refusesOrder, channelsOfOrder}
 use Rattle.channel.specs.declared.Layout.{Layout}
@@ -34,9 +34,9 @@ noAngle (Stereo p) = Stereo.isRefused p
 noAngle (Surround a) = Harmonics.refusesAzimuth a
 noAngle (Ambisonic d n) = Harmonics.refusesDirection d
 
--- of these three
-abbrev pub commandRefusal : Command → Layout → ℕ
-commandRefusal c l = firstOf (1 when noOrder c ∷ 2 when notOffered c l ∷ 3 when noAngle c ∷ [])
+-- what is checked of a command
+abbrev pub commandChecks : Command → Layout → List Check
+commandChecks c l = 1 when noOrder c ∷ 2 when notOffered c l ∷ 3 when noAngle c ∷ []
 
 abbrev pub planesOf : Command → Layout → ℕ
 planesOf (Stereo p) l = 2

@@ -1,15 +1,19 @@
 -- What the steps of the program hand to each other. Definitions only, and none that the public promise cites.
-use Prim.Native.Nat.{_≤_}
+use Prim.Native.Nat.{ℕ, _≤_}
 use mathlib.Core.Path.{_≡_}
 use mathlib.Core.Bool.{Bool}
+use Rattle.refusals.specs.Refusals.{firstOf}
 use Rattle.channel.specs.Layouts.{channelsOf, uncountable}
 use Rattle.channel.specs.declared.Layout.{Layout}
 use Rattle.panner.specs.declared.Command.{Command}
 use Rattle.panner.specs.declared.Commanded.{Commanded}
-use Rattle.panner.specs.Commands.{commandRefusal, planesOf, gainsOf, Promised}
+use Rattle.panner.specs.Commands.{commandChecks, planesOf, gainsOf, Promised}
 
 abbrev pub isBadLayout : Layout → Bool
 isBadLayout l = uncountable (channelsOf l)
+
+abbrev pub commandRefusal : Command → Layout → ℕ
+commandRefusal c l = firstOf (commandChecks c l)
 
 -- the gains of a command: its refusal, and if there is none how many planes, with which gains
 pub record Commands (c : Command) (l : Layout) (g : Commanded) : Type 0 where

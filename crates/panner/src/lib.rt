@@ -8,7 +8,7 @@
 // `harmonics` promise. A block of up to 4,096 frames is played to its last frame; a longer one is refused,
 // where panner.rs stops at 4,096 and leaves the old tail.
 //
-// Under it lie these three, `planes` (samples with a stride, the tests of lengths), `numbers` (narrowing),
+// Under it lie these three, `planes` (samples with a stride), `checks` (the tests of lengths), `numbers` (narrowing),
 // `channel` and `refusals`.
 ghost use mathlib.Core.Path.{_≡_};
 ghost use Prim.Native.Nat.{_≤_};
@@ -195,7 +195,7 @@ pub fn process(
             samples: 0,
         };
     }
-    if planes::is_block_unfit(input.len(), 1, out.len(), commanded.planes, stride, frames) {
+    if checks::is_block_unfit(input.len(), 1, out.len(), commanded.planes, stride, frames) {
         return Panned {
             refusal: 5,
             samples: 0,

@@ -2,9 +2,9 @@
 use Prim.Native.Nat.{ℕ, zero, suc, _+_, _-_, _*_, _≤_, _<_}
 use native.Mathlib.Nat.{zero-mul, not-suc-le-zero, le-of-suc-le-suc}
 use native.Mathlib.Omega.{arith}
-use mathlib.Core.Path.{_≡_, refl, sym, ap, _∙_}
+use mathlib.Core.Path.{_≡_, sym, ap, _∙_}
 use mathlib.Core.List.{List, [], _∷_, _++_, flatten, append-assoc}
-use lib.ListN.{length, getD, take, drop, length-append, length-drop}
+use lib.ListN.{length, getD, take, drop, length-append, length-drop, drop-of-length-le}
 use lib.Seq.{take-append-seam, drop-append-add}
 use Rattle.rows.specs.Steps.{putRows}
 use Rattle.rows.proofs.Behind.{put-behind}
@@ -14,20 +14,13 @@ abbrev pub AllOf : {A : Type 0} → ℕ → List (List A) → Type 0
 AllOf n [] = Unit {0}
 AllOf n (r ∷ rs) = (length r ≡ n) × AllOf n rs
 
-empty : {A : Type 0} (n : ℕ) (xs : List A) → length xs ≡ 0 * n → xs ≡ []
-empty n [] e = refl
-empty n (x ∷ xs) e = absurd (none n (length xs) e)
-  where
-    none : (n k : ℕ) → suc k ≡ 0 * n → ⊥
-    none n k e = omega arith
-
 less : (a b k n : ℕ) → a ≡ n → b ≡ suc k * n → b - a ≡ k * n
 less a b k n s e = omega arith
 
 module _ {A : Type 0} (n : ℕ) where
   pub put-joined : (rs : List (List A)) (done rest : List A) → AllOf n rs → length rest ≡ length rs * n → putRows n (done ++ rest) (length done) rs ≡ done ++ flatten rs
   unfolding flatten
-  put-joined [] done rest h e = ap (λ (xs : List A). done ++ xs) (empty n rest e)
+  put-joined [] done rest h e = ap (λ (xs : List A). done ++ xs) (drop-of-length-le rest {i = 0} (omega arith))
   put-joined (r ∷ rs) done rest h e =
       let left : List A = drop (length r) rest in
       ap (λ (xs : List A). putRows n xs (length done + n) rs) (put-behind done r rest (room (length r) (length rest) (length rs) (h .0) e))

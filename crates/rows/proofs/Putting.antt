@@ -14,10 +14,6 @@ sets-out : {A : Type 0} (l : List A) (i : ℕ) (vs : List A) → length l ≤ i 
 sets-out l i [] h = refl
 sets-out {A = A} l i (a ∷ vs) h = ap (λ (m : List A). sets m (suc i) vs) (set-out l i a h) ∙ sets-out l (suc i) vs (le-trans h (le-suc i))
 
-pub length-scaled : (f : Float) (xs : List Float) → length (scaled f xs) ≡ length xs
-length-scaled f [] = refl
-length-scaled f (x ∷ xs) = ap suc (length-scaled f xs)
-
 pub record Putting (row : List Float) (scale : Float) (weights₀ : List Float) (at : ℕ) (weights : List Float) (to i : ℕ) : Type 0 where
   pub size : length weights ≡ length weights₀
   pub rest : sets weights to (scaled scale (drop i row)) ≡ sets weights₀ at (scaled scale row)

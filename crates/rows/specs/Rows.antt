@@ -1,7 +1,12 @@
--- Document 01, 'Gains': a row of gains "times 1/root(n)", each product rounded once. Definitions only.
-use mathlib.Core.List.{List, [], _∷_}
+-- Document 01, 'Gains': a row of gains "times 1/root(n)", each product rounded once; and what the operations that fill lent weights with such rows leave. Definitions only.
+use Prim.Native.Nat.{ℕ}
+use mathlib.Core.List.{List, map}
 use lib.Ieee.{Float, binary64, mul}
 
 abbrev pub scaled : Float → List Float → List Float
-scaled f [] = []
-scaled f (x ∷ xs) = mul binary64 x f ∷ scaled f xs
+scaled f = map (λ (x : Float). mul binary64 x f)
+
+-- the refusal, and what the lent weights hold
+pub record Computed : Type 0 where
+  pub refusal : ℕ
+  pub weights : List Float

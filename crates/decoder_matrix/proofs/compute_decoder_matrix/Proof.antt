@@ -10,7 +10,8 @@ use lib.ListN.{length}
 use Rattle.rows.specs.Steps.{putRows}
 use Rattle.channel.specs.Layouts.{channelsOf, uncountable}
 use Rattle.channel.specs.Orders.{refusesOrder, channelsOfOrder}
-use Rattle.channel.proofs.Counts.{in-range, counted-well, counted-ill}
+use Rattle.refusals.proofs.Counts.{not-outside}
+use Rattle.channel.proofs.Counts.{counted-well, counted-ill}
 use Rattle.channel.proofs.Orders.{few-channels, order-well, order-ill}
 use Rattle.decoder_matrix.specs.Matrix.{rowsBy}
 use Rattle.decoder_matrix.proofs.Answers.{order-refused, layout-refused, length-refused, matrix-put}
@@ -32,7 +33,7 @@ layout-in : (c : tie.Else2) → (uncountable (channelsOf (c .before .before .bef
 layout-in c = counted-well (c .before .before .before .before .before .before .before .args .layout) _ (c .before .before .channel-count .ensures) (c .if2 .left)
 
 few-speakers : (c : tie.Else2) → c .before .before .channel-count .result .channels ≤ 16
-few-speakers c = omega (arith, layout-in c .1, in-range (channelsOf (c .before .before .before .before .before .before .before .args .layout)) (layout-in c .0) .1)
+few-speakers c = omega (arith, layout-in c .1, not-outside (channelsOf (c .before .before .before .before .before .before .before .args .layout)) 16 (layout-in c .0) .1)
 
 -- speakers x channels
 size-is : (c : tie.Else2) → c .before .before .channel-count .result .channels * c .before .before .before .before .before .ambisonic-channel-count .result .channels ≡ channelsOf (c .before .before .before .before .before .before .before .args .layout) * channelsOfOrder (c .before .before .before .before .before .before .before .args .order)
