@@ -11,6 +11,7 @@ use lib.Ieee.{Float}
 use lib.IntN.{ℤ}
 use lib.ListN.{length, drop}
 use Rattle.refusals.proofs.First.{stops, goes-on}
+use Rattle.checks.proofs.Checks.{equal-passes}
 use Rattle.big_endian.specs.Placed.{placed}
 use Rattle.big_endian.proofs.Placed.{placed-start}
 use Rattle.bank_form.specs.Bank.{Bank, rows, valid}
@@ -26,9 +27,6 @@ use Rattle.bank.specs.Writing.{WriteOutcome, writeRefusal, writeRefused,
 fails : (a b : ℕ) → (a ≡ b → ⊥) → not (eqb a b) ≡ true
 fails a b h = ap not (ne-eqb a b h)
 
-holds : (a b : ℕ) → a ≡ b → not (eqb a b) ≡ false
-holds a b h = ap not (eq-eqb a b h)
-
 module _ (file : List ℕ) (zs : List ℤ) (xs : List Float) where
   read-refused : (n : ℕ) → 0 < n → readRefusal file zs xs ≡ n → readRefused n zs xs ≡ readOutcome file zs xs
   unfolding readOutcome
@@ -41,12 +39,12 @@ module _ (file : List ℕ) (zs : List ℤ) (xs : List Float) where
   module _ (eight : length zs ≡ 8) where
     pub taps-lent : (length xs ≡ 8192 → ⊥) → readRefused 5 zs xs ≡ readOutcome file zs xs
     unfolding readRefusal
-    taps-lent h = read-refused 5 (omega arith) (goes-on _ _ (holds (length zs) 8 eight) ∙ stops _ _ (fails (length xs) 8192 h))
+    taps-lent h = read-refused 5 (omega arith) (goes-on _ _ (equal-passes (length zs) 8 eight) ∙ stops _ _ (fails (length xs) 8192 h))
 
     module _ (most : length xs ≡ 8192) where
       judged : readRefusal file zs xs ≡ cond (not (isFile file)) 9 0
       unfolding readRefusal
-      judged = goes-on _ _ (holds (length zs) 8 eight) ∙ goes-on _ _ (holds (length xs) 8192 most)
+      judged = goes-on _ _ (equal-passes (length zs) 8 eight) ∙ goes-on _ _ (equal-passes (length xs) 8192 most)
 
       pub broken : isFile file ≡ false → readRefused 9 zs xs ≡ readOutcome file zs xs
       broken h = read-refused 9 (omega arith) (judged ∙ stops _ _ (ap not h))
@@ -133,7 +131,7 @@ module _ (b : Bank) (file : List ℕ) where
 
   judged-bank : Lent → writeRefusal b file ≡ cond (not (valid b)) 9 0
   unfolding writeRefusal
-  judged-bank l = goes-on _ _ (holds (length (b .taps)) (2 * rows b * b .length) (l .count)) ∙ goes-on _ _ (holds (length file) (length (encode b)) (l .size))
+  judged-bank l = goes-on _ _ (equal-passes (length (b .taps)) (2 * rows b * b .length) (l .count)) ∙ goes-on _ _ (equal-passes (length file) (length (encode b)) (l .size))
 
   pub breaks : Lent → valid b ≡ false → writeRefused 9 file ≡ writeOutcome b file
   breaks l h = write-refused 9 (omega arith) (judged-bank l ∙ stops _ _ (ap not h))

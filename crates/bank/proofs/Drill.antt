@@ -2,50 +2,44 @@
 -- Assumes nothing.
 use mathlib.Core.Path.{_≡_, refl, sym, ap, _∙_}
 use mathlib.Core.Bool.{true, false}
-use mathlib.Core.List.{List, [], _∷_}
+use mathlib.Core.List.{List}
 use Prim.Native.Nat.{ℕ}
-use lib.Ieee.{Float, fin, toBits, fits}
-use lib.IntN.{ℤ, pos, negsuc}
+use lib.Ieee.{Float, toBits, fits}
+use lib.IntN.{ℤ}
 use lib.ListN.{length, take}
 use Rattle.big_endian.specs.Bytes.{valueOf, bytesOf}
 use Rattle.big_endian.specs.Fields.{fieldAt}
 use Rattle.big_endian.specs.Lists.{fieldBytes}
-use Rattle.bank_form.specs.Bank.{Bank, within, inRange, differ, isTap, every, pairwise, valid}
+use Rattle.bank_form.specs.Bank.{within, inRange, differ, isTap, every, pairwise, valid}
 use Rattle.bank_form.specs.Encoding.{rowBytes, bodyBytes, encode}
 use Rattle.bank_form.specs.FaultComputed.{field, orElse, headField, headFault, fault, isFile}
 use Rattle.bank.specs.Reading.{ReadOutcome, readBank, readRefused, Reads}
 use Rattle.bank.specs.Writing.{WriteOutcome, Writes}
+use Rattle.bank.specs.Drill.{oneRow, oneRowBytes}
 use Rattle.bank.proofs.Answers.{broken}
 use Rattle.bank.proofs.Promises.{is-accepted, is-written}
 
-unfoldable pub oneRow : Bank
-oneRow = record { azimuths = pos 0 ∷ []; length = 1; taps = fin false 1 (pos 0) ∷ fin false 1 (negsuc 0) ∷ [] }
-
-unfoldable pub itsBytes : List ℕ
-itsBytes = 0x01 ∷ 0x00 ∷ 0x00 ∷ 0x00 ∷ 0x0E ∷ 0x00 ∷ 0x01 ∷ 0x00 ∷ 0x01 ∷ 0x00 ∷ 0x00 ∷ 0x3F ∷ 0x80 ∷ 0x00 ∷ 0x00 ∷ 0x3F ∷ 0x00 ∷ 0x00 ∷ 0x00 ∷ []
-
-pub bank-bytes : encode oneRow ≡ itsBytes
-unfolding oneRow itsBytes encode bodyBytes rowBytes fieldBytes bytesOf toBits
+pub bank-bytes : encode oneRow ≡ oneRowBytes
+unfolding encode bodyBytes rowBytes fieldBytes bytesOf toBits
 bank-bytes = refl
 
 pub bank-keeps : valid oneRow ≡ true
-unfolding oneRow valid within inRange differ isTap every pairwise fits
+unfolding valid within inRange differ isTap every pairwise fits
 bank-keeps = refl
 
-pub bank-cut : isFile (take 18 itsBytes) ≡ false
-unfolding itsBytes isFile fault headFault headField field orElse within fieldAt valueOf
+pub bank-cut : isFile (take 18 oneRowBytes) ≡ false
+unfolding isFile fault headFault headField field orElse within fieldAt valueOf
 bank-cut = refl
 
 -- what every writing and reading of them comes to
 
-pub drill-written : (buffer : List ℕ) (w : WriteOutcome) → length buffer ≡ 19 → Writes oneRow buffer w → w ≡ record { answer = record { refusal = 0; bytes = 19 }; file = itsBytes }
-unfolding itsBytes
+pub drill-written : (buffer : List ℕ) (w : WriteOutcome) → length buffer ≡ 19 → Writes oneRow buffer w → w ≡ record { answer = record { refusal = 0; bytes = 19 }; file = oneRowBytes }
 drill-written buffer w h r =
     is-written oneRow buffer w r bank-keeps (h ∙ sym (ap length bank-bytes)) ∙ (λ i. record { answer = record { refusal = 0; bytes = length (bank-bytes i) }; file = bank-bytes i })
 
 module _ (zs : List ℤ) (xs : List Float) (eight : length zs ≡ 8) (most : length xs ≡ 8192) (o : ReadOutcome) where
-  pub drill-read : Reads itsBytes zs xs o → o ≡ readBank oneRow zs xs
-  drill-read r = is-accepted itsBytes zs xs o r eight most oneRow (record { keeps = bank-keeps; bytes = bank-bytes })
+  pub drill-read : Reads oneRowBytes zs xs o → o ≡ readBank oneRow zs xs
+  drill-read r = is-accepted oneRowBytes zs xs o r eight most oneRow (record { keeps = bank-keeps; bytes = bank-bytes })
 
-  pub drill-cut : Reads (take 18 itsBytes) zs xs o → o ≡ readRefused 9 zs xs
-  drill-cut r = r .outcome ∙ sym (broken (take 18 itsBytes) zs xs eight most bank-cut)
+  pub drill-cut : Reads (take 18 oneRowBytes) zs xs o → o ≡ readRefused 9 zs xs
+  drill-cut r = r .outcome ∙ sym (broken (take 18 oneRowBytes) zs xs eight most bank-cut)

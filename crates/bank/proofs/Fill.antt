@@ -8,7 +8,7 @@ use native.Mathlib.Numerals.{add-one}
 use native.Mathlib.Omega.{arith}
 use lib.Ieee.{Float, binary32, toBits}
 use lib.IntN.{ℤ, pos}
-use lib.ListN.{length, getD, take, drop, set, length-append, length-drop, drop-of-length-le, List·getD-eq-default}
+use lib.ListN.{length, getD, take, drop, set, length-append, drop-of-length-le, List·getD-eq-default}
 use lib.Seq.{take-at, take-length, length-take-le}
 use mir.Syntax.{w16}
 use mir.Val.{ofZ}
@@ -16,7 +16,7 @@ use Rattle.big_endian.specs.Bytes.{bytesOf}
 use Rattle.big_endian.specs.Fields.{signedAt, floatAt, withField}
 use Rattle.big_endian.specs.Lists.{floatBytes}
 use Rattle.big_endian.proofs.Bytes.{length-bytes}
-use Rattle.big_endian.proofs.Fields.{field-put}
+use Rattle.big_endian.proofs.Fields.{field-put, length-part}
 use Rattle.big_endian.proofs.Lists.{length-strided, read-more, part-more, length-fieldBytes}
 use Rattle.bank_form.specs.Bank.{Bank, rows}
 use Rattle.bank_form.specs.Encoding.{rowBytes, bodyBytes, encode}
@@ -28,12 +28,9 @@ use Rattle.bank_form.specs.FaultComputed.{rowSize, azimuthsFrom, rowTaps, tapsF
 use Rattle.bank.specs.HeadComputed.{headBytes}
 use Rattle.bank_form.proofs.Lists.{taps-snoc, length-taps}
 
--- how far i rows reach in a file and in the list of taps
-pub rows-before : (i k l : ℕ) → i ≤ k → l ≤ 512 → i * rowSize l ≤ k * 4098
-rows-before i k l h g = let row : rowSize l ≤ 4098 = omega (arith, g) in mul-le-mul h row
-
-pub taps-before : (i k l : ℕ) → i ≤ k → l ≤ 512 → i * (2 * l) ≤ k * 1024
-taps-before i k l h g = let taps : 2 * l ≤ 1024 = omega (arith, g) in mul-le-mul h taps
+-- how far the taps of i rows reach in the list of taps, where there are at most k
+pub taps-reach : (i k l : ℕ) → i ≤ k → l ≤ 512 → i * (2 * l) ≤ k * 1024
+taps-reach i k l h g = let taps : 2 * l ≤ 1024 = omega (arith, g) in mul-le-mul h taps
 
 module _ (s : List ℕ) (l : ℕ) where
   pub azimuth-more : (zs ys : List ℤ) (i : ℕ) (z : ℤ) → ys ≡ placed zs 0 (azimuthsFrom s l 9 i) → i < length zs → z ≡ signedAt s (9 + i * rowSize l)
@@ -51,9 +48,6 @@ module _ (s : List ℕ) (l : ℕ) where
       k ∙ rw (e, add-one i, taps-snoc s l 9 i) (rw none at (placed-on xs 0 q (tapsFrom s l 9 i) (rowTaps s l (9 + i * rowSize l)) long (omega arith)))
 
 -- ---- writing
-
-pub length-part : (xs : List Float) (q n : ℕ) → q + n ≤ length xs → length (take n (drop q xs)) ≡ n
-length-part xs q n h = length-take-le n (drop q xs) (omega (arith, length-drop q xs))
 
 -- a row of its azimuth and its taps
 pub length-row : (z : ℤ) (l : ℕ) (xs : List Float) (q : ℕ) → q + 2 * l ≤ length xs → length (oneRow z l xs q) ≡ rowSize l

@@ -2,37 +2,31 @@
 -- (`accepted-is`, `is-accepted`); a bank is accepted exactly if it keeps the form (`written-is`, `is-written`); reading what was written gives the same bank (`read-after-write`), and
 -- writing what was read gives the same bytes (`write-after-read`). Assumes nothing.
 use mathlib.Core.Path.{_≡_, refl, sym, ap, _∙_}
-use mathlib.Core.Bool.{Bool, true, false, not, cond}
+use mathlib.Core.Bool.{Bool, true, false}
 use mathlib.Core.List.{List}
 use Prim.Native.Nat.{ℕ, _*_}
-use native.Mathlib.Omega.{arith}
 use borrow.Author.Tests.{eqb-true, eqb-false, not-false}
 use lib.Dec.{eqb}
 use lib.Ieee.{Float}
 use lib.IntN.{ℤ}
 use lib.ListN.{length, take, drop}
 use lib.Seq.{take-at}
+use Rattle.refusals.proofs.Chains.{none-holds}
+use Rattle.refusals.proofs.Determined.{determined}
 use Rattle.bank_form.specs.Bank.{Bank, rows, valid}
 use Rattle.bank_form.specs.Encoding.{encode}
 use Rattle.bank_form.specs.FaultComputed.{bankIn, isFile}
 use Rattle.bank_form.specs.File.{IsFile}
 use Rattle.bank_form.proofs.Exact.{keeps}
-use Rattle.bank.specs.Reading.{ReadOutcome, readRefusal, readBank, readOutcome, Reads}
-use Rattle.bank.specs.Writing.{WriteOutcome, writeRefusal, writeBank, writeOutcome, Writes}
+use Rattle.bank.specs.Reading.{ReadOutcome, readChecks, readRefusal, readBank, readOutcome, Reads}
+use Rattle.bank.specs.Writing.{WriteOutcome, writeChecks, writeRefusal, writeBank, writeOutcome, Writes}
 use Rattle.bank.proofs.Answers.{accepted, Lent, written}
 
 pub read-unique : (file : List ℕ) (zs : List ℤ) (xs : List Float) (a b : ReadOutcome) → Reads file zs xs a → Reads file zs xs b → a ≡ b
-read-unique file zs xs a b p q = p .outcome ∙ sym (q .outcome)
+read-unique file zs xs a b p q = determined a b (p .outcome) (q .outcome)
 
 pub write-unique : (b : Bank) (file : List ℕ) (u w : WriteOutcome) → Writes b file u → Writes b file w → u ≡ w
-write-unique b file u w p q = p ∙ sym q
-
--- three tests, the numbers of which are not 0, of which none holds
-none-holds : (a b c : Bool) → _≡_ {A = ℕ} (cond a 5 (cond b 5 (cond c 9 0))) 0 → (a ≡ false) × (b ≡ false) × (c ≡ false)
-none-holds true b c e = absurd (omega arith)
-none-holds false true c e = absurd (omega arith)
-none-holds false false true e = absurd (omega arith)
-none-holds false false false e = (refl, refl, refl)
+write-unique b file = determined
 
 -- ---- reading
 
@@ -45,8 +39,8 @@ module _ (file : List ℕ) (zs : List ℤ) (xs : List Float) where
   parts : readRefusal file zs xs ≡ 0 → Accepted
   unfolding readRefusal
   parts e =
-      let all = none-holds (not (eqb (length zs) 8)) (not (eqb (length xs) 8192)) (not (isFile file)) e in
-      record { eight = eqb-true _ _ (not-false _ (all .0)); most = eqb-true _ _ (not-false _ (all .1)); file-good = not-false _ (all .2) }
+      let off = none-holds (readChecks file zs xs) tt e in
+      record { eight = eqb-true _ _ (not-false _ (off .0)); most = eqb-true _ _ (not-false _ (off .1 .0)); file-good = not-false _ (off .1 .1 .0) }
 
   pub accepted-parts : readOutcome file zs xs .answer .refusal ≡ 0 → Accepted
   unfolding readOutcome
@@ -74,8 +68,8 @@ module _ (b : Bank) (file : List ℕ) where
   lengths-and-form : writeRefusal b file ≡ 0 → Lent b file × (valid b ≡ true)
   unfolding writeRefusal
   lengths-and-form e =
-      let all = none-holds (not (eqb (length (b .taps)) (2 * rows b * b .length))) (not (eqb (length file) (length (encode b)))) (not (valid b)) e in
-      (record { count = eqb-true _ _ (not-false _ (all .0)); size = eqb-true _ _ (not-false _ (all .1)) }, not-false _ (all .2))
+      let off = none-holds (writeChecks b file) tt e in
+      (record { count = eqb-true _ _ (not-false _ (off .0)); size = eqb-true _ _ (not-false _ (off .1 .0)) }, not-false _ (off .1 .1 .0))
 
   written-parts : writeOutcome b file .answer .refusal ≡ 0 → Lent b file × (valid b ≡ true)
   unfolding writeOutcome

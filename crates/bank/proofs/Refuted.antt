@@ -9,14 +9,15 @@ use lib.Signed.{mag}
 use lib.ListN.{length, take, drop, replicate, getD, length-replicate}
 use Rattle.bank.specs.Reading.{ReadOutcome, readRefused, readBank, Reads}
 use Rattle.bank.specs.Writing.{WriteOutcome, Writes}
-use Rattle.bank.proofs.Drill.{oneRow, itsBytes, drill-read, drill-cut, drill-written}
+use Rattle.bank.specs.Drill.{oneRow, oneRowBytes}
+use Rattle.bank.proofs.Drill.{drill-read, drill-cut, drill-written}
 
 -- lists that hold something else than what the file would bring
 sevens : List ℤ
 sevens = pos 7 ∷ pos 7 ∷ pos 7 ∷ pos 7 ∷ pos 7 ∷ pos 7 ∷ pos 7 ∷ pos 7 ∷ []
 
 -- the azimuth is filled in, and then the file turns out to be cut short
-filled-before-the-check : (xs : List Float) → length xs ≡ 8192 → Reads (take 18 itsBytes) sevens xs (record { answer = record { refusal = 9; rows = 0; length = 0 }; azimuths = pos 0 ∷ drop 1 sevens; taps = xs }) → ⊥
+filled-before-the-check : (xs : List Float) → length xs ≡ 8192 → Reads (take 18 oneRowBytes) sevens xs (record { answer = record { refusal = 9; rows = 0; length = 0 }; azimuths = pos 0 ∷ drop 1 sevens; taps = xs }) → ⊥
 unfolding sevens
 filled-before-the-check xs h r =
     let e = drill-cut sevens xs refl h _ r in
@@ -24,29 +25,28 @@ filled-before-the-check xs h r =
     omega arith
 
 -- every file is refused
-refuses-always : (xs : List Float) → length xs ≡ 8192 → Reads itsBytes sevens xs (readRefused 9 sevens xs) → ⊥
+refuses-always : (xs : List Float) → length xs ≡ 8192 → Reads oneRowBytes sevens xs (readRefused 9 sevens xs) → ⊥
 unfolding sevens
 refuses-always xs h r =
     let z : _≡_ {A = ℕ} 9 0 = ap (λ (o : ReadOutcome). o .answer .refusal) (drill-read sevens xs refl h _ r) in
     omega arith
 
 -- accepted, and nothing filled in
-fills-nothing : (xs : List Float) → length xs ≡ 8192 → Reads itsBytes sevens xs (record { answer = record { refusal = 0; rows = 1; length = 1 }; azimuths = sevens; taps = xs }) → ⊥
-unfolding sevens oneRow
+fills-nothing : (xs : List Float) → length xs ≡ 8192 → Reads oneRowBytes sevens xs (record { answer = record { refusal = 0; rows = 1; length = 1 }; azimuths = sevens; taps = xs }) → ⊥
+unfolding sevens
 fills-nothing xs h r =
     let z : _≡_ {A = ℕ} 7 0 = ap (λ (o : ReadOutcome). mag (getD (o .azimuths) 0 (pos 0))) (drill-read sevens xs refl h _ r) in
     omega arith
 
 -- a cut file is read as far as it goes
-reads-what-is-there : (xs : List Float) → length xs ≡ 8192 → Reads (take 18 itsBytes) sevens xs (readBank oneRow sevens xs) → ⊥
-unfolding sevens oneRow
+reads-what-is-there : (xs : List Float) → length xs ≡ 8192 → Reads (take 18 oneRowBytes) sevens xs (readBank oneRow sevens xs) → ⊥
+unfolding sevens
 reads-what-is-there xs h r =
     let z : _≡_ {A = ℕ} 0 9 = ap (λ (o : ReadOutcome). o .answer .refusal) (drill-cut sevens xs refl h _ r) in
     omega arith
 
 -- accepted, and nothing written
 writes-nothing : Writes oneRow (replicate 19 0) (record { answer = record { refusal = 0; bytes = 19 }; file = replicate 19 0 }) → ⊥
-unfolding itsBytes
 writes-nothing r =
     let z : _≡_ {A = ℕ} 0 1 = ap (λ (w : WriteOutcome). getD (w .file) 0 0) (drill-written (replicate 19 0) _ (length-replicate {A = ℕ} 19 0) r) in
     omega arith

@@ -8,7 +8,7 @@ use lib.Dec.{eqb}
 use lib.Ieee.{Float}
 use lib.IntN.{ℤ}
 use lib.ListN.{length, drop}
-use Rattle.refusals.specs.Refusals.{_when_, firstOf}
+use Rattle.refusals.specs.Refusals.{Check, _when_, firstOf}
 use Rattle.bank_form.specs.Bank.{Bank, rows}
 use Rattle.bank_form.specs.FaultComputed.{bankIn, isFile}
 use Rattle.bank_form.specs.File.{Exactly}
@@ -20,8 +20,11 @@ pub record ReadOutcome : Type 0 where
   pub azimuths : List ℤ
   pub taps : List Float
 
+abbrev pub readChecks : List ℕ → List ℤ → List Float → List Check
+readChecks file zs xs = 5 when not (eqb (length zs) 8) ∷ 5 when not (eqb (length xs) 8192) ∷ 9 when not (isFile file) ∷ []
+
 unfoldable pub readRefusal : List ℕ → List ℤ → List Float → ℕ
-readRefusal file zs xs = firstOf (5 when not (eqb (length zs) 8) ∷ 5 when not (eqb (length xs) 8192) ∷ 9 when not (isFile file) ∷ [])
+readRefusal file zs xs = firstOf (readChecks file zs xs)
 
 abbrev pub readRefused : ℕ → List ℤ → List Float → ReadOutcome
 readRefused n zs xs = record { answer = record { refusal = n; rows = 0; length = 0 }; azimuths = zs; taps = xs }

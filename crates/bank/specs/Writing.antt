@@ -6,7 +6,7 @@ use mathlib.Core.List.{List, [], _∷_}
 use Prim.Native.Nat.{ℕ, _*_}
 use lib.Dec.{eqb}
 use lib.ListN.{length}
-use Rattle.refusals.specs.Refusals.{_when_, firstOf}
+use Rattle.refusals.specs.Refusals.{Check, _when_, firstOf}
 use Rattle.bank_form.specs.Bank.{Bank, rows, valid}
 use Rattle.bank_form.specs.Encoding.{encode}
 use Rattle.bank.specs.declared.BankWritten.{BankWritten}
@@ -16,8 +16,11 @@ pub record WriteOutcome : Type 0 where
   pub answer : BankWritten
   pub file : List ℕ
 
+abbrev pub writeChecks : Bank → List ℕ → List Check
+writeChecks b file = 5 when not (eqb (length (b .taps)) (2 * rows b * b .length)) ∷ 5 when not (eqb (length file) (length (encode b))) ∷ 9 when not (valid b) ∷ []
+
 unfoldable pub writeRefusal : Bank → List ℕ → ℕ
-writeRefusal b file = firstOf (5 when not (eqb (length (b .taps)) (2 * rows b * b .length)) ∷ 5 when not (eqb (length file) (length (encode b))) ∷ 9 when not (valid b) ∷ [])
+writeRefusal b file = firstOf (writeChecks b file)
 
 abbrev pub writeRefused : ℕ → List ℕ → WriteOutcome
 writeRefused n file = record { answer = record { refusal = n; bytes = 0 }; file = file }

@@ -186,7 +186,7 @@ fn lengths_fit(rows: usize, l: usize, taps: usize, file: usize) -> bool
     requires { ⌜ (rows * 2 < 2 ^ 63) × (taps * 4 < 2 ^ 63) ⌝ }
     ensures { λ r. ⌜ r ≡ (eqb taps (2 * rows * l) && eqb file (9 + rows * rowSize l)) ⌝ }
 {
-    if !planes::is_product(taps, 2 * rows, l) {
+    if !checks::is_product(taps, 2 * rows, l) {
         return false;
     }
     if file < 9 {

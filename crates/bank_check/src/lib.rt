@@ -90,7 +90,7 @@ fn taps_fault(s: &[u8], at: usize, n: usize) -> Fault
     let mut k = n;
     while 0 < k {
         let tap = numbers::widen(big_endian::get_f32(s, p));
-        let f = field_fault(s.len(), p, 4, 18, planes::is_finite(tap));
+        let f = field_fault(s.len(), p, 4, 18, checks::is_finite(tap));
         if f.refusal != 0 {
             return f;
         }

@@ -109,12 +109,9 @@ rowBytes-snoc (z ∷ zs) l xs (suc i) h =
 pub row-fits : (i n w : ℕ) → i < n → i * w + w ≤ n * w
 row-fits i n w h = rw (← suc-mul i w) (mul-le-mul-right w h)
 
--- a file is small
-pub body-small : (n l : ℕ) → n ≤ 8 → l ≤ 512 → n * rowSize l ≤ 32784
-body-small n l h g = mul-le-mul h (row-small l g)
-  where
-    row-small : (l : ℕ) → l ≤ 512 → rowSize l ≤ 4098
-    row-small l g = omega arith
+-- how far i rows reach, where there are at most k
+pub rows-reach : (i k l : ℕ) → i ≤ k → l ≤ 512 → i * rowSize l ≤ k * 4098
+rows-reach i k l h g = let row : rowSize l ≤ 4098 = omega (arith, g) in mul-le-mul h row
 
 -- ---- reading what was written
 
@@ -140,14 +137,10 @@ record RowsStand (s : List ℕ) (p : ℕ) (zs : List ℤ) (l : ℕ) (xs : List F
   taps : tapsFrom s l p (length zs) ≡ xs
   after : drop (p + length zs * rowSize l) s ≡ t
 
-none-left : (xs : List Float) → length xs ≡ 0 → [] ≡ xs
-none-left [] h = refl
-none-left (x ∷ xs) h = absurd (omega arith)
-
 rows-stand : (s : List ℕ) (p : ℕ) (zs : List ℤ) (l : ℕ) (xs : List Float) (t : List ℕ) → length xs ≡ length zs * (2 * l) → Each IsAzimuth (pos 0) zs → Each IsFloat nan xs
     → drop p s ≡ rowBytes zs l xs ++ t → RowsStand s p zs l xs t
 unfolding rowBytes strided tapsFrom signedAt
-rows-stand s p [] l xs t n g f e = record { azimuths = refl; taps = none-left xs (omega (arith, n)); after = from-there s (p + 0 * rowSize l) p t (omega arith) e }
+rows-stand s p [] l xs t n g f e = record { azimuths = refl; taps = sym (drop-of-length-le xs {i = 0} (omega (arith, n))); after = from-there s (p + 0 * rowSize l) p t (omega arith) e }
 rows-stand s p (z ∷ zs) l xs t n g f e =
     let m = 2 * l in
     let bits = ofZ w16 z in
@@ -188,7 +181,7 @@ read-write b h =
     let tail = rowBytes (b .azimuths) l (b .taps) in
     let body = bodyBytes b in
     let long = length-encode b (h .count) in
-    let small : length body ≤ 32788 = omega (arith, length-body b (h .count), body-small n l (h .few) (h .short)) in
+    let small : length body ≤ 32788 = omega (arith, length-body b (h .count), rows-reach n 8 l (h .few) (h .short)) in
     let v = stands s 0 1 1 (bytesOf 4 (length body) ++ body) (omega arith) (omega arith) (omega arith) (unfold bytesOf in refl) in
     let a = stands s 1 4 (length body) body (omega arith) (omega arith) (omega arith) (v .after) in
     let c = stands s 5 2 n (bytesOf 2 l ++ tail) (omega arith) (omega (arith, h .few)) (omega arith) (a .after) in

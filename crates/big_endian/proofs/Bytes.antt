@@ -2,7 +2,7 @@
 use mathlib.Core.Path.{_≡_, refl, sym, ap, _∙_}
 use mathlib.Core.List.{List, [], _∷_, _++_}
 use Prim.Native.Nat.{ℕ, zero, suc, _+_, _-_, _*_, _/_, _%_, _^_, _<_}
-use native.Mathlib.Nat.{pow-suc, one-le-pow, mod-lt, mod-eq-of-lt, mod-one, mul-add-div-right, mul-add-mod-self-right}
+use native.Mathlib.Nat.{pow-suc, one-le-pow, mod-eq-of-lt, mod-one, mul-add-div-right, mul-add-mod-self-right}
 use native.Mathlib.Omega.{arith}
 use lib.Arith.{digits-div, mod-mul, digits-lt}
 use lib.ListN.{length, getD, length-append}
@@ -22,12 +22,6 @@ unfolding bytesOf
 digit zero n i h = absurd (omega arith)
 digit (suc k) n zero h = let q : suc k - 1 ≡ k = omega arith in rw q
 digit (suc k) n (suc i) h = let q : suc k - suc (suc i) ≡ k - suc i = omega arith in rw q (digit k n i (omega arith))
-
-pub digits-are-bytes : (count n : ℕ) → AreBytes (bytesOf count n)
-unfolding bytesOf
-digits-are-bytes zero n i = omega arith
-digits-are-bytes (suc k) n zero = mod-lt (n / 256 ^ k) (omega arith)
-digits-are-bytes (suc k) n (suc i) = digits-are-bytes k n i
 
 -- reading what was written: the last `count` digits are the number modulo 256 ^ count
 pub value-bytes : (count n : ℕ) → valueOf (bytesOf count n) ≡ n % 256 ^ count

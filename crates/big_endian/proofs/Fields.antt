@@ -30,6 +30,10 @@ lies-long size at count h = rw (lt-leb count 8 h)
 pub lies-out : (size at count : ℕ) → count ≤ 8 → size < at + count → lies size at count ≡ false
 lies-out size at count h g = rw (le-leb count 8 h, lt-leb (at + count) size g)
 
+-- a field is one of `count` bytes of width 1
+pub lies-room : (size at count : ℕ) → count ≤ 8 → leb (at + 1 * count) size ≡ lies size at count
+lies-room size at count h = let one : 1 * count ≡ count = omega arith in rw (one, le-leb count 8 h)
+
 pub lies-true : (size at count : ℕ) → lies size at count ≡ true → (count ≤ 8) × (at + count ≤ size)
 lies-true size at count e = go (leb count 8) refl
   where
@@ -58,7 +62,7 @@ part-are-bytes s at count h i =
       | no g ↦ rw (List·getD-eq-default (take count (drop at s)) 0 {n = i} (omega (arith, length-take count (drop at s)))) (omega arith)
     ]
 
-length-part : (s : List ℕ) (at count : ℕ) → at + count ≤ length s → length (take count (drop at s)) ≡ count
+pub length-part : {A : Type 0} (s : List A) (at count : ℕ) → at + count ≤ length s → length (take count (drop at s)) ≡ count
 length-part s at count h = length-take-le count (drop at s) (omega (arith, length-drop at s))
 
 pub field-below : (s : List ℕ) (at count : ℕ) → AreBytes s → fieldAt s at count < 256 ^ count
@@ -82,13 +86,6 @@ below-next n i b h g = rw (add-one i, pow-suc 256 i) (digits-lt h g)
 
 pub eight-fit : (n i : ℕ) → i ≤ 8 → n < 256 ^ i → n < 2 ^ 64
 eight-fit n i h g = lt-of-lt-of-le g (pow-le-pow-right {n = 256} (omega arith) h)
-
-pub same-inside : (size at count : ℕ) → count ≤ 8 → count ≤ size → leb at (size - count) ≡ lies size at count
-same-inside size at count h g =
-    elim (decLt (size - count) at) [
-      | yes k ↦ lt-leb at (size - count) k ∙ sym (lies-out size at count h (omega arith))
-      | no k ↦ le-leb at (size - count) (omega arith) ∙ sym (lies-in size at count h (omega arith))
-    ]
 
 -- ---- writing
 

@@ -4,5 +4,6 @@ pub mod Placed
 pub mod Fields
 pub mod Signed
 pub mod Lists
+mod Room
 mod Patterns
 mod Unique

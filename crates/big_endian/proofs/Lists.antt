@@ -1,8 +1,8 @@
 -- The laws of lists of fields, over the width and the reading or the bits: none, how many, one more, and one turn of a loop that reads or puts them one after another. Assumes nothing.
 use mathlib.Core.Path.{_≡_, refl, sym, ap, _∙_}
 use mathlib.Core.List.{List, [], _∷_, _++_, append-nil, append-assoc}
-use Prim.Native.Nat.{ℕ, zero, suc, _+_, _-_, _*_, _≤_, _<_}
-use native.Mathlib.Numerals.{add-one, sub-one}
+use Prim.Native.Nat.{ℕ, zero, suc, _+_, _*_, _≤_, _<_}
+use native.Mathlib.Numerals.{add-one}
 use native.Mathlib.Omega.{arith}
 use lib.ListN.{length, getD, take, set, length-append}
 use lib.Seq.{take-suc, length-take-le}
@@ -20,11 +20,6 @@ module _ {A : Type 0} (f : ℕ → A) (w : ℕ) where
   pub strided-none : (at : ℕ) → strided f w at 0 ≡ []
   unfolding strided
   strided-none at = refl
-
-  pub strided-next : (at n : ℕ) → 0 < n → strided f w at n ≡ f at ∷ strided f w (at + w) (n - 1)
-  unfolding strided
-  strided-next at zero h = absurd (omega arith)
-  strided-next at (suc n) h = rw (sub-one (suc n))
 
   pub length-strided : (at n : ℕ) → length (strided f w at n) ≡ n
   unfolding strided

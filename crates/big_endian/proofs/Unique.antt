@@ -1,11 +1,16 @@
 -- No two answers meet one promise. Assumes nothing.
 use mathlib.Core.Path.{_≡_, sym, _∙_}
 use mathlib.Core.List.{List}
-use Prim.Native.Nat.{ℕ}
+use mathlib.Core.Bool.{Bool}
+use Prim.Native.Nat.{ℕ, _+_, _*_}
+use lib.Dec.{leb}
 use lib.IntN.{ℤ}
 use lib.Ieee.{Float}
 use Rattle.refusals.proofs.Determined.{determined}
 use Rattle.big_endian.specs.Fields.{Field, withField, signedAt, withSigned, floatAt, withFloat, doubleAt, withDouble}
+
+has-room-unique : (size at width count : ℕ) (a b : Bool) → a ≡ leb (at + width * count) size → b ≡ leb (at + width * count) size → a ≡ b
+has-room-unique size at width count = determined
 
 get-unique : (s : List ℕ) (at count a b : ℕ) → Field s at count a → Field s at count b → a ≡ b
 get-unique s at count a b p q = p .value ∙ sym (q .value)

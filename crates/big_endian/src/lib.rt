@@ -2,10 +2,11 @@
 // read and write a field of up to eight bytes, and over them stand the readings that files use, a signed
 // number in two bytes, an f32 by its bits in four and an f64 in eight. Every function takes any input: a field
 // that does not lie inside the list reads as 0, and writing it changes nothing. That reading gives what
-// was written, and writing what was read the same bytes, is shown once over the width. Under it lies
-// nothing.
+// was written, and writing what was read the same bytes, is shown once over the width. `has_room` is the one test of
+// whether fields lie inside a list. Under it lie `formats` and `refusals`, in proofs alone.
 ghost use mathlib.Core.Path.{_≡_};
-ghost use Prim.Native.Nat.{_<_};
+ghost use Prim.Native.Nat.{_+_, _*_, _<_};
+ghost use lib.Dec.{leb};
 ghost use Rattle.big_endian.specs.Fields.{lies, Field, withField, signedAt, withSigned, floatAt, withFloat, doubleAt, withDouble};
 
 fn wide(b: u8) -> u64
@@ -14,18 +15,28 @@ fn wide(b: u8) -> u64
     b as u64
 }
 
-// Whether a field of `count` bytes from `at` on lies inside a list of `size` bytes. The sum of the two
-// may not fit, so it is not formed.
+// Whether `count` fields of `width` bytes, from `at` on, lie inside a list of `size` bytes. Neither the product
+// nor the sum is formed before it is known to fit.
+pub fn has_room(size: usize, at: usize, width: usize, count: usize) -> bool
+    ensures { λ r. ⌜ r ≡ leb (at + width * count) size ⌝ }
+{
+    if width == 0 {
+        return at <= size;
+    }
+    if size / width < count {
+        return false;
+    }
+    at <= size - width * count
+}
+
+// Whether a field of `count` bytes from `at` on is one, of at most eight bytes, and lies inside a list of `size` bytes.
 fn lies_inside(size: usize, at: usize, count: usize) -> bool
     ensures { λ r. ⌜ r ≡ lies size at count ⌝ }
 {
     if 8 < count {
         return false;
     }
-    if size < count {
-        return false;
-    }
-    at <= size - count
+    has_room(size, at, 1, count)
 }
 
 // The number in `count` bytes from `at` on.

@@ -12,7 +12,7 @@ use Rattle.big_endian.proofs.Placed.{placed-none, length-placed}
 use Rattle.big_endian.proofs.Signed.{back}
 use Rattle.bank_form.specs.FaultComputed.{rowSize, azimuthsFrom, rowTaps, tapsFrom}
 use Rattle.bank_form.proofs.Lists.{taps-none, length-taps}
-use Rattle.bank.proofs.Fill.{taps-before, azimuth-more, row-more}
+use Rattle.bank.proofs.Fill.{taps-reach, azimuth-more, row-more}
 use Rattle.bank.proofs.fill_rows.Statement.{statement}
 use Rattle.bank.proofs.fill_rows.Tie as tie
 
@@ -33,7 +33,7 @@ module _ (c : tie.At-loop Inv-loop μ-loop) where
   kept-taps =
       let args = c .before .before .before .args in
       let long = length-taps (args .file .now) (args .l) 9 (c .loop .i) in
-      let small = taps-before (c .loop .i) 8 (args .l) (omega arith) (c .before .before .before .pre .0) in
+      let small = taps-reach (c .loop .i) 8 (args .l) (omega arith) (c .before .before .before .pre .0) in
       ap length (c .loop .inv .2) ∙ length-placed _ _ _ (omega arith)
 
 loop-holds : tie.Need-loop-holds Inv-loop μ-loop

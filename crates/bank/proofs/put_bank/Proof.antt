@@ -2,7 +2,7 @@
 use native.Mathlib.Omega.{arith}
 use lib.ListN.{length}
 use Rattle.bank_form.specs.Bank.{Bank}
-use Rattle.bank_form.proofs.RoundTrip.{body-small}
+use Rattle.bank_form.proofs.RoundTrip.{rows-reach}
 use Rattle.bank.proofs.Fill.{bank-put}
 use borrow.Author.Needs.{needs}
 use Rattle.bank.proofs.put_bank.Statement.{statement}
@@ -27,7 +27,7 @@ returns c =
     let bank : Bank = record { azimuths = args .azimuths .now; length = args .l; taps = args .taps .now } in
     let head = c .before .before .before .before .before .before .put-head in
     let rows = c .before .before .put-rows .ensures in
-    let small = body-small (length (args .azimuths .now)) (args .l) (start .pre .1) (start .pre .0) in
+    let small = rows-reach (length (args .azimuths .now)) 8 (args .l) (start .pre .1) (start .pre .0) in
     (bank-put bank (args .file .now) (head .last .0) _ _ (start .pre .2) (omega arith) (omega arith) (head .ensures) (rows .0), rows .1)
 
 pub put-bank-spec : {M : Type 1} → statement M

@@ -12,9 +12,8 @@ use Rattle.big_endian.specs.Fields.{withSigned}
 use Rattle.big_endian.specs.Placed.{placed}
 use Rattle.big_endian.specs.Lists.{floatBytes}
 use Rattle.big_endian.proofs.Bytes.{length-bytes}
-use Rattle.big_endian.proofs.Fields.{field-put}
+use Rattle.big_endian.proofs.Fields.{field-put, length-part}
 use Rattle.big_endian.proofs.Lists.{part-more, length-fieldBytes}
-use Rattle.bank.proofs.Fill.{length-part}
 use borrow.Author.Needs.{needs}
 use Rattle.bank.proofs.put_row.Statement.{statement}
 use Rattle.bank.proofs.put_row.Tie as tie

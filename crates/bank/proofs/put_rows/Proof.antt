@@ -13,8 +13,8 @@ use Rattle.big_endian.proofs.Placed.{placed-none, length-placed}
 use Rattle.big_endian.proofs.Signed.{back}
 use Rattle.bank_form.specs.Encoding.{rowBytes}
 use Rattle.bank_form.specs.HoldsComputed.{IsAzimuth}
-use Rattle.bank_form.proofs.RoundTrip.{oneRow, row-fits, body-small}
-use Rattle.bank.proofs.Fill.{rows-before, no-rows, rows-more, length-rows, each-azimuth}
+use Rattle.bank_form.proofs.RoundTrip.{oneRow, row-fits, rows-reach}
+use Rattle.bank.proofs.Fill.{no-rows, rows-more, length-rows, each-azimuth}
 use Rattle.bank.proofs.put_rows.Statement.{statement}
 use Rattle.bank.proofs.put_rows.Tie as tie
 
@@ -30,7 +30,7 @@ kept c =
     let args = c .before .before .before .args in
     let turn = c .loop in
     let long = length-rows (args .azimuths .now) (args .l) (args .taps .now) (turn .i) (turn .inv .0) (c .before .before .before .pre .2) in
-    let small = rows-before (turn .i) 8 (args .l) (omega arith) (c .before .before .before .pre .0) in
+    let small = rows-reach (turn .i) 8 (args .l) (omega arith) (c .before .before .before .pre .0) in
     ap length (turn .inv .1) ∙ length-placed _ _ _ (omega arith)
 
 loop-holds : tie.Need-loop-holds Inv-loop μ-loop
@@ -73,7 +73,7 @@ loop-again c =
     let q = c .before .before .before .before .before .tap-at in
     let taken = back w16 z (c .before .before .before .before .before .before .put-row-arg .given) in
     let row = c .before .before .put-row .ensures ∙ ap (placed _ _) (ap (λ (y : ℤ). oneRow y (args .l) (args .taps .now) (q .result)) taken) in
-    let small = body-small (length (args .azimuths .now)) (args .l) (start .pre .1) (start .pre .0) in (
+    let small = rows-reach (length (args .azimuths .now)) 8 (args .l) (start .pre .1) (start .pre .0) in (
       omega arith,
       rows-more (args .file .now) (turn .file) _ (args .azimuths .now) (args .l) (args .taps .now) (turn .i) (q .result) (c .before .before .before .row-at .result) (start .pre .2) inside (q .ensures .0) (c .before .before .before .row-at .ensures .0) (omega arith) (turn .inv .1) row,
       below-more (λ (j : ℕ). IsAzimuth (getD (args .azimuths .now) j (pos 0))) (turn .i) (turn .inv .2) (c .before .before .before .before .before .before .put-row-arg .given),

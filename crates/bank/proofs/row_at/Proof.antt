@@ -2,13 +2,13 @@
 use Prim.Native.Nat.{_*_, _≤_}
 use native.Mathlib.Omega.{arith}
 use Rattle.bank_form.specs.FaultComputed.{rowSize}
-use Rattle.bank.proofs.Fill.{rows-before}
+use Rattle.bank_form.proofs.RoundTrip.{rows-reach}
 use borrow.Author.Needs.{needs}
 use Rattle.bank.proofs.row_at.Statement.{statement}
 use Rattle.bank.proofs.row_at.Tie as tie
 
 small : (c : tie.Start) → c .args .i * rowSize (c .args .l) ≤ 28686
-small c = rows-before (c .args .i) 7 (c .args .l) (omega arith) (c .pre .1)
+small c = rows-reach (c .args .i) 7 (c .args .l) (omega arith) (c .pre .1)
 
 mul-result : tie.Need-mul-result
 mul-result c = search needs

@@ -12,7 +12,7 @@ use Rattle.bank_form.specs.Encoding.{encode}
 use Rattle.bank_form.specs.FaultComputed.{fault, isFile}
 use Rattle.bank_form.specs.HoldsComputed.{Each, Holds}
 use Rattle.bank_form.proofs.Exact.{is-file, no-file, written-exactly}
-use Rattle.bank_form.proofs.RoundTrip.{body-small, length-encode}
+use Rattle.bank_form.proofs.RoundTrip.{length-encode, rows-reach}
 use Rattle.bank.proofs.Answers.{Lent, breaks, written, wrote}
 use Rattle.bank.proofs.Fill.{made-file, copied}
 use borrow.Author.Needs.{needs}
@@ -39,7 +39,7 @@ module _ (c : tie.After-put-bank) where
   room : length file ≤ length made
   room =
       let start = c .before .before .before .before .before in
-      let small = body-small (length (start .args .azimuths .now)) (start .args .l) (start .pre .1) (start .pre .0) in
+      let small = rows-reach (length (start .args .azimuths .now)) 8 (start .args .l) (start .pre .1) (start .pre .0) in
       omega (arith, c .put-bank .kept .1 .1 .1 .0)
 
   lent : Lent bank file

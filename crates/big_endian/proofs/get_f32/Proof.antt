@@ -8,15 +8,9 @@ use borrow.Author.Needs.{needs}
 use Rattle.big_endian.proofs.get_f32.Statement.{statement}
 use Rattle.big_endian.proofs.get_f32.Tie as tie
 
-get-requires : tie.Need-get-requires
-get-requires c κs = search needs
-
 returns : tie.Need-returns
 unfolding floatAt
 returns c = zero-by-zero binary32 ∙ sym (nan-pattern binary32 _ (c .if1 .taken)) ∙ ap (ofBits binary32) (c .before .get .ensures .value)
-
-cast-result : tie.Need-cast-result
-cast-result c = search needs
 
 float-from-bits-result : tie.Need-float-from-bits-result
 float-from-bits-result c = number-pattern binary32 _ (c .if1 .left)
@@ -27,4 +21,4 @@ returns-2 c = ap (ofBits binary32) (c .before .get .ensures .value)
 
 pub get-f32-spec : {M : Type 1} → statement M
 get-f32-spec =
-    tie.close (tie.spec get-requires returns cast-result float-from-bits-result returns-2)
+    tie.close (tie.spec (λ c κs. tt) returns (λ c. search needs) float-from-bits-result returns-2)

@@ -4,12 +4,8 @@ use lib.Ieee.{binary64, ofBits}
 use Rattle.big_endian.specs.Fields.{doubleAt}
 use Rattle.formats.proofs.Patterns.{nan-pattern, number-pattern}
 use Rattle.big_endian.proofs.Patterns.{zero-by-zero}
-use borrow.Author.Needs.{needs}
 use Rattle.big_endian.proofs.get_f64.Statement.{statement}
 use Rattle.big_endian.proofs.get_f64.Tie as tie
-
-get-requires : tie.Need-get-requires
-get-requires c κs = search needs
 
 returns : tie.Need-returns
 unfolding doubleAt
@@ -24,4 +20,4 @@ returns-2 c = ap (ofBits binary64) (c .before .get .ensures .value)
 
 pub get-f64-spec : {M : Type 1} → statement M
 get-f64-spec =
-    tie.close (tie.spec get-requires returns float-from-bits-result returns-2)
+    tie.close (tie.spec (λ c κs. tt) returns float-from-bits-result returns-2)

@@ -10,21 +10,9 @@ use borrow.Author.Needs.{needs}
 use Rattle.big_endian.proofs.get_i16.Statement.{statement}
 use Rattle.big_endian.proofs.get_i16.Tie as tie
 
-get-requires : tie.Need-get-requires
-get-requires c κs = search needs
-
-cast-result : tie.Need-cast-result
-cast-result c = search needs
-
 returns : tie.Need-returns
 unfolding signedAt
 returns c = ap (toZ w16) (c .before .get .ensures .value)
-
-sub-k : tie.Need-sub-k
-sub-k c = search needs
-
-cast-k : tie.Need-cast-k
-cast-k c = search needs
 
 sub-result : tie.Need-sub-result
 sub-result c = let low = c .before .get .ensures .bound in rw (high-bits w16 (c .before .get .result) (c .if1 .left) (omega arith)) (sfits-toZ {w = w16} (record { fits = low }))
@@ -37,4 +25,4 @@ returns-2 c =
 
 pub get-i16-spec : {M : Type 1} → statement M
 get-i16-spec =
-    tie.close (tie.spec get-requires cast-result returns sub-k cast-k sub-result returns-2)
+    tie.close (tie.spec (λ c κs. tt) (λ c. search needs) returns (λ c. search needs) (λ c. search needs) sub-result returns-2)

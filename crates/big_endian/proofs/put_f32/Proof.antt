@@ -11,12 +11,6 @@ use borrow.Author.Needs.{needs}
 use Rattle.big_endian.proofs.put_f32.Statement.{statement}
 use Rattle.big_endian.proofs.put_f32.Tie as tie
 
-put-requires : tie.Need-put-requires
-put-requires c κs = search needs
-
-same-length : tie.Need-same-length
-same-length c = search needs
-
 returns : tie.Need-returns
 unfolding withFloat
 returns c = c .before .before .put .ensures ∙ ap (withField _ _ _) (sym (nan-written binary32 _ (c .before .before .before .before .if1 .taken)))
@@ -27,25 +21,10 @@ float-to-bits-put c = no-nan _ (c .before .if1 .left)
 cast-put : tie.Need-cast-put
 cast-put c = let h = toBits-lt binary32 _ (passes _ (c .before .before .before .good .1 .1 .0 .1)) in omega arith
 
-put-requires-2 : tie.Need-put-requires-2
-put-requires-2 c κs = search needs
-
-same-length-2 : tie.Need-same-length-2
-same-length-2 c = search needs
-
 returns-2 : tie.Need-returns-2
 unfolding withFloat
 returns-2 c = search needs
 
 pub put-f32-spec : {M : Type 1} → statement M
 put-f32-spec =
-    tie.close
-    (tie.spec
-    put-requires
-    same-length
-    returns
-    float-to-bits-put
-    cast-put
-    put-requires-2
-    same-length-2
-    returns-2)
+    tie.close (tie.spec (λ c κs. tt) (λ c. search needs) returns float-to-bits-put cast-put (λ c κs. tt) (λ c. search needs) returns-2)

@@ -8,12 +8,6 @@ use borrow.Author.Needs.{needs}
 use Rattle.big_endian.proofs.put_f64.Statement.{statement}
 use Rattle.big_endian.proofs.put_f64.Tie as tie
 
-put-requires : tie.Need-put-requires
-put-requires c κs = search needs
-
-same-length : tie.Need-same-length
-same-length c = search needs
-
 returns : tie.Need-returns
 unfolding withDouble
 returns c = c .before .before .put .ensures ∙ ap (withField _ _ _) (sym (nan-written binary64 _ (c .before .before .before .before .if1 .taken)))
@@ -21,24 +15,10 @@ returns c = c .before .before .put .ensures ∙ ap (withField _ _ _) (sym (nan-w
 float-to-bits-put : tie.Need-float-to-bits-put
 float-to-bits-put c = no-nan _ (c .before .if1 .left)
 
-put-requires-2 : tie.Need-put-requires-2
-put-requires-2 c κs = search needs
-
-same-length-2 : tie.Need-same-length-2
-same-length-2 c = search needs
-
 returns-2 : tie.Need-returns-2
 unfolding withDouble
 returns-2 c = search needs
 
 pub put-f64-spec : {M : Type 1} → statement M
 put-f64-spec =
-    tie.close
-    (tie.spec
-    put-requires
-    same-length
-    returns
-    float-to-bits-put
-    put-requires-2
-    same-length-2
-    returns-2)
+    tie.close (tie.spec (λ c κs. tt) (λ c. search needs) returns float-to-bits-put (λ c κs. tt) (λ c. search needs) returns-2)

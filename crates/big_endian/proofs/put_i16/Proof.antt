@@ -19,12 +19,6 @@ cast-put c = let fit = c .before .before .before .fits .z in rw (below-whole w16
 sub-put : tie.Need-sub-put
 sub-put c = let fit = c .before .before .before .fits .z in rw (below-whole w16 _ fit (c .before .if1 .taken)) (let h = fit .sfits in omega arith)
 
-put-requires : tie.Need-put-requires
-put-requires c κs = search needs
-
-same-length : tie.Need-same-length
-same-length c = search needs
-
 returns : tie.Need-returns
 unfolding withSigned
 returns c =
@@ -35,12 +29,6 @@ returns c =
 cast-put-2 : tie.Need-cast-put-2
 cast-put-2 c = let fit = c .before .before .before .fits .z in rw (above-part w16 _ fit (c .before .if1 .left)) (tt, let h = fit .sfits in omega arith)
 
-put-requires-2 : tie.Need-put-requires-2
-put-requires-2 c κs = search needs
-
-same-length-2 : tie.Need-same-length-2
-same-length-2 c = search needs
-
 returns-2 : tie.Need-returns-2
 unfolding withSigned
 returns-2 c =
@@ -50,15 +38,4 @@ returns-2 c =
 
 pub put-i16-spec : {M : Type 1} → statement M
 put-i16-spec =
-    tie.close
-    (tie.spec
-    sub-k
-    cast-put
-    sub-put
-    put-requires
-    same-length
-    returns
-    cast-put-2
-    put-requires-2
-    same-length-2
-    returns-2)
+    tie.close (tie.spec sub-k cast-put sub-put (λ c κs. tt) (λ c. search needs) returns cast-put-2 (λ c κs. tt) (λ c. search needs) returns-2)
