@@ -1,2 +1,3 @@
--- That no two records meet one promise.
+-- Laws that crates above cite, and that no two records meet one promise.
+pub mod Going
 mod Unique

@@ -2,7 +2,7 @@
 // changed where it stands after each frame; a form by value comes first"). The position is the cell of
 // every ring that the next frame goes into; damage leaves L-1 frames to go. `stepped` is the form by value, and
 // `step` changes a lent record where it stands: the convolver's block lends it its own after each frame. They
-// take any record, and promise the record one frame on by an equation. Under it lies nothing.
+// take any record, and promise the record one frame on by an equation. Under it lies `refusals`, for a law.
 ghost use mathlib.Core.Path.{_≡_};
 ghost use mathlib.Core.Bool.{cond};
 ghost use Prim.Native.Nat.{_-_, _<_};

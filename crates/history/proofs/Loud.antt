@@ -4,13 +4,12 @@ use mathlib.Core.Bool.{false, true}
 use mathlib.Core.List.{[], _∷_}
 use lib.IntN.{pos}
 use lib.Ieee.{Float, fin, add, mul, sum, round, size, span, climb, units, odd}
-use Rattle.numbers.specs.Computed.{zero-float, rounded}
-use Rattle.planes.specs.Tables.{unsound}
+use Rattle.numbers.specs.Computed.{rounded}
+use Rattle.checks.specs.Tables.{unsound}
 use Rattle.planes.specs.Sums.{mixed}
-use Rattle.history.specs.Setup.{Setup}
 use Rattle.history.specs.Signals.{damaged}
 use Rattle.history.specs.History.{unsettledIn}
-use Rattle.history.proofs.Drill.{one, half}
+use Rattle.history.specs.Drill.{oneSpeaker}
 
 abbrev pub largest : Float
 largest = fin false 16777215 (pos 104)
@@ -18,17 +17,13 @@ largest = fin false 16777215 (pos 104)
 abbrev pub two : Float
 two = fin false 2 (pos 0)
 
--- the drill's speaker and filters, with that weight
-abbrev pub doubled : Setup
-doubled = record { channels = 1; speakers = 1; L = 2; weights = two ∷ []; taps = one ∷ half ∷ zero-float ∷ one ∷ []; rows = 0 ∷ 0 ∷ 0 ∷ 0 ∷ 0 ∷ 0 ∷ 0 ∷ 0 ∷ [] }
-
 loud-finite : unsound (largest ∷ []) ≡ false
 loud-finite = refl
 
-loud-damaged : damaged doubled (largest ∷ []) ≡ true
+loud-damaged : damaged (oneSpeaker two) (largest ∷ []) ≡ true
 unfolding mixed rounded add mul sum round size span climb units odd
 loud-damaged = refl
 
-pub loud-unsettled : unsettledIn doubled [] ((largest ∷ []) ∷ []) ≡ 1
+pub loud-unsettled : unsettledIn (oneSpeaker two) [] ((largest ∷ []) ∷ []) ≡ 1
 unfolding mixed rounded add mul sum round size span climb units odd
 loud-unsettled = refl

@@ -1,8 +1,8 @@
--- The order of each sum tells: on worked numbers 1, 2^60 and -2^60 the document's order gives 0.0, where the other way round gives 1.0. And a signal is narrowed: 1 + 2^-24 is no f32; and the sum is times 1.0/root(speakers), which is not the same as divided by the root. By computing the
--- definitions. Assumes nothing.
+-- The order of each sum tells: on worked numbers 1, 2^60 and -2^60 the document's order gives 0.0, where the other way round gives 1.0. And a signal is narrowed: 1 + 2^-24 is no f32; and the sum is
+-- times 1.0/root(speakers), which is not the same as divided by the root. By computing the definitions. Assumes nothing.
 use mathlib.Core.Path.{_≡_, refl}
 use mathlib.Core.Bool.{true, false, cond}
-use mathlib.Core.List.{List, [], _∷_, reverse}
+use mathlib.Core.List.{List, [], _∷_, _++_, reverse}
 use lib.IntN.{pos, negsuc}
 use lib.Dec.{eqb}
 use lib.Ieee.{Float, fin, binary64, add, mul, div, sum, round, size, span, climb, units, odd}
@@ -11,7 +11,7 @@ use Rattle.planes.specs.Sums.{dot, total, mixed}
 use Rattle.history.specs.Setup.{Setup, tapsOf}
 use Rattle.planes.specs.Normalization.{asFloat, inverseRoot}
 use Rattle.history.specs.History.{window, part, earOf}
-use Rattle.history.proofs.Drill.{one}
+use Rattle.history.specs.Drill.{one}
 
 -- 1, 2^60, -2^60
 rising : List Float
@@ -35,14 +35,14 @@ channels-falling = refl
 
 -- one speaker, weight 1, L = 3
 filtering : Setup
-filtering = record { channels = 1; speakers = 1; L = 3; weights = one ∷ []; taps = one ∷ fin false 1 (pos 60) ∷ fin true 1 (pos 60) ∷ one ∷ one ∷ one ∷ []; rows = 0 ∷ [] }
+filtering = record { channels = 1; speakers = 1; L = 3; weights = one ∷ []; taps = rising ++ ones; rows = 0 ∷ [] }
 
 newest-first : part filtering 0 ((one ∷ []) ∷ (one ∷ []) ∷ (one ∷ []) ∷ []) 0 ≡ zero-float
-unfolding filtering mixed rounded add mul sum round size span climb units odd
+unfolding filtering rising ones mixed rounded add mul sum round size span climb units odd
 newest-first = refl
 
 oldest-first : dot zero-float (reverse (window filtering 0 ((one ∷ []) ∷ (one ∷ []) ∷ (one ∷ []) ∷ []))) (reverse (tapsOf filtering 0 0)) ≡ one
-unfolding filtering mixed rounded add mul sum round size span climb units odd
+unfolding filtering rising ones mixed rounded add mul sum round size span climb units odd
 oldest-first = refl
 
 -- ---- speakers rising

@@ -5,14 +5,19 @@ use mathlib.Core.Bool.{Bool, cond}
 use mathlib.Core.List.{List, [], _∷_, _++_, reverseAux}
 use Prim.Native.Nat.{ℕ, zero, suc, _+_, _-_, _≤_, _<_}
 use native.Mathlib.Nat.{not-suc-le-zero, le-of-suc-le-suc, add-assoc}
+use native.Mathlib.Numerals.{sub-one}
 use native.Mathlib.Omega.{arith}
 use borrow.Author.Tests.{le-leb, lt-leb}
 use lib.ListN.{length, getD, take, length-reverse, List·getD-eq-default}
 use lib.Seq.{getD-take, length-take-le}
 use lib.Ieee.{Float}
-use Rattle.planes.proofs.Lists.{split, getD-reverse}
+use Rattle.checks.proofs.Lists.{split, getD-reverse}
 use Rattle.history.specs.Setup.{Setup}
 use Rattle.history.specs.History.{silence, frameAgo, earSamples, unsettled, heard, unsettledIn, after, upto, ago}
+
+pub after-append : (past fs gs : List (List Float)) → after past (fs ++ gs) ≡ after (after past fs) gs
+after-append past [] gs = refl
+after-append past (f ∷ fs) gs = after-append (f ∷ past) fs gs
 
 module _ (u : Setup) where
   pub length-heard : (past fs : List (List Float)) → length (heard u past fs) ≡ length fs
@@ -35,6 +40,10 @@ module _ (u : Setup) where
   heard-from past (f ∷ fs) zero d h = refl
   heard-from past (f ∷ fs) (suc n) d h = heard-from (f ∷ past) fs n d (le-of-suc-le-suc h)
 
+  -- two ears at each
+  pub two-each : (past fs : List (List Float)) (n : ℕ) → n < length (heard u past fs) → length (getD (heard u past fs) n []) ≡ 2
+  two-each past fs n h = ap length (heard-from past fs n [] (omega (arith, length-heard past fs)))
+
   pub heard-at : (fs : List (List Float)) (n : ℕ) (d : List Float) → n < length fs → getD (heard u [] fs) n d ≡ earSamples u (upto fs n)
   heard-at fs n d h = heard-from [] fs n d h
 
@@ -49,9 +58,6 @@ module _ (u : Setup) where
       getD-reverse (take (suc n) fs) k (silence u) (omega (arith, length-take-le (suc n) fs h))
       ∙ ap (λ (m : ℕ). getD (take (suc n) fs) (m - 1 - k) (silence u)) (length-take-le (suc n) fs h)
       ∙ getD-take (suc n) fs (suc n - 1 - k) (silence u) (omega arith)
-      ∙ ap (λ (i : ℕ). getD fs i (silence u)) (less n k)
+      ∙ ap (λ (i : ℕ). getD fs (i - k) (silence u)) (sub-one (suc n))
       ∙ sym (ap (λ (b : Bool). cond b (getD fs (n - k) (silence u)) (silence u)) (le-leb k n near)))
       (split n k)
-    where
-      less : (n k : ℕ) → suc n - 1 - k ≡ n - k
-      less n k = omega arith

@@ -6,10 +6,9 @@ use Prim.Native.Nat.{ℕ, _*_}
 use lib.ListN.{drop, replicate}
 use lib.Ieee.Scale.{finite}
 use Rattle.numbers.specs.Computed.{zero-float}
-use Rattle.planes.specs.Tables.{unsound}
-use Rattle.planes.proofs.Tables.{tab-ext}
-use Rattle.planes.proofs.Filling.{tab-constant}
-use Rattle.planes.proofs.Checks.{sound-tab, sound-take, sound-drop}
+use Rattle.checks.specs.Tables.{unsound}
+use Rattle.checks.proofs.Tables.{tab-ext, tab-constant}
+use Rattle.checks.proofs.Checks.{sound-tab, sound-take, sound-drop}
 use Rattle.planes.proofs.Silence.{mixed-silence}
 use Rattle.history.specs.Setup.{Setup, weightsOf}
 use Rattle.history.specs.Signals.{signal, damaged}

@@ -4,15 +4,16 @@ use mathlib.Core.Bool.{Bool, false, _||_}
 use mathlib.Core.List.{List, [], _∷_, map}
 use Prim.Native.Nat.{ℕ, zero, suc, _-_, _<_}
 use native.Mathlib.Nat.{not-suc-le-zero}
+use native.Mathlib.Numerals.{sub-one}
 use native.Mathlib.Omega.{arith}
 use lib.ListN.{take}
 use lib.Seq.{take-nil}
 use lib.Ieee.{Float, binary64, mul}
 use Rattle.numbers.specs.Computed.{narrowed, zero-float}
-use Rattle.planes.specs.Tables.{tab, any}
+use Rattle.checks.specs.Tables.{tab, any}
 use Rattle.planes.specs.Sums.{dot, total}
 use Rattle.planes.specs.Normalization.{inverseRoot}
-use Rattle.planes.proofs.Tables.{tab-ext, tab-shift, take-tab}
+use Rattle.checks.proofs.Tables.{tab-ext, tab-shift, take-tab}
 use Rattle.history.specs.Setup.{Setup, tapsOf}
 use Rattle.history.specs.Signals.{signal, damaged}
 use Rattle.history.specs.History.{silence, frameAgo, signalAgo, window, part, earOf, earSample, earSamples, unsettled}
@@ -21,14 +22,11 @@ use Rattle.history.specs.History.{silence, frameAgo, signalAgo, window, 
 pub window-more : (u : Setup) (s : ℕ) (f : List Float) (past : List (List Float)) → 0 < u .L → window u s (f ∷ past) ≡ signal u s f ∷ take (u .L - 1) (window u s past)
 window-more u s f past h = from (u .L) h
   where
-    less : (n : ℕ) → suc n - 1 ≡ n
-    less n = omega arith
-
     from : (n : ℕ) → 0 < n → tab 0 n (signalAgo u s (f ∷ past)) ≡ signal u s f ∷ take (n - 1) (tab 0 n (signalAgo u s past))
     from zero h = absurd (not-suc-le-zero h)
     from (suc n) h =
         ap (λ (l : List Float). signal u s f ∷ l)
-        (tab-shift 0 n (signalAgo u s (f ∷ past)) ∙ sym (take-tab 0 (suc n - 1) (suc n) (signalAgo u s past) (omega arith) ∙ ap (λ (k : ℕ). tab 0 k (signalAgo u s past)) (less n)))
+        (tab-shift 0 n (signalAgo u s (f ∷ past)) ∙ sym (take-tab 0 (suc n - 1) (suc n) (signalAgo u s past) (omega arith) ∙ ap (λ (k : ℕ). tab 0 k (signalAgo u s past)) (sub-one (suc n))))
 
 -- ---- two histories with the same last L frames
 

@@ -8,7 +8,7 @@ use lib.Dec.{leb}
 use lib.ListN.{getD, take, replicate}
 use lib.Ieee.{Float, binary64, mul}
 use Rattle.numbers.specs.Computed.{narrowed, zero-float}
-use Rattle.planes.specs.Tables.{tab, any, count}
+use Rattle.checks.specs.Tables.{tab, any, count}
 use Rattle.planes.specs.Sums.{dot, total}
 use Rattle.planes.specs.Normalization.{inverseRoot}
 use Rattle.history.specs.Setup.{Setup, tapsOf}

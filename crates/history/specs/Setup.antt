@@ -4,7 +4,7 @@ use Prim.Native.Nat.{ℕ, _+_, _*_}
 use mathlib.Core.List.{List}
 use lib.ListN.{getD}
 use lib.Ieee.{Float}
-use Rattle.planes.specs.Tables.{row}
+use Rattle.checks.specs.Tables.{row}
 
 pub record Setup : Type 0 where
   pub channels : ℕ

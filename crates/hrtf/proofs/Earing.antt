@@ -1,20 +1,22 @@
 -- Where a speaker's ring and taps stand in the lent lists, and what the loop of `ear` keeps: the sum so far, gone on with over the speakers that are left, is the whole sum. Assumes nothing.
 use mathlib.Core.Path.{_≡_, sym, ap, _∙_}
-use mathlib.Core.List.{List}
+use mathlib.Core.List.{List, []}
 use Prim.Native.Nat.{ℕ, _+_, _-_, _*_, _≤_, _<_, zero-le}
 use native.Mathlib.Nat.{mul-le-mul-left, mul-one}
 use native.Mathlib.Omega.{arith}
 use lib.ListN.{length, getD, take, drop}
 use lib.Ieee.{Float, binary64, add, mul}
 use Rattle.numbers.specs.Computed.{narrowed, zero-float}
-use Rattle.planes.specs.Tables.{tab, row}
+use Rattle.checks.specs.Tables.{tab, row}
 use Rattle.planes.specs.Sums.{dot, total}
 use Rattle.planes.specs.Normalization.{inverseRoot}
-use Rattle.planes.proofs.Tables.{tab-all, tab-none, part-is, row-end}
+use Rattle.checks.proofs.Tables.{tab-all, tab-none, part-is, row-end}
 use Rattle.planes.proofs.Sums.{total-more}
 use Rattle.history.specs.History.{earOf}
 use Rattle.rings.specs.Unrolled.{unrolled}
+use Rattle.rings.specs.Steps.{partOf}
 use Rattle.hrtf_checks.specs.declared.Shape.{Shape}
+use Rattle.hrtf_checks.specs.Call.{setupOf}
 use Rattle.hrtf.specs.Steps.{Stands, partBy}
 
 -- ---- where a speaker's ring and its taps stand
@@ -48,8 +50,9 @@ part-there h q s j side taps rings x e =
 
 -- ---- the loop
 
+-- a speaker's part, its row being looked up
 abbrev partAt : Shape → ℕ → List ℕ → List Float → ℕ → List Float → ℕ → Float
-partAt h p rows taps side rings s = partBy h p s (getD rows s 0) side taps rings
+partAt h p rows taps side rings = partOf (setupOf h [] rows taps) side p rings
 
 pub record Earing (h : Shape) (p : ℕ) (rows : List ℕ) (taps : List Float) (side : ℕ) (rings : List Float) (sum : Float) (s : ℕ) : Type 0 where
   pub below : s ≤ h .speakers

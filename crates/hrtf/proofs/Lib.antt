@@ -3,5 +3,5 @@ pub mod Promised
 mod Relent
 mod Earing
 mod Playing
-mod Tests
+mod Walking
 mod Unique

@@ -9,16 +9,17 @@ use native.Mathlib.Omega.{arith}
 use lib.Dec.{ltb}
 use lib.ListN.{length}
 use lib.Ieee.{Float}
-use Rattle.planes.specs.Tables.{tab, unsound}
+use Rattle.checks.specs.Tables.{tab, unsound}
 use Rattle.planes.specs.Planes.{frameAt, withSample, withFrames}
-use Rattle.planes.proofs.Tables.{length-tab, tab-more, tab-none, tab-all}
+use Rattle.checks.proofs.Tables.{length-tab, tab-more, tab-none, tab-all}
 use Rattle.planes.proofs.Planes.{length-with-frame, frame-read}
 use Rattle.desk.specs.declared.Desk.{Desk}
 use Rattle.desk.specs.Steps.{steppedOf}
+use Rattle.desk.proofs.Going.{position-below}
 use Rattle.history.specs.Setup.{Setup}
 use Rattle.history.specs.Signals.{signal, signals, damaged}
 use Rattle.rings.specs.Steps.{State, stored, ringEar, ears, late, stepped, left, played, counted}
-use Rattle.rings.proofs.Told.{position-below, length-stored}
+use Rattle.rings.proofs.Told.{length-stored}
 use Rattle.hrtf_checks.specs.declared.Shape.{Shape}
 use Rattle.hrtf_checks.specs.Call.{Call, setupOf, setup, framesIn, Ready}
 use Rattle.hrtf.specs.Steps.{earBy, Turned, Blocked}
@@ -35,7 +36,7 @@ damage-read u t f within room =
     long : length (signals u f) ≡ u .speakers
     long = length-tab 0 (u .speakers) (λ s. signal u s f)
 
-module _ (h : Shape) (weights : List Float) (rows : List ℕ) (taps : List Float) (t : State) (f : List Float) (stride n : ℕ) (ears₀ : List Float) where
+module _ (h : Shape) (weights : List Float) (rows : List ℕ) (taps : List Float) (t : State) (f : List Float) where
   abbrev u : Setup
   u = setupOf h weights rows taps
 
@@ -44,7 +45,7 @@ module _ (h : Shape) (weights : List Float) (rows : List ℕ) (taps : List Float
   ready-stored rings₁ r e =
       record { few = r .few; chosen = r .chosen; tapped = r .tapped; ringed = ap length e ∙ length-stored u t f ∙ r .ringed; within = r .within }
 
-  pub turned : (rings₁ : List Float) (bad : Bool) (l r : Float) (ears₁ ears₂ : List Float) (count one : ℕ) → Ready h (t .desk .position) rows taps (t .rings)
+  pub turned : (stride n : ℕ) (ears₀ rings₁ : List Float) (bad : Bool) (l r : Float) (ears₁ ears₂ : List Float) (count one : ℕ) → Ready h (t .desk .position) rows taps (t .rings)
       → rings₁ ≡ stored u t f
       → bad ≡ unsound (frameAt rings₁ (h .length) (h .speakers) (t .desk .position))
       → l ≡ earBy h rows taps 0 (suc (t .desk .position)) rings₁
@@ -53,7 +54,7 @@ module _ (h : Shape) (weights : List Float) (rows : List ℕ) (taps : List Float
       → ears₂ ≡ withSample ears₁ stride 1 n r
       → one ≡ cond (bad || ltb 0 (t .desk .«to_go»)) 1 0
       → Turned h weights rows taps t f stride n count ears₀ rings₁ ears₂ (n + 1) (count + one) bad
-  turned rings₁ bad l r ears₁ ears₂ count one ready er eb el es e₁ e₂ eo =
+  turned stride n ears₀ rings₁ bad l r ears₁ ears₂ count one ready er eb el es e₁ e₂ eo =
       record {
         ringed = er;
         eared =

@@ -1,19 +1,16 @@
--- From what the block leaves to what `process` promises, and from a filled ring to what `reset` promises. What document 01 says besides of a call: a refusal changes nothing, zero frames change
--- nothing, and frames beyond the count are as they were. Assumes nothing.
+-- From what the block leaves to what `process` promises, and from filled rings to what `reset` promises. What document 01 says besides of a call: zero frames change nothing, and frames beyond the
+-- count are as they were. Assumes nothing.
 use mathlib.Core.Path.{_≡_, refl, sym, ap, _∙_, subst}
-use mathlib.Core.Bool.{Bool, true, false, not, cond}
 use mathlib.Core.List.{List, []}
 use Prim.Native.Nat.{ℕ, zero, suc, _*_, _≤_, _<_}
 use native.Mathlib.Omega.{arith}
-use lib.Dec.{eqb}
 use lib.ListN.{length, replicate}
 use lib.Ieee.{Float}
-use Rattle.refusals.specs.Refusals.{outside}
 use Rattle.numbers.specs.Computed.{zero-float}
-use Rattle.refusals.proofs.First.{stops, goes-on, passed}
+use Rattle.refusals.proofs.Chains.{Off, FirstAt, numberAt, first-holds, off-accepts, none-holds}
 use Rattle.planes.specs.Planes.{sampleAt, frameAt, framesOf, withFrames}
-use Rattle.planes.proofs.Tables.{length-tab}
-use Rattle.planes.proofs.Checks.{is-equal, not-outside}
+use Rattle.checks.proofs.Tables.{length-tab}
+use Rattle.checks.proofs.Checks.{is-equal, not-outside}
 use Rattle.planes.proofs.Planes.{with-frames-other}
 use Rattle.desk.specs.declared.Desk.{Desk}
 use Rattle.history.specs.Setup.{Setup}
@@ -24,7 +21,7 @@ use Rattle.rings.proofs.Blocks.{played-heard, counted-told, left-kept, length-p
 use Rattle.hrtf_checks.specs.Call.{Call, setup, framesIn}
 use Rattle.hrtf_checks.specs.Refusals.{refusalOf}
 use Rattle.hrtf.specs.Promise.{Outcome, refused, accepted, outcomeBy, outcome, Tells, Processes}
-use Rattle.hrtf.specs.Reset.{resetRefusal, AfterReset, resetBy, resetOutcome, Resets}
+use Rattle.hrtf.specs.Reset.{resetChecks, resetRefusal, AfterReset, resetBy, resetOutcome, Resets}
 use Rattle.hrtf.specs.Steps.{Blocked}
 use Rattle.hrtf_checks.proofs.Refusing.{ears-fit}
 
@@ -64,10 +61,6 @@ promised-accepted c t rings₁ ears₁ desk₁ more e b =
     same : _≡_ {A = Outcome} (record { answer = record { refusal = 0; samples = c .frames; unsettled = more; desk = desk₁ }; rings = rings₁; ears = ears₁ }) (accepted c t)
     same = cc (b .ringed, b .eared, b .desked, b .counts)
 
--- a refusal gives its number, counts of 0 and the state given in, and leaves all lent memory
-pub refusal-keeps : (c : Call) (t : State) (k : ℕ) → refusalOf c t ≡ suc k → outcome c t ≡ refused (suc k) c t
-refusal-keeps c t k e = outcome-by c t (suc k) e
-
 -- zero frames change nothing
 pub none-played : (c : Call) (t : State) → refusalOf c t ≡ 0 → c .frames ≡ 0
     → outcome c t ≡ record { answer = record { refusal = 0; samples = c .frames; unsettled = 0; desk = t .desk }; rings = t .rings; ears = c .ears }
@@ -94,6 +87,16 @@ beyond c t e plane i h lt =
 
 -- ---- a reset
 
+module _ (speakers L : ℕ) (rings : List Float) where
+  -- the number of the first test that fails
+  pub reset-refuses : (k : ℕ) → FirstAt k (resetChecks speakers L rings) → resetRefusal speakers L rings ≡ numberAt k (resetChecks speakers L rings)
+  unfolding resetRefusal
+  reset-refuses k h = first-holds k (resetChecks speakers L rings) h
+
+  pub reset-accepts : Off (resetChecks speakers L rings) → resetRefusal speakers L rings ≡ 0
+  unfolding resetRefusal
+  reset-accepts h = off-accepts (resetChecks speakers L rings) h
+
 module _ (d : Desk) (speakers L : ℕ) (rings : List Float) where
   reset-by : (k : ℕ) → resetRefusal speakers L rings ≡ k → resetOutcome d speakers L rings ≡ resetBy k d rings
   unfolding resetOutcome
@@ -102,11 +105,7 @@ module _ (d : Desk) (speakers L : ℕ) (rings : List Float) where
   -- an accepted reset is given at least one cell, and exactly those of the speakers
   reset-fits : resetRefusal speakers L rings ≡ 0 → (0 < L) × (length rings ≡ speakers * L)
   unfolding resetRefusal
-  reset-fits e =
-      let p2 = passed (outside speakers 8) 1 _ e in
-      let p4 = passed (outside L 512) 3 _ (p2 .1) in
-      let p5 = passed (not (eqb (length rings) (speakers * L))) 4 0 (p4 .1) in
-      (not-outside L 512 (p4 .0) .0, is-equal (length rings) (speakers * L) (p5 .0))
+  reset-fits e = let off = none-holds (resetChecks speakers L rings) tt e in (not-outside L 512 (off .1 .0) .0, is-equal (length rings) (speakers * L) (off .1 .1 .0))
 
   reset-told : (o : AfterReset) → o ≡ resetOutcome d speakers L rings → Resets d speakers L rings o
   reset-told o e =
@@ -128,24 +127,3 @@ module _ (d : Desk) (speakers L : ℕ) (rings : List Float) where
   reset-accepted rings₁ e f =
       reset-told (record { answer = record { refusal = 0; desk = record { position = 0; «to_go» = 0 } }; rings = rings₁ })
       (ap (λ (l : List Float). record { answer = record { refusal = 0; desk = record { position = 0; «to_go» = 0 } }; rings = l }) f ∙ sym (reset-by 0 e))
-
-  abbrev bad5 : Bool
-  bad5 = not (eqb (length rings) (speakers * L))
-
-  pub reset-2 : outside speakers 8 ≡ true → resetRefusal speakers L rings ≡ 2
-  unfolding resetRefusal
-  reset-2 a = stops 2 (cond (outside L 512) 4 (cond bad5 5 0)) a
-
-  pub reset-4 : outside speakers 8 ≡ false → outside L 512 ≡ true → resetRefusal speakers L rings ≡ 4
-  unfolding resetRefusal
-  reset-4 a b = goes-on 2 (cond (outside L 512) 4 (cond bad5 5 0)) a ∙ stops 4 (cond bad5 5 0) b
-
-  reset-later : outside speakers 8 ≡ false → outside L 512 ≡ false → resetRefusal speakers L rings ≡ cond bad5 5 0
-  unfolding resetRefusal
-  reset-later a b = goes-on 2 (cond (outside L 512) 4 (cond bad5 5 0)) a ∙ goes-on 4 (cond bad5 5 0) b
-
-  pub reset-5 : outside speakers 8 ≡ false → outside L 512 ≡ false → bad5 ≡ true → resetRefusal speakers L rings ≡ 5
-  reset-5 a b e = reset-later a b ∙ stops 5 0 e
-
-  pub reset-0 : outside speakers 8 ≡ false → outside L 512 ≡ false → bad5 ≡ false → resetRefusal speakers L rings ≡ 0
-  reset-0 a b e = reset-later a b ∙ goes-on 5 0 e

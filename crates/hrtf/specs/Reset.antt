@@ -7,15 +7,18 @@ use lib.Dec.{eqb}
 use lib.ListN.{length, replicate}
 use lib.Ieee.{Float}
 use Rattle.numbers.specs.Computed.{zero-float}
-use Rattle.refusals.specs.Refusals.{firstOf, _when_, outside}
-use Rattle.planes.specs.Tables.{unsound}
+use Rattle.refusals.specs.Refusals.{Check, firstOf, _when_, outside}
+use Rattle.checks.specs.Tables.{unsound}
 use Rattle.desk.specs.declared.Desk.{Desk}
 use Rattle.history.specs.Setup.{Setup}
 use Rattle.rings.specs.Represents.{Represents}
 use Rattle.hrtf.specs.declared.Rested.{Rested}
 
+abbrev pub resetChecks : ℕ → ℕ → List Float → List Check
+resetChecks speakers L rings = 2 when outside speakers 8 ∷ 4 when outside L 512 ∷ 5 when not (eqb (length rings) (speakers * L)) ∷ []
+
 unfoldable pub resetRefusal : ℕ → ℕ → List Float → ℕ
-resetRefusal speakers L rings = firstOf (2 when outside speakers 8 ∷ 4 when outside L 512 ∷ 5 when not (eqb (length rings) (speakers * L)) ∷ [])
+resetRefusal speakers L rings = firstOf (resetChecks speakers L rings)
 
 -- the answer, and what the lent rings hold
 pub record AfterReset : Type 0 where

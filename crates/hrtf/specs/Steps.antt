@@ -6,7 +6,7 @@ use mathlib.Core.List.{List, []}
 use lib.ListN.{length}
 use lib.Ieee.{Float}
 use Rattle.numbers.specs.Computed.{zero-float}
-use Rattle.planes.specs.Tables.{row}
+use Rattle.checks.specs.Tables.{row}
 use Rattle.planes.specs.Sums.{dot}
 use Rattle.planes.specs.Planes.{withFrame, withFrames}
 use Rattle.desk.specs.declared.Desk.{Desk}

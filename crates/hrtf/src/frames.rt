@@ -147,7 +147,7 @@ pub(crate) fn block(
         (record { shape = shape; frames = frames; stride = stride; inputs = now (inputs .entry); weights = now (weights .entry); rows = now («row_of» .entry); taps = now (taps .entry); ears = now (ears .entry) })
         (record { rings = now (rings .entry); desk = desk }) (now (rings .exit)) (now (ears .exit)) (r .desk) (r .unsettled) ⌝ }
 {
-    let mut now_at = desk;
+    let mut standing = desk;
     let mut played = Played {
         frames: 0,
         unsettled: 0,
@@ -156,7 +156,7 @@ pub(crate) fn block(
     while played.frames < frames {
         played = one_frame(
             played,
-            now_at,
+            standing,
             shape,
             stride,
             inputs,
@@ -166,10 +166,10 @@ pub(crate) fn block(
             rings,
             ears,
         );
-        desk::step(&mut now_at, shape.length, played.damaged);
+        desk::step(&mut standing, shape.length, played.damaged);
     }
     Turn {
-        desk: now_at,
+        desk: standing,
         unsettled: played.unsettled,
     }
 }

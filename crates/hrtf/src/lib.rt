@@ -9,7 +9,7 @@
 // demand 3, over runs of many calls, are in `runs`.
 //
 // Under it lie `hrtf_checks` (the refusals), `rings` (the convolution, and that rings stand for a history),
-// `history` (the sums), `desk` and `planes`.
+// `history` (the sums), `desk`, `planes`, `checks`, `numbers` (narrowing) and `refusals`.
 use desk::Desk;
 use hrtf_checks::Shape;
 ghost use mathlib.Core.Path.{_≡_};
@@ -107,13 +107,13 @@ fn silence(rings: &mut [f32])
 pub fn reset(desk: Desk, speakers: usize, length: usize, rings: &mut [f32]) -> Rested
     ensures { λ r. ⌜ Resets desk speakers length (now (rings .entry)) (record { answer = r; rings = now (rings .exit) }) ⌝ }
 {
-    if planes::is_outside(speakers, 8) {
+    if refusals::is_outside(speakers, 8) {
         return Rested { refusal: 2, desk };
     }
-    if planes::is_outside(length, 512) {
+    if refusals::is_outside(length, 512) {
         return Rested { refusal: 4, desk };
     }
-    if !planes::is_product(rings.len(), speakers, length) {
+    if !checks::is_product(rings.len(), speakers, length) {
         return Rested { refusal: 5, desk };
     }
     silence(rings);

@@ -4,9 +4,9 @@ use mathlib.Core.Bool.{Bool, not, _||_}
 use mathlib.Core.List.{List, [], _∷_}
 use lib.Dec.{leb, eqb}
 use lib.ListN.{length, getD}
-use Rattle.refusals.specs.Refusals.{firstOf, _when_, outside}
-use Rattle.planes.specs.Tables.{tab, any, unsound}
-use Rattle.planes.specs.Planes.{blockUnfit}
+use Rattle.refusals.specs.Refusals.{Check, firstOf, _when_, outside}
+use Rattle.checks.specs.Tables.{tab, any, unsound}
+use Rattle.checks.specs.Lengths.{blockUnfit}
 use Rattle.desk.specs.declared.Desk.{Desk}
 use Rattle.rings.specs.Steps.{State}
 use Rattle.hrtf_checks.specs.declared.Shape.{Shape}
@@ -30,10 +30,13 @@ misfit h frames stride inputs weights taps rings ears =
 abbrev pub astray : Desk → ℕ → Bool
 astray d L = leb L (d .position) || leb L (d .«to_go»)
 
-unfoldable pub refusalOf : Call → State → ℕ
-refusalOf c t =
-    firstOf (2 when misshapen (c .shape) (c .rows)
+abbrev pub callChecks : Call → State → List Check
+callChecks c t =
+    2 when misshapen (c .shape) (c .rows)
     ∷ 4 when outside (c .shape .length) 512
     ∷ 5 when misfit (c .shape) (c .frames) (c .stride) (length (c .inputs)) (length (c .weights)) (length (c .taps)) (length (t .rings)) (length (c .ears))
     ∷ 7 when (unsound (c .weights) || unsound (c .taps))
-    ∷ 8 when astray (t .desk) (c .shape .length) ∷ [])
+    ∷ 8 when astray (t .desk) (c .shape .length) ∷ []
+
+unfoldable pub refusalOf : Call → State → ℕ
+refusalOf c t = firstOf (callChecks c t)

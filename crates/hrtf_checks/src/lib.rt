@@ -1,7 +1,8 @@
 // What the convolver refuses (document 01, 'Refusal numbers', those whose argument `hrtf::process` has): 2, 4,
 // 5, 7 and 8. Each test is a function of its own, in document 01's words; `refusal` gives the number of
 // the first that holds, and 0 where none does. It takes any input, and promises the number by an
-// equation. Under it lie `planes` (counts, products of lengths, finite numbers), `rings`, `desk` and `refusals`.
+// equation. Under it lie `checks` (counts, products of lengths, finite numbers), `planes`, `history`, `rings`,
+// `desk` and `refusals`.
 use desk::Desk;
 ghost use mathlib.Core.Path.{_≡_};
 ghost use Prim.Native.Nat.{_≤_};
@@ -38,13 +39,13 @@ fn is_misshapen(shape: Shape, row_of: &[usize; 8]) -> bool
 {
     let speakers = shape.speakers;
     let rows = shape.rows;
-    if planes::is_outside(speakers, 8) {
+    if refusals::is_outside(speakers, 8) {
         return true;
     }
-    if planes::is_outside(rows, 8) {
+    if refusals::is_outside(rows, 8) {
         return true;
     }
-    if planes::is_outside(shape.channels, 16) {
+    if refusals::is_outside(shape.channels, 16) {
         return true;
     }
     is_rowless(row_of, speakers, rows)
@@ -66,16 +67,16 @@ fn is_misfit(
 {
     let speakers = shape.speakers;
     let length = shape.length;
-    if planes::is_block_unfit(inputs, shape.channels, ears, 2, stride, frames) {
+    if checks::is_block_unfit(inputs, shape.channels, ears, 2, stride, frames) {
         return true;
     }
-    if !planes::is_product(rings, speakers, length) {
+    if !checks::is_product(rings, speakers, length) {
         return true;
     }
-    if !planes::is_product(weights, speakers, shape.channels) {
+    if !checks::is_product(weights, speakers, shape.channels) {
         return true;
     }
-    !planes::is_product(taps, 2 * shape.rows, length)
+    !checks::is_product(taps, 2 * shape.rows, length)
 }
 
 // Whether the ring position or the frames to go are not below L.
@@ -110,7 +111,7 @@ pub fn refusal(
     if is_misshapen(shape, row_of) {
         return 2;
     }
-    if planes::is_outside(shape.length, 512) {
+    if refusals::is_outside(shape.length, 512) {
         return 4;
     }
     if is_misfit(
@@ -125,10 +126,10 @@ pub fn refusal(
     ) {
         return 5;
     }
-    if planes::unsound_f64(weights) {
+    if checks::unsound_f64(weights) {
         return 7;
     }
-    if planes::unsound_f32(taps) {
+    if checks::unsound_f32(taps) {
         return 7;
     }
     if is_astray(desk, shape.length) {

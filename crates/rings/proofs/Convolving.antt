@@ -9,7 +9,7 @@ use lib.ListN.{length, getD, drop, drop-of-length-le}
 use lib.Ieee.{Float, nan, binary64, add, mul}
 use Rattle.numbers.specs.Computed.{zero-float}
 use Rattle.planes.specs.Sums.{dot}
-use Rattle.planes.proofs.Lists.{split}
+use Rattle.checks.proofs.Lists.{split}
 use Rattle.planes.proofs.Sums.{dot-more, dot-done}
 use Rattle.rings.specs.Unrolled.{unrolled}
 use Rattle.rings.proofs.Ring.{unrolled-at, unrolled-least, length-unrolled}

@@ -5,13 +5,14 @@ use mathlib.Core.Bool.{Bool, true, false, _||_}
 use mathlib.Core.List.{List, [], _∷_}
 use Prim.Native.Nat.{ℕ, zero, suc, _-_, _≤_, _<_, zero-le}
 use native.Mathlib.Nat.{not-suc-le-zero}
+use native.Mathlib.Numerals.{sub-one}
 use native.Mathlib.Omega.{arith}
 use borrow.Author.Tests.{lt-ltb, le-ltb}
 use lib.Dec.{ltb}
 use lib.ListN.{take}
 use lib.Seq.{take-nil}
-use Rattle.planes.specs.Tables.{any}
-use Rattle.planes.proofs.Lists.{split}
+use Rattle.checks.specs.Tables.{any}
+use Rattle.checks.proofs.Lists.{split}
 use Rattle.rings.specs.Represents.{toGoAfter}
 
 ltb-pred : (j t : ℕ) → ltb j (t - 1) ≡ ltb (suc j) t
@@ -37,7 +38,4 @@ to-go-any n (false ∷ bs) j (suc k) e = ltb-pred j (toGoAfter n bs) ∙ to-go-a
 -- the newest of them, and the rest
 pub any-take-cons : (n : ℕ) (b : Bool) (bs : List Bool) → 0 < n → any (take n (b ∷ bs)) ≡ (b || any (take (n - 1) bs))
 any-take-cons zero b bs h = absurd (not-suc-le-zero h)
-any-take-cons (suc n) b bs h = ap (λ (k : ℕ). b || any (take k bs)) (less n)
-  where
-    less : (n : ℕ) → n ≡ suc n - 1
-    less n = omega arith
+any-take-cons (suc n) b bs h = ap (λ (k : ℕ). b || any (take k bs)) (sym (sub-one (suc n)))

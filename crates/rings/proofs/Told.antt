@@ -3,20 +3,19 @@ use mathlib.Core.Path.{_≡_, refl, sym, ap, _∙_, subst}
 use mathlib.Core.Bool.{Bool, false, _||_, cond}
 use mathlib.Core.List.{List, [], _∷_, map, reverse}
 use Prim.Native.Nat.{ℕ, suc, _+_, _-_, _*_, _%_, _≤_, _<_}
-use native.Mathlib.Nat.{zero-add, mod-lt, mul-le-mul-right, suc-mul}
+use native.Mathlib.Nat.{zero-add, mul-le-mul-right, suc-mul}
 use native.Mathlib.Omega.{arith}
-use borrow.Author.Tests.{lt-ltb}
 use lib.Dec.{ltb}
 use lib.ListN.{length, set, take, length-replicate}
 use lib.Ieee.{Float, nan}
 use Rattle.numbers.specs.Computed.{zero-float}
-use Rattle.planes.specs.Tables.{row, unsound}
+use Rattle.checks.specs.Tables.{row, unsound}
 use Rattle.planes.specs.Sums.{dot}
-use Rattle.planes.proofs.Lists.{reverse-replicate, take-replicate, drop-replicate}
-use Rattle.planes.proofs.Tables.{length-tab, getD-tab, length-row}
+use Rattle.checks.proofs.Lists.{reverse-replicate, take-replicate, drop-replicate}
+use Rattle.checks.proofs.Tables.{length-tab, getD-tab, length-row}
 use Rattle.planes.proofs.Planes.{length-with-frame, row-with-frame}
 use Rattle.desk.specs.declared.Desk.{Desk}
-use Rattle.desk.specs.Steps.{advanced, steppedOf}
+use Rattle.desk.proofs.Going.{desk-on, position-below}
 use Rattle.history.specs.Setup.{Setup, tapsOf}
 use Rattle.history.specs.Signals.{signal, signals, damaged}
 use Rattle.history.specs.History.{window, part, earSample, earSamples, unsettled}
@@ -27,14 +26,6 @@ use Rattle.rings.specs.Steps.{State, stored, partOf, ringEar, ears, late
 use Rattle.rings.specs.Represents.{Represents, fresh}
 use Rattle.rings.proofs.Ring.{unrolled-set, unrolled-wrapped}
 use Rattle.rings.proofs.ToGo.{to-go-any, any-take-cons}
-
--- a desk whose position is below L goes on, and its position stays below
-module _ (L : ℕ) (bad : Bool) (d : Desk) (h : d .position < L) where
-  pub desk-on : steppedOf L bad d ≡ advanced L bad d
-  desk-on = ap (λ (b : Bool). cond b (advanced L bad d) d) (lt-ltb (d .position) L h)
-
-  pub position-below : steppedOf L bad d .position < L
-  position-below = subst (λ (e : Desk). e .position < L) (sym desk-on) (mod-lt (d .position + 1) {m = L} (omega (arith, h)))
 
 pub length-stored : (u : Setup) (t : State) (f : List Float) → length (stored u t f) ≡ length (t .rings)
 length-stored u t f = length-with-frame 0 (t .rings) (u .L) (t .desk .position) (signals u f)

@@ -7,7 +7,7 @@ use mathlib.Core.List.{List, [], _∷_, map}
 use lib.ListN.{length, replicate}
 use lib.Ieee.{Float}
 use Rattle.numbers.specs.Computed.{zero-float}
-use Rattle.planes.specs.Tables.{row}
+use Rattle.checks.specs.Tables.{row}
 use Rattle.history.specs.Setup.{Setup}
 use Rattle.history.specs.Signals.{damaged}
 use Rattle.history.specs.History.{window}

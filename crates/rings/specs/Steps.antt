@@ -5,7 +5,7 @@ use mathlib.Core.List.{List, [], _∷_}
 use lib.Dec.{ltb}
 use lib.Ieee.{Float}
 use Rattle.numbers.specs.Computed.{zero-float}
-use Rattle.planes.specs.Tables.{row, count}
+use Rattle.checks.specs.Tables.{row, count}
 use Rattle.planes.specs.Planes.{withFrame}
 use Rattle.planes.specs.Sums.{dot}
 use Rattle.desk.specs.declared.Desk.{Desk}

@@ -4,7 +4,8 @@
 // oldest, times the taps. It takes any lists, and promises the ordered sum by an equation.
 //
 // The laws (proofs/) say that rings and desk stand for a history (specs/Represents.antt): what is read out of
-// them is document 01's sums over it, and a frame keeps that so. Under it lie `history`, `desk` and `planes`.
+// them is document 01's sums over it, and a frame keeps that so. Under it lie `history`, `desk`,
+// `planes`, `checks`, `numbers` and `refusals`.
 ghost use mathlib.Core.Path.{_≡_};
 ghost use Prim.Native.Nat.{suc};
 ghost use Rattle.numbers.specs.Computed.{zero-float};
@@ -20,8 +21,8 @@ pub fn convolve(ring: &[f32], newest: usize, taps: &[f32]) -> f64
     if n == 0 {
         return 0.0;
     }
-    let from = planes::least(newest, n - 1);
-    let count = planes::least(n, taps.len());
+    let from = checks::least(newest, n - 1);
+    let count = checks::least(n, taps.len());
     let mut sum = 0.0;
     let mut k = 0;
     while k < count {

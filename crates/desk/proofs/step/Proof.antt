@@ -63,53 +63,53 @@ module _ {M : Type 1} (𝓤 : URA M) (H : Heap 𝓤) (A : Atoms 𝓤) (at-mem : 
   abbrev Stepped : Contract 𝓤
   Stepped = tripleOf 𝓤 H A stepped.signature (stepped.spec 𝓤 H A at-mem run)
 
-  stepped-of : (h : Desk) (n : ℕ) (t : Bool) (r : Desk) → ent 𝓤 (ensured 𝓤 H A stepped.ended (stepped.clauses 𝓤 H A at-mem run) tt (h, (n, (t, tt))) tt r) (fact 𝓤 (r ≡ steppedOf n t h))
-  stepped-of h n t r = exE 𝓤 _ (λ ws. snd∗ 𝓤 (sem 𝓤 H A (lasts stepped.ended tt (h, (n, (t, tt))) ws)) (fact 𝓤 (r ≡ steppedOf n t h)))
+  stepped-of : (desk : Desk) (length : ℕ) (damaged : Bool) (r : Desk) → ent 𝓤 (ensured 𝓤 H A stepped.ended (stepped.clauses 𝓤 H A at-mem run) tt (desk, (length, (damaged, tt))) tt r) (fact 𝓤 (r ≡ steppedOf length damaged desk))
+  stepped-of desk length damaged r = exE 𝓤 _ (λ ws. snd∗ 𝓤 (sem 𝓤 H A (lasts stepped.ended tt (desk, (length, (damaged, tt))) ws)) (fact 𝓤 (r ≡ steppedOf length damaged desk)))
 
-module _ {M : Type 1} (𝓤 : URA M) (H : Heap 𝓤) (A : Atoms 𝓤) (W : Given 𝓤 H A) (at-mem : Memory → SProp 𝓤) (run : Routine → Fun 𝓤) (κ : Lft) (q : Share) (b o : ℕ) (γ : GName) (h : Desk) (n : ℕ) (t : Bool) (fits : n < 2 ^ 64) where
+module _ {M : Type 1} (𝓤 : URA M) (H : Heap 𝓤) (A : Atoms 𝓤) (W : Given 𝓤 H A) (at-mem : Memory → SProp 𝓤) (run : Routine → Fun 𝓤) (κ : Lft) (q : Share) (b o : ℕ) (γ : GName) (desk : Desk) (length : ℕ) (damaged : Bool) (fits : length < 2 ^ 64) where
   abbrev Arg : Type 0
   Arg = RefT Desk × (ℕ × (Bool × Unit {0}))
 
   abbrev x : Arg
-  x = (record { ptr = (b, o); name = γ; now = h }, (n, (t, tt)))
+  x = (record { ptr = (b, o); name = γ; now = desk }, (length, (damaged, tt)))
 
   abbrev at : List Val × (List Val × (List Val × Unit {0}))
-  at = (vptr b o ∷ [], (vint w64 n ∷ [], (vbool t ∷ [], tt)))
+  at = (vptr b o ∷ [], (vint w64 length ∷ [], (vbool damaged ∷ [], tt)))
 
   abbrev Post : Val → SProp 𝓤
   Post = walkOf 𝓤 H A f.ended stayed (f.clauses 𝓤 H A at-mem run) .post (((κ, tt), (q, tt), tt, x, at), tt)
 
-  exits : (r : Desk) → r ≡ steppedOf n t h → ent 𝓤 (sep 𝓤 (A .obs γ (T.the-row .coded .code r)) (sep 𝓤 (A .bor κ (Body (mem T.the-row) b o γ)) (A .lft κ q))) (Post vunit)
+  exits : (r : Desk) → r ≡ steppedOf length damaged desk → ent 𝓤 (sep 𝓤 (A .obs γ (T.the-row .coded .code r)) (sep 𝓤 (A .bor κ (Body (mem T.the-row) b o γ)) (A .lft κ q))) (Post vunit)
   exits r e =
       qed W (‵ (fobs γ (T.the-row .coded .code r)) ∷ ‵ (fbor κ (Body (mem T.the-row) b o γ)) ∷ ‵ (flft κ q) ∷ []) ∵
       suffices ! _ (ends-at 𝓤 H A f.ended stayed (f.clauses 𝓤 H A at-mem run) W (((κ, tt), (q, tt), tt, x, at), tt) vunit tt (r, (tt, (tt, tt))) (tt, (tt, (tt, tt)))) $ says ! e $ nothing ! $ move ! (3 ∷ 0 ∷ []) $ join ! $
-      frame ! $ feqI ! (List Val) (vptr b o ∷ []) (vptr b o ∷ []) refl $ fjoin3 ! $ nothing ! $ owned ! bool (Is bool) (bool-makes 𝓤 H A W) t _ refl $ fjoin ! $ owned ! usize (Is usize) (uint-makes 𝓤 H A W w64) n _ (refl, fits) $ fjoin ! $ move ! (1 ∷ 0 ∷ []) $ fjoin ! $
+      frame ! $ feqI ! (List Val) (vptr b o ∷ []) (vptr b o ∷ []) refl $ fjoin3 ! $ nothing ! $ owned ! bool (Is bool) (bool-makes 𝓤 H A W) damaged _ refl $ fjoin ! $ owned ! usize (Is usize) (uint-makes 𝓤 H A W w64) length _ (refl, fits) $ fjoin ! $ move ! (1 ∷ 0 ∷ []) $ fjoin ! $
       feqI ! (List Val) (vunit ∷ []) (vunit ∷ []) refl $ move ! (1 ∷ 0 ∷ []) $ done !
 
   -- the call of `stepped`: plain data, so what it is passed is owned for nothing
   abbrev to-stepped : Stepped 𝓤 H A at-mem run .Ghost
-  to-stepped = ((tt, tt, tt, (h, (n, (t, tt))), (vals h, (vint w64 n ∷ [], (vbool t ∷ [], tt)))), tt)
+  to-stepped = ((tt, tt, tt, (desk, (length, (damaged, tt))), (vals desk, (vint w64 length ∷ [], (vbool damaged ∷ [], tt)))), tt)
 
-  goes : Is T.the-row h (vals h) → ent 𝓤 (sem 𝓤 H A ftrue) (Stepped 𝓤 H A at-mem run .pre to-stepped)
+  goes : Is T.the-row desk (vals desk) → ent 𝓤 (sem 𝓤 H A ftrue) (Stepped 𝓤 H A at-mem run .pre to-stepped)
   goes was =
-      qed W (‵ ftrue ∷ []) ∵ nothing ! $ owned ! bool (Is bool) (bool-makes 𝓤 H A W) t _ refl $ fjoin ! $ owned ! usize (Is usize) (uint-makes 𝓤 H A W w64) n _ (refl, fits) $ fjoin ! $
-      owned ! T.the-row (Is T.the-row) (LL.makes T.the-type T′.the-plain 𝓤 H A) h _ was $ fjoin ! $ move ! (1 ∷ 0 ∷ []) $ join ! $ frame ! $ done !
+      qed W (‵ ftrue ∷ []) ∵ nothing ! $ owned ! bool (Is bool) (bool-makes 𝓤 H A W) damaged _ refl $ fjoin ! $ owned ! usize (Is usize) (uint-makes 𝓤 H A W w64) length _ (refl, fits) $ fjoin ! $
+      owned ! T.the-row (Is T.the-row) (LL.makes T.the-type T′.the-plain 𝓤 H A) desk _ was $ fjoin ! $ move ! (1 ∷ 0 ∷ []) $ join ! $ frame ! $ done !
 
   module _ (C : Calls 𝓤 H) (Λ : Loops 𝓤 H) (fm : FmC 𝓤 H (W .laws) C) (known : Triple 𝓤 (C #desk·stepped) (Stepped 𝓤 H A at-mem run)) where
-    walk : ent 𝓤 (onEntry 𝓤 H A f.signature (κ, tt) (q, tt) x at) (WpFn 𝓤 H C Λ code.function (vptr b o ∷ vint w64 n ∷ vbool t ∷ []) Post)
+    walk : ent 𝓤 (onEntry 𝓤 H A f.signature (κ, tt) (q, tt) x at) (WpFn 𝓤 H C Λ code.function (vptr b o ∷ vint w64 length ∷ vbool damaged ∷ []) Post)
     walk =
         qed W ((‵ (flft κ q) ⊛ ‵ ftrue) ∷ ‵ (owns (MutRef (named 0) κ T.the-row ∷ usize ∷ bool ∷ []) x at) ∷ []) ∵ split ! $ move ! (2 ∷ []) $ fsplit ! $ fsplit3 ! $ drop ! $ move ! (0 ∷ 1 ∷ 3 ∷ []) $
         -- [obs; the borrow; the token; what length and damaged own; true]
-        enter ! C Λ code.function (vptr b o ∷ vint w64 n ∷ vbool t ∷ []) _ $
+        enter ! C Λ code.function (vptr b o ∷ vint w64 length ∷ vbool damaged ∷ []) _ $
         alloc1 ! (λ l₀. alloc1 ! (λ l₁. alloc1 ! (λ l₂. alloc1 ! (λ l₃. alloc1 ! (λ l₄. alloc1 ! (λ l₅. alloc0 ! $ params1 ! $ pass1 ! (init ! 8 refl (tt, tt)) $ pass1 ! (init ! 6 refl (tt, record { fits = fits })) $ pass1 ! (init ! 4 refl (tt, tt)) $ pass0 ! $
-        move ! (12 ∷ 13 ∷ 14 ∷ []) $ opens ! tt T.the-row {h = h} b o (λ vs. spelt ! T.the-row (Is T.the-row) (shows 𝓤 H A T.the-row) vals (LL.tells T.the-type T′.the-laws) fullShare h vs b o $
-        move ! (1 ∷ []) $ peeks ! T.the-row (Is T.the-row) (shows 𝓤 H A T.the-row) h (vals h) (λ was. move ! (1 ∷ 0 ∷ []) $
+        move ! (12 ∷ 13 ∷ 14 ∷ []) $ opens ! tt T.the-row {h = desk} b o (λ vs. spelt ! T.the-row (Is T.the-row) (shows 𝓤 H A T.the-row) vals (LL.tells T.the-type T′.the-laws) fullShare desk vs b o $
+        move ! (1 ∷ []) $ peeks ! T.the-row (Is T.the-row) (shows 𝓤 H A T.the-row) desk (vals desk) (λ was. move ! (1 ∷ 0 ∷ []) $
         -- [the struct's cell; what the Desk owns; the open borrow; obs; auth; _5; …; _4; …; _3; …; _2; …; _1; …; room for _0; …]
-        assigns ! (of-opd ! (load ! (from ! (hop ! (look ! 13 refl) (stop !))) (look-raw ! 0 refl))) (from ! (stop !)) (init ! 7 refl (LL.lawful T.the-type T′.the-laws 𝓤 H A W .typed h _ was .0)) $
+        assigns ! (of-opd ! (load ! (from ! (hop ! (look ! 13 refl) (stop !))) (look-raw ! 0 refl))) (from ! (stop !)) (init ! 7 refl (LL.lawful T.the-type T′.the-laws 𝓤 H A W .typed desk _ was .0)) $
         nothing ! $ use1 W (raw (Stepped 𝓤 H A at-mem run .pre to-stepped)) (goes was) $
         calls-at ! fm (Stepped 𝓤 H A at-mem run) known to-stepped (and-then ! (load ! (from ! (stop !)) (look ! 8 refl)) (and-then ! (load ! (from ! (stop !)) (look ! 12 refl)) (and-then ! (load ! (from ! (stop !)) (look ! 10 refl)) (no-more !)))) (λ v.
-        use1 W (later (some (λ (r : Desk). (‵ ftrue ⊛ ‵ (T.the-row .own r (v ∷ []))) ⊛ raw (ensured 𝓤 H A stepped.ended (stepped.clauses 𝓤 H A at-mem run) tt (h, (n, (t, tt))) tt r)))) (id⊢ 𝓤 _) $ await ! tt $ pick ! (λ r.
-        split ! $ move ! (1 ∷ []) $ use1 W (raw (fact 𝓤 (r ≡ steppedOf n t h))) (stepped-of 𝓤 H A at-mem run h n t r) $ heard ! (r ≡ steppedOf n t h) (λ e. split ! $ drop ! $
+        use1 W (later (some (λ (r : Desk). (‵ ftrue ⊛ ‵ (T.the-row .own r (v ∷ []))) ⊛ raw (ensured 𝓤 H A stepped.ended (stepped.clauses 𝓤 H A at-mem run) tt (desk, (length, (damaged, tt))) tt r)))) (id⊢ 𝓤 _) $ await ! tt $ pick ! (λ r.
+        split ! $ move ! (1 ∷ []) $ use1 W (raw (fact 𝓤 (r ≡ steppedOf length damaged desk))) (stepped-of 𝓤 H A at-mem run desk length damaged r) $ heard ! (r ≡ steppedOf length damaged desk) (λ e. split ! $ drop ! $
         peeks ! T.the-row (Is T.the-row) (shows 𝓤 H A T.the-row) r (v ∷ []) (λ is.
         -- [what r owns; the struct's cell; what the old Desk owns; the open borrow; obs; auth; room for _5; …; _4; …; _3; …; _2; …; _1; …; room for _0; …]
         land ! (from ! (stop !)) (init ! 6 refl (LL.lawful T.the-type T′.the-laws 𝓤 H A W .typed r _ is .0)) $

@@ -1,11 +1,24 @@
 -- `hrtf::process` meets its contract: `Promised`, from the refusal and from what the block leaves. Assumes nothing.
-use mathlib.Core.Path.{sym, _∙_}
+use mathlib.Core.Path.{_≡_, sym, _∙_}
 use denote.Ref.{now}
+use Rattle.rings.specs.Steps.{State}
+use Rattle.hrtf_checks.specs.Call.{Call}
+use Rattle.hrtf_checks.specs.Refusals.{refusalOf}
 use Rattle.hrtf_checks.proofs.Refusing.{ready}
 use Rattle.hrtf.proofs.Promised.{promised-refused, promised-accepted}
 use borrow.Author.Needs.{needs}
 use Rattle.hrtf.proofs.process.Statement.{statement}
 use Rattle.hrtf.proofs.process.Tie as tie
+
+-- what is given
+abbrev call : tie.Start → Call
+call c = let a = c .args in record { shape = a .shape; frames = a .frames; stride = a .stride; inputs = now (a .inputs); weights = now (a .weights); rows = now (a .row-of); taps = now (a .taps); ears = now (a .ears) }
+
+abbrev state : tie.Start → State
+state c = record { rings = now (c .args .rings); desk = c .args .desk }
+
+abbrev start : tie.After-refusal → tie.Start
+start c = c .before .before .before .before .before .before .before .before
 
 refusal-requires : tie.Need-refusal-requires
 refusal-requires c κs = search needs
@@ -17,10 +30,14 @@ same-length-2 : tie.Need-same-length-2
 same-length-2 c = search needs
 
 returns : tie.Need-returns
-returns c = let a = c .before .before .before .before .before .before .before .before .before .args in promised-refused (record { shape = a .shape; frames = a .frames; stride = a .stride; inputs = now (a .inputs); weights = now (a .weights); rows = now (a .row-of); taps = now (a .taps); ears = now (a .ears) }) (record { rings = now (a .rings); desk = a .desk }) _ (c .before .refusal .ensures) (c .if1 .taken)
+returns c = promised-refused (call (start (c .before))) (state (start (c .before))) _ (c .before .refusal .ensures) (c .if1 .taken)
+
+-- past the test of the refusal
+accepted : (c : tie.Else1) → refusalOf (call (start (c .before))) (state (start (c .before))) ≡ 0
+accepted c = sym (c .before .refusal .ensures) ∙ c .if1 .left
 
 block-requires : tie.Need-block-requires
-block-requires c κs = let a = c .before .before .before .before .before .before .before .before .before .before .before .args in ready (record { shape = a .shape; frames = a .frames; stride = a .stride; inputs = now (a .inputs); weights = now (a .weights); rows = now (a .row-of); taps = now (a .taps); ears = now (a .ears) }) (record { rings = now (a .rings); desk = a .desk }) (sym (c .before .before .before .refusal .ensures) ∙ c .before .before .if1 .left)
+block-requires c κs = let past = c .before .before in ready (call (start (past .before))) (state (start (past .before))) (accepted past)
 
 same-length-3 : tie.Need-same-length-3
 same-length-3 c = search needs
@@ -30,8 +47,9 @@ same-length-4 c = search needs
 
 returns-2 : tie.Need-returns-2
 returns-2 c =
-    let a = c .before .before .before .before .before .before .before .before .before .before .before .before .before .before .before .before .before .args in
-    promised-accepted (record { shape = a .shape; frames = a .frames; stride = a .stride; inputs = now (a .inputs); weights = now (a .weights); rows = now (a .row-of); taps = now (a .taps); ears = now (a .ears) }) (record { rings = now (a .rings); desk = a .desk }) _ _ _ _ (sym (c .before .before .before .before .before .before .before .before .if1 .left) ∙ c .before .before .before .before .before .before .before .before .before .refusal .ensures) (c .before .before .before .before .before .block .ensures)
+    let block = c .before .before .before .before .before in
+    let past = block .before .before .before in
+    promised-accepted (call (start (past .before))) (state (start (past .before))) _ _ _ _ (sym (accepted past)) (block .block .ensures)
 
 pub process-spec : {M : Type 1} → statement M
 process-spec =

@@ -6,7 +6,8 @@ use lib.ListN.{length}
 use lib.Ieee.{ofBits}
 use mathlib.Core.Path.{refl, _∙_}
 use Rattle.numbers.specs.Computed.{zero-float}
-use Rattle.planes.proofs.Filling.{tab-constant, Filling, filling-none, filling-more, filling-whole}
+use Rattle.checks.proofs.Tables.{tab-constant}
+use Rattle.checks.proofs.Filling.{Filling, filling-none, filling-more, filling-whole}
 use Rattle.hrtf.proofs.silence.Statement.{statement}
 use Rattle.hrtf.proofs.silence.Tie as tie
 

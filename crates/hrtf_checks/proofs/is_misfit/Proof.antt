@@ -2,7 +2,7 @@
 use mathlib.Core.Path.{sym, ap, _∙_}
 use mathlib.Core.Bool.{not}
 use native.Mathlib.Omega.{arith}
-use Rattle.planes.proofs.Checks.{or-yes, or-next}
+use Rattle.checks.proofs.Checks.{or-yes, or-next}
 use borrow.Author.Needs.{needs}
 use Rattle.hrtf_checks.proofs.is_misfit.Statement.{statement}
 use Rattle.hrtf_checks.proofs.is_misfit.Tie as tie

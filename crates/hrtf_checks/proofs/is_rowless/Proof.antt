@@ -5,7 +5,7 @@ use borrow.Author.Tests.{le-leb, lt-leb}
 use denote.Ref.{now}
 use lib.Dec.{leb}
 use lib.ListN.{getD}
-use Rattle.planes.proofs.Checks.{Passing, passing-none, passing-more, passing-found, passing-all}
+use Rattle.checks.proofs.Checks.{Passing, passing-none, passing-more, passing-found, passing-all}
 use Rattle.hrtf_checks.proofs.is_rowless.Statement.{statement}
 use Rattle.hrtf_checks.proofs.is_rowless.Tie as tie
 

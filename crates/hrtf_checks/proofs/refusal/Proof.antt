@@ -1,9 +1,9 @@
--- `hrtf_checks::refusal` meets its contract, one law of `Refusing` for each number. Assumes nothing.
+-- `hrtf_checks::refusal` meets its contract, each answer by the first of the tests that fails. Assumes nothing.
 use mathlib.Core.Path.{sym, _∙_}
 use mathlib.Core.Bool.{true, false}
 use denote.Ref.{now}
-use Rattle.planes.proofs.Checks.{or-yes, or-next}
-use Rattle.hrtf_checks.proofs.Refusing.{few-rows, refuse2, refuse4, refuse5, refuse7, refuse8, accept}
+use Rattle.checks.proofs.Checks.{or-yes, or-next}
+use Rattle.hrtf_checks.proofs.Refusing.{few-rows, refuse, accept}
 use borrow.Author.Needs.{needs}
 use Rattle.hrtf_checks.proofs.refusal.Statement.{statement}
 use Rattle.hrtf_checks.proofs.refusal.Tie as tie
@@ -12,40 +12,40 @@ is-misshapen-requires : tie.Need-is-misshapen-requires
 is-misshapen-requires c κs = search needs
 
 returns : tie.Need-returns
-returns c = refuse2 _ _ (sym (c .before .is-misshapen .ensures) ∙ c .if1 .taken)
+returns c = refuse _ _ 0 (sym (c .before .is-misshapen .ensures) ∙ c .if1 .taken)
 
 is-outside-requires : tie.Need-is-outside-requires
 is-outside-requires c κs = search needs
 
 returns-2 : tie.Need-returns-2
-returns-2 c = refuse4 _ _ (sym (c .before .before .before .is-misshapen .ensures) ∙ c .before .before .if1 .left) (sym (c .before .is-outside .ensures) ∙ c .if2 .taken)
+returns-2 c = refuse _ _ 1 (sym (c .before .before .before .is-misshapen .ensures) ∙ c .before .before .if1 .left, sym (c .before .is-outside .ensures) ∙ c .if2 .taken)
 
 is-misfit-requires : tie.Need-is-misfit-requires
 is-misfit-requires c κs = let a = c .before .before .before .before .before .before .before .before .before .args in few-rows (a .shape) (now (a .row-of)) (sym (c .before .before .before .is-misshapen .ensures) ∙ c .before .before .if1 .left)
 
 returns-3 : tie.Need-returns-3
-returns-3 c = refuse5 _ _ (sym (c .before .before .before .before .before .is-misshapen .ensures) ∙ c .before .before .before .before .if1 .left) (sym (c .before .before .before .is-outside .ensures) ∙ c .before .before .if2 .left) (sym (c .before .is-misfit .ensures) ∙ c .if3 .taken)
+returns-3 c = refuse _ _ 2 (sym (c .before .before .before .before .before .is-misshapen .ensures) ∙ c .before .before .before .before .if1 .left, (sym (c .before .before .before .is-outside .ensures) ∙ c .before .before .if2 .left, sym (c .before .is-misfit .ensures) ∙ c .if3 .taken))
 
 unsound-f64-requires : tie.Need-unsound-f64-requires
 unsound-f64-requires c κs = search needs
 
 returns-4 : tie.Need-returns-4
-returns-4 c = refuse7 _ _ (sym (c .before .before .before .before .before .before .before .is-misshapen .ensures) ∙ c .before .before .before .before .before .before .if1 .left) (sym (c .before .before .before .before .before .is-outside .ensures) ∙ c .before .before .before .before .if2 .left) (sym (c .before .before .before .is-misfit .ensures) ∙ c .before .before .if3 .left) (sym (or-yes _ _ (sym (c .before .unsound-f64 .ensures) ∙ c .if4 .taken)))
+returns-4 c = refuse _ _ 3 (sym (c .before .before .before .before .before .before .before .is-misshapen .ensures) ∙ c .before .before .before .before .before .before .if1 .left, (sym (c .before .before .before .before .before .is-outside .ensures) ∙ c .before .before .before .before .if2 .left, (sym (c .before .before .before .is-misfit .ensures) ∙ c .before .before .if3 .left, sym (or-yes _ _ (sym (c .before .unsound-f64 .ensures) ∙ c .if4 .taken)))))
 
 unsound-f32-requires : tie.Need-unsound-f32-requires
 unsound-f32-requires c κs = search needs
 
 returns-5 : tie.Need-returns-5
-returns-5 c = refuse7 _ _ (sym (c .before .before .before .before .before .before .before .before .before .is-misshapen .ensures) ∙ c .before .before .before .before .before .before .before .before .if1 .left) (sym (c .before .before .before .before .before .before .before .is-outside .ensures) ∙ c .before .before .before .before .before .before .if2 .left) (sym (c .before .before .before .before .before .is-misfit .ensures) ∙ c .before .before .before .before .if3 .left) (sym (or-next _ _ true (sym (c .before .before .before .unsound-f64 .ensures) ∙ c .before .before .if4 .left) (sym (sym (c .before .unsound-f32 .ensures) ∙ c .if5 .taken))))
+returns-5 c = refuse _ _ 3 (sym (c .before .before .before .before .before .before .before .before .before .is-misshapen .ensures) ∙ c .before .before .before .before .before .before .before .before .if1 .left, (sym (c .before .before .before .before .before .before .before .is-outside .ensures) ∙ c .before .before .before .before .before .before .if2 .left, (sym (c .before .before .before .before .before .is-misfit .ensures) ∙ c .before .before .before .before .if3 .left, sym (or-next _ _ true (sym (c .before .before .before .unsound-f64 .ensures) ∙ c .before .before .if4 .left) (sym (sym (c .before .unsound-f32 .ensures) ∙ c .if5 .taken))))))
 
 is-astray-requires : tie.Need-is-astray-requires
 is-astray-requires c κs = search needs
 
 returns-6 : tie.Need-returns-6
-returns-6 c = refuse8 _ _ (sym (c .before .before .before .before .before .before .before .before .before .before .before .is-misshapen .ensures) ∙ c .before .before .before .before .before .before .before .before .before .before .if1 .left) (sym (c .before .before .before .before .before .before .before .before .before .is-outside .ensures) ∙ c .before .before .before .before .before .before .before .before .if2 .left) (sym (c .before .before .before .before .before .before .before .is-misfit .ensures) ∙ c .before .before .before .before .before .before .if3 .left) (sym (or-next _ _ false (sym (c .before .before .before .before .before .unsound-f64 .ensures) ∙ c .before .before .before .before .if4 .left) (sym (sym (c .before .before .before .unsound-f32 .ensures) ∙ c .before .before .if5 .left)))) (sym (c .before .is-astray .ensures) ∙ c .if6 .taken)
+returns-6 c = refuse _ _ 4 (sym (c .before .before .before .before .before .before .before .before .before .before .before .is-misshapen .ensures) ∙ c .before .before .before .before .before .before .before .before .before .before .if1 .left, (sym (c .before .before .before .before .before .before .before .before .before .is-outside .ensures) ∙ c .before .before .before .before .before .before .before .before .if2 .left, (sym (c .before .before .before .before .before .before .before .is-misfit .ensures) ∙ c .before .before .before .before .before .before .if3 .left, (sym (or-next _ _ false (sym (c .before .before .before .before .before .unsound-f64 .ensures) ∙ c .before .before .before .before .if4 .left) (sym (sym (c .before .before .before .unsound-f32 .ensures) ∙ c .before .before .if5 .left))), sym (c .before .is-astray .ensures) ∙ c .if6 .taken))))
 
 returns-7 : tie.Need-returns-7
-returns-7 c = accept _ _ (sym (c .before .before .before .before .before .before .before .before .before .before .before .is-misshapen .ensures) ∙ c .before .before .before .before .before .before .before .before .before .before .if1 .left) (sym (c .before .before .before .before .before .before .before .before .before .is-outside .ensures) ∙ c .before .before .before .before .before .before .before .before .if2 .left) (sym (c .before .before .before .before .before .before .before .is-misfit .ensures) ∙ c .before .before .before .before .before .before .if3 .left) (sym (or-next _ _ false (sym (c .before .before .before .before .before .unsound-f64 .ensures) ∙ c .before .before .before .before .if4 .left) (sym (sym (c .before .before .before .unsound-f32 .ensures) ∙ c .before .before .if5 .left)))) (sym (c .before .is-astray .ensures) ∙ c .if6 .left)
+returns-7 c = accept _ _ (sym (c .before .before .before .before .before .before .before .before .before .before .before .is-misshapen .ensures) ∙ c .before .before .before .before .before .before .before .before .before .before .if1 .left, (sym (c .before .before .before .before .before .before .before .before .before .is-outside .ensures) ∙ c .before .before .before .before .before .before .before .before .if2 .left, (sym (c .before .before .before .before .before .before .before .is-misfit .ensures) ∙ c .before .before .before .before .before .before .if3 .left, (sym (or-next _ _ false (sym (c .before .before .before .before .before .unsound-f64 .ensures) ∙ c .before .before .before .before .if4 .left) (sym (sym (c .before .before .before .unsound-f32 .ensures) ∙ c .before .before .if5 .left))), (sym (c .before .is-astray .ensures) ∙ c .if6 .left, tt)))))
 
 pub refusal-spec : {M : Type 1} → statement M
 refusal-spec =

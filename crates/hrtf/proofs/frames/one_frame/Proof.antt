@@ -1,13 +1,27 @@
 -- `hrtf::frames::one_frame` meets its contract: `turned` puts together what the callees promise. Assumes nothing.
 use mathlib.Core.Bool.{_||_}
+use mathlib.Core.List.{List}
 use native.Mathlib.Omega.{arith}
 use lib.Dec.{ltb}
+use lib.Ieee.{Float}
 use denote.Ref.{now}
 use Rattle.planes.specs.Planes.{frameAt}
+use Rattle.rings.specs.Steps.{State}
+use Rattle.hrtf_checks.specs.Call.{Ready}
 use Rattle.hrtf.proofs.Playing.{ready-stored, turned, one-at-most}
 use borrow.Author.Needs.{needs}
 use Rattle.hrtf.proofs.frames.one_frame.Statement.{statement}
 use Rattle.hrtf.proofs.frames.one_frame.Tie as tie
+
+-- what is given: the rings and the desk, and the frame that is next
+abbrev state : tie.Start → State
+state c = record { rings = now (c .args .rings); desk = c .args .desk }
+
+abbrev frame : tie.Start → List Float
+frame c = let a = c .args in frameAt (now (a .inputs)) (a .stride) (a .shape .channels) (a .played .frames)
+
+abbrev start : tie.After-mix-frame → tie.Start
+start c = c .before .before .before .before .before .before .before
 
 mix-frame-requires : tie.Need-mix-frame-requires
 mix-frame-requires c κs = search needs
@@ -15,11 +29,17 @@ mix-frame-requires c κs = search needs
 unsound-frame-requires : tie.Need-unsound-frame-requires
 unsound-frame-requires c κs = search needs
 
+-- once the signals are put, the ears may be read
+stored-ready : (c : tie.After-mix-frame) → Ready (start c .args .shape) (start c .args .desk .position) (now (start c .args .row-of)) (now (start c .args .taps)) (c .mix-frame .last .0)
+stored-ready c =
+    let a = start c .args in
+    ready-stored (a .shape) (now (a .weights)) (now (a .row-of)) (now (a .taps)) (state (start c)) (frame (start c)) (c .mix-frame .last .0) (start c .pre .0) (c .mix-frame .ensures)
+
 ear-requires : tie.Need-ear-requires
-ear-requires c κs = let a = c .before .before .before .before .before .before .before .before .before .before .before .before .args in (ready-stored (a .shape) (now (a .weights)) (now (a .row-of)) (now (a .taps)) (record { rings = now (a .rings); desk = a .desk }) (frameAt (now (a .inputs)) (a .stride) (a .shape .channels) (a .played .frames)) (a .stride) (a .played .frames) (now (a .ears)) _ (c .before .before .before .before .before .before .before .before .before .before .before .before .pre .0) (c .before .before .before .before .before .mix-frame .ensures), omega arith)
+ear-requires c κs = (stored-ready (c .before .before .before .before .before), omega arith)
 
 ear-requires-2 : tie.Need-ear-requires-2
-ear-requires-2 c κs = let a = c .before .before .before .before .before .before .before .before .before .before .before .before .before .before .args in (ready-stored (a .shape) (now (a .weights)) (now (a .row-of)) (now (a .taps)) (record { rings = now (a .rings); desk = a .desk }) (frameAt (now (a .inputs)) (a .stride) (a .shape .channels) (a .played .frames)) (a .stride) (a .played .frames) (now (a .ears)) _ (c .before .before .before .before .before .before .before .before .before .before .before .before .before .before .pre .0) (c .before .before .before .before .before .before .before .mix-frame .ensures), omega arith)
+ear-requires-2 c κs = (stored-ready (c .before .before .before .before .before .before .before), omega arith)
 
 put-sample-requires : tie.Need-put-sample-requires
 put-sample-requires c κs = search needs
@@ -27,14 +47,25 @@ put-sample-requires c κs = search needs
 put-sample-requires-2 : tie.Need-put-sample-requires-2
 put-sample-requires-2 c κs = search needs
 
+-- from the second ear sample back to the damage, and on to the signals
+abbrev damage : tie.After-slice-known5 → tie.After-unsound-frame
+damage c = c .before .before .before .before .before .before .before .before .before .before .before .before
+
+abbrev stored : tie.After-slice-known5 → tie.After-mix-frame
+stored c = damage c .before .before .before .before
+
 add-t32 : tie.Need-add-t32
-add-t32 c = omega (arith, c .before .before .before .before .before .before .before .before .before .before .before .before .before .before .before .before .before .before .before .before .before .before .before .pre .2)
+add-t32 c = omega (arith, start (stored c) .pre .2)
 
 one-if-late-requires : tie.Need-one-if-late-requires
 one-if-late-requires c κs = search needs
 
 add-t34 : tie.Need-add-t34
-add-t34 c = omega (arith, c .before .before .before .before .before .before .before .before .before .before .before .before .before .before .before .before .before .before .before .before .before .before .before .before .before .pre .1, c .before .before .before .before .before .before .before .before .before .before .before .before .before .before .before .before .before .before .before .before .before .before .before .before .before .pre .2, c .before .one-if-late .ensures, one-at-most (c .before .before .before .before .before .before .before .before .before .before .before .before .before .before .unsound-frame .result || ltb 0 (c .before .before .before .before .before .before .before .before .before .before .before .before .before .before .before .before .before .before .before .before .before .before .before .before .before .args .desk .«to_go»)))
+add-t34 c =
+    let late = c .before in
+    let put = late .before in
+    let s = start (stored put) in
+    omega (arith, s .pre .1, s .pre .2, late .one-if-late .ensures, one-at-most (damage put .unsound-frame .result || ltb 0 (s .args .desk .«to_go»)))
 
 same-length : tie.Need-same-length
 same-length c = search needs
@@ -44,9 +75,16 @@ same-length-2 c = search needs
 
 returns : tie.Need-returns
 returns c =
-    let a = c .before .before .before .before .before .before .before .before .before .before .before .before .before .before .before .before .before .before .before .before .before .before .before .before .before .args in
-    turned (a .shape) (now (a .weights)) (now (a .row-of)) (now (a .taps)) (record { rings = now (a .rings); desk = a .desk }) (frameAt (now (a .inputs)) (a .stride) (a .shape .channels) (a .played .frames)) (a .stride) (a .played .frames) (now (a .ears))
-    _ _ _ _ _ _ (a .played .unsettled) _ (c .before .before .before .before .before .before .before .before .before .before .before .before .before .before .before .before .before .before .before .before .before .before .before .before .before .pre .0) (c .before .before .before .before .before .before .before .before .before .before .before .before .before .before .before .before .before .before .mix-frame .ensures) (c .before .before .before .before .before .before .before .before .before .before .before .before .before .before .unsound-frame .ensures) (c .before .before .before .before .before .before .before .before .before .before .before .before .ear .ensures) (c .before .before .before .before .before .before .before .before .before .before .ear2 .ensures) (c .before .before .before .before .before .before .before .before .put-sample .ensures) (c .before .before .before .before .put-sample2 .ensures) (c .before .one-if-late .ensures)
+    let late = c .before in
+    let put = late .before in
+    let right-put = put .before .before in
+    let left-put = right-put .before .before .before .before in
+    let right = left-put .before .before in
+    let left = right .before .before in
+    let s = start (stored put) in
+    let a = s .args in
+    turned (a .shape) (now (a .weights)) (now (a .row-of)) (now (a .taps)) (state s) (frame s) (a .stride) (a .played .frames) (now (a .ears)) _ _ _ _ _ _ (a .played .unsettled) _ (s .pre .0)
+    (stored put .mix-frame .ensures) (damage put .unsound-frame .ensures) (left .ear .ensures) (right .ear2 .ensures) (left-put .put-sample .ensures) (right-put .put-sample2 .ensures) (late .one-if-late .ensures)
 
 pub one-frame-spec : {M : Type 1} → statement M
 one-frame-spec =
