@@ -5,11 +5,10 @@ use Rattle.stereo.proofs.Drill.{left-at-minus-100, right-at-minus-100, left-at-
 use Rattle.surround.proofs.Drill.{silent-at-120, only-ls, centre, left-and-right, half-squares, at-120, at-0}
 use Rattle.history.proofs.Drill.{drill-8, drill-9, drill-9-each, drill-9-heard}
 use Rattle.row_choice.proofs.Drill.{drill-tie}
-use Rattle.bank.proofs.Drill.{oneRow, itsBytes, drill-written, drill-read, drill-cut}
+use Rattle.bank.proofs.Drill.{drill-written, drill-read, drill-cut}
 use Rattle.drill_table.specs.Table.{DrillTable}
 
 pub drill-table : DrillTable
-unfolding oneRow itsBytes
 drill-table = record {
   item-1 = drill-1;
   item-1-given = drill-1-floats;

@@ -1,7 +1,7 @@
 -- What an accepted set-up leaves fits the convolver: speakers and channels as many as it plays, finite weights, and for each speaker a row of the bank. And which set-ups are accepted. Assumes nothing.
 use mathlib.Core.Path.{_≡_, refl, sym, ap, _∙_, subst}
-use mathlib.Core.Bool.{Bool, true, false, not, cond}
-use mathlib.Core.List.{List, []}
+use mathlib.Core.Bool.{Bool, true, false, cond}
+use mathlib.Core.List.{List, _∷_}
 use Prim.Native.Nat.{ℕ, zero, suc, _+_, _*_, _%_, _≤_, _<_}
 use native.Mathlib.Nat.{zero-add, mod-lt}
 use native.Mathlib.Omega.{arith}
@@ -13,10 +13,10 @@ use lib.Seq.{sets, sets-eq}
 use lib.Ieee.{Float, fin}
 use lib.Ieee.Scale.{finite}
 use Rattle.refusals.specs.Refusals.{outside}
-use Rattle.refusals.proofs.First.{goes-on}
-use Rattle.planes.specs.Tables.{tab, unsound}
-use Rattle.planes.proofs.Tables.{length-tab, getD-tab}
-use Rattle.planes.proofs.Checks.{both-off, equal-passes, sound-at, sound-tab}
+use Rattle.refusals.proofs.Chains.{off-accepts}
+use Rattle.checks.specs.Tables.{tab, unsound}
+use Rattle.checks.proofs.Tables.{length-tab, getD-tab}
+use Rattle.checks.proofs.Checks.{both-off, equal-passes, sound-at, sound-tab}
 use Rattle.channel.specs.declared.Layout.{Layout}
 use Rattle.channel.specs.Layouts.{surround}
 use Rattle.channel.proofs.Orders.{by-order}
@@ -26,9 +26,9 @@ use Rattle.virtual_speaker.proofs.Laws.{outcome-kept, weights-length, weights-s
 use Rattle.hrtf_setup.specs.declared.Speakers.{Speakers}
 use Rattle.hrtf_setup.specs.declared.Speakers.the-variants.{Of, Virtual}
 use Rattle.hrtf_setup.specs.Speakers.{rowAt, oneIf, weightOf, weightAt}
-use Rattle.hrtf_setup.specs.Arrangement.{Wanted, laterRefusal, refusalOf, Arrangement, arrangedBy}
+use Rattle.hrtf_setup.specs.Arrangement.{Wanted, laterChecks, refusalOf, Arrangement, arrangedBy}
 use Rattle.hrtf_setup.specs.Promise.{Arranges, ofLayout, ofOrder, NewSurround, NewAmbisonic}
-use Rattle.hrtf_setup.proofs.Arranging.{offered, later-of, by-wanted}
+use Rattle.hrtf_setup.proofs.Arranging.{offered, by-wanted}
 
 -- ---- a weight is finite
 
@@ -106,11 +106,10 @@ module _ (w : Wanted) (azimuths : List ℤ) (rows : ℕ) (weights : List Float) 
 
 pub set-up : (w : Wanted) (azimuths : List ℤ) (rows : ℕ) (weights : List Float) → w .check .holds ≡ false → outside rows 8 ≡ false → length azimuths ≡ 8
     → length weights ≡ w .speakers * w .channels → refusalOf w azimuths rows weights ≡ 0
-unfolding laterRefusal
+unfolding refusalOf
 set-up w azimuths rows weights h few full long =
-    later-of w azimuths rows weights h
-    ∙ goes-on _ _ few
-    ∙ goes-on _ _ (both-off (not (eqb (length azimuths) 8)) (not (eqb (length weights) (w .speakers * w .channels))) (equal-passes (length azimuths) 8 full) (equal-passes (length weights) (w .speakers * w .channels) long))
+    off-accepts (w .check ∷ laterChecks (w .speakers * w .channels) azimuths rows weights)
+    (h, (few, (both-off _ _ (equal-passes (length azimuths) 8 full) (equal-passes (length weights) (w .speakers * w .channels) long), tt)))
 
 -- ---- each of the two
 

@@ -1,23 +1,22 @@
 -- From the tests and the filled lists to what the set-ups promise. Assumes nothing.
 use mathlib.Core.Path.{_≡_, refl, sym, ap, _∙_, subst}
 use mathlib.Core.Bool.{Bool, true, false, not, cond, _||_}
-use mathlib.Core.List.{List, []}
+use mathlib.Core.List.{List}
 use Prim.Native.Nat.{ℕ, suc, _+_, _*_, _/_, _%_, _-_, _≤_, _<_}
 use native.Mathlib.Nat.{zero-add, add-zero, mul-add-mod-self-right, mul-add-div-right, mod-eq-of-lt, div-eq-of-lt}
 use native.Mathlib.Omega.{arith}
-use borrow.Author.Tests.{eq-eqb, ne-eqb, le-leb, not-false}
+use borrow.Author.Tests.{eq-eqb, ne-eqb, not-false}
 use lib.Dec.{eqb}
 use lib.IntN.{ℤ}
 use lib.ListN.{length, getD}
 use lib.Ieee.{Float, nan}
-use Rattle.refusals.specs.Refusals.{outside}
+use Rattle.refusals.specs.Refusals.{firstOf, outside}
 use Rattle.refusals.proofs.First.{stops, goes-on, passed}
+use Rattle.refusals.proofs.Chains.{none-holds}
 use Rattle.fractions.specs.Fraction.{number}
-use Rattle.planes.specs.Tables.{tab}
-use Rattle.planes.proofs.Tables.{getD-tab}
-use Rattle.planes.proofs.Checks.{or-off, or-yes, or-next, is-equal, not-outside}
-use Rattle.planes.proofs.Planes.{inside}
-use Rattle.bank_form.specs.Bank.{within}
+use Rattle.checks.specs.Tables.{tab}
+use Rattle.checks.proofs.Tables.{getD-tab, inside}
+use Rattle.checks.proofs.Checks.{or-off, or-yes, or-next, is-equal, not-outside}
 use Rattle.channel.specs.declared.Layout.{Layout}
 use Rattle.channel.specs.Layouts.{channelsOf, counted, surround}
 use Rattle.channel.specs.Orders.{refusesOrder, channelsOfOrder}
@@ -33,7 +32,7 @@ use Rattle.hrtf_setup.specs.declared.Arranged.{Arranged}
 use Rattle.hrtf_setup.specs.declared.Speakers.{Speakers}
 use Rattle.hrtf_setup.specs.declared.Speakers.the-variants.{Of, Virtual}
 use Rattle.hrtf_setup.specs.Speakers.{tenthsAt, rowAt, rowsOf, weightOf, weightAt}
-use Rattle.hrtf_setup.specs.Arrangement.{Wanted, laterRefusal, refusalOf, Arrangement, arrangedBy, arrangement}
+use Rattle.hrtf_setup.specs.Arrangement.{Wanted, laterChecks, laterRefusal, refusalOf, Arrangement, arrangedBy, arrangement}
 use Rattle.hrtf_setup.specs.Promise.{Arranges, ofLayout, ofOrder, NewSurround, NewAmbisonic}
 use Rattle.hrtf_setup.proofs.Standing.{stands}
 
@@ -49,13 +48,9 @@ weighed k n s c hc = ap (λ (q : ℕ). weightOf k q ((s * n + c) % n)) quotient 
 -- ---- the row of a speaker
 
 module _ (k : Speakers) (azimuths : List ℤ) (rows s : ℕ) (few : outside rows 8 ≡ false) (full : length azimuths ≡ 8) where
-  in-bank : within 1 8 rows ≡ true
-  unfolding within
-  in-bank = rw (le-leb 1 rows (not-outside rows 8 few .0), le-leb rows 8 (not-outside rows 8 few .1))
-
   not-refused : choiceRefusal azimuths rows (tenthsAt k s) ≡ 0
   unfolding choiceRefusal
-  not-refused = goes-on _ _ (ap not in-bank) ∙ goes-on _ _ (ap not (stands k s)) ∙ goes-on _ _ (ap not (eq-eqb (length azimuths) 8 full))
+  not-refused = goes-on _ _ few ∙ goes-on _ _ (ap not (stands k s)) ∙ goes-on _ _ (ap not (eq-eqb (length azimuths) 8 full))
 
   row-is : nearestFrom azimuths (tenthsAt k s) 0 1 (rows - 1) ≡ rowAt k azimuths rows s
   unfolding choiceOf
@@ -114,25 +109,21 @@ module _ (k : Speakers) (speakers channels : ℕ) (azimuths : List ℤ) (rows : 
 -- ---- what each promises
 
 module _ (w : Wanted) (azimuths : List ℤ) (rows : ℕ) (weights : List Float) where
-  -- where the check that stands first is 0, it does not hold
-  pub later-of : w .check .holds ≡ false → refusalOf w azimuths rows weights ≡ laterRefusal (w .speakers * w .channels) azimuths rows weights
+  -- where the check that stands first does not hold, the later ones decide
+  later-of : w .check .holds ≡ false → refusalOf w azimuths rows weights ≡ laterRefusal (w .speakers * w .channels) azimuths rows weights
   unfolding refusalOf laterRefusal
   later-of h = goes-on (w .check .number) _ h
 
   later-passed : laterRefusal (w .speakers * w .channels) azimuths rows weights ≡ 0 → (outside rows 8 ≡ false) × (length azimuths ≡ 8)
   unfolding laterRefusal
   later-passed e =
-      let p2 = passed (outside rows 8) 1 _ e in
-      let p5 = passed (not (eqb (length azimuths) 8) || not (eqb (length weights) (w .speakers * w .channels))) 4 0 (p2 .1) in
-      (p2 .0, is-equal (length azimuths) 8 (or-off (not (eqb (length azimuths) 8)) _ (p5 .0) .0))
+      let off = none-holds (laterChecks (w .speakers * w .channels) azimuths rows weights) tt e in
+      (off .0, is-equal (length azimuths) 8 (or-off (not (eqb (length azimuths) 8)) _ (off .1 .0) .0))
 
   -- a check with a number above 0 does not hold of a set-up that is accepted
   pub offered : (n : ℕ) → w .check .number ≡ suc n → refusalOf w azimuths rows weights ≡ 0 → w .check .holds ≡ false
   unfolding refusalOf
-  offered n en e = passed (w .check .holds) n _ (ap (λ (m : ℕ). cond (w .check .holds) m laterAgain) (sym en) ∙ e) .0
-    where
-      laterAgain : ℕ
-      laterAgain = cond (outside rows 8) 2 (cond (not (eqb (length azimuths) 8) || not (eqb (length weights) (w .speakers * w .channels))) 5 0)
+  offered n en e = passed (w .check .holds) n _ (ap (λ (m : ℕ). cond (w .check .holds) m (firstOf (laterChecks (w .speakers * w .channels) azimuths rows weights))) (sym en) ∙ e) .0
 
   -- the two lists as they are handed back
   module _ (given : List ℕ) where
@@ -169,25 +160,26 @@ module _ (w : Wanted) (azimuths : List ℤ) (rows : ℕ) (weights : List Float) 
 
 -- ---- a layout
 
+module _ (l : Layout) (h : not (surround l) ≡ false) (n : ℕ) (counts : n ≡ counted l .channels) where
+  count-is : n ≡ channelsOf l
+  count-is = counts ∙ surround-counted l (not-false (surround l) h)
+
+  pub few-of-layout : (n ≤ 8) × (0 < n) × (n ≤ 16)
+  few-of-layout =
+      let f = surround-few l (not-false (surround l) h) in
+      let e = count-is in
+      (omega (arith, e, f .1), omega (arith, e, f .0), omega (arith, e, f .1))
+
 module _ (l : Layout) (azimuths : List ℤ) (rows : ℕ) (weights : List Float) (given : List ℕ) where
   pub layout-refused : (a : Arranged) → not (surround l) ≡ true → a ≡ record { refusal = 2; speakers = 0; channels = 0 }
       → NewSurround l azimuths rows weights given (record { answer = a; weights = weights; rows = given })
   layout-refused a h ea = not-offered (ofLayout l) azimuths rows weights given 1 refl a h ea
 
-  module _ (h : not (surround l) ≡ false) (n : ℕ) (counts : n ≡ counted l .channels) where
-    count-is : n ≡ channelsOf l
-    count-is = counts ∙ surround-counted l (not-false (surround l) h)
-
-    pub few-of-layout : (n ≤ 8) × (0 < n) × (n ≤ 16)
-    few-of-layout =
-        let f = surround-few l (not-false (surround l) h) in
-        let e = count-is in
-        (omega (arith, e, f .1), omega (arith, e, f .0), omega (arith, e, f .1))
-
-    pub layout-arranged : (o : Arrangement) → o ≡ arrangedBy (laterRefusal (n * n) azimuths rows weights) (Of l) n n azimuths rows weights given → NewSurround l azimuths rows weights given o
-    layout-arranged o e =
-        goes-on-to (ofLayout l) azimuths rows weights given 1 refl h o
-        (e ∙ ap (λ (m : ℕ). arrangedBy (laterRefusal (m * m) azimuths rows weights) (Of l) m m azimuths rows weights given) count-is)
+  pub layout-arranged : (n : ℕ) → not (surround l) ≡ false → n ≡ counted l .channels → (o : Arrangement)
+      → o ≡ arrangedBy (laterRefusal (n * n) azimuths rows weights) (Of l) n n azimuths rows weights given → NewSurround l azimuths rows weights given o
+  layout-arranged n h counts o e =
+      goes-on-to (ofLayout l) azimuths rows weights given 1 refl h o
+      (e ∙ ap (λ (m : ℕ). arrangedBy (laterRefusal (m * m) azimuths rows weights) (Of l) m m azimuths rows weights given) (count-is l h n counts))
 
 -- ---- an order
 

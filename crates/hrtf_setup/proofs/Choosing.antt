@@ -7,8 +7,8 @@ use native.Mathlib.Omega.{arith}
 use lib.IntN.{ℤ}
 use lib.ListN.{set}
 use lib.Seq.{sets}
-use Rattle.planes.specs.Tables.{tab}
-use Rattle.planes.proofs.Tables.{tab-more, tab-none, tab-all}
+use Rattle.checks.specs.Tables.{tab}
+use Rattle.checks.proofs.Tables.{tab-more, tab-none, tab-all}
 use Rattle.hrtf_setup.specs.declared.Speakers.{Speakers}
 use Rattle.hrtf_setup.specs.Speakers.{rowAt, rowsOf}
 

@@ -8,8 +8,7 @@ use native.Mathlib.Nat.{suc-ne-zero}
 use lib.IntN.{ℤ, pos}
 use lib.ListN.{replicate}
 use lib.Ieee.{nan}
-use Rattle.planes.specs.Tables.{tab}
-use Rattle.bank_form.specs.Bank.{within}
+use Rattle.checks.specs.Tables.{tab}
 use Rattle.channel.specs.declared.Layout.{Layout}
 use Rattle.channel.specs.declared.Layout.the-variants.{Mono, Stereo, Surround51, Surround71, Custom}
 use Rattle.channel.specs.Layouts.{surround}
@@ -22,7 +21,7 @@ use Rattle.hrtf_setup.specs.Arrangement.{refusalOf, Arrangement, arrange
 use Rattle.hrtf_setup.specs.Promise.{ofLayout, ofOrder, NewSurround, NewAmbisonic}
 
 -- "LFE uses the 0 degree filters"
-pub low-frequency-in-front : (l : Layout) → surround l ≡ true → tenthsAt (Of l) 3 ≡ pos 0
+low-frequency-in-front : (l : Layout) → surround l ≡ true → tenthsAt (Of l) 3 ≡ pos 0
 low-frequency-in-front Mono e = absurd (true≢false (sym e))
 low-frequency-in-front Stereo e = absurd (true≢false (sym e))
 low-frequency-in-front Surround51 e = refl
@@ -35,12 +34,12 @@ bank = pos 300 ∷ pos 0 ∷ replicate 6 (pos 0)
 
 -- L and Ls the first; R, C, LFE and Rs the second
 rows-of-51 : tab 0 6 (rowAt (Of Surround51) bank 2) ≡ 0 ∷ 1 ∷ 1 ∷ 1 ∷ 0 ∷ 1 ∷ []
-unfolding bank choiceOf choiceRefusal within inTenths nearestFrom nearer apart
+unfolding bank choiceOf choiceRefusal inTenths nearestFrom nearer apart
 rows-of-51 = refl
 
 -- from the front on to the left: 0, 45 and 90 degrees, and so round
 rows-of-virtual : tab 0 8 (rowAt (Virtual 1) bank 2) ≡ 1 ∷ 0 ∷ 0 ∷ 0 ∷ 0 ∷ 1 ∷ 1 ∷ 1 ∷ []
-unfolding bank choiceOf choiceRefusal within inTenths nearestFrom nearer apart
+unfolding bank choiceOf choiceRefusal inTenths nearestFrom nearer apart
 rows-of-virtual = refl
 
 -- ---- refuses always

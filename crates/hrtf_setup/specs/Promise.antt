@@ -19,7 +19,7 @@ use Rattle.hrtf_setup.specs.declared.Speakers.the-variants.{Of, Virtual}
 use Rattle.hrtf_setup.specs.Speakers.{tenthsAt, rowAt, weightOf}
 use Rattle.hrtf_setup.specs.Arrangement.{Wanted, refusalOf, Arrangement, arrangement}
 
--- beside the equation, of a set-up that is accepted: every weight is its speaker's for its channel, and every speaker takes the row that document 01 names for its azimuth
+-- beside the equation, of a set-up that is accepted: every weight is its speaker's for its channel, and the row that the equation puts for a speaker is the one that document 01 names for its azimuth
 pub record Arranges (w : Wanted) (azimuths : List ℤ) (rows : ℕ) (weights : List Float) (given : List ℕ) (o : Arrangement) : Type 0 where
   pub answer : o ≡ arrangement w azimuths rows weights given
   pub weighs : refusalOf w azimuths rows weights ≡ 0 → (s c : ℕ) → s < w .speakers → c < w .channels → getD (o .weights) (s * w .channels + c) nan ≡ weightOf (w .whose) s c

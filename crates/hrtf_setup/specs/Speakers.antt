@@ -8,7 +8,7 @@ use lib.IntN.{ℤ, pos}
 use lib.ListN.{getD}
 use lib.Seq.{sets}
 use lib.Ieee.{Float, nan, fin}
-use Rattle.planes.specs.Tables.{tab}
+use Rattle.checks.specs.Tables.{tab}
 use Rattle.channel.specs.Layouts.{tenthsOf, positionTenths}
 use Rattle.row_choice.specs.Choice.{choiceOf}
 use Rattle.virtual_speaker.specs.Promise.{outcome, positionOf}

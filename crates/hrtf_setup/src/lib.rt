@@ -5,14 +5,16 @@
 //
 // Both take any input. Their promises (specs/Promise.antt) are one equation for the answer and both lists, and
 // beside it: each speaker's row is the one that document 01 names, each weight is its speaker's for its
-// channel, and a weighted coefficient is within 2^-34 of its formula. Under it lie `channel` (where speakers stand, and orders),
-// `virtual_speaker`, `row_choice`, `planes` and `refusals`.
+// channel, and a weighted coefficient is within 2^-34 of its formula.
+//
+// Under it lie `channel` (where speakers stand, and orders), `virtual_speaker`, `row_choice`, `checks` and `refusals`,
+// and for the words of its promises and laws `fractions` and `harmonics`.
 use channel::Layout;
 ghost use mathlib.Core.Path.{_≡_};
 ghost use Prim.Native.Nat.{_*_, _/_, _%_, _≤_, _<_};
 ghost use lib.ListN.{length, getD};
 ghost use lib.Ieee.{nan};
-ghost use Rattle.planes.specs.Tables.{tab};
+ghost use Rattle.checks.specs.Tables.{tab};
 ghost use Rattle.virtual_speaker.specs.Promise as Weighing;
 ghost use Rattle.hrtf_setup.specs.Speakers.{tenthsAt, rowsOf, oneIf, weightOf, weightAt};
 ghost use Rattle.hrtf_setup.specs.Arrangement.{laterRefusal, arrangedBy};
@@ -128,13 +130,13 @@ fn arrange(
     ensures { λ r. ⌜ record { answer = r; weights = now (weights .exit); rows = now («row_of» .exit) }
         ≡ arrangedBy (laterRefusal (speakers * channels) (now (azimuths .entry)) rows (now (weights .entry))) whose speakers channels (now (azimuths .entry)) rows (now (weights .entry)) (now («row_of» .entry)) ⌝ }
 {
-    if planes::is_outside(rows, 8) {
+    if refusals::is_outside(rows, 8) {
         return unarranged(2);
     }
     if azimuths.len() != 8 {
         return unarranged(5);
     }
-    if !planes::is_product(weights.len(), speakers, channels) {
+    if !checks::is_product(weights.len(), speakers, channels) {
         return unarranged(5);
     }
     put_weights(weights, whose, channels);

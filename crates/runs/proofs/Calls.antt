@@ -1,52 +1,26 @@
 -- One call, accepted or refused, and calls one after another: what is sounded, counted and left is what the frames that were fed give, one by one. Assumes nothing.
 use mathlib.Core.Path.{_≡_, refl, sym, ap, _∙_, subst}
-use mathlib.Core.Bool.{cond}
 use mathlib.Core.List.{List, [], _∷_, _++_}
-use Prim.Native.Nat.{ℕ, zero, suc, _+_, _<_}
-use native.Mathlib.Nat.{not-suc-le-zero, le-of-suc-le-suc, add-assoc}
+use Prim.Native.Nat.{ℕ, zero, suc, _+_}
 use native.Mathlib.Omega.{arith}
-use lib.ListN.{length, getD}
 use lib.Ieee.{Float}
 use Rattle.planes.specs.Planes.{framesOf}
+use Rattle.planes.proofs.Planes.{frames-read}
 use Rattle.history.specs.Setup.{Setup}
 use Rattle.history.specs.History.{after}
-use Rattle.rings.specs.Steps.{State, ears, late, stepped, left, played, counted}
+use Rattle.rings.specs.Steps.{State, left, played, counted}
 use Rattle.rings.specs.Represents.{Represents}
-use Rattle.rings.proofs.Blocks.{counted-told, left-kept}
+use Rattle.rings.proofs.Blocks.{counted-told, left-kept, two-ears, played-append, left-append, counted-append}
 use Rattle.hrtf_checks.specs.Call.{Call, setup, framesIn}
 use Rattle.hrtf_checks.specs.Refusals.{refusalOf}
 use Rattle.hrtf_checks.proofs.Refusing.{ears-fit}
 use Rattle.hrtf.specs.Promise.{Outcome, outcomeBy, outcome, stateAfter}
 use Rattle.hrtf.proofs.Promised.{outcome-by, all-played}
 use Rattle.runs.specs.Runs.{next, fedBy, fed, sounded, Alike, fedAll, soundedAll, end, answered, owed, sum}
-use Rattle.runs.proofs.Reading.{frames-read}
-
--- ---- frames in two pieces
-
-module _ (u : Setup) where
-  played-append : (t : State) (fs gs : List (List Float)) → played u t (fs ++ gs) ≡ played u t fs ++ played u (left u t fs) gs
-  played-append t [] gs = refl
-  played-append t (f ∷ fs) gs = ap (λ (l : List (List Float)). ears u t f ∷ l) (played-append (stepped u t f) fs gs)
-
-  left-append : (t : State) (fs gs : List (List Float)) → left u t (fs ++ gs) ≡ left u (left u t fs) gs
-  left-append t [] gs = refl
-  left-append t (f ∷ fs) gs = left-append (stepped u t f) fs gs
-
-  counted-append : (t : State) (fs gs : List (List Float)) → counted u t (fs ++ gs) ≡ counted u t fs + counted u (left u t fs) gs
-  counted-append t [] gs = omega arith
-  counted-append t (f ∷ fs) gs =
-      ap (λ (n : ℕ). cond (late u t f) 1 0 + n) (counted-append (stepped u t f) fs gs)
-      ∙ sym (add-assoc (cond (late u t f) 1 0) (counted u (stepped u t f) fs) (counted u (left u (stepped u t f) fs) gs))
-
-  -- two ear samples a frame
-  two-ears : (t : State) (fs : List (List Float)) (j : ℕ) → j < length (played u t fs) → length (getD (played u t fs) j []) ≡ 2
-  two-ears t [] j h = absurd (not-suc-le-zero h)
-  two-ears t (f ∷ fs) zero h = refl
-  two-ears t (f ∷ fs) (suc j) h = two-ears (stepped u t f) fs j (le-of-suc-le-suc h)
 
 -- ---- one call
 
-pub record Called (u : Setup) (t : State) (c : Call) : Type 0 where
+record Called (u : Setup) (t : State) (c : Call) : Type 0 where
   pub sounds : sounded c t ≡ played u t (fed c t)
   pub counts : outcome c t .answer .unsettled ≡ counted u t (fed c t)
   pub leaves : next c t ≡ left u t (fed c t)
@@ -82,7 +56,7 @@ called-by u t c same (suc k) e =
     fs : fed c t ≡ []
     fs = ap (λ (n : ℕ). fedBy n (framesIn c)) e
 
-pub called : (u : Setup) (t : State) (c : Call) → (refusalOf c t ≡ 0 → setup c ≡ u) → Called u t c
+called : (u : Setup) (t : State) (c : Call) → (refusalOf c t ≡ 0 → setup c ≡ u) → Called u t c
 called u t c same = called-by u t c same (refusalOf c t) refl
 
 -- ---- calls one after another

@@ -5,7 +5,7 @@ use mathlib.Core.List.{List, []}
 use Prim.Native.Nat.{ℕ, _<_}
 use lib.ListN.{length, getD}
 use lib.Ieee.{Float}
-use Rattle.planes.specs.Tables.{unsound}
+use Rattle.checks.specs.Tables.{unsound}
 use Rattle.history.specs.Setup.{Setup}
 use Rattle.history.specs.History.{frameAgo, unsettled, heard, upto}
 use Rattle.history.proofs.Windows.{ears-same, unsettled-same}

@@ -1,5 +1,4 @@
 -- The theorems of demand 3, a worked run that meets their premises, the answers that the promise refutes, and that a bank which keeps the form is never refused.
-pub mod Reading
 mod Calls
 pub mod Demand
 mod Worked

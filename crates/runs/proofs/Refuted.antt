@@ -11,7 +11,8 @@ use lib.Ieee.{Float, nan}
 use lib.Ieee.Positive.{positive}
 use Rattle.numbers.specs.Computed.{zero-float}
 use Rattle.planes.specs.Planes.{withFrames}
-use Rattle.history.proofs.Drill.{one, half, drill, drill-8, drill-9}
+use Rattle.history.specs.Drill.{one, half, drill}
+use Rattle.history.proofs.Drill.{drill-8, drill-9}
 use Rattle.history.proofs.Loud.{largest, two, loud-unsettled}
 use Rattle.rings.specs.Represents.{Represents, fresh}
 use Rattle.rings.proofs.Told.{fresh-represents}

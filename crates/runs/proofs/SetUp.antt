@@ -1,9 +1,9 @@
 -- A bank that keeps the form is never refused: `set-up-accepted` of one call, `never-refused` of every call of a run, and from the bank file on `surround-never-refused` and
 -- `ambisonic-never-refused`; and before the first call the set-ups and the reset accept it too. Assumes nothing.
 use mathlib.Core.Path.{_≡_, refl, sym, ap, _∙_, subst}
-use mathlib.Core.Bool.{Bool, true, false, not, cond, and-eq-true-iff}
+use mathlib.Core.Bool.{true, false, not, _||_, and-eq-true-iff}
 use mathlib.Core.List.{List, [], _∷_}
-use Prim.Native.Nat.{ℕ, zero, suc, _-_, _*_, _≤_, _<_}
+use Prim.Native.Nat.{ℕ, zero, suc, _*_, _≤_, _<_}
 use native.Mathlib.Nat.{zero-add}
 use native.Mathlib.Omega.{arith}
 use borrow.Author.Tests.{leb-true, lt-leb}
@@ -14,8 +14,8 @@ use lib.Ieee.{Float, binary32, fits}
 use lib.Ieee.Scale.{finite}
 use Rattle.refusals.specs.Refusals.{outside}
 use Rattle.numbers.specs.Computed.{zero-float}
-use Rattle.planes.specs.Tables.{unsound}
-use Rattle.planes.proofs.Checks.{both-off, all-off, not-outside, count-inside, equal-passes, planes-fit}
+use Rattle.checks.specs.Tables.{unsound}
+use Rattle.checks.proofs.Checks.{both-off, all-off, not-outside, count-inside, equal-passes, planes-fit}
 use Rattle.bank_form.specs.Bank as Form
 use Rattle.bank_form.specs.Bank.{Bank, within, isTap, every, valid}
 use Rattle.bank_form.specs.FaultComputed.{bankIn}
@@ -24,17 +24,18 @@ use Rattle.bank.specs.Reading.{ReadOutcome, Reads}
 use Rattle.bank.proofs.Promises.{accepted-parts, accepted-is, bankOf, read-is}
 use Rattle.channel.specs.declared.Layout.{Layout}
 use Rattle.desk.specs.declared.Desk.{Desk}
+use Rattle.desk.proofs.Going.{position-below, waits-below}
 use Rattle.history.specs.Setup.{Setup}
 use Rattle.history.specs.Signals.{damaged}
 use Rattle.rings.specs.Steps.{State, stepped, left}
-use Rattle.rings.proofs.Told.{desk-on, position-below, length-stored}
+use Rattle.rings.proofs.Told.{length-stored}
 use Rattle.hrtf_checks.specs.declared.Shape.{Shape}
 use Rattle.hrtf_checks.specs.Call.{Call, setup, framesIn}
-use Rattle.hrtf_checks.specs.Refusals.{misshapen, refusalOf}
+use Rattle.hrtf_checks.specs.Refusals.{misshapen, misfit, astray, refusalOf}
 use Rattle.hrtf_checks.proofs.Refusing.{accept}
 use Rattle.hrtf.specs.Promise.{stateAfter}
 use Rattle.hrtf.specs.Reset.{resetRefusal, AfterReset, resetBy, resetOutcome, Resets}
-use Rattle.hrtf.proofs.Promised.{outcome-by, reset-0}
+use Rattle.hrtf.proofs.Promised.{outcome-by, reset-accepts}
 use Rattle.hrtf_setup.specs.Arrangement.{Wanted, Arrangement}
 use Rattle.hrtf_setup.specs.Arrangement as Arranging
 use Rattle.hrtf_setup.specs.Promise.{NewSurround, NewAmbisonic}
@@ -78,21 +79,29 @@ module _ (b : Bank) (v : valid b ≡ true) (o : Arrangement) (p : Playable (Form
   shaped : misshapen (c .shape) (c .rows) ≡ false
   shaped = ap (λ (h : Shape). misshapen h (c .rows)) (f .shape) ∙ ap (misshapen (shapeOf (Form.rows b) (b .length) o)) (f .rows) ∙ well-shaped (Form.rows b) (b .length) o p (inside (Form.rows b) 8 (form .few))
 
-  pub set-up-accepted : refusalOf c t ≡ 0
-  set-up-accepted =
-      sym (accept c t
-      shaped
-      (ap (λ (h : Shape). outside (h .length) 512) (f .shape) ∙ inside (b .length) 512 (form .short))
-      (both-off _ _
+  long : outside (c .shape .length) 512 ≡ false
+  long = ap (λ (h : Shape). outside (h .length) 512) (f .shape) ∙ inside (b .length) 512 (form .short)
+
+  lists-fit : misfit (c .shape) (c .frames) (c .stride) (length (c .inputs)) (length (c .weights)) (length (c .taps)) (length (t .rings)) (length (c .ears)) ≡ false
+  lists-fit =
+      both-off _ _
       (both-off _ _
       (planes-fit (length (c .inputs)) (c .shape .channels) (c .stride) (c .frames) (f .room) (f .inputs ∙ ap (λ (h : Shape). h .channels * c .stride) (sym (f .shape))))
       (planes-fit (length (c .ears)) 2 (c .stride) (c .frames) (f .room) (f .ears)))
       (both-off _ _ (equal-passes (length (t .rings)) (c .shape .speakers * c .shape .length) (turns .ringed ∙ ap (λ (h : Shape). h .speakers * h .length) (sym (f .shape))))
       (both-off _ _ (equal-passes (length (c .weights)) (c .shape .speakers * c .shape .channels) (ap length (f .weights) ∙ p .weighed ∙ ap (λ (h : Shape). h .speakers * h .channels) (sym (f .shape))))
-      (equal-passes (length (c .taps)) (2 * c .shape .rows * c .shape .length) (ap length (f .taps) ∙ form .count ∙ ap (λ (h : Shape). 2 * h .rows * h .length) (sym (f .shape)))))))
-      (both-off _ _ (ap unsound (f .weights) ∙ p .sound) (ap unsound (f .taps) ∙ taps-sound (b .taps) (form .numbers)))
-      (both-off _ _ (ap (λ (h : Shape). leb (h .length) (t .desk .position)) (f .shape) ∙ lt-leb (b .length) (t .desk .position) (turns .within))
-      (ap (λ (h : Shape). leb (h .length) (t .desk .«to_go»)) (f .shape) ∙ lt-leb (b .length) (t .desk .«to_go») (turns .waits))))
+      (equal-passes (length (c .taps)) (2 * c .shape .rows * c .shape .length) (ap length (f .taps) ∙ form .count ∙ ap (λ (h : Shape). 2 * h .rows * h .length) (sym (f .shape))))))
+
+  sound : (unsound (c .weights) || unsound (c .taps)) ≡ false
+  sound = both-off _ _ (ap unsound (f .weights) ∙ p .sound) (ap unsound (f .taps) ∙ taps-sound (b .taps) (form .numbers))
+
+  there : astray (t .desk) (c .shape .length) ≡ false
+  there =
+      both-off _ _ (ap (λ (h : Shape). leb (h .length) (t .desk .position)) (f .shape) ∙ lt-leb (b .length) (t .desk .position) (turns .within))
+      (ap (λ (h : Shape). leb (h .length) (t .desk .«to_go»)) (f .shape) ∙ lt-leb (b .length) (t .desk .«to_go») (turns .waits))
+
+  pub set-up-accepted : refusalOf c t ≡ 0
+  set-up-accepted = sym (accept c t (shaped, (long, (lists-fit, (sound, (there, tt))))))
 
 -- ---- what a block leaves turns on
 
@@ -102,12 +111,8 @@ module _ (u : Setup) (speakers : ℕ) where
       record {
         ringed = length-stored u t f ∙ r .ringed;
         within = position-below (u .L) (damaged u f) (t .desk) (r .within);
-        waits = subst (λ (d : Desk). d .«to_go» < u .L) (sym (desk-on (u .L) (damaged u f) (t .desk) (r .within))) (fewer (damaged u f));
+        waits = waits-below (u .L) (damaged u f) (t .desk) (r .within) (r .waits);
       }
-    where
-      fewer : (bad : Bool) → cond bad (u .L - 1) (t .desk .«to_go» - 1) < u .L
-      fewer true = omega (arith, r .within)
-      fewer false = omega (arith, r .waits)
 
   left-turns : (t : State) (fs : List (List Float)) → Turns speakers (u .L) t → Turns speakers (u .L) (left u t fs)
   left-turns t [] r = r
@@ -200,8 +205,7 @@ module _ (file : List ℕ) (zs : List ℤ) (xs : List Float) (r : ReadOutcome) (
 
   pub good-bank-reset : (speakers : ℕ) (rings : List Float) → 0 < speakers → speakers ≤ 8 → length rings ≡ speakers * r .answer .length → resetRefusal speakers (r .answer .length) rings ≡ 0
   good-bank-reset speakers rings some few long =
-      reset-0 (record { position = 0; «to_go» = 0 }) speakers (r .answer .length) rings (count-inside speakers 8 some few) short-filters
-      (equal-passes (length rings) (speakers * r .answer .length) long)
+      reset-accepts speakers (r .answer .length) rings (count-inside speakers 8 some few, (short-filters, (equal-passes (length rings) (speakers * r .answer .length) long, tt)))
 
   -- and then no call is refused
   module _ (weights : List Float) (given : List ℕ) (o : Arrangement) (eight : length given ≡ 8) (e : o .answer .refusal ≡ 0)

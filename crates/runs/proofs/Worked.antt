@@ -10,7 +10,8 @@ use lib.Ieee as ieee
 use Rattle.numbers.specs.Computed.{zero-float, rounded}
 use Rattle.planes.specs.Sums.{mixed}
 use Rattle.history.specs.History.{heard}
-use Rattle.history.proofs.Drill.{one, half, drill, first-then-silence, drill-8, drill-9-heard}
+use Rattle.history.specs.Drill.{one, half, drill, samples}
+use Rattle.history.proofs.Drill.{drill-8, drill-9-heard}
 use Rattle.rings.specs.Represents.{Represents, fresh}
 use Rattle.rings.proofs.Told.{fresh-represents}
 use Rattle.hrtf_checks.specs.Call.{Call}
@@ -35,37 +36,37 @@ block n xs weight =
     }
 
 -- a sample, a call with a NaN for a weight, no frame at all, and two samples of silence
-abbrev pub calls : Float → List Call
+abbrev calls : Float → List Call
 calls x = block 1 (x ∷ []) one ∷ block 1 (one ∷ []) nan ∷ block 0 [] one ∷ block 2 (zero-float ∷ zero-float ∷ []) one ∷ []
 
 -- what a reset leaves
 pub starts : Represents drill [] (fresh drill)
 starts = fresh-represents drill (omega arith) refl
 
-pub alike : (x : Float) → Alike drill (fresh drill) (calls x)
+alike : (x : Float) → Alike drill (fresh drill) (calls x)
 unfolding refusalOf outcome
 alike x = (λ e. refl, (λ e. absurd (suc-ne-zero 6 e), (λ e. refl, (λ e. refl, tt))))
 
-pub run : (x : Float) → Run drill (fresh drill) (calls x)
+run : (x : Float) → Run drill (fresh drill) (calls x)
 run x = record { reset = starts; alike = alike x }
 
 -- whether the third and fourth call are accepted hangs on the frames to go that the first leaves, so each is computed
-pub fed-8 : fedAll (fresh drill) (calls one) ≡ first-then-silence one
+fed-8 : fedAll (fresh drill) (calls one) ≡ samples one
 unfolding refusalOf outcome mixed rounded add mul ieee.sum round size span climb units odd
 fed-8 = refl
 
-pub fed-9 : fedAll (fresh drill) (calls nan) ≡ first-then-silence nan
+fed-9 : fedAll (fresh drill) (calls nan) ≡ samples nan
 unfolding refusalOf outcome mixed rounded add mul ieee.sum round size span climb units odd
 fed-9 = refl
 
 -- drill table 8
-pub played-8 : soundedAll (fresh drill) (calls one) ≡ (one ∷ zero-float ∷ []) ∷ (half ∷ one ∷ []) ∷ (zero-float ∷ zero-float ∷ []) ∷ []
+played-8 : soundedAll (fresh drill) (calls one) ≡ (one ∷ zero-float ∷ []) ∷ (half ∷ one ∷ []) ∷ (zero-float ∷ zero-float ∷ []) ∷ []
 played-8 = run-heard drill (fresh drill) (calls one) (run one) ∙ ap (heard drill []) fed-8 ∙ drill-8
 
 -- drill table 9: two are unsettled, then 0 and 0
-pub played-9 : soundedAll (fresh drill) (calls nan) ≡ (nan ∷ nan ∷ []) ∷ (nan ∷ nan ∷ []) ∷ (zero-float ∷ zero-float ∷ []) ∷ []
+played-9 : soundedAll (fresh drill) (calls nan) ≡ (nan ∷ nan ∷ []) ∷ (nan ∷ nan ∷ []) ∷ (zero-float ∷ zero-float ∷ []) ∷ []
 played-9 = run-heard drill (fresh drill) (calls nan) (run nan) ∙ ap (heard drill []) fed-9 ∙ drill-9-heard
 
-pub answered-9 : answered (fresh drill) (calls nan) ≡ 1 ∷ 0 ∷ 0 ∷ 1 ∷ []
+answered-9 : answered (fresh drill) (calls nan) ≡ 1 ∷ 0 ∷ 0 ∷ 1 ∷ []
 unfolding refusalOf outcome mixed rounded add mul ieee.sum round size span climb units odd
 answered-9 = refl

@@ -1,8 +1,9 @@
 -- `hrtf_setup::new_surround` meets its contract. Assumes nothing.
-use mathlib.Core.Path.{sym, ap, _∙_}
-use mathlib.Core.Bool.{not}
+use mathlib.Core.Path.{_≡_, sym, ap, _∙_}
+use mathlib.Core.Bool.{false, not}
 use denote.Ref.{now}
 use Rattle.channel.specs.declared.Counted.{Counted}
+use Rattle.channel.specs.Layouts.{counted, surround}
 use Rattle.hrtf_setup.proofs.Arranging.{layout-refused, few-of-layout, layout-arranged}
 use borrow.Author.Needs.{needs}
 use Rattle.hrtf_setup.proofs.new_surround.Statement.{statement}
@@ -20,14 +21,24 @@ returns c = let a = c .before .before .before .before .args in layout-refused (a
 channel-count-requires : tie.Need-channel-count-requires
 channel-count-requires c κs = search needs
 
+-- past the test of the layout
+offered : (c : tie.Else1) → not (surround (c .before .before .before .args .layout)) ≡ false
+offered c = ap not (sym (c .before .is-surround .ensures)) ∙ c .if1 .left
+
+counts : (c : tie.After-channel-count) → c .channel-count .result .channels ≡ counted (c .before .before .before .before .args .layout) .channels
+counts c = ap (λ (r : Counted). r .channels) (c .channel-count .ensures)
+
 arrange-requires : tie.Need-arrange-requires
-arrange-requires c κs = let a = c .before .before .before .before .before .before .args in few-of-layout (a .layout) (now (a .azimuths)) (a .rows) (now (a .weights)) (now (a .row-of)) (ap not (sym (c .before .before .before .before .is-surround .ensures)) ∙ c .before .before .before .if1 .left) (c .before .before .channel-count .result .channels) (ap (λ (r : Counted). r .channels) (c .before .before .channel-count .ensures))
+arrange-requires c κs = let n = c .before .before in few-of-layout (n .before .before .before .before .args .layout) (offered (n .before)) (n .channel-count .result .channels) (counts n)
 
 same-length : tie.Need-same-length
 same-length c = search needs
 
 returns-2 : tie.Need-returns-2
-returns-2 c = let a = c .before .before .before .before .before .before .before .before .before .args in layout-arranged (a .layout) (now (a .azimuths)) (a .rows) (now (a .weights)) (now (a .row-of)) (ap not (sym (c .before .before .before .before .before .before .before .is-surround .ensures)) ∙ c .before .before .before .before .before .before .if1 .left) (c .before .before .before .before .before .channel-count .result .channels) (ap (λ (r : Counted). r .channels) (c .before .before .before .before .before .channel-count .ensures)) _ (c .before .before .arrange .ensures)
+returns-2 c =
+    let n = c .before .before .before .before .before in
+    let a = n .before .before .before .before .args in
+    layout-arranged (a .layout) (now (a .azimuths)) (a .rows) (now (a .weights)) (now (a .row-of)) (n .channel-count .result .channels) (offered (n .before)) (counts n) _ (c .before .before .arrange .ensures)
 
 pub new-surround-spec : {M : Type 1} → statement M
 new-surround-spec =
