@@ -1,7 +1,6 @@
 // Plays every case of document 01's item 10 by file names, and prints what was told and what the output holds
 // then. The banks and the lines are in data/, written by tests/ears-cases from a model of its own; what is
 // printed is compared with the file `stdout`. The program promises nothing of its own beyond being safe and ending.
-use ears_file::Outcome;
 use libc::STDOUT_FILENO;
 
 // No run of the tests reads more at once.
@@ -51,20 +50,13 @@ fn leave_something(path: &[u8]) {
     libc::close(fd);
 }
 
-// Prints the line of a run; one that failed has none.
-fn tell(run: Outcome) {
-    let mut text = [0u8; 64];
-    let n = ears_file::told(run, &mut text);
-    if !io::write_all(STDOUT_FILENO, &text[..n]) {
-        os::fail(b"standard output");
-    }
-}
-
 fn play(bank: &[u8], line: &[u8], limit: usize) {
     let out = b"ears.raw";
     leave_something(out);
     let from = os::open_read(line);
-    tell(ears_file::run(bank, from, out, limit));
+    let mut text = [0u8; 64];
+    let n = ears_file::told(ears_file::run(bank, from, out, limit), &mut text);
+    say(&text[..n]);
     if 0 <= from {
         libc::close(from);
     }

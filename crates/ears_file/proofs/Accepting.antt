@@ -7,7 +7,7 @@ use native.Mathlib.Omega.{arith}
 use borrow.Author.Tests.{lt-leb}
 use lib.ListN.{length, length-take}
 use lib.Ieee.{Float}
-use Rattle.planes.proofs.Checks.{both-off, equal-passes, planes-fit, not-outside}
+use Rattle.checks.proofs.Checks.{both-off, equal-passes, planes-fit, not-outside}
 use Rattle.planes.proofs.Planes.{length-with-frames}
 use Rattle.history.specs.Signals.{damaged}
 use Rattle.rings.specs.Represents.{Represents}
@@ -42,4 +42,4 @@ module _ (x : Fixed) (p : Progress) (size : ℕ) (l : Lent) (past : List (List F
       both-off _ _ (lt-leb (x .shape .length) (p .desk .position) (stands .within)) (lt-leb (x .shape .length) (p .desk .«to_go») below)
 
   pub not-refused : refusalOf (callIn x size l) (stateIn p l) ≡ 0
-  not-refused = sym (accept (callIn x size l) (stateIn p l) (ready .shaped) (ready .long) fits (ready .sound) there)
+  not-refused = sym (accept (callIn x size l) (stateIn p l) (ready .shaped, (ready .long, (fits, (ready .sound, (there, tt))))))

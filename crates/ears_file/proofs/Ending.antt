@@ -7,19 +7,19 @@ use native.Mathlib.Omega.{arith}
 use borrow.Author.Tests.{ltb-false}
 use lib.Dec.{ltb, eqb}
 use lib.ListN.{length, take, drop, replicate}
-use lib.Seq.{take-at, length-take-le}
-use lib.IntN.{ℤ, pos}
+use lib.Seq.{take-at}
+use lib.IntN.{pos}
 use lib.Ieee.{Float}
 use Rattle.io.specs.Counts.{Counts}
+use Rattle.refusals.proofs.First.{stops, goes-on}
 use Rattle.big_endian.specs.Placed.{placed}
 use Rattle.big_endian.proofs.Placed.{placed-none}
-use Rattle.planes.specs.Tables.{unsound}
+use Rattle.checks.specs.Tables.{unsound}
 use Rattle.bank_form.specs.Bank.{Bank, rows}
-use Rattle.bank_form.specs.FaultComputed.{bankIn, orElse, field, headField, headFault, fault, isFile}
-use Rattle.bank_form.proofs.Exact.{Keeps, keeps, exactly}
-use Rattle.bank.specs.declared.BankRead.{BankRead}
+use Rattle.bank_form.specs.FaultComputed.{bankIn, isFile}
+use Rattle.bank_form.proofs.Exact.{Keeps, keeps}
 use Rattle.bank.specs.Reading.{ReadOutcome, readBank}
-use Rattle.bank.proofs.Answers.{broken, accepted}
+use Rattle.bank.proofs.Answers.{accepted}
 use Rattle.bank.proofs.Promises.{accepted-parts}
 use Rattle.history.specs.Setup.{Setup}
 use Rattle.ears_play.specs.declared.Progress.{Progress}
@@ -31,9 +31,11 @@ use Rattle.wire.proofs.Lengths.{frames-short, refused-short}
 use Rattle.ears_play.specs.Ending.{refusedRun, endOf, lineOf}
 use Rattle.ears_play.specs.Turns.{Fixed, Lent, setupIn}
 use Rattle.ears_file.specs.declared.Outcome.{Outcome}
+use Rattle.ears_file.specs.declared.input.Turned.{Turned}
 use Rattle.ears_file.specs.Lines.{setupBy, setupWith, endsAs}
-use Rattle.ears_file.specs.Playing.{Standing}
+use Rattle.ears_file.specs.Playing.{Standing, endedBy}
 use Rattle.ears_file.specs.Promise.{Found, OfLine, OfFiles, Answers, toldBy}
+use Rattle.ears_file.proofs.Parts.{counts}
 
 -- ---- answers
 
@@ -53,6 +55,14 @@ answers-on P Q r on a = record { failed = a .failed; told = λ f. on (r .ended) 
 pub line-ends : (x : Fixed) (line : List ℕ) (p : Progress) (l : Lent) → Standing x line p l → OfLine (setupIn x) (endOf p)
 line-ends x line p l s = record { line = line; ends = cc (s .holds, s .frames, s .unsettled) }
 
+-- how a run ends by its last step
+pub over-answers : (u : Setup) (t : Turned) (r : Outcome) → r ≡ endedBy t → (t .failed ≡ false → OfLine u (endOf (t .progress))) → Answers (OfLine u) r
+over-answers u t r e ends = go (t .failed) refl
+  where
+    go : (b : Bool) → t .failed ≡ b → Answers (OfLine u) r
+    go true f = failed-answers (OfLine u) r (e ∙ stops _ _ f)
+    go false f = ended-answers (OfLine u) (endOf (t .progress)) r (e ∙ goes-on _ _ f) (ends f)
+
 -- a list that has room for the longest line has room for this one
 short-by : (t : Bool) (frames unsettled number : ℕ) → length (cond t (framesLine frames unsettled) (refusedLine number)) ≤ 59
 short-by true frames unsettled number = frames-short frames unsettled
@@ -69,7 +79,7 @@ line-fits e out size after put =
 
 -- so does one of the same length, and a caller can cut the line from it
 pub line-counts : (e : Ended) (out : List ℕ) (size : ℕ) (after : List ℕ) → Lined out (lineOf e) size after → length after ≡ length out → Counts size after
-line-counts e out size after put same = let h : size ≤ length after = subst (λ (n : ℕ). size ≤ n) (sym same) (line-fits e out size after put) in (h, sym (length-take-le size after h))
+line-counts e out size after put same = counts size after (subst (λ (n : ℕ). size ≤ n) (sym same) (line-fits e out size after put))
 
 -- ---- the line of a run
 
@@ -91,21 +101,6 @@ pub told-ended : (r : Outcome) (out : List ℕ) (size : ℕ) (after : List ℕ) 
 told-ended r out size after e put = told-by r false out size after e put
 
 -- ---- the bank that was found
-
-no-bytes : isFile [] ≡ false
-unfolding isFile fault headFault orElse headField field
-no-bytes = refl
-
--- a bank that is missing counts as one of no bytes
-pub not-there : (zs : List ℤ) (xs : List Float) (r : BankRead) → length zs ≡ 8 → length xs ≡ 8192 → r ≡ record { refusal = 9; rows = 0; length = 0 } → Found zs xs (record { answer = r; azimuths = zs; taps = xs })
-not-there zs xs r eight most e =
-    record {
-      file = [];
-      reads = record {
-        outcome = ap {B = ReadOutcome} (λ (q : BankRead). record { answer = q; azimuths = zs; taps = xs }) e ∙ broken [] zs xs eight most no-bytes;
-        exactly = exactly [] (λ i. omega arith);
-      };
-    }
 
 module _ (o : ReadOutcome) (taps : List Float) (most : length taps ≡ 8192) (f : Found (replicate 8 (pos 0)) taps o) where
   outcome-is : isFile (f .file) ≡ true → o ≡ readBank (bankIn (f .file)) (replicate 8 (pos 0)) taps

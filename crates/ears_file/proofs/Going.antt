@@ -1,17 +1,15 @@
 -- A step of the loop: what was held and what has come now are the line and a part more. Assumes nothing.
 use mathlib.Core.Path.{_≡_, refl, sym, ap, _∙_, subst}
-use mathlib.Core.Bool.{true, false, true≢false}
+use mathlib.Core.Bool.{Bool, true, false, true≢false}
 use mathlib.Core.List.{List, [], _++_, append-nil}
 use Prim.Native.Nat.{ℕ, zero, suc, _*_, _≤_, _<_}
 use native.Mathlib.Decide.{decLt}
 use native.Mathlib.Omega.{arith}
 use lib.ListN.{length, take, drop, replicate, length-drop, length-take, take-append-drop}
 use lib.Seq.{take-take}
-use lib.Ieee.{Float}
 use Rattle.numbers.specs.Computed.{zero-float}
-use Rattle.planes.specs.Tables.{unsound}
-use Rattle.planes.proofs.Checks.{or-off, not-outside}
-use Rattle.hrtf_checks.specs.declared.Shape.{Shape}
+use Rattle.checks.specs.Tables.{unsound}
+use Rattle.checks.proofs.Checks.{or-off, not-outside}
 use Rattle.hrtf.specs.Promise.{Outcome, outcome}
 use Rattle.wire.specs.Frames.{wholeIn, restIn}
 use Rattle.ears_play.specs.declared.Progress.{Progress}
@@ -21,7 +19,7 @@ use Rattle.ears_play.specs.Turns.{Fixed, Lent, setupIn, stateIn, callIn, Turned
 use Rattle.ears_play.specs.Runs.{So, atOnce, Stands, Steps}
 use Rattle.ears_play.proofs.Cuts.{one-more, start-stands, turn-steps}
 use Rattle.ears_file.specs.declared.input.Turned as declared
-use Rattle.ears_file.specs.Playing.{Ready, Room, Standing, Playing, Further, Stepped}
+use Rattle.ears_file.specs.Playing.{Ready, Room, Standing, Playing, Stepped}
 use Rattle.ears_file.proofs.Accepting.{all-written, not-refused}
 
 -- the list of bytes, exchanged
@@ -42,24 +40,23 @@ put-fits x p size l r left plays =
     subst (λ (n : ℕ). n ≤ length (l .out)) (ap (λ (t : Turned). t .answer .bytes) (sym (plays .answer)))
     (put-by (outcome (callIn x size l) (stateIn p l) .answer .refusal) x p size l (outcome (callIn x size l) (stateIn p l)))
 
--- a step that failed
-pub step-failed : (x : Fixed) (p q : Progress) (l : Lent) (r : declared.Turned) (left : Lent) → r ≡ record { over = true; failed = true; progress = q } → Stepped x p l r left
-step-failed x p q l r left e = record { further = λ f. absurd (true≢false (sym (ap (λ (t : declared.Turned). t .failed) e) ∙ f)) }
+module _ (x : Fixed) (p : Progress) (l : Lent) (bytes : List ℕ) (kept : take (p .held) bytes ≡ take (p .held) (l .bytes)) where
+  stays : (line : List ℕ) → Standing x line p l → Standing x line p (withBytes l bytes)
+  stays line stood = record { history = stood .history; keeps = kept ∙ stood .keeps; holds = stood .holds; frames = stood .frames; unsettled = stood .unsettled }
 
-module _ (x : Fixed) (p : Progress) (l : Lent) (line : List ℕ) (stood : Standing x line p l) (bytes : List ℕ) (kept : take (p .held) bytes ≡ take (p .held) (l .bytes)) where
-  stays : Standing x line p (withBytes l bytes)
-  stays = record { history = stood .history; keeps = kept ∙ stood .keeps; holds = stood .holds; frames = stood .frames; unsettled = stood .unsettled }
-
-  -- the line is over
-  pub none-further : (r : declared.Turned) → r ≡ record { over = true; failed = false; progress = p } → Further x line l r (withBytes l bytes)
-  none-further r e =
+  -- nothing more came
+  pub over-step : (failed : Bool) (r : declared.Turned) → r ≡ record { over = true; failed = failed; progress = p } → Stepped x p l r (withBytes l bytes)
+  over-step failed r e =
       record {
-        part = [];
-        none = λ o. refl;
-        some = going;
-        stands = subst (λ (q : Progress). Standing x (line ++ []) q (withBytes l bytes)) (ap (λ (t : declared.Turned). t .progress) (sym e))
-            (subst (λ (bs : List ℕ). Standing x bs p (withBytes l bytes)) (sym (append-nil line)) stays);
-        put = going;
+        goes = going;
+        further = λ f line stood. record {
+          part = [];
+          none = λ o. refl;
+          some = going;
+          stands = subst (λ (q : Progress). Standing x (line ++ []) q (withBytes l bytes)) (ap (λ (t : declared.Turned). t .progress) (sym e))
+              (subst (λ (bs : List ℕ). Standing x bs p (withBytes l bytes)) (sym (append-nil line)) (stays line stood));
+          put = going;
+        };
       }
     where
       going : {A : Type 0} → r .over ≡ false → A
@@ -70,10 +67,6 @@ module _ (x : Fixed) (p : Progress) (l : Lent) (line : List ℕ) (stood : Standi
     part : List ℕ
     part = drop (p .held) (take size bytes)
 
-    comes : take size bytes ≡ restIn line ++ part
-    unfolding part
-    comes = sym (take-append-drop (p .held) (take size bytes)) ∙ ap (λ (bs : List ℕ). bs ++ drop (p .held) (take size bytes)) (take-take (p .held) size bytes low ∙ kept ∙ stood .keeps)
-
     some-part : 0 < length part
     unfolding part
     some-part =
@@ -83,29 +76,32 @@ module _ (x : Fixed) (p : Progress) (l : Lent) (line : List ℕ) (stood : Standi
     roomy : Room (withBytes l bytes)
     roomy = record { bytes = long ∙ room .bytes; inputs = room .inputs; ears = room .ears; out = room .out }
 
-    steps : Steps x (atOnce (setupIn x) line) part (withBytes l bytes) r left
-    steps =
-        turn-steps x (atOnce (setupIn x) line) part p size (withBytes l bytes) r left stays comes plays
-        (not-refused x p size (withBytes l bytes) (atOnce (setupIn x) line .past) ready roomy (stays .history)) (ready .six)
-        (all-written x p size (withBytes l bytes) (atOnce (setupIn x) line .past) ready roomy (stays .history))
+    module _ (line : List ℕ) (stood : Standing x line p l) where
+      comes : take size bytes ≡ restIn line ++ part
+      unfolding part
+      comes = sym (take-append-drop (p .held) (take size bytes)) ∙ ap (λ (bs : List ℕ). bs ++ drop (p .held) (take size bytes)) (take-take (p .held) size bytes low ∙ kept ∙ stood .keeps)
 
-    pub some-further : Further x line l (record { over = false; failed = false; progress = r .progress }) left
-    some-further =
+      steps : Steps x (atOnce (setupIn x) line) part (withBytes l bytes) r left
+      steps =
+          turn-steps x (atOnce (setupIn x) line) part p size (withBytes l bytes) r left (stays line stood) comes plays
+          (not-refused x p size (withBytes l bytes) (atOnce (setupIn x) line .past) ready roomy (stood .history)) (ready .six)
+          (all-written x p size (withBytes l bytes) (atOnce (setupIn x) line .past) ready roomy (stood .history))
+
+    -- some more came, and was played; the write may have failed
+    pub on-step : (failed : Bool) → Stepped x p l (record { over = failed; failed = failed; progress = r .progress }) left
+    on-step failed =
         record {
-          part = part;
-          none = λ o. absurd (true≢false (sym o));
-          some = λ o. some-part;
-          stands = subst (λ (s : So). Stands x s (r .progress) left) (one-more (setupIn x) line part) (steps .stands);
-          put = λ o. steps .put;
+          goes = λ o. o;
+          further = λ f line stood. record {
+            part = part;
+            none = λ o. absurd (true≢false (sym o ∙ f));
+            some = λ o. some-part;
+            stands = subst (λ (s : So). Stands x s (r .progress) left) (one-more (setupIn x) line part) (steps line stood .stands);
+            put = λ o. steps line stood .put;
+          };
         }
 
 -- ---- the loop
-
-abbrev pub fixed : Shape → List Float → List ℕ → List Float → Fixed
-fixed shape weights rows taps = record { shape = shape; stride = 1024; weights = weights; rows = rows; taps = taps }
-
-abbrev pub lent : List Float → List ℕ → List Float → List Float → List ℕ → Lent
-lent rings bytes inputs ears text = record { bytes = bytes; inputs = inputs; rings = rings; ears = ears; out = text }
 
 -- before a step: the lists are as long as they were at first, and stand for some line
 pub record Going (x : Fixed) (l₀ : Lent) (p : Progress) (l : Lent) : Type 0 where

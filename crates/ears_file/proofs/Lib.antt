@@ -1,4 +1,5 @@
--- That a turn of the loop is never refused, what a step of it leaves, that a bank which keeps the form is set up, and how a run ends and is told; and that no two lines of a run meet one promise.
+-- How the start of a list is cut off, that a turn of the loop is never refused, what a step of it leaves, that a bank which keeps the form is set up, and how a run ends and is told; and that no two lines of a run meet one promise.
+mod Parts
 mod Accepting
 mod Going
 mod Setting

@@ -10,8 +10,8 @@ use lib.ListN.{length, replicate}
 use lib.Ieee.{Float, binary32, ofBits}
 use Rattle.refusals.specs.Refusals.{outside}
 use Rattle.numbers.specs.Computed.{zero-float}
-use Rattle.planes.specs.Tables.{unsound}
-use Rattle.planes.proofs.Checks.{both-off}
+use Rattle.checks.specs.Tables.{unsound}
+use Rattle.checks.proofs.Checks.{both-off}
 use Rattle.channel.specs.declared.Layout.the-variants.{Surround51}
 use Rattle.hrtf_setup.specs.Arrangement.{refusalOf, Arrangement, arrangedBy, arrangement}
 use Rattle.hrtf_setup.specs.Promise.{ofLayout, NewSurround}

@@ -1,20 +1,32 @@
 -- The loop over the line: what it needs of the set-up and of its lists, and what a step of it leaves. Definitions only.
 use mathlib.Core.Path.{_≡_}
-use mathlib.Core.Bool.{true, false, _||_}
+use mathlib.Core.Bool.{true, false, _||_, cond}
 use mathlib.Core.List.{List, [], _++_}
 use Prim.Native.Nat.{ℕ, _*_, _<_}
 use lib.ListN.{length}
+use lib.Ieee.{Float}
 use Rattle.refusals.specs.Refusals.{outside}
 use Rattle.big_endian.specs.Placed.{placed}
-use Rattle.planes.specs.Tables.{unsound}
+use Rattle.checks.specs.Tables.{unsound}
 use Rattle.history.specs.History.{heard}
+use Rattle.hrtf_checks.specs.declared.Shape.{Shape}
 use Rattle.hrtf_checks.specs.Refusals.{misshapen}
 use Rattle.wire.specs.Frames.{framesIn, restIn}
 use Rattle.wire.specs.Ears.{earBytes}
 use Rattle.ears_play.specs.declared.Progress.{Progress}
+use Rattle.ears_play.specs.Ending.{refusedRun, endOf}
 use Rattle.ears_play.specs.Turns.{Fixed, Lent, setupIn}
 use Rattle.ears_play.specs.Runs.{atOnce, Stands}
+use Rattle.ears_file.specs.declared.Outcome.{Outcome}
 use Rattle.ears_file.specs.declared.input.Turned.{Turned}
+
+-- blocks of 1,024 frames
+abbrev pub fixed : Shape → List Float → List ℕ → List Float → Fixed
+fixed shape weights rows taps = record { shape = shape; stride = 1024; weights = weights; rows = rows; taps = taps }
+
+-- in the order of the code
+abbrev pub lent : List Float → List ℕ → List Float → List Float → List ℕ → Lent
+lent rings bytes inputs ears text = record { bytes = bytes; inputs = inputs; rings = rings; ears = ears; out = text }
 
 -- what the convolver accepts with any frames
 pub record Ready (x : Fixed) : Type 0 where
@@ -49,6 +61,11 @@ pub record Further (x : Fixed) (line : List ℕ) (l : Lent) (r : Turned) (left :
   pub stands : Standing x (line ++ part) (r .progress) left
   pub put : r .over ≡ false → left .out ≡ placed (l .out) 0 (earBytes (heard (setupIn x) (atOnce (setupIn x) line .past) (framesIn (restIn line ++ part))))
 
--- a step that did not fail
+-- a step: after one that failed there is no other
 pub record Stepped (x : Fixed) (p : Progress) (l : Lent) (r : Turned) (left : Lent) : Type 0 where
+  pub goes : r .over ≡ false → r .failed ≡ false
   pub further : r .failed ≡ false → (line : List ℕ) → Standing x line p l → Further x line l r left
+
+-- how a run ends by its last step
+abbrev pub endedBy : Turned → Outcome
+endedBy r = cond (r .failed) (record { failed = true; ended = refusedRun }) (record { failed = false; ended = endOf (r .progress) })

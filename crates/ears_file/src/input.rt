@@ -5,49 +5,16 @@ use ears_play::Progress;
 use hrtf_checks::Shape;
 ghost use mathlib.Core.Path.{_≡_};
 ghost use mathlib.Core.Bool.{true};
-ghost use Prim.Native.Nat.{_*_, _≤_, _<_};
-ghost use lib.ListN.{length, take, replicate};
+ghost use Prim.Native.Nat.{_*_};
+ghost use lib.ListN.{replicate};
+ghost use Rattle.io.specs.Counts.{Counts};
 ghost use Rattle.numbers.specs.Computed.{zero-float};
 ghost use Rattle.hrtf_checks.specs.Call.{setupOf};
-ghost use Rattle.ears_file.specs.Playing.{Ready, Room, Playing, Stepped};
+ghost use Rattle.ears_file.specs.Playing.{fixed, lent, Ready, Room, Playing, Stepped, endedBy};
 ghost use Rattle.ears_file.specs.Promise.{OfLine, Answers};
 
 // Frames of a block, and the places of a plane.
 const BLOCK: usize = 1024;
-
-// Whether a read failed, and how many bytes now stand in the buffer.
-struct Got {
-    failed: bool,
-    size: usize,
-}
-
-// Where a read into a buffer of `size` bytes that begins at `held` ends: `limit` bytes on, one at the least.
-fn end_of_read(held: usize, limit: usize, size: usize) -> usize
-    requires { ⌜ held < size ⌝ }
-    ensures { λ r. ⌜ (held < r) × (r ≤ size) ⌝ }
-{
-    if limit == 0 {
-        return held + 1;
-    }
-    if limit < size - held {
-        return held + limit;
-    }
-    size
-}
-
-// Reads behind the bytes that are held, which stay.
-fn read_some(line: i32, held: usize, limit: usize, bytes: &mut [u8]) -> Got
-    requires { ⌜ held < length (now bytes) ⌝ }
-    ensures { λ r. ⌜ (held ≤ r .size) × (r .size ≤ length (now (bytes .exit))) × (take held (now (bytes .exit)) ≡ take held (now (bytes .entry))) ⌝ }
-{
-    let end = end_of_read(held, limit, bytes.len());
-    let got = libc::read(line, &mut bytes[held..end]);
-    let n = io::count(got, &bytes[held..end]);
-    Got {
-        failed: got < 0,
-        size: held + n,
-    }
-}
 
 // What is to be done after a turn: go on, or not, and then whether the system failed.
 struct Turned {
@@ -56,14 +23,29 @@ struct Turned {
     progress: Progress,
 }
 
+// Nothing more came: the line is over, or a read of it failed, which is told.
 fn stopped(failed: bool, progress: Progress) -> Turned
     ensures { λ r. ⌜ r ≡ record { over = true; failed = failed; progress = progress } ⌝ }
 {
+    if failed {
+        os::fail(b"ears: reading the line");
+    }
     Turned {
         over: true,
         failed,
         progress,
     }
+}
+
+// Writes the first bytes of a list, and answers whether that failed, which is told.
+fn write_some(out: i32, size: usize, text: &[u8]) -> bool
+    requires { ⌜ Counts size (now text) ⌝ }
+{
+    if io::write_all(out, &text[..size]) {
+        return false;
+    }
+    os::fail(b"ears: writing the ears");
+    true
 }
 
 // Reads, plays and writes once.
@@ -82,23 +64,18 @@ fn step(
     ears: &mut [f32],
     text: &mut [u8],
 ) -> Turned
-    requires { ⌜ Ready (record { shape = shape; stride = 1024; weights = now weights; rows = now «row_of»; taps = now taps }) ⌝ }
-    requires { ⌜ Room (record { bytes = now bytes; inputs = now inputs; rings = now rings; ears = now ears; out = now text }) ⌝ }
-    requires { ⌜ Playing (record { shape = shape; stride = 1024; weights = now weights; rows = now «row_of»; taps = now taps }) progress
-        (record { bytes = now bytes; inputs = now inputs; rings = now rings; ears = now ears; out = now text }) ⌝ }
-    ensures { λ r. ⌜ Stepped (record { shape = shape; stride = 1024; weights = now (weights .entry); rows = now («row_of» .entry); taps = now (taps .entry) }) progress
-        (record { bytes = now (bytes .entry); inputs = now (inputs .entry); rings = now (rings .entry); ears = now (ears .entry); out = now (text .entry) })
+    requires { ⌜ Ready (fixed shape (now weights) (now «row_of») (now taps)) ⌝ }
+    requires { ⌜ Room (lent (now rings) (now bytes) (now inputs) (now ears) (now text)) ⌝ }
+    requires { ⌜ Playing (fixed shape (now weights) (now «row_of») (now taps)) progress (lent (now rings) (now bytes) (now inputs) (now ears) (now text)) ⌝ }
+    ensures { λ r. ⌜ Stepped (fixed shape (now (weights .entry)) (now («row_of» .entry)) (now (taps .entry))) progress
+        (lent (now (rings .entry)) (now (bytes .entry)) (now (inputs .entry)) (now (ears .entry)) (now (text .entry)))
         r
-        (record { bytes = now (bytes .exit); inputs = now (inputs .exit); rings = now (rings .exit); ears = now (ears .exit); out = now (text .exit) }) ⌝ }
+        (lent (now (rings .exit)) (now (bytes .exit)) (now (inputs .exit)) (now (ears .exit)) (now (text .exit))) ⌝ }
 {
     let held = progress.held;
-    let got = read_some(line, held, limit, bytes);
-    if got.failed {
-        os::fail(b"ears: reading the line");
-        return stopped(true, progress);
-    }
+    let got = crate::reading::read_some(line, held, limit, bytes);
     if got.size == held {
-        return stopped(false, progress);
+        return stopped(got.failed, progress);
     }
     let turn = ears_play::play(
         progress,
@@ -116,15 +93,23 @@ fn step(
     );
     let next = turn.progress;
     let put = turn.bytes;
-    if !io::write_all(out, &text[..put]) {
-        os::fail(b"ears: writing the ears");
-        return stopped(true, next);
-    }
+    let failed = write_some(out, put, text);
     Turned {
-        over: false,
-        failed: false,
+        over: failed,
+        failed,
         progress: next,
     }
+}
+
+// How the run ends after its last step.
+fn ends_by(last: Turned) -> Outcome
+    ensures { λ r. ⌜ r ≡ endedBy last ⌝ }
+{
+    if last.failed {
+        return crate::failed();
+    }
+    let progress = last.progress;
+    crate::ended(ears_play::at_end(progress))
 }
 
 // Steps until the input is over. A proved loop has to end, and nothing says that the input does: so the steps are
@@ -143,8 +128,8 @@ fn play_on(
     ears: &mut [f32],
     text: &mut [u8],
 ) -> Outcome
-    requires { ⌜ Ready (record { shape = shape; stride = 1024; weights = now weights; rows = now «row_of»; taps = now taps }) ⌝ }
-    requires { ⌜ Room (record { bytes = now bytes; inputs = now inputs; rings = now rings; ears = now ears; out = now text }) ⌝ }
+    requires { ⌜ Ready (fixed shape (now weights) (now «row_of») (now taps)) ⌝ }
+    requires { ⌜ Room (lent (now rings) (now bytes) (now inputs) (now ears) (now text)) ⌝ }
     requires { ⌜ now rings ≡ replicate (shape .speakers * shape .length) zero-float ⌝ }
     ensures { λ r. ⌜ Answers (OfLine (setupOf shape (now (weights .entry)) (now («row_of» .entry)) (now (taps .entry)))) r ⌝ }
 {
@@ -166,13 +151,10 @@ fn play_on(
             ears,
             text,
         );
-        if turned.failed {
-            return crate::failed();
+        if turned.over {
+            return ends_by(turned);
         }
         let next = turned.progress;
-        if turned.over {
-            return crate::ended(ears_play::at_end(next));
-        }
         progress = next;
         steps -= 1;
     }
@@ -190,7 +172,7 @@ pub(crate) fn play_all(
     taps: &[f32],
     rings: &mut [f32],
 ) -> Outcome
-    requires { ⌜ Ready (record { shape = shape; stride = 1024; weights = now weights; rows = now «row_of»; taps = now taps }) ⌝ }
+    requires { ⌜ Ready (fixed shape (now weights) (now «row_of») (now taps)) ⌝ }
     requires { ⌜ now rings ≡ replicate (shape .speakers * shape .length) zero-float ⌝ }
     ensures { λ r. ⌜ Answers (OfLine (setupOf shape (now (weights .entry)) (now («row_of» .entry)) (now (taps .entry)))) r ⌝ }
 {

@@ -19,16 +19,17 @@ ghost use lib.ListN.{take, replicate};
 ghost use Rattle.refusals.specs.Refusals.{outside};
 ghost use Rattle.io.specs.Counts.{Counts};
 ghost use Rattle.numbers.specs.Computed.{zero-float};
-ghost use Rattle.planes.specs.Tables.{unsound};
+ghost use Rattle.checks.specs.Tables.{unsound};
 ghost use Rattle.hrtf_checks.specs.Call.{setupOf};
 ghost use Rattle.wire.specs.Promises.{Lined};
 ghost use Rattle.ears_play.specs.Ending.{refusedRun};
 ghost use Rattle.ears_file.specs.Lines.{setupBy};
-ghost use Rattle.ears_file.specs.Playing.{Ready};
+ghost use Rattle.ears_file.specs.Playing.{fixed, Ready};
 ghost use Rattle.ears_file.specs.Promise.{OfLine, OfFiles, Answers, toldBy};
 
 mod bank_file;
 mod input;
+mod reading;
 
 // What a run answers: whether the system failed, and how it ended otherwise.
 pub struct Outcome {
@@ -66,7 +67,7 @@ fn play_fitted(
     taps: &[f32],
     rings: &mut [f32],
 ) -> Outcome
-    requires { ⌜ Ready (record { shape = shape; stride = 1024; weights = now weights; rows = now «row_of»; taps = take (2 * shape .rows * shape .length) (now taps) }) ⌝ }
+    requires { ⌜ Ready (fixed shape (now weights) (now «row_of») (take (2 * shape .rows * shape .length) (now taps))) ⌝ }
     requires { ⌜ (shape .speakers ≡ 6) × (ListN.length (now taps) ≡ 8192) × (now rings ≡ replicate 3072 zero-float) ⌝ }
     ensures { λ r. ⌜ Answers (OfLine (setupOf shape (now (weights .entry)) (now («row_of» .entry)) (take (2 * shape .rows * shape .length) (now (taps .entry))))) r ⌝ }
 {

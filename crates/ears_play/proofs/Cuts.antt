@@ -10,10 +10,10 @@ use lib.Ieee.{Float}
 use Rattle.big_endian.specs.Placed.{placed}
 use Rattle.big_endian.proofs.Placed.{placed-start}
 use Rattle.numbers.specs.Computed.{zero-float}
-use Rattle.planes.specs.Tables.{unsound}
+use Rattle.checks.specs.Tables.{unsound}
 use Rattle.history.specs.Setup.{Setup}
 use Rattle.history.specs.History.{heard, unsettledIn, after}
-use Rattle.history.proofs.Pieces.{heard-append, unsettled-append}
+use Rattle.history.proofs.Pieces.{after-append, heard-append, unsettled-append}
 use Rattle.rings.specs.Represents.{Represents}
 use Rattle.rings.proofs.Told.{fresh-represents}
 use Rattle.hrtf_checks.specs.Refusals.{refusalOf}
@@ -32,9 +32,9 @@ use Rattle.ears_play.specs.Runs.{So, atOnce, turned, inParts, Stands, St
 
 -- ---- parts
 
-after-append : (past fs gs : List (List Float)) → after past (fs ++ gs) ≡ after (after past fs) gs
-after-append past [] gs = refl
-after-append past (f ∷ fs) gs = after-append (f ∷ past) fs gs
+so-same : {a b : List ℕ} {i j m n : ℕ} {p q : List (List Float)} {c d : List ℕ} → a ≡ b → i ≡ j → m ≡ n → p ≡ q → c ≡ d
+    → _≡_ {A = So} (record { put = a; frames = i; unsettled = m; past = p; held = c }) (record { put = b; frames = j; unsettled = n; past = q; held = d })
+so-same e f g h k = cc (e, f, g, h, k)
 
 module _ (u : Setup) (bytes part : List ℕ) where
   -- the frames that were played, and those that come now
@@ -63,7 +63,7 @@ module _ (u : Setup) (bytes part : List ℕ) where
 
   pub one-more : turned u (atOnce u bytes) part ≡ atOnce u (bytes ++ part)
   unfolding so-far now-come
-  one-more = cc (one-more-put, one-more-counted, one-more-past, one-more-whole, cut-rest bytes part)
+  one-more = so-same one-more-put one-more-whole one-more-counted one-more-past (sym (cut-rest bytes part))
 
 -- after some bytes, and then in parts
 parts-after : (u : Setup) (bytes : List ℕ) (parts : List (List ℕ)) → inParts u (atOnce u bytes) parts ≡ atOnce u (bytes ++ flatten parts)

@@ -1,52 +1,31 @@
 -- From what `wire` and `hrtf` promise to what a turn promises. Assumes nothing.
 use mathlib.Core.Path.{_≡_, refl, sym, ap, _∙_, subst}
-use mathlib.Core.List.{List, [], _∷_}
-use Prim.Native.Nat.{ℕ, zero, suc, _-_, _*_, _≤_, _<_, min}
-use native.Mathlib.Nat.{sub-zero, zero-sub, suc-sub-suc, not-suc-le-zero, le-of-suc-le-suc}
+use mathlib.Core.List.{List}
+use Prim.Native.Nat.{ℕ, zero, suc, _-_, _*_, _≤_, min}
 use native.Mathlib.Omega.{arith}
-use lib.ListN.{length, getD, take, drop, length-drop, length-take}
-use lib.Seq.{take-nil}
+use lib.ListN.{length, take, drop, length-drop, length-take}
 use lib.Ieee.{Float}
 use Rattle.big_endian.specs.Placed.{placed}
 use Rattle.planes.specs.Planes.{framesOf, withFrames}
-use Rattle.planes.proofs.Lists.{take-min}
-use Rattle.planes.proofs.Tables.{length-tab, getD-tab}
-use Rattle.planes.proofs.Planes.{length-with-frames}
-use Rattle.history.specs.Setup.{Setup}
+use Rattle.checks.proofs.Lists.{take-min, drop-take}
+use Rattle.checks.proofs.Tables.{length-tab}
+use Rattle.planes.proofs.Planes.{length-with-frames, frames-read}
 use Rattle.history.specs.History.{heard, unsettledIn, after}
-use Rattle.history.proofs.Pieces.{length-heard}
+use Rattle.history.proofs.Pieces.{length-heard, two-each}
 use Rattle.rings.specs.Represents.{Represents}
 use Rattle.hrtf_checks.specs.Call.{Call}
 use Rattle.hrtf_checks.specs.Refusals.{refusalOf}
 use Rattle.hrtf_checks.proofs.Refusing.{inputs-fit, ears-fit}
 use Rattle.hrtf.specs.Promise.{Outcome, Tells, Processes, stateAfter}
 use Rattle.hrtf.proofs.Promised.{outcome-by}
-use Rattle.runs.proofs.Reading.{frames-read}
 use Rattle.wire.specs.Frames.{frameIn, wholeIn, framesIn, restIn}
 use Rattle.wire.specs.Ears.{earBytes}
 use Rattle.wire.specs.Promises.{roomFor, Taken, Given}
+use Rattle.wire.proofs.Lengths.{six-each}
 use Rattle.ears_play.specs.declared.Progress.{Progress}
 use Rattle.ears_play.specs.declared.Turn.{Turn}
 use Rattle.ears_play.specs.Counting.{countedOn}
 use Rattle.ears_play.specs.Turns.{Fixed, Lent, setupIn, come, stateIn, planesIn, callIn, Turned, turnPlayed, turnBy, turnOf, Told, Plays}
-
--- ---- the bytes that are kept
-
-drop-take : (k m : ℕ) (xs : List ℕ) → drop k (take m xs) ≡ take (m - k) (drop k xs)
-drop-take zero m xs = ap (λ (n : ℕ). take n xs) (sym (sub-zero m))
-drop-take (suc k) zero xs = ap (λ (n : ℕ). take n (drop (suc k) xs)) (sym (zero-sub (suc k)))
-drop-take (suc k) (suc m) [] = sym (take-nil (suc m - suc k))
-drop-take (suc k) (suc m) (x ∷ xs) = drop-take k m xs ∙ ap (λ (n : ℕ). take n (drop k xs)) (sym (suc-sub-suc m k))
-
-two-each : (u : Setup) (past fs : List (List Float)) (j : ℕ) → j < length (heard u past fs) → length (getD (heard u past fs) j []) ≡ 2
-two-each u past [] j h = absurd (not-suc-le-zero h)
-two-each u past (f ∷ fs) zero h = refl
-two-each u past (f ∷ fs) (suc j) h = two-each u (f ∷ past) fs j (le-of-suc-le-suc h)
-
-six-each : (bytes : List ℕ) (j : ℕ) → j < length (framesIn bytes) → length (getD (framesIn bytes) j []) ≡ 6
-six-each bytes j h = ap length (getD-tab 0 (wholeIn bytes) (frameIn bytes) j [] (omega (arith, length-tab 0 (wholeIn bytes) (frameIn bytes))))
-
--- ---- a turn
 
 module _ (x : Fixed) (p : Progress) (size : ℕ) (l : Lent) (to n : ℕ) (inputs₁ : List Float) (o : Outcome)
     (ends : to ≡ min size (length (l .bytes)))

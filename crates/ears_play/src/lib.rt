@@ -4,7 +4,7 @@
 //
 // Reading and writing are not done here: `ears_file` reads into the buffer and writes what is put out.
 //
-// Under it lie `wire` (frames and bytes), `hrtf` (the convolver), `desk` and `planes` (the smaller of two counts).
+// Under it lie `wire` (frames and bytes), `hrtf` (the convolver), `desk`, `planes` and `checks` (the smaller of two counts).
 use desk::Desk;
 use hrtf_checks::Shape;
 ghost use mathlib.Core.Path.{_≡_};
@@ -96,7 +96,7 @@ pub fn play(
         (record { bytes = now (bytes .exit); inputs = now (inputs .exit); rings = now (rings .exit); ears = now (ears .exit); out = now (out .exit) }) ⌝ }
 {
     let desk = progress.desk;
-    let to = planes::least(size, bytes.len());
+    let to = checks::least(size, bytes.len());
     let frames = wire::frames_from_bytes(&bytes[..to], stride, inputs);
     let played = hrtf::process(
         desk,
@@ -144,10 +144,11 @@ pub struct Ended {
 pub fn refused() -> Ended
     ensures { λ r. ⌜ r ≡ refusedRun ⌝ }
 {
+    let none = 0;
     Ended {
         refusal: 9,
-        frames: 0,
-        unsettled: 0,
+        frames: none,
+        unsettled: none,
     }
 }
 

@@ -1,9 +1,9 @@
 -- Frames in bytes that come in two parts, wherever they are cut: the frames are those of the first part, and then those of what the first part left over with the second behind it.
 -- So whoever plays whole frames and keeps the rest plays the same frames, however the bytes come. Assumes nothing.
-use mathlib.Core.Path.{_≡_, refl, sym, ap, _∙_}
-use mathlib.Core.List.{List, [], _∷_, _++_, append-assoc, append-nil}
-use Prim.Native.Nat.{ℕ, zero, suc, _+_, _*_, _≤_, _<_}
-use native.Mathlib.Nat.{add-zero, zero-add, add-suc}
+use mathlib.Core.Path.{_≡_, sym, ap, _∙_}
+use mathlib.Core.List.{List, [], _++_, append-assoc, append-nil}
+use Prim.Native.Nat.{ℕ, _+_, _*_, _≤_, _<_}
+use native.Mathlib.Nat.{add-zero, zero-add}
 use native.Mathlib.Omega.{arith}
 use lib.ListN.{length, take, drop, length-append, length-drop, take-append-drop}
 use lib.Seq.{take-append-le, drop-append-le, drop-at, drop-drop, length-take-le}
@@ -11,8 +11,8 @@ use lib.Ieee.{Float, binary32, ofBits}
 use Rattle.big_endian.specs.Bytes.{valueOf}
 use Rattle.big_endian.specs.Fields.{floatAt}
 use Rattle.big_endian.proofs.Fields.{field-lies}
-use Rattle.planes.specs.Tables.{tab}
-use Rattle.planes.proofs.Tables.{tab-ext, tab-append}
+use Rattle.checks.specs.Tables.{tab}
+use Rattle.checks.proofs.Tables.{tab-ext, tab-append, tab-moved}
 use Rattle.wire.specs.Frames.{frameIn, wholeIn, framesIn, restIn}
 
 -- a field that lies in the first part, and one in the second
@@ -31,11 +31,6 @@ float-second a b n at e h =
     (field-lies (a ++ b) (n + at) 4 (omega arith) (omega (arith, length-append a b))
     ∙ ap (λ (l : List ℕ). valueOf (take 4 l)) (sym (drop-drop at n (a ++ b)) ∙ ap (drop at) (drop-at a b n e))
     ∙ sym (field-lies b at 4 (omega arith) h))
-
--- a table from k on is one from 0 on
-moved : {A : Type 0} (k i m : ℕ) (f : ℕ → A) → tab (k + i) m f ≡ tab i m (λ n. f (k + n))
-moved k i zero f = refl
-moved {A} k i (suc m) f = ap (λ (r : List A). f (k + i) ∷ r) (ap (λ (j : ℕ). tab j m f) (sym (add-suc k i)) ∙ moved k (suc i) m f)
 
 -- k frames, and bytes behind them
 module _ (a b : List ℕ) (k : ℕ) (e : length a ≡ k * 24) where
@@ -60,7 +55,7 @@ module _ (a b : List ℕ) (k : ℕ) (e : length a ≡ k * 24) where
       ∙ tab-append 0 k (wholeIn b) (frameIn (a ++ b))
       ∙ ap (λ (l : List (List Float)). l ++ tab (0 + k) (wholeIn b) (frameIn (a ++ b))) (tab-ext 0 k (frameIn (a ++ b)) (frameIn a) frame-first ∙ ap (λ (m : ℕ). tab 0 m (frameIn a)) (sym first))
       ∙ ap (λ (l : List (List Float)). framesIn a ++ l)
-      (ap (λ (j : ℕ). tab j (wholeIn b) (frameIn (a ++ b))) (zero-add k ∙ sym (add-zero k)) ∙ moved k 0 (wholeIn b) (frameIn (a ++ b))
+      (ap (λ (j : ℕ). tab j (wholeIn b) (frameIn (a ++ b))) (zero-add k ∙ sym (add-zero k)) ∙ tab-moved k 0 (wholeIn b) (frameIn (a ++ b))
       ∙ tab-ext 0 (wholeIn b) (λ n. frameIn (a ++ b) (k + n)) (frameIn b) frame-second)
 
   rest-both : restIn (a ++ b) ≡ restIn b

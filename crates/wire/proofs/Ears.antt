@@ -15,8 +15,8 @@ use Rattle.big_endian.proofs.Bytes.{length-bytes}
 use Rattle.big_endian.proofs.Fields.{field-put}
 use Rattle.big_endian.proofs.Placed.{placed-none, placed-on, length-placed}
 use Rattle.big_endian.proofs.Lists.{length-fieldBytes, fieldBytes-two}
-use Rattle.planes.specs.Tables.{tab}
-use Rattle.planes.proofs.Tables.{tab-snoc}
+use Rattle.checks.specs.Tables.{tab}
+use Rattle.checks.proofs.Tables.{tab-snoc}
 use Rattle.planes.specs.Planes.{frameAt, framesOf}
 use Rattle.wire.specs.Ears.{earBytes}
 

@@ -1,18 +1,30 @@
--- Parts put one after another, from the start of a list on, and that the fewest digits are the decimal ones. Assumes nothing.
+-- Parts put one after another into a list, the line that stands at its start or not at all, and that the fewest digits are the decimal ones. Assumes nothing.
 use mathlib.Core.Path.{_≡_, refl, sym, ap, _∙_}
-use mathlib.Core.List.{List, [], _∷_, _++_}
+use mathlib.Core.List.{List, [], _∷_, _++_, append-assoc, append-nil}
 use Prim.Native.Nat.{ℕ, zero, suc, _+_, _-_, _/_, _%_, _^_, _≤_, _<_}
 use native.Mathlib.Nat.{pow-suc, pow-le-pow-right, one-le-pow, mod-eq-of-lt, zero-add}
 use native.Mathlib.Decide.{decLt}
 use native.Mathlib.Omega.{arith}
 use borrow.Author.Tests.{lt-ltb, le-ltb}
-use lib.ListN.{length, length-append}
+use lib.ListN.{length, take, drop, length-append, length-drop, drop-of-length-le}
+use lib.Seq.{take-all, take-length, drop-drop}
 use Rattle.io.specs.Digits.{digits, glyph, Fewest}
 use Rattle.big_endian.specs.Placed.{placed}
 use Rattle.big_endian.proofs.Placed.{placed-on}
 use Rattle.wire.specs.Line.{decimalBy}
 use Rattle.refusals.proofs.First.{stops, goes-on}
 use Rattle.wire.specs.Promises.{Put, Lined}
+
+-- a part that is copied into the rest of a list from `at` on
+pub put-copied : (out part ys : List ℕ) (at : ℕ) → at ≤ length out → ys ≡ take (length part) part ++ drop (length part) (take (length out - at) (drop at out))
+    → take at out ++ (ys ++ drop (length out - at) (drop at out)) ≡ placed out at part
+unfolding placed
+put-copied out part ys at h e =
+    let rest : length (drop at out) ≤ length out - at = omega (arith, length-drop at out) in
+    ap (λ (l : List ℕ). take at out ++ l)
+    (ap (λ (l : List ℕ). ys ++ l) (drop-of-length-le (drop at out) rest) ∙ append-nil ys ∙ e
+    ∙ rw (take-length part, take-all (length out - at) (drop at out) rest, drop-drop (length part) at out))
+    ∙ sym (append-assoc (take at out) part (drop (at + length part) out))
 
 -- a part more, where the last one ended
 pub put-more : {out : List ℕ} {at : ℕ} {a : List ℕ} {end : ℕ} {ys b : List ℕ} {end₁ : ℕ} {last : List ℕ} → Put out at a end ys → Put ys end b end₁ last

@@ -4,7 +4,7 @@ use mathlib.Core.List.{List}
 use lib.ListN.{length, drop}
 use lib.Ieee.{Float}
 use Rattle.big_endian.specs.Fields.{floatAt}
-use Rattle.planes.specs.Tables.{tab}
+use Rattle.checks.specs.Tables.{tab}
 
 abbrev pub frameIn : List ℕ → ℕ → List Float
 frameIn bytes n = tab 0 6 (λ c. floatAt bytes (n * 24 + c * 4))

@@ -7,8 +7,8 @@
 // list that is too short takes the frames that it has room for. That frames read from a list of bytes are those
 // of its two parts, wherever it is cut between frames, is a law that the crates above cite.
 //
-// Under it lie `big_endian` (numbers in bytes), `planes` (a sample of a plane, the smaller of two counts) and the
-// kit's `io` (digits).
+// Under it lie `big_endian` (numbers in bytes), `planes` (a sample of a plane), `checks` (the smaller of two
+// counts) and the kit's `io` (digits) and `bytes` (a copy).
 ghost use mathlib.Core.Path.{_≡_};
 ghost use Prim.Native.Nat.{_+_, _*_, _/_, _≤_};
 ghost use lib.ListN.{length};
@@ -71,7 +71,7 @@ fn give_ears(ears: &[f32], stride: usize, n: usize, out: &mut [u8])
 pub fn bytes_from_ears(ears: &[f32], stride: usize, frames: usize, out: &mut [u8]) -> usize
     ensures { λ r. ⌜ Given (now (ears .entry)) stride frames (now (out .entry)) r (now (out .exit)) ⌝ }
 {
-    let count = planes::least(frames, out.len() / EARS);
+    let count = checks::least(frames, out.len() / EARS);
     let mut n = 0;
     while n < count {
         give_ears(ears, stride, n, out);

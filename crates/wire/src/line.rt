@@ -6,17 +6,15 @@ ghost use lib.ListN.{length};
 ghost use Rattle.wire.specs.Line.{decimal, framesLine, refusedLine};
 ghost use Rattle.wire.specs.Promises.{Put, Lined};
 
+// How long a list has to be.
+const ROOM: usize = 64;
+
 // Puts a part from `at` on, and answers where it ends.
 fn put_part(out: &mut [u8], at: usize, part: &[u8]) -> usize
     requires { ⌜ at + length (now part) ≤ length (now out) ⌝ }
     ensures { λ r. ⌜ Put (now (out .entry)) at (now (part .entry)) r (now (out .exit)) ⌝ }
 {
-    let mut i = 0;
-    while i < part.len() {
-        out[at + i] = part[i];
-        i += 1;
-    }
-    at + part.len()
+    at + bytes::copy(part, &mut out[at..])
 }
 
 // Puts the digits of a number from `at` on, and answers where they end.
@@ -54,7 +52,7 @@ fn put_refused(refusal: u8, out: &mut [u8]) -> usize
 pub fn frames_line(frames: u64, unsettled: u64, out: &mut [u8]) -> usize
     ensures { λ r. ⌜ Lined (now (out .entry)) (framesLine frames unsettled) r (now (out .exit)) ⌝ }
 {
-    if out.len() < 64 {
+    if out.len() < ROOM {
         return 0;
     }
     put_frames(frames, unsettled, out)
@@ -64,7 +62,7 @@ pub fn frames_line(frames: u64, unsettled: u64, out: &mut [u8]) -> usize
 pub fn refused_line(refusal: u8, out: &mut [u8]) -> usize
     ensures { λ r. ⌜ Lined (now (out .entry)) (refusedLine refusal) r (now (out .exit)) ⌝ }
 {
-    if out.len() < 64 {
+    if out.len() < ROOM {
         return 0;
     }
     put_refused(refusal, out)

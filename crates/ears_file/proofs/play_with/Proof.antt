@@ -5,7 +5,7 @@ use native.Mathlib.Omega.{arith}
 use lib.ListN.{take, replicate, length-replicate}
 use lib.Seq.{length-take-le}
 use Rattle.numbers.specs.Computed.{zero-float}
-use Rattle.planes.proofs.Checks.{not-outside}
+use Rattle.checks.proofs.Checks.{not-outside}
 use Rattle.history.specs.Setup.{Setup}
 use Rattle.ears_file.specs.Promise.{OfLine, Answers}
 use Rattle.ears_file.proofs.Setting.{zero-bits, taps-few, set-up, six-speakers, ready}

@@ -1,9 +1,8 @@
 -- `ears_file::input::play_on` meets its contract: before each step the record and the lists stand for some line. Assumes nothing.
-use mathlib.Core.Path.{sym, subst}
 use native.Mathlib.Omega.{arith}
-use Rattle.ears_file.specs.Promise.{OfLine}
-use Rattle.ears_file.proofs.Going.{fixed, lent, Going, still-room, going-first, played-on}
-use Rattle.ears_file.proofs.Ending.{failed-answers, ended-answers, line-ends}
+use Rattle.ears_file.specs.Playing.{fixed, lent}
+use Rattle.ears_file.proofs.Going.{Going, still-room, going-first, played-on}
+use Rattle.ears_file.proofs.Ending.{failed-answers, line-ends, over-answers}
 use Rattle.ears_file.proofs.input.play_on.Statement.{statement}
 use Rattle.ears_file.proofs.input.play_on.Tie as tie
 
@@ -24,8 +23,8 @@ loop-holds c = let pre = c .before .before .before .before .before .before .befo
 step-requires : tie.Need-step-requires Inv-loop μ-loop
 step-requires c κs = let pre = c .before .before .before .before .before .before .before .before .before .before .before .before .before .before .before .pre in let inv = c .before .before .before .before .before .before .loop .inv in (pre .0, (still-room _ _ _ _ inv (pre .1 .0), inv .playing))
 
-failed-requires : tie.Need-failed-requires Inv-loop μ-loop
-failed-requires c κs = tt
+ends-by-requires : tie.Need-ends-by-requires Inv-loop μ-loop
+ends-by-requires c κs = tt
 
 same-length : tie.Need-same-length Inv-loop μ-loop
 same-length c = omega arith
@@ -43,13 +42,33 @@ same-length-5 : tie.Need-same-length-5 Inv-loop μ-loop
 same-length-5 c = omega arith
 
 returns : tie.Need-returns Inv-loop μ-loop
-returns c = failed-answers _ _ (c .failed .ensures)
+returns c =
+    let step = c .before .before .before .before .before .before .before .before .before .before .before .before .step in
+    over-answers _ (step .result) _ (c .ends-by .ensures)
+    (λ f. let on = played-on _ _ _ _ _ (c .before .before .before .before .before .before .before .before .before .before .before .before .before .before .before .before .before .before .before .loop .inv .playing) (step .ensures) f in line-ends _ (on .line) _ _ (on .stands))
 
-at-end-requires : tie.Need-at-end-requires Inv-loop μ-loop
-at-end-requires c κs = tt
+sub-steps : tie.Need-sub-steps Inv-loop μ-loop
+sub-steps c = omega arith
 
-ended-requires : tie.Need-ended-requires Inv-loop μ-loop
-ended-requires c κs = tt
+loop-less : tie.Need-loop-less Inv-loop μ-loop
+loop-less c = omega arith
+
+loop-again : tie.Need-loop-again Inv-loop μ-loop
+loop-again c =
+    let inv = c .before .before .before .before .before .before .before .before .before .before .before .before .before .before .before .before .before .before .before .loop .inv in
+    let step = c .before .before .before .before .before .before .before .before .before .before .before .before .step in
+    let kept = step .kept in
+    record {
+      rings = omega (arith, inv .rings, kept);
+      bytes = omega (arith, inv .bytes, kept);
+      inputs = omega (arith, inv .inputs, kept);
+      ears = omega (arith, inv .ears, kept);
+      out = omega (arith, inv .out, kept);
+      playing = played-on _ _ _ _ _ (inv .playing) (step .ensures) (step .ensures .goes (c .before .if1 .left));
+    }
+
+failed-requires : tie.Need-failed-requires Inv-loop μ-loop
+failed-requires c κs = tt
 
 same-length-6 : tie.Need-same-length-6 Inv-loop μ-loop
 same-length-6 c = omega arith
@@ -67,49 +86,7 @@ same-length-10 : tie.Need-same-length-10 Inv-loop μ-loop
 same-length-10 c = omega arith
 
 returns-2 : tie.Need-returns-2 Inv-loop μ-loop
-returns-2 c =
-    let on = played-on _ _ _ _ _ (c .before .before .before .before .before .before .before .before .before .before .before .before .before .before .before .before .before .before .before .before .before .before .loop .inv .playing) (c .before .before .before .before .before .before .before .before .before .before .before .before .before .before .before .step .ensures) (c .before .before .before .before .if1 .left) in
-    ended-answers _ _ _ (c .ended .ensures) (subst (OfLine _) (sym (c .before .at-end .ensures)) (line-ends _ (on .line) _ _ (on .stands)))
-
-sub-steps : tie.Need-sub-steps Inv-loop μ-loop
-sub-steps c = omega arith
-
-loop-less : tie.Need-loop-less Inv-loop μ-loop
-loop-less c = omega arith
-
-loop-again : tie.Need-loop-again Inv-loop μ-loop
-loop-again c =
-    let inv = c .before .before .before .before .before .before .before .before .before .before .before .before .before .before .before .before .before .before .before .before .loop .inv in
-    let kept = c .before .before .before .before .before .before .before .before .before .before .before .before .before .step .kept in
-    record {
-      rings = omega (arith, inv .rings, kept);
-      bytes = omega (arith, inv .bytes, kept);
-      inputs = omega (arith, inv .inputs, kept);
-      ears = omega (arith, inv .ears, kept);
-      out = omega (arith, inv .out, kept);
-      playing = played-on _ _ _ _ _ (inv .playing) (c .before .before .before .before .before .before .before .before .before .before .before .before .before .step .ensures) (c .before .before .if1 .left);
-    }
-
-failed-requires-2 : tie.Need-failed-requires-2 Inv-loop μ-loop
-failed-requires-2 c κs = tt
-
-same-length-11 : tie.Need-same-length-11 Inv-loop μ-loop
-same-length-11 c = omega arith
-
-same-length-12 : tie.Need-same-length-12 Inv-loop μ-loop
-same-length-12 c = omega arith
-
-same-length-13 : tie.Need-same-length-13 Inv-loop μ-loop
-same-length-13 c = omega arith
-
-same-length-14 : tie.Need-same-length-14 Inv-loop μ-loop
-same-length-14 c = omega arith
-
-same-length-15 : tie.Need-same-length-15 Inv-loop μ-loop
-same-length-15 c = omega arith
-
-returns-3 : tie.Need-returns-3 Inv-loop μ-loop
-returns-3 c = failed-answers _ _ (c .failed2 .ensures)
+returns-2 c = failed-answers _ _ (c .failed .ensures)
 
 pub play-on-spec : {M : Type 1} → statement M
 play-on-spec =
@@ -120,28 +97,20 @@ play-on-spec =
     start-requires
     loop-holds
     step-requires
-    failed-requires
+    ends-by-requires
     same-length
     same-length-2
     same-length-3
     same-length-4
     same-length-5
     returns
-    at-end-requires
-    ended-requires
+    sub-steps
+    loop-less
+    loop-again
+    failed-requires
     same-length-6
     same-length-7
     same-length-8
     same-length-9
     same-length-10
-    returns-2
-    sub-steps
-    loop-less
-    loop-again
-    failed-requires-2
-    same-length-11
-    same-length-12
-    same-length-13
-    same-length-14
-    same-length-15
-    returns-3)
+    returns-2)

@@ -1,80 +1,37 @@
--- `wire::line::put_part` meets its contract. The first bytes of the part stand in the list. Assumes nothing.
-use mathlib.Core.Path.{_≡_, refl, ap, sym, _∙_}
-use Prim.Native.Nat.{ℕ, _+_, _-_, _≤_, _<_}
+-- `wire::line::put_part` meets its contract: the part is copied into the rest of the list. Assumes nothing.
+use mathlib.Core.Path.{ap}
+use Prim.Native.Nat.{ℕ, _+_}
 use native.Mathlib.Omega.{arith}
-use native.Mathlib.Numerals.{add-one}
-use mathlib.Core.List.{List, [], _∷_, _++_}
 use denote.Ref.{now}
-use lib.ListN.{length, take, getD, set, length-set}
-use lib.Seq.{take-suc, take-all, length-take-le}
-use Rattle.big_endian.specs.Placed.{placed}
-use Rattle.big_endian.proofs.Placed.{placed-none, store-on}
+use Rattle.wire.proofs.Parts.{put-copied}
+use borrow.Author.Needs.{needs}
 use Rattle.wire.proofs.line.put_part.Statement.{statement}
 use Rattle.wire.proofs.line.put_part.Tie as tie
 
-abbrev Inv-loop : tie.InvT-loop
-Inv-loop out₀ at part i₀ out i = (i ≤ length part) × (length out ≡ length out₀) × (out ≡ placed out₀ at (take i part))
+sub-copy : tie.Need-sub-copy
+sub-copy c = search needs
 
-abbrev μ-loop : tie.MeasureT-loop
-μ-loop out₀ at part i₀ out i = length part - i
+part-copy-start : tie.Need-part-copy-start
+part-copy-start c = search needs
 
-loop-holds : tie.Need-loop-holds Inv-loop μ-loop
-loop-holds c = (omega arith, refl, sym (placed-none _ _))
+part-copy-end : tie.Need-part-copy-end
+part-copy-end c = search needs
 
-shared-slice-read-out : tie.Need-shared-slice-read-out Inv-loop μ-loop
-shared-slice-read-out c = omega arith
+copy-requires : tie.Need-copy-requires
+copy-requires c κs = search needs
 
-add-out : tie.Need-add-out Inv-loop μ-loop
-add-out c = omega arith
+add-result : tie.Need-add-result
+add-result c = search needs
 
-slice-write-out : tie.Need-slice-write-out Inv-loop μ-loop
-slice-write-out c = omega arith
+same-length : tie.Need-same-length
+same-length c = search needs
 
-add-i : tie.Need-add-i Inv-loop μ-loop
-add-i c = omega arith
-
-loop-less : tie.Need-loop-less Inv-loop μ-loop
-loop-less c = omega arith
-
-loop-again : tie.Need-loop-again Inv-loop μ-loop
-loop-again c =
-    let a = c .before .before .before .args in
-    let at = c .before .before .loop in
-    let out = now (a .out) in
-    let part = now (a .part) in
-    let h : at .i < length part = c .before .loop-test .taken in
-    let more : take (at .i) part ++ (getD part (at .i) 0 ∷ []) ≡ take (at .i + 1) part = sym (rw add-one (take-suc part (at .i) 0 h)) in (
-      omega arith,
-      simp length-set (at .inv .1),
-      ap (λ (ys : List ℕ). set ys (a .at + at .i) (getD part (at .i) 0)) (at .inv .2)
-          ∙ store-on out (a .at) (at .i) (take (at .i) part) (getD part (at .i) 0) (length-take-le (at .i) part (omega arith)) (omega arith) ∙ ap (placed out (a .at)) more,
-    )
-
-add-result : tie.Need-add-result Inv-loop μ-loop
-add-result c = omega arith
-
-same-length : tie.Need-same-length Inv-loop μ-loop
-same-length c = omega arith
-
-returns : tie.Need-returns Inv-loop μ-loop
+returns : tie.Need-returns
 returns c =
-    let at = c .before .loop in
-    let part = now (c .before .before .args .part) in
-    record { ends = refl; filled = at .inv .2 ∙ ap (placed _ _) (take-all (at .i) part (c .loop-test .left)) }
+    let a = c .before .before .before .before .before .before .args in
+    let copies = c .before .before .copy in
+    record { ends = ap (λ (n : ℕ). a .at + n) (copies .ensures .0); filled = put-copied (now (a .out)) (now (a .part)) _ (a .at) (omega arith) (copies .ensures .1) }
 
 pub put-part-spec : {M : Type 1} → statement M
 put-part-spec =
-    tie.close
-    (tie.spec
-    Inv-loop
-    μ-loop
-    loop-holds
-    shared-slice-read-out
-    add-out
-    slice-write-out
-    add-i
-    loop-less
-    loop-again
-    add-result
-    same-length
-    returns)
+    tie.close (tie.spec sub-copy part-copy-start part-copy-end copy-requires add-result same-length returns)
