@@ -2,11 +2,15 @@
 // other implementations, and for replaying recorded requests in the gate. docs/PROBE.md has the form of
 // requests and answers byte by byte. A request that breaks it is answered as such.
 //
-// The program promises nothing of its own beyond being safe and ending; what it prints is compared. Each
-// operation is answered by one of the crates `probe_..`, which promise every byte of the answer.
+// What it puts into an answer is promised by an equation (specs/Answers.antt): the answer of the crate `probe_..` that
+// has the operation, which promises every byte. Of what is read and written no contract can say anything, so the rest is
+// proved safe and ending, and what it prints is compared.
 use libc::STDIN_FILENO;
 use libc::STDOUT_FILENO;
+ghost use mathlib.Core.Path.{_≡_};
 ghost use Prim.Native.Nat.{_≤_};
+ghost use Rattle.probe_answer.specs.Answers.{draft};
+ghost use Rattle.probe.specs.Answers.{answerOf};
 
 // What is wrong with a request that no operation answers.
 const NO_SUCH_OPERATION: u8 = 1;
@@ -46,13 +50,16 @@ fn write_malformed(reason: u8, out: &mut [u8]) -> bool {
 }
 
 // Puts the answer to a request into out, by the family that has the operation: how many bytes, 0 where the
-// arguments have not the length that it takes.
-fn put_answer(operation: u8, args: &[u8], out: &mut [u8]) -> usize {
+// arguments have not the length that it takes, or where there is no such operation.
+fn put_answer(operation: u8, args: &[u8], out: &mut [u8]) -> usize
+    ensures { λ r. ⌜ draft r (now (out .exit)) ≡ answerOf operation (now (args .entry)) (now (out .entry)) ⌝ }
+{
     match operation {
         1..=5 => probe_numbers::answer(operation, args, out),
         6..=8 => probe_bank::answer(operation, args, out),
-        9..=13 | 15 => probe_gains::answer(operation, args, out),
+        9..=13 => probe_gains::answer(operation, args, out),
         14 | 16 => probe_planes::answer(operation, args, out),
+        15 => probe_gains::answer(operation, args, out),
         17 | 18 => probe_hrtf::answer(operation, args, out),
         19 | 20 => probe_setup::answer(operation, args, out),
         _ => 0,

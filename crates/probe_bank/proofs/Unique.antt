@@ -3,7 +3,7 @@ use mathlib.Core.Path.{_≡_}
 use mathlib.Core.List.{List}
 use Prim.Native.Nat.{ℕ}
 use Rattle.refusals.proofs.Determined.{determined}
-use Rattle.probe_form.specs.Answers.{Draft}
+use Rattle.probe_answer.specs.Answers.{Draft}
 use Rattle.probe_bank.specs.Answers.{answerOf}
 
 answer-unique : (operation : ℕ) (args out : List ℕ) (a b : Draft) → a ≡ answerOf operation args out → b ≡ answerOf operation args out → a ≡ b

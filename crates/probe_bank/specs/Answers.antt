@@ -14,17 +14,11 @@ use Rattle.bank.specs.Reading.{ReadOutcome, readOutcome}
 use Rattle.bank.specs.Writing.{WriteOutcome, writeOutcome}
 use Rattle.row_choice.specs.declared.Choice.{Choice}
 use Rattle.row_choice.specs.Choice.{choiceOf}
-use Rattle.probe_form.specs.Requests.{lentBy, signedsAt, floatsAt}
-use Rattle.probe_form.specs.Answers.{Draft, start, none, taking, _then_}
+use Rattle.probe_request.specs.Requests.{lentBy, azimuthsLent, samplesLent, signedsAt, floatsAt}
+use Rattle.probe_answer.specs.Answers.{Draft, start, none, taking, _then_}
 use Rattle.probe_bank.specs.Fillings.{azimuthFilling, tapFilling, byteFilling, filledWith, countChanged}
 
--- "a: azimuths lent (1), t: taps lent (2)", then "s: taps to show (2)" or "b: bytes lent (2)"; "up to 16 azimuths, 8,200 taps .., 33,000 bytes .., and s counts as t where it is more."
-abbrev pub azimuthsLent : List ℕ → ℕ
-azimuthsLent args = lentBy args 0 1 16
-
-abbrev pub tapsLent : List ℕ → ℕ
-tapsLent args = lentBy args 1 2 8200
-
+-- "s: taps to show (2)", "and s counts as t where it is more"; "b: bytes lent (2)", "up to [..] 33,000 bytes"
 abbrev pub tapsShown : List ℕ → ℕ → ℕ
 tapsShown args t = lentBy args 3 2 t
 
@@ -50,7 +44,7 @@ unfoldable pub readInto : List ℕ → ℕ → ℕ → List ℕ → Draft
 readInto args a t out = readParts (readOutcome (drop 5 args) (filledWith azimuthFilling a) (filledWith tapFilling t)) (tapsShown args t) out
 
 unfoldable pub readAnswer : List ℕ → List ℕ → Draft
-readAnswer args out = cond (leb 5 (length args)) (readInto args (azimuthsLent args) (tapsLent args) out) (none out)
+readAnswer args out = cond (leb 5 (length args)) (readInto args (azimuthsLent args 0) (samplesLent args 1) out) (none out)
 
 -- ---- 7 bank write
 
@@ -70,7 +64,7 @@ unfoldable pub writeInto : List ℕ → ℕ → ℕ → ℕ → List ℕ → Dra
 writeInto args a t b out = taking (13 + 2 * a + 4 * t) args out (writeFrom (bankAt args a t) b out)
 
 abbrev pub writeAnswer : List ℕ → List ℕ → Draft
-writeAnswer args out = writeInto args (azimuthsLent args) (tapsLent args) (bytesLent args) out
+writeAnswer args out = writeInto args (azimuthsLent args 0) (samplesLent args 1) (bytesLent args) out
 
 -- ---- 8 row choice
 
@@ -83,7 +77,7 @@ unfoldable pub chooseFrom : List ℕ → ℕ → List ℕ → Draft
 chooseFrom args a out = taking (11 + 2 * a) args out (choiceParts (choiceOf (signedsAt args 11 a) (fieldAt args 1 8) (signedAt args 9)) out)
 
 abbrev pub chooseAnswer : List ℕ → List ℕ → Draft
-chooseAnswer args out = chooseFrom args (azimuthsLent args) out
+chooseAnswer args out = chooseFrom args (azimuthsLent args 0) out
 
 -- ---- every operation of the family
 

@@ -5,7 +5,7 @@ use mathlib.Core.List.{List, [], _∷_}
 use lib.Ieee.{Float, binary32, ofInt, ne}
 use lib.IntN.{ℤ, pos}
 use lib.ListN.{drop}
-use Rattle.planes.specs.Tables.{tab}
+use Rattle.checks.specs.Tables.{tab}
 
 -- "Before the call a bank's lists are filled, entry i with 1000 + i and byte i with the last byte of 7 i + 3"
 abbrev pub azimuthFilling : ℕ → ℤ

@@ -1,15 +1,14 @@
 // What `probe` answers to requests for the filter bank file and for row choice (docs/PROBE.md, operations 6 to 8). Test
 // code, and promised by equations all the same: how many bytes are answered, and that they are the refusal, the counts
 // and the lists that `bank` and `row_choice` promise for what stands in the request, one behind the other. Under it lie
-// these two, `probe_form`, which reads requests and puts answers, and the smaller of two counts of `planes`.
+// these two, `probe_request`, `probe_answer` and `big_endian`, and `checks` in proofs alone.
 use bank::BankRead;
-use probe_form::MOST_AZIMUTHS;
-use probe_form::MOST_SAMPLES;
+use probe_request::MOST_AZIMUTHS;
+use probe_request::MOST_SAMPLES;
 ghost use mathlib.Core.Path.{_≡_};
 ghost use Prim.Native.Nat.{_≤_};
 ghost use lib.ListN.{length};
-ghost use Rattle.probe_form.specs.Requests.{lentBy};
-ghost use Rattle.probe_form.specs.Answers.{draft};
+ghost use Rattle.probe_answer.specs.Answers.{draft};
 ghost use Rattle.probe_bank.specs.Answers.{counts, thenLists, readParts, readInto, readAnswer, writeFrom, writeInto, writeAnswer, chooseFrom, chooseAnswer, answerOf};
 
 mod fillings;
@@ -17,19 +16,12 @@ mod fillings;
 // Room for a file: more than the largest has.
 const MOST_BYTES: usize = 33000;
 
-// How many places of a list are lent: as many as a field of the arguments says, and no more than there are.
-fn lent(args: &[u8], at: usize, count: usize, most: usize) -> usize
-    ensures { λ r. ⌜ r ≡ lentBy (now (args .entry)) at count most ⌝ }
-{
-    planes::least(probe_form::number(args, at, count), most)
-}
-
 // Puts what every answer begins with: a refusal and a count.
 fn put_counts(refusal: u8, n: usize, out: &mut [u8]) -> usize
     ensures { λ r. ⌜ draft r (now (out .exit)) ≡ counts refusal n (now (out .entry)) ⌝ }
 {
-    let a = probe_form::put(refusal as u64, 1, out, 0);
-    probe_form::put(n as u64, 4, out, a)
+    let a = probe_answer::put(refusal as u64, 1, out, 0);
+    probe_answer::put(n as u64, 4, out, a)
 }
 
 // Puts what the lists hold: how many taps from one on have changed, the azimuths, and the taps before that one.
@@ -37,9 +29,9 @@ fn put_lists(azimuths: &[i16], taps: &[f32], shown: usize, out: &mut [u8], at: u
     requires { ⌜ (shown ≤ length (now taps)) × (length (now taps) ≤ 8200) ⌝ }
     ensures { λ r. ⌜ draft r (now (out .exit)) ≡ thenLists (draft at (now (out .entry))) shown (now (azimuths .entry)) (now (taps .entry)) ⌝ }
 {
-    let a = probe_form::put(fillings::count_changed(taps, shown), 2, out, at);
-    let b = probe_form::put_i16s(azimuths, out, a);
-    probe_form::put_f32s(&taps[..shown], out, b)
+    let a = probe_answer::put(fillings::count_changed(taps, shown), 2, out, at);
+    let b = probe_answer::put_i16s(azimuths, out, a);
+    probe_answer::put_f32s(&taps[..shown], out, b)
 }
 
 // Puts what reading answered, and what the lists hold after it.
@@ -48,7 +40,7 @@ fn put_read(r: BankRead, azimuths: &[i16], taps: &[f32], shown: usize, out: &mut
     ensures { λ n. ⌜ draft n (now (out .exit)) ≡ readParts (record { answer = r; azimuths = now (azimuths .entry); taps = now (taps .entry) }) shown (now (out .entry)) ⌝ }
 {
     let a = put_counts(r.refusal, r.rows, out);
-    let b = probe_form::put(r.length as u64, 4, out, a);
+    let b = probe_answer::put(r.length as u64, 4, out, a);
     put_lists(azimuths, taps, shown, out, b)
 }
 
@@ -60,7 +52,7 @@ fn read_into(args: &[u8], azimuths: &mut [i16], taps: &mut [f32], out: &mut [u8]
     fillings::fill_i16s(azimuths);
     fillings::fill_f32s(taps);
     let r = bank::read(&args[5..], azimuths, taps);
-    let shown = lent(args, 3, 2, taps.len());
+    let shown = probe_request::lent(args, 3, 2, taps.len());
     put_read(r, azimuths, taps, shown, out)
 }
 
@@ -73,8 +65,8 @@ fn read(args: &[u8], out: &mut [u8]) -> usize
     }
     let mut azimuths = [0i16; MOST_AZIMUTHS];
     let mut taps = [0.0f32; MOST_SAMPLES];
-    let a = lent(args, 0, 1, MOST_AZIMUTHS);
-    let t = lent(args, 1, 2, MOST_SAMPLES);
+    let a = probe_request::lent(args, 0, 1, MOST_AZIMUTHS);
+    let t = probe_request::lent(args, 1, 2, MOST_SAMPLES);
     read_into(args, &mut azimuths[..a], &mut taps[..t], out)
 }
 
@@ -86,7 +78,7 @@ fn write_from(azimuths: &[i16], l: usize, taps: &[f32], file: &mut [u8], out: &m
     fillings::fill_bytes(file);
     let r = bank::write(azimuths, l, taps, file);
     let a = put_counts(r.refusal, r.bytes, out);
-    probe_form::put_bytes(file, out, a)
+    probe_answer::put_bytes(file, out, a)
 }
 
 // The azimuths and the taps of the bank stand in the arguments behind the three lengths and L.
@@ -104,9 +96,9 @@ fn write_into(
     if args.len() != behind + 4 * taps.len() {
         return 0;
     }
-    probe_form::get_i16s(args, 13, azimuths);
-    probe_form::get_f32s(args, behind, taps);
-    write_from(azimuths, probe_form::number(args, 5, 8), taps, file, out)
+    probe_request::get_i16s(args, 13, azimuths);
+    probe_request::get_f32s(args, behind, taps);
+    write_from(azimuths, probe_request::number(args, 5, 8), taps, file, out)
 }
 
 fn write(args: &[u8], out: &mut [u8]) -> usize
@@ -115,9 +107,9 @@ fn write(args: &[u8], out: &mut [u8]) -> usize
     let mut azimuths = [0i16; MOST_AZIMUTHS];
     let mut taps = [0.0f32; MOST_SAMPLES];
     let mut file = [0u8; MOST_BYTES];
-    let a = lent(args, 0, 1, MOST_AZIMUTHS);
-    let t = lent(args, 1, 2, MOST_SAMPLES);
-    let b = lent(args, 3, 2, MOST_BYTES);
+    let a = probe_request::lent(args, 0, 1, MOST_AZIMUTHS);
+    let t = probe_request::lent(args, 1, 2, MOST_SAMPLES);
+    let b = probe_request::lent(args, 3, 2, MOST_BYTES);
     write_into(
         args,
         &mut azimuths[..a],
@@ -135,8 +127,8 @@ fn choose_from(args: &[u8], azimuths: &mut [i16], out: &mut [u8]) -> usize
     if args.len() != 11 + 2 * azimuths.len() {
         return 0;
     }
-    probe_form::get_i16s(args, 11, azimuths);
-    let rows = probe_form::number(args, 1, 8);
+    probe_request::get_i16s(args, 11, azimuths);
+    let rows = probe_request::number(args, 1, 8);
     let r = row_choice::nearest_row(azimuths, rows, big_endian::get_i16(args, 9));
     put_counts(r.refusal, r.row, out)
 }
@@ -145,7 +137,7 @@ fn choose(args: &[u8], out: &mut [u8]) -> usize
     ensures { λ r. ⌜ draft r (now (out .exit)) ≡ chooseAnswer (now (args .entry)) (now (out .entry)) ⌝ }
 {
     let mut azimuths = [0i16; MOST_AZIMUTHS];
-    let a = lent(args, 0, 1, MOST_AZIMUTHS);
+    let a = probe_request::lent(args, 0, 1, MOST_AZIMUTHS);
     choose_from(args, &mut azimuths[..a], out)
 }
 

@@ -1,9 +1,9 @@
 -- A block: what is lent, what is read, what is played, and what is put, each from the one before. Assumes nothing.
 use mathlib.Core.Path.{_≡_, ap, _∙_}
 use mathlib.Core.List.{List}
-use Prim.Native.Nat.{ℕ, min}
+use Prim.Native.Nat.{ℕ}
 use native.Mathlib.Omega.{arith}
-use lib.ListN.{length, take}
+use lib.ListN.{length}
 use lib.Ieee.{Float}
 use Rattle.big_endian.specs.Fields.{fieldAt, floatAt, doubleAt}
 use Rattle.big_endian.specs.Lists.{floatBytes}
@@ -11,12 +11,12 @@ use Rattle.desk.specs.declared.Desk.{Desk}
 use Rattle.hrtf_checks.specs.declared.Shape.{Shape}
 use Rattle.hrtf.specs.declared.Processed.{Processed}
 use Rattle.hrtf.specs.Promise.{Outcome, outcome}
-use Rattle.probe_form.specs.Requests.{eightAt, listAt}
-use Rattle.probe_form.specs.Answers.{Draft, start, none, _then_}
-use Rattle.probe_form.proofs.Answers.{taken, untaken, behind}
-use Rattle.probe_form.proofs.Requests.{inside, lent}
-use Rattle.probe_hrtf.specs.Requests.{deskAt, shapeAt, Lent, lentOf, lengths, weightsFrom, tapsFrom, ringsFrom, earsFrom, blockEnd, callOf, stateOf, callAt, stateAt}
-use Rattle.probe_hrtf.specs.Answers.{thenCounts, blockShown, blockBy}
+use Rattle.probe_request.specs.Requests.{eightAt, samplesLent, weightsLent, cellsLent, listAt}
+use Rattle.probe_answer.specs.Answers.{Draft, start, none, _then_}
+use Rattle.probe_answer.proofs.Answers.{taken, untaken, behind}
+use Rattle.probe_request.proofs.Requests.{inside}
+use Rattle.probe_hrtf.specs.Requests.{deskAt, shapeAt, Lent, lengths, weightsFrom, tapsFrom, ringsFrom, earsFrom, blockEnd, callOf, stateOf, callAt, stateAt}
+use Rattle.probe_hrtf.specs.Answers.{thenCounts, blockShown, blockBy, blockAnswer}
 
 module _ (args out : List ℕ) (inputs weights taps rings ears : List Float) where
   -- ---- the call and what is put of it
@@ -63,16 +63,6 @@ module _ (args out : List ℕ) (inputs weights taps rings ears : List Float) whe
     unfolding blockBy
     lists-read d e = e ∙ ap (λ (o : Outcome). blockShown o out) standing ∙ taken (blockEnd n) args out _ full
 
-  module _ (i i₀ : ℕ) (ei : i ≡ min i₀ (length inputs)) (ai : i₀ ≡ fieldAt args 0 2) (w w₀ : ℕ) (ew : w ≡ min w₀ (length weights)) (aw : w₀ ≡ fieldAt args 2 2) (t t₀ : ℕ) (et : t ≡ min t₀ (length taps)) (at : t₀ ≡ fieldAt args 4 2)
-      (r r₀ : ℕ) (er : r ≡ min r₀ (length rings)) (ar : r₀ ≡ fieldAt args 6 2) (e e₀ : ℕ) (ee : e ≡ min e₀ (length ears)) (ae : e₀ ≡ fieldAt args 8 2) where
-    as-asked : lengths (take i inputs) (take w weights) (take t taps) (take r rings) (take e ears) ≡ lentOf args n
-    as-asked =
-        let is = lent i₀ i (fieldAt args 0 2) inputs ei ai in
-        let ws = lent w₀ w (fieldAt args 2 2) weights ew aw in
-        let ts = lent t₀ t (fieldAt args 4 2) taps et at in
-        let rs = lent r₀ r (fieldAt args 6 2) rings er ar in
-        let es = lent e₀ e (fieldAt args 8 2) ears ee ae in
-        λ k. record { inputs = is k; weights = ws k; taps = ts k; rings = rs k; ears = es k }
-
-    pub lists-lent : (d : Draft) → d ≡ blockBy (lengths (take i inputs) (take w weights) (take t taps) (take r rings) (take e ears)) args out → d ≡ blockBy (lentOf args n) args out
-    lists-lent d e = e ∙ ap (λ (m : Lent). blockBy m args out) as-asked
+pub lists-lent : (args out : List ℕ) (d : Draft) (i w t r e : ℕ) → i ≡ samplesLent args 0 → w ≡ weightsLent args 2 → t ≡ samplesLent args 4 → r ≡ cellsLent args 6 → e ≡ samplesLent args 8
+    → d ≡ blockBy (record { inputs = i; weights = w; taps = t; rings = r; ears = e }) args out → d ≡ blockAnswer args out
+lists-lent args out d i w t r e is ws ts rs es p = p ∙ (λ k. blockBy (record { inputs = is k; weights = ws k; taps = ts k; rings = rs k; ears = es k }) args out)

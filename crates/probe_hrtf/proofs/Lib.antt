@@ -1,7 +1,4 @@
--- How much is lent, how an outcome is put, from there to what the two operations answer, and that no two answers meet one promise.
-mod Lending
-mod Putting
+-- From what is lent and read, through what is played or reset, to what the two operations answer; and that no two answers meet one promise.
 mod Blocks
 mod Resets
-mod Answering
 mod Unique

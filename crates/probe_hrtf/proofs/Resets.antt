@@ -1,9 +1,9 @@
 -- A reset: what is lent, what is read, and what is put, each from the one before. Assumes nothing.
 use mathlib.Core.Path.{_≡_, ap, _∙_}
 use mathlib.Core.List.{List}
-use Prim.Native.Nat.{ℕ, _+_, _*_, min}
+use Prim.Native.Nat.{ℕ, _+_, _*_}
 use native.Mathlib.Omega.{arith}
-use lib.ListN.{length, take}
+use lib.ListN.{length}
 use lib.Ieee.{Float}
 use Rattle.big_endian.specs.Bytes.{bytesOf}
 use Rattle.big_endian.specs.Fields.{fieldAt, floatAt}
@@ -11,13 +11,12 @@ use Rattle.big_endian.specs.Lists.{floatBytes}
 use Rattle.desk.specs.declared.Desk.{Desk}
 use Rattle.hrtf.specs.declared.Rested.{Rested}
 use Rattle.hrtf.specs.Reset.{AfterReset, resetOutcome}
-use Rattle.probe_form.specs.Requests.{floatsAt, listAt}
-use Rattle.probe_form.specs.Answers.{Draft, start, none, _then_}
-use Rattle.probe_form.proofs.Answers.{taken, untaken, behind}
-use Rattle.probe_form.proofs.Requests.{inside, lent}
+use Rattle.probe_request.specs.Requests.{floatsAt, cellsLent, listAt}
+use Rattle.probe_answer.specs.Answers.{Draft, start, none, _then_}
+use Rattle.probe_answer.proofs.Answers.{untaken, answered, parts-behind, behind}
+use Rattle.probe_request.proofs.Requests.{inside}
 use Rattle.probe_hrtf.specs.Requests.{deskAt}
-use Rattle.probe_hrtf.specs.Answers.{thenDesk, resetShown, resetBy}
-use Rattle.probe_hrtf.proofs.Putting.{desk-behind}
+use Rattle.probe_hrtf.specs.Answers.{thenDesk, resetShown, resetBy, resetAnswer}
 
 module _ (args out : List ℕ) (rings : List Float) where
   pub left : (length args ≡ 34 + 4 * length rings → ⊥) → none out ≡ resetBy (length rings) args out
@@ -35,10 +34,8 @@ module _ (args out : List ℕ) (rings : List Float) where
     pub rested : (a b c : Draft) → a ≡ start out then bytesOf 1 (p .refusal) → b ≡ thenDesk a (p .desk) → c ≡ b then floatBytes rings₂ → c ≡ resetBy (length rings) args out
     unfolding resetShown resetBy
     rested a b c refusal desk cells =
-        behind (floatBytes rings₂) (desk-behind _ a b (p .desk) refusal desk) cells
-        ∙ ap (λ (o : AfterReset). resetShown o out) asked
-        ∙ taken (34 + 4 * length rings) args out _ full
+        answered (λ (o : AfterReset). resetShown o out) (34 + 4 * length rings) args out full asked
+        (behind (floatBytes rings₂) (parts-behind (λ (x : Draft). thenDesk x (p .desk)) refusal desk) cells)
 
-  pub cells-lent : (r r₀ : ℕ) → r ≡ min r₀ (length rings) → r₀ ≡ fieldAt args 0 2 → (d : Draft) → d ≡ resetBy (length (take r rings)) args out
-      → d ≡ resetBy (min (fieldAt args 0 2) (length rings)) args out
-  cells-lent r r₀ er ar d e = e ∙ ap (λ (k : ℕ). resetBy k args out) (lent r₀ r (fieldAt args 0 2) rings er ar)
+pub cells-lent : (args out : List ℕ) (d : Draft) (r : ℕ) → r ≡ cellsLent args 0 → d ≡ resetBy r args out → d ≡ resetAnswer args out
+cells-lent args out d r e p = p ∙ ap (λ (k : ℕ). resetBy k args out) e

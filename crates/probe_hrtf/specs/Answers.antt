@@ -10,9 +10,9 @@ use Rattle.desk.specs.declared.Desk.{Desk}
 use Rattle.hrtf.specs.declared.Processed.{Processed}
 use Rattle.hrtf.specs.Promise.{Outcome, outcome}
 use Rattle.hrtf.specs.Reset.{AfterReset, resetOutcome}
-use Rattle.probe_form.specs.Requests.{lentBy, floatsAt}
-use Rattle.probe_form.specs.Answers.{Draft, start, none, taking, _then_}
-use Rattle.probe_hrtf.specs.Requests.{deskAt, Lent, most, lentOf, blockEnd, callAt, stateAt}
+use Rattle.probe_request.specs.Requests.{cellsLent, floatsAt}
+use Rattle.probe_answer.specs.Answers.{Draft, start, none, taking, _then_}
+use Rattle.probe_hrtf.specs.Requests.{deskAt, Lent, lentOf, blockEnd, callAt, stateAt}
 
 -- "ring position, frames-to-go (8 each)"
 abbrev pub thenDesk : Draft → Desk → Draft
@@ -34,7 +34,7 @@ blockBy n args out = taking (blockEnd n) args out (blockShown (outcome (callAt a
 
 -- "Lists are lent at the lengths that the request says"
 abbrev pub blockAnswer : List ℕ → List ℕ → Draft
-blockAnswer args out = blockBy (lentOf args most) args out
+blockAnswer args out = blockBy (lentOf args) args out
 
 -- ---- 18 convolver reset
 
@@ -49,7 +49,7 @@ resetBy r args out =
 
 -- "r: ring cells lent (2)"
 abbrev pub resetAnswer : List ℕ → List ℕ → Draft
-resetAnswer args out = resetBy (lentBy args 0 2 (most .rings)) args out
+resetAnswer args out = resetBy (cellsLent args 0) args out
 
 -- ---- "17 convolver block", "18 convolver reset"; any other is not of this family
 

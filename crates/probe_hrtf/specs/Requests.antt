@@ -8,7 +8,7 @@ use Rattle.desk.specs.declared.Desk.{Desk}
 use Rattle.rings.specs.Steps.{State}
 use Rattle.hrtf_checks.specs.declared.Shape.{Shape}
 use Rattle.hrtf_checks.specs.Call.{Call}
-use Rattle.probe_form.specs.Requests.{eightAt, lentBy, floatsAt, doublesAt}
+use Rattle.probe_request.specs.Requests.{eightAt, samplesLent, weightsLent, cellsLent, floatsAt, doublesAt}
 
 -- "ring position, frames-to-go .. (8 each)"
 abbrev pub deskAt : List ℕ → ℕ → Desk
@@ -27,26 +27,18 @@ pub record Lent : Type 0 where
   pub rings : ℕ
   pub ears : ℕ
 
--- "8,200 taps or samples, .. 300 weights and 4,100 ring cells"
-abbrev pub most : Lent
-most = record { inputs = 8200; weights = 300; taps = 8200; rings = 4100; ears = 8200 }
-
 -- "i, w, t, r, e: input samples, weights, taps, ring cells and ear samples lent (2 each)"
-abbrev pub lentOf : List ℕ → Lent → Lent
-lentOf args room =
-    record {
-      inputs = lentBy args 0 2 (room .inputs);
-      weights = lentBy args 2 2 (room .weights);
-      taps = lentBy args 4 2 (room .taps);
-      rings = lentBy args 6 2 (room .rings);
-      ears = lentBy args 8 2 (room .ears);
-    }
+abbrev pub lentOf : List ℕ → Lent
+lentOf args = record { inputs = samplesLent args 0; weights = weightsLent args 2; taps = samplesLent args 4; rings = cellsLent args 6; ears = samplesLent args 8 }
 
 -- the lengths of five lists
 abbrev pub lengths : List Float → List Float → List Float → List Float → List Float → Lent
 lengths inputs weights taps rings ears = record { inputs = length inputs; weights = length weights; taps = length taps; rings = length rings; ears = length ears }
 
--- so that the sum of all lengths fits
+-- "8,200 taps or samples, [..] 300 weights and 4,100 ring cells", so that the sum of all lengths fits
+abbrev pub most : Lent
+most = record { inputs = 8200; weights = 300; taps = 8200; rings = 4100; ears = 8200 }
+
 pub record Few (n : Lent) : Type 0 where
   pub inputs : n .inputs ≤ most .inputs
   pub weights : n .weights ≤ most .weights

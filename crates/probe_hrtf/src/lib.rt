@@ -4,20 +4,19 @@
 // are is what `hrtf` promises for the desk, the counts and the lists that stand in the arguments, one part behind the
 // other. There are 0 bytes, and the lent ones are as they were, for any other operation and for arguments that have
 // another length than the operation takes. `answer` takes any input. Under it lie `hrtf` with its `hrtf_checks` and
-// `desk`, `planes` and `probe_form`.
+// `desk`, `probe_request` and `probe_answer`.
 use desk::Desk;
 use hrtf::Processed;
 use hrtf_checks::Shape;
-use probe_form::MOST_CELLS;
-use probe_form::MOST_SAMPLES;
-use probe_form::MOST_WEIGHTS;
+use probe_request::MOST_CELLS;
+use probe_request::MOST_SAMPLES;
+use probe_request::MOST_WEIGHTS;
 ghost use mathlib.Core.Path.{_≡_};
-ghost use Prim.Native.Nat.{_≤_, min};
+ghost use Prim.Native.Nat.{_≤_};
 ghost use lib.ListN.{length};
-ghost use Rattle.big_endian.specs.Fields.{fieldAt};
 ghost use Rattle.hrtf.specs.Promise.{outcome};
-ghost use Rattle.probe_form.specs.Answers.{draft};
-ghost use Rattle.probe_hrtf.specs.Requests.{deskAt, shapeAt, most, lentOf, lengths, Few, callOf, stateOf};
+ghost use Rattle.probe_answer.specs.Answers.{draft};
+ghost use Rattle.probe_hrtf.specs.Requests.{deskAt, shapeAt, most, lengths, Few, callOf, stateOf};
 ghost use Rattle.probe_hrtf.specs.Answers.{thenDesk, thenCounts, blockShown, blockBy, blockAnswer, resetBy, resetAnswer, answerOf};
 
 // Where the lists begin in a request for a block: behind five lengths, the desk, the four counts of the shape,
@@ -33,8 +32,8 @@ fn desk(args: &[u8], at: usize) -> Desk
     ensures { λ r. ⌜ r ≡ deskAt (now (args .entry)) at ⌝ }
 {
     Desk {
-        position: probe_form::number(args, at, 8),
-        to_go: probe_form::number(args, at + 8, 8),
+        position: probe_request::number(args, at, 8),
+        to_go: probe_request::number(args, at + 8, 8),
     }
 }
 
@@ -43,26 +42,26 @@ fn shape(args: &[u8]) -> Shape
     ensures { λ r. ⌜ r ≡ shapeAt (now (args .entry)) ⌝ }
 {
     Shape {
-        channels: probe_form::number(args, 26, 8),
-        speakers: probe_form::number(args, 34, 8),
-        rows: probe_form::number(args, 42, 8),
-        length: probe_form::number(args, 50, 8),
+        channels: probe_request::number(args, 26, 8),
+        speakers: probe_request::number(args, 34, 8),
+        rows: probe_request::number(args, 42, 8),
+        length: probe_request::number(args, 50, 8),
     }
 }
 
 fn put_desk(desk: Desk, out: &mut [u8], at: usize) -> usize
     ensures { λ r. ⌜ draft r (now (out .exit)) ≡ thenDesk (draft at (now (out .entry))) desk ⌝ }
 {
-    let after_position = probe_form::put(desk.position as u64, 8, out, at);
-    probe_form::put(desk.to_go as u64, 8, out, after_position)
+    let after_position = probe_answer::put(desk.position as u64, 8, out, at);
+    probe_answer::put(desk.to_go as u64, 8, out, after_position)
 }
 
 fn put_counts(played: Processed, out: &mut [u8]) -> usize
     ensures { λ r. ⌜ draft r (now (out .exit)) ≡ thenCounts (draft 0 (now (out .entry))) played ⌝ }
 {
-    let after_refusal = probe_form::put(played.refusal as u64, 1, out, 0);
-    let after_samples = probe_form::put(played.samples as u64, 8, out, after_refusal);
-    let after_unsettled = probe_form::put(played.unsettled as u64, 8, out, after_samples);
+    let after_refusal = probe_answer::put(played.refusal as u64, 1, out, 0);
+    let after_samples = probe_answer::put(played.samples as u64, 8, out, after_refusal);
+    let after_unsettled = probe_answer::put(played.unsettled as u64, 8, out, after_samples);
     let left = played.desk;
     put_desk(left, out, after_unsettled)
 }
@@ -81,12 +80,12 @@ fn play(
         (outcome (callOf (now (args .entry)) (now (inputs .entry)) (now (weights .entry)) (now (taps .entry)) (now (ears .entry))) (stateOf (now (args .entry)) (now (rings .entry))))
         (now (out .entry)) ⌝ }
 {
-    let row_of = probe_form::eight(args, 74);
+    let row_of = probe_request::eight(args, 74);
     let played = hrtf::process(
         desk(args, 10),
         shape(args),
-        probe_form::number(args, 58, 8),
-        probe_form::number(args, 66, 8),
+        probe_request::number(args, 58, 8),
+        probe_request::number(args, 66, 8),
         inputs,
         weights,
         &row_of,
@@ -95,8 +94,8 @@ fn play(
         ears,
     );
     let after_counts = put_counts(played, out);
-    let after_rings = probe_form::put_f32s(rings, out, after_counts);
-    probe_form::put_f32s(ears, out, after_rings)
+    let after_rings = probe_answer::put_f32s(rings, out, after_counts);
+    probe_answer::put_f32s(ears, out, after_rings)
 }
 
 // Reads the lists where the arguments have the length of them all, whatever they held.
@@ -119,44 +118,15 @@ fn process_lent(
     if args.len() != at_ears + 4 * ears.len() {
         return 0;
     }
-    probe_form::get_f32s(args, LISTS, inputs);
-    probe_form::get_f64s(args, at_weights, weights);
-    probe_form::get_f32s(args, at_taps, taps);
-    probe_form::get_f32s(args, at_rings, rings);
-    probe_form::get_f32s(args, at_ears, ears);
+    probe_request::get_f32s(args, LISTS, inputs);
+    probe_request::get_f64s(args, at_weights, weights);
+    probe_request::get_f32s(args, at_taps, taps);
+    probe_request::get_f32s(args, at_rings, rings);
+    probe_request::get_f32s(args, at_ears, ears);
     play(args, inputs, weights, taps, rings, ears, out)
 }
 
-// Lends as much of the room as the arguments say first.
-fn process_in(
-    args: &[u8],
-    inputs: &mut [f32],
-    weights: &mut [f64],
-    taps: &mut [f32],
-    rings: &mut [f32],
-    ears: &mut [f32],
-    out: &mut [u8],
-) -> usize
-    requires { ⌜ Few (lengths (now inputs) (now weights) (now taps) (now rings) (now ears)) ⌝ }
-    ensures { λ r. ⌜ draft r (now (out .exit)) ≡ blockBy (lentOf (now (args .entry)) (lengths (now (inputs .entry)) (now (weights .entry)) (now (taps .entry)) (now (rings .entry)) (now (ears .entry)))) (now (args .entry)) (now (out .entry)) ⌝ }
-{
-    let i = planes::least(probe_form::number(args, 0, 2), inputs.len());
-    let w = planes::least(probe_form::number(args, 2, 2), weights.len());
-    let t = planes::least(probe_form::number(args, 4, 2), taps.len());
-    let r = planes::least(probe_form::number(args, 6, 2), rings.len());
-    let e = planes::least(probe_form::number(args, 8, 2), ears.len());
-    process_lent(
-        args,
-        &mut inputs[..i],
-        &mut weights[..w],
-        &mut taps[..t],
-        &mut rings[..r],
-        &mut ears[..e],
-        out,
-    )
-}
-
-// Plays a block: the lengths of inputs, weights, taps, rings and ears, then the numbers, then the five lists.
+// Lends as much of each list as the arguments say first, behind which stand the numbers, and then the five lists.
 fn process(args: &[u8], out: &mut [u8]) -> usize
     ensures { λ r. ⌜ draft r (now (out .exit)) ≡ blockAnswer (now (args .entry)) (now (out .entry)) ⌝ }
 {
@@ -165,13 +135,18 @@ fn process(args: &[u8], out: &mut [u8]) -> usize
     let mut taps = [0.0f32; MOST_SAMPLES];
     let mut rings = [0.0f32; MOST_CELLS];
     let mut ears = [0.0f32; MOST_SAMPLES];
-    process_in(
+    let i = probe_request::lent(args, 0, 2, MOST_SAMPLES);
+    let w = probe_request::lent(args, 2, 2, MOST_WEIGHTS);
+    let t = probe_request::lent(args, 4, 2, MOST_SAMPLES);
+    let r = probe_request::lent(args, 6, 2, MOST_CELLS);
+    let e = probe_request::lent(args, 8, 2, MOST_SAMPLES);
+    process_lent(
         args,
-        &mut inputs,
-        &mut weights,
-        &mut taps,
-        &mut rings,
-        &mut ears,
+        &mut inputs[..i],
+        &mut weights[..w],
+        &mut taps[..t],
+        &mut rings[..r],
+        &mut ears[..e],
         out,
     )
 }
@@ -184,33 +159,26 @@ fn reset_lent(args: &[u8], rings: &mut [f32], out: &mut [u8]) -> usize
     if args.len() != CELLS + 4 * rings.len() {
         return 0;
     }
-    probe_form::get_f32s(args, CELLS, rings);
+    probe_request::get_f32s(args, CELLS, rings);
     let rested = hrtf::reset(
         desk(args, 2),
-        probe_form::number(args, 18, 8),
-        probe_form::number(args, 26, 8),
+        probe_request::number(args, 18, 8),
+        probe_request::number(args, 26, 8),
         rings,
     );
-    let after_refusal = probe_form::put(rested.refusal as u64, 1, out, 0);
+    let after_refusal = probe_answer::put(rested.refusal as u64, 1, out, 0);
     let left = rested.desk;
     let after_desk = put_desk(left, out, after_refusal);
-    probe_form::put_f32s(rings, out, after_desk)
+    probe_answer::put_f32s(rings, out, after_desk)
 }
 
-fn reset_in(args: &[u8], rings: &mut [f32], out: &mut [u8]) -> usize
-    requires { ⌜ length (now rings) ≤ most .rings ⌝ }
-    ensures { λ r. ⌜ draft r (now (out .exit)) ≡ resetBy (min (fieldAt (now (args .entry)) 0 2) (length (now (rings .entry)))) (now (args .entry)) (now (out .entry)) ⌝ }
-{
-    let r = planes::least(probe_form::number(args, 0, 2), rings.len());
-    reset_lent(args, &mut rings[..r], out)
-}
-
-// Resets the rings that stand in the arguments after their length, the desk, the speakers and L.
+// Lends as many cells as the arguments say first, behind which stand the desk, the speakers and L.
 fn reset(args: &[u8], out: &mut [u8]) -> usize
     ensures { λ r. ⌜ draft r (now (out .exit)) ≡ resetAnswer (now (args .entry)) (now (out .entry)) ⌝ }
 {
     let mut rings = [0.0f32; MOST_CELLS];
-    reset_in(args, &mut rings, out)
+    let r = probe_request::lent(args, 0, 2, MOST_CELLS);
+    reset_lent(args, &mut rings[..r], out)
 }
 
 // Puts the answer to a request into out, and says how many bytes it has: 0 where the operation is not one of these

@@ -8,11 +8,11 @@ use lib.ListN.{length}
 use Rattle.big_endian.specs.Fields.{fieldAt, floatAt, doubleAt}
 use Rattle.ambisonic_decoder.specs.declared.Decoded.{Decoded}
 use Rattle.ambisonic_decoder.specs.Promise.{Block, block}
-use Rattle.probe_form.specs.Requests.{listAt}
-use Rattle.probe_form.specs.Answers.{Draft, none}
-use Rattle.probe_form.proofs.Answers.{taken, untaken}
-use Rattle.probe_form.proofs.Requests.{inside}
-use Rattle.probe_planes.specs.Answers.{weightsLent, samplesLent, played, decodedAnswer, decodeLent, decodeAnswer}
+use Rattle.probe_request.specs.Requests.{samplesLent, weightsLent, listAt}
+use Rattle.probe_answer.specs.Answers.{Draft, none}
+use Rattle.probe_answer.proofs.Answers.{taken, untaken}
+use Rattle.probe_request.proofs.Requests.{inside}
+use Rattle.probe_planes.specs.Answers.{played, decodedAnswer, decodeLent, decodeAnswer}
 
 module _ (args out : List ℕ) where
   pub decode-plays : (weights inputs planes weighed before after last : List Float) (outputs channels frames stride : ℕ) (r : Decoded) (d : Draft)
@@ -29,17 +29,16 @@ module _ (args out : List ℕ) where
       q ∙ ap (λ (b : Block). played (b .answer .refusal) (b .answer .samples) (b .out) out)
       (p ∙ (λ j. block (w j) (record { outputs = eo j; channels = ec j; frames = ef j; stride = es j }) (i j) (o j)))
 
-  module _ (w i o : ℕ) (first : w ≡ weightsLent args 0) (second : i ≡ samplesLent args 2) (third : o ≡ samplesLent args 4) where
-    pub decode-none : (length args ≡ 38 + 8 * w + 4 * i + 4 * o → ⊥) → none out ≡ decodeAnswer args out
-    unfolding decodeAnswer
-    decode-none h = untaken _ args out (decodedAnswer args w i o out) h ∙ (λ j. decodeLent args (first j) (second j) (third j) out)
+  pub decode-none : (w i o : ℕ) → w ≡ weightsLent args 0 → i ≡ samplesLent args 2 → o ≡ samplesLent args 4 → (length args ≡ 38 + 8 * w + 4 * i + 4 * o → ⊥) → none out ≡ decodeAnswer args out
+  unfolding decodeAnswer
+  decode-none w i o first second third h = untaken _ args out (decodedAnswer args w i o out) h ∙ (λ j. decodeLent args (first j) (second j) (third j) out)
 
-    -- of parts of the room, as long as they are to be
-    pub decode-some : (d : Draft) (k l m : ℕ) → k ≡ w → l ≡ i → m ≡ o → length args ≡ 38 + 8 * w + 4 * i + 4 * o → d ≡ decodedAnswer args k l m out → d ≡ decodeAnswer args out
-    unfolding decodeAnswer
-    decode-some d k l m p q r h e =
-        e ∙ (λ j. decodedAnswer args (p j) (q j) (r j) out) ∙ taken _ args out (decodedAnswer args w i o out) h
-        ∙ (λ j. decodeLent args (first j) (second j) (third j) out)
+  pub decode-some : (d : Draft) (w i o : ℕ) → w ≡ weightsLent args 0 → i ≡ samplesLent args 2 → o ≡ samplesLent args 4 → length args ≡ 38 + 8 * w + 4 * i + 4 * o
+      → d ≡ decodedAnswer args w i o out → d ≡ decodeAnswer args out
+  unfolding decodeAnswer
+  decode-some d w i o first second third h e =
+      e ∙ taken _ args out (decodedAnswer args w i o out) h ∙ (λ j. decodeLent args (first j) (second j) (third j) out)
 
-pub decode-fits : (n w i o k l m : ℕ) → k ≡ w → l ≡ i → m ≡ o → n ≡ 38 + 8 * w + 4 * i + 4 * o → n ≡ 38 + 8 * k + 4 * l + 4 * m
+-- the lists lent are as long as they are to be
+pub decode-fits : (n w i o k l m : ℕ) → w ≡ k → i ≡ l → o ≡ m → n ≡ 38 + 8 * w + 4 * i + 4 * o → n ≡ 38 + 8 * k + 4 * l + 4 * m
 decode-fits n w i o k l m p q r h = omega arith

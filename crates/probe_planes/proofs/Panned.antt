@@ -13,11 +13,11 @@ use Rattle.panner.specs.declared.Command.{Command}
 use Rattle.panner.specs.declared.Command.the-variants.{Stereo, Surround, Ambisonic}
 use Rattle.panner.specs.declared.Panned.{Panned}
 use Rattle.panner.specs.Promise.{Block, block}
-use Rattle.probe_form.specs.Requests.{layoutOf, listAt}
-use Rattle.probe_form.specs.Answers.{Draft, none}
-use Rattle.probe_form.proofs.Answers.{taken, untaken}
-use Rattle.probe_form.proofs.Requests.{inside, layout-read}
-use Rattle.probe_planes.specs.Answers.{samplesLent, played, commandOf, commandAt, pannedAnswer, panLent, panAnswer}
+use Rattle.probe_request.specs.Requests.{layoutOf, samplesLent, listAt}
+use Rattle.probe_answer.specs.Answers.{Draft, none}
+use Rattle.probe_answer.proofs.Answers.{taken, untaken}
+use Rattle.probe_request.proofs.Requests.{inside, layout-read}
+use Rattle.probe_planes.specs.Answers.{played, commandOf, commandAt, pannedAnswer, panLent, panAnswer}
 
 -- ---- the command
 
@@ -52,16 +52,14 @@ module _ (args out : List ℕ) where
       q ∙ ap (λ (b : Block). played (b .answer .refusal) (b .answer .samples) (b .out) out)
       (p ∙ (λ j. block (record { command = ec j; layout = l j; frames = ef j; stride = es j }) (i j) (o j)))
 
-  module _ (i o : ℕ) (first : i ≡ samplesLent args 0) (second : o ≡ samplesLent args 2) where
-    pub pan-none : (length args ≡ 54 + 4 * i + 4 * o → ⊥) → none out ≡ panAnswer args out
-    unfolding panAnswer
-    pan-none h = untaken _ args out (pannedAnswer args i o out) h ∙ (λ j. panLent args (first j) (second j) out)
+  pub pan-none : (i o : ℕ) → i ≡ samplesLent args 0 → o ≡ samplesLent args 2 → (length args ≡ 54 + 4 * i + 4 * o → ⊥) → none out ≡ panAnswer args out
+  unfolding panAnswer
+  pan-none i o first second h = untaken _ args out (pannedAnswer args i o out) h ∙ (λ j. panLent args (first j) (second j) out)
 
-    -- of parts of the room, as long as they are to be
-    pub pan-some : (d : Draft) (k l : ℕ) → k ≡ i → l ≡ o → length args ≡ 54 + 4 * i + 4 * o → d ≡ pannedAnswer args k l out → d ≡ panAnswer args out
-    unfolding panAnswer
-    pan-some d k l p q h e =
-        e ∙ (λ j. pannedAnswer args (p j) (q j) out) ∙ taken _ args out (pannedAnswer args i o out) h ∙ (λ j. panLent args (first j) (second j) out)
+  pub pan-some : (d : Draft) (i o : ℕ) → i ≡ samplesLent args 0 → o ≡ samplesLent args 2 → length args ≡ 54 + 4 * i + 4 * o → d ≡ pannedAnswer args i o out → d ≡ panAnswer args out
+  unfolding panAnswer
+  pan-some d i o first second h e = e ∙ taken _ args out (pannedAnswer args i o out) h ∙ (λ j. panLent args (first j) (second j) out)
 
-pub pan-fits : (n i o k l : ℕ) → k ≡ i → l ≡ o → n ≡ 54 + 4 * i + 4 * o → n ≡ 54 + 4 * k + 4 * l
+-- the lists lent are as long as they are to be
+pub pan-fits : (n i o k l : ℕ) → i ≡ k → o ≡ l → n ≡ 54 + 4 * i + 4 * o → n ≡ 54 + 4 * k + 4 * l
 pan-fits n i o k l p q h = omega arith

@@ -12,15 +12,8 @@ use Rattle.panner.specs.declared.Command.the-variants.{Stereo, Surround, Ambiso
 use Rattle.panner.specs.Blocks as Panner
 use Rattle.panner.specs.Promise as Panning
 use Rattle.ambisonic_decoder.specs.Promise as Decoding
-use Rattle.probe_form.specs.Requests.{layoutAt, lentBy, floatsAt, doublesAt}
-use Rattle.probe_form.specs.Answers.{Draft, start, none, taking, _then_}
-
--- "up to [..] 8,200 taps or samples, [..] 300 weights"
-abbrev pub samplesLent : List ℕ → ℕ → ℕ
-samplesLent args at = lentBy args at 2 8200
-
-abbrev pub weightsLent : List ℕ → ℕ → ℕ
-weightsLent args at = lentBy args at 2 300
+use Rattle.probe_request.specs.Requests.{layoutAt, samplesLent, weightsLent, floatsAt, doublesAt}
+use Rattle.probe_answer.specs.Answers.{Draft, start, none, taking, _then_}
 
 -- "refusal (1), samples (8), the o samples"
 abbrev pub played : ℕ → ℕ → List Float → List ℕ → Draft

@@ -4,25 +4,24 @@
 // Test code, and promised by equations all the same: `answer` puts what PROBE.md says, in its order, of the block that
 // `panner` or `ambisonic_decoder` promises for what stands in the request; and nothing where the arguments have not the
 // length that the operation takes, or where there is no such operation here. It takes any input. Under it lie these two,
-// `probe_form` (the parts of requests and answers), `big_endian`, `harmonics`, `planes` (the smaller of two counts),
-// `channel` and `refusals`.
+// `probe_request`, `probe_answer`, `big_endian`, `channel` and `harmonics`.
 use harmonics::Direction;
 use panner::Command;
-use probe_form::MOST_SAMPLES;
-use probe_form::MOST_WEIGHTS;
+use probe_request::MOST_SAMPLES;
+use probe_request::MOST_WEIGHTS;
 ghost use mathlib.Core.Path.{_≡_};
 ghost use Prim.Native.Nat.{_+_, _*_};
 ghost use lib.ListN.{length};
-ghost use Rattle.probe_form.specs.Answers.{draft};
+ghost use Rattle.probe_answer.specs.Answers.{draft};
 ghost use Rattle.probe_planes.specs.Answers.{played, commandAt, pannedAnswer, panAnswer, decodedAnswer, decodeAnswer, answerOf};
 
 // Puts a refusal, a count of frames and the samples as they stand.
 fn put_played(refusal: u8, samples: usize, planes: &[f32], out: &mut [u8]) -> usize
     ensures { λ r. ⌜ draft r (now (out .exit)) ≡ played refusal samples (now (planes .entry)) (now (out .entry)) ⌝ }
 {
-    let a = probe_form::put(refusal as u64, 1, out, 0);
-    let b = probe_form::put(samples as u64, 8, out, a);
-    probe_form::put_f32s(planes, out, b)
+    let a = probe_answer::put(refusal as u64, 1, out, 0);
+    let b = probe_answer::put(samples as u64, 8, out, a);
+    probe_answer::put_f32s(planes, out, b)
 }
 
 // A panner command: 0 a stereo position, 1 a surround azimuth, any other number a direction with an order.
@@ -31,8 +30,8 @@ fn command(args: &[u8]) -> Command
 {
     let angle = big_endian::get_f64(args, 5);
     let elevation = big_endian::get_f64(args, 13);
-    let order = probe_form::number(args, 21, 8);
-    match probe_form::number(args, 4, 1) {
+    let order = probe_request::number(args, 21, 8);
+    match probe_request::number(args, 4, 1) {
         0 => Command::Stereo(angle),
         1 => Command::Surround(angle),
         _ => Command::Ambisonic(
@@ -52,16 +51,16 @@ fn pan_lent(args: &[u8], input: &mut [f32], planes: &mut [f32], out: &mut [u8]) 
     ensures { λ r. ⌜ draft r (now (out .exit)) ≡ pannedAnswer (now (args .entry)) (length (now (input .entry))) (length (now (planes .entry))) (now (out .entry)) ⌝ }
 {
     let planes_at = 54 + 4 * input.len();
-    probe_form::get_f32s(args, 54, input);
-    probe_form::get_f32s(args, planes_at, planes);
+    probe_request::get_f32s(args, 54, input);
+    probe_request::get_f32s(args, planes_at, planes);
     let panned = panner::process(
         command(args),
-        probe_form::layout(
-            probe_form::number(args, 29, 1),
-            probe_form::number(args, 30, 8),
+        probe_request::layout(
+            probe_request::number(args, 29, 1),
+            probe_request::number(args, 30, 8),
         ),
-        probe_form::number(args, 38, 8),
-        probe_form::number(args, 46, 8),
+        probe_request::number(args, 38, 8),
+        probe_request::number(args, 46, 8),
         input,
         planes,
     );
@@ -72,8 +71,8 @@ fn pan_lent(args: &[u8], input: &mut [f32], planes: &mut [f32], out: &mut [u8]) 
 fn pan(args: &[u8], out: &mut [u8]) -> usize
     ensures { λ r. ⌜ draft r (now (out .exit)) ≡ panAnswer (now (args .entry)) (now (out .entry)) ⌝ }
 {
-    let i = planes::least(probe_form::number(args, 0, 2), MOST_SAMPLES);
-    let o = planes::least(probe_form::number(args, 2, 2), MOST_SAMPLES);
+    let i = probe_request::lent(args, 0, 2, MOST_SAMPLES);
+    let o = probe_request::lent(args, 2, 2, MOST_SAMPLES);
     if args.len() != 54 + 4 * i + 4 * o {
         return 0;
     }
@@ -96,15 +95,15 @@ fn decode_lent(
 {
     let inputs_at = 38 + 8 * weights.len();
     let planes_at = inputs_at + 4 * inputs.len();
-    probe_form::get_f64s(args, 38, weights);
-    probe_form::get_f32s(args, inputs_at, inputs);
-    probe_form::get_f32s(args, planes_at, planes);
+    probe_request::get_f64s(args, 38, weights);
+    probe_request::get_f32s(args, inputs_at, inputs);
+    probe_request::get_f32s(args, planes_at, planes);
     let decoded = ambisonic_decoder::process(
         weights,
-        probe_form::number(args, 6, 8),
-        probe_form::number(args, 14, 8),
-        probe_form::number(args, 22, 8),
-        probe_form::number(args, 30, 8),
+        probe_request::number(args, 6, 8),
+        probe_request::number(args, 14, 8),
+        probe_request::number(args, 22, 8),
+        probe_request::number(args, 30, 8),
         inputs,
         planes,
     );
@@ -115,9 +114,9 @@ fn decode_lent(
 fn decode(args: &[u8], out: &mut [u8]) -> usize
     ensures { λ r. ⌜ draft r (now (out .exit)) ≡ decodeAnswer (now (args .entry)) (now (out .entry)) ⌝ }
 {
-    let w = planes::least(probe_form::number(args, 0, 2), MOST_WEIGHTS);
-    let i = planes::least(probe_form::number(args, 2, 2), MOST_SAMPLES);
-    let o = planes::least(probe_form::number(args, 4, 2), MOST_SAMPLES);
+    let w = probe_request::lent(args, 0, 2, MOST_WEIGHTS);
+    let i = probe_request::lent(args, 2, 2, MOST_SAMPLES);
+    let o = probe_request::lent(args, 4, 2, MOST_SAMPLES);
     if args.len() != 38 + 8 * w + 4 * i + 4 * o {
         return 0;
     }

@@ -1,7 +1,7 @@
 -- The answer to a set-up: of the arrangement that `hrtf_setup` promises for what the request gives, or none. Assumes nothing.
 use mathlib.Core.Path.{_≡_, sym, ap, _∙_}
 use mathlib.Core.List.{List}
-use Prim.Native.Nat.{ℕ, _+_, _*_, min}
+use Prim.Native.Nat.{ℕ, _+_, _*_}
 use native.Mathlib.Omega.{arith}
 use borrow.Author.Tests.{ne-eqb}
 use lib.Ieee.{Float}
@@ -10,12 +10,12 @@ use lib.ListN.{length}
 use Rattle.refusals.proofs.First.{goes-on}
 use Rattle.big_endian.specs.Fields.{fieldAt, signedAt, doubleAt}
 use Rattle.channel.specs.declared.Layout.{Layout}
-use Rattle.hrtf_setup.specs.Arrangement.{Arrangement, arrangement}
+use Rattle.hrtf_setup.specs.Arrangement.{Wanted, Arrangement, arrangement}
 use Rattle.hrtf_setup.specs.Promise.{ofLayout, ofOrder}
-use Rattle.probe_form.specs.Requests.{layoutOf, listAt, eightAt}
-use Rattle.probe_form.specs.Answers.{Draft, none}
-use Rattle.probe_form.proofs.Answers.{taken, untaken}
-use Rattle.probe_form.proofs.Requests.{inside, layout-read}
+use Rattle.probe_request.specs.Requests.{layoutOf, listAt, eightAt, azimuthsLent, weightsLent}
+use Rattle.probe_answer.specs.Answers.{Draft, none}
+use Rattle.probe_answer.proofs.Answers.{taken, untaken}
+use Rattle.probe_request.proofs.Requests.{inside, layout-read}
 use Rattle.probe_setup.specs.Answers.{shown, wantedAt, arrangedAnswer, setUpLent, setUpAnswer}
 
 -- what is wanted
@@ -25,6 +25,10 @@ module _ (operation : ℕ) (args : List ℕ) where
 
   pub of-order : (order : ℕ) → (operation ≡ 19 → ⊥) → order ≡ fieldAt args 75 8 → ofOrder order ≡ wantedAt operation args
   of-order order h e = ap ofOrder e ∙ sym (goes-on _ _ (ne-eqb _ _ h))
+
+  pub as-wanted : (o : Arrangement) (wanted : Wanted) (azimuths : List ℤ) (rows : ℕ) (weights : List Float) (given : List ℕ) → o ≡ arrangement wanted azimuths rows weights given
+      → wanted ≡ wantedAt operation args → rows ≡ fieldAt args 3 8 → o ≡ arrangement (wantedAt operation args) azimuths (fieldAt args 3 8) weights given
+  as-wanted o wanted azimuths rows weights given e w r = e ∙ (λ j. arrangement (w j) azimuths (r j) weights given)
 
 module _ (operation : ℕ) (args : List ℕ) (at : ℕ) (out : List ℕ) where
   pub arranges : (azimuths turned : List ℤ) (weights weighed : List Float) (given : List ℕ) (o : Arrangement) (d : Draft) → length args ≡ at + 2 * length azimuths + 8 * length weights
@@ -36,17 +40,15 @@ module _ (operation : ℕ) (args : List ℕ) (at : ℕ) (out : List ℕ) where
       let w = inside doubleAt 8 args (at + 2 * length azimuths) weights weighed g (omega arith) in
       q ∙ ap (λ (x : Arrangement). shown x out) (p ∙ (λ j. arrangement (wantedAt operation args) (a j) (fieldAt args 3 8) (w j) (h j)))
 
-  module _ (a w : ℕ) (first : a ≡ min (fieldAt args 0 1) 16) (second : w ≡ min (fieldAt args 1 2) 300) where
-    pub set-up-none : (length args ≡ at + 2 * a + 8 * w → ⊥) → none out ≡ setUpAnswer operation args at out
-    unfolding setUpAnswer
-    set-up-none h = untaken _ args out (arrangedAnswer operation args at a w out) h ∙ (λ j. setUpLent operation args at (first j) (second j) out)
+  pub set-up-none : (a w : ℕ) → a ≡ azimuthsLent args 0 → w ≡ weightsLent args 1 → (length args ≡ at + 2 * a + 8 * w → ⊥) → none out ≡ setUpAnswer operation args at out
+  unfolding setUpAnswer
+  set-up-none a w first second h = untaken _ args out (arrangedAnswer operation args at a w out) h ∙ (λ j. setUpLent operation args at (first j) (second j) out)
 
-    -- of parts of the room, as long as they are to be
-    pub set-up-some : (d : Draft) (k l : ℕ) → k ≡ a → l ≡ w → length args ≡ at + 2 * a + 8 * w → d ≡ arrangedAnswer operation args at k l out → d ≡ setUpAnswer operation args at out
-    unfolding setUpAnswer
-    set-up-some d k l p q h e =
-        e ∙ (λ j. arrangedAnswer operation args at (p j) (q j) out) ∙ taken _ args out (arrangedAnswer operation args at a w out) h
-        ∙ (λ j. setUpLent operation args at (first j) (second j) out)
+  pub set-up-some : (d : Draft) (a w : ℕ) → a ≡ azimuthsLent args 0 → w ≡ weightsLent args 1 → length args ≡ at + 2 * a + 8 * w → d ≡ arrangedAnswer operation args at a w out
+      → d ≡ setUpAnswer operation args at out
+  unfolding setUpAnswer
+  set-up-some d a w first second h e = e ∙ taken _ args out (arrangedAnswer operation args at a w out) h ∙ (λ j. setUpLent operation args at (first j) (second j) out)
 
-pub set-up-fits : (n at a w k l : ℕ) → k ≡ a → l ≡ w → n ≡ at + 2 * a + 8 * w → n ≡ at + 2 * k + 8 * l
+-- the lists lent are as long as they are to be
+pub set-up-fits : (n at a w k l : ℕ) → a ≡ k → w ≡ l → n ≡ at + 2 * a + 8 * w → n ≡ at + 2 * k + 8 * l
 set-up-fits n at a w k l p q h = omega arith

@@ -8,8 +8,8 @@ use Rattle.big_endian.specs.Fields.{fieldAt}
 use Rattle.big_endian.specs.Lists.{doubleBytes, numberBytes}
 use Rattle.hrtf_setup.specs.Arrangement.{Wanted, Arrangement, arrangement}
 use Rattle.hrtf_setup.specs.Promise.{ofLayout, ofOrder}
-use Rattle.probe_form.specs.Requests.{layoutAt, eightAt, lentBy, signedsAt, doublesAt}
-use Rattle.probe_form.specs.Answers.{Draft, start, none, taking, _then_}
+use Rattle.probe_request.specs.Requests.{layoutAt, eightAt, azimuthsLent, weightsLent, signedsAt, doublesAt}
+use Rattle.probe_answer.specs.Answers.{Draft, start, none, taking, _then_}
 
 -- "refusal (1), speakers, channels (8 each), the eight rows (8 each), the w weights"
 abbrev pub shown : Arrangement → List ℕ → Draft
@@ -31,9 +31,9 @@ arrangedAnswer operation args at a w out = shown (arrangedAt operation args at a
 abbrev pub setUpLent : ℕ → List ℕ → ℕ → ℕ → ℕ → List ℕ → Draft
 setUpLent operation args at a w out = taking (at + 2 * a + 8 * w) args out (arrangedAnswer operation args at a w out)
 
--- "a: azimuths lent (1), w: weights lent (2)", "up to 16 azimuths, [..] 300 weights"
+-- "a: azimuths lent (1), w: weights lent (2)"
 unfoldable pub setUpAnswer : ℕ → List ℕ → ℕ → List ℕ → Draft
-setUpAnswer operation args at out = setUpLent operation args at (lentBy args 0 1 16) (lentBy args 1 2 300) out
+setUpAnswer operation args at out = setUpLent operation args at (azimuthsLent args 0) (weightsLent args 1) out
 
 -- the lists stand behind the layout, or behind the order; no other operation is answered here
 abbrev pub answerOf : ℕ → List ℕ → List ℕ → Draft

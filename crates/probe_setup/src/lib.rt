@@ -2,28 +2,28 @@
 //
 // Test code, and promised by equations all the same: `answer` puts what PROBE.md says, in its order, of the arrangement
 // that `hrtf_setup` promises for what stands in the request; and nothing where the arguments have not the length that the
-// operation takes, or where there is no such operation here. It takes any input. Under it lie `hrtf_setup`, `probe_form`
-// (the parts of requests and answers), `big_endian`, `planes` (the smaller of two counts), `channel` and `refusals`.
+// operation takes, or where there is no such operation here. It takes any input. Under it lie `hrtf_setup`,
+// `probe_request`, `probe_answer`, `big_endian` and `channel`.
 use hrtf_setup::Arranged;
-use probe_form::MOST_AZIMUTHS;
-use probe_form::MOST_WEIGHTS;
+use probe_request::MOST_AZIMUTHS;
+use probe_request::MOST_WEIGHTS;
 ghost use mathlib.Core.Path.{_≡_};
 ghost use Prim.Native.Nat.{_+_, _*_, _≤_};
 ghost use lib.ListN.{length};
 ghost use Rattle.big_endian.specs.Fields.{fieldAt};
 ghost use Rattle.hrtf_setup.specs.Arrangement.{arrangement};
-ghost use Rattle.probe_form.specs.Answers.{draft};
+ghost use Rattle.probe_answer.specs.Answers.{draft};
 ghost use Rattle.probe_setup.specs.Answers.{shown, wantedAt, arrangedAnswer, setUpAnswer, answerOf};
 
 // Puts the answer, and the rows and the weights as they stand.
 fn put_arranged(arranged: Arranged, row_of: &[usize; 8], weights: &[f64], out: &mut [u8]) -> usize
     ensures { λ r. ⌜ draft r (now (out .exit)) ≡ shown (record { answer = arranged; weights = now (weights .entry); rows = now («row_of» .entry) }) (now (out .entry)) ⌝ }
 {
-    let a = probe_form::put(arranged.refusal as u64, 1, out, 0);
-    let b = probe_form::put(arranged.speakers as u64, 8, out, a);
-    let c = probe_form::put(arranged.channels as u64, 8, out, b);
-    let d = probe_form::put_usizes(row_of, out, c);
-    probe_form::put_f64s(weights, out, d)
+    let a = probe_answer::put(arranged.refusal as u64, 1, out, 0);
+    let b = probe_answer::put(arranged.speakers as u64, 8, out, a);
+    let c = probe_answer::put(arranged.channels as u64, 8, out, b);
+    let d = probe_answer::put_usizes(row_of, out, c);
+    probe_answer::put_f64s(weights, out, d)
 }
 
 // 19 sets up a layout, 20 the virtual speakers for an order, which stands in the same place.
@@ -37,15 +37,15 @@ fn arrange(
     ensures { λ r. ⌜ record { answer = r; weights = now (weights .exit); rows = now («row_of» .exit) }
         ≡ arrangement (wantedAt operation (now (args .entry))) (now (azimuths .entry)) (fieldAt (now (args .entry)) 3 8) (now (weights .entry)) (now («row_of» .entry)) ⌝ }
 {
-    let rows = probe_form::number(args, 3, 8);
+    let rows = probe_request::number(args, 3, 8);
     if operation == 19 {
-        let layout = probe_form::layout(
-            probe_form::number(args, 75, 1),
-            probe_form::number(args, 76, 8),
+        let layout = probe_request::layout(
+            probe_request::number(args, 75, 1),
+            probe_request::number(args, 76, 8),
         );
         return hrtf_setup::new_surround(layout, azimuths, rows, weights, row_of);
     }
-    let order = probe_form::number(args, 75, 8);
+    let order = probe_request::number(args, 75, 8);
     hrtf_setup::new_ambisonic(order, azimuths, rows, weights, row_of)
 }
 
@@ -62,9 +62,9 @@ fn set_up_lent(
     ensures { λ r. ⌜ draft r (now (out .exit)) ≡ arrangedAnswer operation (now (args .entry)) at (length (now (azimuths .entry))) (length (now (weights .entry))) (now (out .entry)) ⌝ }
 {
     let weights_at = at + 2 * azimuths.len();
-    probe_form::get_i16s(args, at, azimuths);
-    probe_form::get_f64s(args, weights_at, weights);
-    let mut row_of = probe_form::eight(args, 11);
+    probe_request::get_i16s(args, at, azimuths);
+    probe_request::get_f64s(args, weights_at, weights);
+    let mut row_of = probe_request::eight(args, 11);
     let arranged = arrange(operation, args, azimuths, weights, &mut row_of);
     put_arranged(arranged, &row_of, weights, out)
 }
@@ -74,8 +74,8 @@ fn set_up(operation: u8, at: usize, args: &[u8], out: &mut [u8]) -> usize
     requires { ⌜ at ≤ 84 ⌝ }
     ensures { λ r. ⌜ draft r (now (out .exit)) ≡ setUpAnswer operation (now (args .entry)) at (now (out .entry)) ⌝ }
 {
-    let a = planes::least(probe_form::number(args, 0, 1), MOST_AZIMUTHS);
-    let w = planes::least(probe_form::number(args, 1, 2), MOST_WEIGHTS);
+    let a = probe_request::lent(args, 0, 1, MOST_AZIMUTHS);
+    let w = probe_request::lent(args, 1, 2, MOST_WEIGHTS);
     if args.len() != at + 2 * a + 8 * w {
         return 0;
     }

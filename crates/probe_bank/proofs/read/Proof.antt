@@ -1,11 +1,9 @@
 -- `probe_bank::read` meets its contract. Assumes nothing.
-use mathlib.Core.Path.{_∙_}
-use Prim.Native.Nat.{ℕ}
 use denote.Ref.{now}
 use lib.Ieee.{binary32, ofBits}
 use lib.IntN.{pos}
-use Rattle.probe_bank.specs.Answers.{readInto}
-use Rattle.probe_bank.proofs.Answering.{lent-places, lent-few, lent-length, same-two, read-short, read-answered}
+use Rattle.probe_request.proofs.Requests.{lent-places, lent-length, new-few}
+use Rattle.probe_bank.proofs.Answering.{read-short, read-lent}
 use borrow.Author.Needs.{needs}
 use Rattle.probe_bank.proofs.read.Statement.{statement}
 use Rattle.probe_bank.proofs.read.Tie as tie
@@ -13,48 +11,27 @@ use Rattle.probe_bank.proofs.read.Tie as tie
 returns : tie.Need-returns
 returns c = read-short _ _ (c .if1 .taken)
 
-lent-requires : tie.Need-lent-requires
-lent-requires c κs = tt
-
-lent-requires-2 : tie.Need-lent-requires-2
-lent-requires-2 c κs = tt
-
-array-borrow-prefix-azimuths : tie.Need-array-borrow-prefix-azimuths
-array-borrow-prefix-azimuths c = search needs
-
 slice-aggregate-read-into : tie.Need-slice-aggregate-read-into
-slice-aggregate-read-into c = lent-places (pos 0) _ _ 16 (c .before .before .lent .ensures)
-
-array-borrow-prefix-taps : tie.Need-array-borrow-prefix-taps
-array-borrow-prefix-taps c = search needs
+slice-aggregate-read-into c = lent-places _ _ _ (c .before .before .lent .ensures)
 
 slice-aggregate-read-into-2 : tie.Need-slice-aggregate-read-into-2
-slice-aggregate-read-into-2 c = lent-places (ofBits binary32 0) _ _ 8200 (c .before .before .lent2 .ensures)
+slice-aggregate-read-into-2 c = lent-places _ _ _ (c .before .before .lent2 .ensures)
 
 read-into-requires : tie.Need-read-into-requires
-read-into-requires c κs = (c .before .before .before .before .before .if1 .left, lent-few (pos 0) _ _ 16 (c .before .before .before .before .lent .ensures), lent-few (ofBits binary32 0) _ _ 8200 (c .before .before .before .lent2 .ensures))
-
-same-length : tie.Need-same-length
-same-length c = search needs
+read-into-requires c κs = (c .before .before .before .before .before .if1 .left, new-few (pos 0) (c .before .before .before .before .lent .result) 16, new-few (ofBits binary32 0) (c .before .before .before .lent2 .result) 8200)
 
 returns-2 : tie.Need-returns-2
 returns-2 c =
-    let args = c .before .before .before .before .before .before .before .before .before .before .before .before .before .args in
-    c .before .before .before .before .read-into .ensures
-    ∙ same-two (λ (a t : ℕ). readInto (now (args .args)) a t (now (args .out))) (lent-length (pos 0) _ _ 16 (c .before .before .before .before .before .before .before .before .before .lent .ensures)) (lent-length (ofBits binary32 0) _ _ 8200 (c .before .before .before .before .before .before .before .before .lent2 .ensures))
-    ∙ read-answered _ _ (c .before .before .before .before .before .before .before .before .before .before .if1 .left)
+    let after-read-into = c .before .before .before .before in
+    let after-lent2 = after-read-into .before .before .before .before in
+    let after-lent = after-lent2 .before in
+    let past-if1 = after-lent .before in
+    let args = past-if1 .before .before .before .args in
+    read-lent (now (args .args)) (now (args .out)) _ _ _ (lent-length _ _ _ (after-lent .lent .ensures)) (lent-length _ _ _ (after-lent2 .lent2 .ensures)) (past-if1 .if1 .left)
+    (after-read-into .read-into .ensures)
 
 pub read-spec : {M : Type 1} → statement M
 read-spec =
     tie.close
-    (tie.spec
-    returns
-    lent-requires
-    lent-requires-2
-    array-borrow-prefix-azimuths
-    slice-aggregate-read-into
-    array-borrow-prefix-taps
-    slice-aggregate-read-into-2
-    read-into-requires
-    same-length
+    (tie.spec returns (λ c κs. tt) (λ c κs. tt) (λ c. search needs) slice-aggregate-read-into (λ c. search needs) slice-aggregate-read-into-2 read-into-requires (λ c. search needs)
     returns-2)

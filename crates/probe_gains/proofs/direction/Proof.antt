@@ -2,14 +2,9 @@
 use Rattle.probe_gains.proofs.direction.Statement.{statement}
 use Rattle.probe_gains.proofs.direction.Tie as tie
 
-get-f64-requires : tie.Need-get-f64-requires
-get-f64-requires c κs = tt
-
-get-f64-requires-2 : tie.Need-get-f64-requires-2
-get-f64-requires-2 c κs = tt
-
 returns : tie.Need-returns
 returns c = λ i. record { azimuth = c .before .get-f64 .ensures i; elevation = c .get-f642 .ensures i }
 
 pub direction-spec : {M : Type 1} → statement M
-direction-spec = tie.close (tie.spec get-f64-requires get-f64-requires-2 returns)
+direction-spec =
+    tie.close (tie.spec (λ c κs. tt) (λ c κs. tt) returns)

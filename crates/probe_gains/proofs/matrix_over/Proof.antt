@@ -1,21 +1,21 @@
--- `probe_gains::matrix_over` meets its contract: the room is for 300 weights. Assumes nothing.
+-- `probe_gains::matrix_over` meets its contract: the part of the room that is lent has the length that was asked for. Assumes nothing.
+use mathlib.Core.Path.{ap, _∙_}
+use Prim.Native.Nat.{ℕ}
+use denote.Ref.{now}
+use lib.Ieee.{binary64, ofBits}
+use Rattle.probe_request.proofs.Requests.{lent-places, lent-length, new-few}
+use Rattle.probe_gains.specs.Answers.{matrixAnswer}
 use borrow.Author.Needs.{needs}
 use Rattle.probe_gains.proofs.matrix_over.Statement.{statement}
 use Rattle.probe_gains.proofs.matrix_over.Tie as tie
 
-slice-aggregate-matrix-in : tie.Need-slice-aggregate-matrix-in
-slice-aggregate-matrix-in c = search needs
-
-matrix-in-requires : tie.Need-matrix-in-requires
-matrix-in-requires c κs = search needs
-
-same-length : tie.Need-same-length
-same-length c = search needs
-
 returns : tie.Need-returns
-returns c = c .before .before .before .matrix-in .ensures
+returns c =
+    let a = c .before .before .before .before .before .before .before .before .before .args in
+    c .before .before .before .matrix .ensures
+    ∙ ap (λ (w : ℕ). matrixAnswer (a .operation) w (now (a .args)) (now (a .out))) (lent-length _ _ _ (c .before .before .before .before .before .before .lent .ensures))
 
 pub matrix-over-spec : {M : Type 1} → statement M
 matrix-over-spec =
     tie.close
-    (tie.spec slice-aggregate-matrix-in matrix-in-requires same-length returns)
+    (tie.spec (λ c κs. tt) (λ c. search needs) (λ c. lent-places _ _ _ (c .before .lent .ensures)) (λ c κs. new-few (ofBits binary64 0) (c .before .before .lent .result) 300) (λ c. search needs) returns)

@@ -1,10 +1,11 @@
 -- `probe_gains::weighted` meets its contract. Assumes nothing.
-use mathlib.Core.Path.{ap, _∙_}
+use mathlib.Core.Path.{_∙_}
 use denote.Ref.{now}
 use Rattle.virtual_speaker.specs.declared.Weighted.{Weighted}
 use Rattle.virtual_speaker.specs.Promise.{outcome}
-use Rattle.probe_form.proofs.Answers.{taken, untaken}
-use Rattle.probe_gains.specs.Answers.{refusalAndGains, weightedAnswer}
+use Rattle.probe_answer.specs.Answers.{refusalAndDoubles}
+use Rattle.probe_answer.proofs.Answers.{untaken, answered}
+use Rattle.probe_gains.specs.Answers.{weightedAnswer}
 use borrow.Author.Needs.{needs}
 use Rattle.probe_gains.proofs.weighted.Statement.{statement}
 use Rattle.probe_gains.proofs.weighted.Tie as tie
@@ -13,42 +14,15 @@ returns : tie.Need-returns
 unfolding weightedAnswer
 returns c = untaken 24 _ _ _ (c .if1 .taken)
 
-number-requires : tie.Need-number-requires
-number-requires c κs = tt
-
-direction-requires : tie.Need-direction-requires
-direction-requires c κs = tt
-
-compute-sh-coefficients-max-re-requires : tie.Need-compute-sh-coefficients-max-re-requires
-compute-sh-coefficients-max-re-requires c κs = tt
-
-slice-aggregate-put-refusal-and-gains : tie.Need-slice-aggregate-put-refusal-and-gains
-slice-aggregate-put-refusal-and-gains c = search needs
-
-put-refusal-and-gains-requires : tie.Need-put-refusal-and-gains-requires
-put-refusal-and-gains-requires c κs = tt
-
-same-length : tie.Need-same-length
-same-length c = search needs
-
 returns-2 : tie.Need-returns-2
 unfolding weightedAnswer
 returns-2 c =
     let called = c .before .before .before .before .before .before in
-    let out = now (called .before .before .before .before .before .before .args .out) in
-    c .before .before .put-refusal-and-gains .ensures
-    ∙ ap (λ (r : Weighted). refusalAndGains (r .refusal) (r .weights) out) (called .compute-sh-coefficients-max-re .ensures .is ∙ (λ i. outcome (called .before .before .number .ensures i) (called .before .direction .ensures i)))
-    ∙ taken 24 _ _ _ (called .before .before .before .if1 .left)
+    let a = called .before .before .before .before .before .before .args in
+    answered (λ (r : Weighted). refusalAndDoubles (r .refusal) (r .weights) (now (a .out))) 24 (now (a .args)) _ (called .before .before .before .if1 .left)
+    (called .compute-sh-coefficients-max-re .ensures .is ∙ (λ i. outcome (called .before .before .number .ensures i) (called .before .direction .ensures i)))
+    (c .before .before .put-refusal-and-f64s .ensures)
 
 pub weighted-spec : {M : Type 1} → statement M
 weighted-spec =
-    tie.close
-    (tie.spec
-    returns
-    number-requires
-    direction-requires
-    compute-sh-coefficients-max-re-requires
-    slice-aggregate-put-refusal-and-gains
-    put-refusal-and-gains-requires
-    same-length
-    returns-2)
+    tie.close (tie.spec returns (λ c κs. tt) (λ c κs. tt) (λ c κs. tt) (λ c. search needs) (λ c κs. tt) (λ c. search needs) returns-2)

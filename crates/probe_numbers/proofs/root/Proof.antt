@@ -1,10 +1,12 @@
 -- `probe_numbers::root` meets its contract. Assumes nothing.
 use mathlib.Core.Path.{ap, _∙_}
+use mathlib.Core.List.{[], _∷_}
 use denote.Ref.{now}
 use Rattle.numbers.specs.Computed as Numbers
 use Rattle.numbers.specs.declared.Rooted.{Rooted}
-use Rattle.probe_form.proofs.Answers.{taken, untaken}
-use Rattle.probe_numbers.specs.Answers.{refusalAndValue, rootAnswer}
+use Rattle.probe_answer.specs.Answers.{refusalAndDoubles}
+use Rattle.probe_answer.proofs.Answers.{untaken, answered}
+use Rattle.probe_numbers.specs.Answers.{rootAnswer}
 use borrow.Author.Needs.{needs}
 use Rattle.probe_numbers.proofs.root.Statement.{statement}
 use Rattle.probe_numbers.proofs.root.Tie as tie
@@ -13,34 +15,15 @@ returns : tie.Need-returns
 unfolding rootAnswer
 returns c = untaken 8 _ _ _ (c .if1 .taken)
 
-get-f64-requires : tie.Need-get-f64-requires
-get-f64-requires c κs = tt
-
-root-requires : tie.Need-root-requires
-root-requires c κs = tt
-
-put-refusal-and-value-requires : tie.Need-put-refusal-and-value-requires
-put-refusal-and-value-requires c κs = tt
-
-same-length : tie.Need-same-length
-same-length c = search needs
-
 returns-2 : tie.Need-returns-2
 unfolding rootAnswer
 returns-2 c =
-    let called = c .before .before .before .before in
-    let out = now (called .before .before .before .before .before .args .out) in
-    c .before .before .put-refusal-and-value .ensures
-    ∙ ap (λ (r : Rooted). refusalAndValue (r .refusal) (r .value) out) (called .root .ensures .answer ∙ ap Numbers.rootAnswer (called .before .get-f64 .ensures))
-    ∙ taken 8 _ _ _ (called .before .before .if1 .left)
+    let called = c .before .before .before .before .before in
+    let a = called .before .before .before .before .before .args in
+    answered (λ (r : Rooted). refusalAndDoubles (r .refusal) (r .value ∷ []) (now (a .out))) 8 (now (a .args)) _ (called .before .before .if1 .left)
+    (called .root .ensures .answer ∙ ap Numbers.rootAnswer (called .before .get-f64 .ensures))
+    (c .before .before .put-refusal-and-f64s .ensures)
 
 pub root-spec : {M : Type 1} → statement M
 root-spec =
-    tie.close
-    (tie.spec
-    returns
-    get-f64-requires
-    root-requires
-    put-refusal-and-value-requires
-    same-length
-    returns-2)
+    tie.close (tie.spec returns (λ c κs. tt) (λ c κs. tt) (λ c. search needs) (λ c κs. tt) (λ c. search needs) returns-2)

@@ -1,81 +1,33 @@
 -- `probe_setup::set_up` meets its contract. Assumes nothing.
-use mathlib.Core.Path.{sym}
-use native.Mathlib.Omega.{arith}
 use denote.Ref.{now}
-use lib.Seq.{length-take-le}
-use Rattle.probe_form.proofs.Requests.{counted}
+use Rattle.probe_request.proofs.Requests.{lent-places, lent-length}
 use Rattle.probe_setup.proofs.Arranged.{set-up-none, set-up-some, set-up-fits}
 use borrow.Author.Needs.{needs}
 use Rattle.probe_setup.proofs.set_up.Statement.{statement}
 use Rattle.probe_setup.proofs.set_up.Tie as tie
 
-number-requires : tie.Need-number-requires
-number-requires c κs = search needs
-
-least-requires : tie.Need-least-requires
-least-requires c κs = search needs
-
-number-requires-2 : tie.Need-number-requires-2
-number-requires-2 c κs = search needs
-
-least-requires-2 : tie.Need-least-requires-2
-least-requires-2 c κs = search needs
-
-mul-if1 : tie.Need-mul-if1
-mul-if1 c = search needs
-
-add-if1 : tie.Need-add-if1
-add-if1 c = search needs
-
-mul-if1-2 : tie.Need-mul-if1-2
-mul-if1-2 c = search needs
-
-add-if1-2 : tie.Need-add-if1-2
-add-if1-2 c = search needs
-
 returns : tie.Need-returns
-returns c = let a = c .before .before .before .before .before .before .before .args in set-up-none (a .operation) (now (a .args)) (a .at) (now (a .out)) _ _ (counted _ _ _ (c .before .before .before .before .number .ensures) (c .before .before .before .least .ensures)) (counted _ _ _ (c .before .before .number2 .ensures) (c .before .least2 .ensures)) (c .if1 .taken)
-
-array-borrow-prefix-azimuths : tie.Need-array-borrow-prefix-azimuths
-array-borrow-prefix-azimuths c = search needs
-
-slice-aggregate-set-up-lent : tie.Need-slice-aggregate-set-up-lent
-slice-aggregate-set-up-lent c = sym (length-take-le _ _ (omega (arith, c .before .before .before .before .least .ensures)))
-
-array-borrow-prefix-weights : tie.Need-array-borrow-prefix-weights
-array-borrow-prefix-weights c = search needs
-
-slice-aggregate-set-up-lent-2 : tie.Need-slice-aggregate-set-up-lent-2
-slice-aggregate-set-up-lent-2 c = sym (length-take-le _ _ (omega (arith, c .before .before .before .least2 .ensures)))
+returns c =
+    let a = c .before .before .before .before .before .args in
+    set-up-none (a .operation) (now (a .args)) (a .at) (now (a .out)) _ _ (c .before .before .lent .ensures) (c .before .lent2 .ensures) (c .if1 .taken)
 
 set-up-lent-requires : tie.Need-set-up-lent-requires
-set-up-lent-requires c κs = set-up-fits _ _ _ _ _ _ (length-take-le _ _ (omega (arith, c .before .before .before .before .before .before .least .ensures))) (length-take-le _ _ (omega (arith, c .before .before .before .before .least2 .ensures))) (c .before .before .before .if1 .left)
-
-same-length : tie.Need-same-length
-same-length c = search needs
+set-up-lent-requires c κs =
+    let asked = c .before .before .before .before in
+    set-up-fits _ _ _ _ _ _ (lent-places _ _ _ (asked .before .lent .ensures)) (lent-places _ _ _ (asked .lent2 .ensures)) (c .before .before .before .if1 .left)
 
 returns-2 : tie.Need-returns-2
 returns-2 c =
-    let a = c .before .before .before .before .before .before .before .before .before .before .before .before .before .before .before .args in
-    set-up-some (a .operation) (now (a .args)) (a .at) (now (a .out)) _ _ (counted _ _ _ (c .before .before .before .before .before .before .before .before .before .before .before .before .number .ensures) (c .before .before .before .before .before .before .before .before .before .before .before .least .ensures)) (counted _ _ _ (c .before .before .before .before .before .before .before .before .before .before .number2 .ensures) (c .before .before .before .before .before .before .before .before .before .least2 .ensures)) _ _ _ (length-take-le _ _ (omega (arith, c .before .before .before .before .before .before .before .before .before .before .before .least .ensures))) (length-take-le _ _ (omega (arith, c .before .before .before .before .before .before .before .before .before .least2 .ensures))) (c .before .before .before .before .before .before .before .before .if1 .left) (c .before .before .before .before .set-up-lent .ensures)
+    let right = c .before .before .before .before .before .before .before .before in
+    let asked = right .before in
+    let a = asked .before .before .before .before .args in
+    set-up-some (a .operation) (now (a .args)) (a .at) (now (a .out)) _ _ _ (lent-length _ _ _ (asked .before .lent .ensures)) (lent-length _ _ _ (asked .lent2 .ensures))
+    (set-up-fits _ _ _ _ _ _ (lent-places _ _ _ (asked .before .lent .ensures)) (lent-places _ _ _ (asked .lent2 .ensures)) (right .if1 .left))
+    (c .before .before .before .before .set-up-lent .ensures)
 
 pub set-up-spec : {M : Type 1} → statement M
 set-up-spec =
     tie.close
-    (tie.spec
-    number-requires
-    least-requires
-    number-requires-2
-    least-requires-2
-    mul-if1
-    add-if1
-    mul-if1-2
-    add-if1-2
-    returns
-    array-borrow-prefix-azimuths
-    slice-aggregate-set-up-lent
-    array-borrow-prefix-weights
-    slice-aggregate-set-up-lent-2
-    set-up-lent-requires
-    same-length
-    returns-2)
+    (tie.spec (λ c κs. tt) (λ c κs. tt) (λ c. search needs) (λ c. search needs) (λ c. search needs) (λ c. search needs) returns (λ c. search needs)
+    (λ c. lent-places _ _ _ (c .before .before .before .lent .ensures)) (λ c. search needs) (λ c. lent-places _ _ _ (c .before .before .before .lent2 .ensures))
+    set-up-lent-requires (λ c. search needs) returns-2)

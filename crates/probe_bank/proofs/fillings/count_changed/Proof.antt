@@ -18,23 +18,8 @@ abbrev μ-loop : tie.MeasureT-loop
 loop-holds : tie.Need-loop-holds Inv-loop μ-loop
 loop-holds c = (omega arith, omega arith)
 
-mul-changed : tie.Need-mul-changed Inv-loop μ-loop
-mul-changed c = omega arith
-
-shared-slice-read-changed : tie.Need-shared-slice-read-changed Inv-loop μ-loop
-shared-slice-read-changed c = omega arith
-
-changed-requires : tie.Need-changed-requires Inv-loop μ-loop
-changed-requires c κs = omega arith
-
 add-count : tie.Need-add-count Inv-loop μ-loop
 add-count c = omega (arith, c .changed .ensures, once (c .before .before .before .loop .i) (getD (c .before .before .before .before .before .args .list .now) (c .before .before .before .loop .i) nan))
-
-add-i : tie.Need-add-i Inv-loop μ-loop
-add-i c = omega arith
-
-loop-less : tie.Need-loop-less Inv-loop μ-loop
-loop-less c = omega arith
 
 loop-again : tie.Need-loop-again Inv-loop μ-loop
 loop-again c =
@@ -47,16 +32,4 @@ returns c = omega (arith, count-none (c .before .before .before .args .list .now
 
 pub count-changed-spec : {M : Type 1} → statement M
 count-changed-spec =
-    tie.close
-    (tie.spec
-    Inv-loop
-    μ-loop
-    loop-holds
-    mul-changed
-    shared-slice-read-changed
-    changed-requires
-    add-count
-    add-i
-    loop-less
-    loop-again
-    returns)
+    tie.close (tie.spec Inv-loop μ-loop loop-holds (λ c. omega arith) (λ c. omega arith) (λ c κs. omega arith) add-count (λ c. omega arith) (λ c. omega arith) loop-again returns)

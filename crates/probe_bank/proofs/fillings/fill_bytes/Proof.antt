@@ -5,7 +5,7 @@ use denote.Ref.{now}
 use lib.ListN.{length}
 use mathlib.Core.Path.{refl}
 use borrow.Author.Needs.{needs}
-use Rattle.planes.proofs.Filling.{Filling, filling-none, filling-more, filling-whole}
+use Rattle.checks.proofs.Filling.{Filling, filling-none, filling-more, filling-whole}
 use Rattle.probe_bank.specs.Fillings.{byteFilling}
 use Rattle.probe_bank.proofs.fillings.fill_bytes.Statement.{statement}
 use Rattle.probe_bank.proofs.fillings.fill_bytes.Tie as tie
@@ -18,24 +18,6 @@ abbrev μ-loop : tie.MeasureT-loop
 
 loop-holds : tie.Need-loop-holds Inv-loop μ-loop
 loop-holds c = let l = now (c .args .list) in filling-none byteFilling (length l) l
-
-mul-list : tie.Need-mul-list Inv-loop μ-loop
-mul-list c = omega arith
-
-add-list : tie.Need-add-list Inv-loop μ-loop
-add-list c = omega arith
-
-cast-list : tie.Need-cast-list Inv-loop μ-loop
-cast-list c = search needs
-
-slice-write-list : tie.Need-slice-write-list Inv-loop μ-loop
-slice-write-list c = omega arith
-
-add-i : tie.Need-add-i Inv-loop μ-loop
-add-i c = omega arith
-
-loop-less : tie.Need-loop-less Inv-loop μ-loop
-loop-less c = omega arith
 
 loop-again : tie.Need-loop-again Inv-loop μ-loop
 loop-again c =
@@ -53,16 +35,5 @@ returns c =
 pub fill-bytes-spec : {M : Type 1} → statement M
 fill-bytes-spec =
     tie.close
-    (tie.spec
-    Inv-loop
-    μ-loop
-    loop-holds
-    mul-list
-    add-list
-    cast-list
-    slice-write-list
-    add-i
-    loop-less
-    loop-again
-    same-length
+    (tie.spec Inv-loop μ-loop loop-holds (λ c. omega arith) (λ c. omega arith) (λ c. search needs) (λ c. omega arith) (λ c. omega arith) (λ c. omega arith) loop-again same-length
     returns)

@@ -4,7 +4,7 @@ use native.Mathlib.Omega.{arith}
 use denote.Ref.{now}
 use lib.ListN.{length}
 use mathlib.Core.Path.{refl}
-use Rattle.planes.proofs.Filling.{Filling, filling-none, filling-more, filling-whole}
+use Rattle.checks.proofs.Filling.{Filling, filling-none, filling-more, filling-whole}
 use Rattle.probe_bank.specs.Fillings.{tapFilling}
 use Rattle.probe_bank.proofs.fillings.fill_f32s.Statement.{statement}
 use Rattle.probe_bank.proofs.fillings.fill_f32s.Tie as tie
@@ -17,21 +17,6 @@ abbrev μ-loop : tie.MeasureT-loop
 
 loop-holds : tie.Need-loop-holds Inv-loop μ-loop
 loop-holds c = let l = now (c .before .args .list) in filling-none tapFilling (length l) l
-
-filling-requires : tie.Need-filling-requires Inv-loop μ-loop
-filling-requires c κs = omega arith
-
-mul-list : tie.Need-mul-list Inv-loop μ-loop
-mul-list c = omega arith
-
-slice-write-list : tie.Need-slice-write-list Inv-loop μ-loop
-slice-write-list c = omega arith
-
-add-i : tie.Need-add-i Inv-loop μ-loop
-add-i c = omega arith
-
-loop-less : tie.Need-loop-less Inv-loop μ-loop
-loop-less c = omega arith
 
 loop-again : tie.Need-loop-again Inv-loop μ-loop
 loop-again c =
@@ -49,16 +34,4 @@ returns c =
 
 pub fill-f32s-spec : {M : Type 1} → statement M
 fill-f32s-spec =
-    tie.close
-    (tie.spec
-    Inv-loop
-    μ-loop
-    loop-holds
-    filling-requires
-    mul-list
-    slice-write-list
-    add-i
-    loop-less
-    loop-again
-    same-length
-    returns)
+    tie.close (tie.spec Inv-loop μ-loop loop-holds (λ c κs. omega arith) (λ c. omega arith) (λ c. omega arith) (λ c. omega arith) (λ c. omega arith) loop-again same-length returns)

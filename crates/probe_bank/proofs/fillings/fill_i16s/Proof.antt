@@ -7,7 +7,7 @@ use mathlib.Core.Path.{refl}
 use borrow.Author.Needs.{needs}
 use mir.Syntax.{w16}
 use mir.ValLaws.{toZ-pos}
-use Rattle.planes.proofs.Filling.{Filling, filling-none, filling-more, filling-whole}
+use Rattle.checks.proofs.Filling.{Filling, filling-none, filling-more, filling-whole}
 use Rattle.probe_bank.specs.Fillings.{azimuthFilling}
 use Rattle.probe_bank.proofs.fillings.fill_i16s.Statement.{statement}
 use Rattle.probe_bank.proofs.fillings.fill_i16s.Tie as tie
@@ -20,24 +20,6 @@ abbrev μ-loop : tie.MeasureT-loop
 
 loop-holds : tie.Need-loop-holds Inv-loop μ-loop
 loop-holds c = let l = now (c .args .list) in filling-none azimuthFilling (length l) l
-
-add-list : tie.Need-add-list Inv-loop μ-loop
-add-list c = omega arith
-
-cast-list : tie.Need-cast-list Inv-loop μ-loop
-cast-list c = search needs
-
-mul-t6 : tie.Need-mul-t6 Inv-loop μ-loop
-mul-t6 c = omega arith
-
-slice-set-from-list : tie.Need-slice-set-from-list Inv-loop μ-loop
-slice-set-from-list c = omega arith
-
-add-i : tie.Need-add-i Inv-loop μ-loop
-add-i c = omega arith
-
-loop-less : tie.Need-loop-less Inv-loop μ-loop
-loop-less c = omega arith
 
 loop-again : tie.Need-loop-again Inv-loop μ-loop
 loop-again c =
@@ -55,16 +37,5 @@ returns c =
 pub fill-i16s-spec : {M : Type 1} → statement M
 fill-i16s-spec =
     tie.close
-    (tie.spec
-    Inv-loop
-    μ-loop
-    loop-holds
-    add-list
-    cast-list
-    mul-t6
-    slice-set-from-list
-    add-i
-    loop-less
-    loop-again
-    same-length
+    (tie.spec Inv-loop μ-loop loop-holds (λ c. omega arith) (λ c. search needs) (λ c. omega arith) (λ c. omega arith) (λ c. omega arith) (λ c. omega arith) loop-again same-length
     returns)

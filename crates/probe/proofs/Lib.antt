@@ -1,0 +1,2 @@
+-- Which family answers an operation.
+mod Answers

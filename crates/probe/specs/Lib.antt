@@ -1,0 +1,2 @@
+-- Which family answers an operation.
+pub mod Answers

@@ -1,0 +1,27 @@
+-- `probe_answer::put_usizes` meets its contract: `PutFields`. Assumes nothing.
+use Prim.Native.Nat.{ℕ, _-_}
+use native.Mathlib.Omega.{arith}
+use lib.ListN.{length}
+use Rattle.probe_answer.proofs.Putting.{put-kept, PutFields, fields-first, fields-more, fields-all, fields-none}
+use Rattle.probe_answer.proofs.put_usizes.Statement.{statement}
+use Rattle.probe_answer.proofs.put_usizes.Tie as tie
+
+abbrev Inv-loop : tie.InvT-loop
+Inv-loop list out₀ at i₀ out i = PutFields 8 (λ (n : ℕ). n) list out₀ at out i
+
+abbrev μ-loop : tie.MeasureT-loop
+μ-loop list out₀ at i₀ out i = length list - i
+
+loop-again : tie.Need-loop-again Inv-loop μ-loop
+loop-again c = let turn = c .before .before .before .before .before .before .loop in fields-more _ _ _ _ _ (turn .out) _ (turn .i) 0 (omega arith) (turn .inv) (c .before .before .before .before .before .loop-test .taken) (c .before .before .put .ensures)
+
+-- what the loop's places and counts take is arithmetic
+pub put-usizes-spec : {M : Type 1} → statement M
+put-usizes-spec =
+    tie.close
+    (tie.spec Inv-loop μ-loop (λ c κs. tt)
+    (λ c. fields-none _ _ _ _ _ (c .before .has-room .ensures) (c .if1 .taken))
+    (λ c. fields-first _ _ _ _ _ (c .before .has-room .ensures) (c .if1 .left))
+    (λ c. omega arith) (λ c. omega arith) (λ c. omega arith) (λ c. omega arith) (λ c κs. tt) (λ c. omega arith) (λ c. omega arith) loop-again (λ c. omega arith) (λ c. omega arith)
+    (λ c. put-kept _ _ _ _ _ _ _ (c .before .loop .inv))
+    (λ c. fields-all _ _ _ _ _ _ _ (c .before .loop .inv) (c .loop-test .left)))

@@ -1,0 +1,2 @@
+-- How an answer is put together.
+pub mod Answers

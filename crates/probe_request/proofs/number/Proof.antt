@@ -1,0 +1,12 @@
+-- `probe_request::number` meets its contract. Assumes nothing.
+use Rattle.probe_request.proofs.number.Statement.{statement}
+use Rattle.probe_request.proofs.number.Tie as tie
+
+get-requires : tie.Need-get-requires
+get-requires c κs = tt
+
+returns : tie.Need-returns
+returns c = c .get .ensures .value
+
+pub number-spec : {M : Type 1} → statement M
+number-spec = tie.close (tie.spec get-requires returns)

@@ -1,0 +1,2 @@
+-- What the fields of a request stand for.
+pub mod Requests
