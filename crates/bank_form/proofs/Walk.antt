@@ -214,10 +214,6 @@ pub within-in : (low high n : ℕ) → low ≤ n → n ≤ high → within low h
 unfolding within
 within-in low high n h g = rw (le-leb low n h, le-leb n high g)
 
-pub within-low : (low high n : ℕ) → n < low → within low high n ≡ false
-unfolding within
-within-low low high n h = rw (lt-leb low n h)
-
 pub within-high : (low high n : ℕ) → low ≤ n → high < n → within low high n ≡ false
 unfolding within
 within-high low high n h g = rw (le-leb low n h, lt-leb n high g)

@@ -1,12 +1,13 @@
 -- Which family answers an operation. Assumes nothing.
 use mathlib.Core.Path.{_≡_, sym}
-use mathlib.Core.Bool.{true, false}
 use mathlib.Core.List.{List}
 use mathlib.Core.Logic.{_⊎_, inl, inr, ⊎-elim}
 use Prim.Native.Nat.{ℕ, _≤_, _<_}
 use native.Mathlib.Decide.{decLt}
 use native.Mathlib.Omega.{arith}
-use borrow.Author.Tests.{le-leb, lt-leb, ne-eqb}
+use borrow.Author.Tests.{ne-eqb}
+use Rattle.bank_form.specs.Bank.{within}
+use Rattle.bank_form.proofs.Walk.{within-in, within-high}
 use Rattle.probe_answer.specs.Answers.{none}
 use Rattle.probe_numbers.specs.Answers as Numbers
 use Rattle.probe_bank.specs.Answers as Bank
@@ -14,37 +15,31 @@ use Rattle.probe_gains.specs.Answers as Gains
 use Rattle.probe_planes.specs.Answers as Planes
 use Rattle.probe_hrtf.specs.Answers as Hrtf
 use Rattle.probe_setup.specs.Answers as Setup
-use Rattle.probe.specs.Answers.{within, answerOf}
-
-is-within : (low high n : ℕ) → low ≤ n → n ≤ high → within low high n ≡ true
-is-within low high n l h = rw (le-leb low n l, le-leb n high h)
-
-is-above : (low high n : ℕ) → low ≤ n → high < n → within low high n ≡ false
-is-above low high n l h = rw (le-leb low n l, lt-leb n high h)
+use Rattle.probe.specs.Answers.{answerOf}
 
 module _ (operation : ℕ) (args out : List ℕ) where
   pub of-numbers : 1 ≤ operation → operation ≤ 5 → Numbers.answerOf operation args out ≡ answerOf operation args out
   unfolding answerOf
-  of-numbers l h = sym (rw (is-within 1 5 operation l h))
+  of-numbers l h = sym (rw (within-in 1 5 operation l h))
 
   pub of-bank : 6 ≤ operation → operation ≤ 8 → Bank.answerOf operation args out ≡ answerOf operation args out
   unfolding answerOf
-  of-bank l h = sym (rw (is-above 1 5 operation (omega arith) (omega arith), is-within 6 8 operation l h))
+  of-bank l h = sym (rw (within-high 1 5 operation (omega arith) (omega arith), within-in 6 8 operation l h))
 
   pub of-gains : 9 ≤ operation → operation ≤ 13 → Gains.answerOf operation args out ≡ answerOf operation args out
   unfolding answerOf
-  of-gains l h = sym (rw (is-above 1 5 operation (omega arith) (omega arith), is-above 6 8 operation (omega arith) (omega arith), is-within 9 13 operation l h))
+  of-gains l h = sym (rw (within-high 1 5 operation (omega arith) (omega arith), within-high 6 8 operation (omega arith) (omega arith), within-in 9 13 operation l h))
 
   pub of-matrix : operation ≡ 15 → Gains.answerOf operation args out ≡ answerOf operation args out
-  unfolding answerOf
+  unfolding answerOf within
   of-matrix e = rw e
 
   pub of-planes : (operation ≡ 14) ⊎ (operation ≡ 16) → Planes.answerOf operation args out ≡ answerOf operation args out
-  unfolding answerOf
+  unfolding answerOf within
   of-planes = ⊎-elim (λ e. rw e) (λ e. rw e)
 
   pub of-hrtf : ((operation ≡ 14) ⊎ (operation ≡ 16) → ⊥) → (operation ≡ 15 → ⊥) → 14 ≤ operation → operation < 19 → Hrtf.answerOf operation args out ≡ answerOf operation args out
-  unfolding answerOf
+  unfolding answerOf within
   of-hrtf planes matrix l h =
       let not-pan : operation ≡ 14 → ⊥ = λ e. planes (inl e) in
       let not-decode : operation ≡ 16 → ⊥ = λ e. planes (inr e) in
@@ -54,7 +49,7 @@ module _ (operation : ℕ) (args out : List ℕ) where
       ]
 
   pub of-setup : 19 ≤ operation → operation ≤ 20 → Setup.answerOf operation args out ≡ answerOf operation args out
-  unfolding answerOf
+  unfolding answerOf within
   of-setup l h =
       elim (decLt operation 20) [
         | yes k ↦ let e : operation ≡ 19 = omega arith in rw e
@@ -62,11 +57,11 @@ module _ (operation : ℕ) (args out : List ℕ) where
       ]
 
   pub of-none : (1 ≤ operation → 20 < operation) → none out ≡ answerOf operation args out
-  unfolding answerOf
+  unfolding answerOf within
   of-none far =
       elim (decLt operation 1) [
         | yes k ↦ let e : operation ≡ 0 = omega arith in rw e
         | no k ↦
             let h : 20 < operation = far (omega arith) in
-            sym (rw (is-above 1 5 operation (omega arith) (omega arith), is-above 6 8 operation (omega arith) (omega arith), is-above 9 13 operation (omega arith) (omega arith), ne-eqb operation 14 (λ e. omega arith), ne-eqb operation 15 (λ e. omega arith), ne-eqb operation 16 (λ e. omega arith), is-above 17 18 operation (omega arith) (omega arith), is-above 19 20 operation (omega arith) (omega arith)))
+            sym (rw (within-high 1 5 operation (omega arith) (omega arith), within-high 6 8 operation (omega arith) (omega arith), within-high 9 13 operation (omega arith) (omega arith), ne-eqb operation 14 (λ e. omega arith), ne-eqb operation 15 (λ e. omega arith), ne-eqb operation 16 (λ e. omega arith), within-high 17 18 operation (omega arith) (omega arith), within-high 19 20 operation (omega arith) (omega arith)))
       ]

@@ -1,8 +1,9 @@
 -- docs/PROBE.md: what stands in an answer "is put there by a library for each family of operations", by the number of the operation. Definitions only.
 use Prim.Native.Nat.{ℕ}
-use mathlib.Core.Bool.{Bool, _&&_, cond}
+use mathlib.Core.Bool.{cond}
 use mathlib.Core.List.{List}
-use lib.Dec.{eqb, leb}
+use lib.Dec.{eqb}
+use Rattle.bank_form.specs.Bank.{within}
 use Rattle.probe_answer.specs.Answers.{Draft, none}
 use Rattle.probe_numbers.specs.Answers as Numbers
 use Rattle.probe_bank.specs.Answers as Bank
@@ -10,9 +11,6 @@ use Rattle.probe_gains.specs.Answers as Gains
 use Rattle.probe_planes.specs.Answers as Planes
 use Rattle.probe_hrtf.specs.Answers as Hrtf
 use Rattle.probe_setup.specs.Answers as Setup
-
-abbrev pub within : ℕ → ℕ → ℕ → Bool
-within low high n = leb low n && leb n high
 
 -- "`probe_numbers` (1 to 5), `probe_bank` (6 to 8), `probe_gains` (9 to 13 and 15), `probe_planes` (14 and 16), `probe_hrtf` (17 and 18) and `probe_setup` (19 and 20)"; none to another one
 unfoldable pub answerOf : ℕ → List ℕ → List ℕ → Draft
