@@ -1,28 +1,34 @@
 -- The test of a count: what it says of one that passes, and which counts it refuses. Assumes nothing.
 use mathlib.Core.Path.{_≡_, ap, _∙_}
-use mathlib.Core.Bool.{Bool, true, false, _||_, or-true}
+use mathlib.Core.Bool.{true, false, not}
 use Prim.Native.Nat.{ℕ, _≤_, _<_}
+use native.Mathlib.Decide.{decLt}
 use native.Mathlib.Omega.{arith}
-use borrow.Author.Tests.{eq-eqb, ne-eqb, eqb-false, lt-ltb, le-ltb, ltb-false}
-use lib.Dec.{eqb, ltb}
+use borrow.Author.Tests.{not-false, lt-leb, le-leb, lt-ltb, le-ltb}
+use lib.Dec.{ltb}
 use Rattle.refusals.specs.Refusals.{outside}
-use Rattle.refusals.proofs.First.{or-off}
+use Rattle.refusals.proofs.Ranges.{within-true, within-low, within-from, within-in}
 
-pub not-outside : (n top : ℕ) → outside n top ≡ false → (0 < n) × (n ≤ top)
-not-outside n top e =
-    let p = or-off (eqb n 0) (ltb top n) e in
-    let some = eqb-false n 0 (p .0) in
-    (omega (arith, some), ltb-false top n (p .1))
+module _ (n top : ℕ) where
+  pub not-outside : outside n top ≡ false → (0 < n) × (n ≤ top)
+  not-outside e = within-true 1 top n (not-false _ e)
 
-pub count-none : (n top : ℕ) → n ≡ 0 → outside n top ≡ true
-count-none n top e = ap (λ (b : Bool). b || ltb top n) (eq-eqb n 0 e)
+  pub count-none : n ≡ 0 → outside n top ≡ true
+  count-none e = ap not (within-low 1 top n (omega arith))
 
--- any other is judged by the top
-pub count-some : (n top : ℕ) → (n ≡ 0 → ⊥) → outside n top ≡ ltb top n
-count-some n top h = ap (λ (b : Bool). b || ltb top n) (ne-eqb n 0 h)
+  -- any other is judged by the top
+  pub count-some : (n ≡ 0 → ⊥) → outside n top ≡ ltb top n
+  count-some h =
+      ap not (within-from 1 top n (some h)) ∙ elim (decLt top n) [
+        | yes l ↦ rw (lt-leb n top l, lt-ltb top n l)
+        | no l ↦ rw (le-leb n top (omega arith), le-ltb top n (omega arith))
+      ]
+    where
+      some : (n ≡ 0 → ⊥) → 1 ≤ n
+      some h = omega (arith, h)
 
-pub count-inside : (n top : ℕ) → 0 < n → n ≤ top → outside n top ≡ false
-count-inside n top some most = count-some n top (λ e. omega arith) ∙ le-ltb top n most
+  pub count-inside : 0 < n → n ≤ top → outside n top ≡ false
+  count-inside some most = ap not (within-in 1 top n some most)
 
-pub count-above : (n top : ℕ) → top < n → outside n top ≡ true
-count-above n top h = ap (λ (b : Bool). eqb n 0 || b) (lt-ltb top n h) ∙ or-true (eqb n 0)
+  pub count-above : top < n → outside n top ≡ true
+  count-above h = count-some (λ e. omega arith) ∙ lt-ltb top n h

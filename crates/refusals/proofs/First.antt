@@ -2,9 +2,10 @@
 -- and one above it is no acceptance. Assumes nothing.
 use mathlib.Core.Path.{_≡_, refl, sym, ap, _∙_}
 use mathlib.Core.Bool.{Bool, true, false, _||_, cond, true≢false}
-use Prim.Native.Nat.{ℕ, suc, _<_}
+use Prim.Native.Nat.{ℕ, zero, suc, _<_}
 use native.Mathlib.Nat.{suc-ne-zero}
 use native.Mathlib.Omega.{arith}
+use Rattle.refusals.specs.Refusals.{answered}
 
 pub stops : {A : Type 0} {b : Bool} (x y : A) → b ≡ true → cond b x y ≡ x
 stops {A} x y h = ap (λ (t : Bool). cond t x y) h
@@ -25,3 +26,21 @@ or-off false b e = (refl, e)
 -- a number above 0 is no acceptance
 pub not-accepted : {r : ℕ} (n : ℕ) → 0 < n → r ≡ n → r ≡ 0 → ⊥
 not-accepted n h e k = let z : n ≡ 0 = sym e ∙ k in omega arith
+
+-- the answer to an acceptance, and to a refusal
+module _ {A : Type 0} (accepted : A) (refused : ℕ → A) where
+  pub answered-accepted : (r : ℕ) → r ≡ 0 → answered r accepted refused ≡ accepted
+  answered-accepted r e = ap (λ (n : ℕ). answered n accepted refused) e
+
+  pub answered-refused : (r : ℕ) → (r ≡ 0 → ⊥) → answered r accepted refused ≡ refused r
+  answered-refused zero h = absurd (h refl)
+  answered-refused (suc n) h = refl
+
+  -- so a refusal is known by its number
+  pub answered-by : (r n : ℕ) → 0 < n → r ≡ n → refused n ≡ answered r accepted refused
+  answered-by r n h e = ap refused (sym e) ∙ sym (answered-refused r (not-accepted n h e))
+
+  -- and an answer that tells no refusal is to an acceptance
+  pub none-told : (told : A → ℕ) → ((n : ℕ) → told (refused n) ≡ n) → (r : ℕ) → told (answered r accepted refused) ≡ 0 → r ≡ 0
+  none-told told same zero e = refl
+  none-told told same (suc n) e = sym (same (suc n)) ∙ e

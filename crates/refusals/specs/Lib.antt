@@ -1,2 +1,3 @@
--- What a refusal number is.
+-- What a range is, and what a refusal number is.
+pub mod Ranges
 pub mod Refusals

@@ -1,0 +1,13 @@
+-- Ranges, as document 01 writes them: "row count 1..8", "azimuth in tenths of a degree, -1799..1800". Both ends belong to the range. Definitions only.
+use Prim.Native.Nat.{ℕ}
+use mathlib.Core.Bool.{Bool, _&&_}
+use lib.Dec.{leb}
+use lib.IntN.{ℤ}
+use lib.Signed.{leZ}
+
+abbrev pub within : ℕ → ℕ → ℕ → Bool
+within low high n = leb low n && leb n high
+
+-- of signed numbers
+abbrev pub between : ℤ → ℤ → ℤ → Bool
+between low high z = leZ low z && leZ z high
