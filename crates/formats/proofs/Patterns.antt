@@ -4,11 +4,11 @@
 use mathlib.Core.Path.{_≡_, refl, sym, ap, _∙_, subst}
 use mathlib.Core.Logic.{_⊎_}
 use Prim.Native.Nat.{ℕ, zero, suc, _+_, _-_, _*_, _/_, _%_, _^_, _≤_, _<_, min}
-use native.Mathlib.Nat.{le-refl, le-suc, lt-of-lt-of-le, lt-of-le-of-lt, lt-irrefl, ne-of-lt, add-assoc, mul-comm, mul-div-cancel, mul-le-mul-right, mod-eq-of-lt, div-lt-iff-lt-mul, min-eq-left, min-eq-right}
+use native.Mathlib.Nat.{le-refl, le-suc, lt-of-lt-of-le, lt-of-le-of-lt, lt-irrefl, ne-of-lt, add-assoc, mul-comm, mul-pos, zero-lt-suc, zero-mod, zero-div, mul-div-cancel, mul-le-mul-right, mod-eq-of-lt, div-lt-iff-lt-mul, min-eq-left, min-eq-right}
 use native.Mathlib.Omega.{arith}
 use mathlib.Core.Bool.{Bool, true, false, not, cond, _&&_, true≢false}
 use lib.IntN.{ℤ}
-use lib.Dec.{T, leb, ltb, eqb, leb→le, ltb→lt, nltb→le}
+use lib.Dec.{T, leb, ltb, eqb, leb→le, ltb→lt}
 use borrow.Author.Tests.{lt-ltb, le-ltb, lt-leb, ne-eqb}
 use lib.Pow.{pow-add, pow-pos, pow-lt}
 use lib.Ieee.{Float, nan, inf, fin, Format, binary32, binary64, prec, emax, low, up, down, size, odd, units, round, ne, fits, isNan, hid, ones, top, ofFields, ofBits, toBits, nanBits}
@@ -17,6 +17,8 @@ use lib.Ieee.Bits.{ofBits-toBits, nanBits-is, nanBits-above}
 use lib.Ieee.Compare.{nan-differs}
 use lib.Ieee.Exact.{HasValue, odd-sign}
 use lib.Ieee.Scale.{overflow}
+use Rattle.lists.proofs.Tests.{by-less}
+use Rattle.formats.specs.Floats.{zero-float}
 use Rattle.formats.proofs.Digits.{twice, pack, under-end, past-end}
 
 pub some-digits : (f : Format) → 0 < prec f
@@ -55,11 +57,8 @@ end-is f = ap (λ (x : ℕ). 2 ^ x) (same (prec f) (emax f) (two f)) ∙ pow-add
 module _ (f : Format) (s : Bool) (q k : ℕ) (h : q ≤ 2 ^ prec f) where
   pub units-fits : T (fits f (units f s q k))
   unfolding units
-  units-fits = go (ltb (q * 2 ^ k) (overflow f)) (ltb→lt (q * 2 ^ k) (overflow f))
-    where
-      go : (b : Bool) → (T b → q * 2 ^ k < overflow f) → T (fits f (cond b (odd (suc (prec f)) s q k (low f)) (inf s)))
-      go true l = odd-fits f (suc (prec f)) s q k (lt-of-le-of-lt h (pow-lt (le-refl (suc (prec f))))) h (l tt)
-      go false l = inf-fits f s
+  units-fits =
+      by-less (λ (x : Float). T (fits f x)) (q * 2 ^ k) (overflow f) (odd-fits f (suc (prec f)) s q k (lt-of-le-of-lt h (pow-lt (le-refl (suc (prec f))))) h) (λ l. inf-fits f s)
 
   module _ (g : (k ≡ 0) ⊎ (hid f ≤ q)) where
     few : q ≤ 2 * hid f
@@ -79,14 +78,11 @@ module _ (f : Format) (s : Bool) (q k : ℕ) (h : q ≤ 2 ^ prec f) where
 
     pub units-bits : toBits f (units f s q k) ≡ cond s (top f) 0 + min (k * hid f + q) (ones f * hid f)
     unfolding units
-    units-bits = go (ltb (q * 2 ^ k) (overflow f)) (ltb→lt (q * 2 ^ k) (overflow f)) (nltb→le (q * 2 ^ k) (overflow f))
-      where
-        go : (b : Bool) → (T b → q * 2 ^ k < overflow f) → (T (not b) → overflow f ≤ q * 2 ^ k)
-            → toBits f (cond b (odd (suc (prec f)) s q k (low f)) (inf s)) ≡ cond s (top f) 0 + min (k * hid f + q) (ones f * hid f)
-        go true l r =
-            toBits-value f s (odd (suc (prec f)) s q k (low f)) (q * 2 ^ k) (odd-sign (suc (prec f)) s q k (low f))
-            ∙ ap (λ (x : ℕ). cond s (top f) 0 + x) (pack (prec f) q k (some-digits f) h g ∙ sym (min-eq-left (under-inf (l tt))))
-        go false l r = toBits-inf f s ∙ ap (λ (x : ℕ). cond s (top f) 0 + x) (sym (min-eq-right (past-inf (r tt))))
+    units-bits =
+        by-less (λ (v : Float). toBits f v ≡ cond s (top f) 0 + min (k * hid f + q) (ones f * hid f)) (q * 2 ^ k) (overflow f)
+        (λ l. toBits-value f s (odd (suc (prec f)) s q k (low f)) (q * 2 ^ k) (odd-sign (suc (prec f)) s q k (low f))
+        ∙ ap (λ (x : ℕ). cond s (top f) 0 + x) (pack (prec f) q k (some-digits f) h g ∙ sym (min-eq-left (under-inf l))))
+        (λ r. toBits-inf f s ∙ ap (λ (x : ℕ). cond s (top f) 0 + x) (sym (min-eq-right (past-inf r))))
 
     pub ofBits-units : ofBits f (cond s (top f) 0 + min (k * hid f + q) (ones f * hid f)) ≡ units f s q k
     ofBits-units = ap (ofBits f) (sym units-bits) ∙ ofBits-toBits f (units f s q k) units-fits
@@ -166,6 +162,12 @@ unfolding isNan
 is-nan nan h = refl
 is-nan (inf s) h = absurd (true≢false (sym h))
 is-nan (fin s m e) h = absurd (true≢false (sym h))
+
+-- the pattern of 0.0
+pub zero-bits : (f : Format) → ofBits f 0 ≡ zero-float
+unfolding ofBits ofFields odd
+zero-bits f =
+    λ i. ofFields f (lt-leb (top f) 0 (mul-pos (pow-pos (prec f - 1)) (zero-lt-suc (ones f))) i) ((ap (λ (x : ℕ). x / hid f) (zero-mod (top f)) ∙ zero-div (hid f)) i) (zero-mod (hid f) i)
 
 -- beyond the pattern of an infinity stand the NaNs
 pub nan-pattern : (f : Format) (n : ℕ) → ones f * hid f < n % top f → ofBits f n ≡ nan

@@ -1,0 +1,2 @@
+-- Numbers as the code writes them.
+pub mod Floats
