@@ -16,13 +16,14 @@ use Rattle.series.specs.Angles.{turned, isMultiple, quarters}
 use Rattle.series.proofs.Laws.{multiple-only}
 use Rattle.series.proofs.Reduction.{four, quarters-few, quarters-times, turned-less, turned-same}
 use Rattle.angles.specs.Computed.{units, cut, place, short, times, radians, nesting, nest, rounded, sineAt, cosineAt, waveAt, computed}
-use Rattle.angles.specs.Promise.{zero, exactly}
+use Rattle.formats.specs.Floats.{zero-float}
+use Rattle.angles.specs.Promise.{exactly}
 
 -- ---- the four places
-at-quarter : (w : Wave) (k : ℕ) → k < 4 → waveAt w (k * (90 * 2 ^ 52)) ≡ getD (exactly w) k zero
+at-quarter : (w : Wave) (k : ℕ) → k < 4 → waveAt w (k * (90 * 2 ^ 52)) ≡ getD (exactly w) k zero-float
 unfolding sineAt cosineAt rounded radians short times nesting nest ofInt div neg
-at-quarter sine = four (λ (k : ℕ). sineAt (k * (90 * 2 ^ 52)) ≡ getD (exactly sine) k zero) refl refl refl refl
-at-quarter cosine = four (λ (k : ℕ). cosineAt (k * (90 * 2 ^ 52)) ≡ getD (exactly cosine) k zero) refl refl refl refl
+at-quarter sine = four (λ (k : ℕ). sineAt (k * (90 * 2 ^ 52)) ≡ getD (exactly sine) k zero-float) refl refl refl refl
+at-quarter cosine = four (λ (k : ℕ). cosineAt (k * (90 * 2 ^ 52)) ≡ getD (exactly cosine) k zero-float) refl refl refl refl
 
 -- ---- a whole number of degrees
 
@@ -55,7 +56,7 @@ module _ (s : Bool) (n d k : ℕ) (D : 0 < d) (m : T (isMultiple (signed s n d))
 
 -- ---- all together
 
-pub computed-exact : (w : Wave) (d : Float) → 0 < number d .over → T (isMultiple (number d)) → computed w d ≡ getD (exactly w) (quarters (number d)) zero
+pub computed-exact : (w : Wave) (d : Float) → 0 < number d .over → T (isMultiple (number d)) → computed w d ≡ getD (exactly w) (quarters (number d)) zero-float
 unfolding computed place cut units isMultiple quarters
 computed-exact w nan D h = absurd (lt-irrefl 0 D)
 computed-exact w (inf s) D h = absurd (lt-irrefl 0 D)

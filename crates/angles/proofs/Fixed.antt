@@ -1,12 +1,14 @@
 -- The program's numbers as fractions: a whole number v stands for v / 2 ^ 60, and what the program makes of numbers near exact ones is near what the exact ones make. Errors are counted in units of 2 ^ -60.
 -- Assumes nothing.
 use mathlib.Core.Path.{_≡_, refl}
-use mathlib.Core.Bool.{Bool, true, false, not}
+use mathlib.Core.Bool.{Bool}
 use Prim.Native.Nat.{ℕ, zero, suc, _+_, _-_, _*_, _/_, _≤_, _<_}
 use native.Mathlib.Nat.{le-of-lt, mul-pos, mul-comm, mul-le-mul-right, sub-zero, div-mul-le-self, lt-div-mul-add, div-div-eq-div-mul}
 use native.Mathlib.Omega.{arith}
-use lib.Dec.{T, ltb, ltb→lt, nltb→le, lit<, lit≤}
+use lib.Dec.{ltb, lit<, lit≤}
 use lib.Pow.{pow-pos}
+use borrow.Author.Tests.{ltb-true, ltb-false}
+use Rattle.lists.proofs.Tests.{by-test}
 use Rattle.fractions.specs.Fraction.{Fraction, fraction, whole, signed, _⊖_, _⊗_, _⊘_, Same}
 use Rattle.fractions.proofs.Ring.{ring}
 use Rattle.fractions.proofs.Order.{same-refl}
@@ -70,11 +72,11 @@ module _ {g e : ℕ} {Z : Fraction} (c : Close one (fixed g) Z e) where
 
   -- as how far it is from 1, and its sign
   rest-close : Close one (signed (ltb one g) (fromOne g) one) (whole 1 ⊖ Z) e
-  rest-close = renamed (signed (ltb one g) (fromOne g) one) (pow-pos 60) (go (ltb one g) (ltb→lt one g) (nltb→le one g))
+  rest-close = renamed (signed (ltb one g) (fromOne g) one) (pow-pos 60) the-rest
     where
-      go : (b : Bool) → (T b → one < g) → (T (not b) → g ≤ one) → Same (signed b (fromOne g) one) (whole 1 ⊖ fixed g)
-      go true l h = let k = l tt in omega arith
-      go false l h = let k = h tt in omega arith
+      the-rest : Same (signed (ltb one g) (fromOne g) one) (whole 1 ⊖ fixed g)
+      the-rest =
+          by-test (λ (b : Bool). Same (signed b (fromOne g) one) (whole 1 ⊖ fixed g)) (ltb one g) (λ e. omega (arith, ltb-true one g e)) (λ e. omega (arith, ltb-false one g e))
 
 -- ---- the nestings
 

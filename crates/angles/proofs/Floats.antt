@@ -19,18 +19,18 @@ use borrow.Author.Tests.{ltb-false}
 use Rattle.refusals.proofs.First.{goes-on, passed}
 use Rattle.fractions.specs.Fraction.{Fraction, fraction, whole, magnitude, signed, number, _⊗_, Same, AtMost}
 use Rattle.fractions.proofs.Order.{same-refl, same-trans}
-use Rattle.fractions.proofs.Compare.{le-at-most, at-most-le}
 use Rattle.fractions.proofs.Number.{number-neg, value-same, value-number}
 use Rattle.fractions.proofs.Close.{Close, Size, size-wider, close-same, close-opposite}
 use Rattle.fractions.proofs.Rounding.{Result}
 use Rattle.fractions.proofs.Operations.{mul-result}
 use Rattle.fractions.proofs.Exact.{Holds, result-number, result-exact, literal-held}
 use Rattle.fractions.proofs.Held.{float-held, power-held}
+use Rattle.formats.specs.Floats.{zero-float}
 use Rattle.series.specs.Angles as Defined
 use Rattle.angles.specs.Computed.{one, turn, isUpright, units, cut, place, rounded}
-use Rattle.angles.specs.Limits.{isInside}
-use Rattle.angles.specs.Promise.{limit, isRefused, refusalOf}
-use Rattle.angles.proofs.Limits.{inside-size, size-accepted}
+use Rattle.angles.specs.Limits.{limit, isInside}
+use Rattle.angles.specs.Promise.{isRefused, refusalOf}
+use Rattle.angles.proofs.Limits.{inside-size, size-accepted, accepted-inside}
 use Rattle.angles.proofs.Limits as Limits
 
 -- ---- which floats are inside: those of a number of 1080 at most in size
@@ -99,13 +99,15 @@ cut-number (fin true m e) num den Z D h v =
 -- ---- the units of an angle from 0 to 1080
 
 upright-most : (s : Bool) (m : ℕ) (e : ℤ) → T (isUpright (fin s m e)) → (m * up e ≤ 1080 * down e) × (T s → m * up e ≡ 0)
-unfolding isUpright lt le eq ofInt
-upright-most false m e t =
-    let h : AtMost (number (fin false m e)) (whole 1080) = le-at-most (fin false m e) limit (and-r (not (lt (fin false m e) (ofInt binary64 (pos 0)))) (le (fin false m e) limit) t) (down-pos e) (lit< tt) in
-    (omega arith, λ f. absurd f)
-upright-most true m e t =
-    let h = nltb→le 0 (m * up e * 1 + 0 * down e) (and-l (not (lt (fin true m e) (ofInt binary64 (pos 0)))) (le (fin true m e) limit) t) in
-    (omega arith, λ f. omega arith)
+unfolding isUpright lt
+upright-most s m e t =
+    let low = not (lt (fin s m e) zero-float) in
+    let inside = isInside limit (fin s m e) in
+    (inside-most s m e (and-r low inside t), nothing s (and-l low inside t))
+  where
+    nothing : (s : Bool) → T (not (lt (fin s m e) zero-float)) → T s → m * up e ≡ 0
+    nothing true n t = let h = nltb→le 0 (m * up e * 1 + 0 * down e) n in omega arith
+    nothing false n t = absurd t
 
 -- times 2 ^ 52 it is exact
 module _ (s : Bool) (m : ℕ) (e : ℤ) (t : T (fits binary64 (fin s m e))) (h : m * up e ≤ 1080 * down e) (n : T s → m * up e ≡ 0) where
@@ -146,7 +148,7 @@ module _ (s : Bool) (m : ℕ) (e : ℤ) (t : T (fits binary64 (fin s m e))) (h :
       (same-trans (number z) raised (fraction (m * up e * 2 ^ 52) 0 (down e)) raised-pos (result-exact binary64 raised-pos raised-held raised-result) raised-is)
 
 pub upright-cut : (d : Float) → T (fits binary64 d) → T (isUpright d) → Cut (mul binary64 d (fin false 1 (pos 52))) (units d)
-unfolding units isUpright lt le eq ofInt
+unfolding units isUpright isInside lt le eq neg ofInt
 upright-cut nan t a = absurd a
 upright-cut (inf true) t a = absurd a
 upright-cut (inf false) t a = absurd a
@@ -154,37 +156,30 @@ upright-cut (fin s m e) t a = let b = upright-most s m e a in raised-cut s m e t
 
 -- ---- an angle inside, turned: below 0 by its opposite's units
 
--- from 0 to 1080, from its size and the sign of what is not 0
-most-upright : (s : Bool) (m : ℕ) (e : ℤ) → (T s → m * up e ≡ 0) → m * up e ≤ 1080 * down e → T (isUpright (fin s m e))
-unfolding isUpright lt le eq ofInt
-most-upright false m e z h =
-    and-i (not (lt (fin false m e) (fin false 0 (pos 0)))) (le (fin false m e) limit) (le→nltb (m * up e * 1) (0 * down e) (omega arith)) (at-most-le (fin false m e) limit (down-pos e) (lit< tt) (omega arith))
-most-upright true m e z h =
-    let n = z tt in
-    and-i (not (lt (fin true m e) (fin false 0 (pos 0)))) (le (fin true m e) limit) (le→nltb 0 (m * up e * 1 + 0 * down e) (omega arith)) (at-most-le (fin true m e) limit (down-pos e) (lit< tt) (omega arith))
-
 pub negated : (d : Float) → T (isInside limit d) → lt d (ofInt binary64 (pos 0)) ≡ true → T (isUpright (neg d)) × (units (neg d) ≡ units d) × ((turn - units d % turn) % turn ≡ place d)
-unfolding isInside lt le eq neg ofInt place cut units Defined.turned
+unfolding isUpright isInside lt le eq neg ofInt place cut units Defined.turned
 negated nan t l = absurd (false≢true l)
 negated (inf true) t l = absurd t
 negated (inf false) t l = absurd t
 negated (fin false m e) t l = absurd (lt-irrefl (m * up e * 1) (lt-of-lt-of-le (ltb→lt (m * up e * 1) (0 * down e) (subst T (sym l) tt)) (omega arith)))
 negated (fin true m e) t l =
     let u = m * up e * 2 ^ 52 / down e in
-    (most-upright false m e (λ f. absurd f) (inside-most true m e t), refl, (ap (λ (n : ℕ). n % turn) (sym (zero-add (turn - u % turn)))))
+    let h = inside-most true m e t in
+    let inside = accepted-inside limit (fin false m e) (size-accepted limit (fin false m e) (lit< tt) (down-pos e) (omega arith)) in
+    (and-i (not (lt (fin false m e) zero-float)) (isInside limit (fin false m e)) (le→nltb (m * up e * 1) (0 * down e) (omega arith)) inside, refl, (ap (λ (n : ℕ). n % turn) (sym (zero-add (turn - u % turn)))))
 
 pub itself : (d : Float) → T (isInside limit d) → lt d (ofInt binary64 (pos 0)) ≡ false → T (isUpright d) × (units d % turn ≡ place d)
-unfolding isInside lt le eq neg ofInt place cut units Defined.turned
+unfolding isUpright isInside lt le eq neg ofInt place cut units Defined.turned
 itself nan t l = absurd t
 itself (inf true) t l = absurd t
 itself (inf false) t l = absurd t
 itself (fin false m e) t l =
     let u = m * up e * 2 ^ 52 / down e in
-    (most-upright false m e (λ f. absurd f) (inside-most false m e t), (sym (add-mod-right u turn)))
+    (and-i (not (lt (fin false m e) zero-float)) (isInside limit (fin false m e)) (subst (λ (b : Bool). T (not b)) (sym l) tt) t, (sym (add-mod-right u turn)))
 itself (fin true m e) t l =
     let z : m * up e ≡ 0 = none (m * up e) (down e) (ltb-false 0 (m * up e * 1 + 0 * down e) l) in
     let u : m * up e * 2 ^ 52 / down e ≡ 0 = ap (λ (n : ℕ). n * 2 ^ 52 / down e) z ∙ zero-div (down e) in
-    (most-upright true m e (λ f. z) (inside-most true m e t), (ap (λ (n : ℕ). n % turn) u ∙ sym (ap (λ (n : ℕ). (0 + (turn - n % turn)) % turn) u)))
+    (and-i (not (lt (fin true m e) zero-float)) (isInside limit (fin true m e)) (subst (λ (b : Bool). T (not b)) (sym l) tt) t, (ap (λ (n : ℕ). n % turn) u ∙ sym (ap (λ (n : ℕ). (0 + (turn - n % turn)) % turn) u)))
   where
     none : (a b : ℕ) → a * 1 + 0 * b ≤ 0 → a ≡ 0
     none a b h = omega arith

@@ -11,9 +11,10 @@ use Rattle.fractions.proofs.Within.{within-weaken}
 use Rattle.series.specs.Sums.{Wave}
 use Rattle.series.specs.Angles.{defined}
 use Rattle.series.proofs.Laws.{defined-size}
-use Rattle.angles.specs.Limits.{isInside}
+use Rattle.angles.specs.Limits.{limit, isInside}
 use Rattle.angles.specs.Computed.{turn, place, waveAt, computed}
-use Rattle.angles.specs.Promise.{zero, limit, isRefused, refusalOf, outcome, Promise}
+use Rattle.formats.specs.Floats.{zero-float}
+use Rattle.angles.specs.Promise.{isRefused, refusalOf, outcome, Promise}
 use Rattle.angles.proofs.Limits as Limits
 use Rattle.angles.proofs.Floats.{accepted-is, accepted-number, place-less}
 use Rattle.angles.proofs.Near.{computed-near}
@@ -27,10 +28,10 @@ refused-is d = Limits.refused-is limit d (lit< tt)
 module _ (w : Wave) (d : Float) where
   -- the value at an accepted angle
   pub value-is : refusalOf d ≡ 0 → outcome w d .value ≡ computed w d
-  value-is h = goes-on zero (computed w d) (accepted-is d h)
+  value-is h = goes-on zero-float (computed w d) (accepted-is d h)
 
-  pub kept : Promise w d (outcome w d)
-  kept = record {
+  pub outcome-kept : Promise w d (outcome w d)
+  outcome-kept = record {
     is = refl;
     near = λ h. record {
       near = within-weaken (lit≤ tt) (subst (λ (v : Float). Within 50 (number v) (defined w (number d))) (sym (value-is h)) (computed-near w d (accepted-number d h)));
@@ -40,16 +41,16 @@ module _ (w : Wave) (d : Float) where
   }
 
   -- ---- the two answers of the program: b is what the test said, a the place on the turn and v the value there
-  pub refused-kept : (b : Bool) → b ≡ isInside limit d → not b ≡ true → Promise w d (record { refusal = 3; value = zero })
+  pub refused-kept : (b : Bool) → b ≡ isInside limit d → not b ≡ true → Promise w d (record { refusal = 3; value = zero-float })
   refused-kept b e h =
       let r : isRefused d ≡ true = refused-is d ∙ ap not (sym e) ∙ h in
-      subst (Promise w d) (λ i. record { refusal = stops 3 0 r i; value = stops zero (computed w d) r i }) kept
+      subst (Promise w d) (λ i. record { refusal = stops 3 0 r i; value = stops zero-float (computed w d) r i }) outcome-kept
 
   pub accepted-kept : (b : Bool) (a : ℕ) (v : Float) → b ≡ isInside limit d → not b ≡ false → a ≡ place d → v ≡ waveAt w a → Promise w d (record { refusal = 0; value = v })
   unfolding computed
   accepted-kept b a v e h p q =
       let r : isRefused d ≡ false = refused-is d ∙ ap not (sym e) ∙ h in
-      subst (Promise w d) (λ i. record { refusal = goes-on 3 0 r i; value = (goes-on zero (computed w d) r ∙ sym (q ∙ ap (waveAt w) p)) i }) kept
+      subst (Promise w d) (λ i. record { refusal = goes-on 3 0 r i; value = (goes-on zero-float (computed w d) r ∙ sym (q ∙ ap (waveAt w) p)) i }) outcome-kept
 
 -- ---- what its functions ask of each other on the way
 module _ (d : Float) where

@@ -15,19 +15,16 @@ use Rattle.series.specs.Sums.{Wave}
 use Rattle.series.specs.Angles.{defined, definedMost}
 use Rattle.series.proofs.Laws.{defined-size, defined-carried}
 use Rattle.angles.specs.declared.Answer.{Answer}
-use Rattle.angles.specs.Promise.{refusalOf, outcome, Promise}
-use Rattle.angles.proofs.Floats as Floats
+use Rattle.angles.specs.Promise.{refusalOf, Promise}
+use Rattle.angles.proofs.Floats.{accepted-number}
 use Rattle.angles.proofs.Near.{computed-near}
-use Rattle.angles.proofs.Kept.{value-is, kept}
+use Rattle.angles.proofs.Kept.{value-is}
+-- the promise holds of the answer that the definition gives, so that all of it can be had of a value that is said by the definition alone
+pub use Rattle.angles.proofs.Kept.{outcome-kept}
+-- angles of 1080 degrees at most in size are accepted
+pub use Rattle.angles.proofs.Floats.{accepted}
 
--- ---- the promise holds of the answer that the definition gives, so that all of it can be had of a value that is said by the definition alone
-pub outcome-kept : (w : Wave) (d : Float) → Promise w d (outcome w d)
-outcome-kept = kept
-
--- ---- which angles are accepted: those of 1080 degrees at most in size, and so an angle rounded from one of 1079
-pub accepted : (d : Float) → 0 < number d .over → AtMost (magnitude (number d)) (whole 1080) → refusalOf d ≡ 0
-accepted = Floats.accepted
-
+-- ---- so is an angle rounded from one of 1079
 rounded-accepted : (d : Float) {k : ℕ} (a : Fraction) → Within k (number d) a → AtMost (magnitude a) (whole 1079) → refusalOf d ≡ 0
 rounded-accepted d {k} a c h =
     let n : Size 1 (number d) 1080 = size-near (close-unit (pow-pos k) (above (2 ^ k) (pow-pos k)) (within-close c)) (at-most-size h) in
@@ -40,7 +37,7 @@ module _ (w : Wave) (d : Float) (answer : Answer) (p : Promise w d answer) where
   -- ---- nearer than promised
   pub value-near : refusalOf d ≡ 0 → Within 50 (number (answer .value)) (defined w (number d))
   value-near h =
-      subst (λ (v : Float). Within 50 (number v) (defined w (number d))) (sym (ap (λ (r : Answer). r .value) (p .is) ∙ value-is w d h)) (computed-near w d (Floats.accepted-number d h))
+      subst (λ (v : Float). Within 50 (number v) (defined w (number d))) (sym (ap (λ (r : Answer). r .value) (p .is) ∙ value-is w d h)) (computed-near w d (accepted-number d h))
 
   -- ---- d is an angle rounded, and a the exact one
   pub value-carried : {k : ℕ} (a : Fraction) → k ≤ 49 → Within k (number d) a → AtMost (magnitude a) (whole 1079) → Approximates k definedMost (answer .value) (defined w a)

@@ -18,7 +18,7 @@ use Rattle.angles.specs.Limits.{isInside, refusesAngle}
 
 -- ---- an angle that is not refused
 module _ (limit x : Float) (h : refusesAngle limit x ≡ false) where
-  accepted-inside : T (isInside limit x)
+  pub accepted-inside : T (isInside limit x)
   unfolding refusesAngle
   accepted-inside = subst T (sym (not-false (isInside limit x) (or-off (not (finite x)) (not (isInside limit x)) h .1))) tt
 

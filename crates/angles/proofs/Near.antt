@@ -5,7 +5,7 @@ use mathlib.Core.Bool.{Bool, true, false, not, cond}
 use Prim.Native.Nat.{ℕ, _+_, _-_, _*_, _/_, _%_, _^_, _≤_, _<_}
 use native.Mathlib.Nat.{le-of-lt, lt-irrefl, mod-lt, div-mul-le-self, lt-div-mul-add}
 use native.Mathlib.Omega.{arith}
-use lib.Dec.{T, leb, ltb, leb→le, nleb→lt, lit<, lit≤}
+use lib.Dec.{ltb, lit<, lit≤}
 use lib.IntN.{ℤ}
 use lib.Pow.{pow-pos}
 use lib.Ieee.{Float, nan, inf, fin, unlike, up, down}
@@ -19,7 +19,8 @@ use Rattle.fractions.proofs.Within.{within-close, counted-within}
 use Rattle.series.specs.Sums.{Wave, sine, cosine, sum}
 use Rattle.series.specs.Angles as Defined
 use Rattle.series.specs.Angles.{defined}
-use Rattle.series.proofs.Laws.{sum-number, sum-same, sine-sum-opposite, cosine-sum-opposite, defined-sum, reduced-close}
+use Rattle.series.proofs.Reduction.{by-side}
+use Rattle.series.proofs.Laws.{sum-number, sum-same, sum-opposite, defined-sum, reduced-close}
 use Rattle.angles.specs.Computed.{one, turn, half, cut, units, place, short, times, radians, outermost, fromOne, rounded, sineAt, cosineAt, waveAt, computed}
 use Rattle.angles.proofs.Waves.{angle, sine-close, cosine-close}
 use Rattle.angles.proofs.Room.{short-low, short-high, radians-most, sine-fits, cosine-fits}
@@ -47,7 +48,7 @@ module _ (r : ℕ) (h : r ≤ half) where
   -- with the other sign
   sine-down : Close one (number (rounded (not (sine-sign r)) (sine-size r))) (sum sine (opposite (angle r))) 375
   sine-down =
-      rw (sine-sum-opposite (angle r)) (close-trans (rounded-close (not (sine-sign r)) (sine-size r) (sine-fits (radians r) (radians-most r h))) (turned (sine-sign r) (sine-size r) (sine-close r h)))
+      rw (sum-opposite sine (angle r)) (close-trans (rounded-close (not (sine-sign r)) (sine-size r) (sine-fits (radians r) (radians-most r h))) (turned (sine-sign r) (sine-size r) (sine-close r h)))
     where
       turned : (b : Bool) (s : ℕ) → Close one (signed b s one) (sum sine (angle r)) 119 → Close one (signed (not b) s one) (opposite (sum sine (angle r))) 119
       turned true s c = close-opposite c
@@ -103,7 +104,7 @@ module _ (a : ℕ) where
       renamed sine a (number (sineAt a)) (opposite (angle r)) (rw (sine-is (short-high a h) (lt-ltb half a h), down-is (sine-sign r)) (sine-down r (omega arith))) (angle-opposite a (le-of-lt k))
   high-close h k cosine =
       let r = turn - a in
-      renamed cosine a (number (cosineAt a)) (opposite (angle r)) (rw (cosine-is (short-high a h), cosine-sum-opposite (angle r)) (cosine-up r (omega arith))) (angle-opposite a (le-of-lt k))
+      renamed cosine a (number (cosineAt a)) (opposite (angle r)) (rw (cosine-is (short-high a h), sum-opposite cosine (angle r)) (cosine-up r (omega arith))) (angle-opposite a (le-of-lt k))
 
 -- ---- the angle, cut
 
@@ -121,18 +122,14 @@ cut-close true m e = close-opposite (cut-nat (m * up e) (down e) (down-pos e))
 
 -- the sum at its reduced angle is that at its place
 placed : (w : Wave) (p m : ℕ) → Close one (number (waveAt w (Defined.turned (fraction p m (2 ^ 52))))) (sum w (Defined.radians (Defined.reduced (fraction p m (2 ^ 52))))) 375
-unfolding Defined.reduced Defined.around
-placed w p m = go (leb a half) (leb→le a half) (nleb→lt a half)
+unfolding Defined.reduced
+placed w p m = by-side (λ (x : Fraction). Close one (number (waveAt w a)) (sum w (Defined.radians x)) 375) a (2 ^ 52) (λ l. low-close a l w) (λ h. high-close a h under w)
   where
     a : ℕ
     a = Defined.turned (fraction p m (2 ^ 52))
 
     under : a < turn
     under = unfold Defined.turned in (mod-lt (p + (turn - m % turn)) (lit< tt))
-
-    go : (b : Bool) → (T b → a ≤ half) → (T (not b) → half < a) → Close one (number (waveAt w a)) (sum w (Defined.radians (cond b (fraction a 0 (2 ^ 52)) (fraction a turn (2 ^ 52))))) 375
-    go true l h = low-close a (l tt) w
-    go false l h = high-close a (h tt) under w
 
 -- ---- all together
 

@@ -3,15 +3,16 @@ use mathlib.Core.Path.{_≡_, refl, ap}
 use mathlib.Core.Bool.{Bool, true, false, true≢false, false≢true}
 use Prim.Native.Nat.{ℕ}
 use native.Mathlib.Omega.{arith}
+use lib.Dec.{le→leb}
 use lib.IntN.{pos, negsuc}
-use lib.Ieee.{Float, nan, inf, fin, lt, le, eq, neg, div, ofInt}
+use lib.Ieee.{Float, nan, inf, fin, lt, le, eq, neg, ofInt}
 use lib.Ieee.Positive.{num}
-use Rattle.series.specs.Sums.{sine, cosine}
-use Rattle.series.specs.Angles.{turned, isMultiple, quarters}
+use Rattle.series.specs.Sums.{sine, cosine, sineSum, term, power, factorial}
+use Rattle.series.specs.Angles.{turned, around, reduced, radians, isMultiple, quarters, defined}
 use Rattle.angles.specs.declared.Answer.{Answer}
-use Rattle.angles.specs.Computed.{units, cut, place, short, times, radians, nesting, nest, rounded, sineAt, computed}
 use Rattle.angles.specs.Limits.{isInside, refusesAngle}
-use Rattle.angles.specs.Promise.{float, zero, one, Promise}
+use Rattle.formats.specs.Floats.{zero-float, one-float, float}
+use Rattle.angles.specs.Promise.{Promise}
 
 sign : Float → Bool
 sign nan = false
@@ -19,22 +20,22 @@ sign (inf s) = s
 sign (fin s m e) = s
 
 -- it refuses every angle: that of 1 degree is accepted
-refuses-always : Promise sine (float (pos 1)) (record { refusal = 3; value = zero }) → ⊥
+refuses-always : Promise sine (float (pos 1)) (record { refusal = 3; value = zero-float }) → ⊥
 unfolding refusesAngle isInside lt le eq neg ofInt
 refuses-always p = let e : _≡_ {A = ℕ} 3 0 = ap (λ (r : Answer). r .refusal) (p .is) in omega arith
 
 -- it refuses nothing
-refuses-never : Promise cosine nan (record { refusal = 0; value = one }) → ⊥
+refuses-never : Promise cosine nan (record { refusal = 0; value = one-float }) → ⊥
 unfolding refusesAngle
 refuses-never p = let e : _≡_ {A = ℕ} 0 3 = ap (λ (r : Answer). r .refusal) (p .is) in omega arith
 
 -- it takes the ends of -1080..1080 for outside
-refuses-1080 : Promise sine (float (pos 1080)) (record { refusal = 3; value = zero }) → ⊥
+refuses-1080 : Promise sine (float (pos 1080)) (record { refusal = 3; value = zero-float }) → ⊥
 unfolding refusesAngle isInside lt le eq neg ofInt
 refuses-1080 p = let e : _≡_ {A = ℕ} 3 0 = ap (λ (r : Answer). r .refusal) (p .is) in omega arith
 
 -- it says 0.0 at every angle: at 90 the sine is 1.0
-always-zero : Promise sine (float (pos 90)) (record { refusal = 0; value = zero }) → ⊥
+always-zero : Promise sine (float (pos 90)) (record { refusal = 0; value = zero-float }) → ⊥
 unfolding refusesAngle isInside lt le eq neg ofInt isMultiple quarters turned
 always-zero p = let e : _≡_ {A = ℕ} 0 1 = ap num (p .exact refl tt) in omega arith
 
@@ -44,11 +45,11 @@ unfolding refusesAngle isInside lt le eq neg ofInt isMultiple quarters turned si
 minus-zero p = true≢false (ap sign (p .exact refl tt))
 
 -- it takes the shorter way from 0 and forgets on which side: at 270 the sine is -1.0
-side-forgotten : Promise sine (float (pos 270)) (record { refusal = 0; value = one }) → ⊥
+side-forgotten : Promise sine (float (pos 270)) (record { refusal = 0; value = one-float }) → ⊥
 unfolding refusesAngle isInside lt le eq neg ofInt isMultiple quarters turned sign
 side-forgotten p = false≢true (ap sign (p .exact refl tt))
 
 -- it takes degrees for radians: at 1 degree the sine of 1 radian, 0.8414709848078965
 radians-taken : Promise sine (float (pos 1)) (record { refusal = 0; value = fin false 3789648413623927 (negsuc 51) }) → ⊥
-unfolding refusesAngle isInside lt le eq computed place cut units turned sineAt short times radians nesting nest rounded ofInt div neg
-radians-taken p = let e : _≡_ {A = ℕ} 3789648413623927 19649662781917 = ap (λ (r : Answer). num (r .value)) (p .is) in omega arith
+unfolding refusesAngle isInside lt le eq neg ofInt defined isMultiple quarters turned reduced around radians sineSum term power factorial
+radians-taken p = le→leb _ _ (p .near refl .near .near)

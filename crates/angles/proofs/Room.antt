@@ -1,12 +1,13 @@
 -- How large the program's numbers get, which is what its functions ask of each other. Assumes nothing.
 use mathlib.Core.Path.{_≡_, sym, ap, subst}
-use mathlib.Core.Bool.{Bool, true, false, not, cond}
+use mathlib.Core.Bool.{Bool, cond}
 use Prim.Native.Nat.{ℕ, zero, suc, _+_, _-_, _*_, _^_, _≤_, _<_}
 use native.Mathlib.Nat.{le-refl, le-trans, le-of-eq, mul-pos, mul-comm, mul-le-mul, mul-le-mul-left, mul-le-mul-right, div-le-of-le-mul}
 use native.Mathlib.Omega.{arith}
-use lib.Dec.{T, leb, leb→le, nleb→lt, lit≤}
+use lib.Dec.{lit≤}
 use lib.Pow.{shr-mono}
 use borrow.Author.Tests.{le-leb, lt-leb}
+use Rattle.lists.proofs.Tests.{by-at-most}
 use Rattle.angles.specs.Computed.{one, turn, half, degree, short, times, radians, nesting, nest, outermost, fromOne}
 
 -- ---- the nestings
@@ -43,11 +44,7 @@ short-high a h = ap (λ (b : Bool). cond b a (turn - a)) (lt-leb a half h)
 
 short-most : (a : ℕ) → short a ≤ half
 unfolding short
-short-most a = go (leb a half) (leb→le a half) (nleb→lt a half)
-  where
-    go : (b : Bool) → (T b → a ≤ half) → (T (not b) → half < a) → cond b a (turn - a) ≤ half
-    go true l h = l tt
-    go false l h = let k = h tt in omega arith
+short-most a = by-at-most (λ (r : ℕ). r ≤ half) a half (λ l. l) (λ h. omega arith)
 
 -- ---- x, half a turn at most, and its square
 

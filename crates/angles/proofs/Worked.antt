@@ -8,16 +8,17 @@ use Rattle.series.specs.Angles.{turned}
 use Rattle.angles.specs.declared.Answer.{Answer}
 use Rattle.angles.specs.Computed.{units, cut, place, short, times, radians, nesting, nest, rounded, sineAt, cosineAt, computed}
 use Rattle.angles.specs.Limits.{isInside, refusesAngle}
-use Rattle.angles.specs.Promise.{float, zero, one, minus-one, outcome}
+use Rattle.formats.specs.Floats.{zero-float, one-float, minus-one-float, float}
+use Rattle.angles.specs.Promise.{outcome}
 
 abbrev accepted : Float → Answer
 accepted v = record { refusal = 0; value = v }
 
 abbrev refused : Answer
-refused = record { refusal = 3; value = zero }
+refused = record { refusal = 3; value = zero-float }
 
 -- ---- 0, 1 and -1 at multiples of 90, and 0 with no sign
-sine-90 : outcome sine (float (pos 90)) ≡ accepted one
+sine-90 : outcome sine (float (pos 90)) ≡ accepted one-float
 unfolding refusesAngle isInside lt le eq computed place cut units turned sineAt short times radians nesting nest rounded ofInt div neg
 sine-90 = refl
 
@@ -25,11 +26,11 @@ sine-180 : outcome sine (float (pos 180)) ≡ accepted (fin false 0 (pos 0))
 unfolding refusesAngle isInside lt le eq computed place cut units turned sineAt short times radians nesting nest rounded ofInt div neg
 sine-180 = refl
 
-sine-270 : outcome sine (float (pos 270)) ≡ accepted minus-one
+sine-270 : outcome sine (float (pos 270)) ≡ accepted minus-one-float
 unfolding refusesAngle isInside lt le eq computed place cut units turned sineAt short times radians nesting nest rounded ofInt div neg
 sine-270 = refl
 
-cosine-minus-540 : outcome cosine (float (negsuc 539)) ≡ accepted minus-one
+cosine-minus-540 : outcome cosine (float (negsuc 539)) ≡ accepted minus-one-float
 unfolding refusesAngle isInside lt le eq computed place cut units turned cosineAt short times radians nesting nest rounded ofInt div neg
 cosine-minus-540 = refl
 
@@ -47,7 +48,7 @@ unfolding computed place cut units turned sineAt short times radians nesting nes
 sine-minus-1 = refl
 
 -- ---- the ends of what is accepted: 1080 is, and the next float is not; no NaN is, and no infinity
-sine-1080 : outcome sine (float (pos 1080)) ≡ accepted zero
+sine-1080 : outcome sine (float (pos 1080)) ≡ accepted zero-float
 unfolding refusesAngle isInside lt le eq computed place cut units turned sineAt short times radians nesting nest rounded ofInt div neg
 sine-1080 = refl
 

@@ -4,10 +4,12 @@ use Prim.Native.Nat.{ℕ, zero, suc, _+_, _-_, _*_, _/_, _%_, _^_}
 use mathlib.Core.Bool.{Bool, false, not, _&&_, cond}
 use lib.Dec.{eqb, leb, ltb}
 use lib.IntN.{pos}
-use lib.Ieee.{Float, nan, inf, fin, binary64, unlike, up, down, lt, le, neg, div, ofInt}
+use lib.Ieee.{Float, nan, inf, fin, binary64, unlike, up, down, lt, neg, div, ofInt}
 use Rattle.fractions.specs.Fraction.{Fraction, fraction, signed, gap}
 use Rattle.series.specs.Sums.{Wave, sine, cosine}
 use Rattle.series.specs.Angles.{turned}
+use Rattle.formats.specs.Floats.{zero-float}
+use Rattle.angles.specs.Limits.{limit, isInside}
 use Rattle.angles.specs.declared.Wave.{Wave as Asked}
 use Rattle.angles.specs.declared.Wave.the-variants.{Sine, Cosine}
 
@@ -26,9 +28,9 @@ degree = 5151302725743731798
 
 -- ---- the angle
 
--- 0 up to 1080 degrees, of which units can be counted
+-- from 0 up to the limit, of which units can be counted
 unfoldable pub isUpright : Float → Bool
-isUpright d = not (lt d (ofInt binary64 (pos 0))) && le d (ofInt binary64 (pos 1080))
+isUpright d = not (lt d zero-float) && isInside limit d
 
 unfoldable pub units : Float → ℕ
 units nan = 0

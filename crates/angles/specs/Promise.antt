@@ -5,31 +5,23 @@ use mathlib.Core.Path.{_≡_}
 use mathlib.Core.Bool.{Bool, cond}
 use mathlib.Core.List.{List, [], _∷_}
 use lib.Dec.{T}
-use lib.IntN.{ℤ, pos, negsuc}
 use lib.ListN.{getD}
-use lib.Ieee.{Float, binary64, ofInt}
+use lib.Ieee.{Float}
 use Rattle.refusals.specs.Refusals.{firstOf, _when_}
+use Rattle.formats.specs.Floats.{zero-float, one-float, minus-one-float}
 use Rattle.fractions.specs.Fraction.{number}
 use Rattle.fractions.specs.Approximates.{Approximates}
 use Rattle.series.specs.Sums.{Wave, sine, cosine}
 use Rattle.series.specs.Angles.{isMultiple, quarters, defined, definedMost}
 use Rattle.angles.specs.declared.Answer.{Answer}
-use Rattle.angles.specs.Limits.{refusesAngle}
+use Rattle.angles.specs.Limits.{limit, refusesAngle}
 use Rattle.angles.specs.Computed.{computed}
 
 -- within 2 ^ -angleBits: the place to change it at
 abbrev pub angleBits : ℕ
 angleBits = 40
 
--- a whole number as an f64
-abbrev pub float : ℤ → Float
-float z = ofInt binary64 z
-
 -- ---- refusals
-
--- "a sine's angle outside -1080..1080 degrees"
-abbrev pub limit : Float
-limit = float (pos 1080)
 
 abbrev pub isRefused : Float → Bool
 isRefused d = refusesAngle limit d
@@ -39,25 +31,16 @@ refusalOf d = firstOf (3 when isRefused d ∷ [])
 
 -- ---- the answer
 
-abbrev pub zero : Float
-zero = float (pos 0)
-
-abbrev pub one : Float
-one = float (pos 1)
-
-abbrev pub minus-one : Float
-minus-one = float (negsuc 0)
-
 -- at 0, 90, 180 and 270 degrees
 abbrev pub exactly : Wave → List Float
-exactly sine = zero ∷ one ∷ zero ∷ minus-one ∷ []
-exactly cosine = one ∷ zero ∷ minus-one ∷ zero ∷ []
+exactly sine = zero-float ∷ one-float ∷ zero-float ∷ minus-one-float ∷ []
+exactly cosine = one-float ∷ zero-float ∷ minus-one-float ∷ zero-float ∷ []
 
 abbrev pub outcome : Wave → Float → Answer
-outcome w d = record { refusal = refusalOf d; value = cond (isRefused d) zero (computed w d) }
+outcome w d = record { refusal = refusalOf d; value = cond (isRefused d) zero-float (computed w d) }
 
 -- every bit of the answer; and of the value at an accepted angle how near it is to the defined one, how large that is, and what it is at a multiple of 90
 pub record Promise (w : Wave) (d : Float) (answer : Answer) : Type 0 where
   pub is : answer ≡ outcome w d
   pub near : refusalOf d ≡ 0 → Approximates angleBits definedMost (answer .value) (defined w (number d))
-  pub exact : refusalOf d ≡ 0 → T (isMultiple (number d)) → answer .value ≡ getD (exactly w) (quarters (number d)) zero
+  pub exact : refusalOf d ≡ 0 → T (isMultiple (number d)) → answer .value ≡ getD (exactly w) (quarters (number d)) zero-float

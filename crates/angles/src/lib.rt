@@ -23,11 +23,13 @@
 //   the sum in place of the exact value, at a multiple of 90: 2^-54      64       64
 //   together                                                            631      597
 //
-// Under it lie `series` (what sine and cosine are), `fractions` (what "within" is said over) and `refusals`.
+// Under it lie `series` (what sine and cosine are), `fractions` (what "within" is said over), `formats`
+// (0.0 and whole numbers as floats), `lists` and `refusals`.
 ghost use mathlib.Core.Path.{_≡_};
 ghost use Prim.Native.Nat.{_-_, _*_, _^_, _<_, _≤_};
 ghost use lib.Dec.{T};
 ghost use Rattle.angles.specs.Computed as Steps;
+ghost use Rattle.angles.specs.Limits as Limits;
 ghost use Rattle.angles.specs.Limits.{isInside};
 ghost use Rattle.angles.specs.Promise as Said;
 ghost use Rattle.series.specs.Sums as Sums;
@@ -105,7 +107,7 @@ fn units(d: f64) -> u64
 
 // An angle from -1080 to 1080 degrees turned into 0 up to a turn, in the same units.
 fn turned(d: f64) -> u64
-    requires { ⌜ T (isInside Said.limit d) ⌝ }
+    requires { ⌜ T (isInside Limits.limit d) ⌝ }
     ensures { λ r. ⌜ r ≡ Steps.place d ⌝ }
 {
     if d < 0.0 {

@@ -4,12 +4,13 @@ use mathlib.Core.Path.{_≡_, refl, sym, ap, _∙_, subst}
 use mathlib.Core.Logic.{_⊎_, inl, inr}
 use Prim.Native.Nat.{ℕ, suc, _+_, _*_, _/_, _%_, _≤_, _<_, compare, Ordering, Ordering·lt, Ordering·eq, Ordering·gt}
 use native.Mathlib.Nat.{le-trans, le-of-eq, le-of-lt, lt-irrefl, not-le-of-lt, eq-or-lt-of-le, mul-le-mul-right, le-div-iff-mul-le, div-lt-iff-lt-mul, mod-lt, mod-eq-of-lt, div-eq-of-lt, div-add-mod', suc-mul}
-use native.Mathlib.Decide.{ℕ-discrete, decLt}
+use native.Mathlib.Decide.{ℕ-discrete}
 use native.Mathlib.Omega.{arith}
 use lib.Dec.{T, isLe, isEq, eqb, le→leb, leb→le, eqb→eq, eqb-refl}
 use lib.Ieee.{nearest}
 use lib.Ieee.Fits.{nearest-le}
 use lib.Ieee.Nearest.{closest, nearest-ge}
+use Rattle.lists.proofs.Tests.{compared}
 use Rattle.fractions.specs.Fraction.{gap}
 
 -- ---- what `compare` says
@@ -97,23 +98,15 @@ at-tie a b q r c e h k = record { half = go (eq-or-lt-of-le (bit q)); even = λ 
     go (inr s) = let n : c ≡ q = omega arith in subst (λ (z : ℕ). off a b z * 2 ≤ b) (sym n) stays
 
 pub closest-rounded : (a b : ℕ) → 0 < b → Rounded a b (closest a b)
-closest-rounded a b B = go (decLt (a % b * 2) b) (decLt b (a % b * 2))
-  where
-    e : a / b * b + a % b ≡ a
-    e = div-add-mod' a b
-
-    level : (x : ℕ) → ¬ (x < b) → ¬ (b < x) → x ≡ b
-    level x l g = omega arith
-
-    go : Dec (a % b * 2 < b) → Dec (b < a % b * 2) → Rounded a b (closest a b)
-    go (yes l) d = at-q a b (a / b) (a % b) (closest a b) e l (closest-lt a b l)
-    go (no n) (yes g) = at-next a b (a / b) (a % b) (closest a b) e g (mod-lt a B) (closest-gt a b g)
-    go (no n) (no m) = let t = level (a % b * 2) n m in at-tie a b (a / b) (a % b) (closest a b) e t (closest-tie a b t)
+closest-rounded a b B =
+    let e = div-add-mod' a b in
+    compared (a % b * 2) b (λ l. at-q a b (a / b) (a % b) (closest a b) e l (closest-lt a b l)) (λ t. at-tie a b (a / b) (a % b) (closest a b) e t (closest-tie a b t))
+    (λ g. at-next a b (a / b) (a % b) (closest a b) e g (mod-lt a B) (closest-gt a b g))
 
 -- ---- such a number is nearest: two of them are b apart, so another is off by half of b at least
 module _ (a b c w : ℕ) (r : Rounded a b c) where
   far : (w ≡ c → ⊥) → b ≤ off a b c + off a b w
-  far n = go (decLt w c) (decLt c w)
+  far n = compared w c (λ l. over (w * b) (c * b) (more w c l)) (λ e. absurd (n e)) (λ g. under (w * b) (c * b) (more c w g))
     where
       over : (x y : ℕ) → x + b ≤ y → b ≤ gap a y + gap a x
       over x y h = omega arith
@@ -123,14 +116,6 @@ module _ (a b c w : ℕ) (r : Rounded a b c) where
 
       more : (x y : ℕ) → x < y → x * b + b ≤ y * b
       more x y h = le-trans (le-of-eq (sym (suc-mul x b))) (mul-le-mul-right b h)
-
-      same : ¬ (w < c) → ¬ (c < w) → w ≡ c
-      same l g = omega arith
-
-      go : Dec (w < c) → Dec (c < w) → b ≤ off a b c + off a b w
-      go (yes l) d = over (w * b) (c * b) (more w c l)
-      go (no l) (yes g) = under (w * b) (c * b) (more c w g)
-      go (no l) (no g) = absurd (n (same l g))
 
   pub rounded-best : off a b c ≤ off a b w
   rounded-best = go (ℕ-discrete w c)

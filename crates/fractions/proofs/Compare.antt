@@ -4,12 +4,12 @@ use mathlib.Core.Path.{_≡_, refl, sym, ap, _∙_, subst}
 use mathlib.Core.Bool.{Bool, true, false, not, _&&_, _||_}
 use Prim.Native.Nat.{ℕ, _+_, _*_, _<_, zero-le}
 use native.Mathlib.Nat.{le-of-lt, lt-irrefl, not-suc-le-zero}
-use native.Mathlib.Decide.{decLt}
 use native.Mathlib.Omega.{arith}
 use borrow.Author.Tests.{ltb-true, ltb-false, eqb-true, not-true, lt-ltb, le-ltb, eq-eqb, ne-eqb}
 use lib.Dec.{T, ltb, eqb}
 use lib.Ieee.{Float, nan, inf, fin, up, down, below, level, lt, eq, le}
 use lib.Ieee.Bits.{is-true}
+use Rattle.lists.proofs.Tests.{compared}
 use Rattle.fractions.specs.Fraction.{Fraction, signed, number, Same, Less, isLess, AtMost}
 use Rattle.fractions.proofs.Order.{less-same, at-most-same}
 
@@ -48,15 +48,10 @@ lt-number (fin s m e) (fin t n d) h k = signed-less s t (m * up e) (down e) (n *
 
 -- a < b or a = b, where w is the test of the second
 at-most-test : (a b : ℕ) (w : Bool) → (a ≡ b → w ≡ true) → (b < a → w ≡ false) → (ltb a b || w) ≡ not (ltb b a)
-at-most-test a b w f g = go (decLt a b) (decLt b a)
-  where
-    level-is : ¬ (a < b) → ¬ (b < a) → a ≡ b
-    level-is n m = omega arith
-
-    go : Dec (a < b) → Dec (b < a) → (ltb a b || w) ≡ not (ltb b a)
-    go (yes l) d = ap (λ (z : Bool). z || w) (lt-ltb a b l) ∙ sym (ap not (le-ltb b a (le-of-lt l)))
-    go (no n) (yes l) = ap (λ (z : Bool). z || w) (le-ltb a b (le-of-lt l)) ∙ g l ∙ sym (ap not (lt-ltb b a l))
-    go (no n) (no m) = let e = level-is n m in ap (λ (z : Bool). z || w) (le-ltb a b (omega arith)) ∙ f e ∙ sym (ap not (le-ltb b a (omega arith)))
+at-most-test a b w f g =
+    compared a b (λ l. ap (λ (z : Bool). z || w) (lt-ltb a b l) ∙ sym (ap not (le-ltb b a (le-of-lt l))))
+    (λ e. ap (λ (z : Bool). z || w) (le-ltb a b (omega arith)) ∙ f e ∙ sym (ap not (le-ltb b a (omega arith))))
+    (λ l. ap (λ (z : Bool). z || w) (le-ltb a b (le-of-lt l)) ∙ g l ∙ sym (ap not (lt-ltb b a l)))
 
 -- two signs alike, and two unlike: then both are 0
 alike : (u v : ℕ) → (u ≡ v → (eqb u v && true) ≡ true) × ((u ≡ v → ⊥) → (eqb u v && true) ≡ false)

@@ -11,6 +11,7 @@ use lib.Ieee.{Float, nan, inf, fin, Format, prec, emax, low, up, odd, units as w
 use lib.Ieee.Fits.{reach, round-is}
 use lib.Ieee.Exact.{HasValue, odd-sign, round-exact}
 use lib.Ieee.Scale.{overflow}
+use Rattle.lists.proofs.Tests.{either}
 use Rattle.formats.proofs.Grid.{Grid}
 use Rattle.fractions.specs.Fraction.{Fraction, signed, number, Same, gap}
 use Rattle.fractions.proofs.Order.{same-trans}
@@ -57,16 +58,14 @@ literal-held f s n j h l =
 -- ---- the sign
 units-plus : (f : Format) (q k : ℕ) → number (written f false q k) .minus ≡ 0
 unfolding written
-units-plus f q k = go (ltb (q * 2 ^ k) (2 ^ (low f + suc (emax f))))
+units-plus f q k =
+    either (λ (x : Float). number x .minus ≡ 0) (ltb (q * 2 ^ k) (2 ^ (low f + suc (emax f))))
+    (value (odd (suc (prec f)) false q k (low f)) (q * 2 ^ k) (2 ^ low f) (odd-sign (suc (prec f)) false q k (low f))) refl
   where
     value : (x : Float) (a c : ℕ) → HasValue x false a c → number x .minus ≡ 0
     value nan a c h = absurd h
     value (inf t) a c h = absurd h
     value (fin t m e) a c h = ap (λ (s : Bool). cond s (m * up e) 0) (h .0)
-
-    go : (z : Bool) → number (cond z (odd (suc (prec f)) false q k (low f)) (inf false)) .minus ≡ 0
-    go true = value (odd (suc (prec f)) false q k (low f)) (q * 2 ^ k) (2 ^ low f) (odd-sign (suc (prec f)) false q k (low f))
-    go false = refl
 
 round-not-below : (s : Bool) (f : Format) (k : ℕ) (q : Fraction) → 0 < q .over → Difference s k q → q .minus ≤ q .plus → number (round f s k (q .over)) .minus ≤ number (round f s k (q .over)) .plus
 round-not-below false f k q D e h = le-trans (le-of-eq (ap (λ (x : Float). number x .minus) (round-is f false k (q .over)) ∙ units-plus f _ _)) zero-le

@@ -12,6 +12,7 @@ use lib.Pow.{pow-pos}
 use lib.ListN.{length, getD}
 use lib.Ieee.{Float, Format, prec, emax, low, fits, round, neg, add, sub, mul, div}
 use lib.Ieee.Fits.{and-l, and-r}
+use Rattle.lists.specs.Tables.{every}
 use Rattle.fractions.specs.Fraction.{Fraction, fraction, whole, opposite, magnitude, signed, number, _⊕_, _⊖_, _⊗_, _⊘_, AtMost, gap, Within}
 use Rattle.fractions.specs.Approximates.{Approximates, EachWithin}
 use Rattle.fractions.proofs.Order.{left}
@@ -240,23 +241,15 @@ module _ (f : Format) where
       }
 
   -- a row of expressions, by one test
-  abbrev pub all-pass : ℕ → List Expression → Bool
-  all-pass k [] = true
-  all-pass k (a ∷ l) = passes k a && all-pass k l
-
-  pub each-within : (k : ℕ) (l : List Expression) → T (all-pass k l) → EachWithin k (map (run f) l) (map exact l)
+  pub each-within : (k : ℕ) (l : List Expression) → T (every (passes k) l) → EachWithin k (map (run f) l) (map exact l)
   each-within k [] t = tt
-  each-within k (a ∷ l) t = (within k a (and-l (passes k a) (all-pass k l) t), each-within k l (and-r (passes k a) (all-pass k l) t))
+  each-within k (a ∷ l) t = (within k a (and-l (passes k a) (every (passes k) l) t), each-within k l (and-r (passes k a) (every (passes k) l) t))
 
-  abbrev pub all-sized : ℕ → ℕ → ℕ → List Expression → Bool
-  all-sized k n d [] = true
-  all-sized k n d (a ∷ l) = sized k n d a && all-sized k n d l
-
-  pub each-approximates : (k n d : ℕ) (l : List Expression) → T (all-sized k n d l) → (i : ℕ) (x : Float) (q : Fraction) → i < length l
+  pub each-approximates : (k n d : ℕ) (l : List Expression) → T (every (sized k n d) l) → (i : ℕ) (x : Float) (q : Fraction) → i < length l
       → Approximates k (fraction n 0 d) (getD (map (run f) l) i x) (getD (map exact l) i q)
   each-approximates k n d [] t i x q h = absurd (not-suc-le-zero h)
-  each-approximates k n d (a ∷ l) t zero x q h = approximates k n d a (and-l (sized k n d a) (all-sized k n d l) t)
-  each-approximates k n d (a ∷ l) t (suc i) x q h = each-approximates k n d l (and-r (sized k n d a) (all-sized k n d l) t) i x q (le-of-suc-le-suc h)
+  each-approximates k n d (a ∷ l) t zero x q h = approximates k n d a (and-l (sized k n d a) (every (sized k n d) l) t)
+  each-approximates k n d (a ∷ l) t (suc i) x q h = each-approximates k n d l (and-r (sized k n d a) (every (sized k n d) l) t) i x q (le-of-suc-le-suc h)
 
 -- ---- the ways to have a `Known`
 -- a float that a callee says to be near an exact number

@@ -21,6 +21,5 @@ mod Squares
 pub mod Roots
 pub mod Sums
 pub mod Normalised
--- The laws at work, and the definitions at closed numbers.
-mod Example
+-- The definitions at closed numbers.
 mod Trials

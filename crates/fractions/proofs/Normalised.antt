@@ -2,12 +2,14 @@
 -- at most, and a little (`normalised`), or times the inverse of one (`over-root`). The root enters by its law (`RootOf`, which a correctly rounded root has with P = 2 ^ prec), for s the float whose root was taken, itself near S (`root-near`). Assumes nothing.
 use mathlib.Core.Path.{_≡_, subst}
 use mathlib.Core.Bool.{Bool, false, _&&_}
+use mathlib.Core.List.{List, [], _∷_}
 use Prim.Native.Nat.{ℕ, _+_, _-_, _*_, _^_, _≤_, _<_}
 use native.Mathlib.Nat.{le-trans, mul-pos, mul-le-mul-right}
 use lib.Dec.{T, leb, ltb, leb→le, ltb→lt, lit<, lit≤}
 use lib.Ieee.{Float, Format, binary64, fits, round, mul, div}
 use lib.Ieee.Fits.{and-l, and-r}
 use lib.Ieee.Positive.{positive, first-pos}
+use Rattle.lists.proofs.Tests.{all, each-holds}
 use Rattle.fractions.specs.Fraction.{Fraction, whole, number, square, _⊘_, Less, AtMost}
 use Rattle.fractions.specs.Approximates.{Approximates}
 use Rattle.fractions.specs.Squares.{BySquares, RootOf}
@@ -60,27 +62,28 @@ module _ {bits : ℕ} {most : Fraction} {x : Float} {a : Fraction} (r : Float) (
   over-root k t = run-by-squares binary64 k off least over a (number r) (whole n) (inverse a (number r)) t near-n above-least
 
 -- ---- one float over another. The numbers, in units of 1 / scale: |G| ≤ N and the float is E off; S ≥ b, r² is t off S, r ≥ L; |G| / r ≤ M
+abbrev normal-tests : Format → (k N E M t L b : ℕ) → List Bool
+normal-tests f k N E M t L b =
+    ltb 0 L
+    ∷ leb (L * L + t * scale) (b * scale)
+    ∷ leb (scale * scale * (L * L) + t * (scale * scale * scale)) (M * M * (L * L))
+    ∷ fine f scale (quotient-result scale N E L 0)
+    ∷ squares-fine scale k M (quotient-error f scale N E L 0) t L
+    ∷ []
+
 abbrev pub normal : Format → (k N E M t L b : ℕ) → Bool
-normal f k N E M t L b =
-    ltb 0 L && leb (L * L + t * scale) (b * scale) && leb (scale * scale * (L * L) + t * (scale * scale * scale)) (M * M * (L * L)) && fine f scale (quotient-result scale N E L 0)
-    && squares-fine scale k M (quotient-error f scale N E L 0) t L
+normal f k N E M t L b = all (normal-tests f k N E M t L b)
 
 pub normalised : (f : Format) (k : ℕ) {N E t b : ℕ} (M L : ℕ) (g r : Float) (G S : Fraction) → T (normal f k N E M t L b) → Near scale (number g) G N E → Less (whole 0) (number r)
     → Close scale (square (number r)) S t → Least scale S b → AtMost (square G) S → BySquares k (number (div f g r)) G S
 normalised f k {N} {E} {t} {b} M L g r G S h n p c s u =
-    let h1 = ltb 0 L in
-    let h2 = leb (L * L + t * scale) (b * scale) in
-    let h3 = leb (scale * scale * (L * L) + t * (scale * scale * scale)) (M * M * (L * L)) in
-    let h4 = fine f scale (quotient-result scale N E L 0) in
-    let h5 = squares-fine scale k M (quotient-error f scale N E L 0) t L in
-    let i = and-l (h1 && h2 && h3 && h4) h5 h in
-    let j = and-l (h1 && h2 && h3) h4 i in
-    let lp = ltb→lt 0 L (and-l h1 h2 (and-l (h1 && h2) h3 j)) in
+    let (some, (root, (most, (fine, (squares, end))))) = each-holds (normal-tests f k N E M t L b) h in
+    let lp = ltb→lt 0 L some in
     let D>0 = first-pos (number r .over) (number r .over) (c .first) in
-    let l = root-least L (leb→le (L * L + t * scale) (b * scale) (and-r h1 h2 (and-l (h1 && h2) h3 j))) p c s in
-    let m = quotient-size M G (number r) S lp (leb→le (scale * scale * (L * L) + t * (scale * scale * scale)) (M * M * (L * L)) (and-r (h1 && h2) h3 j)) u c D>0 l in
-    let q = near-div f g r n (same-close scale (number r) (number r) D>0 D>0 (same-refl (number r))) l lp (and-r (h1 && h2 && h3) h4 i) in
-    by-squares k (number (div f g r)) G (number r) S (and-r (h1 && h2 && h3 && h4) h5 h) (record { close = q .close; size = m }) c l
+    let l = root-least L (leb→le _ _ root) p c s in
+    let m = quotient-size M G (number r) S lp (leb→le _ _ most) u c D>0 l in
+    let q = near-div f g r n (same-close scale (number r) (number r) D>0 D>0 (same-refl (number r))) l lp fine in
+    by-squares k (number (div f g r)) G (number r) S squares (record { close = q .close; size = m }) c l
 
 -- such a gain is not below 0 where the raw gain is not
 pub quotient-not-below : (f : Format) (g r : Float) → 0 < number g .over → T (positive r) → AtMost (whole 0) (number g) → AtMost (whole 0) (number (div f g r))

@@ -1,14 +1,16 @@
 -- Each operation on finite floats is the exact result, rounded once: their sum, difference and product, and the quotient by a float above zero. `add`, `mul` and `div` hand `round` a sign and two whole numbers,
 -- which are told here to be those of `⊕`, `⊗` and `⊘`. What follows for the result's error is in Rounding.antt and Near.antt, and where it is exact in Exact.antt. Assumes nothing.
 use mathlib.Core.Path.{_≡_, refl, sym, ap, _∙_, subst}
-use mathlib.Core.Bool.{Bool, true, false, not, _&&_, cond}
-use Prim.Native.Nat.{ℕ, _+_, _*_, _-_, _≤_, _<_, zero-le}
+use mathlib.Core.Bool.{Bool, true, false, cond}
+use Prim.Native.Nat.{ℕ, _+_, _*_, _-_, _<_, zero-le}
 use native.Mathlib.Nat.{lt-irrefl, not-le-of-lt, zero-mul, mul-pos, mul-comm, sub-zero}
 use native.Mathlib.Omega.{arith}
-use lib.Dec.{T, eqb, ltb, eqb→eq, ltb→lt, lt→ltb, nltb→le}
+use lib.Dec.{T, eqb, ltb, ltb→lt, lt→ltb}
 use lib.Ieee.{Float, nan, inf, fin, Format, up, down, unlike, round, sum, neg, add, sub, mul, div}
 use lib.Ieee.Fits.{up-pos}
 use lib.Ieee.Positive.{positive, first-pos}
+use borrow.Author.Tests.{ltb-false, ne-eqb}
+use Rattle.lists.proofs.Tests.{by-test, by-less}
 use Rattle.fractions.specs.Fraction.{Fraction, fraction, signed, number, _⊕_, _⊖_, _⊗_, _⊘_}
 use Rattle.fractions.proofs.Rounding.{Difference, Result}
 use Rattle.fractions.proofs.Number.{number-neg}
@@ -38,17 +40,13 @@ module _ (f : Format) (a b c : ℕ) where
   unfolding sum
   sum-result false false = record { sign = false; size = a + b; difference = omega arith; is = refl }
   sum-result true true = record { sign = true; size = a + b; difference = omega arith; is = refl }
-  sum-result false true = go (ltb a b) (ltb→lt a b) (nltb→le a b)
-    where
-      go : (z : Bool) → (T z → a < b) → (T (not z) → b ≤ a) → Result f (cond z (round f true (b - a) c) (round f false (a - b) c)) (two false a true b c)
-      go true l k = let l' = l tt in record { sign = true; size = b - a; difference = omega arith; is = refl }
-      go false l k = let k' = k tt in record { sign = false; size = a - b; difference = omega arith; is = refl }
-  sum-result true false = go (ltb a b) (ltb b a) (ltb→lt a b) (nltb→le a b) (nltb→le b a)
-    where
-      go : (z y : Bool) → (T z → a < b) → (T (not z) → b ≤ a) → (T (not y) → a ≤ b) → Result f (cond z (round f false (b - a) c) (round f (true && y) (a - b) c)) (two true a false b c)
-      go true y l k j = let l' = l tt in record { sign = false; size = b - a; difference = omega arith; is = refl }
-      go false true l k j = let k' = k tt in record { sign = true; size = a - b; difference = omega arith; is = refl }
-      go false false l k j = let k' = k tt in let j' = j tt in record { sign = false; size = a - b; difference = omega arith; is = refl }
+  sum-result false true =
+      by-less (λ (x : Float). Result f x (two false a true b c)) a b (λ l. record { sign = true; size = b - a; difference = omega arith; is = refl })
+      (λ l. record { sign = false; size = a - b; difference = omega arith; is = refl })
+  sum-result true false =
+      by-less (λ (x : Float). Result f x (two true a false b c)) a b (λ l. record { sign = false; size = b - a; difference = omega arith; is = refl })
+      (λ l. by-test (λ (y : Bool). Result f (round f y (a - b) c) (two true a false b c)) (ltb b a) (λ e. record { sign = true; size = a - b; difference = omega arith; is = refl })
+      (λ e. record { sign = false; size = a - b; difference = omega (arith, ltb-false b a e); is = refl }))
 
 left : (s : Bool) (a d : ℕ) → cond s 0 (a * d) ≡ cond s 0 a * d
 left true a d = sym (zero-mul d)
@@ -99,19 +97,15 @@ div-result f (inf s) y p q = absurd (lt-irrefl 0 p)
 div-result f (fin s m e) nan p q = absurd q
 div-result f (fin s m e) (inf t) p q = absurd q
 div-result f (fin s m e) (fin true n d) p q = absurd q
-div-result f (fin s m e) (fin false n d) p q = go (eqb n 0) (eqb→eq n 0)
+div-result f (fin s m e) (fin false n d) p q = record {
+  sign = unlike s false;
+  size = m * up e * down d;
+  difference = div-difference s (m * up e) (n * up d) (down e) (down d);
+  is = ap (λ (z : Bool). cond z (cond (eqb m 0) nan (inf (unlike s false))) (round f (unlike s false) (m * up e * down d) (n * up d * down e))) (ne-eqb n 0 (no n (ltb→lt 0 n q))) ∙ ap (round f (unlike s false) (m * up e * down d)) under;
+}
   where
     no : (n : ℕ) → 0 < n → n ≡ 0 → ⊥
     no n l k = omega arith
 
     under : n * up d * down e ≡ down e * (n * up d - 0)
     under = mul-comm (n * up d) (down e) ∙ ap (λ (k : ℕ). down e * k) (sym (sub-zero (n * up d)))
-
-    go : (z : Bool) → (T z → n ≡ 0) → Result f (cond z (cond (eqb m 0) nan (inf (unlike s false))) (round f (unlike s false) (m * up e * down d) (n * up d * down e))) (number (fin s m e) ⊘ number (fin false n d))
-    go true k = absurd (no n (ltb→lt 0 n q) (k tt))
-    go false k = record {
-      sign = unlike s false;
-      size = m * up e * down d;
-      difference = div-difference s (m * up e) (n * up d) (down e) (down d);
-      is = ap (round f (unlike s false) (m * up e * down d)) under;
-    }

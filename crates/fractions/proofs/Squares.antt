@@ -2,15 +2,16 @@
 -- the square of the exact G / √S lies between those of |x| - 2 ^ -k (0 if that is negative) and |x| + 2 ^ -k, and x has the sign of G unless G / √S is 2 ^ -k in magnitude at most. Assumes nothing.
 use mathlib.Core.Path.{_≡_, refl, sym, ap, _∙_, subst}
 use mathlib.Core.Logic.{inl, inr}
-use mathlib.Core.Bool.{Bool, _&&_}
+use mathlib.Core.Bool.{Bool}
+use mathlib.Core.List.{List, [], _∷_}
 use Prim.Native.Nat.{ℕ, _+_, _*_, _-_, _^_, _≤_, _<_}
 use native.Mathlib.Nat.{le-trans, le-of-lt, lt-of-not-le, sub-add-cancel, sub-eq-zero-of-le, sub-pos-iff-lt, eq-zero-or-pos, mul-pos, mul-le-mul, mul-le-mul-right, le-of-mul-le-mul-right, lt-of-mul-lt-mul-right}
 use native.Mathlib.Decide.{decLe, decLt}
 use native.Mathlib.Omega.{arith}
 use lib.Dec.{T, leb, ltb, leb→le, ltb→lt}
 use lib.Pow.{pow-pos}
-use lib.Ieee.Fits.{and-l, and-r}
 use lib.Ieee.Positive.{first-pos}
+use Rattle.lists.proofs.Tests.{all, each-holds}
 use Rattle.fractions.specs.Fraction.{Fraction, fraction, square, unit, whole, _⊗_, _⊘_, Same, Less, AtMost, gap}
 use Rattle.fractions.specs.Squares.{raised, lowered, BySquares}
 use Rattle.fractions.proofs.Ring.{ring}
@@ -196,9 +197,12 @@ twice-nat C Z R D W t h k = omega arith
 
 -- ---- the law
 -- the tests on the bounds: d / W on x, t / W on r², M / W at least |G| / r, L / W at most r
+abbrev squares-tests : ℕ → ℕ → ℕ → ℕ → ℕ → ℕ → List Bool
+squares-tests W k M d t L =
+    ltb 0 W ∷ ltb 0 L ∷ leb (d * 2 ^ k) W ∷ leb (t * M * 2 ^ k * W) ((W - d * 2 ^ k) * (L * L)) ∷ leb (2 * t * W) (L * L) ∷ leb (2 * (d * 2 ^ k * (d * 2 ^ k))) (W * W) ∷ []
+
 abbrev pub squares-fine : ℕ → ℕ → ℕ → ℕ → ℕ → ℕ → Bool
-squares-fine W k M d t L =
-    ltb 0 W && ltb 0 L && leb (d * 2 ^ k) W && leb (t * M * 2 ^ k * W) ((W - d * 2 ^ k) * (L * L)) && leb (2 * t * W) (L * L) && leb (2 * (d * 2 ^ k * (d * 2 ^ k))) (W * W)
+squares-fine W k M d t L = all (squares-tests W k M d t L)
 
 record Tests (W k M d t L : ℕ) : Type 0 where
   pub unit : 0 < W
@@ -210,24 +214,8 @@ record Tests (W k M d t L : ℕ) : Type 0 where
 
 tests : (W k M d t L : ℕ) → T (squares-fine W k M d t L) → Tests W k M d t L
 tests W k M d t L h =
-    let a = ltb 0 W in
-    let b = ltb 0 L in
-    let c = leb (d * 2 ^ k) W in
-    let e = leb (t * M * 2 ^ k * W) ((W - d * 2 ^ k) * (L * L)) in
-    let f = leb (2 * t * W) (L * L) in
-    let g = leb (2 * (d * 2 ^ k * (d * 2 ^ k))) (W * W) in
-    let h1 = and-l (a && b && c && e && f) g h in
-    let h2 = and-l (a && b && c && e) f h1 in
-    let h3 = and-l (a && b && c) e h2 in
-    let h4 = and-l (a && b) c h3 in
-    record {
-      unit = ltb→lt 0 W (and-l a b h4);
-      root = ltb→lt 0 L (and-r a b h4);
-      left = leb→le _ _ (and-r (a && b) c h3);
-      small = leb→le _ _ (and-r (a && b && c) e h2);
-      half = leb→le _ _ (and-r (a && b && c && e) f h1);
-      sign = leb→le _ _ (and-r (a && b && c && e && f) g h);
-    }
+    let (unit, (root, (left, (small, (half, (sign, end)))))) = each-holds (squares-tests W k M d t L) h in
+    record { unit = ltb→lt 0 W unit; root = ltb→lt 0 L root; left = leb→le _ _ left; small = leb→le _ _ small; half = leb→le _ _ half; sign = leb→le _ _ sign }
 
 module _ {W k M d t L : ℕ} (x G r S : Fraction) (f : Tests W k M d t L) (n : Near W x (G ⊘ r) M d) (c : Close W (square r) S t) (l : Least W r L) where
   D>0 : 0 < r .over

@@ -3,16 +3,15 @@ use mathlib.Core.Path.{_≡_, refl}
 use mathlib.Core.Logic.{inl, inr, ⊎-elim}
 use mathlib.Core.Bool.{false, true}
 use mathlib.Core.List.{[], _∷_}
-use Prim.Native.Nat.{ℕ, suc, _+_, _^_}
+use Prim.Native.Nat.{ℕ, _^_}
 use native.Mathlib.Nat.{lt-irrefl}
 use lib.Dec.{le→leb, lit<, lit≤}
 use lib.IntN.{pos, negsuc}
-use lib.Ieee.{Float, nan, inf, fin, binary64, mul, round}
+use lib.Ieee.{nan, inf, fin, binary64}
 use Rattle.fractions.specs.Fraction.{Fraction, fraction, whole, unit, number, opposite, magnitude, square, _⊕_, _⊖_, _⊗_, _⊘_, Same, Less, AtMost, Within}
 use Rattle.fractions.specs.Rounding.{Rounds}
 use Rattle.fractions.specs.Squares.{sumSquares, BySquares, RootOf}
 use Rattle.fractions.specs.Approximates.{Approximates}
-use Rattle.fractions.specs.Example.{angleBits, angleMost, productBits, product, polynomial, h}
 use Rattle.fractions.proofs.Within.{within-computed}
 
 -- ---- numbers: -1.5 is -3 / 2, and a NaN and an infinity are near nothing
@@ -110,21 +109,3 @@ root = record { root = lit< tt; number = lit< tt; positive = lit< tt; below = li
 
 no-root : RootOf 8 (whole 6) (whole 25) → ⊥
 no-root h = le→leb _ _ (h .below)
-
--- ---- the example's formula: h (3 - 1) / 2 at 1, and - h / 2 at 0
-at-one : Same (polynomial (whole 1)) h
-at-one = refl
-
-at-zero : Same (polynomial (whole 0)) (opposite h ⊘ whole 2)
-at-zero = refl
-
--- ---- the example's bound cannot be a bit tighter: three floats of 1 + 2 ^ -40 are as near to 1 as is asked, and their product is not within 2 ^ -39 of 1
-abbrev one-off : Float
-one-off = fin false (2 ^ 40 + 1) (negsuc 39)
-
-near-one : Approximates angleBits angleMost one-off (whole 1)
-near-one = record { near = within-computed angleBits _ _ tt; size = lit≤ tt }
-
-no-tighter : Within (suc productBits) (number (mul binary64 (mul binary64 one-off one-off) one-off)) (product (whole 1) (whole 1) (whole 1)) → ⊥
-unfolding mul round
-no-tighter h = le→leb _ _ (h .near)

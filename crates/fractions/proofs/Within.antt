@@ -1,13 +1,14 @@
 -- The laws of `Within`, and of a magnitude that is at most so much. The words of specs/ and the vocabulary of Close.antt say the same (`close-apart` and `apart-close`, `size-at-most` and `at-most-size`,
 -- `least-at-most` and `at-most-least`), and so a number `Within` another may be renamed and chained. Assumes nothing.
 use mathlib.Core.Path.{_≡_, sym, ap, subst}
-use mathlib.Core.Bool.{Bool, _&&_}
+use mathlib.Core.Bool.{Bool}
+use mathlib.Core.List.{List, [], _∷_}
 use Prim.Native.Nat.{ℕ, suc, _+_, _*_, _^_, _≤_, _<_, zero-le}
 use native.Mathlib.Nat.{le-trans, le-of-eq, add-comm, pow-succ', one-mul, mul-le-mul-right}
 use native.Mathlib.Omega.{arith}
 use lib.Dec.{T, leb, ltb, leb→le, ltb→lt}
 use lib.Pow.{pow-pos, pow-mono}
-use lib.Ieee.Fits.{and-l, and-r}
+use Rattle.lists.proofs.Tests.{all, each-holds}
 use Rattle.fractions.specs.Fraction.{Fraction, fraction, magnitude, whole, _⊖_, Same, AtMost, gap, apart, Within}
 use Rattle.fractions.proofs.Order.{same-refl, gap-times}
 use Rattle.fractions.proofs.Close.{Close, Size, Least, gap-above, gap-below, gap-most, close-difference, difference-close, close-wider, close-same, close-unit, close-trans, same-close}
@@ -63,19 +64,16 @@ module _ {k : ℕ} {x y : Fraction} where
   counted-within {W} w h c = close-within (close-unit w (le-trans h (le-of-eq (sym (one-mul W)))) c)
 
 -- of two closed fractions it is decided by computing
+abbrev within-tests : ℕ → Fraction → Fraction → List Bool
+within-tests k x y = ltb 0 (x .over) ∷ ltb 0 (y .over) ∷ leb (apart x y * 2 ^ k) (x .over * y .over) ∷ []
+
 abbrev pub isWithin : ℕ → Fraction → Fraction → Bool
-isWithin k x y = ltb 0 (x .over) && ltb 0 (y .over) && leb (apart x y * 2 ^ k) (x .over * y .over)
+isWithin k x y = all (within-tests k x y)
 
 pub within-computed : (k : ℕ) (x y : Fraction) → T (isWithin k x y) → Within k x y
-within-computed k x y h =
-    let a = ltb 0 (x .over) in
-    let b = ltb 0 (y .over) in
-    let c = leb (apart x y * 2 ^ k) (x .over * y .over) in
-    record {
-      first = ltb→lt 0 (x .over) (and-l a b (and-l (a && b) c h));
-      second = ltb→lt 0 (y .over) (and-r a b (and-l (a && b) c h));
-      near = leb→le (apart x y * 2 ^ k) (x .over * y .over) (and-r (a && b) c h);
-    }
+within-computed k x y t =
+    let (first, (second, (near, end))) = each-holds (within-tests k x y) t in
+    record { first = ltb→lt 0 (x .over) first; second = ltb→lt 0 (y .over) second; near = leb→le _ _ near }
 
 -- a whole number
 pub whole-size : (W n : ℕ) {N : ℕ} → n ≤ N → Size W (whole n) (N * W)

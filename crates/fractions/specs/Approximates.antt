@@ -2,8 +2,9 @@
 -- gains of document 01, how near each is. Definitions only.
 -- (A promise says the float's bits beside it, by an equation: a bound leaves room, and a promise is to leave none.)
 use Prim.Native.Nat.{ℕ}
-use mathlib.Core.List.{List, [], _∷_}
+use mathlib.Core.List.{List}
 use lib.Ieee.{Float}
+use Rattle.lists.specs.Both.{Both}
 use Rattle.fractions.specs.Fraction.{Fraction, magnitude, number, AtMost, Within}
 
 -- x is within 2 ^ -bits of q, and |q| is at most `most`
@@ -13,7 +14,4 @@ pub record Approximates (bits : ℕ) (most : Fraction) (x : Float) (q : Fraction
 
 -- as many floats as numbers, each within 2 ^ -bits of the number in its place
 abbrev pub EachWithin : ℕ → List Float → List Fraction → Type 0
-EachWithin bits [] [] = Unit {0}
-EachWithin bits (x ∷ xs) (q ∷ qs) = Within bits (number x) q × EachWithin bits xs qs
-EachWithin bits [] (q ∷ qs) = ⊥
-EachWithin bits (x ∷ xs) [] = ⊥
+EachWithin bits = Both (λ x q. Within bits (number x) q)

@@ -4,5 +4,5 @@
 // and a test that computes. Gains over a root are bounded by squares (`BySquares`).
 //
 // Definitions and laws alone: no function stands here. What a reader has to believe are specs/Fraction,
-// Rounding, Approximates and Squares; proofs/Example shows the laws at work, proofs/Trials holds the
-// definitions to closed cases. Under it lies `formats`, the values of a format as whole numbers.
+// Rounding, Approximates and Squares; proofs/Trials holds the definitions to closed cases. Under it lie
+// `formats` (the values of a format as whole numbers) and `lists` (two lists place by place, and tests).

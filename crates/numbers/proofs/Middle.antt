@@ -5,7 +5,7 @@ use mathlib.Core.Logic.{_⊎_, inl, inr}
 use mathlib.Core.Bool.{Bool, true, false}
 use Prim.Native.Nat.{ℕ, suc, _+_, _-_, _*_, _^_, _≤_, _<_}
 use native.Mathlib.Nat.{le-trans, le-of-eq, le-of-lt, lt-of-lt-of-le, lt-of-le-of-lt, lt-of-not-le, lt-irrefl, mul-assoc, suc-mul, two-mul, mul-pos, mul-le-mul, mul-le-mul-right, mul-lt-mul-of-pos-right, lt-of-mul-lt-mul-right, eq-of-mul-eq-mul-right, add-zero}
-use native.Mathlib.Decide.{decLe, decLt}
+use native.Mathlib.Decide.{decLe}
 use native.Mathlib.Omega.{arith}
 use lib.Dec.{T}
 use lib.Pow.{pow-pos}
@@ -13,6 +13,7 @@ use lib.Ieee.{Float, nan, inf, fin, Format, prec, low, fits, hid}
 use lib.Ieee.Exact.{HasValue}
 use lib.Ieee.Scale.{finite}
 use lib.Ieee.Positive.{positive, value-pos}
+use Rattle.lists.proofs.Tests.{compared}
 use Rattle.fractions.specs.Fraction.{Fraction, whole, fraction, signed, number, _⊕_, _⊗_, square, Same, Less, AtMost}
 use Rattle.fractions.proofs.Ring.{ring}
 use Rattle.fractions.proofs.Restate.{⊕-comm, same-square}
@@ -224,7 +225,7 @@ not-both z x (a, b) (inl c) = omega arith
 not-both z x (a, b) (inr c) = lt-irrefl _ (lt-of-lt-of-le b (le-of-lt c))
 
 pub root-only : (f : Format) (x r : Float) → T (fits f x) → T (positive x) → NearestRoot f x r → r ≡ rootOf f x
-root-only f x r h p R = go (decLt _ _) (decLt _ _)
+root-only f x r h p R = let u = units-of f r (R .held) (R .number-is) in compared _ _ (λ l. absurd (r-under l)) (same (u .0) (u .1)) (λ l. absurd (r-over l))
   where
     Q : NearestRoot f x (rootOf f x)
     Q = root-nearest f x h p
@@ -252,8 +253,3 @@ root-only f x r h p R = go (decLt _ _) (decLt _ _)
           where
             none : 0 < w * L → 0 * L + 0 * L ≡ w * L + v * L → ⊥
             none a b = omega arith
-
-    go : Dec (Less (number r) (number (rootOf f x))) → Dec (Less (number (rootOf f x)) (number r)) → r ≡ rootOf f x
-    go (yes l) d = absurd (r-under l)
-    go (no n) (yes l) = absurd (r-over l)
-    go (no n) (no m) = let u = units-of f r (R .held) (R .number-is) in same (u .0) (u .1) (omega arith)

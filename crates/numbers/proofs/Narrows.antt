@@ -7,15 +7,15 @@ use native.Mathlib.Nat.{le-trans, mul-assoc, mul-comm, mul-le-mul-right, le-of-m
 use native.Mathlib.Decide.{ℕ-discrete}
 use native.Mathlib.Omega.{arith}
 use lib.IntN.{ℤ}
-use lib.Dec.{T, leb, ltb, ltb→lt, nltb→le, le→leb}
-use lib.Arith.{lt→nleb}
+use lib.Dec.{T, leb, ltb}
 use lib.Pow.{pow-pos, pow-add, suc-ones}
 use lib.Ieee.{Float, nan, inf, fin, Format, prec, emax, low, up, down, size, odd, units, fits, isNan, hid, ones, top, toBits}
 use lib.Ieee.Fits.{two, reach, down-pos, round-is, nan-fits, inf-fits}
-use lib.Ieee.Bits.{is-true, is-false}
 use lib.Ieee.Exact.{HasValue, units-val}
 use lib.Ieee.Scale.{finite, overflow}
 use lib.Ieee.Nearest.{closest}
+use borrow.Author.Tests.{ltb-true, ltb-false, le-leb, lt-leb}
+use Rattle.lists.proofs.Tests.{by-test, by-less}
 use Rattle.fractions.specs.Fraction.{signed, number, Same, gap, apart, AsNear}
 use Rattle.fractions.proofs.Ring.{ring}
 use Rattle.fractions.proofs.Order.{same-refl, same-sym, near-same}
@@ -44,11 +44,7 @@ module _ (f : Format) (s : Bool) (q k : ℕ) where
 
   units-under : T (finite (units f s q k)) → q * 2 ^ k < overflow f
   unfolding units
-  units-under = go (ltb (q * 2 ^ k) (overflow f)) (ltb→lt (q * 2 ^ k) (overflow f))
-    where
-      go : (b : Bool) → (T b → q * 2 ^ k < overflow f) → T (finite (cond b (odd (suc (prec f)) s q k (low f)) (inf s))) → q * 2 ^ k < overflow f
-      go true h t = h tt
-      go false h t = absurd t
+  units-under = by-less (λ (v : Float). T (finite v) → q * 2 ^ k < overflow f) (q * 2 ^ k) (overflow f) (λ l t. l) (λ l t. absurd t)
 
 -- ---- the last digit of a pattern is that of q
 even-pattern : (f : Format) (s : Bool) (q k : ℕ) → q ≤ 2 ^ prec f → (k ≡ 0) ⊎ (hid f ≤ q) → q * 2 ^ k < overflow f → toBits f (units f s q k) % 2 ≡ q % 2
@@ -252,7 +248,7 @@ module _ (f : Format) (s : Bool) (m : ℕ) (e : ℤ) where
   -- past the middle, and only there, r is an infinity
   large : infinite r ≡ tooLarge f x
   unfolding tooLarge
-  large = units-kind f s q k .0 ∙ go (ltb (q * 2 ^ k) (overflow f)) (ltb→lt (q * 2 ^ k) (overflow f)) (nltb→le (q * 2 ^ k) (overflow f)) ∙ ap (λ (z : ℕ). leb ((largest f + beyond f) * c) (2 * z)) (size s)
+  large = units-kind f s q k .0 ∙ past ∙ ap (λ (z : ℕ). leb ((largest f + beyond f) * c) (2 * z)) (size s)
     where
       size : (s : Bool) → a ≡ cond s 0 a + cond s a 0
       size true = omega arith
@@ -267,11 +263,11 @@ module _ (f : Format) (s : Bool) (m : ℕ) (e : ℤ) where
       above : (M a L X Z : ℕ) → M * L + X ≡ Z → Z ≤ 2 * (a * L) + X → M * L ≤ 2 * a * L
       above M a L X Z e h = omega (arith, mul-assoc 2 a L)
 
-      go : (b : Bool) → (T b → q * 2 ^ k < overflow f) → (T (not b) → overflow f ≤ q * 2 ^ k) → not b ≡ leb M (2 * a)
-      go true l g =
-          sym (is-false (leb M (2 * a)) (lt→nleb M (2 * a) (lt-of-mul-lt-mul-right (2 ^ low f) (below M a (2 ^ low f) (c * 2 ^ K f) (2 * (2 ^ prec f * (c * 2 ^ K f))) (middle f c) (before-middle f n c k (down-pos e) d (K f) (end f) (l tt))))))
-      go false l g =
-          sym (is-true (leb M (2 * a)) (le→leb M (2 * a) (le-of-mul-le-mul-right (above M a (2 ^ low f) (c * 2 ^ K f) (2 * (2 ^ prec f * (c * 2 ^ K f))) (middle f c) (past-middle f n c k (down-pos e) d (K f) (end f) (g tt))) L)))
+      past : not (ltb (q * 2 ^ k) (overflow f)) ≡ leb M (2 * a)
+      past =
+          by-test (λ (b : Bool). not b ≡ leb M (2 * a)) (ltb (q * 2 ^ k) (overflow f))
+          (λ l. sym (lt-leb M (2 * a) (lt-of-mul-lt-mul-right (2 ^ low f) (below M a (2 ^ low f) (c * 2 ^ K f) (2 * (2 ^ prec f * (c * 2 ^ K f))) (middle f c) (before-middle f n c k (down-pos e) d (K f) (end f) (ltb-true _ _ l))))))
+          (λ l. sym (le-leb M (2 * a) (le-of-mul-le-mul-right (above M a (2 ^ low f) (c * 2 ^ K f) (2 * (2 ^ prec f * (c * 2 ^ K f))) (middle f c) (past-middle f n c k (down-pos e) d (K f) (end f) (ltb-false _ _ l))) L)))
 
   fin-narrows : Narrows f x r
   unfolding isNan

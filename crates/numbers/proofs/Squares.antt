@@ -3,11 +3,10 @@ use mathlib.Core.Path.{_≡_, refl, sym, ap, _∙_, subst}
 use Prim.Native.Nat.{ℕ, zero, suc, _+_, _*_, _/_, _^_, _≤_, _<_, zero-le}
 use native.Mathlib.Nat.{le-trans, le-of-eq, le-of-suc-le-suc, le-antisymm, lt-of-lt-of-le, lt-of-not-le, lt-irrefl, zero-lt-suc, mul-mul-mul-comm, mul-le-mul, suc-mul, mul-suc, pow-suc, one-le-pow, div-lt-iff-lt-mul}
 use native.Mathlib.Omega.{arith}
-use mathlib.Core.Bool.{Bool, true, false, not, cond}
-use lib.Dec.{T, leb, leb→le, nleb→lt}
 use lib.Pow.{pow-pos, pow-add}
 use lib.Ieee.{size}
 use lib.Ieee.Digits.{size-lt}
+use Rattle.lists.proofs.Tests.{by-at-most}
 use Rattle.numbers.specs.Computed.{WholeRoot, digit, rootIn, wholeRoot}
 
 pub square-suc : (r : ℕ) → suc r * suc r ≡ r * r + 2 * r + 1
@@ -20,11 +19,9 @@ square-twice : (r : ℕ) → 2 * r * (2 * r) ≡ 4 * (r * r)
 square-twice r = mul-mul-mul-comm 2 r 2 r
 
 digit-law : (n r : ℕ) → WholeRoot (n / 4) r → WholeRoot n (digit n (2 * r))
-digit-law n r h = go (leb (suc (2 * r) * suc (2 * r)) n) (leb→le (suc (2 * r) * suc (2 * r)) n) (nleb→lt (suc (2 * r) * suc (2 * r)) n)
-  where
-    go : (b : Bool) → (T b → suc (2 * r) * suc (2 * r) ≤ n) → (T (not b) → n < suc (2 * r) * suc (2 * r)) → WholeRoot n (cond b (suc (2 * r)) (2 * r))
-    go true t k = (t tt, omega (arith, h, square-suc r, square-twice r, square-suc (2 * r), square-suc (suc (2 * r))))
-    go false t k = (omega (arith, h, square-twice r), k tt)
+digit-law n r h =
+    by-at-most (WholeRoot n) (suc (2 * r) * suc (2 * r)) n (λ l. (l, omega (arith, h, square-suc r, square-twice r, square-suc (2 * r), square-suc (suc (2 * r)))))
+    (λ l. (omega (arith, h, square-twice r), l))
 
 rootIn-law : (d n : ℕ) → n < 4 ^ d → WholeRoot n (rootIn d n)
 unfolding rootIn

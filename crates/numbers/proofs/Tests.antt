@@ -11,15 +11,16 @@ use lib.IntN.{ℤ, pos}
 use denote.Floats.{passes}
 use lib.Dec.{T, eqb, eqb→eq, ltb→lt, lt→ltb}
 use lib.Pow.{pow-add}
-use lib.Ieee.{Float, nan, inf, fin, binary64, up, down, odd, units, lt, eq, fits, isNan, ofFields, ofBits, nanBits, toBits}
+use lib.Ieee.{Float, nan, inf, fin, binary64, up, down, units, lt, eq, fits, isNan, ofBits, nanBits, toBits}
 use lib.Ieee.Fits.{up-pos, and-l}
 use lib.Ieee.Bits.{ofBits-toBits, nanBits-is}
 use lib.Ieee.Exact.{HasValue}
 use lib.Ieee.Positive.{positive}
-use Rattle.formats.proofs.Patterns.{digits, unpack, units-no-nan}
+use Rattle.formats.proofs.Patterns.{digits, unpack, units-no-nan, zero-bits}
 use Rattle.formats.proofs.Grid.{finite-below}
 use Rattle.numbers.specs.Roots.{rootless}
-use Rattle.numbers.specs.Computed.{WholeRoot, zero-float, rootUnits, rootOf, rootAnswer}
+use Rattle.formats.specs.Floats.{zero-float}
+use Rattle.numbers.specs.Computed.{WholeRoot, rootUnits, rootOf, rootAnswer}
 use Rattle.numbers.specs.Promises.{Root}
 use Rattle.numbers.specs.Steps.{Parted}
 use Rattle.numbers.specs.declared.Rooted.{Rooted}
@@ -55,16 +56,11 @@ root-promised x r h e = subst (λ (a : Rooted). Root x a) (sym e) record {
 }
 
 -- ---- the tests
--- the program's 0.0
-pub zero-bits : ofBits binary64 0 ≡ zero-float
-unfolding ofBits ofFields odd
-zero-bits = refl
-
 abbrev answer : ℕ → Float → Rooted
 answer n v = record { refusal = n; value = v }
 
 pub zero-answer : answer 10 (ofBits binary64 0) ≡ answer 10 zero-float
-zero-answer = ap (answer 10) zero-bits
+zero-answer = ap (answer 10) (zero-bits binary64)
 
 some-size : (m : ℕ) (e : ℤ) → 0 < suc m * up e * 1
 some-size m e = subst (λ (x : ℕ). 0 < x) (sym (mul-one (suc m * up e))) (mul-pos (zero-lt-suc m) (up-pos e))
@@ -132,7 +128,7 @@ bits-positive x t h = go (eq-zero-or-pos (toBits binary64 x))
   where
     go : (toBits binary64 x ≡ 0) ⊎ (0 < toBits binary64 x) → 0 < toBits binary64 x
     go (inr p) = p
-    go (inl z) = absurd (passes (lt zero-float zero-float) (ap (lt zero-float) (sym zero-bits ∙ ap (ofBits binary64) (sym z) ∙ ofBits-toBits binary64 x t) ∙ h))
+    go (inl z) = absurd (passes (lt zero-float zero-float) (ap (lt zero-float) (sym (zero-bits binary64) ∙ ap (ofBits binary64) (sym z) ∙ ofBits-toBits binary64 x t) ∙ h))
 
 pub root-short : (m r : ℕ) → 2 ^ 52 ≤ m → m < 2 ^ 54 → WholeRoot (m * 2 ^ 54) r → r < 2 ^ 54
 root-short m r lo hi h = root-digits 53 (m * 2 ^ 54) r (omega arith) (omega arith) h .1

@@ -12,7 +12,8 @@ use Rattle.formats.proofs.Patterns.{same-value}
 use Rattle.formats.proofs.Grid.{zero-value}
 use Rattle.numbers.specs.Conversions.{Widens, Narrows}
 use Rattle.numbers.specs.Roots.{rootless, NearestRoot}
-use Rattle.numbers.specs.Computed.{zero-float, rootOf, rootAnswer}
+use Rattle.formats.specs.Floats.{zero-float}
+use Rattle.numbers.specs.Computed.{rootOf, rootAnswer}
 use Rattle.numbers.specs.Promises.{Narrowed, Root}
 use Rattle.numbers.specs.declared.Rooted.{Rooted}
 use Rattle.numbers.proofs.Narrows.{narrows-only}

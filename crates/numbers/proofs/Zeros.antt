@@ -11,7 +11,7 @@ use lib.Ieee.Fits.{up-pos, down-pos}
 use lib.Ieee.Positive.{positive}
 use lib.Ieee.Scale.{round-same}
 use Rattle.refusals.proofs.First.{goes-on}
-use Rattle.numbers.specs.Computed.{zero-float}
+use Rattle.formats.specs.Floats.{zero-float}
 
 round-zero : (s : Bool) (c : ℕ) → 0 < c → round binary64 s 0 c ≡ fin s 0 (pos 0)
 unfolding round size span climb units odd

@@ -2,10 +2,10 @@
 use mathlib.Core.Bool.{true, false, cond}
 use mathlib.Core.List.{[], _∷_}
 use Prim.Native.Nat.{ℕ, zero, suc, _-_, _*_, _/_, _^_, _≤_, _<_}
-use lib.IntN.{pos}
 use lib.Dec.{leb}
 use lib.Ieee.{Float, nan, inf, fin, Format, binary32, binary64, prec, low, up, down, size, units, round}
 use Rattle.refusals.specs.Refusals.{firstOf, _when_}
+use Rattle.formats.specs.Floats.{zero-float}
 use Rattle.numbers.specs.Roots.{rootless}
 use Rattle.numbers.specs.declared.Rooted.{Rooted}
 
@@ -44,9 +44,6 @@ keeps a k = suc (wholeRoot (4 * a / 4 ^ k)) / 2
 
 unfoldable pub rootUnits : Format → ℕ → Float
 rootUnits f n = let a = n * 2 ^ low f in let k = drops (prec f) a in units f false (keeps a k) k
-
-abbrev pub zero-float : Float
-zero-float = fin false 0 (pos 0)
 
 -- a zero is its own root, sign and all; of a number that has no root this is 0.0, the value of a refusal
 unfoldable pub rootOf : Format → Float → Float

@@ -7,7 +7,8 @@ use lib.Ieee.{Float, fin, binary32, binary64}
 use lib.Ieee.Positive.{positive}
 use Rattle.numbers.specs.Conversions.{Narrows}
 use Rattle.numbers.specs.Roots.{rootless, NearestRoot}
-use Rattle.numbers.specs.Computed.{narrowed, zero-float, rootAnswer}
+use Rattle.formats.specs.Floats.{zero-float}
+use Rattle.numbers.specs.Computed.{narrowed, rootAnswer}
 use Rattle.numbers.specs.declared.Rooted.{Rooted}
 
 pub record Narrowed (x r : Float) : Type 0 where

@@ -4,7 +4,7 @@
 // `root` takes an f64 to the f64 nearest its exact root, or refuses it with 10. Each promises its answer
 // by an equation and, beside it, what document 01 says of it: see specs/Promises.antt.
 //
-// Under it lie `formats` (bit patterns), `fractions` (what "nearest" is said over) and `refusals`.
+// Under it lie `formats` (bit patterns), `fractions` (what "nearest" is said over), `lists` and `refusals`.
 ghost use mathlib.Core.Path.{_≡_};
 ghost use mathlib.Core.Bool.{Bool, cond, not};
 ghost use Prim.Native.Nat.{_+_, _*_, _^_, _<_, _≤_};

@@ -177,18 +177,18 @@ module _ (w : Wave) (W E : ℕ) (w-pos : 0 < W) where
       (λ k. straight (high-size r o h l) (high-size s o' k m) (both-high r o s o' O O' h k l m c)))
 
 -- the sums at the reduced angles of two angles: |a - b| / 4 + 2 ^ -53
-pub reduced-close : (w : Wave) {W E : ℕ} (a b : Fraction) → 0 < W → Close W a b E → Close (2 ^ 55 * W) (wave w (reduced a)) (wave w (reduced b)) (2 ^ 53 * E + 4 * W)
-reduced-close w {W} {E} a b o c =
+pub reduced-close : (w : Wave) {W E : ℕ} {a b : Fraction} → 0 < W → Close W a b E → Close (2 ^ 55 * W) (wave w (reduced a)) (wave w (reduced b)) (2 ^ 53 * E + 4 * W)
+reduced-close w {W} {E} {a} {b} o c =
     rw (reduced-around a, reduced-around b) (places w W E o (turned a) (a .over) (turned b) (b .over) (c .first) (c .second) (turned-less a (c .first)) (turned-less b (c .second)) (turned-near a b c))
 
 -- THE law for callers: the values at two angles are |a - b| / 4 + 2 ^ -52 apart at most, wherever the angles lie: across a multiple of 90, across 180, turns away
-pub defined-close : (w : Wave) {W E : ℕ} (a b : Fraction) → 0 < W → Close W a b E → Close (2 ^ 54 * W) (defined w a) (defined w b) (2 ^ 52 * E + 4 * W)
-defined-close w {W} {E} a b o c =
+pub defined-close : (w : Wave) {W E : ℕ} {a b : Fraction} → 0 < W → Close W a b E → Close (2 ^ 54 * W) (defined w a) (defined w b) (2 ^ 52 * E + 4 * W)
+defined-close w {W} {E} {a} {b} o c =
     let U = 2 ^ 55 * W in
     let U-pos : 0 < U = mul-pos {m = 2 ^ 55} (lit< tt) o in
     let first : Close U (defined w a) (wave w (reduced a)) (2 * W) = close-unit (lit< tt) (omega arith) (within-close (defined-sum w a (c .first))) in
     let last : Close U (wave w (reduced b)) (defined w b) (2 * W) = close-unit (lit< tt) (omega arith) (close-sym (within-close (defined-sum w b (c .second)))) in
-    close-unit U-pos (enough W E) (close-trans (close-trans first (reduced-close w a b o c)) last)
+    close-unit U-pos (enough W E) (close-trans (close-trans first (reduced-close w o c)) last)
   where
     enough : (W E : ℕ) → (2 * W + (2 ^ 53 * E + 4 * W) + 2 * W) * (2 ^ 54 * W) ≤ (2 ^ 52 * E + 4 * W) * (2 ^ 55 * W)
     enough W E = omega arith

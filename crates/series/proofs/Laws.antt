@@ -1,37 +1,38 @@
 -- The laws of the defined sine and cosine, for the crates above: angles are fractions of degrees, of any size and under any name, and no law asks on which side of 180 one lies, or whether it is a
 -- multiple of 90. `w` is either wave. Then how the sums stand for them, for a program that computes those. Assumes nothing.
-use mathlib.Core.Path.{_≡_, subst}
+use mathlib.Core.Path.{subst}
 use mathlib.Core.List.{[], _∷_}
-use Prim.Native.Nat.{ℕ, suc, _+_, _*_, _%_, _^_, _≤_, _<_}
+use Prim.Native.Nat.{ℕ, suc, _+_, _*_, _^_, _≤_, _<_}
 use native.Mathlib.Nat.{mul-pos, mul-le-mul-right, two-pow-succ}
 use native.Mathlib.Omega.{arith}
-use lib.Dec.{T, lit<, lit≤}
-use lib.ListN.{getD}
+use lib.Dec.{lit<, lit≤}
 use lib.Pow.{pow-pos, pow-mono}
 use Rattle.fractions.specs.Fraction.{Fraction, fraction, whole, unit, opposite, magnitude, square, _⊕_, _⊖_, Same, AtMost, Within}
 use Rattle.fractions.specs.Squares.{sumSquares}
 use Rattle.fractions.proofs.Restate.{zero-⊕, over-one, same-opposite}
-use Rattle.fractions.proofs.Close.{Close, Size, close-sym, close-trans}
+use Rattle.fractions.proofs.Close.{Size, close-sym, close-trans}
 use Rattle.fractions.proofs.Within.{within-close, counted-within, within-counted, within-same, within-trans, within-weaken, size-at-most}
 use Rattle.fractions.proofs.Divide.{least-near, near-not-below}
 use Rattle.fractions.proofs.Roots.{quotient-size}
 use Rattle.fractions.proofs.Sums.{square-in-sum}
-use Rattle.series.specs.Sums.{Wave, sine, cosine, sum, sineSum, cosineSum}
-use Rattle.series.specs.Angles.{reduced, radians, isMultiple, exact, defined, definedSine, definedCosine, definedMost}
-use Rattle.series.proofs.Terms as Terms
-use Rattle.series.proofs.Places as Places
-use Rattle.series.proofs.Continuity as Continuity
-use Rattle.series.proofs.Turns as Turns
-use Rattle.series.proofs.Quarters as Quarters
-use Rattle.series.proofs.Least as Least
+use Rattle.series.specs.Sums.{Wave, sine, cosine}
+use Rattle.series.specs.Angles.{reduced, defined, definedSine, definedCosine, definedMost}
+use Rattle.series.proofs.Places.{wave}
+use Rattle.series.proofs.Least.{sine-least, reduced-not-below, square-least}
+-- size: S^2 + C^2 = 1 up to 2 ^ -50
+pub use Rattle.series.proofs.Places.{defined-number, defined-squares}
+-- continuity: two angles that are E / W apart have values that are E / (4 W) + 2 ^ -52 apart at most
+pub use Rattle.series.proofs.Continuity.{defined-close}
+-- whole turns, and another name of the same angle: exact; the opposite angle: exact, at 180 too; 90 times a whole number, which is what `isMultiple` accepts: exactly 0, 1 or -1
+pub use Rattle.series.proofs.Turns.{defined-same, defined-turns, defined-opposite, defined-multiple, multiple-only}
+-- quarter turns, up to 2 ^ -51
+pub use Rattle.series.proofs.Quarters.{defined-quarter}
+-- for a program that computes them: the sums stand for the defined values at the reduced angle, and go with it and with its sign
+pub use Rattle.series.proofs.Places.{defined-sum}
+pub use Rattle.series.proofs.Continuity.{reduced-close}
+pub use Rattle.series.proofs.Terms.{sum-number, sum-same, sum-opposite}
 
--- ---- size: S^2 + C^2 = 1 up to 2 ^ -50, and so |S|, |C| ≤ 1 + 2 ^ -50
-
-pub defined-number : (w : Wave) (d : Fraction) → 0 < d .over → 0 < defined w d .over
-defined-number = Places.defined-pos
-
-pub defined-squares : (d : Fraction) → 0 < d .over → Within 50 (square (definedSine d) ⊕ square (definedCosine d)) (whole 1)
-defined-squares = Places.defined-squares
+-- ---- size: |S|, |C| ≤ 1 + 2 ^ -50
 
 -- each square is at most their sum, and that is 1 + 2 ^ -50 at most
 pub defined-size : (w : Wave) (d : Fraction) → 0 < d .over → AtMost (magnitude (defined w d)) definedMost
@@ -47,12 +48,7 @@ defined-size w d D =
     one-of-two sine = square-in-sum (definedSine d ∷ definedCosine d ∷ []) 0 (whole 0) (lit< tt)
     one-of-two cosine = square-in-sum (definedSine d ∷ definedCosine d ∷ []) 1 (whole 0) (lit< tt)
 
--- ---- continuity: two angles that are E / W apart have values that are E / (4 W) + 2 ^ -52 apart at most
-
-pub defined-close : (w : Wave) {W E : ℕ} {a b : Fraction} → 0 < W → Close W a b E → Close (2 ^ 54 * W) (defined w a) (defined w b) (2 ^ 52 * E + 4 * W)
-defined-close w {W} {E} {a} {b} = Continuity.defined-close w a b
-
--- in powers of two: a value near that at a rounded angle is near that at the exact one
+-- ---- continuity, in powers of two: a value near that at a rounded angle is near that at the exact one
 module _ (w : Wave) {k : ℕ} {a b : Fraction} (l : k ≤ 50) where
   pub defined-carried : {x : Fraction} → Within (suc k) x (defined w a) → Within k a b → Within k x (defined w b)
   defined-carried g h =
@@ -65,38 +61,7 @@ module _ (w : Wave) {k : ℕ} {a b : Fraction} (l : k ≤ 50) where
       enough : (p : ℕ) → p ≤ 2 ^ 50 → (2 ^ 53 + (2 ^ 52 * 1 + 4 * p)) * p ≤ 2 ^ 54 * p
       enough p h = omega (arith, mul-le-mul-right p h)
 
--- ---- whole turns, and another name of the same angle: exact
-
-pub defined-same : (w : Wave) (d e : Fraction) → 0 < d .over → 0 < e .over → Same d e → Same (defined w d) (defined w e)
-defined-same = Turns.defined-same
-
-pub defined-turns : (w : Wave) (d e : Fraction) → 0 < d .over → 0 < e .over → (i j : ℕ) → Same (d ⊕ whole (360 * i)) (e ⊕ whole (360 * j)) → Same (defined w d) (defined w e)
-defined-turns = Turns.defined-turns
-
--- ---- 90 times a whole number, which is what `isMultiple` accepts: exactly 0, 1 or -1
-
-pub defined-multiple : (w : Wave) (d : Fraction) → 0 < d .over → (k i : ℕ) → Same d (fraction (90 * k) (90 * i) 1) → defined w d ≡ getD (exact w) ((k + 3 * i) % 4) (whole 0)
-defined-multiple = Turns.defined-multiple
-
-pub multiple-only : (d : Fraction) → 0 < d .over → T (isMultiple d) → (k : ℕ) × (i : ℕ) × Same d (fraction (90 * k) (90 * i) 1)
-multiple-only = Turns.multiple-only
-
--- ---- the opposite angle: exact, at 180 too
-
-module _ (d : Fraction) (D : 0 < d .over) where
-  pub sine-opposite : Same (definedSine (opposite d)) (opposite (definedSine d))
-  sine-opposite = Turns.defined-opposite sine d D
-
-  pub cosine-opposite : Same (definedCosine (opposite d)) (definedCosine d)
-  cosine-opposite = Turns.defined-opposite cosine d D
-
-  -- ---- quarter turns, up to 2 ^ -51
-
-  pub sine-quarter-more : Within 51 (definedSine (d ⊕ whole 90)) (definedCosine d)
-  sine-quarter-more = Quarters.defined-quarter sine d D
-
-  pub cosine-quarter-more : Within 51 (definedCosine (d ⊕ whole 90)) (opposite (definedSine d))
-  cosine-quarter-more = Quarters.defined-quarter cosine d D
+-- ---- what is left of a quarter turn
 
 module _ (d : Fraction) (D : 0 < d .over) where
   rest-pos : 0 < (whole 90 ⊖ d) .over
@@ -109,7 +74,7 @@ module _ (d : Fraction) (D : 0 < d .over) where
   pub cosine-of-rest : Within 51 (definedCosine (whole 90 ⊖ d)) (definedSine d)
   cosine-of-rest =
       within-same (definedCosine (whole 90 ⊖ d)) (definedSine d) (defined-number cosine (whole 90 ⊖ d) rest-pos) (defined-number sine d D) (turned-round cosine)
-      (same-opposite (definedSine (opposite d)) (opposite (definedSine d)) (sine-opposite d D)) (cosine-quarter-more (opposite d) D)
+      (same-opposite (definedSine (opposite d)) (opposite (definedSine d)) (defined-opposite sine d D)) (defined-quarter cosine (opposite d) D)
 
 -- ---- from below
 
@@ -117,31 +82,11 @@ module _ (d : Fraction) (D : 0 < d .over) where
   -- cos(90 - d) at a distance d of 0 up to 90 is not below 0, up to 2 ^ -50
   pub rest-not-below : AtMost (whole 0) d → AtMost d (whole 90) → AtMost (opposite (unit 50)) (definedCosine (whole 90 ⊖ d))
   rest-not-below l h =
-      near-not-below (definedCosine (whole 90 ⊖ d)) (Places.wave sine (reduced d))
-      (within-close (within-trans {k = 50} (cosine-of-rest d D) (within-weaken (lit≤ tt) (Places.defined-sum sine d D)))) (Least.reduced-not-below d D l h)
+      near-not-below (definedCosine (whole 90 ⊖ d)) (wave sine (reduced d))
+      (within-close (within-trans {k = 50} (cosine-of-rest d D) (within-weaken (lit≤ tt) (defined-sum sine d D)))) (reduced-not-below d D l h)
 
   -- and at one of 10 up to 90 its square is 3 / 100 at least
   pub rest-square-least : AtMost (whole 10) d → AtMost d (whole 90) → AtMost (fraction 3 0 100) (square (definedCosine (whole 90 ⊖ d)))
   rest-square-least l h =
-      Least.square-least (definedCosine (whole 90 ⊖ d)) (defined-number cosine (whole 90 ⊖ d) (rest-pos d D))
-      (least-near {E = 1} 17362 (lit≤ tt) (within-counted 1 (lit≤ tt) (cosine-of-rest d D)) (Least.sine-least d D l h))
-
--- ---- for a program that computes them: the sums stand for the defined values at the reduced angle, and go with it and with its sign
-
-pub sum-number : (w : Wave) (x : Fraction) → 0 < x .over → 0 < sum w x .over
-sum-number = Terms.sum-pos
-
-pub sum-same : (w : Wave) (x y : Fraction) → Same x y → Same (sum w x) (sum w y)
-sum-same = Terms.sum-same
-
-pub sine-sum-opposite : (x : Fraction) → sineSum (opposite x) ≡ opposite (sineSum x)
-sine-sum-opposite = Terms.sum-opposite sine
-
-pub cosine-sum-opposite : (x : Fraction) → cosineSum (opposite x) ≡ cosineSum x
-cosine-sum-opposite = Terms.sum-opposite cosine
-
-pub defined-sum : (w : Wave) (d : Fraction) → 0 < d .over → Within 54 (defined w d) (sum w (radians (reduced d)))
-defined-sum = Places.defined-sum
-
-pub reduced-close : (w : Wave) {W E : ℕ} {a b : Fraction} → 0 < W → Close W a b E → Close (2 ^ 55 * W) (sum w (radians (reduced a))) (sum w (radians (reduced b))) (2 ^ 53 * E + 4 * W)
-reduced-close w {W} {E} {a} {b} = Continuity.reduced-close w a b
+      square-least (definedCosine (whole 90 ⊖ d)) (defined-number cosine (whole 90 ⊖ d) (rest-pos d D))
+      (least-near {E = 1} 17362 (lit≤ tt) (within-counted 1 (lit≤ tt) (cosine-of-rest d D)) (sine-least d D l h))

@@ -16,7 +16,7 @@ use Rattle.series.specs.Angles.{reduced, radians, definedSine}
 use Rattle.series.proofs.Wholes.{Whole, more, less, _⊞_, _⊟_, _·_, by-parts}
 use Rattle.series.proofs.Polynomials.{raised, raised-pos, value, add, times, linear, shifted, value-constant, value-add, value-times, value-shifted}
 use Rattle.series.proofs.Bounds.{shortfall, value-short}
-use Rattle.series.proofs.Terms.{first, others, common, monomial, share, gathered, coefficients, quotient, numerator, sum-same, sum-pos}
+use Rattle.series.proofs.Terms.{first, others, common, monomial, share, gathered, coefficients, quotient, numerator, sum-same, sum-number}
 use Rattle.series.proofs.Sums.{half, quarter, parts, parts-pos, top, bottom, bottom-pos, sum-larger}
 use Rattle.series.proofs.Reduction.{reduced-pos, reduced-itself}
 use Rattle.series.proofs.Places.{radians-is, radians-pos, radians-quarter, wave, wave-pos, wave-same, defined-sum}
@@ -62,7 +62,7 @@ module _ (a r W L : ℕ) (none : shortfall 29 (surplus a W L) r parts ≡ 0) whe
         let Y : 0 < renamed .over = mul-pos X parts-pos in
         let v = top sine (more (k * a) ⊞ z) k in
         let i : Same (sum sine renamed) (quotient v N) = subst (λ (y : Whole). Same (sum sine renamed) (quotient (top sine y k) N)) (by-parts (one-mul _) (one-mul _)) (sum-larger sine renamed Y 1 k (one-mul (k * parts))) in
-        least-same (sum sine x) (quotient v N) (sum-pos sine x X) (bottom-pos k X) (same-trans (sum sine x) (sum sine renamed) (quotient v N) (sum-pos sine renamed Y) (sum-same sine x renamed (omega arith)) i)
+        least-same (sum sine x) (quotient v N) (sum-number sine x X) (bottom-pos k X) (same-trans (sum sine x) (sum sine renamed) (quotient v N) (sum-number sine renamed Y) (sum-same sine x renamed (omega arith)) i)
         (record { least = least-top k z (omega (arith, l .least)) (omega (arith, h .above, ap (λ (t : ℕ). x .over * t) e)) })
 
 -- ---- in degrees: from n to 90

@@ -1,7 +1,7 @@
 -- The defined values from the place that an angle is turned to, at a multiple of 90 and off it. The exact values are 2 ^ -54 at most away from the sums in whose stead they stand, so that what holds of
 -- the sums at the reduced angle holds of the defined values but for that; and the sum of their squares is 1, as that of the sums is up to 2 ^ -50. Assumes nothing.
 use mathlib.Core.Path.{_≡_, refl, sym, ap, subst}
-use mathlib.Core.Bool.{Bool, true, false, cond}
+use mathlib.Core.Bool.{Bool, cond}
 use mathlib.Core.List.{[], _∷_}
 use Prim.Native.Nat.{ℕ, _+_, _*_, _/_, _%_, _≤_, _<_}
 use native.Mathlib.Nat.{le-refl, mul-pos, mul-le-mul-right}
@@ -9,6 +9,7 @@ use native.Mathlib.Omega.{arith}
 use lib.Dec.{eqb, lit≤, lit<}
 use lib.ListN.{getD}
 use borrow.Author.Tests.{eqb-true, eqb-false}
+use Rattle.lists.proofs.Tests.{by-test}
 use Rattle.fractions.specs.Fraction.{Fraction, fraction, whole, opposite, square, _⊕_, Same, Within}
 use Rattle.fractions.proofs.Order.{same-refl, same-sym, same-mul}
 use Rattle.fractions.proofs.Restate.{equal, opposite-⊗}
@@ -16,7 +17,7 @@ use Rattle.fractions.proofs.Close.{Size}
 use Rattle.fractions.proofs.Within.{within-same, within-refl, within-computed}
 use Rattle.series.specs.Sums.{factorial, power, term, sineSum, cosineSum, Wave, sine, cosine, sum}
 use Rattle.series.specs.Angles.{turned, around, reduced, degree, radians, isMultiple, quarters, exact, defined}
-use Rattle.series.proofs.Terms.{sum-same, sum-pos, mirrored, sum-opposite}
+use Rattle.series.proofs.Terms.{sum-same, sum-number, mirrored, sum-opposite}
 use Rattle.series.proofs.Sums.{half, quarter, parts, Half, sum-squares}
 use Rattle.series.proofs.Reduction.{four, quarters-few, quarters-times, turned-less, reduced-around, by-side, around-size, around-pos}
 
@@ -56,7 +57,7 @@ abbrev pub wave : Wave → Fraction → Fraction
 wave w d = sum w (radians d)
 
 pub wave-pos : (w : Wave) (d : Fraction) → 0 < d .over → 0 < wave w d .over
-wave-pos w d D = sum-pos w (radians d) (radians-pos d D)
+wave-pos w d D = sum-number w (radians d) (radians-pos d D)
 
 pub wave-same : (w : Wave) (d e : Fraction) → Same d e → Same (wave w d) (wave w e)
 wave-same w d e h = sum-same w (radians d) (radians e) (radians-same d e h)
@@ -79,14 +80,9 @@ defined-place w d = ap (λ (x : Fraction). cond (eqb (turned d % (90 * d .over))
 -- what is to hold there of the two waves is shown at the multiples of 90 and off them
 pub by-multiple : (P : (Wave → Fraction) → Type 0) (r o : ℕ) → 0 < o → r < 360 * o → ((k : ℕ) → k < 4 → r ≡ k * (90 * o) → P (λ w. exact-at w k)) → ((r % (90 * o) ≡ 0 → ⊥) → P (λ w. wave w (around r o))) → P (place r o)
 unfolding place
-by-multiple P r o O h f g = go (eqb (r % (90 * o)) 0) (eqb-true (r % (90 * o)) 0) (eqb-false (r % (90 * o)) 0)
-  where
-    q : ℕ
-    q = r / (90 * o)
-
-    go : (b : Bool) → (b ≡ true → r % (90 * o) ≡ 0) → (b ≡ false → r % (90 * o) ≡ 0 → ⊥) → P (λ w. cond b (exact-at w q) (wave w (around r o)))
-    go true t n = f q (quarters-few r o O h) (quarters-times r o O h (t refl))
-    go false t n = g (n refl)
+by-multiple P r o O h f g =
+    let q = r / (90 * o) in
+    by-test (λ (b : Bool). P (λ w. cond b (exact-at w q) (wave w (around r o)))) (eqb (r % (90 * o)) 0) (λ e. f q (quarters-few r o O h) (quarters-times r o O h (eqb-true _ 0 e))) (λ e. g (eqb-false _ 0 e))
 
 -- ---- the exact values and the sums: computed at 0, 90, 180 and -90
 
@@ -123,8 +119,8 @@ place-sum w r o O h =
 pub defined-sum : (w : Wave) (d : Fraction) → 0 < d .over → Within 54 (defined w d) (wave w (reduced d))
 defined-sum w d D = rw (defined-place w d, reduced-around d) (place-sum w (turned d) (d .over) D (turned-less d D))
 
-pub defined-pos : (w : Wave) (d : Fraction) → 0 < d .over → 0 < defined w d .over
-defined-pos w d D = defined-sum w d D .first
+pub defined-number : (w : Wave) (d : Fraction) → 0 < d .over → 0 < defined w d .over
+defined-number w d D = defined-sum w d D .first
 
 -- ---- the sum of the squares
 

@@ -2,13 +2,11 @@
 -- are near each other to places that are as near, one way round or the other. Assumes nothing.
 use mathlib.Core.Path.{_≡_, refl, sym, ap, _∙_, subst}
 use mathlib.Core.Logic.{_⊎_, inl, inr}
-use mathlib.Core.Bool.{Bool, true, false, not, cond}
 use Prim.Native.Nat.{ℕ, _+_, _*_, _-_, _/_, _%_, _≤_, _<_}
 use native.Mathlib.Nat.{le-of-lt, not-le-of-lt, add-lt-add-of-lt-of-le, add-right-cancel, mul-suc, mul-comm, mul-le-mul-left, mul-le-mul-right, mul-lt-mul-of-pos-right, eq-of-mul-eq-mul-right, mod-lt, mod-eq-of-lt, div-add-mod, div-lt-iff-lt-mul, add-mul-mod-self-left}
-use native.Mathlib.Decide.{decLt}
 use native.Mathlib.Omega.{arith}
-use lib.Dec.{T, leb, leb→le, nleb→lt}
 use borrow.Author.Count.{below-none, below-more}
+use Rattle.lists.proofs.Tests.{by-at-most, compared}
 use Rattle.fractions.specs.Fraction.{Fraction, fraction, whole, opposite, _⊕_, Same, Less, AtMost}
 use Rattle.fractions.proofs.Ring.{ring}
 use Rattle.fractions.proofs.Close.{Close, Size}
@@ -75,11 +73,7 @@ reduced-around d = refl
 -- what is to hold of it is shown on both sides
 pub by-side : (P : Fraction → Type 0) (r o : ℕ) → (r ≤ 180 * o → P (fraction r 0 o)) → (180 * o < r → P (fraction r (360 * o) o)) → P (around r o)
 unfolding around
-by-side P r o f g = go (leb r (180 * o)) (leb→le r (180 * o)) (nleb→lt r (180 * o))
-  where
-    go : (b : Bool) → (T b → r ≤ 180 * o) → (T (not b) → 180 * o < r) → P (cond b (fraction r 0 o) (fraction r (360 * o) o))
-    go true l h = f (l tt)
-    go false l h = g (h tt)
+by-side P r o = by-at-most P r (180 * o)
 
 pub low-size : (r o : ℕ) → r ≤ 180 * o → Size 1 (fraction r 0 o) 180
 low-size r o h = record { above = omega arith; below = omega arith }
@@ -120,18 +114,11 @@ data Apart (t x y : ℕ) : Type 0 where
   under : x + t ≤ y → Apart t x y
 
 apart : (t x y u v : ℕ) → x + t * u ≡ y + t * v → Apart t x y
-apart t x y u v e = go (decLt u v) (decLt v u)
+apart t x y u v e =
+    compared u v (λ l. over (more x y u v l e)) (λ s. level (add-right-cancel (t * v) (subst (λ (n : ℕ). x + t * n ≡ y + t * v) s e))) (λ l. under (more y x v u l (sym e)))
   where
     more : (x y u v : ℕ) → u < v → x + t * u ≡ y + t * v → y + t ≤ x
     more x y u v l e = omega (arith, mul-le-mul-left t l, mul-suc t u)
-
-    same : ¬ (u < v) → ¬ (v < u) → u ≡ v
-    same l g = omega arith
-
-    go : Dec (u < v) → Dec (v < u) → Apart t x y
-    go (yes l) d = over (more x y u v l e)
-    go (no l) (yes g) = under (more y x v u g (sym e))
-    go (no l) (no g) = level (add-right-cancel (t * v) (subst (λ (n : ℕ). x + t * n ≡ y + t * v) (same l g) e))
 
 -- ---- nothing else is
 

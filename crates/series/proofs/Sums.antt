@@ -16,7 +16,7 @@ use Rattle.series.specs.Sums.{factorial, Wave, sine, cosine, sum}
 use Rattle.series.proofs.Wholes.{Whole, more, less, _⊞_, _⊟_, _⊠_, _·_, size, Bounded, by-parts, bounded-scale}
 use Rattle.series.proofs.Polynomials.{raised, raised-pos, raised-times, raised-further, further, value, add, times, product, Fits, linear, shifted, value-larger, value-constant, value-add, value-times, value-product, value-shifted}
 use Rattle.series.proofs.Bounds.{most, value-size, steepest, value-steep}
-use Rattle.series.proofs.Terms.{first, others, common, common-pos, monomial, share, gathered, coefficients, quotient, numerator, valued, valued-pos, sum-pos, sum-valued}
+use Rattle.series.proofs.Terms.{first, others, common, common-pos, monomial, share, gathered, coefficients, quotient, numerator, valued, valued-pos, sum-number, sum-valued}
 
 -- document 01's half turn is half / parts, and a quarter turn quarter / parts
 unfoldable pub half : ℕ
@@ -120,7 +120,7 @@ module _ (w : Wave) {W E : ℕ} {x y : Fraction} (o : 0 < W) where
         down = apart-nat (x .minus) (x .plus) d (y .minus) (y .plus) e W E parts (mul-le-mul-right parts (c .below));
       } in
       let s = steep w k (parts * (E * (d * e))) (numerator-by (e * W) x) (numerator-by (d * W) y) (reached x (e * W) k i h) (reached y (d * W) k j g) a in
-      close-same (sum w x) (sum w y) (sum-pos w x (c .first)) (sum-pos w y (c .second)) (sum-over w x (c .first) (e * W) k i)
+      close-same (sum w x) (sum w y) (sum-number w x (c .first)) (sum-number w y (c .second)) (sum-over w x (c .first) (e * W) k i)
       (same-sym (sum w y) (quotient v N) (sum-over w y (c .second) (d * W) k j))
       (record {
         first = N-pos;
@@ -185,8 +185,8 @@ module _ (x : Fraction) (X : 0 < x .over) (h : Half x) where
       let q = squares k z (reached x 1 k (one-mul k) h) in
       let i : Same (sum sine x) (quotient s N) = sum-over sine x X 1 k (one-mul k) in
       let j : Same (sum cosine x) (quotient c N) = sum-over cosine x X 1 k (one-mul k) in
-      let S = sum-pos sine x X in
-      let C = sum-pos cosine x X in
+      let S = sum-number sine x X in
+      let C = sum-number cosine x X in
       let n : Close (2 ^ 50) (square (quotient s N) ⊕ square (quotient c N)) (whole 1) 1 = record {
         first = mul-pos (mul-pos o o) (mul-pos o o);
         second = lit< tt;
@@ -260,16 +260,16 @@ module _ (x : Fraction) (X : 0 < x .over) (h : Size parts x quarter) where
       let N = bottom (x .over) in
       let o : 0 < N = bottom-pos (x .over) X in
       let n : Close (2 ^ 54) (quotient u N) (quotient v N) 1 = record { first = o; second = o; above = omega (arith, mul-le-mul-left N (q .up)); below = omega (arith, mul-le-mul-left N (q .down)) } in
-      close-within (close-same (sum w (quarter-turn ⊕ x)) y (sum-pos w (quarter-turn ⊕ x) (mul-pos parts-pos X)) Y (sum-quarter-over w) (same-sym y (quotient v N) i) n)
+      close-within (close-same (sum w (quarter-turn ⊕ x)) y (sum-number w (quarter-turn ⊕ x) (mul-pos parts-pos X)) Y (sum-quarter-over w) (same-sym y (quotient v N) i) n)
 
   pub sum-quarter : (w : Wave) → Within 54 (sum w (quarter-turn ⊕ x)) (after w (λ v. sum v x))
   sum-quarter sine =
       let k = x .over in
       let z = numerator-by 1 x in
-      quartered-within sine (sum cosine x) (top cosine z k) (sum-pos cosine x X) (sum-over cosine x X 1 k (one-mul k)) (omega (arith, quartered sine k z (reached x 1 k (one-mul k) h)))
+      quartered-within sine (sum cosine x) (top cosine z k) (sum-number cosine x X) (sum-over cosine x X 1 k (one-mul k)) (omega (arith, quartered sine k z (reached x 1 k (one-mul k) h)))
   sum-quarter cosine =
       let k = x .over in
       let z = numerator-by 1 x in
       let v = top sine z k in
-      quartered-within cosine (opposite (sum sine x)) (record { plus = v .minus; minus = v .plus }) (sum-pos sine x X) (same-opposite (sum sine x) (quotient v (bottom k)) (sum-over sine x X 1 k (one-mul k)))
+      quartered-within cosine (opposite (sum sine x)) (record { plus = v .minus; minus = v .plus }) (sum-number sine x X) (same-opposite (sum sine x) (quotient v (bottom k)) (sum-over sine x X 1 k (one-mul k)))
       (omega (arith, quartered cosine k z (reached x 1 k (one-mul k) h)))

@@ -8,6 +8,7 @@ use native.Mathlib.Nat.{mul-pos, sub-zero, zero-lt-suc}
 use native.Mathlib.Omega.{arith}
 use lib.Dec.{T, eqb, eqb→eq, lit<}
 use lib.Ieee.Fits.{and-l, and-r}
+use Rattle.lists.specs.Tables.{every}
 use Rattle.fractions.specs.Fraction.{Fraction, fraction, whole, opposite, _⊕_, _⊗_, _⊘_, Same}
 use Rattle.fractions.proofs.Restate.{opposite-⊗, ⊗-opposite, same-opposite, same-divide}
 use Rattle.fractions.proofs.Order.{same-refl, same-trans, same-add, same-mul}
@@ -39,11 +40,6 @@ unfolding sineSum cosineSum in-turn first others
 sum-in-turn sine x = refl
 sum-in-turn cosine x = refl
 
--- a test that every exponent passes, computed (the kit's `all` does not unfold here)
-unfoldable every : (ℕ → Bool) → List ℕ → Bool
-every f [] = true
-every f (j ∷ js) = f j && every f js
-
 -- ---- its denominator
 
 power-over : (x : Fraction) (n : ℕ) → power x n .over ≡ raised (x .over) n
@@ -69,8 +65,8 @@ pos-in-turn x X s a A (j ∷ js) = pos-in-turn x X (not s) (a ⊕ flipped s (ter
     flipped-pos false t h = h
     flipped-pos true t h = h
 
-pub sum-pos : (w : Wave) (x : Fraction) → 0 < x .over → 0 < sum w x .over
-sum-pos w x X = rw (sum-in-turn w x) (pos-in-turn x X true (term x (first w)) (term-pos x X (first w)) (others w))
+pub sum-number : (w : Wave) (x : Fraction) → 0 < x .over → 0 < sum w x .over
+sum-number w x X = rw (sum-in-turn w x) (pos-in-turn x X true (term x (first w)) (term-pos x X (first w)) (others w))
 
 -- ---- at another name of the same number
 
@@ -136,7 +132,7 @@ alike-is false true h = absurd h
 alike-is false false h = refl
 
 opposite-in-turn : (x : Fraction) (b s : Bool) (a : Fraction) (js : List ℕ) → T (every (alike b) js) → in-turn (opposite x) s (flipped b a) js ≡ flipped b (in-turn x s a js)
-unfolding in-turn every alike
+unfolding in-turn alike
 opposite-in-turn x b s a [] h = refl
 opposite-in-turn x b s a (j ∷ js) h =
     ap (λ (t : Fraction). in-turn (opposite x) (not s) (flipped b a ⊕ flipped s t) js) (term-opposite x j b (alike-is (odd j) b (and-l (alike b j) (every (alike b) js) h)))
@@ -156,7 +152,7 @@ opposite-sum w b x e h =
     ∙ ap (flipped b) (sym (sum-in-turn w x))
 
 pub sum-opposite : (w : Wave) (x : Fraction) → sum w (opposite x) ≡ mirrored w (sum w x)
-unfolding first others odd every alike
+unfolding first others odd alike
 sum-opposite sine x = opposite-sum sine true x refl tt
 sum-opposite cosine x = opposite-sum cosine false x refl tt
 
@@ -214,7 +210,7 @@ first-apt sine = tt
 first-apt cosine = tt
 
 others-apt : (w : Wave) → T (every apt (others w))
-unfolding apt others every further common factorial
+unfolding apt others further common factorial
 others-apt sine = tt
 others-apt cosine = tt
 
@@ -265,7 +261,7 @@ module _ (x : Fraction) (X : 0 < x .over) where
       rw (value-times (numerator x) (x .over) 29 (less 1) vs) (taken-nat (b .plus) (b .minus) (b .over) (v .plus) (v .minus) (common * raised (x .over) 29) k)
 
   valued-in-turn : (s : Bool) (a : Fraction) (us : List Whole) (js : List ℕ) → Same a (valued us x) → T (every apt js) → Same (in-turn x s a js) (valued (gathered s us js) x)
-  unfolding in-turn gathered every
+  unfolding in-turn gathered
   valued-in-turn s a us [] h k = h
   valued-in-turn s a us (j ∷ js) h k =
       let c = times (sign s) (share j) in

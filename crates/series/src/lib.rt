@@ -19,4 +19,4 @@
 // -1 + 2^-58.18; at 90 they are 1 - 2^-83.91 and 2^-61.91; the coefficients of S² + C² - 1, all taken as
 // positive, make 2^-50.52 at half a turn.
 //
-// Under it lies `fractions`.
+// Under it lie `fractions` and `lists` (tests, and what all elements are).

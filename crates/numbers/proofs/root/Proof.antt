@@ -5,7 +5,8 @@ use lib.Dec.{T}
 use lib.Ieee.{binary64, fits}
 use denote.Floats.{passes}
 use borrow.Author.Needs.{needs}
-use Rattle.numbers.proofs.Tests.{zero-bits, zero-answer, root-promised, when-zero, when-not-above, above-no-nan, when-infinite, bits-positive, root-short, when-above, above-no-nan-bits}
+use Rattle.formats.proofs.Patterns.{zero-bits}
+use Rattle.numbers.proofs.Tests.{zero-answer, root-promised, when-zero, when-not-above, above-no-nan, when-infinite, bits-positive, root-short, when-above, above-no-nan-bits}
 use Rattle.numbers.proofs.root.Statement.{statement}
 use Rattle.numbers.proofs.root.Tie as tie
 
@@ -14,15 +15,15 @@ held : (c : tie.Start) → T (fits binary64 (c .args .x))
 held c = passes (fits binary64 (c .args .x)) (c .good .0 .1)
 
 returns : tie.Need-returns
-returns c = let s = c .before in root-promised (s .args .x) _ (held s) (when-zero (s .args .x) (rw zero-bits at (c .if1 .taken)))
+returns c = let s = c .before in root-promised (s .args .x) _ (held s) (when-zero (s .args .x) (rw (zero-bits binary64) at (c .if1 .taken)))
 
 float-to-bits-bits : tie.Need-float-to-bits-bits
-float-to-bits-bits c = above-no-nan (c .before .before .args .x) (rw zero-bits at (c .if2 .taken))
+float-to-bits-bits c = above-no-nan (c .before .before .args .x) (rw (zero-bits binary64) at (c .if2 .taken))
 
 parted-requires : tie.Need-parted-requires
 parted-requires c κs =
     let s = c .before .before .before in
-    (bits-positive (s .args .x) (held s) (rw zero-bits at (c .before .if2 .taken)), c .if3 .taken)
+    (bits-positive (s .args .x) (held s) (rw (zero-bits binary64) at (c .before .if2 .taken)), c .if3 .taken)
 
 whole-root-requires : tie.Need-whole-root-requires
 whole-root-requires c κs = search needs
@@ -45,7 +46,7 @@ float-from-bits-t12 c =
     let p = w .before in
     let i = p .before in
     let s = i .before .before .before in
-    above-no-nan-bits (s .args .x) (p .parted .result .digits) (p .parted .result .half) (w .whole-root .result) (held s) (rw zero-bits at (i .before .if2 .taken)) (i .if3 .taken) (p .parted .ensures) (w .whole-root .ensures)
+    above-no-nan-bits (s .args .x) (p .parted .result .digits) (p .parted .result .half) (w .whole-root .result) (held s) (rw (zero-bits binary64) at (i .before .if2 .taken)) (i .if3 .taken) (p .parted .ensures) (w .whole-root .ensures)
 
 returns-2 : tie.Need-returns-2
 returns-2 c =
@@ -54,17 +55,17 @@ returns-2 c =
     let i = p .before in
     let s = i .before .before .before in
     root-promised (s .args .x) _ (held s)
-    (when-above (s .args .x) (p .parted .result .digits) (p .parted .result .half) (w .whole-root .result) (held s) (rw zero-bits at (i .before .if2 .taken)) (i .if3 .taken) (p .parted .ensures) (w .whole-root .ensures))
+    (when-above (s .args .x) (p .parted .result .digits) (p .parted .result .half) (w .whole-root .result) (held s) (rw (zero-bits binary64) at (i .before .if2 .taken)) (i .if3 .taken) (p .parted .ensures) (w .whole-root .ensures))
 
 returns-3 : tie.Need-returns-3
 returns-3 c =
     let s = c .before .before .before in
-    root-promised (s .args .x) _ (held s) (zero-answer ∙ when-infinite (s .args .x) (held s) (rw zero-bits at (c .before .if2 .taken)) (c .if3 .left))
+    root-promised (s .args .x) _ (held s) (zero-answer ∙ when-infinite (s .args .x) (held s) (rw (zero-bits binary64) at (c .before .if2 .taken)) (c .if3 .left))
 
 returns-4 : tie.Need-returns-4
 returns-4 c =
     let s = c .before .before in
-    root-promised (s .args .x) _ (held s) (zero-answer ∙ when-not-above (s .args .x) (rw zero-bits at (c .before .if1 .left)) (rw zero-bits at (c .if2 .left)))
+    root-promised (s .args .x) _ (held s) (zero-answer ∙ when-not-above (s .args .x) (rw (zero-bits binary64) at (c .before .if1 .left)) (rw (zero-bits binary64) at (c .if2 .left)))
 
 pub root-spec : {M : Type 1} → statement M
 root-spec =
