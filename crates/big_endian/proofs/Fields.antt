@@ -5,18 +5,19 @@ use mathlib.Core.Bool.{Bool, true, false}
 use mathlib.Core.List.{List, [], _∷_, _++_, append-assoc}
 use Prim.Native.Nat.{ℕ, zero, suc, _+_, _-_, _*_, _/_, _%_, _^_, _≤_, _<_}
 use native.Mathlib.Nat.{pow-suc, pow-le-pow-right, lt-of-lt-of-le, div-div-eq-div-mul, div-one}
-use native.Mathlib.Decide.{decLt}
 use native.Mathlib.Numerals.{add-one, sub-one}
 use native.Mathlib.Omega.{arith}
 use borrow.Author.Tests.{leb-true, le-leb, lt-leb}
 use lib.Arith.{digits-lt}
 use lib.Dec.{leb}
-use lib.ListN.{length, getD, take, drop, set, length-append, drop-of-length-le, length-take, length-drop, take-append-drop, List·getD-eq-default}
-use lib.Seq.{take-suc, drop-cons, getD-drop, getD-take, drop-drop, take-at, drop-at, length-take-le}
-use Rattle.big_endian.specs.Bytes.{valueOf, bytesOf, AreBytes}
-use Rattle.big_endian.specs.Placed.{placed}
+use lib.ListN.{length, getD, take, drop, set, length-append, drop-of-length-le, length-drop, take-append-drop}
+use lib.Seq.{take-suc, drop-cons, getD-drop, drop-drop, take-at, drop-at, length-take-le}
+use Rattle.big_endian.specs.Bytes.{valueOf, bytesOf, IsByte, AreBytes}
+use Rattle.lists.specs.Placed.{placed}
 use Rattle.big_endian.specs.Fields.{lies, fieldAt, withField}
-use Rattle.big_endian.proofs.Placed.{placed-none, length-placed, store-before}
+use Rattle.lists.proofs.Tables.{length-part}
+use Rattle.lists.proofs.Each.{each-drop, each-take}
+use Rattle.lists.proofs.Placed.{placed-none, length-placed, store-before}
 use Rattle.big_endian.proofs.Bytes.{power-pos, length-bytes, digit, value-bytes, value-bytes-fits, value-below, bytes-value, value-snoc}
 
 -- ---- lying inside
@@ -56,14 +57,7 @@ module _ (s : List ℕ) (at count : ℕ) where
   field-lies h g = field-is (lies-in (length s) at count h g)
 
 part-are-bytes : (s : List ℕ) (at count : ℕ) → AreBytes s → AreBytes (take count (drop at s))
-part-are-bytes s at count h i =
-    elim (decLt i count) [
-      | yes g ↦ rw (getD-take count (drop at s) i 0 g, getD-drop at s i 0) (h (at + i))
-      | no g ↦ rw (List·getD-eq-default (take count (drop at s)) 0 {n = i} (omega (arith, length-take count (drop at s)))) (omega arith)
-    ]
-
-pub length-part : {A : Type 0} (s : List A) (at count : ℕ) → at + count ≤ length s → length (take count (drop at s)) ≡ count
-length-part s at count h = length-take-le count (drop at s) (omega (arith, length-drop at s))
+part-are-bytes s at count h = each-take IsByte 0 count (drop at s) (omega arith) (each-drop IsByte 0 at s h)
 
 pub field-below : (s : List ℕ) (at count : ℕ) → AreBytes s → fieldAt s at count < 256 ^ count
 field-below s at count h = go (lies (length s) at count) refl

@@ -1,6 +1,5 @@
 -- Laws that a caller's proof cites, and that no two answers meet one promise.
 pub mod Bytes
-pub mod Placed
 pub mod Fields
 pub mod Signed
 pub mod Lists

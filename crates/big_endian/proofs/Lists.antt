@@ -1,17 +1,21 @@
--- The laws of lists of fields, over the width and the reading or the bits: none, how many, one more, and one turn of a loop that reads or puts them one after another. Assumes nothing.
+-- The laws of lists of fields, over the width and the reading or the bits: none, how many, one more, and one turn of a loop that puts them one after another. Assumes nothing.
 use mathlib.Core.Path.{_≡_, refl, sym, ap, _∙_}
-use mathlib.Core.List.{List, [], _∷_, _++_, append-nil, append-assoc}
-use Prim.Native.Nat.{ℕ, zero, suc, _+_, _*_, _≤_, _<_}
+use mathlib.Core.List.{List, [], _∷_, _++_}
+use Prim.Native.Nat.{ℕ, suc, _+_, _*_, _≤_, _<_}
+use native.Mathlib.Nat.{zero-add, mul-comm}
 use native.Mathlib.Numerals.{add-one}
 use native.Mathlib.Omega.{arith}
-use lib.ListN.{length, getD, take, set, length-append}
+use lib.ListN.{length, getD, take}
 use lib.Seq.{take-suc, length-take-le}
+use Rattle.lists.specs.Tables.{tab}
+use Rattle.lists.specs.Placed.{placed}
+use Rattle.lists.proofs.Tables.{length-tab, tab-ext, tab-shift, tab-snoc}
+use Rattle.lists.proofs.Placed.{placed-none, length-placed, placed-on}
+use Rattle.lists.proofs.Joined.{joined-none, joined-more, joined-one, joined-snoc, length-joined}
 use Rattle.big_endian.specs.Bytes.{bytesOf}
-use Rattle.big_endian.specs.Placed.{placed}
 use Rattle.big_endian.specs.Fields.{withField}
 use Rattle.big_endian.specs.Lists.{strided, fieldBytes}
 use Rattle.big_endian.proofs.Bytes.{length-bytes}
-use Rattle.big_endian.proofs.Placed.{placed-none, length-placed, placed-on, store-on}
 use Rattle.big_endian.proofs.Fields.{field-put}
 
 -- ---- reading
@@ -23,28 +27,18 @@ module _ {A : Type 0} (f : ℕ → A) (w : ℕ) where
 
   pub length-strided : (at n : ℕ) → length (strided f w at n) ≡ n
   unfolding strided
-  length-strided at zero = refl
-  length-strided at (suc n) = ap suc (length-strided (at + w) n)
+  length-strided at n = length-tab 0 n (λ k. f (at + k * w))
+
+  -- one field more before the others, and behind them
+  pub strided-more : (at n : ℕ) → strided f w at (suc n) ≡ f at ∷ strided f w (at + w) n
+  unfolding strided
+  strided-more at n =
+      let here : at + 0 * w ≡ at = omega arith in
+      rw here (ap (λ (l : List A). f at ∷ l) (tab-shift 0 n (λ k. f (at + k * w)) ∙ tab-ext 0 n (λ k. f (at + suc k * w)) (λ k. f (at + w + k * w)) (λ k h. ap f (omega arith))))
 
   pub strided-snoc : (at n : ℕ) → strided f w at (suc n) ≡ strided f w at n ++ (f (at + n * w) ∷ [])
   unfolding strided
-  strided-snoc at zero = let q : at + 0 * w ≡ at = omega arith in rw q
-  strided-snoc at (suc n) =
-      let q : at + w + n * w ≡ at + suc n * w = omega arith in
-      ap (λ (l : List A). f at ∷ l) (strided-snoc (at + w) n ∙ ap (λ (k : ℕ). strided f w (at + w) n ++ (f k ∷ [])) q)
-
-  -- a loop that has read k fields into the list from q on reads one more
-  pub read-none : (at : ℕ) (xs : List A) (q : ℕ) → xs ≡ placed xs q (strided f w at 0)
-  read-none at xs q = sym (ap (placed xs q) (strided-none at) ∙ placed-none xs q)
-
-  pub read-kept : (at : ℕ) (xs ys : List A) (q k : ℕ) → ys ≡ placed xs q (strided f w at k) → q + k ≤ length xs → length ys ≡ length xs
-  read-kept at xs ys q k e h = ap length e ∙ length-placed xs q (strided f w at k) (omega (arith, length-strided at k))
-
-  pub read-more : (at : ℕ) (xs ys : List A) (q k : ℕ) (x : A) → ys ≡ placed xs q (strided f w at k) → q + k < length xs → x ≡ f (at + k * w)
-      → set ys (q + k) x ≡ placed xs q (strided f w at (k + 1))
-  read-more at xs ys q k x e h g =
-      let more : strided f w at k ++ (x ∷ []) ≡ strided f w at (k + 1) = rw (add-one k, g) (sym (strided-snoc at k)) in
-      rw e (store-on xs q k (strided f w at k) x (length-strided at k) h ∙ ap (placed xs q) more)
+  strided-snoc at n = tab-snoc 0 n (λ k. f (at + k * w)) ∙ ap (λ (k : ℕ). tab 0 n (λ k. f (at + k * w)) ++ (f (at + k * w) ∷ [])) (zero-add n)
 
 -- ---- writing
 
@@ -53,26 +47,28 @@ pub part-more : (out ys last a b : List ℕ) (at n p : ℕ) → ys ≡ placed ou
 part-more out ys last a b at n p e g q h k = k ∙ rw (e, q) (placed-on out at n a b g h)
 
 module _ {A : Type 0} (w : ℕ) (bits : A → ℕ) where
+  abbrev bytes : A → List ℕ
+  bytes x = bytesOf w (bits x)
+
   pub fieldBytes-none : fieldBytes w bits [] ≡ []
   unfolding fieldBytes
-  fieldBytes-none = refl
+  fieldBytes-none = joined-none bytes
+
+  pub fieldBytes-more : (x : A) (xs : List A) → fieldBytes w bits (x ∷ xs) ≡ bytesOf w (bits x) ++ fieldBytes w bits xs
+  unfolding fieldBytes
+  fieldBytes-more = joined-more bytes
 
   pub length-fieldBytes : (xs : List A) → length (fieldBytes w bits xs) ≡ w * length xs
   unfolding fieldBytes
-  length-fieldBytes [] = omega arith
-  length-fieldBytes (x ∷ xs) =
-      length-append (bytesOf w (bits x)) (fieldBytes w bits xs) ∙ omega (arith, length-bytes w (bits x), length-fieldBytes xs)
+  length-fieldBytes xs = length-joined bytes w (λ x. length-bytes w (bits x)) xs ∙ mul-comm (length xs) w
 
   pub fieldBytes-snoc : (xs : List A) (x : A) → fieldBytes w bits (xs ++ (x ∷ [])) ≡ fieldBytes w bits xs ++ bytesOf w (bits x)
   unfolding fieldBytes
-  fieldBytes-snoc [] x = append-nil (bytesOf w (bits x))
-  fieldBytes-snoc (y ∷ xs) x =
-      let here = bytesOf w (bits y) in
-      ap (λ (t : List ℕ). here ++ t) (fieldBytes-snoc xs x) ∙ sym (append-assoc here (fieldBytes w bits xs) (bytesOf w (bits x)))
+  fieldBytes-snoc = joined-snoc bytes
 
   pub fieldBytes-two : (a b : A) → fieldBytes w bits (a ∷ b ∷ []) ≡ bytesOf w (bits a) ++ bytesOf w (bits b)
   unfolding fieldBytes
-  fieldBytes-two a b = ap (λ (t : List ℕ). bytesOf w (bits a) ++ t) (append-nil (bytesOf w (bits b)))
+  fieldBytes-two a b = joined-more bytes a (b ∷ []) ∙ ap (λ (t : List ℕ). bytesOf w (bits a) ++ t) (joined-one bytes b)
 
   -- a loop that has put the first k elements from `at` on puts one more
   module _ (out : List ℕ) (at : ℕ) (xs : List A) where

@@ -1,7 +1,8 @@
 -- Document 01, 'Filter bank file' and item 10: "Big-endian". A number as bytes, the first byte the one that weighs most. Definitions only.
 use Prim.Native.Nat.{ℕ, zero, suc, _+_, _*_, _/_, _%_, _^_, _<_}
 use mathlib.Core.List.{List, [], _∷_}
-use lib.ListN.{length, getD}
+use lib.ListN.{length}
+use Rattle.lists.specs.Each.{Each}
 
 -- the number that a list of bytes stands for
 unfoldable pub valueOf : List ℕ → ℕ
@@ -13,6 +14,9 @@ unfoldable pub bytesOf : ℕ → ℕ → List ℕ
 bytesOf zero n = []
 bytesOf (suc count) n = n / 256 ^ count % 256 ∷ bytesOf count n
 
+abbrev pub IsByte : ℕ → Type 0
+IsByte b = b < 256
+
 -- each element is a byte, as in every slice of them
 abbrev pub AreBytes : List ℕ → Type 0
-AreBytes s = (i : ℕ) → getD s i 0 < 256
+AreBytes s = Each IsByte 0 s

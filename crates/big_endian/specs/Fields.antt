@@ -11,7 +11,7 @@ use lib.ListN.{length, take, drop}
 use mir.Syntax.{w16}
 use mir.Val.{toZ, ofZ}
 use Rattle.big_endian.specs.Bytes.{valueOf, bytesOf}
-use Rattle.big_endian.specs.Placed.{placed}
+use Rattle.lists.specs.Placed.{placed}
 
 -- whether the field lies inside a list of so many bytes
 abbrev pub lies : ℕ → ℕ → ℕ → Bool

@@ -1,5 +1,4 @@
 -- What a field of a list of bytes is.
 pub mod Bytes
-pub mod Placed
 pub mod Fields
 pub mod Lists

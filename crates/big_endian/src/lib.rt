@@ -3,7 +3,7 @@
 // number in two bytes, an f32 by its bits in four and an f64 in eight. Every function takes any input: a field
 // that does not lie inside the list reads as 0, and writing it changes nothing. That reading gives what
 // was written, and writing what was read the same bytes, is shown once over the width. `has_room` is the one test of
-// whether fields lie inside a list. Under it lie `formats` and `refusals`, in proofs alone.
+// whether fields lie inside a list. Under it lie `lists` and, in proofs alone, `formats` and `refusals`.
 ghost use mathlib.Core.Path.{_≡_};
 ghost use Prim.Native.Nat.{_+_, _*_, _<_};
 ghost use lib.Dec.{leb};
