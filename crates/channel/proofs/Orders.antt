@@ -1,9 +1,10 @@
 -- The orders 1, 2 and 3, the numbers that are none, a choice by the order, and how many channels an order has. Assumes nothing.
 use mathlib.Core.Path.{_≡_, refl, sym, ap, _∙_}
-use mathlib.Core.Bool.{Bool, true, false, cond, true≢false}
+use mathlib.Core.Bool.{Bool, true, false, true≢false}
 use Prim.Native.Nat.{ℕ, zero, suc, _<_, _≤_}
 use native.Mathlib.Omega.{arith}
 use lib.Dec.{eqb, lit<, lit≤}
+use Rattle.lists.proofs.Tests.{either}
 use Rattle.refusals.proofs.Counts.{count-above}
 use Rattle.channel.specs.Layouts.{countedBy}
 use Rattle.channel.specs.Orders.{refusesOrder, channelsOfOrder, countedOrder, byOrder}
@@ -24,12 +25,7 @@ third-order = by-order (λ (n : ℕ). (n ≡ 1 → ⊥) → (n ≡ 2 → ⊥) �
 
 -- what holds of three holds of the one that a number chooses, order or not
 pub one-of-three : {X : Type 0} (P : X → Type 0) {a b c : X} → P a → P b → P c → (n : ℕ) → P (byOrder n a b c)
-one-of-three P {a} {b} {c} x y z n = go (eqb n 1) (eqb n 2)
-  where
-    go : (s t : Bool) → P (cond s a (cond t b c))
-    go true t = x
-    go false true = y
-    go false false = z
+one-of-three P x y z n = either P (eqb n 1) x (either P (eqb n 2) y z)
 
 -- ---- channels: from 4 to 16
 pub few-channels : (n : ℕ) → refusesOrder n ≡ false → (0 < channelsOfOrder n) × (channelsOfOrder n ≤ 16)

@@ -1,17 +1,18 @@
 -- The tables of angles: every entry lies from -180 to 180, by one test over each table, so that an entry and ten times an entry are i32s. Assumes nothing.
 use mathlib.Core.Path.{_≡_, refl, sym, ap, _∙_, subst}
-use mathlib.Core.Bool.{Bool, true, _&&_}
-use mathlib.Core.List.{List, [], _∷_}
+use mathlib.Core.Bool.{Bool}
+use mathlib.Core.List.{List, []}
 use Prim.Native.Nat.{ℕ, zero, suc, _+_, _*_}
 use native.Mathlib.Omega.{arith}
 use lib.Dec.{T, leb, leb→le}
 use lib.IntN.{ℤ, pos, negsuc, _*ℤ_, negℤ}
 use lib.ListN.{getD}
 use lib.Ieee.{binary64, ofInt}
-use lib.Ieee.Fits.{and-l, and-r}
 use mir.Syntax.{w16, w32}
 use mir.Val.{SFits, toZ, ofZ}
 use mir.Facts.{sfits-widen, toZ-ofZ}
+use Rattle.lists.specs.Tables.{every}
+use Rattle.lists.proofs.Every.{every-holds}
 use Rattle.channel.specs.Layouts.{speakers, positions, degreesOf}
 use Rattle.channel.specs.declared.Layout.{Layout}
 use Rattle.channel.specs.declared.Layout.the-variants.{Mono, Stereo, Surround51, Surround71, Custom}
@@ -21,18 +22,10 @@ abbrev pub turned : ℤ → Bool
 turned (pos n) = leb n 180
 turned (negsuc n) = leb n 179
 
-all-turned : List ℤ → Bool
-all-turned [] = true
-all-turned (z ∷ zs) = turned z && all-turned zs
-
-turned-at : (zs : List ℤ) → T (all-turned zs) → (i : ℕ) → T (turned (getD zs i (pos 0)))
-unfolding all-turned
-turned-at [] t i = tt
-turned-at (z ∷ zs) t zero = and-l (turned z) (all-turned zs) t
-turned-at (z ∷ zs) t (suc i) = turned-at zs (and-r (turned z) (all-turned zs) t) i
+turned-at : (zs : List ℤ) → T (every turned zs) → (i : ℕ) → T (turned (getD zs i (pos 0)))
+turned-at zs = every-holds turned zs (pos 0) tt
 
 pub speaker-turned : (l : Layout) (i : ℕ) → T (turned (degreesOf l i))
-unfolding all-turned
 speaker-turned Mono i = turned-at (speakers Mono) tt i
 speaker-turned Stereo i = turned-at (speakers Stereo) tt i
 speaker-turned Surround51 i = turned-at (speakers Surround51) tt i
@@ -40,7 +33,6 @@ speaker-turned Surround71 i = turned-at (speakers Surround71) tt i
 speaker-turned (Custom n) i = tt
 
 pub position-turned : (i : ℕ) → T (turned (getD positions i (pos 0)))
-unfolding all-turned
 position-turned i = turned-at positions tt i
 
 -- ---- such a number is an i32, and ten times it an i16

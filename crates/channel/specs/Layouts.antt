@@ -6,7 +6,8 @@ use mathlib.Core.List.{List, [], _∷_}
 use lib.Dec.{eqb}
 use lib.IntN.{ℤ, pos, negsuc, _*ℤ_}
 use lib.ListN.{getD}
-use lib.Ieee.{Float, binary64, ofInt}
+use lib.Ieee.{Float}
+use Rattle.formats.specs.Floats.{float}
 use Rattle.refusals.specs.Refusals.{firstOf, _when_, outside}
 use Rattle.channel.specs.declared.Layout.{Layout}
 use Rattle.channel.specs.declared.Layout.the-variants.{Mono, Stereo, Surround51, Surround71, Custom}
@@ -62,13 +63,13 @@ degreesOf l c = getD (speakers l) c (pos 0)
 
 -- as an f64, and in whole tenths
 abbrev pub azimuthOf : Layout → ℕ → Float
-azimuthOf l c = ofInt binary64 (degreesOf l c)
+azimuthOf l c = float (degreesOf l c)
 
 abbrev pub tenthsOf : Layout → ℕ → ℤ
 tenthsOf l c = degreesOf l c *ℤ pos 10
 
 abbrev pub positionAzimuth : ℕ → Float
-positionAzimuth i = ofInt binary64 (getD positions i (pos 0))
+positionAzimuth i = float (getD positions i (pos 0))
 
 abbrev pub positionTenths : ℕ → ℤ
 positionTenths i = getD positions i (pos 0) *ℤ pos 10

@@ -4,7 +4,8 @@
 // f64 or in whole tenths of a degree. One test of an order serves every crate that is given one.
 //
 // Every function takes any input, and its answer is a definition of it (specs/Layouts.antt and
-// specs/Orders.antt, which say document 01). Under it lies `refusals`.
+// specs/Orders.antt, which say document 01). Under it lie `refusals`, `lists` and `formats` (a whole number
+// as a float).
 ghost use mathlib.Core.Path.{_≡_};
 ghost use lib.IntN.{pos};
 ghost use lib.ListN.{getD};

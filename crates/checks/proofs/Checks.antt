@@ -7,14 +7,15 @@ use native.Mathlib.Nat.{not-suc-le-zero, zero-add, add-zero, add-suc, suc-add}
 use native.Mathlib.Omega.{arith}
 use lib.ListN.{length, getD, take, drop}
 use lib.Dec.{eqb, ltb}
-use borrow.Author.Tests.{eq-eqb, le-ltb, eqb-true, not-false, ltb-false}
+use borrow.Author.Tests.{eq-eqb, ne-eqb, le-ltb, eqb-true, not-false, ltb-false}
 use lib.Ieee.{Float, nan}
 use lib.Ieee.Scale.{finite}
 pub use Rattle.refusals.proofs.Counts.{not-outside, count-inside}
 pub use Rattle.refusals.proofs.First.{or-off}
-use Rattle.checks.specs.Tables.{tab, any, unsound}
+use Rattle.lists.specs.Tables.{tab, any}
+use Rattle.checks.specs.Finite.{unsound}
 use Rattle.checks.specs.Lengths.{unfit}
-use Rattle.checks.proofs.Tables.{tab-more, tab-none, tab-all, tab-getD}
+use Rattle.lists.proofs.Tables.{tab-more, tab-none, tab-all, tab-getD}
 
 -- ---- the first that holds makes an `||` true; one that does not leaves it to the rest
 
@@ -56,6 +57,10 @@ fitted size planes stride frames e =
 
 pub equal-passes : (a b : ℕ) → a ≡ b → not (eqb a b) ≡ false
 equal-passes a b e = ap not (eq-eqb a b e)
+
+-- any other fails it
+pub other-fails : (a b : ℕ) → (a ≡ b → ⊥) → not (eqb a b) ≡ true
+other-fails a b h = ap not (ne-eqb a b h)
 
 pub planes-fit : (size planes stride frames : ℕ) → frames ≤ stride → size ≡ planes * stride → unfit size planes stride frames ≡ false
 planes-fit size planes stride frames room e = both-off (ltb stride frames) (not (eqb size (planes * stride))) (le-ltb stride frames room) (equal-passes size (planes * stride) e)

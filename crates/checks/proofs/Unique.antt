@@ -7,7 +7,7 @@ use lib.Dec.{eqb}
 use lib.Ieee.{Float}
 use lib.Ieee.Scale.{finite}
 use Rattle.refusals.proofs.Determined.{determined}
-use Rattle.checks.specs.Tables.{unsound}
+use Rattle.checks.specs.Finite.{unsound}
 use Rattle.checks.specs.Lengths.{blockUnfit}
 
 is-finite-unique : (x : Float) (a b : Bool) → a ≡ finite x → b ≡ finite x → a ≡ b

@@ -1,3 +1,3 @@
 -- The words of the promises of `checks`, and of the crates above.
-pub mod Tables
+pub mod Finite
 pub mod Lengths

@@ -1,16 +1,15 @@
-// The tests that every operation begins with (document 01, 'Refusal numbers' 5 and 7), beside that of a count, which is
+// The tests that every operation begins with (document 01, 'Refusal numbers' 5 and 7), beside those of a range, which are
 // in `refusals`: whether a length is a product, or planes fit, also where the product would not fit in 64 bits; and
 // whether a number, or one of a list, is NaN or infinite. And the smaller of two counts.
 // Every function takes any input and promises its answer by an equation.
 //
-// What the tests are said with, lists by a rule for each place, serves every crate above: specs/Tables.antt,
-// with its laws in proofs/Tables.antt, Filling.antt (a list filled place by place) and Lists.antt.
-// Under it lie `numbers` (widening) and `refusals`.
+// Its laws (proofs/Checks.antt) go through a chain of tests one by one, and through a loop that stops at the first
+// that holds. Under it lie `numbers` (widening), `lists` (one of a table) and `refusals`.
 ghost use mathlib.Core.Path.{_≡_};
 ghost use Prim.Native.Nat.{_*_, min};
 ghost use lib.Dec.{eqb};
 ghost use lib.Ieee.Scale.{finite};
-ghost use Rattle.checks.specs.Tables.{unsound};
+ghost use Rattle.checks.specs.Finite.{unsound};
 ghost use Rattle.checks.specs.Lengths.{unfit, blockUnfit};
 
 // Whether x is neither a NaN nor an infinity.
