@@ -1,64 +1,60 @@
 -- A frame put sample by sample, and frames put one after another: those that are left, put where they belong, give the planes that are promised. Assumes nothing.
-use Prim.Native.Nat.{ℕ, suc, _+_, _-_, _*_, _≤_, _<_, zero-le}
-use native.Mathlib.Omega.{arith}
-use native.Mathlib.Numerals.{add-one}
-use mathlib.Core.Path.{_≡_, refl, sym, ap, _∙_}
+use Prim.Native.Nat.{ℕ, _+_, _≤_, _<_}
+use mathlib.Core.Path.{_≡_, refl}
 use mathlib.Core.List.{List}
-use lib.ListN.{length, length-set}
+use lib.ListN.{length}
 use lib.Ieee.{Float}
-use Rattle.checks.specs.Tables.{tab}
+use Rattle.lists.specs.Tables.{tab}
+use Rattle.lists.proofs.Going.{Going, going-none, going-more, going-all, going-kept}
 use Rattle.planes.specs.Planes.{withSample, withFrameFrom, withFrame, withFrames}
-use Rattle.checks.proofs.Tables.{tab-more, tab-none, tab-all}
-use Rattle.planes.proofs.Planes.{length-with-frame}
+use Rattle.planes.proofs.Planes.{length-with-frame, length-with-frames}
 
--- samples 0 to p of the function f are put as one frame
+-- ---- samples of the function f are put as one frame, those before plane p so far
+
+-- samples put from plane p on
+abbrev samples : ℕ → ℕ → ℕ → List Float → List Float → List Float
+samples stride frame p out xs = withFrameFrom p out stride frame xs
+
 pub record Sampling (out₀ : List Float) (stride frame planes : ℕ) (f : ℕ → Float) (out : List Float) (p : ℕ) : Type 0 where
-  pub below : p ≤ planes
+  pub laid : Going (samples stride frame) f planes out₀ out p
   pub long : length out ≡ length out₀
-  pub laid : withFrameFrom p out stride frame (tab p (planes - p) f) ≡ withFrame out₀ stride frame (tab 0 planes f)
 
 module _ (out₀ : List Float) (stride frame planes : ℕ) (f : ℕ → Float) where
+  sampled : (out : List Float) (p : ℕ) → Going (samples stride frame) f planes out₀ out p → Sampling out₀ stride frame planes f out p
+  sampled out p g = record { laid = g; long = going-kept (samples stride frame) f planes out₀ length length (λ k ys xs. length-with-frame k ys stride frame xs) out p g }
+
   pub sampling-none : Sampling out₀ stride frame planes f out₀ 0
-  sampling-none = record { below = zero-le; long = refl; laid = ap (withFrameFrom 0 out₀ stride frame) (tab-all planes f) }
+  sampling-none = sampled out₀ 0 (going-none (samples stride frame) f planes out₀)
 
   module _ (out : List Float) (p : ℕ) (s : Sampling out₀ stride frame planes f out p) where
     pub sampling-more : (x : Float) (out₁ : List Float) → p < planes → x ≡ f p → out₁ ≡ withSample out stride p frame x → Sampling out₀ stride frame planes f out₁ (p + 1)
     sampling-more x out₁ h ex eo =
-        record {
-          below = omega arith;
-          long = ap length eo ∙ length-set out (p * stride + frame) x ∙ s .long;
-          laid =
-              ap (λ (k : ℕ). withFrameFrom k out₁ stride frame (tab (p + 1) (planes - (p + 1)) f)) (add-one p)
-              ∙ ap (λ (ys : List Float). withFrameFrom (suc p) ys stride frame (tab (p + 1) (planes - (p + 1)) f)) (eo ∙ ap (withSample out stride p frame) ex)
-              ∙ sym (ap (withFrameFrom p out stride frame) (tab-more planes p f h))
-              ∙ s .laid;
-        }
+        sampled out₁ (p + 1) (going-more (samples stride frame) f planes out₀ (λ k ys y. withSample ys stride k frame y) (λ k ys y rest. refl) out p x out₁ (s .laid) h ex eo)
 
     pub sampling-all : planes ≤ p → out ≡ withFrame out₀ stride frame (tab 0 planes f)
-    sampling-all h = ap (withFrameFrom p out stride frame) (sym (tab-none planes p f h)) ∙ s .laid
+    sampling-all = going-all (samples stride frame) f planes out₀ out p (s .laid)
 
--- frames 0 to n of the function f are put
+-- ---- frames of the function f are put, those before n so far
+
+-- frames put from n on
+abbrev following : ℕ → ℕ → List Float → List (List Float) → List Float
+following stride n out fs = withFrames out stride n fs
+
 pub record Framing (out₀ : List Float) (stride frames : ℕ) (f : ℕ → List Float) (out : List Float) (n : ℕ) : Type 0 where
-  pub below : n ≤ frames
+  pub laid : Going (following stride) f frames out₀ out n
   pub long : length out ≡ length out₀
-  pub laid : withFrames out stride n (tab n (frames - n) f) ≡ withFrames out₀ stride 0 (tab 0 frames f)
 
 module _ (out₀ : List Float) (stride frames : ℕ) (f : ℕ → List Float) where
-  pub framing-none : Framing out₀ stride frames f out₀ 0
-  framing-none = record { below = zero-le; long = refl; laid = ap (withFrames out₀ stride 0) (tab-all frames f) }
+  framed : (out : List Float) (n : ℕ) → Going (following stride) f frames out₀ out n → Framing out₀ stride frames f out n
+  framed out n g = record { laid = g; long = going-kept (following stride) f frames out₀ length length (λ k ys fs. length-with-frames ys stride k fs) out n g }
 
-  module _ (out : List Float) (n : ℕ) (p : Framing out₀ stride frames f out n) where
+  pub framing-none : Framing out₀ stride frames f out₀ 0
+  framing-none = framed out₀ 0 (going-none (following stride) f frames out₀)
+
+  module _ (out : List Float) (n : ℕ) (g : Framing out₀ stride frames f out n) where
     pub framing-more : (out₁ : List Float) → n < frames → out₁ ≡ withFrame out stride n (f n) → Framing out₀ stride frames f out₁ (n + 1)
     framing-more out₁ h e =
-        record {
-          below = omega arith;
-          long = ap length e ∙ length-with-frame 0 out stride n (f n) ∙ p .long;
-          laid =
-              ap (λ (k : ℕ). withFrames out₁ stride k (tab (n + 1) (frames - (n + 1)) f)) (add-one n)
-              ∙ ap (λ (ys : List Float). withFrames ys stride (suc n) (tab (n + 1) (frames - (n + 1)) f)) e
-              ∙ sym (ap (withFrames out stride n) (tab-more frames n f h))
-              ∙ p .laid;
-        }
+        framed out₁ (n + 1) (going-more (following stride) f frames out₀ (λ k ys y. withFrame ys stride k y) (λ k ys y rest. refl) out n (f n) out₁ (g .laid) h refl e)
 
     pub framing-all : frames ≤ n → out ≡ withFrames out₀ stride 0 (tab 0 frames f)
-    framing-all h = ap (withFrames out stride n) (sym (tab-none frames n f h)) ∙ p .laid
+    framing-all = going-all (following stride) f frames out₀ out n (g .laid)

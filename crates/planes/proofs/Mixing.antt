@@ -1,26 +1,26 @@
--- What the loop of `mix` keeps: the sum so far, gone on with over the channels that are left. And what `mix_frame` puts: the sum over a row of the weights, which is handed on as a part. Assumes nothing.
-use mathlib.Core.Path.{_≡_, refl, sym, ap, _∙_}
+-- What the loop of `mix` keeps: the sum of sample times weight over the channels so far. And what `mix_frame` puts: the sum over a row of the weights, which is handed on as a part. Assumes nothing.
+use mathlib.Core.Path.{_≡_, sym, ap, _∙_}
 use mathlib.Core.List.{List}
-use Prim.Native.Nat.{ℕ, _+_, _-_, _*_, _≤_, _<_, min, zero-le}
+use Prim.Native.Nat.{ℕ, _+_, _-_, _*_, _≤_, _<_, min}
 use native.Mathlib.Nat.{zero-add, zero-mul, suc-mul}
 use native.Mathlib.Numerals.{add-one}
 use native.Mathlib.Omega.{arith}
 use lib.ListN.{length, getD, take, drop, length-take, length-drop}
 use lib.Ieee.{Float, nan, binary64, add, mul}
-use Rattle.numbers.specs.Computed.{narrowed, zero-float}
-use Rattle.checks.specs.Tables.{row}
+use Rattle.formats.specs.Floats.{zero-float}
+use Rattle.numbers.specs.Computed.{narrowed}
+use Rattle.lists.specs.Tables.{row}
 use Rattle.planes.specs.Planes.{sampleAt, frameAt}
-use Rattle.planes.specs.Sums.{dot, mixed}
-use Rattle.checks.proofs.Lists.{getD-min, drop-min, take-min}
-use Rattle.checks.proofs.Tables.{length-tab, getD-tab, take-tab}
-use Rattle.planes.proofs.Sums.{dot-more, dot-done, dot-take}
+use Rattle.planes.specs.Sums.{total, dot, mixed}
+use Rattle.lists.proofs.Lists.{getD-min, drop-min, take-min}
+use Rattle.lists.proofs.Tables.{length-tab, getD-tab, take-tab}
+use Rattle.planes.proofs.Sums.{Summing, summing-none, summing-more, productAt, dot-all, products-take}
 
 -- ---- the loop over channels
 
 pub record Mixing (weights inputs : List Float) (stride frame : ℕ) (sum : Float) (at c : ℕ) : Type 0 where
-  pub below : c ≤ length weights
   pub place : at ≡ min (c * stride + frame) (length inputs)
-  pub summed : dot sum (drop c (frameAt inputs stride (length weights) frame)) (drop c weights) ≡ dot zero-float (frameAt inputs stride (length weights) frame) weights
+  pub summed : Summing (productAt (frameAt inputs stride (length weights) frame) weights) (length weights) sum c
 
 module _ (weights inputs : List Float) (stride frame : ℕ) where
   -- the sample of channel c
@@ -28,26 +28,27 @@ module _ (weights inputs : List Float) (stride frame : ℕ) where
   there c = sampleAt inputs stride c frame
 
   pub mixing-none : (at : ℕ) → at ≡ min (0 + frame) (length inputs) → Mixing weights inputs stride frame zero-float at 0
-  mixing-none at e = record { below = zero-le; place = e ∙ ap (λ (k : ℕ). min (k + frame) (length inputs)) (sym (zero-mul stride)); summed = refl }
+  mixing-none at e =
+      record { place = e ∙ ap (λ (k : ℕ). min (k + frame) (length inputs)) (sym (zero-mul stride)); summed = summing-none (productAt (frameAt inputs stride (length weights) frame) weights) (length weights) }
 
   pub mixing-more : (sum : Float) (at c : ℕ) (x : Float) (next : ℕ) → Mixing weights inputs stride frame sum at c → c < length weights → x ≡ getD inputs at nan → next ≡ min (at + stride) (length inputs)
       → Mixing weights inputs stride frame (add binary64 sum (mul binary64 x (getD weights c nan))) next (c + 1)
   unfolding there
   mixing-more sum at c x next m h ex en =
       record {
-        below = omega arith;
         place = omega (arith, m .place, en, ap (λ (k : ℕ). k * stride) (add-one c) ∙ suc-mul c stride);
         summed =
-            dot-more (frameAt inputs stride (length weights) frame) weights c sum x (getD weights c nan) (omega (arith, length-tab 0 (length weights) there)) h
-            (ex ∙ getD-min inputs (c * stride + frame) at nan (m .place) ∙ sym (getD-tab 0 (length weights) there c nan h ∙ ap there (zero-add c))) refl
-            ∙ m .summed;
+            summing-more (productAt (frameAt inputs stride (length weights) frame) weights) (length weights) sum c _ (m .summed) h
+            (ap (λ (z : Float). mul binary64 z (getD weights c nan))
+            (ex ∙ getD-min inputs (c * stride + frame) at nan (m .place) ∙ sym (getD-tab 0 (length weights) there c nan h ∙ ap there (zero-add c))));
       }
 
   pub mixing-all : (sum : Float) (at c : ℕ) (r : Float) → Mixing weights inputs stride frame sum at c → length weights ≤ c → r ≡ narrowed sum
       → r ≡ mixed weights (frameAt inputs stride (length weights) frame)
   unfolding mixed there
   mixing-all sum at c r m h e =
-      e ∙ ap narrowed (sym (dot-done sum (frameAt inputs stride (length weights) frame) weights c (omega (arith, length-tab 0 (length weights) there))) ∙ m .summed)
+      e
+      ∙ ap narrowed (dot-all (frameAt inputs stride (length weights) frame) weights (length weights) sum c (m .summed) h (omega (arith, length-tab 0 (length weights) there)))
 
 -- ---- a row of the weights, handed on as a part
 
@@ -61,7 +62,7 @@ unfolding mixed
 mixed-row n i weights inputs stride frame =
     ap narrowed
     (ap (λ (f : List Float). dot zero-float f (row n i weights)) (sym (take-tab 0 (length (row n i weights)) n (λ p. sampleAt inputs stride p frame) (omega (arith, length-take n (drop (i * n) weights)))))
-    ∙ dot-take (length (row n i weights)) zero-float (frameAt inputs stride n frame) (row n i weights) (omega arith))
+    ∙ ap (total zero-float) (products-take (length (row n i weights)) (frameAt inputs stride n frame) (row n i weights) (omega arith)))
 
 -- ---- the loop over outputs
 

@@ -9,9 +9,9 @@ use lib.Arith.{digits-div, digits-mod}
 use lib.ListN.{length, getD, set, drop, length-set}
 use lib.Seq.{getD-set-same, getD-set-other, getD-take, getD-drop, ext-getD}
 use lib.Ieee.{Float, nan}
-use Rattle.checks.specs.Tables.{tab, row}
+use Rattle.lists.specs.Tables.{tab, row}
 use Rattle.planes.specs.Planes.{sampleAt, frameAt, framesOf, withSample, withFrameFrom, withFrame, withFrames}
-use Rattle.checks.proofs.Tables.{tab-is, length-row, inside}
+use Rattle.lists.proofs.Tables.{tab-is, length-row, inside}
 
 -- ---- places
 

@@ -5,7 +5,8 @@ use mathlib.Core.List.{List, [], _∷_, reverse}
 use lib.IntN.{pos}
 use lib.Ieee.{Float, fin, binary64, add, mul, round, sum, size, span, climb, units, odd}
 use lib.Ieee.Positive.{positive}
-use Rattle.numbers.specs.Computed.{rounded, narrowed, zero-float}
+use Rattle.formats.specs.Floats.{zero-float}
+use Rattle.numbers.specs.Computed.{rounded, narrowed}
 use Rattle.planes.specs.Sums.{dot, mixed}
 
 abbrev one : Float

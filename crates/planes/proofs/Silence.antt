@@ -5,9 +5,10 @@ use mathlib.Core.List.{List, [], _∷_}
 use Prim.Native.Nat.{ℕ, zero, suc}
 use lib.ListN.{replicate}
 use lib.Ieee.{Float, nan, inf, fin, binary64, add, round, unlike}
-use Rattle.numbers.specs.Computed.{rounded, narrowed, zero-float}
+use Rattle.formats.specs.Floats.{zero-float}
+use Rattle.numbers.specs.Computed.{rounded, narrowed}
 use Rattle.numbers.proofs.Zeros.{zero-times, zero-plus}
-use Rattle.checks.specs.Tables.{unsound}
+use Rattle.checks.specs.Finite.{unsound}
 use Rattle.planes.specs.Sums.{dot, mixed}
 
 dot-silence : (n : ℕ) (ws : List Float) → unsound ws ≡ false → dot zero-float (replicate n zero-float) ws ≡ zero-float

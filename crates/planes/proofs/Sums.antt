@@ -1,46 +1,57 @@
--- Laws of the ordered sums: one turn of a loop, and the lists that a sum does not reach. Assumes nothing.
+-- Laws of the ordered sum: the loop that forms it, and the products of two lists place by place. Assumes nothing.
 use mathlib.Core.Path.{_≡_, refl, sym, ap, _∙_}
 use mathlib.Core.List.{List, [], _∷_}
-use Prim.Native.Nat.{ℕ, zero, suc, _+_, _-_, _≤_, _<_}
+use Prim.Native.Nat.{ℕ, zero, suc, _+_, _≤_, _<_, min}
 use native.Mathlib.Nat.{not-suc-le-zero, le-of-suc-le-suc}
-use native.Mathlib.Numerals.{add-one}
-use lib.ListN.{length, getD, take, drop, drop-of-length-le}
-use lib.Seq.{drop-cons}
+use native.Mathlib.Omega.{arith}
+use lib.ListN.{length, getD, take}
 use lib.Ieee.{Float, nan, binary64, add, mul}
-use Rattle.checks.specs.Tables.{tab}
-use Rattle.planes.specs.Sums.{dot, total}
-use Rattle.checks.proofs.Tables.{tab-more, tab-none}
+use Rattle.formats.specs.Floats.{zero-float}
+use Rattle.lists.specs.Tables.{tab}
+use Rattle.lists.proofs.Tables.{tab-shift}
+use Rattle.lists.proofs.Going.{Going, going-none, going-more, going-all}
+use Rattle.planes.specs.Sums.{total, products, dot}
 
--- ---- sums of products
+-- ---- the loop: f 0, f 1, .., f (n - 1) are added, those before i so far
 
--- a turn at place k of both lists
-pub dot-more : (xs ys : List Float) (k : ℕ) (sum x y : Float) → k < length xs → k < length ys → x ≡ getD xs k nan → y ≡ getD ys k nan
-    → dot (add binary64 sum (mul binary64 x y)) (drop (k + 1) xs) (drop (k + 1) ys) ≡ dot sum (drop k xs) (drop k ys)
-dot-more xs ys k sum x y hx hy ex ey =
-    ap (λ (i : ℕ). dot (add binary64 sum (mul binary64 x y)) (drop i xs) (drop i ys)) (add-one k)
-    ∙ ap (λ (z : Float). dot (add binary64 sum (mul binary64 z y)) (drop (suc k) xs) (drop (suc k) ys)) ex
-    ∙ ap (λ (z : Float). dot (add binary64 sum (mul binary64 (getD xs k nan) z)) (drop (suc k) xs) (drop (suc k) ys)) ey
-    ∙ rw (drop-cons xs k nan hx, drop-cons ys k nan hy)
+abbrev pub Summing : (ℕ → Float) → ℕ → Float → ℕ → Type 0
+Summing f n sum i = Going (λ k. total) f n zero-float sum i
 
--- nothing is left of the first list
-pub dot-done : (a : Float) (xs ys : List Float) (k : ℕ) → length xs ≤ k → dot a (drop k xs) (drop k ys) ≡ a
-dot-done a xs ys k h = ap (λ (l : List Float). dot a l (drop k ys)) (drop-of-length-le xs h)
+module _ (f : ℕ → Float) (n : ℕ) where
+  pub summing-none : Summing f n zero-float 0
+  summing-none = going-none (λ k. total) f n zero-float
+
+  pub summing-more : (sum : Float) (i : ℕ) (x : Float) → Summing f n sum i → i < n → x ≡ f i → Summing f n (add binary64 sum x) (i + 1)
+  summing-more sum i x g h e = going-more (λ k. total) f n zero-float (λ k. add binary64) (λ k s a l. refl) sum i x (add binary64 sum x) g h e refl
+
+  pub summing-all : (sum : Float) (i : ℕ) → Summing f n sum i → n ≤ i → sum ≡ total zero-float (tab 0 n f)
+  summing-all sum i = going-all (λ k. total) f n zero-float sum i
+
+-- ---- products
+
+-- place by place
+abbrev pub productAt : List Float → List Float → ℕ → Float
+productAt xs ys k = mul binary64 (getD xs k nan) (getD ys k nan)
+
+products-tab : (xs ys : List Float) (n : ℕ) → n ≡ min (length xs) (length ys) → products xs ys ≡ tab 0 n (productAt xs ys)
+products-tab [] ys zero e = refl
+products-tab [] ys (suc n) e = absurd (omega arith)
+products-tab (x ∷ xs) [] zero e = refl
+products-tab (x ∷ xs) [] (suc n) e = absurd (omega arith)
+products-tab (x ∷ xs) (y ∷ ys) zero e = absurd (omega arith)
+products-tab (x ∷ xs) (y ∷ ys) (suc n) e =
+    ap (λ (l : List Float). mul binary64 x y ∷ l)
+    (products-tab xs ys n (omega arith) ∙ sym (tab-shift 0 n (productAt (x ∷ xs) (y ∷ ys))))
+
+-- so the loop over the places of the shorter list forms their sum
+pub dot-all : (xs ys : List Float) (n : ℕ) (sum : Float) (i : ℕ) → Summing (productAt xs ys) n sum i → n ≤ i → n ≡ min (length xs) (length ys) → sum ≡ dot zero-float xs ys
+dot-all xs ys n sum i g h e = summing-all (productAt xs ys) n sum i g h ∙ ap (total zero-float) (sym (products-tab xs ys n e))
 
 -- what stands beyond the second list's end does not count
-pub dot-take : (n : ℕ) (a : Float) (xs ys : List Float) → length ys ≤ n → dot a (take n xs) ys ≡ dot a xs ys
-dot-take zero a [] ys h = refl
-dot-take zero a (x ∷ xs) [] h = refl
-dot-take zero a (x ∷ xs) (y ∷ ys) h = absurd (not-suc-le-zero h)
-dot-take (suc n) a [] ys h = refl
-dot-take (suc n) a (x ∷ xs) [] h = refl
-dot-take (suc n) a (x ∷ xs) (y ∷ ys) h = dot-take n (add binary64 a (mul binary64 x y)) xs ys (le-of-suc-le-suc h)
-
--- ---- sums of a table
-
-pub total-more : (n s : ℕ) (f : ℕ → Float) (x sum : Float) → s < n → x ≡ f s → total (add binary64 sum x) (tab (s + 1) (n - (s + 1)) f) ≡ total sum (tab s (n - s) f)
-total-more n s f x sum h e =
-    ap (λ (y : Float). total (add binary64 sum y) (tab (s + 1) (n - (s + 1)) f)) e
-    ∙ sym (ap (λ (l : List Float). total sum l) (tab-more n s f h))
-
-pub total-done : (n s : ℕ) (f : ℕ → Float) (sum : Float) → n ≤ s → total sum (tab s (n - s) f) ≡ sum
-total-done n s f sum h = ap (total sum) (tab-none n s f h)
+pub products-take : (n : ℕ) (xs ys : List Float) → length ys ≤ n → products (take n xs) ys ≡ products xs ys
+products-take zero [] ys h = refl
+products-take zero (x ∷ xs) [] h = refl
+products-take zero (x ∷ xs) (y ∷ ys) h = absurd (not-suc-le-zero h)
+products-take (suc n) [] ys h = refl
+products-take (suc n) (x ∷ xs) [] h = refl
+products-take (suc n) (x ∷ xs) (y ∷ ys) h = ap (λ (l : List Float). mul binary64 x y ∷ l) (products-take n xs ys (le-of-suc-le-suc h))

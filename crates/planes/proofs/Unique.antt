@@ -5,7 +5,7 @@ use mathlib.Core.List.{List}
 use Prim.Native.Nat.{ℕ}
 use lib.Ieee.{Float}
 use Rattle.refusals.proofs.Determined.{determined}
-use Rattle.checks.specs.Tables.{unsound}
+use Rattle.checks.specs.Finite.{unsound}
 use Rattle.planes.specs.Planes.{sampleAt, frameAt, withSample, withFrame}
 use Rattle.planes.specs.Sums.{mixedAll}
 use Rattle.planes.specs.Normalization.{InverseRoot}

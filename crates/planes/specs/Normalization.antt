@@ -2,22 +2,17 @@
 -- exact root; its inverse is one f64 division.
 use Prim.Native.Nat.{ℕ}
 use mathlib.Core.Path.{_≡_}
-use mathlib.Core.Bool.{false}
 use lib.IntN.{pos}
-use lib.Ieee.{Float, fin, binary64, div, ofInt}
+use lib.Ieee.{Float, binary64, div}
+use Rattle.formats.specs.Floats.{one-float, float}
 use Rattle.numbers.specs.Computed.{rootOf, rootAnswer}
 use Rattle.numbers.specs.Promises.{Root}
 
--- n as an f64
-unfoldable pub asFloat : ℕ → Float
-unfolding ofInt
-asFloat n = ofInt binary64 (pos n)
-
 unfoldable pub inverseRoot : ℕ → Float
-unfolding asFloat div rootOf
-inverseRoot n = div binary64 (fin false 1 (pos 0)) (rootOf binary64 (asFloat n))
+unfolding div rootOf
+inverseRoot n = div binary64 one-float (rootOf binary64 (float (pos n)))
 
 -- beside the value: the number below the 1.0 is document 01's root of n
 pub record InverseRoot (n : ℕ) (r : Float) : Type 0 where
   pub value : r ≡ inverseRoot n
-  pub root : Root (asFloat n) (rootAnswer (asFloat n))
+  pub root : Root (float (pos n)) (rootAnswer (float (pos n)))

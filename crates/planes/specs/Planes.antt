@@ -4,7 +4,7 @@ use Prim.Native.Nat.{ℕ, suc, _+_, _*_}
 use mathlib.Core.List.{List, [], _∷_}
 use lib.ListN.{getD, set}
 use lib.Ieee.{Float, nan}
-use Rattle.checks.specs.Tables.{tab}
+use Rattle.lists.specs.Tables.{tab}
 
 -- ---- reading
 

@@ -3,19 +3,24 @@
 use Prim.Native.Nat.{ℕ}
 use mathlib.Core.List.{List, [], _∷_}
 use lib.Ieee.{Float, binary64, add, mul}
-use Rattle.numbers.specs.Computed.{narrowed, zero-float}
-use Rattle.checks.specs.Tables.{tab, row}
-
--- a + x₀ y₀ + x₁ y₁ + .., each product and each sum rounded, in this order; the shorter of the two lists ends it
-abbrev pub dot : Float → List Float → List Float → Float
-dot a [] ys = a
-dot a (x ∷ xs) [] = a
-dot a (x ∷ xs) (y ∷ ys) = dot (add binary64 a (mul binary64 x y)) xs ys
+use Rattle.formats.specs.Floats.{zero-float}
+use Rattle.numbers.specs.Computed.{narrowed}
+use Rattle.lists.specs.Tables.{tab, row}
 
 -- a + x₀ + x₁ + .., each sum rounded, in this order
 abbrev pub total : Float → List Float → Float
 total a [] = a
 total a (x ∷ xs) = total (add binary64 a x) xs
+
+-- x₀ y₀, x₁ y₁, .., each product rounded; the shorter of the two lists ends it
+abbrev pub products : List Float → List Float → List Float
+products [] ys = []
+products (x ∷ xs) [] = []
+products (x ∷ xs) (y ∷ ys) = mul binary64 x y ∷ products xs ys
+
+-- a + x₀ y₀ + x₁ y₁ + ..
+abbrev pub dot : Float → List Float → List Float → Float
+dot a xs ys = total a (products xs ys)
 
 -- one output of a frame
 unfoldable pub mixed : List Float → List Float → Float

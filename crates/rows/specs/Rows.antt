@@ -2,6 +2,7 @@
 use Prim.Native.Nat.{ℕ}
 use mathlib.Core.List.{List, map}
 use lib.Ieee.{Float, binary64, mul}
+use Rattle.refusals.specs.Refusals.{answered}
 
 abbrev pub scaled : Float → List Float → List Float
 scaled f = map (λ (x : Float). mul binary64 x f)
@@ -10,3 +11,7 @@ scaled f = map (λ (x : Float). mul binary64 x f)
 pub record Computed : Type 0 where
   pub refusal : ℕ
   pub weights : List Float
+
+-- a refusal, what an accepted call makes of the weights, and the weights as they were lent
+abbrev pub computedBy : ℕ → List Float → List Float → Computed
+computedBy refusal made lent = record { refusal = refusal; weights = answered refusal made (λ n. lent) }

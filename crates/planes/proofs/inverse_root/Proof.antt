@@ -2,11 +2,12 @@
 use mathlib.Core.Path.{ap, subst}
 use mathlib.Core.Bool.{false}
 use lib.IntN.{pos}
-use lib.Ieee.{fin, binary64, div, ofBits}
+use lib.Ieee.{fin, binary64, div, ofBits, ofInt}
 use borrow.Author.Needs.{needs}
 use Rattle.numbers.specs.Promises.{Root}
 use Rattle.numbers.specs.declared.Rooted.{Rooted}
-use Rattle.planes.specs.Normalization.{asFloat, inverseRoot}
+use Rattle.formats.specs.Floats.{float}
+use Rattle.planes.specs.Normalization.{inverseRoot}
 use Rattle.planes.proofs.inverse_root.Statement.{statement}
 use Rattle.planes.proofs.inverse_root.Tie as tie
 
@@ -17,11 +18,11 @@ root-requires : tie.Need-root-requires
 root-requires c κs = search needs
 
 returns : tie.Need-returns
-unfolding ofBits inverseRoot asFloat
+unfolding ofBits inverseRoot ofInt
 returns c =
     record {
       value = ap (λ (v : Rooted). div binary64 (fin false 1 (pos 0)) (v .value)) (c .root .ensures .answer);
-      root = subst (λ (v : Rooted). Root (asFloat (c .before .before .args .n)) v) (c .root .ensures .answer) (c .root .ensures);
+      root = subst (λ (v : Rooted). Root (float (pos (c .before .before .args .n))) v) (c .root .ensures .answer) (c .root .ensures);
     }
 
 pub inverse-root-spec : {M : Type 1} → statement M

@@ -2,7 +2,7 @@
 use mathlib.Core.Path.{sym, _∙_}
 use lib.Seq.{set-out}
 use denote.Ref.{now}
-use Rattle.checks.proofs.Lists.{set-min}
+use Rattle.lists.proofs.Lists.{set-min}
 use borrow.Author.Needs.{needs}
 use Rattle.planes.proofs.put_sample.Statement.{statement}
 use Rattle.planes.proofs.put_sample.Tie as tie

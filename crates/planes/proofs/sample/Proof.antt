@@ -3,7 +3,7 @@ use mathlib.Core.Path.{sym, _∙_}
 use lib.ListN.{List·getD-eq-default}
 use lib.Ieee.{nan, div, ofBits}
 use denote.Ref.{now}
-use Rattle.checks.proofs.Lists.{getD-min}
+use Rattle.lists.proofs.Lists.{getD-min}
 use borrow.Author.Needs.{needs}
 use Rattle.planes.proofs.sample.Statement.{statement}
 use Rattle.planes.proofs.sample.Tie as tie
