@@ -10,6 +10,7 @@ use lib.Dec.{T, lit<, lit≤}
 use lib.Ieee.Fits.{and-l, and-r}
 use lib.Ieee.{Float, fin, binary64, round, add, sub, mul, div, neg, lt, le, eq, ofInt}
 use lib.IntN.{pos}
+use Rattle.formats.specs.Floats.{float}
 use Rattle.fractions.specs.Fraction.{Fraction, number, whole, magnitude, _⊗_, Same, AtMost}
 use Rattle.fractions.proofs.Order.{same-sym, same-trans, isSame, same-computed}
 use Rattle.fractions.proofs.Operations.{mul-result}
@@ -22,7 +23,7 @@ use Rattle.angles.specs.Limits.{isInside, refusesAngle}
 use Rattle.angles.specs.Promise as Angles
 use Rattle.harmonics.specs.Formulas.{h, q, m, formulasOver, formulas}
 use Rattle.harmonics.specs.Computed.{sin, cos, wavesOf, upTo}
-use Rattle.harmonics.specs.Promise.{degrees, refusesAzimuth, outcome}
+use Rattle.harmonics.specs.Promise.{refusesAzimuth, outcome}
 use Rattle.harmonics.specs.Drill.{at, given, Alike, none, front, frontFloats, left, Above}
 use Rattle.harmonics.specs.declared.Direction.{Direction}
 use Rattle.harmonics.proofs.Laws.{accepted, direction-accepted, elevation-accepted, azimuth-number, azimuth-size, outcome-kept, gains-are}
@@ -77,15 +78,15 @@ nought-times y Y =
     (result-exact binary64 p (same-held binary64 none (number nought ⊗ number y) (lit< tt) (same-sym (number nought ⊗ number y) none (nothing (number y))) (whole-held binary64 0 (lit< tt))) (mul-result binary64 nought y (lit< tt) Y))
     (nothing (number y))
 
-risen : (a : Float) → 0 < number a .over → AtMost (magnitude (number a)) (whole 180) → Above (map number (upTo 3 (wavesOf (record { azimuth = a; elevation = degrees 90 }))))
+risen : (a : Float) → 0 < number a .over → AtMost (magnitude (number a)) (whole 180) → Above (map number (upTo 3 (wavesOf (record { azimuth = a; elevation = float (pos 90) }))))
 unfolding nought upTo wavesOf sin cos refusesAngle isInside lt le eq computed place cut units turned sineAt cosineAt short times radians nesting nest rounded ofInt div neg add sub mul round
 risen a A h = record { one = number-times sine; two = refl; three = number-times cosine; six = refl; twelve = refl }
   where
     number-times : (w : Wave) → Same (number (mul binary64 nought (Angles.outcome w a .value))) none
     number-times w = nought-times (Angles.outcome w a .value) (single w a A h .near .first)
 
-pub drill-3-floats : (a : Float) → refusesAzimuth a ≡ false → Above (given 3 (record { azimuth = a; elevation = degrees 90 }))
+pub drill-3-floats : (a : Float) → refusesAzimuth a ≡ false → Above (given 3 (record { azimuth = a; elevation = float (pos 90) }))
 unfolding ofInt
 drill-3-floats a A =
-    let d : Direction = record { azimuth = a; elevation = degrees 90 } in
-    subst (λ (xs : List Float). Above (map number xs)) (sym (gains-are 3 d (outcome 3 d) (outcome-kept 3 d) (accepted 3 d refl (direction-accepted d A (elevation-accepted (degrees 90) (lit< tt) (lit≤ tt)))))) (risen a (azimuth-number a A) (azimuth-size a A))
+    let d : Direction = record { azimuth = a; elevation = float (pos 90) } in
+    subst (λ (xs : List Float). Above (map number xs)) (sym (gains-are 3 d (outcome 3 d) (outcome-kept 3 d) (accepted 3 d refl (direction-accepted d A (elevation-accepted (float (pos 90)) (lit< tt) (lit≤ tt)))))) (risen a (azimuth-number a A) (azimuth-size a A))

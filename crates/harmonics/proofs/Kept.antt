@@ -1,12 +1,16 @@
 -- The promise is kept: all of it holds of the answer that the definition gives, and so of the three answers that the program can give. Assumes nothing.
 use mathlib.Core.Path.{_≡_, refl, sym, ap, _∙_, subst}
 use mathlib.Core.Bool.{Bool, true, false, cond}
-use mathlib.Core.List.{List}
+use mathlib.Core.List.{List, [], _∷_}
 use Prim.Native.Nat.{ℕ, _<_}
+use lib.IntN.{pos}
 use lib.Dec.{eqb, lit<, lit≤}
 use lib.ListN.{length}
 use lib.Ieee.{Float, ofInt}
-use Rattle.refusals.proofs.First.{passed, or-off}
+use Rattle.formats.specs.Floats.{float}
+use Rattle.refusals.specs.Refusals.{_when_}
+use Rattle.refusals.proofs.First.{or-off}
+use Rattle.refusals.proofs.Chains.{none-holds}
 use Rattle.channel.specs.Orders.{refusesOrder}
 use Rattle.channel.proofs.Orders.{by-order}
 use Rattle.fractions.specs.Fraction.{number, whole, magnitude, AtMost}
@@ -15,17 +19,13 @@ use Rattle.fractions.proofs.Close.{size-wider}
 use Rattle.fractions.proofs.Within.{at-most-size, size-at-most}
 use Rattle.harmonics.specs.Formulas.{formulas}
 use Rattle.harmonics.specs.Computed.{wavesOf, upTo, gainsOf}
-use Rattle.harmonics.specs.Promise.{gainBits, degrees, refusesAzimuth, refusesElevation, refusesDirection, refusalOf, silence, outcome, Promise}
+use Rattle.harmonics.specs.Promise.{gainBits, refusesAzimuth, refusesElevation, refusesDirection, refusalOf, silence, outcome, Promise}
 use Rattle.harmonics.specs.declared.Direction.{Direction}
 use Rattle.harmonics.specs.declared.Coefficients.{Coefficients}
 use Rattle.angles.proofs.Limits.{accepted-number, accepted-size}
 use Rattle.harmonics.proofs.Near.{Bounded, bounded}
 
--- ---- which orders and directions are accepted
-tests : (a b : Bool) → _≡_ {A = ℕ} (cond a 1 (cond b 3 0)) 0 → (a ≡ false) × (b ≡ false)
-tests a b h = let p = passed a 0 (cond b 3 0) h in (p .0, passed b 2 0 (p .1) .0)
-
--- what is known of an accepted direction
+-- ---- what is known of an accepted direction
 pub record Accepted (order : ℕ) (d : Direction) : Type 0 where
   pub order-is : refusesOrder order ≡ false
   pub azimuth : 0 < number (d .azimuth) .over
@@ -37,14 +37,14 @@ module _ (order : ℕ) (d : Direction) where
   pub is-accepted : refusalOf order d ≡ 0 → Accepted order d
   unfolding ofInt
   is-accepted h =
-      let t = tests (refusesOrder order) (refusesDirection d) h in
-      let n = or-off (refusesAzimuth (d .azimuth)) (refusesElevation (d .elevation)) (t .1) in
+      let t = none-holds (1 when refusesOrder order ∷ 3 when refusesDirection d ∷ []) tt h in
+      let n = or-off (refusesAzimuth (d .azimuth)) (refusesElevation (d .elevation)) (t .1 .0) in
       record {
         order-is = t .0;
-        azimuth = accepted-number (degrees 180) (d .azimuth) (n .0);
-        azimuth-size = accepted-size (degrees 180) (d .azimuth) (lit< tt) (n .0);
-        elevation = accepted-number (degrees 90) (d .elevation) (n .1);
-        elevation-size = accepted-size (degrees 90) (d .elevation) (lit< tt) (n .1);
+        azimuth = accepted-number (float (pos 180)) (d .azimuth) (n .0);
+        azimuth-size = accepted-size (float (pos 180)) (d .azimuth) (lit< tt) (n .0);
+        elevation = accepted-number (float (pos 90)) (d .elevation) (n .1);
+        elevation-size = accepted-size (float (pos 90)) (d .elevation) (lit< tt) (n .1);
       }
 
   -- ---- the answer by the two tests
@@ -52,7 +52,7 @@ module _ (order : ℕ) (d : Direction) where
   answer a b = let r : ℕ = cond a 1 (cond b 3 0) in record { refusal = r; gains = cond (eqb r 0) (upTo order (wavesOf d)) silence }
 
   pub gains-are : refusalOf order d ≡ 0 → outcome order d .gains ≡ upTo order (wavesOf d)
-  gains-are h = let t = tests (refusesOrder order) (refusesDirection d) h in λ i. answer (t .0 i) (t .1 i) .gains
+  gains-are h = ap (λ (r : ℕ). cond (eqb r 0) (upTo order (wavesOf d)) silence) h
 
   pub length-is : length (outcome order d .gains) ≡ 16
   unfolding upTo
@@ -68,20 +68,20 @@ module _ (order : ℕ) (d : Direction) where
       let a = is-accepted h in
       bounded d (a .azimuth) (a .azimuth-size) (a .elevation) (size-at-most (size-wider (at-most-size (a .elevation-size)) (lit≤ tt))) order (a .order-is)
 
-  pub kept : Promise order d (outcome order d)
-  kept = record {
+  pub outcome-kept : Promise order d (outcome order d)
+  outcome-kept = record {
     is = refl;
     near = λ h. subst (λ (xs : List Float). EachWithin gainBits xs (formulas order (number (d .azimuth)) (number (d .elevation)))) (sym (gains-are h)) (near-all h .near);
   }
 
   -- ---- the three answers of the program
   pub order-refused : (r : Coefficients) → refusesOrder order ≡ true → r ≡ record { refusal = 1; gains = silence } → Promise order d r
-  order-refused r h e = subst (Promise order d) (ap (λ (a : Bool). answer a (refusesDirection d)) h ∙ sym e) kept
+  order-refused r h e = subst (Promise order d) (ap (λ (a : Bool). answer a (refusesDirection d)) h ∙ sym e) outcome-kept
 
   pub direction-refused : (r : Coefficients) → refusesOrder order ≡ false → refusesDirection d ≡ true → r ≡ record { refusal = 3; gains = silence } → Promise order d r
-  direction-refused r h k e = subst (Promise order d) ((λ i. answer (h i) (k i)) ∙ sym e) kept
+  direction-refused r h k e = subst (Promise order d) ((λ i. answer (h i) (k i)) ∙ sym e) outcome-kept
 
   pub accepted-kept : (g : List Float) → refusesOrder order ≡ false → refusesDirection d ≡ false → g ≡ gainsOf order (wavesOf d) → Promise order d (record { refusal = 0; gains = g })
   accepted-kept g h k e =
       subst (Promise order d)
-      ((λ i. answer (h i) (k i)) ∙ ap (λ (xs : List Float). record { refusal = 0; gains = xs }) (sym (e ∙ by-order (λ (n : ℕ). gainsOf n (wavesOf d) ≡ upTo n (wavesOf d)) refl refl refl order h))) kept
+      ((λ i. answer (h i) (k i)) ∙ ap (λ (xs : List Float). record { refusal = 0; gains = xs }) (sym (e ∙ by-order (λ (n : ℕ). gainsOf n (wavesOf d) ≡ upTo n (wavesOf d)) refl refl refl order h))) outcome-kept

@@ -5,11 +5,13 @@ use mathlib.Core.Bool.{Bool, true, false, _||_, cond}
 use mathlib.Core.List.{List}
 use Prim.Native.Nat.{ℕ, _≤_, _<_}
 use native.Mathlib.Omega.{arith}
+use lib.IntN.{pos}
 use lib.Dec.{lit<}
 use lib.ListN.{length, getD}
 use lib.Ieee.{Float, binary64, round, ofInt}
 use lib.Ieee.Exact.{HasValue}
 use lib.Ieee.Back.{round-whole}
+use Rattle.formats.specs.Floats.{float}
 use Rattle.channel.specs.Orders.{refusesOrder}
 use Rattle.fractions.specs.Fraction.{Fraction, number, signed, whole, magnitude, AtMost}
 use Rattle.fractions.specs.Approximates.{Approximates}
@@ -18,28 +20,32 @@ use Rattle.fractions.proofs.Within.{size-at-most}
 use Rattle.fractions.proofs.Number.{value-same, value-number}
 use Rattle.harmonics.specs.Formulas.{formulas}
 use Rattle.harmonics.specs.Computed.{wavesOf, upTo}
-use Rattle.harmonics.specs.Promise.{degrees, refusesAzimuth, refusesElevation, refusesDirection, refusalOf, outcome, Promise}
+use Rattle.harmonics.specs.Promise.{refusesAzimuth, refusesElevation, refusesDirection, refusalOf, Promise}
 use Rattle.harmonics.specs.declared.Direction.{Direction}
 use Rattle.harmonics.specs.declared.Coefficients.{Coefficients}
 use Rattle.angles.proofs.Limits.{accepted-number, accepted-size, size-accepted}
 use Rattle.harmonics.proofs.Kept as Kept
+-- what is known of an order and a direction that are accepted
+pub use Rattle.harmonics.proofs.Kept.{is-accepted}
+-- the promise holds of the answer that the definition gives, so that all of it can be had of coefficients that are said by the definition alone
+pub use Rattle.harmonics.proofs.Kept.{outcome-kept}
 
 -- ---- which angles are accepted: those of 180, or of 90 degrees at most in size
 module _ (x : Float) (X : 0 < number x .over) where
   azimuth-accepted : AtMost (magnitude (number x)) (whole 180) → refusesAzimuth x ≡ false
   unfolding ofInt
-  azimuth-accepted = size-accepted (degrees 180) x (lit< tt) X
+  azimuth-accepted = size-accepted (float (pos 180)) x (lit< tt) X
 
   pub elevation-accepted : AtMost (magnitude (number x)) (whole 90) → refusesElevation x ≡ false
   unfolding ofInt
-  elevation-accepted = size-accepted (degrees 90) x (lit< tt) X
+  elevation-accepted = size-accepted (float (pos 90)) x (lit< tt) X
 
 pub azimuth-number : (x : Float) → refusesAzimuth x ≡ false → 0 < number x .over
-azimuth-number = accepted-number (degrees 180)
+azimuth-number = accepted-number (float (pos 180))
 
 pub azimuth-size : (x : Float) → refusesAzimuth x ≡ false → AtMost (magnitude (number x)) (whole 180)
 unfolding ofInt
-azimuth-size x = accepted-size (degrees 180) x (lit< tt)
+azimuth-size x = accepted-size (float (pos 180)) x (lit< tt)
 
 -- whole degrees, of either sign
 module _ (s : Bool) (n : ℕ) (h : n ≤ 180) where
@@ -56,19 +62,12 @@ module _ (s : Bool) (n : ℕ) (h : n ≤ 180) where
       size true = record { above = omega arith; below = omega arith }
       size false = record { above = omega arith; below = omega arith }
 
--- ---- which orders and directions are accepted, and what is known of them
+-- ---- which orders and directions are accepted
 pub direction-accepted : (d : Direction) → refusesAzimuth (d .azimuth) ≡ false → refusesElevation (d .elevation) ≡ false → refusesDirection d ≡ false
 direction-accepted d a e = λ i. a i || e i
 
 pub accepted : (order : ℕ) (d : Direction) → refusesOrder order ≡ false → refusesDirection d ≡ false → refusalOf order d ≡ 0
 accepted order d n h = λ i. cond (n i) 1 (cond (h i) 3 0)
-
-pub is-accepted : (order : ℕ) (d : Direction) → refusalOf order d ≡ 0 → Kept.Accepted order d
-is-accepted = Kept.is-accepted
-
--- ---- the promise holds of the answer that the definition gives, so that all of it can be had of coefficients that are said by the definition alone
-pub outcome-kept : (order : ℕ) (d : Direction) → Promise order d (outcome order d)
-outcome-kept = Kept.kept
 
 module _ (order : ℕ) (d : Direction) (answer : Coefficients) (p : Promise order d answer) where
   pub refusal-is : answer .refusal ≡ refusalOf order d

@@ -6,15 +6,16 @@ use mathlib.Core.List.{List, [], _∷_, map}
 use Prim.Native.Nat.{ℕ, _^_, _≤_, _<_}
 use lib.Dec.{T, lit≤, lit<}
 use lib.ListN.{length, getD, set}
-use lib.Ieee.{Float, binary64, mul, round}
+use lib.Ieee.{Float, binary64, mul, round, ofInt}
 use Rattle.channel.specs.Orders.{refusesOrder}
 use Rattle.channel.proofs.Orders.{by-order}
+use Rattle.lists.specs.Tables.{every}
 use Rattle.fractions.specs.Fraction.{Fraction, fraction, number, whole, magnitude, square, _⊖_, _⊗_, _⊘_, AtMost}
 use Rattle.fractions.specs.Approximates.{Approximates, EachWithin}
 use Rattle.fractions.proofs.Close.{size-mul, size-wider}
 use Rattle.fractions.proofs.Within.{at-most-size, size-at-most, whole-size}
 use Rattle.fractions.proofs.Restate.{part-⊗, ⊗-assoc}
-use Rattle.fractions.proofs.Expression.{Expression, literal, held, _-'_, _*'_, run, exact, passes, within, all-pass, each-within, all-sized, each-approximates, value, itself}
+use Rattle.fractions.proofs.Expression.{Expression, literal, held, _-'_, _*'_, run, exact, passes, within, each-within, sized, each-approximates, value, itself}
 use Rattle.series.specs.Sums.{Wave, sine, cosine}
 use Rattle.series.specs.Angles.{defined, definedMost}
 use Rattle.series.proofs.Laws.{defined-size}
@@ -138,7 +139,7 @@ module _ (d : Direction) (A : 0 < number (d .azimuth) .over) (a : AtMost (magnit
 
   -- the expressions are what the program computes and, exactly, document 01's formulas, so the tests bound the one by the other
   tested : (n : ℕ) → map (run binary64) (expressions n known) ≡ upTo n (wavesOf d) → map exact (expressions n known) ≡ arranged sines n (sixth sines) (twelfth sines) → length (expressions n known) ≡ 16
-      → T (all-pass binary64 gainBits (expressions n known)) → T (all-sized binary64 42 5 1 (expressions n known)) → Bounded d n
+      → T (every (passes binary64 gainBits) (expressions n known)) → T (every (sized binary64 42 5 1) (expressions n known)) → Bounded d n
   tested n r p l s t =
       let e = p ∙ restated sines n in
       record {
@@ -149,5 +150,5 @@ module _ (d : Direction) (A : 0 < number (d .azimuth) .over) (a : AtMost (magnit
       }
 
   pub bounded : (n : ℕ) → refusesOrder n ≡ false → Bounded d n
-  unfolding upTo wavesOf sin cos arranged sixth twelfth
+  unfolding upTo wavesOf sin cos arranged sixth twelfth ofInt round
   bounded = by-order (Bounded d) (tested 1 refl refl refl tt tt) (tested 2 refl refl refl tt tt) (tested 3 refl refl refl tt tt)

@@ -2,14 +2,16 @@
 -- are 1; 1 and 3 are 0." Definitions only. A float is told by its number, since some of the zeros have a sign.
 use Prim.Native.Nat.{ℕ}
 use mathlib.Core.List.{List, [], _∷_, map}
+use lib.IntN.{pos}
 use lib.ListN.{getD}
+use Rattle.lists.specs.Both.{Both}
+use Rattle.formats.specs.Floats.{float, decimal}
 use Rattle.fractions.specs.Fraction.{Fraction, fraction, number, whole, opposite, Same}
-use Rattle.harmonics.specs.Computed.{decimal}
-use Rattle.harmonics.specs.Promise.{degrees, outcome}
+use Rattle.harmonics.specs.Promise.{outcome}
 use Rattle.harmonics.specs.declared.Direction.{Direction}
 
 abbrev pub at : ℕ → ℕ → Direction
-at azimuth elevation = record { azimuth = degrees azimuth; elevation = degrees elevation }
+at azimuth elevation = record { azimuth = float (pos azimuth); elevation = float (pos elevation) }
 
 -- the numbers of the floats that the program gives
 abbrev pub given : ℕ → Direction → List Fraction
@@ -17,10 +19,7 @@ given order d = map number (outcome order d .gains)
 
 -- as many numbers as numbers, the same in each place
 abbrev pub Alike : List Fraction → List Fraction → Type 0
-Alike [] [] = Unit {0}
-Alike (x ∷ xs) (y ∷ ys) = Same x y × Alike xs ys
-Alike [] (y ∷ ys) = ⊥
-Alike (x ∷ xs) [] = ⊥
+Alike = Both Same
 
 abbrev pub none : Fraction
 none = whole 0

@@ -13,7 +13,7 @@ use Rattle.channel.specs.Orders.{refusesOrder}
 use Rattle.fractions.specs.Fraction.{number}
 use Rattle.fractions.specs.Approximates.{EachWithin}
 use Rattle.angles.specs.Limits.{refusesAngle}
-use Rattle.angles.specs.Promise.{float}
+use Rattle.formats.specs.Floats.{zero-float, float}
 use Rattle.harmonics.specs.Formulas.{formulas}
 use Rattle.harmonics.specs.Computed.{wavesOf, upTo}
 use Rattle.harmonics.specs.declared.Direction.{Direction}
@@ -25,14 +25,11 @@ gainBits = 34
 
 -- ---- refusals
 
-abbrev pub degrees : ℕ → Float
-degrees n = float (pos n)
-
 abbrev pub refusesAzimuth : Float → Bool
-refusesAzimuth a = refusesAngle (degrees 180) a
+refusesAzimuth a = refusesAngle (float (pos 180)) a
 
 abbrev pub refusesElevation : Float → Bool
-refusesElevation e = refusesAngle (degrees 90) e
+refusesElevation e = refusesAngle (float (pos 90)) e
 
 abbrev pub refusesDirection : Direction → Bool
 refusesDirection d = refusesAzimuth (d .azimuth) || refusesElevation (d .elevation)
@@ -43,7 +40,7 @@ refusalOf order d = firstOf (1 when refusesOrder order ∷ 3 when refusesDirecti
 -- ---- the answer
 
 abbrev pub silence : List Float
-silence = replicate 16 (degrees 0)
+silence = replicate 16 zero-float
 
 abbrev pub outcome : ℕ → Direction → Coefficients
 outcome order d = record { refusal = refusalOf order d; gains = cond (eqb (refusalOf order d) 0) (upTo order (wavesOf d)) silence }

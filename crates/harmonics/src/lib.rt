@@ -23,7 +23,7 @@
 //
 // Under it lie `angles` (the program's sine and cosine), `series` (the defined ones), `fractions` (what
 // "within" is said over, and the calculus that the budget is computed by), `channel` (which orders there
-// are) and `refusals`.
+// are), `formats` (numbers as the code writes them), `lists` and `refusals`.
 ghost use mathlib.Core.Path.{_≡_};
 ghost use Rattle.harmonics.specs.Computed as Steps;
 ghost use Rattle.harmonics.specs.Promise as Said;

@@ -1,8 +1,8 @@
 -- The answers of `process` are those promised: refused by the command, by a length, by the number of frames, and played. Assumes nothing.
-use mathlib.Core.Path.{_≡_, refl, sym, ap, _∙_}
+use mathlib.Core.Path.{_≡_, sym, ap, _∙_}
 use mathlib.Core.Bool.{true, false}
 use mathlib.Core.List.{List}
-use Prim.Native.Nat.{ℕ, zero, suc, _≤_, _<_}
+use Prim.Native.Nat.{ℕ, _≤_, _<_}
 use native.Mathlib.Omega.{arith}
 use borrow.Author.Tests.{lt-ltb, le-ltb}
 use lib.ListN.{length}
@@ -11,22 +11,19 @@ use Rattle.refusals.specs.Refusals.{Check, firstOf}
 use Rattle.refusals.proofs.First.{stops, goes-on}
 use Rattle.refusals.proofs.Chains.{first-refused, first-accepted}
 use Rattle.planes.specs.Planes.{withFrames}
+use Rattle.planes.proofs.Blocks.{refused-with, played-with}
 use Rattle.panner.specs.declared.Commanded.{Commanded}
 use Rattle.panner.specs.Commands.{commandChecks, gainsOf}
 use Rattle.panner.specs.Blocks.{Shape, misfit, mostFrames, planesIn, blockChecks, refusalOf, narrowedAll, pannedFrames, framesOf}
-use Rattle.panner.specs.Promise.{blockBy, Processed}
+use Rattle.panner.specs.Promise.{answerOf, Processed}
 use Rattle.panner.specs.Steps.{commandRefusal, Commands}
 
 module _ (s : Shape) (input out : List Float) where
   abbrev refusal : ℕ
   refusal = refusalOf s (length input) (length out)
 
-  refused-block : (n : ℕ) → (n ≡ 0 → ⊥) → record { answer = record { refusal = n; samples = 0 }; out = out } ≡ blockBy n s input out
-  refused-block zero h = absurd (h refl)
-  refused-block (suc n) h = refl
-
   refused : (n : ℕ) → (n ≡ 0 → ⊥) → refusal ≡ n → Processed s input out (record { refusal = n; samples = 0 }) out
-  refused n h e = record { is = refused-block n h ∙ sym (ap (λ (k : ℕ). blockBy k s input out) e); gains = λ k. absurd (h (sym e ∙ k)) }
+  refused n h e = record { is = refused-with answerOf (s .frames) (s .stride) (framesOf s input) out n refusal (sym e) h; gains = λ k. absurd (h (sym e ∙ k)) }
 
   module _ (g : Commanded) (G : Commands (s .command) (s .layout) g) where
     abbrev first : List Check
@@ -63,6 +60,6 @@ module _ (s : Shape) (input out : List Float) where
             let after-is : after ≡ withFrames out (s .stride) 0 (framesOf s input) =
             w ∙ (λ i. withFrames out (s .stride) 0 (pannedFrames (s .stride) (s .frames) (G .planes accepted i) (narrow-is i) input)) in
             record {
-              is = ap (λ (y : List Float). record { answer = record { refusal = 0; samples = s .frames }; out = y }) after-is ∙ sym (ap (λ (k : ℕ). blockBy k s input out) none);
+              is = played-with answerOf (s .frames) (s .stride) (framesOf s input) out refusal after none after-is;
               gains = λ k. G .promised accepted;
             }

@@ -18,7 +18,7 @@ use Rattle.channel.specs.declared.Counted.{Counted}
 use Rattle.stereo.specs.Promise as Stereo
 use Rattle.stereo.specs.declared.StereoGains.{StereoGains}
 use Rattle.surround.specs.Promise as Surround
-use Rattle.angles.specs.Promise.{zero as silent}
+use Rattle.formats.specs.Floats.{zero-float}
 use Rattle.surround.specs.declared.SurroundGains.{SurroundGains}
 use Rattle.harmonics.specs.Promise as Harmonics
 use Rattle.harmonics.specs.declared.Direction.{Direction}
@@ -65,12 +65,12 @@ module _ (l : Layout) (p : Float) (s : StereoGains) (h : Stereo.Pans p s) where
   pub stereo-refused : isBadLayout l ≡ false → (s .refusal ≡ 0 → ⊥) → commandRefusal (Stereo p) l ≡ 3
   stereo-refused b n = goes-on 2 _ b ∙ three (Stereo.isRefused p) (s .refusal) stereo-refusal n
 
-  pub stereo-accepted : (g : Commanded) → isBadLayout l ≡ false → s .refusal ≡ 0 → g ≡ record { refusal = 0; planes = 2; gains = s .left ∷ s .right ∷ replicate 14 silent } → Commands (Stereo p) l g
+  pub stereo-accepted : (g : Commanded) → isBadLayout l ≡ false → s .refusal ≡ 0 → g ≡ record { refusal = 0; planes = 2; gains = s .left ∷ s .right ∷ replicate 14 zero-float } → Commands (Stereo p) l g
   stereo-accepted g b z e = record {
     refusal = ap (λ (x : Commanded). x .refusal) e ∙ sym (goes-on 2 _ b ∙ sym stereo-refusal ∙ z);
     few = omega (arith, ap (λ (x : Commanded). x .planes) e);
     planes = λ k. ap (λ (x : Commanded). x .planes) e;
-    gains = λ k. ap (λ (x : Commanded). x .gains) e ∙ ap (λ (x : StereoGains). x .left ∷ x .right ∷ replicate 14 silent) (h .is);
+    gains = λ k. ap (λ (x : Commanded). x .gains) e ∙ ap (λ (x : StereoGains). x .left ∷ x .right ∷ replicate 14 zero-float) (h .is);
     promised = λ k. subst (Stereo.Pans p) (λ i. record { refusal = z i; left = h .is i .left; right = h .is i .right }) h;
   }
 

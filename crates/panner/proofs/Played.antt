@@ -3,7 +3,7 @@
 use mathlib.Core.Path.{_≡_, refl, sym, ap, _∙_}
 use mathlib.Core.Bool.{false}
 use mathlib.Core.List.{List, [], _++_}
-use Prim.Native.Nat.{ℕ, zero, suc, _*_, _≤_, _<_}
+use Prim.Native.Nat.{ℕ, _*_, _≤_, _<_}
 use native.Mathlib.Nat.{zero-add}
 use native.Mathlib.Omega.{arith}
 use borrow.Author.Tests.{ltb-false}
@@ -12,16 +12,17 @@ use lib.Ieee.{Float, nan, binary32, mul}
 use Rattle.refusals.specs.Refusals.{Check}
 use Rattle.refusals.proofs.Chains.{Off, none-holds}
 use Rattle.numbers.specs.Computed.{narrowed}
-use Rattle.checks.specs.Tables.{tab}
+use Rattle.lists.specs.Tables.{tab}
 use Rattle.checks.specs.Lengths.{unfit}
 use Rattle.planes.specs.Planes.{sampleAt, withFrames}
 use Rattle.checks.proofs.Checks.{or-off, fitted}
 use Rattle.planes.proofs.Planes.{with-frames-at, with-frames-other}
-use Rattle.checks.proofs.Tables.{length-tab, getD-tab}
+use Rattle.lists.proofs.Tables.{length-tab, getD-tab}
 use Rattle.panner.specs.declared.Panned.{Panned}
 use Rattle.panner.specs.Commands.{commandChecks, gainsOf}
 use Rattle.panner.specs.Blocks.{Shape, mostFrames, planesIn, blockChecks, refusalOf, narrowedAll, panned, framesOf}
-use Rattle.panner.specs.Promise.{Block, blockBy, Processed}
+use Rattle.planes.proofs.Blocks.{block-refused, block-accepted, block-refusal}
+use Rattle.panner.specs.Promise.{answerOf, Block, Processed}
 use Rattle.panner.proofs.Gains.{planes-most}
 
 module _ (s : Shape) (input out : List Float) (answer : Panned) (after : List Float) (P : Processed s input out answer after) where
@@ -30,23 +31,17 @@ module _ (s : Shape) (input out : List Float) (answer : Panned) (after : List Fl
 
   -- the number given is the one that document 01 asks for
   pub refusal-is : answer .refusal ≡ refusal
-  refusal-is = ap (λ (b : Block). b .answer .refusal) (P .is) ∙ go refusal
-    where
-      go : (n : ℕ) → blockBy n s input out .answer .refusal ≡ n
-      go zero = refl
-      go (suc n) = refl
+  refusal-is = ap (λ (b : Block). b .answer .refusal) (P .is) ∙ block-refusal answerOf (s .frames) (s .stride) (framesOf s input) out (λ (a : Panned). a .refusal) (λ n m. refl) refusal
 
   -- a refusal counts nothing, and lent memory stays the same
   pub refused-unchanged : (answer .refusal ≡ 0 → ⊥) → (answer .samples ≡ 0) × (after ≡ out)
-  refused-unchanged h = go refusal (λ e. h (refusal-is ∙ e)) (P .is)
-    where
-      go : (n : ℕ) → (n ≡ 0 → ⊥) → record { answer = answer; out = after } ≡ blockBy n s input out → (answer .samples ≡ 0) × (after ≡ out)
-      go zero k e = absurd (k refl)
-      go (suc n) k e = (ap (λ (b : Block). b .answer .samples) e, ap (λ (b : Block). b .out) e)
+  refused-unchanged h =
+      let e = P .is ∙ block-refused answerOf (s .frames) (s .stride) (framesOf s input) out refusal (λ z. h (refusal-is ∙ z)) in
+      (ap (λ (b : Block). b .answer .samples) e, ap (λ (b : Block). b .out) e)
 
   module _ (z : answer .refusal ≡ 0) where
-    played : record { answer = answer; out = after } ≡ blockBy 0 s input out
-    played = P .is ∙ ap (λ (n : ℕ). blockBy n s input out) (sym refusal-is ∙ z)
+    played : _≡_ {A = Block} (record { answer = answer; out = after }) (record { answer = record { refusal = 0; samples = s .frames }; out = withFrames out (s .stride) 0 (framesOf s input) })
+    played = P .is ∙ block-accepted answerOf (s .frames) (s .stride) (framesOf s input) out refusal (sym refusal-is ∙ z)
 
     abbrev checks : List Check
     checks = commandChecks (s .command) (s .layout) ++ blockChecks s (length input) (length out)

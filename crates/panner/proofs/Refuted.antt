@@ -8,11 +8,11 @@ use lib.Dec.{lit<}
 use lib.IntN.{pos, negsuc}
 use lib.Ieee.{Float, fin, binary32, mul, round, ofInt}
 use lib.Ieee.Positive.{positive}
-use Rattle.numbers.specs.Computed.{narrowed, rounded, zero-float}
+use Rattle.formats.specs.Floats.{zero-float, float}
+use Rattle.numbers.specs.Computed.{narrowed, rounded}
 use Rattle.planes.specs.Planes.{sampleAt}
 use Rattle.channel.specs.declared.Layout.{Layout}
 use Rattle.channel.specs.declared.Layout.the-variants.{Mono, Custom}
-use Rattle.angles.specs.Promise.{float}
 use Rattle.stereo.specs.declared.StereoGains.{StereoGains}
 use Rattle.stereo.proofs.Drill.{at-minus-100}
 use Rattle.harmonics.specs.declared.Direction.{Direction}

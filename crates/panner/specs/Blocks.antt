@@ -8,7 +8,7 @@ use lib.ListN.{getD}
 use lib.Ieee.{Float, nan, binary32, mul}
 use Rattle.refusals.specs.Refusals.{Check, firstOf, _when_}
 use Rattle.numbers.specs.Computed.{narrowed}
-use Rattle.checks.specs.Tables.{tab}
+use Rattle.lists.specs.Tables.{tab}
 use Rattle.checks.specs.Lengths.{blockUnfit}
 use Rattle.planes.specs.Planes.{sampleAt}
 use Rattle.channel.specs.declared.Layout.{Layout}

@@ -9,7 +9,7 @@ use Rattle.refusals.specs.Refusals.{Check, _when_}
 use Rattle.channel.specs.Layouts.{channelsOf, uncountable, surround}
 use Rattle.channel.specs.Orders.{refusesOrder, channelsOfOrder}
 use Rattle.channel.specs.declared.Layout.{Layout}
-use Rattle.angles.specs.Promise.{zero}
+use Rattle.formats.specs.Floats.{zero-float}
 use Rattle.stereo.specs.Promise as Stereo
 use Rattle.surround.specs.Promise as Surround
 use Rattle.harmonics.specs.Promise as Harmonics
@@ -45,12 +45,12 @@ planesOf (Ambisonic d n) l = channelsOfOrder n
 
 -- sixteen places, of which the first planesOf are played
 abbrev pub gainsOf : Command → Layout → List Float
-gainsOf (Stereo p) l = Stereo.outcome p .left ∷ Stereo.outcome p .right ∷ replicate 14 zero
+gainsOf (Stereo p) l = Stereo.outcome p .left ∷ Stereo.outcome p .right ∷ replicate 14 zero-float
 gainsOf (Surround a) l = Surround.outcome l a .gains
 gainsOf (Ambisonic d n) l = Harmonics.outcome n d .gains
 
 -- what is promised of them, and how near they are to document 01's formulas
 abbrev pub Promised : Command → Layout → List Float → Type 0
-Promised (Stereo p) l g = Stereo.Pans p (record { refusal = 0; left = getD g 0 zero; right = getD g 1 zero })
+Promised (Stereo p) l g = Stereo.Pans p (record { refusal = 0; left = getD g 0 zero-float; right = getD g 1 zero-float })
 Promised (Surround a) l g = Surround.Pans l a (record { refusal = 0; gains = g })
 Promised (Ambisonic d n) l g = Harmonics.Promise n d (record { refusal = 0; gains = g })

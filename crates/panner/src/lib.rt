@@ -8,8 +8,8 @@
 // `harmonics` promise. A block of up to 4,096 frames is played to its last frame; a longer one is refused,
 // where panner.rs stops at 4,096 and leaves the old tail.
 //
-// Under it lie these three, `planes` (samples with a stride), `checks` (the tests of lengths), `numbers` (narrowing),
-// `channel` and `refusals`.
+// Under it lie these three, `planes` (samples with a stride, the answer to a block), `checks` (the tests of
+// lengths), `numbers` (narrowing), `channel` (layouts and orders), `lists` (tables), `formats` and `refusals`.
 ghost use mathlib.Core.Path.{_≡_};
 ghost use Prim.Native.Nat.{_≤_};
 ghost use Rattle.planes.specs.Planes.{withFrame, withFrames};

@@ -3,12 +3,13 @@ use mathlib.Core.Path.{_≡_, refl, _∙_}
 use mathlib.Core.Bool.{Bool, true, false, cond}
 use Prim.Native.Nat.{_<_}
 use native.Mathlib.Omega.{arith}
-use lib.Dec.{lit<}
+use lib.Dec.{lit<, lit≤}
 use lib.IntN.{pos, negsuc}
 use lib.Ieee.{Float, lt, ofInt}
+use Rattle.lists.proofs.Tests.{by-less}
 use Rattle.fractions.specs.Fraction.{Fraction, whole, magnitude, number, isLess, AtMost}
-use Rattle.fractions.proofs.Compare.{lt-number, less-false}
-use Rattle.angles.specs.Promise.{float}
+use Rattle.fractions.proofs.Compare.{lt-number}
+use Rattle.formats.specs.Floats.{float}
 use Rattle.stereo.specs.Angle.{leftmost, rightmost, clamped}
 use Rattle.stereo.specs.Computed.{clampedTo}
 
@@ -39,20 +40,13 @@ module _ (p : Float) (P : 0 < number p .over) where
       number-cond (lt p (float (negsuc 99))) (float (negsuc 99)) (cond (lt (float (pos 100)) p) (float (pos 100)) p)
       ∙ (λ i. cond (left-test i) (left-is i) ((number-cond (lt (float (pos 100)) p) (float (pos 100)) p ∙ λ j. cond (right-test j) (right-is j) (number p)) i))
 
-pub clamped-most : (q : Fraction) → AtMost (magnitude (clamped q)) (whole 100)
+-- what is to hold of a clamped position is shown of the two ends, and between them
+by-clamping : (P : Fraction → Type 0) (q : Fraction) → P leftmost → P rightmost → (AtMost leftmost q → AtMost q rightmost → P q) → P (clamped q)
 unfolding clamped
-clamped-most q = go (isLess q leftmost) (isLess rightmost q) (less-false q leftmost) (less-false rightmost q)
-  where
-    go : (a b : Bool) → (a ≡ false → AtMost leftmost q) → (b ≡ false → AtMost q rightmost) → AtMost (magnitude (cond a leftmost (cond b rightmost q))) (whole 100)
-    go true b f g = omega arith
-    go false true f g = omega arith
-    go false false f g = omega (arith, f refl, g refl)
+by-clamping P q l r f = by-less P _ _ (λ a. l) (λ a. by-less P _ _ (λ b. r) (f a))
+
+pub clamped-most : (q : Fraction) → AtMost (magnitude (clamped q)) (whole 100)
+clamped-most q = by-clamping (λ (x : Fraction). AtMost (magnitude x) (whole 100)) q (lit≤ tt) (lit≤ tt) (λ a b. omega arith)
 
 pub clamped-over : (q : Fraction) → 0 < q .over → 0 < clamped q .over
-unfolding clamped
-clamped-over q Q = go (isLess q leftmost) (isLess rightmost q)
-  where
-    go : (a b : Bool) → 0 < cond a leftmost (cond b rightmost q) .over
-    go true b = lit< tt
-    go false true = lit< tt
-    go false false = Q
+clamped-over q Q = by-clamping (λ (x : Fraction). 0 < x .over) q (lit< tt) (lit< tt) (λ a b. Q)

@@ -6,7 +6,7 @@ use lib.Ieee.{Float, nan, inf, binary64, lt, le, eq, neg, add, mul, div, ofInt, 
 use Rattle.fractions.specs.Fraction.{whole, number}
 use Rattle.series.specs.Angles.{turned, isMultiple, quarters, defined, definedSine, definedCosine}
 use Rattle.angles.specs.Computed.{units, cut, place, short, times, radians, nesting, nest, rounded, sineAt, cosineAt, computed}
-use Rattle.angles.specs.Promise.{float, zero, one}
+use Rattle.formats.specs.Floats.{zero-float, one-float, float}
 use Rattle.angles.specs.Limits.{isInside, refusesAngle}
 use Rattle.stereo.specs.declared.StereoGains.{StereoGains}
 use Rattle.stereo.specs.Angle.{clamped, angle}
@@ -34,11 +34,11 @@ unfolding ofInt clamped angle defined isMultiple quarters turned
 right-at-250 = refl
 
 -- ---- the program's gains
-pub at-minus-100 : outcome (float (negsuc 99)) ≡ accepted one zero
+pub at-minus-100 : outcome (float (negsuc 99)) ≡ accepted one-float zero-float
 unfolding outcome angleOf clampedTo lt le eq add refusesAngle isInside computed place cut units turned sineAt cosineAt short times radians nesting nest rounded ofInt mul div neg
 at-minus-100 = refl
 
-pub at-250 : outcome (float (pos 250)) ≡ accepted zero one
+pub at-250 : outcome (float (pos 250)) ≡ accepted zero-float one-float
 unfolding outcome angleOf clampedTo lt le eq add refusesAngle isInside computed place cut units turned sineAt cosineAt short times radians nesting nest rounded ofInt mul div neg
 at-250 = refl
 

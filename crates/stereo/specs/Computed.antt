@@ -2,7 +2,7 @@
 use mathlib.Core.Bool.{cond}
 use lib.IntN.{pos, negsuc}
 use lib.Ieee.{Float, binary64, lt, add, mul, div}
-use Rattle.angles.specs.Promise.{float}
+use Rattle.formats.specs.Floats.{float}
 
 unfoldable pub clampedTo : Float → Float
 clampedTo p = cond (lt p (float (negsuc 99))) (float (negsuc 99)) (cond (lt (float (pos 100)) p) (float (pos 100)) p)

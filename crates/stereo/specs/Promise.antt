@@ -9,6 +9,7 @@ use Rattle.refusals.specs.Refusals.{firstOf, _when_}
 use Rattle.fractions.specs.Fraction.{number, Within}
 use Rattle.series.specs.Sums.{sine, cosine}
 use Rattle.series.specs.Angles.{definedSine, definedCosine}
+use Rattle.formats.specs.Floats.{zero-float}
 use Rattle.angles.specs.Promise as Angles
 use Rattle.stereo.specs.declared.StereoGains.{StereoGains}
 use Rattle.stereo.specs.Angle.{angle}
@@ -29,7 +30,7 @@ abbrev pub played : Float → StereoGains
 played p = record { refusal = 0; left = Angles.outcome cosine (angleOf p) .value; right = Angles.outcome sine (angleOf p) .value }
 
 abbrev pub refused : ℕ → StereoGains
-refused n = record { refusal = n; left = Angles.zero; right = Angles.zero }
+refused n = record { refusal = n; left = zero-float; right = zero-float }
 
 unfoldable pub outcome : Float → StereoGains
 outcome p = cond (isRefused p) (refused (refusalOf p)) (played p)

@@ -10,7 +10,7 @@
 //   the program's sine or cosine                      2^-50
 //
 // Under it lie `angles` (the program's sine and cosine), `series` (the defined ones), `checks` (the finite test),
-// `fractions` and `refusals`.
+// `fractions`, `formats`, `lists` and `refusals`.
 ghost use mathlib.Core.Path.{_≡_};
 ghost use Rattle.stereo.specs.Computed.{clampedTo};
 ghost use Rattle.stereo.specs.Promise.{Pans};

@@ -8,7 +8,7 @@ use borrow.Author.Tests.{not-false}
 use lib.Dec.{lit<, eqb}
 use lib.ListN.{getD}
 use lib.Ieee.{Float, binary64, ofInt}
-use Rattle.angles.specs.Promise.{zero}
+use Rattle.formats.specs.Floats.{zero-float}
 use Rattle.refusals.proofs.First.{stops, goes-on, not-accepted}
 use Rattle.numbers.specs.Computed.{rootOf, rootAnswer}
 use Rattle.numbers.specs.declared.Rooted.{Rooted}
@@ -52,7 +52,7 @@ module _ (l : Layout) (a : Float) (b : Bool) (s : b ≡ surround l) where
       let gains-are : g ≡ gainsOf l a = eg ∙ (λ j. dividedBy (root-is j) (raw-is j)) in
       record {
         is = ap (λ (y : List Float). record { refusal = 0; gains = y }) gains-are ∙ sym (ap answer accepted);
-        gains = λ k. subst (λ (y : List Float). Gains l a (λ c. getD y c zero)) (sym gains-are) (gains l a surrounds (azimuth-number a i) (azimuth-size a i));
+        gains = λ k. subst (λ (y : List Float). Gains l a (λ c. getD y c zero-float)) (sym gains-are) (gains l a surrounds (azimuth-number a i) (azimuth-size a i));
       }
 
 -- how many channels there are to go over

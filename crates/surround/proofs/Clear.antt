@@ -13,7 +13,7 @@ use Rattle.fractions.proofs.Sums.{square-in-sum}
 use Rattle.series.specs.Sums.{cosine}
 use Rattle.series.specs.Angles.{definedCosine}
 use Rattle.series.proofs.Laws.{defined-number, rest-square-least}
-use Rattle.checks.proofs.Tables.{length-tab, getD-tab}
+use Rattle.lists.proofs.Tables.{length-tab, getD-tab}
 use Rattle.channel.proofs.Counts.{by-surround}
 use Rattle.channel.specs.Layouts.{channelsOf, surround}
 use Rattle.channel.specs.declared.Layout.{Layout}

@@ -1,32 +1,31 @@
 -- Document 01, 'Marked drill table', item 5: "5.1 at azimuth 120: only Ls sounds; at 0, C is 0, L and R have equal squares 1/2", of the formulas and of the program's gains, by computing. Assumes nothing.
 use mathlib.Core.Path.{_≡_, refl, sym, ap, _∙_, subst}
 use mathlib.Core.Bool.{true, false}
-use mathlib.Core.List.{List, [], _∷_}
+use mathlib.Core.List.{[], _∷_}
 use Prim.Native.Nat.{ℕ, _+_, _-_, _*_, _≤_}
 use native.Mathlib.Nat.{le-refl, add-sub-of-le}
 use native.Mathlib.Omega.{arith}
-use lib.IntN.{pos, negsuc}
-use lib.Ieee.{Float, nan, fin, lt, le, eq, neg, add, sub, mul, div, ofInt, round, size, units}
+use lib.IntN.{pos}
+use lib.Ieee.{nan, lt, le, eq, neg, add, sub, mul, div, ofInt, round, size, units}
 use Rattle.fractions.specs.Fraction.{Fraction, fraction, whole, square, _⊕_, _⊗_, _⊘_, Same}
 use Rattle.fractions.proofs.Ring.{ring}
 use Rattle.fractions.proofs.Sums.{sum-not-below}
 use Rattle.fractions.proofs.Restate.{⊕-zero, zero-⊕}
+use Rattle.numbers.specs.Drill.{rootOfHalf}
 use Rattle.numbers.specs.Computed.{rootOf, wholeRoot}
 use Rattle.series.specs.Angles.{turned, isMultiple, quarters, defined}
 use Rattle.angles.specs.Computed.{cut, place, short, times, radians, nesting, nest, rounded, cosineAt, computed}
-use Rattle.angles.specs.Promise.{float, zero}
+use Rattle.formats.specs.Floats.{zero-float, one-float, float}
 use Rattle.angles.specs.Computed as Angles
 use Rattle.angles.specs.Limits.{isInside, refusesAngle}
-use Rattle.checks.specs.Tables.{tab}
+use Rattle.lists.specs.Tables.{tab}
 use Rattle.channel.specs.declared.Layout.the-variants.{Stereo, Surround51, Surround71, Custom}
 use Rattle.harmonics.specs.Promise.{silence}
+use Rattle.surround.specs.Drill.{gains51}
 use Rattle.surround.specs.Formula.{distance, rawGain, rawAt, sumAt, isSilent}
 use Rattle.surround.specs.Formula as Formula
 use Rattle.surround.specs.Computed.{absolute, notBelow, placeOf, isNear, angleOf, rawOf, channelGain, rawGains, sumOf, dividedBy}
 use Rattle.surround.specs.Promise.{gainsOf, outcome}
-
-abbrev sixteen : Float → Float → Float → Float → List Float
-sixteen l r c s = l ∷ r ∷ c ∷ zero ∷ s ∷ zero ∷ zero ∷ zero ∷ zero ∷ zero ∷ zero ∷ zero ∷ zero ∷ zero ∷ zero ∷ zero ∷ []
 
 -- ---- at 120 only Ls sounds: the others are silent by the rule, and the square of Ls is all of the sum
 pub silent-at-120 : tab 0 6 (isSilent Surround51 (whole 120)) ≡ true ∷ true ∷ true ∷ true ∷ false ∷ true ∷ []
@@ -80,12 +79,11 @@ pub half-squares : Same (square (rawAt Surround51 (whole 0) 0) ⊘ sumAt Surroun
 half-squares = half-of (square (rawAt Surround51 (whole 0) 0)) (sumAt Surround51 (whole 0)) (sum-not-below (whole 0) (Formula.rawGains Surround51 (whole 0)) (le-refl 0)) halves
 
 -- ---- the program's gains, bit for bit
-pub at-120 : outcome Surround51 (float (pos 120)) ≡ record { refusal = 0; gains = sixteen zero zero zero (float (pos 1)) }
+pub at-120 : outcome Surround51 (float (pos 120)) ≡ record { refusal = 0; gains = gains51 zero-float zero-float zero-float one-float }
 unfolding refusesAngle isInside gainsOf dividedBy sumOf rawGains channelGain rawOf isNear placeOf angleOf absolute notBelow lt le eq add sub mul div neg round ofInt computed place cut Angles.units turned cosineAt short times radians nesting nest rounded rootOf wholeRoot size units
 at-120 = refl
 
--- the f64 next below the root of a half
-pub at-0 : outcome Surround51 (float (pos 0)) ≡ record { refusal = 0; gains = sixteen (fin false 1592262918131443 (negsuc 50)) (fin false 1592262918131443 (negsuc 50)) zero zero }
+pub at-0 : outcome Surround51 (float (pos 0)) ≡ record { refusal = 0; gains = gains51 rootOfHalf rootOfHalf zero-float zero-float }
 unfolding refusesAngle isInside gainsOf dividedBy sumOf rawGains channelGain rawOf isNear placeOf angleOf absolute notBelow lt le eq add sub mul div neg round ofInt computed place cut Angles.units turned cosineAt short times radians nesting nest rounded rootOf wholeRoot size units
 at-0 = refl
 

@@ -12,7 +12,7 @@ use lib.ListN.{getD, List·getD-eq-default}
 use lib.Ieee.{Float, nan, binary64, fits, div, ofInt}
 use lib.Ieee.Fits.{add-fits}
 use lib.Ieee.Positive.{positive}
-use Rattle.angles.specs.Promise.{zero}
+use Rattle.formats.specs.Floats.{zero-float}
 use Rattle.refusals.proofs.First.{stops, goes-on}
 use Rattle.fractions.specs.Fraction.{Fraction, whole, number, magnitude, AtMost, isLess}
 use Rattle.fractions.specs.Squares.{BySquares, RootOf}
@@ -27,9 +27,9 @@ use Rattle.fractions.proofs.Normalised.{root-error, root-near, normal, normalis
 use Rattle.numbers.specs.Computed.{rootOf}
 use Rattle.numbers.proofs.Close.{root-close, root-positive}
 use Rattle.numbers.proofs.Zeros.{zero-over}
-use Rattle.checks.specs.Tables.{tab}
-use Rattle.checks.proofs.Lists.{split}
-use Rattle.checks.proofs.Tables.{length-tab, getD-tab}
+use Rattle.lists.specs.Tables.{tab}
+use Rattle.lists.proofs.Lists.{split}
+use Rattle.lists.proofs.Tables.{length-tab, getD-tab}
 use Rattle.channel.proofs.Counts.{by-surround}
 use Rattle.channel.specs.Layouts.{channelsOf, surround, lowFrequency}
 use Rattle.channel.specs.declared.Layout.{Layout}
@@ -95,7 +95,7 @@ module _ (l : Layout) (a : Float) (A : 0 < number a .over) (H : AtMost (magnitud
     above-zero : T (positive root)
     above-zero = root-positive binary64 sum (p .fit) sum-positive
 
-    zero-divided : div binary64 zero root ≡ zero
+    zero-divided : div binary64 zero-float root ≡ zero-float
     unfolding ofInt
     zero-divided = zero-over root above-zero
 
@@ -112,50 +112,50 @@ module _ (l : Layout) (a : Float) (A : 0 < number a .over) (H : AtMost (magnitud
     quotient : ℕ → Float
     quotient c = div binary64 (getD (rawGains l a n) c nan) root
 
-    place-is : (c : ℕ) → c < 16 → getD (gainsOf l a) c zero ≡ quotient c
+    place-is : (c : ℕ) → c < 16 → getD (gainsOf l a) c zero-float ≡ quotient c
     unfolding gainsOf dividedBy quotient
-    place-is c h = getD-tab 0 16 quotient c zero h ∙ ap quotient (zero-add c)
+    place-is c h = getD-tab 0 16 quotient c zero-float h ∙ ap quotient (zero-add c)
 
     raw : ℕ → Float
-    raw c = cond (ltb c n) (channelGain l a c) zero
+    raw c = cond (ltb c n) (channelGain l a c) zero-float
 
     raw-is : (c : ℕ) → c < 16 → getD (rawGains l a n) c nan ≡ raw c
     unfolding rawGains raw
     raw-is c h = getD-tab 0 16 raw c nan h ∙ ap raw (zero-add c)
 
-    channel-is : (c : ℕ) → c < n → getD (gainsOf l a) c zero ≡ div binary64 (channelGain l a c) root
+    channel-is : (c : ℕ) → c < n → getD (gainsOf l a) c zero-float ≡ div binary64 (channelGain l a c) root
     unfolding quotient raw
     channel-is c h =
         let k : c < 16 = omega (arith, p .small) in
-        place-is c k ∙ ap (λ (x : Float). div binary64 x root) (raw-is c k ∙ stops (channelGain l a c) zero (lt-ltb c n h))
+        place-is c k ∙ ap (λ (x : Float). div binary64 x root) (raw-is c k ∙ stops (channelGain l a c) zero-float (lt-ltb c n h))
 
     -- beyond the channels of the layout
-    beyond-is : (c : ℕ) → n ≤ c → getD (gainsOf l a) c zero ≡ zero
+    beyond-is : (c : ℕ) → n ≤ c → getD (gainsOf l a) c zero-float ≡ zero-float
     unfolding quotient raw gainsOf dividedBy
     beyond-is c h = go (split c 16)
       where
-        go : (c < 16) ⊎ (16 ≤ c) → getD (gainsOf l a) c zero ≡ zero
-        go (inl k) = place-is c k ∙ ap (λ (x : Float). div binary64 x root) (raw-is c k ∙ goes-on (channelGain l a c) zero (le-ltb c n h)) ∙ zero-divided
-        go (inr k) = List·getD-eq-default (gainsOf l a) zero {n = c} (omega (arith, length-tab 0 16 quotient))
+        go : (c < 16) ⊎ (16 ≤ c) → getD (gainsOf l a) c zero-float ≡ zero-float
+        go (inl k) = place-is c k ∙ ap (λ (x : Float). div binary64 x root) (raw-is c k ∙ goes-on (channelGain l a c) zero-float (le-ltb c n h)) ∙ zero-divided
+        go (inr k) = List·getD-eq-default (gainsOf l a) zero-float {n = c} (omega (arith, length-tab 0 16 quotient))
 
-    zeroed : (c : ℕ) → channelGain l a c ≡ zero → getD (gainsOf l a) c zero ≡ zero
+    zeroed : (c : ℕ) → channelGain l a c ≡ zero-float → getD (gainsOf l a) c zero-float ≡ zero-float
     zeroed c e = go (split c n)
       where
-        go : (c < n) ⊎ (n ≤ c) → getD (gainsOf l a) c zero ≡ zero
+        go : (c < n) ⊎ (n ≤ c) → getD (gainsOf l a) c zero-float ≡ zero-float
         go (inl h) = channel-is c h ∙ ap (λ (x : Float). div binary64 x root) e ∙ zero-divided
         go (inr h) = beyond-is c h
 
-    silent : (c : ℕ) → T (isSilent l q c) → getD (gainsOf l a) c zero ≡ zero
+    silent : (c : ℕ) → T (isSilent l q c) → getD (gainsOf l a) c zero-float ≡ zero-float
     unfolding isSilent
     silent c t = go (leb n c) (lowFrequency l c) (isLess (distance q (speakerAt l c)) (whole 90)) (leb→le n c) (channel-low l a c A H) (channel-silent l a c A H) t
       where
-        go : (b f d : Bool) → (T b → n ≤ c) → (f ≡ true → channelGain l a c ≡ zero) → (d ≡ false → channelGain l a c ≡ zero) → T (b || f || not d) → getD (gainsOf l a) c zero ≡ zero
+        go : (b f d : Bool) → (T b → n ≤ c) → (f ≡ true → channelGain l a c ≡ zero-float) → (d ≡ false → channelGain l a c ≡ zero-float) → T (b || f || not d) → getD (gainsOf l a) c zero-float ≡ zero-float
         go true f d u v w t = beyond-is c (u tt)
         go false true d u v w t = zeroed c (v refl)
         go false false false u v w t = zeroed c (w refl)
         go false false true u v w t = absurd t
 
-    the-gains : Gains l a (λ c. getD (gainsOf l a) c zero)
+    the-gains : Gains l a (λ c. getD (gainsOf l a) c zero-float)
     the-gains = record {
       clear = clear q A H l e;
       near = λ c h. subst (λ (x : Float). BySquares surroundBits (number x) (rawAt l q c) (sumAt l q)) (sym (channel-is c h)) (near c h);
@@ -171,5 +171,5 @@ passes-71 : (a : Float) (A : 0 < number a .over) (H : AtMost (magnitude (number 
 unfolding sumOf rawGains ofInt
 passes-71 a A H = record { good = tt; clearly = tt; fine = tt; run-is = refl; exact-is = refl; fit = add-fits binary64 _ _; small = lit≤ tt }
 
-pub gains : (l : Layout) (a : Float) → surround l ≡ true → 0 < number a .over → AtMost (magnitude (number a)) (whole 180) → Gains l a (λ c. getD (gainsOf l a) c zero)
+pub gains : (l : Layout) (a : Float) → surround l ≡ true → 0 < number a .over → AtMost (magnitude (number a)) (whole 180) → Gains l a (λ c. getD (gainsOf l a) c zero-float)
 gains l a e A H = the-gains l a A H e (by-surround (λ (l : Layout). Passes l a A H) (passes-51 a A H) (passes-71 a A H) l e)

@@ -8,6 +8,7 @@ use native.Mathlib.Omega.{arith}
 use lib.Dec.{lit≤, lit<}
 use lib.IntN.{ℤ, pos, negsuc}
 use lib.Ieee.{Float, binary64, lt, neg, add, sub, ofInt}
+use Rattle.lists.proofs.Tests.{by-test, either, by-less}
 use Rattle.fractions.specs.Fraction.{Fraction, fraction, whole, unit, opposite, magnitude, number, _⊕_, _⊖_, Same, Less, AtMost, isLess, Within}
 use Rattle.refusals.proofs.First.{stops, goes-on}
 use Rattle.fractions.specs.Approximates.{Approximates}
@@ -17,7 +18,7 @@ use Rattle.fractions.proofs.Close.{Close, Size, same-close, close-same, close-t
 use Rattle.fractions.proofs.Within.{within-refl, within-close, close-within, within-counted, counted-within, at-most-size, size-at-most}
 use Rattle.fractions.proofs.Magnitude.{magnitude-turned, magnitude-left, close-magnitude}
 use Rattle.fractions.proofs.Number.{number-neg}
-use Rattle.fractions.proofs.Compare.{lt-number, less-true, less-false, is-less-same}
+use Rattle.fractions.proofs.Compare.{lt-number, less-true, is-less-same}
 use Rattle.fractions.proofs.Operations.{sub-result}
 use Rattle.fractions.proofs.Rounding.{rounding}
 use Rattle.fractions.proofs.Near.{result-close}
@@ -26,7 +27,7 @@ use Rattle.series.specs.Sums.{cosine}
 use Rattle.series.specs.Angles.{definedCosine, definedMost}
 use Rattle.series.proofs.Laws.{defined-size, defined-close, rest-not-below}
 use Rattle.angles.specs.Promise as Angles
-use Rattle.angles.specs.Promise.{float, zero}
+use Rattle.formats.specs.Floats.{zero-float, float}
 use Rattle.angles.proofs.Laws.{outcome-kept, accepted, value-near}
 use Rattle.channel.specs.Layouts.{lowFrequency, degreesOf, azimuthOf}
 use Rattle.channel.specs.declared.Layout.{Layout}
@@ -50,11 +51,11 @@ pub record Raw (x : Float) (q : Fraction) : Type 0 where
   pub known : Approximates rawBits definedMost x q
   pub not-below : AtMost (whole 0) (number x)
 
-zero-not-below : AtMost (whole 0) (number zero)
+zero-not-below : AtMost (whole 0) (number zero-float)
 unfolding ofInt
 zero-not-below = lit≤ tt
 
-zero-raw : Raw zero (whole 0)
+zero-raw : Raw zero-float (whole 0)
 unfolding ofInt
 zero-raw = record { known = record { near = within-refl rawBits (whole 0) (lit< tt); size = lit≤ tt }; not-below = zero-not-below }
 
@@ -86,40 +87,30 @@ module _ (a : Float) (A : 0 < number a .over) where
 
 -- ---- the magnitude of a float
 module _ (x : Float) (X : 0 < number x .over) where
-  sign-test : lt x zero ≡ isLess (number x) (whole 0)
+  sign-test : lt x zero-float ≡ isLess (number x) (whole 0)
   unfolding ofInt
-  sign-test = lt-number x zero X (lit< tt)
+  sign-test = lt-number x zero-float X (lit< tt)
 
   absolute-same : Same (number (absolute x)) (magnitude (number x))
   unfolding absolute
   absolute-same =
-      subst (λ (b : Bool). Same (number (cond b (neg x) x)) (magnitude (number x))) (sym sign-test) (go (isLess (number x) (whole 0)) (less-true (number x) (whole 0)) (less-false (number x) (whole 0)))
-    where
-      go : (b : Bool) → (b ≡ true → Less (number x) (whole 0)) → (b ≡ false → AtMost (whole 0) (number x)) → Same (number (cond b (neg x) x)) (magnitude (number x))
-      go true f g = subst (λ (q : Fraction). Same q (magnitude (number x))) (sym (number-neg x)) (magnitude-turned (number x) (f refl))
-      go false f g = magnitude-left (number x) (g refl)
+      subst (λ (b : Bool). Same (number (cond b (neg x) x)) (magnitude (number x))) (sym sign-test)
+      (by-less (λ (v : Float). Same (number v) (magnitude (number x))) _ _ (λ l. subst (λ (q : Fraction). Same q (magnitude (number x))) (sym (number-neg x)) (magnitude-turned (number x) l)) (magnitude-left (number x)))
 
   absolute-over : 0 < number (absolute x) .over
   unfolding absolute
-  absolute-over = go (lt x zero)
-    where
-      go : (b : Bool) → 0 < number (cond b (neg x) x) .over
-      go true = subst (λ (q : Fraction). 0 < q .over) (sym (number-neg x)) X
-      go false = X
+  absolute-over = either (λ (v : Float). 0 < number v .over) (lt x zero-float) (subst (λ (q : Fraction). 0 < q .over) (sym (number-neg x)) X) X
 
   -- ---- lifted to 0, near a number that is 0 at least, up to 2 ^ -50
-  zero-within : (q : Fraction) → Within rawBits (number x) q → Less (number x) (whole 0) → AtMost (opposite (unit 50)) q → Within rawBits (number zero) q
+  zero-within : (q : Fraction) → Within rawBits (number x) q → Less (number x) (whole 0) → AtMost (opposite (unit 50)) q → Within rawBits (number zero-float) q
   unfolding ofInt
   zero-within q h s l = close-within (zero-near (number x) q (within-close h) (less-at-most (number x) (whole 0) s) (at-most-trans (opposite (unit rawBits)) (opposite (unit 50)) q (lit< tt) (lit≤ tt) l))
 
   lifted : (q : Fraction) → Approximates rawBits definedMost x q → AtMost (opposite (unit 50)) q → Raw (notBelow x) q
   unfolding notBelow
   lifted q h l =
-      subst (λ (b : Bool). Raw (cond b zero x) q) (sym sign-test) (go (isLess (number x) (whole 0)) (less-true (number x) (whole 0)) (less-false (number x) (whole 0)))
-    where
-      go : (b : Bool) → (b ≡ true → Less (number x) (whole 0)) → (b ≡ false → AtMost (whole 0) (number x)) → Raw (cond b zero x) q
-      go true f g = record { known = record { near = zero-within q (h .near) (f refl) l; size = h .size }; not-below = zero-not-below }
-      go false f g = record { known = h; not-below = g refl }
+      subst (λ (b : Bool). Raw (cond b zero-float x) q) (sym sign-test)
+      (by-less (λ (v : Float). Raw v q) _ _ (λ s. record { known = record { near = zero-within q (h .near) s l; size = h .size }; not-below = zero-not-below }) (λ s. record { known = h; not-below = s }))
 
 -- ---- the raw gain of a speaker that stands at p - m
 module _ (a s : Float) (p m : ℕ) (A : 0 < number a .over) (H : AtMost (magnitude (number a)) (whole 180)) (S : Stands s (fraction p m 1)) where
@@ -208,15 +199,12 @@ module _ (a s : Float) (p m : ℕ) (A : 0 < number a .over) (H : AtMost (magnitu
   unfolding rawOf rawGain
   raw-gain =
       let v = Angles.outcome cosine (angleOf a t) .value in
-      subst (λ (b : Bool). Raw (cond b (notBelow v) zero) (rawGain (number a) q)) (sym raw-test) (go (isLess d (whole 90)) (less-true d (whole 90)))
-    where
-      go : (b : Bool) → (b ≡ true → Less d (whole 90)) → Raw (cond b (notBelow (Angles.outcome cosine (angleOf a t) .value)) zero) (cond b (definedCosine (whole 90 ⊖ d)) (whole 0))
-      go true f = raised (f refl)
-      go false f = zero-raw
+      subst (λ (b : Bool). Raw (cond b (notBelow v) zero-float) (rawGain (number a) q)) (sym raw-test)
+      (by-test (λ (b : Bool). Raw (cond b (notBelow v) zero-float) (cond b (definedCosine (whole 90 ⊖ d)) (whole 0))) (isLess d (whole 90)) (λ e. raised (less-true d (whole 90) e)) (λ e. zero-raw))
 
-  raw-silent : isLess d (whole 90) ≡ false → rawOf a s ≡ zero
+  raw-silent : isLess d (whole 90) ≡ false → rawOf a s ≡ zero-float
   unfolding rawOf
-  raw-silent h = goes-on _ zero (raw-test ∙ h)
+  raw-silent h = goes-on _ zero-float (raw-test ∙ h)
 
 -- ---- of a channel
 module _ (l : Layout) (a : Float) (c : ℕ) (A : 0 < number a .over) (H : AtMost (magnitude (number a)) (whole 180)) where
@@ -232,18 +220,16 @@ module _ (l : Layout) (a : Float) (c : ℕ) (A : 0 < number a .over) (H : AtMost
   unfolding channelGain rawAt
   channel-raw = go (lowFrequency l c)
     where
-      go : (b : Bool) → Raw (cond b zero (rawOf a (azimuthOf l c))) (cond b (whole 0) (rawGain (number a) (speakerAt l c)))
+      go : (b : Bool) → Raw (cond b zero-float (rawOf a (azimuthOf l c))) (cond b (whole 0) (rawGain (number a) (speakerAt l c)))
       go true = zero-raw
       go false = at-speaker (λ (s : Float) (q : Fraction). Raw (rawOf a s) (rawGain (number a) q)) (λ s p m h. raw-gain a s p m A H h)
 
-  pub channel-silent : isLess (distance (number a) (speakerAt l c)) (whole 90) ≡ false → channelGain l a c ≡ zero
+  pub channel-silent : isLess (distance (number a) (speakerAt l c)) (whole 90) ≡ false → channelGain l a c ≡ zero-float
   unfolding channelGain
-  channel-silent h = go (lowFrequency l c)
-    where
-      go : (b : Bool) → cond b zero (rawOf a (azimuthOf l c)) ≡ zero
-      go true = refl
-      go false = at-speaker (λ (s : Float) (q : Fraction). isLess (distance (number a) q) (whole 90) ≡ false → rawOf a s ≡ zero) (λ s p m k. raw-silent a s p m A H k) h
+  channel-silent h =
+      either (λ (v : Float). v ≡ zero-float) (lowFrequency l c) refl
+      (at-speaker (λ (s : Float) (q : Fraction). isLess (distance (number a) q) (whole 90) ≡ false → rawOf a s ≡ zero-float) (λ s p m k. raw-silent a s p m A H k) h)
 
-  pub channel-low : lowFrequency l c ≡ true → channelGain l a c ≡ zero
+  pub channel-low : lowFrequency l c ≡ true → channelGain l a c ≡ zero-float
   unfolding channelGain
-  channel-low h = stops zero (rawOf a (azimuthOf l c)) h
+  channel-low h = stops zero-float (rawOf a (azimuthOf l c)) h

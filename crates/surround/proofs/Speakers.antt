@@ -1,13 +1,15 @@
 -- Where the program adds whole numbers to the azimuth of a speaker nothing is rounded: by one computed test over the tables of speakers. Assumes nothing.
-use mathlib.Core.Bool.{Bool, true, _&&_}
+use mathlib.Core.Bool.{Bool}
 use mathlib.Core.List.{List, [], _∷_}
-use Prim.Native.Nat.{ℕ, zero, suc, _+_, _*_, _<_}
+use Prim.Native.Nat.{ℕ, _+_, _*_, _<_}
 use lib.Dec.{T, leb, ltb, ltb→lt, leb→le}
 use lib.IntN.{ℤ, pos}
 use lib.ListN.{getD}
 use lib.Ieee.{Float, binary64, add, sub, round, ofInt}
-use lib.Ieee.Fits.{and-l, and-r}
-use Rattle.angles.specs.Promise.{float}
+use Rattle.lists.specs.Tables.{every}
+use Rattle.lists.proofs.Every.{every-holds}
+use Rattle.lists.proofs.Tests.{all, each-holds}
+use Rattle.formats.specs.Floats.{float}
 use Rattle.fractions.specs.Fraction.{Fraction, whole, magnitude, number, _⊕_, _⊖_, Same, AtMost}
 use Rattle.fractions.proofs.Order.{isSame, same-computed}
 use Rattle.channel.specs.Layouts.{speakers, azimuthOf}
@@ -36,74 +38,55 @@ pub record Stands (s : Float) (q : Fraction) : Type 0 where
   pub back : Sides (sub binary64 s (float (pos 360))) (q ⊖ whole 360)
   pub size : AtMost (magnitude q) (whole 180)
 
--- ---- as a test
-exactly : Float → Fraction → Bool
-exactly x q = ltb 0 (number x .over) && ltb 0 (q .over) && isSame (number x) q
+-- ---- as tests
+abbrev exactly : Float → Fraction → List Bool
+exactly x q = ltb 0 (number x .over) ∷ ltb 0 (q .over) ∷ isSame (number x) q ∷ []
 
-sides : Float → Fraction → Bool
-sides t q = exactly t q && exactly (sub binary64 t (float (pos 90))) (q ⊖ whole 90) && exactly (add binary64 t (float (pos 90))) (q ⊕ whole 90)
+abbrev sides : Float → Fraction → List Bool
+sides t q = all (exactly t q) ∷ all (exactly (sub binary64 t (float (pos 90))) (q ⊖ whole 90)) ∷ all (exactly (add binary64 t (float (pos 90))) (q ⊕ whole 90)) ∷ []
 
-stands : Float → Fraction → Bool
+abbrev stands : Float → Fraction → List Bool
 stands s q =
-    exactly (sub binary64 s (float (pos 180))) (q ⊖ whole 180) && exactly (add binary64 s (float (pos 180))) (q ⊕ whole 180) && sides s q && sides (add binary64 s (float (pos 360))) (q ⊕ whole 360)
-    && sides (sub binary64 s (float (pos 360))) (q ⊖ whole 360) && leb (magnitude q .plus * 1 + 0 * q .over) (180 * q .over + 0 * 1)
+    all (exactly (sub binary64 s (float (pos 180))) (q ⊖ whole 180))
+    ∷ all (exactly (add binary64 s (float (pos 180))) (q ⊕ whole 180))
+    ∷ all (sides s q)
+    ∷ all (sides (add binary64 s (float (pos 360))) (q ⊕ whole 360))
+    ∷ all (sides (sub binary64 s (float (pos 360))) (q ⊖ whole 360))
+    ∷ leb (magnitude q .plus * 1 + 0 * q .over) (180 * q .over + 0 * 1)
+    ∷ []
 
-exactly-says : (x : Float) (q : Fraction) → T (exactly x q) → Exactly x q
-unfolding exactly
+exactly-says : (x : Float) (q : Fraction) → T (all (exactly x q)) → Exactly x q
 exactly-says x q t =
-    let i = ltb 0 (number x .over) in
-    let j = ltb 0 (q .over) in
-    let k = isSame (number x) q in
-    let u = and-l (i && j) k t in
-    record { first = ltb→lt 0 (number x .over) (and-l i j u); second = ltb→lt 0 (q .over) (and-r i j u); same = same-computed (number x) q (and-r (i && j) k t) }
+    let (first, (second, (same, end))) = each-holds (exactly x q) t in
+    record { first = ltb→lt 0 (number x .over) first; second = ltb→lt 0 (q .over) second; same = same-computed (number x) q same }
 
-sides-say : (x : Float) (q : Fraction) → T (sides x q) → Sides x q
-unfolding sides
-sides-say x q t =
-    let i = exactly x q in
-    let j = exactly (sub binary64 x (float (pos 90))) (q ⊖ whole 90) in
-    let k = exactly (add binary64 x (float (pos 90))) (q ⊕ whole 90) in
-    let u = and-l (i && j) k t in
-    record { is = exactly-says x q (and-l i j u); below = exactly-says _ _ (and-r i j u); above = exactly-says _ _ (and-r (i && j) k t) }
+sides-say : (x : Float) (q : Fraction) → T (all (sides x q)) → Sides x q
+sides-say x q t = let (is, (below, (above, end))) = each-holds (sides x q) t in record { is = exactly-says _ _ is; below = exactly-says _ _ below; above = exactly-says _ _ above }
 
-stands-says : (s : Float) (q : Fraction) → T (stands s q) → Stands s q
-unfolding stands
+stands-says : (s : Float) (q : Fraction) → T (all (stands s q)) → Stands s q
 stands-says s q t =
-    let a = exactly (sub binary64 s (float (pos 180))) (q ⊖ whole 180) in
-    let b = exactly (add binary64 s (float (pos 180))) (q ⊕ whole 180) in
-    let c = sides s q in
-    let d = sides (add binary64 s (float (pos 360))) (q ⊕ whole 360) in
-    let e = sides (sub binary64 s (float (pos 360))) (q ⊖ whole 360) in
-    let f = leb (magnitude q .plus * 1 + 0 * q .over) (180 * q .over + 0 * 1) in
-    let t5 = and-l (a && b && c && d && e) f t in
-    let t4 = and-l (a && b && c && d) e t5 in
-    let t3 = and-l (a && b && c) d t4 in
-    let t2 = and-l (a && b) c t3 in
+    let (below, (above, (here, (on, (back, (size, end)))))) = each-holds (stands s q) t in
     record {
-      below = exactly-says _ _ (and-l a b t2);
-      above = exactly-says _ _ (and-r a b t2);
-      here = sides-say _ _ (and-r (a && b) c t3);
-      on = sides-say _ _ (and-r (a && b && c) d t4);
-      back = sides-say _ _ (and-r (a && b && c && d) e t5);
-      size = leb→le _ _ (and-r (a && b && c && d && e) f t);
+      below = exactly-says _ _ below;
+      above = exactly-says _ _ above;
+      here = sides-say _ _ here;
+      on = sides-say _ _ on;
+      back = sides-say _ _ back;
+      size = leb→le _ _ size;
     }
 
 -- ---- of every speaker
-all-stand : List ℤ → Bool
-all-stand [] = true
-all-stand (z ∷ zs) = stands (ofInt binary64 z) (degrees z) && all-stand zs
+abbrev stands-at : ℤ → Bool
+stands-at z = all (stands (ofInt binary64 z) (degrees z))
 
 -- and 0 where the table ends
-stand-at : (zs : List ℤ) → T (stands (ofInt binary64 (pos 0)) (degrees (pos 0))) → T (all-stand zs) → (i : ℕ) → T (stands (ofInt binary64 (getD zs i (pos 0))) (degrees (getD zs i (pos 0))))
-unfolding all-stand
-stand-at [] o t i = o
-stand-at (z ∷ zs) o t zero = and-l (stands (ofInt binary64 z) (degrees z)) (all-stand zs) t
-stand-at (z ∷ zs) o t (suc i) = stand-at zs o (and-r (stands (ofInt binary64 z) (degrees z)) (all-stand zs) t) i
+all-stand : (zs : List ℤ) → T (stands-at (pos 0)) → T (every stands-at zs) → (i : ℕ) → Stands (ofInt binary64 (getD zs i (pos 0))) (degrees (getD zs i (pos 0)))
+all-stand zs o t i = stands-says _ _ (every-holds stands-at zs (pos 0) o t i)
 
 pub speaker-stands : (l : Layout) (c : ℕ) → Stands (azimuthOf l c) (speakerAt l c)
-unfolding all-stand stands sides exactly ofInt add sub round
-speaker-stands Mono c = stands-says _ _ (stand-at (speakers Mono) tt tt c)
-speaker-stands Stereo c = stands-says _ _ (stand-at (speakers Stereo) tt tt c)
-speaker-stands Surround51 c = stands-says _ _ (stand-at (speakers Surround51) tt tt c)
-speaker-stands Surround71 c = stands-says _ _ (stand-at (speakers Surround71) tt tt c)
-speaker-stands (Custom n) c = stands-says _ _ (stand-at [] tt tt c)
+unfolding ofInt add sub round
+speaker-stands Mono c = all-stand (speakers Mono) tt tt c
+speaker-stands Stereo c = all-stand (speakers Stereo) tt tt c
+speaker-stands Surround51 c = all-stand (speakers Surround51) tt tt c
+speaker-stands Surround71 c = all-stand (speakers Surround71) tt tt c
+speaker-stands (Custom n) c = all-stand [] tt tt c

@@ -9,7 +9,8 @@ use Rattle.refusals.proofs.First.{stops, goes-on}
 use Rattle.series.specs.Sums.{cosine}
 use Rattle.angles.specs.declared.Answer.{Answer}
 use Rattle.angles.specs.Promise as Angles
-use Rattle.angles.specs.Promise.{float, zero, Promise}
+use Rattle.formats.specs.Floats.{zero-float, float}
+use Rattle.angles.specs.Promise.{Promise}
 use Rattle.channel.specs.Layouts.{lowFrequency, azimuthOf}
 use Rattle.channel.specs.declared.Layout.{Layout}
 use Rattle.surround.specs.Computed.{absolute, notBelow, placeOf, isNear, angleOf, rawOf, channelGain}
@@ -19,7 +20,7 @@ module _ (a s t : Float) (b : Bool) (e : t ≡ placeOf a s) (n : b ≡ isNear a 
   near-place : b ≡ isNear a (placeOf a s)
   near-place = n ∙ ap (isNear a) e
 
-  pub far : not b ≡ true → zero ≡ rawOf a s
+  pub far : not b ≡ true → zero-float ≡ rawOf a s
   unfolding rawOf
   far h = sym (goes-on _ _ (sym near-place ∙ not-true b h))
 
@@ -35,19 +36,19 @@ module _ (a s t : Float) (b : Bool) (e : t ≡ placeOf a s) (n : b ≡ isNear a 
     unfolding rawOf
     raw-is = stops _ _ (sym near-place ∙ not-false b h) ∙ ap notBelow (sym value-is)
 
-    pub lifted : lt (g .value) zero ≡ true → zero ≡ rawOf a s
+    pub lifted : lt (g .value) zero-float ≡ true → zero-float ≡ rawOf a s
     unfolding notBelow
-    lifted l = sym (raw-is ∙ stops zero (g .value) l)
+    lifted l = sym (raw-is ∙ stops zero-float (g .value) l)
 
-    pub kept : lt (g .value) zero ≡ false → g .value ≡ rawOf a s
+    pub kept : lt (g .value) zero-float ≡ false → g .value ≡ rawOf a s
     unfolding notBelow
-    kept l = sym (raw-is ∙ goes-on zero (g .value) l)
+    kept l = sym (raw-is ∙ goes-on zero-float (g .value) l)
 
 module _ (l : Layout) (a : Float) (c : ℕ) (b : Bool) (e : b ≡ lowFrequency l c) where
-  pub low : b ≡ true → zero ≡ channelGain l a c
+  pub low : b ≡ true → zero-float ≡ channelGain l a c
   unfolding channelGain
   low h = sym (stops _ _ (sym e ∙ h))
 
   pub directed : (s g : Float) → b ≡ false → s ≡ azimuthOf l c → g ≡ rawOf a s → g ≡ channelGain l a c
   unfolding channelGain
-  directed s g h d r = r ∙ ap (rawOf a) d ∙ sym (goes-on zero (rawOf a (azimuthOf l c)) (sym e ∙ h))
+  directed s g h d r = r ∙ ap (rawOf a) d ∙ sym (goes-on zero-float (rawOf a (azimuthOf l c)) (sym e ∙ h))

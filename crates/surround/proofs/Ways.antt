@@ -3,11 +3,13 @@
 use mathlib.Core.Path.{_≡_, refl, sym, ap, _∙_, subst}
 use mathlib.Core.Bool.{Bool, true, false, cond}
 use Prim.Native.Nat.{ℕ, _+_, _*_, _≤_, _<_}
-use native.Mathlib.Nat.{mul-pos, mul-le-mul-right}
+use native.Mathlib.Nat.{mul-pos}
 use native.Mathlib.Omega.{arith}
 use lib.Dec.{lit<}
+use Rattle.lists.proofs.Tests.{by-less}
 use Rattle.refusals.proofs.First.{stops, goes-on}
 use Rattle.fractions.specs.Fraction.{Fraction, fraction, whole, magnitude, _⊕_, _⊖_, Same, Less, AtMost, isLess}
+use Rattle.fractions.proofs.Close.{scaled}
 use Rattle.fractions.proofs.Order.{same-refl, at-most-same}
 use Rattle.fractions.proofs.Compare.{less-true, less-false, is-less, is-not-less, is-less-same}
 use Rattle.surround.specs.Formula.{distance}
@@ -20,10 +22,7 @@ isBetween a t = cond (isLess (t ⊖ whole 90) a) (isLess a (t ⊕ whole 90)) fal
 
 -- p - m is k at most either way, times o
 spread : (p m k o : ℕ) → AtMost (magnitude (fraction p m 1)) (whole k) → (p * o ≤ m * o + k * o) × (m * o ≤ p * o + k * o)
-spread p m k o h = (go p m (omega arith), go m p (omega arith))
-  where
-    go : (p m : ℕ) → p ≤ m + k → p * o ≤ m * o + k * o
-    go p m h = omega (arith, mul-le-mul-right o h)
+spread p m k o h = (scaled p m k o (omega arith), scaled m p k o (omega arith))
 
 -- ---- between the ends, at a whole number
 module _ (a : Fraction) (p m : ℕ) where
@@ -107,11 +106,4 @@ module _ (a : Fraction) (p m : ℕ) (A : 0 < a .over) (H : AtMost (magnitude a) 
   here h k = subst (λ (d : Fraction). Way a q d) (sym (straight (omega arith))) (made a apart p m A O (same-refl apart))
 
   pub the-way : Way a (turnedTo a q) (distance a q)
-  the-way =
-      go (isLess (q ⊕ whole 180) a) (isLess a (q ⊖ whole 180)) (less-true (q ⊕ whole 180) a) (less-false (q ⊕ whole 180) a) (less-true a (q ⊖ whole 180)) (less-false a (q ⊖ whole 180))
-    where
-      go : (b c : Bool) → (b ≡ true → Less (q ⊕ whole 180) a) → (b ≡ false → AtMost a (q ⊕ whole 180)) → (c ≡ true → Less a (q ⊖ whole 180)) → (c ≡ false → AtMost (q ⊖ whole 180) a)
-          → Way a (cond b (q ⊕ whole 360) (cond c (q ⊖ whole 360) q)) (distance a q)
-      go true c f g h k = on (f refl)
-      go false true f g h k = back (h refl)
-      go false false f g h k = here (g refl) (k refl)
+  the-way = let P : Fraction → Type 0 = λ t. Way a t (distance a q) in by-less P _ _ on (λ h. by-less P _ _ back (here h))

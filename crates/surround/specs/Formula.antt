@@ -8,7 +8,7 @@ use lib.IntN.{ℤ, pos, negsuc}
 use Rattle.fractions.specs.Fraction.{Fraction, whole, opposite, magnitude, _⊖_, isLess}
 use Rattle.fractions.specs.Squares.{sumSquares}
 use Rattle.series.specs.Angles.{definedCosine}
-use Rattle.checks.specs.Tables.{tab}
+use Rattle.lists.specs.Tables.{tab}
 use Rattle.channel.specs.Layouts.{channelsOf, lowFrequency, degreesOf}
 use Rattle.channel.specs.declared.Layout.{Layout}
 

@@ -8,7 +8,7 @@ use mathlib.Core.List.{List, [], _∷_}
 use lib.Dec.{T, eqb}
 use lib.ListN.{getD}
 use lib.Ieee.{Float, binary64}
-use Rattle.angles.specs.Promise.{zero}
+use Rattle.formats.specs.Floats.{zero-float}
 use Rattle.refusals.specs.Refusals.{firstOf, _when_}
 use Rattle.fractions.specs.Fraction.{fraction, whole, number, AtMost}
 use Rattle.fractions.specs.Squares.{BySquares}
@@ -40,9 +40,9 @@ pub record Gains (l : Layout) (a : Float) (g : ℕ → Float) : Type 0 where
   pub clear : AtMost (fraction 3 0 100) (sumAt l (number a))
   pub near : (c : ℕ) → c < channelsOf l → BySquares surroundBits (number (g c)) (rawAt l (number a) c) (sumAt l (number a))
   pub above : (c : ℕ) → c < channelsOf l → AtMost (whole 0) (number (g c))
-  pub silent : (c : ℕ) → T (isSilent l (number a) c) → g c ≡ zero
+  pub silent : (c : ℕ) → T (isSilent l (number a) c) → g c ≡ zero-float
 
 -- every bit of the answer, and what document 01 says of the gains of an accepted azimuth
 pub record Pans (l : Layout) (a : Float) (answer : SurroundGains) : Type 0 where
   pub is : answer ≡ outcome l a
-  pub gains : refusalOf l a ≡ 0 → Gains l a (λ c. getD (answer .gains) c zero)
+  pub gains : refusalOf l a ≡ 0 → Gains l a (λ c. getD (answer .gains) c zero-float)

@@ -14,7 +14,8 @@
 //   a gain, by squares, at a sum of 3/100           2^-37
 //
 // Under it lie `harmonics` (the test of an azimuth), `channel` (where speakers stand), `angles` (the program's
-// cosine), `series` (the defined one), `numbers` (the root), `planes`, `checks`, `fractions` and `refusals`.
+// cosine), `series` (the defined one), `numbers` (the root), `planes` (the ordered sum), `lists`, `fractions`,
+// `formats` and `refusals`.
 ghost use mathlib.Core.Path.{_≡_};
 ghost use Prim.Native.Nat.{_≤_};
 ghost use Rattle.surround.specs.Computed.{absolute, placeOf, isNear, rawOf, channelGain, rawGains, sumOf, dividedBy};

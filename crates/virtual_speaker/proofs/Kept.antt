@@ -2,10 +2,11 @@
 use mathlib.Core.Path.{_≡_, refl, sym, ap, _∙_, subst}
 use mathlib.Core.Bool.{Bool, true, false, cond}
 use mathlib.Core.List.{List}
-use Prim.Native.Nat.{ℕ, _*_, _≤_, _<_}
+use Prim.Native.Nat.{ℕ, _≤_, _<_}
 use lib.Dec.{eqb, ltb, lit≤}
 use lib.ListN.{getD}
 use lib.Ieee.{Float, nan, binary64, mul, round, ofInt}
+use Rattle.lists.proofs.Tests.{either}
 use Rattle.fractions.specs.Fraction.{Fraction, number, whole, _⊗_, Within}
 use Rattle.fractions.specs.Approximates.{Approximates, EachWithin}
 use Rattle.fractions.proofs.Within.{within-weaken}
@@ -30,13 +31,7 @@ unfolding weigh mul round ofInt
 silence-weighed = one-of-three (λ (k : Float). weigh k silence ≡ silence) refl refl refl
 
 degree-most : (i : ℕ) → degreeOf i ≤ 3
-degree-most i = go (ltb i (1 * 1)) (ltb i (2 * 2)) (ltb i (3 * 3))
-  where
-    go : (s t u : Bool) → cond s 0 (cond t 1 (cond u 2 3)) ≤ 3
-    go true t u = lit≤ tt
-    go false true u = lit≤ tt
-    go false false true = lit≤ tt
-    go false false false = lit≤ tt
+degree-most i = let P : ℕ → Type 0 = λ l. l ≤ 3 in either P (ltb i 1) (lit≤ tt) (either P (ltb i 4) (lit≤ tt) (either P (ltb i 9) (lit≤ tt) (lit≤ tt)))
 
 module _ (order : ℕ) (d : Direction) where
   abbrev a : Fraction
@@ -63,9 +58,9 @@ module _ (order : ℕ) (d : Direction) where
   weights-are : refusalOf order d ≡ 0 → outcome order d .weights ≡ weighted order d
   weights-are h = ap (λ (r : ℕ). cond (eqb r 0) (weighted order d) silence) h
 
-  pub kept : Promise order d (outcome order d)
+  pub outcome-kept : Promise order d (outcome order d)
   unfolding weigh
-  kept = record {
+  outcome-kept = record {
     is = refl;
     near = λ h.
         subst (λ (xs : List Float). EachWithin weightBits xs (weightedFormulas order a e)) (sym (weights-are h))
@@ -74,7 +69,7 @@ module _ (order : ℕ) (d : Direction) where
 
   -- ---- the answer of the program
   pub weighed-kept : (r : Coefficients) → Harmonics.Promise order d r → (w : List Float) → w ≡ weigh (cosineOf order) (r .gains) → Promise order d (record { refusal = r .refusal; weights = w })
-  weighed-kept r p w h = subst (Promise order d) (λ i. record { refusal = sym (Laws.refusal-is order d r p) i; weights = sym (h ∙ ap (λ (s : Coefficients). weigh (cosineOf order) (s .gains)) (p .is) ∙ through (eqb (refusalOf order d) 0)) i }) kept
+  weighed-kept r p w h = subst (Promise order d) (λ i. record { refusal = sym (Laws.refusal-is order d r p) i; weights = sym (h ∙ ap (λ (s : Coefficients). weigh (cosineOf order) (s .gains)) (p .is) ∙ through (eqb (refusalOf order d) 0)) i }) outcome-kept
     where
       through : (b : Bool) → weigh (cosineOf order) (cond b (upTo order (wavesOf d)) silence) ≡ cond b (weighted order d) silence
       through true = refl

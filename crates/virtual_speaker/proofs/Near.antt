@@ -5,13 +5,13 @@ use mathlib.Core.Bool.{false}
 use Prim.Native.Nat.{ℕ, zero, suc, _+_, _≤_, _<_}
 use native.Mathlib.Omega.{arith}
 use lib.Dec.{T}
-use lib.Ieee.{Float, binary64, mul}
+use lib.Ieee.{Float, binary64, mul, round}
 use Rattle.fractions.specs.Fraction.{Fraction, number, whole, _⊗_, Within}
 use Rattle.fractions.specs.Approximates.{Approximates, EachWithin}
 use Rattle.fractions.proofs.Restate.{⊗-one, ⊗-comm}
 use Rattle.fractions.proofs.Expression.{Expression, held, _*'_, run, exact, passes, within, value}
 use Rattle.series.specs.Sums.{power}
-use Rattle.checks.specs.Tables.{tab}
+use Rattle.lists.specs.Tables.{tab}
 use Rattle.virtual_speaker.specs.Computed.{weight}
 
 -- ---- the powers of c, in the program's order and in document 01's
@@ -22,6 +22,7 @@ module _ {x : Float} {q : Fraction} (k : Approximates 54 (whole 1) x q) where
   powers (suc (suc l)) = powers (suc l) *' value k
 
   run-is : (l : ℕ) → run binary64 (powers l) ≡ weight x l
+  unfolding round
   run-is zero = refl
   run-is (suc zero) = refl
   run-is (suc (suc l)) = ap (λ (y : Float). mul binary64 y x) (run-is (suc l))

@@ -1,16 +1,21 @@
 -- A worked answer, by computation, and wrong ways to answer, each held against the promise on an input where it breaks it. Assumes nothing.
-use mathlib.Core.Path.{_≡_, ap}
+use mathlib.Core.Path.{_≡_, refl, ap}
 use mathlib.Core.List.{List, [], _∷_, _++_, map}
 use Prim.Native.Nat.{ℕ}
 use native.Mathlib.Omega.{arith}
-use lib.ListN.{getD, replicate}
-use lib.Ieee.{Float, nan, lt, le, eq, neg, add, sub, mul, div, round, ofInt, toBits, binary64}
+use lib.Dec.{le→leb}
+use lib.IntN.{pos}
+use lib.ListN.{replicate}
+use lib.Ieee.{Float, lt, le, eq, neg, add, sub, mul, div, round, ofInt}
+use Rattle.formats.specs.Floats.{zero-float, float, decimal}
 use Rattle.fractions.specs.Fraction.{Fraction, number, whole}
-use Rattle.series.specs.Angles.{turned}
+use Rattle.series.specs.Sums.{cosineSum, term, power, factorial}
+use Rattle.series.specs.Angles.{turned, isMultiple, quarters, defined}
 use Rattle.angles.specs.Computed.{units, cut, place, short, times, radians, nesting, nest, rounded, sineAt, cosineAt, computed}
 use Rattle.angles.specs.Limits.{isInside, refusesAngle}
-use Rattle.harmonics.specs.Computed.{sin, cos, wavesOf, upTo, decimal}
-use Rattle.harmonics.specs.Promise.{degrees, silence}
+use Rattle.harmonics.specs.Formulas.{formulasOver}
+use Rattle.harmonics.specs.Computed.{sin, cos, wavesOf, upTo}
+use Rattle.harmonics.specs.Promise.{silence}
 use Rattle.harmonics.specs.Drill.{at, Alike, none}
 use Rattle.harmonics.proofs.Drill.{alike}
 use Rattle.virtual_speaker.specs.Computed.{weigh}
@@ -29,9 +34,6 @@ in-front = alike (map number (outcome 1 (at 0 0) .weights)) front tt
 refusal : Weighted → ℕ
 refusal r = r .refusal
 
-third : Weighted → ℕ
-third r = toBits binary64 (getD (r .weights) 3 nan)
-
 -- it refuses every direction
 refuses-always : Promise 1 (at 0 0) (record { refusal = 3; weights = silence }) → ⊥
 unfolding refusal refusesAngle isInside lt le eq neg ofInt
@@ -43,6 +45,6 @@ unfolding refusal
 third-for-fourth ws p = let e : _≡_ {A = ℕ} 0 1 = ap refusal (p .is) in omega arith
 
 -- it takes 137.9 degrees for A, as the comment of 003 has it: the cosine of a quarter of that is 0.8243...
-by-the-comment : Promise 1 (at 0 0) (record { refusal = 0; weights = (degrees 1 ∷ degrees 0 ∷ degrees 0 ∷ decimal 8243732515066312 ∷ []) ++ replicate 12 (degrees 0) }) → ⊥
-unfolding third toBits refusesAngle isInside weigh upTo wavesOf sin cos lt le eq computed place cut units turned sineAt cosineAt short times radians nesting nest rounded ofInt div neg add sub mul round
-by-the-comment p = let e : _≡_ {A = ℕ} 4605600513681875353 4605601309162438246 = ap third (p .is) in omega arith
+by-the-comment : Promise 1 (at 0 0) (record { refusal = 0; weights = (float (pos 1) ∷ zero-float ∷ zero-float ∷ decimal 8243732515066312 ∷ []) ++ replicate 12 zero-float }) → ⊥
+unfolding refusesAngle isInside lt le eq neg round ofInt formulasOver defined isMultiple quarters turned cosineSum term power factorial
+by-the-comment p = le→leb _ _ (p .near refl .1 .1 .1 .0 .near)

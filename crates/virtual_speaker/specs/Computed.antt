@@ -3,9 +3,10 @@ use Prim.Native.Nat.{ℕ, zero, suc}
 use mathlib.Core.List.{List}
 use lib.ListN.{getD}
 use lib.Ieee.{Float, nan, binary64, mul}
-use Rattle.checks.specs.Tables.{tab}
+use Rattle.formats.specs.Floats.{one-float, decimal}
+use Rattle.lists.specs.Tables.{tab}
 use Rattle.channel.specs.Orders.{byOrder}
-use Rattle.harmonics.specs.Computed.{wavesOf, upTo, decimal, literal}
+use Rattle.harmonics.specs.Computed.{wavesOf, upTo}
 use Rattle.harmonics.specs.declared.Direction.{Direction}
 use Rattle.virtual_speaker.specs.Weights.{degreeOf}
 
@@ -14,7 +15,7 @@ cosineOf order = byOrder order (decimal 8244615675902878) (decimal 9206590873000
 
 -- 1.0, c, c * c and c * c * c
 abbrev pub weight : Float → ℕ → Float
-weight c zero = literal 1
+weight c zero = one-float
 weight c (suc zero) = c
 weight c (suc (suc l)) = mul binary64 (weight c (suc l)) c
 

@@ -3,6 +3,7 @@ use Prim.Native.Nat.{ℕ}
 use mathlib.Core.Path.{_≡_}
 use mathlib.Core.Bool.{cond}
 use lib.Dec.{eqb}
+use Rattle.formats.specs.Floats.{zero-float}
 use Rattle.fractions.specs.Fraction.{number}
 use Rattle.fractions.specs.Approximates.{EachWithin}
 use Rattle.channel.specs.Layouts.{positionAzimuth}
@@ -27,4 +28,4 @@ pub record Promise (order : ℕ) (d : Direction) (answer : Weighted) : Type 0 wh
 
 -- the positions of the virtual speakers
 abbrev pub positionOf : ℕ → Direction
-positionOf i = record { azimuth = positionAzimuth i; elevation = Harmonics.degrees 0 }
+positionOf i = record { azimuth = positionAzimuth i; elevation = zero-float }

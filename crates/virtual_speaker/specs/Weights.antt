@@ -7,7 +7,7 @@ use lib.Dec.{ltb}
 use lib.ListN.{getD}
 use Rattle.fractions.specs.Fraction.{Fraction, fraction, whole, _⊗_, _⊘_}
 use Rattle.series.specs.Sums.{cosineSum, power}
-use Rattle.checks.specs.Tables.{tab}
+use Rattle.lists.specs.Tables.{tab}
 use Rattle.channel.specs.Orders.{channelsOfOrder}
 use Rattle.harmonics.specs.Formulas.{formulas}
 

@@ -19,7 +19,8 @@
 //   of degree 3                                               259
 //
 // Under it lie `harmonics` (the coefficients and the refusals), `channel` (the table of positions), `series`
-// (the defined cosine), `checks` (lists said by a rule), `fractions` and `refusals`; `angles` for a worked answer.
+// (the defined cosine), `lists` (lists said by a rule), `checks` (the finite test), `fractions`, `formats` and
+// `refusals`; `angles` for a worked answer.
 ghost use mathlib.Core.Path.{_≡_};
 ghost use Rattle.virtual_speaker.specs.Weights.{degreeOf};
 ghost use Rattle.virtual_speaker.specs.Computed as Steps;

@@ -1,6 +1,6 @@
 -- `harmonics::first_order` meets its contract. Assumes nothing.
 use mathlib.Core.Path.{refl}
-use lib.Ieee.{ofBits, round}
+use lib.Ieee.{ofBits, ofInt, round}
 use Rattle.harmonics.specs.Computed.{upTo}
 use borrow.Author.Needs.{needs}
 use Rattle.harmonics.proofs.first_order.Statement.{statement}
@@ -19,7 +19,7 @@ array-write-gains-4 : tie.Need-array-write-gains-4
 array-write-gains-4 c = search needs
 
 returns : tie.Need-returns
-unfolding upTo round ofBits
+unfolding upTo ofInt round ofBits
 returns c = refl
 
 pub first-order-spec : {M : Type 1} → statement M

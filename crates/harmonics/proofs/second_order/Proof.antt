@@ -1,5 +1,5 @@
 -- `harmonics::second_order` meets its contract. Assumes nothing.
-use lib.Ieee.{ofBits, round}
+use lib.Ieee.{ofBits, ofInt, round}
 use Rattle.harmonics.specs.Computed.{upTo}
 use borrow.Author.Needs.{needs}
 use Rattle.harmonics.proofs.second_order.Statement.{statement}
@@ -24,7 +24,7 @@ array-write-gains-5 : tie.Need-array-write-gains-5
 array-write-gains-5 c = search needs
 
 returns : tie.Need-returns
-unfolding upTo round ofBits
+unfolding upTo ofInt round ofBits
 returns c = rw (c .before .before .before .before .before .before .before .before .before .first-order .ensures)
 
 pub second-order-spec : {M : Type 1} → statement M

@@ -1,5 +1,5 @@
 -- `harmonics::third_order` meets its contract. Assumes nothing.
-use lib.Ieee.{ofBits, round}
+use lib.Ieee.{ofBits, ofInt, round}
 use Rattle.harmonics.specs.Computed.{upTo}
 use borrow.Author.Needs.{needs}
 use Rattle.harmonics.proofs.third_order.Statement.{statement}
@@ -30,7 +30,7 @@ array-write-gains-7 : tie.Need-array-write-gains-7
 array-write-gains-7 c = search needs
 
 returns : tie.Need-returns
-unfolding upTo round ofBits
+unfolding upTo ofInt round ofBits
 returns c = rw (c .before .before .before .before .before .before .before .before .before .before .before .before .before .before .second-order .ensures)
 
 pub third-order-spec : {M : Type 1} → statement M

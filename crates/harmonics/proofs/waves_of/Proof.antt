@@ -1,5 +1,5 @@
 -- `harmonics::waves_of` meets its contract. Assumes nothing.
-use lib.Ieee.{ofBits, round}
+use lib.Ieee.{ofBits, ofInt, round}
 use Rattle.harmonics.specs.Computed.{wavesOf}
 use borrow.Author.Needs.{needs}
 use Rattle.harmonics.proofs.waves_of.Statement.{statement}
@@ -33,7 +33,7 @@ sin-requires-5 : tie.Need-sin-requires-5
 sin-requires-5 c κs = search needs
 
 returns : tie.Need-returns
-unfolding wavesOf round ofBits
+unfolding wavesOf ofInt round ofBits
 returns c = λ i. record {
   «cos_el» = c .before .before .before .before .before .before .before .before .cos .ensures i;
   «sin_el» = c .before .before .before .before .before .before .before .sin .ensures i;

@@ -6,7 +6,7 @@ use lib.Dec.{lit≤}
 use lib.ListN.{getD}
 use lib.Ieee.{nan}
 use Rattle.numbers.specs.Computed.{narrowed}
-use Rattle.checks.proofs.Filling.{Filling, filling-none, filling-more, filling-whole}
+use Rattle.lists.proofs.Filling.{Filling, filling-none, filling-more, filling-whole}
 use Rattle.panner.proofs.narrowed.Statement.{statement}
 use Rattle.panner.proofs.narrowed.Tie as tie
 

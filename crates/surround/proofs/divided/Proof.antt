@@ -1,4 +1,4 @@
--- `surround::divided` meets its contract: `checks`' `Filling`. Assumes nothing.
+-- `surround::divided` meets its contract: `lists`' `Filling`. Assumes nothing.
 use mathlib.Core.Path.{refl}
 use Prim.Native.Nat.{_-_}
 use native.Mathlib.Omega.{arith}
@@ -6,7 +6,7 @@ use lib.Dec.{lit≤}
 use lib.ListN.{getD}
 use lib.Ieee.{nan, binary64, div}
 use Rattle.surround.specs.Computed.{dividedBy}
-use Rattle.checks.proofs.Filling.{Filling, filling-none, filling-more, filling-whole}
+use Rattle.lists.proofs.Filling.{Filling, filling-none, filling-more, filling-whole}
 use Rattle.surround.proofs.divided.Statement.{statement}
 use Rattle.surround.proofs.divided.Tie as tie
 

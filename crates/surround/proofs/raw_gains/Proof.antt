@@ -1,11 +1,11 @@
--- `surround::raw_gains` meets its contract: `checks`' `Filling`. Assumes nothing.
+-- `surround::raw_gains` meets its contract: `lists`' `Filling`. Assumes nothing.
 use mathlib.Core.Path.{_∙_}
 use Prim.Native.Nat.{_-_}
 use native.Mathlib.Omega.{arith}
 use lib.Ieee.{ofBits, ofInt}
-use Rattle.angles.specs.Promise.{zero}
+use Rattle.formats.specs.Floats.{zero-float}
 use Rattle.surround.specs.Computed.{channelGain, rawGains}
-use Rattle.checks.proofs.Filling.{first-filled, Filling, filling-none, filling-more, filling-all}
+use Rattle.lists.proofs.Filling.{first-filled, Filling, filling-none, filling-more, filling-all}
 use Rattle.surround.proofs.raw_gains.Statement.{statement}
 use Rattle.surround.proofs.raw_gains.Tie as tie
 
@@ -43,7 +43,7 @@ unfolding rawGains ofBits ofInt
 returns c =
     let a = c .before .before .args in
     let at = c .before .loop in
-    filling-all _ _ _ (at .gains) (at .c) (at .inv) (omega arith) ∙ first-filled (channelGain (a .layout) (a .azimuth)) (a .channels) 16 zero (omega arith)
+    filling-all _ _ _ (at .gains) (at .c) (at .inv) (omega arith) ∙ first-filled (channelGain (a .layout) (a .azimuth)) (a .channels) 16 zero-float (omega arith)
 
 pub raw-gains-spec : {M : Type 1} → statement M
 raw-gains-spec =

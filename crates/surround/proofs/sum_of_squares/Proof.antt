@@ -1,27 +1,22 @@
--- `surround::sum_of_squares` meets its contract: the sum so far, gone on with over the channels that are left, is the whole. Assumes nothing.
-use mathlib.Core.Path.{_≡_, refl, sym, ap, _∙_}
-use Prim.Native.Nat.{_-_, _≤_}
+-- `surround::sum_of_squares` meets its contract: `planes`' `Summing`. Assumes nothing.
+use mathlib.Core.Path.{refl}
+use Prim.Native.Nat.{_-_}
 use native.Mathlib.Omega.{arith}
 use lib.Ieee.{ofBits, ofInt}
-use Rattle.angles.specs.Promise.{zero}
-use Rattle.checks.specs.Tables.{tab}
-use Rattle.planes.specs.Sums.{total}
-use Rattle.checks.proofs.Tables.{tab-all}
-use Rattle.planes.proofs.Sums.{total-more, total-done}
+use Rattle.planes.proofs.Sums.{Summing, summing-none, summing-more, summing-all}
 use Rattle.surround.specs.Computed.{squareAt, sumOf}
 use Rattle.surround.proofs.sum_of_squares.Statement.{statement}
 use Rattle.surround.proofs.sum_of_squares.Tie as tie
 
 abbrev Inv-loop : tie.InvT-loop
-Inv-loop channels gains sum₀ i₀ sum i =
-    (i ≤ channels) × (total sum (tab i (channels - i) (squareAt gains)) ≡ total zero (tab 0 channels (squareAt gains)))
+Inv-loop channels gains sum₀ i₀ sum i = Summing (squareAt gains) channels sum i
 
 abbrev μ-loop : tie.MeasureT-loop
 μ-loop channels gains sum₀ i₀ sum i = channels - i
 
 loop-holds : tie.Need-loop-holds Inv-loop μ-loop
 unfolding ofBits ofInt
-loop-holds c = (omega arith, ap (total zero) (tab-all (c .args .channels) (squareAt (c .args .t1))))
+loop-holds c = summing-none (squareAt (c .args .t1)) (c .args .channels)
 
 mul-sum : tie.Need-mul-sum Inv-loop μ-loop
 mul-sum c = omega arith
@@ -45,14 +40,14 @@ loop-again : tie.Need-loop-again Inv-loop μ-loop
 loop-again c =
     let a = c .before .before .args in
     let at = c .before .loop in
-    (omega arith, total-more (a .channels) (at .i) (squareAt (a .t1)) _ (at .sum) (c .loop-test .taken) refl ∙ at .inv .1)
+    summing-more (squareAt (a .t1)) (a .channels) (at .sum) (at .i) _ (at .inv) (c .loop-test .taken) refl
 
 returns : tie.Need-returns Inv-loop μ-loop
 unfolding sumOf
 returns c =
     let a = c .before .before .args in
     let at = c .before .loop in
-    sym (total-done (a .channels) (at .i) (squareAt (a .t1)) (at .sum) (c .loop-test .left)) ∙ at .inv .1
+    summing-all (squareAt (a .t1)) (a .channels) (at .sum) (at .i) (at .inv) (c .loop-test .left)
 
 pub sum-of-squares-spec : {M : Type 1} → statement M
 sum-of-squares-spec =

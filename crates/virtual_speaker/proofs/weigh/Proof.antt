@@ -1,4 +1,4 @@
--- `virtual_speaker::weigh` meets its contract: `checks`' `Filling`. Assumes nothing.
+-- `virtual_speaker::weigh` meets its contract: `lists`' `Filling`. Assumes nothing.
 use mathlib.Core.Path.{refl, ap}
 use Prim.Native.Nat.{_-_}
 use native.Mathlib.Omega.{arith}
@@ -6,7 +6,7 @@ use lib.Dec.{lit≤}
 use lib.ListN.{getD}
 use lib.Ieee.{Float, nan, binary64, mul}
 use borrow.Author.Needs.{needs}
-use Rattle.checks.proofs.Filling.{Filling, filling-none, filling-more, filling-whole}
+use Rattle.lists.proofs.Filling.{Filling, filling-none, filling-more, filling-whole}
 use Rattle.virtual_speaker.specs.Weights.{degreeOf}
 use Rattle.virtual_speaker.specs.Computed.{weight, weigh}
 use Rattle.virtual_speaker.proofs.weigh.Statement.{statement}
