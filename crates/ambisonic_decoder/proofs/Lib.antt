@@ -1,3 +1,2 @@
--- That a block is answered in one way.
-mod Answers
+-- That no two answers meet the promise.
 mod Unique

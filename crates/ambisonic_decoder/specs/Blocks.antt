@@ -8,7 +8,8 @@ use lib.Dec.{eqb}
 use lib.ListN.{length}
 use lib.Ieee.{Float}
 use Rattle.refusals.specs.Refusals.{firstOf, _when_, outside}
-use Rattle.checks.specs.Tables.{tab, unsound}
+use Rattle.lists.specs.Tables.{tab}
+use Rattle.checks.specs.Finite.{unsound}
 use Rattle.checks.specs.Lengths.{blockUnfit}
 use Rattle.planes.specs.Planes.{frameAt}
 use Rattle.planes.specs.Sums.{mixedAll}

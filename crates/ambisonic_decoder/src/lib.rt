@@ -6,7 +6,8 @@
 // count and the output planes: frame n of the outputs holds document 01's ordered sum of frame n of the
 // inputs, for each output, narrowed.
 //
-// Under it lie `planes` (the ordered sum, frames with a stride), `checks` (the tests) and `refusals`.
+// Under it lie `planes` (the ordered sum, frames with a stride, the answer to a block), `checks` (the tests),
+// `lists` and `refusals`.
 ghost use mathlib.Core.Path.{_≡_};
 ghost use Prim.Native.Nat.{_≤_};
 ghost use Rattle.planes.specs.Planes.{withFrames};

@@ -9,11 +9,13 @@ use borrow.Author.Tests.{eqb-true}
 use lib.Dec.{eqb}
 use lib.ListN.{length, getD, take, length-take, length-map}
 use lib.Ieee.{Float, nan, binary64, mul}
+use Rattle.refusals.proofs.First.{answered-accepted}
 use Rattle.refusals.proofs.Chains.{none-holds}
+use Rattle.rows.specs.Rows.{computedBy}
 use Rattle.fractions.specs.Fraction.{whole, number}
 use Rattle.fractions.specs.Squares.{BySquares}
-use Rattle.checks.specs.Tables.{tab, row}
-use Rattle.checks.proofs.Tables.{length-tab, getD-tab}
+use Rattle.lists.specs.Tables.{tab, row}
+use Rattle.lists.proofs.Tables.{length-tab, getD-tab}
 use Rattle.planes.specs.Normalization.{inverseRoot}
 use Rattle.rows.specs.Steps.{putRows}
 use Rattle.rows.proofs.Joined.{AllOf, put-joined, row-found}
@@ -46,21 +48,21 @@ module _ (order : ℕ) (l : Layout) (n channels : ℕ) (m : channels ≤ 16) whe
 module _ (order : ℕ) (l : Layout) (weights : List Float) where
   -- ---- the answer by its tests
   abbrev answer : Bool → Bool → Bool → Computed
-  answer a b c = let r : ℕ = cond a 1 (cond b 2 (cond c 5 0)) in record { refusal = r; weights = cond (eqb r 0) (matrixOf order l) weights }
+  answer a b c = computedBy (cond a 1 (cond b 2 (cond c 5 0))) (matrixOf order l) weights
 
   abbrev unlike : Bool
   unlike = not (eqb (length weights) (channelsOf l * channelsOfOrder order))
 
   -- ---- what the definition gives keeps all of the promise
-  row-is : (i : ℕ) → refusesOrder order ≡ false → i < channelsOf l → row (channelsOfOrder order) i (matrixOf order l) ≡ rowBy order l (channelsOf l) (channelsOfOrder order) i
+  pub row-is : (i : ℕ) → refusesOrder order ≡ false → i < channelsOf l → row (channelsOfOrder order) i (matrixOf order l) ≡ rowBy order l (channelsOf l) (channelsOfOrder order) i
   row-is i o h =
       let n = channelsOf l in
       let k = channelsOfOrder order in
       let f = rowBy order l n k in
       row-found k (tab 0 n f) i [] (all-rows order l n k (few-channels order o .1) 0 n) (subst (λ (m : ℕ). i < m) (sym (length-tab 0 n f)) h) ∙ getD-tab 0 n f i [] h ∙ ap f (zero-add i)
 
-  weights-are : refusalOf order l weights ≡ 0 → outcome order l weights .weights ≡ matrixOf order l
-  weights-are z = ap (λ (r : ℕ). cond (eqb r 0) (matrixOf order l) weights) z
+  pub weights-are : refusalOf order l weights ≡ 0 → outcome order l weights .weights ≡ matrixOf order l
+  weights-are z = answered-accepted (matrixOf order l) (λ n. weights) (refusalOf order l weights) z
 
   kept : Computes order l weights (outcome order l weights)
   kept = record {

@@ -4,5 +4,6 @@ mod Filling
 mod Near
 mod Turned
 mod Answers
+mod LowFrequency
 mod Unique
 mod Refuted

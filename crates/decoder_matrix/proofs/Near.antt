@@ -3,24 +3,25 @@
 use Prim.Native.Nat.{ℕ, _^_, _≤_, _<_, zero-le}
 use native.Mathlib.Omega.{arith}
 use mathlib.Core.Path.{_≡_, refl, sym, ap, _∙_, subst}
-use mathlib.Core.Bool.{Bool, false, not, _&&_}
-use mathlib.Core.List.{List}
+use mathlib.Core.Bool.{Bool, false, not}
+use mathlib.Core.List.{List, [], _∷_}
 use lib.IntN.{pos}
 use lib.Dec.{T, eqb, eqb→eq}
 use borrow.Author.Tests.{not-false}
 use lib.ListN.{getD, take, List·getD-map}
 use lib.Seq.{getD-take}
 use lib.Ieee.{Float, nan, binary64, fits, round, ofInt, sub, mul, div, lt, le, neg}
-use lib.Ieee.Fits.{and-l, and-r}
 use lib.Ieee.Positive.{positive}
+use Rattle.lists.proofs.Tests.{all, each-holds}
 use Rattle.fractions.specs.Fraction.{Fraction, fraction, number, whole}
 use Rattle.fractions.specs.Squares.{BySquares, RootOf}
 use Rattle.fractions.specs.Approximates.{Approximates}
 use Rattle.fractions.proofs.Normalised.{over-root}
 use Rattle.numbers.specs.Computed.{rootOf}
 use Rattle.numbers.proofs.Close.{root-close, root-fits}
-use Rattle.checks.specs.Tables.{tab, any}
-use Rattle.planes.specs.Normalization.{asFloat, inverseRoot}
+use Rattle.lists.specs.Tables.{tab, any}
+use Rattle.formats.specs.Floats.{float}
+use Rattle.planes.specs.Normalization.{inverseRoot}
 use Rattle.checks.proofs.Checks.{at-each}
 use Rattle.rows.specs.Rows.{scaled}
 use Rattle.channel.specs.declared.Layout.{Layout}
@@ -36,37 +37,33 @@ use Rattle.decoder_matrix.specs.Matrix.{rowBy, formulaAt}
 use Rattle.decoder_matrix.specs.Promise.{matrixBits}
 
 -- ---- the numbers 1 to 16 as floats
+abbrev whole-tests : ℕ → List Bool
+whole-tests n = let x = float (pos n) in fits binary64 x ∷ positive x ∷ eqb (number x .plus) n ∷ eqb (number x .minus) 0 ∷ eqb (number x .over) 1 ∷ []
+
 whole-float : ℕ → Bool
-whole-float n = let x = asFloat n in fits binary64 x && positive x && eqb (number x .plus) n && eqb (number x .minus) 0 && eqb (number x .over) 1
+whole-float n = all (whole-tests n)
 
 all-whole : any (tab 1 16 (λ n. not (whole-float n))) ≡ false
-unfolding whole-float asFloat ofInt fits
+unfolding whole-float ofInt fits
 all-whole = refl
 
 record Whole (n : ℕ) : Type 0 where
-  pub held : T (fits binary64 (asFloat n))
-  pub above : T (positive (asFloat n))
-  pub value : number (asFloat n) ≡ whole n
+  pub held : T (fits binary64 (float (pos n)))
+  pub above : T (positive (float (pos n)))
+  pub value : number (float (pos n)) ≡ whole n
 
 is-whole : (n : ℕ) → T (whole-float n) → Whole n
 unfolding whole-float
 is-whole n t =
-    let x = asFloat n in
-    let a = fits binary64 x in
-    let b = positive x in
-    let p = eqb (number x .plus) n in
-    let m = eqb (number x .minus) 0 in
-    let o = eqb (number x .over) 1 in
-    let t4 = and-l (a && b && p && m) o t in
-    let t3 = and-l (a && b && p) m t4 in
-    let t2 = and-l (a && b) p t3 in
+    let x = float (pos n) in
+    let w = each-holds (whole-tests n) t in
     record {
-      held = and-l a b t2;
-      above = and-r a b t2;
+      held = w .0;
+      above = w .1 .0;
       value =
-          let e0 = eqb→eq (number x .plus) n (and-r (a && b) p t3) in
-          let e1 = eqb→eq (number x .minus) 0 (and-r (a && b && p) m t4) in
-          let e2 = eqb→eq (number x .over) 1 (and-r (a && b && p && m) o t) in
+          let e0 = eqb→eq (number x .plus) n (w .1 .1 .0) in
+          let e1 = eqb→eq (number x .minus) 0 (w .1 .1 .1 .0) in
+          let e2 = eqb→eq (number x .over) 1 (w .1 .1 .1 .1 .0) in
           λ i. fraction (e0 i) (e1 i) (e2 i);
     }
 
@@ -78,7 +75,7 @@ refused-at : Layout → ℕ → Bool
 refused-at l i = refusesAzimuth (azimuthAt l i)
 
 customs : any (tab 1 16 (λ n. any (tab 0 n (refused-at (Custom n))))) ≡ false
-unfolding refused-at refusesAngle isInside ofInt asFloat customAzimuth turnedBack round sub mul div lt le neg
+unfolding refused-at refusesAngle isInside ofInt customAzimuth turnedBack round sub mul div lt le neg
 customs = refl
 
 tables : (l : Layout) → uncountable (channelsOf l) ≡ false → any (tab 0 (channelsOf l) (refused-at l)) ≡ false
@@ -103,16 +100,16 @@ unfolding refusesAngle isInside ofInt le neg
 front = refl
 
 module _ (order : ℕ) (l : Layout) (o : refusesOrder order ≡ false) (u : uncountable (channelsOf l) ≡ false) (i : ℕ) (h : i < channelsOf l) where
-  root : RootOf (2 ^ 53) (number (rootOf binary64 (asFloat (channelsOf l)))) (whole (channelsOf l))
+  root : RootOf (2 ^ 53) (number (rootOf binary64 (float (pos (channelsOf l))))) (whole (channelsOf l))
   root =
       let w = whole-is (channelsOf l) (not-outside (channelsOf l) 16 u .0) (not-outside (channelsOf l) 16 u .1) in
-      subst (RootOf (2 ^ 53) (number (rootOf binary64 (asFloat (channelsOf l))))) (w .value) (root-close binary64 (asFloat (channelsOf l)) (w .held) (w .above))
+      subst (RootOf (2 ^ 53) (number (rootOf binary64 (float (pos (channelsOf l)))))) (w .value) (root-close binary64 (float (pos (channelsOf l))) (w .held) (w .above))
 
   near-one : (x : Float) (a : Fraction) → Approximates 42 (whole 5) x a → BySquares matrixBits (number (mul binary64 x (inverseRoot (channelsOf l)))) a (whole (channelsOf l))
   unfolding inverseRoot round
   near-one x a s =
       let w = whole-is (channelsOf l) (not-outside (channelsOf l) 16 u .0) (not-outside (channelsOf l) 16 u .1) in
-      over-root (rootOf binary64 (asFloat (channelsOf l))) (channelsOf l) s (not-outside (channelsOf l) 16 u .0) (not-outside (channelsOf l) 16 u .1) root (root-fits binary64 (asFloat (channelsOf l)) (w .held) (w .above)) matrixBits tt
+      over-root (rootOf binary64 (float (pos (channelsOf l)))) (channelsOf l) s (not-outside (channelsOf l) 16 u .0) (not-outside (channelsOf l) 16 u .1) root (root-fits binary64 (float (pos (channelsOf l))) (w .held) (w .above)) matrixBits tt
 
   pub near : (c : ℕ) → c < channelsOfOrder order → channelsOfOrder order ≤ 16 → BySquares matrixBits (number (getD (rowBy order l (channelsOf l) (channelsOfOrder order) i) c nan)) (formulaAt order l i c) (whole (channelsOf l))
   unfolding ofInt

@@ -1,42 +1,50 @@
--- Wrong answers of another shape, refuted on a worked input: 5.1 at order 1, whose LFE has the row of 0 degrees. Assumes nothing.
+-- Wrong answers of another shape: an LFE that is silent, refuted at every order of 5.1 and 7.1; and an answer that refuses always, on 5.1 at order 1. Assumes nothing.
 use Prim.Native.Nat.{ℕ}
 use native.Mathlib.Omega.{arith}
 use mathlib.Core.Path.{_≡_, refl, sym, ap, _∙_}
-use mathlib.Core.Bool.{true, not, cond, true≢false}
-use mathlib.Core.List.{List, flatten}
+use mathlib.Core.Bool.{Bool, true, false, not, cond, true≢false}
+use mathlib.Core.List.{List}
+use lib.IntN.{pos}
 use lib.Dec.{eqb}
 use lib.ListN.{length, getD}
 use lib.Ieee.{Float, nan, size, units, round, ofInt, le, neg, mul, div}
 use lib.Ieee.Positive.{positive}
 use Rattle.numbers.specs.Computed.{rootOf, wholeRoot}
-use Rattle.checks.specs.Tables.{row}
-use Rattle.planes.specs.Normalization.{asFloat, inverseRoot}
-use Rattle.channel.specs.declared.Layout.the-variants.{Surround51}
+use Rattle.lists.specs.Tables.{row}
+use Rattle.formats.specs.Floats.{zero-float, float}
+use Rattle.refusals.proofs.Chains.{none-holds}
+use Rattle.planes.specs.Normalization.{inverseRoot}
+use Rattle.channel.specs.declared.Layout.{Layout}
+use Rattle.channel.specs.declared.Layout.the-variants.{Mono, Stereo, Surround51, Surround71, Custom}
+use Rattle.channel.specs.Layouts.{channelsOf, surround}
+use Rattle.channel.specs.Orders.{refusesOrder, channelsOfOrder}
+use Rattle.channel.proofs.Orders.{by-order}
 use Rattle.harmonics.specs.Computed.{upTo}
 use Rattle.angles.specs.Limits.{isInside, refusesAngle}
-use Rattle.decoder_matrix.specs.Matrix.{rowBy, matrixOf}
-use Rattle.decoder_matrix.specs.Promise.{Computed, Computes}
+use Rattle.decoder_matrix.specs.Matrix.{rowTowards}
+use Rattle.decoder_matrix.specs.Promise.{Computed, checksOf, refusalOf, Computes}
+use Rattle.decoder_matrix.proofs.LowFrequency.{low-frequency-row}
 
--- "LFE takes the 0 degree row": that of the centre, at every order
-pub low-frequency-row : (order channels : ℕ) → rowBy order Surround51 6 channels 3 ≡ rowBy order Surround51 6 channels 2
-low-frequency-row order channels = refl
+-- the first weight of the row of 0 degrees, 1.0/root(n), is above 0
+sounds : (l : Layout) → surround l ≡ true → (order : ℕ) → refusesOrder order ≡ false → positive (getD (rowTowards order (channelsOf l) (channelsOfOrder order) (float (pos 0))) 0 nan) ≡ true
+unfolding inverseRoot rootOf wholeRoot size units div round mul ofInt le neg refusesAngle isInside upTo
+sounds Mono e = absurd (true≢false (sym e))
+sounds Stereo e = absurd (true≢false (sym e))
+sounds Surround51 e = by-order (λ (order : ℕ). positive (getD (rowTowards order 6 (channelsOfOrder order) (float (pos 0))) 0 nan) ≡ true) refl refl refl
+sounds Surround71 e = by-order (λ (order : ℕ). positive (getD (rowTowards order 8 (channelsOfOrder order) (float (pos 0))) 0 nan) ≡ true) refl refl refl
+sounds (Custom n) e = absurd (true≢false (sym e))
 
--- its first weight, 1.0/root(6), is above 0
-sounds : positive (getD (row 4 3 (matrixOf 1 Surround51)) 0 nan) ≡ true
-unfolding flatten inverseRoot asFloat rootOf wholeRoot size units div round mul ofInt le neg refusesAngle isInside upTo
-sounds = refl
+-- a row of zeros for the LFE, because the panner gives it none
+pub low-frequency-silent : (order : ℕ) (l : Layout) (w : List Float) (r : Computed) → Computes order l w r → refusalOf order l w ≡ 0 → surround l ≡ true
+    → getD (row (channelsOfOrder order) 3 (r .weights)) 0 nan ≡ zero-float → ⊥
+low-frequency-silent order l w r p z e h =
+    true≢false
+    (sym (sounds l e order (none-holds (checksOf order l w) tt z .0))
+    ∙ ap (λ (xs : List Float). positive (getD xs 0 nan)) (sym (low-frequency-row order l w r p z 3 (ap (λ (b : Bool). cond b true false) e)))
+    ∙ ap positive h)
 
-module _ (w : List Float) (long : length w ≡ 24) (r : Computed) (p : Computes 1 Surround51 w r) where
-  weights-are : r .weights ≡ matrixOf 1 Surround51
-  weights-are = ap (λ (c : Computed). c .weights) (p .is) ∙ ap (λ (n : ℕ). cond (eqb (cond (not (eqb n 24)) 5 0) 0) (matrixOf 1 Surround51) w) long
-
-  -- a row of zeros for the LFE, because the panner gives it none
-  pub low-frequency-silent : getD (row 4 3 (r .weights)) 0 nan ≡ asFloat 0 → ⊥
-  unfolding asFloat ofInt
-  low-frequency-silent h = true≢false (sym sounds ∙ ap (λ (xs : List Float). positive (getD (row 4 3 xs) 0 nan)) (sym weights-are) ∙ ap positive h)
-
-  pub refuses-always : r .refusal ≡ 5 → ⊥
-  refuses-always h = no (sym h ∙ ap (λ (c : Computed). c .refusal) (p .is) ∙ ap (λ (n : ℕ). cond (not (eqb n 24)) 5 0) long)
-    where
-      no : _≡_ {A = ℕ} 5 0 → ⊥
-      no h = omega arith
+pub refuses-always : (w : List Float) → length w ≡ 24 → (r : Computed) → Computes 1 Surround51 w r → r .refusal ≡ 5 → ⊥
+refuses-always w long r p h = no (sym h ∙ ap (λ (c : Computed). c .refusal) (p .is) ∙ ap (λ (n : ℕ). cond (not (eqb n 24)) 5 0) long)
+  where
+    no : _≡_ {A = ℕ} 5 0 → ⊥
+    no h = omega arith

@@ -4,7 +4,7 @@ use mathlib.Core.List.{List, flatten}
 use lib.ListN.{getD, take}
 use lib.Ieee.{Float}
 use Rattle.fractions.specs.Fraction.{Fraction, whole, number}
-use Rattle.checks.specs.Tables.{tab}
+use Rattle.lists.specs.Tables.{tab}
 use Rattle.planes.specs.Normalization.{inverseRoot}
 use Rattle.rows.specs.Rows.{scaled}
 use Rattle.channel.specs.declared.Layout.{Layout}
@@ -14,9 +14,12 @@ use Rattle.harmonics.specs.Formulas.{formulas}
 use Rattle.harmonics.specs.Promise.{outcome}
 use Rattle.decoder_matrix.specs.Speakers.{azimuthBy, azimuthAt, towards}
 
--- the row of speaker i of n, and of every speaker
+-- the row of an azimuth, one of n; of speaker i; and of every speaker
+abbrev pub rowTowards : ℕ → ℕ → ℕ → Float → List Float
+rowTowards order n channels azimuth = scaled (inverseRoot n) (take channels (outcome order (towards azimuth) .gains))
+
 abbrev pub rowBy : ℕ → Layout → ℕ → ℕ → ℕ → List Float
-rowBy order l n channels i = scaled (inverseRoot n) (take channels (outcome order (towards (azimuthBy l n i)) .gains))
+rowBy order l n channels i = rowTowards order n channels (azimuthBy l n i)
 
 abbrev pub rowsBy : ℕ → Layout → ℕ → ℕ → List (List Float)
 rowsBy order l n channels = tab 0 n (rowBy order l n channels)

@@ -2,7 +2,7 @@
 -- stays the same". 'Gains', decoder matrix: "Within 2^-33, by squares in the same way on magnitudes, with the sign of the formula wherever the formula exceeds 2^-33 in magnitude." Definitions only.
 use Prim.Native.Nat.{ℕ, _*_, _<_}
 use mathlib.Core.Path.{_≡_}
-use mathlib.Core.Bool.{not, cond}
+use mathlib.Core.Bool.{not}
 use mathlib.Core.List.{List, [], _∷_}
 use lib.Dec.{eqb}
 use lib.ListN.{length, getD}
@@ -10,11 +10,12 @@ use lib.Ieee.{Float, nan}
 use Rattle.refusals.specs.Refusals.{Check, firstOf, _when_}
 use Rattle.fractions.specs.Fraction.{whole, number}
 use Rattle.fractions.specs.Squares.{BySquares}
-use Rattle.checks.specs.Tables.{row}
+use Rattle.lists.specs.Tables.{row}
 use Rattle.channel.specs.declared.Layout.{Layout}
 use Rattle.channel.specs.Layouts.{channelsOf, uncountable}
 use Rattle.channel.specs.Orders.{refusesOrder, channelsOfOrder}
 pub use Rattle.rows.specs.Rows.{Computed}
+use Rattle.rows.specs.Rows.{computedBy}
 use Rattle.decoder_matrix.specs.Matrix.{matrixOf, formulaAt}
 
 -- within 2 ^ -matrixBits: the place to change it at
@@ -28,7 +29,7 @@ abbrev pub refusalOf : ℕ → Layout → List Float → ℕ
 refusalOf order l weights = firstOf (checksOf order l weights)
 
 abbrev pub outcome : ℕ → Layout → List Float → Computed
-outcome order l weights = let r = refusalOf order l weights in record { refusal = r; weights = cond (eqb r 0) (matrixOf order l) weights }
+outcome order l weights = computedBy (refusalOf order l weights) (matrixOf order l) weights
 
 -- every bit; and of each weight of an accepted matrix, that of channel c in the row of speaker i, how near it is to the harmonic over the root of n
 pub record Computes (order : ℕ) (l : Layout) (weights : List Float) (r : Computed) : Type 0 where

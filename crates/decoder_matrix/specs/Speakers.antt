@@ -2,19 +2,19 @@
 -- An azimuth above 180 is turned back by 360, so that it is one that the harmonics take; the defined sine and cosine reduce by 360 anyway.
 use Prim.Native.Nat.{ℕ}
 use mathlib.Core.Bool.{cond}
+use lib.IntN.{pos}
 use lib.Ieee.{Float, binary64, sub, mul, div, lt}
-use Rattle.planes.specs.Normalization.{asFloat}
+use Rattle.formats.specs.Floats.{zero-float, float}
 use Rattle.channel.specs.declared.Layout.{Layout}
 use Rattle.channel.specs.declared.Layout.the-variants.{Mono, Stereo, Surround51, Surround71, Custom}
 use Rattle.channel.specs.Layouts.{channelsOf, azimuthOf}
-use Rattle.harmonics.specs.Promise.{degrees}
 use Rattle.harmonics.specs.declared.Direction.{Direction}
 
 unfoldable pub customAzimuth : ℕ → ℕ → Float
-customAzimuth n i = sub binary64 (mul binary64 (asFloat i) (div binary64 (asFloat 360) (asFloat n))) (asFloat 90)
+customAzimuth n i = sub binary64 (mul binary64 (float (pos i)) (div binary64 (float (pos 360)) (float (pos n)))) (float (pos 90))
 
 unfoldable pub turnedBack : Float → Float
-turnedBack a = cond (lt (asFloat 180) a) (sub binary64 a (asFloat 360)) a
+turnedBack a = cond (lt (float (pos 180)) a) (sub binary64 a (float (pos 360))) a
 
 -- speaker i of n
 abbrev pub azimuthBy : Layout → ℕ → ℕ → Float
@@ -29,4 +29,4 @@ azimuthAt l i = azimuthBy l (channelsOf l) i
 
 -- the direction of a speaker: none is above or below
 abbrev pub towards : Float → Direction
-towards a = record { azimuth = a; elevation = degrees 0 }
+towards a = record { azimuth = a; elevation = zero-float }

@@ -7,8 +7,9 @@
 // formula, by squares. It comes from a harmonic within 2^-42, one root, one division and one product, 2^-53
 // each; with 2^-38 for 2^-33 the same proof passes.
 //
-// Under it lie `harmonics`, `channel` (orders, and the table of angles), `planes` (the inverse of a root), `checks`, `rows` and
-// `refusals`.
+// Under it lie `harmonics`, `channel` (orders, and the table of angles), `planes` (the inverse of a root), `rows`,
+// `checks`, `lists`, `formats` and `refusals`, and for the words of its promise and its laws `fractions`,
+// `angles` and `numbers`.
 use channel::Layout;
 use harmonics::Direction;
 ghost use mathlib.Core.Path.{_≡_};

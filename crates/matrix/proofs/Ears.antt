@@ -2,16 +2,15 @@
 use Prim.Native.Nat.{ℕ, _+_}
 use native.Mathlib.Omega.{arith}
 use mathlib.Core.Path.{_≡_, sym, ap, _∙_}
-use mathlib.Core.Bool.{Bool, not, cond}
+use mathlib.Core.Bool.{Bool, not}
 use mathlib.Core.List.{List, [], _∷_, _++_, append-nil, map-append}
 use borrow.Author.Tests.{eq-eqb, ne-eqb}
-use lib.Dec.{eqb}
 use lib.ListN.{length, drop, length-drop, length-map, drop-of-length-le}
 use lib.Seq.{sets}
 use lib.Ieee.{Float, binary64, mul}
 use Rattle.refusals.specs.Refusals.{firstOf, _when_}
 use Rattle.planes.specs.Normalization.{inverseRoot}
-use Rattle.rows.specs.Rows.{scaled}
+use Rattle.rows.specs.Rows.{scaled, computedBy}
 use Rattle.rows.proofs.Behind.{put-behind}
 use Rattle.matrix.specs.Promise.{Computed}
 use Rattle.matrix.specs.Steps.{put}
@@ -35,9 +34,7 @@ ears-put f left right w n =
 module _ (left right w : List Float) where
   -- by whether the length fits
   abbrev answer : Bool → Computed
-  answer b =
-      let r = firstOf (5 when not b ∷ []) in
-      record { refusal = r; weights = cond (eqb r 0) (scaled (inverseRoot 2) (left ++ right)) w }
+  answer b = computedBy (firstOf (5 when not b ∷ [])) (scaled (inverseRoot 2) (left ++ right)) w
 
   pub misfit : (length w ≡ length left + length right → ⊥) → record { refusal = 5; weights = w } ≡ put left right w
   misfit n = sym (ap answer (ne-eqb (length w) (length left + length right) n))

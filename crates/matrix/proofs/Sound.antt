@@ -3,24 +3,25 @@ use Prim.Native.Nat.{ℕ}
 use mathlib.Core.Path.{_≡_, refl, ap, fun-ext}
 use mathlib.Core.Bool.{false}
 use mathlib.Core.List.{List, _++_}
-use lib.IntN.{negsuc}
-use lib.Ieee.{Float, fin, size, units, round, mul, div}
+use lib.Ieee.{Float, size, units, round, mul, div, ofInt}
+use Rattle.numbers.specs.Drill.{rootOfHalf}
 use Rattle.numbers.specs.Computed.{rootOf, wholeRoot}
 use Rattle.rows.specs.Rows.{scaled}
-use Rattle.checks.specs.Tables.{tab, any, unsound}
-use Rattle.planes.specs.Normalization.{asFloat, inverseRoot}
-use Rattle.matrix.specs.Rows.{left, right, rows, hundredths, literals, literal}
+use Rattle.lists.specs.Tables.{tab, any}
+use Rattle.checks.specs.Finite.{unsound}
+use Rattle.planes.specs.Normalization.{inverseRoot}
+use Rattle.matrix.specs.Rows.{left, right, rows, hundredths, literals}
 
 -- 1.0/root(2.0), a unit of the last place below the root of a half
-inverse-root-two : inverseRoot 2 ≡ fin false 1592262918131443 (negsuc 50)
-unfolding inverseRoot asFloat rootOf wholeRoot size units div round
+inverse-root-two : inverseRoot 2 ≡ rootOfHalf
+unfolding inverseRoot rootOf wholeRoot size units div round ofInt
 inverse-root-two = refl
 
-rows-are : (n : ℕ) → rows n ≡ scaled (fin false 1592262918131443 (negsuc 50)) (literals (hundredths n left) ++ literals (hundredths n right))
+rows-are : (n : ℕ) → rows n ≡ scaled rootOfHalf (literals (hundredths n left) ++ literals (hundredths n right))
 unfolding rows
 rows-are n = ap (λ (f : Float). scaled f (literals (hundredths n left) ++ literals (hundredths n right))) inverse-root-two
 
 -- none of the three orders has a number that is NaN or infinite
 pub rows-sound : any (tab 1 3 (λ n. unsound (rows n))) ≡ false
-unfolding hundredths literal round mul
+unfolding hundredths round mul
 rows-sound = ap (λ (at : ℕ → List Float). any (tab 1 3 (λ n. unsound (at n)))) (fun-ext rows-are)

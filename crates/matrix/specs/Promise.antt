@@ -2,7 +2,7 @@
 -- refusal. Definitions only.
 use Prim.Native.Nat.{ℕ, _*_}
 use mathlib.Core.Path.{_≡_}
-use mathlib.Core.Bool.{not, cond}
+use mathlib.Core.Bool.{not}
 use mathlib.Core.List.{List, [], _∷_}
 use lib.Dec.{eqb}
 use lib.ListN.{length}
@@ -10,13 +10,14 @@ use lib.Ieee.{Float}
 use Rattle.refusals.specs.Refusals.{firstOf, _when_}
 use Rattle.channel.specs.Orders.{refusesOrder, channelsOfOrder}
 pub use Rattle.rows.specs.Rows.{Computed}
+use Rattle.rows.specs.Rows.{computedBy}
 use Rattle.matrix.specs.Rows.{rows}
 
 abbrev pub refusalOf : ℕ → List Float → ℕ
 refusalOf n weights = firstOf (1 when refusesOrder n ∷ 5 when not (eqb (length weights) (2 * channelsOfOrder n)) ∷ [])
 
 unfoldable pub outcome : ℕ → List Float → Computed
-outcome n weights = record { refusal = refusalOf n weights; weights = cond (eqb (refusalOf n weights) 0) (rows n) weights }
+outcome n weights = computedBy (refusalOf n weights) (rows n) weights
 
 abbrev pub Computes : ℕ → List Float → Computed → Type 0
 Computes n weights o = o ≡ outcome n weights

@@ -1,12 +1,12 @@
 -- Document 01, 'Gains': "Binaural rows (002): the literals of 002 for orders 1 to 3, both rows as they stand, times 1.0/root(2.0). Bit-exact." Definitions only. Every literal of 002 is a whole
 -- number of hundredths, so the rows are written as those; the missing and superfluous signs of the right ear, on channels 5, 11 and 14, stand as 002 has them.
-use Prim.Native.Nat.{ℕ, suc}
-use mathlib.Core.Bool.{true, false, cond}
-use lib.Dec.{eqb}
+use Prim.Native.Nat.{ℕ}
 use mathlib.Core.List.{List, [], _∷_, _++_, map}
-use lib.IntN.{ℤ, pos, negsuc}
-use lib.Ieee.{Float, binary64, round}
+use lib.IntN.{ℤ, pos}
+use lib.Ieee.{Float}
+use Rattle.formats.specs.Floats.{literal}
 use Rattle.channel.specs.Layouts.{minus}
+use Rattle.channel.specs.Orders.{byOrder}
 use Rattle.rows.specs.Rows.{scaled}
 use Rattle.planes.specs.Normalization.{inverseRoot}
 
@@ -27,17 +27,13 @@ abbrev pub toa : Ear → List ℤ
 toa left = pos 42 ∷ pos 42 ∷ pos 8 ∷ pos 30 ∷ pos 22 ∷ pos 7 ∷ pos 4 ∷ pos 7 ∷ pos 13 ∷ pos 15 ∷ pos 10 ∷ pos 5 ∷ pos 3 ∷ pos 5 ∷ pos 10 ∷ pos 10 ∷ []
 toa right = pos 42 ∷ minus 42 ∷ pos 8 ∷ pos 30 ∷ minus 22 ∷ pos 7 ∷ pos 4 ∷ pos 7 ∷ pos 13 ∷ minus 15 ∷ minus 10 ∷ pos 5 ∷ pos 3 ∷ pos 5 ∷ minus 10 ∷ pos 10 ∷ []
 
--- by order
+-- by order: what is no order is refused
 unfoldable pub hundredths : ℕ → Ear → List ℤ
-hundredths n e = cond (eqb n 1) (foa e) (cond (eqb n 2) (soa e) (cond (eqb n 3) (toa e) []))
+hundredths n e = byOrder n (foa e) (soa e) (toa e)
 
--- a literal: the f64 nearest to so many hundredths
-unfoldable pub literal : ℤ → Float
-literal (pos n) = round binary64 false n 100
-literal (negsuc n) = round binary64 true (suc n) 100
-
+-- each as a literal
 abbrev pub literals : List ℤ → List Float
-literals = map literal
+literals = map (λ (z : ℤ). literal z 100)
 
 -- both rows, the left ear's first, times 1.0/root(2.0)
 unfoldable pub rows : ℕ → List Float

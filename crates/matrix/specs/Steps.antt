@@ -1,12 +1,12 @@
 -- What the program does once the order has named two rows. Definitions only; that these are document 01's rows is what the proof of `compute_matrix` shows.
 use Prim.Native.Nat.{ℕ, _+_}
-use mathlib.Core.Bool.{not, cond}
+use mathlib.Core.Bool.{not}
 use mathlib.Core.List.{List, [], _∷_, _++_}
 use lib.Dec.{eqb}
 use lib.ListN.{length}
 use lib.Ieee.{Float}
 use Rattle.refusals.specs.Refusals.{firstOf, _when_}
-use Rattle.rows.specs.Rows.{scaled}
+use Rattle.rows.specs.Rows.{scaled, computedBy}
 use Rattle.planes.specs.Normalization.{inverseRoot}
 use Rattle.matrix.specs.Promise.{Computed}
 
@@ -14,8 +14,4 @@ abbrev misfit : List Float → List Float → List Float → ℕ
 misfit left right weights = firstOf (5 when not (eqb (length weights) (length left + length right)) ∷ [])
 
 abbrev pub put : List Float → List Float → List Float → Computed
-put left right weights =
-    record {
-      refusal = misfit left right weights;
-      weights = cond (eqb (misfit left right weights) 0) (scaled (inverseRoot 2) (left ++ right)) weights;
-    }
+put left right weights = computedBy (misfit left right weights) (scaled (inverseRoot 2) (left ++ right)) weights

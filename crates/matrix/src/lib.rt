@@ -4,7 +4,8 @@
 // decoder's own `process`: no sum stands here.
 //
 // It takes any input; its promise (specs/Promise.antt) is one equation for the refusal and the list. Under
-// it lie `channel` (which orders there are), `planes` (the inverse of a root), `checks`, `rows` and `refusals`.
+// it lie `channel` (which orders there are), `planes` (the inverse of a root), `rows`, `checks`, `numbers`,
+// `formats`, `lists` and `refusals`.
 ghost use mathlib.Core.Path.{_≡_};
 ghost use Rattle.matrix.specs.Promise.{Computes};
 ghost use Rattle.matrix.specs.Steps.{put};

@@ -1,14 +1,26 @@
 -- `ambisonic_decoder::process` meets its contract. Assumes nothing.
-use Rattle.ambisonic_decoder.proofs.Answers.{refused-with, accepted-with}
+use mathlib.Core.Path.{sym, _∙_}
+use mathlib.Core.List.{List}
+use lib.Ieee.{Float}
+use denote.Ref.{now}
+use Rattle.planes.proofs.Blocks.{refused-with, played-with}
+use Rattle.ambisonic_decoder.specs.Blocks.{decoded}
+use Rattle.ambisonic_decoder.specs.Promise.{answerOf}
 use borrow.Author.Needs.{needs}
 use Rattle.ambisonic_decoder.proofs.process.Statement.{statement}
 use Rattle.ambisonic_decoder.proofs.process.Tie as tie
+
+-- what is played where nothing is refused
+abbrev sounds : tie.Start → List (List Float)
+sounds c = let a = c .args in decoded (record { outputs = a .outputs; channels = a .channels; frames = a .frames; stride = a .stride }) (now (a .weights)) (now (a .inputs))
 
 refusal-of-requires : tie.Need-refusal-of-requires
 refusal-of-requires c κs = search needs
 
 returns : tie.Need-returns
-returns c = refused-with _ _ _ _ _ _ (c .before .refusal-of .ensures) (c .if1 .taken)
+returns c =
+    let start = c .before .before .before .before .before in
+    refused-with answerOf (start .args .frames) (start .args .stride) (sounds start) (now (start .args .out)) _ _ (c .before .refusal-of .ensures) (c .if1 .taken)
 
 play-requires : tie.Need-play-requires
 play-requires c κs = search needs
@@ -17,7 +29,9 @@ same-length : tie.Need-same-length
 same-length c = search needs
 
 returns-2 : tie.Need-returns-2
-returns-2 c = accepted-with _ _ _ _ _ _ (c .before .before .before .before .before .refusal-of .ensures) (c .before .before .before .before .if1 .left) _ (c .before .before .play .ensures)
+returns-2 c =
+    let start = c .before .before .before .before .before .before .before .before .before in
+    played-with answerOf (start .args .frames) (start .args .stride) (sounds start) (now (start .args .out)) _ _ (sym (c .before .before .before .before .before .refusal-of .ensures) ∙ c .before .before .before .before .if1 .left) (c .before .before .play .ensures)
 
 pub process-spec : {M : Type 1} → statement M
 process-spec = tie.close (tie.spec refusal-of-requires returns play-requires same-length returns-2)

@@ -1,7 +1,6 @@
 -- `decoder_matrix::custom_azimuth` meets its contract. Assumes nothing.
 use mathlib.Core.Path.{refl}
 use lib.Ieee.{ofBits, ofInt}
-use Rattle.planes.specs.Normalization.{asFloat}
 use Rattle.decoder_matrix.specs.Speakers.{customAzimuth}
 use borrow.Author.Needs.{needs}
 use Rattle.decoder_matrix.proofs.custom_azimuth.Statement.{statement}
@@ -14,7 +13,7 @@ int-to-float-result : tie.Need-int-to-float-result
 int-to-float-result c = search needs
 
 returns : tie.Need-returns
-unfolding ofBits ofInt asFloat customAzimuth
+unfolding ofBits ofInt customAzimuth
 returns c = refl
 
 pub custom-azimuth-spec : {M : Type 1} → statement M

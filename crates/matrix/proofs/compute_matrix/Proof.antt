@@ -3,7 +3,7 @@ use mathlib.Core.Path.{sym, _∙_}
 use denote.Ref.{now}
 use lib.Ieee.{round, ofBits, neg}
 use Rattle.channel.proofs.Orders.{third-order}
-use Rattle.matrix.specs.Rows.{rows, hundredths, literal}
+use Rattle.matrix.specs.Rows.{rows, hundredths}
 use Rattle.matrix.specs.Promise.{outcome}
 use Rattle.matrix.proofs.Orders.{of-order, no-order}
 use borrow.Author.Needs.{needs}
@@ -29,7 +29,7 @@ same-length : tie.Need-same-length
 same-length c = search needs
 
 returns-2 : tie.Need-returns-2
-unfolding outcome rows hundredths literal round ofBits neg
+unfolding outcome rows hundredths round ofBits neg
 returns-2 c = of-order (now (c .before .before .before .before .before .before .before .before .before .before .args .weights)) _ (c .before .before .before .before .before .before .if2 .taken) (c .before .before .put-ears .ensures)
 
 slice-aggregate-put-ears-3 : tie.Need-slice-aggregate-put-ears-3
@@ -45,7 +45,7 @@ same-length-2 : tie.Need-same-length-2
 same-length-2 c = search needs
 
 returns-3 : tie.Need-returns-3
-unfolding outcome rows hundredths literal round ofBits neg
+unfolding outcome rows hundredths round ofBits neg
 returns-3 c = of-order (now (c .before .before .before .before .before .before .before .before .before .before .before .args .weights)) _ (c .before .before .before .before .before .before .if3 .taken) (c .before .before .put-ears2 .ensures)
 
 slice-aggregate-put-ears-5 : tie.Need-slice-aggregate-put-ears-5
@@ -61,7 +61,7 @@ same-length-3 : tie.Need-same-length-3
 same-length-3 c = search needs
 
 returns-4 : tie.Need-returns-4
-unfolding outcome rows hundredths literal round ofBits neg
+unfolding outcome rows hundredths round ofBits neg
 returns-4 c =
     let past = c .before .before .before .before .before .before in
     let a = past .before .before .before .before .before .args in
