@@ -1,7 +1,7 @@
 -- What reading and writing answer at each of their tests, and what a caller learns from an answer. Assumes nothing.
 use mathlib.Core.Path.{_≡_, refl, sym, ap, _∙_}
 use mathlib.Core.Bool.{Bool, true, false, not, cond, _&&_, and-false, and-eq-true-iff}
-use mathlib.Core.List.{List, _++_}
+use mathlib.Core.List.{List}
 use Prim.Native.Nat.{ℕ, _+_, _-_, _*_, _≤_, _<_}
 use native.Mathlib.Decide.{ℕ-discrete}
 use native.Mathlib.Omega.{arith}
@@ -9,37 +9,32 @@ use borrow.Author.Tests.{eq-eqb, ne-eqb, eqb-true}
 use lib.Dec.{eqb}
 use lib.Ieee.{Float}
 use lib.IntN.{ℤ}
-use lib.ListN.{length, drop}
-use Rattle.refusals.proofs.First.{stops, goes-on}
-use Rattle.checks.proofs.Checks.{equal-passes}
-use Rattle.big_endian.specs.Placed.{placed}
-use Rattle.big_endian.proofs.Placed.{placed-start}
+use lib.ListN.{length}
+use Rattle.refusals.proofs.First.{stops, goes-on, answered-accepted, answered-by}
+use Rattle.checks.proofs.Checks.{equal-passes, other-fails}
+use Rattle.lists.specs.Placed.{placed}
 use Rattle.bank_form.specs.Bank.{Bank, rows, valid}
 use Rattle.bank_form.specs.Encoding.{encode}
 use Rattle.bank_form.specs.FaultComputed.{rowSize, azimuthsFrom, tapsFrom, rowsIn, lengthIn, bankIn, isFile}
 use Rattle.bank_form.proofs.Exact.{rows-in, keeps}
 use Rattle.bank_form.proofs.RoundTrip.{length-encode}
-use Rattle.bank_form.proofs.Walk.{within-true}
+use Rattle.refusals.proofs.Ranges.{within-true}
 use Rattle.bank.specs.Reading.{ReadOutcome, readRefusal, readRefused, readBank, readOutcome}
 use Rattle.bank.specs.Writing.{WriteOutcome, writeRefusal, writeRefused, writeBank, writeOutcome}
-
--- a number that is not a list's length fails its test
-fails : (a b : ℕ) → (a ≡ b → ⊥) → not (eqb a b) ≡ true
-fails a b h = ap not (ne-eqb a b h)
 
 module _ (file : List ℕ) (zs : List ℤ) (xs : List Float) where
   read-refused : (n : ℕ) → 0 < n → readRefusal file zs xs ≡ n → readRefused n zs xs ≡ readOutcome file zs xs
   unfolding readOutcome
-  read-refused n h e = sym (rw (e, ne-eqb n 0 (λ z. omega arith)))
+  read-refused n h e = answered-by _ (λ k. readRefused k zs xs) _ n h e
 
   pub azimuths-lent : (length zs ≡ 8 → ⊥) → readRefused 5 zs xs ≡ readOutcome file zs xs
   unfolding readRefusal
-  azimuths-lent h = read-refused 5 (omega arith) (stops _ _ (fails (length zs) 8 h))
+  azimuths-lent h = read-refused 5 (omega arith) (stops _ _ (other-fails (length zs) 8 h))
 
   module _ (eight : length zs ≡ 8) where
     pub taps-lent : (length xs ≡ 8192 → ⊥) → readRefused 5 zs xs ≡ readOutcome file zs xs
     unfolding readRefusal
-    taps-lent h = read-refused 5 (omega arith) (goes-on _ _ (equal-passes (length zs) 8 eight) ∙ stops _ _ (fails (length xs) 8192 h))
+    taps-lent h = read-refused 5 (omega arith) (goes-on _ _ (equal-passes (length zs) 8 eight) ∙ stops _ _ (other-fails (length xs) 8192 h))
 
     module _ (most : length xs ≡ 8192) where
       judged : readRefusal file zs xs ≡ cond (not (isFile file)) 9 0
@@ -51,14 +46,14 @@ module _ (file : List ℕ) (zs : List ℤ) (xs : List Float) where
 
       pub accepted : isFile file ≡ true → readBank (bankIn file) zs xs ≡ readOutcome file zs xs
       unfolding readOutcome
-      accepted h = sym (rw (judged ∙ goes-on 9 0 (ap not h)))
+      accepted h = sym (answered-accepted _ (λ k. readRefused k zs xs) _ (judged ∙ goes-on 9 0 (ap not h)))
 
   -- what stands in the lists once the rows are filled in
   pub filled : (n l : ℕ) (ys : List ℤ) (ws : List Float) → n ≡ rowsIn file → l ≡ lengthIn file → ys ≡ placed zs 0 (azimuthsFrom file l 9 n) → ws ≡ placed xs 0 (tapsFrom file l 9 n)
       → _≡_ {A = ReadOutcome} (record { answer = record { refusal = 0; rows = n; length = l }; azimuths = ys; taps = ws }) (readBank (bankIn file) zs xs)
   filled n l ys ws e f g h =
-      let zs′ : ys ≡ bankIn file .azimuths ++ drop (rows (bankIn file)) zs = g ∙ placed-start zs (azimuthsFrom file l 9 n) ∙ rw (e, f) in
-      let xs′ : ws ≡ bankIn file .taps ++ drop (length (bankIn file .taps)) xs = h ∙ placed-start xs (tapsFrom file l 9 n) ∙ rw (e, f) in
+      let zs′ : ys ≡ placed zs 0 (bankIn file .azimuths) = rw (e, f) at g in
+      let xs′ : ws ≡ placed xs 0 (bankIn file .taps) = rw (e, f) at h in
       λ i. record { answer = record { refusal = 0; rows = (e ∙ sym (rows-in file)) i; length = f i }; azimuths = zs′ i; taps = xs′ i }
 
 -- ---- the lengths that writing is lent
@@ -101,7 +96,7 @@ module _ (b : Bank) (file : List ℕ) where
 
   write-refused : (n : ℕ) → 0 < n → writeRefusal b file ≡ n → writeRefused n file ≡ writeOutcome b file
   unfolding writeOutcome
-  write-refused n h e = sym (rw (e, ne-eqb n 0 (λ z. omega arith)))
+  write-refused n h e = answered-by _ (λ k. writeRefused k file) _ n h e
 
   file-size : length (b .taps) ≡ 2 * rows b * b .length → length (encode b) ≡ 9 + rows b * rowSize (b .length)
   file-size e = length-encode b (e ∙ omega arith)
@@ -138,7 +133,7 @@ module _ (b : Bank) (file : List ℕ) where
 
   pub written : Lent → valid b ≡ true → writeBank b ≡ writeOutcome b file
   unfolding writeOutcome
-  written l h = sym (rw (judged-bank l ∙ goes-on 9 0 (ap not h)))
+  written l h = sym (answered-accepted _ (λ k. writeRefused k file) _ (judged-bank l ∙ goes-on 9 0 (ap not h)))
 
   pub wrote : (n : ℕ) (last : List ℕ) → n ≡ length (encode b) → last ≡ encode b → _≡_ {A = WriteOutcome} (record { answer = record { refusal = 0; bytes = n }; file = last }) (writeBank b)
   wrote n last e f = λ i. record { answer = record { refusal = 0; bytes = e i }; file = f i }

@@ -2,7 +2,7 @@
 -- Assumes nothing.
 use mathlib.Core.Path.{_≡_, refl, sym, ap, _∙_}
 use mathlib.Core.Bool.{true, false}
-use mathlib.Core.List.{List}
+use mathlib.Core.List.{List, flatMap}
 use Prim.Native.Nat.{ℕ}
 use lib.Ieee.{Float, toBits, fits}
 use lib.IntN.{ℤ}
@@ -10,8 +10,8 @@ use lib.ListN.{length, take}
 use Rattle.big_endian.specs.Bytes.{valueOf, bytesOf}
 use Rattle.big_endian.specs.Fields.{fieldAt}
 use Rattle.big_endian.specs.Lists.{fieldBytes}
-use Rattle.bank_form.specs.Bank.{within, inRange, differ, isTap, every, pairwise, valid}
-use Rattle.bank_form.specs.Encoding.{rowBytes, bodyBytes, encode}
+use Rattle.bank_form.specs.Bank.{inRange, differ, isTap, pairwise, valid}
+use Rattle.bank_form.specs.Encoding.{rowBytes, headBytes, encode}
 use Rattle.bank_form.specs.FaultComputed.{field, orElse, headField, headFault, fault, isFile}
 use Rattle.bank.specs.Reading.{ReadOutcome, readBank, readRefused, Reads}
 use Rattle.bank.specs.Writing.{WriteOutcome, Writes}
@@ -20,15 +20,15 @@ use Rattle.bank.proofs.Answers.{broken}
 use Rattle.bank.proofs.Promises.{is-accepted, is-written}
 
 pub bank-bytes : encode oneRow ≡ oneRowBytes
-unfolding encode bodyBytes rowBytes fieldBytes bytesOf toBits
+unfolding encode headBytes rowBytes fieldBytes flatMap bytesOf toBits
 bank-bytes = refl
 
 pub bank-keeps : valid oneRow ≡ true
-unfolding valid within inRange differ isTap every pairwise fits
+unfolding valid inRange differ isTap pairwise fits
 bank-keeps = refl
 
 pub bank-cut : isFile (take 18 oneRowBytes) ≡ false
-unfolding isFile fault headFault headField field orElse within fieldAt valueOf
+unfolding isFile fault headFault headField field orElse fieldAt valueOf
 bank-cut = refl
 
 -- what every writing and reading of them comes to

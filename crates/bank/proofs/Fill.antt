@@ -3,29 +3,28 @@ use mathlib.Core.Path.{_≡_, refl, sym, ap, _∙_}
 use mathlib.Core.List.{List, [], _++_, append-nil}
 use Prim.Native.Nat.{ℕ, _+_, _*_, _≤_, _<_}
 use native.Mathlib.Nat.{mul-le-mul, mul-le-mul-right}
-use native.Mathlib.Decide.{decLt}
 use native.Mathlib.Numerals.{add-one}
 use native.Mathlib.Omega.{arith}
 use lib.Ieee.{Float, binary32, toBits}
 use lib.IntN.{ℤ, pos}
-use lib.ListN.{length, getD, take, drop, set, length-append, drop-of-length-le, List·getD-eq-default}
-use lib.Seq.{take-at, take-length, length-take-le}
+use lib.ListN.{length, getD, take, drop, set, length-append, drop-of-length-le}
+use lib.Seq.{take-length, length-take-le}
 use mir.Syntax.{w16}
 use mir.Val.{ofZ}
 use Rattle.big_endian.specs.Bytes.{bytesOf}
 use Rattle.big_endian.specs.Fields.{signedAt, floatAt, withField}
-use Rattle.big_endian.specs.Lists.{floatBytes}
+use Rattle.big_endian.specs.Lists.{strided, floatBytes}
 use Rattle.big_endian.proofs.Bytes.{length-bytes}
-use Rattle.big_endian.proofs.Fields.{field-put, length-part}
-use Rattle.big_endian.proofs.Lists.{length-strided, read-more, part-more, length-fieldBytes}
+use Rattle.big_endian.proofs.Fields.{field-put}
+use Rattle.big_endian.proofs.Lists.{length-strided, part-more, length-fieldBytes}
 use Rattle.bank_form.specs.Bank.{Bank, rows}
-use Rattle.bank_form.specs.Encoding.{rowBytes, bodyBytes, encode}
-use Rattle.bank_form.proofs.RoundTrip.{length-body, length-rowBytes, oneRow, rowBytes-snoc, row-fits}
-use Rattle.big_endian.specs.Placed.{placed}
-use Rattle.big_endian.proofs.Placed.{placed-on, placed-start, length-placed}
-use Rattle.bank_form.specs.HoldsComputed.{Each, IsAzimuth}
+use Rattle.bank_form.specs.Encoding.{rowBytes, allRows, headBytes, encode}
+use Rattle.bank_form.proofs.RoundTrip.{length-head, length-all, length-rowBytes, oneRow, rowBytes-snoc}
+use Rattle.lists.specs.Placed.{placed}
+use Rattle.lists.proofs.Filling.{fill-more}
+use Rattle.lists.proofs.Tables.{length-part, row-end}
+use Rattle.lists.proofs.Placed.{placed-on, take-placed, length-placed}
 use Rattle.bank_form.specs.FaultComputed.{rowSize, azimuthsFrom, rowTaps, tapsFrom}
-use Rattle.bank.specs.HeadComputed.{headBytes}
 use Rattle.bank_form.proofs.Lists.{taps-snoc, length-taps}
 
 -- how far the taps of i rows reach in the list of taps, where there are at most k
@@ -35,9 +34,10 @@ taps-reach i k l h g = let taps : 2 * l ≤ 1024 = omega (arith, g) in mul-le-mu
 module _ (s : List ℕ) (l : ℕ) where
   pub azimuth-more : (zs ys : List ℤ) (i : ℕ) (z : ℤ) → ys ≡ placed zs 0 (azimuthsFrom s l 9 i) → i < length zs → z ≡ signedAt s (9 + i * rowSize l)
       → set ys i z ≡ placed zs 0 (azimuthsFrom s l 9 (i + 1))
+  unfolding strided
   azimuth-more zs ys i z e h g =
       let none : 0 + i ≡ i = omega arith in
-      rw none at (read-more (signedAt s) (rowSize l) 9 zs ys 0 i z e (omega arith) g)
+      rw none at (fill-more (λ k. signedAt s (9 + k * rowSize l)) zs 0 ys i z e (omega arith) g)
 
   pub row-more : (xs ys zs : List Float) (i q : ℕ) → ys ≡ placed xs 0 (tapsFrom s l 9 i) → q ≡ i * (2 * l) → q + 2 * l ≤ length xs → zs ≡ placed ys q (rowTaps s l (9 + i * rowSize l))
       → zs ≡ placed xs 0 (tapsFrom s l 9 (i + 1))
@@ -65,8 +65,8 @@ pub rows-more : (out ys last : List ℕ) (zs : List ℤ) (l : ℕ) (xs : List Fl
     → last ≡ placed out 9 (rowBytes (take (i + 1) zs) l xs)
 rows-more out ys last zs l xs i q at count h e f room g k =
     let z = getD zs i (pos 0) in
-    let taps = row-fits i (length zs) (2 * l) h in
-    let bytes = row-fits i (length zs) (rowSize l) h in
+    let taps = row-end i (length zs) (2 * l) _ h refl in
+    let bytes = row-end i (length zs) (rowSize l) _ h refl in
     let front = length-rows zs l xs i (omega arith) count in
     let row : length (oneRow z l xs q) ≡ rowSize l = length-row z l xs q (omega arith) in
     let more : rowBytes (take i zs) l xs ++ oneRow z l xs q ≡ rowBytes (take (i + 1) zs) l xs = rw (add-one i, e) (sym (rowBytes-snoc zs l xs i h)) in
@@ -91,36 +91,17 @@ module _ (out one two three four : List ℕ) (rest n l : ℕ) (room : 9 ≤ leng
       let d = next two three (bytesOf 1 1 ++ bytesOf 4 rest) 5 2 n (omega arith) (omega arith) b refl g in
       next three four (bytesOf 1 1 ++ bytesOf 4 rest ++ bytesOf 2 n) 7 2 l (omega arith) (omega arith) d refl h
 
--- the head and the rows are the file of a bank
-head-rows : (b : Bank) → headBytes (length (bodyBytes b)) (rows b) (b .length) ++ rowBytes (b .azimuths) (b .length) (b .taps) ≡ encode b
-unfolding headBytes bytesOf bodyBytes encode
-head-rows b = refl
-
-length-head : (rest n l : ℕ) → length (headBytes rest n l) ≡ 9
-unfolding headBytes bytesOf
-length-head rest n l = refl
-
 pub bank-put : (b : Bank) (out one two : List ℕ) (rest : ℕ) → length (b .taps) ≡ rows b * (2 * b .length) → 9 + rows b * rowSize (b .length) ≤ length out → rest ≡ 4 + rows b * rowSize (b .length)
-    → one ≡ placed out 0 (headBytes rest (rows b) (b .length)) → two ≡ placed one 9 (rowBytes (b .azimuths) (b .length) (b .taps)) → two ≡ placed out 0 (encode b)
+    → one ≡ placed out 0 (headBytes rest (rows b) (b .length)) → two ≡ placed one 9 (allRows b) → two ≡ placed out 0 (encode b)
+unfolding encode
 bank-put b out one two rest count room e f g =
-    let head = headBytes rest (rows b) (b .length) in
-    let tail = rowBytes (b .azimuths) (b .length) (b .taps) in
-    let long = length-rowBytes (b .azimuths) (b .length) (b .taps) (omega arith) in
-    let same : head ++ tail ≡ encode b = ap (λ (k : ℕ). headBytes k (rows b) (b .length) ++ tail) (e ∙ sym (length-body b count)) ∙ head-rows b in
-    part-more out one two head tail 0 9 9 f (length-head rest (rows b) (b .length)) (omega arith) (omega arith) g ∙ ap (placed out 0) same
-
--- azimuths that were each seen to be one
-pub each-azimuth : (zs : List ℤ) → ((j : ℕ) → j < length zs → IsAzimuth (getD zs j (pos 0))) → Each IsAzimuth (pos 0) zs
-unfolding Each
-each-azimuth zs h j =
-    elim (decLt j (length zs)) [
-      | yes g ↦ h j g
-      | no g ↦ rw (List·getD-eq-default zs (pos 0) {n = j} (omega arith)) (omega arith)
-    ]
+    let all = length-all b count in
+    part-more out one two (headBytes rest (rows b) (b .length)) (allRows b) 0 9 9 f (length-head rest (rows b) (b .length)) (omega arith) (omega arith) g
+    ∙ ap (λ (k : ℕ). placed out 0 (headBytes k (rows b) (b .length) ++ allRows b)) (omega arith)
 
 -- a file that was made at the start of a longer list
 pub made-file : (out made part : List ℕ) (size : ℕ) → length part ≡ size → made ≡ placed out 0 part → take size made ≡ part
-made-file out made part size h e = ap (take size) (e ∙ placed-start out part) ∙ take-at part (drop (length part) out) size h
+made-file out made part size h e = ap (take size) e ∙ take-placed out part size h
 
 -- all of a list, copied into one as long
 pub copied : (src dst : List ℕ) → length src ≡ length dst → take (length src) src ++ drop (length src) dst ≡ src

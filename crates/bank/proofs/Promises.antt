@@ -2,24 +2,25 @@
 -- (`accepted-is`, `is-accepted`); a bank is accepted exactly if it keeps the form (`written-is`, `is-written`); reading what was written gives the same bank (`read-after-write`), and
 -- writing what was read gives the same bytes (`write-after-read`). Assumes nothing.
 use mathlib.Core.Path.{_≡_, refl, sym, ap, _∙_}
-use mathlib.Core.Bool.{Bool, true, false}
+use mathlib.Core.Bool.{true}
 use mathlib.Core.List.{List}
 use Prim.Native.Nat.{ℕ, _*_}
-use borrow.Author.Tests.{eqb-true, eqb-false, not-false}
-use lib.Dec.{eqb}
+use borrow.Author.Tests.{not-false}
 use lib.Ieee.{Float}
 use lib.IntN.{ℤ}
-use lib.ListN.{length, take, drop}
-use lib.Seq.{take-at}
+use lib.ListN.{length, take}
+use Rattle.refusals.proofs.First.{none-told}
 use Rattle.refusals.proofs.Chains.{none-holds}
 use Rattle.refusals.proofs.Determined.{determined}
+use Rattle.lists.proofs.Placed.{take-placed}
+use Rattle.checks.proofs.Checks.{is-equal}
 use Rattle.bank_form.specs.Bank.{Bank, rows, valid}
 use Rattle.bank_form.specs.Encoding.{encode}
 use Rattle.bank_form.specs.FaultComputed.{bankIn, isFile}
 use Rattle.bank_form.specs.File.{IsFile}
 use Rattle.bank_form.proofs.Exact.{keeps}
-use Rattle.bank.specs.Reading.{ReadOutcome, readChecks, readRefusal, readBank, readOutcome, Reads}
-use Rattle.bank.specs.Writing.{WriteOutcome, writeChecks, writeRefusal, writeBank, writeOutcome, Writes}
+use Rattle.bank.specs.Reading.{ReadOutcome, readChecks, readRefusal, readRefused, readBank, readOutcome, Reads}
+use Rattle.bank.specs.Writing.{WriteOutcome, writeChecks, writeRefusal, writeRefused, writeBank, writeOutcome, Writes}
 use Rattle.bank.proofs.Answers.{accepted, Lent, written}
 
 pub read-unique : (file : List ℕ) (zs : List ℤ) (xs : List Float) (a b : ReadOutcome) → Reads file zs xs a → Reads file zs xs b → a ≡ b
@@ -40,15 +41,11 @@ module _ (file : List ℕ) (zs : List ℤ) (xs : List Float) where
   unfolding readRefusal
   parts e =
       let off = none-holds (readChecks file zs xs) tt e in
-      record { eight = eqb-true _ _ (not-false _ (off .0)); most = eqb-true _ _ (not-false _ (off .1 .0)); file-good = not-false _ (off .1 .1 .0) }
+      record { eight = is-equal _ _ (off .0); most = is-equal _ _ (off .1 .0); file-good = not-false _ (off .1 .1 .0) }
 
   pub accepted-parts : readOutcome file zs xs .answer .refusal ≡ 0 → Accepted
   unfolding readOutcome
-  accepted-parts e = go (eqb (readRefusal file zs xs) 0) refl
-    where
-      go : (t : Bool) → eqb (readRefusal file zs xs) 0 ≡ t → Accepted
-      go true h = parts (eqb-true _ _ h)
-      go false h = absurd (eqb-false (readRefusal file zs xs) 0 h (rw h at e))
+  accepted-parts e = parts (none-told _ (λ n. readRefused n zs xs) (λ (o : ReadOutcome). o .answer .refusal) (λ n. refl) _ e)
 
   -- what is accepted is a bank file, and its bank is filled in
   pub accepted-is : (o : ReadOutcome) → Reads file zs xs o → o .answer .refusal ≡ 0 → IsFile file (bankIn file) × (o ≡ readBank (bankIn file) zs xs)
@@ -69,15 +66,11 @@ module _ (b : Bank) (file : List ℕ) where
   unfolding writeRefusal
   lengths-and-form e =
       let off = none-holds (writeChecks b file) tt e in
-      (record { count = eqb-true _ _ (not-false _ (off .0)); size = eqb-true _ _ (not-false _ (off .1 .0)) }, not-false _ (off .1 .1 .0))
+      (record { count = is-equal _ _ (off .0); size = is-equal _ _ (off .1 .0) }, not-false _ (off .1 .1 .0))
 
   written-parts : writeOutcome b file .answer .refusal ≡ 0 → Lent b file × (valid b ≡ true)
   unfolding writeOutcome
-  written-parts e = go (eqb (writeRefusal b file) 0) refl
-    where
-      go : (t : Bool) → eqb (writeRefusal b file) 0 ≡ t → Lent b file × (valid b ≡ true)
-      go true h = lengths-and-form (eqb-true _ _ h)
-      go false h = absurd (eqb-false (writeRefusal b file) 0 h (rw h at e))
+  written-parts e = lengths-and-form (none-told _ (λ n. writeRefused n file) (λ (w : WriteOutcome). w .answer .refusal) (λ n. refl) _ e)
 
   -- a bank that is accepted keeps the form, and its file is filled in
   pub written-is : (w : WriteOutcome) → Writes b file w → w .answer .refusal ≡ 0 → (valid b ≡ true) × (w ≡ writeBank b)
@@ -102,12 +95,8 @@ read-after-write b buffer w r e zs xs o h g f =
 abbrev pub bankOf : ReadOutcome → Bank
 bankOf o = record { azimuths = take (o .answer .rows) (o .azimuths); length = o .answer .length; taps = take (2 * o .answer .rows * o .answer .length) (o .taps) }
 
-found : (b : Bank) (zs : List ℤ) (xs : List Float) → length (b .taps) ≡ 2 * rows b * b .length → bankOf (readBank b zs xs) ≡ b
-found b zs xs h = λ i. record {
-  azimuths = take-at (b .azimuths) (drop (rows b) zs) (rows b) refl i;
-  length = b .length;
-  taps = take-at (b .taps) (drop (length (b .taps)) xs) (2 * rows b * b .length) h i;
-}
+pub found : (b : Bank) (zs : List ℤ) (xs : List Float) → length (b .taps) ≡ 2 * rows b * b .length → bankOf (readBank b zs xs) ≡ b
+found b zs xs h = λ i. record { azimuths = take-placed zs (b .azimuths) (rows b) refl i; length = b .length; taps = take-placed xs (b .taps) (2 * rows b * b .length) h i }
 
 -- which is that of the file
 pub read-is : (file : List ℕ) (zs : List ℤ) (xs : List Float) (o : ReadOutcome) → Reads file zs xs o → o .answer .refusal ≡ 0 → bankOf o ≡ bankIn file

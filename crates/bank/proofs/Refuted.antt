@@ -7,6 +7,7 @@ use lib.Ieee.{Float}
 use lib.IntN.{ℤ, pos}
 use lib.Signed.{mag}
 use lib.ListN.{length, take, drop, replicate, getD, length-replicate}
+use Rattle.lists.specs.Placed.{placed}
 use Rattle.bank.specs.Reading.{ReadOutcome, readRefused, readBank, Reads}
 use Rattle.bank.specs.Writing.{WriteOutcome, Writes}
 use Rattle.bank.specs.Drill.{oneRow, oneRowBytes}
@@ -33,7 +34,7 @@ refuses-always xs h r =
 
 -- accepted, and nothing filled in
 fills-nothing : (xs : List Float) → length xs ≡ 8192 → Reads oneRowBytes sevens xs (record { answer = record { refusal = 0; rows = 1; length = 1 }; azimuths = sevens; taps = xs }) → ⊥
-unfolding sevens
+unfolding sevens placed
 fills-nothing xs h r =
     let z : _≡_ {A = ℕ} 7 0 = ap (λ (o : ReadOutcome). mag (getD (o .azimuths) 0 (pos 0))) (drill-read sevens xs refl h _ r) in
     omega arith

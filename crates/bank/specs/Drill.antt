@@ -1,13 +1,12 @@
 -- Document 01, 'Filter bank file' and 'Marked drill table' 11, the example: "One row at 0, L = 1, left 1.0, right 0.5", and its bytes. Definitions only.
 use Prim.Native.Nat.{ℕ}
-use mathlib.Core.Bool.{false}
 use mathlib.Core.List.{List, [], _∷_}
-use lib.IntN.{pos, negsuc}
-use lib.Ieee.{fin}
+use lib.IntN.{pos}
+use Rattle.formats.specs.Floats.{one-float, half-float}
 use Rattle.bank_form.specs.Bank.{Bank}
 
 abbrev pub oneRow : Bank
-oneRow = record { azimuths = pos 0 ∷ []; length = 1; taps = fin false 1 (pos 0) ∷ fin false 1 (negsuc 0) ∷ [] }
+oneRow = record { azimuths = pos 0 ∷ []; length = 1; taps = one-float ∷ half-float ∷ [] }
 
 abbrev pub oneRowBytes : List ℕ
 oneRowBytes = 0x01 ∷ 0x00 ∷ 0x00 ∷ 0x00 ∷ 0x0E ∷ 0x00 ∷ 0x01 ∷ 0x00 ∷ 0x01 ∷ 0x00 ∷ 0x00 ∷ 0x3F ∷ 0x80 ∷ 0x00 ∷ 0x00 ∷ 0x3F ∷ 0x00 ∷ 0x00 ∷ 0x00 ∷ []

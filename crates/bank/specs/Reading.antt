@@ -1,14 +1,15 @@
 -- Document 01, 'Filter bank file': "Every breach, in reading or writing, is 9, never 2, 3, 4 or 7. Reading fills lent lists of 8 azimuths and 8,192 taps in file order and returns rows and L;
 -- entries beyond them stay. .. Other lengths are 5." And 'Refusal numbers': "A refusal returns its number, counts of 0, ..; lent memory stays the same." Definitions only.
 use mathlib.Core.Path.{_≡_}
-use mathlib.Core.Bool.{not, cond}
-use mathlib.Core.List.{List, [], _∷_, _++_}
+use mathlib.Core.Bool.{not}
+use mathlib.Core.List.{List, [], _∷_}
 use Prim.Native.Nat.{ℕ}
 use lib.Dec.{eqb}
 use lib.Ieee.{Float}
 use lib.IntN.{ℤ}
-use lib.ListN.{length, drop}
-use Rattle.refusals.specs.Refusals.{Check, _when_, firstOf}
+use lib.ListN.{length}
+use Rattle.refusals.specs.Refusals.{Check, _when_, firstOf, answered}
+use Rattle.lists.specs.Placed.{placed}
 use Rattle.bank_form.specs.Bank.{Bank, rows}
 use Rattle.bank_form.specs.FaultComputed.{bankIn, isFile}
 use Rattle.bank_form.specs.File.{Exactly}
@@ -33,12 +34,12 @@ readRefused n zs xs = record { answer = record { refusal = n; rows = 0; length =
 abbrev pub readBank : Bank → List ℤ → List Float → ReadOutcome
 readBank b zs xs = record {
   answer = record { refusal = 0; rows = rows b; length = b .length };
-  azimuths = b .azimuths ++ drop (rows b) zs;
-  taps = b .taps ++ drop (length (b .taps)) xs;
+  azimuths = placed zs 0 (b .azimuths);
+  taps = placed xs 0 (b .taps);
 }
 
 unfoldable pub readOutcome : List ℕ → List ℤ → List Float → ReadOutcome
-readOutcome file zs xs = cond (eqb (readRefusal file zs xs) 0) (readBank (bankIn file) zs xs) (readRefused (readRefusal file zs xs) zs xs)
+readOutcome file zs xs = answered (readRefusal file zs xs) (readBank (bankIn file) zs xs) (λ n. readRefused n zs xs)
 
 pub record Reads (file : List ℕ) (zs : List ℤ) (xs : List Float) (o : ReadOutcome) : Type 0 where
   pub outcome : o ≡ readOutcome file zs xs

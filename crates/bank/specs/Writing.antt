@@ -1,12 +1,12 @@
 -- Document 01, 'Filter bank file': "Writing takes an azimuth per row, L, 2 x rows x L taps and a buffer of exactly the file's length. Other lengths are 5." and "Every breach, in reading or
 -- writing, is 9, never 2, 3, 4 or 7." And 'Refusal numbers': "A refusal returns its number, counts of 0, ..; lent memory stays the same." Definitions only.
 use mathlib.Core.Path.{_≡_}
-use mathlib.Core.Bool.{not, cond}
+use mathlib.Core.Bool.{not}
 use mathlib.Core.List.{List, [], _∷_}
 use Prim.Native.Nat.{ℕ, _*_}
 use lib.Dec.{eqb}
 use lib.ListN.{length}
-use Rattle.refusals.specs.Refusals.{Check, _when_, firstOf}
+use Rattle.refusals.specs.Refusals.{Check, _when_, firstOf, answered}
 use Rattle.bank_form.specs.Bank.{Bank, rows, valid}
 use Rattle.bank_form.specs.Encoding.{encode}
 use Rattle.bank.specs.declared.BankWritten.{BankWritten}
@@ -29,7 +29,7 @@ abbrev pub writeBank : Bank → WriteOutcome
 writeBank b = record { answer = record { refusal = 0; bytes = length (encode b) }; file = encode b }
 
 unfoldable pub writeOutcome : Bank → List ℕ → WriteOutcome
-writeOutcome b file = cond (eqb (writeRefusal b file) 0) (writeBank b) (writeRefused (writeRefusal b file) file)
+writeOutcome b file = answered (writeRefusal b file) (writeBank b) (λ n. writeRefused n file)
 
 abbrev pub Writes : Bank → List ℕ → WriteOutcome → Type 0
 Writes b file o = o ≡ writeOutcome b file

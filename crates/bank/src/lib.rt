@@ -3,7 +3,8 @@
 // accepted exactly if it is the encoding of a bank that keeps the form, and what is filled in is that
 // bank; a bank is accepted exactly if it keeps the form, and what is filled in is its encoding; on a
 // refusal nothing lent changes. What is written reads as the same bank, and what is read is written as
-// the same bytes. Under it lie the form, the check of a file, the big-endian fields and the length test.
+// the same bytes. Under it lie the form, the check of a file, the big-endian fields, the length test and the
+// copying of bytes, and in what is promised and proved `lists`, `formats` and `refusals`.
 ghost use mathlib.Core.Path.{_≡_};
 ghost use mathlib.Core.Bool.{_&&_};
 ghost use lib.Dec.{eqb};
@@ -15,14 +16,14 @@ ghost use mir.Syntax.{w16};
 ghost use mir.Val.{ofZ};
 ghost use Rattle.big_endian.specs.Bytes.{bytesOf};
 ghost use Rattle.big_endian.specs.Fields.{floatAt};
-ghost use Rattle.big_endian.specs.Placed.{placed};
+ghost use Rattle.lists.specs.Placed.{placed};
 ghost use Rattle.big_endian.specs.Lists.{strided, floatBytes};
-ghost use Rattle.bank_form.specs.Encoding.{rowBytes, encode};
-ghost use Rattle.bank_form.specs.HoldsComputed.{Each, IsAzimuth};
+ghost use Rattle.bank_form.specs.Encoding.{rowBytes, headBytes, encode};
+ghost use Rattle.lists.specs.Each.{Each};
+ghost use Rattle.bank_form.specs.HoldsComputed.{IsAzimuth};
 ghost use Rattle.bank_form.specs.FaultComputed.{rowSize, azimuthsFrom, tapsFrom};
 ghost use Rattle.bank.specs.Reading.{Reads};
 ghost use Rattle.bank.specs.Writing.{Writes};
-ghost use Rattle.bank.specs.HeadComputed.{headBytes};
 
 // What reading answers: a refusal, or 0 with the rows and L.
 pub struct BankRead {

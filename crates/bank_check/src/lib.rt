@@ -2,31 +2,21 @@
 // the first that breaks the form, whose number and offset are the answer. It takes any bytes. Today each
 // number is refused as 9. Its promise: the answer is the first fault of the bytes, and there is none
 // exactly if the bytes are those of a bank that keeps the form. Under it lie the form, the big-endian
-// fields, the widening of a tap and the finite test.
+// fields, the tests of a range, the widening of a tap and the finite test.
 use bank_form::Fault;
 ghost use mathlib.Core.Path.{_≡_};
 ghost use Prim.Native.Nat.{_+_, _-_, _*_, _≤_};
-ghost use Rattle.bank_form.specs.Bank.{within, inRange};
 ghost use Rattle.bank_form.specs.FaultComputed.{field, headField, headFault, tapsFault, isNew, rowSize, rowFault, rowsFault};
 ghost use Rattle.bank_check.specs.Checked.{Checked};
 
-fn is_within(low: u64, high: u64, n: u64) -> bool
-    ensures { λ r. ⌜ r ≡ within low high n ⌝ }
-{
-    if n < low {
-        return false;
-    }
-    n <= high
-}
-
 // How many bytes come after the first `count`.
-fn bytes_after(size: usize, count: usize) -> u64
+fn bytes_after(size: usize, count: usize) -> usize
     ensures { λ r. ⌜ r ≡ size - count ⌝ }
 {
     if size < count {
         return 0;
     }
-    (size - count) as u64
+    size - count
 }
 
 // The fault of a field at an offset, in a file of so many bytes: it has to end in the file, and be good.
@@ -53,11 +43,12 @@ fn field_fault(size: usize, at: usize, count: usize, number: u8, good: bool) -> 
 }
 
 // The fault of a field of the head, whose value has to be from low to high.
-fn head_field(s: &[u8], at: usize, count: usize, number: u8, low: u64, high: u64) -> Fault
+fn head_field(s: &[u8], at: usize, count: usize, number: u8, low: usize, high: usize) -> Fault
     requires { ⌜ at + count ≤ 9 ⌝ }
     ensures { λ r. ⌜ r ≡ headField (now (s .entry)) at count number low high ⌝ }
 {
-    let good = is_within(low, high, big_endian::get(s, at, count));
+    let value = big_endian::get(s, at, count) as usize;
+    let good = refusals::is_within(value, low, high);
     field_fault(s.len(), at, count, number, good)
 }
 
@@ -103,16 +94,6 @@ fn taps_fault(s: &[u8], at: usize, n: usize) -> Fault
     }
 }
 
-// Whether an azimuth, in tenths of a degree, is one that a bank may have.
-fn in_range(z: i16) -> bool
-    ensures { λ r. ⌜ r ≡ inRange z ⌝ }
-{
-    if z < -1799 {
-        return false;
-    }
-    z <= 1800
-}
-
 // Whether none of the first i rows has an azimuth.
 fn is_new(s: &[u8], l: usize, i: usize, z: i16) -> bool
     requires { ⌜ (l ≤ 512) × (i ≤ 8) ⌝ }
@@ -136,7 +117,7 @@ fn row_fault(s: &[u8], l: usize, i: usize, at: usize) -> Fault
     ensures { λ r. ⌜ r ≡ rowFault (now (s .entry)) l i at ⌝ }
 {
     let z = big_endian::get_i16(s, at);
-    let good = in_range(z) && is_new(s, l, i, z);
+    let good = refusals::is_between(z, -1799, 1800) && is_new(s, l, i, z);
     let f = field_fault(s.len(), at, 2, 17, good);
     if f.refusal != 0 {
         return f;

@@ -1,16 +1,15 @@
 -- What tests on two signed numbers say of the rules for azimuths. Assumes nothing.
 use mathlib.Core.Path.{_≡_, refl, sym, ap}
-use mathlib.Core.Bool.{true, false, _||_, true≢false}
+use mathlib.Core.Bool.{true, false, _||_}
 use Prim.Native.Nat.{ℕ}
 use native.Mathlib.Nat.{le-refl}
 use native.Mathlib.Decide.{decLt}
 use native.Mathlib.Numerals.{lt-of-le-of-ne}
 use native.Mathlib.Omega.{arith}
-use borrow.Author.Tests.{ltb-true, ltb-false, lt-ltb, le-ltb, lt-leb, le-leb}
+use borrow.Author.Tests.{lt-ltb, le-ltb}
 use lib.Dec.{ltb}
 use lib.IntN.{ℤ, pos, negsuc}
-use lib.Signed.{ltZ, leZ}
-use Rattle.bank_form.specs.Bank.{inRange, differ}
+use Rattle.bank_form.specs.Bank.{differ}
 
 pub differ-same : (z : ℤ) → differ z z ≡ false
 unfolding differ
@@ -30,13 +29,3 @@ differ-other (pos m) (pos n) h = one-less m n (λ e. h (ap pos e))
 differ-other (pos m) (negsuc n) h = refl
 differ-other (negsuc m) (pos n) h = refl
 differ-other (negsuc m) (negsuc n) h = one-less n m (λ e. h (ap negsuc (sym e)))
-
-pub below-range : (z : ℤ) → ltZ z (negsuc 1798) ≡ true → inRange z ≡ false
-unfolding inRange
-below-range (pos n) h = absurd (true≢false (sym h))
-below-range (negsuc n) h = rw (lt-leb n 1798 (ltb-true 1798 n h))
-
-pub from-below : (z : ℤ) → ltZ z (negsuc 1798) ≡ false → leZ z (pos 1800) ≡ inRange z
-unfolding inRange
-from-below (pos n) h = refl
-from-below (negsuc n) h = rw (le-leb n 1798 (ltb-false 1798 n h))

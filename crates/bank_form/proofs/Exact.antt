@@ -4,7 +4,6 @@ use mathlib.Core.Path.{_≡_, refl, sym, ap, _∙_}
 use mathlib.Core.Bool.{Bool, true, false, and-eq-true-iff, false≢true}
 use mathlib.Core.List.{List}
 use Prim.Native.Nat.{ℕ, _+_, _*_}
-use native.Mathlib.Decide.{decLt}
 use native.Mathlib.Omega.{arith}
 use borrow.Author.Tests.{leb-true, eqb-true, eq-eqb, ne-eqb}
 use lib.Dec.{leb, eqb}
@@ -12,18 +11,22 @@ use lib.Ieee.{Float, nan, binary32, fits}
 use lib.Ieee.Fits.{nan-fits}
 use lib.Ieee.Scale.{finite}
 use lib.IntN.{ℤ, pos, negsuc}
-use lib.ListN.{length, getD, List·getD-eq-default}
+use lib.ListN.{length}
 use Rattle.big_endian.specs.Bytes.{AreBytes}
 use Rattle.big_endian.specs.Fields.{signedAt}
 use Rattle.big_endian.proofs.Lists.{length-strided}
 use Rattle.bank_form.specs.declared.Fault.{Fault}
-use Rattle.bank_form.specs.Bank.{Bank, rows, within, inRange, differ, isTap, every, pairwise, valid}
+use Rattle.lists.specs.Tables.{every}
+use Rattle.refusals.specs.Ranges.{within}
+use Rattle.refusals.proofs.Ranges.{within-true}
+use Rattle.bank_form.specs.Bank.{Bank, rows, inRange, differ, isTap, pairwise, valid}
 use Rattle.bank_form.specs.Encoding.{encode}
-use Rattle.bank_form.specs.HoldsComputed.{Each, IsAzimuth, IsFloat, Holds}
+use Rattle.bank_form.specs.HoldsComputed.{IsAzimuth, IsFloat, Holds}
 use Rattle.bank_form.specs.FaultComputed.{rowSize, rowsIn, lengthIn, bankIn, isNew, sound, fault, isFile}
 use Rattle.bank_form.specs.File.{Exactly}
-use Rattle.bank_form.proofs.Lists.{every-at, length-taps, pairwise-before, before-pairwise}
-use Rattle.bank_form.proofs.Walk.{Whole, whole, nothing-found, within-true}
+use Rattle.lists.proofs.Each.{each-every}
+use Rattle.bank_form.proofs.Lists.{length-taps, pairwise-before, before-pairwise}
+use Rattle.bank_form.proofs.Walk.{Whole, whole, nothing-found}
 use Rattle.bank_form.proofs.RoundTrip.{Written, read-write, write-read}
 
 -- ---- the rules of the form, one by one
@@ -81,14 +84,6 @@ module _ (s : List ℕ) where
 
 -- ---- a bank that keeps the form is one that the lists hold
 
-each-of : {A : Type 0} (p : A → Bool) (P : A → Type 0) (d : A) → ((x : A) → p x ≡ true → P x) → P d → (xs : List A) → every p xs ≡ true → Each P d xs
-unfolding Each
-each-of p P d f k xs h i =
-    elim (decLt i (length xs)) [
-      | yes g ↦ f (getD xs i d) (every-at p xs d i h g)
-      | no g ↦ rw (List·getD-eq-default xs d {n = i} (omega arith)) k
-    ]
-
 azimuth-small : (z : ℤ) → inRange z ≡ true → IsAzimuth z
 unfolding inRange
 azimuth-small (pos n) h = let k = leb-true n 1800 h in omega arith
@@ -103,8 +98,8 @@ keeps-holds b k = record {
   few = within-true 1 8 (rows b) (k .few) .1;
   short = within-true 1 512 (b .length) (k .short) .1;
   count = k .count ∙ omega arith;
-  azimuths = each-of inRange IsAzimuth (pos 0) azimuth-small (omega arith) (b .azimuths) (k .range);
-  taps = each-of isTap IsFloat nan tap-fits (nan-fits binary32) (b .taps) (k .numbers);
+  azimuths = each-every IsAzimuth (pos 0) inRange azimuth-small (omega arith) (b .azimuths) (k .range);
+  taps = each-every IsFloat nan isTap tap-fits (nan-fits binary32) (b .taps) (k .numbers);
 }
 
 -- ---- exactly

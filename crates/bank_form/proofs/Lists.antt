@@ -1,39 +1,22 @@
--- The laws of `every`, `pairwise` and `tapsFrom`: what holds of the fields that stand a stride apart holds of their list, and the other way round. Assumes nothing.
+-- The laws of `pairwise` and `tapsFrom`: what holds of the fields that stand a stride apart holds of their list, and the other way round. Assumes nothing.
 use mathlib.Core.Path.{_≡_, refl, sym, ap, _∙_}
-use mathlib.Core.Bool.{Bool, true, false, _&&_, and-eq-true-iff, and-assoc, and-true}
-use mathlib.Core.List.{List, [], _∷_, _++_, append-assoc, append-nil}
+use mathlib.Core.Bool.{Bool, true, false, _&&_, and-eq-true-iff, and-true}
+use mathlib.Core.List.{List, [], _∷_, _++_, flatMap}
 use Prim.Native.Nat.{ℕ, zero, suc, _+_, _-_, _*_, _<_}
-use native.Mathlib.Nat.{le-of-suc-le-suc}
 use native.Mathlib.Decide.{decLt}
 use native.Mathlib.Numerals.{sub-one}
 use native.Mathlib.Omega.{arith}
-use lib.Ieee.{Float}
-use lib.ListN.{length, getD, length-append}
+use lib.ListN.{length}
+use Rattle.lists.specs.Tables.{every}
+use Rattle.lists.proofs.Every.{every-append}
+use Rattle.lists.proofs.Joined.{joined-none, joined-more, joined-snoc, length-joined}
 use Rattle.big_endian.specs.Fields.{floatAt}
 use Rattle.big_endian.specs.Lists.{strided}
-use Rattle.big_endian.proofs.Lists.{strided-none, length-strided, strided-snoc}
-use Rattle.bank_form.specs.Bank.{every, pairwise}
+use Rattle.big_endian.proofs.Lists.{strided-none, length-strided, strided-more, strided-snoc}
+use Rattle.bank_form.specs.Bank.{pairwise}
 use Rattle.bank_form.specs.FaultComputed.{rowSize, rowTaps, tapsFrom}
 
 module _ {A : Type 0} where
-  -- ---- every
-
-  pub every-append : (p : A → Bool) (xs ys : List A) → every p (xs ++ ys) ≡ (every p xs && every p ys)
-  unfolding every
-  every-append p [] ys = refl
-  every-append p (x ∷ xs) ys = rw (every-append p xs ys) (sym (and-assoc (p x) (every p xs) (every p ys)))
-
-  pub every-same : (p q : A → Bool) → ((x : A) → p x ≡ q x) → (xs : List A) → every p xs ≡ every q xs
-  unfolding every
-  every-same p q h [] = refl
-  every-same p q h (x ∷ xs) = rw (h x, every-same p q h xs)
-
-  pub every-at : (p : A → Bool) (xs : List A) (d : A) (i : ℕ) → every p xs ≡ true → i < length xs → p (getD xs i d) ≡ true
-  unfolding every
-  every-at p [] d i h g = absurd (omega arith)
-  every-at p (x ∷ xs) d zero h g = and-eq-true-iff (p x) (every p xs) .0 h .0
-  every-at p (x ∷ xs) d (suc i) h g = every-at p xs d i (and-eq-true-iff (p x) (every p xs) .0 h .1) (le-of-suc-le-suc g)
-
   -- ---- one more at the end
 
   pairwise-none : (r : A → A → Bool) → pairwise r [] ≡ true
@@ -41,7 +24,7 @@ module _ {A : Type 0} where
   pairwise-none r = refl
 
   pub pairwise-snoc : (r : A → A → Bool) (xs : List A) (y : A) → pairwise r (xs ++ (y ∷ [])) ≡ (pairwise r xs && every (λ (x : A). r x y) xs)
-  unfolding pairwise every
+  unfolding pairwise
   pairwise-snoc r [] y = refl
   pairwise-snoc r (x ∷ xs) y =
       rw (every-append (r x) xs (y ∷ []), pairwise-snoc r xs y, and-true (r x y)) (turn (every (r x) xs) (r x y) (pairwise r xs) (every (λ (z : A). r z y) xs))
@@ -54,13 +37,15 @@ module _ {A : Type 0} where
 
   module _ (f : ℕ → A) (w : ℕ) where
     pub every-none : (p : A → Bool) (at : ℕ) → every p (strided f w at 0) ≡ true
-    unfolding every strided
+    unfolding strided
     every-none p at = refl
 
+    pub every-more : (p : A → Bool) (at n : ℕ) → every p (strided f w at (suc n)) ≡ (p (f at) && every p (strided f w (at + w) n))
+    every-more p at n = ap (every p) (strided-more f w at n)
+
     pub every-next : (p : A → Bool) (at n : ℕ) → 0 < n → every p (strided f w at n) ≡ (p (f at) && every p (strided f w (at + w) (n - 1)))
-    unfolding every strided
     every-next p at zero h = absurd (omega arith)
-    every-next p at (suc n) h = rw (sub-one (suc n))
+    every-next p at (suc n) h = rw (sub-one (suc n)) (every-more p at n)
 
     -- each field differs from those before it exactly if they differ pairwise
     module _ (r : A → A → Bool) (at : ℕ) where
@@ -84,20 +69,18 @@ module _ {A : Type 0} where
 
 pub taps-none : (s : List ℕ) (l at : ℕ) → tapsFrom s l at 0 ≡ []
 unfolding tapsFrom
-taps-none s l at = refl
+taps-none s l at = ap (flatMap (rowTaps s l)) (strided-none (λ p. p) (rowSize l) at) ∙ joined-none (rowTaps s l)
 
 pub length-taps : (s : List ℕ) (l at n : ℕ) → length (tapsFrom s l at n) ≡ n * (2 * l)
 unfolding tapsFrom
-length-taps s l at zero = omega arith
-length-taps s l at (suc n) =
-    length-append (rowTaps s l at) (tapsFrom s l (at + rowSize l) n)
-    ∙ omega (arith, length-strided (floatAt s) 4 (at + 2) (2 * l), length-taps s l (at + rowSize l) n)
+length-taps s l at n =
+    length-joined (rowTaps s l) (2 * l) (λ p. length-strided (floatAt s) 4 (p + 2) (2 * l)) (strided (λ p. p) (rowSize l) at n) ∙ ap (λ (k : ℕ). k * (2 * l)) (length-strided (λ p. p) (rowSize l) at n)
+
+-- one row more before the others, and behind them
+pub taps-more : (s : List ℕ) (l at n : ℕ) → tapsFrom s l at (suc n) ≡ rowTaps s l at ++ tapsFrom s l (at + rowSize l) n
+unfolding tapsFrom
+taps-more s l at n = ap (flatMap (rowTaps s l)) (strided-more (λ p. p) (rowSize l) at n) ∙ joined-more (rowTaps s l) at (strided (λ p. p) (rowSize l) (at + rowSize l) n)
 
 pub taps-snoc : (s : List ℕ) (l at n : ℕ) → tapsFrom s l at (suc n) ≡ tapsFrom s l at n ++ rowTaps s l (at + n * rowSize l)
 unfolding tapsFrom
-taps-snoc s l at zero = let q : at + 0 * rowSize l ≡ at = omega arith in rw q (append-nil (rowTaps s l at))
-taps-snoc s l at (suc n) =
-    let w = rowSize l in
-    let q : at + w + n * w ≡ at + suc n * w = omega arith in
-    ap (λ (t : List Float). rowTaps s l at ++ t) (taps-snoc s l (at + w) n ∙ ap (λ (k : ℕ). tapsFrom s l (at + w) n ++ rowTaps s l k) q)
-    ∙ sym (append-assoc (rowTaps s l at) (tapsFrom s l (at + w) n) (rowTaps s l (at + suc n * w)))
+taps-snoc s l at n = ap (flatMap (rowTaps s l)) (strided-snoc (λ p. p) (rowSize l) at n) ∙ joined-snoc (rowTaps s l) (strided (λ p. p) (rowSize l) at n) (at + n * rowSize l)

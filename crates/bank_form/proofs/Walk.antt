@@ -6,7 +6,7 @@ use Prim.Native.Nat.{ℕ, zero, suc, _+_, _-_, _*_, _≤_, _<_, suc-le-suc}
 use native.Mathlib.Nat.{le-of-suc-le-suc}
 use native.Mathlib.Numerals.{sub-one}
 use native.Mathlib.Omega.{arith}
-use borrow.Author.Tests.{ltb-false, leb-true, eqb-true, eqb-false, lt-ltb, le-ltb, le-leb, lt-leb, eq-eqb, ne-eqb}
+use borrow.Author.Tests.{ltb-false, eqb-true, eqb-false, lt-ltb, le-ltb, eq-eqb, ne-eqb}
 use lib.Dec.{ltb, eqb}
 use lib.Ieee.{binary32, fits}
 use lib.Ieee.Bits.{is-true, ofBits-fits}
@@ -16,9 +16,13 @@ use lib.ListN.{length}
 use Rattle.big_endian.specs.Fields.{fieldAt, signedAt, floatAt}
 use Rattle.big_endian.specs.Lists.{strided}
 use Rattle.bank_form.specs.declared.Fault.{Fault}
-use Rattle.bank_form.specs.Bank.{within, inRange, differ, isTap, every}
+use Rattle.lists.specs.Tables.{every}
+use Rattle.refusals.specs.Ranges.{within}
+use Rattle.refusals.proofs.Ranges.{within-true, within-in}
+use Rattle.bank_form.specs.Bank.{inRange, differ, isTap}
 use Rattle.bank_form.specs.FaultComputed.{rowSize, azimuthsFrom, rowTaps, tapsFrom, rowsIn, lengthIn, sound, wrong, orElse, field, tapsFault, isNew, rowFault, rowsFault, headField, headFault, fault}
-use Rattle.bank_form.proofs.Lists.{every-append, every-next, every-none}
+use Rattle.lists.proofs.Every.{every-append}
+use Rattle.bank_form.proofs.Lists.{every-none, every-more, every-next, taps-none, taps-more}
 use Rattle.bank_form.proofs.Azimuths.{differ-same, differ-other}
 
 -- ---- one walk after another
@@ -90,19 +94,19 @@ module _ (s : List ℕ) where
   unfolding floatAt isTap
   tap-is at = rw (is-true (fits binary32 (floatAt s at)) (ofBits-fits binary32 (fieldAt s at 4)))
 
-  taps-none : (at n : ℕ) → tapsFault s at n .refusal ≡ 0 → every isTap (strided (floatAt s) 4 at n) ≡ true
-  unfolding tapsFault every strided
-  taps-none at zero e = refl
-  taps-none at (suc n) e =
+  taps-good : (at n : ℕ) → tapsFault s at n .refusal ≡ 0 → every isTap (strided (floatAt s) 4 at n) ≡ true
+  unfolding tapsFault
+  taps-good at zero e = every-none (floatAt s) 4 isTap at
+  taps-good at (suc n) e =
       let both = else-none (field (length s) at 4 18 (finite (floatAt s at))) (tapsFault s (at + 4) n) e in
       let here = field-none (length s) at 4 18 (finite (floatAt s at)) (omega arith) (both .0) in
-      and-eq-true-iff _ _ .1 (tap-is at ∙ here .1, taps-none (at + 4) n (both .1))
+      every-more (floatAt s) 4 isTap at n ∙ and-eq-true-iff _ _ .1 (tap-is at ∙ here .1, taps-good (at + 4) n (both .1))
 
   taps-sound : (at n : ℕ) → at + 4 * n ≤ length s → every isTap (strided (floatAt s) 4 at n) ≡ true → tapsFault s at n ≡ sound
-  unfolding tapsFault every strided
+  unfolding tapsFault
   taps-sound at zero h e = refl
   taps-sound at (suc n) h e =
-      let both = and-eq-true-iff _ _ .0 e in
+      let both = and-eq-true-iff _ _ .0 (sym (every-more (floatAt s) 4 isTap at n) ∙ e) in
       else-sound _ _ (field-good (length s) at 4 18 _ (omega arith) (sym (tap-is at) ∙ both .0)) (taps-sound (at + 4) n (omega arith) (both .1))
 
 -- ---- rows
@@ -156,7 +160,7 @@ module _ (s : List ℕ) (l : ℕ) where
   row-none i at e =
       let both = else-none _ _ (ap (λ (f : Fault). f .refusal) (sym (row-is i at)) ∙ e) in
       let good = and-eq-true-iff _ _ .0 (field-none (length s) at 2 17 _ (omega arith) (both .0) .1) in
-      record { range = good .0; new = good .1; taps = taps-none s (at + 2) (2 * l) (both .1) }
+      record { range = good .0; new = good .1; taps = taps-good s (at + 2) (2 * l) (both .1) }
 
   row-sound : (i at : ℕ) → at + rowSize l ≤ length s → Row i at → rowFault s l i at ≡ sound
   row-sound i at h r =
@@ -167,9 +171,18 @@ module _ (s : List ℕ) (l : ℕ) where
   moved : (i j at to : ℕ) → i ≡ j → at ≡ to → New s l i at → New s l j to
   moved i j at to e f h = subst₂ (New s l) e f h
 
+  -- the taps of n rows and one more are taps if the first row's are, and the others'
+  pub taps-parted : (at n : ℕ) → every isTap (tapsFrom s l at (suc n)) ≡ (every isTap (rowTaps s l at) && every isTap (tapsFrom s l (at + rowSize l) n))
+  taps-parted at n = ap (every isTap) (taps-more s l at n) ∙ every-append isTap (rowTaps s l at) (tapsFrom s l (at + rowSize l) n)
+
   pub rows-none : (i at n : ℕ) → rowsFault s l i at n .refusal ≡ 0 → Rows s l i at n
-  unfolding rowsFault every strided tapsFrom
-  rows-none i at zero e = record { size = ended (eqb (length s) at) refl; range = refl; new = λ j h. absurd (omega arith); taps = refl }
+  unfolding rowsFault
+  rows-none i at zero e = record {
+    size = ended (eqb (length s) at) refl;
+    range = every-none (signedAt s) (rowSize l) inRange at;
+    new = λ j h. absurd (omega arith);
+    taps = ap (every isTap) (taps-none s l at);
+  }
     where
       ended : (t : Bool) → eqb (length s) at ≡ t → length s ≡ at + 0 * rowSize l
       ended true k = eqb-true (length s) at k ∙ omega arith
@@ -180,20 +193,20 @@ module _ (s : List ℕ) (l : ℕ) where
       let rest = rows-none (i + 1) (at + rowSize l) n (both .1) in
       record {
         size = rest .size ∙ omega arith;
-        range = and-eq-true-iff _ _ .1 (row .range, rest .range);
+        range = every-more (signedAt s) (rowSize l) inRange at n ∙ and-eq-true-iff _ _ .1 (row .range, rest .range);
         new = elim [
           | zero ↦ λ h. moved i (i + 0) at (at + 0 * rowSize l) (omega arith) (omega arith) (row .new)
           | suc j ↦ λ h. moved (i + 1 + j) (i + suc j) (at + rowSize l + j * rowSize l) (at + suc j * rowSize l) (omega arith) (omega arith) (rest .new j (le-of-suc-le-suc h))
         ];
-        taps = every-append isTap (rowTaps s l at) (tapsFrom s l (at + rowSize l) n) ∙ and-eq-true-iff _ _ .1 (row .taps, rest .taps);
+        taps = taps-parted at n ∙ and-eq-true-iff _ _ .1 (row .taps, rest .taps);
       }
 
   pub rows-sound : (i at n : ℕ) → Rows s l i at n → rowsFault s l i at n ≡ sound
-  unfolding rowsFault every strided tapsFrom
+  unfolding rowsFault
   rows-sound i at zero r = rw (eq-eqb (length s) at (r .size ∙ omega arith))
   rows-sound i at (suc n) r =
-      let ranges = and-eq-true-iff _ _ .0 (r .range) in
-      let taps = and-eq-true-iff _ _ .0 (sym (every-append isTap (rowTaps s l at) (tapsFrom s l (at + rowSize l) n)) ∙ r .taps) in
+      let ranges = and-eq-true-iff _ _ .0 (sym (every-more (signedAt s) (rowSize l) inRange at n) ∙ r .range) in
+      let taps = and-eq-true-iff _ _ .0 (sym (taps-parted at n) ∙ r .taps) in
       let size = r .size in
       else-sound _ _
       (row-sound i at (omega arith) (record { range = ranges .0; new = moved (i + 0) i (at + 0 * rowSize l) at (omega arith) (omega arith) (r .new 0 (omega arith)); taps = taps .0 }))
@@ -205,18 +218,6 @@ module _ (s : List ℕ) (l : ℕ) where
       }))
 
 -- ---- the whole file
-
-pub within-true : (low high n : ℕ) → within low high n ≡ true → (low ≤ n) × (n ≤ high)
-unfolding within
-within-true low high n h = let both = and-eq-true-iff _ _ .0 h in (leb-true low n (both .0), leb-true n high (both .1))
-
-pub within-in : (low high n : ℕ) → low ≤ n → n ≤ high → within low high n ≡ true
-unfolding within
-within-in low high n h g = rw (le-leb low n h, le-leb n high g)
-
-pub within-high : (low high n : ℕ) → low ≤ n → high < n → within low high n ≡ false
-unfolding within
-within-high low high n h g = rw (le-leb low n h, lt-leb n high g)
 
 -- what a head says in which the walk finds nothing, and a file
 pub record Head (s : List ℕ) : Type 0 where
@@ -247,7 +248,7 @@ head-none s e =
     }
 
 head-sound : (s : List ℕ) → 9 ≤ length s → Head s → headFault s ≡ sound
-unfolding headFault headField within
+unfolding headFault headField
 head-sound s nine h =
     let size = length s in
     let version : within 1 1 (fieldAt s 0 1) ≡ true = rw (h .version) in

@@ -3,12 +3,14 @@
 use Prim.Native.Nat.{ℕ, _*_}
 use mathlib.Core.Bool.{Bool, true, _&&_, _||_}
 use mathlib.Core.List.{List, [], _∷_}
-use lib.Dec.{leb, eqb}
+use lib.Dec.{eqb}
 use lib.Ieee.{Float, binary32, fits}
 use lib.Ieee.Scale.{finite}
 use lib.IntN.{ℤ, pos, negsuc}
 use lib.ListN as ListN
-use lib.Signed.{leZ, ltZ}
+use lib.Signed.{ltZ}
+use Rattle.refusals.specs.Ranges.{within, between}
+use Rattle.lists.specs.Tables.{every}
 
 -- a bank: an azimuth for each row, L, and the taps in file order, for each row those of the left ear and then those of the right
 pub record Bank : Type 0 where
@@ -19,12 +21,9 @@ pub record Bank : Type 0 where
 abbrev pub rows : Bank → ℕ
 rows b = ListN.length (b .azimuths)
 
-unfoldable pub within : ℕ → ℕ → ℕ → Bool
-within low high n = leb low n && leb n high
-
 -- -1799 .. 1800
 unfoldable pub inRange : ℤ → Bool
-inRange z = leZ (negsuc 1798) z && leZ z (pos 1800)
+inRange z = between (negsuc 1798) (pos 1800) z
 
 unfoldable pub differ : ℤ → ℤ → Bool
 differ a b = ltZ a b || ltZ b a
@@ -32,10 +31,6 @@ differ a b = ltZ a b || ltZ b a
 -- an f32 that is neither a NaN nor an infinity
 unfoldable pub isTap : Float → Bool
 isTap x = fits binary32 x && finite x
-
-unfoldable pub every : {A : Type 0} → (A → Bool) → List A → Bool
-every p [] = true
-every p (x ∷ xs) = p x && every p xs
 
 -- each with each that comes after it
 unfoldable pub pairwise : {A : Type 0} → (A → A → Bool) → List A → Bool

@@ -4,16 +4,18 @@
 -- field's first byte, and 19, at the file's length, a field that does not end in the file.
 use Prim.Native.Nat.{ℕ, zero, suc, _+_, _-_, _*_}
 use mathlib.Core.Bool.{Bool, cond, _&&_}
-use mathlib.Core.List.{List, [], _++_}
+use mathlib.Core.List.{List, flatMap}
 use lib.Dec.{ltb, eqb}
 use lib.Ieee.{Float}
 use lib.Ieee.Scale.{finite}
 use lib.IntN.{ℤ}
 use lib.ListN.{length}
 use Rattle.big_endian.specs.Fields.{fieldAt, signedAt, floatAt}
-use Rattle.big_endian.specs.Lists.{strided}
+use Rattle.big_endian.specs.Lists.{strided, floatsAt}
 use Rattle.bank_form.specs.declared.Fault.{Fault}
-use Rattle.bank_form.specs.Bank.{Bank, within, inRange, differ, every}
+use Rattle.lists.specs.Tables.{every}
+use Rattle.refusals.specs.Ranges.{within}
+use Rattle.bank_form.specs.Bank.{Bank, inRange, differ}
 
 -- ---- what stands in the bytes
 
@@ -26,11 +28,10 @@ abbrev pub azimuthsFrom : List ℕ → ℕ → ℕ → ℕ → List ℤ
 azimuthsFrom s l at n = strided (signedAt s) (rowSize l) at n
 
 abbrev pub rowTaps : List ℕ → ℕ → ℕ → List Float
-rowTaps s l at = strided (floatAt s) 4 (at + 2) (2 * l)
+rowTaps s l at = floatsAt s (at + 2) (2 * l)
 
 unfoldable pub tapsFrom : List ℕ → ℕ → ℕ → ℕ → List Float
-tapsFrom s l at zero = []
-tapsFrom s l at (suc n) = rowTaps s l at ++ tapsFrom s l (at + rowSize l) n
+tapsFrom s l at n = flatMap (rowTaps s l) (strided (λ p. p) (rowSize l) at n)
 
 abbrev pub rowsIn : List ℕ → ℕ
 rowsIn s = fieldAt s 5 2

@@ -1,17 +1,13 @@
 -- What lists of i16 and f32 are, and a bank that such lists hold. Definitions only.
 use mathlib.Core.Path.{_≡_}
-use mathlib.Core.List.{List}
-use Prim.Native.Nat.{ℕ, _*_, _^_, _≤_, _<_}
+use Prim.Native.Nat.{_*_, _^_, _≤_, _<_}
 use lib.Dec.{T}
 use lib.Ieee.{Float, nan, binary32, fits}
 use lib.IntN.{ℤ, pos}
-use lib.ListN.{length, getD}
+use lib.ListN.{length}
 use lib.Signed.{mag}
+use Rattle.lists.specs.Each.{Each}
 use Rattle.bank_form.specs.Bank.{Bank, rows}
-
--- every element is of a kind, and beyond them the default is too, as in every slice
-unfoldable pub Each : {A : Type 0} → (A → Type 0) → A → List A → Type 0
-Each P d xs = (i : ℕ) → P (getD xs i d)
 
 abbrev pub IsAzimuth : ℤ → Type 0
 IsAzimuth z = mag z < 2 ^ 15

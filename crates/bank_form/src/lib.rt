@@ -1,9 +1,12 @@
-// The form of the filter bank file (document 01, item 8 and 'Filter bank file'): what a bank is, when it
-// keeps the form, and its bytes; and the walk over a list of bytes, field by field, that finds the first
-// which breaks the form, with its offset. Definitions and laws alone: no function stands here. The laws
-// say that what is written and read is the same bank, that what is read and written is the same bytes,
-// and that the walk finds nothing exactly if the bytes are those of a bank that keeps the form. Under it
-// lie the big-endian fields.
+// The form of the filter bank file (document 01, item 8 and 'Filter bank file'). Definitions and laws
+// alone: no function stands here.
+//
+// specs/Bank.antt has what a bank is and when it keeps the form, specs/Encoding.antt its bytes, and
+// specs/File.antt what a bank file is; specs/FaultComputed.antt the walk over a list of bytes, field by
+// field, that finds the first which breaks the form, with its offset. The laws say that what is written
+// and read is the same bank, and what is read and written the same bytes (proofs/RoundTrip.antt), and that
+// the walk finds nothing exactly if the bytes are those of a bank that keeps the form (proofs/Exact.antt).
+// Under it lie the big-endian fields, `lists` and the ranges of `refusals`.
 
 // The first field that breaks the form: the number that tells which, and the offset of its first byte.
 // Both are 0 where none does.

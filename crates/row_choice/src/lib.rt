@@ -91,10 +91,7 @@ pub fn nearest_row(azimuths: &[i16], rows: usize, speaker: i16) -> Choice
     if refusals::is_outside(rows, 8) {
         return unchosen(2);
     }
-    if speaker < -1800 {
-        return unchosen(3);
-    }
-    if 1800 < speaker {
+    if !refusals::is_between(speaker, -1800, 1800) {
         return unchosen(3);
     }
     if azimuths.len() != 8 {

@@ -1,14 +1,14 @@
 -- `bank::fill_rows` meets its contract. The azimuths and the taps of the rows read so far stand at the start of their lists. Assumes nothing.
 use mathlib.Core.Path.{_≡_, sym, ap, _∙_}
-use Prim.Native.Nat.{ℕ, _-_, _≤_}
+use Prim.Native.Nat.{ℕ, _+_, _-_, _*_, _≤_}
 use native.Mathlib.Omega.{arith}
 use lib.ListN.{length}
 use mir.Syntax.{w16}
 use Rattle.big_endian.specs.Fields.{signedAt}
-use Rattle.big_endian.specs.Placed.{placed}
+use Rattle.lists.specs.Placed.{placed}
 use Rattle.big_endian.specs.Lists.{strided}
-use Rattle.big_endian.proofs.Lists.{read-none, read-kept}
-use Rattle.big_endian.proofs.Placed.{placed-none, length-placed}
+use Rattle.lists.proofs.Filling.{fill-kept}
+use Rattle.lists.proofs.Placed.{placed-none, length-placed}
 use Rattle.big_endian.proofs.Signed.{back}
 use Rattle.bank_form.specs.FaultComputed.{rowSize, azimuthsFrom, rowTaps, tapsFrom}
 use Rattle.bank_form.proofs.Lists.{taps-none, length-taps}
@@ -25,9 +25,10 @@ abbrev μ-loop : tie.MeasureT-loop
 -- the lists are as long as they were
 module _ (c : tie.At-loop Inv-loop μ-loop) where
   kept-azimuths : length (c .loop .azimuths) ≡ length (c .before .before .before .args .azimuths .now)
+  unfolding strided
   kept-azimuths =
       let args = c .before .before .before .args in
-      read-kept (signedAt (args .file .now)) (rowSize (args .l)) 9 _ _ 0 (c .loop .i) (c .loop .inv .1) (omega arith)
+      fill-kept (λ k. signedAt (args .file .now) (9 + k * rowSize (args .l))) _ 0 _ (c .loop .i) (c .loop .inv .1) (omega arith)
 
   kept-taps : length (c .loop .taps) ≡ length (c .before .before .before .args .taps .now)
   kept-taps =
@@ -37,7 +38,8 @@ module _ (c : tie.At-loop Inv-loop μ-loop) where
       ap length (c .loop .inv .2) ∙ length-placed _ _ _ (omega arith)
 
 loop-holds : tie.Need-loop-holds Inv-loop μ-loop
-loop-holds c = (omega arith, read-none _ _ _ _ _, sym (ap (placed _ _) (taps-none _ _ _) ∙ placed-none _ _))
+unfolding strided
+loop-holds c = (omega arith, sym (placed-none _ _), sym (ap (placed _ _) (taps-none _ _ _) ∙ placed-none _ _))
 
 row-at-requires : tie.Need-row-at-requires Inv-loop μ-loop
 row-at-requires c κs = omega arith

@@ -1,12 +1,13 @@
 -- `bank::fill_taps` meets its contract. The taps read so far stand in the list from q on. Assumes nothing.
-use mathlib.Core.Path.{_≡_, ap, _∙_}
-use Prim.Native.Nat.{_-_, _≤_}
+use mathlib.Core.Path.{_≡_, sym, ap, _∙_}
+use Prim.Native.Nat.{_+_, _-_, _*_, _≤_}
 use native.Mathlib.Omega.{arith}
 use lib.ListN.{length}
 use Rattle.big_endian.specs.Fields.{floatAt}
-use Rattle.big_endian.specs.Placed.{placed}
+use Rattle.lists.specs.Placed.{placed}
 use Rattle.big_endian.specs.Lists.{strided}
-use Rattle.big_endian.proofs.Lists.{read-none, read-kept, read-more}
+use Rattle.lists.proofs.Filling.{fill-kept, fill-more}
+use Rattle.lists.proofs.Placed.{placed-none}
 use Rattle.bank.proofs.fill_taps.Statement.{statement}
 use Rattle.bank.proofs.fill_taps.Tie as tie
 
@@ -18,12 +19,14 @@ abbrev μ-loop : tie.MeasureT-loop
 
 -- the list is as long as it was
 kept : (c : tie.At-loop Inv-loop μ-loop) → length (c .loop .taps) ≡ length (c .before .before .before .args .taps .now)
+unfolding strided
 kept c =
     let args = c .before .before .before .args in
-    read-kept (floatAt (args .file .now)) 4 (args .at) _ _ (args .q) (c .loop .k) (c .loop .inv .1) (omega arith)
+    fill-kept (λ k. floatAt (args .file .now) (args .at + k * 4)) _ (args .q) _ (c .loop .k) (c .loop .inv .1) (omega arith)
 
 loop-holds : tie.Need-loop-holds Inv-loop μ-loop
-loop-holds c = (omega arith, read-none _ _ _ _ _)
+unfolding strided
+loop-holds c = (omega arith, sym (placed-none _ _))
 
 mul-get-f32 : tie.Need-mul-get-f32 Inv-loop μ-loop
 mul-get-f32 c = omega arith
@@ -50,10 +53,11 @@ loop-less : tie.Need-loop-less Inv-loop μ-loop
 loop-less c = omega arith
 
 loop-again : tie.Need-loop-again Inv-loop μ-loop
+unfolding strided
 loop-again c =
     let args = c .before .before .before .before .before .args in
     let turn = c .before .before .loop in
-    (omega arith, read-more (floatAt (args .file .now)) 4 (args .at) (args .taps .now) (turn .taps) (args .q) (turn .k) _ (turn .inv .1) (omega arith) (c .get-f32 .ensures))
+    (omega arith, fill-more (λ k. floatAt (args .file .now) (args .at + k * 4)) (args .taps .now) (args .q) (turn .taps) (turn .k) _ (turn .inv .1) (omega arith) (c .get-f32 .ensures))
 
 same-length : tie.Need-same-length Inv-loop μ-loop
 same-length c = kept (c .before)

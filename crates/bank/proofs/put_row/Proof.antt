@@ -9,10 +9,11 @@ use mir.Val.{toZ, ofZ}
 use mir.Facts.{toZ-ofZ}
 use Rattle.big_endian.specs.Bytes.{bytesOf}
 use Rattle.big_endian.specs.Fields.{withSigned}
-use Rattle.big_endian.specs.Placed.{placed}
+use Rattle.lists.specs.Placed.{placed}
 use Rattle.big_endian.specs.Lists.{floatBytes}
 use Rattle.big_endian.proofs.Bytes.{length-bytes}
-use Rattle.big_endian.proofs.Fields.{field-put, length-part}
+use Rattle.big_endian.proofs.Fields.{field-put}
+use Rattle.lists.proofs.Tables.{length-part}
 use Rattle.big_endian.proofs.Lists.{part-more, length-fieldBytes}
 use borrow.Author.Needs.{needs}
 use Rattle.bank.proofs.put_row.Statement.{statement}

@@ -1,5 +1,5 @@
 -- `bank::put_rows` meets its contract. The rows put so far stand behind the head. Assumes nothing.
-use mathlib.Core.Path.{_≡_, sym, ap, _∙_}
+use mathlib.Core.Path.{_≡_, refl, sym, ap, _∙_}
 use mathlib.Core.List.{List}
 use Prim.Native.Nat.{ℕ, _-_, _*_, _≤_, _<_}
 use native.Mathlib.Omega.{arith}
@@ -8,13 +8,15 @@ use lib.IntN.{ℤ, pos}
 use lib.ListN.{length, getD, take}
 use lib.Seq.{take-length}
 use mir.Syntax.{w16}
-use Rattle.big_endian.specs.Placed.{placed}
-use Rattle.big_endian.proofs.Placed.{placed-none, length-placed}
+use Rattle.lists.specs.Placed.{placed}
+use Rattle.lists.proofs.Placed.{placed-none, length-placed}
 use Rattle.big_endian.proofs.Signed.{back}
 use Rattle.bank_form.specs.Encoding.{rowBytes}
 use Rattle.bank_form.specs.HoldsComputed.{IsAzimuth}
-use Rattle.bank_form.proofs.RoundTrip.{oneRow, row-fits, rows-reach}
-use Rattle.bank.proofs.Fill.{no-rows, rows-more, length-rows, each-azimuth}
+use Rattle.bank_form.proofs.RoundTrip.{oneRow, rows-reach}
+use Rattle.lists.proofs.Tables.{row-end}
+use Rattle.lists.proofs.Each.{each-in}
+use Rattle.bank.proofs.Fill.{no-rows, rows-more, length-rows}
 use Rattle.bank.proofs.put_rows.Statement.{statement}
 use Rattle.bank.proofs.put_rows.Tie as tie
 
@@ -53,7 +55,7 @@ put-row-requires c κs =
     let args = c .before .before .before .before .before .before .before .before .args in
     let turn = c .before .before .before .before .before .loop in
     let start = c .before .before .before .before .before .before .before .before in
-    let taps = row-fits (turn .i) (length (args .azimuths .now)) (2 * args .l) (c .before .before .before .before .loop-test .taken) in
+    let taps = row-end (turn .i) (length (args .azimuths .now)) (2 * args .l) _ (c .before .before .before .before .loop-test .taken) refl in
     let long = kept (c .before .before .before .before .before) in
     omega (arith, c .before .before .tap-at .ensures, c .row-at .ensures)
 
@@ -88,7 +90,7 @@ returns c =
     let done : c .before .loop .i ≡ length (args .azimuths .now) = omega arith in (
       c .before .loop .inv .1
           ∙ ap (λ (zs : List ℤ). placed (args .file .now) 9 (rowBytes zs (args .l) (args .taps .now))) (ap (λ (k : ℕ). take k (args .azimuths .now)) done ∙ take-length (args .azimuths .now)),
-      each-azimuth (args .azimuths .now) (λ j h. c .before .loop .inv .2 j (omega arith)),
+      each-in IsAzimuth (pos 0) (args .azimuths .now) (omega arith) (λ j h. c .before .loop .inv .2 j (omega arith)),
     )
 
 pub put-rows-spec : {M : Type 1} → statement M

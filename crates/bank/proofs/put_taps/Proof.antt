@@ -5,7 +5,7 @@ use native.Mathlib.Omega.{arith}
 use lib.Ieee.{Float, nan, binary32, toBits}
 use lib.ListN.{length, take, drop, length-drop}
 use lib.Seq.{getD-drop}
-use Rattle.big_endian.specs.Placed.{placed}
+use Rattle.lists.specs.Placed.{placed}
 use Rattle.big_endian.specs.Fields.{withFloat, withField}
 use Rattle.big_endian.specs.Lists.{floatBytes}
 use Rattle.big_endian.proofs.Lists.{write-none, write-kept, write-more}

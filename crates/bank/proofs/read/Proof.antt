@@ -3,7 +3,8 @@ use mathlib.Core.Path.{_≡_, sym, ap, _∙_}
 use Rattle.bank_form.specs.declared.Fault.{Fault}
 use Rattle.bank_form.specs.FaultComputed.{fault, rowsIn, lengthIn}
 use Rattle.bank_form.proofs.Exact.{exactly, is-file, no-file}
-use Rattle.bank_form.proofs.Walk.{whole, within-true}
+use Rattle.refusals.proofs.Ranges.{within-true}
+use Rattle.bank_form.proofs.Walk.{whole}
 use Rattle.bank.proofs.Answers.{azimuths-lent, taps-lent, broken, accepted, filled}
 use borrow.Author.Needs.{needs}
 use Rattle.bank.proofs.read.Statement.{statement}

@@ -10,7 +10,7 @@ use Rattle.bank_form.specs.declared.Fault.{Fault}
 use Rattle.bank_form.specs.Bank.{Bank, valid}
 use Rattle.bank_form.specs.Encoding.{encode}
 use Rattle.bank_form.specs.FaultComputed.{fault, isFile}
-use Rattle.bank_form.specs.HoldsComputed.{Each, Holds}
+use Rattle.bank_form.specs.HoldsComputed.{Holds}
 use Rattle.bank_form.proofs.Exact.{is-file, no-file, written-exactly}
 use Rattle.bank_form.proofs.RoundTrip.{length-encode, rows-reach}
 use Rattle.bank.proofs.Answers.{Lent, breaks, written, wrote}
@@ -46,7 +46,6 @@ module _ (c : tie.After-put-bank) where
   lent = record { count = c .before .before .before .before .before .pre .2 ∙ omega arith; size = sym size }
 
   held : Holds bank
-  unfolding Each
   held =
       let start = c .before .before .before .before .before in
       record { few = start .pre .1; short = start .pre .0; count = start .pre .2; azimuths = c .put-bank .ensures .1; taps = λ i. c .before .before .before .before .shared-slice-known .given i }

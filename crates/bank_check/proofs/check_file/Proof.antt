@@ -1,10 +1,11 @@
 -- `bank_check::check_file` meets its contract. Assumes nothing.
 use mathlib.Core.Path.{sym, ap, ap₂, _∙_}
 use Prim.Native.Nat.{ℕ}
+use Rattle.refusals.proofs.Ranges.{within-true}
 use Rattle.bank_form.specs.declared.Fault.{Fault}
 use Rattle.bank_form.specs.FaultComputed.{rowsIn, lengthIn, rowsFault}
 use Rattle.bank_form.proofs.Exact.{exactly}
-use Rattle.bank_form.proofs.Walk.{head-none, within-true, else-stop, else-on, fault-is}
+use Rattle.bank_form.proofs.Walk.{head-none, else-stop, else-on, fault-is}
 use borrow.Author.Needs.{needs}
 use Rattle.bank_check.proofs.check_file.Statement.{statement}
 use Rattle.bank_check.proofs.check_file.Tie as tie

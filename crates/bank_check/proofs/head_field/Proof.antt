@@ -1,7 +1,7 @@
 -- `bank_check::head_field` meets its contract. Assumes nothing.
 use mathlib.Core.Path.{_≡_, ap, _∙_}
 use Rattle.big_endian.specs.Fields.{fieldAt}
-use Rattle.bank_form.specs.Bank.{within}
+use Rattle.refusals.specs.Ranges.{within}
 use Rattle.bank_form.specs.FaultComputed.{field, headField}
 use borrow.Author.Needs.{needs}
 use Rattle.bank_check.proofs.head_field.Statement.{statement}

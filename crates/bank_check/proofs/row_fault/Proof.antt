@@ -26,18 +26,19 @@ module _ (c : tie.After-field-fault) where
 
   azimuth : let args = c .before .before .before .before .before .args in
       c .field-fault .result ≡ field (length file) (args .at) 2 17 (inRange here && isNew file (args .l) here 9 (args .i))
+  unfolding inRange
   azimuth =
       let call = c .before .before .before .get-i16 in
       let z = back w16 (call .result) (call .ok) ∙ call .ensures in
-      let range = c .before .before .in-range .ensures ∙ ap inRange z in
+      let range = c .before .before .is-between .ensures ∙ ap inRange z in
       c .field-fault .ensures
       ∙ ap (field _ _ _ _) (⊎-elim (λ w. w .2 ∙ w .1 .ensures ∙ rw (sym range ∙ w .0 .taken, z)) (λ w. w .1 ∙ w .0 .left ∙ rw (sym range ∙ w .0 .left)) (c .before .if1 .came))
 
 get-i16-requires : tie.Need-get-i16-requires
 get-i16-requires c κs = search needs
 
-in-range-requires : tie.Need-in-range-requires
-in-range-requires c κs = search needs
+is-between-requires : tie.Need-is-between-requires
+is-between-requires c κs = search needs
 
 is-new-requires : tie.Need-is-new-requires
 is-new-requires c κs = search needs
@@ -65,7 +66,7 @@ row-fault-spec =
     tie.close
     (tie.spec
     get-i16-requires
-    in-range-requires
+    is-between-requires
     is-new-requires
     field-fault-requires
     returns
