@@ -1,11 +1,12 @@
 -- A desk whose position is below L goes on: its position stays below L, and so do its frames to go. Assumes nothing.
-use Prim.Native.Nat.{ℕ, _+_, _-_, _<_}
+use Prim.Native.Nat.{ℕ, _+_, _<_}
 use mathlib.Core.Path.{_≡_, sym, ap, subst}
 use mathlib.Core.Bool.{Bool, true, false, cond}
 use native.Mathlib.Nat.{mod-lt}
 use native.Mathlib.Omega.{arith}
 use borrow.Author.Tests.{lt-ltb}
 use Rattle.desk.specs.declared.Desk.{Desk}
+use Rattle.desk.specs.Numbers.{toGoNext}
 use Rattle.desk.specs.Steps.{advanced, steppedOf}
 
 module _ (L : ℕ) (bad : Bool) (d : Desk) (h : d .position < L) where
@@ -18,6 +19,6 @@ module _ (L : ℕ) (bad : Bool) (d : Desk) (h : d .position < L) where
   pub waits-below : d .«to_go» < L → steppedOf L bad d .«to_go» < L
   waits-below w = subst (λ (e : Desk). e .«to_go» < L) (sym desk-on) (fewer bad)
     where
-      fewer : (b : Bool) → cond b (L - 1) (d .«to_go» - 1) < L
+      fewer : (b : Bool) → toGoNext L b (d .«to_go») < L
       fewer true = omega (arith, h)
       fewer false = omega (arith, w)

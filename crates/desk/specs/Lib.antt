@@ -1,2 +1,3 @@
 -- The words of the promises of `desk`.
+pub mod Numbers
 pub mod Steps

@@ -4,8 +4,8 @@
 // `step` changes a lent record where it stands: the convolver's block lends it its own after each frame. They
 // take any record, and promise the record one frame on by an equation. Under it lies `refusals`, for a law.
 ghost use mathlib.Core.Path.{_≡_};
-ghost use mathlib.Core.Bool.{cond};
-ghost use Prim.Native.Nat.{_-_, _<_};
+ghost use Prim.Native.Nat.{_<_};
+ghost use Rattle.desk.specs.Numbers.{toGoNext};
 ghost use Rattle.desk.specs.Steps.{steppedOf};
 
 pub struct Desk {
@@ -16,7 +16,7 @@ pub struct Desk {
 // How many frames are to go after a frame.
 fn left_to_go(to_go: usize, length: usize, damaged: bool) -> usize
     requires { ⌜ 0 < length ⌝ }
-    ensures { λ r. ⌜ r ≡ cond damaged (length - 1) («to_go» - 1) ⌝ }
+    ensures { λ r. ⌜ r ≡ toGoNext length damaged «to_go» ⌝ }
 {
     if damaged {
         return length - 1;

@@ -3,15 +3,16 @@
 use mathlib.Core.Path.{_≡_, refl}
 use mathlib.Core.Bool.{false, true}
 use mathlib.Core.List.{[], _∷_}
-use lib.Ieee.{nan, add, mul, div, sum, round, size, span, climb, units, odd}
-use Rattle.numbers.specs.Computed.{zero-float, rounded, rootOf, rootUnits, wholeRoot, rootIn}
+use lib.Ieee.{nan, add, mul, div, sum, round, size, span, climb, units, odd, ofInt}
+use Rattle.formats.specs.Floats.{zero-float, one-float, half-float}
+use Rattle.numbers.specs.Computed.{rounded, rootOf, rootUnits, wholeRoot, rootIn}
 use Rattle.planes.specs.Sums.{mixed}
-use Rattle.planes.specs.Normalization.{asFloat, inverseRoot}
+use Rattle.planes.specs.Normalization.{inverseRoot}
 use Rattle.history.specs.History.{earOf, heard, unsettledEach, unsettledIn}
-use Rattle.history.specs.Drill.{one, half, drill, samples}
+use Rattle.history.specs.Drill.{drill, samples}
 
-pub drill-8 : heard drill [] (samples one) ≡ (one ∷ zero-float ∷ []) ∷ (half ∷ one ∷ []) ∷ (zero-float ∷ zero-float ∷ []) ∷ []
-unfolding mixed earOf inverseRoot asFloat rootOf rootUnits wholeRoot rootIn rounded add mul div sum round size span climb units odd
+pub drill-8 : heard drill [] (samples one-float) ≡ (one-float ∷ zero-float ∷ []) ∷ (half-float ∷ one-float ∷ []) ∷ (zero-float ∷ zero-float ∷ []) ∷ []
+unfolding mixed earOf inverseRoot rootOf rootUnits wholeRoot rootIn rounded add mul div sum round size span climb units odd ofInt
 drill-8 = refl
 
 pub drill-9 : unsettledIn drill [] (samples nan) ≡ 2
@@ -19,7 +20,7 @@ unfolding mixed rounded add mul sum round size span climb units odd
 drill-9 = refl
 
 pub drill-9-heard : heard drill [] (samples nan) ≡ (nan ∷ nan ∷ []) ∷ (nan ∷ nan ∷ []) ∷ (zero-float ∷ zero-float ∷ []) ∷ []
-unfolding mixed earOf inverseRoot asFloat rootOf rootUnits wholeRoot rootIn rounded add mul div sum round size span climb units odd
+unfolding mixed earOf inverseRoot rootOf rootUnits wholeRoot rootIn rounded add mul div sum round size span climb units odd ofInt
 drill-9-heard = refl
 
 -- the two that are unsettled are the first two

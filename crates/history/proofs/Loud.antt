@@ -5,7 +5,7 @@ use mathlib.Core.List.{[], _∷_}
 use lib.IntN.{pos}
 use lib.Ieee.{Float, fin, add, mul, sum, round, size, span, climb, units, odd}
 use Rattle.numbers.specs.Computed.{rounded}
-use Rattle.checks.specs.Tables.{unsound}
+use Rattle.checks.specs.Finite.{unsound}
 use Rattle.planes.specs.Sums.{mixed}
 use Rattle.history.specs.Signals.{damaged}
 use Rattle.history.specs.History.{unsettledIn}

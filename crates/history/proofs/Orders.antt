@@ -5,21 +5,21 @@ use mathlib.Core.Bool.{true, false, cond}
 use mathlib.Core.List.{List, [], _∷_, _++_, reverse}
 use lib.IntN.{pos, negsuc}
 use lib.Dec.{eqb}
-use lib.Ieee.{Float, fin, binary64, add, mul, div, sum, round, size, span, climb, units, odd}
-use Rattle.numbers.specs.Computed.{zero-float, rounded, narrowed, rootOf, rootUnits, wholeRoot, rootIn}
+use lib.Ieee.{Float, fin, binary64, add, mul, div, sum, round, size, span, climb, units, odd, ofInt}
+use Rattle.formats.specs.Floats.{zero-float, one-float, float}
+use Rattle.numbers.specs.Computed.{rounded, narrowed, rootOf, rootUnits, wholeRoot, rootIn}
 use Rattle.planes.specs.Sums.{dot, total, mixed}
 use Rattle.history.specs.Setup.{Setup, tapsOf}
-use Rattle.planes.specs.Normalization.{asFloat, inverseRoot}
+use Rattle.planes.specs.Normalization.{inverseRoot}
 use Rattle.history.specs.History.{window, part, earOf}
-use Rattle.history.specs.Drill.{one}
 
 -- 1, 2^60, -2^60
 rising : List Float
-rising = one ∷ fin false 1 (pos 60) ∷ fin true 1 (pos 60) ∷ []
+rising = one-float ∷ fin false 1 (pos 60) ∷ fin true 1 (pos 60) ∷ []
 
 -- three channels or three frames of 1
 ones : List Float
-ones = one ∷ one ∷ one ∷ []
+ones = one-float ∷ one-float ∷ one-float ∷ []
 
 -- ---- channels rising
 
@@ -27,7 +27,7 @@ channels-rising : mixed rising ones ≡ zero-float
 unfolding rising ones mixed rounded add mul sum round size span climb units odd
 channels-rising = refl
 
-channels-falling : mixed (reverse rising) (reverse ones) ≡ one
+channels-falling : mixed (reverse rising) (reverse ones) ≡ one-float
 unfolding rising ones mixed rounded add mul sum round size span climb units odd
 channels-falling = refl
 
@@ -35,13 +35,13 @@ channels-falling = refl
 
 -- one speaker, weight 1, L = 3
 filtering : Setup
-filtering = record { channels = 1; speakers = 1; L = 3; weights = one ∷ []; taps = rising ++ ones; rows = 0 ∷ [] }
+filtering = record { channels = 1; speakers = 1; L = 3; weights = one-float ∷ []; taps = rising ++ ones; rows = 0 ∷ [] }
 
-newest-first : part filtering 0 ((one ∷ []) ∷ (one ∷ []) ∷ (one ∷ []) ∷ []) 0 ≡ zero-float
+newest-first : part filtering 0 ((one-float ∷ []) ∷ (one-float ∷ []) ∷ (one-float ∷ []) ∷ []) 0 ≡ zero-float
 unfolding filtering rising ones mixed rounded add mul sum round size span climb units odd
 newest-first = refl
 
-oldest-first : dot zero-float (reverse (window filtering 0 ((one ∷ []) ∷ (one ∷ []) ∷ (one ∷ []) ∷ []))) (reverse (tapsOf filtering 0 0)) ≡ one
+oldest-first : dot zero-float (reverse (window filtering 0 ((one-float ∷ []) ∷ (one-float ∷ []) ∷ (one-float ∷ []) ∷ []))) (reverse (tapsOf filtering 0 0)) ≡ one-float
 unfolding filtering rising ones mixed rounded add mul sum round size span climb units odd
 oldest-first = refl
 
@@ -51,13 +51,13 @@ speakers-rising : total zero-float rising ≡ zero-float
 unfolding rising add sum round size span climb units odd
 speakers-rising = refl
 
-speakers-falling : total zero-float (reverse rising) ≡ one
+speakers-falling : total zero-float (reverse rising) ≡ one-float
 unfolding rising add sum round size span climb units odd
 speakers-falling = refl
 
 -- ---- narrowed
 
-narrowed-signal : mixed (one ∷ fin false 1 (negsuc 23) ∷ []) (one ∷ one ∷ []) ≡ one
+narrowed-signal : mixed (one-float ∷ fin false 1 (negsuc 23) ∷ []) (one-float ∷ one-float ∷ []) ≡ one-float
 unfolding mixed rounded add mul sum round size span climb units odd
 narrowed-signal = refl
 
@@ -67,9 +67,9 @@ sounding : Float
 sounding = fin false 0x197BB9E0258965 (negsuc 51)
 
 times-the-inverse : earOf 2 (λ s. cond (eqb s 0) sounding zero-float) ≡ fin false 0x2409F1 (negsuc 20)
-unfolding sounding earOf inverseRoot asFloat rootOf rootUnits wholeRoot rootIn rounded add mul div sum round size span climb units odd
+unfolding sounding earOf inverseRoot rootOf rootUnits wholeRoot rootIn rounded add mul div sum round size span climb units odd ofInt
 times-the-inverse = refl
 
-divided-by-the-root : narrowed (div binary64 sounding (rootOf binary64 (asFloat 2))) ≡ fin false 0x9027C5 (negsuc 22)
-unfolding sounding asFloat rootOf rootUnits wholeRoot rootIn rounded div sum round size span climb units odd
+divided-by-the-root : narrowed (div binary64 sounding (rootOf binary64 (float (pos 2)))) ≡ fin false 0x9027C5 (negsuc 22)
+unfolding sounding rootOf rootUnits wholeRoot rootIn rounded div sum round size span climb units odd ofInt
 divided-by-the-root = refl

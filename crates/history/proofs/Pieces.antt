@@ -1,19 +1,14 @@
 -- Frames taken in pieces: what is heard of two pieces is what is heard of the whole, frame by frame. Assumes nothing.
 use mathlib.Core.Path.{_≡_, refl, sym, ap, _∙_}
-use mathlib.Core.Logic.{⊎-elim}
-use mathlib.Core.Bool.{Bool, cond}
+use mathlib.Core.Bool.{cond}
 use mathlib.Core.List.{List, [], _∷_, _++_, reverseAux}
-use Prim.Native.Nat.{ℕ, zero, suc, _+_, _-_, _≤_, _<_}
+use Prim.Native.Nat.{ℕ, zero, suc, _+_, _<_}
 use native.Mathlib.Nat.{not-suc-le-zero, le-of-suc-le-suc, add-assoc}
-use native.Mathlib.Numerals.{sub-one}
 use native.Mathlib.Omega.{arith}
-use borrow.Author.Tests.{le-leb, lt-leb}
-use lib.ListN.{length, getD, take, length-reverse, List·getD-eq-default}
-use lib.Seq.{getD-take, length-take-le}
+use lib.ListN.{length, getD, take}
 use lib.Ieee.{Float}
-use Rattle.checks.proofs.Lists.{split, getD-reverse}
 use Rattle.history.specs.Setup.{Setup}
-use Rattle.history.specs.History.{silence, frameAgo, earSamples, unsettled, heard, unsettledIn, after, upto, ago}
+use Rattle.history.specs.History.{earSamples, unsettled, heard, unsettledIn, after, upto}
 
 pub after-append : (past fs gs : List (List Float)) → after past (fs ++ gs) ≡ after (after past fs) gs
 after-append past [] gs = refl
@@ -46,18 +41,3 @@ module _ (u : Setup) where
 
   pub heard-at : (fs : List (List Float)) (n : ℕ) (d : List Float) → n < length fs → getD (heard u [] fs) n d ≡ earSamples u (upto fs n)
   heard-at fs n d h = heard-from [] fs n d h
-
-  -- the history up to frame n, read back
-  pub ago-upto : (fs : List (List Float)) (n k : ℕ) → n < length fs → frameAgo u (upto fs n) k ≡ ago u fs n k
-  ago-upto fs n k h =
-      ⊎-elim
-      (λ (far : n < k).
-      List·getD-eq-default (upto fs n) (silence u) (omega (arith, length-reverse (take (suc n) fs), length-take-le (suc n) fs h))
-      ∙ sym (ap (λ (b : Bool). cond b (getD fs (n - k) (silence u)) (silence u)) (lt-leb k n far)))
-      (λ (near : k ≤ n).
-      getD-reverse (take (suc n) fs) k (silence u) (omega (arith, length-take-le (suc n) fs h))
-      ∙ ap (λ (m : ℕ). getD (take (suc n) fs) (m - 1 - k) (silence u)) (length-take-le (suc n) fs h)
-      ∙ getD-take (suc n) fs (suc n - 1 - k) (silence u) (omega arith)
-      ∙ ap (λ (i : ℕ). getD fs (i - k) (silence u)) (sub-one (suc n))
-      ∙ sym (ap (λ (b : Bool). cond b (getD fs (n - k) (silence u)) (silence u)) (le-leb k n near)))
-      (split n k)

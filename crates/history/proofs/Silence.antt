@@ -5,9 +5,9 @@ use mathlib.Core.List.{[]}
 use Prim.Native.Nat.{ℕ, _*_}
 use lib.ListN.{drop, replicate}
 use lib.Ieee.Scale.{finite}
-use Rattle.numbers.specs.Computed.{zero-float}
-use Rattle.checks.specs.Tables.{unsound}
-use Rattle.checks.proofs.Tables.{tab-ext, tab-constant}
+use Rattle.formats.specs.Floats.{zero-float}
+use Rattle.checks.specs.Finite.{unsound}
+use Rattle.lists.proofs.Tables.{tab-ext, tab-constant}
 use Rattle.checks.proofs.Checks.{sound-tab, sound-take, sound-drop}
 use Rattle.planes.proofs.Silence.{mixed-silence}
 use Rattle.history.specs.Setup.{Setup, weightsOf}

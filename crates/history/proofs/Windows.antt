@@ -9,11 +9,12 @@ use native.Mathlib.Omega.{arith}
 use lib.ListN.{take}
 use lib.Seq.{take-nil}
 use lib.Ieee.{Float, binary64, mul}
-use Rattle.numbers.specs.Computed.{narrowed, zero-float}
-use Rattle.checks.specs.Tables.{tab, any}
+use Rattle.formats.specs.Floats.{zero-float}
+use Rattle.numbers.specs.Computed.{narrowed}
+use Rattle.lists.specs.Tables.{tab, any}
 use Rattle.planes.specs.Sums.{dot, total}
 use Rattle.planes.specs.Normalization.{inverseRoot}
-use Rattle.checks.proofs.Tables.{tab-ext, tab-shift, take-tab}
+use Rattle.lists.proofs.Tables.{tab-ext, tab-shift, take-tab}
 use Rattle.history.specs.Setup.{Setup, tapsOf}
 use Rattle.history.specs.Signals.{signal, damaged}
 use Rattle.history.specs.History.{silence, frameAgo, signalAgo, window, part, earOf, earSample, earSamples, unsettled}

@@ -1,14 +1,14 @@
 -- Document 01, 'Sums': "An ear's part of a speaker is the f64 sum from 0.0, k from 0 to L-1, of signal k frames ago times tap k; parts are added from 0.0, speakers rising; the result times
 -- 1.0/root(speakers), narrowed, is the ear sample"; and, of the unsettled count, "equal to a definition over the last L frames of history". Definitions only.
 -- The history is the list of all frames since the reset, the newest first. Before the first there was silence.
-use Prim.Native.Nat.{ℕ, suc, _-_}
-use mathlib.Core.Bool.{Bool, cond}
+use Prim.Native.Nat.{ℕ, suc}
+use mathlib.Core.Bool.{Bool}
 use mathlib.Core.List.{List, [], _∷_, map, reverse, reverseAux}
-use lib.Dec.{leb}
 use lib.ListN.{getD, take, replicate}
 use lib.Ieee.{Float, binary64, mul}
-use Rattle.numbers.specs.Computed.{narrowed, zero-float}
-use Rattle.checks.specs.Tables.{tab, any, count}
+use Rattle.formats.specs.Floats.{zero-float}
+use Rattle.numbers.specs.Computed.{narrowed}
+use Rattle.lists.specs.Tables.{tab, any, count}
 use Rattle.planes.specs.Sums.{dot, total}
 use Rattle.planes.specs.Normalization.{inverseRoot}
 use Rattle.history.specs.Setup.{Setup, tapsOf}
@@ -20,7 +20,7 @@ use Rattle.history.specs.Signals.{signal, damaged}
 abbrev pub silence : Setup → List Float
 silence u = replicate (u .channels) zero-float
 
--- the frame k frames ago, and speaker s's signal then
+-- the frame k frames ago, silence before the first, and speaker s's signal then
 abbrev pub frameAgo : Setup → List (List Float) → ℕ → List Float
 frameAgo u past k = getD past k (silence u)
 
@@ -72,7 +72,3 @@ after past fs = reverseAux fs past
 -- the history at frame n of the frames since the reset
 abbrev pub upto : List (List Float) → ℕ → List (List Float)
 upto fs n = reverse (take (suc n) fs)
-
--- the frame k frames before frame n of them, silence before the first
-abbrev pub ago : Setup → List (List Float) → ℕ → ℕ → List Float
-ago u fs n k = cond (leb k n) (getD fs (n - k) (silence u)) (silence u)

@@ -4,7 +4,7 @@ use Prim.Native.Nat.{ℕ}
 use mathlib.Core.Bool.{Bool}
 use mathlib.Core.List.{List}
 use lib.Ieee.{Float}
-use Rattle.checks.specs.Tables.{unsound}
+use Rattle.checks.specs.Finite.{unsound}
 use Rattle.planes.specs.Sums.{mixed, mixedAll}
 use Rattle.history.specs.Setup.{Setup, weightsOf}
 

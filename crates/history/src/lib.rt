@@ -3,4 +3,5 @@
 // function: the definitions (specs/) are what `hrtf` promises and what demand 3 is stated over, and
 // the laws (proofs/) say that an ear hears the last L frames and nothing else, that silence before the
 // first frame is silence like any other, and that frames may be taken in any number of pieces. Under
-// it lie `planes`, with the ordered sums, `checks` (lists by a rule for each place) and `numbers`.
+// it lie `planes`, with the ordered sums, `lists` (lists by a rule for each place), `checks` (the finite test),
+// `numbers` (narrowing) and `formats`.

@@ -1,27 +1,30 @@
 -- What one frame makes of rings, ears and desk, and what the loop of `block` keeps: the frames that are left, played from here, give what the block promises. Assumes nothing.
 use mathlib.Core.Path.{_≡_, refl, sym, ap, _∙_, subst}
-use mathlib.Core.Bool.{Bool, true, false, _||_, cond}
+use mathlib.Core.Bool.{Bool, _||_, cond}
 use mathlib.Core.List.{List, [], _∷_}
-use Prim.Native.Nat.{ℕ, suc, _+_, _-_, _*_, _≤_, _<_, zero-le}
+use Prim.Native.Nat.{ℕ, suc, _+_, _*_, _≤_, _<_, zero-le}
 use native.Mathlib.Nat.{zero-add, add-zero, add-assoc}
-use native.Mathlib.Numerals.{add-one}
 use native.Mathlib.Omega.{arith}
 use lib.Dec.{ltb}
 use lib.ListN.{length}
 use lib.Ieee.{Float}
-use Rattle.checks.specs.Tables.{tab, unsound}
-use Rattle.planes.specs.Planes.{frameAt, withSample, withFrames}
-use Rattle.checks.proofs.Tables.{length-tab, tab-more, tab-none, tab-all}
+use Rattle.checks.specs.Finite.{unsound}
+use Rattle.planes.specs.Planes.{frameAt, withSample, withFrame, withFrames}
+use Rattle.lists.proofs.Going.{Going, going-none, going-more, going-all}
+use Rattle.lists.proofs.Lists.{one-at-most}
 use Rattle.planes.proofs.Planes.{length-with-frame, frame-read}
 use Rattle.desk.specs.declared.Desk.{Desk}
 use Rattle.desk.specs.Steps.{steppedOf}
 use Rattle.desk.proofs.Going.{position-below}
 use Rattle.history.specs.Setup.{Setup}
-use Rattle.history.specs.Signals.{signal, signals, damaged}
-use Rattle.rings.specs.Steps.{State, stored, ringEar, ears, late, stepped, left, played, counted}
+use Rattle.history.specs.Signals.{signals, damaged}
+use Rattle.rings.specs.State.{State}
+use Rattle.rings.specs.Steps.{stored, ringEar, ears, late, stepped, left, played, counted}
 use Rattle.rings.proofs.Told.{length-stored}
 use Rattle.hrtf_checks.specs.declared.Shape.{Shape}
 use Rattle.hrtf_checks.specs.Call.{Call, setupOf, setup, framesIn, Ready}
+use Rattle.history.proofs.Signals.{length-signals}
+use Rattle.hrtf.specs.Promise.{Outcome}
 use Rattle.hrtf.specs.Steps.{earBy, Turned, Blocked}
 
 -- ---- one frame
@@ -30,11 +33,8 @@ use Rattle.hrtf.specs.Steps.{earBy, Turned, Blocked}
 damage-read : (u : Setup) (t : State) (f : List Float) → t .desk .position < u .L → length (t .rings) ≡ u .speakers * u .L
     → unsound (frameAt (stored u t f) (u .L) (u .speakers) (t .desk .position)) ≡ damaged u f
 damage-read u t f within room =
-    ap (λ (n : ℕ). unsound (frameAt (stored u t f) (u .L) n (t .desk .position))) (sym long)
-    ∙ ap unsound (frame-read (t .rings) (u .L) (t .desk .position) (signals u f) within (room ∙ ap (λ (n : ℕ). n * u .L) (sym long)))
-  where
-    long : length (signals u f) ≡ u .speakers
-    long = length-tab 0 (u .speakers) (λ s. signal u s f)
+    ap (λ (n : ℕ). unsound (frameAt (stored u t f) (u .L) n (t .desk .position))) (sym (length-signals u f))
+    ∙ ap unsound (frame-read (t .rings) (u .L) (t .desk .position) (signals u f) within (room ∙ ap (λ (n : ℕ). n * u .L) (sym (length-signals u f))))
 
 module _ (h : Shape) (weights : List Float) (rows : List ℕ) (taps : List Float) (t : State) (f : List Float) where
   abbrev u : Setup
@@ -74,75 +74,82 @@ module _ (h : Shape) (weights : List Float) (rows : List ℕ) (taps : List Float
 
 -- ---- the loop of `block`
 
--- a frame adds one at most
-pub one-at-most : (b : Bool) → cond b 1 0 ≤ 1
-one-at-most true = omega arith
-one-at-most false = omega arith
+-- what stands before a frame: rings and desk, the ear planes, and how many frames were unsettled
+record Stage : Type 0 where
+  pub state : State
+  pub ears : List Float
+  pub count : ℕ
+
+module _ (c : Call) where
+  -- what comes out where frames n, n + 1, .. are played from there
+  abbrev sounded : ℕ → Stage → ℕ → List (List Float) → Outcome
+  sounded n s more fs =
+      record {
+        answer = record { refusal = 0; samples = c .frames; unsettled = more; desk = left (setup c) (s .state) fs .desk };
+        rings = left (setup c) (s .state) fs .rings;
+        ears = withFrames (s .ears) (c .stride) n (played (setup c) (s .state) fs);
+      }
+
+  abbrev onward : ℕ → Stage → List (List Float) → Outcome
+  onward n s fs = sounded n s (s .count + counted (setup c) (s .state) fs) fs
+
+  abbrev one-late : Stage → List Float → ℕ
+  one-late s f = cond (late (setup c) (s .state) f) 1 0
+
+  abbrev staged : ℕ → Stage → List Float → Stage
+  staged n s f =
+      record { state = stepped (setup c) (s .state) f; ears = withFrame (s .ears) (c .stride) n (ears (setup c) (s .state) f); count = s .count + one-late s f }
+
+  takes : (n : ℕ) (s : Stage) (f : List Float) (fs : List (List Float)) → onward n s (f ∷ fs) ≡ onward (suc n) (staged n s f) fs
+  takes n s f fs =
+      ap (λ (k : ℕ). sounded n s k (f ∷ fs)) (sym (add-assoc (s .count) (one-late s f) (counted (setup c) (stepped (setup c) (s .state) f) fs)))
 
 pub record Playing (c : Call) (t : State) (rings ears₁ : List Float) (d : Desk) (count n : ℕ) : Type 0 where
-  pub below : n ≤ c .frames
   pub few : count ≤ n
   pub ready : Ready (c .shape) (d .position) (c .rows) (c .taps) rings
   pub room : length ears₁ ≡ length (c .ears)
   pub same : length rings ≡ length (t .rings)
-  pub states : left (setup c) (record { rings = rings; desk = d }) (tab n (c .frames - n) (frameAt (c .inputs) (c .stride) (c .shape .channels))) ≡ left (setup c) t (framesIn c)
-  pub sounds :
-      withFrames ears₁ (c .stride) n (played (setup c) (record { rings = rings; desk = d }) (tab n (c .frames - n) (frameAt (c .inputs) (c .stride) (c .shape .channels))))
-      ≡ withFrames (c .ears) (c .stride) 0 (played (setup c) t (framesIn c))
-  pub counts : count + counted (setup c) (record { rings = rings; desk = d }) (tab n (c .frames - n) (frameAt (c .inputs) (c .stride) (c .shape .channels))) ≡ counted (setup c) t (framesIn c)
+  pub goes :
+      Going (onward c) (frameAt (c .inputs) (c .stride) (c .shape .channels)) (c .frames) (record { state = t; ears = c .ears; count = 0 })
+      (record { state = record { rings = rings; desk = d }; ears = ears₁; count = count }) n
 
 module _ (c : Call) (t : State) where
   abbrev frame : ℕ → List Float
   frame = frameAt (c .inputs) (c .stride) (c .shape .channels)
 
+  abbrev first : Stage
+  first = record { state = t; ears = c .ears; count = 0 }
+
   pub playing-none : Ready (c .shape) (t .desk .position) (c .rows) (c .taps) (t .rings) → Playing c t (t .rings) (c .ears) (t .desk) 0 0
-  playing-none r =
-      record {
-        below = zero-le;
-        few = zero-le;
-        ready = r;
-        room = refl;
-        same = refl;
-        states = ap (left (setup c) t) (tab-all (c .frames) frame);
-        sounds = ap (λ (l : List (List Float)). withFrames (c .ears) (c .stride) 0 (played (setup c) t l)) (tab-all (c .frames) frame);
-        counts = zero-add (counted (setup c) t (tab 0 (c .frames - 0) frame)) ∙ ap (counted (setup c) t) (tab-all (c .frames) frame);
-      }
+  playing-none r = record { few = zero-le; ready = r; room = refl; same = refl; goes = going-none (onward c) frame (c .frames) first }
 
   module _ (rings ears₁ : List Float) (d : Desk) (count n : ℕ) (p : Playing c t rings ears₁ d count n) where
     abbrev st : State
     st = record { rings = rings; desk = d }
+
+    abbrev now-stands : Stage
+    now-stands = record { state = st; ears = ears₁; count = count }
 
     -- a frame further, the record changed after it
     pub playing-more : (rings₂ ears₂ : List Float) (d₂ : Desk) (count₂ n₂ : ℕ) (bad : Bool) → n < c .frames
         → Turned (c .shape) (c .weights) (c .rows) (c .taps) st (frame n) (c .stride) n count ears₁ rings₂ ears₂ n₂ count₂ bad
         → d₂ ≡ steppedOf (c .shape .length) bad d
         → Playing c t rings₂ ears₂ d₂ count₂ n₂
-    playing-more rings₂ ears₂ d₂ count₂ n₂ bad h e ed =
-        subst (λ (k : ℕ). Playing c t rings₂ ears₂ d₂ count₂ k) (sym (e .more)) (subst (λ (k : ℕ). Playing c t rings₂ ears₂ d₂ k (n + 1)) (sym (e .counts)) on-by-one)
+    playing-more rings₂ ears₂ d₂ count₂ n₂ bad h e ed = subst (λ (k : ℕ). Playing c t rings₂ ears₂ d₂ count₂ k) (sym (e .more)) on-by-one
       where
-        one : ℕ
-        one = cond (late (setup c) st (frame n)) 1 0
-
-        rest : List (List Float)
-        rest = tab (n + 1) (c .frames - (n + 1)) frame
-
-        more-frames : tab n (c .frames - n) frame ≡ frame n ∷ rest
-        more-frames = tab-more (c .frames) n frame h
-
         desked : d₂ ≡ stepped (setup c) st (frame n) .desk
         desked = ed ∙ ap (λ (b : Bool). steppedOf (c .shape .length) b d) (e .damage)
 
-        step : _≡_ {A = State} (record { rings = rings₂; desk = d₂ }) (stepped (setup c) st (frame n))
-        step = cc (e .ringed, desked)
+        stands : _≡_ {A = Stage} (record { state = record { rings = rings₂; desk = d₂ }; ears = ears₂; count = count₂ }) (staged c n now-stands (frame n))
+        stands = cc (e .ringed, desked, e .eared, e .counts)
 
         long : length rings₂ ≡ length rings
         long = ap length (e .ringed) ∙ length-stored (setup c) st (frame n)
 
-        on-by-one : Playing c t rings₂ ears₂ d₂ (count + one) (n + 1)
+        on-by-one : Playing c t rings₂ ears₂ d₂ count₂ (n + 1)
         on-by-one =
             record {
-              below = omega arith;
-              few = omega (arith, p .few, one-at-most (late (setup c) st (frame n)));
+              few = omega (arith, p .few, e .counts, one-at-most (late (setup c) st (frame n)));
               ready =
                   record {
                     few = p .ready .few;
@@ -153,28 +160,11 @@ module _ (c : Call) (t : State) where
                   };
               room = ap length (e .eared) ∙ length-with-frame 0 ears₁ (c .stride) n (ears (setup c) st (frame n)) ∙ p .room;
               same = long ∙ p .same;
-              states = ap (λ (s : State). left (setup c) s rest) step ∙ sym (ap (left (setup c) st) more-frames) ∙ p .states;
-              sounds =
-                  ap (λ (i : ℕ). withFrames ears₂ (c .stride) i (played (setup c) (record { rings = rings₂; desk = d₂ }) rest)) (add-one n)
-                  ∙ ap (λ (s : State). withFrames ears₂ (c .stride) (suc n) (played (setup c) s rest)) step
-                  ∙ ap (λ (l : List Float). withFrames l (c .stride) (suc n) (played (setup c) (stepped (setup c) st (frame n)) rest)) (e .eared)
-                  ∙ sym (ap (λ (l : List (List Float)). withFrames ears₁ (c .stride) n (played (setup c) st l)) more-frames)
-                  ∙ p .sounds;
-              counts =
-                  ap (λ (s : State). count + one + counted (setup c) s rest) step
-                  ∙ add-assoc count one (counted (setup c) (stepped (setup c) st (frame n)) rest)
-                  ∙ sym (ap (λ (l : List (List Float)). count + counted (setup c) st l) more-frames)
-                  ∙ p .counts;
+              goes = going-more (onward c) frame (c .frames) first (staged c) (takes c) now-stands n (frame n) _ (p .goes) h refl stands;
             }
 
     pub playing-all : c .frames ≤ n → Blocked c t rings ears₁ d count
     playing-all h =
-        record {
-          ringed = ap (λ (l : List (List Float)). left (setup c) st l .rings) (sym over) ∙ ap (λ (s : State). s .rings) (p .states);
-          eared = ap (λ (l : List (List Float)). withFrames ears₁ (c .stride) n (played (setup c) st l)) (sym over) ∙ p .sounds;
-          desked = ap (λ (l : List (List Float)). left (setup c) st l .desk) (sym over) ∙ ap (λ (s : State). s .desk) (p .states);
-          counts = sym (add-zero count) ∙ ap (λ (l : List (List Float)). count + counted (setup c) st l) (sym over) ∙ p .counts;
-        }
-      where
-        over : tab n (c .frames - n) frame ≡ []
-        over = tab-none (c .frames) n frame h
+        ap (λ (k : ℕ). sounded c n now-stands k []) (sym (add-zero count))
+        ∙ going-all (onward c) frame (c .frames) first now-stands n (p .goes) h
+        ∙ ap (λ (k : ℕ). sounded c 0 first k (framesIn c)) (zero-add (counted (setup c) t (framesIn c)))

@@ -1,20 +1,23 @@
 -- From what the block leaves to what `process` promises, and from filled rings to what `reset` promises. What document 01 says besides of a call: zero frames change nothing, and frames beyond the
 -- count are as they were. Assumes nothing.
-use mathlib.Core.Path.{_≡_, refl, sym, ap, _∙_, subst}
+use mathlib.Core.Path.{_≡_, sym, ap, _∙_, subst}
 use mathlib.Core.List.{List, []}
-use Prim.Native.Nat.{ℕ, zero, suc, _*_, _≤_, _<_}
+use Prim.Native.Nat.{ℕ, suc, _*_, _≤_, _<_}
 use native.Mathlib.Omega.{arith}
 use lib.ListN.{length, replicate}
 use lib.Ieee.{Float}
-use Rattle.numbers.specs.Computed.{zero-float}
+use Rattle.formats.specs.Floats.{zero-float}
+use Rattle.refusals.proofs.First.{answered-refused}
 use Rattle.refusals.proofs.Chains.{Off, FirstAt, numberAt, first-holds, off-accepts, none-holds}
 use Rattle.planes.specs.Planes.{sampleAt, frameAt, framesOf, withFrames}
-use Rattle.checks.proofs.Tables.{length-tab}
+use Rattle.lists.proofs.Tables.{length-tab}
 use Rattle.checks.proofs.Checks.{is-equal, not-outside}
 use Rattle.planes.proofs.Planes.{with-frames-other}
 use Rattle.desk.specs.declared.Desk.{Desk}
+use Rattle.desk.specs.Numbers.{zeroed}
 use Rattle.history.specs.Setup.{Setup}
-use Rattle.rings.specs.Steps.{State, left, played, counted}
+use Rattle.rings.specs.State.{State}
+use Rattle.rings.specs.Steps.{left, played, counted}
 use Rattle.rings.specs.Represents.{Represents, fresh}
 use Rattle.rings.proofs.Told.{fresh-represents}
 use Rattle.rings.proofs.Blocks.{played-heard, counted-told, left-kept, length-played}
@@ -49,17 +52,13 @@ promised c t o e =
     }
 
 pub promised-refused : (c : Call) (t : State) (n : ℕ) → n ≡ refusalOf c t → (n ≡ 0 → ⊥) → Processes c t (refused n c t)
-promised-refused c t zero e some = absurd (some refl)
-promised-refused c t (suc n) e some = promised c t (refused (suc n) c t) (sym (outcome-by c t (suc n) (sym e)))
+promised-refused c t n e some = promised c t (refused n c t) (sym (outcome-by c t n (sym e) ∙ answered-refused (accepted c t) (λ k. refused k c t) n some))
 
 pub promised-accepted : (c : Call) (t : State) (rings₁ ears₁ : List Float) (desk₁ : Desk) (more : ℕ) → 0 ≡ refusalOf c t → Blocked c t rings₁ ears₁ desk₁ more
     → Processes c t (record { answer = record { refusal = 0; samples = c .frames; unsettled = more; desk = desk₁ }; rings = rings₁; ears = ears₁ })
 promised-accepted c t rings₁ ears₁ desk₁ more e b =
     promised c t (record { answer = record { refusal = 0; samples = c .frames; unsettled = more; desk = desk₁ }; rings = rings₁; ears = ears₁ })
-    (same ∙ sym (outcome-by c t 0 (sym e)))
-  where
-    same : _≡_ {A = Outcome} (record { answer = record { refusal = 0; samples = c .frames; unsettled = more; desk = desk₁ }; rings = rings₁; ears = ears₁ }) (accepted c t)
-    same = cc (b .ringed, b .eared, b .desked, b .counts)
+    (b ∙ sym (outcome-by c t 0 (sym e)))
 
 -- zero frames change nothing
 pub none-played : (c : Call) (t : State) → refusalOf c t ≡ 0 → c .frames ≡ 0
@@ -112,7 +111,7 @@ module _ (d : Desk) (speakers L : ℕ) (rings : List Float) where
       record {
         answer = e;
         fresh = λ z u es eL w. subst (λ (p : AfterReset). Represents u [] (record { rings = p .rings; desk = p .answer .desk })) (sym (e ∙ reset-by 0 z))
-            (subst (λ (n : ℕ). Represents u [] (record { rings = replicate n zero-float; desk = record { position = 0; «to_go» = 0 } }))
+            (subst (λ (n : ℕ). Represents u [] (record { rings = replicate n zero-float; desk = zeroed }))
             (cells u es eL ∙ sym (reset-fits z .1)) (fresh-represents u (subst (λ (n : ℕ). 0 < n) (sym eL) (reset-fits z .0)) w));
       }
     where
@@ -123,7 +122,7 @@ module _ (d : Desk) (speakers L : ℕ) (rings : List Float) where
   reset-refused k e = reset-told (record { answer = record { refusal = suc k; desk = d }; rings = rings }) (sym (reset-by (suc k) e))
 
   pub reset-accepted : (rings₁ : List Float) → resetRefusal speakers L rings ≡ 0 → rings₁ ≡ replicate (length rings) zero-float
-      → Resets d speakers L rings (record { answer = record { refusal = 0; desk = record { position = 0; «to_go» = 0 } }; rings = rings₁ })
+      → Resets d speakers L rings (record { answer = record { refusal = 0; desk = zeroed }; rings = rings₁ })
   reset-accepted rings₁ e f =
-      reset-told (record { answer = record { refusal = 0; desk = record { position = 0; «to_go» = 0 } }; rings = rings₁ })
-      (ap (λ (l : List Float). record { answer = record { refusal = 0; desk = record { position = 0; «to_go» = 0 } }; rings = l }) f ∙ sym (reset-by 0 e))
+      reset-told (record { answer = record { refusal = 0; desk = zeroed }; rings = rings₁ })
+      (ap (λ (l : List Float). record { answer = record { refusal = 0; desk = zeroed }; rings = l }) f ∙ sym (reset-by 0 e))

@@ -5,7 +5,7 @@ use mathlib.Core.List.{List}
 use lib.Ieee.{Float}
 use Rattle.refusals.proofs.Determined.{determined}
 use Rattle.desk.specs.declared.Desk.{Desk}
-use Rattle.rings.specs.Steps.{State}
+use Rattle.rings.specs.State.{State}
 use Rattle.hrtf_checks.specs.Call.{Call}
 use Rattle.hrtf.specs.Promise.{Outcome, Processes}
 use Rattle.hrtf.specs.Reset.{AfterReset, Resets}

@@ -1,12 +1,14 @@
 -- Everything that a call of `process` hands back. Document 01: "An accepted block plays every frame it is given and returns that number as its sample count. Zero frames is accepted and changes nothing.
 -- Frames of a plane beyond the count are unchanged"; "A refusal returns its number, counts of 0, .. and the state given in; lent memory stays the same." Definitions only.
-use Prim.Native.Nat.{ℕ, zero, suc}
+use Prim.Native.Nat.{ℕ}
 use mathlib.Core.Path.{_≡_}
 use mathlib.Core.List.{List}
 use lib.Ieee.{Float}
+use Rattle.refusals.specs.Refusals.{answered}
 use Rattle.planes.specs.Planes.{withFrames}
 use Rattle.history.specs.History.{heard, unsettledIn, after}
-use Rattle.rings.specs.Steps.{State, left, played, counted}
+use Rattle.rings.specs.State.{State}
+use Rattle.rings.specs.Steps.{left, played, counted}
 use Rattle.rings.specs.Represents.{Represents}
 use Rattle.hrtf.specs.declared.Processed.{Processed}
 use Rattle.hrtf_checks.specs.Call.{Call, setup, framesIn}
@@ -30,8 +32,7 @@ accepted c t =
     }
 
 abbrev pub outcomeBy : ℕ → Call → State → Outcome
-outcomeBy zero c t = accepted c t
-outcomeBy (suc n) c t = refused (suc n) c t
+outcomeBy n c t = answered n (accepted c t) (λ k. refused k c t)
 
 unfoldable pub outcome : Call → State → Outcome
 outcome c t = outcomeBy (refusalOf c t) c t

@@ -1,15 +1,16 @@
 -- Document 01: "Reset makes every ring 0.0, both numbers 0", and of its refusals 2, 4 and 5. Definitions only.
-use Prim.Native.Nat.{ℕ, zero, suc, _*_}
+use Prim.Native.Nat.{ℕ, _*_}
 use mathlib.Core.Path.{_≡_}
 use mathlib.Core.Bool.{not, false}
 use mathlib.Core.List.{List, [], _∷_}
 use lib.Dec.{eqb}
 use lib.ListN.{length, replicate}
 use lib.Ieee.{Float}
-use Rattle.numbers.specs.Computed.{zero-float}
-use Rattle.refusals.specs.Refusals.{Check, firstOf, _when_, outside}
-use Rattle.checks.specs.Tables.{unsound}
+use Rattle.formats.specs.Floats.{zero-float}
+use Rattle.refusals.specs.Refusals.{Check, firstOf, _when_, answered, outside}
+use Rattle.checks.specs.Finite.{unsound}
 use Rattle.desk.specs.declared.Desk.{Desk}
+use Rattle.desk.specs.Numbers.{zeroed}
 use Rattle.history.specs.Setup.{Setup}
 use Rattle.rings.specs.Represents.{Represents}
 use Rattle.hrtf.specs.declared.Rested.{Rested}
@@ -26,8 +27,9 @@ pub record AfterReset : Type 0 where
   pub rings : List Float
 
 abbrev pub resetBy : ℕ → Desk → List Float → AfterReset
-resetBy zero d rings = record { answer = record { refusal = 0; desk = record { position = 0; «to_go» = 0 } }; rings = replicate (length rings) zero-float }
-resetBy (suc n) d rings = record { answer = record { refusal = suc n; desk = d }; rings = rings }
+resetBy n d rings =
+    answered n (record { answer = record { refusal = 0; desk = zeroed }; rings = replicate (length rings) zero-float })
+    (λ k. record { answer = record { refusal = k; desk = d }; rings = rings })
 
 unfoldable pub resetOutcome : Desk → ℕ → ℕ → List Float → AfterReset
 resetOutcome d speakers L rings = resetBy (resetRefusal speakers L rings) d rings

@@ -5,16 +5,14 @@ use mathlib.Core.Bool.{Bool, cond}
 use mathlib.Core.List.{List, []}
 use lib.ListN.{length}
 use lib.Ieee.{Float}
-use Rattle.numbers.specs.Computed.{zero-float}
-use Rattle.checks.specs.Tables.{row}
-use Rattle.planes.specs.Sums.{dot}
-use Rattle.planes.specs.Planes.{withFrame, withFrames}
+use Rattle.planes.specs.Planes.{withFrame}
 use Rattle.desk.specs.declared.Desk.{Desk}
 use Rattle.history.specs.Signals.{damaged}
-use Rattle.rings.specs.Unrolled.{unrolled}
-use Rattle.rings.specs.Steps.{State, stored, ringEar, ears, late, left, played, counted}
+use Rattle.rings.specs.State.{State}
+use Rattle.rings.specs.Steps.{stored, ringEar, ears, late}
 use Rattle.hrtf_checks.specs.declared.Shape.{Shape}
-use Rattle.hrtf_checks.specs.Call.{Call, setupOf, setup, framesIn}
+use Rattle.hrtf_checks.specs.Call.{Call, setupOf}
+use Rattle.hrtf.specs.Promise.{accepted}
 
 -- where a speaker's ring stands, and the taps of a row and side
 pub record Stands (h : Shape) (s j side : ℕ) (taps rings : List Float) : Type 0 where
@@ -24,10 +22,6 @@ pub record Stands (h : Shape) (s j side : ℕ) (taps rings : List Float) : Type 
   pub tapped : length taps ≡ 2 * h .rows * h .length
   pub ringed : length rings ≡ h .speakers * h .length
   pub long : 0 < h .length
-
--- a speaker's part of an ear's sum
-abbrev pub partBy : Shape → ℕ → ℕ → ℕ → ℕ → List Float → List Float → Float
-partBy h p s j side taps rings = dot zero-float (unrolled p (row (h .length) s rings)) (row (h .length) (j * 2 + side) taps)
 
 -- an ear's sample needs no weights
 abbrev pub earBy : Shape → List ℕ → List Float → ℕ → ℕ → List Float → Float
@@ -42,8 +36,5 @@ pub record Turned (h : Shape) (weights : List Float) (rows : List ℕ) (taps : L
   pub damage : bad ≡ damaged (setupOf h weights rows taps) f
 
 -- what a block leaves
-pub record Blocked (c : Call) (t : State) (rings₁ ears₁ : List Float) (desk₁ : Desk) (more : ℕ) : Type 0 where
-  pub ringed : rings₁ ≡ left (setup c) t (framesIn c) .rings
-  pub eared : ears₁ ≡ withFrames (c .ears) (c .stride) 0 (played (setup c) t (framesIn c))
-  pub desked : desk₁ ≡ left (setup c) t (framesIn c) .desk
-  pub counts : more ≡ counted (setup c) t (framesIn c)
+abbrev pub Blocked : Call → State → List Float → List Float → Desk → ℕ → Type 0
+Blocked c t rings₁ ears₁ desk₁ more = record { answer = record { refusal = 0; samples = c .frames; unsettled = more; desk = desk₁ }; rings = rings₁; ears = ears₁ } ≡ accepted c t

@@ -8,8 +8,9 @@ ghost use mathlib.Core.Bool.{cond, _||_};
 ghost use Prim.Native.Nat.{suc, _≤_, _<_, _^_};
 ghost use lib.Dec.{ltb};
 ghost use Rattle.planes.specs.Planes.{frameAt};
+ghost use Rattle.rings.specs.Steps.{partBy};
 ghost use Rattle.hrtf_checks.specs.Call.{Ready};
-ghost use Rattle.hrtf.specs.Steps.{Stands, partBy, earBy, Turned, Blocked};
+ghost use Rattle.hrtf.specs.Steps.{Stands, earBy, Turned, Blocked};
 
 // The frames played so far, how many of them are unsettled, and whether the last one is damaged.
 pub(crate) struct Played {
@@ -36,7 +37,7 @@ fn part(
     rings: &[f32],
 ) -> f64
     requires { ⌜ Stands shape speaker row side (now taps) (now rings) ⌝ }
-    ensures { λ r. ⌜ r ≡ partBy shape (suc position) speaker row side (now (taps .entry)) (now (rings .entry)) ⌝ }
+    ensures { λ r. ⌜ r ≡ partBy (shape .length) (suc position) speaker row side (now (taps .entry)) (now (rings .entry)) ⌝ }
 {
     let length = shape.length;
     let a = speaker * length;

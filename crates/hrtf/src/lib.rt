@@ -9,12 +9,12 @@
 // demand 3, over runs of many calls, are in `runs`.
 //
 // Under it lie `hrtf_checks` (the refusals), `rings` (the convolution, and that rings stand for a history),
-// `history` (the sums), `desk`, `planes`, `checks`, `numbers` (narrowing) and `refusals`.
+// `history` (the sums), `desk`, `planes`, `checks`, `numbers` (narrowing), `lists`, `formats` and `refusals`.
 use desk::Desk;
 use hrtf_checks::Shape;
 ghost use mathlib.Core.Path.{_≡_};
 ghost use lib.ListN.{replicate};
-ghost use Rattle.numbers.specs.Computed.{zero-float};
+ghost use Rattle.formats.specs.Floats.{zero-float};
 ghost use Rattle.hrtf.specs.Promise.{Processes};
 ghost use Rattle.hrtf.specs.Reset.{Resets};
 

@@ -2,23 +2,36 @@
 use mathlib.Core.Path.{_≡_, sym, subst}
 use mathlib.Core.Bool.{Bool, false, not}
 use mathlib.Core.List.{List}
-use Prim.Native.Nat.{ℕ, _*_, _≤_}
+use Prim.Native.Nat.{ℕ, _*_, _≤_, _<_}
 use native.Mathlib.Nat.{zero-add}
-use borrow.Author.Tests.{leb-false}
+use borrow.Author.Tests.{leb-false, lt-leb}
 use lib.Dec.{leb, eqb}
 use lib.ListN.{length, getD}
 use Rattle.refusals.specs.Refusals.{outside}
 use Rattle.refusals.proofs.Chains.{Off, FirstAt, numberAt, first-holds, off-accepts, none-holds}
 use Rattle.checks.specs.Lengths.{unfit, blockUnfit}
-use Rattle.checks.proofs.Checks.{or-off, any-off, is-equal, not-outside, fitted}
-use Rattle.rings.specs.Steps.{State}
+use Rattle.checks.proofs.Checks.{or-off, both-off, any-off, is-equal, equal-passes, not-outside, planes-fit, fitted}
+use Rattle.desk.specs.declared.Desk.{Desk}
+use Rattle.rings.specs.State.{State}
 use Rattle.hrtf_checks.specs.declared.Shape.{Shape}
 use Rattle.hrtf_checks.specs.Call.{Call, Ready}
-use Rattle.hrtf_checks.specs.Refusals.{misshapen, callChecks, refusalOf}
+use Rattle.hrtf_checks.specs.Refusals.{misshapen, misfit, astray, callChecks, refusalOf}
 
 -- a bank that is well shaped has at most 8 rows
 pub few-rows : (h : Shape) (rows : List ℕ) → misshapen h rows ≡ false → h .rows ≤ 8
 few-rows h rows e = not-outside (h .rows) 8 (or-off (outside (h .rows) 8) _ (or-off (outside (h .speakers) 8) _ e .1) .0) .1
+
+-- lists of the lengths that are asked for fit
+pub lengths-fit : (h : Shape) (frames stride inputs weights taps rings ears : ℕ) → frames ≤ stride → inputs ≡ h .channels * stride → ears ≡ 2 * stride → rings ≡ h .speakers * h .length
+    → weights ≡ h .speakers * h .channels → taps ≡ 2 * h .rows * h .length → misfit h frames stride inputs weights taps rings ears ≡ false
+lengths-fit h frames stride inputs weights taps rings ears low ei ee er ew et =
+    both-off _ _ (both-off _ _ (planes-fit inputs (h .channels) stride frames low ei) (planes-fit ears 2 stride frames low ee))
+    (both-off _ _ (equal-passes rings (h .speakers * h .length) er)
+    (both-off _ _ (equal-passes weights (h .speakers * h .channels) ew) (equal-passes taps (2 * h .rows * h .length) et)))
+
+-- a desk whose numbers are below L is not astray
+pub on-desk : (d : Desk) (L : ℕ) → d .position < L → d .«to_go» < L → astray d L ≡ false
+on-desk d L p w = both-off _ _ (lt-leb L (d .position) p) (lt-leb L (d .«to_go») w)
 
 module _ (c : Call) (t : State) where
   -- the number of the first test that fails

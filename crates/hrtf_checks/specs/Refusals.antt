@@ -5,10 +5,11 @@ use mathlib.Core.List.{List, [], _∷_}
 use lib.Dec.{leb, eqb}
 use lib.ListN.{length, getD}
 use Rattle.refusals.specs.Refusals.{Check, firstOf, _when_, outside}
-use Rattle.checks.specs.Tables.{tab, any, unsound}
+use Rattle.lists.specs.Tables.{tab, any}
+use Rattle.checks.specs.Finite.{unsound}
 use Rattle.checks.specs.Lengths.{blockUnfit}
 use Rattle.desk.specs.declared.Desk.{Desk}
-use Rattle.rings.specs.Steps.{State}
+use Rattle.rings.specs.State.{State}
 use Rattle.hrtf_checks.specs.declared.Shape.{Shape}
 use Rattle.hrtf_checks.specs.Call.{Call}
 

@@ -14,8 +14,9 @@ use lib.Ieee.{Float, fin}
 use lib.Ieee.Scale.{finite}
 use Rattle.refusals.specs.Refusals.{outside}
 use Rattle.refusals.proofs.Chains.{off-accepts}
-use Rattle.checks.specs.Tables.{tab, unsound}
-use Rattle.checks.proofs.Tables.{length-tab, getD-tab}
+use Rattle.lists.specs.Tables.{tab}
+use Rattle.checks.specs.Finite.{unsound}
+use Rattle.lists.proofs.Tables.{length-tab, getD-tab}
 use Rattle.checks.proofs.Checks.{both-off, equal-passes, sound-at, sound-tab}
 use Rattle.channel.specs.declared.Layout.{Layout}
 use Rattle.channel.specs.Layouts.{surround}

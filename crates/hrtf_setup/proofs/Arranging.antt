@@ -11,11 +11,11 @@ use lib.IntN.{ℤ}
 use lib.ListN.{length, getD}
 use lib.Ieee.{Float, nan}
 use Rattle.refusals.specs.Refusals.{firstOf, outside}
-use Rattle.refusals.proofs.First.{stops, goes-on, passed}
+use Rattle.refusals.proofs.First.{stops, goes-on, passed, answered-accepted}
 use Rattle.refusals.proofs.Chains.{none-holds}
 use Rattle.fractions.specs.Fraction.{number}
-use Rattle.checks.specs.Tables.{tab}
-use Rattle.checks.proofs.Tables.{getD-tab, inside}
+use Rattle.lists.specs.Tables.{tab}
+use Rattle.lists.proofs.Tables.{getD-tab, inside}
 use Rattle.checks.proofs.Checks.{or-off, or-yes, or-next, is-equal, not-outside}
 use Rattle.channel.specs.declared.Layout.{Layout}
 use Rattle.channel.specs.Layouts.{channelsOf, counted, surround}
@@ -24,7 +24,7 @@ use Rattle.channel.proofs.Counts.{surround-counted, surround-few}
 use Rattle.row_choice.specs.declared.Choice.{Choice}
 use Rattle.row_choice.specs.Nearest.{Takes}
 use Rattle.row_choice.specs.NearestComputed.{nearestFrom}
-use Rattle.row_choice.specs.Choice.{choiceRefusal, choiceOf}
+use Rattle.row_choice.specs.Choice.{choiceRefusal, refusedWith, choiceOf}
 use Rattle.row_choice.proofs.Takes.{takes}
 use Rattle.virtual_speaker.specs.Promise.{positionOf}
 use Rattle.virtual_speaker.proofs.Laws.{outcome-kept, position-accepted}
@@ -54,8 +54,7 @@ module _ (k : Speakers) (azimuths : List ℤ) (rows s : ℕ) (few : outside rows
 
   row-is : nearestFrom azimuths (tenthsAt k s) 0 1 (rows - 1) ≡ rowAt k azimuths rows s
   unfolding choiceOf
-  row-is =
-      sym (ap (λ (r : ℕ). cond {A = Choice} (eqb r 0) (record { refusal = 0; row = nearestFrom azimuths (tenthsAt k s) 0 1 (rows - 1) }) (record { refusal = r; row = 0 }) .row) not-refused)
+  row-is = sym (ap (λ (c : Choice). c .row) (answered-accepted _ refusedWith _ not-refused))
 
   -- rows from 1 to 8 of a list of 8: the row is the one that document 01 names
   row-taken : Takes azimuths rows (tenthsAt k s) (rowAt k azimuths rows s)

@@ -1,14 +1,14 @@
 -- Everything that a set-up hands back, by its refusal: first what the operation offers, then 2 (bank rows not 1..8) and 5 (a list of azimuths that is not of 8, weights other than speakers x channels).
 -- Definitions only.
-use Prim.Native.Nat.{ℕ, zero, suc, _*_}
+use Prim.Native.Nat.{ℕ, _*_}
 use mathlib.Core.Bool.{not, _||_}
 use mathlib.Core.List.{List, [], _∷_}
 use lib.Dec.{eqb}
 use lib.IntN.{ℤ}
 use lib.ListN.{length}
 use lib.Ieee.{Float}
-use Rattle.refusals.specs.Refusals.{Check, firstOf, _when_, outside}
-use Rattle.checks.specs.Tables.{tab}
+use Rattle.refusals.specs.Refusals.{Check, firstOf, _when_, answered, outside}
+use Rattle.lists.specs.Tables.{tab}
 use Rattle.hrtf_setup.specs.declared.Arranged.{Arranged}
 use Rattle.hrtf_setup.specs.declared.Speakers.{Speakers}
 use Rattle.hrtf_setup.specs.Speakers.{rowsOf, weightAt}
@@ -36,13 +36,14 @@ pub record Arrangement : Type 0 where
   pub rows : List ℕ
 
 abbrev pub arrangedBy : ℕ → Speakers → ℕ → ℕ → List ℤ → ℕ → List Float → List ℕ → Arrangement
-arrangedBy zero k speakers channels azimuths rows weights given =
-    record {
+arrangedBy n k speakers channels azimuths rows weights given =
+    answered n
+    (record {
       answer = record { refusal = 0; speakers = speakers; channels = channels };
       weights = tab 0 (speakers * channels) (weightAt k channels);
       rows = rowsOf k speakers azimuths rows given;
-    }
-arrangedBy (suc n) k speakers channels azimuths rows weights given = record { answer = record { refusal = suc n; speakers = 0; channels = 0 }; weights = weights; rows = given }
+    })
+    (λ m. record { answer = record { refusal = m; speakers = 0; channels = 0 }; weights = weights; rows = given })
 
 unfoldable pub arrangement : Wanted → List ℤ → ℕ → List Float → List ℕ → Arrangement
 arrangement w azimuths rows weights given = arrangedBy (refusalOf w azimuths rows weights) (w .whose) (w .speakers) (w .channels) azimuths rows weights given

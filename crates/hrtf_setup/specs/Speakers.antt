@@ -1,14 +1,15 @@
 -- Document 01, 'Sums': "A surround weight is 1.0 at its own channel and 0.0 elsewhere", "LFE uses the 0 degree filters"; the virtual speakers of 003 stand at eight positions, and their weights are the
 -- weighted coefficients there. Where the speakers stand, the bank row of each, and its weights. Definitions only.
 use Prim.Native.Nat.{ℕ, _/_, _%_}
-use mathlib.Core.Bool.{false, cond}
+use mathlib.Core.Bool.{cond}
 use mathlib.Core.List.{List}
 use lib.Dec.{eqb}
-use lib.IntN.{ℤ, pos}
+use lib.IntN.{ℤ}
 use lib.ListN.{getD}
 use lib.Seq.{sets}
-use lib.Ieee.{Float, nan, fin}
-use Rattle.checks.specs.Tables.{tab}
+use lib.Ieee.{Float, nan}
+use Rattle.formats.specs.Floats.{zero-float, one-float}
+use Rattle.lists.specs.Tables.{tab}
 use Rattle.channel.specs.Layouts.{tenthsOf, positionTenths}
 use Rattle.row_choice.specs.Choice.{choiceOf}
 use Rattle.virtual_speaker.specs.Promise.{outcome, positionOf}
@@ -30,7 +31,7 @@ rowsOf k n azimuths rows given = sets given 0 (tab 0 n (rowAt k azimuths rows))
 
 -- 1.0 at the own channel, 0.0 elsewhere
 abbrev pub oneIf : ℕ → ℕ → Float
-oneIf s c = cond (eqb s c) (fin false 1 (pos 0)) (fin false 0 (pos 0))
+oneIf s c = cond (eqb s c) one-float zero-float
 
 -- speaker s's weight for channel c
 abbrev pub weightOf : Speakers → ℕ → ℕ → Float

@@ -7,14 +7,14 @@
 // beside it: each speaker's row is the one that document 01 names, each weight is its speaker's for its
 // channel, and a weighted coefficient is within 2^-34 of its formula.
 //
-// Under it lie `channel` (where speakers stand, and orders), `virtual_speaker`, `row_choice`, `checks` and `refusals`,
-// and for the words of its promises and laws `fractions` and `harmonics`.
+// Under it lie `channel` (where speakers stand, and orders), `virtual_speaker`, `row_choice`, `checks`, `lists`,
+// `formats` and `refusals`, and for the words of its promises and laws `fractions` and `harmonics`.
 use channel::Layout;
 ghost use mathlib.Core.Path.{_≡_};
 ghost use Prim.Native.Nat.{_*_, _/_, _%_, _≤_, _<_};
 ghost use lib.ListN.{length, getD};
 ghost use lib.Ieee.{nan};
-ghost use Rattle.checks.specs.Tables.{tab};
+ghost use Rattle.lists.specs.Tables.{tab};
 ghost use Rattle.virtual_speaker.specs.Promise as Weighing;
 ghost use Rattle.hrtf_setup.specs.Speakers.{tenthsAt, rowsOf, oneIf, weightOf, weightAt};
 ghost use Rattle.hrtf_setup.specs.Arrangement.{laterRefusal, arrangedBy};
@@ -75,10 +75,10 @@ fn choose_rows(
 fn own_channel(s: usize, channel: usize) -> f64
     ensures { λ r. ⌜ r ≡ oneIf s channel ⌝ }
 {
-    if s == channel {
-        return 1.0;
+    if s != channel {
+        return 0.0;
     }
-    0.0
+    1.0
 }
 
 // A channel's weighted coefficient at the position of virtual speaker s; NaN beyond the sixteen.

@@ -8,10 +8,11 @@ use native.Mathlib.Nat.{not-suc-le-zero, le-of-suc-le-suc, add-assoc}
 use native.Mathlib.Omega.{arith}
 use lib.ListN.{length, getD}
 use lib.Ieee.{Float}
-use Rattle.checks.specs.Tables.{count}
+use Rattle.lists.specs.Tables.{count}
 use Rattle.history.specs.Setup.{Setup}
 use Rattle.history.specs.History.{heard, unsettledEach, unsettledIn, after}
-use Rattle.rings.specs.Steps.{State, ears, late, stepped, left, played, lateEach, counted}
+use Rattle.rings.specs.State.{State}
+use Rattle.rings.specs.Steps.{ears, late, stepped, left, played, lateEach, counted}
 use Rattle.rings.specs.Represents.{Represents}
 use Rattle.rings.proofs.Told.{kept, ears-told, late-told}
 

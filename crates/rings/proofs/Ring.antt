@@ -9,7 +9,7 @@ use native.Mathlib.Omega.{arith}
 use lib.ListN.{length, getD, set, take, drop, length-take, length-drop, length-append, length-reverse, drop-of-length-le, List·getD-append}
 use lib.Seq.{getD-append-add, getD-take, getD-drop, take-all, take-suc-set, drop-set-lt, drop-cons, take-at, length-take-le}
 use lib.Ieee.{Float, nan}
-use Rattle.checks.proofs.Lists.{split, getD-reverse}
+use Rattle.lists.proofs.Lists.{split, getD-reverse}
 use Rattle.rings.specs.Unrolled.{unrolled}
 
 -- all but the oldest, which stands at p

@@ -11,8 +11,8 @@ use borrow.Author.Tests.{lt-ltb, le-ltb}
 use lib.Dec.{ltb}
 use lib.ListN.{take}
 use lib.Seq.{take-nil}
-use Rattle.checks.specs.Tables.{any}
-use Rattle.checks.proofs.Lists.{split}
+use Rattle.lists.specs.Tables.{any}
+use Rattle.lists.proofs.Lists.{split}
 use Rattle.rings.specs.Represents.{toGoAfter}
 
 ltb-pred : (j t : ℕ) → ltb j (t - 1) ≡ ltb (suc j) t

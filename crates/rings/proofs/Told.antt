@@ -8,11 +8,12 @@ use native.Mathlib.Omega.{arith}
 use lib.Dec.{ltb}
 use lib.ListN.{length, set, take, length-replicate}
 use lib.Ieee.{Float, nan}
-use Rattle.numbers.specs.Computed.{zero-float}
-use Rattle.checks.specs.Tables.{row, unsound}
+use Rattle.formats.specs.Floats.{zero-float}
+use Rattle.lists.specs.Tables.{row}
+use Rattle.checks.specs.Finite.{unsound}
 use Rattle.planes.specs.Sums.{dot}
-use Rattle.checks.proofs.Lists.{reverse-replicate, take-replicate, drop-replicate}
-use Rattle.checks.proofs.Tables.{length-tab, getD-tab, length-row}
+use Rattle.lists.proofs.Lists.{reverse-replicate, take-replicate, drop-replicate}
+use Rattle.lists.proofs.Tables.{getD-tab, length-row}
 use Rattle.planes.proofs.Planes.{length-with-frame, row-with-frame}
 use Rattle.desk.specs.declared.Desk.{Desk}
 use Rattle.desk.proofs.Going.{desk-on, position-below}
@@ -22,9 +23,11 @@ use Rattle.history.specs.History.{window, part, earSample, earSamples, unsettle
 use Rattle.history.proofs.Windows.{window-more, ear-of-ext}
 use Rattle.history.proofs.Silence.{window-silence}
 use Rattle.rings.specs.Unrolled.{unrolled}
-use Rattle.rings.specs.Steps.{State, stored, partOf, ringEar, ears, late, stepped}
+use Rattle.rings.specs.State.{State}
+use Rattle.rings.specs.Steps.{stored, partOf, ringEar, ears, late, stepped}
 use Rattle.rings.specs.Represents.{Represents, fresh}
 use Rattle.rings.proofs.Ring.{unrolled-set, unrolled-wrapped}
+use Rattle.history.proofs.Signals.{length-signals}
 use Rattle.rings.proofs.ToGo.{to-go-any, any-take-cons}
 
 pub length-stored : (u : Setup) (t : State) (f : List Float) → length (stored u t f) ≡ length (t .rings)
@@ -34,11 +37,8 @@ module _ (u : Setup) (past : List (List Float)) (t : State) (f : List Float) (r 
   -- what a frame leaves of speaker s's ring
   ring-stored : (s : ℕ) → s < u .speakers → row (u .L) s (stored u t f) ≡ set (row (u .L) s (t .rings)) (t .desk .position) (signal u s f)
   ring-stored s lt =
-      row-with-frame (u .speakers) (t .rings) (u .L) (t .desk .position) (signals u f) s (rw long lt) (r .within) (r .room) (omega (arith, long))
+      row-with-frame (u .speakers) (t .rings) (u .L) (t .desk .position) (signals u f) s (rw (length-signals u f) lt) (r .within) (r .room) (omega (arith, length-signals u f))
       ∙ ap (set (row (u .L) s (t .rings)) (t .desk .position)) (getD-tab 0 (u .speakers) (λ o. signal u o f) s nan lt ∙ ap (λ (o : ℕ). signal u o f) (zero-add s))
-    where
-      long : length (signals u f) ≡ u .speakers
-      long = length-tab 0 (u .speakers) (λ o. signal u o f)
 
   -- once a frame's signals are put, each ring read from its newest is the window of the history with that frame
   told-stored : (s : ℕ) → s < u .speakers → unrolled (suc (t .desk .position)) (row (u .L) s (stored u t f)) ≡ window u s (f ∷ past)

@@ -3,7 +3,7 @@ use Prim.Native.Nat.{ℕ, suc}
 use mathlib.Core.Path.{_≡_}
 use mathlib.Core.List.{List}
 use lib.Ieee.{Float}
-use Rattle.numbers.specs.Computed.{zero-float}
+use Rattle.formats.specs.Floats.{zero-float}
 use Rattle.planes.specs.Sums.{dot}
 use Rattle.refusals.proofs.Determined.{determined}
 use Rattle.rings.specs.Unrolled.{unrolled}

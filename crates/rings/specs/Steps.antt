@@ -3,21 +3,18 @@ use Prim.Native.Nat.{ℕ, suc}
 use mathlib.Core.Bool.{Bool, _||_}
 use mathlib.Core.List.{List, [], _∷_}
 use lib.Dec.{ltb}
+use lib.ListN.{getD}
 use lib.Ieee.{Float}
-use Rattle.numbers.specs.Computed.{zero-float}
-use Rattle.checks.specs.Tables.{row, count}
+use Rattle.formats.specs.Floats.{zero-float}
+use Rattle.lists.specs.Tables.{row, count}
 use Rattle.planes.specs.Planes.{withFrame}
 use Rattle.planes.specs.Sums.{dot}
-use Rattle.desk.specs.declared.Desk.{Desk}
 use Rattle.desk.specs.Steps.{steppedOf}
-use Rattle.history.specs.Setup.{Setup, tapsOf}
+use Rattle.history.specs.Setup.{Setup, tapsIn}
 use Rattle.history.specs.Signals.{signals, damaged}
 use Rattle.history.specs.History.{earOf}
 use Rattle.rings.specs.Unrolled.{unrolled}
-
-pub record State : Type 0 where
-  pub rings : List Float
-  pub desk : Desk
+use Rattle.rings.specs.State.{State}
 
 -- ---- one frame
 
@@ -25,9 +22,13 @@ pub record State : Type 0 where
 abbrev pub stored : Setup → State → List Float → List Float
 stored u t f = withFrame (t .rings) (u .L) (t .desk .position) (signals u f)
 
--- an ear's part of speaker s, where p is the cell that is written next
+-- an ear's part of speaker s with the taps of row j, where p is the cell that is written next
+abbrev pub partBy : ℕ → ℕ → ℕ → ℕ → ℕ → List Float → List Float → Float
+partBy L p s j ear taps rings = dot zero-float (unrolled p (row L s rings)) (tapsIn L j ear taps)
+
+-- the row being the speaker's
 abbrev pub partOf : Setup → ℕ → ℕ → List Float → ℕ → Float
-partOf u ear p rings s = dot zero-float (unrolled p (row (u .L) s rings)) (tapsOf u ear s)
+partOf u ear p rings s = partBy (u .L) p s (getD (u .rows) s 0) ear (u .taps) rings
 
 abbrev pub ringEar : Setup → ℕ → ℕ → List Float → Float
 ringEar u ear p rings = earOf (u .speakers) (partOf u ear p rings)

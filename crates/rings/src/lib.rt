@@ -5,10 +5,10 @@
 //
 // The laws (proofs/) say that rings and desk stand for a history (specs/Represents.antt): what is read out of
 // them is document 01's sums over it, and a frame keeps that so. Under it lie `history`, `desk`,
-// `planes`, `checks`, `numbers` and `refusals`.
+// `planes`, `checks`, `numbers`, `lists`, `formats` and `refusals`.
 ghost use mathlib.Core.Path.{_≡_};
 ghost use Prim.Native.Nat.{suc};
-ghost use Rattle.numbers.specs.Computed.{zero-float};
+ghost use Rattle.formats.specs.Floats.{zero-float};
 ghost use Rattle.planes.specs.Sums.{dot};
 ghost use Rattle.rings.specs.Unrolled.{unrolled};
 

@@ -6,11 +6,13 @@ use native.Mathlib.Omega.{arith}
 use lib.Ieee.{Float}
 use Rattle.planes.specs.Planes.{framesOf}
 use Rattle.planes.proofs.Planes.{frames-read}
-use Rattle.history.specs.Setup.{Setup}
+use Rattle.history.specs.Setup.{Setup, SameFilters}
 use Rattle.history.specs.History.{after}
-use Rattle.rings.specs.Steps.{State, left, played, counted}
+use Rattle.rings.specs.State.{State}
+use Rattle.rings.specs.Steps.{left, played, counted}
 use Rattle.rings.specs.Represents.{Represents}
 use Rattle.rings.proofs.Blocks.{counted-told, left-kept, two-ears, played-append, left-append, counted-append}
+use Rattle.rings.proofs.Filters.{played-alike, left-alike, counted-alike}
 use Rattle.hrtf_checks.specs.Call.{Call, setup, framesIn}
 use Rattle.hrtf_checks.specs.Refusals.{refusalOf}
 use Rattle.hrtf_checks.proofs.Refusing.{ears-fit}
@@ -25,17 +27,17 @@ record Called (u : Setup) (t : State) (c : Call) : Type 0 where
   pub counts : outcome c t .answer .unsettled ≡ counted u t (fed c t)
   pub leaves : next c t ≡ left u t (fed c t)
 
-called-by : (u : Setup) (t : State) (c : Call) → (refusalOf c t ≡ 0 → setup c ≡ u) → (k : ℕ) → refusalOf c t ≡ k → Called u t c
+called-by : (u : Setup) (t : State) (c : Call) → (refusalOf c t ≡ 0 → SameFilters (setup c) u) → (k : ℕ) → refusalOf c t ≡ k → Called u t c
 called-by u t c same zero e =
     record {
       sounds =
           ap (λ (o : Outcome). framesOf (o .ears) (c .stride) 2 (o .answer .samples)) made
           ∙ ap (framesOf (outcomeBy 0 c t .ears) (c .stride) 2) (sym (all-played c t))
           ∙ frames-read 2 (c .ears) (c .stride) (played (setup c) t (framesIn c)) (omega (arith, all-played c t, ears-fit c t e .0)) (ears-fit c t e .1) (two-ears (setup c) t (framesIn c))
-          ∙ ap (λ (v : Setup). played v t (framesIn c)) (same e)
+          ∙ played-alike (setup c) u (same e) t (framesIn c)
           ∙ ap (played u t) (sym fs);
-      counts = ap (λ (o : Outcome). o .answer .unsettled) made ∙ ap (λ (v : Setup). counted v t (framesIn c)) (same e) ∙ ap (counted u t) (sym fs);
-      leaves = ap stateAfter made ∙ ap (λ (v : Setup). left v t (framesIn c)) (same e) ∙ ap (left u t) (sym fs);
+      counts = ap (λ (o : Outcome). o .answer .unsettled) made ∙ counted-alike (setup c) u (same e) t (framesIn c) ∙ ap (counted u t) (sym fs);
+      leaves = ap stateAfter made ∙ left-alike (setup c) u (same e) t (framesIn c) ∙ ap (left u t) (sym fs);
     }
   where
     made : outcome c t ≡ outcomeBy 0 c t
@@ -56,7 +58,7 @@ called-by u t c same (suc k) e =
     fs : fed c t ≡ []
     fs = ap (λ (n : ℕ). fedBy n (framesIn c)) e
 
-called : (u : Setup) (t : State) (c : Call) → (refusalOf c t ≡ 0 → setup c ≡ u) → Called u t c
+called : (u : Setup) (t : State) (c : Call) → (refusalOf c t ≡ 0 → SameFilters (setup c) u) → Called u t c
 called u t c same = called-by u t c same (refusalOf c t) refl
 
 -- ---- calls one after another

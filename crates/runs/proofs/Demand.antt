@@ -5,13 +5,14 @@ use mathlib.Core.List.{List, []}
 use Prim.Native.Nat.{ℕ, _<_}
 use lib.ListN.{length, getD}
 use lib.Ieee.{Float}
-use Rattle.checks.specs.Tables.{unsound}
+use Rattle.checks.specs.Finite.{unsound}
 use Rattle.history.specs.Setup.{Setup}
-use Rattle.history.specs.History.{frameAgo, unsettled, heard, upto}
+use Rattle.history.specs.History.{unsettled, heard, upto}
 use Rattle.history.proofs.Windows.{ears-same, unsettled-same}
 use Rattle.history.proofs.Silence.{silence-sound}
-use Rattle.history.proofs.Pieces.{heard-at, ago-upto}
-use Rattle.rings.specs.Steps.{State, left, played, counted}
+use Rattle.history.proofs.Pieces.{heard-at}
+use Rattle.rings.specs.State.{State}
+use Rattle.rings.specs.Steps.{left, played, counted}
 use Rattle.rings.proofs.Blocks.{played-heard}
 use Rattle.hrtf_checks.specs.Call.{Call}
 use Rattle.runs.specs.Runs.{Alike, fedAll, soundedAll}
@@ -27,16 +28,13 @@ pub run-sums : (u : Setup) (t : State) (cs : List Call) → Run u t cs → Sums 
 run-sums u t cs r n h = ap (λ (l : List (List Float)). getD l n []) (run-heard u t cs r) ∙ heard-at u (fedAll t cs) n [] h
 
 module _ (u : Setup) (t s : State) (cs ds : List Call) (n m : ℕ) (hn : n < length (fedAll t cs)) (hm : m < length (fedAll s ds)) (e : Agree u t cs n s ds m) where
-  window-same : (k : ℕ) → k < u .L → frameAgo u (upto (fedAll t cs) n) k ≡ frameAgo u (upto (fedAll s ds) m) k
-  window-same k h = ago-upto u (fedAll t cs) n k hn ∙ e k h ∙ sym (ago-upto u (fedAll s ds) m k hm)
-
   -- (b): two runs that agree on a frame and the L-1 frames before it give the same two ear samples there, whatever came earlier
   pub run-agree : Run u t cs → Run u s ds → getD (soundedAll t cs) n [] ≡ getD (soundedAll s ds) m []
-  run-agree r q = run-sums u t cs r n hn ∙ ears-same u (upto (fedAll t cs) n) (upto (fedAll s ds) m) window-same ∙ sym (run-sums u s ds q m hm)
+  run-agree r q = run-sums u t cs r n hn ∙ ears-same u (upto (fedAll t cs) n) (upto (fedAll s ds) m) e ∙ sym (run-sums u s ds q m hm)
 
   -- and are both unsettled there or both settled
   pub run-settled : unsound (u .weights) ≡ false → unsettled u (upto (fedAll t cs) n) ≡ unsettled u (upto (fedAll s ds) m)
-  run-settled w = unsettled-same u (upto (fedAll t cs) n) (upto (fedAll s ds) m) (silence-sound u w) window-same
+  run-settled w = unsettled-same u (upto (fedAll t cs) n) (upto (fedAll s ds) m) (silence-sound u w) e
 
 -- (c)
 pub run-counts : (u : Setup) (t : State) (cs : List Call) → Run u t cs → Counts u t cs

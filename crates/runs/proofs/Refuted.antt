@@ -9,9 +9,9 @@ use native.Mathlib.Omega.{arith}
 use lib.ListN.{getD, replicate}
 use lib.Ieee.{Float, nan}
 use lib.Ieee.Positive.{positive}
-use Rattle.numbers.specs.Computed.{zero-float}
+use Rattle.formats.specs.Floats.{zero-float, one-float, half-float}
 use Rattle.planes.specs.Planes.{withFrames}
-use Rattle.history.specs.Drill.{one, half, drill}
+use Rattle.history.specs.Drill.{drill}
 use Rattle.history.proofs.Drill.{drill-8, drill-9}
 use Rattle.history.proofs.Loud.{largest, two, loud-unsettled}
 use Rattle.rings.specs.Represents.{Represents, fresh}
@@ -23,30 +23,30 @@ use Rattle.runs.proofs.Worked.{block, starts}
 
 -- the drill's samples in one block
 abbrev whole : Float → Call
-whole x = block 3 (x ∷ zero-float ∷ zero-float ∷ []) one
+whole x = block 3 (x ∷ zero-float ∷ zero-float ∷ []) one-float
 
 accepts : (x : Float) → refusalOf (whole x) (fresh drill) ≡ 0
 unfolding refusalOf
 accepts x = refl
 
 -- what an answer to them has to hold in its ear planes
-ears : (o : Outcome) → Processes (whole one) (fresh drill) o → o .ears ≡ one ∷ half ∷ zero-float ∷ zero-float ∷ one ∷ zero-float ∷ []
-ears o p = p .tells [] starts (accepts one) .ears ∙ ap (withFrames (replicate 6 zero-float) 3 0) drill-8
+ears : (o : Outcome) → Processes (whole one-float) (fresh drill) o → o .ears ≡ one-float ∷ half-float ∷ zero-float ∷ zero-float ∷ one-float ∷ zero-float ∷ []
+ears o p = p .tells [] starts (accepts one-float) .ears ∙ ap (withFrames (replicate 6 zero-float) 3 0) drill-8
 
 -- ---- refuses always
 
-refuses : (o : Outcome) → Processes (whole one) (fresh drill) o → (n : ℕ) → o .answer .refusal ≡ suc n → ⊥
+refuses : (o : Outcome) → Processes (whole one-float) (fresh drill) o → (n : ℕ) → o .answer .refusal ≡ suc n → ⊥
 unfolding refusalOf outcome
 refuses o p n e = suc-ne-zero n (sym e ∙ ap (λ (q : Outcome). q .answer .refusal) (p .answer))
 
 -- ---- the ear planes
 
 -- silence, or no writing: the planes were lent as silence
-silent : (o : Outcome) → Processes (whole one) (fresh drill) o → o .ears ≡ replicate 6 zero-float → ⊥
+silent : (o : Outcome) → Processes (whole one-float) (fresh drill) o → o .ears ≡ replicate 6 zero-float → ⊥
 silent o p e = true≢false (ap (λ (l : List Float). positive (getD l 0 nan)) (sym (ears o p) ∙ e))
 
 -- the first frame's samples again in the second and third
-copied : (o : Outcome) → Processes (whole one) (fresh drill) o → o .ears ≡ one ∷ one ∷ one ∷ zero-float ∷ zero-float ∷ zero-float ∷ [] → ⊥
+copied : (o : Outcome) → Processes (whole one-float) (fresh drill) o → o .ears ≡ one-float ∷ one-float ∷ one-float ∷ zero-float ∷ zero-float ∷ zero-float ∷ [] → ⊥
 copied o p e = true≢false (ap (λ (l : List Float). positive (getD l 4 nan)) (sym (ears o p) ∙ e))
 
 -- ---- an invented count

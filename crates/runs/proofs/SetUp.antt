@@ -6,18 +6,20 @@ use mathlib.Core.List.{List, [], _∷_}
 use Prim.Native.Nat.{ℕ, zero, suc, _*_, _≤_, _<_}
 use native.Mathlib.Nat.{zero-add}
 use native.Mathlib.Omega.{arith}
-use borrow.Author.Tests.{leb-true, lt-leb}
+use borrow.Author.Tests.{lt-leb}
 use lib.Dec.{leb}
 use lib.IntN.{ℤ}
-use lib.ListN.{length, getD, drop, replicate, length-append, length-drop, length-replicate}
+use lib.ListN.{length, getD, replicate, length-replicate}
 use lib.Ieee.{Float, binary32, fits}
 use lib.Ieee.Scale.{finite}
 use Rattle.refusals.specs.Refusals.{outside}
-use Rattle.numbers.specs.Computed.{zero-float}
-use Rattle.checks.specs.Tables.{unsound}
-use Rattle.checks.proofs.Checks.{both-off, all-off, not-outside, count-inside, equal-passes, planes-fit}
+use Rattle.formats.specs.Floats.{zero-float}
+use Rattle.checks.specs.Finite.{unsound}
+use Rattle.checks.proofs.Checks.{both-off, all-off, not-outside, count-inside, equal-passes}
 use Rattle.bank_form.specs.Bank as Form
-use Rattle.bank_form.specs.Bank.{Bank, within, isTap, every, valid}
+use Rattle.lists.specs.Tables.{every}
+use Rattle.lists.proofs.Placed.{length-placed}
+use Rattle.bank_form.specs.Bank.{Bank, isTap, valid}
 use Rattle.bank_form.specs.FaultComputed.{bankIn}
 use Rattle.bank_form.proofs.Exact.{Keeps, keeps}
 use Rattle.bank.specs.Reading.{ReadOutcome, Reads}
@@ -27,12 +29,13 @@ use Rattle.desk.specs.declared.Desk.{Desk}
 use Rattle.desk.proofs.Going.{position-below, waits-below}
 use Rattle.history.specs.Setup.{Setup}
 use Rattle.history.specs.Signals.{damaged}
-use Rattle.rings.specs.Steps.{State, stepped, left}
+use Rattle.rings.specs.State.{State}
+use Rattle.rings.specs.Steps.{stepped, left}
 use Rattle.rings.proofs.Told.{length-stored}
 use Rattle.hrtf_checks.specs.declared.Shape.{Shape}
 use Rattle.hrtf_checks.specs.Call.{Call, setup, framesIn}
 use Rattle.hrtf_checks.specs.Refusals.{misshapen, misfit, astray, refusalOf}
-use Rattle.hrtf_checks.proofs.Refusing.{accept}
+use Rattle.hrtf_checks.proofs.Refusing.{lengths-fit, on-desk, accept}
 use Rattle.hrtf.specs.Promise.{stateAfter}
 use Rattle.hrtf.specs.Reset.{resetRefusal, AfterReset, resetBy, resetOutcome, Resets}
 use Rattle.hrtf.proofs.Promised.{outcome-by, reset-accepts}
@@ -45,13 +48,8 @@ use Rattle.runs.specs.SetUp.{Fitted, AllFitted, Turns, NoneRefused}
 
 -- ---- a bank that keeps the form
 
--- a count that the form allows is one that no test refuses
-inside : (n top : ℕ) → within 1 top n ≡ true → outside n top ≡ false
-unfolding within
-inside n top e = let p = and-eq-true-iff (leb 1 n) (leb n top) .0 e in count-inside n top (leb-true 1 n (p .0)) (leb-true n top (p .1))
-
 pub taps-sound : (xs : List Float) → every isTap xs ≡ true → unsound xs ≡ false
-unfolding every isTap
+unfolding isTap
 taps-sound [] e = refl
 taps-sound (x ∷ xs) e =
     let p = and-eq-true-iff (isTap x) (every isTap xs) .0 e in
@@ -77,28 +75,22 @@ module _ (b : Bank) (v : valid b ≡ true) (o : Arrangement) (p : Playable (Form
   form = keeps b v
 
   shaped : misshapen (c .shape) (c .rows) ≡ false
-  shaped = ap (λ (h : Shape). misshapen h (c .rows)) (f .shape) ∙ ap (misshapen (shapeOf (Form.rows b) (b .length) o)) (f .rows) ∙ well-shaped (Form.rows b) (b .length) o p (inside (Form.rows b) 8 (form .few))
+  shaped = ap (λ (h : Shape). misshapen h (c .rows)) (f .shape) ∙ ap (misshapen (shapeOf (Form.rows b) (b .length) o)) (f .rows) ∙ well-shaped (Form.rows b) (b .length) o p (ap not (form .few))
 
   long : outside (c .shape .length) 512 ≡ false
-  long = ap (λ (h : Shape). outside (h .length) 512) (f .shape) ∙ inside (b .length) 512 (form .short)
+  long = ap (λ (h : Shape). outside (h .length) 512) (f .shape) ∙ ap not (form .short)
 
   lists-fit : misfit (c .shape) (c .frames) (c .stride) (length (c .inputs)) (length (c .weights)) (length (c .taps)) (length (t .rings)) (length (c .ears)) ≡ false
   lists-fit =
-      both-off _ _
-      (both-off _ _
-      (planes-fit (length (c .inputs)) (c .shape .channels) (c .stride) (c .frames) (f .room) (f .inputs ∙ ap (λ (h : Shape). h .channels * c .stride) (sym (f .shape))))
-      (planes-fit (length (c .ears)) 2 (c .stride) (c .frames) (f .room) (f .ears)))
-      (both-off _ _ (equal-passes (length (t .rings)) (c .shape .speakers * c .shape .length) (turns .ringed ∙ ap (λ (h : Shape). h .speakers * h .length) (sym (f .shape))))
-      (both-off _ _ (equal-passes (length (c .weights)) (c .shape .speakers * c .shape .channels) (ap length (f .weights) ∙ p .weighed ∙ ap (λ (h : Shape). h .speakers * h .channels) (sym (f .shape))))
-      (equal-passes (length (c .taps)) (2 * c .shape .rows * c .shape .length) (ap length (f .taps) ∙ form .count ∙ ap (λ (h : Shape). 2 * h .rows * h .length) (sym (f .shape))))))
+      ap (λ (h : Shape). misfit h (c .frames) (c .stride) (length (c .inputs)) (length (c .weights)) (length (c .taps)) (length (t .rings)) (length (c .ears))) (f .shape)
+      ∙ lengths-fit (shapeOf (Form.rows b) (b .length) o) (c .frames) (c .stride) (length (c .inputs)) (length (c .weights)) (length (c .taps)) (length (t .rings)) (length (c .ears)) (f .room) (f .inputs) (f .ears)
+      (turns .ringed) (ap length (f .weights) ∙ p .weighed) (ap length (f .taps) ∙ form .count)
 
   sound : (unsound (c .weights) || unsound (c .taps)) ≡ false
   sound = both-off _ _ (ap unsound (f .weights) ∙ p .sound) (ap unsound (f .taps) ∙ taps-sound (b .taps) (form .numbers))
 
   there : astray (t .desk) (c .shape .length) ≡ false
-  there =
-      both-off _ _ (ap (λ (h : Shape). leb (h .length) (t .desk .position)) (f .shape) ∙ lt-leb (b .length) (t .desk .position) (turns .within))
-      (ap (λ (h : Shape). leb (h .length) (t .desk .«to_go»)) (f .shape) ∙ lt-leb (b .length) (t .desk .«to_go») (turns .waits))
+  there = ap (λ (h : Shape). astray (t .desk) (h .length)) (f .shape) ∙ on-desk (t .desk) (b .length) (turns .within) (turns .waits)
 
   pub set-up-accepted : refusalOf c t ≡ 0
   set-up-accepted = sym (accept c t (shaped, (long, (lists-fit, (sound, (there, tt))))))
@@ -185,10 +177,10 @@ module _ (file : List ℕ) (zs : List ℤ) (xs : List Float) (r : ReadOutcome) (
   rows-are = ap (λ (y : ReadOutcome). y .answer .rows) (accepted-is file zs xs r reads good .1) ∙ ap Form.rows (sym (read-is file zs xs r reads good))
 
   pub few-rows : outside (r .answer .rows) 8 ≡ false
-  few-rows = ap (λ (n : ℕ). outside n 8) rows-are ∙ inside (Form.rows (bankOf r)) 8 (keeps (bankOf r) keeps-form .few)
+  few-rows = ap (λ (n : ℕ). outside n 8) rows-are ∙ ap not (keeps (bankOf r) keeps-form .few)
 
   pub short-filters : outside (r .answer .length) 512 ≡ false
-  short-filters = inside (r .answer .length) 512 (keeps (bankOf r) keeps-form .short)
+  short-filters = ap not (keeps (bankOf r) keeps-form .short)
 
   eight-azimuths : length (r .azimuths) ≡ 8
   eight-azimuths =
@@ -196,8 +188,7 @@ module _ (file : List ℕ) (zs : List ℤ) (xs : List Float) (r : ReadOutcome) (
       let lent = accepted-parts file zs xs (ap (λ (y : ReadOutcome). y .answer .refusal) (sym (reads .outcome)) ∙ good) .eight in
       let most : Form.rows b ≤ 8 = subst (λ (n : ℕ). n ≤ 8) (rows-are ∙ ap Form.rows (read-is file zs xs r reads good)) (not-outside (r .answer .rows) 8 few-rows .1) in
       ap (λ (y : ReadOutcome). length (y .azimuths)) (accepted-is file zs xs r reads good .1)
-      ∙ length-append (b .azimuths) (drop (Form.rows b) zs)
-      ∙ omega (arith, length-drop (Form.rows b) zs, lent, most)
+      ∙ length-placed zs 0 (b .azimuths) (omega (arith, lent, most)) ∙ lent
 
   -- speakers that are offered are set up, and rings of their cells are reset
   pub good-bank-set-up : (w : Wanted) (weights : List Float) → w .check .holds ≡ false → length weights ≡ w .speakers * w .channels → Arranging.refusalOf w (r .azimuths) (r .answer .rows) weights ≡ 0

@@ -7,10 +7,12 @@ use native.Mathlib.Omega.{arith}
 use lib.ListN.{replicate}
 use lib.Ieee.{Float, nan, add, mul, round, size, span, climb, units, odd}
 use lib.Ieee as ieee
-use Rattle.numbers.specs.Computed.{zero-float, rounded}
+use Rattle.formats.specs.Floats.{zero-float, one-float, half-float}
+use Rattle.numbers.specs.Computed.{rounded}
 use Rattle.planes.specs.Sums.{mixed}
+use Rattle.history.proofs.Filters.{same-filters}
 use Rattle.history.specs.History.{heard}
-use Rattle.history.specs.Drill.{one, half, drill, samples}
+use Rattle.history.specs.Drill.{drill, samples}
 use Rattle.history.proofs.Drill.{drill-8, drill-9-heard}
 use Rattle.rings.specs.Represents.{Represents, fresh}
 use Rattle.rings.proofs.Told.{fresh-represents}
@@ -37,7 +39,7 @@ block n xs weight =
 
 -- a sample, a call with a NaN for a weight, no frame at all, and two samples of silence
 abbrev calls : Float → List Call
-calls x = block 1 (x ∷ []) one ∷ block 1 (one ∷ []) nan ∷ block 0 [] one ∷ block 2 (zero-float ∷ zero-float ∷ []) one ∷ []
+calls x = block 1 (x ∷ []) one-float ∷ block 1 (one-float ∷ []) nan ∷ block 0 [] one-float ∷ block 2 (zero-float ∷ zero-float ∷ []) one-float ∷ []
 
 -- what a reset leaves
 pub starts : Represents drill [] (fresh drill)
@@ -45,13 +47,13 @@ starts = fresh-represents drill (omega arith) refl
 
 alike : (x : Float) → Alike drill (fresh drill) (calls x)
 unfolding refusalOf outcome
-alike x = (λ e. refl, (λ e. absurd (suc-ne-zero 6 e), (λ e. refl, (λ e. refl, tt))))
+alike x = (λ e. same-filters drill, (λ e. absurd (suc-ne-zero 6 e), (λ e. same-filters drill, (λ e. same-filters drill, tt))))
 
 run : (x : Float) → Run drill (fresh drill) (calls x)
 run x = record { reset = starts; alike = alike x }
 
 -- whether the third and fourth call are accepted hangs on the frames to go that the first leaves, so each is computed
-fed-8 : fedAll (fresh drill) (calls one) ≡ samples one
+fed-8 : fedAll (fresh drill) (calls one-float) ≡ samples one-float
 unfolding refusalOf outcome mixed rounded add mul ieee.sum round size span climb units odd
 fed-8 = refl
 
@@ -60,8 +62,8 @@ unfolding refusalOf outcome mixed rounded add mul ieee.sum round size span climb
 fed-9 = refl
 
 -- drill table 8
-played-8 : soundedAll (fresh drill) (calls one) ≡ (one ∷ zero-float ∷ []) ∷ (half ∷ one ∷ []) ∷ (zero-float ∷ zero-float ∷ []) ∷ []
-played-8 = run-heard drill (fresh drill) (calls one) (run one) ∙ ap (heard drill []) fed-8 ∙ drill-8
+played-8 : soundedAll (fresh drill) (calls one-float) ≡ (one-float ∷ zero-float ∷ []) ∷ (half-float ∷ one-float ∷ []) ∷ (zero-float ∷ zero-float ∷ []) ∷ []
+played-8 = run-heard drill (fresh drill) (calls one-float) (run one-float) ∙ ap (heard drill []) fed-8 ∙ drill-8
 
 -- drill table 9: two are unsettled, then 0 and 0
 played-9 : soundedAll (fresh drill) (calls nan) ≡ (nan ∷ nan ∷ []) ∷ (nan ∷ nan ∷ []) ∷ (zero-float ∷ zero-float ∷ []) ∷ []

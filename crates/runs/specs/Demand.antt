@@ -4,8 +4,8 @@ use mathlib.Core.Path.{_≡_}
 use mathlib.Core.List.{List, []}
 use lib.ListN.{length, getD}
 use Rattle.history.specs.Setup.{Setup}
-use Rattle.history.specs.History.{earSamples, upto, ago}
-use Rattle.rings.specs.Steps.{State}
+use Rattle.history.specs.History.{frameAgo, earSamples, upto}
+use Rattle.rings.specs.State.{State}
 use Rattle.rings.specs.Represents.{Represents}
 use Rattle.hrtf_checks.specs.Call.{Call}
 use Rattle.runs.specs.Runs.{Alike, fedAll, soundedAll, end, answered, owed, sum}
@@ -21,7 +21,7 @@ Sums u t cs = (n : ℕ) → n < length (fedAll t cs) → getD (soundedAll t cs) 
 
 -- (b) frame n of one run and frame m of another, and the L-1 frames before each, agree: silence stands before the first
 abbrev pub Agree : Setup → State → List Call → ℕ → State → List Call → ℕ → Type 0
-Agree u t cs n s ds m = (k : ℕ) → k < u .L → ago u (fedAll t cs) n k ≡ ago u (fedAll s ds) m k
+Agree u t cs n s ds m = (k : ℕ) → k < u .L → frameAgo u (upto (fedAll t cs) n) k ≡ frameAgo u (upto (fedAll s ds) m) k
 
 -- (c) each call's unsettled count is the number of its frames with a damaged frame among the last L
 abbrev pub Counts : Setup → State → List Call → Type 0

@@ -1,12 +1,13 @@
 -- A run: calls of `process` one after another, the rings and the desk passed on untouched. A call may be refused; it then feeds nothing and leaves all as it was. Definitions only.
-use Prim.Native.Nat.{ℕ, zero, suc, _+_}
+use Prim.Native.Nat.{ℕ, _+_}
 use mathlib.Core.Path.{_≡_}
 use mathlib.Core.List.{List, [], _∷_, _++_}
 use lib.Ieee.{Float}
+use Rattle.refusals.specs.Refusals as Refusals
 use Rattle.planes.specs.Planes.{framesOf}
-use Rattle.history.specs.Setup.{Setup}
+use Rattle.history.specs.Setup.{Setup, SameFilters}
 use Rattle.history.specs.History.{unsettledIn, after}
-use Rattle.rings.specs.Steps.{State}
+use Rattle.rings.specs.State.{State}
 use Rattle.hrtf_checks.specs.Call.{Call, setup, framesIn}
 use Rattle.hrtf_checks.specs.Refusals.{refusalOf}
 use Rattle.hrtf.specs.Promise.{outcome, stateAfter}
@@ -19,8 +20,7 @@ next c t = stateAfter (outcome c t)
 
 -- the frames that it feeds: those of its input planes, or none where it is refused
 abbrev pub fedBy : ℕ → List (List Float) → List (List Float)
-fedBy zero fs = fs
-fedBy (suc n) fs = []
+fedBy n fs = Refusals.answered n fs (λ k. [])
 
 abbrev pub fed : Call → State → List (List Float)
 fed c t = fedBy (refusalOf c t) (framesIn c)
@@ -31,10 +31,10 @@ sounded c t = framesOf (outcome c t .ears) (c .stride) 2 (outcome c t .answer .s
 
 -- ---- a run
 
--- every call that is accepted has the weights, filters, rows and counts of u; a call that is refused may hold anything
+-- every call that is accepted has the counts, L, weights and filters of u; a call that is refused may hold anything
 abbrev pub Alike : Setup → State → List Call → Type 0
 Alike u t [] = Unit {0}
-Alike u t (c ∷ cs) = (refusalOf c t ≡ 0 → setup c ≡ u) × Alike u (next c t) cs
+Alike u t (c ∷ cs) = (refusalOf c t ≡ 0 → SameFilters (setup c) u) × Alike u (next c t) cs
 
 abbrev pub fedAll : State → List Call → List (List Float)
 fedAll t [] = []

@@ -5,7 +5,7 @@ use mathlib.Core.Path.{_≡_}
 use mathlib.Core.List.{List, [], _∷_}
 use lib.ListN.{length}
 use Rattle.bank_form.specs.Bank as Form
-use Rattle.rings.specs.Steps.{State}
+use Rattle.rings.specs.State.{State}
 use Rattle.hrtf_checks.specs.Call.{Call}
 use Rattle.hrtf_checks.specs.Refusals.{refusalOf}
 use Rattle.hrtf_setup.specs.Arrangement.{Arrangement}

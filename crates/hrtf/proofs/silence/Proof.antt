@@ -5,9 +5,9 @@ use denote.Ref.{now}
 use lib.ListN.{length}
 use lib.Ieee.{ofBits}
 use mathlib.Core.Path.{refl, _∙_}
-use Rattle.numbers.specs.Computed.{zero-float}
-use Rattle.checks.proofs.Tables.{tab-constant}
-use Rattle.checks.proofs.Filling.{Filling, filling-none, filling-more, filling-whole}
+use Rattle.formats.specs.Floats.{zero-float}
+use Rattle.lists.proofs.Tables.{tab-constant}
+use Rattle.lists.proofs.Filling.{Filling, filling-none, filling-more, filling-whole}
 use Rattle.hrtf.proofs.silence.Statement.{statement}
 use Rattle.hrtf.proofs.silence.Tie as tie
 

@@ -4,7 +4,7 @@ use Prim.Native.Nat.{_-_}
 use native.Mathlib.Omega.{arith}
 use denote.Ref.{now}
 use lib.ListN.{length}
-use Rattle.checks.proofs.Filling.{Filling, filling-none, filling-more, filling-whole}
+use Rattle.lists.proofs.Filling.{Filling, filling-none, filling-more, filling-whole}
 use Rattle.hrtf_setup.specs.Speakers.{weightAt}
 use Rattle.hrtf_setup.proofs.put_weights.Statement.{statement}
 use Rattle.hrtf_setup.proofs.put_weights.Tie as tie

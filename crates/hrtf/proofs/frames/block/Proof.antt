@@ -68,7 +68,7 @@ use Rattle.desk.proofs.step as step
 use Rattle.desk.proofs.step.Symbol as step-def
 use Rattle.desk.proofs.step.Symbol.{name as #desk·step}
 use Rattle.desk.proofs.step.Met as step-thm
-use Rattle.rings.specs.Steps.{State}
+use Rattle.rings.specs.State.{State}
 use Rattle.hrtf_checks.specs.declared.Shape.{Shape}
 use Rattle.hrtf_checks.specs.Call.{Call, Ready}
 use Rattle.hrtf_checks.proofs.Shape as S
@@ -430,7 +430,7 @@ module _ {M : Type 1} (𝓤 : URA M) (H : Heap 𝓤) (A : Atoms 𝓤) (W : Given
           n = s .played .unsettled
 
           few : n < 2 ^ 64
-          few = omega (arith, s .playing .few, s .playing .below, frames-fits)
+          few = omega (arith, s .playing .few, s .playing .goes .below, frames-fits)
 
       -- a turn's postcondition: it ends with fewer frames left, or the loop is left and the rest of the body runs
       abbrev After : Now → Out → SProp 𝓤

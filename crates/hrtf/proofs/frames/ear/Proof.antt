@@ -1,21 +1,22 @@
--- `hrtf::frames::ear` meets its contract: `Earing`. Assumes nothing.
+-- `hrtf::frames::ear` meets its contract: `planes`' `Summing`, over the parts of the speakers. Assumes nothing.
 use Prim.Native.Nat.{suc, _-_}
 use native.Mathlib.Omega.{arith}
 use denote.Ref.{now}
 use lib.Ieee.{ofBits}
-use Rattle.hrtf.proofs.Earing.{Earing, earing-none, earing-more, earing-all}
+use Rattle.planes.proofs.Sums.{Summing, summing-none, summing-more, summing-all}
+use Rattle.hrtf.proofs.Earing.{parts, eared}
 use Rattle.hrtf.proofs.frames.ear.Statement.{statement}
 use Rattle.hrtf.proofs.frames.ear.Tie as tie
 
 abbrev Inv-loop : tie.InvT-loop
-Inv-loop shape position row-of taps side rings speakers sum₀ s₀ sum s = Earing shape (suc position) row-of taps side rings sum s
+Inv-loop shape position row-of taps side rings speakers sum₀ s₀ sum s = Summing (parts shape (suc position) row-of taps side rings) (shape .speakers) sum s
 
 abbrev μ-loop : tie.MeasureT-loop
 μ-loop shape position row-of taps side rings speakers sum₀ s₀ sum s = speakers - s
 
 loop-holds : tie.Need-loop-holds Inv-loop μ-loop
 unfolding ofBits
-loop-holds c = let a = c .before .before .args in earing-none (a .shape) (suc (a .position)) (now (a .row-of)) (now (a .taps)) (a .side) (now (a .rings))
+loop-holds c = let a = c .before .before .args in summing-none (parts (a .shape) (suc (a .position)) (now (a .row-of)) (now (a .taps)) (a .side) (now (a .rings))) (a .shape .speakers)
 
 mul-row : tie.Need-mul-row Inv-loop μ-loop
 mul-row c = omega (arith, c .before .before .before .before .pre .0 .few)
@@ -38,7 +39,7 @@ loop-again : tie.Need-loop-again Inv-loop μ-loop
 loop-again c =
     let l = c .before .before .before in
     let a = c .before .before .before .before .before .before .args in
-    earing-more (a .shape) (suc (a .position)) (now (a .row-of)) (now (a .taps)) (a .side) (now (a .rings)) (l .loop .sum) (l .loop .s) (c .part .result) (l .loop .inv) (c .before .before .loop-test .taken) (c .part .ensures)
+    summing-more (parts (a .shape) (suc (a .position)) (now (a .row-of)) (now (a .taps)) (a .side) (now (a .rings))) (a .shape .speakers) (l .loop .sum) (l .loop .s) (c .part .result) (l .loop .inv) (c .before .before .loop-test .taken) (c .part .ensures)
 
 cast-inverse-root : tie.Need-cast-inverse-root Inv-loop μ-loop
 cast-inverse-root c = omega (arith, c .before .before .before .before .pre .0 .few)
@@ -53,7 +54,8 @@ returns : tie.Need-returns Inv-loop μ-loop
 returns c =
     let l = c .before .before .before in
     let a = c .before .before .before .before .before .before .args in
-    earing-all (a .shape) (suc (a .position)) (now (a .row-of)) (now (a .taps)) (a .side) (now (a .rings)) (l .loop .sum) (c .before .inverse-root .result) (c .narrow .result) (l .loop .s) (l .loop .inv) (c .before .before .loop-test .left) (c .before .inverse-root .ensures .value) (c .narrow .ensures .bits)
+    eared (a .shape) (suc (a .position)) (now (a .row-of)) (now (a .taps)) (a .side) (now (a .rings)) (l .loop .sum) (c .before .inverse-root .result) (c .narrow .result)
+    (summing-all (parts (a .shape) (suc (a .position)) (now (a .row-of)) (now (a .taps)) (a .side) (now (a .rings))) (a .shape .speakers) (l .loop .sum) (l .loop .s) (l .loop .inv) (c .before .before .loop-test .left)) (c .before .inverse-root .ensures .value) (c .narrow .ensures .bits)
 
 pub ear-spec : {M : Type 1} → statement M
 ear-spec =

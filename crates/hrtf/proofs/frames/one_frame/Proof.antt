@@ -6,9 +6,10 @@ use lib.Dec.{ltb}
 use lib.Ieee.{Float}
 use denote.Ref.{now}
 use Rattle.planes.specs.Planes.{frameAt}
-use Rattle.rings.specs.Steps.{State}
+use Rattle.rings.specs.State.{State}
 use Rattle.hrtf_checks.specs.Call.{Ready}
-use Rattle.hrtf.proofs.Playing.{ready-stored, turned, one-at-most}
+use Rattle.lists.proofs.Lists.{one-at-most}
+use Rattle.hrtf.proofs.Playing.{ready-stored, turned}
 use borrow.Author.Needs.{needs}
 use Rattle.hrtf.proofs.frames.one_frame.Statement.{statement}
 use Rattle.hrtf.proofs.frames.one_frame.Tie as tie
