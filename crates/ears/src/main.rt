@@ -1,5 +1,7 @@
 // The program (document 01, item 10): `bank.bin`, 5.1 frames on standard input, `ears.raw`, and one line. With
-// three arguments it takes the names of the bank, of the line and of the output instead. The work is `ears_file`.
+// three arguments it takes the names of the bank, of the line and of the output instead. It promises nothing of its own
+// beyond being safe and ending. Under it lie `ears_file`, which does the work, and the kit's `os` (arguments and files),
+// `io` and `libc`.
 use ears_file::Outcome;
 use libc::STDERR_FILENO;
 use libc::STDIN_FILENO;

@@ -4,42 +4,44 @@ use mathlib.Core.Bool.{false}
 use mathlib.Core.List.{List, map}
 use Prim.Native.Nat.{ℕ, _*_, _≤_, _<_}
 use native.Mathlib.Omega.{arith}
-use borrow.Author.Tests.{lt-leb}
-use lib.ListN.{length, length-take}
+use lib.ListN.{length, take, length-take}
 use lib.Ieee.{Float}
-use Rattle.checks.proofs.Checks.{both-off, equal-passes, planes-fit, not-outside}
+use Rattle.checks.proofs.Checks.{not-outside}
 use Rattle.planes.proofs.Planes.{length-with-frames}
 use Rattle.history.specs.Signals.{damaged}
 use Rattle.rings.specs.Represents.{Represents}
 use Rattle.rings.proofs.ToGo.{to-go-below}
 use Rattle.hrtf_checks.specs.Refusals.{misfit, astray, refusalOf}
-use Rattle.hrtf_checks.proofs.Refusing.{accept}
+use Rattle.hrtf_checks.proofs.Refusing.{lengths-fit, on-desk, accept}
 use Rattle.wire.specs.Frames.{wholeIn, framesIn}
 use Rattle.ears_play.specs.declared.Progress.{Progress}
-use Rattle.ears_play.specs.Turns.{Fixed, Lent, setupIn, come, stateIn, planesIn, callIn}
+use Rattle.ears_play.specs.Turns.{Fixed, Lent, setupIn, stateIn, planesIn, callIn}
 use Rattle.ears_file.specs.Playing.{Ready, Room}
 
 module _ (x : Fixed) (p : Progress) (size : ℕ) (l : Lent) (past : List (List Float)) (ready : Ready x) (room : Room l) (stands : Represents (setupIn x) past (stateIn p l)) where
-  few : wholeIn (come size l) ≤ 1024
+  -- the bytes that have come
+  abbrev come : List ℕ
+  come = take size (l .bytes)
+
+  few : wholeIn come ≤ 1024
   few = omega (arith, length-take size (l .bytes), room .bytes)
 
-  pub all-written : wholeIn (come size l) * 8 ≤ length (l .out)
+  pub all-written : wholeIn come * 8 ≤ length (l .out)
   all-written = omega (arith, few, room .out)
 
-  inputs-long : length (planesIn x size l) ≡ x .shape .channels * x .stride
-  inputs-long = length-with-frames (l .inputs) (x .stride) 0 (framesIn (come size l)) ∙ omega (arith, room .inputs, ready .six, ready .block) ∙ sym (ap (λ (k : ℕ). k * x .stride) (ready .six))
+  inputs-long : length (planesIn x come l) ≡ x .shape .channels * x .stride
+  inputs-long = length-with-frames (l .inputs) (x .stride) 0 (framesIn come) ∙ omega (arith, room .inputs, ready .six, ready .block) ∙ sym (ap (λ (k : ℕ). k * x .stride) (ready .six))
 
-  fits : misfit (x .shape) (wholeIn (come size l)) (x .stride) (length (planesIn x size l)) (length (x .weights)) (length (x .taps)) (length (l .rings)) (length (l .ears)) ≡ false
+  fits : misfit (x .shape) (wholeIn come) (x .stride) (length (planesIn x come l)) (length (x .weights)) (length (x .taps)) (length (l .rings)) (length (l .ears)) ≡ false
   fits =
-      let low : wholeIn (come size l) ≤ x .stride = omega (arith, few, ready .block) in
-      both-off _ _ (both-off _ _ (planes-fit _ _ _ _ low inputs-long) (planes-fit _ _ _ _ low (omega (arith, room .ears, ready .block))))
-      (both-off _ _ (equal-passes _ _ (stands .room)) (both-off _ _ (equal-passes _ _ (ready .weighted)) (equal-passes _ _ (ready .tapped))))
+      let low : wholeIn come ≤ x .stride = omega (arith, few, ready .block) in
+      lengths-fit (x .shape) _ _ _ _ _ _ _ low inputs-long (omega (arith, room .ears, ready .block)) (stands .room) (ready .weighted) (ready .tapped)
 
   there : astray (p .desk) (x .shape .length) ≡ false
   there =
       let some = not-outside (x .shape .length) 512 (ready .long) .0 in
       let below : p .desk .«to_go» < x .shape .length = omega (arith, stands .waits, to-go-below (x .shape .length) (map (damaged (setupIn x)) past) some) in
-      both-off _ _ (lt-leb (x .shape .length) (p .desk .position) (stands .within)) (lt-leb (x .shape .length) (p .desk .«to_go») below)
+      on-desk (p .desk) (x .shape .length) (stands .within) below
 
-  pub not-refused : refusalOf (callIn x size l) (stateIn p l) ≡ 0
-  not-refused = sym (accept (callIn x size l) (stateIn p l) (ready .shaped, (ready .long, (fits, (ready .sound, (there, tt))))))
+  pub not-refused : refusalOf (callIn x come l) (stateIn p l) ≡ 0
+  not-refused = sym (accept (callIn x come l) (stateIn p l) (ready .shaped, (ready .long, (fits, (ready .sound, (there, tt))))))

@@ -2,19 +2,19 @@
 use mathlib.Core.Path.{_≡_, refl, sym, ap, _∙_, subst}
 use mathlib.Core.Bool.{Bool, true, false, cond, true≢false}
 use mathlib.Core.List.{List, []}
-use Prim.Native.Nat.{ℕ, _*_, _≤_}
+use Prim.Native.Nat.{ℕ, zero, suc, _*_, _≤_}
 use native.Mathlib.Omega.{arith}
 use borrow.Author.Tests.{ltb-false}
-use lib.Dec.{ltb, eqb}
-use lib.ListN.{length, take, drop, replicate}
-use lib.Seq.{take-at}
+use lib.Dec.{ltb}
+use lib.ListN.{length, take, replicate}
 use lib.IntN.{pos}
 use lib.Ieee.{Float}
 use Rattle.io.specs.Counts.{Counts}
+use Rattle.refusals.specs.Refusals.{answered}
 use Rattle.refusals.proofs.First.{stops, goes-on}
-use Rattle.big_endian.specs.Placed.{placed}
-use Rattle.big_endian.proofs.Placed.{placed-none}
-use Rattle.checks.specs.Tables.{unsound}
+use Rattle.lists.specs.Placed.{placed}
+use Rattle.lists.proofs.Placed.{placed-none, take-placed}
+use Rattle.checks.specs.Finite.{unsound}
 use Rattle.bank_form.specs.Bank.{Bank, rows}
 use Rattle.bank_form.specs.FaultComputed.{bankIn, isFile}
 use Rattle.bank_form.proofs.Exact.{Keeps, keeps}
@@ -64,9 +64,9 @@ over-answers u t r e ends = go (t .failed) refl
     go false f = ended-answers (OfLine u) (endOf (t .progress)) r (e ∙ goes-on _ _ f) (ends f)
 
 -- a list that has room for the longest line has room for this one
-short-by : (t : Bool) (frames unsettled number : ℕ) → length (cond t (framesLine frames unsettled) (refusedLine number)) ≤ 59
-short-by true frames unsettled number = frames-short frames unsettled
-short-by false frames unsettled number = refused-short number
+short-by : (number frames unsettled : ℕ) → length (answered number (framesLine frames unsettled) refusedLine) ≤ 59
+short-by zero frames unsettled = frames-short frames unsettled
+short-by (suc n) frames unsettled = refused-short (suc n)
 
 fits-by : (t : Bool) (size line : ℕ) → ltb size 64 ≡ t → line ≤ 59 → cond t 0 line ≤ size
 fits-by true size line e h = omega arith
@@ -75,7 +75,7 @@ fits-by false size line e h = omega (arith, ltb-false size 64 e)
 line-fits : (e : Ended) (out : List ℕ) (size : ℕ) (after : List ℕ) → Lined out (lineOf e) size after → size ≤ length out
 line-fits e out size after put =
     subst (λ (n : ℕ). n ≤ length out) (sym (put .count))
-    (fits-by (ltb (length out) 64) (length out) (length (lineOf e)) refl (short-by (eqb (e .refusal) 0) (e .frames) (e .unsettled) (e .refusal)))
+    (fits-by (ltb (length out) 64) (length out) (length (lineOf e)) refl (short-by (e .refusal) (e .frames) (e .unsettled)))
 
 -- so does one of the same length, and a caller can cut the line from it
 pub line-counts : (e : Ended) (out : List ℕ) (size : ℕ) (after : List ℕ) → Lined out (lineOf e) size after → length after ≡ length out → Counts size after
@@ -133,7 +133,7 @@ module _ (o : ReadOutcome) (taps : List Float) (most : length taps ≡ 8192) (f 
     tapped : take (2 * o .answer .rows * o .answer .length) (o .taps) ≡ b .taps
     tapped =
         ap (λ (q : ReadOutcome). take (2 * q .answer .rows * q .answer .length) (q .taps)) is
-        ∙ take-at (b .taps) (drop (length (b .taps)) taps) (2 * rows b * b .length) (kept .count)
+        ∙ take-placed taps (b .taps) (2 * rows b * b .length) (kept .count)
 
     pub sound : unsound (take (2 * o .answer .rows * o .answer .length) (o .taps)) ≡ false
     sound = ap unsound tapped ∙ taps-sound (b .taps) (kept .numbers)

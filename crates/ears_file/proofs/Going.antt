@@ -7,15 +7,17 @@ use native.Mathlib.Decide.{decLt}
 use native.Mathlib.Omega.{arith}
 use lib.ListN.{length, take, drop, replicate, length-drop, length-take, take-append-drop}
 use lib.Seq.{take-take}
-use Rattle.numbers.specs.Computed.{zero-float}
-use Rattle.checks.specs.Tables.{unsound}
+use Rattle.refusals.specs.Refusals.{answered}
+use Rattle.formats.specs.Floats.{zero-float}
+use Rattle.checks.specs.Finite.{unsound}
 use Rattle.checks.proofs.Checks.{or-off, not-outside}
+use Rattle.hrtf_checks.specs.Refusals.{refusalOf}
 use Rattle.hrtf.specs.Promise.{Outcome, outcome}
 use Rattle.wire.specs.Frames.{wholeIn, restIn}
 use Rattle.ears_play.specs.declared.Progress.{Progress}
 use Rattle.ears_play.specs.declared.Turn.{Turn}
 use Rattle.ears_play.specs.Ending.{atStart}
-use Rattle.ears_play.specs.Turns.{Fixed, Lent, setupIn, stateIn, callIn, Turned, turnBy, Plays}
+use Rattle.ears_play.specs.Turns.{Fixed, Lent, setupIn, stateIn, callIn, Turned, turnRefused, turnPlayed, Plays}
 use Rattle.ears_play.specs.Runs.{So, atOnce, Stands, Steps}
 use Rattle.ears_play.proofs.Cuts.{one-more, start-stands, turn-steps}
 use Rattle.ears_file.specs.declared.input.Turned as declared
@@ -31,14 +33,14 @@ pub holds-few : (x : Fixed) (p : Progress) (l : Lent) → Playing x p l → p .h
 holds-few x p l s = omega (arith, s .stands .holds, length-drop (wholeIn (s .line) * 24) (s .line))
 
 -- what is put out has room
-put-by : (k : ℕ) (x : Fixed) (p : Progress) (size : ℕ) (l : Lent) (o : Outcome) → turnBy k x p size l o .answer .bytes ≤ length (l .out)
-put-by zero x p size l o = omega arith
-put-by (suc k) x p size l o = omega arith
+put-by : (k : ℕ) (x : Fixed) (p : Progress) (come : List ℕ) (l : Lent) (o : Outcome) → answered k (turnPlayed x p come l o) (turnRefused p l) .answer .bytes ≤ length (l .out)
+put-by zero x p come l o = omega arith
+put-by (suc k) x p come l o = omega arith
 
-pub put-fits : (x : Fixed) (p : Progress) (size : ℕ) (l : Lent) (r : Turn) (left : Lent) → Plays x p size l r left → r .bytes ≤ length (l .out)
-put-fits x p size l r left plays =
+pub put-fits : (x : Fixed) (p : Progress) (come : List ℕ) (l : Lent) (r : Turn) (left : Lent) → Plays x p come l r left → r .bytes ≤ length (l .out)
+put-fits x p come l r left plays =
     subst (λ (n : ℕ). n ≤ length (l .out)) (ap (λ (t : Turned). t .answer .bytes) (sym (plays .answer)))
-    (put-by (outcome (callIn x size l) (stateIn p l) .answer .refusal) x p size l (outcome (callIn x size l) (stateIn p l)))
+    (put-by (refusalOf (callIn x come l) (stateIn p l)) x p come l (outcome (callIn x come l) (stateIn p l)))
 
 module _ (x : Fixed) (p : Progress) (l : Lent) (bytes : List ℕ) (kept : take (p .held) bytes ≡ take (p .held) (l .bytes)) where
   stays : (line : List ℕ) → Standing x line p l → Standing x line p (withBytes l bytes)
@@ -63,7 +65,7 @@ module _ (x : Fixed) (p : Progress) (l : Lent) (bytes : List ℕ) (kept : take (
       going o = absurd (true≢false (sym (ap (λ (t : declared.Turned). t .over) e) ∙ o))
 
   module _ (size : ℕ) (low : p .held ≤ size) (grew : size ≡ p .held → ⊥) (high : size ≤ length bytes) (ready : Ready x) (room : Room l) (long : length bytes ≡ length (l .bytes)) (r : Turn) (left : Lent)
-      (plays : Plays x p size (withBytes l bytes) r left) where
+      (plays : Plays x p (take size bytes) (withBytes l bytes) r left) where
     part : List ℕ
     part = drop (p .held) (take size bytes)
 
@@ -83,7 +85,7 @@ module _ (x : Fixed) (p : Progress) (l : Lent) (bytes : List ℕ) (kept : take (
 
       steps : Steps x (atOnce (setupIn x) line) part (withBytes l bytes) r left
       steps =
-          turn-steps x (atOnce (setupIn x) line) part p size (withBytes l bytes) r left (stays line stood) comes plays
+          turn-steps x (atOnce (setupIn x) line) part p (take size bytes) (withBytes l bytes) r left (stays line stood) comes plays
           (not-refused x p size (withBytes l bytes) (atOnce (setupIn x) line .past) ready roomy (stood .history)) (ready .six)
           (all-written x p size (withBytes l bytes) (atOnce (setupIn x) line .past) ready roomy (stood .history))
 

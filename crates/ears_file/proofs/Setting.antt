@@ -7,38 +7,32 @@ use native.Mathlib.Nat.{mul-le-mul}
 use native.Mathlib.Omega.{arith}
 use lib.IntN.{ℤ}
 use lib.ListN.{length, replicate}
-use lib.Ieee.{Float, binary32, ofBits}
+use lib.Ieee.{Float}
 use Rattle.refusals.specs.Refusals.{outside}
-use Rattle.numbers.specs.Computed.{zero-float}
-use Rattle.checks.specs.Tables.{unsound}
+use Rattle.checks.specs.Finite.{unsound}
 use Rattle.checks.proofs.Checks.{both-off}
 use Rattle.channel.specs.declared.Layout.the-variants.{Surround51}
 use Rattle.hrtf_setup.specs.Arrangement.{refusalOf, Arrangement, arrangedBy, arrangement}
 use Rattle.hrtf_setup.specs.Promise.{ofLayout, NewSurround}
 use Rattle.hrtf_setup.proofs.Accepted.{Playable, set-up as set-up-kept, surround-playable}
 use Rattle.runs.proofs.SetUp.{well-shaped}
-use Rattle.ears_play.specs.Turns.{Fixed, setupIn}
-use Rattle.ears_file.specs.Lines.{setupBy}
+use Rattle.ears_play.specs.Turns.{Fixed, fixed, setupIn}
+use Rattle.ears_file.specs.Lines.{arranged, setupBy}
 use Rattle.ears_file.specs.Playing.{Ready}
-
--- what an array of 0.0 holds
-pub zero-bits : ofBits binary32 0 ≡ zero-float
-unfolding ofBits
-zero-bits = refl
 
 -- as many taps as a bank may have
 pub taps-few : (n L : ℕ) → n ≤ 8 → L ≤ 512 → 2 * n * L ≤ 8192
 taps-few n L h g = let few : 2 * n ≤ 16 = omega (arith, h) in omega (arith, mul-le-mul few g)
 
 abbrev fixedBy : Arrangement → ℕ → ℕ → List Float → Fixed
-fixedBy o n L taps = record { shape = record { channels = o .answer .channels; speakers = o .answer .speakers; rows = n; length = L }; stride = 1024; weights = o .weights; rows = o .rows; taps = taps }
+fixedBy o n L taps = fixed (record { channels = o .answer .channels; speakers = o .answer .speakers; rows = n; length = L }) 1024 (o .weights) (o .rows) taps
 
 module _ (zs : List ℤ) (n L : ℕ) (taps weights : List Float) (o : Arrangement) (few : outside n 8 ≡ false) (eight : length zs ≡ 8) (size : length weights ≡ 36)
     (new : NewSurround Surround51 zs n weights (replicate 8 0) o) where
   accepted : refusalOf (ofLayout Surround51) zs n weights ≡ 0
   accepted = set-up-kept (ofLayout Surround51) zs n weights refl few eight size
 
-  is : o ≡ arrangedBy 0 (ofLayout Surround51 .whose) 6 6 zs n weights (replicate 8 0)
+  is : o ≡ arranged zs n
   unfolding arrangement
   is = new .answer ∙ ap (λ (m : ℕ). arrangedBy m (ofLayout Surround51 .whose) 6 6 zs n weights (replicate 8 0)) accepted
 

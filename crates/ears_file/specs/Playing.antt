@@ -4,12 +4,10 @@ use mathlib.Core.Bool.{true, false, _||_, cond}
 use mathlib.Core.List.{List, [], _++_}
 use Prim.Native.Nat.{ℕ, _*_, _<_}
 use lib.ListN.{length}
-use lib.Ieee.{Float}
 use Rattle.refusals.specs.Refusals.{outside}
-use Rattle.big_endian.specs.Placed.{placed}
-use Rattle.checks.specs.Tables.{unsound}
+use Rattle.lists.specs.Placed.{placed}
+use Rattle.checks.specs.Finite.{unsound}
 use Rattle.history.specs.History.{heard}
-use Rattle.hrtf_checks.specs.declared.Shape.{Shape}
 use Rattle.hrtf_checks.specs.Refusals.{misshapen}
 use Rattle.wire.specs.Frames.{framesIn, restIn}
 use Rattle.wire.specs.Ears.{earBytes}
@@ -20,15 +18,7 @@ use Rattle.ears_play.specs.Runs.{atOnce, Stands}
 use Rattle.ears_file.specs.declared.Outcome.{Outcome}
 use Rattle.ears_file.specs.declared.input.Turned.{Turned}
 
--- blocks of 1,024 frames
-abbrev pub fixed : Shape → List Float → List ℕ → List Float → Fixed
-fixed shape weights rows taps = record { shape = shape; stride = 1024; weights = weights; rows = rows; taps = taps }
-
--- in the order of the code
-abbrev pub lent : List Float → List ℕ → List Float → List Float → List ℕ → Lent
-lent rings bytes inputs ears text = record { bytes = bytes; inputs = inputs; rings = rings; ears = ears; out = text }
-
--- what the convolver accepts with any frames
+-- what the convolver accepts with any frames, in blocks of 1,024
 pub record Ready (x : Fixed) : Type 0 where
   pub block : x .stride ≡ 1024
   pub six : x .shape .channels ≡ 6

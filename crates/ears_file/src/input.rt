@@ -8,9 +8,10 @@ ghost use mathlib.Core.Bool.{true};
 ghost use Prim.Native.Nat.{_*_};
 ghost use lib.ListN.{replicate};
 ghost use Rattle.io.specs.Counts.{Counts};
-ghost use Rattle.numbers.specs.Computed.{zero-float};
+ghost use Rattle.formats.specs.Floats.{zero-float};
 ghost use Rattle.hrtf_checks.specs.Call.{setupOf};
-ghost use Rattle.ears_file.specs.Playing.{fixed, lent, Ready, Room, Playing, Stepped, endedBy};
+ghost use Rattle.ears_play.specs.Turns.{fixed, lent};
+ghost use Rattle.ears_file.specs.Playing.{Ready, Room, Playing, Stepped, endedBy};
 ghost use Rattle.ears_file.specs.Promise.{OfLine, Answers};
 
 // Frames of a block, and the places of a plane.
@@ -64,13 +65,13 @@ fn step(
     ears: &mut [f32],
     text: &mut [u8],
 ) -> Turned
-    requires { ⌜ Ready (fixed shape (now weights) (now «row_of») (now taps)) ⌝ }
-    requires { ⌜ Room (lent (now rings) (now bytes) (now inputs) (now ears) (now text)) ⌝ }
-    requires { ⌜ Playing (fixed shape (now weights) (now «row_of») (now taps)) progress (lent (now rings) (now bytes) (now inputs) (now ears) (now text)) ⌝ }
-    ensures { λ r. ⌜ Stepped (fixed shape (now (weights .entry)) (now («row_of» .entry)) (now (taps .entry))) progress
-        (lent (now (rings .entry)) (now (bytes .entry)) (now (inputs .entry)) (now (ears .entry)) (now (text .entry)))
+    requires { ⌜ Ready (fixed shape 1024 (now weights) (now «row_of») (now taps)) ⌝ }
+    requires { ⌜ Room (lent (now bytes) (now inputs) (now rings) (now ears) (now text)) ⌝ }
+    requires { ⌜ Playing (fixed shape 1024 (now weights) (now «row_of») (now taps)) progress (lent (now bytes) (now inputs) (now rings) (now ears) (now text)) ⌝ }
+    ensures { λ r. ⌜ Stepped (fixed shape 1024 (now (weights .entry)) (now («row_of» .entry)) (now (taps .entry))) progress
+        (lent (now (bytes .entry)) (now (inputs .entry)) (now (rings .entry)) (now (ears .entry)) (now (text .entry)))
         r
-        (lent (now (rings .exit)) (now (bytes .exit)) (now (inputs .exit)) (now (ears .exit)) (now (text .exit))) ⌝ }
+        (lent (now (bytes .exit)) (now (inputs .exit)) (now (rings .exit)) (now (ears .exit)) (now (text .exit))) ⌝ }
 {
     let held = progress.held;
     let got = crate::reading::read_some(line, held, limit, bytes);
@@ -128,8 +129,8 @@ fn play_on(
     ears: &mut [f32],
     text: &mut [u8],
 ) -> Outcome
-    requires { ⌜ Ready (fixed shape (now weights) (now «row_of») (now taps)) ⌝ }
-    requires { ⌜ Room (lent (now rings) (now bytes) (now inputs) (now ears) (now text)) ⌝ }
+    requires { ⌜ Ready (fixed shape 1024 (now weights) (now «row_of») (now taps)) ⌝ }
+    requires { ⌜ Room (lent (now bytes) (now inputs) (now rings) (now ears) (now text)) ⌝ }
     requires { ⌜ now rings ≡ replicate (shape .speakers * shape .length) zero-float ⌝ }
     ensures { λ r. ⌜ Answers (OfLine (setupOf shape (now (weights .entry)) (now («row_of» .entry)) (now (taps .entry)))) r ⌝ }
 {
@@ -172,7 +173,7 @@ pub(crate) fn play_all(
     taps: &[f32],
     rings: &mut [f32],
 ) -> Outcome
-    requires { ⌜ Ready (fixed shape (now weights) (now «row_of») (now taps)) ⌝ }
+    requires { ⌜ Ready (fixed shape 1024 (now weights) (now «row_of») (now taps)) ⌝ }
     requires { ⌜ now rings ≡ replicate (shape .speakers * shape .length) zero-float ⌝ }
     ensures { λ r. ⌜ Answers (OfLine (setupOf shape (now (weights .entry)) (now («row_of» .entry)) (now (taps .entry)))) r ⌝ }
 {

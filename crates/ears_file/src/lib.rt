@@ -7,6 +7,11 @@
 // name what is read or written. `run` promises that its answer is the one that item 10 gives for some bank and
 // some line, whatever the system hands over; every decision is taken by functions of `bank`, `hrtf_setup`,
 // `ears_play` and `wire`, and no bank that keeps the form is refused by any of them.
+//
+// Under it lie `bank` (the bank file) and `bank_form` (its form), `hrtf_setup` (weights and rows) and `channel` (the
+// layout), `ears_play` (a turn, and the end of a run), `hrtf_checks` (the shape) and the kit's `os`, `io` and `libc`;
+// and for its definitions and proofs `wire`, `runs` (that what is set up is well shaped), `hrtf`, `rings` and `history`
+// (what the rings stand for), `desk`, `planes`, `checks`, `lists`, `formats` and `refusals`.
 use channel::Layout;
 use ears_play::Ended;
 use hrtf_checks::Shape;
@@ -18,13 +23,14 @@ ghost use lib.ListN as ListN;
 ghost use lib.ListN.{take, replicate};
 ghost use Rattle.refusals.specs.Refusals.{outside};
 ghost use Rattle.io.specs.Counts.{Counts};
-ghost use Rattle.numbers.specs.Computed.{zero-float};
-ghost use Rattle.checks.specs.Tables.{unsound};
+ghost use Rattle.formats.specs.Floats.{zero-float};
+ghost use Rattle.checks.specs.Finite.{unsound};
 ghost use Rattle.hrtf_checks.specs.Call.{setupOf};
 ghost use Rattle.wire.specs.Promises.{Lined};
 ghost use Rattle.ears_play.specs.Ending.{refusedRun};
+ghost use Rattle.ears_play.specs.Turns.{fixed};
 ghost use Rattle.ears_file.specs.Lines.{setupBy};
-ghost use Rattle.ears_file.specs.Playing.{fixed, Ready};
+ghost use Rattle.ears_file.specs.Playing.{Ready};
 ghost use Rattle.ears_file.specs.Promise.{OfLine, OfFiles, Answers, toldBy};
 
 mod bank_file;
@@ -67,7 +73,7 @@ fn play_fitted(
     taps: &[f32],
     rings: &mut [f32],
 ) -> Outcome
-    requires { ⌜ Ready (fixed shape (now weights) (now «row_of») (take (2 * shape .rows * shape .length) (now taps))) ⌝ }
+    requires { ⌜ Ready (fixed shape 1024 (now weights) (now «row_of») (take (2 * shape .rows * shape .length) (now taps))) ⌝ }
     requires { ⌜ (shape .speakers ≡ 6) × (ListN.length (now taps) ≡ 8192) × (now rings ≡ replicate 3072 zero-float) ⌝ }
     ensures { λ r. ⌜ Answers (OfLine (setupOf shape (now (weights .entry)) (now («row_of» .entry)) (take (2 * shape .rows * shape .length) (now (taps .entry))))) r ⌝ }
 {

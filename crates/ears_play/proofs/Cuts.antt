@@ -7,18 +7,19 @@ use native.Mathlib.Omega.{arith}
 use lib.ListN.{length, take, drop, replicate, length-append, length-drop}
 use lib.Seq.{take-at}
 use lib.Ieee.{Float}
-use Rattle.big_endian.specs.Placed.{placed}
-use Rattle.big_endian.proofs.Placed.{placed-start}
-use Rattle.numbers.specs.Computed.{zero-float}
-use Rattle.checks.specs.Tables.{unsound}
+use Rattle.desk.specs.Numbers.{zeroed}
+use Rattle.refusals.proofs.First.{answered-accepted}
+use Rattle.lists.specs.Placed.{placed}
+use Rattle.lists.proofs.Placed.{placed-start}
+use Rattle.formats.specs.Floats.{zero-float}
+use Rattle.checks.specs.Finite.{unsound}
 use Rattle.history.specs.Setup.{Setup}
 use Rattle.history.specs.History.{heard, unsettledIn, after}
 use Rattle.history.proofs.Pieces.{after-append, heard-append, unsettled-append}
 use Rattle.rings.specs.Represents.{Represents}
 use Rattle.rings.proofs.Told.{fresh-represents}
 use Rattle.hrtf_checks.specs.Refusals.{refusalOf}
-use Rattle.hrtf.specs.Promise.{Outcome, outcome}
-use Rattle.hrtf.proofs.Promised.{outcome-by}
+use Rattle.hrtf.specs.Promise.{outcome}
 use Rattle.wire.specs.Frames.{wholeIn, framesIn, restIn}
 use Rattle.wire.specs.Ears.{earBytes}
 use Rattle.wire.proofs.Ears.{ears-append}
@@ -27,7 +28,7 @@ use Rattle.ears_play.specs.declared.Progress.{Progress}
 use Rattle.ears_play.specs.declared.Turn.{Turn}
 use Rattle.ears_play.specs.Counting.{countedOn}
 use Rattle.ears_play.specs.Ending.{atStart}
-use Rattle.ears_play.specs.Turns.{Fixed, Lent, setupIn, come, stateIn, callIn, Turned, turnPlayed, turnBy, Told, Plays}
+use Rattle.ears_play.specs.Turns.{Fixed, Lent, setupIn, stateIn, callIn, Turned, turnPlayed, Told, Plays}
 use Rattle.ears_play.specs.Runs.{So, atOnce, turned, inParts, Stands, Steps}
 
 -- ---- parts
@@ -90,28 +91,26 @@ pub start-stands : (x : Fixed) (l : Lent) → 0 < x .shape .length → unsound (
     → Stands x (atOnce (setupIn x) []) atStart l
 start-stands x l h w e =
     record {
-      history = subst (λ (rs : List Float). Represents (setupIn x) [] (record { rings = rs; desk = record { position = 0; «to_go» = 0 } })) (sym e) (fresh-represents (setupIn x) h w);
+      history = subst (λ (rs : List Float). Represents (setupIn x) [] (record { rings = rs; desk = zeroed })) (sym e) (fresh-represents (setupIn x) h w);
       keeps = refl;
       holds = refl;
       frames = refl;
       unsettled = refl;
     }
 
-module _ (x : Fixed) (s : So) (part : List ℕ) (p : Progress) (size : ℕ) (l : Lent) (r : Turn) (left : Lent)
-    (stood : Stands x s p l) (comes : come size l ≡ s .held ++ part) (plays : Plays x p size l r left)
-    (e : refusalOf (callIn x size l) (stateIn p l) ≡ 0) (six : x .shape .channels ≡ 6) (room : wholeIn (come size l) * 8 ≤ length (l .out)) where
-  told : Told x p size l (s .past) r left
+module _ (x : Fixed) (s : So) (part : List ℕ) (p : Progress) (come : List ℕ) (l : Lent) (r : Turn) (left : Lent)
+    (stood : Stands x s p l) (comes : come ≡ s .held ++ part) (plays : Plays x p come l r left)
+    (e : refusalOf (callIn x come l) (stateIn p l) ≡ 0) (six : x .shape .channels ≡ 6) (room : wholeIn come * 8 ≤ length (l .out)) where
+  told : Told x p come l (s .past) r left
   told = plays .told (s .past) (stood .history) e six room
 
-  played : _≡_ {A = Turned} (record { answer = r; lent = left }) (turnPlayed x p size l (outcome (callIn x size l) (stateIn p l)))
-  played =
-      plays .answer
-      ∙ ap (λ (k : ℕ). turnBy k x p size l (outcome (callIn x size l) (stateIn p l))) (ap (λ (o : Outcome). o .answer .refusal) (outcome-by (callIn x size l) (stateIn p l) 0 e))
+  played : _≡_ {A = Turned} (record { answer = r; lent = left }) (turnPlayed x p come l (outcome (callIn x come l) (stateIn p l)))
+  played = plays .answer ∙ answered-accepted _ _ (refusalOf (callIn x come l) (stateIn p l)) e
 
   -- the bytes that are kept
-  kept : take (r .progress .held) (left .bytes) ≡ restIn (come size l)
+  kept : take (r .progress .held) (left .bytes) ≡ restIn come
   kept =
-      let rest = restIn (come size l) in
+      let rest = restIn come in
       ap (λ (k : ℕ). take k (left .bytes)) (ap (λ (t : Turned). t .answer .progress .held) played)
       ∙ ap (take (length rest)) (ap (λ (t : Turned). t .lent .bytes) played ∙ placed-start (l .bytes) rest)
       ∙ take-at rest (drop (length rest) (l .bytes)) (length rest) refl

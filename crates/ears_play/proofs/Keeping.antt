@@ -6,8 +6,8 @@ use native.Mathlib.Numerals.{add-one}
 use native.Mathlib.Omega.{arith}
 use lib.ListN.{length, getD, set, take, drop, length-set, length-drop}
 use lib.Seq.{take-suc, getD-drop, getD-append-add, length-take-le}
-use Rattle.big_endian.specs.Placed.{placed}
-use Rattle.big_endian.proofs.Placed.{placed-none, placed-start, store-on}
+use Rattle.lists.specs.Placed.{placed}
+use Rattle.lists.proofs.Placed.{placed-none, placed-start, store-on}
 
 -- behind a part at the start the list is as it was
 behind : (xs part : List ℕ) (j : ℕ) → length part ≤ j → getD (placed xs 0 part) j 0 ≡ getD xs j 0

@@ -1,14 +1,16 @@
--- From what `wire` and `hrtf` promise to what a turn promises. Assumes nothing.
-use mathlib.Core.Path.{_≡_, refl, sym, ap, _∙_, subst}
+-- From what `hrtf_checks` promises to a turn that is refused, and from what `wire` and `hrtf` promise to one that is played. Assumes nothing.
+use mathlib.Core.Path.{_≡_, sym, ap, _∙_, subst}
 use mathlib.Core.List.{List}
-use Prim.Native.Nat.{ℕ, zero, suc, _-_, _*_, _≤_, min}
+use Prim.Native.Nat.{ℕ, _-_, _*_, _/_, _≤_, min}
 use native.Mathlib.Omega.{arith}
-use lib.ListN.{length, take, drop, length-drop, length-take}
+use lib.ListN.{length, take, drop, length-drop}
+use lib.Seq.{length-take-le}
 use lib.Ieee.{Float}
-use Rattle.big_endian.specs.Placed.{placed}
+use Rattle.refusals.proofs.First.{answered-accepted, answered-refused}
+use Rattle.lists.specs.Placed.{placed}
 use Rattle.planes.specs.Planes.{framesOf, withFrames}
-use Rattle.checks.proofs.Lists.{take-min, drop-take}
-use Rattle.checks.proofs.Tables.{length-tab}
+use Rattle.lists.proofs.Lists.{take-min, drop-take}
+use Rattle.lists.proofs.Tables.{length-tab}
 use Rattle.planes.proofs.Planes.{length-with-frames, frames-read}
 use Rattle.history.specs.History.{heard, unsettledIn, after}
 use Rattle.history.proofs.Pieces.{length-heard, two-each}
@@ -17,7 +19,6 @@ use Rattle.hrtf_checks.specs.Call.{Call}
 use Rattle.hrtf_checks.specs.Refusals.{refusalOf}
 use Rattle.hrtf_checks.proofs.Refusing.{inputs-fit, ears-fit}
 use Rattle.hrtf.specs.Promise.{Outcome, Tells, Processes, stateAfter}
-use Rattle.hrtf.proofs.Promised.{outcome-by}
 use Rattle.wire.specs.Frames.{frameIn, wholeIn, framesIn, restIn}
 use Rattle.wire.specs.Ears.{earBytes}
 use Rattle.wire.specs.Promises.{roomFor, Taken, Given}
@@ -25,121 +26,140 @@ use Rattle.wire.proofs.Lengths.{six-each}
 use Rattle.ears_play.specs.declared.Progress.{Progress}
 use Rattle.ears_play.specs.declared.Turn.{Turn}
 use Rattle.ears_play.specs.Counting.{countedOn}
-use Rattle.ears_play.specs.Turns.{Fixed, Lent, setupIn, come, stateIn, planesIn, callIn, Turned, turnPlayed, turnBy, turnOf, Told, Plays}
+use Rattle.ears_play.specs.Turns.{Fixed, Lent, setupIn, stateIn, planesIn, callIn, Turned, turnRefused, turnPlayed, Told, Plays}
 
-module _ (x : Fixed) (p : Progress) (size : ℕ) (l : Lent) (to n : ℕ) (inputs₁ : List Float) (o : Outcome)
-    (ends : to ≡ min size (length (l .bytes)))
-    (taken : Taken (take to (l .bytes)) (x .stride) (l .inputs) n inputs₁)
-    (processes : Processes (record { shape = x .shape; frames = n; stride = x .stride; inputs = inputs₁; weights = x .weights; rows = x .rows; taps = x .taps; ears = l .ears }) (stateIn p l) o) where
-  here : take to (l .bytes) ≡ come size l
-  here = take-min (l .bytes) size to ends
+-- the convolver's call with input planes of its own
+abbrev callWith : Fixed → ℕ → List Float → Lent → Call
+callWith x frames inputs l =
+    record { shape = x .shape; frames = frames; stride = x .stride; inputs = inputs; weights = x .weights; rows = x .rows; taps = x .taps; ears = l .ears }
 
-  count : n ≡ wholeIn (come size l)
-  count = taken .count ∙ ap wholeIn here
+-- ---- before anything is stored
 
-  filled : inputs₁ ≡ planesIn x size l
-  filled = taken .filled ∙ ap (λ (bs : List ℕ). withFrames (l .inputs) (x .stride) 0 (framesIn bs)) here
+module _ (x : Fixed) (p : Progress) (l : Lent) (come : List ℕ) where
+  -- of the input planes only their length is judged, which no frame changes
+  same-number : refusalOf (callWith x (wholeIn come) (l .inputs) l) (stateIn p l) ≡ refusalOf (callIn x come l) (stateIn p l)
+  unfolding refusalOf
+  same-number = cc (length-with-frames (l .inputs) (x .stride) 0 (framesIn come))
 
-  call-same : _≡_ {A = Call} (record { shape = x .shape; frames = n; stride = x .stride; inputs = inputs₁; weights = x .weights; rows = x .rows; taps = x .taps; ears = l .ears }) (callIn x size l)
-  call-same = cc (count, filled)
+  module _ (to n : ℕ) (long : to ≡ length come) (given : n ≡ refusalOf (callWith x (to / 24) (l .inputs) l) (stateIn p l)) where
+    -- the number that the convolver would give
+    pub refusal-is : n ≡ refusalOf (callIn x come l) (stateIn p l)
+    refusal-is = given ∙ ap (λ (k : ℕ). refusalOf (callWith x (k / 24) (l .inputs) l) (stateIn p l)) long ∙ same-number
 
-  done : Processes (callIn x size l) (stateIn p l) o
-  done = subst (λ (c : Call). Processes c (stateIn p l) o) call-same processes
+    pub turn-refused : (n ≡ 0 → ⊥) → Plays x p come l (record { refusal = n; progress = p; bytes = 0 }) l
+    turn-refused some =
+        record {
+          answer = ap (turnRefused p l) refusal-is ∙ sym (answered-refused _ (turnRefused p l) (refusalOf (callIn x come l) (stateIn p l)) (λ e. some (refusal-is ∙ e)));
+          told = λ past r e six room. absurd (some (refusal-is ∙ e));
+        }
 
-  turn-by : turnBy (o .answer .refusal) x p size l o ≡ turnOf x p size l
-  turn-by = ap (λ (r : Outcome). turnBy (r .answer .refusal) x p size l r) (done .answer)
+-- ---- played
 
-  -- refused
+module _ (x : Fixed) (p : Progress) (l : Lent) (to : ℕ) (high : to ≤ length (l .bytes)) (e : refusalOf (callIn x (take to (l .bytes)) l) (stateIn p l) ≡ 0)
+    (n : ℕ) (inputs₁ : List Float) (taken : Taken (take to (l .bytes)) (x .stride) (l .inputs) n inputs₁)
+    (o : Outcome) (processes : Processes (callWith x n inputs₁ l) (stateIn p l) o)
+    (put : ℕ) (out₁ bytes₁ : List ℕ) (given : Given (o .ears) (x .stride) n (l .out) put out₁)
+    (kept : bytes₁ ≡ placed (l .bytes) 0 (take (to - n * 24) (drop (n * 24) (l .bytes))))
+    (frames₁ unsettled₁ : ℕ) (frames-on : frames₁ ≡ countedOn (p .frames) n) (unsettled-on : unsettled₁ ≡ countedOn (p .unsettled) (o .answer .unsettled)) where
+  come : List ℕ
+  come = take to (l .bytes)
 
-  refused-by : (k : ℕ) → (k ≡ 0 → ⊥) → _≡_ {A = Turned}
-      (record { answer = record { refusal = k; progress = p; bytes = 0 }; lent = record { bytes = l .bytes; inputs = inputs₁; rings = o .rings; ears = o .ears; out = l .out } }) (turnBy k x p size l o)
-  refused-by zero h = absurd (h refl)
-  refused-by (suc k) h = cc filled
+  done : Processes (callIn x come l) (stateIn p l) o
+  unfolding come
+  done =
+      let same : callWith x n inputs₁ l ≡ callIn x (take to (l .bytes)) l = cc (taken .count, taken .filled) in
+      subst (λ (c : Call). Processes c (stateIn p l) o) same processes
 
-  none-told : (o .answer .refusal ≡ 0 → ⊥) → refusalOf (callIn x size l) (stateIn p l) ≡ 0 → ⊥
-  none-told h e = h (ap (λ (r : Outcome). r .answer .refusal) (done .answer ∙ outcome-by (callIn x size l) (stateIn p l) 0 e))
+  rest : take (to - n * 24) (drop (n * 24) (l .bytes)) ≡ restIn come
+  unfolding come
+  rest = sym (drop-take (n * 24) to (l .bytes)) ∙ ap (λ (k : ℕ). drop (k * 24) (take to (l .bytes))) (taken .count)
 
-  pub turn-refused : (o .answer .refusal ≡ 0 → ⊥)
-      → Plays x p size l (record { refusal = o .answer .refusal; progress = p; bytes = 0 }) (record { bytes = l .bytes; inputs = inputs₁; rings = o .rings; ears = o .ears; out = l .out })
-  turn-refused h = record { answer = refused-by (o .answer .refusal) h ∙ turn-by; told = λ past r e six room. absurd (none-told h e) }
+  held : to - n * 24 ≡ length (restIn come)
+  unfolding come
+  held =
+      ap (λ (k : ℕ). k - n * 24) (sym (length-take-le to (l .bytes) high)) ∙ ap (λ (k : ℕ). length (take to (l .bytes)) - k * 24) (taken .count)
+      ∙ sym (length-drop (wholeIn (take to (l .bytes)) * 24) (take to (l .bytes)))
 
-  -- played
+  the-turn : Turn
+  the-turn =
+      record { refusal = 0; progress = record { desk = o .answer .desk; held = to - n * 24; frames = frames₁; unsettled = unsettled₁ }; bytes = put }
 
-  module _ (zeroth : o .answer .refusal ≡ 0) (put : ℕ) (out₁ bytes₁ : List ℕ) (given : Given (o .ears) (x .stride) n (l .out) put out₁)
-      (kept : bytes₁ ≡ placed (l .bytes) 0 (take (to - n * 24) (drop (n * 24) (l .bytes))))
-      (frames₁ unsettled₁ : ℕ) (frames-on : frames₁ ≡ countedOn (p .frames) n) (unsettled-on : unsettled₁ ≡ countedOn (p .unsettled) (o .answer .unsettled)) where
-    rest : take (to - n * 24) (drop (n * 24) (l .bytes)) ≡ restIn (come size l)
-    rest = sym (drop-take (n * 24) to (l .bytes)) ∙ ap (λ (bs : List ℕ). drop (n * 24) bs) here ∙ ap (λ (k : ℕ). drop (k * 24) (come size l)) count
+  the-lent : Lent
+  the-lent = record { bytes = bytes₁; inputs = inputs₁; rings = o .rings; ears = o .ears; out = out₁ }
 
-    held : to - n * 24 ≡ length (restIn (come size l))
-    held =
-        ap (λ (k : ℕ). k - n * 24) (ends ∙ sym (length-take size (l .bytes))) ∙ ap (λ (k : ℕ). length (come size l) - k * 24) count
-        ∙ sym (length-drop (wholeIn (come size l) * 24) (come size l))
+  put-same : put ≡ roomFor (wholeIn come) (l .out) * 8
+  unfolding come
+  put-same = given .count ∙ ap (λ (k : ℕ). roomFor k (l .out) * 8) (taken .count)
 
-    the-turn : Turn
-    the-turn =
-        record { refusal = 0; progress = record { desk = o .answer .desk; held = to - n * 24; frames = frames₁; unsettled = unsettled₁ }; bytes = put }
+  out-same : out₁ ≡ placed (l .out) 0 (earBytes (framesOf (o .ears) (x .stride) 2 (roomFor (wholeIn come) (l .out))))
+  unfolding come
+  out-same = given .filled ∙ ap (λ (k : ℕ). placed (l .out) 0 (earBytes (framesOf (o .ears) (x .stride) 2 (roomFor k (l .out))))) (taken .count)
 
-    the-lent : Lent
-    the-lent = record { bytes = bytes₁; inputs = inputs₁; rings = o .rings; ears = o .ears; out = out₁ }
+  filled : inputs₁ ≡ planesIn x come l
+  unfolding come
+  filled = taken .filled
 
-    bytes-same : bytes₁ ≡ placed (l .bytes) 0 (restIn (come size l))
-    bytes-same = kept ∙ ap (placed (l .bytes) 0) rest
+  frames-same : frames₁ ≡ countedOn (p .frames) (wholeIn come)
+  unfolding come
+  frames-same = frames-on ∙ ap (countedOn (p .frames)) (taken .count)
 
-    put-same : put ≡ roomFor (wholeIn (come size l)) (l .out) * 8
-    put-same = given .count ∙ ap (λ (k : ℕ). roomFor k (l .out) * 8) count
+  played-same : _≡_ {A = Turned} (record { answer = the-turn; lent = the-lent }) (turnPlayed x p come l o)
+  unfolding the-turn the-lent
+  played-same = cc (frames-same, unsettled-on, held, kept ∙ ap (placed (l .bytes) 0) rest, filled, put-same, out-same)
 
-    out-same : out₁ ≡ placed (l .out) 0 (earBytes (framesOf (o .ears) (x .stride) 2 (roomFor (wholeIn (come size l)) (l .out))))
-    out-same = given .filled ∙ ap (λ (k : ℕ). placed (l .out) 0 (earBytes (framesOf (o .ears) (x .stride) 2 (roomFor k (l .out))))) count
+  accepted : refusalOf (callIn x come l) (stateIn p l) ≡ 0
+  unfolding come
+  accepted = e
 
-    played-same : _≡_ {A = Turned} (record { answer = the-turn; lent = the-lent }) (turnPlayed x p size l o)
+  module _ (past : List (List Float)) (stands : Represents (setupIn x) past (stateIn p l)) (six : x .shape .channels ≡ 6) (room : wholeIn come * 8 ≤ length (l .out)) where
+    tells : Tells (callIn x come l) past o
+    tells = done .tells past stands accepted
+
+    fits : (wholeIn come ≤ x .stride) × (length (l .ears) ≡ 2 * x .stride)
+    fits = ears-fit (callIn x come l) (stateIn p l) accepted
+
+    -- the frames that stand in the input planes are those that have come
+    read : framesOf (planesIn x come l) (x .stride) (x .shape .channels) (wholeIn come) ≡ framesIn come
+    read =
+        let many : length (framesIn come) ≡ wholeIn come = length-tab 0 (wholeIn come) (frameIn come) in
+        let long : length (l .inputs) ≡ 6 * x .stride =
+        sym (length-with-frames (l .inputs) (x .stride) 0 (framesIn come)) ∙ inputs-fit (callIn x come l) (stateIn p l) accepted ∙ ap (λ (k : ℕ). k * x .stride) six in
+        ap (λ (k : ℕ). framesOf (planesIn x come l) (x .stride) k (wholeIn come)) six
+        ∙ ap (framesOf (planesIn x come l) (x .stride) 6) (sym many)
+        ∙ frames-read 6 (l .inputs) (x .stride) (framesIn come) (omega (arith, many, fits .0)) long (six-each come)
+
+    -- and the ears that stand in the ear planes are those that are heard
+    sounds : framesOf (o .ears) (x .stride) 2 (wholeIn come) ≡ heard (setupIn x) past (framesIn come)
+    sounds =
+        let fs = framesIn come in
+        let many : length (heard (setupIn x) past fs) ≡ wholeIn come = length-heard (setupIn x) past fs ∙ length-tab 0 (wholeIn come) (frameIn come) in
+        ap (λ (ys : List Float). framesOf ys (x .stride) 2 (wholeIn come)) (tells .ears ∙ ap (λ (gs : List (List Float)). withFrames (l .ears) (x .stride) 0 (heard (setupIn x) past gs)) read)
+        ∙ ap (framesOf (withFrames (l .ears) (x .stride) 0 (heard (setupIn x) past fs)) (x .stride) 2) (sym many)
+        ∙ frames-read 2 (l .ears) (x .stride) (heard (setupIn x) past fs) (omega (arith, many, fits .0)) (fits .1) (two-each (setupIn x) past fs)
+
+    all-fit : roomFor (wholeIn come) (l .out) ≡ wholeIn come
+    all-fit = omega arith
+
+    told : Told x p come l past the-turn the-lent
     unfolding the-turn the-lent
-    played-same = cc (frames-on ∙ ap (countedOn (p .frames)) count, unsettled-on, held, bytes-same, filled, put-same, out-same)
+    told =
+        record {
+          put = out-same ∙ ap (λ (k : ℕ). placed (l .out) 0 (earBytes (framesOf (o .ears) (x .stride) 2 k))) all-fit ∙ ap (λ (fs : List (List Float)). placed (l .out) 0 (earBytes fs)) sounds;
+          unsettled = unsettled-on ∙ ap (countedOn (p .unsettled)) (tells .unsettled ∙ ap (unsettledIn (setupIn x) past) read);
+          keeps = subst (λ (fs : List (List Float)). Represents (setupIn x) (after past fs) (stateAfter o)) read (tells .keeps);
+        }
 
-    by-zero : turnPlayed x p size l o ≡ turnBy (o .answer .refusal) x p size l o
-    by-zero = sym (ap (λ (k : ℕ). turnBy k x p size l o) zeroth)
+  pub turn-played : Plays x p (take to (l .bytes)) l
+      (record { refusal = 0; progress = record { desk = o .answer .desk; held = to - n * 24; frames = frames₁; unsettled = unsettled₁ }; bytes = put })
+      (record { bytes = bytes₁; inputs = inputs₁; rings = o .rings; ears = o .ears; out = out₁ })
+  unfolding come the-turn the-lent
+  turn-played =
+      record {
+        answer = played-same ∙ ap (turnPlayed x p come l) (done .answer) ∙ sym (answered-accepted _ (turnRefused p l) (refusalOf (callIn x come l) (stateIn p l)) accepted);
+        told = λ past stands a six room. told past stands six room;
+      }
 
-    module _ (past : List (List Float)) (stands : Represents (setupIn x) past (stateIn p l)) (e : refusalOf (callIn x size l) (stateIn p l) ≡ 0)
-        (six : x .shape .channels ≡ 6) (room : wholeIn (come size l) * 8 ≤ length (l .out)) where
-      tells : Tells (callIn x size l) past o
-      tells = done .tells past stands e
-
-      fits : (wholeIn (come size l) ≤ x .stride) × (length (l .ears) ≡ 2 * x .stride)
-      fits = ears-fit (callIn x size l) (stateIn p l) e
-
-      -- the frames that stand in the input planes are those that have come
-      read : framesOf (planesIn x size l) (x .stride) (x .shape .channels) (wholeIn (come size l)) ≡ framesIn (come size l)
-      read =
-          let many : length (framesIn (come size l)) ≡ wholeIn (come size l) = length-tab 0 (wholeIn (come size l)) (frameIn (come size l)) in
-          let long : length (l .inputs) ≡ 6 * x .stride =
-          sym (length-with-frames (l .inputs) (x .stride) 0 (framesIn (come size l))) ∙ inputs-fit (callIn x size l) (stateIn p l) e ∙ ap (λ (k : ℕ). k * x .stride) six in
-          ap (λ (k : ℕ). framesOf (planesIn x size l) (x .stride) k (wholeIn (come size l))) six
-          ∙ ap (framesOf (planesIn x size l) (x .stride) 6) (sym many)
-          ∙ frames-read 6 (l .inputs) (x .stride) (framesIn (come size l)) (omega (arith, many, fits .0)) long (six-each (come size l))
-
-      -- and the ears that stand in the ear planes are those that are heard
-      sounds : framesOf (o .ears) (x .stride) 2 (wholeIn (come size l)) ≡ heard (setupIn x) past (framesIn (come size l))
-      sounds =
-          let fs = framesIn (come size l) in
-          let many : length (heard (setupIn x) past fs) ≡ wholeIn (come size l) = length-heard (setupIn x) past fs ∙ length-tab 0 (wholeIn (come size l)) (frameIn (come size l)) in
-          ap (λ (ys : List Float). framesOf ys (x .stride) 2 (wholeIn (come size l))) (tells .ears ∙ ap (λ (gs : List (List Float)). withFrames (l .ears) (x .stride) 0 (heard (setupIn x) past gs)) read)
-          ∙ ap (framesOf (withFrames (l .ears) (x .stride) 0 (heard (setupIn x) past fs)) (x .stride) 2) (sym many)
-          ∙ frames-read 2 (l .ears) (x .stride) (heard (setupIn x) past fs) (omega (arith, many, fits .0)) (fits .1) (two-each (setupIn x) past fs)
-
-      all-fit : roomFor (wholeIn (come size l)) (l .out) ≡ wholeIn (come size l)
-      all-fit = omega arith
-
-      told : Told x p size l past the-turn the-lent
-      unfolding the-turn the-lent
-      told =
-          record {
-            put = out-same ∙ ap (λ (k : ℕ). placed (l .out) 0 (earBytes (framesOf (o .ears) (x .stride) 2 k))) all-fit ∙ ap (λ (fs : List (List Float)). placed (l .out) 0 (earBytes fs)) sounds;
-            unsettled = unsettled-on ∙ ap (countedOn (p .unsettled)) (tells .unsettled ∙ ap (unsettledIn (setupIn x) past) read);
-            keeps = subst (λ (fs : List (List Float)). Represents (setupIn x) (after past fs) (stateAfter o)) read (tells .keeps);
-          }
-
-    pub turn-played : Plays x p size l
-        (record { refusal = 0; progress = record { desk = o .answer .desk; held = to - n * 24; frames = frames₁; unsettled = unsettled₁ }; bytes = put })
-        (record { bytes = bytes₁; inputs = inputs₁; rings = o .rings; ears = o .ears; out = out₁ })
-    unfolding the-turn the-lent
-    turn-played = record { answer = played-same ∙ by-zero ∙ turn-by; told = told }
+-- the bytes up to the smaller of two ends
+pub turn-to : (x : Fixed) (p : Progress) (l : Lent) (size to : ℕ) (r : Turn) (left : Lent) → to ≡ min size (length (l .bytes)) → Plays x p (take to (l .bytes)) l r left
+    → Plays x p (take size (l .bytes)) l r left
+turn-to x p l size to r left ends = subst (λ (come : List ℕ). Plays x p come l r left) (take-min (l .bytes) size to ends)

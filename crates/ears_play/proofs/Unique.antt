@@ -13,8 +13,8 @@ use Rattle.ears_play.specs.Turns.{Fixed, Lent, Turned, Plays}
 start-unique : (a b : Progress) → a ≡ atStart → b ≡ atStart → a ≡ b
 start-unique = determined
 
-play-unique : (x : Fixed) (p : Progress) (size : ℕ) (l : Lent) (a b : Turned) → Plays x p size l (a .answer) (a .lent) → Plays x p size l (b .answer) (b .lent) → a ≡ b
-play-unique x p size l a b q r = determined a b (q .answer) (r .answer)
+play-unique : (x : Fixed) (p : Progress) (come : List ℕ) (l : Lent) (a b : Turned) → Plays x p come l (a .answer) (a .lent) → Plays x p come l (b .answer) (b .lent) → a ≡ b
+play-unique x p come l a b q r = determined a b (q .answer) (r .answer)
 
 refused-unique : (a b : Ended) → a ≡ refusedRun → b ≡ refusedRun → a ≡ b
 refused-unique = determined

@@ -4,16 +4,22 @@
 //
 // Reading and writing are not done here: `ears_file` reads into the buffer and writes what is put out.
 //
-// Under it lie `wire` (frames and bytes), `hrtf` (the convolver), `desk`, `planes` and `checks` (the smaller of two counts).
+// Every public function takes any input, and promises its answer and every lent list by an equation; a refused turn
+// hands back the state and leaves every lent list as it was.
+//
+// Under it lie `wire` (frames and bytes), `hrtf_checks` (the refusal, known before anything is stored), `hrtf` (the
+// convolver), `desk` and `checks` (the smaller of two counts); and for its definitions and proofs `rings` and
+// `history` (what the rings stand for), `planes`, `lists`, `formats` and `refusals`.
 use desk::Desk;
 use hrtf_checks::Shape;
 ghost use mathlib.Core.Path.{_≡_};
 ghost use Prim.Native.Nat.{_-_, _≤_};
 ghost use lib.ListN.{length, take, drop};
-ghost use Rattle.big_endian.specs.Placed.{placed};
+ghost use Rattle.lists.specs.Placed.{placed};
+ghost use Rattle.hrtf_checks.specs.Refusals.{refusalOf};
 ghost use Rattle.wire.specs.Promises.{Lined};
 ghost use Rattle.ears_play.specs.Counting.{countedOn};
-ghost use Rattle.ears_play.specs.Turns.{Plays};
+ghost use Rattle.ears_play.specs.Turns.{fixed, lent, callIn, Plays};
 ghost use Rattle.ears_play.specs.Ending.{atStart, refusedRun, endOf, lineOf};
 
 // What is remembered between turns: the desk, how many bytes of a frame that has not come whole stand at the
@@ -73,10 +79,10 @@ fn keep_rest(bytes: &mut [u8], from: usize, to: usize)
     }
 }
 
-// One turn: `size` bytes have come and stand at the start of `bytes`.
-pub fn play(
+// A turn that the convolver does not refuse: all the bytes up to `to` are played.
+fn play_accepted(
     progress: Progress,
-    size: usize,
+    to: usize,
     bytes: &mut [u8],
     shape: Shape,
     stride: usize,
@@ -88,15 +94,16 @@ pub fn play(
     ears: &mut [f32],
     out: &mut [u8],
 ) -> Turn
-    ensures { λ r. ⌜ Plays
-        (record { shape = shape; stride = stride; weights = now (weights .entry); rows = now («row_of» .entry); taps = now (taps .entry) })
-        progress size
-        (record { bytes = now (bytes .entry); inputs = now (inputs .entry); rings = now (rings .entry); ears = now (ears .entry); out = now (out .entry) })
+    requires { ⌜ to ≤ length (now bytes) ⌝ }
+    requires { ⌜ refusalOf
+        (callIn (fixed shape stride (now weights) (now «row_of») (now taps)) (take to (now bytes)) (lent (now bytes) (now inputs) (now rings) (now ears) (now out)))
+        (record { rings = now rings; desk = progress .desk }) ≡ 0 ⌝ }
+    ensures { λ r. ⌜ Plays (fixed shape stride (now (weights .entry)) (now («row_of» .entry)) (now (taps .entry))) progress (take to (now (bytes .entry)))
+        (lent (now (bytes .entry)) (now (inputs .entry)) (now (rings .entry)) (now (ears .entry)) (now (out .entry)))
         r
-        (record { bytes = now (bytes .exit); inputs = now (inputs .exit); rings = now (rings .exit); ears = now (ears .exit); out = now (out .exit) }) ⌝ }
+        (lent (now (bytes .exit)) (now (inputs .exit)) (now (rings .exit)) (now (ears .exit)) (now (out .exit))) ⌝ }
 {
     let desk = progress.desk;
-    let to = checks::least(size, bytes.len());
     let frames = wire::frames_from_bytes(&bytes[..to], stride, inputs);
     let played = hrtf::process(
         desk,
@@ -110,13 +117,6 @@ pub fn play(
         rings,
         ears,
     );
-    if played.refusal != 0 {
-        return Turn {
-            refusal: played.refusal,
-            progress,
-            bytes: 0,
-        };
-    }
     let put = wire::bytes_from_ears(ears, stride, frames, out);
     let from = frames * FRAME;
     keep_rest(bytes, from, to);
@@ -131,6 +131,64 @@ pub fn play(
         },
         bytes: put,
     }
+}
+
+// One turn: `size` bytes have come and stand at the start of `bytes`. Whether it is refused is known before anything
+// is stored, so that a refusal leaves every lent list as it was.
+pub fn play(
+    progress: Progress,
+    size: usize,
+    bytes: &mut [u8],
+    shape: Shape,
+    stride: usize,
+    inputs: &mut [f32],
+    weights: &[f64],
+    row_of: &[usize; 8],
+    taps: &[f32],
+    rings: &mut [f32],
+    ears: &mut [f32],
+    out: &mut [u8],
+) -> Turn
+    ensures { λ r. ⌜ Plays (fixed shape stride (now (weights .entry)) (now («row_of» .entry)) (now (taps .entry))) progress (take size (now (bytes .entry)))
+        (lent (now (bytes .entry)) (now (inputs .entry)) (now (rings .entry)) (now (ears .entry)) (now (out .entry)))
+        r
+        (lent (now (bytes .exit)) (now (inputs .exit)) (now (rings .exit)) (now (ears .exit)) (now (out .exit))) ⌝ }
+{
+    let desk = progress.desk;
+    let to = checks::least(size, bytes.len());
+    let refusal = hrtf_checks::refusal(
+        desk,
+        shape,
+        to / FRAME,
+        stride,
+        inputs,
+        weights,
+        row_of,
+        taps,
+        rings,
+        ears,
+    );
+    if refusal != 0 {
+        return Turn {
+            refusal,
+            progress,
+            bytes: 0,
+        };
+    }
+    play_accepted(
+        progress,
+        to,
+        bytes,
+        shape,
+        stride,
+        inputs,
+        weights,
+        row_of,
+        taps,
+        rings,
+        ears,
+        out,
+    )
 }
 
 // How a run ended: refused, or 0 with the counts.

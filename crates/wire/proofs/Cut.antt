@@ -10,9 +10,10 @@ use lib.Seq.{take-append-le, drop-append-le, drop-at, drop-drop, length-take-le}
 use lib.Ieee.{Float, binary32, ofBits}
 use Rattle.big_endian.specs.Bytes.{valueOf}
 use Rattle.big_endian.specs.Fields.{floatAt}
+use Rattle.big_endian.specs.Lists.{strided}
 use Rattle.big_endian.proofs.Fields.{field-lies}
-use Rattle.checks.specs.Tables.{tab}
-use Rattle.checks.proofs.Tables.{tab-ext, tab-append, tab-moved}
+use Rattle.lists.specs.Tables.{tab}
+use Rattle.lists.proofs.Tables.{tab-ext, tab-append, tab-moved}
 use Rattle.wire.specs.Frames.{frameIn, wholeIn, framesIn, restIn}
 
 -- a field that lies in the first part, and one in the second
@@ -38,9 +39,11 @@ module _ (a b : List ℕ) (k : ℕ) (e : length a ≡ k * 24) where
   whole-both = omega (arith, length-append a b)
 
   frame-first : (n : ℕ) → n < 0 + k → frameIn (a ++ b) n ≡ frameIn a n
+  unfolding strided
   frame-first n h = tab-ext 0 6 (λ c. floatAt (a ++ b) (n * 24 + c * 4)) (λ c. floatAt a (n * 24 + c * 4)) (λ c g. float-first a b (n * 24 + c * 4) (omega arith))
 
   frame-second : (n : ℕ) → n < 0 + wholeIn b → frameIn (a ++ b) (k + n) ≡ frameIn b n
+  unfolding strided
   frame-second n h =
       tab-ext 0 6 (λ c. floatAt (a ++ b) ((k + n) * 24 + c * 4)) (λ c. floatAt b (n * 24 + c * 4))
       (λ c g. ap (floatAt (a ++ b)) (place n c) ∙ float-second a b (k * 24) (n * 24 + c * 4) e (omega arith))

@@ -1,7 +1,7 @@
 -- Document 01, item 10, as worked examples: the lines that it prints, and a frame and its ears as bytes. Assumes nothing.
 use mathlib.Core.Path.{_≡_, refl}
 use mathlib.Core.Bool.{true, false}
-use mathlib.Core.List.{[], _∷_}
+use mathlib.Core.List.{[], _∷_, flatMap}
 use lib.IntN.{pos, negsuc}
 use lib.Ieee.{nan, fin, toBits}
 use Rattle.big_endian.specs.Bytes.{bytesOf}
@@ -32,5 +32,5 @@ tens = refl
 -- left 1.0 and right -0.5, then a NaN and 0.0
 ears-written : earBytes ((fin false 1 (pos 0) ∷ fin true 1 (negsuc 0) ∷ []) ∷ (nan ∷ fin false 0 (pos 0) ∷ []) ∷ [])
     ≡ 0x3F ∷ 0x80 ∷ 0 ∷ 0 ∷ 0xBF ∷ 0 ∷ 0 ∷ 0 ∷ 0x7F ∷ 0xC0 ∷ 0 ∷ 0 ∷ 0 ∷ 0 ∷ 0 ∷ 0 ∷ []
-unfolding earBytes fieldBytes bytesOf toBits
+unfolding earBytes fieldBytes flatMap bytesOf toBits
 ears-written = refl

@@ -1,6 +1,6 @@
 -- The bytes of frames: how many there are, one frame more, and what two stores of four bytes leave. Assumes nothing.
 use mathlib.Core.Path.{_≡_, refl, sym, ap, _∙_}
-use mathlib.Core.List.{List, [], _∷_, _++_, append-nil, append-assoc}
+use mathlib.Core.List.{List, [], _∷_, _++_, flatMap}
 use Prim.Native.Nat.{ℕ, zero, suc, _+_, _*_, _≤_}
 use native.Mathlib.Nat.{zero-add}
 use native.Mathlib.Numerals.{add-one}
@@ -8,26 +8,22 @@ use native.Mathlib.Omega.{arith}
 use lib.ListN.{length, length-append}
 use lib.Ieee.{Float, binary32, toBits}
 use Rattle.big_endian.specs.Bytes.{bytesOf}
-use Rattle.big_endian.specs.Placed.{placed}
+use Rattle.lists.specs.Placed.{placed}
 use Rattle.big_endian.specs.Fields.{withFloat}
 use Rattle.big_endian.specs.Lists.{floatBytes}
 use Rattle.big_endian.proofs.Bytes.{length-bytes}
 use Rattle.big_endian.proofs.Fields.{field-put}
-use Rattle.big_endian.proofs.Placed.{placed-none, placed-on, length-placed}
+use Rattle.lists.proofs.Placed.{placed-none, placed-on, length-placed}
 use Rattle.big_endian.proofs.Lists.{length-fieldBytes, fieldBytes-two}
-use Rattle.checks.specs.Tables.{tab}
-use Rattle.checks.proofs.Tables.{tab-snoc}
+use Rattle.lists.specs.Tables.{tab}
+use Rattle.lists.proofs.Joined.{joined-none, joined-append, joined-snoc}
+use Rattle.lists.proofs.Tables.{tab-snoc}
 use Rattle.planes.specs.Planes.{frameAt, framesOf}
 use Rattle.wire.specs.Ears.{earBytes}
 
 pub ears-append : (fs gs : List (List Float)) → earBytes (fs ++ gs) ≡ earBytes fs ++ earBytes gs
 unfolding earBytes
-ears-append [] gs = refl
-ears-append (f ∷ fs) gs = ap (λ (t : List ℕ). floatBytes f ++ t) (ears-append fs gs) ∙ sym (append-assoc (floatBytes f) (earBytes fs) (earBytes gs))
-
-ears-one : (f : List Float) → earBytes (f ∷ []) ≡ floatBytes f
-unfolding earBytes
-ears-one f = append-nil (floatBytes f)
+ears-append = joined-append floatBytes
 
 -- two samples, one store after the other
 pub both-stored : (out one two : List ℕ) (at : ℕ) (a b : Float) → at + 8 ≤ length out → one ≡ withFloat out at a → two ≡ withFloat one (at + 4) b → two ≡ placed out at (floatBytes (a ∷ b ∷ []))
@@ -43,7 +39,7 @@ both-stored out one two at a b h e f =
 
 -- the loop: the ears of the frames so far stand at the start
 length-ears : (ears : List Float) (stride n : ℕ) → length (earBytes (framesOf ears stride 2 n)) ≡ n * 8
-unfolding earBytes
+unfolding earBytes flatMap
 length-ears ears stride n = go 0 n
   where
     go : (i n : ℕ) → length (earBytes (tab i n (frameAt ears stride 2))) ≡ n * 8
@@ -55,16 +51,17 @@ length-ears ears stride n = go 0 n
 module _ (ears : List Float) (stride : ℕ) (out : List ℕ) where
   pub giving-none : out ≡ placed out 0 (earBytes (framesOf ears stride 2 0))
   unfolding earBytes
-  giving-none = sym (placed-none out 0)
+  giving-none = sym (ap (placed out 0) (joined-none floatBytes) ∙ placed-none out 0)
 
   pub giving-more : (n : ℕ) (ys last : List ℕ) → n * 8 + 8 ≤ length out → ys ≡ placed out 0 (earBytes (framesOf ears stride 2 n)) → last ≡ placed ys (n * 8) (floatBytes (frameAt ears stride 2 n))
       → last ≡ placed out 0 (earBytes (framesOf ears stride 2 (n + 1)))
+  unfolding earBytes
   giving-more n ys last h e f =
       let so-far = earBytes (framesOf ears stride 2 n) in
       let frame = floatBytes (frameAt ears stride 2 n) in
       let start : n * 8 ≡ 0 + n * 8 = omega arith in
       let more : so-far ++ frame ≡ earBytes (framesOf ears stride 2 (n + 1)) =
-      sym (rw (add-one n, tab-snoc 0 n (frameAt ears stride 2)) (ears-append (framesOf ears stride 2 n) (frameAt ears stride 2 (0 + n) ∷ []) ∙ ap (λ (t : List ℕ). so-far ++ t) (ears-one (frameAt ears stride 2 (0 + n))) ∙ ap (λ (k : ℕ). so-far ++ floatBytes (frameAt ears stride 2 k)) (zero-add n))) in
+      sym (rw (add-one n, tab-snoc 0 n (frameAt ears stride 2)) (joined-snoc floatBytes (framesOf ears stride 2 n) (frameAt ears stride 2 (0 + n)) ∙ ap (λ (k : ℕ). so-far ++ floatBytes (frameAt ears stride 2 k)) (zero-add n))) in
       f ∙ ap (λ (k : ℕ). placed ys k frame) start ∙ ap (λ (l : List ℕ). placed l (0 + n * 8) frame) e
       ∙ placed-on out 0 (n * 8) so-far frame (length-ears ears stride n) (omega (arith, length-fieldBytes 4 (toBits binary32) (frameAt ears stride 2 n)))
       ∙ ap (placed out 0) more

@@ -9,8 +9,8 @@ use borrow.Author.Tests.{lt-ltb, le-ltb}
 use lib.ListN.{length, take, drop, length-append, length-drop, drop-of-length-le}
 use lib.Seq.{take-all, take-length, drop-drop}
 use Rattle.io.specs.Digits.{digits, glyph, Fewest}
-use Rattle.big_endian.specs.Placed.{placed}
-use Rattle.big_endian.proofs.Placed.{placed-on}
+use Rattle.lists.specs.Placed.{placed}
+use Rattle.lists.proofs.Placed.{placed-on}
 use Rattle.wire.specs.Line.{decimalBy}
 use Rattle.refusals.proofs.First.{stops, goes-on}
 use Rattle.wire.specs.Promises.{Put, Lined}

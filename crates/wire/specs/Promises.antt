@@ -6,7 +6,7 @@ use mathlib.Core.List.{List}
 use lib.Dec.{ltb}
 use lib.ListN.{length}
 use lib.Ieee.{Float}
-use Rattle.big_endian.specs.Placed.{placed}
+use Rattle.lists.specs.Placed.{placed}
 use Rattle.planes.specs.Planes.{framesOf, withFrames}
 use Rattle.wire.specs.Frames.{wholeIn, framesIn}
 use Rattle.wire.specs.Ears.{earBytes}

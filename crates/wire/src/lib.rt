@@ -8,12 +8,12 @@
 // of its two parts, wherever it is cut between frames, is a law that the crates above cite.
 //
 // Under it lie `big_endian` (numbers in bytes), `planes` (a sample of a plane), `checks` (the smaller of two
-// counts) and the kit's `io` (digits) and `bytes` (a copy).
+// counts) and the kit's `io` (digits) and `bytes` (a copy); and for its definitions and proofs `lists` and `refusals`.
 ghost use mathlib.Core.Path.{_≡_};
 ghost use Prim.Native.Nat.{_+_, _*_, _/_, _≤_};
 ghost use lib.ListN.{length};
 ghost use Rattle.planes.specs.Planes.{frameAt, withFrame};
-ghost use Rattle.big_endian.specs.Placed.{placed};
+ghost use Rattle.lists.specs.Placed.{placed};
 ghost use Rattle.big_endian.specs.Lists.{floatBytes};
 ghost use Rattle.wire.specs.Frames.{frameIn, framesIn};
 ghost use Rattle.wire.specs.Promises.{Taken, Given};

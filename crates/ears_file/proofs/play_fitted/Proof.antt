@@ -5,8 +5,8 @@ use native.Mathlib.Nat.{mul-le-mul}
 use native.Mathlib.Omega.{arith}
 use lib.ListN.{length, take, length-replicate}
 use lib.Seq.{length-take-le}
-use Rattle.numbers.specs.Computed.{zero-float}
-use Rattle.checks.proofs.Lists.{take-replicate}
+use Rattle.formats.specs.Floats.{zero-float}
+use Rattle.lists.proofs.Lists.{take-replicate}
 use Rattle.checks.proofs.Checks.{not-outside}
 use Rattle.hrtf_checks.proofs.Refusing as shaping
 use Rattle.ears_file.proofs.Setting.{taps-few}

@@ -4,11 +4,13 @@ use Prim.Native.Nat.{_*_}
 use native.Mathlib.Omega.{arith}
 use lib.ListN.{take, replicate, length-replicate}
 use lib.Seq.{length-take-le}
-use Rattle.numbers.specs.Computed.{zero-float}
+use lib.Ieee.{binary32}
+use Rattle.formats.proofs.Patterns.{zero-bits}
+use Rattle.formats.specs.Floats.{zero-float}
 use Rattle.checks.proofs.Checks.{not-outside}
 use Rattle.history.specs.Setup.{Setup}
 use Rattle.ears_file.specs.Promise.{OfLine, Answers}
-use Rattle.ears_file.proofs.Setting.{zero-bits, taps-few, set-up, six-speakers, ready}
+use Rattle.ears_file.proofs.Setting.{taps-few, set-up, six-speakers, ready}
 use borrow.Author.Needs.{needs}
 use Rattle.ears_file.proofs.play_with.Statement.{statement}
 use Rattle.ears_file.proofs.play_with.Tie as tie
@@ -34,7 +36,7 @@ play-fitted-requires c κs =
     let long = length-replicate 36 zero-float in
     let few = taps-few (args .rows) (args .length) (not-outside (args .rows) 8 (pre .0 .0) .1) (not-outside (args .length) 512 (pre .0 .1) .1) in (
       ready _ _ (args .length) (take (2 * args .rows * args .length) (args .taps .now)) _ _ (pre .0 .0) (pre .1 .0) long new (pre .0 .1) (length-take-le _ (args .taps .now) (omega (arith, few, pre .1 .1))) (pre .1 .2),
-      (six-speakers _ _ (args .length) (args .taps .now) _ _ (pre .0 .0) (pre .1 .0) long new, pre .1 .1, ap (replicate 3072) zero-bits),
+      (six-speakers _ _ (args .length) (args .taps .now) _ _ (pre .0 .0) (pre .1 .0) long new, pre .1 .1, ap (replicate 3072) (zero-bits binary32)),
     )
 
 returns : tie.Need-returns

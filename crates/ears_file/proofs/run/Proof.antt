@@ -1,7 +1,7 @@
 -- `ears_file::run` meets its contract. Assumes nothing.
 use mathlib.Core.Path.{sym, subst, _∙_}
 use lib.ListN.{length-replicate}
-use Rattle.numbers.specs.Computed.{zero-float}
+use Rattle.formats.specs.Floats.{zero-float}
 use Rattle.runs.proofs.SetUp.{few-rows, short-filters}
 use Rattle.ears_file.specs.Promise.{OfFiles}
 use Rattle.ears_file.proofs.Ending.{failed-answers, ended-answers, answers-on, bank-refused, sound, of-files}

@@ -4,7 +4,7 @@ use Prim.Native.Nat.{ℕ, _-_, _*_, _≤_}
 use native.Mathlib.Omega.{arith}
 use denote.Ref.{now}
 use lib.ListN.{length}
-use Rattle.big_endian.specs.Placed.{placed}
+use Rattle.lists.specs.Placed.{placed}
 use Rattle.planes.specs.Planes.{framesOf}
 use Rattle.wire.specs.Ears.{earBytes}
 use Rattle.wire.proofs.Ears.{giving-none, giving-more, giving-long}

@@ -5,6 +5,7 @@ use mathlib.Core.List.{List}
 use denote.Ref.{now}
 use lib.Ieee.{Float}
 use Rattle.big_endian.specs.Fields.{floatAt}
+use Rattle.big_endian.specs.Lists.{strided}
 use Rattle.planes.proofs.Framing.{Sampling, sampling-none, sampling-more, sampling-all}
 use Rattle.wire.proofs.take_frame.Statement.{statement}
 use Rattle.wire.proofs.take_frame.Tie as tie
@@ -53,6 +54,7 @@ same-length : tie.Need-same-length Inv-loop μ-loop
 same-length c = omega arith
 
 returns : tie.Need-returns Inv-loop μ-loop
+unfolding strided
 returns c =
     let a = c .before .before .before .before .args in
     let at = c .before .loop in

@@ -1,7 +1,7 @@
 -- `ears_file::input::play_all` meets its contract. Assumes nothing.
 use Prim.Native.Nat.{ℕ}
 use lib.ListN.{length-replicate}
-use Rattle.numbers.specs.Computed.{zero-float}
+use Rattle.formats.specs.Floats.{zero-float}
 use borrow.Author.Needs.{needs}
 use Rattle.ears_file.proofs.input.play_all.Statement.{statement}
 use Rattle.ears_file.proofs.input.play_all.Tie as tie

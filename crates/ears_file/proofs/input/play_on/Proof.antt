@@ -1,6 +1,6 @@
 -- `ears_file::input::play_on` meets its contract: before each step the record and the lists stand for some line. Assumes nothing.
 use native.Mathlib.Omega.{arith}
-use Rattle.ears_file.specs.Playing.{fixed, lent}
+use Rattle.ears_play.specs.Turns.{fixed, lent}
 use Rattle.ears_file.proofs.Going.{Going, still-room, going-first, played-on}
 use Rattle.ears_file.proofs.Ending.{failed-answers, line-ends, over-answers}
 use Rattle.ears_file.proofs.input.play_on.Statement.{statement}
@@ -8,7 +8,7 @@ use Rattle.ears_file.proofs.input.play_on.Tie as tie
 
 abbrev Inv-loop : tie.InvT-loop
 Inv-loop line out limit shape weights row-of taps rings₀ bytes₀ inputs₀ ears₀ text₀ progress₀ steps₀ rings bytes inputs ears text progress steps =
-    Going (fixed shape weights row-of taps) (lent rings₀ bytes₀ inputs₀ ears₀ text₀) progress (lent rings bytes inputs ears text)
+    Going (fixed shape 1024 weights row-of taps) (lent bytes₀ inputs₀ rings₀ ears₀ text₀) progress (lent bytes inputs rings ears text)
 
 abbrev μ-loop : tie.MeasureT-loop
 μ-loop line out limit shape weights row-of taps rings₀ bytes₀ inputs₀ ears₀ text₀ progress₀ steps₀ rings bytes inputs ears text progress steps =
