@@ -1,4 +1,10 @@
 -- The marked drill table, all eleven: each example is shown in the crate that it is about. Assumes nothing.
+use mathlib.Core.Path.{_≡_, ap, _∙_}
+use lib.IntN.{pos}
+use lib.Ieee.{binary64, ofInt, toBits}
+use Rattle.formats.specs.Floats.{float}
+use Rattle.numbers.specs.declared.Rooted.{Rooted}
+use Rattle.numbers.specs.Promises.{Root}
 use Rattle.numbers.proofs.Drill.{root-four, root-two, tie-down, tie-up}
 use Rattle.harmonics.proofs.Drill.{drill-1, drill-1-floats, drill-2, drill-2-floats, drill-3, drill-3-floats}
 use Rattle.stereo.proofs.Drill.{left-at-minus-100, right-at-minus-100, left-at-250, right-at-250, at-minus-100, at-250}
@@ -7,6 +13,15 @@ use Rattle.history.proofs.Drill.{drill-8, drill-9, drill-9-each, drill-9-heard}
 use Rattle.row_choice.proofs.Drill.{drill-tie}
 use Rattle.bank.proofs.Drill.{drill-written, drill-read, drill-cut}
 use Rattle.drill_table.specs.Table.{DrillTable}
+
+-- the roots of 4 and 2, whose floats are computed
+four : (r : Rooted) → Root (float (pos 4)) r → r ≡ record { refusal = 0; value = float (pos 2) }
+unfolding ofInt
+four r p = p .answer ∙ root-four
+
+two : (r : Rooted) → Root (float (pos 2)) r → (r .refusal ≡ 0) × (toBits binary64 (r .value) ≡ 0x3FF6A09E667F3BCD)
+unfolding ofInt
+two r p = (p .nearest tt .0, ap (λ (a : Rooted). toBits binary64 (a .value)) (p .answer) ∙ root-two)
 
 pub drill-table : DrillTable
 drill-table = record {
@@ -27,10 +42,10 @@ drill-table = record {
   item-5-halves = half-squares;
   item-5-at-120-given = at-120;
   item-5-at-0-given = at-0;
-  item-6-four = root-four;
-  item-6-two = root-two;
-  item-7-down = tie-down;
-  item-7-up = tie-up;
+  item-6-four = four;
+  item-6-two = two;
+  item-7-down = λ y p. p .bits ∙ tie-down;
+  item-7-up = λ y p. p .bits ∙ tie-up;
   item-8 = drill-8;
   item-9 = drill-9;
   item-9-each = drill-9-each;

@@ -1,6 +1,6 @@
 -- Document 01, 'Marked drill table': "These are shown to follow from the definitions as a single checked list." A field or more for each of the eleven: of the definition, and of what the program hands back,
 -- where the two are not the same. Definitions only.
-use Prim.Native.Nat.{ℕ}
+use Prim.Native.Nat.{ℕ, _+_, _^_}
 use mathlib.Core.Path.{_≡_}
 use mathlib.Core.Bool.{true, false}
 use mathlib.Core.List.{List, [], _∷_}
@@ -8,35 +8,28 @@ use lib.IntN.{ℤ, pos, negsuc}
 use lib.ListN.{length, take}
 use lib.Ieee.{Float, nan, fin, binary64, toBits}
 use Rattle.fractions.specs.Fraction.{Fraction, fraction, whole, number, square, _⊘_, Same}
-use Rattle.numbers.specs.Computed.{zero-float, narrowed, rootAnswer}
-use Rattle.angles.specs.Promise.{float}
+use Rattle.formats.specs.Floats.{zero-float, one-float, half-float, float}
+use Rattle.numbers.specs.declared.Rooted.{Rooted}
+use Rattle.numbers.specs.Promises.{Narrowed, Root}
+use Rattle.numbers.specs.Drill.{rootOfHalf}
 use Rattle.series.specs.Angles.{definedSine, definedCosine}
-use Rattle.checks.specs.Tables.{tab}
+use Rattle.lists.specs.Tables.{tab}
 use Rattle.channel.specs.declared.Layout.the-variants.{Surround51}
 use Rattle.harmonics.specs.Formulas.{h, m, q, formulas}
-use Rattle.harmonics.specs.Promise.{refusesAzimuth, degrees}
+use Rattle.harmonics.specs.Promise.{refusesAzimuth}
 use Rattle.harmonics.specs.Drill.{at, given, Alike, front, frontFloats, left, Above}
 use Rattle.stereo.specs.Angle.{angle}
 use Rattle.stereo.specs.Promise as Stereo
 use Rattle.surround.specs.Formula.{rawAt, sumAt, isSilent}
 use Rattle.surround.specs.Promise as Surround
+use Rattle.surround.specs.Drill.{gains51}
 use Rattle.history.specs.History.{heard, unsettledEach, unsettledIn}
-use Rattle.history.specs.Drill.{one, half, oneSpeaker, samples}
+use Rattle.history.specs.Drill.{drill, samples}
 use Rattle.row_choice.specs.declared.Choice.{Choice}
 use Rattle.row_choice.specs.Choice.{Chooses}
 use Rattle.bank.specs.Reading.{ReadOutcome, readBank, readRefused, Reads}
 use Rattle.bank.specs.Writing.{WriteOutcome, Writes}
 use Rattle.bank.specs.Drill.{oneRow, oneRowBytes}
-
--- the sixteen gains of 5.1 where LFE and Rs are silent
-abbrev pub gains : Float → Float → Float → Float → List Float
-gains l r c ls =
-    let o = float (pos 0) in
-    l ∷ r ∷ c ∷ o ∷ ls ∷ o ∷ o ∷ o ∷ o ∷ o ∷ o ∷ o ∷ o ∷ o ∷ o ∷ o ∷ []
-
--- the f64 next below the root of 1/2
-abbrev pub rootOfHalf : Float
-rootOfHalf = fin false 1592262918131443 (negsuc 50)
 
 pub record DrillTable : Type 0 where
   -- 1. Order 3 at (0,0): channels 0, 3, 6, 8, 13, 15 are 1, 1, -0.5, h, -m, q; the rest 0.
@@ -47,32 +40,32 @@ pub record DrillTable : Type 0 where
   pub item-2-given : Alike (given 1 (at 90 0)) left
   -- 3. Elevation 90: channels 2, 6, 12 are 1; 1 and 3 are 0. At any azimuth.
   pub item-3 : (a : Fraction) → Above (formulas 3 a (whole 90))
-  pub item-3-given : (a : Float) → refusesAzimuth a ≡ false → Above (given 3 (record { azimuth = a; elevation = degrees 90 }))
+  pub item-3-given : (a : Float) → refusesAzimuth a ≡ false → Above (given 3 (record { azimuth = a; elevation = float (pos 90) }))
   -- 4. Stereo -100 gives 1, 0; 250 gives 0, 1.
   pub item-4-left : (definedCosine (angle (number (float (negsuc 99)))) ≡ whole 1) × (definedSine (angle (number (float (negsuc 99)))) ≡ whole 0)
   pub item-4-right : (definedCosine (angle (number (float (pos 250)))) ≡ whole 0) × (definedSine (angle (number (float (pos 250)))) ≡ whole 1)
-  pub item-4-left-given : Stereo.outcome (float (negsuc 99)) ≡ record { refusal = 0; left = float (pos 1); right = float (pos 0) }
-  pub item-4-right-given : Stereo.outcome (float (pos 250)) ≡ record { refusal = 0; left = float (pos 0); right = float (pos 1) }
+  pub item-4-left-given : Stereo.outcome (float (negsuc 99)) ≡ record { refusal = 0; left = one-float; right = zero-float }
+  pub item-4-right-given : Stereo.outcome (float (pos 250)) ≡ record { refusal = 0; left = zero-float; right = one-float }
   -- 5. 5.1 at azimuth 120: only Ls sounds; at 0, C is 0, L and R have equal squares 1/2.
   pub item-5-at-120 : tab 0 6 (isSilent Surround51 (whole 120)) ≡ true ∷ true ∷ true ∷ true ∷ false ∷ true ∷ []
   pub item-5-ls : sumAt Surround51 (whole 120) ≡ square (rawAt Surround51 (whole 120) 4)
   pub item-5-centre : rawAt Surround51 (whole 0) 2 ≡ whole 0
   pub item-5-equal : rawAt Surround51 (whole 0) 0 ≡ rawAt Surround51 (whole 0) 1
   pub item-5-halves : Same (square (rawAt Surround51 (whole 0) 0) ⊘ sumAt Surround51 (whole 0)) (fraction 1 0 2)
-  pub item-5-at-120-given : Surround.outcome Surround51 (float (pos 120)) ≡ record { refusal = 0; gains = gains (float (pos 0)) (float (pos 0)) (float (pos 0)) (float (pos 1)) }
-  pub item-5-at-0-given : Surround.outcome Surround51 (float (pos 0)) ≡ record { refusal = 0; gains = gains rootOfHalf rootOfHalf (float (pos 0)) (float (pos 0)) }
+  pub item-5-at-120-given : Surround.outcome Surround51 (float (pos 120)) ≡ record { refusal = 0; gains = gains51 zero-float zero-float zero-float one-float }
+  pub item-5-at-0-given : Surround.outcome Surround51 (float (pos 0)) ≡ record { refusal = 0; gains = gains51 rootOfHalf rootOfHalf zero-float zero-float }
   -- 6. Root of 4 is 2; 2 gives bits 3FF6A09E667F3BCD.
-  pub item-6-four : rootAnswer (fin false 1 (pos 2)) ≡ record { refusal = 0; value = fin false 1 (pos 1) }
-  pub item-6-two : toBits binary64 (rootAnswer (fin false 1 (pos 1)) .value) ≡ 0x3FF6A09E667F3BCD
+  pub item-6-four : (r : Rooted) → Root (float (pos 4)) r → r ≡ record { refusal = 0; value = float (pos 2) }
+  pub item-6-two : (r : Rooted) → Root (float (pos 2)) r → (r .refusal ≡ 0) × (toBits binary64 (r .value) ≡ 0x3FF6A09E667F3BCD)
   -- 7. 1 + 2^-24 narrows to 1; 1 + 3x2^-24 to 1 + 2^-22.
-  pub item-7-down : narrowed (fin false 16777217 (negsuc 23)) ≡ one
-  pub item-7-up : narrowed (fin false 16777219 (negsuc 23)) ≡ fin false 4194305 (negsuc 21)
+  pub item-7-down : (y : Float) → Narrowed (fin false (2 ^ 24 + 1) (negsuc 23)) y → y ≡ one-float
+  pub item-7-up : (y : Float) → Narrowed (fin false (2 ^ 24 + 3) (negsuc 23)) y → y ≡ fin false (2 ^ 22 + 1) (negsuc 21)
   -- 8. One speaker, weight 1, L = 2, left taps 1, 0.5, right 0, 1, samples 1, 0, 0: left 1, 0.5, 0; right 0, 1, 0.
-  pub item-8 : heard (oneSpeaker one) [] (samples one) ≡ (one ∷ zero-float ∷ []) ∷ (half ∷ one ∷ []) ∷ (zero-float ∷ zero-float ∷ []) ∷ []
+  pub item-8 : heard drill [] (samples one-float) ≡ (one-float ∷ zero-float ∷ []) ∷ (half-float ∷ one-float ∷ []) ∷ (zero-float ∷ zero-float ∷ []) ∷ []
   -- 9. The same with NaN, 0, 0: two unsettled, then 0 and 0.
-  pub item-9 : unsettledIn (oneSpeaker one) [] (samples nan) ≡ 2
-  pub item-9-each : unsettledEach (oneSpeaker one) [] (samples nan) ≡ true ∷ true ∷ false ∷ []
-  pub item-9-heard : heard (oneSpeaker one) [] (samples nan) ≡ (nan ∷ nan ∷ []) ∷ (nan ∷ nan ∷ []) ∷ (zero-float ∷ zero-float ∷ []) ∷ []
+  pub item-9 : unsettledIn drill [] (samples nan) ≡ 2
+  pub item-9-each : unsettledEach drill [] (samples nan) ≡ true ∷ true ∷ false ∷ []
+  pub item-9-heard : heard drill [] (samples nan) ≡ (nan ∷ nan ∷ []) ∷ (nan ∷ nan ∷ []) ∷ (zero-float ∷ zero-float ∷ []) ∷ []
   -- 10. Rows at 0 and 450 tenths, speaker at 225 tenths: the first. Whatever stands in the list beyond the two rows.
   pub item-10 : (rest : List ℤ) → length rest ≡ 6 → (r : Choice) → Chooses (pos 0 ∷ pos 450 ∷ rest) 2 (pos 225) r → r ≡ record { refusal = 0; row = 0 }
   -- 11. The bank bytes above, and 9 without the last byte. Whatever is lent.
