@@ -6,8 +6,7 @@ use Prim.Native.Nat.{ℕ, _≤_, _<_}
 use native.Mathlib.Decide.{decLt}
 use native.Mathlib.Omega.{arith}
 use borrow.Author.Tests.{ne-eqb}
-use Rattle.bank_form.specs.Bank.{within}
-use Rattle.bank_form.proofs.Walk.{within-in, within-high}
+use Rattle.refusals.proofs.Ranges.{within-in, within-high}
 use Rattle.probe_answer.specs.Answers.{none}
 use Rattle.probe_numbers.specs.Answers as Numbers
 use Rattle.probe_bank.specs.Answers as Bank
@@ -31,15 +30,15 @@ module _ (operation : ℕ) (args out : List ℕ) where
   of-gains l h = sym (rw (within-high 1 5 operation (omega arith) (omega arith), within-high 6 8 operation (omega arith) (omega arith), within-in 9 13 operation l h))
 
   pub of-matrix : operation ≡ 15 → Gains.answerOf operation args out ≡ answerOf operation args out
-  unfolding answerOf within
+  unfolding answerOf
   of-matrix e = rw e
 
   pub of-planes : (operation ≡ 14) ⊎ (operation ≡ 16) → Planes.answerOf operation args out ≡ answerOf operation args out
-  unfolding answerOf within
+  unfolding answerOf
   of-planes = ⊎-elim (λ e. rw e) (λ e. rw e)
 
   pub of-hrtf : ((operation ≡ 14) ⊎ (operation ≡ 16) → ⊥) → (operation ≡ 15 → ⊥) → 14 ≤ operation → operation < 19 → Hrtf.answerOf operation args out ≡ answerOf operation args out
-  unfolding answerOf within
+  unfolding answerOf
   of-hrtf planes matrix l h =
       let not-pan : operation ≡ 14 → ⊥ = λ e. planes (inl e) in
       let not-decode : operation ≡ 16 → ⊥ = λ e. planes (inr e) in
@@ -49,7 +48,7 @@ module _ (operation : ℕ) (args out : List ℕ) where
       ]
 
   pub of-setup : 19 ≤ operation → operation ≤ 20 → Setup.answerOf operation args out ≡ answerOf operation args out
-  unfolding answerOf within
+  unfolding answerOf
   of-setup l h =
       elim (decLt operation 20) [
         | yes k ↦ let e : operation ≡ 19 = omega arith in rw e
@@ -57,7 +56,7 @@ module _ (operation : ℕ) (args out : List ℕ) where
       ]
 
   pub of-none : (1 ≤ operation → 20 < operation) → none out ≡ answerOf operation args out
-  unfolding answerOf within
+  unfolding answerOf
   of-none far =
       elim (decLt operation 1) [
         | yes k ↦ let e : operation ≡ 0 = omega arith in rw e

@@ -3,7 +3,7 @@ use Prim.Native.Nat.{ℕ}
 use mathlib.Core.Bool.{cond}
 use mathlib.Core.List.{List}
 use lib.Dec.{eqb}
-use Rattle.bank_form.specs.Bank.{within}
+use Rattle.refusals.specs.Ranges.{within}
 use Rattle.probe_answer.specs.Answers.{Draft, none}
 use Rattle.probe_numbers.specs.Answers as Numbers
 use Rattle.probe_bank.specs.Answers as Bank

@@ -4,7 +4,8 @@
 //
 // What it puts into an answer is promised by an equation (specs/Answers.antt): the answer of the crate `probe_..` that
 // has the operation, which promises every byte. Of what is read and written no contract can say anything, so the rest is
-// proved safe and ending, and what it prints is compared.
+// proved safe and ending, and what it prints is compared. Under it lie the six crates that answer, `probe_answer` and
+// `big_endian` (how answers are put together), `refusals` (the ranges of operations), `io` and `libc`.
 use libc::STDIN_FILENO;
 use libc::STDOUT_FILENO;
 ghost use mathlib.Core.Path.{_≡_};

@@ -12,11 +12,11 @@ use lib.ListN.{length, getD, take, set}
 use lib.Seq.{take-suc, take-length, length-take-le}
 use Rattle.big_endian.specs.Bytes.{bytesOf}
 use Rattle.big_endian.specs.Fields.{withField}
-use Rattle.big_endian.specs.Placed.{placed}
+use Rattle.lists.specs.Placed.{placed}
 use Rattle.big_endian.specs.Lists.{fieldBytes}
 use Rattle.big_endian.proofs.Bytes.{length-bytes}
 use Rattle.big_endian.proofs.Fields.{field-put}
-use Rattle.big_endian.proofs.Placed.{placed-none, length-placed, store-on}
+use Rattle.lists.proofs.Placed.{placed-none, length-placed, store-on}
 use Rattle.big_endian.proofs.Lists.{length-fieldBytes, write-none, write-more}
 use Rattle.probe_answer.specs.Answers.{draft, nowhere, _then_, thenField}
 use Rattle.probe_answer.proofs.Answers.{then-room, then-cut}

@@ -6,7 +6,7 @@ use lib.Dec.{eqb, leb}
 use lib.Ieee.{Float}
 use lib.ListN.{length}
 use Rattle.big_endian.specs.Bytes.{bytesOf}
-use Rattle.big_endian.specs.Placed.{placed}
+use Rattle.lists.specs.Placed.{placed}
 use Rattle.big_endian.specs.Lists.{doubleBytes}
 
 -- an answer under way: the place where its next part goes, and the bytes as they stand
@@ -17,11 +17,7 @@ pub record Draft : Type 0 where
 abbrev pub draft : ℕ → List ℕ → Draft
 draft place bytes = record { place = place; bytes = bytes }
 
--- nothing is put yet
-abbrev pub start : List ℕ → Draft
-start out = draft 0 out
-
--- no answer is given: a count of 0, and the bytes as they were
+-- nothing is put: so an answer begins, and so it is left where none is given, with a count of 0 and the bytes as they were
 abbrev pub none : List ℕ → Draft
 none out = draft 0 out
 
@@ -47,4 +43,4 @@ thenField d count n = cond (leb count 8) (d then bytesOf count n) (cut d)
 
 -- "refusal (1)", and numbers behind it, "f64, 8 each"
 unfoldable pub refusalAndDoubles : ℕ → List Float → List ℕ → Draft
-refusalAndDoubles refusal list out = start out then bytesOf 1 refusal then doubleBytes list
+refusalAndDoubles refusal list out = none out then bytesOf 1 refusal then doubleBytes list

@@ -14,7 +14,7 @@ use Rattle.bank.specs.Reading.{ReadOutcome, readOutcome}
 use Rattle.bank.specs.Writing.{WriteOutcome, writeOutcome}
 use Rattle.row_choice.specs.declared.Choice.{Choice}
 use Rattle.row_choice.specs.Choice.{choiceOf}
-use Rattle.checks.proofs.Tables.{length-tab}
+use Rattle.lists.proofs.Tables.{length-tab}
 use Rattle.probe_request.specs.Requests.{lentBy, azimuthsLent, samplesLent, listAt}
 use Rattle.probe_answer.specs.Answers.{Draft, none}
 use Rattle.probe_answer.proofs.Answers.{taken, untaken, answered}

@@ -8,14 +8,14 @@ use lib.IntN.{ℤ}
 use lib.ListN.{length, take, drop}
 use Rattle.big_endian.specs.Bytes.{bytesOf}
 use Rattle.big_endian.specs.Fields.{fieldAt, signedAt}
-use Rattle.big_endian.specs.Lists.{signedBytes, floatBytes}
+use Rattle.big_endian.specs.Lists.{signedBytes, floatBytes, signedsAt, floatsAt}
 use Rattle.bank_form.specs.Bank.{Bank}
 use Rattle.bank.specs.Reading.{ReadOutcome, readOutcome}
 use Rattle.bank.specs.Writing.{WriteOutcome, writeOutcome}
 use Rattle.row_choice.specs.declared.Choice.{Choice}
 use Rattle.row_choice.specs.Choice.{choiceOf}
-use Rattle.probe_request.specs.Requests.{lentBy, azimuthsLent, samplesLent, signedsAt, floatsAt}
-use Rattle.probe_answer.specs.Answers.{Draft, start, none, taking, _then_}
+use Rattle.probe_request.specs.Requests.{lentBy, azimuthsLent, samplesLent}
+use Rattle.probe_answer.specs.Answers.{Draft, none, taking, _then_}
 use Rattle.probe_bank.specs.Fillings.{azimuthFilling, tapFilling, byteFilling, filledWith, countChanged}
 
 -- "s: taps to show (2)", "and s counts as t where it is more"; "b: bytes lent (2)", "up to [..] 33,000 bytes"
@@ -27,7 +27,7 @@ bytesLent args = lentBy args 3 2 33000
 
 -- every answer begins so: "refusal (1)", and "rows (4)", "bytes (4)" or "row (4)"
 abbrev pub counts : ℕ → ℕ → List ℕ → Draft
-counts refusal n out = start out then bytesOf 1 refusal then bytesOf 4 n
+counts refusal n out = none out then bytesOf 1 refusal then bytesOf 4 n
 
 -- ---- 6 bank read
 

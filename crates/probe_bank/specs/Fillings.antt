@@ -1,11 +1,11 @@
 -- What a bank's lists hold before the call, and what is counted after it (docs/PROBE.md, 'Operations'). Definitions only.
-use Prim.Native.Nat.{ℕ, suc, _+_, _*_, _%_}
-use mathlib.Core.Bool.{cond}
-use mathlib.Core.List.{List, [], _∷_}
-use lib.Ieee.{Float, binary32, ofInt, ne}
+use Prim.Native.Nat.{ℕ, _+_, _-_, _*_, _%_}
+use mathlib.Core.Bool.{Bool}
+use mathlib.Core.List.{List}
+use lib.Ieee.{Float, nan, binary32, ofInt, ne}
 use lib.IntN.{ℤ, pos}
-use lib.ListN.{drop}
-use Rattle.checks.specs.Tables.{tab}
+use lib.ListN.{length, getD}
+use Rattle.lists.specs.Tables.{tab, count}
 
 -- "Before the call a bank's lists are filled, entry i with 1000 + i and byte i with the last byte of 7 i + 3"
 abbrev pub azimuthFilling : ℕ → ℤ
@@ -21,14 +21,10 @@ byteFilling i = (7 * i + 3) % 256
 abbrev pub filledWith : {A : Type 0} → (ℕ → A) → ℕ → List A
 filledWith f n = tab 0 n f
 
--- 1 where place i no longer holds what it was filled with
-unfoldable pub changedAt : ℕ → Float → ℕ
-changedAt i x = cond (ne x (tapFilling i)) 1 0
-
-unfoldable pub changedFrom : ℕ → List Float → ℕ
-changedFrom i [] = 0
-changedFrom i (x ∷ xs) = changedAt i x + changedFrom (suc i) xs
+-- whether place i no longer holds what it was filled with
+unfoldable pub changedAt : ℕ → Float → Bool
+changedAt i x = ne x (tapFilling i)
 
 -- "how many taps from s on have changed"
 abbrev pub countChanged : ℕ → List Float → ℕ
-countChanged s taps = changedFrom s (drop s taps)
+countChanged s taps = count (tab s (length taps - s) (λ i. changedAt i (getD taps i nan)))

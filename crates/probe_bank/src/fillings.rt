@@ -2,6 +2,7 @@
 ghost use mathlib.Core.Path.{_≡_};
 ghost use Prim.Native.Nat.{_<_, _≤_};
 ghost use lib.ListN.{length};
+ghost use mathlib.Core.Bool.{cond};
 ghost use Rattle.probe_bank.specs.Fillings.{azimuthFilling, tapFilling, byteFilling, filledWith, changedAt, countChanged};
 
 // Place i of a list of numbers in two bytes is filled with 1000 + i.
@@ -50,7 +51,7 @@ pub(crate) fn fill_bytes(list: &mut [u8])
 // 1 where place i of a list of f32 holds something else, 0 where it does not.
 fn changed(x: f32, i: usize) -> u64
     requires { ⌜ i < 8200 ⌝ }
-    ensures { λ r. ⌜ r ≡ changedAt i x ⌝ }
+    ensures { λ r. ⌜ r ≡ cond (changedAt i x) 1 0 ⌝ }
 {
     if x != filling(i) {
         return 1;

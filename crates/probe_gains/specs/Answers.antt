@@ -4,6 +4,7 @@ use mathlib.Core.Bool.{cond}
 use mathlib.Core.List.{List, [], _∷_}
 use lib.Dec.{eqb}
 use Rattle.big_endian.specs.Fields.{fieldAt, doubleAt}
+use Rattle.big_endian.specs.Lists.{doublesAt}
 use Rattle.harmonics.specs.declared.Direction.{Direction}
 use Rattle.matrix.specs.Promise as Rows
 use Rattle.harmonics.specs.Promise as Harmonics
@@ -11,7 +12,7 @@ use Rattle.virtual_speaker.specs.Promise as Weighted
 use Rattle.stereo.specs.Promise as Stereo
 use Rattle.surround.specs.Promise as Surround
 use Rattle.decoder_matrix.specs.Promise as Decoder
-use Rattle.probe_request.specs.Requests.{layoutAt, weightsLent, doublesAt}
+use Rattle.probe_request.specs.Requests.{layoutAt, weightsLent}
 use Rattle.probe_answer.specs.Answers.{Draft, none, taking, refusalAndDoubles}
 
 -- "azimuth and elevation (f64, 8 each)"

@@ -12,7 +12,7 @@ use Rattle.hrtf_checks.specs.declared.Shape.{Shape}
 use Rattle.hrtf.specs.declared.Processed.{Processed}
 use Rattle.hrtf.specs.Promise.{Outcome, outcome}
 use Rattle.probe_request.specs.Requests.{eightAt, samplesLent, weightsLent, cellsLent, listAt}
-use Rattle.probe_answer.specs.Answers.{Draft, start, none, _then_}
+use Rattle.probe_answer.specs.Answers.{Draft, none, _then_}
 use Rattle.probe_answer.proofs.Answers.{taken, untaken, behind}
 use Rattle.probe_request.proofs.Requests.{inside}
 use Rattle.probe_hrtf.specs.Requests.{deskAt, shapeAt, Lent, lengths, weightsFrom, tapsFrom, ringsFrom, earsFrom, blockEnd, callOf, stateOf, callAt, stateAt}
@@ -31,12 +31,12 @@ module _ (args out : List ℕ) (inputs weights taps rings ears : List Float) whe
         is
         ∙ (λ i. outcome (record { shape = eh i; frames = ef i; stride = es i; inputs = inputs; weights = weights; rows = er i; taps = taps; ears = ears }) (record { rings = rings; desk = ed i }))
 
-    pub played : (a b c : Draft) → a ≡ thenCounts (start out) p → b ≡ a then floatBytes rings₁ → c ≡ b then floatBytes ears₁
+    pub played : (a b c : Draft) → a ≡ thenCounts (none out) p → b ≡ a then floatBytes rings₁ → c ≡ b then floatBytes ears₁
         → c ≡ blockShown (outcome (callOf args inputs weights taps ears) (stateOf args rings)) out
     unfolding blockShown
     played a b c counts cells samples =
         behind (floatBytes ears₁) (behind (floatBytes rings₁) counts cells) samples
-        ∙ ap (λ (o : Outcome). thenCounts (start out) (o .answer) then floatBytes (o .rings) then floatBytes (o .ears)) asked
+        ∙ ap (λ (o : Outcome). thenCounts (none out) (o .answer) then floatBytes (o .rings) then floatBytes (o .ears)) asked
 
   -- ---- the lists that are lent
 

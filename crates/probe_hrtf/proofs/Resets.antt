@@ -7,12 +7,12 @@ use lib.ListN.{length}
 use lib.Ieee.{Float}
 use Rattle.big_endian.specs.Bytes.{bytesOf}
 use Rattle.big_endian.specs.Fields.{fieldAt, floatAt}
-use Rattle.big_endian.specs.Lists.{floatBytes}
+use Rattle.big_endian.specs.Lists.{floatBytes, floatsAt}
 use Rattle.desk.specs.declared.Desk.{Desk}
 use Rattle.hrtf.specs.declared.Rested.{Rested}
 use Rattle.hrtf.specs.Reset.{AfterReset, resetOutcome}
-use Rattle.probe_request.specs.Requests.{floatsAt, cellsLent, listAt}
-use Rattle.probe_answer.specs.Answers.{Draft, start, none, _then_}
+use Rattle.probe_request.specs.Requests.{cellsLent, listAt}
+use Rattle.probe_answer.specs.Answers.{Draft, none, _then_}
 use Rattle.probe_answer.proofs.Answers.{untaken, answered, parts-behind, behind}
 use Rattle.probe_request.proofs.Requests.{inside}
 use Rattle.probe_hrtf.specs.Requests.{deskAt}
@@ -31,7 +31,7 @@ module _ (args out : List ℕ) (rings : List Float) where
         let r = inside floatAt 4 args 34 rings rings₁ er (omega arith) in
         is ∙ (λ i. resetOutcome (ed i) (es i) (el i) (r i))
 
-    pub rested : (a b c : Draft) → a ≡ start out then bytesOf 1 (p .refusal) → b ≡ thenDesk a (p .desk) → c ≡ b then floatBytes rings₂ → c ≡ resetBy (length rings) args out
+    pub rested : (a b c : Draft) → a ≡ none out then bytesOf 1 (p .refusal) → b ≡ thenDesk a (p .desk) → c ≡ b then floatBytes rings₂ → c ≡ resetBy (length rings) args out
     unfolding resetShown resetBy
     rested a b c refusal desk cells =
         answered (λ (o : AfterReset). resetShown o out) (34 + 4 * length rings) args out full asked

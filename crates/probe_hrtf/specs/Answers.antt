@@ -5,13 +5,13 @@ use mathlib.Core.List.{List}
 use lib.Dec.{eqb}
 use Rattle.big_endian.specs.Bytes.{bytesOf}
 use Rattle.big_endian.specs.Fields.{fieldAt}
-use Rattle.big_endian.specs.Lists.{floatBytes}
+use Rattle.big_endian.specs.Lists.{floatBytes, floatsAt}
 use Rattle.desk.specs.declared.Desk.{Desk}
 use Rattle.hrtf.specs.declared.Processed.{Processed}
 use Rattle.hrtf.specs.Promise.{Outcome, outcome}
 use Rattle.hrtf.specs.Reset.{AfterReset, resetOutcome}
-use Rattle.probe_request.specs.Requests.{cellsLent, floatsAt}
-use Rattle.probe_answer.specs.Answers.{Draft, start, none, taking, _then_}
+use Rattle.probe_request.specs.Requests.{cellsLent}
+use Rattle.probe_answer.specs.Answers.{Draft, none, taking, _then_}
 use Rattle.probe_hrtf.specs.Requests.{deskAt, Lent, lentOf, blockEnd, callAt, stateAt}
 
 -- "ring position, frames-to-go (8 each)"
@@ -26,7 +26,7 @@ thenCounts d p = thenDesk (d then bytesOf 1 (p .refusal) then bytesOf 8 (p .samp
 
 -- "the r cells, the e samples", as they stand after the call
 unfoldable pub blockShown : Outcome → List ℕ → Draft
-blockShown o out = thenCounts (start out) (o .answer) then floatBytes (o .rings) then floatBytes (o .ears)
+blockShown o out = thenCounts (none out) (o .answer) then floatBytes (o .rings) then floatBytes (o .ears)
 
 -- n of each list being lent
 unfoldable pub blockBy : Lent → List ℕ → List ℕ → Draft
@@ -40,7 +40,7 @@ blockAnswer args out = blockBy (lentOf args) args out
 
 -- "refusal (1), ring position, frames-to-go (8 each), the r cells"
 unfoldable pub resetShown : AfterReset → List ℕ → Draft
-resetShown o out = thenDesk (start out then bytesOf 1 (o .answer .refusal)) (o .answer .desk) then floatBytes (o .rings)
+resetShown o out = thenDesk (none out then bytesOf 1 (o .answer .refusal)) (o .answer .desk) then floatBytes (o .rings)
 
 -- "ring position, frames-to-go, speakers, L (8 each), the r cells (f32, 4 each)"
 unfoldable pub resetBy : ℕ → List ℕ → List ℕ → Draft

@@ -4,11 +4,12 @@ use mathlib.Core.List.{List}
 use lib.ListN.{length}
 use lib.Ieee.{Float}
 use Rattle.big_endian.specs.Fields.{fieldAt}
+use Rattle.big_endian.specs.Lists.{floatsAt, doublesAt}
 use Rattle.desk.specs.declared.Desk.{Desk}
-use Rattle.rings.specs.Steps.{State}
+use Rattle.rings.specs.State.{State}
 use Rattle.hrtf_checks.specs.declared.Shape.{Shape}
 use Rattle.hrtf_checks.specs.Call.{Call}
-use Rattle.probe_request.specs.Requests.{eightAt, samplesLent, weightsLent, cellsLent, floatsAt, doublesAt}
+use Rattle.probe_request.specs.Requests.{eightAt, samplesLent, weightsLent, cellsLent}
 
 -- "ring position, frames-to-go .. (8 each)"
 abbrev pub deskAt : List ℕ → ℕ → Desk

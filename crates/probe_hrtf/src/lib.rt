@@ -3,8 +3,8 @@
 // Test code, and promised by equations all the same (specs/Answers.antt): how many bytes the answer has and what they
 // are is what `hrtf` promises for the desk, the counts and the lists that stand in the arguments, one part behind the
 // other. There are 0 bytes, and the lent ones are as they were, for any other operation and for arguments that have
-// another length than the operation takes. `answer` takes any input. Under it lie `hrtf` with its `hrtf_checks` and
-// `desk`, `probe_request` and `probe_answer`.
+// another length than the operation takes. `answer` takes any input. Under it lie `hrtf` with its `hrtf_checks`,
+// `rings` and `desk`, `probe_request` and `probe_answer`, `big_endian` and, in proofs alone, `refusals`.
 use desk::Desk;
 use hrtf::Processed;
 use hrtf_checks::Shape;

@@ -8,15 +8,15 @@ use Rattle.series.specs.Sums.{Wave, sine, cosine}
 use Rattle.angles.specs.Promise as Angles
 use Rattle.big_endian.specs.Fields.{floatAt, doubleAt}
 use Rattle.big_endian.specs.Lists.{floatBytes, doubleBytes}
-use Rattle.probe_answer.specs.Answers.{Draft, start, none, taking, _then_, refusalAndDoubles}
+use Rattle.probe_answer.specs.Answers.{Draft, none, taking, _then_, refusalAndDoubles}
 
 -- 1 widen: "f32 (4)", "f64 (8)". Widened, a float is the same number.
 unfoldable pub widenAnswer : List ℕ → List ℕ → Draft
-widenAnswer args out = taking 4 args out (start out then doubleBytes (floatAt args 0 ∷ []))
+widenAnswer args out = taking 4 args out (none out then doubleBytes (floatAt args 0 ∷ []))
 
 -- 2 narrow: "f64 (8)", "f32 (4)"
 unfoldable pub narrowAnswer : List ℕ → List ℕ → Draft
-narrowAnswer args out = taking 8 args out (start out then floatBytes (Numbers.narrowed (doubleAt args 0) ∷ []))
+narrowAnswer args out = taking 8 args out (none out then floatBytes (Numbers.narrowed (doubleAt args 0) ∷ []))
 
 -- 3 root: "f64 (8)", "refusal (1), f64 (8)"
 unfoldable pub rootAnswer : List ℕ → List ℕ → Draft

@@ -3,7 +3,8 @@
 // Test code, and promised by an equation all the same (specs/Answers.antt): how many bytes the answer has, and what the
 // lent bytes hold afterwards, is what PROBE.md says, over what `numbers` and `angles` promise. No bytes, and the
 // lent ones as they were, where the operation is another one or the arguments have another length than it takes. Every
-// function takes any input. Under it lie `numbers`, `angles`, `big_endian` and `probe_answer`.
+// function takes any input. Under it lie `numbers`, `angles`, with `series` in what is promised, `big_endian`,
+// `probe_answer` and, in proofs alone, `refusals`.
 use angles::Answer;
 ghost use mathlib.Core.Path.{_≡_};
 ghost use Rattle.angles.specs.Promise.{outcome};

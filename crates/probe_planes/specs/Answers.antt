@@ -6,18 +6,18 @@ use lib.Dec.{eqb}
 use lib.Ieee.{Float}
 use Rattle.big_endian.specs.Bytes.{bytesOf}
 use Rattle.big_endian.specs.Fields.{fieldAt, doubleAt}
-use Rattle.big_endian.specs.Lists.{floatBytes}
+use Rattle.big_endian.specs.Lists.{floatBytes, floatsAt, doublesAt}
 use Rattle.panner.specs.declared.Command.{Command}
 use Rattle.panner.specs.declared.Command.the-variants.{Stereo, Surround, Ambisonic}
 use Rattle.panner.specs.Blocks as Panner
 use Rattle.panner.specs.Promise as Panning
 use Rattle.ambisonic_decoder.specs.Promise as Decoding
-use Rattle.probe_request.specs.Requests.{layoutAt, samplesLent, weightsLent, floatsAt, doublesAt}
-use Rattle.probe_answer.specs.Answers.{Draft, start, none, taking, _then_}
+use Rattle.probe_request.specs.Requests.{layoutAt, samplesLent, weightsLent}
+use Rattle.probe_answer.specs.Answers.{Draft, none, taking, _then_}
 
 -- "refusal (1), samples (8), the o samples"
 abbrev pub played : ℕ → ℕ → List Float → List ℕ → Draft
-played refusal samples planes out = start out then bytesOf 1 refusal then bytesOf 8 samples then floatBytes planes
+played refusal samples planes out = none out then bytesOf 1 refusal then bytesOf 8 samples then floatBytes planes
 
 -- ---- 14 panner block
 

@@ -3,10 +3,8 @@ use Prim.Native.Nat.{ℕ, _+_, _*_, min}
 use mathlib.Core.Bool.{cond}
 use mathlib.Core.List.{List}
 use lib.Dec.{eqb, leb}
-use lib.Ieee.{Float}
-use lib.IntN.{ℤ}
 use lib.ListN.{length}
-use Rattle.big_endian.specs.Fields.{fieldAt, signedAt, floatAt, doubleAt}
+use Rattle.big_endian.specs.Fields.{fieldAt}
 use Rattle.big_endian.specs.Lists.{strided}
 use Rattle.channel.specs.declared.Layout.{Layout}
 use Rattle.channel.specs.declared.Layout.the-variants.{Mono, Stereo, Surround51, Surround71, Custom}
@@ -39,16 +37,6 @@ weightsLent args at = lentBy args at 2 300
 
 abbrev pub cellsLent : List ℕ → ℕ → ℕ
 cellsLent args at = lentBy args at 2 4100
-
--- so many numbers from `at` on: "2 each", "f32, 4 each", "f64, 8 each"
-abbrev pub signedsAt : List ℕ → ℕ → ℕ → List ℤ
-signedsAt args at n = strided (signedAt args) 2 at n
-
-abbrev pub floatsAt : List ℕ → ℕ → ℕ → List Float
-floatsAt args at n = strided (floatAt args) 4 at n
-
-abbrev pub doublesAt : List ℕ → ℕ → ℕ → List Float
-doublesAt args at n = strided (doubleAt args) 8 at n
 
 -- "every other list holds what the request gives": as many numbers as it has places, w bytes each, from `at` on. A list that does not lie inside the arguments is left as it was.
 unfoldable pub listAt : {A : Type 0} → (List ℕ → ℕ → A) → ℕ → List ℕ → ℕ → List A → List A

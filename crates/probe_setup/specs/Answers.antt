@@ -5,16 +5,16 @@ use mathlib.Core.List.{List}
 use lib.Dec.{eqb}
 use Rattle.big_endian.specs.Bytes.{bytesOf}
 use Rattle.big_endian.specs.Fields.{fieldAt}
-use Rattle.big_endian.specs.Lists.{doubleBytes, numberBytes}
+use Rattle.big_endian.specs.Lists.{doubleBytes, numberBytes, signedsAt, doublesAt}
 use Rattle.hrtf_setup.specs.Arrangement.{Wanted, Arrangement, arrangement}
 use Rattle.hrtf_setup.specs.Promise.{ofLayout, ofOrder}
-use Rattle.probe_request.specs.Requests.{layoutAt, eightAt, azimuthsLent, weightsLent, signedsAt, doublesAt}
-use Rattle.probe_answer.specs.Answers.{Draft, start, none, taking, _then_}
+use Rattle.probe_request.specs.Requests.{layoutAt, eightAt, azimuthsLent, weightsLent}
+use Rattle.probe_answer.specs.Answers.{Draft, none, taking, _then_}
 
 -- "refusal (1), speakers, channels (8 each), the eight rows (8 each), the w weights"
 abbrev pub shown : Arrangement → List ℕ → Draft
 shown o out =
-    start out then bytesOf 1 (o .answer .refusal) then bytesOf 8 (o .answer .speakers) then bytesOf 8 (o .answer .channels) then numberBytes (o .rows) then doubleBytes (o .weights)
+    none out then bytesOf 1 (o .answer .refusal) then bytesOf 8 (o .answer .speakers) then bytesOf 8 (o .answer .channels) then numberBytes (o .rows) then doubleBytes (o .weights)
 
 -- 19: "layout (9)"; 20: "the same with an order (8) in the layout's place"
 abbrev pub wantedAt : ℕ → List ℕ → Wanted

@@ -5,7 +5,7 @@ use denote.Ref.{now}
 use lib.Ieee.{Float}
 use Rattle.numbers.specs.Computed.{narrowed}
 use Rattle.big_endian.specs.Lists.{floatBytes}
-use Rattle.probe_answer.specs.Answers.{start, _then_}
+use Rattle.probe_answer.specs.Answers.{none, _then_}
 use Rattle.probe_answer.proofs.Answers.{untaken, answered}
 use Rattle.probe_numbers.specs.Answers.{narrowAnswer}
 use borrow.Author.Needs.{needs}
@@ -21,7 +21,7 @@ unfolding narrowAnswer
 returns-2 c =
     let called = c .before .before .before .before .before in
     let a = called .before .before .before .before .before .args in
-    answered (λ (x : Float). start (now (a .out)) then floatBytes (x ∷ [])) 8 (now (a .args)) _ (called .before .before .if1 .left)
+    answered (λ (x : Float). none (now (a .out)) then floatBytes (x ∷ [])) 8 (now (a .args)) _ (called .before .before .if1 .left)
     (called .narrow .ensures .bits ∙ ap narrowed (called .before .get-f64 .ensures))
     (c .before .before .put-f32s .ensures)
 

@@ -4,7 +4,7 @@ use mathlib.Core.List.{[], _∷_}
 use denote.Ref.{now}
 use lib.Ieee.{Float}
 use Rattle.big_endian.specs.Lists.{doubleBytes}
-use Rattle.probe_answer.specs.Answers.{start, _then_}
+use Rattle.probe_answer.specs.Answers.{none, _then_}
 use Rattle.probe_answer.proofs.Answers.{untaken, answered}
 use Rattle.probe_numbers.specs.Answers.{widenAnswer}
 use borrow.Author.Needs.{needs}
@@ -20,7 +20,7 @@ unfolding widenAnswer
 returns-2 c =
     let called = c .before .before .before .before .before in
     let a = called .before .before .before .before .before .args in
-    answered (λ (x : Float). start (now (a .out)) then doubleBytes (x ∷ [])) 4 (now (a .args)) _ (called .before .before .if1 .left)
+    answered (λ (x : Float). none (now (a .out)) then doubleBytes (x ∷ [])) 4 (now (a .args)) _ (called .before .before .if1 .left)
     (called .widen .ensures .same ∙ called .before .get-f32 .ensures)
     (c .before .before .put-f64s .ensures)
 

@@ -4,8 +4,9 @@ use Prim.Native.Nat.{_+_, _-_, _≤_}
 use native.Mathlib.Omega.{arith}
 use lib.Ieee.{nan}
 use lib.ListN.{length, getD}
-use Rattle.probe_bank.specs.Fillings.{countChanged}
-use Rattle.probe_bank.proofs.Changes.{once, count-more, count-none}
+use Rattle.lists.proofs.Lists.{one-at-most}
+use Rattle.probe_bank.specs.Fillings.{changedAt, countChanged}
+use Rattle.probe_bank.proofs.Changes.{count-more, count-none}
 use Rattle.probe_bank.proofs.fillings.count_changed.Statement.{statement}
 use Rattle.probe_bank.proofs.fillings.count_changed.Tie as tie
 
@@ -19,13 +20,13 @@ loop-holds : tie.Need-loop-holds Inv-loop μ-loop
 loop-holds c = (omega arith, omega arith)
 
 add-count : tie.Need-add-count Inv-loop μ-loop
-add-count c = omega (arith, c .changed .ensures, once (c .before .before .before .loop .i) (getD (c .before .before .before .before .before .args .list .now) (c .before .before .before .loop .i) nan))
+add-count c = omega (arith, c .changed .ensures, one-at-most (changedAt (c .before .before .before .loop .i) (getD (c .before .before .before .before .before .args .list .now) (c .before .before .before .loop .i) nan)))
 
 loop-again : tie.Need-loop-again Inv-loop μ-loop
 loop-again c =
     let list = c .before .before .before .before .before .args .list .now in
     let i = c .before .before .before .loop .i in
-    omega (arith, c .changed .ensures, once i (getD list i nan), count-more list i (c .before .before .loop-test .taken))
+    omega (arith, c .changed .ensures, one-at-most (changedAt i (getD list i nan)), count-more list i (c .before .before .loop-test .taken))
 
 returns : tie.Need-returns Inv-loop μ-loop
 returns c = omega (arith, count-none (c .before .before .before .args .list .now) (c .before .loop .i) (c .loop-test .left))

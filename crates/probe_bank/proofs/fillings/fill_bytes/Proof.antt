@@ -5,7 +5,7 @@ use denote.Ref.{now}
 use lib.ListN.{length}
 use mathlib.Core.Path.{refl}
 use borrow.Author.Needs.{needs}
-use Rattle.checks.proofs.Filling.{Filling, filling-none, filling-more, filling-whole}
+use Rattle.lists.proofs.Filling.{Filling, filling-none, filling-more, filling-whole}
 use Rattle.probe_bank.specs.Fillings.{byteFilling}
 use Rattle.probe_bank.proofs.fillings.fill_bytes.Statement.{statement}
 use Rattle.probe_bank.proofs.fillings.fill_bytes.Tie as tie

@@ -4,7 +4,7 @@ use native.Mathlib.Omega.{arith}
 use denote.Ref.{now}
 use lib.ListN.{length}
 use mathlib.Core.Path.{refl}
-use Rattle.checks.proofs.Filling.{Filling, filling-none, filling-more, filling-whole}
+use Rattle.lists.proofs.Filling.{Filling, filling-none, filling-more, filling-whole}
 use Rattle.probe_bank.specs.Fillings.{tapFilling}
 use Rattle.probe_bank.proofs.fillings.fill_f32s.Statement.{statement}
 use Rattle.probe_bank.proofs.fillings.fill_f32s.Tie as tie

@@ -7,7 +7,7 @@ use mathlib.Core.Path.{refl}
 use borrow.Author.Needs.{needs}
 use mir.Syntax.{w16}
 use mir.ValLaws.{toZ-pos}
-use Rattle.checks.proofs.Filling.{Filling, filling-none, filling-more, filling-whole}
+use Rattle.lists.proofs.Filling.{Filling, filling-none, filling-more, filling-whole}
 use Rattle.probe_bank.specs.Fillings.{azimuthFilling}
 use Rattle.probe_bank.proofs.fillings.fill_i16s.Statement.{statement}
 use Rattle.probe_bank.proofs.fillings.fill_i16s.Tie as tie
