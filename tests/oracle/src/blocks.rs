@@ -25,24 +25,24 @@ fn weight(random: &mut Random) -> f64 {
 }
 
 /// The ordered sum that document 01 asks for, and others that algebra does not tell from it.
-fn rising(samples: &[f32], weights: &[f64]) -> f32 {
+pub fn rising(samples: &[f32], weights: &[f64]) -> f32 {
     samples.iter().zip(weights).fold(0.0, |sum, (s, w)| sum + f64::from(*s) * w) as f32
 }
 
-fn falling(samples: &[f32], weights: &[f64]) -> f32 {
+pub fn falling(samples: &[f32], weights: &[f64]) -> f32 {
     samples.iter().zip(weights).rev().fold(0.0, |sum, (s, w)| sum + f64::from(*s) * w) as f32
 }
 
-fn narrowed_on_the_way(samples: &[f32], weights: &[f64]) -> f32 {
+pub fn narrowed_on_the_way(samples: &[f32], weights: &[f64]) -> f32 {
     samples.iter().zip(weights).fold(0.0f32, |sum, (s, w)| (f64::from(sum) + f64::from(*s) * w) as f32)
 }
 
-fn in_pairs(samples: &[f32], weights: &[f64]) -> f32 {
+pub fn in_pairs(samples: &[f32], weights: &[f64]) -> f32 {
     let products: Vec<f64> = samples.iter().zip(weights).map(|(s, w)| f64::from(*s) * w).collect();
     products.chunks(2).fold(0.0, |sum, pair| sum + pair.iter().sum::<f64>()) as f32
 }
 
-fn fused(samples: &[f32], weights: &[f64]) -> f32 {
+pub fn fused(samples: &[f32], weights: &[f64]) -> f32 {
     samples.iter().zip(weights).fold(0.0f64, |sum, (s, w)| f64::from(*s).mul_add(*w, sum)) as f32
 }
 
@@ -71,19 +71,19 @@ pub fn telling(random: &mut Random, channels: usize) -> (Vec<f32>, Vec<f64>) {
 }
 
 /// A block for the decoder: planes of `stride` frames, of which `frames` are played.
-struct Block {
-    outputs: u64,
-    channels: u64,
-    frames: u64,
-    stride: u64,
-    weights: Vec<f64>,
-    inputs: Vec<f32>,
-    planes: Vec<f32>,
+pub struct Block {
+    pub outputs: u64,
+    pub channels: u64,
+    pub frames: u64,
+    pub stride: u64,
+    pub weights: Vec<f64>,
+    pub inputs: Vec<f32>,
+    pub planes: Vec<f32>,
 }
 
 impl Block {
     /// A block whose lengths fit, filled at random.
-    fn fitting(random: &mut Random, outputs: usize, channels: usize, frames: usize, stride: usize) -> Self {
+    pub fn fitting(random: &mut Random, outputs: usize, channels: usize, frames: usize, stride: usize) -> Self {
         Block {
             outputs: outputs as u64,
             channels: channels as u64,
@@ -110,25 +110,29 @@ impl Block {
     }
 
     /// The planes after the block has been played by the Rust, which gets the frames that are played and no others.
-    fn played(&self) -> Vec<f32> {
+    fn played(&self, rust: impl Fn(&[Vec<f32>], Vec<Vec<f32>>) -> Vec<Vec<f32>>) -> Vec<f32> {
         let (frames, stride) = (self.frames as usize, self.stride as usize);
         if frames == 0 {
             return self.planes.clone();
         }
-        let rows: Vec<&[f64]> = self.weights.chunks(self.channels as usize).collect();
         let cut = |planes: &[f32]| -> Vec<Vec<f32>> { planes.chunks(stride).map(|p| p[..frames].to_vec()).collect() };
-        let played = rust::decode(&rows, &cut(&self.inputs), cut(&self.planes));
+        let played = rust(&cut(&self.inputs), cut(&self.planes));
         let beyond = self.planes.chunks(stride).map(|p| &p[frames..]);
         played.iter().zip(beyond).flat_map(|(plane, beyond)| [plane, beyond].concat()).collect()
     }
 
     fn case(&self) -> Case {
+        self.judged_by(|inputs, before| rust::decode(&self.weights.chunks(self.channels as usize).collect::<Vec<_>>(), inputs, before))
+    }
+
+    /// The block as a request, and as right what the Rust makes of its input planes.
+    pub fn judged_by(&self, rust: impl Fn(&[Vec<f32>], Vec<Vec<f32>>) -> Vec<Vec<f32>>) -> Case {
         let mut arguments: Vec<u8> = [self.weights.len(), self.inputs.len(), self.planes.len()].iter().flat_map(|n| (*n as u16).to_be_bytes()).collect();
         arguments.extend([self.outputs, self.channels, self.frames, self.stride].iter().flat_map(|n| n.to_be_bytes()));
         arguments.extend(self.weights.iter().flat_map(|w| w.to_bits().to_be_bytes()));
         arguments.extend(self.inputs.iter().chain(&self.planes).flat_map(|s| s.to_bits().to_be_bytes()));
         let refusal = self.refusal();
-        let (samples, planes) = if refusal == 0 { (self.frames, self.played()) } else { (0, self.planes.clone()) };
+        let (samples, planes) = if refusal == 0 { (self.frames, self.played(rust)) } else { (0, self.planes.clone()) };
         let mut answer = vec![refusal];
         answer.extend(samples.to_be_bytes());
         answer.extend(planes.iter().flat_map(|s| f32_bytes(*s)));

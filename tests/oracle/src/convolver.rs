@@ -177,7 +177,7 @@ impl Call {
         let played = |call: &Call, c: usize| call.inputs[c * call.stride as usize..][..call.frames as usize].to_vec();
         let line: Vec<Vec<f32>> = (0..channels).map(|c| calls.iter().flat_map(|call| played(call, c)).collect()).collect();
         let total = line[0].len();
-        let heard = rust::Convolver::new(&speakers, speakers.len(), self.length as usize).process(&line, [vec![0.0; total], vec![0.0; total]]);
+        let heard = rust::Convolver::new(&speakers).process(&line, [vec![0.0; total], vec![0.0; total]]);
         let (mut all, mut at) = (Vec::new(), 0);
         let mut state = (self.position, self.to_go, self.rings.clone());
         for mut call in calls {
@@ -456,7 +456,7 @@ mod tests {
                 None => Call::fitting(&mut random, channels as usize, speakers as usize, 3, length as usize, 4, 5),
             };
             let speakers: Vec<Speaker> = (0..call.speakers as usize).map(|s| Speaker { weights: call.weights[s * call.channels as usize..(s + 1) * call.channels as usize].to_vec(), left: call.taps_of(s, 0).to_vec(), right: call.taps_of(s, 1).to_vec() }).collect();
-            let mut convolver = rust::Convolver::new(&speakers, speakers.len(), call.length as usize);
+            let mut convolver = rust::Convolver::new(&speakers);
             let (frames, stride) = (call.frames as usize, call.stride as usize);
             let inputs: Vec<Vec<f32>> = call.inputs.chunks(stride).map(|p| p[..frames].to_vec()).collect();
             let ears = convolver.process(&inputs, [vec![0.0; frames], vec![0.0; frames]]);

@@ -125,8 +125,7 @@ fn blocks() {
 fn one_frame(count: usize, length: usize, weight: f64, tap: f32) -> impl FnOnce() -> f32 + UnwindSafe {
     move || {
         let speaker = Speaker { weights: vec![weight], left: vec![tap; length], right: vec![tap; length] };
-        let mut convolver = Convolver::new(&vec![speaker; count.min(8)], count, length);
-        convolver.process(&[vec![1.0]], [vec![9.0], vec![9.0]])[0][0]
+        Convolver::new(&vec![speaker; count]).process(&[vec![1.0]], [vec![9.0], vec![9.0]])[0][0]
     }
 }
 
@@ -141,10 +140,12 @@ fn convolver() {
     show("convolver, tap NaN", 1, 1, 1.0, f32::NAN);
     show("convolver, tap infinity", 1, 1, 1.0, f32::INFINITY);
     let one = || Speaker { weights: vec![1.0], left: vec![1.0], right: vec![1.0] };
-    say("convolver, 17 channels", tried(move || Convolver::new(&[one()], 1, 1).process(&vec![vec![1.0]; 17], [vec![9.0], vec![9.0]]), |ears| format!("left {:?}", ears[0])));
-    say("convolver, weights for two channels and one plane", format!("left {:?}", Convolver::new(&[Speaker { weights: vec![1.0, 1.0], ..one() }], 1, 1).process(&[vec![1.0]], [vec![9.0], vec![9.0]])[0]));
-    say("convolver, L 2 and filters of one tap", format!("left {:?}", Convolver::new(&[one()], 1, 2).process(&[vec![1.0; 2]], [vec![9.0; 2], vec![9.0; 2]])[0]));
-    let short = Convolver::new(&[one()], 1, 1).process(&[vec![1.0; 3]], [vec![9.0; 3], vec![9.0; 2]]);
+    say("convolver, 17 channels", tried(move || Convolver::new(&[one()]).process(&vec![vec![1.0]; 17], [vec![9.0], vec![9.0]]), |ears| format!("left {:?}", ears[0])));
+    say("convolver, weights for two channels and one plane", format!("left {:?}", Convolver::new(&[Speaker { weights: vec![1.0, 1.0], ..one() }]).process(&[vec![1.0]], [vec![9.0], vec![9.0]])[0]));
+    // L is that of the right ear's filter, whose second tap is heard.
+    let ears = Convolver::new(&[Speaker { right: vec![1.0; 2], ..one() }]).process(&[vec![1.0; 2]], [vec![9.0; 2], vec![9.0; 2]]);
+    say("convolver, L 2 and a left filter of one tap", format!("left {:?}, right {:?}", ears[0], ears[1]));
+    let short = Convolver::new(&[one()]).process(&[vec![1.0; 3]], [vec![9.0; 3], vec![9.0; 2]]);
     say("convolver, 3 frames into a left ear of 3 and a right ear of 2", format!("left {:?}", short[0]));
 }
 

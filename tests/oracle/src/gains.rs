@@ -337,8 +337,9 @@ pub fn raw_gains(layout: Layout, azimuth: f64) -> Vec<Option<Exact>> {
     layout.speakers().into_iter().enumerate().map(raw).collect()
 }
 
-/// Document 01: azimuths within 1e-9 degree of 90 from a speaker are not compared with the Rust.
-fn is_compared(layout: Layout, azimuth: f64) -> bool {
+/// Document 01: surround azimuths within 1e-9 degree of 90 from a speaker are not compared with the Rust, neither their
+/// gains nor their blocks.
+pub fn is_compared(layout: Layout, azimuth: f64) -> bool {
     layout.speakers().iter().all(|s| [90.0, 270.0].iter().all(|turn| ((azimuth - s).abs() - turn).abs() > 1e-9))
 }
 

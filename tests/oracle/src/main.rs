@@ -6,6 +6,7 @@
 //!     oracle differences                    says what the Rust does where document 01 asks for something else
 mod angles;
 mod bank;
+mod binaural;
 mod blocks;
 mod convolver;
 mod differences;
@@ -49,6 +50,7 @@ const KINDS: &[Kind] = &[
     Kind { name: "panner block", make: panner::cases },
     Kind { name: "decoder matrix", make: gains::decoder_matrix },
     Kind { name: "decoder block", make: blocks::decode },
+    Kind { name: "binaural block", make: binaural::cases },
     Kind { name: "convolver block", make: convolver::process },
     Kind { name: "convolver reset", make: convolver::reset },
     Kind { name: "new surround", make: setup::surround },

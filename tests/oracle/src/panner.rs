@@ -1,10 +1,11 @@
 //! Panner blocks. A plane's gain is read off its first sample, since the first input sample is 1.0: it is held to document
-//! 01's formula, narrowed, and every other sample to the f32 product with it. At commands that are exact in f32 the Rust's
-//! own block at S = f32 is compared too, plane by plane. Planes whose gain it narrows to another f32 are counted, and each
-//! has to have a listed cause: nothing but its gain differs, and that by no more than the cause allows.
+//! 01's formula, narrowed, and every other sample to the f32 product with it. At commands that are exact in f32, but for
+//! surround azimuths next to 90 from a speaker, the Rust's own block at S = f32 is compared too, plane by plane. Planes
+//! whose gain it narrows to another f32 are counted, and each has to have a listed cause: nothing but its gain differs, and
+//! that by no more than the cause allows.
 use crate::exact::{self, Exact};
 use crate::frame::{f32_bytes, hex, request, send, Answer, Case, Sink, Verdict};
-use crate::gains::{harmonics, raw_gains, square, Layout};
+use crate::gains::{harmonics, is_compared, raw_gains, square, Layout};
 use crate::random::Random;
 use crate::rust;
 
@@ -95,12 +96,12 @@ impl Block {
         }
     }
 
-    /// What the Rust's own block gives, at a command that is exact in f32.
+    /// What the Rust's own block gives, at a command that is exact in f32 and that document 01 has compared.
     fn by_the_rust(&self) -> Option<Vec<Vec<f32>>> {
         let is_exact = |x: f64| f64::from(x as f32) == x;
         let command = match self.command {
             Command::Stereo(p) => is_exact(p).then_some(rust::Command::Stereo(p)),
-            Command::Surround(a) => is_exact(a).then_some(rust::Command::Surround(self.layout.rust(), a)),
+            Command::Surround(a) => (is_exact(a) && is_compared(self.layout, a)).then_some(rust::Command::Surround(self.layout.rust(), a)),
             Command::Direction(a, e, order) => (is_exact(a) && is_exact(e)).then_some(rust::Command::Ambisonic(order as usize, a, e)),
         }?;
         let frames = self.frames as usize;
@@ -266,6 +267,22 @@ pub fn cases(random: &mut Random, count: usize, sink: &mut Sink) {
             let frames = random.below(5) as usize;
             let stride = frames + random.below(3) as usize;
             sink(fitting(random, command, layout, frames, stride).case());
+        }
+    }
+}
+
+#[cfg(test)]
+mod tests {
+    use super::*;
+
+    #[test]
+    fn ninety_from_a_speaker_is_left_to_the_formula() {
+        let is_left = |layout: u8, azimuth: f64| fitting(&mut Random::new(7, "azimuths"), Command::Surround(azimuth), Layout(layout, 0), 1, 1).by_the_rust().is_none();
+        let from_51 = [-160.0, -120.0, -90.0, -60.0, -20.0, 20.0, 60.0, 90.0, 120.0, 160.0];
+        let from_71 = [-180.0, -120.0, -90.0, -60.0, 0.0, 60.0, 90.0, 120.0, 180.0];
+        for azimuth in (-180..=180).map(f64::from) {
+            assert_eq!(is_left(2, azimuth), from_51.contains(&azimuth), "5.1 at {azimuth}");
+            assert_eq!(is_left(3, azimuth), from_71.contains(&azimuth), "7.1 at {azimuth}");
         }
     }
 }

@@ -7,7 +7,7 @@ const ROWS: u8 = 9;
 
 /// Asks for the rows of an order over lent weights. The Rust panics at an order that is not 1, 2 or 3, and has no lent
 /// list: there document 01 gives 1 and 5, in this order, and the list stays.
-fn rows(order: u64, weights: &[f64]) -> Case {
+pub fn rows(order: u64, weights: &[f64]) -> Case {
     let mut arguments = (weights.len() as u16).to_be_bytes().to_vec();
     arguments.extend(order.to_be_bytes());
     arguments.extend(weights.iter().flat_map(|w| w.to_bits().to_be_bytes()));

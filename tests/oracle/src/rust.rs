@@ -3,6 +3,7 @@ use bbx_dsp::block::Block;
 use bbx_dsp::blocks::effectors::ambisonic_decoder::AmbisonicDecoderBlock;
 use bbx_dsp::blocks::effectors::binaural_decoder::hrir_data::HRIR_LENGTH;
 use bbx_dsp::blocks::effectors::binaural_decoder::hrtf::HrtfConvolver;
+use bbx_dsp::blocks::effectors::binaural_decoder::matrix::compute_matrix;
 use bbx_dsp::blocks::effectors::binaural_decoder::virtual_speaker::VirtualSpeaker;
 use bbx_dsp::blocks::effectors::panner::PannerBlock;
 use bbx_dsp::channel::ChannelLayout;
@@ -67,6 +68,13 @@ pub fn decoder_matrix(order: usize, layout: ChannelLayout) -> Vec<Vec<f64>> {
 /// Plays planes through a matrix of the test's.
 pub fn decode(weights: &[&[f64]], inputs: &[Vec<f32>], before: Vec<Vec<f32>>) -> Vec<Vec<f32>> {
     let mut block = AmbisonicDecoderBlock::with_weights(3, ChannelLayout::Custom(weights.len()), weights);
+    run(&mut block, inputs, before)
+}
+
+/// Plays planes through the binaural rows of an order: the Rust's own decoder of that order, with them as its matrix.
+pub fn binaural(order: usize, inputs: &[Vec<f32>], before: Vec<Vec<f32>>) -> Vec<Vec<f32>> {
+    let [left, right] = compute_matrix(order);
+    let mut block = AmbisonicDecoderBlock::with_weights(order, ChannelLayout::Stereo, &[&left, &right]);
     run(&mut block, inputs, before)
 }
 
@@ -142,7 +150,7 @@ pub struct Convolver {
 }
 
 impl Convolver {
-    pub fn new(speakers: &[Speaker], count: usize, length: usize) -> Self {
+    pub fn new(speakers: &[Speaker]) -> Self {
         let mut filters = Vec::new();
         let mut lend = |taps: &[f32]| -> &'static [f32] {
             let lent = Box::into_raw(taps.to_vec().into_boxed_slice());
@@ -158,7 +166,7 @@ impl Convolver {
                 (weights, lend(&s.left), lend(&s.right))
             })
             .collect();
-        Convolver { convolver: HrtfConvolver::with_speakers(&given, count, length), filters }
+        Convolver { convolver: HrtfConvolver::with_speakers(&given), filters }
     }
 
     /// Plays planes into ears that hold `before`, left and right.

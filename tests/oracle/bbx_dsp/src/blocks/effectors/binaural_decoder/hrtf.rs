@@ -225,11 +225,12 @@ impl HrtfConvolver {
 
 // Added for the tests.
 impl HrtfConvolver {
-    /// A convolver whose speakers, each with weights, left and right taps, are the test's; so is their count, and L.
-    pub fn with_speakers(given: &[([f64; MAX_BLOCK_INPUTS], &'static [f32], &'static [f32])], num_speakers: usize, hrir_length: usize) -> Self {
+    /// A convolver whose speakers are the test's: their count, and each one's weights, left taps and right taps. L is the
+    /// length of the taps, of the longest if they are not all as long, as `HRIR_LENGTH` is that of the filters in `hrir_data`.
+    pub fn with_speakers(given: &[([f64; MAX_BLOCK_INPUTS], &'static [f32], &'static [f32])]) -> Self {
         let mut convolver = Self::new_ambisonic(1);
-        convolver.num_speakers = num_speakers;
-        convolver.hrir_length = hrir_length;
+        convolver.num_speakers = given.len();
+        convolver.hrir_length = given.iter().map(|(_, left, right)| left.len().max(right.len())).max().unwrap_or(HRIR_LENGTH);
         convolver.speakers = [const { None }; MAX_VIRTUAL_SPEAKERS];
         for (speaker, &(sh_weights, left_hrir, right_hrir)) in convolver.speakers.iter_mut().zip(given) {
             *speaker = Some(VirtualSpeakerConfig { sh_weights, left_hrir, right_hrir });
