@@ -63,8 +63,8 @@ pub record DrillTable : Type 0 where
   -- 8. One speaker, weight 1, L = 2, left taps 1, 0.5, right 0, 1, samples 1, 0, 0: left 1, 0.5, 0; right 0, 1, 0.
   pub item-8 : heard drill [] (samples one-float) ≡ (one-float ∷ zero-float ∷ []) ∷ (half-float ∷ one-float ∷ []) ∷ (zero-float ∷ zero-float ∷ []) ∷ []
   -- 9. The same with NaN, 0, 0: two unsettled, then 0 and 0.
-  pub item-9 : unsettledIn drill [] (samples nan) ≡ 2
-  pub item-9-each : unsettledEach drill [] (samples nan) ≡ true ∷ true ∷ false ∷ []
+  pub item-9 : unsettledIn drill 0 [] (samples nan) ≡ 2
+  pub item-9-each : unsettledEach drill 0 [] (samples nan) ≡ true ∷ true ∷ false ∷ []
   pub item-9-heard : heard drill [] (samples nan) ≡ (nan ∷ nan ∷ []) ∷ (nan ∷ nan ∷ []) ∷ (zero-float ∷ zero-float ∷ []) ∷ []
   -- 10. Rows at 0 and 450 tenths, speaker at 225 tenths: the first. Whatever stands in the list beyond the two rows.
   pub item-10 : (rest : List ℤ) → length rest ≡ 6 → (r : Choice) → Chooses (pos 0 ∷ pos 450 ∷ rest) 2 (pos 225) r → r ≡ record { refusal = 0; row = 0 }

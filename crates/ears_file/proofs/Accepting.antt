@@ -8,7 +8,7 @@ use lib.ListN.{length, take, length-take}
 use lib.Ieee.{Float}
 use Rattle.checks.proofs.Checks.{not-outside}
 use Rattle.planes.proofs.Planes.{length-with-frames}
-use Rattle.history.specs.Signals.{damaged}
+use Rattle.checks.specs.Finite.{unsound}
 use Rattle.rings.specs.Represents.{Represents}
 use Rattle.rings.proofs.ToGo.{to-go-below}
 use Rattle.hrtf_checks.specs.Refusals.{misfit, astray, refusalOf}
@@ -40,7 +40,7 @@ module _ (x : Fixed) (p : Progress) (size : ℕ) (l : Lent) (past : List (List F
   there : astray (p .desk) (x .shape .length) ≡ false
   there =
       let some = not-outside (x .shape .length) 512 (ready .long) .0 in
-      let below : p .desk .«to_go» < x .shape .length = omega (arith, stands .waits, to-go-below (x .shape .length) (map (damaged (setupIn x)) past) some) in
+      let below : p .desk .«to_go» < x .shape .length = omega (arith, stands .waits, to-go-below (x .shape .length) 0 (map unsound past) some) in
       on-desk (p .desk) (x .shape .length) (stands .within) below
 
   pub not-refused : refusalOf (callIn x come l) (stateIn p l) ≡ 0

@@ -9,8 +9,7 @@ use lib.ListN.{length, take, drop, replicate, length-drop, length-take, take-app
 use lib.Seq.{take-take}
 use Rattle.refusals.specs.Refusals.{answered}
 use Rattle.formats.specs.Floats.{zero-float}
-use Rattle.checks.specs.Finite.{unsound}
-use Rattle.checks.proofs.Checks.{or-off, not-outside}
+use Rattle.checks.proofs.Checks.{not-outside}
 use Rattle.hrtf_checks.specs.Refusals.{refusalOf}
 use Rattle.hrtf.specs.Promise.{Outcome, outcome}
 use Rattle.wire.specs.Frames.{wholeIn, restIn}
@@ -129,8 +128,7 @@ going-first x l p e ready silent =
       playing =
           record {
             line = [];
-            stands = subst (λ (q : Progress). Standing x [] q l) (sym e)
-                (start-stands x l (not-outside (x .shape .length) 512 (ready .long) .0) (or-off (unsound (x .weights)) (unsound (x .taps)) (ready .sound) .0) silent);
+            stands = subst (λ (q : Progress). Standing x [] q l) (sym e) (start-stands x l (not-outside (x .shape .length) 512 (ready .long) .0) silent);
           };
     }
 

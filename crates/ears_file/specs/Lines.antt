@@ -34,7 +34,7 @@ setupWith b = setupBy (readBank b (replicate 8 (pos 0)) [] .azimuths) (rows b) (
 
 -- how a line ends: whole frames and nothing behind them, or a part frame
 abbrev pub endsAs : Setup → List ℕ → Ended
-endsAs u line = cond (eqb (length (restIn line)) 0) (record { refusal = 0; frames = countedOn 0 (wholeIn line); unsettled = countedOn 0 (unsettledIn u [] (framesIn line)) }) refusedRun
+endsAs u line = cond (eqb (length (restIn line)) 0) (record { refusal = 0; frames = countedOn 0 (wholeIn line); unsettled = countedOn 0 (unsettledIn u 0 [] (framesIn line)) }) refusedRun
 
 -- what item 10 gives for the bytes of a bank, none where it is missing, and the bytes of a line
 abbrev pub itemTen : List ℕ → List ℕ → Ended

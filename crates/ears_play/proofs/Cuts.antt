@@ -1,6 +1,5 @@
 -- The same output however the input is cut: turns over parts of any sizes give what the bytes give that come at once. And a turn of the program is such a turn. Assumes nothing.
 use mathlib.Core.Path.{_≡_, refl, sym, ap, _∙_, subst}
-use mathlib.Core.Bool.{false}
 use mathlib.Core.List.{List, [], _∷_, _++_, flatten, append-nil, append-assoc}
 use Prim.Native.Nat.{ℕ, _+_, _*_, _≤_, _<_}
 use native.Mathlib.Omega.{arith}
@@ -12,12 +11,11 @@ use Rattle.refusals.proofs.First.{answered-accepted}
 use Rattle.lists.specs.Placed.{placed}
 use Rattle.lists.proofs.Placed.{placed-start}
 use Rattle.formats.specs.Floats.{zero-float}
-use Rattle.checks.specs.Finite.{unsound}
 use Rattle.history.specs.Setup.{Setup}
 use Rattle.history.specs.History.{heard, unsettledIn, after}
 use Rattle.history.proofs.Pieces.{after-append, heard-append, unsettled-append}
 use Rattle.rings.specs.Represents.{Represents}
-use Rattle.rings.proofs.Told.{fresh-represents}
+use Rattle.rings.proofs.Blocks.{fresh-represents}
 use Rattle.hrtf_checks.specs.Refusals.{refusalOf}
 use Rattle.hrtf.specs.Promise.{outcome}
 use Rattle.wire.specs.Frames.{wholeIn, framesIn, restIn}
@@ -49,15 +47,15 @@ module _ (u : Setup) (bytes part : List ℕ) where
   unfolding so-far now-come
   all = cut-frames bytes part
 
-  one-more-put : earBytes (heard u [] so-far) ++ earBytes (heard u (after [] so-far) now-come) ≡ earBytes (heard u [] (framesIn (bytes ++ part)))
+  one-more-put : earBytes (heard u [] so-far) ++ earBytes (heard u (after u [] so-far) now-come) ≡ earBytes (heard u [] (framesIn (bytes ++ part)))
   one-more-put =
-      sym (ap (λ (fs : List (List Float)). earBytes (heard u [] fs)) all ∙ ap earBytes (heard-append u [] so-far now-come) ∙ ears-append (heard u [] so-far) (heard u (after [] so-far) now-come))
+      sym (ap (λ (fs : List (List Float)). earBytes (heard u [] fs)) all ∙ ap earBytes (heard-append u [] so-far now-come) ∙ ears-append (heard u [] so-far) (heard u (after u [] so-far) now-come))
 
-  one-more-counted : unsettledIn u [] so-far + unsettledIn u (after [] so-far) now-come ≡ unsettledIn u [] (framesIn (bytes ++ part))
-  one-more-counted = sym (ap (unsettledIn u []) all ∙ unsettled-append u [] so-far now-come)
+  one-more-counted : unsettledIn u 0 [] so-far + unsettledIn u 0 (after u [] so-far) now-come ≡ unsettledIn u 0 [] (framesIn (bytes ++ part))
+  one-more-counted = sym (ap (unsettledIn u 0 []) all ∙ unsettled-append u 0 [] so-far now-come)
 
-  one-more-past : after (after [] so-far) now-come ≡ after [] (framesIn (bytes ++ part))
-  one-more-past = sym (ap (after []) all ∙ after-append [] so-far now-come)
+  one-more-past : after u (after u [] so-far) now-come ≡ after u [] (framesIn (bytes ++ part))
+  one-more-past = sym (ap (after u []) all ∙ after-append u [] so-far now-come)
 
   one-more-whole : wholeIn bytes + wholeIn (restIn bytes ++ part) ≡ wholeIn (bytes ++ part)
   one-more-whole = omega (arith, length-append bytes part, length-append (restIn bytes) part, length-drop (wholeIn bytes * 24) bytes)
@@ -87,11 +85,11 @@ counted-on : (count so-far more : ℕ) → count ≡ countedOn 0 so-far → coun
 counted-on count so-far more e = omega (arith, e)
 
 -- before the first byte: silence in every ring
-pub start-stands : (x : Fixed) (l : Lent) → 0 < x .shape .length → unsound (x .weights) ≡ false → l .rings ≡ replicate (x .shape .speakers * x .shape .length) zero-float
+pub start-stands : (x : Fixed) (l : Lent) → 0 < x .shape .length → l .rings ≡ replicate (x .shape .speakers * x .shape .length) zero-float
     → Stands x (atOnce (setupIn x) []) atStart l
-start-stands x l h w e =
+start-stands x l h e =
     record {
-      history = subst (λ (rs : List Float). Represents (setupIn x) [] (record { rings = rs; desk = zeroed })) (sym e) (fresh-represents (setupIn x) h w);
+      history = subst (λ (rs : List Float). Represents (setupIn x) [] (record { rings = rs; desk = zeroed })) (sym e) (fresh-represents (setupIn x) h);
       keeps = refl;
       holds = refl;
       frames = refl;
@@ -124,14 +122,14 @@ module _ (x : Fixed) (s : So) (part : List ℕ) (p : Progress) (come : List ℕ)
         put = told .put ∙ ap (λ (bs : List ℕ). placed (l .out) 0 (earBytes (heard (setupIn x) (s .past) (framesIn bs)))) comes;
         stands =
             record {
-              history = subst (λ (bs : List ℕ). Represents (setupIn x) (after (s .past) (framesIn bs)) (stateIn (r .progress) left)) comes (told .keeps);
+              history = subst (λ (bs : List ℕ). Represents (setupIn x) (after (setupIn x) (s .past) (framesIn bs)) (stateIn (r .progress) left)) comes (told .keeps);
               keeps = kept ∙ ap restIn comes;
               holds = held;
               frames =
                   ap (λ (t : Turned). t .answer .progress .frames) played ∙ ap (λ (bs : List ℕ). countedOn (p .frames) (wholeIn bs)) comes
                   ∙ counted-on (p .frames) (s .frames) (wholeIn (s .held ++ part)) (stood .frames);
               unsettled =
-                  told .unsettled ∙ ap (λ (bs : List ℕ). countedOn (p .unsettled) (unsettledIn (setupIn x) (s .past) (framesIn bs))) comes
-                  ∙ counted-on (p .unsettled) (s .unsettled) (unsettledIn (setupIn x) (s .past) (framesIn (s .held ++ part))) (stood .unsettled);
+                  told .unsettled ∙ ap (λ (bs : List ℕ). countedOn (p .unsettled) (unsettledIn (setupIn x) 0 (s .past) (framesIn bs))) comes
+                  ∙ counted-on (p .unsettled) (s .unsettled) (unsettledIn (setupIn x) 0 (s .past) (framesIn (s .held ++ part))) (stood .unsettled);
             };
       }

@@ -18,7 +18,8 @@ use Rattle.rings.specs.Represents.{Represents}
 use Rattle.hrtf_checks.specs.Call.{Call}
 use Rattle.hrtf_checks.specs.Refusals.{refusalOf}
 use Rattle.hrtf_checks.proofs.Refusing.{inputs-fit, ears-fit}
-use Rattle.hrtf.specs.Promise.{Outcome, Tells, Processes, stateAfter}
+use Rattle.hrtf.specs.Promise.{Outcome, Processes, stateAfter}
+use Rattle.hrtf.proofs.Promised.{ears-over, unsettled-over}
 use Rattle.wire.specs.Frames.{frameIn, wholeIn, framesIn, restIn}
 use Rattle.wire.specs.Ears.{earBytes}
 use Rattle.wire.specs.Promises.{roomFor, Taken, Given}
@@ -112,9 +113,6 @@ module _ (x : Fixed) (p : Progress) (l : Lent) (to : ℕ) (high : to ≤ length 
   accepted = e
 
   module _ (past : List (List Float)) (stands : Represents (setupIn x) past (stateIn p l)) (six : x .shape .channels ≡ 6) (room : wholeIn come * 8 ≤ length (l .out)) where
-    tells : Tells (callIn x come l) past o
-    tells = done .tells past stands accepted
-
     fits : (wholeIn come ≤ x .stride) × (length (l .ears) ≡ 2 * x .stride)
     fits = ears-fit (callIn x come l) (stateIn p l) accepted
 
@@ -133,7 +131,7 @@ module _ (x : Fixed) (p : Progress) (l : Lent) (to : ℕ) (high : to ≤ length 
     sounds =
         let fs = framesIn come in
         let many : length (heard (setupIn x) past fs) ≡ wholeIn come = length-heard (setupIn x) past fs ∙ length-tab 0 (wholeIn come) (frameIn come) in
-        ap (λ (ys : List Float). framesOf ys (x .stride) 2 (wholeIn come)) (tells .ears ∙ ap (λ (gs : List (List Float)). withFrames (l .ears) (x .stride) 0 (heard (setupIn x) past gs)) read)
+        ap (λ (ys : List Float). framesOf ys (x .stride) 2 (wholeIn come)) (ears-over (callIn x come l) (stateIn p l) o done past stands accepted ∙ ap (λ (gs : List (List Float)). withFrames (l .ears) (x .stride) 0 (heard (setupIn x) past gs)) read)
         ∙ ap (framesOf (withFrames (l .ears) (x .stride) 0 (heard (setupIn x) past fs)) (x .stride) 2) (sym many)
         ∙ frames-read 2 (l .ears) (x .stride) (heard (setupIn x) past fs) (omega (arith, many, fits .0)) (fits .1) (two-each (setupIn x) past fs)
 
@@ -145,8 +143,8 @@ module _ (x : Fixed) (p : Progress) (l : Lent) (to : ℕ) (high : to ≤ length 
     told =
         record {
           put = out-same ∙ ap (λ (k : ℕ). placed (l .out) 0 (earBytes (framesOf (o .ears) (x .stride) 2 k))) all-fit ∙ ap (λ (fs : List (List Float)). placed (l .out) 0 (earBytes fs)) sounds;
-          unsettled = unsettled-on ∙ ap (countedOn (p .unsettled)) (tells .unsettled ∙ ap (unsettledIn (setupIn x) past) read);
-          keeps = subst (λ (fs : List (List Float)). Represents (setupIn x) (after past fs) (stateAfter o)) read (tells .keeps);
+          unsettled = unsettled-on ∙ ap (countedOn (p .unsettled)) (unsettled-over (callIn x come l) (stateIn p l) o done past stands accepted ∙ ap (unsettledIn (setupIn x) 0 past) read);
+          keeps = subst (λ (fs : List (List Float)). Represents (setupIn x) (after (setupIn x) past fs) (stateAfter o)) read (done .keeps past stands accepted);
         }
 
   pub turn-played : Plays x p (take to (l .bytes)) l

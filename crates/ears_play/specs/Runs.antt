@@ -15,7 +15,7 @@ use Rattle.ears_play.specs.declared.Turn.{Turn}
 use Rattle.ears_play.specs.Counting.{countedOn}
 use Rattle.ears_play.specs.Turns.{Fixed, Lent, setupIn, stateIn}
 
--- the bytes put out, the frames played and how many of them are unsettled, the history, and the bytes of a frame that has not come whole
+-- the bytes put out, the frames played and how many of them are unsettled, the past, and the bytes of a frame that has not come whole
 pub record So : Type 0 where
   pub put : List ℕ
   pub frames : ℕ
@@ -26,7 +26,7 @@ pub record So : Type 0 where
 -- what bytes that all come at once give
 abbrev pub atOnce : Setup → List ℕ → So
 atOnce u bytes =
-    record { put = earBytes (heard u [] (framesIn bytes)); frames = wholeIn bytes; unsettled = unsettledIn u [] (framesIn bytes); past = after [] (framesIn bytes); held = restIn bytes }
+    record { put = earBytes (heard u [] (framesIn bytes)); frames = wholeIn bytes; unsettled = unsettledIn u 0 [] (framesIn bytes); past = after u [] (framesIn bytes); held = restIn bytes }
 
 -- one turn: the bytes that are held and those that come now
 abbrev pub turned : Setup → So → List ℕ → So
@@ -34,8 +34,8 @@ turned u s part =
     record {
       put = s .put ++ earBytes (heard u (s .past) (framesIn (s .held ++ part)));
       frames = s .frames + wholeIn (s .held ++ part);
-      unsettled = s .unsettled + unsettledIn u (s .past) (framesIn (s .held ++ part));
-      past = after (s .past) (framesIn (s .held ++ part));
+      unsettled = s .unsettled + unsettledIn u 0 (s .past) (framesIn (s .held ++ part));
+      past = after u (s .past) (framesIn (s .held ++ part));
       held = restIn (s .held ++ part);
     }
 

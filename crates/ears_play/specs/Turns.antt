@@ -104,8 +104,8 @@ turnOf x p come l =
 -- history's; and what is left stands for the history with those frames
 pub record Told (x : Fixed) (p : Progress) (come : List ℕ) (l : Lent) (past : List (List Float)) (r : Turn) (left : Lent) : Type 0 where
   pub put : left .out ≡ placed (l .out) 0 (earBytes (heard (setupIn x) past (framesIn come)))
-  pub unsettled : r .progress .unsettled ≡ countedOn (p .unsettled) (unsettledIn (setupIn x) past (framesIn come))
-  pub keeps : Represents (setupIn x) (after past (framesIn come)) (stateIn (r .progress) left)
+  pub unsettled : r .progress .unsettled ≡ countedOn (p .unsettled) (unsettledIn (setupIn x) 0 past (framesIn come))
+  pub keeps : Represents (setupIn x) (after (setupIn x) past (framesIn come)) (stateIn (r .progress) left)
 
 pub record Plays (x : Fixed) (p : Progress) (come : List ℕ) (l : Lent) (r : Turn) (left : Lent) : Type 0 where
   pub answer : record { answer = r; lent = left } ≡ turnOf x p come l

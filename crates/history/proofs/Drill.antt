@@ -15,7 +15,7 @@ pub drill-8 : heard drill [] (samples one-float) ≡ (one-float ∷ zero-float �
 unfolding mixed earOf inverseRoot rootOf rootUnits wholeRoot rootIn rounded add mul div sum round size span climb units odd ofInt
 drill-8 = refl
 
-pub drill-9 : unsettledIn drill [] (samples nan) ≡ 2
+pub drill-9 : unsettledIn drill 0 [] (samples nan) ≡ 2
 unfolding mixed rounded add mul sum round size span climb units odd
 drill-9 = refl
 
@@ -24,6 +24,6 @@ unfolding mixed earOf inverseRoot rootOf rootUnits wholeRoot rootIn rounded add 
 drill-9-heard = refl
 
 -- the two that are unsettled are the first two
-pub drill-9-each : unsettledEach drill [] (samples nan) ≡ true ∷ true ∷ false ∷ []
+pub drill-9-each : unsettledEach drill 0 [] (samples nan) ≡ true ∷ true ∷ false ∷ []
 unfolding mixed rounded add mul sum round size span climb units odd
 drill-9-each = refl

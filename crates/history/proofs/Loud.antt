@@ -24,6 +24,6 @@ loud-damaged : damaged (oneSpeaker two) (largest ∷ []) ≡ true
 unfolding mixed rounded add mul sum round size span climb units odd
 loud-damaged = refl
 
-pub loud-unsettled : unsettledIn (oneSpeaker two) [] ((largest ∷ []) ∷ []) ≡ 1
+pub loud-unsettled : unsettledIn (oneSpeaker two) 0 [] ((largest ∷ []) ∷ []) ≡ 1
 unfolding mixed rounded add mul sum round size span climb units odd
 loud-unsettled = refl

@@ -1,18 +1,19 @@
 -- With finite weights a frame of silence has the signal 0.0 at every speaker, and is no damage. So silence before the first frame is silence like any other. Assumes nothing.
-use mathlib.Core.Path.{_≡_, ap, _∙_}
+use mathlib.Core.Path.{_≡_, refl, sym, ap}
 use mathlib.Core.Bool.{false}
-use mathlib.Core.List.{[]}
-use Prim.Native.Nat.{ℕ, _*_}
-use lib.ListN.{drop, replicate}
+use mathlib.Core.List.{List, [], _∷_, map, reverseAux}
+use Prim.Native.Nat.{ℕ, zero, suc, _*_, _<_}
+use lib.ListN.{getD, drop}
+use lib.Ieee.{Float}
 use lib.Ieee.Scale.{finite}
 use Rattle.formats.specs.Floats.{zero-float}
 use Rattle.checks.specs.Finite.{unsound}
-use Rattle.lists.proofs.Tables.{tab-ext, tab-constant}
 use Rattle.checks.proofs.Checks.{sound-tab, sound-take, sound-drop}
 use Rattle.planes.proofs.Silence.{mixed-silence}
 use Rattle.history.specs.Setup.{Setup, weightsOf}
-use Rattle.history.specs.Signals.{signal, damaged}
-use Rattle.history.specs.History.{silence, signalAgo, window}
+use Rattle.history.specs.Signals.{signal, signals, damaged, silence}
+use Rattle.history.specs.History.{signalAgo, after}
+use Rattle.history.proofs.Signals.{signal-at}
 
 module _ (u : Setup) (w : unsound (u .weights) ≡ false) where
   signal-silence : (s : ℕ) → signal u s (silence u) ≡ zero-float
@@ -21,6 +22,18 @@ module _ (u : Setup) (w : unsound (u .weights) ≡ false) where
   pub silence-sound : damaged u (silence u) ≡ false
   silence-sound = sound-tab 0 (u .speakers) (λ s. signal u s (silence u)) (λ s. ap finite (signal-silence s))
 
-  -- before the first frame every speaker's last L signals are 0.0
-  pub window-silence : (s : ℕ) → window u s [] ≡ replicate (u .L) zero-float
-  window-silence s = tab-ext 0 (u .L) (signalAgo u s []) (λ k. zero-float) (λ k h. signal-silence s) ∙ tab-constant 0 (u .L) zero-float
+  -- a speaker's signal k frames ago, and the damage then, are those of the frame
+  pub signal-ago : (past : List (List Float)) (k s : ℕ) → s < u .speakers → signalAgo s (map (signals u) past) k ≡ signal u s (getD past k (silence u))
+  signal-ago [] k s h = sym (signal-silence s)
+  signal-ago (f ∷ past) zero s h = signal-at u f s zero-float h
+  signal-ago (f ∷ past) (suc k) s h = signal-ago past k s h
+
+  pub damage-ago : (past : List (List Float)) (k : ℕ) → unsound (getD (map (signals u) past) k []) ≡ damaged u (getD past k (silence u))
+  damage-ago [] k = sym silence-sound
+  damage-ago (f ∷ past) zero = refl
+  damage-ago (f ∷ past) (suc k) = damage-ago past k
+
+-- a past is the signals of the frames, read backwards
+pub after-is : (u : Setup) (fs past : List (List Float)) → after u (map (signals u) past) fs ≡ map (signals u) (reverseAux fs past)
+after-is u [] past = refl
+after-is u (f ∷ fs) past = after-is u fs (f ∷ past)

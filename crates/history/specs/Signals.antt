@@ -3,7 +3,9 @@
 use Prim.Native.Nat.{ℕ}
 use mathlib.Core.Bool.{Bool}
 use mathlib.Core.List.{List}
+use lib.ListN.{replicate}
 use lib.Ieee.{Float}
+use Rattle.formats.specs.Floats.{zero-float}
 use Rattle.checks.specs.Finite.{unsound}
 use Rattle.planes.specs.Sums.{mixed, mixedAll}
 use Rattle.history.specs.Setup.{Setup, weightsOf}
@@ -17,3 +19,7 @@ signals u frame = mixedAll (u .speakers) (u .channels) (u .weights) frame
 
 abbrev pub damaged : Setup → List Float → Bool
 damaged u frame = unsound (signals u frame)
+
+-- a frame of silence
+abbrev pub silence : Setup → List Float
+silence u = replicate (u .channels) zero-float

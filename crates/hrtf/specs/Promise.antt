@@ -2,13 +2,13 @@
 -- Frames of a plane beyond the count are unchanged"; "A refusal returns its number, counts of 0, .. and the state given in; lent memory stays the same." Definitions only.
 use Prim.Native.Nat.{ℕ}
 use mathlib.Core.Path.{_≡_}
-use mathlib.Core.List.{List}
+use mathlib.Core.List.{List, []}
 use lib.Ieee.{Float}
 use Rattle.refusals.specs.Refusals.{answered}
 use Rattle.planes.specs.Planes.{withFrames}
 use Rattle.history.specs.History.{heard, unsettledIn, after}
 use Rattle.rings.specs.State.{State}
-use Rattle.rings.specs.Steps.{left, played, counted}
+use Rattle.rings.specs.Held.{heldIn, afterFrames}
 use Rattle.rings.specs.Represents.{Represents}
 use Rattle.hrtf.specs.declared.Processed.{Processed}
 use Rattle.hrtf_checks.specs.Call.{Call, setup, framesIn}
@@ -23,12 +23,13 @@ pub record Outcome : Type 0 where
 abbrev pub refused : ℕ → Call → State → Outcome
 refused n c t = record { answer = record { refusal = n; samples = 0; unsettled = 0; desk = t .desk }; rings = t .rings; ears = c .ears }
 
+-- document 01's sums over the call's frames and the signals that the rings hold, whatever these are; those of its frames that have damage among its last L, or lie within the frames to go; and what they leave
 abbrev pub accepted : Call → State → Outcome
 accepted c t =
     record {
-      answer = record { refusal = 0; samples = c .frames; unsettled = counted (setup c) t (framesIn c); desk = left (setup c) t (framesIn c) .desk };
-      rings = left (setup c) t (framesIn c) .rings;
-      ears = withFrames (c .ears) (c .stride) 0 (played (setup c) t (framesIn c));
+      answer = record { refusal = 0; samples = c .frames; unsettled = unsettledIn (setup c) (t .desk .«to_go») [] (framesIn c); desk = afterFrames (setup c) t (framesIn c) .desk };
+      rings = afterFrames (setup c) t (framesIn c) .rings;
+      ears = withFrames (c .ears) (c .stride) 0 (heard (setup c) (heldIn (setup c) t) (framesIn c));
     }
 
 abbrev pub outcomeBy : ℕ → Call → State → Outcome
@@ -41,12 +42,7 @@ outcome c t = outcomeBy (refusalOf c t) c t
 abbrev pub stateAfter : Outcome → State
 stateAfter o = record { rings = o .rings; desk = o .answer .desk }
 
--- an accepted call over a history: document 01's sums stand in the ear planes, the count is the history's, and what is left stands for the history with the call's frames
-pub record Tells (c : Call) (past : List (List Float)) (o : Outcome) : Type 0 where
-  pub ears : o .ears ≡ withFrames (c .ears) (c .stride) 0 (heard (setup c) past (framesIn c))
-  pub unsettled : o .answer .unsettled ≡ unsettledIn (setup c) past (framesIn c)
-  pub keeps : Represents (setup c) (after past (framesIn c)) (stateAfter o)
-
+-- beside the equation: what stands for a past stands, after an accepted call, for that past with the call's frames
 pub record Processes (c : Call) (t : State) (o : Outcome) : Type 0 where
   pub answer : o ≡ outcome c t
-  pub tells : (past : List (List Float)) → Represents (setup c) past t → refusalOf c t ≡ 0 → Tells c past o
+  pub keeps : (past : List (List Float)) → Represents (setup c) past t → refusalOf c t ≡ 0 → Represents (setup c) (after (setup c) past (framesIn c)) (stateAfter o)

@@ -1,14 +1,13 @@
 -- Document 01: "Reset makes every ring 0.0, both numbers 0", and of its refusals 2, 4 and 5. Definitions only.
 use Prim.Native.Nat.{ℕ, _*_}
 use mathlib.Core.Path.{_≡_}
-use mathlib.Core.Bool.{not, false}
+use mathlib.Core.Bool.{not}
 use mathlib.Core.List.{List, [], _∷_}
 use lib.Dec.{eqb}
 use lib.ListN.{length, replicate}
 use lib.Ieee.{Float}
 use Rattle.formats.specs.Floats.{zero-float}
 use Rattle.refusals.specs.Refusals.{Check, firstOf, _when_, answered, outside}
-use Rattle.checks.specs.Finite.{unsound}
 use Rattle.desk.specs.declared.Desk.{Desk}
 use Rattle.desk.specs.Numbers.{zeroed}
 use Rattle.history.specs.Setup.{Setup}
@@ -34,8 +33,7 @@ resetBy n d rings =
 unfoldable pub resetOutcome : Desk → ℕ → ℕ → List Float → AfterReset
 resetOutcome d speakers L rings = resetBy (resetRefusal speakers L rings) d rings
 
--- beside the equation: what an accepted reset leaves stands for the empty history, whatever is set up with those speakers and that L and finite weights
+-- beside the equation: what an accepted reset leaves stands for the empty past, whatever is set up with those speakers and that L
 pub record Resets (d : Desk) (speakers L : ℕ) (rings : List Float) (o : AfterReset) : Type 0 where
   pub answer : o ≡ resetOutcome d speakers L rings
-  pub fresh : resetRefusal speakers L rings ≡ 0 → (u : Setup) → u .speakers ≡ speakers → u .L ≡ L → unsound (u .weights) ≡ false
-      → Represents u [] (record { rings = o .rings; desk = o .answer .desk })
+  pub fresh : resetRefusal speakers L rings ≡ 0 → (u : Setup) → u .speakers ≡ speakers → u .L ≡ L → Represents u [] (record { rings = o .rings; desk = o .answer .desk })

@@ -5,14 +5,14 @@ use mathlib.Core.Bool.{Bool, cond}
 use mathlib.Core.List.{List, []}
 use lib.ListN.{length}
 use lib.Ieee.{Float}
-use Rattle.planes.specs.Planes.{withFrame}
+use Rattle.planes.specs.Planes.{withFrame, withFrames}
 use Rattle.desk.specs.declared.Desk.{Desk}
 use Rattle.history.specs.Signals.{damaged}
 use Rattle.rings.specs.State.{State}
-use Rattle.rings.specs.Steps.{stored, ringEar, ears, late}
+use Rattle.rings.specs.Steps.{stored, ringEar, ears, late, left, played, counted}
 use Rattle.hrtf_checks.specs.declared.Shape.{Shape}
-use Rattle.hrtf_checks.specs.Call.{Call, setupOf}
-use Rattle.hrtf.specs.Promise.{accepted}
+use Rattle.hrtf_checks.specs.Call.{Call, setupOf, setup, framesIn}
+use Rattle.hrtf.specs.Promise.{Outcome}
 
 -- where a speaker's ring stands, and the taps of a row and side
 pub record Stands (h : Shape) (s j side : ℕ) (taps rings : List Float) : Type 0 where
@@ -35,6 +35,15 @@ pub record Turned (h : Shape) (weights : List Float) (rows : List ℕ) (taps : L
   pub counts : count₁ ≡ count + cond (late (setupOf h weights rows taps) t f) 1 0
   pub damage : bad ≡ damaged (setupOf h weights rows taps) f
 
+-- what the steps of an accepted call make of it: the law `accepted-computed` ties this to the promise, in every state
+abbrev pub computed : Call → State → Outcome
+computed c t =
+    record {
+      answer = record { refusal = 0; samples = c .frames; unsettled = counted (setup c) t (framesIn c); desk = left (setup c) t (framesIn c) .desk };
+      rings = left (setup c) t (framesIn c) .rings;
+      ears = withFrames (c .ears) (c .stride) 0 (played (setup c) t (framesIn c));
+    }
+
 -- what a block leaves
 abbrev pub Blocked : Call → State → List Float → List Float → Desk → ℕ → Type 0
-Blocked c t rings₁ ears₁ desk₁ more = record { answer = record { refusal = 0; samples = c .frames; unsettled = more; desk = desk₁ }; rings = rings₁; ears = ears₁ } ≡ accepted c t
+Blocked c t rings₁ ears₁ desk₁ more = record { answer = record { refusal = 0; samples = c .frames; unsettled = more; desk = desk₁ }; rings = rings₁; ears = ears₁ } ≡ computed c t

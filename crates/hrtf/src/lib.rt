@@ -3,13 +3,13 @@
 // of the lent bank. `reset` makes every ring 0.0 and both numbers of the desk 0.
 //
 // Both take any input. The promise of `process` (specs/Promise.antt) is one equation for the answer, the
-// rings and the ears, and beside it: for every history that the rings and the desk given stand for, the ears
-// hold document 01's sums over that history, the count is the history's, and what is left stands for the
-// history with the block's frames. What `reset` leaves stands for the empty history. The theorems of
-// demand 3, over runs of many calls, are in `runs`.
+// rings and the ears, whatever the rings hold: the ears are document 01's sums over the block's signals, newest
+// first, followed by those that were held; the rings left hold the newest L of these. What stands for a past
+// before the block stands for that past with the block's frames after it; what `reset` leaves stands for none.
+// Demand 3, over runs of many calls, is stated and shown in `runs`.
 //
-// Under it lie `hrtf_checks` (the refusals), `rings` (the convolution, and that rings stand for a history),
-// `history` (the sums), `desk`, `planes`, `checks`, `numbers` (narrowing), `lists`, `formats` and `refusals`.
+// Under it lie `hrtf_checks` (the refusals), `rings` (the convolution, and what rings hold), `history` (the
+// sums), `desk`, `planes`, `checks`, `numbers` (narrowing), `lists`, `formats` and `refusals`.
 use desk::Desk;
 use hrtf_checks::Shape;
 ghost use mathlib.Core.Path.{_≡_};

@@ -62,6 +62,10 @@ module _ (c : Call) (t : State) where
   pub ears-fit : refusalOf c t ≡ 0 → (c .frames ≤ c .stride) × (length (c .ears) ≡ 2 * c .stride)
   ears-fit e = fitted (length (c .ears)) 2 (c .stride) (c .frames) (both-fit e .1)
 
+  -- the frames to go
+  pub waits : refusalOf c t ≡ 0 → t .desk .«to_go» < c .shape .length
+  waits e = leb-false (c .shape .length) (t .desk .«to_go») (or-off (leb (c .shape .length) (t .desk .position)) _ (every-test e .1 .1 .1 .1 .0) .1)
+
   pub ready : refusalOf c t ≡ 0 → Ready (c .shape) (t .desk .position) (c .rows) (c .taps) (t .rings)
   ready e =
       let p = every-test e in

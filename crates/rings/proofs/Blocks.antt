@@ -1,46 +1,119 @@
--- Frames played one after another from rings and a desk that stand for a history: what is heard and counted is the history's, and what is left stands for the history with those frames. And frames
--- played in two pieces give what the whole gives. Assumes nothing.
+-- Frames played one after another. THE LAW OF EVERY STATE: from any rings as long as they have to be and any desk whose numbers are below L, the program's steps give document 01's sums over the frames'
+-- signals and what the rings held (`played-held`), leave the rings that hold the newest L of these (`left-is`), and count the frames that are unsettled (`counted-is`). Then the same over a past that rings
+-- and desk stand for; what a reset leaves stands for none. And frames played in two pieces give what the whole gives. Assumes nothing.
 use mathlib.Core.Path.{_≡_, refl, sym, ap, _∙_}
 use mathlib.Core.Bool.{cond}
-use mathlib.Core.List.{List, [], _∷_, _++_}
-use Prim.Native.Nat.{ℕ, zero, suc, _+_, _<_}
-use native.Mathlib.Nat.{not-suc-le-zero, le-of-suc-le-suc, add-assoc}
+use mathlib.Core.List.{List, [], _∷_, _++_, map, reverse}
+use Prim.Native.Nat.{ℕ, _+_, _-_, _*_, _%_, _≤_, _<_}
+use native.Mathlib.Nat.{add-assoc, add-zero, mod-add-mod, mod-eq-of-lt, mul-le-mul-right, suc-mul}
 use native.Mathlib.Omega.{arith}
-use lib.ListN.{length, getD}
+use lib.ListN.{length, take, replicate, length-replicate}
 use lib.Ieee.{Float}
-use Rattle.lists.specs.Tables.{count}
+use Rattle.formats.specs.Floats.{zero-float}
+use Rattle.lists.specs.Tables.{row, count}
+use Rattle.lists.proofs.Lists.{reverse-replicate, take-replicate, drop-replicate}
+use Rattle.lists.proofs.Tables.{tab-constant}
+use Rattle.checks.specs.Finite.{unsound}
+use Rattle.desk.specs.declared.Desk.{Desk}
+use Rattle.desk.specs.Numbers.{zeroed}
+use Rattle.desk.proofs.Going.{desk-on, position-below}
 use Rattle.history.specs.Setup.{Setup}
-use Rattle.history.specs.History.{heard, unsettledEach, unsettledIn, after}
+use Rattle.history.specs.Signals.{signals, damaged}
+use Rattle.history.specs.History.{window, heard, unsettledEach, unsettledIn, after}
 use Rattle.rings.specs.State.{State}
+use Rattle.rings.specs.Held.{heldIn, ringsOf, toGoAfter, afterFrames}
 use Rattle.rings.specs.Steps.{ears, late, stepped, left, played, lateEach, counted}
 use Rattle.rings.specs.Represents.{Represents}
-use Rattle.rings.proofs.Told.{kept, ears-told, late-told}
+use Rattle.rings.proofs.Held.{Holds, holds-held, holds-last, last-holds, rings-are}
+use Rattle.rings.proofs.Told.{kept, ears-told, waits-on, late-told}
+
+-- "every ring 0.0, both numbers 0"
+abbrev pub fresh : Setup → State
+fresh u = record { rings = replicate (u .speakers * u .L) zero-float; desk = zeroed }
 
 module _ (u : Setup) where
-  pub played-heard : (past : List (List Float)) (t : State) (fs : List (List Float)) → Represents u past t → played u t fs ≡ heard u past fs
-  played-heard past t [] r = refl
-  played-heard past t (f ∷ fs) r = cc (ears-told u past t f r, played-heard (f ∷ past) (stepped u t f) fs (kept u past t f r))
+  -- ---- over a past that the rings hold
 
-  late-each : (past : List (List Float)) (t : State) (fs : List (List Float)) → Represents u past t → lateEach u t fs ≡ unsettledEach u past fs
-  late-each past t [] r = refl
-  late-each past t (f ∷ fs) r = cc (late-told u past t f r, late-each (f ∷ past) (stepped u t f) fs (kept u past t f r))
+  played-over : (past : List (List Float)) (t : State) (fs : List (List Float)) → Holds u past t → played u t fs ≡ heard u past fs
+  played-over past t [] r = refl
+  played-over past t (f ∷ fs) r = cc (ears-told u past t f r, played-over (signals u f ∷ past) (stepped u t f) fs (kept u past t f r))
 
-  pub counted-told : (past : List (List Float)) (t : State) (fs : List (List Float)) → Represents u past t → counted u t fs ≡ unsettledIn u past fs
-  counted-told past t fs r = ap count (late-each past t fs r)
+  left-holds : (past : List (List Float)) (t : State) (fs : List (List Float)) → Holds u past t → Holds u (after u past fs) (left u t fs)
+  left-holds past t [] r = r
+  left-holds past t (f ∷ fs) r = left-holds (signals u f ∷ past) (stepped u t f) fs (kept u past t f r)
 
-  pub left-kept : (past : List (List Float)) (t : State) (fs : List (List Float)) → Represents u past t → Represents u (after past fs) (left u t fs)
-  left-kept past t [] r = r
-  left-kept past t (f ∷ fs) r = left-kept (f ∷ past) (stepped u t f) fs (kept u past t f r)
+  -- ---- the desk
 
-  pub length-played : (t : State) (fs : List (List Float)) → length (played u t fs) ≡ length fs
-  length-played t [] = refl
-  length-played t (f ∷ fs) = ap suc (length-played (stepped u t f) fs)
+  position-left : (t : State) (fs : List (List Float)) → t .desk .position < u .L → left u t fs .desk .position ≡ (t .desk .position + length fs) % u .L
+  position-left t [] h = sym (ap (λ (n : ℕ). n % u .L) (add-zero (t .desk .position)) ∙ mod-eq-of-lt h)
+  position-left t (f ∷ fs) h =
+      position-left (stepped u t f) fs (position-below (u .L) (damaged u f) (t .desk) h)
+      ∙ ap (λ (d : Desk). (d .position + length fs) % u .L) (desk-on (u .L) (damaged u f) (t .desk) h)
+      ∙ mod-add-mod (t .desk .position + 1) (u .L) (length fs)
+      ∙ ap (λ (n : ℕ). n % u .L) (omega arith)
 
-  -- two ear samples a frame
-  pub two-ears : (t : State) (fs : List (List Float)) (j : ℕ) → j < length (played u t fs) → length (getD (played u t fs) j []) ≡ 2
-  two-ears t [] j h = absurd (not-suc-le-zero h)
-  two-ears t (f ∷ fs) zero h = refl
-  two-ears t (f ∷ fs) (suc j) h = two-ears (stepped u t f) fs j (le-of-suc-le-suc h)
+  module _ (go : ℕ) where
+    waits-left : (past : List (List Float)) (t : State) (fs : List (List Float)) → t .desk .position < u .L → t .desk .«to_go» ≡ toGoAfter (u .L) go (map unsound past)
+        → left u t fs .desk .«to_go» ≡ toGoAfter (u .L) go (map unsound (after u past fs))
+    waits-left past t [] h w = w
+    waits-left past t (f ∷ fs) h w = waits-left (signals u f ∷ past) (stepped u t f) fs (position-below (u .L) (damaged u f) (t .desk) h) (waits-on u go past t f h w)
+
+    late-each : (past : List (List Float)) (t : State) (fs : List (List Float)) → go < u .L → t .desk .position < u .L → t .desk .«to_go» ≡ toGoAfter (u .L) go (map unsound past)
+        → lateEach u t fs ≡ unsettledEach u go past fs
+    late-each past t [] few h w = refl
+    late-each past t (f ∷ fs) few h w =
+        cc (late-told u go past t f h w few, late-each (signals u f ∷ past) (stepped u t f) fs few (position-below (u .L) (damaged u f) (t .desk) h) (waits-on u go past t f h w))
+
+  -- ---- THE LAW OF EVERY STATE
+
+  module _ (t : State) (fs : List (List Float)) (room : length (t .rings) ≡ u .speakers * u .L) (within : t .desk .position < u .L) where
+    pub played-held : played u t fs ≡ heard u (heldIn u t) fs
+    played-held = played-over (heldIn u t) t fs (holds-held u t room within)
+
+    pub left-is : left u t fs ≡ afterFrames u t fs
+    left-is =
+        let on = position-left t fs within in
+        let rings = rings-are u (left u t fs) (after u (heldIn u t) fs) (left-holds (heldIn u t) t fs (holds-held u t room within)) ∙ ap (λ (p : ℕ). ringsOf u p (after u (heldIn u t) fs)) on in
+        let waits = waits-left (t .desk .«to_go») [] t fs within refl in
+        λ i. record { rings = rings i; desk = record { position = on i; «to_go» = waits i } }
+
+    pub counted-is : t .desk .«to_go» < u .L → counted u t fs ≡ unsettledIn u (t .desk .«to_go») [] fs
+    counted-is few = ap count (late-each (t .desk .«to_go») [] t fs few within refl)
+
+  -- ---- a past that rings and desk stand for
+
+  module _ (past : List (List Float)) (t : State) (r : Represents u past t) where
+    holds : Holds u past t
+    holds = last-holds u t past (r .room) (r .within) (r .held)
+
+    pub played-heard : (fs : List (List Float)) → played u t fs ≡ heard u past fs
+    played-heard fs = played-over past t fs holds
+
+    pub counted-told : (fs : List (List Float)) → counted u t fs ≡ unsettledIn u 0 past fs
+    counted-told fs = ap count (late-each 0 past t fs (omega (arith, r .within)) (r .within) (r .waits))
+
+    pub left-kept : (fs : List (List Float)) → Represents u (after u past fs) (left u t fs)
+    left-kept fs =
+        let h = left-holds past t fs holds in
+        record { room = h .room; within = h .within; held = holds-last u (left u t fs) (after u past fs) h; waits = waits-left 0 past t fs (r .within) (r .waits) }
+
+  -- what a reset leaves
+  pub fresh-represents : 0 < u .L → Represents u [] (fresh u)
+  fresh-represents h =
+      record { room = room; within = h; held = holds-last u (fresh u) [] (record { room = room; within = h; told = told }); waits = refl }
+    where
+      room : length (fresh u .rings) ≡ u .speakers * u .L
+      room = length-replicate (u .speakers * u .L) zero-float
+
+      fits : (s : ℕ) → s < u .speakers → u .L ≤ u .speakers * u .L - s * u .L
+      fits s lt = omega (arith, mul-le-mul-right (u .L) lt, suc-mul s (u .L))
+
+      told : (s : ℕ) → s < u .speakers → reverse (row (u .L) s (fresh u .rings)) ≡ window u s []
+      told s lt =
+          ap {B = List Float} (λ (r : List Float). reverse (take (u .L) r)) (drop-replicate (s * u .L) (u .speakers * u .L) zero-float)
+          ∙ ap reverse (take-replicate (u .L) (u .speakers * u .L - s * u .L) zero-float (fits s lt))
+          ∙ reverse-replicate (u .L) zero-float
+          ∙ sym (tab-constant 0 (u .L) zero-float)
 
   -- ---- frames in two pieces
 

@@ -1,13 +1,13 @@
 -- One ring, read from its newest signal: writing at the position puts a signal before all but the oldest, and the position after the last cell is the first. Assumes nothing.
 use mathlib.Core.Path.{_≡_, sym, ap, _∙_}
 use mathlib.Core.Logic.{⊎-elim}
-use mathlib.Core.List.{List, [], _∷_, _++_, reverse, reverse-cons, reverse-append, append-nil, append-assoc}
+use mathlib.Core.List.{List, [], _∷_, _++_, reverse, reverse-cons, reverse-append, reverse-reverse, append-nil, append-assoc}
 use Prim.Native.Nat.{ℕ, suc, _+_, _-_, _%_, _≤_, _<_, min}
 use native.Mathlib.Nat.{add-mod-right, mod-eq-of-lt, mod-self}
 use native.Mathlib.Numerals.{add-one}
 use native.Mathlib.Omega.{arith}
-use lib.ListN.{length, getD, set, take, drop, length-take, length-drop, length-append, length-reverse, drop-of-length-le, List·getD-append}
-use lib.Seq.{getD-append-add, getD-take, getD-drop, take-all, take-suc-set, drop-set-lt, drop-cons, take-at, length-take-le}
+use lib.ListN.{length, getD, set, take, drop, length-take, length-drop, length-append, length-reverse, take-append-drop, drop-of-length-le, List·getD-append}
+use lib.Seq.{getD-append-add, getD-take, getD-drop, take-all, take-suc-set, drop-set-lt, drop-cons, take-at, drop-at, length-take-le}
 use lib.Ieee.{Float, nan}
 use Rattle.lists.proofs.Lists.{split, getD-reverse}
 use Rattle.rings.specs.Unrolled.{unrolled}
@@ -57,6 +57,16 @@ unrolled-wrapped p ring h =
 
 pub length-unrolled : (p : ℕ) (ring : List Float) → length (unrolled p ring) ≡ length ring
 length-unrolled p ring = simp (length-append, length-reverse, length-take, length-drop) (omega arith)
+
+-- what is read back twice is as it was
+pub unrolled-twice : (p : ℕ) (ring : List Float) → p ≤ length ring → unrolled p (unrolled p ring) ≡ ring
+unrolled-twice p ring h =
+    let long : length (reverse (take p ring)) ≡ p = length-reverse (take p ring) ∙ length-take-le p ring h in
+    ap {B = List Float} (λ (r : List Float). reverse r ++ reverse (drop p (unrolled p ring))) (take-at (reverse (take p ring)) (reverse (drop p ring)) p long)
+    ∙ ap {B = List Float} (λ (r : List Float). reverse (reverse (take p ring)) ++ reverse r) (drop-at (reverse (take p ring)) (reverse (drop p ring)) p long)
+    ∙ ap {B = List Float} (λ (r : List Float). r ++ reverse (reverse (drop p ring))) (reverse-reverse (take p ring))
+    ∙ ap {B = List Float} (λ (r : List Float). take p ring ++ r) (reverse-reverse (drop p ring))
+    ∙ take-append-drop p ring
 
 -- beyond the last cell the newest is the last
 pub unrolled-least : (p : ℕ) (ring : List Float) → 0 < length ring → unrolled (suc (min p (length ring - 1))) ring ≡ unrolled (suc p) ring

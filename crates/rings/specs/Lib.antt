@@ -1,5 +1,6 @@
--- The rings, what the program does with them, and how they stand for a history.
+-- The rings, what they hold, what the program does with them, and when they stand for a history.
 pub mod Unrolled
 pub mod State
+pub mod Held
 pub mod Steps
 pub mod Represents

@@ -3,9 +3,10 @@
 // whose stride is L. `convolve` is an ear's part of a speaker: its ring from the newest signal to the
 // oldest, times the taps. It takes any lists, and promises the ordered sum by an equation.
 //
-// The laws (proofs/) say that rings and desk stand for a history (specs/Represents.antt): what is read out of
-// them is document 01's sums over it, and a frame keeps that so. Under it lie `history`, `desk`,
-// `planes`, `checks`, `numbers`, `lists`, `formats` and `refusals`.
+// Whatever stands in the rings is the signals of the last L frames (specs/Held.antt). The laws (proofs/) say,
+// of every state: what frames give is document 01's sums over their signals and those that were held, and what
+// they leave holds the newest L of these. Under it lie `history`, `desk`, `planes`, `checks`, `numbers`,
+// `lists`, `formats` and `refusals`.
 ghost use mathlib.Core.Path.{_≡_};
 ghost use Prim.Native.Nat.{suc};
 ghost use Rattle.formats.specs.Floats.{zero-float};

@@ -6,18 +6,21 @@ use native.Mathlib.Omega.{arith}
 use lib.Ieee.{Float}
 use Rattle.planes.specs.Planes.{framesOf}
 use Rattle.planes.proofs.Planes.{frames-read}
+use Rattle.history.proofs.Pieces.{two-each}
 use Rattle.history.specs.Setup.{Setup, SameFilters}
-use Rattle.history.specs.History.{after}
+use Rattle.history.specs.History.{heard, after}
 use Rattle.rings.specs.State.{State}
+use Rattle.rings.specs.Held.{heldIn}
 use Rattle.rings.specs.Steps.{left, played, counted}
 use Rattle.rings.specs.Represents.{Represents}
-use Rattle.rings.proofs.Blocks.{counted-told, left-kept, two-ears, played-append, left-append, counted-append}
+use Rattle.rings.proofs.Blocks.{played-held, counted-told, left-kept, played-append, left-append, counted-append}
 use Rattle.rings.proofs.Filters.{played-alike, left-alike, counted-alike}
 use Rattle.hrtf_checks.specs.Call.{Call, setup, framesIn}
 use Rattle.hrtf_checks.specs.Refusals.{refusalOf}
-use Rattle.hrtf_checks.proofs.Refusing.{ears-fit}
+use Rattle.hrtf_checks.proofs.Refusing.{ears-fit, ready}
 use Rattle.hrtf.specs.Promise.{Outcome, outcomeBy, outcome, stateAfter}
-use Rattle.hrtf.proofs.Promised.{outcome-by, all-played}
+use Rattle.hrtf.proofs.Promised.{outcome-by, outcome-computed, all-heard}
+use Rattle.hrtf.specs.Steps.{computed}
 use Rattle.runs.specs.Runs.{next, fedBy, fed, sounded, Alike, fedAll, soundedAll, end, answered, owed, sum}
 
 -- ---- one call
@@ -31,17 +34,21 @@ called-by : (u : Setup) (t : State) (c : Call) → (refusalOf c t ≡ 0 → Same
 called-by u t c same zero e =
     record {
       sounds =
-          ap (λ (o : Outcome). framesOf (o .ears) (c .stride) 2 (o .answer .samples)) made
-          ∙ ap (framesOf (outcomeBy 0 c t .ears) (c .stride) 2) (sym (all-played c t))
-          ∙ frames-read 2 (c .ears) (c .stride) (played (setup c) t (framesIn c)) (omega (arith, all-played c t, ears-fit c t e .0)) (ears-fit c t e .1) (two-ears (setup c) t (framesIn c))
+          ap (λ (o : Outcome). framesOf (o .ears) (c .stride) 2 (o .answer .samples)) (outcome-by c t 0 e)
+          ∙ ap (framesOf (outcomeBy 0 c t .ears) (c .stride) 2) (sym (all-heard c held))
+          ∙ frames-read 2 (c .ears) (c .stride) (heard (setup c) held (framesIn c)) (omega (arith, all-heard c held, ears-fit c t e .0)) (ears-fit c t e .1) (two-each (setup c) held (framesIn c))
+          ∙ sym (played-held (setup c) t (framesIn c) (ready c t e .ringed) (ready c t e .within))
           ∙ played-alike (setup c) u (same e) t (framesIn c)
           ∙ ap (played u t) (sym fs);
       counts = ap (λ (o : Outcome). o .answer .unsettled) made ∙ counted-alike (setup c) u (same e) t (framesIn c) ∙ ap (counted u t) (sym fs);
       leaves = ap stateAfter made ∙ left-alike (setup c) u (same e) t (framesIn c) ∙ ap (left u t) (sym fs);
     }
   where
-    made : outcome c t ≡ outcomeBy 0 c t
-    made = outcome-by c t 0 e
+    held : List (List Float)
+    held = heldIn (setup c) t
+
+    made : outcome c t ≡ computed c t
+    made = outcome-computed c t e
 
     fs : fed c t ≡ framesIn c
     fs = ap (λ (n : ℕ). fedBy n (framesIn c)) e
@@ -92,6 +99,6 @@ module _ (u : Setup) where
   all-owed past t (c ∷ cs) r a =
       let w = called u t c (a .0) in
       cc (
-        w .counts ∙ counted-told u past t (fed c t) r,
-        all-owed (after past (fed c t)) (next c t) cs (subst (Represents u (after past (fed c t))) (sym (w .leaves)) (left-kept u past t (fed c t) r)) (a .1),
+        w .counts ∙ counted-told u past t r (fed c t),
+        all-owed (after u past (fed c t)) (next c t) cs (subst (Represents u (after u past (fed c t))) (sym (w .leaves)) (left-kept u past t r (fed c t))) (a .1),
       )

@@ -1,50 +1,81 @@
 -- DEMAND 3. From a reset, however a run is cut into calls and whatever calls are refused between, what is heard is document 01's sums over the frames that were fed. Assumes nothing.
-use mathlib.Core.Path.{_≡_, sym, ap, _∙_}
+use mathlib.Core.Path.{_≡_, refl, sym, ap, _∙_}
 use mathlib.Core.Bool.{false}
-use mathlib.Core.List.{List, []}
-use Prim.Native.Nat.{ℕ, _<_}
-use lib.ListN.{length, getD}
+use mathlib.Core.List.{List, [], map, reverse}
+use Prim.Native.Nat.{ℕ, suc, _<_}
+use lib.ListN.{length, getD, take}
 use lib.Ieee.{Float}
+use Rattle.lists.specs.Tables.{any}
 use Rattle.checks.specs.Finite.{unsound}
 use Rattle.history.specs.Setup.{Setup}
-use Rattle.history.specs.History.{unsettled, heard, upto}
-use Rattle.history.proofs.Windows.{ears-same, unsettled-same}
-use Rattle.history.proofs.Silence.{silence-sound}
+use Rattle.history.specs.Signals.{signal, signals, damaged}
+use Rattle.history.specs.History.{signalAgo, earSamples, heard, upto}
+use Rattle.history.proofs.Windows.{ears-same, damage-same}
+use Rattle.history.proofs.Silence.{signal-ago, damage-ago, after-is}
 use Rattle.history.proofs.Pieces.{heard-at}
 use Rattle.rings.specs.State.{State}
 use Rattle.rings.specs.Steps.{left, played, counted}
+use Rattle.rings.specs.Represents.{Represents}
 use Rattle.rings.proofs.Blocks.{played-heard}
 use Rattle.hrtf_checks.specs.Call.{Call}
-use Rattle.runs.specs.Runs.{Alike, fedAll, soundedAll}
-use Rattle.runs.specs.Demand.{Run, Sums, Agree, Counts, Same}
+use Rattle.hrtf.proofs.Promised.{reset-number}
+use Rattle.runs.specs.Runs.{Alike, fedAll, soundedAll, answered, owed}
+use Rattle.runs.specs.Demand.{Run, frameAgo, Agree, Same, Demand3}
 use Rattle.runs.proofs.Calls.{all-sounded, all-left, all-counted, all-owed}
+
+-- a run begins at the empty past
+pub run-starts : (u : Setup) (t : State) (cs : List Call) → Run u t cs → Represents u [] t
+run-starts u t cs r = r .reset .fresh (sym (reset-number (r .desk) (u .speakers) (u .L) (r .rings) _ (r .reset))) u refl refl
 
 -- the whole run sounds as the frames that were fed, however it was cut
 pub run-heard : (u : Setup) (t : State) (cs : List Call) → Run u t cs → soundedAll t cs ≡ heard u [] (fedAll t cs)
-run-heard u t cs r = all-sounded u t cs (r .alike) ∙ played-heard u [] t (fedAll t cs) (r .reset)
+run-heard u t cs r = all-sounded u t cs (r .alike) ∙ played-heard u [] t (run-starts u t cs r) (fedAll t cs)
 
 -- (a)
-pub run-sums : (u : Setup) (t : State) (cs : List Call) → Run u t cs → Sums u t cs
+run-sums : (u : Setup) (t : State) (cs : List Call) → Run u t cs → (n : ℕ) → n < length (fedAll t cs) → getD (soundedAll t cs) n [] ≡ earSamples u (upto u (fedAll t cs) n)
 run-sums u t cs r n h = ap (λ (l : List (List Float)). getD l n []) (run-heard u t cs r) ∙ heard-at u (fedAll t cs) n [] h
 
-module _ (u : Setup) (t s : State) (cs ds : List Call) (n m : ℕ) (hn : n < length (fedAll t cs)) (hm : m < length (fedAll s ds)) (e : Agree u t cs n s ds m) where
-  -- (b): two runs that agree on a frame and the L-1 frames before it give the same two ear samples there, whatever came earlier
-  pub run-agree : Run u t cs → Run u s ds → getD (soundedAll t cs) n [] ≡ getD (soundedAll s ds) m []
-  run-agree r q = run-sums u t cs r n hn ∙ ears-same u (upto (fedAll t cs) n) (upto (fedAll s ds) m) e ∙ sym (run-sums u s ds q m hm)
+-- ---- frames that agree
 
-  -- and are both unsettled there or both settled
-  pub run-settled : unsound (u .weights) ≡ false → unsettled u (upto (fedAll t cs) n) ≡ unsettled u (upto (fedAll s ds) m)
-  run-settled w = unsettled-same u (upto (fedAll t cs) n) (upto (fedAll s ds) m) (silence-sound u w) e
+module _ (u : Setup) (finite : unsound (u .weights) ≡ false) where
+  -- the signals at frame n are those of the frames
+  upto-is : (fs : List (List Float)) (n : ℕ) → upto u fs n ≡ map (signals u) (reverse (take (suc n) fs))
+  upto-is fs n = after-is u (take (suc n) fs) []
+
+  signal-is : (fs : List (List Float)) (n k s : ℕ) → s < u .speakers → signalAgo s (upto u fs n) k ≡ signal u s (frameAgo u fs n k)
+  signal-is fs n k s h = ap (λ (l : List (List Float)). signalAgo s l k) (upto-is fs n) ∙ signal-ago u finite (reverse (take (suc n) fs)) k s h
+
+  damage-is : (fs : List (List Float)) (n k : ℕ) → unsound (getD (upto u fs n) k []) ≡ damaged u (frameAgo u fs n k)
+  damage-is fs n k = ap (λ (l : List (List Float)). unsound (getD l k [])) (upto-is fs n) ∙ damage-ago u finite (reverse (take (suc n) fs)) k
+
+  module _ (fs gs : List (List Float)) (n m : ℕ) (e : (k : ℕ) → k < u .L → frameAgo u fs n k ≡ frameAgo u gs m k) where
+    same-signals : (k s : ℕ) → k < u .L → s < u .speakers → signalAgo s (upto u fs n) k ≡ signalAgo s (upto u gs m) k
+    same-signals k s hk hs = signal-is fs n k s hs ∙ ap (signal u s) (e k hk) ∙ sym (signal-is gs m k s hs)
+
+    -- they have both a damaged frame among the last L, or neither
+    pub run-settled : any (take (u .L) (map unsound (upto u fs n))) ≡ any (take (u .L) (map unsound (upto u gs m)))
+    run-settled = damage-same (u .L) (upto u fs n) (upto u gs m) (λ k h. damage-is fs n k ∙ ap (damaged u) (e k h) ∙ sym (damage-is gs m k))
+
+-- (b): two runs that agree on a frame and the L-1 frames before it give the same two ear samples there, whatever came earlier
+run-agree : (u : Setup) (t s : State) (cs ds : List Call) → Run u t cs → Run u s ds → (n m : ℕ) → n < length (fedAll t cs) → m < length (fedAll s ds) → Agree u t cs n s ds m
+    → getD (soundedAll t cs) n [] ≡ getD (soundedAll s ds) m []
+run-agree u t s cs ds r q n m hn hm e =
+    run-sums u t cs r n hn
+    ∙ ears-same u (upto u (fedAll t cs) n) (upto u (fedAll s ds) m) (same-signals u (r .finite) (fedAll t cs) (fedAll s ds) n m e)
+    ∙ sym (run-sums u s ds q m hm)
 
 -- (c)
-pub run-counts : (u : Setup) (t : State) (cs : List Call) → Run u t cs → Counts u t cs
-run-counts u t cs r = all-owed u [] t cs (r .reset) (r .alike)
+run-counts : (u : Setup) (t : State) (cs : List Call) → Run u t cs → answered t cs ≡ owed u [] t cs
+run-counts u t cs r = all-owed u [] t cs (run-starts u t cs r) (r .alike)
 
--- (d): cutting a run into blocks anywhere changes nothing. It needs no reset.
-pub run-cut : (u : Setup) (t : State) (cs ds : List Call) → Alike u t cs → Alike u t ds → fedAll t cs ≡ fedAll t ds → Same t cs ds
+-- (d): cutting a run into blocks anywhere changes nothing. It needs no reset
+run-cut : (u : Setup) (t : State) (cs ds : List Call) → Alike u t cs → Alike u t ds → fedAll t cs ≡ fedAll t ds → Same t cs ds
 run-cut u t cs ds a b e =
     record {
       sounds = all-sounded u t cs a ∙ ap (played u t) e ∙ sym (all-sounded u t ds b);
       counts = all-counted u t cs a ∙ ap (counted u t) e ∙ sym (all-counted u t ds b);
       leaves = all-left u t cs a ∙ ap (left u t) e ∙ sym (all-left u t ds b);
     }
+
+pub demand-3 : Demand3
+demand-3 = record { sums = run-sums; equal = run-agree; counts = run-counts; cut = run-cut }

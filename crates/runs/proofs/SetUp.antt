@@ -3,7 +3,7 @@
 use mathlib.Core.Path.{_≡_, refl, sym, ap, _∙_, subst}
 use mathlib.Core.Bool.{true, false, not, _||_, and-eq-true-iff}
 use mathlib.Core.List.{List, [], _∷_}
-use Prim.Native.Nat.{ℕ, zero, suc, _*_, _≤_, _<_}
+use Prim.Native.Nat.{ℕ, _*_, _≤_, _<_}
 use native.Mathlib.Nat.{zero-add}
 use native.Mathlib.Omega.{arith}
 use borrow.Author.Tests.{lt-leb}
@@ -37,14 +37,14 @@ use Rattle.hrtf_checks.specs.Call.{Call, setup, framesIn}
 use Rattle.hrtf_checks.specs.Refusals.{misshapen, misfit, astray, refusalOf}
 use Rattle.hrtf_checks.proofs.Refusing.{lengths-fit, on-desk, accept}
 use Rattle.hrtf.specs.Promise.{stateAfter}
-use Rattle.hrtf.specs.Reset.{resetRefusal, AfterReset, resetBy, resetOutcome, Resets}
-use Rattle.hrtf.proofs.Promised.{outcome-by, reset-accepts}
+use Rattle.hrtf.specs.Reset.{resetRefusal, AfterReset, Resets}
+use Rattle.hrtf.proofs.Promised.{outcome-computed, reset-accepts, reset-number}
 use Rattle.hrtf_setup.specs.Arrangement.{Wanted, Arrangement}
 use Rattle.hrtf_setup.specs.Arrangement as Arranging
 use Rattle.hrtf_setup.specs.Promise.{NewSurround, NewAmbisonic}
 use Rattle.hrtf_setup.proofs.Accepted.{Playable, set-up, surround-playable, ambisonic-playable}
 use Rattle.runs.specs.Runs.{next}
-use Rattle.runs.specs.SetUp.{Fitted, AllFitted, Turns, NoneRefused}
+use Rattle.runs.specs.SetUp.{Fitted, AllFitted, Turns, NoneRefused, NeverRefused}
 
 -- ---- a bank that keeps the form
 
@@ -111,7 +111,7 @@ module _ (u : Setup) (speakers : ℕ) where
   left-turns t (f ∷ fs) r = left-turns (stepped u t f) fs (step-turns t f r)
 
 pub next-turns : (speakers : ℕ) (c : Call) (t : State) → refusalOf c t ≡ 0 → Turns speakers (c .shape .length) t → Turns speakers (c .shape .length) (next c t)
-next-turns speakers c t e r = subst (Turns speakers (c .shape .length)) (sym (ap stateAfter (outcome-by c t 0 e))) (left-turns (setup c) speakers t (framesIn c) r)
+next-turns speakers c t e r = subst (Turns speakers (c .shape .length)) (sym (ap stateAfter (outcome-computed c t e))) (left-turns (setup c) speakers t (framesIn c) r)
 
 -- ---- and so every call of a run
 
@@ -153,19 +153,11 @@ some-block b o n =
 -- what is left turns
 pub reset-turns : (d : Desk) (speakers L : ℕ) (rings : List Float) (a : AfterReset) → Resets d speakers L rings a → a .answer .refusal ≡ 0
     → Turns speakers L (record { rings = a .rings; desk = a .answer .desk })
-unfolding resetOutcome
 reset-turns d speakers L rings a r e =
     let u : Setup = record { channels = 0; speakers = speakers; L = L; weights = []; taps = []; rows = [] } in
-    let s = r .fresh (sym told ∙ e) u refl refl refl in
+    let s = r .fresh (sym (reset-number d speakers L rings a r) ∙ e) u refl refl in
     let none : a .answer .desk .«to_go» ≡ 0 = s .waits in
     record { ringed = s .room; within = s .within; waits = omega (arith, none, s .within) }
-  where
-    by : (n : ℕ) → resetBy n d rings .answer .refusal ≡ n
-    by zero = refl
-    by (suc n) = refl
-
-    told : a .answer .refusal ≡ resetRefusal speakers L rings
-    told = ap (λ (x : AfterReset). x .answer .refusal) (r .answer) ∙ by (resetRefusal speakers L rings)
 
 -- ---- from the bank file on
 
@@ -210,3 +202,12 @@ module _ (file : List ℕ) (zs : List ℤ) (xs : List Float) (r : ReadOutcome) (
 
     pub ambisonic-never-refused : (order : ℕ) → NewAmbisonic order (r .azimuths) (r .answer .rows) weights given o → NoneRefused (record { rings = a .rings; desk = a .answer .desk }) cs
     ambisonic-never-refused order n = plays (ambisonic-playable (r .azimuths) (r .answer .rows) weights given o eight e order n)
+
+pub good-bank : NeverRefused
+good-bank =
+    record {
+      surround = λ file zs xs r reads good l weights given o eight n e d rings t rested cs fs.
+          surround-never-refused file zs xs r reads good weights given o eight e d rings (record { answer = record { refusal = 0; desk = t .desk }; rings = t .rings }) rested refl cs fs l n;
+      ambisonic = λ file zs xs r reads good order weights given o eight n e d rings t rested cs fs.
+          ambisonic-never-refused file zs xs r reads good weights given o eight e d rings (record { answer = record { refusal = 0; desk = t .desk }; rings = t .rings }) rested refl cs fs order n;
+    }

@@ -1,6 +1,6 @@
 -- (e) The premises can be met: drill table 8 and 9 played from a reset in four calls, the second refused and the third of no frames. Assumes nothing.
 use mathlib.Core.Path.{_≡_, refl, ap, _∙_}
-use mathlib.Core.List.{List, [], _∷_}
+use mathlib.Core.List.{List, [], _∷_, flatten}
 use Prim.Native.Nat.{ℕ, _*_}
 use native.Mathlib.Nat.{suc-ne-zero}
 use native.Mathlib.Omega.{arith}
@@ -10,15 +10,18 @@ use lib.Ieee as ieee
 use Rattle.formats.specs.Floats.{zero-float, one-float, half-float}
 use Rattle.numbers.specs.Computed.{rounded}
 use Rattle.planes.specs.Sums.{mixed}
+use Rattle.desk.specs.Numbers.{zeroed}
 use Rattle.history.proofs.Filters.{same-filters}
 use Rattle.history.specs.History.{heard}
 use Rattle.history.specs.Drill.{drill, samples}
 use Rattle.history.proofs.Drill.{drill-8, drill-9-heard}
-use Rattle.rings.specs.Represents.{Represents, fresh}
-use Rattle.rings.proofs.Told.{fresh-represents}
+use Rattle.rings.specs.Represents.{Represents}
+use Rattle.rings.proofs.Blocks.{fresh, fresh-represents}
 use Rattle.hrtf_checks.specs.Call.{Call}
 use Rattle.hrtf_checks.specs.Refusals.{refusalOf}
 use Rattle.hrtf.specs.Promise.{outcome}
+use Rattle.hrtf.specs.Reset.{resetRefusal, Resets}
+use Rattle.hrtf.proofs.Promised.{reset-accepted}
 use Rattle.runs.specs.Runs.{Alike, fedAll, soundedAll, answered}
 use Rattle.runs.specs.Demand.{Run}
 use Rattle.runs.proofs.Demand.{run-heard}
@@ -43,22 +46,27 @@ calls x = block 1 (x ∷ []) one-float ∷ block 1 (one-float ∷ []) nan ∷ bl
 
 -- what a reset leaves
 pub starts : Represents drill [] (fresh drill)
-starts = fresh-represents drill (omega arith) refl
+starts = fresh-represents drill (omega arith)
 
 alike : (x : Float) → Alike drill (fresh drill) (calls x)
-unfolding refusalOf outcome
+unfolding refusalOf outcome flatten
 alike x = (λ e. same-filters drill, (λ e. absurd (suc-ne-zero 6 e), (λ e. same-filters drill, (λ e. same-filters drill, tt))))
 
+-- of any desk and any two cells
+rested : Resets (record { position = 7; «to_go» = 7 }) 1 2 (nan ∷ nan ∷ []) (record { answer = record { refusal = 0; desk = zeroed }; rings = zero-float ∷ zero-float ∷ [] })
+unfolding resetRefusal
+rested = reset-accepted (record { position = 7; «to_go» = 7 }) 1 2 (nan ∷ nan ∷ []) (zero-float ∷ zero-float ∷ []) refl refl
+
 run : (x : Float) → Run drill (fresh drill) (calls x)
-run x = record { reset = starts; alike = alike x }
+run x = record { desk = record { position = 7; «to_go» = 7 }; rings = nan ∷ nan ∷ []; reset = rested; finite = refl; alike = alike x }
 
 -- whether the third and fourth call are accepted hangs on the frames to go that the first leaves, so each is computed
 fed-8 : fedAll (fresh drill) (calls one-float) ≡ samples one-float
-unfolding refusalOf outcome mixed rounded add mul ieee.sum round size span climb units odd
+unfolding refusalOf outcome flatten mixed rounded add mul ieee.sum round size span climb units odd
 fed-8 = refl
 
 fed-9 : fedAll (fresh drill) (calls nan) ≡ samples nan
-unfolding refusalOf outcome mixed rounded add mul ieee.sum round size span climb units odd
+unfolding refusalOf outcome flatten mixed rounded add mul ieee.sum round size span climb units odd
 fed-9 = refl
 
 -- drill table 8
@@ -70,5 +78,5 @@ played-9 : soundedAll (fresh drill) (calls nan) ≡ (nan ∷ nan ∷ []) ∷ (na
 played-9 = run-heard drill (fresh drill) (calls nan) (run nan) ∙ ap (heard drill []) fed-9 ∙ drill-9-heard
 
 answered-9 : answered (fresh drill) (calls nan) ≡ 1 ∷ 0 ∷ 0 ∷ 1 ∷ []
-unfolding refusalOf outcome mixed rounded add mul ieee.sum round size span climb units odd
+unfolding refusalOf outcome flatten mixed rounded add mul ieee.sum round size span climb units odd
 answered-9 = refl

@@ -1,34 +1,50 @@
--- Demand 3, as it is proved in proofs/Demand.antt. A run begins at rings and a desk that stand for the empty history, as `hrtf::reset` leaves them. Definitions only.
-use Prim.Native.Nat.{ℕ, _<_}
+-- Demand 3, in the order of its words; it is shown in proofs/Demand.antt. Definitions only.
+use Prim.Native.Nat.{ℕ, suc, _<_}
 use mathlib.Core.Path.{_≡_}
-use mathlib.Core.List.{List, []}
-use lib.ListN.{length, getD}
+use mathlib.Core.Bool.{false}
+use mathlib.Core.List.{List, [], reverse}
+use lib.ListN.{length, getD, take}
+use lib.Ieee.{Float}
+use Rattle.checks.specs.Finite.{unsound}
+use Rattle.desk.specs.declared.Desk.{Desk}
 use Rattle.history.specs.Setup.{Setup}
-use Rattle.history.specs.History.{frameAgo, earSamples, upto}
+use Rattle.history.specs.Signals.{silence}
+use Rattle.history.specs.History.{earSamples, upto}
 use Rattle.rings.specs.State.{State}
-use Rattle.rings.specs.Represents.{Represents}
 use Rattle.hrtf_checks.specs.Call.{Call}
+use Rattle.hrtf.specs.Reset.{Resets}
 use Rattle.runs.specs.Runs.{Alike, fedAll, soundedAll, end, answered, owed, sum}
 
--- a run from a reset
+-- "from reset with the same filters, finite weights, speaker count and filter length L throughout, .. refused calls between them, state and rings passed on untouched from call to call": t is what
+-- `hrtf::reset` promises to leave of a desk and rings that it accepts
 pub record Run (u : Setup) (t : State) (cs : List Call) : Type 0 where
-  pub reset : Represents u [] t
+  pub desk : Desk
+  pub rings : List Float
+  pub reset : Resets desk (u .speakers) (u .L) rings (record { answer = record { refusal = 0; desk = t .desk }; rings = t .rings })
+  pub finite : unsound (u .weights) ≡ false
   pub alike : Alike u t cs
 
--- (a) the ear samples of frame n are document 01's sums over the frames up to it
-abbrev pub Sums : Setup → State → List Call → Type 0
-Sums u t cs = (n : ℕ) → n < length (fedAll t cs) → getD (soundedAll t cs) n [] ≡ earSamples u (upto (fedAll t cs) n)
+-- the frame k frames before frame n: "silence before the first"
+abbrev pub frameAgo : Setup → List (List Float) → ℕ → ℕ → List Float
+frameAgo u fs n k = getD (reverse (take (suc n) fs)) k (silence u)
 
--- (b) frame n of one run and frame m of another, and the L-1 frames before each, agree: silence stands before the first
+-- frame n of one run and frame m of another, and the L-1 frames before each, agree
 abbrev pub Agree : Setup → State → List Call → ℕ → State → List Call → ℕ → Type 0
-Agree u t cs n s ds m = (k : ℕ) → k < u .L → frameAgo u (upto (fedAll t cs) n) k ≡ frameAgo u (upto (fedAll s ds) m) k
+Agree u t cs n s ds m = (k : ℕ) → k < u .L → frameAgo u (fedAll t cs) n k ≡ frameAgo u (fedAll s ds) m k
 
--- (c) each call's unsettled count is the number of its frames with a damaged frame among the last L
-abbrev pub Counts : Setup → State → List Call → Type 0
-Counts u t cs = answered t cs ≡ owed u [] t cs
-
--- (d) two runs from the same rings and desk sound the same, count the same in all, and leave the same
+-- two runs from the same rings and desk sound the same, count the same in all, and leave the same
 pub record Same (t : State) (cs ds : List Call) : Type 0 where
   pub sounds : soundedAll t cs ≡ soundedAll t ds
   pub counts : sum (answered t cs) ≡ sum (answered t ds)
   pub leaves : end t cs ≡ end t ds
+
+pub record Demand3 : Type 0 where
+  -- (a) "both ear samples at n are document 01's sums"
+  pub sums : (u : Setup) (t : State) (cs : List Call) → Run u t cs → (n : ℕ) → n < length (fedAll t cs) → getD (soundedAll t cs) n [] ≡ earSamples u (upto u (fedAll t cs) n)
+  -- (b) "If they agree on frame n and the L-1 frames before it", they are "equal in both runs, whatever NaN or noise came earlier"
+  pub equal : (u : Setup) (t s : State) (cs ds : List Call) → Run u t cs → Run u s ds → (n m : ℕ) → n < length (fedAll t cs) → m < length (fedAll s ds) → Agree u t cs n s ds m
+      → getD (soundedAll t cs) n [] ≡ getD (soundedAll s ds) m []
+  -- (c) "Each call's unsettled count is exactly the number of its frames with a damaged frame among those L"
+  pub counts : (u : Setup) (t : State) (cs : List Call) → Run u t cs → answered t cs ≡ owed u [] t cs
+  -- (d) "each cut into blocks anywhere": the same frames, cut as they may be, and refused calls where they may be; from any rings and desk
+  pub cut : (u : Setup) (t : State) (cs ds : List Call) → Alike u t cs → Alike u t ds → fedAll t cs ≡ fedAll t ds → Same t cs ds

@@ -55,7 +55,7 @@ answered t (c ∷ cs) = outcome c t .answer .unsettled ∷ answered (next c t) c
 
 abbrev pub owed : Setup → List (List Float) → State → List Call → List ℕ
 owed u past t [] = []
-owed u past t (c ∷ cs) = unsettledIn u past (fed c t) ∷ owed u (after past (fed c t)) (next c t) cs
+owed u past t (c ∷ cs) = unsettledIn u 0 past (fed c t) ∷ owed u (after u past (fed c t)) (next c t) cs
 
 abbrev pub sum : List ℕ → ℕ
 sum [] = 0

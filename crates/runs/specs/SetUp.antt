@@ -1,14 +1,21 @@
--- A run of the program: a bank file is read, speakers are set up from it, the rings are reset, and blocks are played. None is refused, whatever is heard: that a bank which keeps the form always plays
--- is proved in proofs/SetUp.antt. Definitions only.
+-- A run of the program: a bank file is read, speakers are set up from it, the rings are reset, and blocks are played. None is refused, whatever is heard: a bank which keeps the form always plays
+-- (`NeverRefused`, shown in proofs/SetUp.antt). Definitions only.
 use Prim.Native.Nat.{ℕ, _*_, _≤_, _<_}
 use mathlib.Core.Path.{_≡_}
 use mathlib.Core.List.{List, [], _∷_}
-use lib.ListN.{length}
+use lib.ListN.{length, take}
+use lib.IntN.{ℤ}
+use lib.Ieee.{Float}
 use Rattle.bank_form.specs.Bank as Form
+use Rattle.bank.specs.Reading.{ReadOutcome, Reads}
+use Rattle.channel.specs.declared.Layout.{Layout}
+use Rattle.desk.specs.declared.Desk.{Desk}
 use Rattle.rings.specs.State.{State}
 use Rattle.hrtf_checks.specs.Call.{Call}
 use Rattle.hrtf_checks.specs.Refusals.{refusalOf}
+use Rattle.hrtf.specs.Reset.{Resets}
 use Rattle.hrtf_setup.specs.Arrangement.{Arrangement}
+use Rattle.hrtf_setup.specs.Promise.{NewSurround, NewAmbisonic}
 use Rattle.runs.specs.Runs.{next}
 
 -- a call that is made of a bank and of what a set-up left: their counts, weights, rows and taps, and planes as long as its frames need
@@ -35,3 +42,22 @@ pub record Turns (speakers L : ℕ) (t : State) : Type 0 where
 abbrev pub NoneRefused : State → List Call → Type 0
 NoneRefused t [] = Unit {0}
 NoneRefused t (c ∷ cs) = (refusalOf c t ≡ 0) × NoneRefused (next c t) cs
+
+-- ---- a good bank is never refused
+
+-- the bank that a caller finds in its lists after an accepted reading
+abbrev pub bankRead : ReadOutcome → Form.Bank
+bankRead r = record { azimuths = take (r .answer .rows) (r .azimuths); length = r .answer .length; taps = take (2 * r .answer .rows * r .answer .length) (r .taps) }
+
+-- whatever `hrtf::reset` accepts and leaves: no call that is made of that bank and set-up is refused
+abbrev pub AlwaysPlays : ReadOutcome → Arrangement → Type 0
+AlwaysPlays r o =
+    (d : Desk) (rings : List Float) (t : State) → Resets d (o .answer .speakers) (r .answer .length) rings (record { answer = record { refusal = 0; desk = t .desk }; rings = t .rings })
+    → (cs : List Call) → AllFitted (bankRead r) o cs → NoneRefused t cs
+
+-- from what `bank::read` and a set-up promise where they accept
+pub record NeverRefused : Type 0 where
+  pub surround : (file : List ℕ) (zs : List ℤ) (xs : List Float) (r : ReadOutcome) → Reads file zs xs r → r .answer .refusal ≡ 0
+      → (l : Layout) (weights : List Float) (given : List ℕ) (o : Arrangement) → length given ≡ 8 → NewSurround l (r .azimuths) (r .answer .rows) weights given o → o .answer .refusal ≡ 0 → AlwaysPlays r o
+  pub ambisonic : (file : List ℕ) (zs : List ℤ) (xs : List Float) (r : ReadOutcome) → Reads file zs xs r → r .answer .refusal ≡ 0
+      → (n : ℕ) (weights : List Float) (given : List ℕ) (o : Arrangement) → length given ≡ 8 → NewAmbisonic n (r .azimuths) (r .answer .rows) weights given o → o .answer .refusal ≡ 0 → AlwaysPlays r o
