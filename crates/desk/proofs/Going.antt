@@ -7,7 +7,7 @@ use native.Mathlib.Omega.{arith}
 use borrow.Author.Tests.{lt-ltb}
 use Rattle.desk.specs.declared.Desk.{Desk}
 use Rattle.desk.specs.Numbers.{toGoNext}
-use Rattle.desk.specs.Steps.{advanced, steppedOf}
+use Rattle.desk.specs.Computed.{advanced, steppedOf}
 
 module _ (L : ℕ) (bad : Bool) (d : Desk) (h : d .position < L) where
   pub desk-on : steppedOf L bad d ≡ advanced L bad d

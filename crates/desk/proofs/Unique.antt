@@ -4,7 +4,7 @@ use mathlib.Core.Path.{_≡_}
 use mathlib.Core.Bool.{Bool}
 use Rattle.refusals.proofs.Determined.{determined}
 use Rattle.desk.specs.declared.Desk.{Desk}
-use Rattle.desk.specs.Steps.{steppedOf}
+use Rattle.desk.specs.Computed.{steppedOf}
 
 -- of the answer of `stepped`, and of what `step` leaves where the record stands
 stepped-unique : (L : ℕ) (damaged : Bool) (d a b : Desk) → a ≡ steppedOf L damaged d → b ≡ steppedOf L damaged d → a ≡ b

@@ -1,3 +1,3 @@
 -- The words of the promises of `desk`.
 pub mod Numbers
-pub mod Steps
+pub mod Computed

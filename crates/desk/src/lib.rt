@@ -6,7 +6,7 @@
 ghost use mathlib.Core.Path.{_≡_};
 ghost use Prim.Native.Nat.{_<_};
 ghost use Rattle.desk.specs.Numbers.{toGoNext};
-ghost use Rattle.desk.specs.Steps.{steppedOf};
+ghost use Rattle.desk.specs.Computed.{steppedOf};
 
 pub struct Desk {
     pub position: usize,

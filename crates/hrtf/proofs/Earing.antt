@@ -14,14 +14,14 @@ use Rattle.planes.specs.Normalization.{inverseRoot}
 use Rattle.lists.proofs.Tables.{part-is, row-end}
 use Rattle.history.specs.History.{earOf}
 use Rattle.rings.specs.Unrolled.{unrolled}
-use Rattle.rings.specs.Steps.{partBy, partOf}
+use Rattle.rings.specs.Computed.{partBy, partOf}
 use Rattle.hrtf_checks.specs.declared.Shape.{Shape}
 use Rattle.hrtf_checks.specs.Call.{setupOf}
-use Rattle.hrtf.specs.Steps.{Stands, earBy}
+use Rattle.hrtf.specs.Computed.{PartInside, earBy}
 
 -- ---- where a speaker's ring and its taps stand
 
-module _ (h : Shape) (s j side : ℕ) (taps rings : List Float) (p : Stands h s j side taps rings) where
+module _ (h : Shape) (s j side : ℕ) (taps rings : List Float) (p : PartInside h s j side taps rings) where
   pub ring-end : s * h .length + h .length ≤ length rings
   ring-end = row-end s (h .speakers) (h .length) (length rings) (p .ring) (p .ringed)
 

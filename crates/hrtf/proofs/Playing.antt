@@ -14,18 +14,18 @@ use Rattle.lists.proofs.Going.{Going, going-none, going-more, going-all}
 use Rattle.lists.proofs.Lists.{one-at-most}
 use Rattle.planes.proofs.Planes.{length-with-frame, frame-read}
 use Rattle.desk.specs.declared.Desk.{Desk}
-use Rattle.desk.specs.Steps.{steppedOf}
+use Rattle.desk.specs.Computed.{steppedOf}
 use Rattle.desk.proofs.Going.{position-below}
 use Rattle.history.specs.Setup.{Setup}
 use Rattle.history.specs.Signals.{signals, damaged}
 use Rattle.rings.specs.State.{State}
-use Rattle.rings.specs.Steps.{stored, ringEar, ears, late, stepped, left, played, counted}
+use Rattle.rings.specs.Computed.{stored, ringEar, ears, late, stepped, left, played, counted}
 use Rattle.rings.proofs.Told.{length-stored}
 use Rattle.hrtf_checks.specs.declared.Shape.{Shape}
 use Rattle.hrtf_checks.specs.Call.{Call, setupOf, setup, framesIn, Ready}
 use Rattle.history.proofs.Signals.{length-signals}
 use Rattle.hrtf.specs.Promise.{Outcome}
-use Rattle.hrtf.specs.Steps.{earBy, Turned, Blocked}
+use Rattle.hrtf.specs.Computed.{earBy, FramePlayed, BlockPlayed}
 
 -- ---- one frame
 
@@ -53,7 +53,7 @@ module _ (h : Shape) (weights : List Float) (rows : List ℕ) (taps : List Float
       → ears₁ ≡ withSample ears₀ stride 0 n l
       → ears₂ ≡ withSample ears₁ stride 1 n r
       → one ≡ cond (bad || ltb 0 (t .desk .«to_go»)) 1 0
-      → Turned h weights rows taps t f stride n count ears₀ rings₁ ears₂ (n + 1) (count + one) bad
+      → FramePlayed h weights rows taps t f stride n count ears₀ rings₁ ears₂ (n + 1) (count + one) bad
   turned stride n ears₀ rings₁ bad l r ears₁ ears₂ count one ready er eb el es e₁ e₂ eo =
       record {
         ringed = er;
@@ -132,7 +132,7 @@ module _ (c : Call) (t : State) where
 
     -- a frame further, the record changed after it
     pub playing-more : (rings₂ ears₂ : List Float) (d₂ : Desk) (count₂ n₂ : ℕ) (bad : Bool) → n < c .frames
-        → Turned (c .shape) (c .weights) (c .rows) (c .taps) st (frame n) (c .stride) n count ears₁ rings₂ ears₂ n₂ count₂ bad
+        → FramePlayed (c .shape) (c .weights) (c .rows) (c .taps) st (frame n) (c .stride) n count ears₁ rings₂ ears₂ n₂ count₂ bad
         → d₂ ≡ steppedOf (c .shape .length) bad d
         → Playing c t rings₂ ears₂ d₂ count₂ n₂
     playing-more rings₂ ears₂ d₂ count₂ n₂ bad h e ed = subst (λ (k : ℕ). Playing c t rings₂ ears₂ d₂ count₂ k) (sym (e .more)) on-by-one
@@ -163,7 +163,7 @@ module _ (c : Call) (t : State) where
               goes = going-more (onward c) frame (c .frames) first (staged c) (takes c) now-stands n (frame n) _ (p .goes) h refl stands;
             }
 
-    pub playing-all : c .frames ≤ n → Blocked c t rings ears₁ d count
+    pub playing-all : c .frames ≤ n → BlockPlayed c t rings ears₁ d count
     playing-all h =
         ap (λ (k : ℕ). sounded c n now-stands k []) (sym (add-zero count))
         ∙ going-all (onward c) frame (c .frames) first now-stands n (p .goes) h

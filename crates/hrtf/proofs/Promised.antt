@@ -20,7 +20,7 @@ use Rattle.history.specs.Setup.{Setup}
 use Rattle.history.specs.History.{earSamples, heard, unsettledIn, after}
 use Rattle.history.proofs.Pieces.{length-heard, heard-from, two-each}
 use Rattle.rings.specs.State.{State}
-use Rattle.rings.specs.Steps.{left, played, counted}
+use Rattle.rings.specs.Computed.{left, played, counted}
 use Rattle.rings.specs.Held.{heldIn, afterFrames}
 use Rattle.rings.specs.Represents.{Represents}
 use Rattle.rings.proofs.Blocks.{played-held, left-is, counted-is, played-heard, counted-told, left-kept, fresh-represents}
@@ -28,7 +28,7 @@ use Rattle.hrtf_checks.specs.Call.{Call, setup, framesIn}
 use Rattle.hrtf_checks.specs.Refusals.{refusalOf}
 use Rattle.hrtf.specs.Promise.{Outcome, refused, accepted, outcomeBy, outcome, stateAfter, Processes}
 use Rattle.hrtf.specs.Reset.{resetChecks, resetRefusal, AfterReset, resetBy, resetOutcome, Resets}
-use Rattle.hrtf.specs.Steps.{computed, Blocked}
+use Rattle.hrtf.specs.Computed.{computed, BlockPlayed}
 use Rattle.hrtf_checks.proofs.Refusing.{ears-fit, waits, ready}
 
 -- ---- a call
@@ -74,7 +74,7 @@ module _ (c : Call) (t : State) (o : Outcome) (p : Processes c t o) (past : List
 pub promised-refused : (c : Call) (t : State) (n : ℕ) → n ≡ refusalOf c t → (n ≡ 0 → ⊥) → Processes c t (refused n c t)
 promised-refused c t n e some = promised c t (refused n c t) (sym (outcome-by c t n (sym e) ∙ answered-refused (accepted c t) (λ k. refused k c t) n some))
 
-pub promised-accepted : (c : Call) (t : State) (rings₁ ears₁ : List Float) (desk₁ : Desk) (more : ℕ) → 0 ≡ refusalOf c t → Blocked c t rings₁ ears₁ desk₁ more
+pub promised-accepted : (c : Call) (t : State) (rings₁ ears₁ : List Float) (desk₁ : Desk) (more : ℕ) → 0 ≡ refusalOf c t → BlockPlayed c t rings₁ ears₁ desk₁ more
     → Processes c t (record { answer = record { refusal = 0; samples = c .frames; unsettled = more; desk = desk₁ }; rings = rings₁; ears = ears₁ })
 promised-accepted c t rings₁ ears₁ desk₁ more e b =
     promised c t (record { answer = record { refusal = 0; samples = c .frames; unsettled = more; desk = desk₁ }; rings = rings₁; ears = ears₁ })

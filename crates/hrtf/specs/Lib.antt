@@ -1,4 +1,4 @@
 -- The words of the promises of `hrtf`.
 pub mod Promise
 pub mod Reset
-pub mod Steps
+pub mod Computed

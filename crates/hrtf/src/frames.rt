@@ -8,9 +8,9 @@ ghost use mathlib.Core.Bool.{cond, _||_};
 ghost use Prim.Native.Nat.{suc, _≤_, _<_, _^_};
 ghost use lib.Dec.{ltb};
 ghost use Rattle.planes.specs.Planes.{frameAt};
-ghost use Rattle.rings.specs.Steps.{partBy};
+ghost use Rattle.rings.specs.Computed.{partBy};
 ghost use Rattle.hrtf_checks.specs.Call.{Ready};
-ghost use Rattle.hrtf.specs.Steps.{Stands, earBy, Turned, Blocked};
+ghost use Rattle.hrtf.specs.Computed.{PartInside, earBy, FramePlayed, BlockPlayed};
 
 // The frames played so far, how many of them are unsettled, and whether the last one is damaged.
 pub(crate) struct Played {
@@ -36,7 +36,7 @@ fn part(
     taps: &[f32],
     rings: &[f32],
 ) -> f64
-    requires { ⌜ Stands shape speaker row side (now taps) (now rings) ⌝ }
+    requires { ⌜ PartInside shape speaker row side (now taps) (now rings) ⌝ }
     ensures { λ r. ⌜ r ≡ partBy (shape .length) (suc position) speaker row side (now (taps .entry)) (now (rings .entry)) ⌝ }
 {
     let length = shape.length;
@@ -97,7 +97,7 @@ fn one_frame(
     ears: &mut [f32],
 ) -> Played
     requires { ⌜ Ready shape (desk .position) (now «row_of») (now taps) (now rings) × (played .unsettled ≤ played .frames) × (suc (played .frames) < 2 ^ 64) ⌝ }
-    ensures { λ r. ⌜ Turned shape (now (weights .entry)) (now («row_of» .entry)) (now (taps .entry)) (record { rings = now (rings .entry); desk = desk })
+    ensures { λ r. ⌜ FramePlayed shape (now (weights .entry)) (now («row_of» .entry)) (now (taps .entry)) (record { rings = now (rings .entry); desk = desk })
         (frameAt (now (inputs .entry)) stride (shape .channels) (played .frames)) stride (played .frames) (played .unsettled) (now (ears .entry)) (now (rings .exit)) (now (ears .exit))
         (r .frames) (r .unsettled) (r .damaged) ⌝ }
 {
@@ -144,7 +144,7 @@ pub(crate) fn block(
     ears: &mut [f32],
 ) -> Turn
     requires { ⌜ Ready shape (desk .position) (now «row_of») (now taps) (now rings) ⌝ }
-    ensures { λ r. ⌜ Blocked
+    ensures { λ r. ⌜ BlockPlayed
         (record { shape = shape; frames = frames; stride = stride; inputs = now (inputs .entry); weights = now (weights .entry); rows = now («row_of» .entry); taps = now (taps .entry); ears = now (ears .entry) })
         (record { rings = now (rings .entry); desk = desk }) (now (rings .exit)) (now (ears .exit)) (r .desk) (r .unsettled) ⌝ }
 {

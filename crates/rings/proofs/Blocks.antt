@@ -22,7 +22,7 @@ use Rattle.history.specs.Signals.{signals, damaged}
 use Rattle.history.specs.History.{window, heard, unsettledEach, unsettledIn, after}
 use Rattle.rings.specs.State.{State}
 use Rattle.rings.specs.Held.{heldIn, ringsOf, toGoAfter, afterFrames}
-use Rattle.rings.specs.Steps.{ears, late, stepped, left, played, lateEach, counted}
+use Rattle.rings.specs.Computed.{ears, late, stepped, left, played, lateEach, counted}
 use Rattle.rings.specs.Represents.{Represents}
 use Rattle.rings.proofs.Held.{Holds, holds-held, holds-last, last-holds, rings-are}
 use Rattle.rings.proofs.Told.{kept, ears-told, waits-on, late-told}

@@ -12,7 +12,7 @@ use Rattle.history.proofs.Windows.{ear-of-ext}
 use Rattle.history.proofs.Filters.{moved, moved-is, moved-filters}
 use Rattle.rings.specs.Unrolled.{unrolled}
 use Rattle.rings.specs.State.{State}
-use Rattle.rings.specs.Steps.{partOf, ringEar, stored, ears, late, stepped, left, played, lateEach, counted}
+use Rattle.rings.specs.Computed.{partOf, ringEar, stored, ears, late, stepped, left, played, lateEach, counted}
 
 module _ (u v : Setup) (a : SameFilters u v) where
   stepped-alike : (t : State) (f : List Float) → stepped u t f ≡ stepped v t f

@@ -24,7 +24,7 @@ use Rattle.history.proofs.Signals.{length-signals, signal-at}
 use Rattle.rings.specs.Unrolled.{unrolled}
 use Rattle.rings.specs.State.{State}
 use Rattle.rings.specs.Held.{toGoAfter}
-use Rattle.rings.specs.Steps.{stored, partOf, ringEar, ears, late, stepped}
+use Rattle.rings.specs.Computed.{stored, partOf, ringEar, ears, late, stepped}
 use Rattle.rings.proofs.Ring.{unrolled-set, unrolled-wrapped}
 use Rattle.rings.proofs.ToGo.{to-go-any, any-take-cons}
 use Rattle.rings.proofs.Held.{Holds}

@@ -2,5 +2,5 @@
 pub mod Unrolled
 pub mod State
 pub mod Held
-pub mod Steps
+pub mod Computed
 pub mod Represents

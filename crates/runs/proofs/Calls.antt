@@ -11,7 +11,7 @@ use Rattle.history.specs.Setup.{Setup, SameFilters}
 use Rattle.history.specs.History.{heard, after}
 use Rattle.rings.specs.State.{State}
 use Rattle.rings.specs.Held.{heldIn}
-use Rattle.rings.specs.Steps.{left, played, counted}
+use Rattle.rings.specs.Computed.{left, played, counted}
 use Rattle.rings.specs.Represents.{Represents}
 use Rattle.rings.proofs.Blocks.{played-held, counted-told, left-kept, played-append, left-append, counted-append}
 use Rattle.rings.proofs.Filters.{played-alike, left-alike, counted-alike}
@@ -20,7 +20,7 @@ use Rattle.hrtf_checks.specs.Refusals.{refusalOf}
 use Rattle.hrtf_checks.proofs.Refusing.{ears-fit, ready}
 use Rattle.hrtf.specs.Promise.{Outcome, outcomeBy, outcome, stateAfter}
 use Rattle.hrtf.proofs.Promised.{outcome-by, outcome-computed, all-heard}
-use Rattle.hrtf.specs.Steps.{computed}
+use Rattle.hrtf.specs.Computed.{computed}
 use Rattle.runs.specs.Runs.{next, fedBy, fed, sounded, Alike, fedAll, soundedAll, end, answered, owed, sum}
 
 -- ---- one call

@@ -30,7 +30,7 @@ use Rattle.desk.proofs.Going.{position-below, waits-below}
 use Rattle.history.specs.Setup.{Setup}
 use Rattle.history.specs.Signals.{damaged}
 use Rattle.rings.specs.State.{State}
-use Rattle.rings.specs.Steps.{stepped, left}
+use Rattle.rings.specs.Computed.{stepped, left}
 use Rattle.rings.proofs.Told.{length-stored}
 use Rattle.hrtf_checks.specs.declared.Shape.{Shape}
 use Rattle.hrtf_checks.specs.Call.{Call, setup, framesIn}

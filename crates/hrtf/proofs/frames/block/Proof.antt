@@ -60,7 +60,7 @@ use denote.Triple.Walked.{says, needs, Stays, stay-none-slice, stay-none-ref, st
 use denote.Triple.Clauses.{ensured, Lasts, lasts}
 use denote.Exit.{yes}
 use Rattle.planes.specs.Planes.{frameAt}
-use Rattle.desk.specs.Steps.{steppedOf}
+use Rattle.desk.specs.Computed.{steppedOf}
 use Rattle.desk.specs.declared.Desk.{Desk}
 use Rattle.desk.proofs.Desk as D
 use Rattle.desk.proofs.Desk.Laws as D′
@@ -75,7 +75,7 @@ use Rattle.hrtf_checks.proofs.Shape as S
 use Rattle.hrtf_checks.proofs.Shape.Laws as S′
 use Rattle.hrtf.specs.declared.frames.Played.{Played}
 use Rattle.hrtf.specs.declared.frames.Turn.{Turn}
-use Rattle.hrtf.specs.Steps.{Turned, Blocked}
+use Rattle.hrtf.specs.Computed.{FramePlayed, BlockPlayed}
 use Rattle.hrtf.proofs.Relent.{Hold, refers, loan, mine, half, rest, lends-both, takes-both}
 use Rattle.hrtf.proofs.Walking.{places, pairs-back, behind, local, tests}
 use Rattle.hrtf.proofs.Playing.{Playing, playing-none, playing-more, playing-all}
@@ -273,7 +273,7 @@ module _ {M : Type 1} (𝓤 : URA M) (H : Heap 𝓤) (A : Atoms 𝓤) (W : Given
   abbrev Post : Val → SProp 𝓤
   Post = walkOf 𝓤 H A f.ended stayed (f.clauses 𝓤 H A at-mem run) .post (((κ₀, (κ₁, (κ₂, (κ₃, (κ₄, (κ₅, tt)))))), (q₀, (q₁, (q₂, (q₃, (q₄, (q₅, tt)))))), bounds, a, at), tt)
 
-  exits : (zs es : List Float) (d : Desk) (n : ℕ) → Is D.the-row d (desk-vals d) → n < 2 ^ 64 → length zs ≡ length (rings₀ .now) → length es ≡ length (ears₀ .now) → Blocked call before zs es d n
+  exits : (zs es : List Float) (d : Desk) (n : ℕ) → Is D.the-row d (desk-vals d) → n < 2 ^ 64 → length zs ≡ length (rings₀ .now) → length es ≡ length (ears₀ .now) → BlockPlayed call before zs es d n
       → ent 𝓤 (⋆ 𝓤 H A (Held zs es)) (Post (LL.val U.the-type U′.the-laws (answer d n)))
   exits zs es d n is-d fits same room blocked =
       qed W (Held zs es) ∵
@@ -318,7 +318,7 @@ module _ {M : Type 1} (𝓤 : URA M) (H : Heap 𝓤) (A : Atoms 𝓤) (W : Given
   ears-of ls = ls .1 .1 .1 .1 .1 .1 .1 .1 .1 .0
 
   abbrev Frame : List Float → List Float → Desk → Played → List Float → List Float → Played → Type 0
-  Frame zs es d k zs′ es′ k′ = Turned shape (weights .now) (rows .now) (taps .now) (record { rings = zs; desk = d }) (frameAt (inputs .now) stride (shape .channels) (k .frames)) stride (k .frames) (k .unsettled) es zs′ es′ (k′ .frames) (k′ .unsettled) (k′ .damaged)
+  Frame zs es d k zs′ es′ k′ = FramePlayed shape (weights .now) (rows .now) (taps .now) (record { rings = zs; desk = d }) (frameAt (inputs .now) stride (shape .channels) (k .frames)) stride (k .frames) (k .unsettled) es zs′ es′ (k′ .frames) (k′ .unsettled) (k′ .damaged)
 
   -- what it hands back at the value v, and of that what its parameters leave and the clause that it ensures
   abbrev frame-gives : ℕ → GName → GName → List Float → List Float → Desk → Played → Val → Item 𝓤

@@ -9,13 +9,13 @@ use Rattle.planes.specs.Planes.{withFrame, withFrames}
 use Rattle.desk.specs.declared.Desk.{Desk}
 use Rattle.history.specs.Signals.{damaged}
 use Rattle.rings.specs.State.{State}
-use Rattle.rings.specs.Steps.{stored, ringEar, ears, late, left, played, counted}
+use Rattle.rings.specs.Computed.{stored, ringEar, ears, late, left, played, counted}
 use Rattle.hrtf_checks.specs.declared.Shape.{Shape}
 use Rattle.hrtf_checks.specs.Call.{Call, setupOf, setup, framesIn}
 use Rattle.hrtf.specs.Promise.{Outcome}
 
 -- where a speaker's ring stands, and the taps of a row and side
-pub record Stands (h : Shape) (s j side : ℕ) (taps rings : List Float) : Type 0 where
+pub record PartInside (h : Shape) (s j side : ℕ) (taps rings : List Float) : Type 0 where
   pub ring : s < h .speakers
   pub row : j < h .rows
   pub ear : side < 2
@@ -28,7 +28,7 @@ abbrev pub earBy : Shape → List ℕ → List Float → ℕ → ℕ → List Fl
 earBy h rows taps side p rings = ringEar (setupOf h [] rows taps) side p rings
 
 -- what one frame leaves, n having been played and `count` of them being unsettled
-pub record Turned (h : Shape) (weights : List Float) (rows : List ℕ) (taps : List Float) (t : State) (f : List Float) (stride n count : ℕ) (ears₀ rings₁ ears₁ : List Float) (n₁ count₁ : ℕ) (bad : Bool) : Type 0 where
+pub record FramePlayed (h : Shape) (weights : List Float) (rows : List ℕ) (taps : List Float) (t : State) (f : List Float) (stride n count : ℕ) (ears₀ rings₁ ears₁ : List Float) (n₁ count₁ : ℕ) (bad : Bool) : Type 0 where
   pub ringed : rings₁ ≡ stored (setupOf h weights rows taps) t f
   pub eared : ears₁ ≡ withFrame ears₀ stride n (ears (setupOf h weights rows taps) t f)
   pub more : n₁ ≡ n + 1
@@ -45,5 +45,5 @@ computed c t =
     }
 
 -- what a block leaves
-abbrev pub Blocked : Call → State → List Float → List Float → Desk → ℕ → Type 0
-Blocked c t rings₁ ears₁ desk₁ more = record { answer = record { refusal = 0; samples = c .frames; unsettled = more; desk = desk₁ }; rings = rings₁; ears = ears₁ } ≡ computed c t
+abbrev pub BlockPlayed : Call → State → List Float → List Float → Desk → ℕ → Type 0
+BlockPlayed c t rings₁ ears₁ desk₁ more = record { answer = record { refusal = 0; samples = c .frames; unsettled = more; desk = desk₁ }; rings = rings₁; ears = ears₁ } ≡ computed c t
