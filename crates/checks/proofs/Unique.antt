@@ -8,7 +8,7 @@ use lib.Ieee.{Float}
 use lib.Ieee.Scale.{finite}
 use Rattle.refusals.proofs.Determined.{determined}
 use Rattle.checks.specs.Finite.{unsound}
-use Rattle.checks.specs.Lengths.{blockUnfit}
+use Rattle.checks.specs.Lengths.{unfit, blockUnfit}
 
 is-finite-unique : (x : Float) (a b : Bool) → a ≡ finite x → b ≡ finite x → a ≡ b
 is-finite-unique x = determined
@@ -19,6 +19,9 @@ is-product-unique n a b = determined
 -- both of weights and of taps
 unsound-unique : (xs : List Float) (a b : Bool) → a ≡ unsound xs → b ≡ unsound xs → a ≡ b
 unsound-unique xs = determined
+
+is-unfit-unique : (size planes stride frames : ℕ) (a b : Bool) → a ≡ unfit size planes stride frames → b ≡ unfit size planes stride frames → a ≡ b
+is-unfit-unique size planes stride frames = determined
 
 is-block-unfit-unique : (inputs channels out outputs stride frames : ℕ) (a b : Bool) → a ≡ blockUnfit inputs channels out outputs stride frames
     → b ≡ blockUnfit inputs channels out outputs stride frames → a ≡ b

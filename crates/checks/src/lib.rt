@@ -64,7 +64,7 @@ pub fn is_product(n: usize, a: usize, b: usize) -> bool
 }
 
 // Whether a list of `size` samples does not fit as planes of `stride` places, of which `frames` are used.
-fn is_unfit(size: usize, planes: usize, stride: usize, frames: usize) -> bool
+pub fn is_unfit(size: usize, planes: usize, stride: usize, frames: usize) -> bool
     ensures { λ r. ⌜ r ≡ unfit size planes stride frames ⌝ }
 {
     if stride < frames {

@@ -2,19 +2,23 @@
 use mathlib.Core.Path.{_≡_, ap, _∙_}
 use mathlib.Core.Bool.{Bool, true, false, cond}
 use mathlib.Core.List.{List, [], _∷_, _++_}
-use Prim.Native.Nat.{ℕ, zero, suc, _+_, _*_, _/_, _%_, _≤_, _<_}
+use Prim.Native.Nat.{ℕ, zero, suc, _+_, _/_, _%_, _≤_, _<_}
 use native.Mathlib.Omega.{arith}
 use lib.Dec.{ltb}
 use lib.ListN.{length, getD, length-append}
+use lib.Ieee.{Float}
 use Rattle.lists.proofs.Tables.{length-tab, getD-tab}
 use Rattle.big_endian.specs.Fields.{floatAt}
+use Rattle.lists.specs.Tables.{row}
 use Rattle.big_endian.proofs.Lists.{length-strided}
-use Rattle.wire.specs.Frames.{frameIn, wholeIn, framesIn}
+use Rattle.wire.specs.Records.{wholeIn}
+use Rattle.wire.specs.Frames.{frameOf, lineFrames}
 use Rattle.wire.specs.Line.{decimalBy, decimal, framesWord, unsettledWord, refusedWord, newline, framesLine, refusedLine}
 
-pub six-each : (bytes : List ℕ) (n : ℕ) → n < length (framesIn bytes) → length (getD (framesIn bytes) n []) ≡ 6
+pub six-each : (bytes : List ℕ) (n : ℕ) → n < length (lineFrames bytes) → length (getD (lineFrames bytes) n []) ≡ 6
 six-each bytes n h =
-    ap length (getD-tab 0 (wholeIn bytes) (frameIn bytes) n [] (omega (arith, length-tab 0 (wholeIn bytes) (frameIn bytes)))) ∙ length-strided (floatAt bytes) 4 ((0 + n) * 24) 6
+    let frame : ℕ → List Float = λ i. frameOf (row 24 i bytes) in
+    ap length (getD-tab 0 (wholeIn 24 bytes) frame n [] (omega (arith, length-tab 0 (wholeIn 24 bytes) frame))) ∙ length-strided (floatAt (row 24 (0 + n) bytes)) 4 0 6
 
 -- one digit, or one more than the number's tenth has
 one-more : (t : Bool) (k digit last : ℕ) (before : List ℕ) → length before ≤ k → length (cond t (digit ∷ []) (before ++ (last ∷ []))) ≤ suc k

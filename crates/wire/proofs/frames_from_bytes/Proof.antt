@@ -1,56 +1,27 @@
--- `wire::frames_from_bytes` meets its contract: `Framing`. Assumes nothing.
-use mathlib.Core.Path.{refl}
-use Prim.Native.Nat.{_-_}
-use native.Mathlib.Omega.{arith}
-use denote.Ref.{now}
-use Rattle.planes.proofs.Framing.{Framing, framing-none, framing-more, framing-all}
-use Rattle.wire.specs.Frames.{wholeIn, frameIn}
+-- `wire::frames_from_bytes` meets its contract. Assumes nothing.
+use mathlib.Core.Path.{refl, sym, _∙_}
+use Rattle.wire.proofs.Meets.{taken-refused, taken-filled}
+use borrow.Author.Needs.{needs}
 use Rattle.wire.proofs.frames_from_bytes.Statement.{statement}
 use Rattle.wire.proofs.frames_from_bytes.Tie as tie
 
-abbrev Inv-loop : tie.InvT-loop
-Inv-loop bytes stride inputs₀ frames n₀ inputs n = Framing inputs₀ stride (wholeIn bytes) (frameIn bytes) inputs n
+is-unfit-requires : tie.Need-is-unfit-requires
+is-unfit-requires c κs = search needs
 
-abbrev μ-loop : tie.MeasureT-loop
-μ-loop bytes stride inputs₀ frames n₀ inputs n = frames - n
+returns : tie.Need-returns
+returns c = sym (taken-refused _ _ _ (sym (c .before .is-unfit .ensures) ∙ c .if1 .taken))
 
-loop-holds : tie.Need-loop-holds Inv-loop μ-loop
-loop-holds c = let a = c .before .before .args in framing-none (now (a .inputs)) (a .stride) (wholeIn (now (a .bytes))) (frameIn (now (a .bytes)))
+take-frames-requires : tie.Need-take-frames-requires
+take-frames-requires c κs = refl
 
-take-frame-requires : tie.Need-take-frame-requires Inv-loop μ-loop
-take-frame-requires c κs = omega arith
+same-length : tie.Need-same-length
+same-length c = search needs
 
-add-n : tie.Need-add-n Inv-loop μ-loop
-add-n c = omega arith
-
-loop-less : tie.Need-loop-less Inv-loop μ-loop
-loop-less c = omega arith
-
-loop-again : tie.Need-loop-again Inv-loop μ-loop
-loop-again c =
-    let a = c .before .before .before .before .before .before .before .before .args in
-    let at = c .before .before .before .before .before .loop in
-    framing-more (now (a .inputs)) (a .stride) (wholeIn (now (a .bytes))) (frameIn (now (a .bytes))) (at .inputs) (at .n) (at .inv) _ (c .before .before .before .before .loop-test .taken) (c .before .before .take-frame .ensures)
-
-same-length : tie.Need-same-length Inv-loop μ-loop
-same-length c = omega arith
-
-returns : tie.Need-returns Inv-loop μ-loop
-returns c =
-    let a = c .before .before .before .before .args in
-    let at = c .before .loop in
-    record { count = refl; filled = framing-all (now (a .inputs)) (a .stride) (wholeIn (now (a .bytes))) (frameIn (now (a .bytes))) (at .inputs) (at .n) (at .inv) (c .loop-test .left) }
+returns-2 : tie.Need-returns-2
+returns-2 c =
+    let taken = c .before .before in
+    let fits = taken .before .before in
+    taken-filled _ _ _ _ (sym (fits .before .is-unfit .ensures) ∙ fits .if1 .left) (taken .take-frames .ensures)
 
 pub frames-from-bytes-spec : {M : Type 1} → statement M
-frames-from-bytes-spec =
-    tie.close
-    (tie.spec
-    Inv-loop
-    μ-loop
-    loop-holds
-    take-frame-requires
-    add-n
-    loop-less
-    loop-again
-    same-length
-    returns)
+frames-from-bytes-spec = tie.close (tie.spec is-unfit-requires returns take-frames-requires same-length returns-2)

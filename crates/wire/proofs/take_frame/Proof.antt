@@ -1,5 +1,5 @@
 -- `wire::take_frame` meets its contract: `Sampling`. Assumes nothing.
-use Prim.Native.Nat.{ℕ, _-_, _+_, _*_}
+use Prim.Native.Nat.{ℕ, _-_, _*_}
 use native.Mathlib.Omega.{arith}
 use mathlib.Core.List.{List}
 use denote.Ref.{now}
@@ -10,27 +10,21 @@ use Rattle.planes.proofs.Framing.{Sampling, sampling-none, sampling-more, sampl
 use Rattle.wire.proofs.take_frame.Statement.{statement}
 use Rattle.wire.proofs.take_frame.Tie as tie
 
--- channel c of frame n
-abbrev channel : List ℕ → ℕ → ℕ → Float
-channel bytes n c = floatAt bytes (n * 24 + c * 4)
+-- channel c of a frame
+abbrev channel : List ℕ → ℕ → Float
+channel bytes c = floatAt bytes (c * 4)
 
 abbrev Inv-loop : tie.InvT-loop
-Inv-loop bytes n stride inputs₀ c₀ inputs c = Sampling inputs₀ stride n 6 (channel bytes n) inputs c
+Inv-loop bytes n stride inputs₀ c₀ inputs c = Sampling inputs₀ stride n 6 (channel bytes) inputs c
 
 abbrev μ-loop : tie.MeasureT-loop
 μ-loop bytes n stride inputs₀ c₀ inputs c = 6 - c
 
 loop-holds : tie.Need-loop-holds Inv-loop μ-loop
-loop-holds c = let a = c .before .before .args in sampling-none (now (a .inputs)) (a .stride) (a .n) 6 (channel (now (a .bytes)) (a .n))
+loop-holds c = let a = c .before .before .args in sampling-none (now (a .inputs)) (a .stride) (a .n) 6 (channel (now (a .bytes)))
 
 mul-get-f32 : tie.Need-mul-get-f32 Inv-loop μ-loop
 mul-get-f32 c = omega arith
-
-mul-get-f32-2 : tie.Need-mul-get-f32-2 Inv-loop μ-loop
-mul-get-f32-2 c = omega arith
-
-add-get-f32 : tie.Need-add-get-f32 Inv-loop μ-loop
-add-get-f32 c = omega arith
 
 get-f32-requires : tie.Need-get-f32-requires Inv-loop μ-loop
 get-f32-requires c κs = tt
@@ -48,7 +42,7 @@ loop-again : tie.Need-loop-again Inv-loop μ-loop
 loop-again c =
     let a = c .before .before .before .before .before .before .before .before .before .args in
     let at = c .before .before .before .before .before .before .loop in
-    sampling-more (now (a .inputs)) (a .stride) (a .n) 6 (channel (now (a .bytes)) (a .n)) (at .inputs) (at .c) (at .inv) _ _ (c .before .before .before .before .before .loop-test .taken) (c .before .before .before .before .get-f32 .ensures) (c .before .before .put-sample .ensures)
+    sampling-more (now (a .inputs)) (a .stride) (a .n) 6 (channel (now (a .bytes))) (at .inputs) (at .c) (at .inv) _ _ (c .before .before .before .before .before .loop-test .taken) (c .before .before .before .before .get-f32 .ensures) (c .before .before .put-sample .ensures)
 
 same-length : tie.Need-same-length Inv-loop μ-loop
 same-length c = omega arith
@@ -58,7 +52,7 @@ unfolding strided
 returns c =
     let a = c .before .before .before .before .args in
     let at = c .before .loop in
-    sampling-all (now (a .inputs)) (a .stride) (a .n) 6 (channel (now (a .bytes)) (a .n)) (at .inputs) (at .c) (at .inv) (c .loop-test .left)
+    sampling-all (now (a .inputs)) (a .stride) (a .n) 6 (channel (now (a .bytes))) (at .inputs) (at .c) (at .inv) (c .loop-test .left)
 
 pub take-frame-spec : {M : Type 1} → statement M
 take-frame-spec =
@@ -68,8 +62,6 @@ take-frame-spec =
     μ-loop
     loop-holds
     mul-get-f32
-    mul-get-f32-2
-    add-get-f32
     get-f32-requires
     put-sample-requires
     add-c

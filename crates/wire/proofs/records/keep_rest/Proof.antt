@@ -1,19 +1,22 @@
--- `ears_play::keep_rest` meets its contract: `Kept`. Assumes nothing.
+-- `wire::records::keep_rest` meets its contract: `Kept`. Assumes nothing.
 use Prim.Native.Nat.{_+_, _-_}
 use native.Mathlib.Omega.{arith}
 use denote.Ref.{now}
-use Rattle.ears_play.proofs.Keeping.{Kept, kept-none, kept-more, kept-all}
-use Rattle.ears_play.proofs.keep_rest.Statement.{statement}
-use Rattle.ears_play.proofs.keep_rest.Tie as tie
+use Rattle.wire.proofs.Keeping.{Kept, kept-none, kept-more, kept-all}
+use Rattle.wire.proofs.records.keep_rest.Statement.{statement}
+use Rattle.wire.proofs.records.keep_rest.Tie as tie
 
 abbrev Inv-loop : tie.InvT-loop
-Inv-loop bytes₀ from to i₀ bytes i = Kept bytes₀ from to bytes i
+Inv-loop bytes₀ from to end i₀ bytes i = Kept bytes₀ from end bytes i
 
 abbrev μ-loop : tie.MeasureT-loop
-μ-loop bytes₀ from to i₀ bytes i = to - (from + i)
+μ-loop bytes₀ from to end i₀ bytes i = end - (from + i)
+
+least-requires : tie.Need-least-requires Inv-loop μ-loop
+least-requires c κs = tt
 
 loop-holds : tie.Need-loop-holds Inv-loop μ-loop
-loop-holds c = kept-none _ _ _ (c .pre .0) (c .pre .1)
+loop-holds c = kept-none _ _ _ (omega (arith, c .least .ensures))
 
 add-loop : tie.Need-add-loop Inv-loop μ-loop
 add-loop c = omega arith
@@ -35,18 +38,20 @@ loop-less c = omega arith
 
 loop-again : tie.Need-loop-again Inv-loop μ-loop
 loop-again c =
-    let a = c .before .before .before .args in
+    let least = c .before .before .before in
+    let a = least .before .before .args in
     let at = c .before .before .loop in
-    kept-more (now (a .bytes)) (a .from) (a .to) (at .bytes) (at .i) (at .inv) (c .before .loop-test .taken)
+    kept-more (now (a .bytes)) (a .from) (least .least .result) (at .bytes) (at .i) (at .inv) (c .before .loop-test .taken)
 
 same-length : tie.Need-same-length Inv-loop μ-loop
 same-length c = omega arith
 
 returns : tie.Need-returns Inv-loop μ-loop
 returns c =
-    let a = c .before .before .args in
+    let least = c .before .before in
+    let a = least .before .before .args in
     let at = c .before .loop in
-    kept-all (now (a .bytes)) (a .from) (a .to) (at .bytes) (at .i) (at .inv) (c .loop-test .left)
+    kept-all (now (a .bytes)) (a .from) (least .least .result) (at .bytes) (at .i) (at .inv) (a .to) (least .least .ensures) (c .loop-test .left)
 
 pub keep-rest-spec : {M : Type 1} → statement M
 keep-rest-spec =
@@ -54,6 +59,7 @@ keep-rest-spec =
     (tie.spec
     Inv-loop
     μ-loop
+    least-requires
     loop-holds
     add-loop
     add-bytes

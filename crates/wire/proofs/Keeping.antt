@@ -1,12 +1,13 @@
 -- A part of a list moved to its start, byte by byte: what is still to be moved is as it was. Assumes nothing.
 use mathlib.Core.Path.{_≡_, refl, sym, ap, _∙_}
 use mathlib.Core.List.{List, [], _∷_, _++_}
-use Prim.Native.Nat.{ℕ, _+_, _-_, _≤_, _<_}
+use Prim.Native.Nat.{ℕ, _+_, _-_, _≤_, _<_, min}
 use native.Mathlib.Numerals.{add-one}
 use native.Mathlib.Omega.{arith}
 use lib.ListN.{length, getD, set, take, drop, length-set, length-drop}
 use lib.Seq.{take-suc, getD-drop, getD-append-add, length-take-le}
 use Rattle.lists.specs.Placed.{placed}
+use Rattle.lists.proofs.Lists.{drop-take, take-min}
 use Rattle.lists.proofs.Placed.{placed-none, placed-start, store-on}
 
 -- behind a part at the start the list is as it was
@@ -22,13 +23,13 @@ behind xs part j h =
 -- i of the bytes from `from` up to `to` are moved
 pub record Kept (xs : List ℕ) (from to : ℕ) (ys : List ℕ) (i : ℕ) : Type 0 where
   pub room : to ≤ length xs
-  pub below : from + i ≤ to
+  pub below : i ≤ to - from
   pub long : length ys ≡ length xs
   pub moved : ys ≡ placed xs 0 (take i (drop from xs))
 
 module _ (xs : List ℕ) (from to : ℕ) where
-  pub kept-none : from ≤ to → to ≤ length xs → Kept xs from to xs 0
-  kept-none h room = record { room = room; below = omega arith; long = refl; moved = sym (placed-none xs 0) }
+  pub kept-none : to ≤ length xs → Kept xs from to xs 0
+  kept-none room = record { room = room; below = omega arith; long = refl; moved = sym (placed-none xs 0) }
 
   module _ (ys : List ℕ) (i : ℕ) (k : Kept xs from to ys i) where
     some : length (take i (drop from xs)) ≡ i
@@ -53,5 +54,8 @@ module _ (xs : List ℕ) (from to : ℕ) where
               ∙ store-on xs 0 i part (getD (drop from xs) i 0) some (omega (arith, k .room)) ∙ ap (placed xs 0) more;
         }
 
-    pub kept-all : to ≤ from + i → ys ≡ placed xs 0 (take (to - from) (drop from xs))
-    kept-all h = let all : i ≡ to - from = omega (arith, k .below) in k .moved ∙ ap (λ (j : ℕ). placed xs 0 (take j (drop from xs))) all
+    pub kept-all : (end : ℕ) → to ≡ min end (length xs) → to ≤ from + i → ys ≡ placed xs 0 (drop from (take end xs))
+    kept-all end e h =
+        let all : i ≡ to - from = omega (arith, k .below) in
+        k .moved ∙ ap (λ (j : ℕ). placed xs 0 (take j (drop from xs))) all
+        ∙ ap (placed xs 0) (sym (drop-take from to xs) ∙ ap (drop from) (take-min xs end to e))

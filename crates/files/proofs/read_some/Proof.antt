@@ -1,0 +1,55 @@
+-- `files::read_some` meets its contract: what stands before the part that is read into stays. Assumes nothing.
+use Prim.Native.Nat.{_-_}
+use native.Mathlib.Omega.{arith}
+use borrow.Rule.Slice.PartMut.{take-put}
+use Rattle.files.proofs.Parts.{behind}
+use borrow.Author.Needs.{needs}
+use Rattle.files.proofs.read_some.Statement.{statement}
+use Rattle.files.proofs.read_some.Tie as tie
+
+least-requires : tie.Need-least-requires
+least-requires c κs = search needs
+
+end-of-read-requires : tie.Need-end-of-read-requires
+end-of-read-requires c κs = search needs
+
+sub-read-into : tie.Need-sub-read-into
+sub-read-into c = search needs
+
+part-read-into-start : tie.Need-part-read-into-start
+part-read-into-start c = search needs
+
+part-read-into-end : tie.Need-part-read-into-end
+part-read-into-end c = search needs
+
+read-into-requires : tie.Need-read-into-requires
+read-into-requires c κs = search needs
+
+add-t8 : tie.Need-add-t8
+add-t8 c = search needs
+
+same-length : tie.Need-same-length
+same-length c = search needs
+
+returns : tie.Need-returns
+returns c =
+    let read = c .before .before .before in
+    let ended = read .before .before in
+    let least = ended .before in
+    let args = least .before .before .args in
+    behind (args .held) (least .least .result) _ _ _ (least .least .ensures) (search needs) (omega arith) (search needs)
+    (take-put (least .least .result) (ended .end-of-read .result - least .least .result) (args .bytes .now) (read .read-into .last .1 .0) (omega (arith, least .least .ensures)))
+
+pub read-some-spec : {M : Type 1} → statement M
+read-some-spec =
+    tie.close
+    (tie.spec
+    least-requires
+    end-of-read-requires
+    sub-read-into
+    part-read-into-start
+    part-read-into-end
+    read-into-requires
+    add-t8
+    same-length
+    returns)

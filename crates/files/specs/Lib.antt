@@ -1,0 +1,2 @@
+-- The words of the promises of `files`.
+pub mod Promises

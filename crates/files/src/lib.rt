@@ -1,0 +1,99 @@
+// The files of the programs: a bank is read whole, by its name; a line is read part by part; the ears' file is opened.
+//
+// What the system hands over no contract can name. So a read promises where its bytes stand and that those before
+// them stay, and a bank that what is answered is what `bank::read` promises for the bytes of some file.
+use bank::BankRead;
+use libc::STDERR_FILENO;
+ghost use mathlib.Core.Path.{_≡_};
+ghost use Prim.Native.Nat.{_≤_, _<_};
+ghost use lib.ListN.{length};
+ghost use Rattle.io.specs.Counts.{Counts};
+ghost use Rattle.files.specs.Promises.{ReadBehind, Found};
+
+// Whether a read failed, and how many bytes now stand in the buffer. One that failed has added none.
+pub struct Got {
+    pub failed: bool,
+    pub size: usize,
+}
+
+// Where a read that begins at `at` ends in a buffer of `size` bytes: `limit` bytes on, one at the least.
+fn end_of_read(at: usize, limit: usize, size: usize) -> usize
+    requires { ⌜ at ≤ size ⌝ }
+    ensures { λ r. ⌜ (at ≤ r) × (r ≤ size) × (at < size → at < r) ⌝ }
+{
+    if size - at <= limit {
+        return size;
+    }
+    if limit == 0 {
+        return at + 1;
+    }
+    at + limit
+}
+
+// One read into a part of a buffer, in which nothing is held.
+fn read_into(file: i32, part: &mut [u8]) -> Got
+    ensures { λ r. ⌜ r .size ≤ length (now (part .exit)) ⌝ }
+{
+    let got = libc::read(file, part);
+    Got {
+        failed: got < 0,
+        size: io::count(got, part),
+    }
+}
+
+// Reads once behind the bytes that are held, which stay. Where there is no room behind them it adds none.
+pub fn read_some(file: i32, held: usize, limit: usize, bytes: &mut [u8]) -> Got
+    ensures { λ r. ⌜ ReadBehind held (now (bytes .entry)) (r .size) (now (bytes .exit)) ⌝ }
+{
+    let at = checks::least(held, bytes.len());
+    let end = end_of_read(at, limit, bytes.len());
+    let got = read_into(file, &mut bytes[at..end]);
+    Got {
+        failed: got.failed,
+        size: at + got.size,
+    }
+}
+
+// Reads until the file ends or the list is full, and answers how many bytes came: none where a read fails.
+fn fill(file: i32, bytes: &mut [u8]) -> usize
+    ensures { λ r. ⌜ Counts r (now (bytes .exit)) ⌝ }
+{
+    let mut at = 0;
+    while at < bytes.len() {
+        let got = read_some(file, at, usize::MAX, bytes);
+        if got.failed {
+            return 0;
+        }
+        if got.size == at {
+            return at;
+        }
+        at = got.size;
+    }
+    at
+}
+
+// Reads the bank of a name. One that is missing, or cannot be read, counts as a file of no bytes, which breaks the
+// form: from a name that cannot be opened no read succeeds. The buffer is one byte longer than the largest bank, so
+// that a file that is too long is seen to be.
+pub fn read_bank(path: &[u8], azimuths: &mut [i16], taps: &mut [f32]) -> BankRead
+    ensures { λ r. ⌜ Found (now (azimuths .entry)) (now (taps .entry)) (record { answer = r; azimuths = now (azimuths .exit); taps = now (taps .exit) }) ⌝ }
+{
+    let file = os::open_read(path);
+    let mut bytes = [0u8; 32794];
+    let n = fill(file, &mut bytes);
+    libc::close(file);
+    bank::read(&bytes[..n], azimuths, taps)
+}
+
+// Opens the file of a name for the ears and empties it; a negative number where that fails. Where standard error is
+// closed the system would give its number to the file, and messages would stand among the samples: then the file is
+// opened a second time.
+pub fn open_out(path: &[u8]) -> i32 {
+    let first = os::open_overwrite(path);
+    if first != STDERR_FILENO {
+        return first;
+    }
+    let second = os::open_overwrite(path);
+    libc::close(first);
+    second
+}

@@ -1,0 +1,59 @@
+-- Which answer is promised where the lists fit, and where they do not. Assumes nothing.
+use mathlib.Core.Path.{_≡_, refl, sym, ap, _∙_}
+use mathlib.Core.Bool.{Bool, true, false}
+use mathlib.Core.List.{List, [], _∷_}
+use Prim.Native.Nat.{ℕ, _*_, _/_, _≤_, _<_}
+use native.Mathlib.Omega.{arith}
+use borrow.Author.Tests.{lt-ltb, le-ltb}
+use lib.Dec.{ltb}
+use lib.ListN.{length}
+use lib.Ieee.{Float}
+use Rattle.refusals.specs.Refusals.{firstOf, _when_}
+use Rattle.lists.specs.Placed.{placed}
+use Rattle.checks.specs.Lengths.{unfit}
+use Rattle.planes.specs.Planes.{framesOf, withFrames}
+use Rattle.wire.specs.Records.{wholeIn}
+use Rattle.wire.specs.Frames.{lineFrames}
+use Rattle.wire.specs.Ears.{earBytes}
+use Rattle.wire.specs.Promises.{FramesTaken, takenBy, framesTaken, EarsGiven, givenBy, earsGiven}
+
+module _ (bytes : List ℕ) (stride : ℕ) (inputs : List Float) where
+  taken-by : (b : Bool) → unfit (length inputs) 6 stride (wholeIn 24 bytes) ≡ b → framesTaken bytes stride inputs ≡ takenBy (firstOf (5 when b ∷ [])) bytes stride inputs
+  unfolding framesTaken
+  taken-by b e = ap (λ (t : Bool). takenBy (firstOf (5 when t ∷ [])) bytes stride inputs) e
+
+  pub taken-refused : unfit (length inputs) 6 stride (wholeIn 24 bytes) ≡ true → framesTaken bytes stride inputs ≡ record { answer = record { refusal = 5; frames = 0 }; inputs = inputs }
+  taken-refused e = taken-by true e
+
+  pub taken-accepted : unfit (length inputs) 6 stride (wholeIn 24 bytes) ≡ false
+      → framesTaken bytes stride inputs ≡ record { answer = record { refusal = 0; frames = wholeIn 24 bytes }; inputs = withFrames inputs stride 0 (lineFrames bytes) }
+  taken-accepted e = taken-by false e
+
+  -- the planes having been filled
+  pub taken-filled : (after : List Float) → unfit (length inputs) 6 stride (wholeIn 24 bytes) ≡ false → after ≡ withFrames inputs stride 0 (lineFrames bytes)
+      → record { answer = record { refusal = 0; frames = wholeIn 24 bytes }; inputs = after } ≡ framesTaken bytes stride inputs
+  taken-filled after e f = ap {B = FramesTaken} (λ (l : List Float). record { answer = record { refusal = 0; frames = wholeIn 24 bytes }; inputs = l }) f ∙ sym (taken-accepted e)
+
+module _ (ears : List Float) (stride frames : ℕ) (out : List ℕ) where
+  pub given-by : (b t : Bool) → unfit (length ears) 2 stride frames ≡ b → ltb (length out) (frames * 8) ≡ t
+      → earsGiven ears stride frames out ≡ givenBy (firstOf (5 when b ∷ 5 when t ∷ [])) ears stride frames out
+  unfolding earsGiven
+  given-by b t e f = rw (e, f)
+
+  abbrev kept : EarsGiven
+  kept = record { answer = record { refusal = 5; bytes = 0 }; out = out }
+
+  pub given-unfit : unfit (length ears) 2 stride frames ≡ true → earsGiven ears stride frames out ≡ kept
+  given-unfit e = given-by true (ltb (length out) (frames * 8)) e refl
+
+  pub given-short : unfit (length ears) 2 stride frames ≡ false → length out / 8 < frames → earsGiven ears stride frames out ≡ kept
+  given-short e h = given-by false true e (lt-ltb (length out) (frames * 8) (omega arith))
+
+  pub given-accepted : unfit (length ears) 2 stride frames ≡ false → frames * 8 ≤ length out
+      → earsGiven ears stride frames out ≡ record { answer = record { refusal = 0; bytes = frames * 8 }; out = placed out 0 (earBytes (framesOf ears stride 2 frames)) }
+  given-accepted e h = given-by false false e (le-ltb (length out) (frames * 8) h)
+
+  -- the bytes having been put
+  pub given-filled : (after : List ℕ) → unfit (length ears) 2 stride frames ≡ false → frames * 8 ≤ length out → after ≡ placed out 0 (earBytes (framesOf ears stride 2 frames))
+      → record { answer = record { refusal = 0; bytes = frames * 8 }; out = after } ≡ earsGiven ears stride frames out
+  given-filled after e h f = ap {B = EarsGiven} (λ (l : List ℕ). record { answer = record { refusal = 0; bytes = frames * 8 }; out = l }) f ∙ sym (given-accepted e h)
