@@ -9,7 +9,7 @@ use lib.Ieee.{Float}
 use Rattle.checks.proofs.Checks.{not-outside}
 use Rattle.planes.proofs.Planes.{length-with-frames}
 use Rattle.checks.specs.Finite.{unsound}
-use Rattle.rings.specs.Represents.{Represents}
+use Rattle.rings.specs.Held.{Represents}
 use Rattle.rings.proofs.ToGo.{to-go-below}
 use Rattle.hrtf_checks.specs.Refusals.{misfit, astray, refusalOf}
 use Rattle.hrtf_checks.proofs.Refusing.{lengths-fit, on-desk, accept}

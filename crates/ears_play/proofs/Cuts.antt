@@ -14,7 +14,7 @@ use Rattle.formats.specs.Floats.{zero-float}
 use Rattle.history.specs.Setup.{Setup}
 use Rattle.history.specs.History.{heard, unsettledIn, after}
 use Rattle.history.proofs.Pieces.{after-append, heard-append, unsettled-append}
-use Rattle.rings.specs.Represents.{Represents}
+use Rattle.rings.specs.Held.{Represents}
 use Rattle.rings.proofs.Blocks.{fresh-represents}
 use Rattle.hrtf_checks.specs.Refusals.{refusalOf}
 use Rattle.hrtf.specs.Promise.{outcome}

@@ -14,7 +14,7 @@ use Rattle.lists.proofs.Tables.{length-tab}
 use Rattle.planes.proofs.Planes.{length-with-frames, frames-read}
 use Rattle.history.specs.History.{heard, unsettledIn, after}
 use Rattle.history.proofs.Pieces.{length-heard, two-each}
-use Rattle.rings.specs.Represents.{Represents}
+use Rattle.rings.specs.Held.{Represents}
 use Rattle.hrtf_checks.specs.Call.{Call}
 use Rattle.hrtf_checks.specs.Refusals.{refusalOf}
 use Rattle.hrtf_checks.proofs.Refusing.{inputs-fit, ears-fit}

@@ -7,7 +7,7 @@ use lib.Ieee.{Float}
 use Rattle.lists.specs.Placed.{placed}
 use Rattle.history.specs.Setup.{Setup}
 use Rattle.history.specs.History.{heard, unsettledIn, after}
-use Rattle.rings.specs.Represents.{Represents}
+use Rattle.rings.specs.Held.{Represents}
 use Rattle.wire.specs.Frames.{wholeIn, framesIn, restIn}
 use Rattle.wire.specs.Ears.{earBytes}
 use Rattle.ears_play.specs.declared.Progress.{Progress}

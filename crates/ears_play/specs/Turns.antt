@@ -11,7 +11,7 @@ use Rattle.planes.specs.Planes.{framesOf, withFrames}
 use Rattle.history.specs.Setup.{Setup}
 use Rattle.history.specs.History.{heard, unsettledIn, after}
 use Rattle.rings.specs.State.{State}
-use Rattle.rings.specs.Represents.{Represents}
+use Rattle.rings.specs.Held.{Represents}
 use Rattle.hrtf_checks.specs.declared.Shape.{Shape}
 use Rattle.hrtf_checks.specs.Call.{Call, setupOf}
 use Rattle.hrtf_checks.specs.Refusals.{refusalOf}

@@ -21,8 +21,7 @@ use Rattle.history.specs.History.{earSamples, heard, unsettledIn, after}
 use Rattle.history.proofs.Pieces.{length-heard, heard-from, two-each}
 use Rattle.rings.specs.State.{State}
 use Rattle.rings.specs.Computed.{left, played, counted}
-use Rattle.rings.specs.Held.{heldIn, afterFrames}
-use Rattle.rings.specs.Represents.{Represents}
+use Rattle.rings.specs.Held.{heldIn, afterFrames, Represents}
 use Rattle.rings.proofs.Blocks.{played-held, left-is, counted-is, played-heard, counted-told, left-kept, fresh-represents}
 use Rattle.hrtf_checks.specs.Call.{Call, setup, framesIn}
 use Rattle.hrtf_checks.specs.Refusals.{refusalOf}

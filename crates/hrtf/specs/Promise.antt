@@ -8,8 +8,7 @@ use Rattle.refusals.specs.Refusals.{answered}
 use Rattle.planes.specs.Planes.{withFrames}
 use Rattle.history.specs.History.{heard, unsettledIn, after}
 use Rattle.rings.specs.State.{State}
-use Rattle.rings.specs.Held.{heldIn, afterFrames}
-use Rattle.rings.specs.Represents.{Represents}
+use Rattle.rings.specs.Held.{heldIn, afterFrames, Represents}
 use Rattle.hrtf.specs.declared.Processed.{Processed}
 use Rattle.hrtf_checks.specs.Call.{Call, setup, framesIn}
 use Rattle.hrtf_checks.specs.Refusals.{refusalOf}

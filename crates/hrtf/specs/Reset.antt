@@ -11,7 +11,7 @@ use Rattle.refusals.specs.Refusals.{Check, firstOf, _when_, answered, outside}
 use Rattle.desk.specs.declared.Desk.{Desk}
 use Rattle.desk.specs.Numbers.{zeroed}
 use Rattle.history.specs.Setup.{Setup}
-use Rattle.rings.specs.Represents.{Represents}
+use Rattle.rings.specs.Held.{Represents}
 use Rattle.hrtf.specs.declared.Rested.{Rested}
 
 abbrev pub resetChecks : ℕ → ℕ → List Float → List Check

@@ -1,7 +1,7 @@
 -- Frames played one after another. THE LAW OF EVERY STATE: from any rings as long as they have to be and any desk whose numbers are below L, the program's steps give document 01's sums over the frames'
 -- signals and what the rings held (`played-held`), leave the rings that hold the newest L of these (`left-is`), and count the frames that are unsettled (`counted-is`). Then the same over a past that rings
 -- and desk stand for; what a reset leaves stands for none. And frames played in two pieces give what the whole gives. Assumes nothing.
-use mathlib.Core.Path.{_≡_, refl, sym, ap, _∙_}
+use mathlib.Core.Path.{_≡_, refl, sym, ap, _∙_, subst}
 use mathlib.Core.Bool.{cond}
 use mathlib.Core.List.{List, [], _∷_, _++_, map, reverse}
 use Prim.Native.Nat.{ℕ, _+_, _-_, _*_, _%_, _≤_, _<_}
@@ -21,10 +21,10 @@ use Rattle.history.specs.Setup.{Setup}
 use Rattle.history.specs.Signals.{signals, damaged}
 use Rattle.history.specs.History.{window, heard, unsettledEach, unsettledIn, after}
 use Rattle.rings.specs.State.{State}
-use Rattle.rings.specs.Held.{heldIn, ringsOf, toGoAfter, afterFrames}
+use Rattle.rings.specs.Held.{heldIn, ringsOf, stateOf, toGoAfter, afterFrames, Represents}
 use Rattle.rings.specs.Computed.{ears, late, stepped, left, played, lateEach, counted}
-use Rattle.rings.specs.Represents.{Represents}
-use Rattle.rings.proofs.Held.{Holds, holds-held, holds-last, last-holds, rings-are}
+use Rattle.rings.proofs.Held.{Holds, holds-held, holds-put, rings-are}
+use Rattle.rings.proofs.ToGo.{to-go-below}
 use Rattle.rings.proofs.Told.{kept, ears-told, waits-on, late-told}
 
 -- "every ring 0.0, both numbers 0"
@@ -82,29 +82,36 @@ module _ (u : Setup) where
 
   -- ---- a past that rings and desk stand for
 
+  represents : (past : List (List Float)) (t : State) → Holds u past t → t .desk .«to_go» ≡ toGoAfter (u .L) 0 (map unsound past) → Represents u past t
+  represents past t h w = (h .within, λ i. record { rings = rings-are u t past h i; desk = record { position = t .desk .position; «to_go» = w i } })
+
   module _ (past : List (List Float)) (t : State) (r : Represents u past t) where
     holds : Holds u past t
-    holds = last-holds u t past (r .room) (r .within) (r .held)
+    holds = subst (Holds u past) (sym (r .1)) (holds-put u (stateOf u (t .desk .position) (toGoAfter (u .L) 0 (map unsound past)) past .desk) past (r .0))
+
+    waits : t .desk .«to_go» ≡ toGoAfter (u .L) 0 (map unsound past)
+    waits = ap (λ (s : State). s .desk .«to_go») (r .1)
+
+    pub rings-room : length (t .rings) ≡ u .speakers * u .L
+    rings-room = holds .room
+
+    pub waits-few : t .desk .«to_go» < u .L
+    waits-few = subst (λ (n : ℕ). n < u .L) (sym waits) (to-go-below (u .L) 0 (map unsound past) (omega (arith, r .0)))
 
     pub played-heard : (fs : List (List Float)) → played u t fs ≡ heard u past fs
     played-heard fs = played-over past t fs holds
 
     pub counted-told : (fs : List (List Float)) → counted u t fs ≡ unsettledIn u 0 past fs
-    counted-told fs = ap count (late-each 0 past t fs (omega (arith, r .within)) (r .within) (r .waits))
+    counted-told fs = ap count (late-each 0 past t fs (omega (arith, r .0)) (r .0) waits)
 
     pub left-kept : (fs : List (List Float)) → Represents u (after u past fs) (left u t fs)
-    left-kept fs =
-        let h = left-holds past t fs holds in
-        record { room = h .room; within = h .within; held = holds-last u (left u t fs) (after u past fs) h; waits = waits-left 0 past t fs (r .within) (r .waits) }
+    left-kept fs = represents (after u past fs) (left u t fs) (left-holds past t fs holds) (waits-left 0 past t fs (r .0) waits)
 
   -- what a reset leaves
   pub fresh-represents : 0 < u .L → Represents u [] (fresh u)
   fresh-represents h =
-      record { room = room; within = h; held = holds-last u (fresh u) [] (record { room = room; within = h; told = told }); waits = refl }
+      represents [] (fresh u) (record { room = length-replicate (u .speakers * u .L) zero-float; within = h; told = told }) refl
     where
-      room : length (fresh u .rings) ≡ u .speakers * u .L
-      room = length-replicate (u .speakers * u .L) zero-float
-
       fits : (s : ℕ) → s < u .speakers → u .L ≤ u .speakers * u .L - s * u .L
       fits s lt = omega (arith, mul-le-mul-right (u .L) lt, suc-mul s (u .L))
 

@@ -1,4 +1,4 @@
--- What is read out of rings and put back: `heldIn` gives every ring's window, `ringsOf` gives the rings again, and rings hold a past exactly where what is read out of them is its last L frames.
+-- What is read out of rings and put back: every state holds what `heldIn` reads out of it, `ringsOf` gives the rings again, and what is read out of rings that hold a past is its last L frames.
 -- Assumes nothing.
 use mathlib.Core.Path.{_≡_, sym, ap, _∙_}
 use mathlib.Core.List.{List, [], _++_, flatten}
@@ -16,7 +16,7 @@ use Rattle.history.specs.Setup.{Setup}
 use Rattle.history.specs.History.{signalAgo, window}
 use Rattle.rings.specs.Unrolled.{unrolled}
 use Rattle.rings.specs.State.{State}
-use Rattle.rings.specs.Held.{heldIn, lastOf, ringsOf}
+use Rattle.rings.specs.Held.{heldIn, ringsOf}
 use Rattle.rings.proofs.Ring.{length-unrolled, unrolled-twice}
 
 -- rows put one behind the other
@@ -59,6 +59,10 @@ ago-table n speakers G k s hk hs =
     ∙ getD-tab 0 speakers (λ o. G (0 + k) o) s zero-float hs
     ∙ ap (λ (j : ℕ). G j (0 + s)) (zero-add k) ∙ ap (λ (o : ℕ). G k o) (zero-add s)
 
+-- the last L frames of a past, one signal for each speaker
+abbrev pub lastOf : Setup → List (List Float) → List (List Float)
+lastOf u past = tab 0 (u .L) (λ k. tab 0 (u .speakers) (λ s. signalAgo s past k))
+
 -- each ring, read from its newest signal, has the last L of a past
 pub record Holds (u : Setup) (past : List (List Float)) (t : State) : Type 0 where
   pub room : length (t .rings) ≡ u .speakers * u .L
@@ -83,21 +87,12 @@ module _ (u : Setup) (t : State) where
   holds-held room within = record { room = room; within = within; told = λ s lt. sym (window-held room s lt) }
 
   module _ (past : List (List Float)) where
-    -- and a past exactly where that is its last L frames
-    pub holds-last : Holds u past t → heldIn u t ≡ lastOf u past
-    holds-last r =
+    -- what is read out of rings that hold a past is its last L frames
+    held-last : Holds u past t → heldIn u t ≡ lastOf u past
+    held-last r =
         tab-ext 0 (u .L) (λ k. tab 0 (u .speakers) (λ s. getD (unrolled (t .desk .position) (ring s)) k nan)) (λ k. tab 0 (u .speakers) (λ s. signalAgo s past k))
         (λ k hk. tab-ext 0 (u .speakers) (λ s. getD (unrolled (t .desk .position) (ring s)) k nan) (λ s. signalAgo s past k)
         (λ s hs. ap (λ (w : List Float). getD w k nan) (r .told s (omega arith)) ∙ getD-tab 0 (u .L) (signalAgo s past) k nan (omega arith) ∙ ap (signalAgo s past) (zero-add k)))
-
-    pub last-holds : length (t .rings) ≡ u .speakers * u .L → t .desk .position < u .L → heldIn u t ≡ lastOf u past → Holds u past t
-    last-holds room within e =
-        record {
-          room = room;
-          within = within;
-          told = λ s lt. sym (window-held room s lt) ∙ ap (window u s) e
-              ∙ tab-ext 0 (u .L) (signalAgo s (lastOf u past)) (signalAgo s past) (λ k h. ago-table (u .L) (u .speakers) (λ j o. signalAgo o past j) k s (omega arith) lt);
-        }
 
     -- the rings are those that hold it
     pub rings-are : Holds u past t → t .rings ≡ ringsOf u (t .desk .position) past
@@ -115,14 +110,13 @@ module _ (u : Setup) (t : State) where
 pub put-held : (u : Setup) (t : State) → length (t .rings) ≡ u .speakers * u .L → t .desk .position < u .L → ringsOf u (t .desk .position) (heldIn u t) ≡ t .rings
 put-held u t room within = sym (rings-are u t (heldIn u t) (holds-held u t room within))
 
-pub held-put : (u : Setup) (d : Desk) (past : List (List Float)) → d .position < u .L → heldIn u (record { rings = ringsOf u (d .position) past; desk = d }) ≡ lastOf u past
-held-put u d past h =
-    holds-last u (record { rings = ringsOf u (d .position) past; desk = d }) past
-    (record {
+pub holds-put : (u : Setup) (d : Desk) (past : List (List Float)) → d .position < u .L → Holds u past (record { rings = ringsOf u (d .position) past; desk = d })
+holds-put u d past h =
+    record {
       room = length-rows (u .L) turned long 0 (u .speakers);
       within = h;
       told = λ s lt. ap (unrolled (d .position)) (row-of-rows (u .L) turned long 0 (u .speakers) s lt ∙ ap turned (zero-add s)) ∙ unrolled-twice (d .position) (window u s past) (inside s);
-    })
+    }
   where
     turned : ℕ → List Float
     turned s = unrolled (d .position) (window u s past)
@@ -132,3 +126,6 @@ held-put u d past h =
 
     inside : (s : ℕ) → d .position ≤ length (window u s past)
     inside s = omega (arith, h, length-tab 0 (u .L) (signalAgo s past))
+
+pub held-put : (u : Setup) (d : Desk) (past : List (List Float)) → d .position < u .L → heldIn u (record { rings = ringsOf u (d .position) past; desk = d }) ≡ lastOf u past
+held-put u d past h = held-last u (record { rings = ringsOf u (d .position) past; desk = d }) past (holds-put u d past h)

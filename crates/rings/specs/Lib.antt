@@ -1,6 +1,5 @@
--- The rings, what they hold, what the program does with them, and when they stand for a history.
+-- The rings, what they hold and when they stand for a past, and what the program does with them.
 pub mod Unrolled
 pub mod State
 pub mod Held
 pub mod Computed
-pub mod Represents

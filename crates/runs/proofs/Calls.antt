@@ -10,9 +10,8 @@ use Rattle.history.proofs.Pieces.{two-each}
 use Rattle.history.specs.Setup.{Setup, SameFilters}
 use Rattle.history.specs.History.{heard, after}
 use Rattle.rings.specs.State.{State}
-use Rattle.rings.specs.Held.{heldIn}
+use Rattle.rings.specs.Held.{heldIn, Represents}
 use Rattle.rings.specs.Computed.{left, played, counted}
-use Rattle.rings.specs.Represents.{Represents}
 use Rattle.rings.proofs.Blocks.{played-held, counted-told, left-kept, played-append, left-append, counted-append}
 use Rattle.rings.proofs.Filters.{played-alike, left-alike, counted-alike}
 use Rattle.hrtf_checks.specs.Call.{Call, setup, framesIn}

@@ -15,7 +15,7 @@ use Rattle.history.proofs.Silence.{signal-ago, damage-ago, after-is}
 use Rattle.history.proofs.Pieces.{heard-at}
 use Rattle.rings.specs.State.{State}
 use Rattle.rings.specs.Computed.{left, played, counted}
-use Rattle.rings.specs.Represents.{Represents}
+use Rattle.rings.specs.Held.{Represents}
 use Rattle.rings.proofs.Blocks.{played-heard}
 use Rattle.hrtf_checks.specs.Call.{Call}
 use Rattle.hrtf.proofs.Promised.{reset-number}

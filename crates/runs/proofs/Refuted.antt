@@ -17,8 +17,7 @@ use Rattle.history.specs.Drill.{drill}
 use Rattle.history.proofs.Drill.{drill-8, drill-9}
 use Rattle.history.proofs.Loud.{largest, two, loud-unsettled}
 use Rattle.rings.specs.State.{State}
-use Rattle.rings.specs.Held.{heldIn}
-use Rattle.rings.specs.Represents.{Represents}
+use Rattle.rings.specs.Held.{heldIn, Represents}
 use Rattle.rings.proofs.Blocks.{fresh, fresh-represents}
 use Rattle.hrtf_checks.specs.Call.{Call, setup, framesIn}
 use Rattle.hrtf_checks.specs.Refusals.{refusalOf}

@@ -32,6 +32,7 @@ use Rattle.history.specs.Signals.{damaged}
 use Rattle.rings.specs.State.{State}
 use Rattle.rings.specs.Computed.{stepped, left}
 use Rattle.rings.proofs.Told.{length-stored}
+use Rattle.rings.proofs.Blocks.{rings-room, waits-few}
 use Rattle.hrtf_checks.specs.declared.Shape.{Shape}
 use Rattle.hrtf_checks.specs.Call.{Call, setup, framesIn}
 use Rattle.hrtf_checks.specs.Refusals.{misshapen, misfit, astray, refusalOf}
@@ -156,8 +157,8 @@ pub reset-turns : (d : Desk) (speakers L : ℕ) (rings : List Float) (a : AfterR
 reset-turns d speakers L rings a r e =
     let u : Setup = record { channels = 0; speakers = speakers; L = L; weights = []; taps = []; rows = [] } in
     let s = r .fresh (sym (reset-number d speakers L rings a r) ∙ e) u refl refl in
-    let none : a .answer .desk .«to_go» ≡ 0 = s .waits in
-    record { ringed = s .room; within = s .within; waits = omega (arith, none, s .within) }
+    let t : State = record { rings = a .rings; desk = a .answer .desk } in
+    record { ringed = rings-room u [] t s; within = s .0; waits = waits-few u [] t s }
 
 -- ---- from the bank file on
 

@@ -15,7 +15,7 @@ use Rattle.history.proofs.Filters.{same-filters}
 use Rattle.history.specs.History.{heard}
 use Rattle.history.specs.Drill.{drill, samples}
 use Rattle.history.proofs.Drill.{drill-8, drill-9-heard}
-use Rattle.rings.specs.Represents.{Represents}
+use Rattle.rings.specs.Held.{Represents}
 use Rattle.rings.proofs.Blocks.{fresh, fresh-represents}
 use Rattle.hrtf_checks.specs.Call.{Call}
 use Rattle.hrtf_checks.specs.Refusals.{refusalOf}

@@ -27,7 +27,7 @@ module _ (w : ℕ) (some : 0 < w) where
         ap (take w) (drop-append-le (i * w) a b (omega (arith, end))) ∙ take-append-le w (drop (i * w) a) b (omega (arith, end, length-drop (i * w) a))
 
     row-second : (i : ℕ) → row w (k + i) (a ++ b) ≡ row w i b
-    row-second i = ap (take w) (ap (λ (n : ℕ). drop n (a ++ b)) (add-mul k i w) ∙ sym (drop-drop (i * w) (k * w) (a ++ b) ) ∙ ap (drop (i * w)) (drop-at a b (k * w) e))
+    row-second i = ap (take w) (ap (λ (n : ℕ). drop n (a ++ b)) (add-mul k i w) ∙ sym (drop-drop (i * w) (k * w) (a ++ b)) ∙ ap (drop (i * w)) (drop-at a b (k * w) e))
 
     each-both : {A : Type 0} (says : List ℕ → A) → eachIn w says (a ++ b) ≡ eachIn w says a ++ eachIn w says b
     each-both {A} says =
