@@ -46,7 +46,7 @@ module _ (u : Setup) (past qast : List (List Float)) (same : (k s : ℕ) → k <
   ears-same = cc (ear-same 0, ear-same 1)
 
 -- before the first frame there was no damage
-any-ago : (n : ℕ) (past : List (List Float)) → any (take n (map unsound past)) ≡ any (tab 0 n (λ k. unsound (getD past k [])))
+pub any-ago : (n : ℕ) (past : List (List Float)) → any (take n (map unsound past)) ≡ any (tab 0 n (λ k. unsound (getD past k [])))
 any-ago zero past = refl
 any-ago (suc n) [] = ap any (sym (take-nil n)) ∙ any-ago n [] ∙ ap any (sym (tab-shift 0 n (λ k. unsound (getD [] k []))))
 any-ago (suc n) (x ∷ past) = ap (λ (b : Bool). unsound x || b) (any-ago n past ∙ ap any (sym (tab-shift 0 n (λ k. unsound (getD (x ∷ past) k [])))))

@@ -8,7 +8,7 @@ use Rattle.planes.specs.Planes.{framesOf}
 use Rattle.planes.proofs.Planes.{frames-read}
 use Rattle.history.proofs.Pieces.{two-each}
 use Rattle.history.specs.Setup.{Setup, SameFilters}
-use Rattle.history.specs.History.{heard, after}
+use Rattle.history.specs.History.{heard, unsettledIn, after}
 use Rattle.rings.specs.State.{State}
 use Rattle.rings.specs.Held.{heldIn, Represents}
 use Rattle.rings.specs.Computed.{left, played, counted}
@@ -20,7 +20,7 @@ use Rattle.hrtf_checks.proofs.Refusing.{ears-fit, ready}
 use Rattle.hrtf.specs.Promise.{Outcome, outcomeBy, outcome, stateAfter}
 use Rattle.hrtf.proofs.Promised.{outcome-by, outcome-computed, all-heard}
 use Rattle.hrtf.specs.Computed.{computed}
-use Rattle.runs.specs.Runs.{next, fedBy, fed, sounded, Alike, fedAll, soundedAll, end, answered, owed, sum}
+use Rattle.runs.specs.Runs.{next, fedBy, fed, sounded, Alike, fedAll, soundedAll, end, unsettledCounts, sum}
 
 -- ---- one call
 
@@ -84,16 +84,20 @@ module _ (u : Setup) where
       let w = called u t c (a .0) in
       all-left (next c t) cs (a .1) ∙ ap (λ (s : State). left u s (fedAll (next c t) cs)) (w .leaves) ∙ sym (left-append u t (fed c t) (fedAll (next c t) cs))
 
-  pub all-counted : (t : State) (cs : List Call) → Alike u t cs → sum (answered t cs) ≡ counted u t (fedAll t cs)
+  pub all-counted : (t : State) (cs : List Call) → Alike u t cs → sum (unsettledCounts t cs) ≡ counted u t (fedAll t cs)
   all-counted t [] a = refl
   all-counted t (c ∷ cs) a =
       let w = called u t c (a .0) in
-      ap (λ (n : ℕ). n + sum (answered (next c t) cs)) (w .counts)
+      ap (λ (n : ℕ). n + sum (unsettledCounts (next c t) cs)) (w .counts)
       ∙ ap (λ (n : ℕ). counted u t (fed c t) + n) (all-counted (next c t) cs (a .1) ∙ ap (λ (s : State). counted u s (fedAll (next c t) cs)) (w .leaves))
       ∙ sym (counted-append u t (fed c t) (fedAll (next c t) cs))
 
-  -- each call's count over the history before it
-  pub all-owed : (past : List (List Float)) (t : State) (cs : List Call) → Represents u past t → Alike u t cs → answered t cs ≡ owed u past t cs
+  -- each call's count, over the past before it
+  abbrev pub owed : List (List Float) → State → List Call → List ℕ
+  owed past t [] = []
+  owed past t (c ∷ cs) = unsettledIn u 0 past (fed c t) ∷ owed (after u past (fed c t)) (next c t) cs
+
+  pub all-owed : (past : List (List Float)) (t : State) (cs : List Call) → Represents u past t → Alike u t cs → unsettledCounts t cs ≡ owed past t cs
   all-owed past t [] r a = refl
   all-owed past t (c ∷ cs) r a =
       let w = called u t c (a .0) in

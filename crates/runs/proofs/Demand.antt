@@ -8,10 +8,10 @@ use lib.Ieee.{Float}
 use Rattle.lists.specs.Tables.{any}
 use Rattle.checks.specs.Finite.{unsound}
 use Rattle.history.specs.Setup.{Setup}
-use Rattle.history.specs.Signals.{signal, signals, damaged}
+use Rattle.history.specs.Signals.{signal, damaged}
 use Rattle.history.specs.History.{signalAgo, earSamples, heard, upto}
 use Rattle.history.proofs.Windows.{ears-same, damage-same}
-use Rattle.history.proofs.Silence.{signal-ago, damage-ago, after-is}
+use Rattle.history.proofs.Silence.{signal-ago}
 use Rattle.history.proofs.Pieces.{heard-at}
 use Rattle.rings.specs.State.{State}
 use Rattle.rings.specs.Computed.{left, played, counted}
@@ -19,9 +19,10 @@ use Rattle.rings.specs.Held.{Represents}
 use Rattle.rings.proofs.Blocks.{played-heard}
 use Rattle.hrtf_checks.specs.Call.{Call}
 use Rattle.hrtf.proofs.Promised.{reset-number}
-use Rattle.runs.specs.Runs.{Alike, fedAll, soundedAll, answered, owed}
-use Rattle.runs.specs.Demand.{Run, frameAgo, Agree, Same, Demand3}
+use Rattle.runs.specs.Runs.{Alike, fedAll, soundedAll, unsettledCounts}
+use Rattle.runs.specs.Demand.{Run, frameAgo, Agree, damagedCounts, SameRun, Demand3}
 use Rattle.runs.proofs.Calls.{all-sounded, all-left, all-counted, all-owed}
+use Rattle.runs.proofs.Counts.{upto-is, damage-is, owed-counts}
 
 -- a run begins at the empty past
 pub run-starts : (u : Setup) (t : State) (cs : List Call) → Run u t cs → Represents u [] t
@@ -38,15 +39,8 @@ run-sums u t cs r n h = ap (λ (l : List (List Float)). getD l n []) (run-heard 
 -- ---- frames that agree
 
 module _ (u : Setup) (finite : unsound (u .weights) ≡ false) where
-  -- the signals at frame n are those of the frames
-  upto-is : (fs : List (List Float)) (n : ℕ) → upto u fs n ≡ map (signals u) (reverse (take (suc n) fs))
-  upto-is fs n = after-is u (take (suc n) fs) []
-
   signal-is : (fs : List (List Float)) (n k s : ℕ) → s < u .speakers → signalAgo s (upto u fs n) k ≡ signal u s (frameAgo u fs n k)
-  signal-is fs n k s h = ap (λ (l : List (List Float)). signalAgo s l k) (upto-is fs n) ∙ signal-ago u finite (reverse (take (suc n) fs)) k s h
-
-  damage-is : (fs : List (List Float)) (n k : ℕ) → unsound (getD (upto u fs n) k []) ≡ damaged u (frameAgo u fs n k)
-  damage-is fs n k = ap (λ (l : List (List Float)). unsound (getD l k [])) (upto-is fs n) ∙ damage-ago u finite (reverse (take (suc n) fs)) k
+  signal-is fs n k s h = ap (λ (l : List (List Float)). signalAgo s l k) (upto-is u fs n) ∙ signal-ago u finite (reverse (take (suc n) fs)) k s h
 
   module _ (fs gs : List (List Float)) (n m : ℕ) (e : (k : ℕ) → k < u .L → frameAgo u fs n k ≡ frameAgo u gs m k) where
     same-signals : (k s : ℕ) → k < u .L → s < u .speakers → signalAgo s (upto u fs n) k ≡ signalAgo s (upto u gs m) k
@@ -54,7 +48,7 @@ module _ (u : Setup) (finite : unsound (u .weights) ≡ false) where
 
     -- they have both a damaged frame among the last L, or neither
     pub run-settled : any (take (u .L) (map unsound (upto u fs n))) ≡ any (take (u .L) (map unsound (upto u gs m)))
-    run-settled = damage-same (u .L) (upto u fs n) (upto u gs m) (λ k h. damage-is fs n k ∙ ap (damaged u) (e k h) ∙ sym (damage-is gs m k))
+    run-settled = damage-same (u .L) (upto u fs n) (upto u gs m) (λ k h. damage-is u finite fs n k ∙ ap (damaged u) (e k h) ∙ sym (damage-is u finite gs m k))
 
 -- (b): two runs that agree on a frame and the L-1 frames before it give the same two ear samples there, whatever came earlier
 run-agree : (u : Setup) (t s : State) (cs ds : List Call) → Run u t cs → Run u s ds → (n m : ℕ) → n < length (fedAll t cs) → m < length (fedAll s ds) → Agree u t cs n s ds m
@@ -65,11 +59,11 @@ run-agree u t s cs ds r q n m hn hm e =
     ∙ sym (run-sums u s ds q m hm)
 
 -- (c)
-run-counts : (u : Setup) (t : State) (cs : List Call) → Run u t cs → answered t cs ≡ owed u [] t cs
-run-counts u t cs r = all-owed u [] t cs (run-starts u t cs r) (r .alike)
+run-counts : (u : Setup) (t : State) (cs : List Call) → Run u t cs → unsettledCounts t cs ≡ damagedCounts u (fedAll t cs) 0 t cs
+run-counts u t cs r = all-owed u [] t cs (run-starts u t cs r) (r .alike) ∙ owed-counts u (r .finite) [] t cs
 
 -- (d): cutting a run into blocks anywhere changes nothing. It needs no reset
-run-cut : (u : Setup) (t : State) (cs ds : List Call) → Alike u t cs → Alike u t ds → fedAll t cs ≡ fedAll t ds → Same t cs ds
+run-cut : (u : Setup) (t : State) (cs ds : List Call) → Alike u t cs → Alike u t ds → fedAll t cs ≡ fedAll t ds → SameRun t cs ds
 run-cut u t cs ds a b e =
     record {
       sounds = all-sounded u t cs a ∙ ap (played u t) e ∙ sym (all-sounded u t ds b);

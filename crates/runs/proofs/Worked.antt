@@ -22,7 +22,7 @@ use Rattle.hrtf_checks.specs.Refusals.{refusalOf}
 use Rattle.hrtf.specs.Promise.{outcome}
 use Rattle.hrtf.specs.Reset.{resetRefusal, Resets}
 use Rattle.hrtf.proofs.Promised.{reset-accepted}
-use Rattle.runs.specs.Runs.{Alike, fedAll, soundedAll, answered}
+use Rattle.runs.specs.Runs.{Alike, fedAll, soundedAll, unsettledCounts}
 use Rattle.runs.specs.Demand.{Run}
 use Rattle.runs.proofs.Demand.{run-heard}
 
@@ -77,6 +77,6 @@ played-8 = run-heard drill (fresh drill) (calls one-float) (run one-float) ∙ a
 played-9 : soundedAll (fresh drill) (calls nan) ≡ (nan ∷ nan ∷ []) ∷ (nan ∷ nan ∷ []) ∷ (zero-float ∷ zero-float ∷ []) ∷ []
 played-9 = run-heard drill (fresh drill) (calls nan) (run nan) ∙ ap (heard drill []) fed-9 ∙ drill-9-heard
 
-answered-9 : answered (fresh drill) (calls nan) ≡ 1 ∷ 0 ∷ 0 ∷ 1 ∷ []
+counts-9 : unsettledCounts (fresh drill) (calls nan) ≡ 1 ∷ 0 ∷ 0 ∷ 1 ∷ []
 unfolding refusalOf outcome flatten mixed rounded add mul ieee.sum round size span climb units odd
-answered-9 = refl
+counts-9 = refl

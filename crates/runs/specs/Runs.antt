@@ -3,10 +3,9 @@ use Prim.Native.Nat.{ℕ, _+_}
 use mathlib.Core.Path.{_≡_}
 use mathlib.Core.List.{List, [], _∷_, _++_}
 use lib.Ieee.{Float}
-use Rattle.refusals.specs.Refusals as Refusals
+use Rattle.refusals.specs.Refusals.{answered}
 use Rattle.planes.specs.Planes.{framesOf}
 use Rattle.history.specs.Setup.{Setup, SameFilters}
-use Rattle.history.specs.History.{unsettledIn, after}
 use Rattle.rings.specs.State.{State}
 use Rattle.hrtf_checks.specs.Call.{Call, setup, framesIn}
 use Rattle.hrtf_checks.specs.Refusals.{refusalOf}
@@ -20,7 +19,7 @@ next c t = stateAfter (outcome c t)
 
 -- the frames that it feeds: those of its input planes, or none where it is refused
 abbrev pub fedBy : ℕ → List (List Float) → List (List Float)
-fedBy n fs = Refusals.answered n fs (λ k. [])
+fedBy n fs = answered n fs (λ k. [])
 
 abbrev pub fed : Call → State → List (List Float)
 fed c t = fedBy (refusalOf c t) (framesIn c)
@@ -48,14 +47,10 @@ abbrev pub end : State → List Call → State
 end t [] = t
 end t (c ∷ cs) = end (next c t) cs
 
--- each call's unsettled count as it is answered, and as it has to be over the history
-abbrev pub answered : State → List Call → List ℕ
-answered t [] = []
-answered t (c ∷ cs) = outcome c t .answer .unsettled ∷ answered (next c t) cs
-
-abbrev pub owed : Setup → List (List Float) → State → List Call → List ℕ
-owed u past t [] = []
-owed u past t (c ∷ cs) = unsettledIn u 0 past (fed c t) ∷ owed u (after u past (fed c t)) (next c t) cs
+-- each call's unsettled count
+abbrev pub unsettledCounts : State → List Call → List ℕ
+unsettledCounts t [] = []
+unsettledCounts t (c ∷ cs) = outcome c t .answer .unsettled ∷ unsettledCounts (next c t) cs
 
 abbrev pub sum : List ℕ → ℕ
 sum [] = 0
