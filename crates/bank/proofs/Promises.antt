@@ -19,7 +19,7 @@ use Rattle.bank_form.specs.Encoding.{encode}
 use Rattle.bank_form.specs.FaultComputed.{bankIn, isFile}
 use Rattle.bank_form.specs.File.{IsFile}
 use Rattle.bank_form.proofs.Exact.{keeps}
-use Rattle.bank.specs.Reading.{ReadOutcome, readChecks, readRefusal, readRefused, readBank, readOutcome, Reads}
+use Rattle.bank.specs.Reading.{ReadOutcome, readChecks, readRefusal, readRefused, readBank, readOutcome, Reads, bankFound}
 use Rattle.bank.specs.Writing.{WriteOutcome, writeChecks, writeRefusal, writeRefused, writeBank, writeOutcome, Writes}
 use Rattle.bank.proofs.Answers.{accepted, Lent, written}
 
@@ -91,25 +91,21 @@ read-after-write b buffer w r e zs xs o h g f =
     let p = written-is b buffer w r e in
     is-accepted (w .file) zs xs o f h g b (record { keeps = p .0; bytes = ap (λ (y : WriteOutcome). y .file) (sym (p .1)) })
 
--- the bank that a caller finds in its lists after an accepted reading
-abbrev pub bankOf : ReadOutcome → Bank
-bankOf o = record { azimuths = take (o .answer .rows) (o .azimuths); length = o .answer .length; taps = take (2 * o .answer .rows * o .answer .length) (o .taps) }
-
-pub found : (b : Bank) (zs : List ℤ) (xs : List Float) → length (b .taps) ≡ 2 * rows b * b .length → bankOf (readBank b zs xs) ≡ b
+pub found : (b : Bank) (zs : List ℤ) (xs : List Float) → length (b .taps) ≡ 2 * rows b * b .length → bankFound (readBank b zs xs) ≡ b
 found b zs xs h = λ i. record { azimuths = take-placed zs (b .azimuths) (rows b) refl i; length = b .length; taps = take-placed xs (b .taps) (2 * rows b * b .length) h i }
 
 -- which is that of the file
-pub read-is : (file : List ℕ) (zs : List ℤ) (xs : List Float) (o : ReadOutcome) → Reads file zs xs o → o .answer .refusal ≡ 0 → bankOf o ≡ bankIn file
+pub read-is : (file : List ℕ) (zs : List ℤ) (xs : List Float) (o : ReadOutcome) → Reads file zs xs o → o .answer .refusal ≡ 0 → bankFound o ≡ bankIn file
 read-is file zs xs o r e =
     let p = accepted-is file zs xs o r e in
-    ap bankOf (p .1) ∙ found (bankIn file) zs xs (keeps (bankIn file) (p .0 .keeps) .count)
+    ap bankFound (p .1) ∙ found (bankIn file) zs xs (keeps (bankIn file) (p .0 .keeps) .count)
 
 -- writing what was read gives the same bytes
 pub write-after-read : (file : List ℕ) (zs : List ℤ) (xs : List Float) (o : ReadOutcome) → Reads file zs xs o → o .answer .refusal ≡ 0 → (buffer : List ℕ) (w : WriteOutcome)
-    → length buffer ≡ length file → Writes (bankOf o) buffer w → w .file ≡ file
+    → length buffer ≡ length file → Writes (bankFound o) buffer w → w .file ≡ file
 write-after-read file zs xs o r e buffer w h f =
     let p = accepted-is file zs xs o r e in
     let b = bankIn file in
-    let same : bankOf o ≡ b = read-is file zs xs o r e in
+    let same : bankFound o ≡ b = read-is file zs xs o r e in
     let long = h ∙ ap length (sym (p .0 .bytes)) in
     ap (λ (y : WriteOutcome). y .file) (is-written b buffer w (rw same at f) (p .0 .keeps) long) ∙ p .0 .bytes

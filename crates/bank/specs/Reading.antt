@@ -3,11 +3,11 @@
 use mathlib.Core.Path.{_≡_}
 use mathlib.Core.Bool.{not}
 use mathlib.Core.List.{List, [], _∷_}
-use Prim.Native.Nat.{ℕ}
+use Prim.Native.Nat.{ℕ, _*_}
 use lib.Dec.{eqb}
 use lib.Ieee.{Float}
 use lib.IntN.{ℤ}
-use lib.ListN.{length}
+use lib.ListN.{length, take}
 use Rattle.refusals.specs.Refusals.{Check, _when_, firstOf, answered}
 use Rattle.lists.specs.Placed.{placed}
 use Rattle.bank_form.specs.Bank.{Bank, rows}
@@ -44,3 +44,7 @@ readOutcome file zs xs = answered (readRefusal file zs xs) (readBank (bankIn fil
 pub record Reads (file : List ℕ) (zs : List ℤ) (xs : List Float) (o : ReadOutcome) : Type 0 where
   pub outcome : o ≡ readOutcome file zs xs
   pub exactly : Exactly file
+
+-- the bank that a caller finds in its lists after an accepted reading
+abbrev pub bankFound : ReadOutcome → Bank
+bankFound o = record { azimuths = take (o .answer .rows) (o .azimuths); length = o .answer .length; taps = take (2 * o .answer .rows * o .answer .length) (o .taps) }

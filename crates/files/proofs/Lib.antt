@@ -1,2 +1,3 @@
--- That a number which is no greater than a list's length counts what stands at its start.
+-- What stands at the start of a list, which crates above may cite; and wrong answers.
 pub mod Parts
+mod Refuted

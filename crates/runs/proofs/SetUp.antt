@@ -22,8 +22,8 @@ use Rattle.lists.proofs.Placed.{length-placed}
 use Rattle.bank_form.specs.Bank.{Bank, isTap, valid}
 use Rattle.bank_form.specs.FaultComputed.{bankIn}
 use Rattle.bank_form.proofs.Exact.{Keeps, keeps}
-use Rattle.bank.specs.Reading.{ReadOutcome, Reads}
-use Rattle.bank.proofs.Promises.{accepted-parts, accepted-is, bankOf, read-is}
+use Rattle.bank.specs.Reading.{ReadOutcome, Reads, bankFound}
+use Rattle.bank.proofs.Promises.{accepted-parts, accepted-is, read-is}
 use Rattle.channel.specs.declared.Layout.{Layout}
 use Rattle.desk.specs.declared.Desk.{Desk}
 use Rattle.desk.proofs.Going.{position-below, waits-below}
@@ -163,17 +163,17 @@ reset-turns d speakers L rings a r e =
 -- ---- from the bank file on
 
 module _ (file : List ℕ) (zs : List ℤ) (xs : List Float) (r : ReadOutcome) (reads : Reads file zs xs r) (good : r .answer .refusal ≡ 0) where
-  keeps-form : valid (bankOf r) ≡ true
+  keeps-form : valid (bankFound r) ≡ true
   keeps-form = ap valid (read-is file zs xs r reads good) ∙ accepted-is file zs xs r reads good .0 .keeps
 
-  rows-are : r .answer .rows ≡ Form.rows (bankOf r)
+  rows-are : r .answer .rows ≡ Form.rows (bankFound r)
   rows-are = ap (λ (y : ReadOutcome). y .answer .rows) (accepted-is file zs xs r reads good .1) ∙ ap Form.rows (sym (read-is file zs xs r reads good))
 
   pub few-rows : outside (r .answer .rows) 8 ≡ false
-  few-rows = ap (λ (n : ℕ). outside n 8) rows-are ∙ ap not (keeps (bankOf r) keeps-form .few)
+  few-rows = ap (λ (n : ℕ). outside n 8) rows-are ∙ ap not (keeps (bankFound r) keeps-form .few)
 
   pub short-filters : outside (r .answer .length) 512 ≡ false
-  short-filters = ap not (keeps (bankOf r) keeps-form .short)
+  short-filters = ap not (keeps (bankFound r) keeps-form .short)
 
   eight-azimuths : length (r .azimuths) ≡ 8
   eight-azimuths =
@@ -194,9 +194,9 @@ module _ (file : List ℕ) (zs : List ℤ) (xs : List Float) (r : ReadOutcome) (
   -- and then no call is refused
   module _ (weights : List Float) (given : List ℕ) (o : Arrangement) (eight : length given ≡ 8) (e : o .answer .refusal ≡ 0)
       (d : Desk) (rings : List Float) (a : AfterReset) (rested : Resets d (o .answer .speakers) (r .answer .length) rings a) (z : a .answer .refusal ≡ 0)
-      (cs : List Call) (fs : AllFitted (bankOf r) o cs) where
+      (cs : List Call) (fs : AllFitted (bankFound r) o cs) where
     plays : Playable (r .answer .rows) o → NoneRefused (record { rings = a .rings; desk = a .answer .desk }) cs
-    plays p = never-refused (bankOf r) keeps-form o (subst (λ (n : ℕ). Playable n o) rows-are p) cs fs (record { rings = a .rings; desk = a .answer .desk }) (reset-turns d (o .answer .speakers) (r .answer .length) rings a rested z)
+    plays p = never-refused (bankFound r) keeps-form o (subst (λ (n : ℕ). Playable n o) rows-are p) cs fs (record { rings = a .rings; desk = a .answer .desk }) (reset-turns d (o .answer .speakers) (r .answer .length) rings a rested z)
 
     pub surround-never-refused : (l : Layout) → NewSurround l (r .azimuths) (r .answer .rows) weights given o → NoneRefused (record { rings = a .rings; desk = a .answer .desk }) cs
     surround-never-refused l n = plays (surround-playable (r .azimuths) (r .answer .rows) weights given o eight e l n)

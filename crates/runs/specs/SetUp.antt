@@ -3,11 +3,11 @@
 use Prim.Native.Nat.{ℕ, _*_, _≤_, _<_}
 use mathlib.Core.Path.{_≡_}
 use mathlib.Core.List.{List, [], _∷_}
-use lib.ListN.{length, take}
+use lib.ListN.{length}
 use lib.IntN.{ℤ}
 use lib.Ieee.{Float}
 use Rattle.bank_form.specs.Bank as Form
-use Rattle.bank.specs.Reading.{ReadOutcome, Reads}
+use Rattle.bank.specs.Reading.{ReadOutcome, Reads, bankFound}
 use Rattle.channel.specs.declared.Layout.{Layout}
 use Rattle.desk.specs.declared.Desk.{Desk}
 use Rattle.rings.specs.State.{State}
@@ -45,15 +45,11 @@ NoneRefused t (c ∷ cs) = (refusalOf c t ≡ 0) × NoneRefused (next c t) cs
 
 -- ---- a good bank is never refused
 
--- the bank that a caller finds in its lists after an accepted reading
-abbrev pub bankRead : ReadOutcome → Form.Bank
-bankRead r = record { azimuths = take (r .answer .rows) (r .azimuths); length = r .answer .length; taps = take (2 * r .answer .rows * r .answer .length) (r .taps) }
-
 -- whatever `hrtf::reset` accepts and leaves: no call that is made of that bank and set-up is refused
 abbrev pub AlwaysPlays : ReadOutcome → Arrangement → Type 0
 AlwaysPlays r o =
     (d : Desk) (rings : List Float) (t : State) → Resets d (o .answer .speakers) (r .answer .length) rings (record { answer = record { refusal = 0; desk = t .desk }; rings = t .rings })
-    → (cs : List Call) → AllFitted (bankRead r) o cs → NoneRefused t cs
+    → (cs : List Call) → AllFitted (bankFound r) o cs → NoneRefused t cs
 
 -- from what `bank::read` and a set-up promise where they accept
 pub record NeverRefused : Type 0 where
