@@ -2,20 +2,20 @@
 use mathlib.Core.Path.{_≡_}
 use mathlib.Core.Bool.{Bool}
 use lib.Ieee.{Float}
-use Rattle.refusals.proofs.Determined.{determined}
+use Rattle.refusals.specs.OneAnswer.{OneAnswer}
+use Rattle.refusals.proofs.Determined.{determined, determined-by}
 use Rattle.series.specs.Sums.{Wave, sine, cosine}
-use Rattle.angles.specs.declared.Answer.{Answer}
 use Rattle.angles.specs.Limits.{isInside}
 use Rattle.angles.specs.Promise.{Promise}
 
-promise-unique : (w : Wave) (d : Float) (x y : Answer) → Promise w d x → Promise w d y → x ≡ y
-promise-unique w d x y p q = determined x y (p .is) (q .is)
+promise-unique : (w : Wave) (d : Float) → OneAnswer (Promise w d)
+promise-unique w d = determined-by (λ r h. h .is)
 
-pub sine-unique : (d : Float) (x y : Answer) → Promise sine d x → Promise sine d y → x ≡ y
+pub sine-unique : (d : Float) → OneAnswer (Promise sine d)
 sine-unique = promise-unique sine
 
-pub cosine-unique : (d : Float) (x y : Answer) → Promise cosine d x → Promise cosine d y → x ≡ y
+pub cosine-unique : (d : Float) → OneAnswer (Promise cosine d)
 cosine-unique = promise-unique cosine
 
-is-inside-unique : (limit x : Float) (a b : Bool) → a ≡ isInside limit x → b ≡ isInside limit x → a ≡ b
+is-inside-unique : (limit x : Float) → OneAnswer (λ (r : Bool). r ≡ isInside limit x)
 is-inside-unique limit x = determined

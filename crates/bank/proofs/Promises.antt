@@ -11,7 +11,8 @@ use lib.IntN.{ℤ}
 use lib.ListN.{length, take}
 use Rattle.refusals.proofs.First.{none-told}
 use Rattle.refusals.proofs.Chains.{none-holds}
-use Rattle.refusals.proofs.Determined.{determined}
+use Rattle.refusals.specs.OneAnswer.{OneAnswer}
+use Rattle.refusals.proofs.Determined.{determined, determined-by}
 use Rattle.lists.proofs.Placed.{take-placed}
 use Rattle.checks.proofs.Checks.{is-equal}
 use Rattle.bank_form.specs.Bank.{Bank, rows, valid}
@@ -23,10 +24,10 @@ use Rattle.bank.specs.Reading.{ReadOutcome, readChecks, readRefusal, rea
 use Rattle.bank.specs.Writing.{WriteOutcome, writeChecks, writeRefusal, writeRefused, writeBank, writeOutcome, Writes}
 use Rattle.bank.proofs.Answers.{accepted, Lent, written}
 
-pub read-unique : (file : List ℕ) (zs : List ℤ) (xs : List Float) (a b : ReadOutcome) → Reads file zs xs a → Reads file zs xs b → a ≡ b
-read-unique file zs xs a b p q = determined a b (p .outcome) (q .outcome)
+pub read-unique : (file : List ℕ) (zs : List ℤ) (xs : List Float) → OneAnswer (Reads file zs xs)
+read-unique file zs xs = determined-by (λ r h. h .outcome)
 
-pub write-unique : (b : Bank) (file : List ℕ) (u w : WriteOutcome) → Writes b file u → Writes b file w → u ≡ w
+pub write-unique : (b : Bank) (file : List ℕ) → OneAnswer (Writes b file)
 write-unique b file = determined
 
 -- ---- reading

@@ -4,35 +4,36 @@ use mathlib.Core.Bool.{Bool}
 use Prim.Native.Nat.{ℕ}
 use lib.IntN.{ℤ}
 use lib.Ieee.{Float}
+use Rattle.refusals.specs.OneAnswer.{OneAnswer}
 use Rattle.refusals.proofs.Determined.{determined}
 use Rattle.channel.specs.Layouts.{counted, surround, lowFrequency, azimuthOf, tenthsOf, positionAzimuth, positionTenths}
 use Rattle.channel.specs.Orders.{refusesOrder, countedOrder}
 use Rattle.channel.specs.declared.Layout.{Layout}
 use Rattle.channel.specs.declared.Counted.{Counted}
 
-pub channel-count-unique : (l : Layout) (a b : Counted) → a ≡ counted l → b ≡ counted l → a ≡ b
+pub channel-count-unique : (l : Layout) → OneAnswer (λ (r : Counted). r ≡ counted l)
 channel-count-unique l = determined
 
-pub refuses-order-unique : (n : ℕ) (a b : Bool) → a ≡ refusesOrder n → b ≡ refusesOrder n → a ≡ b
+pub refuses-order-unique : (n : ℕ) → OneAnswer (λ (r : Bool). r ≡ refusesOrder n)
 refuses-order-unique n = determined
 
-pub ambisonic-channel-count-unique : (n : ℕ) (a b : Counted) → a ≡ countedOrder n → b ≡ countedOrder n → a ≡ b
+pub ambisonic-channel-count-unique : (n : ℕ) → OneAnswer (λ (r : Counted). r ≡ countedOrder n)
 ambisonic-channel-count-unique n = determined
 
-pub is-surround-unique : (l : Layout) (a b : Bool) → a ≡ surround l → b ≡ surround l → a ≡ b
+pub is-surround-unique : (l : Layout) → OneAnswer (λ (r : Bool). r ≡ surround l)
 is-surround-unique l = determined
 
-pub is-low-frequency-unique : (l : Layout) (c : ℕ) (a b : Bool) → a ≡ lowFrequency l c → b ≡ lowFrequency l c → a ≡ b
+pub is-low-frequency-unique : (l : Layout) (c : ℕ) → OneAnswer (λ (r : Bool). r ≡ lowFrequency l c)
 is-low-frequency-unique l c = determined
 
-pub speaker-azimuth-unique : (l : Layout) (c : ℕ) (a b : Float) → a ≡ azimuthOf l c → b ≡ azimuthOf l c → a ≡ b
+pub speaker-azimuth-unique : (l : Layout) (c : ℕ) → OneAnswer (λ (r : Float). r ≡ azimuthOf l c)
 speaker-azimuth-unique l c = determined
 
-pub speaker-tenths-unique : (l : Layout) (c : ℕ) (a b : ℤ) → a ≡ tenthsOf l c → b ≡ tenthsOf l c → a ≡ b
+pub speaker-tenths-unique : (l : Layout) (c : ℕ) → OneAnswer (λ (r : ℤ). r ≡ tenthsOf l c)
 speaker-tenths-unique l c = determined
 
-pub position-azimuth-unique : (i : ℕ) (a b : Float) → a ≡ positionAzimuth i → b ≡ positionAzimuth i → a ≡ b
+pub position-azimuth-unique : (i : ℕ) → OneAnswer (λ (r : Float). r ≡ positionAzimuth i)
 position-azimuth-unique i = determined
 
-pub position-tenths-unique : (i : ℕ) (a b : ℤ) → a ≡ positionTenths i → b ≡ positionTenths i → a ≡ b
+pub position-tenths-unique : (i : ℕ) → OneAnswer (λ (r : ℤ). r ≡ positionTenths i)
 position-tenths-unique i = determined

@@ -2,10 +2,11 @@
 use Prim.Native.Nat.{ℕ}
 use mathlib.Core.Path.{_≡_}
 use mathlib.Core.Bool.{Bool}
+use Rattle.refusals.specs.OneAnswer.{OneAnswer}
 use Rattle.refusals.proofs.Determined.{determined}
 use Rattle.desk.specs.declared.Desk.{Desk}
 use Rattle.desk.specs.Computed.{steppedOf}
 
 -- of the answer of `stepped`, and of what `step` leaves where the record stands
-stepped-unique : (L : ℕ) (damaged : Bool) (d a b : Desk) → a ≡ steppedOf L damaged d → b ≡ steppedOf L damaged d → a ≡ b
+stepped-unique : (L : ℕ) (damaged : Bool) (d : Desk) → OneAnswer (λ (r : Desk). r ≡ steppedOf L damaged d)
 stepped-unique L damaged d = determined

@@ -3,13 +3,13 @@ use mathlib.Core.Path.{_≡_}
 use mathlib.Core.Bool.{Bool}
 use Prim.Native.Nat.{ℕ}
 use lib.Ieee.{Float}
-use Rattle.refusals.proofs.Determined.{determined}
+use Rattle.refusals.specs.OneAnswer.{OneAnswer}
+use Rattle.refusals.proofs.Determined.{determined, determined-by}
 use Rattle.harmonics.specs.Promise.{refusesAzimuth, Promise}
 use Rattle.harmonics.specs.declared.Direction.{Direction}
-use Rattle.harmonics.specs.declared.Coefficients.{Coefficients}
 
-pub refuses-azimuth-unique : (x : Float) (a b : Bool) → a ≡ refusesAzimuth x → b ≡ refusesAzimuth x → a ≡ b
+pub refuses-azimuth-unique : (x : Float) → OneAnswer (λ (r : Bool). r ≡ refusesAzimuth x)
 refuses-azimuth-unique x = determined
 
-pub compute-sh-coefficients-unique : (order : ℕ) (d : Direction) (a b : Coefficients) → Promise order d a → Promise order d b → a ≡ b
-compute-sh-coefficients-unique order d a b p q = determined a b (p .is) (q .is)
+pub compute-sh-coefficients-unique : (order : ℕ) (d : Direction) → OneAnswer (Promise order d)
+compute-sh-coefficients-unique order d = determined-by (λ r h. h .is)

@@ -18,7 +18,7 @@ use Rattle.formats.proofs.Digits.{size-gt}
 use Rattle.formats.proofs.Patterns.{twice-hid, under-inf, ofBits-units}
 use Rattle.formats.proofs.Normal.{Scaled}
 use Rattle.numbers.specs.Computed.{WholeRoot, wholeRoot, drops, keeps, rootUnits, rootOf}
-use Rattle.numbers.proofs.Squares.{whole-root-unique, four-square, four-pow, four-pos}
+use Rattle.numbers.proofs.Squares.{whole-root-law, whole-root-unique, four-square, four-pow, four-pos}
 
 -- ---- by the units of x
 
@@ -101,7 +101,7 @@ rooted f n M k r e lo hi h o =
     let ke : drops (prec f) a ≡ k = drops-is (prec f) a M k (two f) e lo hi in
     let me : 4 * a / 4 ^ k ≡ M = ap (λ (x : ℕ). x / 4 ^ k) (sym e) ∙ mul-div-cancel M (four-pos k) in
     let is : rootUnits f n ≡ units f false q k =
-    ap (λ (x : ℕ). units f false (keeps a x) x) ke ∙ ap (λ (x : ℕ). units f false (suc (wholeRoot x) / 2) k) me ∙ ap (λ (x : ℕ). units f false (suc x / 2) k) (whole-root-unique M r h) in
+    ap (λ (x : ℕ). units f false (keeps a x) x) ke ∙ ap (λ (x : ℕ). units f false (suc (wholeRoot x) / 2) k) me ∙ ap (λ (x : ℕ). units f false (suc x / 2) k) (whole-root-unique M (wholeRoot M) r (whole-root-law M) h) in
     let d = half-digits f r (root-digits (prec f) M r lo hi h) in
     let fit : q * 2 ^ k < overflow f =
     lt-of-le-of-lt (mul-le-mul-right (2 ^ k) (subst (λ (x : ℕ). q ≤ x) (sym (twice-hid f)) (d .1))) (subst (λ (x : ℕ). x < overflow f) (pow-add 2 (prec f) k) (pow-lt o)) in

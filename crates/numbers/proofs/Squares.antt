@@ -6,6 +6,7 @@ use native.Mathlib.Omega.{arith}
 use lib.Pow.{pow-pos, pow-add}
 use lib.Ieee.{size}
 use lib.Ieee.Digits.{size-lt}
+use Rattle.refusals.specs.OneAnswer.{OneAnswer}
 use Rattle.lists.proofs.Tests.{by-at-most}
 use Rattle.numbers.specs.Computed.{WholeRoot, digit, rootIn, wholeRoot}
 
@@ -49,5 +50,5 @@ root-le : (a b r s : ℕ) → a ≤ b → WholeRoot a r → WholeRoot b s → r 
 root-le a b r s l h k =
     le-of-suc-le-suc (lt-of-not-le (λ (g : suc s ≤ r). lt-irrefl b (lt-of-lt-of-le (k .1) (le-trans (mul-le-mul g g) (le-trans (h .0) l)))))
 
-pub whole-root-unique : (n r : ℕ) → WholeRoot n r → wholeRoot n ≡ r
-whole-root-unique n r h = le-antisymm (root-le n n (wholeRoot n) r (le-of-eq refl) (whole-root-law n) h) (root-le n n r (wholeRoot n) (le-of-eq refl) h (whole-root-law n))
+pub whole-root-unique : (n : ℕ) → OneAnswer (WholeRoot n)
+whole-root-unique n r s g h = le-antisymm (root-le n n r s (le-of-eq refl) g h) (root-le n n s r (le-of-eq refl) h g)

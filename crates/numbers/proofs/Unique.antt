@@ -1,6 +1,6 @@
 -- No two answers meet a promise. Of a conversion and of a root document 01's words alone allow one answer: the equations beside them are a help to callers and nothing that has to be
 -- believed. Assumes nothing.
-use mathlib.Core.Path.{_≡_, sym, _∙_}
+use mathlib.Core.Path.{_≡_}
 use mathlib.Core.Bool.{Bool, true, false}
 use Prim.Native.Nat.{ℕ, zero, suc, _^_}
 use native.Mathlib.Nat.{zero-lt-suc}
@@ -8,6 +8,8 @@ use lib.IntN.{ℤ, pos}
 use lib.Dec.{T, lt→ltb}
 use lib.Ieee.{Float, nan, inf, fin, Format, binary64, low, fits}
 use lib.Ieee.Positive.{positive}
+use Rattle.refusals.specs.OneAnswer.{OneAnswer}
+use Rattle.refusals.proofs.Determined.{determined-by}
 use Rattle.formats.proofs.Patterns.{same-value}
 use Rattle.formats.proofs.Grid.{zero-value}
 use Rattle.numbers.specs.Conversions.{Widens, Narrows}
@@ -19,18 +21,18 @@ use Rattle.numbers.specs.declared.Rooted.{Rooted}
 use Rattle.numbers.proofs.Narrows.{narrows-only}
 use Rattle.numbers.proofs.Middle.{root-only}
 
-pub widen-unique : (x a b : Float) → Widens x a → Widens x b → a ≡ b
-widen-unique x a b p q = p .same ∙ sym (q .same)
+pub widen-unique : (x : Float) → OneAnswer (Widens x)
+widen-unique x = determined-by (λ r h. h .same)
 
-pub narrow-unique : (x a b : Float) → Narrowed x a → Narrowed x b → a ≡ b
-narrow-unique x a b p q = p .bits ∙ sym (q .bits)
+pub narrow-unique : (x : Float) → OneAnswer (Narrowed x)
+narrow-unique x = determined-by (λ r h. h .bits)
 
-pub root-unique : (x : Float) (a b : Rooted) → Root x a → Root x b → a ≡ b
-root-unique x a b p q = p .answer ∙ sym (q .answer)
+pub root-unique : (x : Float) → OneAnswer (Root x)
+root-unique x = determined-by (λ r h. h .answer)
 
 -- ---- by document 01's words alone
-pub narrows-unique : (f : Format) (x a b : Float) → Narrows f x a → Narrows f x b → a ≡ b
-narrows-unique f x a b p q = narrows-only f x a p ∙ sym (narrows-only f x b q)
+pub narrows-unique : (f : Format) (x : Float) → OneAnswer (Narrows f x)
+narrows-unique f x = determined-by (narrows-only f x)
 
 same : (r : Rooted) {n : ℕ} {v : Float} → (r .refusal ≡ n) × (r .value ≡ v) → r ≡ record { refusal = n; value = v }
 same r h = λ i. record { refusal = h .0 i; value = h .1 i }

@@ -2,9 +2,10 @@
 use mathlib.Core.Path.{_≡_}
 use mathlib.Core.List.{List}
 use Prim.Native.Nat.{ℕ}
+use Rattle.refusals.specs.OneAnswer.{OneAnswer}
 use Rattle.refusals.proofs.Determined.{determined}
 use Rattle.probe_answer.specs.Answers.{Draft}
 use Rattle.probe_bank.specs.Answers.{answerOf}
 
-answer-unique : (operation : ℕ) (args out : List ℕ) (a b : Draft) → a ≡ answerOf operation args out → b ≡ answerOf operation args out → a ≡ b
+answer-unique : (operation : ℕ) (args out : List ℕ) → OneAnswer (λ (r : Draft). r ≡ answerOf operation args out)
 answer-unique operation args out = determined

@@ -1,3 +1,4 @@
--- What a range is, and what a refusal number is.
+-- What a range is, what a refusal number is, and what it is that a promise has one answer.
 pub mod Ranges
 pub mod Refusals
+pub mod OneAnswer

@@ -10,6 +10,7 @@ use native.Mathlib.Omega.{arith}
 use borrow.Author.Tests.{lt-ltb, le-ltb}
 use lib.Dec.{ltb}
 use lib.IntN.{ℤ}
+use Rattle.refusals.specs.OneAnswer.{OneAnswer}
 use Rattle.row_choice.specs.Nearest.{away, Takes}
 use Rattle.row_choice.specs.NearestComputed.{nearer, nearestFrom}
 
@@ -58,7 +59,7 @@ module _ (zs : List ℤ) (p : ℤ) where
   pub takes : (n : ℕ) → 1 ≤ n → Takes zs n p (nearestFrom zs p 0 1 (n - 1))
   takes n h = let q : 1 + (n - 1) ≡ n = omega arith in rw q at (walk 0 1 (n - 1) (omega arith) (λ i g. let e : i ≡ 0 = omega arith in rw e (le-refl (away zs p 0))) (λ i g. absurd (omega arith)))
 
-  pub takes-one : (n a b : ℕ) → Takes zs n p a → Takes zs n p b → a ≡ b
+  pub takes-one : (n : ℕ) → OneAnswer (Takes zs n p)
   takes-one n a b x y =
       elim (decLt a b) [
         | yes h ↦ let f = y .earliest a h in let l = x .nearest b (y .among) in absurd (omega arith)

@@ -1,10 +1,9 @@
 -- No two answers meet the promise: it is the equation that leaves no room, where document 01's bound alone leaves 2 ^ -30 either way. Assumes nothing.
-use mathlib.Core.Path.{_≡_}
 use lib.Ieee.{Float}
-use Rattle.refusals.proofs.Determined.{determined}
+use Rattle.refusals.specs.OneAnswer.{OneAnswer}
+use Rattle.refusals.proofs.Determined.{determined-by}
 use Rattle.channel.specs.declared.Layout.{Layout}
-use Rattle.surround.specs.declared.SurroundGains.{SurroundGains}
 use Rattle.surround.specs.Promise.{Pans}
 
-pub calculate-vbap-gains-unique : (l : Layout) (a : Float) (x y : SurroundGains) → Pans l a x → Pans l a y → x ≡ y
-calculate-vbap-gains-unique l a x y p q = determined x y (p .is) (q .is)
+pub calculate-vbap-gains-unique : (l : Layout) (a : Float) → OneAnswer (Pans l a)
+calculate-vbap-gains-unique l a = determined-by (λ r h. h .is)

@@ -1,13 +1,13 @@
 -- No two answers meet a promise. Document 01's words alone leave room, 2 ^ -34 either way: it is the equation that leaves none. Assumes nothing.
 use mathlib.Core.Path.{_≡_}
 use Prim.Native.Nat.{ℕ}
-use Rattle.refusals.proofs.Determined.{determined}
+use Rattle.refusals.specs.OneAnswer.{OneAnswer}
+use Rattle.refusals.proofs.Determined.{determined, determined-by}
 use Rattle.harmonics.specs.declared.Direction.{Direction}
 use Rattle.virtual_speaker.specs.Promise.{Promise, positionOf}
-use Rattle.virtual_speaker.specs.declared.Weighted.{Weighted}
 
-pub compute-sh-coefficients-max-re-unique : (order : ℕ) (d : Direction) (a b : Weighted) → Promise order d a → Promise order d b → a ≡ b
-compute-sh-coefficients-max-re-unique order d a b p q = determined a b (p .is) (q .is)
+pub compute-sh-coefficients-max-re-unique : (order : ℕ) (d : Direction) → OneAnswer (Promise order d)
+compute-sh-coefficients-max-re-unique order d = determined-by (λ r h. h .is)
 
-pub foa-position-unique : (i : ℕ) (a b : Direction) → a ≡ positionOf i → b ≡ positionOf i → a ≡ b
+pub foa-position-unique : (i : ℕ) → OneAnswer (λ (r : Direction). r ≡ positionOf i)
 foa-position-unique i = determined
