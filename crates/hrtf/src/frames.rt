@@ -106,7 +106,7 @@ fn one_frame(
     let position = desk.position;
     let to_go = desk.to_go;
     let n = played.frames;
-    planes::mix_frame(
+    let damaged = planes::mix_frame(
         rings,
         length,
         position,
@@ -117,7 +117,6 @@ fn one_frame(
         stride,
         n,
     );
-    let damaged = planes::unsound_frame(rings, length, speakers, position);
     let left = ear(shape, position, row_of, taps, 0, rings);
     let right = ear(shape, position, row_of, taps, 1, rings);
     planes::put_sample(ears, stride, 0, n, left);
