@@ -7,7 +7,7 @@ use lib.Ieee.{Float}
 use denote.Ref.{now}
 use Rattle.planes.specs.Planes.{frameAt}
 use Rattle.rings.specs.State.{State}
-use Rattle.hrtf_checks.specs.Call.{Ready}
+use Rattle.hrtf.specs.Computed.{ScaledReady}
 use Rattle.lists.proofs.Lists.{one-at-most}
 use Rattle.hrtf.proofs.Playing.{ready-stored, turned}
 use borrow.Author.Needs.{needs}
@@ -19,19 +19,22 @@ abbrev state : tie.Start → State
 state c = record { rings = now (c .args .rings); desk = c .args .desk }
 
 abbrev frame : tie.Start → List Float
-frame c = let a = c .args in frameAt (now (a .inputs)) (a .stride) (a .shape .channels) (a .played .frames)
+frame c = let a = c .args in frameAt (now (a .inputs)) (a .stride) (a .scaled .shape .channels) (a .played .frames)
 
 abbrev start : tie.After-mix-frame → tie.Start
-start c = c .before .before .before .before .before .before .before
+start c = c .before .before .before .before .before .before .before .before
 
 mix-frame-requires : tie.Need-mix-frame-requires
 mix-frame-requires c κs = search needs
 
 -- once the signals are put, the ears may be read
-stored-ready : (c : tie.After-mix-frame) → Ready (start c .args .shape) (start c .args .desk .position) (now (start c .args .row-of)) (now (start c .args .taps)) (c .mix-frame .last .0)
+stored-ready : (c : tie.After-mix-frame) → ScaledReady (start c .args .scaled) (start c .args .desk .position) (now (start c .args .row-of)) (now (start c .args .taps)) (c .mix-frame .last .0)
 stored-ready c =
     let a = start c .args in
-    ready-stored (a .shape) (now (a .weights)) (now (a .row-of)) (now (a .taps)) (state (start c)) (frame (start c)) (c .mix-frame .last .0) (start c .pre .0) (c .mix-frame .ensures .put)
+    record {
+      factor = start c .pre .0 .factor;
+      ready = ready-stored (a .scaled .shape) (now (a .weights)) (now (a .row-of)) (now (a .taps)) (state (start c)) (frame (start c)) (c .mix-frame .last .0) (start c .pre .0 .ready) (c .mix-frame .ensures .put);
+    }
 
 ear-requires : tie.Need-ear-requires
 ear-requires c κs = (stored-ready (c .before .before .before), omega arith)
@@ -49,14 +52,14 @@ put-sample-requires-2 c κs = search needs
 abbrev stored : tie.After-slice-known5 → tie.After-mix-frame
 stored c = c .before .before .before .before .before .before .before .before .before .before .before .before .before .before
 
-add-t30 : tie.Need-add-t30
-add-t30 c = omega (arith, start (stored c) .pre .2)
+add-t31 : tie.Need-add-t31
+add-t31 c = omega (arith, start (stored c) .pre .2)
 
 one-if-late-requires : tie.Need-one-if-late-requires
 one-if-late-requires c κs = search needs
 
-add-t32 : tie.Need-add-t32
-add-t32 c =
+add-t33 : tie.Need-add-t33
+add-t33 c =
     let late = c .before in
     let put = late .before in
     let s = start (stored put) in
@@ -78,7 +81,7 @@ returns c =
     let left = right .before .before in
     let s = start (stored put) in
     let a = s .args in
-    turned (a .shape) (now (a .weights)) (now (a .row-of)) (now (a .taps)) (state s) (frame s) (a .stride) (a .played .frames) (now (a .ears)) _ _ _ _ _ _ (a .played .unsettled) _
+    turned (a .scaled .shape) (now (a .weights)) (now (a .row-of)) (now (a .taps)) (state s) (frame s) (a .stride) (a .played .frames) (now (a .ears)) _ _ _ _ _ _ (a .played .unsettled) _
     (stored put .mix-frame .ensures) (left .ear .ensures) (right .ear2 .ensures) (left-put .put-sample .ensures) (right-put .put-sample2 .ensures) (late .one-if-late .ensures)
 
 pub one-frame-spec : {M : Type 1} → statement M
@@ -90,9 +93,9 @@ one-frame-spec =
     ear-requires-2
     put-sample-requires
     put-sample-requires-2
-    add-t30
+    add-t31
     one-if-late-requires
-    add-t32
+    add-t33
     same-length
     same-length-2
     returns)
