@@ -1,4 +1,4 @@
--- A frame put sample by sample, and frames put one after another: those that are left, put where they belong, give the planes that are promised. Assumes nothing.
+-- A frame put sample by sample, and judged by the way, and frames put one after another: those that are left, put where they belong, give the planes that are promised. Assumes nothing.
 use Prim.Native.Nat.{ℕ, _+_, _≤_, _<_}
 use mathlib.Core.Path.{_≡_, refl, sym, ap, _∙_}
 use mathlib.Core.Bool.{Bool, false, not, _||_, or-false, or-assoc}
