@@ -2,39 +2,30 @@
 use mathlib.Core.Path.{_≡_, refl, sym, ap, _∙_, subst}
 use mathlib.Core.Bool.{Bool, _||_, cond}
 use mathlib.Core.List.{List, [], _∷_}
-use Prim.Native.Nat.{ℕ, suc, _+_, _*_, _≤_, _<_, zero-le}
+use Prim.Native.Nat.{ℕ, suc, _+_, _≤_, _<_, zero-le}
 use native.Mathlib.Nat.{zero-add, add-zero, add-assoc}
 use native.Mathlib.Omega.{arith}
 use lib.Dec.{ltb}
 use lib.ListN.{length}
 use lib.Ieee.{Float}
-use Rattle.checks.specs.Finite.{unsound}
-use Rattle.planes.specs.Planes.{frameAt, withSample, withFrame, withFrames}
+use Rattle.planes.specs.Planes.{frameAt, withSample, withFrame, FramePut, withFrames}
 use Rattle.lists.proofs.Going.{Going, going-none, going-more, going-all}
 use Rattle.lists.proofs.Lists.{one-at-most}
-use Rattle.planes.proofs.Planes.{length-with-frame, frame-read}
+use Rattle.planes.proofs.Planes.{length-with-frame}
 use Rattle.desk.specs.declared.Desk.{Desk}
 use Rattle.desk.specs.Computed.{steppedOf}
 use Rattle.desk.proofs.Going.{position-below}
 use Rattle.history.specs.Setup.{Setup}
-use Rattle.history.specs.Signals.{signals, damaged}
+use Rattle.history.specs.Signals.{signals}
 use Rattle.rings.specs.State.{State}
 use Rattle.rings.specs.Computed.{stored, ringEar, ears, late, stepped, left, played, counted}
 use Rattle.rings.proofs.Told.{length-stored}
 use Rattle.hrtf_checks.specs.declared.Shape.{Shape}
 use Rattle.hrtf_checks.specs.Call.{Call, setupOf, setup, framesIn, Ready}
-use Rattle.history.proofs.Signals.{length-signals}
 use Rattle.hrtf.specs.Promise.{Outcome}
 use Rattle.hrtf.specs.Computed.{earBy, FramePlayed, BlockPlayed}
 
 -- ---- one frame
-
--- the damage that is read in the rings is the damage of the frame
-damage-read : (u : Setup) (t : State) (f : List Float) → t .desk .position < u .L → length (t .rings) ≡ u .speakers * u .L
-    → unsound (frameAt (stored u t f) (u .L) (u .speakers) (t .desk .position)) ≡ damaged u f
-damage-read u t f within room =
-    ap (λ (n : ℕ). unsound (frameAt (stored u t f) (u .L) n (t .desk .position))) (sym (length-signals u f))
-    ∙ ap unsound (frame-read (t .rings) (u .L) (t .desk .position) (signals u f) within (room ∙ ap (λ (n : ℕ). n * u .L) (sym (length-signals u f))))
 
 module _ (h : Shape) (weights : List Float) (rows : List ℕ) (taps : List Float) (t : State) (f : List Float) where
   abbrev u : Setup
@@ -45,32 +36,27 @@ module _ (h : Shape) (weights : List Float) (rows : List ℕ) (taps : List Float
   ready-stored rings₁ r e =
       record { few = r .few; chosen = r .chosen; tapped = r .tapped; ringed = ap length e ∙ length-stored u t f ∙ r .ringed; within = r .within }
 
-  pub turned : (stride n : ℕ) (ears₀ rings₁ : List Float) (bad : Bool) (l r : Float) (ears₁ ears₂ : List Float) (count one : ℕ) → Ready h (t .desk .position) rows taps (t .rings)
-      → rings₁ ≡ stored u t f
-      → bad ≡ unsound (frameAt rings₁ (h .length) (h .speakers) (t .desk .position))
+  pub turned : (stride n : ℕ) (ears₀ rings₁ : List Float) (bad : Bool) (l r : Float) (ears₁ ears₂ : List Float) (count one : ℕ)
+      → FramePut (t .rings) (h .length) (t .desk .position) (signals u f) rings₁ bad
       → l ≡ earBy h rows taps 0 (suc (t .desk .position)) rings₁
       → r ≡ earBy h rows taps 1 (suc (t .desk .position)) rings₁
       → ears₁ ≡ withSample ears₀ stride 0 n l
       → ears₂ ≡ withSample ears₁ stride 1 n r
       → one ≡ cond (bad || ltb 0 (t .desk .«to_go»)) 1 0
       → FramePlayed h weights rows taps t f stride n count ears₀ rings₁ ears₂ (n + 1) (count + one) bad
-  turned stride n ears₀ rings₁ bad l r ears₁ ears₂ count one ready er eb el es e₁ e₂ eo =
+  turned stride n ears₀ rings₁ bad l r ears₁ ears₂ count one put el es e₁ e₂ eo =
       record {
-        ringed = er;
+        ringed = put .put;
         eared =
             e₂
             ∙ ap (λ (ys : List Float). withSample ys stride 1 n r) e₁
-            ∙ ap (λ (x : Float). withSample (withSample ears₀ stride 0 n x) stride 1 n r) (el ∙ ap (ringEar u 0 (suc (t .desk .position))) er)
+            ∙ ap (λ (x : Float). withSample (withSample ears₀ stride 0 n x) stride 1 n r) (el ∙ ap (ringEar u 0 (suc (t .desk .position))) (put .put))
             ∙ ap (λ (x : Float). withSample (withSample ears₀ stride 0 n (ringEar u 0 (suc (t .desk .position)) (stored u t f))) stride 1 n x)
-            (es ∙ ap (ringEar u 1 (suc (t .desk .position))) er);
+            (es ∙ ap (ringEar u 1 (suc (t .desk .position))) (put .put));
         more = refl;
-        counts = ap (λ (k : ℕ). count + k) (eo ∙ ap (λ (b : Bool). cond (b || ltb 0 (t .desk .«to_go»)) 1 0) bad-is);
-        damage = bad-is;
+        counts = ap (λ (k : ℕ). count + k) (eo ∙ ap (λ (b : Bool). cond (b || ltb 0 (t .desk .«to_go»)) 1 0) (put .damage));
+        damage = put .damage;
       }
-    where
-      bad-is : bad ≡ damaged u f
-      bad-is =
-          eb ∙ ap (λ (l : List Float). unsound (frameAt l (h .length) (h .speakers) (t .desk .position))) er ∙ damage-read u t f (ready .within) (ready .ringed)
 
 -- ---- the loop of `block`
 

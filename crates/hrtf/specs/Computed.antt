@@ -6,13 +6,24 @@ use mathlib.Core.List.{List, []}
 use lib.ListN.{length}
 use lib.Ieee.{Float}
 use Rattle.planes.specs.Planes.{withFrame, withFrames}
+use Rattle.planes.specs.Normalization.{inverseRoot}
 use Rattle.desk.specs.declared.Desk.{Desk}
 use Rattle.history.specs.Signals.{damaged}
 use Rattle.rings.specs.State.{State}
 use Rattle.rings.specs.Computed.{stored, ringEar, ears, late, left, played, counted}
 use Rattle.hrtf_checks.specs.declared.Shape.{Shape}
-use Rattle.hrtf_checks.specs.Call.{Call, setupOf, setup, framesIn}
+use Rattle.hrtf_checks.specs.Call.{Call, setupOf, setup, framesIn, Ready}
+use Rattle.hrtf.specs.declared.frames.Scaled.{Scaled}
 use Rattle.hrtf.specs.Promise.{Outcome}
+
+-- a shape with the factor of its ears' sums
+abbrev pub scaledOf : Shape → Scaled
+scaledOf h = record { shape = h; «inverse_root» = inverseRoot (h .speakers) }
+
+-- what playing asks: the factor is that of the shape, and what a call that is accepted has made sure of
+pub record ScaledReady (k : Scaled) (position : ℕ) (rows : List ℕ) (taps rings : List Float) : Type 0 where
+  pub factor : k ≡ scaledOf (k .shape)
+  pub ready : Ready (k .shape) position rows taps rings
 
 -- where a speaker's ring stands, and the taps of a row and side
 pub record PartInside (h : Shape) (s j side : ℕ) (taps rings : List Float) : Type 0 where

@@ -9,8 +9,7 @@ ghost use Prim.Native.Nat.{suc, _≤_, _<_, _^_};
 ghost use lib.Dec.{ltb};
 ghost use Rattle.planes.specs.Planes.{frameAt};
 ghost use Rattle.rings.specs.Computed.{partBy};
-ghost use Rattle.hrtf_checks.specs.Call.{Ready};
-ghost use Rattle.hrtf.specs.Computed.{PartInside, earBy, FramePlayed, BlockPlayed};
+ghost use Rattle.hrtf.specs.Computed.{PartInside, scaledOf, ScaledReady, earBy, FramePlayed, BlockPlayed};
 
 // The frames played so far, how many of them are unsettled, and whether the last one is damaged.
 pub(crate) struct Played {
@@ -23,6 +22,24 @@ pub(crate) struct Played {
 pub(crate) struct Turn {
     pub(crate) desk: Desk,
     pub(crate) unsettled: usize,
+}
+
+// A shape, and 1.0 over the root of its speakers.
+pub(crate) struct Scaled {
+    pub(crate) shape: Shape,
+    pub(crate) inverse_root: f64,
+}
+
+// The root is taken here, once for a block.
+pub(crate) fn scale(shape: Shape) -> Scaled
+    requires { ⌜ shape .speakers ≤ 8 ⌝ }
+    ensures { λ r. ⌜ r ≡ scaledOf shape ⌝ }
+{
+    let inverse_root = planes::inverse_root(shape.speakers as u32);
+    Scaled {
+        shape,
+        inverse_root,
+    }
 }
 
 // One speaker's part of an ear's sum, the rings being just written at the position. The speaker's taps are
@@ -49,16 +66,17 @@ fn part(
 
 // One ear's sample: the left ear has side 0, the right ear 1.
 fn ear(
-    shape: Shape,
+    scaled: Scaled,
     position: usize,
     row_of: &[usize; 8],
     taps: &[f32],
     side: usize,
     rings: &[f32],
 ) -> f32
-    requires { ⌜ Ready shape position (now «row_of») (now taps) (now rings) × (side < 2) ⌝ }
-    ensures { λ r. ⌜ r ≡ earBy shape (now («row_of» .entry)) (now (taps .entry)) side (suc position) (now (rings .entry)) ⌝ }
+    requires { ⌜ ScaledReady scaled position (now «row_of») (now taps) (now rings) × (side < 2) ⌝ }
+    ensures { λ r. ⌜ r ≡ earBy (scaled .shape) (now («row_of» .entry)) (now (taps .entry)) side (suc position) (now (rings .entry)) ⌝ }
 {
+    let shape = scaled.shape;
     let speakers = shape.speakers;
     let mut sum = 0.0;
     let mut s = 0;
@@ -67,7 +85,7 @@ fn ear(
         sum = sum + part(shape, position, s, row, side, taps, rings);
         s += 1;
     }
-    numbers::narrow(sum * planes::inverse_root(speakers as u32))
+    numbers::narrow(sum * scaled.inverse_root)
 }
 
 // One for a frame that is damaged, or has frames to go before it.
@@ -87,7 +105,7 @@ fn one_if_late(damaged: bool, to_go: usize) -> usize
 fn one_frame(
     played: Played,
     desk: Desk,
-    shape: Shape,
+    scaled: Scaled,
     stride: usize,
     inputs: &[f32],
     weights: &[f64],
@@ -96,17 +114,18 @@ fn one_frame(
     rings: &mut [f32],
     ears: &mut [f32],
 ) -> Played
-    requires { ⌜ Ready shape (desk .position) (now «row_of») (now taps) (now rings) × (played .unsettled ≤ played .frames) × (suc (played .frames) < 2 ^ 64) ⌝ }
-    ensures { λ r. ⌜ FramePlayed shape (now (weights .entry)) (now («row_of» .entry)) (now (taps .entry)) (record { rings = now (rings .entry); desk = desk })
-        (frameAt (now (inputs .entry)) stride (shape .channels) (played .frames)) stride (played .frames) (played .unsettled) (now (ears .entry)) (now (rings .exit)) (now (ears .exit))
+    requires { ⌜ ScaledReady scaled (desk .position) (now «row_of») (now taps) (now rings) × (played .unsettled ≤ played .frames) × (suc (played .frames) < 2 ^ 64) ⌝ }
+    ensures { λ r. ⌜ FramePlayed (scaled .shape) (now (weights .entry)) (now («row_of» .entry)) (now (taps .entry)) (record { rings = now (rings .entry); desk = desk })
+        (frameAt (now (inputs .entry)) stride (scaled .shape .channels) (played .frames)) stride (played .frames) (played .unsettled) (now (ears .entry)) (now (rings .exit)) (now (ears .exit))
         (r .frames) (r .unsettled) (r .damaged) ⌝ }
 {
+    let shape = scaled.shape;
     let speakers = shape.speakers;
     let length = shape.length;
     let position = desk.position;
     let to_go = desk.to_go;
     let n = played.frames;
-    planes::mix_frame(
+    let damaged = planes::mix_frame(
         rings,
         length,
         position,
@@ -117,9 +136,8 @@ fn one_frame(
         stride,
         n,
     );
-    let damaged = planes::unsound_frame(rings, length, speakers, position);
-    let left = ear(shape, position, row_of, taps, 0, rings);
-    let right = ear(shape, position, row_of, taps, 1, rings);
+    let left = ear(scaled, position, row_of, taps, 0, rings);
+    let right = ear(scaled, position, row_of, taps, 1, rings);
     planes::put_sample(ears, stride, 0, n, left);
     planes::put_sample(ears, stride, 1, n, right);
     Played {
@@ -133,7 +151,7 @@ fn one_frame(
 // it stands after each frame.
 pub(crate) fn block(
     desk: Desk,
-    shape: Shape,
+    scaled: Scaled,
     frames: usize,
     stride: usize,
     inputs: &[f32],
@@ -143,9 +161,9 @@ pub(crate) fn block(
     rings: &mut [f32],
     ears: &mut [f32],
 ) -> Turn
-    requires { ⌜ Ready shape (desk .position) (now «row_of») (now taps) (now rings) ⌝ }
+    requires { ⌜ ScaledReady scaled (desk .position) (now «row_of») (now taps) (now rings) ⌝ }
     ensures { λ r. ⌜ BlockPlayed
-        (record { shape = shape; frames = frames; stride = stride; inputs = now (inputs .entry); weights = now (weights .entry); rows = now («row_of» .entry); taps = now (taps .entry); ears = now (ears .entry) })
+        (record { shape = scaled .shape; frames = frames; stride = stride; inputs = now (inputs .entry); weights = now (weights .entry); rows = now («row_of» .entry); taps = now (taps .entry); ears = now (ears .entry) })
         (record { rings = now (rings .entry); desk = desk }) (now (rings .exit)) (now (ears .exit)) (r .desk) (r .unsettled) ⌝ }
 {
     let mut standing = desk;
@@ -158,7 +176,7 @@ pub(crate) fn block(
         played = one_frame(
             played,
             standing,
-            shape,
+            scaled,
             stride,
             inputs,
             weights,
@@ -167,7 +185,7 @@ pub(crate) fn block(
             rings,
             ears,
         );
-        desk::step(&mut standing, shape.length, played.damaged);
+        desk::step(&mut standing, scaled.shape.length, played.damaged);
     }
     Turn {
         desk: standing,

@@ -74,7 +74,7 @@ pub fn process(
     }
     let turn = frames::block(
         desk,
-        shape,
+        frames::scale(shape),
         frames,
         stride,
         inputs,

@@ -1,12 +1,15 @@
--- A frame put sample by sample, and frames put one after another: those that are left, put where they belong, give the planes that are promised. Assumes nothing.
+-- A frame put sample by sample, and judged by the way, and frames put one after another: those that are left, put where they belong, give the planes that are promised. Assumes nothing.
 use Prim.Native.Nat.{ℕ, _+_, _≤_, _<_}
-use mathlib.Core.Path.{_≡_, refl}
+use mathlib.Core.Path.{_≡_, refl, sym, ap, _∙_}
+use mathlib.Core.Bool.{Bool, false, not, _||_, or-false, or-assoc}
 use mathlib.Core.List.{List}
 use lib.ListN.{length}
 use lib.Ieee.{Float}
+use lib.Ieee.Scale.{finite}
+use Rattle.checks.specs.Finite.{unsound}
 use Rattle.lists.specs.Tables.{tab}
 use Rattle.lists.proofs.Going.{Going, going-none, going-more, going-all, going-kept}
-use Rattle.planes.specs.Planes.{withSample, withFrameFrom, withFrame, withFrames}
+use Rattle.planes.specs.Planes.{withSample, withFrameFrom, withFrame, FramePut, withFrames}
 use Rattle.planes.proofs.Planes.{length-with-frame, length-with-frames}
 
 -- ---- samples of the function f are put as one frame, those before plane p so far
@@ -33,6 +36,35 @@ module _ (out₀ : List Float) (stride frame planes : ℕ) (f : ℕ → Float) w
 
     pub sampling-all : planes ≤ p → out ≡ withFrame out₀ stride frame (tab 0 planes f)
     sampling-all = going-all (samples stride frame) f planes out₀ out p (s .laid)
+
+-- ---- the same, with whether one of those put so far is NaN or infinite
+
+abbrev judged : ℕ → Bool → List Float → Bool
+judged p bad xs = bad || unsound xs
+
+-- y is the sample x, widened, b whether it was found finite, and t what the test of it said
+pub judged-by : (bad bad₁ : Bool) (x y : Float) (b : Bool) → y ≡ x → b ≡ finite y → (t : Bool) → not b ≡ t → bad₁ ≡ (bad || t) → bad₁ ≡ (bad || not (finite x))
+judged-by bad bad₁ x y b ey eb t et e = e ∙ ap (λ (w : Bool). bad || w) (sym et ∙ ap not eb ∙ ap (λ (v : Float). not (finite v)) ey)
+
+pub record Judging (out₀ : List Float) (stride frame planes : ℕ) (f : ℕ → Float) (out : List Float) (bad : Bool) (p : ℕ) : Type 0 where
+  pub puts : Sampling out₀ stride frame planes f out p
+  pub finds : Going judged f planes false bad p
+
+module _ (out₀ : List Float) (stride frame planes : ℕ) (f : ℕ → Float) where
+  pub judging-none : Judging out₀ stride frame planes f out₀ false 0
+  judging-none = record { puts = sampling-none out₀ stride frame planes f; finds = going-none judged f planes false }
+
+  module _ (out : List Float) (bad : Bool) (p : ℕ) (s : Judging out₀ stride frame planes f out bad p) where
+    pub judging-more : (x : Float) (out₁ : List Float) (bad₁ : Bool) → p < planes → x ≡ f p → out₁ ≡ withSample out stride p frame x → bad₁ ≡ (bad || not (finite x))
+        → Judging out₀ stride frame planes f out₁ bad₁ (p + 1)
+    judging-more x out₁ bad₁ h ex eo eb =
+        record {
+          puts = sampling-more out₀ stride frame planes f out p (s .puts) x out₁ h ex eo;
+          finds = going-more judged f planes false (λ k b y. b || not (finite y)) (λ k b y l. sym (or-assoc b (not (finite y)) (unsound l))) bad p x bad₁ (s .finds) h ex eb;
+        }
+
+    pub judging-all : planes ≤ p → FramePut out₀ stride frame (tab 0 planes f) out bad
+    judging-all h = record { put = sampling-all out₀ stride frame planes f out p (s .puts) h; damage = sym (or-false bad) ∙ going-all judged f planes false bad p (s .finds) h }
 
 -- ---- frames of the function f are put, those before n so far
 

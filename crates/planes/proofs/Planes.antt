@@ -1,4 +1,4 @@
--- Laws of planes: a frame that was written is read back, and everything else is as it was. Assumes nothing.
+-- Laws of planes: frames that were written are read back, and everything else is as it was. Assumes nothing.
 use mathlib.Core.Path.{_≡_, refl, sym, ap, _∙_}
 use mathlib.Core.List.{List, [], _∷_}
 use Prim.Native.Nat.{ℕ, zero, suc, _+_, _*_, _/_, _%_, _≤_, _<_, suc-le-suc}
@@ -51,12 +51,6 @@ with-frame-at p xs stride n (x ∷ f) zero lt hn room =
 with-frame-at p xs stride n (x ∷ f) (suc k) lt hn room =
     ap (λ (q : ℕ). getD (withFrameFrom (suc p) (withSample xs stride p n x) stride n f) (q * stride + n) nan) (move p k)
     ∙ with-frame-at (suc p) (withSample xs stride p n x) stride n f k (le-of-suc-le-suc lt) hn (rw (length-set, ← move p k) room)
-
--- what was written as a frame is read as one
-pub frame-read : (xs : List Float) (stride n : ℕ) (f : List Float) → n < stride → length xs ≡ length f * stride → frameAt (withFrame xs stride n f) stride (length f) n ≡ f
-frame-read xs stride n f hn e =
-    tab-is f nan (λ p. sampleAt (withFrame xs stride n f) stride p n)
-    (λ k lt. ap (λ (p : ℕ). sampleAt (withFrame xs stride n f) stride p n) (sym (zero-add k)) ∙ with-frame-at 0 xs stride n f k lt hn (rw zero-add (inside (length f) stride k n (length xs) lt hn e)))
 
 -- the row of plane p has that sample of the frame at n, and all else as it was
 pub row-with-frame : (planes : ℕ) (xs : List Float) (stride n : ℕ) (f : List Float) (p : ℕ) → p < length f → n < stride → length xs ≡ planes * stride → length f ≤ planes

@@ -1,4 +1,4 @@
--- Wrong answers of another shape, refuted on a worked frame of three channels with weights of 1.0: channels added from the last to the first, and a sum that is narrowed at each channel. Assumes nothing.
+-- Wrong answers of another shape, refuted on a worked frame of three channels with weights of 1.0: channels added from the last to the first, a sum that is narrowed at each channel, and damage judged on the sum before it is narrowed. Assumes nothing.
 use mathlib.Core.Path.{_≡_, ap}
 use mathlib.Core.Bool.{true, false, true≢false}
 use mathlib.Core.List.{List, [], _∷_, reverse}
@@ -7,6 +7,7 @@ use lib.Ieee.{Float, fin, binary64, add, mul, round, sum, size, span, climb, uni
 use lib.Ieee.Positive.{positive}
 use Rattle.formats.specs.Floats.{zero-float}
 use Rattle.numbers.specs.Computed.{rounded, narrowed}
+use Rattle.checks.specs.Finite.{unsound}
 use Rattle.planes.specs.Sums.{dot, mixed}
 
 abbrev one : Float
@@ -35,3 +36,11 @@ narrowing a (x ∷ xs) (y ∷ ys) = narrowing (narrowed (add binary64 a (mul bin
 narrowed-at-each-channel : mixed ones small-between ≡ narrowing zero-float small-between ones → ⊥
 unfolding mixed add mul sum round rounded size span climb units odd
 narrowed-at-each-channel h = true≢false (ap positive h)
+
+-- 2^127 twice: the sum is finite in f64 alone
+abbrev loud : List Float
+loud = fin false 1 (pos 127) ∷ fin false 1 (pos 127) ∷ []
+
+judged-before-narrowing : unsound (mixed ones loud ∷ []) ≡ unsound (dot zero-float loud ones ∷ []) → ⊥
+unfolding mixed add mul sum round rounded size span climb units odd
+judged-before-narrowing h = true≢false h

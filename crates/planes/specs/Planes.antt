@@ -1,10 +1,13 @@
 -- Document 01, 'What must change shape': "`&[&[S]]` becomes planes with a stride in one slice".
 -- Frame n of plane p stands at p x stride + n. Definitions only. A place outside the list reads as NaN, and writing there changes nothing.
 use Prim.Native.Nat.{ℕ, suc, _+_, _*_}
+use mathlib.Core.Path.{_≡_}
+use mathlib.Core.Bool.{Bool}
 use mathlib.Core.List.{List, [], _∷_}
 use lib.ListN.{getD, set}
 use lib.Ieee.{Float, nan}
 use Rattle.lists.specs.Tables.{tab}
+use Rattle.checks.specs.Finite.{unsound}
 
 -- ---- reading
 
@@ -31,6 +34,11 @@ withFrameFrom p xs stride n (x ∷ f) = withFrameFrom (suc p) (withSample xs str
 
 abbrev pub withFrame : List Float → ℕ → ℕ → List Float → List Float
 withFrame xs stride n f = withFrameFrom 0 xs stride n f
+
+-- the samples f are put as frame n, and the answer is whether one of them is NaN or infinite
+pub record FramePut (xs : List Float) (stride n : ℕ) (f ys : List Float) (bad : Bool) : Type 0 where
+  pub put : ys ≡ withFrame xs stride n f
+  pub damage : bad ≡ unsound f
 
 -- frames n, n + 1, ..
 abbrev pub withFrames : List Float → ℕ → ℕ → List (List Float) → List Float

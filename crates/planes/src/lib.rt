@@ -10,8 +10,7 @@ ghost use mathlib.Core.Path.{_≡_};
 ghost use Prim.Native.Nat.{_+_, _*_, _≤_, min};
 ghost use lib.ListN.{length, getD};
 ghost use lib.Ieee.{nan};
-ghost use Rattle.checks.specs.Finite.{unsound};
-ghost use Rattle.planes.specs.Planes.{sampleAt, frameAt, withSample, withFrame};
+ghost use Rattle.planes.specs.Planes.{sampleAt, frameAt, withSample, FramePut};
 ghost use Rattle.planes.specs.Sums.{mixed, mixedAll};
 ghost use Rattle.planes.specs.Normalization.{InverseRoot};
 
@@ -74,21 +73,6 @@ pub fn put_sample(xs: &mut [f32], stride: usize, plane: usize, frame: usize, x: 
     }
 }
 
-// Whether one of the samples of a frame is NaN or infinite.
-pub fn unsound_frame(xs: &[f32], stride: usize, planes: usize, frame: usize) -> bool
-    ensures { λ r. ⌜ r ≡ unsound (frameAt (now (xs .entry)) stride planes frame) ⌝ }
-{
-    let mut p = 0;
-    while p < planes {
-        let x = sample(xs, stride, p, frame);
-        if !checks::is_finite(numbers::widen(x)) {
-            return true;
-        }
-        p += 1;
-    }
-    false
-}
-
 // One output of a frame: the f64 sum from 0.0, channels rising, of sample times weight, narrowed.
 fn mix(weights: &[f64], inputs: &[f32], stride: usize, frame: usize) -> f32
     ensures { λ r. ⌜ r ≡ mixed (now (weights .entry)) (frameAt (now (inputs .entry)) stride (length (now (weights .entry))) frame) ⌝ }
@@ -104,7 +88,7 @@ fn mix(weights: &[f64], inputs: &[f32], stride: usize, frame: usize) -> f32
     numbers::narrow(sum)
 }
 
-// Every output of a frame, put as a frame of the output planes.
+// Every output of a frame, put as a frame of the output planes, and whether one of them is NaN or infinite.
 pub fn mix_frame(
     out: &mut [f32],
     out_stride: usize,
@@ -115,18 +99,23 @@ pub fn mix_frame(
     inputs: &[f32],
     stride: usize,
     frame: usize,
-)
-    ensures { λ _. ⌜ now (out .exit) ≡ withFrame (now (out .entry)) «out_stride» «out_frame»
-        (mixedAll outputs channels (now (weights .entry)) (frameAt (now (inputs .entry)) stride channels frame)) ⌝ }
+) -> bool
+    ensures { λ r. ⌜ FramePut (now (out .entry)) «out_stride» «out_frame»
+        (mixedAll outputs channels (now (weights .entry)) (frameAt (now (inputs .entry)) stride channels frame)) (now (out .exit)) r ⌝ }
 {
+    let mut damaged = false;
     let mut o = 0;
     while o < outputs {
         let from = place(weights.len(), channels, o, 0);
         let to = onward(from, channels, weights.len());
         let x = mix(&weights[from..to], inputs, stride, frame);
         put_sample(out, out_stride, o, out_frame, x);
+        if !checks::is_finite(numbers::widen(x)) {
+            damaged = true;
+        }
         o += 1;
     }
+    damaged
 }
 
 // 1.0 over the root of n.

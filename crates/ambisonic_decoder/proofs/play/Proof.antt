@@ -37,7 +37,7 @@ loop-again : tie.Need-loop-again Inv-loop μ-loop
 loop-again c =
     let a = c .before .before .before .before .before .before .before .before .before .before .args in
     let at = c .before .before .before .before .before .before .loop in
-    framing-more (now (a .out)) (a .shape .stride) (a .shape .frames) (outputs-at (a .shape) (now (a .weights)) (now (a .inputs))) (at .out) (at .n) (at .inv) (c .before .before .mix-frame .last .0) (c .before .before .before .before .if1 .taken) (c .before .before .mix-frame .ensures)
+    framing-more (now (a .out)) (a .shape .stride) (a .shape .frames) (outputs-at (a .shape) (now (a .weights)) (now (a .inputs))) (at .out) (at .n) (at .inv) (c .before .before .mix-frame .last .0) (c .before .before .before .before .if1 .taken) (c .before .before .mix-frame .ensures .put)
 
 same-length : tie.Need-same-length Inv-loop μ-loop
 same-length c = omega arith

@@ -70,17 +70,20 @@ use Rattle.desk.proofs.step.Symbol.{name as #desk·step}
 use Rattle.desk.proofs.step.Met as step-thm
 use Rattle.rings.specs.State.{State}
 use Rattle.hrtf_checks.specs.declared.Shape.{Shape}
-use Rattle.hrtf_checks.specs.Call.{Call, Ready}
+use Rattle.hrtf_checks.specs.Call.{Call}
 use Rattle.hrtf_checks.proofs.Shape as S
 use Rattle.hrtf_checks.proofs.Shape.Laws as S′
 use Rattle.hrtf.specs.declared.frames.Played.{Played}
 use Rattle.hrtf.specs.declared.frames.Turn.{Turn}
-use Rattle.hrtf.specs.Computed.{FramePlayed, BlockPlayed}
+use Rattle.hrtf.specs.declared.frames.Scaled.{Scaled}
+use Rattle.hrtf.specs.Computed.{ScaledReady, FramePlayed, BlockPlayed}
 use Rattle.hrtf.proofs.Relent.{Hold, refers, loan, mine, half, rest, lends-both, takes-both}
 use Rattle.hrtf.proofs.Walking.{places, pairs-back, behind, local, tests}
 use Rattle.hrtf.proofs.Playing.{Playing, playing-none, playing-more, playing-all}
 use Rattle.hrtf.proofs.frames.Played as P
 use Rattle.hrtf.proofs.frames.Played.Laws as P′
+use Rattle.hrtf.proofs.frames.Scaled as K
+use Rattle.hrtf.proofs.frames.Scaled.Laws as K′
 use Rattle.hrtf.proofs.frames.Turn as U
 use Rattle.hrtf.proofs.frames.Turn.Laws as U′
 use Rattle.hrtf.proofs.frames.one_frame as one-frame
@@ -94,7 +97,7 @@ use Rattle.hrtf.proofs.frames.block.Code as code
 use Rattle.hrtf.proofs.frames.block.Code.Mir as body
 
 abbrev stayed : Stays (f.ended .signature .params) (f.ended .kept)
-stayed = (stay-none (λ _. D.the-row) yes, (stay-none (λ _. S.the-row) yes, (stay-none (λ _. usize) yes, (stay-none (λ _. usize) yes, (stay-none-slice (0 ∷ []) tt (plain (λ _. f32)) yes, (stay-none-slice (1 ∷ []) tt (plain (λ _. f64)) yes, (stay-none-ref (2 ∷ []) tt (arrayOf (plain (λ _. usize)) 8) yes, (stay-none-slice (3 ∷ []) tt (plain (λ _. f32)) yes, (stay-slice (4 ∷ []) tt (plain (λ _. f32)), (stay-slice (5 ∷ []) tt (plain (λ _. f32)), tt))))))))))
+stayed = (stay-none (λ _. D.the-row) yes, (stay-none (λ _. K.the-row) yes, (stay-none (λ _. usize) yes, (stay-none (λ _. usize) yes, (stay-none-slice (0 ∷ []) tt (plain (λ _. f32)) yes, (stay-none-slice (1 ∷ []) tt (plain (λ _. f64)) yes, (stay-none-ref (2 ∷ []) tt (arrayOf (plain (λ _. usize)) 8) yes, (stay-none-slice (3 ∷ []) tt (plain (λ _. f32)) yes, (stay-slice (4 ∷ []) tt (plain (λ _. f32)), (stay-slice (5 ∷ []) tt (plain (λ _. f32)), tt))))))))))
 
 -- ---- types and machine values
 
@@ -111,8 +114,8 @@ double = tyFloat binary64
 abbrev deskTy : Ty
 deskTy = spell body.table (pointee (D.the-row .written))
 
-abbrev shapeTy : Ty
-shapeTy = spell body.table (pointee (S.the-row .written))
+abbrev scaledTy : Ty
+scaledTy = spell body.table (pointee (K.the-row .written))
 
 abbrev playedTy : Ty
 playedTy = spell body.table (pointee (P.the-row .written))
@@ -180,9 +183,12 @@ module _ {M : Type 1} (𝓤 : URA M) (H : Heap 𝓤) (A : Atoms 𝓤) (at-mem : 
 
 module _ {M : Type 1} (𝓤 : URA M) (H : Heap 𝓤) (A : Atoms 𝓤) (W : Given 𝓤 H A) (at-mem : Memory → SProp 𝓤) (run : Routine → Fun 𝓤)
     (κ₀ κ₁ κ₂ κ₃ κ₄ κ₅ : Lft) (q₀ q₁ q₂ q₃ q₄ q₅ : Share) (bounds : AllOutlive 6 (f.signature .outlives) (κ₀, (κ₁, (κ₂, (κ₃, (κ₄, (κ₅, tt)))))))
-    (d₀ : Desk) (is-d₀ : Is D.the-row d₀ (desk-vals d₀)) (shape : Shape) (is-shape : Is S.the-row shape (LL.vals S.the-type S′.the-laws shape)) (frames : ℕ) (frames-fits : frames < 2 ^ 64) (stride : ℕ) (stride-fits : stride < 2 ^ 64)
+    (d₀ : Desk) (is-d₀ : Is D.the-row d₀ (desk-vals d₀)) (scaled : Scaled) (is-scaled : Is K.the-row scaled (LL.vals K.the-type K′.the-laws scaled)) (frames : ℕ) (frames-fits : frames < 2 ^ 64) (stride : ℕ) (stride-fits : stride < 2 ^ 64)
     (inputs : RefT (List Float)) (inputs-room : Room f32 (length (inputs .now))) (weights : RefT (List Float)) (weights-room : Room f64 (length (weights .now))) (rows : RefT (List ℕ)) (taps : RefT (List Float)) (taps-room : Room f32 (length (taps .now)))
-    (rings₀ : RefT (List Float)) (rings-room : Room f32 (length (rings₀ .now))) (ears₀ : RefT (List Float)) (ears-room : Room f32 (length (ears₀ .now))) (ready : Ready shape (d₀ .position) (rows .now) (taps .now) (rings₀ .now)) where
+    (rings₀ : RefT (List Float)) (rings-room : Room f32 (length (rings₀ .now))) (ears₀ : RefT (List Float)) (ears-room : Room f32 (length (ears₀ .now))) (ready : ScaledReady scaled (d₀ .position) (rows .now) (taps .now) (rings₀ .now)) where
+  abbrev shape : Shape
+  shape = scaled .shape
+
   -- ---- what is held: the tokens of the shared slices, what these own, and the rings and the ears as they were passed
   abbrev Toks : Item 𝓤
   Toks = ‵ (flft κ₀ q₀) ⊛ ‵ (flft κ₁ q₁) ⊛ ‵ (flft κ₂ q₂) ⊛ ‵ (flft κ₃ q₃)
@@ -256,13 +262,13 @@ module _ {M : Type 1} (𝓤 : URA M) (H : Heap 𝓤) (A : Atoms 𝓤) (W : Given
 
   -- ---- the parameters, and how the walk ends
   abbrev a : Args f.signature (κ₀, (κ₁, (κ₂, (κ₃, (κ₄, (κ₅, tt))))))
-  a = (d₀, (shape, (frames, (stride, (inputs, (weights, (rows, (taps, (rings₀, (ears₀, tt))))))))))
+  a = (d₀, (scaled, (frames, (stride, (inputs, (weights, (rows, (taps, (rings₀, (ears₀, tt))))))))))
 
   abbrev at : Vals f.signature (κ₀, (κ₁, (κ₂, (κ₃, (κ₄, (κ₅, tt))))))
-  at = (desk-vals d₀, (LL.vals S.the-type S′.the-laws shape, (vint w64 frames ∷ [], (vint w64 stride ∷ [], (slice-val inputs ∷ [], (slice-val weights ∷ [], (row-val ∷ [], (slice-val taps ∷ [], (slice-val rings₀ ∷ [], (slice-val ears₀ ∷ [], tt))))))))))
+  at = (desk-vals d₀, (LL.vals K.the-type K′.the-laws scaled, (vint w64 frames ∷ [], (vint w64 stride ∷ [], (slice-val inputs ∷ [], (slice-val weights ∷ [], (row-val ∷ [], (slice-val taps ∷ [], (slice-val rings₀ ∷ [], (slice-val ears₀ ∷ [], tt))))))))))
 
   abbrev arguments : List Val
-  arguments = desk-val d₀ ∷ LL.val S.the-type S′.the-laws shape ∷ vint w64 frames ∷ vint w64 stride ∷ slice-val inputs ∷ slice-val weights ∷ row-val ∷ slice-val taps ∷ slice-val rings₀ ∷ slice-val ears₀ ∷ []
+  arguments = desk-val d₀ ∷ LL.val K.the-type K′.the-laws scaled ∷ vint w64 frames ∷ vint w64 stride ∷ slice-val inputs ∷ slice-val weights ∷ row-val ∷ slice-val taps ∷ slice-val rings₀ ∷ slice-val ears₀ ∷ []
 
   abbrev call : Call
   call = record { shape = shape; frames = frames; stride = stride; inputs = inputs .now; weights = weights .now; rows = rows .now; taps = taps .now; ears = ears₀ .now }
@@ -280,7 +286,7 @@ module _ {M : Type 1} (𝓤 : URA M) (H : Heap 𝓤) (A : Atoms 𝓤) (W : Given
       suffices ! _ (ends-at 𝓤 H A f.ended stayed (f.clauses 𝓤 H A at-mem run) W (((κ₀, (κ₁, (κ₂, (κ₃, (κ₄, (κ₅, tt)))))), (q₀, (q₁, (q₂, (q₃, (q₄, (q₅, tt)))))), bounds, a, at), tt) (LL.val U.the-type U′.the-laws (answer d n)) (answer d n) (tt, (tt, (tt, (tt, (tt, (tt, (tt, (tt, (zs, (es, tt)))))))))) (tt, (tt, (tt, (tt, (tt, (tt, (tt, (tt, (same, (room, tt))))))))))) $ says ! blocked $
       move ! (0 ∷ 2 ∷ 4 ∷ []) $ use3 W (Alive κ₄ q₄ κ₅ q₅) (alive κ₄ κ₅ q₄ q₅) $ frame ! $
       use3 W (‵ (Lent (mine rings-held zs) (mine ears-held es))) (lent-in (mine rings-held zs) (mine ears-held es)) $
-      owned ! usize (Is usize) (uint-makes 𝓤 H A W w64) frames _ (refl, frames-fits) $ fjoin ! $ owned ! S.the-row (Is S.the-row) (LL.makes S.the-type S′.the-plain 𝓤 H A) shape _ is-shape $ fjoin ! $
+      owned ! usize (Is usize) (uint-makes 𝓤 H A W w64) frames _ (refl, frames-fits) $ fjoin ! $ owned ! K.the-row (Is K.the-row) (LL.makes K.the-type K′.the-plain 𝓤 H A) scaled _ is-scaled $ fjoin ! $
       owned ! D.the-row (Is D.the-row) (LL.makes D.the-type D′.the-plain 𝓤 H A) d₀ _ is-d₀ $ fjoin ! $ frame ! $
       owned ! U.the-row (Is U.the-row) (LL.makes U.the-type U′.the-plain 𝓤 H A) (answer d n) _ (answer-is d n is-d fits) $ done !
 
@@ -292,19 +298,19 @@ module _ {M : Type 1} (𝓤 : URA M) (H : Heap 𝓤) (A : Atoms 𝓤) (W : Given
   lfts ν = (κ₀, (κ₁, (κ₂, (κ₃, (ν ∷ [], (ν ∷ [], tt))))))
 
   abbrev args : GName → GName → List Float → List Float → Desk → Played → Args one-frame.signature (lfts 0)
-  args δ δ′ zs es d k = (k, (d, (shape, (stride, (inputs, (weights, (rows, (taps, (refers rings-held δ zs, (refers ears-held δ′ es, tt))))))))))
+  args δ δ′ zs es d k = (k, (d, (scaled, (stride, (inputs, (weights, (rows, (taps, (refers rings-held δ zs, (refers ears-held δ′ es, tt))))))))))
 
   abbrev to-frame : ℕ → GName → GName → List Float → List Float → Desk → Played → OneFrame 𝓤 H A at-mem run .Ghost
-  to-frame ν δ δ′ zs es d k = ((lfts ν, (q₀, (q₁, (q₂, (q₃, (half, (rest, tt)))))), tt, args δ δ′ zs es d k, (played-vals k, (desk-vals d, (LL.vals S.the-type S′.the-laws shape, (vint w64 stride ∷ [], (slice-val inputs ∷ [], (slice-val weights ∷ [], (row-val ∷ [], (slice-val taps ∷ [], (slice-val rings₀ ∷ [], (slice-val ears₀ ∷ [], tt))))))))))), tt)
+  to-frame ν δ δ′ zs es d k = ((lfts ν, (q₀, (q₁, (q₂, (q₃, (half, (rest, tt)))))), tt, args δ δ′ zs es d k, (played-vals k, (desk-vals d, (LL.vals K.the-type K′.the-laws scaled, (vint w64 stride ∷ [], (slice-val inputs ∷ [], (slice-val weights ∷ [], (row-val ∷ [], (slice-val taps ∷ [], (slice-val rings₀ ∷ [], (slice-val ears₀ ∷ [], tt))))))))))), tt)
 
   goes-frame : (ν : ℕ) (δ δ′ : GName) (zs es : List Float) (d : Desk) (k : Played) → Is D.the-row d (desk-vals d) → Is P.the-row k (played-vals k)
-      → Ready shape (d .position) (rows .now) (taps .now) zs × (k .unsettled ≤ k .frames) × (suc (k .frames) < 2 ^ 64)
+      → ScaledReady scaled (d .position) (rows .now) (taps .now) zs × (k .unsettled ≤ k .frames) × (suc (k .frames) < 2 ^ 64)
       → ent 𝓤 (⋆ 𝓤 H A (Toks ∷ ‵ (flft (ν ∷ []) half) ∷ ‵ (flft (ν ∷ []) rest) ∷ Shared ∷ ‵ (loan rings-held (ν ∷ []) δ zs) ∷ ‵ (loan ears-held (ν ∷ []) δ′ es) ∷ [])) (OneFrame 𝓤 H A at-mem run .pre (to-frame ν δ δ′ zs es d k))
   goes-frame ν δ δ′ zs es d k is-d is-k asked =
       qed W (Toks ∷ ‵ (flft (ν ∷ []) half) ∷ ‵ (flft (ν ∷ []) rest) ∷ Shared ∷ ‵ (loan rings-held (ν ∷ []) δ zs) ∷ ‵ (loan ears-held (ν ∷ []) δ′ es) ∷ []) ∵ says ! asked $
       use3 W (Alive (ν ∷ []) half (ν ∷ []) rest) (alive (ν ∷ []) (ν ∷ []) half rest) $ frame ! $
       use3 W (‵ (Lent (loan rings-held (ν ∷ []) δ zs) (loan ears-held (ν ∷ []) δ′ es))) (lent-in (loan rings-held (ν ∷ []) δ zs) (loan ears-held (ν ∷ []) δ′ es)) $
-      owned ! S.the-row (Is S.the-row) (LL.makes S.the-type S′.the-plain 𝓤 H A) shape _ is-shape $ fjoin ! $ owned ! D.the-row (Is D.the-row) (LL.makes D.the-type D′.the-plain 𝓤 H A) d _ is-d $ fjoin ! $
+      owned ! K.the-row (Is K.the-row) (LL.makes K.the-type K′.the-plain 𝓤 H A) scaled _ is-scaled $ fjoin ! $ owned ! D.the-row (Is D.the-row) (LL.makes D.the-type D′.the-plain 𝓤 H A) d _ is-d $ fjoin ! $
       owned ! P.the-row (Is P.the-row) (LL.makes P.the-type P′.the-plain 𝓤 H A) k _ is-k $ fjoin ! $ done !
 
   -- the lists that it leaves, the rings and the ears among what its ten parameters leave
@@ -345,7 +351,7 @@ module _ {M : Type 1} (𝓤 : URA M) (H : Heap 𝓤) (A : Atoms 𝓤) (W : Given
   goes-step : (l α : ℕ) (ε : GName) (d : Desk) (bad : Bool) → ent 𝓤 (sep 𝓤 (A .lft (α ∷ []) fullShare) (sem 𝓤 H A (step-lent l α ε d))) (Step 𝓤 H A at-mem run .pre (to-step l α ε d bad))
   goes-step l α ε d bad =
       qed W (‵ (flft (α ∷ []) fullShare) ∷ ‵ (step-lent l α ε d) ∷ []) ∵
-      nothing ! $ owned ! bool (Is bool) (bool-makes 𝓤 H A W) bad _ refl $ fjoin ! $ owned ! usize (Is usize) (uint-makes 𝓤 H A W w64) (shape .length) _ (refl, LL.owed S.the-type S′.the-laws shape _ is-shape .1 .1 .1 .0 .1) $ fjoin ! $ move ! (2 ∷ 0 ∷ []) $ fjoin ! $
+      nothing ! $ owned ! bool (Is bool) (bool-makes 𝓤 H A W) bad _ refl $ fjoin ! $ owned ! usize (Is usize) (uint-makes 𝓤 H A W w64) (shape .length) _ (refl, LL.owed S.the-type S′.the-laws shape _ (LL.owed K.the-type K′.the-laws scaled _ is-scaled .0) .1 .1 .1 .0 .1) $ fjoin ! $ move ! (2 ∷ 0 ∷ []) $ fjoin ! $
       nothing ! $ move ! (2 ∷ 0 ∷ []) $ join ! $ join ! $ frame ! $ done !
 
   abbrev step-gives : ℕ → ℕ → GName → Desk → Bool → Val → Item 𝓤
@@ -386,7 +392,7 @@ module _ {M : Type 1} (𝓤 : URA M) (H : Heap 𝓤) (A : Atoms 𝓤) (W : Given
       -- the locals as the MIR numbers them: _0 the answer, _1 to _10 the parameters, _11 `standing`, _12 `played`; then those without a name: _13 the loop's test, _14 the record that `one_frame` is passed,
       -- _15 to _18 the two slices that are lent again, _19 and _20 what `step` hands back and is passed, and _21 the record in the answer
       abbrev En : Env 𝓤 H
-      En = (turnTy, l₀) ∷ (deskTy, l₁) ∷ (shapeTy, l₂) ∷ (word, l₃) ∷ (word, l₄) ∷ (lent 0 single, l₅) ∷ (lent 1 double, l₆) ∷ (rowTy, l₇) ∷ (lent 3 single, l₈) ∷ (lentMut 4, l₉) ∷ (lentMut 5, l₁₀) ∷ (deskTy, l₁₁) ∷ (playedTy, l₁₂) ∷ (tyBool, l₁₃) ∷ (deskTy, l₁₄) ∷ (cellTy, l₁₅) ∷ (partTy, l₁₆) ∷ (cellTy, l₁₇) ∷ (partTy, l₁₈) ∷ (tyUnit, l₁₉) ∷ (deskRef, l₂₀) ∷ (deskTy, l₂₁) ∷ []
+      En = (turnTy, l₀) ∷ (deskTy, l₁) ∷ (scaledTy, l₂) ∷ (word, l₃) ∷ (word, l₄) ∷ (lent 0 single, l₅) ∷ (lent 1 double, l₆) ∷ (rowTy, l₇) ∷ (lent 3 single, l₈) ∷ (lentMut 4, l₉) ∷ (lentMut 5, l₁₀) ∷ (deskTy, l₁₁) ∷ (playedTy, l₁₂) ∷ (tyBool, l₁₃) ∷ (deskTy, l₁₄) ∷ (cellTy, l₁₅) ∷ (partTy, l₁₆) ∷ (cellTy, l₁₇) ∷ (partTy, l₁₈) ∷ (tyUnit, l₁₉) ∷ (deskRef, l₂₀) ∷ (deskTy, l₂₁) ∷ []
 
       -- a local that holds nothing, and one that holds a value
       abbrev room : Ty → ℕ → List (Item 𝓤) → List (Item 𝓤)
@@ -399,7 +405,7 @@ module _ {M : Type 1} (𝓤 : URA M) (H : Heap 𝓤) (A : Atoms 𝓤) (W : Given
       -- entry 2i, and its right to die entry 2i + 1
       abbrev Between : Desk → Played → List Float → List Float → List (Item 𝓤)
       Between d k zs es =
-          room turnTy l₀ (full deskTy l₁ (desk-val d₀) (full shapeTy l₂ (LL.val S.the-type S′.the-laws shape) (full word l₃ (vint w64 frames) (
+          room turnTy l₀ (full deskTy l₁ (desk-val d₀) (full scaledTy l₂ (LL.val K.the-type K′.the-laws scaled) (full word l₃ (vint w64 frames) (
           full word l₄ (vint w64 stride) (full (lent 0 single) l₅ (slice-val inputs) (full (lent 1 double) l₆ (slice-val weights) (full rowTy l₇ row-val (
           full (lent 3 single) l₈ (slice-val taps) (full (lentMut 4) l₉ (slice-val rings₀) (full (lentMut 5) l₁₀ (slice-val ears₀) (
           full deskTy l₁₁ (desk-val d) (full playedTy l₁₂ (played-val k) (
@@ -448,9 +454,9 @@ module _ {M : Type 1} (𝓤 : URA M) (H : Heap 𝓤) (A : Atoms 𝓤) (W : Given
           use1 W (‵ (cellAt fullShare (D.the-row .mir) (desk-vals d) l₁₁ 0)) (W .laws .at-raw fullShare D′.mir l₁₁ 0 (desk-val d)) $ fjoin ! $ fpack ! (List Val) (λ us. fsep (cellAt fullShare (D.the-row .mir) us l₁₁ 0) (D.the-row .own d us)) (desk-vals d) $
           lft-new ! tt (λ α. move ! (1 ∷ []) $ use1 W (later (some (λ (ε : GName). ‵ (step-lent l₁₁ α ε d) ⊛ ‵ (flent (α ∷ []) (Body (mem D.the-row) l₁₁ 0 ε))))) (lends-ref 𝓤 H A W D.the-row (named 0) (α ∷ []) d l₁₁ 0) $ await ! tt $ pick ! (λ ε. split ! $
           move ! (2 ∷ 0 ∷ []) $ use2 W (raw (Step 𝓤 H A at-mem run .pre (to-step l₁₁ α ε d bad))) (goes-step l₁₁ α ε d bad) $
-          -- _19 = step(_20, _2.length, _12.damaged): [what step asks; lender of α; _0 to _10; what is left of _11; _12 to _21; what is held]
+          -- _19 = step(_20, _2.shape.length, _12.damaged): [what step asks; lender of α; _0 to _10; what is left of _11; _12 to _21; what is held]
           calls-at-last ! fm (Step 𝓤 H A at-mem run) known-step (to-step l₁₁ α ε d bad)
-          (and-then ! (local ! 41 refl) (and-then ! (load ! (from ! (fld ! refl (stop !))) (look-in ! 6 (sub ! 3 refl (whole !)))) (and-then ! (load ! (from ! (fld ! refl (stop !))) (look-in ! 25 (sub ! 2 refl (whole !)))) (no-more !)))) (λ u.
+          (and-then ! (local ! 41 refl) (and-then ! (load ! (from ! (fld ! refl (fld ! refl (stop !)))) (look-in ! 6 (sub ! 3 refl (sub ! 0 refl (whole !))))) (and-then ! (load ! (from ! (fld ! refl (stop !))) (look-in ! 25 (sub ! 2 refl (whole !)))) (no-more !)))) (λ u.
           use1 W (step-gives l₁₁ α ε d bad u) (id⊢ 𝓤 _) $ await ! tt $ pick ! (λ r. split ! $ move ! (1 ∷ []) $ use1 W (step-leaves l₁₁ α ε d bad) (id⊢ 𝓤 _) $ pick ! (λ ds. split ! $ move ! (1 ∷ []) $ heard ! (ds .0 ≡ steppedOf (shape .length) bad d) (λ on.
           -- [what step leaves of the record; the token of α, true and what the unit owns; lender of α; the locals as above; what is held]
           fsplit ! $ move ! (2 ∷ []) $ split ! $ split ! $ move ! (2 ∷ []) $ feqL ! (λ unit.
@@ -487,7 +493,7 @@ module _ {M : Type 1} (𝓤 : URA M) (H : Heap 𝓤) (A : Atoms 𝓤) (W : Given
           -- the rings and the ears are lent again, both for the lifetime ν; the shared slices are copied
           move ! (46 ∷ 47 ∷ 48 ∷ 49 ∷ []) $ lends-both ! tt rings-held ears-held zs es (λ ν δ δ′.
           move ! (50 ∷ []) $ use1 W (Shared ⊛ Shared) shared-twice $ split ! $ move ! (51 ∷ 2 ∷ 3 ∷ 0 ∷ 4 ∷ 5 ∷ []) $ group ! 6 $
-          use1 W (raw (OneFrame 𝓤 H A at-mem run .pre (to-frame ν δ δ′ zs es d k))) (goes-frame ν δ δ′ zs es d k (s .is-desk) (s .is-played) (s .playing .ready, s .playing .few, room-for)) $
+          use1 W (raw (OneFrame 𝓤 H A at-mem run .pre (to-frame ν δ δ′ zs es d k))) (goes-frame ν δ δ′ zs es d k (s .is-desk) (s .is-played) (record { factor = ready .factor; ready = s .playing .ready }, s .playing .few, room-for)) $
           -- _12 = one_frame(_12, _14, _2, _4, _5, _6, _7, _8, _16, _18): [what one_frame asks; shared; owed; _0 to _21]
           calls-at ! fm (OneFrame 𝓤 H A at-mem run) known-frame (to-frame ν δ δ′ zs es d k)
           (and-then ! (local ! 27 refl) (and-then ! (local ! 31 refl) (and-then ! (local ! 7 refl) (and-then ! (local ! 11 refl) (and-then ! (local ! 13 refl) (and-then ! (local ! 15 refl) (and-then ! (local ! 17 refl) (and-then ! (local ! 19 refl) (and-then ! (local ! 35 refl) (and-then ! (local ! 39 refl) (no-more !))))))))))) (λ v.
@@ -533,26 +539,26 @@ module _ {M : Type 1} (𝓤 : URA M) (H : Heap 𝓤) (A : Atoms 𝓤) (W : Given
 
     walk : ent 𝓤 (onEntry 𝓤 H A f.signature (κ₀, (κ₁, (κ₂, (κ₃, (κ₄, (κ₅, tt)))))) (q₀, (q₁, (q₂, (q₃, (q₄, (q₅, tt)))))) a at) (WpFn 𝓤 H C Λ code.function arguments Post)
     walk =
-        qed W (Alive κ₄ q₄ κ₅ q₅ ∷ ‵ (owns (D.the-row ∷ S.the-row ∷ usize ∷ usize ∷ ShrSlice (named 0) κ₀ f32 ∷ ShrSlice (named 1) κ₁ f64 ∷ ShrRef (named 2) κ₂ (Array usize 8) ∷ ShrSlice (named 3) κ₃ f32 ∷ MutSlice (named 4) κ₄ f32 ∷ MutSlice (named 5) κ₅ f32 ∷ []) a at) ∷ []) ∵
+        qed W (Alive κ₄ q₄ κ₅ q₅ ∷ ‵ (owns (D.the-row ∷ K.the-row ∷ usize ∷ usize ∷ ShrSlice (named 0) κ₀ f32 ∷ ShrSlice (named 1) κ₁ f64 ∷ ShrRef (named 2) κ₂ (Array usize 8) ∷ ShrSlice (named 3) κ₃ f32 ∷ MutSlice (named 4) κ₄ f32 ∷ MutSlice (named 5) κ₅ f32 ∷ []) a at) ∷ []) ∵
         move ! (1 ∷ []) $ fsplit ! $ drop ! $ fsplit ! $ drop ! $ fsplit ! $ drop ! $ use1 W (Shared ⊛ ‵ (mine rings-held (rings₀ .now)) ⊛ ‵ (mine ears-held (ears₀ .now))) (lent-back (mine rings-held (rings₀ .now)) (mine ears-held (ears₀ .now))) $ split3 ! $
         move ! (3 ∷ []) $ use1 W (Toks ⊛ ‵ (flft κ₄ q₄) ⊛ ‵ (flft κ₅ q₅)) (tokens-back κ₄ q₄ κ₅ q₅) $ split3 ! $
         enter ! C Λ code.function arguments _ $
         alloc1 ! (λ l₀. alloc1 ! (λ l₁. alloc1 ! (λ l₂. alloc1 ! (λ l₃. alloc1 ! (λ l₄. alloc1 ! (λ l₅. alloc1 ! (λ l₆. alloc1 ! (λ l₇. alloc1 ! (λ l₈. alloc1 ! (λ l₉. alloc1 ! (λ l₁₀. alloc1 ! (λ l₁₁. alloc1 ! (λ l₁₂. alloc1 ! (λ l₁₃. alloc1 ! (λ l₁₄. alloc1 ! (λ l₁₅. alloc1 ! (λ l₁₆. alloc1 ! (λ l₁₇. alloc1 ! (λ l₁₈. alloc1 ! (λ l₁₉. alloc1 ! (λ l₂₀. alloc1 ! (λ l₂₁. alloc0 ! $ params1 ! $
-        pass1 ! (init ! 40 refl (desk-typed d₀ is-d₀)) $ pass1 ! (init ! 38 refl (LL.lawful S.the-type S′.the-laws 𝓤 H A W .typed shape _ is-shape .0)) $ pass1 ! (init ! 36 refl (tt, record { fits = frames-fits })) $ pass1 ! (init ! 34 refl (tt, record { fits = stride-fits })) $ pass1 ! (init ! 32 refl (tt, (tt, (record { fits = inputs-room .0 }, tt)))) $ pass1 ! (init ! 30 refl (tt, (tt, (record { fits = weights-room .0 }, tt)))) $ pass1 ! (init ! 28 refl (tt, tt)) $ pass1 ! (init ! 26 refl (tt, (tt, (record { fits = taps-room .0 }, tt)))) $ pass1 ! (init ! 24 refl (tt, (tt, (record { fits = rings-room .0 }, tt)))) $ pass1 ! (init ! 22 refl (tt, (tt, (record { fits = ears-room .0 }, tt)))) $ pass0 ! $
+        pass1 ! (init ! 40 refl (desk-typed d₀ is-d₀)) $ pass1 ! (init ! 38 refl (LL.lawful K.the-type K′.the-laws 𝓤 H A W .typed scaled _ is-scaled .0)) $ pass1 ! (init ! 36 refl (tt, record { fits = frames-fits })) $ pass1 ! (init ! 34 refl (tt, record { fits = stride-fits })) $ pass1 ! (init ! 32 refl (tt, (tt, (record { fits = inputs-room .0 }, tt)))) $ pass1 ! (init ! 30 refl (tt, (tt, (record { fits = weights-room .0 }, tt)))) $ pass1 ! (init ! 28 refl (tt, tt)) $ pass1 ! (init ! 26 refl (tt, (tt, (record { fits = taps-room .0 }, tt)))) $ pass1 ! (init ! 24 refl (tt, (tt, (record { fits = rings-room .0 }, tt)))) $ pass1 ! (init ! 22 refl (tt, (tt, (record { fits = ears-room .0 }, tt)))) $ pass0 ! $
         -- _11 = _1; _12 = { 0, 0, false }
         assigns ! (of-opd ! (local ! 40 refl)) (from ! (stop !)) (init ! 20 refl (desk-typed d₀ is-d₀)) $
         assigns ! (agg ! (and-then ! (lit ! tt) (and-then ! (lit ! tt) (and-then ! (false-lit !) (no-more !))))) (from ! (stop !)) (init ! 18 refl (LL.lawful P.the-type P′.the-laws 𝓤 H A W .typed none _ none-is .0)) $
         -- [_21 to _0; tokens; κ₄; κ₅; shared; rings; ears]
         keep ! (pairs-back 22 (44 ∷ 47 ∷ 45 ∷ 48 ∷ 46 ∷ 49 ∷ [])) $
-        by ! (plays l₀ l₁ l₂ l₃ l₄ l₅ l₆ l₇ l₈ l₉ l₁₀ l₁₁ l₁₂ l₁₃ l₁₄ l₁₅ l₁₆ l₁₇ l₁₈ l₁₉ l₂₀ l₂₁ (record { rings = rings₀ .now; ears = ears₀ .now; desk = d₀; played = none; is-desk = is-d₀; is-played = none-is; playing = playing-none call before ready }))))))))))))))))))))))))
+        by ! (plays l₀ l₁ l₂ l₃ l₄ l₅ l₆ l₇ l₈ l₉ l₁₀ l₁₁ l₁₂ l₁₃ l₁₄ l₁₅ l₁₆ l₁₇ l₁₈ l₁₉ l₂₀ l₂₁ (record { rings = rings₀ .now; ears = ears₀ .now; desk = d₀; played = none; is-desk = is-d₀; is-played = none-is; playing = playing-none call before (ready .ready) }))))))))))))))))))))))))
 
 module _ {M : Type 1} (𝓤 : URA M) (H : Heap 𝓤) (A : Atoms 𝓤) (W : Given 𝓤 H A) (at-mem : Memory → SProp 𝓤) (run : Routine → Fun 𝓤) (𝓣 : Tables 𝓤 H) (known-frame : Triple 𝓤 (𝓣 .C #hrtf·frames·one-frame) (OneFrame 𝓤 H A at-mem run)) (known-step : Triple 𝓤 (𝓣 .C #desk·step) (Step 𝓤 H A at-mem run)) where
   block-walks : Walks 𝓤 H A f.ended stayed (WpFn 𝓤 H (𝓣 .C) (𝓣 .Λ) code.function) (f.clauses 𝓤 H A at-mem run)
   block-walks =
       walked 𝓤 H A f.ended stayed (f.clauses 𝓤 H A at-mem run) (WpFn 𝓤 H (𝓣 .C) (𝓣 .Λ) code.function)
-      (λ κs. (desk-vals, (LL.vals S.the-type S′.the-laws, (uint-vals w64, (uint-vals w64, (slice-vals, (slice-vals, (ptr-vals, (slice-vals, (slice-vals, (slice-vals, tt)))))))))))
-      (λ κs. (LL.tells D.the-type D′.the-laws, (LL.tells S.the-type S′.the-laws, (uint-tells w64, (uint-tells w64, (shr-slice-tells (named 0) (κs .0) f32, (shr-slice-tells (named 1) (κs .1 .0) f64, (shr-tells (named 2) (κs .1 .1 .0) (Array usize 8), (shr-slice-tells (named 3) (κs .1 .1 .1 .0) f32, (mut-slice-tells (named 4) (κs .1 .1 .1 .1 .0) f32, (mut-slice-tells (named 5) (κs .1 .1 .1 .1 .1 .0) f32, tt)))))))))))
-      (λ κs qs bounds a g are. needs 𝓤 (Ready (a .1 .0) (a .0 .position) (now (a .1 .1 .1 .1 .1 .1 .0)) (now (a .1 .1 .1 .1 .1 .1 .1 .0)) (now (a .1 .1 .1 .1 .1 .1 .1 .1 .0))) _ (λ ready.
+      (λ κs. (desk-vals, (LL.vals K.the-type K′.the-laws, (uint-vals w64, (uint-vals w64, (slice-vals, (slice-vals, (ptr-vals, (slice-vals, (slice-vals, (slice-vals, tt)))))))))))
+      (λ κs. (LL.tells D.the-type D′.the-laws, (LL.tells K.the-type K′.the-laws, (uint-tells w64, (uint-tells w64, (shr-slice-tells (named 0) (κs .0) f32, (shr-slice-tells (named 1) (κs .1 .0) f64, (shr-tells (named 2) (κs .1 .1 .0) (Array usize 8), (shr-slice-tells (named 3) (κs .1 .1 .1 .0) f32, (mut-slice-tells (named 4) (κs .1 .1 .1 .1 .0) f32, (mut-slice-tells (named 5) (κs .1 .1 .1 .1 .1 .0) f32, tt)))))))))))
+      (λ κs qs bounds a g are. needs 𝓤 (ScaledReady (a .1 .0) (a .0 .position) (now (a .1 .1 .1 .1 .1 .1 .0)) (now (a .1 .1 .1 .1 .1 .1 .1 .0)) (now (a .1 .1 .1 .1 .1 .1 .1 .1 .0))) _ (λ ready.
       walk 𝓤 H A W at-mem run (κs .0) (κs .1 .0) (κs .1 .1 .0) (κs .1 .1 .1 .0) (κs .1 .1 .1 .1 .0) (κs .1 .1 .1 .1 .1 .0) (qs .0) (qs .1 .0) (qs .1 .1 .0) (qs .1 .1 .1 .0) (qs .1 .1 .1 .1 .0) (qs .1 .1 .1 .1 .1 .0) bounds
       (a .0) (are .0) (a .1 .0) (are .1 .0) (a .1 .1 .0) (are .1 .1 .0 .1) (a .1 .1 .1 .0) (are .1 .1 .1 .0 .1)
       (a .1 .1 .1 .1 .0) (are .1 .1 .1 .1 .0 .0 .1) (a .1 .1 .1 .1 .1 .0) (are .1 .1 .1 .1 .1 .0 .0 .1) (a .1 .1 .1 .1 .1 .1 .0) (a .1 .1 .1 .1 .1 .1 .1 .0) (are .1 .1 .1 .1 .1 .1 .1 .0 .0 .1)
@@ -560,7 +566,7 @@ module _ {M : Type 1} (𝓤 : URA M) (H : Heap 𝓤) (A : Atoms 𝓤) (W : Given
       ready 𝓣 known-frame known-step))
 
   goes-all : AllGo 𝓤 H A W 6 (f.signature .params) (f.ended .kept) stayed
-  goes-all = (goes-none 𝓤 H A W 6 (λ _. D.the-row) yes (λ κs x f. refl), (goes-none 𝓤 H A W 6 (λ _. S.the-row) yes (λ κs x f. refl), (goes-none 𝓤 H A W 6 (λ _. usize) yes (λ κs x f. refl), (goes-none 𝓤 H A W 6 (λ _. usize) yes (λ κs x f. refl), (goes-none-slice 𝓤 H A W 6 (0 ∷ []) tt (plain (λ _. f32)) yes, (goes-none-slice 𝓤 H A W 6 (1 ∷ []) tt (plain (λ _. f64)) yes, (goes-none-ref 𝓤 H A W 6 (2 ∷ []) tt (arrayOf (plain (λ _. usize)) 8) yes, (goes-none-slice 𝓤 H A W 6 (3 ∷ []) tt (plain (λ _. f32)) yes, (goes-slice 𝓤 H A W 6 4 tt (plain (λ _. f32)), (goes-slice 𝓤 H A W 6 5 tt (plain (λ _. f32)), tt))))))))))
+  goes-all = (goes-none 𝓤 H A W 6 (λ _. D.the-row) yes (λ κs x f. refl), (goes-none 𝓤 H A W 6 (λ _. K.the-row) yes (λ κs x f. refl), (goes-none 𝓤 H A W 6 (λ _. usize) yes (λ κs x f. refl), (goes-none 𝓤 H A W 6 (λ _. usize) yes (λ κs x f. refl), (goes-none-slice 𝓤 H A W 6 (0 ∷ []) tt (plain (λ _. f32)) yes, (goes-none-slice 𝓤 H A W 6 (1 ∷ []) tt (plain (λ _. f64)) yes, (goes-none-ref 𝓤 H A W 6 (2 ∷ []) tt (arrayOf (plain (λ _. usize)) 8) yes, (goes-none-slice 𝓤 H A W 6 (3 ∷ []) tt (plain (λ _. f32)) yes, (goes-slice 𝓤 H A W 6 4 tt (plain (λ _. f32)), (goes-slice 𝓤 H A W 6 5 tt (plain (λ _. f32)), tt))))))))))
 
   block-meets : Meets 𝓤 H A f.signature (WpFn 𝓤 H (𝓣 .C) (𝓣 .Λ) code.function) (f.spec 𝓤 H A at-mem run)
   block-meets =

@@ -1,0 +1,18 @@
+-- `hrtf::frames::scale` meets its contract: the factor is what `inverse_root` answers. Assumes nothing.
+use mathlib.Core.Path.{ap}
+use native.Mathlib.Omega.{arith}
+use lib.Ieee.{Float}
+use Rattle.hrtf.proofs.frames.scale.Statement.{statement}
+use Rattle.hrtf.proofs.frames.scale.Tie as tie
+
+cast-inverse-root : tie.Need-cast-inverse-root
+cast-inverse-root c = omega (arith, c .before .pre)
+
+inverse-root-requires : tie.Need-inverse-root-requires
+inverse-root-requires c κs = tt
+
+returns : tie.Need-returns
+returns c = ap (λ (x : Float). record { shape = c .before .before .args .shape; «inverse_root» = x }) (c .inverse-root .ensures .value)
+
+pub scale-spec : {M : Type 1} → statement M
+scale-spec = tie.close (tie.spec cast-inverse-root inverse-root-requires returns)
