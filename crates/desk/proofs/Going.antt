@@ -1,17 +1,19 @@
 -- A desk whose position is below L goes on: its position stays below L, and so do its frames to go. Assumes nothing.
-use Prim.Native.Nat.{ℕ, _+_, _<_}
+use Prim.Native.Nat.{ℕ, _+_, _%_, _<_}
 use mathlib.Core.Path.{_≡_, sym, ap, subst}
 use mathlib.Core.Bool.{Bool, true, false, cond}
 use native.Mathlib.Nat.{mod-lt}
 use native.Mathlib.Omega.{arith}
 use borrow.Author.Tests.{lt-ltb}
 use Rattle.desk.specs.declared.Desk.{Desk}
-use Rattle.desk.specs.Numbers.{toGoNext}
-use Rattle.desk.specs.Computed.{advanced, steppedOf}
+use Rattle.desk.specs.Numbers.{toGoNext, steppedOf}
 
 module _ (L : ℕ) (bad : Bool) (d : Desk) (h : d .position < L) where
-  pub desk-on : steppedOf L bad d ≡ advanced L bad d
-  desk-on = ap (λ (b : Bool). cond b (advanced L bad d) d) (lt-ltb (d .position) L h)
+  abbrev pub advanced : Desk
+  advanced = record { position = (d .position + 1) % L; «to_go» = toGoNext L bad (d .«to_go») }
+
+  pub desk-on : steppedOf L bad d ≡ advanced
+  desk-on = ap (λ (b : Bool). cond b advanced d) (lt-ltb (d .position) L h)
 
   pub position-below : steppedOf L bad d .position < L
   position-below = subst (λ (e : Desk). e .position < L) (sym desk-on) (mod-lt (d .position + 1) {m = L} (omega (arith, h)))

@@ -5,7 +5,7 @@ use mathlib.Core.Bool.{Bool}
 use Rattle.refusals.specs.OneAnswer.{OneAnswer}
 use Rattle.refusals.proofs.Determined.{determined}
 use Rattle.desk.specs.declared.Desk.{Desk}
-use Rattle.desk.specs.Computed.{steppedOf}
+use Rattle.desk.specs.Numbers.{steppedOf}
 
 -- of the answer of `stepped`, and of what `step` leaves where the record stands
 stepped-unique : (L : ℕ) (damaged : Bool) (d : Desk) → OneAnswer (λ (r : Desk). r ≡ steppedOf L damaged d)

@@ -1,3 +1,2 @@
 -- The words of the promises of `desk`.
 pub mod Numbers
-pub mod Computed

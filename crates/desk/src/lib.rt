@@ -5,8 +5,7 @@
 // take any record, and promise the record one frame on by an equation. Under it lies `refusals`, for a law.
 ghost use mathlib.Core.Path.{_≡_};
 ghost use Prim.Native.Nat.{_<_};
-ghost use Rattle.desk.specs.Numbers.{toGoNext};
-ghost use Rattle.desk.specs.Computed.{steppedOf};
+ghost use Rattle.desk.specs.Numbers.{toGoNext, steppedOf};
 
 pub struct Desk {
     pub position: usize,

@@ -13,7 +13,7 @@ use Rattle.lists.proofs.Going.{Going, going-none, going-more, going-all}
 use Rattle.lists.proofs.Lists.{one-at-most}
 use Rattle.planes.proofs.Planes.{length-with-frame}
 use Rattle.desk.specs.declared.Desk.{Desk}
-use Rattle.desk.specs.Computed.{steppedOf}
+use Rattle.desk.specs.Numbers.{steppedOf}
 use Rattle.desk.proofs.Going.{position-below}
 use Rattle.history.specs.Setup.{Setup}
 use Rattle.history.specs.Signals.{signals}
@@ -21,7 +21,8 @@ use Rattle.rings.specs.State.{State}
 use Rattle.rings.specs.Computed.{stored, ringEar, ears, late, stepped, left, played, counted}
 use Rattle.rings.proofs.Told.{length-stored}
 use Rattle.hrtf_checks.specs.declared.Shape.{Shape}
-use Rattle.hrtf_checks.specs.Call.{Call, setupOf, setup, framesIn, Ready}
+use Rattle.hrtf_checks.specs.Call.{Call, setupOf, setup, framesIn}
+use Rattle.hrtf_checks.specs.Computed.{Ready}
 use Rattle.hrtf.specs.Promise.{Outcome}
 use Rattle.hrtf.specs.Computed.{earBy, FramePlayed, BlockPlayed}
 

@@ -129,7 +129,7 @@ module _ (speakers L : ℕ) (rings : List Float) where
   reset-accepts h = off-accepts (resetChecks speakers L rings) h
 
 module _ (d : Desk) (speakers L : ℕ) (rings : List Float) where
-  reset-by : (k : ℕ) → resetRefusal speakers L rings ≡ k → resetOutcome d speakers L rings ≡ resetBy k d rings
+  pub reset-by : (k : ℕ) → resetRefusal speakers L rings ≡ k → resetOutcome d speakers L rings ≡ resetBy k d rings
   unfolding resetOutcome
   reset-by k e = ap (λ (n : ℕ). resetBy n d rings) e
 

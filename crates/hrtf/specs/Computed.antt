@@ -12,7 +12,8 @@ use Rattle.history.specs.Signals.{damaged}
 use Rattle.rings.specs.State.{State}
 use Rattle.rings.specs.Computed.{stored, ringEar, ears, late, left, played, counted}
 use Rattle.hrtf_checks.specs.declared.Shape.{Shape}
-use Rattle.hrtf_checks.specs.Call.{Call, setupOf, setup, framesIn, Ready}
+use Rattle.hrtf_checks.specs.Call.{Call, setupOf, setup, framesIn}
+use Rattle.hrtf_checks.specs.Computed.{Ready}
 use Rattle.hrtf.specs.declared.frames.Scaled.{Scaled}
 use Rattle.hrtf.specs.Promise.{Outcome}
 

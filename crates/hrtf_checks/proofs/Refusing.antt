@@ -14,7 +14,8 @@ use Rattle.checks.proofs.Checks.{or-off, both-off, any-off, is-equal, equal-pas
 use Rattle.desk.specs.declared.Desk.{Desk}
 use Rattle.rings.specs.State.{State}
 use Rattle.hrtf_checks.specs.declared.Shape.{Shape}
-use Rattle.hrtf_checks.specs.Call.{Call, Ready}
+use Rattle.hrtf_checks.specs.Call.{Call}
+use Rattle.hrtf_checks.specs.Computed.{Ready}
 use Rattle.hrtf_checks.specs.Refusals.{misshapen, misfit, astray, callChecks, refusalOf}
 
 -- a bank that is well shaped has at most 8 rows

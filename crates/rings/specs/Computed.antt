@@ -9,7 +9,7 @@ use Rattle.formats.specs.Floats.{zero-float}
 use Rattle.lists.specs.Tables.{row, count}
 use Rattle.planes.specs.Planes.{withFrame}
 use Rattle.planes.specs.Sums.{dot}
-use Rattle.desk.specs.Computed.{steppedOf}
+use Rattle.desk.specs.Numbers.{steppedOf}
 use Rattle.history.specs.Setup.{Setup, tapsIn}
 use Rattle.history.specs.Signals.{signals, damaged}
 use Rattle.history.specs.History.{earOf}

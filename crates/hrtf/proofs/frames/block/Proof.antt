@@ -60,7 +60,7 @@ use denote.Triple.Walked.{says, needs, Stays, stay-none-slice, stay-none-ref, st
 use denote.Triple.Clauses.{ensured, Lasts, lasts}
 use denote.Exit.{yes}
 use Rattle.planes.specs.Planes.{frameAt}
-use Rattle.desk.specs.Computed.{steppedOf}
+use Rattle.desk.specs.Numbers.{steppedOf}
 use Rattle.desk.specs.declared.Desk.{Desk}
 use Rattle.desk.proofs.Desk as D
 use Rattle.desk.proofs.Desk.Laws as D′
