@@ -1,10 +1,13 @@
--- `ears_file::run` meets its contract. Assumes nothing.
-use mathlib.Core.Path.{sym, subst, _∙_}
-use lib.ListN.{length-replicate}
+-- `ears_file::run` meets its contract: a bank that breaks the form, a failure, or a run with a good bank. Assumes nothing.
+use mathlib.Core.Path.{subst}
+use lib.IntN.{pos}
+use lib.ListN.{replicate, length-replicate}
+use lib.Ieee.{Float, binary32}
+use Rattle.formats.proofs.Patterns.{zero-bits}
 use Rattle.formats.specs.Floats.{zero-float}
-use Rattle.runs.proofs.SetUp.{few-rows, short-filters}
-use Rattle.ears_file.specs.Promise.{OfFiles}
-use Rattle.ears_file.proofs.Ending.{failed-answers, ended-answers, answers-on, bank-refused, sound, of-files}
+use Rattle.ears_file.specs.Promise.{Found}
+use Rattle.ears_file.proofs.SetUp.{bank-refused}
+use Rattle.ears_file.proofs.Ending.{failed-answers}
 use borrow.Author.Needs.{needs}
 use Rattle.ears_file.proofs.run.Statement.{statement}
 use Rattle.ears_file.proofs.run.Tie as tie
@@ -16,7 +19,7 @@ slice-aggregate-read-2 : tie.Need-slice-aggregate-read-2
 slice-aggregate-read-2 c = search needs
 
 read-requires : tie.Need-read-requires
-read-requires c κs = search needs
+read-requires c κs = tt
 
 open-out-requires : tie.Need-open-out-requires
 open-out-requires c κs = tt
@@ -27,11 +30,14 @@ close-requires c κs = tt
 refused-requires : tie.Need-refused-requires
 refused-requires c κs = tt
 
-ended-requires : tie.Need-ended-requires
-ended-requires c κs = tt
+done-requires : tie.Need-done-requires
+done-requires c κs = tt
 
 returns : tie.Need-returns
-returns c = ended-answers OfFiles _ _ (c .ended .ensures) (subst OfFiles (sym (c .before .refused .ensures)) (bank-refused _ _ (length-replicate 8192 zero-float) (c .before .before .before .before .before .before .before .before .read .ensures) (c .before .before .before .if1 .taken)))
+returns c =
+    let test = c .before .before .before in
+    let read = test .before .before .before .before .before .read in
+    bank-refused _ _ (read .ensures) (length-replicate 8192 zero-float) (test .if1 .taken) _ _ (c .before .refused .ensures) (c .done .ensures)
 
 fail-requires : tie.Need-fail-requires
 fail-requires c κs = tt
@@ -40,7 +46,7 @@ failed-requires : tie.Need-failed-requires
 failed-requires c κs = tt
 
 returns-2 : tie.Need-returns-2
-returns-2 c = failed-answers _ _ (c .failed .ensures)
+returns-2 c = failed-answers _ (c .failed .ensures)
 
 slice-aggregate-play-with : tie.Need-slice-aggregate-play-with
 slice-aggregate-play-with c = search needs
@@ -50,10 +56,9 @@ slice-aggregate-play-with-2 c = search needs
 
 play-with-requires : tie.Need-play-with-requires
 play-with-requires c κs =
-    let read = c .before .before .before .before .before .before .before .before .read in
-    let zeroth = c .before .before .before .if1 .left in
-    let most = length-replicate 8192 zero-float in
-    ((few-rows _ _ _ _ (read .ensures .reads) zeroth, short-filters _ _ _ _ (read .ensures .reads) zeroth), (read .kept .1 .0, read .kept .1 .1 .0 ∙ most, sound _ _ most (read .ensures) zeroth))
+    let test = c .before .before .before in
+    let read = test .before .before .before .before .before .read in
+    (test .if1 .left, subst (λ (x : Float). Found (replicate 8 (pos 0)) (replicate 8192 x) (record { answer = read .result; azimuths = read .last .1 .0; taps = read .last .1 .1 .0 })) (zero-bits binary32) (read .ensures))
 
 close-requires-2 : tie.Need-close-requires-2
 close-requires-2 c κs = tt
@@ -65,10 +70,10 @@ failed-requires-2 : tie.Need-failed-requires-2
 failed-requires-2 c κs = tt
 
 returns-3 : tie.Need-returns-3
-returns-3 c = failed-answers _ _ (c .failed2 .ensures)
+returns-3 c = failed-answers _ (c .failed2 .ensures)
 
 returns-4 : tie.Need-returns-4
-returns-4 c = answers-on _ _ _ (of-files _ _ (length-replicate 8192 zero-float) (c .before .before .before .before .before .before .before .before .before .before .before .read .ensures) (c .before .before .before .before .before .before .if1 .left)) (c .before .before .play-with .ensures)
+returns-4 c = search needs
 
 pub run-spec : {M : Type 1} → statement M
 run-spec =
@@ -80,7 +85,7 @@ run-spec =
     open-out-requires
     close-requires
     refused-requires
-    ended-requires
+    done-requires
     returns
     fail-requires
     failed-requires

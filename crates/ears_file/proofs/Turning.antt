@@ -1,0 +1,157 @@
+-- What a turn leaves, from what `wire` and `hrtf` promise: `turn-further`. Where something stands for a line the convolver does not refuse. Assumes nothing.
+use mathlib.Core.Path.{_≡_, refl, sym, ap, _∙_, subst}
+use mathlib.Core.Bool.{false}
+use mathlib.Core.List.{List, [], _++_, map}
+use Prim.Native.Nat.{ℕ, _+_, _-_, _*_, _≤_, _<_, min}
+use native.Mathlib.Omega.{arith}
+use borrow.Author.Tests.{ne-eqb}
+use lib.Dec.{eqb}
+use lib.ListN.{length, take, drop, length-drop, take-append-drop}
+use lib.Seq.{take-take, length-take-le}
+use lib.Ieee.{Float}
+use Rattle.lists.specs.Placed.{placed}
+use Rattle.lists.proofs.Placed.{take-placed}
+use Rattle.lists.proofs.Tables.{length-tab}
+use Rattle.checks.specs.Finite.{unsound}
+use Rattle.planes.specs.Planes.{frameAt, framesOf, withFrames}
+use Rattle.planes.proofs.Planes.{length-with-frames, frames-read}
+use Rattle.history.specs.Setup.{Setup}
+use Rattle.history.specs.History.{heard, unsettledIn, after}
+use Rattle.history.proofs.Pieces.{length-heard, two-each}
+use Rattle.rings.specs.State.{State}
+use Rattle.rings.specs.Represents.{Represents}
+use Rattle.rings.proofs.ToGo.{to-go-below}
+use Rattle.hrtf_checks.specs.declared.Shape.{Shape}
+use Rattle.hrtf_checks.specs.Call.{Call, setupOf}
+use Rattle.hrtf_checks.specs.Refusals.{refusalOf}
+use Rattle.hrtf.specs.Promise.{Outcome, Processes, stateAfter}
+use Rattle.hrtf.proofs.Promised.{ears-over, unsettled-over}
+use Rattle.runs.specs.SetUp.{Turns}
+use Rattle.wire.specs.Frames.{frameIn, wholeIn, framesIn, restIn}
+use Rattle.wire.specs.Ears.{earBytes}
+use Rattle.wire.specs.Promises.{roomFor, Taken, Given}
+use Rattle.wire.proofs.Cut.{cut-rest}
+use Rattle.wire.proofs.Ears.{length-ears}
+use Rattle.wire.proofs.Lengths.{six-each}
+use Rattle.ears_file.specs.declared.turn.Progress.{Progress}
+use Rattle.ears_file.specs.Counting.{countedOn}
+use Rattle.ears_file.specs.Promise.{beyond}
+use Rattle.ears_file.specs.Turns.{Ready, Stands, Further}
+use Rattle.ears_file.proofs.Cuts.{past-more, unsettled-more, whole-more}
+
+-- rings and a desk that stand for a past turn
+pub represents-turns : (u : Setup) (past : List (List Float)) (t : State) → Represents u past t → Turns (u .speakers) (u .L) t
+represents-turns u past t r =
+    record { ringed = r .room; within = r .within; waits = omega (arith, r .waits, to-go-below (u .L) 0 (map unsound past) (omega (arith, r .within))) }
+
+-- a count that is added to is the count of all
+counted-on : (count so-far more all now : ℕ) → count ≡ countedOn 0 so-far → now ≡ countedOn count more → so-far + more ≡ all → now ≡ countedOn 0 all
+counted-on count so-far more all now e f g = omega (arith, e, f, g)
+
+-- the calls of a turn: frames from bytes, a block, bytes from ears
+module _ (h : Shape) (weights : List Float) (rows : List ℕ) (taps : List Float) (ready : Ready h weights rows taps)
+    (p : Progress) (size : ℕ) (bytes : List ℕ) (inputs rings ears : List Float) (out : List ℕ)
+    (sized : (p .held < size) × (size ≤ 24576) × (size ≤ length bytes)) (inputs-long : length inputs ≡ 6144) (ears-long : length ears ≡ 2048) (out-long : length out ≡ 8192)
+    (n : ℕ) (inputs₁ : List Float) (taken : Taken (take size bytes) 1024 inputs n inputs₁)
+    (o : Outcome) (processes : Processes (record { shape = h; frames = n; stride = 1024; inputs = inputs₁; weights = weights; rows = rows; taps = taps; ears = ears }) (record { rings = rings; desk = p .desk }) o)
+    (put : ℕ) (out₁ : List ℕ) (given : Given (o .ears) 1024 n out put out₁) where
+  abbrev u : Setup
+  u = setupOf h weights rows taps
+
+  abbrev call : Call
+  call = record { shape = h; frames = n; stride = 1024; inputs = inputs₁; weights = weights; rows = rows; taps = taps; ears = ears }
+
+  abbrev state : State
+  state = record { rings = rings; desk = p .desk }
+
+  abbrev part : List ℕ
+  part = drop (p .held) (take size bytes)
+
+  come-long : length (take size bytes) ≡ size
+  come-long = length-take-le size bytes (sized .2)
+
+  few : n ≤ 1024
+  few = omega (arith, taken .count, come-long, sized .1)
+
+  some-part : false ≡ eqb (length part) 0
+  some-part = let some : length part ≡ 0 → ⊥ = λ e. omega (arith, e, length-drop (p .held) (take size bytes), come-long, sized .0) in sym (ne-eqb _ _ some)
+
+  module _ (line : List ℕ) (stood : Stands u line p rings bytes) where
+    abbrev past : List (List Float)
+    past = after u [] (framesIn line)
+
+    comes : take size bytes ≡ restIn line ++ part
+    comes =
+        let low : p .held ≤ size = omega (arith, sized .0) in
+        sym (take-append-drop (p .held) (take size bytes)) ∙ ap (λ (bs : List ℕ). bs ++ drop (p .held) (take size bytes)) (take-take (p .held) size bytes low ∙ stood .keeps)
+
+    not-refused : refusalOf call state ≡ 0
+    not-refused =
+        let long : length inputs₁ ≡ 6144 = ap length (taken .filled) ∙ length-with-frames inputs 1024 0 (framesIn (take size bytes)) ∙ inputs-long in
+        ready .accepts n inputs₁ ears state few long ears-long (represents-turns u past state (stood .history))
+
+    -- the frames that stand in the input planes are those that have come
+    read : framesOf inputs₁ 1024 (h .channels) n ≡ framesIn (restIn line ++ part)
+    read =
+        let come = take size bytes in
+        let many : length (framesIn come) ≡ wholeIn come = length-tab 0 (wholeIn come) (frameIn come) in
+        ap (λ (xs : List Float). framesOf xs 1024 (h .channels) n) (taken .filled)
+        ∙ ap (λ (k : ℕ). framesOf (withFrames inputs 1024 0 (framesIn come)) 1024 k n) (ready .six)
+        ∙ ap (framesOf (withFrames inputs 1024 0 (framesIn come)) 1024 6) (taken .count ∙ sym many)
+        ∙ frames-read 6 inputs 1024 (framesIn come) (omega (arith, many, taken .count, few)) inputs-long (six-each come)
+        ∙ ap framesIn comes
+
+    -- and the ears that stand in the ear planes are those that are heard
+    sounds : framesOf (o .ears) 1024 2 n ≡ heard u past (framesIn (restIn line ++ part))
+    sounds =
+        let fs = framesIn (restIn line ++ part) in
+        let many : length (heard u past fs) ≡ n = length-heard u past fs ∙ ap length (sym read) ∙ length-tab 0 n (frameAt inputs₁ 1024 (h .channels)) in
+        ap (λ (ys : List Float). framesOf ys 1024 2 n)
+        (ears-over call state o processes past (stood .history) not-refused ∙ ap (λ (gs : List (List Float)). withFrames ears 1024 0 (heard u past gs)) read)
+        ∙ ap (framesOf (withFrames ears 1024 0 (heard u past fs)) 1024 2) (sym many)
+        ∙ frames-read 2 ears 1024 (heard u past fs) (omega (arith, many, few)) ears-long (two-each u past fs)
+
+    put-out : take put out₁ ≡ beyond u line part
+    put-out =
+        let all : roomFor n out ≡ n = omega (arith, few, out-long) in
+        ap (take put) (given .filled ∙ ap (λ (k : ℕ). placed out 0 (earBytes (framesOf (o .ears) 1024 2 k))) all)
+        ∙ take-placed out (earBytes (framesOf (o .ears) 1024 2 n)) put (length-ears (o .ears) 1024 n ∙ omega (arith, all, given .count))
+        ∙ ap earBytes sounds
+
+    history : Represents u (after u [] (framesIn (line ++ part))) (stateAfter o)
+    history =
+        subst (λ (gs : List (List Float)). Represents u gs (stateAfter o)) (ap (after u past) read ∙ past-more u line part)
+        (processes .keeps past (stood .history) not-refused)
+
+    rest : drop (n * 24) (take size bytes) ≡ restIn (line ++ part)
+    rest = ap (λ (k : ℕ). drop (k * 24) (take size bytes)) (taken .count) ∙ ap restIn comes ∙ sym (cut-rest line part)
+
+    whole : wholeIn line + n ≡ wholeIn (line ++ part)
+    whole = ap (λ (k : ℕ). wholeIn line + k) (taken .count ∙ ap wholeIn comes) ∙ whole-more line part
+
+    unsettled : unsettledIn u 0 [] (framesIn line) + o .answer .unsettled ≡ unsettledIn u 0 [] (framesIn (line ++ part))
+    unsettled =
+        ap (λ (k : ℕ). unsettledIn u 0 [] (framesIn line) + k) (unsettled-over call state o processes past (stood .history) not-refused ∙ ap (unsettledIn u 0 past) read)
+        ∙ unsettled-more u line part
+
+  -- and what is left of the bytes is kept, and all is counted
+  module _ (bytes₁ : List ℕ) (kept : bytes₁ ≡ placed bytes 0 (drop (n * 24) (take size bytes)))
+      (frames₁ unsettled₁ : ℕ) (frames-on : frames₁ ≡ countedOn (p .frames) n) (unsettled-on : unsettled₁ ≡ countedOn (p .unsettled) (o .answer .unsettled)) where
+    left-long : length (drop (n * 24) (take size bytes)) ≡ size - n * 24
+    left-long = length-drop (n * 24) (take size bytes) ∙ ap (λ (k : ℕ). k - n * 24) come-long
+
+    pub turn-further : Further u p rings bytes false
+        (record { progress = record { desk = o .answer .desk; held = size - n * 24; frames = frames₁; unsettled = unsettled₁ }; bytes = put }) (o .rings) bytes₁ out₁
+    turn-further =
+        record {
+          part = part;
+          none = some-part;
+          stands = λ line stood. record {
+            history = history line stood;
+            keeps = ap (take (size - n * 24)) kept ∙ take-placed bytes (drop (n * 24) (take size bytes)) (size - n * 24) left-long ∙ rest line stood;
+            holds = sym left-long ∙ ap length (rest line stood);
+            frames = counted-on (p .frames) (wholeIn line) n (wholeIn (line ++ part)) frames₁ (stood .frames) frames-on (whole line stood);
+            unsettled = counted-on (p .unsettled) (unsettledIn u 0 [] (framesIn line)) (o .answer .unsettled) (unsettledIn u 0 [] (framesIn (line ++ part))) unsettled₁ (stood .unsettled) unsettled-on (unsettled line stood);
+          };
+          put = put-out;
+        }
