@@ -38,7 +38,8 @@ module _ (u : Setup) (line part : List ℕ) where
   ears-more : earsOf u line ++ beyond u line part ≡ earsOf u (line ++ part)
   ears-more = ears-on u (framesIn (line ++ part)) (framesIn line) (framesIn (restIn line ++ part)) (cut-frames line part)
 
-  pub unsettled-more : unsettledIn u 0 [] (framesIn line) + unsettledIn u 0 (after u [] (framesIn line)) (framesIn (restIn line ++ part)) ≡ unsettledIn u 0 [] (framesIn (line ++ part))
+  pub unsettled-more : unsettledIn u 0 [] (framesIn line) + unsettledIn u 0 (after u [] (framesIn line)) (framesIn (restIn line ++ part))
+      ≡ unsettledIn u 0 [] (framesIn (line ++ part))
   unsettled-more = unsettled-on u (framesIn (line ++ part)) (framesIn line) (framesIn (restIn line ++ part)) (cut-frames line part)
 
 pub whole-more : (line part : List ℕ) → wholeIn line + wholeIn (restIn line ++ part) ≡ wholeIn (line ++ part)
@@ -57,3 +58,7 @@ put-after u line (part ∷ parts) =
 pub cut-anywhere : CutAnywhere
 unfolding earBytes flatMap
 cut-anywhere u parts = put-after u [] parts
+
+-- so two ways of cutting the same line put out the same
+cut-alike : (u : Setup) (parts others : List (List ℕ)) → flatten parts ≡ flatten others → flatten (putInParts u [] parts) ≡ flatten (putInParts u [] others)
+cut-alike u parts others e = cut-anywhere u parts ∙ ap (earsOf u) e ∙ sym (cut-anywhere u others)

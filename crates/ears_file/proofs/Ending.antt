@@ -1,11 +1,11 @@
 -- How a run ends, by what stands for the line, and how it is told. Assumes nothing.
-use mathlib.Core.Path.{_≡_, refl, sym, ap, _∙_, subst}
+use mathlib.Core.Path.{_≡_, refl, sym, _∙_, subst}
 use mathlib.Core.Bool.{Bool, true, false, cond}
 use mathlib.Core.List.{List, []}
 use Prim.Native.Nat.{ℕ, _≤_}
 use native.Mathlib.Omega.{arith}
 use borrow.Author.Tests.{ltb-false}
-use lib.Dec.{ltb, eqb}
+use lib.Dec.{ltb}
 use lib.ListN.{length}
 use lib.Ieee.{Float}
 use Rattle.io.specs.Counts.{Counts}
@@ -20,7 +20,7 @@ use Rattle.ears_file.specs.declared.Outcome.{Outcome}
 use Rattle.ears_file.specs.declared.turn.Progress.{Progress}
 use Rattle.ears_file.specs.Lines.{refusedRun, endsAs, toldBy}
 use Rattle.ears_file.specs.Promise.{Ends, Answers}
-use Rattle.ears_file.specs.Turns.{Stands}
+use Rattle.ears_file.specs.Turns.{Stands, endOf}
 use Rattle.ears_file.proofs.Parts.{counts}
 
 -- ---- ends
@@ -32,8 +32,8 @@ pub failed-answers : (r : Outcome) → r ≡ record { failed = true; ended = ref
 failed-answers r e = record { bank = []; ends = failed-ends _ r e }
 
 -- where the line ends, what stands for it ends as it does
-pub stands-ends : (u : Setup) (line : List ℕ) (p : Progress) (rings : List Float) (bytes : List ℕ) → Stands u line p rings bytes → (e : Ended) (r : Outcome)
-    → e ≡ cond (eqb (p .held) 0) (record { refusal = 0; frames = p .frames; unsettled = p .unsettled }) refusedRun → r ≡ record { failed = false; ended = e } → Ends (endsAs u) r
+pub stands-ends : (u : Setup) (line : List ℕ) (p : Progress) (rings : List Float) (bytes : List ℕ) → Stands u line p rings bytes
+    → (e : Ended) (r : Outcome) → e ≡ endOf p → r ≡ record { failed = false; ended = e } → Ends (endsAs u) r
 stands-ends u line p rings bytes s e r at is =
     let same : e ≡ endsAs u line = at ∙ cc (s .holds, s .frames, s .unsettled) in
     subst (Ends (endsAs u)) (sym is) (record { line = line; ended = same })
@@ -47,7 +47,7 @@ fits-by false size line e h = omega (arith, ltb-false size 64 e)
 
 pub line-counts : (out line : List ℕ) (size : ℕ) (after : List ℕ) → length line ≤ 59 → Lined out line size after → length after ≡ length out → Counts size after
 line-counts out line size after short put same =
-    counts size after (subst (λ (n : ℕ). size ≤ n) (sym same) (subst (λ (n : ℕ). n ≤ length out) (sym (put .count)) (fits-by (ltb (length out) 64) (length out) (length line) refl short)))
+    counts size after (omega (arith, same, put .count, fits-by (ltb (length out) 64) (length out) (length line) refl short))
 
 -- an empty line changes nothing
 either : {A : Type 0} (t : Bool) (x y : A) → x ≡ y → x ≡ cond t x y

@@ -5,7 +5,7 @@ use mathlib.Core.List.{List, [], _++_, flatMap, append-nil}
 use Prim.Native.Nat.{ℕ, _*_, _≤_, _<_}
 use native.Mathlib.Decide.{decLt}
 use native.Mathlib.Omega.{arith}
-use lib.ListN.{length, take, replicate, length-drop}
+use lib.ListN.{take, replicate, length-drop}
 use lib.Ieee.{Float}
 use Rattle.formats.specs.Floats.{zero-float}
 use Rattle.lists.specs.Tables.{tab}
@@ -27,7 +27,8 @@ pub holds-few : (u : Setup) (line : List ℕ) (p : Progress) (rings : List Float
 holds-few u line p rings bytes s = omega (arith, s .holds, length-drop (wholeIn line * 24) line)
 
 -- before the first byte: silence in every ring
-pub start-stands : (u : Setup) (p : Progress) (rings : List Float) (bytes : List ℕ) → 0 < u .L → p ≡ atStart → rings ≡ replicate (u .speakers * u .L) zero-float → Stands u [] p rings bytes
+pub start-stands : (u : Setup) (p : Progress) (rings : List Float) (bytes : List ℕ) → 0 < u .L → p ≡ atStart
+    → rings ≡ replicate (u .speakers * u .L) zero-float → Stands u [] p rings bytes
 start-stands u p rings bytes some e silent =
     subst (λ (q : Progress). Stands u [] q rings bytes) (sym e)
     (record {
@@ -49,7 +50,8 @@ module _ (u : Setup) (p : Progress) (rings : List Float) (bytes read : List ℕ)
   stays line s = record { history = s .history; keeps = kept ∙ s .keeps; holds = s .holds; frames = s .frames; unsettled = s .unsettled }
 
   -- what a turn leaves of the bytes after a read, it leaves of those before it
-  pub further-read : (over : Bool) (r : Turn) (rings₁ : List Float) (bytes₁ out₁ : List ℕ) → Further u p rings read over r rings₁ bytes₁ out₁ → Further u p rings bytes over r rings₁ bytes₁ out₁
+  pub further-read : (over : Bool) (r : Turn) (rings₁ : List Float) (bytes₁ out₁ : List ℕ) → Further u p rings read over r rings₁ bytes₁ out₁
+      → Further u p rings bytes over r rings₁ bytes₁ out₁
   further-read over r rings₁ bytes₁ out₁ f =
       record { part = f .part; none = f .none; stands = λ line s. f .stands line (stays line s); put = λ line s. f .put line (stays line s) }
 
@@ -62,7 +64,8 @@ module _ (u : Setup) (p : Progress) (rings : List Float) (bytes read : List ℕ)
       sym (ap (λ (fs : List (List Float)). earBytes (heard u (after u [] (framesIn line)) fs)) none)
 
   -- nothing more came
-  pub none-further : (r : Stepped) (failed : Bool) (out₁ : List ℕ) → r ≡ record { over = true; failed = failed; turn = record { progress = p; bytes = 0 } } → Further u p rings bytes (r .over) (r .turn) rings read out₁
+  pub none-further : (r : Stepped) (failed : Bool) (out₁ : List ℕ) → r ≡ record { over = true; failed = failed; turn = record { progress = p; bytes = 0 } }
+      → Further u p rings bytes (r .over) (r .turn) rings read out₁
   none-further r failed out₁ e =
       subst (λ (q : Stepped). Further u p rings bytes (q .over) (q .turn) rings read out₁) (sym e)
       (record {

@@ -1,8 +1,8 @@
 -- What a turn leaves, from what `wire` and `hrtf` promise: `turn-further`. Where something stands for a line the convolver does not refuse. Assumes nothing.
-use mathlib.Core.Path.{_≡_, refl, sym, ap, _∙_, subst}
+use mathlib.Core.Path.{_≡_, sym, ap, _∙_, subst}
 use mathlib.Core.Bool.{false}
 use mathlib.Core.List.{List, [], _++_, map}
-use Prim.Native.Nat.{ℕ, _+_, _-_, _*_, _≤_, _<_, min}
+use Prim.Native.Nat.{ℕ, _+_, _-_, _*_, _≤_, _<_}
 use native.Mathlib.Omega.{arith}
 use borrow.Author.Tests.{ne-eqb}
 use lib.Dec.{eqb}
@@ -34,6 +34,7 @@ use Rattle.wire.proofs.Cut.{cut-rest}
 use Rattle.wire.proofs.Ears.{length-ears}
 use Rattle.wire.proofs.Lengths.{six-each}
 use Rattle.ears_file.specs.declared.turn.Progress.{Progress}
+use Rattle.ears_file.specs.declared.turn.Turn.{Turn}
 use Rattle.ears_file.specs.Counting.{countedOn}
 use Rattle.ears_file.specs.Promise.{beyond}
 use Rattle.ears_file.specs.Turns.{Ready, Stands, Further}
@@ -42,24 +43,31 @@ use Rattle.ears_file.proofs.Cuts.{past-more, unsettled-more, whole-more
 -- rings and a desk that stand for a past turn
 pub represents-turns : (u : Setup) (past : List (List Float)) (t : State) → Represents u past t → Turns (u .speakers) (u .L) t
 represents-turns u past t r =
-    record { ringed = r .room; within = r .within; waits = omega (arith, r .waits, to-go-below (u .L) 0 (map unsound past) (omega (arith, r .within))) }
+    let below = to-go-below (u .L) 0 (map unsound past) (omega (arith, r .within)) in
+    record { ringed = r .room; within = r .within; waits = omega (arith, r .waits, below) }
 
 -- a count that is added to is the count of all
 counted-on : (count so-far more all now : ℕ) → count ≡ countedOn 0 so-far → now ≡ countedOn count more → so-far + more ≡ all → now ≡ countedOn 0 all
 counted-on count so-far more all now e f g = omega (arith, e, f, g)
 
+-- a block's call
+abbrev block : Shape → List Float → List ℕ → List Float → ℕ → List Float → List Float → Call
+block h weights rows taps n inputs ears =
+    record { shape = h; frames = n; stride = 1024; inputs = inputs; weights = weights; rows = rows; taps = taps; ears = ears }
+
 -- the calls of a turn: frames from bytes, a block, bytes from ears
 module _ (h : Shape) (weights : List Float) (rows : List ℕ) (taps : List Float) (ready : Ready h weights rows taps)
     (p : Progress) (size : ℕ) (bytes : List ℕ) (inputs rings ears : List Float) (out : List ℕ)
-    (sized : (p .held < size) × (size ≤ 24576) × (size ≤ length bytes)) (inputs-long : length inputs ≡ 6144) (ears-long : length ears ≡ 2048) (out-long : length out ≡ 8192)
+    (sized : (p .held < size) × (size ≤ 24576) × (size ≤ length bytes))
+    (inputs-long : length inputs ≡ 6144) (ears-long : length ears ≡ 2048) (out-long : length out ≡ 8192)
     (n : ℕ) (inputs₁ : List Float) (taken : Taken (take size bytes) 1024 inputs n inputs₁)
-    (o : Outcome) (processes : Processes (record { shape = h; frames = n; stride = 1024; inputs = inputs₁; weights = weights; rows = rows; taps = taps; ears = ears }) (record { rings = rings; desk = p .desk }) o)
+    (o : Outcome) (processes : Processes (block h weights rows taps n inputs₁ ears) (record { rings = rings; desk = p .desk }) o)
     (put : ℕ) (out₁ : List ℕ) (given : Given (o .ears) 1024 n out put out₁) where
   abbrev u : Setup
   u = setupOf h weights rows taps
 
   abbrev call : Call
-  call = record { shape = h; frames = n; stride = 1024; inputs = inputs₁; weights = weights; rows = rows; taps = taps; ears = ears }
+  call = block h weights rows taps n inputs₁ ears
 
   abbrev state : State
   state = record { rings = rings; desk = p .desk }
@@ -74,7 +82,9 @@ module _ (h : Shape) (weights : List Float) (rows : List ℕ) (taps : List Float
   few = omega (arith, taken .count, come-long, sized .1)
 
   some-part : false ≡ eqb (length part) 0
-  some-part = let some : length part ≡ 0 → ⊥ = λ e. omega (arith, e, length-drop (p .held) (take size bytes), come-long, sized .0) in sym (ne-eqb _ _ some)
+  some-part =
+      let some : length part ≡ 0 → ⊥ = λ e. omega (arith, e, length-drop (p .held) (take size bytes), come-long, sized .0) in
+      sym (ne-eqb _ _ some)
 
   module _ (line : List ℕ) (stood : Stands u line p rings bytes) where
     abbrev past : List (List Float)
@@ -83,7 +93,7 @@ module _ (h : Shape) (weights : List Float) (rows : List ℕ) (taps : List Float
     comes : take size bytes ≡ restIn line ++ part
     comes =
         let low : p .held ≤ size = omega (arith, sized .0) in
-        sym (take-append-drop (p .held) (take size bytes)) ∙ ap (λ (bs : List ℕ). bs ++ drop (p .held) (take size bytes)) (take-take (p .held) size bytes low ∙ stood .keeps)
+        sym (take-append-drop (p .held) (take size bytes)) ∙ ap (λ (bs : List ℕ). bs ++ part) (take-take (p .held) size bytes low ∙ stood .keeps)
 
     not-refused : refusalOf call state ≡ 0
     not-refused =
@@ -131,27 +141,28 @@ module _ (h : Shape) (weights : List Float) (rows : List ℕ) (taps : List Float
 
     unsettled : unsettledIn u 0 [] (framesIn line) + o .answer .unsettled ≡ unsettledIn u 0 [] (framesIn (line ++ part))
     unsettled =
-        ap (λ (k : ℕ). unsettledIn u 0 [] (framesIn line) + k) (unsettled-over call state o processes past (stood .history) not-refused ∙ ap (unsettledIn u 0 past) read)
+        ap (λ (k : ℕ). unsettledIn u 0 [] (framesIn line) + k)
+        (unsettled-over call state o processes past (stood .history) not-refused ∙ ap (unsettledIn u 0 past) read)
         ∙ unsettled-more u line part
 
   -- and what is left of the bytes is kept, and all is counted
-  module _ (bytes₁ : List ℕ) (kept : bytes₁ ≡ placed bytes 0 (drop (n * 24) (take size bytes)))
-      (frames₁ unsettled₁ : ℕ) (frames-on : frames₁ ≡ countedOn (p .frames) n) (unsettled-on : unsettled₁ ≡ countedOn (p .unsettled) (o .answer .unsettled)) where
+  module _ (bytes₁ : List ℕ) (kept : bytes₁ ≡ placed bytes 0 (drop (n * 24) (take size bytes))) (frames₁ unsettled₁ : ℕ)
+      (frames-on : frames₁ ≡ countedOn (p .frames) n) (unsettled-on : unsettled₁ ≡ countedOn (p .unsettled) (o .answer .unsettled)) where
     left-long : length (drop (n * 24) (take size bytes)) ≡ size - n * 24
     left-long = length-drop (n * 24) (take size bytes) ∙ ap (λ (k : ℕ). k - n * 24) come-long
 
-    pub turn-further : Further u p rings bytes false
-        (record { progress = record { desk = o .answer .desk; held = size - n * 24; frames = frames₁; unsettled = unsettled₁ }; bytes = put }) (o .rings) bytes₁ out₁
-    turn-further =
+    abbrev turn : Turn
+    turn = record { progress = record { desk = o .answer .desk; held = size - n * 24; frames = frames₁; unsettled = unsettled₁ }; bytes = put }
+
+    stands : (line : List ℕ) → Stands u line p rings bytes → Stands u (line ++ part) (turn .progress) (o .rings) bytes₁
+    stands line stood =
         record {
-          part = part;
-          none = some-part;
-          stands = λ line stood. record {
-            history = history line stood;
-            keeps = ap (take (size - n * 24)) kept ∙ take-placed bytes (drop (n * 24) (take size bytes)) (size - n * 24) left-long ∙ rest line stood;
-            holds = sym left-long ∙ ap length (rest line stood);
-            frames = counted-on (p .frames) (wholeIn line) n (wholeIn (line ++ part)) frames₁ (stood .frames) frames-on (whole line stood);
-            unsettled = counted-on (p .unsettled) (unsettledIn u 0 [] (framesIn line)) (o .answer .unsettled) (unsettledIn u 0 [] (framesIn (line ++ part))) unsettled₁ (stood .unsettled) unsettled-on (unsettled line stood);
-          };
-          put = put-out;
+          history = history line stood;
+          keeps = ap (take (size - n * 24)) kept ∙ take-placed bytes (drop (n * 24) (take size bytes)) (size - n * 24) left-long ∙ rest line stood;
+          holds = sym left-long ∙ ap length (rest line stood);
+          frames = counted-on _ (wholeIn line) n _ _ (stood .frames) frames-on (whole line stood);
+          unsettled = counted-on _ (unsettledIn u 0 [] (framesIn line)) (o .answer .unsettled) _ _ (stood .unsettled) unsettled-on (unsettled line stood);
         }
+
+    pub turn-further : Further u p rings bytes false turn (o .rings) bytes₁ out₁
+    turn-further = record { part = part; none = some-part; stands = stands; put = put-out }

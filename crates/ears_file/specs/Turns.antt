@@ -1,6 +1,6 @@
 -- One turn of the program: what it needs of the set-up, what the record and the lists stand for before and after it, and what it puts out. Definitions only.
 use mathlib.Core.Path.{_≡_}
-use mathlib.Core.Bool.{Bool}
+use mathlib.Core.Bool.{Bool, cond}
 use mathlib.Core.List.{List, [], _++_}
 use Prim.Native.Nat.{ℕ, _≤_, _<_}
 use lib.Dec.{eqb}
@@ -15,9 +15,11 @@ use Rattle.hrtf_checks.specs.declared.Shape.{Shape}
 use Rattle.hrtf_checks.specs.Refusals.{refusalOf}
 use Rattle.runs.specs.SetUp.{Turns}
 use Rattle.wire.specs.Frames.{wholeIn, framesIn, restIn}
+use Rattle.ears_file.specs.declared.Ended.{Ended}
 use Rattle.ears_file.specs.declared.turn.Progress.{Progress}
 use Rattle.ears_file.specs.declared.turn.Turn.{Turn}
 use Rattle.ears_file.specs.Counting.{countedOn}
+use Rattle.ears_file.specs.Lines.{refusedRun}
 use Rattle.ears_file.specs.Promise.{beyond}
 
 -- six channels, and the convolver refuses no block of up to 1,024 frames
@@ -30,6 +32,10 @@ pub record Ready (h : Shape) (weights : List Float) (rows : List ℕ) (taps : Li
 -- before the first byte
 abbrev pub atStart : Progress
 atStart = record { desk = zeroed; held = 0; frames = 0; unsettled = 0 }
+
+-- where the line ends: bytes that are held are a part frame
+abbrev pub endOf : Progress → Ended
+endOf p = cond (eqb (p .held) 0) (record { refusal = 0; frames = p .frames; unsettled = p .unsettled }) refusedRun
 
 -- the record, the rings and the bytes that are held stand for all that has come of a line
 pub record Stands (u : Setup) (line : List ℕ) (p : Progress) (rings : List Float) (bytes : List ℕ) : Type 0 where

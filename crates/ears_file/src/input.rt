@@ -6,16 +6,15 @@ use crate::turn::Progress;
 use crate::turn::Turn;
 use hrtf_checks::Shape;
 ghost use mathlib.Core.Path.{_≡_};
-ghost use mathlib.Core.Bool.{true, cond};
+ghost use mathlib.Core.Bool.{true};
 ghost use Prim.Native.Nat.{_*_, _<_};
-ghost use lib.Dec.{eqb};
 ghost use lib.ListN.{replicate};
 ghost use Rattle.io.specs.Counts.{Counts};
 ghost use Rattle.formats.specs.Floats.{zero-float};
 ghost use Rattle.hrtf_checks.specs.Call.{setupOf};
-ghost use Rattle.ears_file.specs.Lines.{refusedRun, endsAs};
+ghost use Rattle.ears_file.specs.Lines.{endsAs};
 ghost use Rattle.ears_file.specs.Promise.{Ends};
-ghost use Rattle.ears_file.specs.Turns.{Ready, Further};
+ghost use Rattle.ears_file.specs.Turns.{Ready, endOf, Further};
 
 // What a step answers: whether the line is over, whether the system failed, and the turn.
 struct Stepped {
@@ -98,7 +97,7 @@ fn step(
 
 // The end of the line: bytes that are still held are a part frame.
 fn at_end(progress: Progress) -> Ended
-    ensures { λ r. ⌜ r ≡ cond (eqb (progress .held) 0) (record { refusal = 0; frames = progress .frames; unsettled = progress .unsettled }) refusedRun ⌝ }
+    ensures { λ r. ⌜ r ≡ endOf progress ⌝ }
 {
     if progress.held != 0 {
         return crate::refused();

@@ -1,5 +1,5 @@
 -- `ears_file::play_with` meets its contract: what was found is set up, and ready. Assumes nothing.
-use mathlib.Core.Path.{_≡_, sym, ap, _∙_}
+use mathlib.Core.Path.{sym, ap, _∙_}
 use Prim.Native.Nat.{_*_, _≤_}
 use native.Mathlib.Omega.{arith}
 use lib.ListN.{length, take, replicate, length-replicate}
@@ -8,7 +8,7 @@ use lib.Ieee.{Float, binary32, ofBits}
 use Rattle.formats.proofs.Patterns.{zero-bits}
 use Rattle.formats.specs.Floats.{zero-float}
 use Rattle.lists.proofs.Lists.{take-replicate}
-use Rattle.ears_file.proofs.SetUp.{rows-few, taps-fit, taps-long, cells-fit, six-speakers, ready, played-answers}
+use Rattle.ears_file.proofs.SetUp.{rows-few, taps-fit, taps-long, cells-fit, ready, played-answers}
 use borrow.Author.Needs.{needs}
 use Rattle.ears_file.proofs.play_with.Statement.{statement}
 use Rattle.ears_file.proofs.play_with.Tie as tie
@@ -29,7 +29,7 @@ filters c = taps-fit _ _ (c .pre .1) (c .pre .0)
 cells : (c : tie.After-new-surround) → c .new-surround .result .speakers * start c .args .read .length ≤ 3072
 cells c =
     let pre = start c .pre in
-    cells-fit _ _ (pre .1) (pre .0) _ (six-speakers _ _ (pre .1) (pre .0) _ (length-replicate 36 zero-float) _ (c .new-surround .ensures))
+    cells-fit _ _ (pre .1) (pre .0) _ (length-replicate 36 zero-float) _ (c .new-surround .ensures)
 
 mul-filters : tie.Need-mul-filters
 mul-filters c = let pre = c .before .before .before .before .before .before .pre in omega (arith, rows-few _ _ (pre .1) (pre .0))
@@ -61,7 +61,8 @@ play-all-requires c κs =
     let new = c .before .before .before .before .before .before .before .before .before in
     let pre = start new .pre in (
       ready _ _ (pre .1) (pre .0) _ (length-replicate 36 zero-float) _ (new .new-surround .ensures),
-      ap (λ (x : Float). take (new .new-surround .result .speakers * start new .args .read .length) (replicate 3072 x)) (zero-bits binary32) ∙ take-replicate _ 3072 zero-float (cells new),
+      ap (λ (x : Float). take (new .new-surround .result .speakers * start new .args .read .length) (replicate 3072 x)) (zero-bits binary32)
+          ∙ take-replicate _ 3072 zero-float (cells new),
     )
 
 returns : tie.Need-returns

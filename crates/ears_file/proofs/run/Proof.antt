@@ -5,6 +5,7 @@ use lib.ListN.{replicate, length-replicate}
 use lib.Ieee.{Float, binary32}
 use Rattle.formats.proofs.Patterns.{zero-bits}
 use Rattle.formats.specs.Floats.{zero-float}
+use Rattle.bank.specs.Reading.{ReadOutcome}
 use Rattle.ears_file.specs.Promise.{Found}
 use Rattle.ears_file.proofs.SetUp.{bank-refused}
 use Rattle.ears_file.proofs.Ending.{failed-answers}
@@ -58,7 +59,8 @@ play-with-requires : tie.Need-play-with-requires
 play-with-requires c κs =
     let test = c .before .before .before in
     let read = test .before .before .before .before .before .read in
-    (test .if1 .left, subst (λ (x : Float). Found (replicate 8 (pos 0)) (replicate 8192 x) (record { answer = read .result; azimuths = read .last .1 .0; taps = read .last .1 .1 .0 })) (zero-bits binary32) (read .ensures))
+    let o : ReadOutcome = record { answer = read .result; azimuths = read .last .1 .0; taps = read .last .1 .1 .0 } in
+    (test .if1 .left, subst (λ (x : Float). Found (replicate 8 (pos 0)) (replicate 8192 x) o) (zero-bits binary32) (read .ensures))
 
 close-requires-2 : tie.Need-close-requires-2
 close-requires-2 c κs = tt

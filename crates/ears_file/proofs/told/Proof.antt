@@ -19,7 +19,8 @@ returns-2 c =
     let put = c .before .before in
     let test = put .before .before in
     let first = test .before .before .before in
-    (told-refused _ _ _ _ (first .if1 .left) (test .if2 .taken) (put .refused-line .ensures), line-counts _ _ _ _ (refused-short _) (put .refused-line .ensures) (search needs))
+    let line = put .refused-line .ensures in
+    (told-refused _ _ _ _ (first .if1 .left) (test .if2 .taken) line, line-counts _ _ _ _ (refused-short _) line (search needs))
 
 frames-line-requires : tie.Need-frames-line-requires
 frames-line-requires c κs = tt
@@ -32,7 +33,8 @@ returns-3 c =
     let put = c .before .before in
     let test = put .before .before in
     let first = test .before .before .before in
-    (told-played _ _ _ _ (first .if1 .left) (test .if2 .left) (put .frames-line .ensures), line-counts _ _ _ _ (frames-short _ _) (put .frames-line .ensures) (search needs))
+    let line = put .frames-line .ensures in
+    (told-played _ _ _ _ (first .if1 .left) (test .if2 .left) line, line-counts _ _ _ _ (frames-short _ _) line (search needs))
 
 pub told-spec : {M : Type 1} → statement M
 told-spec =

@@ -63,12 +63,12 @@ returns c =
     let kept = c .before .before .before .before .before in
     let put = kept .before .before in
     let block = put .before .before .before .before .before .before in
-    let frames = taken put in
     let a = start put .args in
-    let inputs-long : length (now (a .inputs)) ≡ 6144 = search needs in
-    let ears-long : length (now (a .ears)) ≡ 2048 = search needs in
-    let out-long : length (now (a .out)) ≡ 8192 = search needs in (
-      turn-further _ _ _ _ (start put .pre .0) _ _ _ _ _ _ _ (start put .pre .1) inputs-long ears-long out-long _ _ (frames .frames-from-bytes .ensures) _ (block .process .ensures) _ _ (put .bytes-from-ears .ensures)
+    let inputs-long : length (now (a .inputs)) ≡ 6144 = omega (arith, taken put .before .frames-from-bytes-arg2 .given) in
+    let ears-long : length (now (a .ears)) ≡ 2048 = omega (arith, block .before .process-arg4 .given) in
+    let out-long : length (now (a .out)) ≡ 8192 = omega (arith, put .before .bytes-from-ears-arg3 .given) in (
+      turn-further _ _ _ _ (start put .pre .0) _ _ _ _ _ _ _ (start put .pre .1) inputs-long ears-long out-long
+          _ _ (taken put .frames-from-bytes .ensures) _ (block .process .ensures) _ _ (put .bytes-from-ears .ensures)
           _ (kept .keep-rest .ensures) _ _ (c .before .counted .ensures) (c .counted2 .ensures),
       counts _ _ (omega (arith, put .bytes-from-ears .ensures .count, put .bytes-from-ears .kept .1 .1 .1 .0)),
     )
