@@ -23,7 +23,7 @@ use Rattle.hrtf_checks.specs.Call.{setupOf}
 use Rattle.hrtf_setup.specs.Arrangement.{Arrangement, arrangedBy, arrangement}
 use Rattle.hrtf_setup.specs.Promise.{ofLayout, NewSurround}
 use Rattle.hrtf_setup.proofs.Accepted.{Playable, surround-playable}
-use Rattle.runs.specs.SetUp.{Turns}
+use Rattle.runs.specs.SetUp.{Turns, bankRead}
 use Rattle.runs.proofs.SetUp.{few-rows, short-filters, good-bank-set-up, set-up-accepted}
 use Rattle.ears_file.specs.declared.Ended.{Ended}
 use Rattle.ears_file.specs.declared.Outcome.{Outcome}
@@ -66,9 +66,20 @@ module _ (xs : List Float) (o : ReadOutcome) (f : Found zeros xs o) where
     unfolding b
     is = accepted-is (f .file) zeros xs o (f .reads) good .1
 
-    taps-are : tapsIn o ≡ b .taps
+    bank-is : bankRead o ≡ b
     unfolding b
-    taps-are = ap (λ (q : Bank). q .taps) (read-is (f .file) zeros xs o (f .reads) good)
+    bank-is = read-is (f .file) zeros xs o (f .reads) good
+
+    taps-are : tapsIn o ≡ b .taps
+    taps-are = ap (λ (q : Bank). q .taps) bank-is
+
+    -- so a run that ends as some line does with it answers as item 10 does
+    pub bank-answers : (r : Outcome) → Ends (endsAs (setupWith (bankRead o))) r → Answers r
+    unfolding b
+    bank-answers r e =
+        let end : endsAs (setupWith (bankRead o)) (e .line) ≡ itemTen (f .file) (e .line) =
+        ap (λ (q : Bank). endsAs (setupWith q) (e .line)) bank-is ∙ sym (stops _ _ (parts .file-good)) in
+        record { bank = f .file; ends = record { line = e .line; ended = e .ended ∙ ap (cond (r .failed) refusedRun) end } }
 
     -- there is room for its filters, and for the cells of six speakers
     pub rows-few : o .answer .rows ≤ 8
@@ -127,16 +138,14 @@ module _ (xs : List Float) (o : ReadOutcome) (f : Found zeros xs o) where
                 t (subst (λ (q : ReadOutcome). Turns (a .answer .speakers) (q .answer .length) t) is turns);
           }
 
-      -- the set-up is the one that item 10 gives for the bank
-      set-up : setupOf (shapeOf a o) (a .weights) (a .rows) (tapsIn o) ≡ setupWith b
+      -- the set-up is the one that item 10 gives for the bank that was read
+      set-up : setupOf (shapeOf a o) (a .weights) (a .rows) (tapsIn o) ≡ setupWith (bankRead o)
+      unfolding b
       set-up =
           ap (λ (q : Arrangement). setupOf (shapeOf q o) (q .weights) (q .rows) (tapsIn o)) arranged-is
           ∙ ap (λ (q : ReadOutcome). setupOf (shapeOf (arranged b) q) (arranged b .weights) (arranged b .rows) (tapsIn o)) is
           ∙ ap (setupOf (shapeOf (arranged b) (readBank b zeros xs)) (arranged b .weights) (arranged b .rows)) taps-are
+          ∙ sym (ap setupWith bank-is)
 
-      pub played-answers : (r : Outcome) → Ends (endsAs (setupOf (shapeOf a o) (a .weights) (a .rows) (tapsIn o))) r → Answers r
-      unfolding b
-      played-answers r e =
-          let end : endsAs (setupOf (shapeOf a o) (a .weights) (a .rows) (tapsIn o)) (e .line) ≡ itemTen (f .file) (e .line) =
-          ap (λ (u : Setup). endsAs u (e .line)) set-up ∙ sym (stops _ _ (parts .file-good)) in
-          record { bank = f .file; ends = record { line = e .line; ended = e .ended ∙ ap (cond (r .failed) refusedRun) end } }
+      pub played-ends : (r : Outcome) → Ends (endsAs (setupOf (shapeOf a o) (a .weights) (a .rows) (tapsIn o))) r → Ends (endsAs (setupWith (bankRead o))) r
+      played-ends r e = subst (λ (u : Setup). Ends (endsAs u) r) set-up e

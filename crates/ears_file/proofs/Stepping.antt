@@ -1,11 +1,13 @@
 -- A step of the loop: a read keeps what stands for the line, nothing more is a part of no bytes, and silence stands for a line of none. Assumes nothing.
 use mathlib.Core.Path.{_≡_, refl, sym, ap, _∙_, subst}
-use mathlib.Core.Bool.{Bool, true}
+use mathlib.Core.Bool.{Bool, true, false}
 use mathlib.Core.List.{List, [], _++_, flatMap, append-nil}
 use Prim.Native.Nat.{ℕ, _*_, _≤_, _<_}
 use native.Mathlib.Decide.{decLt}
 use native.Mathlib.Omega.{arith}
-use lib.ListN.{take, replicate, length-drop}
+use borrow.Author.Tests.{ne-eqb}
+use lib.Dec.{eqb}
+use lib.ListN.{length, take, drop, replicate, length-take, length-drop}
 use lib.Ieee.{Float}
 use Rattle.formats.specs.Floats.{zero-float}
 use Rattle.lists.specs.Tables.{tab}
@@ -46,14 +48,20 @@ pub more : (held size : ℕ) → held ≤ size → (size ≡ held → ⊥) → h
 more held size low other = elim (decLt held size) [ yes h ↦ h | no h ↦ absurd (other (omega arith)) ]
 
 module _ (u : Setup) (p : Progress) (rings : List Float) (bytes read : List ℕ) (kept : take (p .held) read ≡ take (p .held) bytes) where
+  -- what a step promises
+  abbrev FurtherBy : Bool → Turn → List Float → List ℕ → List ℕ → Type 0
+  FurtherBy over r rings₁ bytes₁ out₁ = (part : List ℕ) × (over ≡ eqb (length part) 0) × Further u p rings bytes part r rings₁ bytes₁ out₁
+
   stays : (line : List ℕ) → Stands u line p rings bytes → Stands u line p rings read
   stays line s = record { history = s .history; keeps = kept ∙ s .keeps; holds = s .holds; frames = s .frames; unsettled = s .unsettled }
 
-  -- what a turn leaves of the bytes after a read, it leaves of those before it
-  pub further-read : (over : Bool) (r : Turn) (rings₁ : List Float) (bytes₁ out₁ : List ℕ) → Further u p rings read over r rings₁ bytes₁ out₁
-      → Further u p rings bytes over r rings₁ bytes₁ out₁
-  further-read over r rings₁ bytes₁ out₁ f =
-      record { part = f .part; none = f .none; stands = λ line s. f .stands line (stays line s); put = λ line s. f .put line (stays line s) }
+  -- what a turn leaves of the bytes after a read, it leaves of those before it; and some bytes are a part that is not empty
+  pub read-further : (size : ℕ) (r : Turn) (rings₁ : List Float) (bytes₁ out₁ : List ℕ) → p .held < size → size ≤ length read
+      → Further u p rings read (drop (p .held) (take size read)) r rings₁ bytes₁ out₁ → FurtherBy false r rings₁ bytes₁ out₁
+  read-further size r rings₁ bytes₁ out₁ low high f =
+      let part = drop (p .held) (take size read) in
+      let some : length part ≡ 0 → ⊥ = λ e. omega (arith, e, length-drop (p .held) (take size read), length-take size read) in
+      (part, sym (ne-eqb _ _ some), record { stands = λ line s. f .stands line (stays line s); put = λ line s. f .put line (stays line s) })
 
   -- nothing makes no frame whole
   none-beyond : (line : List ℕ) → [] ≡ beyond u line []
@@ -65,12 +73,13 @@ module _ (u : Setup) (p : Progress) (rings : List Float) (bytes read : List ℕ)
 
   -- nothing more came
   pub none-further : (r : Stepped) (failed : Bool) (out₁ : List ℕ) → r ≡ record { over = true; failed = failed; turn = record { progress = p; bytes = 0 } }
-      → Further u p rings bytes (r .over) (r .turn) rings read out₁
+      → FurtherBy (r .over) (r .turn) rings read out₁
   none-further r failed out₁ e =
-      subst (λ (q : Stepped). Further u p rings bytes (q .over) (q .turn) rings read out₁) (sym e)
-      (record {
-        part = [];
-        none = refl;
-        stands = λ line s. subst (λ (bs : List ℕ). Stands u bs p rings read) (sym (append-nil line)) (stays line s);
-        put = λ line s. none-beyond line;
-      })
+      subst (λ (q : Stepped). FurtherBy (q .over) (q .turn) rings read out₁) (sym e) (
+        [],
+        refl,
+        record {
+          stands = λ line s. subst (λ (bs : List ℕ). Stands u bs p rings read) (sym (append-nil line)) (stays line s);
+          put = λ line s. none-beyond line;
+        },
+      )

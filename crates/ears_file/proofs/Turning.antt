@@ -1,11 +1,8 @@
 -- What a turn leaves, from what `wire` and `hrtf` promise: `turn-further`. Where something stands for a line the convolver does not refuse. Assumes nothing.
 use mathlib.Core.Path.{_≡_, sym, ap, _∙_, subst}
-use mathlib.Core.Bool.{false}
 use mathlib.Core.List.{List, [], _++_, map}
 use Prim.Native.Nat.{ℕ, _+_, _-_, _*_, _≤_, _<_}
 use native.Mathlib.Omega.{arith}
-use borrow.Author.Tests.{ne-eqb}
-use lib.Dec.{eqb}
 use lib.ListN.{length, take, drop, length-drop, take-append-drop}
 use lib.Seq.{take-take, length-take-le}
 use lib.Ieee.{Float}
@@ -80,11 +77,6 @@ module _ (h : Shape) (weights : List Float) (rows : List ℕ) (taps : List Float
 
   few : n ≤ 1024
   few = omega (arith, taken .count, come-long, sized .1)
-
-  some-part : false ≡ eqb (length part) 0
-  some-part =
-      let some : length part ≡ 0 → ⊥ = λ e. omega (arith, e, length-drop (p .held) (take size bytes), come-long, sized .0) in
-      sym (ne-eqb _ _ some)
 
   module _ (line : List ℕ) (stood : Stands u line p rings bytes) where
     abbrev past : List (List Float)
@@ -164,5 +156,5 @@ module _ (h : Shape) (weights : List Float) (rows : List ℕ) (taps : List Float
           unsettled = counted-on _ (unsettledIn u 0 [] (framesIn line)) (o .answer .unsettled) _ _ (stood .unsettled) unsettled-on (unsettled line stood);
         }
 
-    pub turn-further : Further u p rings bytes false turn (o .rings) bytes₁ out₁
-    turn-further = record { part = part; none = some-part; stands = stands; put = put-out }
+    pub turn-further : Further u p rings bytes part turn (o .rings) bytes₁ out₁
+    turn-further = record { stands = stands; put = put-out }

@@ -1,5 +1,5 @@
--- Document 01, item 10, of a whole bank and a whole line: "writes each frame's left then right [..] and prints one line. [..] Empty input prints `frames 0 unsettled 0`. A bad or missing bank prints
--- `refused 9` only [..]; a part frame at the end prints `refused 9` only". Definitions only.
+-- Document 01, item 10, of a whole bank and a whole line: "writes each frame's left then right [..] and prints one line. [..] Empty input prints
+-- `frames 0 unsettled 0`. A bad or missing bank prints `refused 9` only [..]; a part frame at the end prints `refused 9` only". Definitions only.
 use Prim.Native.Nat.{ℕ}
 use mathlib.Core.Bool.{cond}
 use mathlib.Core.List.{List, []}

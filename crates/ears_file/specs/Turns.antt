@@ -1,6 +1,7 @@
--- One turn of the program: what it needs of the set-up, what the record and the lists stand for before and after it, and what it puts out. Definitions only.
+-- One turn of the program: what it needs of the set-up, what the record and the lists stand for before and after it, and what it puts out.
+-- Definitions only.
 use mathlib.Core.Path.{_≡_}
-use mathlib.Core.Bool.{Bool, cond}
+use mathlib.Core.Bool.{cond}
 use mathlib.Core.List.{List, [], _++_}
 use Prim.Native.Nat.{ℕ, _≤_, _<_}
 use lib.Dec.{eqb}
@@ -45,9 +46,7 @@ pub record Stands (u : Setup) (line : List ℕ) (p : Progress) (rings : List Flo
   pub frames : p .frames ≡ countedOn 0 (wholeIn line)
   pub unsettled : p .unsettled ≡ countedOn 0 (unsettledIn u 0 [] (framesIn line))
 
--- a part more has come, none exactly where the line is over: what stood for a line stands for both, and the ears of the frames that the part makes whole are put out
-pub record Further (u : Setup) (p : Progress) (rings : List Float) (bytes : List ℕ) (over : Bool) (r : Turn) (rings₁ : List Float) (bytes₁ out₁ : List ℕ) : Type 0 where
-  pub part : List ℕ
-  pub none : over ≡ eqb (length part) 0
+-- a part more has come: what stood for a line stands for both, and the ears of the frames that the part makes whole are put out
+pub record Further (u : Setup) (p : Progress) (rings : List Float) (bytes part : List ℕ) (r : Turn) (rings₁ : List Float) (bytes₁ out₁ : List ℕ) : Type 0 where
   pub stands : (line : List ℕ) → Stands u line p rings bytes → Stands u (line ++ part) (r .progress) rings₁ bytes₁
   pub put : (line : List ℕ) → Stands u line p rings bytes → take (r .bytes) out₁ ≡ beyond u line part

@@ -7,8 +7,10 @@ use crate::turn::Turn;
 use hrtf_checks::Shape;
 ghost use mathlib.Core.Path.{_≡_};
 ghost use mathlib.Core.Bool.{true};
-ghost use Prim.Native.Nat.{_*_, _<_};
-ghost use lib.ListN.{replicate};
+ghost use mathlib.Core.List.{List};
+ghost use Prim.Native.Nat.{ℕ, _*_, _<_};
+ghost use lib.Dec.{eqb};
+ghost use lib.ListN.{length, replicate};
 ghost use Rattle.io.specs.Counts.{Counts};
 ghost use Rattle.formats.specs.Floats.{zero-float};
 ghost use Rattle.hrtf_checks.specs.Call.{setupOf};
@@ -48,7 +50,7 @@ fn write_some(out: i32, size: usize, text: &[u8]) -> bool
     true
 }
 
-// Reads, plays and writes once.
+// Reads, plays and writes once: a part more has come, of no bytes exactly where the line is over.
 fn step(
     progress: Progress,
     line: i32,
@@ -66,8 +68,8 @@ fn step(
 ) -> Stepped
     requires { ⌜ Ready shape (now weights) (now «row_of») (now taps) ⌝ }
     requires { ⌜ progress .held < 24 ⌝ }
-    ensures { λ r. ⌜ Further (setupOf shape (now (weights .entry)) (now («row_of» .entry)) (now (taps .entry)))
-        progress (now (rings .entry)) (now (bytes .entry)) (r .over) (r .turn) (now (rings .exit)) (now (bytes .exit)) (now (text .exit)) ⌝ }
+    ensures { λ r. ⌜ ((part : List ℕ) × (r .over ≡ eqb (length part) 0) × Further (setupOf shape (now (weights .entry)) (now («row_of» .entry)) (now (taps .entry)))
+        progress (now (rings .entry)) (now (bytes .entry)) part (r .turn) (now (rings .exit)) (now (bytes .exit)) (now (text .exit))) ⌝ }
 {
     let held = progress.held;
     let got = crate::reading::read_some(line, held, limit, bytes);

@@ -16,9 +16,10 @@ ghost use lib.IntN.{pos};
 ghost use lib.ListN.{replicate};
 ghost use Rattle.io.specs.Counts.{Counts};
 ghost use Rattle.formats.specs.Floats.{zero-float};
+ghost use Rattle.runs.specs.SetUp.{bankRead};
 ghost use Rattle.wire.specs.Promises.{Lined};
-ghost use Rattle.ears_file.specs.Lines.{refusedRun, toldBy};
-ghost use Rattle.ears_file.specs.Promise.{Found, Answers};
+ghost use Rattle.ears_file.specs.Lines.{setupWith, refusedRun, endsAs, toldBy};
+ghost use Rattle.ears_file.specs.Promise.{Found, Ends, Answers};
 
 mod bank_file;
 mod input;
@@ -80,7 +81,7 @@ fn play_with(
 ) -> Outcome
     requires { ⌜ read .refusal ≡ 0 ⌝ }
     requires { ⌜ Found (replicate 8 (pos 0)) (replicate 8192 zero-float) (record { answer = read; azimuths = now azimuths; taps = now taps }) ⌝ }
-    ensures { λ r. ⌜ Answers r ⌝ }
+    ensures { λ r. ⌜ Ends (endsAs (setupWith (bankRead (record { answer = read; azimuths = now (azimuths .entry); taps = now (taps .entry) })))) r ⌝ }
 {
     let mut weights = [0.0f64; 36];
     let mut row_of = [0usize; 8];

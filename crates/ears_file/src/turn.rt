@@ -6,7 +6,6 @@
 use desk::Desk;
 use hrtf_checks::Shape;
 ghost use mathlib.Core.Path.{_≡_};
-ghost use mathlib.Core.Bool.{false};
 ghost use Prim.Native.Nat.{_≤_, _<_};
 ghost use lib.ListN.{length, take, drop};
 ghost use Rattle.io.specs.Counts.{Counts};
@@ -91,7 +90,8 @@ pub(crate) fn play(
     requires { ⌜ Ready shape (now weights) (now «row_of») (now taps) ⌝ }
     requires { ⌜ (progress .held < size) × (size ≤ 24576) × (size ≤ length (now bytes)) ⌝ }
     ensures { λ r. ⌜ Further (setupOf shape (now (weights .entry)) (now («row_of» .entry)) (now (taps .entry)))
-        progress (now (rings .entry)) (now (bytes .entry)) false r (now (rings .exit)) (now (bytes .exit)) (now (out .exit)) ⌝ }
+        progress (now (rings .entry)) (now (bytes .entry)) (drop (progress .held) (take size (now (bytes .entry))))
+        r (now (rings .exit)) (now (bytes .exit)) (now (out .exit)) ⌝ }
     ensures room { λ r. ⌜ Counts (r .bytes) (now (out .exit)) ⌝ }
 {
     let desk = progress.desk;

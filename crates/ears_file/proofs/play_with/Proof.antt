@@ -8,7 +8,7 @@ use lib.Ieee.{Float, binary32, ofBits}
 use Rattle.formats.proofs.Patterns.{zero-bits}
 use Rattle.formats.specs.Floats.{zero-float}
 use Rattle.lists.proofs.Lists.{take-replicate}
-use Rattle.ears_file.proofs.SetUp.{rows-few, taps-fit, taps-long, cells-fit, ready, played-answers}
+use Rattle.ears_file.proofs.SetUp.{rows-few, taps-fit, taps-long, cells-fit, ready, played-ends}
 use borrow.Author.Needs.{needs}
 use Rattle.ears_file.proofs.play_with.Statement.{statement}
 use Rattle.ears_file.proofs.play_with.Tie as tie
@@ -69,7 +69,7 @@ returns : tie.Need-returns
 returns c =
     let new = c .before .before .before .before .before .before .before .before .before .before .before in
     let pre = start new .pre in
-    played-answers _ _ (pre .1) (pre .0) _ (length-replicate 36 zero-float) _ (new .new-surround .ensures) _ (c .before .play-all .ensures)
+    played-ends _ _ (pre .1) (pre .0) _ (length-replicate 36 zero-float) _ (new .new-surround .ensures) _ (c .before .play-all .ensures)
 
 pub play-with-spec : {M : Type 1} → statement M
 play-with-spec =

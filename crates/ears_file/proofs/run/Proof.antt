@@ -7,7 +7,7 @@ use Rattle.formats.proofs.Patterns.{zero-bits}
 use Rattle.formats.specs.Floats.{zero-float}
 use Rattle.bank.specs.Reading.{ReadOutcome}
 use Rattle.ears_file.specs.Promise.{Found}
-use Rattle.ears_file.proofs.SetUp.{bank-refused}
+use Rattle.ears_file.proofs.SetUp.{bank-refused, bank-answers}
 use Rattle.ears_file.proofs.Ending.{failed-answers}
 use borrow.Author.Needs.{needs}
 use Rattle.ears_file.proofs.run.Statement.{statement}
@@ -75,7 +75,10 @@ returns-3 : tie.Need-returns-3
 returns-3 c = failed-answers _ (c .failed2 .ensures)
 
 returns-4 : tie.Need-returns-4
-returns-4 c = search needs
+returns-4 c =
+    let played = c .before .before in
+    let test = played .before .before .before .before in
+    bank-answers _ _ (test .before .before .before .before .before .read .ensures) (test .if1 .left) _ (played .play-with .ensures)
 
 pub run-spec : {M : Type 1} → statement M
 run-spec =

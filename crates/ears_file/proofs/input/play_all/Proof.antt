@@ -54,7 +54,7 @@ returns-2 : tie.Need-returns-2 Inv-loop μ-loop
 returns-2 c =
     let step = c .before .before .before .before .before .before .before .before in
     let come = step .before .before .before .before .before .before .before .loop .inv .1 in
-    stands-ends _ _ _ _ _ (step .step .ensures .stands (come .0) (come .1)) _ _ (c .before .at-end .ensures) (c .done .ensures)
+    stands-ends _ _ _ _ _ (step .step .ensures .2 .stands (come .0) (come .1)) _ _ (c .before .at-end .ensures) (c .done .ensures)
 
 sub-steps : tie.Need-sub-steps Inv-loop μ-loop
 sub-steps c = omega arith
@@ -67,7 +67,7 @@ loop-again c =
     let step = c .before .before .before .before .before .before in
     let inv = step .before .before .before .before .before .before .before .loop .inv in
     let more = step .step .ensures in
-    (omega (arith, inv .0, step .step .kept), (inv .1 .0 ++ more .part, more .stands (inv .1 .0) (inv .1 .1)))
+    (omega (arith, inv .0, step .step .kept), (inv .1 .0 ++ more .0, more .2 .stands (inv .1 .0) (inv .1 .1)))
 
 failed-requires-2 : tie.Need-failed-requires-2 Inv-loop μ-loop
 failed-requires-2 c κs = tt

@@ -1,5 +1,5 @@
 -- `ears_file::input::step` meets its contract: a read, and then nothing, or a turn. Assumes nothing.
-use Rattle.ears_file.proofs.Stepping.{more, further-read, none-further}
+use Rattle.ears_file.proofs.Stepping.{more, read-further, none-further}
 use borrow.Author.Needs.{needs}
 use Rattle.ears_file.proofs.input.step.Statement.{statement}
 use Rattle.ears_file.proofs.input.step.Tie as tie
@@ -31,8 +31,9 @@ same-length c = search needs
 returns-2 : tie.Need-returns-2
 returns-2 c =
     let turn = c .before .before .before .before .before in
-    let read = turn .before .before .before .before .before .before .before .before in
-    further-read _ _ _ _ _ (read .read-some .ensures .2) _ _ _ _ _ (turn .play .ensures .0)
+    let test = turn .before .before .before .before .before .before in
+    let read = test .before .before .read-some .ensures in
+    read-further _ _ _ _ _ (read .2) _ _ _ _ _ (more _ _ (read .0) (test .if1 .left)) (read .1) (turn .play .ensures .0)
 
 pub step-spec : {M : Type 1} → statement M
 step-spec =
