@@ -1,8 +1,9 @@
--- How the start of a list is cut off, that a turn of the loop is never refused, what a step of it leaves, that a bank which keeps the form is set up, and how a run ends and is told; that no two lines of a run meet one promise, and what the promise of a run rules out.
-mod Parts
-mod Accepting
-mod Going
-mod Setting
+-- How the start of a list is counted or kept, that a line may be cut anywhere, what a turn and a step leave, that a good bank is set up, how a run ends
+-- and is told; and of the promises of `run` and `told` what is unique and what they rule out.
+mod Cuts
+mod Turning
+mod Stepping
+mod SetUp
 mod Ending
 mod Unique
 mod Refuted

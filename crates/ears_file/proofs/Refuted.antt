@@ -1,35 +1,81 @@
--- What the promise of `run` rules out, whatever the bank and the line are: a refusal by another number, one with a count, and a failure that ends as a run that was played. Assumes nothing.
-use mathlib.Core.Path.{_≡_, refl, ap, _∙_}
+-- What the promise of `run` rules out, whatever the bank and the line are: a refusal by another number than 9, one with a count, a failure that ends as a
+-- run that was played, and more unsettled frames than frames. Assumes nothing.
+use mathlib.Core.Path.{_≡_, sym, ap, _∙_}
 use mathlib.Core.Bool.{Bool, true, false, cond}
+use mathlib.Core.List.{List, [], _∷_}
 use mathlib.Core.Logic.{_⊎_, inl, inr, ⊎-elim}
-use Prim.Native.Nat.{ℕ, suc}
+use Prim.Native.Nat.{ℕ, _≤_, _<_}
 use native.Mathlib.Omega.{arith}
 use lib.Dec.{eqb}
 use lib.ListN.{length}
-use Rattle.bank_form.specs.FaultComputed.{isFile}
-use Rattle.wire.specs.Frames.{restIn}
-use Rattle.ears_play.specs.declared.Ended.{Ended}
-use Rattle.ears_play.specs.Ending.{refusedRun}
-use Rattle.ears_file.specs.Promise.{OfFiles, Answers}
+use lib.Ieee.{Float}
+use Rattle.refusals.proofs.First.{stops}
+use Rattle.lists.proofs.Lists.{one-at-most}
+use Rattle.lists.specs.Tables.{row}
+use Rattle.lists.proofs.Tables.{length-tab}
+use Rattle.bank_form.specs.FaultComputed.{bankIn, isFile}
+use Rattle.history.specs.Setup.{Setup}
+use Rattle.history.specs.Signals.{signals}
+use Rattle.history.specs.History.{unsettled, unsettledIn}
+use Rattle.wire.specs.Records.{wholeIn, restIn}
+use Rattle.wire.specs.Frames.{frameOf, lineFrames}
+use Rattle.ears_file.specs.declared.Ended.{Ended}
+use Rattle.ears_file.specs.declared.Outcome.{Outcome}
+use Rattle.wire.specs.Counting.{countedOn}
+use Rattle.ears_file.specs.Lines.{setupWith, refusedRun, itemTen}
+use Rattle.ears_file.specs.Promise.{Answers}
 
--- one of two ends, of which the first is no refusal
-one-of-two : (b t : Bool) (e x : Ended) → x .refusal ≡ 0 → e ≡ cond b (cond t x refusedRun) refusedRun → (e .refusal ≡ 0) ⊎ (e ≡ refusedRun)
-one-of-two true true e x z q = inl (ap (λ (y : Ended). y .refusal) q ∙ z)
-one-of-two true false e x z q = inr q
-one-of-two false t e x z q = inr q
+-- one of two ends
+one-of-two : (f b t : Bool) (e x : Ended) → e ≡ cond f refusedRun (cond b (cond t x refusedRun) refusedRun) → (e ≡ x) ⊎ (e ≡ refusedRun)
+one-of-two true b t e x q = inr q
+one-of-two false true true e x q = inl q
+one-of-two false true false e x q = inr q
+one-of-two false false t e x q = inr q
 
-end-is : (e : Ended) → OfFiles e → (e .refusal ≡ 0) ⊎ (e ≡ refusedRun)
-end-is e f = one-of-two (isFile (f .bank)) (eqb (length (restIn (f .line))) 0) e _ refl (f .gives)
+-- of frames no more are unsettled than there are
+unsettled-few : (u : Setup) (go : ℕ) (past fs : List (List Float)) → unsettledIn u go past fs ≤ length fs
+unsettled-few u go past [] = omega arith
+unsettled-few u go past (f ∷ fs) =
+    omega (arith, one-at-most (unsettled u go (signals u f ∷ past)), unsettled-few u go (signals u f ∷ past) fs)
 
-refused-otherwise : Answers OfFiles (record { failed = false; ended = record { refusal = 8; frames = 0; unsettled = 0 } }) → ⊥
-refused-otherwise a =
-    ⊎-elim (λ (z : _≡_ {A = ℕ} 8 0). omega arith) (λ q. let k : _≡_ {A = ℕ} 8 9 = ap (λ (y : Ended). y .refusal) q in omega arith)
-    (end-is (record { refusal = 8; frames = 0; unsettled = 0 }) (a .told refl))
+module _ (r : Outcome) (a : Answers r) where
+  -- a run is played, or ends as a refused one does
+  played : Ended
+  played =
+      let line = a .ends .line in
+      record {
+        refusal = 0;
+        frames = countedOn 0 (wholeIn 24 line);
+        unsettled = countedOn 0 (unsettledIn (setupWith (bankIn (a .bank))) 0 [] (lineFrames line));
+      }
 
-refused-with-frames : (n u : ℕ) → Answers OfFiles (record { failed = false; ended = record { refusal = 9; frames = suc n; unsettled = u } }) → ⊥
-refused-with-frames n u a =
-    ⊎-elim (λ (z : _≡_ {A = ℕ} 9 0). omega arith) (λ q. let k : suc n ≡ 0 = ap (λ (y : Ended). y .frames) q in omega arith)
-    (end-is (record { refusal = 9; frames = suc n; unsettled = u }) (a .told refl))
+  end-is : (r .ended ≡ played) ⊎ (r .ended ≡ refusedRun)
+  unfolding played
+  end-is = one-of-two (r .failed) (isFile (a .bank)) (eqb (length (restIn 24 (a .ends .line))) 0) (r .ended) played (a .ends .ended)
 
-failed-as-played : (n u : ℕ) → Answers OfFiles (record { failed = true; ended = record { refusal = 0; frames = n; unsettled = u } }) → ⊥
-failed-as-played n u a = let k : _≡_ {A = ℕ} 0 9 = ap (λ (y : Ended). y .refusal) (a .failed refl) in omega arith
+  no-number : r .ended ≡ played → r .ended .refusal ≡ 0
+  unfolding played
+  no-number q = ap (λ (y : Ended). y .refusal) q
+
+  refused-otherwise : (r .ended .refusal ≡ 0 → ⊥) → (r .ended .refusal ≡ 9 → ⊥) → ⊥
+  refused-otherwise some other = ⊎-elim (λ p. some (no-number p)) (λ q. other (ap (λ (y : Ended). y .refusal) q)) end-is
+
+  refused-with-counts : (r .ended .refusal ≡ 0 → ⊥) → (r .ended .frames ≡ 0) × (r .ended .unsettled ≡ 0)
+  refused-with-counts some =
+      ⊎-elim (λ p. absurd (some (no-number p))) (λ q. (ap (λ (y : Ended). y .frames) q, ap (λ (y : Ended). y .unsettled) q)) end-is
+
+  failed-as-played : r .failed ≡ true → r .ended .refusal ≡ 0 → ⊥
+  failed-as-played f z =
+      let nine : r .ended .refusal ≡ 9 = ap (λ (y : Ended). y .refusal) (a .ends .ended ∙ stops refusedRun (itemTen (a .bank) (a .ends .line)) f) in
+      let k : _≡_ {A = ℕ} 0 9 = sym z ∙ nine in omega arith
+
+  more-unsettled-than-frames : r .ended .frames < r .ended .unsettled → ⊥
+  unfolding played
+  more-unsettled-than-frames h =
+      let line = a .ends .line in
+      let few = unsettled-few (setupWith (bankIn (a .bank))) 0 [] (lineFrames line) in
+      let many : length (lineFrames line) ≡ wholeIn 24 line = length-tab 0 (wholeIn 24 line) (λ i. frameOf (row 24 i line)) in
+      ⊎-elim
+      (λ p. omega (arith, h, few, many, ap (λ (y : Ended). y .frames) p, ap (λ (y : Ended). y .unsettled) p))
+      (λ q. omega (arith, h, ap (λ (y : Ended). y .frames) q, ap (λ (y : Ended). y .unsettled) q))
+      end-is

@@ -1,38 +1,39 @@
--- What a run promises. What the system hands over no contract can name, so it is said that there are such bytes. Definitions only.
+-- What a run promises: what the system hands over no contract can name, so it is said that there are such bytes. And that a line may be cut
+-- anywhere. Definitions only.
 use mathlib.Core.Path.{_≡_}
-use mathlib.Core.Bool.{true, false, cond}
-use mathlib.Core.List.{List, []}
+use mathlib.Core.Bool.{cond}
+use mathlib.Core.List.{List, [], _∷_, _++_, flatten}
 use Prim.Native.Nat.{ℕ}
-use lib.IntN.{ℤ}
-use lib.Ieee.{Float}
 use Rattle.history.specs.Setup.{Setup}
-use Rattle.bank.specs.Reading.{ReadOutcome, Reads}
-use Rattle.ears_play.specs.declared.Ended.{Ended}
-use Rattle.ears_play.specs.Ending.{refusedRun, lineOf}
+use Rattle.history.specs.History.{heard, after}
+use Rattle.wire.specs.Records.{restIn}
+use Rattle.wire.specs.Frames.{lineFrames}
+use Rattle.wire.specs.Ears.{earBytes}
+use Rattle.ears_file.specs.declared.Ended.{Ended}
 use Rattle.ears_file.specs.declared.Outcome.{Outcome}
-use Rattle.ears_file.specs.Lines.{endsAs, itemTen}
+use Rattle.ears_file.specs.Lines.{earsOf, refusedRun, itemTen}
 
--- the bank that was found: what reading leaves for the bytes of some file
-pub record Found (zs : List ℤ) (xs : List Float) (o : ReadOutcome) : Type 0 where
-  pub file : List ℕ
-  pub reads : Reads file zs xs o
-
--- the end of some line
-pub record OfLine (u : Setup) (e : Ended) : Type 0 where
+-- a run ends as some line does; one that failed ends as a refused one, and is told apart
+pub record Ends (end : List ℕ → Ended) (r : Outcome) : Type 0 where
   pub line : List ℕ
-  pub ends : e ≡ endsAs u line
+  pub ended : r .ended ≡ cond (r .failed) refusedRun (end line)
 
--- the end of some line, with some bank
-pub record OfFiles (e : Ended) : Type 0 where
+-- with some bank
+pub record Answers (r : Outcome) : Type 0 where
   pub bank : List ℕ
-  pub line : List ℕ
-  pub gives : e ≡ itemTen bank line
+  pub ends : Ends (itemTen bank) r
 
--- a run that failed ends as a refused one does; of any other the end is such a one
-pub record Answers (P : Ended → Type 0) (r : Outcome) : Type 0 where
-  pub failed : r .failed ≡ true → r .ended ≡ refusedRun
-  pub told : r .failed ≡ false → P (r .ended)
+-- ---- a line that comes in parts
 
--- the line that a run is told by: none for one that failed
-abbrev pub toldBy : Outcome → List ℕ
-toldBy r = cond (r .failed) [] (lineOf (r .ended))
+-- the ears of the frames that a part makes whole after a line: what one turn puts out
+abbrev pub beyond : Setup → List ℕ → List ℕ → List ℕ
+beyond u line part = earBytes (heard u (after u [] (lineFrames line)) (lineFrames (restIn 24 line ++ part)))
+
+-- what the turns put out, one after another
+abbrev pub putInParts : Setup → List ℕ → List (List ℕ) → List (List ℕ)
+putInParts u line [] = []
+putInParts u line (part ∷ parts) = beyond u line part ∷ putInParts u (line ++ part) parts
+
+-- the same ears, wherever the line is cut
+abbrev pub CutAnywhere : Type 0
+CutAnywhere = (u : Setup) (parts : List (List ℕ)) → flatten (putInParts u [] parts) ≡ earsOf u (flatten parts)

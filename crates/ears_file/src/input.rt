@@ -1,40 +1,41 @@
-// The loop over the input: a read, a turn of `ears_play`, and a write. What has come of the line no contract can
-// name, so a step promises that some bytes more have come, and the loop that its answer is that of some line.
+// The loop over the input: a read, a turn, and a write. What has come of the line no contract can name, so a step
+// promises that some bytes more have come, and the loop that its answer is that of some line.
+use crate::Ended;
 use crate::Outcome;
-use ears_play::Progress;
+use crate::turn::Progress;
+use crate::turn::Turn;
 use hrtf_checks::Shape;
 ghost use mathlib.Core.Path.{_≡_};
 ghost use mathlib.Core.Bool.{true};
-ghost use Prim.Native.Nat.{_*_};
-ghost use lib.ListN.{replicate};
+ghost use mathlib.Core.List.{List};
+ghost use Prim.Native.Nat.{ℕ, _*_, _<_};
+ghost use lib.Dec.{eqb};
+ghost use lib.ListN.{length, replicate};
 ghost use Rattle.io.specs.Counts.{Counts};
 ghost use Rattle.formats.specs.Floats.{zero-float};
 ghost use Rattle.hrtf_checks.specs.Call.{setupOf};
-ghost use Rattle.ears_play.specs.Turns.{fixed, lent};
-ghost use Rattle.ears_file.specs.Playing.{Ready, Room, Playing, Stepped, endedBy};
-ghost use Rattle.ears_file.specs.Promise.{OfLine, Answers};
+ghost use Rattle.ears_file.specs.Lines.{endsAs};
+ghost use Rattle.ears_file.specs.Promise.{Ends};
+ghost use Rattle.ears_file.specs.Turns.{Ready, endOf, Further};
 
-// Frames of a block, and the places of a plane.
-const BLOCK: usize = 1024;
-
-// What is to be done after a turn: go on, or not, and then whether the system failed.
-struct Turned {
+// What a step answers: whether the line is over, whether the system failed, and the turn.
+struct Stepped {
     over: bool,
     failed: bool,
-    progress: Progress,
+    turn: Turn,
 }
 
 // Nothing more came: the line is over, or a read of it failed, which is told.
-fn stopped(failed: bool, progress: Progress) -> Turned
-    ensures { λ r. ⌜ r ≡ record { over = true; failed = failed; progress = progress } ⌝ }
+fn stopped(failed: bool, progress: Progress) -> Stepped
+    ensures { λ r. ⌜ r ≡ record { over = true; failed = failed; turn = record { progress = progress; bytes = 0 } } ⌝ }
 {
     if failed {
         os::fail(b"ears: reading the line");
     }
-    Turned {
+    Stepped {
         over: true,
         failed,
-        progress,
+        turn: Turn { progress, bytes: 0 },
     }
 }
 
@@ -49,7 +50,7 @@ fn write_some(out: i32, size: usize, text: &[u8]) -> bool
     true
 }
 
-// Reads, plays and writes once.
+// Reads, plays and writes once: a part more has come, of no bytes exactly where the line is over.
 fn step(
     progress: Progress,
     line: i32,
@@ -60,30 +61,26 @@ fn step(
     row_of: &[usize; 8],
     taps: &[f32],
     rings: &mut [f32],
-    bytes: &mut [u8],
-    inputs: &mut [f32],
-    ears: &mut [f32],
-    text: &mut [u8],
-) -> Turned
-    requires { ⌜ Ready (fixed shape 1024 (now weights) (now «row_of») (now taps)) ⌝ }
-    requires { ⌜ Room (lent (now bytes) (now inputs) (now rings) (now ears) (now text)) ⌝ }
-    requires { ⌜ Playing (fixed shape 1024 (now weights) (now «row_of») (now taps)) progress (lent (now bytes) (now inputs) (now rings) (now ears) (now text)) ⌝ }
-    ensures { λ r. ⌜ Stepped (fixed shape 1024 (now (weights .entry)) (now («row_of» .entry)) (now (taps .entry))) progress
-        (lent (now (bytes .entry)) (now (inputs .entry)) (now (rings .entry)) (now (ears .entry)) (now (text .entry)))
-        r
-        (lent (now (bytes .exit)) (now (inputs .exit)) (now (rings .exit)) (now (ears .exit)) (now (text .exit))) ⌝ }
+    bytes: &mut [u8; 24576],
+    inputs: &mut [f32; 6144],
+    ears: &mut [f32; 2048],
+    text: &mut [u8; 8192],
+) -> Stepped
+    requires { ⌜ Ready shape (now weights) (now «row_of») (now taps) ⌝ }
+    requires { ⌜ progress .held < 24 ⌝ }
+    ensures { λ r. ⌜ ((part : List ℕ) × (r .over ≡ eqb (length part) 0) × Further (setupOf shape (now (weights .entry)) (now («row_of» .entry)) (now (taps .entry)))
+        progress (now (rings .entry)) (now (bytes .entry)) part (r .turn) (now (rings .exit)) (now (bytes .exit)) (now (text .exit))) ⌝ }
 {
     let held = progress.held;
-    let got = crate::reading::read_some(line, held, limit, bytes);
+    let got = files::read_some(line, held, limit, bytes);
     if got.size == held {
         return stopped(got.failed, progress);
     }
-    let turn = ears_play::play(
+    let turn = crate::turn::play(
         progress,
         got.size,
         bytes,
         shape,
-        BLOCK,
         inputs,
         weights,
         row_of,
@@ -92,77 +89,30 @@ fn step(
         ears,
         text,
     );
-    let next = turn.progress;
-    let put = turn.bytes;
-    let failed = write_some(out, put, text);
-    Turned {
-        over: failed,
+    let failed = write_some(out, turn.bytes, text);
+    Stepped {
+        over: false,
         failed,
-        progress: next,
+        turn,
     }
 }
 
-// How the run ends after its last step.
-fn ends_by(last: Turned) -> Outcome
-    ensures { λ r. ⌜ r ≡ endedBy last ⌝ }
+// The end of the line: bytes that are still held are a part frame.
+fn at_end(progress: Progress) -> Ended
+    ensures { λ r. ⌜ r ≡ endOf progress ⌝ }
 {
-    if last.failed {
-        return crate::failed();
+    if progress.held != 0 {
+        return crate::refused();
     }
-    let progress = last.progress;
-    crate::ended(ears_play::at_end(progress))
+    Ended {
+        refusal: 0,
+        frames: progress.frames,
+        unsettled: progress.unsettled,
+    }
 }
 
-// Steps until the input is over. A proved loop has to end, and nothing says that the input does: so the steps are
-// counted down from a number that no run uses up.
-fn play_on(
-    line: i32,
-    out: i32,
-    limit: usize,
-    shape: Shape,
-    weights: &[f64],
-    row_of: &[usize; 8],
-    taps: &[f32],
-    rings: &mut [f32],
-    bytes: &mut [u8],
-    inputs: &mut [f32],
-    ears: &mut [f32],
-    text: &mut [u8],
-) -> Outcome
-    requires { ⌜ Ready (fixed shape 1024 (now weights) (now «row_of») (now taps)) ⌝ }
-    requires { ⌜ Room (lent (now bytes) (now inputs) (now rings) (now ears) (now text)) ⌝ }
-    requires { ⌜ now rings ≡ replicate (shape .speakers * shape .length) zero-float ⌝ }
-    ensures { λ r. ⌜ Answers (OfLine (setupOf shape (now (weights .entry)) (now («row_of» .entry)) (now (taps .entry)))) r ⌝ }
-{
-    let mut progress = ears_play::start();
-    let mut steps = u64::MAX;
-    while 0 < steps {
-        let turned = step(
-            progress,
-            line,
-            out,
-            limit,
-            shape,
-            weights,
-            row_of,
-            taps,
-            rings,
-            bytes,
-            inputs,
-            ears,
-            text,
-        );
-        if turned.over {
-            return ends_by(turned);
-        }
-        let next = turned.progress;
-        progress = next;
-        steps -= 1;
-    }
-    crate::failed()
-}
-
-// Plays the whole input, in blocks.
+// Plays the whole line, step by step, until it is over. A proved loop has to end, and nothing says that the line does:
+// so the steps are counted down from a number that no run uses up.
 pub(crate) fn play_all(
     line: i32,
     out: i32,
@@ -173,26 +123,42 @@ pub(crate) fn play_all(
     taps: &[f32],
     rings: &mut [f32],
 ) -> Outcome
-    requires { ⌜ Ready (fixed shape 1024 (now weights) (now «row_of») (now taps)) ⌝ }
+    requires { ⌜ Ready shape (now weights) (now «row_of») (now taps) ⌝ }
     requires { ⌜ now rings ≡ replicate (shape .speakers * shape .length) zero-float ⌝ }
-    ensures { λ r. ⌜ Answers (OfLine (setupOf shape (now (weights .entry)) (now («row_of» .entry)) (now (taps .entry)))) r ⌝ }
+    ensures { λ r. ⌜ Ends (endsAs (setupOf shape (now (weights .entry)) (now («row_of» .entry)) (now (taps .entry)))) r ⌝ }
 {
     let mut bytes = [0u8; 24576];
     let mut inputs = [0.0f32; 6144];
     let mut ears = [0.0f32; 2048];
     let mut text = [0u8; 8192];
-    play_on(
-        line,
-        out,
-        limit,
-        shape,
-        weights,
-        row_of,
-        taps,
-        rings,
-        &mut bytes,
-        &mut inputs,
-        &mut ears,
-        &mut text,
-    )
+    let mut progress = crate::turn::start();
+    let mut steps = u64::MAX;
+    while 0 < steps {
+        let step = step(
+            progress,
+            line,
+            out,
+            limit,
+            shape,
+            weights,
+            row_of,
+            taps,
+            rings,
+            &mut bytes,
+            &mut inputs,
+            &mut ears,
+            &mut text,
+        );
+        if step.failed {
+            return crate::failed();
+        }
+        let turn = step.turn;
+        let next = turn.progress;
+        if step.over {
+            return crate::done(at_end(next));
+        }
+        progress = next;
+        steps -= 1;
+    }
+    crate::failed()
 }

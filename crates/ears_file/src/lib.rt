@@ -5,42 +5,47 @@
 // The bank is judged first. The output is emptied in every case. The input may be of any length and come in
 // parts of any size: a buffer of fixed size holds what has come of a frame that is not whole yet. No contract can
 // name what is read or written. `run` promises that its answer is the one that item 10 gives for some bank and
-// some line, whatever the system hands over; every decision is taken by functions of `bank`, `hrtf_setup`,
-// `ears_play` and `wire`, and no bank that keeps the form is refused by any of them.
-//
-// Under it lie `bank` (the bank file) and `bank_form` (its form), `hrtf_setup` (weights and rows) and `channel` (the
-// layout), `ears_play` (a turn, and the end of a run), `hrtf_checks` (the shape) and the kit's `os`, `io` and `libc`;
-// and for its definitions and proofs `wire`, `runs` (that what is set up is well shaped), `hrtf`, `rings` and `history`
-// (what the rings stand for), `desk`, `planes`, `checks`, `lists`, `formats` and `refusals`.
+// some line, whatever the system hands over; a bank that keeps the form is refused nowhere.
+use bank::BankRead;
 use channel::Layout;
-use ears_play::Ended;
 use hrtf_checks::Shape;
-use libc::STDERR_FILENO;
 ghost use mathlib.Core.Path.{_≡_};
 ghost use mathlib.Core.Bool.{true, false};
-ghost use Prim.Native.Nat.{_*_};
-ghost use lib.ListN as ListN;
-ghost use lib.ListN.{take, replicate};
-ghost use Rattle.refusals.specs.Refusals.{outside};
+ghost use lib.IntN.{pos};
+ghost use lib.ListN.{replicate};
 ghost use Rattle.io.specs.Counts.{Counts};
 ghost use Rattle.formats.specs.Floats.{zero-float};
-ghost use Rattle.checks.specs.Finite.{unsound};
-ghost use Rattle.hrtf_checks.specs.Call.{setupOf};
+ghost use Rattle.bank.specs.Reading.{bankFound};
 ghost use Rattle.wire.specs.Promises.{Lined};
-ghost use Rattle.ears_play.specs.Ending.{refusedRun};
-ghost use Rattle.ears_play.specs.Turns.{fixed};
-ghost use Rattle.ears_file.specs.Lines.{setupBy};
-ghost use Rattle.ears_file.specs.Playing.{Ready};
-ghost use Rattle.ears_file.specs.Promise.{OfLine, OfFiles, Answers, toldBy};
+ghost use Rattle.ears_file.specs.Lines.{setupWith, refusedRun, endsAs, toldBy};
+ghost use Rattle.files.specs.Promises.{Found};
+ghost use Rattle.ears_file.specs.Promise.{Ends, Answers};
 
-mod bank_file;
 mod input;
-mod reading;
+mod turn;
+
+// How a run ended: refused, or 0 with the counts.
+pub struct Ended {
+    pub refusal: u8,
+    pub frames: u64,
+    pub unsettled: u64,
+}
 
 // What a run answers: whether the system failed, and how it ended otherwise.
 pub struct Outcome {
     pub failed: bool,
     pub ended: Ended,
+}
+
+// A run that is refused. A bank that breaks its form and a part frame at the end are both 9.
+fn refused() -> Ended
+    ensures { λ r. ⌜ r ≡ refusedRun ⌝ }
+{
+    Ended {
+        refusal: 9,
+        frames: 0,
+        unsettled: 0,
+    }
 }
 
 // The system failed, which has been told.
@@ -49,11 +54,11 @@ fn failed() -> Outcome
 {
     Outcome {
         failed: true,
-        ended: ears_play::refused(),
+        ended: refused(),
     }
 }
 
-fn ended(ended: Ended) -> Outcome
+fn done(ended: Ended) -> Outcome
     ensures { λ r. ⌜ r ≡ record { failed = false; ended = ended } ⌝ }
 {
     Outcome {
@@ -62,100 +67,70 @@ fn ended(ended: Ended) -> Outcome
     }
 }
 
-// Plays the whole input with the taps of the bank's filters and rings of the cells that they need.
-fn play_fitted(
-    line: i32,
-    out: i32,
-    limit: usize,
-    shape: Shape,
-    weights: &[f64],
-    row_of: &[usize; 8],
-    taps: &[f32],
-    rings: &mut [f32],
-) -> Outcome
-    requires { ⌜ Ready (fixed shape 1024 (now weights) (now «row_of») (take (2 * shape .rows * shape .length) (now taps))) ⌝ }
-    requires { ⌜ (shape .speakers ≡ 6) × (ListN.length (now taps) ≡ 8192) × (now rings ≡ replicate 3072 zero-float) ⌝ }
-    ensures { λ r. ⌜ Answers (OfLine (setupOf shape (now (weights .entry)) (now («row_of» .entry)) (take (2 * shape .rows * shape .length) (now (taps .entry))))) r ⌝ }
-{
-    let filters = 2 * shape.rows * shape.length;
-    let cells = shape.speakers * shape.length;
-    input::play_all(
-        line,
-        out,
-        limit,
-        shape,
-        weights,
-        row_of,
-        &taps[..filters],
-        &mut rings[..cells],
-    )
-}
-
-// Plays the whole input with a bank that keeps the form, which neither the set-up nor the convolver refuses.
+// Plays the whole line with a bank that was read and keeps the form: six speakers are set up by it, and rings of the
+// cells that they need are silent.
 fn play_with(
+    read: BankRead,
     azimuths: &[i16],
-    rows: usize,
-    length: usize,
     taps: &[f32],
     line: i32,
     out: i32,
     limit: usize,
 ) -> Outcome
-    requires { ⌜ (outside rows 8 ≡ false) × (outside length 512 ≡ false) ⌝ }
-    requires { ⌜ (ListN.length (now azimuths) ≡ 8) × (ListN.length (now taps) ≡ 8192) × (unsound (take (2 * rows * length) (now taps)) ≡ false) ⌝ }
-    ensures { λ r. ⌜ Answers (OfLine (setupBy (now (azimuths .entry)) rows length (take (2 * rows * length) (now (taps .entry))))) r ⌝ }
+    requires { ⌜ read .refusal ≡ 0 ⌝ }
+    requires { ⌜ Found (replicate 8 (pos 0)) (replicate 8192 zero-float) (record { answer = read; azimuths = now azimuths; taps = now taps }) ⌝ }
+    ensures { λ r. ⌜ Ends (endsAs (setupWith (bankFound (record { answer = read; azimuths = now (azimuths .entry); taps = now (taps .entry) })))) r ⌝ }
 {
     let mut weights = [0.0f64; 36];
     let mut row_of = [0usize; 8];
     let arranged = hrtf_setup::new_surround(
         Layout::Surround51,
         azimuths,
-        rows,
+        read.rows,
         &mut weights,
         &mut row_of,
     );
     let shape = Shape {
         channels: arranged.channels,
         speakers: arranged.speakers,
-        rows,
-        length,
+        rows: read.rows,
+        length: read.length,
     };
+    let filters = 2 * read.rows * read.length;
+    let cells = arranged.speakers * read.length;
     let mut rings = [0.0f32; 3072];
-    play_fitted(line, out, limit, shape, &weights, &row_of, taps, &mut rings)
-}
-
-// Opens the output and empties it. Where standard error is closed the system would give its number to the
-// output, and messages would stand among the samples: then the output is opened a second time.
-fn open_out(path: &[u8]) -> i32 {
-    let first = os::open_overwrite(path);
-    if first != STDERR_FILENO {
-        return first;
-    }
-    let second = os::open_overwrite(path);
-    libc::close(first);
-    second
+    input::play_all(
+        line,
+        out,
+        limit,
+        shape,
+        &weights,
+        &row_of,
+        &taps[..filters],
+        &mut rings[..cells],
+    )
 }
 
 // Plays the line that is open as `line` with the bank of a name, into the file of a name. No more than `limit`
 // bytes are read at a time: the program lets its buffer decide, and the tests try other cuts.
 pub fn run(bank: &[u8], line: i32, out: &[u8], limit: usize) -> Outcome
-    ensures { λ r. ⌜ Answers OfFiles r ⌝ }
+    ensures { λ r. ⌜ Answers r ⌝ }
 {
     let mut azimuths = [0i16; 8];
     let mut taps = [0.0f32; 8192];
-    let read = bank_file::read(bank, &mut azimuths, &mut taps);
-    let to = open_out(out);
+    let read = files::read_bank(bank, &mut azimuths, &mut taps);
+    let to = files::open_out(out);
     if read.refusal != 0 {
         if 0 <= to {
             libc::close(to);
         }
-        return ended(ears_play::refused());
+        return done(refused());
     }
     if to < 0 {
         os::fail(out);
         return failed();
     }
-    let run = play_with(&azimuths, read.rows, read.length, &taps, line, to, limit);
+    let run = play_with(read, &azimuths, &taps, line, to, limit);
     if libc::close(to) < 0 {
         os::fail(out);
         return failed();
@@ -173,5 +148,8 @@ pub fn told(run: Outcome, out: &mut [u8]) -> usize
         return 0;
     }
     let ended = run.ended;
-    ears_play::line_of(ended, out)
+    if ended.refusal != 0 {
+        return wire::refused_line(ended.refusal, out);
+    }
+    wire::frames_line(ended.frames, ended.unsettled, out)
 }

@@ -38,7 +38,7 @@ both-stored out one two at a b h e f =
     ∙ ap (placed out at) (sym (fieldBytes-two 4 (toBits binary32) a b))
 
 -- the loop: the ears of the frames so far stand at the start
-length-ears : (ears : List Float) (stride n : ℕ) → length (earBytes (framesOf ears stride 2 n)) ≡ n * 8
+pub length-ears : (ears : List Float) (stride n : ℕ) → length (earBytes (framesOf ears stride 2 n)) ≡ n * 8
 unfolding earBytes flatMap
 length-ears ears stride n = go 0 n
   where

@@ -4,7 +4,7 @@ use mathlib.Core.Bool.{Bool, true, false}
 use mathlib.Core.List.{List, [], _∷_}
 use Prim.Native.Nat.{ℕ, _*_, _/_, _≤_, _<_}
 use native.Mathlib.Omega.{arith}
-use borrow.Author.Tests.{lt-ltb, le-ltb}
+use borrow.Author.Tests.{lt-ltb, le-ltb, ltb-false}
 use lib.Dec.{ltb}
 use lib.ListN.{length}
 use lib.Ieee.{Float}
@@ -34,6 +34,14 @@ module _ (bytes : List ℕ) (stride : ℕ) (inputs : List Float) where
       → record { answer = record { refusal = 0; frames = wholeIn 24 bytes }; inputs = after } ≡ framesTaken bytes stride inputs
   taken-filled after e f = ap {B = FramesTaken} (λ (l : List Float). record { answer = record { refusal = 0; frames = wholeIn 24 bytes }; inputs = l }) f ∙ sym (taken-accepted e)
 
+  -- whichever it is, no more frames than there are bytes for
+  pub taken-few : (r : FramesTaken) → r ≡ framesTaken bytes stride inputs → r .answer .frames * 24 ≤ length bytes
+  taken-few r e = go (unfit (length inputs) 6 stride (wholeIn 24 bytes)) refl
+    where
+      go : (b : Bool) → unfit (length inputs) 6 stride (wholeIn 24 bytes) ≡ b → r .answer .frames * 24 ≤ length bytes
+      go true h = let none : r .answer .frames ≡ 0 = ap (λ (t : FramesTaken). t .answer .frames) (e ∙ taken-refused h) in omega (arith, none)
+      go false h = let all : r .answer .frames ≡ wholeIn 24 bytes = ap (λ (t : FramesTaken). t .answer .frames) (e ∙ taken-accepted h) in omega (arith, all)
+
 module _ (ears : List Float) (stride frames : ℕ) (out : List ℕ) where
   pub given-by : (b t : Bool) → unfit (length ears) 2 stride frames ≡ b → ltb (length out) (frames * 8) ≡ t
       → earsGiven ears stride frames out ≡ givenBy (firstOf (5 when b ∷ 5 when t ∷ [])) ears stride frames out
@@ -57,3 +65,14 @@ module _ (ears : List Float) (stride frames : ℕ) (out : List ℕ) where
   pub given-filled : (after : List ℕ) → unfit (length ears) 2 stride frames ≡ false → frames * 8 ≤ length out → after ≡ placed out 0 (earBytes (framesOf ears stride 2 frames))
       → record { answer = record { refusal = 0; bytes = frames * 8 }; out = after } ≡ earsGiven ears stride frames out
   given-filled after e h f = ap {B = EarsGiven} (λ (l : List ℕ). record { answer = record { refusal = 0; bytes = frames * 8 }; out = l }) f ∙ sym (given-accepted e h)
+
+  -- whichever it is, no more bytes than there is room for
+  pub given-few : (r : EarsGiven) → r ≡ earsGiven ears stride frames out → r .answer .bytes ≤ length out
+  given-few r e = go (unfit (length ears) 2 stride frames) (ltb (length out) (frames * 8)) refl refl
+    where
+      go : (b t : Bool) → unfit (length ears) 2 stride frames ≡ b → ltb (length out) (frames * 8) ≡ t → r .answer .bytes ≤ length out
+      go true t h k = let none : r .answer .bytes ≡ 0 = ap (λ (g : EarsGiven). g .answer .bytes) (e ∙ given-by true t h k) in omega (arith, none)
+      go false true h k = let none : r .answer .bytes ≡ 0 = ap (λ (g : EarsGiven). g .answer .bytes) (e ∙ given-by false true h k) in omega (arith, none)
+      go false false h k =
+          let all : r .answer .bytes ≡ frames * 8 = ap (λ (g : EarsGiven). g .answer .bytes) (e ∙ given-by false false h k) in
+          omega (arith, all, ltb-false (length out) (frames * 8) k)

@@ -1,7 +1,7 @@
 -- `ears_file::failed` meets its contract. Assumes nothing.
 use mathlib.Core.Path.{ap}
 use mathlib.Core.Bool.{true}
-use Rattle.ears_play.specs.declared.Ended.{Ended}
+use Rattle.ears_file.specs.declared.Ended.{Ended}
 use Rattle.ears_file.specs.declared.Outcome.{Outcome}
 use Rattle.ears_file.proofs.failed.Statement.{statement}
 use Rattle.ears_file.proofs.failed.Tie as tie

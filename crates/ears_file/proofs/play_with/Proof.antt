@@ -1,16 +1,14 @@
--- `ears_file::play_with` meets its contract. Assumes nothing.
-use mathlib.Core.Path.{ap, subst}
-use Prim.Native.Nat.{_*_}
+-- `ears_file::play_with` meets its contract: what was found is set up, and ready. Assumes nothing.
+use mathlib.Core.Path.{sym, ap, _∙_}
+use Prim.Native.Nat.{_*_, _≤_}
 use native.Mathlib.Omega.{arith}
-use lib.ListN.{take, replicate, length-replicate}
+use lib.ListN.{length, take, replicate, length-replicate}
 use lib.Seq.{length-take-le}
-use lib.Ieee.{binary32}
+use lib.Ieee.{Float, binary32, ofBits}
 use Rattle.formats.proofs.Patterns.{zero-bits}
 use Rattle.formats.specs.Floats.{zero-float}
-use Rattle.checks.proofs.Checks.{not-outside}
-use Rattle.history.specs.Setup.{Setup}
-use Rattle.ears_file.specs.Promise.{OfLine, Answers}
-use Rattle.ears_file.proofs.Setting.{taps-few, set-up, six-speakers, ready}
+use Rattle.lists.proofs.Lists.{take-replicate}
+use Rattle.ears_file.proofs.SetUp.{rows-few, taps-fit, taps-long, cells-fit, ready, played-ends}
 use borrow.Author.Needs.{needs}
 use Rattle.ears_file.proofs.play_with.Statement.{statement}
 use Rattle.ears_file.proofs.play_with.Tie as tie
@@ -21,29 +19,57 @@ slice-aggregate-new-surround c = search needs
 new-surround-requires : tie.Need-new-surround-requires
 new-surround-requires c κs = tt
 
-slice-aggregate-play-fitted : tie.Need-slice-aggregate-play-fitted
-slice-aggregate-play-fitted c = search needs
+-- where the speakers are set up, and where the function began
+abbrev start : tie.After-new-surround → tie.Start
+start c = c .before .before .before .before
 
-slice-aggregate-play-fitted-2 : tie.Need-slice-aggregate-play-fitted-2
-slice-aggregate-play-fitted-2 c = search needs
+filters : (c : tie.Start) → 2 * c .args .read .rows * c .args .read .length ≤ 8192
+filters c = taps-fit _ _ (c .pre .1) (c .pre .0)
 
-play-fitted-requires : tie.Need-play-fitted-requires
-play-fitted-requires c κs =
-    let start = c .before .before .before .before .before .before .before .before in
-    let pre = start .pre in
-    let args = start .args in
-    let new = c .before .before .before .before .new-surround .ensures in
-    let long = length-replicate 36 zero-float in
-    let few = taps-few (args .rows) (args .length) (not-outside (args .rows) 8 (pre .0 .0) .1) (not-outside (args .length) 512 (pre .0 .1) .1) in (
-      ready _ _ (args .length) (take (2 * args .rows * args .length) (args .taps .now)) _ _ (pre .0 .0) (pre .1 .0) long new (pre .0 .1) (length-take-le _ (args .taps .now) (omega (arith, few, pre .1 .1))) (pre .1 .2),
-      (six-speakers _ _ (args .length) (args .taps .now) _ _ (pre .0 .0) (pre .1 .0) long new, pre .1 .1, ap (replicate 3072) (zero-bits binary32)),
+cells : (c : tie.After-new-surround) → c .new-surround .result .speakers * start c .args .read .length ≤ 3072
+cells c =
+    let pre = start c .pre in
+    cells-fit _ _ (pre .1) (pre .0) _ (length-replicate 36 zero-float) _ (c .new-surround .ensures)
+
+mul-filters : tie.Need-mul-filters
+mul-filters c = let pre = c .before .before .before .before .before .before .pre in omega (arith, rows-few _ _ (pre .1) (pre .0))
+
+mul-filters-2 : tie.Need-mul-filters-2
+mul-filters-2 c = omega (arith, filters (c .before .before .before .before .before .before .before))
+
+mul-cells : tie.Need-mul-cells
+mul-cells c = omega (arith, cells (c .before .before .before .before .before))
+
+slice-aggregate-play-all : tie.Need-slice-aggregate-play-all
+slice-aggregate-play-all c = search needs
+
+slice-aggregate-play-all-2 : tie.Need-slice-aggregate-play-all-2
+slice-aggregate-play-all-2 c =
+    let begun = start (c .before .before .before .before .before .before .before .before) in
+    sym (length-take-le _ (begun .args .taps .now) (omega (arith, filters begun, taps-long _ _ (begun .pre .1) (begun .pre .0))))
+
+array-borrow-prefix-rings : tie.Need-array-borrow-prefix-rings
+array-borrow-prefix-rings c = omega (arith, cells (c .before .before .before .before .before .before .before .before))
+
+slice-aggregate-play-all-3 : tie.Need-slice-aggregate-play-all-3
+slice-aggregate-play-all-3 c =
+    let new = c .before .before .before .before .before .before .before .before .before in
+    sym (length-take-le _ (replicate 3072 (ofBits binary32 0)) (cells new))
+
+play-all-requires : tie.Need-play-all-requires
+play-all-requires c κs =
+    let new = c .before .before .before .before .before .before .before .before .before in
+    let pre = start new .pre in (
+      ready _ _ (pre .1) (pre .0) _ (length-replicate 36 zero-float) _ (new .new-surround .ensures),
+      ap (λ (x : Float). take (new .new-surround .result .speakers * start new .args .read .length) (replicate 3072 x)) (zero-bits binary32)
+          ∙ take-replicate _ 3072 zero-float (cells new),
     )
 
 returns : tie.Need-returns
 returns c =
-    let start = c .before .before .before .before .before .before .before .before .before .before in
-    subst (λ (u : Setup). Answers (OfLine u) (c .before .play-fitted .result))
-    (set-up _ _ (start .args .length) _ _ _ (start .pre .0 .0) (start .pre .1 .0) (length-replicate 36 zero-float) (c .before .before .before .before .before .before .new-surround .ensures)) (c .before .play-fitted .ensures)
+    let new = c .before .before .before .before .before .before .before .before .before .before .before in
+    let pre = start new .pre in
+    played-ends _ _ (pre .1) (pre .0) _ (length-replicate 36 zero-float) _ (new .new-surround .ensures) _ (c .before .play-all .ensures)
 
 pub play-with-spec : {M : Type 1} → statement M
 play-with-spec =
@@ -51,7 +77,12 @@ play-with-spec =
     (tie.spec
     slice-aggregate-new-surround
     new-surround-requires
-    slice-aggregate-play-fitted
-    slice-aggregate-play-fitted-2
-    play-fitted-requires
+    mul-filters
+    mul-filters-2
+    mul-cells
+    slice-aggregate-play-all
+    slice-aggregate-play-all-2
+    array-borrow-prefix-rings
+    slice-aggregate-play-all-3
+    play-all-requires
     returns)

@@ -1,22 +1,26 @@
--- `ears_file::run` meets its contract. Assumes nothing.
-use mathlib.Core.Path.{sym, subst, _∙_}
-use lib.ListN.{length-replicate}
+-- `ears_file::run` meets its contract: a bank that breaks the form, a failure, or a run with a good bank. Assumes nothing.
+use mathlib.Core.Path.{subst}
+use lib.IntN.{pos}
+use lib.ListN.{replicate, length-replicate}
+use lib.Ieee.{Float, binary32}
+use Rattle.formats.proofs.Patterns.{zero-bits}
 use Rattle.formats.specs.Floats.{zero-float}
-use Rattle.runs.proofs.SetUp.{few-rows, short-filters}
-use Rattle.ears_file.specs.Promise.{OfFiles}
-use Rattle.ears_file.proofs.Ending.{failed-answers, ended-answers, answers-on, bank-refused, sound, of-files}
+use Rattle.bank.specs.Reading.{ReadOutcome}
+use Rattle.files.specs.Promises.{Found}
+use Rattle.ears_file.proofs.SetUp.{bank-refused, bank-answers}
+use Rattle.ears_file.proofs.Ending.{failed-answers}
 use borrow.Author.Needs.{needs}
 use Rattle.ears_file.proofs.run.Statement.{statement}
 use Rattle.ears_file.proofs.run.Tie as tie
 
-slice-aggregate-read : tie.Need-slice-aggregate-read
-slice-aggregate-read c = search needs
+slice-aggregate-read-bank : tie.Need-slice-aggregate-read-bank
+slice-aggregate-read-bank c = search needs
 
-slice-aggregate-read-2 : tie.Need-slice-aggregate-read-2
-slice-aggregate-read-2 c = search needs
+slice-aggregate-read-bank-2 : tie.Need-slice-aggregate-read-bank-2
+slice-aggregate-read-bank-2 c = search needs
 
-read-requires : tie.Need-read-requires
-read-requires c κs = search needs
+read-bank-requires : tie.Need-read-bank-requires
+read-bank-requires c κs = tt
 
 open-out-requires : tie.Need-open-out-requires
 open-out-requires c κs = tt
@@ -27,11 +31,14 @@ close-requires c κs = tt
 refused-requires : tie.Need-refused-requires
 refused-requires c κs = tt
 
-ended-requires : tie.Need-ended-requires
-ended-requires c κs = tt
+done-requires : tie.Need-done-requires
+done-requires c κs = tt
 
 returns : tie.Need-returns
-returns c = ended-answers OfFiles _ _ (c .ended .ensures) (subst OfFiles (sym (c .before .refused .ensures)) (bank-refused _ _ (length-replicate 8192 zero-float) (c .before .before .before .before .before .before .before .before .read .ensures) (c .before .before .before .if1 .taken)))
+returns c =
+    let test = c .before .before .before in
+    let read = test .before .before .before .before .before .read-bank in
+    bank-refused _ _ (read .ensures) (length-replicate 8192 zero-float) (test .if1 .taken) _ _ (c .before .refused .ensures) (c .done .ensures)
 
 fail-requires : tie.Need-fail-requires
 fail-requires c κs = tt
@@ -40,7 +47,7 @@ failed-requires : tie.Need-failed-requires
 failed-requires c κs = tt
 
 returns-2 : tie.Need-returns-2
-returns-2 c = failed-answers _ _ (c .failed .ensures)
+returns-2 c = failed-answers _ (c .failed .ensures)
 
 slice-aggregate-play-with : tie.Need-slice-aggregate-play-with
 slice-aggregate-play-with c = search needs
@@ -50,10 +57,10 @@ slice-aggregate-play-with-2 c = search needs
 
 play-with-requires : tie.Need-play-with-requires
 play-with-requires c κs =
-    let read = c .before .before .before .before .before .before .before .before .read in
-    let zeroth = c .before .before .before .if1 .left in
-    let most = length-replicate 8192 zero-float in
-    ((few-rows _ _ _ _ (read .ensures .reads) zeroth, short-filters _ _ _ _ (read .ensures .reads) zeroth), (read .kept .1 .0, read .kept .1 .1 .0 ∙ most, sound _ _ most (read .ensures) zeroth))
+    let test = c .before .before .before in
+    let read = test .before .before .before .before .before .read-bank in
+    let o : ReadOutcome = record { answer = read .result; azimuths = read .last .1 .0; taps = read .last .1 .1 .0 } in
+    (test .if1 .left, subst (λ (x : Float). Found (replicate 8 (pos 0)) (replicate 8192 x) o) (zero-bits binary32) (read .ensures))
 
 close-requires-2 : tie.Need-close-requires-2
 close-requires-2 c κs = tt
@@ -65,22 +72,25 @@ failed-requires-2 : tie.Need-failed-requires-2
 failed-requires-2 c κs = tt
 
 returns-3 : tie.Need-returns-3
-returns-3 c = failed-answers _ _ (c .failed2 .ensures)
+returns-3 c = failed-answers _ (c .failed2 .ensures)
 
 returns-4 : tie.Need-returns-4
-returns-4 c = answers-on _ _ _ (of-files _ _ (length-replicate 8192 zero-float) (c .before .before .before .before .before .before .before .before .before .before .before .read .ensures) (c .before .before .before .before .before .before .if1 .left)) (c .before .before .play-with .ensures)
+returns-4 c =
+    let played = c .before .before in
+    let test = played .before .before .before .before in
+    bank-answers _ _ (test .before .before .before .before .before .read-bank .ensures) (test .if1 .left) _ (played .play-with .ensures)
 
 pub run-spec : {M : Type 1} → statement M
 run-spec =
     tie.close
     (tie.spec
-    slice-aggregate-read
-    slice-aggregate-read-2
-    read-requires
+    slice-aggregate-read-bank
+    slice-aggregate-read-bank-2
+    read-bank-requires
     open-out-requires
     close-requires
     refused-requires
-    ended-requires
+    done-requires
     returns
     fail-requires
     failed-requires

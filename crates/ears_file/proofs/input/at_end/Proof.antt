@@ -1,13 +1,12 @@
--- `ears_play::at_end` meets its contract. Assumes nothing.
+-- `ears_file::input::at_end` meets its contract. Assumes nothing.
 use mathlib.Core.Path.{sym, _∙_}
 use borrow.Author.Tests.{eq-eqb, ne-eqb}
 use Rattle.refusals.proofs.First.{stops, goes-on}
-use borrow.Author.Needs.{needs}
-use Rattle.ears_play.proofs.at_end.Statement.{statement}
-use Rattle.ears_play.proofs.at_end.Tie as tie
+use Rattle.ears_file.proofs.input.at_end.Statement.{statement}
+use Rattle.ears_file.proofs.input.at_end.Tie as tie
 
 refused-requires : tie.Need-refused-requires
-refused-requires c κs = search needs
+refused-requires c κs = tt
 
 returns : tie.Need-returns
 returns c = c .refused .ensures ∙ sym (goes-on _ _ (ne-eqb _ _ (c .before .if1 .taken)))

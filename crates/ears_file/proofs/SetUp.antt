@@ -1,0 +1,153 @@
+-- A bank that was found and keeps the form is set up for 5.1, and the convolver refuses no block with it: `ready`. Assumes nothing.
+use mathlib.Core.Path.{_≡_, refl, sym, ap, _∙_, subst}
+use mathlib.Core.Bool.{Bool, true, false, cond}
+use mathlib.Core.List.{List, []}
+use Prim.Native.Nat.{ℕ, _*_, _≤_, _<_}
+use native.Mathlib.Nat.{mul-le-mul}
+use native.Mathlib.Omega.{arith}
+use lib.IntN.{ℤ, pos}
+use lib.ListN.{length, take, replicate, length-take}
+use lib.Ieee.{Float}
+use Rattle.refusals.proofs.First.{stops, goes-on}
+use Rattle.lists.proofs.Placed.{length-placed}
+use Rattle.checks.proofs.Checks.{not-outside}
+use Rattle.channel.specs.declared.Layout.the-variants.{Surround51}
+use Rattle.bank_form.specs.Bank.{Bank, rows}
+use Rattle.bank_form.specs.FaultComputed.{bankIn, isFile}
+use Rattle.bank.specs.Reading.{ReadOutcome, readBank}
+use Rattle.bank.proofs.Answers.{accepted}
+use Rattle.bank.proofs.Promises.{Accepted, accepted-parts, accepted-is, read-is}
+use Rattle.history.specs.Setup.{Setup}
+use Rattle.hrtf_checks.specs.declared.Shape.{Shape}
+use Rattle.hrtf_checks.specs.Call.{setupOf}
+use Rattle.hrtf_setup.specs.Arrangement.{Arrangement, arrangedBy, arrangement}
+use Rattle.hrtf_setup.specs.Promise.{ofLayout, NewSurround}
+use Rattle.hrtf_setup.proofs.Accepted.{Playable, surround-playable}
+use Rattle.bank.specs.Reading.{bankFound}
+use Rattle.runs.specs.SetUp.{Turns}
+use Rattle.runs.proofs.SetUp.{few-rows, short-filters, good-bank-set-up, set-up-accepted}
+use Rattle.ears_file.specs.declared.Ended.{Ended}
+use Rattle.ears_file.specs.declared.Outcome.{Outcome}
+use Rattle.ears_file.specs.Lines.{arranged, setupWith, refusedRun, endsAs, itemTen}
+use Rattle.files.specs.Promises.{Found}
+use Rattle.ears_file.specs.Promise.{Ends, Answers}
+use Rattle.ears_file.specs.Turns.{Ready}
+
+-- the list of azimuths that a bank is read into
+abbrev zeros : List ℤ
+zeros = replicate 8 (pos 0)
+
+-- what is played with what was set up and what was read
+abbrev shapeOf : Arrangement → ReadOutcome → Shape
+shapeOf a o = record { channels = a .answer .channels; speakers = a .answer .speakers; rows = o .answer .rows; length = o .answer .length }
+
+abbrev tapsIn : ReadOutcome → List Float
+tapsIn o = take (2 * o .answer .rows * o .answer .length) (o .taps)
+
+module _ (xs : List Float) (o : ReadOutcome) (f : Found zeros xs o) where
+  -- a bank that breaks the form
+  pub bank-refused : length xs ≡ 8192 → (o .answer .refusal ≡ 0 → ⊥) → (e : Ended) (r : Outcome) → e ≡ refusedRun → r ≡ record { failed = false; ended = e }
+      → Answers r
+  bank-refused most not e r refused is =
+      subst Answers (sym (is ∙ ap {B = Outcome} (λ (q : Ended). record { failed = false; ended = q }) refused))
+      (record { bank = f .file; ends = record { line = []; ended = go (isFile (f .file)) refl } })
+    where
+      go : (t : Bool) → isFile (f .file) ≡ t → refusedRun ≡ itemTen (f .file) []
+      go true h = absurd (not (ap (λ (q : ReadOutcome). q .answer .refusal) (f .reads .outcome ∙ sym (accepted (f .file) zeros xs refl most h))))
+      go false h = sym (goes-on _ _ h)
+
+  -- one that keeps it
+  module _ (good : o .answer .refusal ≡ 0) where
+    b : Bank
+    b = bankIn (f .file)
+
+    parts : Accepted (f .file) zeros xs
+    parts = accepted-parts (f .file) zeros xs (ap (λ (q : ReadOutcome). q .answer .refusal) (sym (f .reads .outcome)) ∙ good)
+
+    is : o ≡ readBank b zeros xs
+    unfolding b
+    is = accepted-is (f .file) zeros xs o (f .reads) good .1
+
+    bank-is : bankFound o ≡ b
+    unfolding b
+    bank-is = read-is (f .file) zeros xs o (f .reads) good
+
+    taps-are : tapsIn o ≡ b .taps
+    taps-are = ap (λ (q : Bank). q .taps) bank-is
+
+    -- so a run that ends as some line does with it answers as item 10 does
+    pub bank-answers : (r : Outcome) → Ends (endsAs (setupWith (bankFound o))) r → Answers r
+    unfolding b
+    bank-answers r e =
+        let end : endsAs (setupWith (bankFound o)) (e .line) ≡ itemTen (f .file) (e .line) =
+        ap (λ (q : Bank). endsAs (setupWith q) (e .line)) bank-is ∙ sym (stops _ _ (parts .file-good)) in
+        record { bank = f .file; ends = record { line = e .line; ended = e .ended ∙ ap (cond (r .failed) refusedRun) end } }
+
+    -- there is room for its filters, and for the cells of six speakers
+    pub rows-few : o .answer .rows ≤ 8
+    rows-few = not-outside (o .answer .rows) 8 (few-rows (f .file) zeros xs o (f .reads) good) .1
+
+    short : (0 < o .answer .length) × (o .answer .length ≤ 512)
+    short = not-outside (o .answer .length) 512 (short-filters (f .file) zeros xs o (f .reads) good)
+
+    pub taps-fit : 2 * o .answer .rows * o .answer .length ≤ 8192
+    taps-fit = let few : 2 * o .answer .rows ≤ 16 = omega (arith, rows-few) in omega (arith, mul-le-mul few (short .1))
+
+    pub taps-long : length (o .taps) ≡ 8192
+    taps-long =
+        let few : length (b .taps) ≤ 8192 = omega (arith, ap length taps-are, length-take (2 * o .answer .rows * o .answer .length) (o .taps), taps-fit) in
+        ap (λ (q : ReadOutcome). length (q .taps)) is ∙ length-placed xs 0 (b .taps) (omega (arith, few, parts .most)) ∙ parts .most
+
+    module _ (weights : List Float) (size : length weights ≡ 36) (a : Arrangement)
+        (new : NewSurround Surround51 (o .azimuths) (o .answer .rows) weights (replicate 8 0) a) where
+      arranged-is : a ≡ arranged b
+      unfolding arrangement
+      arranged-is =
+          let whose = ofLayout Surround51 .whose in
+          new .answer
+          ∙ ap (λ (m : ℕ). arrangedBy m whose 6 6 (o .azimuths) (o .answer .rows) weights (replicate 8 0))
+          (good-bank-set-up (f .file) zeros xs o (f .reads) good (ofLayout Surround51) weights refl size)
+          ∙ ap (λ (q : ReadOutcome). arrangedBy 0 whose 6 6 (q .azimuths) (q .answer .rows) weights (replicate 8 0)) is
+
+      pub cells-fit : a .answer .speakers * o .answer .length ≤ 3072
+      cells-fit =
+          let six : a .answer .speakers ≤ 6 = omega (arith, ap (λ (q : Arrangement). q .answer .speakers) arranged-is) in
+          mul-le-mul six (short .1)
+
+      plays : Playable (rows b) a
+      plays =
+          subst (λ (n : ℕ). Playable n a) (ap (λ (q : ReadOutcome). q .answer .rows) is)
+          (surround-playable (o .azimuths) (o .answer .rows) weights (replicate 8 0) a refl (ap (λ (q : Arrangement). q .answer .refusal) arranged-is) Surround51 new)
+
+      pub ready : Ready (shapeOf a o) (a .weights) (a .rows) (tapsIn o)
+      unfolding b
+      ready =
+          record {
+            six = ap (λ (q : Arrangement). q .answer .channels) arranged-is;
+            long = short .0;
+            accepts = λ n inputs ears t few inputs-long ears-long turns.
+                set-up-accepted b (accepted-is (f .file) zeros xs o (f .reads) good .0 .keeps) a plays
+                (record { shape = shapeOf a o; frames = n; stride = 1024; inputs = inputs; weights = a .weights; rows = a .rows; taps = tapsIn o; ears = ears })
+                (record {
+                  shape = ap (shapeOf a) is;
+                  weights = refl;
+                  rows = refl;
+                  taps = taps-are;
+                  room = few;
+                  inputs = inputs-long ∙ sym (ap (λ (q : Arrangement). q .answer .channels * 1024) arranged-is);
+                  ears = ears-long;
+                })
+                t (subst (λ (q : ReadOutcome). Turns (a .answer .speakers) (q .answer .length) t) is turns);
+          }
+
+      -- the set-up is the one that item 10 gives for the bank that was read
+      set-up : setupOf (shapeOf a o) (a .weights) (a .rows) (tapsIn o) ≡ setupWith (bankFound o)
+      unfolding b
+      set-up =
+          ap (λ (q : Arrangement). setupOf (shapeOf q o) (q .weights) (q .rows) (tapsIn o)) arranged-is
+          ∙ ap (λ (q : ReadOutcome). setupOf (shapeOf (arranged b) q) (arranged b .weights) (arranged b .rows) (tapsIn o)) is
+          ∙ ap (setupOf (shapeOf (arranged b) (readBank b zeros xs)) (arranged b .weights) (arranged b .rows)) taps-are
+          ∙ sym (ap setupWith bank-is)
+
+      pub played-ends : (r : Outcome) → Ends (endsAs (setupOf (shapeOf a o) (a .weights) (a .rows) (tapsIn o))) r → Ends (endsAs (setupWith (bankFound o))) r
+      played-ends r e = subst (λ (u : Setup). Ends (endsAs u) r) set-up e
