@@ -8,7 +8,7 @@ use Prim.Native.Nat.{ℕ, _*_}
 use borrow.Author.Tests.{not-false}
 use lib.Ieee.{Float}
 use lib.IntN.{ℤ}
-use lib.ListN.{length, take}
+use lib.ListN.{length}
 use Rattle.refusals.proofs.First.{none-told}
 use Rattle.refusals.proofs.Chains.{none-holds}
 use Rattle.refusals.specs.OneAnswer.{OneAnswer}

@@ -1,9 +1,8 @@
 -- The same ears wherever the line is cut: `cut-anywhere`; and what a part more adds to the past, the ears and the counts of a line. Assumes nothing.
 use mathlib.Core.Path.{_≡_, sym, ap, _∙_}
 use mathlib.Core.List.{List, [], _∷_, _++_, flatten, flatMap, append-nil, append-assoc}
-use Prim.Native.Nat.{ℕ, _+_, _*_}
+use Prim.Native.Nat.{ℕ, _+_}
 use native.Mathlib.Omega.{arith}
-use lib.ListN.{length-append, length-drop}
 use lib.Ieee.{Float}
 use Rattle.history.specs.Setup.{Setup}
 use Rattle.history.specs.History.{heard, unsettledIn, after}

@@ -1,14 +1,12 @@
 -- No two answers of `told` meet its promise. Two of `run` do only with another bank, another line, or another failure (docs/UNFIXED.md). Assumes nothing.
 use mathlib.Core.Path.{_≡_, sym, _∙_}
-use mathlib.Core.Bool.{cond}
 use mathlib.Core.List.{List}
 use Prim.Native.Nat.{ℕ}
 use Rattle.refusals.specs.OneAnswer.{OneAnswer}
 use Rattle.wire.specs.Promises.{Lined}
 use Rattle.wire.proofs.Unique.{line-unique}
-use Rattle.ears_file.specs.declared.Ended.{Ended}
 use Rattle.ears_file.specs.declared.Outcome.{Outcome}
-use Rattle.ears_file.specs.Lines.{refusedRun, itemTen, toldBy}
+use Rattle.ears_file.specs.Lines.{toldBy}
 use Rattle.ears_file.specs.Promise.{Answers}
 
 told-unique : (run : Outcome) (out : List ℕ) → OneAnswer (λ (r : ℕ × List ℕ). Lined out (toldBy run) (r .0) (r .1))

@@ -11,10 +11,11 @@ use channel::Layout;
 use hrtf_checks::Shape;
 ghost use mathlib.Core.Path.{_≡_};
 ghost use mathlib.Core.Bool.{true, false};
+ghost use mathlib.Core.List.{List};
+ghost use lib.Ieee.{Float};
 ghost use lib.IntN.{pos};
 ghost use lib.ListN.{replicate};
 ghost use Rattle.io.specs.Counts.{Counts};
-ghost use Rattle.formats.specs.Floats.{zero-float};
 ghost use Rattle.bank.specs.Reading.{bankFound};
 ghost use Rattle.wire.specs.Promises.{Lined};
 ghost use Rattle.ears_file.specs.Lines.{setupWith, refusedRun, endsAs, toldBy};
@@ -78,7 +79,7 @@ fn play_with(
     limit: usize,
 ) -> Outcome
     requires { ⌜ read .refusal ≡ 0 ⌝ }
-    requires { ⌜ Found (replicate 8 (pos 0)) (replicate 8192 zero-float) (record { answer = read; azimuths = now azimuths; taps = now taps }) ⌝ }
+    requires { ⌜ ((before : List Float) × Found (replicate 8 (pos 0)) before (record { answer = read; azimuths = now azimuths; taps = now taps })) ⌝ }
     ensures { λ r. ⌜ Ends (endsAs (setupWith (bankFound (record { answer = read; azimuths = now (azimuths .entry); taps = now (taps .entry) })))) r ⌝ }
 {
     let mut weights = [0.0f64; 36];

@@ -1,9 +1,8 @@
 -- What the promises rule out whatever is played: a sample count of one's own, a reset that leaves something in a ring or a frame to go, and one that takes nine speakers. Assumes nothing.
-use mathlib.Core.Path.{_≡_, refl, sym, ap, _∙_}
+use mathlib.Core.Path.{_≡_, sym, ap, _∙_}
 use mathlib.Core.List.{List}
 use Prim.Native.Nat.{ℕ, suc}
 use native.Mathlib.Nat.{suc-ne-zero}
-use native.Mathlib.Omega.{arith}
 use lib.ListN.{length, replicate}
 use lib.Ieee.{Float}
 use Rattle.formats.specs.Floats.{zero-float}

@@ -24,15 +24,15 @@ abbrev start : tie.After-new-surround → tie.Start
 start c = c .before .before .before .before
 
 filters : (c : tie.Start) → 2 * c .args .read .rows * c .args .read .length ≤ 8192
-filters c = taps-fit _ _ (c .pre .1) (c .pre .0)
+filters c = taps-fit _ _ (c .pre .1 .1) (c .pre .0)
 
 cells : (c : tie.After-new-surround) → c .new-surround .result .speakers * start c .args .read .length ≤ 3072
 cells c =
     let pre = start c .pre in
-    cells-fit _ _ (pre .1) (pre .0) _ (length-replicate 36 zero-float) _ (c .new-surround .ensures)
+    cells-fit _ _ (pre .1 .1) (pre .0) _ (length-replicate 36 zero-float) _ (c .new-surround .ensures)
 
 mul-filters : tie.Need-mul-filters
-mul-filters c = let pre = c .before .before .before .before .before .before .pre in omega (arith, rows-few _ _ (pre .1) (pre .0))
+mul-filters c = let pre = c .before .before .before .before .before .before .pre in omega (arith, rows-few _ _ (pre .1 .1) (pre .0))
 
 mul-filters-2 : tie.Need-mul-filters-2
 mul-filters-2 c = omega (arith, filters (c .before .before .before .before .before .before .before))
@@ -46,7 +46,7 @@ slice-aggregate-play-all c = search needs
 slice-aggregate-play-all-2 : tie.Need-slice-aggregate-play-all-2
 slice-aggregate-play-all-2 c =
     let begun = start (c .before .before .before .before .before .before .before .before) in
-    sym (length-take-le _ (begun .args .taps .now) (omega (arith, filters begun, taps-long _ _ (begun .pre .1) (begun .pre .0))))
+    sym (length-take-le _ (begun .args .taps .now) (omega (arith, filters begun, taps-long _ _ (begun .pre .1 .1) (begun .pre .0))))
 
 array-borrow-prefix-rings : tie.Need-array-borrow-prefix-rings
 array-borrow-prefix-rings c = omega (arith, cells (c .before .before .before .before .before .before .before .before))
@@ -60,7 +60,7 @@ play-all-requires : tie.Need-play-all-requires
 play-all-requires c κs =
     let new = c .before .before .before .before .before .before .before .before .before in
     let pre = start new .pre in (
-      ready _ _ (pre .1) (pre .0) _ (length-replicate 36 zero-float) _ (new .new-surround .ensures),
+      ready _ _ (pre .1 .1) (pre .0) _ (length-replicate 36 zero-float) _ (new .new-surround .ensures),
       ap (λ (x : Float). take (new .new-surround .result .speakers * start new .args .read .length) (replicate 3072 x)) (zero-bits binary32)
           ∙ take-replicate _ 3072 zero-float (cells new),
     )
@@ -69,7 +69,7 @@ returns : tie.Need-returns
 returns c =
     let new = c .before .before .before .before .before .before .before .before .before .before .before in
     let pre = start new .pre in
-    played-ends _ _ (pre .1) (pre .0) _ (length-replicate 36 zero-float) _ (new .new-surround .ensures) _ (c .before .play-all .ensures)
+    played-ends _ _ (pre .1 .1) (pre .0) _ (length-replicate 36 zero-float) _ (new .new-surround .ensures) _ (c .before .play-all .ensures)
 
 pub play-with-spec : {M : Type 1} → statement M
 play-with-spec =

@@ -1,12 +1,6 @@
 -- `ears_file::run` meets its contract: a bank that breaks the form, a failure, or a run with a good bank. Assumes nothing.
-use mathlib.Core.Path.{subst}
-use lib.IntN.{pos}
-use lib.ListN.{replicate, length-replicate}
-use lib.Ieee.{Float, binary32}
-use Rattle.formats.proofs.Patterns.{zero-bits}
+use lib.ListN.{length-replicate}
 use Rattle.formats.specs.Floats.{zero-float}
-use Rattle.bank.specs.Reading.{ReadOutcome}
-use Rattle.files.specs.Promises.{Found}
 use Rattle.ears_file.proofs.SetUp.{bank-refused, bank-answers}
 use Rattle.ears_file.proofs.Ending.{failed-answers}
 use borrow.Author.Needs.{needs}
@@ -56,11 +50,7 @@ slice-aggregate-play-with-2 : tie.Need-slice-aggregate-play-with-2
 slice-aggregate-play-with-2 c = search needs
 
 play-with-requires : tie.Need-play-with-requires
-play-with-requires c κs =
-    let test = c .before .before .before in
-    let read = test .before .before .before .before .before .read-bank in
-    let o : ReadOutcome = record { answer = read .result; azimuths = read .last .1 .0; taps = read .last .1 .1 .0 } in
-    (test .if1 .left, subst (λ (x : Float). Found (replicate 8 (pos 0)) (replicate 8192 x) o) (zero-bits binary32) (read .ensures))
+play-with-requires c κs = let test = c .before .before .before in (test .if1 .left, (_, test .before .before .before .before .before .read-bank .ensures))
 
 close-requires-2 : tie.Need-close-requires-2
 close-requires-2 c κs = tt

@@ -19,13 +19,13 @@ slice-aggregate-frames-from-bytes : tie.Need-slice-aggregate-frames-from-bytes
 slice-aggregate-frames-from-bytes c = sym (length-take-le _ _ (c .before .before .before .before .before .before .pre .1 .2))
 
 frames-from-bytes-requires : tie.Need-frames-from-bytes-requires
-frames-from-bytes-requires c κs = search needs
+frames-from-bytes-requires c κs = tt
 
 process-requires : tie.Need-process-requires
-process-requires c κs = search needs
+process-requires c κs = tt
 
 bytes-from-ears-requires : tie.Need-bytes-from-ears-requires
-bytes-from-ears-requires c κs = search needs
+bytes-from-ears-requires c κs = tt
 
 -- where the frames were taken, and where the turn began
 abbrev taken : tie.After-bytes-from-ears → tie.After-frames-from-bytes
@@ -48,16 +48,16 @@ sub-t36 : tie.Need-sub-t36
 sub-t36 c = whole (c .before .before .before .before .before)
 
 count-on-requires : tie.Need-count-on-requires
-count-on-requires c κs = search needs
+count-on-requires c κs = tt
 
 count-on-requires-2 : tie.Need-count-on-requires-2
-count-on-requires-2 c κs = search needs
+count-on-requires-2 c κs = tt
 
 same-length : tie.Need-same-length
-same-length c = search needs
+same-length c = omega arith
 
 same-length-2 : tie.Need-same-length-2
-same-length-2 c = search needs
+same-length-2 c = omega arith
 
 returns : tie.Need-returns
 returns c =
