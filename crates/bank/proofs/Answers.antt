@@ -15,7 +15,7 @@ use Rattle.checks.proofs.Checks.{equal-passes, other-fails}
 use Rattle.lists.specs.Placed.{placed}
 use Rattle.bank_form.specs.Bank.{Bank, rows, valid}
 use Rattle.bank_form.specs.Encoding.{encode}
-use Rattle.bank_form.specs.FaultComputed.{rowSize, azimuthsFrom, tapsFrom, rowsIn, lengthIn, bankIn, isFile}
+use Rattle.bank_form.specs.Fault.{rowSize, azimuthsFrom, tapsFrom, rowsIn, lengthIn, bankIn, isFile}
 use Rattle.bank_form.proofs.Exact.{rows-in, keeps}
 use Rattle.bank_form.proofs.RoundTrip.{length-encode}
 use Rattle.refusals.proofs.Ranges.{within-true}

@@ -12,7 +12,7 @@ use Rattle.big_endian.specs.Fields.{fieldAt}
 use Rattle.big_endian.specs.Lists.{fieldBytes}
 use Rattle.bank_form.specs.Bank.{inRange, differ, isTap, pairwise, valid}
 use Rattle.bank_form.specs.Encoding.{rowBytes, headBytes, encode}
-use Rattle.bank_form.specs.FaultComputed.{field, orElse, headField, headFault, fault, isFile}
+use Rattle.bank_form.specs.Fault.{field, orElse, headField, headFault, fault, isFile}
 use Rattle.bank.specs.Reading.{ReadOutcome, readBank, readRefused, Reads}
 use Rattle.bank.specs.Writing.{WriteOutcome, Writes}
 use Rattle.bank.specs.Drill.{oneRow, oneRowBytes}

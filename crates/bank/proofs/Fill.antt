@@ -24,7 +24,7 @@ use Rattle.lists.specs.Placed.{placed}
 use Rattle.lists.proofs.Filling.{fill-more}
 use Rattle.lists.proofs.Tables.{length-part, row-end}
 use Rattle.lists.proofs.Placed.{placed-on, take-placed, length-placed}
-use Rattle.bank_form.specs.FaultComputed.{rowSize, azimuthsFrom, rowTaps, tapsFrom}
+use Rattle.bank_form.specs.Fault.{rowSize, azimuthsFrom, rowTaps, tapsFrom}
 use Rattle.bank_form.proofs.Lists.{taps-snoc, length-taps}
 
 -- how far the taps of i rows reach in the list of taps, where there are at most k

@@ -17,7 +17,7 @@ use Rattle.lists.proofs.Placed.{take-placed}
 use Rattle.checks.proofs.Checks.{is-equal}
 use Rattle.bank_form.specs.Bank.{Bank, rows, valid}
 use Rattle.bank_form.specs.Encoding.{encode}
-use Rattle.bank_form.specs.FaultComputed.{bankIn, isFile}
+use Rattle.bank_form.specs.Fault.{bankIn, isFile}
 use Rattle.bank_form.specs.File.{IsFile}
 use Rattle.bank_form.proofs.Exact.{keeps}
 use Rattle.bank.specs.Reading.{ReadOutcome, readChecks, readRefusal, readRefused, readBank, readOutcome, Reads, bankFound}

@@ -11,7 +11,7 @@ use lib.ListN.{length, take}
 use Rattle.refusals.specs.Refusals.{Check, _when_, firstOf, answered}
 use Rattle.lists.specs.Placed.{placed}
 use Rattle.bank_form.specs.Bank.{Bank, rows}
-use Rattle.bank_form.specs.FaultComputed.{bankIn, isFile}
+use Rattle.bank_form.specs.Fault.{bankIn, isFile}
 use Rattle.bank_form.specs.File.{Exactly}
 use Rattle.bank.specs.declared.BankRead.{BankRead}
 

@@ -3,7 +3,7 @@ use mathlib.Core.Path.{_≡_}
 use mathlib.Core.List.{List}
 use Prim.Native.Nat.{ℕ}
 use Rattle.bank_form.specs.declared.Fault.{Fault}
-use Rattle.bank_form.specs.FaultComputed.{fault}
+use Rattle.bank_form.specs.Fault.{fault}
 use Rattle.bank_form.specs.File.{Exactly}
 
 pub record Checked (s : List ℕ) (r : Fault) : Type 0 where

@@ -6,7 +6,7 @@
 use bank_form::Fault;
 ghost use mathlib.Core.Path.{_≡_};
 ghost use Prim.Native.Nat.{_+_, _-_, _*_, _≤_};
-ghost use Rattle.bank_form.specs.FaultComputed.{field, headField, headFault, tapsFault, isNew, rowSize, rowFault, rowsFault};
+ghost use Rattle.bank_form.specs.Fault.{field, headField, headFault, tapsFault, isNew, rowSize, rowFault, rowsFault};
 ghost use Rattle.bank_check.specs.Checked.{Checked};
 
 // How many bytes come after the first `count`.

@@ -22,7 +22,7 @@ use Rattle.refusals.proofs.Ranges.{within-true}
 use Rattle.bank_form.specs.Bank.{Bank, rows, inRange, differ, isTap, pairwise, valid}
 use Rattle.bank_form.specs.Encoding.{encode}
 use Rattle.bank_form.specs.HoldsComputed.{IsAzimuth, IsFloat, Holds}
-use Rattle.bank_form.specs.FaultComputed.{rowSize, rowsIn, lengthIn, bankIn, isNew, sound, fault, isFile}
+use Rattle.bank_form.specs.Fault.{rowSize, rowsIn, lengthIn, bankIn, isNew, sound, fault, isFile}
 use Rattle.bank_form.specs.File.{Exactly}
 use Rattle.lists.proofs.Each.{each-every}
 use Rattle.bank_form.proofs.Lists.{length-taps, pairwise-before, before-pairwise}

@@ -14,7 +14,7 @@ use Rattle.big_endian.specs.Fields.{floatAt}
 use Rattle.big_endian.specs.Lists.{strided}
 use Rattle.big_endian.proofs.Lists.{strided-none, length-strided, strided-more, strided-snoc}
 use Rattle.bank_form.specs.Bank.{pairwise}
-use Rattle.bank_form.specs.FaultComputed.{rowSize, rowTaps, tapsFrom}
+use Rattle.bank_form.specs.Fault.{rowSize, rowTaps, tapsFrom}
 
 module _ {A : Type 0} where
   -- ---- one more at the end

@@ -28,7 +28,7 @@ use Rattle.lists.proofs.Each.{each-drop, each-take}
 use Rattle.bank_form.specs.Bank.{Bank, rows, isTap}
 use Rattle.bank_form.specs.Encoding.{rowBytes, allRows, headBytes, encode}
 use Rattle.bank_form.specs.HoldsComputed.{IsAzimuth, IsFloat, Holds}
-use Rattle.bank_form.specs.FaultComputed.{rowSize, azimuthsFrom, rowTaps, tapsFrom, rowsIn, lengthIn, bankIn}
+use Rattle.bank_form.specs.Fault.{rowSize, azimuthsFrom, rowTaps, tapsFrom, rowsIn, lengthIn, bankIn}
 use Rattle.bank_form.proofs.Lists.{every-more, taps-none, taps-more}
 use Rattle.bank_form.proofs.Walk.{Whole, taps-parted}
 

@@ -1,4 +1,4 @@
--- One turn of each walk of specs/FaultComputed.antt, and what a walk that finds nothing says. Assumes nothing.
+-- One turn of each walk of specs/Fault.antt, and what a walk that finds nothing says. Assumes nothing.
 use mathlib.Core.Path.{_≡_, refl, sym, ap, subst₂, _∙_}
 use mathlib.Core.Bool.{Bool, true, false, _&&_, cond, and-eq-true-iff}
 use mathlib.Core.List.{List}
@@ -20,7 +20,7 @@ use Rattle.lists.specs.Tables.{every}
 use Rattle.refusals.specs.Ranges.{within}
 use Rattle.refusals.proofs.Ranges.{within-true, within-in}
 use Rattle.bank_form.specs.Bank.{inRange, differ, isTap}
-use Rattle.bank_form.specs.FaultComputed.{rowSize, azimuthsFrom, rowTaps, tapsFrom, rowsIn, lengthIn, sound, wrong, orElse, field, tapsFault, isNew, rowFault, rowsFault, headField, headFault, fault}
+use Rattle.bank_form.specs.Fault.{rowSize, azimuthsFrom, rowTaps, tapsFrom, rowsIn, lengthIn, sound, wrong, orElse, field, tapsFault, isNew, rowFault, rowsFault, headField, headFault, fault}
 use Rattle.lists.proofs.Every.{every-append}
 use Rattle.bank_form.proofs.Lists.{every-none, every-more, every-next, taps-none, taps-more}
 use Rattle.bank_form.proofs.Azimuths.{differ-same, differ-other}

@@ -5,7 +5,7 @@ use mathlib.Core.List.{List}
 use Prim.Native.Nat.{ℕ}
 use Rattle.bank_form.specs.Bank.{Bank, valid}
 use Rattle.bank_form.specs.Encoding.{encode}
-use Rattle.bank_form.specs.FaultComputed.{bankIn, isFile}
+use Rattle.bank_form.specs.Fault.{bankIn, isFile}
 
 -- s is the file of the bank b
 pub record IsFile (s : List ℕ) (b : Bank) : Type 0 where

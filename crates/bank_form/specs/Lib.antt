@@ -1,6 +1,6 @@
 -- What a bank file is, and what a walk over one finds.
 pub mod Bank
 pub mod Encoding
-pub mod FaultComputed
+pub mod Fault
 pub mod File
 pub mod HoldsComputed

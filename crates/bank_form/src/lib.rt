@@ -2,7 +2,7 @@
 // alone: no function stands here.
 //
 // specs/Bank.antt has what a bank is and when it keeps the form, specs/Encoding.antt its bytes, and
-// specs/File.antt what a bank file is; specs/FaultComputed.antt the walk over a list of bytes, field by
+// specs/File.antt what a bank file is; specs/Fault.antt the walk over a list of bytes, field by
 // field, that finds the first which breaks the form, with its offset. The laws say that what is written
 // and read is the same bank, and what is read and written the same bytes (proofs/RoundTrip.antt), and that
 // the walk finds nothing exactly if the bytes are those of a bank that keeps the form (proofs/Exact.antt).

@@ -13,7 +13,7 @@ use Rattle.refusals.proofs.First.{stops}
 use Rattle.lists.proofs.Lists.{one-at-most}
 use Rattle.lists.specs.Tables.{row}
 use Rattle.lists.proofs.Tables.{length-tab}
-use Rattle.bank_form.specs.FaultComputed.{bankIn, isFile}
+use Rattle.bank_form.specs.Fault.{bankIn, isFile}
 use Rattle.history.specs.Setup.{Setup}
 use Rattle.history.specs.Signals.{signals}
 use Rattle.history.specs.History.{unsettled, unsettledIn}

@@ -13,7 +13,7 @@ use Rattle.lists.proofs.Placed.{length-placed}
 use Rattle.checks.proofs.Checks.{not-outside}
 use Rattle.channel.specs.declared.Layout.the-variants.{Surround51}
 use Rattle.bank_form.specs.Bank.{Bank, rows}
-use Rattle.bank_form.specs.FaultComputed.{bankIn, isFile}
+use Rattle.bank_form.specs.Fault.{bankIn, isFile}
 use Rattle.bank.specs.Reading.{ReadOutcome, readBank}
 use Rattle.bank.proofs.Answers.{accepted}
 use Rattle.bank.proofs.Promises.{Accepted, accepted-parts, accepted-is, read-is}
@@ -24,14 +24,14 @@ use Rattle.hrtf_setup.specs.Arrangement.{Arrangement, arrangedBy, arrangement}
 use Rattle.hrtf_setup.specs.Promise.{ofLayout, NewSurround}
 use Rattle.hrtf_setup.proofs.Accepted.{Playable, surround-playable}
 use Rattle.bank.specs.Reading.{bankFound}
-use Rattle.runs.specs.SetUp.{Turns}
+use Rattle.runs.specs.SetUp.{StateFits}
 use Rattle.runs.proofs.SetUp.{few-rows, short-filters, good-bank-set-up, set-up-accepted}
 use Rattle.ears_file.specs.declared.Ended.{Ended}
 use Rattle.ears_file.specs.declared.Outcome.{Outcome}
 use Rattle.ears_file.specs.Lines.{arranged, setupWith, refusedRun, endsAs, itemTen}
 use Rattle.files.specs.Promises.{Found}
 use Rattle.ears_file.specs.Promise.{Ends, Answers}
-use Rattle.ears_file.specs.Turns.{Ready}
+use Rattle.ears_file.specs.Turns.{BlocksAccepted}
 
 -- the list of azimuths that a bank is read into
 abbrev zeros : List ℤ
@@ -119,13 +119,13 @@ module _ (xs : List Float) (o : ReadOutcome) (f : Found zeros xs o) where
           subst (λ (n : ℕ). Playable n a) (ap (λ (q : ReadOutcome). q .answer .rows) is)
           (surround-playable (o .azimuths) (o .answer .rows) weights (replicate 8 0) a refl (ap (λ (q : Arrangement). q .answer .refusal) arranged-is) Surround51 new)
 
-      pub ready : Ready (shapeOf a o) (a .weights) (a .rows) (tapsIn o)
+      pub ready : BlocksAccepted (shapeOf a o) (a .weights) (a .rows) (tapsIn o)
       unfolding b
       ready =
           record {
             six = ap (λ (q : Arrangement). q .answer .channels) arranged-is;
             long = short .0;
-            accepts = λ n inputs ears t few inputs-long ears-long turns.
+            accepts = λ n inputs ears t few inputs-long ears-long fits.
                 set-up-accepted b (accepted-is (f .file) zeros xs o (f .reads) good .0 .keeps) a plays
                 (record { shape = shapeOf a o; frames = n; stride = 1024; inputs = inputs; weights = a .weights; rows = a .rows; taps = tapsIn o; ears = ears })
                 (record {
@@ -137,7 +137,7 @@ module _ (xs : List Float) (o : ReadOutcome) (f : Found zeros xs o) where
                   inputs = inputs-long ∙ sym (ap (λ (q : Arrangement). q .answer .channels * 1024) arranged-is);
                   ears = ears-long;
                 })
-                t (subst (λ (q : ReadOutcome). Turns (a .answer .speakers) (q .answer .length) t) is turns);
+                t (subst (λ (q : ReadOutcome). StateFits (a .answer .speakers) (q .answer .length) t) is fits);
           }
 
       -- the set-up is the one that item 10 gives for the bank that was read

@@ -24,7 +24,7 @@ use Rattle.hrtf_checks.specs.Call.{Call, setupOf}
 use Rattle.hrtf_checks.specs.Refusals.{refusalOf}
 use Rattle.hrtf.specs.Promise.{Outcome, Processes, stateAfter}
 use Rattle.hrtf.proofs.Promised.{ears-over, unsettled-over}
-use Rattle.runs.specs.SetUp.{Turns}
+use Rattle.runs.specs.SetUp.{StateFits}
 use Rattle.wire.specs.Records.{wholeIn, restIn}
 use Rattle.wire.specs.Frames.{frameOf, lineFrames}
 use Rattle.wire.specs.Ears.{earBytes}
@@ -39,12 +39,12 @@ use Rattle.ears_file.specs.declared.turn.Progress.{Progress}
 use Rattle.ears_file.specs.declared.turn.Turn.{Turn}
 use Rattle.wire.specs.Counting.{countedOn}
 use Rattle.ears_file.specs.Promise.{beyond}
-use Rattle.ears_file.specs.Turns.{Ready, Stands, Further}
+use Rattle.ears_file.specs.Turns.{BlocksAccepted, Stands, Further}
 use Rattle.ears_file.proofs.Cuts.{past-more, unsettled-more, whole-more}
 
--- rings and a desk that stand for a past turn
-represents-turns : (u : Setup) (past : List (List Float)) (t : State) → Represents u past t → Turns (u .speakers) (u .L) t
-represents-turns u past t r = record { ringed = rings-room u past t r; within = r .0; waits = waits-few u past t r }
+-- rings and a desk that stand for a past fit
+represents-fits : (u : Setup) (past : List (List Float)) (t : State) → Represents u past t → StateFits (u .speakers) (u .L) t
+represents-fits u past t r = record { ringed = rings-room u past t r; within = r .0; waits = waits-few u past t r }
 
 -- a count that is added to is the count of all
 counted-on : (count so-far more all now : ℕ) → count ≡ countedOn 0 so-far → now ≡ countedOn count more → so-far + more ≡ all → now ≡ countedOn 0 all
@@ -56,7 +56,7 @@ block h weights rows taps n inputs ears =
     record { shape = h; frames = n; stride = 1024; inputs = inputs; weights = weights; rows = rows; taps = taps; ears = ears }
 
 -- the calls of a turn: frames from bytes, a block, bytes from ears
-module _ (h : Shape) (weights : List Float) (rows : List ℕ) (taps : List Float) (ready : Ready h weights rows taps)
+module _ (h : Shape) (weights : List Float) (rows : List ℕ) (taps : List Float) (ready : BlocksAccepted h weights rows taps)
     (p : Progress) (size : ℕ) (bytes : List ℕ) (inputs rings ears : List Float) (out : List ℕ)
     (sized : (p .held < size) × (size ≤ 24576) × (size ≤ length bytes))
     (inputs-long : length inputs ≡ 6144) (ears-long : length ears ≡ 2048) (out-long : length out ≡ 8192)
@@ -116,7 +116,7 @@ module _ (h : Shape) (weights : List Float) (rows : List ℕ) (taps : List Float
     not-refused : refusalOf call state ≡ 0
     not-refused =
         let long : length inputs₁ ≡ 6144 = ap length (filled) ∙ length-with-frames inputs 1024 0 (lineFrames (take size bytes)) ∙ inputs-long in
-        ready .accepts n inputs₁ ears state few long ears-long (represents-turns u past state (stood .history))
+        ready .accepts n inputs₁ ears state few long ears-long (represents-fits u past state (stood .history))
 
     -- the frames that stand in the input planes are those that have come
     read : framesOf inputs₁ 1024 (h .channels) n ≡ lineFrames (restIn 24 line ++ part)

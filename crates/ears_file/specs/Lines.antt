@@ -9,7 +9,7 @@ use lib.ListN.{length, replicate}
 use Rattle.refusals.specs.Refusals.{answered}
 use Rattle.channel.specs.declared.Layout.the-variants.{Surround51}
 use Rattle.bank_form.specs.Bank.{Bank, rows}
-use Rattle.bank_form.specs.FaultComputed.{bankIn, isFile}
+use Rattle.bank_form.specs.Fault.{bankIn, isFile}
 use Rattle.bank.specs.Reading.{readBank}
 use Rattle.history.specs.Setup.{Setup}
 use Rattle.history.specs.History.{heard, unsettledIn}

@@ -14,7 +14,7 @@ use Rattle.rings.specs.State.{State}
 use Rattle.rings.specs.Held.{Represents}
 use Rattle.hrtf_checks.specs.declared.Shape.{Shape}
 use Rattle.hrtf_checks.specs.Refusals.{refusalOf}
-use Rattle.runs.specs.SetUp.{Turns}
+use Rattle.runs.specs.SetUp.{StateFits}
 use Rattle.wire.specs.Records.{wholeIn, restIn}
 use Rattle.wire.specs.Frames.{lineFrames}
 use Rattle.ears_file.specs.declared.Ended.{Ended}
@@ -25,10 +25,10 @@ use Rattle.ears_file.specs.Lines.{refusedRun}
 use Rattle.ears_file.specs.Promise.{beyond}
 
 -- six channels, and the convolver refuses no block of up to 1,024 frames
-pub record Ready (h : Shape) (weights : List Float) (rows : List ℕ) (taps : List Float) : Type 0 where
+pub record BlocksAccepted (h : Shape) (weights : List Float) (rows : List ℕ) (taps : List Float) : Type 0 where
   pub six : h .channels ≡ 6
   pub long : 0 < h .length
-  pub accepts : (n : ℕ) (inputs ears : List Float) (t : State) → n ≤ 1024 → length inputs ≡ 6144 → length ears ≡ 2048 → Turns (h .speakers) (h .length) t
+  pub accepts : (n : ℕ) (inputs ears : List Float) (t : State) → n ≤ 1024 → length inputs ≡ 6144 → length ears ≡ 2048 → StateFits (h .speakers) (h .length) t
       → refusalOf (record { shape = h; frames = n; stride = 1024; inputs = inputs; weights = weights; rows = rows; taps = taps; ears = ears }) t ≡ 0
 
 -- before the first byte

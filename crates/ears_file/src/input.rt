@@ -16,7 +16,7 @@ ghost use Rattle.formats.specs.Floats.{zero-float};
 ghost use Rattle.hrtf_checks.specs.Call.{setupOf};
 ghost use Rattle.ears_file.specs.Lines.{endsAs};
 ghost use Rattle.ears_file.specs.Promise.{Ends};
-ghost use Rattle.ears_file.specs.Turns.{Ready, endOf, Further};
+ghost use Rattle.ears_file.specs.Turns.{BlocksAccepted, endOf, Further};
 
 // What a step answers: whether the line is over, whether the system failed, and the turn.
 struct Stepped {
@@ -66,7 +66,7 @@ fn step(
     ears: &mut [f32; 2048],
     text: &mut [u8; 8192],
 ) -> Stepped
-    requires { ⌜ Ready shape (now weights) (now «row_of») (now taps) ⌝ }
+    requires { ⌜ BlocksAccepted shape (now weights) (now «row_of») (now taps) ⌝ }
     requires { ⌜ progress .held < 24 ⌝ }
     ensures { λ r. ⌜ ((part : List ℕ) × (r .over ≡ eqb (length part) 0) × Further (setupOf shape (now (weights .entry)) (now («row_of» .entry)) (now (taps .entry)))
         progress (now (rings .entry)) (now (bytes .entry)) part (r .turn) (now (rings .exit)) (now (bytes .exit)) (now (text .exit))) ⌝ }
@@ -123,7 +123,7 @@ pub(crate) fn play_all(
     taps: &[f32],
     rings: &mut [f32],
 ) -> Outcome
-    requires { ⌜ Ready shape (now weights) (now «row_of») (now taps) ⌝ }
+    requires { ⌜ BlocksAccepted shape (now weights) (now «row_of») (now taps) ⌝ }
     requires { ⌜ now rings ≡ replicate (shape .speakers * shape .length) zero-float ⌝ }
     ensures { λ r. ⌜ Ends (endsAs (setupOf shape (now (weights .entry)) (now («row_of» .entry)) (now (taps .entry)))) r ⌝ }
 {

@@ -10,7 +10,7 @@ ghost use Prim.Native.Nat.{_≤_, _<_};
 ghost use lib.ListN.{length, take, drop};
 ghost use Rattle.io.specs.Counts.{Counts};
 ghost use Rattle.hrtf_checks.specs.Call.{setupOf};
-ghost use Rattle.ears_file.specs.Turns.{atStart, Ready, Further};
+ghost use Rattle.ears_file.specs.Turns.{atStart, BlocksAccepted, Further};
 
 // What is remembered between turns: the desk, how many bytes of a frame that has not come whole stand at the
 // start of the buffer, and how many frames were played and how many of them are unsettled.
@@ -62,7 +62,7 @@ pub(crate) fn play(
     ears: &mut [f32; 2048],
     out: &mut [u8; 8192],
 ) -> Turn
-    requires { ⌜ Ready shape (now weights) (now «row_of») (now taps) ⌝ }
+    requires { ⌜ BlocksAccepted shape (now weights) (now «row_of») (now taps) ⌝ }
     requires { ⌜ (progress .held < size) × (size ≤ 24576) × (size ≤ length (now bytes)) ⌝ }
     ensures { λ r. ⌜ Further (setupOf shape (now (weights .entry)) (now («row_of» .entry)) (now (taps .entry)))
         progress (now (rings .entry)) (now (bytes .entry)) (drop (progress .held) (take size (now (bytes .entry))))

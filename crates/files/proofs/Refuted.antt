@@ -9,7 +9,7 @@ use lib.IntN.{ℤ}
 use lib.ListN.{length}
 use lib.Ieee.{Float}
 use Rattle.refusals.specs.Refusals.{firstOf, _when_, answered}
-use Rattle.bank_form.specs.FaultComputed.{bankIn, isFile}
+use Rattle.bank_form.specs.Fault.{bankIn, isFile}
 use Rattle.bank.specs.Reading.{ReadOutcome, readRefusal, readRefused, readBank, readOutcome}
 use Rattle.files.specs.Promises.{Found}
 

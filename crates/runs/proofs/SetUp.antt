@@ -20,7 +20,7 @@ use Rattle.bank_form.specs.Bank as Form
 use Rattle.lists.specs.Tables.{every}
 use Rattle.lists.proofs.Placed.{length-placed}
 use Rattle.bank_form.specs.Bank.{Bank, isTap, valid}
-use Rattle.bank_form.specs.FaultComputed.{bankIn}
+use Rattle.bank_form.specs.Fault.{bankIn}
 use Rattle.bank_form.proofs.Exact.{Keeps, keeps}
 use Rattle.bank.specs.Reading.{ReadOutcome, Reads, bankFound}
 use Rattle.bank.proofs.Promises.{accepted-parts, accepted-is, read-is}
@@ -45,7 +45,7 @@ use Rattle.hrtf_setup.specs.Arrangement as Arranging
 use Rattle.hrtf_setup.specs.Promise.{NewSurround, NewAmbisonic}
 use Rattle.hrtf_setup.proofs.Accepted.{Playable, set-up, surround-playable, ambisonic-playable}
 use Rattle.runs.specs.Runs.{next}
-use Rattle.runs.specs.SetUp.{Fitted, AllFitted, Turns, NoneRefused, NeverRefused}
+use Rattle.runs.specs.SetUp.{Fitted, AllFitted, StateFits, NoneRefused, NeverRefused}
 
 -- ---- a bank that keeps the form
 
@@ -71,7 +71,7 @@ well-shaped rows L o p few =
 
 -- ---- one call
 
-module _ (b : Bank) (v : valid b ≡ true) (o : Arrangement) (p : Playable (Form.rows b) o) (c : Call) (f : Fitted b o c) (t : State) (turns : Turns (o .answer .speakers) (b .length) t) where
+module _ (b : Bank) (v : valid b ≡ true) (o : Arrangement) (p : Playable (Form.rows b) o) (c : Call) (f : Fitted b o c) (t : State) (fits : StateFits (o .answer .speakers) (b .length) t) where
   form : Keeps b
   form = keeps b v
 
@@ -85,46 +85,46 @@ module _ (b : Bank) (v : valid b ≡ true) (o : Arrangement) (p : Playable (Form
   lists-fit =
       ap (λ (h : Shape). misfit h (c .frames) (c .stride) (length (c .inputs)) (length (c .weights)) (length (c .taps)) (length (t .rings)) (length (c .ears))) (f .shape)
       ∙ lengths-fit (shapeOf (Form.rows b) (b .length) o) (c .frames) (c .stride) (length (c .inputs)) (length (c .weights)) (length (c .taps)) (length (t .rings)) (length (c .ears)) (f .room) (f .inputs) (f .ears)
-      (turns .ringed) (ap length (f .weights) ∙ p .weighed) (ap length (f .taps) ∙ form .count)
+      (fits .ringed) (ap length (f .weights) ∙ p .weighed) (ap length (f .taps) ∙ form .count)
 
   sound : (unsound (c .weights) || unsound (c .taps)) ≡ false
   sound = both-off _ _ (ap unsound (f .weights) ∙ p .sound) (ap unsound (f .taps) ∙ taps-sound (b .taps) (form .numbers))
 
   there : astray (t .desk) (c .shape .length) ≡ false
-  there = ap (λ (h : Shape). astray (t .desk) (h .length)) (f .shape) ∙ on-desk (t .desk) (b .length) (turns .within) (turns .waits)
+  there = ap (λ (h : Shape). astray (t .desk) (h .length)) (f .shape) ∙ on-desk (t .desk) (b .length) (fits .within) (fits .waits)
 
   pub set-up-accepted : refusalOf c t ≡ 0
   set-up-accepted = sym (accept c t (shaped, (long, (lists-fit, (sound, (there, tt))))))
 
--- ---- what a block leaves turns on
+-- ---- what a block leaves fits again
 
 module _ (u : Setup) (speakers : ℕ) where
-  step-turns : (t : State) (f : List Float) → Turns speakers (u .L) t → Turns speakers (u .L) (stepped u t f)
-  step-turns t f r =
+  step-fits : (t : State) (f : List Float) → StateFits speakers (u .L) t → StateFits speakers (u .L) (stepped u t f)
+  step-fits t f r =
       record {
         ringed = length-stored u t f ∙ r .ringed;
         within = position-below (u .L) (damaged u f) (t .desk) (r .within);
         waits = waits-below (u .L) (damaged u f) (t .desk) (r .within) (r .waits);
       }
 
-  left-turns : (t : State) (fs : List (List Float)) → Turns speakers (u .L) t → Turns speakers (u .L) (left u t fs)
-  left-turns t [] r = r
-  left-turns t (f ∷ fs) r = left-turns (stepped u t f) fs (step-turns t f r)
+  left-fits : (t : State) (fs : List (List Float)) → StateFits speakers (u .L) t → StateFits speakers (u .L) (left u t fs)
+  left-fits t [] r = r
+  left-fits t (f ∷ fs) r = left-fits (stepped u t f) fs (step-fits t f r)
 
-pub next-turns : (speakers : ℕ) (c : Call) (t : State) → refusalOf c t ≡ 0 → Turns speakers (c .shape .length) t → Turns speakers (c .shape .length) (next c t)
-next-turns speakers c t e r = subst (Turns speakers (c .shape .length)) (sym (ap stateAfter (outcome-computed c t e))) (left-turns (setup c) speakers t (framesIn c) r)
+pub next-fits : (speakers : ℕ) (c : Call) (t : State) → refusalOf c t ≡ 0 → StateFits speakers (c .shape .length) t → StateFits speakers (c .shape .length) (next c t)
+next-fits speakers c t e r = subst (StateFits speakers (c .shape .length)) (sym (ap stateAfter (outcome-computed c t e))) (left-fits (setup c) speakers t (framesIn c) r)
 
 -- ---- and so every call of a run
 
 module _ (b : Bank) (v : valid b ≡ true) (o : Arrangement) (p : Playable (Form.rows b) o) where
-  pub never-refused : (cs : List Call) → AllFitted b o cs → (t : State) → Turns (o .answer .speakers) (b .length) t → NoneRefused t cs
+  pub never-refused : (cs : List Call) → AllFitted b o cs → (t : State) → StateFits (o .answer .speakers) (b .length) t → NoneRefused t cs
   never-refused [] fs t r = tt
   never-refused (c ∷ cs) fs t r =
       let e = set-up-accepted b v o p c (fs .0) t r in
       let long : c .shape .length ≡ b .length = ap (λ (h : Shape). h .length) (fs .0 .shape) in (
         e,
         never-refused cs (fs .1) (next c t)
-            (subst (λ (L : ℕ). Turns (o .answer .speakers) L (next c t)) long (next-turns (o .answer .speakers) c t e (subst (λ (L : ℕ). Turns (o .answer .speakers) L t) (sym long) r))),
+            (subst (λ (L : ℕ). StateFits (o .answer .speakers) L (next c t)) long (next-fits (o .answer .speakers) c t e (subst (λ (L : ℕ). StateFits (o .answer .speakers) L t) (sym long) r))),
       )
 
 -- and such calls there are, of any number of frames
@@ -151,10 +151,10 @@ some-block b o n =
 
 -- ---- a reset
 
--- what is left turns
-pub reset-turns : (d : Desk) (speakers L : ℕ) (rings : List Float) (a : AfterReset) → Resets d speakers L rings a → a .answer .refusal ≡ 0
-    → Turns speakers L (record { rings = a .rings; desk = a .answer .desk })
-reset-turns d speakers L rings a r e =
+-- what is left fits
+pub reset-fits : (d : Desk) (speakers L : ℕ) (rings : List Float) (a : AfterReset) → Resets d speakers L rings a → a .answer .refusal ≡ 0
+    → StateFits speakers L (record { rings = a .rings; desk = a .answer .desk })
+reset-fits d speakers L rings a r e =
     let u : Setup = record { channels = 0; speakers = speakers; L = L; weights = []; taps = []; rows = [] } in
     let s = r .fresh (sym (reset-number d speakers L rings a r) ∙ e) u refl refl in
     let t : State = record { rings = a .rings; desk = a .answer .desk } in
@@ -196,7 +196,7 @@ module _ (file : List ℕ) (zs : List ℤ) (xs : List Float) (r : ReadOutcome) (
       (d : Desk) (rings : List Float) (a : AfterReset) (rested : Resets d (o .answer .speakers) (r .answer .length) rings a) (z : a .answer .refusal ≡ 0)
       (cs : List Call) (fs : AllFitted (bankFound r) o cs) where
     plays : Playable (r .answer .rows) o → NoneRefused (record { rings = a .rings; desk = a .answer .desk }) cs
-    plays p = never-refused (bankFound r) keeps-form o (subst (λ (n : ℕ). Playable n o) rows-are p) cs fs (record { rings = a .rings; desk = a .answer .desk }) (reset-turns d (o .answer .speakers) (r .answer .length) rings a rested z)
+    plays p = never-refused (bankFound r) keeps-form o (subst (λ (n : ℕ). Playable n o) rows-are p) cs fs (record { rings = a .rings; desk = a .answer .desk }) (reset-fits d (o .answer .speakers) (r .answer .length) rings a rested z)
 
     pub surround-never-refused : (l : Layout) → NewSurround l (r .azimuths) (r .answer .rows) weights given o → NoneRefused (record { rings = a .rings; desk = a .answer .desk }) cs
     surround-never-refused l n = plays (surround-playable (r .azimuths) (r .answer .rows) weights given o eight e l n)

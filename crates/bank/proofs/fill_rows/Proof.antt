@@ -10,7 +10,7 @@ use Rattle.big_endian.specs.Lists.{strided}
 use Rattle.lists.proofs.Filling.{fill-kept}
 use Rattle.lists.proofs.Placed.{placed-none, length-placed}
 use Rattle.big_endian.proofs.Signed.{back}
-use Rattle.bank_form.specs.FaultComputed.{rowSize, azimuthsFrom, rowTaps, tapsFrom}
+use Rattle.bank_form.specs.Fault.{rowSize, azimuthsFrom, rowTaps, tapsFrom}
 use Rattle.bank_form.proofs.Lists.{taps-none, length-taps}
 use Rattle.bank.proofs.Fill.{taps-reach, azimuth-more, row-more}
 use Rattle.bank.proofs.fill_rows.Statement.{statement}

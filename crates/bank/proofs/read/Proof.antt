@@ -1,7 +1,7 @@
 -- `bank::read` meets its contract. Assumes nothing.
 use mathlib.Core.Path.{_≡_, sym, ap, _∙_}
 use Rattle.bank_form.specs.declared.Fault.{Fault}
-use Rattle.bank_form.specs.FaultComputed.{fault, rowsIn, lengthIn}
+use Rattle.bank_form.specs.Fault.{fault, rowsIn, lengthIn}
 use Rattle.bank_form.proofs.Exact.{exactly, is-file, no-file}
 use Rattle.refusals.proofs.Ranges.{within-true}
 use Rattle.bank_form.proofs.Walk.{whole}

@@ -1,7 +1,7 @@
 -- `bank::row_at` meets its contract. Assumes nothing.
 use Prim.Native.Nat.{_*_, _≤_}
 use native.Mathlib.Omega.{arith}
-use Rattle.bank_form.specs.FaultComputed.{rowSize}
+use Rattle.bank_form.specs.Fault.{rowSize}
 use Rattle.bank_form.proofs.RoundTrip.{rows-reach}
 use borrow.Author.Needs.{needs}
 use Rattle.bank.proofs.row_at.Statement.{statement}

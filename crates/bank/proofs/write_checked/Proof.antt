@@ -9,7 +9,7 @@ use lib.Seq.{length-take-le}
 use Rattle.bank_form.specs.declared.Fault.{Fault}
 use Rattle.bank_form.specs.Bank.{Bank, valid}
 use Rattle.bank_form.specs.Encoding.{encode}
-use Rattle.bank_form.specs.FaultComputed.{fault, isFile}
+use Rattle.bank_form.specs.Fault.{fault, isFile}
 use Rattle.bank_form.specs.HoldsComputed.{Holds}
 use Rattle.bank_form.proofs.Exact.{is-file, no-file, written-exactly}
 use Rattle.bank_form.proofs.RoundTrip.{length-encode, rows-reach}

@@ -3,7 +3,7 @@ use mathlib.Core.Path.{sym, ap, ap₂, _∙_}
 use Prim.Native.Nat.{ℕ}
 use Rattle.refusals.proofs.Ranges.{within-true}
 use Rattle.bank_form.specs.declared.Fault.{Fault}
-use Rattle.bank_form.specs.FaultComputed.{rowsIn, lengthIn, rowsFault}
+use Rattle.bank_form.specs.Fault.{rowsIn, lengthIn, rowsFault}
 use Rattle.bank_form.proofs.Exact.{exactly}
 use Rattle.bank_form.proofs.Walk.{head-none, else-stop, else-on, fault-is}
 use borrow.Author.Needs.{needs}

@@ -3,7 +3,7 @@ use mathlib.Core.Path.{_≡_, sym, ap₂, _∙_}
 use mathlib.Core.List.{List}
 use Prim.Native.Nat.{ℕ, _-_}
 use lib.ListN.{length}
-use Rattle.bank_form.specs.FaultComputed.{headField, headFault}
+use Rattle.bank_form.specs.Fault.{headField, headFault}
 use Rattle.bank_form.proofs.Walk.{else-stop, else-on}
 use borrow.Author.Needs.{needs}
 use Rattle.bank_check.proofs.head_fault.Statement.{statement}

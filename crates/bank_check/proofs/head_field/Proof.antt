@@ -2,7 +2,7 @@
 use mathlib.Core.Path.{_≡_, ap, _∙_}
 use Rattle.big_endian.specs.Fields.{fieldAt}
 use Rattle.refusals.specs.Ranges.{within}
-use Rattle.bank_form.specs.FaultComputed.{field, headField}
+use Rattle.bank_form.specs.Fault.{field, headField}
 use borrow.Author.Needs.{needs}
 use Rattle.bank_check.proofs.head_field.Statement.{statement}
 use Rattle.bank_check.proofs.head_field.Tie as tie

@@ -7,7 +7,7 @@ use mir.Val.{toZ, ofZ}
 use mir.Facts.{toZ-ofZ}
 use Rattle.big_endian.specs.Fields.{signedAt}
 use Rattle.big_endian.proofs.Signed.{back}
-use Rattle.bank_form.specs.FaultComputed.{isNew}
+use Rattle.bank_form.specs.Fault.{isNew}
 use Rattle.bank_form.proofs.Walk.{new-met, new-next, new-end}
 use Rattle.bank_check.proofs.is_new.Statement.{statement}
 use Rattle.bank_check.proofs.is_new.Tie as tie

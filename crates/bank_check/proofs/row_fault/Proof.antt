@@ -10,7 +10,7 @@ use mir.Syntax.{w16}
 use Rattle.big_endian.proofs.Signed.{back}
 use Rattle.big_endian.specs.Fields.{signedAt}
 use Rattle.bank_form.specs.Bank.{inRange}
-use Rattle.bank_form.specs.FaultComputed.{field, isNew}
+use Rattle.bank_form.specs.Fault.{field, isNew}
 use Rattle.bank_form.proofs.Walk.{else-stop, else-on, row-is}
 use borrow.Author.Needs.{needs}
 use Rattle.bank_check.proofs.row_fault.Statement.{statement}

@@ -3,7 +3,7 @@ use mathlib.Core.Path.{_≡_, sym, ap, _∙_}
 use Prim.Native.Nat.{_+_, _-_, _*_, _≤_, _<_}
 use native.Mathlib.Omega.{arith}
 use borrow.Author.Tests.{eq-eqb, ne-eqb}
-use Rattle.bank_form.specs.FaultComputed.{rowsFault}
+use Rattle.bank_form.specs.Fault.{rowsFault}
 use Rattle.bank_form.proofs.Walk.{else-stop, else-on, rows-next, rows-end}
 use Rattle.bank_check.proofs.rows_fault.Statement.{statement}
 use Rattle.bank_check.proofs.rows_fault.Tie as tie

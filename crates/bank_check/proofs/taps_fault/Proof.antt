@@ -6,7 +6,7 @@ use native.Mathlib.Omega.{arith}
 use lib.Ieee.Scale.{finite}
 use lib.ListN.{length}
 use Rattle.big_endian.specs.Fields.{floatAt}
-use Rattle.bank_form.specs.FaultComputed.{field, tapsFault}
+use Rattle.bank_form.specs.Fault.{field, tapsFault}
 use Rattle.bank_form.proofs.Walk.{else-stop, else-on, taps-next, taps-end}
 use Rattle.bank_check.proofs.taps_fault.Statement.{statement}
 use Rattle.bank_check.proofs.taps_fault.Tie as tie

@@ -2,7 +2,6 @@
 use Prim.Native.Nat.{_<_}
 use native.Mathlib.Omega.{arith}
 use Rattle.ears_file.proofs.Stepping.{more, read-further, none-further}
-use borrow.Author.Needs.{needs}
 use Rattle.ears_file.proofs.input.step.Statement.{statement}
 use Rattle.ears_file.proofs.input.step.Tie as tie
 

@@ -1,7 +1,6 @@
--- What a reader of the file computes: the bank that stands in a list of bytes, and the first field that breaks the form. Definitions only. For what is read or refused today nobody has to
--- believe them: `Exactly` of specs/File.antt, which every promise hands over, ties the bank, and whether there is a fault, to the form. Which field it is and where it stands is told as
--- document 02, E2, words it: checks run in byte order, 13 is the version, 14 the length, 15 the row count, 16 L, 17 an azimuth out of range or repeated, 18 a tap, each at the offset of the
--- field's first byte, and 19, at the file's length, a field that does not end in the file.
+-- The bank that stands in a list of bytes, and the first field that breaks the form. Definitions only. `Exactly` of specs/File.antt, which every promise hands over, ties the bank, and whether there
+-- is a fault, to the form. Which field it is and where it stands is told as document 02, E2, words it: checks run in byte order, 13 is the version, 14 the length, 15 the row count, 16 L, 17 an azimuth
+-- out of range or repeated, 18 a tap, each at the offset of the field's first byte, and 19, at the file's length, a field that does not end in the file.
 use Prim.Native.Nat.{ℕ, zero, suc, _+_, _-_, _*_}
 use mathlib.Core.Bool.{Bool, cond, _&&_}
 use mathlib.Core.List.{List, flatMap}
