@@ -1,15 +1,18 @@
 -- What the promise of `run` rules out, whatever the bank and the line are: a refusal by another number than 9, one with a count, a failure that ends as a
--- run that was played, and more unsettled frames than frames. Assumes nothing.
-use mathlib.Core.Path.{_≡_, sym, ap, _∙_}
+-- run that was played, and more unsettled frames than frames. And what that of `told` does. Assumes nothing.
+use mathlib.Core.Path.{_≡_, refl, sym, ap, _∙_}
 use mathlib.Core.Bool.{Bool, true, false, cond}
 use mathlib.Core.List.{List, [], _∷_}
 use mathlib.Core.Logic.{_⊎_, inl, inr, ⊎-elim}
 use Prim.Native.Nat.{ℕ, _≤_, _<_}
 use native.Mathlib.Omega.{arith}
-use lib.Dec.{eqb}
-use lib.ListN.{length}
+use borrow.Author.Tests.{le-ltb}
+use lib.Dec.{eqb, ltb}
+use lib.ListN.{length, getD}
 use lib.Ieee.{Float}
-use Rattle.refusals.proofs.First.{stops}
+use Rattle.refusals.proofs.First.{stops, goes-on, not-accepted, answered-refused}
+use Rattle.lists.specs.Placed.{placed}
+use Rattle.lists.proofs.Placed.{placed-start}
 use Rattle.lists.proofs.Lists.{one-at-most}
 use Rattle.lists.specs.Tables.{row}
 use Rattle.lists.proofs.Tables.{length-tab}
@@ -22,7 +25,9 @@ use Rattle.wire.specs.Frames.{frameOf, lineFrames}
 use Rattle.ears_file.specs.declared.Ended.{Ended}
 use Rattle.ears_file.specs.declared.Outcome.{Outcome}
 use Rattle.wire.specs.Counting.{countedOn}
-use Rattle.ears_file.specs.Lines.{setupWith, refusedRun, itemTen}
+use Rattle.wire.specs.Line.{refusedWord, refusedLine}
+use Rattle.wire.specs.Promises.{Lined}
+use Rattle.ears_file.specs.Lines.{setupWith, refusedRun, itemTen, toldBy}
 use Rattle.ears_file.specs.Promise.{Answers}
 
 -- one of two ends
@@ -79,3 +84,24 @@ module _ (r : Outcome) (a : Answers r) where
       (λ p. omega (arith, h, few, many, ap (λ (y : Ended). y .frames) p, ap (λ (y : Ended). y .unsettled) p))
       (λ q. omega (arith, h, ap (λ (y : Ended). y .frames) q, ap (λ (y : Ended). y .unsettled) q))
       end-is
+
+-- ---- what is told
+
+module _ (r : Outcome) (out : List ℕ) (size : ℕ) (after : List ℕ) (lined : Lined out (toldBy r) size after) where
+  -- a line for a run that failed
+  failed-run-has-a-line : r .failed ≡ true → (size ≡ 0 → ⊥) → ⊥
+  failed-run-has-a-line f some = some (lined .count ∙ ap (λ (line : List ℕ). cond (ltb (length out) 64) 0 (length line)) (stops _ _ f) ∙ none (ltb (length out) 64))
+    where
+      none : (t : Bool) → cond t 0 (length {A = ℕ} []) ≡ 0
+      none true = refl
+      none false = refl
+
+  -- a refusal told as a count: its first letter is an r, and not an f
+  refusal-told-as-frames : r .failed ≡ false → r .ended .refusal ≡ 9 → 64 ≤ length out → getD after 0 0 ≡ 102 → ⊥
+  unfolding refusedLine refusedWord
+  refusal-told-as-frames f nine room e =
+      let told : toldBy r ≡ refusedLine 9 = goes-on _ _ f ∙ answered-refused _ _ _ (not-accepted 9 (omega arith) nine) ∙ ap refusedLine nine in
+      let first : getD after 0 0 ≡ 114 =
+      ap (λ (l : List ℕ). getD l 0 0)
+      (lined .filled ∙ goes-on _ _ (le-ltb (length out) 64 room) ∙ ap (placed out 0) told ∙ placed-start out (refusedLine 9)) in
+      let same : _≡_ {A = ℕ} 102 114 = sym e ∙ first in omega (arith, same)
