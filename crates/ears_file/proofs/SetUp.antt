@@ -6,7 +6,7 @@ use Prim.Native.Nat.{ℕ, _*_, _≤_, _<_}
 use native.Mathlib.Nat.{mul-le-mul}
 use native.Mathlib.Omega.{arith}
 use lib.IntN.{ℤ, pos}
-use lib.ListN.{length, take, replicate, length-take}
+use lib.ListN.{length, replicate, length-take}
 use lib.Ieee.{Float}
 use Rattle.refusals.proofs.First.{stops, goes-on}
 use Rattle.lists.proofs.Placed.{length-placed}
@@ -41,9 +41,6 @@ zeros = replicate 8 (pos 0)
 abbrev shapeOf : Arrangement → ReadOutcome → Shape
 shapeOf a o = record { channels = a .answer .channels; speakers = a .answer .speakers; rows = o .answer .rows; length = o .answer .length }
 
-abbrev tapsIn : ReadOutcome → List Float
-tapsIn o = take (2 * o .answer .rows * o .answer .length) (o .taps)
-
 module _ (xs : List Float) (o : ReadOutcome) (f : Found zeros xs o) where
   -- a bank that breaks the form
   pub bank-refused : length xs ≡ 8192 → (o .answer .refusal ≡ 0 → ⊥) → (e : Ended) (r : Outcome) → e ≡ refusedRun → r ≡ record { failed = false; ended = e }
@@ -72,7 +69,7 @@ module _ (xs : List Float) (o : ReadOutcome) (f : Found zeros xs o) where
     unfolding b
     bank-is = read-is (f .file) zeros xs o (f .reads) good
 
-    taps-are : tapsIn o ≡ b .taps
+    taps-are : bankFound o .taps ≡ b .taps
     taps-are = ap (λ (q : Bank). q .taps) bank-is
 
     -- so a run that ends as some line does with it answers as item 10 does
@@ -119,7 +116,7 @@ module _ (xs : List Float) (o : ReadOutcome) (f : Found zeros xs o) where
           subst (λ (n : ℕ). Playable n a) (ap (λ (q : ReadOutcome). q .answer .rows) is)
           (surround-playable (o .azimuths) (o .answer .rows) weights (replicate 8 0) a refl (ap (λ (q : Arrangement). q .answer .refusal) arranged-is) Surround51 new)
 
-      pub ready : BlocksAccepted (shapeOf a o) (a .weights) (a .rows) (tapsIn o)
+      pub ready : BlocksAccepted (shapeOf a o) (a .weights) (a .rows) (bankFound o .taps)
       unfolding b
       ready =
           record {
@@ -127,7 +124,7 @@ module _ (xs : List Float) (o : ReadOutcome) (f : Found zeros xs o) where
             long = short .0;
             accepts = λ n inputs ears t few inputs-long ears-long fits.
                 set-up-accepted b (accepted-is (f .file) zeros xs o (f .reads) good .0 .keeps) a plays
-                (record { shape = shapeOf a o; frames = n; stride = 1024; inputs = inputs; weights = a .weights; rows = a .rows; taps = tapsIn o; ears = ears })
+                (record { shape = shapeOf a o; frames = n; stride = 1024; inputs = inputs; weights = a .weights; rows = a .rows; taps = bankFound o .taps; ears = ears })
                 (record {
                   shape = ap (shapeOf a) is;
                   weights = refl;
@@ -141,13 +138,13 @@ module _ (xs : List Float) (o : ReadOutcome) (f : Found zeros xs o) where
           }
 
       -- the set-up is the one that item 10 gives for the bank that was read
-      set-up : setupOf (shapeOf a o) (a .weights) (a .rows) (tapsIn o) ≡ setupWith (bankFound o)
+      set-up : setupOf (shapeOf a o) (a .weights) (a .rows) (bankFound o .taps) ≡ setupWith (bankFound o)
       unfolding b
       set-up =
-          ap (λ (q : Arrangement). setupOf (shapeOf q o) (q .weights) (q .rows) (tapsIn o)) arranged-is
-          ∙ ap (λ (q : ReadOutcome). setupOf (shapeOf (arranged b) q) (arranged b .weights) (arranged b .rows) (tapsIn o)) is
+          ap (λ (q : Arrangement). setupOf (shapeOf q o) (q .weights) (q .rows) (bankFound o .taps)) arranged-is
+          ∙ ap (λ (q : ReadOutcome). setupOf (shapeOf (arranged b) q) (arranged b .weights) (arranged b .rows) (bankFound o .taps)) is
           ∙ ap (setupOf (shapeOf (arranged b) (readBank b zeros xs)) (arranged b .weights) (arranged b .rows)) taps-are
           ∙ sym (ap setupWith bank-is)
 
-      pub played-ends : (r : Outcome) → Ends (endsAs (setupOf (shapeOf a o) (a .weights) (a .rows) (tapsIn o))) r → Ends (endsAs (setupWith (bankFound o))) r
+      pub played-ends : (r : Outcome) → Ends (endsAs (setupOf (shapeOf a o) (a .weights) (a .rows) (bankFound o .taps))) r → Ends (endsAs (setupWith (bankFound o))) r
       played-ends r e = subst (λ (u : Setup). Ends (endsAs u) r) set-up e

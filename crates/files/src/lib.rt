@@ -5,7 +5,9 @@
 use bank::BankRead;
 use libc::STDERR_FILENO;
 ghost use mathlib.Core.Path.{_≡_};
-ghost use Prim.Native.Nat.{_≤_, _<_};
+ghost use mathlib.Core.Bool.{true};
+ghost use Prim.Native.Nat.{_+_, _≤_, _<_, max};
+ghost use lib.IntN.{pos};
 ghost use lib.ListN.{length};
 ghost use Rattle.io.specs.Counts.{Counts};
 ghost use Rattle.files.specs.Promises.{ReadBehind, Found};
@@ -19,7 +21,7 @@ pub struct Got {
 // Where a read that begins at `at` ends in a buffer of `size` bytes: `limit` bytes on, one at the least.
 fn end_of_read(at: usize, limit: usize, size: usize) -> usize
     requires { ⌜ at ≤ size ⌝ }
-    ensures { λ r. ⌜ (at ≤ r) × (r ≤ size) × (at < size → at < r) ⌝ }
+    ensures { λ r. ⌜ (at ≤ r) × (r ≤ size) × (r ≤ at + max 1 limit) × (at < size → at < r) ⌝ }
 {
     if size - at <= limit {
         return size;
@@ -32,7 +34,7 @@ fn end_of_read(at: usize, limit: usize, size: usize) -> usize
 
 // One read into a part of a buffer, in which nothing is held.
 fn read_into(file: i32, part: &mut [u8]) -> Got
-    ensures { λ r. ⌜ r .size ≤ length (now (part .exit)) ⌝ }
+    ensures { λ r. ⌜ (r .size ≤ length (now (part .exit))) × (r .failed ≡ true → r .size ≡ 0) ⌝ }
 {
     let got = libc::read(file, part);
     Got {
@@ -41,9 +43,10 @@ fn read_into(file: i32, part: &mut [u8]) -> Got
     }
 }
 
-// Reads once behind the bytes that are held, which stay. Where there is no room behind them it adds none.
+// Reads once behind the bytes that are held, which stay. Where there is no room behind them it adds none, and `limit`
+// 0 counts as 1: a read of no bytes would look like the end of the file.
 pub fn read_some(file: i32, held: usize, limit: usize, bytes: &mut [u8]) -> Got
-    ensures { λ r. ⌜ ReadBehind held (now (bytes .entry)) (r .size) (now (bytes .exit)) ⌝ }
+    ensures { λ r. ⌜ ReadBehind held limit (now (bytes .entry)) (r .failed) (r .size) (now (bytes .exit)) ⌝ }
 {
     let at = checks::least(held, bytes.len());
     let end = end_of_read(at, limit, bytes.len());
@@ -85,15 +88,20 @@ pub fn read_bank(path: &[u8], azimuths: &mut [i16], taps: &mut [f32]) -> BankRea
     bank::read(&bytes[..n], azimuths, taps)
 }
 
-// Opens the file of a name for the ears and empties it; a negative number where that fails. Where standard error is
-// closed the system would give its number to the file, and messages would stand among the samples: then the file is
-// opened a second time.
-pub fn open_out(path: &[u8]) -> i32 {
+// Opens the file of a name for the ears and empties it; a negative number where that fails. It never has the number of
+// standard error, which the system would give it where that is closed: messages would stand among the samples. Then
+// the file is opened a second time.
+pub fn open_out(path: &[u8]) -> i32
+    ensures { λ r. ⌜ (r ≡ pos 2 → ⊥) ⌝ }
+{
     let first = os::open_overwrite(path);
     if first != STDERR_FILENO {
         return first;
     }
     let second = os::open_overwrite(path);
     libc::close(first);
-    second
+    if second != STDERR_FILENO {
+        return second;
+    }
+    -1
 }

@@ -50,11 +50,3 @@ pub any-ago : (n : ℕ) (past : List (List Float)) → any (take n (map unsound 
 any-ago zero past = refl
 any-ago (suc n) [] = ap any (sym (take-nil n)) ∙ any-ago n [] ∙ ap any (sym (tab-shift 0 n (λ k. unsound (getD [] k []))))
 any-ago (suc n) (x ∷ past) = ap (λ (b : Bool). unsound x || b) (any-ago n past ∙ ap any (sym (tab-shift 0 n (λ k. unsound (getD (x ∷ past) k [])))))
-
--- and have both damage among them or both none
-pub damage-same : (n : ℕ) (past qast : List (List Float)) → ((k : ℕ) → k < n → unsound (getD past k []) ≡ unsound (getD qast k []))
-    → any (take n (map unsound past)) ≡ any (take n (map unsound qast))
-damage-same n past qast same =
-    any-ago n past
-    ∙ ap any (tab-ext 0 n (λ k. unsound (getD past k [])) (λ k. unsound (getD qast k [])) (λ k h. same k (omega arith)))
-    ∙ sym (any-ago n qast)

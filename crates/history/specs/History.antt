@@ -40,7 +40,7 @@ earSample u ear past = earOf (u .speakers) (part u ear past)
 abbrev pub earSamples : Setup → List (List Float) → List Float
 earSamples u past = earSample u 0 past ∷ earSample u 1 past ∷ []
 
--- a damaged frame is among the last L, or no more frames have been played than were to go before the first of them
+-- a damaged frame is among the last L, or the past has no more frames than were to go before its first
 abbrev pub unsettled : Setup → ℕ → List (List Float) → Bool
 unsettled u go past = any (take (u .L) (map unsound past)) || leb (length past) go
 
@@ -51,7 +51,7 @@ abbrev pub heard : Setup → List (List Float) → List (List Float) → List (L
 heard u past [] = []
 heard u past (f ∷ fs) = earSamples u (signals u f ∷ past) ∷ heard u (signals u f ∷ past) fs
 
--- whether each is unsettled, so many having been to go, and how many are
+-- whether each is unsettled, `go` frames having been to go before the first of the past, and how many are
 abbrev pub unsettledEach : Setup → ℕ → List (List Float) → List (List Float) → List Bool
 unsettledEach u go past [] = []
 unsettledEach u go past (f ∷ fs) = unsettled u go (signals u f ∷ past) ∷ unsettledEach u go (signals u f ∷ past) fs

@@ -1,10 +1,10 @@
 -- What the promises rule out whatever is played: a sample count of one's own, a reset that leaves something in a ring or a frame to go, and one that takes nine speakers. Assumes nothing.
 use mathlib.Core.Path.{_≡_, sym, ap, _∙_}
 use mathlib.Core.List.{List}
-use Prim.Native.Nat.{ℕ, suc}
+use Prim.Native.Nat.{ℕ, suc, _<_}
 use native.Mathlib.Nat.{suc-ne-zero}
-use lib.ListN.{length, replicate}
-use lib.Ieee.{Float}
+use lib.ListN.{length, getD, getD-replicate}
+use lib.Ieee.{Float, nan}
 use Rattle.formats.specs.Floats.{zero-float}
 use Rattle.desk.specs.declared.Desk.{Desk}
 use Rattle.rings.specs.State.{State}
@@ -14,9 +14,9 @@ use Rattle.hrtf.specs.Promise.{Outcome, Processes}
 use Rattle.hrtf.specs.Reset.{resetRefusal, AfterReset, Resets}
 use Rattle.hrtf.proofs.Promised.{outcome-by, reset-by, reset-number}
 
--- the stride for the frames, or any other count
-counted-otherwise : (c : Call) (t : State) (o : Outcome) → Processes c t o → refusalOf c t ≡ 0 → (o .answer .samples ≡ c .frames → ⊥) → ⊥
-counted-otherwise c t o p e other = other (ap (λ (q : Outcome). q .answer .samples) (p .answer ∙ outcome-by c t 0 e))
+-- the stride for the frames
+stride-counted : (c : Call) (t : State) (o : Outcome) → Processes c t o → refusalOf c t ≡ 0 → (c .frames ≡ c .stride → ⊥) → o .answer .samples ≡ c .stride → ⊥
+stride-counted c t o p e other s = other (sym (ap (λ (q : Outcome). q .answer .samples) (p .answer ∙ outcome-by c t 0 e)) ∙ s)
 
 module _ (d : Desk) (speakers L : ℕ) (rings : List Float) (o : AfterReset) (r : Resets d speakers L rings o) where
   -- nine speakers taken
@@ -25,9 +25,9 @@ module _ (d : Desk) (speakers L : ℕ) (rings : List Float) (o : AfterReset) (r 
   nine-speakers e z = suc-ne-zero 1 (sym (ap (λ (n : ℕ). resetRefusal n L rings) e) ∙ sym (reset-number d speakers L rings o r) ∙ z)
 
   module _ (z : resetRefusal speakers L rings ≡ 0) where
-    -- a ring that is not 0.0 throughout
-    sounding-rings : (o .rings ≡ replicate (length rings) zero-float → ⊥) → ⊥
-    sounding-rings other = other (ap (λ (a : AfterReset). a .rings) (r .answer ∙ reset-by d speakers L rings 0 z))
+    -- a cell that is not 0.0
+    sounding-cell : (i : ℕ) → i < length rings → (getD (o .rings) i nan ≡ zero-float → ⊥) → ⊥
+    sounding-cell i h other = other (ap (λ (a : AfterReset). getD (a .rings) i nan) (r .answer ∙ reset-by d speakers L rings 0 z) ∙ getD-replicate (length rings) i zero-float nan h)
 
     -- frames to go
     frames-to-go : (n : ℕ) → o .answer .desk .«to_go» ≡ suc n → ⊥

@@ -22,7 +22,8 @@ pub record Outcome : Type 0 where
 abbrev pub refused : ℕ → Call → State → Outcome
 refused n c t = record { answer = record { refusal = n; samples = 0; unsettled = 0; desk = t .desk }; rings = t .rings; ears = c .ears }
 
--- document 01's sums over the call's frames and the signals that the rings hold, whatever these are; those of its frames that have damage among its last L, or lie within the frames to go; and what they leave
+-- the count: those of the call's frames that have damage among its last L, or lie within the frames to go that were given; the rings and the desk: what its frames leave; the ears: document 01's
+-- sums over the call's signals up to each frame, newest first, and then those that the rings held, whatever these are
 abbrev pub accepted : Call → State → Outcome
 accepted c t =
     record {

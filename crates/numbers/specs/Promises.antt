@@ -3,7 +3,7 @@ use mathlib.Core.Path.{_≡_}
 use mathlib.Core.Bool.{Bool}
 use lib.IntN.{pos}
 use lib.Dec.{T}
-use lib.Ieee.{Float, fin, binary32, binary64}
+use lib.Ieee.{Float, fin, binary32, binary64, fits}
 use lib.Ieee.Positive.{positive}
 use Rattle.numbers.specs.Conversions.{Narrows}
 use Rattle.numbers.specs.Roots.{rootless, NearestRoot}
@@ -20,3 +20,8 @@ pub record Root (x : Float) (r : Rooted) : Type 0 where
   pub refused : T (rootless x) → (r .refusal ≡ 10) × (r .value ≡ zero-float)
   pub kept : (s : Bool) → x ≡ fin s 0 (pos 0) → (r .refusal ≡ 0) × (r .value ≡ x)
   pub nearest : T (positive x) → (r .refusal ≡ 0) × NearestRoot binary64 x (r .value)
+
+-- what is computed meets document 01's words, of every number; they leave one answer (`narrows-unique`, `root-words`), so whoever cites `narrowed` or `rootAnswer` cites them
+pub record NumbersMeet : Type 0 where
+  pub narrowing : (x : Float) → Narrows binary32 x (narrowed x)
+  pub rooting : (x : Float) → T (fits binary64 x) → Root x (rootAnswer x)

@@ -1,4 +1,4 @@
--- What the program does, as a function of the rings and the desk that it is given. Definitions only. Nobody has to believe them: the promise of `hrtf::process` ties them to the sums over the history.
+-- What the program does, as a function of the rings and the desk that it is given. Definitions only. Nobody has to believe them: `played-held`, `left-is` and `counted-is` (proofs/Blocks.antt) tie them to the words of specs/Held.antt in every state.
 use Prim.Native.Nat.{ℕ, suc}
 use mathlib.Core.Bool.{Bool, _||_}
 use mathlib.Core.List.{List, [], _∷_}

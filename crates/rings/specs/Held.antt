@@ -17,7 +17,7 @@ use Rattle.rings.specs.State.{State}
 abbrev pub heldIn : Setup → State → List (List Float)
 heldIn u t = tab 0 (u .L) (λ k. tab 0 (u .speakers) (λ s. getD (unrolled (t .desk .position) (row (u .L) s (t .rings))) k nan))
 
--- the rings that hold the last L frames of a past, where p is the cell that is written next: what is read back twice is as it was
+-- the rings that hold the last L frames of a past, where p is the cell that is written next: `unrolled p` undoes itself, so each ring read from the newest on is the past's
 abbrev pub ringsOf : Setup → ℕ → List (List Float) → List Float
 ringsOf u p past = flatten (tab 0 (u .speakers) (λ s. unrolled p (window u s past)))
 

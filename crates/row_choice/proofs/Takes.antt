@@ -12,6 +12,7 @@ use lib.Dec.{ltb}
 use lib.IntN.{ℤ}
 use Rattle.refusals.specs.OneAnswer.{OneAnswer}
 use Rattle.row_choice.specs.Nearest.{away, Takes}
+use Rattle.row_choice.specs.Choice.{ChoiceMeets}
 use Rattle.row_choice.specs.NearestComputed.{nearer, nearestFrom}
 
 module _ (zs : List ℤ) (p : ℤ) where
@@ -69,3 +70,6 @@ module _ (zs : List ℤ) (p : ℤ) where
               | no g ↦ omega arith
             ]
       ]
+
+pub choice-meets : ChoiceMeets
+choice-meets zs p = takes zs p

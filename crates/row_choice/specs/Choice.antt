@@ -3,7 +3,7 @@
 use mathlib.Core.Path.{_≡_}
 use mathlib.Core.Bool.{Bool, not}
 use mathlib.Core.List.{List, [], _∷_}
-use Prim.Native.Nat.{ℕ, _-_}
+use Prim.Native.Nat.{ℕ, _-_, _≤_}
 use lib.Dec.{eqb}
 use lib.IntN.{ℤ, pos, negsuc}
 use lib.ListN.{length}
@@ -32,3 +32,7 @@ choiceOf zs n p = answered (choiceRefusal zs n p) (chose (nearestFrom zs p 0 1 (
 pub record Chooses (zs : List ℤ) (n : ℕ) (p : ℤ) (r : Choice) : Type 0 where
   pub answer : r ≡ choiceOf zs n p
   pub takes : r .refusal ≡ 0 → Takes zs n p (r .row)
+
+-- the row that the walk finds is the one that document 01 says, which is one alone (`takes-one`): so whoever cites `choiceOf` cites these words
+abbrev pub ChoiceMeets : Type 0
+ChoiceMeets = (zs : List ℤ) (p : ℤ) (n : ℕ) → 1 ≤ n → Takes zs n p (nearestFrom zs p 0 1 (n - 1))

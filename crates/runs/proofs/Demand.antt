@@ -1,18 +1,20 @@
 -- DEMAND 3. From a reset, however a run is cut into calls and whatever calls are refused between, what is heard is document 01's sums over the frames that were fed. Assumes nothing.
 use mathlib.Core.Path.{_≡_, refl, sym, ap, _∙_}
 use mathlib.Core.Bool.{false}
-use mathlib.Core.List.{List, [], map, reverse}
+use mathlib.Core.List.{List, [], reverse}
 use Prim.Native.Nat.{ℕ, suc, _<_}
 use lib.ListN.{length, getD, take}
 use lib.Ieee.{Float}
+use native.Mathlib.Omega.{arith}
 use Rattle.lists.specs.Tables.{any}
+use Rattle.lists.proofs.Tables.{tab-ext}
 use Rattle.checks.specs.Finite.{unsound}
 use Rattle.history.specs.Setup.{Setup}
 use Rattle.history.specs.Signals.{signal, damaged}
 use Rattle.history.specs.History.{signalAgo, earSamples, heard, upto}
-use Rattle.history.proofs.Windows.{ears-same, damage-same}
+use Rattle.history.proofs.Windows.{ears-same}
 use Rattle.history.proofs.Silence.{signal-ago}
-use Rattle.history.proofs.Pieces.{heard-at}
+use Rattle.history.proofs.Pieces.{length-heard, heard-at}
 use Rattle.rings.specs.State.{State}
 use Rattle.rings.specs.Computed.{left, played, counted}
 use Rattle.rings.specs.Held.{Represents}
@@ -20,9 +22,9 @@ use Rattle.rings.proofs.Blocks.{played-heard}
 use Rattle.hrtf_checks.specs.Call.{Call}
 use Rattle.hrtf.proofs.Promised.{reset-number}
 use Rattle.runs.specs.Runs.{Alike, fedAll, soundedAll, unsettledCounts}
-use Rattle.runs.specs.Demand.{Run, frameAgo, Agree, damagedCounts, SameRun, Demand3}
+use Rattle.runs.specs.Demand.{Run, frameAgo, Agree, damagedAmong, damagedCounts, SameRun, Demand3}
 use Rattle.runs.proofs.Calls.{all-sounded, all-left, all-counted, all-owed}
-use Rattle.runs.proofs.Counts.{upto-is, damage-is, owed-counts}
+use Rattle.runs.proofs.Counts.{upto-is, owed-counts}
 
 -- a run begins at the empty past
 pub run-starts : (u : Setup) (t : State) (cs : List Call) → Run u t cs → Represents u [] t
@@ -31,6 +33,9 @@ run-starts u t cs r = r .reset .fresh (sym (reset-number (r .desk) (u .speakers)
 -- the whole run sounds as the frames that were fed, however it was cut
 pub run-heard : (u : Setup) (t : State) (cs : List Call) → Run u t cs → soundedAll t cs ≡ heard u [] (fedAll t cs)
 run-heard u t cs r = all-sounded u t cs (r .alike) ∙ played-heard u [] t (run-starts u t cs r) (fedAll t cs)
+
+run-all : (u : Setup) (t : State) (cs : List Call) → Run u t cs → length (soundedAll t cs) ≡ length (fedAll t cs)
+run-all u t cs r = ap length (run-heard u t cs r) ∙ length-heard u [] (fedAll t cs)
 
 -- (a)
 run-sums : (u : Setup) (t : State) (cs : List Call) → Run u t cs → (n : ℕ) → n < length (fedAll t cs) → getD (soundedAll t cs) n [] ≡ earSamples u (upto u (fedAll t cs) n)
@@ -42,13 +47,14 @@ module _ (u : Setup) (finite : unsound (u .weights) ≡ false) where
   signal-is : (fs : List (List Float)) (n k s : ℕ) → s < u .speakers → signalAgo s (upto u fs n) k ≡ signal u s (frameAgo u fs n k)
   signal-is fs n k s h = ap (λ (l : List (List Float)). signalAgo s l k) (upto-is u fs n) ∙ signal-ago u finite (reverse (take (suc n) fs)) k s h
 
-  module _ (fs gs : List (List Float)) (n m : ℕ) (e : (k : ℕ) → k < u .L → frameAgo u fs n k ≡ frameAgo u gs m k) where
-    same-signals : (k s : ℕ) → k < u .L → s < u .speakers → signalAgo s (upto u fs n) k ≡ signalAgo s (upto u gs m) k
-    same-signals k s hk hs = signal-is fs n k s hs ∙ ap (signal u s) (e k hk) ∙ sym (signal-is gs m k s hs)
+  same-signals : (fs gs : List (List Float)) (n m : ℕ) → ((k : ℕ) → k < u .L → frameAgo u fs n k ≡ frameAgo u gs m k)
+      → (k s : ℕ) → k < u .L → s < u .speakers → signalAgo s (upto u fs n) k ≡ signalAgo s (upto u gs m) k
+  same-signals fs gs n m e k s hk hs = signal-is fs n k s hs ∙ ap (signal u s) (e k hk) ∙ sym (signal-is gs m k s hs)
 
-    -- they have both a damaged frame among the last L, or neither
-    pub run-settled : any (take (u .L) (map unsound (upto u fs n))) ≡ any (take (u .L) (map unsound (upto u gs m)))
-    run-settled = damage-same (u .L) (upto u fs n) (upto u gs m) (λ k h. damage-is u finite fs n k ∙ ap (damaged u) (e k h) ∙ sym (damage-is u finite gs m k))
+-- both have a damaged frame among the last L, or neither
+run-settled : (u : Setup) (t s : State) (cs ds : List Call) (n m : ℕ) → Agree u t cs n s ds m → damagedAmong u (fedAll t cs) n ≡ damagedAmong u (fedAll s ds) m
+run-settled u t s cs ds n m e =
+    ap any (tab-ext 0 (u .L) (λ k. damaged u (frameAgo u (fedAll t cs) n k)) (λ k. damaged u (frameAgo u (fedAll s ds) m k)) (λ k h. ap (damaged u) (e k (omega arith))))
 
 -- (b): two runs that agree on a frame and the L-1 frames before it give the same two ear samples there, whatever came earlier
 run-agree : (u : Setup) (t s : State) (cs ds : List Call) → Run u t cs → Run u s ds → (n m : ℕ) → n < length (fedAll t cs) → m < length (fedAll s ds) → Agree u t cs n s ds m
@@ -72,4 +78,4 @@ run-cut u t cs ds a b e =
     }
 
 pub demand-3 : Demand3
-demand-3 = record { sums = run-sums; equal = run-agree; counts = run-counts; cut = run-cut }
+demand-3 = record { all = run-all; sums = run-sums; equal = run-agree; settled = run-settled; counts = run-counts; cut = run-cut }

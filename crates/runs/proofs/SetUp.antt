@@ -23,7 +23,7 @@ use Rattle.bank_form.specs.Bank.{Bank, isTap, valid}
 use Rattle.bank_form.specs.Fault.{bankIn}
 use Rattle.bank_form.proofs.Exact.{Keeps, keeps}
 use Rattle.bank.specs.Reading.{ReadOutcome, Reads, bankFound}
-use Rattle.bank.proofs.Promises.{accepted-parts, accepted-is, read-is}
+use Rattle.bank.proofs.Promises.{accepted-parts, accepted-is, is-accepted, read-is}
 use Rattle.channel.specs.declared.Layout.{Layout}
 use Rattle.desk.specs.declared.Desk.{Desk}
 use Rattle.desk.proofs.Going.{position-below, waits-below}
@@ -40,9 +40,9 @@ use Rattle.hrtf_checks.proofs.Refusing.{lengths-fit, on-desk, accept}
 use Rattle.hrtf.specs.Promise.{stateAfter}
 use Rattle.hrtf.specs.Reset.{resetRefusal, AfterReset, Resets}
 use Rattle.hrtf.proofs.Promised.{outcome-computed, reset-accepts, reset-number}
-use Rattle.hrtf_setup.specs.Arrangement.{Wanted, Arrangement}
+use Rattle.hrtf_setup.specs.Arrangement.{Wanted, Arrangement, arrangedBy, arrangement}
 use Rattle.hrtf_setup.specs.Arrangement as Arranging
-use Rattle.hrtf_setup.specs.Promise.{NewSurround, NewAmbisonic}
+use Rattle.hrtf_setup.specs.Promise.{Arranges, NewSurround, NewAmbisonic}
 use Rattle.hrtf_setup.proofs.Accepted.{Playable, set-up, surround-playable, ambisonic-playable}
 use Rattle.runs.specs.Runs.{next}
 use Rattle.runs.specs.SetUp.{Fitted, AllFitted, StateFits, NoneRefused, NeverRefused}
@@ -204,11 +204,22 @@ module _ (file : List ℕ) (zs : List ℤ) (xs : List Float) (r : ReadOutcome) (
     pub ambisonic-never-refused : (order : ℕ) → NewAmbisonic order (r .azimuths) (r .answer .rows) weights given o → NoneRefused (record { rings = a .rings; desk = a .answer .desk }) cs
     ambisonic-never-refused order n = plays (ambisonic-playable (r .azimuths) (r .answer .rows) weights given o eight e order n)
 
+-- what was promised of a set-up that is not refused, and of a reset
+arrangement-accepted : (w : Wanted) (zs : List ℤ) (n : ℕ) (weights : List Float) (given : List ℕ) (o : Arrangement) → Arranges w zs n weights given o → Arranging.refusalOf w zs n weights ≡ 0 → o .answer .refusal ≡ 0
+unfolding arrangement
+arrangement-accepted w zs n weights given o new e =
+    ap (λ (q : Arrangement). q .answer .refusal) (new .answer ∙ ap (λ (k : ℕ). arrangedBy k (w .whose) (w .speakers) (w .channels) zs n weights given) e)
+
 pub good-bank : NeverRefused
 good-bank =
     record {
-      surround = λ file zs xs r reads good l weights given o eight n e d rings t rested cs fs.
-          surround-never-refused file zs xs r reads good weights given o eight e d rings (record { answer = record { refusal = 0; desk = t .desk }; rings = t .rings }) rested refl cs fs l n;
-      ambisonic = λ file zs xs r reads good order weights given o eight n e d rings t rested cs fs.
-          ambisonic-never-refused file zs xs r reads good weights given o eight e d rings (record { answer = record { refusal = 0; desk = t .desk }; rings = t .rings }) rested refl cs fs order n;
+      reads = λ file b is zs xs eight most r reads. ap (λ (y : ReadOutcome). y .answer .refusal) (is-accepted file zs xs r reads eight most b is);
+      arranges = λ r k w offered weights given o long new.
+          arrangement-accepted w (r .azimuths) (r .answer .rows) weights given o new (good-bank-set-up (k .file) (k .zs) (k .xs) r (k .reads) (k .accepted) w weights offered long);
+      rests = λ r k d speakers rings a some few long rested.
+          reset-number d speakers (r .answer .length) rings a rested ∙ good-bank-reset (k .file) (k .zs) (k .xs) r (k .reads) (k .accepted) speakers rings some few long;
+      surround = λ r k l weights given o eight n e d rings t rested cs fs. surround-never-refused (k .file) (k .zs) (k .xs) r (k .reads) (k .accepted) weights given o eight e d rings
+          (record { answer = record { refusal = 0; desk = t .desk }; rings = t .rings }) rested refl cs fs l n;
+      ambisonic = λ r k order weights given o eight n e d rings t rested cs fs. ambisonic-never-refused (k .file) (k .zs) (k .xs) r (k .reads) (k .accepted) weights given o eight e d rings
+          (record { answer = record { refusal = 0; desk = t .desk }; rings = t .rings }) rested refl cs fs order n;
     }

@@ -1,4 +1,4 @@
--- Calls in states that stand for no history of frames, which the promise of `process` answers like any other. By computing the definitions. Assumes nothing.
+-- Calls in states that no run from a reset leads to, which the promise of `process` answers like any other. By computing the definitions. Assumes nothing.
 use mathlib.Core.Path.{_≡_, refl}
 use mathlib.Core.Bool.{true, false}
 use mathlib.Core.List.{List, [], _∷_, flatten}
@@ -33,7 +33,7 @@ other-weight : outcome (block 1 (one-float ∷ []) zero-float) (record { rings =
 unfolding refusalOf outcome flatten mixed earOf inverseRoot rootOf rootUnits wholeRoot rootIn rounded add mul div ieee.sum round size span climb units odd ofInt
 other-weight = refl
 
--- -0.0 in every cell: no signal is that, since each sum begins at 0.0
+-- -0.0 in every cell: at the weight 1.0 no signal is that, since each sum begins at 0.0
 minus-zeros : outcome (block 1 (zero-float ∷ []) one-float) (record { rings = minus-zero ∷ minus-zero ∷ []; desk = record { position = 1; «to_go» = 0 } })
     ≡ one (minus-zero ∷ zero-float ∷ []) (zero-float ∷ zero-float ∷ [])
 unfolding refusalOf outcome flatten mixed earOf inverseRoot rootOf rootUnits wholeRoot rootIn rounded add mul div ieee.sum round size span climb units odd ofInt

@@ -49,11 +49,15 @@ pub record SameRun (t : State) (cs ds : List Call) : Type 0 where
   pub leaves : end t cs ≡ end t ds
 
 pub record Demand3 : Type 0 where
+  -- every frame that is fed is played
+  pub all : (u : Setup) (t : State) (cs : List Call) → Run u t cs → length (soundedAll t cs) ≡ length (fedAll t cs)
   -- (a) "both ear samples at n are document 01's sums"
   pub sums : (u : Setup) (t : State) (cs : List Call) → Run u t cs → (n : ℕ) → n < length (fedAll t cs) → getD (soundedAll t cs) n [] ≡ earSamples u (upto u (fedAll t cs) n)
   -- (b) "If they agree on frame n and the L-1 frames before it", they are "equal in both runs, whatever NaN or noise came earlier"
   pub equal : (u : Setup) (t s : State) (cs ds : List Call) → Run u t cs → Run u s ds → (n m : ℕ) → n < length (fedAll t cs) → m < length (fedAll s ds) → Agree u t cs n s ds m
       → getD (soundedAll t cs) n [] ≡ getD (soundedAll s ds) m []
+  -- and they are both unsettled there, or both settled
+  pub settled : (u : Setup) (t s : State) (cs ds : List Call) (n m : ℕ) → Agree u t cs n s ds m → damagedAmong u (fedAll t cs) n ≡ damagedAmong u (fedAll s ds) m
   -- (c) "Each call's unsettled count is exactly the number of its frames with a damaged frame among those L"
   pub counts : (u : Setup) (t : State) (cs : List Call) → Run u t cs → unsettledCounts t cs ≡ damagedCounts u (fedAll t cs) 0 t cs
   -- (d) "each cut into blocks anywhere": the same frames, cut as they may be, and refused calls where they may be; from any rings and desk

@@ -1,21 +1,23 @@
--- A run of the program: a bank file is read, speakers are set up from it, the rings are reset, and blocks are played. None is refused, whatever is heard: a bank which keeps the form always plays
--- (`NeverRefused`, shown in proofs/SetUp.antt). Definitions only.
+-- A bank file is read, speakers are set up from it, rings are reset, and blocks are played: where the file keeps the form, none of these is refused, whatever is heard (`NeverRefused`, shown in
+-- proofs/SetUp.antt). Definitions only.
 use Prim.Native.Nat.{ℕ, _*_, _≤_, _<_}
 use mathlib.Core.Path.{_≡_}
+use mathlib.Core.Bool.{false}
 use mathlib.Core.List.{List, [], _∷_}
 use lib.ListN.{length}
 use lib.IntN.{ℤ}
 use lib.Ieee.{Float}
 use Rattle.bank_form.specs.Bank as Form
+use Rattle.bank_form.specs.File.{IsFile}
 use Rattle.bank.specs.Reading.{ReadOutcome, Reads, bankFound}
 use Rattle.channel.specs.declared.Layout.{Layout}
 use Rattle.desk.specs.declared.Desk.{Desk}
 use Rattle.rings.specs.State.{State}
 use Rattle.hrtf_checks.specs.Call.{Call}
 use Rattle.hrtf_checks.specs.Refusals.{refusalOf}
-use Rattle.hrtf.specs.Reset.{Resets}
-use Rattle.hrtf_setup.specs.Arrangement.{Arrangement}
-use Rattle.hrtf_setup.specs.Promise.{NewSurround, NewAmbisonic}
+use Rattle.hrtf.specs.Reset.{AfterReset, Resets}
+use Rattle.hrtf_setup.specs.Arrangement.{Wanted, Arrangement}
+use Rattle.hrtf_setup.specs.Promise.{Arranges, NewSurround, NewAmbisonic}
 use Rattle.runs.specs.Runs.{next}
 
 -- a call that is made of a bank and of what a set-up left: their counts, weights, rows and taps, and planes as long as its frames need
@@ -45,15 +47,31 @@ NoneRefused t (c ∷ cs) = (refusalOf c t ≡ 0) × NoneRefused (next c t) cs
 
 -- ---- a good bank is never refused
 
+-- what `bank::read` promises where it accepts
+pub record BankAccepted (r : ReadOutcome) : Type 0 where
+  pub file : List ℕ
+  pub zs : List ℤ
+  pub xs : List Float
+  pub reads : Reads file zs xs r
+  pub accepted : r .answer .refusal ≡ 0
+
 -- whatever `hrtf::reset` accepts and leaves: no call that is made of that bank and set-up is refused
 abbrev pub AlwaysPlays : ReadOutcome → Arrangement → Type 0
 AlwaysPlays r o =
     (d : Desk) (rings : List Float) (t : State) → Resets d (o .answer .speakers) (r .answer .length) rings (record { answer = record { refusal = 0; desk = t .desk }; rings = t .rings })
     → (cs : List Call) → AllFitted (bankFound r) o cs → NoneRefused t cs
 
--- from what `bank::read` and a set-up promise where they accept
 pub record NeverRefused : Type 0 where
-  pub surround : (file : List ℕ) (zs : List ℤ) (xs : List Float) (r : ReadOutcome) → Reads file zs xs r → r .answer .refusal ≡ 0
-      → (l : Layout) (weights : List Float) (given : List ℕ) (o : Arrangement) → length given ≡ 8 → NewSurround l (r .azimuths) (r .answer .rows) weights given o → o .answer .refusal ≡ 0 → AlwaysPlays r o
-  pub ambisonic : (file : List ℕ) (zs : List ℤ) (xs : List Float) (r : ReadOutcome) → Reads file zs xs r → r .answer .refusal ≡ 0
-      → (n : ℕ) (weights : List Float) (given : List ℕ) (o : Arrangement) → length given ≡ 8 → NewAmbisonic n (r .azimuths) (r .answer .rows) weights given o → o .answer .refusal ≡ 0 → AlwaysPlays r o
+  -- a file that keeps the form is read
+  pub reads : (file : List ℕ) (b : Form.Bank) → IsFile file b → (zs : List ℤ) (xs : List Float) → length zs ≡ 8 → length xs ≡ 8192 → (r : ReadOutcome) → Reads file zs xs r → r .answer .refusal ≡ 0
+  -- speakers that are offered are set up from it, weights of their number being lent
+  pub arranges : (r : ReadOutcome) → BankAccepted r → (w : Wanted) → w .check .holds ≡ false → (weights : List Float) (given : List ℕ) (o : Arrangement) → length weights ≡ w .speakers * w .channels
+      → Arranges w (r .azimuths) (r .answer .rows) weights given o → o .answer .refusal ≡ 0
+  -- rings of the cells that they need are reset
+  pub rests : (r : ReadOutcome) → BankAccepted r → (d : Desk) (speakers : ℕ) (rings : List Float) (a : AfterReset) → 0 < speakers → speakers ≤ 8 → length rings ≡ speakers * r .answer .length
+      → Resets d speakers (r .answer .length) rings a → a .answer .refusal ≡ 0
+  -- and then every call is accepted
+  pub surround : (r : ReadOutcome) → BankAccepted r → (l : Layout) (weights : List Float) (given : List ℕ) (o : Arrangement) → length given ≡ 8
+      → NewSurround l (r .azimuths) (r .answer .rows) weights given o → o .answer .refusal ≡ 0 → AlwaysPlays r o
+  pub ambisonic : (r : ReadOutcome) → BankAccepted r → (n : ℕ) (weights : List Float) (given : List ℕ) (o : Arrangement) → length given ≡ 8
+      → NewAmbisonic n (r .azimuths) (r .answer .rows) weights given o → o .answer .refusal ≡ 0 → AlwaysPlays r o

@@ -5,7 +5,8 @@
 // yet is kept at the start of the buffer. A program that takes other records shares all but `frames_from_bytes`.
 //
 // Every public function takes any input, and its promise is an equation for its answer and for the list that it
-// fills, over the definitions of specs/. Lists that do not fit are refused with 5, so that no sample is lost.
+// fills, over the definitions of specs/. Planes and lists that have no room for every frame are refused with 5, so that no
+// sample is lost.
 // That the records in a list of bytes are those of its two parts, wherever it is cut, is a law over the record's
 // size and over what it says (proofs/Cut.antt).
 ghost use mathlib.Core.Path.{_≡_};

@@ -37,7 +37,8 @@ returns c =
     let ended = read .before .before in
     let least = ended .before in
     let args = least .before .before .args in
-    behind (args .held) (least .least .result) _ _ _ (least .least .ensures) (search needs) (omega arith) (search needs)
+    behind (args .held) (args .limit) (least .least .result) _ _ _ _ (least .least .ensures) (search needs) (omega (arith, read .read-into .ensures .0, ended .end-of-read .ensures)) (search needs)
+    (read .read-into .ensures .1)
     (take-put (least .least .result) (ended .end-of-read .result - least .least .result) (args .bytes .now) (read .read-into .last .1 .0) (omega (arith, least .least .ensures)))
 
 pub read-some-spec : {M : Type 1} → statement M

@@ -1,0 +1,11 @@
+-- Of one file no two answers meet the promise of `read_bank`; which file it is no contract can name. Assumes nothing.
+use mathlib.Core.Path.{_≡_, sym, ap, _∙_}
+use mathlib.Core.List.{List}
+use Prim.Native.Nat.{ℕ}
+use lib.IntN.{ℤ}
+use lib.Ieee.{Float}
+use Rattle.bank.specs.Reading.{ReadOutcome, readOutcome}
+use Rattle.files.specs.Promises.{Found}
+
+read-bank-unique : (zs : List ℤ) (xs : List Float) (a b : ReadOutcome) (f : Found zs xs a) (g : Found zs xs b) → f .file ≡ g .file → a ≡ b
+read-bank-unique zs xs a b f g same = f .reads .outcome ∙ ap (λ (file : List ℕ). readOutcome file zs xs) same ∙ sym (g .reads .outcome)
