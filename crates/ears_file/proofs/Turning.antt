@@ -24,7 +24,7 @@ use Rattle.hrtf_checks.specs.Call.{Call, setupOf}
 use Rattle.hrtf_checks.specs.Refusals.{refusalOf}
 use Rattle.hrtf.specs.Promise.{Outcome, Processes, stateAfter}
 use Rattle.hrtf.proofs.Promised.{ears-over, unsettled-over}
-use Rattle.runs.specs.SetUp.{StateFits}
+use Rattle.runs.specs.NeverRefused.{StateFits}
 use Rattle.wire.specs.Records.{wholeIn, restIn}
 use Rattle.wire.specs.Frames.{frameOf, lineFrames}
 use Rattle.wire.specs.Ears.{earBytes}

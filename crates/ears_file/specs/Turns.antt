@@ -14,7 +14,7 @@ use Rattle.rings.specs.State.{State}
 use Rattle.rings.specs.Held.{Represents}
 use Rattle.hrtf_checks.specs.declared.Shape.{Shape}
 use Rattle.hrtf_checks.specs.Refusals.{refusalOf}
-use Rattle.runs.specs.SetUp.{StateFits}
+use Rattle.runs.specs.NeverRefused.{StateFits}
 use Rattle.wire.specs.Records.{wholeIn, restIn}
 use Rattle.wire.specs.Frames.{lineFrames}
 use Rattle.ears_file.specs.declared.Ended.{Ended}

@@ -5,4 +5,4 @@ pub mod Demand
 mod Worked
 mod States
 mod Refuted
-pub mod SetUp
+pub mod NeverRefused

@@ -8,7 +8,7 @@
 // And a bank that keeps the form is never refused: read from its file, set up for a layout or an order, the
 // rings reset, every call whose planes fit is accepted.
 //
-// No function stands here. The statements are in specs/Demand.antt (`Demand3`) and specs/SetUp.antt, their
+// No function stands here. The statements are in specs/Demand.antt (`Demand3`) and specs/NeverRefused.antt, their
 // proofs in proofs/. Under it lie `hrtf`, `hrtf_setup` and `bank`, what these are made of as far as the laws cite it
 // (`hrtf_checks`, `rings`, `desk`, `history`, `bank_form`, `planes`, `channel`, `checks`, `numbers`), `lists`,
 // `formats` and `refusals`.

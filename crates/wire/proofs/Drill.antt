@@ -10,7 +10,7 @@ use Rattle.wire.specs.Ears.{earBytes}
 use Rattle.wire.specs.Line.{decimalBy, decimal, framesWord, unsettledWord, refusedWord, newline, framesLine, refusedLine}
 
 -- `frames 3 unsettled 2` and a newline
-three-frames : framesLine 3 2 ≡ 102 ∷ 114 ∷ 97 ∷ 109 ∷ 101 ∷ 115 ∷ 32 ∷ 51 ∷ 32 ∷ 117 ∷ 110 ∷ 115 ∷ 101 ∷ 116 ∷ 116 ∷ 108 ∷ 101 ∷ 100 ∷ 32 ∷ 50 ∷ 10 ∷ []
+pub three-frames : framesLine 3 2 ≡ 102 ∷ 114 ∷ 97 ∷ 109 ∷ 101 ∷ 115 ∷ 32 ∷ 51 ∷ 32 ∷ 117 ∷ 110 ∷ 115 ∷ 101 ∷ 116 ∷ 116 ∷ 108 ∷ 101 ∷ 100 ∷ 32 ∷ 50 ∷ 10 ∷ []
 unfolding framesLine framesWord unsettledWord newline decimal decimalBy
 three-frames = refl
 
@@ -20,7 +20,7 @@ unfolding framesLine framesWord unsettledWord newline decimal decimalBy
 no-frames = refl
 
 -- `refused 9`
-refused-nine : refusedLine 9 ≡ 114 ∷ 101 ∷ 102 ∷ 117 ∷ 115 ∷ 101 ∷ 100 ∷ 32 ∷ 57 ∷ 10 ∷ []
+pub refused-nine : refusedLine 9 ≡ 114 ∷ 101 ∷ 102 ∷ 117 ∷ 115 ∷ 101 ∷ 100 ∷ 32 ∷ 57 ∷ 10 ∷ []
 unfolding refusedLine refusedWord newline decimal decimalBy
 refused-nine = refl
 

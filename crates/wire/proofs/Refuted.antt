@@ -1,16 +1,22 @@
--- What the promises rule out: samples that are lost, whatever they are, where a list is too short; and a count that starts again. Assumes nothing.
+-- What the promises rule out: samples that are lost, whatever they are, where a list is too short; a count that starts again or stays early; a rest that is not moved; and lines of other bytes. Assumes nothing.
 use mathlib.Core.Path.{_≡_, refl, sym, ap, _∙_}
 use mathlib.Core.Bool.{Bool, true, false}
-use mathlib.Core.List.{List}
-use Prim.Native.Nat.{ℕ, _*_, _-_, _^_, _<_}
+use mathlib.Core.List.{List, [], _∷_, _++_}
+use Prim.Native.Nat.{ℕ, zero, suc, _*_, _-_, _^_, _≤_, _<_}
+use native.Mathlib.Nat.{not-suc-le-zero, le-of-suc-le-suc}
 use native.Mathlib.Omega.{arith}
-use borrow.Author.Tests.{lt-ltb}
-use lib.ListN.{length}
+use borrow.Author.Tests.{lt-ltb, le-ltb}
+use lib.ListN.{length, getD, take, drop}
 use lib.Ieee.{Float}
+use Rattle.refusals.proofs.First.{goes-on}
+use Rattle.lists.specs.Placed.{placed}
+use Rattle.lists.proofs.Placed.{placed-start}
 use Rattle.checks.specs.Lengths.{unfit}
 use Rattle.wire.specs.Records.{wholeIn}
 use Rattle.wire.specs.Counting.{countedOn}
-use Rattle.wire.specs.Promises.{FramesTaken, framesTaken, EarsGiven, earsGiven}
+use Rattle.wire.specs.Line.{framesLine, refusedLine}
+use Rattle.wire.specs.Promises.{FramesTaken, framesTaken, EarsGiven, earsGiven, Lined}
+use Rattle.wire.proofs.Drill.{three-frames, refused-nine}
 use Rattle.wire.proofs.Meets.{taken-refused, given-unfit, given-by}
 
 -- planes that have no room are accepted
@@ -33,3 +39,38 @@ ears-lost ears stride frames out r h is z = go (unfit (length ears) 2 stride fra
 -- the largest count and one more is none
 count-wraps : (n : ℕ) → n ≡ countedOn (2 ^ 64 - 1) 1 → n ≡ 0 → ⊥
 count-wraps n e z = omega (arith, e, z)
+
+-- one more than 2^63 - 1, told as 2^63 - 1
+count-stays-early : (n : ℕ) → n ≡ countedOn (2 ^ 63 - 1) 1 → n ≡ 2 ^ 63 - 1 → ⊥
+count-stays-early n e z = omega (arith, e, z)
+
+-- ---- the rest, and the lines
+
+-- the bytes of a record that is not whole yet, left where they stood
+rest-not-moved : (after : List ℕ) → after ≡ placed (1 ∷ 2 ∷ []) 0 (drop 1 (take 2 (1 ∷ 2 ∷ []))) → after ≡ 1 ∷ 2 ∷ [] → ⊥
+unfolding placed
+rest-not-moved after e z = let same : _≡_ {A = ℕ} 1 2 = ap (λ (l : List ℕ). getD l 0 0) (sym z ∙ e) in omega (arith, same)
+
+getD-first : (xs ys : List ℕ) (i : ℕ) → i < length xs → getD (xs ++ ys) i 0 ≡ getD xs i 0
+getD-first [] ys i h = absurd (not-suc-le-zero h)
+getD-first (x ∷ xs) ys zero h = refl
+getD-first (x ∷ xs) ys (suc i) h = getD-first xs ys i (le-of-suc-le-suc h)
+
+-- a line that has room stands at the start of its list
+line-byte : (out line : List ℕ) (size : ℕ) (after : List ℕ) → Lined out line size after → 64 ≤ length out → (i : ℕ) → i < length line → getD after i 0 ≡ getD line i 0
+line-byte out line size after put room i h =
+    ap (λ (l : List ℕ). getD l i 0) (put .filled ∙ goes-on _ _ (le-ltb (length out) 64 room) ∙ placed-start out line) ∙ getD-first line (drop (length line) out) i h
+
+-- `frames 3 unsettled 2` with a blank in the place of the newline
+no-newline : (out : List ℕ) (size : ℕ) (after : List ℕ) → Lined out (framesLine 3 2) size after → 64 ≤ length out → getD after 20 0 ≡ 32 → ⊥
+no-newline out size after put room e =
+    let long : length (framesLine 3 2) ≡ 21 = ap length three-frames in
+    let same : _≡_ {A = ℕ} 32 10 = sym e ∙ line-byte out (framesLine 3 2) size after put room 20 (omega (arith, long)) ∙ ap (λ (l : List ℕ). getD l 20 0) three-frames in
+    omega (arith, same)
+
+-- 9 told as 5
+refused-by-another-number : (out : List ℕ) (size : ℕ) (after : List ℕ) → Lined out (refusedLine 9) size after → 64 ≤ length out → getD after 8 0 ≡ 53 → ⊥
+refused-by-another-number out size after put room e =
+    let long : length (refusedLine 9) ≡ 10 = ap length refused-nine in
+    let same : _≡_ {A = ℕ} 53 57 = sym e ∙ line-byte out (refusedLine 9) size after put room 8 (omega (arith, long)) ∙ ap (λ (l : List ℕ). getD l 8 0) refused-nine in
+    omega (arith, same)

@@ -45,7 +45,7 @@ use Rattle.hrtf_setup.specs.Arrangement as Arranging
 use Rattle.hrtf_setup.specs.Promise.{Arranges, NewSurround, NewAmbisonic}
 use Rattle.hrtf_setup.proofs.Accepted.{Playable, set-up, surround-playable, ambisonic-playable}
 use Rattle.runs.specs.Runs.{next}
-use Rattle.runs.specs.SetUp.{Fitted, AllFitted, StateFits, NoneRefused, NeverRefused}
+use Rattle.runs.specs.NeverRefused.{Fitted, AllFitted, StateFits, NoneRefused, NeverRefused}
 
 -- ---- a bank that keeps the form
 

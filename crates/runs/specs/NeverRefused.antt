@@ -1,5 +1,5 @@
 -- A bank file is read, speakers are set up from it, rings are reset, and blocks are played: where the file keeps the form, none of these is refused, whatever is heard (`NeverRefused`, shown in
--- proofs/SetUp.antt). Definitions only.
+-- proofs/NeverRefused.antt). Definitions only.
 use Prim.Native.Nat.{ℕ, _*_, _≤_, _<_}
 use mathlib.Core.Path.{_≡_}
 use mathlib.Core.Bool.{false}
