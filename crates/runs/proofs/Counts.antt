@@ -1,11 +1,10 @@
 -- The frames of a call that are unsettled over the past are those with a damaged frame among the last L of the run. Assumes nothing.
 use mathlib.Core.Path.{_≡_, refl, sym, ap, _∙_}
-use mathlib.Core.Bool.{Bool, true, false, _||_}
+use mathlib.Core.Bool.{Bool, false, _||_, or-false}
 use mathlib.Core.List.{List, [], _∷_, _++_, map, reverse, append-assoc}
 use Prim.Native.Nat.{ℕ, suc, _+_}
 use native.Mathlib.Omega.{arith}
 use borrow.Author.Tests.{lt-leb}
-use lib.Dec.{leb}
 use lib.ListN.{length, getD, take, length-append}
 use lib.Seq.{take-at}
 use lib.Ieee.{Float}
@@ -23,10 +22,6 @@ use Rattle.hrtf_checks.specs.Call.{Call}
 use Rattle.runs.specs.Runs.{next, fed, fedAll}
 use Rattle.runs.specs.Demand.{frameAgo, damagedAmong, damagedCounts}
 use Rattle.runs.proofs.Calls.{owed}
-
-or-none : (a b : Bool) → b ≡ false → (a || b) ≡ a
-or-none true b e = refl
-or-none false b e = e
 
 -- the signals at frame n are those of the frames
 pub upto-is : (u : Setup) (fs : List (List Float)) (n : ℕ) → upto u fs n ≡ map (signals u) (reverse (take (suc n) fs))
@@ -49,7 +44,8 @@ module _ (u : Setup) (finite : unsound (u .weights) ≡ false) where
 
   frame-counts : (done : List (List Float)) (f : List Float) (rest : List (List Float)) → unsettled u 0 (signals u f ∷ after u [] done) ≡ damagedAmong u (done ++ (f ∷ rest)) (length done)
   frame-counts done f rest =
-      or-none (any (take (u .L) (map unsound (signals u f ∷ after u [] done)))) (leb (suc (length (after u [] done))) 0) (lt-leb (suc (length (after u [] done))) 0 (omega arith))
+      ap (λ (b : Bool). any (take (u .L) (map unsound (signals u f ∷ after u [] done))) || b) (lt-leb (suc (length (after u [] done))) 0 (omega arith))
+      ∙ or-false (any (take (u .L) (map unsound (signals u f ∷ after u [] done))))
       ∙ ap (λ (past : List (List Float)). any (take (u .L) (map unsound past))) (sym (upto-next u done f rest))
       ∙ among (done ++ (f ∷ rest)) (length done)
 
