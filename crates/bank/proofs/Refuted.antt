@@ -46,8 +46,19 @@ reads-what-is-there xs h r =
     let z : _≡_ {A = ℕ} 0 9 = ap (λ (o : ReadOutcome). o .answer .refusal) (drill-cut sevens xs refl h _ r) in
     omega arith
 
+-- a breach of the form is told by another number than 9
+breach-by-another-number : (n : ℕ) → (n ≡ 9 → ⊥) → (xs : List Float) → length xs ≡ 8192 → Reads (take 18 oneRowBytes) sevens xs (readRefused n sevens xs) → ⊥
+unfolding sevens
+breach-by-another-number n other xs h r = other (ap (λ (o : ReadOutcome). o .answer .refusal) (drill-cut sevens xs refl h _ r))
+
 -- accepted, and nothing written
 writes-nothing : Writes oneRow (replicate 19 0) (record { answer = record { refusal = 0; bytes = 19 }; file = replicate 19 0 }) → ⊥
 writes-nothing r =
     let z : _≡_ {A = ℕ} 0 1 = ap (λ (w : WriteOutcome). getD (w .file) 0 0) (drill-written (replicate 19 0) _ (length-replicate {A = ℕ} 19 0) r) in
+    omega arith
+
+-- another version is written
+version-2-written : Writes oneRow (replicate 19 0) (record { answer = record { refusal = 0; bytes = 19 }; file = 2 ∷ drop 1 oneRowBytes }) → ⊥
+version-2-written r =
+    let z : _≡_ {A = ℕ} 2 1 = ap (λ (w : WriteOutcome). getD (w .file) 0 0) (drill-written (replicate 19 0) _ (length-replicate {A = ℕ} 19 0) r) in
     omega arith

@@ -1,4 +1,4 @@
--- Laws that a caller's proof cites, and that no two answers meet one promise.
+-- Laws that a caller's proof cites, that no two answers meet one promise, and wrong answers refuted.
 pub mod Bytes
 pub mod Fields
 pub mod Signed
@@ -6,3 +6,4 @@ pub mod Lists
 mod Room
 mod Patterns
 mod Unique
+mod Refuted

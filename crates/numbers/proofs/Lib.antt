@@ -14,3 +14,4 @@ mod Tests
 pub mod Meets
 mod Unique
 pub mod Drill
+mod Refuted

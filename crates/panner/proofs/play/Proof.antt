@@ -37,7 +37,7 @@ loop-again c =
     let at = c .before .before .before .before .before .before .loop in
     let x = c .before .before .before .sample in
     framing-more (now (a .out)) (a .stride) (a .frames) (λ k. panned (a .planes) (a .gains) (sampleAt (now (a .input)) (a .stride) 0 k)) (at .out) (at .n) (at .inv) (c .before .before .pan .last .0)
-    (c .before .before .before .before .before .loop-test .taken)
+    (omega (arith, c .before .before .before .before .before .loop-test .taken))
     (c .before .before .pan .ensures ∙ ap (λ (y : Float). withFrame (at .out) (a .stride) (at .n) (panned (a .planes) (a .gains) y)) (x .ensures))
 
 same-length : tie.Need-same-length Inv-loop μ-loop
