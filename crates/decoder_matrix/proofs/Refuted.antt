@@ -1,14 +1,16 @@
--- Wrong answers of another shape: an LFE that is silent, refuted at every order of 5.1 and 7.1; and an answer that refuses always, on 5.1 at order 1. Assumes nothing.
-use Prim.Native.Nat.{ℕ}
+-- Wrong answers of another shape: an LFE that is silent, refuted at every order of 5.1 and 7.1; an answer that refuses always, on 5.1 at order 1; and weights that are too far off. Assumes nothing.
+use Prim.Native.Nat.{ℕ, _<_}
 use native.Mathlib.Omega.{arith}
-use mathlib.Core.Path.{_≡_, refl, sym, ap, _∙_}
+use mathlib.Core.Path.{_≡_, refl, sym, ap, subst, _∙_}
 use mathlib.Core.Bool.{Bool, true, false, not, cond, true≢false}
 use mathlib.Core.List.{List}
-use lib.IntN.{pos}
-use lib.Dec.{eqb}
+use lib.IntN.{pos, negsuc}
+use lib.Dec.{eqb, le→leb, lit<}
 use lib.ListN.{length, getD}
-use lib.Ieee.{Float, nan, size, units, round, ofInt, le, neg, mul, div}
+use lib.Ieee.{Float, nan, fin, size, units, round, ofInt, le, neg, mul, div}
 use lib.Ieee.Positive.{positive}
+use Rattle.fractions.specs.Fraction.{whole, number}
+use Rattle.fractions.specs.Squares.{BySquares}
 use Rattle.numbers.specs.Computed.{rootOf, wholeRoot}
 use Rattle.lists.specs.Tables.{row}
 use Rattle.formats.specs.Floats.{zero-float, float}
@@ -19,10 +21,11 @@ use Rattle.channel.specs.declared.Layout.the-variants.{Mono, Stereo, Surround51
 use Rattle.channel.specs.Layouts.{channelsOf, surround}
 use Rattle.channel.specs.Orders.{refusesOrder, channelsOfOrder}
 use Rattle.channel.proofs.Orders.{by-order}
+use Rattle.harmonics.specs.Formulas.{formulasOver}
 use Rattle.harmonics.specs.Computed.{upTo}
 use Rattle.angles.specs.Limits.{isInside, refusesAngle}
-use Rattle.decoder_matrix.specs.Matrix.{rowTowards}
-use Rattle.decoder_matrix.specs.Promise.{Computed, checksOf, refusalOf, Computes}
+use Rattle.decoder_matrix.specs.Matrix.{rowTowards, formulaAt}
+use Rattle.decoder_matrix.specs.Promise.{matrixBits, Computed, checksOf, refusalOf, Computes}
 use Rattle.decoder_matrix.proofs.LowFrequency.{low-frequency-row}
 
 -- the first weight of the row of 0 degrees, 1.0/root(n), is above 0
@@ -48,3 +51,19 @@ refuses-always w long r p h = no (sym h ∙ ap (λ (c : Computed). c .refusal) (
   where
     no : _≡_ {A = ℕ} 5 0 → ⊥
     no h = omega arith
+
+-- a weight x of the first channel in the row of the first speaker, at order 1
+module _ (l : Layout) (w : List Float) (r : Computed) (p : Computes 1 l w r) (x : Float) (h : getD (row 4 0 (r .weights)) 0 nan ≡ x) where
+  -- it is within document 01's bound of the harmonic, 1, over the root of n
+  weighs : refusalOf 1 l w ≡ 0 → 0 < channelsOf l → BySquares matrixBits (number x) (formulaAt 1 l 0 0) (whole (channelsOf l))
+  weighs z some = subst (λ (y : Float). BySquares matrixBits (number y) (formulaAt 1 l 0 0) (whole (channelsOf l))) h (p .near z 0 0 some (lit< tt))
+
+-- 1/n for 1/root(n): a weight of 1/2 for two speakers
+pub over-n : (w : List Float) → length w ≡ 8 → (r : Computed) → Computes 1 Stereo w r → getD (row 4 0 (r .weights)) 0 nan ≡ fin false 1 (negsuc 0) → ⊥
+unfolding formulasOver
+over-n w long r p h = le→leb _ _ (weighs Stereo w r p (fin false 1 (negsuc 0)) h (ap (λ (n : ℕ). cond (not (eqb n 8)) 5 0) long) (lit< tt) .above)
+
+-- off by 2^-32, twice what document 01 allows: a single speaker has a weight of 1
+pub off-by-twice : (w : List Float) → length w ≡ 4 → (r : Computed) → Computes 1 Mono w r → getD (row 4 0 (r .weights)) 0 nan ≡ fin false 4294967295 (negsuc 31) → ⊥
+unfolding formulasOver
+off-by-twice w long r p h = le→leb _ _ (weighs Mono w r p (fin false 4294967295 (negsuc 31)) h (ap (λ (n : ℕ). cond (not (eqb n 4)) 5 0) long) (lit< tt) .above)

@@ -1,10 +1,15 @@
 -- Wrong ways to answer, each held against the promise on an input where it breaks it. Assumes nothing.
 use mathlib.Core.Path.{_≡_, refl, ap}
+use mathlib.Core.Bool.{false}
+use mathlib.Core.List.{List, _∷_}
 use Prim.Native.Nat.{ℕ}
 use native.Mathlib.Omega.{arith}
 use lib.Dec.{le→leb}
-use lib.Ieee.{nan, lt, le, eq, neg, ofInt}
+use lib.IntN.{negsuc}
+use lib.Ieee.{Float, nan, fin, lt, le, eq, neg, ofInt}
 use Rattle.formats.specs.Floats.{zero-float}
+use Rattle.series.specs.Sums.{sineSum, term, power, factorial}
+use Rattle.series.specs.Angles.{turned, around, reduced, radians, isMultiple, quarters, defined}
 use Rattle.harmonics.specs.Formulas.{formulasOver}
 use Rattle.harmonics.specs.Computed.{wavesOf, upTo}
 use Rattle.angles.specs.Limits.{isInside, refusesAngle}
@@ -44,3 +49,8 @@ refuses-the-ends p = let e : _≡_ {A = ℕ} 3 0 = ap refusal (p .is) in omega a
 direction-first : Promise 0 (at 181 0) (record { refusal = 3; gains = silence }) → ⊥
 unfolding refusal
 direction-first p = let e : _≡_ {A = ℕ} 3 1 = ap refusal (p .is) in omega arith
+
+-- it keeps 33 binary places: channel 1 at 45 degrees, cut there, is more than 2^-34 too small
+cut-to-33-places : (w : Float) (g : List Float) → Promise 1 (at 45 0) (record { refusal = 0; gains = w ∷ fin false 6074000999 (negsuc 32) ∷ g }) → ⊥
+unfolding refusesAngle isInside lt le eq neg ofInt formulasOver defined isMultiple quarters turned reduced around radians sineSum term power factorial
+cut-to-33-places w g p = le→leb _ _ (p .near refl .1 .0 .near)

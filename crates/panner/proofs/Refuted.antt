@@ -19,7 +19,7 @@ use Rattle.harmonics.specs.declared.Direction.{Direction}
 use Rattle.panner.specs.declared.Command.the-variants.{Stereo, Ambisonic}
 use Rattle.panner.specs.Blocks.{Shape, mostFrames}
 use Rattle.panner.specs.Promise.{Processed}
-use Rattle.panner.proofs.Played.{refusal-is, frames-most, every-frame}
+use Rattle.panner.proofs.Played.{refusal-is, all-counted, frames-most, every-frame}
 
 -- ---- it stops at 4,096 frames, and says nothing: a block with more is not accepted, whatever it holds
 stops-at-4096 : (s : Shape) (input out after : List Float) (n : ℕ) → mostFrames < s .frames → Processed s input out (record { refusal = 0; samples = n }) after → ⊥
@@ -38,6 +38,10 @@ custom-17-played : (x : Float) (frames stride n : ℕ) (input out after : List F
 custom-17-played x frames stride n input out after p =
     let e : _≡_ {A = ℕ} 0 2 = refusal-is (record { command = Stereo x; layout = Custom 17; frames = frames; stride = stride }) input out (record { refusal = 0; samples = n }) after p in
     omega arith
+
+-- ---- it counts the stride for the frames
+stride-counted : (s : Shape) (input out after : List Float) → (s .frames ≡ s .stride → ⊥) → Processed s input out (record { refusal = 0; samples = s .stride }) after → ⊥
+stride-counted s input out after other p = other (sym (all-counted s input out (record { refusal = 0; samples = s .stride }) after p refl))
 
 -- ---- two frames, 1 and 1, played to the left, over planes that hold 0
 abbrev one : Float

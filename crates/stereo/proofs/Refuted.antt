@@ -1,13 +1,14 @@
 -- Wrong ways to answer, each held against the promise at a position where it breaks it. Assumes nothing.
 use mathlib.Core.Path.{_≡_, refl, ap, _∙_}
-use mathlib.Core.Bool.{true}
+use mathlib.Core.Bool.{true, false}
 use Prim.Native.Nat.{ℕ, _^_}
 use native.Mathlib.Omega.{arith}
 use lib.Dec.{le→leb}
 use lib.IntN.{pos, negsuc}
-use lib.Ieee.{Float, inf, round, ofInt}
+use lib.Ieee.{Float, inf, fin, round, ofInt}
 use Rattle.formats.specs.Floats.{zero-float, one-float, float, literal}
-use Rattle.series.specs.Angles.{turned, isMultiple, quarters, defined}
+use Rattle.series.specs.Sums.{cosineSum, term, power, factorial}
+use Rattle.series.specs.Angles.{turned, around, reduced, radians, isMultiple, quarters, defined}
 use Rattle.stereo.specs.declared.StereoGains.{StereoGains}
 use Rattle.stereo.specs.Angle.{clamped, angle}
 use Rattle.stereo.specs.Promise.{refused, Pans}
@@ -30,3 +31,8 @@ silent p = le→leb _ _ (p .left refl .near)
 folded-back : (l : Float) → Pans (float (pos 250)) (accepted l (literal (pos 3826834323650898) (10 ^ 16))) → ⊥
 unfolding ofInt round clamped angle defined isMultiple quarters turned
 folded-back l p = le→leb _ _ (p .right refl .near)
+
+-- it keeps 35 binary places: at 50 the cosine of 67.5 degrees, cut there, is more than 2^-36 too small
+cut-to-35-places : (r : Float) → Pans (float (pos 50)) (accepted (fin false 13148902613 (negsuc 34)) r) → ⊥
+unfolding ofInt clamped angle defined isMultiple quarters turned reduced around radians cosineSum term power factorial
+cut-to-35-places r p = le→leb _ _ (p .left refl .near)

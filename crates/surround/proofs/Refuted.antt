@@ -1,11 +1,12 @@
 -- Wrong ways to answer, each held against the promise at an azimuth where it breaks it. Assumes nothing.
 use mathlib.Core.Path.{_≡_, refl, ap, _∙_}
+use mathlib.Core.Bool.{false}
 use mathlib.Core.List.{List, _∷_}
 use Prim.Native.Nat.{ℕ}
 use native.Mathlib.Omega.{arith}
 use lib.Dec.{le→leb, lit<}
-use lib.IntN.{pos}
-use lib.Ieee.{Float, lt, le, eq, neg, ofInt}
+use lib.IntN.{pos, negsuc}
+use lib.Ieee.{Float, fin, lt, le, eq, neg, ofInt}
 use Rattle.formats.specs.Floats.{one-float, float}
 use Rattle.series.specs.Sums.{cosineSum, term, power, factorial}
 use Rattle.series.specs.Angles.{turned, around, reduced, radians, isMultiple, quarters, defined}
@@ -39,3 +40,8 @@ centre-sounds l r g p = le→leb _ _ (p .gains refl .near 2 (lit< tt) .below)
 custom-played : (g : List Float) → Pans (Custom 17) (float (pos 0)) (record { refusal = 0; gains = g }) → ⊥
 unfolding refusal
 custom-played g p = let e : _≡_ {A = ℕ} 0 2 = ap refusal (p .is ∙ custom-17) in omega arith
+
+-- it is off by 2^-29, twice what document 01 allows: Ls sounds alone at 120 degrees, with a gain of 1
+off-by-twice : (l r c f : Float) (g : List Float) → Pans Surround51 (float (pos 120)) (record { refusal = 0; gains = l ∷ r ∷ c ∷ f ∷ fin false 536870911 (negsuc 28) ∷ g }) → ⊥
+unfolding refusesAngle isInside lt le eq neg ofInt rawAt rawGain distance defined isMultiple quarters turned reduced around radians cosineSum term power factorial
+off-by-twice l r c f g p = le→leb _ _ (p .gains refl .near 4 (lit< tt) .above)
