@@ -1,13 +1,12 @@
-// Ambisonic decoder (document 01, item 5, from ambisonic_decoder.rs): blocks of ambisonic frames played
-// through a matrix of weights, outputs x channels. Binaural rows are played here too, as a matrix of two
-// outputs.
+// Plays blocks of ambisonic frames through a matrix of weights, to the speakers of a layout or to the two
+// ears.
+//
+// Document 01, item 5, from ambisonic_decoder.rs. The matrix is outputs x channels, and is lent. Binaural
+// rows are played here too, as a matrix of two outputs.
 //
 // `process` takes any input. Its promise (specs/Promise.antt) is one equation for the refusal, the sample
 // count and the output planes: frame n of the outputs holds document 01's ordered sum of frame n of the
 // inputs, for each output, narrowed.
-//
-// Under it lie `planes` (the ordered sum, frames with a stride, the answer to a block), `checks` (the tests),
-// `lists` and `refusals`.
 ghost use mathlib.Core.Path.{_≡_};
 ghost use Prim.Native.Nat.{_≤_};
 ghost use Rattle.planes.specs.Planes.{withFrames};

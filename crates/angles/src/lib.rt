@@ -1,15 +1,16 @@
-// Sine and cosine of an angle in degrees (document 01, item 1 and 'Angles').
+// Computes the sine and the cosine of an angle in degrees, from which the gains of every position and
+// direction are made (document 01, item 1 and 'Angles').
 //
 // `sine` and `cosine` take any f64. One that is no number from -1080 to 1080 is refused with 3 and 0.0. At
-// every other the promise (specs/Promise.antt) fixes each bit of the value, and says beside it that the
-// value is within 2^-40 of the defined one (crate `series`), how large that is at most, and that at a
-// multiple of 90 it is exactly +0.0, 1.0 or -1.0. `is_inside` is the one test of an angle's range, which
-// `harmonics` refuses by too.
+// every other the promise (specs/Promise.antt) fixes each bit of the value, and says beside it that the value
+// is within 2^-40 of the defined one (crate `series`), how large that is at most, and that at a multiple of
+// 90 it is exactly +0.0, 1.0 or -1.0. `is_inside` is the one test of an angle's range, which `harmonics`
+// refuses by too.
 //
 // The program works in whole numbers: the angle in units of 2^-52 degree, all else in units of 2^-60, and
 // only the first and the last step, which are exact, in floats. No branch is made for the multiples of 90:
-// there the last rounding gives the exact values by itself. proofs/Near.antt shows 2^-50, by this budget
-// in units of 2^-60, of which 2^-50 is 1024:
+// there the last rounding gives the exact values by itself. proofs/Near.antt shows 2^-50, by this budget in
+// units of 2^-60, of which 2^-50 is 1024:
 //
 //   step                                                               sine   cosine
 //   x, the angle in radians, two cuts                                     2        2
@@ -22,9 +23,6 @@
 //   the angle cut to a unit: 2^-54, and 2^-53 for crossing 180          192      192
 //   the sum in place of the exact value, at a multiple of 90: 2^-54      64       64
 //   together                                                            631      597
-//
-// Under it lie `series` (what sine and cosine are), `fractions` (what "within" is said over), `formats`
-// (0.0 and whole numbers as floats), `lists` and `refusals`.
 ghost use mathlib.Core.Path.{_≡_};
 ghost use Prim.Native.Nat.{_-_, _*_, _^_, _<_, _≤_};
 ghost use lib.Dec.{T};

@@ -1,10 +1,11 @@
-// The filter bank file (document 01, item 8 and 'Filter bank file'): `read` fills lent lists from a file,
-// `write` fills a lent buffer with the file of a bank. Both take any input. Their promises: a file is
-// accepted exactly if it is the encoding of a bank that keeps the form, and what is filled in is that
-// bank; a bank is accepted exactly if it keeps the form, and what is filled in is its encoding; on a
-// refusal nothing lent changes. What is written reads as the same bank, and what is read is written as
-// the same bytes. Under it lie the form, the check of a file, the big-endian fields, the length test and the
-// copying of bytes, and in what is promised and proved `lists`, `formats` and `refusals`.
+// Reads and writes the filter bank file, which holds the filters of both ears for up to eight directions
+// (document 01, item 8 and 'Filter bank file').
+//
+// `read` fills lent lists from a file, `write` fills a lent buffer with the file of a bank. Both take any
+// input. Their promises: a file is accepted exactly if it is the encoding of a bank that keeps the form, and
+// what is filled in is that bank; a bank is accepted exactly if it keeps the form, and what is filled in is
+// its encoding; on a refusal nothing lent changes. What is written reads as the same bank, and what is read
+// is written as the same bytes.
 ghost use mathlib.Core.Path.{_≡_};
 ghost use mathlib.Core.Bool.{_&&_};
 ghost use lib.Dec.{eqb};

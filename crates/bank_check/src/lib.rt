@@ -1,8 +1,9 @@
-// The check of a filter bank file (document 01, 'Filter bank file'): field by field, in byte order, up to
-// the first that breaks the form, whose number and offset are the answer. It takes any bytes. Today each
-// number is refused as 9. Its promise: the answer is the first fault of the bytes, and there is none
-// exactly if the bytes are those of a bank that keeps the form. Under it lie the form, the big-endian
-// fields, the tests of a range, the widening of a tap and the finite test.
+// Finds the first fault of a filter bank file: what breaks the form, and at which byte (document 01, 'Filter
+// bank file').
+//
+// It goes field by field, in byte order, up to the first that breaks the form, whose number and offset are
+// the answer. It takes any bytes. Today `bank` refuses each number as 9. Its promise: the answer is the first
+// fault of the bytes, and there is none exactly if the bytes are those of a bank that keeps the form.
 use bank_form::Fault;
 ghost use mathlib.Core.Path.{_≡_};
 ghost use Prim.Native.Nat.{_+_, _-_, _*_, _≤_};

@@ -1,9 +1,11 @@
-// Numbers in a list of bytes, big-endian (document 01, 'Filter bank file' and item 10): `get` and `put`
-// read and write a field of up to eight bytes, and over them stand the readings that files use, a signed
-// number in two bytes, an f32 by its bits in four and an f64 in eight. Every function takes any input: a field
-// that does not lie inside the list reads as 0, and writing it changes nothing. That reading gives what
-// was written, and writing what was read the same bytes, is shown once over the width. `has_room` is the one test of
-// whether fields lie inside a list. Under it lie `lists` and, in proofs alone, `formats` and `refusals`.
+// Reads and writes numbers in a list of bytes, big-endian, as the bank, the line and the ears have them
+// (document 01, 'Filter bank file' and item 10).
+//
+// `get` and `put` read and write a field of up to eight bytes, and over them stand the readings that files
+// use, a signed number in two bytes, an f32 by its bits in four and an f64 in eight. Every function takes any
+// input: a field that does not lie inside the list reads as 0, and writing it changes nothing. That reading
+// gives what was written, and writing what was read the same bytes, is shown once over the width. `has_room`
+// is the one test of whether fields lie inside a list.
 ghost use mathlib.Core.Path.{_≡_};
 ghost use Prim.Native.Nat.{_+_, _*_, _<_};
 ghost use lib.Dec.{leb};

@@ -1,11 +1,12 @@
-// Layouts (document 01, item 2, from channel.rs): the five layouts, how many channels each has, and where their
-// speakers stand; and the ambisonic orders, with the channels of each. Every angle comes from one table: the
-// panner, the decoder, the virtual speakers and the choice of filters all read it here, in degrees as an
-// f64 or in whole tenths of a degree. One test of an order serves every crate that is given one.
+// Says which layouts and ambisonic orders there are, how many channels each has, and at which angle each
+// speaker stands (document 01, item 2, from channel.rs).
+//
+// There are five layouts and three orders. Every angle comes from one table: the panner, the decoder, the
+// virtual speakers and the choice of filters all read it here, in degrees as an f64 or in whole tenths of a
+// degree. One test of an order serves every crate that is given one.
 //
 // Every function takes any input, and its answer is a definition of it (specs/Layouts.antt and
-// specs/Orders.antt, which say document 01). Under it lie `refusals`, `lists` and `formats` (a whole number
-// as a float).
+// specs/Orders.antt, which say document 01).
 ghost use mathlib.Core.Path.{_≡_};
 ghost use lib.IntN.{pos};
 ghost use lib.ListN.{getD};

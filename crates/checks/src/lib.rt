@@ -1,10 +1,12 @@
-// The tests that every operation begins with (document 01, 'Refusal numbers' 5 and 7), beside those of a range, which are
-// in `refusals`: whether a length is a product, or planes fit, also where the product would not fit in 64 bits; and
-// whether a number, or one of a list, is NaN or infinite. And the smaller of two counts.
-// Every function takes any input and promises its answer by an equation.
+// Tests what an operation is lent before it plays: that lengths fit, and that numbers are finite (document
+// 01, 'Refusal numbers' 5 and 7).
 //
-// Its laws (proofs/Checks.antt) go through a chain of tests one by one, and through a loop that stops at the first
-// that holds. Under it lie `numbers` (widening), `lists` (one of a table) and `refusals`.
+// Whether a length is a product, or planes fit, also where the product would not fit in 64 bits; and whether
+// a number, or one of a list, is NaN or infinite. And the smaller of two counts. The tests of a range are in
+// `refusals`. Every function takes any input and promises its answer by an equation.
+//
+// Its laws (proofs/Checks.antt) go through a chain of tests one by one, and through a loop that stops at the
+// first that holds.
 ghost use mathlib.Core.Path.{_≡_};
 ghost use Prim.Native.Nat.{_*_, min};
 ghost use lib.Dec.{eqb};

@@ -1,15 +1,13 @@
-// Decoder matrix (document 01, item 5 and 'Gains', from ambisonic_decoder.rs): the harmonics at each speaker
-// of a layout times 1/root(n), a row a speaker, put into a lent list. The block that plays through it is
-// `ambisonic_decoder::process`.
+// Makes the matrix by which ambisonic channels are played to the speakers of a layout (document 01, item 5
+// and 'Gains', from ambisonic_decoder.rs).
 //
-// `compute_decoder_matrix` takes any input. Its promise (specs/Promise.antt) is one equation for the
-// refusal and the list, and beside it says of each weight that it is within 2^-33 of document 01's
-// formula, by squares. It comes from a harmonic within 2^-42, one root, one division and one product, 2^-53
-// each; with 2^-38 for 2^-33 the same proof passes.
+// It holds the harmonics at each speaker times 1/root(n), a row a speaker, put into a lent list. The block
+// that plays through it is `ambisonic_decoder::process`.
 //
-// Under it lie `harmonics`, `channel` (orders, and the table of angles), `planes` (the inverse of a root), `rows`,
-// `checks`, `lists`, `formats` and `refusals`, and for the words of its promise and its laws `fractions`,
-// `angles` and `numbers`.
+// `compute_decoder_matrix` takes any input. Its promise (specs/Promise.antt) is one equation for the refusal
+// and the list, and beside it says of each weight that it is within 2^-33 of document 01's formula, by
+// squares. It comes from a harmonic within 2^-42, one root, one division and one product, 2^-53 each; with
+// 2^-38 for 2^-33 the same proof passes.
 use channel::Layout;
 use harmonics::Direction;
 ghost use mathlib.Core.Path.{_≡_};

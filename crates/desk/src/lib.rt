@@ -1,8 +1,11 @@
-// The desk's record (document 01, 'Sums': "The desk's ring position and frames-to-go are one small record,
-// changed where it stands after each frame; a form by value comes first"). The position is the cell of
-// every ring that the next frame goes into; damage leaves L-1 frames to go. `stepped` is the form by value, and
-// `step` changes a lent record where it stands: the convolver's block lends it its own after each frame. They
-// take any record, and promise the record one frame on by an equation. Under it lies `refusals`, for a law.
+// Keeps the two numbers that the convolver remembers beside its rings: the cell that the next frame goes
+// into, and how many more frames count as unsettled.
+//
+// Document 01, 'Sums': "The desk's ring position and frames-to-go are one small record, changed where it
+// stands after each frame; a form by value comes first". The position is the same in every ring; damage
+// leaves L-1 frames to go. `stepped` is the form by value, and `step` changes a lent record where it stands:
+// the convolver's block lends it its own after each frame. They take any record, and promise the record one
+// frame on by an equation.
 ghost use mathlib.Core.Path.{_≡_};
 ghost use Prim.Native.Nat.{_<_};
 ghost use Rattle.desk.specs.Numbers.{toGoNext, steppedOf};

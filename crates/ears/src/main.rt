@@ -1,7 +1,9 @@
-// The program (document 01, item 10): `bank.bin`, 5.1 frames on standard input, `ears.raw`, and one line. With
-// three arguments it takes the names of the bank, of the line and of the output instead. It promises nothing of its own
-// beyond being safe and ending. Under it lie `ears_file`, which does the work, and the kit's `os` (arguments and files),
-// `io` and `libc`.
+// The program: plays a 5.1 line through a filter bank to two ears, and prints one line (document 01, item
+// 10).
+//
+// It reads `bank.bin` and 5.1 frames on standard input, and writes `ears.raw`. With three arguments it takes
+// the names of the bank, of the line and of the output instead. `ears_file` does the work. The program
+// promises nothing of its own beyond being safe and ending.
 use ears_file::Outcome;
 use libc::STDERR_FILENO;
 use libc::STDIN_FILENO;

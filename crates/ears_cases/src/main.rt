@@ -1,7 +1,9 @@
-// Plays every case of document 01's item 10 by file names, and prints what was told and what the output holds
-// then. The banks and the lines are in data/, written by tests/ears-cases from a model of its own; what is
-// printed is compared with the file `stdout`. The program promises nothing of its own beyond being safe and ending.
-// Under it lie `ears_file`, which plays, and the kit's `os` (files), `io` (printing) and `libc`.
+// Tests the program `ears` in the gate: plays every case of document 01's item 10, and prints what was told
+// and what the output holds then.
+//
+// The cases are played by file names. The banks and the lines are in data/, written by tests/ears-cases from
+// a model of its own; what is printed is compared with the file `stdout`. `ears_file` plays. The program
+// promises nothing of its own beyond being safe and ending.
 use libc::STDOUT_FILENO;
 
 // No run of the tests reads more at once.

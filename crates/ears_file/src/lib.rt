@@ -1,11 +1,13 @@
-// The run of the program by file names (document 01, item 10): a bank, a line of 5.1 frames, and the file that
-// the ears go to. `run` plays, and `told` gives the line that a program prints; a failure of the system is told on
-// standard error, and then there is no line.
+// Does the work of the program `ears` by file names: plays a line of 5.1 frames through a bank into the file
+// of the ears (document 01, item 10).
+//
+// `run` plays, and `told` gives the line that a program prints; a failure of the system is told on standard
+// error, and then there is no line.
 //
 // The bank is judged first. The output is emptied in every case. The input may be of any length and come in
-// parts of any size: a buffer of fixed size holds what has come of a frame that is not whole yet. No contract can
-// name what is read or written. `run` promises that its answer is the one that item 10 gives for some bank and
-// some line, whatever the system hands over; a bank that keeps the form is refused nowhere.
+// parts of any size: a buffer of fixed size holds what has come of a frame that is not whole yet. No contract
+// can name what is read or written. `run` promises that its answer is the one that item 10 gives for some
+// bank and some line, whatever the system hands over; a bank that keeps the form is refused nowhere.
 use bank::BankRead;
 use channel::Layout;
 use hrtf_checks::Shape;

@@ -1,7 +1,9 @@
-// The files of the programs: a bank is read whole, by its name; a line is read part by part; the ears' file is opened.
+// Reads and opens the files of the programs: a bank is read whole, by its name; a line is read part by part;
+// the ears' file is opened.
 //
-// What the system hands over no contract can name. So a read promises where its bytes stand and that those before
-// them stay, and a bank that what is answered is what `bank::read` promises for the bytes of some file.
+// What the system hands over no contract can name. So a read promises where its bytes stand and that those
+// before them stay, and a bank that what is answered is what `bank::read` promises for the bytes of some
+// file.
 use bank::BankRead;
 use libc::STDERR_FILENO;
 ghost use mathlib.Core.Path.{_≡_};

@@ -1,4 +1,6 @@
-// The values of binary32 and binary64 as whole numbers of the format's smallest value, and their bit
-// patterns: one theory over the width, for the conversions, the root and the rounding laws alike
-// (proofs/); and the numbers that the code writes, 0.0 and whole and decimal ones (specs/). No function
-// stands here. Under it lie `lists` (what is chosen by a test) and the kit's account of IEEE 754.
+// Says for every proof about floats what the values and the bit patterns of binary32 and binary64 are.
+//
+// The values are whole numbers of the format's smallest value: one theory over the width, for the
+// conversions, the root and the rounding laws alike (proofs/). And the numbers that the code writes, 0.0 and
+// whole and decimal ones, have their definitions here (specs/). No function stands here. IEEE 754 itself is
+// the kit's (`lib.Ieee`).

@@ -1,6 +1,7 @@
-// Harmonics (document 01, item 3 and 'Gains', from compute_sh_coefficients of 001 and 003 and
-// calculate_ambisonic_gains of 000, said once): the sixteen coefficients of a direction, ACN order, SN3D,
-// for orders 1 to 3.
+// Turns a direction into its ambisonic coefficients, sixteen at most, in ACN order and SN3D, for orders 1 to
+// 3 (document 01, item 3 and 'Gains').
+//
+// It ports compute_sh_coefficients of 001 and 003 and calculate_ambisonic_gains of 000, said once.
 //
 // `compute_sh_coefficients` takes any order and any direction. An order that is not 1, 2 or 3 is refused with
 // 1, a direction that is NaN, infinite or outside -180..180 and -90..90 with 3, and sixteen times 0.0. Else
@@ -20,10 +21,6 @@
 //   channels 4, 5, 7, 8                                        58
 //   channels 9, 15                                            105
 //   channels 10, 14                                           131
-//
-// Under it lie `angles` (the program's sine and cosine), `series` (the defined ones), `fractions` (what
-// "within" is said over, and the calculus that the budget is computed by), `channel` (which orders there
-// are), `formats` (numbers as the code writes them), `lists` and `refusals`.
 ghost use mathlib.Core.Path.{_≡_};
 ghost use Rattle.harmonics.specs.Computed as Steps;
 ghost use Rattle.harmonics.specs.Promise as Said;

@@ -1,15 +1,15 @@
-// The convolver (document 01, item 9 and 'Sums', from hrtf.rs). `process` plays a block of frames: per frame
-// and speaker a signal goes into that speaker's ring, and each ear hears the rings through the filters
-// of the lent bank. `reset` makes every ring 0.0 and both numbers of the desk 0.
+// The convolver: plays blocks of frames to two ears through the filters of a bank (document 01, item 9 and
+// 'Sums', from hrtf.rs).
+//
+// `process` plays a block: per frame and speaker a signal goes into that speaker's ring, and each ear hears
+// the rings through the filters of the lent bank. `reset` makes every ring 0.0 and both numbers of the desk
+// 0.
 //
 // Both take any input. The promise of `process` (specs/Promise.antt) is one equation for the answer, the
-// rings and the ears, whatever the rings hold: the ears are document 01's sums over the block's signals, newest
-// first, followed by those that were held; the rings left hold the newest L of these. What stands for a past
-// before the block stands for that past with the block's frames after it; what `reset` leaves stands for none.
-// Demand 3, over runs of many calls, is stated and shown in `runs`.
-//
-// Under it lie `hrtf_checks` (the refusals), `rings` (the convolution, and what rings hold), `history` (the
-// sums), `desk`, `planes`, `checks`, `numbers` (narrowing), `lists`, `formats` and `refusals`.
+// rings and the ears, whatever the rings hold: the ears are document 01's sums over the block's signals,
+// newest first, followed by those that were held; the rings left hold the newest L of these. What stands for
+// a past before the block stands for that past with the block's frames after it; what `reset` leaves stands
+// for none. Demand 3, over runs of many calls, is stated and shown in `runs`.
 use desk::Desk;
 use hrtf_checks::Shape;
 ghost use mathlib.Core.Path.{_≡_};

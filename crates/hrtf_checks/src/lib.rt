@@ -1,8 +1,9 @@
-// What the convolver refuses (document 01, 'Refusal numbers', those whose argument `hrtf::process` has): 2, 4,
-// 5, 7 and 8. Each test is a function of its own, in document 01's words; `refusal` gives the number of
-// the first that holds, and 0 where none does. It takes any input, and promises the number by an
-// equation. Under it lie `refusals` (counts that are outside), `checks` (products of lengths, finite numbers),
-// `lists`, `planes`, `history`, `rings` and `desk`.
+// Decides whether a call of the convolver is refused, and with which number: 2, 4, 5, 7 or 8 (document 01,
+// 'Refusal numbers').
+//
+// These are the numbers whose argument `hrtf::process` has. Each test is a function of its own, in document
+// 01's words; `refusal` gives the number of the first that holds, and 0 where none does. It takes any input,
+// and promises the number by an equation.
 use desk::Desk;
 ghost use mathlib.Core.Path.{_≡_};
 ghost use Prim.Native.Nat.{_≤_};

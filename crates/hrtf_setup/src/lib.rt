@@ -1,14 +1,14 @@
-// Setting up the convolver (document 01, items 7 and 9, from hrtf.rs): `new_surround` and `new_ambisonic` put the
-// weights of the speakers into a lent list, and the bank row of each speaker, the nearest to its angle, into
-// a list of eight. A surround weight is 1.0 at its own channel and 0.0 elsewhere; the LFE takes the row for
-// 0 degrees. The weights of the eight virtual speakers are the weighted coefficients of their positions.
+// Sets up the convolver for a surround layout or an ambisonic order: the weights of its speakers, and the
+// bank row of each (document 01, items 7 and 9, from hrtf.rs).
 //
-// Both take any input. Their promises (specs/Promise.antt) are one equation for the answer and both lists, and
-// beside it: each speaker's row is the one that document 01 names, each weight is its speaker's for its
+// `new_surround` and `new_ambisonic` put the weights into a lent list, and the bank row of each speaker, the
+// nearest to its angle, into a list of eight. A surround weight is 1.0 at its own channel and 0.0 elsewhere;
+// the LFE takes the row for 0 degrees. The weights of the eight virtual speakers are the weighted
+// coefficients of their positions.
+//
+// Both take any input. Their promises (specs/Promise.antt) are one equation for the answer and both lists,
+// and beside it: each speaker's row is the one that document 01 names, each weight is its speaker's for its
 // channel, and a weighted coefficient is within 2^-34 of its formula.
-//
-// Under it lie `channel` (where speakers stand, and orders), `virtual_speaker`, `row_choice`, `checks`, `lists`,
-// `formats` and `refusals`, and for the words of its promises and laws `fractions` and `harmonics`.
 use channel::Layout;
 ghost use mathlib.Core.Path.{_≡_};
 ghost use Prim.Native.Nat.{_*_, _/_, _%_, _≤_, _<_};

@@ -1,5 +1,7 @@
-// What a list holds, said by a rule for each place: a table, a row of rows, a part that stands from a place
-// on, what is so of each element, and of two lists place by place. Definitions (specs/) in which every crate
-// above says its sums, planes, rows and fields, and their laws (proofs/): a table is known by its places, parts
+// Gives every crate the words in which it says what a list holds, and the laws of these words.
+//
+// What a list holds is said by a rule for each place: a table, a row of rows, a part that stands from a place
+// on, what is so of each element, and of two lists place by place. In these definitions (specs/) every crate
+// above says its sums, planes, rows and fields. The laws (proofs/): a table is known by its places, parts
 // that are put in one after the other are one part, what a loop that fills a list or goes through a table has
-// done so far, and what is chosen by a test. No function stands here. Under it lies nothing but the kit.
+// done so far, and what is chosen by a test. No function stands here.

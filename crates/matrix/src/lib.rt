@@ -1,11 +1,11 @@
-// Binaural rows (document 01, item 6 and 'Gains', from matrix.rs): the literals of 002 for orders 1 to 3, both
-// ears' rows as they stand, times 1.0/root(2.0). `compute_matrix` puts them into a lent list, the left
-// ear's row and then the right ear's, bit for bit. They are applied as a decoder matrix of two rows, by the
-// decoder's own `process`: no sum stands here.
+// Gives the binaural rows: the weights by which ambisonic channels are heard at the left and at the right ear
+// without filters (document 01, item 6 and 'Gains', from matrix.rs).
 //
-// It takes any input; its promise (specs/Promise.antt) is one equation for the refusal and the list. Under
-// it lie `channel` (which orders there are), `planes` (the inverse of a root), `rows`, `checks`, `numbers`,
-// `formats`, `lists` and `refusals`.
+// They are the literals of 002 for orders 1 to 3, both ears' rows as they stand, times 1.0/root(2.0).
+// `compute_matrix` puts them into a lent list, the left ear's row and then the right ear's, bit for bit. They
+// are applied as a decoder matrix of two rows, by the decoder's own `process`: no sum stands here.
+//
+// It takes any input; its promise (specs/Promise.antt) is one equation for the refusal and the list.
 ghost use mathlib.Core.Path.{_≡_};
 ghost use Rattle.matrix.specs.Promise.{Computes};
 ghost use Rattle.matrix.specs.Steps.{put};

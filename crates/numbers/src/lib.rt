@@ -1,10 +1,9 @@
-// Conversions and roots (document 01, item 1 and 'Conversions and roots').
+// Converts f32 to f64 and f64 to f32, and takes square roots (document 01, item 1 and 'Conversions and
+// roots').
 //
 // `widen` takes an f32 to the same f64. `narrow` takes an f64 to the nearest f32, a tie to the even one.
-// `root` takes an f64 to the f64 nearest its exact root, or refuses it with 10. Each promises its answer
-// by an equation and, beside it, what document 01 says of it: see specs/Promises.antt.
-//
-// Under it lie `formats` (bit patterns), `fractions` (what "nearest" is said over), `lists` and `refusals`.
+// `root` takes an f64 to the f64 nearest its exact root, or refuses it with 10. Each promises its answer by
+// an equation and, beside it, what document 01 says of it: see specs/Promises.antt.
 ghost use mathlib.Core.Path.{_≡_};
 ghost use mathlib.Core.Bool.{Bool, cond, not};
 ghost use Prim.Native.Nat.{_+_, _*_, _^_, _<_, _≤_};

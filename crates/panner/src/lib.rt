@@ -1,15 +1,14 @@
-// The panner (document 01, item 4, from panner.rs) at a fixed command: a stereo position, a surround azimuth,
-// or a direction with an order. `process` plays one input plane to the planes of the command: two for stereo,
-// the layout's channels for surround, those of the order for a direction. Every output is the f32 product of
-// the sample and the narrowed gain.
+// Places a voice: plays one input plane to several output planes, each with the gain that a command asks for
+// (document 01, item 4, from panner.rs).
+//
+// A command is fixed for a block: a stereo position, a surround azimuth, or a direction with an order.
+// `process` plays to the planes of the command: two for stereo, the layout's channels for surround, those of
+// the order for a direction. Every output is the f32 product of the sample and the narrowed gain.
 //
 // It takes any input; its promise (specs/Promise.antt) is one equation for the refusal, the sample count and
 // the output planes, and says beside it that the gains played are those that `stereo`, `surround` and
 // `harmonics` promise. A block of up to 4,096 frames is played to its last frame; a longer one is refused,
 // where panner.rs stops at 4,096 and leaves the old tail.
-//
-// Under it lie these three, `planes` (samples with a stride, the answer to a block), `checks` (the tests of
-// lengths), `numbers` (narrowing), `channel` (layouts and orders), `lists` (tables), `formats` and `refusals`.
 ghost use mathlib.Core.Path.{_≡_};
 ghost use Prim.Native.Nat.{_≤_};
 ghost use Rattle.planes.specs.Planes.{withFrame, withFrames};

@@ -1,11 +1,11 @@
-// What the operations on lent blocks share (document 01, 'What must change shape' and 'Sums'): planes
-// with a stride in one list, read and written a sample or a frame at a time; the ordered sum of a
+// Reads, writes and sums the samples of lent blocks, for the panner, the decoder and the convolver (document
+// 01, 'What must change shape' and 'Sums').
+//
+// Planes with a stride in one list, read and written a sample or a frame at a time; the ordered sum of a
 // frame's samples times weights, narrowed; the inverse of a root; and the words for what a refused and an
 // accepted block give back. Panner, decoder and convolver are made of these, and the decoder matrix and the
-// binaural rows take their factor from here. Every public function takes any input and promises its
-// answer by an equation: what lies outside a list reads as NaN, and writing there changes nothing. Under it
-// lie `checks` (the finite test), `lists` (tables, and loops that go through them), `numbers` (widening,
-// narrowing and the root), `formats` and `refusals`.
+// binaural rows take their factor from here. Every public function takes any input and promises its answer by
+// an equation: what lies outside a list reads as NaN, and writing there changes nothing.
 ghost use mathlib.Core.Path.{_≡_};
 ghost use Prim.Native.Nat.{_+_, _*_, _≤_, min};
 ghost use lib.ListN.{length, getD};

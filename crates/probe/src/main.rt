@@ -1,11 +1,12 @@
-// Answers requests on standard input, one after the other, until the input ends: for comparing with
-// other implementations, and for replaying recorded requests in the gate. docs/PROBE.md has the form of
-// requests and answers byte by byte. A request that breaks it is answered as such.
+// The test program: answers requests on standard input, so that every operation can be compared with other
+// implementations and replayed in the gate.
 //
-// What it puts into an answer is promised by an equation (specs/Answers.antt): the answer of the crate `probe_..` that
-// has the operation, which promises every byte. Of what is read and written no contract can say anything, so the rest is
-// proved safe and ending, and what it prints is compared. Under it lie the six crates that answer, `probe_answer` and
-// `big_endian` (how answers are put together), `refusals` (the ranges of operations), `io` and `libc`.
+// It answers one request after the other, until the input ends. docs/PROBE.md has the form of requests and
+// answers byte by byte. A request that breaks it is answered as such.
+//
+// What it puts into an answer is promised by an equation (specs/Answers.antt): the answer of the crate
+// `probe_..` that has the operation, which promises every byte. Of what is read and written no contract can
+// say anything, so the rest is proved safe and ending, and what it prints is compared.
 use libc::STDIN_FILENO;
 use libc::STDOUT_FILENO;
 ghost use mathlib.Core.Path.{_≡_};

@@ -1,8 +1,8 @@
-// How an answer of the program `probe` is put together (docs/PROBE.md): one part behind the other.
+// Puts together an answer of the test program `probe`, one part behind the other (docs/PROBE.md).
 //
-// Test code, and promised by equations all the same: an answer grows by the bytes of each part. A part that has no room
-// is left out, and the place behind it is behind every list, so that nothing that follows it is put either. Every
-// function takes any input. Under it lies `big_endian`.
+// Test code, and promised by equations all the same: an answer grows by the bytes of each part. A part that
+// has no room is left out, and the place behind it is behind every list, so that nothing that follows it is
+// put either. Every function takes any input.
 ghost use mathlib.Core.Path.{_≡_};
 ghost use Rattle.big_endian.specs.Lists.{signedBytes, floatBytes, doubleBytes, numberBytes};
 ghost use Rattle.probe_answer.specs.Answers.{draft, _then_, thenField, refusalAndDoubles};

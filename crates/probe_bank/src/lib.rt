@@ -1,7 +1,9 @@
-// What `probe` answers to requests for the filter bank file and for row choice (docs/PROBE.md, operations 6 to 8). Test
-// code, and promised by equations all the same: how many bytes are answered, and that they are the refusal, the counts
-// and the lists that `bank` and `row_choice` promise for what stands in the request, one behind the other. Under it lie
-// these two, `probe_request`, `probe_answer` and `big_endian`, and `checks` in proofs alone.
+// Answers the requests of the test program `probe` for the filter bank file and for row choice
+// (docs/PROBE.md, operations 6 to 8).
+//
+// Test code, and promised by equations all the same: how many bytes are answered, and that they are the
+// refusal, the counts and the lists that `bank` and `row_choice` promise for what stands in the request, one
+// behind the other.
 use bank::BankRead;
 use probe_request::MOST_AZIMUTHS;
 use probe_request::MOST_SAMPLES;

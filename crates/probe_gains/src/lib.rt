@@ -1,10 +1,11 @@
-// What `probe` answers to requests for gains and matrices (docs/PROBE.md, operations 9 to 13 and 15).
+// Answers the requests of the test program `probe` for gains and matrices (docs/PROBE.md, operations 9 to 13
+// and 15).
 //
-// Test code, and promised by an equation all the same (specs/Answers.antt): how many bytes the answer has, and what the
-// lent bytes hold afterwards, is what PROBE.md says, over the outcomes that `matrix`, `harmonics`, `virtual_speaker`,
-// `stereo`, `surround` and `decoder_matrix` promise. No bytes, and the lent ones as they were, where the operation is
-// another one or the arguments have another length than it takes. Every public function takes any input. Under it lie these,
-// `big_endian`, `channel`, `probe_request` and `probe_answer`.
+// Test code, and promised by an equation all the same (specs/Answers.antt): how many bytes the answer has,
+// and what the lent bytes hold afterwards, is what PROBE.md says, over the outcomes that `matrix`,
+// `harmonics`, `virtual_speaker`, `stereo`, `surround` and `decoder_matrix` promise. No bytes, and the lent
+// ones as they were, where the operation is another one or the arguments have another length than it takes.
+// Every public function takes any input.
 use harmonics::Direction;
 use probe_request::MOST_WEIGHTS;
 ghost use mathlib.Core.Path.{_≡_};

@@ -1,10 +1,9 @@
-// What `probe` answers to requests for the convolver (docs/PROBE.md, operations 17 and 18).
+// Answers the requests of the test program `probe` for the convolver (docs/PROBE.md, operations 17 and 18).
 //
-// Test code, and promised by equations all the same (specs/Answers.antt): how many bytes the answer has and what they
-// are is what `hrtf` promises for the desk, the counts and the lists that stand in the arguments, one part behind the
-// other. There are 0 bytes, and the lent ones are as they were, for any other operation and for arguments that have
-// another length than the operation takes. `answer` takes any input. Under it lie `hrtf` with its `hrtf_checks`,
-// `rings` and `desk`, `probe_request` and `probe_answer`, `big_endian` and, in proofs alone, `refusals`.
+// Test code, and promised by equations all the same (specs/Answers.antt): how many bytes the answer has and
+// what they are is what `hrtf` promises for the desk, the counts and the lists that stand in the arguments,
+// one part behind the other. There are 0 bytes, and the lent ones are as they were, for any other operation
+// and for arguments that have another length than the operation takes. `answer` takes any input.
 use desk::Desk;
 use hrtf::Processed;
 use hrtf_checks::Shape;

@@ -1,10 +1,10 @@
-// What `probe` answers to requests for conversions, roots, sines and cosines (docs/PROBE.md, operations 1 to 5).
+// Answers the requests of the test program `probe` for conversions, roots, sines and cosines (docs/PROBE.md,
+// operations 1 to 5).
 //
-// Test code, and promised by an equation all the same (specs/Answers.antt): how many bytes the answer has, and what the
-// lent bytes hold afterwards, is what PROBE.md says, over what `numbers` and `angles` promise. No bytes, and the
-// lent ones as they were, where the operation is another one or the arguments have another length than it takes. Every
-// function takes any input. Under it lie `numbers`, `angles`, with `series` in what is promised, `big_endian`,
-// `probe_answer` and, in proofs alone, `refusals`.
+// Test code, and promised by an equation all the same (specs/Answers.antt): how many bytes the answer has,
+// and what the lent bytes hold afterwards, is what PROBE.md says, over what `numbers` and `angles` promise.
+// No bytes, and the lent ones as they were, where the operation is another one or the arguments have another
+// length than it takes. Every function takes any input.
 use angles::Answer;
 ghost use mathlib.Core.Path.{_≡_};
 ghost use Rattle.angles.specs.Promise.{outcome};

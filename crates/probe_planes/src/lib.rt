@@ -1,10 +1,10 @@
-// What `probe` answers to requests for blocks, planes of frames in and planes of frames out (docs/PROBE.md, operations
-// 14 and 16).
+// Answers the requests of the test program `probe` for blocks of the panner and of the decoder
+// (docs/PROBE.md, operations 14 and 16).
 //
-// Test code, and promised by equations all the same: `answer` puts what PROBE.md says, in its order, of the block that
-// `panner` or `ambisonic_decoder` promises for what stands in the request; and nothing where the arguments have not the
-// length that the operation takes, or where there is no such operation here. It takes any input. Under it lie these two,
-// `probe_request`, `probe_answer`, `big_endian`, `channel` and `harmonics`.
+// A block is planes of frames in and planes of frames out. Test code, and promised by equations all the same:
+// `answer` puts what PROBE.md says, in its order, of the block that `panner` or `ambisonic_decoder` promises
+// for what stands in the request; and nothing where the arguments have not the length that the operation
+// takes, or where there is no such operation here. It takes any input.
 use harmonics::Direction;
 use panner::Command;
 use probe_request::MOST_SAMPLES;

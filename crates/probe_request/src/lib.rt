@@ -1,9 +1,9 @@
-// What the arguments of a request to the program `probe` give (docs/PROBE.md): numbers, layouts and lists from a place
-// on, and how much room there is for the lists that a request lends.
+// Reads the arguments of a request to the test program `probe`: numbers, layouts and lists from a place on
+// (docs/PROBE.md).
 //
-// Test code, and promised by equations all the same: a number that does not lie inside the arguments is 0, and a list
-// that does not is left as it was. Every function takes any input. Under it lie `big_endian`, `channel` and `checks`
-// (the smaller of two counts).
+// It also says how much room there is for the lists that a request lends. Test code, and promised by
+// equations all the same: a number that does not lie inside the arguments is 0, and a list that does not is
+// left as it was. Every function takes any input.
 use channel::Layout;
 ghost use mathlib.Core.Path.{_≡_};
 ghost use Rattle.big_endian.specs.Fields.{fieldAt, signedAt, floatAt, doubleAt};

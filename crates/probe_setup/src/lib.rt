@@ -1,9 +1,9 @@
-// What `probe` answers to requests for setting up the convolver (docs/PROBE.md, operations 19 and 20).
+// Answers the requests of the test program `probe` for setting up the convolver (docs/PROBE.md, operations 19
+// and 20).
 //
-// Test code, and promised by equations all the same: `answer` puts what PROBE.md says, in its order, of the arrangement
-// that `hrtf_setup` promises for what stands in the request; and nothing where the arguments have not the length that the
-// operation takes, or where there is no such operation here. It takes any input. Under it lie `hrtf_setup`,
-// `probe_request`, `probe_answer`, `big_endian` and `channel`.
+// Test code, and promised by equations all the same: `answer` puts what PROBE.md says, in its order, of the
+// arrangement that `hrtf_setup` promises for what stands in the request; and nothing where the arguments have
+// not the length that the operation takes, or where there is no such operation here. It takes any input.
 use hrtf_setup::Arranged;
 use probe_request::MOST_AZIMUTHS;
 use probe_request::MOST_WEIGHTS;

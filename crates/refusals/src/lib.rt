@@ -1,7 +1,9 @@
-// Refusal numbers (document 01, 'Refusal numbers'): which number an operation gives, as a definition
-// that every promise cites, and the laws by which a proof goes through the tests. Each operation makes its
-// own tests, in the order that its list names; the tests of a range, which nearly all of them make, stand
-// here, take any numbers and promise their answer by an equation. Under it lies nothing.
+// Says which refusal number an operation gives, and tests whether a number lies in a range (document 01,
+// 'Refusal numbers').
+//
+// Which number is given is a definition that every promise cites, with the laws by which a proof goes through
+// the tests. Each operation makes its own tests, in the order that its list names; the tests of a range,
+// which nearly all of them make, stand here, take any numbers and promise their answer by an equation.
 ghost use mathlib.Core.Path.{_≡_};
 ghost use Rattle.refusals.specs.Ranges.{within, between};
 ghost use Rattle.refusals.specs.Refusals.{outside};

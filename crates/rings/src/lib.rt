@@ -1,12 +1,14 @@
-// The rings (document 01, item 9, from hrtf.rs): speaker by speaker, L cells each, in one lent list. A frame's
-// signals go into the cell at the desk's position, one in each ring, by `planes::mix_frame`: rings are planes
-// whose stride is L. `convolve` is an ear's part of a speaker: its ring from the newest signal to the
-// oldest, times the taps. It takes any lists, and promises the ordered sum by an equation.
+// Keeps the last L signals of each speaker, and sums them times the taps of a filter (document 01, item 9,
+// from hrtf.rs).
+//
+// The rings stand speaker by speaker, L cells each, in one lent list. A frame's signals go into the cell at
+// the desk's position, one in each ring, by `planes::mix_frame`: rings are planes whose stride is L.
+// `convolve` is an ear's part of a speaker: its ring from the newest signal to the oldest, times the taps. It
+// takes any lists, and promises the ordered sum by an equation.
 //
 // Whatever stands in the rings is the signals of the last L frames (specs/Held.antt). The laws (proofs/) say,
-// of every state: what frames give is document 01's sums over their signals and those that were held, and what
-// they leave holds the newest L of these. Under it lie `history`, `desk`, `planes`, `checks`, `numbers`,
-// `lists`, `formats` and `refusals`.
+// of every state: what frames give is document 01's sums over their signals and those that were held, and
+// what they leave holds the newest L of these.
 ghost use mathlib.Core.Path.{_≡_};
 ghost use Prim.Native.Nat.{suc};
 ghost use Rattle.formats.specs.Floats.{zero-float};

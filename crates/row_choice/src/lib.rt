@@ -1,8 +1,9 @@
-// Row choice (document 01, 'Filter bank file', its second paragraph): which row of a filter bank a
-// speaker takes. It takes any input. Its promise: the row is among the first rows, none of them is
-// nearer to the speaker, and each that comes before it is farther; where there is no such row to be
-// had, the number of the refusal and row 0. Under it lie `big_endian` (signed numbers and their bits)
-// and `refusals`.
+// Chooses the row of a filter bank that a speaker takes: the nearest to its azimuth (document 01, 'Filter
+// bank file', its second paragraph).
+//
+// It takes any input. Its promise: the row is among the first rows, none of them is nearer to the speaker,
+// and each that comes before it is farther; where there is no such row to be had, the number of the refusal
+// and row 0.
 ghost use mathlib.Core.Path.{_≡_};
 ghost use Prim.Native.Nat.{_-_, _<_, _≤_, _%_, min};
 ghost use lib.ListN.{length};

@@ -1,9 +1,11 @@
-// Rows of weights: `put_row` puts each number of a row, times one factor, at the row's place in a lent
-// list of weights. The decoder matrix and the binaural rows are made of such rows (document 01, 'Gains':
-// "harmonics at the speaker times 1/root(n)", "the literals of 002 .. times 1.0/root(2.0)").
+// Puts a row of weights, each times one factor, into a lent matrix; the decoder matrix and the binaural rows
+// are made of such rows.
 //
-// It takes any input and promises the list by an equation (specs/Rows.antt): what falls behind the end
-// of the list is left out. Under it lies `refusals`.
+// Document 01, 'Gains': "harmonics at the speaker times 1/root(n)", "the literals of 002 .. times
+// 1.0/root(2.0)". `put_row` puts the row at its place in the lent list of weights.
+//
+// It takes any input and promises the list by an equation (specs/Rows.antt): what falls behind the end of the
+// list is left out.
 ghost use mathlib.Core.Path.{_≡_};
 ghost use lib.Seq.{sets};
 ghost use Rattle.rows.specs.Rows.{scaled};

@@ -1,16 +1,15 @@
-// The stereo gains (document 01, item 4 and 'Gains', from panner.rs): a position from -100, left, to 100,
-// right, is clamped to these ends; the left gain is the cosine and the right gain the sine of 90 degrees
-// times (p + 100) / 200.
+// Turns a stereo position into the gains of the left and the right channel (document 01, item 4 and 'Gains',
+// from panner.rs).
 //
-// It takes any input; its promise (specs/Promise.antt) fixes the answer bit for bit and says that both
-// gains are within 2^-36 of document 01's formula at the exact angle. What is lost on the way:
+// A position from -100, left, to 100, right, is clamped to these ends; the left gain is the cosine and the
+// right gain the sine of 90 degrees times (p + 100) / 200.
+//
+// It takes any input; its promise (specs/Promise.antt) fixes the answer bit for bit and says that both gains
+// are within 2^-36 of document 01's formula at the exact angle. What is lost on the way:
 //
 //   (p + 100) / 200 * 90, three operations rounded    2^-44.9 degrees
 //   the sine or cosine a degree's part off            a quarter of that, and 2^-52
 //   the program's sine or cosine                      2^-50
-//
-// Under it lie `angles` (the program's sine and cosine), `series` (the defined ones), `checks` (the finite test),
-// `fractions`, `formats`, `lists` and `refusals`.
 ghost use mathlib.Core.Path.{_≡_};
 ghost use Rattle.stereo.specs.Computed.{clampedTo};
 ghost use Rattle.stereo.specs.Promise.{Pans};

@@ -1,21 +1,19 @@
-// The surround gains (document 01, item 4 and 'Gains', from calculate_vbap_gains of panner.rs): each speaker
-// of 5.1 or 7.1 that is less than 90 degrees away from the azimuth, by the shorter way round d, sounds
-// with cos(90 - d) over the root of the sum of the squares; the others and the LFE are exactly 0.0.
+// Turns an azimuth into a gain for each speaker of 5.1 or 7.1 (document 01, item 4 and 'Gains', from
+// calculate_vbap_gains of panner.rs).
 //
-// It takes any input; its promise (specs/Promise.antt) fixes the answer bit for bit, and says that every
-// gain is within 2^-30, by squares, of document 01's formula, and that the sum of squares is 3/100 at
-// least. Whether d is less than 90 is decided by comparing the azimuth with whole numbers: nothing is rounded
-// there. What is lost elsewhere:
+// Each speaker that is less than 90 degrees away from the azimuth, by the shorter way round d, sounds with
+// cos(90 - d) over the root of the sum of the squares; the others and the LFE are exactly 0.0.
+//
+// It takes any input; its promise (specs/Promise.antt) fixes the answer bit for bit, and says that every gain
+// is within 2^-30, by squares, of document 01's formula, and that the sum of squares is 3/100 at least.
+// Whether d is less than 90 is decided by comparing the azimuth with whole numbers: nothing is rounded there.
+// What is lost elsewhere:
 //
 //   d, one operation rounded                        2^-46.5 degrees
 //   90 - d, one more                                2^-45.5 degrees
 //   the cosine at that angle                        2^-47
 //   the sum of eight squares                        2^-42.9
 //   a gain, by squares, at a sum of 3/100           2^-37
-//
-// Under it lie `harmonics` (the test of an azimuth), `channel` (where speakers stand), `angles` (the program's
-// cosine), `series` (the defined one), `numbers` (the root), `planes` (the ordered sum), `lists`, `fractions`,
-// `formats` and `refusals`.
 ghost use mathlib.Core.Path.{_≡_};
 ghost use Prim.Native.Nat.{_≤_};
 ghost use Rattle.surround.specs.Computed.{absolute, placeOf, isNear, rawOf, channelGain, rawGains, sumOf, dividedBy};

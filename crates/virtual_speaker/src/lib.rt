@@ -1,11 +1,13 @@
-// Virtual speakers (document 01, item 7 and 'Gains', from virtual_speaker.rs): the coefficients of a
-// direction with max-rE weights, degree l of order N times c^l with c = cos(A/(2(N+1))), A =
-// 2.406184877014388 radians; and the eight positions at which the filters of 003 were measured.
+// Gives the weights with which a virtual speaker plays ambisonic channels, and the eight positions at which
+// virtual speakers stand (document 01, item 7 and 'Gains', from virtual_speaker.rs).
 //
-// `compute_sh_coefficients_max_re` takes any order and any direction, and refuses as `harmonics` does: 1 for an
-// order, 3 for a direction, and sixteen times 0.0. Else the promise (specs/Promise.antt) fixes each bit of
-// the sixteen, and says beside it that each is within 2^-34 of document 01's formula over the defined
-// series, the coefficient's formula times the power of the cosine.
+// The weights are the coefficients of a direction with max-rE weights: degree l of order N times c^l with c =
+// cos(A/(2(N+1))), A = 2.406184877014388 radians. The positions are those of 003.
+//
+// `compute_sh_coefficients_max_re` takes any order and any direction, and refuses as `harmonics` does: 1 for
+// an order, 3 for a direction, and sixteen times 0.0. Else the promise (specs/Promise.antt) fixes each bit of
+// the sixteen, and says beside it that each is within 2^-34 of document 01's formula over the defined series,
+// the coefficient's formula times the power of the cosine.
 //
 // proofs/Near.antt shows 2^-41, by this budget in units of 2^-50, of which 2^-41 is 512:
 //
@@ -17,10 +19,6 @@
 //   a coefficient of degree 0 or 1 times its weight           257
 //   of degree 2                                               258
 //   of degree 3                                               259
-//
-// Under it lie `harmonics` (the coefficients and the refusals), `channel` (the table of positions), `series`
-// (the defined cosine), `lists` (lists said by a rule), `checks` (the finite test), `fractions`, `formats` and
-// `refusals`; `angles` for a worked answer.
 ghost use mathlib.Core.Path.{_≡_};
 ghost use Rattle.virtual_speaker.specs.Weights.{degreeOf};
 ghost use Rattle.virtual_speaker.specs.Computed as Steps;

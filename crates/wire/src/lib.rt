@@ -1,14 +1,14 @@
-// The bytes of the programs: what comes in as records, what goes out as ears, and the one line that is printed.
+// Turns the bytes of the programs into frames, and ears into bytes, and makes the one line that is printed
+// (document 01, item 10).
 //
-// Document 01, item 10: frames of six big-endian f32 come in and are put into planes, the two ears of each frame go
-// out as left then right, big-endian. Bytes come in parts of any size: what has come of a record that is not whole
-// yet is kept at the start of the buffer. A program that takes other records shares all but `frames_from_bytes`.
+// Frames of six big-endian f32 come in and are put into planes, the two ears of each frame go out as left
+// then right, big-endian. Bytes come in parts of any size: what has come of a record that is not whole yet is
+// kept at the start of the buffer. A program that takes other records shares all but `frames_from_bytes`.
 //
-// Every public function takes any input, and its promise is an equation for its answer and for the list that it
-// fills, over the definitions of specs/. Planes and lists that have no room for every frame are refused with 5, so that no
-// sample is lost.
-// That the records in a list of bytes are those of its two parts, wherever it is cut, is a law over the record's
-// size and over what it says (proofs/Cut.antt).
+// Every public function takes any input, and its promise is an equation for its answer and for the list that
+// it fills, over the definitions of specs/. Planes and lists that have no room for every frame are refused
+// with 5, so that no sample is lost. That the records in a list of bytes are those of its two parts, wherever
+// it is cut, is a law over the record's size and over what it says (proofs/Cut.antt).
 ghost use mathlib.Core.Path.{_≡_};
 ghost use Prim.Native.Nat.{_+_, _*_, _≤_};
 ghost use lib.ListN.{length};
