@@ -1,6 +1,6 @@
 //! Sine and cosine, against the defined sums.
 use crate::exact::{self, Exact};
-use crate::frame::{hex, request, Answer, Case, Sink, Verdict};
+use crate::frame::{Answer, Case, Sink, Verdict, hex, request};
 use crate::random::Random;
 
 const SINE: u8 = 4;
@@ -28,7 +28,8 @@ fn angles(random: &mut Random, count: usize) -> Vec<f64> {
     // Multiples of 90 and their neighbours.
     for k in -12..=12i64 {
         let d = (90 * k) as f64;
-        let near = |off: i64| if d == 0.0 { f64::from_bits(off.unsigned_abs()) * off.signum() as f64 } else { f64::from_bits((d.to_bits() as i64 + off) as u64) };
+        let near =
+            |off: i64| if d == 0.0 { f64::from_bits(off.unsigned_abs()) * off.signum() as f64 } else { f64::from_bits((d.to_bits() as i64 + off) as u64) };
         all.extend((-3..=3).map(near));
     }
     // Outside, and what is no number.

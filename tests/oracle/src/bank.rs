@@ -1,7 +1,7 @@
 //! The filter bank file and row choice, against a reader, a writer and a choice that are written here from
 //! document 01, 'Filter bank file', alone. They share no shape with the port: the reader takes a file apart from
 //! the front and forms a bank, and the writer asks the reader whether what it has made is a bank.
-use crate::frame::{exactly, request, send, Case, Sink};
+use crate::frame::{Case, Sink, exactly, request, send};
 use crate::random::Random;
 
 const READ: u8 = 6;
