@@ -369,7 +369,7 @@ pub fn writing(random: &mut Random, count: usize, sink: &mut Sink) {
         }
         sink(write_fitting(&bank));
         let place = random.below(bank.taps.len() as u64) as usize;
-        bank.taps[place] = random.bits() as u32 | 0x7f80_0000 * (random.below(2) as u32);
+        bank.taps[place] = random.bits() as u32 | (0x7f80_0000 * (random.below(2) as u32));
         sink(write_fitting(&bank));
         let row = random.below(bank.azimuths.len() as u64) as usize;
         bank.azimuths[row] = random.bits() as i16 >> random.below(6);

@@ -37,8 +37,8 @@ fn add(a: &Limbs, b: &Limbs) -> Limbs {
 fn subtract(a: &Limbs, b: &Limbs) -> Limbs {
     let mut out = Vec::with_capacity(a.len());
     let mut borrow = 0i128;
-    for i in 0..a.len() {
-        let d = i128::from(a[i]) - i128::from(*b.get(i).unwrap_or(&0)) - borrow;
+    for (i, x) in a.iter().enumerate() {
+        let d = i128::from(*x) - i128::from(*b.get(i).unwrap_or(&0)) - borrow;
         borrow = i128::from(d < 0);
         out.push((d + (borrow << 64)) as u64);
     }
@@ -67,8 +67,8 @@ fn divide_small(a: &Limbs, by: u32) -> Limbs {
     let mut rest = 0u64;
     for i in (0..a.len()).rev() {
         let high = rest << 32 | a[i] >> 32;
-        let low = high % by << 32 | a[i] & 0xffff_ffff;
-        out[i] = high / by << 32 | low / by;
+        let low = (high % by) << 32 | a[i] & 0xffff_ffff;
+        out[i] = ((high / by) << 32) | (low / by);
         rest = low % by;
     }
     trim(out)

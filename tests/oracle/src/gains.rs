@@ -95,8 +95,10 @@ fn near(exact: Exact, bits: usize, rust: Option<f64>) -> Check {
 }
 
 fn as_the_rust(gain: f64, rust: Option<f64>) -> Result<(), String> {
+    // One that is NaN is not near.
+    let is_near = |rust: f64| (gain - rust).abs() <= 2f64.powi(-RUST_BITS);
     match rust {
-        Some(rust) if !((gain - rust).abs() <= 2f64.powi(-RUST_BITS)) => Err(format!("and the Rust's is {rust:e}")),
+        Some(rust) if !is_near(rust) => Err(format!("and the Rust's is {rust:e}")),
         _ => Ok(()),
     }
 }

@@ -50,7 +50,7 @@ fn narrow_patterns(random: &mut Random, count: usize) -> Vec<u64> {
     all.extend((0..count).map(|_| near_a_tie(random)));
     // Around the end, 2^128 - 2^103 and 2^128, and around half of the smallest value.
     for around in [0x47ef_ffff_f000_0000u64, 0x47f0_0000_0000_0000, 0x3690_0000_0000_0000, 0x36a0_0000_0000_0000] {
-        all.extend((0..9).flat_map(|i| [around + i - 4, around + i - 4 | 1 << 63]));
+        all.extend((0..9).flat_map(|i| [around + i - 4, (around + i - 4) | 1 << 63]));
     }
     // Zeros, subnormals, the largest, infinities and NaNs of both kinds.
     for bits in [

@@ -256,14 +256,14 @@ mod tests {
     fn judged(whose: Whose, change: impl Fn(&mut Vec<u8>)) -> bool {
         let call = SetUp::fitting(&mut Random::new(3, "set-up"), whose, 5);
         let (speakers, channels) = whose.counts().unwrap();
-        let mut bytes = call.head(0);
-        for s in 0..speakers {
-            let weights: Vec<f64> = match whose {
+        let weights = |s: usize| -> Vec<f64> {
+            match whose {
                 Whose::Layout(_) => (0..channels).map(|c| f64::from(u8::from(c == s))).collect(),
                 Whose::Order(order) => rust::weighted(order as usize, FOA_POSITIONS[s].0, FOA_POSITIONS[s].1)[..channels].to_vec(),
-            };
-            bytes.extend(weights.iter().flat_map(|w| w.to_bits().to_be_bytes()));
-        }
+            }
+        };
+        let mut bytes = call.head(0);
+        bytes.extend((0..speakers).flat_map(weights).flat_map(|w| w.to_bits().to_be_bytes()));
         change(&mut bytes);
         call.judge(&Answer { operation: call.operation(), bytes }).wrong.is_none()
     }
