@@ -485,6 +485,34 @@ mod tests {
         }
     }
 
+    /// Each check lets its bound and nothing more, on both sides, and hears when the Rust is elsewhere.
+    #[test]
+    fn a_gain_is_judged_by_its_bound() {
+        let half = || Exact::whole(1).over(2);
+        let root = 0.5f64.sqrt();
+        for (off, is_right) in [(0.0, true), (2f64.powi(-31), true), (2f64.powi(-30), true), (2f64.powi(-30) * 1.001, false), (2f64.powi(-29), false)] {
+            for gain in [0.5 + off, 0.5 - off] {
+                assert_eq!(near(half(), 30, None)(gain).is_ok(), is_right, "{off:e}");
+                assert_eq!(near_by_squares(Exact::whole(1), Exact::whole(4), 30, None)(gain).is_ok(), is_right, "{off:e}");
+            }
+        }
+        for (off, is_right) in [(0.0, true), (2f64.powi(-31), true), (2f64.powi(-29), false)] {
+            for gain in [root + off, root - off, -root - off, -root + off] {
+                assert_eq!(near_by_squares(Exact::whole(1), Exact::whole(2), 30, None)(gain).is_ok(), is_right, "{off:e}");
+            }
+        }
+        assert!(near(half(), 30, None)(-0.5).is_err());
+        // A gain that is smaller than the bound, of an exact one that is 0.
+        let silent_by_squares = near_by_squares(Exact::whole(0), Exact::whole(2), 30, None);
+        assert!(silent_by_squares(0.0).is_ok() && silent_by_squares(2f64.powi(-31)).is_ok() && silent_by_squares(2f64.powi(-29)).is_err());
+        for (rust, is_right) in [(0.5, true), (0.5 + 2f64.powi(-30), true), (0.5 - 2f64.powi(-28), false), (f64::NAN, false)] {
+            assert_eq!(near(half(), 30, Some(rust))(0.5).is_ok(), is_right, "{rust}");
+            assert_eq!(near_by_squares(Exact::whole(1), Exact::whole(4), 30, Some(rust))(0.5).is_ok(), is_right, "{rust}");
+        }
+        assert!(silent()(0.0).is_ok() && silent()(-0.0).is_err() && silent()(5e-324).is_err());
+        assert!(silent_as(Some(1e-17))(0.0).is_ok() && silent_as(Some(1e-8))(0.0).is_err());
+    }
+
     #[test]
     fn the_rust_passes_as_a_matrix() {
         for (order, layout) in [(1, Layout(0, 0)), (2, Layout(1, 0)), (3, Layout(2, 0)), (3, Layout(3, 0)), (3, Layout(4, 7)), (2, Layout(4, 16))] {
