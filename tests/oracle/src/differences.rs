@@ -1,11 +1,11 @@
 //! What the Rust itself does where document 01 asks for something else, each with its smallest input: run, and said in
 //! a line. tests/differences compares the lines with tests/differences.expected; docs/DIFFERENCES.md says what
 //! document 01 and the port do there.
-use crate::rust::{Command, Convolver, Speaker, decode, decoder_matrix, gains, pan, weighted};
+use crate::rust::{Command, Convolver, Speaker, decode, decode_order, decoder_matrix, gains, pan, pan_planes, weighted};
 use bbx_dsp::blocks::effectors::binaural_decoder::hrtf::HrtfConvolver;
 use bbx_dsp::blocks::effectors::binaural_decoder::matrix::compute_matrix;
 use bbx_dsp::channel::ChannelLayout;
-use std::panic::{UnwindSafe, catch_unwind};
+use std::panic::{AssertUnwindSafe, UnwindSafe, catch_unwind};
 
 use Command::{Ambisonic, Stereo, Surround};
 
@@ -190,6 +190,62 @@ fn convolver() {
     say("convolver, 3 frames into a left ear of 3 and a right ear of 2", format!("left {:?}", short[0]));
 }
 
+/// Planes of 1.0, one of each length.
+fn ones(lengths: &[usize]) -> Vec<Vec<f32>> {
+    lengths.iter().map(|n| vec![1.0; *n]).collect()
+}
+
+/// Planes to play into, one of each length, that hold 9.0.
+fn nines(lengths: &[usize]) -> Vec<Vec<f32>> {
+    lengths.iter().map(|n| vec![9.0; *n]).collect()
+}
+
+/// A convolver of one speaker, of weight 1.0 on two channels and one tap of 1.0, with a count of channels.
+fn convolved(channels: usize, inputs: &[usize], ears: usize) -> Vec<Vec<f32>> {
+    let speaker = Speaker { weights: vec![1.0; 2], left: vec![1.0], right: vec![1.0] };
+    Convolver::new(&[speaker]).process_channels(channels, &ones(inputs), [vec![9.0; ears], vec![9.0; ears]]).to_vec()
+}
+
+/// Which planes are played and which stay, where there are more of them, or fewer, than the block has use for.
+fn counts_of_planes() {
+    let over = |command: Command, planes: usize| values(&pan(command, &[1.0], vec![vec![9.0]; planes]).concat());
+    say("panner, stereo at -100 and three planes over 9.0", over(Stereo(-100.0), 3));
+    say("panner, 5.1 at 70 and seven planes over 9.0", over(Surround(ChannelLayout::Surround51, 70.0), 7));
+    say("panner, order 1 at (0, 0) and five planes over 9.0", over(Ambisonic(1, 0.0, 0.0), 5));
+    let show = |what: &str, planes: Vec<Vec<f32>>| say(what, format!("{planes:?}"));
+    show("panner, stereo at -100 and input planes of 1.0 and of 5.0", pan_planes(Stereo(-100.0), &[vec![1.0], vec![5.0]], nines(&[1, 1])));
+    show("panner, no input plane and two planes over 9.0", pan_planes(Stereo(-100.0), &[], nines(&[1, 1])));
+    show("panner, one input plane and no plane", pan_planes(Stereo(-100.0), &ones(&[1]), vec![]));
+    show("decoder, one row and two planes over 9.0", decode(&[&[1.0]], &ones(&[1]), nines(&[1, 1])));
+    show("decoder, rows of 1.0 and of 2.0 and one plane over 9.0", decode(&[&[1.0], &[2.0]], &ones(&[1]), nines(&[1])));
+    show("decoder, weights of 1.0 for four channels and five input planes of 1.0", decode_order(1, &[&[1.0; 4]], &ones(&[1; 5]), nines(&[1])));
+    show("decoder, no row and one plane over 9.0", decode(&[], &ones(&[1]), nines(&[1])));
+    show("decoder, no input plane and one plane over 9.0", decode(&[&[1.0]], &[], nines(&[1])));
+    show("decoder, one input plane and no plane", decode(&[&[1.0]], &ones(&[1]), vec![]));
+    show("convolver, one channel and two input planes of 1.0", convolved(1, &[1, 1], 1));
+    show("convolver, two channels and one input plane of 1.0", convolved(2, &[1], 1));
+    show("convolver, no channel and one input plane of 1.0", convolved(0, &[1], 1));
+    show("convolver, no input plane and ears over 9.0", convolved(1, &[], 1));
+}
+
+/// Planes that are not all as long. The Rust measures the first input and the first output, in the convolver the first
+/// input and both ears; what is longer stays beyond that, and what is shorter is read or written outside.
+fn lengths_of_planes() {
+    let show = |what: &str, run: &dyn Fn() -> Vec<Vec<f32>>| say(what, tried(AssertUnwindSafe(run), |planes| format!("{planes:?}")));
+    show("panner, stereo at -100, 2 frames into planes of 1 and 2 over 9.0", &|| pan(Stereo(-100.0), &[1.0; 2], nines(&[1, 2])));
+    show("panner, stereo at -100, 1 frame into planes of 1 and 0", &|| pan(Stereo(-100.0), &[1.0], nines(&[1, 0])));
+    let five_one = Surround(ChannelLayout::Surround51, 70.0);
+    show("panner, 5.1 at 70, 1 frame into planes of 1 and a second of 0", &|| pan(five_one, &[1.0], nines(&[1, 0, 1, 1, 1, 1])));
+    let order_1 = Ambisonic(1, 0.0, 0.0);
+    show("panner, order 1 at (0, 0), 1 frame into planes of 1 and a second of 0", &|| pan(order_1, &[1.0], nines(&[1, 0, 1, 1])));
+    show("decoder, input planes of 1 and 2 into a plane of 2 over 9.0", &|| decode(&[&[1.0, 1.0]], &ones(&[1, 2]), nines(&[2])));
+    show("decoder, input planes of 1 and 0 into a plane of 1", &|| decode(&[&[1.0, 1.0]], &ones(&[1, 0]), nines(&[1])));
+    show("decoder, 2 frames into planes of 1 and 2 over 9.0", &|| decode(&[&[1.0], &[1.0]], &ones(&[2]), nines(&[1, 2])));
+    show("decoder, 1 frame into planes of 1 and 0", &|| decode(&[&[1.0], &[1.0]], &ones(&[1]), nines(&[1, 0])));
+    show("convolver, input planes of 1 and 2 into ears of 2 over 9.0", &|| convolved(2, &[1, 2], 2));
+    show("convolver, input planes of 1 and 0 into ears of 1", &|| convolved(2, &[1, 0], 1));
+}
+
 pub fn print() {
     // A panic is a finding here, and its message is not.
     std::panic::set_hook(Box::new(|_| ()));
@@ -199,4 +255,6 @@ pub fn print() {
     ninety_from_a_speaker();
     blocks();
     convolver();
+    counts_of_planes();
+    lengths_of_planes();
 }
