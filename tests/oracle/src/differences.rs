@@ -229,7 +229,7 @@ fn counts_of_planes() {
 }
 
 /// Planes that are not all as long. The Rust measures the first input and the first output, in the convolver the first
-/// input and both ears; what is longer stays beyond that, and what is shorter is read or written outside.
+/// input and both ears; a longer plane stays as it was beyond that, and at a shorter one it panics.
 fn lengths_of_planes() {
     let show = |what: &str, run: &dyn Fn() -> Vec<Vec<f32>>| say(what, tried(AssertUnwindSafe(run), |planes| format!("{planes:?}")));
     show("panner, stereo at -100, 2 frames into planes of 1 and 2 over 9.0", &|| pan(Stereo(-100.0), &[1.0; 2], nines(&[1, 2])));
