@@ -1,6 +1,6 @@
 //! Sine and cosine, against the defined sums.
 use crate::exact::{self, Exact};
-use crate::frame::{hex, request, Answer, Case, Sink, Verdict};
+use crate::frame::{Answer, Case, Sink, Verdict, hex, request};
 use crate::random::Random;
 
 const SINE: u8 = 4;
@@ -28,7 +28,8 @@ fn angles(random: &mut Random, count: usize) -> Vec<f64> {
     // Multiples of 90 and their neighbours.
     for k in -12..=12i64 {
         let d = (90 * k) as f64;
-        let near = |off: i64| if d == 0.0 { f64::from_bits(off.unsigned_abs()) * off.signum() as f64 } else { f64::from_bits((d.to_bits() as i64 + off) as u64) };
+        let near =
+            |off: i64| if d == 0.0 { f64::from_bits(off.unsigned_abs()) * off.signum() as f64 } else { f64::from_bits((d.to_bits() as i64 + off) as u64) };
         all.extend((-3..=3).map(near));
     }
     // Outside, and what is no number.
@@ -72,4 +73,40 @@ pub fn sine(random: &mut Random, count: usize, sink: &mut Sink) {
 
 pub fn cosine(random: &mut Random, count: usize, sink: &mut Sink) {
     cases(random, count, sink, COSINE, exact::cosine);
+}
+
+#[cfg(test)]
+mod tests {
+    use super::*;
+
+    fn passes(d: f64, refusal: u8, value: f64) -> bool {
+        let defined = (!is_refused(d)).then(|| exact::sine(&Exact::float(d)));
+        let bytes = [vec![refusal], value.to_bits().to_be_bytes().to_vec()].concat();
+        judge(d, defined, SINE, &Answer { operation: SINE, bytes }).wrong.is_none()
+    }
+
+    #[test]
+    fn a_sine_is_judged_by_its_bound() {
+        let right = 20f64.to_radians().sin();
+        for (off, is_right) in [(0.0, true), (2f64.powi(-41), true), (2f64.powi(-39), false)] {
+            assert_eq!(passes(20.0, 0, right + off), is_right);
+            assert_eq!(passes(20.0, 0, right - off), is_right);
+        }
+        assert!(!passes(20.0, 0, -right) && !passes(20.0, 3, right) && !passes(20.0, 0, f64::NAN) && !passes(20.0, 0, f64::INFINITY));
+    }
+
+    #[test]
+    fn a_multiple_of_90_is_judged_to_the_last_bit() {
+        for (d, right) in [(90.0, 1.0), (-90.0, -1.0), (1080.0, 0.0), (-0.0, 0.0)] {
+            assert!(passes(d, 0, right) && !passes(d, 0, f64::from_bits(right.to_bits() + 1)));
+        }
+        assert!(!passes(180.0, 0, -0.0) && !passes(90.0, 0, 1.0 - f64::EPSILON / 2.0));
+    }
+
+    #[test]
+    fn a_refused_angle_is_3_and_zero() {
+        for d in [f64::NAN, f64::INFINITY, f64::NEG_INFINITY, 1080.0001, -1080.0001] {
+            assert!(passes(d, 3, 0.0) && !passes(d, 3, -0.0) && !passes(d, 0, 0.0) && !passes(d, 3, 1.0));
+        }
+    }
 }

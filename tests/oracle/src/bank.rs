@@ -1,7 +1,7 @@
 //! The filter bank file and row choice, against a reader, a writer and a choice that are written here from
 //! document 01, 'Filter bank file', alone. They share no shape with the port: the reader takes a file apart from
 //! the front and forms a bank, and the writer asks the reader whether what it has made is a bank.
-use crate::frame::{exactly, request, send, Case, Sink};
+use crate::frame::{Case, Sink, exactly, request, send};
 use crate::random::Random;
 
 const READ: u8 = 6;
@@ -369,7 +369,7 @@ pub fn writing(random: &mut Random, count: usize, sink: &mut Sink) {
         }
         sink(write_fitting(&bank));
         let place = random.below(bank.taps.len() as u64) as usize;
-        bank.taps[place] = random.bits() as u32 | 0x7f80_0000 * (random.below(2) as u32);
+        bank.taps[place] = random.bits() as u32 | (0x7f80_0000 * (random.below(2) as u32));
         sink(write_fitting(&bank));
         let row = random.below(bank.azimuths.len() as u64) as usize;
         bank.azimuths[row] = random.bits() as i16 >> random.below(6);

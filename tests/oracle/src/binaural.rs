@@ -1,7 +1,7 @@
 //! Blocks through the binaural rows. Document 01 has them applied like a decoder matrix of two rows; the block that did so
 //! was not supplied. The program's decoder block is given the rows that its own must be, and compared, bit for bit, with the
 //! Rust's decoder whose matrix they are.
-use crate::blocks::{falling, fused, in_pairs, narrowed_on_the_way, rising, Block};
+use crate::blocks::{Block, falling, fused, in_pairs, narrowed_on_the_way, rising};
 use crate::frame::{Case, Sink};
 use crate::random::Random;
 use crate::rows::rows;
@@ -14,7 +14,10 @@ type Sum = fn(&[f32], &[f64]) -> f32;
 const OTHER_SUMS: [Sum; 4] = [falling, narrowed_on_the_way, in_pairs, fused];
 
 /// Samples that are not ordinary: NaNs, one of them signalling, infinities, subnormals, zeros, the ends of the finite ones.
-const ODD: [u32; 14] = [0x7fc0_0000, 0xffc0_0001, 0x7f80_0001, 0x7f80_0000, 0xff80_0000, 0x0000_0001, 0x8000_0001, 0x007f_ffff, 0x807f_ffff, 0, 0x8000_0000, 0x0080_0000, 0x7f7f_ffff, 0xff7f_ffff];
+const ODD: [u32; 14] = [
+    0x7fc0_0000, 0xffc0_0001, 0x7f80_0001, 0x7f80_0000, 0xff80_0000, 0x0000_0001, 0x8000_0001, 0x007f_ffff, 0x807f_ffff, 0, 0x8000_0000, 0x0080_0000,
+    0x7f7f_ffff, 0xff7f_ffff,
+];
 
 fn channels_of(order: usize) -> usize {
     (order + 1).pow(2)
@@ -118,7 +121,7 @@ pub fn cases(random: &mut Random, count: usize, sink: &mut Sink) {
 #[cfg(test)]
 mod tests {
     use super::*;
-    use crate::frame::{f32_bytes, Answer};
+    use crate::frame::{Answer, f32_bytes};
 
     /// What a program answers that forms document 01's sums.
     fn answer(block: &Block) -> Answer {
@@ -141,7 +144,10 @@ mod tests {
             assert!(judge(&answer(&block)).wrong.is_none());
             for place in 0..block.weights.len() {
                 let weights = spoiled(&block.weights, place);
-                assert!(judge(&answer(&Block { weights, inputs: block.inputs.clone(), planes: block.planes.clone(), ..block })).wrong.is_some(), "order {order}, weight {place}");
+                assert!(
+                    judge(&answer(&Block { weights, inputs: block.inputs.clone(), planes: block.planes.clone(), ..block })).wrong.is_some(),
+                    "order {order}, weight {place}"
+                );
             }
         }
     }

@@ -1,6 +1,6 @@
 //! Blocks, bit for bit with the Rust: many of them made so that another order of summation, another start, or narrowing
 //! on the way would change a bit.
-use crate::frame::{exactly, f32_bytes, request, send, Case, Sink};
+use crate::frame::{Case, Sink, exactly, f32_bytes, request, send};
 use crate::random::Random;
 use crate::rust;
 
@@ -100,7 +100,11 @@ impl Block {
         let is = |list: usize, planes: u64, stride: u64| u128::from(planes) * u128::from(stride) == list as u128;
         if !(1..=16).contains(&self.outputs) || !(1..=16).contains(&self.channels) {
             2
-        } else if self.stride < self.frames || !is(self.inputs.len(), self.channels, self.stride) || !is(self.planes.len(), self.outputs, self.stride) || !is(self.weights.len(), self.outputs, self.channels) {
+        } else if self.stride < self.frames
+            || !is(self.inputs.len(), self.channels, self.stride)
+            || !is(self.planes.len(), self.outputs, self.stride)
+            || !is(self.weights.len(), self.outputs, self.channels)
+        {
             5
         } else if self.weights.iter().any(|w| !w.is_finite()) {
             7
@@ -160,7 +164,15 @@ fn refused(random: &mut Random) -> Vec<Case> {
         with(&|b| (b.stride, b.frames) = (n, 0));
         with(&|b| b.frames = n);
     }
-    for lists in [&|b: &mut Block| _ = b.weights.pop(), &|b: &mut Block| _ = b.inputs.pop(), &|b: &mut Block| _ = b.planes.pop(), &|b: &mut Block| b.weights.push(1.0), &|b: &mut Block| b.inputs.push(1.0), &|b: &mut Block| b.planes.push(1.0)] as [&dyn Fn(&mut Block); 6] {
+    for lists in [
+        &|b: &mut Block| _ = b.weights.pop(),
+        &|b: &mut Block| _ = b.inputs.pop(),
+        &|b: &mut Block| _ = b.planes.pop(),
+        &|b: &mut Block| b.weights.push(1.0),
+        &|b: &mut Block| b.inputs.push(1.0),
+        &|b: &mut Block| b.planes.push(1.0),
+    ] as [&dyn Fn(&mut Block); 6]
+    {
         with(lists);
         with(&|b| {
             lists(b);
@@ -179,7 +191,9 @@ fn refused(random: &mut Random) -> Vec<Case> {
 
 pub fn decode(random: &mut Random, count: usize, sink: &mut Sink) {
     send(sink, refused(random));
-    for (outputs, channels, frames, stride) in [(1, 1, 1, 1), (1, 1, 0, 0), (16, 16, 1, 1), (16, 16, 3, 5), (2, 16, 4, 4), (1, 4, 0, 3), (16, 1, 2, 2), (1, 16, 7, 7)] {
+    for (outputs, channels, frames, stride) in
+        [(1, 1, 1, 1), (1, 1, 0, 0), (16, 16, 1, 1), (16, 16, 3, 5), (2, 16, 4, 4), (1, 4, 0, 3), (16, 1, 2, 2), (1, 16, 7, 7)]
+    {
         sink(Block::fitting(random, outputs, channels, frames, stride).case());
     }
     // Only products that are -0.0: the sum starts from 0.0.

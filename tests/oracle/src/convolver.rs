@@ -1,6 +1,6 @@
 //! The convolver, bit for bit with the Rust wherever the rings come from frames that were played, and with document 01's
 //! ordered sums, written here, for any rings. Many blocks are made so that another order of summation would change a bit.
-use crate::frame::{exactly, f32_bytes, request, send, Case, Sink};
+use crate::frame::{Case, Sink, exactly, f32_bytes, request, send};
 use crate::random::Random;
 use crate::rust::{self, Speaker};
 
@@ -19,7 +19,8 @@ enum Way {
     DividedByTheRoot,
 }
 
-const OTHER_WAYS: [Way; 6] = [Way::ChannelsFalling, Way::SignalNotNarrowed, Way::OldestFirst, Way::SpeakersFalling, Way::OneSumForAllSpeakers, Way::DividedByTheRoot];
+const OTHER_WAYS: [Way; 6] =
+    [Way::ChannelsFalling, Way::SignalNotNarrowed, Way::OldestFirst, Way::SpeakersFalling, Way::OneSumForAllSpeakers, Way::DividedByTheRoot];
 
 /// A call of `process`, with everything that it is lent.
 #[derive(Clone)]
@@ -80,7 +81,13 @@ impl Call {
             2
         } else if !(1..=512).contains(&self.length) {
             4
-        } else if self.stride < self.frames || !is(self.inputs.len(), self.channels, self.stride) || !is(self.ears.len(), 2, self.stride) || !is(self.rings.len(), self.speakers, self.length) || !is(self.weights.len(), self.speakers, self.channels) || !is(self.taps.len(), 2 * self.rows, self.length) {
+        } else if self.stride < self.frames
+            || !is(self.inputs.len(), self.channels, self.stride)
+            || !is(self.ears.len(), 2, self.stride)
+            || !is(self.rings.len(), self.speakers, self.length)
+            || !is(self.weights.len(), self.speakers, self.channels)
+            || !is(self.taps.len(), 2 * self.rows, self.length)
+        {
             5
         } else if self.weights.iter().any(|w| !w.is_finite()) || self.taps.iter().any(|t| !t.is_finite()) {
             7
@@ -125,7 +132,11 @@ impl Call {
                 for s in order {
                     let term = |k: usize| rings[s * length + (position + length - k) % length] * f64::from(self.taps_of(s, ear)[k]);
                     let start = if way == Way::OneSumForAllSpeakers { total } else { 0.0 };
-                    let part = if way == Way::OldestFirst { (0..length).rev().fold(start, |sum, k| sum + term(k)) } else { (0..length).fold(start, |sum, k| sum + term(k)) };
+                    let part = if way == Way::OldestFirst {
+                        (0..length).rev().fold(start, |sum, k| sum + term(k))
+                    } else {
+                        (0..length).fold(start, |sum, k| sum + term(k))
+                    };
                     total = if way == Way::OneSumForAllSpeakers { part } else { total + part };
                 }
                 ears[ear * stride + n] = (if way == Way::DividedByTheRoot { total / root } else { total * (1.0 / root) }) as f32;
@@ -135,13 +146,23 @@ impl Call {
             to_go = if damaged { length - 1 } else { to_go.saturating_sub(1) };
             position = (position + 1) % length;
         }
-        Outcome { refusal: 0, samples: self.frames, unsettled, position: position as u64, to_go: to_go as u64, rings: rings.iter().map(|x| *x as f32).collect(), ears }
+        Outcome {
+            refusal: 0,
+            samples: self.frames,
+            unsettled,
+            position: position as u64,
+            to_go: to_go as u64,
+            rings: rings.iter().map(|x| *x as f32).collect(),
+            ears,
+        }
     }
 
     fn outcome(&self) -> Outcome {
         match self.refusal() {
             0 => self.played(Way::Right),
-            refusal => Outcome { refusal, samples: 0, unsettled: 0, position: self.position, to_go: self.to_go, rings: self.rings.clone(), ears: self.ears.clone() },
+            refusal => {
+                Outcome { refusal, samples: 0, unsettled: 0, position: self.position, to_go: self.to_go, rings: self.rings.clone(), ears: self.ears.clone() }
+            }
         }
     }
 
@@ -170,7 +191,11 @@ impl Call {
     fn session(&self, random: &mut Random, blocks: usize) -> Vec<Case> {
         let channels = self.channels as usize;
         let speakers: Vec<Speaker> = (0..self.speakers as usize)
-            .map(|s| Speaker { weights: self.weights[s * channels..(s + 1) * channels].to_vec(), left: self.taps_of(s, 0).to_vec(), right: self.taps_of(s, 1).to_vec() })
+            .map(|s| Speaker {
+                weights: self.weights[s * channels..(s + 1) * channels].to_vec(),
+                left: self.taps_of(s, 0).to_vec(),
+                right: self.taps_of(s, 1).to_vec(),
+            })
             .collect();
         let mut calls = vec![self.clone()];
         calls.extend((1..blocks).map(|_| self.next_block(random)));
@@ -341,7 +366,18 @@ fn at_the_ends(random: &mut Random) -> Vec<Case> {
         with(&|c| c.row_of[3] = n);
         with(&|c| (c.length, c.position) = (n, n));
     }
-    let lists: [&dyn Fn(&mut Call); 10] = [&|c| _ = c.inputs.pop(), &|c| _ = c.weights.pop(), &|c| _ = c.taps.pop(), &|c| _ = c.rings.pop(), &|c| _ = c.ears.pop(), &|c| c.inputs.push(1.0), &|c| c.weights.push(1.0), &|c| c.taps.push(1.0), &|c| c.rings.push(1.0), &|c| c.ears.push(1.0)];
+    let lists: [&dyn Fn(&mut Call); 10] = [
+        &|c| _ = c.inputs.pop(),
+        &|c| _ = c.weights.pop(),
+        &|c| _ = c.taps.pop(),
+        &|c| _ = c.rings.pop(),
+        &|c| _ = c.ears.pop(),
+        &|c| c.inputs.push(1.0),
+        &|c| c.weights.push(1.0),
+        &|c| c.taps.push(1.0),
+        &|c| c.rings.push(1.0),
+        &|c| c.ears.push(1.0),
+    ];
     for change in lists {
         with(change);
         with(&|c| {
@@ -374,7 +410,17 @@ fn at_the_ends(random: &mut Random) -> Vec<Case> {
 
 pub fn process(random: &mut Random, count: usize, sink: &mut Sink) {
     send(sink, at_the_ends(random));
-    for (channels, speakers, rows, length, frames, stride) in [(1, 1, 1, 1, 1, 1), (1, 1, 1, 2, 3, 3), (6, 6, 8, 4, 5, 7), (8, 8, 8, 3, 4, 4), (16, 8, 8, 2, 3, 3), (1, 1, 1, 1, 0, 0), (2, 2, 2, 3, 0, 4), (1, 1, 1, 511, 3, 3), (1, 1, 1, 512, 3, 3)] {
+    for (channels, speakers, rows, length, frames, stride) in [
+        (1, 1, 1, 1, 1, 1),
+        (1, 1, 1, 2, 3, 3),
+        (6, 6, 8, 4, 5, 7),
+        (8, 8, 8, 3, 4, 4),
+        (16, 8, 8, 2, 3, 3),
+        (1, 1, 1, 1, 0, 0),
+        (2, 2, 2, 3, 0, 4),
+        (1, 1, 1, 511, 3, 3),
+        (1, 1, 1, 512, 3, 3),
+    ] {
         let call = Call::fitting(random, channels, speakers, rows, length, frames, stride);
         send(sink, call.session(random, 2));
     }
@@ -455,7 +501,13 @@ mod tests {
                 Some(way) => telling(&mut random, *way),
                 None => Call::fitting(&mut random, channels as usize, speakers as usize, 3, length as usize, 4, 5),
             };
-            let speakers: Vec<Speaker> = (0..call.speakers as usize).map(|s| Speaker { weights: call.weights[s * call.channels as usize..(s + 1) * call.channels as usize].to_vec(), left: call.taps_of(s, 0).to_vec(), right: call.taps_of(s, 1).to_vec() }).collect();
+            let speakers: Vec<Speaker> = (0..call.speakers as usize)
+                .map(|s| Speaker {
+                    weights: call.weights[s * call.channels as usize..(s + 1) * call.channels as usize].to_vec(),
+                    left: call.taps_of(s, 0).to_vec(),
+                    right: call.taps_of(s, 1).to_vec(),
+                })
+                .collect();
             let mut convolver = rust::Convolver::new(&speakers);
             let (frames, stride) = (call.frames as usize, call.stride as usize);
             let inputs: Vec<Vec<f32>> = call.inputs.chunks(stride).map(|p| p[..frames].to_vec()).collect();

@@ -68,3 +68,54 @@ pub fn hex(bytes: &[u8]) -> String {
     let shown: String = bytes.iter().take(64).map(|b| format!("{b:02x}")).collect();
     if bytes.len() > 64 { format!("{shown}.. ({} bytes)", bytes.len()) } else { shown }
 }
+
+#[cfg(test)]
+mod tests {
+    use super::*;
+
+    #[test]
+    fn a_request_is_operation_length_and_arguments() {
+        assert_eq!(request(7, &[1, 2, 3]), [7, 0, 0, 0, 3, 1, 2, 3]);
+        assert_eq!(request(255, &[]), [255, 0, 0, 0, 0]);
+        assert_eq!(request(1, &[9; 258])[..5], [1, 0, 0, 1, 2]);
+    }
+
+    #[test]
+    fn answers_are_taken_whole_one_after_the_other() {
+        let bytes = [request(7, &[1, 2, 3]), request(0, &[]), request(9, &[5])].concat();
+        let mut rest = &bytes[..];
+        for (operation, right) in [(7, &[1u8, 2, 3][..]), (0, &[]), (9, &[5])] {
+            let answer = take(&mut rest).unwrap();
+            assert_eq!((answer.operation, &answer.bytes[..]), (operation, right));
+        }
+        assert!(take(&mut rest).is_none());
+        // One that is cut anywhere is none.
+        for cut in 0..8 {
+            assert!(take(&mut &bytes[..cut]).is_none(), "{cut}");
+        }
+    }
+
+    #[test]
+    fn an_answer_that_is_known_passes_alone() {
+        let case = exactly(request(7, &[]), 7, vec![0, 1, 2]);
+        let passes = |operation: u8, bytes: &[u8]| (case.judge)(&Answer { operation, bytes: bytes.to_vec() }).wrong.is_none();
+        assert!(passes(7, &[0, 1, 2]));
+        assert!(!passes(8, &[0, 1, 2]) && !passes(7, &[0, 1, 3]) && !passes(7, &[0, 1]) && !passes(7, &[0, 1, 2, 0]) && !passes(7, &[]));
+    }
+
+    #[test]
+    fn every_nan_is_one_and_every_other_float_itself() {
+        for bits in [0x7fc0_0000, 0xffc0_0000, 0x7f80_0001, 0xffff_ffff] {
+            assert_eq!(f32_bytes(f32::from_bits(bits)), [0x7f, 0xc0, 0, 0]);
+        }
+        for bits in [0, 0x8000_0000, 1, 0x7f80_0000, 0xff80_0000, 0x3f80_0001u32] {
+            assert_eq!(f32_bytes(f32::from_bits(bits)), bits.to_be_bytes());
+        }
+        for bits in [0x7ff8_0000_0000_0000, 0xfff8_0000_0000_0000, 0x7ff0_0000_0000_0001, u64::MAX] {
+            assert_eq!(f64_bytes(f64::from_bits(bits)), [0x7f, 0xf8, 0, 0, 0, 0, 0, 0]);
+        }
+        for bits in [0, 1 << 63, 1, 0x7ff0_0000_0000_0000, 0xfff0_0000_0000_0000, 0x3ff0_0000_0000_0001u64] {
+            assert_eq!(f64_bytes(f64::from_bits(bits)), bits.to_be_bytes());
+        }
+    }
+}

@@ -1,7 +1,7 @@
 //! Gains and matrices, against document 01's formulas over the defined sums, within its bounds, and against the Rust at
 //! S = f64, within 2^-29.
 use crate::exact::{self, Exact};
-use crate::frame::{f64_bytes, hex, request, send, Answer, Case, Sink, Verdict};
+use crate::frame::{Answer, Case, Sink, Verdict, f64_bytes, hex, request, send};
 use crate::random::Random;
 use crate::rust::{self, Command};
 use bbx_dsp::channel::ChannelLayout;
@@ -95,8 +95,10 @@ fn near(exact: Exact, bits: usize, rust: Option<f64>) -> Check {
 }
 
 fn as_the_rust(gain: f64, rust: Option<f64>) -> Result<(), String> {
+    // One that is NaN is not near.
+    let is_near = |rust: f64| (gain - rust).abs() <= 2f64.powi(-RUST_BITS);
     match rust {
-        Some(rust) if !((gain - rust).abs() <= 2f64.powi(-RUST_BITS)) => Err(format!("and the Rust's is {rust:e}")),
+        Some(rust) if !is_near(rust) => Err(format!("and the Rust's is {rust:e}")),
         _ => Ok(()),
     }
 }
@@ -124,7 +126,8 @@ fn near_by_squares(over: Exact, under: Exact, bits: usize, rust: Option<f64>) ->
 // ---- harmonics and weighted coefficients
 
 /// Document 01's h, q, o, m.
-static CONSTANTS: LazyLock<[Exact; 4]> = LazyLock::new(|| ["0.8660254037844386", "0.7905694150420949", "1.9364916731037085", "0.6123724356957945"].map(Exact::decimal));
+static CONSTANTS: LazyLock<[Exact; 4]> =
+    LazyLock::new(|| ["0.8660254037844386", "0.7905694150420949", "1.9364916731037085", "0.6123724356957945"].map(Exact::decimal));
 
 /// Document 01's sixteen formulas, with 2a, 3a and 2e formed exactly.
 pub fn harmonics(azimuth: f64, elevation: f64) -> Vec<Exact> {
@@ -174,17 +177,14 @@ fn max_re(order: usize, channel: usize) -> Exact {
 }
 
 fn refused_direction(order: u64, azimuth: f64, elevation: f64) -> Option<u8> {
-    if !(1..=3).contains(&order) {
-        Some(1)
-    } else {
-        (!(-180.0..=180.0).contains(&azimuth) || !(-90.0..=90.0).contains(&elevation)).then_some(3)
-    }
+    if !(1..=3).contains(&order) { Some(1) } else { (!(-180.0..=180.0).contains(&azimuth) || !(-90.0..=90.0).contains(&elevation)).then_some(3) }
 }
 
 /// The directions and orders that are tried: accepted ones, multiples of 90 and their neighbours, and refused ones.
 fn directions(random: &mut Random, count: usize) -> Vec<(u64, f64, f64)> {
     let mut all = Vec::new();
-    let next = |x: f64, off: i64| if x == 0.0 { f64::from_bits(off.unsigned_abs()) * off.signum() as f64 } else { f64::from_bits((x.to_bits() as i64 + off) as u64) };
+    let next =
+        |x: f64, off: i64| if x == 0.0 { f64::from_bits(off.unsigned_abs()) * off.signum() as f64 } else { f64::from_bits((x.to_bits() as i64 + off) as u64) };
     for order in 1..=3 {
         for azimuth in [-180.0, -135.0, -90.0, -60.0, -45.0, -30.0, -0.0, 0.0, 30.0, 45.0, 60.0, 90.0, 135.0, 180.0] {
             for elevation in [-90.0, -45.0, -30.0, -0.0, 0.0, 30.0, 45.0, 90.0] {
@@ -206,7 +206,11 @@ fn directions(random: &mut Random, count: usize) -> Vec<(u64, f64, f64)> {
         all.push((1 + random.below(3), part(random) * 360.0 - 180.0, part(random) * 180.0 - 90.0));
     }
     for _ in 0..count / 20 {
-        all.push((3, f64::from_bits(random.bits() & 0x800f_ffff_ffff_ffff | random.below(1030) << 52), f64::from_bits(random.bits() & 0x800f_ffff_ffff_ffff | random.below(1028) << 52)));
+        all.push((
+            3,
+            f64::from_bits(random.bits() & 0x800f_ffff_ffff_ffff | random.below(1030) << 52),
+            f64::from_bits(random.bits() & 0x800f_ffff_ffff_ffff | random.below(1028) << 52),
+        ));
     }
     let bad = [f64::NAN, f64::INFINITY, f64::NEG_INFINITY, 1e300, next(180.0, 1), next(-180.0, 1)];
     all.extend(bad.map(|azimuth| (2, azimuth, 0.0)));
@@ -387,11 +391,10 @@ pub fn surround(random: &mut Random, count: usize, sink: &mut Sink) {
     };
     send(
         sink,
-        all.into_iter()
-            .map(|(layout, azimuth)| {
-                let arguments = [layout.bytes(), azimuth.to_bits().to_be_bytes().to_vec()].concat();
-                case(SURROUND, arguments, move || right(layout, azimuth))
-            }),
+        all.into_iter().map(|(layout, azimuth)| {
+            let arguments = [layout.bytes(), azimuth.to_bits().to_be_bytes().to_vec()].concat();
+            case(SURROUND, arguments, move || right(layout, azimuth))
+        }),
     );
 }
 
@@ -441,15 +444,14 @@ pub fn decoder_matrix(random: &mut Random, count: usize, sink: &mut Sink) {
     }
     send(
         sink,
-        all.into_iter()
-            .map(|(order, layout, weights)| {
-                let lent: Vec<f64> = (0..weights).map(|_| f64::from_bits(random.bits())).collect();
-                let mut arguments = (lent.len() as u16).to_be_bytes().to_vec();
-                arguments.extend(order.to_be_bytes());
-                arguments.extend(layout.bytes());
-                arguments.extend(lent.iter().flat_map(|w| w.to_bits().to_be_bytes()));
-                case(DECODER_MATRIX, arguments, move || matrix_right(order, layout, &lent))
-            }),
+        all.into_iter().map(|(order, layout, weights)| {
+            let lent: Vec<f64> = (0..weights).map(|_| f64::from_bits(random.bits())).collect();
+            let mut arguments = (lent.len() as u16).to_be_bytes().to_vec();
+            arguments.extend(order.to_be_bytes());
+            arguments.extend(layout.bytes());
+            arguments.extend(lent.iter().flat_map(|w| w.to_bits().to_be_bytes()));
+            case(DECODER_MATRIX, arguments, move || matrix_right(order, layout, &lent))
+        }),
     );
 }
 
@@ -476,10 +478,39 @@ mod tests {
         for (azimuth, elevation) in [(0.0, 0.0), (30.0, 20.0), (-101.5, -44.0), (179.0, 89.0)] {
             let checks = || Right::Gains(harmonics(azimuth, elevation).into_iter().map(|x| near(x, HARMONICS_BITS, None)).collect());
             assert!(passes(judge(1, checks(), &answer(1, rust::gains(Command::Ambisonic(3, azimuth, elevation))))));
-            let weights = || Right::Gains(harmonics(azimuth, elevation).into_iter().enumerate().map(|(i, x)| near(x * max_re(3, i), WEIGHTED_BITS, None)).collect());
+            let weights =
+                || Right::Gains(harmonics(azimuth, elevation).into_iter().enumerate().map(|(i, x)| near(x * max_re(3, i), WEIGHTED_BITS, None)).collect());
             assert!(passes(judge(1, weights(), &answer(1, rust::weighted(3, azimuth, elevation).to_vec()))));
             assert!(judge(1, weights(), &answer(1, rust::weighted(2, azimuth, elevation).to_vec())).wrong.is_some());
         }
+    }
+
+    /// Each check lets its bound and nothing more, on both sides, and hears when the Rust is elsewhere.
+    #[test]
+    fn a_gain_is_judged_by_its_bound() {
+        let half = || Exact::whole(1).over(2);
+        let root = 0.5f64.sqrt();
+        for (off, is_right) in [(0.0, true), (2f64.powi(-31), true), (2f64.powi(-30), true), (2f64.powi(-30) * 1.001, false), (2f64.powi(-29), false)] {
+            for gain in [0.5 + off, 0.5 - off] {
+                assert_eq!(near(half(), 30, None)(gain).is_ok(), is_right, "{off:e}");
+                assert_eq!(near_by_squares(Exact::whole(1), Exact::whole(4), 30, None)(gain).is_ok(), is_right, "{off:e}");
+            }
+        }
+        for (off, is_right) in [(0.0, true), (2f64.powi(-31), true), (2f64.powi(-29), false)] {
+            for gain in [root + off, root - off, -root - off, -root + off] {
+                assert_eq!(near_by_squares(Exact::whole(1), Exact::whole(2), 30, None)(gain).is_ok(), is_right, "{off:e}");
+            }
+        }
+        assert!(near(half(), 30, None)(-0.5).is_err());
+        // A gain that is smaller than the bound, of an exact one that is 0.
+        let silent_by_squares = near_by_squares(Exact::whole(0), Exact::whole(2), 30, None);
+        assert!(silent_by_squares(0.0).is_ok() && silent_by_squares(2f64.powi(-31)).is_ok() && silent_by_squares(2f64.powi(-29)).is_err());
+        for (rust, is_right) in [(0.5, true), (0.5 + 2f64.powi(-30), true), (0.5 - 2f64.powi(-28), false), (f64::NAN, false)] {
+            assert_eq!(near(half(), 30, Some(rust))(0.5).is_ok(), is_right, "{rust}");
+            assert_eq!(near_by_squares(Exact::whole(1), Exact::whole(4), 30, Some(rust))(0.5).is_ok(), is_right, "{rust}");
+        }
+        assert!(silent()(0.0).is_ok() && silent()(-0.0).is_err() && silent()(5e-324).is_err());
+        assert!(silent_as(Some(1e-17))(0.0).is_ok() && silent_as(Some(1e-8))(0.0).is_err());
     }
 
     #[test]

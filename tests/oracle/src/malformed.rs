@@ -1,5 +1,5 @@
 //! Requests that break the form: each is answered as such, and the next is read as if nothing had been.
-use crate::frame::{exactly, request, send, Case, Sink};
+use crate::frame::{Case, Sink, exactly, request, send};
 use crate::random::Random;
 
 const NO_SUCH_OPERATION: u8 = 1;

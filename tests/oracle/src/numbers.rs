@@ -1,5 +1,5 @@
 //! Conversions and roots, against the processor's own.
-use crate::frame::{exactly, f32_bytes, f64_bytes, request, send, Sink};
+use crate::frame::{Sink, exactly, f32_bytes, f64_bytes, request, send};
 use crate::random::Random;
 
 const WIDEN: u8 = 1;
@@ -50,17 +50,25 @@ fn narrow_patterns(random: &mut Random, count: usize) -> Vec<u64> {
     all.extend((0..count).map(|_| near_a_tie(random)));
     // Around the end, 2^128 - 2^103 and 2^128, and around half of the smallest value.
     for around in [0x47ef_ffff_f000_0000u64, 0x47f0_0000_0000_0000, 0x3690_0000_0000_0000, 0x36a0_0000_0000_0000] {
-        all.extend((0..9).flat_map(|i| [around + i - 4, around + i - 4 | 1 << 63]));
+        all.extend((0..9).flat_map(|i| [around + i - 4, (around + i - 4) | 1 << 63]));
     }
     // Zeros, subnormals, the largest, infinities and NaNs of both kinds.
-    for bits in [0, 1, 0xf_ffff_ffff_ffff, 0x10_0000_0000_0000, 0x7fef_ffff_ffff_ffff, 0x7ff0_0000_0000_0000, 0x7ff0_0000_0000_0001, 0x7ff8_0000_0000_0000, 0x7fff_ffff_ffff_ffff] {
+    for bits in [
+        0, 1, 0xf_ffff_ffff_ffff, 0x10_0000_0000_0000, 0x7fef_ffff_ffff_ffff, 0x7ff0_0000_0000_0000, 0x7ff0_0000_0000_0001, 0x7ff8_0000_0000_0000,
+        0x7fff_ffff_ffff_ffff,
+    ] {
         all.extend([bits, bits | 1 << 63]);
     }
     all
 }
 
 pub fn narrow(random: &mut Random, count: usize, sink: &mut Sink) {
-    send(sink, narrow_patterns(random, count).into_iter().map(|bits| exactly(request(NARROW, &bits.to_be_bytes()), NARROW, f32_bytes(f64::from_bits(bits) as f32).to_vec())));
+    send(
+        sink,
+        narrow_patterns(random, count)
+            .into_iter()
+            .map(|bits| exactly(request(NARROW, &bits.to_be_bytes()), NARROW, f32_bytes(f64::from_bits(bits) as f32).to_vec())),
+    );
 }
 
 fn root_patterns(random: &mut Random, count: usize) -> Vec<u64> {
@@ -76,7 +84,10 @@ fn root_patterns(random: &mut Random, count: usize) -> Vec<u64> {
         ((root * root).to_bits() as i64 + random.below(5) as i64 - 2) as u64
     }));
     all.extend((0..count).map(|_| random.below(1 << 52) >> random.below(52)));
-    for bits in [0, 1, 2, 3, 4, 0xf_ffff_ffff_ffff, 0x10_0000_0000_0000, 0x10_0000_0000_0001, 0x3ff0_0000_0000_0000, 0x4000_0000_0000_0000, 0x4010_0000_0000_0000, 0x7fef_ffff_ffff_fffe, 0x7fef_ffff_ffff_ffff, 0x7ff0_0000_0000_0000, 0x7ff0_0000_0000_0001, 0x7fff_ffff_ffff_ffff] {
+    for bits in [
+        0, 1, 2, 3, 4, 0xf_ffff_ffff_ffff, 0x10_0000_0000_0000, 0x10_0000_0000_0001, 0x3ff0_0000_0000_0000, 0x4000_0000_0000_0000, 0x4010_0000_0000_0000,
+        0x7fef_ffff_ffff_fffe, 0x7fef_ffff_ffff_ffff, 0x7ff0_0000_0000_0000, 0x7ff0_0000_0000_0001, 0x7fff_ffff_ffff_ffff,
+    ] {
         all.extend([bits, bits | 1 << 63]);
     }
     all

@@ -4,8 +4,8 @@
 //! whose gain it narrows to another f32 are counted, and each has to have a listed cause: nothing but its gain differs, and
 //! that by no more than the cause allows.
 use crate::exact::{self, Exact};
-use crate::frame::{f32_bytes, hex, request, send, Answer, Case, Sink, Verdict};
-use crate::gains::{harmonics, is_compared, raw_gains, square, Layout};
+use crate::frame::{Answer, Case, Sink, Verdict, f32_bytes, hex, request, send};
+use crate::gains::{Layout, harmonics, is_compared, raw_gains, square};
 use crate::random::Random;
 use crate::rust;
 
@@ -124,7 +124,13 @@ impl Block {
     }
 
     fn case(self) -> Case {
-        Case { request: request(PAN, &self.arguments()), judge: Box::new(move |answer| self.judge(answer).unwrap_or_else(|why| Verdict { wrong: Some(format!("{why}: {} {}", answer.operation, hex(&answer.bytes))), ..Verdict::default() })) }
+        Case {
+            request: request(PAN, &self.arguments()),
+            judge: Box::new(move |answer| {
+                self.judge(answer)
+                    .unwrap_or_else(|why| Verdict { wrong: Some(format!("{why}: {} {}", answer.operation, hex(&answer.bytes))), ..Verdict::default() })
+            }),
+        }
     }
 
     fn judge(&self, answer: &Answer) -> Result<Verdict, String> {
@@ -199,7 +205,13 @@ impl Block {
 /// A block whose lengths fit. Its first input sample is 1.0.
 fn fitting(random: &mut Random, command: Command, layout: Layout, frames: usize, stride: usize) -> Block {
     let mut block = Block { command, layout, frames: frames as u64, stride: stride as u64, input: Vec::new(), planes: Vec::new() };
-    let mut sample = || if random.below(4) == 0 { f32::from_bits(random.bits() as u32) } else { f32::from_bits(random.bits() as u32 & 0x807f_ffff | (100 + random.below(40) as u32) << 23) };
+    let mut sample = || {
+        if random.below(4) == 0 {
+            f32::from_bits(random.bits() as u32)
+        } else {
+            f32::from_bits(random.bits() as u32 & 0x807f_ffff | (100 + random.below(40) as u32) << 23)
+        }
+    };
     block.input = (0..stride).map(|_| sample()).collect();
     if stride > 0 {
         block.input[0] = 1.0;
@@ -224,13 +236,36 @@ fn command(random: &mut Random, kind: u64) -> (Command, Layout) {
 
 fn refused(random: &mut Random) -> Vec<Case> {
     let mut all = Vec::new();
-    let commands = [Command::Stereo(10.0), Command::Stereo(f64::NAN), Command::Stereo(f64::INFINITY), Command::Surround(20.0), Command::Surround(181.0), Command::Surround(f64::NAN), Command::Direction(1.0, 2.0, 1), Command::Direction(1.0, 2.0, 0), Command::Direction(1.0, 2.0, 4), Command::Direction(181.0, 0.0, 1), Command::Direction(0.0, 91.0, 4), Command::Direction(0.0, f64::NAN, 2)];
+    let commands = [
+        Command::Stereo(10.0),
+        Command::Stereo(f64::NAN),
+        Command::Stereo(f64::INFINITY),
+        Command::Surround(20.0),
+        Command::Surround(181.0),
+        Command::Surround(f64::NAN),
+        Command::Direction(1.0, 2.0, 1),
+        Command::Direction(1.0, 2.0, 0),
+        Command::Direction(1.0, 2.0, 4),
+        Command::Direction(181.0, 0.0, 1),
+        Command::Direction(0.0, 91.0, 4),
+        Command::Direction(0.0, f64::NAN, 2),
+    ];
     for command in commands {
         for layout in [Layout(0, 0), Layout(1, 0), Layout(2, 0), Layout(3, 0), Layout(4, 0), Layout(4, 6), Layout(4, 17)] {
             all.push(fitting(random, command, layout, 1, 2).case());
         }
     }
-    let changes: [&dyn Fn(&mut Block); 9] = [&|b| b.stride = 1, &|b| b.frames = 4, &|b| b.frames = u64::MAX, &|b| b.stride = 1 << 62, &|b| b.stride = (1 << 63) + 3, &|b| _ = b.input.pop(), &|b| _ = b.planes.pop(), &|b| b.input.push(1.0), &|b| b.planes.push(1.0)];
+    let changes: [&dyn Fn(&mut Block); 9] = [
+        &|b| b.stride = 1,
+        &|b| b.frames = 4,
+        &|b| b.frames = u64::MAX,
+        &|b| b.stride = 1 << 62,
+        &|b| b.stride = (1 << 63) + 3,
+        &|b| _ = b.input.pop(),
+        &|b| _ = b.planes.pop(),
+        &|b| b.input.push(1.0),
+        &|b| b.planes.push(1.0),
+    ];
     for change in changes {
         for kind in 0..3 {
             let (command, layout) = command(random, kind);
@@ -277,7 +312,8 @@ mod tests {
 
     #[test]
     fn ninety_from_a_speaker_is_left_to_the_formula() {
-        let is_left = |layout: u8, azimuth: f64| fitting(&mut Random::new(7, "azimuths"), Command::Surround(azimuth), Layout(layout, 0), 1, 1).by_the_rust().is_none();
+        let is_left =
+            |layout: u8, azimuth: f64| fitting(&mut Random::new(7, "azimuths"), Command::Surround(azimuth), Layout(layout, 0), 1, 1).by_the_rust().is_none();
         let from_51 = [-160.0, -120.0, -90.0, -60.0, -20.0, 20.0, 60.0, 90.0, 120.0, 160.0];
         let from_71 = [-180.0, -120.0, -90.0, -60.0, 0.0, 60.0, 90.0, 120.0, 180.0];
         for azimuth in (-180..=180).map(f64::from) {

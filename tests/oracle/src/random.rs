@@ -25,3 +25,33 @@ impl Random {
         self.bits() % end
     }
 }
+
+#[cfg(test)]
+mod tests {
+    use super::*;
+
+    /// The numbers that are published for splitmix64 at this seed: a recorded sample is made of them on any machine.
+    #[test]
+    fn the_stream_is_splitmix64() {
+        let mut random = Random::new(1234567, "");
+        let known = [6457827717110365317, 3203168211198807973, 9817491932198370423, 4593380528125082431, 16408922859458223821];
+        assert_eq!(known.map(|_| random.bits()), known);
+        let mut random = Random::new(0, "");
+        assert_eq!([random.bits(), random.bits()], [0xe220_a839_7b1d_cdaf, 0x6e78_9e6a_a1b9_65f4]);
+    }
+
+    #[test]
+    fn a_stream_is_its_seed_and_its_name() {
+        let first = |seed: u64, name: &str| Random::new(seed, name).bits();
+        assert_eq!(first(1, "sine"), first(1, "sine"));
+        assert!(first(1, "sine") != first(2, "sine") && first(1, "sine") != first(1, "cosine") && first(1, "ab") != first(1, "ba"));
+    }
+
+    #[test]
+    fn what_is_below_an_end_takes_every_value_below_it() {
+        let mut random = Random::new(3, "below");
+        let mut seen = [0; 5];
+        (0..200).for_each(|_| seen[random.below(5) as usize] += 1);
+        assert!(seen.iter().all(|n| *n > 0));
+    }
+}

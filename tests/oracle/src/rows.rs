@@ -1,5 +1,5 @@
 //! Binaural rows, against the Rust's `compute_matrix`, bit for bit.
-use crate::frame::{exactly, f64_bytes, request, send, Case, Sink};
+use crate::frame::{Case, Sink, exactly, f64_bytes, request, send};
 use crate::random::Random;
 use bbx_dsp::blocks::effectors::binaural_decoder::matrix;
 

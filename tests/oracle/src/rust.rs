@@ -32,6 +32,11 @@ fn run<S: Sample>(block: &mut dyn Block<S>, inputs: &[Vec<S>], before: Vec<Vec<S
 
 /// Plays mono samples at a command, into planes that hold `before`.
 pub fn pan<S: Sample>(command: Command, input: &[S], before: Vec<Vec<S>>) -> Vec<Vec<S>> {
+    pan_planes(command, &[input.to_vec()], before)
+}
+
+/// The same with any number of input planes, as the block takes them.
+pub fn pan_planes<S: Sample>(command: Command, inputs: &[Vec<S>], before: Vec<Vec<S>>) -> Vec<Vec<S>> {
     let mut panner = match command {
         Command::Stereo(position) => PannerBlock::new_stereo(position),
         Command::Surround(layout, _) => PannerBlock::new_surround(layout),
@@ -43,7 +48,7 @@ pub fn pan<S: Sample>(command: Command, input: &[S], before: Vec<Vec<S>>) -> Vec
     if let Command::Ambisonic(_, _, elevation) = command {
         panner.elevation = Parameter::constant(S::from_f64(elevation));
     }
-    run(&mut panner, &[input.to_vec()], before)
+    run(&mut panner, inputs, before)
 }
 
 /// The gains of a command: what one sample of 1.0 becomes at S = f64, where a product with 1.0 is exact.
@@ -65,9 +70,14 @@ pub fn decoder_matrix(order: usize, layout: ChannelLayout) -> Vec<Vec<f64>> {
     run(&mut block, &units, vec![vec![0.0; channels]; layout.channel_count()])
 }
 
-/// Plays planes through a matrix of the test's.
+/// Plays planes through a matrix of the test's. Of the 16 channels that it has there, as many count as there are planes.
 pub fn decode(weights: &[&[f64]], inputs: &[Vec<f32>], before: Vec<Vec<f32>>) -> Vec<Vec<f32>> {
-    let mut block = AmbisonicDecoderBlock::with_weights(3, ChannelLayout::Custom(weights.len()), weights);
+    decode_order(3, weights, inputs, before)
+}
+
+/// The same with no more channels than an order has.
+pub fn decode_order(order: usize, weights: &[&[f64]], inputs: &[Vec<f32>], before: Vec<Vec<f32>>) -> Vec<Vec<f32>> {
+    let mut block = AmbisonicDecoderBlock::with_weights(order, ChannelLayout::Custom(weights.len()), weights);
     run(&mut block, inputs, before)
 }
 
@@ -171,9 +181,14 @@ impl Convolver {
 
     /// Plays planes into ears that hold `before`, left and right.
     pub fn process(&mut self, inputs: &[Vec<f32>], before: [Vec<f32>; 2]) -> [Vec<f32>; 2] {
+        self.process_channels(inputs.len(), inputs, before)
+    }
+
+    /// The same with a count of channels that need not be that of the planes.
+    pub fn process_channels(&mut self, channels: usize, inputs: &[Vec<f32>], before: [Vec<f32>; 2]) -> [Vec<f32>; 2] {
         let [mut left, mut right] = before;
         let planes: Vec<&[f32]> = inputs.iter().map(Vec::as_slice).collect();
-        self.convolver.process(&planes, &mut left, &mut right, inputs.len());
+        self.convolver.process(&planes, &mut left, &mut right, channels);
         [left, right]
     }
 }

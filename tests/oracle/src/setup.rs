@@ -3,8 +3,8 @@
 //! are exactly 1.0 and 0.0, and ambisonic ones are held to document 01's formulas within its bound and to the Rust's virtual
 //! speakers within 2^-29. The rows are document 01's choice for those directions, written in bank.rs.
 use crate::bank::nearest_row;
-use crate::frame::{f64_bytes, hex, request, Answer, Case, Sink, Verdict};
-use crate::gains::{check_all, weighted_checks, Check, Layout};
+use crate::frame::{Answer, Case, Sink, Verdict, f64_bytes, hex, request};
+use crate::gains::{Check, Layout, check_all, weighted_checks};
 use crate::random::Random;
 use crate::rust::{self, Impulses};
 use bbx_dsp::blocks::effectors::binaural_decoder::virtual_speaker::layouts::FOA_POSITIONS;
@@ -34,7 +34,13 @@ impl Whose {
             Whose::Layout(Layout(2, _)) => Ok((6, 6)),
             Whose::Layout(Layout(3, _)) => Ok((8, 8)),
             Whose::Layout(_) => Err(2),
-            Whose::Order(order) => if (1..=3).contains(&order) { Ok((8, (order as usize + 1).pow(2))) } else { Err(1) },
+            Whose::Order(order) => {
+                if (1..=3).contains(&order) {
+                    Ok((8, (order as usize + 1).pow(2)))
+                } else {
+                    Err(1)
+                }
+            }
         }
     }
 
@@ -85,7 +91,13 @@ impl SetUp {
         match self.whose.counts() {
             Err(refusal) => refusal,
             Ok(_) if !(1..=8).contains(&self.rows) => 2,
-            Ok((speakers, channels)) => if self.azimuths.len() == 8 && self.weights.len() == speakers * channels { 0 } else { 5 },
+            Ok((speakers, channels)) => {
+                if self.azimuths.len() == 8 && self.weights.len() == speakers * channels {
+                    0
+                } else {
+                    5
+                }
+            }
         }
     }
 
@@ -128,7 +140,11 @@ impl SetUp {
         for s in 0..speakers {
             (0..channels).for_each(|c| played.add(c, self.whose.azimuth(s), weight(s, c)));
         }
-        if played.is_near(self.whose.impulses(), 2f64.powi(-IMPULSE_BITS)) { Ok(worst) } else { Err("the Rust's constructor has other weights or directions".to_string()) }
+        if played.is_near(self.whose.impulses(), 2f64.powi(-IMPULSE_BITS)) {
+            Ok(worst)
+        } else {
+            Err("the Rust's constructor has other weights or directions".to_string())
+        }
     }
 
     fn judge(&self, answer: &Answer) -> Verdict {
@@ -240,14 +256,14 @@ mod tests {
     fn judged(whose: Whose, change: impl Fn(&mut Vec<u8>)) -> bool {
         let call = SetUp::fitting(&mut Random::new(3, "set-up"), whose, 5);
         let (speakers, channels) = whose.counts().unwrap();
-        let mut bytes = call.head(0);
-        for s in 0..speakers {
-            let weights: Vec<f64> = match whose {
+        let weights = |s: usize| -> Vec<f64> {
+            match whose {
                 Whose::Layout(_) => (0..channels).map(|c| f64::from(u8::from(c == s))).collect(),
                 Whose::Order(order) => rust::weighted(order as usize, FOA_POSITIONS[s].0, FOA_POSITIONS[s].1)[..channels].to_vec(),
-            };
-            bytes.extend(weights.iter().flat_map(|w| w.to_bits().to_be_bytes()));
-        }
+            }
+        };
+        let mut bytes = call.head(0);
+        bytes.extend((0..speakers).flat_map(weights).flat_map(|w| w.to_bits().to_be_bytes()));
         change(&mut bytes);
         call.judge(&Answer { operation: call.operation(), bytes }).wrong.is_none()
     }

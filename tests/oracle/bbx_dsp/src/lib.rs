@@ -6,10 +6,13 @@
 //! What the files name and was not supplied is stood in for, in a small file each: `block`, `context`, `math`,
 //! `parameter`, `sample`, `smoothing` and `blocks::effectors::binaural_decoder::hrir_data`. docs/DIFFERENCES.md
 //! says which conclusions rest on them.
-#![allow(clippy::all)]
 
 pub mod block;
 pub mod blocks;
+// Copied byte for byte, so neither the formatter nor the linter has a say in it. tests/copied holds every copied file to
+// its checksum.
+#[rustfmt::skip]
+#[allow(clippy::all)]
 pub mod channel;
 pub mod context;
 pub mod math;

@@ -1,3 +1,9 @@
+// Copied byte for byte, but for what is added at the end of the first: neither the formatter nor the linter has a say in it.
+#[rustfmt::skip]
+#[allow(clippy::all)]
 pub mod ambisonic_decoder;
-pub mod binaural_decoder;
+#[rustfmt::skip]
+#[allow(clippy::all)]
 pub mod panner;
+
+pub mod binaural_decoder;
