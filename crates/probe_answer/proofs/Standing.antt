@@ -1,0 +1,135 @@
+-- What stands in an answer: a part that had room is there, and what is put behind it leaves it as it is. Assumes nothing.
+use mathlib.Core.Path.{_≡_, refl, sym, ap, _∙_}
+use mathlib.Core.List.{List, [], _∷_, _++_, append-assoc}
+use mathlib.Core.Logic.{⊎-elim}
+use Prim.Native.Nat.{ℕ, _+_, _%_, _^_, _≤_, _<_}
+use native.Mathlib.Omega.{arith}
+use lib.ListN.{length, take, drop, length-append}
+use lib.Seq.{take-append-le, take-take, take-at, drop-at, length-take-le}
+use Rattle.lists.specs.Placed.{placed}
+use Rattle.lists.proofs.Placed.{length-placed}
+use Rattle.lists.proofs.Lists.{split, drop-take}
+use Rattle.lists.proofs.Tables.{part-is}
+use Rattle.big_endian.specs.Bytes.{valueOf, bytesOf}
+use Rattle.big_endian.specs.Fields.{fieldAt}
+use Rattle.big_endian.proofs.Bytes.{length-bytes, value-bytes}
+use Rattle.big_endian.proofs.Fields.{field-lies}
+use Rattle.probe_answer.specs.Answers.{Draft, nowhere, cut, _then_}
+use Rattle.probe_answer.proofs.Answers.{then-room, then-cut, cut-then}
+
+-- a field is known by the bytes up to its end
+same-field : (s t : List ℕ) (at count : ℕ) → length s ≡ length t → take (at + count) s ≡ take (at + count) t → fieldAt s at count ≡ fieldAt t at count
+unfolding fieldAt
+same-field s t at count long e =
+    let last : (l : List ℕ) → take count (drop at l) ≡ drop at (take (at + count) l) = λ l. sym (drop-take at (at + count) l ∙ part-is at count l) in
+    let part : take count (drop at s) ≡ take count (drop at t) = last s ∙ ap (drop at) e ∙ sym (last t) in
+    cc
+
+module _ (d : Draft) (part : List ℕ) where
+  pub then-long : length ((d then part) .bytes) ≡ length (d .bytes)
+  then-long =
+      ⊎-elim (λ s. ap (λ (e : Draft). length (e .bytes)) (then-cut d part s))
+      (λ r. ap (λ (e : Draft). length (e .bytes)) (then-room d part r) ∙ length-placed (d .bytes) (d .place) part r)
+      (split (length (d .bytes)) (d .place + length part))
+
+  -- what stands before the place stays
+  pub then-before : (n : ℕ) → n ≤ d .place → take n ((d then part) .bytes) ≡ take n (d .bytes)
+  unfolding placed
+  then-before n h =
+      let bytes = d .bytes in
+      let at = d .place in
+      ⊎-elim (λ s. ap (λ (e : Draft). take n (e .bytes)) (then-cut d part s))
+      (λ r.
+      let front : length (take at bytes) ≡ at = length-take-le at bytes (omega arith) in
+      let long = length-append (take at bytes) part in
+      ap (λ (e : Draft). take n (e .bytes)) (then-room d part r)
+      ∙ take-append-le n (take at bytes ++ part) (drop (at + length part) bytes) (omega arith)
+      ∙ take-append-le n (take at bytes) part (omega arith)
+      ∙ take-take n at bytes h)
+      (split (length bytes) (at + length part))
+
+  -- and the part stands from there on
+  pub then-there : d .place + length part ≤ length (d .bytes) → take (length part) (drop (d .place) ((d then part) .bytes)) ≡ part
+  unfolding placed
+  then-there r =
+      let bytes = d .bytes in
+      let at = d .place in
+      let rest = drop (at + length part) bytes in
+      ap (λ (e : Draft). take (length part) (drop at (e .bytes))) (then-room d part r)
+      ∙ ap (λ (l : List ℕ). take (length part) (drop at l)) (append-assoc (take at bytes) part rest)
+      ∙ ap (take (length part)) (drop-at (take at bytes) (part ++ rest) at (length-take-le at bytes (omega arith)))
+      ∙ take-at part rest (length part) refl
+
+  -- the next place is no earlier one
+  pub then-further : (n : ℕ) → n ≤ d .place → n ≤ nowhere → n ≤ (d then part) .place
+  then-further n h k =
+      ⊎-elim (λ s. omega (arith, ap (λ (e : Draft). e .place) (then-cut d part s))) (λ r. omega (arith, ap (λ (e : Draft). e .place) (then-room d part r)))
+      (split (length (d .bytes)) (d .place + length part))
+
+-- ---- parts, one behind the other
+
+abbrev pub parts : Draft → List (List ℕ) → Draft
+parts d [] = d
+parts d (p ∷ ps) = parts (d then p) ps
+
+-- how many bytes they have
+abbrev pub total : List (List ℕ) → ℕ
+total [] = 0
+total (p ∷ ps) = length p + total ps
+
+pub parts-room : (ps : List (List ℕ)) (d : Draft) → d .place + total ps ≤ length (d .bytes) → parts d ps .place ≡ d .place + total ps
+parts-room [] d h = omega arith
+parts-room (p ∷ ps) d h =
+    let next : (d then p) .place ≡ d .place + length p = ap (λ (e : Draft). e .place) (then-room d p (omega arith)) in
+    let long = then-long d p in
+    omega (arith, parts-room ps (d then p) (omega arith))
+
+parts-nowhere : (ps : List (List ℕ)) (d : Draft) → length (d .bytes) < nowhere → parts (cut d) ps .place ≡ nowhere
+parts-nowhere [] d h = refl
+parts-nowhere (p ∷ ps) d h = ap (λ (e : Draft). parts e ps .place) (cut-then d p h) ∙ parts-nowhere ps d h
+
+pub parts-cut : (ps : List (List ℕ)) (d : Draft) → d .place ≤ length (d .bytes) → length (d .bytes) < d .place + total ps → length (d .bytes) < nowhere → parts d ps .place ≡ nowhere
+parts-cut [] d inside short h = absurd (omega arith)
+parts-cut (p ∷ ps) d inside short h =
+    ⊎-elim (λ s. ap (λ (e : Draft). parts e ps .place) (then-cut d p s) ∙ parts-nowhere ps d h)
+    (λ r.
+    let next : (d then p) .place ≡ d .place + length p = ap (λ (e : Draft). e .place) (then-room d p r) in
+    let long = then-long d p in
+    parts-cut ps (d then p) (omega arith) (omega arith) (omega arith))
+    (split (length (d .bytes)) (d .place + length p))
+
+-- so an answer of another length is another answer
+pub other-length : (ps qs : List (List ℕ)) (d : Draft) → d .place + total ps ≤ length (d .bytes) → length (d .bytes) < nowhere → (total ps ≡ total qs → ⊥) → parts d ps ≡ parts d qs → ⊥
+other-length ps qs d room h other e =
+    let one = parts-room ps d room in
+    let same : parts d ps .place ≡ parts d qs .place = ap (λ (x : Draft). x .place) e in
+    ⊎-elim (λ s. omega (arith, parts-cut qs d (omega arith) s h)) (λ r. other (omega (arith, parts-room qs d r))) (split (length (d .bytes)) (d .place + total qs))
+
+-- ---- a number in an answer
+
+-- the number n stands in `count` bytes from `at` on, and the next part goes behind it
+pub record Told (at count n : ℕ) (d : Draft) : Type 0 where
+  pub value : fieldAt (d .bytes) at count ≡ n % 256 ^ count
+  pub behind : at + count ≤ d .place
+
+module _ (at count n : ℕ) where
+  pub told : (d : Draft) → d .place ≡ at → count ≤ 8 → at + count ≤ length (d .bytes) → Told at count n (d then bytesOf count n)
+  told d e small room =
+      let part = bytesOf count n in
+      let size = length-bytes count n in
+      let long = then-long d part in
+      let inside : d .place + length part ≤ length (d .bytes) = omega arith in
+      let there : take count (drop at ((d then part) .bytes)) ≡ part = (λ i. take (sym size i) (drop (sym e i) ((d then part) .bytes))) ∙ then-there d part inside in
+      record {
+        value = field-lies ((d then part) .bytes) at count small (omega arith) ∙ ap valueOf there ∙ value-bytes count n;
+        behind = omega (arith, ap (λ (x : Draft). x .place) (then-room d part inside));
+      }
+
+  pub still-told : (ps : List (List ℕ)) (d : Draft) → at + count ≤ nowhere → Told at count n d → Told at count n (parts d ps)
+  still-told [] d h t = t
+  still-told (p ∷ ps) d h t =
+      still-told ps (d then p) h
+      (record {
+        value = same-field ((d then p) .bytes) (d .bytes) at count (then-long d p) (then-before d p (at + count) (t .behind)) ∙ t .value;
+        behind = then-further d p (at + count) (t .behind) h;
+      })
