@@ -2,19 +2,22 @@
 use mathlib.Core.Path.{_≡_, refl, sym, ap, _∙_}
 use mathlib.Core.List.{List, [], _∷_, _++_, append-assoc}
 use mathlib.Core.Logic.{⊎-elim}
-use Prim.Native.Nat.{ℕ, _+_, _%_, _^_, _≤_, _<_}
+use Prim.Native.Nat.{ℕ, zero, suc, _+_, _*_, _%_, _^_, _≤_, _<_}
+use native.Mathlib.Nat.{mul-zero, mul-suc, not-suc-le-zero, le-of-suc-le-suc}
 use native.Mathlib.Omega.{arith}
-use lib.ListN.{length, take, drop, length-append}
-use lib.Seq.{take-append-le, take-take, take-at, drop-at, length-take-le}
+use lib.ListN.{length, getD, take, drop, length-append}
+use lib.Seq.{take-append-le, drop-append-add, take-take, take-at, drop-at, length-take-le}
 use Rattle.lists.specs.Placed.{placed}
 use Rattle.lists.proofs.Placed.{length-placed}
 use Rattle.lists.proofs.Lists.{split, drop-take}
 use Rattle.lists.proofs.Tables.{part-is}
 use Rattle.big_endian.specs.Bytes.{valueOf, bytesOf}
 use Rattle.big_endian.specs.Fields.{fieldAt}
+use Rattle.big_endian.specs.Lists.{fieldBytes}
 use Rattle.big_endian.proofs.Bytes.{length-bytes, value-bytes}
 use Rattle.big_endian.proofs.Fields.{field-lies}
-use Rattle.probe_answer.specs.Answers.{Draft, nowhere, cut, _then_}
+use Rattle.big_endian.proofs.Lists.{fieldBytes-more}
+use Rattle.probe_answer.specs.Answers.{Draft, draft, none, nowhere, cut, _then_}
 use Rattle.probe_answer.proofs.Answers.{then-room, then-cut, cut-then}
 
 -- a field is known by the bytes up to its end
@@ -66,6 +69,29 @@ module _ (d : Draft) (part : List ℕ) where
       ⊎-elim (λ s. omega (arith, ap (λ (e : Draft). e .place) (then-cut d part s))) (λ r. omega (arith, ap (λ (e : Draft). e .place) (then-room d part r)))
       (split (length (d .bytes)) (d .place + length part))
 
+-- so what is put is known by what stands there
+pub then-same : (d : Draft) (p q : List ℕ) → length p ≡ length q → d .place + length p ≤ length (d .bytes) → d then p ≡ d then q → p ≡ q
+then-same d p q long room e =
+    sym (then-there d p room) ∙ (λ i. take (long i) (drop (d .place) (e i .bytes))) ∙ then-there d q (omega arith)
+
+-- ---- the entries of a list, over the width and the bits
+
+module _ {A : Type 0} (w : ℕ) (bits : A → ℕ) where
+  pub entry-bytes : (list : List A) (i : ℕ) (x : A) → i < length list → take w (drop (w * i) (fieldBytes w bits list)) ≡ bytesOf w (bits (getD list i x))
+  entry-bytes [] i x h = absurd (not-suc-le-zero h)
+  entry-bytes (y ∷ ys) zero x h =
+      rw (mul-zero, fieldBytes-more w bits y ys) (take-at (bytesOf w (bits y)) (fieldBytes w bits ys) w (length-bytes w (bits y)))
+  entry-bytes (y ∷ ys) (suc i) x h =
+      let next : w * suc i ≡ length (bytesOf w (bits y)) + w * i = mul-suc w i ∙ omega (arith, length-bytes w (bits y)) in
+      rw (fieldBytes-more w bits y ys, next, drop-append-add) (entry-bytes ys i x (le-of-suc-le-suc h))
+
+  -- so entries are known by their bytes
+  pub same-entry : (xs ys : List A) (i : ℕ) (x : A) → i < length xs → i < length ys → fieldBytes w bits xs ≡ fieldBytes w bits ys → bits (getD xs i x) % 256 ^ w ≡ bits (getD ys i x) % 256 ^ w
+  same-entry xs ys i x h k e =
+      sym (value-bytes w (bits (getD xs i x)))
+      ∙ ap valueOf (sym (entry-bytes xs i x h) ∙ ap (λ (l : List ℕ). take w (drop (w * i) l)) e ∙ entry-bytes ys i x k)
+      ∙ value-bytes w (bits (getD ys i x))
+
 -- ---- parts, one behind the other
 
 abbrev pub parts : Draft → List (List ℕ) → Draft
@@ -105,6 +131,13 @@ other-length ps qs d room h other e =
     let same : parts d ps .place ≡ parts d qs .place = ap (λ (x : Draft). x .place) e in
     ⊎-elim (λ s. omega (arith, parts-cut qs d (omega arith) s h)) (λ r. other (omega (arith, parts-room qs d r))) (split (length (d .bytes)) (d .place + total qs))
 
+-- nor does one stand behind the start
+pub behind-the-start : (ps : List (List ℕ)) (out : List ℕ) (k : ℕ) → total ps ≤ length out → length out < nowhere → 0 < k → k ≤ length out → parts (none out) ps ≡ parts (draft k out) ps → ⊥
+behind-the-start ps out k room h some inside e =
+    let one = parts-room ps (none out) (omega arith) in
+    let same : parts (none out) ps .place ≡ parts (draft k out) ps .place = ap (λ (x : Draft). x .place) e in
+    ⊎-elim (λ s. omega (arith, parts-cut ps (draft k out) inside s h)) (λ r. omega (arith, parts-room ps (draft k out) r)) (split (length out) (k + total ps))
+
 -- ---- a number in an answer
 
 -- the number n stands in `count` bytes from `at` on, and the next part goes behind it
@@ -133,3 +166,7 @@ module _ (at count n : ℕ) where
         value = same-field ((d then p) .bytes) (d .bytes) at count (then-long d p) (then-before d p (at + count) (t .behind)) ∙ t .value;
         behind = then-further d p (at + count) (t .behind) h;
       })
+
+-- the refusal with which answers begin
+pub first-told : (refusal : ℕ) (ps : List (List ℕ)) (out : List ℕ) → 1 ≤ length out → Told 0 1 refusal (parts (none out then bytesOf 1 refusal) ps)
+first-told refusal ps out room = still-told 0 1 refusal ps (none out then bytesOf 1 refusal) (omega arith) (told 0 1 refusal (none out) refl (omega arith) room)
