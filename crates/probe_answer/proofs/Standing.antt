@@ -17,8 +17,8 @@ use Rattle.big_endian.specs.Lists.{fieldBytes}
 use Rattle.big_endian.proofs.Bytes.{length-bytes, value-bytes}
 use Rattle.big_endian.proofs.Fields.{field-lies}
 use Rattle.big_endian.proofs.Lists.{fieldBytes-more}
-use Rattle.probe_answer.specs.Answers.{Draft, draft, none, nowhere, cut, _then_}
-use Rattle.probe_answer.proofs.Answers.{then-room, then-cut, cut-then}
+use Rattle.probe_answer.specs.Answers.{Draft, draft, none, taking, nowhere, cut, _then_}
+use Rattle.probe_answer.proofs.Answers.{taken, then-room, then-cut, cut-then}
 
 -- a field is known by the bytes up to its end
 same-field : (s t : List ℕ) (at count : ℕ) → length s ≡ length t → take (at + count) s ≡ take (at + count) t → fieldAt s at count ≡ fieldAt t at count
@@ -170,3 +170,7 @@ module _ (at count n : ℕ) where
 -- the refusal with which answers begin
 pub first-told : (refusal : ℕ) (ps : List (List ℕ)) (out : List ℕ) → 1 ≤ length out → Told 0 1 refusal (parts (none out then bytesOf 1 refusal) ps)
 first-told refusal ps out room = still-told 0 1 refusal ps (none out then bytesOf 1 refusal) (omega arith) (told 0 1 refusal (none out) refl (omega arith) room)
+
+-- what an answer tells is told where it is given
+pub taken-told : {at count n : ℕ} (size : ℕ) (args out : List ℕ) (r : Draft) {d : Draft} → r ≡ taking size args out d → length args ≡ size → Told at count n d → fieldAt (r .bytes) at count ≡ n % 256 ^ count
+taken-told {at} {count} size args out r {d} is long t = ap (λ (x : Draft). fieldAt (x .bytes) at count) (is ∙ sym (taken size args out d long)) ∙ t .value
