@@ -7,18 +7,19 @@ use native.Mathlib.Nat.{mul-zero, mul-suc, not-suc-le-zero, le-of-suc-le-suc}
 use native.Mathlib.Omega.{arith}
 use lib.ListN.{length, getD, take, drop, length-append}
 use lib.Seq.{take-append-le, drop-append-add, take-take, take-at, drop-at, length-take-le}
+use lib.Ieee.{Float, binary64, toBits}
 use Rattle.lists.specs.Placed.{placed}
 use Rattle.lists.proofs.Placed.{length-placed}
 use Rattle.lists.proofs.Lists.{split, drop-take}
 use Rattle.lists.proofs.Tables.{part-is}
 use Rattle.big_endian.specs.Bytes.{valueOf, bytesOf}
 use Rattle.big_endian.specs.Fields.{fieldAt}
-use Rattle.big_endian.specs.Lists.{fieldBytes}
+use Rattle.big_endian.specs.Lists.{fieldBytes, doubleBytes}
 use Rattle.big_endian.proofs.Bytes.{length-bytes, value-bytes}
 use Rattle.big_endian.proofs.Fields.{field-lies}
-use Rattle.big_endian.proofs.Lists.{fieldBytes-more}
-use Rattle.probe_answer.specs.Answers.{Draft, draft, none, taking, nowhere, cut, _then_}
-use Rattle.probe_answer.proofs.Answers.{taken, then-room, then-cut, cut-then}
+use Rattle.big_endian.proofs.Lists.{fieldBytes-more, length-fieldBytes}
+use Rattle.probe_answer.specs.Answers.{Draft, draft, none, taking, nowhere, cut, _then_, refusalAndDoubles}
+use Rattle.probe_answer.proofs.Answers.{taken, untaken, then-room, then-cut, cut-then}
 
 -- a field is known by the bytes up to its end
 same-field : (s t : List ℕ) (at count : ℕ) → length s ≡ length t → take (at + count) s ≡ take (at + count) t → fieldAt s at count ≡ fieldAt t at count
@@ -138,6 +139,26 @@ behind-the-start ps out k room h some inside e =
     let same : parts (none out) ps .place ≡ parts (draft k out) ps .place = ap (λ (x : Draft). x .place) e in
     ⊎-elim (λ s. omega (arith, parts-cut ps (draft k out) inside s h)) (λ r. omega (arith, parts-room ps (draft k out) r)) (split (length out) (k + total ps))
 
+-- what begins with a refusal is counted, whether it has room or not
+parts-further : (ps : List (List ℕ)) (d : Draft) (n : ℕ) → n ≤ d .place → n ≤ nowhere → n ≤ parts d ps .place
+parts-further [] d n h k = h
+parts-further (p ∷ ps) d n h k = parts-further ps (d then p) n (then-further d p n h k) k
+
+pub counted : (refusal : ℕ) (ps : List (List ℕ)) (out : List ℕ) → 0 < parts (none out then bytesOf 1 refusal) ps .place
+counted refusal ps out =
+    let d = none out in
+    let part = bytesOf 1 refusal in
+    let one = length-bytes 1 refusal in
+    parts-further ps (d then part) 1
+    (⊎-elim (λ s. omega (arith, ap (λ (e : Draft). e .place) (then-cut d part s))) (λ r. omega (arith, ap (λ (e : Draft). e .place) (then-room d part r))) (split (length out) (0 + length part)))
+    (omega arith)
+
+-- so an operation is not answered as one that takes arguments of another length
+pub other-arguments : (size other : ℕ) (args out : List ℕ) (d e r : Draft) → r ≡ taking size args out d → 0 < d .place → length args ≡ size → (size ≡ other → ⊥) → r ≡ taking other args out e → ⊥
+other-arguments size other args out d e r is some long differs wrong =
+    let same : d ≡ none out = taken size args out d long ∙ sym is ∙ wrong ∙ sym (untaken other args out e (λ h. differs (sym long ∙ h))) in
+    omega (arith, ap (λ (x : Draft). x .place) same)
+
 -- ---- a number in an answer
 
 -- the number n stands in `count` bytes from `at` on, and the next part goes behind it
@@ -174,3 +195,17 @@ first-told refusal ps out room = still-told 0 1 refusal ps (none out then bytesO
 -- what an answer tells is told where it is given
 pub taken-told : {at count n : ℕ} (size : ℕ) (args out : List ℕ) (r : Draft) {d : Draft} → r ≡ taking size args out d → length args ≡ size → Told at count n d → fieldAt (r .bytes) at count ≡ n % 256 ^ count
 taken-told {at} {count} size args out r {d} is long t = ap (λ (x : Draft). fieldAt (x .bytes) at count) (is ∙ sym (taken size args out d long)) ∙ t .value
+
+-- and the numbers behind the refusal
+pub doubles-known : (refusal : ℕ) (xs ys : List Float) (out : List ℕ) → length xs ≡ length ys → 1 + 8 * length xs ≤ length out → refusalAndDoubles refusal xs out ≡ refusalAndDoubles refusal ys out
+    → doubleBytes xs ≡ doubleBytes ys
+unfolding refusalAndDoubles
+doubles-known refusal xs ys out same room =
+    let d = none out in
+    let part = bytesOf 1 refusal in
+    let one = length-bytes 1 refusal in
+    let x = length-fieldBytes 8 (toBits binary64) xs in
+    let y = length-fieldBytes 8 (toBits binary64) ys in
+    let place : (d then part) .place ≡ 1 = ap (λ (e : Draft). e .place) (then-room d part (omega arith)) ∙ omega arith in
+    let long = then-long d part in
+    then-same (d then part) (doubleBytes xs) (doubleBytes ys) (x ∙ ap (λ (n : ℕ). 8 * n) same ∙ sym y) (omega arith)
