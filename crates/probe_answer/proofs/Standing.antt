@@ -192,6 +192,15 @@ module _ (at count n : ℕ) where
 pub first-told : (refusal : ℕ) (ps : List (List ℕ)) (out : List ℕ) → 1 ≤ length out → Told 0 1 refusal (parts (none out then bytesOf 1 refusal) ps)
 first-told refusal ps out room = still-told 0 1 refusal ps (none out then bytesOf 1 refusal) (omega arith) (told 0 1 refusal (none out) refl (omega arith) room)
 
+-- and the number behind it
+pub second-told : (refusal count n : ℕ) (ps : List (List ℕ)) (out : List ℕ) → count ≤ 8 → 1 + count ≤ length out → Told 1 count n (parts (none out then bytesOf 1 refusal then bytesOf count n) ps)
+second-told refusal count n ps out small room =
+    let d = none out then bytesOf 1 refusal in
+    let one = length-bytes 1 refusal in
+    let long = then-long (none out) (bytesOf 1 refusal) in
+    let place : d .place ≡ 1 = ap (λ (e : Draft). e .place) (then-room (none out) (bytesOf 1 refusal) (omega arith)) ∙ omega arith in
+    still-told 1 count n ps (d then bytesOf count n) (omega arith) (told 1 count n d place small (omega arith))
+
 -- what an answer tells is told where it is given
 pub taken-told : {at count n : ℕ} (size : ℕ) (args out : List ℕ) (r : Draft) {d : Draft} → r ≡ taking size args out d → length args ≡ size → Told at count n d → fieldAt (r .bytes) at count ≡ n % 256 ^ count
 taken-told {at} {count} size args out r {d} is long t = ap (λ (x : Draft). fieldAt (x .bytes) at count) (is ∙ sym (taken size args out d long)) ∙ t .value
