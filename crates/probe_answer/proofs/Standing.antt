@@ -1,7 +1,7 @@
 -- What stands in an answer: a part that had room is there, and what is put behind it leaves it as it is. Assumes nothing.
 use mathlib.Core.Path.{_≡_, refl, sym, ap, _∙_}
 use mathlib.Core.List.{List, [], _∷_, _++_, append-assoc}
-use mathlib.Core.Logic.{⊎-elim}
+use mathlib.Core.Logic.{_⊎_, inl, inr, ⊎-elim}
 use Prim.Native.Nat.{ℕ, zero, suc, _+_, _*_, _%_, _^_, _≤_, _<_}
 use native.Mathlib.Nat.{mul-zero, mul-suc, not-suc-le-zero, le-of-suc-le-suc}
 use native.Mathlib.Omega.{arith}
@@ -64,11 +64,14 @@ module _ (d : Draft) (part : List ℕ) where
       ∙ ap (take (length part)) (drop-at (take at bytes) (part ++ rest) at (length-take-le at bytes (omega arith)))
       ∙ take-at part rest (length part) refl
 
-  -- the next place is no earlier one
-  pub then-further : (n : ℕ) → n ≤ d .place → n ≤ nowhere → n ≤ (d then part) .place
-  then-further n h k =
-      ⊎-elim (λ s. omega (arith, ap (λ (e : Draft). e .place) (then-cut d part s))) (λ r. omega (arith, ap (λ (e : Draft). e .place) (then-room d part r)))
+  -- the next part goes behind it, or nowhere: to no earlier place
+  next-place : ((d then part) .place ≡ d .place + length part) ⊎ ((d then part) .place ≡ nowhere)
+  next-place =
+      ⊎-elim (λ s. inr (ap (λ (e : Draft). e .place) (then-cut d part s))) (λ r. inl (ap (λ (e : Draft). e .place) (then-room d part r)))
       (split (length (d .bytes)) (d .place + length part))
+
+  then-further : (n : ℕ) → n ≤ d .place → n ≤ nowhere → n ≤ (d then part) .place
+  then-further n h k = ⊎-elim (λ e. omega arith) (λ e. omega arith) next-place
 
 -- so what is put is known by what stands there
 pub then-same : (d : Draft) (p q : List ℕ) → length p ≡ length q → d .place + length p ≤ length (d .bytes) → d then p ≡ d then q → p ≡ q
@@ -78,6 +81,7 @@ then-same d p q long room e =
 -- ---- the entries of a list, over the width and the bits
 
 module _ {A : Type 0} (w : ℕ) (bits : A → ℕ) where
+  -- the bytes of entry i
   pub entry-bytes : (list : List A) (i : ℕ) (x : A) → i < length list → take w (drop (w * i) (fieldBytes w bits list)) ≡ bytesOf w (bits (getD list i x))
   entry-bytes [] i x h = absurd (not-suc-le-zero h)
   entry-bytes (y ∷ ys) zero x h =
@@ -115,7 +119,7 @@ parts-nowhere : (ps : List (List ℕ)) (d : Draft) → length (d .bytes) < nowhe
 parts-nowhere [] d h = refl
 parts-nowhere (p ∷ ps) d h = ap (λ (e : Draft). parts e ps .place) (cut-then d p h) ∙ parts-nowhere ps d h
 
-pub parts-cut : (ps : List (List ℕ)) (d : Draft) → d .place ≤ length (d .bytes) → length (d .bytes) < d .place + total ps → length (d .bytes) < nowhere → parts d ps .place ≡ nowhere
+parts-cut : (ps : List (List ℕ)) (d : Draft) → d .place ≤ length (d .bytes) → length (d .bytes) < d .place + total ps → length (d .bytes) < nowhere → parts d ps .place ≡ nowhere
 parts-cut [] d inside short h = absurd (omega arith)
 parts-cut (p ∷ ps) d inside short h =
     ⊎-elim (λ s. ap (λ (e : Draft). parts e ps .place) (then-cut d p s) ∙ parts-nowhere ps d h)
@@ -132,7 +136,7 @@ other-length ps qs d room h other e =
     let same : parts d ps .place ≡ parts d qs .place = ap (λ (x : Draft). x .place) e in
     ⊎-elim (λ s. omega (arith, parts-cut qs d (omega arith) s h)) (λ r. other (omega (arith, parts-room qs d r))) (split (length (d .bytes)) (d .place + total qs))
 
--- nor does one stand behind the start
+-- and so is one that stands behind the start
 pub behind-the-start : (ps : List (List ℕ)) (out : List ℕ) (k : ℕ) → total ps ≤ length out → length out < nowhere → 0 < k → k ≤ length out → parts (none out) ps ≡ parts (draft k out) ps → ⊥
 behind-the-start ps out k room h some inside e =
     let one = parts-room ps (none out) (omega arith) in
@@ -146,12 +150,8 @@ parts-further (p ∷ ps) d n h k = parts-further ps (d then p) n (then-further d
 
 pub counted : (refusal : ℕ) (ps : List (List ℕ)) (out : List ℕ) → 0 < parts (none out then bytesOf 1 refusal) ps .place
 counted refusal ps out =
-    let d = none out in
-    let part = bytesOf 1 refusal in
     let one = length-bytes 1 refusal in
-    parts-further ps (d then part) 1
-    (⊎-elim (λ s. omega (arith, ap (λ (e : Draft). e .place) (then-cut d part s))) (λ r. omega (arith, ap (λ (e : Draft). e .place) (then-room d part r))) (split (length out) (0 + length part)))
-    (omega arith)
+    parts-further ps (none out then bytesOf 1 refusal) 1 (⊎-elim (λ e. omega arith) (λ e. omega arith) (next-place (none out) (bytesOf 1 refusal))) (omega arith)
 
 -- so an operation is not answered as one that takes arguments of another length
 pub other-arguments : (size other : ℕ) (args out : List ℕ) (d e r : Draft) → r ≡ taking size args out d → 0 < d .place → length args ≡ size → (size ≡ other → ⊥) → r ≡ taking other args out e → ⊥
@@ -167,7 +167,7 @@ pub record Told (at count n : ℕ) (d : Draft) : Type 0 where
   pub behind : at + count ≤ d .place
 
 module _ (at count n : ℕ) where
-  pub told : (d : Draft) → d .place ≡ at → count ≤ 8 → at + count ≤ length (d .bytes) → Told at count n (d then bytesOf count n)
+  told : (d : Draft) → d .place ≡ at → count ≤ 8 → at + count ≤ length (d .bytes) → Told at count n (d then bytesOf count n)
   told d e small room =
       let part = bytesOf count n in
       let size = length-bytes count n in
@@ -179,7 +179,7 @@ module _ (at count n : ℕ) where
         behind = omega (arith, ap (λ (x : Draft). x .place) (then-room d part inside));
       }
 
-  pub still-told : (ps : List (List ℕ)) (d : Draft) → at + count ≤ nowhere → Told at count n d → Told at count n (parts d ps)
+  still-told : (ps : List (List ℕ)) (d : Draft) → at + count ≤ nowhere → Told at count n d → Told at count n (parts d ps)
   still-told [] d h t = t
   still-told (p ∷ ps) d h t =
       still-told ps (d then p) h
@@ -193,28 +193,26 @@ pub first-told : (refusal : ℕ) (ps : List (List ℕ)) (out : List ℕ) → 1 �
 first-told refusal ps out room = still-told 0 1 refusal ps (none out then bytesOf 1 refusal) (omega arith) (told 0 1 refusal (none out) refl (omega arith) room)
 
 -- and the number behind it
+behind-the-refusal : (refusal : ℕ) (out : List ℕ) → 1 ≤ length out → (none out then bytesOf 1 refusal) .place ≡ 1
+behind-the-refusal refusal out room = let one = length-bytes 1 refusal in omega (arith, parts-room (bytesOf 1 refusal ∷ []) (none out) (omega arith))
+
 pub second-told : (refusal count n : ℕ) (ps : List (List ℕ)) (out : List ℕ) → count ≤ 8 → 1 + count ≤ length out → Told 1 count n (parts (none out then bytesOf 1 refusal then bytesOf count n) ps)
 second-told refusal count n ps out small room =
     let d = none out then bytesOf 1 refusal in
-    let one = length-bytes 1 refusal in
     let long = then-long (none out) (bytesOf 1 refusal) in
-    let place : d .place ≡ 1 = ap (λ (e : Draft). e .place) (then-room (none out) (bytesOf 1 refusal) (omega arith)) ∙ omega arith in
-    still-told 1 count n ps (d then bytesOf count n) (omega arith) (told 1 count n d place small (omega arith))
+    still-told 1 count n ps (d then bytesOf count n) (omega arith) (told 1 count n d (behind-the-refusal refusal out (omega arith)) small (omega arith))
 
 -- what an answer tells is told where it is given
 pub taken-told : {at count n : ℕ} (size : ℕ) (args out : List ℕ) (r : Draft) {d : Draft} → r ≡ taking size args out d → length args ≡ size → Told at count n d → fieldAt (r .bytes) at count ≡ n % 256 ^ count
 taken-told {at} {count} size args out r {d} is long t = ap (λ (x : Draft). fieldAt (x .bytes) at count) (is ∙ sym (taken size args out d long)) ∙ t .value
 
--- and the numbers behind the refusal
+-- and the numbers behind a refusal are known by what stands there
 pub doubles-known : (refusal : ℕ) (xs ys : List Float) (out : List ℕ) → length xs ≡ length ys → 1 + 8 * length xs ≤ length out → refusalAndDoubles refusal xs out ≡ refusalAndDoubles refusal ys out
     → doubleBytes xs ≡ doubleBytes ys
 unfolding refusalAndDoubles
 doubles-known refusal xs ys out same room =
-    let d = none out in
-    let part = bytesOf 1 refusal in
-    let one = length-bytes 1 refusal in
     let x = length-fieldBytes 8 (toBits binary64) xs in
     let y = length-fieldBytes 8 (toBits binary64) ys in
-    let place : (d then part) .place ≡ 1 = ap (λ (e : Draft). e .place) (then-room d part (omega arith)) ∙ omega arith in
-    let long = then-long d part in
-    then-same (d then part) (doubleBytes xs) (doubleBytes ys) (x ∙ ap (λ (n : ℕ). 8 * n) same ∙ sym y) (omega arith)
+    let place = behind-the-refusal refusal out (omega arith) in
+    let long = then-long (none out) (bytesOf 1 refusal) in
+    then-same (none out then bytesOf 1 refusal) (doubleBytes xs) (doubleBytes ys) (x ∙ ap (λ (n : ℕ). 8 * n) same ∙ sym y) (omega arith)
