@@ -1,2 +1,3 @@
--- Which family answers an operation.
+-- Which family answers an operation, and a wrong answer.
 mod Answers
+mod Refuted

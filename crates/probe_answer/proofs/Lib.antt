@@ -1,4 +1,6 @@
--- Laws of answers that a caller's proof cites, one turn of a loop that puts a list, and that no two answers meet one promise.
+-- Laws of answers and of what stands in them that a caller's proof cites, one turn of a loop that puts a list, that no two answers meet one promise, and wrong answers.
 pub mod Answers
+pub mod Standing
 mod Putting
 mod Unique
+mod Refuted

@@ -1,3 +1,4 @@
--- When an answer is given and over which weights, and that no two answers meet one promise.
+-- When an answer is given and over which weights, that no two answers meet one promise, and wrong answers.
 mod Answers
 mod Unique
+mod Refuted

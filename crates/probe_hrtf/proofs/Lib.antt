@@ -1,4 +1,5 @@
--- From what is lent and read, through what is played or reset, to what the two operations answer; and that no two answers meet one promise.
+-- From what is lent and read, through what is played or reset, to what the two operations answer; that no two answers meet one promise, and wrong answers.
 mod Blocks
 mod Resets
 mod Unique
+mod Refuted

@@ -1,3 +1,4 @@
--- Which answer is given, and that no two answers meet one promise.
+-- Which answer is given, that no two answers meet one promise, and wrong answers.
 mod Answers
 mod Unique
+mod Refuted

@@ -1,4 +1,5 @@
--- What the requests give and what is answered to them, and that no two answers meet one promise.
+-- What the requests give and what is answered to them, that no two answers meet one promise, and wrong answers.
 mod Panned
 mod Decoded
 mod Unique
+mod Refuted

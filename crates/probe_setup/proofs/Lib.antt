@@ -1,3 +1,4 @@
--- What the requests give and what is answered to them, and that no two answers meet one promise.
+-- What the requests give and what is answered to them, that no two answers meet one promise, and wrong answers.
 mod Arranged
 mod Unique
+mod Refuted

@@ -1,0 +1,54 @@
+-- What the promise rules out: of every accepted block the unsettled count in the place of the samples, and of every refused reset the desk of a block. Assumes nothing.
+use mathlib.Core.Path.{_≡_, sym, ap, _∙_, subst}
+use mathlib.Core.List.{List, [], _∷_}
+use Prim.Native.Nat.{ℕ, suc, _+_, _*_, _%_, _^_, _≤_}
+use native.Mathlib.Omega.{arith}
+use lib.ListN.{length}
+use lib.Ieee.{Float}
+use Rattle.big_endian.specs.Bytes.{bytesOf}
+use Rattle.big_endian.specs.Fields.{fieldAt}
+use Rattle.big_endian.specs.Lists.{floatBytes, floatsAt}
+use Rattle.desk.specs.declared.Desk.{Desk}
+use Rattle.hrtf_checks.specs.Refusals.{refusalOf}
+use Rattle.hrtf.specs.Promise.{Outcome, outcome}
+use Rattle.hrtf.specs.Reset.{AfterReset, resetRefusal, resetBy, resetOutcome}
+use Rattle.hrtf.proofs.Promised.{outcome-by}
+use Rattle.probe_request.specs.Requests.{cellsLent}
+use Rattle.probe_answer.specs.Answers.{Draft}
+use Rattle.probe_answer.proofs.Standing.{Told, second-told, taken-told}
+use Rattle.probe_hrtf.specs.Requests.{deskAt, lentOf, blockEnd, callAt, stateAt}
+use Rattle.probe_hrtf.specs.Answers as Answers
+use Rattle.probe_hrtf.specs.Answers.{blockShown, blockBy, resetShown, answerOf}
+
+module _ (args out : List ℕ) (r : Draft) (room : 9 ≤ length out) where
+  -- of an accepted block the unsettled count is told in the place of the samples
+  unsettled-before-samples : let n = lentOf args in let unsettled = outcome (callAt args n) (stateAt args n) .answer .unsettled in r ≡ answerOf 17 args out → length args ≡ blockEnd n
+      → refusalOf (callAt args n) (stateAt args n) ≡ 0 → (fieldAt args 58 8 % 256 ^ 8 ≡ unsettled % 256 ^ 8 → ⊥) → fieldAt (r .bytes) 1 8 ≡ unsettled % 256 ^ 8 → ⊥
+  unfolding answerOf blockBy blockShown callAt
+  unsettled-before-samples is long accepted differs e =
+      let n = lentOf args in
+      let c = callAt args n in
+      let t = stateAt args n in
+      let o = outcome c t in
+      let a = o .answer in
+      let rest = bytesOf 8 (a .unsettled) ∷ bytesOf 8 (a .desk .position) ∷ bytesOf 8 (a .desk .«to_go») ∷ floatBytes (o .rings) ∷ floatBytes (o .ears) ∷ [] in
+      let told = taken-told (blockEnd n) args out r is long (second-told (a .refusal) 8 (a .samples) rest out (omega arith) room) in
+      let samples : a .samples ≡ fieldAt args 58 8 = ap (λ (x : Outcome). x .answer .samples) (outcome-by c t 0 accepted) in
+      differs (sym (told ∙ ap (λ (k : ℕ). k % 256 ^ 8) samples) ∙ e)
+
+  -- a refused reset tells the ring position that it is given
+  position-told : (d : Desk) (speakers L k : ℕ) (cells : List Float) → resetRefusal speakers L cells ≡ suc k → Told 1 8 (d .position) (resetShown (resetOutcome d speakers L cells) out)
+  unfolding resetShown resetOutcome
+  position-told d speakers L k cells refused =
+      subst (λ (o : AfterReset). Told 1 8 (d .position) (resetShown o out)) (sym (ap (λ (n : ℕ). resetBy n d cells) refused))
+      (second-told (suc k) 8 (d .position) (bytesOf 8 (d .«to_go») ∷ floatBytes cells ∷ []) out (omega arith) room)
+
+  -- of a refused reset the desk is read where a block has it, and so the frames-to-go are told in the place of the ring position
+  desk-at-the-place-of-a-block : (k : ℕ) → let cells = floatsAt args 34 (cellsLent args 0) in r ≡ answerOf 18 args out → length args ≡ 34 + 4 * cellsLent args 0
+      → resetRefusal (fieldAt args 18 8) (fieldAt args 26 8) cells ≡ suc k → (fieldAt args 2 8 % 256 ^ 8 ≡ fieldAt args 10 8 % 256 ^ 8 → ⊥)
+      → r ≡ resetShown (resetOutcome (deskAt args 10) (fieldAt args 18 8) (fieldAt args 26 8) cells) out → ⊥
+  unfolding answerOf Answers.resetBy
+  desk-at-the-place-of-a-block k is long refused differs e =
+      let told : (at : ℕ) → Told 1 8 (fieldAt args at 8) (resetShown (resetOutcome (deskAt args at) (fieldAt args 18 8) (fieldAt args 26 8) (floatsAt args 34 (cellsLent args 0))) out) =
+      λ at. position-told (deskAt args at) (fieldAt args 18 8) (fieldAt args 26 8) k (floatsAt args 34 (cellsLent args 0)) refused in
+      differs (sym (taken-told (34 + 4 * cellsLent args 0) args out r is long (told 2)) ∙ ap (λ (d : Draft). fieldAt (d .bytes) 1 8) e ∙ told 10 .value)
