@@ -48,7 +48,8 @@ fn speaker_position(layout: Layout, n: u32, i: u32) -> f64
     if let Layout::Custom(_) = layout {
         return turned_back(custom_azimuth(n, i));
     }
-    channel::speaker_azimuth(layout, i as usize)
+    let found = channel::speaker_azimuth(layout, i as usize);
+    found.degrees
 }
 
 // Puts the row of a speaker: the first channels of its harmonics, times the scale.
@@ -77,7 +78,8 @@ fn put_speakers(order: usize, layout: Layout, n: u32, channels: usize, weights: 
     requires { ⌜ (n ≤ 16) × (channels ≤ 16) ⌝ }
     ensures { λ _. ⌜ now (weights .exit) ≡ putRows channels (now (weights .entry)) 0 (rowsBy order layout n channels) ⌝ }
 {
-    let scale = planes::inverse_root(n);
+    let inverse = planes::inverse_root(n);
+    let scale = inverse.value;
     let mut at = 0;
     let mut i = 0;
     while i < n {
