@@ -4,8 +4,7 @@ use mathlib.Core.Path.{_≡_}
 use mathlib.Core.Bool.{cond}
 use lib.Dec.{eqb}
 use Rattle.formats.specs.Floats.{zero-float}
-use Rattle.fractions.specs.Fraction.{number}
-use Rattle.fractions.specs.Approximates.{EachWithin}
+use Rattle.fractions.specs.Fraction.{number, EachWithin}
 use Rattle.channel.specs.Layouts.{positions, missing, positionAzimuth}
 use Rattle.harmonics.specs.Promise.{refusalOf, silence}
 use Rattle.harmonics.specs.Promise as Harmonics
