@@ -5,7 +5,7 @@
 // `compute_decoder_matrix` takes any input. Its promise (specs/Promise.antt) is one equation for the
 // refusal and the list, and beside it says of each weight that it is within 2^-33 of document 01's
 // formula, by squares. It comes from a harmonic within 2^-42, one root, one division and one product, 2^-53
-// each; with 2^-38 for 2^-33 the same proof passes.
+// each; with 2^-41 for 2^-33 the same proof passes, and with 2^-42 it fails.
 //
 // Under it lie `harmonics`, `channel` (orders, and the table of angles), `planes` (the inverse of a root), `rows`,
 // `checks`, `lists`, `formats` and `refusals`, and for the words of its promise and its laws `fractions`,
