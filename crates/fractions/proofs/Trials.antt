@@ -1,4 +1,4 @@
--- Controls on the definitions of specs/, at closed numbers: what they say and what they do not, at the edge and past it. A definition that is wrong here would say the wrong thing everywhere. Assumes nothing.
+-- Controls on the definitions of specs/, and on `Rounds` and `RootOf`, at closed numbers: what they say and what they do not, at the edge and past it. A definition that is wrong here would say the wrong thing everywhere. Assumes nothing.
 use mathlib.Core.Path.{_≡_, refl}
 use mathlib.Core.Logic.{inl, inr, ⊎-elim}
 use mathlib.Core.Bool.{false, true}
