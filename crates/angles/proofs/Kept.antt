@@ -10,7 +10,6 @@ use Rattle.fractions.specs.Fraction.{number, Within}
 use Rattle.fractions.proofs.Within.{within-weaken}
 use Rattle.series.specs.Sums.{Wave}
 use Rattle.series.specs.Angles.{defined}
-use Rattle.series.proofs.Laws.{defined-size}
 use Rattle.angles.specs.Limits.{limit, isInside}
 use Rattle.angles.specs.Computed.{turn, place, waveAt, computed}
 use Rattle.formats.specs.Floats.{zero-float}
@@ -33,10 +32,7 @@ module _ (w : Wave) (d : Float) where
   pub outcome-kept : Promise w d (outcome w d)
   outcome-kept = record {
     is = refl;
-    near = λ h. record {
-      near = within-weaken (lit≤ tt) (subst (λ (v : Float). Within 50 (number v) (defined w (number d))) (sym (value-is h)) (computed-near w d (accepted-number d h)));
-      size = defined-size w (number d) (accepted-number d h);
-    };
+    near = λ h. within-weaken (lit≤ tt) (subst (λ (v : Float). Within 50 (number v) (defined w (number d))) (sym (value-is h)) (computed-near w d (accepted-number d h)));
     exact = λ h m. value-is h ∙ computed-exact w d (accepted-number d h) m;
   }
 

@@ -8,12 +8,12 @@ use lib.Dec.{lit≤}
 use lib.Ieee.{Float}
 use lib.Pow.{pow-pos}
 use Rattle.fractions.specs.Fraction.{Fraction, number, whole, magnitude, AtMost, Within}
-use Rattle.fractions.specs.Approximates.{Approximates}
+use Rattle.fractions.proofs.Approximates.{Approximates}
 use Rattle.fractions.proofs.Close.{Size, close-unit, size-near}
 use Rattle.fractions.proofs.Within.{within-close, within-weaken, at-most-size, size-at-most}
 use Rattle.series.specs.Sums.{Wave}
-use Rattle.series.specs.Angles.{defined, definedMost}
-use Rattle.series.proofs.Laws.{defined-size, defined-carried}
+use Rattle.series.specs.Angles.{defined}
+use Rattle.series.proofs.Laws.{definedMost, defined-size, defined-carried}
 use Rattle.angles.specs.declared.Answer.{Answer}
 use Rattle.angles.specs.Promise.{refusalOf, Promise}
 use Rattle.angles.proofs.Floats.{accepted-number}

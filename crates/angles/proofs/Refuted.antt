@@ -52,4 +52,4 @@ side-forgotten p = false≢true (ap sign (p .exact refl tt))
 -- it takes degrees for radians: at 1 degree the sine of 1 radian, 0.8414709848078965
 radians-taken : Promise sine (float (pos 1)) (record { refusal = 0; value = fin false 3789648413623927 (negsuc 51) }) → ⊥
 unfolding refusesAngle isInside lt le eq neg ofInt defined isMultiple quarters turned reduced around radians sineSum term power factorial
-radians-taken p = le→leb _ _ (p .near refl .near .near)
+radians-taken p = le→leb _ _ (p .near refl .near)

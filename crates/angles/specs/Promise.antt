@@ -9,10 +9,9 @@ use lib.ListN.{getD}
 use lib.Ieee.{Float}
 use Rattle.refusals.specs.Refusals.{firstOf, _when_}
 use Rattle.formats.specs.Floats.{zero-float, one-float, minus-one-float}
-use Rattle.fractions.specs.Fraction.{number}
-use Rattle.fractions.specs.Approximates.{Approximates}
+use Rattle.fractions.specs.Fraction.{number, Within}
 use Rattle.series.specs.Sums.{Wave, sine, cosine}
-use Rattle.series.specs.Angles.{isMultiple, quarters, defined, definedMost}
+use Rattle.series.specs.Angles.{isMultiple, quarters, defined}
 use Rattle.angles.specs.declared.Answer.{Answer}
 use Rattle.angles.specs.Limits.{limit, refusesAngle}
 use Rattle.angles.specs.Computed.{computed}
@@ -39,8 +38,8 @@ exactly cosine = one-float ∷ zero-float ∷ minus-one-float ∷ zero-float ∷
 abbrev pub outcome : Wave → Float → Answer
 outcome w d = record { refusal = refusalOf d; value = cond (isRefused d) zero-float (computed w d) }
 
--- every bit of the answer; and of the value at an accepted angle how near it is to the defined one, how large that is, and what it is at a multiple of 90
+-- every bit of the answer; and of the value at an accepted angle how near it is to the defined one, being a finite number, and what it is at a multiple of 90
 pub record Promise (w : Wave) (d : Float) (answer : Answer) : Type 0 where
   pub is : answer ≡ outcome w d
-  pub near : refusalOf d ≡ 0 → Approximates angleBits definedMost (answer .value) (defined w (number d))
+  pub near : refusalOf d ≡ 0 → Within angleBits (number (answer .value)) (defined w (number d))
   pub exact : refusalOf d ≡ 0 → T (isMultiple (number d)) → answer .value ≡ getD (exactly w) (quarters (number d)) zero-float

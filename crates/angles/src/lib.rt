@@ -2,10 +2,9 @@
 // direction are made (document 01, item 1 and 'Angles').
 //
 // `sine` and `cosine` take any f64. One that is no number from -1080 to 1080 is refused with 3 and 0.0. At
-// every other the promise (specs/Promise.antt) fixes each bit of the value, and says beside it that the value
-// is within 2^-40 of the defined one (crate `series`), how large that is at most, and that at a multiple of
-// 90 it is exactly +0.0, 1.0 or -1.0. `is_inside` is the one test of an angle's range, which `harmonics`
-// refuses by too.
+// every other the promise (specs/Promise.antt) fixes each bit of the value, and says beside it that the
+// value is within 2^-40 of the defined one (crate `series`), and that at a multiple of 90 it is exactly
+// +0.0, 1.0 or -1.0. `is_inside` is the one test of an angle's range, which `harmonics` refuses by too.
 //
 // The program works in whole numbers: the angle in units of 2^-52 degree, all else in units of 2^-60, and
 // only the first and the last step, which are exact, in floats. No branch is made for the multiples of 90:

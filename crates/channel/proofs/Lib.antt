@@ -3,3 +3,4 @@ pub mod Tables
 pub mod Counts
 pub mod Orders
 pub mod Unique
+mod Refuted

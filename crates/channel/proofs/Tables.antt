@@ -1,28 +1,34 @@
 -- The tables of angles: every entry lies from -180 to 180, by one test over each table, so that an entry and ten times an entry are i32s. Assumes nothing.
-use mathlib.Core.Path.{_≡_, refl, sym, ap, _∙_, subst}
+use mathlib.Core.Path.{_≡_, sym, ap, _∙_, subst}
 use mathlib.Core.Bool.{Bool}
-use mathlib.Core.List.{List, []}
-use Prim.Native.Nat.{ℕ, zero, suc, _+_, _*_}
+use mathlib.Core.List.{List}
+use Prim.Native.Nat.{ℕ, suc, _+_, _*_, _≤_, _<_}
 use native.Mathlib.Omega.{arith}
+use borrow.Author.Tests.{lt-leb, le-leb}
 use lib.Dec.{T, leb, leb→le}
 use lib.IntN.{ℤ, pos, negsuc, _*ℤ_, negℤ}
-use lib.ListN.{getD}
+use lib.ListN.{length, List·getD-eq-default}
 use lib.Ieee.{binary64, ofInt}
 use mir.Syntax.{w16, w32}
 use mir.Val.{SFits, toZ, ofZ}
 use mir.Facts.{sfits-widen, toZ-ofZ}
 use Rattle.lists.specs.Tables.{every}
 use Rattle.lists.proofs.Every.{every-holds}
-use Rattle.channel.specs.Layouts.{speakers, positions, degreesOf}
+use Rattle.refusals.proofs.First.{stops, goes-on}
+use Rattle.formats.specs.Floats.{float}
+use Rattle.channel.specs.Layouts.{speakers, positions, degreesAt, missing, degreesOf}
 use Rattle.channel.specs.declared.Layout.{Layout}
 use Rattle.channel.specs.declared.Layout.the-variants.{Mono, Stereo, Surround51, Surround71, Custom}
+use Rattle.channel.specs.declared.Angle.{Angle}
+use Rattle.channel.specs.declared.Tenths.{Tenths}
+use Rattle.channel.specs.declared.Entry.{Entry}
 
 -- from -180 to 180
 abbrev pub turned : ℤ → Bool
 turned (pos n) = leb n 180
 turned (negsuc n) = leb n 179
 
-turned-at : (zs : List ℤ) → T (every turned zs) → (i : ℕ) → T (turned (getD zs i (pos 0)))
+turned-at : (zs : List ℤ) → T (every turned zs) → (i : ℕ) → T (turned (degreesAt zs i))
 turned-at zs = every-holds turned zs (pos 0) tt
 
 pub speaker-turned : (l : Layout) (i : ℕ) → T (turned (degreesOf l i))
@@ -32,7 +38,7 @@ speaker-turned Surround51 i = turned-at (speakers Surround51) tt i
 speaker-turned Surround71 i = turned-at (speakers Surround71) tt i
 speaker-turned (Custom n) i = tt
 
-pub position-turned : (i : ℕ) → T (turned (getD positions i (pos 0)))
+pub position-turned : (i : ℕ) → T (turned (degreesAt positions i))
 position-turned i = turned-at positions tt i
 
 -- ---- such a number is an i32, and ten times it an i16
@@ -53,23 +59,33 @@ tenths-fit z t = sfits-widen {w = w16} {w′ = w32} tt (tenths-fit-16 z t)
 back : (z : ℤ) → T (turned z) → toZ w32 (ofZ w32 z) ≡ z
 back z t = toZ-ofZ {w = w32} (fits z t)
 
--- ---- what a table gives for the layout at hand
-pub read : (m l : Layout) (i : ℕ) (z : ℤ) → m ≡ l → z ≡ degreesOf l i → toZ w32 (ofZ w32 z) ≡ degreesOf m i
-read m l i z e h = ap (λ (y : ℤ). toZ w32 (ofZ w32 y)) h ∙ back (degreesOf l i) (speaker-turned l i) ∙ ap (λ (x : Layout). degreesOf x i) (sym e)
+-- ---- what a table gives at a place
+module _ (table : List ℤ) (i : ℕ) where
+  abbrev pub entryOf : Entry
+  entryOf = record { refusal = missing table i; degrees = degreesAt table i }
 
-pub mono : (m : Layout) (i : ℕ) → m ≡ Mono → pos 0 ≡ degreesOf m i
-mono m i e = front i ∙ ap (λ (x : Layout). degreesOf x i) (sym e)
-  where
-    front : (i : ℕ) → pos 0 ≡ degreesOf Mono i
-    front zero = refl
-    front (suc i) = refl
+  pub entry-there : (z : ℤ) → i < length table → z ≡ degreesAt table i → _≡_ {A = Entry} (record { refusal = 0; degrees = z }) entryOf
+  entry-there z h e = λ k. record { refusal = sym (goes-on 2 0 (lt-leb (length table) i h)) k; degrees = e k }
 
--- ---- an entry z, as an f64 and in tenths
-pub as-float : (z y : ℤ) → z ≡ y → T (turned y) → ofInt binary64 (toZ w32 (ofZ w32 z)) ≡ ofInt binary64 y
-as-float z y e t = ap (λ (x : ℤ). ofInt binary64 (toZ w32 (ofZ w32 x))) e ∙ ap (ofInt binary64) (back y t)
+  pub entry-missing : length table ≤ i → _≡_ {A = Entry} (record { refusal = 2; degrees = pos 0 }) entryOf
+  entry-missing h = λ k. record { refusal = sym (stops 2 0 (le-leb (length table) i h)) k; degrees = sym (List·getD-eq-default table (pos 0) h) k }
 
-pub tenths-held : (z y : ℤ) → z ≡ y → T (turned y) → SFits w32 (toZ w32 (ofZ w32 z) *ℤ pos 10)
-tenths-held z y e t = subst (λ (x : ℤ). SFits w32 (toZ w32 (ofZ w32 x) *ℤ pos 10)) (sym e) (subst (λ (x : ℤ). SFits w32 (x *ℤ pos 10)) (sym (back y t)) (tenths-fit y t))
+  -- ---- as an f64 and in tenths, of an entry that was read
+  module _ (turned-there : T (turned (degreesAt table i))) (r : Entry) (e : r ≡ entryOf) where
+    abbrev again : ℤ → ℤ
+    again z = toZ w32 (ofZ w32 z)
 
-pub in-tenths : (z y : ℤ) → z ≡ y → T (turned y) → toZ w32 (ofZ w32 (toZ w32 (ofZ w32 z) *ℤ pos 10)) ≡ y *ℤ pos 10
-in-tenths z y e t = ap (λ (x : ℤ). toZ w32 (ofZ w32 (toZ w32 (ofZ w32 x) *ℤ pos 10))) e ∙ ap (λ (x : ℤ). toZ w32 (ofZ w32 (x *ℤ pos 10))) (back y t) ∙ toZ-ofZ {w = w32} (tenths-fit y t)
+    read-back : again (r .degrees) ≡ degreesAt table i
+    read-back = ap (λ (x : Entry). again (x .degrees)) e ∙ back (degreesAt table i) turned-there
+
+    refusal-is : r .refusal ≡ missing table i
+    refusal-is = ap (λ (x : Entry). x .refusal) e
+
+    pub as-float : _≡_ {A = Angle} (record { refusal = r .refusal; degrees = ofInt binary64 (again (r .degrees)) }) (record { refusal = missing table i; degrees = float (degreesAt table i) })
+    as-float = λ k. record { refusal = refusal-is k; degrees = float (read-back k) }
+
+    pub tenths-held : SFits w32 (again (r .degrees) *ℤ pos 10)
+    tenths-held = subst (λ (x : ℤ). SFits w32 (x *ℤ pos 10)) (sym read-back) (tenths-fit (degreesAt table i) turned-there)
+
+    pub in-tenths : _≡_ {A = Tenths} (record { refusal = r .refusal; tenths = again (again (r .degrees) *ℤ pos 10) }) (record { refusal = missing table i; tenths = degreesAt table i *ℤ pos 10 })
+    in-tenths = λ k. record { refusal = refusal-is k; tenths = (ap (λ (x : ℤ). again (x *ℤ pos 10)) read-back ∙ toZ-ofZ {w = w32} (tenths-fit (degreesAt table i) turned-there)) k }

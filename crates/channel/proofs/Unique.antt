@@ -2,14 +2,14 @@
 use mathlib.Core.Path.{_≡_}
 use mathlib.Core.Bool.{Bool}
 use Prim.Native.Nat.{ℕ}
-use lib.IntN.{ℤ}
-use lib.Ieee.{Float}
 use Rattle.refusals.specs.OneAnswer.{OneAnswer}
 use Rattle.refusals.proofs.Determined.{determined}
-use Rattle.channel.specs.Layouts.{counted, surround, lowFrequency, azimuthOf, tenthsOf, positionAzimuth, positionTenths}
+use Rattle.channel.specs.Layouts.{counted, surround, lowFrequency, azimuthAnswer, tenthsAnswer, positionAzimuthAnswer, positionTenthsAnswer}
 use Rattle.channel.specs.Orders.{refusesOrder, countedOrder}
 use Rattle.channel.specs.declared.Layout.{Layout}
 use Rattle.channel.specs.declared.Counted.{Counted}
+use Rattle.channel.specs.declared.Angle.{Angle}
+use Rattle.channel.specs.declared.Tenths.{Tenths}
 
 pub channel-count-unique : (l : Layout) → OneAnswer (λ (r : Counted). r ≡ counted l)
 channel-count-unique l = determined
@@ -26,14 +26,14 @@ is-surround-unique l = determined
 pub is-low-frequency-unique : (l : Layout) (c : ℕ) → OneAnswer (λ (r : Bool). r ≡ lowFrequency l c)
 is-low-frequency-unique l c = determined
 
-pub speaker-azimuth-unique : (l : Layout) (c : ℕ) → OneAnswer (λ (r : Float). r ≡ azimuthOf l c)
+pub speaker-azimuth-unique : (l : Layout) (c : ℕ) → OneAnswer (λ (r : Angle). r ≡ azimuthAnswer l c)
 speaker-azimuth-unique l c = determined
 
-pub speaker-tenths-unique : (l : Layout) (c : ℕ) → OneAnswer (λ (r : ℤ). r ≡ tenthsOf l c)
+pub speaker-tenths-unique : (l : Layout) (c : ℕ) → OneAnswer (λ (r : Tenths). r ≡ tenthsAnswer l c)
 speaker-tenths-unique l c = determined
 
-pub position-azimuth-unique : (i : ℕ) → OneAnswer (λ (r : Float). r ≡ positionAzimuth i)
+pub position-azimuth-unique : (i : ℕ) → OneAnswer (λ (r : Angle). r ≡ positionAzimuthAnswer i)
 position-azimuth-unique i = determined
 
-pub position-tenths-unique : (i : ℕ) → OneAnswer (λ (r : ℤ). r ≡ positionTenths i)
+pub position-tenths-unique : (i : ℕ) → OneAnswer (λ (r : Tenths). r ≡ positionTenthsAnswer i)
 position-tenths-unique i = determined

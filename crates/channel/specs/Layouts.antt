@@ -3,15 +3,17 @@
 use Prim.Native.Nat.{ℕ, _-_}
 use mathlib.Core.Bool.{Bool, true, false, cond}
 use mathlib.Core.List.{List, [], _∷_}
-use lib.Dec.{eqb}
+use lib.Dec.{eqb, leb}
 use lib.IntN.{ℤ, pos, negsuc, _*ℤ_}
-use lib.ListN.{getD}
+use lib.ListN.{length, getD}
 use lib.Ieee.{Float}
 use Rattle.formats.specs.Floats.{float}
 use Rattle.refusals.specs.Refusals.{firstOf, _when_, outside}
 use Rattle.channel.specs.declared.Layout.{Layout}
 use Rattle.channel.specs.declared.Layout.the-variants.{Mono, Stereo, Surround51, Surround71, Custom}
 use Rattle.channel.specs.declared.Counted.{Counted}
+use Rattle.channel.specs.declared.Angle.{Angle}
+use Rattle.channel.specs.declared.Tenths.{Tenths}
 
 abbrev pub channelsOf : Layout → ℕ
 channelsOf Mono = 1
@@ -58,18 +60,39 @@ speakers (Custom n) = []
 abbrev pub positions : List ℤ
 positions = pos 0 ∷ pos 45 ∷ pos 90 ∷ pos 135 ∷ pos 180 ∷ minus 135 ∷ minus 90 ∷ minus 45 ∷ []
 
-abbrev pub degreesOf : Layout → ℕ → ℤ
-degreesOf l c = getD (speakers l) c (pos 0)
+-- place i of a table, and 0 beyond its end: "A refusal returns its number, [..] 0.0 for any number"
+abbrev pub degreesAt : List ℤ → ℕ → ℤ
+degreesAt table i = getD table i (pos 0)
 
--- as an f64, and in whole tenths
+-- "the layout isn't one the operation offers", or a count is out of its range: the table has no such place. No place of a Custom layout is in it.
+abbrev pub missing : List ℤ → ℕ → ℕ
+missing table i = firstOf (2 when leb (length table) i ∷ [])
+
+-- the speaker of channel c: in whole degrees, as an f64, and in whole tenths
+abbrev pub degreesOf : Layout → ℕ → ℤ
+degreesOf l c = degreesAt (speakers l) c
+
 abbrev pub azimuthOf : Layout → ℕ → Float
 azimuthOf l c = float (degreesOf l c)
 
 abbrev pub tenthsOf : Layout → ℕ → ℤ
 tenthsOf l c = degreesOf l c *ℤ pos 10
 
+abbrev pub azimuthAnswer : Layout → ℕ → Angle
+azimuthAnswer l c = record { refusal = missing (speakers l) c; degrees = azimuthOf l c }
+
+abbrev pub tenthsAnswer : Layout → ℕ → Tenths
+tenthsAnswer l c = record { refusal = missing (speakers l) c; tenths = tenthsOf l c }
+
+-- virtual speaker i: the same
 abbrev pub positionAzimuth : ℕ → Float
-positionAzimuth i = float (getD positions i (pos 0))
+positionAzimuth i = float (degreesAt positions i)
 
 abbrev pub positionTenths : ℕ → ℤ
-positionTenths i = getD positions i (pos 0) *ℤ pos 10
+positionTenths i = degreesAt positions i *ℤ pos 10
+
+abbrev pub positionAzimuthAnswer : ℕ → Angle
+positionAzimuthAnswer i = record { refusal = missing positions i; degrees = positionAzimuth i }
+
+abbrev pub positionTenthsAnswer : ℕ → Tenths
+positionTenthsAnswer i = record { refusal = missing positions i; tenths = positionTenths i }

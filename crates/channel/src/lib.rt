@@ -3,14 +3,16 @@
 //
 // There are five layouts and three orders. Every angle comes from one table: the panner, the decoder, the
 // virtual speakers and the choice of filters all read it here, in degrees as an f64 or in whole tenths of a
-// degree. One test of an order serves every crate that is given one.
+// degree. What the table does not have is refused with 2; the speakers of a Custom layout are computed, by
+// `decoder_matrix`. One test of an order serves every crate that is given one.
 //
 // Every function takes any input, and its answer is a definition of it (specs/Layouts.antt and
 // specs/Orders.antt, which say document 01).
 ghost use mathlib.Core.Path.{_≡_};
 ghost use lib.IntN.{pos};
 ghost use lib.ListN.{getD};
-ghost use Rattle.channel.specs.Layouts.{channelsOf, counted, surround, lowFrequency, degreesOf, azimuthOf, tenthsOf, positionAzimuth, positionTenths};
+ghost use Rattle.channel.specs.Layouts.{channelsOf, counted, surround, lowFrequency, speakers, missing, degreesOf};
+ghost use Rattle.channel.specs.Layouts.{azimuthAnswer, tenthsAnswer, positionAzimuthAnswer, positionTenthsAnswer};
 ghost use Rattle.channel.specs.Orders.{refusesOrder, countedOrder};
 
 pub enum Layout {
@@ -102,6 +104,8 @@ pub fn is_low_frequency(layout: Layout, channel: usize) -> bool
     false
 }
 
+const MONO: [i32; 1] = [0];
+
 const STEREO: [i32; 2] = [30, -30];
 
 const SURROUND_51: [i32; 6] = [30, -30, 0, 0, 110, -110];
@@ -110,54 +114,96 @@ const SURROUND_71: [i32; 8] = [30, -30, 0, 0, 90, -90, 150, -150];
 
 const POSITIONS: [i32; 8] = [0, 45, 90, 135, 180, -135, -90, -45];
 
-// Entry i of a table; 0 beyond its end.
-fn entry(table: &[i32], i: usize) -> i32
-    ensures { λ r. ⌜ r ≡ getD (now (table .entry)) i (pos 0) ⌝ }
+// Where a speaker stands, in degrees; or refusal 2 and 0.0, where none stands in the table.
+pub struct Angle {
+    pub refusal: u8,
+    pub degrees: f64,
+}
+
+// The same in whole tenths of a degree.
+pub struct Tenths {
+    pub refusal: u8,
+    pub tenths: i32,
+}
+
+// An entry of a table, in whole degrees; or refusal 2 and 0, beyond its end.
+struct Entry {
+    refusal: u8,
+    degrees: i32,
+}
+
+fn look_up(table: &[i32], i: usize) -> Entry
+    ensures { λ r. ⌜ r ≡ record { refusal = missing (now (table .entry)) i; degrees = getD (now (table .entry)) i (pos 0) } ⌝ }
 {
     if i < table.len() {
-        return table[i];
+        return Entry {
+            refusal: 0,
+            degrees: table[i],
+        };
     }
-    0
+    Entry {
+        refusal: 2,
+        degrees: 0,
+    }
 }
 
-// Where a speaker stands, in degrees; 0 for a channel that the layout does not have, and for those of a
-// Custom layout, which are computed.
-fn degrees(layout: Layout, channel: usize) -> i32
-    ensures { λ r. ⌜ r ≡ degreesOf layout channel ⌝ }
+// The speaker of a channel. Those of a Custom layout stand in no table: `decoder_matrix` computes them.
+fn speaker(layout: Layout, channel: usize) -> Entry
+    ensures { λ r. ⌜ r ≡ record { refusal = missing (speakers layout) channel; degrees = degreesOf layout channel } ⌝ }
 {
     match layout {
-        Layout::Stereo => entry(&STEREO, channel),
-        Layout::Surround51 => entry(&SURROUND_51, channel),
-        Layout::Surround71 => entry(&SURROUND_71, channel),
-        Layout::Mono => 0,
-        Layout::Custom(_) => 0,
+        Layout::Mono => look_up(&MONO, channel),
+        Layout::Stereo => look_up(&STEREO, channel),
+        Layout::Surround51 => look_up(&SURROUND_51, channel),
+        Layout::Surround71 => look_up(&SURROUND_71, channel),
+        Layout::Custom(_) => Entry {
+            refusal: 2,
+            degrees: 0,
+        },
     }
 }
 
-// The same as an f64.
-pub fn speaker_azimuth(layout: Layout, channel: usize) -> f64
-    ensures { λ r. ⌜ r ≡ azimuthOf layout channel ⌝ }
+// Where the speaker of a channel stands, in degrees; 2 for a channel that the layout does not have, and for
+// those of a Custom layout.
+pub fn speaker_azimuth(layout: Layout, channel: usize) -> Angle
+    ensures { λ r. ⌜ r ≡ azimuthAnswer layout channel ⌝ }
 {
-    degrees(layout, channel) as f64
+    let found = speaker(layout, channel);
+    Angle {
+        refusal: found.refusal,
+        degrees: found.degrees as f64,
+    }
 }
 
 // The same in whole tenths.
-pub fn speaker_tenths(layout: Layout, channel: usize) -> i32
-    ensures { λ r. ⌜ r ≡ tenthsOf layout channel ⌝ }
+pub fn speaker_tenths(layout: Layout, channel: usize) -> Tenths
+    ensures { λ r. ⌜ r ≡ tenthsAnswer layout channel ⌝ }
 {
-    degrees(layout, channel) * 10
+    let found = speaker(layout, channel);
+    Tenths {
+        refusal: found.refusal,
+        tenths: found.degrees * 10,
+    }
 }
 
-// Where virtual speaker i stands, in degrees; 0 beyond the eight.
-pub fn position_azimuth(i: usize) -> f64
-    ensures { λ r. ⌜ r ≡ positionAzimuth i ⌝ }
+// Where virtual speaker i stands, in degrees; 2 beyond the eight.
+pub fn position_azimuth(i: usize) -> Angle
+    ensures { λ r. ⌜ r ≡ positionAzimuthAnswer i ⌝ }
 {
-    entry(&POSITIONS, i) as f64
+    let position = look_up(&POSITIONS, i);
+    Angle {
+        refusal: position.refusal,
+        degrees: position.degrees as f64,
+    }
 }
 
 // The same in whole tenths.
-pub fn position_tenths(i: usize) -> i32
-    ensures { λ r. ⌜ r ≡ positionTenths i ⌝ }
+pub fn position_tenths(i: usize) -> Tenths
+    ensures { λ r. ⌜ r ≡ positionTenthsAnswer i ⌝ }
 {
-    entry(&POSITIONS, i) * 10
+    let position = look_up(&POSITIONS, i);
+    Tenths {
+        refusal: position.refusal,
+        tenths: position.degrees * 10,
+    }
 }

@@ -14,8 +14,9 @@ use lib.Ieee.{Float, nan, binary64, fits, round, ofInt, sub, mul, div, lt, le, n
 use lib.Ieee.Positive.{positive}
 use Rattle.lists.proofs.Tests.{all, each-holds}
 use Rattle.fractions.specs.Fraction.{Fraction, fraction, number, whole}
-use Rattle.fractions.specs.Squares.{BySquares, RootOf}
-use Rattle.fractions.specs.Approximates.{Approximates}
+use Rattle.fractions.specs.Squares.{BySquares}
+use Rattle.fractions.proofs.Roots.{RootOf}
+use Rattle.fractions.proofs.Approximates.{Approximates}
 use Rattle.fractions.proofs.Normalised.{over-root}
 use Rattle.numbers.specs.Computed.{rootOf}
 use Rattle.numbers.proofs.Close.{root-close, root-fits}

@@ -7,7 +7,7 @@
 // `compute_decoder_matrix` takes any input. Its promise (specs/Promise.antt) is one equation for the refusal
 // and the list, and beside it says of each weight that it is within 2^-33 of document 01's formula, by
 // squares. It comes from a harmonic within 2^-42, one root, one division and one product, 2^-53 each; with
-// 2^-38 for 2^-33 the same proof passes.
+// 2^-41 for 2^-33 the same proof passes, and with 2^-42 it fails.
 use channel::Layout;
 use harmonics::Direction;
 ghost use mathlib.Core.Path.{_≡_};
@@ -46,7 +46,8 @@ fn speaker_position(layout: Layout, n: u32, i: u32) -> f64
     if let Layout::Custom(_) = layout {
         return turned_back(custom_azimuth(n, i));
     }
-    channel::speaker_azimuth(layout, i as usize)
+    let found = channel::speaker_azimuth(layout, i as usize);
+    found.degrees
 }
 
 // Puts the row of a speaker: the first channels of its harmonics, times the scale.
@@ -75,7 +76,8 @@ fn put_speakers(order: usize, layout: Layout, n: u32, channels: usize, weights: 
     requires { ⌜ (n ≤ 16) × (channels ≤ 16) ⌝ }
     ensures { λ _. ⌜ now (weights .exit) ≡ putRows channels (now (weights .entry)) 0 (rowsBy order layout n channels) ⌝ }
 {
-    let scale = planes::inverse_root(n);
+    let inverse = planes::inverse_root(n);
+    let scale = inverse.value;
     let mut at = 0;
     let mut i = 0;
     while i < n {

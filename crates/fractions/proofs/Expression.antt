@@ -13,8 +13,8 @@ use lib.ListN.{length, getD}
 use lib.Ieee.{Float, Format, prec, emax, low, fits, round, neg, add, sub, mul, div}
 use lib.Ieee.Fits.{and-l, and-r}
 use Rattle.lists.specs.Tables.{every}
-use Rattle.fractions.specs.Fraction.{Fraction, fraction, whole, opposite, magnitude, signed, number, _⊕_, _⊖_, _⊗_, _⊘_, AtMost, gap, Within}
-use Rattle.fractions.specs.Approximates.{Approximates, EachWithin}
+use Rattle.fractions.specs.Fraction.{Fraction, fraction, whole, opposite, magnitude, signed, number, _⊕_, _⊖_, _⊗_, _⊘_, AtMost, gap, Within, EachWithin}
+use Rattle.fractions.proofs.Approximates.{Approximates}
 use Rattle.fractions.proofs.Order.{left}
 use Rattle.fractions.proofs.Magnitude.{magnitude-above}
 use Rattle.fractions.proofs.Close.{Size, Least, size-unit, ceiling, ceiling-ge}

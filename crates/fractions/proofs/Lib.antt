@@ -15,6 +15,7 @@ pub mod Operations
 pub mod Exact
 pub mod Held
 -- Bounds: the calculus of errors, expressions, and quotients by a root.
+pub mod Approximates
 pub mod Near
 pub mod Expression
 mod Squares

@@ -11,8 +11,8 @@ use lib.Ieee.Fits.{and-l, and-r}
 use lib.Ieee.Positive.{positive, first-pos}
 use Rattle.lists.proofs.Tests.{all, each-holds}
 use Rattle.fractions.specs.Fraction.{Fraction, whole, number, square, _⊘_, Less, AtMost}
-use Rattle.fractions.specs.Approximates.{Approximates}
-use Rattle.fractions.specs.Squares.{BySquares, RootOf}
+use Rattle.fractions.proofs.Approximates.{Approximates}
+use Rattle.fractions.specs.Squares.{BySquares}
 use Rattle.fractions.proofs.Order.{same-refl, not-below, zero-at-most}
 use Rattle.fractions.proofs.Restate.{inverse}
 use Rattle.fractions.proofs.Within.{whole-size, whole-least}
@@ -23,7 +23,7 @@ use Rattle.fractions.proofs.Exact.{result-not-below}
 use Rattle.fractions.proofs.Near.{Near, near-size, near-div, quotient-result, quotient-error}
 use Rattle.fractions.proofs.Expression.{Expression, held, _*'_, _/'_, run, exact, scale, bound, sound, value, divisor}
 use Rattle.fractions.proofs.Squares.{squares-fine, by-squares}
-use Rattle.fractions.proofs.Roots.{root-square, root-least, quotient-size}
+use Rattle.fractions.proofs.Roots.{RootOf, root-square, root-least, quotient-size}
 
 -- ---- r² is near S, where r is the root of s to one part in P and s is near S
 abbrev pub root-error : ℕ → ℕ → ℕ → ℕ

@@ -6,7 +6,6 @@ use native.Mathlib.Nat.{le-of-lt, lt-of-not-le, add-sub-of-le, mul-pos, mul-le-m
 use native.Mathlib.Decide.{decLe}
 use native.Mathlib.Omega.{arith}
 use Rattle.fractions.specs.Fraction.{Fraction, fraction, whole, square, _⊗_, _⊘_, Same, Less, AtMost, gap}
-use Rattle.fractions.specs.Squares.{RootOf}
 use Rattle.fractions.proofs.Ring.{ring}
 use Rattle.fractions.proofs.Order.{same-refl, same-sym, same-mul, less-same, left, plain, plain-same, gap-times}
 use Rattle.fractions.proofs.Restate.{same-square}
@@ -15,6 +14,14 @@ use Rattle.fractions.proofs.Close.{Close, Size, Least, scaled, close-sa
 use Rattle.fractions.proofs.Within.{gap-size}
 use Rattle.fractions.proofs.Divide.{left-least, least-positive}
 use Rattle.fractions.proofs.Squares.{square-below}
+
+-- r is the root of s to one part in P: (r (1 - 1 / P))² < s < (r (1 + 1 / P))²
+pub record RootOf (P : ℕ) (r s : Fraction) : Type 0 where
+  pub root : 0 < r .over
+  pub number : 0 < s .over
+  pub positive : Less (whole 0) r
+  pub below : Less (square (r ⊗ fraction (P - 1) 0 P)) s
+  pub above : Less s (square (r ⊗ fraction (suc P) 0 P))
 
 -- ---- u = r² and v = s, over one number: u (P - 1)² ≤ v P² and v P² ≤ u (P + 1)² say that they are 3 v / P apart at most
 far-nat : (u v q : ℕ) → u * (q * q) * (q + 1) ≤ v * ((q + 1) * (q + 1)) * (q + 1) → 4 * q * v ≤ q * q * v → 4 * v ≤ q * v → u * (q + 1) * (q * q) ≤ (v * (q + 1) + 3 * v) * (q * q)

@@ -16,7 +16,6 @@ use lib.Ieee.Scale.{grid}
 use Rattle.formats.proofs.Patterns.{twice-hid}
 use Rattle.formats.proofs.Dropped.{dropped}
 use Rattle.fractions.specs.Fraction.{Fraction, fraction, unit, magnitude, signed, number, _⊖_, _⊗_, Same, AtMost, gap}
-use Rattle.fractions.specs.Rounding.{Rounds}
 use Rattle.fractions.proofs.Ring.{ring}
 use Rattle.fractions.proofs.Order.{same-refl, gap-times}
 use Rattle.fractions.proofs.Restate.{equal}
@@ -24,6 +23,12 @@ use Rattle.fractions.proofs.Closest.{closest-rounded}
 use Rattle.fractions.proofs.Close.{Close, Size, gap-above, close-difference, difference-close, close-same, close-unit, ceiling, ceiling-ge}
 use Rattle.fractions.proofs.Within.{size-gap, at-most-size, size-at-most, apart-close}
 use Rattle.fractions.proofs.Number.{value-same, value-number, apart-like}
+
+-- ---- what IEEE 754 leaves of an exact result: x is a number, and no further from q than rounding puts it, one part in 2 ^ prec of q, or half the format's smallest value
+pub record Rounds (f : Format) (x q : Fraction) : Type 0 where
+  pub first : 0 < x .over
+  pub second : 0 < q .over
+  pub near : AtMost (magnitude (x ⊖ q)) (magnitude q ⊗ unit (prec f)) ⊎ AtMost (magnitude (x ⊖ q)) (unit (suc (low f)))
 
 -- ---- `Rounds`, counted: in units of 1 / (q .over * 2 ^ prec), or of 1 / 2 ^ (low + 1)
 abbrev Counted : Format → Fraction → Fraction → Type 0

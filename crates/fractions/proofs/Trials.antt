@@ -1,4 +1,4 @@
--- Controls on the definitions of specs/, at closed numbers: what they say and what they do not, at the edge and past it. A definition that is wrong here would say the wrong thing everywhere. Assumes nothing.
+-- Controls on the definitions of specs/, and on `Rounds` and `RootOf`, at closed numbers: what they say and what they do not, at the edge and past it. A definition that is wrong here would say the wrong thing everywhere. Assumes nothing.
 use mathlib.Core.Path.{_≡_, refl}
 use mathlib.Core.Logic.{inl, inr, ⊎-elim}
 use mathlib.Core.Bool.{false, true}
@@ -9,9 +9,10 @@ use lib.Dec.{le→leb, lit<, lit≤}
 use lib.IntN.{pos, negsuc}
 use lib.Ieee.{nan, inf, fin, binary64}
 use Rattle.fractions.specs.Fraction.{Fraction, fraction, whole, unit, number, opposite, magnitude, square, _⊕_, _⊖_, _⊗_, _⊘_, Same, Less, AtMost, Within}
-use Rattle.fractions.specs.Rounding.{Rounds}
-use Rattle.fractions.specs.Squares.{sumSquares, BySquares, RootOf}
-use Rattle.fractions.specs.Approximates.{Approximates}
+use Rattle.fractions.proofs.Rounding.{Rounds}
+use Rattle.fractions.specs.Squares.{sumSquares, BySquares}
+use Rattle.fractions.proofs.Roots.{RootOf}
+use Rattle.fractions.proofs.Approximates.{Approximates}
 use Rattle.fractions.proofs.Within.{within-computed}
 
 -- ---- numbers: -1.5 is -3 / 2, and a NaN and an infinity are near nothing

@@ -3,8 +3,10 @@
 use Prim.Native.Nat.{ℕ, _+_, _-_, _*_, _^_, _≤_, _<_}
 use mathlib.Core.Path.{_≡_}
 use mathlib.Core.Bool.{Bool, cond}
+use mathlib.Core.List.{List}
 use lib.Dec.{ltb}
 use lib.Ieee.{Float, nan, inf, fin, up, down}
+use Rattle.lists.specs.Both.{Both}
 
 -- (plus - minus) / over
 pub record Fraction : Type 0 where
@@ -91,3 +93,7 @@ pub record Within (k : ℕ) (x y : Fraction) : Type 0 where
   pub first : 0 < x .over
   pub second : 0 < y .over
   pub near : apart x y * 2 ^ k ≤ x .over * y .over
+
+-- of a row of floats, as the gains of document 01: as many as there are numbers, each within 2 ^ -k of the number in its place
+abbrev pub EachWithin : ℕ → List Float → List Fraction → Type 0
+EachWithin k = Both (λ x q. Within k (number x) q)

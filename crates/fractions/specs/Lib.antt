@@ -1,5 +1,3 @@
 -- What the promises of the crates above are said over.
 pub mod Fraction
-pub mod Rounding
-pub mod Approximates
 pub mod Squares

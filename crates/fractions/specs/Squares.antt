@@ -1,7 +1,7 @@
 -- Document 01, 'Gains': the bounds that are stated by squares, since the exact gain is G / √S and that is no fraction. Surround: "the gain is not below zero, and the square of the exact gain lies between the
 -- squares of this gain less 2^-30 (zero if that is negative) and plus 2^-30." Decoder matrix: "by squares in the same way on magnitudes, with the sign of the formula wherever the formula exceeds 2^-33 in
 -- magnitude." Definitions only.
-use Prim.Native.Nat.{ℕ, suc, _-_, _<_}
+use Prim.Native.Nat.{ℕ, _-_, _<_}
 use mathlib.Core.List.{List, [], _∷_}
 use Rattle.fractions.specs.Fraction.{Fraction, fraction, whole, unit, magnitude, square, _⊕_, _⊖_, _⊗_, _⊘_, Less, AtMost}
 
@@ -30,11 +30,3 @@ pub record BySquares (k : ℕ) (x G S : Fraction) : Type 0 where
   pub above : AtMost (square G ⊘ S) (square (raised k x))
   pub below : AtMost (square (lowered k x)) (square G ⊘ S)
   pub sign : Less (square (unit k)) (square G ⊘ S) → Less (whole 0) (x ⊗ G)
-
--- r is the root of s to one part in P: (r (1 - 1 / P))² < s < (r (1 + 1 / P))²
-pub record RootOf (P : ℕ) (r s : Fraction) : Type 0 where
-  pub root : 0 < r .over
-  pub number : 0 < s .over
-  pub positive : Less (whole 0) r
-  pub below : Less (square (r ⊗ fraction (P - 1) 0 P)) s
-  pub above : Less s (square (r ⊗ fraction (suc P) 0 P))

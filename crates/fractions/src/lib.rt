@@ -4,5 +4,5 @@
 // result rounded once, and a calculus in which the bound of a formula is an expression, the formula and a
 // test that computes. Gains over a root are bounded by squares (`BySquares`).
 //
-// Definitions and laws alone: no function stands here. What a reader has to believe are specs/Fraction,
-// Rounding, Approximates and Squares; proofs/Trials holds the definitions to closed cases.
+// Definitions and laws alone: no function stands here. What a reader has to believe are specs/Fraction and
+// specs/Squares; proofs/Trials holds the definitions to closed cases.

@@ -13,8 +13,7 @@ use Rattle.refusals.proofs.First.{or-off}
 use Rattle.refusals.proofs.Chains.{none-holds}
 use Rattle.channel.specs.Orders.{refusesOrder}
 use Rattle.channel.proofs.Orders.{by-order}
-use Rattle.fractions.specs.Fraction.{number, whole, magnitude, AtMost}
-use Rattle.fractions.specs.Approximates.{EachWithin}
+use Rattle.fractions.specs.Fraction.{number, whole, magnitude, AtMost, EachWithin}
 use Rattle.fractions.proofs.Close.{size-wider}
 use Rattle.fractions.proofs.Within.{at-most-size, size-at-most}
 use Rattle.harmonics.specs.Formulas.{formulas}

@@ -14,7 +14,7 @@ use lib.Ieee.Back.{round-whole}
 use Rattle.formats.specs.Floats.{float}
 use Rattle.channel.specs.Orders.{refusesOrder}
 use Rattle.fractions.specs.Fraction.{Fraction, number, signed, whole, magnitude, AtMost}
-use Rattle.fractions.specs.Approximates.{Approximates}
+use Rattle.fractions.proofs.Approximates.{Approximates}
 use Rattle.fractions.proofs.Close.{Size, size-same}
 use Rattle.fractions.proofs.Within.{size-at-most}
 use Rattle.fractions.proofs.Number.{value-same, value-number}

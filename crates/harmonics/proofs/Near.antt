@@ -10,15 +10,15 @@ use lib.Ieee.{Float, binary64, mul, round, ofInt}
 use Rattle.channel.specs.Orders.{refusesOrder}
 use Rattle.channel.proofs.Orders.{by-order}
 use Rattle.lists.specs.Tables.{every}
-use Rattle.fractions.specs.Fraction.{Fraction, fraction, number, whole, magnitude, square, _⊖_, _⊗_, _⊘_, AtMost}
-use Rattle.fractions.specs.Approximates.{Approximates, EachWithin}
+use Rattle.fractions.specs.Fraction.{Fraction, fraction, number, whole, magnitude, square, _⊖_, _⊗_, _⊘_, AtMost, EachWithin}
+use Rattle.fractions.proofs.Approximates.{Approximates}
 use Rattle.fractions.proofs.Close.{size-mul, size-wider}
 use Rattle.fractions.proofs.Within.{at-most-size, size-at-most, whole-size}
 use Rattle.fractions.proofs.Restate.{part-⊗, ⊗-assoc}
 use Rattle.fractions.proofs.Expression.{Expression, literal, held, _-'_, _*'_, run, exact, passes, within, each-within, sized, each-approximates, value, itself}
 use Rattle.series.specs.Sums.{Wave, sine, cosine}
-use Rattle.series.specs.Angles.{defined, definedMost}
-use Rattle.series.proofs.Laws.{defined-size}
+use Rattle.series.specs.Angles.{defined}
+use Rattle.series.proofs.Laws.{definedMost, defined-size}
 use Rattle.angles.specs.Promise.{outcome}
 use Rattle.angles.proofs.Laws.{outcome-kept, accepted, value-near, value-carried}
 use Rattle.harmonics.specs.Formulas.{Sines, sinesOf, degree0, degree1, degree2, degree3, sixteen, formulasOver, formulas}

@@ -10,8 +10,7 @@ use lib.ListN.{replicate}
 use lib.Ieee.{Float}
 use Rattle.refusals.specs.Refusals.{firstOf, _when_}
 use Rattle.channel.specs.Orders.{refusesOrder}
-use Rattle.fractions.specs.Fraction.{number}
-use Rattle.fractions.specs.Approximates.{EachWithin}
+use Rattle.fractions.specs.Fraction.{number, EachWithin}
 use Rattle.angles.specs.Limits.{refusesAngle}
 use Rattle.formats.specs.Floats.{zero-float, float}
 use Rattle.harmonics.specs.Formulas.{formulas}

@@ -6,16 +6,18 @@ use mathlib.Core.List.{List}
 use lib.ListN.{replicate}
 use lib.Ieee.{Float}
 use Rattle.formats.specs.Floats.{zero-float}
+use Rattle.lists.specs.Tables.{tab}
 use Rattle.checks.specs.Finite.{unsound}
-use Rattle.planes.specs.Sums.{mixed, mixedAll}
+use Rattle.planes.specs.Sums.{mixed}
 use Rattle.history.specs.Setup.{Setup, weightsOf}
 
+-- speaker s's signal
 abbrev pub signal : Setup → ℕ → List Float → Float
 signal u s frame = mixed (weightsOf u s) frame
 
 -- the signals of speakers 0, 1, ..
 abbrev pub signals : Setup → List Float → List Float
-signals u frame = mixedAll (u .speakers) (u .channels) (u .weights) frame
+signals u frame = tab 0 (u .speakers) (λ s. signal u s frame)
 
 abbrev pub damaged : Setup → List Float → Bool
 damaged u frame = unsound (signals u frame)

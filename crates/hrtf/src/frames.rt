@@ -32,13 +32,13 @@ pub(crate) struct Scaled {
 
 // The root is taken here, once for a block.
 pub(crate) fn scale(shape: Shape) -> Scaled
-    requires { ⌜ shape .speakers ≤ 8 ⌝ }
+    requires { ⌜ (0 < shape .speakers) × (shape .speakers ≤ 8) ⌝ }
     ensures { λ r. ⌜ r ≡ scaledOf shape ⌝ }
 {
-    let inverse_root = planes::inverse_root(shape.speakers as u32);
+    let inverse = planes::inverse_root(shape.speakers as u32);
     Scaled {
         shape,
-        inverse_root,
+        inverse_root: inverse.value,
     }
 }
 

@@ -67,6 +67,9 @@ module _ (c : Call) (t : State) where
   pub waits : refusalOf c t ≡ 0 → t .desk .«to_go» < c .shape .length
   waits e = leb-false (c .shape .length) (t .desk .«to_go») (or-off (leb (c .shape .length) (t .desk .position)) _ (every-test e .1 .1 .1 .1 .0) .1)
 
+  pub some-speakers : refusalOf c t ≡ 0 → 0 < c .shape .speakers
+  some-speakers e = not-outside (c .shape .speakers) 8 (or-off (outside (c .shape .speakers) 8) _ (every-test e .0) .0) .0
+
   pub ready : refusalOf c t ≡ 0 → Ready (c .shape) (t .desk .position) (c .rows) (c .taps) (t .rings)
   ready e =
       let p = every-test e in

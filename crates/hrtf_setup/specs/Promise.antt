@@ -7,8 +7,7 @@ use lib.IntN.{ℤ}
 use lib.ListN.{getD}
 use lib.Ieee.{Float, nan}
 use Rattle.refusals.specs.Refusals.{_when_}
-use Rattle.fractions.specs.Fraction.{number}
-use Rattle.fractions.specs.Approximates.{EachWithin}
+use Rattle.fractions.specs.Fraction.{number, EachWithin}
 use Rattle.channel.specs.declared.Layout.{Layout}
 use Rattle.channel.specs.Layouts.{channelsOf, surround}
 use Rattle.channel.specs.Orders.{refusesOrder, channelsOfOrder}

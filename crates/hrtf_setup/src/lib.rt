@@ -48,8 +48,8 @@ fn tenths(whose: Speakers, s: usize) -> i16
     ensures { λ r. ⌜ r ≡ tenthsAt whose s ⌝ }
 {
     match whose {
-        Speakers::Of(layout) => channel::speaker_tenths(layout, s) as i16,
-        Speakers::Virtual(_) => channel::position_tenths(s) as i16,
+        Speakers::Of(layout) => channel::speaker_tenths(layout, s).tenths as i16,
+        Speakers::Virtual(_) => channel::position_tenths(s).tenths as i16,
     }
 }
 
@@ -86,7 +86,7 @@ fn coefficient(order: usize, s: usize, channel: usize) -> f64
     ensures { λ r. ⌜ r ≡ getD (Weighing.outcome order (Weighing.positionOf s) .weights) channel nan ⌝ }
 {
     let position = virtual_speaker::foa_position(s);
-    let speaker = virtual_speaker::compute_sh_coefficients_max_re(order, position);
+    let speaker = virtual_speaker::compute_sh_coefficients_max_re(order, position.direction);
     let weights = speaker.weights;
     if channel < 16 {
         return weights[channel];

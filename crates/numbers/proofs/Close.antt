@@ -10,7 +10,7 @@ use lib.Pow.{pow-pos, suc-ones}
 use lib.Ieee.{Float, Format, prec, low, fits, hid}
 use lib.Ieee.Positive.{positive, positive-of-value}
 use Rattle.fractions.specs.Fraction.{Fraction, fraction, whole, signed, number, _⊗_, square, Same, Less}
-use Rattle.fractions.specs.Squares.{RootOf}
+use Rattle.fractions.proofs.Roots.{RootOf}
 use Rattle.fractions.proofs.Order.{same-refl, same-mul, less-same}
 use Rattle.fractions.proofs.Restate.{same-square}
 use Rattle.formats.proofs.Patterns.{twice-hid}

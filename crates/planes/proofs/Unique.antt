@@ -20,4 +20,4 @@ mix-frame-unique : (xs : List Float) (stride n : ℕ) (f : List Float) → OneAn
 mix-frame-unique xs stride n f = determined-by (λ r h i. (h .put i, h .damage i))
 
 inverse-root-unique : (n : ℕ) → OneAnswer (InverseRoot n)
-inverse-root-unique n = determined-by (λ r h. h .value)
+inverse-root-unique n = determined-by (λ r h. h .is)

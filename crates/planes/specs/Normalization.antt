@@ -2,17 +2,29 @@
 -- exact root; its inverse is one f64 division.
 use Prim.Native.Nat.{ℕ}
 use mathlib.Core.Path.{_≡_}
+use mathlib.Core.List.{[], _∷_}
+use lib.Dec.{eqb}
 use lib.IntN.{pos}
 use lib.Ieee.{Float, binary64, div}
-use Rattle.formats.specs.Floats.{one-float, float}
+use Rattle.refusals.specs.Refusals.{firstOf, _when_, answered}
+use Rattle.formats.specs.Floats.{zero-float, one-float, float}
 use Rattle.numbers.specs.Computed.{rootOf, rootAnswer}
 use Rattle.numbers.specs.Promises.{Root}
+use Rattle.planes.specs.declared.Inverse.{Inverse}
 
 unfoldable pub inverseRoot : ℕ → Float
 unfolding div rootOf
 inverseRoot n = div binary64 one-float (rootOf binary64 (float (pos n)))
 
--- beside the value: the number below the 1.0 is document 01's root of n
-pub record InverseRoot (n : ℕ) (r : Float) : Type 0 where
-  pub value : r ≡ inverseRoot n
-  pub root : Root (float (pos n)) (rootAnswer (float (pos n)))
+-- "speakers or bank rows are not 1..8", "Custom n is 0": no count that a root is taken of is 0
+abbrev pub inverseRefusal : ℕ → ℕ
+inverseRefusal n = firstOf (2 when eqb n 0 ∷ [])
+
+-- "A refusal returns its number, [..] 0.0 for any number"
+abbrev pub inverseAnswer : ℕ → Inverse
+inverseAnswer n = answered (inverseRefusal n) (record { refusal = 0; value = inverseRoot n }) (λ r. record { refusal = r; value = zero-float })
+
+-- every bit of the answer; and where it is accepted, the number below the 1.0 is document 01's root of n
+pub record InverseRoot (n : ℕ) (answer : Inverse) : Type 0 where
+  pub is : answer ≡ inverseAnswer n
+  pub root : inverseRefusal n ≡ 0 → Root (float (pos n)) (rootAnswer (float (pos n)))

@@ -118,12 +118,27 @@ pub fn mix_frame(
     damaged
 }
 
-// 1.0 over the root of n.
-pub fn inverse_root(n: u32) -> f64
+// 1.0 over the root of n; or refusal 2 and 0.0.
+pub struct Inverse {
+    pub refusal: u8,
+    pub value: f64,
+}
+
+// 1.0 over the root of n; 2 for an n of 0.
+pub fn inverse_root(n: u32) -> Inverse
     ensures { λ r. ⌜ InverseRoot n r ⌝ }
 {
+    if n == 0 {
+        return Inverse {
+            refusal: 2,
+            value: 0.0,
+        };
+    }
     let number = n as f64;
     let rooted = numbers::root(number);
     let root = rooted.value;
-    1.0 / root
+    Inverse {
+        refusal: 0,
+        value: 1.0 / root,
+    }
 }

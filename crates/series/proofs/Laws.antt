@@ -16,7 +16,7 @@ use Rattle.fractions.proofs.Divide.{least-near, near-not-below}
 use Rattle.fractions.proofs.Roots.{quotient-size}
 use Rattle.fractions.proofs.Sums.{square-in-sum}
 use Rattle.series.specs.Sums.{Wave, sine, cosine}
-use Rattle.series.specs.Angles.{reduced, defined, definedSine, definedCosine, definedMost}
+use Rattle.series.specs.Angles.{reduced, defined, definedSine, definedCosine}
 use Rattle.series.proofs.Places.{wave}
 use Rattle.series.proofs.Least.{sine-least, reduced-not-below, square-least}
 -- size: S^2 + C^2 = 1 up to 2 ^ -50
@@ -32,7 +32,9 @@ pub use Rattle.series.proofs.Places.{defined-sum}
 pub use Rattle.series.proofs.Continuity.{reduced-close}
 pub use Rattle.series.proofs.Terms.{sum-number, sum-same, sum-opposite}
 
--- ---- size: |S|, |C| ≤ 1 + 2 ^ -50
+-- ---- size: |S|, |C| ≤ 1 + 2 ^ -50: the sums end, so that the squares of the two make up 1 only up to 2 ^ -50
+abbrev pub definedMost : Fraction
+definedMost = whole 1 ⊕ unit 50
 
 -- each square is at most their sum, and that is 1 + 2 ^ -50 at most
 pub defined-size : (w : Wave) (d : Fraction) → 0 < d .over → AtMost (magnitude (defined w d)) definedMost

@@ -5,7 +5,7 @@ use mathlib.Core.Bool.{Bool, cond}
 use mathlib.Core.List.{List, [], _∷_}
 use lib.Dec.{leb, eqb}
 use lib.ListN.{getD}
-use Rattle.fractions.specs.Fraction.{Fraction, fraction, whole, unit, opposite, _⊕_, _⊗_, Same, Less, AtMost}
+use Rattle.fractions.specs.Fraction.{Fraction, fraction, whole, opposite, _⊕_, _⊗_, Same, Less, AtMost}
 use Rattle.series.specs.Sums.{Wave, sine, cosine, sum}
 
 -- ---- reduce by 360
@@ -57,7 +57,3 @@ definedSine = defined sine
 
 abbrev pub definedCosine : Fraction → Fraction
 definedCosine = defined cosine
-
--- their magnitude is this at most: the sums end, so that the squares of the two make up 1 only up to 2 ^ -50 (proofs/Laws.antt: `defined-squares`, `defined-size`)
-abbrev pub definedMost : Fraction
-definedMost = whole 1 ⊕ unit 50

@@ -5,7 +5,7 @@ use Prim.Native.Nat.{_<_}
 use lib.Dec.{lit≤}
 use lib.Ieee.{Float, binary64, ofInt}
 use Rattle.fractions.specs.Fraction.{Fraction, whole, number, _⊕_, _⊗_, _⊘_, Within}
-use Rattle.fractions.specs.Approximates.{Approximates}
+use Rattle.fractions.proofs.Approximates.{Approximates}
 use Rattle.fractions.proofs.Restate.{⊗-comm}
 use Rattle.fractions.proofs.Within.{within-refl, within-equal, within-weaken}
 use Rattle.fractions.proofs.Expression.{held, _+'_, _*'_, _/'_, approximates, value}

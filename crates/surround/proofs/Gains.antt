@@ -15,7 +15,8 @@ use lib.Ieee.Positive.{positive}
 use Rattle.formats.specs.Floats.{zero-float}
 use Rattle.refusals.proofs.First.{stops, goes-on}
 use Rattle.fractions.specs.Fraction.{Fraction, whole, number, magnitude, AtMost, isLess}
-use Rattle.fractions.specs.Squares.{BySquares, RootOf}
+use Rattle.fractions.specs.Squares.{BySquares}
+use Rattle.fractions.proofs.Roots.{RootOf}
 use Rattle.fractions.proofs.Close.{Least}
 use Rattle.fractions.proofs.Within.{at-most-least}
 use Rattle.fractions.proofs.Divide.{least-unit, least-near, least-positive}

@@ -11,7 +11,7 @@ use lib.Ieee.{Float, binary64, lt, neg, add, sub, ofInt}
 use Rattle.lists.proofs.Tests.{by-test, either, by-less}
 use Rattle.fractions.specs.Fraction.{Fraction, fraction, whole, unit, opposite, magnitude, number, _⊕_, _⊖_, Same, Less, AtMost, isLess, Within}
 use Rattle.refusals.proofs.First.{stops, goes-on}
-use Rattle.fractions.specs.Approximates.{Approximates}
+use Rattle.fractions.proofs.Approximates.{Approximates}
 use Rattle.fractions.proofs.Order.{same-refl, same-sym, at-most-trans, at-most-same, less-at-most}
 use Rattle.fractions.proofs.Restate.{same-sub}
 use Rattle.fractions.proofs.Close.{Close, Size, same-close, close-same, close-trans, close-sub, size-same, size-unit, size-near, zero-near}
@@ -24,8 +24,8 @@ use Rattle.fractions.proofs.Rounding.{rounding}
 use Rattle.fractions.proofs.Near.{result-close}
 use Rattle.fractions.proofs.Expression.{scale}
 use Rattle.series.specs.Sums.{cosine}
-use Rattle.series.specs.Angles.{definedCosine, definedMost}
-use Rattle.series.proofs.Laws.{defined-size, defined-close, rest-not-below}
+use Rattle.series.specs.Angles.{definedCosine}
+use Rattle.series.proofs.Laws.{definedMost, defined-size, defined-close, rest-not-below}
 use Rattle.angles.specs.Promise as Angles
 use Rattle.formats.specs.Floats.{zero-float, float}
 use Rattle.angles.proofs.Laws.{outcome-kept, accepted, value-near}

@@ -79,7 +79,8 @@ fn channel_gain(layout: channel::Layout, azimuth: f64, channel: usize) -> f64
     if channel::is_low_frequency(layout, channel) {
         return 0.0;
     }
-    raw_gain(azimuth, channel::speaker_azimuth(layout, channel))
+    let speaker = channel::speaker_azimuth(layout, channel);
+    raw_gain(azimuth, speaker.degrees)
 }
 
 fn raw_gains(layout: channel::Layout, azimuth: f64, channels: usize) -> [f64; 16]

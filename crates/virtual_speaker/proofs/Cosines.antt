@@ -5,7 +5,7 @@ use Prim.Native.Nat.{ℕ}
 use lib.Dec.{T, lit≤}
 use lib.Ieee.{round}
 use Rattle.fractions.specs.Fraction.{number, whole, magnitude, AtMost}
-use Rattle.fractions.specs.Approximates.{Approximates}
+use Rattle.fractions.proofs.Approximates.{Approximates}
 use Rattle.fractions.proofs.Within.{isWithin, within-computed}
 use Rattle.series.specs.Sums.{factorial, power, term, cosineSum}
 use Rattle.channel.specs.Orders.{refusesOrder}

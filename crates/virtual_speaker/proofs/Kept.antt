@@ -7,8 +7,8 @@ use lib.Dec.{eqb, ltb, lit≤}
 use lib.ListN.{getD}
 use lib.Ieee.{Float, nan, binary64, mul, round, ofInt}
 use Rattle.lists.proofs.Tests.{either}
-use Rattle.fractions.specs.Fraction.{Fraction, number, whole, _⊗_, Within}
-use Rattle.fractions.specs.Approximates.{Approximates, EachWithin}
+use Rattle.fractions.specs.Fraction.{Fraction, number, whole, _⊗_, Within, EachWithin}
+use Rattle.fractions.proofs.Approximates.{Approximates}
 use Rattle.fractions.proofs.Within.{within-weaken}
 use Rattle.series.specs.Sums.{power}
 use Rattle.channel.proofs.Orders.{one-of-three}

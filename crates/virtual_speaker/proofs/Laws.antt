@@ -13,8 +13,7 @@ use lib.Ieee.Scale.{finite}
 use lib.Ieee.Bits.{is-true}
 use Rattle.lists.proofs.Tests.{by-test, either}
 use Rattle.formats.specs.Floats.{zero-float}
-use Rattle.fractions.specs.Fraction.{Fraction, number}
-use Rattle.fractions.specs.Approximates.{EachWithin}
+use Rattle.fractions.specs.Fraction.{Fraction, number, EachWithin}
 use Rattle.fractions.proofs.Number.{number-finite}
 use Rattle.checks.specs.Finite.{unsound}
 use Rattle.channel.specs.Layouts.{positions}

@@ -6,8 +6,8 @@ use Prim.Native.Nat.{ℕ, zero, suc, _+_, _≤_, _<_}
 use native.Mathlib.Omega.{arith}
 use lib.Dec.{T}
 use lib.Ieee.{Float, binary64, mul, round}
-use Rattle.fractions.specs.Fraction.{Fraction, number, whole, _⊗_, Within}
-use Rattle.fractions.specs.Approximates.{Approximates, EachWithin}
+use Rattle.fractions.specs.Fraction.{Fraction, number, whole, _⊗_, Within, EachWithin}
+use Rattle.fractions.proofs.Approximates.{Approximates}
 use Rattle.fractions.proofs.Restate.{⊗-one, ⊗-comm}
 use Rattle.fractions.proofs.Expression.{Expression, held, _*'_, run, exact, passes, within, value}
 use Rattle.series.specs.Sums.{power}

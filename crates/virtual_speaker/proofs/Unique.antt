@@ -4,10 +4,11 @@ use Prim.Native.Nat.{ℕ}
 use Rattle.refusals.specs.OneAnswer.{OneAnswer}
 use Rattle.refusals.proofs.Determined.{determined, determined-by}
 use Rattle.harmonics.specs.declared.Direction.{Direction}
-use Rattle.virtual_speaker.specs.Promise.{Promise, positionOf}
+use Rattle.virtual_speaker.specs.Promise.{Promise, positionAnswer}
+use Rattle.virtual_speaker.specs.declared.Position.{Position}
 
 pub compute-sh-coefficients-max-re-unique : (order : ℕ) (d : Direction) → OneAnswer (Promise order d)
 compute-sh-coefficients-max-re-unique order d = determined-by (λ r h. h .is)
 
-pub foa-position-unique : (i : ℕ) → OneAnswer (λ (r : Direction). r ≡ positionOf i)
+pub foa-position-unique : (i : ℕ) → OneAnswer (λ (r : Position). r ≡ positionAnswer i)
 foa-position-unique i = determined

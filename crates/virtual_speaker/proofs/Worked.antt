@@ -17,10 +17,12 @@ use Rattle.harmonics.specs.Formulas.{formulasOver}
 use Rattle.harmonics.specs.Computed.{sin, cos, wavesOf, upTo}
 use Rattle.harmonics.specs.Promise.{silence}
 use Rattle.harmonics.specs.Drill.{at, Alike, none}
+use Rattle.harmonics.specs.declared.Direction.{Direction}
 use Rattle.harmonics.proofs.Drill.{alike}
 use Rattle.virtual_speaker.specs.Computed.{weigh}
-use Rattle.virtual_speaker.specs.Promise.{outcome, Promise}
+use Rattle.virtual_speaker.specs.Promise.{outcome, Promise, positionAnswer}
 use Rattle.virtual_speaker.specs.declared.Weighted.{Weighted}
+use Rattle.virtual_speaker.specs.declared.Position.{Position}
 
 -- ---- order 1 in front: 1, 0, 0 and c, and 0 beyond the order
 abbrev front : List Fraction
@@ -48,3 +50,11 @@ third-for-fourth ws p = let e : _≡_ {A = ℕ} 0 1 = ap refusal (p .is) in omeg
 by-the-comment : Promise 1 (at 0 0) (record { refusal = 0; weights = (float (pos 1) ∷ zero-float ∷ zero-float ∷ decimal 8243732515066312 ∷ []) ++ replicate 12 zero-float }) → ⊥
 unfolding refusesAngle isInside lt le eq neg round ofInt formulasOver defined isMultiple quarters turned cosineSum term power factorial
 by-the-comment p = le→leb _ _ (p .near refl .1 .1 .1 .0 .near)
+
+-- there is a ninth position, whatever direction it has
+ninth-position : (d : Direction) → _≡_ {A = Position} (record { refusal = 0; direction = d }) (positionAnswer 8) → ⊥
+ninth-position d h = let e : _≡_ {A = ℕ} 0 2 = ap (λ (r : Position). r .refusal) h in omega arith
+
+-- the eighth is none
+eighth-refused : (d : Direction) → _≡_ {A = Position} (record { refusal = 2; direction = d }) (positionAnswer 7) → ⊥
+eighth-refused d h = let e : _≡_ {A = ℕ} 2 0 = ap (λ (r : Position). r .refusal) h in omega arith

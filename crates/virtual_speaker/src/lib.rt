@@ -31,6 +31,12 @@ pub struct Weighted {
     pub weights: [f64; 16],
 }
 
+// Refusal 2, or 0 and the direction of a virtual speaker.
+pub struct Position {
+    pub refusal: u8,
+    pub direction: Direction,
+}
+
 // cos(A/(2(N+1))) for an order N of 1, 2 and 3.
 const COSINES: [f64; 3] = [0.8244615675902878, 0.9206590873000569, 0.9551077341301053];
 
@@ -87,12 +93,17 @@ pub fn compute_sh_coefficients_max_re(order: usize, direction: Direction) -> Wei
     }
 }
 
-// Where virtual speaker i stands; in front beyond the eight.
-pub fn foa_position(i: usize) -> Direction
-    ensures { λ r. ⌜ r ≡ Said.positionOf i ⌝ }
+// Where virtual speaker i stands; or 2 and the direction 0.0, 0.0 beyond the eight.
+pub fn foa_position(i: usize) -> Position
+    ensures { λ r. ⌜ r ≡ Said.positionAnswer i ⌝ }
 {
-    Direction {
-        azimuth: channel::position_azimuth(i),
+    let found = channel::position_azimuth(i);
+    let direction = Direction {
+        azimuth: found.degrees,
         elevation: 0.0,
+    };
+    Position {
+        refusal: found.refusal,
+        direction,
     }
 }

@@ -1,20 +1,21 @@
 -- `channel::position_tenths` meets its contract. Assumes nothing.
+use Rattle.channel.specs.Layouts.{positions}
 use Rattle.channel.proofs.Tables.{position-turned, tenths-held, in-tenths}
 use borrow.Author.Needs.{needs}
 use Rattle.channel.proofs.position_tenths.Statement.{statement}
 use Rattle.channel.proofs.position_tenths.Tie as tie
 
-slice-aggregate-entry : tie.Need-slice-aggregate-entry
-slice-aggregate-entry c = search needs
+slice-aggregate-look-up : tie.Need-slice-aggregate-look-up
+slice-aggregate-look-up c = search needs
 
-entry-requires : tie.Need-entry-requires
-entry-requires c κs = search needs
+look-up-requires : tie.Need-look-up-requires
+look-up-requires c κs = search needs
 
-mul-result : tie.Need-mul-result
-mul-result c = tenths-held (c .entry .result) _ (c .entry .ensures) (position-turned (c .before .before .args .i))
+mul-t6 : tie.Need-mul-t6
+mul-t6 c = let i = c .before .before .before .before .args .i in tenths-held positions i (position-turned i) _ (c .before .before .look-up .ensures)
 
 returns : tie.Need-returns
-returns c = in-tenths (c .entry .result) _ (c .entry .ensures) (position-turned (c .before .before .args .i))
+returns c = let i = c .before .before .before .before .args .i in in-tenths positions i (position-turned i) _ (c .before .before .look-up .ensures)
 
 pub position-tenths-spec : {M : Type 1} → statement M
-position-tenths-spec = tie.close (tie.spec slice-aggregate-entry entry-requires mul-result returns)
+position-tenths-spec = tie.close (tie.spec slice-aggregate-look-up look-up-requires mul-t6 returns)

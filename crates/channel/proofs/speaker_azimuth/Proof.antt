@@ -1,17 +1,20 @@
 -- `channel::speaker_azimuth` meets its contract. Assumes nothing.
+use Rattle.channel.specs.Layouts.{speakers}
 use Rattle.channel.proofs.Tables.{speaker-turned, as-float}
 use borrow.Author.Needs.{needs}
 use Rattle.channel.proofs.speaker_azimuth.Statement.{statement}
 use Rattle.channel.proofs.speaker_azimuth.Tie as tie
 
-degrees-requires : tie.Need-degrees-requires
-degrees-requires c κs = search needs
+speaker-requires : tie.Need-speaker-requires
+speaker-requires c κs = search needs
 
-int-to-float-result : tie.Need-int-to-float-result
-int-to-float-result c = search needs
+int-to-float-t4 : tie.Need-int-to-float-t4
+int-to-float-t4 c = search needs
 
 returns : tie.Need-returns
-returns c = let s = c .before .before in as-float (c .before .degrees .result) _ (c .before .degrees .ensures) (speaker-turned (s .args .layout) (s .args .channel))
+returns c =
+    let a = c .before .before .before .args in
+    as-float (speakers (a .layout)) (a .channel) (speaker-turned (a .layout) (a .channel)) _ (c .before .before .speaker .ensures)
 
 pub speaker-azimuth-spec : {M : Type 1} → statement M
-speaker-azimuth-spec = tie.close (tie.spec degrees-requires int-to-float-result returns)
+speaker-azimuth-spec = tie.close (tie.spec speaker-requires int-to-float-t4 returns)

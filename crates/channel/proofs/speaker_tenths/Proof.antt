@@ -1,17 +1,22 @@
 -- `channel::speaker_tenths` meets its contract. Assumes nothing.
+use Rattle.channel.specs.Layouts.{speakers}
 use Rattle.channel.proofs.Tables.{speaker-turned, tenths-held, in-tenths}
 use borrow.Author.Needs.{needs}
 use Rattle.channel.proofs.speaker_tenths.Statement.{statement}
 use Rattle.channel.proofs.speaker_tenths.Tie as tie
 
-degrees-requires : tie.Need-degrees-requires
-degrees-requires c κs = search needs
+speaker-requires : tie.Need-speaker-requires
+speaker-requires c κs = search needs
 
-mul-result : tie.Need-mul-result
-mul-result c = tenths-held (c .degrees .result) _ (c .degrees .ensures) (speaker-turned (c .before .args .layout) (c .before .args .channel))
+mul-t4 : tie.Need-mul-t4
+mul-t4 c =
+    let a = c .before .before .before .args in
+    tenths-held (speakers (a .layout)) (a .channel) (speaker-turned (a .layout) (a .channel)) _ (c .before .before .speaker .ensures)
 
 returns : tie.Need-returns
-returns c = in-tenths (c .degrees .result) _ (c .degrees .ensures) (speaker-turned (c .before .args .layout) (c .before .args .channel))
+returns c =
+    let a = c .before .before .before .args in
+    in-tenths (speakers (a .layout)) (a .channel) (speaker-turned (a .layout) (a .channel)) _ (c .before .before .speaker .ensures)
 
 pub speaker-tenths-spec : {M : Type 1} → statement M
-speaker-tenths-spec = tie.close (tie.spec degrees-requires mul-result returns)
+speaker-tenths-spec = tie.close (tie.spec speaker-requires mul-t4 returns)

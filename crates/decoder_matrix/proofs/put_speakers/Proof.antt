@@ -6,6 +6,7 @@ use denote.Ref.{now}
 use lib.Ieee.{Float}
 use lib.ListN.{take}
 use lib.Seq.{sets}
+use Rattle.planes.proofs.Normalization.{inverse-value}
 use Rattle.rows.specs.Rows.{scaled}
 use Rattle.harmonics.specs.Promise.{outcome}
 use Rattle.decoder_matrix.specs.Speakers.{azimuthBy, towards}
@@ -43,12 +44,15 @@ loop-less c = omega arith
 
 loop-again : tie.Need-loop-again Inv-loop μ-loop
 loop-again c =
-    let a = c .before .before .before .before .before .before .before .before .before .args in
-    let at = c .before .before .before .before .before .before .loop in
-    filling-more (now (a .weights)) (a .channels) (a .n) (rowBy (a .order) (a .layout) (a .n) (a .channels)) (at .weights) (at .at) (at .i) (at .inv) (c .before .before .put-speaker .last .1 .1 .1 .1 .0) (omega arith) (c .before .before .before .before .before .loop-test .taken)
+    let tested = c .before .before .before .before .before in
+    let inverse = tested .before .before .inverse-root in
+    let a = tested .before .before .before .before .args in
+    let at = tested .before .loop in
+    filling-more (now (a .weights)) (a .channels) (a .n) (rowBy (a .order) (a .layout) (a .n) (a .channels)) (at .weights) (at .at) (at .i) (at .inv) (c .before .before .put-speaker .last .1 .1 .1 .1 .0) (omega arith) (tested .loop-test .taken)
     (c .before .before .put-speaker .ensures
-    ∙ ap (λ (z : Float). sets (at .weights) (at .at) (scaled (c .before .before .before .before .before .before .before .inverse-root .result) (take (a .channels) (outcome (a .order) (towards z) .gains)))) (c .before .before .before .before .speaker-position .ensures)
-    ∙ ap (λ (s : Float). sets (at .weights) (at .at) (scaled s (take (a .channels) (outcome (a .order) (towards (azimuthBy (a .layout) (a .n) (at .i))) .gains)))) (c .before .before .before .before .before .before .before .inverse-root .ensures .value))
+    ∙ ap (λ (z : Float). sets (at .weights) (at .at) (scaled (inverse .result .value) (take (a .channels) (outcome (a .order) (towards z) .gains)))) (c .before .before .before .before .speaker-position .ensures)
+    ∙ ap (λ (s : Float). sets (at .weights) (at .at) (scaled s (take (a .channels) (outcome (a .order) (towards (azimuthBy (a .layout) (a .n) (at .i))) .gains))))
+    (inverse-value (a .n) (inverse .result) (omega (arith, tested .loop-test .taken)) (inverse .ensures)))
 
 same-length : tie.Need-same-length Inv-loop μ-loop
 same-length c = omega arith

@@ -1,7 +1,8 @@
 -- `decoder_matrix::speaker_position` meets its contract: a Custom layout computes, every other reads its table. Assumes nothing.
-use mathlib.Core.Path.{_∙_}
+use mathlib.Core.Path.{ap, _∙_}
 use mathlib.Core.Logic.{⊎-elim}
 use native.Mathlib.Omega.{arith}
+use Rattle.channel.specs.declared.Angle.{Angle}
 use Rattle.decoder_matrix.proofs.Speakers.{by-table, computed}
 use borrow.Author.Needs.{needs}
 use Rattle.decoder_matrix.proofs.speaker_position.Statement.{statement}
@@ -28,7 +29,7 @@ speaker-azimuth-requires c κs = search needs
 returns-2 : tie.Need-returns-2
 returns-2 c =
     let a = c .before .before .args in
-    c .speaker-azimuth .ensures
+    ap (λ (r : Angle). r .degrees) (c .speaker-azimuth .ensures)
     ∙ by-table (a .layout) (a .n) (a .i) (λ m e. ⊎-elim (λ k. omega arith) (⊎-elim (λ k. omega arith) (⊎-elim (λ k. omega arith) (λ k. omega arith))) (rw e at (c .before .match .keys2)))
 
 pub speaker-position-spec : {M : Type 1} → statement M

@@ -9,7 +9,7 @@ use Rattle.rings.specs.State.{State}
 use Rattle.hrtf_checks.specs.declared.Shape.{Shape}
 use Rattle.hrtf_checks.specs.Call.{Call}
 use Rattle.hrtf_checks.specs.Refusals.{refusalOf}
-use Rattle.hrtf_checks.proofs.Refusing.{ready}
+use Rattle.hrtf_checks.proofs.Refusing.{some-speakers, ready}
 use Rattle.hrtf.specs.declared.frames.Scaled.{Scaled}
 use Rattle.hrtf.specs.Computed.{scaledOf, ScaledReady, computed, BlockPlayed}
 use Rattle.hrtf.proofs.Promised.{promised-refused, promised-accepted}
@@ -47,7 +47,9 @@ accepted : (c : tie.Else1) → refusalOf (call (start (c .before))) (state (star
 accepted c = sym (c .before .refusal .ensures) ∙ c .if1 .left
 
 scale-requires : tie.Need-scale-requires
-scale-requires c κs = ready (call (start (c .before))) (state (start (c .before))) (accepted c) .few
+scale-requires c κs =
+    let s = start (c .before) in
+    (some-speakers (call s) (state s) (accepted c), ready (call s) (state s) (accepted c) .few)
 
 block-requires : tie.Need-block-requires
 block-requires c κs =

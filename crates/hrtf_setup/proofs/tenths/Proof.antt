@@ -1,5 +1,6 @@
 -- `hrtf_setup::tenths` meets its contract. Assumes nothing.
-use mathlib.Core.Path.{sym, ap, _∙_}
+use mathlib.Core.Path.{_≡_, sym, ap, _∙_}
+use Rattle.channel.specs.declared.Tenths.{Tenths}
 use Rattle.hrtf_setup.specs.declared.Speakers.{Speakers}
 use Rattle.hrtf_setup.specs.declared.Speakers.the-variants.{Of, Virtual}
 use Rattle.hrtf_setup.specs.Speakers.{tenthsAt}
@@ -8,6 +9,9 @@ use borrow.Author.Needs.{needs}
 use Rattle.hrtf_setup.proofs.tenths.Statement.{statement}
 use Rattle.hrtf_setup.proofs.tenths.Tie as tie
 
+tenths-are : {r t : Tenths} → r ≡ t → r .tenths ≡ t .tenths
+tenths-are e = ap (λ (x : Tenths). x .tenths) e
+
 enum-known-whose : tie.Need-enum-known-whose
 enum-known-whose c = search needs
 
@@ -15,7 +19,7 @@ speaker-tenths-requires : tie.Need-speaker-tenths-requires
 speaker-tenths-requires c κs = search needs
 
 cast-result : tie.Need-cast-result
-cast-result c = cast-fits (Of (c .before .before .whose .given .0 .0)) _ (c .speaker-tenths .result) (c .speaker-tenths .ensures)
+cast-result c = cast-fits (Of (c .before .before .before .before .whose .given .0 .0)) _ _ (tenths-are (c .before .before .speaker-tenths .ensures))
 
 enum-told : tie.Need-enum-told
 enum-told c = search needs
@@ -24,17 +28,21 @@ position-tenths-requires : tie.Need-position-tenths-requires
 position-tenths-requires c κs = search needs
 
 cast-result-2 : tie.Need-cast-result-2
-cast-result-2 c = cast-fits (Virtual (c .before .enum-told .given .0 .0)) (c .before .before .before .args .s) (c .position-tenths .result) (c .position-tenths .ensures)
+cast-result-2 c =
+    let known = c .before .before .before in
+    cast-fits (Virtual (known .enum-told .given .0 .0)) (known .before .before .args .s) _ (tenths-are (c .before .before .position-tenths .ensures))
 
 returns : tie.Need-returns
 returns c =
-    let s = c .before .before .before .before .args .s in
-    cast-is (Of (c .before .before .whose .given .0 .0)) s (c .speaker-tenths .result) (c .speaker-tenths .ensures) ∙ ap (λ (k : Speakers). tenthsAt k s) (sym (c .before .before .whose .given .1))
+    let known = c .before .before .before .before in
+    let s = known .before .before .args .s in
+    cast-is (Of (known .whose .given .0 .0)) s _ (tenths-are (c .before .before .speaker-tenths .ensures)) ∙ ap (λ (k : Speakers). tenthsAt k s) (sym (known .whose .given .1))
 
 returns-2 : tie.Need-returns-2
 returns-2 c =
-    let s = c .before .before .before .args .s in
-    cast-is (Virtual (c .before .enum-told .given .0 .0)) s (c .position-tenths .result) (c .position-tenths .ensures) ∙ ap (λ (k : Speakers). tenthsAt k s) (sym (c .before .enum-told .given .1))
+    let known = c .before .before .before in
+    let s = known .before .before .args .s in
+    cast-is (Virtual (known .enum-told .given .0 .0)) s _ (tenths-are (c .before .before .position-tenths .ensures)) ∙ ap (λ (k : Speakers). tenthsAt k s) (sym (known .enum-told .given .1))
 
 pub tenths-spec : {M : Type 1} → statement M
 tenths-spec =

@@ -1,5 +1,7 @@
 -- `matrix::put_ears` meets its contract. Assumes nothing.
 use denote.Ref.{now}
+use lib.Dec.{lit<}
+use Rattle.planes.proofs.Normalization.{inverse-value}
 use Rattle.matrix.proofs.Ears.{misfit, fits}
 use borrow.Author.Needs.{needs}
 use Rattle.matrix.proofs.put_ears.Statement.{statement}
@@ -26,7 +28,7 @@ same-length c = search needs
 returns-2 : tie.Need-returns-2
 returns-2 c =
     let a = c .before .before .before .before .before .before .before .before .before .before .before .before .before .args in
-    fits (now (a .left)) (now (a .right)) (now (a .weights)) _ _ _ (c .before .before .before .before .before .before .before .before .before .if1 .left) (c .before .before .before .before .before .before .before .before .inverse-root .ensures .value) (c .before .before .before .before .before .before .put-row .ensures) (c .before .before .put-row2 .ensures)
+    fits (now (a .left)) (now (a .right)) (now (a .weights)) _ _ _ (c .before .before .before .before .before .before .before .before .before .if1 .left) (inverse-value 2 _ (lit< tt) (c .before .before .before .before .before .before .before .before .inverse-root .ensures)) (c .before .before .before .before .before .before .put-row .ensures) (c .before .before .put-row2 .ensures)
 
 pub put-ears-spec : {M : Type 1} → statement M
 put-ears-spec =

@@ -1,15 +1,29 @@
 -- `planes::inverse_root` meets its contract: what `root` promises of the root goes with the value. Assumes nothing.
-use mathlib.Core.Path.{ap, subst}
+use mathlib.Core.Path.{_≡_, sym, ap, _∙_, subst}
 use mathlib.Core.Bool.{false}
+use Prim.Native.Nat.{ℕ}
+use native.Mathlib.Omega.{arith}
 use lib.IntN.{pos}
 use lib.Ieee.{fin, binary64, div, ofBits, ofInt}
 use borrow.Author.Needs.{needs}
 use Rattle.numbers.specs.Promises.{Root}
 use Rattle.numbers.specs.declared.Rooted.{Rooted}
 use Rattle.formats.specs.Floats.{float}
-use Rattle.planes.specs.Normalization.{inverseRoot}
+use Rattle.planes.specs.Normalization.{inverseRoot, inverseRefusal}
+use Rattle.planes.proofs.Normalization.{inverse-refused, inverse-accepted}
 use Rattle.planes.proofs.inverse_root.Statement.{statement}
 use Rattle.planes.proofs.inverse_root.Tie as tie
+
+returns : tie.Need-returns
+unfolding ofBits ofInt
+returns c =
+    record {
+      is = inverse-refused (c .before .args .n) (c .if1 .taken);
+      root = λ h. absurd (not-none (sym (ap inverseRefusal (c .if1 .taken)) ∙ h));
+    }
+  where
+    not-none : _≡_ {A = ℕ} 2 0 → ⊥
+    not-none e = omega arith
 
 int-to-float-number : tie.Need-int-to-float-number
 int-to-float-number c = search needs
@@ -17,13 +31,16 @@ int-to-float-number c = search needs
 root-requires : tie.Need-root-requires
 root-requires c κs = search needs
 
-returns : tie.Need-returns
+returns-2 : tie.Need-returns-2
 unfolding ofBits inverseRoot ofInt
-returns c =
+returns-2 c =
+    let n = c .before .before .before .args .n in
     record {
-      value = ap (λ (v : Rooted). div binary64 (fin false 1 (pos 0)) (v .value)) (c .root .ensures .answer);
-      root = subst (λ (v : Rooted). Root (float (pos (c .before .before .args .n))) v) (c .root .ensures .answer) (c .root .ensures);
+      is =
+          (λ i. record { refusal = 0; value = div binary64 (fin false 1 (pos 0)) (c .root .ensures .answer i .value) })
+          ∙ sym (inverse-accepted n (c .before .before .if1 .left));
+      root = λ h. subst (λ (v : Rooted). Root (float (pos n)) v) (c .root .ensures .answer) (c .root .ensures);
     }
 
 pub inverse-root-spec : {M : Type 1} → statement M
-inverse-root-spec = tie.close (tie.spec int-to-float-number root-requires returns)
+inverse-root-spec = tie.close (tie.spec returns int-to-float-number root-requires returns-2)

@@ -1,5 +1,5 @@
 -- `virtual_speaker::foa_position` meets its contract. Assumes nothing.
-use lib.Ieee.{ofBits, ofInt}
+use lib.Ieee.{ofBits}
 use borrow.Author.Needs.{needs}
 use Rattle.formats.specs.Floats.{zero-float}
 use Rattle.virtual_speaker.proofs.foa_position.Statement.{statement}
@@ -9,8 +9,8 @@ position-azimuth-requires : tie.Need-position-azimuth-requires
 position-azimuth-requires c κs = search needs
 
 returns : tie.Need-returns
-unfolding ofBits ofInt
-returns c = λ i. record { azimuth = c .position-azimuth .ensures i; elevation = zero-float }
+unfolding ofBits
+returns c = let e = c .position-azimuth .ensures in λ i. record { refusal = e i .refusal; direction = record { azimuth = e i .degrees; elevation = zero-float } }
 
 pub foa-position-spec : {M : Type 1} → statement M
 foa-position-spec = tie.close (tie.spec position-azimuth-requires returns)

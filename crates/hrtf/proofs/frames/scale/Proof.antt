@@ -2,17 +2,20 @@
 use mathlib.Core.Path.{ap}
 use native.Mathlib.Omega.{arith}
 use lib.Ieee.{Float}
+use Rattle.planes.proofs.Normalization.{inverse-value}
 use Rattle.hrtf.proofs.frames.scale.Statement.{statement}
 use Rattle.hrtf.proofs.frames.scale.Tie as tie
 
 cast-inverse-root : tie.Need-cast-inverse-root
-cast-inverse-root c = omega (arith, c .before .pre)
+cast-inverse-root c = omega (arith, c .before .pre .1)
 
 inverse-root-requires : tie.Need-inverse-root-requires
 inverse-root-requires c κs = tt
 
 returns : tie.Need-returns
-returns c = ap (λ (x : Float). record { shape = c .before .before .args .shape; «inverse_root» = x }) (c .inverse-root .ensures .value)
+returns c =
+    let s = c .before .before in
+    ap (λ (x : Float). record { shape = s .args .shape; «inverse_root» = x }) (inverse-value (s .args .shape .speakers) (c .inverse-root .result) (s .pre .0) (c .inverse-root .ensures))
 
 pub scale-spec : {M : Type 1} → statement M
 scale-spec = tie.close (tie.spec cast-inverse-root inverse-root-requires returns)
