@@ -5,3 +5,4 @@ mod Kept
 pub mod Laws
 mod Unique
 mod Worked
+mod Refuted

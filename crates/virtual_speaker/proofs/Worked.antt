@@ -1,28 +1,17 @@
--- A worked answer, by computation, and wrong ways to answer, each held against the promise on an input where it breaks it. Assumes nothing.
-use mathlib.Core.Path.{_≡_, refl, ap}
+-- A worked answer, by computation. Assumes nothing.
 use mathlib.Core.List.{List, [], _∷_, _++_, map}
-use Prim.Native.Nat.{ℕ}
-use native.Mathlib.Omega.{arith}
-use lib.Dec.{le→leb}
-use lib.IntN.{pos}
 use lib.ListN.{replicate}
-use lib.Ieee.{Float, lt, le, eq, neg, add, sub, mul, div, round, ofInt}
-use Rattle.formats.specs.Floats.{zero-float, float, decimal}
+use lib.Ieee.{lt, le, eq, neg, add, sub, mul, div, round, ofInt}
+use Rattle.formats.specs.Floats.{decimal}
 use Rattle.fractions.specs.Fraction.{Fraction, number, whole}
-use Rattle.series.specs.Sums.{cosineSum, term, power, factorial}
-use Rattle.series.specs.Angles.{turned, isMultiple, quarters, defined}
+use Rattle.series.specs.Angles.{turned}
 use Rattle.angles.specs.Computed.{units, cut, place, short, times, radians, nesting, nest, rounded, sineAt, cosineAt, computed}
 use Rattle.angles.specs.Limits.{isInside, refusesAngle}
-use Rattle.harmonics.specs.Formulas.{formulasOver}
 use Rattle.harmonics.specs.Computed.{sin, cos, wavesOf, upTo}
-use Rattle.harmonics.specs.Promise.{silence}
 use Rattle.harmonics.specs.Drill.{at, Alike, none}
-use Rattle.harmonics.specs.declared.Direction.{Direction}
 use Rattle.harmonics.proofs.Drill.{alike}
 use Rattle.virtual_speaker.specs.Computed.{weigh}
-use Rattle.virtual_speaker.specs.Promise.{outcome, Promise, positionAnswer}
-use Rattle.virtual_speaker.specs.declared.Weighted.{Weighted}
-use Rattle.virtual_speaker.specs.declared.Position.{Position}
+use Rattle.virtual_speaker.specs.Promise.{outcome}
 
 -- ---- order 1 in front: 1, 0, 0 and c, and 0 beyond the order
 abbrev front : List Fraction
@@ -31,30 +20,3 @@ front = (whole 1 ∷ none ∷ none ∷ number (decimal 8244615675902878) ∷ [])
 in-front : Alike (map number (outcome 1 (at 0 0) .weights)) front
 unfolding refusesAngle isInside weigh upTo wavesOf sin cos lt le eq computed place cut units turned sineAt cosineAt short times radians nesting nest rounded ofInt div neg add sub mul round
 in-front = alike (map number (outcome 1 (at 0 0) .weights)) front tt
-
--- ---- wrong answers
-refusal : Weighted → ℕ
-refusal r = r .refusal
-
--- it refuses every direction
-refuses-always : Promise 1 (at 0 0) (record { refusal = 3; weights = silence }) → ⊥
-unfolding refusal refusesAngle isInside lt le eq neg ofInt
-refuses-always p = let e : _≡_ {A = ℕ} 3 0 = ap refusal (p .is) in omega arith
-
--- it takes order 4 for the third, as 003 does
-third-for-fourth : (ws : List Float) → Promise 4 (at 0 0) (record { refusal = 0; weights = ws }) → ⊥
-unfolding refusal
-third-for-fourth ws p = let e : _≡_ {A = ℕ} 0 1 = ap refusal (p .is) in omega arith
-
--- it takes 137.9 degrees for A, as the comment of 003 has it: the cosine of a quarter of that is 0.8243...
-by-the-comment : Promise 1 (at 0 0) (record { refusal = 0; weights = (float (pos 1) ∷ zero-float ∷ zero-float ∷ decimal 8243732515066312 ∷ []) ++ replicate 12 zero-float }) → ⊥
-unfolding refusesAngle isInside lt le eq neg round ofInt formulasOver defined isMultiple quarters turned cosineSum term power factorial
-by-the-comment p = le→leb _ _ (p .near refl .1 .1 .1 .0 .near)
-
--- there is a ninth position, whatever direction it has
-ninth-position : (d : Direction) → _≡_ {A = Position} (record { refusal = 0; direction = d }) (positionAnswer 8) → ⊥
-ninth-position d h = let e : _≡_ {A = ℕ} 0 2 = ap (λ (r : Position). r .refusal) h in omega arith
-
--- the eighth is none
-eighth-refused : (d : Direction) → _≡_ {A = Position} (record { refusal = 2; direction = d }) (positionAnswer 7) → ⊥
-eighth-refused d h = let e : _≡_ {A = ℕ} 2 0 = ap (λ (r : Position). r .refusal) h in omega arith
