@@ -4,7 +4,7 @@ use mathlib.Core.Path.{_≡_, refl, sym, ap, _∙_}
 use mathlib.Core.Bool.{Bool, true, false, cond}
 use mathlib.Core.List.{List, [], _∷_}
 use mathlib.Core.Logic.{_⊎_, inl, inr, ⊎-elim}
-use Prim.Native.Nat.{ℕ, _≤_, _<_}
+use Prim.Native.Nat.{ℕ, _+_, _≤_, _<_}
 use native.Mathlib.Omega.{arith}
 use borrow.Author.Tests.{le-ltb}
 use lib.Dec.{eqb, ltb}
@@ -65,9 +65,9 @@ module _ (r : Outcome) (a : Answers r) where
   refused-otherwise : (r .ended .refusal ≡ 0 → ⊥) → (r .ended .refusal ≡ 9 → ⊥) → ⊥
   refused-otherwise some other = ⊎-elim (λ p. some (no-number p)) (λ q. other (ap (λ (y : Ended). y .refusal) q)) end-is
 
-  refused-with-counts : (r .ended .refusal ≡ 0 → ⊥) → (r .ended .frames ≡ 0) × (r .ended .unsettled ≡ 0)
-  refused-with-counts some =
-      ⊎-elim (λ p. absurd (some (no-number p))) (λ q. (ap (λ (y : Ended). y .frames) q, ap (λ (y : Ended). y .unsettled) q)) end-is
+  refused-with-counts : (r .ended .refusal ≡ 0 → ⊥) → 0 < r .ended .frames + r .ended .unsettled → ⊥
+  refused-with-counts some h =
+      ⊎-elim (λ p. some (no-number p)) (λ q. omega (arith, h, ap (λ (y : Ended). y .frames) q, ap (λ (y : Ended). y .unsettled) q)) end-is
 
   failed-as-played : r .failed ≡ true → r .ended .refusal ≡ 0 → ⊥
   failed-as-played f z =

@@ -1,4 +1,4 @@
--- Two `&mut [T]` that a function was passed are lent again together, for the one lifetime of a call, and come back with lists as long: what each turn of `block` does with the rings and the ears.
+-- Two `&mut [T]` that a function was passed are lent again together, for the one lifetime of a call, and come back with lists as long: what each turn of `block` does with the rings and the ears. Assumes nothing.
 --     Hold             a slice that was passed: the elements' type, the lifetime, the share of its token that the function has, and the reference itself. What changes is the list; the place, the count and so the machine value do not
 --     loan h κ δ xs    a reference to that slice at the list xs, for a lifetime κ under a name δ.        mine h xs    the one that was passed, at xs
 --     told h δ xs zs   what a call leaves of a loan that began at xs: zs is the last list, and is as long

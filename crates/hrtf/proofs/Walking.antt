@@ -1,4 +1,4 @@
--- What the walk of `block` needs beside the kit's steps.
+-- What the walk of `block` needs beside the kit's steps. Assumes nothing.
 --     places, pairs-back    lists of places in a context, for `keep`
 --     behind                what is left of a body after some of its statements
 --     local                 an operand that is a local, whose cell is entry n of the context

@@ -8,8 +8,9 @@ use lib.IntN.{pos}
 use lib.Ieee.{Float, binary64, div}
 use Rattle.refusals.specs.Refusals.{firstOf, _when_, answered}
 use Rattle.formats.specs.Floats.{zero-float, one-float, float}
-use Rattle.numbers.specs.Computed.{rootOf, rootAnswer}
+use Rattle.numbers.specs.Computed.{rootOf}
 use Rattle.numbers.specs.Promises.{Root}
+use Rattle.numbers.specs.declared.Rooted.{Rooted}
 use Rattle.planes.specs.declared.Inverse.{Inverse}
 
 unfoldable pub inverseRoot : ℕ → Float
@@ -24,7 +25,7 @@ inverseRefusal n = firstOf (2 when eqb n 0 ∷ [])
 abbrev pub inverseAnswer : ℕ → Inverse
 inverseAnswer n = answered (inverseRefusal n) (record { refusal = 0; value = inverseRoot n }) (λ r. record { refusal = r; value = zero-float })
 
--- every bit of the answer; and where it is accepted, the number below the 1.0 is document 01's root of n
+-- every bit of the answer; and where it is accepted, it is 1.0 over whatever document 01's words allow for the root of n
 pub record InverseRoot (n : ℕ) (answer : Inverse) : Type 0 where
   pub is : answer ≡ inverseAnswer n
-  pub root : inverseRefusal n ≡ 0 → Root (float (pos n)) (rootAnswer (float (pos n)))
+  pub over : inverseRefusal n ≡ 0 → (r : Rooted) → Root (float (pos n)) r → answer .value ≡ div binary64 one-float (r .value)

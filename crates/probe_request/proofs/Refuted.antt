@@ -7,13 +7,15 @@ use native.Mathlib.Nat.{zero-add}
 use native.Mathlib.Omega.{arith}
 use borrow.Author.Tests.{lt-leb, ne-eqb}
 use lib.IntN.{ℤ}
+use lib.Ieee.{Float, ofBits}
+use lib.Ieee.Positive.{num}
 use lib.ListN.{length, getD}
 use lib.Signed.{mag}
 use Rattle.refusals.proofs.First.{goes-on}
 use Rattle.lists.proofs.Lists.{split}
 use Rattle.lists.proofs.Tables.{getD-tab}
 use Rattle.big_endian.specs.Bytes.{valueOf}
-use Rattle.big_endian.specs.Fields.{fieldAt, signedAt}
+use Rattle.big_endian.specs.Fields.{fieldAt, signedAt, floatAt}
 use Rattle.big_endian.specs.Lists.{strided}
 use Rattle.big_endian.proofs.Fields.{lies-out, lies-long, field-out, field-lies}
 use Rattle.channel.specs.declared.Layout.{Layout}
@@ -117,3 +119,11 @@ three = 0 ∷ 1 ∷ 0 ∷ 2 ∷ 0 ∷ 3 ∷ []
 azimuths-four-apart : (list r : List ℤ) → length list ≡ 2 → r ≡ listAt signedAt 2 three 0 list → r ≡ strided (signedAt three) 4 0 (length list) → ⊥
 unfolding signedAt fieldAt valueOf
 azimuths-four-apart list r two is e = apart signedAt 2 three 0 list r is (omega arith) 4 (omega arith) (λ p. let z : _≡_ {A = ℕ} 3 2 = ap mag p in omega (arith, z)) e
+
+abbrev one-two-three : List ℕ
+one-two-three = 63 ∷ 128 ∷ 0 ∷ 0 ∷ 64 ∷ 0 ∷ 0 ∷ 0 ∷ 64 ∷ 64 ∷ 0 ∷ 0 ∷ []
+
+-- the samples 1.0 and 2.0, before a 3.0, are read eight bytes apart
+samples-eight-apart : (list r : List Float) → length list ≡ 2 → r ≡ listAt floatAt 4 one-two-three 0 list → r ≡ strided (floatAt one-two-three) 8 0 (length list) → ⊥
+unfolding floatAt fieldAt valueOf ofBits
+samples-eight-apart list r two is e = apart floatAt 4 one-two-three 0 list r is (omega arith) 8 (omega arith) (λ p. let z : _≡_ {A = ℕ} 3 2 = ap num p in omega (arith, z)) e

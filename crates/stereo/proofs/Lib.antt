@@ -1,4 +1,4 @@
--- The laws of the stereo gains. The drill table and the panner cite `Drill`.
+-- The laws of the stereo gains. The drill table, the panner and the test program cite `Drill`.
 mod Clamp
 mod Near
 mod Answers

@@ -1,14 +1,12 @@
 -- `planes::inverse_root` meets its contract: what `root` promises of the root goes with the value. Assumes nothing.
-use mathlib.Core.Path.{_≡_, sym, ap, _∙_, subst}
+use mathlib.Core.Path.{_≡_, sym, ap, _∙_}
 use mathlib.Core.Bool.{false}
 use Prim.Native.Nat.{ℕ}
 use native.Mathlib.Omega.{arith}
 use lib.IntN.{pos}
 use lib.Ieee.{fin, binary64, div, ofBits, ofInt}
 use borrow.Author.Needs.{needs}
-use Rattle.numbers.specs.Promises.{Root}
 use Rattle.numbers.specs.declared.Rooted.{Rooted}
-use Rattle.formats.specs.Floats.{float}
 use Rattle.planes.specs.Normalization.{inverseRoot, inverseRefusal}
 use Rattle.planes.proofs.Normalization.{inverse-refused, inverse-accepted}
 use Rattle.planes.proofs.inverse_root.Statement.{statement}
@@ -19,7 +17,7 @@ unfolding ofBits ofInt
 returns c =
     record {
       is = inverse-refused (c .before .args .n) (c .if1 .taken);
-      root = λ h. absurd (not-none (sym (ap inverseRefusal (c .if1 .taken)) ∙ h));
+      over = λ h r q. absurd (not-none (sym (ap inverseRefusal (c .if1 .taken)) ∙ h));
     }
   where
     not-none : _≡_ {A = ℕ} 2 0 → ⊥
@@ -39,7 +37,7 @@ returns-2 c =
       is =
           (λ i. record { refusal = 0; value = div binary64 (fin false 1 (pos 0)) (c .root .ensures .answer i .value) })
           ∙ sym (inverse-accepted n (c .before .before .if1 .left));
-      root = λ h. subst (λ (v : Rooted). Root (float (pos n)) v) (c .root .ensures .answer) (c .root .ensures);
+      over = λ h r q. ap (λ (v : Rooted). div binary64 (fin false 1 (pos 0)) (v .value)) (c .root .ensures .answer ∙ sym (q .answer));
     }
 
 pub inverse-root-spec : {M : Type 1} → statement M
