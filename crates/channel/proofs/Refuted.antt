@@ -5,7 +5,7 @@ use mathlib.Core.Bool.{Bool, true, true≢false}
 use Prim.Native.Nat.{ℕ}
 use native.Mathlib.Omega.{arith}
 use lib.IntN.{ℤ, pos}
-use lib.Signed.{ltZ}
+use lib.Signed.{mag, ltZ}
 use lib.Ieee.{Float, ofInt}
 use lib.Ieee.Positive.{positive}
 use Rattle.formats.specs.Floats.{zero-float, float}
@@ -54,6 +54,13 @@ azimuth-of-channel-99 x h = accepted-is-refused (same-angle h)
 
 tenths-of-channel-99 : (z : ℤ) → tenths 0 z ≡ tenthsAnswer Stereo 99 → ⊥
 tenths-of-channel-99 z h = accepted-is-refused (same-tenths h)
+
+-- ---- whole degrees for tenths: the left speaker of Stereo would stand at 3 degrees, and the second position at 4.5
+degrees-for-tenths : tenths 0 (pos 30) ≡ tenthsAnswer Stereo 0 → ⊥
+degrees-for-tenths h = let e : _≡_ {A = ℕ} 30 300 = ap (λ (a : Tenths). mag (a .tenths)) h in omega arith
+
+position-degrees-for-tenths : tenths 0 (pos 45) ≡ positionTenthsAnswer 1 → ⊥
+position-degrees-for-tenths h = let e : _≡_ {A = ℕ} 45 450 = ap (λ (a : Tenths). mag (a .tenths)) h in omega arith
 
 -- ---- there are eight positions
 azimuth-of-position-8 : (x : Float) → angle 0 x ≡ positionAzimuthAnswer 8 → ⊥
