@@ -6,6 +6,7 @@ use Prim.Native.Nat.{ℕ, zero, suc, _*_, _-_, _^_, _≤_, _<_}
 use native.Mathlib.Nat.{not-suc-le-zero, le-of-suc-le-suc}
 use native.Mathlib.Omega.{arith}
 use borrow.Author.Tests.{lt-ltb, le-ltb}
+use lib.Dec.{lit<}
 use lib.ListN.{length, getD, take, drop}
 use lib.Ieee.{Float}
 use Rattle.refusals.proofs.First.{goes-on}
@@ -61,16 +62,20 @@ line-byte : (out line : List ℕ) (size : ℕ) (after : List ℕ) → Lined out 
 line-byte out line size after put room i h =
     ap (λ (l : List ℕ). getD l i 0) (put .filled ∙ goes-on _ _ (le-ltb (length out) 64 room) ∙ placed-start out line) ∙ getD-first line (drop (length line) out) i h
 
--- `frames 3 unsettled 2` with a blank in the place of the newline
-no-newline : (out : List ℕ) (size : ℕ) (after : List ℕ) → Lined out (framesLine 3 2) size after → 64 ≤ length out → getD after 20 0 ≡ 32 → ⊥
-no-newline out size after put room e =
-    let long : length (framesLine 3 2) ≡ 21 = ap length three-frames in
-    let same : _≡_ {A = ℕ} 32 10 = sym e ∙ line-byte out (framesLine 3 2) size after put room 20 (omega (arith, long)) ∙ ap (λ (l : List ℕ). getD l 20 0) three-frames in
-    omega (arith, same)
+-- the same where the line is known
+known-byte : (out line known : List ℕ) (size : ℕ) (after : List ℕ) → line ≡ known → Lined out line size after → 64 ≤ length out → (i : ℕ) → i < length known → getD after i 0 ≡ getD known i 0
+known-byte out line known size after is put room i h =
+    line-byte out line size after put room i (omega (arith, h, ap length is)) ∙ ap (λ (l : List ℕ). getD l i 0) is
 
--- 9 told as 5
-refused-by-another-number : (out : List ℕ) (size : ℕ) (after : List ℕ) → Lined out (refusedLine 9) size after → 64 ≤ length out → getD after 8 0 ≡ 53 → ⊥
-refused-by-another-number out size after put room e =
-    let long : length (refusedLine 9) ≡ 10 = ap length refused-nine in
-    let same : _≡_ {A = ℕ} 53 57 = sym e ∙ line-byte out (refusedLine 9) size after put room 8 (omega (arith, long)) ∙ ap (λ (l : List ℕ). getD l 8 0) refused-nine in
-    omega (arith, same)
+module _ (out : List ℕ) (size : ℕ) (after : List ℕ) (room : 64 ≤ length out) where
+  -- `frames 3 unsettled 2` with a blank in the place of the newline
+  no-newline : Lined out (framesLine 3 2) size after → getD after 20 0 ≡ 32 → ⊥
+  no-newline put e = let same : _≡_ {A = ℕ} 32 10 = sym e ∙ known-byte out (framesLine 3 2) _ size after three-frames put room 20 (lit< tt) in omega arith
+
+  -- `frames 3 unsettled 2` with the frames told as unsettled
+  frames-for-unsettled : Lined out (framesLine 3 2) size after → getD after 19 0 ≡ 51 → ⊥
+  frames-for-unsettled put e = let same : _≡_ {A = ℕ} 51 50 = sym e ∙ known-byte out (framesLine 3 2) _ size after three-frames put room 19 (lit< tt) in omega arith
+
+  -- 9 told as 5
+  refused-by-another-number : Lined out (refusedLine 9) size after → getD after 8 0 ≡ 53 → ⊥
+  refused-by-another-number put e = let same : _≡_ {A = ℕ} 53 57 = sym e ∙ known-byte out (refusedLine 9) _ size after refused-nine put room 8 (lit< tt) in omega arith
