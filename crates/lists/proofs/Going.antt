@@ -8,7 +8,24 @@ use native.Mathlib.Omega.{arith}
 use Rattle.lists.specs.Tables.{tab}
 use Rattle.lists.proofs.Tables.{tab-more, tab-none, tab-all}
 
--- F i s l: what comes out where the list l is gone through from place i on, in state s
+-- F i s l: what comes out where the list l is gone through from place i on, in state s; so far, what is left gives `whole`
+module _ {S A R : Type 0} (F : ℕ → S → List A → R) (f : ℕ → A) (n : ℕ) (whole : R) where
+  -- F takes one element with `step`
+  pub left-more : (step : ℕ → S → A → S) → ((i : ℕ) (s : S) (a : A) (l : List A) → F i s (a ∷ l) ≡ F (suc i) (step i s a) l)
+      → (s : S) (i : ℕ) (a : A) (t : S) → F i s (tab i (n - i) f) ≡ whole → i < n → a ≡ f i → t ≡ step i s a → F (i + 1) t (tab (i + 1) (n - (i + 1)) f) ≡ whole
+  left-more step takes s i a t g h e et =
+      ap (λ (k : ℕ). F k t rest) (add-one i)
+      ∙ ap (λ (u : S). F (suc i) u rest) (et ∙ ap (step i s) e)
+      ∙ sym (ap (F i s) (tab-more n i f h) ∙ takes i s (f i) rest)
+      ∙ g
+    where
+      rest : List A
+      rest = tab (i + 1) (n - (i + 1)) f
+
+  pub left-none : (s : S) (i : ℕ) → F i s (tab i (n - i) f) ≡ whole → n ≤ i → F i s [] ≡ whole
+  left-none s i g h = ap (F i s) (sym (tab-none n i f h)) ∙ g
+
+-- the whole is gone through from 0 on
 pub record Going {S A R : Type 0} (F : ℕ → S → List A → R) (f : ℕ → A) (n : ℕ) (s₀ s : S) (i : ℕ) : Type 0 where
   pub below : i ≤ n
   pub left : F i s (tab i (n - i) f) ≡ F 0 s₀ (tab 0 n f)
@@ -17,24 +34,12 @@ module _ {S A R : Type 0} (F : ℕ → S → List A → R) (f : ℕ → A) (n : 
   pub going-none : Going F f n s₀ s₀ 0
   going-none = record { below = zero-le; left = ap (F 0 s₀) (tab-all n f) }
 
-  -- F takes one element with `step`
   pub going-more : (step : ℕ → S → A → S) → ((i : ℕ) (s : S) (a : A) (l : List A) → F i s (a ∷ l) ≡ F (suc i) (step i s a) l)
       → (s : S) (i : ℕ) (a : A) (t : S) → Going F f n s₀ s i → i < n → a ≡ f i → t ≡ step i s a → Going F f n s₀ t (i + 1)
-  going-more step takes s i a t g h e et =
-      record {
-        below = omega arith;
-        left =
-            ap (λ (k : ℕ). F k t rest) (add-one i)
-            ∙ ap (λ (u : S). F (suc i) u rest) (et ∙ ap (step i s) e)
-            ∙ sym (ap (F i s) (tab-more n i f h) ∙ takes i s (f i) rest)
-            ∙ g .left;
-      }
-    where
-      rest : List A
-      rest = tab (i + 1) (n - (i + 1)) f
+  going-more step takes s i a t g h e et = record { below = omega arith; left = left-more F f n (F 0 s₀ (tab 0 n f)) step takes s i a t (g .left) h e et }
 
   pub going-all : (s : S) (i : ℕ) → Going F f n s₀ s i → n ≤ i → F i s [] ≡ F 0 s₀ (tab 0 n f)
-  going-all s i g h = ap (F i s) (sym (tab-none n i f h)) ∙ g .left
+  going-all s i g = left-none F f n (F 0 s₀ (tab 0 n f)) s i (g .left)
 
   -- what F keeps of a state, the loop keeps
   pub going-kept : {B : Type 0} (of : S → B) (after : R → B) → ((i : ℕ) (s : S) (l : List A) → after (F i s l) ≡ of s)

@@ -1,23 +1,50 @@
--- The answers of `process` are those promised: refused by the command, by a length, by the number of frames, and played. Assumes nothing.
+-- The answers of `command_gains` and of `process` are those promised: refused by the command, by a length, by the number of frames, and played. Assumes nothing.
 use mathlib.Core.Path.{_≡_, sym, ap, _∙_}
 use mathlib.Core.Bool.{true, false}
 use mathlib.Core.List.{List}
-use Prim.Native.Nat.{ℕ, _≤_, _<_}
+use Prim.Native.Nat.{ℕ, _≤_, _<_, min}
+use native.Mathlib.Nat.{sub-zero}
 use native.Mathlib.Omega.{arith}
 use borrow.Author.Tests.{lt-ltb, le-ltb}
-use lib.ListN.{length}
+use lib.ListN.{length, replicate}
 use lib.Ieee.{Float}
 use Rattle.refusals.specs.Refusals.{Check, firstOf}
-use Rattle.refusals.proofs.First.{stops, goes-on}
+use Rattle.refusals.proofs.First.{stops, goes-on, answered-accepted, answered-refused}
 use Rattle.refusals.proofs.Chains.{first-refused, first-accepted}
-use Rattle.planes.specs.Planes.{withFrames}
+use Rattle.formats.specs.Floats.{zero-float}
+use Rattle.lists.specs.Tables.{tab}
+use Rattle.channel.specs.declared.Layout.{Layout}
+use Rattle.planes.specs.Planes.{sampleAt, withFrames}
 use Rattle.planes.proofs.Blocks.{refused-with, played-with}
+use Rattle.panner.specs.declared.Command.{Command}
 use Rattle.panner.specs.declared.Commanded.{Commanded}
-use Rattle.panner.specs.Commands.{commandChecks, gainsOf}
-use Rattle.panner.specs.Blocks.{Shape, misfit, mostFrames, planesIn, blockChecks, refusalOf, narrowedAll, pannedFrames, framesOf}
-use Rattle.panner.specs.Promise.{answerOf, Processed}
+use Rattle.panner.specs.Commands.{commandChecks, planesOf, gainsOf}
+use Rattle.panner.specs.Blocks.{Shape, misfit, mostFrames, planesIn, blockChecks, refusalOf, narrowedAll, panned, pannedPart, pannedFrames, framesOf}
+use Rattle.panner.specs.Promise.{answerOf, Gained, Processed}
 use Rattle.panner.specs.Steps.{commandRefusal, Commands}
 
+-- ---- what a command plays
+module _ (c : Command) (l : Layout) (g : Commanded) (G : Commands c l g) where
+  pub gives-refused : (g .refusal ≡ 0 → ⊥) → Gained c l (record { refusal = g .refusal; planes = 0; gains = replicate 16 zero-float })
+  gives-refused h = record {
+    is =
+        ap (λ (n : ℕ). record { refusal = n; planes = 0; gains = replicate 16 zero-float }) (G .refusal)
+        ∙ sym (answered-refused (record { refusal = 0; planes = planesOf c l; gains = narrowedAll (gainsOf c l) }) (λ n. record { refusal = n; planes = 0; gains = replicate 16 zero-float }) (commandRefusal c l) (λ k. h (G .refusal ∙ k)));
+    promised = G .promised;
+  }
+
+  pub gives-gains : g .refusal ≡ 0 → (narrow : List Float) → narrow ≡ narrowedAll (g .gains) → Gained c l (record { refusal = 0; planes = g .planes; gains = narrow })
+  gives-gains z narrow e =
+      let accepted : commandRefusal c l ≡ 0 = sym (G .refusal) ∙ z in
+      let narrow-is : narrow ≡ narrowedAll (gainsOf c l) = e ∙ ap narrowedAll (G .gains accepted) in
+      record {
+        is =
+            (λ i. record { refusal = 0; planes = G .planes accepted i; gains = narrow-is i })
+            ∙ sym (answered-accepted (record { refusal = 0; planes = planesOf c l; gains = narrowedAll (gainsOf c l) }) (λ n. record { refusal = n; planes = 0; gains = replicate 16 zero-float }) (commandRefusal c l) accepted);
+        promised = G .promised;
+      }
+
+-- ---- a block
 module _ (s : Shape) (input out : List Float) where
   abbrev refusal : ℕ
   refusal = refusalOf s (length input) (length out)
@@ -52,13 +79,14 @@ module _ (s : Shape) (input out : List Float) where
         pub by-frames : mostFrames < s .frames → Processed s input out (record { refusal = 6; samples = 0 }) out
         by-frames h = refused 6 (λ e. omega arith) (goes ∙ goes-on 5 _ (sym misfit-is ∙ m) ∙ stops 6 0 (lt-ltb mostFrames (s .frames) h))
 
-        pub plays : (narrow after : List Float) → s .frames ≤ mostFrames → narrow ≡ narrowedAll (g .gains) → after ≡ withFrames out (s .stride) 0 (pannedFrames (s .stride) (s .frames) (g .planes) narrow input)
+        pub plays : (narrow after : List Float) → s .frames ≤ mostFrames → narrow ≡ narrowedAll (g .gains) → after ≡ withFrames out (s .stride) 0 (pannedPart (s .stride) 0 (s .frames) (min (g .planes) 16) narrow input)
             → Processed s input out (record { refusal = 0; samples = s .frames }) after
         plays narrow after h e w =
+            let few : min (g .planes) 16 ≡ g .planes = omega (arith, G .few) in
             let none : refusal ≡ 0 = goes ∙ goes-on 5 _ (sym misfit-is ∙ m) ∙ goes-on 6 0 (le-ltb mostFrames (s .frames) h) in
             let narrow-is : narrow ≡ narrowedAll (gainsOf (s .command) (s .layout)) = e ∙ ap narrowedAll (G .gains accepted) in
             let after-is : after ≡ withFrames out (s .stride) 0 (framesOf s input) =
-            w ∙ (λ i. withFrames out (s .stride) 0 (pannedFrames (s .stride) (s .frames) (G .planes accepted i) (narrow-is i) input)) in
+            w ∙ (λ i. withFrames out (s .stride) 0 (tab 0 (sub-zero (s .frames) i) (λ n. panned (few i) narrow (sampleAt input (s .stride) 0 n)))) ∙ (λ i. withFrames out (s .stride) 0 (pannedFrames (s .stride) (s .frames) (G .planes accepted i) (narrow-is i) input)) in
             record {
               is = played-with answerOf (s .frames) (s .stride) (framesOf s input) out refusal after none after-is;
               gains = λ k. G .promised accepted;

@@ -3,19 +3,21 @@
 //
 // A command is fixed for a block: a stereo position, a surround azimuth, or a direction with an order.
 // `process` plays to the planes of the command: two for stereo, the layout's channels for surround, those of
-// the order for a direction. Every output is the f32 product of the sample and the narrowed gain.
+// the order for a direction. Every output is the f32 product of the sample and the narrowed gain. Its two
+// halves are public, for a caller that plays one block at more than one command: `command_gains` gives what
+// a command plays, and `play_part` plays some of the frames.
 //
-// It takes any input; its promise (specs/Promise.antt) is one equation for the refusal, the sample count and
-// the output planes, and says beside it that the gains played are those that `stereo`, `surround` and
-// `harmonics` promise. A block of up to 4,096 frames is played to its last frame; a longer one is refused,
-// where panner.rs stops at 4,096 and leaves the old tail.
+// Each takes any input. The promise of `process` (specs/Promise.antt) is one equation for the refusal, the
+// sample count and the output planes, and says beside it that the gains played are those that `stereo`,
+// `surround` and `harmonics` promise. A block of up to 4,096 frames is played to its last frame; a longer one
+// is refused, where panner.rs stops at 4,096 and leaves the old tail.
 ghost use mathlib.Core.Path.{_≡_};
-ghost use Prim.Native.Nat.{_≤_};
+ghost use Prim.Native.Nat.{_≤_, min};
 ghost use Rattle.planes.specs.Planes.{withFrame, withFrames};
 ghost use Rattle.panner.specs.declared.Command.{Command};
-ghost use Rattle.panner.specs.Blocks.{panned, pannedFrames, narrowedAll};
+ghost use Rattle.panner.specs.Blocks.{panned, pannedPart, narrowedAll};
 ghost use Rattle.panner.specs.Steps.{Commands, isBadLayout};
-ghost use Rattle.panner.specs.Promise.{Processed};
+ghost use Rattle.panner.specs.Promise.{Gained, Processed};
 
 pub enum Command {
     Stereo(f64),
@@ -29,7 +31,14 @@ pub struct Panned {
     pub samples: usize,
 }
 
-// What a command plays: the gains of so many planes, or its refusal.
+// What a command plays: the narrowed gains of so many planes, or its refusal.
+pub struct CommandGains {
+    pub refusal: u8,
+    pub planes: usize,
+    pub gains: [f32; 16],
+}
+
+// The same before the gains are narrowed.
 struct Commanded {
     refusal: u8,
     planes: usize,
@@ -150,25 +159,46 @@ fn pan(out: &mut [f32], stride: usize, frame: usize, planes: usize, gains: [f32;
     }
 }
 
-// Plays every frame.
-fn play(
+// What a command plays beside a layout; one that is refused plays to no plane.
+pub fn command_gains(command: Command, layout: channel::Layout) -> CommandGains
+    ensures { λ r. ⌜ Gained command layout r ⌝ }
+{
+    let commanded = gains_of(command, layout);
+    if commanded.refusal != 0 {
+        return CommandGains {
+            refusal: commanded.refusal,
+            planes: 0,
+            gains: [0.0f32; 16],
+        };
+    }
+    let gains = commanded.gains;
+    CommandGains {
+        refusal: 0,
+        planes: commanded.planes,
+        gains: narrowed(gains),
+    }
+}
+
+// Plays the frames from one to before another, to sixteen planes at most.
+pub fn play_part(
     out: &mut [f32],
     stride: usize,
-    frames: usize,
+    from: usize,
+    to: usize,
     planes: usize,
     gains: [f32; 16],
     input: &[f32],
 )
-    requires { ⌜ planes ≤ 16 ⌝ }
-    ensures { λ _. ⌜ now (out .exit) ≡ withFrames (now (out .entry)) stride 0 (pannedFrames stride frames planes gains (now (input .entry))) ⌝ }
+    ensures { λ _. ⌜ now (out .exit) ≡ withFrames (now (out .entry)) stride from (pannedPart stride from to (min planes 16) gains (now (input .entry))) ⌝ }
 {
-    let mut n = 0;
-    while n < frames {
+    let few = checks::least(planes, 16);
+    let mut n = from;
+    while n < to {
         pan(
             out,
             stride,
             n,
-            planes,
+            few,
             gains,
             planes::sample(input, stride, 0, n),
         );
@@ -207,9 +237,10 @@ pub fn process(
         };
     }
     let gains = commanded.gains;
-    play(
+    play_part(
         out,
         stride,
+        0,
         frames,
         commanded.planes,
         narrowed(gains),

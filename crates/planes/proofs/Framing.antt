@@ -1,5 +1,6 @@
 -- A frame put sample by sample, and judged by the way, and frames put one after another: those that are left, put where they belong, give the planes that are promised. Assumes nothing.
-use Prim.Native.Nat.{ℕ, _+_, _≤_, _<_}
+use Prim.Native.Nat.{ℕ, _+_, _-_, _≤_, _<_}
+use native.Mathlib.Omega.{arith}
 use mathlib.Core.Path.{_≡_, refl, sym, ap, _∙_}
 use mathlib.Core.Bool.{Bool, false, not, _||_, or-false, or-assoc}
 use mathlib.Core.List.{List}
@@ -8,9 +9,10 @@ use lib.Ieee.{Float}
 use lib.Ieee.Scale.{finite}
 use Rattle.checks.specs.Finite.{unsound}
 use Rattle.lists.specs.Tables.{tab}
-use Rattle.lists.proofs.Going.{Going, going-none, going-more, going-all, going-kept}
+use Rattle.lists.proofs.Tables.{length-tab, tab-all, tab-cut}
+use Rattle.lists.proofs.Going.{left-more, left-none, Going, going-none, going-more, going-all, going-kept}
 use Rattle.planes.specs.Planes.{withSample, withFrameFrom, withFrame, FramePut, withFrames}
-use Rattle.planes.proofs.Planes.{length-with-frame, length-with-frames}
+use Rattle.planes.proofs.Planes.{length-with-frame, length-with-frames, with-frames-append}
 
 -- ---- samples of the function f are put as one frame, those before plane p so far
 
@@ -66,27 +68,64 @@ module _ (out₀ : List Float) (stride frame planes : ℕ) (f : ℕ → Float) w
     pub judging-all : planes ≤ p → FramePut out₀ stride frame (tab 0 planes f) out bad
     judging-all h = record { put = sampling-all out₀ stride frame planes f out p (s .puts) h; damage = sym (or-false bad) ∙ going-all judged f planes false bad p (s .finds) h }
 
--- ---- frames of the function f are put, those before n so far
+-- ---- frames of the function f are put, those from `from` to before n so far, of those to before `to`
 
 -- frames put from n on
 abbrev following : ℕ → ℕ → List Float → List (List Float) → List Float
 following stride n out fs = withFrames out stride n fs
 
-pub record Framing (out₀ : List Float) (stride frames : ℕ) (f : ℕ → List Float) (out : List Float) (n : ℕ) : Type 0 where
-  pub laid : Going (following stride) f frames out₀ out n
+pub record Parting (out₀ : List Float) (stride from to : ℕ) (f : ℕ → List Float) (out : List Float) (n : ℕ) : Type 0 where
+  pub left : withFrames out stride n (tab n (to - n) f) ≡ withFrames out₀ stride from (tab from (to - from) f)
   pub long : length out ≡ length out₀
 
+module _ (out₀ : List Float) (stride from to : ℕ) (f : ℕ → List Float) where
+  abbrev whole : List Float
+  whole = withFrames out₀ stride from (tab from (to - from) f)
+
+  pub parting-none : Parting out₀ stride from to f out₀ from
+  parting-none = record { left = refl; long = refl }
+
+  module _ (out : List Float) (n : ℕ) (p : Parting out₀ stride from to f out n) where
+    pub parting-more : (out₁ : List Float) → n < to → out₁ ≡ withFrame out stride n (f n) → Parting out₀ stride from to f out₁ (n + 1)
+    parting-more out₁ h e =
+        record {
+          left = left-more (following stride) f to whole (λ k ys y. withFrame ys stride k y) (λ k ys y rest. refl) out n (f n) out₁ (p .left) h refl e;
+          long = ap length e ∙ length-with-frame 0 out stride n (f n) ∙ p .long;
+        }
+
+    -- a part of them at once, those to before m
+    pub parting-part : (m : ℕ) (out₁ : List Float) → n ≤ m → m ≤ to → out₁ ≡ withFrames out stride n (tab n (m - n) f) → Parting out₀ stride from to f out₁ m
+    parting-part m out₁ a b e =
+        record {
+          left =
+              ap (λ (o : List Float). withFrames o stride m (tab m (to - m) f)) e
+              ∙ ap (λ (k : ℕ). withFrames (withFrames out stride n (tab n (m - n) f)) stride k (tab m (to - m) f)) (sym end)
+              ∙ sym (with-frames-append out stride n (tab n (m - n) f) (tab m (to - m) f))
+              ∙ ap (withFrames out stride n) (sym (tab-cut n m to f a b))
+              ∙ p .left;
+          long = ap length e ∙ length-with-frames out stride n (tab n (m - n) f) ∙ p .long;
+        }
+      where
+        reach : n + (m - n) ≡ m
+        reach = omega (arith, a)
+
+        end : n + length (tab n (m - n) f) ≡ m
+        end = ap (λ (k : ℕ). n + k) (length-tab n (m - n) f) ∙ reach
+
+    pub parting-all : to ≤ n → out ≡ whole
+    parting-all = left-none (following stride) f to whole out n (p .left)
+
+-- ---- the same from 0 on
+abbrev pub Framing : List Float → ℕ → ℕ → (ℕ → List Float) → List Float → ℕ → Type 0
+Framing out₀ stride frames f = Parting out₀ stride 0 frames f
+
 module _ (out₀ : List Float) (stride frames : ℕ) (f : ℕ → List Float) where
-  framed : (out : List Float) (n : ℕ) → Going (following stride) f frames out₀ out n → Framing out₀ stride frames f out n
-  framed out n g = record { laid = g; long = going-kept (following stride) f frames out₀ length length (λ k ys fs. length-with-frames ys stride k fs) out n g }
-
   pub framing-none : Framing out₀ stride frames f out₀ 0
-  framing-none = framed out₀ 0 (going-none (following stride) f frames out₀)
+  framing-none = parting-none out₀ stride 0 frames f
 
-  module _ (out : List Float) (n : ℕ) (g : Framing out₀ stride frames f out n) where
+  module _ (out : List Float) (n : ℕ) (p : Framing out₀ stride frames f out n) where
     pub framing-more : (out₁ : List Float) → n < frames → out₁ ≡ withFrame out stride n (f n) → Framing out₀ stride frames f out₁ (n + 1)
-    framing-more out₁ h e =
-        framed out₁ (n + 1) (going-more (following stride) f frames out₀ (λ k ys y. withFrame ys stride k y) (λ k ys y rest. refl) out n (f n) out₁ (g .laid) h refl e)
+    framing-more = parting-more out₀ stride 0 frames f out n p
 
     pub framing-all : frames ≤ n → out ≡ withFrames out₀ stride 0 (tab 0 frames f)
-    framing-all = going-all (following stride) f frames out₀ out n (g .laid)
+    framing-all h = parting-all out₀ stride 0 frames f out n p h ∙ ap (withFrames out₀ stride 0) (tab-all frames f)

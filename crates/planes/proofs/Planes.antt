@@ -1,6 +1,6 @@
 -- Laws of planes: frames that were written are read back, and everything else is as it was. Assumes nothing.
 use mathlib.Core.Path.{_≡_, refl, sym, ap, _∙_}
-use mathlib.Core.List.{List, [], _∷_}
+use mathlib.Core.List.{List, [], _∷_, _++_}
 use Prim.Native.Nat.{ℕ, zero, suc, _+_, _*_, _/_, _%_, _≤_, _<_, suc-le-suc}
 use native.Mathlib.Nat.{not-suc-le-zero, le-of-suc-le-suc, add-zero, zero-add, suc-add, add-suc}
 use native.Mathlib.Decide.{ℕ-discrete}
@@ -89,6 +89,12 @@ row-with-frame planes xs stride n f p hp hn e few =
 pub length-with-frames : (xs : List Float) (stride n : ℕ) (fs : List (List Float)) → length (withFrames xs stride n fs) ≡ length xs
 length-with-frames xs stride n [] = refl
 length-with-frames xs stride n (f ∷ fs) = length-with-frames (withFrame xs stride n f) stride (suc n) fs ∙ length-with-frame 0 xs stride n f
+
+-- in two parts, one behind the other
+pub with-frames-append : (xs : List Float) (stride n : ℕ) (fs gs : List (List Float)) → withFrames xs stride n (fs ++ gs) ≡ withFrames (withFrames xs stride n fs) stride (n + length fs) gs
+with-frames-append xs stride n [] gs = ap (λ (k : ℕ). withFrames xs stride k gs) (sym (add-zero n))
+with-frames-append xs stride n (f ∷ fs) gs =
+    with-frames-append (withFrame xs stride n f) stride (suc n) fs gs ∙ ap (λ (k : ℕ). withFrames (withFrames (withFrame xs stride n f) stride (suc n) fs) stride k gs) (sym (move n (length fs)))
 
 -- what is not among the frames written is as it was
 pub with-frames-other : (xs : List Float) (stride n : ℕ) (fs : List (List Float)) (p m : ℕ) → m < stride → n + length fs ≤ stride → ((k : ℕ) → k < length fs → m ≡ n + k → ⊥)

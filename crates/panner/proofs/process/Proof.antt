@@ -33,8 +33,8 @@ returns-3 c =
 narrowed-requires : tie.Need-narrowed-requires
 narrowed-requires c κs = search needs
 
-play-requires : tie.Need-play-requires
-play-requires c κs = search needs
+play-part-requires : tie.Need-play-part-requires
+play-part-requires c κs = search needs
 
 same-length : tie.Need-same-length
 same-length c = search needs
@@ -44,8 +44,8 @@ returns-4 c =
     let a = c .before .before .before .before .before .before .before .before .before .before .before .before .before .before .args in
     let g = c .before .before .before .before .before .before .before .before .before .before .before .gains-of in
     let n = c .before .before .before .narrowed in
-    plays (record { command = a .command; layout = a .layout; frames = a .frames; stride = a .stride }) (now (a .input)) (now (a .out)) (g .result) (g .ensures) (c .before .before .before .before .before .before .before .before .before .if1 .left) (sym (c .before .before .before .before .before .before .before .before .is-block-unfit .ensures) ∙ c .before .before .before .before .before .before .before .if2 .left) (n .result) (c .before .before .play .last .0)
-    (c .before .before .before .before .before .before .if3 .left) (n .ensures) (c .before .before .play .ensures)
+    plays (record { command = a .command; layout = a .layout; frames = a .frames; stride = a .stride }) (now (a .input)) (now (a .out)) (g .result) (g .ensures) (c .before .before .before .before .before .before .before .before .before .if1 .left) (sym (c .before .before .before .before .before .before .before .before .is-block-unfit .ensures) ∙ c .before .before .before .before .before .before .before .if2 .left) (n .result) (c .before .before .play-part .last .0)
+    (c .before .before .before .before .before .before .if3 .left) (n .ensures) (c .before .before .play-part .ensures)
 
 pub process-spec : {M : Type 1} → statement M
 process-spec =
@@ -57,6 +57,6 @@ process-spec =
     returns-2
     returns-3
     narrowed-requires
-    play-requires
+    play-part-requires
     same-length
     returns-4)

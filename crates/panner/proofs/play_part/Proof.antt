@@ -1,0 +1,75 @@
+-- `panner::play_part` meets its contract: `planes`' `Parting`. Assumes nothing.
+use mathlib.Core.Path.{ap, _∙_}
+use Prim.Native.Nat.{ℕ, _-_}
+use native.Mathlib.Omega.{arith}
+use lib.Ieee.{Float}
+use denote.Ref.{now}
+use Rattle.lists.specs.Tables.{tab}
+use Rattle.planes.specs.Planes.{sampleAt, withFrame, withFrames}
+use Rattle.planes.proofs.Framing.{Parting, parting-none, parting-more, parting-all}
+use Rattle.panner.specs.Blocks.{panned}
+use Rattle.panner.proofs.play_part.Statement.{statement}
+use Rattle.panner.proofs.play_part.Tie as tie
+
+abbrev Inv-loop : tie.InvT-loop
+Inv-loop out₀ stride from to planes gains input few n₀ out n = Parting out₀ stride from to (λ k. panned few gains (sampleAt input stride 0 k)) out n
+
+abbrev μ-loop : tie.MeasureT-loop
+μ-loop out₀ stride from to planes gains input few n₀ out n = to - n
+
+least-requires : tie.Need-least-requires Inv-loop μ-loop
+least-requires c κs = tt
+
+loop-holds : tie.Need-loop-holds Inv-loop μ-loop
+loop-holds c =
+    let a = c .before .before .before .args in
+    parting-none (now (a .out)) (a .stride) (a .from) (a .to) (λ k. panned (c .least .result) (a .gains) (sampleAt (now (a .input)) (a .stride) 0 k))
+
+sample-requires : tie.Need-sample-requires Inv-loop μ-loop
+sample-requires c κs = tt
+
+pan-requires : tie.Need-pan-requires Inv-loop μ-loop
+pan-requires c κs = omega (arith, c .before .before .before .before .least .ensures)
+
+add-n : tie.Need-add-n Inv-loop μ-loop
+add-n c = omega arith
+
+loop-less : tie.Need-loop-less Inv-loop μ-loop
+loop-less c = omega arith
+
+loop-again : tie.Need-loop-again Inv-loop μ-loop
+loop-again c =
+    let a = c .before .before .before .before .before .before .before .before .before .before .args in
+    let few = c .before .before .before .before .before .before .before .least .result in
+    let at = c .before .before .before .before .before .before .loop in
+    let x = c .before .before .before .sample in
+    parting-more (now (a .out)) (a .stride) (a .from) (a .to) (λ k. panned few (a .gains) (sampleAt (now (a .input)) (a .stride) 0 k)) (at .out) (at .n) (at .inv) (c .before .before .pan .last .0)
+    (omega (arith, c .before .before .before .before .before .loop-test .taken))
+    (c .before .before .pan .ensures ∙ ap (λ (y : Float). withFrame (at .out) (a .stride) (at .n) (panned few (a .gains) y)) (x .ensures))
+
+same-length : tie.Need-same-length Inv-loop μ-loop
+same-length c = omega arith
+
+returns : tie.Need-returns Inv-loop μ-loop
+returns c =
+    let a = c .before .before .before .before .before .args in
+    let at = c .before .loop in
+    let few = c .before .before .least in
+    parting-all (now (a .out)) (a .stride) (a .from) (a .to) (λ k. panned (few .result) (a .gains) (sampleAt (now (a .input)) (a .stride) 0 k)) (at .out) (at .n) (at .inv) (c .loop-test .left)
+    ∙ ap (λ (m : ℕ). withFrames (now (a .out)) (a .stride) (a .from) (tab (a .from) (a .to - a .from) (λ k. panned m (a .gains) (sampleAt (now (a .input)) (a .stride) 0 k)))) (few .ensures)
+
+pub play-part-spec : {M : Type 1} → statement M
+play-part-spec =
+    tie.close
+    (tie.spec
+    Inv-loop
+    μ-loop
+    least-requires
+    loop-holds
+    sample-requires
+    pan-requires
+    add-n
+    loop-less
+    loop-again
+    same-length
+    returns)

@@ -1,0 +1,87 @@
+-- A turn of `render`: what it asks of the functions that it calls, and that what it leaves is a stretch of which a segment more is played. Assumes nothing.
+use mathlib.Core.Path.{_≡_, sym, ap, _∙_, subst}
+use mathlib.Core.Bool.{Bool, true, false, cond}
+use mathlib.Core.List.{List, [], _∷_}
+use Prim.Native.Nat.{ℕ, _+_, _-_, _^_, _≤_, _<_, min}
+use native.Mathlib.Omega.{arith}
+use lib.Dec.{leb}
+use lib.ListN.{length}
+use lib.Ieee.{Float}
+use Rattle.refusals.proofs.First.{or-off}
+use Rattle.lists.specs.Tables.{any}
+use Rattle.lists.proofs.Tables.{tab-from}
+use Rattle.planes.specs.Planes.{sampleAt, withFrames}
+use Rattle.harmonics.specs.Promise.{refusesDirection}
+use Rattle.planes.proofs.Framing.{Parting, parting-part}
+use Rattle.script.specs.declared.Cue.{Cue}
+use Rattle.script.specs.declared.Held.{Held}
+use Rattle.script.specs.declared.Judgement.{Judgement}
+use Rattle.script.specs.declared.Rendered.{Rendered}
+use Rattle.script.specs.Cues.{Voice, nobody, speaking, framesOf, refusedOf, rises, orLater, voiceAt}
+use Rattle.script.specs.Rendering.{Stretch, refusalOf, spoken}
+use Rattle.script.specs.Steps.{voiceOf, Judges, Holds, Speakable, Spoken, answerBy}
+use Rattle.script.proofs.Answers.{frameOf, accepted-by, all-frames, good-order, none-refused, ends-in-time, cues-rise}
+
+-- a voice at a direction that is not refused
+abbrev Good : Voice → Type 0
+Good nobody = Unit {0}
+Good (speaking d) = refusesDirection d ≡ false
+
+voice-good : (cs : List Cue) (f : ℕ) → any (refusedOf cs) ≡ false → Good (voiceAt cs f)
+voice-good [] f h = tt
+voice-good (c ∷ cs) f h = later (voiceAt cs f) (voice-good cs f (off .1)) (leb (c .frame) f)
+  where
+    off : (refusesDirection (c .direction) ≡ false) × (any (refusedOf cs) ≡ false)
+    off = or-off (refusesDirection (c .direction)) (any (refusedOf cs)) h
+
+    later : (v : Voice) → Good v → (t : Bool) → Good (orLater (cond t (speaking (c .direction)) nobody) v)
+    later nobody g true = off .0
+    later nobody g false = tt
+    later (speaking d) g t = g
+
+module _ (s : Stretch) (cues : List Cue) (input out : List Float) (j : Judgement) (J : Judges cues j) (answer : Rendered) (e : answer ≡ answerBy s j (length input) (length out)) (n : ℕ) (less : n < answer .samples) where
+  accepted : refusalOf s cues (length input) (length out) ≡ 0
+  accepted = accepted-by s cues input out j J answer e n less
+
+  -- ---- what is asked
+  pub frame-fits : s .first + n < 2 ^ 64
+  frame-fits = let a = ends-in-time s cues input out j J answer e accepted in let b = all-frames s cues input out j J answer e accepted in omega (arith, a, b, less)
+
+  pub rising : rises (framesOf cues) ≡ true
+  rising = cues-rise s cues input out j J answer e accepted
+
+  module _ (f : ℕ) (h : Held) (H : Holds cues f h) where
+    pub asked : (n ≤ answer .samples) × Speakable (s .order) h
+    asked = (
+      omega (arith, less),
+      record {
+        order-good = good-order s cues input out j J answer e accepted;
+        direction-good = λ on. subst Good (sym (H .voice) ∙ ap (λ (t : Bool). cond t (speaking (h .direction)) nobody) on) (voice-good cues f (none-refused s cues input out j J answer e accepted));
+      },
+    )
+
+    -- ---- what is left
+    module _ (at : f ≡ s .first + n) (after : List Float) (p : Parting out (s .stride) 0 (answer .samples) (frameOf s cues input) after n) (m : ℕ) (next : List Float)
+        (S : (m ≡ min (n + h .left) (answer .samples)) × (next ≡ withFrames after (s .stride) n (Spoken (s .order) h (s .stride) n m input))) where
+      further : n < m
+      further = let l = H .some in let q = S .0 in omega (arith, l, q, less)
+
+      within : m ≤ answer .samples
+      within = let q = S .0 in omega (arith, q)
+
+      same : (i : ℕ) → n ≤ i → i < n + (m - n) → spoken (s .order) (voiceOf h) (sampleAt input (s .stride) 0 i) ≡ frameOf s cues input i
+      same i a b = ap (λ (v : Voice). spoken (s .order) v (sampleAt input (s .stride) 0 i)) (H .voice ∙ sym (H .stays (i - n) near) ∙ ap (voiceAt cues) place)
+        where
+          near : i - n < h .left
+          near = let q = S .0 in omega (arith, a, b, q)
+
+          place : f + (i - n) ≡ s .first + i
+          place = omega (arith, at, a)
+
+      pub turned : Parting out (s .stride) 0 (answer .samples) (frameOf s cues input) next m
+      turned =
+          parting-part out (s .stride) 0 (answer .samples) (frameOf s cues input) after n p m next (omega (arith, further)) within
+          (S .1 ∙ ap (withFrames after (s .stride) n) (tab-from n (m - n) (λ i. spoken (s .order) (voiceOf h) (sampleAt input (s .stride) 0 i)) (frameOf s cues input) same))
+
+      pub nearer : answer .samples - m < answer .samples - n
+      nearer = omega (arith, further, within)

@@ -1,0 +1,57 @@
+-- Wrong ways to answer, each held against the promise. Assumes nothing.
+use mathlib.Core.Path.{_≡_, refl, ap, _∙_}
+use mathlib.Core.Bool.{Bool, true, false, true≢false}
+use mathlib.Core.List.{List, [], _∷_}
+use Prim.Native.Nat.{ℕ}
+use native.Mathlib.Omega.{arith}
+use lib.Dec.{lit<}
+use lib.IntN.{pos}
+use lib.ListN.{replicate}
+use lib.Ieee.{Float, nan, inf, fin}
+use Rattle.formats.specs.Floats.{zero-float, minus-one-float}
+use Rattle.harmonics.specs.Drill.{at}
+use Rattle.script.specs.Rendering.{Stretch}
+use Rattle.script.specs.Promise.{Renders}
+use Rattle.script.proofs.Played.{refusal-is, before-the-first}
+use Rattle.script.proofs.Worked.{cue, asked, level, wrong, level-257, unreached}
+
+-- ---- before the first cue it plays the sample times 0.0: one frame of order 1, over planes that hold 0
+abbrev one-frame : Stretch
+one-frame = record { order = 1; first = 0; frames = 1; stride = 1 }
+
+abbrev zeros : List Float
+zeros = replicate 4 zero-float
+
+abbrev isNan : Float → Bool
+isNan nan = true
+isNan (inf s) = false
+isNan (fin s m e) = false
+
+abbrev isMinus : Float → Bool
+isMinus nan = false
+isMinus (inf s) = s
+isMinus (fin s m e) = s
+
+-- a NaN for a NaN
+nan-before-the-first : (x : Float) (y z : Float) → Renders one-frame [] (x ∷ []) zeros (record { refusal = 0; samples = 1 }) (nan ∷ y ∷ z ∷ nan ∷ []) → ⊥
+nan-before-the-first x y z p =
+    let e : nan ≡ zero-float = before-the-first one-frame [] (x ∷ []) zeros (record { refusal = 0; samples = 1 }) (nan ∷ y ∷ z ∷ nan ∷ []) p refl 0 0 (lit< tt) (lit< tt) tt in
+    true≢false (ap isNan e)
+
+-- -0.0 for -1.0
+minus-zero-before-the-first : (w x y : Float) → Renders one-frame [] (minus-one-float ∷ []) zeros (record { refusal = 0; samples = 1 }) (w ∷ x ∷ y ∷ fin true 0 (pos 0) ∷ []) → ⊥
+minus-zero-before-the-first w x y p =
+    let e : fin true 0 (pos 0) ≡ zero-float = before-the-first one-frame [] (minus-one-float ∷ []) zeros (record { refusal = 0; samples = 1 }) (w ∷ x ∷ y ∷ fin true 0 (pos 0) ∷ []) p refl 0 3 (lit< tt) (lit< tt) tt in
+    true≢false (ap isMinus e)
+
+-- ---- it counts the cues before it looks at their order: 257 cues at one frame are 11
+twelve-first : (n : ℕ) (after : List Float) → Renders (asked 0 8) (level 2 257) (replicate 8 nan) (replicate 32 nan) (record { refusal = 12; samples = n }) after → ⊥
+twelve-first n after p =
+    let e : _≡_ {A = ℕ} 12 11 = refusal-is (asked 0 8) (level 2 257) (replicate 8 nan) (replicate 32 nan) (record { refusal = 12; samples = n }) after p ∙ level-257 in
+    omega (arith, e)
+
+-- ---- it judges the cues in use alone: one at azimuth 181 that the stretch does not reach is 3
+in-use-alone : (n : ℕ) (after : List Float) → Renders (asked 0 8) (cue 2 (at 0 0) ∷ wrong ∷ []) (replicate 8 nan) (replicate 32 nan) (record { refusal = 0; samples = n }) after → ⊥
+in-use-alone n after p =
+    let e : _≡_ {A = ℕ} 0 3 = refusal-is (asked 0 8) (cue 2 (at 0 0) ∷ wrong ∷ []) (replicate 8 nan) (replicate 32 nan) (record { refusal = 0; samples = n }) after p ∙ unreached in
+    omega (arith, e)

@@ -1,0 +1,148 @@
+-- A worked drill: order 1, a cue at frame 2 in front and one at frame 5 on the left, eight frames from 0 on. Each output by its bits, in one call and in two; and the numbers of calls that are refused. Assumes nothing.
+use mathlib.Core.Path.{_≡_, refl, ap, _∙_}
+use mathlib.Core.Bool.{true, false}
+use mathlib.Core.List.{List, [], _∷_}
+use Prim.Native.Nat.{ℕ, zero, suc, _-_, _^_}
+use lib.IntN.{pos}
+use lib.ListN.{replicate}
+use lib.Ieee.{Float, nan, inf, fin, lt, le, eq, ofInt, add, sub, mul, div, neg, round}
+use Rattle.formats.specs.Floats.{zero-float, one-float, minus-one-float, half-float}
+use Rattle.numbers.specs.Computed as Numbers
+use Rattle.series.specs.Angles.{turned}
+use Rattle.angles.specs.Computed.{units as units-of, cut, place, short, times, radians, nesting, nest, rounded, sineAt, cosineAt, computed}
+use Rattle.angles.specs.Limits.{isInside, refusesAngle}
+use Rattle.channel.specs.declared.Layout.the-variants.{Mono}
+use Rattle.harmonics.specs.Computed.{sin, cos, wavesOf, upTo}
+use Rattle.harmonics.specs.Drill.{at}
+use Rattle.harmonics.specs.declared.Direction.{Direction}
+use Rattle.panner.specs.declared.Command.the-variants.{Ambisonic}
+use Rattle.panner.specs.Commands.{gainsOf}
+use Rattle.panner.specs.Blocks.{narrowedAll}
+use Rattle.script.specs.declared.Cue.{Cue}
+use Rattle.script.specs.Rendering.{Stretch, refusalOf, rendered}
+use Rattle.script.specs.Stretches.{Call, fedAll, soundedAll}
+use Rattle.script.proofs.Divided.{stretches}
+
+abbrev pub cue : ℕ → Direction → Cue
+cue f d = record { frame = f; direction = d }
+
+abbrev cues : List Cue
+cues = cue 2 (at 0 0) ∷ cue 5 (at 90 0) ∷ []
+
+-- ---- the gains that are played
+silence : ℕ → List Float
+silence n = replicate n zero-float
+
+front : narrowedAll (gainsOf (Ambisonic (at 0 0) 1) Mono) ≡ one-float ∷ zero-float ∷ zero-float ∷ one-float ∷ silence 12
+unfolding silence Numbers.rounded refusesAngle isInside upTo wavesOf sin cos lt le eq computed place cut units-of turned sineAt cosineAt short times radians nesting nest rounded ofInt div neg add sub mul round
+front = refl
+
+left : narrowedAll (gainsOf (Ambisonic (at 90 0) 1) Mono) ≡ one-float ∷ one-float ∷ zero-float ∷ zero-float ∷ silence 12
+unfolding silence Numbers.rounded refusesAngle isInside upTo wavesOf sin cos lt le eq computed place cut units-of turned sineAt cosineAt short times radians nesting nest rounded ofInt div neg add sub mul round
+left = refl
+
+-- ---- the frames
+abbrev minus-zero : Float
+minus-zero = fin true 0 (pos 0)
+
+abbrev minus-two : Float
+minus-two = fin true 1 (pos 1)
+
+abbrev four : Float
+four = fin false 1 (pos 2)
+
+abbrev samples : List Float
+samples = nan ∷ minus-one-float ∷ one-float ∷ minus-two ∷ half-float ∷ four ∷ minus-zero ∷ inf false ∷ []
+
+-- a frame of four planes
+abbrev quad : Float → Float → Float → Float → List Float
+quad w y z x = w ∷ y ∷ z ∷ x ∷ []
+
+-- 0.0, not -0.0 and no NaN, before the first cue; then the front, and from frame 5 on the left
+abbrev expected : List (List Float)
+expected =
+    quad zero-float zero-float zero-float zero-float
+    ∷ quad zero-float zero-float zero-float zero-float
+    ∷ quad one-float zero-float zero-float one-float
+    ∷ quad minus-two minus-zero minus-zero minus-two
+    ∷ quad half-float zero-float zero-float half-float
+    ∷ quad four four zero-float zero-float
+    ∷ quad minus-zero minus-zero minus-zero minus-zero
+    ∷ quad (inf false) (inf false) nan nan
+    ∷ []
+
+pub worked : rendered cues 1 0 samples ≡ expected
+unfolding Numbers.rounded refusesAngle isInside upTo wavesOf sin cos lt le eq computed place cut units-of turned sineAt cosineAt short times radians nesting nest rounded ofInt div neg add sub mul round
+worked = refl
+
+-- ---- in two calls: three frames, and then five
+abbrev in-two : List Call
+in-two =
+    record { frames = 3; stride = 3; input = nan ∷ minus-one-float ∷ one-float ∷ []; out = replicate 12 nan }
+    ∷ record { frames = 5; stride = 6; input = minus-two ∷ half-float ∷ four ∷ minus-zero ∷ inf false ∷ one-float ∷ []; out = replicate 24 nan }
+    ∷ []
+
+both-fed : fedAll cues 1 0 in-two ≡ samples
+unfolding refusesAngle isInside lt le eq ofInt neg sub add mul round
+both-fed = refl
+
+pub worked-in-two : soundedAll cues 1 0 in-two ≡ expected
+worked-in-two = stretches cues 1 0 in-two ∙ ap (rendered cues 1 0) both-fed ∙ worked
+
+-- ---- refusals: the lengths are those of planes that fit, but where it is said
+abbrev pub asked : ℕ → ℕ → Stretch
+asked first frames = record { order = 1; first = first; frames = frames; stride = frames }
+
+-- cues at the frames f, f + 1, .., and some that are all at f
+abbrev rising : ℕ → ℕ → List Cue
+rising f zero = []
+rising f (suc n) = cue f (at 0 0) ∷ rising (suc f) n
+
+abbrev pub level : ℕ → ℕ → List Cue
+level f n = replicate n (cue f (at 0 0))
+
+abbrev pub wrong : Cue
+wrong = cue 1000 (at 181 0)
+
+pub equal-frames : refusalOf (asked 0 8) (level 2 2) 8 32 ≡ 11
+unfolding refusesAngle isInside lt le eq ofInt neg sub add mul round
+equal-frames = refl
+
+cues-256 : refusalOf (asked 0 8) (rising 0 256) 8 32 ≡ 0
+unfolding refusesAngle isInside lt le eq ofInt neg sub add mul round
+cues-256 = refl
+
+cues-257 : refusalOf (asked 0 8) (rising 0 257) 8 32 ≡ 12
+unfolding refusesAngle isInside lt le eq ofInt neg sub add mul round
+cues-257 = refl
+
+-- 11 before 12, and 3 before both
+pub level-257 : refusalOf (asked 0 8) (level 2 257) 8 32 ≡ 11
+unfolding refusesAngle isInside lt le eq ofInt neg sub add mul round
+level-257 = refl
+
+level-257-wrong : refusalOf (asked 0 8) (wrong ∷ level 2 257) 8 32 ≡ 3
+unfolding refusesAngle isInside lt le eq ofInt neg sub add mul round
+level-257-wrong = refl
+
+-- 3 of a cue that the stretch does not reach
+pub unreached : refusalOf (asked 0 8) (cue 2 (at 0 0) ∷ wrong ∷ []) 8 32 ≡ 3
+unfolding refusesAngle isInside lt le eq ofInt neg sub add mul round
+unreached = refl
+
+-- the last frame may be the largest number
+up-to-the-largest : refusalOf (asked (2 ^ 64 - 3) 3) [] 3 12 ≡ 0
+up-to-the-largest = refl
+
+past-the-largest : refusalOf (asked (2 ^ 64 - 3) 4) [] 4 16 ≡ 5
+past-the-largest = refl
+
+none-at-the-largest : refusalOf (asked (2 ^ 64 - 1) 0) [] 0 0 ≡ 0
+none-at-the-largest = refl
+
+-- 6 where the planes fit, 5 where they do not
+frames-4097 : refusalOf (asked 0 4097) [] 4097 16388 ≡ 6
+frames-4097 = refl
+
+frames-4097-misfit : refusalOf (asked 0 4097) [] 4097 16387 ≡ 5
+frames-4097-misfit = refl

@@ -1,0 +1,59 @@
+-- `script::mute` meets its contract: `planes`' `Sampling`. Assumes nothing.
+use Prim.Native.Nat.{_-_}
+use native.Mathlib.Omega.{arith}
+use mathlib.Core.Path.{refl}
+use lib.Ieee.{ofBits, ofInt}
+use denote.Ref.{now}
+use Rattle.formats.specs.Floats.{zero-float}
+use Rattle.planes.proofs.Framing.{Sampling, sampling-none, sampling-more, sampling-all}
+use Rattle.script.proofs.mute.Statement.{statement}
+use Rattle.script.proofs.mute.Tie as tie
+
+abbrev Inv-loop : tie.InvT-loop
+Inv-loop out₀ stride frame planes p₀ out p = Sampling out₀ stride frame planes (λ k. zero-float) out p
+
+abbrev μ-loop : tie.MeasureT-loop
+μ-loop out₀ stride frame planes p₀ out p = planes - p
+
+loop-holds : tie.Need-loop-holds Inv-loop μ-loop
+loop-holds c = let a = c .before .args in sampling-none (now (a .out)) (a .stride) (a .frame) (a .planes) (λ k. zero-float)
+
+put-sample-requires : tie.Need-put-sample-requires Inv-loop μ-loop
+put-sample-requires c κs = tt
+
+add-p : tie.Need-add-p Inv-loop μ-loop
+add-p c = omega arith
+
+loop-less : tie.Need-loop-less Inv-loop μ-loop
+loop-less c = omega arith
+
+loop-again : tie.Need-loop-again Inv-loop μ-loop
+unfolding ofBits ofInt
+loop-again c =
+    let a = c .before .before .before .before .before .before .before .args in
+    let at = c .before .before .before .before .before .loop in
+    sampling-more (now (a .out)) (a .stride) (a .frame) (a .planes) (λ k. zero-float) (at .out) (at .p) (at .inv) _ (c .before .before .put-sample .last .0)
+    (c .before .before .before .before .loop-test .taken) refl (c .before .before .put-sample .ensures)
+
+same-length : tie.Need-same-length Inv-loop μ-loop
+same-length c = omega arith
+
+returns : tie.Need-returns Inv-loop μ-loop
+returns c =
+    let a = c .before .before .before .args in
+    let at = c .before .loop in
+    sampling-all (now (a .out)) (a .stride) (a .frame) (a .planes) (λ k. zero-float) (at .out) (at .p) (at .inv) (c .loop-test .left)
+
+pub mute-spec : {M : Type 1} → statement M
+mute-spec =
+    tie.close
+    (tie.spec
+    Inv-loop
+    μ-loop
+    loop-holds
+    put-sample-requires
+    add-p
+    loop-less
+    loop-again
+    same-length
+    returns)

@@ -1,0 +1,56 @@
+-- `script::silence` meets its contract: `panner`'s `Parts`. Assumes nothing.
+use Prim.Native.Nat.{_-_}
+use native.Mathlib.Omega.{arith}
+use denote.Ref.{now}
+use Rattle.planes.proofs.Framing.{Parting, parting-none, parting-more, parting-all}
+use Rattle.script.specs.Rendering.{silent}
+use Rattle.script.proofs.silence.Statement.{statement}
+use Rattle.script.proofs.silence.Tie as tie
+
+abbrev Inv-loop : tie.InvT-loop
+Inv-loop out₀ stride from to planes n₀ out n = Parting out₀ stride from to (λ k. silent planes) out n
+
+abbrev μ-loop : tie.MeasureT-loop
+μ-loop out₀ stride from to planes n₀ out n = to - n
+
+loop-holds : tie.Need-loop-holds Inv-loop μ-loop
+loop-holds c = let a = c .before .args in parting-none (now (a .out)) (a .stride) (a .from) (a .to) (λ k. silent (a .planes))
+
+mute-requires : tie.Need-mute-requires Inv-loop μ-loop
+mute-requires c κs = tt
+
+add-n : tie.Need-add-n Inv-loop μ-loop
+add-n c = omega arith
+
+loop-less : tie.Need-loop-less Inv-loop μ-loop
+loop-less c = omega arith
+
+loop-again : tie.Need-loop-again Inv-loop μ-loop
+loop-again c =
+    let a = c .before .before .before .before .before .before .before .args in
+    let at = c .before .before .before .before .before .loop in
+    parting-more (now (a .out)) (a .stride) (a .from) (a .to) (λ k. silent (a .planes)) (at .out) (at .n) (at .inv) (c .before .before .mute .last .0)
+    (c .before .before .before .before .loop-test .taken) (c .before .before .mute .ensures)
+
+same-length : tie.Need-same-length Inv-loop μ-loop
+same-length c = omega arith
+
+returns : tie.Need-returns Inv-loop μ-loop
+returns c =
+    let a = c .before .before .before .args in
+    let at = c .before .loop in
+    parting-all (now (a .out)) (a .stride) (a .from) (a .to) (λ k. silent (a .planes)) (at .out) (at .n) (at .inv) (c .loop-test .left)
+
+pub silence-spec : {M : Type 1} → statement M
+silence-spec =
+    tie.close
+    (tie.spec
+    Inv-loop
+    μ-loop
+    loop-holds
+    mute-requires
+    add-n
+    loop-less
+    loop-again
+    same-length
+    returns)
