@@ -1,8 +1,6 @@
 -- Laws that crates above cite: of what a call hands back. Then those of this crate's loops and of its walk by hand, that no two answers meet one promise, and wrong answers.
 pub mod Promised
-mod Relent
 mod Earing
 mod Playing
-mod Walking
 mod Unique
 mod Refuted

@@ -25,13 +25,14 @@ use Rattle.harmonics.specs.Promise as Harmonics
 use Rattle.harmonics.proofs.Laws.{accepted, outcome-kept}
 use Rattle.panner.specs.Blocks.{misfit, mostFrames}
 use Rattle.planes.proofs.Framing.{Parting, parting-all}
-use Rattle.script.specs.declared.Cue.{Cue}
-use Rattle.script.specs.declared.Judgement.{Judgement}
+use Rattle.cues.specs.declared.Cue.{Cue}
+use Rattle.cues.specs.declared.Judgement.{Judgement}
 use Rattle.script.specs.declared.Rendered.{Rendered}
-use Rattle.script.specs.Cues.{framesOf, refusedOf, rises, voiceAt}
+use Rattle.cues.specs.Cues.{framesOf, refusedOf, rises, voiceAt}
 use Rattle.script.specs.Rendering.{Stretch, runsPast, mostCues, checksOf, refusalOf, spoken, rendered, samplesOf, playedOf}
 use Rattle.script.specs.Promise.{answerOf, block, AllPromised, Renders}
-use Rattle.script.specs.Steps.{Judges, refusalBy, answerBy}
+use Rattle.cues.specs.Computed.{Judges}
+use Rattle.script.specs.Steps.{refusalBy, answerBy}
 
 -- ---- the tests
 pub past-is : (first frames : ℕ) → first < 2 ^ 64 → (frames ≡ 0 → ⊥) → ltb (18446744073709551615 - first) (frames - 1) ≡ ltb (2 ^ 64) (first + frames)

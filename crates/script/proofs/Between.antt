@@ -19,12 +19,12 @@ use Rattle.panner.specs.declared.Command.the-variants.{Ambisonic}
 use Rattle.panner.specs.Commands.{commandChecks}
 use Rattle.panner.specs.Blocks as Panner
 use Rattle.panner.specs.Promise as Panner′
-use Rattle.script.specs.declared.Cue.{Cue}
-use Rattle.script.specs.Cues.{Voice, speaking, framesOf, refusedOf, rises, voiceAt}
+use Rattle.cues.specs.declared.Cue.{Cue}
+use Rattle.cues.specs.Cues.{Voice, speaking, framesOf, refusedOf, rises, voiceAt}
 use Rattle.script.specs.Rendering.{Stretch, runsPast, checksOf, refusalOf, spoken}
 use Rattle.script.specs.Promise.{answerOf, Block, block}
-use Rattle.script.specs.Steps.{nowhere}
-use Rattle.script.proofs.Cues.{each-good}
+use Rattle.cues.specs.Computed.{nowhere}
+use Rattle.cues.proofs.Cues.{each-good}
 use Rattle.script.proofs.Answers.{frameOf}
 use Rattle.script.proofs.Played.{block-is}
 

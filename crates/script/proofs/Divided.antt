@@ -11,8 +11,8 @@ use Rattle.lists.proofs.Tables.{length-tab}
 use Rattle.channel.specs.Orders.{channelsOfOrder}
 use Rattle.planes.specs.Planes.{sampleAt, framesOf}
 use Rattle.planes.proofs.Blocks.{block-refused}
-use Rattle.script.specs.declared.Cue.{Cue}
-use Rattle.script.specs.Cues.{Voice, voiceAt}
+use Rattle.cues.specs.declared.Cue.{Cue}
+use Rattle.cues.specs.Cues.{Voice, voiceAt}
 use Rattle.script.specs.Rendering.{samplesOf, spoken, rendered, playedOf}
 use Rattle.script.specs.Promise.{answerOf, Block}
 use Rattle.script.specs.Stretches.{Call, stretchOf, refusalAt, next, fed, sounded, fedAll, soundedAll, Piece, joined, Held, Cut, separately}

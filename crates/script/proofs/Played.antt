@@ -22,9 +22,9 @@ use Rattle.planes.specs.Planes.{sampleAt, framesOf, withFrames}
 use Rattle.planes.proofs.Planes.{with-frames-at, with-frames-other, frames-read}
 use Rattle.planes.proofs.Blocks.{block-refused, block-accepted, block-refusal}
 use Rattle.panner.specs.Blocks.{misfit, mostFrames}
-use Rattle.script.specs.declared.Cue.{Cue}
+use Rattle.cues.specs.declared.Cue.{Cue}
 use Rattle.script.specs.declared.Rendered.{Rendered}
-use Rattle.script.specs.Cues.{Voice, nobody, speaking, framesOf as numbersOf, refusedOf, rises, orLater, voiceAt}
+use Rattle.cues.specs.Cues.{Voice, nobody, speaking, framesOf as numbersOf, refusedOf, rises, orLater, voiceAt}
 use Rattle.script.specs.Rendering.{Stretch, runsPast, mostCues, checksOf, refusalOf, spoken, playedOf}
 use Rattle.script.specs.Promise.{answerOf, Block, block, Renders}
 use Rattle.script.proofs.Halving.{none-left}

@@ -13,13 +13,14 @@ use Rattle.lists.proofs.Tables.{tab-from}
 use Rattle.planes.specs.Planes.{sampleAt, withFrames}
 use Rattle.harmonics.specs.Promise.{refusesDirection}
 use Rattle.planes.proofs.Framing.{Parting, parting-part}
-use Rattle.script.specs.declared.Cue.{Cue}
-use Rattle.script.specs.declared.Held.{Held}
-use Rattle.script.specs.declared.Judgement.{Judgement}
+use Rattle.cues.specs.declared.Cue.{Cue}
+use Rattle.cues.specs.declared.Held.{Held}
+use Rattle.cues.specs.declared.Judgement.{Judgement}
 use Rattle.script.specs.declared.Rendered.{Rendered}
-use Rattle.script.specs.Cues.{Voice, nobody, speaking, framesOf, refusedOf, rises, orLater, voiceAt}
+use Rattle.cues.specs.Cues.{Voice, nobody, speaking, framesOf, refusedOf, rises, orLater, voiceAt}
 use Rattle.script.specs.Rendering.{Stretch, refusalOf, spoken}
-use Rattle.script.specs.Steps.{voiceOf, Judges, Holds, Speakable, Spoken, answerBy}
+use Rattle.cues.specs.Computed.{voiceOf, Judges, Holds}
+use Rattle.script.specs.Steps.{Speakable, Spoken, answerBy}
 use Rattle.script.proofs.Answers.{frameOf, accepted-by, all-frames, good-order, none-refused, ends-in-time, cues-rise}
 
 -- a voice at a direction that is not refused

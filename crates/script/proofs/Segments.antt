@@ -25,10 +25,11 @@ use Rattle.panner.specs.Commands.{commandChecks, gainsOf}
 use Rattle.panner.specs.Blocks.{pannedPart, narrowedAll}
 use Rattle.panner.specs.Promise.{Gained}
 use Rattle.planes.proofs.Framing.{Parting}
-use Rattle.script.specs.declared.Held.{Held}
-use Rattle.script.specs.Cues.{Voice, nobody, speaking}
+use Rattle.cues.specs.declared.Held.{Held}
+use Rattle.cues.specs.Cues.{Voice, nobody, speaking}
 use Rattle.script.specs.Rendering.{silentPart, spoken}
-use Rattle.script.specs.Steps.{voiceOf, Speakable, Spoken}
+use Rattle.cues.specs.Computed.{voiceOf}
+use Rattle.script.specs.Steps.{Speakable, Spoken}
 
 -- ---- a segment is what its voice speaks
 module _ (order : ℕ) (h : Held) (S : Speakable order h) (stride from to : ℕ) (input : List Float) where

@@ -3,7 +3,7 @@ use mathlib.Core.Path.{_≡_}
 use mathlib.Core.List.{List}
 use lib.Ieee.{Float}
 use Rattle.refusals.proofs.Determined.{determined}
-use Rattle.script.specs.declared.Cue.{Cue}
+use Rattle.cues.specs.declared.Cue.{Cue}
 use Rattle.script.specs.Rendering.{Stretch}
 use Rattle.script.specs.Promise.{Block, Renders}
 

@@ -18,7 +18,7 @@ use Rattle.harmonics.specs.declared.Direction.{Direction}
 use Rattle.panner.specs.declared.Command.the-variants.{Ambisonic}
 use Rattle.panner.specs.Commands.{gainsOf}
 use Rattle.panner.specs.Blocks.{narrowedAll}
-use Rattle.script.specs.declared.Cue.{Cue}
+use Rattle.cues.specs.declared.Cue.{Cue}
 use Rattle.script.specs.Rendering.{Stretch, refusalOf, rendered}
 use Rattle.script.specs.Stretches.{Call, fedAll, soundedAll}
 use Rattle.script.proofs.Divided.{stretches}

@@ -1,5 +1,4 @@
 -- The words of the promise of `script`: `Cues` and `Rendering` say document 02, `Promise` is the promise, and `Steps` what the program's steps hand to each other.
-pub mod Cues
 pub mod Rendering
 pub mod Promise
 pub mod Stretches

@@ -9,7 +9,7 @@ use Rattle.planes.specs.Blocks.{blockOf}
 use Rattle.channel.specs.declared.Layout.the-variants.{Mono}
 use Rattle.panner.specs.declared.Command.the-variants.{Ambisonic}
 use Rattle.panner.specs.Commands.{gainsOf, Promised}
-use Rattle.script.specs.declared.Cue.{Cue}
+use Rattle.cues.specs.declared.Cue.{Cue}
 use Rattle.script.specs.declared.Rendered.{Rendered}
 use Rattle.script.specs.Rendering.{Stretch, refusalOf, playedOf}
 

@@ -15,8 +15,8 @@ use Rattle.channel.specs.declared.Layout.the-variants.{Mono}
 use Rattle.panner.specs.declared.Command.the-variants.{Ambisonic}
 use Rattle.panner.specs.Commands.{gainsOf}
 use Rattle.panner.specs.Blocks.{misfit, mostFrames, narrowedAll, panned}
-use Rattle.script.specs.declared.Cue.{Cue}
-use Rattle.script.specs.Cues.{Voice, nobody, speaking, framesOf, refusedOf, rises, voiceAt}
+use Rattle.cues.specs.declared.Cue.{Cue}
+use Rattle.cues.specs.Cues.{Voice, nobody, speaking, framesOf, refusedOf, rises, voiceAt}
 
 -- what a stretch is asked for beside the cues and the samples
 pub record Stretch : Type 0 where

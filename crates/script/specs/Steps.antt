@@ -13,12 +13,12 @@ use Rattle.planes.specs.Planes.{sampleAt}
 use Rattle.channel.specs.Orders.{refusesOrder}
 use Rattle.harmonics.specs.declared.Direction.{Direction}
 use Rattle.harmonics.specs.Promise.{refusesDirection}
-use Rattle.script.specs.declared.Cue.{Cue}
-use Rattle.script.specs.declared.Judgement.{Judgement}
-use Rattle.script.specs.declared.Search.{Search}
-use Rattle.script.specs.declared.Held.{Held}
+use Rattle.cues.specs.declared.Cue.{Cue}
+use Rattle.cues.specs.declared.Judgement.{Judgement}
+use Rattle.cues.specs.declared.Search.{Search}
+use Rattle.cues.specs.declared.Held.{Held}
 use Rattle.script.specs.declared.Rendered.{Rendered}
-use Rattle.script.specs.Cues.{Voice, nobody, speaking, framesOf, refusedOf, rises, voiceAt}
+use Rattle.cues.specs.Cues.{Voice, nobody, speaking, framesOf, refusedOf, rises, voiceAt}
 use Rattle.script.specs.Rendering.{Stretch, checksOf, spoken}
 use Rattle.script.specs.Promise.{answerOf}
 

@@ -8,8 +8,8 @@ use lib.Ieee.{Float}
 use Rattle.refusals.specs.Refusals.{answered}
 use Rattle.channel.specs.Orders.{channelsOfOrder}
 use Rattle.planes.specs.Planes.{framesOf}
-use Rattle.script.specs.declared.Cue.{Cue}
-use Rattle.script.specs.Cues.{Voice, voiceAt}
+use Rattle.cues.specs.declared.Cue.{Cue}
+use Rattle.cues.specs.Cues.{Voice, voiceAt}
 use Rattle.script.specs.Rendering.{Stretch, refusalOf, samplesOf, spoken}
 use Rattle.script.specs.Promise.{Block, block}
 

@@ -51,29 +51,30 @@ use denote.Triple.Clauses.{ensured, Lasts, lasts}
 use denote.Exit.{yes}
 use Rattle.planes.specs.Planes.{withFrames}
 use Rattle.planes.proofs.Framing.{Parting, parting-none}
-use Rattle.script.specs.Cues.{framesOf, rises}
+use Rattle.cues.specs.Cues.{framesOf, rises}
 use Rattle.script.specs.Rendering.{Stretch}
 use Rattle.script.specs.Promise.{Renders}
-use Rattle.script.specs.Steps.{Judges, Holds, Speakable, Spoken, answerBy}
-use Rattle.script.specs.declared.Cue.{Cue}
-use Rattle.script.specs.declared.Judgement.{Judgement}
-use Rattle.script.specs.declared.Held.{Held}
+use Rattle.cues.specs.Computed.{Judges, Holds}
+use Rattle.script.specs.Steps.{Speakable, Spoken, answerBy}
+use Rattle.cues.specs.declared.Cue.{Cue}
+use Rattle.cues.specs.declared.Judgement.{Judgement}
+use Rattle.cues.specs.declared.Held.{Held}
 use Rattle.script.specs.declared.Rendered.{Rendered}
-use Rattle.script.proofs.Cue as T
-use Rattle.script.proofs.Judgement as J
-use Rattle.script.proofs.Judgement.Laws as J′
-use Rattle.script.proofs.Held as F
-use Rattle.script.proofs.Held.Laws as F′
+use Rattle.cues.proofs.Cue as T
+use Rattle.cues.proofs.Judgement as J
+use Rattle.cues.proofs.Judgement.Laws as J′
+use Rattle.cues.proofs.Held as F
+use Rattle.cues.proofs.Held.Laws as F′
 use Rattle.script.proofs.Rendered as R
 use Rattle.script.proofs.Rendered.Laws as R′
-use Rattle.script.proofs.Relent.{Hold, refers, loan, mine, lends-one, takes-one}
-use Rattle.script.proofs.Walking.{places, pairs-back, behind, local, tests}
+use Rattle.walks.proofs.Relent.{Hold, refers, loan, mine, lends-one, takes-one}
+use Rattle.walks.proofs.Walking.{places, pairs-back, behind, room, full, local, tests}
 use Rattle.script.proofs.Answers.{frameOf, answers}
 use Rattle.script.proofs.Playing.{frame-fits, rising, asked, turned, nearer}
-use Rattle.script.proofs.judged as judged
-use Rattle.script.proofs.judged.Symbol as judged-def
-use Rattle.script.proofs.judged.Symbol.{name as #script·judged}
-use Rattle.script.proofs.judged.Met as judged-thm
+use Rattle.cues.proofs.judged as judged
+use Rattle.cues.proofs.judged.Symbol as judged-def
+use Rattle.cues.proofs.judged.Symbol.{name as #cues·judged}
+use Rattle.cues.proofs.judged.Met as judged-thm
 use Rattle.script.proofs.answer_of as answer-of
 use Rattle.script.proofs.answer_of.Symbol as answer-of-def
 use Rattle.script.proofs.answer_of.Symbol.{name as #script·answer-of}
@@ -82,10 +83,10 @@ use Rattle.script.proofs.frame_of as frame-of
 use Rattle.script.proofs.frame_of.Symbol as frame-of-def
 use Rattle.script.proofs.frame_of.Symbol.{name as #script·frame-of}
 use Rattle.script.proofs.frame_of.Met as frame-of-thm
-use Rattle.script.proofs.holding as holding
-use Rattle.script.proofs.holding.Symbol as holding-def
-use Rattle.script.proofs.holding.Symbol.{name as #script·holding}
-use Rattle.script.proofs.holding.Met as holding-thm
+use Rattle.cues.proofs.holding as holding
+use Rattle.cues.proofs.holding.Symbol as holding-def
+use Rattle.cues.proofs.holding.Symbol.{name as #cues·holding}
+use Rattle.cues.proofs.holding.Met as holding-thm
 use Rattle.script.proofs.speak as speak
 use Rattle.script.proofs.speak.Symbol as speak-def
 use Rattle.script.proofs.speak.Symbol.{name as #script·speak}
@@ -285,7 +286,7 @@ module _ {M : Type 1} (𝓤 : URA M) (H : Heap 𝓤) (A : Atoms 𝓤) (W : Given
   speak-leaves ν δ zs n m h r =
       some (λ (ls : Lasts speak.ended (lfts ν) (speak-args δ zs n m h)). ‵ (lasts speak.ended (lfts ν) (speak-args δ zs n m h) ls) ⊛ raw (fact 𝓤 (Segment zs n m h r (ls .0))))
 
-  module _ (𝓣 : Tables 𝓤 H) (known-judged : Triple 𝓤 (𝓣 .C #script·judged) (Judged 𝓤 H A at-mem run)) (known-answer : Triple 𝓤 (𝓣 .C #script·answer-of) (AnswerOf 𝓤 H A at-mem run)) (known-frame : Triple 𝓤 (𝓣 .C #script·frame-of) (FrameOf 𝓤 H A at-mem run)) (known-holding : Triple 𝓤 (𝓣 .C #script·holding) (Holding 𝓤 H A at-mem run)) (known-speak : Triple 𝓤 (𝓣 .C #script·speak) (Speak 𝓤 H A at-mem run)) where
+  module _ (𝓣 : Tables 𝓤 H) (known-judged : Triple 𝓤 (𝓣 .C #cues·judged) (Judged 𝓤 H A at-mem run)) (known-answer : Triple 𝓤 (𝓣 .C #script·answer-of) (AnswerOf 𝓤 H A at-mem run)) (known-frame : Triple 𝓤 (𝓣 .C #script·frame-of) (FrameOf 𝓤 H A at-mem run)) (known-holding : Triple 𝓤 (𝓣 .C #cues·holding) (Holding 𝓤 H A at-mem run)) (known-speak : Triple 𝓤 (𝓣 .C #script·speak) (Speak 𝓤 H A at-mem run)) where
     abbrev C : Calls 𝓤 H
     C = 𝓣 .C
 
@@ -318,13 +319,6 @@ module _ {M : Type 1} (𝓤 : URA M) (H : Heap 𝓤) (A : Atoms 𝓤) (W : Given
         -- _16 and _17 the slice that is lent again
         abbrev En : Env 𝓤 H
         En = (rendTy, l₀) ∷ (lent 0 cueTy, l₁) ∷ (word, l₂) ∷ (word, l₃) ∷ (word, l₄) ∷ (word, l₅) ∷ (lent 1 single, l₆) ∷ (outTy, l₇) ∷ (judgeTy, l₈) ∷ (rendTy, l₉) ∷ (word, l₁₀) ∷ (heldTy, l₁₁) ∷ (word, l₁₂) ∷ (word, l₁₃) ∷ (tyBool, l₁₄) ∷ (word, l₁₅) ∷ (cellTy, l₁₆) ∷ (partTy, l₁₇) ∷ []
-
-        -- a local that holds nothing, and one that holds a value
-        abbrev room : Ty → ℕ → List (Item 𝓤) → List (Item 𝓤)
-        room τ l Γ = ‵ (froom τ l 0) ∷ ‵ (fdies τ l) ∷ Γ
-
-        abbrev full : Ty → ℕ → Val → List (Item 𝓤) → List (Item 𝓤)
-        full τ l v Γ = ‵ (fat fullShare τ l 0 v) ∷ ‵ (fdies τ l) ∷ Γ
 
         abbrev At : Now → List (Item 𝓤)
         At s =
@@ -432,7 +426,7 @@ module _ {M : Type 1} (𝓤 : URA M) (H : Heap 𝓤) (A : Atoms 𝓤) (W : Given
         forget ! 19 refl $ forget ! 27 refl $ forget ! 29 refl $ keep ! (places 3 36 (1 ∷ 2 ∷ 39 ∷ 40 ∷ 41 ∷ 42 ∷ [])) $
         by ! (plays j e₁ r (rendered-is r u₂ is₂) e₂ l₀ l₁ l₂ l₃ l₄ l₅ l₆ l₇ l₈ l₉ l₁₀ l₁₁ l₁₂ l₁₃ l₁₄ l₁₅ l₁₆ l₁₇ (record { at = 0; after = out₀ .now; fits = lit< tt; parting = parting-none (out₀ .now) stride 0 (r .samples) (frameOf stretch (cues .now) (input .now)) }))))))))))))))))))))))))))))
 
-module _ {M : Type 1} (𝓤 : URA M) (H : Heap 𝓤) (A : Atoms 𝓤) (W : Given 𝓤 H A) (at-mem : Memory → SProp 𝓤) (run : Routine → Fun 𝓤) (𝓣 : Tables 𝓤 H) (known-judged : Triple 𝓤 (𝓣 .C #script·judged) (Judged 𝓤 H A at-mem run)) (known-answer : Triple 𝓤 (𝓣 .C #script·answer-of) (AnswerOf 𝓤 H A at-mem run)) (known-frame : Triple 𝓤 (𝓣 .C #script·frame-of) (FrameOf 𝓤 H A at-mem run)) (known-holding : Triple 𝓤 (𝓣 .C #script·holding) (Holding 𝓤 H A at-mem run)) (known-speak : Triple 𝓤 (𝓣 .C #script·speak) (Speak 𝓤 H A at-mem run)) where
+module _ {M : Type 1} (𝓤 : URA M) (H : Heap 𝓤) (A : Atoms 𝓤) (W : Given 𝓤 H A) (at-mem : Memory → SProp 𝓤) (run : Routine → Fun 𝓤) (𝓣 : Tables 𝓤 H) (known-judged : Triple 𝓤 (𝓣 .C #cues·judged) (Judged 𝓤 H A at-mem run)) (known-answer : Triple 𝓤 (𝓣 .C #script·answer-of) (AnswerOf 𝓤 H A at-mem run)) (known-frame : Triple 𝓤 (𝓣 .C #script·frame-of) (FrameOf 𝓤 H A at-mem run)) (known-holding : Triple 𝓤 (𝓣 .C #cues·holding) (Holding 𝓤 H A at-mem run)) (known-speak : Triple 𝓤 (𝓣 .C #script·speak) (Speak 𝓤 H A at-mem run)) where
   render-walks : Walks 𝓤 H A f.ended stayed (WpFn 𝓤 H (𝓣 .C) (𝓣 .Λ) code.function) (f.clauses 𝓤 H A at-mem run)
   render-walks =
       walked 𝓤 H A f.ended stayed (f.clauses 𝓤 H A at-mem run) (WpFn 𝓤 H (𝓣 .C) (𝓣 .Λ) code.function)
@@ -454,8 +448,8 @@ render-spec 𝓤 H 𝓜 𝓖 𝓡 =
     entered 𝓤 H (tripleOf 𝓤 H (𝓖 .A) f.signature (f.spec 𝓤 H (𝓖 .A) (𝓜 .mem) (𝓡 .run)))
     (tables 𝓤 H 𝓜 𝓡 code.env .C) (tables 𝓤 H 𝓜 𝓡 code.env .Λ) #script·render code.function (code.unfolded 𝓤 H 𝓜 𝓡)
     (render-meets 𝓤 H (𝓖 .A) (givenOf 𝓤 H 𝓜 𝓖) (𝓜 .mem) (𝓡 .run) (tablesOf 𝓤 H 𝓜 (tables 𝓤 H 𝓜 𝓡 code.env))
-    (cited 𝓤 H (Judged 𝓤 H (𝓖 .A) (𝓜 .mem) (𝓡 .run)) 𝓜 𝓡 code.env #script·judged judged-def.routine code.calls-script·judged (judged-thm.met 𝓤 H 𝓜 𝓖 𝓡))
+    (cited 𝓤 H (Judged 𝓤 H (𝓖 .A) (𝓜 .mem) (𝓡 .run)) 𝓜 𝓡 code.env #cues·judged judged-def.routine code.calls-cues·judged (judged-thm.met 𝓤 H 𝓜 𝓖 𝓡))
     (cited 𝓤 H (AnswerOf 𝓤 H (𝓖 .A) (𝓜 .mem) (𝓡 .run)) 𝓜 𝓡 code.env #script·answer-of answer-of-def.routine code.calls-script·answer-of (answer-of-thm.met 𝓤 H 𝓜 𝓖 𝓡))
     (cited 𝓤 H (FrameOf 𝓤 H (𝓖 .A) (𝓜 .mem) (𝓡 .run)) 𝓜 𝓡 code.env #script·frame-of frame-of-def.routine code.calls-script·frame-of (frame-of-thm.met 𝓤 H 𝓜 𝓖 𝓡))
-    (cited 𝓤 H (Holding 𝓤 H (𝓖 .A) (𝓜 .mem) (𝓡 .run)) 𝓜 𝓡 code.env #script·holding holding-def.routine code.calls-script·holding (holding-thm.met 𝓤 H 𝓜 𝓖 𝓡))
+    (cited 𝓤 H (Holding 𝓤 H (𝓖 .A) (𝓜 .mem) (𝓡 .run)) 𝓜 𝓡 code.env #cues·holding holding-def.routine code.calls-cues·holding (holding-thm.met 𝓤 H 𝓜 𝓖 𝓡))
     (cited 𝓤 H (Speak 𝓤 H (𝓖 .A) (𝓜 .mem) (𝓡 .run)) 𝓜 𝓡 code.env #script·speak speak-def.routine code.calls-script·speak (speak-thm.met 𝓤 H 𝓜 𝓖 𝓡)))

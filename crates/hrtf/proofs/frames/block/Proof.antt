@@ -77,8 +77,8 @@ use Rattle.hrtf.specs.declared.frames.Played.{Played}
 use Rattle.hrtf.specs.declared.frames.Turn.{Turn}
 use Rattle.hrtf.specs.declared.frames.Scaled.{Scaled}
 use Rattle.hrtf.specs.Computed.{ScaledReady, FramePlayed, BlockPlayed}
-use Rattle.hrtf.proofs.Relent.{Hold, refers, loan, mine, half, rest, lends-both, takes-both}
-use Rattle.hrtf.proofs.Walking.{places, pairs-back, behind, local, tests}
+use Rattle.walks.proofs.Relent.{Hold, refers, loan, mine, half, rest, lends-both, takes-both}
+use Rattle.walks.proofs.Walking.{places, pairs-back, behind, room, full, local, tests}
 use Rattle.hrtf.proofs.Playing.{Playing, playing-none, playing-more, playing-all}
 use Rattle.hrtf.proofs.frames.Played as P
 use Rattle.hrtf.proofs.frames.Played.Laws as P′
@@ -393,13 +393,6 @@ module _ {M : Type 1} (𝓤 : URA M) (H : Heap 𝓤) (A : Atoms 𝓤) (W : Given
       -- _15 to _18 the two slices that are lent again, _19 and _20 what `step` hands back and is passed, and _21 the record in the answer
       abbrev En : Env 𝓤 H
       En = (turnTy, l₀) ∷ (deskTy, l₁) ∷ (scaledTy, l₂) ∷ (word, l₃) ∷ (word, l₄) ∷ (lent 0 single, l₅) ∷ (lent 1 double, l₆) ∷ (rowTy, l₇) ∷ (lent 3 single, l₈) ∷ (lentMut 4, l₉) ∷ (lentMut 5, l₁₀) ∷ (deskTy, l₁₁) ∷ (playedTy, l₁₂) ∷ (tyBool, l₁₃) ∷ (deskTy, l₁₄) ∷ (cellTy, l₁₅) ∷ (partTy, l₁₆) ∷ (cellTy, l₁₇) ∷ (partTy, l₁₈) ∷ (tyUnit, l₁₉) ∷ (deskRef, l₂₀) ∷ (deskTy, l₂₁) ∷ []
-
-      -- a local that holds nothing, and one that holds a value
-      abbrev room : Ty → ℕ → List (Item 𝓤) → List (Item 𝓤)
-      room τ l Γ = ‵ (froom τ l 0) ∷ ‵ (fdies τ l) ∷ Γ
-
-      abbrev full : Ty → ℕ → Val → List (Item 𝓤) → List (Item 𝓤)
-      full τ l v Γ = ‵ (fat fullShare τ l 0 v) ∷ ‵ (fdies τ l) ∷ Γ
 
       -- what stands between the parts of the walk: the parameters as they were passed, the desk's record, what has been played, the other locals empty, and behind them what is held. Local _i is
       -- entry 2i, and its right to die entry 2i + 1
