@@ -31,7 +31,7 @@ use Rattle.script.specs.declared.Rendered.{Rendered}
 use Rattle.cues.specs.Cues.{framesOf, refusedOf, rises, voiceAt}
 use Rattle.script.specs.Rendering.{Stretch, runsPast, mostCues, checksOf, refusalOf, spoken, rendered, samplesOf, playedOf}
 use Rattle.script.specs.Promise.{answerOf, block, AllPromised, Renders}
-use Rattle.cues.specs.Computed.{Judges}
+use Rattle.cues.specs.Promise.{judgementOf}
 use Rattle.script.specs.Steps.{refusalBy, answerBy}
 
 -- ---- the tests
@@ -121,7 +121,7 @@ played-is s cues input = ap (λ (f : ℕ). rendered cues (s .order) f (samplesOf
     from-first = omega arith
 
 -- ---- the whole
-module _ (s : Stretch) (cues : List Cue) (input out : List Float) (j : Judgement) (J : Judges cues j) (answer : Rendered) (e : answer ≡ answerBy s j (length input) (length out)) where
+module _ (s : Stretch) (cues : List Cue) (input out : List Float) (j : Judgement) (J : j ≡ judgementOf cues) (answer : Rendered) (e : answer ≡ answerBy s j (length input) (length out)) where
   abbrev number : ℕ
   number = refusalOf s cues (length input) (length out)
 
@@ -130,10 +130,10 @@ module _ (s : Stretch) (cues : List Cue) (input out : List Float) (j : Judgement
   not-not false = refl
 
   number-is : refusalBy s j (length input) (length out) ≡ number
-  number-is = λ i. firstOf (checksOf s (refused i) (J .rising i) (J .seen i) (length input) (length out))
+  number-is = λ i. firstOf (checksOf s (refused i) (J i .rising) (J i .seen) (length input) (length out))
     where
       refused : not (j .sound) ≡ any (refusedOf cues)
-      refused = ap not (J .sound) ∙ not-not (any (refusedOf cues))
+      refused = ap (λ (r : Judgement). not (r .sound)) J ∙ not-not (any (refusedOf cues))
 
   answer-is : answer ≡ answered number (answerOf 0 (s .frames)) (λ n. answerOf n 0)
   answer-is = e ∙ ap (λ (n : ℕ). answered n (answerOf 0 (s .frames)) (λ m. answerOf m 0)) number-is

@@ -27,7 +27,7 @@ use Rattle.script.specs.declared.Rendered.{Rendered}
 use Rattle.cues.specs.Cues.{Voice, nobody, speaking, framesOf as numbersOf, refusedOf, rises, orLater, voiceAt}
 use Rattle.script.specs.Rendering.{Stretch, runsPast, mostCues, checksOf, refusalOf, spoken, playedOf}
 use Rattle.script.specs.Promise.{answerOf, Block, block, Renders}
-use Rattle.script.proofs.Halving.{none-left}
+use Rattle.cues.proofs.Halving.{none-left}
 use Rattle.script.proofs.Answers.{frameOf, played-is}
 
 -- a voice speaks to every plane of the order

@@ -19,7 +19,7 @@ use Rattle.cues.specs.declared.Judgement.{Judgement}
 use Rattle.script.specs.declared.Rendered.{Rendered}
 use Rattle.cues.specs.Cues.{Voice, nobody, speaking, framesOf, refusedOf, rises, orLater, voiceAt}
 use Rattle.script.specs.Rendering.{Stretch, refusalOf, spoken}
-use Rattle.cues.specs.Computed.{voiceOf, Judges, Holds}
+use Rattle.cues.specs.Promise.{judgementOf, voiceOf, Holds, Finds}
 use Rattle.script.specs.Steps.{Speakable, Spoken, answerBy}
 use Rattle.script.proofs.Answers.{frameOf, accepted-by, all-frames, good-order, none-refused, ends-in-time, cues-rise}
 
@@ -40,7 +40,7 @@ voice-good (c ∷ cs) f h = later (voiceAt cs f) (voice-good cs f (off .1)) (leb
     later nobody g false = tt
     later (speaking d) g t = g
 
-module _ (s : Stretch) (cues : List Cue) (input out : List Float) (j : Judgement) (J : Judges cues j) (answer : Rendered) (e : answer ≡ answerBy s j (length input) (length out)) (n : ℕ) (less : n < answer .samples) where
+module _ (s : Stretch) (cues : List Cue) (input out : List Float) (j : Judgement) (J : j ≡ judgementOf cues) (answer : Rendered) (e : answer ≡ answerBy s j (length input) (length out)) (n : ℕ) (less : n < answer .samples) where
   accepted : refusalOf s cues (length input) (length out) ≡ 0
   accepted = accepted-by s cues input out j J answer e n less
 
@@ -48,10 +48,13 @@ module _ (s : Stretch) (cues : List Cue) (input out : List Float) (j : Judgement
   pub frame-fits : s .first + n < 2 ^ 64
   frame-fits = let a = ends-in-time s cues input out j J answer e accepted in let b = all-frames s cues input out j J answer e accepted in omega (arith, a, b, less)
 
-  pub rising : rises (framesOf cues) ≡ true
+  rising : rises (framesOf cues) ≡ true
   rising = cues-rise s cues input out j J answer e accepted
 
-  module _ (f : ℕ) (h : Held) (H : Holds cues f h) where
+  module _ (f : ℕ) (h : Held) (F : Finds cues f h) where
+    H : Holds cues f h
+    H = F .holds rising
+
     pub asked : (n ≤ answer .samples) × Speakable (s .order) h
     asked = (
       omega (arith, less),

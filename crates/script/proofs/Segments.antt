@@ -28,7 +28,7 @@ use Rattle.planes.proofs.Framing.{Parting}
 use Rattle.cues.specs.declared.Held.{Held}
 use Rattle.cues.specs.Cues.{Voice, nobody, speaking}
 use Rattle.script.specs.Rendering.{silentPart, spoken}
-use Rattle.cues.specs.Computed.{voiceOf}
+use Rattle.cues.specs.Promise.{voiceOf}
 use Rattle.script.specs.Steps.{Speakable, Spoken}
 
 -- ---- a segment is what its voice speaks

@@ -1,28 +1,22 @@
-// A drill script (document 02, E1): a lent list of cues, each a frame number and a direction. The voice at a
-// frame is at the direction of the last cue not after it; before the first cue every output is 0.0.
-// `render` plays one input plane to the planes of an ambisonic order, at the directions that the cues give.
+// Renders a drill script: plays one voice at the directions that a lent list of cues gives (document 02, E1).
+//
+// The voice at a frame is at the direction of the last cue not after it; before the first cue every output is
+// 0.0, whatever the sample. `render` plays one input plane to the planes of an ambisonic order. What is
+// played at a direction is what `panner` plays there, by its own words.
 //
 // It takes any input; its promise (specs/Promise.antt) is one equation for the refusal, the sample count and
-// the output planes. What is played at a direction is what `panner` plays there, by its own words. The frames
-// are gone through a segment at a time: the cue that holds is found by halving on the lent list itself, and
-// its gains are computed once.
+// the output planes. The frames are gone through a segment at a time: `cues` finds the cue that holds and how
+// long it does, and its gains are computed once.
 //
-// `cue_at` alone reads the list. It, `judged`, `holding` and `render` hold a list of structs, and each is
-// proved by a walk; what they compute is in the functions that they call.
-//
-// Under it lie `panner` (gains and products), `harmonics` (the test of a direction), `planes` (samples with a
-// stride, the answer to a block), `checks` (the tests of lengths), `channel` (orders), `formats`, `lists` and
-// `refusals`. `numbers`, `series` and `angles` are named by the worked drill (proofs/Worked.antt) alone.
+// `render` holds a list of structs and is proved by a walk of its code; what it computes is in the functions
+// that it calls.
 ghost use mathlib.Core.Path.{_≡_};
-ghost use mathlib.Core.Bool.{true};
 ghost use Prim.Native.Nat.{_+_, _^_, _≤_, _<_, min};
 ghost use lib.Dec.{ltb};
-ghost use lib.ListN.{length, getD};
 ghost use Rattle.planes.specs.Planes.{withFrame, withFrames};
-ghost use Rattle.script.specs.Cues.{framesOf, rises};
 ghost use Rattle.script.specs.Rendering.{silent, silentPart};
 ghost use Rattle.script.specs.Promise.{Renders};
-ghost use Rattle.script.specs.Steps.{nowhere, risesOn, soundOn, judgedOn, Judges, wholeOf, halvedOf, leftOf, heldOf, Holds, Speakable, Spoken, refusalBy, answerBy};
+ghost use Rattle.script.specs.Steps.{Speakable, Spoken, refusalBy, answerBy};
 
 // The refusal, and how many frames were played.
 pub struct Rendered {
@@ -77,7 +71,7 @@ fn speak(
     from: usize,
     frames: usize,
     order: usize,
-    held: Held,
+    held: cues::Held,
     input: &[f32],
 ) -> usize
     requires { ⌜ (from ≤ frames) × Speakable order held ⌝ }
@@ -110,7 +104,7 @@ fn runs_past(first: u64, frames: usize) -> bool
 
 fn refusal_of(
     order: usize,
-    judged: Judgement,
+    judged: cues::Judgement,
     first: u64,
     frames: usize,
     stride: usize,
@@ -147,7 +141,7 @@ fn refusal_of(
 // The answer, known before anything is played.
 fn answer_of(
     order: usize,
-    judged: Judgement,
+    judged: cues::Judgement,
     first: u64,
     frames: usize,
     stride: usize,
@@ -171,7 +165,7 @@ fn answer_of(
 
 // Plays a stretch of one input plane, from the frame `first` on, at the directions of the cues, or refuses it.
 pub fn render(
-    cues: &[Cue],
+    cues: &[cues::Cue],
     order: usize,
     first: u64,
     frames: usize,
@@ -181,11 +175,11 @@ pub fn render(
 ) -> Rendered
     ensures { λ r. ⌜ Renders (record { order = order; first = first; frames = frames; stride = stride }) (now (cues .entry)) (now (input .entry)) (now (out .entry)) r (now (out .exit)) ⌝ }
 {
-    let found = judged(cues);
+    let found = cues::judged(cues);
     let answer = answer_of(order, found, first, frames, stride, input.len(), out.len());
     let mut done = 0;
     while done < answer.samples {
-        let held = holding(cues, frame_of(first, done));
+        let held = cues::holding(cues, frame_of(first, done));
         done = speak(&mut *out, stride, done, answer.samples, order, held, input);
     }
     answer

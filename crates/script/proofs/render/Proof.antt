@@ -51,10 +51,9 @@ use denote.Triple.Clauses.{ensured, Lasts, lasts}
 use denote.Exit.{yes}
 use Rattle.planes.specs.Planes.{withFrames}
 use Rattle.planes.proofs.Framing.{Parting, parting-none}
-use Rattle.cues.specs.Cues.{framesOf, rises}
 use Rattle.script.specs.Rendering.{Stretch}
 use Rattle.script.specs.Promise.{Renders}
-use Rattle.cues.specs.Computed.{Judges, Holds}
+use Rattle.cues.specs.Promise.{judgementOf, Finds}
 use Rattle.script.specs.Steps.{Speakable, Spoken, answerBy}
 use Rattle.cues.specs.declared.Cue.{Cue}
 use Rattle.cues.specs.declared.Judgement.{Judgement}
@@ -70,7 +69,7 @@ use Rattle.script.proofs.Rendered.Laws as R′
 use Rattle.walks.proofs.Relent.{Hold, refers, loan, mine, lends-one, takes-one}
 use Rattle.walks.proofs.Walking.{places, pairs-back, behind, room, full, local, tests}
 use Rattle.script.proofs.Answers.{frameOf, answers}
-use Rattle.script.proofs.Playing.{frame-fits, rising, asked, turned, nearer}
+use Rattle.script.proofs.Playing.{frame-fits, asked, turned, nearer}
 use Rattle.cues.proofs.judged as judged
 use Rattle.cues.proofs.judged.Symbol as judged-def
 use Rattle.cues.proofs.judged.Symbol.{name as #cues·judged}
@@ -153,8 +152,8 @@ module _ {M : Type 1} (𝓤 : URA M) (H : Heap 𝓤) (A : Atoms 𝓤) (at-mem : 
   abbrev Speak : Contract 𝓤
   Speak = tripleOf 𝓤 H A speak.signature (speak.spec 𝓤 H A at-mem run)
 
-  judged-said : (κ : Lft) (x : RefT (List Cue)) (j : Judgement) → ent 𝓤 (ensured 𝓤 H A judged.ended (judged.clauses 𝓤 H A at-mem run) (κ, tt) (x, tt) tt j) (fact 𝓤 (Judges (now x) j))
-  judged-said κ x j = exE 𝓤 _ (λ ws. snd∗ 𝓤 (sem 𝓤 H A (lasts judged.ended (κ, tt) (x, tt) ws)) (fact 𝓤 (Judges (now x) j)))
+  judged-said : (κ : Lft) (x : RefT (List Cue)) (j : Judgement) → ent 𝓤 (ensured 𝓤 H A judged.ended (judged.clauses 𝓤 H A at-mem run) (κ, tt) (x, tt) tt j) (fact 𝓤 (j ≡ judgementOf (now x)))
+  judged-said κ x j = exE 𝓤 _ (λ ws. snd∗ 𝓤 (sem 𝓤 H A (lasts judged.ended (κ, tt) (x, tt) ws)) (fact 𝓤 (j ≡ judgementOf (now x))))
 
   answer-said : (order : ℕ) (j : Judgement) (first₀ frames stride i o : ℕ) (r : Rendered) → ent 𝓤 (ensured 𝓤 H A answer-of.ended (answer-of.clauses 𝓤 H A at-mem run) tt (order, (j, (first₀, (frames, (stride, (i, (o, tt))))))) tt r)
       (fact 𝓤 (r ≡ answerBy (record { order = order; first = first₀; frames = frames; stride = stride }) j i o))
@@ -163,8 +162,8 @@ module _ {M : Type 1} (𝓤 : URA M) (H : Heap 𝓤) (A : Atoms 𝓤) (at-mem : 
   frame-said : (first₀ k r : ℕ) → ent 𝓤 (ensured 𝓤 H A frame-of.ended (frame-of.clauses 𝓤 H A at-mem run) tt (first₀, (k, tt)) tt r) (fact 𝓤 (r ≡ first₀ + k))
   frame-said first₀ k r = exE 𝓤 _ (λ ws. snd∗ 𝓤 (sem 𝓤 H A (lasts frame-of.ended tt (first₀, (k, tt)) ws)) (fact 𝓤 (r ≡ first₀ + k)))
 
-  holding-said : (κ : Lft) (x : RefT (List Cue)) (r : ℕ) (h : Held) → ent 𝓤 (ensured 𝓤 H A holding.ended (holding.clauses 𝓤 H A at-mem run) (κ, tt) (x, (r, tt)) tt h) (fact 𝓤 (Holds (now x) r h))
-  holding-said κ x r h = exE 𝓤 _ (λ ws. snd∗ 𝓤 (sem 𝓤 H A (lasts holding.ended (κ, tt) (x, (r, tt)) ws)) (fact 𝓤 (Holds (now x) r h)))
+  holding-said : (κ : Lft) (x : RefT (List Cue)) (r : ℕ) (h : Held) → ent 𝓤 (ensured 𝓤 H A holding.ended (holding.clauses 𝓤 H A at-mem run) (κ, tt) (x, (r, tt)) tt h) (fact 𝓤 (Finds (now x) r h))
+  holding-said κ x r h = exE 𝓤 _ (λ ws. snd∗ 𝓤 (sem 𝓤 H A (lasts holding.ended (κ, tt) (x, (r, tt)) ws)) (fact 𝓤 (Finds (now x) r h)))
 
 module _ {M : Type 1} (𝓤 : URA M) (H : Heap 𝓤) (A : Atoms 𝓤) (W : Given 𝓤 H A) (at-mem : Memory → SProp 𝓤) (run : Routine → Fun 𝓤)
     (κ₀ κ₁ κ₂ : Lft) (q₀ q₁ q₂ : Share) (bounds : AllOutlive 3 (f.signature .outlives) (κ₀, (κ₁, (κ₂, tt))))
@@ -250,10 +249,9 @@ module _ {M : Type 1} (𝓤 : URA M) (H : Heap 𝓤) (A : Atoms 𝓤) (W : Given
   abbrev to-holding : ℕ → Val → Holding 𝓤 H A at-mem run .Ghost
   to-holding r u = (((κ₀, tt), (q₀, tt), tt, (cues, (r, tt)), (cues-val ∷ [], (u ∷ [], tt))), tt)
 
-  goes-holding : (r : ℕ) (u : Val) → rises (framesOf (cues .now)) ≡ true → ent 𝓤 (⋆ 𝓤 H A (‵ Own-cues ∷ ‵ (u64 .own r (u ∷ [])) ∷ ‵ (flft κ₀ q₀) ∷ [])) (Holding 𝓤 H A at-mem run .pre (to-holding r u))
-  goes-holding r u up =
-      qed W (‵ Own-cues ∷ ‵ (u64 .own r (u ∷ [])) ∷ ‵ (flft κ₀ q₀) ∷ []) ∵ says ! up $ nothing ! $ move ! (3 ∷ 0 ∷ []) $ join ! $ frame ! $
-      nothing ! $ move ! (2 ∷ 0 ∷ []) $ fjoin ! $ move ! (1 ∷ 0 ∷ []) $ fjoin ! $ done !
+  goes-holding : (r : ℕ) (u : Val) → ent 𝓤 (⋆ 𝓤 H A (‵ Own-cues ∷ ‵ (u64 .own r (u ∷ [])) ∷ ‵ (flft κ₀ q₀) ∷ [])) (Holding 𝓤 H A at-mem run .pre (to-holding r u))
+  goes-holding r u =
+      qed W (‵ Own-cues ∷ ‵ (u64 .own r (u ∷ [])) ∷ ‵ (flft κ₀ q₀) ∷ []) ∵ nothing ! $ move ! (2 ∷ 0 ∷ []) $ fjoin ! $ move ! (1 ∷ 0 ∷ []) $ fjoin ! $ nothing ! $ move ! (2 ∷ 0 ∷ []) $ join ! $ join ! $ frame ! $ done !
 
   -- ---- the call of `speak`: for the lifetime ν the output planes are lent under the name δ; n frames are played, of m, and h, which has the machine value u, holds
   abbrev lfts : ℕ → Lfts 2
@@ -297,7 +295,7 @@ module _ {M : Type 1} (𝓤 : URA M) (H : Heap 𝓤) (A : Atoms 𝓤) (W : Given
     fm = fmOf 𝓤 H (W .laws) 𝓣
 
     -- the answer is known
-    module _ (j : Judgement) (judges : Judges (cues .now) j) (answer : Rendered) (is-answer : Is R.the-row answer (LL.vals R.the-type R′.the-laws answer)) (answer-is : answer ≡ answerBy stretch j (length (input .now)) (length (out₀ .now))) where
+    module _ (j : Judgement) (judges : j ≡ judgementOf (cues .now)) (answer : Rendered) (is-answer : Is R.the-row answer (LL.vals R.the-type R′.the-laws answer)) (answer-is : answer ≡ answerBy stretch j (length (input .now)) (length (out₀ .now))) where
       -- ---- what stands at the loop's test, and what is known of it
       record Now : Type 0 where
         at : ℕ
@@ -349,10 +347,10 @@ module _ {M : Type 1} (𝓤 : URA M) (H : Heap 𝓤) (A : Atoms 𝓤) (W : Given
             peeks ! u64 (Is u64) (shows 𝓤 H A u64) r (u ∷ []) (λ is₁. land ! (from ! (stop !)) (init ! 31 refl (uint-lawful 𝓤 H A W w64 .typed r _ is₁ .0)) $
             -- _11 = holding(_1, _15): [what holding asks; cues; _0 to _17; κ₁; input; κ₂; out]
             move ! (38 ∷ []) $ use1 W (‵ Own-cues ⊛ ‵ Own-cues) (shr-slice-copy 𝓤 H A W (named 0) κ₀ T.the-row .twice cues (cues-val ∷ [])) $ split ! $ move ! (0 ∷ 2 ∷ 39 ∷ []) $
-            use3 W (raw (Holding 𝓤 H A at-mem run .pre (to-holding r u))) (goes-holding r u (rising stretch (cues .now) (input .now) (out₀ .now) j judges answer answer-is n less)) $
+            use3 W (raw (Holding 𝓤 H A at-mem run .pre (to-holding r u))) (goes-holding r u) $
             calls-at ! fm (Holding 𝓤 H A at-mem run) known-holding (to-holding r u) (and-then ! (local ! 4 refl) (and-then ! (local ! 32 refl) (no-more !))) (λ u₂.
             use1 W (later (some (λ (h : Held). ((‵ (flft κ₀ q₀) ⊛ ‵ ftrue) ⊛ ‵ (F.the-row .own h (u₂ ∷ []))) ⊛ raw (ensured 𝓤 H A holding.ended (holding.clauses 𝓤 H A at-mem run) (κ₀, tt) (cues, (r, tt)) tt h)))) (id⊢ 𝓤 _) $ await ! tt $ pick ! (λ h.
-            split ! $ move ! (1 ∷ []) $ use1 W (raw (fact 𝓤 (Holds (cues .now) r h))) (holding-said 𝓤 H A at-mem run κ₀ cues r h) $ heard ! (Holds (cues .now) r h) (λ e₂. split ! $ split ! $ move ! (1 ∷ []) $ drop ! $ move ! (1 ∷ []) $
+            split ! $ move ! (1 ∷ []) $ use1 W (raw (fact 𝓤 (Finds (cues .now) r h))) (holding-said 𝓤 H A at-mem run κ₀ cues r h) $ heard ! (Finds (cues .now) r h) (λ e₂. split ! $ split ! $ move ! (1 ∷ []) $ drop ! $ move ! (1 ∷ []) $
             -- _16 = &mut *_7.0; _17 = { _16, _7.1 }: [what h owns; κ₀; cues; _0 to _17; κ₁; input; κ₂; out]
             peeks ! F.the-row (Is F.the-row) (shows 𝓤 H A F.the-row) h (u₂ ∷ []) (λ is₂. land ! (from ! (stop !)) (init ! 25 refl (LL.lawful F.the-type F′.the-laws 𝓤 H A W .typed h _ is₂ .0)) $
             assigns ! (addr ! (from ! (fld ! refl (hop ! (look-in ! 17 (sub ! 0 refl (whole !))) (stop !))))) (from ! (stop !)) (init ! 35 refl (tt, tt)) $
@@ -410,7 +408,7 @@ module _ {M : Type 1} (𝓤 : URA M) (H : Heap 𝓤) (A : Atoms 𝓤) (W : Given
         use2 W (raw (Judged 𝓤 H A at-mem run .pre to-judged)) goes-judged $
         calls-at ! fm (Judged 𝓤 H A at-mem run) known-judged to-judged (and-then ! (local ! 4 refl) (no-more !)) (λ u.
         use1 W (later (some (λ (j : Judgement). ((‵ (flft κ₀ q₀) ⊛ ‵ ftrue) ⊛ ‵ (J.the-row .own j (u ∷ []))) ⊛ raw (ensured 𝓤 H A judged.ended (judged.clauses 𝓤 H A at-mem run) (κ₀, tt) (cues, tt) tt j)))) (id⊢ 𝓤 _) $ await ! tt $ pick ! (λ j.
-        split ! $ move ! (1 ∷ []) $ use1 W (raw (fact 𝓤 (Judges (cues .now) j))) (judged-said 𝓤 H A at-mem run κ₀ cues j) $ heard ! (Judges (cues .now) j) (λ e₁. split ! $ split ! $ move ! (1 ∷ []) $ drop ! $ move ! (1 ∷ []) $
+        split ! $ move ! (1 ∷ []) $ use1 W (raw (fact 𝓤 (j ≡ judgementOf (cues .now)))) (judged-said 𝓤 H A at-mem run κ₀ cues j) $ heard ! (j ≡ judgementOf (cues .now)) (λ e₁. split ! $ split ! $ move ! (1 ∷ []) $ drop ! $ move ! (1 ∷ []) $
         -- _12 = _6.1; _13 = _7.1; _9 = answer_of(_2, _8, _3, _4, _5, _12, _13): [what j owns; κ₀; cues; _0 to _17; κ₁; input; κ₂; out]
         peeks ! J.the-row (Is J.the-row) (shows 𝓤 H A J.the-row) j (u ∷ []) (λ is₁. land ! (from ! (stop !)) (init ! 19 refl (LL.lawful J.the-type J′.the-laws 𝓤 H A W .typed j _ is₁ .0)) $
         assigns ! (of-opd ! (load ! (from ! (fld ! refl (stop !))) (look-in ! 15 (sub ! 1 refl (whole !))))) (from ! (stop !)) (init ! 27 refl (tt, record { fits = input-room .0 })) $
