@@ -57,6 +57,7 @@ use Rattle.cues.proofs.Held.Laws as F′
 use Rattle.cues.proofs.Halving.{Halving, halving-whole, mid-least, mid-below, mid-within, halving-more, halving-all}
 use Rattle.walks.proofs.Walking.{places, pairs-back, room, full, local, tests}
 use Rattle.cues.proofs.cue_at as cue-at
+use Rattle.cues.proofs.Reading.{CueAt, cue-said, v, Own, to-cue, goes-cue}
 use Rattle.cues.proofs.cue_at.Symbol as cue-at-def
 use Rattle.cues.proofs.cue_at.Symbol.{name as #cues·cue-at}
 use Rattle.cues.proofs.cue_at.Met as cue-at-thm
@@ -108,9 +109,6 @@ search-is s u is = subst (Is S.the-row s) (LL.tells S.the-type S′.the-laws s (
 
 module _ {M : Type 1} (𝓤 : URA M) (H : Heap 𝓤) (A : Atoms 𝓤) (at-mem : Memory → SProp 𝓤) (run : Routine → Fun 𝓤) where
   -- the contracts that the proof cites, and of what each ensures the clause alone
-  abbrev CueAt : Contract 𝓤
-  CueAt = tripleOf 𝓤 H A cue-at.signature (cue-at.spec 𝓤 H A at-mem run)
-
   abbrev WholeOf : Contract 𝓤
   WholeOf = tripleOf 𝓤 H A whole-of.signature (whole-of.spec 𝓤 H A at-mem run)
 
@@ -119,9 +117,6 @@ module _ {M : Type 1} (𝓤 : URA M) (H : Heap 𝓤) (A : Atoms 𝓤) (at-mem : 
 
   abbrev HeldOf : Contract 𝓤
   HeldOf = tripleOf 𝓤 H A held-of.signature (held-of.spec 𝓤 H A at-mem run)
-
-  cue-said : (κ : Lft) (x : RefT (List Cue)) (i : ℕ) (r : Cue) → ent 𝓤 (ensured 𝓤 H A cue-at.ended (cue-at.clauses 𝓤 H A at-mem run) (κ, tt) (x, (i, tt)) tt r) (fact 𝓤 (r ≡ getD (now x) i nowhere))
-  cue-said κ x i r = exE 𝓤 _ (λ ws. snd∗ 𝓤 (sem 𝓤 H A (lasts cue-at.ended (κ, tt) (x, (i, tt)) ws)) (fact 𝓤 (r ≡ getD (now x) i nowhere)))
 
   whole-said : (m : ℕ) (s : Search) → ent 𝓤 (ensured 𝓤 H A whole-of.ended (whole-of.clauses 𝓤 H A at-mem run) tt (m, tt) tt s) (fact 𝓤 (s ≡ wholeOf m))
   whole-said m s = exE 𝓤 _ (λ ws. snd∗ 𝓤 (sem 𝓤 H A (lasts whole-of.ended tt (m, tt) ws)) (fact 𝓤 (s ≡ wholeOf m)))
@@ -136,10 +131,6 @@ module _ {M : Type 1} (𝓤 : URA M) (H : Heap 𝓤) (A : Atoms 𝓤) (W : Given
   abbrev n : ℕ
   n = length (x .now)
 
-  -- the machine value that the slice has
-  abbrev v : Val
-  v = sliceVal (x .ptr) n
-
   abbrev Arg : Type 0
   Arg = RefT (List Cue) × (ℕ × Unit {0})
 
@@ -147,27 +138,16 @@ module _ {M : Type 1} (𝓤 : URA M) (H : Heap 𝓤) (A : Atoms 𝓤) (W : Given
   a = (x, (fr, tt))
 
   abbrev at : Vals f.signature (κ, tt)
-  at = (v ∷ [], (vint w64 fr ∷ [], tt))
-
-  abbrev Own : Fml
-  Own = ShrSlice (named 0) κ T.the-row .own x (v ∷ [])
+  at = (v κ x ∷ [], (vint w64 fr ∷ [], tt))
 
   abbrev Post : Val → SProp 𝓤
   Post = walkOf 𝓤 H A f.ended stayed (f.clauses 𝓤 H A at-mem run) .post (((κ, tt), (q, tt), tt, a, at), tt)
 
-  exits : (h : Held) (u : Val) → Finds (x .now) fr h → ent 𝓤 (⋆ 𝓤 H A (‵ (F.the-row .own h (u ∷ [])) ∷ (‵ (flft κ q) ⊛ ‵ ftrue) ∷ ‵ Own ∷ [])) (Post u)
+  exits : (h : Held) (u : Val) → Finds (x .now) fr h → ent 𝓤 (⋆ 𝓤 H A (‵ (F.the-row .own h (u ∷ [])) ∷ (‵ (flft κ q) ⊛ ‵ ftrue) ∷ ‵ (Own κ x) ∷ [])) (Post u)
   exits h u e =
-      qed W (‵ (F.the-row .own h (u ∷ [])) ∷ (‵ (flft κ q) ⊛ ‵ ftrue) ∷ ‵ Own ∷ []) ∵
+      qed W (‵ (F.the-row .own h (u ∷ [])) ∷ (‵ (flft κ q) ⊛ ‵ ftrue) ∷ ‵ (Own κ x) ∷ []) ∵
       suffices ! _ (ends-at 𝓤 H A f.ended stayed (f.clauses 𝓤 H A at-mem run) W (((κ, tt), (q, tt), tt, a, at), tt) u h (tt, (tt, tt)) (tt, (tt, tt))) $ says ! e $ move ! (1 ∷ []) $
       frame ! $ nothing ! $ owned ! u64 (Is u64) (uint-makes 𝓤 H A W w64) fr _ (refl, gf) $ fjoin ! $ move ! (2 ∷ 0 ∷ []) $ fjoin ! $ frame ! $ done !
-
-  -- the call of `cue_at`, at the index i
-  abbrev to-cue : ℕ → CueAt 𝓤 H A at-mem run .Ghost
-  to-cue i = (((κ, tt), (q, tt), tt, (x, (i, tt)), (v ∷ [], (vint w64 i ∷ [], tt))), tt)
-
-  goes-cue : (i : ℕ) → i < 2 ^ 64 → i < n → ent 𝓤 (⋆ 𝓤 H A (‵ Own ∷ (‵ (flft κ q) ⊛ ‵ ftrue) ∷ [])) (CueAt 𝓤 H A at-mem run .pre (to-cue i))
-  goes-cue i gi l =
-      qed W (‵ Own ∷ (‵ (flft κ q) ⊛ ‵ ftrue) ∷ []) ∵ says ! l $ move ! (1 ∷ []) $ frame ! $ nothing ! $ owned ! usize (Is usize) (uint-makes 𝓤 H A W w64) i _ (refl, gi) $ fjoin ! $ move ! (1 ∷ 0 ∷ []) $ fjoin ! $ done !
 
   -- the call of `whole_of`
   abbrev to-whole : WholeOf 𝓤 H A at-mem run .Ghost
@@ -223,7 +203,7 @@ module _ {M : Type 1} (𝓤 : URA M) (H : Heap 𝓤) (A : Atoms 𝓤) (W : Given
 
       -- local _i is entry 2i; then the token, and what the slice owns
       abbrev At : Now → List (Item 𝓤)
-      At s = room heldTy l₀ (full slice l₁ v (full word l₂ (vint w64 fr) (full searchTy l₃ (val (s .search)) (room word l₄ (room tyBool l₅ (room cueTy l₆ ((‵ (flft κ q) ⊛ ‵ ftrue) ∷ ‵ Own ∷ [])))))))
+      At s = room heldTy l₀ (full slice l₁ (v κ x) (full word l₂ (vint w64 fr) (full searchTy l₃ (val (s .search)) (room word l₄ (room tyBool l₅ (room cueTy l₆ ((‵ (flft κ q) ⊛ ‵ ftrue) ∷ ‵ (Own κ x) ∷ [])))))))
 
       -- a turn's postcondition: it ends with a shorter part, or the loop is left and the rest of the body runs
       abbrev Turned : Now → Out → SProp 𝓤
@@ -236,10 +216,10 @@ module _ {M : Type 1} (𝓤 : URA M) (H : Heap 𝓤) (A : Atoms 𝓤) (W : Given
           assigns ! (bin ! (load ! (from ! (fld ! refl (stop !))) (look-in ! 6 (sub ! 0 refl (whole !)))) (load ! (from ! (fld ! refl (stop !))) (look-in ! 6 (sub ! 2 refl (whole !)))) tt) (from ! (stop !)) (init ! 10 refl (tt, tt)) $
           tests ! (local ! 10 refl)
           (λ less. forget ! 10 refl $
-          move ! (15 ∷ []) $ use1 W (‵ Own ⊛ ‵ Own) (shr-slice-copy 𝓤 H A W (named 0) κ T.the-row .twice x (v ∷ [])) $ split ! $ move ! (0 ∷ 16 ∷ []) $
-          use2 W (raw (CueAt 𝓤 H A at-mem run .pre (to-cue i))) (goes-cue i mid-fits (mid-within (x .now) fr (s .search) (lt less) (s .halving))) $
+          move ! (15 ∷ []) $ use1 W (‵ (Own κ x) ⊛ ‵ (Own κ x)) (shr-slice-copy 𝓤 H A W (named 0) κ T.the-row .twice x (v κ x ∷ [])) $ split ! $ move ! (0 ∷ 16 ∷ []) $
+          use2 W (raw (CueAt 𝓤 H A at-mem run .pre (to-cue 𝓤 H A W at-mem run κ q x i))) (goes-cue 𝓤 H A W at-mem run κ q x i mid-fits (mid-within (x .now) fr (s .search) (lt less) (s .halving))) $
           -- _6 = cue_at(_1, _3.mid): [what cue_at asks; what the slice owns; _0 to _6]
-          calls-at ! fm (CueAt 𝓤 H A at-mem run) known-cue (to-cue i) (and-then ! (local ! 4 refl) (and-then ! (load ! (from ! (fld ! refl (stop !))) (look-in ! 8 (sub ! 1 refl (whole !)))) (no-more !))) (λ u.
+          calls-at ! fm (CueAt 𝓤 H A at-mem run) known-cue (to-cue 𝓤 H A W at-mem run κ q x i) (and-then ! (local ! 4 refl) (and-then ! (load ! (from ! (fld ! refl (stop !))) (look-in ! 8 (sub ! 1 refl (whole !)))) (no-more !))) (λ u.
           use1 W (later (some (λ (r : Cue). ((‵ (flft κ q) ⊛ ‵ ftrue) ⊛ ‵ (T.the-row .own r (u ∷ []))) ⊛ raw (ensured 𝓤 H A cue-at.ended (cue-at.clauses 𝓤 H A at-mem run) (κ, tt) (x, (i, tt)) tt r)))) (id⊢ 𝓤 _) $ await ! tt $ pick ! (λ r.
           split ! $ move ! (1 ∷ []) $ use1 W (raw (fact 𝓤 (r ≡ getD (x .now) i nowhere))) (cue-said 𝓤 H A at-mem run κ x i r) $ heard ! (r ≡ getD (x .now) i nowhere) (λ e. split ! $ move ! (1 ∷ []) $
           peeks ! T.the-row (Is T.the-row) (shows 𝓤 H A T.the-row) r (u ∷ []) (λ is.
@@ -285,9 +265,9 @@ module _ {M : Type 1} (𝓤 : URA M) (H : Heap 𝓤) (A : Atoms 𝓤) (W : Given
       searches : (s : Now) → ent 𝓤 (⋆ 𝓤 H A (At s)) (Wp 𝓤 H C Λ En body.t-3 (atReturn 𝓤 H En Post))
       searches s = qed W (At s) ∵ exec ! C Λ En body.t-3 (atRet En Post) $ first ! $ blocks ! $ loops ! 𝓣 Nearer Nearer-wf At turns s
 
-    walk : ent 𝓤 (onEntry 𝓤 H A f.signature (κ, tt) (q, tt) a at) (WpFn 𝓤 H C Λ code.function (v ∷ vint w64 fr ∷ []) Post)
+    walk : ent 𝓤 (onEntry 𝓤 H A f.signature (κ, tt) (q, tt) a at) (WpFn 𝓤 H C Λ code.function (v κ x ∷ vint w64 fr ∷ []) Post)
     walk =
-        qed W ((‵ (flft κ q) ⊛ ‵ ftrue) ∷ ‵ (owns (ShrSlice (named 0) κ T.the-row ∷ u64 ∷ []) a at) ∷ []) ∵ move ! (1 ∷ []) $ fsplit ! $ enter ! C Λ code.function (v ∷ vint w64 fr ∷ []) _ $
+        qed W ((‵ (flft κ q) ⊛ ‵ ftrue) ∷ ‵ (owns (ShrSlice (named 0) κ T.the-row ∷ u64 ∷ []) a at) ∷ []) ∵ move ! (1 ∷ []) $ fsplit ! $ enter ! C Λ code.function (v κ x ∷ vint w64 fr ∷ []) _ $
         alloc1 ! (λ l₀. alloc1 ! (λ l₁. alloc1 ! (λ l₂. alloc1 ! (λ l₃. alloc1 ! (λ l₄. alloc1 ! (λ l₅. alloc1 ! (λ l₆. alloc0 ! $ params1 ! $
         pass1 ! (init ! 10 refl (tt, (tt, (record { fits = gn .0 }, tt)))) $ pass1 ! (init ! 8 refl (tt, record { fits = gf })) $ pass0 ! $
         -- _4 = _1.1; _3 = whole_of(_4)

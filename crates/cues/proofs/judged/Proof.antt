@@ -54,6 +54,7 @@ use Rattle.cues.proofs.Judgement.Laws as S′
 use Rattle.cues.proofs.Judging.{start, Judging, judging-none, judging-more, judging-all}
 use Rattle.walks.proofs.Walking.{places, pairs-back, room, full, local, tests}
 use Rattle.cues.proofs.cue_at as cue-at
+use Rattle.cues.proofs.Reading.{CueAt, cue-said, v, Own, to-cue, goes-cue}
 use Rattle.cues.proofs.cue_at.Symbol as cue-at-def
 use Rattle.cues.proofs.cue_at.Symbol.{name as #cues·cue-at}
 use Rattle.cues.proofs.cue_at.Met as cue-at-thm
@@ -97,14 +98,8 @@ state-is s u is = subst (Is S.the-row s) (LL.tells S.the-type S′.the-laws s (u
 
 module _ {M : Type 1} (𝓤 : URA M) (H : Heap 𝓤) (A : Atoms 𝓤) (at-mem : Memory → SProp 𝓤) (run : Routine → Fun 𝓤) where
   -- the contracts that the proof cites, and of what each ensures the clause alone
-  abbrev CueAt : Contract 𝓤
-  CueAt = tripleOf 𝓤 H A cue-at.signature (cue-at.spec 𝓤 H A at-mem run)
-
   abbrev JudgedOn : Contract 𝓤
   JudgedOn = tripleOf 𝓤 H A judged-on.signature (judged-on.spec 𝓤 H A at-mem run)
-
-  cue-said : (κ : Lft) (x : RefT (List Cue)) (i : ℕ) (r : Cue) → ent 𝓤 (ensured 𝓤 H A cue-at.ended (cue-at.clauses 𝓤 H A at-mem run) (κ, tt) (x, (i, tt)) tt r) (fact 𝓤 (r ≡ getD (now x) i nowhere))
-  cue-said κ x i r = exE 𝓤 _ (λ ws. snd∗ 𝓤 (sem 𝓤 H A (lasts cue-at.ended (κ, tt) (x, (i, tt)) ws)) (fact 𝓤 (r ≡ getD (now x) i nowhere)))
 
   on-said : (s : Judgement) (r : Cue) (t : Judgement) → ent 𝓤 (ensured 𝓤 H A judged-on.ended (judged-on.clauses 𝓤 H A at-mem run) tt (s, (r, tt)) tt t) (fact 𝓤 (t ≡ judgedOn s r))
   on-said s r t = exE 𝓤 _ (λ ws. snd∗ 𝓤 (sem 𝓤 H A (lasts judged-on.ended tt (s, (r, tt)) ws)) (fact 𝓤 (t ≡ judgedOn s r)))
@@ -113,29 +108,14 @@ module _ {M : Type 1} (𝓤 : URA M) (H : Heap 𝓤) (A : Atoms 𝓤) (W : Given
   abbrev n : ℕ
   n = length (x .now)
 
-  -- the machine value that the slice has
-  abbrev v : Val
-  v = sliceVal (x .ptr) n
-
-  abbrev Own : Fml
-  Own = ShrSlice (named 0) κ T.the-row .own x (v ∷ [])
-
   abbrev Post : Val → SProp 𝓤
-  Post = walkOf 𝓤 H A f.ended stayed (f.clauses 𝓤 H A at-mem run) .post (((κ, tt), (q, tt), tt, (x, tt), (v ∷ [], tt)), tt)
+  Post = walkOf 𝓤 H A f.ended stayed (f.clauses 𝓤 H A at-mem run) .post (((κ, tt), (q, tt), tt, (x, tt), (v κ x ∷ [], tt)), tt)
 
-  exits : (s : Judgement) → Is S.the-row s (vals s) → s ≡ judgementOf (x .now) → ent 𝓤 (⋆ 𝓤 H A ((‵ (flft κ q) ⊛ ‵ ftrue) ∷ ‵ Own ∷ [])) (Post (val s))
+  exits : (s : Judgement) → Is S.the-row s (vals s) → s ≡ judgementOf (x .now) → ent 𝓤 (⋆ 𝓤 H A ((‵ (flft κ q) ⊛ ‵ ftrue) ∷ ‵ (Own κ x) ∷ [])) (Post (val s))
   exits s is e =
-      qed W ((‵ (flft κ q) ⊛ ‵ ftrue) ∷ ‵ Own ∷ []) ∵
-      suffices ! _ (ends-at 𝓤 H A f.ended stayed (f.clauses 𝓤 H A at-mem run) W (((κ, tt), (q, tt), tt, (x, tt), (v ∷ [], tt)), tt) (val s) s (tt, tt) (tt, tt)) $ says ! e $
+      qed W ((‵ (flft κ q) ⊛ ‵ ftrue) ∷ ‵ (Own κ x) ∷ []) ∵
+      suffices ! _ (ends-at 𝓤 H A f.ended stayed (f.clauses 𝓤 H A at-mem run) W (((κ, tt), (q, tt), tt, (x, tt), (v κ x ∷ [], tt)), tt) (val s) s (tt, tt) (tt, tt)) $ says ! e $
       frame ! $ nothing ! $ move ! (1 ∷ 0 ∷ []) $ fjoin ! $ frame ! $ owned ! S.the-row (Is S.the-row) (LL.makes S.the-type S′.the-plain 𝓤 H A) s _ is $ done !
-
-  -- the call of `cue_at`, at the index i
-  abbrev to-cue : ℕ → CueAt 𝓤 H A at-mem run .Ghost
-  to-cue i = (((κ, tt), (q, tt), tt, (x, (i, tt)), (v ∷ [], (vint w64 i ∷ [], tt))), tt)
-
-  goes-cue : (i : ℕ) → i < 2 ^ 64 → i < n → ent 𝓤 (⋆ 𝓤 H A (‵ Own ∷ (‵ (flft κ q) ⊛ ‵ ftrue) ∷ [])) (CueAt 𝓤 H A at-mem run .pre (to-cue i))
-  goes-cue i gi l =
-      qed W (‵ Own ∷ (‵ (flft κ q) ⊛ ‵ ftrue) ∷ []) ∵ says ! l $ move ! (1 ∷ []) $ frame ! $ nothing ! $ owned ! usize (Is usize) (uint-makes 𝓤 H A W w64) i _ (refl, gi) $ fjoin ! $ move ! (1 ∷ 0 ∷ []) $ fjoin ! $ done !
 
   -- the call of `judged_on`, at the state s and the cue r, which has the machine value u
   abbrev to-on : Judgement → Cue → Val → JudgedOn 𝓤 H A at-mem run .Ghost
@@ -174,7 +154,7 @@ module _ {M : Type 1} (𝓤 : URA M) (H : Heap 𝓤) (A : Atoms 𝓤) (W : Given
 
       -- local _i is entry 2i; then the token, and what the slice owns
       abbrev At : Now → List (Item 𝓤)
-      At s = room stateTy l₀ (full slice l₁ v (full stateTy l₂ (val (s .state)) (room word l₃ (room tyBool l₄ (room cueTy l₅ ((‵ (flft κ q) ⊛ ‵ ftrue) ∷ ‵ Own ∷ []))))))
+      At s = room stateTy l₀ (full slice l₁ (v κ x) (full stateTy l₂ (val (s .state)) (room word l₃ (room tyBool l₄ (room cueTy l₅ ((‵ (flft κ q) ⊛ ‵ ftrue) ∷ ‵ (Own κ x) ∷ []))))))
 
       -- a turn's postcondition: it ends nearer to the end, or the loop is left and the rest of the body runs
       abbrev Turned : Now → Out → SProp 𝓤
@@ -188,10 +168,10 @@ module _ {M : Type 1} (𝓤 : URA M) (H : Heap 𝓤) (A : Atoms 𝓤) (W : Given
           assigns ! (bin ! (load ! (from ! (fld ! refl (stop !))) (look-in ! 4 (sub ! 0 refl (whole !)))) (local ! 6 refl) tt) (from ! (stop !)) (init ! 8 refl (tt, tt)) $
           tests ! (local ! 8 refl)
           (λ less. forget ! 6 refl $ forget ! 8 refl $
-          move ! (13 ∷ []) $ use1 W (‵ Own ⊛ ‵ Own) (shr-slice-copy 𝓤 H A W (named 0) κ T.the-row .twice x (v ∷ [])) $ split ! $ move ! (0 ∷ 14 ∷ []) $
-          use2 W (raw (CueAt 𝓤 H A at-mem run .pre (to-cue i))) (goes-cue i (fits (lt less)) (lt less)) $
+          move ! (13 ∷ []) $ use1 W (‵ (Own κ x) ⊛ ‵ (Own κ x)) (shr-slice-copy 𝓤 H A W (named 0) κ T.the-row .twice x (v κ x ∷ [])) $ split ! $ move ! (0 ∷ 14 ∷ []) $
+          use2 W (raw (CueAt 𝓤 H A at-mem run .pre (to-cue 𝓤 H A W at-mem run κ q x i))) (goes-cue 𝓤 H A W at-mem run κ q x i (fits (lt less)) (lt less)) $
           -- _5 = cue_at(_1, _2.seen): [what cue_at asks; what the slice owns; _0 to _5]
-          calls-at ! fm (CueAt 𝓤 H A at-mem run) known-cue (to-cue i) (and-then ! (local ! 4 refl) (and-then ! (load ! (from ! (fld ! refl (stop !))) (look-in ! 6 (sub ! 0 refl (whole !)))) (no-more !))) (λ u.
+          calls-at ! fm (CueAt 𝓤 H A at-mem run) known-cue (to-cue 𝓤 H A W at-mem run κ q x i) (and-then ! (local ! 4 refl) (and-then ! (load ! (from ! (fld ! refl (stop !))) (look-in ! 6 (sub ! 0 refl (whole !)))) (no-more !))) (λ u.
           use1 W (later (some (λ (r : Cue). ((‵ (flft κ q) ⊛ ‵ ftrue) ⊛ ‵ (T.the-row .own r (u ∷ []))) ⊛ raw (ensured 𝓤 H A cue-at.ended (cue-at.clauses 𝓤 H A at-mem run) (κ, tt) (x, (i, tt)) tt r)))) (id⊢ 𝓤 _) $ await ! tt $ pick ! (λ r.
           split ! $ move ! (1 ∷ []) $ use1 W (raw (fact 𝓤 (r ≡ getD (x .now) i nowhere))) (cue-said 𝓤 H A at-mem run κ x i r) $ heard ! (r ≡ getD (x .now) i nowhere) (λ e. split ! $ move ! (1 ∷ []) $
           peeks ! T.the-row (Is T.the-row) (shows 𝓤 H A T.the-row) r (u ∷ []) (λ is.
@@ -234,9 +214,9 @@ module _ {M : Type 1} (𝓤 : URA M) (H : Heap 𝓤) (A : Atoms 𝓤) (W : Given
       judges : (s : Now) → ent 𝓤 (⋆ 𝓤 H A (At s)) (Wp 𝓤 H C Λ En body.t-2 (atReturn 𝓤 H En Post))
       judges s = qed W (At s) ∵ exec ! C Λ En body.t-2 (atRet En Post) $ first ! $ blocks ! $ loops ! 𝓣 Nearer Nearer-wf At turns s
 
-    walk : ent 𝓤 (onEntry 𝓤 H A f.signature (κ, tt) (q, tt) (x, tt) (v ∷ [], tt)) (WpFn 𝓤 H C Λ code.function (v ∷ []) Post)
+    walk : ent 𝓤 (onEntry 𝓤 H A f.signature (κ, tt) (q, tt) (x, tt) (v κ x ∷ [], tt)) (WpFn 𝓤 H C Λ code.function (v κ x ∷ []) Post)
     walk =
-        qed W ((‵ (flft κ q) ⊛ ‵ ftrue) ∷ ‵ (owns (ShrSlice (named 0) κ T.the-row ∷ []) (x, tt) (v ∷ [], tt)) ∷ []) ∵ move ! (1 ∷ []) $ fsplit ! $ enter ! C Λ code.function (v ∷ []) _ $
+        qed W ((‵ (flft κ q) ⊛ ‵ ftrue) ∷ ‵ (owns (ShrSlice (named 0) κ T.the-row ∷ []) (x, tt) (v κ x ∷ [], tt)) ∷ []) ∵ move ! (1 ∷ []) $ fsplit ! $ enter ! C Λ code.function (v κ x ∷ []) _ $
         alloc1 ! (λ l₀. alloc1 ! (λ l₁. alloc1 ! (λ l₂. alloc1 ! (λ l₃. alloc1 ! (λ l₄. alloc1 ! (λ l₅. alloc0 ! $ params1 ! $ pass1 ! (init ! 8 refl (tt, (tt, (record { fits = gn .0 }, tt)))) $ pass0 ! $
         assigns ! (agg ! (and-then ! (lit ! tt) (and-then ! (lit ! tt) (and-then ! (true-lit !) (and-then ! (true-lit !) (no-more !)))))) (from ! (stop !)) (init ! 6 refl (LL.lawful S.the-type S′.the-laws 𝓤 H A W .typed start _ start-is .0)) $
         -- [_5 to _0; what the slice owns; true; the token]
