@@ -2,6 +2,7 @@
 use mathlib.Core.Path.{_≡_, refl, sym, _∙_, ap, subst}
 use Prim.Native.Nat.{ℕ, zero, suc, _+_, _-_, _/_, _<_, _≤_}
 use native.Mathlib.Nat.{not-suc-le-zero, le-of-suc-le-suc}
+use native.Mathlib.Numerals.{add-one}
 use native.Mathlib.Omega.{arith}
 use mathlib.Core.Bool.{Bool, true, false, cond}
 use mathlib.Core.Logic.{⊎-elim}
@@ -89,6 +90,41 @@ halving-finds (c ∷ cs) f h = by-test (halving-finds cs f (tail-rises (c .frame
     by-test : voiceAt cs f ≡ lastOf cs (upTo (framesOf cs) f) → (t : Bool) → leb (c .frame) f ≡ t → orLater (cond (leb (c .frame) f) (speaking (c .direction)) nobody) (voiceAt cs f) ≡ lastOf (c ∷ cs) (cond (leb (c .frame) f) (suc (upTo (framesOf cs) f)) 0)
     by-test ih true e = subst (λ (t : Bool). orLater (cond t (speaking (c .direction)) nobody) (voiceAt cs f) ≡ lastOf (c ∷ cs) (cond t (suc (upTo (framesOf cs) f)) 0)) (sym e) (ap (orLater (speaking (c .direction))) ih ∙ later (upTo (framesOf cs) f))
     by-test ih false e = subst (λ (t : Bool). orLater (cond t (speaking (c .direction)) nobody) (voiceAt cs f) ≡ lastOf (c ∷ cs) (cond t (suc (upTo (framesOf cs) f)) 0)) (sym e) (ap (orLater nobody) (none-left (c .frame) cs f h (leb-false (c .frame) f e)))
+
+-- so between a cue and the next the voice is that cue's
+pub holds-between : (cs : List Cue) (f i : ℕ) → rises (framesOf cs) ≡ true → i < length cs → getD cs i nowhere .frame ≤ f → (i + 1 < length cs → f < getD cs (i + 1) nowhere .frame)
+    → voiceAt cs f ≡ speaking (getD cs i nowhere .direction)
+holds-between cs f i h l a b = halving-finds cs f h ∙ ap (lastOf cs) count
+  where
+    long : length (framesOf cs) ≡ length cs
+    long = frames-length cs
+
+    least-so : i < upTo (framesOf cs) f
+    least-so =
+        ⊎-elim (λ (p : i < upTo (framesOf cs) f). p)
+        (λ (p : upTo (framesOf cs) f ≤ i). absurd (past (above (framesOf cs) f i h p (omega (arith, l, long))) (frame-is cs i l)))
+        (split i (upTo (framesOf cs) f))
+      where
+        past : f < getD (framesOf cs) i 0 → getD cs i nowhere .frame ≡ getD (framesOf cs) i 0 → ⊥
+        past p e = omega (arith, p, e, a)
+
+    most-so : upTo (framesOf cs) f ≤ suc i
+    most-so =
+        ⊎-elim (λ (p : suc i < upTo (framesOf cs) f). absurd (past p (below (framesOf cs) f (suc i) p)))
+        (λ (p : upTo (framesOf cs) f ≤ suc i). p)
+        (split (suc i) (upTo (framesOf cs) f))
+      where
+        in-list : suc i < upTo (framesOf cs) f → i + 1 < length cs
+        in-list p = let m = upTo-most (framesOf cs) f in omega (arith, p, m, long)
+
+        past : suc i < upTo (framesOf cs) f → getD (framesOf cs) (suc i) 0 ≤ f → ⊥
+        past p q =
+            let n = b (in-list p) in
+            let e = frame-is cs (i + 1) (in-list p) ∙ ap (λ (k : ℕ). getD (framesOf cs) k 0) (add-one i) in
+            omega (arith, n, e, q)
+
+    count : upTo (framesOf cs) f ≡ suc i
+    count = omega (arith, least-so, most-so)
 
 -- ---- how many turns of the search are left at most, and that they come to what all turns come to
 pub record Coming (cs : List Cue) (f : ℕ) (s : Search) : Type 0 where

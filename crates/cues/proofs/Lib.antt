@@ -4,3 +4,4 @@ mod Reading
 mod Judging
 pub mod Halving
 mod Unique
+mod Refuted

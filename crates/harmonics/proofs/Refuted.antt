@@ -1,19 +1,21 @@
 -- Wrong ways to answer, each held against the promise on an input where it breaks it. Assumes nothing.
-use mathlib.Core.Path.{_≡_, refl, ap}
-use mathlib.Core.Bool.{false}
+use mathlib.Core.Path.{_≡_, refl, sym, ap, _∙_}
+use mathlib.Core.Bool.{Bool, true, false, true≢false}
 use mathlib.Core.List.{List, _∷_}
 use Prim.Native.Nat.{ℕ}
 use native.Mathlib.Omega.{arith}
 use lib.Dec.{le→leb}
 use lib.IntN.{negsuc}
 use lib.Ieee.{Float, nan, fin, lt, le, eq, neg, ofInt}
+use Rattle.refusals.proofs.First.{or-off}
 use Rattle.formats.specs.Floats.{zero-float}
 use Rattle.series.specs.Sums.{sineSum, term, power, factorial}
 use Rattle.series.specs.Angles.{turned, around, reduced, radians, isMultiple, quarters, defined}
 use Rattle.harmonics.specs.Formulas.{formulasOver}
 use Rattle.harmonics.specs.Computed.{wavesOf, upTo}
 use Rattle.angles.specs.Limits.{isInside, refusesAngle}
-use Rattle.harmonics.specs.Promise.{silence, Promise}
+use Rattle.harmonics.specs.Promise.{refusesAzimuth, refusesElevation, refusesDirection, silence, Promise}
+use Rattle.harmonics.specs.declared.Direction.{Direction}
 use Rattle.harmonics.specs.declared.Coefficients.{Coefficients}
 use Rattle.harmonics.specs.Drill.{at}
 
@@ -54,3 +56,11 @@ direction-first p = let e : _≡_ {A = ℕ} 3 1 = ap refusal (p .is) in omega ar
 cut-to-33-places : (w : Float) (g : List Float) → Promise 1 (at 45 0) (record { refusal = 0; gains = w ∷ fin false 6074000999 (negsuc 32) ∷ g }) → ⊥
 unfolding refusesAngle isInside lt le eq neg ofInt formulasOver defined isMultiple quarters turned reduced around radians sineSum term power factorial
 cut-to-33-places w g p = le→leb _ _ (p .near refl .1 .0 .near)
+
+-- it judges a direction by its azimuth alone
+elevation-not-judged : (d : Direction) (r : Bool) → refusesElevation (d .elevation) ≡ true → r ≡ refusesDirection d → r ≡ false → ⊥
+elevation-not-judged d r bad is off = true≢false (sym bad ∙ or-off (refusesAzimuth (d .azimuth)) (refusesElevation (d .elevation)) (sym is ∙ off) .1)
+
+-- it judges a direction by its elevation alone
+azimuth-not-judged : (d : Direction) (r : Bool) → refusesAzimuth (d .azimuth) ≡ true → r ≡ refusesDirection d → r ≡ false → ⊥
+azimuth-not-judged d r bad is off = true≢false (sym bad ∙ or-off (refusesAzimuth (d .azimuth)) (refusesElevation (d .elevation)) (sym is ∙ off) .0)

@@ -6,30 +6,27 @@ use Prim.Native.Nat.{ℕ, _≤_, _<_, min}
 use native.Mathlib.Nat.{sub-zero}
 use native.Mathlib.Omega.{arith}
 use borrow.Author.Tests.{lt-ltb, le-ltb}
-use lib.ListN.{length, replicate}
+use lib.ListN.{length}
 use lib.Ieee.{Float}
 use Rattle.refusals.specs.Refusals.{Check, firstOf}
 use Rattle.refusals.proofs.First.{stops, goes-on, answered-accepted, answered-refused}
 use Rattle.refusals.proofs.Chains.{first-refused, first-accepted}
-use Rattle.formats.specs.Floats.{zero-float}
 use Rattle.lists.specs.Tables.{tab}
 use Rattle.channel.specs.declared.Layout.{Layout}
 use Rattle.planes.specs.Planes.{sampleAt, withFrames}
 use Rattle.planes.proofs.Blocks.{refused-with, played-with}
 use Rattle.panner.specs.declared.Command.{Command}
 use Rattle.panner.specs.declared.Commanded.{Commanded}
-use Rattle.panner.specs.Commands.{commandChecks, planesOf, gainsOf}
+use Rattle.panner.specs.Commands.{commandChecks, gainsOf}
 use Rattle.panner.specs.Blocks.{Shape, misfit, mostFrames, planesIn, blockChecks, refusalOf, narrowedAll, panned, pannedPart, pannedFrames, framesOf}
-use Rattle.panner.specs.Promise.{answerOf, Gained, Processed}
+use Rattle.panner.specs.Promise.{answerOf, gainsPlayed, noGains, Gained, Processed}
 use Rattle.panner.specs.Steps.{commandRefusal, Commands}
 
 -- ---- what a command plays
 module _ (c : Command) (l : Layout) (g : Commanded) (G : Commands c l g) where
-  pub gives-refused : (g .refusal ≡ 0 → ⊥) → Gained c l (record { refusal = g .refusal; planes = 0; gains = replicate 16 zero-float })
+  pub gives-refused : (g .refusal ≡ 0 → ⊥) → Gained c l (noGains (g .refusal))
   gives-refused h = record {
-    is =
-        ap (λ (n : ℕ). record { refusal = n; planes = 0; gains = replicate 16 zero-float }) (G .refusal)
-        ∙ sym (answered-refused (record { refusal = 0; planes = planesOf c l; gains = narrowedAll (gainsOf c l) }) (λ n. record { refusal = n; planes = 0; gains = replicate 16 zero-float }) (commandRefusal c l) (λ k. h (G .refusal ∙ k)));
+    is = ap noGains (G .refusal) ∙ sym (answered-refused (gainsPlayed c l) noGains (commandRefusal c l) (λ k. h (G .refusal ∙ k)));
     promised = G .promised;
   }
 
@@ -38,9 +35,7 @@ module _ (c : Command) (l : Layout) (g : Commanded) (G : Commands c l g) where
       let accepted : commandRefusal c l ≡ 0 = sym (G .refusal) ∙ z in
       let narrow-is : narrow ≡ narrowedAll (gainsOf c l) = e ∙ ap narrowedAll (G .gains accepted) in
       record {
-        is =
-            (λ i. record { refusal = 0; planes = G .planes accepted i; gains = narrow-is i })
-            ∙ sym (answered-accepted (record { refusal = 0; planes = planesOf c l; gains = narrowedAll (gainsOf c l) }) (λ n. record { refusal = n; planes = 0; gains = replicate 16 zero-float }) (commandRefusal c l) accepted);
+        is = (λ i. record { refusal = 0; planes = G .planes accepted i; gains = narrow-is i }) ∙ sym (answered-accepted (gainsPlayed c l) noGains (commandRefusal c l) accepted);
         promised = G .promised;
       }
 

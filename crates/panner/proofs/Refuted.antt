@@ -8,6 +8,7 @@ use lib.Dec.{lit<}
 use lib.IntN.{pos, negsuc}
 use lib.Ieee.{Float, fin, binary32, mul, round, ofInt}
 use lib.Ieee.Positive.{positive}
+use Rattle.refusals.specs.Refusals.{firstOf}
 use Rattle.formats.specs.Floats.{zero-float, float}
 use Rattle.numbers.specs.Computed.{narrowed, rounded}
 use Rattle.planes.specs.Planes.{sampleAt}
@@ -16,9 +17,13 @@ use Rattle.channel.specs.declared.Layout.the-variants.{Mono, Custom}
 use Rattle.stereo.specs.declared.StereoGains.{StereoGains}
 use Rattle.stereo.proofs.Drill.{at-minus-100}
 use Rattle.harmonics.specs.declared.Direction.{Direction}
+use Rattle.panner.specs.declared.Command.{Command}
 use Rattle.panner.specs.declared.Command.the-variants.{Stereo, Ambisonic}
-use Rattle.panner.specs.Blocks.{Shape, mostFrames}
-use Rattle.panner.specs.Promise.{Processed}
+use Rattle.panner.specs.declared.CommandGains.{CommandGains}
+use Rattle.panner.specs.Commands.{commandChecks, gainsOf}
+use Rattle.panner.specs.Blocks.{Shape, mostFrames, narrowedAll}
+use Rattle.panner.specs.Promise.{Gained, Processed}
+use Rattle.panner.proofs.Halves.{gained-accepted, gained-refused}
 use Rattle.panner.proofs.Played.{refusal-is, all-counted, frames-most, every-frame}
 
 -- ---- it stops at 4,096 frames, and says nothing: a block with more is not accepted, whatever it holds
@@ -68,3 +73,11 @@ stops-early p = true≢false (sym (second-left _ p))
 -- it writes nothing
 silent : Processed two-frames ones zeros (record { refusal = 0; samples = 2 }) zeros → ⊥
 silent p = true≢false (sym (second-left _ p))
+
+-- ---- a command that is refused is given planes
+planes-though-refused : (c : Command) (l : Layout) (answer : CommandGains) → (firstOf (commandChecks c l) ≡ 0 → ⊥) → Gained c l answer → (answer .planes ≡ 0 → ⊥) → ⊥
+planes-though-refused c l answer refused p other = other (ap (λ (r : CommandGains). r .planes) (gained-refused c l answer p refused))
+
+-- ---- a command's gains are not those that a block at it is played with
+other-gains : (c : Command) (l : Layout) (answer : CommandGains) → firstOf (commandChecks c l) ≡ 0 → Gained c l answer → (answer .gains ≡ narrowedAll (gainsOf c l) → ⊥) → ⊥
+other-gains c l answer z p other = other (ap (λ (r : CommandGains). r .gains) (gained-accepted c l answer p z))

@@ -26,9 +26,14 @@ abbrev pub block : Shape → List Float → List Float → Block
 block s input out = blockOf answerOf (refusalOf s (length input) (length out)) (s .frames) (s .stride) (framesOf s input) out
 
 -- what a command plays; a refusal gives its number, no planes and 0.0 for each gain
+abbrev pub gainsPlayed : Command → Layout → CommandGains
+gainsPlayed c l = record { refusal = 0; planes = planesOf c l; gains = narrowedAll (gainsOf c l) }
+
+abbrev pub noGains : ℕ → CommandGains
+noGains n = record { refusal = n; planes = 0; gains = replicate 16 zero-float }
+
 abbrev pub gained : Command → Layout → CommandGains
-gained c l =
-    answered (firstOf (commandChecks c l)) (record { refusal = 0; planes = planesOf c l; gains = narrowedAll (gainsOf c l) }) (λ n. record { refusal = n; planes = 0; gains = replicate 16 zero-float })
+gained c l = answered (firstOf (commandChecks c l)) (gainsPlayed c l) noGains
 
 pub record Gained (c : Command) (l : Layout) (answer : CommandGains) : Type 0 where
   pub is : answer ≡ gained c l

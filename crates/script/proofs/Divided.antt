@@ -1,6 +1,6 @@
--- However a stretch is divided the frames are the same; and cut into pieces in each of which one voice holds, they are those of each piece by itself. Assumes nothing.
+-- However a stretch is divided the frames are the same: samples in two parts, and calls one after another with refused ones between. Assumes nothing.
 use mathlib.Core.Path.{_≡_, refl, sym, ap, _∙_}
-use mathlib.Core.List.{List, [], _∷_, _++_, map}
+use mathlib.Core.List.{List, [], _∷_, _++_}
 use Prim.Native.Nat.{ℕ, zero, suc, _+_}
 use native.Mathlib.Nat.{add-zero}
 use native.Mathlib.Omega.{arith}
@@ -12,10 +12,10 @@ use Rattle.channel.specs.Orders.{channelsOfOrder}
 use Rattle.planes.specs.Planes.{sampleAt, framesOf}
 use Rattle.planes.proofs.Blocks.{block-refused}
 use Rattle.cues.specs.declared.Cue.{Cue}
-use Rattle.cues.specs.Cues.{Voice, voiceAt}
+use Rattle.cues.specs.Cues.{voiceAt}
 use Rattle.script.specs.Rendering.{samplesOf, spoken, rendered, playedOf}
 use Rattle.script.specs.Promise.{answerOf, Block}
-use Rattle.script.specs.Stretches.{Call, stretchOf, refusalAt, next, fed, sounded, fedAll, soundedAll, Piece, joined, Held, Cut, separately}
+use Rattle.script.specs.Stretches.{Call, stretchOf, refusalAt, next, fed, sounded, fedAll, soundedAll}
 use Rattle.script.proofs.Answers.{played-is}
 use Rattle.script.proofs.Played.{out-frames}
 
@@ -67,14 +67,3 @@ module _ (cues : List Cue) (order : ℕ) where
   -- and two ways to divide the same samples are heard the same
   pub divided-alike : (f : ℕ) (cs ds : List Call) → fedAll cues order f cs ≡ fedAll cues order f ds → soundedAll cues order f cs ≡ soundedAll cues order f ds
   divided-alike f cs ds e = stretches f cs ∙ ap (rendered cues order f) e ∙ sym (stretches f ds)
-
--- ---- pieces in each of which one voice holds
-one-voice : (cues : List Cue) (order f : ℕ) (v : Voice) (xs : List Float) → Held cues f v xs → rendered cues order f xs ≡ map (spoken order v) xs
-one-voice cues order f v [] h = refl
-one-voice cues order f v (x ∷ xs) h = λ i. spoken order (h .0 i) x ∷ one-voice cues order (f + 1) v xs (h .1) i
-
-pub cut-at-cues : (cues : List Cue) (order f : ℕ) (ps : List Piece) → Cut cues f ps → rendered cues order f (joined ps) ≡ separately order ps
-cut-at-cues cues order f [] c = refl
-cut-at-cues cues order f (p ∷ ps) c =
-    divided cues order f (p .samples) (joined ps)
-    ∙ (λ i. one-voice cues order f (p .voice) (p .samples) (c .0) i ++ cut-at-cues cues order (f + length (p .samples)) ps (c .1) i)

@@ -1,4 +1,4 @@
--- The laws of `script`: of its walks and loops, of its answers; what the promise says of single samples; that a stretch may be divided in any way, and is what the panner plays between cues; that no two answers meet the promise, and
+-- The laws of `script`: of its segments and its answers; what the promise says of single samples; that a stretch may be divided in any way, and is what the panner plays between cues; that no two answers meet the promise, and
 -- answers that it refutes.
 mod Segments
 mod Answers

@@ -1,19 +1,24 @@
 -- Wrong ways to answer, each held against the promise. Assumes nothing.
-use mathlib.Core.Path.{_≡_, refl, ap, _∙_}
+use mathlib.Core.Path.{_≡_, refl, sym, ap, _∙_}
 use mathlib.Core.Bool.{Bool, true, false, true≢false}
 use mathlib.Core.List.{List, [], _∷_}
-use Prim.Native.Nat.{ℕ}
+use Prim.Native.Nat.{ℕ, _+_, _<_}
 use native.Mathlib.Omega.{arith}
 use lib.Dec.{lit<}
 use lib.IntN.{pos}
-use lib.ListN.{replicate}
+use lib.ListN.{getD, replicate}
 use lib.Ieee.{Float, nan, inf, fin}
 use Rattle.formats.specs.Floats.{zero-float, minus-one-float}
+use Rattle.channel.specs.Orders.{channelsOfOrder}
+use Rattle.planes.specs.Planes.{sampleAt}
 use Rattle.harmonics.specs.Drill.{at}
-use Rattle.script.specs.Rendering.{Stretch}
+use Rattle.cues.specs.declared.Cue.{Cue}
+use Rattle.cues.specs.Cues.{voiceAt}
+use Rattle.script.specs.declared.Rendered.{Rendered}
+use Rattle.script.specs.Rendering.{Stretch, spoken}
 use Rattle.script.specs.Promise.{Renders}
-use Rattle.script.proofs.Played.{refusal-is, before-the-first}
-use Rattle.script.proofs.Worked.{cue, asked, level, wrong, level-257, unreached}
+use Rattle.script.proofs.Played.{refusal-is, refused-unchanged, all-counted, every-frame, before-the-first}
+use Rattle.script.proofs.Worked.{cue, asked, level, wrong, equal-frames, level-257, unreached}
 
 -- ---- before the first cue it plays the sample times 0.0: one frame of order 1, over planes that hold 0
 abbrev one-frame : Stretch
@@ -55,3 +60,24 @@ in-use-alone : (n : ℕ) (after : List Float) → Renders (asked 0 8) (cue 2 (at
 in-use-alone n after p =
     let e : _≡_ {A = ℕ} 0 3 = refusal-is (asked 0 8) (cue 2 (at 0 0) ∷ wrong ∷ []) (replicate 8 nan) (replicate 32 nan) (record { refusal = 0; samples = n }) after p ∙ unreached in
     omega (arith, e)
+
+-- ---- it takes equal frames
+equal-frames-played : (n : ℕ) (after : List Float) → Renders (asked 0 8) (level 2 2) (replicate 8 nan) (replicate 32 nan) (record { refusal = 0; samples = n }) after → ⊥
+equal-frames-played n after p =
+    let e : _≡_ {A = ℕ} 0 11 = refusal-is (asked 0 8) (level 2 2) (replicate 8 nan) (replicate 32 nan) (record { refusal = 0; samples = n }) after p ∙ equal-frames in
+    omega (arith, e)
+
+-- ---- it looks the cue up once, at the first frame: wherever the voice of the frame says something else
+first-voice-throughout : (s : Stretch) (cues : List Cue) (input out after : List Float) (answer : Rendered) → Renders s cues input out answer after → answer .refusal ≡ 0
+    → (n p : ℕ) → n < s .frames → p < channelsOfOrder (s .order)
+    → sampleAt after (s .stride) p n ≡ getD (spoken (s .order) (voiceAt cues (s .first)) (sampleAt input (s .stride) 0 n)) p nan
+    → (getD (spoken (s .order) (voiceAt cues (s .first)) (sampleAt input (s .stride) 0 n)) p nan ≡ getD (spoken (s .order) (voiceAt cues (s .first + n)) (sampleAt input (s .stride) 0 n)) p nan → ⊥) → ⊥
+first-voice-throughout s cues input out after answer P z n p h k e other = other (sym e ∙ every-frame s cues input out answer after P z n p h k)
+
+-- ---- it counts the stride for the frames
+stride-counted : (s : Stretch) (cues : List Cue) (input out after : List Float) → (s .frames ≡ s .stride → ⊥) → Renders s cues input out (record { refusal = 0; samples = s .stride }) after → ⊥
+stride-counted s cues input out after other p = other (sym (all-counted s cues input out (record { refusal = 0; samples = s .stride }) after p refl))
+
+-- ---- it stores something though it refuses
+stored-though-refused : (s : Stretch) (cues : List Cue) (input out after : List Float) (answer : Rendered) → Renders s cues input out answer after → (answer .refusal ≡ 0 → ⊥) → (after ≡ out → ⊥) → ⊥
+stored-though-refused s cues input out after answer P h other = other (refused-unchanged s cues input out answer after P h .1)

@@ -1,48 +1,35 @@
--- A stretch played a segment at a time: what is put for a segment is what document 02 says of its frames, and a loop that goes through the segments keeps `panner`'s `Parting`. Assumes nothing.
+-- What is put for a segment is what document 02 says of its frames: the panner's gains at the direction that holds, or 0.0 in the planes of the order. Assumes nothing.
 use mathlib.Core.Path.{_≡_, refl, sym, ap, _∙_}
 use mathlib.Core.Bool.{Bool, true, false, cond}
-use mathlib.Core.List.{List, [], _∷_, _++_}
-use Prim.Native.Nat.{ℕ, suc, _+_, _-_, _≤_, min}
-use native.Mathlib.Nat.{add-zero, add-suc, suc-add}
+use mathlib.Core.List.{List}
+use Prim.Native.Nat.{ℕ, _-_, min}
 use native.Mathlib.Omega.{arith}
-use lib.ListN.{length, replicate}
 use lib.Ieee.{Float}
 use Rattle.refusals.specs.Refusals.{firstOf}
-use Rattle.refusals.proofs.First.{answered-accepted}
 use Rattle.refusals.proofs.Chains.{off-accepts}
-use Rattle.formats.specs.Floats.{zero-float}
 use Rattle.lists.specs.Tables.{tab}
-use Rattle.lists.proofs.Tables.{length-tab, tab-append}
 use Rattle.channel.specs.Orders.{channelsOfOrder, countedOrder}
 use Rattle.channel.specs.declared.Counted.{Counted}
 use Rattle.channel.specs.declared.Layout.the-variants.{Mono}
 use Rattle.channel.proofs.Orders.{few-channels, order-counted}
-use Rattle.planes.specs.Planes.{sampleAt, withFrame, withFrames}
-use Rattle.planes.proofs.Planes.{length-with-frames}
+use Rattle.planes.specs.Planes.{sampleAt}
 use Rattle.panner.specs.declared.CommandGains.{CommandGains}
 use Rattle.panner.specs.declared.Command.the-variants.{Ambisonic}
 use Rattle.panner.specs.Commands.{commandChecks, gainsOf}
 use Rattle.panner.specs.Blocks.{pannedPart, narrowedAll}
 use Rattle.panner.specs.Promise.{Gained}
-use Rattle.planes.proofs.Framing.{Parting}
+use Rattle.panner.proofs.Halves.{gained-accepted}
 use Rattle.cues.specs.declared.Held.{Held}
 use Rattle.cues.specs.Cues.{Voice, nobody, speaking}
 use Rattle.script.specs.Rendering.{silentPart, spoken}
 use Rattle.cues.specs.Promise.{voiceOf}
 use Rattle.script.specs.Steps.{Speakable, Spoken}
 
--- ---- a segment is what its voice speaks
 module _ (order : ℕ) (h : Held) (S : Speakable order h) (stride from to : ℕ) (input : List Float) where
   -- at a direction: the panner's gains are those of the command, since nothing of it is refused
   module _ (on : h .speaks ≡ true) (g : CommandGains) (G : Gained (Ambisonic (h .direction) order) Mono g) where
     none : firstOf (commandChecks (Ambisonic (h .direction) order) Mono) ≡ 0
     none = off-accepts (commandChecks (Ambisonic (h .direction) order) Mono) (S .order-good, (refl, (S .direction-good on, tt)))
-
-    abbrev good : CommandGains
-    good = record { refusal = 0; planes = channelsOfOrder order; gains = narrowedAll (gainsOf (Ambisonic (h .direction) order) Mono) }
-
-    gains-are : g ≡ good
-    gains-are = G .is ∙ answered-accepted good (λ n. record { refusal = n; planes = 0; gains = replicate 16 zero-float }) (firstOf (commandChecks (Ambisonic (h .direction) order) Mono)) none
 
     few : min (channelsOfOrder order) 16 ≡ channelsOfOrder order
     few = let l = few-channels order (S .order-good) .1 in omega (arith, l)
@@ -52,8 +39,8 @@ module _ (order : ℕ) (h : Held) (S : Speakable order h) (stride from to : ℕ)
 
     pub speaks-so : pannedPart stride from to (min (g .planes) 16) (g .gains) input ≡ Spoken order h stride from to input
     speaks-so =
-        ap (λ (c : CommandGains). pannedPart stride from to (min (c .planes) 16) (c .gains) input) gains-are
-        ∙ ap (λ (k : ℕ). pannedPart stride from to k (good .gains) input) few
+        ap (λ (c : CommandGains). pannedPart stride from to (min (c .planes) 16) (c .gains) input) (gained-accepted (Ambisonic (h .direction) order) Mono g G none)
+        ∙ ap (λ (k : ℕ). pannedPart stride from to k (narrowedAll (gainsOf (Ambisonic (h .direction) order) Mono)) input) few
         ∙ ap (λ (v : Voice). tab from (to - from) (λ n. spoken order v (sampleAt input stride 0 n))) (sym voice-on)
 
   -- nowhere: the planes of the order

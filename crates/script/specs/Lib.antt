@@ -1,4 +1,4 @@
--- The words of the promise of `script`: `Cues` and `Rendering` say document 02, `Promise` is the promise, and `Steps` what the program's steps hand to each other.
+-- The words of `script`: `Rendering` says document 02, `Promise` is the promise, `Stretches` are calls one after another and separate calls of the panner, and `Steps` what the program's steps hand to each other.
 pub mod Rendering
 pub mod Promise
 pub mod Stretches

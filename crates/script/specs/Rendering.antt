@@ -1,5 +1,5 @@
--- Document 02, E1: "before the first cue every output is 0.0"; "a stretch that would run past the largest is 5, one above 4,096 frames 6"; "11: the frames don't rise strictly. 12: a list longer than 256. Both after 10." What is played
--- at a direction, and how many frames a block may have, are the panner's own words. Definitions only. The input is one plane.
+-- Document 02, E1: "before the first cue every output is 0.0. Frame numbers are 64-bit; a stretch that would run past the largest is 5, one above 4,096 frames 6." "Refusals: 11 a list whose frames don't rise strictly, 12 a list
+-- longer than 256, after 10." What is played at a direction, and how many frames a block may have, are the panner's own words. Definitions only. The input is one plane.
 use Prim.Native.Nat.{ℕ, _+_, _-_, _^_}
 use mathlib.Core.Bool.{Bool, not, _||_}
 use mathlib.Core.List.{List, [], _∷_}

@@ -1,16 +1,23 @@
--- Document 02, E1: "Rendering gives the same samples however the stretch is divided, and equals separate panner calls between cues." Stretches that follow one another: calls of `render` with the same cues and order, each with its own
--- frames, stride and lists, each from the frame that the one before came to. A call may be refused; it then plays nothing, and the next begins at the same frame. And pieces of samples, in each of which one voice holds. Definitions only.
+-- Document 02, E1: "Rendering a stretch must give the same samples however the stretch is divided, and equal separate panner calls between cues." Stretches that follow one another: calls of `render` with the same cues and order,
+-- each with its own frames, stride and lists, each from the frame that the one before came to. A call may be refused; it then plays nothing, and the next begins at the same frame. And parts in each of which one voice holds, each
+-- played by a call of the panner. Definitions only.
 use Prim.Native.Nat.{ℕ, _+_}
 use mathlib.Core.Path.{_≡_}
 use mathlib.Core.List.{List, [], _∷_, _++_, map}
 use lib.ListN.{length}
 use lib.Ieee.{Float}
 use Rattle.refusals.specs.Refusals.{answered}
+use Rattle.lists.specs.Tables.{tab}
 use Rattle.channel.specs.Orders.{channelsOfOrder}
-use Rattle.planes.specs.Planes.{framesOf}
+use Rattle.channel.specs.declared.Layout.{Layout}
+use Rattle.planes.specs.Planes.{sampleAt, framesOf}
+use Rattle.harmonics.specs.declared.Direction.{Direction}
+use Rattle.panner.specs.declared.Command.the-variants.{Ambisonic}
+use Rattle.panner.specs.Blocks as Panner
+use Rattle.panner.specs.Promise as Panner′
 use Rattle.cues.specs.declared.Cue.{Cue}
-use Rattle.cues.specs.Cues.{Voice, voiceAt}
-use Rattle.script.specs.Rendering.{Stretch, refusalOf, samplesOf, spoken}
+use Rattle.cues.specs.Cues.{Voice, nobody, speaking, voiceAt}
+use Rattle.script.specs.Rendering.{Stretch, refusalOf, samplesOf, silent}
 use Rattle.script.specs.Promise.{Block, block}
 
 pub record Call : Type 0 where
@@ -51,25 +58,60 @@ module _ (cues : List Cue) (order : ℕ) where
   soundedAll f [] = []
   soundedAll f (c ∷ cs) = sounded c f ++ soundedAll (next c f) cs
 
--- ---- pieces
-pub record Piece : Type 0 where
-  pub voice : Voice
-  pub samples : List Float
+-- ---- separate calls of the panner
 
-abbrev pub joined : List Piece → List Float
-joined [] = []
-joined (p ∷ ps) = p .samples ++ joined ps
+-- at a direction, beside a layout of its own, with its own frames, stride and lists
+pub record Separate : Type 0 where
+  pub direction : Direction
+  pub layout : Layout
+  pub frames : ℕ
+  pub stride : ℕ
+  pub input : List Float
+  pub out : List Float
 
--- at each frame of a piece its voice is that of the cues
+-- samples for which nobody speaks yet, or a call that plays some
+pub data Part : Type 0 where
+  unspoken : List Float → Part
+  separate : Separate → Part
+
+abbrev pub voiceIn : Part → Voice
+voiceIn (unspoken xs) = nobody
+voiceIn (separate c) = speaking (c .direction)
+
+abbrev pub samplesIn : Part → List Float
+samplesIn (unspoken xs) = xs
+samplesIn (separate c) = tab 0 (c .frames) (sampleAt (c .input) (c .stride) 0)
+
+-- at each frame from f on the voice is that of the cues
 abbrev pub Held : List Cue → ℕ → Voice → List Float → Type 0
 Held cues f v [] = Unit {0}
 Held cues f v (x ∷ xs) = (voiceAt cues f ≡ v) × Held cues (f + 1) v xs
 
-abbrev pub Cut : List Cue → ℕ → List Piece → Type 0
-Cut cues f [] = Unit {0}
-Cut cues f (p ∷ ps) = Held cues f (p .voice) (p .samples) × Cut cues (f + length (p .samples)) ps
+module _ (order : ℕ) where
+  abbrev pub shapeIn : Separate → Panner.Shape
+  shapeIn c = record { command = Ambisonic (c .direction) order; layout = c .layout; frames = c .frames; stride = c .stride }
 
--- each piece by its own voice alone
-abbrev pub separately : ℕ → List Piece → List (List Float)
-separately order [] = []
-separately order (p ∷ ps) = map (spoken order (p .voice)) (p .samples) ++ separately order ps
+  abbrev pub pannedIn : Separate → Panner′.Block
+  pannedIn c = Panner′.block (shapeIn c) (c .input) (c .out)
+
+  abbrev pub Accepted : Part → Type 0
+  Accepted (unspoken xs) = Unit {0}
+  Accepted (separate c) = Panner.refusalOf (shapeIn c) (length (c .input)) (length (c .out)) ≡ 0
+
+  -- 0.0, or the frames that the panner says it played, read from its output planes
+  abbrev pub soundedIn : Part → List (List Float)
+  soundedIn (unspoken xs) = map (λ x. silent (channelsOfOrder order)) xs
+  soundedIn (separate c) = framesOf (pannedIn c .out) (c .stride) (channelsOfOrder order) (pannedIn c .answer .samples)
+
+  -- parts one after another from the frame f on, cut so that in each one voice holds
+  abbrev pub Cut : List Cue → ℕ → List Part → Type 0
+  Cut cues f [] = Unit {0}
+  Cut cues f (p ∷ ps) = Accepted p × Held cues f (voiceIn p) (samplesIn p) × Cut cues (f + length (samplesIn p)) ps
+
+  abbrev pub soundedParts : List Part → List (List Float)
+  soundedParts [] = []
+  soundedParts (p ∷ ps) = soundedIn p ++ soundedParts ps
+
+abbrev pub samplesParts : List Part → List Float
+samplesParts [] = []
+samplesParts (p ∷ ps) = samplesIn p ++ samplesParts ps

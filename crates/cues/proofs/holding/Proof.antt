@@ -3,7 +3,6 @@
 use mathlib.Core.Path.{_≡_, refl, sym, _∙_, ap, subst}
 use Prim.Native.Nat.{ℕ, _-_, _<_, _≤_, _^_}
 use mathlib.Core.WellFounded.{WellFounded, InvImage·wf}
-use mathlib.Core.Bool.{true}
 use mathlib.Core.List.{List, [], _∷_}
 use lib.ListN.{length, getD}
 use lib.Dec.{T, ltb, ltb→lt, nltb→le}
@@ -14,7 +13,7 @@ use mir.Syntax.{Ty, named, imm, w64, tyInt, tyBool, tyRef}
 use mir.Table.{spell}
 use mir.Val.{Val, vint}
 use base.Logic.{SProp, ent, emp, via, fst∗, snd∗, exE, id⊢}
-use base.Fml.{Lft, Share, Fml, ftrue, fat, froom, fdies, flft}
+use base.Fml.{Lft, Share, ftrue, fat, flft}
 use prog.Memory.{Memory}
 use prog.Routine.{Routine}
 use prog.Wp.{Heap, Out, Env, afterSeq, afterBlock, afterTurn, Calls, Loops, Wp, atReturn, WpFn, Tables}
@@ -31,7 +30,7 @@ use denote.Memory.{pointee}
 use denote.Plain.{uint-makes, uint-vals, uint-tells}
 use denote.Builtin.{u64, usize}
 use denote.Ref.{RefT, now}
-use denote.Slice.{sliceTy, sliceVal, ShrSlice, Room, slice-vals, shr-slice-tells, shr-slice-copy}
+use denote.Slice.{sliceTy, ShrSlice, Room, slice-vals, shr-slice-tells, shr-slice-copy}
 use denote.Signature.{plain}
 use denote.Steps.{only, owned, peeks, heard, nothing}
 use denote.Struct.Laws as LL

@@ -7,7 +7,6 @@
 use mathlib.Core.Path.{_≡_, refl, ap, subst}
 use Prim.Native.Nat.{ℕ, _+_, _-_, _<_, _≤_, _^_, min}
 use mathlib.Core.WellFounded.{WellFounded, InvImage·wf}
-use mathlib.Core.Bool.{true}
 use mathlib.Core.List.{List, [], _∷_}
 use lib.ListN.{length}
 use lib.Dec.{T, ltb→lt, nltb→le, lit<}
@@ -19,7 +18,7 @@ use mir.Syntax.{Ty, named, erased, imm, mut, w64, tyInt, tyBool, tyRef, tyFloat}
 use mir.Table.{spell}
 use mir.Val.{Val, vint}
 use base.Logic.{SProp, ent, emp, via, fst∗, snd∗, exE, id⊢}
-use base.Fml.{Lft, GName, Share, Fml, ftrue, fat, froom, fdies, flft}
+use base.Fml.{Lft, GName, Share, Fml, ftrue, fat, flft}
 use prog.Memory.{Memory}
 use prog.Routine.{Routine}
 use prog.Wp.{Heap, Out, Env, afterSeq, afterBlock, afterTurn, Calls, Loops, Wp, atReturn, WpFn, Tables}
