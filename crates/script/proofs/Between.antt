@@ -3,7 +3,7 @@
 use mathlib.Core.Path.{_≡_, refl, sym, ap, _∙_}
 use mathlib.Core.Bool.{Bool, false, _||_, cond}
 use mathlib.Core.List.{List, [], _∷_, _++_, map}
-use Prim.Native.Nat.{ℕ, _+_, _^_, _≤_, _<_}
+use Prim.Native.Nat.{ℕ, _+_, _^_, _<_}
 use native.Mathlib.Omega.{arith}
 use borrow.Author.Tests.{ltb-false, le-ltb, le-leb}
 use lib.ListN.{length, getD}
@@ -30,23 +30,16 @@ use Rattle.cues.proofs.Cues.{each-good}
 use Rattle.cues.proofs.Halving.{holds-between}
 use Rattle.script.specs.Rendering.{Stretch, runsPast, checksOf, refusalOf, spoken, rendered}
 use Rattle.script.specs.Promise.{answerOf, Block, block}
+use Rattle.script.specs.DrillScript.{Between, pannedAt, asRendered}
 use Rattle.script.specs.Stretches.{Separate, Part, unspoken, separate, voiceIn, samplesIn, Held, shapeIn, Accepted, soundedIn, Cut, soundedParts, samplesParts}
 use Rattle.script.proofs.Answers.{frameOf, played-is}
 use Rattle.script.proofs.Played.{block-is, cues-rise, out-frames}
 use Rattle.script.proofs.Divided.{divided}
 
--- a block of the panner at the command of cue i, of the stretch's frames
-abbrev pub shapeAt : Stretch → List Cue → ℕ → Layout → Panner.Shape
-shapeAt s cues i l = record { command = Ambisonic (getD cues i nowhere .direction) (s .order); layout = l; frames = s .frames; stride = s .stride }
-
--- the panner's answer in the words of this crate's
-abbrev pub as-rendered : Panner′.Block → Block
-as-rendered b = record { answer = answerOf (b .answer .refusal) (b .answer .samples); out = b .out }
-
 module _ (s : Stretch) (cues : List Cue) (input out : List Float) (l : Layout) (i : ℕ) (z : refusalOf s cues (length input) (length out) ≡ 0) (good : uncountable (channelsOf l) ≡ false) (in-list : i < length cues)
     (holds : (n : ℕ) → n < s .frames → voiceAt cues (s .first + n) ≡ speaking (getD cues i nowhere .direction)) where
   abbrev shape : Panner.Shape
-  shape = shapeAt s cues i l
+  shape = record { command = Ambisonic (getD cues i nowhere .direction) (s .order); layout = l; frames = s .frames; stride = s .stride }
 
   accepted : Panner.refusalOf shape (length input) (length out) ≡ 0
   accepted =
@@ -57,18 +50,17 @@ module _ (s : Stretch) (cues : List Cue) (input out : List Float) (l : Layout) (
   same : tab 0 (s .frames) (frameOf s cues input) ≡ Panner.framesOf shape input
   same = tab-ext 0 (s .frames) (frameOf s cues input) _ (λ n h. ap (λ (v : Voice). spoken (s .order) v (sampleAt input (s .stride) 0 n)) (holds n (omega (arith, h))))
 
-  pub between-cues : block s cues input out ≡ as-rendered (Panner′.block shape input out)
+  pub between-cues : block s cues input out ≡ asRendered (pannedAt s cues i l input out)
   between-cues =
       block-is s cues input out z
       ∙ ap (λ (fs : List (List Float)). record { answer = answerOf 0 (s .frames); out = withFrames out (s .stride) 0 fs }) same
-      ∙ sym (ap as-rendered (block-accepted Panner′.answerOf (s .frames) (s .stride) (Panner.framesOf shape input) out (Panner.refusalOf shape (length input) (length out)) accepted))
+      ∙ sym (ap asRendered (block-accepted Panner′.answerOf (s .frames) (s .stride) (Panner.framesOf shape input) out (Panner.refusalOf shape (length input) (length out)) accepted))
 
 -- the same, said by the frames of the cues: the stretch lies between cue i and the next, or behind the last
-module _ (s : Stretch) (cues : List Cue) (input out : List Float) (l : Layout) (i : ℕ) (z : refusalOf s cues (length input) (length out) ≡ 0) (good : uncountable (channelsOf l) ≡ false) (in-list : i < length cues) where
-  pub between-two : getD cues i nowhere .frame ≤ s .first → (i + 1 < length cues → s .first + s .frames ≤ getD cues (i + 1) nowhere .frame)
-      → block s cues input out ≡ as-rendered (Panner′.block (shapeAt s cues i l) input out)
-  between-two from to = between-cues s cues input out l i z good in-list (λ n h.
-      holds-between cues (s .first + n) i (cues-rise s cues input out z) in-list (omega (arith, from)) (λ m. let t = to m in omega (arith, t, h)))
+pub between-two : (s : Stretch) (cues : List Cue) (input out : List Float) (l : Layout) (i : ℕ) → refusalOf s cues (length input) (length out) ≡ 0 → uncountable (channelsOf l) ≡ false → i < length cues
+    → ((n : ℕ) → n < s .frames → Between cues i (s .first + n)) → block s cues input out ≡ asRendered (pannedAt s cues i l input out)
+between-two s cues input out l i z good in-list b =
+    between-cues s cues input out l i z good in-list (λ n h. holds-between cues (s .first + n) i (cues-rise s cues input out z) in-list (b n h .0) (b n h .1))
 
 -- ---- separate calls
 

@@ -27,6 +27,7 @@ use Rattle.script.specs.declared.Rendered.{Rendered}
 use Rattle.cues.specs.Cues.{Voice, nobody, speaking, framesOf as numbersOf, refusedOf, rises, orLater, voiceAt}
 use Rattle.script.specs.Rendering.{Stretch, runsPast, mostCues, checksOf, refusalOf, spoken, playedOf}
 use Rattle.script.specs.Promise.{answerOf, Block, block, Renders}
+use Rattle.script.specs.DrillScript.{Before}
 use Rattle.cues.proofs.Halving.{none-left}
 use Rattle.script.proofs.Answers.{frameOf, played-is}
 
@@ -98,11 +99,6 @@ module _ (s : Stretch) (cues : List Cue) (input out : List Float) (z : refusalOf
   -- beyond the count nothing changes
   pub out-tail : (m p : ℕ) → s .frames ≤ m → m < s .stride → sampleAt (block s cues input out .out) (s .stride) p m ≡ sampleAt out (s .stride) p m
   out-tail m p h k = ap (λ (b : Block). sampleAt (b .out) (s .stride) p m) block-is ∙ with-frames-other out (s .stride) 0 played p m k (omega (arith, size, room)) (λ i l e. omega (arith, size))
-
--- the frame is before every cue
-abbrev pub Before : List Cue → ℕ → Type 0
-Before [] f = Unit {0}
-Before (c ∷ cs) f = f < c .frame
 
 pub nobody-before : (cues : List Cue) (f : ℕ) → rises (numbersOf cues) ≡ true → Before cues f → voiceAt cues f ≡ nobody
 nobody-before [] f h b = refl
