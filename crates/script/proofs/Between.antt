@@ -31,7 +31,7 @@ use Rattle.cues.proofs.Halving.{holds-between}
 use Rattle.script.specs.Rendering.{Stretch, runsPast, checksOf, refusalOf, spoken, rendered}
 use Rattle.script.specs.Promise.{answerOf, Block, block}
 use Rattle.script.specs.DrillScript.{Between, pannedAt, asRendered}
-use Rattle.script.specs.Stretches.{Separate, Part, unspoken, separate, voiceIn, samplesIn, Held, shapeIn, Accepted, soundedIn, Cut, soundedParts, samplesParts}
+use Rattle.script.specs.Stretches.{Separate, Part, unspoken, separate, voiceIn, samplesIn, OneVoice, shapeIn, Accepted, soundedIn, Cut, soundedParts, samplesParts}
 use Rattle.script.proofs.Answers.{frameOf, played-is}
 use Rattle.script.proofs.Played.{block-is, cues-rise, out-frames}
 use Rattle.script.proofs.Divided.{divided}
@@ -65,7 +65,7 @@ between-two s cues input out l i z good in-list b =
 -- ---- separate calls
 
 -- one voice throughout
-one-voice : (cues : List Cue) (order f : ℕ) (v : Voice) (xs : List Float) → Held cues f v xs → rendered cues order f xs ≡ map (spoken order v) xs
+one-voice : (cues : List Cue) (order f : ℕ) (v : Voice) (xs : List Float) → OneVoice cues f v xs → rendered cues order f xs ≡ map (spoken order v) xs
 one-voice cues order f v [] h = refl
 one-voice cues order f v (x ∷ xs) h = λ i. spoken order (h .0 i) x ∷ one-voice cues order (f + 1) v xs (h .1) i
 
@@ -97,7 +97,7 @@ module _ (order : ℕ) (c : Separate) (z : Panner.refusalOf (shapeIn order c) (l
   voice-alone : (f : ℕ) → voiceAt alone f ≡ speaking (c .direction)
   voice-alone f = ap (λ (t : Bool). cond t (speaking (c .direction)) nobody) (le-leb 0 f (omega arith))
 
-  held-alone : (f : ℕ) (xs : List Float) → Held alone f (speaking (c .direction)) xs
+  held-alone : (f : ℕ) (xs : List Float) → OneVoice alone f (speaking (c .direction)) xs
   held-alone f [] = tt
   held-alone f (x ∷ xs) = (voice-alone f, held-alone (f + 1) xs)
 

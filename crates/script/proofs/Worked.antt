@@ -1,11 +1,11 @@
 -- A worked drill: order 1, a cue at frame 2 in front and one at frame 5 on the left, eight frames from 0 on. Each output by its bits, in one call and in two; and the numbers of calls that are refused. Assumes nothing.
 use mathlib.Core.Path.{_≡_, refl, ap, _∙_}
 use mathlib.Core.Bool.{true, false}
-use mathlib.Core.List.{List, [], _∷_}
+use mathlib.Core.List.{List, [], _∷_, map}
 use Prim.Native.Nat.{ℕ, zero, suc, _-_, _^_}
 use lib.IntN.{pos}
 use lib.ListN.{replicate}
-use lib.Ieee.{Float, nan, inf, fin, lt, le, eq, ofInt, add, sub, mul, div, neg, round}
+use lib.Ieee.{Float, nan, inf, fin, binary32, ofBits, lt, le, eq, ofInt, add, sub, mul, div, neg, round}
 use Rattle.formats.specs.Floats.{zero-float, one-float, minus-one-float, half-float}
 use Rattle.numbers.specs.Computed as Numbers
 use Rattle.series.specs.Angles.{turned}
@@ -146,3 +146,9 @@ frames-4097 = refl
 
 frames-4097-misfit : refusalOf (asked 0 4097) [] 4097 16387 ≡ 5
 frames-4097-misfit = refl
+
+-- ---- third order at azimuth 30, elevation 20: the sixteen gains, which a sample of 1.0 shows, by their bits
+pub third-order : rendered (cue 0 (at 30 20) ∷ []) 3 0 (one-float ∷ []) ≡ map (ofBits binary32)
+    (1065353216 ∷ 1055952818 ∷ 1051663684 ∷ 1062229259 ∷ 1059686991 ∷ 1049526772 ∷ 3198560572 ∷ 1056363672 ∷ 1053017259 ∷ 1059581692 ∷ 1057073467 ∷ 3186924273 ∷ 3201529300 ∷ 3193165208 ∷ 1049999422 ∷ 0 ∷ []) ∷ []
+unfolding ofBits Numbers.rounded refusesAngle isInside upTo wavesOf sin cos lt le eq computed place cut units-of turned sineAt cosineAt short times radians nesting nest rounded ofInt div neg add sub mul round
+third-order = refl

@@ -83,9 +83,9 @@ samplesIn (unspoken xs) = xs
 samplesIn (separate c) = tab 0 (c .frames) (sampleAt (c .input) (c .stride) 0)
 
 -- at each frame from f on the voice is that of the cues
-abbrev pub Held : List Cue → ℕ → Voice → List Float → Type 0
-Held cues f v [] = Unit {0}
-Held cues f v (x ∷ xs) = (voiceAt cues f ≡ v) × Held cues (f + 1) v xs
+abbrev pub OneVoice : List Cue → ℕ → Voice → List Float → Type 0
+OneVoice cues f v [] = Unit {0}
+OneVoice cues f v (x ∷ xs) = (voiceAt cues f ≡ v) × OneVoice cues (f + 1) v xs
 
 module _ (order : ℕ) where
   abbrev pub shapeIn : Separate → Panner.Shape
@@ -106,7 +106,7 @@ module _ (order : ℕ) where
   -- parts one after another from the frame f on, cut so that in each one voice holds
   abbrev pub Cut : List Cue → ℕ → List Part → Type 0
   Cut cues f [] = Unit {0}
-  Cut cues f (p ∷ ps) = Accepted p × Held cues f (voiceIn p) (samplesIn p) × Cut cues (f + length (samplesIn p)) ps
+  Cut cues f (p ∷ ps) = Accepted p × OneVoice cues f (voiceIn p) (samplesIn p) × Cut cues (f + length (samplesIn p)) ps
 
   abbrev pub soundedParts : List Part → List (List Float)
   soundedParts [] = []
