@@ -18,8 +18,9 @@ use Rattle.planes.proofs.Blocks.{refused-with, played-with}
 use Rattle.panner.specs.declared.Command.{Command}
 use Rattle.panner.specs.declared.Commanded.{Commanded}
 use Rattle.panner.specs.Commands.{commandChecks, gainsOf}
-use Rattle.panner.specs.Blocks.{Shape, misfit, mostFrames, planesIn, blockChecks, refusalOf, narrowedAll, panned, pannedPart, pannedFrames, framesOf}
-use Rattle.panner.specs.Promise.{answerOf, gainsPlayed, noGains, Gained, Processed}
+use Rattle.panner.specs.Blocks.{Shape, misfit, mostFrames, planesIn, blockChecks, refusalOf, narrowedAll, panned, pannedFrames, framesOf}
+use Rattle.panner.specs.Halves.{pannedPart, gainsPlayed, noGains, Gained}
+use Rattle.panner.specs.Promise.{answerOf, Processed}
 use Rattle.panner.specs.Steps.{commandRefusal, Commands}
 
 -- ---- what a command plays

@@ -6,7 +6,7 @@ use Rattle.channel.specs.declared.Layout.{Layout}
 use Rattle.panner.specs.declared.Command.{Command}
 use Rattle.panner.specs.declared.CommandGains.{CommandGains}
 use Rattle.panner.specs.Commands.{commandChecks}
-use Rattle.panner.specs.Promise.{gainsPlayed, noGains, Gained}
+use Rattle.panner.specs.Halves.{gainsPlayed, noGains, Gained}
 
 module _ (c : Command) (l : Layout) (g : CommandGains) (G : Gained c l g) where
   pub gained-accepted : firstOf (commandChecks c l) ≡ 0 → g ≡ gainsPlayed c l

@@ -22,7 +22,8 @@ use Rattle.panner.specs.declared.Command.the-variants.{Stereo, Ambisonic
 use Rattle.panner.specs.declared.CommandGains.{CommandGains}
 use Rattle.panner.specs.Commands.{commandChecks, gainsOf}
 use Rattle.panner.specs.Blocks.{Shape, mostFrames, narrowedAll}
-use Rattle.panner.specs.Promise.{Gained, Processed}
+use Rattle.panner.specs.Promise.{Processed}
+use Rattle.panner.specs.Halves.{Gained}
 use Rattle.panner.proofs.Halves.{gained-accepted, gained-refused}
 use Rattle.panner.proofs.Played.{refusal-is, all-counted, frames-most, every-frame}
 

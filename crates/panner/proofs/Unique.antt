@@ -8,8 +8,9 @@ use Rattle.refusals.proofs.Determined.{determined, determined-by}
 use Rattle.channel.specs.declared.Layout.{Layout}
 use Rattle.planes.specs.Planes.{withFrames}
 use Rattle.panner.specs.declared.Command.{Command}
-use Rattle.panner.specs.Blocks.{Shape, pannedPart}
-use Rattle.panner.specs.Promise.{Block, Gained, Processed}
+use Rattle.panner.specs.Blocks.{Shape}
+use Rattle.panner.specs.Halves.{pannedPart, Gained}
+use Rattle.panner.specs.Promise.{Block, Processed}
 
 -- what a command plays
 pub command-gains-unique : (c : Command) (l : Layout) → OneAnswer (Gained c l)

@@ -1,6 +1,6 @@
 -- Document 01, 'Sums': "Panner: the f32 product of sample and narrowed gain." 'Refusal numbers': 5 when "a lent length doesn't fit: stride below the frame count, or a length other than planes x stride", 6 when "a
 -- panner block has more than 4,096 frames". Definitions only. The input is one plane.
-use Prim.Native.Nat.{ℕ, _-_}
+use Prim.Native.Nat.{ℕ}
 use mathlib.Core.Bool.{Bool}
 use mathlib.Core.List.{List, [], _∷_, _++_}
 use lib.Dec.{ltb}
@@ -48,11 +48,7 @@ narrowedAll gains = tab 0 16 (λ p. narrowed (getD gains p nan))
 abbrev pub panned : ℕ → List Float → Float → List Float
 panned planes gains x = tab 0 planes (λ p. mul binary32 x (getD gains p nan))
 
--- the frames from one to before another: frame n of the outputs, of sample n of the input
-abbrev pub pannedPart : ℕ → ℕ → ℕ → ℕ → List Float → List Float → List (List Float)
-pannedPart stride from to planes gains input = tab from (to - from) (λ n. panned planes gains (sampleAt input stride 0 n))
-
--- all of them
+-- frame n of the outputs, of sample n of the input
 abbrev pub pannedFrames : ℕ → ℕ → ℕ → List Float → List Float → List (List Float)
 pannedFrames stride frames planes gains input = tab 0 frames (λ n. panned planes gains (sampleAt input stride 0 n))
 

@@ -15,9 +15,10 @@ ghost use mathlib.Core.Path.{_≡_};
 ghost use Prim.Native.Nat.{_≤_, min};
 ghost use Rattle.planes.specs.Planes.{withFrame, withFrames};
 ghost use Rattle.panner.specs.declared.Command.{Command};
-ghost use Rattle.panner.specs.Blocks.{panned, pannedPart, narrowedAll};
+ghost use Rattle.panner.specs.Blocks.{panned, narrowedAll};
+ghost use Rattle.panner.specs.Halves.{pannedPart, Gained};
 ghost use Rattle.panner.specs.Steps.{Commands, isBadLayout};
-ghost use Rattle.panner.specs.Promise.{Gained, Processed};
+ghost use Rattle.panner.specs.Promise.{Processed};
 
 pub enum Command {
     Stereo(f64),

@@ -16,8 +16,8 @@ use Rattle.planes.specs.Planes.{sampleAt}
 use Rattle.panner.specs.declared.CommandGains.{CommandGains}
 use Rattle.panner.specs.declared.Command.the-variants.{Ambisonic}
 use Rattle.panner.specs.Commands.{commandChecks, gainsOf}
-use Rattle.panner.specs.Blocks.{pannedPart, narrowedAll}
-use Rattle.panner.specs.Promise.{Gained}
+use Rattle.panner.specs.Blocks.{narrowedAll}
+use Rattle.panner.specs.Halves.{pannedPart, Gained}
 use Rattle.panner.proofs.Halves.{gained-accepted}
 use Rattle.cues.specs.declared.Held.{Held}
 use Rattle.cues.specs.Cues.{Voice, nobody, speaking}
