@@ -1,0 +1,45 @@
+-- A frame that is encoded before the first cue is silence, and no damage, whatever its sample. Assumes nothing.
+use mathlib.Core.Path.{_≡_, refl, sym, ap, _∙_}
+use mathlib.Core.Bool.{false}
+use mathlib.Core.List.{List, [], _∷_}
+use Prim.Native.Nat.{ℕ, zero, suc, _+_, _<_}
+use native.Mathlib.Nat.{not-suc-le-zero, le-of-suc-le-suc, add-zero}
+use native.Mathlib.Omega.{arith}
+use lib.ListN.{length, getD, replicate}
+use lib.Ieee.{Float, nan}
+use Rattle.formats.specs.Floats.{zero-float}
+use Rattle.lists.proofs.Tables.{tab-constant}
+use Rattle.checks.specs.Finite.{unsound}
+use Rattle.channel.specs.Orders.{channelsOfOrder}
+use Rattle.script.specs.declared.Cue.{Cue}
+use Rattle.script.specs.Cues.{Voice, nobody, voiceAt}
+use Rattle.script.specs.Rendering.{spoken, rendered}
+use Rattle.history.specs.Setup.{Setup}
+use Rattle.history.specs.Signals.{damaged, silence}
+use Rattle.history.proofs.Silence.{silence-sound}
+use Rattle.drills.specs.Drills.{Drill, samples, encoded}
+
+-- frame n of what is rendered is sample n by the voice at its frame number
+length-rendered : (cues : List Cue) (order f : ℕ) (xs : List Float) → length (rendered cues order f xs) ≡ length xs
+length-rendered cues order f [] = refl
+length-rendered cues order f (x ∷ xs) = ap suc (length-rendered cues order (f + 1) xs)
+
+rendered-at : (cues : List Cue) (order f : ℕ) (xs : List Float) (n : ℕ) → n < length xs → getD (rendered cues order f xs) n [] ≡ spoken order (voiceAt cues (f + n)) (getD xs n nan)
+rendered-at cues order f [] n h = absurd (not-suc-le-zero h)
+rendered-at cues order f (x ∷ xs) zero h = ap (λ (g : ℕ). spoken order (voiceAt cues g) x) (sym (add-zero f))
+rendered-at cues order f (x ∷ xs) (suc n) h =
+    rendered-at cues order (f + 1) xs n (le-of-suc-le-suc h) ∙ ap (λ (g : ℕ). spoken order (voiceAt cues g) (getD xs n nan)) further
+  where
+    further : f + 1 + n ≡ f + suc n
+    further = omega arith
+
+pub encoded-at : (d : Drill) (n : ℕ) → n < length (encoded d) → getD (encoded d) n [] ≡ spoken (d .order) (voiceAt (d .cues) (d .first + n)) (getD (samples d) n nan)
+encoded-at d n h = rendered-at (d .cues) (d .order) (d .first) (samples d) n (omega (arith, length-rendered (d .cues) (d .order) (d .first) (samples d)))
+
+module _ (u : Setup) (finite : unsound (u .weights) ≡ false) where
+  pub nobody-sound : (order : ℕ) (x : Float) → u .channels ≡ channelsOfOrder order → damaged u (spoken order nobody x) ≡ false
+  nobody-sound order x c = ap (damaged u) (tab-constant 0 (channelsOfOrder order) zero-float ∙ ap (λ (n : ℕ). replicate n zero-float) (sym c)) ∙ silence-sound u finite
+
+  pub silent-sound : (d : Drill) → u .channels ≡ channelsOfOrder (d .order) → (n : ℕ) → n < length (encoded d) → voiceAt (d .cues) (d .first + n) ≡ nobody → damaged u (getD (encoded d) n []) ≡ false
+  silent-sound d c n h v =
+      ap (damaged u) (encoded-at d n h ∙ ap (λ (w : Voice). spoken (d .order) w (getD (samples d) n nan)) v) ∙ nobody-sound (d .order) (getD (samples d) n nan) c
