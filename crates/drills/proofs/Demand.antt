@@ -23,7 +23,7 @@ use Rattle.drills.proofs.Passing.{readAll, put-all, fed-all}
 use Rattle.drills.proofs.Silence.{silent-sound}
 
 -- planes lent as they were left
-drill-handed : (u : Setup) (d : Drill) → Run u (d .start) (d .plays) → u .channels ≡ channelsOfOrder (d .order) → taken d ≡ left d → Drilled u d
+pub drill-handed : (u : Setup) (d : Drill) → Run u (d .start) (d .plays) → u .channels ≡ channelsOfOrder (d .order) → taken d ≡ left d → Drilled u d
 drill-handed u d r c e =
     record {
       run = r;
