@@ -1,13 +1,20 @@
 -- DEMAND 3 ON THE FRAMES AFTER ENCODING. What the convolver is fed is what was encoded, so every sentence of `demand-3` of `runs` reads on the encoded frames. Assumes nothing.
 use mathlib.Core.Path.{_≡_, refl, sym, ap, _∙_, subst}
+use mathlib.Core.Bool.{Bool, true}
 use mathlib.Core.List.{List, []}
-use Prim.Native.Nat.{ℕ, _<_}
+use Prim.Native.Nat.{ℕ, _+_, _<_}
+use native.Mathlib.Nat.{mul-pos}
+use native.Mathlib.Omega.{arith}
 use lib.ListN.{length, getD}
-use lib.Ieee.{Float}
+use lib.Ieee.{Float, nan, inf, binary32, mul}
+use Rattle.formats.specs.Floats.{zero-float}
 use Rattle.channel.specs.Orders.{channelsOfOrder}
+use Rattle.harmonics.specs.declared.Direction.{Direction}
+use Rattle.script.specs.Cues.{speaking, voiceAt}
 use Rattle.script.specs.Rendering.{rendered}
 use Rattle.script.proofs.Divided.{stretches}
 use Rattle.history.specs.Setup.{Setup}
+use Rattle.history.specs.Signals.{damaged}
 use Rattle.history.specs.History.{earSamples, upto}
 use Rattle.rings.specs.State.{State}
 use Rattle.rings.specs.Held.{stateOf}
@@ -17,10 +24,11 @@ use Rattle.hrtf.proofs.Promised.{reset-by, reset-number}
 use Rattle.runs.specs.Runs.{Alike, fedAll, soundedAll, end, unsettledCounts, sum}
 use Rattle.runs.specs.Demand.{Run, frameAgo, damagedAmong, damagedCounts, SameRun}
 use Rattle.runs.proofs.Demand.{run-starts, demand-3}
-use Rattle.drills.specs.Drills.{Drill, encoded, fed, heard, Drilled, left, taken}
-use Rattle.drills.specs.Demand.{Agree, SameDrill, SameScript, DrillDemand3}
+use Rattle.drills.specs.Drills.{Drill, samples, encoded, fed, heard, Drilled, left, taken}
+use Rattle.drills.specs.Demand.{gainsAt, Agree, SameDrill, SameScript, DrillDemand3}
 use Rattle.drills.proofs.Passing.{readAll, put-all, fed-all}
 use Rattle.drills.proofs.Silence.{silent-sound}
+use Rattle.drills.proofs.Damage.{product-damages}
 
 -- planes lent as they were left
 pub drill-handed : (u : Setup) (d : Drill) → Run u (d .start) (d .plays) → u .channels ≡ channelsOfOrder (d .order) → taken d ≡ left d → Drilled u d
@@ -63,6 +71,16 @@ drill-settled u d e h k n m =
 drill-counts : (u : Setup) (d : Drill) → Drilled u d → unsettledCounts (d .start) (d .plays) ≡ damagedCounts u (encoded d) 0 (d .start) (d .plays)
 drill-counts u d h = demand-3 .counts u (d .start) (d .plays) (h .run) ∙ ap (λ (fs : List (List Float)). damagedCounts u fs 0 (d .start) (d .plays)) (drill-fed u d h)
 
+-- a sample whose product with a gain is NaN
+module _ (u : Setup) (d : Drill) (h : Drilled u d) (n : ℕ) (l : n < length (encoded d)) (v : Direction) (at : voiceAt (d .cues) (d .first + n) ≡ speaking v) where
+  nan-encoded : getD (samples d) n nan ≡ nan → damaged u (getD (encoded d) n []) ≡ true
+  unfolding mul
+  nan-encoded e = product-damages u d (h .run .alike) (h .channels) (drill-fed u d h) n l v at 0 (mul-pos (omega arith) (omega arith)) (ap (λ (x : Float). mul binary32 x (getD (gainsAt (d .order) v) 0 nan)) e)
+
+  infinite-encoded : (s : Bool) → getD (samples d) n nan ≡ inf s → (p : ℕ) → p < channelsOfOrder (d .order) → getD (gainsAt (d .order) v) p nan ≡ zero-float → damaged u (getD (encoded d) n []) ≡ true
+  unfolding mul
+  infinite-encoded s e p c g = product-damages u d (h .run .alike) (h .channels) (drill-fed u d h) n l v at p c (λ i. mul binary32 (e i) (g i))
+
 -- ---- (d)
 
 -- a reset leaves one state
@@ -103,6 +121,8 @@ drill-demand-3 =
       settled = drill-settled;
       counts = drill-counts;
       silent = λ u d h. silent-sound u (h .run .finite) d (h .channels);
+      nan-damages = nan-encoded;
+      infinite-damages = infinite-encoded;
       cut = drill-cut;
       divided = drill-divided;
     }

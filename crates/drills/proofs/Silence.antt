@@ -1,19 +1,22 @@
 -- A frame that is encoded before the first cue is silence, and no damage, whatever its sample. Assumes nothing.
-use mathlib.Core.Path.{_≡_, refl, sym, ap, _∙_}
-use mathlib.Core.Bool.{false}
-use mathlib.Core.List.{List, [], _∷_}
+use mathlib.Core.Path.{_≡_, refl, sym, ap, _∙_, subst}
+use mathlib.Core.Bool.{true, false}
+use mathlib.Core.List.{List, [], _∷_, _++_}
 use Prim.Native.Nat.{ℕ, zero, suc, _+_, _<_}
 use native.Mathlib.Nat.{not-suc-le-zero, le-of-suc-le-suc, add-zero}
 use native.Mathlib.Omega.{arith}
 use lib.ListN.{length, getD, replicate}
 use lib.Ieee.{Float, nan}
+use Rattle.refusals.specs.Refusals.{answered}
 use Rattle.formats.specs.Floats.{zero-float}
 use Rattle.lists.proofs.Tables.{tab-constant}
 use Rattle.checks.specs.Finite.{unsound}
 use Rattle.channel.specs.Orders.{channelsOfOrder}
 use Rattle.script.specs.declared.Cue.{Cue}
-use Rattle.script.specs.Cues.{Voice, nobody, voiceAt}
-use Rattle.script.specs.Rendering.{spoken, rendered}
+use Rattle.script.specs.Cues.{Voice, nobody, framesOf, rises, voiceAt}
+use Rattle.script.specs.Rendering.{samplesOf, spoken, rendered}
+use Rattle.script.specs.Stretches as Script
+use Rattle.script.proofs.Played.{cues-rise, Before, nobody-before}
 use Rattle.history.specs.Setup.{Setup}
 use Rattle.history.specs.Signals.{damaged, silence}
 use Rattle.history.proofs.Silence.{silence-sound}
@@ -43,3 +46,20 @@ module _ (u : Setup) (finite : unsound (u .weights) ≡ false) where
   pub silent-sound : (d : Drill) → u .channels ≡ channelsOfOrder (d .order) → (n : ℕ) → n < length (encoded d) → voiceAt (d .cues) (d .first + n) ≡ nobody → damaged u (getD (encoded d) n []) ≡ false
   silent-sound d c n h v =
       ap (damaged u) (encoded-at d n h ∙ ap (λ (w : Voice). spoken (d .order) w (getD (samples d) n nan)) v) ∙ nobody-sound (d .order) (getD (samples d) n nan) c
+
+-- ---- the first cue
+
+-- where something was encoded a call was accepted, and so the cues rise
+module _ (cues : List Cue) (order : ℕ) where
+  rise-by : (c : Script.Call) (f n : ℕ) → Script.refusalAt cues order c f ≡ n → (xs : List Float) → (0 < length xs → rises (framesOf cues) ≡ true)
+      → 0 < length (Script.fed cues order c f ++ xs) → rises (framesOf cues) ≡ true
+  rise-by c f zero e xs k h = cues-rise (Script.stretchOf cues order c f) cues (c .input) (c .out) e
+  rise-by c f (suc n) e xs k h = k (subst (λ (m : ℕ). 0 < length (answered m (samplesOf (Script.stretchOf cues order c f) (c .input)) (λ j. []) ++ xs)) e h)
+
+  some-rise : (f : ℕ) (cs : List Script.Call) → 0 < length (Script.fedAll cues order f cs) → rises (framesOf cues) ≡ true
+  some-rise f [] h = absurd (not-suc-le-zero h)
+  some-rise f (c ∷ cs) h = rise-by c f (Script.refusalAt cues order c f) refl (Script.fedAll cues order (Script.next cues order c f) cs) (some-rise (Script.next cues order c f) cs) h
+
+pub before-nobody : (d : Drill) (n : ℕ) → n < length (encoded d) → Before (d .cues) (d .first + n) → voiceAt (d .cues) (d .first + n) ≡ nobody
+before-nobody d n h b =
+    nobody-before (d .cues) (d .first + n) (some-rise (d .cues) (d .order) (d .first) (d .renders) (omega (arith, h, length-rendered (d .cues) (d .order) (d .first) (samples d)))) b

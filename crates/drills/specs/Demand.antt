@@ -1,18 +1,28 @@
 -- Demand 3 on the frames after encoding, in the order of its words (`runs`, specs/Demand.antt); it is shown in proofs/Demand.antt. Document 02, E1: "Demand 3 reads on the frames after encoding." Definitions only.
 use Prim.Native.Nat.{ℕ, _+_, _<_}
 use mathlib.Core.Path.{_≡_}
-use mathlib.Core.Bool.{false}
+use mathlib.Core.Bool.{Bool, true, false}
 use mathlib.Core.List.{List, []}
 use lib.ListN.{length, getD}
-use lib.Ieee.{Float}
+use lib.Ieee.{Float, nan, inf}
+use Rattle.formats.specs.Floats.{zero-float}
 use Rattle.channel.specs.Orders.{channelsOfOrder}
-use Rattle.script.specs.Cues.{nobody, voiceAt}
+use Rattle.channel.specs.declared.Layout.the-variants.{Mono}
+use Rattle.harmonics.specs.declared.Direction.{Direction}
+use Rattle.panner.specs.declared.Command.the-variants.{Ambisonic}
+use Rattle.panner.specs.Commands.{gainsOf}
+use Rattle.panner.specs.Blocks.{narrowedAll}
+use Rattle.script.specs.Cues.{nobody, speaking, voiceAt}
 use Rattle.history.specs.Setup.{Setup}
 use Rattle.history.specs.Signals.{damaged}
 use Rattle.history.specs.History.{earSamples, upto}
 use Rattle.runs.specs.Runs.{end, unsettledCounts, sum}
 use Rattle.runs.specs.Demand.{Run, frameAgo, damagedAmong, damagedCounts}
 use Rattle.drills.specs.Drills.{Drill, samples, encoded, fed, heard, Drilled, left, taken}
+
+-- the gains that are played at a direction
+abbrev pub gainsAt : ℕ → Direction → List Float
+gainsAt order v = narrowedAll (gainsOf (Ambisonic v order) Mono)
 
 -- frame n of one drill and frame m of another, and the L-1 frames before each, agree as they are after encoding
 abbrev pub Agree : Setup → Drill → ℕ → Drill → ℕ → Type 0
@@ -48,6 +58,11 @@ pub record DrillDemand3 : Type 0 where
   pub counts : (u : Setup) (d : Drill) → Drilled u d → unsettledCounts (d .start) (d .plays) ≡ damagedCounts u (encoded d) 0 (d .start) (d .plays)
   -- "before the first cue every output is 0.0": no such frame is damaged, whatever the sample
   pub silent : (u : Setup) (d : Drill) → Drilled u d → (n : ℕ) → n < length (encoded d) → voiceAt (d .cues) (d .first + n) ≡ nobody → damaged u (getD (encoded d) n []) ≡ false
+  -- from the first cue on a NaN sample is damage, and so is an infinite one where a channel's gain is 0.0: their product is NaN
+  pub nan-damages : (u : Setup) (d : Drill) → Drilled u d → (n : ℕ) → n < length (encoded d) → (v : Direction) → voiceAt (d .cues) (d .first + n) ≡ speaking v
+      → getD (samples d) n nan ≡ nan → damaged u (getD (encoded d) n []) ≡ true
+  pub infinite-damages : (u : Setup) (d : Drill) → Drilled u d → (n : ℕ) → n < length (encoded d) → (v : Direction) → voiceAt (d .cues) (d .first + n) ≡ speaking v
+      → (s : Bool) → getD (samples d) n nan ≡ inf s → (p : ℕ) → p < channelsOfOrder (d .order) → getD (gainsAt (d .order) v) p nan ≡ zero-float → damaged u (getD (encoded d) n []) ≡ true
   -- (d) "each cut into blocks anywhere": the same frames after encoding, however the calls of both kinds are cut, and refused calls where they may be
   pub cut : (u : Setup) (d e : Drill) → Drilled u d → Drilled u e → encoded d ≡ encoded e → SameDrill d e
   -- so the same script gives the same
