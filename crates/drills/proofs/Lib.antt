@@ -4,3 +4,4 @@ mod Silence
 mod Damage
 pub mod Demand
 pub mod Playing
+mod Worked
