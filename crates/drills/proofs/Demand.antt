@@ -1,6 +1,6 @@
 -- DEMAND 3 ON THE FRAMES AFTER ENCODING. What the convolver is fed is what was encoded, so every sentence of `demand-3` of `runs` reads on the encoded frames. Assumes nothing.
-use mathlib.Core.Path.{_≡_, refl, sym, ap, _∙_, subst}
-use mathlib.Core.Bool.{Bool, true}
+use mathlib.Core.Path.{_≡_, sym, ap, _∙_, subst}
+use mathlib.Core.Bool.{Bool, true, false}
 use mathlib.Core.List.{List, []}
 use Prim.Native.Nat.{ℕ, _+_, _<_}
 use native.Mathlib.Nat.{mul-pos}
@@ -12,6 +12,7 @@ use Rattle.channel.specs.Orders.{channelsOfOrder}
 use Rattle.harmonics.specs.declared.Direction.{Direction}
 use Rattle.script.specs.Cues.{speaking, voiceAt}
 use Rattle.script.specs.Rendering.{rendered}
+use Rattle.script.proofs.Played.{Before}
 use Rattle.script.proofs.Divided.{stretches}
 use Rattle.history.specs.Setup.{Setup}
 use Rattle.history.specs.Signals.{damaged}
@@ -27,7 +28,7 @@ use Rattle.runs.proofs.Demand.{run-starts, demand-3}
 use Rattle.drills.specs.Drills.{Drill, samples, encoded, fed, heard, Drilled, left, taken}
 use Rattle.drills.specs.Demand.{gainsAt, Agree, SameDrill, SameScript, DrillDemand3}
 use Rattle.drills.proofs.Passing.{readAll, put-all, fed-all}
-use Rattle.drills.proofs.Silence.{silent-sound}
+use Rattle.drills.proofs.Silence.{silent-sound, silent-settled, before-nobody}
 use Rattle.drills.proofs.Damage.{product-damages}
 
 -- planes lent as they were left
@@ -70,6 +71,10 @@ drill-settled u d e h k n m =
 -- (c)
 drill-counts : (u : Setup) (d : Drill) → Drilled u d → unsettledCounts (d .start) (d .plays) ≡ damagedCounts u (encoded d) 0 (d .start) (d .plays)
 drill-counts u d h = demand-3 .counts u (d .start) (d .plays) (h .run) ∙ ap (λ (fs : List (List Float)). damagedCounts u fs 0 (d .start) (d .plays)) (drill-fed u d h)
+
+-- whatever its samples are: every frame before the first cue is settled
+pub before-settled : (u : Setup) (d : Drill) → Drilled u d → (n : ℕ) → n < length (encoded d) → Before (d .cues) (d .first + n) → damagedAmong u (encoded d) n ≡ false
+before-settled u d h n l b = silent-settled u (h .run .finite) d (h .channels) n l (before-nobody d n l b)
 
 -- a sample whose product with a gain is NaN
 module _ (u : Setup) (d : Drill) (h : Drilled u d) (n : ℕ) (l : n < length (encoded d)) (v : Direction) (at : voiceAt (d .cues) (d .first + n) ≡ speaking v) where
@@ -121,6 +126,7 @@ drill-demand-3 =
       settled = drill-settled;
       counts = drill-counts;
       silent = λ u d h. silent-sound u (h .run .finite) d (h .channels);
+      quiet = λ u d h. silent-settled u (h .run .finite) d (h .channels);
       nan-damages = nan-encoded;
       infinite-damages = infinite-encoded;
       cut = drill-cut;

@@ -5,3 +5,4 @@ mod Damage
 pub mod Demand
 pub mod Playing
 mod Worked
+mod Refuted

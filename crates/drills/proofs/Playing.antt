@@ -1,6 +1,5 @@
 -- There are drills: planes that `render` left are taken by every convolver that was set up for the order from a good bank, and none of its calls is refused. Assumes nothing.
 use mathlib.Core.Path.{_≡_, refl, sym, ap, _∙_, subst}
-use mathlib.Core.Bool.{false}
 use mathlib.Core.List.{List, [], _∷_, _++_, map}
 use Prim.Native.Nat.{ℕ, zero, suc, _*_, _≤_}
 use native.Mathlib.Nat.{suc-ne-zero}

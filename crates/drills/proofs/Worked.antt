@@ -1,7 +1,7 @@
 -- The premises can be met: three drills worked out from the cues to the ears. Four samples at order 1, the first a NaN; two calls of `render` with a refused one between, and two calls of `process`, cut elsewhere,
 -- with a refused one between. By computing the definitions. Assumes nothing.
 use mathlib.Core.Path.{_≡_, refl, sym, ap, _∙_}
-use mathlib.Core.Bool.{true, false}
+use mathlib.Core.Bool.{false}
 use mathlib.Core.List.{List, [], _∷_, flatten}
 use Prim.Native.Nat.{ℕ, _*_}
 use native.Mathlib.Nat.{suc-ne-zero}
@@ -36,7 +36,7 @@ use Rattle.hrtf.proofs.Promised.{reset-accepted}
 use Rattle.runs.specs.Runs.{Alike, fedAll, unsettledCounts}
 use Rattle.runs.specs.Demand.{Run}
 use Rattle.runs.proofs.Demand.{run-heard}
-use Rattle.drills.specs.Drills.{Drill, encoded, fed, heard, put, Drilled}
+use Rattle.drills.specs.Drills.{Drill, encoded, heard, Drilled}
 
 -- ---- the two lists of calls
 
@@ -67,12 +67,17 @@ block weight n planes =
     }
 
 -- a frame of silence; a call with a NaN for a weight; and a frame of which the first channel and the last are w and the two between are y, with two of silence behind it
+abbrev pub silent-call : Call
+silent-call = block one-float 1 (replicate 4 zero-float)
+
+abbrev pub refused-call : Call
+refused-call = block nan 1 (replicate 4 one-float)
+
+abbrev sounding-call : Float → Float → Call
+sounding-call w y = block one-float 3 (w ∷ zero-float ∷ zero-float ∷ y ∷ zero-float ∷ zero-float ∷ y ∷ zero-float ∷ zero-float ∷ w ∷ zero-float ∷ zero-float ∷ [])
+
 abbrev plays : Float → Float → List Call
-plays w y =
-    block one-float 1 (replicate 4 zero-float)
-    ∷ block nan 1 (replicate 4 one-float)
-    ∷ block one-float 3 (w ∷ zero-float ∷ zero-float ∷ y ∷ zero-float ∷ zero-float ∷ y ∷ zero-float ∷ zero-float ∷ w ∷ zero-float ∷ zero-float ∷ [])
-    ∷ []
+plays w y = silent-call ∷ refused-call ∷ sounding-call w y ∷ []
 
 abbrev pub worked : List Cue → Float → Float → Float → Drill
 worked cues x w y = record { cues = cues; order = 1; first = 0; renders = renders x; start = fresh four; plays = plays w y }
@@ -124,6 +129,12 @@ infinite-rendered = refl
 abbrev pub one : Drill
 one = worked front one-float one-float zero-float
 
+abbrev pub one-call : Call
+one-call = sounding-call one-float zero-float
+
+abbrev pub infinite-call : Call
+infinite-call = sounding-call (inf false) nan
+
 abbrev pub infinite : Drill
 infinite = worked front (inf false) (inf false) nan
 
@@ -158,6 +169,6 @@ one-counts : unsettledCounts (fresh four) (one .plays) ≡ 0 ∷ 0 ∷ 0 ∷ []
 unfolding refusalOf outcome flatten mixed Numbers.rounded add mul ieee.sum round size span climb units odd
 one-counts = refl
 
-infinite-counts : unsettledCounts (fresh four) (infinite .plays) ≡ 0 ∷ 0 ∷ 2 ∷ []
+pub infinite-counts : unsettledCounts (fresh four) (infinite .plays) ≡ 0 ∷ 0 ∷ 2 ∷ []
 unfolding refusalOf outcome flatten mixed Numbers.rounded add mul ieee.sum round size span climb units odd
 infinite-counts = refl

@@ -1,5 +1,5 @@
 -- Demand 3 on the frames after encoding, in the order of its words (`runs`, specs/Demand.antt); it is shown in proofs/Demand.antt. Document 02, E1: "Demand 3 reads on the frames after encoding." Definitions only.
-use Prim.Native.Nat.{ℕ, _+_, _<_}
+use Prim.Native.Nat.{ℕ, suc, _+_, _<_}
 use mathlib.Core.Path.{_≡_}
 use mathlib.Core.Bool.{Bool, true, false}
 use mathlib.Core.List.{List, []}
@@ -56,8 +56,9 @@ pub record DrillDemand3 : Type 0 where
   pub settled : (u : Setup) (d e : Drill) → Drilled u d → Drilled u e → (n m : ℕ) → Agree u d n e m → damagedAmong u (encoded d) n ≡ damagedAmong u (encoded e) m
   -- (c) "Each call's unsettled count is exactly the number of its frames with a damaged frame among those L"
   pub counts : (u : Setup) (d : Drill) → Drilled u d → unsettledCounts (d .start) (d .plays) ≡ damagedCounts u (encoded d) 0 (d .start) (d .plays)
-  -- "before the first cue every output is 0.0": no such frame is damaged, whatever the sample
+  -- "before the first cue every output is 0.0": where nobody speaks no frame is damaged, whatever the sample; and until somebody has spoken every frame is settled
   pub silent : (u : Setup) (d : Drill) → Drilled u d → (n : ℕ) → n < length (encoded d) → voiceAt (d .cues) (d .first + n) ≡ nobody → damaged u (getD (encoded d) n []) ≡ false
+  pub quiet : (u : Setup) (d : Drill) → Drilled u d → (n : ℕ) → n < length (encoded d) → ((j : ℕ) → j < suc n → voiceAt (d .cues) (d .first + j) ≡ nobody) → damagedAmong u (encoded d) n ≡ false
   -- from the first cue on a NaN sample is damage, and so is an infinite one where a channel's gain is 0.0: their product is NaN
   pub nan-damages : (u : Setup) (d : Drill) → Drilled u d → (n : ℕ) → n < length (encoded d) → (v : Direction) → voiceAt (d .cues) (d .first + n) ≡ speaking v
       → getD (samples d) n nan ≡ nan → damaged u (getD (encoded d) n []) ≡ true
