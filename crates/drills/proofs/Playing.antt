@@ -6,7 +6,6 @@ use native.Mathlib.Nat.{suc-ne-zero}
 use lib.IntN.{ℤ}
 use lib.ListN.{length, replicate, length-replicate}
 use lib.Ieee.{Float}
-use Rattle.refusals.specs.Refusals.{answered}
 use Rattle.refusals.proofs.First.{or-off}
 use Rattle.refusals.proofs.Chains.{none-holds}
 use Rattle.formats.specs.Floats.{zero-float}
@@ -38,7 +37,7 @@ use Rattle.runs.specs.Runs.{next, Alike}
 use Rattle.runs.specs.Demand.{Run}
 use Rattle.runs.specs.NeverRefused.{AllFitted, BankAccepted, NoneRefused}
 use Rattle.runs.proofs.NeverRefused.{good-bank}
-use Rattle.drills.specs.Drills.{Drill, Drilled, Planes, leaves, leavesAll, left, takesAll}
+use Rattle.drills.specs.Drills.{Drill, Drilled, Planes, passing, outputs, leaves, left, takes}
 use Rattle.drills.specs.Playing.{setUp, callOf, callsOf, Eared, DrillPlays}
 use Rattle.drills.proofs.Demand.{drill-handed}
 
@@ -60,10 +59,7 @@ module _ (cues : List Cue) (order : ℕ) where
       (or-off (unfit input 1 (s .stride) (s .frames)) (unfit out (channelsOfOrder (s .order)) (s .stride) (s .frames))
       (or-off (misfit input out (channelsOfOrder (s .order)) (s .stride) (s .frames)) (runsPast (s .first) (s .frames)) (off .1 .1 .0) .0) .1)
 
-  abbrev planes : Script.Call → ℕ → Planes
-  planes c f = record { list = Script.blockAt cues order c f .out; stride = c .stride; frames = c .frames }
-
-  left-fits : (c : Script.Call) (f : ℕ) → Script.refusalAt cues order c f ≡ 0 → Fits (channelsOfOrder order) (planes c f)
+  left-fits : (c : Script.Call) (f : ℕ) → Script.refusalAt cues order c f ≡ 0 → Fits (channelsOfOrder order) (outputs cues order c f)
   left-fits c f z =
       let fit = lent-fits (Script.stretchOf cues order c f) (length (c .input)) (length (c .out)) z in
       let played = playedOf (Script.stretchOf cues order c f) cues (c .input) in (
@@ -71,13 +67,13 @@ module _ (cues : List Cue) (order : ℕ) where
         ap (λ (b : Block). length (b .out)) (block-accepted answerOf (c .frames) (c .stride) played (c .out) (Script.refusalAt cues order c f) z) ∙ length-with-frames (c .out) (c .stride) 0 played ∙ fit .1,
       )
 
-  one-fits : (c : Script.Call) (f n : ℕ) → Script.refusalAt cues order c f ≡ n → (ps : List Planes) → AllFit (channelsOfOrder order) ps → AllFit (channelsOfOrder order) (leaves cues order c f ++ ps)
-  one-fits c f zero e ps h = subst (λ (m : ℕ). AllFit (channelsOfOrder order) (answered m (planes c f ∷ []) (λ k. []) ++ ps)) (sym e) (left-fits c f e, h)
-  one-fits c f (suc n) e ps h = subst (λ (m : ℕ). AllFit (channelsOfOrder order) (answered m (planes c f ∷ []) (λ k. []) ++ ps)) (sym e) h
+  one-fits : (c : Script.Call) (f n : ℕ) → Script.refusalAt cues order c f ≡ n → (ps : List Planes) → AllFit (channelsOfOrder order) ps → AllFit (channelsOfOrder order) (passing (Script.refusalAt cues order c f) (outputs cues order c f) ++ ps)
+  one-fits c f zero e ps h = subst (λ (m : ℕ). AllFit (channelsOfOrder order) (passing m (outputs cues order c f) ++ ps)) (sym e) (left-fits c f e, h)
+  one-fits c f (suc n) e ps h = subst (λ (m : ℕ). AllFit (channelsOfOrder order) (passing m (outputs cues order c f) ++ ps)) (sym e) h
 
-  all-fit : (f : ℕ) (cs : List Script.Call) → AllFit (channelsOfOrder order) (leavesAll cues order f cs)
+  all-fit : (f : ℕ) (cs : List Script.Call) → AllFit (channelsOfOrder order) (leaves cues order f cs)
   all-fit f [] = tt
-  all-fit f (c ∷ cs) = one-fits c f (Script.refusalAt cues order c f) refl (leavesAll cues order (Script.next cues order c f) cs) (all-fit (Script.next cues order c f) cs)
+  all-fit f (c ∷ cs) = one-fits c f (Script.refusalAt cues order c f) refl (leaves cues order (Script.next cues order c f) cs) (all-fit (Script.next cues order c f) cs)
 
 -- ---- calls that are lent such planes
 
@@ -92,11 +88,11 @@ module _ (b : Form.Bank) (o : Arrangement) where
   calls-alike t (p ∷ ps) (e ∷ es) = (λ z. same-filters (setUp b o), calls-alike _ ps es)
 
   -- being accepted, they take them all
-  calls-take : (t : State) (ps : List Planes) (es : List (List Float)) → Both Eared ps es → NoneRefused t (callsOf b o ps es) → takesAll t (callsOf b o ps es) ≡ ps
+  calls-take : (t : State) (ps : List Planes) (es : List (List Float)) → Both Eared ps es → NoneRefused t (callsOf b o ps es) → takes t (callsOf b o ps es) ≡ ps
   calls-take t [] [] k h = refl
   calls-take t (p ∷ ps) (e ∷ es) k h =
       let c = callOf b o p e in
-      ap (λ (n : ℕ). answered n (p ∷ []) (λ m. []) ++ takesAll (next c t) (callsOf b o ps es)) (h .0) ∙ ap (λ (qs : List Planes). p ∷ qs) (calls-take (next c t) ps es (k .1) (h .1))
+      ap (λ (n : ℕ). passing n p ++ takes (next c t) (callsOf b o ps es)) (h .0) ∙ ap (λ (qs : List Planes). p ∷ qs) (calls-take (next c t) ps es (k .1) (h .1))
 
 -- ---- from the bank file on
 
@@ -145,7 +141,7 @@ module _ (r : ReadOutcome) (k : BankAccepted r) (d : Drill) (weights : List Floa
   play is = (
     subst (NoneRefused (d .start)) (sym is) none-refused,
     drill-handed (setUp (bankFound r) o) d (subst (Run (setUp (bankFound r) o) (d .start)) (sym is) runs) counted
-        (ap (takesAll (d .start)) is ∙ calls-take (bankFound r) o (d .start) (left d) es eared none-refused),
+        (ap (takes (d .start)) is ∙ calls-take (bankFound r) o (d .start) (left d) es eared none-refused),
   )
 
 pub drill-plays : DrillPlays

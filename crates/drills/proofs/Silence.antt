@@ -40,8 +40,11 @@ rendered-at cues order f (x ∷ xs) (suc n) h =
     further : f + 1 + n ≡ f + suc n
     further = omega arith
 
+length-encoded : (d : Drill) → length (encoded d) ≡ length (samples d)
+length-encoded d = length-rendered (d .cues) (d .order) _ (samples d)
+
 pub encoded-at : (d : Drill) (n : ℕ) → n < length (encoded d) → getD (encoded d) n [] ≡ spoken (d .order) (voiceAt (d .cues) (d .first + n)) (getD (samples d) n nan)
-encoded-at d n h = rendered-at (d .cues) (d .order) (d .first) (samples d) n (omega (arith, length-rendered (d .cues) (d .order) (d .first) (samples d)))
+encoded-at d n h = rendered-at (d .cues) (d .order) (d .first) (samples d) n (omega (arith, length-encoded d))
 
 -- ---- nobody speaks
 
@@ -96,5 +99,5 @@ before-earlier (c ∷ cs) f j n h b = omega (arith, h, b)
 module _ (d : Drill) (n : ℕ) (h : n < length (encoded d)) (b : Before (d .cues) (d .first + n)) where
   pub before-nobody : (j : ℕ) → j < suc n → voiceAt (d .cues) (d .first + j) ≡ nobody
   before-nobody j l =
-      let some : 0 < length (samples d) = omega (arith, h, length-rendered (d .cues) (d .order) (d .first) (samples d)) in
+      let some : 0 < length (samples d) = omega (arith, h, length-encoded d) in
       nobody-before (d .cues) (d .first + j) (some-rise (d .cues) (d .order) (d .first) (d .renders) some) (before-earlier (d .cues) (d .first) j n l b)

@@ -62,25 +62,30 @@ pub record Planes : Type 0 where
   pub stride : ℕ
   pub frames : ℕ
 
--- those that a call of `render` from the frame f on leaves, if it is accepted, and those of calls one after another
-module _ (cues : List Cue) (order : ℕ) where
-  abbrev pub leaves : Script.Call → ℕ → List Planes
-  leaves c f = answered (Script.refusalAt cues order c f) (record { list = Script.blockAt cues order c f .out; stride = c .stride; frames = c .frames } ∷ []) (λ n. [])
+-- what a call passes on, by its number: nothing where it is refused
+abbrev pub passing : ℕ → Planes → List Planes
+passing n p = answered n (p ∷ []) (λ k. [])
 
-  abbrev pub leavesAll : ℕ → List Script.Call → List Planes
-  leavesAll f [] = []
-  leavesAll f (c ∷ cs) = leaves c f ++ leavesAll (Script.next cues order c f) cs
+module _ (cues : List Cue) (order : ℕ) where
+  -- the output planes as a call of `render` from the frame f on leaves them
+  abbrev pub outputs : Script.Call → ℕ → Planes
+  outputs c f = record { list = Script.blockAt cues order c f .out; stride = c .stride; frames = c .frames }
+
+  -- those of calls one after another
+  abbrev pub leaves : ℕ → List Script.Call → List Planes
+  leaves f [] = []
+  leaves f (c ∷ cs) = passing (Script.refusalAt cues order c f) (outputs c f) ++ leaves (Script.next cues order c f) cs
 
 abbrev pub left : Drill → List Planes
-left d = leavesAll (d .cues) (d .order) (d .first) (d .renders)
+left d = leaves (d .cues) (d .order) (d .first) (d .renders)
 
--- those that a call of `process` is lent as its inputs, if it is accepted, and those of calls one after another
-abbrev pub takes : Call → State → List Planes
-takes c t = answered (refusalOf c t) (record { list = c .inputs; stride = c .stride; frames = c .frames } ∷ []) (λ n. [])
+-- the input planes that a call of `process` is lent, and those of calls one after another
+abbrev pub inputs : Call → Planes
+inputs c = record { list = c .inputs; stride = c .stride; frames = c .frames }
 
-abbrev pub takesAll : State → List Call → List Planes
-takesAll t [] = []
-takesAll t (c ∷ cs) = takes c t ++ takesAll (next c t) cs
+abbrev pub takes : State → List Call → List Planes
+takes t [] = []
+takes t (c ∷ cs) = passing (refusalOf c t) (inputs c) ++ takes (next c t) cs
 
 abbrev pub taken : Drill → List Planes
-taken d = takesAll (d .start) (d .plays)
+taken d = takes (d .start) (d .plays)
