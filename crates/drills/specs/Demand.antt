@@ -50,7 +50,7 @@ pub record DrillDemand3 : Type 0 where
   pub all : (u : Setup) (d : Drill) → Drilled u d → length (heard d) ≡ length (encoded d)
   -- (a) "both ear samples at n are document 01's sums"
   pub sums : (u : Setup) (d : Drill) → Drilled u d → (n : ℕ) → n < length (encoded d) → getD (heard d) n [] ≡ earSamples u (upto u (encoded d) n)
-  -- (b) "If they agree on frame n and the L-1 frames before it", they are "equal in both runs, whatever NaN or noise came earlier": whatever the cues, the orders and the samples are
+  -- (b) "If they agree on frame n and the L-1 frames before it", they are "equal in both runs, whatever NaN or noise came earlier": whatever the cues, the frame numbers and the samples are
   pub equal : (u : Setup) (d e : Drill) → Drilled u d → Drilled u e → (n m : ℕ) → n < length (encoded d) → m < length (encoded e) → Agree u d n e m → getD (heard d) n [] ≡ getD (heard e) m []
   -- and they are both unsettled there, or both settled
   pub settled : (u : Setup) (d e : Drill) → Drilled u d → Drilled u e → (n m : ℕ) → Agree u d n e m → damagedAmong u (encoded d) n ≡ damagedAmong u (encoded e) m
