@@ -100,16 +100,21 @@ some-weighed u t (c ∷ cs) a h = weighed-by u c t (a .0) (refusalOf c t) refl (
 module _ (u : Setup) (d : Drill) (a : Alike u (d .start) (d .plays)) (channels : u .channels ≡ channelsOfOrder (d .order)) (is : fed d ≡ encoded d) where
   pub product-damages : (n : ℕ) → n < length (encoded d) → (v : Direction) → voiceAt (d .cues) (d .first + n) ≡ speaking v → (p : ℕ) → p < channelsOfOrder (d .order)
       → mul binary32 (getD (samples d) n nan) (getD (gainsAt (d .order) v) p nan) ≡ nan → damaged u (getD (encoded d) n []) ≡ true
-  product-damages n l v at p c e = ap (damaged u) frame ∙ channel-damages u (some .0) (some .1) spoke p (subst (λ (m : ℕ). p < m) (sym channels) c) (subst (λ (m : ℕ). p < m) (sym (length-tab 0 (channelsOfOrder (d .order)) _)) c) there
+  product-damages n l v at p c e =
+      ap (damaged u) frame
+      ∙ channel-damages u (some .0) (some .1) (tab 0 planes product) p (subst (λ (m : ℕ). p < m) (sym channels) c) (subst (λ (m : ℕ). p < m) (sym (length-tab 0 planes product)) c) there
     where
-      spoke : List Float
-      spoke = spoken (d .order) (speaking v) (getD (samples d) n nan)
+      planes : ℕ
+      planes = channelsOfOrder (d .order)
 
-      frame : getD (encoded d) n [] ≡ spoke
+      product : ℕ → Float
+      product q = mul binary32 (getD (samples d) n nan) (getD (gainsAt (d .order) v) q nan)
+
+      frame : getD (encoded d) n [] ≡ tab 0 planes product
       frame = encoded-at d n l ∙ ap (λ (w : Voice). spoken (d .order) w (getD (samples d) n nan)) at
 
       some : Weighed u
       some = some-weighed u (d .start) (d .plays) a (subst (λ (fs : List (List Float)). 0 < length fs) (sym is) (omega (arith, l)))
 
-      there : getD spoke p nan ≡ nan
-      there = getD-tab 0 (channelsOfOrder (d .order)) (λ q. mul binary32 (getD (samples d) n nan) (getD (gainsAt (d .order) v) q nan)) p nan c ∙ ap (λ (q : ℕ). mul binary32 (getD (samples d) n nan) (getD (gainsAt (d .order) v) q nan)) (zero-add p) ∙ e
+      there : getD (tab 0 planes product) p nan ≡ nan
+      there = getD-tab 0 planes product p nan c ∙ ap product (zero-add p) ∙ e

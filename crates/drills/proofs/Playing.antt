@@ -67,7 +67,8 @@ module _ (cues : List Cue) (order : ℕ) where
         ap (λ (b : Block). length (b .out)) (block-accepted answerOf (c .frames) (c .stride) played (c .out) (Script.refusalAt cues order c f) z) ∙ length-with-frames (c .out) (c .stride) 0 played ∙ fit .1,
       )
 
-  one-fits : (c : Script.Call) (f n : ℕ) → Script.refusalAt cues order c f ≡ n → (ps : List Planes) → AllFit (channelsOfOrder order) ps → AllFit (channelsOfOrder order) (passing (Script.refusalAt cues order c f) (outputs cues order c f) ++ ps)
+  one-fits : (c : Script.Call) (f n : ℕ) → Script.refusalAt cues order c f ≡ n → (ps : List Planes) → AllFit (channelsOfOrder order) ps
+      → AllFit (channelsOfOrder order) (passing (Script.refusalAt cues order c f) (outputs cues order c f) ++ ps)
   one-fits c f zero e ps h = subst (λ (m : ℕ). AllFit (channelsOfOrder order) (passing m (outputs cues order c f) ++ ps)) (sym e) (left-fits c f e, h)
   one-fits c f (suc n) e ps h = subst (λ (m : ℕ). AllFit (channelsOfOrder order) (passing m (outputs cues order c f) ++ ps)) (sym e) h
 

@@ -98,7 +98,7 @@ module _ (u : Setup) (d : Drill) (c : Call) (cs : List Call) (h : Drilled u (beg
           ∙ getD-tab 0 2 (λ s. sampleAt (q .ears) (c .stride) s n) ear nan k
           ∙ ap (λ (s : ℕ). sampleAt (q .ears) (c .stride) s n) (zero-add ear))
 
--- such is the first call of the worked drill, whose sample is a NaN
+-- so it is of the first call of the worked drill, whose sample is a NaN
 one-fed : length (fedTo silent-call (fresh four)) ≡ 1
 unfolding refusalOf
 one-fed = refl
@@ -111,6 +111,8 @@ other-ears : (u : Setup) (d₁ d₂ : Drill) (c₁ c₂ : Call) (cs₁ cs₂ : L
     → (o₁ o₂ : Outcome) → Processes c₁ (d₁ .start) o₁ → Processes c₂ (d₂ .start) o₂ → (n m : ℕ) → n < o₁ .answer .samples → m < o₂ .answer .samples → Agree u d₁ n d₂ m
     → (ear : ℕ) → ear < 2 → (sampleAt (o₁ .ears) (c₁ .stride) ear n ≡ sampleAt (o₂ .ears) (c₂ .stride) ear m → ⊥) → ⊥
 other-ears u d₁ d₂ c₁ c₂ cs₁ cs₂ h₁ h₂ o₁ o₂ p₁ p₂ n m l₁ l₂ a ear k other =
-    let same =
-    drill-demand-3 .equal u (begun d₁ c₁ cs₁) (begun d₂ c₂ cs₂) h₁ h₂ n m (omega (arith, l₁, played-among u d₁ c₁ cs₁ h₁ o₁ p₁)) (omega (arith, l₂, played-among u d₂ c₂ cs₂ h₂ o₂ p₂)) a in
-    other (ears-heard u d₁ c₁ cs₁ h₁ o₁ p₁ n ear l₁ k ∙ ap (λ (f : List Float). getD f ear nan) same ∙ sym (ears-heard u d₂ c₂ cs₂ h₂ o₂ p₂ m ear l₂ k))
+    other
+    (ears-heard u d₁ c₁ cs₁ h₁ o₁ p₁ n ear l₁ k
+    ∙ ap (λ (f : List Float). getD f ear nan)
+    (drill-demand-3 .equal u (begun d₁ c₁ cs₁) (begun d₂ c₂ cs₂) h₁ h₂ n m (omega (arith, l₁, played-among u d₁ c₁ cs₁ h₁ o₁ p₁)) (omega (arith, l₂, played-among u d₂ c₂ cs₂ h₂ o₂ p₂)) a)
+    ∙ sym (ears-heard u d₂ c₂ cs₂ h₂ o₂ p₂ m ear l₂ k))
