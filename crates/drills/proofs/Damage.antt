@@ -1,0 +1,120 @@
+-- A NaN in one channel damages a frame at all weights, since every sum over it is NaN; and so does a sample whose product with the gain of a channel is NaN. Assumes nothing.
+use mathlib.Core.Path.{_≡_, refl, sym, ap, _∙_, subst}
+use mathlib.Core.Bool.{true, not, _||_}
+use mathlib.Core.List.{List, [], _∷_, _++_}
+use Prim.Native.Nat.{ℕ, zero, suc, _+_, _*_, _<_}
+use native.Mathlib.Nat.{not-suc-le-zero, le-of-suc-le-suc, zero-add}
+use native.Mathlib.Omega.{arith}
+use lib.Dec.{eqb}
+use lib.ListN.{length, getD}
+use lib.Ieee.{Float, nan, inf, fin, binary32, binary64, add, mul}
+use lib.Ieee.Scale.{finite}
+use Rattle.refusals.proofs.First.{or-off}
+use Rattle.refusals.proofs.Chains.{none-holds}
+use Rattle.formats.specs.Floats.{zero-float}
+use Rattle.lists.specs.Tables.{tab, row}
+use Rattle.lists.proofs.Tables.{length-tab, getD-tab, length-row}
+use Rattle.numbers.specs.Computed.{rounded, narrowed}
+use Rattle.checks.specs.Finite.{unsound}
+use Rattle.checks.specs.Lengths.{blockUnfit}
+use Rattle.checks.proofs.Checks.{is-equal}
+use Rattle.channel.specs.Orders.{channelsOfOrder}
+use Rattle.planes.specs.Sums.{total, products, dot, mixed}
+use Rattle.harmonics.specs.declared.Direction.{Direction}
+use Rattle.script.specs.Cues.{Voice, speaking, voiceAt}
+use Rattle.script.specs.Rendering.{spoken}
+use Rattle.history.specs.Setup.{Setup, SameFilters}
+use Rattle.history.specs.Signals.{signal, damaged}
+use Rattle.rings.specs.State.{State}
+use Rattle.hrtf_checks.specs.Call.{Call, setup, framesIn}
+use Rattle.hrtf_checks.specs.Refusals.{callChecks, refusalOf}
+use Rattle.hrtf_checks.proofs.Refusing.{some-speakers}
+use Rattle.runs.specs.Runs.{next, fedBy, Alike, fedAll}
+use Rattle.drills.specs.Drills.{Drill, samples, encoded, fed}
+use Rattle.drills.specs.Demand.{gainsAt}
+use Rattle.drills.proofs.Silence.{encoded-at}
+
+-- ---- sums over a NaN
+
+nan-added : (a : Float) → add binary64 a nan ≡ nan
+unfolding add
+nan-added nan = refl
+nan-added (inf s) = refl
+nan-added (fin s m e) = refl
+
+total-nan : (xs : List Float) → total nan xs ≡ nan
+unfolding add
+total-nan [] = refl
+total-nan (x ∷ xs) = total-nan xs
+
+dot-nan : (a : Float) (xs ws : List Float) (c : ℕ) → c < length xs → c < length ws → getD xs c nan ≡ nan → dot a xs ws ≡ nan
+unfolding mul
+dot-nan a [] ws c hx hw e = absurd (not-suc-le-zero hx)
+dot-nan a (x ∷ xs) [] c hx hw e = absurd (not-suc-le-zero hw)
+dot-nan a (x ∷ xs) (w ∷ ws) zero hx hw e = ap (λ (y : Float). total (add binary64 a (mul binary64 y w)) (products xs ws)) e ∙ ap (λ (y : Float). total y (products xs ws)) (nan-added a) ∙ total-nan (products xs ws)
+dot-nan a (x ∷ xs) (w ∷ ws) (suc c) hx hw e = dot-nan (add binary64 a (mul binary64 x w)) xs ws c (le-of-suc-le-suc hx) (le-of-suc-le-suc hw) e
+
+mixed-nan : (ws xs : List Float) (c : ℕ) → c < length xs → c < length ws → getD xs c nan ≡ nan → mixed ws xs ≡ nan
+unfolding mixed rounded
+mixed-nan ws xs c hx hw e = ap narrowed (dot-nan zero-float xs ws c hx hw e)
+
+-- ---- a frame
+
+first-nan : (n : ℕ) (f : ℕ → Float) → 0 < n → f 0 ≡ nan → unsound (tab 0 n f) ≡ true
+first-nan zero f h e = absurd (not-suc-le-zero h)
+first-nan (suc n) f h e = ap (λ (x : Float). not (finite x) || unsound (tab 1 n f)) e
+
+channel-damages : (u : Setup) → 0 < u .speakers → length (u .weights) ≡ u .speakers * u .channels → (f : List Float) (c : ℕ) → c < u .channels → c < length f → getD f c nan ≡ nan → damaged u f ≡ true
+channel-damages u some weighed f c hc hf e =
+    first-nan (u .speakers) (λ s. signal u s f) some
+    (mixed-nan (row (u .channels) 0 (u .weights)) f c hf (subst (λ (n : ℕ). c < n) (sym (length-row (u .channels) 0 (u .speakers) (u .weights) some weighed)) hc) e)
+
+-- ---- a run that is fed something has speakers, and weights for all of them
+
+weighed : (c : Call) (t : State) → refusalOf c t ≡ 0 → length (c .weights) ≡ c .shape .speakers * c .shape .channels
+unfolding refusalOf
+weighed c t e =
+    let p = none-holds (callChecks c t) tt e in
+    let planes = or-off (blockUnfit (length (c .inputs)) (c .shape .channels) (length (c .ears)) 2 (c .stride) (c .frames)) _ (p .1 .1 .0) in
+    let rings = or-off (not (eqb (length (t .rings)) (c .shape .speakers * c .shape .length))) _ (planes .1) in
+    is-equal (length (c .weights)) (c .shape .speakers * c .shape .channels) (or-off (not (eqb (length (c .weights)) (c .shape .speakers * c .shape .channels))) _ (rings .1) .0)
+
+abbrev Weighed : Setup → Type 0
+Weighed u = (0 < u .speakers) × (length (u .weights) ≡ u .speakers * u .channels)
+
+weighed-by : (u : Setup) (c : Call) (t : State) → (refusalOf c t ≡ 0 → SameFilters (setup c) u) → (n : ℕ) → refusalOf c t ≡ n → (fs : List (List Float)) → (0 < length fs → Weighed u)
+    → 0 < length (fedBy (refusalOf c t) (framesIn c) ++ fs) → Weighed u
+weighed-by u c t a zero e fs k h =
+    let same = a e in (
+      subst (λ (n : ℕ). 0 < n) (same .speakers) (some-speakers c t e),
+      sym (ap length (same .weights)) ∙ weighed c t e ∙ (λ i. same .speakers i * same .channels i),
+    )
+weighed-by u c t a (suc n) e fs k h = k (subst (λ (m : ℕ). 0 < length (fedBy m (framesIn c) ++ fs)) e h)
+
+some-weighed : (u : Setup) (t : State) (cs : List Call) → Alike u t cs → 0 < length (fedAll t cs) → Weighed u
+some-weighed u t [] a h = absurd (not-suc-le-zero h)
+some-weighed u t (c ∷ cs) a h = weighed-by u c t (a .0) (refusalOf c t) refl (fedAll (next c t) cs) (some-weighed u (next c t) cs (a .1)) h
+
+-- ---- a drill
+
+module _ (u : Setup) (d : Drill) (a : Alike u (d .start) (d .plays)) (channels : u .channels ≡ channelsOfOrder (d .order)) (is : fed d ≡ encoded d) where
+  pub product-damages : (n : ℕ) → n < length (encoded d) → (v : Direction) → voiceAt (d .cues) (d .first + n) ≡ speaking v → (p : ℕ) → p < channelsOfOrder (d .order)
+      → mul binary32 (getD (samples d) n nan) (getD (gainsAt (d .order) v) p nan) ≡ nan → damaged u (getD (encoded d) n []) ≡ true
+  product-damages n l v at p c e =
+      ap (damaged u) frame
+      ∙ channel-damages u (some .0) (some .1) (tab 0 planes product) p (subst (λ (m : ℕ). p < m) (sym channels) c) (subst (λ (m : ℕ). p < m) (sym (length-tab 0 planes product)) c) there
+    where
+      planes : ℕ
+      planes = channelsOfOrder (d .order)
+
+      product : ℕ → Float
+      product q = mul binary32 (getD (samples d) n nan) (getD (gainsAt (d .order) v) q nan)
+
+      frame : getD (encoded d) n [] ≡ tab 0 planes product
+      frame = encoded-at d n l ∙ ap (λ (w : Voice). spoken (d .order) w (getD (samples d) n nan)) at
+
+      some : Weighed u
+      some = some-weighed u (d .start) (d .plays) a (subst (λ (fs : List (List Float)). 0 < length fs) (sym is) (omega (arith, l)))
+
+      there : getD (tab 0 planes product) p nan ≡ nan
+      there = getD-tab 0 planes product p nan c ∙ ap product (zero-add p) ∙ e
