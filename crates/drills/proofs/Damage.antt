@@ -21,7 +21,7 @@ use Rattle.checks.proofs.Checks.{is-equal}
 use Rattle.channel.specs.Orders.{channelsOfOrder}
 use Rattle.planes.specs.Sums.{total, products, dot, mixed}
 use Rattle.harmonics.specs.declared.Direction.{Direction}
-use Rattle.script.specs.Cues.{Voice, speaking, voiceAt}
+use Rattle.cues.specs.Cues.{Voice, speaking, voiceAt}
 use Rattle.script.specs.Rendering.{spoken}
 use Rattle.history.specs.Setup.{Setup, SameFilters}
 use Rattle.history.specs.Signals.{signal, damaged}

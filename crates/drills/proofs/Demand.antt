@@ -10,9 +10,9 @@ use lib.Ieee.{Float, nan, inf, binary32, mul}
 use Rattle.formats.specs.Floats.{zero-float}
 use Rattle.channel.specs.Orders.{channelsOfOrder}
 use Rattle.harmonics.specs.declared.Direction.{Direction}
-use Rattle.script.specs.Cues.{speaking, voiceAt}
+use Rattle.cues.specs.Cues.{speaking, voiceAt}
 use Rattle.script.specs.Rendering.{rendered}
-use Rattle.script.proofs.Played.{Before}
+use Rattle.script.specs.DrillScript.{Before}
 use Rattle.script.proofs.Divided.{stretches}
 use Rattle.history.specs.Setup.{Setup}
 use Rattle.history.specs.Signals.{damaged}

@@ -9,7 +9,7 @@ use Rattle.lists.proofs.Joined.{joined-none, joined-one, joined-append}
 use Rattle.channel.specs.Orders.{channelsOfOrder}
 use Rattle.planes.specs.Planes.{framesOf}
 use Rattle.planes.proofs.Blocks.{block-refused, block-accepted}
-use Rattle.script.specs.declared.Cue.{Cue}
+use Rattle.cues.specs.declared.Cue.{Cue}
 use Rattle.script.specs.Rendering.{playedOf}
 use Rattle.script.specs.Promise.{answerOf, Block}
 use Rattle.script.specs.Stretches as Script

@@ -17,8 +17,8 @@ use Rattle.channel.specs.Orders.{channelsOfOrder}
 use Rattle.planes.proofs.Planes.{length-with-frames}
 use Rattle.planes.proofs.Blocks.{block-accepted}
 use Rattle.panner.specs.Blocks.{misfit}
-use Rattle.script.specs.declared.Cue.{Cue}
-use Rattle.script.specs.Cues.{framesOf, refusedOf, rises}
+use Rattle.cues.specs.declared.Cue.{Cue}
+use Rattle.cues.specs.Cues.{framesOf, refusedOf, rises}
 use Rattle.script.specs.Rendering.{Stretch, runsPast, checksOf, refusalOf as stretchRefusal, playedOf}
 use Rattle.script.specs.Promise.{answerOf, Block}
 use Rattle.script.specs.Stretches as Script

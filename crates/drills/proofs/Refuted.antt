@@ -14,7 +14,7 @@ use lib.Ieee.Scale.{finite}
 use Rattle.lists.specs.Tables.{tab, count}
 use Rattle.lists.proofs.Tables.{length-tab, getD-tab}
 use Rattle.planes.specs.Planes.{sampleAt, frameAt}
-use Rattle.script.proofs.Played.{Before}
+use Rattle.script.specs.DrillScript.{Before}
 use Rattle.history.specs.Setup.{Setup}
 use Rattle.history.specs.Signals.{damaged}
 use Rattle.rings.proofs.Blocks.{fresh}

@@ -15,11 +15,12 @@ use Rattle.lists.proofs.Tables.{tab-constant}
 use Rattle.checks.specs.Finite.{unsound}
 use Rattle.checks.proofs.Checks.{all-off}
 use Rattle.channel.specs.Orders.{channelsOfOrder}
-use Rattle.script.specs.declared.Cue.{Cue}
-use Rattle.script.specs.Cues.{Voice, nobody, framesOf, rises, voiceAt}
+use Rattle.cues.specs.declared.Cue.{Cue}
+use Rattle.cues.specs.Cues.{Voice, nobody, framesOf, rises, voiceAt}
 use Rattle.script.specs.Rendering.{samplesOf, spoken, rendered}
 use Rattle.script.specs.Stretches as Script
-use Rattle.script.proofs.Played.{cues-rise, Before, nobody-before}
+use Rattle.script.specs.DrillScript.{Before}
+use Rattle.script.proofs.Played.{cues-rise, nobody-before}
 use Rattle.history.specs.Setup.{Setup}
 use Rattle.history.specs.Signals.{damaged, silence}
 use Rattle.history.proofs.Silence.{silence-sound}

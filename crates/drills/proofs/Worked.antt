@@ -18,7 +18,7 @@ use Rattle.planes.specs.Sums.{mixed}
 use Rattle.planes.specs.Normalization.{inverseRoot}
 use Rattle.harmonics.specs.Computed.{sin, cos, wavesOf, upTo}
 use Rattle.harmonics.specs.Drill.{at}
-use Rattle.script.specs.declared.Cue.{Cue}
+use Rattle.cues.specs.declared.Cue.{Cue}
 use Rattle.script.specs.Rendering.{rendered}
 use Rattle.script.specs.Stretches as Script
 use Rattle.script.proofs.Divided.{stretches}

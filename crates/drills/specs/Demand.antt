@@ -12,7 +12,7 @@ use Rattle.harmonics.specs.declared.Direction.{Direction}
 use Rattle.panner.specs.declared.Command.the-variants.{Ambisonic}
 use Rattle.panner.specs.Commands.{gainsOf}
 use Rattle.panner.specs.Blocks.{narrowedAll}
-use Rattle.script.specs.Cues.{nobody, speaking, voiceAt}
+use Rattle.cues.specs.Cues.{nobody, speaking, voiceAt}
 use Rattle.history.specs.Setup.{Setup}
 use Rattle.history.specs.Signals.{damaged}
 use Rattle.history.specs.History.{earSamples, upto}

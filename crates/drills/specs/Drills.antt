@@ -6,7 +6,7 @@ use mathlib.Core.List.{List, [], _∷_, _++_}
 use lib.Ieee.{Float}
 use Rattle.refusals.specs.Refusals.{answered}
 use Rattle.channel.specs.Orders.{channelsOfOrder}
-use Rattle.script.specs.declared.Cue.{Cue}
+use Rattle.cues.specs.declared.Cue.{Cue}
 use Rattle.script.specs.Rendering.{rendered}
 use Rattle.script.specs.Stretches as Script
 use Rattle.history.specs.Setup.{Setup}
