@@ -5,19 +5,14 @@ use mathlib.Core.List.{List, [], _∷_, _++_}
 use Prim.Native.Nat.{ℕ, zero, suc, _+_, _*_, _<_}
 use native.Mathlib.Nat.{not-suc-le-zero, le-of-suc-le-suc, zero-add}
 use native.Mathlib.Omega.{arith}
-use lib.Dec.{eqb}
 use lib.ListN.{length, getD}
 use lib.Ieee.{Float, nan, inf, fin, binary32, binary64, add, mul}
 use lib.Ieee.Scale.{finite}
-use Rattle.refusals.proofs.First.{or-off}
-use Rattle.refusals.proofs.Chains.{none-holds}
 use Rattle.formats.specs.Floats.{zero-float}
 use Rattle.lists.specs.Tables.{tab, row}
 use Rattle.lists.proofs.Tables.{length-tab, getD-tab, length-row}
 use Rattle.numbers.specs.Computed.{rounded, narrowed}
 use Rattle.checks.specs.Finite.{unsound}
-use Rattle.checks.specs.Lengths.{blockUnfit}
-use Rattle.checks.proofs.Checks.{is-equal}
 use Rattle.channel.specs.Orders.{channelsOfOrder}
 use Rattle.planes.specs.Sums.{total, products, dot, mixed}
 use Rattle.harmonics.specs.declared.Direction.{Direction}
@@ -27,8 +22,8 @@ use Rattle.history.specs.Setup.{Setup, SameFilters}
 use Rattle.history.specs.Signals.{signal, damaged}
 use Rattle.rings.specs.State.{State}
 use Rattle.hrtf_checks.specs.Call.{Call, setup, framesIn}
-use Rattle.hrtf_checks.specs.Refusals.{callChecks, refusalOf}
-use Rattle.hrtf_checks.proofs.Refusing.{some-speakers}
+use Rattle.hrtf_checks.specs.Refusals.{refusalOf}
+use Rattle.hrtf_checks.proofs.Refusing.{some-speakers, weighed}
 use Rattle.runs.specs.Runs.{next, fedBy, Alike, fedAll}
 use Rattle.drills.specs.Drills.{Drill, samples, encoded, fed}
 use Rattle.drills.specs.Demand.{gainsAt}
@@ -70,14 +65,6 @@ channel-damages u some weighed f c hc hf e =
     (mixed-nan (row (u .channels) 0 (u .weights)) f c hf (subst (λ (n : ℕ). c < n) (sym (length-row (u .channels) 0 (u .speakers) (u .weights) some weighed)) hc) e)
 
 -- ---- a run that is fed something has speakers, and weights for all of them
-
-weighed : (c : Call) (t : State) → refusalOf c t ≡ 0 → length (c .weights) ≡ c .shape .speakers * c .shape .channels
-unfolding refusalOf
-weighed c t e =
-    let p = none-holds (callChecks c t) tt e in
-    let planes = or-off (blockUnfit (length (c .inputs)) (c .shape .channels) (length (c .ears)) 2 (c .stride) (c .frames)) _ (p .1 .1 .0) in
-    let rings = or-off (not (eqb (length (t .rings)) (c .shape .speakers * c .shape .length))) _ (planes .1) in
-    is-equal (length (c .weights)) (c .shape .speakers * c .shape .channels) (or-off (not (eqb (length (c .weights)) (c .shape .speakers * c .shape .channels))) _ (rings .1) .0)
 
 abbrev Weighed : Setup → Type 0
 Weighed u = (0 < u .speakers) × (length (u .weights) ≡ u .speakers * u .channels)

@@ -6,22 +6,16 @@ use native.Mathlib.Nat.{suc-ne-zero}
 use lib.IntN.{ℤ}
 use lib.ListN.{length, replicate, length-replicate}
 use lib.Ieee.{Float}
-use Rattle.refusals.proofs.First.{or-off}
-use Rattle.refusals.proofs.Chains.{none-holds}
 use Rattle.formats.specs.Floats.{zero-float}
-use Rattle.lists.specs.Tables.{any}
 use Rattle.lists.specs.Both.{Both}
-use Rattle.checks.specs.Lengths.{unfit}
-use Rattle.checks.proofs.Checks.{fitted}
 use Rattle.channel.specs.Orders.{channelsOfOrder}
 use Rattle.planes.proofs.Planes.{length-with-frames}
 use Rattle.planes.proofs.Blocks.{block-accepted}
-use Rattle.panner.specs.Blocks.{misfit}
 use Rattle.cues.specs.declared.Cue.{Cue}
-use Rattle.cues.specs.Cues.{framesOf, refusedOf, rises}
-use Rattle.script.specs.Rendering.{Stretch, runsPast, checksOf, refusalOf as stretchRefusal, playedOf}
+use Rattle.script.specs.Rendering.{refusalOf as stretchRefusal, playedOf}
 use Rattle.script.specs.Promise.{answerOf, Block}
 use Rattle.script.specs.Stretches as Script
+use Rattle.script.proofs.Played.{room, long}
 use Rattle.bank_form.specs.Bank as Form
 use Rattle.bank.specs.Reading.{ReadOutcome, bankFound}
 use Rattle.desk.specs.declared.Desk.{Desk}
@@ -51,20 +45,12 @@ AllFit channels [] = Unit {0}
 AllFit channels (p ∷ ps) = Fits channels p × AllFit channels ps
 
 module _ (cues : List Cue) (order : ℕ) where
-  -- an accepted stretch has room in its output planes
-  lent-fits : (s : Stretch) (input out : ℕ) → stretchRefusal s cues input out ≡ 0 → (s .frames ≤ s .stride) × (out ≡ channelsOfOrder (s .order) * s .stride)
-  lent-fits s input out z =
-      let off = none-holds (checksOf s (any (refusedOf cues)) (rises (framesOf cues)) (length cues) input out) tt z in
-      fitted out (channelsOfOrder (s .order)) (s .stride) (s .frames)
-      (or-off (unfit input 1 (s .stride) (s .frames)) (unfit out (channelsOfOrder (s .order)) (s .stride) (s .frames))
-      (or-off (misfit input out (channelsOfOrder (s .order)) (s .stride) (s .frames)) (runsPast (s .first) (s .frames)) (off .1 .1 .0) .0) .1)
-
   left-fits : (c : Script.Call) (f : ℕ) → Script.refusalAt cues order c f ≡ 0 → Fits (channelsOfOrder order) (outputs cues order c f)
   left-fits c f z =
-      let fit = lent-fits (Script.stretchOf cues order c f) (length (c .input)) (length (c .out)) z in
-      let played = playedOf (Script.stretchOf cues order c f) cues (c .input) in (
-        fit .0,
-        ap (λ (b : Block). length (b .out)) (block-accepted answerOf (c .frames) (c .stride) played (c .out) (Script.refusalAt cues order c f) z) ∙ length-with-frames (c .out) (c .stride) 0 played ∙ fit .1,
+      let s = Script.stretchOf cues order c f in
+      let played = playedOf s cues (c .input) in (
+        room s cues (c .input) (c .out) z,
+        ap (λ (b : Block). length (b .out)) (block-accepted answerOf (c .frames) (c .stride) played (c .out) (Script.refusalAt cues order c f) z) ∙ length-with-frames (c .out) (c .stride) 0 played ∙ long s cues (c .input) (c .out) z,
       )
 
   one-fits : (c : Script.Call) (f n : ℕ) → Script.refusalAt cues order c f ≡ n → (ps : List Planes) → AllFit (channelsOfOrder order) ps

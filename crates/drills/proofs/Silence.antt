@@ -10,7 +10,7 @@ use lib.Seq.{getD-take, length-take-le, ext-getD}
 use lib.Ieee.{Float, nan}
 use Rattle.refusals.specs.Refusals.{answered}
 use Rattle.formats.specs.Floats.{zero-float}
-use Rattle.lists.proofs.Lists.{reverse-replicate}
+use Rattle.lists.proofs.Lists.{reverse-replicate, replicate-at}
 use Rattle.lists.proofs.Tables.{tab-constant}
 use Rattle.checks.specs.Finite.{unsound}
 use Rattle.checks.proofs.Checks.{all-off}
@@ -54,11 +54,6 @@ nobody-silent u order x c = tab-constant 0 (channelsOfOrder order) zero-float �
 
 encoded-silent : (u : Setup) (d : Drill) → u .channels ≡ channelsOfOrder (d .order) → (n : ℕ) → n < length (encoded d) → voiceAt (d .cues) (d .first + n) ≡ nobody → getD (encoded d) n [] ≡ silence u
 encoded-silent u d c n h v = encoded-at d n h ∙ ap (λ (w : Voice). spoken (d .order) w (getD (samples d) n nan)) v ∙ nobody-silent u (d .order) (getD (samples d) n nan) c
-
-replicate-at : {A : Type 0} (n k : ℕ) (a : A) → getD (replicate n a) k a ≡ a
-replicate-at zero k a = refl
-replicate-at (suc n) zero a = refl
-replicate-at (suc n) (suc k) a = replicate-at n k a
 
 module _ (u : Setup) (finite : unsound (u .weights) ≡ false) (d : Drill) (c : u .channels ≡ channelsOfOrder (d .order)) (n : ℕ) (h : n < length (encoded d)) where
   pub silent-sound : voiceAt (d .cues) (d .first + n) ≡ nobody → damaged u (getD (encoded d) n []) ≡ false

@@ -70,22 +70,33 @@ module _ (c : Call) (t : State) where
   pub some-speakers : refusalOf c t ≡ 0 → 0 < c .shape .speakers
   some-speakers e = not-outside (c .shape .speakers) 8 (or-off (outside (c .shape .speakers) 8) _ (every-test e .0) .0) .0
 
+  -- the rings, the weights and the taps
+  lent : refusalOf c t ≡ 0 → (length (t .rings) ≡ c .shape .speakers * c .shape .length) × (length (c .weights) ≡ c .shape .speakers * c .shape .channels) × (length (c .taps) ≡ 2 * c .shape .rows * c .shape .length)
+  lent e =
+      let planes = or-off badPlanes _ (every-test e .1 .1 .0) in
+      let rings = or-off (not (eqb (length (t .rings)) (c .shape .speakers * c .shape .length))) _ (planes .1) in
+      let weights = or-off (not (eqb (length (c .weights)) (c .shape .speakers * c .shape .channels))) _ (rings .1) in (
+        is-equal (length (t .rings)) (c .shape .speakers * c .shape .length) (rings .0),
+        is-equal (length (c .weights)) (c .shape .speakers * c .shape .channels) (weights .0),
+        is-equal (length (c .taps)) (2 * c .shape .rows * c .shape .length) (weights .1),
+      )
+
+  pub weighed : refusalOf c t ≡ 0 → length (c .weights) ≡ c .shape .speakers * c .shape .channels
+  weighed e = lent e .1
+
   pub ready : refusalOf c t ≡ 0 → Ready (c .shape) (t .desk .position) (c .rows) (c .taps) (t .rings)
   ready e =
       let p = every-test e in
       let a1 = or-off (outside (c .shape .speakers) 8) _ (p .0) in
       let a2 = or-off (outside (c .shape .rows) 8) _ (a1 .1) in
       let a3 = or-off (outside (c .shape .channels) 16) _ (a2 .1) in
-      let b2 = or-off badPlanes _ (p .1 .1 .0) in
-      let b3 = or-off (not (eqb (length (t .rings)) (c .shape .speakers * c .shape .length))) _ (b2 .1) in
-      let b4 = or-off (not (eqb (length (c .weights)) (c .shape .speakers * c .shape .channels))) _ (b3 .1) in
       let d1 = or-off (leb (c .shape .length) (t .desk .position)) _ (p .1 .1 .1 .1 .0) in
       record {
         few = not-outside (c .shape .speakers) 8 (a1 .0) .1;
         chosen = λ s lt. leb-false (c .shape .rows) (getD (c .rows) s 0)
             (subst (λ (k : ℕ). leb (c .shape .rows) (getD (c .rows) k 0) ≡ false) (zero-add s)
             (any-off 0 (c .shape .speakers) (λ k. leb (c .shape .rows) (getD (c .rows) k 0)) (a3 .1) s lt));
-        tapped = is-equal (length (c .taps)) (2 * c .shape .rows * c .shape .length) (b4 .1);
-        ringed = is-equal (length (t .rings)) (c .shape .speakers * c .shape .length) (b3 .0);
+        tapped = lent e .2;
+        ringed = lent e .0;
         within = leb-false (c .shape .length) (t .desk .position) (d1 .0);
       }

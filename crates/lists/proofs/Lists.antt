@@ -78,6 +78,11 @@ module _ {A : Type 0} where
       getD-reverse (replicate n a) k a (omega (arith, length-replicate n a))
       ∙ getD-replicate n (length (replicate n a) - 1 - k) a a (omega (arith, length-replicate n a)) ∙ sym (getD-replicate n k a a k<n))
 
+  pub replicate-at : (n k : ℕ) (a : A) → getD (replicate n a) k a ≡ a
+  replicate-at zero k a = refl
+  replicate-at (suc n) zero a = refl
+  replicate-at (suc n) (suc k) a = replicate-at n k a
+
   pub take-replicate : (k n : ℕ) (a : A) → k ≤ n → take k (replicate n a) ≡ replicate k a
   take-replicate zero n a h = refl
   take-replicate (suc k) zero a h = absurd (not-suc-le-zero h)

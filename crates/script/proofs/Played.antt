@@ -49,10 +49,10 @@ module _ (s : Stretch) (cues : List Cue) (input out : List Float) (z : refusalOf
       or-off (unfit (length input) 1 (s .stride) (s .frames)) (unfit (length out) (channelsOfOrder (s .order)) (s .stride) (s .frames))
       (or-off (misfit (length input) (length out) (channelsOfOrder (s .order)) (s .stride) (s .frames)) (runsPast (s .first) (s .frames)) (off .1 .1 .0) .0) .1
 
-  room : s .frames ≤ s .stride
+  pub room : s .frames ≤ s .stride
   room = fitted (length out) (channelsOfOrder (s .order)) (s .stride) (s .frames) fit .0
 
-  long : length out ≡ channelsOfOrder (s .order) * s .stride
+  pub long : length out ≡ channelsOfOrder (s .order) * s .stride
   long = fitted (length out) (channelsOfOrder (s .order)) (s .stride) (s .frames) fit .1
 
   pub frames-most : s .frames ≤ mostFrames
