@@ -1,0 +1,2 @@
+-- The first elements of an array, apart from the others.
+mod Prefix
