@@ -8,7 +8,7 @@ use base.Logic.{ent, sep}
 use base.Fml.{Share, Fml}
 use prog.Wp.{Heap}
 use ghost.Atoms.{Atoms, sem}
-use types.Kit.{Given, ‵, _⊛_, _$_, _∵_, !, qed, move, use1, use2, drop as toss, rewrite, split, fsplit, fjoin, feqI, done}
+use types.Kit.{Given, ‵, _⊛_, _$_, _∵_, !, qed, use1, use2, drop as toss, rewrite, split, fsplit, fjoin, feqI, done}
 use types.SemTy.{cells}
 use types.Share.{arr-parts}
 use denote.RattleType.{RattleType}

@@ -1,1 +1,2 @@
--- What is answered.
+-- What is answered to a request of this family.
+pub mod Answers

@@ -1,7 +1,7 @@
 -- `probe_script::render_first` meets its contract: a walk of its MIR, by hand. The array is copied into a local of its own, the first `count` of which are lent as a slice for a lifetime that the walk makes (`Prefix`), and taken back, so
 -- that it can be freed. The input and the output planes are passed on at their own lifetimes. All that the proof knows of `render` is that it meets its contract. Assumes nothing.
 -- A comment in brackets lists the context at its place, `_i` being a local and its right to die.
-use mathlib.Core.Path.{_≡_, refl, sym, subst}
+use mathlib.Core.Path.{_≡_, refl, sym}
 use Prim.Native.Nat.{ℕ, _≤_, _<_, _^_}
 use native.Mathlib.Omega.{arith}
 use mathlib.Core.List.{List, [], _∷_}
@@ -18,7 +18,7 @@ use base.Fml.{Lft, GName, Share, Fml, ftrue, fsep, fat, flft, flent}
 use prog.Memory.{Memory}
 use prog.Routine.{Routine}
 use prog.Wp.{Heap, WpFn, Tables}
-use ghost.Atoms.{Atoms, sem}
+use ghost.Atoms.{Atoms}
 use contract.Monad.{Fun, fact}
 use contract.Lifetimes.{Lfts, AllOutlive}
 use contract.Running.{givenOf, tables, tablesOf}
