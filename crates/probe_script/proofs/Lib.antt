@@ -1,3 +1,5 @@
--- The first elements of an array, apart from the others; and the answer to a stretch.
+-- The first elements of an array, apart from the others; the answer to a stretch; that no two answers meet one promise; and wrong answers.
 mod Prefix
 mod Shown
+mod Unique
+mod Refuted

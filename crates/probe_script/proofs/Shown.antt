@@ -1,10 +1,9 @@
 -- The answer to a stretch of a drill script: the cues that a request gives are read, the block that `script` promises for them is shown in part, or there is no answer. Assumes nothing.
-use mathlib.Core.Path.{_≡_, refl, sym, ap, _∙_}
+use mathlib.Core.Path.{_≡_, sym, ap, _∙_}
 use mathlib.Core.Bool.{Bool, true, false, _&&_, not, and-eq-true-iff}
 use mathlib.Core.List.{List}
 use mathlib.Core.Logic.{⊎-elim}
 use Prim.Native.Nat.{ℕ, _+_, _-_, _*_, _≤_, _<_}
-use native.Mathlib.Nat.{le-refl}
 use native.Mathlib.Omega.{arith}
 use borrow.Author.Tests.{le-leb, lt-leb, leb-true, not-true, not-false}
 use lib.Dec.{leb}
@@ -110,7 +109,11 @@ module _ (args out : List ℕ) (c i o at n : ℕ) (ec : c ≡ fieldAt args 0 2) 
       pub no-length : (length args ≡ 46 + 24 * c + 4 * i → ⊥) → none out ≡ scriptAnswer args out
       no-length other = untaken _ args out _ other ∙ there
 
-      pub shown-all : (held : Float) (d : Draft) → held ≡ heldAt args → length args ≡ 46 + 24 * c + 4 * i → d ≡ renderedAnswer args c i (take o (replicate 16400 held)) at n out → d ≡ scriptAnswer args out
-      shown-all held d e long p =
+      pub shown-all : length args ≡ 46 + 24 * c + 4 * i → renderedAnswer args c i (replicate o (heldAt args)) at n out ≡ scriptAnswer args out
+      shown-all long = taken _ args out _ long ∙ there
+
+      -- of an array that holds it throughout
+      pub shown-lent : (held : Float) (d : Draft) → held ≡ heldAt args → length args ≡ 46 + 24 * c + 4 * i → d ≡ renderedAnswer args c i (take o (replicate 16400 held)) at n out → d ≡ scriptAnswer args out
+      shown-lent held d e long p =
           let planes : take o (replicate 16400 held) ≡ replicate o (heldAt args) = take-replicate o 16400 held (fitting c o at n b is h .room) ∙ ap (replicate o) e in
-          p ∙ ap (λ (l : List Float). renderedAnswer args c i l at n out) planes ∙ taken _ args out _ long ∙ there
+          p ∙ ap (λ (l : List Float). renderedAnswer args c i l at n out) planes ∙ shown-all long

@@ -1,5 +1,4 @@
 -- `probe_script::render_lent` meets its contract. Assumes nothing.
-use native.Mathlib.Omega.{arith}
 use denote.Ref.{now}
 use Rattle.probe_script.proofs.Shown.{renders}
 use borrow.Author.Needs.{needs}

@@ -2,7 +2,7 @@
 use native.Mathlib.Omega.{arith}
 use denote.Ref.{now}
 use Rattle.probe_request.proofs.Requests.{lent-places, lent-length}
-use Rattle.probe_script.proofs.Shown.{Fitting, fitting, lent-first, lends, no-room, no-length, shown-all}
+use Rattle.probe_script.proofs.Shown.{Fitting, fitting, lent-first, lends, no-room, no-length, shown-lent}
 use borrow.Author.Needs.{needs}
 use Rattle.probe_script.proofs.stretch.Statement.{statement}
 use Rattle.probe_script.proofs.stretch.Tie as tie
@@ -47,7 +47,7 @@ returns-3 c =
     let a = asked .before .before .before .before .before .before .before .args in
     let lent = asked .before .before .before .lent .ensures in
     let fits = lends _ _ _ _ _ _ _ _ (lent-places _ _ _ lent) (lent-first (got .get-f32 .result) _ 16400 (fit (right .before) .room)) (fit (right .before)) (right .if2 .left) in
-    shown-all (now (a .args)) (now (a .out)) _ _ _ _ _ (asked .before .before .before .before .number .ensures) (lent-length _ _ _ lent) (asked .before .before .number2 .ensures) (asked .before .number3 .ensures) (asked .lent2 .ensures)
+    shown-lent (now (a .args)) (now (a .out)) _ _ _ _ _ (asked .before .before .before .before .number .ensures) (lent-length _ _ _ lent) (asked .before .before .number2 .ensures) (asked .before .number3 .ensures) (asked .lent2 .ensures)
     _ (right .before .before .fits-room .ensures) (right .before .if1 .left) (got .get-f32 .result) _ (got .get-f32 .ensures) (fits .1) (c .before .before .before .before .show-lent .ensures)
 
 pub stretch-spec : {M : Type 1} → statement M
