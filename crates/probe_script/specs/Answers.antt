@@ -40,7 +40,7 @@ shown at n planes = take n (drop at planes)
 unfoldable pub renderedAnswer : List ℕ → ℕ → ℕ → List Float → ℕ → ℕ → List ℕ → Draft
 renderedAnswer args c i planes at n out = played (rendered args c i planes .answer .refusal) (rendered args c i planes .answer .samples) (shown at n (rendered args c i planes .out)) out
 
--- no answer "to more than 257 cues or 16,400 outputs, and to a window that does not lie inside the outputs lent"
+-- "No answer is given, [..] to more than 257 cues or 16,400 outputs, and to a window that does not lie inside the outputs lent."
 abbrev pub fits : ℕ → ℕ → ℕ → ℕ → Bool
 fits c o at n = leb c 257 && (leb o 16400 && leb (at + n) o)
 
