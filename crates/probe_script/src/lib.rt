@@ -28,6 +28,7 @@ const MOST_OUTPUTS: usize = 16400;
 // As many samples as an answer has room for.
 const MOST_SHOWN: usize = 16380;
 
+// The cue that stands from a place on.
 fn cue(args: &[u8], at: usize) -> Cue
     requires { ⌜ at + 16 < 2 ^ 64 ⌝ }
     ensures { λ r. ⌜ r ≡ cueAt (now (args .entry)) at ⌝ }
@@ -125,7 +126,7 @@ fn fits_room(count: usize, o: usize, at: usize, n: usize) -> bool
     n <= o - at
 }
 
-// Lends as many samples as the arguments say first.
+// Lends as many samples as the arguments say first, the outputs all holding the one that the request gives.
 fn stretch(args: &[u8], out: &mut [u8]) -> usize
     ensures { λ r. ⌜ draft r (now (out .exit)) ≡ scriptAnswer (now (args .entry)) (now (out .entry)) ⌝ }
 {
@@ -146,8 +147,8 @@ fn stretch(args: &[u8], out: &mut [u8]) -> usize
     show_lent(args, count, at, n, &mut input[..i], &mut planes[..o], out)
 }
 
-// Puts the answer to a request into out: how many bytes, 0 where the arguments have not the length that the
-// operation takes, or where there is no such operation here.
+// Puts the answer to a request into out: how many bytes, 0 where none is given, or where there is no such operation
+// here.
 pub fn answer(operation: u8, args: &[u8], out: &mut [u8]) -> usize
     ensures { λ r. ⌜ draft r (now (out .exit)) ≡ answerOf operation (now (args .entry)) (now (out .entry)) ⌝ }
 {
