@@ -14,6 +14,7 @@ use Rattle.probe_gains.specs.Answers as Gains
 use Rattle.probe_planes.specs.Answers as Planes
 use Rattle.probe_hrtf.specs.Answers as Hrtf
 use Rattle.probe_setup.specs.Answers as Setup
+use Rattle.probe_script.specs.Answers as Script
 use Rattle.probe.specs.Answers.{answerOf}
 
 module _ (operation : ℕ) (args out : List ℕ) where
@@ -55,12 +56,16 @@ module _ (operation : ℕ) (args out : List ℕ) where
         | no k ↦ let e : operation ≡ 20 = omega arith in rw e
       ]
 
-  pub of-none : (1 ≤ operation → 20 < operation) → none out ≡ answerOf operation args out
+  pub of-script : operation ≡ 21 → Script.answerOf operation args out ≡ answerOf operation args out
+  unfolding answerOf
+  of-script e = rw e
+
+  pub of-none : (1 ≤ operation → 21 < operation) → none out ≡ answerOf operation args out
   unfolding answerOf
   of-none far =
       elim (decLt operation 1) [
         | yes k ↦ let e : operation ≡ 0 = omega arith in rw e
         | no k ↦
-            let h : 20 < operation = far (omega arith) in
-            sym (rw (within-high 1 5 operation (omega arith) (omega arith), within-high 6 8 operation (omega arith) (omega arith), within-high 9 13 operation (omega arith) (omega arith), ne-eqb operation 14 (λ e. omega arith), ne-eqb operation 15 (λ e. omega arith), ne-eqb operation 16 (λ e. omega arith), within-high 17 18 operation (omega arith) (omega arith), within-high 19 20 operation (omega arith) (omega arith)))
+            let h : 21 < operation = far (omega arith) in
+            sym (rw (within-high 1 5 operation (omega arith) (omega arith), within-high 6 8 operation (omega arith) (omega arith), within-high 9 13 operation (omega arith) (omega arith), ne-eqb operation 14 (λ e. omega arith), ne-eqb operation 15 (λ e. omega arith), ne-eqb operation 16 (λ e. omega arith), within-high 17 18 operation (omega arith) (omega arith), within-high 19 20 operation (omega arith) (omega arith), ne-eqb operation 21 (λ e. omega arith)))
       ]

@@ -7,5 +7,5 @@ use Rattle.probe.specs.Answers.{answerOf}
 use Rattle.probe.proofs.Answers.{of-none}
 
 -- an operation beyond the last is answered, or the lent bytes are put over
-beyond-the-last : (operation : ℕ) (args out : List ℕ) (r : Draft) → r ≡ answerOf operation args out → 20 < operation → (r ≡ none out → ⊥) → ⊥
+beyond-the-last : (operation : ℕ) (args out : List ℕ) (r : Draft) → r ≡ answerOf operation args out → 21 < operation → (r ≡ none out → ⊥) → ⊥
 beyond-the-last operation args out r is h other = other (is ∙ sym (of-none operation args out (λ l. h)))

@@ -24,7 +24,7 @@ const TOO_LONG: u8 = 3;
 const ENDS_INSIDE: u8 = 4;
 
 // Operations are numbered from 1 to this.
-const LAST_OPERATION: u8 = 20;
+const LAST_OPERATION: u8 = 21;
 
 // An answer begins with the operation and its length, in five bytes.
 const HEAD: usize = 5;
@@ -64,6 +64,7 @@ fn put_answer(operation: u8, args: &[u8], out: &mut [u8]) -> usize
         15 => probe_gains::answer(operation, args, out),
         17 | 18 => probe_hrtf::answer(operation, args, out),
         19 | 20 => probe_setup::answer(operation, args, out),
+        21 => probe_script::answer(operation, args, out),
         _ => 0,
     }
 }

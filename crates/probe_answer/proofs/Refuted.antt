@@ -1,5 +1,5 @@
 -- What the promises rule out, of every part and so of every list, whatever its entries are: a part put where it has no room, over what stands before it, or of other bytes; entries of another
--- number or width; a number of nine bytes; and a refusal in two bytes, or under the numbers. Assumes nothing.
+-- number or width; a number of nine bytes; a refusal in two bytes, or under the numbers; and of a block, a count in four bytes, or more or fewer samples. Assumes nothing.
 use mathlib.Core.Path.{_≡_, sym, ap, _∙_}
 use mathlib.Core.List.{List, [], _∷_}
 use Prim.Native.Nat.{ℕ, _+_, _-_, _*_, _%_, _^_, _≤_, _<_}
@@ -8,20 +8,20 @@ use native.Mathlib.Omega.{arith}
 use borrow.Author.Tests.{le-leb, lt-leb}
 use lib.ListN.{length, getD, take, drop, replicate, length-replicate, getD-replicate}
 use lib.Seq.{take-take, drop-drop}
-use lib.Ieee.{Float, binary64, toBits}
+use lib.Ieee.{Float, binary32, binary64, toBits}
 use Rattle.refusals.proofs.First.{stops, goes-on}
 use Rattle.lists.specs.Placed.{placed}
 use Rattle.lists.proofs.Placed.{take-placed}
 use Rattle.lists.proofs.Lists.{drop-take}
 use Rattle.big_endian.specs.Bytes.{valueOf, bytesOf}
 use Rattle.big_endian.specs.Fields.{fieldAt}
-use Rattle.big_endian.specs.Lists.{fieldBytes, doubleBytes}
+use Rattle.big_endian.specs.Lists.{fieldBytes, floatBytes, doubleBytes}
 use Rattle.big_endian.proofs.Bytes.{length-bytes, value-bytes}
 use Rattle.big_endian.proofs.Fields.{field-lies}
 use Rattle.big_endian.proofs.Lists.{length-fieldBytes}
-use Rattle.probe_answer.specs.Answers.{Draft, draft, none, nowhere, _then_, thenField, refusalAndDoubles}
+use Rattle.probe_answer.specs.Answers.{Draft, draft, none, nowhere, _then_, thenField, refusalAndDoubles, played}
 use Rattle.probe_answer.proofs.Answers.{then-cut}
-use Rattle.probe_answer.proofs.Standing.{then-long, then-before, then-there, then-same, entry-bytes, parts-room, other-length}
+use Rattle.probe_answer.proofs.Standing.{then-long, then-before, then-there, then-same, entry-bytes, parts-room, other-length, other-samples}
 
 -- ---- a part
 
@@ -111,3 +111,19 @@ module _ (refusal : ℕ) (list : List Float) (out : List ℕ) (r : Draft) (is : 
       let same : (none out then bytesOf 1 refusal then doubleBytes list) .place ≡ (draft 0 ((none out then bytesOf 1 refusal) .bytes) then doubleBytes list) .place =
       ap (λ (x : Draft). x .place) (sym is ∙ e) in
       omega arith
+
+-- ---- a block
+
+module _ (refusal samples : ℕ) (list : List Float) (out : List ℕ) (r : Draft) (is : r ≡ played refusal samples list out) (room : 9 + 4 * length list ≤ length out) (h : length out < nowhere) where
+  -- the count is put in four bytes
+  count-in-four-bytes : r ≡ none out then bytesOf 1 refusal then bytesOf 4 samples then floatBytes list → ⊥
+  count-in-four-bytes e =
+      let size = length-fieldBytes 4 (toBits binary32) list in
+      let one = length-bytes 1 refusal in
+      let four = length-bytes 4 samples in
+      let eight = length-bytes 8 samples in
+      other-length (bytesOf 1 refusal ∷ bytesOf 8 samples ∷ floatBytes list ∷ []) (bytesOf 1 refusal ∷ bytesOf 4 samples ∷ floatBytes list ∷ []) (none out) (omega arith) h (λ s. omega arith) (sym is ∙ e)
+
+  -- more samples are put, or fewer
+  more-or-fewer-samples : (shown : List Float) → (length list ≡ length shown → ⊥) → r ≡ played refusal samples shown out → ⊥
+  more-or-fewer-samples shown other e = other-samples refusal samples list shown out room h other (sym is ∙ e)

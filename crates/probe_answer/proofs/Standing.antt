@@ -7,18 +7,18 @@ use native.Mathlib.Nat.{mul-zero, mul-suc, not-suc-le-zero, le-of-suc-le-suc}
 use native.Mathlib.Omega.{arith}
 use lib.ListN.{length, getD, take, drop, length-append}
 use lib.Seq.{take-append-le, drop-append-add, take-take, take-at, drop-at, length-take-le}
-use lib.Ieee.{Float, binary64, toBits}
+use lib.Ieee.{Float, binary32, binary64, toBits}
 use Rattle.lists.specs.Placed.{placed}
 use Rattle.lists.proofs.Placed.{length-placed}
 use Rattle.lists.proofs.Lists.{split, drop-take}
 use Rattle.lists.proofs.Tables.{part-is}
 use Rattle.big_endian.specs.Bytes.{valueOf, bytesOf}
 use Rattle.big_endian.specs.Fields.{fieldAt}
-use Rattle.big_endian.specs.Lists.{fieldBytes, doubleBytes}
+use Rattle.big_endian.specs.Lists.{fieldBytes, floatBytes, doubleBytes}
 use Rattle.big_endian.proofs.Bytes.{length-bytes, value-bytes}
 use Rattle.big_endian.proofs.Fields.{field-lies}
 use Rattle.big_endian.proofs.Lists.{fieldBytes-more, length-fieldBytes}
-use Rattle.probe_answer.specs.Answers.{Draft, draft, none, taking, nowhere, cut, _then_, refusalAndDoubles}
+use Rattle.probe_answer.specs.Answers.{Draft, draft, none, taking, nowhere, cut, _then_, refusalAndDoubles, played}
 use Rattle.probe_answer.proofs.Answers.{taken, untaken, then-room, then-cut, cut-then}
 
 -- a field is known by the bytes up to its end
@@ -135,6 +135,15 @@ other-length ps qs d room h other e =
     let one = parts-room ps d room in
     let same : parts d ps .place ≡ parts d qs .place = ap (λ (x : Draft). x .place) e in
     ⊎-elim (λ s. omega (arith, parts-cut qs d (omega arith) s h)) (λ r. other (omega (arith, parts-room qs d r))) (split (length (d .bytes)) (d .place + total qs))
+
+-- as one that shows more or fewer samples is
+pub other-samples : (refusal samples : ℕ) (xs ys : List Float) (out : List ℕ) → 9 + 4 * length xs ≤ length out → length out < nowhere → (length xs ≡ length ys → ⊥) → played refusal samples xs out ≡ played refusal samples ys out → ⊥
+other-samples refusal samples xs ys out room h other =
+    let counts : List ℕ → List (List ℕ) = λ l. bytesOf 1 refusal ∷ bytesOf 8 samples ∷ l ∷ [] in
+    let size : (l : List Float) → length (floatBytes l) ≡ 4 * length l = length-fieldBytes 4 (toBits binary32) in
+    let one = length-bytes 1 refusal in
+    let eight = length-bytes 8 samples in
+    other-length (counts (floatBytes xs)) (counts (floatBytes ys)) (none out) (omega (arith, size xs)) h (λ s. other (omega (arith, s, size xs, size ys)))
 
 -- and so is one that stands behind the start
 pub behind-the-start : (ps : List (List ℕ)) (out : List ℕ) (k : ℕ) → total ps ≤ length out → length out < nowhere → 0 < k → k ≤ length out → parts (none out) ps ≡ parts (draft k out) ps → ⊥

@@ -7,7 +7,7 @@ use lib.Ieee.{Float}
 use Rattle.refusals.specs.OneAnswer.{OneAnswer}
 use Rattle.refusals.proofs.Determined.{determined}
 use Rattle.big_endian.specs.Lists.{signedBytes, floatBytes, doubleBytes, numberBytes}
-use Rattle.probe_answer.specs.Answers.{Draft, _then_, thenField, refusalAndDoubles}
+use Rattle.probe_answer.specs.Answers.{Draft, _then_, thenField, refusalAndDoubles, played}
 
 put-unique : (d : Draft) (count n : ℕ) → OneAnswer (λ (r : Draft). r ≡ thenField d count n)
 put-unique d count n = determined
@@ -29,3 +29,6 @@ put-usizes-unique d list = determined
 
 put-refusal-and-f64s-unique : (refusal : ℕ) (list : List Float) (out : List ℕ) → OneAnswer (λ (r : Draft). r ≡ refusalAndDoubles refusal list out)
 put-refusal-and-f64s-unique refusal list out = determined
+
+put-played-unique : (refusal samples : ℕ) (list : List Float) (out : List ℕ) → OneAnswer (λ (r : Draft). r ≡ played refusal samples list out)
+put-played-unique refusal samples list out = determined

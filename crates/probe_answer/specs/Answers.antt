@@ -7,7 +7,7 @@ use lib.Ieee.{Float}
 use lib.ListN.{length}
 use Rattle.big_endian.specs.Bytes.{bytesOf}
 use Rattle.lists.specs.Placed.{placed}
-use Rattle.big_endian.specs.Lists.{doubleBytes}
+use Rattle.big_endian.specs.Lists.{floatBytes, doubleBytes}
 
 -- an answer under way: the place where its next part goes, and the bytes as they stand
 pub record Draft : Type 0 where
@@ -44,3 +44,7 @@ thenField d count n = cond (leb count 8) (d then bytesOf count n) (cut d)
 -- "refusal (1)", and numbers behind it, "f64, 8 each"
 unfoldable pub refusalAndDoubles : ℕ → List Float → List ℕ → Draft
 refusalAndDoubles refusal list out = none out then bytesOf 1 refusal then doubleBytes list
+
+-- "refusal (1), samples (8)", and the samples behind them, "f32, 4 each"
+abbrev pub played : ℕ → ℕ → List Float → List ℕ → Draft
+played refusal samples list out = none out then bytesOf 1 refusal then bytesOf 8 samples then floatBytes list

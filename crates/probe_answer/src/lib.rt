@@ -5,7 +5,7 @@
 // put either. Every function takes any input.
 ghost use mathlib.Core.Path.{_≡_};
 ghost use Rattle.big_endian.specs.Lists.{signedBytes, floatBytes, doubleBytes, numberBytes};
-ghost use Rattle.probe_answer.specs.Answers.{draft, _then_, thenField, refusalAndDoubles};
+ghost use Rattle.probe_answer.specs.Answers.{draft, _then_, thenField, refusalAndDoubles, played};
 
 // Where the next part of an answer goes once one had no room: behind every list.
 const NOWHERE: usize = 0xffff_ffff_ffff_ffff;
@@ -101,4 +101,13 @@ pub fn put_refusal_and_f64s(refusal: u8, list: &[f64], out: &mut [u8]) -> usize
 {
     let a = put(refusal as u64, 1, out, 0);
     put_f64s(list, out, a)
+}
+
+// Puts what answers of a block are: a refusal, a count of frames, and samples as they stand.
+pub fn put_played(refusal: u8, samples: usize, list: &[f32], out: &mut [u8]) -> usize
+    ensures { λ r. ⌜ draft r (now (out .exit)) ≡ played refusal samples (now (list .entry)) (now (out .entry)) ⌝ }
+{
+    let a = put(refusal as u64, 1, out, 0);
+    let b = put(samples as u64, 8, out, a);
+    put_f32s(list, out, b)
 }

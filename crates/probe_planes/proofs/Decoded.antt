@@ -9,10 +9,10 @@ use Rattle.big_endian.specs.Fields.{fieldAt, floatAt, doubleAt}
 use Rattle.ambisonic_decoder.specs.declared.Decoded.{Decoded}
 use Rattle.ambisonic_decoder.specs.Promise.{Block, block}
 use Rattle.probe_request.specs.Requests.{samplesLent, weightsLent, listAt}
-use Rattle.probe_answer.specs.Answers.{Draft, none}
+use Rattle.probe_answer.specs.Answers.{Draft, none, played}
 use Rattle.probe_answer.proofs.Answers.{taken, untaken}
 use Rattle.probe_request.proofs.Requests.{inside}
-use Rattle.probe_planes.specs.Answers.{played, decodedAnswer, decodeLent, decodeAnswer}
+use Rattle.probe_planes.specs.Answers.{decodedAnswer, decodeLent, decodeAnswer}
 
 module _ (args out : List ℕ) where
   pub decode-plays : (weights inputs planes weighed before after last : List Float) (outputs channels frames stride : ℕ) (r : Decoded) (d : Draft)

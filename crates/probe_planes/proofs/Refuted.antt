@@ -7,24 +7,23 @@ use native.Mathlib.Omega.{arith}
 use borrow.Author.Tests.{lt-ltb}
 use lib.Dec.{ltb}
 use lib.ListN.{length}
-use lib.Ieee.{Float, binary32, toBits}
+use lib.Ieee.{Float}
 use Rattle.refusals.specs.Refusals.{firstOf, _when_}
 use Rattle.refusals.proofs.First.{answered-accepted, answered-refused}
 use Rattle.big_endian.specs.Bytes.{bytesOf}
 use Rattle.big_endian.specs.Fields.{fieldAt, floatAt}
 use Rattle.big_endian.specs.Lists.{floatBytes, floatsAt, doublesAt}
-use Rattle.big_endian.proofs.Bytes.{length-bytes}
-use Rattle.big_endian.proofs.Lists.{length-fieldBytes, length-strided}
+use Rattle.big_endian.proofs.Lists.{length-strided}
 use Rattle.panner.specs.Commands.{noOrder, notOffered, noAngle}
 use Rattle.panner.specs.Blocks as Panner
 use Rattle.panner.specs.Promise as Panning
 use Rattle.ambisonic_decoder.specs.Blocks.{refusalOf}
 use Rattle.ambisonic_decoder.specs.Promise as Decoding
 use Rattle.probe_request.specs.Requests.{samplesLent, weightsLent}
-use Rattle.probe_answer.specs.Answers.{Draft, none, nowhere}
+use Rattle.probe_answer.specs.Answers.{Draft, nowhere, played}
 use Rattle.probe_answer.proofs.Answers.{taken}
-use Rattle.probe_answer.proofs.Standing.{other-length, first-told, taken-told}
-use Rattle.probe_planes.specs.Answers.{played, panAt, panned, pannedAnswer, panAnswer, decoded, decodedAnswer, decodeAnswer, answerOf}
+use Rattle.probe_answer.proofs.Standing.{other-samples, first-told, taken-told}
+use Rattle.probe_planes.specs.Answers.{panAt, panned, pannedAnswer, panAnswer, decoded, decodedAnswer, decodeAnswer, answerOf}
 
 -- ---- 14 panner block
 
@@ -84,13 +83,7 @@ inputs-shown args out r n is long room h refused differs e =
     let i = samplesLent args 2 in
     let o = samplesLent args 4 in
     let b = decoded args w i o in
-    let counts : List (List ℕ) → List (List ℕ) = λ l. bytesOf 1 (b .answer .refusal) ∷ bytesOf 8 (b .answer .samples) ∷ l in
     let inputs = floatsAt args (38 + 8 * w) i in
-    let size : (xs : List Float) → length (floatBytes xs) ≡ 4 * length xs = length-fieldBytes 4 (toBits binary32) in
     let outs : length (b .out) ≡ o = ap length (refused-kept args w i o n refused) ∙ length-strided (floatAt args) 4 (38 + 8 * w + 4 * i) o in
     let ins : length inputs ≡ i = length-strided (floatAt args) 4 (38 + 8 * w) i in
-    let one = length-bytes 1 (b .answer .refusal) in
-    let eight = length-bytes 8 (b .answer .samples) in
-    other-length (counts (floatBytes (b .out) ∷ [])) (counts (floatBytes inputs ∷ [])) (none out) (omega (arith, size (b .out))) h
-    (λ s. differs (omega (arith, s, size (b .out), size inputs)))
-    (taken _ args out _ long ∙ sym is ∙ e)
+    other-samples (b .answer .refusal) (b .answer .samples) (b .out) inputs out (omega arith) h (λ s. differs (omega arith)) (taken _ args out _ long ∙ sym is ∙ e)

@@ -4,20 +4,15 @@ use mathlib.Core.Bool.{cond}
 use mathlib.Core.List.{List}
 use lib.Dec.{eqb}
 use lib.Ieee.{Float}
-use Rattle.big_endian.specs.Bytes.{bytesOf}
 use Rattle.big_endian.specs.Fields.{fieldAt, doubleAt}
-use Rattle.big_endian.specs.Lists.{floatBytes, floatsAt, doublesAt}
+use Rattle.big_endian.specs.Lists.{floatsAt, doublesAt}
 use Rattle.panner.specs.declared.Command.{Command}
 use Rattle.panner.specs.declared.Command.the-variants.{Stereo, Surround, Ambisonic}
 use Rattle.panner.specs.Blocks as Panner
 use Rattle.panner.specs.Promise as Panning
 use Rattle.ambisonic_decoder.specs.Promise as Decoding
 use Rattle.probe_request.specs.Requests.{layoutAt, samplesLent, weightsLent}
-use Rattle.probe_answer.specs.Answers.{Draft, none, taking, _then_}
-
--- "refusal (1), samples (8), the o samples"
-abbrev pub played : ℕ → ℕ → List Float → List ℕ → Draft
-played refusal samples planes out = none out then bytesOf 1 refusal then bytesOf 8 samples then floatBytes planes
+use Rattle.probe_answer.specs.Answers.{Draft, none, taking, played}
 
 -- ---- 14 panner block
 
@@ -38,6 +33,7 @@ panAt args = record { command = commandAt args; layout = layoutAt args 29; frame
 abbrev pub panned : List ℕ → ℕ → ℕ → Panning.Block
 panned args i o = Panning.block (panAt args) (floatsAt args 54 i) (floatsAt args (54 + 4 * i) o)
 
+-- "refusal (1), samples (8), the o samples"
 unfoldable pub pannedAnswer : List ℕ → ℕ → ℕ → List ℕ → Draft
 pannedAnswer args i o out = played (panned args i o .answer .refusal) (panned args i o .answer .samples) (panned args i o .out) out
 
@@ -57,6 +53,7 @@ decoded args w i o =
     Decoding.block (doublesAt args 38 w) (record { outputs = fieldAt args 6 8; channels = fieldAt args 14 8; frames = fieldAt args 22 8; stride = fieldAt args 30 8 })
     (floatsAt args (38 + 8 * w) i) (floatsAt args (38 + 8 * w + 4 * i) o)
 
+-- answered likewise
 unfoldable pub decodedAnswer : List ℕ → ℕ → ℕ → ℕ → List ℕ → Draft
 decodedAnswer args w i o out = played (decoded args w i o .answer .refusal) (decoded args w i o .answer .samples) (decoded args w i o .out) out
 

@@ -13,16 +13,7 @@ ghost use mathlib.Core.Path.{_≡_};
 ghost use Prim.Native.Nat.{_+_, _*_};
 ghost use lib.ListN.{length};
 ghost use Rattle.probe_answer.specs.Answers.{draft};
-ghost use Rattle.probe_planes.specs.Answers.{played, commandAt, pannedAnswer, panAnswer, decodedAnswer, decodeAnswer, answerOf};
-
-// Puts a refusal, a count of frames and the samples as they stand.
-fn put_played(refusal: u8, samples: usize, planes: &[f32], out: &mut [u8]) -> usize
-    ensures { λ r. ⌜ draft r (now (out .exit)) ≡ played refusal samples (now (planes .entry)) (now (out .entry)) ⌝ }
-{
-    let a = probe_answer::put(refusal as u64, 1, out, 0);
-    let b = probe_answer::put(samples as u64, 8, out, a);
-    probe_answer::put_f32s(planes, out, b)
-}
+ghost use Rattle.probe_planes.specs.Answers.{commandAt, pannedAnswer, panAnswer, decodedAnswer, decodeAnswer, answerOf};
 
 // A panner command: 0 a stereo position, 1 a surround azimuth, any other number a direction with an order.
 fn command(args: &[u8]) -> Command
@@ -64,7 +55,7 @@ fn pan_lent(args: &[u8], input: &mut [f32], planes: &mut [f32], out: &mut [u8]) 
         input,
         planes,
     );
-    put_played(panned.refusal, panned.samples, planes, out)
+    probe_answer::put_played(panned.refusal, panned.samples, planes, out)
 }
 
 // Lends as many samples as the arguments say first.
@@ -107,7 +98,7 @@ fn decode_lent(
         inputs,
         planes,
     );
-    put_played(decoded.refusal, decoded.samples, planes, out)
+    probe_answer::put_played(decoded.refusal, decoded.samples, planes, out)
 }
 
 // Lends as many weights and samples as the arguments say first.

@@ -1,8 +1,8 @@
--- `probe_planes::put_played` meets its contract: one part behind the other. Assumes nothing.
+-- `probe_answer::put_played` meets its contract: one part behind the other. Assumes nothing.
 use Rattle.probe_answer.proofs.Answers.{behind}
 use borrow.Author.Needs.{needs}
-use Rattle.probe_planes.proofs.put_played.Statement.{statement}
-use Rattle.probe_planes.proofs.put_played.Tie as tie
+use Rattle.probe_answer.proofs.put_played.Statement.{statement}
+use Rattle.probe_answer.proofs.put_played.Tie as tie
 
 returns : tie.Need-returns
 returns c = behind _ (behind _ (c .before .before .before .before .before .before .before .before .before .before .put .ensures) (c .before .before .before .before .before .before .put2 .ensures)) (c .before .before .put-f32s .ensures)

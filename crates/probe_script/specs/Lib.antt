@@ -1,0 +1,2 @@
+-- What is answered to a request of this family.
+pub mod Answers
