@@ -12,7 +12,7 @@ use Rattle.big_endian.specs.Lists.{floatBytes, floatsAt}
 use Rattle.big_endian.proofs.Lists.{length-strided}
 use Rattle.planes.proofs.Planes.{length-with-frames}
 use Rattle.planes.proofs.Blocks.{block-refused, block-accepted}
-use Rattle.script.specs.declared.Cue.{Cue}
+use Rattle.cues.specs.declared.Cue.{Cue}
 use Rattle.script.specs.Rendering.{Stretch, refusalOf, playedOf}
 use Rattle.script.specs.Promise as Promise
 use Rattle.script.specs.Promise.{Block, block}

@@ -14,7 +14,7 @@ use Rattle.lists.proofs.Lists.{split, take-replicate}
 use Rattle.lists.proofs.Tables.{take-tab, part-is}
 use Rattle.big_endian.specs.Fields.{fieldAt, floatAt, doubleAt}
 use Rattle.big_endian.specs.Lists.{strided}
-use Rattle.script.specs.declared.Cue.{Cue}
+use Rattle.cues.specs.declared.Cue.{Cue}
 use Rattle.script.specs.declared.Rendered.{Rendered}
 use Rattle.script.specs.Promise.{Block, block}
 use Rattle.probe_request.specs.Requests.{samplesLent, lentBy, listAt}

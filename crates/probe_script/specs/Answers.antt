@@ -7,7 +7,7 @@ use lib.ListN.{take, drop, replicate}
 use lib.Ieee.{Float}
 use Rattle.big_endian.specs.Fields.{fieldAt, floatAt, doubleAt}
 use Rattle.big_endian.specs.Lists.{strided, floatsAt}
-use Rattle.script.specs.declared.Cue.{Cue}
+use Rattle.cues.specs.declared.Cue.{Cue}
 use Rattle.script.specs.Rendering.{Stretch}
 use Rattle.script.specs.Promise.{Block, block}
 use Rattle.probe_request.specs.Requests.{samplesLent, lentBy}

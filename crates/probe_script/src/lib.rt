@@ -8,9 +8,9 @@
 // here. It takes any input.
 //
 // `render_first` alone holds a list of structs, and is proved by a walk.
+use cues::Cue;
 use harmonics::Direction;
 use probe_request::MOST_SAMPLES;
-use script::Cue;
 use script::Rendered;
 ghost use mathlib.Core.Path.{_≡_};
 ghost use Prim.Native.Nat.{_+_, _*_, _^_, _≤_, _<_};

@@ -50,9 +50,9 @@ use denote.Triple.Walked.{says, needs, Stays, stay-none-slice, stay-none, gave-s
 use denote.Triple.Clauses.{ensured, Lasts, lasts}
 use denote.Exit.{yes}
 use borrow.Rule.Array.Share.{room-take}
-use Rattle.script.specs.declared.Cue.{Cue}
-use Rattle.script.proofs.Cue as T
-use Rattle.script.proofs.Cue.Laws as T′
+use Rattle.cues.specs.declared.Cue.{Cue}
+use Rattle.cues.proofs.Cue as T
+use Rattle.cues.proofs.Cue.Laws as T′
 use Rattle.script.specs.Rendering.{Stretch}
 use Rattle.script.specs.Promise.{Renders}
 use Rattle.script.specs.declared.Rendered.{Rendered}
