@@ -19,6 +19,7 @@ mod panner;
 mod random;
 mod rows;
 mod rust;
+mod script;
 mod setup;
 
 use frame::{Case, Sink, Verdict};
@@ -55,6 +56,7 @@ const KINDS: &[Kind] = &[
     Kind { name: "convolver reset", make: convolver::reset },
     Kind { name: "new surround", make: setup::surround },
     Kind { name: "new ambisonic", make: setup::ambisonic },
+    Kind { name: "script", make: script::cases },
     Kind { name: "malformed", make: malformed::inside },
 ];
 
