@@ -10,6 +10,7 @@ mod binaural;
 mod blocks;
 mod convolver;
 mod differences;
+mod drills;
 mod exact;
 mod frame;
 mod gains;
@@ -56,7 +57,7 @@ const KINDS: &[Kind] = &[
     Kind { name: "convolver reset", make: convolver::reset },
     Kind { name: "new surround", make: setup::surround },
     Kind { name: "new ambisonic", make: setup::ambisonic },
-    Kind { name: "script", make: script::cases },
+    Kind { name: "script", make: drills::cases },
     Kind { name: "malformed", make: malformed::inside },
 ];
 
