@@ -39,8 +39,8 @@ fn rising(random: &mut Random, count: usize, from: u64, powers: u64) -> Vec<Cue>
 
 // ---- what is refused
 
-/// Every set of faults with a short list and a long one, of some frames and of none, and of too many frames. The requests with
-/// a long list or many frames are long: without number only where many requests are asked for.
+/// Every set of faults, with a short list, for some frames and for none; and with a list that is too long, and for too many frames.
+/// These requests are long themselves: every set only where many requests are asked for.
 fn of_faults(random: &mut Random, count: usize, sink: &mut Sink) {
     let short = rising(random, 4, 0, 3);
     let long = rising(random, 257, 0, 3);
@@ -152,8 +152,8 @@ fn small(random: &mut Random, list: &[u64], first: u64, frames: usize) -> Case {
     stretch.case()
 }
 
-/// Every rising list against a stretch that holds all its frames; and against every stretch, and every list that does not rise,
-/// or some of them.
+/// Every rising list against a stretch that holds all its frames. Then every one against every stretch, and every list that does
+/// not rise against one; where few requests are asked for, some of them.
 fn of_small_lists(random: &mut Random, count: usize, sink: &mut Sink) {
     let (rising, others) = small_lists();
     send(sink, rising.iter().map(|list| small(random, list, 0, SMALL as usize + 1)));
