@@ -219,7 +219,11 @@ fn of_long_stretches(random: &mut Random, count: usize, sink: &mut Sink) {
     // The last cue begins to hold at the last frame, 5 + 4095.
     let stretch = Stretch::fitting(random, &cues, 1, 5, 4096, 4100);
     let half = MOST_OUTPUTS / 2;
-    let windows = if count < 1000 { vec![3900..4200, MOST_OUTPUTS - 100..MOST_OUTPUTS] } else { vec![0..half, half..MOST_OUTPUTS, 4090..4110, 100..101] };
+    let windows = if count < 1000 {
+        vec![3900..4200, MOST_OUTPUTS - 100..MOST_OUTPUTS]
+    } else {
+        vec![0..half, half..MOST_OUTPUTS, 4090..4110, 100..101, 0..MOST_OUTPUTS]
+    };
     for shown in windows {
         sink(Stretch { shown, ..stretch.clone() }.case());
     }
@@ -574,7 +578,8 @@ mod tests {
                 outputs.fill(0.0);
             }
             let samples = if refusal == 0 || self.is("samples counted on refusal") { s.frames } else { 0 };
-            let shown = if self.is("outputs shown from the first") { 0..s.shown.len() } else { s.shown };
+            let from = if self.is("outputs shown from the first") { 0 } else { s.shown.start };
+            let shown = from..from + s.shown.len().min(16380);
             let bytes = [vec![refusal], samples.to_be_bytes().to_vec(), outputs[shown].iter().flat_map(|y| f32_bytes(*y)).collect()].concat();
             Answer { operation: SCRIPT, bytes }
         }
@@ -627,9 +632,8 @@ mod tests {
             cases(&mut Random::new(1, "script"), count, &mut |case| {
                 let arguments = &case.request[5..];
                 assert!(has_form(arguments) && case.request[..5] == request(SCRIPT, arguments)[..5]);
-                let answer = 9 + 4 * counts(arguments)[4];
-                assert!(arguments.len() <= 65536 && answer <= 65536);
-                all += case.request.len() + 5 + answer;
+                assert!(arguments.len() <= 65536);
+                all += case.request.len() + 5 + 9 + 4 * counts(arguments)[4];
                 long += usize::from(arguments.len() > 16384);
             });
             // What is recorded stays short.

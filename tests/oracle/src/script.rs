@@ -13,6 +13,9 @@ use std::rc::Rc;
 
 pub const SCRIPT: u8 = 21;
 
+/// As many samples as an answer has room for: of a longer window these are shown.
+const MOST_SHOWN: usize = 16380;
+
 /// Document 01's panner and document 02, E1.
 const MOST_FRAMES: u64 = 4096;
 const MOST_CUES: usize = 256;
@@ -145,7 +148,8 @@ impl Stretch {
     /// The outputs, as far as they are shown, and how many planes are right and not the Rust's.
     fn judge(&self, answer: &Answer) -> Result<(Vec<Shown>, usize), String> {
         let refusal = self.refusal();
-        if answer.operation != SCRIPT || answer.bytes.len() != 9 + 4 * self.shown.len() {
+        let shown = self.shown.clone().take(MOST_SHOWN);
+        if answer.operation != SCRIPT || answer.bytes.len() != 9 + 4 * shown.len() {
             return Err("no such answer".to_string());
         }
         let samples = if refusal == 0 { self.frames } else { 0 };
@@ -153,7 +157,7 @@ impl Stretch {
             return Err(format!("expected refusal {refusal} and {samples} samples"));
         }
         let mut after: Vec<Shown> = vec![None; self.outputs];
-        for (place, bytes) in self.shown.clone().zip(answer.bytes[9..].chunks(4)) {
+        for (place, bytes) in shown.zip(answer.bytes[9..].chunks(4)) {
             after[place] = bytes.try_into().ok();
         }
         let played = |i: usize| samples > 0 && (i as u64) % self.stride < samples;
