@@ -14,7 +14,7 @@ type Sum = fn(&[f32], &[f64]) -> f32;
 const OTHER_SUMS: [Sum; 4] = [falling, narrowed_on_the_way, in_pairs, fused];
 
 /// Samples that are not ordinary: NaNs, one of them signalling, infinities, subnormals, zeros, the ends of the finite ones.
-const ODD: [u32; 14] = [
+pub const ODD: [u32; 14] = [
     0x7fc0_0000, 0xffc0_0001, 0x7f80_0001, 0x7f80_0000, 0xff80_0000, 0x0000_0001, 0x8000_0001, 0x007f_ffff, 0x807f_ffff, 0, 0x8000_0000, 0x0080_0000,
     0x7f7f_ffff, 0xff7f_ffff,
 ];

@@ -45,6 +45,15 @@ pub fn exactly(request: Vec<u8>, operation: u8, bytes: Vec<u8>) -> Case {
     Case { request, judge: Box::new(judge) }
 }
 
+/// A case whose answer is judged: the verdict, or why it is wrong.
+pub fn judged(request: Vec<u8>, judge: impl Fn(&Answer) -> Result<Verdict, String> + 'static) -> Case {
+    let told = move |answer: &Answer| {
+        let wrong = |why| Verdict { wrong: Some(format!("{why}: {} {}", answer.operation, hex(&answer.bytes))), ..Verdict::default() };
+        judge(answer).unwrap_or_else(wrong)
+    };
+    Case { request, judge: Box::new(told) }
+}
+
 /// Takes the next answer off the front, if there is a whole one.
 pub fn take(answers: &mut impl Read) -> Option<Answer> {
     let mut head = [0; 5];

@@ -176,8 +176,12 @@ fn max_re(order: usize, channel: usize) -> Exact {
     POWERS[order - 1][degree].clone()
 }
 
+pub fn is_direction(azimuth: f64, elevation: f64) -> bool {
+    (-180.0..=180.0).contains(&azimuth) && (-90.0..=90.0).contains(&elevation)
+}
+
 fn refused_direction(order: u64, azimuth: f64, elevation: f64) -> Option<u8> {
-    if !(1..=3).contains(&order) { Some(1) } else { (!(-180.0..=180.0).contains(&azimuth) || !(-90.0..=90.0).contains(&elevation)).then_some(3) }
+    if !(1..=3).contains(&order) { Some(1) } else { (!is_direction(azimuth, elevation)).then_some(3) }
 }
 
 /// The directions and orders that are tried: accepted ones, multiples of 90 and their neighbours, and refused ones.

@@ -10,6 +10,7 @@ mod binaural;
 mod blocks;
 mod convolver;
 mod differences;
+mod drills;
 mod exact;
 mod frame;
 mod gains;
@@ -19,6 +20,7 @@ mod panner;
 mod random;
 mod rows;
 mod rust;
+mod script;
 mod setup;
 
 use frame::{Case, Sink, Verdict};
@@ -55,6 +57,7 @@ const KINDS: &[Kind] = &[
     Kind { name: "convolver reset", make: convolver::reset },
     Kind { name: "new surround", make: setup::surround },
     Kind { name: "new ambisonic", make: setup::ambisonic },
+    Kind { name: "script", make: drills::cases },
     Kind { name: "malformed", make: malformed::inside },
 ];
 

@@ -1,6 +1,8 @@
 //! Requests that break the form: each is answered as such, and the next is read as if nothing had been.
+use crate::drills;
 use crate::frame::{Case, Sink, exactly, request, send};
 use crate::random::Random;
+use crate::script::SCRIPT;
 
 const NO_SUCH_OPERATION: u8 = 1;
 const WRONG_LENGTH: u8 = 2;
@@ -23,6 +25,7 @@ const LISTED: &[(u8, &[&[u8]])] = &[
     (18, &[&[], &[0; 33], &[0; 35]]),
     (19, &[&[], &[0; 83], &[0; 85]]),
     (20, &[&[], &[0; 82], &[0; 84]]),
+    (SCRIPT, &[&[], &[0; 45], &[0; 47]]),
 ];
 
 const LONGEST: usize = 65536;
@@ -42,6 +45,7 @@ pub fn inside(random: &mut Random, count: usize, sink: &mut Sink) {
     for (operation, wrong) in LISTED {
         send(sink, wrong.iter().map(|arguments| exactly(request(*operation, arguments), 0, vec![WRONG_LENGTH])));
     }
+    send(sink, drills::without_form(count).iter().map(|arguments| exactly(request(SCRIPT, arguments), 0, vec![WRONG_LENGTH])));
     // The longest arguments that are read whole, and longer ones, which are read past.
     sink(exactly(request(1, &vec![0; LONGEST]), 0, vec![WRONG_LENGTH]));
     sink(exactly(request(1, &vec![0; LONGEST + 1]), 0, vec![TOO_LONG]));

@@ -4,8 +4,8 @@
 //! whose gain it narrows to another f32 are counted, and each has to have a listed cause: nothing but its gain differs, and
 //! that by no more than the cause allows.
 use crate::exact::{self, Exact};
-use crate::frame::{Answer, Case, Sink, Verdict, f32_bytes, hex, request, send};
-use crate::gains::{Layout, harmonics, is_compared, raw_gains, square};
+use crate::frame::{Answer, Case, Sink, Verdict, f32_bytes, judged, request, send};
+use crate::gains::{Layout, harmonics, is_compared, is_direction, raw_gains, square};
 use crate::random::Random;
 use crate::rust;
 
@@ -34,7 +34,7 @@ fn gain(x: Exact) -> Gain {
     Gain { negative: x.is_negative(), over: square(x), under: Exact::whole(1), silent: false }
 }
 
-struct Block {
+pub struct Block {
     command: Command,
     layout: Layout,
     frames: u64,
@@ -43,7 +43,17 @@ struct Block {
     planes: Vec<f32>,
 }
 
+/// A sample of an answer, where the answer shows it.
+pub type Shown = Option<[u8; 4]>;
+
 impl Block {
+    /// Samples that are played at a direction, for `judge_planes` alone.
+    pub fn at_direction(azimuth: f64, elevation: f64, order: u64, samples: &[f32]) -> Self {
+        let count = samples.len() as u64;
+        let command = Command::Direction(azimuth, elevation, order);
+        Block { command, layout: Layout(0, 0), frames: count, stride: count, input: samples.to_vec(), planes: Vec::new() }
+    }
+
     /// Refusals 1, 2, 3, of which the first that the command has.
     fn refused_command(&self) -> Option<u8> {
         let bad_layout = self.layout.channels().is_none();
@@ -54,7 +64,7 @@ impl Block {
             Command::Surround(a) => (!(-180.0..=180.0).contains(&a)).then_some(3),
             Command::Direction(_, _, order) if !(1..=3).contains(&order) => Some(1),
             Command::Direction(..) if bad_layout => Some(2),
-            Command::Direction(a, e, _) => (!(-180.0..=180.0).contains(&a) || !(-90.0..=90.0).contains(&e)).then_some(3),
+            Command::Direction(a, e, _) => (!is_direction(a, e)).then_some(3),
         }
     }
 
@@ -124,13 +134,7 @@ impl Block {
     }
 
     fn case(self) -> Case {
-        Case {
-            request: request(PAN, &self.arguments()),
-            judge: Box::new(move |answer| {
-                self.judge(answer)
-                    .unwrap_or_else(|why| Verdict { wrong: Some(format!("{why}: {} {}", answer.operation, hex(&answer.bytes))), ..Verdict::default() })
-            }),
-        }
+        judged(request(PAN, &self.arguments()), move |answer| self.judge(answer))
     }
 
     fn judge(&self, answer: &Answer) -> Result<Verdict, String> {
@@ -142,40 +146,54 @@ impl Block {
         if answer.bytes[0] != refusal || answer.bytes[1..9] != samples.to_be_bytes() {
             return Err(format!("expected refusal {refusal} and {samples} samples"));
         }
-        let after: Vec<[u8; 4]> = answer.bytes[9..].chunks(4).map(|b| b.try_into().unwrap()).collect();
+        let after: Vec<Shown> = answer.bytes[9..].chunks(4).map(|b| b.try_into().ok()).collect();
         let (frames, stride) = (samples as usize, self.stride as usize);
         let played = |i: usize| frames > 0 && i % stride < frames;
-        if (0..after.len()).any(|i| !played(i) && after[i] != f32_bytes(self.planes[i])) {
+        if (0..after.len()).any(|i| !played(i) && after[i] != Some(f32_bytes(self.planes[i]))) {
             return Err("a sample that is not played has changed".to_string());
         }
         if frames == 0 {
             return Ok(Verdict::default());
         }
+        let aside = self.judge_planes(after.chunks(stride).map(|plane| &plane[..frames]))?;
+        Ok(Verdict { aside, ..Verdict::default() })
+    }
+
+    /// Holds every plane, as far as it is shown, to its gain, read off a sample that was 1.0, to the products with it and to the
+    /// Rust's. How many are right and not the Rust's.
+    pub fn judge_planes<'a>(&self, planes: impl Iterator<Item = &'a [Shown]>) -> Result<usize, String> {
         let rust = self.by_the_rust();
         let mut aside = 0;
-        for (p, exact) in self.gains().into_iter().enumerate() {
-            let plane = &after[p * stride..p * stride + frames];
-            let narrowed = f32::from_bits(u32::from_be_bytes(plane[0]));
+        for (p, (exact, plane)) in self.gains().into_iter().zip(planes).enumerate() {
+            if plane.iter().all(Option::is_none) {
+                continue;
+            }
+            let Some((one, sample)) = plane.iter().enumerate().find_map(|(n, y)| y.filter(|_| self.input[n] == 1.0).map(|y| (n, y))) else {
+                return Err(format!("no 1.0 shows the gain of plane {p}"));
+            };
+            let narrowed = f32::from_bits(u32::from_be_bytes(sample));
             self.judge_gain(narrowed, &exact).map_err(|why| format!("plane {p}, gain {narrowed:e}, {why}"))?;
-            if plane.iter().zip(&self.input).any(|(y, x)| *y != f32_bytes(x * narrowed)) {
+            let differs = |from: &dyn Fn(usize) -> f32| plane.iter().enumerate().any(|(n, y)| y.is_some_and(|y| y != f32_bytes(from(n))));
+            if differs(&|n| self.input[n] * narrowed) {
                 return Err(format!("plane {p} is not the product with its gain"));
             }
             let Some(theirs) = rust.as_ref().map(|r| &r[p]) else { continue };
-            if plane.iter().zip(theirs).any(|(y, x)| *y != f32_bytes(*x)) {
-                self.judge_difference(narrowed, theirs).map_err(|why| format!("plane {p}, gain {narrowed:e}, the Rust's {:e}, {why}", theirs[0]))?;
+            if differs(&|n| theirs[n]) {
+                self.judge_difference(narrowed, theirs, theirs[one])
+                    .map_err(|why| format!("plane {p}, gain {narrowed:e}, the Rust's {:e}, {why}", theirs[one]))?;
                 aside += 1;
             }
         }
-        Ok(Verdict { aside, ..Verdict::default() })
+        Ok(aside)
     }
 
     /// A plane of the Rust's that is not ours: it is the product with its own gain, and this gain is off by what its stereo
     /// quarter turn in f32 makes, or by what rounded radians leave where the exact gain is 0.
-    fn judge_difference(&self, ours: f32, theirs: &[f32]) -> Result<(), String> {
-        if theirs.iter().zip(&self.input).any(|(y, x)| f32_bytes(*y) != f32_bytes(x * theirs[0])) {
+    fn judge_difference(&self, ours: f32, theirs: &[f32], gain: f32) -> Result<(), String> {
+        if theirs.iter().zip(&self.input).any(|(y, x)| f32_bytes(*y) != f32_bytes(x * gain)) {
             return Err("differs in more than its gain".to_string());
         }
-        let off = (f64::from(ours) - f64::from(theirs[0])).abs();
+        let off = (f64::from(ours) - f64::from(gain)).abs();
         let allowed = if matches!(self.command, Command::Stereo(_)) { 2f64.powi(-23) } else { 2f64.powi(-50) };
         if off <= allowed { Ok(()) } else { Err("for no listed cause".to_string()) }
     }
