@@ -1,5 +1,4 @@
--- The first elements of an array, apart from the others; the answer to a stretch; that no two answers meet one promise; and wrong answers.
-mod Prefix
+-- The answer to a stretch; that no two answers meet one promise; and wrong answers.
 mod Shown
 mod Unique
 mod Refuted

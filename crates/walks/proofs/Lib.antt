@@ -1,3 +1,4 @@
--- What a walk needs beside the kit's steps, and slices that are lent again.
+-- What a walk needs beside the kit's steps; slices that are lent again; the first elements of an array, lent apart from the others.
 pub mod Walking
 pub mod Relent
+pub mod Prefix

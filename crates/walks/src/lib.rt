@@ -2,4 +2,4 @@
 // slice again that they were passed, which the prover does not cover.
 //
 // No function stands here. `Walking` has the places of a context and the head of a `while`, `Relent` slices
-// that are lent again for a call and come back.
+// that are lent again for a call and come back, `Prefix` the first elements of an array, lent without the rest.

@@ -62,7 +62,7 @@ use Rattle.script.proofs.render as render
 use Rattle.script.proofs.render.Symbol as render-def
 use Rattle.script.proofs.render.Symbol.{name as #script·render}
 use Rattle.script.proofs.render.Met as render-thm
-use Rattle.probe_script.proofs.Prefix.{elements, others, first-apart, first-back}
+use Rattle.walks.proofs.Prefix.{elements, others, first-apart, first-back}
 use Rattle.probe_script.proofs.render_first.Key.{name as #probe·render-first}
 use Rattle.probe_script.proofs.render_first as f
 use Rattle.probe_script.proofs.render_first.Statement as stated
