@@ -7,7 +7,7 @@
 // 1, a direction that is NaN, infinite or outside -180..180 and -90..90 with 3, and sixteen times 0.0. Else
 // the promise (specs/Promise.antt) fixes each bit of the sixteen, and says beside it that each is within
 // 2^-34 of document 01's formula over the defined sines and cosines; beyond the order stands 0.0. The tests of
-// an azimuth and of a direction are public, for `surround` and `script` to refuse by.
+// an azimuth and of a direction are public, for `surround` and `cues` to refuse by.
 //
 // proofs/Near.antt shows 2^-42, by this budget in units of 2^-50, of which 2^-42 is 256:
 //

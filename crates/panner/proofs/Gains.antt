@@ -30,10 +30,9 @@ use Rattle.panner.specs.Commands.{noOrder, notOffered, planesOf}
 use Rattle.panner.specs.Steps.{isBadLayout, commandRefusal, Commands}
 
 -- ---- a refusal
-pub refused : (c : Command) (l : Layout) (g : Commanded) (n : ℕ) → 0 < n → g .refusal ≡ n → g .planes ≤ 16 → commandRefusal c l ≡ n → Commands c l g
-refused c l g n o r f e = record {
+pub refused : (c : Command) (l : Layout) (g : Commanded) (n : ℕ) → 0 < n → g .refusal ≡ n → commandRefusal c l ≡ n → Commands c l g
+refused c l g n o r e = record {
   refusal = r ∙ sym e;
-  few = f;
   planes = λ k. absurd (not-accepted n o e k);
   gains = λ k. absurd (not-accepted n o e k);
   promised = λ k. absurd (not-accepted n o e k);
@@ -68,7 +67,6 @@ module _ (l : Layout) (p : Float) (s : StereoGains) (h : Stereo.Pans p s) where
   pub stereo-accepted : (g : Commanded) → isBadLayout l ≡ false → s .refusal ≡ 0 → g ≡ record { refusal = 0; planes = 2; gains = s .left ∷ s .right ∷ replicate 14 zero-float } → Commands (Stereo p) l g
   stereo-accepted g b z e = record {
     refusal = ap (λ (x : Commanded). x .refusal) e ∙ sym (goes-on 2 _ b ∙ sym stereo-refusal ∙ z);
-    few = omega (arith, ap (λ (x : Commanded). x .planes) e);
     planes = λ k. ap (λ (x : Commanded). x .planes) e;
     gains = λ k. ap (λ (x : Commanded). x .gains) e ∙ ap (λ (x : StereoGains). x .left ∷ x .right ∷ replicate 14 zero-float) (h .is);
     promised = λ k. subst (Stereo.Pans p) (λ i. record { refusal = z i; left = h .is i .left; right = h .is i .right }) h;
@@ -88,7 +86,6 @@ module _ (l : Layout) (a : Float) (s : SurroundGains) (h : Surround.Pans l a s) 
       let count : g .planes ≡ channelsOf l = ap (λ (x : Commanded). x .planes) e ∙ ap (λ (x : Counted). x .channels) n ∙ surround-counted l o in
       record {
         refusal = ap (λ (x : Commanded). x .refusal) e ∙ sym (sym surround-refusal ∙ z);
-        few = omega (arith, surround-few l o .1);
         planes = λ k. count;
         gains = λ k. ap (λ (x : Commanded). x .gains) e ∙ ap (λ (x : SurroundGains). x .gains) (h .is);
         promised = λ k. subst (Surround.Pans l a) (λ i. record { refusal = z i; gains = h .is i .gains }) h;
@@ -115,7 +112,6 @@ module _ (l : Layout) (d : Direction) (n : ℕ) where
     pub ambisonic-accepted : (g : Commanded) → s .refusal ≡ 0 → g ≡ record { refusal = 0; planes = channelsOfOrder n; gains = s .gains } → Commands (Ambisonic d n) l g
     ambisonic-accepted g z e = record {
       refusal = ap (λ (x : Commanded). x .refusal) e ∙ sym (command-is ∙ sym direction-is ∙ z);
-      few = omega (arith, ap (λ (x : Commanded). x .planes) e, few-channels n o .1);
       planes = λ k. ap (λ (x : Commanded). x .planes) e;
       gains = λ k. ap (λ (x : Commanded). x .gains) e ∙ ap (λ (x : Coefficients). x .gains) (h .is);
       promised = λ k. subst (Harmonics.Promise n d) (λ i. record { refusal = z i; gains = h .is i .gains }) h;

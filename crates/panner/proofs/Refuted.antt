@@ -2,16 +2,19 @@
 use mathlib.Core.Path.{_≡_, refl, sym, ap, _∙_}
 use mathlib.Core.Bool.{true, false, true≢false}
 use mathlib.Core.List.{List, [], _∷_}
-use Prim.Native.Nat.{ℕ, _<_}
+use Prim.Native.Nat.{ℕ, _-_, _≤_, _<_}
 use native.Mathlib.Omega.{arith}
 use lib.Dec.{lit<}
 use lib.IntN.{pos, negsuc}
+use lib.ListN.{length, getD}
 use lib.Ieee.{Float, fin, binary32, mul, round, ofInt}
 use lib.Ieee.Positive.{positive}
 use Rattle.refusals.specs.Refusals.{firstOf}
 use Rattle.formats.specs.Floats.{zero-float, float}
 use Rattle.numbers.specs.Computed.{narrowed, rounded}
-use Rattle.planes.specs.Planes.{sampleAt}
+use Rattle.lists.proofs.Tables.{length-tab}
+use Rattle.planes.specs.Planes.{sampleAt, withFrames}
+use Rattle.planes.proofs.Planes.{with-frames-other}
 use Rattle.channel.specs.declared.Layout.{Layout}
 use Rattle.channel.specs.declared.Layout.the-variants.{Mono, Custom}
 use Rattle.stereo.specs.declared.StereoGains.{StereoGains}
@@ -20,11 +23,11 @@ use Rattle.harmonics.specs.declared.Direction.{Direction}
 use Rattle.panner.specs.declared.Command.{Command}
 use Rattle.panner.specs.declared.Command.the-variants.{Stereo, Ambisonic}
 use Rattle.panner.specs.declared.CommandGains.{CommandGains}
-use Rattle.panner.specs.Commands.{commandChecks, gainsOf}
-use Rattle.panner.specs.Blocks.{Shape, mostFrames, narrowedAll}
+use Rattle.panner.specs.Commands.{commandChecks}
+use Rattle.panner.specs.Blocks.{Shape, mostFrames}
 use Rattle.panner.specs.Promise.{Processed}
-use Rattle.panner.specs.Halves.{Gained}
-use Rattle.panner.proofs.Halves.{gained-accepted, gained-refused}
+use Rattle.panner.specs.Halves.{Gained, pannedPart}
+use Rattle.panner.proofs.Halves.{gained-number, gained-accepted, gained-refused}
 use Rattle.panner.proofs.Played.{refusal-is, all-counted, frames-most, every-frame}
 
 -- ---- it stops at 4,096 frames, and says nothing: a block with more is not accepted, whatever it holds
@@ -79,6 +82,26 @@ silent p = true≢false (sym (second-left _ p))
 planes-though-refused : (c : Command) (l : Layout) (answer : CommandGains) → (firstOf (commandChecks c l) ≡ 0 → ⊥) → Gained c l answer → (answer .planes ≡ 0 → ⊥) → ⊥
 planes-though-refused c l answer refused p other = other (ap (λ (r : CommandGains). r .planes) (gained-refused c l answer p refused))
 
--- ---- a command's gains are not those that a block at it is played with
-other-gains : (c : Command) (l : Layout) (answer : CommandGains) → firstOf (commandChecks c l) ≡ 0 → Gained c l answer → (answer .gains ≡ narrowedAll (gainsOf c l) → ⊥) → ⊥
-other-gains c l answer z p other = other (ap (λ (r : CommandGains). r .gains) (gained-accepted c l answer p z))
+-- ---- the left gain of a command stands in the second place: at -100 the first plane has it
+left-in-the-second-place : (gs : List Float) → Gained (Stereo (float (negsuc 99))) Mono (record { refusal = 0; planes = 2; gains = zero-float ∷ gs }) → ⊥
+unfolding rounded round ofInt
+left-in-the-second-place gs p =
+    let c = Stereo (float (negsuc 99)) in
+    let g : CommandGains = record { refusal = 0; planes = 2; gains = zero-float ∷ gs } in
+    true≢false
+    (sym (ap (λ (r : CommandGains). positive (getD (r .gains) 0 zero-float)) (gained-accepted c Mono g p (sym (gained-number c Mono g p)))
+    ∙ ap (λ (r : StereoGains). positive (narrowed (r .left))) at-minus-100))
+
+-- ---- a part plays frames before its first
+frame-before-the-part : (out after : List Float) (stride from to planes : ℕ) (gains input : List Float) → after ≡ withFrames out stride from (pannedPart stride from to planes gains input)
+    → from ≤ to → to ≤ stride → (n p : ℕ) → n < from → (sampleAt after stride p n ≡ sampleAt out stride p n → ⊥) → ⊥
+frame-before-the-part out after stride from to planes gains input e a b n p h other =
+    other
+    (ap (λ (l : List Float). sampleAt l stride p n) e
+    ∙ with-frames-other out stride from part p n (omega (arith, h, a, b)) (omega (arith, size, a, b)) (λ k l q. omega (arith, h, q)))
+  where
+    part : List (List Float)
+    part = pannedPart stride from to planes gains input
+
+    size : length (pannedPart stride from to planes gains input) ≡ to - from
+    size = length-tab from (to - from) _

@@ -1,5 +1,5 @@
 -- What the steps of the program hand to each other. Definitions only, and none that the public promise cites.
-use Prim.Native.Nat.{ℕ, _≤_}
+use Prim.Native.Nat.{ℕ}
 use mathlib.Core.Path.{_≡_}
 use mathlib.Core.Bool.{Bool}
 use Rattle.refusals.specs.Refusals.{firstOf}
@@ -18,7 +18,6 @@ commandRefusal c l = firstOf (commandChecks c l)
 -- the gains of a command: its refusal, and if there is none how many planes, with which gains
 pub record Commands (c : Command) (l : Layout) (g : Commanded) : Type 0 where
   pub refusal : g .refusal ≡ commandRefusal c l
-  pub few : g .planes ≤ 16
   pub planes : commandRefusal c l ≡ 0 → g .planes ≡ planesOf c l
   pub gains : commandRefusal c l ≡ 0 → g .gains ≡ gainsOf c l
   pub promised : commandRefusal c l ≡ 0 → Promised c l (gainsOf c l)

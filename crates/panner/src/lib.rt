@@ -47,7 +47,7 @@ struct Commanded {
 }
 
 fn refused(refusal: u8) -> Commanded
-    ensures { λ r. ⌜ (r .refusal ≡ refusal) × (r .planes ≤ 16) ⌝ }
+    ensures { λ r. ⌜ r .refusal ≡ refusal ⌝ }
 {
     Commanded {
         refusal: refusal,
@@ -218,14 +218,14 @@ pub fn process(
 ) -> Panned
     ensures { λ r. ⌜ Processed (record { command = command; layout = layout; frames = frames; stride = stride }) (now (input .entry)) (now (out .entry)) r (now (out .exit)) ⌝ }
 {
-    let commanded = gains_of(command, layout);
-    if commanded.refusal != 0 {
+    let played = command_gains(command, layout);
+    if played.refusal != 0 {
         return Panned {
-            refusal: commanded.refusal,
+            refusal: played.refusal,
             samples: 0,
         };
     }
-    if checks::is_block_unfit(input.len(), 1, out.len(), commanded.planes, stride, frames) {
+    if checks::is_block_unfit(input.len(), 1, out.len(), played.planes, stride, frames) {
         return Panned {
             refusal: 5,
             samples: 0,
@@ -237,16 +237,8 @@ pub fn process(
             samples: 0,
         };
     }
-    let gains = commanded.gains;
-    play_part(
-        out,
-        stride,
-        0,
-        frames,
-        commanded.planes,
-        narrowed(gains),
-        input,
-    );
+    let gains = played.gains;
+    play_part(out, stride, 0, frames, played.planes, gains, input);
     Panned {
         refusal: 0,
         samples: frames,

@@ -20,7 +20,7 @@ returns : tie.Need-returns
 returns c =
     let a = c .before .before .before .before .args in
     let r = c .refused in
-    refused (Ambisonic (a .direction) (a .order)) (a .layout) (r .result) 1 (lit< tt) (r .ensures .0) (r .ensures .1)
+    refused (Ambisonic (a .direction) (a .order)) (a .layout) (r .result) 1 (lit< tt) (r .ensures)
     (order-refused (a .layout) (a .direction) (a .order) (order-ill (a .order) _ (c .before .before .before .ambisonic-channel-count .ensures) (c .before .if1 .taken)))
 
 -- past the test of the order
@@ -38,7 +38,7 @@ returns-2 c =
     let past = c .before .before .before in
     let a = past .before .before .before .args in
     let r = c .refused2 in
-    refused (Ambisonic (a .direction) (a .order)) (a .layout) (r .result) 2 (lit< tt) (r .ensures .0) (r .ensures .1)
+    refused (Ambisonic (a .direction) (a .order)) (a .layout) (r .result) 2 (lit< tt) (r .ensures)
     (layout-refused (a .layout) (a .direction) (a .order) (order-in past .0) (sym (c .before .before .is-bad-layout .ensures) ∙ c .before .if2 .taken))
 
 compute-sh-coefficients-requires : tie.Need-compute-sh-coefficients-requires
@@ -53,7 +53,7 @@ returns-3 c =
     let a = past .before .before .before .args in
     let r = c .refused3 in
     let s = c .before .before .before .compute-sh-coefficients in
-    refused (Ambisonic (a .direction) (a .order)) (a .layout) (r .result) 3 (lit< tt) (r .ensures .0) (r .ensures .1)
+    refused (Ambisonic (a .direction) (a .order)) (a .layout) (r .result) 3 (lit< tt) (r .ensures)
     (direction-refused (a .layout) (a .direction) (a .order) (s .result) (s .ensures) (order-in past .0) (sym (c .before .before .before .before .before .is-bad-layout .ensures) ∙ c .before .before .before .before .if2 .left) (c .before .if3 .taken))
 
 returns-4 : tie.Need-returns-4

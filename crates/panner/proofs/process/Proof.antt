@@ -6,13 +6,13 @@ use borrow.Author.Needs.{needs}
 use Rattle.panner.proofs.process.Statement.{statement}
 use Rattle.panner.proofs.process.Tie as tie
 
-gains-of-requires : tie.Need-gains-of-requires
-gains-of-requires c κs = search needs
+command-gains-requires : tie.Need-command-gains-requires
+command-gains-requires c κs = search needs
 
 returns : tie.Need-returns
 returns c =
     let a = c .before .before .before .before .before .args in
-    let g = c .before .before .gains-of in
+    let g = c .before .before .command-gains in
     by-command (record { command = a .command; layout = a .layout; frames = a .frames; stride = a .stride }) (now (a .input)) (now (a .out)) (g .result) (g .ensures) (c .if1 .taken)
 
 is-block-unfit-requires : tie.Need-is-block-unfit-requires
@@ -21,17 +21,14 @@ is-block-unfit-requires c κs = search needs
 returns-2 : tie.Need-returns-2
 returns-2 c =
     let a = c .before .before .before .before .before .before .before .args in
-    let g = c .before .before .before .before .gains-of in
+    let g = c .before .before .before .before .command-gains in
     by-length (record { command = a .command; layout = a .layout; frames = a .frames; stride = a .stride }) (now (a .input)) (now (a .out)) (g .result) (g .ensures) (c .before .before .if1 .left) (sym (c .before .is-block-unfit .ensures) ∙ c .if2 .taken)
 
 returns-3 : tie.Need-returns-3
 returns-3 c =
     let a = c .before .before .before .before .before .before .before .before .args in
-    let g = c .before .before .before .before .before .gains-of in
+    let g = c .before .before .before .before .before .command-gains in
     by-frames (record { command = a .command; layout = a .layout; frames = a .frames; stride = a .stride }) (now (a .input)) (now (a .out)) (g .result) (g .ensures) (c .before .before .before .if1 .left) (sym (c .before .before .is-block-unfit .ensures) ∙ c .before .if2 .left) (c .if3 .taken)
-
-narrowed-requires : tie.Need-narrowed-requires
-narrowed-requires c κs = search needs
 
 play-part-requires : tie.Need-play-part-requires
 play-part-requires c κs = search needs
@@ -41,22 +38,20 @@ same-length c = search needs
 
 returns-4 : tie.Need-returns-4
 returns-4 c =
-    let a = c .before .before .before .before .before .before .before .before .before .before .before .before .before .before .args in
-    let g = c .before .before .before .before .before .before .before .before .before .before .before .gains-of in
-    let n = c .before .before .before .narrowed in
-    plays (record { command = a .command; layout = a .layout; frames = a .frames; stride = a .stride }) (now (a .input)) (now (a .out)) (g .result) (g .ensures) (c .before .before .before .before .before .before .before .before .before .if1 .left) (sym (c .before .before .before .before .before .before .before .before .is-block-unfit .ensures) ∙ c .before .before .before .before .before .before .before .if2 .left) (n .result) (c .before .before .play-part .last .0)
-    (c .before .before .before .before .before .before .if3 .left) (n .ensures) (c .before .before .play-part .ensures)
+    let a = c .before .before .before .before .before .before .before .before .before .before .before .before .before .args in
+    let g = c .before .before .before .before .before .before .before .before .before .before .command-gains in
+    plays (record { command = a .command; layout = a .layout; frames = a .frames; stride = a .stride }) (now (a .input)) (now (a .out)) (g .result) (g .ensures) (c .before .before .before .before .before .before .before .before .if1 .left)
+    (sym (c .before .before .before .before .before .before .before .is-block-unfit .ensures) ∙ c .before .before .before .before .before .before .if2 .left) (c .before .before .play-part .last .0) (c .before .before .before .before .before .if3 .left) (c .before .before .play-part .ensures)
 
 pub process-spec : {M : Type 1} → statement M
 process-spec =
     tie.close
     (tie.spec
-    gains-of-requires
+    command-gains-requires
     returns
     is-block-unfit-requires
     returns-2
     returns-3
-    narrowed-requires
     play-part-requires
     same-length
     returns-4)

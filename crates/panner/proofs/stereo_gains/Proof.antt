@@ -19,7 +19,7 @@ returns : tie.Need-returns
 returns c =
     let a = c .before .before .before .args in
     let r = c .refused in
-    refused (Stereo (a .position)) (a .layout) (r .result) 2 (lit< tt) (r .ensures .0) (r .ensures .1) (stops 2 _ (sym (c .before .before .is-bad-layout .ensures) ∙ c .before .if1 .taken))
+    refused (Stereo (a .position)) (a .layout) (r .result) 2 (lit< tt) (r .ensures) (stops 2 _ (sym (c .before .before .is-bad-layout .ensures) ∙ c .before .if1 .taken))
 
 calculate-stereo-gains-requires : tie.Need-calculate-stereo-gains-requires
 calculate-stereo-gains-requires c κs = search needs
@@ -32,7 +32,7 @@ returns-2 c =
     let a = c .before .before .before .before .before .before .args in
     let r = c .refused2 in
     let s = c .before .before .before .calculate-stereo-gains in
-    refused (Stereo (a .position)) (a .layout) (r .result) 3 (lit< tt) (r .ensures .0) (r .ensures .1)
+    refused (Stereo (a .position)) (a .layout) (r .result) 3 (lit< tt) (r .ensures)
     (stereo-refused (a .layout) (a .position) (s .result) (s .ensures) (sym (c .before .before .before .before .before .is-bad-layout .ensures) ∙ c .before .before .before .before .if1 .left) (c .before .if2 .taken))
 
 array-write-gains : tie.Need-array-write-gains

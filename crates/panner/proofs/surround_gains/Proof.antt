@@ -18,7 +18,7 @@ returns c =
     let a = c .before .before .before .before .args in
     let r = c .refused in
     let s = c .before .before .before .calculate-vbap-gains in
-    refused (Surround (a .azimuth)) (a .layout) (r .result) (s .result .refusal) (omega (arith, c .before .if1 .taken)) (r .ensures .0) (r .ensures .1) (sym (surround-refusal (a .layout) (a .azimuth) (s .result) (s .ensures)))
+    refused (Surround (a .azimuth)) (a .layout) (r .result) (s .result .refusal) (omega (arith, c .before .if1 .taken)) (r .ensures) (sym (surround-refusal (a .layout) (a .azimuth) (s .result) (s .ensures)))
 
 channel-count-requires : tie.Need-channel-count-requires
 channel-count-requires c κs = search needs
