@@ -3,24 +3,23 @@ use mathlib.Core.Path.{_≡_, refl, ap}
 use Prim.Native.Nat.{ℕ, zero, suc, _<_, _≤_}
 use native.Mathlib.Nat.{not-suc-le-zero, le-of-suc-le-suc}
 use native.Mathlib.Omega.{arith}
-use mathlib.Core.Bool.{Bool, true, false, _&&_}
+use mathlib.Core.Bool.{Bool, true, false, _&&_, cond}
 use mathlib.Core.List.{List, [], _∷_}
 use lib.ListN.{length, getD}
-use lib.Dec.{ltb}
+use lib.Dec.{ltb, leb}
 use borrow.Author.Tests.{ltb-true}
 use Rattle.lists.specs.Tables.{any}
 use Rattle.refusals.proofs.First.{or-off}
 use Rattle.harmonics.specs.Promise.{refusesDirection}
 use Rattle.cues.specs.declared.Cue.{Cue}
-use Rattle.cues.specs.Cues.{framesOf, refusedOf, risesFrom, rises}
-use Rattle.cues.specs.Computed.{nowhere}
+use Rattle.cues.specs.Cues.{Voice, nobody, speaking, orLater, voiceAt, numbersOf, refusedOf, risesFrom, rises, nowhere}
 
-pub frame-is : (cs : List Cue) (i : ℕ) → i < length cs → getD cs i nowhere .frame ≡ getD (framesOf cs) i 0
+pub frame-is : (cs : List Cue) (i : ℕ) → i < length cs → getD cs i nowhere .frame ≡ getD (numbersOf cs) i 0
 frame-is [] i l = absurd (not-suc-le-zero l)
 frame-is (c ∷ cs) zero l = refl
 frame-is (c ∷ cs) (suc i) l = frame-is cs i (le-of-suc-le-suc l)
 
-pub frames-length : (cs : List Cue) → length (framesOf cs) ≡ length cs
+pub frames-length : (cs : List Cue) → length (numbersOf cs) ≡ length cs
 frames-length [] = refl
 frames-length (c ∷ cs) = ap suc (frames-length cs)
 
@@ -49,3 +48,21 @@ pub each-good : (cs : List Cue) (i : ℕ) → any (refusedOf cs) ≡ false → i
 each-good [] i h l = absurd (not-suc-le-zero l)
 each-good (c ∷ cs) zero h l = or-off (refusesDirection (c .direction)) (any (refusedOf cs)) h .0
 each-good (c ∷ cs) (suc i) h l = each-good cs i (or-off (refusesDirection (c .direction)) (any (refusedOf cs)) h .1) (le-of-suc-le-suc l)
+
+-- a voice at a direction that is not refused
+abbrev pub Good : Voice → Type 0
+Good nobody = Unit {0}
+Good (speaking d) = refusesDirection d ≡ false
+
+-- is that of every frame, where no direction of the list is refused
+pub voice-good : (cs : List Cue) (f : ℕ) → any (refusedOf cs) ≡ false → Good (voiceAt cs f)
+voice-good [] f h = tt
+voice-good (c ∷ cs) f h = later (voiceAt cs f) (voice-good cs f (off .1)) (leb (c .frame) f)
+  where
+    off : (refusesDirection (c .direction) ≡ false) × (any (refusedOf cs) ≡ false)
+    off = or-off (refusesDirection (c .direction)) (any (refusedOf cs)) h
+
+    later : (v : Voice) → Good v → (t : Bool) → Good (orLater (cond t (speaking (c .direction)) nobody) v)
+    later nobody g true = off .0
+    later nobody g false = tt
+    later (speaking d) g t = g

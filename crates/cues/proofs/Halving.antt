@@ -5,7 +5,7 @@ use native.Mathlib.Nat.{not-suc-le-zero, le-of-suc-le-suc}
 use native.Mathlib.Numerals.{add-one}
 use native.Mathlib.Omega.{arith}
 use mathlib.Core.Bool.{Bool, true, false, cond}
-use mathlib.Core.Logic.{⊎-elim}
+use mathlib.Core.Logic.{_⊎_, inl, inr, ⊎-elim}
 use mathlib.Core.List.{List, [], _∷_}
 use lib.ListN.{length, getD}
 use lib.Dec.{ltb, leb}
@@ -13,8 +13,8 @@ use borrow.Author.Tests.{ltb-true, leb-true, leb-false, lt-ltb, le-ltb, lt-leb, 
 use Rattle.lists.proofs.Lists.{split}
 use Rattle.cues.specs.declared.Cue.{Cue}
 use Rattle.cues.specs.declared.Search.{Search}
-use Rattle.cues.specs.Cues.{Voice, nobody, speaking, framesOf, risesFrom, rises, orLater, voiceAt}
-use Rattle.cues.specs.Computed.{nowhere, searchOf, wholeOf, halvedOf, searched, always, leftOf, heldOf}
+use Rattle.cues.specs.Cues.{Voice, nobody, speaking, numbersOf, risesFrom, rises, orLater, voiceAt, untilNext, nowhere, always}
+use Rattle.cues.specs.Computed.{searchOf, wholeOf, halvedOf, searched, leftOf, heldOf, foundOf}
 use Rattle.cues.specs.Promise.{Holds, Finds}
 use Rattle.cues.proofs.Cues.{frame-is, frames-length, and-left, and-right, tail-rises, least}
 
@@ -67,63 +67,81 @@ upTo-same (x ∷ xs) f g l n = by-test (upTo-same xs f g l) (leb x f) refl
         let next : g < x = subst (λ (k : ℕ). g < getD (x ∷ xs) k 0) step (n (subst (λ (k : ℕ). k < suc (length xs)) (sym step) (omega arith))) in
         ap (λ (t : Bool). cond t (suc (upTo xs g)) 0) (lt-leb x g next) ∙ sym step
 
+-- the first number after f stands there
+until-at : (fs : List ℕ) (f : ℕ) → upTo fs f < length fs → untilNext fs f ≡ getD fs (upTo fs f) 0 - f
+until-at [] f l = absurd (not-suc-le-zero l)
+until-at (x ∷ xs) f l = by-test (until-at xs f) (leb x f) l
+  where
+    by-test : (upTo xs f < length xs → untilNext xs f ≡ getD xs (upTo xs f) 0 - f) → (t : Bool) → cond t (suc (upTo xs f)) 0 < suc (length xs)
+        → cond t (untilNext xs f) (x - f) ≡ getD (x ∷ xs) (cond t (suc (upTo xs f)) 0) 0 - f
+    by-test ih true m = ih (le-of-suc-le-suc m)
+    by-test ih false m = refl
+
+until-none : (fs : List ℕ) (f : ℕ) → length fs ≤ upTo fs f → untilNext fs f ≡ always
+until-none [] f l = refl
+until-none (x ∷ xs) f l = by-test (until-none xs f) (leb x f) l
+  where
+    by-test : (length xs ≤ upTo xs f → untilNext xs f ≡ always) → (t : Bool) → suc (length xs) ≤ cond t (suc (upTo xs f)) 0 → cond t (untilNext xs f) (x - f) ≡ always
+    by-test ih true m = ih (le-of-suc-le-suc m)
+    by-test ih false m = absurd (not-suc-le-zero m)
+
 -- ---- the voice is that of the last of them
 abbrev pub lastOf : List Cue → ℕ → Voice
 lastOf cs zero = nobody
 lastOf cs (suc k) = speaking (getD cs k nowhere .direction)
 
-pub none-left : (x : ℕ) (cs : List Cue) (f : ℕ) → risesFrom x (framesOf cs) ≡ true → f < x → voiceAt cs f ≡ nobody
+pub none-left : (x : ℕ) (cs : List Cue) (f : ℕ) → risesFrom x (numbersOf cs) ≡ true → f < x → voiceAt cs f ≡ nobody
 none-left x [] f h l = refl
 none-left x (c ∷ cs) f h l =
-    let up : x < c .frame = ltb-true x (c .frame) (and-left (ltb x (c .frame)) (risesFrom (c .frame) (framesOf cs)) h) in
+    let up : x < c .frame = ltb-true x (c .frame) (and-left (ltb x (c .frame)) (risesFrom (c .frame) (numbersOf cs)) h) in
     ap (λ (t : Bool). orLater (cond t (speaking (c .direction)) nobody) (voiceAt cs f)) (lt-leb (c .frame) f (omega (arith, l, up)))
-    ∙ ap (orLater nobody) (none-left (c .frame) cs f (and-right (ltb x (c .frame)) (risesFrom (c .frame) (framesOf cs)) h) (omega (arith, l, up)))
+    ∙ ap (orLater nobody) (none-left (c .frame) cs f (and-right (ltb x (c .frame)) (risesFrom (c .frame) (numbersOf cs)) h) (omega (arith, l, up)))
 
-pub halving-finds : (cs : List Cue) (f : ℕ) → rises (framesOf cs) ≡ true → voiceAt cs f ≡ lastOf cs (upTo (framesOf cs) f)
-halving-finds [] f h = refl
-halving-finds (c ∷ cs) f h = by-test (halving-finds cs f (tail-rises (c .frame) (framesOf cs) h)) (leb (c .frame) f) refl
+pub voice-last : (cs : List Cue) (f : ℕ) → rises (numbersOf cs) ≡ true → voiceAt cs f ≡ lastOf cs (upTo (numbersOf cs) f)
+voice-last [] f h = refl
+voice-last (c ∷ cs) f h = by-test (voice-last cs f (tail-rises (c .frame) (numbersOf cs) h)) (leb (c .frame) f) refl
   where
     later : (k : ℕ) → orLater (speaking (c .direction)) (lastOf cs k) ≡ lastOf (c ∷ cs) (suc k)
     later zero = refl
     later (suc k) = refl
 
-    by-test : voiceAt cs f ≡ lastOf cs (upTo (framesOf cs) f) → (t : Bool) → leb (c .frame) f ≡ t → orLater (cond (leb (c .frame) f) (speaking (c .direction)) nobody) (voiceAt cs f) ≡ lastOf (c ∷ cs) (cond (leb (c .frame) f) (suc (upTo (framesOf cs) f)) 0)
-    by-test ih true e = subst (λ (t : Bool). orLater (cond t (speaking (c .direction)) nobody) (voiceAt cs f) ≡ lastOf (c ∷ cs) (cond t (suc (upTo (framesOf cs) f)) 0)) (sym e) (ap (orLater (speaking (c .direction))) ih ∙ later (upTo (framesOf cs) f))
-    by-test ih false e = subst (λ (t : Bool). orLater (cond t (speaking (c .direction)) nobody) (voiceAt cs f) ≡ lastOf (c ∷ cs) (cond t (suc (upTo (framesOf cs) f)) 0)) (sym e) (ap (orLater nobody) (none-left (c .frame) cs f h (leb-false (c .frame) f e)))
+    by-test : voiceAt cs f ≡ lastOf cs (upTo (numbersOf cs) f) → (t : Bool) → leb (c .frame) f ≡ t → orLater (cond (leb (c .frame) f) (speaking (c .direction)) nobody) (voiceAt cs f) ≡ lastOf (c ∷ cs) (cond (leb (c .frame) f) (suc (upTo (numbersOf cs) f)) 0)
+    by-test ih true e = subst (λ (t : Bool). orLater (cond t (speaking (c .direction)) nobody) (voiceAt cs f) ≡ lastOf (c ∷ cs) (cond t (suc (upTo (numbersOf cs) f)) 0)) (sym e) (ap (orLater (speaking (c .direction))) ih ∙ later (upTo (numbersOf cs) f))
+    by-test ih false e = subst (λ (t : Bool). orLater (cond t (speaking (c .direction)) nobody) (voiceAt cs f) ≡ lastOf (c ∷ cs) (cond t (suc (upTo (numbersOf cs) f)) 0)) (sym e) (ap (orLater nobody) (none-left (c .frame) cs f h (leb-false (c .frame) f e)))
 
 -- so between a cue and the next the voice is that cue's
-pub holds-between : (cs : List Cue) (f i : ℕ) → rises (framesOf cs) ≡ true → i < length cs → getD cs i nowhere .frame ≤ f → (i + 1 < length cs → f < getD cs (i + 1) nowhere .frame)
+pub holds-between : (cs : List Cue) (f i : ℕ) → rises (numbersOf cs) ≡ true → i < length cs → getD cs i nowhere .frame ≤ f → (i + 1 < length cs → f < getD cs (i + 1) nowhere .frame)
     → voiceAt cs f ≡ speaking (getD cs i nowhere .direction)
-holds-between cs f i h l a b = halving-finds cs f h ∙ ap (lastOf cs) count
+holds-between cs f i h l a b = voice-last cs f h ∙ ap (lastOf cs) count
   where
-    long : length (framesOf cs) ≡ length cs
+    long : length (numbersOf cs) ≡ length cs
     long = frames-length cs
 
-    least-so : i < upTo (framesOf cs) f
+    least-so : i < upTo (numbersOf cs) f
     least-so =
-        ⊎-elim (λ (p : i < upTo (framesOf cs) f). p)
-        (λ (p : upTo (framesOf cs) f ≤ i). absurd (past (above (framesOf cs) f i h p (omega (arith, l, long))) (frame-is cs i l)))
-        (split i (upTo (framesOf cs) f))
+        ⊎-elim (λ (p : i < upTo (numbersOf cs) f). p)
+        (λ (p : upTo (numbersOf cs) f ≤ i). absurd (past (above (numbersOf cs) f i h p (omega (arith, l, long))) (frame-is cs i l)))
+        (split i (upTo (numbersOf cs) f))
       where
-        past : f < getD (framesOf cs) i 0 → getD cs i nowhere .frame ≡ getD (framesOf cs) i 0 → ⊥
+        past : f < getD (numbersOf cs) i 0 → getD cs i nowhere .frame ≡ getD (numbersOf cs) i 0 → ⊥
         past p e = omega (arith, p, e, a)
 
-    most-so : upTo (framesOf cs) f ≤ suc i
+    most-so : upTo (numbersOf cs) f ≤ suc i
     most-so =
-        ⊎-elim (λ (p : suc i < upTo (framesOf cs) f). absurd (past p (below (framesOf cs) f (suc i) p)))
-        (λ (p : upTo (framesOf cs) f ≤ suc i). p)
-        (split (suc i) (upTo (framesOf cs) f))
+        ⊎-elim (λ (p : suc i < upTo (numbersOf cs) f). absurd (past p (below (numbersOf cs) f (suc i) p)))
+        (λ (p : upTo (numbersOf cs) f ≤ suc i). p)
+        (split (suc i) (upTo (numbersOf cs) f))
       where
-        in-list : suc i < upTo (framesOf cs) f → i + 1 < length cs
-        in-list p = let m = upTo-most (framesOf cs) f in omega (arith, p, m, long)
+        in-list : suc i < upTo (numbersOf cs) f → i + 1 < length cs
+        in-list p = let m = upTo-most (numbersOf cs) f in omega (arith, p, m, long)
 
-        past : suc i < upTo (framesOf cs) f → getD (framesOf cs) (suc i) 0 ≤ f → ⊥
+        past : suc i < upTo (numbersOf cs) f → getD (numbersOf cs) (suc i) 0 ≤ f → ⊥
         past p q =
             let n = b (in-list p) in
-            let e = frame-is cs (i + 1) (in-list p) ∙ ap (λ (k : ℕ). getD (framesOf cs) k 0) (add-one i) in
+            let e = frame-is cs (i + 1) (in-list p) ∙ ap (λ (k : ℕ). getD (numbersOf cs) k 0) (add-one i) in
             omega (arith, n, e, q)
 
-    count : upTo (framesOf cs) f ≡ suc i
+    count : upTo (numbersOf cs) f ≡ suc i
     count = omega (arith, least-so, most-so)
 
 -- ---- how many turns of the search are left at most, and that they come to what all turns come to
@@ -157,15 +175,15 @@ module _ (cs : List Cue) (f : ℕ) (s : Search) where
 pub record Halving (cs : List Cue) (f : ℕ) (s : Search) : Type 0 where
   pub middle : s .mid ≡ s .lo + (s .hi - s .lo) / 2
   pub coming : Coming cs f s
-  pub low : rises (framesOf cs) ≡ true → s .lo ≤ upTo (framesOf cs) f
-  pub high : upTo (framesOf cs) f ≤ s .hi
+  pub low : rises (numbersOf cs) ≡ true → s .lo ≤ upTo (numbersOf cs) f
+  pub high : upTo (numbersOf cs) f ≤ s .hi
   pub room : s .hi ≤ length cs
   pub before : 0 < s .lo → s .direction ≡ getD cs (s .lo - 1) nowhere .direction
   pub behind : s .hi < length cs → s .next ≡ getD cs (s .hi) nowhere .frame
 
 module _ (cs : List Cue) (f : ℕ) where
   abbrev fs : List ℕ
-  fs = framesOf cs
+  fs = numbersOf cs
 
   pub halving-whole : Halving cs f (wholeOf (length cs))
   halving-whole = record {
@@ -302,9 +320,13 @@ module _ (cs : List Cue) (f : ℕ) where
 
     halving-holds : Holds cs f (heldOf s (length cs) f)
     halving-holds = record {
-      voice = voice-is (s .lo) refl ∙ ap (lastOf cs) count ∙ sym (halving-finds cs f h);
+      voice = voice-is (s .lo) refl ∙ ap (lastOf cs) count ∙ sym (voice-last cs f h);
+      until = ⊎-elim
+          (λ (n : s .lo < length cs). left-next n ∙ ap (λ (m : ℕ). m - f) (next-is n) ∙ sym (until-at fs f (subst (λ (m : ℕ). upTo fs f < m) (sym (frames-length cs)) (subst (λ (m : ℕ). m < length cs) count n))))
+          (λ (n : length cs ≤ s .lo). left-always n ∙ sym (until-none fs f (subst (λ (m : ℕ). m ≤ upTo fs f) (sym (frames-length cs)) (subst (λ (m : ℕ). length cs ≤ m) count n))))
+          (split (s .lo) (length cs));
       some = ⊎-elim (λ (n : s .lo < length cs). subst (λ (m : ℕ). 0 < m) (sym (left-next n)) (positive (next-after n))) (λ (n : length cs ≤ s .lo). subst (λ (m : ℕ). 0 < m) (sym (left-always n)) (omega arith)) (split (s .lo) (length cs));
-      stays = λ j l. halving-finds cs (f + j) h ∙ ap (lastOf cs) (same j l) ∙ sym (halving-finds cs f h);
+      stays = λ j l. voice-last cs (f + j) h ∙ ap (lastOf cs) (same j l) ∙ sym (voice-last cs f h);
     }
       where
         positive : f < s .next → 0 < s .next - f
@@ -315,3 +337,23 @@ module _ (cs : List Cue) (f : ℕ) where
     is = ap (λ (t : Search). heldOf t (length cs) f) (sym (coming-all cs f s over (k .coming .turns)) ∙ k .coming .left);
     holds = λ h. halving-holds s over h k;
   }
+
+  -- nothing is left of the part
+  abbrev Ended : Search → Type 0
+  Ended s = Halving cs f s × (s .hi ≤ s .lo)
+
+  -- so many turns keep it and end it, where the part is no longer
+  searching : (n : ℕ) (s : Search) → s .hi - s .lo ≤ n → Halving cs f s → Ended (searched n cs f s)
+  searching zero s few k = (k, omega (arith, few))
+  searching (suc n) s few k = by-test (λ l. let turned = halving-more s l k in searching n (next cs f s) (less (turned .1)) (turned .0)) (split (s .lo) (s .hi))
+    where
+      less : next cs f s .hi - next cs f s .lo < s .hi - s .lo → next cs f s .hi - next cs f s .lo ≤ n
+      less d = omega (arith, d, few)
+
+      by-test : (s .lo < s .hi → Ended (searched n cs f (next cs f s))) → (s .lo < s .hi) ⊎ (s .hi ≤ s .lo) → Ended (searched (suc n) cs f s)
+      by-test go (inl l) = subst (λ (t : Bool). Ended (cond t (searched n cs f (next cs f s)) s)) (sym (lt-ltb (s .lo) (s .hi) l)) (go l)
+      by-test go (inr l) = subst (λ (t : Bool). Ended (cond t (searched n cs f (next cs f s)) s)) (sym (le-ltb (s .lo) (s .hi) l)) (k, l)
+
+  -- document 02: what halving finds in a list that rises is the last cue not after f
+  pub halving-finds : rises fs ≡ true → Holds cs f (foundOf cs f)
+  halving-finds h = let all = searching (length cs) (wholeOf (length cs)) (omega arith) halving-whole in halving-all (searched (length cs) cs f (wholeOf (length cs))) (all .1) (all .0) .holds h

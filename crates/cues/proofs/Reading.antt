@@ -27,7 +27,7 @@ use denote.Triple.Statement.{Contract}
 use denote.Triple.Spec.{tripleOf}
 use denote.Triple.Walked.{says}
 use denote.Triple.Clauses.{ensured, lasts}
-use Rattle.cues.specs.Computed.{nowhere}
+use Rattle.cues.specs.Cues.{nowhere}
 use Rattle.cues.specs.declared.Cue.{Cue}
 use Rattle.cues.proofs.Cue as T
 use Rattle.cues.proofs.cue_at as cue-at

@@ -12,8 +12,7 @@ use Rattle.harmonics.specs.Promise.{refusesDirection}
 use Rattle.cues.specs.declared.Cue.{Cue}
 use Rattle.cues.specs.declared.Judgement.{Judgement}
 use Rattle.cues.specs.declared.Held.{Held}
-use Rattle.cues.specs.Cues.{Voice, nobody, speaking, framesOf, refusedOf, risesFrom, voiceAt}
-use Rattle.cues.specs.Computed.{nowhere}
+use Rattle.cues.specs.Cues.{Voice, nobody, speaking, numbersOf, refusedOf, risesFrom, voiceAt, nowhere}
 use Rattle.cues.specs.Promise.{judgementOf, Finds}
 use Rattle.cues.proofs.Cues.{each-good}
 use Rattle.cues.proofs.Halving.{holds-between}
@@ -23,11 +22,11 @@ use Rattle.cues.proofs.Halving.{holds-between}
 -- it takes equal frames for rising ones
 equal-frames-rise : (c d : Cue) (cs : List Cue) (j : Judgement) → c .frame ≡ d .frame → j ≡ judgementOf (c ∷ d ∷ cs) → j .rising ≡ true → ⊥
 equal-frames-rise c d cs j e is r =
-    true≢false (sym r ∙ ap (λ (k : Judgement). k .rising) is ∙ ap (λ (t : Bool). t && risesFrom (d .frame) (framesOf cs)) (le-ltb (c .frame) (d .frame) (omega (arith, e))))
+    true≢false (sym r ∙ ap (λ (k : Judgement). k .rising) is ∙ ap (λ (t : Bool). t && risesFrom (d .frame) (numbersOf cs)) (le-ltb (c .frame) (d .frame) (omega (arith, e))))
 
 -- it does not look at every direction: at any place of the list one that is refused is found
-bad-direction-missed : (cs : List Cue) (i : ℕ) (j : Judgement) → i < length cs → refusesDirection (getD cs i nowhere .direction) ≡ true → j ≡ judgementOf cs → j .sound ≡ true → ⊥
-bad-direction-missed cs i j l bad is s = true≢false (sym bad ∙ each-good cs i (none (any (refusedOf cs)) (sym (ap (λ (k : Judgement). k .sound) is) ∙ s)) l)
+bad-direction-missed : (cs : List Cue) (i : ℕ) (j : Judgement) → i < length cs → refusesDirection (getD cs i nowhere .direction) ≡ true → j ≡ judgementOf cs → j .good ≡ true → ⊥
+bad-direction-missed cs i j l bad is s = true≢false (sym bad ∙ each-good cs i (none (any (refusedOf cs)) (sym (ap (λ (k : Judgement). k .good) is) ∙ s)) l)
   where
     none : (b : Bool) → not b ≡ true → b ≡ false
     none true h = sym h

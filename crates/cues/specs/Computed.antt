@@ -4,28 +4,24 @@ use mathlib.Core.Bool.{Bool, false, not, _||_, cond}
 use mathlib.Core.List.{List}
 use lib.Dec.{ltb, leb, eqb}
 use lib.ListN.{length, getD}
-use Rattle.formats.specs.Floats.{zero-float}
 use Rattle.harmonics.specs.declared.Direction.{Direction}
 use Rattle.harmonics.specs.Promise.{refusesDirection}
 use Rattle.cues.specs.declared.Cue.{Cue}
 use Rattle.cues.specs.declared.Judgement.{Judgement}
 use Rattle.cues.specs.declared.Search.{Search}
 use Rattle.cues.specs.declared.Held.{Held}
-
--- what stands past the end
-abbrev pub nowhere : Cue
-nowhere = record { frame = 0; direction = record { azimuth = zero-float; elevation = zero-float } }
+use Rattle.cues.specs.Cues.{nowhere, always}
 
 -- ---- the list is judged, one cue further
 
 abbrev pub risesOn : ℕ → ℕ → Bool → ℕ → Bool
 risesOn seen last rising f = cond rising (eqb seen 0 || ltb last f) false
 
-abbrev pub soundOn : Bool → Direction → Bool
-soundOn sound d = cond sound (not (refusesDirection d)) false
+abbrev pub goodOn : Bool → Direction → Bool
+goodOn good d = cond good (not (refusesDirection d)) false
 
 abbrev pub judgedOn : Judgement → Cue → Judgement
-judgedOn s c = record { seen = s .seen + 1; last = c .frame; rising = risesOn (s .seen) (s .last) (s .rising) (c .frame); sound = soundOn (s .sound) (c .direction) }
+judgedOn s c = record { seen = s .seen + 1; last = c .frame; rising = risesOn (s .seen) (s .last) (s .rising) (c .frame); good = goodOn (s .good) (c .direction) }
 
 -- ---- the search: a part of the list from lo to before hi, its middle, the direction of the cue before it and the frame of the cue behind it
 
@@ -42,10 +38,6 @@ halvedOf s c f = cond (leb (c .frame) f) (searchOf (s .mid + 1) (s .hi) (c .dire
 abbrev pub searched : ℕ → List Cue → ℕ → Search → Search
 searched zero cues f s = s
 searched (suc n) cues f s = cond (ltb (s .lo) (s .hi)) (searched n cues f (halvedOf s (getD cues (s .mid) nowhere) f)) s
-
--- as many frames as there can be
-abbrev pub always : ℕ
-always = 18446744073709551615
 
 abbrev pub leftOf : ℕ → ℕ → ℕ → ℕ → ℕ
 leftOf lo count next f = cond (leb count lo) always (cond (leb next f) always (next - f))

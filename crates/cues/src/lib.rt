@@ -13,7 +13,8 @@
 ghost use mathlib.Core.Path.{_≡_};
 ghost use Prim.Native.Nat.{_+_, _^_, _≤_, _<_};
 ghost use lib.ListN.{length, getD};
-ghost use Rattle.cues.specs.Computed.{nowhere, risesOn, soundOn, judgedOn, wholeOf, halvedOf, leftOf, heldOf};
+ghost use Rattle.cues.specs.Cues.{nowhere};
+ghost use Rattle.cues.specs.Computed.{risesOn, goodOn, judgedOn, wholeOf, halvedOf, leftOf, heldOf};
 ghost use Rattle.cues.specs.Promise.{judgementOf, Finds};
 
 // Where the voice is from a frame on.
@@ -30,13 +31,13 @@ fn cue_at(cues: &[Cue], i: usize) -> Cue
     cues[i]
 }
 
-// How far a list is judged: how many cues were seen, the frame of the last, and whether the frames so far
-// rise strictly and the directions so far are good ones.
+// How many cues were judged, the frame of the last one, whether their frames rise strictly, and whether all
+// their directions are good ones. It is also what the judging goes on from, cue by cue.
 pub struct Judgement {
     pub seen: usize,
     pub last: u64,
     pub rising: bool,
-    pub sound: bool,
+    pub good: bool,
 }
 
 fn rises_on(seen: usize, last: u64, rising: bool, frame: u64) -> bool
@@ -51,10 +52,10 @@ fn rises_on(seen: usize, last: u64, rising: bool, frame: u64) -> bool
     last < frame
 }
 
-fn sound_on(sound: bool, direction: harmonics::Direction) -> bool
-    ensures { λ r. ⌜ r ≡ soundOn sound direction ⌝ }
+fn good_on(good: bool, direction: harmonics::Direction) -> bool
+    ensures { λ r. ⌜ r ≡ goodOn good direction ⌝ }
 {
-    if !sound {
+    if !good {
         return false;
     }
     !harmonics::refuses_direction(direction)
@@ -69,12 +70,12 @@ fn judged_on(s: Judgement, cue: Cue) -> Judgement
     let frame = cue.frame;
     let direction = cue.direction;
     let rising = rises_on(seen, s.last, s.rising, frame);
-    let sound = sound_on(s.sound, direction);
+    let good = good_on(s.good, direction);
     Judgement {
         seen: seen + 1,
         last: frame,
         rising: rising,
-        sound: sound,
+        good: good,
     }
 }
 
@@ -86,7 +87,7 @@ pub fn judged(cues: &[Cue]) -> Judgement
         seen: 0,
         last: 0,
         rising: true,
-        sound: true,
+        good: true,
     };
     while s.seen < cues.len() {
         s = judged_on(s, cue_at(cues, s.seen));
@@ -161,10 +162,10 @@ fn left_of(lo: usize, count: usize, next: u64, frame: u64) -> u64
     ensures { λ r. ⌜ r ≡ leftOf lo count next frame ⌝ }
 {
     if count <= lo {
-        return 18446744073709551615;
+        return u64::MAX;
     }
     if next <= frame {
-        return 18446744073709551615;
+        return u64::MAX;
     }
     next - frame
 }

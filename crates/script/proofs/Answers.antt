@@ -28,7 +28,7 @@ use Rattle.planes.proofs.Framing.{Parting, parting-all}
 use Rattle.cues.specs.declared.Cue.{Cue}
 use Rattle.cues.specs.declared.Judgement.{Judgement}
 use Rattle.script.specs.declared.Rendered.{Rendered}
-use Rattle.cues.specs.Cues.{framesOf, refusedOf, rises, voiceAt}
+use Rattle.cues.specs.Cues.{numbersOf, refusedOf, rises, voiceAt}
 use Rattle.script.specs.Rendering.{Stretch, runsPast, mostCues, checksOf, refusalOf, spoken, rendered, samplesOf, playedOf}
 use Rattle.script.specs.Promise.{answerOf, block, AllPromised, Renders}
 use Rattle.cues.specs.Promise.{judgementOf}
@@ -44,7 +44,7 @@ past-is first frames h n =
 
 module _ (s : Stretch) (j : Judgement) (input out : ℕ) (k : Counted) (e : k ≡ countedOrder (s .order)) where
   abbrev checks : List Check
-  checks = checksOf s (not (j .sound)) (j .rising) (j .seen) input out
+  checks = checksOf s (not (j .good)) (j .rising) (j .seen) input out
 
   abbrev refusal : ℕ
   refusal = refusalBy s j input out
@@ -62,10 +62,10 @@ module _ (s : Stretch) (j : Judgement) (input out : ℕ) (k : Counted) (e : k �
     misfit-is : misfit input out (k .channels) (s .stride) (s .frames) ≡ misfits
     misfit-is = ap (λ (n : ℕ). misfit input out n (s .stride) (s .frames)) (order-well (s .order) k e z .1)
 
-    pub by-direction : not (j .sound) ≡ true → 3 ≡ refusal
+    pub by-direction : not (j .good) ≡ true → 3 ≡ refusal
     by-direction b = sym (first-holds 1 checks (order-off, b))
 
-    module _ (b : not (j .sound) ≡ false) (u : Bool) (ue : u ≡ misfit input out (k .channels) (s .stride) (s .frames)) where
+    module _ (b : not (j .good) ≡ false) (u : Bool) (ue : u ≡ misfit input out (k .channels) (s .stride) (s .frames)) where
       pub by-length : u ≡ true → 5 ≡ refusal
       by-length h = sym (first-holds 2 checks (order-off, (b, ap (λ (t : Bool). t || runsPast (s .first) (s .frames)) (sym misfit-is ∙ sym ue ∙ h))))
 
@@ -132,14 +132,14 @@ module _ (s : Stretch) (cues : List Cue) (input out : List Float) (j : Judgement
   number-is : refusalBy s j (length input) (length out) ≡ number
   number-is = λ i. firstOf (checksOf s (refused i) (J i .rising) (J i .seen) (length input) (length out))
     where
-      refused : not (j .sound) ≡ any (refusedOf cues)
-      refused = ap (λ (r : Judgement). not (r .sound)) J ∙ not-not (any (refusedOf cues))
+      refused : not (j .good) ≡ any (refusedOf cues)
+      refused = ap (λ (r : Judgement). not (r .good)) J ∙ not-not (any (refusedOf cues))
 
   answer-is : answer ≡ answered number (answerOf 0 (s .frames)) (λ n. answerOf n 0)
   answer-is = e ∙ ap (λ (n : ℕ). answered n (answerOf 0 (s .frames)) (λ m. answerOf m 0)) number-is
 
-  off : number ≡ 0 → Off (checksOf s (any (refusedOf cues)) (rises (framesOf cues)) (length cues) (length input) (length out))
-  off z = none-holds (checksOf s (any (refusedOf cues)) (rises (framesOf cues)) (length cues) (length input) (length out)) tt z
+  off : number ≡ 0 → Off (checksOf s (any (refusedOf cues)) (rises (numbersOf cues)) (length cues) (length input) (length out))
+  off z = none-holds (checksOf s (any (refusedOf cues)) (rises (numbersOf cues)) (length cues) (length input) (length out)) tt z
 
   -- where something is left to play the stretch is accepted
   by-number : (n : ℕ) → n ≡ number → 0 < answered n (answerOf 0 (s .frames)) (λ m. answerOf m 0) .samples → number ≡ 0
@@ -168,8 +168,8 @@ module _ (s : Stretch) (cues : List Cue) (input out : List Float) (j : Judgement
     pub ends-in-time : s .first + s .frames ≤ 2 ^ 64
     ends-in-time = ltb-false (2 ^ 64) (s .first + s .frames) (or-off (misfit (length input) (length out) (channelsOfOrder (s .order)) (s .stride) (s .frames)) (runsPast (s .first) (s .frames)) (off z .1 .1 .0) .1)
 
-    pub cues-rise : rises (framesOf cues) ≡ true
-    cues-rise = not-false (rises (framesOf cues)) (off z .1 .1 .1 .1 .0)
+    pub cues-rise : rises (numbersOf cues) ≡ true
+    cues-rise = not-false (rises (numbersOf cues)) (off z .1 .1 .1 .1 .0)
 
   pub answers : (after : List Float) (n : ℕ) → Parting out (s .stride) 0 (answer .samples) (frameOf s cues input) after n → answer .samples ≤ n → Renders s cues input out answer after
   answers after n p l = record { is = by-case number refl; gains = λ z. promised-all (s .order) cues (good-order z) (none-refused z) }

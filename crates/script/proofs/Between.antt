@@ -24,8 +24,7 @@ use Rattle.panner.specs.Blocks as Panner
 use Rattle.panner.specs.Blocks.{mostFrames}
 use Rattle.panner.specs.Promise as Panner′
 use Rattle.cues.specs.declared.Cue.{Cue}
-use Rattle.cues.specs.Cues.{Voice, nobody, speaking, framesOf, refusedOf, rises, voiceAt}
-use Rattle.cues.specs.Computed.{nowhere}
+use Rattle.cues.specs.Cues.{Voice, nobody, speaking, numbersOf, refusedOf, rises, voiceAt, nowhere}
 use Rattle.cues.proofs.Cues.{each-good}
 use Rattle.cues.proofs.Halving.{holds-between}
 use Rattle.script.specs.Rendering.{Stretch, runsPast, checksOf, refusalOf, spoken, rendered}
@@ -34,7 +33,7 @@ use Rattle.script.specs.DrillScript.{Between, pannedAt, asRendered}
 use Rattle.script.specs.Stretches.{Separate, Part, unspoken, separate, voiceIn, samplesIn, OneVoice, shapeIn, Accepted, soundedIn, Cut, soundedParts, samplesParts}
 use Rattle.script.proofs.Answers.{frameOf, played-is}
 use Rattle.script.proofs.Played.{block-is, cues-rise, out-frames}
-use Rattle.script.proofs.Divided.{divided}
+use Rattle.script.proofs.Divided.{rendered-append}
 
 module _ (s : Stretch) (cues : List Cue) (input out : List Float) (l : Layout) (i : ℕ) (z : refusalOf s cues (length input) (length out) ≡ 0) (good : uncountable (channelsOf l) ≡ false) (in-list : i < length cues)
     (holds : (n : ℕ) → n < s .frames → voiceAt cues (s .first + n) ≡ speaking (getD cues i nowhere .direction)) where
@@ -43,7 +42,7 @@ module _ (s : Stretch) (cues : List Cue) (input out : List Float) (l : Layout) (
 
   accepted : Panner.refusalOf shape (length input) (length out) ≡ 0
   accepted =
-      let off = none-holds (checksOf s (any (refusedOf cues)) (rises (framesOf cues)) (length cues) (length input) (length out)) tt z in
+      let off = none-holds (checksOf s (any (refusedOf cues)) (rises (numbersOf cues)) (length cues) (length input) (length out)) tt z in
       off-accepts (commandChecks (shape .command) l ++ Panner.blockChecks shape (length input) (length out))
       (off .0, (good, (each-good cues i (off .1 .0) in-list, (or-off (Panner.misfit (length input) (length out) (channelsOfOrder (s .order)) (s .stride) (s .frames)) (runsPast (s .first) (s .frames)) (off .1 .1 .0) .0, (off .1 .1 .1 .0, tt)))))
 
@@ -83,7 +82,7 @@ module _ (order : ℕ) (c : Separate) (z : Panner.refusalOf (shapeIn order c) (l
   accepted-alone : refusalOf stretch alone (length (c .input)) (length (c .out)) ≡ 0
   accepted-alone =
       let few = ltb-false mostFrames (c .frames) (panner-off .1 .1 .1 .1 .0) in
-      off-accepts (checksOf stretch (any (refusedOf alone)) (rises (framesOf alone)) (length alone) (length (c .input)) (length (c .out))) (
+      off-accepts (checksOf stretch (any (refusedOf alone)) (rises (numbersOf alone)) (length alone) (length (c .input)) (length (c .out))) (
         panner-off .0,
         (
           ap (λ (t : Bool). t || false) (panner-off .1 .1 .0),
@@ -115,5 +114,5 @@ sounds order (separate c) a = panner-sounds order c a
 pub separate-calls : (cues : List Cue) (order f : ℕ) (ps : List Part) → Cut order cues f ps → rendered cues order f (samplesParts ps) ≡ soundedParts order ps
 separate-calls cues order f [] c = refl
 separate-calls cues order f (p ∷ ps) c =
-    divided cues order f (samplesIn p) (samplesParts ps)
+    rendered-append cues order f (samplesIn p) (samplesParts ps)
     ∙ (λ i. (one-voice cues order f (voiceIn p) (samplesIn p) (c .1) ∙ sym (sounds order p (c .0))) i ++ separate-calls cues order (f + length (samplesIn p)) ps (c .2) i)

@@ -20,11 +20,11 @@ use Rattle.script.proofs.Answers.{played-is}
 use Rattle.script.proofs.Played.{out-frames}
 
 -- ---- samples in two parts
-pub divided : (cues : List Cue) (order f : ℕ) (xs ys : List Float) → rendered cues order f (xs ++ ys) ≡ rendered cues order f xs ++ rendered cues order (f + length xs) ys
-divided cues order f [] ys = ap (λ (g : ℕ). rendered cues order g ys) (sym (add-zero f))
-divided cues order f (x ∷ xs) ys =
+pub rendered-append : (cues : List Cue) (order f : ℕ) (xs ys : List Float) → rendered cues order f (xs ++ ys) ≡ rendered cues order f xs ++ rendered cues order (f + length xs) ys
+rendered-append cues order f [] ys = ap (λ (g : ℕ). rendered cues order g ys) (sym (add-zero f))
+rendered-append cues order f (x ∷ xs) ys =
     ap (λ (fs : List (List Float)). spoken order (voiceAt cues f) x ∷ fs)
-    (divided cues order (f + 1) xs ys ∙ ap (λ (g : ℕ). rendered cues order (f + 1) xs ++ rendered cues order g ys) further)
+    (rendered-append cues order (f + 1) xs ys ∙ ap (λ (g : ℕ). rendered cues order (f + 1) xs ++ rendered cues order g ys) further)
   where
     further : f + 1 + length xs ≡ f + suc (length xs)
     further = omega arith
@@ -62,7 +62,7 @@ module _ (cues : List Cue) (order : ℕ) where
   stretches f (c ∷ cs) =
       (λ i. one c f (refusalAt cues order c f) refl i ++ stretches (next cues order c f) cs i)
       ∙ ap (λ (g : ℕ). rendered cues order f (fed cues order c f) ++ rendered cues order g (fedAll cues order (next cues order c f) cs)) (comes-to c f (refusalAt cues order c f) refl)
-      ∙ sym (divided cues order f (fed cues order c f) (fedAll cues order (next cues order c f) cs))
+      ∙ sym (rendered-append cues order f (fed cues order c f) (fedAll cues order (next cues order c f) cs))
 
   -- and two ways to divide the same samples are heard the same
   pub divided-alike : (f : ℕ) (cs ds : List Call) → fedAll cues order f cs ≡ fedAll cues order f ds → soundedAll cues order f cs ≡ soundedAll cues order f ds

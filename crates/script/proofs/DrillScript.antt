@@ -3,7 +3,8 @@ use Rattle.cues.proofs.Halving.{holds-between}
 use Rattle.script.specs.DrillScript.{DrillScript}
 use Rattle.script.proofs.Played.{before-the-first}
 use Rattle.script.proofs.Divided.{stretches, divided-alike}
-use Rattle.script.proofs.Between.{between-two, separate-calls}
+use Rattle.script.proofs.Between.{between-two}
+use Rattle.script.proofs.Cuts.{cut-each, heard-as-parts}
 
 pub drill-script : DrillScript
 drill-script = record {
@@ -12,5 +13,6 @@ drill-script = record {
   divided = stretches;
   alike = divided-alike;
   between = between-two;
-  separate = separate-calls;
+  separate = heard-as-parts;
+  cuttable = λ cues order f xs good sound. cut-each order good cues sound f xs;
 }

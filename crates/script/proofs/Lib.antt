@@ -6,6 +6,7 @@ mod Playing
 pub mod Played
 pub mod Divided
 pub mod Between
+mod Cuts
 mod DrillScript
 mod Worked
 mod Unique

@@ -24,7 +24,7 @@ use Rattle.planes.proofs.Blocks.{block-refused, block-accepted, block-refusal}
 use Rattle.panner.specs.Blocks.{misfit, mostFrames}
 use Rattle.cues.specs.declared.Cue.{Cue}
 use Rattle.script.specs.declared.Rendered.{Rendered}
-use Rattle.cues.specs.Cues.{Voice, nobody, speaking, framesOf as numbersOf, refusedOf, rises, orLater, voiceAt}
+use Rattle.cues.specs.Cues.{Voice, nobody, speaking, numbersOf, refusedOf, rises, orLater, voiceAt}
 use Rattle.script.specs.Rendering.{Stretch, runsPast, mostCues, checksOf, refusalOf, spoken, playedOf}
 use Rattle.script.specs.Promise.{answerOf, Block, block, Renders}
 use Rattle.script.specs.DrillScript.{Before}

@@ -16,29 +16,13 @@ use Rattle.planes.proofs.Framing.{Parting, parting-part}
 use Rattle.cues.specs.declared.Cue.{Cue}
 use Rattle.cues.specs.declared.Held.{Held}
 use Rattle.cues.specs.declared.Judgement.{Judgement}
+use Rattle.cues.proofs.Cues.{Good, voice-good}
 use Rattle.script.specs.declared.Rendered.{Rendered}
-use Rattle.cues.specs.Cues.{Voice, nobody, speaking, framesOf, refusedOf, rises, orLater, voiceAt}
+use Rattle.cues.specs.Cues.{Voice, nobody, speaking, numbersOf, refusedOf, rises, orLater, voiceAt}
 use Rattle.script.specs.Rendering.{Stretch, refusalOf, spoken}
 use Rattle.cues.specs.Promise.{judgementOf, voiceOf, Holds, Finds}
 use Rattle.script.specs.Steps.{Speakable, Spoken, answerBy}
 use Rattle.script.proofs.Answers.{frameOf, accepted-by, all-frames, good-order, none-refused, ends-in-time, cues-rise}
-
--- a voice at a direction that is not refused
-abbrev Good : Voice → Type 0
-Good nobody = Unit {0}
-Good (speaking d) = refusesDirection d ≡ false
-
-voice-good : (cs : List Cue) (f : ℕ) → any (refusedOf cs) ≡ false → Good (voiceAt cs f)
-voice-good [] f h = tt
-voice-good (c ∷ cs) f h = later (voiceAt cs f) (voice-good cs f (off .1)) (leb (c .frame) f)
-  where
-    off : (refusesDirection (c .direction) ≡ false) × (any (refusedOf cs) ≡ false)
-    off = or-off (refusesDirection (c .direction)) (any (refusedOf cs)) h
-
-    later : (v : Voice) → Good v → (t : Bool) → Good (orLater (cond t (speaking (c .direction)) nobody) v)
-    later nobody g true = off .0
-    later nobody g false = tt
-    later (speaking d) g t = g
 
 module _ (s : Stretch) (cues : List Cue) (input out : List Float) (j : Judgement) (J : j ≡ judgementOf cues) (answer : Rendered) (e : answer ≡ answerBy s j (length input) (length out)) (n : ℕ) (less : n < answer .samples) where
   accepted : refusalOf s cues (length input) (length out) ≡ 0
@@ -48,7 +32,7 @@ module _ (s : Stretch) (cues : List Cue) (input out : List Float) (j : Judgement
   pub frame-fits : s .first + n < 2 ^ 64
   frame-fits = let a = ends-in-time s cues input out j J answer e accepted in let b = all-frames s cues input out j J answer e accepted in omega (arith, a, b, less)
 
-  rising : rises (framesOf cues) ≡ true
+  rising : rises (numbersOf cues) ≡ true
   rising = cues-rise s cues input out j J answer e accepted
 
   module _ (f : ℕ) (h : Held) (F : Finds cues f h) where

@@ -1,7 +1,7 @@
--- A worked drill: order 1, a cue at frame 2 in front and one at frame 5 on the left, eight frames from 0 on. Each output by its bits, in one call and in two; and the numbers of calls that are refused. Assumes nothing.
-use mathlib.Core.Path.{_≡_, refl, ap, _∙_}
+-- A worked drill: order 1, a cue at frame 2 in front and one at frame 5 on the left, eight frames from 0 on. Each output by its bits, in one call, in two, and as calls of the panner between the cues; the third order's gains; and the numbers of calls that are refused. Assumes nothing.
+use mathlib.Core.Path.{_≡_, refl, sym, ap, _∙_}
 use mathlib.Core.Bool.{true, false}
-use mathlib.Core.List.{List, [], _∷_, map}
+use mathlib.Core.List.{List, [], _∷_, _++_, map}
 use Prim.Native.Nat.{ℕ, zero, suc, _-_, _^_}
 use lib.IntN.{pos}
 use lib.ListN.{replicate}
@@ -11,7 +11,7 @@ use Rattle.numbers.specs.Computed as Numbers
 use Rattle.series.specs.Angles.{turned}
 use Rattle.angles.specs.Computed.{units as units-of, cut, place, short, times, radians, nesting, nest, rounded, sineAt, cosineAt, computed}
 use Rattle.angles.specs.Limits.{isInside, refusesAngle}
-use Rattle.channel.specs.declared.Layout.the-variants.{Mono}
+use Rattle.channel.specs.declared.Layout.the-variants.{Mono, Surround51}
 use Rattle.harmonics.specs.Computed.{sin, cos, wavesOf, upTo}
 use Rattle.harmonics.specs.Drill.{at}
 use Rattle.harmonics.specs.declared.Direction.{Direction}
@@ -20,8 +20,9 @@ use Rattle.panner.specs.Commands.{gainsOf}
 use Rattle.panner.specs.Blocks.{narrowedAll}
 use Rattle.cues.specs.declared.Cue.{Cue}
 use Rattle.script.specs.Rendering.{Stretch, refusalOf, rendered}
-use Rattle.script.specs.Stretches.{Call, fedAll, soundedAll}
+use Rattle.script.specs.Stretches.{Call, fedAll, soundedAll, Part, unspoken, separate, Cut, soundedParts}
 use Rattle.script.proofs.Divided.{stretches}
+use Rattle.script.proofs.Between.{separate-calls}
 
 abbrev pub cue : ℕ → Direction → Cue
 cue f d = record { frame = f; direction = d }
@@ -75,6 +76,17 @@ pub worked : rendered cues 1 0 samples ≡ expected
 unfolding Numbers.rounded refusesAngle isInside upTo wavesOf sin cos lt le eq computed place cut units-of turned sineAt cosineAt short times radians nesting nest rounded ofInt div neg add sub mul round
 worked = refl
 
+-- ---- in one call
+abbrev in-one : List Call
+in-one = record { frames = 8; stride = 8; input = samples; out = replicate 32 nan } ∷ []
+
+one-fed : fedAll cues 1 0 in-one ≡ samples
+unfolding refusesAngle isInside lt le eq ofInt neg sub add mul round
+one-fed = refl
+
+pub worked-in-one : soundedAll cues 1 0 in-one ≡ expected
+worked-in-one = stretches cues 1 0 in-one ∙ ap (rendered cues 1 0) one-fed ∙ worked
+
 -- ---- in two calls: three frames, and then five
 abbrev in-two : List Call
 in-two =
@@ -88,6 +100,21 @@ both-fed = refl
 
 pub worked-in-two : soundedAll cues 1 0 in-two ≡ expected
 worked-in-two = stretches cues 1 0 in-two ∙ ap (rendered cues 1 0) both-fed ∙ worked
+
+-- ---- as separate calls: nobody for two frames, then a call of the panner for each cue, beside other layouts and at other strides
+abbrev parts : List Part
+parts =
+    unspoken (nan ∷ minus-one-float ∷ [])
+    ∷ separate (record { direction = at 0 0; layout = Mono; frames = 3; stride = 3; input = one-float ∷ minus-two ∷ half-float ∷ []; out = replicate 12 nan })
+    ∷ separate (record { direction = at 90 0; layout = Surround51; frames = 3; stride = 4; input = four ∷ minus-zero ∷ inf false ∷ nan ∷ []; out = replicate 16 nan })
+    ∷ []
+
+cut-at-the-cues : Cut 1 cues 0 parts
+unfolding refusesAngle isInside lt le eq ofInt neg sub add mul round
+cut-at-the-cues = (tt, (refl, (refl, tt)), (refl, (refl, (refl, (refl, tt))), (refl, (refl, (refl, (refl, tt))), tt)))
+
+pub worked-apart : soundedParts 1 parts ≡ expected
+worked-apart = sym (separate-calls cues 1 0 parts cut-at-the-cues) ∙ worked
 
 -- ---- refusals: the lengths are those of planes that fit, but where it is said
 abbrev pub asked : ℕ → ℕ → Stretch
@@ -116,12 +143,21 @@ cues-257 : refusalOf (asked 0 8) (rising 0 257) 8 32 ≡ 12
 unfolding refusesAngle isInside lt le eq ofInt neg sub add mul round
 cues-257 = refl
 
--- 11 before 12, and 3 before both
+-- 5 and 6 before 11
+level-4097 : refusalOf (asked 0 4097) (level 2 2) 4097 16388 ≡ 6
+unfolding refusesAngle isInside lt le eq ofInt neg sub add mul round
+level-4097 = refl
+
+level-misfit : refusalOf (asked 0 8) (level 2 2) 8 31 ≡ 5
+unfolding refusesAngle isInside lt le eq ofInt neg sub add mul round
+level-misfit = refl
+
+-- 11 before 12, and 3 before both, also past the 256th cue
 pub level-257 : refusalOf (asked 0 8) (level 2 257) 8 32 ≡ 11
 unfolding refusesAngle isInside lt le eq ofInt neg sub add mul round
 level-257 = refl
 
-level-257-wrong : refusalOf (asked 0 8) (wrong ∷ level 2 257) 8 32 ≡ 3
+level-257-wrong : refusalOf (asked 0 8) (level 2 256 ++ wrong ∷ []) 8 32 ≡ 3
 unfolding refusesAngle isInside lt le eq ofInt neg sub add mul round
 level-257-wrong = refl
 

@@ -16,7 +16,7 @@ use Rattle.panner.specs.declared.Command.the-variants.{Ambisonic}
 use Rattle.panner.specs.Commands.{gainsOf}
 use Rattle.panner.specs.Blocks.{misfit, mostFrames, narrowedAll, panned}
 use Rattle.cues.specs.declared.Cue.{Cue}
-use Rattle.cues.specs.Cues.{Voice, nobody, speaking, framesOf, refusedOf, rises, voiceAt}
+use Rattle.cues.specs.Cues.{Voice, nobody, speaking, numbersOf, refusedOf, rises, voiceAt}
 
 -- what a stretch is asked for beside the cues and the samples
 pub record Stretch : Type 0 where
@@ -47,7 +47,7 @@ checksOf s refused rising count input out =
 
 -- 3 looks at every cue, whether the stretch reaches it or not
 abbrev pub refusalOf : Stretch → List Cue → ℕ → ℕ → ℕ
-refusalOf s cues input out = firstOf (checksOf s (any (refusedOf cues)) (rises (framesOf cues)) (length cues) input out)
+refusalOf s cues input out = firstOf (checksOf s (any (refusedOf cues)) (rises (numbersOf cues)) (length cues) input out)
 
 -- ---- what is played
 

@@ -28,7 +28,7 @@ Spoken order h stride from to input = tab from (to - from) (λ n. spoken order (
 -- ---- the answer
 
 abbrev pub refusalBy : Stretch → Judgement → ℕ → ℕ → ℕ
-refusalBy s j input out = firstOf (checksOf s (not (j .sound)) (j .rising) (j .seen) input out)
+refusalBy s j input out = firstOf (checksOf s (not (j .good)) (j .rising) (j .seen) input out)
 
 abbrev pub answerBy : Stretch → Judgement → ℕ → ℕ → Rendered
 answerBy s j input out = answered (refusalBy s j input out) (answerOf 0 (s .frames)) (λ n. answerOf n 0)

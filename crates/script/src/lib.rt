@@ -117,7 +117,7 @@ fn refusal_of(
     if counted.refusal != 0 {
         return 1;
     }
-    if !judged.sound {
+    if !judged.good {
         return 3;
     }
     if checks::is_block_unfit(inputs, 1, outs, counted.channels, stride, frames) {

@@ -40,7 +40,7 @@ use denote.Exit.{yes}
 use Rattle.cues.specs.declared.Cue.{Cue}
 use Rattle.cues.proofs.Cue as T
 use Rattle.cues.proofs.Cue.Laws as T′
-use Rattle.cues.specs.Computed.{nowhere}
+use Rattle.cues.specs.Cues.{nowhere}
 use Rattle.cues.proofs.cue_at.Key.{name as #cues·cue-at}
 use Rattle.cues.proofs.cue_at as f
 use Rattle.cues.proofs.cue_at.Statement as stated

@@ -42,7 +42,8 @@ use denote.Triple.Table.{entered, cited}
 use denote.Triple.Walked.{says, Stays, stay-none-slice, stay-none, walkOf, Walks, ends-at, walked, goes-none-slice, goes-none, walk-meets}
 use denote.Triple.Clauses.{ensured, lasts}
 use denote.Exit.{yes}
-use Rattle.cues.specs.Computed.{nowhere, wholeOf, halvedOf, heldOf}
+use Rattle.cues.specs.Cues.{nowhere}
+use Rattle.cues.specs.Computed.{wholeOf, halvedOf, heldOf}
 use Rattle.cues.specs.Promise.{Finds}
 use Rattle.cues.specs.declared.Cue.{Cue}
 use Rattle.cues.specs.declared.Search.{Search}

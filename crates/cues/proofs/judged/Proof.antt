@@ -41,7 +41,8 @@ use denote.Triple.Table.{entered, cited}
 use denote.Triple.Walked.{says, Stays, stay-none-slice, walkOf, Walks, ends-at, walked, goes-none-slice, walk-meets}
 use denote.Triple.Clauses.{ensured, lasts}
 use denote.Exit.{yes}
-use Rattle.cues.specs.Computed.{nowhere, judgedOn}
+use Rattle.cues.specs.Cues.{nowhere}
+use Rattle.cues.specs.Computed.{judgedOn}
 use Rattle.cues.specs.Promise.{judgementOf}
 use Rattle.cues.specs.declared.Cue.{Cue}
 use Rattle.cues.specs.declared.Judgement.{Judgement}
