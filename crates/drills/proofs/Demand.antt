@@ -25,14 +25,14 @@ use Rattle.hrtf.proofs.Promised.{reset-by, reset-number}
 use Rattle.runs.specs.Runs.{Alike, fedAll, soundedAll, end, unsettledCounts, sum}
 use Rattle.runs.specs.Demand.{Run, frameAgo, damagedAmong, damagedCounts, SameRun}
 use Rattle.runs.proofs.Demand.{run-starts, demand-3}
-use Rattle.drills.specs.Drills.{Drill, samples, encoded, fed, heard, Drilled, left, taken}
+use Rattle.drills.specs.Drills.{Drill, samples, encoded, fed, heard, Drilled, planesLeft, planesTaken}
 use Rattle.drills.specs.Demand.{gainsAt, Agree, SameDrill, SameScript, DrillDemand3}
 use Rattle.drills.proofs.Passing.{readAll, put-all, fed-all}
 use Rattle.drills.proofs.Silence.{silent-sound, silent-settled, before-nobody}
 use Rattle.drills.proofs.Damage.{product-damages}
 
 -- planes lent as they were left
-pub drill-handed : (u : Setup) (d : Drill) → Run u (d .start) (d .plays) → u .channels ≡ channelsOfOrder (d .order) → taken d ≡ left d → Drilled u d
+pub drill-handed : (u : Setup) (d : Drill) → Run u (d .start) (d .plays) → u .channels ≡ channelsOfOrder (d .order) → planesTaken d ≡ planesLeft d → Drilled u d
 drill-handed u d r c e =
     record {
       run = r;

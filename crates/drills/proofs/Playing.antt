@@ -31,7 +31,7 @@ use Rattle.runs.specs.Runs.{next, Alike}
 use Rattle.runs.specs.Demand.{Run}
 use Rattle.runs.specs.NeverRefused.{AllFitted, BankAccepted, NoneRefused}
 use Rattle.runs.proofs.NeverRefused.{good-bank}
-use Rattle.drills.specs.Drills.{Drill, Drilled, Planes, passing, outputs, leaves, left, takes}
+use Rattle.drills.specs.Drills.{Drill, Drilled, Planes, passing, outputs, leaves, planesLeft, takes}
 use Rattle.drills.specs.Playing.{setUp, callOf, callsOf, Eared, DrillPlays}
 use Rattle.drills.proofs.Demand.{drill-handed}
 
@@ -102,9 +102,9 @@ ears-there (p ∷ ps) = (length-replicate (2 * p .stride) zero-float, ears-there
 module _ (r : ReadOutcome) (k : BankAccepted r) (d : Drill) (weights : List Float) (given : List ℕ) (o : Arrangement) (eight : length given ≡ 8)
     (new : NewAmbisonic (d .order) (r .azimuths) (r .answer .rows) weights given o) (e : o .answer .refusal ≡ 0) (desk : Desk) (rings : List Float)
     (rested : Resets desk (o .answer .speakers) (r .answer .length) rings (record { answer = record { refusal = 0; desk = d .start .desk }; rings = d .start .rings }))
-    (es : List (List Float)) (eared : Both Eared (left d) es) where
+    (es : List (List Float)) (eared : Both Eared (planesLeft d) es) where
   abbrev calls : List Call
-  calls = callsOf (bankFound r) o (left d) es
+  calls = callsOf (bankFound r) o (planesLeft d) es
 
   counted : o .answer .channels ≡ channelsOfOrder (d .order)
   counted = channels-are (ofOrder (d .order)) (r .azimuths) (r .answer .rows) weights given o (new .arranges) e
@@ -112,7 +112,7 @@ module _ (r : ReadOutcome) (k : BankAccepted r) (d : Drill) (weights : List Floa
   none-refused : NoneRefused (d .start) calls
   none-refused =
       good-bank .ambisonic r k (d .order) weights given o eight new e desk rings (d .start) rested calls
-      (calls-fitted (bankFound r) o (left d) es (subst (λ (n : ℕ). AllFit n (left d)) (sym counted) (all-fit (d .cues) (d .order) (d .first) (d .renders))) eared)
+      (calls-fitted (bankFound r) o (planesLeft d) es (subst (λ (n : ℕ). AllFit n (planesLeft d)) (sym counted) (all-fit (d .cues) (d .order) (d .first) (d .renders))) eared)
 
   runs : Run (setUp (bankFound r) o) (d .start) calls
   runs =
@@ -121,14 +121,14 @@ module _ (r : ReadOutcome) (k : BankAccepted r) (d : Drill) (weights : List Floa
         rings = rings;
         reset = rested;
         finite = ambisonic-playable (r .azimuths) (r .answer .rows) weights given o eight e (d .order) new .sound;
-        alike = calls-alike (bankFound r) o (d .start) (left d) es;
+        alike = calls-alike (bankFound r) o (d .start) (planesLeft d) es;
       }
 
   play : d .plays ≡ calls → NoneRefused (d .start) (d .plays) × Drilled (setUp (bankFound r) o) d
   play is = (
     subst (NoneRefused (d .start)) (sym is) none-refused,
     drill-handed (setUp (bankFound r) o) d (subst (Run (setUp (bankFound r) o) (d .start)) (sym is) runs) counted
-        (ap (takes (d .start)) is ∙ calls-take (bankFound r) o (d .start) (left d) es eared none-refused),
+        (ap (takes (d .start)) is ∙ calls-take (bankFound r) o (d .start) (planesLeft d) es eared none-refused),
   )
 
 pub drill-plays : DrillPlays

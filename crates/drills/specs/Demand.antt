@@ -18,7 +18,7 @@ use Rattle.history.specs.Signals.{damaged}
 use Rattle.history.specs.History.{earSamples, upto}
 use Rattle.runs.specs.Runs.{end, unsettledCounts, sum}
 use Rattle.runs.specs.Demand.{Run, frameAgo, damagedAmong, damagedCounts}
-use Rattle.drills.specs.Drills.{Drill, samples, encoded, fed, heard, Drilled, left, taken}
+use Rattle.drills.specs.Drills.{Drill, samples, encoded, fed, heard, Drilled, planesLeft, planesTaken}
 
 -- the gains that are played at a direction
 abbrev pub gainsAt : ℕ → Direction → List Float
@@ -43,7 +43,7 @@ pub record SameScript (d e : Drill) : Type 0 where
 
 pub record DrillDemand3 : Type 0 where
   -- planes lent to the convolver as `render` left them, one for one, feed it the frames that `render` put
-  pub handed : (u : Setup) (d : Drill) → Run u (d .start) (d .plays) → u .channels ≡ channelsOfOrder (d .order) → taken d ≡ left d → Drilled u d
+  pub handed : (u : Setup) (d : Drill) → Run u (d .start) (d .plays) → u .channels ≡ channelsOfOrder (d .order) → planesTaken d ≡ planesLeft d → Drilled u d
   -- "the frames after encoding" are those that the convolver is fed
   pub after-encoding : (u : Setup) (d : Drill) → Drilled u d → fed d ≡ encoded d
   -- every frame that is encoded is played

@@ -76,8 +76,8 @@ module _ (cues : List Cue) (order : ℕ) where
   leaves f [] = []
   leaves f (c ∷ cs) = passing (Script.refusalAt cues order c f) (outputs c f) ++ leaves (Script.next cues order c f) cs
 
-abbrev pub left : Drill → List Planes
-left d = leaves (d .cues) (d .order) (d .first) (d .renders)
+abbrev pub planesLeft : Drill → List Planes
+planesLeft d = leaves (d .cues) (d .order) (d .first) (d .renders)
 
 -- the input planes that a call of `process` is lent, and those of calls one after another
 abbrev pub inputs : Call → Planes
@@ -87,5 +87,5 @@ abbrev pub takes : State → List Call → List Planes
 takes t [] = []
 takes t (c ∷ cs) = passing (refusalOf c t) (inputs c) ++ takes (next c t) cs
 
-abbrev pub taken : Drill → List Planes
-taken d = takes (d .start) (d .plays)
+abbrev pub planesTaken : Drill → List Planes
+planesTaken d = takes (d .start) (d .plays)

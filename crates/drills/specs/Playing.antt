@@ -1,4 +1,4 @@
--- There are drills: a bank file is read, speakers are set up from it for the order, the rings are reset, and planes are lent to the convolver as `render` left them. None of these calls is refused
+-- Document 02, E1: "Demand 3 reads on the frames after encoding." There are drills: a bank file is read, speakers are set up from it for the order, the rings are reset, and planes are lent to the convolver as `render` left them. None of these calls is refused
 -- (`DrillPlays`, shown in proofs/Playing.antt). Definitions only.
 use Prim.Native.Nat.{ℕ, _*_}
 use mathlib.Core.Path.{_≡_}
@@ -17,7 +17,7 @@ use Rattle.hrtf.specs.Reset.{Resets}
 use Rattle.hrtf_setup.specs.Arrangement.{Arrangement}
 use Rattle.hrtf_setup.specs.Promise.{NewAmbisonic}
 use Rattle.runs.specs.NeverRefused.{BankAccepted, NoneRefused}
-use Rattle.drills.specs.Drills.{Drill, Drilled, Planes, left}
+use Rattle.drills.specs.Drills.{Drill, Drilled, Planes, planesLeft}
 
 -- the counts, weights and filters of a bank and of what a set-up left
 abbrev pub shapeOf : Form.Bank → Arrangement → Shape
@@ -46,5 +46,5 @@ pub record DrillPlays : Type 0 where
   pub plays : (r : ReadOutcome) → BankAccepted r → (d : Drill) (weights : List Float) (given : List ℕ) (o : Arrangement) → length given ≡ 8
       → NewAmbisonic (d .order) (r .azimuths) (r .answer .rows) weights given o → o .answer .refusal ≡ 0
       → (k : Desk) (rings : List Float) → Resets k (o .answer .speakers) (r .answer .length) rings (record { answer = record { refusal = 0; desk = d .start .desk }; rings = d .start .rings })
-      → (es : List (List Float)) → Both Eared (left d) es → d .plays ≡ callsOf (bankFound r) o (left d) es
+      → (es : List (List Float)) → Both Eared (planesLeft d) es → d .plays ≡ callsOf (bankFound r) o (planesLeft d) es
       → NoneRefused (d .start) (d .plays) × Drilled (setUp (bankFound r) o) d

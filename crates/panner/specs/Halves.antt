@@ -1,4 +1,5 @@
--- What the two halves of `process` promise: the gains that a command plays with, and some frames of a block played. Definitions only.
+-- What the two halves of `process` promise: the gains that a command plays with, and some frames of a block played. Document 01: "A refusal returns its number, counts of 0, 0.0 for any number or gain"; 'Sums': "Panner: the f32
+-- product of sample and narrowed gain." Definitions only.
 use Prim.Native.Nat.{ℕ, _-_}
 use mathlib.Core.Path.{_≡_}
 use mathlib.Core.List.{List}
@@ -17,7 +18,6 @@ use Rattle.panner.specs.Blocks.{narrowedAll, panned}
 abbrev pub gainsPlayed : Command → Layout → CommandGains
 gainsPlayed c l = record { refusal = 0; planes = planesOf c l; gains = narrowedAll (gainsOf c l) }
 
--- a refusal gives its number, no planes and 0.0 for each gain
 abbrev pub noGains : ℕ → CommandGains
 noGains n = record { refusal = n; planes = 0; gains = replicate 16 zero-float }
 

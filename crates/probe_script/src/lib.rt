@@ -1,6 +1,6 @@
 // Answers the requests of the test program `probe` for a stretch of a drill script (docs/PROBE.md, operation 21).
 //
-// An accepted stretch has more outputs than fit into a request or an answer: so the outputs are an array of the
+// An accepted stretch may have more outputs than fit into a request or an answer: so the outputs are an array of the
 // program's own, of which the request lends the first and is shown a part. Test code, and promised by an equation
 // all the same: `answer` puts what PROBE.md says, in its order, of the block that `script` promises for what stands
 // in the request; and nothing where the arguments have not the length that the operation takes, where more cues or

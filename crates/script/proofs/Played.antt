@@ -21,7 +21,7 @@ use Rattle.channel.specs.Orders.{channelsOfOrder}
 use Rattle.planes.specs.Planes.{sampleAt, framesOf, withFrames}
 use Rattle.planes.proofs.Planes.{with-frames-at, with-frames-other, frames-read}
 use Rattle.planes.proofs.Blocks.{block-refused, block-accepted, block-refusal}
-use Rattle.panner.specs.Blocks.{misfit, mostFrames}
+use Rattle.panner.specs.Blocks.{misfit}
 use Rattle.cues.specs.declared.Cue.{Cue}
 use Rattle.script.specs.declared.Rendered.{Rendered}
 use Rattle.cues.specs.Cues.{Voice, nobody, speaking, numbersOf, refusedOf, rises, orLater, voiceAt}
@@ -54,9 +54,6 @@ module _ (s : Stretch) (cues : List Cue) (input out : List Float) (z : refusalOf
 
   pub long : length out ≡ channelsOfOrder (s .order) * s .stride
   long = fitted (length out) (channelsOfOrder (s .order)) (s .stride) (s .frames) fit .1
-
-  pub frames-most : s .frames ≤ mostFrames
-  frames-most = ltb-false mostFrames (s .frames) (off .1 .1 .1 .0)
 
   pub cues-most : length cues ≤ mostCues
   cues-most = ltb-false mostCues (length cues) (off .1 .1 .1 .1 .1 .0)

@@ -1,24 +1,20 @@
 -- A turn of `render`: what it asks of the functions that it calls, and that what it leaves is a stretch of which a segment more is played. Assumes nothing.
 use mathlib.Core.Path.{_≡_, sym, ap, _∙_, subst}
-use mathlib.Core.Bool.{Bool, true, false, cond}
-use mathlib.Core.List.{List, [], _∷_}
+use mathlib.Core.Bool.{Bool, true, cond}
+use mathlib.Core.List.{List}
 use Prim.Native.Nat.{ℕ, _+_, _-_, _^_, _≤_, _<_, min}
 use native.Mathlib.Omega.{arith}
-use lib.Dec.{leb}
 use lib.ListN.{length}
 use lib.Ieee.{Float}
-use Rattle.refusals.proofs.First.{or-off}
-use Rattle.lists.specs.Tables.{any}
 use Rattle.lists.proofs.Tables.{tab-from}
 use Rattle.planes.specs.Planes.{sampleAt, withFrames}
-use Rattle.harmonics.specs.Promise.{refusesDirection}
 use Rattle.planes.proofs.Framing.{Parting, parting-part}
 use Rattle.cues.specs.declared.Cue.{Cue}
 use Rattle.cues.specs.declared.Held.{Held}
 use Rattle.cues.specs.declared.Judgement.{Judgement}
 use Rattle.cues.proofs.Cues.{Good, voice-good}
 use Rattle.script.specs.declared.Rendered.{Rendered}
-use Rattle.cues.specs.Cues.{Voice, nobody, speaking, numbersOf, refusedOf, rises, orLater, voiceAt}
+use Rattle.cues.specs.Cues.{Voice, nobody, speaking, numbersOf, rises, voiceAt}
 use Rattle.script.specs.Rendering.{Stretch, refusalOf, spoken}
 use Rattle.cues.specs.Promise.{judgementOf, voiceOf, Holds, Finds}
 use Rattle.script.specs.Steps.{Speakable, Spoken, answerBy}

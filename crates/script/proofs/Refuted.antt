@@ -8,6 +8,7 @@ use lib.Dec.{lit<}
 use lib.IntN.{pos}
 use lib.ListN.{getD, replicate}
 use lib.Ieee.{Float, nan, inf, fin}
+use lib.Ieee.Positive.{positive}
 use Rattle.formats.specs.Floats.{zero-float, minus-one-float}
 use Rattle.channel.specs.Orders.{channelsOfOrder}
 use Rattle.planes.specs.Planes.{sampleAt}
@@ -18,7 +19,7 @@ use Rattle.script.specs.declared.Rendered.{Rendered}
 use Rattle.script.specs.Rendering.{Stretch, spoken}
 use Rattle.script.specs.Promise.{Renders}
 use Rattle.script.proofs.Played.{refusal-is, refused-unchanged, all-counted, every-frame, before-the-first}
-use Rattle.script.proofs.Worked.{cue, asked, level, wrong, equal-frames, level-257, unreached}
+use Rattle.script.proofs.Worked.{cue, cues, samples, worked, asked, level, wrong, equal-frames, level-257, unreached}
 
 -- ---- before the first cue it plays the sample times 0.0: one frame of order 1, over planes that hold 0
 abbrev one-frame : Stretch
@@ -73,6 +74,11 @@ first-voice-throughout : (s : Stretch) (cues : List Cue) (input out after : List
     → sampleAt after (s .stride) p n ≡ getD (spoken (s .order) (voiceAt cues (s .first)) (sampleAt input (s .stride) 0 n)) p nan
     → (getD (spoken (s .order) (voiceAt cues (s .first)) (sampleAt input (s .stride) 0 n)) p nan ≡ getD (spoken (s .order) (voiceAt cues (s .first + n)) (sampleAt input (s .stride) 0 n)) p nan → ⊥) → ⊥
 first-voice-throughout s cues input out after answer P z n p h k e other = other (sym e ∙ every-frame s cues input out answer after P z n p h k)
+
+-- so it is of the worked drill: at frame 5, where the second cue begins, the sample 4.0 is heard to the left, and the first cue's voice would say nothing there
+first-cue-throughout : (out after : List Float) → Renders (asked 0 8) cues samples out (record { refusal = 0; samples = 8 }) after → sampleAt after 8 1 5 ≡ zero-float → ⊥
+first-cue-throughout out after p e =
+    true≢false (ap positive (sym (ap (λ (fs : List (List Float)). getD (getD fs 5 []) 1 nan) worked) ∙ sym (every-frame (asked 0 8) cues samples out (record { refusal = 0; samples = 8 }) after p refl 5 1 (lit< tt) (lit< tt)) ∙ e))
 
 -- ---- it counts the stride for the frames
 stride-counted : (s : Stretch) (cues : List Cue) (input out after : List Float) → (s .frames ≡ s .stride → ⊥) → Renders s cues input out (record { refusal = 0; samples = s .stride }) after → ⊥

@@ -27,7 +27,7 @@ use Rattle.script.proofs.Between.{separate-calls}
 abbrev pub cue : ℕ → Direction → Cue
 cue f d = record { frame = f; direction = d }
 
-abbrev cues : List Cue
+abbrev pub cues : List Cue
 cues = cue 2 (at 0 0) ∷ cue 5 (at 90 0) ∷ []
 
 -- ---- the gains that are played
@@ -49,10 +49,10 @@ minus-zero = fin true 0 (pos 0)
 abbrev minus-two : Float
 minus-two = fin true 1 (pos 1)
 
-abbrev four : Float
+abbrev pub four : Float
 four = fin false 1 (pos 2)
 
-abbrev samples : List Float
+abbrev pub samples : List Float
 samples = nan ∷ minus-one-float ∷ one-float ∷ minus-two ∷ half-float ∷ four ∷ minus-zero ∷ inf false ∷ []
 
 -- a frame of four planes

@@ -18,6 +18,11 @@ ghost use Rattle.script.specs.Rendering.{silent, silentPart};
 ghost use Rattle.script.specs.Promise.{Renders};
 ghost use Rattle.script.specs.Steps.{Speakable, Spoken, refusalBy, answerBy};
 
+// As many as a panner block may have.
+const MOST_FRAMES: usize = 4096;
+
+const MOST_CUES: usize = 256;
+
 // The refusal, and how many frames were played.
 pub struct Rendered {
     pub refusal: u8,
@@ -99,7 +104,7 @@ fn runs_past(first: u64, frames: usize) -> bool
     if frames == 0 {
         return false;
     }
-    18446744073709551615 - first < (frames - 1) as u64
+    u64::MAX - first < (frames - 1) as u64
 }
 
 fn refusal_of(
@@ -126,13 +131,13 @@ fn refusal_of(
     if runs_past(first, frames) {
         return 5;
     }
-    if 4096 < frames {
+    if MOST_FRAMES < frames {
         return 6;
     }
     if !judged.rising {
         return 11;
     }
-    if 256 < judged.seen {
+    if MOST_CUES < judged.seen {
         return 12;
     }
     0

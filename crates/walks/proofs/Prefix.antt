@@ -1,4 +1,4 @@
--- The elements of an array that lie in memory are the first k and the others, each way: what lending a part `&a[..k]` of a local array comes to. The kit has it inside the rule for a part of a slice. Assumes nothing; both laws assume `Given`.
+-- The elements of an array that lie in memory are the first k and the others, each way: what lending a part `&a[..k]` of a local array comes to. The kit has it inside the rule for a part of a slice. Assumes nothing. Both laws take `Given`.
 use mathlib.Core.Path.{_≡_, refl, sym}
 use Prim.Native.Nat.{ℕ}
 use mathlib.Core.List.{List, [], _∷_, _++_}
