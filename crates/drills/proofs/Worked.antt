@@ -164,6 +164,11 @@ pub unheard-heard : heard unheard ≡ replicate 4 (zero-float ∷ zero-float ∷
 unfolding mixed earOf inverseRoot rootOf rootUnits wholeRoot rootIn Numbers.rounded add mul div ieee.sum round size span climb units odd ofInt
 unheard-heard = run-heard four (fresh four) (plays zero-float zero-float) (run zero-float zero-float) ∙ ap (heardAfter four []) (fed-is zero-float zero-float)
 
+-- the infinite sample: NaN for as long as the filters are, and then 0.0
+infinite-heard : heard infinite ≡ (zero-float ∷ zero-float ∷ []) ∷ (nan ∷ nan ∷ []) ∷ (nan ∷ nan ∷ []) ∷ (zero-float ∷ zero-float ∷ []) ∷ []
+unfolding mixed earOf inverseRoot rootOf rootUnits wholeRoot rootIn Numbers.rounded add mul div ieee.sum round size span climb units odd ofInt
+infinite-heard = run-heard four (fresh four) (plays (inf false) nan) (run (inf false) nan) ∙ ap (heardAfter four []) (fed-is (inf false) nan)
+
 -- the NaN before the first cue leaves every frame settled; the infinite sample leaves two unsettled
 one-counts : unsettledCounts (fresh four) (one .plays) ≡ 0 ∷ 0 ∷ 0 ∷ []
 unfolding refusalOf outcome flatten mixed Numbers.rounded add mul ieee.sum round size span climb units odd
