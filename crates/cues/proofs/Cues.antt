@@ -43,6 +43,12 @@ least x xs zero h l = omega arith
 least x [] (suc i) h l = absurd (not-suc-le-zero (le-of-suc-le-suc l))
 least x (y ∷ ys) (suc i) h l = omega (arith, ltb-true x y (and-left (ltb x y) (risesFrom y ys) h), least y ys i (and-right (ltb x y) (risesFrom y ys) h) (le-of-suc-le-suc l))
 
+-- each is below the next, at any place
+pub next-above : (x : ℕ) (xs : List ℕ) (i : ℕ) → risesFrom x xs ≡ true → i < length xs → getD (x ∷ xs) i 0 < getD xs i 0
+next-above x [] i h l = absurd (not-suc-le-zero l)
+next-above x (y ∷ ys) zero h l = ltb-true x y (and-left (ltb x y) (risesFrom y ys) h)
+next-above x (y ∷ ys) (suc i) h l = next-above y ys i (and-right (ltb x y) (risesFrom y ys) h) (le-of-suc-le-suc l)
+
 -- ---- a list of which no direction is refused
 pub each-good : (cs : List Cue) (i : ℕ) → any (refusedOf cs) ≡ false → i < length cs → refusesDirection (getD cs i nowhere .direction) ≡ false
 each-good [] i h l = absurd (not-suc-le-zero l)

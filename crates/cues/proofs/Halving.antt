@@ -144,6 +144,14 @@ holds-between cs f i h l a b = voice-last cs f h ∙ ap (lastOf cs) count
     count : upTo (numbersOf cs) f ≡ suc i
     count = omega (arith, least-so, most-so)
 
+-- ---- the frame of the cue behind the part is not before f, in any list
+pub next-after : (s : Search) (c : Cue) (f : ℕ) → f ≤ s .next → f ≤ halvedOf s c f .next
+next-after s c f h = by-test (leb (c .frame) f) refl
+  where
+    by-test : (t : Bool) → leb (c .frame) f ≡ t → f ≤ cond t (searchOf (s .mid + 1) (s .hi) (c .direction) (s .next)) (searchOf (s .lo) (s .mid) (s .direction) (c .frame)) .next
+    by-test true e = h
+    by-test false e = omega (arith, leb-false (c .frame) f e)
+
 -- ---- how many turns of the search are left at most, and that they come to what all turns come to
 pub record Coming (cs : List Cue) (f : ℕ) (s : Search) : Type 0 where
   pub turns : ℕ
@@ -296,24 +304,22 @@ module _ (cs : List Cue) (f : ℕ) where
         ∙ ap (λ (m : ℕ). getD cs m nowhere .frame) (ends ∙ count)
         ∙ frame-is cs (upTo fs f) (subst (λ (m : ℕ). m < length cs) count l)
 
-    next-after : s .lo < length cs → f < s .next
-    next-after l = subst (λ (m : ℕ). f < m) (sym (next-is l)) (above fs f (upTo fs f) h (omega arith) (subst (λ (m : ℕ). upTo fs f < m) (sym (frames-length cs)) (subst (λ (m : ℕ). m < length cs) count l)))
+    before-next : s .lo < length cs → f < s .next
+    before-next l = subst (λ (m : ℕ). f < m) (sym (next-is l)) (above fs f (upTo fs f) h (omega arith) (subst (λ (m : ℕ). upTo fs f < m) (sym (frames-length cs)) (subst (λ (m : ℕ). m < length cs) count l)))
 
     abbrev left : ℕ
     left = leftOf (s .lo) (length cs) (s .next) f
 
     left-always : length cs ≤ s .lo → left ≡ always
-    left-always l = ap (λ (t : Bool). cond t always (cond (leb (s .next) f) always (s .next - f))) (le-leb (length cs) (s .lo) l)
+    left-always l = ap (λ (t : Bool). cond t always (s .next - f)) (le-leb (length cs) (s .lo) l)
 
     left-next : s .lo < length cs → left ≡ s .next - f
-    left-next l =
-        ap (λ (t : Bool). cond t always (cond (leb (s .next) f) always (s .next - f))) (lt-leb (length cs) (s .lo) l)
-        ∙ ap (λ (t : Bool). cond t always (s .next - f)) (lt-leb (s .next) f (next-after l))
+    left-next l = ap (λ (t : Bool). cond t always (s .next - f)) (lt-leb (length cs) (s .lo) l)
 
     same : (j : ℕ) → j < left → upTo fs (f + j) ≡ upTo fs f
     same j l = upTo-same fs f (f + j) (omega arith) (λ m.
         let n : s .lo < length cs = subst (λ (i : ℕ). i < length cs) (sym count) (subst (λ (i : ℕ). upTo fs f < i) (frames-length cs) m) in
-        subst (λ (i : ℕ). f + j < i) (next-is n) (near (subst (λ (i : ℕ). j < i) (left-next n) l) (next-after n)))
+        subst (λ (i : ℕ). f + j < i) (next-is n) (near (subst (λ (i : ℕ). j < i) (left-next n) l) (before-next n)))
       where
         near : j < s .next - f → f < s .next → f + j < s .next
         near a b = omega (arith, a, b)
@@ -325,7 +331,7 @@ module _ (cs : List Cue) (f : ℕ) where
           (λ (n : s .lo < length cs). left-next n ∙ ap (λ (m : ℕ). m - f) (next-is n) ∙ sym (until-at fs f (subst (λ (m : ℕ). upTo fs f < m) (sym (frames-length cs)) (subst (λ (m : ℕ). m < length cs) count n))))
           (λ (n : length cs ≤ s .lo). left-always n ∙ sym (until-none fs f (subst (λ (m : ℕ). m ≤ upTo fs f) (sym (frames-length cs)) (subst (λ (m : ℕ). length cs ≤ m) count n))))
           (split (s .lo) (length cs));
-      some = ⊎-elim (λ (n : s .lo < length cs). subst (λ (m : ℕ). 0 < m) (sym (left-next n)) (positive (next-after n))) (λ (n : length cs ≤ s .lo). subst (λ (m : ℕ). 0 < m) (sym (left-always n)) (omega arith)) (split (s .lo) (length cs));
+      some = ⊎-elim (λ (n : s .lo < length cs). subst (λ (m : ℕ). 0 < m) (sym (left-next n)) (positive (before-next n))) (λ (n : length cs ≤ s .lo). subst (λ (m : ℕ). 0 < m) (sym (left-always n)) (omega arith)) (split (s .lo) (length cs));
       stays = λ j l. voice-last cs (f + j) h ∙ ap (lastOf cs) (same j l) ∙ sym (voice-last cs f h);
     }
       where

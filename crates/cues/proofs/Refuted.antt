@@ -2,9 +2,9 @@
 use mathlib.Core.Path.{_≡_, refl, sym, ap, _∙_}
 use mathlib.Core.Bool.{Bool, true, false, not, _&&_, true≢false, cond}
 use mathlib.Core.List.{List, [], _∷_}
-use Prim.Native.Nat.{ℕ, _+_, _-_, _<_}
+use Prim.Native.Nat.{ℕ, _+_, _-_, _≤_, _<_}
 use native.Mathlib.Omega.{arith}
-use borrow.Author.Tests.{le-leb, lt-leb, le-ltb, lt-ltb}
+use borrow.Author.Tests.{le-leb, lt-leb, lt-ltb}
 use lib.ListN.{length, getD}
 use Rattle.lists.specs.Tables.{any}
 use Rattle.harmonics.specs.declared.Direction.{Direction}
@@ -14,15 +14,18 @@ use Rattle.cues.specs.declared.Judgement.{Judgement}
 use Rattle.cues.specs.declared.Held.{Held}
 use Rattle.cues.specs.Cues.{Voice, nobody, speaking, numbersOf, refusedOf, risesFrom, voiceAt, nowhere}
 use Rattle.cues.specs.Promise.{judgementOf, Finds}
-use Rattle.cues.proofs.Cues.{each-good}
+use Rattle.cues.proofs.Cues.{next-above, each-good}
 use Rattle.cues.proofs.Halving.{holds-between}
 
 -- ---- a list is judged
 
--- it takes equal frames for rising ones
-equal-frames-rise : (c d : Cue) (cs : List Cue) (j : Judgement) → c .frame ≡ d .frame → j ≡ judgementOf (c ∷ d ∷ cs) → j .rising ≡ true → ⊥
-equal-frames-rise c d cs j e is r =
-    true≢false (sym r ∙ ap (λ (k : Judgement). k .rising) is ∙ ap (λ (t : Bool). t && risesFrom (d .frame) (numbersOf cs)) (le-ltb (c .frame) (d .frame) (omega (arith, e))))
+-- it takes frames for rising ones that are equal somewhere, or fall
+level-frames-rise : (c : Cue) (cs : List Cue) (i : ℕ) (j : Judgement) → i < length (numbersOf cs) → getD (numbersOf cs) i 0 ≤ getD (numbersOf (c ∷ cs)) i 0 → j ≡ judgementOf (c ∷ cs) → j .rising ≡ true → ⊥
+level-frames-rise c cs i j l fall is r =
+    below (next-above (c .frame) (numbersOf cs) i (sym (ap (λ (k : Judgement). k .rising) is) ∙ r) l)
+  where
+    below : getD (numbersOf (c ∷ cs)) i 0 < getD (numbersOf cs) i 0 → ⊥
+    below m = omega (arith, m, fall)
 
 -- it does not look at every direction: at any place of the list one that is refused is found
 bad-direction-missed : (cs : List Cue) (i : ℕ) (j : Judgement) → i < length cs → refusesDirection (getD cs i nowhere .direction) ≡ true → j ≡ judgementOf cs → j .good ≡ true → ⊥

@@ -23,13 +23,13 @@ goodOn good d = cond good (not (refusesDirection d)) false
 abbrev pub judgedOn : Judgement → Cue → Judgement
 judgedOn s c = record { seen = s .seen + 1; last = c .frame; rising = risesOn (s .seen) (s .last) (s .rising) (c .frame); good = goodOn (s .good) (c .direction) }
 
--- ---- the search: a part of the list from lo to before hi, its middle, the direction of the cue before it and the frame of the cue behind it
+-- ---- the search: a part of the list from lo to before hi, its middle, the direction of the cue before it and the frame of the cue behind it, or a number that no frame passes
 
 abbrev pub searchOf : ℕ → ℕ → Direction → ℕ → Search
 searchOf lo hi d next = record { lo = lo; mid = lo + (hi - lo) / 2; hi = hi; direction = d; next = next }
 
 abbrev pub wholeOf : ℕ → Search
-wholeOf count = record { lo = 0; mid = count / 2; hi = count; direction = nowhere .direction; next = 0 }
+wholeOf count = record { lo = 0; mid = count / 2; hi = count; direction = nowhere .direction; next = always }
 
 abbrev pub halvedOf : Search → Cue → ℕ → Search
 halvedOf s c f = cond (leb (c .frame) f) (searchOf (s .mid + 1) (s .hi) (c .direction) (s .next)) (searchOf (s .lo) (s .mid) (s .direction) (c .frame))
@@ -40,7 +40,7 @@ searched zero cues f s = s
 searched (suc n) cues f s = cond (ltb (s .lo) (s .hi)) (searched n cues f (halvedOf s (getD cues (s .mid) nowhere) f)) s
 
 abbrev pub leftOf : ℕ → ℕ → ℕ → ℕ → ℕ
-leftOf lo count next f = cond (leb count lo) always (cond (leb next f) always (next - f))
+leftOf lo count next f = cond (leb count lo) always (next - f)
 
 abbrev pub heldOf : Search → ℕ → ℕ → Held
 heldOf s count f = record { speaks = ltb 0 (s .lo); direction = s .direction; left = leftOf (s .lo) count (s .next) f }

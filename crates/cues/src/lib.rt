@@ -96,7 +96,7 @@ pub fn judged(cues: &[Cue]) -> Judgement
 }
 
 // The part of the list that is still searched and its middle, the direction of the cue before the part, and
-// the frame of the cue behind it.
+// the frame of the cue behind it, the largest there is where no cue stands behind it.
 struct Search {
     lo: usize,
     mid: usize,
@@ -117,7 +117,7 @@ fn whole_of(count: usize) -> Search
         mid: count / 2,
         hi: count,
         direction: front,
-        next: 0,
+        next: u64::MAX,
     }
 }
 
@@ -159,18 +159,17 @@ pub struct Held {
 
 // The frames up to the next cue; if there is none, as many as there can be.
 fn left_of(lo: usize, count: usize, next: u64, frame: u64) -> u64
+    requires { ⌜ frame ≤ next ⌝ }
     ensures { λ r. ⌜ r ≡ leftOf lo count next frame ⌝ }
 {
     if count <= lo {
-        return u64::MAX;
-    }
-    if next <= frame {
         return u64::MAX;
     }
     next - frame
 }
 
 fn held_of(s: Search, count: usize, frame: u64) -> Held
+    requires { ⌜ frame ≤ s .next ⌝ }
     ensures { λ r. ⌜ r ≡ heldOf s count frame ⌝ }
 {
     let lo = s.lo;

@@ -1,4 +1,5 @@
 -- `cues::halved` meets its contract: the test says which half. Assumes nothing.
+use native.Mathlib.Omega.{arith}
 use borrow.Author.Tests.{le-leb, lt-leb}
 use borrow.Author.Needs.{needs}
 use Rattle.cues.proofs.halved.Statement.{statement}
@@ -20,7 +21,7 @@ add-t16 : tie.Need-add-t16
 add-t16 c = search needs
 
 returns : tie.Need-returns
-returns c = simp (le-leb _ _ (c .before .if1 .taken))
+returns c = let a = c .before .before .args in simp (le-leb (a .cue .frame) (a .frame) (omega (arith, c .before .if1 .taken)))
 
 sub-t17 : tie.Need-sub-t17
 sub-t17 c = search needs
@@ -29,7 +30,7 @@ add-t19 : tie.Need-add-t19
 add-t19 c = search needs
 
 returns-2 : tie.Need-returns-2
-returns-2 c = simp (lt-leb _ _ (c .before .if1 .left))
+returns-2 c = let a = c .before .before .args in simp (lt-leb (a .cue .frame) (a .frame) (omega (arith, c .before .if1 .left)))
 
 pub halved-spec : {M : Type 1} → statement M
 halved-spec =

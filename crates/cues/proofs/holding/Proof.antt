@@ -2,6 +2,7 @@
 -- The loop's variant is the search with what is known of it (`Now`), ordered by how long the part is that is still searched. What the search comes to is `Halving`. Assumes nothing.
 use mathlib.Core.Path.{_≡_, refl, sym, _∙_, ap, subst}
 use Prim.Native.Nat.{ℕ, _-_, _<_, _≤_, _^_}
+use native.Mathlib.Omega.{arith}
 use mathlib.Core.WellFounded.{WellFounded, InvImage·wf}
 use mathlib.Core.List.{List, [], _∷_}
 use lib.ListN.{length, getD}
@@ -54,7 +55,7 @@ use Rattle.cues.proofs.Search as S
 use Rattle.cues.proofs.Search.Laws as S′
 use Rattle.cues.proofs.Held as F
 use Rattle.cues.proofs.Held.Laws as F′
-use Rattle.cues.proofs.Halving.{Halving, halving-whole, mid-least, mid-below, mid-within, halving-more, halving-all}
+use Rattle.cues.proofs.Halving.{Halving, halving-whole, mid-least, mid-below, mid-within, next-after, halving-more, halving-all}
 use Rattle.walks.proofs.Walking.{places, pairs-back, room, full, local, tests}
 use Rattle.cues.proofs.cue_at as cue-at
 use Rattle.cues.proofs.Reading.{CueAt, cue-said, v, Own, to-cue, goes-cue}
@@ -169,16 +170,17 @@ module _ {M : Type 1} (𝓤 : URA M) (H : Heap 𝓤) (A : Atoms 𝓤) (W : Given
   abbrev to-held : Search → HeldOf 𝓤 H A at-mem run .Ghost
   to-held s = ((tt, tt, tt, (s, (n, (fr, tt))), (vals s, (vint w64 n ∷ [], (vint w64 fr ∷ [], tt)))), tt)
 
-  goes-held : (s : Search) → Is S.the-row s (vals s) → ent 𝓤 (sem 𝓤 H A ftrue) (HeldOf 𝓤 H A at-mem run .pre (to-held s))
-  goes-held s is =
-      qed W (‵ ftrue ∷ []) ∵ nothing ! $ owned ! u64 (Is u64) (uint-makes 𝓤 H A W w64) fr _ (refl, gf) $ fjoin ! $ owned ! usize (Is usize) (uint-makes 𝓤 H A W w64) n _ (refl, gn .0) $ fjoin ! $
-      owned ! S.the-row (Is S.the-row) (LL.makes S.the-type S′.the-plain 𝓤 H A) s _ is $ fjoin ! $ move ! (1 ∷ 0 ∷ []) $ join ! $ frame ! $ done !
+  goes-held : (s : Search) → Is S.the-row s (vals s) → fr ≤ s .next → ent 𝓤 (sem 𝓤 H A ftrue) (HeldOf 𝓤 H A at-mem run .pre (to-held s))
+  goes-held s is l =
+      qed W (‵ ftrue ∷ []) ∵ says ! l $ frame ! $ nothing ! $ owned ! u64 (Is u64) (uint-makes 𝓤 H A W w64) fr _ (refl, gf) $ fjoin ! $ owned ! usize (Is usize) (uint-makes 𝓤 H A W w64) n _ (refl, gn .0) $ fjoin ! $
+      owned ! S.the-row (Is S.the-row) (LL.makes S.the-type S′.the-plain 𝓤 H A) s _ is $ fjoin ! $ done !
 
   -- what stands at the loop's test, and what is known of it
   record Now : Type 0 where
     search : Search
     is-search : Is S.the-row search (vals search)
     halving : Halving (x .now) fr search
+    after : fr ≤ search .next
 
   abbrev Nearer : Now → Now → Type 0
   Nearer t s = t .search .hi - t .search .lo < s .search .hi - s .search .lo
@@ -233,11 +235,11 @@ module _ {M : Type 1} (𝓤 : URA M) (H : Heap 𝓤) (A : Atoms 𝓤) (W : Given
           -- [what the new search owns; the token; what the slice owns; _0 to _6]
           land-last ! (from ! (stop !)) (store ! 9 refl (LL.lawful S.the-type S′.the-laws 𝓤 H A W .typed t _ is′ .0)) $ rewrite ! 9 (λ (w : Val). ‵ (fat fullShare searchTy l₃ 0 w)) (ap only (LL.tells S.the-type S′.the-laws t (u′ ∷ []) is′)) refl $
           forget ! 15 refl $ keep ! (places 3 14 (1 ∷ 2 ∷ [])) $
-          again ! Nearer At s (record { search = t; is-search = search-is t u′ is′; halving = turned r t (lt less) e e′ .0 }) (turned r t (lt less) e e′ .1))))))))))
+          again ! Nearer At s (record { search = t; is-search = search-is t u′ is′; halving = turned r t (lt less) e e′ .0; after = subst (λ (z : Search). fr ≤ z .next) (sym e′) (next-after (s .search) r fr (s .after)) }) (turned r t (lt less) e e′ .1))))))))))
           (λ over. exec ! C Λ En body.t-4 (atRet En Post) $
           -- _4 = _1.1; _0 = held_of(_3, _4, _2)
           assigns ! (of-opd ! (load ! (from ! (fld ! refl (stop !))) (look-in ! 2 (sub ! 1 refl (whole !))))) (from ! (stop !)) (init ! 8 refl (tt, record { fits = gn .0 })) $
-          nothing ! $ use1 W (raw (HeldOf 𝓤 H A at-mem run .pre (to-held (s .search)))) (goes-held (s .search) (s .is-search)) $
+          nothing ! $ use1 W (raw (HeldOf 𝓤 H A at-mem run .pre (to-held (s .search)))) (goes-held (s .search) (s .is-search) (s .after)) $
           -- [what held_of asks; _0 to _6; the token; what the slice owns]
           calls-at ! fm (HeldOf 𝓤 H A at-mem run) known-held (to-held (s .search)) (and-then ! (local ! 7 refl) (and-then ! (local ! 9 refl) (and-then ! (local ! 5 refl) (no-more !)))) (λ u.
           use1 W (later (some (λ (h : Held). (‵ ftrue ⊛ ‵ (F.the-row .own h (u ∷ []))) ⊛ raw (ensured 𝓤 H A held-of.ended (held-of.clauses 𝓤 H A at-mem run) tt (s .search, (n, (fr, tt))) tt h)))) (id⊢ 𝓤 _) $ await ! tt $ pick ! (λ h.
@@ -281,7 +283,7 @@ module _ {M : Type 1} (𝓤 : URA M) (H : Heap 𝓤) (A : Atoms 𝓤) (W : Given
         land ! (from ! (stop !)) (init ! 7 refl (LL.lawful S.the-type S′.the-laws 𝓤 H A W .typed s _ is .0)) $
         rewrite ! 7 (λ (w : Val). ‵ (fat fullShare searchTy l₃ 0 w)) (ap only (LL.tells S.the-type S′.the-laws s (u ∷ []) is)) refl $
         drop ! $ forget ! 4 refl $ keep ! (pairs-back 7 (16 ∷ 14 ∷ [])) $
-        by ! (searches l₀ l₁ l₂ l₃ l₄ l₅ l₆ (record { search = s; is-search = search-is s u is; halving = subst (Halving (x .now) fr) (sym e) (halving-whole (x .now) fr) })))))))))))))
+        by ! (searches l₀ l₁ l₂ l₃ l₄ l₅ l₆ (record { search = s; is-search = search-is s u is; halving = subst (Halving (x .now) fr) (sym e) (halving-whole (x .now) fr); after = subst (λ (z : Search). fr ≤ z .next) (sym e) (omega (arith, gf)) })))))))))))))
 
 module _ {M : Type 1} (𝓤 : URA M) (H : Heap 𝓤) (A : Atoms 𝓤) (W : Given 𝓤 H A) (at-mem : Memory → SProp 𝓤) (run : Routine → Fun 𝓤) (𝓣 : Tables 𝓤 H) (known-cue : Triple 𝓤 (𝓣 .C #cues·cue-at) (CueAt 𝓤 H A at-mem run)) (known-whole : Triple 𝓤 (𝓣 .C #cues·whole-of) (WholeOf 𝓤 H A at-mem run)) (known-halved : Triple 𝓤 (𝓣 .C #cues·halved) (Halved 𝓤 H A at-mem run)) (known-held : Triple 𝓤 (𝓣 .C #cues·held-of) (HeldOf 𝓤 H A at-mem run)) where
   holding-walks : Walks 𝓤 H A f.ended stayed (WpFn 𝓤 H (𝓣 .C) (𝓣 .Λ) code.function) (f.clauses 𝓤 H A at-mem run)

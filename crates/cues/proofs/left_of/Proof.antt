@@ -1,4 +1,4 @@
--- `cues::left_of` meets its contract: each test says which case holds. Assumes nothing.
+-- `cues::left_of` meets its contract: the test says which case holds. Assumes nothing.
 use borrow.Author.Tests.{le-leb, lt-leb}
 use borrow.Author.Needs.{needs}
 use Rattle.cues.proofs.left_of.Statement.{statement}
@@ -7,14 +7,11 @@ use Rattle.cues.proofs.left_of.Tie as tie
 returns : tie.Need-returns
 returns c = simp (le-leb _ _ (c .if1 .taken))
 
-returns-2 : tie.Need-returns-2
-returns-2 c = simp (lt-leb _ _ (c .before .if1 .left), le-leb _ _ (c .if2 .taken))
-
 sub-result : tie.Need-sub-result
 sub-result c = search needs
 
-returns-3 : tie.Need-returns-3
-returns-3 c = simp (lt-leb _ _ (c .before .if1 .left), lt-leb _ _ (c .if2 .left))
+returns-2 : tie.Need-returns-2
+returns-2 c = simp (lt-leb _ _ (c .if1 .left))
 
 pub left-of-spec : {M : Type 1} → statement M
-left-of-spec = tie.close (tie.spec returns returns-2 sub-result returns-3)
+left-of-spec = tie.close (tie.spec returns sub-result returns-2)
