@@ -36,7 +36,7 @@ pannedAt s cues i l input out = Panner.block (record { command = Ambisonic (getD
 abbrev pub asRendered : Panner.Block → Block
 asRendered b = record { answer = answerOf (b .answer .refusal) (b .answer .samples); out = b .out }
 
--- samples from the frame f on, cut at the cues
+-- samples from the frame f on, cut so that in each part one voice holds
 pub record SomeCut (cues : List Cue) (order f : ℕ) (xs : List Float) : Type 0 where
   pub parts : List Part
   pub cut : Cut order cues f parts
@@ -52,7 +52,7 @@ pub record DrillScript : Type 0 where
   pub divided : (cues : List Cue) (order f : ℕ) (cs : List Call) → soundedAll cues order f cs ≡ rendered cues order f (fedAll cues order f cs)
   pub alike : (cues : List Cue) (order f : ℕ) (cs ds : List Call) → fedAll cues order f cs ≡ fedAll cues order f ds → soundedAll cues order f cs ≡ soundedAll cues order f ds
   -- "and equal separate panner calls between cues": a stretch between two cues is a block of the panner, beside every layout that can be counted; and calls
-  -- that play any samples, cut at the cues, are heard as calls of the panner that play the parts; they can always be cut so
+  -- that play any samples, cut so that in each part one voice holds, are heard as calls of the panner that play the parts; they can always be cut so
   pub between : (s : Stretch) (cues : List Cue) (input out : List Float) (l : Layout) (i : ℕ) → refusalOf s cues (length input) (length out) ≡ 0 → uncountable (channelsOf l) ≡ false → i < length cues
       → ((n : ℕ) → n < s .frames → Between cues i (s .first + n)) → block s cues input out ≡ asRendered (pannedAt s cues i l input out)
   pub separate : (cues : List Cue) (order f : ℕ) (cs : List Call) (ps : List Part) → Cut order cues f ps → fedAll cues order f cs ≡ samplesParts ps → soundedAll cues order f cs ≡ soundedParts order ps
