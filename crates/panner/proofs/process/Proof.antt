@@ -1,5 +1,6 @@
 -- `panner::process` meets its contract: `Answers`. Assumes nothing.
 use mathlib.Core.Path.{sym, _∙_}
+use native.Mathlib.Omega.{arith}
 use denote.Ref.{now}
 use Rattle.panner.proofs.Answers.{by-command, by-length, by-frames, plays}
 use borrow.Author.Needs.{needs}
@@ -28,7 +29,7 @@ returns-3 : tie.Need-returns-3
 returns-3 c =
     let a = c .before .before .before .before .before .before .before .before .args in
     let g = c .before .before .before .before .before .command-gains in
-    by-frames (record { command = a .command; layout = a .layout; frames = a .frames; stride = a .stride }) (now (a .input)) (now (a .out)) (g .result) (g .ensures) (c .before .before .before .if1 .left) (sym (c .before .before .is-block-unfit .ensures) ∙ c .before .if2 .left) (c .if3 .taken)
+    by-frames (record { command = a .command; layout = a .layout; frames = a .frames; stride = a .stride }) (now (a .input)) (now (a .out)) (g .result) (g .ensures) (c .before .before .before .if1 .left) (sym (c .before .before .is-block-unfit .ensures) ∙ c .before .if2 .left) (omega (arith, c .if3 .taken))
 
 play-part-requires : tie.Need-play-part-requires
 play-part-requires c κs = search needs
@@ -41,7 +42,7 @@ returns-4 c =
     let a = c .before .before .before .before .before .before .before .before .before .before .before .before .before .args in
     let g = c .before .before .before .before .before .before .before .before .before .before .command-gains in
     plays (record { command = a .command; layout = a .layout; frames = a .frames; stride = a .stride }) (now (a .input)) (now (a .out)) (g .result) (g .ensures) (c .before .before .before .before .before .before .before .before .if1 .left)
-    (sym (c .before .before .before .before .before .before .before .is-block-unfit .ensures) ∙ c .before .before .before .before .before .before .if2 .left) (c .before .before .play-part .last .0) (c .before .before .before .before .before .if3 .left) (c .before .before .play-part .ensures)
+    (sym (c .before .before .before .before .before .before .before .is-block-unfit .ensures) ∙ c .before .before .before .before .before .before .if2 .left) (c .before .before .play-part .last .0) (omega (arith, c .before .before .before .before .before .if3 .left)) (c .before .before .play-part .ensures)
 
 pub process-spec : {M : Type 1} → statement M
 process-spec =
