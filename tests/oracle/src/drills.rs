@@ -1,5 +1,5 @@
 //! The drills that are asked for, as requests for script.rs to judge: every reason to refuse alone and with the others, every small
-//! list of cues against every small stretch, long lists, long stretches, cuts, and two cases that are known bit for bit.
+//! list of cues (each that rises against every small stretch), long lists, long stretches, cuts, and two cases that are known bit for bit.
 use crate::frame::{Case, Sink, exactly, f32_bytes, request, send};
 use crate::random::Random;
 use crate::script::{Cue, FAULTS, SCRIPT, Stretch, with_faults};
