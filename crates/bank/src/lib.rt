@@ -21,7 +21,7 @@ ghost use Rattle.lists.specs.Placed.{placed};
 ghost use Rattle.big_endian.specs.Lists.{strided, floatBytes};
 ghost use Rattle.bank_form.specs.Encoding.{rowBytes, headBytes, encode};
 ghost use Rattle.lists.specs.Each.{Each};
-ghost use Rattle.bank_form.specs.HoldsComputed.{IsAzimuth};
+ghost use Rattle.bank_form.specs.Holds.{IsAzimuth};
 ghost use Rattle.bank_form.specs.Fault.{rowSize, azimuthsFrom, tapsFrom};
 ghost use Rattle.bank.specs.Reading.{Reads};
 ghost use Rattle.bank.specs.Writing.{Writes};

@@ -21,13 +21,13 @@ use Rattle.refusals.specs.Ranges.{within}
 use Rattle.refusals.proofs.Ranges.{within-true}
 use Rattle.bank_form.specs.Bank.{Bank, rows, inRange, differ, isTap, pairwise, valid}
 use Rattle.bank_form.specs.Encoding.{encode}
-use Rattle.bank_form.specs.HoldsComputed.{IsAzimuth, IsFloat, Holds}
+use Rattle.bank_form.specs.Holds.{IsAzimuth, IsFloat, Holds}
 use Rattle.bank_form.specs.Fault.{rowSize, rowsIn, lengthIn, bankIn, isNew, sound, fault, isFile}
 use Rattle.bank_form.specs.File.{Exactly}
 use Rattle.lists.proofs.Each.{each-every}
 use Rattle.bank_form.proofs.Lists.{length-taps, pairwise-before, before-pairwise}
 use Rattle.bank_form.proofs.Walk.{Whole, whole, nothing-found}
-use Rattle.bank_form.proofs.RoundTrip.{Written, read-write, write-read}
+use Rattle.bank_form.proofs.RoundTrip.{rows-reach, Written, read-write, write-read}
 
 -- ---- the rules of the form, one by one
 
@@ -59,7 +59,7 @@ module _ (s : List ℕ) where
   pub rows-in : rows (bankIn s) ≡ rowsIn s
   rows-in = length-strided (signedAt s) (rowSize (lengthIn s)) 9 (rowsIn s)
 
-  whole-keeps : Whole s → Keeps (bankIn s)
+  whole-keeps : Whole (length s) s → Keeps (bankIn s)
   unfolding isNew
   whole-keeps w = record {
     few = rw rows-in (w .head .few);
@@ -70,12 +70,12 @@ module _ (s : List ℕ) where
     numbers = w .all .taps;
   }
 
-  keeps-whole : (b : Bank) → Written b s → Keeps (bankIn s) → Whole s
+  keeps-whole : (b : Bank) → Written b s → Keeps (bankIn s) → Whole (length s) s
   unfolding isNew
   keeps-whole b a k = record {
     head = record { version = a .version; rest = a .rest; few = rw rows-in at (k .few); short = k .short };
     all = record {
-      size = a .size;
+      ends = a .size;
       range = k .range;
       new = λ j h. let z : 0 + j ≡ j = omega arith in rw z (pairwise-before (signedAt s) (rowSize (lengthIn s)) differ 9 (rowsIn s) (k .apart) j h);
       taps = k .numbers;
@@ -95,8 +95,9 @@ tap-fits x h = rw (and-eq-true-iff (fits binary32 x) (finite x) .0 h .0) tt
 
 pub keeps-holds : (b : Bank) → Keeps b → Holds b
 keeps-holds b k = record {
-  few = within-true 1 8 (rows b) (k .few) .1;
-  short = within-true 1 512 (b .length) (k .short) .1;
+  few = omega (arith, within-true 1 8 (rows b) (k .few) .1);
+  short = omega (arith, within-true 1 512 (b .length) (k .short) .1);
+  follow = omega (arith, rows-reach (rows b) 8 (b .length) (within-true 1 8 (rows b) (k .few) .1) (within-true 1 512 (b .length) (k .short) .1));
   count = k .count ∙ omega arith;
   azimuths = each-every IsAzimuth (pos 0) inRange azimuth-small (omega arith) (b .azimuths) (k .range);
   taps = each-every IsFloat nan isTap tap-fits (nan-fits binary32) (b .taps) (k .numbers);
@@ -115,13 +116,13 @@ no-file s h = ne-eqb (fault s .refusal) 0 h
 written-keeps : (b : Bank) → Holds b → Keeps b → isFile (encode b) ≡ true
 written-keeps b h k =
     let w = read-write b h in
-    is-file (encode b) (ap (λ (f : Fault). f .refusal) (nothing-found (encode b) (keeps-whole (encode b) b w (rw (w .same) k))))
+    is-file (encode b) (ap (λ (f : Fault). f .refusal) (nothing-found (length (encode b)) (encode b) (keeps-whole (encode b) b w (rw (w .same) k))))
 
 -- a file is accepted exactly if it is the encoding of a bank that keeps the form
 pub exactly : (s : List ℕ) → AreBytes s → Exactly s
 unfolding isFile
 exactly s bytes = record {
-  sound = λ e. let w = whole s (eqb-true (fault s .refusal) 0 e) in record { keeps = is-valid (bankIn s) (whole-keeps s w); bytes = write-read s bytes w };
+  sound = λ e. let w = whole (length s) s (eqb-true (fault s .refusal) 0 e) in record { keeps = is-valid (bankIn s) (whole-keeps s w); bytes = write-read s bytes w };
   complete = λ b f. complete b (keeps b (f .keeps)) (f .bytes);
 }
   where
@@ -136,7 +137,7 @@ written-exactly b h = go (isFile (encode b)) (valid b) refl refl
     go : (t u : Bool) → isFile (encode b) ≡ t → valid b ≡ u → t ≡ u
     go true true e f = refl
     go true false e f =
-        let k = whole-keeps (encode b) (whole (encode b) (eqb-true (fault (encode b) .refusal) 0 e)) in
+        let k = whole-keeps (encode b) (whole (length (encode b)) (encode b) (eqb-true (fault (encode b) .refusal) 0 e)) in
         absurd (false≢true (sym f ∙ ap valid (sym (read-write b h .same)) ∙ is-valid (bankIn (encode b)) k))
     go false true e f = absurd (false≢true (sym e ∙ written-keeps b h (keeps b f)))
     go false false e f = refl

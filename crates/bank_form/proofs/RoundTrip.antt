@@ -2,7 +2,7 @@
 use mathlib.Core.Path.{_≡_, refl, sym, ap, _∙_}
 use mathlib.Core.Bool.{true, not, and-eq-true-iff, false≢true}
 use mathlib.Core.List.{List, [], _∷_, _++_, append-assoc, append-nil}
-use Prim.Native.Nat.{ℕ, zero, suc, _+_, _-_, _*_, _≤_, _<_}
+use Prim.Native.Nat.{ℕ, zero, suc, _+_, _-_, _*_, _^_, _≤_, _<_}
 use native.Mathlib.Nat.{mul-le-mul, le-of-suc-le-suc}
 use native.Mathlib.Omega.{arith}
 use lib.Dec.{T}
@@ -27,7 +27,7 @@ use Rattle.lists.specs.Each.{Each}
 use Rattle.lists.proofs.Each.{each-drop, each-take}
 use Rattle.bank_form.specs.Bank.{Bank, rows, isTap}
 use Rattle.bank_form.specs.Encoding.{rowBytes, allRows, headBytes, encode}
-use Rattle.bank_form.specs.HoldsComputed.{IsAzimuth, IsFloat, Holds}
+use Rattle.bank_form.specs.Holds.{IsAzimuth, IsFloat, Holds}
 use Rattle.bank_form.specs.Fault.{rowSize, azimuthsFrom, rowTaps, tapsFrom, rowsIn, lengthIn, bankIn}
 use Rattle.bank_form.proofs.Lists.{every-more, taps-none, taps-more}
 use Rattle.bank_form.proofs.Walk.{Whole, taps-parted}
@@ -157,7 +157,7 @@ read-write b h =
     let tail = allRows b in
     let follow = 2 + 2 + length tail in
     let long = length-encode b (h .count) in
-    let small : follow ≤ 32788 = omega (arith, length-all b (h .count), rows-reach n 8 l (h .few) (h .short)) in
+    let small : follow < 2 ^ 32 = omega (arith, length-all b (h .count), h .follow) in
     let v = stands s 0 1 1 (bytesOf 4 follow ++ (bytesOf 2 n ++ (bytesOf 2 l ++ tail))) (omega arith) (omega arith) (omega arith) (encode-is b) in
     let a = stands s 1 4 follow (bytesOf 2 n ++ (bytesOf 2 l ++ tail)) (omega arith) (omega arith) (omega arith) (v .after) in
     let c = stands s 5 2 n (bytesOf 2 l ++ tail) (omega arith) (omega (arith, h .few)) (omega arith) (a .after) in
@@ -214,11 +214,11 @@ rows-forth s l p (suc n) bytes size e =
     (ap (λ (y : List ℕ). bytesOf 2 (fieldAt s p 2) ++ y) (taps-forth s (p + 2) (2 * l) bytes (omega arith) (both .0)) ∙ sym (stands-back s p 2 bytes (omega arith) (omega arith)))
 
 -- writing what was read gives the same bytes
-pub write-read : (s : List ℕ) → AreBytes s → Whole s → encode (bankIn s) ≡ s
+pub write-read : (s : List ℕ) → AreBytes s → Whole (length s) s → encode (bankIn s) ≡ s
 write-read s bytes w =
     let l = lengthIn s in
     let n = rowsIn s in
-    let size = w .all .size in
+    let size = w .all .ends in
     let count : rows (bankIn s) ≡ n = length-strided (signedAt s) (rowSize l) 9 n in
     let all : allRows (bankIn s) ≡ drop 9 s = rows-forth s l 9 n bytes size (w .all .taps) in
     let follow : 2 + 2 + length (drop 9 s) ≡ fieldAt s 1 4 = omega (arith, length-drop 9 s, w .head .rest) in

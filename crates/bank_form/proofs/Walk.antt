@@ -20,7 +20,7 @@ use Rattle.lists.specs.Tables.{every}
 use Rattle.refusals.specs.Ranges.{within}
 use Rattle.refusals.proofs.Ranges.{within-true, within-in}
 use Rattle.bank_form.specs.Bank.{inRange, differ, isTap}
-use Rattle.bank_form.specs.Fault.{rowSize, azimuthsFrom, rowTaps, tapsFrom, rowsIn, lengthIn, sound, wrong, orElse, field, tapsFault, isNew, rowFault, rowsFault, headField, headFault, fault}
+use Rattle.bank_form.specs.Fault.{rowSize, azimuthsFrom, rowTaps, tapsFrom, rowsIn, lengthIn, sound, wrong, unless, orElse, field, tapsFault, isNew, rowFault, rowsFault, headField, headFault, faultIn}
 use Rattle.lists.proofs.Every.{every-append}
 use Rattle.bank_form.proofs.Lists.{every-none, every-more, every-next, taps-none, taps-more}
 use Rattle.bank_form.proofs.Azimuths.{differ-same, differ-other}
@@ -68,46 +68,46 @@ module _ (size at count n : ℕ) (good : Bool) where
   unfolding field
   field-none h e =
       let room = fits (ltb size (at + count)) refl in
-      (room, right good (ap (λ (b : Bool). cond b (wrong 19 size) (cond good sound (wrong n at)) .refusal) (sym (le-ltb size (at + count) room)) ∙ e))
+      (room, right good (ap (λ (b : Bool). cond b (wrong 19 size) (unless good n at) .refusal) (sym (le-ltb size (at + count) room)) ∙ e))
     where
       fits : (t : Bool) → ltb size (at + count) ≡ t → at + count ≤ size
       fits true k = let z : _≡_ {A = ℕ} 19 0 = rw k at e in absurd (omega arith)
       fits false k = ltb-false size (at + count) k
 
-      right : (t : Bool) → cond t sound (wrong n at) .refusal ≡ 0 → t ≡ true
+      right : (t : Bool) → unless t n at .refusal ≡ 0 → t ≡ true
       right true k = refl
       right false k = absurd (omega arith)
 
 -- ---- taps
 
-module _ (s : List ℕ) where
-  pub taps-next : (at n : ℕ) → 0 < n → tapsFault s at n ≡ orElse (field (length s) at 4 18 (finite (floatAt s at))) (tapsFault s (at + 4) (n - 1))
+tap-is : (s : List ℕ) (at : ℕ) → isTap (floatAt s at) ≡ finite (floatAt s at)
+unfolding floatAt isTap
+tap-is s at = rw (is-true (fits binary32 (floatAt s at)) (ofBits-fits binary32 (fieldAt s at 4)))
+
+module _ (size : ℕ) (s : List ℕ) where
+  pub taps-next : (at n : ℕ) → 0 < n → tapsFault size s at n ≡ orElse (field size at 4 18 (finite (floatAt s at))) (tapsFault size s (at + 4) (n - 1))
   unfolding tapsFault
   taps-next at zero h = absurd (omega arith)
   taps-next at (suc n) h = rw (sub-one (suc n))
 
-  pub taps-end : (at : ℕ) → tapsFault s at 0 ≡ sound
+  pub taps-end : (at : ℕ) → tapsFault size s at 0 ≡ sound
   unfolding tapsFault
   taps-end at = refl
 
-  tap-is : (at : ℕ) → isTap (floatAt s at) ≡ finite (floatAt s at)
-  unfolding floatAt isTap
-  tap-is at = rw (is-true (fits binary32 (floatAt s at)) (ofBits-fits binary32 (fieldAt s at 4)))
-
-  taps-good : (at n : ℕ) → tapsFault s at n .refusal ≡ 0 → every isTap (strided (floatAt s) 4 at n) ≡ true
+  taps-good : (at n : ℕ) → tapsFault size s at n .refusal ≡ 0 → every isTap (strided (floatAt s) 4 at n) ≡ true
   unfolding tapsFault
   taps-good at zero e = every-none (floatAt s) 4 isTap at
   taps-good at (suc n) e =
-      let both = else-none (field (length s) at 4 18 (finite (floatAt s at))) (tapsFault s (at + 4) n) e in
-      let here = field-none (length s) at 4 18 (finite (floatAt s at)) (omega arith) (both .0) in
-      every-more (floatAt s) 4 isTap at n ∙ and-eq-true-iff _ _ .1 (tap-is at ∙ here .1, taps-good (at + 4) n (both .1))
+      let both = else-none (field size at 4 18 (finite (floatAt s at))) (tapsFault size s (at + 4) n) e in
+      let here = field-none size at 4 18 (finite (floatAt s at)) (omega arith) (both .0) in
+      every-more (floatAt s) 4 isTap at n ∙ and-eq-true-iff _ _ .1 (tap-is s at ∙ here .1, taps-good (at + 4) n (both .1))
 
-  taps-sound : (at n : ℕ) → at + 4 * n ≤ length s → every isTap (strided (floatAt s) 4 at n) ≡ true → tapsFault s at n ≡ sound
+  taps-sound : (at n : ℕ) → at + 4 * n ≤ size → every isTap (strided (floatAt s) 4 at n) ≡ true → tapsFault size s at n ≡ sound
   unfolding tapsFault
   taps-sound at zero h e = refl
   taps-sound at (suc n) h e =
       let both = and-eq-true-iff _ _ .0 (sym (every-more (floatAt s) 4 isTap at n) ∙ e) in
-      else-sound _ _ (field-good (length s) at 4 18 _ (omega arith) (sym (tap-is at) ∙ both .0)) (taps-sound (at + 4) n (omega arith) (both .1))
+      else-sound _ _ (field-good size at 4 18 _ (omega arith) (sym (tap-is s at) ∙ both .0)) (taps-sound (at + 4) n (omega arith) (both .1))
 
 -- ---- rows
 
@@ -116,26 +116,13 @@ abbrev pub New : List ℕ → ℕ → ℕ → ℕ → Type 0
 New s l i at = isNew s l (signedAt s at) 9 i ≡ true
 
 -- what n rows from `at` on say, with i rows before them, where the walk finds nothing
-pub record Rows (s : List ℕ) (l i at n : ℕ) : Type 0 where
-  pub size : length s ≡ at + n * rowSize l
+pub record Rows (size : ℕ) (s : List ℕ) (l i at n : ℕ) : Type 0 where
+  pub ends : size ≡ at + n * rowSize l
   pub range : every inRange (azimuthsFrom s l at n) ≡ true
   pub new : (j : ℕ) → j < n → New s l (i + j) (at + j * rowSize l)
   pub taps : every isTap (tapsFrom s l at n) ≡ true
 
 module _ (s : List ℕ) (l : ℕ) where
-  pub rows-next : (i at n : ℕ) → 0 < n → rowsFault s l i at n ≡ orElse (rowFault s l i at) (rowsFault s l (i + 1) (at + rowSize l) (n - 1))
-  unfolding rowsFault
-  rows-next i at zero h = absurd (omega arith)
-  rows-next i at (suc n) h = rw (sub-one (suc n))
-
-  pub rows-end : (i at : ℕ) → rowsFault s l i at 0 ≡ cond (eqb (length s) at) sound (wrong 14 1)
-  unfolding rowsFault
-  rows-end i at = refl
-
-  pub row-is : (i at : ℕ) → rowFault s l i at ≡ orElse (field (length s) at 2 17 (inRange (signedAt s at) && isNew s l (signedAt s at) 9 i)) (tapsFault s (at + 2) (2 * l))
-  unfolding rowFault
-  row-is i at = refl
-
   -- the walk over the azimuths of n rows from `at` on
   module _ (z : ℤ) (at n : ℕ) (more : 0 < n) where
     pub new-met : signedAt s at ≡ z → isNew s l z at n ≡ false
@@ -150,24 +137,6 @@ module _ (s : List ℕ) (l : ℕ) where
   unfolding isNew
   new-end z at = every-none (signedAt s) (rowSize l) (λ (y : ℤ). differ y z) at
 
-  -- what a row says that the walk finds nothing in
-  record Row (i at : ℕ) : Type 0 where
-    range : inRange (signedAt s at) ≡ true
-    new : New s l i at
-    taps : every isTap (rowTaps s l at) ≡ true
-
-  row-none : (i at : ℕ) → rowFault s l i at .refusal ≡ 0 → Row i at
-  row-none i at e =
-      let both = else-none _ _ (ap (λ (f : Fault). f .refusal) (sym (row-is i at)) ∙ e) in
-      let good = and-eq-true-iff _ _ .0 (field-none (length s) at 2 17 _ (omega arith) (both .0) .1) in
-      record { range = good .0; new = good .1; taps = taps-good s (at + 2) (2 * l) (both .1) }
-
-  row-sound : (i at : ℕ) → at + rowSize l ≤ length s → Row i at → rowFault s l i at ≡ sound
-  row-sound i at h r =
-      row-is i at
-      ∙ else-sound _ _ (field-good (length s) at 2 17 _ (omega arith) (and-eq-true-iff _ _ .1 (r .range, r .new)))
-      (taps-sound s (at + 2) (2 * l) (omega arith) (r .taps))
-
   moved : (i j at to : ℕ) → i ≡ j → at ≡ to → New s l i at → New s l j to
   moved i j at to e f h = subst₂ (New s l) e f h
 
@@ -175,71 +144,102 @@ module _ (s : List ℕ) (l : ℕ) where
   pub taps-parted : (at n : ℕ) → every isTap (tapsFrom s l at (suc n)) ≡ (every isTap (rowTaps s l at) && every isTap (tapsFrom s l (at + rowSize l) n))
   taps-parted at n = ap (every isTap) (taps-more s l at n) ∙ every-append isTap (rowTaps s l at) (tapsFrom s l (at + rowSize l) n)
 
-  pub rows-none : (i at n : ℕ) → rowsFault s l i at n .refusal ≡ 0 → Rows s l i at n
+module _ (size : ℕ) (s : List ℕ) (l : ℕ) where
+  pub rows-next : (i at n : ℕ) → 0 < n → rowsFault size s l i at n ≡ orElse (rowFault size s l i at) (rowsFault size s l (i + 1) (at + rowSize l) (n - 1))
+  unfolding rowsFault
+  rows-next i at zero h = absurd (omega arith)
+  rows-next i at (suc n) h = rw (sub-one (suc n))
+
+  pub rows-end : (i at : ℕ) → rowsFault size s l i at 0 ≡ cond (eqb size at) sound (wrong 14 1)
+  unfolding rowsFault
+  rows-end i at = refl
+
+  pub row-is : (i at : ℕ) → rowFault size s l i at ≡ orElse (field size at 2 17 (inRange (signedAt s at) && isNew s l (signedAt s at) 9 i)) (tapsFault size s (at + 2) (2 * l))
+  unfolding rowFault
+  row-is i at = refl
+
+  -- what a row says that the walk finds nothing in
+  record Row (i at : ℕ) : Type 0 where
+    range : inRange (signedAt s at) ≡ true
+    new : New s l i at
+    taps : every isTap (rowTaps s l at) ≡ true
+
+  row-none : (i at : ℕ) → rowFault size s l i at .refusal ≡ 0 → Row i at
+  row-none i at e =
+      let both = else-none _ _ (ap (λ (f : Fault). f .refusal) (sym (row-is i at)) ∙ e) in
+      let good = and-eq-true-iff _ _ .0 (field-none size at 2 17 _ (omega arith) (both .0) .1) in
+      record { range = good .0; new = good .1; taps = taps-good size s (at + 2) (2 * l) (both .1) }
+
+  row-sound : (i at : ℕ) → at + rowSize l ≤ size → Row i at → rowFault size s l i at ≡ sound
+  row-sound i at h r =
+      row-is i at
+      ∙ else-sound _ _ (field-good size at 2 17 _ (omega arith) (and-eq-true-iff _ _ .1 (r .range, r .new)))
+      (taps-sound size s (at + 2) (2 * l) (omega arith) (r .taps))
+
+  pub rows-none : (i at n : ℕ) → rowsFault size s l i at n .refusal ≡ 0 → Rows size s l i at n
   unfolding rowsFault
   rows-none i at zero e = record {
-    size = ended (eqb (length s) at) refl;
+    ends = ended (eqb size at) refl;
     range = every-none (signedAt s) (rowSize l) inRange at;
     new = λ j h. absurd (omega arith);
     taps = ap (every isTap) (taps-none s l at);
   }
     where
-      ended : (t : Bool) → eqb (length s) at ≡ t → length s ≡ at + 0 * rowSize l
-      ended true k = eqb-true (length s) at k ∙ omega arith
+      ended : (t : Bool) → eqb size at ≡ t → size ≡ at + 0 * rowSize l
+      ended true k = eqb-true size at k ∙ omega arith
       ended false k = let z : _≡_ {A = ℕ} 14 0 = rw k at e in absurd (omega arith)
   rows-none i at (suc n) e =
-      let both = else-none (rowFault s l i at) (rowsFault s l (i + 1) (at + rowSize l) n) e in
+      let both = else-none (rowFault size s l i at) (rowsFault size s l (i + 1) (at + rowSize l) n) e in
       let row = row-none i at (both .0) in
       let rest = rows-none (i + 1) (at + rowSize l) n (both .1) in
       record {
-        size = rest .size ∙ omega arith;
+        ends = rest .ends ∙ omega arith;
         range = every-more (signedAt s) (rowSize l) inRange at n ∙ and-eq-true-iff _ _ .1 (row .range, rest .range);
         new = elim [
-          | zero ↦ λ h. moved i (i + 0) at (at + 0 * rowSize l) (omega arith) (omega arith) (row .new)
-          | suc j ↦ λ h. moved (i + 1 + j) (i + suc j) (at + rowSize l + j * rowSize l) (at + suc j * rowSize l) (omega arith) (omega arith) (rest .new j (le-of-suc-le-suc h))
+          | zero ↦ λ h. moved s l i (i + 0) at (at + 0 * rowSize l) (omega arith) (omega arith) (row .new)
+          | suc j ↦ λ h. moved s l (i + 1 + j) (i + suc j) (at + rowSize l + j * rowSize l) (at + suc j * rowSize l) (omega arith) (omega arith) (rest .new j (le-of-suc-le-suc h))
         ];
-        taps = taps-parted at n ∙ and-eq-true-iff _ _ .1 (row .taps, rest .taps);
+        taps = taps-parted s l at n ∙ and-eq-true-iff _ _ .1 (row .taps, rest .taps);
       }
 
-  pub rows-sound : (i at n : ℕ) → Rows s l i at n → rowsFault s l i at n ≡ sound
+  pub rows-sound : (i at n : ℕ) → Rows size s l i at n → rowsFault size s l i at n ≡ sound
   unfolding rowsFault
-  rows-sound i at zero r = rw (eq-eqb (length s) at (r .size ∙ omega arith))
+  rows-sound i at zero r = rw (eq-eqb size at (r .ends ∙ omega arith))
   rows-sound i at (suc n) r =
       let ranges = and-eq-true-iff _ _ .0 (sym (every-more (signedAt s) (rowSize l) inRange at n) ∙ r .range) in
-      let taps = and-eq-true-iff _ _ .0 (sym (taps-parted at n) ∙ r .taps) in
-      let size = r .size in
+      let taps = and-eq-true-iff _ _ .0 (sym (taps-parted s l at n) ∙ r .taps) in
+      let ends = r .ends in
       else-sound _ _
-      (row-sound i at (omega arith) (record { range = ranges .0; new = moved (i + 0) i (at + 0 * rowSize l) at (omega arith) (omega arith) (r .new 0 (omega arith)); taps = taps .0 }))
+      (row-sound i at (omega arith) (record { range = ranges .0; new = moved s l (i + 0) i (at + 0 * rowSize l) at (omega arith) (omega arith) (r .new 0 (omega arith)); taps = taps .0 }))
       (rows-sound (i + 1) (at + rowSize l) n (record {
-        size = size ∙ omega arith;
+        ends = ends ∙ omega arith;
         range = ranges .1;
-        new = λ j h. moved (i + suc j) (i + 1 + j) (at + suc j * rowSize l) (at + rowSize l + j * rowSize l) (omega arith) (omega arith) (r .new (suc j) (suc-le-suc h));
+        new = λ j h. moved s l (i + suc j) (i + 1 + j) (at + suc j * rowSize l) (at + rowSize l + j * rowSize l) (omega arith) (omega arith) (r .new (suc j) (suc-le-suc h));
         taps = taps .1;
       }))
 
 -- ---- the whole file
 
 -- what a head says in which the walk finds nothing, and a file
-pub record Head (s : List ℕ) : Type 0 where
+pub record Head (size : ℕ) (s : List ℕ) : Type 0 where
   pub version : fieldAt s 0 1 ≡ 1
-  pub rest : fieldAt s 1 4 ≡ length s - 5
+  pub rest : fieldAt s 1 4 ≡ size - 5
   pub few : within 1 8 (rowsIn s) ≡ true
   pub short : within 1 512 (lengthIn s) ≡ true
 
-pub record Whole (s : List ℕ) : Type 0 where
-  pub head : Head s
-  pub all : Rows s (lengthIn s) 0 9 (rowsIn s)
+pub record Whole (size : ℕ) (s : List ℕ) : Type 0 where
+  pub head : Head size s
+  pub all : Rows size s (lengthIn s) 0 9 (rowsIn s)
 
 one-value : (n m : ℕ) → within m m n ≡ true → n ≡ m
 one-value n m h = let both = within-true m m n h in omega arith
 
-pub head-none : (s : List ℕ) → headFault s .refusal ≡ 0 → Head s
+pub head-none : (size : ℕ) (s : List ℕ) → headFault size s .refusal ≡ 0 → Head size s
 unfolding headFault headField
-head-none s e =
-    let size = length s in
-    let version = else-none (headField s 0 1 13 1 1) _ e in
-    let rest = else-none (headField s 1 4 14 (size - 5) (size - 5)) _ (version .1) in
-    let counts = else-none (headField s 5 2 15 1 8) _ (rest .1) in
+head-none size s e =
+    let version = else-none (headField size s 0 1 13 1 1) _ e in
+    let rest = else-none (headField size s 1 4 14 (size - 5) (size - 5)) _ (version .1) in
+    let counts = else-none (headField size s 5 2 15 1 8) _ (rest .1) in
     record {
       version = one-value _ 1 (field-none size 0 1 13 _ (omega arith) (version .0) .1);
       rest = one-value _ _ (field-none size 1 4 14 _ (omega arith) (rest .0) .1);
@@ -247,26 +247,25 @@ head-none s e =
       short = field-none size 7 2 16 _ (omega arith) (counts .1) .1;
     }
 
-head-sound : (s : List ℕ) → 9 ≤ length s → Head s → headFault s ≡ sound
+head-sound : (size : ℕ) (s : List ℕ) → 9 ≤ size → Head size s → headFault size s ≡ sound
 unfolding headFault headField
-head-sound s nine h =
-    let size = length s in
+head-sound size s nine h =
     let version : within 1 1 (fieldAt s 0 1) ≡ true = rw (h .version) in
     let rest : within (size - 5) (size - 5) (fieldAt s 1 4) ≡ true = rw (h .rest) (within-in (size - 5) (size - 5) (size - 5) (omega arith) (omega arith)) in
     else-sound _ _ (field-good size 0 1 13 _ (omega arith) version)
     (else-sound _ _ (field-good size 1 4 14 _ (omega arith) rest)
     (else-sound _ _ (field-good size 5 2 15 _ (omega arith) (h .few)) (field-good size 7 2 16 _ (omega arith) (h .short))))
 
-pub fault-is : (s : List ℕ) → fault s ≡ orElse (headFault s) (rowsFault s (lengthIn s) 0 9 (rowsIn s))
-unfolding fault
-fault-is s = refl
+pub fault-is : (size : ℕ) (s : List ℕ) → faultIn size s ≡ orElse (headFault size s) (rowsFault size s (lengthIn s) 0 9 (rowsIn s))
+unfolding faultIn
+fault-is size s = refl
 
-pub whole : (s : List ℕ) → fault s .refusal ≡ 0 → Whole s
-whole s e =
-    let parts = else-none _ _ (ap (λ (f : Fault). f .refusal) (sym (fault-is s)) ∙ e) in
-    record { head = head-none s (parts .0); all = rows-none s (lengthIn s) 0 9 (rowsIn s) (parts .1) }
+pub whole : (size : ℕ) (s : List ℕ) → faultIn size s .refusal ≡ 0 → Whole size s
+whole size s e =
+    let parts = else-none _ _ (ap (λ (f : Fault). f .refusal) (sym (fault-is size s)) ∙ e) in
+    record { head = head-none size s (parts .0); all = rows-none size s (lengthIn s) 0 9 (rowsIn s) (parts .1) }
 
-pub nothing-found : (s : List ℕ) → Whole s → fault s ≡ sound
-nothing-found s w =
-    let size = w .all .size in
-    fault-is s ∙ else-sound _ _ (head-sound s (omega arith) (w .head)) (rows-sound s (lengthIn s) 0 9 (rowsIn s) (w .all))
+pub nothing-found : (size : ℕ) (s : List ℕ) → Whole size s → faultIn size s ≡ sound
+nothing-found size s w =
+    let ends = w .all .ends in
+    fault-is size s ∙ else-sound _ _ (head-sound size s (omega arith) (w .head)) (rows-sound size s (lengthIn s) 0 9 (rowsIn s) (w .all))

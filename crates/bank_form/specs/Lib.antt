@@ -3,4 +3,6 @@ pub mod Bank
 pub mod Encoding
 pub mod Fault
 pub mod File
-pub mod HoldsComputed
+pub mod Holds
+pub mod WriteFault
+pub mod FaultLaws

@@ -10,7 +10,7 @@ use Rattle.bank_form.specs.declared.Fault.{Fault}
 use Rattle.bank_form.specs.Bank.{Bank, valid}
 use Rattle.bank_form.specs.Encoding.{encode}
 use Rattle.bank_form.specs.Fault.{fault, isFile}
-use Rattle.bank_form.specs.HoldsComputed.{Holds}
+use Rattle.bank_form.specs.Holds.{Holds}
 use Rattle.bank_form.proofs.Exact.{is-file, no-file, written-exactly}
 use Rattle.bank_form.proofs.RoundTrip.{length-encode, rows-reach}
 use Rattle.bank.proofs.Answers.{Lent, breaks, written, wrote}
