@@ -4,3 +4,4 @@ pub mod Azimuths
 pub mod Walk
 pub mod RoundTrip
 pub mod Exact
+pub mod Writer

@@ -16,6 +16,13 @@ use Rattle.big_endian.proofs.Lists.{strided-none, length-strided, strided-more,
 use Rattle.bank_form.specs.Bank.{pairwise}
 use Rattle.bank_form.specs.Fault.{rowSize, rowTaps, tapsFrom}
 
+-- four tests, two by two
+pub exchange : (a b c d : Bool) → (a && b && (c && d)) ≡ (a && c && (b && d))
+exchange true true c d = refl
+exchange true false true d = refl
+exchange true false false d = refl
+exchange false b c d = refl
+
 module _ {A : Type 0} where
   -- ---- one more at the end
 
@@ -27,13 +34,7 @@ module _ {A : Type 0} where
   unfolding pairwise
   pairwise-snoc r [] y = refl
   pairwise-snoc r (x ∷ xs) y =
-      rw (every-append (r x) xs (y ∷ []), pairwise-snoc r xs y, and-true (r x y)) (turn (every (r x) xs) (r x y) (pairwise r xs) (every (λ (z : A). r z y) xs))
-    where
-      turn : (a b c d : Bool) → (a && b && (c && d)) ≡ (a && c && (b && d))
-      turn true true c d = refl
-      turn true false true d = refl
-      turn true false false d = refl
-      turn false b c d = refl
+      rw (every-append (r x) xs (y ∷ []), pairwise-snoc r xs y, and-true (r x y)) (exchange (every (r x) xs) (r x y) (pairwise r xs) (every (λ (z : A). r z y) xs))
 
   module _ (f : ℕ → A) (w : ℕ) where
     pub every-none : (p : A → Bool) (at : ℕ) → every p (strided f w at 0) ≡ true

@@ -80,7 +80,7 @@ module _ (size at count n : ℕ) (good : Bool) where
 
 -- ---- taps
 
-tap-is : (s : List ℕ) (at : ℕ) → isTap (floatAt s at) ≡ finite (floatAt s at)
+pub tap-is : (s : List ℕ) (at : ℕ) → isTap (floatAt s at) ≡ finite (floatAt s at)
 unfolding floatAt isTap
 tap-is s at = rw (is-true (fits binary32 (floatAt s at)) (ofBits-fits binary32 (fieldAt s at 4)))
 

@@ -1,16 +1,37 @@
 // Says what a filter bank file is: which bank keeps the form, and which bytes it has (document 01, item 8 and
 // 'Filter bank file').
 //
-// Definitions and laws alone: no function stands here. specs/Bank.antt has what a bank is and when it keeps
-// the form, specs/Encoding.antt its bytes, and specs/File.antt what a bank file is; specs/Fault.antt the walk
-// over a list of bytes, field by field, that finds the first which breaks the form, with its offset. The laws
-// say that what is written and read is the same bank, and what is read and written the same bytes
-// (proofs/RoundTrip.antt), and that the walk finds nothing exactly if the bytes are those of a bank that
-// keeps the form (proofs/Exact.antt).
+// Definitions and laws, and the two sizes that reader and writer share. specs/Bank.antt has what a bank is and
+// when it keeps the form, specs/Encoding.antt its bytes, and specs/File.antt what a bank file is;
+// specs/Fault.antt the walk over a file, field by field, that finds the first which breaks the form, with its
+// offset, and specs/WriteFault.antt the same of a bank that is to be written (document 02, E2). The laws say
+// that what is written and read is the same bank, and what is read and written the same bytes
+// (proofs/RoundTrip.antt), that the walk finds nothing exactly if the bytes are those of a bank that keeps the
+// form (proofs/Exact.antt), and what the first fault depends on (specs/FaultLaws.antt).
+ghost use mathlib.Core.Path.{_≡_};
+ghost use Prim.Native.Nat.{min};
+ghost use Rattle.bank_form.specs.Fault.{rowSize};
 
 // The first field that breaks the form: the number that tells which, and the offset of its first byte.
 // Both are 0 where none does.
 pub struct Fault {
     pub refusal: u8,
     pub offset: usize,
+}
+
+// The bytes of the largest bank, which has 8 rows of 512 taps for each ear.
+pub const LARGEST: usize = 32793;
+
+// The most taps of a filter.
+const MOST_TAPS: usize = 512;
+
+// How many bytes a row of l taps for each ear has: an azimuth, and the taps. No row has more than 512 of them, and a
+// larger l counts as that.
+pub fn row_size(l: usize) -> usize
+    ensures { λ r. ⌜ r ≡ rowSize (min l 512) ⌝ }
+{
+    if l < MOST_TAPS {
+        return 2 + 8 * l;
+    }
+    2 + 8 * MOST_TAPS
 }
