@@ -1,2 +1,3 @@
--- That no two answers meet one promise.
+-- What the check of a start says of every file that begins so, and that no two answers meet one promise.
+mod Starts
 mod Unique

@@ -1,11 +1,20 @@
--- What the check of a file answers: the first fault in byte order, which there is none of exactly if the bytes are a bank file (document 01, 'Filter bank file'). Definitions only.
+-- What the check of a file answers: the first fault in byte order (document 02, E2), which there is none of exactly if the bytes are a bank file (document 01, 'Filter bank file'). Definitions only.
 use mathlib.Core.Path.{_≡_}
 use mathlib.Core.List.{List}
 use Prim.Native.Nat.{ℕ}
+use lib.Dec.{T}
+use lib.ListN.{length}
 use Rattle.bank_form.specs.declared.Fault.{Fault}
-use Rattle.bank_form.specs.Fault.{fault}
+use Rattle.bank_form.specs.Fault.{faultIn, fault}
+use Rattle.bank_form.specs.FaultLaws.{Begins, suffices}
 use Rattle.bank_form.specs.File.{Exactly}
 
+-- of a start and a size: where the start is enough, the fault of every file that has so many bytes and begins so
+pub record CheckedStart (start : List ℕ) (size : ℕ) (r : Fault) : Type 0 where
+  pub first : r ≡ faultIn size start
+  pub each : (file : List ℕ) → T (suffices (length start) size) → Begins start size file → r ≡ fault file
+
+-- of a whole file
 pub record Checked (s : List ℕ) (r : Fault) : Type 0 where
   pub first : r ≡ fault s
   pub exactly : Exactly s

@@ -5,3 +5,6 @@ pub mod Walk
 pub mod RoundTrip
 pub mod Exact
 pub mod Writer
+pub mod Agree
+pub mod Places
+pub mod Start

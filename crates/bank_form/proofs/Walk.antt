@@ -2,7 +2,7 @@
 use mathlib.Core.Path.{_≡_, refl, sym, ap, subst₂, _∙_}
 use mathlib.Core.Bool.{Bool, true, false, _&&_, cond, and-eq-true-iff}
 use mathlib.Core.List.{List}
-use Prim.Native.Nat.{ℕ, zero, suc, _+_, _-_, _*_, _≤_, _<_, suc-le-suc}
+use Prim.Native.Nat.{ℕ, zero, suc, _+_, _-_, _*_, _≤_, _<_, min, suc-le-suc}
 use native.Mathlib.Nat.{le-of-suc-le-suc}
 use native.Mathlib.Numerals.{sub-one}
 use native.Mathlib.Omega.{arith}
@@ -49,6 +49,14 @@ module _ (a b : Fault) where
   unfolding orElse
   else-sound e f = rw (e, f)
 
+pub else-assoc : (a b c : Fault) → orElse (orElse a b) c ≡ orElse a (orElse b c)
+unfolding orElse
+else-assoc a b c = go (eqb (a .refusal) 0) refl
+  where
+    go : (t : Bool) → eqb (a .refusal) 0 ≡ t → orElse (orElse a b) c ≡ orElse a (orElse b c)
+    go true e = rw e
+    go false e = rw (e, e)
+
 -- ---- a field
 
 module _ (size at count n : ℕ) (good : Bool) where
@@ -63,6 +71,11 @@ module _ (size at count n : ℕ) (good : Bool) where
   pub field-good : at + count ≤ size → good ≡ true → field size at count n good ≡ sound
   unfolding field
   field-good h g = rw (le-ltb size (at + count) h, g)
+
+  -- one that ends in the file is good, or wrong there
+  pub field-in : at + count ≤ size → field size at count n good ≡ unless good n at
+  unfolding field
+  field-in h = rw (le-ltb size (at + count) h)
 
   pub field-none : 0 < n → field size at count n good .refusal ≡ 0 → (at + count ≤ size) × (good ≡ true)
   unfolding field
@@ -110,6 +123,10 @@ module _ (size : ℕ) (s : List ℕ) where
       else-sound _ _ (field-good size at 4 18 _ (omega arith) (sym (tap-is s at) ∙ both .0)) (taps-sound (at + 4) n (omega arith) (both .1))
 
 -- ---- rows
+
+-- how many bytes a row has that is not too long
+pub one-size : (l r : ℕ) → l ≤ 512 → r ≡ rowSize (min l 512) → r ≡ rowSize l
+one-size l r h e = omega (arith, h, e)
 
 -- none of the i rows from 9 on has the azimuth that stands at an offset
 abbrev pub New : List ℕ → ℕ → ℕ → ℕ → Type 0

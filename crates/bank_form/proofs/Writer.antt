@@ -5,7 +5,7 @@ use mathlib.Core.List.{List, [], _∷_, _++_}
 use Prim.Native.Nat.{ℕ, zero, suc, _+_, _-_, _*_, _≤_, _<_}
 use native.Mathlib.Numerals.{add-one}
 use native.Mathlib.Omega.{arith}
-use borrow.Author.Tests.{eq-eqb, ne-eqb, le-ltb}
+use borrow.Author.Tests.{eq-eqb, ne-eqb}
 use lib.Dec.{eqb}
 use lib.Ieee.Scale.{finite}
 use lib.Ieee.{Float}
@@ -27,24 +27,9 @@ use Rattle.bank_form.specs.Holds.{Holds}
 use Rattle.bank_form.specs.WriteFault.{tapsWrong, rowsWrong, writeFault}
 use Rattle.bank_form.specs.FaultLaws.{WriterAsReader}
 use Rattle.bank_form.proofs.Lists.{exchange, taps-more}
-use Rattle.bank_form.proofs.Walk.{tap-is, fault-is}
+use Rattle.bank_form.proofs.Walk.{else-assoc, field-in, tap-is, fault-is}
 use Rattle.bank_form.proofs.Exact.{rows-in}
 use Rattle.bank_form.proofs.RoundTrip.{Written, read-write}
-
--- ---- one walk after another
-
-else-assoc : (a b c : Fault) → orElse (orElse a b) c ≡ orElse a (orElse b c)
-unfolding orElse
-else-assoc a b c = go (eqb (a .refusal) 0) refl
-  where
-    go : (t : Bool) → eqb (a .refusal) 0 ≡ t → orElse (orElse a b) c ≡ orElse a (orElse b c)
-    go true e = rw e
-    go false e = rw (e, e)
-
--- a field that ends in the file is good, or wrong there
-field-in : (size at count n : ℕ) (good : Bool) → at + count ≤ size → field size at count n good ≡ unless good n at
-unfolding field
-field-in size at count n good h = rw (le-ltb size (at + count) h)
 
 -- ---- a file of the right size: the walk over it is the one over the bank that stands in it
 

@@ -1,54 +1,14 @@
--- `bank_check::check_file` meets its contract. Assumes nothing.
-use mathlib.Core.Path.{sym, ap, ap₂, _∙_}
-use Prim.Native.Nat.{ℕ}
-use Rattle.refusals.proofs.Ranges.{within-true}
-use Rattle.bank_form.specs.declared.Fault.{Fault}
-use Rattle.bank_form.specs.Fault.{rowsIn, lengthIn, rowsFault}
+-- `bank_check::check_file` meets its contract: the start is the whole file. Assumes nothing.
 use Rattle.bank_form.proofs.Exact.{exactly}
-use Rattle.bank_form.proofs.Walk.{head-none, else-stop, else-on, fault-is}
 use borrow.Author.Needs.{needs}
 use Rattle.bank_check.proofs.check_file.Statement.{statement}
 use Rattle.bank_check.proofs.check_file.Tie as tie
 
-head-fault-requires : tie.Need-head-fault-requires
-head-fault-requires c κs = search needs
+check-start-requires : tie.Need-check-start-requires
+check-start-requires c κs = search needs
 
 returns : tie.Need-returns
-returns c =
-    record {
-      first = else-stop _ _ _ (c .before .before .head-fault .ensures) (c .if1 .taken) ∙ sym (fault-is _);
-      exactly = exactly _ (λ i. c .before .before .before .shared-slice-known .given i .fits);
-    }
-
-get-requires : tie.Need-get-requires
-get-requires c κs = search needs
-
-get-requires-2 : tie.Need-get-requires-2
-get-requires-2 c κs = search needs
-
-rows-fault-requires : tie.Need-rows-fault-requires
-rows-fault-requires c κs =
-    let args = c .before .before .before .before .before .before .args in
-    let head = head-none (args .file .now) (ap (λ (f : Fault). f .refusal) (sym (c .before .before .before .before .head-fault .ensures)) ∙ c .before .before .if1 .left) in
-    let rows = within-true 1 8 (rowsIn (args .file .now)) (head .few) in
-    let length = within-true 1 512 (lengthIn (args .file .now)) (head .short) in
-    (rw (c .get2 .ensures .value) (length .1), rw (c .before .get .ensures .value) (rows .1))
-
-returns-2 : tie.Need-returns-2
-returns-2 c =
-    let rows = c .rows-fault .ensures ∙ ap₂ (λ (l n : ℕ). rowsFault (c .before .before .before .before .before .before .before .args .file .now) l 0 9 n) (c .before .get2 .ensures .value) (c .before .before .get .ensures .value) in
-    record {
-      first = rows ∙ sym (fault-is _ ∙ else-on _ _ _ (c .before .before .before .before .before .head-fault .ensures) (c .before .before .before .if1 .left));
-      exactly = exactly _ (λ i. c .before .before .before .before .before .before .shared-slice-known .given i .fits);
-    }
+returns c = record { first = c .check-start .ensures .first; exactly = exactly _ (λ i. c .before .shared-slice-known .given i .fits) }
 
 pub check-file-spec : {M : Type 1} → statement M
-check-file-spec =
-    tie.close
-    (tie.spec
-    head-fault-requires
-    returns
-    get-requires
-    get-requires-2
-    rows-fault-requires
-    returns-2)
+check-file-spec = tie.close (tie.spec check-start-requires returns)

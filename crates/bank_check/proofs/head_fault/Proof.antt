@@ -2,7 +2,6 @@
 use mathlib.Core.Path.{_≡_, sym, ap₂, _∙_}
 use mathlib.Core.List.{List}
 use Prim.Native.Nat.{ℕ, _-_}
-use lib.ListN.{length}
 use Rattle.bank_form.specs.Fault.{headField, headFault}
 use Rattle.bank_form.proofs.Walk.{else-stop, else-on}
 use borrow.Author.Needs.{needs}
@@ -14,8 +13,11 @@ module _ (c : tie.After-head-field2) where
   abbrev file : List ℕ
   file = c .before .before .before .before .before .before .args .s .now
 
-  length-field : c .head-field2 .result ≡ headField file 1 4 14 (length file - 5) (length file - 5)
-  length-field = c .head-field2 .ensures ∙ ap₂ (headField _ _ _ _) (c .before .bytes-after .ensures) (c .before .bytes-after .ensures)
+  abbrev size : ℕ
+  size = c .before .before .before .before .before .before .args .size
+
+  length-field : c .head-field2 .result ≡ headField size file 1 4 14 (size - 5) (size - 5)
+  length-field = c .head-field2 .ensures ∙ ap₂ (headField _ _ _ _ _) (c .before .bytes-after .ensures) (c .before .bytes-after .ensures)
 
 head-field-requires : tie.Need-head-field-requires
 head-field-requires c κs = search needs

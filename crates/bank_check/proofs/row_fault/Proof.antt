@@ -5,7 +5,6 @@ use mathlib.Core.Logic.{⊎-elim}
 use mathlib.Core.List.{List}
 use Prim.Native.Nat.{ℕ}
 use lib.IntN.{ℤ}
-use lib.ListN.{length}
 use mir.Syntax.{w16}
 use Rattle.big_endian.proofs.Signed.{back}
 use Rattle.big_endian.specs.Fields.{signedAt}
@@ -21,11 +20,14 @@ module _ (c : tie.After-field-fault) where
   abbrev file : List ℕ
   file = c .before .before .before .before .before .args .s .now
 
+  abbrev size : ℕ
+  size = c .before .before .before .before .before .args .size
+
   abbrev here : ℤ
   here = signedAt file (c .before .before .before .before .before .args .at)
 
   azimuth : let args = c .before .before .before .before .before .args in
-      c .field-fault .result ≡ field (length file) (args .at) 2 17 (inRange here && isNew file (args .l) here 9 (args .i))
+      c .field-fault .result ≡ field size (args .at) 2 17 (inRange here && isNew file (args .l) here 9 (args .i))
   unfolding inRange
   azimuth =
       let call = c .before .before .before .get-i16 in
@@ -47,7 +49,7 @@ field-fault-requires : tie.Need-field-fault-requires
 field-fault-requires c κs = search needs
 
 returns : tie.Need-returns
-returns c = else-stop _ _ _ (azimuth (c .before .before)) (c .if2 .taken) ∙ sym (row-is _ _ _ _)
+returns c = else-stop _ _ _ (azimuth (c .before .before)) (c .if2 .taken) ∙ sym (row-is _ _ _ _ _)
 
 add-taps-fault : tie.Need-add-taps-fault
 add-taps-fault c = search needs
@@ -59,7 +61,7 @@ taps-fault-requires : tie.Need-taps-fault-requires
 taps-fault-requires c κs = search needs
 
 returns-2 : tie.Need-returns-2
-returns-2 c = c .taps-fault .ensures ∙ sym (row-is _ _ _ _ ∙ else-on _ _ _ (azimuth (c .before .before .before)) (c .before .if2 .left))
+returns-2 c = c .taps-fault .ensures ∙ sym (row-is _ _ _ _ _ ∙ else-on _ _ _ (azimuth (c .before .before .before)) (c .before .if2 .left))
 
 pub row-fault-spec : {M : Type 1} → statement M
 row-fault-spec =

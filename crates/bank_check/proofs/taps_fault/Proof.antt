@@ -4,28 +4,30 @@ use mathlib.Core.List.{List}
 use Prim.Native.Nat.{ℕ, _+_, _*_, _≤_}
 use native.Mathlib.Omega.{arith}
 use lib.Ieee.Scale.{finite}
-use lib.ListN.{length}
 use Rattle.big_endian.specs.Fields.{floatAt}
-use Rattle.bank_form.specs.Fault.{field, tapsFault}
+use Rattle.bank_form.specs.Fault.{largest, field, tapsFault}
 use Rattle.bank_form.proofs.Walk.{else-stop, else-on, taps-next, taps-end}
 use Rattle.bank_check.proofs.taps_fault.Statement.{statement}
 use Rattle.bank_check.proofs.taps_fault.Tie as tie
 
 abbrev Inv-loop : tie.InvT-loop
-Inv-loop s at n p₀ k₀ p k = (p + 4 * k ≤ 32793) × (tapsFault s at n ≡ tapsFault s p k)
+Inv-loop size s at n p₀ k₀ p k = (p + 4 * k ≤ largest) × (tapsFault size s at n ≡ tapsFault size s p k)
 
 abbrev μ-loop : tie.MeasureT-loop
-μ-loop s at n p₀ k₀ p k = k
+μ-loop size s at n p₀ k₀ p k = k
 
 -- what the field at this turn's place comes to
 module _ (c : tie.After-field-fault Inv-loop μ-loop) where
   abbrev file : List ℕ
   file = c .before .before .before .before .before .before .before .args .s .now
 
+  abbrev size : ℕ
+  size = c .before .before .before .before .before .before .before .args .size
+
   abbrev place : ℕ
   place = c .before .before .before .before .before .loop .p
 
-  here : c .field-fault .result ≡ field (length file) place 4 18 (finite (floatAt file place))
+  here : c .field-fault .result ≡ field size place 4 18 (finite (floatAt file place))
   here =
       let tap = c .before .before .widen .ensures .same ∙ c .before .before .before .get-f32 .ensures in
       c .field-fault .ensures ∙ ap (field _ _ _ _) (c .before .is-finite .ensures ∙ ap finite tap)
@@ -49,7 +51,7 @@ returns : tie.Need-returns Inv-loop μ-loop
 returns c =
     let turn = c .before .before .before .before .before .before .before .loop in
     let more = c .before .before .before .before .before .before .loop-test .taken in
-    else-stop _ _ _ (here (c .before .before)) (c .if1 .taken) ∙ sym (turn .inv .1 ∙ taps-next _ _ _ more)
+    else-stop _ _ _ (here (c .before .before)) (c .if1 .taken) ∙ sym (turn .inv .1 ∙ taps-next _ _ _ _ more)
 
 add-p : tie.Need-add-p Inv-loop μ-loop
 add-p c = omega arith
@@ -64,13 +66,13 @@ loop-again : tie.Need-loop-again Inv-loop μ-loop
 loop-again c =
     let turn = c .before .before .before .before .before .before .before .loop in
     let more = c .before .before .before .before .before .before .loop-test .taken in
-    (omega arith, turn .inv .1 ∙ taps-next _ _ _ more ∙ else-on _ _ _ (here (c .before .before)) (c .if1 .left))
+    (omega arith, turn .inv .1 ∙ taps-next _ _ _ _ more ∙ else-on _ _ _ (here (c .before .before)) (c .if1 .left))
 
 returns-2 : tie.Need-returns-2 Inv-loop μ-loop
 returns-2 c =
     let turn = c .before .loop in
     let done : turn .k ≡ 0 = omega arith in
-    sym (turn .inv .1 ∙ ap (tapsFault _ _) done ∙ taps-end _ _)
+    sym (turn .inv .1 ∙ ap (tapsFault _ _ _) done ∙ taps-end _ _ _)
 
 pub taps-fault-spec : {M : Type 1} → statement M
 taps-fault-spec =
