@@ -13,7 +13,7 @@ use Rattle.lists.specs.Tables.{row}
 use Rattle.big_endian.proofs.Lists.{length-strided}
 use Rattle.wire.specs.Records.{wholeIn}
 use Rattle.wire.specs.Frames.{frameOf, lineFrames}
-use Rattle.wire.specs.Line.{decimalBy, decimal, framesWord, unsettledWord, refusedWord, newline, framesLine, refusedLine}
+use Rattle.wire.specs.Line.{decimalBy, decimal, framesWord, unsettledWord, refusedWord, atWord, newline, framesLine, refusedLine, refusedAtLine}
 
 pub six-each : (bytes : List ℕ) (n : ℕ) → n < length (lineFrames bytes) → length (getD (lineFrames bytes) n []) ≡ 6
 six-each bytes n h =
@@ -59,3 +59,7 @@ frames-short frames unsettled = two-short framesWord unsettledWord frames unsett
 pub refused-short : (number : ℕ) → length (refusedLine number) ≤ 59
 unfolding refusedLine refusedWord newline
 refused-short number = omega (arith, length-append (decimal number) newline, decimal-short number)
+
+pub refused-at-short : (number place : ℕ) → length (refusedAtLine number place) ≤ 59
+unfolding refusedAtLine refusedWord atWord
+refused-at-short number place = two-short refusedWord atWord number place (omega arith)

@@ -4,7 +4,7 @@ ghost use mathlib.Core.Path.{_≡_};
 ghost use Prim.Native.Nat.{_+_, _≤_};
 ghost use mathlib.Core.List.{_++_};
 ghost use lib.ListN.{length};
-ghost use Rattle.wire.specs.Line.{decimal, newline, framesLine, refusedLine};
+ghost use Rattle.wire.specs.Line.{decimal, newline, framesLine, refusedLine, refusedAtLine};
 ghost use Rattle.wire.specs.Promises.{Put, Lined};
 
 // How long a list has to be.
@@ -76,4 +76,14 @@ pub fn refused_line(refusal: u8, out: &mut [u8]) -> usize
         return 0;
     }
     put_refused(refusal, out)
+}
+
+// The line of a refusal with a place. Answers its length.
+pub fn refused_at_line(refusal: u8, place: u64, out: &mut [u8]) -> usize
+    ensures { λ r. ⌜ Lined (now (out .entry)) (refusedAtLine refusal place) r (now (out .exit)) ⌝ }
+{
+    if out.len() < ROOM {
+        return 0;
+    }
+    put_two(out, b"refused ", refusal as u64, b" at ", place)
 }
