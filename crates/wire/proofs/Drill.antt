@@ -1,4 +1,4 @@
--- Document 01, item 10, as worked examples: the lines that it prints, and a frame and its ears as bytes. Assumes nothing.
+-- Document 01, item 10, and document 02, E2, worked: the lines, and a frame and its ears as bytes. Assumes nothing.
 use mathlib.Core.Path.{_≡_, refl}
 use mathlib.Core.Bool.{true, false}
 use mathlib.Core.List.{[], _∷_, flatMap}
@@ -7,7 +7,7 @@ use lib.Ieee.{nan, fin, toBits}
 use Rattle.big_endian.specs.Bytes.{bytesOf}
 use Rattle.big_endian.specs.Lists.{fieldBytes}
 use Rattle.wire.specs.Ears.{earBytes}
-use Rattle.wire.specs.Line.{decimalBy, decimal, framesWord, unsettledWord, refusedWord, newline, framesLine, refusedLine}
+use Rattle.wire.specs.Line.{decimalBy, decimal, framesWord, unsettledWord, refusedWord, atWord, newline, framesLine, refusedLine, refusedAtLine}
 
 -- `frames 3 unsettled 2` and a newline
 pub three-frames : framesLine 3 2 ≡ 102 ∷ 114 ∷ 97 ∷ 109 ∷ 101 ∷ 115 ∷ 32 ∷ 51 ∷ 32 ∷ 117 ∷ 110 ∷ 115 ∷ 101 ∷ 116 ∷ 116 ∷ 108 ∷ 101 ∷ 100 ∷ 32 ∷ 50 ∷ 10 ∷ []
@@ -23,6 +23,11 @@ no-frames = refl
 pub refused-nine : refusedLine 9 ≡ 114 ∷ 101 ∷ 102 ∷ 117 ∷ 115 ∷ 101 ∷ 100 ∷ 32 ∷ 57 ∷ 10 ∷ []
 unfolding refusedLine refusedWord newline decimal decimalBy
 refused-nine = refl
+
+-- `refused 14 at 1` and a newline
+pub refused-fourteen : refusedAtLine 14 1 ≡ 114 ∷ 101 ∷ 102 ∷ 117 ∷ 115 ∷ 101 ∷ 100 ∷ 32 ∷ 49 ∷ 52 ∷ 32 ∷ 97 ∷ 116 ∷ 32 ∷ 49 ∷ 10 ∷ []
+unfolding refusedAtLine refusedWord atWord newline decimal decimalBy
+refused-fourteen = refl
 
 -- no zero in front, none lost behind
 tens : decimal 1070 ≡ 49 ∷ 48 ∷ 55 ∷ 48 ∷ []

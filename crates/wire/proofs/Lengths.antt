@@ -13,7 +13,7 @@ use Rattle.lists.specs.Tables.{row}
 use Rattle.big_endian.proofs.Lists.{length-strided}
 use Rattle.wire.specs.Records.{wholeIn}
 use Rattle.wire.specs.Frames.{frameOf, lineFrames}
-use Rattle.wire.specs.Line.{decimalBy, decimal, framesWord, unsettledWord, refusedWord, newline, framesLine, refusedLine}
+use Rattle.wire.specs.Line.{decimalBy, decimal, framesWord, unsettledWord, refusedWord, atWord, newline, framesLine, refusedLine, refusedAtLine}
 
 pub six-each : (bytes : List ℕ) (n : ℕ) → n < length (lineFrames bytes) → length (getD (lineFrames bytes) n []) ≡ 6
 six-each bytes n h =
@@ -34,13 +34,32 @@ decimal-short : (n : ℕ) → length (decimal n) ≤ 20
 unfolding decimal
 decimal-short n = digits-short 20 n
 
+-- two numbers, each behind its word
+two-short : (first second : List ℕ) (m n : ℕ) → length first + length second ≤ 18
+    → length (first ++ (decimal m ++ (second ++ (decimal n ++ newline)))) ≤ 59
+unfolding newline
+two-short first second m n h =
+    let last = decimal n ++ newline in
+    let behind = second ++ last in
+    omega (
+      arith,
+      h,
+      length-append first (decimal m ++ behind),
+      length-append (decimal m) behind,
+      length-append second last,
+      length-append (decimal n) newline,
+      decimal-short m,
+      decimal-short n,
+    )
+
 pub frames-short : (frames unsettled : ℕ) → length (framesLine frames unsettled) ≤ 59
-unfolding framesLine framesWord unsettledWord newline
-frames-short frames unsettled =
-    let last = decimal unsettled ++ newline in
-    let behind = unsettledWord ++ last in
-    omega (arith, length-append (decimal frames) behind, length-append (decimal unsettled) newline, decimal-short frames, decimal-short unsettled)
+unfolding framesLine framesWord unsettledWord
+frames-short frames unsettled = two-short framesWord unsettledWord frames unsettled (omega arith)
 
 pub refused-short : (number : ℕ) → length (refusedLine number) ≤ 59
 unfolding refusedLine refusedWord newline
 refused-short number = omega (arith, length-append (decimal number) newline, decimal-short number)
+
+pub refused-at-short : (number place : ℕ) → length (refusedAtLine number place) ≤ 59
+unfolding refusedAtLine refusedWord atWord
+refused-at-short number place = two-short refusedWord atWord number place (omega arith)

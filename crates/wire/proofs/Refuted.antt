@@ -15,9 +15,9 @@ use Rattle.lists.proofs.Placed.{placed-start}
 use Rattle.checks.specs.Lengths.{unfit}
 use Rattle.wire.specs.Records.{wholeIn}
 use Rattle.wire.specs.Counting.{countedOn}
-use Rattle.wire.specs.Line.{framesLine, refusedLine}
+use Rattle.wire.specs.Line.{framesLine, refusedLine, refusedAtLine}
 use Rattle.wire.specs.Promises.{FramesTaken, framesTaken, EarsGiven, earsGiven, Lined}
-use Rattle.wire.proofs.Drill.{three-frames, refused-nine}
+use Rattle.wire.proofs.Drill.{three-frames, refused-nine, refused-fourteen}
 use Rattle.wire.proofs.Meets.{taken-refused, given-unfit, given-by}
 
 -- planes that have no room are accepted
@@ -79,3 +79,17 @@ module _ (out : List ℕ) (size : ℕ) (after : List ℕ) (room : 64 ≤ length 
   -- 9 told as 5
   refused-by-another-number : Lined out (refusedLine 9) size after → getD after 8 0 ≡ 53 → ⊥
   refused-by-another-number put e = let same : _≡_ {A = ℕ} 53 57 = sym e ∙ known-byte out (refusedLine 9) _ size after refused-nine put room 8 (lit< tt) in omega arith
+
+  -- 14 at 1 with place and number exchanged: `refused 1 at 14`, which has a blank where the 4 should stand
+  place-for-the-number : Lined out (refusedAtLine 14 1) size after → getD after 9 0 ≡ 32 → ⊥
+  place-for-the-number put e =
+      let told = known-byte out (refusedAtLine 14 1) _ size after refused-fourteen put room 9 (lit< tt) in
+      let same : _≡_ {A = ℕ} 32 52 = sym e ∙ told in
+      omega arith
+
+  -- 14 at 1 with no place told: the line ends behind the number
+  no-place : Lined out (refusedAtLine 14 1) size after → getD after 10 0 ≡ 10 → ⊥
+  no-place put e =
+      let told = known-byte out (refusedAtLine 14 1) _ size after refused-fourteen put room 10 (lit< tt) in
+      let same : _≡_ {A = ℕ} 10 32 = sym e ∙ told in
+      omega arith

@@ -22,6 +22,6 @@ keep-rest-unique bytes from to = determined
 count-on-unique : (count more : ℕ) → OneAnswer (λ (r : ℕ). r ≡ countedOn count more)
 count-on-unique count more = determined
 
--- of either line: its length, and what the list holds
+-- of each of the three lines: its length, and what the list holds
 pub line-unique : (out line : List ℕ) → OneAnswer (λ (r : ℕ × List ℕ). Lined out line (r .0) (r .1))
 line-unique out line = determined-by (λ r h i. (h .count i, h .filled i))

@@ -1,4 +1,6 @@
--- Document 01, item 10: the printed line, "`frames 3 unsettled 2` and a newline", or "`refused 9` only". Definitions only. A line is a list of ASCII codes.
+-- Document 01, item 10: the printed line, "`frames 3 unsettled 2` and a newline", or "`refused 9` only".
+-- Document 02, E2: "The program prints number and place, as `refused 14 at 1`".
+-- Definitions only. A line is a list of ASCII codes.
 use Prim.Native.Nat.{ℕ, zero, suc, _+_, _/_, _%_}
 use mathlib.Core.Bool.{cond}
 use mathlib.Core.List.{List, [], _∷_, _++_}
@@ -25,6 +27,10 @@ unsettledWord = 32 ∷ 117 ∷ 110 ∷ 115 ∷ 101 ∷ 116 ∷ 116 ∷ 108 ∷ 1
 unfoldable pub refusedWord : List ℕ
 refusedWord = 114 ∷ 101 ∷ 102 ∷ 117 ∷ 115 ∷ 101 ∷ 100 ∷ 32 ∷ []
 
+-- ` at `
+unfoldable pub atWord : List ℕ
+atWord = 32 ∷ 97 ∷ 116 ∷ 32 ∷ []
+
 unfoldable pub newline : List ℕ
 newline = 10 ∷ []
 
@@ -33,3 +39,6 @@ framesLine frames unsettled = framesWord ++ (decimal frames ++ (unsettledWord ++
 
 unfoldable pub refusedLine : ℕ → List ℕ
 refusedLine number = refusedWord ++ (decimal number ++ newline)
+
+unfoldable pub refusedAtLine : ℕ → ℕ → List ℕ
+refusedAtLine number place = refusedWord ++ (decimal number ++ (atWord ++ (decimal place ++ newline)))

@@ -1,5 +1,5 @@
 // Turns the bytes of the programs into frames, and ears into bytes, and makes the one line that is printed
-// (document 01, item 10).
+// (document 01, item 10; document 02, E2).
 //
 // Frames of six big-endian f32 come in and are put into planes, the two ears of each frame go out as left
 // then right, big-endian. Bytes come in parts of any size: what has come of a record that is not whole yet is
@@ -24,6 +24,7 @@ mod line;
 mod records;
 
 pub use line::frames_line;
+pub use line::refused_at_line;
 pub use line::refused_line;
 pub use records::count_on;
 pub use records::keep_rest;

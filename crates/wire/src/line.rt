@@ -2,8 +2,9 @@
 // longest; a shorter list stays as it was, and the answer is 0.
 ghost use mathlib.Core.Path.{_≡_};
 ghost use Prim.Native.Nat.{_+_, _≤_};
+ghost use mathlib.Core.List.{_++_};
 ghost use lib.ListN.{length};
-ghost use Rattle.wire.specs.Line.{decimal, framesLine, refusedLine};
+ghost use Rattle.wire.specs.Line.{decimal, newline, framesLine, refusedLine, refusedAtLine};
 ghost use Rattle.wire.specs.Promises.{Put, Lined};
 
 // How long a list has to be.
@@ -28,24 +29,33 @@ fn put_number(out: &mut [u8], at: usize, n: u64) -> usize
     put_part(out, at, &digits[..k])
 }
 
-fn put_frames(frames: u64, unsettled: u64, out: &mut [u8]) -> usize
-    requires { ⌜ 64 ≤ length (now out) ⌝ }
-    ensures { λ r. ⌜ Put (now (out .entry)) 0 (framesLine frames unsettled) r (now (out .exit)) ⌝ }
+// Puts a word and the number behind it from `at` on, and answers where they end.
+fn put_named(out: &mut [u8], at: usize, word: &[u8], n: u64) -> usize
+    requires { ⌜ at + length (now word) + 20 ≤ length (now out) ⌝ }
+    ensures both { λ r. ⌜ Put (now (out .entry)) at (now (word .entry) ++ decimal n) r (now (out .exit)) ⌝ }
+    ensures room { λ r. ⌜ r ≤ at + length (now (word .entry)) + 20 ⌝ }
 {
-    let a = put_part(out, 0, b"frames ");
-    let b = put_number(out, a, frames);
-    let c = put_part(out, b, b" unsettled ");
-    let d = put_number(out, c, unsettled);
-    put_part(out, d, b"\n")
+    let a = put_part(out, at, word);
+    put_number(out, a, n)
+}
+
+// Puts a line of two numbers, each behind its word. The words have 23 bytes at most, so that 64 have room.
+fn put_two(out: &mut [u8], first: &[u8], m: u64, second: &[u8], n: u64) -> usize
+    requires room { ⌜ 64 ≤ length (now out) ⌝ }
+    requires short { ⌜ length (now first) + length (now second) ≤ 23 ⌝ }
+    ensures { λ r. ⌜ Put (now (out .entry)) 0 (now (first .entry) ++ (decimal m ++ (now (second .entry) ++ (decimal n ++ newline)))) r (now (out .exit)) ⌝ }
+{
+    let a = put_named(out, 0, first, m);
+    let b = put_named(out, a, second, n);
+    put_part(out, b, b"\n")
 }
 
 fn put_refused(refusal: u8, out: &mut [u8]) -> usize
     requires { ⌜ 64 ≤ length (now out) ⌝ }
     ensures { λ r. ⌜ Put (now (out .entry)) 0 (refusedLine refusal) r (now (out .exit)) ⌝ }
 {
-    let a = put_part(out, 0, b"refused ");
-    let b = put_number(out, a, refusal as u64);
-    put_part(out, b, b"\n")
+    let a = put_named(out, 0, b"refused ", refusal as u64);
+    put_part(out, a, b"\n")
 }
 
 // The line of a run: how many frames were played, and how many of them are unsettled. Answers its length.
@@ -55,7 +65,7 @@ pub fn frames_line(frames: u64, unsettled: u64, out: &mut [u8]) -> usize
     if out.len() < ROOM {
         return 0;
     }
-    put_frames(frames, unsettled, out)
+    put_two(out, b"frames ", frames, b" unsettled ", unsettled)
 }
 
 // The line of a refusal. Answers its length.
@@ -66,4 +76,14 @@ pub fn refused_line(refusal: u8, out: &mut [u8]) -> usize
         return 0;
     }
     put_refused(refusal, out)
+}
+
+// The line of a refusal with a place. Answers its length.
+pub fn refused_at_line(refusal: u8, place: u64, out: &mut [u8]) -> usize
+    ensures { λ r. ⌜ Lined (now (out .entry)) (refusedAtLine refusal place) r (now (out .exit)) ⌝ }
+{
+    if out.len() < ROOM {
+        return 0;
+    }
+    put_two(out, b"refused ", refusal as u64, b" at ", place)
 }

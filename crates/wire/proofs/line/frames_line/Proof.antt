@@ -1,4 +1,5 @@
 -- `wire::line::frames_line` meets its contract. Assumes nothing.
+use Rattle.wire.specs.Line.{framesWord, unsettledWord, framesLine}
 use Rattle.wire.proofs.Parts.{lined-not, lined-put}
 use borrow.Author.Needs.{needs}
 use Rattle.wire.proofs.line.frames_line.Statement.{statement}
@@ -7,14 +8,13 @@ use Rattle.wire.proofs.line.frames_line.Tie as tie
 returns : tie.Need-returns
 returns c = lined-not _ _ (c .if1 .taken)
 
-put-frames-requires : tie.Need-put-frames-requires
-put-frames-requires c κs = search needs
-
-same-length : tie.Need-same-length
-same-length c = search needs
-
 returns-2 : tie.Need-returns-2
-returns-2 c = lined-put _ _ _ _ (c .before .before .before .before .if1 .left) (c .before .before .put-frames .ensures)
+unfolding framesLine framesWord unsettledWord
+returns-2 c =
+    let after-line = c .before .before in
+    lined-put _ _ _ _ (after-line .before .before .before .before .if1 .left) (after-line .put-two .ensures)
 
 pub frames-line-spec : {M : Type 1} → statement M
-frames-line-spec = tie.close (tie.spec returns put-frames-requires same-length returns-2)
+frames-line-spec =
+    tie.close
+    (tie.spec returns (λ c. search needs) (λ c. search needs) (λ c κs. search needs) (λ c. search needs) returns-2)
