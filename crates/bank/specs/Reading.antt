@@ -1,17 +1,21 @@
--- Document 01, 'Filter bank file': "Every breach, in reading or writing, is 9, never 2, 3, 4 or 7. Reading fills lent lists of 8 azimuths and 8,192 taps in file order and returns rows and L;
--- entries beyond them stay. .. Other lengths are 5." And 'Refusal numbers': "A refusal returns its number, counts of 0, ..; lent memory stays the same." Definitions only.
+-- Document 01, 'Filter bank file': "Reading fills lent lists of 8 azimuths and 8,192 taps in file order and returns rows and L; entries beyond them stay. .. Other lengths are 5."
+-- Document 02, E2: "Each of the new numbers also returns the offset of the first byte of the offending field". And 'Refusal numbers' of document 01: "A refusal returns its number, counts of 0, ..;
+-- lent memory stays the same." Definitions only. 5 comes before the numbers of a bank, and has no place.
 use mathlib.Core.Path.{_≡_}
-use mathlib.Core.Bool.{not}
-use mathlib.Core.List.{List, [], _∷_}
+use mathlib.Core.Bool.{Bool}
+use mathlib.Core.List.{List}
 use Prim.Native.Nat.{ℕ, _*_}
-use lib.Dec.{eqb}
+use lib.Dec.{T, eqb}
 use lib.Ieee.{Float}
 use lib.IntN.{ℤ}
 use lib.ListN.{length, take}
-use Rattle.refusals.specs.Refusals.{Check, _when_, firstOf, answered}
+use Rattle.refusals.specs.Refusals.{answered}
 use Rattle.lists.specs.Placed.{placed}
+use Rattle.big_endian.specs.Bytes.{AreBytes}
+use Rattle.bank_form.specs.declared.Fault.{Fault}
 use Rattle.bank_form.specs.Bank.{Bank, rows}
-use Rattle.bank_form.specs.Fault.{bankIn, isFile}
+use Rattle.bank_form.specs.Fault.{bankIn, orElse, unless, faultIn, fault}
+use Rattle.bank_form.specs.FaultLaws.{Begins, suffices}
 use Rattle.bank_form.specs.File.{Exactly}
 use Rattle.bank.specs.declared.BankRead.{BankRead}
 
@@ -21,30 +25,51 @@ pub record ReadOutcome : Type 0 where
   pub azimuths : List ℤ
   pub taps : List Float
 
-abbrev pub readChecks : List ℕ → List ℤ → List Float → List Check
-readChecks file zs xs = 5 when not (eqb (length zs) 8) ∷ 5 when not (eqb (length xs) 8192) ∷ 9 when not (isFile file) ∷ []
+-- lists of other lengths, and then what is wrong with the bank
+abbrev pub readWrong : Fault → List ℤ → List Float → Fault
+readWrong bank zs xs = orElse (unless (eqb (length zs) 8) 5 0) (orElse (unless (eqb (length xs) 8192) 5 0) bank)
 
-unfoldable pub readRefusal : List ℕ → List ℤ → List Float → ℕ
-readRefusal file zs xs = firstOf (readChecks file zs xs)
-
-abbrev pub readRefused : ℕ → List ℤ → List Float → ReadOutcome
-readRefused n zs xs = record { answer = record { refusal = n; rows = 0; length = 0 }; azimuths = zs; taps = xs }
+abbrev pub readRefused : Fault → List ℤ → List Float → ReadOutcome
+readRefused f zs xs = record { answer = record { refusal = f .refusal; offset = f .offset; rows = 0; length = 0 }; azimuths = zs; taps = xs }
 
 -- the bank's entries, and beyond them what stood there
 abbrev pub readBank : Bank → List ℤ → List Float → ReadOutcome
 readBank b zs xs = record {
-  answer = record { refusal = 0; rows = rows b; length = b .length };
+  answer = record { refusal = 0; offset = 0; rows = rows b; length = b .length };
   azimuths = placed zs 0 (b .azimuths);
   taps = placed xs 0 (b .taps);
 }
 
+abbrev pub readAs : Fault → Bank → List ℤ → List Float → ReadOutcome
+readAs f b zs xs = answered (f .refusal) (readBank b zs xs) (λ n. readRefused f zs xs)
+
+-- ---- a whole file
+
+unfoldable pub readFault : List ℕ → List ℤ → List Float → Fault
+readFault file zs xs = readWrong (fault file) zs xs
+
 unfoldable pub readOutcome : List ℕ → List ℤ → List Float → ReadOutcome
-readOutcome file zs xs = answered (readRefusal file zs xs) (readBank (bankIn file) zs xs) (λ n. readRefused n zs xs)
+readOutcome file zs xs = readAs (readFault file zs xs) (bankIn file) zs xs
 
 pub record Reads (file : List ℕ) (zs : List ℤ) (xs : List Float) (o : ReadOutcome) : Type 0 where
   pub outcome : o ≡ readOutcome file zs xs
   pub exactly : Exactly file
 
--- the bank that a caller finds in its lists after an accepted reading
+-- ---- a file that is given by its start and its size
+
+-- a start that is not enough is a lent length that doesn't fit
+unfoldable pub startFault : List ℕ → ℕ → List ℤ → List Float → Fault
+startFault start size zs xs = readWrong (orElse (unless (suffices (length start) size) 5 0) (faultIn size start)) zs xs
+
+unfoldable pub startOutcome : List ℕ → ℕ → List ℤ → List Float → ReadOutcome
+startOutcome start size zs xs = readAs (startFault start size zs xs) (bankIn start) zs xs
+
+-- where it is enough, what reading any file leaves that has so many bytes and begins so
+pub record ReadsStart (start : List ℕ) (size : ℕ) (zs : List ℤ) (xs : List Float) (o : ReadOutcome) : Type 0 where
+  pub outcome : o ≡ startOutcome start size zs xs
+  pub each : (file : List ℕ) → AreBytes file → T (suffices (length start) size) → Begins start size file → Reads file zs xs o
+
+-- ---- the bank that a caller finds in its lists after an accepted reading
+
 abbrev pub bankFound : ReadOutcome → Bank
 bankFound o = record { azimuths = take (o .answer .rows) (o .azimuths); length = o .answer .length; taps = take (2 * o .answer .rows * o .answer .length) (o .taps) }

@@ -8,7 +8,7 @@ use native.Mathlib.Decide.{ℕ-discrete}
 use native.Mathlib.Omega.{arith}
 use borrow.Author.Tests.{eqb-true, leb-true}
 use lib.Dec.{T, eqb, leb}
-use lib.ListN.{length, take}
+use lib.ListN.{length, take, length-take}
 use lib.Seq.{take-length}
 use Rattle.big_endian.specs.Bytes.{AreBytes}
 use Rattle.big_endian.specs.Fields.{fieldAt}
@@ -18,7 +18,7 @@ use Rattle.refusals.proofs.Ranges.{within-true, within-low}
 use Rattle.bank_form.specs.declared.Fault.{Fault}
 use Rattle.bank_form.specs.Fault.{rowSize, largest, rowsIn, lengthIn, wrong, unless, orElse, headFault, headField, rowsFault, faultIn, fault}
 use Rattle.bank_form.specs.FaultLaws.{Begins, suffices, StartSuffices}
-use Rattle.bank_form.proofs.Walk.{else-stop, field-in, head-none, fault-is}
+use Rattle.bank_form.proofs.Walk.{else-stop, field-in, head-none, fault-is, whole}
 use Rattle.bank_form.proofs.Agree.{Agree, start-agrees, head-agrees, fault-agrees}
 use Rattle.bank_form.proofs.RoundTrip.{rows-reach}
 
@@ -54,18 +54,31 @@ enough-is have size h = go (eqb have size) (leb largest have) refl refl h
     go false true e f g = inr (leb-true largest have f)
     go false false e f g = absurd g
 
+-- a start as long as the file is the file
+all-of : (start : List ℕ) (size : ℕ) (file : List ℕ) → Begins start size file → length start ≡ size → file ≡ start
+all-of start size file begins e = sym (take-length file) ∙ ap (λ (n : ℕ). take n file) (begins .long ∙ sym e) ∙ begins .same
+
 told-by-start : (start : List ℕ) (size : ℕ) (file : List ℕ) → T (suffices (length start) size) → Begins start size file → faultIn size start ≡ fault file
 told-by-start start size file enough begins = ⊎-elim all some (enough-is (length start) size enough)
   where
     all : length start ≡ size → faultIn size start ≡ fault file
-    all e =
-        let same : file ≡ start = sym (take-length file) ∙ ap (λ (n : ℕ). take n file) (begins .long ∙ sym e) ∙ begins .same in
-        ap₂ faultIn (sym (begins .long)) (sym same)
+    all e = ap₂ faultIn (sym (begins .long)) (sym (all-of start size file begins e))
 
     some : largest ≤ length start → faultIn size start ≡ fault file
     some h =
         start-told size (length start) file start (start-agrees (length start) file start (take-length start ∙ sym (begins .same))) h
         ∙ ap (λ (n : ℕ). faultIn n file) (sym (begins .long))
+
+-- a file without fault is all in a start that is enough
+pub whole-start : (start : List ℕ) (size : ℕ) (file : List ℕ) → T (suffices (length start) size) → Begins start size file → faultIn size start .refusal ≡ 0 → file ≡ start
+whole-start start size file enough begins none =
+    let w = whole size start none in
+    let few = within-true 1 8 (rowsIn start) (w .head .few) .1 in
+    let short = within-true 1 512 (lengthIn start) (w .head .short) .1 in
+    let reach = rows-reach (rowsIn start) 8 (lengthIn start) few short in
+    let most = ap length (begins .same) in
+    let all : length start ≡ size = ⊎-elim (λ e. e) (λ h. omega (arith, h, reach, w .all .ends, begins .long, sym most ∙ length-take (length start) file)) (enough-is (length start) size enough) in
+    all-of start size file begins all
 
 -- ---- a file that is longer than a length field can say
 

@@ -24,7 +24,7 @@ use Rattle.bank_form.specs.Bank.{Bank, rows, inRange, differ, isTap, pai
 use Rattle.bank_form.specs.Encoding.{encode}
 use Rattle.bank_form.specs.Fault.{rowSize, azimuthsFrom, rowTaps, tapsFrom, rowsIn, lengthIn, bankIn, sound, orElse, unless, field, tapsFault, isNew, rowFault, rowsFault, headField, headFault, faultIn, fault}
 use Rattle.bank_form.specs.Holds.{Holds}
-use Rattle.bank_form.specs.WriteFault.{tapsWrong, rowsWrong, writeFault}
+use Rattle.bank_form.specs.WriteFault.{tapsWrong, rowsWrong, countsWrong, writeFault}
 use Rattle.bank_form.specs.FaultLaws.{WriterAsReader}
 use Rattle.bank_form.proofs.Lists.{exchange, taps-more}
 use Rattle.bank_form.proofs.Walk.{else-assoc, field-in, tap-is, fault-is}
@@ -73,7 +73,7 @@ module _ (b : Bank) (s : List ℕ) (w : Written b s) where
   size-nine : 9 ≤ length s
   size-nine = omega (arith, w .size)
 
-  head-as-written : headFault (length s) s ≡ orElse (unless (within 1 8 (rows b)) 15 5) (unless (within 1 512 (b .length)) 16 7)
+  head-as-written : headFault (length s) s ≡ countsWrong (rows b) (b .length)
   unfolding headFault headField orElse
   head-as-written =
       let size = length s in
@@ -97,8 +97,7 @@ module _ (b : Bank) (s : List ℕ) (w : Written b s) where
       let all = rows-as-written (length s) s (lengthIn s) 0 9 (rowsIn s) (omega arith) (w .size) in
       fault-is (length s) s
       ∙ ap₂ orElse head-as-written (all ∙ ap (λ (zs : List ℤ). rowsWrong zs (bankIn s .azimuths) (bankIn s .length) (bankIn s .taps) 9) (strided-none (signedAt s) (rowSize (lengthIn s)) 9))
-      ∙ ap (λ (c : Bank). orElse (orElse (unless (within 1 8 (rows b)) 15 5) (unless (within 1 512 (b .length)) 16 7)) (rowsWrong [] (c .azimuths) (c .length) (c .taps) 9)) (w .same)
-      ∙ else-assoc _ _ _
+      ∙ ap (λ (c : Bank). orElse (countsWrong (rows b) (b .length)) (rowsWrong [] (c .azimuths) (c .length) (c .taps) 9)) (w .same)
 
 pub writer-as-reader : WriterAsReader
 writer-as-reader b h = sym (written-fault b (encode b) (read-write b h))
@@ -169,18 +168,19 @@ none-before : (zs : List ℤ) → every (λ (z : ℤ). every (λ (y : ℤ). diff
 none-before [] = refl
 none-before (z ∷ zs) = none-before zs
 
-ending : (a b c d e : Bool) → (a && (b && (c && d && e))) ≡ (a && b && true && c && d && e)
+ending : (a b c d e : Bool) → (a && b && (c && d && e)) ≡ (a && b && true && c && d && e)
 ending false b c d e = refl
 ending true false c d e = refl
 ending true true c d e = refl
 
 pub write-none : (b : Bank) → length (b .taps) ≡ 2 * rows b * b .length → eqb (writeFault b .refusal) 0 ≡ valid b
 unfolding writeFault valid
-write-none b n = 
+write-none b n =
+    let rest = rowsWrong [] (b .azimuths) (b .length) (b .taps) 9 in
     rw (
-      none-else (unless (within 1 8 (rows b)) 15 5) (orElse (unless (within 1 512 (b .length)) 16 7) (rowsWrong [] (b .azimuths) (b .length) (b .taps) 9)),
+      none-else (countsWrong (rows b) (b .length)) rest,
+      none-else (unless (within 1 8 (rows b)) 15 5) (unless (within 1 512 (b .length)) 16 7),
       none-unless (within 1 8 (rows b)) 15 5 (omega arith),
-      none-else (unless (within 1 512 (b .length)) 16 7) (rowsWrong [] (b .azimuths) (b .length) (b .taps) 9),
       none-unless (within 1 512 (b .length)) 16 7 (omega arith),
       none-rows [] (b .azimuths) (b .length) (b .taps) 9 (n ∙ omega arith),
       none-before (b .azimuths),
