@@ -1,60 +1,142 @@
 -- What reading and writing answer at each of their tests, and what a caller learns from an answer. Assumes nothing.
-use mathlib.Core.Path.{_≡_, refl, sym, ap, _∙_}
-use mathlib.Core.Bool.{Bool, true, false, not, cond, _&&_, and-false, and-eq-true-iff}
+use mathlib.Core.Path.{_≡_, refl, sym, ap, ap₂, _∙_}
+use mathlib.Core.Bool.{Bool, true, false, _&&_, and-false, and-eq-true-iff}
 use mathlib.Core.List.{List}
-use Prim.Native.Nat.{ℕ, _+_, _-_, _*_, _≤_, _<_}
+use Prim.Native.Nat.{ℕ, zero, suc, _+_, _-_, _*_, _≤_, _<_}
 use native.Mathlib.Decide.{ℕ-discrete}
 use native.Mathlib.Omega.{arith}
 use borrow.Author.Tests.{eq-eqb, ne-eqb, eqb-true}
-use lib.Dec.{eqb}
+use lib.Dec.{T, eqb}
 use lib.Ieee.{Float}
 use lib.IntN.{ℤ}
 use lib.ListN.{length}
-use Rattle.refusals.proofs.First.{stops, goes-on, answered-accepted, answered-by}
-use Rattle.checks.proofs.Checks.{equal-passes, other-fails}
+use Rattle.refusals.specs.Refusals.{answered}
+use Rattle.refusals.proofs.First.{answered-accepted, answered-refused}
 use Rattle.lists.specs.Placed.{placed}
-use Rattle.bank_form.specs.Bank.{Bank, rows, valid}
+use Rattle.bank_form.specs.declared.Fault.{Fault}
+use Rattle.bank_form.specs.Bank.{Bank, rows}
 use Rattle.bank_form.specs.Encoding.{encode}
-use Rattle.bank_form.specs.Fault.{rowSize, azimuthsFrom, tapsFrom, rowsIn, lengthIn, bankIn, isFile}
-use Rattle.bank_form.proofs.Exact.{rows-in, keeps}
+use Rattle.bank_form.specs.Fault.{rowSize, azimuthsFrom, tapsFrom, rowsIn, lengthIn, bankIn, wrong, orElse, unless, faultIn}
+use Rattle.bank_form.specs.FaultLaws.{Begins, suffices}
+use Rattle.bank_form.specs.WriteFault.{writeFault}
+use Rattle.bank_form.proofs.Exact.{rows-in}
+use Rattle.bank_form.proofs.Walk.{else-none, unless-none}
+use Rattle.bank_form.proofs.Start.{start-suffices, whole-start}
 use Rattle.bank_form.proofs.RoundTrip.{length-encode}
-use Rattle.refusals.proofs.Ranges.{within-true}
-use Rattle.bank.specs.Reading.{ReadOutcome, readRefusal, readRefused, readBank, readOutcome}
-use Rattle.bank.specs.Writing.{WriteOutcome, writeRefusal, writeRefused, writeBank, writeOutcome}
+use Rattle.bank.specs.Reading.{ReadOutcome, readWrong, readRefused, readBank, readAs, readFault, readOutcome, startFault, startOutcome}
+use Rattle.bank.specs.Writing.{WriteOutcome, writeWrong, writeRefused, writeBank, writeOutcome}
+
+-- ---- an answer by a fault
+
+-- what an answer tells is the fault's number
+module _ {A : Type 0} (told : A → ℕ) (accepted refused : A) where
+  pub told-is : (n : ℕ) → told accepted ≡ 0 → told refused ≡ n → told (answered n accepted (λ k. refused)) ≡ n
+  told-is zero e f = e
+  told-is (suc n) e f = f
+
+-- a test that is passed, and one that is not
+passes : (good : Bool) (n at : ℕ) (f : Fault) → good ≡ true → orElse (unless good n at) f ≡ f
+unfolding orElse
+passes good n at f e = rw e
+
+pub fails : (good : Bool) (n at : ℕ) (f : Fault) → 0 < n → good ≡ false → orElse (unless good n at) f ≡ wrong n at
+unfolding orElse
+fails good n at f h e = rw (e, ne-eqb n 0 (λ z. omega (arith, h, z)))
+
+-- ---- reading
+
+module _ (zs : List ℤ) (xs : List Float) where
+  as-refused : (f g : Fault) (b : Bank) → f ≡ g → (g .refusal ≡ 0 → ⊥) → readRefused g zs xs ≡ readAs f b zs xs
+  as-refused f g b e bad = sym (answered-refused _ (λ k. readRefused f zs xs) (f .refusal) (λ z. bad (ap (λ (q : Fault). q .refusal) (sym e) ∙ z)) ∙ ap (λ (q : Fault). readRefused q zs xs) e)
+
+  as-read : (f : Fault) (b : Bank) → f .refusal ≡ 0 → readBank b zs xs ≡ readAs f b zs xs
+  as-read f b e = sym (answered-accepted _ (λ k. readRefused f zs xs) (f .refusal) e)
+
+  pub as-told : (f : Fault) (b : Bank) → readAs f b zs xs .answer .refusal ≡ f .refusal
+  as-told f b = told-is (λ (o : ReadOutcome). o .answer .refusal) (readBank b zs xs) (readRefused f zs xs) (f .refusal) refl refl
+
+  -- two banks of which none is read
+  as-same : (f g : Fault) (b c : Bank) → f ≡ g → (f .refusal ≡ 0 → b ≡ c) → readAs f b zs xs ≡ readAs g c zs xs
+  as-same f g b c e same =
+      elim (ℕ-discrete (f .refusal) 0) [
+        | yes z ↦ ap₂ (λ (q : Fault) (r : Bank). readAs q r zs xs) e (same z)
+        | no bad ↦ sym (as-refused f f b refl bad) ∙ as-refused g f c (sym e) bad
+      ]
+
+  wrong-azimuths : (bank : Fault) → (length zs ≡ 8 → ⊥) → readWrong bank zs xs ≡ wrong 5 0
+  wrong-azimuths bank h = fails _ 5 0 _ (omega arith) (ne-eqb (length zs) 8 h)
+
+  wrong-taps : (bank : Fault) → length zs ≡ 8 → (length xs ≡ 8192 → ⊥) → readWrong bank zs xs ≡ wrong 5 0
+  wrong-taps bank e h = passes _ 5 0 _ (eq-eqb (length zs) 8 e) ∙ fails _ 5 0 _ (omega arith) (ne-eqb (length xs) 8192 h)
+
+  right-lists : (bank : Fault) → length zs ≡ 8 → length xs ≡ 8192 → readWrong bank zs xs ≡ bank
+  right-lists bank e f = passes _ 5 0 _ (eq-eqb (length zs) 8 e) ∙ passes _ 5 0 _ (eq-eqb (length xs) 8192 f)
+
+  pub record Accepted (bank : Fault) : Type 0 where
+    pub eight : length zs ≡ 8
+    pub most : length xs ≡ 8192
+    pub none : bank .refusal ≡ 0
+
+  pub lists-accepted : (bank : Fault) → readWrong bank zs xs .refusal ≡ 0 → Accepted bank
+  lists-accepted bank e =
+      let first = else-none (unless (eqb (length zs) 8) 5 0) _ e in
+      let second = else-none (unless (eqb (length xs) 8192) 5 0) bank (first .1) in
+      record { eight = eqb-true _ _ (unless-none _ 5 0 (omega arith) (first .0)); most = eqb-true _ _ (unless-none _ 5 0 (omega arith) (second .0)); none = second .1 }
+
+  -- ---- of a start
+
+  module _ (start : List ℕ) (size : ℕ) where
+    pub azimuths-lent : (length zs ≡ 8 → ⊥) → readRefused (wrong 5 0) zs xs ≡ startOutcome start size zs xs
+    unfolding startOutcome startFault
+    azimuths-lent h = as-refused _ (wrong 5 0) _ (wrong-azimuths _ h) (λ z. omega (arith, z))
+
+    module _ (eight : length zs ≡ 8) where
+      pub taps-lent : (length xs ≡ 8192 → ⊥) → readRefused (wrong 5 0) zs xs ≡ startOutcome start size zs xs
+      unfolding startOutcome startFault
+      taps-lent h = as-refused _ (wrong 5 0) _ (wrong-taps _ eight h) (λ z. omega (arith, z))
+
+      module _ (most : length xs ≡ 8192) where
+        pub start-lent : suffices (length start) size ≡ false → readRefused (wrong 5 0) zs xs ≡ startOutcome start size zs xs
+        unfolding startOutcome startFault
+        start-lent h = as-refused _ (wrong 5 0) _ (right-lists _ eight most ∙ fails _ 5 0 _ (omega arith) h) (λ z. omega (arith, z))
+
+        module _ (enough : suffices (length start) size ≡ true) where
+          judged : startFault start size zs xs ≡ faultIn size start
+          unfolding startFault
+          judged = right-lists _ eight most ∙ passes _ 5 0 _ enough
+
+          pub broken : (r : Fault) → r ≡ faultIn size start → (r .refusal ≡ 0 → ⊥) → readRefused r zs xs ≡ startOutcome start size zs xs
+          unfolding startOutcome
+          broken r e bad = as-refused _ r _ (judged ∙ sym e) bad
+
+          pub accepted : faultIn size start .refusal ≡ 0 → readBank (bankIn start) zs xs ≡ startOutcome start size zs xs
+          unfolding startOutcome
+          accepted none = as-read _ _ (ap (λ (f : Fault). f .refusal) judged ∙ none)
+
+    -- what is left of a file that begins so is what reading it leaves
+    module _ (file : List ℕ) (enough : T (suffices (length start) size)) (begins : Begins start size file) where
+      start-fault : startFault start size zs xs ≡ readFault file zs xs
+      unfolding startFault readFault
+      start-fault = ap (λ (f : Fault). readWrong f zs xs) (passes _ 5 0 _ (T-true _ enough) ∙ start-suffices .enough start size file enough begins)
+
+      whole-file : startFault start size zs xs .refusal ≡ 0 → bankIn start ≡ bankIn file
+      unfolding startFault
+      whole-file e =
+          let none = else-none (unless (suffices (length start) size) 5 0) (faultIn size start) (lists-accepted _ e .none) in
+          ap bankIn (sym (whole-start start size file enough begins (none .1)))
+
+      pub start-reads : startOutcome start size zs xs ≡ readOutcome file zs xs
+      unfolding startOutcome readOutcome
+      start-reads = as-same _ _ _ _ start-fault whole-file
 
 module _ (file : List ℕ) (zs : List ℤ) (xs : List Float) where
-  read-refused : (n : ℕ) → 0 < n → readRefusal file zs xs ≡ n → readRefused n zs xs ≡ readOutcome file zs xs
-  unfolding readOutcome
-  read-refused n h e = answered-by _ (λ k. readRefused k zs xs) _ n h e
-
-  pub azimuths-lent : (length zs ≡ 8 → ⊥) → readRefused 5 zs xs ≡ readOutcome file zs xs
-  unfolding readRefusal
-  azimuths-lent h = read-refused 5 (omega arith) (stops _ _ (other-fails (length zs) 8 h))
-
-  module _ (eight : length zs ≡ 8) where
-    pub taps-lent : (length xs ≡ 8192 → ⊥) → readRefused 5 zs xs ≡ readOutcome file zs xs
-    unfolding readRefusal
-    taps-lent h = read-refused 5 (omega arith) (goes-on _ _ (equal-passes (length zs) 8 eight) ∙ stops _ _ (other-fails (length xs) 8192 h))
-
-    module _ (most : length xs ≡ 8192) where
-      judged : readRefusal file zs xs ≡ cond (not (isFile file)) 9 0
-      unfolding readRefusal
-      judged = goes-on _ _ (equal-passes (length zs) 8 eight) ∙ goes-on _ _ (equal-passes (length xs) 8192 most)
-
-      pub broken : isFile file ≡ false → readRefused 9 zs xs ≡ readOutcome file zs xs
-      broken h = read-refused 9 (omega arith) (judged ∙ stops _ _ (ap not h))
-
-      pub accepted : isFile file ≡ true → readBank (bankIn file) zs xs ≡ readOutcome file zs xs
-      unfolding readOutcome
-      accepted h = sym (answered-accepted _ (λ k. readRefused k zs xs) _ (judged ∙ goes-on 9 0 (ap not h)))
-
   -- what stands in the lists once the rows are filled in
   pub filled : (n l : ℕ) (ys : List ℤ) (ws : List Float) → n ≡ rowsIn file → l ≡ lengthIn file → ys ≡ placed zs 0 (azimuthsFrom file l 9 n) → ws ≡ placed xs 0 (tapsFrom file l 9 n)
-      → _≡_ {A = ReadOutcome} (record { answer = record { refusal = 0; rows = n; length = l }; azimuths = ys; taps = ws }) (readBank (bankIn file) zs xs)
+      → _≡_ {A = ReadOutcome} (record { answer = record { refusal = 0; offset = 0; rows = n; length = l }; azimuths = ys; taps = ws }) (readBank (bankIn file) zs xs)
   filled n l ys ws e f g h =
       let zs′ : ys ≡ placed zs 0 (bankIn file .azimuths) = rw (e, f) at g in
       let xs′ : ws ≡ placed xs 0 (bankIn file .taps) = rw (e, f) at h in
-      λ i. record { answer = record { refusal = 0; rows = (e ∙ sym (rows-in file)) i; length = f i }; azimuths = zs′ i; taps = xs′ i }
+      λ i. record { answer = record { refusal = 0; offset = 0; rows = (e ∙ sym (rows-in file)) i; length = f i }; azimuths = zs′ i; taps = xs′ i }
 
 -- ---- the lengths that writing is lent
 
@@ -75,48 +157,28 @@ module _ (taps n l file : ℕ) where
 
 -- ---- writing
 
-valid-not : (b : Bank) → (valid b ≡ true → ⊥) → valid b ≡ false
-valid-not b h = go (valid b) refl
-  where
-    go : (t : Bool) → valid b ≡ t → t ≡ false
-    go true e = absurd (h e)
-    go false e = refl
-
-pub many-rows : (b : Bank) → 8 < rows b → valid b ≡ false
-many-rows b h = valid-not b (λ e. let few = within-true 1 8 (rows b) (keeps b e .few) in omega arith)
-
-pub long-taps : (b : Bank) → 512 < b .length → valid b ≡ false
-long-taps b h = valid-not b (λ e. let short = within-true 1 512 (b .length) (keeps b e .short) in omega arith)
-
 module _ (b : Bank) (file : List ℕ) where
   -- the lengths fit
   pub record Lent : Type 0 where
     pub count : length (b .taps) ≡ 2 * rows b * b .length
     pub size : length file ≡ length (encode b)
 
-  write-refused : (n : ℕ) → 0 < n → writeRefusal b file ≡ n → writeRefused n file ≡ writeOutcome b file
+  write-refused : (f : Fault) → writeWrong b file ≡ f → (f .refusal ≡ 0 → ⊥) → writeRefused f file ≡ writeOutcome b file
   unfolding writeOutcome
-  write-refused n h e = answered-by _ (λ k. writeRefused k file) _ n h e
+  write-refused f e bad =
+      sym (answered-refused _ (λ k. writeRefused (writeWrong b file) file) (writeWrong b file .refusal) (λ z. bad (ap (λ (q : Fault). q .refusal) (sym e) ∙ z))
+      ∙ ap (λ (q : Fault). writeRefused q file) e)
 
   file-size : length (b .taps) ≡ 2 * rows b * b .length → length (encode b) ≡ 9 + rows b * rowSize (b .length)
   file-size e = length-encode b (e ∙ omega arith)
 
-  taps-unlent : eqb (length (b .taps)) (2 * rows b * b .length) ≡ false → writeRefused 5 file ≡ writeOutcome b file
-  unfolding writeRefusal
-  taps-unlent e = write-refused 5 (omega arith) (stops _ _ (ap not e))
-
-  file-unlent : eqb (length (b .taps)) (2 * rows b * b .length) ≡ true → eqb (length file) (9 + rows b * rowSize (b .length)) ≡ false → writeRefused 5 file ≡ writeOutcome b file
-  unfolding writeRefusal
-  file-unlent e f =
-      let other = ap (eqb (length file)) (file-size (eqb-true _ _ e)) ∙ f in
-      write-refused 5 (omega arith) (goes-on _ _ (ap not e) ∙ stops _ _ (ap not other))
-
-  pub unlent : (eqb (length (b .taps)) (2 * rows b * b .length) && eqb (length file) (9 + rows b * rowSize (b .length))) ≡ false → writeRefused 5 file ≡ writeOutcome b file
-  unlent h = go (eqb (length (b .taps)) (2 * rows b * b .length)) refl
+  pub unlent : (eqb (length (b .taps)) (2 * rows b * b .length) && eqb (length file) (9 + rows b * rowSize (b .length))) ≡ false → writeRefused (wrong 5 0) file ≡ writeOutcome b file
+  unfolding writeWrong
+  unlent h = write-refused (wrong 5 0) (go (eqb (length (b .taps)) (2 * rows b * b .length)) refl) (λ z. omega (arith, z))
     where
-      go : (t : Bool) → eqb (length (b .taps)) (2 * rows b * b .length) ≡ t → writeRefused 5 file ≡ writeOutcome b file
-      go true e = file-unlent e (rw e at h)
-      go false e = taps-unlent e
+      go : (t : Bool) → eqb (length (b .taps)) (2 * rows b * b .length) ≡ t → writeWrong b file ≡ wrong 5 0
+      go true e = passes _ 5 0 _ e ∙ fails _ 5 0 _ (omega arith) (ap (eqb (length file)) (file-size (eqb-true _ _ e)) ∙ rw e at h)
+      go false e = fails _ 5 0 _ (omega arith) e
 
   pub lent : (eqb (length (b .taps)) (2 * rows b * b .length) && eqb (length file) (9 + rows b * rowSize (b .length))) ≡ true → Lent
   lent h =
@@ -124,16 +186,23 @@ module _ (b : Bank) (file : List ℕ) where
       let count = eqb-true _ _ (both .0) in
       record { count = count; size = eqb-true _ _ (both .1) ∙ sym (file-size count) }
 
-  judged-bank : Lent → writeRefusal b file ≡ cond (not (valid b)) 9 0
-  unfolding writeRefusal
-  judged-bank l = goes-on _ _ (equal-passes (length (b .taps)) (2 * rows b * b .length) (l .count)) ∙ goes-on _ _ (equal-passes (length file) (length (encode b)) (l .size))
+  judged-bank : Lent → writeWrong b file ≡ writeFault b
+  unfolding writeWrong
+  judged-bank l = passes _ 5 0 _ (eq-eqb _ _ (l .count)) ∙ passes _ 5 0 _ (eq-eqb _ _ (l .size))
 
-  pub breaks : Lent → valid b ≡ false → writeRefused 9 file ≡ writeOutcome b file
-  breaks l h = write-refused 9 (omega arith) (judged-bank l ∙ stops _ _ (ap not h))
+  pub breaks : Lent → (r : Fault) → r ≡ writeFault b → (r .refusal ≡ 0 → ⊥) → writeRefused r file ≡ writeOutcome b file
+  breaks l r e bad = write-refused r (judged-bank l ∙ sym e) bad
 
-  pub written : Lent → valid b ≡ true → writeBank b ≡ writeOutcome b file
+  pub written : Lent → writeFault b .refusal ≡ 0 → writeBank b ≡ writeOutcome b file
   unfolding writeOutcome
-  written l h = sym (answered-accepted _ (λ k. writeRefused k file) _ (judged-bank l ∙ goes-on 9 0 (ap not h)))
+  written l none = sym (answered-accepted _ (λ k. writeRefused (writeWrong b file) file) _ (ap (λ (f : Fault). f .refusal) (judged-bank l) ∙ none))
 
-  pub wrote : (n : ℕ) (last : List ℕ) → n ≡ length (encode b) → last ≡ encode b → _≡_ {A = WriteOutcome} (record { answer = record { refusal = 0; bytes = n }; file = last }) (writeBank b)
-  wrote n last e f = λ i. record { answer = record { refusal = 0; bytes = e i }; file = f i }
+  pub wrote : (n : ℕ) (last : List ℕ) → n ≡ length (encode b) → last ≡ encode b → _≡_ {A = WriteOutcome} (record { answer = record { refusal = 0; offset = 0; bytes = n }; file = last }) (writeBank b)
+  wrote n last e f = λ i. record { answer = record { refusal = 0; offset = 0; bytes = e i }; file = f i }
+
+  pub written-lengths : writeWrong b file .refusal ≡ 0 → Lent × (writeFault b .refusal ≡ 0)
+  unfolding writeWrong
+  written-lengths e =
+      let first = else-none (unless (eqb (length (b .taps)) (2 * rows b * b .length)) 5 0) _ e in
+      let second = else-none (unless (eqb (length file) (length (encode b))) 5 0) (writeFault b) (first .1) in
+      (record { count = eqb-true _ _ (unless-none _ 5 0 (omega arith) (first .0)); size = eqb-true _ _ (unless-none _ 5 0 (omega arith) (second .0)) }, second .1)

@@ -4,8 +4,11 @@
 // `read` fills lent lists from a file, `write` fills a lent buffer with the file of a bank. Both take any
 // input. Their promises: a file is accepted exactly if it is the encoding of a bank that keeps the form, and
 // what is filled in is that bank; a bank is accepted exactly if it keeps the form, and what is filled in is
-// its encoding; on a refusal nothing lent changes. What is written reads as the same bank, and what is read
-// is written as the same bytes.
+// its encoding; a refusal tells what is wrong and at which byte (document 02, E2), and nothing lent changes.
+// What is written reads as the same bank, and what is read is written as the same bytes. `read_start` is for
+// a file of which a caller keeps the start alone, because it is longer than any bank.
+use bank_form::Fault;
+use bank_form::LARGEST;
 ghost use mathlib.Core.Path.{_≡_};
 ghost use mathlib.Core.Bool.{_&&_};
 ghost use lib.Dec.{eqb};
@@ -22,42 +25,52 @@ ghost use Rattle.big_endian.specs.Lists.{strided, floatBytes};
 ghost use Rattle.bank_form.specs.Encoding.{rowBytes, headBytes, encode};
 ghost use Rattle.lists.specs.Each.{Each};
 ghost use Rattle.bank_form.specs.Holds.{IsAzimuth};
-ghost use Rattle.bank_form.specs.Fault.{rowSize, azimuthsFrom, tapsFrom};
-ghost use Rattle.bank.specs.Reading.{Reads};
+ghost use Rattle.bank_form.specs.Fault.{rowSize, largest, azimuthsFrom, tapsFrom};
+ghost use Rattle.bank_form.specs.WriteFault.{countsWrong};
+ghost use Rattle.bank_form.specs.FaultLaws.{suffices};
+ghost use Rattle.bank.specs.Reading.{ReadsStart, Reads};
 ghost use Rattle.bank.specs.Writing.{Writes};
 
-// What reading answers: a refusal, or 0 with the rows and L.
+// What reading answers: a refusal, with the offset of the field that is wrong, or 0 with the rows and L.
 pub struct BankRead {
     pub refusal: u8,
+    pub offset: usize,
     pub rows: usize,
     pub length: usize,
 }
 
-// What writing answers: a refusal, or 0 with the bytes of the file.
+// What writing answers: a refusal, with the offset at which the field that is wrong would stand, or 0 with the
+// bytes of the file.
 pub struct BankWritten {
     pub refusal: u8,
+    pub offset: usize,
     pub bytes: usize,
 }
 
-// Every breach of the form, in reading or writing, is refused with this number.
-const BREACH: u8 = 9;
+// A lent length that doesn't fit is refused with this number. It has no place in a file.
+const UNFIT: u8 = 5;
 
 // A refusal to read.
-fn unread(refusal: u8) -> BankRead
-    ensures { λ r. ⌜ r ≡ record { refusal = refusal; rows = 0; length = 0 } ⌝ }
+fn unread(refusal: u8, offset: usize) -> BankRead
+    ensures { λ r. ⌜ r ≡ record { refusal = refusal; offset = offset; rows = 0; length = 0 } ⌝ }
 {
     BankRead {
         refusal,
+        offset,
         rows: 0,
         length: 0,
     }
 }
 
 // A refusal to write.
-fn unwritten(refusal: u8) -> BankWritten
-    ensures { λ r. ⌜ r ≡ record { refusal = refusal; bytes = 0 } ⌝ }
+fn unwritten(refusal: u8, offset: usize) -> BankWritten
+    ensures { λ r. ⌜ r ≡ record { refusal = refusal; offset = offset; bytes = 0 } ⌝ }
 {
-    BankWritten { refusal, bytes: 0 }
+    BankWritten {
+        refusal,
+        offset,
+        bytes: 0,
+    }
 }
 
 // Where row i starts in a file.
@@ -65,7 +78,7 @@ fn row_at(i: usize, l: usize) -> usize
     requires { ⌜ (i < 8) × (l ≤ 512) ⌝ }
     ensures { λ r. ⌜ (r ≡ 9 + i * rowSize l) × (r ≤ 28695) ⌝ }
 {
-    9 + i * (2 + 8 * l)
+    9 + i * bank_form::row_size(l)
 }
 
 // Where the taps of row i start in a list of taps.
@@ -78,7 +91,7 @@ fn tap_at(i: usize, l: usize) -> usize
 
 // Fills n taps, which stand from `at` on, into the list from q on.
 fn fill_taps(file: &[u8], at: usize, n: usize, taps: &mut [f32], q: usize)
-    requires { ⌜ (at + 4 * n ≤ 32793) × (q + n ≤ length (now taps)) ⌝ }
+    requires { ⌜ (at + 4 * n ≤ largest) × (q + n ≤ length (now taps)) ⌝ }
     ensures { λ _. ⌜ now (taps .exit) ≡ placed (now (taps .entry)) q (strided (floatAt (now (file .entry))) 4 at n) ⌝ }
 {
     let mut k = 0;
@@ -103,28 +116,54 @@ fn fill_rows(file: &[u8], l: usize, n: usize, azimuths: &mut [i16], taps: &mut [
     }
 }
 
+// Whether so many bytes are all of a file of `size` bytes, or as many of its first as the largest bank has.
+fn is_enough(have: usize, size: usize) -> bool
+    ensures { λ r. ⌜ r ≡ suffices have size ⌝ }
+{
+    if have == size {
+        return true;
+    }
+    if have < LARGEST {
+        return false;
+    }
+    have <= size
+}
+
+// Reads a file of `size` bytes that begins with these into lists of 8 azimuths and 8,192 taps, once all of it is known
+// to keep the form. The start is the whole file, or its first 32,793 bytes or more: a longer file is no bank, and its
+// start and its size tell what is wrong with it. A shorter start is refused with 5.
+pub fn read_start(start: &[u8], size: usize, azimuths: &mut [i16], taps: &mut [f32]) -> BankRead
+    ensures { λ r. ⌜ ReadsStart (now (start .entry)) size (now (azimuths .entry)) (now (taps .entry)) (record { answer = r; azimuths = now (azimuths .exit); taps = now (taps .exit) }) ⌝ }
+{
+    if azimuths.len() != 8 {
+        return unread(UNFIT, 0);
+    }
+    if taps.len() != 8192 {
+        return unread(UNFIT, 0);
+    }
+    if !is_enough(start.len(), size) {
+        return unread(UNFIT, 0);
+    }
+    let fault = bank_check::check_start(start, size);
+    if fault.refusal != 0 {
+        return unread(fault.refusal, fault.offset);
+    }
+    let rows = big_endian::get(start, 5, 2) as usize;
+    let length = big_endian::get(start, 7, 2) as usize;
+    fill_rows(start, length, rows, azimuths, taps);
+    BankRead {
+        refusal: 0,
+        offset: 0,
+        rows,
+        length,
+    }
+}
+
 // Reads a file into lists of 8 azimuths and 8,192 taps, once all of it is known to keep the form.
 pub fn read(file: &[u8], azimuths: &mut [i16], taps: &mut [f32]) -> BankRead
     ensures { λ r. ⌜ Reads (now (file .entry)) (now (azimuths .entry)) (now (taps .entry)) (record { answer = r; azimuths = now (azimuths .exit); taps = now (taps .exit) }) ⌝ }
 {
-    if azimuths.len() != 8 {
-        return unread(5);
-    }
-    if taps.len() != 8192 {
-        return unread(5);
-    }
-    let fault = bank_check::check_file(file);
-    if fault.refusal != 0 {
-        return unread(BREACH);
-    }
-    let rows = big_endian::get(file, 5, 2) as usize;
-    let length = big_endian::get(file, 7, 2) as usize;
-    fill_rows(file, length, rows, azimuths, taps);
-    BankRead {
-        refusal: 0,
-        rows,
-        length,
-    }
+    read_start(file, file.len(), azimuths, taps)
 }
 
 // Puts n taps of the list, from q on, into the file from `at` on.
@@ -151,7 +190,7 @@ fn put_row(z: i16, l: usize, taps: &[f32], q: usize, file: &mut [u8], at: usize)
 // Puts the rows of a bank behind the head. That each azimuth is one of sixteen bits is known once it is
 // read, so it is told here.
 fn put_rows(azimuths: &[i16], l: usize, taps: &[f32], file: &mut [u8])
-    requires { ⌜ (l ≤ 512) × (length (now azimuths) ≤ 8) × (length (now taps) ≡ length (now azimuths) * (2 * l)) × (length (now file) ≡ 32793) ⌝ }
+    requires { ⌜ (l ≤ 512) × (length (now azimuths) ≤ 8) × (length (now taps) ≡ length (now azimuths) * (2 * l)) × (length (now file) ≡ largest) ⌝ }
     ensures bytes { λ _. ⌜ now (file .exit) ≡ placed (now (file .entry)) 9 (rowBytes (now (azimuths .entry)) l (now (taps .entry))) ⌝ }
     ensures azimuths { λ _. ⌜ Each IsAzimuth (pos 0) (now (azimuths .entry)) ⌝ }
 {
@@ -175,7 +214,7 @@ fn put_head(file: &mut [u8], rest: u64, rows: u64, l: u64)
 
 // Puts a bank from the start on; its file is `size` bytes long.
 fn put_bank(azimuths: &[i16], l: usize, taps: &[f32], file: &mut [u8], size: usize)
-    requires { ⌜ (l ≤ 512) × (length (now azimuths) ≤ 8) × (length (now taps) ≡ length (now azimuths) * (2 * l)) × (size ≡ 9 + length (now azimuths) * rowSize l) × (length (now file) ≡ 32793) ⌝ }
+    requires { ⌜ (l ≤ 512) × (length (now azimuths) ≤ 8) × (length (now taps) ≡ length (now azimuths) * (2 * l)) × (size ≡ 9 + length (now azimuths) * rowSize l) × (length (now file) ≡ largest) ⌝ }
     ensures bytes { λ _. ⌜ now (file .exit) ≡ placed (now (file .entry)) 0 (encode (record { azimuths = now (azimuths .entry); length = l; taps = now (taps .entry) })) ⌝ }
     ensures azimuths { λ _. ⌜ Each IsAzimuth (pos 0) (now (azimuths .entry)) ⌝ }
 {
@@ -205,19 +244,42 @@ fn write_checked(
     file: &mut [u8],
     made: &mut [u8],
 ) -> BankWritten
-    requires { ⌜ (l ≤ 512) × (length (now azimuths) ≤ 8) × (length (now taps) ≡ length (now azimuths) * (2 * l)) × (length (now file) ≡ 9 + length (now azimuths) * rowSize l) × (length (now made) ≡ 32793) ⌝ }
+    requires { ⌜ (l ≤ 512) × (length (now azimuths) ≤ 8) × (length (now taps) ≡ length (now azimuths) * (2 * l)) × (length (now file) ≡ 9 + length (now azimuths) * rowSize l) × (length (now made) ≡ largest) ⌝ }
     ensures { λ r. ⌜ Writes (record { azimuths = now (azimuths .entry); length = l; taps = now (taps .entry) }) (now (file .entry)) (record { answer = r; file = now (file .exit) }) ⌝ }
 {
     let size = file.len();
     put_bank(azimuths, l, taps, made, size);
     let found = bank_check::check_file(&made[..size]);
     if found.refusal != 0 {
-        return unwritten(BREACH);
+        return unwritten(found.refusal, found.offset);
     }
     bytes::copy(&made[..size], file);
     BankWritten {
         refusal: 0,
+        offset: 0,
         bytes: size,
+    }
+}
+
+// What is wrong with a row count and an L, judged as numbers: they need not fit the bytes that they would be written in.
+fn counts_fault(rows: usize, l: usize) -> Fault
+    ensures { λ r. ⌜ r ≡ countsWrong rows l ⌝ }
+{
+    if !refusals::is_within(rows, 1, 8) {
+        return Fault {
+            refusal: 15,
+            offset: 5,
+        };
+    }
+    if !refusals::is_within(l, 1, 512) {
+        return Fault {
+            refusal: 16,
+            offset: 7,
+        };
+    }
+    Fault {
+        refusal: 0,
+        offset: 0,
     }
 }
 
@@ -227,14 +289,12 @@ pub fn write(azimuths: &[i16], length: usize, taps: &[f32], file: &mut [u8]) -> 
     ensures { λ r. ⌜ Writes (record { azimuths = now (azimuths .entry); length = length; taps = now (taps .entry) }) (now (file .entry)) (record { answer = r; file = now (file .exit) }) ⌝ }
 {
     if !lengths_fit(azimuths.len(), length, taps.len(), file.len()) {
-        return unwritten(5);
+        return unwritten(UNFIT, 0);
     }
-    if 8 < azimuths.len() {
-        return unwritten(BREACH);
+    let counts = counts_fault(azimuths.len(), length);
+    if counts.refusal != 0 {
+        return unwritten(counts.refusal, counts.offset);
     }
-    if 512 < length {
-        return unwritten(BREACH);
-    }
-    let mut made = [0u8; 32793];
+    let mut made = [0u8; LARGEST];
     write_checked(azimuths, length, taps, file, &mut made)
 }

@@ -59,6 +59,10 @@ else-assoc a b c = go (eqb (a .refusal) 0) refl
 
 -- ---- a field
 
+pub unless-none : (good : Bool) (n at : ℕ) → 0 < n → unless good n at .refusal ≡ 0 → good ≡ true
+unless-none true n at h e = refl
+unless-none false n at h e = absurd (omega arith)
+
 module _ (size at count n : ℕ) (good : Bool) where
   pub field-short : size < at + count → field size at count n good ≡ wrong 19 size
   unfolding field
@@ -81,15 +85,11 @@ module _ (size at count n : ℕ) (good : Bool) where
   unfolding field
   field-none h e =
       let room = fits (ltb size (at + count)) refl in
-      (room, right good (ap (λ (b : Bool). cond b (wrong 19 size) (unless good n at) .refusal) (sym (le-ltb size (at + count) room)) ∙ e))
+      (room, unless-none good n at h (ap (λ (b : Bool). cond b (wrong 19 size) (unless good n at) .refusal) (sym (le-ltb size (at + count) room)) ∙ e))
     where
       fits : (t : Bool) → ltb size (at + count) ≡ t → at + count ≤ size
       fits true k = let z : _≡_ {A = ℕ} 19 0 = rw k at e in absurd (omega arith)
       fits false k = ltb-false size (at + count) k
-
-      right : (t : Bool) → unless t n at .refusal ≡ 0 → t ≡ true
-      right true k = refl
-      right false k = absurd (omega arith)
 
 -- ---- taps
 
