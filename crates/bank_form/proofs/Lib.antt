@@ -2,5 +2,6 @@
 pub mod Lists
 pub mod Azimuths
 pub mod Walk
+pub mod Agree
 pub mod RoundTrip
 pub mod Exact
