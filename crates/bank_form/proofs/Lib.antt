@@ -3,5 +3,6 @@ pub mod Lists
 pub mod Azimuths
 pub mod Walk
 pub mod Agree
+pub mod Places
 pub mod RoundTrip
 pub mod Exact

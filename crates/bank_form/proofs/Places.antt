@@ -1,0 +1,113 @@
+-- Each fault has a number from 13 to 19 and a place in the file, 19 its end (`numbers-and-places`). Assumes nothing.
+use mathlib.Core.Path.{_≡_, refl}
+use mathlib.Core.Bool.{Bool, true, false}
+use mathlib.Core.List.{List}
+use mathlib.Core.Logic.{_⊎_, inl, inr}
+use Prim.Native.Nat.{ℕ, zero, suc, _+_, _-_, _*_, _≤_}
+use native.Mathlib.Decide.{decLt}
+use native.Mathlib.Omega.{arith}
+use borrow.Author.Tests.{eqb-true}
+use lib.Dec.{eqb}
+use lib.Ieee.Scale.{finite}
+use lib.ListN.{length}
+use Rattle.big_endian.specs.Fields.{floatAt}
+use Rattle.bank_form.specs.declared.Fault.{Fault}
+use Rattle.bank_form.specs.Fault.{rowSize, rowsIn, lengthIn, sound, wrong, unless, orElse, field, tapsFault, rowFault, rowsFault, headField, headFault, faultIn}
+use Rattle.bank_form.specs.FaultLaws.{Placed, NumbersAndPlaces}
+use Rattle.bank_form.proofs.Walk.{else-none, field-short, field-bad, field-good, field-none}
+
+-- no fault, or one with a number and a place
+abbrev pub Fine : ℕ → Fault → Type 0
+Fine size f = (f ≡ sound) ⊎ Placed size f
+
+module _ (size : ℕ) where
+  -- a fault by its number and its place
+  placed : (n at : ℕ) → 13 ≤ n → n ≤ 18 → at ≤ size → Fine size (wrong n at)
+  placed n at low high h = inr (record { least = low; most = omega arith; inside = h; end = λ e. absurd (omega arith) })
+
+  -- ---- a walk after another goes on only where the first finds nothing
+
+  fine-else : (a b : Fault) → Fine size a → (a .refusal ≡ 0 → Fine size b) → Fine size (orElse a b)
+  unfolding orElse
+  fine-else a b p q = go (eqb (a .refusal) 0) refl
+    where
+      go : (t : Bool) → eqb (a .refusal) 0 ≡ t → Fine size (orElse a b)
+      go true e = rw e (q (eqb-true (a .refusal) 0 e))
+      go false e = rw e p
+
+  fine-field : (at count n : ℕ) (good : Bool) → at ≤ size → 13 ≤ n → n ≤ 18 → Fine size (field size at count n good)
+  fine-field at count n good h low high =
+      elim (decLt size (at + count)) [
+        | yes k ↦ rw (field-short size at count n good k) (inr (record { least = omega arith; most = omega arith; inside = omega arith; end = λ e. refl }))
+        | no k ↦ go good refl (omega arith)
+      ]
+    where
+      go : (t : Bool) → good ≡ t → at + count ≤ size → Fine size (field size at count n good)
+      go true e k = rw (field-good size at count n good k e) (inl refl)
+      go false e k = rw (field-bad size at count n good k e) (placed n at low high h)
+
+  -- ---- where a walk that finds nothing ends
+
+  module _ (s : List ℕ) where
+    pub taps-ended : (at n : ℕ) → at ≤ size → tapsFault size s at n .refusal ≡ 0 → at + 4 * n ≤ size
+    unfolding tapsFault
+    taps-ended at zero h e = omega arith
+    taps-ended at (suc n) h e =
+        let both = else-none (field size at 4 18 (finite (floatAt s at))) (tapsFault size s (at + 4) n) e in
+        let here = field-none size at 4 18 (finite (floatAt s at)) (omega arith) (both .0) .0 in
+        omega (arith, taps-ended (at + 4) n here (both .1))
+
+    pub row-ended : (l i at : ℕ) → rowFault size s l i at .refusal ≡ 0 → at + rowSize l ≤ size
+    unfolding rowFault
+    row-ended l i at e =
+        let both = else-none (field size at 2 17 _) (tapsFault size s (at + 2) (2 * l)) e in
+        omega (arith, taps-ended (at + 2) (2 * l) (field-none size at 2 17 _ (omega arith) (both .0) .0) (both .1))
+
+    pub head-ended : headFault size s .refusal ≡ 0 → 9 ≤ size
+    unfolding headFault headField
+    head-ended e =
+        let version = else-none (headField size s 0 1 13 1 1) _ e in
+        let rest = else-none (headField size s 1 4 14 (size - 5) (size - 5)) _ (version .1) in
+        let counts = else-none (headField size s 5 2 15 1 8) _ (rest .1) in
+        field-none size 7 2 16 _ (omega arith) (counts .1) .0
+
+    -- ---- the walks
+
+    fine-taps : (at n : ℕ) → at ≤ size → Fine size (tapsFault size s at n)
+    unfolding tapsFault
+    fine-taps at zero h = inl refl
+    fine-taps at (suc n) h =
+        fine-else _ _ (fine-field at 4 18 _ h (omega arith) (omega arith))
+        (λ e. fine-taps (at + 4) n (field-none size at 4 18 _ (omega arith) e .0))
+
+    fine-row : (l i at : ℕ) → at ≤ size → Fine size (rowFault size s l i at)
+    unfolding rowFault
+    fine-row l i at h =
+        fine-else _ _ (fine-field at 2 17 _ h (omega arith) (omega arith))
+        (λ e. fine-taps (at + 2) (2 * l) (field-none size at 2 17 _ (omega arith) e .0))
+
+    fine-rows : (l i at n : ℕ) → 1 ≤ at → at ≤ size → Fine size (rowsFault size s l i at n)
+    unfolding rowsFault
+    fine-rows l i at zero one h = go (eqb size at)
+      where
+        go : (t : Bool) → Fine size (unless t 14 1)
+        go true = inl refl
+        go false = placed 14 1 (omega arith) (omega arith) (omega arith)
+    fine-rows l i at (suc n) one h =
+        fine-else _ _ (fine-row l i at h) (λ e. fine-rows l (i + 1) (at + rowSize l) n (omega arith) (row-ended l i at e))
+
+    fine-head : Fine size (headFault size s)
+    unfolding headFault headField
+    fine-head =
+        fine-else _ _ (fine-field 0 1 13 _ (omega arith) (omega arith) (omega arith)) (λ a.
+        fine-else _ _ (fine-field 1 4 14 _ (field-none size 0 1 13 _ (omega arith) a .0) (omega arith) (omega arith)) (λ b.
+        fine-else _ _ (fine-field 5 2 15 _ (field-none size 1 4 14 _ (omega arith) b .0) (omega arith) (omega arith)) (λ c.
+        fine-field 7 2 16 _ (field-none size 5 2 15 _ (omega arith) c .0) (omega arith) (omega arith))))
+
+    -- of any size, whatever the list
+    pub fine-fault : Fine size (faultIn size s)
+    unfolding faultIn
+    fine-fault = fine-else _ _ fine-head (λ e. fine-rows (lengthIn s) 0 9 (rowsIn s) (omega arith) (head-ended e))
+
+pub numbers-and-places : NumbersAndPlaces
+numbers-and-places s = fine-fault (length s) s
