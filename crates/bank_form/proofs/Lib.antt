@@ -4,5 +4,6 @@ pub mod Azimuths
 pub mod Walk
 pub mod Agree
 pub mod Places
+pub mod Order
 pub mod RoundTrip
 pub mod Exact
