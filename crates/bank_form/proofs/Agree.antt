@@ -1,8 +1,9 @@
--- Two lists that begin alike have the same fields there, and a walk finds the same in both where all its fields end there. Assumes nothing.
+-- Lists that begin alike have the same fields there, and a walk finds the same in both where all its fields end there.
+-- Assumes nothing.
 use mathlib.Core.Path.{_≡_, refl, sym, ap, _∙_}
 use mathlib.Core.Bool.{Bool, true, false, _&&_}
 use mathlib.Core.List.{List}
-use Prim.Native.Nat.{ℕ, zero, suc, _+_, _-_, _*_, _≤_}
+use Prim.Native.Nat.{ℕ, zero, suc, _+_, _*_, _≤_}
 use native.Mathlib.Decide.{decLt}
 use native.Mathlib.Nat.{mul-le-mul-right}
 use native.Mathlib.Omega.{arith}
@@ -36,12 +37,15 @@ inside-start s k n h =
       | no g ↦ le-leb n (length (take k s)) (omega (arith, length-take k s)) ∙ sym (le-leb n (length s) (omega arith))
     ]
 
-part-start : (s : List ℕ) (k at count : ℕ) → at + count ≤ k → at + count ≤ length s → take count (drop at (take k s)) ≡ take count (drop at s)
-part-start s k at count h g = part (take k s) (omega (arith, length-take k s)) ∙ ap (drop at) (take-take (at + count) k s h) ∙ sym (part s g)
+part-start : (s : List ℕ) (k at count : ℕ) → at + count ≤ k → at + count ≤ length s
+    → take count (drop at (take k s)) ≡ take count (drop at s)
+part-start s k at count h g =
+    part (take k s) (omega (arith, length-take k s)) ∙ ap (drop at) (take-take (at + count) k s h) ∙ sym (part s g)
   where
     part : (u : List ℕ) → at + count ≤ length u → take count (drop at u) ≡ drop at (take (at + count) u)
     part u e =
-        sym (ap (drop at) (take-add at count u) ∙ drop-at (take at u) (take count (drop at u)) at (length-take-le at u (omega arith)))
+        let front = length-take-le at u (omega arith) in
+        sym (ap (drop at) (take-add at count u) ∙ drop-at (take at u) (take count (drop at u)) at front)
 
 -- a field that ends within the first k bytes is read from these
 field-start : (s : List ℕ) (k at count : ℕ) → at + count ≤ k → fieldAt (take k s) at count ≡ fieldAt s at count
@@ -77,9 +81,10 @@ module _ (k : ℕ) (s t : List ℕ) (same : Agree k s t) where
   unfolding strided
   azimuths-agree l at n h =
       tab-ext 0 n (λ j. signedAt t (at + j * rowSize l)) (λ j. signedAt s (at + j * rowSize l))
-      (λ j g. signed-agrees (at + j * rowSize l) (omega (arith, mul-le-mul-right {m = suc j} {n = n} (rowSize l) (omega arith))))
+      (λ j g. signed-agrees (at + j * rowSize l) (omega (arith, mul-le-mul-right (rowSize l) g)))
 
-  new-agrees : (l at i : ℕ) → at + 2 ≤ k → 9 + i * rowSize l ≤ k → isNew t l (signedAt t at) 9 i ≡ isNew s l (signedAt s at) 9 i
+  new-agrees : (l at i : ℕ) → at + 2 ≤ k → 9 + i * rowSize l ≤ k
+      → isNew t l (signedAt t at) 9 i ≡ isNew s l (signedAt s at) 9 i
   unfolding isNew
   new-agrees l at i h g = rw (azimuths-agree l 9 i g, signed-agrees at h)
 
@@ -91,7 +96,8 @@ module _ (k : ℕ) (s t : List ℕ) (same : Agree k s t) where
   -- ---- walks
 
   module _ (size : ℕ) where
-    pub tap-agrees : (at : ℕ) → at + 4 ≤ k → field size at 4 18 (finite (floatAt t at)) ≡ field size at 4 18 (finite (floatAt s at))
+    tap-agrees : (at : ℕ) → at + 4 ≤ k
+        → field size at 4 18 (finite (floatAt t at)) ≡ field size at 4 18 (finite (floatAt s at))
     tap-agrees at h = ap (λ (x : Float). field size at 4 18 (finite x)) (float-agrees at h)
 
     pub taps-agree : (at n : ℕ) → at + 4 * n ≤ k → tapsFault size t at n ≡ tapsFault size s at n
@@ -99,18 +105,24 @@ module _ (k : ℕ) (s t : List ℕ) (same : Agree k s t) where
     taps-agree at zero h = refl
     taps-agree at (suc n) h = rw (tap-agrees at (omega arith), taps-agree (at + 4) n (omega arith))
 
-    pub row-agrees : (l i at : ℕ) → 9 + i * rowSize l ≤ k → at + rowSize l ≤ k → rowFault size t l i at ≡ rowFault size s l i at
+    pub row-agrees : (l i at : ℕ) → 9 + i * rowSize l ≤ k → at + rowSize l ≤ k
+        → rowFault size t l i at ≡ rowFault size s l i at
     unfolding rowFault
     row-agrees l i at g h = rw (azimuth-agrees l at i (omega arith) g, taps-agree (at + 2) (2 * l) (omega arith))
 
     -- n rows from `at` on, with i rows before them
-    pub rows-agree : (l i at n : ℕ) → 9 + i * rowSize l ≤ at → at + n * rowSize l ≤ k → rowsFault size t l i at n ≡ rowsFault size s l i at n
+    pub rows-agree : (l i at n : ℕ) → 9 + i * rowSize l ≤ at → at + n * rowSize l ≤ k
+        → rowsFault size t l i at n ≡ rowsFault size s l i at n
     unfolding rowsFault
     rows-agree l i at zero g h = refl
     rows-agree l i at (suc n) g h =
-        rw (row-agrees l i at (omega arith) (omega arith), rows-agree l (i + 1) (at + rowSize l) n (omega arith) (omega arith))
+        rw (
+          row-agrees l i at (omega arith) (omega arith),
+          rows-agree l (i + 1) (at + rowSize l) n (omega arith) (omega arith),
+        )
 
-    pub head-field-agrees : (at count n low high : ℕ) → at + count ≤ k → headField size t at count n low high ≡ headField size s at count n low high
+    head-field-agrees : (at count n low high : ℕ) → at + count ≤ k
+        → headField size t at count n low high ≡ headField size s at count n low high
     unfolding headField
     head-field-agrees at count n low high h = rw (same at count h)
 
@@ -118,10 +130,10 @@ module _ (k : ℕ) (s t : List ℕ) (same : Agree k s t) where
     unfolding headFault
     head-agrees h =
         rw (
-          head-field-agrees 0 1 13 1 1 (omega arith),
-          head-field-agrees 1 4 14 (size - 5) (size - 5) (omega arith),
-          head-field-agrees 5 2 15 1 8 (omega arith),
-          head-field-agrees 7 2 16 1 512 (omega arith),
+          head-field-agrees 0 1 13 _ _ (omega arith),
+          head-field-agrees 1 4 14 _ _ (omega arith),
+          head-field-agrees 5 2 15 _ _ (omega arith),
+          head-field-agrees 7 2 16 _ _ (omega arith),
         )
 
     -- where all the rows end within the first k bytes

@@ -2,6 +2,9 @@
 pub mod Lists
 pub mod Azimuths
 pub mod Walk
+pub mod Agree
+pub mod Places
+pub mod Order
 pub mod RoundTrip
 pub mod Exact
 pub mod Writer

@@ -3,7 +3,7 @@ use mathlib.Core.Path.{_≡_, refl}
 use mathlib.Core.Bool.{Bool, true, false}
 use mathlib.Core.List.{List}
 use mathlib.Core.Logic.{_⊎_, inl, inr}
-use Prim.Native.Nat.{ℕ, zero, suc, _+_, _-_, _*_, _≤_}
+use Prim.Native.Nat.{ℕ, zero, suc, _+_, _*_, _≤_}
 use native.Mathlib.Decide.{decLt}
 use native.Mathlib.Omega.{arith}
 use borrow.Author.Tests.{eqb-true}
@@ -25,6 +25,9 @@ module _ (size : ℕ) where
   placed : (n at : ℕ) → 13 ≤ n → n ≤ 18 → at ≤ size → Fine size (wrong n at)
   placed n at low high h = inr (record { least = low; most = omega arith; inside = h; end = λ e. absurd (omega arith) })
 
+  placed-end : Fine size (wrong 19 size)
+  placed-end = inr (record { least = omega arith; most = omega arith; inside = omega arith; end = λ e. refl })
+
   -- ---- a walk after another goes on only where the first finds nothing
 
   fine-else : (a b : Fault) → Fine size a → (a .refusal ≡ 0 → Fine size b) → Fine size (orElse a b)
@@ -38,13 +41,19 @@ module _ (size : ℕ) where
   fine-field : (at count n : ℕ) (good : Bool) → at ≤ size → 13 ≤ n → n ≤ 18 → Fine size (field size at count n good)
   fine-field at count n good h low high =
       elim (decLt size (at + count)) [
-        | yes k ↦ rw (field-short size at count n good k) (inr (record { least = omega arith; most = omega arith; inside = omega arith; end = λ e. refl }))
+        | yes k ↦ rw (field-short size at count n good k) placed-end
         | no k ↦ go good refl (omega arith)
       ]
     where
       go : (t : Bool) → good ≡ t → at + count ≤ size → Fine size (field size at count n good)
       go true e k = rw (field-good size at count n good k e) (inl refl)
       go false e k = rw (field-bad size at count n good k e) (placed n at low high h)
+
+  -- and a walk that begins behind it
+  fine-next : (at count n : ℕ) (good : Bool) (b : Fault) → at ≤ size → 13 ≤ n → n ≤ 18 → (at + count ≤ size → Fine size b)
+      → Fine size (orElse (field size at count n good) b)
+  fine-next at count n good b h low high rest =
+      fine-else _ b (fine-field at count n good h low high) (λ e. rest (field-none size at count n good (omega arith) e .0))
 
   -- ---- where a walk that finds nothing ends
 
@@ -66,9 +75,9 @@ module _ (size : ℕ) where
     pub head-ended : headFault size s .refusal ≡ 0 → 9 ≤ size
     unfolding headFault headField
     head-ended e =
-        let version = else-none (headField size s 0 1 13 1 1) _ e in
-        let rest = else-none (headField size s 1 4 14 (size - 5) (size - 5)) _ (version .1) in
-        let counts = else-none (headField size s 5 2 15 1 8) _ (rest .1) in
+        let version = else-none (headField size s 0 1 13 _ _) _ e in
+        let rest = else-none (headField size s 1 4 14 _ _) _ (version .1) in
+        let counts = else-none (headField size s 5 2 15 _ _) _ (rest .1) in
         field-none size 7 2 16 _ (omega arith) (counts .1) .0
 
     -- ---- the walks
@@ -76,15 +85,11 @@ module _ (size : ℕ) where
     fine-taps : (at n : ℕ) → at ≤ size → Fine size (tapsFault size s at n)
     unfolding tapsFault
     fine-taps at zero h = inl refl
-    fine-taps at (suc n) h =
-        fine-else _ _ (fine-field at 4 18 _ h (omega arith) (omega arith))
-        (λ e. fine-taps (at + 4) n (field-none size at 4 18 _ (omega arith) e .0))
+    fine-taps at (suc n) h = fine-next at 4 18 _ _ h (omega arith) (omega arith) (fine-taps (at + 4) n)
 
     fine-row : (l i at : ℕ) → at ≤ size → Fine size (rowFault size s l i at)
     unfolding rowFault
-    fine-row l i at h =
-        fine-else _ _ (fine-field at 2 17 _ h (omega arith) (omega arith))
-        (λ e. fine-taps (at + 2) (2 * l) (field-none size at 2 17 _ (omega arith) e .0))
+    fine-row l i at h = fine-next at 2 17 _ _ h (omega arith) (omega arith) (fine-taps (at + 2) (2 * l))
 
     fine-rows : (l i at n : ℕ) → 1 ≤ at → at ≤ size → Fine size (rowsFault size s l i at n)
     unfolding rowsFault
@@ -94,15 +99,16 @@ module _ (size : ℕ) where
         go true = inl refl
         go false = placed 14 1 (omega arith) (omega arith) (omega arith)
     fine-rows l i at (suc n) one h =
-        fine-else _ _ (fine-row l i at h) (λ e. fine-rows l (i + 1) (at + rowSize l) n (omega arith) (row-ended l i at e))
+        fine-else _ _ (fine-row l i at h)
+        (λ e. fine-rows l (i + 1) (at + rowSize l) n (omega arith) (row-ended l i at e))
 
     fine-head : Fine size (headFault size s)
     unfolding headFault headField
     fine-head =
-        fine-else _ _ (fine-field 0 1 13 _ (omega arith) (omega arith) (omega arith)) (λ a.
-        fine-else _ _ (fine-field 1 4 14 _ (field-none size 0 1 13 _ (omega arith) a .0) (omega arith) (omega arith)) (λ b.
-        fine-else _ _ (fine-field 5 2 15 _ (field-none size 1 4 14 _ (omega arith) b .0) (omega arith) (omega arith)) (λ c.
-        fine-field 7 2 16 _ (field-none size 5 2 15 _ (omega arith) c .0) (omega arith) (omega arith))))
+        fine-next 0 1 13 _ _ (omega arith) (omega arith) (omega arith) (λ a.
+        fine-next 1 4 14 _ _ a (omega arith) (omega arith) (λ b.
+        fine-next 5 2 15 _ _ b (omega arith) (omega arith) (λ c.
+        fine-field 7 2 16 _ c (omega arith) (omega arith))))
 
     -- of any size, whatever the list
     pub fine-fault : Fine size (faultIn size s)
