@@ -653,9 +653,209 @@ pub fn choosing(random: &mut Random, count: usize, sink: &mut Sink) {
     }
 }
 
+/// The judge is tried with a program of the oracle's own, which lists all fields of a file first: right as it is, and then wrong
+/// in one way after another, each of which the requests of the recorded sample have to show.
 #[cfg(test)]
 mod tests {
     use super::*;
+    use crate::frame::Answer;
+
+    /// Wrong ways that both reading and writing show.
+    const WRONG: [&str; 10] = [
+        "9 as before",
+        "no place",
+        "the place behind the field",
+        "17 at the first row",
+        "a repeat at the row that has it first",
+        "a repeat after the row's taps",
+        "L before the row count",
+        "taps before their azimuth",
+        "azimuths before all taps",
+        "right taps placed as left ones",
+    ];
+
+    /// Those that reading alone can show, since a writer makes the version, the length and the end itself.
+    const READ_WRONG: [&str; 10] = [
+        "5 last",
+        "a place with 5",
+        "the version last",
+        "the length last",
+        "a cut file is 19",
+        "19 where the field begins",
+        "19 where the field would end",
+        "bytes left are not seen",
+        "bytes left are 19",
+        "bytes left are told behind the last row",
+    ];
+
+    const WRITE_WRONG: [&str; 4] = ["5 last", "bytes on refusal", "a buffer filled on refusal", "16 with no rows and L above 512"];
+
+    /// A field that has to be there: its place and its bytes, its refusal, and whether it is wrong once it is read.
+    #[derive(Clone, Copy)]
+    struct Field {
+        at: usize,
+        count: usize,
+        refusal: u8,
+        is_wrong: bool,
+    }
+
+    struct Program(&'static str);
+
+    impl Program {
+        fn is(&self, way: &str) -> bool {
+            self.0 == way
+        }
+
+        /// The fields of a row, in the order in which they are looked at.
+        fn row(&self, file: &[u8], i: usize, length: usize) -> Vec<Field> {
+            let azimuth_at = |i: usize| 9 + i * (2 + 8 * length);
+            let azimuth = |i: usize| number(file, azimuth_at(i), 2) as u16 as i16;
+            let at = azimuth_at(i);
+            let earlier = (0..i).find(|j| azimuth(*j) == azimuth(i));
+            let place = if self.is("a repeat at the row that has it first") { earlier.map_or(at, azimuth_at) } else { at };
+            let own = Field { at, count: 2, refusal: AZIMUTH, is_wrong: !is_azimuth(azimuth(i)) };
+            let repeated = Field { at: place, count: 2, refusal: AZIMUTH, is_wrong: earlier.is_some() };
+            let tap = |k: usize| Field { at: at + 2 + 4 * k, count: 4, refusal: TAP, is_wrong: !is_tap(number(file, at + 2 + 4 * k, 4)) };
+            let taps = (0..2 * length).map(tap);
+            match self.0 {
+                "taps before their azimuth" => taps.chain([own, repeated]).collect(),
+                "a repeat after the row's taps" => [own].into_iter().chain(taps).chain([repeated]).collect(),
+                _ => [own, repeated].into_iter().chain(taps).collect(),
+            }
+        }
+
+        /// All fields, in the order in which they are looked at; the counts are believed only where they are in range.
+        fn fields(&self, file: &[u8]) -> Vec<Field> {
+            let (rows, length) = (number(file, 5, 2) as usize, number(file, 7, 2) as usize);
+            let version = Field { at: 0, count: 1, refusal: VERSION, is_wrong: number(file, 0, 1) != 1 };
+            let following = Field { at: 1, count: 4, refusal: FOLLOWING, is_wrong: number(file, 1, 4) as usize != file.len().saturating_sub(5) };
+            let mut all = vec![version, following];
+            all.push(Field { at: 5, count: 2, refusal: ROWS, is_wrong: !(1..=8).contains(&rows) });
+            all.push(Field { at: 7, count: 2, refusal: TAP_COUNT, is_wrong: !(1..=512).contains(&length) });
+            if self.is("L before the row count") {
+                all.swap(2, 3);
+            }
+            if all[2..].iter().all(|count| !count.is_wrong) {
+                let mut behind: Vec<Field> = (0..rows).flat_map(|i| self.row(file, i, length)).collect();
+                if self.is("azimuths before all taps") {
+                    behind.sort_by_key(|field| field.refusal);
+                }
+                all.extend(behind);
+                let end = 9 + rows * (2 + 8 * length);
+                let (at, refusal) = match self.0 {
+                    "bytes left are told behind the last row" => (end, FOLLOWING),
+                    "bytes left are 19" => (file.len(), ENDS),
+                    _ => (1, FOLLOWING),
+                };
+                all.push(Field { at, count: 0, refusal, is_wrong: end < file.len() && !self.is("bytes left are not seen") });
+            }
+            match self.0 {
+                "the version last" => all.rotate_left(1),
+                "the length last" => all[1..].rotate_left(1),
+                _ => (),
+            }
+            all
+        }
+
+        fn told(&self, file: &[u8]) -> Fault {
+            let size = file.len();
+            if self.is("a cut file is 19") && size >= 5 && number(file, 1, 4) as usize > size - 5 && file[0] == 1 {
+                return (ENDS, size);
+            }
+            let Some(field) = self.fields(file).into_iter().find(|field| size < field.at + field.count || field.is_wrong) else {
+                return SOUND;
+            };
+            let Field { at, count, refusal, .. } = field;
+            let per_ear = 4 * number(file, 7, 2) as usize;
+            match self.0 {
+                "9 as before" => (9, 0),
+                "19 where the field begins" if size < at + count => (ENDS, at),
+                "19 where the field would end" if size < at + count => (ENDS, at + count),
+                _ if size < at + count => (ENDS, size),
+                "no place" => (refusal, 0),
+                "the place behind the field" => (refusal, at + count),
+                "17 at the first row" if refusal == AZIMUTH => (refusal, 9),
+                "right taps placed as left ones" if refusal == TAP && (at - 9) % (2 + 2 * per_ear) >= 2 + per_ear => (refusal, at - per_ear),
+                _ => (refusal, at),
+            }
+        }
+
+        fn read(&self, arguments: &[u8]) -> Vec<u8> {
+            let (azimuths, taps) = (number(arguments, 0, 1) as usize, number(arguments, 1, 2) as usize);
+            let shown = taps.min(number(arguments, 3, 2) as usize);
+            let file = &arguments[5..];
+            let told = self.told(file);
+            let fits = azimuths == AZIMUTHS && taps == TAPS || self.is("5 last") && told != SOUND;
+            let (refusal, offset) = match self.0 {
+                _ if fits => told,
+                "a place with 5" => (LENGTH, told.1),
+                _ => (LENGTH, 0),
+            };
+            let bank = bank_of(file).ok().filter(|_| refusal == 0).unwrap_or(Bank { azimuths: vec![], length: 0, taps: vec![] });
+            let mut answer = vec![refusal];
+            answer.extend([offset, bank.azimuths.len(), bank.length].iter().flat_map(|n| (*n as u32).to_be_bytes()));
+            let changed = (shown..bank.taps.len()).filter(|i| bank.taps[*i] != filled_tap(*i)).count();
+            answer.extend((changed as u16).to_be_bytes());
+            answer.extend((0..azimuths).flat_map(|i| bank.azimuths.get(i).copied().unwrap_or(filled_azimuth(i)).to_be_bytes()));
+            answer.extend((0..shown).flat_map(|i| bank.taps.get(i).copied().unwrap_or(filled_tap(i)).to_be_bytes()));
+            answer
+        }
+
+        fn write(&self, arguments: &[u8]) -> Vec<u8> {
+            let (rows, taps, bytes) = (number(arguments, 0, 1) as usize, number(arguments, 1, 2) as usize, number(arguments, 3, 2) as usize);
+            let length = u64::from_be_bytes(arguments[5..13].try_into().unwrap());
+            let azimuths = (0..rows).map(|i| number(arguments, 13 + 2 * i, 2) as u16 as i16).collect();
+            let bits = (0..taps).map(|k| number(arguments, 13 + 2 * rows + 4 * k, 4)).collect();
+            let bank = Bank { azimuths, length: length as usize, taps: bits };
+            let agree = (rows as u128 * 2).checked_mul(u128::from(length)) == Some(taps as u128);
+            // What has no room in its field cannot be laid out, and then there are no rows.
+            let file = (agree && length <= 0xffff).then(|| file_of(&bank));
+            let told = match &file {
+                Some(_) if self.is("16 with no rows and L above 512") && rows == 0 && length > 512 => (TAP_COUNT, 7),
+                Some(file) => self.told(file),
+                None => self.told(&laid_out(1, 4, 0, 0xffff, &[])),
+            };
+            let fits = agree && bytes == 9 + rows * (2 + 4 * taps / rows.max(1));
+            let (refusal, offset) = if fits || self.is("5 last") && agree && told != SOUND { told } else { (LENGTH, 0) };
+            let is_filled = refusal == 0 || self.is("a buffer filled on refusal") && fits;
+            let written = if refusal == 0 || self.is("bytes on refusal") { bytes } else { 0 };
+            let mut answer = vec![refusal];
+            answer.extend([offset, written].iter().flat_map(|n| (*n as u32).to_be_bytes()));
+            answer.extend(file.filter(|_| is_filled).unwrap_or(filled_bytes(bytes)));
+            answer
+        }
+    }
+
+    /// A number of so many bytes, as if zeros were behind the list.
+    fn number(bytes: &[u8], at: usize, count: usize) -> u32 {
+        (at..at + count).fold(0, |n, i| n << 8 | u32::from(bytes.get(i).copied().unwrap_or(0)))
+    }
+
+    /// How many of the recorded sample's requests of a kind show that a program is wrong.
+    fn shown(way: &'static str, name: &str, make: fn(&mut Random, usize, &mut Sink)) -> usize {
+        let mut wrong = 0;
+        make(&mut Random::new(1, name), 400, &mut |case| {
+            let (operation, arguments) = (case.request[0], &case.request[5..]);
+            let bytes = if operation == READ { Program(way).read(arguments) } else { Program(way).write(arguments) };
+            wrong += usize::from((case.judge)(&Answer { operation, bytes }).wrong.is_some());
+        });
+        wrong
+    }
+
+    #[test]
+    fn the_right_program_passes() {
+        assert_eq!((shown("", "bank read", reading), shown("", "bank write", writing)), (0, 0));
+    }
+
+    #[test]
+    fn every_wrong_program_is_found() {
+        for way in WRONG.iter().chain(&READ_WRONG) {
+            assert!(shown(way, "bank read", reading) > 0, "reading: {way}");
+        }
+        for way in WRONG.iter().chain(&WRITE_WRONG) {
+            assert!(shown(way, "bank write", writing) > 0, "writing: {way}");
+        }
+    }
 
     #[test]
     fn what_is_written_down_is_told() {
