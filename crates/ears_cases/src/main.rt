@@ -1,5 +1,5 @@
-// Tests the program `ears` in the gate: plays every case of document 01's item 10, and prints what was told
-// and what the output holds then.
+// Tests the program `ears` in the gate: plays every case of document 01's item 10, and every refusal of a
+// bank that document 02, E2, names, and prints what was told and what the output holds then.
 //
 // The cases are played by file names. The banks and the lines are in data/, written by tests/ears-cases from
 // a model of its own; what is printed is compared with the file `stdout`. `ears_file` plays. The program
@@ -95,44 +95,44 @@ fn worked() {
     );
 }
 
+// The same line through one bank or another.
+fn bank_case(title: &[u8], bank: &[u8]) {
+    case(title, bank, b"nan_first.line", NO_LIMIT);
+}
+
+// What is no bank at all, and the largest one.
 fn banks() {
-    case(b"no bank", b"missing.bank", b"nan_first.line", NO_LIMIT);
-    case(b"an empty bank", b"empty.line", b"nan_first.line", NO_LIMIT);
-    case(
-        b"a bank without its last byte",
-        b"short.bank",
-        b"nan_first.line",
-        NO_LIMIT,
+    bank_case(b"no bank", b"missing.bank");
+    bank_case(b"an empty bank", b"empty.line");
+    bank_case(b"a folder for a bank", b"folder");
+    bank_case(b"a WAV file for a bank", b"riff.wav");
+    bank_case(b"the largest bank", b"largest.bank");
+    bank_case(b"the largest bank with a byte more", b"too_long.bank");
+}
+
+// A fault in each field of the head, in byte order.
+fn bad_heads() {
+    bank_case(b"a bank of version 2", b"version_2.bank");
+    bank_case(b"a bank that ends inside its length", b"three_bytes.bank");
+    bank_case(b"a bank without its last byte", b"short.bank");
+    bank_case(b"a bank with a byte more", b"long.bank");
+    bank_case(b"a bank of no rows", b"no_rows.bank");
+    bank_case(b"a bank of nine rows", b"nine_rows.bank");
+    bank_case(b"a bank without taps", b"no_taps.bank");
+}
+
+// A fault in a field of a row, or behind the last row.
+fn bad_rows() {
+    bank_case(b"a bank with an azimuth of -1800", b"outside.bank");
+    bank_case(b"a bank with an azimuth twice", b"twice.bank");
+    bank_case(b"a bank with a tap that is not finite", b"infinite.bank");
+    bank_case(
+        b"a bank without its last byte, its length put right",
+        b"inside_a_tap.bank",
     );
-    case(
-        b"a bank with a byte more",
-        b"long.bank",
-        b"nan_first.line",
-        NO_LIMIT,
-    );
-    case(
-        b"a bank with a tap that is not finite",
-        b"infinite.bank",
-        b"nan_first.line",
-        NO_LIMIT,
-    );
-    case(
-        b"a folder for a bank",
-        b"folder",
-        b"nan_first.line",
-        NO_LIMIT,
-    );
-    case(
-        b"the largest bank",
-        b"largest.bank",
-        b"nan_first.line",
-        NO_LIMIT,
-    );
-    case(
-        b"the largest bank with a byte more",
-        b"too_long.bank",
-        b"nan_first.line",
-        NO_LIMIT,
+    bank_case(
+        b"a bank with a byte more, its length put right",
+        b"left_over.bank",
     );
 }
 
@@ -215,20 +215,46 @@ fn write_often(to: i32, part: &[u8]) {
     }
 }
 
-// Writes a line that no buffer holds: the ramps, two hundred times.
-fn write_long() {
-    let from = os::open_read(b"ramps.line");
-    let to = os::open_overwrite(b"long.line");
-    let mut ramps = io::buffer();
-    let n = io::read_full(from, &mut ramps);
-    write_often(to, &ramps[..n]);
+// Writes a file that no buffer holds: what a small one holds, two hundred times.
+fn write_long(small: &[u8], long: &[u8]) {
+    let from = os::open_read(small);
+    let to = os::open_overwrite(long);
+    let mut part = io::buffer();
+    let n = io::read_full(from, &mut part);
+    write_often(to, &part[..n]);
     libc::close(from);
     libc::close(to);
 }
 
+// A bank of 40,000 bytes, more than any bank has: what is told is that of the whole file, not of a part that was kept.
+fn long_bank_case(title: &[u8], part: &[u8]) {
+    write_long(part, b"forty_thousand.bank");
+    bank_case(title, b"forty_thousand.bank");
+}
+
+fn long_banks() {
+    long_bank_case(
+        b"40000 bytes: nine rows, the length right",
+        b"nine_rows.part",
+    );
+    long_bank_case(b"40000 bytes: one row, the length right", b"one_row.part");
+    long_bank_case(
+        b"40000 bytes: nine rows, the length that of 32794",
+        b"as_32794.part",
+    );
+    long_bank_case(
+        b"40000 bytes: nine rows, the length that of 32793",
+        b"as_32793.part",
+    );
+    long_bank_case(
+        b"40000 bytes: an azimuth twice, the length right",
+        b"twice.part",
+    );
+}
+
 // The long line at once and in parts, and its ears against those that are expected.
 fn long_cuts() {
-    write_long();
+    write_long(b"ramps.line", b"long.line");
     say(b"two hundred ramps, read at once\n");
     play(b"good.bank", b"long.line", NO_LIMIT);
     compare(b"ears.raw", b"long.expected");
@@ -243,6 +269,9 @@ fn long_cuts() {
 fn main() {
     worked();
     banks();
+    bad_heads();
+    bad_rows();
+    long_banks();
     cuts();
     long_cuts();
 }
