@@ -5,25 +5,28 @@ use mathlib.Core.List.{List}
 use Prim.Native.Nat.{ℕ, zero, suc, _+_, _-_, _*_, _≤_, _<_}
 use native.Mathlib.Decide.{ℕ-discrete}
 use native.Mathlib.Omega.{arith}
-use borrow.Author.Tests.{eq-eqb, ne-eqb, eqb-true}
-use lib.Dec.{T, eqb}
+use borrow.Author.Tests.{eq-eqb, ne-eqb, eqb-true, le-leb, lt-leb}
+use lib.Dec.{T, eqb, leb}
 use lib.Ieee.{Float}
+use lib.Ieee.Bits.{is-true}
 use lib.IntN.{ℤ}
 use lib.ListN.{length}
 use Rattle.refusals.specs.Refusals.{answered}
 use Rattle.refusals.proofs.First.{answered-accepted, answered-refused}
+use Rattle.refusals.specs.Ranges.{within}
 use Rattle.lists.specs.Placed.{placed}
 use Rattle.bank_form.specs.declared.Fault.{Fault}
 use Rattle.bank_form.specs.Bank.{Bank, rows}
 use Rattle.bank_form.specs.Encoding.{encode}
-use Rattle.bank_form.specs.Fault.{rowSize, azimuthsFrom, tapsFrom, rowsIn, lengthIn, bankIn, wrong, orElse, unless, faultIn}
+use Rattle.bank_form.specs.Fault.{rowSize, largest, azimuthsFrom, tapsFrom, rowsIn, lengthIn, bankIn, sound, wrong, orElse, unless, faultIn, fault, isFile}
 use Rattle.bank_form.specs.FaultLaws.{Begins, suffices}
-use Rattle.bank_form.specs.WriteFault.{writeFault}
-use Rattle.bank_form.proofs.Exact.{rows-in}
-use Rattle.bank_form.proofs.Walk.{else-none, unless-none}
+use Rattle.bank_form.specs.WriteFault.{countsWrong, writeFault}
+use Rattle.bank_form.proofs.Exact.{rows-in, exactly, none-found}
+use Rattle.bank_form.proofs.Walk.{else-stop, else-none, unless-none}
 use Rattle.bank_form.proofs.Start.{start-suffices, whole-start}
 use Rattle.bank_form.proofs.RoundTrip.{length-encode}
-use Rattle.bank.specs.Reading.{ReadOutcome, readWrong, readRefused, readBank, readAs, readFault, readOutcome, startFault, startOutcome}
+use Rattle.refusals.proofs.Ranges.{within-true}
+use Rattle.bank.specs.Reading.{ReadOutcome, readWrong, readRefused, readBank, readAs, readFault, readOutcome, startFault, startOutcome, ReadsStart}
 use Rattle.bank.specs.Writing.{WriteOutcome, writeWrong, writeRefused, writeBank, writeOutcome}
 
 -- ---- an answer by a fault
@@ -35,7 +38,7 @@ module _ {A : Type 0} (told : A → ℕ) (accepted refused : A) where
   told-is (suc n) e f = f
 
 -- a test that is passed, and one that is not
-passes : (good : Bool) (n at : ℕ) (f : Fault) → good ≡ true → orElse (unless good n at) f ≡ f
+pub passes : (good : Bool) (n at : ℕ) (f : Fault) → good ≡ true → orElse (unless good n at) f ≡ f
 unfolding orElse
 passes good n at f e = rw e
 
@@ -86,38 +89,45 @@ module _ (zs : List ℤ) (xs : List Float) where
   -- ---- of a start
 
   module _ (start : List ℕ) (size : ℕ) where
+    -- the start, and then what is wrong with the bank
+    abbrev startWrong : Fault
+    startWrong = orElse (unless (suffices (length start) size) 5 0) (faultIn size start)
+
+    start-refused : (g : Fault) → startFault start size zs xs ≡ g → (g .refusal ≡ 0 → ⊥) → readRefused g zs xs ≡ startOutcome start size zs xs
+    unfolding startOutcome
+    start-refused g e bad = as-refused (startFault start size zs xs) g (bankIn start) e bad
+
     pub azimuths-lent : (length zs ≡ 8 → ⊥) → readRefused (wrong 5 0) zs xs ≡ startOutcome start size zs xs
-    unfolding startOutcome startFault
-    azimuths-lent h = as-refused _ (wrong 5 0) _ (wrong-azimuths _ h) (λ z. omega (arith, z))
+    unfolding startFault
+    azimuths-lent h = start-refused (wrong 5 0) (wrong-azimuths startWrong h) (λ z. omega (arith, z))
 
     module _ (eight : length zs ≡ 8) where
       pub taps-lent : (length xs ≡ 8192 → ⊥) → readRefused (wrong 5 0) zs xs ≡ startOutcome start size zs xs
-      unfolding startOutcome startFault
-      taps-lent h = as-refused _ (wrong 5 0) _ (wrong-taps _ eight h) (λ z. omega (arith, z))
+      unfolding startFault
+      taps-lent h = start-refused (wrong 5 0) (wrong-taps startWrong eight h) (λ z. omega (arith, z))
 
       module _ (most : length xs ≡ 8192) where
         pub start-lent : suffices (length start) size ≡ false → readRefused (wrong 5 0) zs xs ≡ startOutcome start size zs xs
-        unfolding startOutcome startFault
-        start-lent h = as-refused _ (wrong 5 0) _ (right-lists _ eight most ∙ fails _ 5 0 _ (omega arith) h) (λ z. omega (arith, z))
+        unfolding startFault
+        start-lent h = start-refused (wrong 5 0) (right-lists startWrong eight most ∙ fails (suffices (length start) size) 5 0 (faultIn size start) (omega arith) h) (λ z. omega (arith, z))
 
         module _ (enough : suffices (length start) size ≡ true) where
           judged : startFault start size zs xs ≡ faultIn size start
           unfolding startFault
-          judged = right-lists _ eight most ∙ passes _ 5 0 _ enough
+          judged = right-lists startWrong eight most ∙ passes (suffices (length start) size) 5 0 (faultIn size start) enough
 
           pub broken : (r : Fault) → r ≡ faultIn size start → (r .refusal ≡ 0 → ⊥) → readRefused r zs xs ≡ startOutcome start size zs xs
-          unfolding startOutcome
-          broken r e bad = as-refused _ r _ (judged ∙ sym e) bad
+          broken r e bad = start-refused r (judged ∙ sym e) bad
 
           pub accepted : faultIn size start .refusal ≡ 0 → readBank (bankIn start) zs xs ≡ startOutcome start size zs xs
           unfolding startOutcome
-          accepted none = as-read _ _ (ap (λ (f : Fault). f .refusal) judged ∙ none)
+          accepted none = as-read (startFault start size zs xs) (bankIn start) (ap (λ (f : Fault). f .refusal) judged ∙ none)
 
     -- what is left of a file that begins so is what reading it leaves
     module _ (file : List ℕ) (enough : T (suffices (length start) size)) (begins : Begins start size file) where
       start-fault : startFault start size zs xs ≡ readFault file zs xs
       unfolding startFault readFault
-      start-fault = ap (λ (f : Fault). readWrong f zs xs) (passes _ 5 0 _ (T-true _ enough) ∙ start-suffices .enough start size file enough begins)
+      start-fault = ap (λ (f : Fault). readWrong f zs xs) (passes (suffices (length start) size) 5 0 (faultIn size start) (is-true (suffices (length start) size) enough) ∙ start-suffices .enough start size file enough begins)
 
       whole-file : startFault start size zs xs .refusal ≡ 0 → bankIn start ≡ bankIn file
       unfolding startFault
@@ -127,7 +137,44 @@ module _ (zs : List ℤ) (xs : List Float) where
 
       pub start-reads : startOutcome start size zs xs ≡ readOutcome file zs xs
       unfolding startOutcome readOutcome
-      start-reads = as-same _ _ _ _ start-fault whole-file
+      start-reads = as-same (startFault start size zs xs) (readFault file zs xs) (bankIn start) (bankIn file) start-fault whole-file
+
+  -- ---- of a whole file, in lists of the lengths asked for
+
+  module _ (file : List ℕ) (eight : length zs ≡ 8) (most : length xs ≡ 8192) where
+    found : readFault file zs xs ≡ fault file
+    unfolding readFault
+    found = right-lists (fault file) eight most
+
+    pub read-good : isFile file ≡ true → readBank (bankIn file) zs xs ≡ readOutcome file zs xs
+    unfolding readOutcome
+    read-good h = as-read (readFault file zs xs) (bankIn file) (ap (λ (f : Fault). f .refusal) found ∙ none-found file h)
+
+    pub read-bad : (f : Fault) → fault file ≡ f → (f .refusal ≡ 0 → ⊥) → readRefused f zs xs ≡ readOutcome file zs xs
+    unfolding readOutcome
+    read-bad f e bad = as-refused (readFault file zs xs) f (bankIn file) (found ∙ e) bad
+
+  pub reads-start : (start : List ℕ) (size : ℕ) (o : ReadOutcome) → o ≡ startOutcome start size zs xs → ReadsStart start size zs xs o
+  reads-start start size o e = record {
+    outcome = e;
+    each = λ file bytes enough begins. record { outcome = e ∙ start-reads start size file enough begins; exactly = exactly file bytes };
+  }
+
+-- all of a file is enough of it
+pub all-enough : (n : ℕ) → T (suffices n n)
+all-enough n = rw (eq-eqb n n refl) tt
+
+-- what a test of it finds
+module _ (have size : ℕ) where
+  pub enough-all : have ≡ size → true ≡ suffices have size
+  enough-all e = sym (rw (eq-eqb have size e))
+
+  module _ (other : have ≡ size → ⊥) where
+    pub enough-few : have < largest → false ≡ suffices have size
+    enough-few h = sym (rw (ne-eqb have size other, lt-leb largest have h))
+
+    pub enough-first : largest ≤ have → leb have size ≡ suffices have size
+    enough-first h = sym (rw (ne-eqb have size other, le-leb largest have h))
 
 module _ (file : List ℕ) (zs : List ℤ) (xs : List Float) where
   -- what stands in the lists once the rows are filled in
@@ -156,6 +203,27 @@ module _ (taps n l file : ℕ) where
       ]
 
 -- ---- writing
+
+module _ (n l : ℕ) where
+  pub rows-wrong : within 1 8 n ≡ false → wrong 15 5 ≡ countsWrong n l
+  rows-wrong h = sym (fails (within 1 8 n) 15 5 (unless (within 1 512 l) 16 7) (omega arith) h)
+
+  module _ (few : within 1 8 n ≡ true) where
+    pub length-wrong : within 1 512 l ≡ false → wrong 16 7 ≡ countsWrong n l
+    length-wrong h = sym (passes (within 1 8 n) 15 5 (unless (within 1 512 l) 16 7) few ∙ rw h)
+
+    pub counts-right : within 1 512 l ≡ true → sound ≡ countsWrong n l
+    counts-right h = sym (passes (within 1 8 n) 15 5 (unless (within 1 512 l) 16 7) few ∙ rw h)
+
+-- counts that are right, and those that are not
+pub counts-fit : (n l : ℕ) → countsWrong n l .refusal ≡ 0 → (n ≤ 8) × (l ≤ 512)
+counts-fit n l e =
+    let both = else-none (unless (within 1 8 n) 15 5) (unless (within 1 512 l) 16 7) e in
+    (within-true 1 8 n (unless-none _ 15 5 (omega arith) (both .0)) .1, within-true 1 512 l (unless-none _ 16 7 (omega arith) (both .1)) .1)
+
+pub counts-break : (b : Bank) (r : Fault) → r ≡ countsWrong (rows b) (b .length) → (r .refusal ≡ 0 → ⊥) → r ≡ writeFault b
+unfolding writeFault
+counts-break b r e bad = else-stop (countsWrong (rows b) (b .length)) _ r e bad
 
 module _ (b : Bank) (file : List ℕ) where
   -- the lengths fit

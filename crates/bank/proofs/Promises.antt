@@ -1,31 +1,33 @@
--- What the promises say: no two outcomes meet one (`read-unique`, `write-unique`); a file is accepted exactly if it is the encoding of a bank that keeps the form, and that bank is filled in
+-- What the promises say: no two outcomes meet one (`read-unique`, `read-start-unique`, `write-unique`); a file is accepted exactly if it is the encoding of a bank that keeps the form, and that bank is filled in
 -- (`accepted-is`, `is-accepted`); a bank is accepted exactly if it keeps the form (`written-is`, `is-written`); reading what was written gives the same bank (`read-after-write`), and
 -- writing what was read gives the same bytes (`write-after-read`). Assumes nothing.
 use mathlib.Core.Path.{_≡_, refl, sym, ap, _∙_}
 use mathlib.Core.Bool.{true}
 use mathlib.Core.List.{List}
 use Prim.Native.Nat.{ℕ, _*_}
-use borrow.Author.Tests.{not-false}
+use borrow.Author.Tests.{eq-eqb, eqb-true}
 use lib.Ieee.{Float}
 use lib.IntN.{ℤ}
 use lib.ListN.{length}
-use Rattle.refusals.proofs.First.{none-told}
-use Rattle.refusals.proofs.Chains.{none-holds}
 use Rattle.refusals.specs.OneAnswer.{OneAnswer}
 use Rattle.refusals.proofs.Determined.{determined, determined-by}
 use Rattle.lists.proofs.Placed.{take-placed}
-use Rattle.checks.proofs.Checks.{is-equal}
 use Rattle.bank_form.specs.Bank.{Bank, rows, valid}
 use Rattle.bank_form.specs.Encoding.{encode}
-use Rattle.bank_form.specs.Fault.{bankIn, isFile}
+use Rattle.bank_form.specs.Fault.{bankIn, fault, isFile}
+use Rattle.bank_form.specs.WriteFault.{writeFault}
 use Rattle.bank_form.specs.File.{IsFile}
-use Rattle.bank_form.proofs.Exact.{keeps}
-use Rattle.bank.specs.Reading.{ReadOutcome, readChecks, readRefusal, readRefused, readBank, readOutcome, Reads, bankFound}
-use Rattle.bank.specs.Writing.{WriteOutcome, writeChecks, writeRefusal, writeRefused, writeBank, writeOutcome, Writes}
-use Rattle.bank.proofs.Answers.{accepted, Lent, written}
+use Rattle.bank_form.proofs.Exact.{keeps, is-file}
+use Rattle.bank_form.proofs.Writer.{write-none}
+use Rattle.bank.specs.Reading.{ReadOutcome, readBank, readFault, readOutcome, Reads, ReadsStart, bankFound}
+use Rattle.bank.specs.Writing.{WriteOutcome, writeWrong, writeRefused, writeBank, writeOutcome, Writes}
+use Rattle.bank.proofs.Answers.{told-is, as-told, Accepted, lists-accepted, read-good, Lent, written, written-lengths}
 
 pub read-unique : (file : List ℕ) (zs : List ℤ) (xs : List Float) → OneAnswer (Reads file zs xs)
 read-unique file zs xs = determined-by (λ r h. h .outcome)
+
+pub read-start-unique : (start : List ℕ) (size : ℕ) (zs : List ℤ) (xs : List Float) → OneAnswer (ReadsStart start size zs xs)
+read-start-unique start size zs xs = determined-by (λ r h. h .outcome)
 
 pub write-unique : (b : Bank) (file : List ℕ) → OneAnswer (Writes b file)
 write-unique b file = determined
@@ -33,55 +35,47 @@ write-unique b file = determined
 -- ---- reading
 
 module _ (file : List ℕ) (zs : List ℤ) (xs : List Float) where
-  pub record Accepted : Type 0 where
-    pub eight : length zs ≡ 8
-    pub most : length xs ≡ 8192
-    pub file-good : isFile file ≡ true
-
-  parts : readRefusal file zs xs ≡ 0 → Accepted
-  unfolding readRefusal
-  parts e =
-      let off = none-holds (readChecks file zs xs) tt e in
-      record { eight = is-equal _ _ (off .0); most = is-equal _ _ (off .1 .0); file-good = not-false _ (off .1 .1 .0) }
-
-  pub accepted-parts : readOutcome file zs xs .answer .refusal ≡ 0 → Accepted
+  refusal-is : readOutcome file zs xs .answer .refusal ≡ readFault file zs xs .refusal
   unfolding readOutcome
-  accepted-parts e = parts (none-told _ (λ n. readRefused n zs xs) (λ (o : ReadOutcome). o .answer .refusal) (λ n. refl) _ e)
+  refusal-is = as-told zs xs (readFault file zs xs) (bankIn file)
+
+  pub accepted-parts : readOutcome file zs xs .answer .refusal ≡ 0 → Accepted zs xs (fault file)
+  unfolding readFault
+  accepted-parts e = lists-accepted zs xs (fault file) (sym refusal-is ∙ e)
 
   -- what is accepted is a bank file, and its bank is filled in
   pub accepted-is : (o : ReadOutcome) → Reads file zs xs o → o .answer .refusal ≡ 0 → IsFile file (bankIn file) × (o ≡ readBank (bankIn file) zs xs)
   accepted-is o r e =
       let a = accepted-parts (ap (λ (y : ReadOutcome). y .answer .refusal) (sym (r .outcome)) ∙ e) in
-      (r .exactly .sound (a .file-good), r .outcome ∙ sym (accepted file zs xs (a .eight) (a .most) (a .file-good)))
+      let good = is-file file (a .none) in
+      (r .exactly .sound good, r .outcome ∙ sym (read-good zs xs file (a .eight) (a .most) good))
 
   -- and each bank file is accepted by lists of the lengths asked for
   pub is-accepted : (o : ReadOutcome) → Reads file zs xs o → length zs ≡ 8 → length xs ≡ 8192 → (b : Bank) → IsFile file b → o ≡ readBank b zs xs
   is-accepted o r h g b f =
       let c = r .exactly .complete b f in
-      r .outcome ∙ sym (accepted file zs xs h g (c .0)) ∙ ap (λ (y : Bank). readBank y zs xs) (c .1)
+      r .outcome ∙ sym (read-good zs xs file h g (c .0)) ∙ ap (λ (y : Bank). readBank y zs xs) (c .1)
 
 -- ---- writing
 
 module _ (b : Bank) (file : List ℕ) where
-  lengths-and-form : writeRefusal b file ≡ 0 → Lent b file × (valid b ≡ true)
-  unfolding writeRefusal
-  lengths-and-form e =
-      let off = none-holds (writeChecks b file) tt e in
-      (record { count = is-equal _ _ (off .0); size = is-equal _ _ (off .1 .0) }, not-false _ (off .1 .1 .0))
-
-  written-parts : writeOutcome b file .answer .refusal ≡ 0 → Lent b file × (valid b ≡ true)
+  written-parts : writeOutcome b file .answer .refusal ≡ 0 → Lent b file × (writeFault b .refusal ≡ 0)
   unfolding writeOutcome
-  written-parts e = lengths-and-form (none-told _ (λ n. writeRefused n file) (λ (w : WriteOutcome). w .answer .refusal) (λ n. refl) _ e)
+  written-parts e =
+      let told = told-is (λ (w : WriteOutcome). w .answer .refusal) (writeBank b) (writeRefused (writeWrong b file) file) (writeWrong b file .refusal) refl refl in
+      written-lengths b file (sym told ∙ e)
 
   -- a bank that is accepted keeps the form, and its file is filled in
   pub written-is : (w : WriteOutcome) → Writes b file w → w .answer .refusal ≡ 0 → (valid b ≡ true) × (w ≡ writeBank b)
   written-is w r e =
       let p = written-parts (ap (λ (y : WriteOutcome). y .answer .refusal) (sym r) ∙ e) in
-      (p .1, r ∙ sym (written b file (p .0) (p .1)))
+      (sym (write-none b (p .0 .count)) ∙ eq-eqb (writeFault b .refusal) 0 (p .1), r ∙ sym (written b file (p .0) (p .1)))
 
   -- and each bank that keeps the form is accepted, with a buffer of its file's length
   pub is-written : (w : WriteOutcome) → Writes b file w → valid b ≡ true → length file ≡ length (encode b) → w ≡ writeBank b
-  is-written w r h g = r ∙ sym (written b file (record { count = keeps b h .count; size = g }) h)
+  is-written w r h g =
+      let count = keeps b h .count in
+      r ∙ sym (written b file (record { count = count; size = g }) (eqb-true (writeFault b .refusal) 0 (write-none b count ∙ h)))
 
 -- ---- there and back
 

@@ -1,5 +1,5 @@
 -- Answers of another shape than the code's, each of which a worked input shows to break its promise. Assumes nothing.
-use mathlib.Core.Path.{_≡_, refl, ap}
+use mathlib.Core.Path.{_≡_, refl, sym, ap, _∙_}
 use mathlib.Core.List.{List, [], _∷_}
 use Prim.Native.Nat.{ℕ}
 use native.Mathlib.Omega.{arith}
@@ -8,17 +8,35 @@ use lib.IntN.{ℤ, pos}
 use lib.Signed.{mag}
 use lib.ListN.{length, take, drop, replicate, getD, length-replicate}
 use Rattle.lists.specs.Placed.{placed}
-use Rattle.bank.specs.Reading.{ReadOutcome, readRefused, readBank, Reads}
-use Rattle.bank.specs.Writing.{WriteOutcome, Writes}
+use Rattle.big_endian.specs.Bytes.{bytesOf}
+use Rattle.bank_form.specs.Bank.{Bank}
+use Rattle.bank_form.specs.Encoding.{rowBytes, headBytes, encode}
+use Rattle.bank_form.specs.Fault.{wrong, orElse}
+use Rattle.bank_form.specs.WriteFault.{writeFault}
+use Rattle.bank.specs.Reading.{ReadOutcome, readRefused, readBank, Reads, ReadsStart}
+use Rattle.bank.specs.Writing.{WriteOutcome, writeRefused, writeOutcome, Writes}
 use Rattle.bank.specs.Drill.{oneRow, oneRowBytes}
+use Rattle.bank.proofs.Answers.{start-lent, breaks}
 use Rattle.bank.proofs.Drill.{drill-read, drill-cut, drill-written}
 
 -- lists that hold something else than what the file would bring
 sevens : List ℤ
 sevens = pos 7 ∷ pos 7 ∷ pos 7 ∷ pos 7 ∷ pos 7 ∷ pos 7 ∷ pos 7 ∷ pos 7 ∷ []
 
+-- a bank of no rows, with an L that is too large
+noRows : Bank
+noRows = record { azimuths = []; length = 513; taps = [] }
+
+no-rows-wrong : writeFault noRows ≡ wrong 15 5
+unfolding noRows writeFault orElse
+no-rows-wrong = refl
+
+no-rows-told : (buffer : List ℕ) → length buffer ≡ 9 → writeRefused (wrong 15 5) buffer ≡ writeOutcome noRows buffer
+unfolding noRows encode headBytes rowBytes bytesOf
+no-rows-told buffer h = breaks noRows buffer (record { count = refl; size = h }) (wrong 15 5) (sym no-rows-wrong) (λ z. omega (arith, z))
+
 -- the azimuth is filled in, and then the file turns out to be cut short
-filled-before-the-check : (xs : List Float) → length xs ≡ 8192 → Reads (take 18 oneRowBytes) sevens xs (record { answer = record { refusal = 9; rows = 0; length = 0 }; azimuths = pos 0 ∷ drop 1 sevens; taps = xs }) → ⊥
+filled-before-the-check : (xs : List Float) → length xs ≡ 8192 → Reads (take 18 oneRowBytes) sevens xs (record { answer = record { refusal = 14; offset = 1; rows = 0; length = 0 }; azimuths = pos 0 ∷ drop 1 sevens; taps = xs }) → ⊥
 unfolding sevens
 filled-before-the-check xs h r =
     let e = drill-cut sevens xs refl h _ r in
@@ -26,14 +44,14 @@ filled-before-the-check xs h r =
     omega arith
 
 -- every file is refused
-refuses-always : (xs : List Float) → length xs ≡ 8192 → Reads oneRowBytes sevens xs (readRefused 9 sevens xs) → ⊥
+refuses-always : (xs : List Float) → length xs ≡ 8192 → Reads oneRowBytes sevens xs (readRefused (wrong 14 1) sevens xs) → ⊥
 unfolding sevens
 refuses-always xs h r =
-    let z : _≡_ {A = ℕ} 9 0 = ap (λ (o : ReadOutcome). o .answer .refusal) (drill-read sevens xs refl h _ r) in
+    let z : _≡_ {A = ℕ} 14 0 = ap (λ (o : ReadOutcome). o .answer .refusal) (drill-read sevens xs refl h _ r) in
     omega arith
 
 -- accepted, and nothing filled in
-fills-nothing : (xs : List Float) → length xs ≡ 8192 → Reads oneRowBytes sevens xs (record { answer = record { refusal = 0; rows = 1; length = 1 }; azimuths = sevens; taps = xs }) → ⊥
+fills-nothing : (xs : List Float) → length xs ≡ 8192 → Reads oneRowBytes sevens xs (record { answer = record { refusal = 0; offset = 0; rows = 1; length = 1 }; azimuths = sevens; taps = xs }) → ⊥
 unfolding sevens placed
 fills-nothing xs h r =
     let z : _≡_ {A = ℕ} 7 0 = ap (λ (o : ReadOutcome). mag (getD (o .azimuths) 0 (pos 0))) (drill-read sevens xs refl h _ r) in
@@ -43,22 +61,38 @@ fills-nothing xs h r =
 reads-what-is-there : (xs : List Float) → length xs ≡ 8192 → Reads (take 18 oneRowBytes) sevens xs (readBank oneRow sevens xs) → ⊥
 unfolding sevens
 reads-what-is-there xs h r =
-    let z : _≡_ {A = ℕ} 0 9 = ap (λ (o : ReadOutcome). o .answer .refusal) (drill-cut sevens xs refl h _ r) in
+    let z : _≡_ {A = ℕ} 0 14 = ap (λ (o : ReadOutcome). o .answer .refusal) (drill-cut sevens xs refl h _ r) in
     omega arith
 
--- a breach of the form is told by another number than 9
-breach-by-another-number : (n : ℕ) → (n ≡ 9 → ⊥) → (xs : List Float) → length xs ≡ 8192 → Reads (take 18 oneRowBytes) sevens xs (readRefused n sevens xs) → ⊥
+-- a file that is cut short is told otherwise than by 14 at 1: as 9, as 19 at its end, or at another place
+cut-told-otherwise : (n at : ℕ) → ((n ≡ 14) × (at ≡ 1) → ⊥) → (xs : List Float) → length xs ≡ 8192 → Reads (take 18 oneRowBytes) sevens xs (readRefused (wrong n at) sevens xs) → ⊥
 unfolding sevens
-breach-by-another-number n other xs h r = other (ap (λ (o : ReadOutcome). o .answer .refusal) (drill-cut sevens xs refl h _ r))
+cut-told-otherwise n at other xs h r =
+    let e = drill-cut sevens xs refl h _ r in
+    other (ap (λ (o : ReadOutcome). o .answer .refusal) e, ap (λ (o : ReadOutcome). o .answer .offset) e)
 
 -- accepted, and nothing written
-writes-nothing : Writes oneRow (replicate 19 0) (record { answer = record { refusal = 0; bytes = 19 }; file = replicate 19 0 }) → ⊥
+writes-nothing : Writes oneRow (replicate 19 0) (record { answer = record { refusal = 0; offset = 0; bytes = 19 }; file = replicate 19 0 }) → ⊥
 writes-nothing r =
     let z : _≡_ {A = ℕ} 0 1 = ap (λ (w : WriteOutcome). getD (w .file) 0 0) (drill-written (replicate 19 0) _ (length-replicate {A = ℕ} 19 0) r) in
     omega arith
 
 -- another version is written
-version-2-written : Writes oneRow (replicate 19 0) (record { answer = record { refusal = 0; bytes = 19 }; file = 2 ∷ drop 1 oneRowBytes }) → ⊥
+version-2-written : Writes oneRow (replicate 19 0) (record { answer = record { refusal = 0; offset = 0; bytes = 19 }; file = 2 ∷ drop 1 oneRowBytes }) → ⊥
 version-2-written r =
     let z : _≡_ {A = ℕ} 2 1 = ap (λ (w : WriteOutcome). getD (w .file) 0 0) (drill-written (replicate 19 0) _ (length-replicate {A = ℕ} 19 0) r) in
+    omega arith
+
+-- a bank of no rows is told by its L, which would stand behind the row count
+length-before-rows : (buffer : List ℕ) → length buffer ≡ 9 → Writes noRows buffer (writeRefused (wrong 16 7) buffer) → ⊥
+length-before-rows buffer h r =
+    let z : _≡_ {A = ℕ} 16 15 = ap (λ (w : WriteOutcome). w .answer .refusal) (r ∙ sym (no-rows-told buffer h)) in
+    omega arith
+
+-- a start that does not tell what the file holds is read as if the rest were nothing
+short-start-read : (xs : List Float) → length xs ≡ 8192 → (o : ReadOutcome) → ReadsStart (take 9 oneRowBytes) 19 sevens xs o → o .answer .refusal ≡ 0 → ⊥
+unfolding sevens
+short-start-read xs h o r e =
+    let five = r .outcome ∙ sym (start-lent sevens xs (take 9 oneRowBytes) 19 refl h refl) in
+    let z : _≡_ {A = ℕ} 0 5 = sym e ∙ ap (λ (q : ReadOutcome). q .answer .refusal) five in
     omega arith

@@ -1,5 +1,4 @@
--- The walk finds nothing exactly if the bytes are those of a bank that keeps the form (`exactly`), and finds something in the bytes of a bank exactly if it breaks the form
--- (`written-exactly`). Assumes nothing.
+-- The walk finds nothing exactly if the bytes are those of a bank that keeps the form (`exactly`). Assumes nothing.
 use mathlib.Core.Path.{_≡_, refl, sym, ap, _∙_}
 use mathlib.Core.Bool.{Bool, true, false, and-eq-true-iff, false≢true}
 use mathlib.Core.List.{List}
@@ -109,6 +108,10 @@ pub is-file : (s : List ℕ) → fault s .refusal ≡ 0 → isFile s ≡ true
 unfolding isFile
 is-file s e = eq-eqb (fault s .refusal) 0 e
 
+pub none-found : (s : List ℕ) → isFile s ≡ true → fault s .refusal ≡ 0
+unfolding isFile
+none-found s e = eqb-true (fault s .refusal) 0 e
+
 pub no-file : (s : List ℕ) → (fault s .refusal ≡ 0 → ⊥) → isFile s ≡ false
 unfolding isFile
 no-file s h = ne-eqb (fault s .refusal) 0 h
@@ -122,22 +125,9 @@ written-keeps b h k =
 pub exactly : (s : List ℕ) → AreBytes s → Exactly s
 unfolding isFile
 exactly s bytes = record {
-  sound = λ e. let w = whole (length s) s (eqb-true (fault s .refusal) 0 e) in record { keeps = is-valid (bankIn s) (whole-keeps s w); bytes = write-read s bytes w };
+  sound = λ e. let w = whole (length s) s (none-found s e) in record { keeps = is-valid (bankIn s) (whole-keeps s w); bytes = write-read s bytes w };
   complete = λ b f. complete b (keeps b (f .keeps)) (f .bytes);
 }
   where
     complete : (b : Bank) → Keeps b → encode b ≡ s → (isFile s ≡ true) × (bankIn s ≡ b)
     complete b k e = let h = keeps-holds b k in (ap isFile (sym e) ∙ written-keeps b h k, ap bankIn (sym e) ∙ read-write b h .same)
-
--- and of a bank that lists hold, the bytes are a file exactly if it keeps the form
-pub written-exactly : (b : Bank) → Holds b → isFile (encode b) ≡ valid b
-unfolding isFile
-written-exactly b h = go (isFile (encode b)) (valid b) refl refl
-  where
-    go : (t u : Bool) → isFile (encode b) ≡ t → valid b ≡ u → t ≡ u
-    go true true e f = refl
-    go true false e f =
-        let k = whole-keeps (encode b) (whole (length (encode b)) (encode b) (eqb-true (fault (encode b) .refusal) 0 e)) in
-        absurd (false≢true (sym f ∙ ap valid (sym (read-write b h .same)) ∙ is-valid (bankIn (encode b)) k))
-    go false true e f = absurd (false≢true (sym e ∙ written-keeps b h (keeps b f)))
-    go false false e f = refl

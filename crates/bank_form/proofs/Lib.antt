@@ -2,12 +2,10 @@
 pub mod Lists
 pub mod Azimuths
 pub mod Walk
-pub mod Agree
-pub mod Places
-pub mod Order
 pub mod RoundTrip
 pub mod Exact
 pub mod Writer
 pub mod Agree
 pub mod Places
+pub mod Order
 pub mod Start

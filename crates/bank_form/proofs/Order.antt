@@ -155,6 +155,6 @@ byte-order = record {
       let told : Told (length s) s t (fault s) =
       record { bad = λ z. bad (nothing-found (length s) s (whole (length s) s z)); own = own } in
       ap (λ (n : ℕ). faultIn n t) long ∙ kept-fault (length s) s t .same told (start-agrees _ s t e);
-  bytes-left = λ s t long left e.
+  last-row = λ s t long e.
       ap (λ (n : ℕ). faultIn n t) long ∙ fault-agrees _ s t (start-agrees _ s t e) (length s) (le-refl _);
 }

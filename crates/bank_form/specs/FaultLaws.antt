@@ -11,7 +11,7 @@ use Rattle.big_endian.specs.Fields.{fieldAt}
 use Rattle.bank_form.specs.declared.Fault.{Fault}
 use Rattle.bank_form.specs.Bank.{Bank}
 use Rattle.bank_form.specs.Encoding.{encode}
-use Rattle.bank_form.specs.Fault.{rowSize, largest, rowsIn, lengthIn, sound, wrong, faultIn, fault}
+use Rattle.bank_form.specs.Fault.{rowSize, largest, rowsIn, lengthIn, sound, faultIn, fault}
 use Rattle.bank_form.specs.Holds.{Holds}
 use Rattle.bank_form.specs.WriteFault.{writeFault}
 
@@ -34,12 +34,12 @@ NumbersAndPlaces = (s : List ℕ) → (fault s ≡ sound) ⊎ Placed (length s) 
 abbrev pub fieldSize : ℕ → ℕ
 fieldSize n = cond (eqb n 13) 1 (cond (eqb n 14 || eqb n 18) 4 (cond (eqb n 19) 0 2))
 
--- "Checks run in byte order": a file as long that agrees up to the end of the field at fault has the same fault. Where bytes are left after the last row, it agrees up to the end of that row.
+-- "Checks run in byte order": a file as long that agrees up to the end of the field at fault has the same fault. Bytes that are left after the last row have no field of their own, but every file as long
+-- that agrees up to the end of that row has the same fault.
 pub record ByteOrder : Type 0 where
   pub field-at-fault : (s t : List ℕ) → length t ≡ length s → (fault s ≡ sound → ⊥) → (fault s .refusal ≡ 14 → fieldAt s 1 4 ≡ length s - 5 → ⊥)
       → take (fault s .offset + fieldSize (fault s .refusal)) t ≡ take (fault s .offset + fieldSize (fault s .refusal)) s → fault t ≡ fault s
-  pub bytes-left : (s t : List ℕ) → length t ≡ length s → fault s ≡ wrong 14 1
-      → take (9 + rowsIn s * rowSize (lengthIn s)) t ≡ take (9 + rowsIn s * rowSize (lengthIn s)) s → fault t ≡ fault s
+  pub last-row : (s t : List ℕ) → length t ≡ length s → take (9 + rowsIn s * rowSize (lengthIn s)) t ≡ take (9 + rowsIn s * rowSize (lengthIn s)) s → fault t ≡ fault s
 
 -- ---- the start of a file
 

@@ -1,17 +1,17 @@
--- `bank::write_checked` meets its contract. What was made is the encoding of the bank, which is a file exactly if the bank keeps the form. Assumes nothing.
+-- `bank::write_checked` meets its contract. What was made is the encoding of the bank, whose first fault is the bank's. Assumes nothing.
 use mathlib.Core.Path.{_≡_, sym, ap, _∙_}
-use mathlib.Core.Bool.{Bool}
 use mathlib.Core.List.{List}
 use Prim.Native.Nat.{ℕ, _≤_}
 use native.Mathlib.Omega.{arith}
 use lib.ListN.{length, take}
 use lib.Seq.{length-take-le}
 use Rattle.bank_form.specs.declared.Fault.{Fault}
-use Rattle.bank_form.specs.Bank.{Bank, valid}
+use Rattle.bank_form.specs.Bank.{Bank}
 use Rattle.bank_form.specs.Encoding.{encode}
-use Rattle.bank_form.specs.Fault.{fault, isFile}
+use Rattle.bank_form.specs.Fault.{fault}
 use Rattle.bank_form.specs.Holds.{Holds}
-use Rattle.bank_form.proofs.Exact.{is-file, no-file, written-exactly}
+use Rattle.bank_form.specs.WriteFault.{writeFault}
+use Rattle.bank_form.proofs.Writer.{writer-as-reader}
 use Rattle.bank_form.proofs.RoundTrip.{length-encode, rows-reach}
 use Rattle.bank.proofs.Answers.{Lent, breaks, written, wrote}
 use Rattle.bank.proofs.Fill.{made-file, copied}
@@ -48,15 +48,15 @@ module _ (c : tie.After-put-bank) where
   held : Holds bank
   held =
       let start = c .before .before .before .before .before in
-      record { few = start .pre .1; short = start .pre .0; count = start .pre .2; azimuths = c .put-bank .ensures .1; taps = λ i. c .before .before .before .before .shared-slice-known .given i }
+      let small = rows-reach (length (start .args .azimuths .now)) 8 (start .args .l) (start .pre .1) (start .pre .0) in
+      record { few = omega (arith, start .pre .1); short = omega (arith, start .pre .0); follow = omega (arith, small); count = start .pre .2; azimuths = c .put-bank .ensures .1; taps = λ i. c .before .before .before .before .shared-slice-known .given i }
 
 -- what the check of it found
 module _ (c : tie.After-check-file) where
-  found : c .check-file .result ≡ fault (encode (bank (c .before .before .before .before)))
-  found = c .check-file .ensures .first ∙ ap fault (same (c .before .before .before .before))
-
-  judged : (t : Bool) → isFile (encode (bank (c .before .before .before .before))) ≡ t → valid (bank (c .before .before .before .before)) ≡ t
-  judged t e = sym (written-exactly (bank (c .before .before .before .before)) (held (c .before .before .before .before))) ∙ e
+  found : c .check-file .result ≡ writeFault (bank (c .before .before .before .before))
+  found =
+      let put = c .before .before .before .before in
+      c .check-file .ensures .first ∙ ap fault (same put) ∙ sym (writer-as-reader (bank put) (held put))
 
 put-bank-requires : tie.Need-put-bank-requires
 put-bank-requires c κs = search needs
@@ -79,8 +79,7 @@ same-length c = search needs
 returns : tie.Need-returns
 returns c =
     let check = c .before .before .before in
-    let fails = judged check _ (no-file _ (λ e. c .before .if1 .taken (ap (λ (f : Fault). f .refusal) (found check) ∙ e))) in
-    rw (c .unwritten .ensures) (breaks _ _ (lent (check .before .before .before .before)) fails)
+    rw (c .unwritten .ensures) (breaks _ _ (lent (check .before .before .before .before)) _ (found check) (c .before .if1 .taken))
 
 slice-reshare-prefix-copy : tie.Need-slice-reshare-prefix-copy
 slice-reshare-prefix-copy c = room (c .before .before .before .before .before .before)
@@ -103,9 +102,9 @@ returns-2 : tie.Need-returns-2
 returns-2 c =
     let check = c .before .before .before .before .before .before .before in
     let put = check .before .before .before .before in
-    let holds = judged check _ (is-file _ (ap (λ (f : Fault). f .refusal) (sym (found check)) ∙ c .before .before .before .before .before .if1 .left)) in
+    let none = ap (λ (f : Fault). f .refusal) (sym (found check)) ∙ c .before .before .before .before .before .if1 .left in
     let copy = c .before .before .copy .ensures .1 ∙ copied _ (file put) (length-take-le (length (file put)) (made put) (room put)) ∙ same put in
-    wrote (bank put) (file put) _ _ (sym (size put)) copy ∙ written (bank put) (file put) (lent put) holds
+    wrote (bank put) (file put) _ _ (sym (size put)) copy ∙ written (bank put) (file put) (lent put) none
 
 pub write-checked-spec : {M : Type 1} → statement M
 write-checked-spec =
