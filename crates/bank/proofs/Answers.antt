@@ -2,6 +2,7 @@
 use mathlib.Core.Path.{_≡_, refl, sym, ap, ap₂, _∙_}
 use mathlib.Core.Bool.{Bool, true, false, _&&_, and-false, and-eq-true-iff}
 use mathlib.Core.List.{List}
+use mathlib.Core.Logic.{_⊎_, inl, inr}
 use Prim.Native.Nat.{ℕ, zero, suc, _+_, _-_, _*_, _≤_, _<_}
 use native.Mathlib.Decide.{ℕ-discrete}
 use native.Mathlib.Omega.{arith}
@@ -49,7 +50,7 @@ fails good n at f h e = rw (e, ne-eqb n 0 (λ z. omega (arith, h, z)))
 -- ---- reading
 
 module _ (zs : List ℤ) (xs : List Float) where
-  as-refused : (f g : Fault) (b : Bank) → f ≡ g → (g .refusal ≡ 0 → ⊥) → readRefused g zs xs ≡ readAs f b zs xs
+  pub as-refused : (f g : Fault) (b : Bank) → f ≡ g → (g .refusal ≡ 0 → ⊥) → readRefused g zs xs ≡ readAs f b zs xs
   as-refused f g b e bad = sym (answered-refused _ (λ k. readRefused f zs xs) (f .refusal) (λ z. bad (ap (λ (q : Fault). q .refusal) (sym e) ∙ z)) ∙ ap (λ (q : Fault). readRefused q zs xs) e)
 
   as-read : (f : Fault) (b : Bank) → f .refusal ≡ 0 → readBank b zs xs ≡ readAs f b zs xs
@@ -74,6 +75,14 @@ module _ (zs : List ℤ) (xs : List Float) where
 
   right-lists : (bank : Fault) → length zs ≡ 8 → length xs ≡ 8192 → readWrong bank zs xs ≡ bank
   right-lists bank e f = passes _ 5 0 _ (eq-eqb (length zs) 8 e) ∙ passes _ 5 0 _ (eq-eqb (length xs) 8192 f)
+
+  -- so a refusal is for a length, or the bank's
+  pub wrong-or-bank : (bank : Fault) → (readWrong bank zs xs ≡ wrong 5 0) ⊎ (readWrong bank zs xs ≡ bank)
+  wrong-or-bank bank =
+      elim (ℕ-discrete (length zs) 8) [
+        | no h ↦ inl (wrong-azimuths bank h)
+        | yes e ↦ elim (ℕ-discrete (length xs) 8192) [ no h ↦ inl (wrong-taps bank e h) | yes f ↦ inr (right-lists bank e f) ]
+      ]
 
   pub record Accepted (bank : Fault) : Type 0 where
     pub eight : length zs ≡ 8

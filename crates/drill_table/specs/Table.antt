@@ -68,7 +68,7 @@ pub record DrillTable : Type 0 where
   pub item-9-heard : heard drill [] (samples nan) ≡ (nan ∷ nan ∷ []) ∷ (nan ∷ nan ∷ []) ∷ (zero-float ∷ zero-float ∷ []) ∷ []
   -- 10. Rows at 0 and 450 tenths, speaker at 225 tenths: the first. Whatever stands in the list beyond the two rows.
   pub item-10 : (rest : List ℤ) → length rest ≡ 6 → (r : Choice) → Chooses (pos 0 ∷ pos 450 ∷ rest) 2 (pos 225) r → r ≡ record { refusal = 0; row = 0 }
-  -- 11. The bank bytes above, and 9 without the last byte. Whatever is lent.
-  pub item-11-written : (buffer : List ℕ) → length buffer ≡ 19 → (w : WriteOutcome) → Writes oneRow buffer w → w ≡ record { answer = record { refusal = 0; bytes = 19 }; file = oneRowBytes }
+  -- 11. The bank bytes above, and 14 at 1 without the last byte (document 02, E2: 9 is no longer given for a bank). Whatever is lent.
+  pub item-11-written : (buffer : List ℕ) → length buffer ≡ 19 → (w : WriteOutcome) → Writes oneRow buffer w → w ≡ record { answer = record { refusal = 0; offset = 0; bytes = 19 }; file = oneRowBytes }
   pub item-11-read : (zs : List ℤ) (xs : List Float) → length zs ≡ 8 → length xs ≡ 8192 → (o : ReadOutcome) → Reads oneRowBytes zs xs o → o ≡ readBank oneRow zs xs
-  pub item-11-cut : (zs : List ℤ) (xs : List Float) → length zs ≡ 8 → length xs ≡ 8192 → (o : ReadOutcome) → Reads (take 18 oneRowBytes) zs xs o → o ≡ readRefused 9 zs xs
+  pub item-11-cut : (zs : List ℤ) (xs : List Float) → length zs ≡ 8 → length xs ≡ 8192 → (o : ReadOutcome) → Reads (take 18 oneRowBytes) zs xs o → o ≡ readRefused (record { refusal = 14; offset = 1 }) zs xs

@@ -6,6 +6,8 @@ use Prim.Native.Nat.{ℕ, _+_, _≤_, min, max}
 use lib.IntN.{ℤ}
 use lib.ListN.{length, take}
 use lib.Ieee.{Float}
+use Rattle.big_endian.specs.Bytes.{AreBytes}
+use Rattle.bank_form.specs.Fault.{largest}
 use Rattle.bank.specs.Reading.{ReadOutcome, Reads}
 
 -- bytes are read behind those that are held, no more than `limit`, or one where that is 0: those that were there stay, so many stand there now, and a read that failed has added none
@@ -15,6 +17,11 @@ pub record ReadBehind (held limit : ℕ) (before : List ℕ) (failed : Bool) (si
   pub room : size ≤ length after
   pub none : failed ≡ true → size ≡ min held (length before)
   pub keeps : take held after ≡ take held before
+
+-- what reading leaves for every file of `size` bytes whose first stand in a list of bytes: as many of them as the largest bank has
+pub record ReadSized (bytes : List ℕ) (size : ℕ) (zs : List ℤ) (xs : List Float) (o : ReadOutcome) : Type 0 where
+  pub are : AreBytes bytes
+  pub each : (file : List ℕ) → AreBytes file → length file ≡ size → take largest file ≡ take size bytes → Reads file zs xs o
 
 -- what reading leaves for the bytes of some file
 pub record Found (zs : List ℤ) (xs : List Float) (o : ReadOutcome) : Type 0 where

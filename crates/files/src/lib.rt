@@ -1,10 +1,12 @@
-// Reads and opens the files of the programs: a bank is read whole, by its name; a line is read part by part;
-// the ears' file is opened.
+// Reads and opens the files of the programs: a bank is read by its name; a line is read part by part; the
+// ears' file is opened.
 //
 // What the system hands over no contract can name. So a read promises where its bytes stand and that those
 // before them stay, and a bank that what is answered is what `bank::read` promises for the bytes of some
-// file.
+// file. A file that is longer than any bank is judged whole all the same: its first bytes are kept, the rest
+// is counted, and `bank::read_start` tells what is wrong with it.
 use bank::BankRead;
+use bank_form::LARGEST;
 use libc::STDERR_FILENO;
 ghost use mathlib.Core.Path.{_≡_};
 ghost use mathlib.Core.Bool.{true};
@@ -12,7 +14,12 @@ ghost use Prim.Native.Nat.{_+_, _≤_, _<_, max};
 ghost use lib.IntN.{pos};
 ghost use lib.ListN.{length};
 ghost use Rattle.io.specs.Counts.{Counts};
-ghost use Rattle.files.specs.Promises.{ReadBehind, Found};
+ghost use Rattle.bank_form.specs.Fault.{largest};
+ghost use Rattle.files.specs.Promises.{ReadBehind, ReadSized, Found};
+
+// A length field says at most that 2^32 - 1 bytes come after its own place, which is at the fifth: from one byte more on
+// all files have the same fault.
+const TOO_LONG: usize = 4294967301;
 
 // Whether a read failed, and how many bytes now stand in the buffer. One that failed has added none.
 pub struct Got {
@@ -77,17 +84,53 @@ fn fill(file: i32, bytes: &mut [u8]) -> usize
     at
 }
 
+// How many bytes a file has, of which so many were read: counted until it ends, or is longer than a length field can
+// say. None where a read fails.
+fn count_rest(file: i32, read: usize) -> usize {
+    let mut space = [0u8; 4096];
+    let mut size = read;
+    while size < TOO_LONG {
+        let got = read_into(file, &mut space);
+        if got.failed {
+            return 0;
+        }
+        if got.size == 0 {
+            return size;
+        }
+        size += got.size;
+    }
+    size
+}
+
+// Reads the first bytes of a file, as many as the list holds, and answers how many the file has. One that cannot be
+// read counts as a file of no bytes.
+fn read_first(file: i32, bytes: &mut [u8]) -> usize {
+    let read = fill(file, bytes);
+    if read < bytes.len() {
+        return read;
+    }
+    count_rest(file, read)
+}
+
+// Reads the bank of a file of `size` bytes, whose first stand in a list that has room for the largest bank.
+fn read_sized(bytes: &[u8], size: usize, azimuths: &mut [i16], taps: &mut [f32]) -> BankRead
+    requires { ⌜ length (now bytes) ≡ largest ⌝ }
+    ensures { λ r. ⌜ ReadSized (now (bytes .entry)) size (now (azimuths .entry)) (now (taps .entry)) (record { answer = r; azimuths = now (azimuths .exit); taps = now (taps .exit) }) ⌝ }
+{
+    let n = checks::least(size, bytes.len());
+    bank::read_start(&bytes[..n], size, azimuths, taps)
+}
+
 // Reads the bank of a name. One that is missing, or cannot be read, counts as a file of no bytes, which breaks the
-// form: from a name that cannot be opened no read succeeds. The buffer is one byte longer than the largest bank, so
-// that a file that is too long is seen to be.
+// form: from a name that cannot be opened no read succeeds.
 pub fn read_bank(path: &[u8], azimuths: &mut [i16], taps: &mut [f32]) -> BankRead
     ensures { λ r. ⌜ Found (now (azimuths .entry)) (now (taps .entry)) (record { answer = r; azimuths = now (azimuths .exit); taps = now (taps .exit) }) ⌝ }
 {
     let file = os::open_read(path);
-    let mut bytes = [0u8; 32794];
-    let n = fill(file, &mut bytes);
+    let mut bytes = [0u8; LARGEST];
+    let size = read_first(file, &mut bytes);
     libc::close(file);
-    bank::read(&bytes[..n], azimuths, taps)
+    read_sized(&bytes, size, azimuths, taps)
 }
 
 // Opens the file of a name for the ears and empties it; a negative number where that fails. It never has the number of
