@@ -1,18 +1,16 @@
--- What the promise rules out: L in the place of the rows of every bank that is read, any answer to a bank to write whose lists are not as long as it says, and on a worked request a speaker from one byte
--- early. Assumes nothing.
+-- What the promise rules out: of a bank to read the rows in the place of the offset, any answer to a bank to write whose lists are not as long as it says, and on a worked request a speaker from
+-- one byte early. Assumes nothing.
 use mathlib.Core.Path.{_≡_, refl, sym, ap, _∙_}
-use mathlib.Core.List.{List, [], _∷_}
+use mathlib.Core.List.{List, [], _∷_, _++_}
 use Prim.Native.Nat.{ℕ, _+_, _*_, _%_, _^_, _≤_}
 use native.Mathlib.Omega.{arith}
 use borrow.Author.Tests.{le-leb}
 use lib.ListN.{length, take, drop, replicate}
-use Rattle.refusals.proofs.First.{stops, answered-accepted}
+use Rattle.refusals.proofs.First.{stops}
 use Rattle.big_endian.specs.Bytes.{valueOf, bytesOf}
 use Rattle.big_endian.specs.Fields.{fieldAt, signedAt}
 use Rattle.big_endian.specs.Lists.{strided, signedBytes, floatBytes, signedsAt}
-use Rattle.big_endian.proofs.Lists.{length-strided}
-use Rattle.bank_form.specs.Fault.{rowSize, rowsIn, lengthIn}
-use Rattle.bank.specs.Reading.{ReadOutcome, readRefusal, readOutcome}
+use Rattle.bank.specs.Reading.{readOutcome}
 use Rattle.row_choice.specs.Choice.{inTenths, choiceRefusal, choiceOf}
 use Rattle.probe_request.specs.Requests.{azimuthsLent, samplesLent}
 use Rattle.probe_answer.specs.Answers.{Draft, none}
@@ -23,21 +21,21 @@ use Rattle.probe_bank.specs.Answers.{tapsShown, thenLists, readParts, re
 
 -- ---- 6 bank read
 
--- of an accepted bank L is told in the place of the rows
-length-in-the-place-of-rows : (args out : List ℕ) (r : Draft) → let file = drop 5 args in let zs = filledWith azimuthFilling (azimuthsLent args 0) in let xs = filledWith tapFilling (samplesLent args 1) in
-    r ≡ answerOf 6 args out → 5 ≤ length args → 5 ≤ length out → readRefusal file zs xs ≡ 0 → (rowsIn file % 256 ^ 4 ≡ lengthIn file % 256 ^ 4 → ⊥) → fieldAt (r .bytes) 1 4 ≡ lengthIn file % 256 ^ 4 → ⊥
-unfolding readAnswer readInto readParts thenLists readOutcome
-length-in-the-place-of-rows args out r is long room accepted differs e =
-    let file = drop 5 args in
-    let zs = filledWith azimuthFilling (azimuthsLent args 0) in
+-- the offset is left out, or stands behind the rows
+rows-in-the-place-of-the-offset : (args out : List ℕ) (r : Draft)
+    → let o = readOutcome (drop 5 args) (filledWith azimuthFilling (azimuthsLent args 0)) (filledWith tapFilling (samplesLent args 1)) in
+    r ≡ answerOf 6 args out → 5 ≤ length args → 5 ≤ length out → (o .answer .offset % 256 ^ 4 ≡ o .answer .rows % 256 ^ 4 → ⊥)
+    → fieldAt (r .bytes) 1 4 ≡ o .answer .rows % 256 ^ 4 → ⊥
+unfolding readAnswer readInto readParts thenLists
+rows-in-the-place-of-the-offset args out r is long room differs e =
     let t = samplesLent args 1 in
-    let xs = filledWith tapFilling t in
     let s = tapsShown args t in
-    let o = readOutcome file zs xs in
+    let o = readOutcome (drop 5 args) (filledWith azimuthFilling (azimuthsLent args 0)) (filledWith tapFilling t) in
+    let counts : List (List ℕ) = bytesOf 4 (o .answer .rows) ∷ bytesOf 4 (o .answer .length) ∷ [] in
+    let lists : List (List ℕ) = bytesOf 2 (countChanged s (o .taps)) ∷ signedBytes (o .azimuths) ∷ floatBytes (take s (o .taps)) ∷ [] in
+    let told = second-told (o .answer .refusal) 4 (o .answer .offset) (counts ++ lists) out (omega arith) room in
     let given = is ∙ stops _ _ (le-leb 5 (length args) long) in
-    let told = second-told (o .answer .refusal) 4 (o .answer .rows) (bytesOf 4 (o .answer .length) ∷ bytesOf 2 (countChanged s (o .taps)) ∷ signedBytes (o .azimuths) ∷ floatBytes (take s (o .taps)) ∷ []) out (omega arith) room in
-    let many : o .answer .rows ≡ rowsIn file = ap (λ (x : ReadOutcome). x .answer .rows) (answered-accepted _ _ (readRefusal file zs xs) accepted) ∙ length-strided (signedAt file) (rowSize (lengthIn file)) 9 (rowsIn file) in
-    differs (sym (ap (λ (n : ℕ). n % 256 ^ 4) many) ∙ sym (told .value) ∙ sym (ap (λ (d : Draft). fieldAt (d .bytes) 1 4) given) ∙ e)
+    differs (sym (told .value) ∙ sym (ap (λ (d : Draft). fieldAt (d .bytes) 1 4) given) ∙ e)
 
 -- ---- 7 bank write
 

@@ -25,9 +25,9 @@ tapsShown args t = lentBy args 3 2 t
 abbrev pub bytesLent : List ℕ → ℕ
 bytesLent args = lentBy args 3 2 33000
 
--- every answer begins so: "refusal (1)", and "rows (4)", "bytes (4)" or "row (4)"
-abbrev pub counts : ℕ → ℕ → List ℕ → Draft
-counts refusal n out = none out then bytesOf 1 refusal then bytesOf 4 n
+-- every answer begins so: "refusal (1)", and "offset (4)" or "row (4)"
+abbrev pub refusalAndNumber : ℕ → ℕ → List ℕ → Draft
+refusalAndNumber refusal n out = none out then bytesOf 1 refusal then bytesOf 4 n
 
 -- ---- 6 bank read
 
@@ -35,9 +35,10 @@ counts refusal n out = none out then bytesOf 1 refusal then bytesOf 4 n
 unfoldable pub thenLists : Draft → ℕ → List ℤ → List Float → Draft
 thenLists d s azimuths taps = d then bytesOf 2 (countChanged s taps) then signedBytes azimuths then floatBytes (take s taps)
 
--- "refusal (1), rows (4), L (4)", and the lists "as they stand after the call"
+-- "refusal (1), offset (4), rows (4), L (4)", and the lists "as they stand after the call"
 unfoldable pub readParts : ReadOutcome → ℕ → List ℕ → Draft
-readParts o s out = thenLists (counts (o .answer .refusal) (o .answer .rows) out then bytesOf 4 (o .answer .length)) s (o .azimuths) (o .taps)
+readParts o s out =
+    thenLists (refusalAndNumber (o .answer .refusal) (o .answer .offset) out then bytesOf 4 (o .answer .rows) then bytesOf 4 (o .answer .length)) s (o .azimuths) (o .taps)
 
 -- "the file (the rest)" is read into lists of a and t places, of which s taps are shown
 unfoldable pub readInto : List ℕ → ℕ → ℕ → List ℕ → Draft
@@ -48,9 +49,9 @@ readAnswer args out = cond (leb 5 (length args)) (readInto args (azimuthsLent ar
 
 -- ---- 7 bank write
 
--- "refusal (1), bytes (4), the b bytes of the buffer"
+-- "refusal (1), offset (4), bytes (4), the b bytes of the buffer"
 unfoldable pub writeParts : WriteOutcome → List ℕ → Draft
-writeParts o out = counts (o .answer .refusal) (o .answer .bytes) out then o .file
+writeParts o out = refusalAndNumber (o .answer .refusal) (o .answer .offset) out then bytesOf 4 (o .answer .bytes) then o .file
 
 -- a bank is written into a buffer of b bytes
 unfoldable pub writeFrom : Bank → ℕ → List ℕ → Draft
@@ -70,7 +71,7 @@ writeAnswer args out = writeInto args (azimuthsLent args 0) (samplesLent args 1)
 
 -- "refusal (1), row (4)"
 abbrev pub choiceParts : Choice → List ℕ → Draft
-choiceParts r out = counts (r .refusal) (r .row) out
+choiceParts r out = refusalAndNumber (r .refusal) (r .row) out
 
 -- "a: azimuths (1), rows (8), the speaker in tenths (2), the a azimuths (2 each)"
 unfoldable pub chooseFrom : List ℕ → ℕ → List ℕ → Draft

@@ -2,7 +2,7 @@
 // (docs/PROBE.md, operations 6 to 8).
 //
 // Test code, and promised by equations all the same: how many bytes are answered, and that they are the
-// refusal, the counts and the lists that `bank` and `row_choice` promise for what stands in the request, one
+// refusal, the numbers and the lists that `bank` and `row_choice` promise for what stands in the request, one
 // behind the other.
 use bank::BankRead;
 use probe_request::MOST_AZIMUTHS;
@@ -11,16 +11,16 @@ ghost use mathlib.Core.Path.{_≡_};
 ghost use Prim.Native.Nat.{_≤_};
 ghost use lib.ListN.{length};
 ghost use Rattle.probe_answer.specs.Answers.{draft};
-ghost use Rattle.probe_bank.specs.Answers.{counts, thenLists, readParts, readInto, readAnswer, writeFrom, writeInto, writeAnswer, chooseFrom, chooseAnswer, answerOf};
+ghost use Rattle.probe_bank.specs.Answers.{refusalAndNumber, thenLists, readParts, readInto, readAnswer, writeFrom, writeInto, writeAnswer, chooseFrom, chooseAnswer, answerOf};
 
 mod fillings;
 
 // Room for a file: more than the largest has.
 const MOST_BYTES: usize = 33000;
 
-// Puts what every answer begins with: a refusal and a count.
-fn put_counts(refusal: u8, n: usize, out: &mut [u8]) -> usize
-    ensures { λ r. ⌜ draft r (now (out .exit)) ≡ counts refusal n (now (out .entry)) ⌝ }
+// Puts what every answer begins with: a refusal and a number.
+fn put_refusal_and_number(refusal: u8, n: usize, out: &mut [u8]) -> usize
+    ensures { λ r. ⌜ draft r (now (out .exit)) ≡ refusalAndNumber refusal n (now (out .entry)) ⌝ }
 {
     let a = probe_answer::put(refusal as u64, 1, out, 0);
     probe_answer::put(n as u64, 4, out, a)
@@ -41,9 +41,10 @@ fn put_read(r: BankRead, azimuths: &[i16], taps: &[f32], shown: usize, out: &mut
     requires { ⌜ (shown ≤ length (now taps)) × (length (now taps) ≤ 8200) ⌝ }
     ensures { λ n. ⌜ draft n (now (out .exit)) ≡ readParts (record { answer = r; azimuths = now (azimuths .entry); taps = now (taps .entry) }) shown (now (out .entry)) ⌝ }
 {
-    let a = put_counts(r.refusal, r.rows, out);
-    let b = probe_answer::put(r.length as u64, 4, out, a);
-    put_lists(azimuths, taps, shown, out, b)
+    let a = put_refusal_and_number(r.refusal, r.offset, out);
+    let b = probe_answer::put(r.rows as u64, 4, out, a);
+    let c = probe_answer::put(r.length as u64, 4, out, b);
+    put_lists(azimuths, taps, shown, out, c)
 }
 
 // Reads the bank that stands in the arguments behind the three lengths into lists that are filled first.
@@ -79,8 +80,9 @@ fn write_from(azimuths: &[i16], l: usize, taps: &[f32], file: &mut [u8], out: &m
 {
     fillings::fill_bytes(file);
     let r = bank::write(azimuths, l, taps, file);
-    let a = put_counts(r.refusal, r.bytes, out);
-    probe_answer::put_bytes(file, out, a)
+    let a = put_refusal_and_number(r.refusal, r.offset, out);
+    let b = probe_answer::put(r.bytes as u64, 4, out, a);
+    probe_answer::put_bytes(file, out, b)
 }
 
 // The azimuths and the taps of the bank stand in the arguments behind the three lengths and L.
@@ -132,7 +134,7 @@ fn choose_from(args: &[u8], azimuths: &mut [i16], out: &mut [u8]) -> usize
     probe_request::get_i16s(args, 11, azimuths);
     let rows = probe_request::number(args, 1, 8);
     let r = row_choice::nearest_row(azimuths, rows, big_endian::get_i16(args, 9));
-    put_counts(r.refusal, r.row, out)
+    put_refusal_and_number(r.refusal, r.row, out)
 }
 
 fn choose(args: &[u8], out: &mut [u8]) -> usize

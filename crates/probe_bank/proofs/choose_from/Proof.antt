@@ -20,7 +20,7 @@ returns-2 c =
     let past-if1 = after-get-i16s .before .before in
     let args = past-if1 .before .before .before .args in
     let speaker = after-get-i16 .get-i16 in
-    choice-read (now (args .args)) (now (args .azimuths)) (now (args .out)) _ _ _ _ _ (past-if1 .if1 .left) (after-get-i16s .get-i16s .ensures) (after-number .number .ensures) (back w16 (speaker .result) (speaker .ok) ∙ speaker .ensures) (after-nearest-row .nearest-row .ensures .answer) (c .before .before .put-counts .ensures)
+    choice-read (now (args .args)) (now (args .azimuths)) (now (args .out)) _ _ _ _ _ (past-if1 .if1 .left) (after-get-i16s .get-i16s .ensures) (after-number .number .ensures) (back w16 (speaker .result) (speaker .ok) ∙ speaker .ensures) (after-nearest-row .nearest-row .ensures .answer) (c .before .before .put-refusal-and-number .ensures)
 
 pub choose-from-spec : {M : Type 1} → statement M
 choose-from-spec =
