@@ -4,7 +4,7 @@ use mathlib.Core.Bool.{Bool, true, false, cond}
 use mathlib.Core.List.{List, []}
 use Prim.Native.Nat.{ℕ, _≤_}
 use native.Mathlib.Omega.{arith}
-use borrow.Author.Tests.{ltb-false}
+use borrow.Author.Tests.{ltb-false, eq-eqb, ne-eqb}
 use lib.Dec.{ltb}
 use lib.ListN.{length}
 use lib.Ieee.{Float}
@@ -13,12 +13,12 @@ use Rattle.refusals.proofs.First.{stops, goes-on, answered-accepted, answered-r
 use Rattle.lists.specs.Placed.{placed}
 use Rattle.lists.proofs.Placed.{placed-none}
 use Rattle.history.specs.Setup.{Setup}
-use Rattle.wire.specs.Line.{framesLine, refusedLine}
+use Rattle.wire.specs.Line.{framesLine, refusedLine, refusedAtLine}
 use Rattle.wire.specs.Promises.{Lined}
 use Rattle.ears_file.specs.declared.Ended.{Ended}
 use Rattle.ears_file.specs.declared.Outcome.{Outcome}
 use Rattle.ears_file.specs.declared.turn.Progress.{Progress}
-use Rattle.ears_file.specs.Lines.{refusedRun, endsAs, toldBy}
+use Rattle.ears_file.specs.Lines.{refusedRun, endsAs, refusalLine, toldBy}
 use Rattle.ears_file.specs.Promise.{Ends, Answers}
 use Rattle.ears_file.specs.Turns.{Stands, endOf}
 use Rattle.files.proofs.Parts.{counts}
@@ -62,9 +62,16 @@ told-failed r out e =
     told-by r out [] 0 out (stops _ _ e)
     (record { count = either (ltb (length out) 64) 0 0 refl; filled = either (ltb (length out) 64) out (placed out 0 []) (sym (placed-none out 0)) })
 
-pub told-refused : (r : Outcome) (out : List ℕ) (size : ℕ) (after : List ℕ) → r .failed ≡ false → (r .ended .refusal ≡ 0 → ⊥)
-    → Lined out (refusedLine (r .ended .refusal)) size after → Lined out (toldBy r) size after
-told-refused r out size after e some put = told-by r out _ size after (goes-on _ _ e ∙ answered-refused _ _ _ some) put
+-- a refusal, by whether it is of a part frame
+module _ (r : Outcome) (out : List ℕ) (size : ℕ) (after : List ℕ) (ran : r .failed ≡ false) (some : r .ended .refusal ≡ 0 → ⊥) where
+  refusal-line : toldBy r ≡ refusalLine (r .ended) (r .ended .refusal)
+  refusal-line = goes-on _ _ ran ∙ answered-refused _ (refusalLine (r .ended)) _ some
+
+  pub told-part-frame : r .ended .refusal ≡ 9 → Lined out (refusedLine (r .ended .refusal)) size after → Lined out (toldBy r) size after
+  told-part-frame nine put = told-by r out _ size after (refusal-line ∙ stops _ _ (eq-eqb (r .ended .refusal) 9 nine)) put
+
+  pub told-bank : (r .ended .refusal ≡ 9 → ⊥) → Lined out (refusedAtLine (r .ended .refusal) (r .ended .place)) size after → Lined out (toldBy r) size after
+  told-bank other put = told-by r out _ size after (refusal-line ∙ goes-on _ _ (ne-eqb (r .ended .refusal) 9 other)) put
 
 pub told-played : (r : Outcome) (out : List ℕ) (size : ℕ) (after : List ℕ) → r .failed ≡ false → r .ended .refusal ≡ 0
     → Lined out (framesLine (r .ended .frames) (r .ended .unsettled)) size after → Lined out (toldBy r) size after

@@ -1,5 +1,5 @@
--- What the promise of `run` rules out, whatever the bank and the line are: a refusal by another number than 9, one with a count, a failure that ends as a
--- run that was played, and more unsettled frames than frames. And what that of `told` does. Assumes nothing.
+-- What the promise of `run` rules out, whatever the bank and the line are: a refusal by another number than 9 and 13 to 19, a part frame with a place, a refusal with a
+-- count, a failure that ends as a run that was played, and more unsettled frames than frames. And what that of `told` does. Assumes nothing.
 use mathlib.Core.Path.{_≡_, refl, sym, ap, _∙_}
 use mathlib.Core.Bool.{Bool, true, false, cond}
 use mathlib.Core.List.{List, [], _∷_}
@@ -16,7 +16,10 @@ use Rattle.lists.proofs.Placed.{placed-start}
 use Rattle.lists.proofs.Lists.{one-at-most}
 use Rattle.lists.specs.Tables.{row}
 use Rattle.lists.proofs.Tables.{length-tab}
-use Rattle.bank_form.specs.Fault.{bankIn, isFile}
+use Rattle.bank_form.specs.declared.Fault.{Fault}
+use Rattle.bank_form.specs.Fault.{bankIn, fault, isFile}
+use Rattle.bank_form.specs.FaultLaws.{Placed}
+use Rattle.bank_form.proofs.Places.{numbers-and-places}
 use Rattle.history.specs.Setup.{Setup}
 use Rattle.history.specs.Signals.{signals}
 use Rattle.history.specs.History.{unsettled, unsettledIn}
@@ -25,17 +28,18 @@ use Rattle.wire.specs.Frames.{frameOf, lineFrames}
 use Rattle.ears_file.specs.declared.Ended.{Ended}
 use Rattle.ears_file.specs.declared.Outcome.{Outcome}
 use Rattle.wire.specs.Counting.{countedOn}
-use Rattle.wire.specs.Line.{refusedWord, refusedLine}
+use Rattle.wire.specs.Line.{refusedWord, refusedLine, refusedAtLine}
+use Rattle.wire.proofs.Drill.{refused-fourteen}
 use Rattle.wire.specs.Promises.{Lined}
-use Rattle.ears_file.specs.Lines.{setupWith, refusedRun, itemTen, toldBy}
+use Rattle.ears_file.specs.Lines.{setupWith, refusedRun, refusedBank, itemTen, refusalLine, toldBy}
 use Rattle.ears_file.specs.Promise.{Answers}
 
--- one of two ends
-one-of-two : (f b t : Bool) (e x : Ended) → e ≡ cond f refusedRun (cond b (cond t x refusedRun) refusedRun) → (e ≡ x) ⊎ (e ≡ refusedRun)
-one-of-two true b t e x q = inr q
-one-of-two false true true e x q = inl q
-one-of-two false true false e x q = inr q
-one-of-two false false t e x q = inr q
+-- one of three ends
+one-of-three : (f b t : Bool) (e x y : Ended) → e ≡ cond f refusedRun (cond b (cond t x refusedRun) y) → (e ≡ x) ⊎ ((e ≡ refusedRun) ⊎ (e ≡ y))
+one-of-three true b t e x y q = inr (inl q)
+one-of-three false true true e x y q = inl q
+one-of-three false true false e x y q = inr (inl q)
+one-of-three false false t e x y q = inr (inr q)
 
 -- of frames no more are unsettled than there are
 unsettled-few : (u : Setup) (go : ℕ) (past fs : List (List Float)) → unsettledIn u go past fs ≤ length fs
@@ -44,30 +48,49 @@ unsettled-few u go past (f ∷ fs) =
     omega (arith, one-at-most (unsettled u go (signals u f ∷ past)), unsettled-few u go (signals u f ∷ past) fs)
 
 module _ (r : Outcome) (a : Answers r) where
-  -- a run is played, or ends as a refused one does
+  -- a run is played, or its line ends inside a frame, or its bank is refused
   played : Ended
   played =
       let line = a .ends .line in
       record {
         refusal = 0;
+        place = 0;
         frames = countedOn 0 (wholeIn 24 line);
         unsettled = countedOn 0 (unsettledIn (setupWith (bankIn (a .bank))) 0 [] (lineFrames line));
       }
 
-  end-is : (r .ended ≡ played) ⊎ (r .ended ≡ refusedRun)
+  by-end : {A : Type 0} → (r .ended ≡ played → A) → (r .ended ≡ refusedRun → A) → (r .ended ≡ refusedBank (fault (a .bank)) → A) → A
   unfolding played
-  end-is = one-of-two (r .failed) (isFile (a .bank)) (eqb (length (restIn 24 (a .ends .line))) 0) (r .ended) played (a .ends .ended)
+  by-end p q s =
+      ⊎-elim p (⊎-elim q s)
+      (one-of-three (r .failed) (isFile (a .bank)) (eqb (length (restIn 24 (a .ends .line))) 0) (r .ended) played (refusedBank (fault (a .bank))) (a .ends .ended))
+
+  number : {e : Ended} → r .ended ≡ e → r .ended .refusal ≡ e .refusal
+  number q = ap (λ (y : Ended). y .refusal) q
 
   no-number : r .ended ≡ played → r .ended .refusal ≡ 0
   unfolding played
-  no-number q = ap (λ (y : Ended). y .refusal) q
+  no-number q = number q
 
-  refused-otherwise : (r .ended .refusal ≡ 0 → ⊥) → (r .ended .refusal ≡ 9 → ⊥) → ⊥
-  refused-otherwise some other = ⊎-elim (λ p. some (no-number p)) (λ q. other (ap (λ (y : Ended). y .refusal) q)) end-is
+  -- a refused bank has a number of its own
+  bank-number : {A : Type 0} → (r .ended .refusal ≡ 0 → A) → (13 ≤ r .ended .refusal → r .ended .refusal ≤ 19 → A) → r .ended ≡ refusedBank (fault (a .bank)) → A
+  bank-number none some q =
+      ⊎-elim (λ s. none (number q ∙ ap (λ (f : Fault). f .refusal) s))
+      (λ (p : Placed (length (a .bank)) (fault (a .bank))). some (omega (arith, p .least, number q)) (omega (arith, p .most, number q)))
+      (numbers-and-places (a .bank))
+
+  refused-otherwise : (r .ended .refusal ≡ 0 → ⊥) → (r .ended .refusal ≡ 9 → ⊥) → (13 ≤ r .ended .refusal → r .ended .refusal ≤ 19 → ⊥) → ⊥
+  refused-otherwise some part bank = by-end (λ p. some (no-number p)) (λ q. part (number q)) (bank-number some bank)
+
+  part-frame-with-a-place : r .ended .refusal ≡ 9 → (r .ended .place ≡ 0 → ⊥) → ⊥
+  part-frame-with-a-place nine other =
+      by-end (λ p. omega (arith, nine, no-number p)) (λ q. other (ap (λ (y : Ended). y .place) q)) (bank-number (λ z. omega (arith, nine, z)) (λ low high. omega (arith, nine, low)))
 
   refused-with-counts : (r .ended .refusal ≡ 0 → ⊥) → 0 < r .ended .frames + r .ended .unsettled → ⊥
-  refused-with-counts some h =
-      ⊎-elim (λ p. some (no-number p)) (λ q. omega (arith, h, ap (λ (y : Ended). y .frames) q, ap (λ (y : Ended). y .unsettled) q)) end-is
+  refused-with-counts some h = by-end (λ p. some (no-number p)) none none
+    where
+      none : {n at : ℕ} → r .ended ≡ record { refusal = n; place = at; frames = 0; unsettled = 0 } → ⊥
+      none q = omega (arith, h, ap (λ (y : Ended). y .frames) q, ap (λ (y : Ended). y .unsettled) q)
 
   failed-as-played : r .failed ≡ true → r .ended .refusal ≡ 0 → ⊥
   failed-as-played f z =
@@ -80,10 +103,10 @@ module _ (r : Outcome) (a : Answers r) where
       let line = a .ends .line in
       let few = unsettled-few (setupWith (bankIn (a .bank))) 0 [] (lineFrames line) in
       let many : length (lineFrames line) ≡ wholeIn 24 line = length-tab 0 (wholeIn 24 line) (λ i. frameOf (row 24 i line)) in
-      ⊎-elim
+      by-end
       (λ p. omega (arith, h, few, many, ap (λ (y : Ended). y .frames) p, ap (λ (y : Ended). y .unsettled) p))
       (λ q. omega (arith, h, ap (λ (y : Ended). y .frames) q, ap (λ (y : Ended). y .unsettled) q))
-      end-is
+      (λ q. omega (arith, h, ap (λ (y : Ended). y .frames) q, ap (λ (y : Ended). y .unsettled) q))
 
 -- ---- what is told
 
@@ -100,8 +123,16 @@ module _ (r : Outcome) (out : List ℕ) (size : ℕ) (after : List ℕ) (lined :
   refusal-told-as-frames : r .failed ≡ false → r .ended .refusal ≡ 9 → 64 ≤ length out → getD after 0 0 ≡ 102 → ⊥
   unfolding refusedLine refusedWord
   refusal-told-as-frames f nine room e =
-      let told : toldBy r ≡ refusedLine 9 = goes-on _ _ f ∙ answered-refused _ _ _ (not-accepted 9 (omega arith) nine) ∙ ap refusedLine nine in
+      let told : toldBy r ≡ refusedLine 9 = goes-on _ _ f ∙ answered-refused _ (refusalLine (r .ended)) _ (not-accepted 9 (omega arith) nine) ∙ ap (refusalLine (r .ended)) nine in
       let first : getD after 0 0 ≡ 114 =
       ap (λ (l : List ℕ). getD l 0 0)
       (lined .filled ∙ goes-on _ _ (le-ltb (length out) 64 room) ∙ ap (placed out 0) told ∙ placed-start out (refusedLine 9)) in
       let same : _≡_ {A = ℕ} 102 114 = sym e ∙ first in omega (arith, same)
+
+  -- a bank's refusal told without its place: `refused 14` and a newline has eleven bytes, `refused 14 at 1` sixteen
+  bank-told-without-its-place : r .failed ≡ false → r .ended .refusal ≡ 14 → r .ended .place ≡ 1 → 64 ≤ length out → size ≡ 11 → ⊥
+  bank-told-without-its-place f fourteen one room e =
+      let told : toldBy r ≡ refusedAtLine 14 1 =
+      goes-on _ _ f ∙ answered-refused _ (refusalLine (r .ended)) _ (not-accepted 14 (omega arith) fourteen) ∙ ap (refusalLine (r .ended)) fourteen ∙ ap (refusedAtLine 14) one in
+      let long : size ≡ 16 = lined .count ∙ goes-on _ _ (le-ltb (length out) 64 room) ∙ ap length (told ∙ refused-fourteen) in
+      let same : _≡_ {A = ℕ} 11 16 = sym e ∙ long in omega (arith, same)

@@ -13,10 +13,11 @@ use Rattle.lists.proofs.Placed.{length-placed}
 use Rattle.checks.proofs.Checks.{not-outside}
 use Rattle.channel.specs.declared.Layout.the-variants.{Surround51}
 use Rattle.bank_form.specs.Bank.{Bank, rows}
-use Rattle.bank_form.specs.Fault.{bankIn, isFile}
-use Rattle.bank.specs.Reading.{ReadOutcome, readBank}
-use Rattle.bank.proofs.Answers.{accepted}
-use Rattle.bank.proofs.Promises.{Accepted, accepted-parts, accepted-is, read-is}
+use Rattle.bank_form.specs.Fault.{bankIn, fault, isFile}
+use Rattle.bank_form.proofs.Exact.{is-file}
+use Rattle.bank.specs.Reading.{ReadOutcome, readRefused, readBank}
+use Rattle.bank.proofs.Answers.{Accepted, read-good, read-bad}
+use Rattle.bank.proofs.Promises.{accepted-parts, accepted-is, read-is}
 use Rattle.history.specs.Setup.{Setup}
 use Rattle.hrtf_checks.specs.declared.Shape.{Shape}
 use Rattle.hrtf_checks.specs.Call.{setupOf}
@@ -28,7 +29,7 @@ use Rattle.runs.specs.NeverRefused.{StateFits}
 use Rattle.runs.proofs.NeverRefused.{few-rows, short-filters, good-bank-set-up, set-up-accepted}
 use Rattle.ears_file.specs.declared.Ended.{Ended}
 use Rattle.ears_file.specs.declared.Outcome.{Outcome}
-use Rattle.ears_file.specs.Lines.{arranged, setupWith, refusedRun, endsAs, itemTen}
+use Rattle.ears_file.specs.Lines.{arranged, setupWith, refusedRun, refusedBank, endsAs, itemTen}
 use Rattle.files.specs.Promises.{Found}
 use Rattle.ears_file.specs.Promise.{Ends, Answers}
 use Rattle.ears_file.specs.Turns.{BlocksAccepted}
@@ -43,14 +44,24 @@ shapeOf a o = record { channels = a .answer .channels; speakers = a .answer .spe
 
 module _ (xs : List Float) (o : ReadOutcome) (f : Found zeros xs o) where
   -- a bank that breaks the form
-  pub bank-refused : length xs ≡ 8192 → (o .answer .refusal ≡ 0 → ⊥) → (e : Ended) (r : Outcome) → e ≡ refusedRun → r ≡ record { failed = false; ended = e }
-      → Answers r
-  bank-refused most not e r refused is =
-      subst Answers (sym (is ∙ ap {B = Outcome} (λ (q : Ended). record { failed = false; ended = q }) refused))
+  pub bank-refused : length xs ≡ 8192 → (o .answer .refusal ≡ 0 → ⊥) → (e : Ended) (r : Outcome) → e ≡ refusedBank (record { refusal = o .answer .refusal; offset = o .answer .offset })
+      → r ≡ record { failed = false; ended = e } → Answers r
+  bank-refused most bad e r refused is =
+      subst Answers (sym (is ∙ ap {B = Outcome} (λ (q : Ended). record { failed = false; ended = q }) (refused ∙ told)))
       (record { bank = f .file; ends = record { line = []; ended = go (isFile (f .file)) refl } })
     where
-      go : (t : Bool) → isFile (f .file) ≡ t → refusedRun ≡ itemTen (f .file) []
-      go true h = absurd (not (ap (λ (q : ReadOutcome). q .answer .refusal) (f .reads .outcome ∙ sym (accepted (f .file) zeros xs refl most h))))
+      -- one that is a file would have been accepted
+      no-file : isFile (f .file) ≡ true → ⊥
+      no-file h = bad (ap (λ (q : ReadOutcome). q .answer .refusal) (f .reads .outcome ∙ sym (read-good zeros xs (f .file) refl most h)))
+
+      left : o ≡ readRefused (fault (f .file)) zeros xs
+      left = f .reads .outcome ∙ sym (read-bad zeros xs (f .file) refl most (fault (f .file)) refl (λ z. no-file (is-file (f .file) z)))
+
+      told : refusedBank (record { refusal = o .answer .refusal; offset = o .answer .offset }) ≡ refusedBank (fault (f .file))
+      told = ap (λ (q : ReadOutcome). refusedBank (record { refusal = q .answer .refusal; offset = q .answer .offset })) left
+
+      go : (t : Bool) → isFile (f .file) ≡ t → refusedBank (fault (f .file)) ≡ itemTen (f .file) []
+      go true h = absurd (no-file h)
       go false h = sym (goes-on _ _ h)
 
   -- one that keeps it
@@ -58,7 +69,7 @@ module _ (xs : List Float) (o : ReadOutcome) (f : Found zeros xs o) where
     b : Bank
     b = bankIn (f .file)
 
-    parts : Accepted (f .file) zeros xs
+    parts : Accepted zeros xs (fault (f .file))
     parts = accepted-parts (f .file) zeros xs (ap (λ (q : ReadOutcome). q .answer .refusal) (sym (f .reads .outcome)) ∙ good)
 
     is : o ≡ readBank b zeros xs
@@ -77,7 +88,7 @@ module _ (xs : List Float) (o : ReadOutcome) (f : Found zeros xs o) where
     unfolding b
     bank-answers r e =
         let end : endsAs (setupWith (bankFound o)) (e .line) ≡ itemTen (f .file) (e .line) =
-        ap (λ (q : Bank). endsAs (setupWith q) (e .line)) bank-is ∙ sym (stops _ _ (parts .file-good)) in
+        ap (λ (q : Bank). endsAs (setupWith q) (e .line)) bank-is ∙ sym (stops _ _ (is-file (f .file) (parts .none))) in
         record { bank = f .file; ends = record { line = e .line; ended = e .ended ∙ ap (cond (r .failed) refusedRun) end } }
 
     -- there is room for its filters, and for the cells of six speakers

@@ -1,5 +1,6 @@
 -- Document 01, item 10, of a whole bank and a whole line: "writes each frame's left then right [..] and prints one line. [..] Empty input prints
--- `frames 0 unsettled 0`. A bad or missing bank prints `refused 9` only [..]; a part frame at the end prints `refused 9` only". Definitions only.
+-- `frames 0 unsettled 0`. [..] a part frame at the end prints `refused 9` only". Document 02, E2, of a bad bank: "9 is no longer given for a bank, only for a part
+-- frame. The program prints number and place, as `refused 14 at 1`; a missing bank is read as empty." Definitions only.
 use Prim.Native.Nat.{ℕ}
 use mathlib.Core.Bool.{cond}
 use mathlib.Core.List.{List, []}
@@ -9,7 +10,8 @@ use lib.ListN.{length, replicate}
 use Rattle.refusals.specs.Refusals.{answered}
 use Rattle.channel.specs.declared.Layout.the-variants.{Surround51}
 use Rattle.bank_form.specs.Bank.{Bank, rows}
-use Rattle.bank_form.specs.Fault.{bankIn, isFile}
+use Rattle.bank_form.specs.declared.Fault.{Fault}
+use Rattle.bank_form.specs.Fault.{bankIn, fault, isFile}
 use Rattle.bank.specs.Reading.{readBank}
 use Rattle.history.specs.Setup.{Setup}
 use Rattle.history.specs.History.{heard, unsettledIn}
@@ -18,7 +20,7 @@ use Rattle.hrtf_setup.specs.Promise.{ofLayout}
 use Rattle.wire.specs.Ears.{earBytes}
 use Rattle.wire.specs.Records.{wholeIn, restIn}
 use Rattle.wire.specs.Frames.{lineFrames}
-use Rattle.wire.specs.Line.{framesLine, refusedLine}
+use Rattle.wire.specs.Line.{framesLine, refusedLine, refusedAtLine}
 use Rattle.ears_file.specs.declared.Ended.{Ended}
 use Rattle.ears_file.specs.declared.Outcome.{Outcome}
 use Rattle.wire.specs.Counting.{countedOn}
@@ -34,19 +36,27 @@ setupWith b = record { channels = 6; speakers = 6; L = b .length; weights = arra
 abbrev pub earsOf : Setup → List ℕ → List ℕ
 earsOf u line = earBytes (heard u [] (lineFrames line))
 
+-- a part frame, which has no place, and a bank that is wrong somewhere
 abbrev pub refusedRun : Ended
-refusedRun = record { refusal = 9; frames = 0; unsettled = 0 }
+refusedRun = record { refusal = 9; place = 0; frames = 0; unsettled = 0 }
+
+abbrev pub refusedBank : Fault → Ended
+refusedBank f = record { refusal = f .refusal; place = f .offset; frames = 0; unsettled = 0 }
 
 -- how a line ends: whole frames and nothing behind them, or a part frame
 abbrev pub endsAs : Setup → List ℕ → Ended
 endsAs u line =
     cond (eqb (length (restIn 24 line)) 0)
-    (record { refusal = 0; frames = countedOn 0 (wholeIn 24 line); unsettled = countedOn 0 (unsettledIn u 0 [] (lineFrames line)) }) refusedRun
+    (record { refusal = 0; place = 0; frames = countedOn 0 (wholeIn 24 line); unsettled = countedOn 0 (unsettledIn u 0 [] (lineFrames line)) }) refusedRun
 
 -- what item 10 gives for the bytes of a bank, none where it is missing, and the bytes of a line
 abbrev pub itemTen : List ℕ → List ℕ → Ended
-itemTen bank line = cond (isFile bank) (endsAs (setupWith (bankIn bank)) line) refusedRun
+itemTen bank line = cond (isFile bank) (endsAs (setupWith (bankIn bank)) line) (refusedBank (fault bank))
+
+-- a refusal is told with its place, but for a part frame
+abbrev pub refusalLine : Ended → ℕ → List ℕ
+refusalLine e n = cond (eqb n 9) (refusedLine n) (refusedAtLine n (e .place))
 
 -- the line that a run is told by: none for one that failed
 abbrev pub toldBy : Outcome → List ℕ
-toldBy r = cond (r .failed) [] (answered (r .ended .refusal) (framesLine (r .ended .frames) (r .ended .unsettled)) refusedLine)
+toldBy r = cond (r .failed) [] (answered (r .ended .refusal) (framesLine (r .ended .frames) (r .ended .unsettled)) (refusalLine (r .ended)))

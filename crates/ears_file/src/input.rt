@@ -106,6 +106,7 @@ fn at_end(progress: Progress) -> Ended
     }
     Ended {
         refusal: 0,
+        place: 0,
         frames: progress.frames,
         unsettled: progress.unsettled,
     }

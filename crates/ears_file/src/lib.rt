@@ -1,5 +1,5 @@
 // Does the work of the program `ears` by file names: plays a line of 5.1 frames through a bank into the file
-// of the ears (document 01, item 10).
+// of the ears (document 01, item 10; document 02, E2).
 //
 // `run` plays, and `told` gives the line that a program prints; a failure of the system is told on standard
 // error, and then there is no line.
@@ -20,16 +20,17 @@ ghost use lib.ListN.{replicate};
 ghost use Rattle.io.specs.Counts.{Counts};
 ghost use Rattle.bank.specs.Reading.{bankFound};
 ghost use Rattle.wire.specs.Promises.{Lined};
-ghost use Rattle.ears_file.specs.Lines.{setupWith, refusedRun, endsAs, toldBy};
+ghost use Rattle.ears_file.specs.Lines.{setupWith, refusedRun, refusedBank, endsAs, toldBy};
 ghost use Rattle.files.specs.Promises.{Found};
 ghost use Rattle.ears_file.specs.Promise.{Ends, Answers};
 
 mod input;
 mod turn;
 
-// How a run ended: refused, or 0 with the counts.
+// How a run ended: refused, with the byte of the bank that is wrong, or 0 with the counts.
 pub struct Ended {
     pub refusal: u8,
+    pub place: u64,
     pub frames: u64,
     pub unsettled: u64,
 }
@@ -40,12 +41,28 @@ pub struct Outcome {
     pub ended: Ended,
 }
 
-// A run that is refused. A bank that breaks its form and a part frame at the end are both 9.
+// The number of a part frame, which is told without a place.
+const PART_FRAME: u8 = 9;
+
+// A line that ends inside a frame.
 fn refused() -> Ended
     ensures { λ r. ⌜ r ≡ refusedRun ⌝ }
 {
     Ended {
-        refusal: 9,
+        refusal: PART_FRAME,
+        place: 0,
+        frames: 0,
+        unsettled: 0,
+    }
+}
+
+// A bank that was not read: what is wrong with it, and at which byte.
+fn refused_bank(read: BankRead) -> Ended
+    ensures { λ r. ⌜ r ≡ refusedBank (record { refusal = read .refusal; offset = read .offset }) ⌝ }
+{
+    Ended {
+        refusal: read.refusal,
+        place: read.offset as u64,
         frames: 0,
         unsettled: 0,
     }
@@ -127,7 +144,7 @@ pub fn run(bank: &[u8], line: i32, out: &[u8], limit: usize) -> Outcome
         if 0 <= to {
             libc::close(to);
         }
-        return done(refused());
+        return done(refused_bank(read));
     }
     if to < 0 {
         os::fail(out);
@@ -151,8 +168,11 @@ pub fn told(run: Outcome, out: &mut [u8]) -> usize
         return 0;
     }
     let ended = run.ended;
-    if ended.refusal != 0 {
+    if ended.refusal == 0 {
+        return wire::frames_line(ended.frames, ended.unsettled, out);
+    }
+    if ended.refusal == PART_FRAME {
         return wire::refused_line(ended.refusal, out);
     }
-    wire::frames_line(ended.frames, ended.unsettled, out)
+    wire::refused_at_line(ended.refusal, ended.place, out)
 }

@@ -22,8 +22,8 @@ open-out-requires c κs = tt
 close-requires : tie.Need-close-requires
 close-requires c κs = tt
 
-refused-requires : tie.Need-refused-requires
-refused-requires c κs = tt
+refused-bank-requires : tie.Need-refused-bank-requires
+refused-bank-requires c κs = tt
 
 done-requires : tie.Need-done-requires
 done-requires c κs = tt
@@ -32,7 +32,7 @@ returns : tie.Need-returns
 returns c =
     let test = c .before .before .before in
     let read = test .before .before .before .before .before .read-bank in
-    bank-refused _ _ (read .ensures) (length-replicate 8192 zero-float) (test .if1 .taken) _ _ (c .before .refused .ensures) (c .done .ensures)
+    bank-refused _ _ (read .ensures) (length-replicate 8192 zero-float) (test .if1 .taken) _ _ (c .before .refused-bank .ensures) (c .done .ensures)
 
 fail-requires : tie.Need-fail-requires
 fail-requires c κs = tt
@@ -79,7 +79,7 @@ run-spec =
     read-bank-requires
     open-out-requires
     close-requires
-    refused-requires
+    refused-bank-requires
     done-requires
     returns
     fail-requires
