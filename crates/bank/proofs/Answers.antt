@@ -12,8 +12,7 @@ use lib.Ieee.{Float}
 use lib.Ieee.Bits.{is-true}
 use lib.IntN.{ℤ}
 use lib.ListN.{length}
-use Rattle.refusals.specs.Refusals.{answered}
-use Rattle.refusals.proofs.First.{answered-accepted, answered-refused}
+use Rattle.refusals.proofs.First.{answered-accepted, answered-refused, told-is}
 use Rattle.refusals.specs.Ranges.{within}
 use Rattle.lists.specs.Placed.{placed}
 use Rattle.bank_form.specs.declared.Fault.{Fault}
@@ -31,12 +30,6 @@ use Rattle.bank.specs.Reading.{ReadOutcome, readWrong, readRefused, read
 use Rattle.bank.specs.Writing.{WriteOutcome, writeWrong, writeRefused, writeBank, writeOutcome}
 
 -- ---- an answer by a fault
-
--- what an answer tells is the fault's number
-module _ {A : Type 0} (told : A → ℕ) (accepted refused : A) where
-  pub told-is : (n : ℕ) → told accepted ≡ 0 → told refused ≡ n → told (answered n accepted (λ k. refused)) ≡ n
-  told-is zero e f = e
-  told-is (suc n) e f = f
 
 -- a test that is passed, and one that is not
 pub passes : (good : Bool) (n at : ℕ) (f : Fault) → good ≡ true → orElse (unless good n at) f ≡ f
@@ -57,7 +50,7 @@ module _ (zs : List ℤ) (xs : List Float) where
   as-read f b e = sym (answered-accepted _ (λ k. readRefused f zs xs) (f .refusal) e)
 
   pub as-told : (f : Fault) (b : Bank) → readAs f b zs xs .answer .refusal ≡ f .refusal
-  as-told f b = told-is (λ (o : ReadOutcome). o .answer .refusal) (readBank b zs xs) (readRefused f zs xs) (f .refusal) refl refl
+  as-told f b = told-is (readBank b zs xs) (λ k. readRefused f zs xs) (λ (o : ReadOutcome). o .answer .refusal) refl (f .refusal) refl
 
   -- two banks of which none is read
   as-same : (f g : Fault) (b c : Bank) → f ≡ g → (f .refusal ≡ 0 → b ≡ c) → readAs f b zs xs ≡ readAs g c zs xs

@@ -9,6 +9,7 @@ use borrow.Author.Tests.{eq-eqb, eqb-true}
 use lib.Ieee.{Float}
 use lib.IntN.{ℤ}
 use lib.ListN.{length}
+use Rattle.refusals.proofs.First.{told-is}
 use Rattle.refusals.specs.OneAnswer.{OneAnswer}
 use Rattle.refusals.proofs.Determined.{determined, determined-by}
 use Rattle.lists.proofs.Placed.{take-placed}
@@ -21,7 +22,7 @@ use Rattle.bank_form.proofs.Exact.{keeps, is-file}
 use Rattle.bank_form.proofs.Writer.{write-none}
 use Rattle.bank.specs.Reading.{ReadOutcome, readBank, readFault, readOutcome, Reads, ReadsStart, bankFound}
 use Rattle.bank.specs.Writing.{WriteOutcome, writeWrong, writeRefused, writeBank, writeOutcome, Writes}
-use Rattle.bank.proofs.Answers.{told-is, as-told, Accepted, lists-accepted, read-good, Lent, written, written-lengths}
+use Rattle.bank.proofs.Answers.{as-told, Accepted, lists-accepted, read-good, Lent, written, written-lengths}
 
 pub read-unique : (file : List ℕ) (zs : List ℤ) (xs : List Float) → OneAnswer (Reads file zs xs)
 read-unique file zs xs = determined-by (λ r h. h .outcome)
@@ -62,7 +63,7 @@ module _ (b : Bank) (file : List ℕ) where
   written-parts : writeOutcome b file .answer .refusal ≡ 0 → Lent b file × (writeFault b .refusal ≡ 0)
   unfolding writeOutcome
   written-parts e =
-      let told = told-is (λ (w : WriteOutcome). w .answer .refusal) (writeBank b) (writeRefused (writeWrong b file) file) (writeWrong b file .refusal) refl refl in
+      let told = told-is (writeBank b) (λ k. writeRefused (writeWrong b file) file) (λ (w : WriteOutcome). w .answer .refusal) refl (writeWrong b file .refusal) refl in
       written-lengths b file (sym told ∙ e)
 
   -- a bank that is accepted keeps the form, and its file is filled in

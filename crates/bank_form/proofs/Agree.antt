@@ -15,90 +15,38 @@ use lib.ListN.{length, take, drop, length-take}
 use lib.Seq.{length-take-le, take-take, take-add, drop-at}
 use mir.Syntax.{w16}
 use mir.Val.{toZ}
-use Rattle.big_endian.specs.Bytes.{valueOf}
-use Rattle.big_endian.specs.Fields.{lies, fieldAt, signedAt, floatAt}
+use Rattle.big_endian.specs.Fields.{signedAt, floatAt}
 use Rattle.big_endian.specs.Lists.{strided}
-use Rattle.big_endian.proofs.Fields.{lies-true, field-out, field-is}
+use Rattle.big_endian.proofs.Starts.{Agree, signed-agrees, float-agrees}
 use Rattle.lists.proofs.Tables.{tab-ext}
 use Rattle.bank_form.specs.Bank.{inRange}
 use Rattle.bank_form.specs.Fault.{rowSize, azimuthsFrom, rowsIn, lengthIn, field, tapsFault, isNew, rowFault, rowsFault, headField, headFault, faultIn}
 
 -- ---- fields
 
--- every field that ends within the first k bytes is the same in both
-abbrev pub Agree : ℕ → List ℕ → List ℕ → Type 0
-Agree k s t = (at count : ℕ) → at + count ≤ k → fieldAt t at count ≡ fieldAt s at count
-
--- whether a place is inside the first k bytes is whether it is inside the list
-inside-start : (s : List ℕ) (k n : ℕ) → n ≤ k → leb n (length (take k s)) ≡ leb n (length s)
-inside-start s k n h =
-    elim (decLt (length s) n) [
-      | yes g ↦ lt-leb n (length (take k s)) (omega (arith, length-take k s)) ∙ sym (lt-leb n (length s) g)
-      | no g ↦ le-leb n (length (take k s)) (omega (arith, length-take k s)) ∙ sym (le-leb n (length s) (omega arith))
-    ]
-
-part-start : (s : List ℕ) (k at count : ℕ) → at + count ≤ k → at + count ≤ length s
-    → take count (drop at (take k s)) ≡ take count (drop at s)
-part-start s k at count h g =
-    part (take k s) (omega (arith, length-take k s)) ∙ ap (drop at) (take-take (at + count) k s h) ∙ sym (part s g)
-  where
-    part : (u : List ℕ) → at + count ≤ length u → take count (drop at u) ≡ drop at (take (at + count) u)
-    part u e =
-        let front = length-take-le at u (omega arith) in
-        sym (ap (drop at) (take-add at count u) ∙ drop-at (take at u) (take count (drop at u)) at front)
-
--- a field that ends within the first k bytes is read from these
-field-start : (s : List ℕ) (k at count : ℕ) → at + count ≤ k → fieldAt (take k s) at count ≡ fieldAt s at count
-field-start s k at count h = go (lies (length s) at count) refl
-  where
-    inside : lies (length (take k s)) at count ≡ lies (length s) at count
-    inside = ap (λ (b : Bool). leb count 8 && b) (inside-start s k (at + count) h)
-
-    go : (b : Bool) → lies (length s) at count ≡ b → fieldAt (take k s) at count ≡ fieldAt s at count
-    go true e =
-        field-is (take k s) at count (inside ∙ e)
-        ∙ ap valueOf (part-start s k at count h (lies-true (length s) at count e .1))
-        ∙ sym (field-is s at count e)
-    go false e = field-out (take k s) at count (inside ∙ e) ∙ sym (field-out s at count e)
-
-pub start-agrees : (k : ℕ) (s t : List ℕ) → take k t ≡ take k s → Agree k s t
-start-agrees k s t e at count h =
-    sym (field-start t k at count h) ∙ ap (λ (u : List ℕ). fieldAt u at count) e ∙ field-start s k at count h
-
-pub agree-less : (k m : ℕ) (s t : List ℕ) → m ≤ k → Agree k s t → Agree m s t
-agree-less k m s t h same at count g = same at count (omega arith)
-
 module _ (k : ℕ) (s t : List ℕ) (same : Agree k s t) where
-  pub signed-agrees : (at : ℕ) → at + 2 ≤ k → signedAt t at ≡ signedAt s at
-  unfolding signedAt
-  signed-agrees at h = ap (toZ w16) (same at 2 h)
-
-  pub float-agrees : (at : ℕ) → at + 4 ≤ k → floatAt t at ≡ floatAt s at
-  unfolding floatAt
-  float-agrees at h = ap (ofBits binary32) (same at 4 h)
-
   pub azimuths-agree : (l at n : ℕ) → at + n * rowSize l ≤ k → azimuthsFrom t l at n ≡ azimuthsFrom s l at n
   unfolding strided
   azimuths-agree l at n h =
       tab-ext 0 n (λ j. signedAt t (at + j * rowSize l)) (λ j. signedAt s (at + j * rowSize l))
-      (λ j g. signed-agrees (at + j * rowSize l) (omega (arith, mul-le-mul-right (rowSize l) g)))
+      (λ j g. signed-agrees k s t same (at + j * rowSize l) (omega (arith, mul-le-mul-right (rowSize l) g)))
 
   new-agrees : (l at i : ℕ) → at + 2 ≤ k → 9 + i * rowSize l ≤ k
       → isNew t l (signedAt t at) 9 i ≡ isNew s l (signedAt s at) 9 i
   unfolding isNew
-  new-agrees l at i h g = rw (azimuths-agree l 9 i g, signed-agrees at h)
+  new-agrees l at i h g = rw (azimuths-agree l 9 i g, signed-agrees k s t same at h)
 
   -- whether the azimuth at an offset is good, with i rows before it
   pub azimuth-agrees : (l at i : ℕ) → at + 2 ≤ k → 9 + i * rowSize l ≤ k
       → (inRange (signedAt t at) && isNew t l (signedAt t at) 9 i) ≡ (inRange (signedAt s at) && isNew s l (signedAt s at) 9 i)
-  azimuth-agrees l at i h g = rw (new-agrees l at i h g, signed-agrees at h)
+  azimuth-agrees l at i h g = rw (new-agrees l at i h g, signed-agrees k s t same at h)
 
   -- ---- walks
 
   module _ (size : ℕ) where
     tap-agrees : (at : ℕ) → at + 4 ≤ k
         → field size at 4 18 (finite (floatAt t at)) ≡ field size at 4 18 (finite (floatAt s at))
-    tap-agrees at h = ap (λ (x : Float). field size at 4 18 (finite x)) (float-agrees at h)
+    tap-agrees at h = ap (λ (x : Float). field size at 4 18 (finite x)) (float-agrees k s t same at h)
 
     pub taps-agree : (at n : ℕ) → at + 4 * n ≤ k → tapsFault size t at n ≡ tapsFault size s at n
     unfolding tapsFault

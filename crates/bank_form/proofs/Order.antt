@@ -16,7 +16,8 @@ use Rattle.bank_form.specs.declared.Fault.{Fault}
 use Rattle.bank_form.specs.Fault.{rowSize, rowsIn, lengthIn, sound, unless, orElse, field, tapsFault, rowFault, rowsFault, headField, headFault, faultIn, fault}
 use Rattle.bank_form.specs.FaultLaws.{fieldSize, ByteOrder}
 use Rattle.bank_form.proofs.Walk.{else-on, else-stop, field-short, field-bad, field-good, field-none, head-none, whole, nothing-found}
-use Rattle.bank_form.proofs.Agree.{Agree, start-agrees, agree-less, float-agrees, azimuth-agrees, row-agrees, head-agrees, fault-agrees}
+use Rattle.big_endian.proofs.Starts.{Agree, start-agrees, agree-less, float-agrees}
+use Rattle.bank_form.proofs.Agree.{azimuth-agrees, row-agrees, head-agrees, fault-agrees}
 use Rattle.bank_form.proofs.Places.{row-ended, head-ended}
 
 -- the place behind the field that a fault tells

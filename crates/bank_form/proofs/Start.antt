@@ -19,7 +19,8 @@ use Rattle.bank_form.specs.declared.Fault.{Fault}
 use Rattle.bank_form.specs.Fault.{rowSize, largest, rowsIn, lengthIn, wrong, unless, orElse, headFault, headField, rowsFault, faultIn, fault}
 use Rattle.bank_form.specs.FaultLaws.{Begins, suffices, StartSuffices}
 use Rattle.bank_form.proofs.Walk.{else-stop, field-in, head-none, fault-is, whole}
-use Rattle.bank_form.proofs.Agree.{Agree, start-agrees, head-agrees, fault-agrees}
+use Rattle.big_endian.proofs.Starts.{Agree, start-agrees}
+use Rattle.bank_form.proofs.Agree.{head-agrees, fault-agrees}
 use Rattle.bank_form.proofs.RoundTrip.{rows-reach}
 
 -- ---- the start

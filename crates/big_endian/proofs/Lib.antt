@@ -3,6 +3,7 @@ pub mod Bytes
 pub mod Fields
 pub mod Signed
 pub mod Lists
+pub mod Starts
 mod Room
 mod Patterns
 mod Unique

@@ -11,7 +11,7 @@ use lib.Ieee.{Float}
 use lib.ListN.{length, take, replicate, length-append, length-take, length-replicate}
 use lib.Seq.{length-take-le, take-at, take-all}
 use Rattle.lists.proofs.Lists.{take-min}
-use Rattle.lists.proofs.Each.{each-take}
+use Rattle.lists.proofs.Each.{each-take, each-append, each-replicate}
 use Rattle.big_endian.specs.Bytes.{IsByte, AreBytes}
 use Rattle.bank_form.specs.Fault.{largest}
 use Rattle.bank_form.specs.FaultLaws.{suffices}
@@ -43,20 +43,6 @@ module _ (bytes : List ℕ) (size n : ℕ) (zs : List ℤ) (xs : List Float) (o 
 
 -- ---- a file of that size that begins so
 
-each-append : (xs ys : List ℕ) → AreBytes xs → AreBytes ys → AreBytes (xs ++ ys)
-each-append [] ys f g = g
-each-append (x ∷ xs) ys f g = elim [
-  | zero ↦ f 0
-  | suc i ↦ each-append xs ys (λ j. f (suc j)) g i
-]
-
-each-zero : (n : ℕ) → AreBytes (replicate n 0)
-each-zero zero = λ i. omega arith
-each-zero (suc n) = elim [
-  | zero ↦ omega arith
-  | suc i ↦ each-zero n i
-]
-
 module _ (bytes : List ℕ) (size : ℕ) (room : length bytes ≡ largest) where
   -- the bytes that were kept, and zeros for those that were counted
   file : List ℕ
@@ -78,7 +64,7 @@ module _ (bytes : List ℕ) (size : ℕ) (room : length bytes ≡ largest) where
 
   file-bytes : AreBytes bytes → AreBytes file
   unfolding file
-  file-bytes are = each-append (take size bytes) (replicate (size - largest) 0) (each-take IsByte 0 size bytes (omega arith) are) (each-zero (size - largest))
+  file-bytes are = each-append IsByte 0 (take size bytes) (replicate (size - largest) 0) (each-take IsByte 0 size bytes (omega arith) are) (each-replicate IsByte 0 (size - largest) (omega arith))
 
   pub sized-found : (zs : List ℤ) (xs : List Float) (o : ReadOutcome) → ReadSized bytes size zs xs o → Found zs xs o
   sized-found zs xs o r = record { file = file; reads = r .each file (file-bytes (r .are)) file-long file-begins }

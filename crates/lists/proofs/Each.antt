@@ -1,11 +1,11 @@
 -- Lists of which each element is of a kind: shown of those that are there (`each-in`), of a test that each passes, and of a list's parts. Assumes nothing.
 use mathlib.Core.Path.{_≡_}
 use mathlib.Core.Bool.{Bool, true}
-use mathlib.Core.List.{List}
-use Prim.Native.Nat.{ℕ, _+_, _<_}
+use mathlib.Core.List.{List, [], _∷_, _++_}
+use Prim.Native.Nat.{ℕ, zero, suc, _+_, _<_}
 use native.Mathlib.Decide.{decLt}
 use native.Mathlib.Omega.{arith}
-use lib.ListN.{length, getD, take, drop, length-take, List·getD-eq-default}
+use lib.ListN.{length, getD, take, drop, replicate, length-take, length-replicate, getD-replicate, List·getD-eq-default}
 use lib.Seq.{getD-take, getD-drop}
 use Rattle.lists.specs.Tables.{every}
 use Rattle.lists.specs.Each.{Each}
@@ -27,3 +27,13 @@ module _ {A : Type 0} (P : A → Type 0) (d : A) where
 
   pub each-take : (m : ℕ) (xs : List A) → P d → Each P d xs → Each P d (take m xs)
   each-take m xs k h = each-in (take m xs) k (λ i g. rw (getD-take m xs i d (omega (arith, length-take m xs))) (h i))
+
+  pub each-append : (xs ys : List A) → Each P d xs → Each P d ys → Each P d (xs ++ ys)
+  each-append [] ys f g = g
+  each-append (x ∷ xs) ys f g = elim [
+    | zero ↦ f 0
+    | suc i ↦ each-append xs ys (λ j. f (suc j)) g i
+  ]
+
+  pub each-replicate : (n : ℕ) → P d → Each P d (replicate n d)
+  each-replicate n k = each-in (replicate n d) k (λ i h. rw (getD-replicate n i d d (omega (arith, h, length-replicate n d))) k)

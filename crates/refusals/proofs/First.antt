@@ -44,3 +44,8 @@ module _ {A : Type 0} (accepted : A) (refused : ℕ → A) where
   pub none-told : (told : A → ℕ) → ((n : ℕ) → told (refused n) ≡ n) → (r : ℕ) → told (answered r accepted refused) ≡ 0 → r ≡ 0
   none-told told same zero e = refl
   none-told told same (suc n) e = sym (same (suc n)) ∙ e
+
+  -- and what an answer tells is the number that it is given by
+  pub told-is : (told : A → ℕ) → told accepted ≡ 0 → (r : ℕ) → told (refused r) ≡ r → told (answered r accepted refused) ≡ r
+  told-is told none zero same = none
+  told-is told none (suc n) same = same
