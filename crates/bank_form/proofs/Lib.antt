@@ -9,3 +9,4 @@ pub mod Agree
 pub mod Places
 pub mod Order
 pub mod Start
+mod Unique

@@ -3,16 +3,14 @@ use mathlib.Core.Path.{_≡_, refl, sym, ap, ap₂, _∙_}
 use mathlib.Core.Bool.{Bool, true, false, _&&_, _||_}
 use mathlib.Core.List.{List}
 use mathlib.Core.Logic.{_⊎_, inl, inr, ⊎-elim}
-use Prim.Native.Nat.{ℕ, _+_, _-_, _*_, _^_, _≤_}
+use Prim.Native.Nat.{ℕ, _+_, _-_, _*_, _≤_, _<_}
 use native.Mathlib.Decide.{ℕ-discrete}
 use native.Mathlib.Omega.{arith}
 use borrow.Author.Tests.{eqb-true, leb-true}
 use lib.Dec.{T, eqb, leb}
 use lib.ListN.{length, take, length-take}
 use lib.Seq.{take-length}
-use Rattle.big_endian.specs.Bytes.{AreBytes}
 use Rattle.big_endian.specs.Fields.{fieldAt}
-use Rattle.big_endian.proofs.Fields.{field-below}
 use Rattle.refusals.specs.Ranges.{within}
 use Rattle.refusals.proofs.Ranges.{within-true, within-low}
 use Rattle.bank_form.specs.declared.Fault.{Fault}
@@ -81,7 +79,7 @@ whole-start start size file enough begins none =
     let all : length start ≡ size = ⊎-elim (λ e. e) (λ h. omega (arith, h, reach, w .all .ends, begins .long, sym most ∙ length-take (length start) file)) (enough-is (length start) size enough) in
     all-of start size file begins all
 
--- ---- a file that is longer than a length field can say
+-- ---- a file that is longer than its length field says
 
 -- nothing behind a length that is wrong is looked at
 stops-there : (good : Bool) (x y : Fault) → orElse (orElse (unless good 13 0) (orElse (wrong 14 1) x)) y ≡ orElse (unless good 13 0) (wrong 14 1)
@@ -89,19 +87,17 @@ unfolding orElse
 stops-there true x y = refl
 stops-there false x y = refl
 
-module _ (s : List ℕ) (bytes : AreBytes s) where
-  -- its version is wrong, or its length
-  long-told : (size : ℕ) → 2 ^ 32 + 5 ≤ size → faultIn size s ≡ orElse (unless (within 1 1 (fieldAt s 0 1)) 13 0) (wrong 14 1)
-  unfolding headFault headField
-  long-told size h =
-      let less = field-below s 1 4 bytes in
-      let other : within (size - 5) (size - 5) (fieldAt s 1 4) ≡ false = within-low (size - 5) (size - 5) (fieldAt s 1 4) (omega (arith, less, h)) in
-      fault-is size s
-      ∙ rw (field-in size 0 1 13 (within 1 1 (fieldAt s 0 1)) (omega (arith, h)), field-in size 1 4 14 (within (size - 5) (size - 5) (fieldAt s 1 4)) (omega (arith, h)), other)
-      (stops-there (within 1 1 (fieldAt s 0 1)) _ _)
+-- its version is wrong, or its length
+long-told : (s : List ℕ) (size : ℕ) → 5 + fieldAt s 1 4 < size → faultIn size s ≡ orElse (unless (within 1 1 (fieldAt s 0 1)) 13 0) (wrong 14 1)
+unfolding headFault headField
+long-told s size h =
+    let other : within (size - 5) (size - 5) (fieldAt s 1 4) ≡ false = within-low (size - 5) (size - 5) (fieldAt s 1 4) (omega (arith, h)) in
+    fault-is size s
+    ∙ rw (field-in size 0 1 13 (within 1 1 (fieldAt s 0 1)) (omega (arith, h)), field-in size 1 4 14 (within (size - 5) (size - 5) (fieldAt s 1 4)) (omega (arith, h)), other)
+    (stops-there (within 1 1 (fieldAt s 0 1)) _ _)
 
 pub start-suffices : StartSuffices
 start-suffices = record {
   enough = told-by-start;
-  too-long = λ start size bytes h. long-told start bytes size h ∙ sym (long-told start bytes (2 ^ 32 + 5) (omega arith));
+  longer = λ start size h. long-told start size h ∙ sym (long-told start (6 + fieldAt start 1 4) (omega arith));
 }

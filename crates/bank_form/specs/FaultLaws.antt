@@ -3,10 +3,9 @@ use mathlib.Core.Path.{_≡_}
 use mathlib.Core.Bool.{Bool, cond, _&&_, _||_}
 use mathlib.Core.List.{List}
 use mathlib.Core.Logic.{_⊎_}
-use Prim.Native.Nat.{ℕ, _+_, _-_, _*_, _^_, _≤_}
+use Prim.Native.Nat.{ℕ, _+_, _-_, _*_, _≤_, _<_}
 use lib.Dec.{T, eqb, leb}
 use lib.ListN.{length, take}
-use Rattle.big_endian.specs.Bytes.{AreBytes}
 use Rattle.big_endian.specs.Fields.{fieldAt}
 use Rattle.bank_form.specs.declared.Fault.{Fault}
 use Rattle.bank_form.specs.Bank.{Bank}
@@ -52,10 +51,10 @@ pub record Begins (start : List ℕ) (size : ℕ) (file : List ℕ) : Type 0 whe
 abbrev pub suffices : ℕ → ℕ → Bool
 suffices have size = eqb have size || (leb largest have && leb have size)
 
--- then the start of a file and its size tell its fault; and all that are longer than a length field can say are alike
+-- then the start of a file and its size tell its fault; and all files are alike that are longer than their length field says
 pub record StartSuffices : Type 0 where
   pub enough : (start : List ℕ) (size : ℕ) (file : List ℕ) → T (suffices (length start) size) → Begins start size file → faultIn size start ≡ fault file
-  pub too-long : (start : List ℕ) (size : ℕ) → AreBytes start → 2 ^ 32 + 5 ≤ size → faultIn size start ≡ faultIn (2 ^ 32 + 5) start
+  pub longer : (start : List ℕ) (size : ℕ) → 5 + fieldAt start 1 4 < size → faultIn size start ≡ faultIn (6 + fieldAt start 1 4) start
 
 -- ---- the writer
 

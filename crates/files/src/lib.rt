@@ -10,16 +10,12 @@ use bank_form::LARGEST;
 use libc::STDERR_FILENO;
 ghost use mathlib.Core.Path.{_≡_};
 ghost use mathlib.Core.Bool.{true};
-ghost use Prim.Native.Nat.{_+_, _≤_, _<_, max};
+ghost use Prim.Native.Nat.{_+_, _^_, _≤_, _<_, max};
 ghost use lib.IntN.{pos};
 ghost use lib.ListN.{length};
 ghost use Rattle.io.specs.Counts.{Counts};
 ghost use Rattle.bank_form.specs.Fault.{largest};
 ghost use Rattle.files.specs.Promises.{ReadBehind, ReadSized, Found};
-
-// A length field says at most that 2^32 - 1 bytes come after its own place, which is at the fifth: from one byte more on
-// all files have the same fault.
-const TOO_LONG: usize = 4294967301;
 
 // Whether a read failed, and how many bytes now stand in the buffer. One that failed has added none.
 pub struct Got {
@@ -84,12 +80,13 @@ fn fill(file: i32, bytes: &mut [u8]) -> usize
     at
 }
 
-// How many bytes a file has, of which so many were read: counted until it ends, or is longer than a length field can
-// say. None where a read fails.
-fn count_rest(file: i32, read: usize) -> usize {
+// How many bytes a file has, of which so many were read: counted until it ends, or has `most`. None where a read fails.
+fn count_rest(file: i32, read: usize, most: usize) -> usize
+    requires { ⌜ most < 2 ^ 33 ⌝ }
+{
     let mut space = [0u8; 4096];
     let mut size = read;
-    while size < TOO_LONG {
+    while size < most {
         let got = read_into(file, &mut space);
         if got.failed {
             return 0;
@@ -103,13 +100,15 @@ fn count_rest(file: i32, read: usize) -> usize {
 }
 
 // Reads the first bytes of a file, as many as the list holds, and answers how many the file has. One that cannot be
-// read counts as a file of no bytes.
+// read counts as a file of no bytes. The rest is counted as far as it matters: a file that has a byte more than its
+// length field says has the same fault as every longer one.
 fn read_first(file: i32, bytes: &mut [u8]) -> usize {
     let read = fill(file, bytes);
     if read < bytes.len() {
         return read;
     }
-    count_rest(file, read)
+    let named = big_endian::get(bytes, 1, 4) as usize;
+    count_rest(file, read, 6 + named)
 }
 
 // Reads the bank of a file of `size` bytes, whose first stand in a list that has room for the largest bank.

@@ -1,4 +1,4 @@
--- `files::count_rest` is safe and ends: each turn counts a byte or more, up to one more than a length field can say. Assumes nothing.
+-- `files::count_rest` is safe and ends: each turn counts a byte or more, up to as many as are asked for. Assumes nothing.
 use mathlib.Core.Path.{_≡_, refl}
 use Prim.Native.Nat.{_-_}
 use native.Mathlib.Omega.{arith}
@@ -7,10 +7,10 @@ use Rattle.files.proofs.count_rest.Statement.{statement}
 use Rattle.files.proofs.count_rest.Tie as tie
 
 abbrev Inv-loop : tie.InvT-loop
-Inv-loop file read space₀ size₀ space size = length space ≡ 4096
+Inv-loop file read most space₀ size₀ space size = length space ≡ 4096
 
 abbrev μ-loop : tie.MeasureT-loop
-μ-loop file read space₀ size₀ space size = 4294967301 - size
+μ-loop file read most space₀ size₀ space size = most - size
 
 loop-holds : tie.Need-loop-holds Inv-loop μ-loop
 loop-holds c = omega arith
