@@ -15,7 +15,7 @@ use Rattle.refusals.proofs.Determined.{determined, determined-by}
 use Rattle.lists.proofs.Placed.{take-placed}
 use Rattle.bank_form.specs.Bank.{Bank, rows, valid}
 use Rattle.bank_form.specs.Encoding.{encode}
-use Rattle.bank_form.specs.Fault.{bankIn, fault, isFile}
+use Rattle.bank_form.specs.Fault.{bankIn, fault}
 use Rattle.bank_form.specs.WriteFault.{writeFault}
 use Rattle.bank_form.specs.File.{IsFile}
 use Rattle.bank_form.proofs.Exact.{keeps, is-file}

@@ -2,7 +2,6 @@
 -- Document 02, E2: "Each of the new numbers also returns the offset of the first byte of the offending field". And 'Refusal numbers' of document 01: "A refusal returns its number, counts of 0, ..;
 -- lent memory stays the same." Definitions only. 5 comes before the numbers of a bank, and has no place.
 use mathlib.Core.Path.{_≡_}
-use mathlib.Core.Bool.{Bool}
 use mathlib.Core.List.{List}
 use Prim.Native.Nat.{ℕ, _*_}
 use lib.Dec.{T, eqb}

@@ -123,7 +123,7 @@ fn is_new(s: &[u8], l: usize, i: usize, z: i16) -> bool
 
 // The first fault of the row at an offset, with i rows before it.
 fn row_fault(size: usize, s: &[u8], l: usize, i: usize, at: usize) -> Fault
-    requires { ⌜ (l ≤ 512) × (i ≤ 8) × (at + rowSize l ≤ 32793) ⌝ }
+    requires { ⌜ (l ≤ 512) × (i ≤ 8) × (at + rowSize l ≤ largest) ⌝ }
     ensures { λ r. ⌜ r ≡ rowFault size (now (s .entry)) l i at ⌝ }
 {
     let z = big_endian::get_i16(s, at);

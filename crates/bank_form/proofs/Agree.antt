@@ -1,20 +1,13 @@
 -- Lists that begin alike have the same fields there, and a walk finds the same in both where all its fields end there.
 -- Assumes nothing.
-use mathlib.Core.Path.{_≡_, refl, sym, ap, _∙_}
-use mathlib.Core.Bool.{Bool, true, false, _&&_}
+use mathlib.Core.Path.{_≡_, refl, ap}
+use mathlib.Core.Bool.{_&&_}
 use mathlib.Core.List.{List}
 use Prim.Native.Nat.{ℕ, zero, suc, _+_, _*_, _≤_}
-use native.Mathlib.Decide.{decLt}
 use native.Mathlib.Nat.{mul-le-mul-right}
 use native.Mathlib.Omega.{arith}
-use borrow.Author.Tests.{le-leb, lt-leb}
-use lib.Dec.{leb}
-use lib.Ieee.{Float, binary32, ofBits}
+use lib.Ieee.{Float}
 use lib.Ieee.Scale.{finite}
-use lib.ListN.{length, take, drop, length-take}
-use lib.Seq.{length-take-le, take-take, take-add, drop-at}
-use mir.Syntax.{w16}
-use mir.Val.{toZ}
 use Rattle.big_endian.specs.Fields.{signedAt, floatAt}
 use Rattle.big_endian.specs.Lists.{strided}
 use Rattle.big_endian.proofs.Starts.{Agree, signed-agrees, float-agrees}

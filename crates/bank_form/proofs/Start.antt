@@ -3,7 +3,7 @@ use mathlib.Core.Path.{_≡_, refl, sym, ap, ap₂, _∙_}
 use mathlib.Core.Bool.{Bool, true, false, _&&_, _||_}
 use mathlib.Core.List.{List}
 use mathlib.Core.Logic.{_⊎_, inl, inr, ⊎-elim}
-use Prim.Native.Nat.{ℕ, _+_, _-_, _*_, _≤_, _<_}
+use Prim.Native.Nat.{ℕ, _+_, _-_, _≤_, _<_}
 use native.Mathlib.Decide.{ℕ-discrete}
 use native.Mathlib.Omega.{arith}
 use borrow.Author.Tests.{eqb-true, leb-true}
@@ -14,7 +14,7 @@ use Rattle.big_endian.specs.Fields.{fieldAt}
 use Rattle.refusals.specs.Ranges.{within}
 use Rattle.refusals.proofs.Ranges.{within-true, within-low}
 use Rattle.bank_form.specs.declared.Fault.{Fault}
-use Rattle.bank_form.specs.Fault.{rowSize, largest, rowsIn, lengthIn, wrong, unless, orElse, headFault, headField, rowsFault, faultIn, fault}
+use Rattle.bank_form.specs.Fault.{largest, rowsIn, lengthIn, wrong, unless, orElse, headFault, headField, faultIn, fault}
 use Rattle.bank_form.specs.FaultLaws.{Begins, suffices, StartSuffices}
 use Rattle.bank_form.proofs.Walk.{else-stop, field-in, head-none, fault-is, whole}
 use Rattle.big_endian.proofs.Starts.{Agree, start-agrees}

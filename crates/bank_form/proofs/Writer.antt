@@ -22,8 +22,7 @@ use Rattle.refusals.proofs.Ranges.{within-in}
 use Rattle.bank_form.specs.declared.Fault.{Fault}
 use Rattle.bank_form.specs.Bank.{Bank, rows, inRange, differ, isTap, pairwise, valid}
 use Rattle.bank_form.specs.Encoding.{encode}
-use Rattle.bank_form.specs.Fault.{rowSize, azimuthsFrom, rowTaps, tapsFrom, rowsIn, lengthIn, bankIn, sound, orElse, unless, field, tapsFault, isNew, rowFault, rowsFault, headField, headFault, faultIn, fault}
-use Rattle.bank_form.specs.Holds.{Holds}
+use Rattle.bank_form.specs.Fault.{rowSize, azimuthsFrom, rowTaps, tapsFrom, rowsIn, lengthIn, bankIn, orElse, unless, tapsFault, isNew, rowFault, rowsFault, headField, headFault, fault}
 use Rattle.bank_form.specs.WriteFault.{tapsWrong, rowsWrong, countsWrong, writeFault}
 use Rattle.bank_form.specs.FaultLaws.{WriterAsReader}
 use Rattle.bank_form.proofs.Lists.{exchange, taps-more}

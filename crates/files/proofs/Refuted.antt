@@ -1,17 +1,17 @@
 -- What the promise of `read_bank` rules out, whatever stands in the file: a refusal by another number than 5 and 13 to 19, and lists that are filled though the bank is refused. Assumes nothing.
 use mathlib.Core.Path.{_≡_, refl, sym, ap, _∙_}
 use mathlib.Core.List.{List}
-use mathlib.Core.Logic.{_⊎_, ⊎-elim}
-use Prim.Native.Nat.{ℕ, _≤_}
+use mathlib.Core.Logic.{⊎-elim}
+use Prim.Native.Nat.{_≤_}
 use native.Mathlib.Omega.{arith}
 use lib.IntN.{ℤ}
 use lib.ListN.{length}
 use lib.Ieee.{Float}
 use Rattle.bank_form.specs.declared.Fault.{Fault}
-use Rattle.bank_form.specs.Fault.{bankIn, wrong, fault}
+use Rattle.bank_form.specs.Fault.{bankIn, fault}
 use Rattle.bank_form.specs.FaultLaws.{Placed}
 use Rattle.bank_form.proofs.Places.{numbers-and-places}
-use Rattle.bank.specs.Reading.{ReadOutcome, readRefused, readFault, readOutcome}
+use Rattle.bank.specs.Reading.{ReadOutcome, readFault, readOutcome}
 use Rattle.bank.proofs.Answers.{as-refused, as-told, wrong-or-bank}
 use Rattle.files.specs.Promises.{Found}
 
