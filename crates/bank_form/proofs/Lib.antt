@@ -1,4 +1,4 @@
--- Laws that a caller's proof cites.
+-- Laws that a caller's proof cites, and worked files.
 pub mod Lists
 pub mod Azimuths
 pub mod Walk
@@ -9,3 +9,4 @@ pub mod Agree
 pub mod Places
 pub mod Order
 pub mod Start
+mod Worked
