@@ -13,7 +13,7 @@ use Rattle.big_endian.specs.Bytes.{valueOf}
 use Rattle.big_endian.specs.Fields.{fieldAt, signedAt, floatAt}
 use Rattle.big_endian.specs.Lists.{strided}
 use Rattle.bank_form.specs.declared.Fault.{Fault}
-use Rattle.bank_form.specs.Bank.{Bank, inRange, differ, isTap}
+use Rattle.bank_form.specs.Bank.{Bank, rows, inRange, differ, isTap}
 use Rattle.bank_form.specs.Fault.{rowSize, rowsIn, lengthIn, sound, wrong, orElse, field, tapsFault, isNew, rowFault, rowsFault, headField, headFault, faultIn, fault}
 use Rattle.bank_form.specs.FaultLaws.{Begins}
 use Rattle.bank_form.specs.WriteFault.{tapsWrong, rowsWrong, writeFault}
@@ -138,7 +138,7 @@ Told start f = (file : List ℕ) → Begins start 40000 file → fault file ≡ 
 
 -- the example with another length, of which these are the last two bytes, and another row count: 39,995 is 9C3B, 32,789 is 8015
 abbrev changed : ℕ → ℕ → ℕ → List ℕ
-changed a b rows = set (set (set example 3 a) 4 b) 6 rows
+changed a b n = set (set (set example 3 a) 4 b) 6 n
 
 module _ (start file : List ℕ) (begins : Begins start 40000 file) where
   same : Agree (length start) start file
@@ -183,3 +183,8 @@ threeRows = record { azimuths = pos 0 ∷ pos 450 ∷ pos 0 ∷ []; length = 1; 
 written-third-as-the-first : writeFault threeRows ≡ wrong 17 29
 unfolding writeFault rowsWrong tapsWrong orElse inRange differ isTap fits
 written-third-as-the-first = refl
+
+-- a row count that passes two bytes is judged as a number, whatever else the bank holds
+written-65537-rows : (b : Bank) → rows b ≡ 65537 → writeFault b ≡ wrong 15 5
+unfolding writeFault orElse
+written-65537-rows b e = rw e
