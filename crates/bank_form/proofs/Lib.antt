@@ -1,4 +1,4 @@
--- Laws that a caller's proof cites.
+-- Laws that a caller's proof cites; that no two answers meet one promise, and worked files.
 pub mod Lists
 pub mod Azimuths
 pub mod Walk
@@ -10,3 +10,4 @@ pub mod Places
 pub mod Order
 pub mod Start
 mod Unique
+mod Worked
