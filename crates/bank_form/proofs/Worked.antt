@@ -137,7 +137,7 @@ two-rows-promised-tap-infinite = refl
 abbrev Told : List ℕ → Fault → Type 0
 Told start f = (file : List ℕ) → Begins start 40000 file → fault file ≡ f
 
--- the example with another length, of which these are the last two bytes, and another row count: 39,995 is 9C3B, 32,789 is 8015
+-- the example with another row count and another length, whose last two bytes these are: 39,995 is 9C3B, 32,789 is 8015
 abbrev changed : ℕ → ℕ → ℕ → List ℕ
 changed a b n = set (set (set example 3 a) 4 b) 6 n
 
