@@ -8,12 +8,12 @@ use native.Mathlib.Omega.{arith}
 use lib.Ieee.{Float, toBits, fits}
 use lib.IntN.{ℤ}
 use lib.ListN.{length, take}
-use Rattle.big_endian.specs.Bytes.{valueOf, bytesOf}
-use Rattle.big_endian.specs.Fields.{fieldAt}
+use Rattle.big_endian.specs.Bytes.{bytesOf}
 use Rattle.big_endian.specs.Lists.{fieldBytes}
 use Rattle.bank_form.specs.Bank.{inRange, differ, isTap, pairwise, valid}
 use Rattle.bank_form.specs.Encoding.{rowBytes, headBytes, encode}
-use Rattle.bank_form.specs.Fault.{wrong, field, orElse, headField, headFault, faultIn, fault}
+use Rattle.bank_form.specs.Fault.{wrong, fault}
+use Rattle.bank_form.proofs.Worked.{cut-file}
 use Rattle.bank.specs.Reading.{ReadOutcome, readBank, readRefused, Reads}
 use Rattle.bank.specs.Writing.{WriteOutcome, Writes}
 use Rattle.bank.specs.Drill.{oneRow, oneRowBytes}
@@ -29,8 +29,7 @@ unfolding valid inRange differ isTap pairwise fits
 bank-keeps = refl
 
 pub bank-cut : fault (take 18 oneRowBytes) ≡ wrong 14 1
-unfolding faultIn headFault headField field orElse fieldAt valueOf
-bank-cut = refl
+bank-cut = cut-file
 
 -- what every writing and reading of them comes to
 

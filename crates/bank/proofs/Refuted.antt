@@ -11,8 +11,8 @@ use Rattle.lists.specs.Placed.{placed}
 use Rattle.big_endian.specs.Bytes.{bytesOf}
 use Rattle.bank_form.specs.Bank.{Bank}
 use Rattle.bank_form.specs.Encoding.{rowBytes, headBytes, encode}
-use Rattle.bank_form.specs.Fault.{wrong, orElse}
-use Rattle.bank_form.specs.WriteFault.{writeFault}
+use Rattle.bank_form.specs.Fault.{wrong}
+use Rattle.bank_form.proofs.Worked.{written-no-rows}
 use Rattle.bank.specs.Reading.{ReadOutcome, readRefused, readBank, Reads, ReadsStart}
 use Rattle.bank.specs.Writing.{WriteOutcome, writeRefused, writeOutcome, Writes}
 use Rattle.bank.specs.Drill.{oneRow, oneRowBytes}
@@ -27,13 +27,9 @@ sevens = pos 7 ∷ pos 7 ∷ pos 7 ∷ pos 7 ∷ pos 7 ∷ pos 7 ∷ pos 7 ∷ p
 noRows : Bank
 noRows = record { azimuths = []; length = 513; taps = [] }
 
-no-rows-wrong : writeFault noRows ≡ wrong 15 5
-unfolding noRows writeFault orElse
-no-rows-wrong = refl
-
 no-rows-told : (buffer : List ℕ) → length buffer ≡ 9 → writeRefused (wrong 15 5) buffer ≡ writeOutcome noRows buffer
 unfolding noRows encode headBytes rowBytes bytesOf
-no-rows-told buffer h = breaks noRows buffer (record { count = refl; size = h }) (wrong 15 5) (sym no-rows-wrong) (λ z. omega (arith, z))
+no-rows-told buffer h = breaks noRows buffer (record { count = refl; size = h }) (wrong 15 5) (sym written-no-rows) (λ z. omega (arith, z))
 
 -- the azimuth is filled in, and then the file turns out to be cut short
 filled-before-the-check : (xs : List Float) → length xs ≡ 8192 → Reads (take 18 oneRowBytes) sevens xs (record { answer = record { refusal = 14; offset = 1; rows = 0; length = 0 }; azimuths = pos 0 ∷ drop 1 sevens; taps = xs }) → ⊥

@@ -1,4 +1,4 @@
--- Laws that a caller's proof cites; that no two answers meet one promise, and worked files.
+-- Laws that a caller's proof cites, worked files and banks, and that no two answers meet one promise.
 pub mod Lists
 pub mod Azimuths
 pub mod Walk
@@ -9,5 +9,5 @@ pub mod Agree
 pub mod Places
 pub mod Order
 pub mod Start
+pub mod Worked
 mod Unique
-mod Worked

@@ -77,7 +77,7 @@ three-in-front : fault (0x03 ∷ example) ≡ wrong 13 0
 unfolding walk
 three-in-front = refl
 
-cut-file : fault (take 18 example) ≡ wrong 14 1
+pub cut-file : fault (take 18 example) ≡ wrong 14 1
 unfolding walk
 cut-file = refl
 
@@ -173,7 +173,7 @@ nine-rows-in-a-buffer file begins = by-head _ file begins 14 1 (omega arith) (om
 
 -- ---- banks that are to be written
 
-written-no-rows : writeFault (record { azimuths = []; length = 513; taps = [] }) ≡ wrong 15 5
+pub written-no-rows : writeFault (record { azimuths = []; length = 513; taps = [] }) ≡ wrong 15 5
 unfolding writeFault orElse
 written-no-rows = refl
 
