@@ -20,8 +20,8 @@ use Rattle.bank_form.specs.WriteFault.{writeFault}
 use Rattle.bank_form.specs.File.{IsFile}
 use Rattle.bank_form.proofs.Exact.{keeps, is-file}
 use Rattle.bank_form.proofs.Writer.{write-none}
-use Rattle.bank.specs.Reading.{ReadOutcome, readBank, readFault, readOutcome, Reads, ReadsStart, bankFound}
-use Rattle.bank.specs.Writing.{WriteOutcome, writeWrong, writeRefused, writeBank, writeOutcome, Writes}
+use Rattle.bank.specs.Reading.{ReadOutcome, readBank, readRefusal, readOutcome, Reads, ReadsStart, bankFound}
+use Rattle.bank.specs.Writing.{WriteOutcome, writeRefusal, writeRefused, writeBank, writeOutcome, Writes}
 use Rattle.bank.proofs.Answers.{as-told, Accepted, lists-accepted, read-good, Lent, written, written-lengths}
 
 pub read-unique : (file : List ℕ) (zs : List ℤ) (xs : List Float) → OneAnswer (Reads file zs xs)
@@ -36,12 +36,12 @@ write-unique b file = determined
 -- ---- reading
 
 module _ (file : List ℕ) (zs : List ℤ) (xs : List Float) where
-  refusal-is : readOutcome file zs xs .answer .refusal ≡ readFault file zs xs .refusal
+  refusal-is : readOutcome file zs xs .answer .refusal ≡ readRefusal file zs xs .refusal
   unfolding readOutcome
-  refusal-is = as-told zs xs (readFault file zs xs) (bankIn file)
+  refusal-is = as-told zs xs (readRefusal file zs xs) (bankIn file)
 
   pub accepted-parts : readOutcome file zs xs .answer .refusal ≡ 0 → Accepted zs xs (fault file)
-  unfolding readFault
+  unfolding readRefusal
   accepted-parts e = lists-accepted zs xs (fault file) (sym refusal-is ∙ e)
 
   -- what is accepted is a bank file, and its bank is filled in
@@ -63,7 +63,7 @@ module _ (b : Bank) (file : List ℕ) where
   written-parts : writeOutcome b file .answer .refusal ≡ 0 → Lent b file × (writeFault b .refusal ≡ 0)
   unfolding writeOutcome
   written-parts e =
-      let told = told-is (writeBank b) (λ k. writeRefused (writeWrong b file) file) (λ (w : WriteOutcome). w .answer .refusal) refl (writeWrong b file .refusal) refl in
+      let told = told-is (writeBank b) (λ k. writeRefused (writeRefusal b file) file) (λ (w : WriteOutcome). w .answer .refusal) refl (writeRefusal b file .refusal) refl in
       written-lengths b file (sym told ∙ e)
 
   -- a bank that is accepted keeps the form, and its file is filled in

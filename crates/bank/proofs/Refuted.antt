@@ -17,6 +17,7 @@ use Rattle.bank.specs.Reading.{ReadOutcome, readRefused, readBank, Reads
 use Rattle.bank.specs.Writing.{WriteOutcome, writeRefused, writeOutcome, Writes}
 use Rattle.bank.specs.Drill.{oneRow, oneRowBytes}
 use Rattle.bank.proofs.Answers.{start-lent, breaks}
+use Rattle.bank.proofs.Promises.{accepted-parts}
 use Rattle.bank.proofs.Drill.{drill-read, drill-cut, drill-written}
 
 -- lists that hold something else than what the file would bring
@@ -67,6 +68,12 @@ cut-told-otherwise n at other xs h r =
     let e = drill-cut sevens xs refl h _ r in
     other (ap (λ (o : ReadOutcome). o .answer .refusal) e, ap (λ (o : ReadOutcome). o .answer .offset) e)
 
+-- lists of other lengths are accepted
+other-lists-read : (file : List ℕ) (zs : List ℤ) (xs : List Float) (o : ReadOutcome) → Reads file zs xs o → ((length zs ≡ 8) × (length xs ≡ 8192) → ⊥) → o .answer .refusal ≡ 0 → ⊥
+other-lists-read file zs xs o r other e =
+    let a = accepted-parts file zs xs (ap (λ (q : ReadOutcome). q .answer .refusal) (sym (r .outcome)) ∙ e) in
+    other (a .eight, a .most)
+
 -- accepted, and nothing written
 writes-nothing : Writes oneRow (replicate 19 0) (record { answer = record { refusal = 0; offset = 0; bytes = 19 }; file = replicate 19 0 }) → ⊥
 writes-nothing r =
@@ -79,13 +86,13 @@ version-2-written r =
     let z : _≡_ {A = ℕ} 2 1 = ap (λ (w : WriteOutcome). getD (w .file) 0 0) (drill-written (replicate 19 0) _ (length-replicate {A = ℕ} 19 0) r) in
     omega arith
 
--- a bank of no rows is told by its L, which would stand behind the row count
-length-before-rows : (buffer : List ℕ) → length buffer ≡ 9 → Writes noRows buffer (writeRefused (wrong 16 7) buffer) → ⊥
-length-before-rows buffer h r =
-    let z : _≡_ {A = ℕ} 16 15 = ap (λ (w : WriteOutcome). w .answer .refusal) (r ∙ sym (no-rows-told buffer h)) in
-    omega arith
+-- a bank of no rows, with an L that is too large, is told otherwise than by 15 at 5: by its L, which would stand behind the row count, or at another place
+no-rows-told-otherwise : (n at : ℕ) → ((n ≡ 15) × (at ≡ 5) → ⊥) → (buffer : List ℕ) → length buffer ≡ 9 → Writes noRows buffer (writeRefused (wrong n at) buffer) → ⊥
+no-rows-told-otherwise n at other buffer h r =
+    let e = r ∙ sym (no-rows-told buffer h) in
+    other (ap (λ (w : WriteOutcome). w .answer .refusal) e, ap (λ (w : WriteOutcome). w .answer .offset) e)
 
--- a start that does not tell what the file holds is read as if the rest were nothing
+-- a start that is too short is accepted, zeros read for the bytes that it lacks
 short-start-read : (xs : List Float) → length xs ≡ 8192 → (o : ReadOutcome) → ReadsStart (take 9 oneRowBytes) 19 sevens xs o → o .answer .refusal ≡ 0 → ⊥
 unfolding sevens
 short-start-read xs h o r e =

@@ -14,7 +14,7 @@ use Rattle.big_endian.specs.Bytes.{AreBytes}
 use Rattle.bank_form.specs.declared.Fault.{Fault}
 use Rattle.bank_form.specs.Bank.{Bank, rows}
 use Rattle.bank_form.specs.Fault.{bankIn, orElse, unless, faultIn, fault}
-use Rattle.bank_form.specs.FaultLaws.{Begins, suffices}
+use Rattle.bank_form.specs.FaultLaws.{TakenFrom, suffices}
 use Rattle.bank_form.specs.File.{Exactly}
 use Rattle.bank.specs.declared.BankRead.{BankRead}
 
@@ -24,9 +24,9 @@ pub record ReadOutcome : Type 0 where
   pub azimuths : List ℤ
   pub taps : List Float
 
--- lists of other lengths, and then what is wrong with the bank
-abbrev pub readWrong : Fault → List ℤ → List Float → Fault
-readWrong bank zs xs = orElse (unless (eqb (length zs) 8) 5 0) (orElse (unless (eqb (length xs) 8192) 5 0) bank)
+-- lists of other lengths are refused before what is wrong with the bank
+abbrev pub afterLists : Fault → List ℤ → List Float → Fault
+afterLists bank zs xs = orElse (unless (eqb (length zs) 8) 5 0) (orElse (unless (eqb (length xs) 8192) 5 0) bank)
 
 abbrev pub readRefused : Fault → List ℤ → List Float → ReadOutcome
 readRefused f zs xs = record { answer = record { refusal = f .refusal; offset = f .offset; rows = 0; length = 0 }; azimuths = zs; taps = xs }
@@ -44,11 +44,11 @@ readAs f b zs xs = answered (f .refusal) (readBank b zs xs) (λ n. readRefused f
 
 -- ---- a whole file
 
-unfoldable pub readFault : List ℕ → List ℤ → List Float → Fault
-readFault file zs xs = readWrong (fault file) zs xs
+unfoldable pub readRefusal : List ℕ → List ℤ → List Float → Fault
+readRefusal file zs xs = afterLists (fault file) zs xs
 
 unfoldable pub readOutcome : List ℕ → List ℤ → List Float → ReadOutcome
-readOutcome file zs xs = readAs (readFault file zs xs) (bankIn file) zs xs
+readOutcome file zs xs = readAs (readRefusal file zs xs) (bankIn file) zs xs
 
 pub record Reads (file : List ℕ) (zs : List ℤ) (xs : List Float) (o : ReadOutcome) : Type 0 where
   pub outcome : o ≡ readOutcome file zs xs
@@ -57,16 +57,16 @@ pub record Reads (file : List ℕ) (zs : List ℤ) (xs : List Float) (o : ReadOu
 -- ---- a file that is given by its start and its size
 
 -- a start that is not enough is a lent length that doesn't fit
-unfoldable pub startFault : List ℕ → ℕ → List ℤ → List Float → Fault
-startFault start size zs xs = readWrong (orElse (unless (suffices (length start) size) 5 0) (faultIn size start)) zs xs
+unfoldable pub startRefusal : List ℕ → ℕ → List ℤ → List Float → Fault
+startRefusal start size zs xs = afterLists (orElse (unless (suffices (length start) size) 5 0) (faultIn size start)) zs xs
 
 unfoldable pub startOutcome : List ℕ → ℕ → List ℤ → List Float → ReadOutcome
-startOutcome start size zs xs = readAs (startFault start size zs xs) (bankIn start) zs xs
+startOutcome start size zs xs = readAs (startRefusal start size zs xs) (bankIn start) zs xs
 
--- where it is enough, what reading any file leaves that has so many bytes and begins so
+-- where it is enough, what `read` gives for every file that the start and the size were taken from
 pub record ReadsStart (start : List ℕ) (size : ℕ) (zs : List ℤ) (xs : List Float) (o : ReadOutcome) : Type 0 where
   pub outcome : o ≡ startOutcome start size zs xs
-  pub each : (file : List ℕ) → AreBytes file → T (suffices (length start) size) → Begins start size file → Reads file zs xs o
+  pub each : (file : List ℕ) → AreBytes file → T (suffices (length start) size) → TakenFrom start size file → Reads file zs xs o
 
 -- ---- the bank that a caller finds in its lists after an accepted reading
 

@@ -18,9 +18,9 @@ pub record WriteOutcome : Type 0 where
   pub answer : BankWritten
   pub file : List ℕ
 
--- other lengths, and then what is wrong with the bank
-unfoldable pub writeWrong : Bank → List ℕ → Fault
-writeWrong b file = orElse (unless (eqb (length (b .taps)) (2 * rows b * b .length)) 5 0) (orElse (unless (eqb (length file) (length (encode b))) 5 0) (writeFault b))
+-- other lengths are refused before what is wrong with the bank
+unfoldable pub writeRefusal : Bank → List ℕ → Fault
+writeRefusal b file = orElse (unless (eqb (length (b .taps)) (2 * rows b * b .length)) 5 0) (orElse (unless (eqb (length file) (length (encode b))) 5 0) (writeFault b))
 
 abbrev pub writeRefused : Fault → List ℕ → WriteOutcome
 writeRefused f file = record { answer = record { refusal = f .refusal; offset = f .offset; bytes = 0 }; file = file }
@@ -29,7 +29,7 @@ abbrev pub writeBank : Bank → WriteOutcome
 writeBank b = record { answer = record { refusal = 0; offset = 0; bytes = length (encode b) }; file = encode b }
 
 unfoldable pub writeOutcome : Bank → List ℕ → WriteOutcome
-writeOutcome b file = answered (writeWrong b file .refusal) (writeBank b) (λ n. writeRefused (writeWrong b file) file)
+writeOutcome b file = answered (writeRefusal b file .refusal) (writeBank b) (λ n. writeRefused (writeRefusal b file) file)
 
 abbrev pub Writes : Bank → List ℕ → WriteOutcome → Type 0
 Writes b file o = o ≡ writeOutcome b file

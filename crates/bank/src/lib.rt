@@ -26,12 +26,13 @@ ghost use Rattle.bank_form.specs.Encoding.{rowBytes, headBytes, encode};
 ghost use Rattle.lists.specs.Each.{Each};
 ghost use Rattle.bank_form.specs.Holds.{IsAzimuth};
 ghost use Rattle.bank_form.specs.Fault.{rowSize, largest, azimuthsFrom, tapsFrom};
-ghost use Rattle.bank_form.specs.WriteFault.{countsWrong};
+ghost use Rattle.bank_form.specs.WriteFault.{countsFault};
 ghost use Rattle.bank_form.specs.FaultLaws.{suffices};
 ghost use Rattle.bank.specs.Reading.{ReadsStart, Reads};
 ghost use Rattle.bank.specs.Writing.{Writes};
 
-// What reading answers: a refusal, with the offset of the field that is wrong, or 0 with the rows and L.
+// What reading answers: a refusal, with the offset of the field that is wrong (of 19, the file's size), or 0 with the
+// rows and L.
 pub struct BankRead {
     pub refusal: u8,
     pub offset: usize,
@@ -263,7 +264,7 @@ fn write_checked(
 
 // What is wrong with a row count and an L, judged as numbers: they need not fit the bytes that they would be written in.
 fn counts_fault(rows: usize, l: usize) -> Fault
-    ensures { λ r. ⌜ r ≡ countsWrong rows l ⌝ }
+    ensures { λ r. ⌜ r ≡ countsFault rows l ⌝ }
 {
     if !refusals::is_within(rows, 1, 8) {
         return Fault {

@@ -6,13 +6,13 @@ use lib.Dec.{T}
 use lib.ListN.{length}
 use Rattle.bank_form.specs.declared.Fault.{Fault}
 use Rattle.bank_form.specs.Fault.{faultIn, fault}
-use Rattle.bank_form.specs.FaultLaws.{Begins, suffices}
+use Rattle.bank_form.specs.FaultLaws.{TakenFrom, suffices}
 use Rattle.bank_form.specs.File.{Exactly}
 
--- of a start and a size: where the start is enough, the fault of every file that has so many bytes and begins so
+-- of a start and a size: where the start is enough, the fault of every file that they were taken from
 pub record CheckedStart (start : List ℕ) (size : ℕ) (r : Fault) : Type 0 where
   pub first : r ≡ faultIn size start
-  pub each : (file : List ℕ) → T (suffices (length start) size) → Begins start size file → r ≡ fault file
+  pub each : (file : List ℕ) → T (suffices (length start) size) → TakenFrom start size file → r ≡ fault file
 
 -- of a whole file
 pub record Checked (s : List ℕ) (r : Fault) : Type 0 where

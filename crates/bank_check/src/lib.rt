@@ -163,7 +163,8 @@ fn rows_fault(size: usize, s: &[u8], l: usize, n: usize) -> Fault
     }
 }
 
-// The first fault of a file of `size` bytes that begins with these.
+// The first fault of a file of `size` bytes that begins with these, if they are enough of it: all, or as many as the
+// largest bank has. A field that they do not have reads as 0.
 pub fn check_start(start: &[u8], size: usize) -> Fault
     ensures { λ r. ⌜ CheckedStart (now (start .entry)) size r ⌝ }
 {

@@ -18,7 +18,7 @@ use Rattle.bank_form.specs.Fault.{rowSize, azimuthsFrom, rowsIn, lengthI
 -- ---- fields
 
 module _ (k : ℕ) (s t : List ℕ) (same : Agree k s t) where
-  pub azimuths-agree : (l at n : ℕ) → at + n * rowSize l ≤ k → azimuthsFrom t l at n ≡ azimuthsFrom s l at n
+  azimuths-agree : (l at n : ℕ) → at + n * rowSize l ≤ k → azimuthsFrom t l at n ≡ azimuthsFrom s l at n
   unfolding strided
   azimuths-agree l at n h =
       tab-ext 0 n (λ j. signedAt t (at + j * rowSize l)) (λ j. signedAt s (at + j * rowSize l))
@@ -41,7 +41,7 @@ module _ (k : ℕ) (s t : List ℕ) (same : Agree k s t) where
         → field size at 4 18 (finite (floatAt t at)) ≡ field size at 4 18 (finite (floatAt s at))
     tap-agrees at h = ap (λ (x : Float). field size at 4 18 (finite x)) (float-agrees k s t same at h)
 
-    pub taps-agree : (at n : ℕ) → at + 4 * n ≤ k → tapsFault size t at n ≡ tapsFault size s at n
+    taps-agree : (at n : ℕ) → at + 4 * n ≤ k → tapsFault size t at n ≡ tapsFault size s at n
     unfolding tapsFault
     taps-agree at zero h = refl
     taps-agree at (suc n) h = rw (tap-agrees at (omega arith), taps-agree (at + 4) n (omega arith))
@@ -52,7 +52,7 @@ module _ (k : ℕ) (s t : List ℕ) (same : Agree k s t) where
     row-agrees l i at g h = rw (azimuth-agrees l at i (omega arith) g, taps-agree (at + 2) (2 * l) (omega arith))
 
     -- n rows from `at` on, with i rows before them
-    pub rows-agree : (l i at n : ℕ) → 9 + i * rowSize l ≤ at → at + n * rowSize l ≤ k
+    rows-agree : (l i at n : ℕ) → 9 + i * rowSize l ≤ at → at + n * rowSize l ≤ k
         → rowsFault size t l i at n ≡ rowsFault size s l i at n
     unfolding rowsFault
     rows-agree l i at zero g h = refl

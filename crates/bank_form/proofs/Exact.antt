@@ -1,10 +1,10 @@
 -- The walk finds nothing exactly if the bytes are those of a bank that keeps the form (`exactly`). Assumes nothing.
 use mathlib.Core.Path.{_≡_, sym, ap, _∙_}
-use mathlib.Core.Bool.{true, false, and-eq-true-iff}
+use mathlib.Core.Bool.{true, and-eq-true-iff}
 use mathlib.Core.List.{List}
 use Prim.Native.Nat.{ℕ, _+_, _*_}
 use native.Mathlib.Omega.{arith}
-use borrow.Author.Tests.{leb-true, eqb-true, eq-eqb, ne-eqb}
+use borrow.Author.Tests.{leb-true, eqb-true, eq-eqb}
 use lib.Dec.{leb, eqb}
 use lib.Ieee.{Float, nan, binary32, fits}
 use lib.Ieee.Fits.{nan-fits}
@@ -72,7 +72,7 @@ module _ (s : List ℕ) where
   keeps-whole : (b : Bank) → Written b s → Keeps (bankIn s) → Whole (length s) s
   unfolding isNew
   keeps-whole b a k = record {
-    head = record { version = a .version; rest = a .rest; few = rw rows-in at (k .few); short = k .short };
+    head = record { version = a .version; rest = a .rest; few = rw rows-in at (k .few); short = k .short; long = omega (arith, a .size) };
     all = record {
       ends = a .size;
       range = k .range;
@@ -111,10 +111,6 @@ is-file s e = eq-eqb (fault s .refusal) 0 e
 pub none-found : (s : List ℕ) → isFile s ≡ true → fault s .refusal ≡ 0
 unfolding isFile
 none-found s e = eqb-true (fault s .refusal) 0 e
-
-pub no-file : (s : List ℕ) → (fault s .refusal ≡ 0 → ⊥) → isFile s ≡ false
-unfolding isFile
-no-file s h = ne-eqb (fault s .refusal) 0 h
 
 written-keeps : (b : Bank) → Holds b → Keeps b → isFile (encode b) ≡ true
 written-keeps b h k =

@@ -18,7 +18,8 @@ use Rattle.bank_form.specs.FaultLaws.{fieldSize, ByteOrder}
 use Rattle.bank_form.proofs.Walk.{else-on, else-stop, field-short, field-bad, field-good, field-none, head-none, whole, nothing-found}
 use Rattle.big_endian.proofs.Starts.{Agree, start-agrees, agree-less, float-agrees}
 use Rattle.bank_form.proofs.Agree.{azimuth-agrees, row-agrees, head-agrees, fault-agrees}
-use Rattle.bank_form.proofs.Places.{row-ended, head-ended}
+use Rattle.bank_form.proofs.Places.{row-ended}
+use Rattle.bank_form.proofs.Left.{bytes-left}
 
 -- the place behind the field that a fault tells
 abbrev behind : Fault → ℕ
@@ -129,7 +130,7 @@ module _ (size : ℕ) (s t : List ℕ) where
   kept-all : headFault size s .refusal ≡ 0
       → Kept 9 (rowsFault size s (lengthIn s) 0 9 (rowsIn s)) (rowsFault size t (lengthIn t) 0 9 (rowsIn t))
   kept-all e =
-      let k = kept-rows (head-none size s e .rest) (lengthIn s) 0 9 (rowsIn s) (head-ended size s e) (omega arith) in
+      let k = kept-rows (head-none size s e .rest) (lengthIn s) 0 9 (rowsIn s) (head-none size s e .long) (omega arith) in
       record {
         after = k .after;
         same = λ w g. let nine = k .after w in rw (g 5 2 (omega arith), g 7 2 (omega arith)) (k .same w g);
@@ -156,6 +157,7 @@ byte-order = record {
       let told : Told (length s) s t (fault s) =
       record { bad = λ z. bad (nothing-found (length s) s (whole (length s) s z)); own = own } in
       ap (λ (n : ℕ). faultIn n t) long ∙ kept-fault (length s) s t .same told (start-agrees _ s t e);
+  bytes-left = bytes-left;
   last-row = λ s t long e.
       ap (λ (n : ℕ). faultIn n t) long ∙ fault-agrees _ s t (start-agrees _ s t e) (length s) (le-refl _);
 }

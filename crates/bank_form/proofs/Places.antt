@@ -13,16 +13,16 @@ use lib.ListN.{length}
 use Rattle.big_endian.specs.Fields.{floatAt}
 use Rattle.bank_form.specs.declared.Fault.{Fault}
 use Rattle.bank_form.specs.Fault.{rowSize, rowsIn, lengthIn, sound, wrong, unless, orElse, field, tapsFault, rowFault, rowsFault, headField, headFault, faultIn}
-use Rattle.bank_form.specs.FaultLaws.{Placed, NumbersAndPlaces}
-use Rattle.bank_form.proofs.Walk.{else-none, field-short, field-bad, field-good, field-none}
+use Rattle.bank_form.specs.FaultLaws.{fieldSize, Placed, NumbersAndPlaces}
+use Rattle.bank_form.proofs.Walk.{else-none, field-short, field-bad, field-good, field-none, head-none}
 
 -- no fault, or one with a number and a place
-abbrev pub Fine : ℕ → Fault → Type 0
+abbrev Fine : ℕ → Fault → Type 0
 Fine size f = (f ≡ sound) ⊎ Placed size f
 
 module _ (size : ℕ) where
   -- a fault by its number and its place
-  placed : (n at : ℕ) → 13 ≤ n → n ≤ 18 → at ≤ size → Fine size (wrong n at)
+  placed : (n at : ℕ) → 13 ≤ n → n ≤ 18 → at + fieldSize n ≤ size → Fine size (wrong n at)
   placed n at low high h = inr (record { least = low; most = omega arith; inside = h; end = λ e. absurd (omega arith) })
 
   placed-end : Fine size (wrong 19 size)
@@ -38,27 +38,28 @@ module _ (size : ℕ) where
       go true e = rw e (q (eqb-true (a .refusal) 0 e))
       go false e = rw e p
 
-  fine-field : (at count n : ℕ) (good : Bool) → at ≤ size → 13 ≤ n → n ≤ 18 → Fine size (field size at count n good)
-  fine-field at count n good h low high =
-      elim (decLt size (at + count)) [
-        | yes k ↦ rw (field-short size at count n good k) placed-end
+  -- a field with a number, and as long as that says
+  fine-field : (at n : ℕ) (good : Bool) → at ≤ size → 13 ≤ n → n ≤ 18 → Fine size (field size at (fieldSize n) n good)
+  fine-field at n good h low high =
+      elim (decLt size (at + fieldSize n)) [
+        | yes k ↦ rw (field-short size at (fieldSize n) n good k) placed-end
         | no k ↦ go good refl (omega arith)
       ]
     where
-      go : (t : Bool) → good ≡ t → at + count ≤ size → Fine size (field size at count n good)
-      go true e k = rw (field-good size at count n good k e) (inl refl)
-      go false e k = rw (field-bad size at count n good k e) (placed n at low high h)
+      go : (t : Bool) → good ≡ t → at + fieldSize n ≤ size → Fine size (field size at (fieldSize n) n good)
+      go true e k = rw (field-good size at (fieldSize n) n good k e) (inl refl)
+      go false e k = rw (field-bad size at (fieldSize n) n good k e) (placed n at low high k)
 
   -- and a walk that begins behind it
-  fine-next : (at count n : ℕ) (good : Bool) (b : Fault) → at ≤ size → 13 ≤ n → n ≤ 18 → (at + count ≤ size → Fine size b)
-      → Fine size (orElse (field size at count n good) b)
-  fine-next at count n good b h low high rest =
-      fine-else _ b (fine-field at count n good h low high) (λ e. rest (field-none size at count n good (omega arith) e .0))
+  fine-next : (at n : ℕ) (good : Bool) (b : Fault) → at ≤ size → 13 ≤ n → n ≤ 18 → (at + fieldSize n ≤ size → Fine size b)
+      → Fine size (orElse (field size at (fieldSize n) n good) b)
+  fine-next at n good b h low high rest =
+      fine-else _ b (fine-field at n good h low high) (λ e. rest (field-none size at (fieldSize n) n good (omega arith) e .0))
 
   -- ---- where a walk that finds nothing ends
 
   module _ (s : List ℕ) where
-    pub taps-ended : (at n : ℕ) → at ≤ size → tapsFault size s at n .refusal ≡ 0 → at + 4 * n ≤ size
+    taps-ended : (at n : ℕ) → at ≤ size → tapsFault size s at n .refusal ≡ 0 → at + 4 * n ≤ size
     unfolding tapsFault
     taps-ended at zero h e = omega arith
     taps-ended at (suc n) h e =
@@ -72,48 +73,40 @@ module _ (size : ℕ) where
         let both = else-none (field size at 2 17 _) (tapsFault size s (at + 2) (2 * l)) e in
         omega (arith, taps-ended (at + 2) (2 * l) (field-none size at 2 17 _ (omega arith) (both .0) .0) (both .1))
 
-    pub head-ended : headFault size s .refusal ≡ 0 → 9 ≤ size
-    unfolding headFault headField
-    head-ended e =
-        let version = else-none (headField size s 0 1 13 _ _) _ e in
-        let rest = else-none (headField size s 1 4 14 _ _) _ (version .1) in
-        let counts = else-none (headField size s 5 2 15 _ _) _ (rest .1) in
-        field-none size 7 2 16 _ (omega arith) (counts .1) .0
-
     -- ---- the walks
 
     fine-taps : (at n : ℕ) → at ≤ size → Fine size (tapsFault size s at n)
     unfolding tapsFault
     fine-taps at zero h = inl refl
-    fine-taps at (suc n) h = fine-next at 4 18 _ _ h (omega arith) (omega arith) (fine-taps (at + 4) n)
+    fine-taps at (suc n) h = fine-next at 18 _ _ h (omega arith) (omega arith) (fine-taps (at + 4) n)
 
     fine-row : (l i at : ℕ) → at ≤ size → Fine size (rowFault size s l i at)
     unfolding rowFault
-    fine-row l i at h = fine-next at 2 17 _ _ h (omega arith) (omega arith) (fine-taps (at + 2) (2 * l))
+    fine-row l i at h = fine-next at 17 _ _ h (omega arith) (omega arith) (fine-taps (at + 2) (2 * l))
 
-    fine-rows : (l i at n : ℕ) → 1 ≤ at → at ≤ size → Fine size (rowsFault size s l i at n)
+    fine-rows : (l i at n : ℕ) → 5 ≤ at → at ≤ size → Fine size (rowsFault size s l i at n)
     unfolding rowsFault
-    fine-rows l i at zero one h = go (eqb size at)
+    fine-rows l i at zero five h = go (eqb size at)
       where
         go : (t : Bool) → Fine size (unless t 14 1)
         go true = inl refl
         go false = placed 14 1 (omega arith) (omega arith) (omega arith)
-    fine-rows l i at (suc n) one h =
+    fine-rows l i at (suc n) five h =
         fine-else _ _ (fine-row l i at h)
         (λ e. fine-rows l (i + 1) (at + rowSize l) n (omega arith) (row-ended l i at e))
 
     fine-head : Fine size (headFault size s)
     unfolding headFault headField
     fine-head =
-        fine-next 0 1 13 _ _ (omega arith) (omega arith) (omega arith) (λ a.
-        fine-next 1 4 14 _ _ a (omega arith) (omega arith) (λ b.
-        fine-next 5 2 15 _ _ b (omega arith) (omega arith) (λ c.
-        fine-field 7 2 16 _ c (omega arith) (omega arith))))
+        fine-next 0 13 _ _ (omega arith) (omega arith) (omega arith) (λ a.
+        fine-next 1 14 _ _ a (omega arith) (omega arith) (λ b.
+        fine-next 5 15 _ _ b (omega arith) (omega arith) (λ c.
+        fine-field 7 16 _ c (omega arith) (omega arith))))
 
     -- of any size, whatever the list
-    pub fine-fault : Fine size (faultIn size s)
+    fine-fault : Fine size (faultIn size s)
     unfolding faultIn
-    fine-fault = fine-else _ _ fine-head (λ e. fine-rows (lengthIn s) 0 9 (rowsIn s) (omega arith) (head-ended e))
+    fine-fault = fine-else _ _ fine-head (λ e. fine-rows (lengthIn s) 0 9 (rowsIn s) (omega arith) (head-none size s e .long))
 
 pub numbers-and-places : NumbersAndPlaces
 numbers-and-places s = fine-fault (length s) s

@@ -3,10 +3,10 @@ use mathlib.Core.Path.{_≡_, refl, sym, ap, ap₂, _∙_}
 use mathlib.Core.Bool.{Bool, true, false, _&&_, _||_}
 use mathlib.Core.List.{List}
 use mathlib.Core.Logic.{_⊎_, inl, inr, ⊎-elim}
-use Prim.Native.Nat.{ℕ, _+_, _-_, _≤_, _<_}
-use native.Mathlib.Decide.{ℕ-discrete}
+use Prim.Native.Nat.{ℕ, _+_, _-_, _≤_, _<_, min}
+use native.Mathlib.Decide.{decLt, ℕ-discrete}
 use native.Mathlib.Omega.{arith}
-use borrow.Author.Tests.{eqb-true, leb-true}
+use borrow.Author.Tests.{eqb-true, leb-true, eq-eqb, ne-eqb, le-leb, lt-leb}
 use lib.Dec.{T, eqb, leb}
 use lib.ListN.{length, take, length-take}
 use lib.Seq.{take-length}
@@ -14,8 +14,8 @@ use Rattle.big_endian.specs.Fields.{fieldAt}
 use Rattle.refusals.specs.Ranges.{within}
 use Rattle.refusals.proofs.Ranges.{within-true, within-low}
 use Rattle.bank_form.specs.declared.Fault.{Fault}
-use Rattle.bank_form.specs.Fault.{largest, rowsIn, lengthIn, wrong, unless, orElse, headFault, headField, faultIn, fault}
-use Rattle.bank_form.specs.FaultLaws.{Begins, suffices, StartSuffices}
+use Rattle.bank_form.specs.Fault.{largest, rowsIn, lengthIn, sound, wrong, orElse, headFault, headField, faultIn, fault}
+use Rattle.bank_form.specs.FaultLaws.{Begins, Exceeds, TakenFrom, suffices, StartSuffices}
 use Rattle.bank_form.proofs.Walk.{else-stop, field-in, head-none, fault-is, whole}
 use Rattle.big_endian.proofs.Starts.{Agree, start-agrees}
 use Rattle.bank_form.proofs.Agree.{head-agrees, fault-agrees}
@@ -57,47 +57,114 @@ enough-is have size h = go (eqb have size) (leb largest have) refl refl h
 all-of : (start : List ℕ) (size : ℕ) (file : List ℕ) → Begins start size file → length start ≡ size → file ≡ start
 all-of start size file begins e = sym (take-length file) ∙ ap (λ (n : ℕ). take n file) (begins .long ∙ sym e) ∙ begins .same
 
-told-by-start : (start : List ℕ) (size : ℕ) (file : List ℕ) → T (suffices (length start) size) → Begins start size file → faultIn size start ≡ fault file
-told-by-start start size file enough begins = ⊎-elim all some (enough-is (length start) size enough)
-  where
-    all : length start ≡ size → faultIn size start ≡ fault file
-    all e = ap₂ faultIn (sym (begins .long)) (sym (all-of start size file begins e))
+-- ---- what is enough of a file
 
-    some : largest ≤ length start → faultIn size start ≡ fault file
-    some h =
-        start-told size (length start) file start (start-agrees (length start) file start (take-length start ∙ sym (begins .same))) h
-        ∙ ap (λ (n : ℕ). faultIn n file) (sym (begins .long))
+module _ (have size : ℕ) where
+  pub enough-all : have ≡ size → suffices have size ≡ true
+  enough-all e = rw (eq-eqb have size e)
 
--- a file without fault is all in a start that is enough
-pub whole-start : (start : List ℕ) (size : ℕ) (file : List ℕ) → T (suffices (length start) size) → Begins start size file → faultIn size start .refusal ≡ 0 → file ≡ start
-whole-start start size file enough begins none =
-    let w = whole size start none in
-    let few = within-true 1 8 (rowsIn start) (w .head .few) .1 in
-    let short = within-true 1 512 (lengthIn start) (w .head .short) .1 in
-    let reach = rows-reach (rowsIn start) 8 (lengthIn start) few short in
-    let most = ap length (begins .same) in
-    let all : length start ≡ size = ⊎-elim (λ e. e) (λ h. omega (arith, h, reach, w .all .ends, begins .long, sym most ∙ length-take (length start) file)) (enough-is (length start) size enough) in
-    all-of start size file begins all
+  module _ (other : have ≡ size → ⊥) where
+    pub enough-few : have < largest → suffices have size ≡ false
+    enough-few h = rw (ne-eqb have size other, lt-leb largest have h)
 
--- ---- a file that is longer than its length field says
+    pub enough-first : largest ≤ have → suffices have size ≡ leb have size
+    enough-first h = rw (ne-eqb have size other, le-leb largest have h)
 
--- nothing behind a length that is wrong is looked at
-stops-there : (good : Bool) (x y : Fault) → orElse (orElse (unless good 13 0) (orElse (wrong 14 1) x)) y ≡ orElse (unless good 13 0) (wrong 14 1)
+  -- all of it, or as much as the largest bank has
+  pub enough-kept : have ≡ min size largest → suffices have size ≡ true
+  enough-kept e =
+      elim (decLt size largest) [
+        | yes h ↦ enough-all (omega (arith, e, h))
+        | no h ↦ elim (ℕ-discrete have size) [ yes all ↦ enough-all all | no other ↦ enough-first other (omega (arith, e, h)) ∙ le-leb have size (omega (arith, e)) ]
+      ]
+
+-- ---- a file of that size
+
+module _ (start : List ℕ) (size : ℕ) (file : List ℕ) (enough : T (suffices (length start) size)) (begins : Begins start size file) where
+  told-of-size : faultIn size start ≡ fault file
+  told-of-size = ⊎-elim all some (enough-is (length start) size enough)
+    where
+      all : length start ≡ size → faultIn size start ≡ fault file
+      all e = ap₂ faultIn (sym (begins .long)) (sym (all-of start size file begins e))
+
+      some : largest ≤ length start → faultIn size start ≡ fault file
+      some h =
+          start-told size (length start) file start (start-agrees (length start) file start (take-length start ∙ sym (begins .same))) h
+          ∙ ap (λ (n : ℕ). faultIn n file) (sym (begins .long))
+
+  -- one without fault is all in its start
+  whole-of-size : faultIn size start .refusal ≡ 0 → file ≡ start
+  whole-of-size none =
+      let w = whole size start none in
+      let few = within-true 1 8 (rowsIn start) (w .head .few) .1 in
+      let short = within-true 1 512 (lengthIn start) (w .head .short) .1 in
+      let reach = rows-reach (rowsIn start) 8 (lengthIn start) few short in
+      let most = sym (ap length (begins .same)) ∙ length-take (length start) file in
+      let all : length start ≡ size =
+      ⊎-elim (λ e. e) (λ h. omega (arith, h, reach, w .all .ends, begins .long, most)) (enough-is (length start) size enough) in
+      all-of start size file begins all
+
+-- ---- a longer file
+
+-- nothing behind a version that is wrong is looked at, and nothing behind a length
+stops-at-version : (x y : Fault) → orElse (orElse (wrong 13 0) x) y ≡ wrong 13 0
 unfolding orElse
-stops-there true x y = refl
-stops-there false x y = refl
+stops-at-version x y = refl
 
--- its version is wrong, or its length
-long-told : (s : List ℕ) (size : ℕ) → 5 + fieldAt s 1 4 < size → faultIn size s ≡ orElse (unless (within 1 1 (fieldAt s 0 1)) 13 0) (wrong 14 1)
-unfolding headFault headField
-long-told s size h =
-    let other : within (size - 5) (size - 5) (fieldAt s 1 4) ≡ false = within-low (size - 5) (size - 5) (fieldAt s 1 4) (omega (arith, h)) in
-    fault-is size s
-    ∙ rw (field-in size 0 1 13 (within 1 1 (fieldAt s 0 1)) (omega (arith, h)), field-in size 1 4 14 (within (size - 5) (size - 5) (fieldAt s 1 4)) (omega (arith, h)), other)
-    (stops-there (within 1 1 (fieldAt s 0 1)) _ _)
+stops-at-length : (x y : Fault) → orElse (orElse sound (orElse (wrong 14 1) x)) y ≡ wrong 14 1
+unfolding orElse
+stops-at-length x y = refl
+
+module _ (s : List ℕ) (size : ℕ) where
+  other-version : within 1 1 (fieldAt s 0 1) ≡ false → 1 ≤ size → faultIn size s ≡ wrong 13 0
+  unfolding headFault headField
+  other-version e h = fault-is size s ∙ rw (field-in size 0 1 13 (within 1 1 (fieldAt s 0 1)) (omega (arith, h)), e) (stops-at-version _ _)
+
+  longer-than-said : within 1 1 (fieldAt s 0 1) ≡ true → 6 + fieldAt s 1 4 ≤ size → faultIn size s ≡ wrong 14 1
+  unfolding headFault headField
+  longer-than-said e h =
+      let other : within (size - 5) (size - 5) (fieldAt s 1 4) ≡ false = within-low (size - 5) (size - 5) (fieldAt s 1 4) (omega (arith, h)) in
+      fault-is size s
+      ∙ rw (
+        field-in size 0 1 13 (within 1 1 (fieldAt s 0 1)) (omega (arith, h)),
+        e,
+        field-in size 1 4 14 (within (size - 5) (size - 5) (fieldAt s 1 4)) (omega (arith, h)),
+        other,
+      )
+      (stops-at-length _ _)
+
+module _ (start : List ℕ) (size : ℕ) (file : List ℕ) (enough : T (suffices (length start) size)) (x : Exceeds start size file) where
+  same : Agree (length start) start file
+  same = start-agrees (length start) start file (x .same ∙ sym (take-length start))
+
+  -- so many bytes of the file are in the start
+  held : (n : ℕ) → n ≤ largest → n ≤ size → n ≤ length start
+  held n few h = ⊎-elim (λ e. omega (arith, e, h)) (λ g. omega (arith, g, few)) (enough-is (length start) size enough)
+
+  -- one fault for both
+  told-of-longer : (f : Fault) × (faultIn size start ≡ f) × (fault file ≡ f) × (f .refusal ≡ 0 → ⊥)
+  told-of-longer = go (within 1 1 (fieldAt start 0 1)) refl
+    where
+      go : (good : Bool) → within 1 1 (fieldAt start 0 1) ≡ good → (f : Fault) × (faultIn size start ≡ f) × (fault file ≡ f) × (f .refusal ≡ 0 → ⊥)
+      go false e =
+          let one : 1 ≤ size = rw e at (x .past) in
+          let version = ap (within 1 1) (same 0 1 (held 1 (omega arith) one)) ∙ e in
+          (wrong 13 0, other-version start size e one, other-version file (length file) version (omega (arith, one, x .more)), λ z. omega (arith, z))
+      go true e =
+          let six : 6 + fieldAt start 1 4 ≤ size = rw e at (x .past) in
+          let five = held 5 (omega arith) (omega (arith, six)) in
+          let version = ap (within 1 1) (same 0 1 (omega (arith, five))) ∙ e in
+          let long : 6 + fieldAt file 1 4 ≤ length file = omega (arith, six, x .more, same 1 4 five) in
+          (wrong 14 1, longer-than-said start size e six, longer-than-said file (length file) version long, λ z. omega (arith, z))
+
+-- ---- what is kept of a file
 
 pub start-suffices : StartSuffices
-start-suffices = record {
-  enough = told-by-start;
-  longer = λ start size h. long-told start size h ∙ sym (long-told start (6 + fieldAt start 1 4) (omega arith));
-}
+start-suffices start size file enough kept =
+    ⊎-elim (told-of-size start size file enough) (λ x. let t = told-of-longer start size file enough x in t .1 ∙ sym (t .2)) kept
+
+-- a file without fault is all in a start that is enough
+pub whole-start : (start : List ℕ) (size : ℕ) (file : List ℕ) → T (suffices (length start) size) → TakenFrom start size file → faultIn size start .refusal ≡ 0 → file ≡ start
+whole-start start size file enough kept none =
+    ⊎-elim (λ b. whole-of-size start size file enough b none)
+    (λ x. let t = told-of-longer start size file enough x in absurd (t .3 (ap (λ (f : Fault). f .refusal) (sym (t .1)) ∙ none))) kept

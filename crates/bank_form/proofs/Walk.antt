@@ -6,7 +6,7 @@ use Prim.Native.Nat.{ℕ, zero, suc, _+_, _-_, _*_, _≤_, _<_, min, suc-le-suc}
 use native.Mathlib.Nat.{le-of-suc-le-suc}
 use native.Mathlib.Numerals.{sub-one}
 use native.Mathlib.Omega.{arith}
-use borrow.Author.Tests.{ltb-false, eqb-true, eqb-false, lt-ltb, le-ltb, eq-eqb, ne-eqb}
+use borrow.Author.Tests.{ltb-false, eqb-true, lt-ltb, le-ltb, eq-eqb, ne-eqb}
 use lib.Dec.{ltb, eqb}
 use lib.Ieee.{binary32, fits}
 use lib.Ieee.Bits.{is-true, ofBits-fits}
@@ -26,6 +26,10 @@ use Rattle.bank_form.proofs.Azimuths.{differ-same, differ-other}
 
 -- ---- one walk after another
 
+-- whether a walk found nothing
+abbrev pub isClear : Fault → Bool
+isClear f = eqb (f .refusal) 0
+
 module _ (a b : Fault) where
   -- r is what the first walk answered: it stops there, or the second goes on
   pub else-stop : (r : Fault) → r ≡ a → (r .refusal ≡ 0 → ⊥) → r ≡ orElse a b
@@ -36,13 +40,19 @@ module _ (a b : Fault) where
   unfolding orElse
   else-on r e h = rw (eq-eqb (a .refusal) 0 (ap (λ (f : Fault). f .refusal) (sym e) ∙ h))
 
-  pub else-none : orElse a b .refusal ≡ 0 → (a .refusal ≡ 0) × (b .refusal ≡ 0)
+  -- it finds nothing if both do
+  pub clear-else : isClear (orElse a b) ≡ (isClear a && isClear b)
   unfolding orElse
-  else-none h = go (eqb (a .refusal) 0) refl
+  clear-else = go (isClear a) refl
     where
-      go : (t : Bool) → eqb (a .refusal) 0 ≡ t → (a .refusal ≡ 0) × (b .refusal ≡ 0)
-      go true e = (eqb-true (a .refusal) 0 e, rw e at h)
-      go false e = absurd (eqb-false (a .refusal) 0 e (rw e at h))
+      go : (t : Bool) → isClear a ≡ t → isClear (orElse a b) ≡ (isClear a && isClear b)
+      go true e = rw e
+      go false e = rw (e, e)
+
+  pub else-none : orElse a b .refusal ≡ 0 → (a .refusal ≡ 0) × (b .refusal ≡ 0)
+  else-none h =
+      let both = and-eq-true-iff (isClear a) (isClear b) .0 (sym clear-else ∙ eq-eqb (orElse a b .refusal) 0 h) in
+      (eqb-true (a .refusal) 0 (both .0), eqb-true (b .refusal) 0 (both .1))
 
   pub else-sound : a ≡ sound → b ≡ sound → orElse a b ≡ sound
   unfolding orElse
@@ -58,9 +68,22 @@ else-assoc a b c = go (eqb (a .refusal) 0) refl
 
 -- ---- a field
 
-pub unless-none : (good : Bool) (n at : ℕ) → 0 < n → unless good n at .refusal ≡ 0 → good ≡ true
-unless-none true n at h e = refl
-unless-none false n at h e = absurd (omega arith)
+-- a test with its number and its place
+pub clear-unless : (good : Bool) (n at : ℕ) → 0 < n → isClear (unless good n at) ≡ good
+clear-unless true n at some = refl
+clear-unless false n at some = ne-eqb n 0 (λ z. omega (arith, z, some))
+
+module _ (good : Bool) (n at : ℕ) where
+  pub unless-none : 0 < n → unless good n at .refusal ≡ 0 → good ≡ true
+  unless-none some e = sym (clear-unless good n at some) ∙ eq-eqb (unless good n at .refusal) 0 e
+
+  pub unless-passes : (f : Fault) → good ≡ true → orElse (unless good n at) f ≡ f
+  unfolding orElse
+  unless-passes f e = rw e
+
+  pub unless-fails : (f : Fault) → 0 < n → good ≡ false → orElse (unless good n at) f ≡ wrong n at
+  unfolding orElse
+  unless-fails f some e = rw (e, ne-eqb n 0 (λ z. omega (arith, some, z)))
 
 module _ (size at count n : ℕ) (good : Bool) where
   pub field-short : size < at + count → field size at count n good ≡ wrong 19 size
@@ -242,6 +265,7 @@ pub record Head (size : ℕ) (s : List ℕ) : Type 0 where
   pub rest : fieldAt s 1 4 ≡ size - 5
   pub few : within 1 8 (rowsIn s) ≡ true
   pub short : within 1 512 (lengthIn s) ≡ true
+  pub long : 9 ≤ size
 
 pub record Whole (size : ℕ) (s : List ℕ) : Type 0 where
   pub head : Head size s
@@ -261,11 +285,13 @@ head-none size s e =
       rest = one-value _ _ (field-none size 1 4 14 _ (omega arith) (rest .0) .1);
       few = field-none size 5 2 15 _ (omega arith) (counts .0) .1;
       short = field-none size 7 2 16 _ (omega arith) (counts .1) .1;
+      long = field-none size 7 2 16 _ (omega arith) (counts .1) .0;
     }
 
-head-sound : (size : ℕ) (s : List ℕ) → 9 ≤ size → Head size s → headFault size s ≡ sound
+head-sound : (size : ℕ) (s : List ℕ) → Head size s → headFault size s ≡ sound
 unfolding headFault headField
-head-sound size s nine h =
+head-sound size s h =
+    let nine = h .long in
     let version : within 1 1 (fieldAt s 0 1) ≡ true = rw (h .version) in
     let rest : within (size - 5) (size - 5) (fieldAt s 1 4) ≡ true = rw (h .rest) (within-in (size - 5) (size - 5) (size - 5) (omega arith) (omega arith)) in
     else-sound _ _ (field-good size 0 1 13 _ (omega arith) version)
@@ -282,6 +308,4 @@ whole size s e =
     record { head = head-none size s (parts .0); all = rows-none size s (lengthIn s) 0 9 (rowsIn s) (parts .1) }
 
 pub nothing-found : (size : ℕ) (s : List ℕ) → Whole size s → faultIn size s ≡ sound
-nothing-found size s w =
-    let ends = w .all .ends in
-    fault-is size s ∙ else-sound _ _ (head-sound size s (omega arith) (w .head)) (rows-sound size s (lengthIn s) 0 9 (rowsIn s) (w .all))
+nothing-found size s w = fault-is size s ∙ else-sound _ _ (head-sound size s (w .head)) (rows-sound size s (lengthIn s) 0 9 (rowsIn s) (w .all))

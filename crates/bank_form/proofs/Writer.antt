@@ -1,11 +1,12 @@
--- The writer's fault is the reader's of the bytes that would be written (`writer-as-reader`), and a bank has none exactly if it keeps the form (`write-none`). Assumes nothing.
+-- The writer's fault is the reader's of the bytes that would be written (`writer-as-reader`), a bank has none exactly if it keeps the form (`write-none`), and it is told by 15 to 18 (`writer-numbers`). Assumes nothing.
 use mathlib.Core.Path.{_≡_, refl, sym, ap, ap₂, _∙_}
 use mathlib.Core.Bool.{Bool, true, false, _&&_, and-true, and-false}
 use mathlib.Core.List.{List, [], _∷_, _++_}
-use Prim.Native.Nat.{ℕ, zero, suc, _+_, _-_, _*_, _≤_, _<_}
+use mathlib.Core.Logic.{_⊎_, inl, inr}
+use Prim.Native.Nat.{ℕ, zero, suc, _+_, _-_, _*_, _≤_}
 use native.Mathlib.Numerals.{add-one}
 use native.Mathlib.Omega.{arith}
-use borrow.Author.Tests.{eq-eqb, ne-eqb}
+use borrow.Author.Tests.{eq-eqb}
 use lib.Dec.{eqb}
 use lib.Ieee.Scale.{finite}
 use lib.Ieee.{Float}
@@ -22,11 +23,11 @@ use Rattle.refusals.proofs.Ranges.{within-in}
 use Rattle.bank_form.specs.declared.Fault.{Fault}
 use Rattle.bank_form.specs.Bank.{Bank, rows, inRange, differ, isTap, pairwise, valid}
 use Rattle.bank_form.specs.Encoding.{encode}
-use Rattle.bank_form.specs.Fault.{rowSize, azimuthsFrom, rowTaps, tapsFrom, rowsIn, lengthIn, bankIn, orElse, unless, tapsFault, isNew, rowFault, rowsFault, headField, headFault, fault}
-use Rattle.bank_form.specs.WriteFault.{tapsWrong, rowsWrong, countsWrong, writeFault}
-use Rattle.bank_form.specs.FaultLaws.{WriterAsReader}
+use Rattle.bank_form.specs.Fault.{rowSize, azimuthsFrom, rowTaps, tapsFrom, rowsIn, lengthIn, bankIn, sound, orElse, unless, tapsFault, isNew, rowFault, rowsFault, headField, headFault, fault}
+use Rattle.bank_form.specs.WriteFault.{tapsWrong, rowsWrong, countsFault, writeFault}
+use Rattle.bank_form.specs.FaultLaws.{WriterNumbers, WriterAsReader}
 use Rattle.bank_form.proofs.Lists.{exchange, taps-more}
-use Rattle.bank_form.proofs.Walk.{else-assoc, field-in, tap-is, fault-is}
+use Rattle.bank_form.proofs.Walk.{isClear, clear-else, clear-unless, else-assoc, field-in, tap-is, fault-is}
 use Rattle.bank_form.proofs.Exact.{rows-in}
 use Rattle.bank_form.proofs.RoundTrip.{Written, read-write}
 
@@ -72,7 +73,7 @@ module _ (b : Bank) (s : List ℕ) (w : Written b s) where
   size-nine : 9 ≤ length s
   size-nine = omega (arith, w .size)
 
-  head-as-written : headFault (length s) s ≡ countsWrong (rows b) (b .length)
+  head-as-written : headFault (length s) s ≡ countsFault (rows b) (b .length)
   unfolding headFault headField orElse
   head-as-written =
       let size = length s in
@@ -90,38 +91,23 @@ module _ (b : Bank) (s : List ℕ) (w : Written b s) where
         short,
       )
 
-  pub written-fault : fault s ≡ writeFault b
+  written-fault : fault s ≡ writeFault b
   unfolding writeFault
   written-fault =
       let all = rows-as-written (length s) s (lengthIn s) 0 9 (rowsIn s) (omega arith) (w .size) in
       fault-is (length s) s
       ∙ ap₂ orElse head-as-written (all ∙ ap (λ (zs : List ℤ). rowsWrong zs (bankIn s .azimuths) (bankIn s .length) (bankIn s .taps) 9) (strided-none (signedAt s) (rowSize (lengthIn s)) 9))
-      ∙ ap (λ (c : Bank). orElse (countsWrong (rows b) (b .length)) (rowsWrong [] (c .azimuths) (c .length) (c .taps) 9)) (w .same)
+      ∙ ap (λ (c : Bank). orElse (countsFault (rows b) (b .length)) (rowsWrong [] (c .azimuths) (c .length) (c .taps) 9)) (w .same)
 
 pub writer-as-reader : WriterAsReader
 writer-as-reader b h = sym (written-fault b (encode b) (read-write b h))
 
 -- ---- a bank has no fault exactly if it keeps the form
 
-abbrev none : Fault → Bool
-none f = eqb (f .refusal) 0
-
-none-else : (a b : Fault) → none (orElse a b) ≡ (none a && none b)
-unfolding orElse
-none-else a b = go (none a) refl
-  where
-    go : (t : Bool) → none a ≡ t → none (orElse a b) ≡ (none a && none b)
-    go true e = rw e
-    go false e = rw (e, e)
-
-none-unless : (good : Bool) (n at : ℕ) → 0 < n → none (unless good n at) ≡ good
-none-unless true n at h = refl
-none-unless false n at h = ne-eqb n 0 (λ e. omega (arith, e, h))
-
-none-taps : (at : ℕ) (xs : List Float) → none (tapsWrong at xs) ≡ every isTap xs
+clear-taps : (at : ℕ) (xs : List Float) → isClear (tapsWrong at xs) ≡ every isTap xs
 unfolding tapsWrong
-none-taps at [] = refl
-none-taps at (x ∷ xs) = none-else _ _ ∙ ap₂ _&&_ (none-unless (isTap x) 18 at (omega arith)) (none-taps (at + 4) xs)
+clear-taps at [] = refl
+clear-taps at (x ∷ xs) = clear-else _ _ ∙ ap₂ _&&_ (clear-unless (isTap x) 18 at (omega arith)) (clear-taps (at + 4) xs)
 
 -- each of the second list differs from all of the first, and from those before it
 abbrev newTo : List ℤ → List ℤ → Bool
@@ -144,19 +130,19 @@ regroup true true true false B C P D = refl
 regroup true true true true true C P D = refl
 regroup true true true true false C P D = refl
 
-none-rows : (before zs : List ℤ) (l : ℕ) (xs : List Float) (at : ℕ) → length xs ≡ length zs * (2 * l)
-    → none (rowsWrong before zs l xs at) ≡ (every inRange zs && newTo before zs && every isTap xs)
+clear-rows : (before zs : List ℤ) (l : ℕ) (xs : List Float) (at : ℕ) → length xs ≡ length zs * (2 * l)
+    → isClear (rowsWrong before zs l xs at) ≡ (every inRange zs && newTo before zs && every isTap xs)
 unfolding rowsWrong pairwise
-none-rows before [] l xs at n = sym (ap (every isTap) (drop-of-length-le xs {i = 0} (omega (arith, n))))
-none-rows before (z ∷ zs) l xs at n =
+clear-rows before [] l xs at n = sym (ap (every isTap) (drop-of-length-le xs {i = 0} (omega (arith, n))))
+clear-rows before (z ∷ zs) l xs at n =
     let m = 2 * l in
     let split : every isTap xs ≡ (every isTap (take m xs) && every isTap (drop m xs)) = ap (every isTap) (sym (take-append-drop m xs)) ∙ every-append isTap (take m xs) (drop m xs) in
-    let rest = none-rows (before ++ (z ∷ [])) zs l (drop m xs) (at + rowSize l) (omega (arith, length-drop m xs, n)) in
+    let rest = clear-rows (before ++ (z ∷ [])) zs l (drop m xs) (at + rowSize l) (omega (arith, length-drop m xs, n)) in
     rw (
-      none-else (unless (inRange z && every (λ (y : ℤ). differ y z) before) 17 at) (orElse (tapsWrong (at + 2) (take m xs)) (rowsWrong (before ++ (z ∷ [])) zs l (drop m xs) (at + rowSize l))),
-      none-unless (inRange z && every (λ (y : ℤ). differ y z) before) 17 at (omega arith),
-      none-else (tapsWrong (at + 2) (take m xs)) (rowsWrong (before ++ (z ∷ [])) zs l (drop m xs) (at + rowSize l)),
-      none-taps (at + 2) (take m xs),
+      clear-else (unless (inRange z && every (λ (y : ℤ). differ y z) before) 17 at) (orElse (tapsWrong (at + 2) (take m xs)) (rowsWrong (before ++ (z ∷ [])) zs l (drop m xs) (at + rowSize l))),
+      clear-unless (inRange z && every (λ (y : ℤ). differ y z) before) 17 at (omega arith),
+      clear-else (tapsWrong (at + 2) (take m xs)) (rowsWrong (before ++ (z ∷ [])) zs l (drop m xs) (at + rowSize l)),
+      clear-taps (at + 2) (take m xs),
       rest,
       new-behind before z zs,
       split,
@@ -177,12 +163,48 @@ unfolding writeFault valid
 write-none b n =
     let rest = rowsWrong [] (b .azimuths) (b .length) (b .taps) 9 in
     rw (
-      none-else (countsWrong (rows b) (b .length)) rest,
-      none-else (unless (within 1 8 (rows b)) 15 5) (unless (within 1 512 (b .length)) 16 7),
-      none-unless (within 1 8 (rows b)) 15 5 (omega arith),
-      none-unless (within 1 512 (b .length)) 16 7 (omega arith),
-      none-rows [] (b .azimuths) (b .length) (b .taps) 9 (n ∙ omega arith),
+      clear-else (countsFault (rows b) (b .length)) rest,
+      clear-else (unless (within 1 8 (rows b)) 15 5) (unless (within 1 512 (b .length)) 16 7),
+      clear-unless (within 1 8 (rows b)) 15 5 (omega arith),
+      clear-unless (within 1 512 (b .length)) 16 7 (omega arith),
+      clear-rows [] (b .azimuths) (b .length) (b .taps) 9 (n ∙ omega arith),
       none-before (b .azimuths),
       eq-eqb (length (b .taps)) (2 * rows b * b .length) n,
     )
     (ending (within 1 8 (rows b)) (within 1 512 (b .length)) (every inRange (b .azimuths)) (pairwise differ (b .azimuths)) (every isTap (b .taps)))
+
+-- ---- which numbers the writer gives
+
+abbrev Known : Fault → Type 0
+Known f = (f ≡ sound) ⊎ ((15 ≤ f .refusal) × (f .refusal ≤ 18))
+
+known-unless : (good : Bool) (n at : ℕ) → 15 ≤ n → n ≤ 18 → Known (unless good n at)
+known-unless true n at low high = inl refl
+known-unless false n at low high = inr (low, high)
+
+known-else : (a b : Fault) → Known a → Known b → Known (orElse a b)
+unfolding orElse
+known-else a b p q = go (eqb (a .refusal) 0) refl
+  where
+    go : (t : Bool) → eqb (a .refusal) 0 ≡ t → Known (orElse a b)
+    go true e = rw e q
+    go false e = rw e p
+
+known-taps : (at : ℕ) (xs : List Float) → Known (tapsWrong at xs)
+unfolding tapsWrong
+known-taps at [] = inl refl
+known-taps at (x ∷ xs) = known-else _ _ (known-unless (isTap x) 18 at (omega arith) (omega arith)) (known-taps (at + 4) xs)
+
+known-rows : (before zs : List ℤ) (l : ℕ) (xs : List Float) (at : ℕ) → Known (rowsWrong before zs l xs at)
+unfolding rowsWrong
+known-rows before [] l xs at = inl refl
+known-rows before (z ∷ zs) l xs at =
+    known-else _ _ (known-unless (inRange z && every (λ (y : ℤ). differ y z) before) 17 at (omega arith) (omega arith))
+    (known-else _ _ (known-taps (at + 2) (take (2 * l) xs)) (known-rows (before ++ (z ∷ [])) zs l (drop (2 * l) xs) (at + rowSize l)))
+
+pub writer-numbers : WriterNumbers
+unfolding writeFault
+writer-numbers b =
+    known-else _ _
+    (known-else _ _ (known-unless (within 1 8 (rows b)) 15 5 (omega arith) (omega arith)) (known-unless (within 1 512 (b .length)) 16 7 (omega arith) (omega arith)))
+    (known-rows [] (b .azimuths) (b .length) (b .taps) 9)

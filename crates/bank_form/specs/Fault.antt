@@ -26,7 +26,7 @@ rowSize l = 2 + 8 * l
 
 -- the bytes of the largest bank: the head, and 8 rows of 512 taps for each ear
 abbrev pub largest : ℕ
-largest = 32793
+largest = 9 + 8 * rowSize 512
 
 -- the azimuths of n rows from `at` on, and their taps
 abbrev pub azimuthsFrom : List ℕ → ℕ → ℕ → ℕ → List ℤ
@@ -59,7 +59,7 @@ wrong n at = record { refusal = n; offset = at }
 unfoldable pub orElse : Fault → Fault → Fault
 orElse a b = cond (eqb (a .refusal) 0) b a
 
--- what has a number and a place is good, or wrong there
+-- no fault where the test holds, else this number at this place
 abbrev pub unless : Bool → ℕ → ℕ → Fault
 unless good n at = cond good sound (wrong n at)
 

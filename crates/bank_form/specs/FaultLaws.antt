@@ -7,6 +7,7 @@ use Prim.Native.Nat.{ℕ, _+_, _-_, _*_, _≤_, _<_}
 use lib.Dec.{T, eqb, leb}
 use lib.ListN.{length, take}
 use Rattle.big_endian.specs.Fields.{fieldAt}
+use Rattle.refusals.specs.Ranges.{within}
 use Rattle.bank_form.specs.declared.Fault.{Fault}
 use Rattle.bank_form.specs.Bank.{Bank}
 use Rattle.bank_form.specs.Encoding.{encode}
@@ -16,28 +17,29 @@ use Rattle.bank_form.specs.WriteFault.{writeFault}
 
 -- ---- numbers and places
 
--- a number from 13 to 19, at a place in a file of `size` bytes; 19 at its end
+-- the bytes of the field that a number tells: the version has one, the length and a tap four, the counts and an azimuth two; 19 is told behind the last byte
+abbrev pub fieldSize : ℕ → ℕ
+fieldSize n = cond (eqb n 13) 1 (cond (eqb n 14 || eqb n 18) 4 (cond (eqb n 19) 0 2))
+
+-- a number from 13 to 19, and its field in a file of `size` bytes; 19 at its end
 pub record Placed (size : ℕ) (f : Fault) : Type 0 where
   pub least : 13 ≤ f .refusal
   pub most : f .refusal ≤ 19
-  pub inside : f .offset ≤ size
+  pub inside : f .offset + fieldSize (f .refusal) ≤ size
   pub end : f .refusal ≡ 19 → f .offset ≡ size
 
--- "19 gives the file's length", and no bank is told by a number of its own
+-- "19 gives the file's length", and a bank is refused by these numbers alone
 abbrev pub NumbersAndPlaces : Type 0
 NumbersAndPlaces = (s : List ℕ) → (fault s ≡ sound) ⊎ Placed (length s) (fault s)
 
 -- ---- byte order
 
--- the bytes of the field that a number tells: the version has one, the length and a tap four, the counts and an azimuth two; 19 is told behind the last byte
-abbrev pub fieldSize : ℕ → ℕ
-fieldSize n = cond (eqb n 13) 1 (cond (eqb n 14 || eqb n 18) 4 (cond (eqb n 19) 0 2))
-
--- "Checks run in byte order": a file as long that agrees up to the end of the field at fault has the same fault. Bytes that are left after the last row have no field of their own, but every file as long
--- that agrees up to the end of that row has the same fault.
+-- "Checks run in byte order": a file as long that agrees up to the end of the field at fault has the same fault (of 19, which is told at the end, that says nothing). Bytes that are left after the last row have
+-- no field of their own: 14 is told of a length that is right only where there are some, and every file as long that agrees up to the end of that row has the same fault.
 pub record ByteOrder : Type 0 where
   pub field-at-fault : (s t : List ℕ) → length t ≡ length s → (fault s ≡ sound → ⊥) → (fault s .refusal ≡ 14 → fieldAt s 1 4 ≡ length s - 5 → ⊥)
       → take (fault s .offset + fieldSize (fault s .refusal)) t ≡ take (fault s .offset + fieldSize (fault s .refusal)) s → fault t ≡ fault s
+  pub bytes-left : (s : List ℕ) → fault s .refusal ≡ 14 → fieldAt s 1 4 ≡ length s - 5 → 9 + rowsIn s * rowSize (lengthIn s) < length s
   pub last-row : (s t : List ℕ) → length t ≡ length s → take (9 + rowsIn s * rowSize (lengthIn s)) t ≡ take (9 + rowsIn s * rowSize (lengthIn s)) s → fault t ≡ fault s
 
 -- ---- the start of a file
@@ -47,16 +49,33 @@ pub record Begins (start : List ℕ) (size : ℕ) (file : List ℕ) : Type 0 whe
   pub long : length file ≡ size
   pub same : take (length start) file ≡ start
 
+-- how many bytes of a file that begins with these can make a difference: where its version is wrong, that alone; else a byte more than its length says
+abbrev pub counting : List ℕ → ℕ
+counting start = cond (within 1 1 (fieldAt start 0 1)) (6 + fieldAt start 1 4) 1
+
+-- a file of `size` bytes or more begins with these, and so many are all that can make a difference
+pub record Exceeds (start : List ℕ) (size : ℕ) (file : List ℕ) : Type 0 where
+  pub more : size ≤ length file
+  pub same : take (length start) file ≡ start
+  pub past : counting start ≤ size
+
+-- a start and a size are taken from a file
+abbrev pub TakenFrom : List ℕ → ℕ → List ℕ → Type 0
+TakenFrom start size file = Begins start size file ⊎ Exceeds start size file
+
 -- so many bytes are all of a file of `size` bytes, or as many of its first as the largest bank has
 abbrev pub suffices : ℕ → ℕ → Bool
 suffices have size = eqb have size || (leb largest have && leb have size)
 
--- then the start of a file and its size tell its fault; and all files are alike that are longer than their length field says
-pub record StartSuffices : Type 0 where
-  pub enough : (start : List ℕ) (size : ℕ) (file : List ℕ) → T (suffices (length start) size) → Begins start size file → faultIn size start ≡ fault file
-  pub longer : (start : List ℕ) (size : ℕ) → 5 + fieldAt start 1 4 < size → faultIn size start ≡ faultIn (6 + fieldAt start 1 4) start
+-- then they tell the fault of the file that they were taken from
+abbrev pub StartSuffices : Type 0
+StartSuffices = (start : List ℕ) (size : ℕ) (file : List ℕ) → T (suffices (length start) size) → TakenFrom start size file → faultIn size start ≡ fault file
 
 -- ---- the writer
+
+-- a bank is refused by 15 to 18 alone: the writer makes version and length itself, and ends where it should
+abbrev pub WriterNumbers : Type 0
+WriterNumbers = (b : Bank) → (writeFault b ≡ sound) ⊎ ((15 ≤ writeFault b .refusal) × (writeFault b .refusal ≤ 18))
 
 -- the writer's fault is the reader's of the bytes that would be written, for every bank that i16 and f32 hold and whose counts fit their fields
 abbrev pub WriterAsReader : Type 0

@@ -26,8 +26,8 @@ rowsWrong before (z ∷ zs) l xs at =
     (rowsWrong (before ++ (z ∷ [])) zs l (drop (2 * l) xs) (at + rowSize l)))
 
 -- the row count and L
-abbrev pub countsWrong : ℕ → ℕ → Fault
-countsWrong n l = orElse (unless (within 1 8 n) 15 5) (unless (within 1 512 l) 16 7)
+abbrev pub countsFault : ℕ → ℕ → Fault
+countsFault n l = orElse (unless (within 1 8 n) 15 5) (unless (within 1 512 l) 16 7)
 
 unfoldable pub writeFault : Bank → Fault
-writeFault b = orElse (countsWrong (rows b) (b .length)) (rowsWrong [] (b .azimuths) (b .length) (b .taps) 9)
+writeFault b = orElse (countsFault (rows b) (b .length)) (rowsWrong [] (b .azimuths) (b .length) (b .taps) 9)

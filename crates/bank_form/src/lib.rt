@@ -12,8 +12,8 @@ ghost use mathlib.Core.Path.{_≡_};
 ghost use Prim.Native.Nat.{min};
 ghost use Rattle.bank_form.specs.Fault.{rowSize};
 
-// The first field that breaks the form: the number that tells which, and the offset of its first byte.
-// Both are 0 where none does.
+// The first field that breaks the form: the number that tells which, and the offset of its first byte; of 19, the
+// file's size. Both are 0 where none does.
 pub struct Fault {
     pub refusal: u8,
     pub offset: usize,
@@ -25,8 +25,8 @@ pub const LARGEST: usize = 32793;
 // The most taps of a filter.
 const MOST_TAPS: usize = 512;
 
-// How many bytes a row of l taps for each ear has: an azimuth, and the taps. No row has more than 512 of them, and a
-// larger l counts as that.
+// How many bytes a row of l taps for each ear has: an azimuth, and the taps. It takes any l, and 8 l would overflow:
+// so one above 512, which no row has, counts as that.
 pub fn row_size(l: usize) -> usize
     ensures { λ r. ⌜ r ≡ rowSize (min l 512) ⌝ }
 {

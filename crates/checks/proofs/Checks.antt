@@ -7,7 +7,7 @@ use native.Mathlib.Nat.{not-suc-le-zero, zero-add, add-zero, add-suc, suc-add}
 use native.Mathlib.Omega.{arith}
 use lib.ListN.{length, getD, take, drop}
 use lib.Dec.{eqb, ltb}
-use borrow.Author.Tests.{eq-eqb, ne-eqb, le-ltb, eqb-true, not-false, ltb-false}
+use borrow.Author.Tests.{eq-eqb, le-ltb, eqb-true, not-false, ltb-false}
 use lib.Ieee.{Float, nan}
 use lib.Ieee.Scale.{finite}
 pub use Rattle.refusals.proofs.Counts.{not-outside, count-inside}
@@ -57,10 +57,6 @@ fitted size planes stride frames e =
 
 pub equal-passes : (a b : ℕ) → a ≡ b → not (eqb a b) ≡ false
 equal-passes a b e = ap not (eq-eqb a b e)
-
--- any other fails it
-pub other-fails : (a b : ℕ) → (a ≡ b → ⊥) → not (eqb a b) ≡ true
-other-fails a b h = ap not (ne-eqb a b h)
 
 pub planes-fit : (size planes stride frames : ℕ) → frames ≤ stride → size ≡ planes * stride → unfit size planes stride frames ≡ false
 planes-fit size planes stride frames room e = both-off (ltb stride frames) (not (eqb size (planes * stride))) (le-ltb stride frames room) (equal-passes size (planes * stride) e)

@@ -18,17 +18,17 @@ use Rattle.wire.specs.Promises.{Lined}
 use Rattle.ears_file.specs.declared.Ended.{Ended}
 use Rattle.ears_file.specs.declared.Outcome.{Outcome}
 use Rattle.ears_file.specs.declared.turn.Progress.{Progress}
-use Rattle.ears_file.specs.Lines.{refusedRun, endsAs, refusalLine, toldBy}
+use Rattle.ears_file.specs.Lines.{partFrame, endsAs, refusalLine, toldBy}
 use Rattle.ears_file.specs.Promise.{Ends, Answers}
 use Rattle.ears_file.specs.Turns.{Stands, endOf}
 use Rattle.files.proofs.Parts.{counts}
 
 -- ---- ends
 
-pub failed-ends : (end : List ℕ → Ended) (r : Outcome) → r ≡ record { failed = true; ended = refusedRun } → Ends end r
+pub failed-ends : (end : List ℕ → Ended) (r : Outcome) → r ≡ record { failed = true; ended = partFrame } → Ends end r
 failed-ends end r e = subst (Ends end) (sym e) (record { line = []; ended = refl })
 
-pub failed-answers : (r : Outcome) → r ≡ record { failed = true; ended = refusedRun } → Answers r
+pub failed-answers : (r : Outcome) → r ≡ record { failed = true; ended = partFrame } → Answers r
 failed-answers r e = record { bank = []; ends = failed-ends _ r e }
 
 -- where the line ends, what stands for it ends as it does

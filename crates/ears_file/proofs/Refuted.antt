@@ -31,11 +31,11 @@ use Rattle.wire.specs.Counting.{countedOn}
 use Rattle.wire.specs.Line.{refusedWord, refusedLine, refusedAtLine}
 use Rattle.wire.proofs.Drill.{refused-fourteen}
 use Rattle.wire.specs.Promises.{Lined}
-use Rattle.ears_file.specs.Lines.{setupWith, refusedRun, refusedBank, itemTen, refusalLine, toldBy}
+use Rattle.ears_file.specs.Lines.{setupWith, partFrame, refusedBank, itemTen, refusalLine, toldBy}
 use Rattle.ears_file.specs.Promise.{Answers}
 
 -- one of three ends
-one-of-three : (f b t : Bool) (e x y : Ended) → e ≡ cond f refusedRun (cond b (cond t x refusedRun) y) → (e ≡ x) ⊎ ((e ≡ refusedRun) ⊎ (e ≡ y))
+one-of-three : (f b t : Bool) (e x y : Ended) → e ≡ cond f partFrame (cond b (cond t x partFrame) y) → (e ≡ x) ⊎ ((e ≡ partFrame) ⊎ (e ≡ y))
 one-of-three true b t e x y q = inr (inl q)
 one-of-three false true true e x y q = inl q
 one-of-three false true false e x y q = inr (inl q)
@@ -59,7 +59,7 @@ module _ (r : Outcome) (a : Answers r) where
         unsettled = countedOn 0 (unsettledIn (setupWith (bankIn (a .bank))) 0 [] (lineFrames line));
       }
 
-  by-end : {A : Type 0} → (r .ended ≡ played → A) → (r .ended ≡ refusedRun → A) → (r .ended ≡ refusedBank (fault (a .bank)) → A) → A
+  by-end : {A : Type 0} → (r .ended ≡ played → A) → (r .ended ≡ partFrame → A) → (r .ended ≡ refusedBank (fault (a .bank)) → A) → A
   unfolding played
   by-end p q s =
       ⊎-elim p (⊎-elim q s)
@@ -94,7 +94,7 @@ module _ (r : Outcome) (a : Answers r) where
 
   failed-as-played : r .failed ≡ true → r .ended .refusal ≡ 0 → ⊥
   failed-as-played f z =
-      let nine : r .ended .refusal ≡ 9 = ap (λ (y : Ended). y .refusal) (a .ends .ended ∙ stops refusedRun (itemTen (a .bank) (a .ends .line)) f) in
+      let nine : r .ended .refusal ≡ 9 = ap (λ (y : Ended). y .refusal) (a .ends .ended ∙ stops partFrame (itemTen (a .bank) (a .ends .line)) f) in
       let k : _≡_ {A = ℕ} 0 9 = sym z ∙ nine in omega arith
 
   more-unsettled-than-frames : r .ended .frames < r .ended .unsettled → ⊥

@@ -29,7 +29,7 @@ use Rattle.runs.specs.NeverRefused.{StateFits}
 use Rattle.runs.proofs.NeverRefused.{few-rows, short-filters, good-bank-set-up, set-up-accepted}
 use Rattle.ears_file.specs.declared.Ended.{Ended}
 use Rattle.ears_file.specs.declared.Outcome.{Outcome}
-use Rattle.ears_file.specs.Lines.{arranged, setupWith, refusedRun, refusedBank, endsAs, itemTen}
+use Rattle.ears_file.specs.Lines.{arranged, setupWith, partFrame, refusedBank, endsAs, itemTen}
 use Rattle.files.specs.Promises.{Found}
 use Rattle.ears_file.specs.Promise.{Ends, Answers}
 use Rattle.ears_file.specs.Turns.{BlocksAccepted}
@@ -89,7 +89,7 @@ module _ (xs : List Float) (o : ReadOutcome) (f : Found zeros xs o) where
     bank-answers r e =
         let end : endsAs (setupWith (bankFound o)) (e .line) ≡ itemTen (f .file) (e .line) =
         ap (λ (q : Bank). endsAs (setupWith q) (e .line)) bank-is ∙ sym (stops _ _ (is-file (f .file) (parts .none))) in
-        record { bank = f .file; ends = record { line = e .line; ended = e .ended ∙ ap (cond (r .failed) refusedRun) end } }
+        record { bank = f .file; ends = record { line = e .line; ended = e .ended ∙ ap (cond (r .failed) partFrame) end } }
 
     -- there is room for its filters, and for the cells of six speakers
     pub rows-few : o .answer .rows ≤ 8

@@ -37,8 +37,8 @@ abbrev pub earsOf : Setup → List ℕ → List ℕ
 earsOf u line = earBytes (heard u [] (lineFrames line))
 
 -- a part frame, which has no place, and a bank that is wrong somewhere
-abbrev pub refusedRun : Ended
-refusedRun = record { refusal = 9; place = 0; frames = 0; unsettled = 0 }
+abbrev pub partFrame : Ended
+partFrame = record { refusal = 9; place = 0; frames = 0; unsettled = 0 }
 
 abbrev pub refusedBank : Fault → Ended
 refusedBank f = record { refusal = f .refusal; place = f .offset; frames = 0; unsettled = 0 }
@@ -47,7 +47,7 @@ refusedBank f = record { refusal = f .refusal; place = f .offset; frames = 0; un
 abbrev pub endsAs : Setup → List ℕ → Ended
 endsAs u line =
     cond (eqb (length (restIn 24 line)) 0)
-    (record { refusal = 0; place = 0; frames = countedOn 0 (wholeIn 24 line); unsettled = countedOn 0 (unsettledIn u 0 [] (lineFrames line)) }) refusedRun
+    (record { refusal = 0; place = 0; frames = countedOn 0 (wholeIn 24 line); unsettled = countedOn 0 (unsettledIn u 0 [] (lineFrames line)) }) partFrame
 
 -- what item 10 gives for the bytes of a bank, none where it is missing, and the bytes of a line
 abbrev pub itemTen : List ℕ → List ℕ → Ended

@@ -21,7 +21,7 @@ use Rattle.ears_file.specs.declared.Ended.{Ended}
 use Rattle.ears_file.specs.declared.turn.Progress.{Progress}
 use Rattle.ears_file.specs.declared.turn.Turn.{Turn}
 use Rattle.wire.specs.Counting.{countedOn}
-use Rattle.ears_file.specs.Lines.{refusedRun}
+use Rattle.ears_file.specs.Lines.{partFrame}
 use Rattle.ears_file.specs.Promise.{beyond}
 
 -- six channels, and the convolver refuses no block of up to 1,024 frames
@@ -37,7 +37,7 @@ atStart = record { desk = zeroed; held = 0; frames = 0; unsettled = 0 }
 
 -- where the line ends: bytes that are held are a part frame
 abbrev pub endOf : Progress → Ended
-endOf p = cond (eqb (p .held) 0) (record { refusal = 0; place = 0; frames = p .frames; unsettled = p .unsettled }) refusedRun
+endOf p = cond (eqb (p .held) 0) (record { refusal = 0; place = 0; frames = p .frames; unsettled = p .unsettled }) partFrame
 
 -- the record, the rings and the bytes that are held stand for all that has come of a line
 pub record Stands (u : Setup) (line : List ℕ) (p : Progress) (rings : List Float) (bytes : List ℕ) : Type 0 where

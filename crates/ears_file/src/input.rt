@@ -102,7 +102,7 @@ fn at_end(progress: Progress) -> Ended
     ensures { λ r. ⌜ r ≡ endOf progress ⌝ }
 {
     if progress.held != 0 {
-        return crate::refused();
+        return crate::part_frame();
     }
     Ended {
         refusal: 0,

@@ -20,7 +20,7 @@ ghost use lib.ListN.{replicate};
 ghost use Rattle.io.specs.Counts.{Counts};
 ghost use Rattle.bank.specs.Reading.{bankFound};
 ghost use Rattle.wire.specs.Promises.{Lined};
-ghost use Rattle.ears_file.specs.Lines.{setupWith, refusedRun, refusedBank, endsAs, toldBy};
+ghost use Rattle.ears_file.specs.Lines.{setupWith, partFrame, refusedBank, endsAs, toldBy};
 ghost use Rattle.files.specs.Promises.{Found};
 ghost use Rattle.ears_file.specs.Promise.{Ends, Answers};
 
@@ -45,8 +45,8 @@ pub struct Outcome {
 const PART_FRAME: u8 = 9;
 
 // A line that ends inside a frame.
-fn refused() -> Ended
-    ensures { λ r. ⌜ r ≡ refusedRun ⌝ }
+fn part_frame() -> Ended
+    ensures { λ r. ⌜ r ≡ partFrame ⌝ }
 {
     Ended {
         refusal: PART_FRAME,
@@ -70,11 +70,11 @@ fn refused_bank(read: BankRead) -> Ended
 
 // The system failed, which has been told.
 fn failed() -> Outcome
-    ensures { λ r. ⌜ r ≡ record { failed = true; ended = refusedRun } ⌝ }
+    ensures { λ r. ⌜ r ≡ record { failed = true; ended = partFrame } ⌝ }
 {
     Outcome {
         failed: true,
-        ended: refused(),
+        ended: part_frame(),
     }
 }
 

@@ -11,18 +11,18 @@ use Rattle.bank_form.specs.declared.Fault.{Fault}
 use Rattle.bank_form.specs.Fault.{bankIn, fault}
 use Rattle.bank_form.specs.FaultLaws.{Placed}
 use Rattle.bank_form.proofs.Places.{numbers-and-places}
-use Rattle.bank.specs.Reading.{ReadOutcome, readFault, readOutcome}
+use Rattle.bank.specs.Reading.{ReadOutcome, readRefusal, readOutcome}
 use Rattle.bank.proofs.Answers.{as-refused, as-told, wrong-or-bank}
 use Rattle.files.specs.Promises.{Found}
 
 module _ (zs : List ℤ) (xs : List Float) (o : ReadOutcome) (f : Found zs xs o) where
-  refusal-is : o .answer .refusal ≡ readFault (f .file) zs xs .refusal
+  refusal-is : o .answer .refusal ≡ readRefusal (f .file) zs xs .refusal
   unfolding readOutcome
-  refusal-is = ap (λ (r : ReadOutcome). r .answer .refusal) (f .reads .outcome) ∙ as-told zs xs (readFault (f .file) zs xs) (bankIn (f .file))
+  refusal-is = ap (λ (r : ReadOutcome). r .answer .refusal) (f .reads .outcome) ∙ as-told zs xs (readRefusal (f .file) zs xs) (bankIn (f .file))
 
   -- a number that is neither that of a length nor one of a bank's: 9, for instance
   refused-otherwise : (o .answer .refusal ≡ 0 → ⊥) → (o .answer .refusal ≡ 5 → ⊥) → (13 ≤ o .answer .refusal → o .answer .refusal ≤ 19 → ⊥) → ⊥
-  unfolding readFault
+  unfolding readRefusal
   refused-otherwise none five banks = ⊎-elim (λ e. five (refusal-is ∙ number e)) (λ e. bank (refusal-is ∙ number e)) (wrong-or-bank zs xs (fault (f .file)))
     where
       number : {g h : Fault} → g ≡ h → g .refusal ≡ h .refusal
@@ -37,5 +37,5 @@ module _ (zs : List ℤ) (xs : List Float) (o : ReadOutcome) (f : Found zs xs o)
   filled-though-refused : (o .answer .refusal ≡ 0 → ⊥) → ((o .azimuths ≡ zs) × (o .taps ≡ xs) → ⊥) → ⊥
   unfolding readOutcome
   filled-though-refused some other =
-      let kept = f .reads .outcome ∙ sym (as-refused zs xs (readFault (f .file) zs xs) (readFault (f .file) zs xs) (bankIn (f .file)) refl (λ z. some (refusal-is ∙ z))) in
+      let kept = f .reads .outcome ∙ sym (as-refused zs xs (readRefusal (f .file) zs xs) (readRefusal (f .file) zs xs) (bankIn (f .file)) refl (λ z. some (refusal-is ∙ z))) in
       other (ap (λ (r : ReadOutcome). r .azimuths) kept, ap (λ (r : ReadOutcome). r .taps) kept)

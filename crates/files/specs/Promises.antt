@@ -7,7 +7,7 @@ use lib.IntN.{ℤ}
 use lib.ListN.{length, take}
 use lib.Ieee.{Float}
 use Rattle.big_endian.specs.Bytes.{AreBytes}
-use Rattle.bank_form.specs.Fault.{largest}
+use Rattle.bank_form.specs.FaultLaws.{TakenFrom}
 use Rattle.bank.specs.Reading.{ReadOutcome, Reads}
 
 -- bytes are read behind those that are held, no more than `limit`, or one where that is 0: those that were there stay, so many stand there now, and a read that failed has added none
@@ -18,12 +18,13 @@ pub record ReadBehind (held limit : ℕ) (before : List ℕ) (failed : Bool) (si
   pub none : failed ≡ true → size ≡ min held (length before)
   pub keeps : take held after ≡ take held before
 
--- what reading leaves for every file of `size` bytes whose first stand in a list of bytes: as many of them as the largest bank has
+-- what reading leaves for every file of which a list of bytes has the first, as many as the largest bank has, and `size` is how many it has, as far as that makes a difference
 pub record ReadSized (bytes : List ℕ) (size : ℕ) (zs : List ℤ) (xs : List Float) (o : ReadOutcome) : Type 0 where
   pub are : AreBytes bytes
-  pub each : (file : List ℕ) → AreBytes file → length file ≡ size → take largest file ≡ take size bytes → Reads file zs xs o
+  pub each : (file : List ℕ) → AreBytes file → TakenFrom (take size bytes) size file → Reads file zs xs o
 
 -- what reading leaves for the bytes of some file
 pub record Found (zs : List ℤ) (xs : List Float) (o : ReadOutcome) : Type 0 where
   pub file : List ℕ
+  pub are : AreBytes file
   pub reads : Reads file zs xs o

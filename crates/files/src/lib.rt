@@ -15,6 +15,7 @@ ghost use lib.IntN.{pos};
 ghost use lib.ListN.{length};
 ghost use Rattle.io.specs.Counts.{Counts};
 ghost use Rattle.bank_form.specs.Fault.{largest};
+ghost use Rattle.bank_form.specs.FaultLaws.{counting};
 ghost use Rattle.files.specs.Promises.{ReadBehind, ReadSized, Found};
 
 // Whether a read failed, and how many bytes now stand in the buffer. One that failed has added none.
@@ -99,16 +100,26 @@ fn count_rest(file: i32, read: usize, most: usize) -> usize
     size
 }
 
-// Reads the first bytes of a file, as many as the list holds, and answers how many the file has. One that cannot be
-// read counts as a file of no bytes. The rest is counted as far as it matters: a file that has a byte more than its
-// length field says has the same fault as every longer one.
+// How many bytes of a file that begins with these can make a difference. A wrong version is told whatever comes after
+// it; a file with a byte more than its length field says has the same fault as every longer one.
+fn most_to_count(bytes: &[u8]) -> usize
+    ensures { λ r. ⌜ (r ≡ counting (now (bytes .entry))) × (r < 2 ^ 33) ⌝ }
+{
+    if !refusals::is_within(big_endian::get(bytes, 0, 1) as usize, 1, 1) {
+        return 1;
+    }
+    let named = big_endian::get(bytes, 1, 4) as usize;
+    6 + named
+}
+
+// Reads the first bytes of a file, as many as the list holds, and answers how many the file has, counted as far as that
+// makes a difference. One that cannot be read counts as a file of no bytes.
 fn read_first(file: i32, bytes: &mut [u8]) -> usize {
     let read = fill(file, bytes);
     if read < bytes.len() {
         return read;
     }
-    let named = big_endian::get(bytes, 1, 4) as usize;
-    count_rest(file, read, 6 + named)
+    count_rest(file, read, most_to_count(bytes))
 }
 
 // Reads the bank of a file of `size` bytes, whose first stand in a list that has room for the largest bank.

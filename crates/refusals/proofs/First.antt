@@ -40,11 +40,6 @@ module _ {A : Type 0} (accepted : A) (refused : ℕ → A) where
   pub answered-by : (r n : ℕ) → 0 < n → r ≡ n → refused n ≡ answered r accepted refused
   answered-by r n h e = ap refused (sym e) ∙ sym (answered-refused r (not-accepted n h e))
 
-  -- and an answer that tells no refusal is to an acceptance
-  pub none-told : (told : A → ℕ) → ((n : ℕ) → told (refused n) ≡ n) → (r : ℕ) → told (answered r accepted refused) ≡ 0 → r ≡ 0
-  none-told told same zero e = refl
-  none-told told same (suc n) e = sym (same (suc n)) ∙ e
-
   -- and what an answer tells is the number that it is given by
   pub told-is : (told : A → ℕ) → told accepted ≡ 0 → (r : ℕ) → told (refused r) ≡ r → told (answered r accepted refused) ≡ r
   told-is told none zero same = none

@@ -1,8 +1,9 @@
 -- `bank::read` meets its contract: the start is the whole file. Assumes nothing.
 use mathlib.Core.Path.{refl}
+use mathlib.Core.Logic.{inl}
 use lib.ListN.{length}
 use lib.Seq.{take-length}
-use Rattle.bank.proofs.Answers.{all-enough}
+use Rattle.bank_form.proofs.Start.{enough-all}
 use borrow.Author.Needs.{needs}
 use Rattle.bank.proofs.read.Statement.{statement}
 use Rattle.bank.proofs.read.Tie as tie
@@ -20,7 +21,7 @@ returns : tie.Need-returns
 returns c =
     let read = c .before .before .before in
     let file = read .before .before .before .before .before .args .file .now in
-    read .read-start .ensures .each _ (λ i. read .before .before .before .before .shared-slice-known .given i .fits) (all-enough (length file)) (record { long = refl; same = take-length file })
+    read .read-start .ensures .each _ (λ i. read .before .before .before .before .shared-slice-known .given i .fits) (rw (enough-all (length file) (length file) refl) tt) (inl (record { long = refl; same = take-length file }))
 
 pub read-spec : {M : Type 1} → statement M
 read-spec = tie.close (tie.spec read-start-requires same-length same-length-2 returns)

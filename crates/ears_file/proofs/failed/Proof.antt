@@ -6,11 +6,11 @@ use Rattle.ears_file.specs.declared.Outcome.{Outcome}
 use Rattle.ears_file.proofs.failed.Statement.{statement}
 use Rattle.ears_file.proofs.failed.Tie as tie
 
-refused-requires : tie.Need-refused-requires
-refused-requires c κs = tt
+part-frame-requires : tie.Need-part-frame-requires
+part-frame-requires c κs = tt
 
 returns : tie.Need-returns
-returns c = ap {B = Outcome} (λ (e : Ended). record { failed = true; ended = e }) (c .refused .ensures)
+returns c = ap {B = Outcome} (λ (e : Ended). record { failed = true; ended = e }) (c .part-frame .ensures)
 
 pub failed-spec : {M : Type 1} → statement M
-failed-spec = tie.close (tie.spec refused-requires returns)
+failed-spec = tie.close (tie.spec part-frame-requires returns)

@@ -5,14 +5,14 @@ use Rattle.refusals.proofs.First.{stops, goes-on}
 use Rattle.ears_file.proofs.input.at_end.Statement.{statement}
 use Rattle.ears_file.proofs.input.at_end.Tie as tie
 
-refused-requires : tie.Need-refused-requires
-refused-requires c κs = tt
+part-frame-requires : tie.Need-part-frame-requires
+part-frame-requires c κs = tt
 
 returns : tie.Need-returns
-returns c = c .refused .ensures ∙ sym (goes-on _ _ (ne-eqb _ _ (c .before .if1 .taken)))
+returns c = c .part-frame .ensures ∙ sym (goes-on _ _ (ne-eqb _ _ (c .before .if1 .taken)))
 
 returns-2 : tie.Need-returns-2
 returns-2 c = sym (stops _ _ (eq-eqb _ _ (c .if1 .left)))
 
 pub at-end-spec : {M : Type 1} → statement M
-at-end-spec = tie.close (tie.spec refused-requires returns returns-2)
+at-end-spec = tie.close (tie.spec part-frame-requires returns returns-2)
