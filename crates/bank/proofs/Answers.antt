@@ -118,7 +118,10 @@ module _ (zs : List ℤ) (xs : List Float) where
     module _ (file : List ℕ) (enough : T (suffices (length start) size)) (kept : TakenFrom start size file) where
       start-fault : startRefusal start size zs xs ≡ readRefusal file zs xs
       unfolding startRefusal readRefusal
-      start-fault = ap (λ (f : Fault). afterLists f zs xs) (unless-passes (suffices (length start) size) 5 0 (faultIn size start) (is-true (suffices (length start) size) enough) ∙ start-suffices start size file enough kept)
+      start-fault =
+          let yes = is-true (suffices (length start) size) enough in
+          ap (λ (f : Fault). afterLists f zs xs)
+          (unless-passes (suffices (length start) size) 5 0 (faultIn size start) yes ∙ start-suffices start size file enough kept)
 
       whole-file : startRefusal start size zs xs .refusal ≡ 0 → bankIn start ≡ bankIn file
       unfolding startRefusal
@@ -240,7 +243,8 @@ module _ (b : Bank) (file : List ℕ) where
   unfolding writeOutcome
   written l none = sym (answered-accepted _ (λ k. writeRefused (writeRefusal b file) file) _ (ap (λ (f : Fault). f .refusal) (judged-bank l) ∙ none))
 
-  pub wrote : (n : ℕ) (last : List ℕ) → n ≡ length (encode b) → last ≡ encode b → _≡_ {A = WriteOutcome} (record { answer = record { refusal = 0; offset = 0; bytes = n }; file = last }) (writeBank b)
+  pub wrote : (n : ℕ) (last : List ℕ) → n ≡ length (encode b) → last ≡ encode b
+      → _≡_ {A = WriteOutcome} (record { answer = record { refusal = 0; offset = 0; bytes = n }; file = last }) (writeBank b)
   wrote n last e f = λ i. record { answer = record { refusal = 0; offset = 0; bytes = e i }; file = f i }
 
   pub written-lengths : writeRefusal b file .refusal ≡ 0 → Lent × (writeFault b .refusal ≡ 0)

@@ -48,7 +48,8 @@ refuses-always xs h r =
     omega arith
 
 -- accepted, and nothing filled in
-fills-nothing : (xs : List Float) → length xs ≡ 8192 → Reads oneRowBytes sevens xs (record { answer = record { refusal = 0; offset = 0; rows = 1; length = 1 }; azimuths = sevens; taps = xs }) → ⊥
+fills-nothing : (xs : List Float) → length xs ≡ 8192
+    → Reads oneRowBytes sevens xs (record { answer = record { refusal = 0; offset = 0; rows = 1; length = 1 }; azimuths = sevens; taps = xs }) → ⊥
 unfolding sevens placed
 fills-nothing xs h r =
     let z : _≡_ {A = ℕ} 7 0 = ap (λ (o : ReadOutcome). mag (getD (o .azimuths) 0 (pos 0))) (drill-read sevens xs refl h _ r) in
@@ -62,14 +63,16 @@ reads-what-is-there xs h r =
     omega arith
 
 -- a file that is cut short is told otherwise than by 14 at 1: as 9, as 19 at its end, or at another place
-cut-told-otherwise : (n at : ℕ) → ((n ≡ 14) × (at ≡ 1) → ⊥) → (xs : List Float) → length xs ≡ 8192 → Reads (take 18 oneRowBytes) sevens xs (readRefused (wrong n at) sevens xs) → ⊥
+cut-told-otherwise : (n at : ℕ) → ((n ≡ 14) × (at ≡ 1) → ⊥) → (xs : List Float) → length xs ≡ 8192
+    → Reads (take 18 oneRowBytes) sevens xs (readRefused (wrong n at) sevens xs) → ⊥
 unfolding sevens
 cut-told-otherwise n at other xs h r =
     let e = drill-cut sevens xs refl h _ r in
     other (ap (λ (o : ReadOutcome). o .answer .refusal) e, ap (λ (o : ReadOutcome). o .answer .offset) e)
 
 -- lists of other lengths are accepted
-other-lists-read : (file : List ℕ) (zs : List ℤ) (xs : List Float) (o : ReadOutcome) → Reads file zs xs o → ((length zs ≡ 8) × (length xs ≡ 8192) → ⊥) → o .answer .refusal ≡ 0 → ⊥
+other-lists-read : (file : List ℕ) (zs : List ℤ) (xs : List Float) (o : ReadOutcome) → Reads file zs xs o
+    → ((length zs ≡ 8) × (length xs ≡ 8192) → ⊥) → o .answer .refusal ≡ 0 → ⊥
 other-lists-read file zs xs o r other e =
     let a = accepted-parts file zs xs (ap (λ (q : ReadOutcome). q .answer .refusal) (sym (r .outcome)) ∙ e) in
     other (a .eight, a .most)
@@ -87,7 +90,8 @@ version-2-written r =
     omega arith
 
 -- a bank of no rows, with an L that is too large, is told otherwise than by 15 at 5: by its L, which would stand behind the row count, or at another place
-no-rows-told-otherwise : (n at : ℕ) → ((n ≡ 15) × (at ≡ 5) → ⊥) → (buffer : List ℕ) → length buffer ≡ 9 → Writes noRows buffer (writeRefused (wrong n at) buffer) → ⊥
+no-rows-told-otherwise : (n at : ℕ) → ((n ≡ 15) × (at ≡ 5) → ⊥) → (buffer : List ℕ) → length buffer ≡ 9
+    → Writes noRows buffer (writeRefused (wrong n at) buffer) → ⊥
 no-rows-told-otherwise n at other buffer h r =
     let e = r ∙ sym (no-rows-told buffer h) in
     other (ap (λ (w : WriteOutcome). w .answer .refusal) e, ap (λ (w : WriteOutcome). w .answer .offset) e)

@@ -1,4 +1,5 @@
--- The writer's fault is the reader's of the bytes that would be written (`writer-as-reader`), a bank has none exactly if it keeps the form (`write-none`), and it is told by 15 to 18 (`writer-numbers`). Assumes nothing.
+-- The writer's fault is the reader's of the bytes that would be written (`writer-as-reader`), a bank has none exactly if it keeps the form
+-- (`write-none`), and it is told by 15 to 18 (`writer-numbers`). Assumes nothing.
 use mathlib.Core.Path.{_≡_, refl, sym, ap, ap₂, _∙_}
 use mathlib.Core.Bool.{Bool, true, false, _&&_, and-true, and-false}
 use mathlib.Core.List.{List, [], _∷_, _++_}
@@ -147,7 +148,8 @@ clear-rows before (z ∷ zs) l xs at n =
       new-behind before z zs,
       split,
     )
-    (regroup (inRange z) (every (λ (y : ℤ). differ y z) before) (every isTap (take m xs)) (every inRange zs) (every (λ (w : ℤ). every (λ (y : ℤ). differ y w) before) zs) (every (differ z) zs) (pairwise differ zs) (every isTap (drop m xs)))
+    (regroup (inRange z) (every (λ (y : ℤ). differ y z) before) (every isTap (take m xs)) (every inRange zs)
+    (every (λ (w : ℤ). every (λ (y : ℤ). differ y w) before) zs) (every (differ z) zs) (pairwise differ zs) (every isTap (drop m xs)))
 
 none-before : (zs : List ℤ) → every (λ (z : ℤ). every (λ (y : ℤ). differ y z) []) zs ≡ true
 none-before [] = refl

@@ -34,8 +34,9 @@ NumbersAndPlaces = (s : List ℕ) → (fault s ≡ sound) ⊎ Placed (length s) 
 
 -- ---- byte order
 
--- "Checks run in byte order": a file as long that agrees up to the end of the field at fault has the same fault (of 19, which is told at the end, that says nothing). Bytes that are left after the last row have
--- no field of their own: 14 is told of a length that is right only where there are some, and every file as long that agrees up to the end of that row has the same fault.
+-- "Checks run in byte order": a file as long that agrees up to the end of the field at fault has the same fault. (Of 19, which is told at the end, that says nothing.) Bytes
+-- that are left after the last row have no field of their own: 14 is told of a length that is right only where there are some, and every file as long that agrees up to
+-- the end of that row has the same fault.
 pub record ByteOrder : Type 0 where
   pub field-at-fault : (s t : List ℕ) → length t ≡ length s → (fault s ≡ sound → ⊥) → (fault s .refusal ≡ 14 → fieldAt s 1 4 ≡ length s - 5 → ⊥)
       → take (fault s .offset + fieldSize (fault s .refusal)) t ≡ take (fault s .offset + fieldSize (fault s .refusal)) s → fault t ≡ fault s

@@ -98,7 +98,9 @@ returns-5 c =
     let test = past .before .before .before in
     let lists = test .before .before in
     let call = c .before .before .before .fill-rows .ensures in
-    let bank = filled _ _ _ _ _ _ _ (c .before .before .before .before .before .before .before .get .ensures .value) (c .before .before .before .before .before .before .get2 .ensures .value) (call .0) (call .1) in
+    let rows = c .before .before .before .before .before .before .before .get .ensures .value in
+    let length = c .before .before .before .before .before .before .get2 .ensures .value in
+    let bank = filled _ _ _ _ _ _ _ rows length (call .0) (call .1) in
     reads-start _ _ _ _ _ (bank ∙ accepted _ _ _ _ (lists .before .if1 .left) (lists .if2 .left) (enough test) (none past))
 
 pub read-start-spec : {M : Type 1} → statement M

@@ -49,7 +49,14 @@ module _ (c : tie.After-put-bank) where
   held =
       let start = c .before .before .before .before .before in
       let small = rows-reach (length (start .args .azimuths .now)) 8 (start .args .l) (start .pre .1) (start .pre .0) in
-      record { few = omega (arith, start .pre .1); short = omega (arith, start .pre .0); follow = omega (arith, small); count = start .pre .2; azimuths = c .put-bank .ensures .1; taps = λ i. c .before .before .before .before .shared-slice-known .given i }
+      record {
+        few = omega (arith, start .pre .1);
+        short = omega (arith, start .pre .0);
+        follow = omega (arith, small);
+        count = start .pre .2;
+        azimuths = c .put-bank .ensures .1;
+        taps = λ i. c .before .before .before .before .shared-slice-known .given i;
+      }
 
 -- what the check of it found
 module _ (c : tie.After-check-file) where

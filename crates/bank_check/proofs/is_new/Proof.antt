@@ -1,5 +1,6 @@
 -- `bank_check::is_new` meets its contract. The rows still to be looked at decide what all of them do. Assumes nothing.
 use mathlib.Core.Path.{_≡_, refl, sym, ap, _∙_}
+use mathlib.Core.Bool.{Bool}
 use Prim.Native.Nat.{ℕ, _+_, _-_, _*_, _≤_}
 use native.Mathlib.Omega.{arith}
 use mir.Syntax.{w16}
@@ -49,7 +50,9 @@ loop-again c =
     let turn = c .before .before .before .loop in
     let kept = toZ-ofZ (c .before .before .before .before .before .before .fits .z) in
     let other : signedAt (args .s .now) (turn .at) ≡ toZ w16 (ofZ w16 (args .z)) → ⊥ = λ e. c .if1 .left (ap (ofZ w16) (c .before .get-i16 .ensures ∙ e ∙ kept)) in
-    (turn .inv .0, turn .inv .1, omega arith, turn .inv .3 ∙ new-next _ _ _ _ _ (c .before .before .loop-test .taken) other ∙ ap (λ (w : ℕ). isNew (args .s .now) (args .l) (toZ w16 (ofZ w16 (args .z))) (turn .at + w) (turn .k - 1)) (sym (turn .inv .0)))
+    let there : ℕ → Bool = λ w. isNew (args .s .now) (args .l) (toZ w16 (ofZ w16 (args .z))) (turn .at + w) (turn .k - 1) in
+    let next = turn .inv .3 ∙ new-next _ _ _ _ _ (c .before .before .loop-test .taken) other in
+    (turn .inv .0, turn .inv .1, omega arith, next ∙ ap there (sym (turn .inv .0)))
 
 returns-2 : tie.Need-returns-2 Inv-loop μ-loop
 returns-2 c =

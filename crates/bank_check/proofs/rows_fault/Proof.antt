@@ -42,7 +42,9 @@ loop-again : tie.Need-loop-again Inv-loop μ-loop
 loop-again c =
     let turn = c .before .before .before .before .loop in
     let more : 0 < c .before .before .before .before .before .before .before .args .n - turn .i = omega arith in
-    (turn .inv .0, omega arith, omega arith, turn .inv .3 ∙ rows-next _ _ _ _ _ _ more ∙ else-on _ _ _ (c .before .before .row-fault .ensures) (c .if1 .left) ∙ ap₂ (rowsFault _ _ _ (turn .i + 1)) (ap (λ (w : ℕ). turn .at + w) (sym (turn .inv .0))) (omega arith))
+    let there : turn .at + rowSize _ ≡ turn .at + _ = ap (λ (w : ℕ). turn .at + w) (sym (turn .inv .0)) in
+    let next = turn .inv .3 ∙ rows-next _ _ _ _ _ _ more ∙ else-on _ _ _ (c .before .before .row-fault .ensures) (c .if1 .left) in
+    (turn .inv .0, omega arith, omega arith, next ∙ ap₂ (rowsFault _ _ _ (turn .i + 1)) there (omega arith))
 
 returns-2 : tie.Need-returns-2 Inv-loop μ-loop
 returns-2 c =
