@@ -41,7 +41,7 @@ module _ (zs : List ℤ) (xs : List Float) where
   pub as-told : (f : Fault) (b : Bank) → readAs f b zs xs .answer .refusal ≡ f .refusal
   as-told f b = told-is (readBank b zs xs) (λ k. readRefused f zs xs) (λ (o : ReadOutcome). o .answer .refusal) refl (f .refusal) refl
 
-  -- two banks of which none is read
+  -- the same refusal, and the same bank where there is none
   as-same : (f g : Fault) (b c : Bank) → f ≡ g → (f .refusal ≡ 0 → b ≡ c) → readAs f b zs xs ≡ readAs g c zs xs
   as-same f g b c e same =
       elim (ℕ-discrete (f .refusal) 0) [

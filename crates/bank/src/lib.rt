@@ -117,7 +117,7 @@ fn fill_rows(file: &[u8], l: usize, n: usize, azimuths: &mut [i16], taps: &mut [
     }
 }
 
-// Whether so many bytes are all of a file of `size` bytes, or as many of its first as the largest bank has.
+// Whether so many bytes are all of a file of `size` bytes, or at least as many of its first as the largest bank has.
 fn is_enough(have: usize, size: usize) -> bool
     ensures { λ r. ⌜ r ≡ suffices have size ⌝ }
 {
@@ -132,7 +132,7 @@ fn is_enough(have: usize, size: usize) -> bool
 
 // Reads a file of `size` bytes that begins with these into lists of 8 azimuths and 8,192 taps, once all of it is known
 // to keep the form. The start is the whole file, or its first 32,793 bytes or more: a longer file is no bank, and its
-// start and its size tell what is wrong with it. A shorter start is refused with 5.
+// start and its size tell what is wrong with it. Any other start, and one longer than `size`, is refused with 5.
 pub fn read_start(start: &[u8], size: usize, azimuths: &mut [i16], taps: &mut [f32]) -> BankRead
     ensures { λ r. ⌜ ReadsStart (now (start .entry)) size (now (azimuths .entry)) (now (taps .entry)) (record { answer = r; azimuths = now (azimuths .exit); taps = now (taps .exit) }) ⌝ }
 {

@@ -1,9 +1,9 @@
 // Finds the first fault of a filter bank file: what breaks the form, and at which byte (document 02, E2).
 //
 // It goes field by field, in byte order, up to the first that breaks the form, whose number and offset are
-// the answer. It takes any bytes. `check_file` has the whole file, and promises the first fault of it, which
-// there is none of exactly if the bytes are those of a bank that keeps the form. `check_start` has the start
-// of a file and its size: as many bytes as the largest bank has tell the fault of every file that begins so.
+// the answer. It takes any bytes. `check_file` has the whole file, and promises the first fault of it; there is
+// none exactly if the bytes are those of a bank that keeps the form. `check_start` has the start of a file and
+// its size: as many bytes as the largest bank has, and the size, tell the fault of every file they were taken from.
 use bank_form::Fault;
 ghost use mathlib.Core.Path.{_≡_};
 ghost use Prim.Native.Nat.{_+_, _-_, _*_, _≤_};
@@ -103,7 +103,7 @@ fn taps_fault(size: usize, s: &[u8], at: usize, n: usize) -> Fault
     }
 }
 
-// Whether none of the first i rows has an azimuth.
+// Whether none of the first i rows has the azimuth z.
 fn is_new(s: &[u8], l: usize, i: usize, z: i16) -> bool
     requires { ⌜ (l ≤ 512) × (i ≤ 8) ⌝ }
     ensures { λ r. ⌜ r ≡ isNew (now (s .entry)) l z 9 i ⌝ }

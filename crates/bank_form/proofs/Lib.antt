@@ -7,6 +7,7 @@ pub mod Exact
 pub mod Writer
 pub mod Agree
 pub mod Places
+pub mod FieldPlaces
 mod Left
 pub mod Order
 pub mod Start

@@ -54,6 +54,15 @@ module _ (a b : Fault) where
       let both = and-eq-true-iff (isClear a) (isClear b) .0 (sym clear-else ∙ eq-eqb (orElse a b .refusal) 0 h) in
       (eqb-true (a .refusal) 0 (both .0), eqb-true (b .refusal) 0 (both .1))
 
+  -- what holds of both holds of the first fault
+  pub else-both : (P : Fault → Type 0) → P a → P b → P (orElse a b)
+  unfolding orElse
+  else-both P p q = go (isClear a) refl
+    where
+      go : (t : Bool) → isClear a ≡ t → P (orElse a b)
+      go true e = rw e q
+      go false e = rw e p
+
   pub else-sound : a ≡ sound → b ≡ sound → orElse a b ≡ sound
   unfolding orElse
   else-sound e f = rw (e, f)
@@ -102,6 +111,16 @@ module _ (size at count n : ℕ) (good : Bool) where
   pub field-in : at + count ≤ size → field size at count n good ≡ unless good n at
   unfolding field
   field-in h = rw (le-ltb size (at + count) h)
+
+  -- what holds of no fault, of a cut file and of a wrong field holds of a field
+  pub field-each : (P : Fault → Type 0) → P sound → P (wrong 19 size) → P (wrong n at) → P (field size at count n good)
+  unfolding field
+  field-each P p q r = go (ltb size (at + count)) good
+    where
+      go : (short right : Bool) → P (cond short (wrong 19 size) (unless right n at))
+      go true right = q
+      go false true = p
+      go false false = r
 
   pub field-none : 0 < n → field size at count n good .refusal ≡ 0 → (at + count ≤ size) × (good ≡ true)
   unfolding field

@@ -1,4 +1,4 @@
--- The writer's fault is the reader's of the bytes that would be written (`writer-as-reader`), a bank has none exactly if it keeps the form
+-- The writer's fault is the reader's of the bytes that would be written (`writer-as-reader`), a bank that has its taps has none exactly if it keeps the form
 -- (`write-none`), and it is told by 15 to 18 (`writer-numbers`). Assumes nothing.
 use mathlib.Core.Path.{_≡_, refl, sym, ap, ap₂, _∙_}
 use mathlib.Core.Bool.{Bool, true, false, _&&_, and-true, and-false}
@@ -28,7 +28,7 @@ use Rattle.bank_form.specs.Fault.{rowSize, azimuthsFrom, rowTaps, tapsFr
 use Rattle.bank_form.specs.WriteFault.{tapsWrong, rowsWrong, countsFault, writeFault}
 use Rattle.bank_form.specs.FaultLaws.{WriterNumbers, WriterAsReader}
 use Rattle.bank_form.proofs.Lists.{exchange, taps-more}
-use Rattle.bank_form.proofs.Walk.{isClear, clear-else, clear-unless, else-assoc, field-in, tap-is, fault-is}
+use Rattle.bank_form.proofs.Walk.{isClear, clear-else, clear-unless, else-both, else-assoc, field-in, tap-is, fault-is}
 use Rattle.bank_form.proofs.Exact.{rows-in}
 use Rattle.bank_form.proofs.RoundTrip.{Written, read-write}
 
@@ -184,29 +184,21 @@ known-unless : (good : Bool) (n at : ℕ) → 15 ≤ n → n ≤ 18 → Known (u
 known-unless true n at low high = inl refl
 known-unless false n at low high = inr (low, high)
 
-known-else : (a b : Fault) → Known a → Known b → Known (orElse a b)
-unfolding orElse
-known-else a b p q = go (eqb (a .refusal) 0) refl
-  where
-    go : (t : Bool) → eqb (a .refusal) 0 ≡ t → Known (orElse a b)
-    go true e = rw e q
-    go false e = rw e p
-
 known-taps : (at : ℕ) (xs : List Float) → Known (tapsWrong at xs)
 unfolding tapsWrong
 known-taps at [] = inl refl
-known-taps at (x ∷ xs) = known-else _ _ (known-unless (isTap x) 18 at (omega arith) (omega arith)) (known-taps (at + 4) xs)
+known-taps at (x ∷ xs) = else-both _ _ Known (known-unless (isTap x) 18 at (omega arith) (omega arith)) (known-taps (at + 4) xs)
 
 known-rows : (before zs : List ℤ) (l : ℕ) (xs : List Float) (at : ℕ) → Known (rowsWrong before zs l xs at)
 unfolding rowsWrong
 known-rows before [] l xs at = inl refl
 known-rows before (z ∷ zs) l xs at =
-    known-else _ _ (known-unless (inRange z && every (λ (y : ℤ). differ y z) before) 17 at (omega arith) (omega arith))
-    (known-else _ _ (known-taps (at + 2) (take (2 * l) xs)) (known-rows (before ++ (z ∷ [])) zs l (drop (2 * l) xs) (at + rowSize l)))
+    else-both _ _ Known (known-unless (inRange z && every (λ (y : ℤ). differ y z) before) 17 at (omega arith) (omega arith))
+    (else-both _ _ Known (known-taps (at + 2) (take (2 * l) xs)) (known-rows (before ++ (z ∷ [])) zs l (drop (2 * l) xs) (at + rowSize l)))
 
 pub writer-numbers : WriterNumbers
 unfolding writeFault
 writer-numbers b =
-    known-else _ _
-    (known-else _ _ (known-unless (within 1 8 (rows b)) 15 5 (omega arith) (omega arith)) (known-unless (within 1 512 (b .length)) 16 7 (omega arith) (omega arith)))
+    else-both _ _ Known
+    (else-both _ _ Known (known-unless (within 1 8 (rows b)) 15 5 (omega arith) (omega arith)) (known-unless (within 1 512 (b .length)) 16 7 (omega arith) (omega arith)))
     (known-rows [] (b .azimuths) (b .length) (b .taps) 9)

@@ -74,7 +74,7 @@ unfoldable pub tapsFault : ℕ → List ℕ → ℕ → ℕ → Fault
 tapsFault size s at zero = sound
 tapsFault size s at (suc n) = orElse (field size at 4 18 (finite (floatAt s at))) (tapsFault size s (at + 4) n)
 
--- none of n rows from `at` on has an azimuth
+-- none of n rows from `at` on has the azimuth z
 unfoldable pub isNew : List ℕ → ℕ → ℤ → ℕ → ℕ → Bool
 isNew s l z at n = every (λ (y : ℤ). differ y z) (azimuthsFrom s l at n)
 

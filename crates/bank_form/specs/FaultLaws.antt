@@ -32,6 +32,18 @@ pub record Placed (size : ℕ) (f : Fault) : Type 0 where
 abbrev pub NumbersAndPlaces : Type 0
 NumbersAndPlaces = (s : List ℕ) → (fault s ≡ sound) ⊎ Placed (length s) (fault s)
 
+-- "the offset of the first byte of the offending field": where the fields of a number stand in a file. A row of the file has its azimuth first, and then the taps of both ears.
+pub record FieldPlace (s : List ℕ) (f : Fault) : Type 0 where
+  pub version : f .refusal ≡ 13 → f .offset ≡ 0
+  pub length : f .refusal ≡ 14 → f .offset ≡ 1
+  pub rowCount : f .refusal ≡ 15 → f .offset ≡ 5
+  pub tapCount : f .refusal ≡ 16 → f .offset ≡ 7
+  pub azimuth : f .refusal ≡ 17 → (i : ℕ) × (i < rowsIn s) × (f .offset ≡ 9 + i * rowSize (lengthIn s))
+  pub tap : f .refusal ≡ 18 → (i k : ℕ) × (i < rowsIn s) × (k < 2 * lengthIn s) × (f .offset ≡ 9 + i * rowSize (lengthIn s) + 2 + 4 * k)
+
+abbrev pub FieldPlaces : Type 0
+FieldPlaces = (s : List ℕ) → FieldPlace s (fault s)
+
 -- ---- byte order
 
 -- "Checks run in byte order": a file as long that agrees up to the end of the field at fault has the same fault. (Of 19, which is told at the end, that says nothing.) Bytes
@@ -50,7 +62,7 @@ pub record Begins (start : List ℕ) (size : ℕ) (file : List ℕ) : Type 0 whe
   pub long : length file ≡ size
   pub same : take (length start) file ≡ start
 
--- how many bytes of a file that begins with these can make a difference: where its version is wrong, that alone; else a byte more than its length says
+-- how many bytes of a file that begins with these can make a difference: where its version is wrong, that alone; else one more than its length field asks for
 abbrev pub counting : List ℕ → ℕ
 counting start = cond (within 1 1 (fieldAt start 0 1)) (6 + fieldAt start 1 4) 1
 
@@ -64,7 +76,7 @@ pub record Exceeds (start : List ℕ) (size : ℕ) (file : List ℕ) : Type 0 wh
 abbrev pub TakenFrom : List ℕ → ℕ → List ℕ → Type 0
 TakenFrom start size file = Begins start size file ⊎ Exceeds start size file
 
--- so many bytes are all of a file of `size` bytes, or as many of its first as the largest bank has
+-- so many bytes are all of a file of `size` bytes, or at least as many of its first as the largest bank has
 abbrev pub suffices : ℕ → ℕ → Bool
 suffices have size = eqb have size || (leb largest have && leb have size)
 
@@ -78,6 +90,6 @@ StartSuffices = (start : List ℕ) (size : ℕ) (file : List ℕ) → T (suffice
 abbrev pub WriterNumbers : Type 0
 WriterNumbers = (b : Bank) → (writeFault b ≡ sound) ⊎ ((15 ≤ writeFault b .refusal) × (writeFault b .refusal ≤ 18))
 
--- the writer's fault is the reader's of the bytes that would be written, for every bank that i16 and f32 hold and whose counts fit their fields
+-- the writer's fault is the reader's of the bytes that would be written, for every bank of i16 and f32 that has 2 x rows x L taps and whose counts fit their fields
 abbrev pub WriterAsReader : Type 0
 WriterAsReader = (b : Bank) → Holds b → writeFault b ≡ fault (encode b)

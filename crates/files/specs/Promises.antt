@@ -18,7 +18,7 @@ pub record ReadBehind (held limit : ℕ) (before : List ℕ) (failed : Bool) (si
   pub none : failed ≡ true → size ≡ min held (length before)
   pub keeps : take held after ≡ take held before
 
--- what reading leaves for every file of which a list of bytes has the first, as many as the largest bank has, and `size` is how many it has, as far as that makes a difference
+-- what reading leaves for every file that the first `size` of these bytes, and `size`, were taken from
 pub record ReadSized (bytes : List ℕ) (size : ℕ) (zs : List ℤ) (xs : List Float) (o : ReadOutcome) : Type 0 where
   pub are : AreBytes bytes
   pub each : (file : List ℕ) → AreBytes file → TakenFrom (take size bytes) size file → Reads file zs xs o

@@ -2,7 +2,7 @@
 // ears' file is opened.
 //
 // What the system hands over no contract can name. So a read promises where its bytes stand and that those
-// before them stay, and a bank that what is answered is what `bank::read` promises for the bytes of some
+// before them stay, and `read_bank` that its answer is what `bank::read` promises for the bytes of some
 // file. A file that is longer than any bank is judged whole all the same: its first bytes are kept, the rest
 // is counted, and `bank::read_start` tells what is wrong with it.
 use bank::BankRead;
