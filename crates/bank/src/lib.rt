@@ -24,7 +24,7 @@ ghost use Rattle.lists.specs.Placed.{placed};
 ghost use Rattle.big_endian.specs.Lists.{strided, floatBytes};
 ghost use Rattle.bank_form.specs.Encoding.{rowBytes, headBytes, encode};
 ghost use Rattle.lists.specs.Each.{Each};
-ghost use Rattle.bank_form.specs.Holds.{IsAzimuth};
+ghost use Rattle.bank_form.specs.FitsFields.{IsAzimuth};
 ghost use Rattle.bank_form.specs.Fault.{rowSize, largest, azimuthsFrom, tapsFrom};
 ghost use Rattle.bank_form.specs.WriteFault.{countsFault};
 ghost use Rattle.bank_form.specs.FaultLaws.{suffices};

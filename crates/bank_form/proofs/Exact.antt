@@ -20,7 +20,7 @@ use Rattle.refusals.specs.Ranges.{within}
 use Rattle.refusals.proofs.Ranges.{within-true}
 use Rattle.bank_form.specs.Bank.{Bank, rows, inRange, differ, isTap, pairwise, valid}
 use Rattle.bank_form.specs.Encoding.{encode}
-use Rattle.bank_form.specs.Holds.{IsAzimuth, IsFloat, Holds}
+use Rattle.bank_form.specs.FitsFields.{IsAzimuth, IsFloat, FitsFields}
 use Rattle.bank_form.specs.Fault.{rowSize, rowsIn, lengthIn, bankIn, isNew, sound, fault, isFile}
 use Rattle.bank_form.specs.File.{Exactly}
 use Rattle.lists.proofs.Each.{each-every}
@@ -92,7 +92,7 @@ tap-fits : (x : Float) → isTap x ≡ true → IsFloat x
 unfolding isTap
 tap-fits x h = rw (and-eq-true-iff (fits binary32 x) (finite x) .0 h .0) tt
 
-pub keeps-holds : (b : Bank) → Keeps b → Holds b
+pub keeps-holds : (b : Bank) → Keeps b → FitsFields b
 keeps-holds b k = record {
   few = omega (arith, within-true 1 8 (rows b) (k .few) .1);
   short = omega (arith, within-true 1 512 (b .length) (k .short) .1);
@@ -112,7 +112,7 @@ pub none-found : (s : List ℕ) → isFile s ≡ true → fault s .refusal ≡ 0
 unfolding isFile
 none-found s e = eqb-true (fault s .refusal) 0 e
 
-written-keeps : (b : Bank) → Holds b → Keeps b → isFile (encode b) ≡ true
+written-keeps : (b : Bank) → FitsFields b → Keeps b → isFile (encode b) ≡ true
 written-keeps b h k =
     let w = read-write b h in
     is-file (encode b) (ap (λ (f : Fault). f .refusal) (nothing-found (length (encode b)) (encode b) (keeps-whole (encode b) b w (rw (w .same) k))))

@@ -13,20 +13,20 @@ use lib.ListN.{length}
 use Rattle.big_endian.specs.Fields.{floatAt}
 use Rattle.bank_form.specs.declared.Fault.{Fault}
 use Rattle.bank_form.specs.Fault.{rowSize, rowsIn, lengthIn, sound, wrong, unless, orElse, field, tapsFault, rowFault, rowsFault, headField, headFault, faultIn}
-use Rattle.bank_form.specs.FaultLaws.{fieldSize, Placed, NumbersAndPlaces}
+use Rattle.bank_form.specs.FaultLaws.{fieldSize, NumberAndPlace, NumbersAndPlaces}
 use Rattle.bank_form.proofs.Walk.{else-none, field-short, field-bad, field-good, field-none, head-none}
 
 -- no fault, or one with a number and a place
 abbrev Fine : ℕ → Fault → Type 0
-Fine size f = (f ≡ sound) ⊎ Placed size f
+Fine size f = (f ≡ sound) ⊎ NumberAndPlace size f
 
 module _ (size : ℕ) where
   -- a fault by its number and its place
-  placed : (n at : ℕ) → 13 ≤ n → n ≤ 18 → at + fieldSize n ≤ size → Fine size (wrong n at)
-  placed n at low high h = inr (record { least = low; most = omega arith; inside = h; end = λ e. absurd (omega arith) })
+  wrong-at : (n at : ℕ) → 13 ≤ n → n ≤ 18 → at + fieldSize n ≤ size → Fine size (wrong n at)
+  wrong-at n at low high h = inr (record { least = low; most = omega arith; inside = h; end = λ e. absurd (omega arith) })
 
-  placed-end : Fine size (wrong 19 size)
-  placed-end = inr (record { least = omega arith; most = omega arith; inside = omega arith; end = λ e. refl })
+  wrong-at-end : Fine size (wrong 19 size)
+  wrong-at-end = inr (record { least = omega arith; most = omega arith; inside = omega arith; end = λ e. refl })
 
   -- ---- a walk after another goes on only where the first finds nothing
 
@@ -42,13 +42,13 @@ module _ (size : ℕ) where
   fine-field : (at n : ℕ) (good : Bool) → at ≤ size → 13 ≤ n → n ≤ 18 → Fine size (field size at (fieldSize n) n good)
   fine-field at n good h low high =
       elim (decLt size (at + fieldSize n)) [
-        | yes k ↦ rw (field-short size at (fieldSize n) n good k) placed-end
+        | yes k ↦ rw (field-short size at (fieldSize n) n good k) wrong-at-end
         | no k ↦ go good refl (omega arith)
       ]
     where
       go : (t : Bool) → good ≡ t → at + fieldSize n ≤ size → Fine size (field size at (fieldSize n) n good)
       go true e k = rw (field-good size at (fieldSize n) n good k e) (inl refl)
-      go false e k = rw (field-bad size at (fieldSize n) n good k e) (placed n at low high k)
+      go false e k = rw (field-bad size at (fieldSize n) n good k e) (wrong-at n at low high k)
 
   -- and a walk that begins behind it
   fine-next : (at n : ℕ) (good : Bool) (b : Fault) → at ≤ size → 13 ≤ n → n ≤ 18 → (at + fieldSize n ≤ size → Fine size b)
@@ -90,7 +90,7 @@ module _ (size : ℕ) where
       where
         go : (t : Bool) → Fine size (unless t 14 1)
         go true = inl refl
-        go false = placed 14 1 (omega arith) (omega arith) (omega arith)
+        go false = wrong-at 14 1 (omega arith) (omega arith) (omega arith)
     fine-rows l i at (suc n) five h =
         fine-else _ _ (fine-row l i at h)
         (λ e. fine-rows l (i + 1) (at + rowSize l) n (omega arith) (row-ended l i at e))

@@ -27,7 +27,7 @@ use Rattle.lists.specs.Each.{Each}
 use Rattle.lists.proofs.Each.{each-drop, each-take}
 use Rattle.bank_form.specs.Bank.{Bank, rows, isTap}
 use Rattle.bank_form.specs.Encoding.{rowBytes, allRows, headBytes, encode}
-use Rattle.bank_form.specs.Holds.{IsAzimuth, IsFloat, Holds}
+use Rattle.bank_form.specs.FitsFields.{IsAzimuth, IsFloat, FitsFields}
 use Rattle.bank_form.specs.Fault.{rowSize, azimuthsFrom, rowTaps, tapsFrom, rowsIn, lengthIn, bankIn}
 use Rattle.bank_form.proofs.Lists.{every-more, taps-none, taps-more}
 use Rattle.bank_form.proofs.Walk.{Whole, taps-parted}
@@ -149,7 +149,7 @@ unfolding encode headBytes bytesOf
 encode-is b = refl
 
 -- reading what was written gives the same bank, whether or not it keeps the form
-pub read-write : (b : Bank) → Holds b → Written b (encode b)
+pub read-write : (b : Bank) → FitsFields b → Written b (encode b)
 read-write b h =
     let s = encode b in
     let n = rows b in

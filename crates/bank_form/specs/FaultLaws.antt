@@ -1,4 +1,4 @@
--- Document 02, E2: what the first fault of a bank depends on, and that the writer's is the reader's. Definitions only: proofs/Places.antt, Order.antt, Start.antt and Writer.antt show them.
+-- Document 02, E2: what the first fault of a bank depends on, and that the writer's is the reader's. Definitions only: proofs/Places.antt, FieldPlaces.antt, Order.antt, Start.antt and Writer.antt show them.
 use mathlib.Core.Path.{_≡_}
 use mathlib.Core.Bool.{Bool, cond, _&&_, _||_}
 use mathlib.Core.List.{List}
@@ -12,7 +12,7 @@ use Rattle.bank_form.specs.declared.Fault.{Fault}
 use Rattle.bank_form.specs.Bank.{Bank}
 use Rattle.bank_form.specs.Encoding.{encode}
 use Rattle.bank_form.specs.Fault.{rowSize, largest, rowsIn, lengthIn, sound, faultIn, fault}
-use Rattle.bank_form.specs.Holds.{Holds}
+use Rattle.bank_form.specs.FitsFields.{FitsFields}
 use Rattle.bank_form.specs.WriteFault.{writeFault}
 
 -- ---- numbers and places
@@ -22,7 +22,7 @@ abbrev pub fieldSize : ℕ → ℕ
 fieldSize n = cond (eqb n 13) 1 (cond (eqb n 14 || eqb n 18) 4 (cond (eqb n 19) 0 2))
 
 -- a number from 13 to 19, and its field in a file of `size` bytes; 19 at its end
-pub record Placed (size : ℕ) (f : Fault) : Type 0 where
+pub record NumberAndPlace (size : ℕ) (f : Fault) : Type 0 where
   pub least : 13 ≤ f .refusal
   pub most : f .refusal ≤ 19
   pub inside : f .offset + fieldSize (f .refusal) ≤ size
@@ -30,7 +30,7 @@ pub record Placed (size : ℕ) (f : Fault) : Type 0 where
 
 -- "19 gives the file's length", and a bank is refused by these numbers alone
 abbrev pub NumbersAndPlaces : Type 0
-NumbersAndPlaces = (s : List ℕ) → (fault s ≡ sound) ⊎ Placed (length s) (fault s)
+NumbersAndPlaces = (s : List ℕ) → (fault s ≡ sound) ⊎ NumberAndPlace (length s) (fault s)
 
 -- "the offset of the first byte of the offending field": where the fields of a number stand in a file. A row of the file has its azimuth first, and then the taps of both ears.
 pub record FieldPlace (s : List ℕ) (f : Fault) : Type 0 where
@@ -63,14 +63,14 @@ pub record Begins (start : List ℕ) (size : ℕ) (file : List ℕ) : Type 0 whe
   pub same : take (length start) file ≡ start
 
 -- how many bytes of a file that begins with these can make a difference: where its version is wrong, that alone; else one more than its length field asks for
-abbrev pub counting : List ℕ → ℕ
-counting start = cond (within 1 1 (fieldAt start 0 1)) (6 + fieldAt start 1 4) 1
+abbrev pub bytesThatMatter : List ℕ → ℕ
+bytesThatMatter start = cond (within 1 1 (fieldAt start 0 1)) (6 + fieldAt start 1 4) 1
 
 -- a file of `size` bytes or more begins with these, and so many are all that can make a difference
 pub record Exceeds (start : List ℕ) (size : ℕ) (file : List ℕ) : Type 0 where
   pub more : size ≤ length file
   pub same : take (length start) file ≡ start
-  pub past : counting start ≤ size
+  pub past : bytesThatMatter start ≤ size
 
 -- a start and a size are taken from a file
 abbrev pub TakenFrom : List ℕ → ℕ → List ℕ → Type 0
@@ -92,4 +92,4 @@ WriterNumbers = (b : Bank) → (writeFault b ≡ sound) ⊎ ((15 ≤ writeFault 
 
 -- the writer's fault is the reader's of the bytes that would be written, for every bank of i16 and f32 that has 2 x rows x L taps and whose counts fit their fields
 abbrev pub WriterAsReader : Type 0
-WriterAsReader = (b : Bank) → Holds b → writeFault b ≡ fault (encode b)
+WriterAsReader = (b : Bank) → FitsFields b → writeFault b ≡ fault (encode b)

@@ -3,6 +3,6 @@ pub mod Bank
 pub mod Encoding
 pub mod Fault
 pub mod File
-pub mod Holds
+pub mod FitsFields
 pub mod WriteFault
 pub mod FaultLaws

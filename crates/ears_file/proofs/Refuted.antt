@@ -18,7 +18,7 @@ use Rattle.lists.specs.Tables.{row}
 use Rattle.lists.proofs.Tables.{length-tab}
 use Rattle.bank_form.specs.declared.Fault.{Fault}
 use Rattle.bank_form.specs.Fault.{bankIn, fault, isFile}
-use Rattle.bank_form.specs.FaultLaws.{Placed}
+use Rattle.bank_form.specs.FaultLaws.{NumberAndPlace}
 use Rattle.bank_form.proofs.Places.{numbers-and-places}
 use Rattle.history.specs.Setup.{Setup}
 use Rattle.history.specs.Signals.{signals}
@@ -76,7 +76,7 @@ module _ (r : Outcome) (a : Answers r) where
   bank-number : {A : Type 0} → (r .ended .refusal ≡ 0 → A) → (13 ≤ r .ended .refusal → r .ended .refusal ≤ 19 → A) → r .ended ≡ refusedBank (fault (a .bank)) → A
   bank-number none some q =
       ⊎-elim (λ s. none (number q ∙ ap (λ (f : Fault). f .refusal) s))
-      (λ (p : Placed (length (a .bank)) (fault (a .bank))). some (omega (arith, p .least, number q)) (omega (arith, p .most, number q)))
+      (λ (p : NumberAndPlace (length (a .bank)) (fault (a .bank))). some (omega (arith, p .least, number q)) (omega (arith, p .most, number q)))
       (numbers-and-places (a .bank))
 
   refused-otherwise : (r .ended .refusal ≡ 0 → ⊥) → (r .ended .refusal ≡ 9 → ⊥) → (13 ≤ r .ended .refusal → r .ended .refusal ≤ 19 → ⊥) → ⊥

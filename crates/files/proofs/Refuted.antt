@@ -9,7 +9,7 @@ use lib.ListN.{length}
 use lib.Ieee.{Float}
 use Rattle.bank_form.specs.declared.Fault.{Fault}
 use Rattle.bank_form.specs.Fault.{bankIn, fault}
-use Rattle.bank_form.specs.FaultLaws.{Placed}
+use Rattle.bank_form.specs.FaultLaws.{NumberAndPlace}
 use Rattle.bank_form.proofs.Places.{numbers-and-places}
 use Rattle.bank.specs.Reading.{ReadOutcome, readRefusal, readOutcome}
 use Rattle.bank.proofs.Answers.{as-refused, as-told, wrong-or-bank}
@@ -30,7 +30,7 @@ module _ (zs : List ℤ) (xs : List Float) (o : ReadOutcome) (f : Found zs xs o)
 
       bank : o .answer .refusal ≡ fault (f .file) .refusal → ⊥
       bank e =
-          ⊎-elim (λ s. none (e ∙ number s)) (λ (p : Placed (length (f .file)) (fault (f .file))). banks (omega (arith, e, p .least)) (omega (arith, e, p .most)))
+          ⊎-elim (λ s. none (e ∙ number s)) (λ (p : NumberAndPlace (length (f .file)) (fault (f .file))). banks (omega (arith, e, p .least)) (omega (arith, e, p .most)))
           (numbers-and-places (f .file))
 
   -- lists filled before the refusal is known

@@ -15,7 +15,7 @@ ghost use lib.IntN.{pos};
 ghost use lib.ListN.{length};
 ghost use Rattle.io.specs.Counts.{Counts};
 ghost use Rattle.bank_form.specs.Fault.{largest};
-ghost use Rattle.bank_form.specs.FaultLaws.{counting};
+ghost use Rattle.bank_form.specs.FaultLaws.{bytesThatMatter};
 ghost use Rattle.files.specs.Promises.{ReadBehind, ReadSized, Found};
 
 // Whether a read failed, and how many bytes now stand in the buffer. One that failed has added none.
@@ -103,7 +103,7 @@ fn count_rest(file: i32, read: usize, most: usize) -> usize
 // How many bytes of a file that begins with these can make a difference. A wrong version is told whatever comes after
 // it; a file with a byte more than its length field says has the same fault as every longer one.
 fn most_to_count(bytes: &[u8]) -> usize
-    ensures { λ r. ⌜ (r ≡ counting (now (bytes .entry))) × (r < 2 ^ 33) ⌝ }
+    ensures { λ r. ⌜ (r ≡ bytesThatMatter (now (bytes .entry))) × (r < 2 ^ 33) ⌝ }
 {
     if !refusals::is_within(big_endian::get(bytes, 0, 1) as usize, 1, 1) {
         return 1;

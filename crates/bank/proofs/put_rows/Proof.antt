@@ -12,7 +12,7 @@ use Rattle.lists.specs.Placed.{placed}
 use Rattle.lists.proofs.Placed.{placed-none, length-placed}
 use Rattle.big_endian.proofs.Signed.{back}
 use Rattle.bank_form.specs.Encoding.{rowBytes}
-use Rattle.bank_form.specs.Holds.{IsAzimuth}
+use Rattle.bank_form.specs.FitsFields.{IsAzimuth}
 use Rattle.bank_form.proofs.RoundTrip.{oneRow, rows-reach}
 use Rattle.lists.proofs.Tables.{row-end}
 use Rattle.lists.proofs.Each.{each-in}

@@ -9,7 +9,7 @@ use Rattle.bank_form.specs.declared.Fault.{Fault}
 use Rattle.bank_form.specs.Bank.{Bank}
 use Rattle.bank_form.specs.Encoding.{encode}
 use Rattle.bank_form.specs.Fault.{fault}
-use Rattle.bank_form.specs.Holds.{Holds}
+use Rattle.bank_form.specs.FitsFields.{FitsFields}
 use Rattle.bank_form.specs.WriteFault.{writeFault}
 use Rattle.bank_form.proofs.Writer.{writer-as-reader}
 use Rattle.bank_form.proofs.RoundTrip.{length-encode, rows-reach}
@@ -45,7 +45,7 @@ module _ (c : tie.After-put-bank) where
   lent : Lent bank file
   lent = record { count = c .before .before .before .before .before .pre .2 ∙ omega arith; size = sym size }
 
-  held : Holds bank
+  held : FitsFields bank
   held =
       let start = c .before .before .before .before .before in
       let small = rows-reach (length (start .args .azimuths .now)) 8 (start .args .l) (start .pre .1) (start .pre .0) in

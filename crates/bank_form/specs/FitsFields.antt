@@ -18,7 +18,7 @@ abbrev pub IsFloat : Float → Type 0
 IsFloat x = T (fits binary32 x)
 
 -- a bank that lists of i16 and f32 hold, with the taps that its counts ask for, small enough that its counts and its length fit their fields
-pub record Holds (b : Bank) : Type 0 where
+pub record FitsFields (b : Bank) : Type 0 where
   pub few : rows b < 2 ^ 16
   pub short : b .length < 2 ^ 16
   pub follow : 4 + rows b * rowSize (b .length) < 2 ^ 32
