@@ -3,7 +3,7 @@ use mathlib.Core.Path.{_≡_, refl, sym, ap, ap₂, _∙_}
 use mathlib.Core.Bool.{Bool, true, false, _&&_, _||_}
 use mathlib.Core.List.{List}
 use mathlib.Core.Logic.{_⊎_, inl, inr, ⊎-elim}
-use Prim.Native.Nat.{ℕ, _+_, _-_, _≤_, _<_, min}
+use Prim.Native.Nat.{ℕ, _+_, _-_, _*_, _≤_, _<_, min}
 use native.Mathlib.Decide.{decLt, ℕ-discrete}
 use native.Mathlib.Omega.{arith}
 use borrow.Author.Tests.{eqb-true, leb-true, eq-eqb, ne-eqb, le-leb, lt-leb}
@@ -14,14 +14,21 @@ use Rattle.big_endian.specs.Fields.{fieldAt}
 use Rattle.refusals.specs.Ranges.{within}
 use Rattle.refusals.proofs.Ranges.{within-true, within-low}
 use Rattle.bank_form.specs.declared.Fault.{Fault}
-use Rattle.bank_form.specs.Fault.{largest, rowsIn, lengthIn, sound, wrong, orElse, headFault, headField, faultIn, fault}
+use Rattle.bank_form.specs.Fault.{rowSize, largest, rowsIn, lengthIn, sound, wrong, orElse, headFault, headField, faultIn, fault}
 use Rattle.bank_form.specs.FaultLaws.{Begins, Exceeds, TakenFrom, suffices, StartSuffices}
-use Rattle.bank_form.proofs.Walk.{else-stop, field-in, head-none, fault-is, whole}
+use Rattle.bank_form.proofs.Walk.{Head, else-stop, field-in, head-none, fault-is, whole}
 use Rattle.big_endian.proofs.Starts.{Agree, start-agrees}
 use Rattle.bank_form.proofs.Agree.{head-agrees, fault-agrees}
 use Rattle.bank_form.proofs.RoundTrip.{rows-reach}
 
 -- ---- the start
+
+-- a head without fault has at most 8 rows of 512 taps for each ear
+head-reach : (size : ℕ) (s : List ℕ) → Head size s → 9 + rowsIn s * rowSize (lengthIn s) ≤ largest
+head-reach size s head =
+    let few = within-true 1 8 (rowsIn s) (head .few) .1 in
+    let short = within-true 1 512 (lengthIn s) (head .short) .1 in
+    omega (arith, rows-reach (rowsIn s) 8 (lengthIn s) few short)
 
 module _ (size k : ℕ) (s t : List ℕ) (same : Agree k s t) (long : largest ≤ k) where
   -- a head with a fault is all that is looked at
@@ -30,12 +37,9 @@ module _ (size k : ℕ) (s t : List ℕ) (same : Agree k s t) (long : largest �
       let head = head-agrees k s t same size (omega arith) in
       fault-is size t ∙ sym (else-stop _ _ (headFault size s) (sym head) bad) ∙ else-stop _ _ (headFault size s) refl bad ∙ sym (fault-is size s)
 
-  -- and one without has at most 8 rows of 512 taps for each ear
+  -- and behind one without all rows are among the first k bytes
   head-right : headFault size s .refusal ≡ 0 → faultIn size t ≡ faultIn size s
-  head-right good =
-      let head = head-none size s good in
-      let reach = rows-reach (rowsIn s) 8 (lengthIn s) (within-true 1 8 (rowsIn s) (head .few) .1) (within-true 1 512 (lengthIn s) (head .short) .1) in
-      fault-agrees k s t same size (omega (arith, reach))
+  head-right good = fault-agrees k s t same size (omega (arith, head-reach size s (head-none size s good)))
 
   start-told : faultIn size t ≡ faultIn size s
   start-told =
@@ -96,9 +100,7 @@ module _ (start : List ℕ) (size : ℕ) (file : List ℕ) (enough : T (suffices
   whole-of-size : faultIn size start .refusal ≡ 0 → file ≡ start
   whole-of-size none =
       let w = whole size start none in
-      let few = within-true 1 8 (rowsIn start) (w .head .few) .1 in
-      let short = within-true 1 512 (lengthIn start) (w .head .short) .1 in
-      let reach = rows-reach (rowsIn start) 8 (lengthIn start) few short in
+      let reach = head-reach size start (w .head) in
       let most = sym (ap length (begins .same)) ∙ length-take (length start) file in
       let all : length start ≡ size =
       ⊎-elim (λ e. e) (λ h. omega (arith, h, reach, w .all .ends, begins .long, most)) (enough-is (length start) size enough) in

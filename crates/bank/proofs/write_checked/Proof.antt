@@ -1,14 +1,14 @@
 -- `bank::write_checked` meets its contract. What was made is the encoding of the bank, whose first fault is the bank's. Assumes nothing.
 use mathlib.Core.Path.{_≡_, sym, ap, _∙_}
 use mathlib.Core.List.{List}
-use Prim.Native.Nat.{ℕ, _≤_}
+use Prim.Native.Nat.{ℕ, _*_, _≤_}
 use native.Mathlib.Omega.{arith}
 use lib.ListN.{length, take}
 use lib.Seq.{length-take-le}
 use Rattle.bank_form.specs.declared.Fault.{Fault}
-use Rattle.bank_form.specs.Bank.{Bank}
+use Rattle.bank_form.specs.Bank.{Bank, rows}
 use Rattle.bank_form.specs.Encoding.{encode}
-use Rattle.bank_form.specs.Fault.{fault}
+use Rattle.bank_form.specs.Fault.{rowSize, fault}
 use Rattle.bank_form.specs.FitsFields.{FitsFields}
 use Rattle.bank_form.specs.WriteFault.{writeFault}
 use Rattle.bank_form.proofs.Writer.{writer-as-reader}
@@ -36,11 +36,11 @@ module _ (c : tie.After-put-bank) where
   same : take (length file) made ≡ encode bank
   same = made-file _ made (encode bank) (length file) size (c .put-bank .ensures .0)
 
+  small : rows bank * rowSize (bank .length) ≤ 8 * 4098
+  small = let start = c .before .before .before .before .before in rows-reach (rows bank) 8 (bank .length) (start .pre .1) (start .pre .0)
+
   room : length file ≤ length made
-  room =
-      let start = c .before .before .before .before .before in
-      let small = rows-reach (length (start .args .azimuths .now)) 8 (start .args .l) (start .pre .1) (start .pre .0) in
-      omega (arith, c .put-bank .kept .1 .1 .1 .0)
+  room = omega (arith, small, c .put-bank .kept .1 .1 .1 .0, c .before .before .before .before .before .pre .3)
 
   lent : Lent bank file
   lent = record { count = c .before .before .before .before .before .pre .2 ∙ omega arith; size = sym size }
@@ -48,7 +48,6 @@ module _ (c : tie.After-put-bank) where
   held : FitsFields bank
   held =
       let start = c .before .before .before .before .before in
-      let small = rows-reach (length (start .args .azimuths .now)) 8 (start .args .l) (start .pre .1) (start .pre .0) in
       record {
         few = omega (arith, start .pre .1);
         short = omega (arith, start .pre .0);
