@@ -8,7 +8,7 @@ use Rattle.numbers.specs.Promises.{Root}
 use Rattle.numbers.proofs.Drill.{root-four, root-two, tie-down, tie-up}
 use Rattle.harmonics.proofs.Drill.{drill-1, drill-1-floats, drill-2, drill-2-floats, drill-3, drill-3-floats}
 use Rattle.stereo.proofs.Drill.{left-at-minus-100, right-at-minus-100, left-at-250, right-at-250, at-minus-100, at-250}
-use Rattle.surround.proofs.Drill.{silent-at-120, only-ls, centre, left-and-right, half-squares, at-120, at-0}
+use Rattle.surround.proofs.Drill.{silent-at-120, only-ls, silent-at-0, centre, left-and-right, centre-loudest, at-120, at-0}
 use Rattle.history.proofs.Drill.{drill-8, drill-9, drill-9-each, drill-9-heard}
 use Rattle.row_choice.proofs.Drill.{drill-tie}
 use Rattle.bank.proofs.Drill.{drill-written, drill-read, drill-cut}
@@ -37,9 +37,10 @@ drill-table = record {
   item-4-right-given = at-250;
   item-5-at-120 = silent-at-120;
   item-5-ls = only-ls;
+  item-5-at-0 = silent-at-0;
   item-5-centre = centre;
   item-5-equal = left-and-right;
-  item-5-halves = half-squares;
+  item-5-loudest = centre-loudest;
   item-5-at-120-given = at-120;
   item-5-at-0-given = at-0;
   item-6-four = four;

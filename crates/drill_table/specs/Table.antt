@@ -7,11 +7,10 @@ use mathlib.Core.List.{List, [], _∷_}
 use lib.IntN.{ℤ, pos, negsuc}
 use lib.ListN.{length, take}
 use lib.Ieee.{Float, nan, fin, binary64, toBits}
-use Rattle.fractions.specs.Fraction.{Fraction, fraction, whole, number, square, _⊘_, Same}
+use Rattle.fractions.specs.Fraction.{Fraction, whole, number, square, Less}
 use Rattle.formats.specs.Floats.{zero-float, one-float, half-float, float}
 use Rattle.numbers.specs.declared.Rooted.{Rooted}
 use Rattle.numbers.specs.Promises.{Narrowed, Root}
-use Rattle.numbers.specs.Drill.{rootOfHalf}
 use Rattle.series.specs.Angles.{definedSine, definedCosine}
 use Rattle.lists.specs.Tables.{tab}
 use Rattle.channel.specs.declared.Layout.the-variants.{Surround51}
@@ -22,7 +21,7 @@ use Rattle.stereo.specs.Angle.{angle}
 use Rattle.stereo.specs.Promise as Stereo
 use Rattle.surround.specs.Formula.{rawAt, sumAt, isSilent}
 use Rattle.surround.specs.Promise as Surround
-use Rattle.surround.specs.Drill.{gains51}
+use Rattle.surround.specs.Drill.{gains51, beside, pointedAt}
 use Rattle.history.specs.History.{heard, unsettledEach, unsettledIn}
 use Rattle.history.specs.Drill.{drill, samples}
 use Rattle.row_choice.specs.declared.Choice.{Choice}
@@ -46,14 +45,15 @@ pub record DrillTable : Type 0 where
   pub item-4-right : (definedCosine (angle (number (float (pos 250)))) ≡ whole 0) × (definedSine (angle (number (float (pos 250)))) ≡ whole 1)
   pub item-4-left-given : Stereo.outcome (float (negsuc 99)) ≡ record { refusal = 0; left = one-float; right = zero-float }
   pub item-4-right-given : Stereo.outcome (float (pos 250)) ≡ record { refusal = 0; left = zero-float; right = one-float }
-  -- 5. 5.1 at azimuth 120: only Ls sounds; at 0, C is 0, L and R have equal squares 1/2.
+  -- 5. 5.1 at azimuth 120: only Ls sounds; document 02, E3: "at 120 only Ls still sounds; at 0, C is now loudest, with L and R equal". (The others are silent at 0.)
   pub item-5-at-120 : tab 0 6 (isSilent Surround51 (whole 120)) ≡ true ∷ true ∷ true ∷ true ∷ false ∷ true ∷ []
   pub item-5-ls : sumAt Surround51 (whole 120) ≡ square (rawAt Surround51 (whole 120) 4)
-  pub item-5-centre : rawAt Surround51 (whole 0) 2 ≡ whole 0
+  pub item-5-at-0 : tab 0 6 (isSilent Surround51 (whole 0)) ≡ false ∷ false ∷ false ∷ true ∷ true ∷ true ∷ []
+  pub item-5-centre : rawAt Surround51 (whole 0) 2 ≡ whole 1
   pub item-5-equal : rawAt Surround51 (whole 0) 0 ≡ rawAt Surround51 (whole 0) 1
-  pub item-5-halves : Same (square (rawAt Surround51 (whole 0) 0) ⊘ sumAt Surround51 (whole 0)) (fraction 1 0 2)
+  pub item-5-loudest : Less (square (rawAt Surround51 (whole 0) 0)) (square (rawAt Surround51 (whole 0) 2))
   pub item-5-at-120-given : Surround.outcome Surround51 (float (pos 120)) ≡ record { refusal = 0; gains = gains51 zero-float zero-float zero-float one-float }
-  pub item-5-at-0-given : Surround.outcome Surround51 (float (pos 0)) ≡ record { refusal = 0; gains = gains51 rootOfHalf rootOfHalf zero-float zero-float }
+  pub item-5-at-0-given : Surround.outcome Surround51 (float (pos 0)) ≡ record { refusal = 0; gains = gains51 beside beside pointedAt zero-float }
   -- 6. Root of 4 is 2; 2 gives bits 3FF6A09E667F3BCD.
   pub item-6-four : (r : Rooted) → Root (float (pos 4)) r → r ≡ record { refusal = 0; value = float (pos 2) }
   pub item-6-two : (r : Rooted) → Root (float (pos 2)) r → (r .refusal ≡ 0) × (toBits binary64 (r .value) ≡ 0x3FF6A09E667F3BCD)

@@ -9,9 +9,9 @@ use lib.Dec.{lit<, lit≤}
 use lib.Pow.{pow-pos, pow-mono}
 use Rattle.fractions.specs.Fraction.{Fraction, fraction, whole, unit, opposite, magnitude, square, _⊕_, _⊖_, Same, AtMost, Within}
 use Rattle.fractions.specs.Squares.{sumSquares}
-use Rattle.fractions.proofs.Restate.{zero-⊕, over-one, same-opposite}
+use Rattle.fractions.proofs.Restate.{zero-⊕, over-one}
 use Rattle.fractions.proofs.Close.{Size, close-sym, close-trans}
-use Rattle.fractions.proofs.Within.{within-close, counted-within, within-counted, within-same, within-trans, within-weaken, size-at-most}
+use Rattle.fractions.proofs.Within.{within-close, close-within, counted-within, within-counted, within-same, within-trans, within-weaken, size-at-most}
 use Rattle.fractions.proofs.Divide.{least-near, near-not-below}
 use Rattle.fractions.proofs.Roots.{quotient-size}
 use Rattle.fractions.proofs.Sums.{square-in-sum}
@@ -63,32 +63,34 @@ module _ (w : Wave) {k : ℕ} {a b : Fraction} (l : k ≤ 50) where
       enough : (p : ℕ) → p ≤ 2 ^ 50 → (2 ^ 53 + (2 ^ 52 * 1 + 4 * p)) * p ≤ 2 ^ 54 * p
       enough p h = omega (arith, mul-le-mul-right p h)
 
--- ---- what is left of a quarter turn
+-- ---- the cosine from below, as far as 90 degrees: it is the sine of what is left of a quarter turn
 
 module _ (d : Fraction) (D : 0 < d .over) where
-  rest-pos : 0 < (whole 90 ⊖ d) .over
+  abbrev rest : Fraction
+  rest = whole 90 ⊖ d
+
+  rest-pos : 0 < rest .over
   rest-pos = mul-pos {m = 1} (lit< tt) D
 
-  -- -d ⊕ 90 is 90 ⊖ d
-  turned-round : (w : Wave) → Same (defined w (whole 90 ⊖ d)) (defined w (opposite d ⊕ whole 90))
-  turned-round w = defined-same w (whole 90 ⊖ d) (opposite d ⊕ whole 90) rest-pos (mul-pos {n = 1} D (lit< tt)) (omega arith)
+  -- 90 ⊖ d is -d ⊕ 90
+  turned-round : Same (definedSine rest) (definedSine (opposite d ⊕ whole 90))
+  turned-round = defined-same sine rest (opposite d ⊕ whole 90) rest-pos (mul-pos {n = 1} D (lit< tt)) (omega arith)
 
-  pub cosine-of-rest : Within 51 (definedCosine (whole 90 ⊖ d)) (definedSine d)
+  cosine-of-rest : Within 51 (definedCosine d) (definedSine rest)
   cosine-of-rest =
-      within-same (definedCosine (whole 90 ⊖ d)) (definedSine d) (defined-number cosine (whole 90 ⊖ d) rest-pos) (defined-number sine d D) (turned-round cosine)
-      (same-opposite (definedSine (opposite d)) (opposite (definedSine d)) (defined-opposite sine d D)) (defined-quarter cosine (opposite d) D)
+      close-within
+      (close-sym
+      (within-close
+      (within-same (definedSine rest) (definedCosine d) (defined-number sine rest rest-pos) (defined-number cosine d D) turned-round (defined-opposite cosine d D) (defined-quarter sine (opposite d) D))))
 
--- ---- from below
+  -- at 0 up to 90 degrees it is not below 0, up to 2 ^ -50
+  pub cosine-not-below : AtMost (whole 0) d → AtMost d (whole 90) → AtMost (opposite (unit 50)) (definedCosine d)
+  cosine-not-below l h =
+      near-not-below (definedCosine d) (wave sine (reduced rest))
+      (within-close (within-trans {k = 50} cosine-of-rest (within-weaken (lit≤ tt) (defined-sum sine rest rest-pos)))) (reduced-not-below rest rest-pos (omega arith) (omega arith))
 
-module _ (d : Fraction) (D : 0 < d .over) where
-  -- cos(90 - d) at a distance d of 0 up to 90 is not below 0, up to 2 ^ -50
-  pub rest-not-below : AtMost (whole 0) d → AtMost d (whole 90) → AtMost (opposite (unit 50)) (definedCosine (whole 90 ⊖ d))
-  rest-not-below l h =
-      near-not-below (definedCosine (whole 90 ⊖ d)) (wave sine (reduced d))
-      (within-close (within-trans {k = 50} (cosine-of-rest d D) (within-weaken (lit≤ tt) (defined-sum sine d D)))) (reduced-not-below d D l h)
-
-  -- and at one of 10 up to 90 its square is 3 / 100 at least
-  pub rest-square-least : AtMost (whole 10) d → AtMost d (whole 90) → AtMost (fraction 3 0 100) (square (definedCosine (whole 90 ⊖ d)))
-  rest-square-least l h =
-      square-least (definedCosine (whole 90 ⊖ d)) (defined-number cosine (whole 90 ⊖ d) (rest-pos d D))
-      (least-near {E = 1} 17362 (lit≤ tt) (within-counted 1 (lit≤ tt) (cosine-of-rest d D)) (sine-least d D l h))
+  -- and at 0 up to 80 its square is 3 / 100 at least
+  pub cosine-square-least : AtMost (whole 0) d → AtMost d (whole 80) → AtMost (fraction 3 0 100) (square (definedCosine d))
+  cosine-square-least l h =
+      square-least (definedCosine d) (defined-number cosine d D)
+      (least-near {E = 1} 17362 (lit≤ tt) (within-counted 1 (lit≤ tt) cosine-of-rest) (sine-least rest rest-pos (omega arith) (omega arith)))

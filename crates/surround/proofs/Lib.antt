@@ -8,4 +8,5 @@ mod Gains
 mod Answers
 mod Unique
 pub mod Drill
+mod Worked
 mod Refuted

@@ -1,5 +1,5 @@
--- The raw gain of a speaker is within 2 ^ -47 of document 01's, and not below 0: the place that the program turns the speaker to is exact, and so is its test of nearness; the way to it and 90 less the way are
--- rounded once each, and the slope of the cosine carries that over. Assumes nothing.
+-- The raw gain of a speaker is within 2 ^ -47 of document 01's, and not below 0: the place that the program turns the speaker to is exact, and so is its test of nearness; the way to it is rounded once,
+-- and the slope of the cosine carries that over. Assumes nothing.
 use mathlib.Core.Path.{_≡_, refl, sym, _∙_, subst}
 use mathlib.Core.Bool.{Bool, true, false, cond}
 use Prim.Native.Nat.{ℕ, suc, _+_, _*_, _^_, _<_}
@@ -25,7 +25,7 @@ use Rattle.fractions.proofs.Near.{result-close}
 use Rattle.fractions.proofs.Expression.{scale}
 use Rattle.series.specs.Sums.{cosine}
 use Rattle.series.specs.Angles.{definedCosine}
-use Rattle.series.proofs.Laws.{definedMost, defined-size, defined-close, rest-not-below}
+use Rattle.series.proofs.Laws.{definedMost, defined-size, defined-close, cosine-not-below}
 use Rattle.angles.specs.Promise as Angles
 use Rattle.formats.specs.Floats.{zero-float, float}
 use Rattle.angles.proofs.Laws.{outcome-kept, accepted, value-near}
@@ -39,12 +39,9 @@ use Rattle.surround.proofs.Ways.{turnedTo, isBetween, Way, the-way}
 abbrev rawBits : ℕ
 rawBits = 47
 
--- in units of 1 / scale: what rounding moves the way to a speaker by, and 90 less the way
+-- in units of 1 / scale: what rounding moves the way to a speaker by
 abbrev wayError : ℕ
 wayError = rounding binary64 (90 * scale)
-
-abbrev angleError : ℕ
-angleError = rounding binary64 (90 * scale + (0 + wayError)) + (0 + wayError)
 
 -- what is known of a raw gain: it is near its formula, and not below 0
 pub record Raw (x : Float) (q : Fraction) : Type 0 where
@@ -137,9 +134,6 @@ module _ (a s : Float) (p m : ℕ) (A : 0 < number a .over) (H : AtMost (magnitu
     abbrev x : Float
     x = sub binary64 a t
 
-    abbrev y : Float
-    y = absolute x
-
     abbrev v : Float
     v = Angles.outcome cosine (angleOf a t) .value
 
@@ -160,37 +154,31 @@ module _ (a s : Float) (p m : ℕ) (A : 0 < number a .over) (H : AtMost (magnitu
         let c : Close scale (number x) (number a ⊖ number t) wayError = result-close binary64 tt (mul-pos A (there .is .first)) difference-size (sub-result binary64 a t A (there .is .first)) in
         close-same (number x) (number a ⊖ T) (c .first) between-pos (same-refl (number x)) between c
 
-    way-close : Close scale (number y) d wayError
+    way-close : Close scale (number (angleOf a t)) d wayError
+    unfolding angleOf
     way-close =
         let X = difference-close .first in
-        close-same (number y) d (absolute-over x X) (way .over) (absolute-same x X) (same-sym d (magnitude (number a ⊖ T)) (way .same)) (close-magnitude difference-close)
+        close-same (number (absolute x)) d (absolute-over x X) (way .over) (absolute-same x X) (same-sym d (magnitude (number a ⊖ T)) (way .same)) (close-magnitude difference-close)
 
-    rest-size : Size scale (whole 90 ⊖ d) (90 * scale)
-    rest-size = size-unit (lit< tt) (lit≤ tt) (at-most-size (inner d (way .not-below) n))
+    way-size : Size scale d (90 * scale)
+    way-size = size-unit (lit< tt) (lit≤ tt) (at-most-size (inner d (way .not-below) n))
       where
-        inner : (d : Fraction) → AtMost (whole 0) d → Less d (whole 90) → AtMost (magnitude (whole 90 ⊖ d)) (whole 90)
+        inner : (d : Fraction) → AtMost (whole 0) d → Less d (whole 90) → AtMost (magnitude d) (whole 90)
         inner d h k = omega arith
 
-    rest-close : Close scale (whole 90 ⊖ number y) (whole 90 ⊖ d) (0 + wayError)
-    rest-close = close-sub (same-close scale (whole 90) (whole 90) (lit< tt) (lit< tt) (same-refl (whole 90))) way-close
+    way-accepted : Angles.refusalOf (angleOf a t) ≡ 0
+    way-accepted = accepted (angleOf a t) (way-close .first) (size-at-most (size-unit (lit< tt) (lit≤ tt) (size-near way-close way-size)))
 
-    angle-close : Close scale (number (angleOf a t)) (whole 90 ⊖ d) angleError
-    unfolding angleOf ofInt
-    angle-close = close-trans (result-close binary64 tt (rest-close .first) (size-near rest-close rest-size) (sub-result binary64 (float (pos 90)) y (lit< tt) (way-close .first))) rest-close
-
-    angle-accepted : Angles.refusalOf (angleOf a t) ≡ 0
-    angle-accepted = accepted (angleOf a t) (angle-close .first) (size-at-most (size-unit (lit< tt) (lit≤ tt) (size-near angle-close rest-size)))
-
-    known-cosine : Approximates rawBits definedMost v (definedCosine (whole 90 ⊖ d))
+    known-cosine : Approximates rawBits definedMost v (definedCosine d)
     known-cosine = record {
       near =
           counted-within {W = 2 ^ 54 * scale} (lit< tt) (lit≤ tt)
-          (close-trans (within-counted (2 ^ 4 * scale) (lit≤ tt) (value-near cosine (angleOf a t) (Angles.outcome cosine (angleOf a t)) (outcome-kept cosine (angleOf a t)) angle-accepted)) (defined-close cosine (lit< tt) angle-close));
-      size = defined-size cosine (whole 90 ⊖ d) (rest-close .second);
+          (close-trans (within-counted (2 ^ 4 * scale) (lit≤ tt) (value-near cosine (angleOf a t) (Angles.outcome cosine (angleOf a t)) (outcome-kept cosine (angleOf a t)) way-accepted)) (defined-close cosine (lit< tt) way-close));
+      size = defined-size cosine d (way .over);
     }
 
-    raised : Raw (notBelow v) (definedCosine (whole 90 ⊖ d))
-    raised = lifted v (known-cosine .near .first) (definedCosine (whole 90 ⊖ d)) known-cosine (rest-not-below d (way .over) (way .not-below) (less-at-most d (whole 90) n))
+    raised : Raw (notBelow v) (definedCosine d)
+    raised = lifted v (known-cosine .near .first) (definedCosine d) known-cosine (cosine-not-below d (way .over) (way .not-below) (less-at-most d (whole 90) n))
 
   raw-test : isNear a t ≡ isLess d (whole 90)
   raw-test = near-test a A t T there ∙ sym (way .near)
@@ -200,7 +188,7 @@ module _ (a s : Float) (p m : ℕ) (A : 0 < number a .over) (H : AtMost (magnitu
   raw-gain =
       let v = Angles.outcome cosine (angleOf a t) .value in
       subst (λ (b : Bool). Raw (cond b (notBelow v) zero-float) (rawGain (number a) q)) (sym raw-test)
-      (by-test (λ (b : Bool). Raw (cond b (notBelow v) zero-float) (cond b (definedCosine (whole 90 ⊖ d)) (whole 0))) (isLess d (whole 90)) (λ e. raised (less-true d (whole 90) e)) (λ e. zero-raw))
+      (by-test (λ (b : Bool). Raw (cond b (notBelow v) zero-float) (cond b (definedCosine d) (whole 0))) (isLess d (whole 90)) (λ e. raised (less-true d (whole 90) e)) (λ e. zero-raw))
 
   raw-silent : isLess d (whole 90) ≡ false → rawOf a s ≡ zero-float
   unfolding rawOf

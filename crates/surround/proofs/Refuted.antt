@@ -6,8 +6,8 @@ use Prim.Native.Nat.{ℕ}
 use native.Mathlib.Omega.{arith}
 use lib.Dec.{le→leb, lit<}
 use lib.IntN.{pos, negsuc}
-use lib.Ieee.{Float, fin, lt, le, eq, neg, ofInt}
-use Rattle.formats.specs.Floats.{one-float, float}
+use lib.Ieee.{Float, fin, binary64, lt, le, eq, neg, ofInt, ofBits}
+use Rattle.formats.specs.Floats.{zero-float, float}
 use Rattle.series.specs.Sums.{cosineSum, term, power, factorial}
 use Rattle.series.specs.Angles.{turned, around, reduced, radians, isMultiple, quarters, defined}
 use Rattle.angles.specs.Limits.{isInside, refusesAngle}
@@ -31,10 +31,20 @@ silent : Pans Surround51 (float (pos 120)) (record { refusal = 0; gains = silenc
 unfolding refusesAngle isInside lt le eq neg ofInt rawAt rawGain distance defined isMultiple quarters turned reduced around radians cosineSum term power factorial
 silent p = le→leb _ _ (p .gains refl .near 4 (lit< tt) .above)
 
--- the speaker that the azimuth points at sounds, as a reader may expect: document 01's raw gain is cos(90 - d), which is 0 there
-centre-sounds : (l r : Float) (g : List Float) → Pans Surround51 (float (pos 0)) (record { refusal = 0; gains = l ∷ r ∷ one-float ∷ g }) → ⊥
+-- the speaker pointed at is silent, as the Rust has it: C at 0 degrees
+pointed-at-silent : (l r : Float) (g : List Float) → Pans Surround51 (float (pos 0)) (record { refusal = 0; gains = l ∷ r ∷ zero-float ∷ g }) → ⊥
 unfolding refusesAngle isInside lt le eq neg ofInt rawAt rawGain distance defined isMultiple quarters turned reduced around radians cosineSum term power factorial
-centre-sounds l r g p = le→leb _ _ (p .gains refl .near 2 (lit< tt) .below)
+pointed-at-silent l r g p = le→leb _ _ (p .gains refl .near 2 (lit< tt) .above)
+
+-- and L at 30 degrees, where trainees found the left speaker dead
+left-dead : (g : List Float) → Pans Surround51 (float (pos 30)) (record { refusal = 0; gains = zero-float ∷ g }) → ⊥
+unfolding refusesAngle isInside lt le eq neg ofInt rawAt rawGain distance defined isMultiple quarters turned reduced around radians cosineSum term power factorial
+left-dead g p = le→leb _ _ (p .gains refl .near 0 (lit< tt) .above)
+
+-- the three in front share alike at 0 degrees: each has the f64 nearest to the root of 1/3
+equal-thirds : (l r : Float) (g : List Float) → Pans Surround51 (float (pos 0)) (record { refusal = 0; gains = l ∷ r ∷ ofBits binary64 0x3FE279A74590331C ∷ g }) → ⊥
+unfolding ofBits refusesAngle isInside lt le eq neg ofInt rawAt rawGain distance defined isMultiple quarters turned reduced around radians cosineSum term power factorial
+equal-thirds l r g p = le→leb _ _ (p .gains refl .near 2 (lit< tt) .above)
 
 -- it plays a layout of seventeen channels
 custom-played : (g : List Float) → Pans (Custom 17) (float (pos 0)) (record { refusal = 0; gains = g }) → ⊥

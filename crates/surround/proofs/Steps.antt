@@ -25,12 +25,12 @@ module _ (a s t : Float) (b : Bool) (e : t ≡ placeOf a s) (n : b ≡ isNear a 
   far h = sym (goes-on _ _ (sym near-place ∙ not-true b h))
 
   -- x is the way to it, and g the cosine's answer
-  module _ (x : Float) (g : Answer) (h : not b ≡ false) (w : x ≡ absolute (sub binary64 a t)) (p : Promise cosine (sub binary64 (float (pos 90)) x) g) where
+  module _ (x : Float) (g : Answer) (h : not b ≡ false) (w : x ≡ absolute (sub binary64 a t)) (p : Promise cosine x g) where
     value-is : g .value ≡ Angles.outcome cosine (angleOf a (placeOf a s)) .value
     unfolding angleOf
     value-is =
         ap (λ (r : Answer). r .value) (p .is)
-        ∙ ap (λ (y : Float). Angles.outcome cosine (sub binary64 (float (pos 90)) y) .value) (w ∙ ap (λ (z : Float). absolute (sub binary64 a z)) e)
+        ∙ ap (λ (y : Float). Angles.outcome cosine y .value) (w ∙ ap (λ (z : Float). absolute (sub binary64 a z)) e)
 
     raw-is : rawOf a s ≡ notBelow (g .value)
     unfolding rawOf

@@ -27,7 +27,7 @@ unfoldable pub isNear : Float → Float → Bool
 isNear a t = cond (lt (sub binary64 t (float (pos 90))) a) (lt a (add binary64 t (float (pos 90)))) false
 
 unfoldable pub angleOf : Float → Float → Float
-angleOf a t = sub binary64 (float (pos 90)) (absolute (sub binary64 a t))
+angleOf a t = absolute (sub binary64 a t)
 
 unfoldable pub rawOf : Float → Float → Float
 rawOf a s = cond (isNear a (placeOf a s)) (notBelow (Angles.outcome cosine (angleOf a (placeOf a s)) .value)) zero-float

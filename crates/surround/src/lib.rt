@@ -1,8 +1,9 @@
 // Turns an azimuth into a gain for each speaker of 5.1 or 7.1 (document 01, item 4 and 'Gains', from
-// calculate_vbap_gains of panner.rs).
+// calculate_vbap_gains of panner.rs; the raw gain is document 02's, E3).
 //
 // Each speaker that is less than 90 degrees away from the azimuth, by the shorter way round d, sounds with
-// cos(90 - d) over the root of the sum of the squares; the others and the LFE are exactly 0.0.
+// cos d over the root of the sum of the squares: the speaker that the azimuth points at is the loudest. The
+// others and the LFE are exactly 0.0.
 //
 // It takes any input; its promise (specs/Promise.antt) fixes the answer bit for bit, and says that every gain
 // is within 2^-30, by squares, of document 01's formula, and that the sum of squares is 3/100 at least.
@@ -10,8 +11,7 @@
 // What is lost elsewhere:
 //
 //   d, one operation rounded                        2^-46.5 degrees
-//   90 - d, one more                                2^-45.5 degrees
-//   the cosine at that angle                        2^-47
+//   the cosine there                                2^-47
 //   the sum of eight squares                        2^-42.9
 //   a gain, by squares, at a sum of 3/100           2^-37
 ghost use mathlib.Core.Path.{_≡_};
@@ -65,7 +65,7 @@ fn raw_gain(azimuth: f64, speaker: f64) -> f64
     if !is_near(azimuth, place) {
         return 0.0;
     }
-    let gain = angles::cosine(90.0 - absolute_value(azimuth - place));
+    let gain = angles::cosine(absolute_value(azimuth - place));
     if gain.value < 0.0 {
         return 0.0;
     }
