@@ -62,9 +62,9 @@ at-0 = refl
 pub custom-17 : outcome (Custom 17) (float (pos 0)) ≡ record { refusal = 2; gains = silence }
 custom-17 = refl
 
-stereo-and-nan : outcome Stereo nan ≡ record { refusal = 2; gains = silence }
+pub stereo-and-nan : outcome Stereo nan ≡ record { refusal = 2; gains = silence }
 stereo-and-nan = refl
 
-beyond-180 : outcome Surround71 (float (pos 181)) ≡ record { refusal = 3; gains = silence }
+pub beyond-180 : outcome Surround71 (float (pos 181)) ≡ record { refusal = 3; gains = silence }
 unfolding refusesAngle isInside lt le eq neg ofInt
 beyond-180 = refl

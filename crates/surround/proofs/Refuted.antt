@@ -6,25 +6,25 @@ use Prim.Native.Nat.{ℕ}
 use native.Mathlib.Omega.{arith}
 use lib.Dec.{le→leb, lit<}
 use lib.IntN.{pos, negsuc}
-use lib.Ieee.{Float, fin, binary64, lt, le, eq, neg, ofInt, ofBits}
+use lib.Ieee.{Float, nan, fin, binary64, lt, le, eq, neg, ofInt, ofBits}
 use Rattle.formats.specs.Floats.{zero-float, float}
 use Rattle.series.specs.Sums.{cosineSum, term, power, factorial}
 use Rattle.series.specs.Angles.{turned, around, reduced, radians, isMultiple, quarters, defined}
 use Rattle.angles.specs.Limits.{isInside, refusesAngle}
-use Rattle.channel.specs.declared.Layout.the-variants.{Surround51, Custom}
+use Rattle.channel.specs.declared.Layout.{Layout}
+use Rattle.channel.specs.declared.Layout.the-variants.{Stereo, Surround51, Surround71, Custom}
 use Rattle.surround.specs.declared.SurroundGains.{SurroundGains}
 use Rattle.harmonics.specs.Promise.{silence}
 use Rattle.surround.specs.Formula.{distance, rawGain, rawAt}
-use Rattle.surround.specs.Promise.{Pans}
-use Rattle.surround.proofs.Drill.{at-120, custom-17}
+use Rattle.surround.specs.Promise.{Pans, outcome}
+use Rattle.surround.proofs.Drill.{at-120, custom-17, stereo-and-nan, beyond-180}
 
-refusal : SurroundGains → ℕ
-refusal g = g .refusal
+same-refusal : {l : Layout} {a : Float} {r s : SurroundGains} → Pans l a r → outcome l a ≡ s → r .refusal ≡ s .refusal
+same-refusal p e = ap (λ (g : SurroundGains). g .refusal) (p .is ∙ e)
 
 -- it refuses every azimuth
 refuses-always : Pans Surround51 (float (pos 120)) (record { refusal = 3; gains = silence }) → ⊥
-unfolding refusal
-refuses-always p = let e : _≡_ {A = ℕ} 3 0 = ap refusal (p .is ∙ at-120) in omega arith
+refuses-always p = let e : _≡_ {A = ℕ} 3 0 = same-refusal p at-120 in omega arith
 
 -- it is silent: Ls sounds alone, so that the square of its exact gain is 1
 silent : Pans Surround51 (float (pos 120)) (record { refusal = 0; gains = silence }) → ⊥
@@ -48,8 +48,14 @@ equal-thirds l r g p = le→leb _ _ (p .gains refl .near 2 (lit< tt) .above)
 
 -- it plays a layout of seventeen channels
 custom-played : (g : List Float) → Pans (Custom 17) (float (pos 0)) (record { refusal = 0; gains = g }) → ⊥
-unfolding refusal
-custom-played g p = let e : _≡_ {A = ℕ} 0 2 = ap refusal (p .is ∙ custom-17) in omega arith
+custom-played g p = let e : _≡_ {A = ℕ} 0 2 = same-refusal p custom-17 in omega arith
+
+-- it refuses a layout that is not offered with the azimuth's number, and an azimuth that is outside with the layout's
+layout-refused-by-3 : (g : List Float) → Pans Stereo nan (record { refusal = 3; gains = g }) → ⊥
+layout-refused-by-3 g p = let e : _≡_ {A = ℕ} 3 2 = same-refusal p stereo-and-nan in omega arith
+
+azimuth-refused-by-2 : (g : List Float) → Pans Surround71 (float (pos 181)) (record { refusal = 2; gains = g }) → ⊥
+azimuth-refused-by-2 g p = let e : _≡_ {A = ℕ} 2 3 = same-refusal p beyond-180 in omega arith
 
 -- it is off by 2^-29, twice what document 01 allows: Ls sounds alone at 120 degrees, with a gain of 1
 off-by-twice : (l r c f : Float) (g : List Float) → Pans Surround51 (float (pos 120)) (record { refusal = 0; gains = l ∷ r ∷ c ∷ f ∷ fin false 536870911 (negsuc 28) ∷ g }) → ⊥
