@@ -1,4 +1,4 @@
--- Sums of squares: such a sum is a number, not below 0, and no less than each of the squares in it; and as an expression. Assumes nothing.
+-- Sums of squares: such a sum is no less than each of the squares in it; and as an expression. Assumes nothing.
 use mathlib.Core.List.{List, [], _∷_}
 use Prim.Native.Nat.{ℕ, zero, suc, _+_, _*_, _≤_, _<_}
 use native.Mathlib.Nat.{le-refl, mul-le-mul-right, le-of-suc-le-suc, not-suc-le-zero}
@@ -10,16 +10,12 @@ use Rattle.fractions.proofs.Ring.{ring}
 use Rattle.fractions.proofs.Magnitude.{square-not-below}
 use Rattle.fractions.proofs.Expression.{Expression, _+'_, _*'_}
 
--- ---- not below 0
+-- ---- a square more, and it is not below 0 if it was not
 sum-nat : (p m o q n u : ℕ) → m * u ≤ p * u → n * o ≤ q * o → m * u + n * o ≤ p * u + q * o
 sum-nat p m o q n u h k = omega arith
 
 step : (acc g : Fraction) → acc .minus ≤ acc .plus → (acc ⊕ square g) .minus ≤ (acc ⊕ square g) .plus
 step acc g h = sum-nat (acc .plus) (acc .minus) (acc .over) (square g .plus) (square g .minus) (square g .over) (mul-le-mul-right (square g .over) h) (mul-le-mul-right (acc .over) (square-not-below g))
-
-pub sum-not-below : (acc : Fraction) (l : List Fraction) → acc .minus ≤ acc .plus → sumFrom acc l .minus ≤ sumFrom acc l .plus
-sum-not-below acc [] h = h
-sum-not-below acc (g ∷ l) h = sum-not-below (acc ⊕ square g) l (step acc g h)
 
 -- ---- no less than each of the squares
 keep-nat : (qp qm qo sp sm so rp rm ro : ℕ) → (qp * so + sm * qo) * ro ≤ (sp * qo + qm * so) * ro → rm * (so * qo) ≤ rp * (so * qo) → qp * (so * ro) + (sm * ro + rm * so) * qo ≤ (sp * ro + rp * so) * qo + qm * (so * ro)

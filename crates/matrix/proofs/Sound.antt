@@ -3,14 +3,18 @@ use Prim.Native.Nat.{ℕ}
 use mathlib.Core.Path.{_≡_, refl, ap, fun-ext}
 use mathlib.Core.Bool.{false}
 use mathlib.Core.List.{List, _++_}
-use lib.Ieee.{Float, size, units, round, mul, div, ofInt}
-use Rattle.numbers.specs.Drill.{rootOfHalf}
+use lib.IntN.{negsuc}
+use lib.Ieee.{Float, fin, size, units, round, mul, div, ofInt}
 use Rattle.numbers.specs.Computed.{rootOf, wholeRoot}
 use Rattle.rows.specs.Rows.{scaled}
 use Rattle.lists.specs.Tables.{tab, any}
 use Rattle.checks.specs.Finite.{unsound}
 use Rattle.planes.specs.Normalization.{inverseRoot}
 use Rattle.matrix.specs.Rows.{left, right, rows, hundredths, literals}
+
+-- the f64 next below the root of 1/2
+abbrev rootOfHalf : Float
+rootOfHalf = fin false 1592262918131443 (negsuc 50)
 
 -- 1.0/root(2.0), a unit of the last place below the root of a half
 inverse-root-two : inverseRoot 2 ≡ rootOfHalf

@@ -2,12 +2,12 @@
 -- 0.0301. (The least sum is larger: that of 5.1 at 180 degrees is 1 + cos 140, 0.2339.., and that of 7.1 3 / 2. Document 01 asks only that it is never near 10 ^ -10.) Assumes nothing.
 use mathlib.Core.Path.{_≡_, refl, sym, ap, _∙_, subst}
 use mathlib.Core.Bool.{true}
-use Prim.Native.Nat.{ℕ, _≤_, _<_}
+use Prim.Native.Nat.{ℕ, _<_}
 use native.Mathlib.Nat.{zero-add, mul-pos}
 use native.Mathlib.Omega.{arith}
 use lib.Dec.{lit<, lit≤}
 use Rattle.fractions.specs.Fraction.{Fraction, fraction, whole, magnitude, square, _⊖_, Less, AtMost}
-use Rattle.fractions.proofs.Order.{at-most-trans, less-at-most, by-side}
+use Rattle.fractions.proofs.Order.{at-most-trans, by-side}
 use Rattle.fractions.proofs.Compare.{is-less}
 use Rattle.fractions.proofs.Sums.{square-in-sum}
 use Rattle.series.specs.Sums.{cosine}

@@ -2,7 +2,7 @@
 -- and the slope of the cosine carries that over. Assumes nothing.
 use mathlib.Core.Path.{_≡_, refl, sym, _∙_, subst}
 use mathlib.Core.Bool.{Bool, true, false, cond}
-use Prim.Native.Nat.{ℕ, suc, _+_, _*_, _^_, _<_}
+use Prim.Native.Nat.{ℕ, suc, _*_, _^_, _<_}
 use native.Mathlib.Nat.{mul-pos}
 use native.Mathlib.Omega.{arith}
 use lib.Dec.{lit≤, lit<}
@@ -14,7 +14,7 @@ use Rattle.refusals.proofs.First.{stops, goes-on}
 use Rattle.fractions.proofs.Approximates.{Approximates}
 use Rattle.fractions.proofs.Order.{same-refl, same-sym, at-most-trans, at-most-same, less-at-most}
 use Rattle.fractions.proofs.Restate.{same-sub}
-use Rattle.fractions.proofs.Close.{Close, Size, same-close, close-same, close-trans, close-sub, size-same, size-unit, size-near, zero-near}
+use Rattle.fractions.proofs.Close.{Close, Size, close-same, close-trans, size-same, size-unit, size-near, zero-near}
 use Rattle.fractions.proofs.Within.{within-refl, within-close, close-within, within-counted, counted-within, at-most-size, size-at-most}
 use Rattle.fractions.proofs.Magnitude.{magnitude-turned, magnitude-left, close-magnitude}
 use Rattle.fractions.proofs.Number.{number-neg}

@@ -3,13 +3,12 @@ use mathlib.Core.Path.{_≡_, sym, ap, _∙_}
 use mathlib.Core.Bool.{Bool, true, false, not}
 use Prim.Native.Nat.{ℕ}
 use borrow.Author.Tests.{not-true, not-false}
-use lib.IntN.{pos}
 use lib.Ieee.{Float, binary64, lt, sub}
 use Rattle.refusals.proofs.First.{stops, goes-on}
 use Rattle.series.specs.Sums.{cosine}
 use Rattle.angles.specs.declared.Answer.{Answer}
 use Rattle.angles.specs.Promise as Angles
-use Rattle.formats.specs.Floats.{zero-float, float}
+use Rattle.formats.specs.Floats.{zero-float}
 use Rattle.angles.specs.Promise.{Promise}
 use Rattle.channel.specs.Layouts.{lowFrequency, azimuthOf}
 use Rattle.channel.specs.declared.Layout.{Layout}
