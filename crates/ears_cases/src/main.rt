@@ -1,5 +1,6 @@
-// Tests the program `ears` in the gate: plays every case of document 01's item 10, and every refusal of a
-// bank that document 02, E2, names, and prints what was told and what the output holds then.
+// Tests the program `ears` in the gate: plays every case of document 01's item 10, every refusal of a bank
+// that document 02, E2, names, and a hum at every 15 degrees, and prints what was told and what the output
+// holds then.
 //
 // The cases are played by file names. The banks and the lines are in data/, written by tests/ears-cases from
 // a model of its own; what is printed is compared with the file `stdout`. `ears_file` plays. The program
@@ -266,6 +267,13 @@ fn long_cuts() {
     compare(b"ears.raw", b"long.expected");
 }
 
+// The line that `demo_line` writes in the gate, through the demo's bank: tests/bearings measures these ears.
+fn bearings() {
+    say(b"the hum at every 15 degrees\n");
+    play(b"demo.bank", b"bearings.line", NO_LIMIT);
+    compare(b"ears.raw", b"bearings.expected");
+}
+
 fn main() {
     worked();
     banks();
@@ -274,4 +282,5 @@ fn main() {
     long_banks();
     cuts();
     long_cuts();
+    bearings();
 }
