@@ -3,6 +3,9 @@
 //! weights, taps and speaker count come from the test, which document 01 allows. Each addition stands under the
 //! line `// Added for the tests.`; nothing above it is changed. The licence is in NOTICE.
 //!
+//! panner_corrected.rs is panner.rs again with one line changed: the raw gain of a surround speaker, as document 02, E3,
+//! has it.
+//!
 //! What the files name and was not supplied is stood in for, in a small file each: `block`, `context`, `math`,
 //! `parameter`, `sample`, `smoothing` and `blocks::effectors::binaural_decoder::hrir_data`. docs/DIFFERENCES.md
 //! says which conclusions rest on them.
