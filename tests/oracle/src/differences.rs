@@ -1,13 +1,18 @@
-//! What the Rust itself does where document 01 asks for something else, each with its smallest input: run, and said in
-//! a line. tests/differences compares the lines with tests/differences.expected; docs/DIFFERENCES.md says what
-//! document 01 and the port do there.
-use crate::rust::{Command, Convolver, Speaker, decode, decode_order, decoder_matrix, gains, pan, pan_planes, weighted};
+//! What the Rust itself does where documents 01 and 02 ask for something else, each with its smallest input: run, and
+//! said in a line. tests/differences compares the lines with tests/differences.expected; docs/DIFFERENCES.md says what the
+//! documents ask and what the port does there.
+use crate::rust::{Command, Convolver, Rule, Speaker, decode, decode_order, decoder_matrix, gains, pan, pan_planes, weighted};
 use bbx_dsp::blocks::effectors::binaural_decoder::hrtf::HrtfConvolver;
 use bbx_dsp::blocks::effectors::binaural_decoder::matrix::compute_matrix;
 use bbx_dsp::channel::ChannelLayout;
 use std::panic::{AssertUnwindSafe, UnwindSafe, catch_unwind};
 
-use Command::{Ambisonic, Stereo, Surround};
+use Command::{Ambisonic, Stereo};
+
+/// A surround azimuth, by the rule that was published.
+fn published(layout: ChannelLayout, azimuth: f64) -> Command {
+    Command::Surround(Rule::Published, layout, azimuth)
+}
 
 /// What a run gives, or that it panics.
 fn tried<T>(what: impl FnOnce() -> T + UnwindSafe, say: impl FnOnce(T) -> String) -> String {
@@ -59,7 +64,7 @@ fn layouts() {
         say(
             &format!("surround panner, {layout:?} at 30"),
             tried(
-                move || pan(Surround(layout, 30.0), &[1.0f64], vec![vec![9.0]; layout.channel_count()]).concat(),
+                move || pan(published(layout, 30.0), &[1.0f64], vec![vec![9.0]; layout.channel_count()]).concat(),
                 |g| format!("plays, {}", if g.is_empty() { "no channel".to_string() } else { values(&g[..g.len().min(4)]) }),
             ),
         );
@@ -86,10 +91,14 @@ fn angles() {
     for (azimuth, elevation) in [(f64::NAN, 0.0), (450.0, 100.0)] {
         say(&format!("virtual speaker, order 1 at ({azimuth}, {elevation})"), values(&weighted(1, azimuth, elevation)[..4]));
     }
-    say("5.1 at 0", values(&gains(Surround(ChannelLayout::Surround51, 0.0))));
-    say("5.1 at NaN", values(&gains(Surround(ChannelLayout::Surround51, f64::NAN))));
-    say("5.1 at 400", values(&gains(Surround(ChannelLayout::Surround51, 400.0))));
-    say("5.1 at infinity", values(&gains(Surround(ChannelLayout::Surround51, f64::INFINITY))));
+    say("5.1 at 0", values(&gains(published(ChannelLayout::Surround51, 0.0))));
+    for (name, layout) in [("5.1", ChannelLayout::Surround51), ("7.1", ChannelLayout::Surround71)] {
+        let by = |rule: Rule| values(&gains(Command::Surround(rule, layout, 30.0)));
+        say(&format!("{name} at 30"), format!("{}; corrected {}", by(Rule::Published), by(Rule::Corrected)));
+    }
+    say("5.1 at NaN", values(&gains(published(ChannelLayout::Surround51, f64::NAN))));
+    say("5.1 at 400", values(&gains(published(ChannelLayout::Surround51, 400.0))));
+    say("5.1 at infinity", values(&gains(published(ChannelLayout::Surround51, f64::INFINITY))));
     // The command is narrowed, and one within the smallest step of 0 is taken for 0.
     let channel_1 = |x: f64| pan(Ambisonic(1, x, 0.0), &[1.0f32], vec![vec![0.0]; 4])[1][0];
     say(
@@ -123,7 +132,7 @@ fn ninety_from_a_speaker() {
                     let is_before = azimuth < f64::from(end);
                     let opens_above = (end + 90 - speaker).rem_euclid(360) == 0;
                     let near = if opens_above { is_after } else { is_before };
-                    let sounds = gains(Surround(layout, azimuth))[channel] > 0.0;
+                    let sounds = gains(published(layout, azimuth))[channel] > 0.0;
                     if near != sounds {
                         wrong += 1;
                         farthest = farthest.max((azimuth - f64::from(end)).abs());
@@ -210,7 +219,7 @@ fn convolved(channels: usize, inputs: &[usize], ears: usize) -> Vec<Vec<f32>> {
 fn counts_of_planes() {
     let over = |command: Command, planes: usize| values(&pan(command, &[1.0], vec![vec![9.0]; planes]).concat());
     say("panner, stereo at -100 and three planes over 9.0", over(Stereo(-100.0), 3));
-    say("panner, 5.1 at 70 and seven planes over 9.0", over(Surround(ChannelLayout::Surround51, 70.0), 7));
+    say("panner, 5.1 at 70 and seven planes over 9.0", over(published(ChannelLayout::Surround51, 70.0), 7));
     say("panner, order 1 at (0, 0) and five planes over 9.0", over(Ambisonic(1, 0.0, 0.0), 5));
     let show = |what: &str, planes: Vec<Vec<f32>>| say(what, format!("{planes:?}"));
     show("panner, stereo at -100 and input planes of 1.0 and of 5.0", pan_planes(Stereo(-100.0), &[vec![1.0], vec![5.0]], nines(&[1, 1])));
@@ -234,7 +243,7 @@ fn lengths_of_planes() {
     let show = |what: &str, run: &dyn Fn() -> Vec<Vec<f32>>| say(what, tried(AssertUnwindSafe(run), |planes| format!("{planes:?}")));
     show("panner, stereo at -100, 2 frames into planes of 1 and 2 over 9.0", &|| pan(Stereo(-100.0), &[1.0; 2], nines(&[1, 2])));
     show("panner, stereo at -100, 1 frame into planes of 1 and 0", &|| pan(Stereo(-100.0), &[1.0], nines(&[1, 0])));
-    let five_one = Surround(ChannelLayout::Surround51, 70.0);
+    let five_one = published(ChannelLayout::Surround51, 70.0);
     show("panner, 5.1 at 70, 1 frame into planes of 1 and a second of 0", &|| pan(five_one, &[1.0], nines(&[1, 0, 1, 1, 1, 1])));
     let order_1 = Ambisonic(1, 0.0, 0.0);
     show("panner, order 1 at (0, 0), 1 frame into planes of 1 and a second of 0", &|| pan(order_1, &[1.0], nines(&[1, 0, 1, 1])));

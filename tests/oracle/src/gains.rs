@@ -1,9 +1,9 @@
 //! Gains and matrices, against document 01's formulas over the defined sums, within its bounds, and against the Rust at
-//! S = f64, within 2^-29.
+//! S = f64, within 2^-29. The raw gain of a surround speaker is that of document 02, E3, here and in the Rust.
 use crate::exact::{self, Exact};
 use crate::frame::{Answer, Case, Sink, Verdict, f64_bytes, hex, request, send};
 use crate::random::Random;
-use crate::rust::{self, Command};
+use crate::rust::{self, Command, Rule};
 use bbx_dsp::channel::ChannelLayout;
 use std::sync::LazyLock;
 
@@ -316,7 +316,7 @@ impl Layout {
 
     /// Where its speakers stand, the LFE at 0. Document 01: "Custom speaker i sits at i x (360/n) - 90, each operation
     /// rounded once".
-    fn speakers(self) -> Vec<f64> {
+    pub fn speakers(self) -> Vec<f64> {
         match self.0 {
             0 => vec![0.0],
             1 => vec![30.0, -30.0],
@@ -329,7 +329,7 @@ impl Layout {
 
 // ---- surround
 
-/// The raw gain of each speaker, or none where it is 90 degrees away or more, or the LFE.
+/// The raw gain of each speaker, cos d, or none where it is 90 degrees away or more, or the LFE.
 pub fn raw_gains(layout: Layout, azimuth: f64) -> Vec<Option<Exact>> {
     let raw = |(channel, speaker): (usize, f64)| {
         let mut d = Exact::float(azimuth) - Exact::float(speaker);
@@ -340,64 +340,68 @@ pub fn raw_gains(layout: Layout, azimuth: f64) -> Vec<Option<Exact>> {
             d = Exact::whole(360) - d;
         }
         let near = channel != 3 && !Exact::whole(90).at_most(&d);
-        near.then(|| exact::cosine(&(Exact::whole(90) - d)))
+        near.then(|| exact::cosine(&d))
     };
     layout.speakers().into_iter().enumerate().map(raw).collect()
 }
 
-/// Document 01: surround azimuths within 1e-9 degree of 90 from a speaker are not compared with the Rust, neither their
-/// gains nor their blocks.
-pub fn is_compared(layout: Layout, azimuth: f64) -> bool {
-    layout.speakers().iter().all(|s| [90.0, 270.0].iter().all(|turn| ((azimuth - s).abs() - turn).abs() > 1e-9))
+pub fn sum_of_squares(raw: &[Option<Exact>]) -> Exact {
+    raw.iter().flatten().fold(Exact::whole(0), |sum, g| sum + square(g.clone()))
+}
+
+/// The azimuths that are tried on a layout: accepted ones, every place at which a speaker begins or ends or the way round
+/// turns, with its neighbours, and refused ones.
+fn azimuths(random: &mut Random, count: usize) -> Vec<f64> {
+    let few = count < 1000;
+    let count = if few { count / 5 } else { count };
+    let mut all: Vec<f64> = (0..count).map(|_| (random.below(3601) as f64 - 1800.0) / 10.0).collect();
+    all.extend((0..count).map(|_| (random.bits() >> 11) as f64 / (1u64 << 53) as f64 * 360.0 - 180.0));
+    all.extend((0..count / 20).map(|_| f64::from_bits(random.bits() & 0x800f_ffff_ffff_ffff | random.below(1030) << 52)));
+    for end in (-18..=18).map(|t| f64::from(t) * 10.0) {
+        let near = |off: i64| if end == 0.0 { off as f64 * 5e-324 } else { f64::from_bits((end.to_bits() as i64 + off) as u64) };
+        all.extend((-3..=3i64).filter(|off| !few || off.abs() < 2).map(near));
+    }
+    all.extend([-0.0, f64::NAN, f64::INFINITY, f64::NEG_INFINITY, 180.1, -180.1, 1e300]);
+    all
+}
+
+fn surround_right(layout: Layout, azimuth: f64) -> Right {
+    if layout.0 != 2 && layout.0 != 3 {
+        return Right::Refused(2, vec![0; 128]);
+    }
+    if !(-180.0..=180.0).contains(&azimuth) {
+        return Right::Refused(3, vec![0; 128]);
+    }
+    let raw = raw_gains(layout, azimuth);
+    let sum = sum_of_squares(&raw);
+    // What the promise says of every azimuth, at this one: the Rust's limit of 1e-10 is never near.
+    assert!(Exact::whole(3).over(100).at_most(&sum), "the sum of squares at {azimuth:e} is below 3/100");
+    let rust = rust::gains(Command::Surround(Rule::Corrected, layout.rust(), azimuth));
+    let gain = |(raw, rust): (Option<Exact>, f64)| match raw {
+        None => silent_as(Some(rust)),
+        Some(raw) => {
+            let squares = near_by_squares(square(raw), sum.clone(), SURROUND_BITS, Some(rust));
+            Box::new(move |g: f64| if g.is_sign_negative() { Err("below zero".to_string()) } else { squares(g) }) as Check
+        }
+    };
+    let mut checks: Vec<Check> = raw.into_iter().zip(rust).map(gain).collect();
+    checks.resize_with(16, silent);
+    Right::Gains(checks)
 }
 
 pub fn surround(random: &mut Random, count: usize, sink: &mut Sink) {
     let mut all = Vec::new();
-    let few = count < 1000;
-    let count = if few { count / 5 } else { count };
     for layout in [Layout(2, 0), Layout(3, 0)] {
-        let mut azimuths: Vec<f64> = (0..count).map(|_| (random.below(3601) as f64 - 1800.0) / 10.0).collect();
-        azimuths.extend((0..count).map(|_| (random.bits() >> 11) as f64 / (1u64 << 53) as f64 * 360.0 - 180.0));
-        azimuths.extend((0..count / 20).map(|_| f64::from_bits(random.bits() & 0x800f_ffff_ffff_ffff | random.below(1030) << 52)));
-        // Every place at which a speaker begins or ends, or the way round turns, and their neighbours.
-        for end in (-18..=18).map(|t| f64::from(t) * 10.0) {
-            let near = |off: i64| if end == 0.0 { off as f64 * 5e-324 } else { f64::from_bits((end.to_bits() as i64 + off) as u64) };
-            azimuths.extend((-3..=3i64).filter(|off| !few || off.abs() < 2).map(near));
-        }
-        azimuths.extend([-0.0, f64::NAN, f64::INFINITY, f64::NEG_INFINITY, 180.1, -180.1, 1e300]);
-        all.extend(azimuths.into_iter().map(|a| (layout, a)));
+        all.extend(azimuths(random, count).into_iter().map(|a| (layout, a)));
     }
     for layout in [Layout(0, 0), Layout(1, 0), Layout(4, 0), Layout(4, 1), Layout(4, 6), Layout(4, 8), Layout(4, 16), Layout(4, 17), Layout(4, u64::MAX)] {
         all.extend([0.0, 30.0, f64::NAN].map(|a| (layout, a)));
     }
-    let right = |layout: Layout, azimuth: f64| {
-        if layout.0 != 2 && layout.0 != 3 {
-            return Right::Refused(2, vec![0; 128]);
-        }
-        if !(-180.0..=180.0).contains(&azimuth) {
-            return Right::Refused(3, vec![0; 128]);
-        }
-        let raw = raw_gains(layout, azimuth);
-        let sum = raw.iter().flatten().fold(Exact::whole(0), |sum, g| sum + square(g.clone()));
-        // What the promise says of every azimuth, at this one: the Rust's limit of 1e-10 is never near.
-        assert!(Exact::whole(3).over(100).at_most(&sum), "the sum of squares at {azimuth:e} is below 3/100");
-        let rust = is_compared(layout, azimuth).then(|| rust::gains(Command::Surround(layout.rust(), azimuth)));
-        let gain = |(channel, raw): (usize, Option<Exact>)| match raw {
-            None => silent_as(rust.as_ref().map(|r| r[channel])),
-            Some(raw) => {
-                let squares = near_by_squares(square(raw), sum.clone(), SURROUND_BITS, rust.as_ref().map(|r| r[channel]));
-                Box::new(move |g: f64| if g.is_sign_negative() { Err("below zero".to_string()) } else { squares(g) }) as Check
-            }
-        };
-        let mut checks: Vec<Check> = raw.into_iter().enumerate().map(gain).collect();
-        checks.resize_with(16, silent);
-        Right::Gains(checks)
-    };
     send(
         sink,
         all.into_iter().map(|(layout, azimuth)| {
             let arguments = [layout.bytes(), azimuth.to_bits().to_be_bytes().to_vec()].concat();
-            case(SURROUND, arguments, move || right(layout, azimuth))
+            case(SURROUND, arguments, move || surround_right(layout, azimuth))
         }),
     );
 }
@@ -515,6 +519,84 @@ mod tests {
         }
         assert!(silent()(0.0).is_ok() && silent()(-0.0).is_err() && silent()(5e-324).is_err());
         assert!(silent_as(Some(1e-17))(0.0).is_ok() && silent_as(Some(1e-8))(0.0).is_err());
+    }
+
+    /// Surround gains that are known beforehand, by their bits: a layout, an azimuth, and the gains of its speakers.
+    const WORKED: [(u8, f64, &[u64]); 8] = [
+        (2, 0.0, &[0x3fe1_86f1_74f8_8472, 0x3fe1_86f1_74f8_8472, 0x3fe4_3d13_6248_490e, 0, 0, 0]),
+        (2, 30.0, &[0x3fe6_7570_6f09_02de, 0x3fd6_7570_6f09_02de, 0x3fe3_7329_0ff5_2ce7, 0, 0x3fbf_3309_8002_8168, 0]),
+        (2, 120.0, &[0, 0, 0, 0, 0x3ff0_0000_0000_0000, 0]),
+        (2, 180.0, &[0, 0, 0, 0, 0x3fe6_a09e_667f_3bcd, 0x3fe6_a09e_667f_3bcd]),
+        (2, -180.0, &[0, 0, 0, 0, 0x3fe6_a09e_667f_3bcd, 0x3fe6_a09e_667f_3bcd]),
+        (2, 119.99999999999999, &[0x3cc0_3f2f_f998_9906, 0, 0, 0, 0x3ff0_0000_0000_0000, 0]),
+        (3, 30.0, &[0x3fe5_5555_5555_5554, 0x3fd5_5555_5555_5554, 0x3fe2_79a7_4590_331d, 0, 0x3fd5_5555_5555_5554, 0, 0, 0]),
+        (3, 120.0, &[0, 0, 0, 0, 0x3fe6_a09e_667f_3bcc, 0, 0x3fe6_a09e_667f_3bcc, 0]),
+    ];
+
+    /// Why the judge finds gains of a layout's speakers wrong at an azimuth, if it does.
+    fn fault(layout: Layout, azimuth: f64, gains: &[f64]) -> Option<String> {
+        let mut all = gains.to_vec();
+        all.resize(16, 0.0);
+        judge(SURROUND, surround_right(layout, azimuth), &answer(SURROUND, all)).wrong
+    }
+
+    #[test]
+    fn worked_surround_gains_are_those_of_the_formula() {
+        let asked = azimuths(&mut Random::new(1, "surround gains"), 400);
+        for (layout, azimuth, bits) in WORKED {
+            let layout = Layout(layout, 0);
+            let worked: Vec<f64> = bits.iter().copied().map(f64::from_bits).collect();
+            let raw = raw_gains(layout, azimuth);
+            let sum = sum_of_squares(&raw);
+            assert_eq!(raw.len(), worked.len());
+            for (channel, (raw, gain)) in raw.into_iter().zip(&worked).enumerate() {
+                let check = raw.map_or_else(silent, |raw| near_by_squares(square(raw), sum.clone(), 50, None));
+                assert!(check(*gain).is_ok(), "{:?} at {azimuth}, gain {channel}", layout.rust());
+            }
+            assert_eq!(fault(layout, azimuth, &worked), None);
+            assert!(asked.contains(&azimuth), "{azimuth} is not asked for");
+        }
+    }
+
+    /// Before document 02, E3, a speaker was the fainter the nearer the voice was: what was right then is wrong now.
+    #[test]
+    fn gains_of_the_published_rule_are_wrong() {
+        let (five_one, seven_one) = (Layout(2, 0), Layout(3, 0));
+        let is_wrong = |layout: Layout, azimuth: f64, gains: &[f64], first: usize| {
+            let why = fault(layout, azimuth, gains).unwrap_or_default();
+            assert!(why.starts_with(&format!("gain {first} is ")), "{:?} at {azimuth}, {gains:?}: {why}", layout.rust());
+        };
+        for layout in [five_one, seven_one] {
+            let [published, corrected] = [Rule::Published, Rule::Corrected].map(|rule| rust::gains(Command::Surround(rule, layout.rust(), 30.0)));
+            is_wrong(layout, 30.0, &published, 0);
+            assert_eq!(fault(layout, 30.0, &corrected), None);
+        }
+        let [half, third] = [2.0, 3.0].map(|n: f64| (1.0 / n).sqrt());
+        is_wrong(five_one, 0.0, &[half, half, 0.0], 0);
+        is_wrong(five_one, 0.0, &[third, third, third], 0);
+        // With the right gains of L and R, C alone is wrong.
+        let side = f64::from_bits(WORKED[0].2[0]);
+        is_wrong(five_one, 0.0, &[side, side, 0.0], 2);
+        is_wrong(five_one, 0.0, &[side, side, third], 2);
+    }
+
+    /// Within what panner.rs takes for the work of rounded radians. Next to 90 from a speaker too: where the Rust takes it for
+    /// the other side, its gain is tiny.
+    #[test]
+    fn the_corrected_rust_is_near_the_formula_at_every_azimuth() {
+        let asked = azimuths(&mut Random::new(1, "surround gains"), 1000);
+        for layout in [Layout(2, 0), Layout(3, 0)] {
+            for azimuth in asked.iter().copied().filter(|a| (-180.0..=180.0).contains(a)) {
+                let raw = raw_gains(layout, azimuth);
+                let sum = sum_of_squares(&raw);
+                let rust = rust::gains(Command::Surround(Rule::Corrected, layout.rust(), azimuth));
+                for (channel, (raw, gain)) in raw.into_iter().zip(rust).enumerate() {
+                    let over = square(raw.unwrap_or(Exact::whole(0)));
+                    let near = near_by_squares(over, sum.clone(), 48, None)(gain);
+                    assert!(near.is_ok(), "{:?} at {azimuth:e}, gain {channel} is {gain:e}", layout.rust());
+                }
+            }
+        }
     }
 
     #[test]

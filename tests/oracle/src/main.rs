@@ -3,7 +3,7 @@
 //!
 //!     oracle requests N SEED > requests     N requests of each kind, the same for the same SEED
 //!     oracle judge N SEED < answers         says which answers to them are wrong, and counts
-//!     oracle differences                    says what the Rust does where document 01 asks for something else
+//!     oracle differences                    says what the Rust does where documents 01 and 02 ask for something else
 mod angles;
 mod bank;
 mod binaural;

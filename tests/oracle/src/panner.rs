@@ -1,18 +1,25 @@
 //! Panner blocks. A plane's gain is read off its first sample, since the first input sample is 1.0: it is held to document
-//! 01's formula, narrowed, and every other sample to the f32 product with it. At commands that are exact in f32, but for
-//! surround azimuths next to 90 from a speaker, the Rust's own block at S = f32 is compared too, plane by plane. Planes
-//! whose gain it narrows to another f32 are counted, and each has to have a listed cause: nothing but its gain differs, and
-//! that by no more than the cause allows.
+//! 01's formula, narrowed, and every other sample to the f32 product with it. At commands that are exact in f32 the Rust's
+//! own block at S = f32 is compared too, plane by plane. Planes whose gain it narrows to another f32 are counted, and each
+//! has to have a listed cause: nothing but its gain differs, and that by no more than the cause allows.
 use crate::exact::{self, Exact};
 use crate::frame::{Answer, Case, Sink, Verdict, f32_bytes, judged, request, send};
-use crate::gains::{Layout, harmonics, is_compared, is_direction, raw_gains, square};
+use crate::gains::{Layout, harmonics, is_direction, raw_gains, square, sum_of_squares};
 use crate::random::Random;
-use crate::rust;
+use crate::rust::{self, Rule};
 
 const PAN: u8 = 14;
 
 /// Document 01, 'Gains', for a position, an azimuth, a direction.
 const BITS: [i32; 3] = [36, 30, 34];
+
+/// By how much a narrowed gain of the Rust's may be another: in stereo for its quarter turn in f32, elsewhere for rounded
+/// radians.
+const QUARTER_TURN_BITS: i32 = 23;
+const RADIANS_BITS: i32 = 50;
+
+/// How far rounded radians put a gain off before it is narrowed: the most that was seen is 2^-49.2.
+const UNNARROWED_BITS: i32 = 48;
 
 /// A command as a request says it.
 #[derive(Clone, Copy)]
@@ -28,6 +35,21 @@ struct Gain {
     under: Exact,
     negative: bool,
     silent: bool,
+}
+
+impl Gain {
+    /// Whether its magnitude is within a bound of that of a number; by squares.
+    fn is_within(&self, bound: f64, number: f64) -> bool {
+        let (bound, size) = (Exact::float(bound), Exact::float(number.abs()));
+        let low = if bound.at_most(&size) { size.clone() - bound.clone() } else { Exact::whole(0) };
+        (square(low) * self.under.clone()).at_most(&self.over) && self.over.at_most(&(square(size + bound) * self.under.clone()))
+    }
+
+    /// Whether rounded radians decide to which of two f32 it is narrowed: they are neighbours, and it is in their middle.
+    fn is_between(&self, one: f32, other: f32) -> bool {
+        let middle = (f64::from(one) + f64::from(other)) / 2.0;
+        (one.next_up() == other || other.next_up() == one) && self.is_within(2f64.powi(-UNNARROWED_BITS), middle)
+    }
 }
 
 fn gain(x: Exact) -> Gain {
@@ -99,19 +121,19 @@ impl Block {
             }
             Command::Surround(a) => {
                 let raw = raw_gains(self.layout, a);
-                let sum = raw.iter().flatten().fold(Exact::whole(0), |sum, g| sum + square(g.clone()));
+                let sum = sum_of_squares(&raw);
                 raw.into_iter().map(|g| Gain { silent: g.is_none(), negative: false, over: square(g.unwrap_or(Exact::whole(0))), under: sum.clone() }).collect()
             }
             Command::Direction(a, e, _) => harmonics(a, e).into_iter().take(self.plane_count()).map(gain).collect(),
         }
     }
 
-    /// What the Rust's own block gives, at a command that is exact in f32 and that document 01 has compared.
+    /// What the Rust's own block gives, at a command that is exact in f32.
     fn by_the_rust(&self) -> Option<Vec<Vec<f32>>> {
         let is_exact = |x: f64| f64::from(x as f32) == x;
         let command = match self.command {
             Command::Stereo(p) => is_exact(p).then_some(rust::Command::Stereo(p)),
-            Command::Surround(a) => (is_exact(a) && is_compared(self.layout, a)).then_some(rust::Command::Surround(self.layout.rust(), a)),
+            Command::Surround(a) => is_exact(a).then_some(rust::Command::Surround(Rule::Corrected, self.layout.rust(), a)),
             Command::Direction(a, e, order) => (is_exact(a) && is_exact(e)).then_some(rust::Command::Ambisonic(order as usize, a, e)),
         }?;
         let frames = self.frames as usize;
@@ -179,7 +201,7 @@ impl Block {
             }
             let Some(theirs) = rust.as_ref().map(|r| &r[p]) else { continue };
             if differs(&|n| theirs[n]) {
-                self.judge_difference(narrowed, theirs, theirs[one])
+                self.judge_difference(narrowed, &exact, theirs, theirs[one])
                     .map_err(|why| format!("plane {p}, gain {narrowed:e}, the Rust's {:e}, {why}", theirs[one]))?;
                 aside += 1;
             }
@@ -188,14 +210,15 @@ impl Block {
     }
 
     /// A plane of the Rust's that is not ours: it is the product with its own gain, and this gain is off by what its stereo
-    /// quarter turn in f32 makes, or by what rounded radians leave where the exact gain is 0.
-    fn judge_difference(&self, ours: f32, theirs: &[f32], gain: f32) -> Result<(), String> {
+    /// quarter turn in f32 makes, or by what rounded radians make. Those show in a gain that is tiny, where the f32 lie close,
+    /// and in one that is in the middle between two f32.
+    fn judge_difference(&self, ours: f32, exact: &Gain, theirs: &[f32], gain: f32) -> Result<(), String> {
         if theirs.iter().zip(&self.input).any(|(y, x)| f32_bytes(*y) != f32_bytes(x * gain)) {
             return Err("differs in more than its gain".to_string());
         }
         let off = (f64::from(ours) - f64::from(gain)).abs();
-        let allowed = if matches!(self.command, Command::Stereo(_)) { 2f64.powi(-23) } else { 2f64.powi(-50) };
-        if off <= allowed { Ok(()) } else { Err("for no listed cause".to_string()) }
+        let bits = if matches!(self.command, Command::Stereo(_)) { QUARTER_TURN_BITS } else { RADIANS_BITS };
+        if off <= 2f64.powi(-bits) || exact.is_between(ours, gain) { Ok(()) } else { Err("for no listed cause".to_string()) }
     }
 
     /// A narrowed gain: within the bound and half a step of the exact one.
@@ -211,11 +234,9 @@ impl Block {
         if !narrowed.is_finite() {
             return Err("no number".to_string());
         }
-        let size = Exact::float(f64::from(narrowed.abs()));
-        let bound = Exact::float(2f64.powi(-bits) + f64::from(narrowed.abs()) * 2f64.powi(-24) + 2f64.powi(-149));
-        let low = if bound.at_most(&size) { size.clone() - bound.clone() } else { Exact::whole(0) };
-        let near = (square(low) * exact.under.clone()).at_most(&exact.over) && exact.over.at_most(&(square(size + bound.clone()) * exact.under.clone()));
-        let has_sign = !exact.over.at_most(&(square(bound) * exact.under.clone()));
+        let bound = 2f64.powi(-bits) + f64::from(narrowed.abs()) * 2f64.powi(-24) + 2f64.powi(-149);
+        let near = exact.is_within(bound, f64::from(narrowed));
+        let has_sign = !exact.is_within(bound, 0.0);
         if near && (!has_sign || narrowed.is_sign_negative() == exact.negative) { Ok(()) } else { Err("off".to_string()) }
     }
 }
@@ -250,6 +271,23 @@ fn command(random: &mut Random, kind: u64) -> (Command, Layout) {
         1 => (Command::Surround(exact(part * 360.0 - 180.0)), Layout(2 + random.below(2) as u8, 0)),
         _ => (Command::Direction(exact(part * 360.0 - 180.0), exact(other * 180.0 - 90.0), 1 + random.below(3)), any),
     }
+}
+
+/// The azimuths that are 90 degrees from a speaker of a layout.
+fn ninety_from_a_speaker(layout: Layout) -> Vec<f64> {
+    let both = layout.speakers().into_iter().flat_map(|speaker| [speaker - 90.0, speaker + 90.0]);
+    let mut all: Vec<f64> = both.map(|a| if a.abs() > 180.0 { a - 360.0f64.copysign(a) } else { a }).collect();
+    all.sort_by(f64::total_cmp);
+    all.dedup();
+    all
+}
+
+/// An azimuth and its neighbours: first among the f32, then among the f64. For 0 the Rust at S = f32 takes all up to 2^-23,
+/// so that next to 0 the first two are farther.
+fn with_neighbours(azimuth: f64) -> [f64; 5] {
+    let narrowed = azimuth as f32;
+    let [below, above] = if azimuth == 0.0 { [-2f32.powi(-22), 2f32.powi(-22)] } else { [narrowed.next_down(), narrowed.next_up()] };
+    [azimuth, f64::from(below), f64::from(above), azimuth.next_down(), azimuth.next_up()]
 }
 
 fn refused(random: &mut Random) -> Vec<Case> {
@@ -314,6 +352,10 @@ pub fn cases(random: &mut Random, count: usize, sink: &mut Sink) {
         send(sink, [Layout(2, 0), Layout(3, 0)].map(|layout| fitting(random, Command::Surround(azimuth), layout, 2, 2).case()));
         sink(fitting(random, Command::Direction(azimuth, azimuth / 2.0, 3), Layout(0, 0), 2, 2).case());
     }
+    for layout in [Layout(2, 0), Layout(3, 0)] {
+        let azimuths = ninety_from_a_speaker(layout).into_iter().flat_map(with_neighbours);
+        send(sink, azimuths.map(|azimuth| fitting(random, Command::Surround(azimuth), layout, 2, 2).case()));
+    }
     for kind in 0..3 {
         for _ in 0..(if count < 1000 { count / 20 } else { count / 2 }) {
             let (command, layout) = command(random, kind);
@@ -328,15 +370,84 @@ pub fn cases(random: &mut Random, count: usize, sink: &mut Sink) {
 mod tests {
     use super::*;
 
+    /// The f32 nearest the magnitude of an exact gain.
+    fn nearest(exact: &Gain) -> f32 {
+        let is_at_most = |x: f64| (square(Exact::float(x)) * exact.under.clone()).at_most(&exact.over);
+        let (mut low, mut high) = (0, 2f32.to_bits());
+        while high - low > 1 {
+            let middle = (low + high) / 2;
+            if is_at_most(f64::from(f32::from_bits(middle))) { low = middle } else { high = middle }
+        }
+        let (low, high) = (f32::from_bits(low), f32::from_bits(high));
+        if is_at_most((f64::from(low) + f64::from(high)) / 2.0) { high } else { low }
+    }
+
+    fn at(layout: Layout, azimuth: f64) -> Block {
+        fitting(&mut Random::new(7, "azimuths"), Command::Surround(azimuth), layout, 2, 2)
+    }
+
+    /// The gains of a block's formula, narrowed.
+    fn narrowed(block: &Block) -> Vec<f32> {
+        block.gains().iter().map(|exact| if exact.silent { 0.0 } else { nearest(exact) }).collect()
+    }
+
+    /// What the judge says of planes that are the products with these gains.
+    fn verdict(block: &Block, gains: &[f32]) -> Result<usize, String> {
+        let plane = |gain: &f32| -> Vec<Shown> { block.input.iter().map(|x| Some(f32_bytes(x * gain))).collect() };
+        let planes: Vec<Vec<Shown>> = gains.iter().map(plane).collect();
+        block.judge_planes(planes.iter().map(Vec::as_slice))
+    }
+
     #[test]
-    fn ninety_from_a_speaker_is_left_to_the_formula() {
-        let is_left =
-            |layout: u8, azimuth: f64| fitting(&mut Random::new(7, "azimuths"), Command::Surround(azimuth), Layout(layout, 0), 1, 1).by_the_rust().is_none();
+    fn ninety_from_a_speaker_is_compared_with_the_rust() {
         let from_51 = [-160.0, -120.0, -90.0, -60.0, -20.0, 20.0, 60.0, 90.0, 120.0, 160.0];
         let from_71 = [-180.0, -120.0, -90.0, -60.0, 0.0, 60.0, 90.0, 120.0, 180.0];
-        for azimuth in (-180..=180).map(f64::from) {
-            assert_eq!(is_left(2, azimuth), from_51.contains(&azimuth), "5.1 at {azimuth}");
-            assert_eq!(is_left(3, azimuth), from_71.contains(&azimuth), "7.1 at {azimuth}");
+        for (layout, right) in [(Layout(2, 0), &from_51[..]), (Layout(3, 0), &from_71)] {
+            assert_eq!(ninety_from_a_speaker(layout), right);
+            for block in right.iter().flat_map(|a| with_neighbours(*a)).map(|a| at(layout, a)).filter(|block| block.refusal() == 0) {
+                let Command::Surround(azimuth) = block.command else { unreachable!() };
+                let is_exact = f64::from(azimuth as f32) == azimuth;
+                assert_eq!(block.by_the_rust().is_some(), is_exact, "{:?} at {azimuth:e}", layout.rust());
+                assert_eq!(verdict(&block, &narrowed(&block)).err(), None, "{:?} at {azimuth:e}", layout.rust());
+            }
         }
+    }
+
+    /// Next to 90 from L two steps of its gain are far below document 01's bound: it is the Rust that tells.
+    #[test]
+    fn a_tiny_gain_is_held_to_the_rust() {
+        let [_, below, above, ..] = with_neighbours(120.0);
+        let (sounding, silent) = (at(Layout(2, 0), below), at(Layout(2, 0), above));
+        let mut gains = narrowed(&sounding);
+        assert!((1e-7..2e-7).contains(&gains[0]));
+        gains[0] = gains[0].next_up().next_up();
+        assert!(verdict(&sounding, &gains).unwrap_err().ends_with("for no listed cause"));
+        let mut gains = narrowed(&silent);
+        gains[0] = 1e-17;
+        assert!(verdict(&silent, &gains).unwrap_err().ends_with("not silent"));
+    }
+
+    #[test]
+    fn blocks_of_the_published_rule_are_wrong() {
+        for layout in [Layout(2, 0), Layout(3, 0)] {
+            let gains = |rule: Rule| -> Vec<f32> { rust::gains(rust::Command::Surround(rule, layout.rust(), 30.0)).iter().map(|g| *g as f32).collect() };
+            assert!(verdict(&at(layout, 30.0), &gains(Rule::Published)).unwrap_err().ends_with("off"));
+            assert_eq!(verdict(&at(layout, 30.0), &gains(Rule::Corrected)), Ok(0));
+        }
+    }
+
+    #[test]
+    fn rounded_radians_decide_in_the_middle_between_two_f32() {
+        let one = 1e-3f32;
+        let [below, above] = [one.next_down(), one.next_up()];
+        let middle = (f64::from(one) + f64::from(above)) / 2.0;
+        for (off, is_between) in [(0.0, true), (2f64.powi(-49), true), (2f64.powi(-48) * 1.01, false)] {
+            for exact in [middle + off, middle - off] {
+                let exact = gain(Exact::float(exact));
+                assert_eq!([exact.is_between(one, above), exact.is_between(above, one)], [is_between; 2], "{off:e}");
+                assert!(!exact.is_between(below, one) && !exact.is_between(one, one));
+            }
+        }
+        assert!(!gain(Exact::float(f64::from(one))).is_between(below, above));
     }
 }

@@ -5,7 +5,7 @@ use bbx_dsp::blocks::effectors::binaural_decoder::hrir_data::HRIR_LENGTH;
 use bbx_dsp::blocks::effectors::binaural_decoder::hrtf::HrtfConvolver;
 use bbx_dsp::blocks::effectors::binaural_decoder::matrix::compute_matrix;
 use bbx_dsp::blocks::effectors::binaural_decoder::virtual_speaker::VirtualSpeaker;
-use bbx_dsp::blocks::effectors::panner::PannerBlock;
+use bbx_dsp::blocks::effectors::{panner, panner_corrected};
 use bbx_dsp::channel::ChannelLayout;
 use bbx_dsp::context::DspContext;
 use bbx_dsp::parameter::{ModulationValues, Parameter};
@@ -13,11 +13,18 @@ use bbx_dsp::sample::Sample;
 
 const CHANNELS: usize = 16;
 
+/// Which raw gain a surround speaker has: that of panner.rs, or cos d, as document 02, E3, has it (panner_corrected.rs).
+#[derive(Clone, Copy, Debug)]
+pub enum Rule {
+    Published,
+    Corrected,
+}
+
 /// A panner command of the Rust's.
 #[derive(Clone, Copy, Debug)]
 pub enum Command {
     Stereo(f64),
-    Surround(ChannelLayout, f64),
+    Surround(Rule, ChannelLayout, f64),
     Ambisonic(usize, f64, f64),
 }
 
@@ -37,25 +44,27 @@ pub fn pan<S: Sample>(command: Command, input: &[S], before: Vec<Vec<S>>) -> Vec
 
 /// The same with any number of input planes, as the block takes them.
 pub fn pan_planes<S: Sample>(command: Command, inputs: &[Vec<S>], before: Vec<Vec<S>>) -> Vec<Vec<S>> {
-    let mut panner = match command {
-        Command::Stereo(position) => PannerBlock::new_stereo(position),
-        Command::Surround(layout, _) => PannerBlock::new_surround(layout),
-        Command::Ambisonic(order, _, _) => PannerBlock::new_ambisonic(order),
+    let mut block: Box<dyn Block<S>> = match command {
+        Command::Stereo(position) => Box::new(panner::PannerBlock::new_stereo(position)),
+        Command::Surround(Rule::Published, layout, _) => Box::new(panner::PannerBlock::new_surround(layout)),
+        Command::Surround(Rule::Corrected, layout, _) => Box::new(panner_corrected::PannerBlock::new_surround(layout)),
+        Command::Ambisonic(order, _, _) => Box::new(panner::PannerBlock::new_ambisonic(order)),
     };
-    if let Command::Surround(_, azimuth) | Command::Ambisonic(_, azimuth, _) = command {
-        panner.azimuth = Parameter::constant(S::from_f64(azimuth));
+    let mut set = |name: &str, angle: f64| *block.parameter_mut(name).unwrap() = Parameter::constant(S::from_f64(angle));
+    if let Command::Surround(_, _, azimuth) | Command::Ambisonic(_, azimuth, _) = command {
+        set("azimuth", azimuth);
     }
     if let Command::Ambisonic(_, _, elevation) = command {
-        panner.elevation = Parameter::constant(S::from_f64(elevation));
+        set("elevation", elevation);
     }
-    run(&mut panner, inputs, before)
+    run(&mut *block, inputs, before)
 }
 
 /// The gains of a command: what one sample of 1.0 becomes at S = f64, where a product with 1.0 is exact.
 pub fn gains(command: Command) -> Vec<f64> {
     let outputs = match command {
         Command::Stereo(_) => 2,
-        Command::Surround(layout, _) => layout.channel_count(),
+        Command::Surround(_, layout, _) => layout.channel_count(),
         Command::Ambisonic(order, _, _) => ChannelLayout::from_ambisonic_order(order).map_or(4, |l| l.channel_count()),
     };
     pan(command, &[1.0f64], vec![vec![0.0]; outputs]).concat()
@@ -198,6 +207,35 @@ impl Drop for Convolver {
         for filter in self.filters.drain(..) {
             // SAFETY: made by `Box::into_raw` above, freed once, and read by nothing after this.
             drop(unsafe { Box::from_raw(filter) });
+        }
+    }
+}
+
+#[cfg(test)]
+mod tests {
+    use super::*;
+
+    const AS_PUBLISHED: &str = include_str!("../bbx_dsp/src/blocks/effectors/panner.rs");
+    const AS_CORRECTED: &str = include_str!("../bbx_dsp/src/blocks/effectors/panner_corrected.rs");
+
+    #[test]
+    fn the_corrected_panner_differs_in_one_line() {
+        let (published, corrected) = (AS_PUBLISHED.split('\n'), AS_CORRECTED.split('\n'));
+        assert_eq!(published.clone().count(), corrected.clone().count());
+        let differing: Vec<_> = published.zip(corrected).filter(|(was, is)| was != is).collect();
+        let was = "                *gain = math::cos((spread - angle_diff) / spread * core::f64::consts::FRAC_PI_2);";
+        assert_eq!(differing, [(was, "                *gain = math::cos(angle_diff);")]);
+    }
+
+    /// A voice at a speaker: by the published rule that speaker is silent, by the corrected one it is the loudest.
+    #[test]
+    fn the_two_rules_are_told_apart() {
+        for layout in [ChannelLayout::Surround51, ChannelLayout::Surround71] {
+            for (channel, azimuth) in [30.0, -30.0, 0.0].into_iter().enumerate() {
+                assert!(gains(Command::Surround(Rule::Published, layout, azimuth))[channel] < 1e-15, "{layout:?} at {azimuth}");
+                let corrected = gains(Command::Surround(Rule::Corrected, layout, azimuth));
+                assert!(corrected.iter().enumerate().all(|(i, gain)| i == channel || *gain < corrected[channel]), "{layout:?} at {azimuth}");
+            }
         }
     }
 }
