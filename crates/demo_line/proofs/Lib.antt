@@ -1,0 +1,2 @@
+-- A line that is put together sample by sample.
+mod Line

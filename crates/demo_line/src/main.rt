@@ -1,0 +1,128 @@
+// Places a voice on a 5.1 line by the delivered panner, for a demonstration (document 01, item 4; document 02,
+// E3).
+//
+// It reads records on standard input and writes 5.1 frames on standard output. All numbers are big-endian. A
+// record has 136 bytes: an azimuth in degrees, an f64, then 32 samples of the voice, f32. For each record it
+// writes 32 frames of six f32 (L, R, C, LFE, Ls, Rs), 768 bytes: what `panner::process` plays. It ends at the
+// end of the input. A part record there, or an azimuth that is refused, ends it with a line on standard error,
+// and nothing more is written. The language gives a program no exit status to tell it by.
+//
+// What it makes of bytes, and of planes, is promised by equations. Of what is read and written no contract can
+// say anything, so the rest is proved safe and ending, and what the program writes is compared.
+use channel::Layout;
+use libc::STDERR_FILENO;
+use libc::STDIN_FILENO;
+use libc::STDOUT_FILENO;
+use panner::Command;
+ghost use mathlib.Core.Path.{_≡_};
+ghost use Prim.Native.Nat.{_/_, _%_};
+ghost use Rattle.lists.specs.Tables.{tab};
+ghost use Rattle.big_endian.specs.Lists.{floatsAt, floatBytes};
+ghost use Rattle.planes.specs.Planes.{sampleAt};
+
+// How many samples of the voice a record has, the channels that they are played to, and the samples of those.
+const FRAMES: usize = 32;
+
+const CHANNELS: usize = 6;
+
+const SAMPLES: usize = CHANNELS * FRAMES;
+
+// The bytes of an azimuth, of a sample, of a record, and of the frames that it is played to.
+const AZIMUTH: usize = 8;
+
+const SAMPLE: usize = 4;
+
+const RECORD: usize = AZIMUTH + SAMPLE * FRAMES;
+
+const LINE: usize = SAMPLE * SAMPLES;
+
+// A proved loop has to end, and nothing says that the input does. So many records are eleven minutes of
+// voice at 48,000 samples a second, more than a demonstration has.
+const MOST_RECORDS: usize = 1048576;
+
+fn say(text: &[u8]) {
+    io::write_all(STDERR_FILENO, text);
+}
+
+fn say_number(before: &[u8], number: u64, after: &[u8]) {
+    say(before);
+    io::print_decimal(STDERR_FILENO, number);
+    say(after);
+}
+
+// The samples of the voice stand behind the azimuth.
+fn voice_of(bytes: &[u8]) -> [f32; FRAMES]
+    ensures { λ r. ⌜ r ≡ floatsAt (now (bytes .entry)) 8 32 ⌝ }
+{
+    let mut voice = [0.0f32; FRAMES];
+    let mut n = 0;
+    while n < FRAMES {
+        voice[n] = big_endian::get_f32(bytes, AZIMUTH + n * SAMPLE);
+        n += 1;
+    }
+    voice
+}
+
+// The planes stand plane after plane, and the line goes out frame after frame.
+fn line_of(planes: &[f32]) -> [u8; LINE]
+    ensures { λ r. ⌜ r ≡ floatBytes (tab 0 192 (λ i. sampleAt (now (planes .entry)) 32 (i % 6) (i / 6))) ⌝ }
+{
+    let mut line = [0u8; LINE];
+    let mut i = 0;
+    while i < SAMPLES {
+        let x = planes::sample(planes, FRAMES, i % CHANNELS, i / CHANNELS);
+        big_endian::put_f32(&mut line, i * SAMPLE, x);
+        i += 1;
+    }
+    line
+}
+
+// Plays a whole record; whether to go on.
+fn play(record: &[u8]) -> bool {
+    let azimuth = big_endian::get_f64(record, 0);
+    let voice = voice_of(record);
+    let mut planes = [0.0f32; SAMPLES];
+    let panned = panner::process(
+        Command::Surround(azimuth),
+        Layout::Surround51,
+        FRAMES,
+        FRAMES,
+        &voice,
+        &mut planes,
+    );
+    if panned.refusal != 0 {
+        say_number(b"demo_line: refused ", panned.refusal as u64, b"\n");
+        return false;
+    }
+    let line = line_of(&planes);
+    if !io::write_all(STDOUT_FILENO, &line) {
+        say(b"demo_line: standard output cannot be written\n");
+        return false;
+    }
+    true
+}
+
+// Reads record n, counted from 0, and plays it; whether to go on.
+fn one(n: usize) -> bool {
+    let mut record = [0u8; RECORD];
+    let got = io::read_full(STDIN_FILENO, &mut record);
+    if got == 0 {
+        return false;
+    }
+    if n == MOST_RECORDS {
+        say_number(b"demo_line: more than ", MOST_RECORDS as u64, b" records\n");
+        return false;
+    }
+    if got < RECORD {
+        say(b"demo_line: a part record at the end\n");
+        return false;
+    }
+    play(&record)
+}
+
+fn main() {
+    let mut n = 0;
+    while n <= MOST_RECORDS && one(n) {
+        n += 1;
+    }
+}
