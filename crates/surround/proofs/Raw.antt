@@ -1,4 +1,4 @@
--- The raw gain of a speaker is within 2 ^ -47 of document 01's, and not below 0: the place that the program turns the speaker to is exact, and so is its test of nearness; the way to it is rounded once,
+-- The raw gain of a speaker is within 2 ^ -47 of document 02's, and not below 0: the place that the program turns the speaker to is exact, and so is its test of nearness; the way to it is rounded once,
 -- and the slope of the cosine carries that over. Assumes nothing.
 use mathlib.Core.Path.{_≡_, refl, sym, _∙_, subst}
 use mathlib.Core.Bool.{Bool, true, false, cond}

@@ -7,7 +7,7 @@ use native.Mathlib.Omega.{arith}
 use lib.Dec.{le→leb, lit<}
 use lib.IntN.{pos, negsuc}
 use lib.Ieee.{Float, nan, fin, binary64, lt, le, eq, neg, ofInt, ofBits}
-use Rattle.formats.specs.Floats.{zero-float, float}
+use Rattle.formats.specs.Floats.{zero-float, one-float, float}
 use Rattle.series.specs.Sums.{cosineSum, term, power, factorial}
 use Rattle.series.specs.Angles.{turned, around, reduced, radians, isMultiple, quarters, defined}
 use Rattle.angles.specs.Limits.{isInside, refusesAngle}
@@ -45,6 +45,11 @@ left-dead g p = le→leb _ _ (p .gains refl .near 0 (lit< tt) .above)
 equal-thirds : (l r : Float) (g : List Float) → Pans Surround51 (float (pos 0)) (record { refusal = 0; gains = l ∷ r ∷ ofBits binary64 0x3FE279A74590331C ∷ g }) → ⊥
 unfolding ofBits refusesAngle isInside lt le eq neg ofInt rawAt rawGain distance defined isMultiple quarters turned reduced around radians cosineSum term power factorial
 equal-thirds l r g p = le→leb _ _ (p .gains refl .near 2 (lit< tt) .above)
+
+-- the speaker pointed at sounds alone: L and R are less than 90 degrees away, and sound too
+centre-alone : (l r : Float) (g : List Float) → Pans Surround51 (float (pos 0)) (record { refusal = 0; gains = l ∷ r ∷ one-float ∷ g }) → ⊥
+unfolding refusesAngle isInside lt le eq neg ofInt rawAt rawGain distance defined isMultiple quarters turned reduced around radians cosineSum term power factorial
+centre-alone l r g p = le→leb _ _ (p .gains refl .near 2 (lit< tt) .below)
 
 -- it plays a layout of seventeen channels
 custom-played : (g : List Float) → Pans (Custom 17) (float (pos 0)) (record { refusal = 0; gains = g }) → ⊥

@@ -6,7 +6,7 @@
 // others and the LFE are exactly 0.0.
 //
 // It takes any input; its promise (specs/Promise.antt) fixes the answer bit for bit, and says that every gain
-// is within 2^-30, by squares, of document 01's formula, and that the sum of squares is 3/100 at least.
+// is within 2^-30, by squares, of the documents' formula, and that the sum of squares is 3/100 at least.
 // Whether d is less than 90 is decided by comparing the azimuth with whole numbers: nothing is rounded there.
 // What is lost elsewhere:
 //

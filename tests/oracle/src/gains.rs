@@ -469,6 +469,7 @@ pub fn decoder_matrix(random: &mut Random, count: usize, sink: &mut Sink) {
 mod tests {
     use super::*;
     use crate::frame::Answer;
+    use crate::panner::UNNARROWED_BITS;
 
     fn answer(operation: u8, values: Vec<f64>) -> Answer {
         Answer { operation, bytes: [vec![0], values.iter().flat_map(|v| v.to_bits().to_be_bytes()).collect()].concat() }
@@ -592,7 +593,7 @@ mod tests {
                 let rust = rust::gains(Command::Surround(Rule::Corrected, layout.rust(), azimuth));
                 for (channel, (raw, gain)) in raw.into_iter().zip(rust).enumerate() {
                     let over = square(raw.unwrap_or(Exact::whole(0)));
-                    let near = near_by_squares(over, sum.clone(), 48, None)(gain);
+                    let near = near_by_squares(over, sum.clone(), UNNARROWED_BITS as usize, None)(gain);
                     assert!(near.is_ok(), "{:?} at {azimuth:e}, gain {channel} is {gain:e}", layout.rust());
                 }
             }

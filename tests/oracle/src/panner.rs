@@ -18,8 +18,9 @@ const BITS: [i32; 3] = [36, 30, 34];
 const QUARTER_TURN_BITS: i32 = 23;
 const RADIANS_BITS: i32 = 50;
 
-/// How far rounded radians put a gain off before it is narrowed: the most that was seen is 2^-49.2.
-const UNNARROWED_BITS: i32 = 48;
+/// How far rounded radians put a gain off before it is narrowed: the most that was seen is 2^-49.2. Below 2^-23, where two
+/// neighbouring f32 are no farther apart than that, it allows either.
+pub const UNNARROWED_BITS: i32 = 48;
 
 /// A command as a request says it.
 #[derive(Clone, Copy)]
