@@ -13,7 +13,7 @@ demo = runpy.run_path(os.path.join(top, "demo", "make"))
 SPEAKERS = [300, -300, 0, 0, 1100, -1100]
 LFE = 3
 BEARINGS = range(-165, 181, 15)
-# Frames at a bearing: the filters' memory of the bearing before, 48 frames, and a whole period of the hum, 100.
+# Frames at a bearing: the filters' memory of the bearing before, 48 frames, and a whole period of the hum, 100; in whole records of 32.
 AT_A_BEARING = 160
 
 

@@ -21,7 +21,7 @@ use Rattle.stereo.specs.Angle.{angle}
 use Rattle.stereo.specs.Promise as Stereo
 use Rattle.surround.specs.Formula.{rawAt, sumAt, isSilent}
 use Rattle.surround.specs.Promise as Surround
-use Rattle.surround.specs.Drill.{gains51, beside, pointedAt}
+use Rattle.surround.specs.Drill.{gains51, sidesAt0, centreAt0}
 use Rattle.history.specs.History.{heard, unsettledEach, unsettledIn}
 use Rattle.history.specs.Drill.{drill, samples}
 use Rattle.row_choice.specs.declared.Choice.{Choice}
@@ -53,7 +53,7 @@ pub record DrillTable : Type 0 where
   pub item-5-equal : rawAt Surround51 (whole 0) 0 ≡ rawAt Surround51 (whole 0) 1
   pub item-5-loudest : Less (square (rawAt Surround51 (whole 0) 0)) (square (rawAt Surround51 (whole 0) 2))
   pub item-5-at-120-given : Surround.outcome Surround51 (float (pos 120)) ≡ record { refusal = 0; gains = gains51 zero-float zero-float zero-float one-float }
-  pub item-5-at-0-given : Surround.outcome Surround51 (float (pos 0)) ≡ record { refusal = 0; gains = gains51 beside beside pointedAt zero-float }
+  pub item-5-at-0-given : Surround.outcome Surround51 (float (pos 0)) ≡ record { refusal = 0; gains = gains51 sidesAt0 sidesAt0 centreAt0 zero-float }
   -- 6. Root of 4 is 2; 2 gives bits 3FF6A09E667F3BCD.
   pub item-6-four : (r : Rooted) → Root (float (pos 4)) r → r ≡ record { refusal = 0; value = float (pos 2) }
   pub item-6-two : (r : Rooted) → Root (float (pos 2)) r → (r .refusal ≡ 0) × (toBits binary64 (r .value) ≡ 0x3FF6A09E667F3BCD)

@@ -16,7 +16,7 @@ use Rattle.matrix.specs.Rows.{left, right, rows, hundredths, literals}
 abbrev rootOfHalf : Float
 rootOfHalf = fin false 1592262918131443 (negsuc 50)
 
--- 1.0/root(2.0), a unit of the last place below the root of a half
+-- 1.0/root(2.0)
 inverse-root-two : inverseRoot 2 ≡ rootOfHalf
 unfolding inverseRoot rootOf wholeRoot size units div round ofInt
 inverse-root-two = refl

@@ -18,9 +18,9 @@ use Rattle.angles.specs.Limits.{isInside, refusesAngle}
 use Rattle.lists.specs.Tables.{tab}
 use Rattle.channel.specs.declared.Layout.the-variants.{Stereo, Surround51, Surround71, Custom}
 use Rattle.harmonics.specs.Promise.{silence}
-use Rattle.surround.specs.Drill.{gains51, beside, pointedAt}
+use Rattle.surround.specs.Drill.{gains51, sidesAt0, centreAt0}
 use Rattle.surround.specs.Formula.{distance, rawGain, rawAt, sumAt, isSilent}
-use Rattle.surround.specs.Computed.{absolute, notBelow, placeOf, isNear, angleOf, rawOf, channelGain, rawGains, sumOf, dividedBy}
+use Rattle.surround.specs.Computed.{absolute, notBelow, placeOf, isNear, wayOf, rawOf, channelGain, rawGains, sumOf, dividedBy}
 use Rattle.surround.specs.Promise.{gainsOf, outcome}
 
 -- ---- at 120 only Ls sounds: the others are silent by the rule, and the square of Ls is all of the sum
@@ -51,11 +51,11 @@ centre-loudest = lit< tt
 
 -- ---- the program's gains, bit for bit
 pub at-120 : outcome Surround51 (float (pos 120)) ≡ record { refusal = 0; gains = gains51 zero-float zero-float zero-float one-float }
-unfolding refusesAngle isInside gainsOf dividedBy sumOf rawGains channelGain rawOf isNear placeOf angleOf absolute notBelow lt le eq add sub mul div neg round ofInt computed place cut Angles.units turned cosineAt short times radians nesting nest rounded rootOf wholeRoot size units
+unfolding refusesAngle isInside gainsOf dividedBy sumOf rawGains channelGain rawOf isNear placeOf wayOf absolute notBelow lt le eq add sub mul div neg round ofInt computed place cut Angles.units turned cosineAt short times radians nesting nest rounded rootOf wholeRoot size units
 at-120 = refl
 
-pub at-0 : outcome Surround51 (float (pos 0)) ≡ record { refusal = 0; gains = gains51 beside beside pointedAt zero-float }
-unfolding ofBits refusesAngle isInside gainsOf dividedBy sumOf rawGains channelGain rawOf isNear placeOf angleOf absolute notBelow lt le eq add sub mul div neg round ofInt computed place cut Angles.units turned cosineAt short times radians nesting nest rounded rootOf wholeRoot size units
+pub at-0 : outcome Surround51 (float (pos 0)) ≡ record { refusal = 0; gains = gains51 sidesAt0 sidesAt0 centreAt0 zero-float }
+unfolding ofBits refusesAngle isInside gainsOf dividedBy sumOf rawGains channelGain rawOf isNear placeOf wayOf absolute notBelow lt le eq add sub mul div neg round ofInt computed place cut Angles.units turned cosineAt short times radians nesting nest rounded rootOf wholeRoot size units
 at-0 = refl
 
 -- ---- what is refused

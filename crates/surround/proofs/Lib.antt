@@ -9,5 +9,5 @@ mod Answers
 mod Unique
 pub mod Drill
 mod Worked
-pub mod PointedAt
+mod PointedAt
 mod Refuted

@@ -32,7 +32,7 @@ use Rattle.angles.proofs.Laws.{outcome-kept, accepted, value-near}
 use Rattle.channel.specs.Layouts.{lowFrequency, degreesOf, azimuthOf}
 use Rattle.channel.specs.declared.Layout.{Layout}
 use Rattle.surround.specs.Formula.{degrees, speakerAt, distance, rawGain, rawAt}
-use Rattle.surround.specs.Computed.{absolute, notBelow, placeOf, isNear, angleOf, rawOf, channelGain}
+use Rattle.surround.specs.Computed.{absolute, notBelow, placeOf, isNear, wayOf, rawOf, channelGain}
 use Rattle.surround.proofs.Speakers.{Exactly, Sides, Stands, speaker-stands}
 use Rattle.surround.proofs.Ways.{turnedTo, isBetween, Way, the-way}
 
@@ -135,7 +135,7 @@ module _ (a s : Float) (p m : ℕ) (A : 0 < number a .over) (H : AtMost (magnitu
     x = sub binary64 a t
 
     abbrev v : Float
-    v = Angles.outcome cosine (angleOf a t) .value
+    v = Angles.outcome cosine (wayOf a t) .value
 
     between : Same (number a ⊖ number t) (number a ⊖ T)
     between = same-sub (number a) (number a) (number t) T (same-refl (number a)) (there .is .same)
@@ -154,8 +154,8 @@ module _ (a s : Float) (p m : ℕ) (A : 0 < number a .over) (H : AtMost (magnitu
         let c : Close scale (number x) (number a ⊖ number t) wayError = result-close binary64 tt (mul-pos A (there .is .first)) difference-size (sub-result binary64 a t A (there .is .first)) in
         close-same (number x) (number a ⊖ T) (c .first) between-pos (same-refl (number x)) between c
 
-    way-close : Close scale (number (angleOf a t)) d wayError
-    unfolding angleOf
+    way-close : Close scale (number (wayOf a t)) d wayError
+    unfolding wayOf
     way-close =
         let X = difference-close .first in
         close-same (number (absolute x)) d (absolute-over x X) (way .over) (absolute-same x X) (same-sym d (magnitude (number a ⊖ T)) (way .same)) (close-magnitude difference-close)
@@ -166,14 +166,14 @@ module _ (a s : Float) (p m : ℕ) (A : 0 < number a .over) (H : AtMost (magnitu
         inner : (d : Fraction) → AtMost (whole 0) d → Less d (whole 90) → AtMost (magnitude d) (whole 90)
         inner d h k = omega arith
 
-    way-accepted : Angles.refusalOf (angleOf a t) ≡ 0
-    way-accepted = accepted (angleOf a t) (way-close .first) (size-at-most (size-unit (lit< tt) (lit≤ tt) (size-near way-close way-size)))
+    way-accepted : Angles.refusalOf (wayOf a t) ≡ 0
+    way-accepted = accepted (wayOf a t) (way-close .first) (size-at-most (size-unit (lit< tt) (lit≤ tt) (size-near way-close way-size)))
 
     known-cosine : Approximates rawBits definedMost v (definedCosine d)
     known-cosine = record {
       near =
           counted-within {W = 2 ^ 54 * scale} (lit< tt) (lit≤ tt)
-          (close-trans (within-counted (2 ^ 4 * scale) (lit≤ tt) (value-near cosine (angleOf a t) (Angles.outcome cosine (angleOf a t)) (outcome-kept cosine (angleOf a t)) way-accepted)) (defined-close cosine (lit< tt) way-close));
+          (close-trans (within-counted (2 ^ 4 * scale) (lit≤ tt) (value-near cosine (wayOf a t) (Angles.outcome cosine (wayOf a t)) (outcome-kept cosine (wayOf a t)) way-accepted)) (defined-close cosine (lit< tt) way-close));
       size = defined-size cosine d (way .over);
     }
 
@@ -186,7 +186,7 @@ module _ (a s : Float) (p m : ℕ) (A : 0 < number a .over) (H : AtMost (magnitu
   raw-gain : Raw (rawOf a s) (rawGain (number a) q)
   unfolding rawOf rawGain
   raw-gain =
-      let v = Angles.outcome cosine (angleOf a t) .value in
+      let v = Angles.outcome cosine (wayOf a t) .value in
       subst (λ (b : Bool). Raw (cond b (notBelow v) zero-float) (rawGain (number a) q)) (sym raw-test)
       (by-test (λ (b : Bool). Raw (cond b (notBelow v) zero-float) (cond b (definedCosine d) (whole 0))) (isLess d (whole 90)) (λ e. raised (less-true d (whole 90) e)) (λ e. zero-raw))
 

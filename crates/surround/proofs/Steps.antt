@@ -12,7 +12,7 @@ use Rattle.formats.specs.Floats.{zero-float}
 use Rattle.angles.specs.Promise.{Promise}
 use Rattle.channel.specs.Layouts.{lowFrequency, azimuthOf}
 use Rattle.channel.specs.declared.Layout.{Layout}
-use Rattle.surround.specs.Computed.{absolute, notBelow, placeOf, isNear, angleOf, rawOf, channelGain}
+use Rattle.surround.specs.Computed.{absolute, notBelow, placeOf, isNear, wayOf, rawOf, channelGain}
 
 -- t is the place, and b whether the azimuth is near it
 module _ (a s t : Float) (b : Bool) (e : t ≡ placeOf a s) (n : b ≡ isNear a t) where
@@ -25,8 +25,8 @@ module _ (a s t : Float) (b : Bool) (e : t ≡ placeOf a s) (n : b ≡ isNear a 
 
   -- x is the way to it, and g the cosine's answer
   module _ (x : Float) (g : Answer) (h : not b ≡ false) (w : x ≡ absolute (sub binary64 a t)) (p : Promise cosine x g) where
-    value-is : g .value ≡ Angles.outcome cosine (angleOf a (placeOf a s)) .value
-    unfolding angleOf
+    value-is : g .value ≡ Angles.outcome cosine (wayOf a (placeOf a s)) .value
+    unfolding wayOf
     value-is =
         ap (λ (r : Answer). r .value) (p .is)
         ∙ ap (λ (y : Float). Angles.outcome cosine y .value) (w ∙ ap (λ (z : Float). absolute (sub binary64 a z)) e)

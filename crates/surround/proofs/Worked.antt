@@ -18,7 +18,7 @@ use Rattle.channel.specs.Layouts.{channelsOf}
 use Rattle.channel.specs.declared.Layout.{Layout}
 use Rattle.channel.specs.declared.Layout.the-variants.{Surround51, Surround71}
 use Rattle.surround.specs.Formula.{distance, isSilent}
-use Rattle.surround.specs.Computed.{absolute, notBelow, placeOf, isNear, angleOf, rawOf, channelGain, rawGains, sumOf, dividedBy}
+use Rattle.surround.specs.Computed.{absolute, notBelow, placeOf, isNear, wayOf, rawOf, channelGain, rawGains, sumOf, dividedBy}
 use Rattle.surround.specs.Promise.{gainsOf, outcome}
 
 -- the gains of a layout's channels, each as its 64 bits
@@ -44,7 +44,7 @@ worked :
     ∷ (0x3FE5555555555554 ∷ 0x3FD5555555555554 ∷ 0x3FE279A74590331D ∷ 0 ∷ 0x3FD5555555555554 ∷ 0 ∷ 0 ∷ 0 ∷ [])
     ∷ (0 ∷ 0 ∷ 0 ∷ 0 ∷ 0x3FE6A09E667F3BCC ∷ 0 ∷ 0x3FE6A09E667F3BCC ∷ 0 ∷ [])
     ∷ []
-unfolding toBits ofBits refusesAngle isInside gainsOf dividedBy sumOf rawGains channelGain rawOf isNear placeOf angleOf absolute notBelow lt le eq add sub mul div neg round ofInt computed place cut Angles.units turned cosineAt short times radians nesting nest rounded rootOf wholeRoot size units
+unfolding toBits ofBits refusesAngle isInside gainsOf dividedBy sumOf rawGains channelGain rawOf isNear placeOf wayOf absolute notBelow lt le eq add sub mul div neg round ofInt computed place cut Angles.units turned cosineAt short times radians nesting nest rounded rootOf wholeRoot size units
 worked = refl
 
 -- less than 90 away, and 0.0 all the same: at the f64 next above -60, L is 90 degrees less 2 ^ -47 away, which rounds to 90. The rule does not call it silent, and no promise says that it sounds: its exact gain is
@@ -53,5 +53,5 @@ abbrev nextAboveMinus60 : Float
 nextAboveMinus60 = ofBits binary64 0xC04DFFFFFFFFFFFF
 
 rounded-to-90 : (getD (bits Surround51 nextAboveMinus60) 0 1 ≡ 0) × (isSilent Surround51 (number nextAboveMinus60) 0 ≡ false)
-unfolding isSilent distance toBits ofBits refusesAngle isInside gainsOf dividedBy sumOf rawGains channelGain rawOf isNear placeOf angleOf absolute notBelow lt le eq add sub mul div neg round ofInt computed place cut Angles.units turned cosineAt short times radians nesting nest rounded rootOf wholeRoot size units
+unfolding isSilent distance toBits ofBits refusesAngle isInside gainsOf dividedBy sumOf rawGains channelGain rawOf isNear placeOf wayOf absolute notBelow lt le eq add sub mul div neg round ofInt computed place cut Angles.units turned cosineAt short times radians nesting nest rounded rootOf wholeRoot size units
 rounded-to-90 = (refl, refl)

@@ -26,11 +26,11 @@ placeOf a s = cond (lt (add binary64 s (float (pos 180))) a) (add binary64 s (fl
 unfoldable pub isNear : Float → Float → Bool
 isNear a t = cond (lt (sub binary64 t (float (pos 90))) a) (lt a (add binary64 t (float (pos 90)))) false
 
-unfoldable pub angleOf : Float → Float → Float
-angleOf a t = absolute (sub binary64 a t)
+unfoldable pub wayOf : Float → Float → Float
+wayOf a t = absolute (sub binary64 a t)
 
 unfoldable pub rawOf : Float → Float → Float
-rawOf a s = cond (isNear a (placeOf a s)) (notBelow (Angles.outcome cosine (angleOf a (placeOf a s)) .value)) zero-float
+rawOf a s = cond (isNear a (placeOf a s)) (notBelow (Angles.outcome cosine (wayOf a (placeOf a s)) .value)) zero-float
 
 unfoldable pub channelGain : Layout → Float → ℕ → Float
 channelGain l a c = cond (lowFrequency l c) zero-float (rawOf a (azimuthOf l c))

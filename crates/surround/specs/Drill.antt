@@ -10,8 +10,8 @@ gains51 l r c ls =
     l ∷ r ∷ c ∷ o ∷ ls ∷ o ∷ o ∷ o ∷ o ∷ o ∷ o ∷ o ∷ o ∷ o ∷ o ∷ o ∷ []
 
 -- of L and of R at 0, 0.5477, and of C there, 0.6325
-abbrev pub beside : Float
-beside = ofBits binary64 0x3FE186F174F88472
+abbrev pub sidesAt0 : Float
+sidesAt0 = ofBits binary64 0x3FE186F174F88472
 
-abbrev pub pointedAt : Float
-pointedAt = ofBits binary64 0x3FE43D136248490E
+abbrev pub centreAt0 : Float
+centreAt0 = ofBits binary64 0x3FE43D136248490E

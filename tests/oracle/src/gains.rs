@@ -581,7 +581,7 @@ mod tests {
         is_wrong(five_one, 0.0, &[side, side, third], 2);
     }
 
-    /// Within what panner.rs takes for the work of rounded radians. Next to 90 from a speaker too: where the Rust takes it for
+    /// Within what the judge of panner blocks takes for the work of rounded radians. Next to 90 from a speaker too: where the Rust takes it for
     /// the other side, its gain is tiny.
     #[test]
     fn the_corrected_rust_is_near_the_formula_at_every_azimuth() {

@@ -19,7 +19,8 @@ const QUARTER_TURN_BITS: i32 = 23;
 const RADIANS_BITS: i32 = 50;
 
 /// How far rounded radians put a gain off before it is narrowed: the most that was seen is 2^-49.2. Below 2^-23, where two
-/// neighbouring f32 are no farther apart than that, it allows either.
+/// neighbouring f32 are no farther apart than twice that, it allows either. `RADIANS_BITS` is tighter, for a whole step of the
+/// f32 is seen there and not what is left of it.
 pub const UNNARROWED_BITS: i32 = 48;
 
 /// A command as a request says it.
@@ -212,14 +213,15 @@ impl Block {
 
     /// A plane of the Rust's that is not ours: it is the product with its own gain, and this gain is off by what its stereo
     /// quarter turn in f32 makes, or by what rounded radians make. Those show in a gain that is tiny, where the f32 lie close,
-    /// and in one that is in the middle between two f32.
+    /// and, seen in surround alone, in one that is in the middle between two f32.
     fn judge_difference(&self, ours: f32, exact: &Gain, theirs: &[f32], gain: f32) -> Result<(), String> {
         if theirs.iter().zip(&self.input).any(|(y, x)| f32_bytes(*y) != f32_bytes(x * gain)) {
             return Err("differs in more than its gain".to_string());
         }
         let off = (f64::from(ours) - f64::from(gain)).abs();
         let bits = if matches!(self.command, Command::Stereo(_)) { QUARTER_TURN_BITS } else { RADIANS_BITS };
-        if off <= 2f64.powi(-bits) || exact.is_between(ours, gain) { Ok(()) } else { Err("for no listed cause".to_string()) }
+        let in_the_middle = matches!(self.command, Command::Surround(_)) && exact.is_between(ours, gain);
+        if off <= 2f64.powi(-bits) || in_the_middle { Ok(()) } else { Err("for no listed cause".to_string()) }
     }
 
     /// A narrowed gain: within the bound and half a step of the exact one.
