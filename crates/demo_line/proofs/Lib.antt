@@ -1,2 +1,3 @@
--- A line that is put together sample by sample.
+-- A line put together, and the answers to a record.
 mod Line
+mod Places

@@ -1,7 +1,7 @@
 -- A line that is put together sample by sample: how it begins, one sample more, and the whole of it. Assumes nothing.
-use mathlib.Core.Path.{_≡_, sym, ap, _∙_}
-use mathlib.Core.List.{List, _++_, append-nil}
-use Prim.Native.Nat.{ℕ, _+_, _*_, _≤_, _<_}
+use mathlib.Core.Path.{_≡_, refl, sym, ap, _∙_}
+use mathlib.Core.List.{List, _++_, flatMap, append-nil}
+use Prim.Native.Nat.{ℕ, _+_, _*_, _/_, _%_, _≤_, _<_}
 use native.Mathlib.Nat.{zero-add}
 use native.Mathlib.Omega.{arith}
 use lib.Ieee.{Float, nan, binary32, toBits}
@@ -12,8 +12,10 @@ use Rattle.lists.specs.Placed.{placed}
 use Rattle.lists.proofs.Tables.{length-tab, getD-tab}
 use Rattle.lists.proofs.Placed.{placed-start}
 use Rattle.big_endian.specs.Fields.{withField, withFloat}
-use Rattle.big_endian.specs.Lists.{floatBytes}
+use Rattle.big_endian.specs.Bytes.{bytesOf}
+use Rattle.big_endian.specs.Lists.{fieldBytes, floatBytes}
 use Rattle.big_endian.proofs.Lists.{length-fieldBytes, write-none, write-kept, write-more}
+use Rattle.demo_line.specs.Records.{lineBytes}
 
 module _ (sample : ℕ → Float) (count : ℕ) (room : List ℕ) where
   abbrev samples : List Float
@@ -57,3 +59,9 @@ module _ (sample : ℕ → Float) (count : ℕ) (room : List ℕ) where
       let taken = ap (λ (k : ℕ). take k samples) done ∙ take-length samples in
       b .stands ∙ ap (λ (l : List Float). placed room 0 (floatBytes l)) taken ∙ placed-start room bytes
       ∙ ap (λ (l : List ℕ). bytes ++ l) (ap (λ (k : ℕ). drop k room) long ∙ drop-length room) ∙ append-nil bytes
+
+-- it is a line of frames: sample i belongs to frame i / 6, and there to channel i % 6
+pub line-frames : (sample : ℕ → ℕ → Float)
+    → floatBytes (tab 0 192 (λ i. sample (i % 6) (i / 6))) ≡ lineBytes (tab 0 32 (λ n. tab 0 6 (λ p. sample p n)))
+unfolding lineBytes fieldBytes flatMap bytesOf
+line-frames sample = refl

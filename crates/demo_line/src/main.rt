@@ -7,18 +7,17 @@
 // end of the input. A part record there, or an azimuth that is refused, ends it with a line on standard error,
 // and nothing more is written. The language gives a program no exit status to tell it by.
 //
-// What it makes of bytes, and of planes, is promised by equations. Of what is read and written no contract can
-// say anything, so the rest is proved safe and ending, and what the program writes is compared.
+// `place` says what a record is played to, and its promise is one equation for all of it (specs/Records.antt). Of
+// what is read and written no contract can say anything, so the rest is proved safe and ending, and what the
+// program writes is compared.
 use channel::Layout;
 use libc::STDERR_FILENO;
 use libc::STDIN_FILENO;
 use libc::STDOUT_FILENO;
 use panner::Command;
 ghost use mathlib.Core.Path.{_≡_};
-ghost use Prim.Native.Nat.{_/_, _%_};
-ghost use Rattle.lists.specs.Tables.{tab};
-ghost use Rattle.big_endian.specs.Lists.{floatsAt, floatBytes};
-ghost use Rattle.planes.specs.Planes.{sampleAt};
+ghost use Rattle.planes.specs.Planes.{framesOf};
+ghost use Rattle.demo_line.specs.Records.{voiceAt, lineBytes, Places};
 
 // How many samples of the voice a record has, the channels that they are played to, and the samples of those.
 const FRAMES: usize = 32;
@@ -52,7 +51,7 @@ fn say_number(before: &[u8], number: u64, after: &[u8]) {
 
 // The samples of the voice stand behind the azimuth.
 fn voice_of(bytes: &[u8]) -> [f32; FRAMES]
-    ensures { λ r. ⌜ r ≡ floatsAt (now (bytes .entry)) 8 32 ⌝ }
+    ensures { λ r. ⌜ r ≡ voiceAt (now (bytes .entry)) ⌝ }
 {
     let mut voice = [0.0f32; FRAMES];
     let mut n = 0;
@@ -65,7 +64,7 @@ fn voice_of(bytes: &[u8]) -> [f32; FRAMES]
 
 // The planes stand plane after plane, and the line goes out frame after frame.
 fn line_of(planes: &[f32]) -> [u8; LINE]
-    ensures { λ r. ⌜ r ≡ floatBytes (tab 0 192 (λ i. sampleAt (now (planes .entry)) 32 (i % 6) (i / 6))) ⌝ }
+    ensures { λ r. ⌜ r ≡ lineBytes (framesOf (now (planes .entry)) 32 6 32) ⌝ }
 {
     let mut line = [0u8; LINE];
     let mut i = 0;
@@ -77,10 +76,18 @@ fn line_of(planes: &[f32]) -> [u8; LINE]
     line
 }
 
-// Plays a whole record; whether to go on.
-fn play(record: &[u8]) -> bool {
-    let azimuth = big_endian::get_f64(record, 0);
-    let voice = voice_of(record);
+// What a record is played to: the frames, or the refusal and no sound.
+struct Placed {
+    refusal: u8,
+    line: [u8; LINE],
+}
+
+// Takes any bytes: what is missing of a record reads as 0.
+fn place(bytes: &[u8]) -> Placed
+    ensures { λ r. ⌜ Places (now (bytes .entry)) r ⌝ }
+{
+    let azimuth = big_endian::get_f64(bytes, 0);
+    let voice = voice_of(bytes);
     let mut planes = [0.0f32; SAMPLES];
     let panned = panner::process(
         Command::Surround(azimuth),
@@ -91,11 +98,25 @@ fn play(record: &[u8]) -> bool {
         &mut planes,
     );
     if panned.refusal != 0 {
-        say_number(b"demo_line: refused ", panned.refusal as u64, b"\n");
+        return Placed {
+            refusal: panned.refusal,
+            line: [0; LINE],
+        };
+    }
+    Placed {
+        refusal: 0,
+        line: line_of(&planes),
+    }
+}
+
+// Plays a whole record; whether to go on.
+fn play(record: &[u8]) -> bool {
+    let placed = place(record);
+    if placed.refusal != 0 {
+        say_number(b"demo_line: refused ", placed.refusal as u64, b"\n");
         return false;
     }
-    let line = line_of(&planes);
-    if !io::write_all(STDOUT_FILENO, &line) {
+    if !io::write_all(STDOUT_FILENO, &placed.line) {
         say(b"demo_line: standard output cannot be written\n");
         return false;
     }

@@ -2,8 +2,9 @@
 use mathlib.Core.Path.{refl, sym, _∙_}
 use Prim.Native.Nat.{_/_, _%_, _-_}
 use native.Mathlib.Omega.{arith}
+use denote.Ref.{now}
 use Rattle.planes.specs.Planes.{sampleAt}
-use Rattle.demo_line.proofs.Line.{Begun, begun-none, begun-kept, begun-more, begun-whole}
+use Rattle.demo_line.proofs.Line.{Begun, begun-none, begun-kept, begun-more, begun-whole, line-frames}
 use Rattle.demo_line.proofs.line_of.Statement.{statement}
 use Rattle.demo_line.proofs.line_of.Tie as tie
 
@@ -26,7 +27,10 @@ loop-again c =
     begun-more _ 192 _ (turn .line) _ (turn .i) _ (turn .inv) (omega arith) (read .sample .ensures) put
 
 returns : tie.Need-returns Inv-loop μ-loop
-returns c = let end = c .before .loop in begun-whole _ 192 _ (end .line) (end .i) (end .inv) (omega arith)
+returns c =
+    let end = c .before .loop in
+    begun-whole _ 192 _ (end .line) (end .i) (end .inv) (omega arith)
+    ∙ line-frames (sampleAt (now (c .before .before .before .args .planes)) 32)
 
 -- what the loop's places and counts take is arithmetic
 pub line-of-spec : {M : Type 1} → statement M

@@ -1,0 +1,2 @@
+-- The words of the promise of `demo_line`.
+pub mod Records
