@@ -1,0 +1,9 @@
+-- No two answers meet the promise. Assumes nothing.
+use mathlib.Core.List.{List}
+use Prim.Native.Nat.{ℕ}
+use Rattle.refusals.specs.OneAnswer.{OneAnswer}
+use Rattle.refusals.proofs.Determined.{determined-by}
+use Rattle.demo_line.specs.Records.{Places}
+
+place-unique : (bytes : List ℕ) → OneAnswer (Places bytes)
+place-unique bytes = determined-by (λ r h. h .is)
