@@ -4,8 +4,9 @@
 // It reads records on standard input and writes 5.1 frames on standard output. All numbers are big-endian. A
 // record has 136 bytes: an azimuth in degrees, an f64, then 32 samples of the voice, f32. For each record it
 // writes 32 frames of six f32 (L, R, C, LFE, Ls, Rs), 768 bytes: what `panner::process` plays. It ends at the
-// end of the input. A part record there, or an azimuth that is refused, ends it with a line on standard error,
-// and nothing more is written. The language gives a program no exit status to tell it by.
+// end of the input, for which a read that fails counts too. A part record there, or an azimuth that is
+// refused, ends it with a line on standard error, and nothing more is written. The language gives a program no
+// exit status to tell it by.
 //
 // `place` says what a record is played to, and its promise is one equation for all of it (specs/Records.antt). Of
 // what is read and written no contract can say anything, so the rest is proved safe and ending, and what the
@@ -26,14 +27,14 @@ const CHANNELS: usize = 6;
 
 const SAMPLES: usize = CHANNELS * FRAMES;
 
-// The bytes of an azimuth, of a sample, of a record, and of the frames that it is played to.
-const AZIMUTH: usize = 8;
+// How many bytes an azimuth has, a sample, a record, and the frames that it is played to.
+const AZIMUTH_BYTES: usize = 8;
 
-const SAMPLE: usize = 4;
+const SAMPLE_BYTES: usize = 4;
 
-const RECORD: usize = AZIMUTH + SAMPLE * FRAMES;
+const RECORD_BYTES: usize = AZIMUTH_BYTES + SAMPLE_BYTES * FRAMES;
 
-const LINE: usize = SAMPLE * SAMPLES;
+const LINE_BYTES: usize = SAMPLE_BYTES * SAMPLES;
 
 // A proved loop has to end, and nothing says that the input does. So many records are eleven minutes of
 // voice at 48,000 samples a second, more than a demonstration has.
@@ -56,21 +57,21 @@ fn voice_of(bytes: &[u8]) -> [f32; FRAMES]
     let mut voice = [0.0f32; FRAMES];
     let mut n = 0;
     while n < FRAMES {
-        voice[n] = big_endian::get_f32(bytes, AZIMUTH + n * SAMPLE);
+        voice[n] = big_endian::get_f32(bytes, AZIMUTH_BYTES + n * SAMPLE_BYTES);
         n += 1;
     }
     voice
 }
 
 // The planes stand plane after plane, and the line goes out frame after frame.
-fn line_of(planes: &[f32]) -> [u8; LINE]
+fn line_of(planes: &[f32]) -> [u8; LINE_BYTES]
     ensures { λ r. ⌜ r ≡ lineBytes (framesOf (now (planes .entry)) 32 6 32) ⌝ }
 {
-    let mut line = [0u8; LINE];
+    let mut line = [0u8; LINE_BYTES];
     let mut i = 0;
     while i < SAMPLES {
         let x = planes::sample(planes, FRAMES, i % CHANNELS, i / CHANNELS);
-        big_endian::put_f32(&mut line, i * SAMPLE, x);
+        big_endian::put_f32(&mut line, i * SAMPLE_BYTES, x);
         i += 1;
     }
     line
@@ -79,7 +80,7 @@ fn line_of(planes: &[f32]) -> [u8; LINE]
 // What a record is played to: the frames, or the refusal and no sound.
 struct Placed {
     refusal: u8,
-    line: [u8; LINE],
+    line: [u8; LINE_BYTES],
 }
 
 // Takes any bytes: what is missing of a record reads as 0.
@@ -100,7 +101,7 @@ fn place(bytes: &[u8]) -> Placed
     if panned.refusal != 0 {
         return Placed {
             refusal: panned.refusal,
-            line: [0; LINE],
+            line: [0; LINE_BYTES],
         };
     }
     Placed {
@@ -124,8 +125,8 @@ fn play(record: &[u8]) -> bool {
 }
 
 // Reads record n, counted from 0, and plays it; whether to go on.
-fn one(n: usize) -> bool {
-    let mut record = [0u8; RECORD];
+fn play_next(n: usize) -> bool {
+    let mut record = [0u8; RECORD_BYTES];
     let got = io::read_full(STDIN_FILENO, &mut record);
     if got == 0 {
         return false;
@@ -134,7 +135,7 @@ fn one(n: usize) -> bool {
         say_number(b"demo_line: more than ", MOST_RECORDS as u64, b" records\n");
         return false;
     }
-    if got < RECORD {
+    if got < RECORD_BYTES {
         say(b"demo_line: a part record at the end\n");
         return false;
     }
@@ -143,7 +144,7 @@ fn one(n: usize) -> bool {
 
 fn main() {
     let mut n = 0;
-    while n <= MOST_RECORDS && one(n) {
+    while n <= MOST_RECORDS && play_next(n) {
         n += 1;
     }
 }
