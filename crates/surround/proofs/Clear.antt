@@ -54,10 +54,13 @@ module _ (a : Fraction) (A : 0 < a .over) (H : AtMost (magnitude a) (whole 180))
   sum-least l c h k = at-most-trans least (square (rawAt l a c)) (sumAt l a) (k .1) (k .0) (channel-in-sum l a c h)
 
   -- ---- C serves both layouts as far as 80 degrees either way; behind that the rear pair has to
-  all-round : (l : Layout) → 2 < channelsOf l → rawAt l a 2 ≡ rawGain a (whole 0) → (AtMost (whole 80) a → AtMost least (sumAt l a)) → (AtMost a (fraction 0 80 1) → AtMost least (sumAt l a)) → AtMost least (sumAt l a)
-  all-round l three C rear-left rear-right =
-      let front : Less (fraction 0 80 1) a → Less a (whole 80) → AtMost least (sumAt l a) = λ h k. sum-least l 2 three (subst Loud (sym C) (loud a 0 0 A H (lit≤ tt) (omega arith))) in
-      by-side (fraction 0 80 1) a (λ h. by-side a (whole 80) (front h) rear-left) rear-right
+  module _ (l : Layout) (three : 2 < channelsOf l) (C : rawAt l a 2 ≡ rawGain a (whole 0)) where
+    front : Less (fraction 0 80 1) a → Less a (whole 80) → AtMost least (sumAt l a)
+    front h k = sum-least l 2 three (subst Loud (sym C) (loud a 0 0 A H (lit≤ tt) (omega arith)))
+
+    all-round : (AtMost (whole 80) a → AtMost least (sumAt l a)) → (AtMost a (fraction 0 80 1) → AtMost least (sumAt l a))
+        → AtMost least (sumAt l a)
+    all-round rear-left rear-right = by-side (fraction 0 80 1) a (λ h. by-side a (whole 80) (front h) rear-left) rear-right
 
   clear-51 : AtMost least (sumAt Surround51 a)
   unfolding rawAt

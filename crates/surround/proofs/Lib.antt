@@ -1,4 +1,4 @@
--- The laws of the surround gains. The drill table cites `Drill`.
+-- The laws of the surround gains. Crates above cite `Drill`.
 mod Speakers
 mod Ways
 mod Steps

@@ -47,11 +47,12 @@ worked :
 unfolding toBits ofBits refusesAngle isInside gainsOf dividedBy sumOf rawGains channelGain rawOf isNear placeOf wayOf absolute notBelow lt le eq add sub mul div neg round ofInt computed place cut Angles.units turned cosineAt short times radians nesting nest rounded rootOf wholeRoot size units
 worked = refl
 
--- less than 90 away, and 0.0 all the same: at the f64 next above -60, L is 90 degrees less 2 ^ -47 away, which rounds to 90. The rule does not call it silent, and no promise says that it sounds: its exact gain is
--- 10 ^ -16
+-- the f64 next above -60: L is 90 degrees less 2 ^ -47 away there, which rounds to 90
 abbrev nextAboveMinus60 : Float
 nextAboveMinus60 = ofBits binary64 0xC04DFFFFFFFFFFFF
 
+-- less than 90 away, and 0.0 all the same. The rule does not call it silent, and no promise says that it sounds: its
+-- exact gain is some 10 ^ -16
 rounded-to-90 : (getD (bits Surround51 nextAboveMinus60) 0 1 ≡ 0) × (isSilent Surround51 (number nextAboveMinus60) 0 ≡ false)
 unfolding isSilent distance toBits ofBits refusesAngle isInside gainsOf dividedBy sumOf rawGains channelGain rawOf isNear placeOf wayOf absolute notBelow lt le eq add sub mul div neg round ofInt computed place cut Angles.units turned cosineAt short times radians nesting nest rounded rootOf wholeRoot size units
 rounded-to-90 = (refl, refl)
