@@ -1,7 +1,7 @@
 """A model of the panner on 5.1 and of the ears, written from documents 01 and 02 and not from the code.
 
 Python's floats are f64, and struct rounds to f32. tests/ears-cases writes by it what the gate must find; tests/bearings
-shows by it that the old rule is found wrong. Both play the voice that stands here: the demo's hum at every 15 degrees.
+holds the recorded line to it, and shows by it that the old rule is found wrong. Both play the voice that stands here: the demo's hum at every 15 degrees.
 """
 import math
 import os

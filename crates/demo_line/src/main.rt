@@ -4,9 +4,9 @@
 // It reads records on standard input and writes 5.1 frames on standard output. All numbers are big-endian. A
 // record has 136 bytes: an azimuth in degrees, an f64, then 32 samples of the voice, f32. For each record it
 // writes 32 frames of six f32 (L, R, C, LFE, Ls, Rs), 768 bytes: what `panner::process` plays. It ends at the
-// end of the input, for which a read that fails counts too. A part record there, or an azimuth that is
-// refused, ends it with a line on standard error, and nothing more is written. The language gives a program no
-// exit status to tell it by.
+// end of the input, for which a read that fails counts too. A part record there, an azimuth that is refused,
+// more than 2^20 records, or an output that cannot be written ends it with a message on standard error, and
+// nothing more is written. The language gives a program no exit status to tell it by.
 //
 // `place` says what a record is played to, and its promise is one equation for all of it (specs/Records.antt). Of
 // what is read and written no contract can say anything, so the rest is proved safe and ending, and what the

@@ -45,7 +45,7 @@ pub record DrillTable : Type 0 where
   pub item-4-right : (definedCosine (angle (number (float (pos 250)))) ≡ whole 0) × (definedSine (angle (number (float (pos 250)))) ≡ whole 1)
   pub item-4-left-given : Stereo.outcome (float (negsuc 99)) ≡ record { refusal = 0; left = one-float; right = zero-float }
   pub item-4-right-given : Stereo.outcome (float (pos 250)) ≡ record { refusal = 0; left = zero-float; right = one-float }
-  -- 5. 5.1 at azimuth 120: only Ls sounds; document 02, E3: "at 120 only Ls still sounds; at 0, C is now loudest, with L and R equal". (The others are silent at 0.)
+  -- 5. 5.1; document 02, E3: "at 120 only Ls still sounds; at 0, C is now loudest, with L and R equal". The others are silent at 0.
   pub item-5-at-120 : tab 0 6 (isSilent Surround51 (whole 120)) ≡ true ∷ true ∷ true ∷ true ∷ false ∷ true ∷ []
   pub item-5-ls : sumAt Surround51 (whole 120) ≡ square (rawAt Surround51 (whole 120) 4)
   pub item-5-at-0 : tab 0 6 (isSilent Surround51 (whole 0)) ≡ false ∷ false ∷ false ∷ true ∷ true ∷ true ∷ []

@@ -4,7 +4,7 @@
 // Definitions and laws alone: no function stands here. What a reader has to believe are specs/Sums.antt, the
 // two sums at a fraction of radians, and specs/Angles.antt, the defined values at a fraction of degrees. Both
 // are said of any fraction, so that a crate above can speak of the sine of an angle that is no float, as 3a
-// or d. What it may then use is in proofs/Laws.antt (a program that computes the sums has
+// or the way to a speaker. What it may then use is in proofs/Laws.antt (a program that computes the sums has
 // proofs/Nested.antt and proofs/Reduction.antt too); no law there asks on which side of 180 an angle lies, or
 // whether it is a multiple of 90:
 //

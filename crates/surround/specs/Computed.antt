@@ -1,4 +1,4 @@
--- What the program computes: the gains as its floats have them. Definitions only. Nobody has to believe them: `Promise` ties them to document 01's formulas.
+-- What the program computes: the gains as its floats have them. Definitions only. Nobody has to believe them: `Promise` ties them to the documents' formulas.
 use Prim.Native.Nat.{ℕ}
 use mathlib.Core.Bool.{Bool, false, cond}
 use mathlib.Core.List.{List}

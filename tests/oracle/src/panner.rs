@@ -1,5 +1,5 @@
-//! Panner blocks. A plane's gain is read off its first sample, since the first input sample is 1.0: it is held to document
-//! 01's formula, narrowed, and every other sample to the f32 product with it. At commands that are exact in f32 the Rust's
+//! Panner blocks. A plane's gain is read off its first sample, since the first input sample is 1.0: it is held to the
+//! documents' formula, narrowed, and every other sample to the f32 product with it. At commands that are exact in f32 the Rust's
 //! own block at S = f32 is compared too, plane by plane. Planes whose gain it narrows to another f32 are counted, and each
 //! has to have a listed cause: nothing but its gain differs, and that by no more than the cause allows.
 use crate::exact::{self, Exact};
