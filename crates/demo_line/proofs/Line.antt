@@ -15,7 +15,6 @@ use Rattle.big_endian.specs.Fields.{withField, withFloat}
 use Rattle.big_endian.specs.Bytes.{bytesOf}
 use Rattle.big_endian.specs.Lists.{fieldBytes, floatBytes}
 use Rattle.big_endian.proofs.Lists.{length-fieldBytes, write-none, write-kept, write-more}
-use Rattle.demo_line.specs.Records.{lineBytes}
 
 module _ (sample : ℕ → Float) (count : ℕ) (room : List ℕ) where
   abbrev samples : List Float
@@ -62,6 +61,6 @@ module _ (sample : ℕ → Float) (count : ℕ) (room : List ℕ) where
 
 -- it is a line of frames: sample i belongs to frame i / 6, and there to channel i % 6
 pub line-frames : (sample : ℕ → ℕ → Float)
-    → floatBytes (tab 0 192 (λ i. sample (i % 6) (i / 6))) ≡ lineBytes (tab 0 32 (λ n. tab 0 6 (λ p. sample p n)))
-unfolding lineBytes fieldBytes flatMap bytesOf
+    → floatBytes (tab 0 192 (λ i. sample (i % 6) (i / 6))) ≡ flatMap floatBytes (tab 0 32 (λ n. tab 0 6 (λ p. sample p n)))
+unfolding fieldBytes flatMap bytesOf
 line-frames sample = refl

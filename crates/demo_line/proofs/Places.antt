@@ -1,6 +1,6 @@
 -- The answers to a record are those promised: an azimuth refused, and frames played. Assumes nothing.
 use mathlib.Core.Path.{_≡_, refl, sym, ap, subst, _∙_}
-use mathlib.Core.List.{List, []}
+use mathlib.Core.List.{List, [], flatMap}
 use Prim.Native.Nat.{ℕ, _<_}
 use lib.Dec.{lit≤}
 use lib.Ieee.{Float}
@@ -8,6 +8,7 @@ use lib.ListN.{length, getD, replicate}
 use Rattle.refusals.proofs.First.{answered-accepted, answered-refused}
 use Rattle.lists.proofs.Tables.{getD-tab}
 use Rattle.big_endian.specs.Fields.{floatAt, doubleAt}
+use Rattle.big_endian.specs.Lists.{floatBytes}
 use Rattle.big_endian.proofs.Lists.{length-strided}
 use Rattle.channel.specs.declared.Layout.the-variants.{Surround51}
 use Rattle.planes.specs.Planes as Planes
@@ -20,7 +21,7 @@ use Rattle.panner.specs.Commands.{gainsOf}
 use Rattle.panner.specs.Blocks.{Shape, refusalOf, narrowedAll, panned, framesOf}
 use Rattle.panner.specs.Promise.{answerOf, Block, Processed}
 use Rattle.demo_line.specs.declared.Placed.{Placed}
-use Rattle.demo_line.specs.Records.{commandAt, voiceAt, shapeAt, lineBytes, refusalAt, Places}
+use Rattle.demo_line.specs.Records.{commandAt, voiceAt, shapeAt, refusalAt, Places}
 
 -- what the panner is asked for at an azimuth
 abbrev shapeOf : Float → Shape
@@ -38,7 +39,7 @@ module _ (bytes : List ℕ) where
   six-channels n h = ap length (getD-tab 0 32 frame n [] h)
 
   abbrev playing : Placed
-  playing = record { refusal = 0; line = lineBytes frames }
+  playing = record { refusal = 0; line = flatMap floatBytes frames }
 
   abbrev refusing : ℕ → Placed
   refusing n = record { refusal = n; line = replicate 768 0 }
@@ -90,10 +91,10 @@ module _ (bytes : List ℕ) (azimuth : Float) (voice out after : List Float) (an
         ap (λ (o : List Float). Planes.framesOf o 32 6 32) put
         ∙ frames-read 6 out 32 (frames bytes) (lit≤ tt) long (six-channels bytes)
 
-    pub place-played : (line : List ℕ) → line ≡ lineBytes (Planes.framesOf after 32 6 32)
+    pub place-played : (line : List ℕ) → line ≡ flatMap floatBytes (Planes.framesOf after 32 6 32)
         → Places bytes (record { refusal = 0; line = line })
     place-played line e =
-        let line-is = e ∙ ap lineBytes read in
+        let line-is = e ∙ ap (flatMap floatBytes) read in
         let same = answered-accepted (playing bytes) (refusing bytes) (refusalAt bytes) accepted in
         record {
           is = (λ j. record { refusal = 0; line = line-is j }) ∙ sym same;

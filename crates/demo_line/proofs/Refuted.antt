@@ -20,7 +20,7 @@ use Rattle.surround.proofs.Drill.{at-120}
 use Rattle.panner.specs.Commands.{noAngle}
 use Rattle.panner.specs.Blocks.{narrowedAll, pannedFrames}
 use Rattle.demo_line.specs.declared.Placed.{Placed}
-use Rattle.demo_line.specs.Records.{commandAt, voiceAt, lineBytes, refusalAt, Places}
+use Rattle.demo_line.specs.Records.{commandAt, voiceAt, refusalAt, Places}
 use Rattle.demo_line.proofs.Places.{refused-is, played-is}
 
 -- ---- an azimuth that is refused is told as played, whatever the line
@@ -48,10 +48,10 @@ voice-is = refl
 
 -- the fifth sample of the line is 1.0, whose first byte is 63
 abbrev ls-byte : List Float → List Float → ℕ
-ls-byte gains xs = getD (lineBytes (pannedFrames 32 32 6 (narrowedAll gains) xs)) 16 0
+ls-byte gains xs = getD (flatMap floatBytes (pannedFrames 32 32 6 (narrowedAll gains) xs)) 16 0
 
 ls-first : (line : List ℕ) → Places bytes120 (record { refusal = 0; line = line }) → getD line 16 0 ≡ 63
-unfolding lineBytes fieldBytes flatMap bytesOf toBits rounded round mul
+unfolding fieldBytes flatMap bytesOf toBits rounded round mul
 ls-first line p =
     let accepted : refusalAt bytes120 ≡ 0 =
     ap (λ (x : Float). outcome Surround51 x .refusal) azimuth-is ∙ ap (λ (g : SurroundGains). g .refusal) at-120 in

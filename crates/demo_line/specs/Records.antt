@@ -26,19 +26,15 @@ voiceAt bytes = floatsAt bytes 8 32
 abbrev pub shapeAt : List ℕ → Shape
 shapeAt bytes = record { command = commandAt bytes; layout = Surround51; frames = 32; stride = 32 }
 
--- frame after frame, each a sample of L, R, C, LFE, Ls and Rs
-unfoldable pub lineBytes : List (List Float) → List ℕ
-lineBytes frames = flatMap floatBytes frames
-
 -- document 01, 'Refusal numbers', 3: "an angle [..] is NaN or infinite, or azimuth is outside -180..180"
 abbrev pub refusalAt : List ℕ → ℕ
 refusalAt bytes = firstOf (3 when noAngle (commandAt bytes) ∷ [])
 
--- the frames that the panner plays, or the refusal and no sound
+-- the frames that the panner plays, one after the other, each a sample of L, R, C, LFE, Ls and Rs; or the refusal and no sound
 abbrev pub placedAt : List ℕ → Placed
 placedAt bytes =
     answered (refusalAt bytes)
-    (record { refusal = 0; line = lineBytes (framesOf (shapeAt bytes) (voiceAt bytes)) })
+    (record { refusal = 0; line = flatMap floatBytes (framesOf (shapeAt bytes) (voiceAt bytes)) })
     (λ n. record { refusal = n; line = replicate 768 0 })
 
 -- all that is handed back; and that the gains played are those promised

@@ -17,8 +17,10 @@ use libc::STDIN_FILENO;
 use libc::STDOUT_FILENO;
 use panner::Command;
 ghost use mathlib.Core.Path.{_≡_};
+ghost use mathlib.Core.List.{flatMap};
+ghost use Rattle.big_endian.specs.Lists.{floatBytes};
 ghost use Rattle.planes.specs.Planes.{framesOf};
-ghost use Rattle.demo_line.specs.Records.{voiceAt, lineBytes, Places};
+ghost use Rattle.demo_line.specs.Records.{voiceAt, Places};
 
 // How many samples of the voice a record has, the channels that they are played to, and the samples of those.
 const FRAMES: usize = 32;
@@ -65,7 +67,7 @@ fn voice_of(bytes: &[u8]) -> [f32; FRAMES]
 
 // The planes stand plane after plane, and the line goes out frame after frame.
 fn line_of(planes: &[f32]) -> [u8; LINE_BYTES]
-    ensures { λ r. ⌜ r ≡ lineBytes (framesOf (now (planes .entry)) 32 6 32) ⌝ }
+    ensures { λ r. ⌜ r ≡ flatMap floatBytes (framesOf (now (planes .entry)) 32 6 32) ⌝ }
 {
     let mut line = [0u8; LINE_BYTES];
     let mut i = 0;
