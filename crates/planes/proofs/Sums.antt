@@ -1,10 +1,10 @@
 -- Laws of the ordered sum: the loop that forms it, and the products of two lists place by place. Assumes nothing.
 use mathlib.Core.Path.{_≡_, refl, sym, ap, _∙_}
-use mathlib.Core.List.{List, [], _∷_}
+use mathlib.Core.List.{List, [], _∷_, _++_}
 use Prim.Native.Nat.{ℕ, zero, suc, _+_, _≤_, _<_, min}
 use native.Mathlib.Nat.{not-suc-le-zero, le-of-suc-le-suc}
 use native.Mathlib.Omega.{arith}
-use lib.ListN.{length, getD, take}
+use lib.ListN.{length, getD, take, drop}
 use lib.Ieee.{Float, nan, binary64, add, mul}
 use Rattle.formats.specs.Floats.{zero-float}
 use Rattle.lists.specs.Tables.{tab}
@@ -46,6 +46,27 @@ products-tab (x ∷ xs) (y ∷ ys) (suc n) e =
 -- so the loop over the places of the shorter list forms their sum
 pub dot-all : (xs ys : List Float) (n : ℕ) (sum : Float) (i : ℕ) → Summing (productAt xs ys) n sum i → n ≤ i → n ≡ min (length xs) (length ys) → sum ≡ dot zero-float xs ys
 dot-all xs ys n sum i g h e = summing-all (productAt xs ys) n sum i g h ∙ ap (total zero-float) (sym (products-tab xs ys n e))
+
+-- the same from any sum on
+pub dot-on : (a : Float) (xs ys : List Float) (n : ℕ) (sum : Float) (i : ℕ) → Going (λ k. total) (productAt xs ys) n a sum i → n ≤ i → n ≡ min (length xs) (length ys) → sum ≡ dot a xs ys
+dot-on a xs ys n sum i g h e = going-all (λ k. total) (productAt xs ys) n a sum i g h ∙ ap (total a) (sym (products-tab xs ys n e))
+
+-- ---- lists that are joined: the sum goes on where the first ends
+total-joined : (a : Float) (xs ys : List Float) → total a (xs ++ ys) ≡ total (total a xs) ys
+total-joined a [] ys = refl
+total-joined a (x ∷ xs) ys = total-joined (add binary64 a x) xs ys
+
+products-none : (ys : List Float) → products ys [] ≡ []
+products-none [] = refl
+products-none (y ∷ ys) = refl
+
+products-joined : (xs ys zs : List Float) → products (xs ++ ys) zs ≡ products xs (take (length xs) zs) ++ products ys (drop (length xs) zs)
+products-joined [] ys zs = refl
+products-joined (x ∷ xs) ys [] = sym (products-none ys)
+products-joined (x ∷ xs) ys (z ∷ zs) = ap (λ (l : List Float). mul binary64 x z ∷ l) (products-joined xs ys zs)
+
+pub dot-joined : (a : Float) (xs ys zs : List Float) → dot a (xs ++ ys) zs ≡ dot (dot a xs (take (length xs) zs)) ys (drop (length xs) zs)
+dot-joined a xs ys zs = ap (total a) (products-joined xs ys zs) ∙ total-joined a (products xs (take (length xs) zs)) (products ys (drop (length xs) zs))
 
 -- what stands beyond the second list's end does not count
 pub products-take : (n : ℕ) (xs ys : List Float) → length ys ≤ n → products (take n xs) ys ≡ products xs ys

@@ -1,50 +1,89 @@
--- What the loop of `convolve` keeps: the sum of the ring read from its newest times the taps, so far. Assumes nothing.
-use mathlib.Core.Path.{_≡_, sym, ap, _∙_}
-use mathlib.Core.List.{List}
-use Prim.Native.Nat.{ℕ, suc, _+_, _-_, _*_, _%_, _^_, _≤_, _<_, min, zero-le}
-use native.Mathlib.Nat.{mod-lt}
+-- What the loop of `run_back` keeps, and that two runs, one after the other, are the ring from its newest signal back round to the oldest. Assumes nothing.
+use mathlib.Core.Path.{_≡_, refl, sym, ap, _∙_}
+use mathlib.Core.Logic.{⊎-elim}
+use mathlib.Core.List.{List, [], _∷_, _++_, reverse}
+use Prim.Native.Nat.{ℕ, suc, _+_, _-_, _*_, _^_, _≤_, _<_, min}
 use native.Mathlib.Omega.{arith}
-use lib.ListN.{length, getD}
+use lib.ListN.{length, getD, take, drop, length-reverse, length-drop, drop-of-length-le}
+use lib.Seq.{take-all, length-take-le}
 use lib.Ieee.{Float, nan, binary64, add, mul}
 use Rattle.formats.specs.Floats.{zero-float}
-use Rattle.planes.specs.Sums.{dot}
-use Rattle.planes.proofs.Sums.{Summing, summing-none, summing-more, productAt, dot-all}
+use Rattle.lists.proofs.Lists.{split, getD-reverse}
+use Rattle.lists.proofs.Going.{Going, going-none, going-more}
+use Rattle.planes.specs.Sums.{total, dot}
+use Rattle.planes.proofs.Sums.{productAt, dot-on, dot-joined}
 use Rattle.rings.specs.Unrolled.{unrolled}
-use Rattle.rings.proofs.Ring.{unrolled-at, unrolled-least, length-unrolled}
 
-pub record Convolving (ring : List Float) (newest : ℕ) (taps : List Float) (from count : ℕ) (sum : Float) (k : ℕ) : Type 0 where
-  pub some : 0 < length ring
-  pub starts : from ≡ min newest (length ring - 1)
-  pub ends : count ≡ min (length ring) (length taps)
-  pub summed : Summing (productAt (unrolled (suc from) ring) taps) count sum k
+-- ---- a run
 
--- a place in the ring fits in bytes where the ring does
-pub place-fits : (x n : ℕ) → 0 < n → n * 4 < 2 ^ 64 → x % n * 4 < 2 ^ 64
-place-fits x n some room = omega (arith, mod-lt x {m = n} some, room)
+pub record Running (cells taps : List Float) (sum : Float) (count : ℕ) (so : Float) (k : ℕ) : Type 0 where
+  pub ends : count ≡ min (length cells) (length taps)
+  pub summed : Going (λ k. total) (productAt (reverse cells) taps) count sum so k
 
--- no cell, no sum
-pub convolving-nothing : (ring : List Float) (newest : ℕ) (taps : List Float) → length ring ≡ 0 → zero-float ≡ dot zero-float (unrolled (suc newest) ring) taps
-convolving-nothing ring newest taps e =
-    dot-all (unrolled (suc newest) ring) taps 0 zero-float 0 (summing-none (productAt (unrolled (suc newest) ring) taps) 0) zero-le (omega (arith, length-unrolled (suc newest) ring))
+module _ (cells taps : List Float) (sum : Float) (count : ℕ) where
+  pub running-none : count ≡ min (length cells) (length taps) → Running cells taps sum count sum 0
+  running-none e = record { ends = e; summed = going-none (λ k. total) (productAt (reverse cells) taps) count sum }
 
-module _ (ring : List Float) (newest : ℕ) (taps : List Float) (from count : ℕ) where
-  pub convolving-none : (length ring ≡ 0 → ⊥) → from ≡ min newest (length ring - 1) → count ≡ min (length ring) (length taps) → Convolving ring newest taps from count zero-float 0
-  convolving-none h ef ec = record { some = omega arith; starts = ef; ends = ec; summed = summing-none (productAt (unrolled (suc from) ring) taps) count }
-
-  pub convolving-more : (sum : Float) (k : ℕ) (x y : Float) → Convolving ring newest taps from count sum k → k < count
-      → x ≡ getD ring ((from + length ring - k) % length ring) nan → y ≡ getD taps k nan → Convolving ring newest taps from count (add binary64 sum (mul binary64 x y)) (k + 1)
-  convolving-more sum k x y c h ex ey =
+  pub running-more : (so : Float) (k : ℕ) (x y : Float) → Running cells taps sum count so k → k < count → x ≡ getD cells (length cells - 1 - k) nan → y ≡ getD taps k nan
+      → Running cells taps sum count (add binary64 so (mul binary64 x y)) (k + 1)
+  running-more so k x y r h ex ey =
       record {
-        some = c .some;
-        starts = c .starts;
-        ends = c .ends;
+        ends = r .ends;
         summed =
-            summing-more (productAt (unrolled (suc from) ring) taps) count sum k _ (c .summed) h
-            (cc (ex ∙ sym (unrolled-at from k ring (omega (arith, c .starts, c .some)) (omega (arith, c .ends))), ey));
+            going-more (λ k. total) (productAt (reverse cells) taps) count sum (λ k. add binary64) (λ k s a l. refl) so k (mul binary64 x y) (add binary64 so (mul binary64 x y)) (r .summed) h
+            (cc (ex ∙ sym (getD-reverse cells k nan (omega (arith, r .ends))), ey)) refl;
       }
 
-  pub convolving-all : (sum : Float) (k : ℕ) → Convolving ring newest taps from count sum k → count ≤ k → sum ≡ dot zero-float (unrolled (suc newest) ring) taps
-  convolving-all sum k c h =
-      dot-all (unrolled (suc from) ring) taps count sum k (c .summed) h (c .ends ∙ ap (λ (n : ℕ). min n (length taps)) (sym (length-unrolled (suc from) ring)))
-      ∙ ap (λ (p : ℕ). dot zero-float (unrolled (suc p) ring) taps) (c .starts)
-      ∙ ap (λ (w : List Float). dot zero-float w taps) (unrolled-least newest ring (c .some))
+  pub running-all : (so : Float) (k : ℕ) → Running cells taps sum count so k → count ≤ k → so ≡ dot sum (reverse cells) taps
+  running-all so k r h = dot-on sum (reverse cells) taps count so k (r .summed) h (r .ends ∙ ap (λ (n : ℕ). min n (length taps)) (sym (length-reverse cells)))
+
+-- ---- two runs
+
+-- a place beyond the end is the end
+take-least : (n : ℕ) (xs : List Float) → take (min n (length xs)) xs ≡ take n xs
+take-least n xs =
+    ⊎-elim (λ (lt : n < length xs). ap (λ (k : ℕ). take k xs) (near lt)) (λ (ge : length xs ≤ n). take-all (min n (length xs)) xs (omega arith) ∙ sym (take-all n xs ge)) (split n (length xs))
+  where
+    near : n < length xs → min n (length xs) ≡ n
+    near lt = omega arith
+
+drop-least : (n : ℕ) (xs : List Float) → drop (min n (length xs)) xs ≡ drop n xs
+drop-least n xs =
+    ⊎-elim (λ (lt : n < length xs). ap (λ (k : ℕ). drop k xs) (near lt)) (λ (ge : length xs ≤ n). drop-of-length-le xs {i = min n (length xs)} (omega arith) ∙ sym (drop-of-length-le xs ge)) (split n (length xs))
+  where
+    near : n < length xs → min n (length xs) ≡ n
+    near lt = omega arith
+
+-- all that comes after a place
+to-the-end : (n : ℕ) (xs : List Float) → take (length xs - n) (drop n xs) ≡ drop n xs
+to-the-end n xs = take-all (length xs - n) (drop n xs) (omega (arith, length-drop n xs))
+
+-- from the newest back to the start, then from the end back to the oldest
+pub two-runs : (ring : List Float) (newest : ℕ) (taps : List Float) (split used : ℕ) (first sum : Float) → split ≡ min (suc newest) (length ring) → used ≡ min split (length taps)
+    → first ≡ dot zero-float (reverse (take split ring)) (take used taps) → sum ≡ dot first (reverse (take (length ring - split) (drop split ring))) (take (length taps - used) (drop used taps))
+    → sum ≡ dot zero-float (unrolled (suc newest) ring) taps
+two-runs ring newest taps split used first sum es eu ef e =
+    e
+    ∙ ap (λ (r : List Float). dot first (reverse r) (take (length taps - used) (drop used taps))) (to-the-end split ring)
+    ∙ ap (λ (t : List Float). dot first (reverse (drop split ring)) t) (to-the-end used taps)
+    ∙ ap (λ (a : Float). dot a (reverse (drop split ring)) (drop used taps)) ef
+    ∙ ap (λ (t : List Float). dot (dot zero-float (reverse (take split ring)) t) (reverse (drop split ring)) (drop used taps)) (used-take ∙ long-take)
+    ∙ ap (λ (t : List Float). dot (dot zero-float (reverse (take split ring)) (take (length (reverse (take split ring))) taps)) (reverse (drop split ring)) t) (used-drop ∙ long-drop)
+    ∙ sym (dot-joined zero-float (reverse (take split ring)) (reverse (drop split ring)) taps)
+    ∙ ap (λ (r : List Float). dot zero-float (reverse r ++ reverse (drop split ring)) taps) (ap (λ (k : ℕ). take k ring) es ∙ take-least (suc newest) ring)
+    ∙ ap (λ (r : List Float). dot zero-float (reverse (take (suc newest) ring) ++ reverse r) taps) (ap (λ (k : ℕ). drop k ring) es ∙ drop-least (suc newest) ring)
+  where
+    used-take : take used taps ≡ take split taps
+    used-take = ap (λ (k : ℕ). take k taps) eu ∙ take-least split taps
+
+    used-drop : drop used taps ≡ drop split taps
+    used-drop = ap (λ (k : ℕ). drop k taps) eu ∙ drop-least split taps
+
+    long : split ≡ length (reverse (take split ring))
+    long = sym (length-reverse (take split ring) ∙ length-take-le split ring (omega arith))
+
+    long-take : take split taps ≡ take (length (reverse (take split ring))) taps
+    long-take = ap (λ (k : ℕ). take k taps) long
+
+    long-drop : drop split taps ≡ drop (length (reverse (take split ring))) taps
+    long-drop = ap (λ (k : ℕ). drop k taps) long

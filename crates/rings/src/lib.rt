@@ -10,28 +10,47 @@
 // of every state: what frames give is document 01's sums over their signals and those that were held, and
 // what they leave holds the newest L of these.
 ghost use mathlib.Core.Path.{_≡_};
-ghost use Prim.Native.Nat.{suc};
+ghost use Prim.Native.Nat.{suc, min};
+ghost use mathlib.Core.List.{reverse};
 ghost use Rattle.formats.specs.Floats.{zero-float};
 ghost use Rattle.planes.specs.Sums.{dot};
 ghost use Rattle.rings.specs.Unrolled.{unrolled};
 
+// How many cells there are up to the newest signal's, itself included.
+fn cells_up_to(newest: usize, n: usize) -> usize
+    ensures { λ r. ⌜ r ≡ min (suc newest) n ⌝ }
+{
+    if newest < n {
+        return newest + 1;
+    }
+    n
+}
+
+// A straight run: its cells from the last back to the first, times the taps in order, added to a sum. The shorter
+// of the two ends it.
+fn run_back(cells: &[f32], taps: &[f32], sum: f64) -> f64
+    ensures { λ r. ⌜ r ≡ dot sum (reverse (now (cells .entry))) (now (taps .entry)) ⌝ }
+{
+    let n = cells.len();
+    let count = checks::least(n, taps.len());
+    let mut total = sum;
+    let mut k = 0;
+    while k < count {
+        let i = n - 1 - k;
+        total = total + numbers::widen(cells[i]) * numbers::widen(taps[k]);
+        k += 1;
+    }
+    total
+}
+
 // An ear's part of one speaker: its ring, whose newest signal stands in the cell `newest`, back round to the
-// oldest, times the taps. The shorter of the two ends the sum; beyond the last cell the newest is the last.
+// oldest, times the taps: from the newest back to the start, then from the end back to the oldest, one sum. The
+// shorter of the two ends it; beyond the last cell the newest is the last.
 pub fn convolve(ring: &[f32], newest: usize, taps: &[f32]) -> f64
     ensures { λ r. ⌜ r ≡ dot zero-float (unrolled (suc newest) (now (ring .entry))) (now (taps .entry)) ⌝ }
 {
-    let n = ring.len();
-    if n == 0 {
-        return 0.0;
-    }
-    let from = checks::least(newest, n - 1);
-    let count = checks::least(n, taps.len());
-    let mut sum = 0.0;
-    let mut k = 0;
-    while k < count {
-        let i = (from + n - k) % n;
-        sum = sum + numbers::widen(ring[i]) * numbers::widen(taps[k]);
-        k += 1;
-    }
-    sum
+    let split = cells_up_to(newest, ring.len());
+    let used = checks::least(split, taps.len());
+    let first = run_back(&ring[..split], &taps[..used], 0.0);
+    run_back(&ring[split..], &taps[used..], first)
 }

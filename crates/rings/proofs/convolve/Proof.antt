@@ -1,102 +1,99 @@
--- `rings::convolve` meets its contract: `Convolving`. Assumes nothing.
-use Prim.Native.Nat.{_-_}
-use native.Mathlib.Nat.{mod-lt}
+-- `rings::convolve` meets its contract: `two-runs`. Assumes nothing.
+use mathlib.Core.Path.{sym}
 use native.Mathlib.Omega.{arith}
+use borrow.Author.Needs.{needs}
 use denote.Ref.{now}
+use lib.Seq.{length-take-le}
 use lib.Ieee.{ofBits}
-use Rattle.rings.proofs.Convolving.{Convolving, place-fits, convolving-nothing, convolving-none, convolving-more, convolving-all}
+use Rattle.rings.proofs.Convolving.{two-runs}
 use Rattle.rings.proofs.convolve.Statement.{statement}
 use Rattle.rings.proofs.convolve.Tie as tie
+use Rattle.rings.proofs.convolve.Reads as reads
+use Rattle.rings.proofs.convolve.Lts as lts
+use Rattle.checks.proofs.least.Reads as least-reads
+use Rattle.rings.proofs.cells_up_to.Reads as cells-up-to-reads
+use Rattle.rings.proofs.run_back.Reads as run-back-reads
 
-abbrev Inv-loop : tie.InvT-loop
-Inv-loop ring newest taps n from count sum₀ k₀ sum k = Convolving ring newest taps from count sum k
+-- src/lib.rt:49:9
+cells-up-to-requires : tie.Need-cells-up-to-requires
+cells-up-to-requires c κs = search needs
 
-abbrev μ-loop : tie.MeasureT-loop
-μ-loop ring newest taps n from count sum₀ k₀ sum k = count - k
+-- src/lib.rt:50:9
+least-requires : tie.Need-least-requires
+least-requires c κs = search needs
 
-returns : tie.Need-returns Inv-loop μ-loop
+-- src/lib.rt:51:26
+slice-aggregate-run-back : tie.Need-slice-aggregate-run-back
+slice-aggregate-run-back c = sym (length-take-le _ _ (omega (arith, c .before .before .cells-up-to .ensures)))
+
+-- src/lib.rt:51:42
+slice-aggregate-run-back-2 : tie.Need-slice-aggregate-run-back-2
+slice-aggregate-run-back-2 c = sym (length-take-le _ _ (omega (arith, c .before .before .least .ensures)))
+
+-- src/lib.rt:51:9
+run-back-requires : tie.Need-run-back-requires
+run-back-requires c κs = search needs
+
+-- src/lib.rt:52:14
+mul-run-back : tie.Need-mul-run-back
+mul-run-back c = search needs
+
+-- src/lib.rt:52:14
+sub-run-back : tie.Need-sub-run-back
+sub-run-back c = search needs
+
+-- src/lib.rt:52:14
+part-run-back-start : tie.Need-part-run-back-start
+part-run-back-start c = search needs
+
+-- src/lib.rt:52:14
+part-run-back-end : tie.Need-part-run-back-end
+part-run-back-end c = search needs
+
+-- src/lib.rt:52:30
+mul-run-back-2 : tie.Need-mul-run-back-2
+mul-run-back-2 c = search needs
+
+-- src/lib.rt:52:30
+sub-run-back-2 : tie.Need-sub-run-back-2
+sub-run-back-2 c = search needs
+
+-- src/lib.rt:52:30
+part-run-back-start-2 : tie.Need-part-run-back-start-2
+part-run-back-start-2 c = search needs
+
+-- src/lib.rt:52:30
+part-run-back-end-2 : tie.Need-part-run-back-end-2
+part-run-back-end-2 c = search needs
+
+-- src/lib.rt:52:5
+run-back-requires-2 : tie.Need-run-back-requires-2
+run-back-requires-2 c κs = search needs
+
+-- src/lib.rt:46:1
+returns : tie.Need-returns
 unfolding ofBits
-returns c = let a = c .before .before .before .args in convolving-nothing (now (a .ring)) (a .newest) (now (a .taps)) (c .if1 .taken)
-
-sub-least : tie.Need-sub-least Inv-loop μ-loop
-sub-least c = omega arith
-
-least-requires : tie.Need-least-requires Inv-loop μ-loop
-least-requires c κs = tt
-
-least-requires-2 : tie.Need-least-requires-2 Inv-loop μ-loop
-least-requires-2 c κs = tt
-
-loop-holds : tie.Need-loop-holds Inv-loop μ-loop
-unfolding ofBits
-loop-holds c = let a = c .before .before .before .before .before .args in convolving-none (now (a .ring)) (a .newest) (now (a .taps)) (c .before .least .result) (c .least2 .result) (c .before .before .if1 .left) (c .before .least .ensures) (c .least2 .ensures)
-
-add-i : tie.Need-add-i Inv-loop μ-loop
-add-i c = omega (arith, c .before .loop .inv .starts, c .before .loop .inv .ends)
-
-sub-i : tie.Need-sub-i Inv-loop μ-loop
-sub-i c = omega (arith, c .before .loop .inv .starts, c .before .loop .inv .ends)
-
-rem-i : tie.Need-rem-i Inv-loop μ-loop
-rem-i c = c .before .loop .inv .some
-
-mul-widen : tie.Need-mul-widen Inv-loop μ-loop
-mul-widen c = record { fits = place-fits _ _ (c .before .loop .inv .some) (omega arith) }
-
-shared-slice-read-widen : tie.Need-shared-slice-read-widen Inv-loop μ-loop
-shared-slice-read-widen c = mod-lt _ (c .before .before .loop .inv .some)
-
-widen-requires : tie.Need-widen-requires Inv-loop μ-loop
-widen-requires c κs = tt
-
-mul-widen-2 : tie.Need-mul-widen-2 Inv-loop μ-loop
-mul-widen-2 c = omega (arith, c .before .before .before .loop .inv .ends)
-
-shared-slice-read-widen-2 : tie.Need-shared-slice-read-widen-2 Inv-loop μ-loop
-shared-slice-read-widen-2 c = omega (arith, c .before .before .before .before .loop .inv .ends)
-
-widen-requires-2 : tie.Need-widen-requires-2 Inv-loop μ-loop
-widen-requires-2 c κs = tt
-
-add-k : tie.Need-add-k Inv-loop μ-loop
-add-k c = omega arith
-
-loop-less : tie.Need-loop-less Inv-loop μ-loop
-loop-less c = omega arith
-
-loop-again : tie.Need-loop-again Inv-loop μ-loop
-loop-again c =
-    let at = c .before .before .before .before .before in
-    let a = at .before .before .before .before .before .before .args in
-    convolving-more (now (a .ring)) (a .newest) (now (a .taps)) (at .before .before .least .result) (at .before .least2 .result) (at .loop .sum) (at .loop .k) (c .before .before .widen .result) (c .widen2 .result)
-    (at .loop .inv) (c .before .before .before .before .loop-test .taken) (c .before .before .widen .ensures .same) (c .widen2 .ensures .same)
-
-returns-2 : tie.Need-returns-2 Inv-loop μ-loop
-returns-2 c =
-    let a = c .before .before .before .before .before .before .before .args in
-    convolving-all (now (a .ring)) (a .newest) (now (a .taps)) (c .before .before .before .least .result) (c .before .before .least2 .result) (c .before .loop .sum) (c .before .loop .k) (c .before .loop .inv) (c .loop-test .left)
+returns c =
+    let a = c .before .before .before .before .before .before .before .before .before .before .args in
+    two-runs (now (a .ring)) (a .newest) (now (a .taps)) (c .before .before .before .before .before .before .before .cells-up-to .result) (c .before .before .before .before .before .before .least .result) (c .before .before .before .run-back .result) (c .run-back2 .result)
+    (c .before .before .before .before .before .before .before .cells-up-to .ensures) (c .before .before .before .before .before .before .least .ensures) (c .before .before .before .run-back .ensures) (c .run-back2 .ensures)
 
 pub convolve-spec : {M : Type 1} → statement M
 convolve-spec =
     tie.close
     (tie.spec
-    Inv-loop
-    μ-loop
-    returns
-    sub-least
+    cells-up-to-requires
     least-requires
-    least-requires-2
-    loop-holds
-    add-i
-    sub-i
-    rem-i
-    mul-widen
-    shared-slice-read-widen
-    widen-requires
-    mul-widen-2
-    shared-slice-read-widen-2
-    widen-requires-2
-    add-k
-    loop-less
-    loop-again
-    returns-2)
+    slice-aggregate-run-back
+    slice-aggregate-run-back-2
+    run-back-requires
+    mul-run-back
+    sub-run-back
+    part-run-back-start
+    part-run-back-end
+    mul-run-back-2
+    sub-run-back-2
+    part-run-back-start-2
+    part-run-back-end-2
+    run-back-requires-2
+    returns)
