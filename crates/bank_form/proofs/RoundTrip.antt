@@ -1,12 +1,11 @@
 -- The laws of the form: reading what was written gives the same bank (`read-write`), and writing what was read gives the same bytes (`write-read`). Assumes nothing.
 use mathlib.Core.Path.{_≡_, refl, sym, ap, _∙_}
-use mathlib.Core.Bool.{true, not, and-eq-true-iff, false≢true}
+use mathlib.Core.Bool.{true, and-eq-true-iff}
 use mathlib.Core.List.{List, [], _∷_, _++_, append-assoc, append-nil}
 use Prim.Native.Nat.{ℕ, zero, suc, _+_, _-_, _*_, _^_, _≤_, _<_}
 use native.Mathlib.Nat.{mul-le-mul, le-of-suc-le-suc}
 use native.Mathlib.Omega.{arith}
-use lib.Dec.{T}
-use lib.Ieee.{Float, nan, inf, fin, binary32, fits, ofBits, toBits, isNan}
+use lib.Ieee.{Float, nan, binary32, fits, ofBits, toBits}
 use lib.Ieee.Bits.{ofBits-toBits, toBits-ofBits, toBits-lt}
 use lib.Ieee.Fits.{nan-fits}
 use lib.Ieee.Scale.{finite}
@@ -16,6 +15,7 @@ use lib.Seq.{drop-drop, take-at, drop-at, length-take-le}
 use mir.Syntax.{w16}
 use mir.Val.{toZ, ofZ, SFits}
 use mir.Facts.{toZ-ofZ, ofZ-toZ, fits-ofZ}
+use Rattle.formats.proofs.Patterns.{finite-no-nan}
 use Rattle.big_endian.specs.Bytes.{bytesOf, AreBytes}
 use Rattle.big_endian.specs.Fields.{fieldAt, signedAt, floatAt}
 use Rattle.big_endian.specs.Lists.{strided, floatBytes}
@@ -171,12 +171,6 @@ read-write b h =
     }
 
 -- ---- writing what was read
-
-finite-no-nan : (x : Float) → finite x ≡ true → T (not (isNan x))
-unfolding isNan
-finite-no-nan nan h = absurd (false≢true h)
-finite-no-nan (inf s) h = tt
-finite-no-nan (fin s m e) h = tt
 
 -- the bits of a tap that was read are the bits that were there
 tap-back : (s : List ℕ) (p : ℕ) → AreBytes s → isTap (floatAt s p) ≡ true → toBits binary32 (floatAt s p) ≡ fieldAt s p 4

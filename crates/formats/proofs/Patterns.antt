@@ -16,7 +16,7 @@ use lib.Ieee.Fits.{two, reach, two-le-pos, down-pos, odd-fits, inf-fits, and-l, 
 use lib.Ieee.Bits.{ofBits-toBits, nanBits-is, nanBits-above}
 use lib.Ieee.Compare.{nan-differs}
 use lib.Ieee.Exact.{HasValue, odd-sign}
-use lib.Ieee.Scale.{overflow}
+use lib.Ieee.Scale.{overflow, finite}
 use Rattle.lists.proofs.Tests.{by-less}
 use Rattle.formats.specs.Floats.{zero-float}
 use Rattle.formats.proofs.Digits.{twice, pack, under-end, past-end}
@@ -197,3 +197,9 @@ round-no-nan f s a c = units-no-nan f s _ _
 
 pub pattern-no-nan : (f : Format) (v : Float) → T (fits f v) → T (not (isNan v)) → T (not (nanBits f (toBits f v)))
 pattern-no-nan f v h n = subst (λ (b : Bool). T (not b)) (sym (nanBits-is f (toBits f v) ∙ ap isNan (ofBits-toBits f v h))) n
+
+pub finite-no-nan : (x : Float) → finite x ≡ true → T (not (isNan x))
+unfolding isNan
+finite-no-nan nan h = absurd (true≢false (sym h))
+finite-no-nan (inf s) h = tt
+finite-no-nan (fin s m e) h = tt

@@ -1,60 +1,145 @@
 -- Where a speaker's ring and taps stand in the lent lists, and what `ear` makes of the sum of the speakers' parts. Assumes nothing.
-use mathlib.Core.Path.{_≡_, ap, _∙_}
-use mathlib.Core.List.{List, []}
+use mathlib.Core.Path.{_≡_, sym, ap, _∙_}
+use mathlib.Core.Bool.{not, _&&_}
+use mathlib.Core.List.{List, [], reverse}
 use Prim.Native.Nat.{ℕ, _+_, _-_, _*_, _≤_, _<_}
-use native.Mathlib.Nat.{mul-le-mul-left, mul-one}
+use native.Mathlib.Nat.{add-zero, mul-le-mul-left, mul-one, suc-mul}
+use native.Mathlib.Numerals.{add-one}
 use native.Mathlib.Omega.{arith}
-use lib.ListN.{length, take, drop}
-use lib.Ieee.{Float, binary64, mul}
+use lib.Dec.{T}
+use lib.ListN.{length, getD, take, drop, length-take, length-drop}
+use lib.Seq.{length-take-le}
+use lib.Ieee.{Float, nan, binary32, binary64, add, mul, isNan, fits}
+use lib.Ieee.Fits.{and-i, fits-widens}
 use Rattle.formats.specs.Floats.{zero-float}
 use Rattle.numbers.specs.Computed.{narrowed}
-use Rattle.lists.specs.Tables.{tab, row}
-use Rattle.planes.specs.Sums.{dot, total}
+use Rattle.lists.specs.Tables.{row}
+use Rattle.planes.specs.Sums.{dot}
 use Rattle.planes.specs.Normalization.{inverseRoot}
-use Rattle.lists.proofs.Tables.{part-is, row-end}
+use Rattle.formats.proofs.Patterns.{finite-no-nan}
+use Rattle.lists.proofs.Tables.{length-part, part-is, row-end}
+use Rattle.checks.proofs.Checks.{sound-at, sound-take, sound-drop}
+use Rattle.planes.proofs.Sums.{Summing, summing-none, summing-more, summing-all}
 use Rattle.history.specs.History.{earOf}
 use Rattle.rings.specs.Unrolled.{unrolled}
 use Rattle.rings.specs.Computed.{partBy, partOf}
+use Rattle.rings.proofs.TwoRuns.{two-runs}
 use Rattle.hrtf_checks.specs.declared.Shape.{Shape}
 use Rattle.hrtf_checks.specs.Call.{setupOf}
-use Rattle.hrtf.specs.Computed.{PartInside, earBy}
+use Rattle.hrtf.specs.declared.parts.EarSums.{EarSums}
+use Rattle.hrtf.specs.Computed.{TapsFor, dotEach, noSums, PartsInside, partsBy, earBy, earsBy}
+
+-- ---- taps that go with cells: one may be cast, and so may those of a part
+
+pub tap-casts : (cells taps : List Float) (k : ℕ) → TapsFor cells taps → k < length cells → T (fits binary32 (getD taps k nan)) → T (fits binary64 (getD taps k nan) && not (isNan (getD taps k nan)))
+tap-casts cells taps k t h held =
+    and-i (fits binary64 (getD taps k nan)) (not (isNan (getD taps k nan))) (fits-widens (getD taps k nan) held)
+    (finite-no-nan (getD taps k nan) (sound-at taps k (t .finite) (omega (arith, t .each))))
+
+pub taps-before : (cells taps : List Float) (n : ℕ) → TapsFor cells taps → n ≤ length cells → TapsFor (take n cells) (take n taps)
+taps-before cells taps n t h = record { each = length-take-le n taps (omega (arith, t .each)) ∙ sym (length-take-le n cells h); finite = sound-take n taps (t .finite) }
+
+pub taps-behind : (cells taps : List Float) (n : ℕ) → TapsFor cells taps → TapsFor (take (length cells - n) (drop n cells)) (take (length taps - n) (drop n taps))
+taps-behind cells taps n t =
+    record { each = simp (length-take, length-drop) (omega (arith, t .each)); finite = sound-take (length taps - n) (drop n taps) (sound-drop n taps (t .finite)) }
+
+-- the two straight runs, for each ear
+pub both-runs : (p : ℕ) (ring left right : List Float) (first sums : EarSums) → p ≤ length ring → TapsFor ring left → TapsFor ring right
+    → first ≡ dotEach noSums (reverse (take p ring)) (take p left) (take p right)
+    → sums ≡ dotEach first (reverse (take (length ring - p) (drop p ring))) (take (length left - p) (drop p left)) (take (length right - p) (drop p right))
+    → sums ≡ dotEach noSums (unrolled p ring) left right
+both-runs p ring left right first sums h tl tr ef e = λ i. record {
+      left = ear left (first .left) (sums .left) tl (ap (λ (s : EarSums). s .left) ef) (ap (λ (s : EarSums). s .left) e) i;
+      right = ear right (first .right) (sums .right) tr (ap (λ (s : EarSums). s .right) ef) (ap (λ (s : EarSums). s .right) e) i;
+    }
+  where
+    ear : (taps : List Float) (x y : Float) → TapsFor ring taps → x ≡ dot zero-float (reverse (take p ring)) (take p taps)
+        → y ≡ dot x (reverse (take (length ring - p) (drop p ring))) (take (length taps - p) (drop p taps)) → y ≡ dot zero-float (unrolled p ring) taps
+    ear taps x y t = two-runs p ring taps p p x y (omega arith) (omega (arith, t .each))
 
 -- ---- where a speaker's ring and its taps stand
 
-module _ (h : Shape) (s j side : ℕ) (taps rings : List Float) (p : PartInside h s j side taps rings) where
+-- a part of a list as it is handed on, n long
+abbrev piece : ℕ → ℕ → List Float → List Float
+piece at n xs = take (at + n - at) (drop at xs)
+
+length-piece : (at n : ℕ) (xs : List Float) → at + n ≤ length xs → length (piece at n xs) ≡ n
+length-piece at n xs h = ap length (part-is at n xs) ∙ length-part xs at n h
+
+module _ (h : Shape) (position s j : ℕ) (taps rings : List Float) (p : PartsInside h position s j taps rings) where
+  -- the left ear's taps come first, the right ear's right behind them
+  right-behind : (j * 2 + 1) * h .length ≡ j * 2 * h .length + h .length
+  right-behind = ap (λ (n : ℕ). n * h .length) (add-one (j * 2)) ∙ suc-mul (j * 2) (h .length)
+
   pub ring-end : s * h .length + h .length ≤ length rings
   ring-end = row-end s (h .speakers) (h .length) (length rings) (p .ring) (p .ringed)
 
-  pub taps-end : (j * 2 + side) * h .length + h .length ≤ length taps
-  taps-end = row-end (j * 2 + side) (2 * h .rows) (h .length) (length taps) (omega (arith, p .row, p .ear)) (p .tapped)
+  pub taps-end : j * 2 * h .length + h .length + h .length ≤ length taps
+  taps-end = omega (arith, right-behind, row-end (j * 2 + 1) (2 * h .rows) (h .length) (length taps) (omega (arith, p .row)) (p .tapped))
 
   -- the row's number is no larger than its place, so that it fits where the place does
-  pub row-small : j * 2 + side < length taps
-  row-small = small (j * 2 + side) (h .length) (length taps) (p .long) taps-end
+  pub row-small : j * 2 < length taps
+  row-small = small (j * 2) (h .length) (length taps) (omega (arith, p .within)) (omega (arith, taps-end))
     where
       small : (k n room : ℕ) → 0 < n → k * n + n ≤ room → k < room
       small k n room p e = omega (arith, mul-le-mul-left k p, mul-one k)
 
--- the two parts that are handed on are rows
-pub part-there : (h : Shape) (q s j side : ℕ) (taps rings : List Float) (x : Float)
-    → x ≡ dot zero-float (unrolled q (take (s * h .length + h .length - s * h .length) (drop (s * h .length) rings)))
-    (take ((j * 2 + side) * h .length + h .length - (j * 2 + side) * h .length) (drop ((j * 2 + side) * h .length) taps))
-    → x ≡ partBy (h .length) q s j side taps rings
-part-there h q s j side taps rings x e =
-    e
-    ∙ ap (λ (l : List Float). dot zero-float (unrolled q l) (take (b + h .length - b) (drop b taps))) (part-is (s * h .length) (h .length) rings)
-    ∙ ap (λ (l : List Float). dot zero-float (unrolled q (row (h .length) s rings)) l) (part-is b (h .length) taps)
-  where
-    b : ℕ
-    b = (j * 2 + side) * h .length
+  abbrev ring : List Float
+  ring = piece (s * h .length) (h .length) rings
 
--- ---- the loop
+  abbrev left-taps : List Float
+  left-taps = piece (j * 2 * h .length) (h .length) taps
 
--- the part of each speaker
-abbrev pub parts : Shape → ℕ → List ℕ → List Float → ℕ → List Float → ℕ → Float
-parts h p rows taps side rings = partOf (setupOf h [] rows taps) side p rings
+  abbrev right-taps : List Float
+  right-taps = piece (j * 2 * h .length + h .length) (h .length) taps
 
-pub eared : (h : Shape) (p : ℕ) (rows : List ℕ) (taps : List Float) (side : ℕ) (rings : List Float) (sum inverse r : Float) → sum ≡ total zero-float (tab 0 (h .speakers) (parts h p rows taps side rings))
-    → inverse ≡ inverseRoot (h .speakers) → r ≡ narrowed (mul binary64 sum inverse) → r ≡ earBy h rows taps side p rings
-unfolding earOf
-eared h p rows taps side rings sum inverse r es ei er = er ∙ rw (es, ei)
+  -- so they may be gone through
+  pub parts-asked : (position < length ring) × TapsFor ring left-taps × TapsFor ring right-taps
+  parts-asked = (omega (arith, long, p .within), stand (j * 2 * h .length) (omega (arith, taps-end)), stand (j * 2 * h .length + h .length) taps-end)
+    where
+      long : length ring ≡ h .length
+      long = length-piece (s * h .length) (h .length) rings ring-end
+
+      stand : (at : ℕ) → at + h .length ≤ length taps → TapsFor ring (piece at (h .length) taps)
+      stand at e = record { each = length-piece at (h .length) taps e ∙ sym long; finite = sound-take (at + h .length - at) (drop at taps) (sound-drop at taps (p .finite)) }
+
+  -- and give the speaker's parts
+  pub parts-there : (q : ℕ) (sums : EarSums) → sums ≡ dotEach noSums (unrolled q ring) left-taps right-taps → sums ≡ partsBy h q s j taps rings
+  parts-there q sums e = e ∙ (λ i. record { left = ear 0 (j * 2 * h .length) (ap (λ (n : ℕ). n * h .length) (sym (add-zero (j * 2)))) i; right = ear 1 (j * 2 * h .length + h .length) (sym right-behind) i })
+    where
+      ear : (side at : ℕ) → at ≡ (j * 2 + side) * h .length → dot zero-float (unrolled q ring) (piece at (h .length) taps) ≡ partBy (h .length) q s j side taps rings
+      ear side at there =
+          ap (λ (l : List Float). dot zero-float (unrolled q l) (piece at (h .length) taps)) (part-is (s * h .length) (h .length) rings)
+          ∙ ap (dot zero-float (unrolled q (row (h .length) s rings))) (part-is at (h .length) taps ∙ ap (λ (k : ℕ). take (h .length) (drop k taps)) there)
+
+-- ---- the loop over the speakers
+
+module _ (h : Shape) (p : ℕ) (rows : List ℕ) (taps rings : List Float) where
+  -- each speaker's part of an ear
+  abbrev parts : ℕ → ℕ → Float
+  parts ear = partOf (setupOf h [] rows taps) ear p rings
+
+  -- the parts of the speakers before s are added, each ear's to its own sum
+  pub record Adding (left right : Float) (s : ℕ) : Type 0 where
+    pub to-left : Summing (parts 0) (h .speakers) left s
+    pub to-right : Summing (parts 1) (h .speakers) right s
+
+  pub adding-none : Adding zero-float zero-float 0
+  adding-none = record { to-left = summing-none (parts 0) (h .speakers); to-right = summing-none (parts 1) (h .speakers) }
+
+  pub adding-more : (left right : Float) (s : ℕ) (both : EarSums) → Adding left right s → s < h .speakers → both ≡ partsBy h p s (getD rows s 0) taps rings
+      → Adding (add binary64 left (both .left)) (add binary64 right (both .right)) (s + 1)
+  adding-more left right s both g lt e =
+      record {
+        to-left = summing-more (parts 0) (h .speakers) left s (both .left) (g .to-left) lt (ap (λ (b : EarSums). b .left) e);
+        to-right = summing-more (parts 1) (h .speakers) right s (both .right) (g .to-right) lt (ap (λ (b : EarSums). b .right) e);
+      }
+
+  -- the sums times the factor, narrowed, are the ears' samples
+  pub adding-all : (left right : Float) (s : ℕ) (factor x y : Float) → Adding left right s → h .speakers ≤ s → factor ≡ inverseRoot (h .speakers)
+      → x ≡ narrowed (mul binary64 left factor) → y ≡ narrowed (mul binary64 right factor) → record { left = x; right = y } ≡ earsBy h rows taps p rings
+  unfolding earOf
+  adding-all left right s factor x y g end ef ex ey = λ i. record { left = eared 0 left x (g .to-left) ex i; right = eared 1 right y (g .to-right) ey i }
+    where
+      eared : (ear : ℕ) (sum r : Float) → Summing (parts ear) (h .speakers) sum s → r ≡ narrowed (mul binary64 sum factor) → r ≡ earBy h rows taps ear p rings
+      eared ear sum r summed er = er ∙ rw (summing-all (parts ear) (h .speakers) sum s summed end, ef)

@@ -18,13 +18,14 @@ use Rattle.desk.proofs.Going.{position-below}
 use Rattle.history.specs.Setup.{Setup}
 use Rattle.history.specs.Signals.{signals}
 use Rattle.rings.specs.State.{State}
-use Rattle.rings.specs.Computed.{stored, ringEar, ears, late, stepped, left, played, counted}
+use Rattle.rings.specs.Computed.{stored, ears, late, stepped, left, played, counted}
 use Rattle.rings.proofs.Told.{length-stored}
 use Rattle.hrtf_checks.specs.declared.Shape.{Shape}
 use Rattle.hrtf_checks.specs.Call.{Call, setupOf, setup, framesIn}
 use Rattle.hrtf_checks.specs.Computed.{Ready}
 use Rattle.hrtf.specs.Promise.{Outcome}
-use Rattle.hrtf.specs.Computed.{earBy, FramePlayed, BlockPlayed}
+use Rattle.hrtf.specs.declared.frames.EarSamples.{EarSamples}
+use Rattle.hrtf.specs.Computed.{earsBy, FramePlayed, BlockPlayed}
 
 -- ---- one frame
 
@@ -37,23 +38,21 @@ module _ (h : Shape) (weights : List Float) (rows : List ℕ) (taps : List Float
   ready-stored rings₁ r e =
       record { few = r .few; chosen = r .chosen; tapped = r .tapped; ringed = ap length e ∙ length-stored u t f ∙ r .ringed; within = r .within }
 
-  pub turned : (stride n : ℕ) (ears₀ rings₁ : List Float) (bad : Bool) (l r : Float) (ears₁ ears₂ : List Float) (count one : ℕ)
+  pub turned : (stride n : ℕ) (ears₀ rings₁ : List Float) (bad : Bool) (both : EarSamples) (ears₁ ears₂ : List Float) (count one : ℕ)
       → FramePut (t .rings) (h .length) (t .desk .position) (signals u f) rings₁ bad
-      → l ≡ earBy h rows taps 0 (suc (t .desk .position)) rings₁
-      → r ≡ earBy h rows taps 1 (suc (t .desk .position)) rings₁
-      → ears₁ ≡ withSample ears₀ stride 0 n l
-      → ears₂ ≡ withSample ears₁ stride 1 n r
+      → both ≡ earsBy h rows taps (suc (t .desk .position)) rings₁
+      → ears₁ ≡ withSample ears₀ stride 0 n (both .left)
+      → ears₂ ≡ withSample ears₁ stride 1 n (both .right)
       → one ≡ cond (bad || ltb 0 (t .desk .«to_go»)) 1 0
       → FramePlayed h weights rows taps t f stride n count ears₀ rings₁ ears₂ (n + 1) (count + one) bad
-  turned stride n ears₀ rings₁ bad l r ears₁ ears₂ count one put el es e₁ e₂ eo =
+  turned stride n ears₀ rings₁ bad both ears₁ ears₂ count one put eb e₁ e₂ eo =
       record {
         ringed = put .put;
         eared =
             e₂
-            ∙ ap (λ (ys : List Float). withSample ys stride 1 n r) e₁
-            ∙ ap (λ (x : Float). withSample (withSample ears₀ stride 0 n x) stride 1 n r) (el ∙ ap (ringEar u 0 (suc (t .desk .position))) (put .put))
-            ∙ ap (λ (x : Float). withSample (withSample ears₀ stride 0 n (ringEar u 0 (suc (t .desk .position)) (stored u t f))) stride 1 n x)
-            (es ∙ ap (ringEar u 1 (suc (t .desk .position))) (put .put));
+            ∙ ap (λ (ys : List Float). withSample ys stride 1 n (both .right)) e₁
+            ∙ ap (λ (b : EarSamples). withSample (withSample ears₀ stride 0 n (b .left)) stride 1 n (b .right))
+            (eb ∙ ap (earsBy h rows taps (suc (t .desk .position))) (put .put));
         more = refl;
         counts = ap (λ (k : ℕ). count + k) (eo ∙ ap (λ (b : Bool). cond (b || ltb 0 (t .desk .«to_go»)) 1 0) (put .damage));
         damage = put .damage;

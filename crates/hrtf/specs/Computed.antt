@@ -1,43 +1,72 @@
 -- What the functions under `process` ask and leave. Definitions only; they speak of the program, and nobody has to believe them.
 use mathlib.Core.Path.{_≡_}
 use Prim.Native.Nat.{ℕ, _+_, _*_, _<_}
-use mathlib.Core.Bool.{Bool, cond}
+use mathlib.Core.Bool.{Bool, false, cond}
 use mathlib.Core.List.{List, []}
 use lib.ListN.{length}
 use lib.Ieee.{Float}
+use Rattle.formats.specs.Floats.{zero-float}
+use Rattle.checks.specs.Finite.{unsound}
 use Rattle.planes.specs.Planes.{withFrame, withFrames}
+use Rattle.planes.specs.Sums.{dot}
 use Rattle.planes.specs.Normalization.{inverseRoot}
 use Rattle.desk.specs.declared.Desk.{Desk}
 use Rattle.history.specs.Signals.{damaged}
 use Rattle.rings.specs.State.{State}
-use Rattle.rings.specs.Computed.{stored, ringEar, ears, late, left, played, counted}
+use Rattle.rings.specs.Computed.{stored, partBy, ringEar, ears, late, left, played, counted}
 use Rattle.hrtf_checks.specs.declared.Shape.{Shape}
 use Rattle.hrtf_checks.specs.Call.{Call, setupOf, setup, framesIn}
 use Rattle.hrtf_checks.specs.Computed.{Ready}
 use Rattle.hrtf.specs.declared.frames.Scaled.{Scaled}
+use Rattle.hrtf.specs.declared.frames.EarSamples.{EarSamples}
+use Rattle.hrtf.specs.declared.parts.EarSums.{EarSums}
 use Rattle.hrtf.specs.Promise.{Outcome}
 
 -- a shape with the factor of its ears' sums
 abbrev pub scaledOf : Shape → Scaled
 scaledOf h = record { shape = h; «inverse_root» = inverseRoot (h .speakers) }
 
--- what playing asks: the factor is that of the shape, and what a call that is accepted has made sure of
+-- what playing asks: the factor is that of the shape, and what a call that is accepted has made sure of, the taps' being finite among it
 pub record ScaledReady (k : Scaled) (position : ℕ) (rows : List ℕ) (taps rings : List Float) : Type 0 where
   pub factor : k ≡ scaledOf (k .shape)
   pub ready : Ready (k .shape) position rows taps rings
+  pub finite : unsound taps ≡ false
 
--- where a speaker's ring stands, and the taps of a row and side
-pub record PartInside (h : Shape) (s j side : ℕ) (taps rings : List Float) : Type 0 where
+-- ---- one speaker
+
+-- taps that go with so many cells: one for each, and each of them finite
+pub record TapsFor (cells taps : List Float) : Type 0 where
+  pub each : length taps ≡ length cells
+  pub finite : unsound taps ≡ false
+
+-- both sums gone on with, each by its own taps
+abbrev pub dotEach : EarSums → List Float → List Float → List Float → EarSums
+dotEach sums signals left right = record { left = dot (sums .left) signals left; right = dot (sums .right) signals right }
+
+abbrev pub noSums : EarSums
+noSums = record { left = zero-float; right = zero-float }
+
+-- where a speaker's ring stands, and the taps of a row
+pub record PartsInside (h : Shape) (position s j : ℕ) (taps rings : List Float) : Type 0 where
   pub ring : s < h .speakers
   pub row : j < h .rows
-  pub ear : side < 2
   pub tapped : length taps ≡ 2 * h .rows * h .length
   pub ringed : length rings ≡ h .speakers * h .length
-  pub long : 0 < h .length
+  pub within : position < h .length
+  pub finite : unsound taps ≡ false
+
+-- both ears' parts of speaker s with the taps of row j, where p is the cell that is written next
+abbrev pub partsBy : Shape → ℕ → ℕ → ℕ → List Float → List Float → EarSums
+partsBy h p s j taps rings = record { left = partBy (h .length) p s j 0 taps rings; right = partBy (h .length) p s j 1 taps rings }
+
+-- ---- one frame
 
 -- an ear's sample needs no weights
 abbrev pub earBy : Shape → List ℕ → List Float → ℕ → ℕ → List Float → Float
 earBy h rows taps side p rings = ringEar (setupOf h [] rows taps) side p rings
+
+abbrev pub earsBy : Shape → List ℕ → List Float → ℕ → List Float → EarSamples
+earsBy h rows taps p rings = record { left = earBy h rows taps 0 p rings; right = earBy h rows taps 1 p rings }
 
 -- what one frame leaves, n having been played and `count` of them being unsettled
 pub record FramePlayed (h : Shape) (weights : List Float) (rows : List ℕ) (taps : List Float) (t : State) (f : List Float) (stride n count : ℕ) (ears₀ rings₁ ears₁ : List Float) (n₁ count₁ : ℕ) (bad : Bool) : Type 0 where

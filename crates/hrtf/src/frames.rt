@@ -8,8 +8,7 @@ ghost use mathlib.Core.Bool.{cond, _||_};
 ghost use Prim.Native.Nat.{suc, _≤_, _<_, _^_};
 ghost use lib.Dec.{ltb};
 ghost use Rattle.planes.specs.Planes.{frameAt};
-ghost use Rattle.rings.specs.Computed.{partBy};
-ghost use Rattle.hrtf.specs.Computed.{PartInside, scaledOf, ScaledReady, earBy, FramePlayed, BlockPlayed};
+ghost use Rattle.hrtf.specs.Computed.{scaledOf, ScaledReady, earsBy, FramePlayed, BlockPlayed};
 
 // The frames played so far, how many of them are unsettled, and whether the last one is damaged.
 pub(crate) struct Played {
@@ -42,50 +41,39 @@ pub(crate) fn scale(shape: Shape) -> Scaled
     }
 }
 
-// One speaker's part of an ear's sum, the rings being just written at the position. The speaker's taps are
-// handed on as the part of the bank in which they stand.
-fn part(
-    shape: Shape,
-    position: usize,
-    speaker: usize,
-    row: usize,
-    side: usize,
-    taps: &[f32],
-    rings: &[f32],
-) -> f64
-    requires { ⌜ PartInside shape speaker row side (now taps) (now rings) ⌝ }
-    ensures { λ r. ⌜ r ≡ partBy (shape .length) (suc position) speaker row side (now (taps .entry)) (now (rings .entry)) ⌝ }
-{
-    let length = shape.length;
-    let a = speaker * length;
-    let e = a + length;
-    let b = (row * 2 + side) * length;
-    let f = b + length;
-    rings::convolve(&rings[a..e], position, &taps[b..f])
+// The two samples of a frame.
+struct EarSamples {
+    left: f32,
+    right: f32,
 }
 
-// One ear's sample: the left ear has side 0, the right ear 1.
-fn ear(
+// What the ears hear of the rings: each ear's parts are added, speakers rising.
+fn ears_of(
     scaled: Scaled,
     position: usize,
     row_of: &[usize; 8],
     taps: &[f32],
-    side: usize,
     rings: &[f32],
-) -> f32
-    requires { ⌜ ScaledReady scaled position (now «row_of») (now taps) (now rings) × (side < 2) ⌝ }
-    ensures { λ r. ⌜ r ≡ earBy (scaled .shape) (now («row_of» .entry)) (now (taps .entry)) side (suc position) (now (rings .entry)) ⌝ }
+) -> EarSamples
+    requires { ⌜ ScaledReady scaled position (now «row_of») (now taps) (now rings) ⌝ }
+    ensures { λ r. ⌜ r ≡ earsBy (scaled .shape) (now («row_of» .entry)) (now (taps .entry)) (suc position) (now (rings .entry)) ⌝ }
 {
     let shape = scaled.shape;
     let speakers = shape.speakers;
-    let mut sum = 0.0;
+    let mut left = 0.0;
+    let mut right = 0.0;
     let mut s = 0;
     while s < speakers {
         let row = row_of[s];
-        sum = sum + part(shape, position, s, row, side, taps, rings);
+        let parts = crate::parts::of_speaker(shape, position, s, row, taps, rings);
+        left = left + parts.left;
+        right = right + parts.right;
         s += 1;
     }
-    numbers::narrow(sum * scaled.inverse_root)
+    EarSamples {
+        left: numbers::narrow(left * scaled.inverse_root),
+        right: numbers::narrow(right * scaled.inverse_root),
+    }
 }
 
 // One for a frame that is damaged, or has frames to go before it.
@@ -136,10 +124,9 @@ fn one_frame(
         stride,
         n,
     );
-    let left = ear(scaled, position, row_of, taps, 0, rings);
-    let right = ear(scaled, position, row_of, taps, 1, rings);
-    planes::put_sample(ears, stride, 0, n, left);
-    planes::put_sample(ears, stride, 1, n, right);
+    let heard = ears_of(scaled, position, row_of, taps, rings);
+    planes::put_sample(ears, stride, 0, n, heard.left);
+    planes::put_sample(ears, stride, 1, n, heard.right);
     Played {
         frames: n + 1,
         unsettled: played.unsettled + one_if_late(damaged, to_go),

@@ -19,6 +19,7 @@ ghost use Rattle.hrtf.specs.Promise.{Processes};
 ghost use Rattle.hrtf.specs.Reset.{Resets};
 
 mod frames;
+mod parts;
 
 // What a block answers: a refusal, or 0 with the frames played, how many of them are unsettled, and the desk.
 pub struct Processed {

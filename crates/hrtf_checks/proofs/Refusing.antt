@@ -9,6 +9,7 @@ use lib.Dec.{leb, eqb}
 use lib.ListN.{length, getD}
 use Rattle.refusals.specs.Refusals.{outside}
 use Rattle.refusals.proofs.Chains.{Off, FirstAt, numberAt, first-holds, off-accepts, none-holds}
+use Rattle.checks.specs.Finite.{unsound}
 use Rattle.checks.specs.Lengths.{unfit, blockUnfit}
 use Rattle.checks.proofs.Checks.{or-off, both-off, any-off, is-equal, equal-passes, not-outside, planes-fit, fitted}
 use Rattle.desk.specs.declared.Desk.{Desk}
@@ -83,6 +84,10 @@ module _ (c : Call) (t : State) where
 
   pub weighed : refusalOf c t ≡ 0 → length (c .weights) ≡ c .shape .speakers * c .shape .channels
   weighed e = lent e .1
+
+  -- 7 was not given
+  pub taps-finite : refusalOf c t ≡ 0 → unsound (c .taps) ≡ false
+  taps-finite e = or-off (unsound (c .weights)) _ (every-test e .1 .1 .1 .0) .1
 
   pub ready : refusalOf c t ≡ 0 → Ready (c .shape) (t .desk .position) (c .rows) (c .taps) (t .rings)
   ready e =

@@ -5,5 +5,5 @@ pub mod Held
 pub mod Told
 pub mod Blocks
 pub mod Filters
-mod Convolving
+pub mod TwoRuns
 mod Unique

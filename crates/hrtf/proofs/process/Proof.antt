@@ -9,7 +9,7 @@ use Rattle.rings.specs.State.{State}
 use Rattle.hrtf_checks.specs.declared.Shape.{Shape}
 use Rattle.hrtf_checks.specs.Call.{Call}
 use Rattle.hrtf_checks.specs.Refusals.{refusalOf}
-use Rattle.hrtf_checks.proofs.Refusing.{some-speakers, ready}
+use Rattle.hrtf_checks.proofs.Refusing.{some-speakers, taps-finite, ready}
 use Rattle.hrtf.specs.declared.frames.Scaled.{Scaled}
 use Rattle.hrtf.specs.Computed.{scaledOf, ScaledReady, computed, BlockPlayed}
 use Rattle.hrtf.proofs.Promised.{promised-refused, promised-accepted}
@@ -56,7 +56,7 @@ block-requires c κs =
     let scaled = c .before .before in
     let s = start (scaled .before .before) in
     subst (λ (k : Scaled). ScaledReady k (s .args .desk .position) (now (s .args .row-of)) (now (s .args .taps)) (now (s .args .rings))) (sym (scaled .scale .ensures))
-    (record { factor = refl; ready = ready (call s) (state s) (accepted (scaled .before)) })
+    (record { factor = refl; ready = ready (call s) (state s) (accepted (scaled .before)); finite = taps-finite (call s) (state s) (accepted (scaled .before)) })
 
 same-length-3 : tie.Need-same-length-3
 same-length-3 c = search needs

@@ -2,7 +2,7 @@
 use Prim.Native.Nat.{_-_}
 use native.Mathlib.Omega.{arith}
 use denote.Ref.{now}
-use Rattle.rings.proofs.Convolving.{Running, running-none, running-more, running-all}
+use Rattle.rings.proofs.TwoRuns.{Running, running-none, running-more, running-all}
 use Rattle.rings.proofs.run_back.Statement.{statement}
 use Rattle.rings.proofs.run_back.Tie as tie
 
@@ -11,9 +11,6 @@ Inv-loop cells taps sum n count total₀ k₀ total k = Running cells taps sum c
 
 abbrev μ-loop : tie.MeasureT-loop
 μ-loop cells taps sum n count total₀ k₀ total k = count - k
-
-least-requires : tie.Need-least-requires Inv-loop μ-loop
-least-requires c κs = tt
 
 loop-holds : tie.Need-loop-holds Inv-loop μ-loop
 loop-holds c = let a = c .before .before .before .args in running-none (now (a .cells)) (now (a .taps)) (a .sum) (c .least .result) (c .least .ensures)
@@ -30,35 +27,26 @@ mul-widen c = omega (arith, c .before .loop .inv .ends)
 shared-slice-read-widen : tie.Need-shared-slice-read-widen Inv-loop μ-loop
 shared-slice-read-widen c = omega (arith, c .before .before .loop .inv .ends)
 
-widen-requires : tie.Need-widen-requires Inv-loop μ-loop
-widen-requires c κs = tt
-
 mul-widen-2 : tie.Need-mul-widen-2 Inv-loop μ-loop
 mul-widen-2 c = omega (arith, c .before .before .before .loop .inv .ends)
 
 shared-slice-read-widen-2 : tie.Need-shared-slice-read-widen-2 Inv-loop μ-loop
 shared-slice-read-widen-2 c = omega (arith, c .before .before .before .before .loop .inv .ends)
 
-widen-requires-2 : tie.Need-widen-requires-2 Inv-loop μ-loop
-widen-requires-2 c κs = tt
-
-add-k : tie.Need-add-k Inv-loop μ-loop
-add-k c = omega arith
-
-loop-less : tie.Need-loop-less Inv-loop μ-loop
-loop-less c = omega arith
-
 loop-again : tie.Need-loop-again Inv-loop μ-loop
 loop-again c =
-    let at = c .before .before .before .before .before in
-    let a = at .before .before .before .before .args in
-    running-more (now (a .cells)) (now (a .taps)) (a .sum) (at .before .least .result) (at .loop .total) (at .loop .k) (c .before .before .widen .result) (c .widen2 .result)
-    (at .loop .inv) (c .before .before .before .before .loop-test .taken) (c .before .before .widen .ensures .same) (c .widen2 .ensures .same)
+    let signal = c .before .before in
+    let tested = signal .before .before in
+    let turn = tested .before in
+    let a = turn .before .before .before .before .args in
+    running-more (now (a .cells)) (now (a .taps)) (a .sum) (turn .before .least .result) (turn .loop .total) (turn .loop .k)
+    (signal .widen .result) (c .widen2 .result) (turn .loop .inv) (tested .loop-test .taken) (signal .widen .ensures .same) (c .widen2 .ensures .same)
 
 returns : tie.Need-returns Inv-loop μ-loop
 returns c =
-    let a = c .before .before .before .before .before .args in
-    running-all (now (a .cells)) (now (a .taps)) (a .sum) (c .before .before .least .result) (c .before .loop .total) (c .before .loop .k) (c .before .loop .inv) (c .loop-test .left)
+    let turn = c .before in
+    let a = turn .before .before .before .before .args in
+    running-all (now (a .cells)) (now (a .taps)) (a .sum) (turn .before .least .result) (turn .loop .total) (turn .loop .k) (turn .loop .inv) (c .loop-test .left)
 
 pub run-back-spec : {M : Type 1} → statement M
 run-back-spec =
@@ -66,17 +54,17 @@ run-back-spec =
     (tie.spec
     Inv-loop
     μ-loop
-    least-requires
+    (λ c κs. tt)
     loop-holds
     sub-i
     sub-i-2
     mul-widen
     shared-slice-read-widen
-    widen-requires
+    (λ c κs. tt)
     mul-widen-2
     shared-slice-read-widen-2
-    widen-requires-2
-    add-k
-    loop-less
+    (λ c κs. tt)
+    (λ c. omega arith)
+    (λ c. omega arith)
     loop-again
     returns)

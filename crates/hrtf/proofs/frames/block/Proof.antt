@@ -486,7 +486,7 @@ module _ {M : Type 1} (𝓤 : URA M) (H : Heap 𝓤) (A : Atoms 𝓤) (W : Given
           -- the rings and the ears are lent again, both for the lifetime ν; the shared slices are copied
           move ! (46 ∷ 47 ∷ 48 ∷ 49 ∷ []) $ lends-both ! tt rings-held ears-held zs es (λ ν δ δ′.
           move ! (50 ∷ []) $ use1 W (Shared ⊛ Shared) shared-twice $ split ! $ move ! (51 ∷ 2 ∷ 3 ∷ 0 ∷ 4 ∷ 5 ∷ []) $ group ! 6 $
-          use1 W (raw (OneFrame 𝓤 H A at-mem run .pre (to-frame ν δ δ′ zs es d k))) (goes-frame ν δ δ′ zs es d k (s .is-desk) (s .is-played) (record { factor = ready .factor; ready = s .playing .ready }, s .playing .few, room-for)) $
+          use1 W (raw (OneFrame 𝓤 H A at-mem run .pre (to-frame ν δ δ′ zs es d k))) (goes-frame ν δ δ′ zs es d k (s .is-desk) (s .is-played) (record { factor = ready .factor; ready = s .playing .ready; finite = ready .finite }, s .playing .few, room-for)) $
           -- _12 = one_frame(_12, _14, _2, _4, _5, _6, _7, _8, _16, _18): [what one_frame asks; shared; owed; _0 to _21]
           calls-at ! fm (OneFrame 𝓤 H A at-mem run) known-frame (to-frame ν δ δ′ zs es d k)
           (and-then ! (local ! 27 refl) (and-then ! (local ! 31 refl) (and-then ! (local ! 7 refl) (and-then ! (local ! 11 refl) (and-then ! (local ! 13 refl) (and-then ! (local ! 15 refl) (and-then ! (local ! 17 refl) (and-then ! (local ! 19 refl) (and-then ! (local ! 35 refl) (and-then ! (local ! 39 refl) (no-more !))))))))))) (λ v.

@@ -7,7 +7,6 @@ use lib.Ieee.{Float}
 use denote.Ref.{now}
 use Rattle.planes.specs.Planes.{frameAt}
 use Rattle.rings.specs.State.{State}
-use Rattle.hrtf.specs.Computed.{ScaledReady}
 use Rattle.lists.proofs.Lists.{one-at-most}
 use Rattle.hrtf.proofs.Playing.{ready-stored, turned}
 use borrow.Author.Needs.{needs}
@@ -24,78 +23,52 @@ frame c = let a = c .args in frameAt (now (a .inputs)) (a .stride) (a .scaled .s
 abbrev start : tie.After-mix-frame → tie.Start
 start c = c .before .before .before .before .before .before .before .before
 
-mix-frame-requires : tie.Need-mix-frame-requires
-mix-frame-requires c κs = search needs
-
 -- once the signals are put, the ears may be read
-stored-ready : (c : tie.After-mix-frame) → ScaledReady (start c .args .scaled) (start c .args .desk .position) (now (start c .args .row-of)) (now (start c .args .taps)) (c .mix-frame .last .0)
-stored-ready c =
-    let a = start c .args in
+ears-of-requires : tie.Need-ears-of-requires
+ears-of-requires c κs =
+    let put = c .before .before .before in
+    let s = start put in
+    let a = s .args in
     record {
-      factor = start c .pre .0 .factor;
-      ready = ready-stored (a .scaled .shape) (now (a .weights)) (now (a .row-of)) (now (a .taps)) (state (start c)) (frame (start c)) (c .mix-frame .last .0) (start c .pre .0 .ready) (c .mix-frame .ensures .put);
+      factor = s .pre .0 .factor;
+      ready = ready-stored (a .scaled .shape) (now (a .weights)) (now (a .row-of)) (now (a .taps)) (state s) (frame s) (put .mix-frame .last .0) (s .pre .0 .ready) (put .mix-frame .ensures .put);
+      finite = s .pre .0 .finite;
     }
 
-ear-requires : tie.Need-ear-requires
-ear-requires c κs = (stored-ready (c .before .before .before), omega arith)
-
-ear-requires-2 : tie.Need-ear-requires-2
-ear-requires-2 c κs = (stored-ready (c .before .before .before .before .before), omega arith)
-
-put-sample-requires : tie.Need-put-sample-requires
-put-sample-requires c κs = search needs
-
-put-sample-requires-2 : tie.Need-put-sample-requires-2
-put-sample-requires-2 c κs = search needs
-
 -- from the second ear sample back to the signals
-abbrev stored : tie.After-slice-known5 → tie.After-mix-frame
-stored c = c .before .before .before .before .before .before .before .before .before .before .before .before .before .before
+abbrev stored : tie.After-put-sample2 → tie.After-mix-frame
+stored c = c .before .before .before .before .before .before .before .before .before .before
 
-add-t31 : tie.Need-add-t31
-add-t31 c = omega (arith, start (stored c) .pre .2)
-
-one-if-late-requires : tie.Need-one-if-late-requires
-one-if-late-requires c κs = search needs
-
-add-t33 : tie.Need-add-t33
-add-t33 c =
+add-t30 : tie.Need-add-t30
+add-t30 c =
     let late = c .before in
-    let put = late .before in
-    let s = start (stored put) in
-    omega (arith, s .pre .1, s .pre .2, late .one-if-late .ensures, one-at-most (stored put .mix-frame .result || ltb 0 (s .args .desk .«to_go»)))
-
-same-length : tie.Need-same-length
-same-length c = search needs
-
-same-length-2 : tie.Need-same-length-2
-same-length-2 c = search needs
+    let put = stored (late .before .before .before) in
+    let s = start put in
+    omega (arith, s .pre .1, s .pre .2, late .one-if-late .ensures, one-at-most (put .mix-frame .result || ltb 0 (s .args .desk .«to_go»)))
 
 returns : tie.Need-returns
 returns c =
     let late = c .before in
-    let put = late .before in
-    let right-put = put .before .before in
+    let right-put = late .before .before .before in
     let left-put = right-put .before .before .before .before in
-    let right = left-put .before .before in
-    let left = right .before .before in
-    let s = start (stored put) in
+    let heard = left-put .before .before in
+    let put = stored right-put in
+    let s = start put in
     let a = s .args in
-    turned (a .scaled .shape) (now (a .weights)) (now (a .row-of)) (now (a .taps)) (state s) (frame s) (a .stride) (a .played .frames) (now (a .ears)) _ _ _ _ _ _ (a .played .unsettled) _
-    (stored put .mix-frame .ensures) (left .ear .ensures) (right .ear2 .ensures) (left-put .put-sample .ensures) (right-put .put-sample2 .ensures) (late .one-if-late .ensures)
+    turned (a .scaled .shape) (now (a .weights)) (now (a .row-of)) (now (a .taps)) (state s) (frame s) (a .stride) (a .played .frames) (now (a .ears)) _ _ _ _ _ (a .played .unsettled) _
+    (put .mix-frame .ensures) (heard .ears-of .ensures) (left-put .put-sample .ensures) (right-put .put-sample2 .ensures) (late .one-if-late .ensures)
 
 pub one-frame-spec : {M : Type 1} → statement M
 one-frame-spec =
     tie.close
     (tie.spec
-    mix-frame-requires
-    ear-requires
-    ear-requires-2
-    put-sample-requires
-    put-sample-requires-2
-    add-t31
-    one-if-late-requires
-    add-t33
-    same-length
-    same-length-2
+    (λ c κs. search needs)
+    ears-of-requires
+    (λ c κs. search needs)
+    (λ c κs. search needs)
+    (λ c. search needs)
+    (λ c κs. search needs)
+    add-t30
+    (λ c. search needs)
+    (λ c. search needs)
     returns)

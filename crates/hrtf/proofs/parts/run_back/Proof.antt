@@ -1,0 +1,82 @@
+-- `hrtf::parts::run_back` meets its contract: `rings`' `Running`, once for each ear. Assumes nothing.
+use Prim.Native.Nat.{_-_}
+use mathlib.Core.Path.{refl}
+use native.Mathlib.Omega.{arith}
+use lib.ListN.{length}
+use denote.Ref.{now}
+use Rattle.rings.proofs.TwoRuns.{Running, running-none, running-more, running-all}
+use Rattle.hrtf.proofs.Earing.{tap-casts}
+use Rattle.hrtf.proofs.parts.run_back.Statement.{statement}
+use Rattle.hrtf.proofs.parts.run_back.Tie as tie
+
+abbrev Inv-loop : tie.InvT-loop
+Inv-loop cells left right n to-left₀ to-right₀ k₀ to-left to-right k =
+    Running cells left to-left₀ (length cells) to-left k × Running cells right to-right₀ (length cells) to-right k
+
+abbrev μ-loop : tie.MeasureT-loop
+μ-loop cells left right n to-left₀ to-right₀ k₀ to-left to-right k = n - k
+
+loop-holds : tie.Need-loop-holds Inv-loop μ-loop
+loop-holds c =
+    let start = c .before .before .before in
+    let a = start .args in (
+      running-none (now (a .cells)) (now (a .left)) (a .sums .left) _ (omega (arith, start .pre .0 .each)),
+      running-none (now (a .cells)) (now (a .right)) (a .sums .right) _ (omega (arith, start .pre .1 .each)),
+    )
+
+shared-slice-read-to-left : tie.Need-shared-slice-read-to-left Inv-loop μ-loop
+shared-slice-read-to-left c = omega (arith, c .before .before .before .before .before .before .before .before .pre .0 .each)
+
+float-to-float-to-left : tie.Need-float-to-float-to-left Inv-loop μ-loop
+float-to-float-to-left c =
+    let start = c .before .before .before .before .before .before .before .before .before in
+    tap-casts (now (start .args .cells)) (now (start .args .left)) _ (start .pre .0) (omega arith) (c .row-known .given)
+
+shared-slice-read-to-right : tie.Need-shared-slice-read-to-right Inv-loop μ-loop
+shared-slice-read-to-right c = omega (arith, c .before .before .before .before .before .before .before .before .before .before .pre .1 .each)
+
+float-to-float-to-right : tie.Need-float-to-float-to-right Inv-loop μ-loop
+float-to-float-to-right c =
+    let start = c .before .before .before .before .before .before .before .before .before .before .before in
+    tap-casts (now (start .args .cells)) (now (start .args .right)) _ (start .pre .1) (omega arith) (c .row-known2 .given)
+
+loop-again : tie.Need-loop-again Inv-loop μ-loop
+loop-again c =
+    let signal = c .before .before .before .before in
+    let tested = signal .before .before in
+    let turn = tested .before in
+    let a = turn .before .before .before .before .args in (
+      running-more (now (a .cells)) (now (a .left)) (a .sums .left) _ (turn .loop .to-left) (turn .loop .k) (signal .widen .result) _ (turn .loop .inv .0) (omega arith) (signal .widen .ensures .same) refl,
+      running-more (now (a .cells)) (now (a .right)) (a .sums .right) _ (turn .loop .to-right) (turn .loop .k) (signal .widen .result) _ (turn .loop .inv .1) (omega arith) (signal .widen .ensures .same) refl,
+    )
+
+returns : tie.Need-returns Inv-loop μ-loop
+returns c =
+    let turn = c .before in
+    let a = turn .before .before .before .before .args in
+    let left = running-all (now (a .cells)) (now (a .left)) (a .sums .left) _ (turn .loop .to-left) (turn .loop .k) (turn .loop .inv .0) (c .loop-test .left) in
+    let right = running-all (now (a .cells)) (now (a .right)) (a .sums .right) _ (turn .loop .to-right) (turn .loop .k) (turn .loop .inv .1) (c .loop-test .left) in
+    λ i. record { left = left i; right = right i }
+
+pub run-back-spec : {M : Type 1} → statement M
+run-back-spec =
+    tie.close
+    (tie.spec
+    Inv-loop
+    μ-loop
+    loop-holds
+    (λ c. omega arith)
+    (λ c. omega arith)
+    (λ c. omega arith)
+    (λ c. omega arith)
+    (λ c κs. tt)
+    (λ c. omega arith)
+    shared-slice-read-to-left
+    float-to-float-to-left
+    (λ c. omega arith)
+    shared-slice-read-to-right
+    float-to-float-to-right
+    (λ c. omega arith)
+    (λ c. omega arith)
+    loop-again
+    returns)
