@@ -47,12 +47,12 @@ abbrev pub noSums : EarSums
 noSums = record { left = zero-float; right = zero-float }
 
 -- where a speaker's ring stands, and the taps of a row
-pub record PartsInside (h : Shape) (position s j : ℕ) (taps rings : List Float) : Type 0 where
+pub record PartsInside (h : Shape) (s j : ℕ) (taps rings : List Float) : Type 0 where
   pub ring : s < h .speakers
   pub row : j < h .rows
   pub tapped : length taps ≡ 2 * h .rows * h .length
   pub ringed : length rings ≡ h .speakers * h .length
-  pub within : position < h .length
+  pub some : 0 < h .length
   pub finite : unsound taps ≡ false
 
 -- both ears' parts of speaker s with the taps of row j, where p is the cell that is written next

@@ -4,8 +4,7 @@
 use hrtf_checks::Shape;
 ghost use mathlib.Core.Path.{_≡_};
 ghost use mathlib.Core.List.{reverse};
-ghost use Prim.Native.Nat.{suc, _<_};
-ghost use lib.ListN.{length};
+ghost use Prim.Native.Nat.{suc};
 ghost use Rattle.rings.specs.Unrolled.{unrolled};
 ghost use Rattle.hrtf.specs.Computed.{TapsFor, dotEach, noSums, PartsInside, partsBy};
 
@@ -40,10 +39,10 @@ fn run_back(cells: &[f32], left: &[f32], right: &[f32], sums: EarSums) -> EarSum
 // The ring from the newest signal back round to the oldest, times each ear's taps: from the newest back to the start,
 // then from the end back to the oldest, the sums going on.
 fn convolve_both(ring: &[f32], newest: usize, left: &[f32], right: &[f32]) -> EarSums
-    requires { ⌜ (newest < length (now ring)) × TapsFor (now ring) (now left) × TapsFor (now ring) (now right) ⌝ }
+    requires { ⌜ TapsFor (now ring) (now left) × TapsFor (now ring) (now right) ⌝ }
     ensures { λ r. ⌜ r ≡ dotEach noSums (unrolled (suc newest) (now (ring .entry))) (now (left .entry)) (now (right .entry)) ⌝ }
 {
-    let split = newest + 1;
+    let split = rings::cells_up_to(newest, ring.len());
     let none = EarSums {
         left: 0.0,
         right: 0.0,
@@ -62,7 +61,7 @@ pub(crate) fn of_speaker(
     taps: &[f32],
     rings: &[f32],
 ) -> EarSums
-    requires { ⌜ PartsInside shape position speaker row (now taps) (now rings) ⌝ }
+    requires { ⌜ PartsInside shape speaker row (now taps) (now rings) ⌝ }
     ensures { λ r. ⌜ r ≡ partsBy shape (suc position) speaker row (now (taps .entry)) (now (rings .entry)) ⌝ }
 {
     let length = shape.length;

@@ -2,14 +2,14 @@
 use mathlib.Core.Path.{_≡_, sym, ap, _∙_}
 use mathlib.Core.Logic.{⊎-elim}
 use mathlib.Core.List.{List, [], _∷_, _++_, reverse, reverse-cons, reverse-append, reverse-reverse, append-nil, append-assoc}
-use Prim.Native.Nat.{ℕ, suc, _+_, _-_, _%_, _≤_, _<_, min}
-use native.Mathlib.Nat.{add-mod-right, mod-eq-of-lt, mod-self}
+use Prim.Native.Nat.{ℕ, suc, _+_, _-_, _%_, _≤_, _<_}
+use native.Mathlib.Nat.{mod-eq-of-lt, mod-self}
 use native.Mathlib.Numerals.{add-one}
 use native.Mathlib.Omega.{arith}
-use lib.ListN.{length, getD, set, take, drop, length-take, length-drop, length-append, length-reverse, take-append-drop, drop-of-length-le, List·getD-append}
-use lib.Seq.{getD-append-add, getD-take, getD-drop, take-all, take-suc-set, drop-set-lt, drop-cons, take-at, drop-at, length-take-le}
+use lib.ListN.{length, getD, set, take, drop, length-take, length-drop, length-append, length-reverse, take-append-drop, drop-of-length-le}
+use lib.Seq.{take-all, take-suc-set, drop-set-lt, drop-cons, take-at, drop-at, length-take-le}
 use lib.Ieee.{Float, nan}
-use Rattle.lists.proofs.Lists.{split, getD-reverse}
+use Rattle.lists.proofs.Lists.{split}
 use Rattle.rings.specs.Unrolled.{unrolled}
 
 -- all but the oldest, which stands at p

@@ -16,8 +16,9 @@ ghost use Rattle.formats.specs.Floats.{zero-float};
 ghost use Rattle.planes.specs.Sums.{dot};
 ghost use Rattle.rings.specs.Unrolled.{unrolled};
 
-// How many cells there are up to the newest signal's, itself included.
-fn cells_up_to(newest: usize, n: usize) -> usize
+// How many of a ring's n cells stand in its first run, from the newest signal's back to the start. Beyond the last
+// cell the newest is the last.
+pub fn cells_up_to(newest: usize, n: usize) -> usize
     ensures { λ r. ⌜ r ≡ min (suc newest) n ⌝ }
 {
     if newest < n {

@@ -5,7 +5,7 @@ use mathlib.Core.Path.{ap}
 use denote.Ref.{now}
 use lib.Ieee.{ofBits}
 use Rattle.hrtf.specs.declared.frames.Scaled.{Scaled}
-use Rattle.hrtf.proofs.Earing.{Adding, adding-none, adding-more, adding-all}
+use Rattle.hrtf.proofs.Ears.{Adding, adding-none, adding-more, adding-all}
 use Rattle.hrtf.proofs.frames.ears_of.Statement.{statement}
 use Rattle.hrtf.proofs.frames.ears_of.Tie as tie
 
@@ -30,7 +30,7 @@ of-speaker-requires c κs =
     let asked = c .before .before .before .before .before .before .pre in
     let r = asked .ready in
     let tested = c .before .loop-test .taken in
-    record { ring = omega (arith, tested); row = r .chosen _ (omega (arith, tested)); tapped = r .tapped; ringed = r .ringed; within = r .within; finite = asked .finite }
+    record { ring = omega (arith, tested); row = r .chosen _ (omega (arith, tested)); tapped = r .tapped; ringed = r .ringed; some = omega (arith, r .within); finite = asked .finite }
 
 loop-again : tie.Need-loop-again Inv-loop μ-loop
 loop-again c =

@@ -5,7 +5,7 @@ use native.Mathlib.Omega.{arith}
 use lib.ListN.{length}
 use denote.Ref.{now}
 use Rattle.rings.proofs.TwoRuns.{Running, running-none, running-more, running-all}
-use Rattle.hrtf.proofs.Earing.{tap-casts}
+use Rattle.hrtf.proofs.SpeakerParts.{tap-casts}
 use Rattle.hrtf.proofs.parts.run_back.Statement.{statement}
 use Rattle.hrtf.proofs.parts.run_back.Tie as tie
 

@@ -1,0 +1,107 @@
+-- Both ears' parts of one speaker: taps that go with cells, the two straight runs for each ear, and where a speaker's ring and taps stand in the lent lists. Assumes nothing.
+use mathlib.Core.Path.{_≡_, sym, ap, _∙_}
+use mathlib.Core.Bool.{not, _&&_}
+use mathlib.Core.List.{List, reverse}
+use Prim.Native.Nat.{ℕ, _+_, _-_, _*_, _≤_, _<_, min}
+use native.Mathlib.Nat.{add-zero, mul-le-mul-left, mul-one, suc-mul}
+use native.Mathlib.Numerals.{add-one}
+use native.Mathlib.Omega.{arith}
+use lib.Dec.{T}
+use lib.ListN.{length, getD, take, drop, length-take, length-drop}
+use lib.Ieee.{Float, nan, binary32, binary64, isNan, fits}
+use lib.Ieee.Fits.{and-i, fits-widens}
+use Rattle.formats.specs.Floats.{zero-float}
+use Rattle.formats.proofs.Patterns.{finite-no-nan}
+use Rattle.lists.specs.Tables.{row}
+use Rattle.lists.proofs.Tables.{length-part, part-is, row-end}
+use Rattle.checks.proofs.Checks.{sound-at, sound-take, sound-drop}
+use Rattle.planes.specs.Sums.{dot}
+use Rattle.rings.specs.Unrolled.{unrolled}
+use Rattle.rings.specs.Computed.{partBy}
+use Rattle.rings.proofs.TwoRuns.{two-runs}
+use Rattle.hrtf_checks.specs.declared.Shape.{Shape}
+use Rattle.hrtf.specs.declared.parts.EarSums.{EarSums}
+use Rattle.hrtf.specs.Computed.{TapsFor, dotEach, noSums, PartsInside, partsBy}
+
+-- ---- taps that go with cells: each may be cast, and so go the parts of both
+
+pub tap-casts : (cells taps : List Float) (k : ℕ) → TapsFor cells taps → k < length cells → T (fits binary32 (getD taps k nan)) → T (fits binary64 (getD taps k nan) && not (isNan (getD taps k nan)))
+tap-casts cells taps k t h held =
+    and-i (fits binary64 (getD taps k nan)) (not (isNan (getD taps k nan))) (fits-widens (getD taps k nan) held)
+    (finite-no-nan (getD taps k nan) (sound-at taps k (t .finite) (omega (arith, t .each))))
+
+pub taps-before : (cells taps : List Float) (n : ℕ) → TapsFor cells taps → TapsFor (take n cells) (take n taps)
+taps-before cells taps n t = record { each = simp (length-take) (omega (arith, t .each)); finite = sound-take n taps (t .finite) }
+
+pub taps-behind : (cells taps : List Float) (n : ℕ) → TapsFor cells taps → TapsFor (take (length cells - n) (drop n cells)) (take (length taps - n) (drop n taps))
+taps-behind cells taps n t =
+    record { each = simp (length-take, length-drop) (omega (arith, t .each)); finite = sound-take (length taps - n) (drop n taps) (sound-drop n taps (t .finite)) }
+
+-- the two straight runs, for each ear
+pub both-runs : (p : ℕ) (ring left right : List Float) (split : ℕ) (first sums : EarSums) → split ≡ min p (length ring) → TapsFor ring left → TapsFor ring right
+    → first ≡ dotEach noSums (reverse (take split ring)) (take split left) (take split right)
+    → sums ≡ dotEach first (reverse (take (length ring - split) (drop split ring))) (take (length left - split) (drop split left)) (take (length right - split) (drop split right))
+    → sums ≡ dotEach noSums (unrolled p ring) left right
+both-runs p ring left right split first sums es tl tr ef e = λ i. record {
+  left = ear left (first .left) (sums .left) tl (ap (λ (s : EarSums). s .left) ef) (ap (λ (s : EarSums). s .left) e) i;
+  right = ear right (first .right) (sums .right) tr (ap (λ (s : EarSums). s .right) ef) (ap (λ (s : EarSums). s .right) e) i;
+}
+  where
+    ear : (taps : List Float) (x y : Float) → TapsFor ring taps → x ≡ dot zero-float (reverse (take split ring)) (take split taps)
+        → y ≡ dot x (reverse (take (length ring - split) (drop split ring))) (take (length taps - split) (drop split taps)) → y ≡ dot zero-float (unrolled p ring) taps
+    ear taps x y t = two-runs p ring taps split split x y es (omega (arith, t .each))
+
+-- ---- where a speaker's ring and its taps stand
+
+-- a part of a list as it is handed on, n long
+abbrev piece : ℕ → ℕ → List Float → List Float
+piece at n xs = take (at + n - at) (drop at xs)
+
+length-piece : (at n : ℕ) (xs : List Float) → at + n ≤ length xs → length (piece at n xs) ≡ n
+length-piece at n xs h = ap length (part-is at n xs) ∙ length-part xs at n h
+
+module _ (h : Shape) (s j : ℕ) (taps rings : List Float) (p : PartsInside h s j taps rings) where
+  -- the left ear's taps come first, the right ear's right behind them
+  right-behind : (j * 2 + 1) * h .length ≡ j * 2 * h .length + h .length
+  right-behind = ap (λ (n : ℕ). n * h .length) (add-one (j * 2)) ∙ suc-mul (j * 2) (h .length)
+
+  pub ring-end : s * h .length + h .length ≤ length rings
+  ring-end = row-end s (h .speakers) (h .length) (length rings) (p .ring) (p .ringed)
+
+  pub taps-end : j * 2 * h .length + h .length + h .length ≤ length taps
+  taps-end = omega (arith, right-behind, row-end (j * 2 + 1) (2 * h .rows) (h .length) (length taps) (omega (arith, p .row)) (p .tapped))
+
+  -- the row's number is no larger than its place, so that it fits where the place does
+  pub row-small : j * 2 < length taps
+  row-small = small (j * 2) (h .length) (length taps) (p .some) (omega (arith, taps-end))
+    where
+      small : (k n room : ℕ) → 0 < n → k * n + n ≤ room → k < room
+      small k n room p e = omega (arith, mul-le-mul-left k p, mul-one k)
+
+  abbrev ring : List Float
+  ring = piece (s * h .length) (h .length) rings
+
+  abbrev left-taps : List Float
+  left-taps = piece (j * 2 * h .length) (h .length) taps
+
+  abbrev right-taps : List Float
+  right-taps = piece (j * 2 * h .length + h .length) (h .length) taps
+
+  -- so they may be gone through
+  pub parts-asked : TapsFor ring left-taps × TapsFor ring right-taps
+  parts-asked = (stand (j * 2 * h .length) (omega (arith, taps-end)), stand (j * 2 * h .length + h .length) taps-end)
+    where
+      long : length ring ≡ h .length
+      long = length-piece (s * h .length) (h .length) rings ring-end
+
+      stand : (at : ℕ) → at + h .length ≤ length taps → TapsFor ring (piece at (h .length) taps)
+      stand at e = record { each = length-piece at (h .length) taps e ∙ sym long; finite = sound-take (at + h .length - at) (drop at taps) (sound-drop at taps (p .finite)) }
+
+  -- and give the speaker's parts
+  pub parts-there : (q : ℕ) (sums : EarSums) → sums ≡ dotEach noSums (unrolled q ring) left-taps right-taps → sums ≡ partsBy h q s j taps rings
+  parts-there q sums e = e ∙ (λ i. record { left = ear 0 (j * 2 * h .length) (ap (λ (n : ℕ). n * h .length) (sym (add-zero (j * 2)))) i; right = ear 1 (j * 2 * h .length + h .length) (sym right-behind) i })
+    where
+      ear : (side at : ℕ) → at ≡ (j * 2 + side) * h .length → dot zero-float (unrolled q ring) (piece at (h .length) taps) ≡ partBy (h .length) q s j side taps rings
+      ear side at there =
+          ap (λ (l : List Float). dot zero-float (unrolled q l) (piece at (h .length) taps)) (part-is (s * h .length) (h .length) rings)
+          ∙ ap (dot zero-float (unrolled q (row (h .length) s rings))) (part-is at (h .length) taps ∙ ap (λ (k : ℕ). take (h .length) (drop k taps)) there)
