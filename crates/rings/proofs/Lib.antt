@@ -1,4 +1,4 @@
--- Laws that crates above cite: of the frames to go, that rings and desk stand for a history, and of set-ups with the same filters. Then of one ring, the loop of `convolve`, and that no two sums meet its promise.
+-- Laws that crates above cite: of the frames to go, that rings and desk stand for a history, and of set-ups with the same filters. And of a straight run and of two. Then of one ring, wrong ways through it, and that no two answers meet one promise.
 mod Ring
 pub mod ToGo
 pub mod Held
@@ -6,4 +6,5 @@ pub mod Told
 pub mod Blocks
 pub mod Filters
 pub mod TwoRuns
+mod Refuted
 mod Unique

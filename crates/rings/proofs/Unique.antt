@@ -1,5 +1,5 @@
--- No two sums meet the promise of `convolve`. Assumes nothing.
-use Prim.Native.Nat.{ℕ, suc}
+-- No two answers meet one promise. Assumes nothing.
+use Prim.Native.Nat.{ℕ, suc, min}
 use mathlib.Core.Path.{_≡_}
 use mathlib.Core.List.{List}
 use lib.Ieee.{Float}
@@ -11,3 +11,6 @@ use Rattle.rings.specs.Unrolled.{unrolled}
 
 convolve-unique : (ring : List Float) (newest : ℕ) (taps : List Float) → OneAnswer (λ (r : Float). r ≡ dot zero-float (unrolled (suc newest) ring) taps)
 convolve-unique ring newest taps = determined
+
+cells-up-to-unique : (newest n : ℕ) → OneAnswer (λ (r : ℕ). r ≡ min (suc newest) n)
+cells-up-to-unique newest n = determined

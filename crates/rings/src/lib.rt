@@ -21,10 +21,10 @@ ghost use Rattle.rings.specs.Unrolled.{unrolled};
 pub fn cells_up_to(newest: usize, n: usize) -> usize
     ensures { λ r. ⌜ r ≡ min (suc newest) n ⌝ }
 {
-    if newest < n {
-        return newest + 1;
+    if n <= newest {
+        return n;
     }
-    n
+    newest + 1
 }
 
 // A straight run: its cells from the last back to the first, times the taps in order, added to a sum. The shorter

@@ -4,6 +4,7 @@
 //!     oracle requests N SEED > requests     N requests of each kind, the same for the same SEED
 //!     oracle judge N SEED < answers         says which answers to them are wrong, and counts
 //!     oracle differences                    says what the Rust does where documents 01 and 02 ask for something else
+//!     oracle play L N                       plays N frames by the Rust's convolver, with filters of L taps
 mod angles;
 mod bank;
 mod binaural;
@@ -22,6 +23,7 @@ mod rows;
 mod rust;
 mod script;
 mod setup;
+mod speed;
 
 use frame::{Case, Sink, Verdict};
 use random::Random;
@@ -134,8 +136,12 @@ fn main() -> ExitCode {
     let done = match (words.first().map(String::as_str), numbers()) {
         (Some("requests"), Some((count, seed))) => requests(count, seed).map(|()| true),
         (Some("judge"), Some((count, seed))) => judge(count, seed),
+        (Some("play"), Some((length, frames))) => {
+            println!("{:?}", speed::play(length, frames as usize));
+            Ok(true)
+        }
         _ => {
-            eprintln!("usage: oracle requests N SEED > requests; oracle judge N SEED < answers; oracle differences");
+            eprintln!("usage: oracle requests N SEED > requests; oracle judge N SEED < answers; oracle differences; oracle play L N");
             return ExitCode::from(2);
         }
     };
