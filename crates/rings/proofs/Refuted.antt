@@ -37,7 +37,7 @@ Convolves way = (ring : List Float) (newest : ℕ) (taps : List Float) → way r
 not-silent : (way : Way) → way three 0 ones ≡ zero-float → Convolves way → ⊥
 not-silent way e meets = true≢false (ap positive (sym three-summed ∙ sym (meets three 0 ones) ∙ e))
 
--- ---- four such ways
+-- ---- five such ways
 
 -- the two runs added apart
 abbrev runsApart : Way
@@ -56,9 +56,14 @@ runsExchanged ring newest taps = dot zero-float (reverse (drop (suc newest) ring
 abbrev secondForwards : Way
 secondForwards ring newest taps = dot zero-float (reverse (take (suc newest) ring) ++ drop (suc newest) ring) taps
 
+-- a cell further: as if the desk were stepped before the ears are read
+abbrev steppedFirst : Way
+steppedFirst ring newest taps = dot zero-float (unrolled (suc (suc newest)) ring) taps
+
 silent : (runsApart three 0 ones ≡ zero-float) × (oldestFirst three 0 ones ≡ zero-float) × (runsExchanged three 0 ones ≡ zero-float) × (secondForwards three 0 ones ≡ zero-float)
+    × (steppedFirst three 0 ones ≡ zero-float)
 unfolding three ones add mul sum round size span climb units odd
-silent = (refl, refl, refl, refl)
+silent = (refl, refl, refl, refl, refl)
 
 runs-apart : Convolves runsApart → ⊥
 runs-apart = not-silent runsApart (silent .0)
@@ -71,6 +76,9 @@ runs-exchanged = not-silent runsExchanged (silent .2)
 
 second-forwards : Convolves secondForwards → ⊥
 second-forwards = not-silent secondForwards (silent .3)
+
+stepped-first : Convolves steppedFirst → ⊥
+stepped-first = not-silent steppedFirst (silent .4)
 
 -- ---- the end of the first run: never behind the last cell, and in a ring that has one the newest signal is in it
 
