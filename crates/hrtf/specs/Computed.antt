@@ -26,7 +26,7 @@ use Rattle.hrtf.specs.Promise.{Outcome}
 abbrev pub scaledOf : Shape → Scaled
 scaledOf h = record { shape = h; «inverse_root» = inverseRoot (h .speakers) }
 
--- what playing asks: the factor is that of the shape, and what a call that is accepted has made sure of, the taps' being finite among it
+-- what playing asks: the factor is that of the shape; what an accepted call has made sure of; and that every tap is finite, since 7 was not given
 pub record ScaledReady (k : Scaled) (position : ℕ) (rows : List ℕ) (taps rings : List Float) : Type 0 where
   pub factor : k ≡ scaledOf (k .shape)
   pub ready : Ready (k .shape) position rows taps rings

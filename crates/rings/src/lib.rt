@@ -3,8 +3,9 @@
 //
 // The rings stand speaker by speaker, L cells each, in one lent list. A frame's signals go into the cell at
 // the desk's position, one in each ring, by `planes::mix_frame`: rings are planes whose stride is L.
-// `convolve` is an ear's part of a speaker: its ring from the newest signal to the oldest, times the taps. It
-// takes any lists, and promises the ordered sum by an equation.
+// `convolve` is an ear's part of a speaker: its ring from the newest signal to the oldest, times the taps, as two
+// straight runs, so that no place is a remainder. It takes any lists, and promises the ordered sum by an equation.
+// Blocks are played by `hrtf`, which goes over a ring once for both ears, by the same two runs.
 //
 // Whatever stands in the rings is the signals of the last L frames (specs/Held.antt). The laws (proofs/) say,
 // of every state: what frames give is document 01's sums over their signals and those that were held, and
