@@ -3,18 +3,16 @@ use mathlib.Core.Path.{_≡_, refl, sym, ap, _∙_, subst}
 use mathlib.Core.Bool.{true, not, _||_}
 use mathlib.Core.List.{List, [], _∷_, _++_}
 use Prim.Native.Nat.{ℕ, zero, suc, _+_, _*_, _<_}
-use native.Mathlib.Nat.{not-suc-le-zero, le-of-suc-le-suc, zero-add}
+use native.Mathlib.Nat.{not-suc-le-zero, zero-add}
 use native.Mathlib.Omega.{arith}
 use lib.ListN.{length, getD}
-use lib.Ieee.{Float, nan, inf, fin, binary32, binary64, add, mul}
+use lib.Ieee.{Float, nan, binary32, mul}
 use lib.Ieee.Scale.{finite}
-use Rattle.formats.specs.Floats.{zero-float}
 use Rattle.lists.specs.Tables.{tab, row}
 use Rattle.lists.proofs.Tables.{length-tab, getD-tab, length-row}
-use Rattle.numbers.specs.Computed.{rounded, narrowed}
 use Rattle.checks.specs.Finite.{unsound}
 use Rattle.channel.specs.Orders.{channelsOfOrder}
-use Rattle.planes.specs.Sums.{total, products, dot, mixed}
+use Rattle.planes.proofs.Sums.{mixed-nan}
 use Rattle.harmonics.specs.declared.Direction.{Direction}
 use Rattle.cues.specs.Cues.{Voice, speaking, voiceAt}
 use Rattle.script.specs.Rendering.{spoken}
@@ -28,30 +26,6 @@ use Rattle.runs.specs.Runs.{next, fedBy, Alike, fedAll}
 use Rattle.drills.specs.Drills.{Drill, samples, encoded, fed}
 use Rattle.drills.specs.Demand.{gainsAt}
 use Rattle.drills.proofs.Silence.{encoded-at}
-
--- ---- sums over a NaN
-
-nan-added : (a : Float) → add binary64 a nan ≡ nan
-unfolding add
-nan-added nan = refl
-nan-added (inf s) = refl
-nan-added (fin s m e) = refl
-
-total-nan : (xs : List Float) → total nan xs ≡ nan
-unfolding add
-total-nan [] = refl
-total-nan (x ∷ xs) = total-nan xs
-
-dot-nan : (a : Float) (xs ws : List Float) (c : ℕ) → c < length xs → c < length ws → getD xs c nan ≡ nan → dot a xs ws ≡ nan
-unfolding mul
-dot-nan a [] ws c hx hw e = absurd (not-suc-le-zero hx)
-dot-nan a (x ∷ xs) [] c hx hw e = absurd (not-suc-le-zero hw)
-dot-nan a (x ∷ xs) (w ∷ ws) zero hx hw e = ap (λ (y : Float). total (add binary64 a (mul binary64 y w)) (products xs ws)) e ∙ ap (λ (y : Float). total y (products xs ws)) (nan-added a) ∙ total-nan (products xs ws)
-dot-nan a (x ∷ xs) (w ∷ ws) (suc c) hx hw e = dot-nan (add binary64 a (mul binary64 x w)) xs ws c (le-of-suc-le-suc hx) (le-of-suc-le-suc hw) e
-
-mixed-nan : (ws xs : List Float) (c : ℕ) → c < length xs → c < length ws → getD xs c nan ≡ nan → mixed ws xs ≡ nan
-unfolding mixed rounded
-mixed-nan ws xs c hx hw e = ap narrowed (dot-nan zero-float xs ws c hx hw e)
 
 -- ---- a frame
 

@@ -7,15 +7,17 @@ use native.Mathlib.Nat.{add-zero, mul-le-mul-left, mul-one, suc-mul}
 use native.Mathlib.Numerals.{add-one}
 use native.Mathlib.Omega.{arith}
 use lib.Dec.{T}
-use lib.ListN.{length, getD, take, drop, length-take, length-drop}
+use lib.ListN.{length, getD, take, drop, length-take, length-drop, length-reverse}
 use lib.Ieee.{Float, nan, binary32, binary64, isNan, fits}
 use lib.Ieee.Fits.{and-i, fits-widens}
 use Rattle.formats.specs.Floats.{zero-float}
 use Rattle.formats.proofs.Patterns.{finite-no-nan}
 use Rattle.lists.specs.Tables.{row}
+use Rattle.lists.proofs.Lists.{getD-reverse}
 use Rattle.lists.proofs.Tables.{length-part, part-is, row-end}
 use Rattle.checks.proofs.Checks.{sound-at, sound-take, sound-drop}
 use Rattle.planes.specs.Sums.{dot}
+use Rattle.planes.proofs.Sums.{dot-nan}
 use Rattle.rings.specs.Unrolled.{unrolled}
 use Rattle.rings.specs.Computed.{partBy}
 use Rattle.rings.proofs.TwoRuns.{two-runs}
@@ -23,12 +25,14 @@ use Rattle.hrtf_checks.specs.declared.Shape.{Shape}
 use Rattle.hrtf.specs.declared.parts.EarSums.{EarSums}
 use Rattle.hrtf.specs.Computed.{TapsFor, dotEach, noSums, PartsInside, partsBy}
 
+-- an f32 that is no NaN may be cast: a cast asks both at once
+pub casts : (x : Float) → T (fits binary32 x) → T (not (isNan x)) → T (fits binary64 x && not (isNan x))
+casts x held number = and-i (fits binary64 x) (not (isNan x)) (fits-widens x held) number
+
 -- ---- taps that go with cells: each may be cast, and so go the parts of both
 
 pub tap-casts : (cells taps : List Float) (k : ℕ) → TapsFor cells taps → k < length cells → T (fits binary32 (getD taps k nan)) → T (fits binary64 (getD taps k nan) && not (isNan (getD taps k nan)))
-tap-casts cells taps k t h held =
-    and-i (fits binary64 (getD taps k nan)) (not (isNan (getD taps k nan))) (fits-widens (getD taps k nan) held)
-    (finite-no-nan (getD taps k nan) (sound-at taps k (t .finite) (omega (arith, t .each))))
+tap-casts cells taps k t h held = casts (getD taps k nan) held (finite-no-nan (getD taps k nan) (sound-at taps k (t .finite) (omega (arith, t .each))))
 
 pub taps-before : (cells taps : List Float) (n : ℕ) → TapsFor cells taps → TapsFor (take n cells) (take n taps)
 taps-before cells taps n t = record { each = simp (length-take) (omega (arith, t .each)); finite = sound-take n taps (t .finite) }
@@ -36,6 +40,14 @@ taps-before cells taps n t = record { each = simp (length-take) (omega (arith, t
 pub taps-behind : (cells taps : List Float) (n : ℕ) → TapsFor cells taps → TapsFor (take (length cells - n) (drop n cells)) (take (length taps - n) (drop n taps))
 taps-behind cells taps n t =
     record { each = simp (length-take, length-drop) (omega (arith, t .each)); finite = sound-take (length taps - n) (drop n taps) (sound-drop n taps (t .finite)) }
+
+-- a cell that is a NaN makes both sums one, wherever it stands
+pub nan-heard : (cells left right : List Float) (sums : EarSums) (k : ℕ) → TapsFor cells left → TapsFor cells right → k < length cells → getD cells (length cells - 1 - k) nan ≡ nan
+    → record { left = nan; right = nan } ≡ dotEach sums (reverse cells) left right
+nan-heard cells left right sums k tl tr h e = λ i. record { left = ear left (sums .left) tl i; right = ear right (sums .right) tr i }
+  where
+    ear : (taps : List Float) (a : Float) → TapsFor cells taps → nan ≡ dot a (reverse cells) taps
+    ear taps a t = sym (dot-nan a (reverse cells) taps k (omega (arith, h, length-reverse cells)) (omega (arith, h, t .each)) (getD-reverse cells k nan h ∙ e))
 
 -- the two straight runs, for each ear
 pub both-runs : (p : ℕ) (ring left right : List Float) (split : ℕ) (first sums : EarSums) → split ≡ min p (length ring) → TapsFor ring left → TapsFor ring right

@@ -1,6 +1,7 @@
 // Both ears' parts of one speaker, in one pass over its ring: each signal is read once, and goes into two sums, each in
 // its own order. The ring is worked through as two straight runs, so that no place in it is a remainder. A tap needs no
-// test for a NaN, since a block with one is refused (7) before it is played; a signal may be anything.
+// test for a NaN, since a block with one is refused (7) before it is played; a signal may be anything, and a NaN ends
+// the run.
 use hrtf_checks::Shape;
 ghost use mathlib.Core.Path.{_≡_};
 ghost use mathlib.Core.List.{reverse};
@@ -25,7 +26,15 @@ fn run_back(cells: &[f32], left: &[f32], right: &[f32], sums: EarSums) -> EarSum
     let mut k = 0;
     while k < n {
         let i = n - 1 - k;
-        let signal = numbers::widen(cells[i]);
+        let cell = cells[i];
+        if cell != cell {
+            // A NaN alone differs from itself, and both sums are one from here on.
+            return EarSums {
+                left: 0.0 / 0.0,
+                right: 0.0 / 0.0,
+            };
+        }
+        let signal = cell as f64;
         to_left = to_left + signal * (left[k] as f64);
         to_right = to_right + signal * (right[k] as f64);
         k += 1;

@@ -5,12 +5,13 @@ use Prim.Native.Nat.{ℕ, zero, suc, _+_, _≤_, _<_, min}
 use native.Mathlib.Nat.{not-suc-le-zero, le-of-suc-le-suc}
 use native.Mathlib.Omega.{arith}
 use lib.ListN.{length, getD, take, drop}
-use lib.Ieee.{Float, nan, binary64, add, mul}
+use lib.Ieee.{Float, nan, inf, fin, binary64, add, mul}
 use Rattle.formats.specs.Floats.{zero-float}
+use Rattle.numbers.specs.Computed.{rounded, narrowed}
 use Rattle.lists.specs.Tables.{tab}
 use Rattle.lists.proofs.Tables.{tab-shift}
 use Rattle.lists.proofs.Going.{Going, going-none, going-more, going-all}
-use Rattle.planes.specs.Sums.{total, products, dot}
+use Rattle.planes.specs.Sums.{total, products, dot, mixed}
 
 -- ---- the loop: f 0, f 1, .., f (n - 1) are added, those before i so far
 
@@ -76,3 +77,27 @@ products-take zero (x ∷ xs) (y ∷ ys) h = absurd (not-suc-le-zero h)
 products-take (suc n) [] ys h = refl
 products-take (suc n) (x ∷ xs) [] h = refl
 products-take (suc n) (x ∷ xs) (y ∷ ys) h = ap (λ (l : List Float). mul binary64 x y ∷ l) (products-take n xs ys (le-of-suc-le-suc h))
+
+-- ---- a NaN among the factors makes the sum one, whatever comes before and after
+
+nan-added : (a : Float) → add binary64 a nan ≡ nan
+unfolding add
+nan-added nan = refl
+nan-added (inf s) = refl
+nan-added (fin s m e) = refl
+
+total-nan : (xs : List Float) → total nan xs ≡ nan
+unfolding add
+total-nan [] = refl
+total-nan (x ∷ xs) = total-nan xs
+
+pub dot-nan : (a : Float) (xs ws : List Float) (c : ℕ) → c < length xs → c < length ws → getD xs c nan ≡ nan → dot a xs ws ≡ nan
+unfolding mul
+dot-nan a [] ws c hx hw e = absurd (not-suc-le-zero hx)
+dot-nan a (x ∷ xs) [] c hx hw e = absurd (not-suc-le-zero hw)
+dot-nan a (x ∷ xs) (w ∷ ws) zero hx hw e = ap (λ (y : Float). total (add binary64 a (mul binary64 y w)) (products xs ws)) e ∙ ap (λ (y : Float). total y (products xs ws)) (nan-added a) ∙ total-nan (products xs ws)
+dot-nan a (x ∷ xs) (w ∷ ws) (suc c) hx hw e = dot-nan (add binary64 a (mul binary64 x w)) xs ws c (le-of-suc-le-suc hx) (le-of-suc-le-suc hw) e
+
+pub mixed-nan : (ws xs : List Float) (c : ℕ) → c < length xs → c < length ws → getD xs c nan ≡ nan → mixed ws xs ≡ nan
+unfolding mixed rounded
+mixed-nan ws xs c hx hw e = ap narrowed (dot-nan zero-float xs ws c hx hw e)
