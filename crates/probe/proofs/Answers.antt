@@ -60,12 +60,28 @@ module _ (operation : ℕ) (args out : List ℕ) where
   unfolding answerOf
   of-script e = rw e
 
-  pub of-none : (1 ≤ operation → 21 < operation) → none out ≡ answerOf operation args out
+  pub of-sum : operation ≡ 25 → Hrtf.answerOf operation args out ≡ answerOf operation args out
   unfolding answerOf
-  of-none far =
+  of-sum e = rw e
+
+  pub of-none : (1 ≤ operation → 21 < operation) → (operation ≡ 25 → ⊥) → none out ≡ answerOf operation args out
+  unfolding answerOf
+  of-none far not-sum =
       elim (decLt operation 1) [
         | yes k ↦ let e : operation ≡ 0 = omega arith in rw e
         | no k ↦
             let h : 21 < operation = far (omega arith) in
-            sym (rw (within-high 1 5 operation (omega arith) (omega arith), within-high 6 8 operation (omega arith) (omega arith), within-high 9 13 operation (omega arith) (omega arith), ne-eqb operation 14 (λ e. omega arith), ne-eqb operation 15 (λ e. omega arith), ne-eqb operation 16 (λ e. omega arith), within-high 17 18 operation (omega arith) (omega arith), within-high 19 20 operation (omega arith) (omega arith), ne-eqb operation 21 (λ e. omega arith)))
+            sym
+            (rw (
+              within-high 1 5 operation (omega arith) (omega arith),
+              within-high 6 8 operation (omega arith) (omega arith),
+              within-high 9 13 operation (omega arith) (omega arith),
+              ne-eqb operation 14 (λ e. omega arith),
+              ne-eqb operation 15 (λ e. omega arith),
+              ne-eqb operation 16 (λ e. omega arith),
+              within-high 17 18 operation (omega arith) (omega arith),
+              within-high 19 20 operation (omega arith) (omega arith),
+              ne-eqb operation 21 (λ e. omega arith),
+              ne-eqb operation 25 not-sum,
+            ))
       ]

@@ -23,9 +23,6 @@ const TOO_LONG: u8 = 3;
 
 const ENDS_INSIDE: u8 = 4;
 
-// Operations are numbered from 1 to this.
-const LAST_OPERATION: u8 = 21;
-
 // An answer begins with the operation and its length, in five bytes.
 const HEAD: usize = 5;
 
@@ -65,7 +62,16 @@ fn put_answer(operation: u8, args: &[u8], out: &mut [u8]) -> usize
         17 | 18 => probe_hrtf::answer(operation, args, out),
         19 | 20 => probe_setup::answer(operation, args, out),
         21 => probe_script::answer(operation, args, out),
+        25 => probe_hrtf::answer(operation, args, out),
         _ => 0,
+    }
+}
+
+// Whether there is such an operation. The numbers 22 to 24 are kept free.
+fn is_operation(operation: u8) -> bool {
+    match operation {
+        1..=21 | 25 => true,
+        _ => false,
     }
 }
 
@@ -74,7 +80,7 @@ fn answer(operation: u8, args: &[u8], out: &mut [u8]) -> bool {
     if out.len() < HEAD {
         return false;
     }
-    if operation == 0 || LAST_OPERATION < operation {
+    if !is_operation(operation) {
         return write_malformed(NO_SUCH_OPERATION, out);
     }
     let count = put_answer(operation, args, &mut out[HEAD..]);

@@ -1,5 +1,6 @@
--- From what is lent and read, through what is played or reset, to what the two operations answer; that no two answers meet one promise, and wrong answers.
+-- From what is lent and read, through what is played, reset or summed, to what the three operations answer; that no two answers meet one promise, and wrong answers.
 mod Blocks
 mod Resets
+mod Sums
 mod Unique
 mod Refuted

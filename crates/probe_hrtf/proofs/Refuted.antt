@@ -1,24 +1,29 @@
--- What the promise rules out: of every accepted block the unsettled count in the place of the samples, and of every refused reset the desk of a block. Assumes nothing.
+-- What the promise rules out: of every accepted block the unsettled count in the place of the samples, of every refused reset the desk of a block, and of no cells a sum of -0.0. Assumes nothing.
 use mathlib.Core.Path.{_≡_, sym, ap, _∙_, subst}
+use mathlib.Core.Bool.{true}
 use mathlib.Core.List.{List, [], _∷_}
 use Prim.Native.Nat.{ℕ, suc, _+_, _*_, _%_, _^_, _≤_}
 use native.Mathlib.Omega.{arith}
 use lib.ListN.{length}
-use lib.Ieee.{Float}
+use lib.IntN.{pos}
+use lib.Ieee.{Float, fin, nan, binary64, toBits}
+use Rattle.formats.specs.Floats.{zero-float}
 use Rattle.big_endian.specs.Bytes.{bytesOf}
 use Rattle.big_endian.specs.Fields.{fieldAt}
-use Rattle.big_endian.specs.Lists.{floatBytes, floatsAt}
+use Rattle.big_endian.specs.Lists.{strided, floatBytes, doubleBytes, floatsAt}
+use Rattle.big_endian.proofs.Lists.{length-fieldBytes}
 use Rattle.desk.specs.declared.Desk.{Desk}
 use Rattle.hrtf_checks.specs.Refusals.{refusalOf}
 use Rattle.hrtf.specs.Promise.{Outcome, outcome}
 use Rattle.hrtf.specs.Reset.{AfterReset, resetRefusal, resetBy, resetOutcome}
 use Rattle.hrtf.proofs.Promised.{outcome-by}
-use Rattle.probe_request.specs.Requests.{cellsLent}
-use Rattle.probe_answer.specs.Answers.{Draft}
-use Rattle.probe_answer.proofs.Standing.{Told, second-told, taken-told}
-use Rattle.probe_hrtf.specs.Requests.{deskAt, lentOf, blockEnd, callAt, stateAt}
+use Rattle.probe_request.specs.Requests.{samplesLent, cellsLent}
+use Rattle.probe_answer.specs.Answers.{Draft, none}
+use Rattle.probe_answer.proofs.Answers.{taken}
+use Rattle.probe_answer.proofs.Standing.{Told, then-same, same-entry, second-told, taken-told}
+use Rattle.probe_hrtf.specs.Requests.{deskAt, lentOf, blockEnd, callAt, stateAt, sumEnd}
 use Rattle.probe_hrtf.specs.Answers as Answers
-use Rattle.probe_hrtf.specs.Answers.{blockShown, blockBy, resetShown, answerOf}
+use Rattle.probe_hrtf.specs.Answers.{blockShown, blockBy, resetShown, sumAt, sumShown, sumBy, answerOf}
 
 module _ (args out : List ℕ) (r : Draft) (room : 9 ≤ length out) where
   -- of an accepted block the unsettled count is told in the place of the samples
@@ -52,3 +57,15 @@ module _ (args out : List ℕ) (r : Draft) (room : 9 ≤ length out) where
       let told : (at : ℕ) → Told 1 8 (fieldAt args at 8) (resetShown (resetOutcome (deskAt args at) (fieldAt args 18 8) (fieldAt args 26 8) (floatsAt args 34 (cellsLent args 0))) out) =
       λ at. position-told (deskAt args at) (fieldAt args 18 8) (fieldAt args 26 8) k (floatsAt args 34 (cellsLent args 0)) refused in
       differs (sym (taken-told (34 + 4 * cellsLent args 0) args out r is long (told 2)) ∙ ap (λ (d : Draft). fieldAt (d .bytes) 1 8) e ∙ told 10 .value)
+
+  -- of no cells the sum is told as -0.0, as where it does not begin at 0.0
+  no-cells-minus-zero : r ≡ answerOf 25 args out → cellsLent args 0 ≡ 0 → length args ≡ sumEnd 0 (samplesLent args 2) → r ≡ sumShown (fin true 0 (pos 0)) out → ⊥
+  unfolding answerOf sumBy sumAt strided toBits
+  no-cells-minus-zero is none-lent long e =
+      let zero = doubleBytes (zero-float ∷ []) in
+      let minus = doubleBytes (fin true 0 (pos 0) ∷ []) in
+      let size : (x : Float) → length (doubleBytes (x ∷ [])) ≡ 8 = λ x. length-fieldBytes 8 (toBits binary64) (x ∷ []) in
+      let right : r ≡ sumShown zero-float out = is ∙ ap (λ (n : ℕ). sumBy n (samplesLent args 2) args out) none-lent ∙ sym (taken (sumEnd 0 (samplesLent args 2)) args out _ long) in
+      let same : zero ≡ minus = then-same (none out) zero minus (size _ ∙ sym (size _)) (omega (arith, size zero-float)) (sym right ∙ e) in
+      let bits = same-entry 8 (toBits binary64) (zero-float ∷ []) (fin true 0 (pos 0) ∷ []) 0 nan (omega arith) (omega arith) same in
+      omega (arith, bits)

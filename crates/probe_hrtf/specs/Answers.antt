@@ -1,18 +1,22 @@
--- What is answered to a request for the convolver (docs/PROBE.md, 'Operations', 17 and 18). Definitions only.
-use Prim.Native.Nat.{ℕ, _+_, _*_}
+-- What is answered to a request for the convolver (docs/PROBE.md, 'Operations', 17, 18 and 25). Definitions only.
+use Prim.Native.Nat.{ℕ, suc, _+_, _*_}
 use mathlib.Core.Bool.{cond}
-use mathlib.Core.List.{List}
+use mathlib.Core.List.{List, [], _∷_}
 use lib.Dec.{eqb}
+use lib.Ieee.{Float}
+use Rattle.formats.specs.Floats.{zero-float}
 use Rattle.big_endian.specs.Bytes.{bytesOf}
 use Rattle.big_endian.specs.Fields.{fieldAt}
-use Rattle.big_endian.specs.Lists.{floatBytes, floatsAt}
+use Rattle.big_endian.specs.Lists.{floatBytes, doubleBytes, floatsAt}
+use Rattle.planes.specs.Sums.{dot}
 use Rattle.desk.specs.declared.Desk.{Desk}
+use Rattle.rings.specs.Unrolled.{unrolled}
 use Rattle.hrtf.specs.declared.Processed.{Processed}
 use Rattle.hrtf.specs.Promise.{Outcome, outcome}
 use Rattle.hrtf.specs.Reset.{AfterReset, resetOutcome}
-use Rattle.probe_request.specs.Requests.{cellsLent}
+use Rattle.probe_request.specs.Requests.{samplesLent, cellsLent}
 use Rattle.probe_answer.specs.Answers.{Draft, none, taking, _then_}
-use Rattle.probe_hrtf.specs.Requests.{deskAt, Lent, lentOf, blockEnd, callAt, stateAt}
+use Rattle.probe_hrtf.specs.Requests.{deskAt, Lent, lentOf, blockEnd, callAt, stateAt, sumTaps, sumEnd}
 
 -- "ring position, frames-to-go (8 each)"
 abbrev pub thenDesk : Draft → Desk → Draft
@@ -51,7 +55,33 @@ resetBy r args out =
 abbrev pub resetAnswer : List ℕ → List ℕ → Draft
 resetAnswer args out = resetBy (cellsLent args 0) args out
 
--- ---- "17 convolver block", "18 convolver reset"; any other is not of this family
+-- ---- 25 convolve
+
+-- what `rings::convolve` promises of a ring, its newest cell and taps
+abbrev pub sumOf : List Float → ℕ → List Float → Float
+sumOf ring newest taps = dot zero-float (unrolled (suc newest) ring) taps
+
+-- "newest (8), the r cells and the t taps (f32, 4 each)"
+unfoldable pub sumAt : List ℕ → ℕ → ℕ → Float
+sumAt args r t = sumOf (floatsAt args 12 r) (fieldAt args 4 8) (floatsAt args (sumTaps r) t)
+
+-- "the sum (f64, 8)"
+abbrev pub sumShown : Float → List ℕ → Draft
+sumShown sum out = none out then doubleBytes (sum ∷ [])
+
+-- r cells and t taps being lent
+unfoldable pub sumBy : ℕ → ℕ → List ℕ → List ℕ → Draft
+sumBy r t args out = taking (sumEnd r t) args out (sumShown (sumAt args r t) out)
+
+-- "r, t: ring cells and taps lent (2 each)"
+abbrev pub sumAnswer : List ℕ → List ℕ → Draft
+sumAnswer args out = sumBy (cellsLent args 0) (samplesLent args 2) args out
+
+-- ---- "17 convolver block", "18 convolver reset", "25 convolve"; any other is not of this family
 
 unfoldable pub answerOf : ℕ → List ℕ → List ℕ → Draft
-answerOf operation args out = cond (eqb operation 17) (blockAnswer args out) (cond (eqb operation 18) (resetAnswer args out) (none out))
+answerOf operation args out =
+    cond (eqb operation 17) (blockAnswer args out)
+    (cond (eqb operation 18) (resetAnswer args out)
+    (cond (eqb operation 25) (sumAnswer args out)
+    (none out)))

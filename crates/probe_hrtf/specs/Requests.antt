@@ -1,4 +1,4 @@
--- What stands in a request for the convolver (docs/PROBE.md, 'Operations', 17 and 18). Definitions only.
+-- What stands in a request for the convolver (docs/PROBE.md, 'Operations', 17, 18 and 25). Definitions only.
 use Prim.Native.Nat.{ℕ, _+_, _*_, _≤_}
 use mathlib.Core.List.{List}
 use lib.ListN.{length}
@@ -80,3 +80,11 @@ callAt args n = callOf args (floatsAt args 138 (n .inputs)) (doublesAt args (wei
 
 unfoldable pub stateAt : List ℕ → Lent → State
 stateAt args n = stateOf args (floatsAt args (ringsFrom n) (n .rings))
+
+-- ---- 25: "the r cells and the t taps (f32, 4 each)", one behind the other, and where they end
+
+abbrev pub sumTaps : ℕ → ℕ
+sumTaps r = 12 + 4 * r
+
+abbrev pub sumEnd : ℕ → ℕ → ℕ
+sumEnd r t = sumTaps r + 4 * t

@@ -1,9 +1,10 @@
-// Answers the requests of the test program `probe` for the convolver (docs/PROBE.md, operations 17 and 18).
+// Answers the requests of the test program `probe` for the convolver (docs/PROBE.md, operations 17, 18 and 25).
 //
 // Test code, and promised by equations all the same (specs/Answers.antt): how many bytes the answer has and
 // what they are is what `hrtf` promises for the desk, the counts and the lists that stand in the arguments,
-// one part behind the other. There are 0 bytes, and the lent ones are as they were, for any other operation
-// and for arguments that have another length than the operation takes. `answer` takes any input.
+// and `rings` for a ring and taps of any lengths, one part behind the other. There are 0 bytes, and the lent
+// ones are as they were, for any other operation and for arguments that have another length than the
+// operation takes. `answer` takes any input.
 use desk::Desk;
 use hrtf::Processed;
 use hrtf_checks::Shape;
@@ -16,7 +17,7 @@ ghost use lib.ListN.{length};
 ghost use Rattle.hrtf.specs.Promise.{outcome};
 ghost use Rattle.probe_answer.specs.Answers.{draft};
 ghost use Rattle.probe_hrtf.specs.Requests.{deskAt, shapeAt, most, lengths, Few, callOf, stateOf};
-ghost use Rattle.probe_hrtf.specs.Answers.{thenDesk, thenCounts, blockShown, blockBy, blockAnswer, resetBy, resetAnswer, answerOf};
+ghost use Rattle.probe_hrtf.specs.Answers.{thenDesk, thenCounts, blockShown, blockBy, blockAnswer, resetBy, resetAnswer, sumBy, sumAnswer, answerOf};
 
 // Where the lists begin in a request for a block: behind five lengths, the desk, the four counts of the shape,
 // frames and stride, and the rows of the eight speakers.
@@ -24,6 +25,9 @@ const LISTS: usize = 138;
 
 // Where the cells begin in a request for a reset: behind a length, the desk, the speakers and L.
 const CELLS: usize = 34;
+
+// Where the cells begin in a request for a sum: behind two lengths and the newest.
+const RING: usize = 12;
 
 // The desk that stands from `at` on.
 fn desk(args: &[u8], at: usize) -> Desk
@@ -180,14 +184,42 @@ fn reset(args: &[u8], out: &mut [u8]) -> usize
     reset_lent(args, &mut rings[..r], out)
 }
 
+// Reads the cells and the taps where the arguments have the length of both, whatever they held.
+fn convolve_lent(args: &[u8], ring: &mut [f32], taps: &mut [f32], out: &mut [u8]) -> usize
+    requires { ⌜ length (now ring) ≤ most .rings ⌝ }
+    requires { ⌜ length (now taps) ≤ most .taps ⌝ }
+    ensures { λ r. ⌜ draft r (now (out .exit)) ≡ sumBy (length (now (ring .entry))) (length (now (taps .entry))) (now (args .entry)) (now (out .entry)) ⌝ }
+{
+    let at_taps = RING + 4 * ring.len();
+    if args.len() != at_taps + 4 * taps.len() {
+        return 0;
+    }
+    probe_request::get_f32s(args, RING, ring);
+    probe_request::get_f32s(args, at_taps, taps);
+    let sum = [rings::convolve(ring, probe_request::number(args, 4, 8), taps)];
+    probe_answer::put_f64s(&sum, out, 0)
+}
+
+// Lends as many cells and taps as the arguments say first, behind which stand the newest, and then the two lists.
+fn convolve(args: &[u8], out: &mut [u8]) -> usize
+    ensures { λ r. ⌜ draft r (now (out .exit)) ≡ sumAnswer (now (args .entry)) (now (out .entry)) ⌝ }
+{
+    let mut ring = [0.0f32; MOST_CELLS];
+    let mut taps = [0.0f32; MOST_SAMPLES];
+    let r = probe_request::lent(args, 0, 2, MOST_CELLS);
+    let t = probe_request::lent(args, 2, 2, MOST_SAMPLES);
+    convolve_lent(args, &mut ring[..r], &mut taps[..t], out)
+}
+
 // Puts the answer to a request into out, and says how many bytes it has: 0 where the operation is not one of these
-// two, or the arguments have not the length that it takes.
+// three, or the arguments have not the length that it takes.
 pub fn answer(operation: u8, args: &[u8], out: &mut [u8]) -> usize
     ensures { λ r. ⌜ draft r (now (out .exit)) ≡ answerOf operation (now (args .entry)) (now (out .entry)) ⌝ }
 {
     match operation {
         17 => process(args, out),
         18 => reset(args, out),
+        25 => convolve(args, out),
         _ => 0,
     }
 }

@@ -14,13 +14,15 @@ enum Way {
     ChannelsFalling,
     SignalNotNarrowed,
     OldestFirst,
+    /// The newest back to the start, and the end back to the oldest, each summed from 0.0, and the two sums added.
+    RunsApart,
     SpeakersFalling,
     OneSumForAllSpeakers,
     DividedByTheRoot,
 }
 
-const OTHER_WAYS: [Way; 6] =
-    [Way::ChannelsFalling, Way::SignalNotNarrowed, Way::OldestFirst, Way::SpeakersFalling, Way::OneSumForAllSpeakers, Way::DividedByTheRoot];
+const OTHER_WAYS: [Way; 7] =
+    [Way::ChannelsFalling, Way::SignalNotNarrowed, Way::OldestFirst, Way::RunsApart, Way::SpeakersFalling, Way::OneSumForAllSpeakers, Way::DividedByTheRoot];
 
 /// A call of `process`, with everything that it is lent.
 #[derive(Clone)]
@@ -132,10 +134,11 @@ impl Call {
                 for s in order {
                     let term = |k: usize| rings[s * length + (position + length - k) % length] * f64::from(self.taps_of(s, ear)[k]);
                     let start = if way == Way::OneSumForAllSpeakers { total } else { 0.0 };
-                    let part = if way == Way::OldestFirst {
-                        (0..length).rev().fold(start, |sum, k| sum + term(k))
-                    } else {
-                        (0..length).fold(start, |sum, k| sum + term(k))
+                    let run = |from: usize, to: usize| (from..to).fold(0.0, |sum, k| sum + term(k));
+                    let part = match way {
+                        Way::OldestFirst => (0..length).rev().fold(start, |sum, k| sum + term(k)),
+                        Way::RunsApart => run(0, position + 1) + run(position + 1, length),
+                        _ => (0..length).fold(start, |sum, k| sum + term(k)),
                     };
                     total = if way == Way::OneSumForAllSpeakers { part } else { total + part };
                 }
@@ -278,7 +281,7 @@ fn tap(random: &mut Random) -> f32 {
 
 /// Factors of terms of which two are large and cancel, and the others are so much smaller that each sum with a large one
 /// rounds them, and not so small that it loses them: what is left shows in an f32 in which order they were added.
-fn cancelling(random: &mut Random, count: usize) -> Vec<(f32, f32)> {
+pub fn cancelling(random: &mut Random, count: usize) -> Vec<(f32, f32)> {
     let mut of_size = |field: u64| f32::from_bits(random.bits() as u32 & 0x807f_ffff | (field as u32) << 23);
     let mut terms: Vec<(f32, f32)> = (0..count).map(|_| (of_size(127 - 18), of_size(127 - 16))).collect();
     let large = (of_size(127), of_size(127));
@@ -308,6 +311,17 @@ fn telling(random: &mut Random, way: Way) -> Call {
                 let mut call = Call::fitting(random, 1, 1, 1, 5, 5, 5);
                 call.weights = vec![1.0];
                 call.inputs = terms.iter().rev().map(|t| t.0).collect();
+                call.taps = terms.iter().chain(&terms).map(|t| t.1).collect();
+                call
+            }
+            Way::RunsApart => {
+                // From rest the ring is one run until it is full. Two frames later two cells are the first run, and the
+                // other three the second.
+                let terms = cancelling(random, 5);
+                let mut call = Call::fitting(random, 1, 1, 1, 5, 7, 7);
+                call.weights = vec![1.0];
+                call.inputs.truncate(2);
+                call.inputs.extend(terms.iter().rev().map(|t| t.0));
                 call.taps = terms.iter().chain(&terms).map(|t| t.1).collect();
                 call
             }
@@ -342,6 +356,72 @@ fn at_a_tie(random: &mut Random) -> Call {
     call.weights = vec![1.0, 0.0, 0.0];
     call.taps = vec![1.0; 6];
     call
+}
+
+/// What the cells of a short ring are made of: two that cancel, one that is lost beside either of them, and a kin of it.
+const CELLS: [f32; 4] = [BIG, 1.0, -BIG, 0.5];
+const BIG: f32 = (1u64 << 60) as f32;
+
+/// One speaker that hears one channel as it is. Once the frame is in, its ring is `ring`, of which the cell at `newest` is the
+/// frame. The left ear adds the cells, the right one has taps of changing signs.
+fn short_ring(ring: &[f32], newest: usize) -> Call {
+    let mut rings = ring.to_vec();
+    // What the frame is put over is in no sum.
+    rings[newest] = 3.0;
+    let right = (0..ring.len()).map(|k| if k % 2 == 0 { 1.0 } else { -1.0 });
+    Call {
+        position: newest as u64,
+        to_go: 0,
+        channels: 1,
+        speakers: 1,
+        rows: 1,
+        length: ring.len() as u64,
+        frames: 1,
+        stride: 1,
+        row_of: [0; 8],
+        inputs: vec![ring[newest]],
+        weights: vec![1.0],
+        taps: ring.iter().map(|_| 1.0).chain(right).collect(),
+        rings,
+        ears: vec![2.0, 2.0],
+    }
+}
+
+/// Every ring of so many cells out of a set, at every place of the newest.
+fn every_ring(length: usize, cells: &[f32]) -> Vec<Call> {
+    let ring = |mut which: usize| -> Vec<f32> {
+        let next = |_| {
+            let cell = cells[which % cells.len()];
+            which /= cells.len();
+            cell
+        };
+        (0..length).map(next).collect()
+    };
+    let rings = (0..cells.len().pow(length as u32)).map(ring);
+    rings.flat_map(|ring| (0..length).map(move |newest| short_ring(&ring, newest))).collect()
+}
+
+/// A NaN and both infinities in every cell of a ring, at every place of the newest.
+fn every_bad_cell(length: usize) -> Vec<Call> {
+    let mut all = Vec::new();
+    for bad in [f32::NAN, f32::INFINITY, f32::NEG_INFINITY] {
+        for place in 0..length {
+            let mut ring = CELLS[..length].to_vec();
+            ring[place] = bad;
+            all.extend((0..length).map(|newest| short_ring(&ring, newest)));
+        }
+    }
+    all
+}
+
+/// Short rings at every split into two runs. Where few are asked for, three cells of three kinds: every run of one cell and of
+/// two, and the ring 2^60, 1, -2^60, whose sum from its first cell on is 1.0.
+fn at_every_split(count: usize) -> Vec<Call> {
+    if count < 1000 {
+        return (1..=3).flat_map(|length| every_ring(length, &CELLS[..3])).chain((1..=2).flat_map(every_bad_cell)).collect();
+    }
+    let rings = (1..=4).flat_map(|length| every_ring(length, &CELLS)).chain(every_ring(5, &CELLS[..3]));
+    rings.chain((1..=4).flat_map(every_bad_cell)).collect()
 }
 
 /// Calls that are refused, for one reason and for several, and the ends of what is accepted.
@@ -410,6 +490,7 @@ fn at_the_ends(random: &mut Random) -> Vec<Case> {
 
 pub fn process(random: &mut Random, count: usize, sink: &mut Sink) {
     send(sink, at_the_ends(random));
+    send(sink, at_every_split(count).iter().map(Call::case));
     for (channels, speakers, rows, length, frames, stride) in [
         (1, 1, 1, 1, 1, 1),
         (1, 1, 1, 2, 3, 3),
@@ -496,7 +577,7 @@ mod tests {
     fn the_rust_sums_as_document_01_says() {
         let mut random = Random::new(5, "sums");
         for _ in 0..300 {
-            let (channels, speakers, length, way) = (1 + random.below(16), 1 + random.below(8), 1 + random.below(9), random.below(12) as usize);
+            let (channels, speakers, length, way) = (1 + random.below(16), 1 + random.below(8), 1 + random.below(9), random.below(14) as usize);
             let call = match OTHER_WAYS.get(way) {
                 Some(way) => telling(&mut random, *way),
                 None => Call::fitting(&mut random, channels as usize, speakers as usize, 3, length as usize, 4, 5),
@@ -517,6 +598,38 @@ mod tests {
                 let same = ears[ear].iter().zip(&mine[ear * stride..]).all(|(a, b)| f32_bytes(*a) == f32_bytes(*b));
                 assert!(same);
             }
+        }
+    }
+
+    /// The left ear of a ring whose newest cell is the first: 2^60 - 2^60 + 1. The other two ways lose the 1.
+    #[test]
+    fn a_ring_of_three_tells_the_order_and_the_runs() {
+        let ring = [0x5d80_0000, 0x3f80_0000, 0xdd80_0000].map(f32::from_bits);
+        let ears = |way: Way| short_ring(&ring, 0).played(way).ears;
+        assert_eq!(ears(Way::Right), [1.0, 2f32.powi(61)]);
+        assert_eq!(ears(Way::RunsApart)[0], 0.0);
+        assert_eq!(ears(Way::OldestFirst)[0], 0.0);
+    }
+
+    /// The short rings have that one, and tell each of the two other ways from the right one wherever a ring of that length can:
+    /// a second run of one cell is the same alone.
+    #[test]
+    fn short_rings_tell_the_order_and_the_runs() {
+        let told = |calls: &[Call], way: Way| calls.iter().filter(|call| call.played(way).ears != call.played(Way::Right).ears).count();
+        for newest in 0..5 {
+            for length in newest + 1..=5 {
+                let calls: Vec<Call> = every_ring(length, &CELLS[..3]).into_iter().filter(|call| call.position == newest as u64).collect();
+                assert_eq!(calls.len(), 3usize.pow(length as u32));
+                assert_eq!(told(&calls, Way::RunsApart) > 0, length - newest > 2, "{length} {newest}");
+                assert_eq!(told(&calls, Way::OldestFirst) > 0, length > 2, "{length} {newest}");
+            }
+        }
+        for (count, all) in [(400, 102 + 15), (1000, 1252 + 1215 + 90)] {
+            let calls = at_every_split(count);
+            assert_eq!(calls.len(), all);
+            assert!(calls.iter().all(|call| call.refusal() == 0));
+            let example = |call: &&Call| (call.position, &call.inputs[..], &call.rings[..]) == (0, &[BIG][..], &[3.0, 1.0, -BIG][..]);
+            assert_eq!(calls.iter().filter(example).count(), 1);
         }
     }
 }

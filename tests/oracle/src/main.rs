@@ -19,6 +19,7 @@ mod malformed;
 mod numbers;
 mod panner;
 mod random;
+mod rings;
 mod rows;
 mod rust;
 mod script;
@@ -60,6 +61,7 @@ const KINDS: &[Kind] = &[
     Kind { name: "new surround", make: setup::surround },
     Kind { name: "new ambisonic", make: setup::ambisonic },
     Kind { name: "script", make: drills::cases },
+    Kind { name: "convolve", make: rings::cases },
     Kind { name: "malformed", make: malformed::inside },
 ];
 

@@ -2,10 +2,11 @@
 use crate::drills;
 use crate::frame::{Case, Sink, exactly, request, send};
 use crate::random::Random;
+use crate::rings::CONVOLVE;
 use crate::script::SCRIPT;
 
 const NO_SUCH_OPERATION: u8 = 1;
-const WRONG_LENGTH: u8 = 2;
+pub const WRONG_LENGTH: u8 = 2;
 const TOO_LONG: u8 = 3;
 const ENDS_INSIDE: u8 = 4;
 
@@ -26,6 +27,7 @@ const LISTED: &[(u8, &[&[u8]])] = &[
     (19, &[&[], &[0; 83], &[0; 85]]),
     (20, &[&[], &[0; 82], &[0; 84]]),
     (SCRIPT, &[&[], &[0; 45], &[0; 47]]),
+    (CONVOLVE, &[&[], &[0; 11], &[0; 13]]),
 ];
 
 const LONGEST: usize = 65536;

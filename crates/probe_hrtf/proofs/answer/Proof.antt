@@ -17,8 +17,12 @@ returns-2 c = chosen answerOf 18 (c .before .before .reset .ensures) (c .before 
 
 returns-3 : tie.Need-returns-3
 unfolding answerOf
-returns-3 c = sym (rw (ne-eqb _ _ (c .match .rest .0 .1), ne-eqb _ _ (c .match .rest .1)))
+returns-3 c = chosen answerOf 25 (c .before .before .convolve .ensures) (c .before .before .before .before .match .keys3)
+
+returns-4 : tie.Need-returns-4
+unfolding answerOf
+returns-4 c = let others = c .match .rest in sym (rw (ne-eqb _ _ (others .0 .0 .1), ne-eqb _ _ (others .0 .1), ne-eqb _ _ (others .1)))
 
 pub answer-spec : {M : Type 1} → statement M
 answer-spec =
-    tie.close (tie.spec (λ c κs. tt) (λ c κs. tt) (λ c. search needs) returns (λ c. search needs) returns-2 returns-3)
+    tie.close (tie.spec (λ c κs. tt) (λ c κs. tt) (λ c κs. tt) (λ c. search needs) returns (λ c. search needs) returns-2 (λ c. search needs) returns-3 returns-4)
