@@ -1,4 +1,5 @@
--- What the promises rule out whatever is played: a sample count of one's own, a desk that stays, a reset that leaves something in a ring or a frame to go, and one that takes nine speakers. Assumes nothing.
+-- What the promises rule out whatever is played: a sample count of one's own, a desk that stays, a reset that leaves
+-- something in a ring or a frame to go, and one that takes nine speakers. Assumes nothing.
 use mathlib.Core.Path.{_≡_, sym, ap, _∙_}
 use mathlib.Core.List.{List}
 use mathlib.Core.Logic.{⊎-elim}
@@ -13,7 +14,7 @@ use Rattle.lists.proofs.Tables.{length-tab}
 use Rattle.planes.specs.Planes.{frameAt}
 use Rattle.desk.specs.declared.Desk.{Desk}
 use Rattle.rings.specs.State.{State}
-use Rattle.hrtf_checks.specs.Call.{Call}
+use Rattle.hrtf_checks.specs.Call.{Call, framesIn}
 use Rattle.hrtf_checks.specs.Refusals.{refusalOf}
 use Rattle.hrtf_checks.proofs.Refusing.{ready}
 use Rattle.hrtf.specs.Promise.{Outcome, Processes}
@@ -25,15 +26,24 @@ stride-counted : (c : Call) (t : State) (o : Outcome) → Processes c t o → re
 stride-counted c t o p e other s = other (sym (ap (λ (q : Outcome). q .answer .samples) (p .answer ∙ outcome-by c t 0 e)) ∙ s)
 
 -- the desk given in, after one frame round a ring of two cells or more
-desk-kept : (c : Call) (t : State) (o : Outcome) → Processes c t o → refusalOf c t ≡ 0 → c .frames ≡ 1 → 1 < c .shape .length → o .answer .desk ≡ t .desk → ⊥
+desk-kept : (c : Call) (t : State) (o : Outcome) → Processes c t o → refusalOf c t ≡ 0
+    → c .frames ≡ 1 → 1 < c .shape .length → o .answer .desk ≡ t .desk → ⊥
 desk-kept c t o p e one long same =
     moved (t .desk .position) (c .shape .length) long (ready c t e .within)
-    (ap (λ (n : ℕ). (t .desk .position + n) % c .shape .length) (sym (length-tab 0 (c .frames) (frameAt (c .inputs) (c .stride) (c .shape .channels)) ∙ one))
+    (ap (λ (n : ℕ). (t .desk .position + n) % c .shape .length) (sym (many ∙ one))
     ∙ sym (ap (λ (q : Outcome). q .answer .desk .position) (p .answer ∙ outcome-by c t 0 e)) ∙ ap (λ (d : Desk). d .position) same)
   where
+    many : length (framesIn c) ≡ c .frames
+    many = length-tab 0 (c .frames) (frameAt (c .inputs) (c .stride) (c .shape .channels))
+
     moved : (n m : ℕ) → 1 < m → n < m → (n + 1) % m ≡ n → ⊥
     moved n m long h s =
-        ⊎-elim (λ (lt : n + 1 < m). omega (arith, sym (mod-eq-of-lt lt) ∙ s)) (λ (ge : m ≤ n + 1). let end : n + 1 ≡ m = omega arith in omega (arith, sym (ap (λ (k : ℕ). k % m) end ∙ mod-self m) ∙ s)) (split (n + 1) m)
+        ⊎-elim
+        (λ (lt : n + 1 < m). omega (arith, sym (mod-eq-of-lt lt) ∙ s))
+        (λ (ge : m ≤ n + 1).
+        let end : n + 1 ≡ m = omega arith in
+        omega (arith, sym (ap (λ (k : ℕ). k % m) end ∙ mod-self m) ∙ s))
+        (split (n + 1) m)
 
 module _ (d : Desk) (speakers L : ℕ) (rings : List Float) (o : AfterReset) (r : Resets d speakers L rings o) where
   -- nine speakers taken

@@ -1,4 +1,5 @@
--- Both ears' parts of one speaker: taps that go with cells, the two straight runs for each ear, and where a speaker's ring and taps stand in the lent lists. Assumes nothing.
+-- Both ears' parts of one speaker: taps that go with cells, the two straight runs for each ear, and where a speaker's ring
+-- and taps stand in the lent lists. Assumes nothing.
 use mathlib.Core.Path.{_≡_, sym, ap, _∙_}
 use mathlib.Core.Bool.{not, _&&_}
 use mathlib.Core.List.{List, reverse}
@@ -25,43 +26,62 @@ use Rattle.hrtf_checks.specs.declared.Shape.{Shape}
 use Rattle.hrtf.specs.declared.parts.EarSums.{EarSums}
 use Rattle.hrtf.specs.Computed.{TapsFor, dotEach, noSums, PartsInside, partsBy}
 
--- an f32 that is no NaN may be cast: a cast asks both at once
-pub casts : (x : Float) → T (fits binary32 x) → T (not (isNan x)) → T (fits binary64 x && not (isNan x))
+-- what a cast asks of an f32, which holds of every one but a NaN
+abbrev Casts : Float → Type 0
+Casts x = T (fits binary64 x && not (isNan x))
+
+pub casts : (x : Float) → T (fits binary32 x) → T (not (isNan x)) → Casts x
 casts x held number = and-i (fits binary64 x) (not (isNan x)) (fits-widens x held) number
 
 -- ---- taps that go with cells: each may be cast, and so go the parts of both
 
-pub tap-casts : (cells taps : List Float) (k : ℕ) → TapsFor cells taps → k < length cells → T (fits binary32 (getD taps k nan)) → T (fits binary64 (getD taps k nan) && not (isNan (getD taps k nan)))
-tap-casts cells taps k t h held = casts (getD taps k nan) held (finite-no-nan (getD taps k nan) (sound-at taps k (t .finite) (omega (arith, t .each))))
+pub tap-casts : {cells taps : List Float} (k : ℕ) → TapsFor cells taps → k < length cells → T (fits binary32 (getD taps k nan))
+    → Casts (getD taps k nan)
+tap-casts {taps = taps} k t h held =
+    casts (getD taps k nan) held (finite-no-nan (getD taps k nan) (sound-at taps k (t .finite) (omega (arith, t .each))))
 
-pub taps-before : (cells taps : List Float) (n : ℕ) → TapsFor cells taps → TapsFor (take n cells) (take n taps)
-taps-before cells taps n t = record { each = simp (length-take) (omega (arith, t .each)); finite = sound-take n taps (t .finite) }
+pub taps-before : {cells taps : List Float} (n : ℕ) → TapsFor cells taps → TapsFor (take n cells) (take n taps)
+taps-before {taps = taps} n t = record { each = simp (length-take) (omega (arith, t .each)); finite = sound-take n taps (t .finite) }
 
-pub taps-behind : (cells taps : List Float) (n : ℕ) → TapsFor cells taps → TapsFor (take (length cells - n) (drop n cells)) (take (length taps - n) (drop n taps))
-taps-behind cells taps n t =
-    record { each = simp (length-take, length-drop) (omega (arith, t .each)); finite = sound-take (length taps - n) (drop n taps) (sound-drop n taps (t .finite)) }
+pub taps-behind : {cells taps : List Float} (n : ℕ) → TapsFor cells taps
+    → TapsFor (take (length cells - n) (drop n cells)) (take (length taps - n) (drop n taps))
+taps-behind {taps = taps} n t =
+    record {
+      each = simp (length-take, length-drop) (omega (arith, t .each));
+      finite = sound-take (length taps - n) (drop n taps) (sound-drop n taps (t .finite));
+    }
 
 -- a cell that is a NaN makes both sums one, wherever it stands
-pub nan-heard : (cells left right : List Float) (sums : EarSums) (k : ℕ) → TapsFor cells left → TapsFor cells right → k < length cells → getD cells (length cells - 1 - k) nan ≡ nan
+pub nan-heard : {cells left right : List Float} (sums : EarSums) (k : ℕ) → TapsFor cells left → TapsFor cells right
+    → k < length cells → getD cells (length cells - 1 - k) nan ≡ nan
     → record { left = nan; right = nan } ≡ dotEach sums (reverse cells) left right
-nan-heard cells left right sums k tl tr h e = λ i. record { left = ear left (sums .left) tl i; right = ear right (sums .right) tr i }
+nan-heard {cells} {left} {right} sums k tl tr h e = λ i. record { left = ear left (sums .left) tl i; right = ear right (sums .right) tr i }
   where
     ear : (taps : List Float) (a : Float) → TapsFor cells taps → nan ≡ dot a (reverse cells) taps
-    ear taps a t = sym (dot-nan a (reverse cells) taps k (omega (arith, h, length-reverse cells)) (omega (arith, h, t .each)) (getD-reverse cells k nan h ∙ e))
+    ear taps a t =
+        sym
+        (dot-nan a (reverse cells) taps k (omega (arith, h, length-reverse cells)) (omega (arith, h, t .each))
+        (getD-reverse cells k nan h ∙ e))
 
--- the two straight runs, for each ear
-pub both-runs : (p : ℕ) (ring left right : List Float) (split : ℕ) (first sums : EarSums) → split ≡ min p (length ring) → TapsFor ring left → TapsFor ring right
+-- ---- the two straight runs, for each ear
+
+-- the cells of the second run, or its taps
+abbrev behind : ℕ → List Float → List Float
+behind n xs = take (length xs - n) (drop n xs)
+
+pub both-runs : (p : ℕ) (ring left right : List Float) (split : ℕ) {first sums : EarSums} → split ≡ min p (length ring)
+    → TapsFor ring left → TapsFor ring right
     → first ≡ dotEach noSums (reverse (take split ring)) (take split left) (take split right)
-    → sums ≡ dotEach first (reverse (take (length ring - split) (drop split ring))) (take (length left - split) (drop split left)) (take (length right - split) (drop split right))
+    → sums ≡ dotEach first (reverse (behind split ring)) (behind split left) (behind split right)
     → sums ≡ dotEach noSums (unrolled p ring) left right
-both-runs p ring left right split first sums es tl tr ef e = λ i. record {
-  left = ear left (first .left) (sums .left) tl (ap (λ (s : EarSums). s .left) ef) (ap (λ (s : EarSums). s .left) e) i;
-  right = ear right (first .right) (sums .right) tr (ap (λ (s : EarSums). s .right) ef) (ap (λ (s : EarSums). s .right) e) i;
+both-runs p ring left right split es tl tr ef e = λ i. record {
+  left = ear left tl (ap (λ (s : EarSums). s .left) ef) (ap (λ (s : EarSums). s .left) e) i;
+  right = ear right tr (ap (λ (s : EarSums). s .right) ef) (ap (λ (s : EarSums). s .right) e) i;
 }
   where
-    ear : (taps : List Float) (x y : Float) → TapsFor ring taps → x ≡ dot zero-float (reverse (take split ring)) (take split taps)
-        → y ≡ dot x (reverse (take (length ring - split) (drop split ring))) (take (length taps - split) (drop split taps)) → y ≡ dot zero-float (unrolled p ring) taps
-    ear taps x y t = two-runs p ring taps split split x y es (omega (arith, t .each))
+    ear : (taps : List Float) → TapsFor ring taps → {x y : Float} → x ≡ dot zero-float (reverse (take split ring)) (take split taps)
+        → y ≡ dot x (reverse (behind split ring)) (behind split taps) → y ≡ dot zero-float (unrolled p ring) taps
+    ear taps t = two-runs p ring taps split split es (omega (arith, t .each))
 
 -- ---- where a speaker's ring and its taps stand
 
@@ -107,13 +127,22 @@ module _ (h : Shape) (s j : ℕ) (taps rings : List Float) (p : PartsInside h s 
       long = length-piece (s * h .length) (h .length) rings ring-end
 
       stand : (at : ℕ) → at + h .length ≤ length taps → TapsFor ring (piece at (h .length) taps)
-      stand at e = record { each = length-piece at (h .length) taps e ∙ sym long; finite = sound-take (at + h .length - at) (drop at taps) (sound-drop at taps (p .finite)) }
+      stand at e =
+          record {
+            each = length-piece at (h .length) taps e ∙ sym long;
+            finite = sound-take (at + h .length - at) (drop at taps) (sound-drop at taps (p .finite));
+          }
 
   -- and give the speaker's parts
-  pub parts-there : (q : ℕ) (sums : EarSums) → sums ≡ dotEach noSums (unrolled q ring) left-taps right-taps → sums ≡ partsBy h q s j taps rings
-  parts-there q sums e = e ∙ (λ i. record { left = ear 0 (j * 2 * h .length) (ap (λ (n : ℕ). n * h .length) (sym (add-zero (j * 2)))) i; right = ear 1 (j * 2 * h .length + h .length) (sym right-behind) i })
+  pub parts-there : (q : ℕ) {sums : EarSums} → sums ≡ dotEach noSums (unrolled q ring) left-taps right-taps → sums ≡ partsBy h q s j taps rings
+  parts-there q e = e ∙ (λ i. record {
+    left = ear 0 (ap (λ (n : ℕ). n * h .length) (sym (add-zero (j * 2)))) i;
+    right = ear 1 (sym right-behind) i;
+  })
     where
-      ear : (side at : ℕ) → at ≡ (j * 2 + side) * h .length → dot zero-float (unrolled q ring) (piece at (h .length) taps) ≡ partBy (h .length) q s j side taps rings
-      ear side at there =
+      ear : (side : ℕ) {at : ℕ} → at ≡ (j * 2 + side) * h .length
+          → dot zero-float (unrolled q ring) (piece at (h .length) taps) ≡ partBy (h .length) q s j side taps rings
+      ear side {at} there =
           ap (λ (l : List Float). dot zero-float (unrolled q l) (piece at (h .length) taps)) (part-is (s * h .length) (h .length) rings)
-          ∙ ap (dot zero-float (unrolled q (row (h .length) s rings))) (part-is at (h .length) taps ∙ ap (λ (k : ℕ). take (h .length) (drop k taps)) there)
+          ∙ ap (dot zero-float (unrolled q (row (h .length) s rings)))
+          (part-is at (h .length) taps ∙ ap (λ (k : ℕ). take (h .length) (drop k taps)) there)

@@ -49,7 +49,8 @@ pub dot-all : (xs ys : List Float) (n : ℕ) (sum : Float) (i : ℕ) → Summing
 dot-all xs ys n sum i g h e = summing-all (productAt xs ys) n sum i g h ∙ ap (total zero-float) (sym (products-tab xs ys n e))
 
 -- the same from any sum on
-pub dot-on : (a : Float) (xs ys : List Float) (n : ℕ) (sum : Float) (i : ℕ) → Going (λ k. total) (productAt xs ys) n a sum i → n ≤ i → n ≡ min (length xs) (length ys) → sum ≡ dot a xs ys
+pub dot-on : (a : Float) (xs ys : List Float) (n : ℕ) (sum : Float) (i : ℕ) → Going (λ k. total) (productAt xs ys) n a sum i
+    → n ≤ i → n ≡ min (length xs) (length ys) → sum ≡ dot a xs ys
 dot-on a xs ys n sum i g h e = going-all (λ k. total) (productAt xs ys) n a sum i g h ∙ ap (total a) (sym (products-tab xs ys n e))
 
 -- ---- lists that are joined: the sum goes on where the first ends
@@ -61,13 +62,17 @@ products-none : (ys : List Float) → products ys [] ≡ []
 products-none [] = refl
 products-none (y ∷ ys) = refl
 
-products-joined : (xs ys zs : List Float) → products (xs ++ ys) zs ≡ products xs (take (length xs) zs) ++ products ys (drop (length xs) zs)
+products-joined : (xs ys zs : List Float)
+    → products (xs ++ ys) zs ≡ products xs (take (length xs) zs) ++ products ys (drop (length xs) zs)
 products-joined [] ys zs = refl
 products-joined (x ∷ xs) ys [] = sym (products-none ys)
 products-joined (x ∷ xs) ys (z ∷ zs) = ap (λ (l : List Float). mul binary64 x z ∷ l) (products-joined xs ys zs)
 
-pub dot-joined : (a : Float) (xs ys zs : List Float) → dot a (xs ++ ys) zs ≡ dot (dot a xs (take (length xs) zs)) ys (drop (length xs) zs)
-dot-joined a xs ys zs = ap (total a) (products-joined xs ys zs) ∙ total-joined a (products xs (take (length xs) zs)) (products ys (drop (length xs) zs))
+pub dot-joined : (a : Float) (xs ys zs : List Float)
+    → dot a (xs ++ ys) zs ≡ dot (dot a xs (take (length xs) zs)) ys (drop (length xs) zs)
+dot-joined a xs ys zs =
+    ap (total a) (products-joined xs ys zs)
+    ∙ total-joined a (products xs (take (length xs) zs)) (products ys (drop (length xs) zs))
 
 -- what stands beyond the second list's end does not count
 pub products-take : (n : ℕ) (xs ys : List Float) → length ys ≤ n → products (take n xs) ys ≡ products xs ys
@@ -95,8 +100,12 @@ pub dot-nan : (a : Float) (xs ws : List Float) (c : ℕ) → c < length xs → c
 unfolding mul
 dot-nan a [] ws c hx hw e = absurd (not-suc-le-zero hx)
 dot-nan a (x ∷ xs) [] c hx hw e = absurd (not-suc-le-zero hw)
-dot-nan a (x ∷ xs) (w ∷ ws) zero hx hw e = ap (λ (y : Float). total (add binary64 a (mul binary64 y w)) (products xs ws)) e ∙ ap (λ (y : Float). total y (products xs ws)) (nan-added a) ∙ total-nan (products xs ws)
-dot-nan a (x ∷ xs) (w ∷ ws) (suc c) hx hw e = dot-nan (add binary64 a (mul binary64 x w)) xs ws c (le-of-suc-le-suc hx) (le-of-suc-le-suc hw) e
+dot-nan a (x ∷ xs) (w ∷ ws) zero hx hw e =
+    ap (λ (y : Float). total (add binary64 a (mul binary64 y w)) (products xs ws)) e
+    ∙ ap (λ (y : Float). total y (products xs ws)) (nan-added a)
+    ∙ total-nan (products xs ws)
+dot-nan a (x ∷ xs) (w ∷ ws) (suc c) hx hw e =
+    dot-nan (add binary64 a (mul binary64 x w)) xs ws c (le-of-suc-le-suc hx) (le-of-suc-le-suc hw) e
 
 pub mixed-nan : (ws xs : List Float) (c : ℕ) → c < length xs → c < length ws → getD xs c nan ≡ nan → mixed ws xs ≡ nan
 unfolding mixed rounded

@@ -1,5 +1,6 @@
--- Wrong ways through a ring, each held against the promise of `convolve` at one ring: 2^60, 1, -2^60 (f32 5D800000, 3F800000, DD800000), newest at 0, taps 1, 1, 1. The promise gives 1.0 there, and
--- each of these 0.0: equal in algebra, other bits. And where a first run of another length ends. Assumes nothing.
+-- Wrong ways through a ring, each held against the promise of `convolve` at one ring: 2^60, 1, -2^60 (f32 5D800000,
+-- 3F800000, DD800000), newest at 0, taps 1, 1, 1. The promise gives 1.0 there, and each of these 0.0: equal in algebra, other
+-- bits. And where a first run of another length ends. Assumes nothing.
 use Prim.Native.Nat.{ℕ, suc, min}
 use native.Mathlib.Omega.{arith}
 use mathlib.Core.Path.{_≡_, refl, sym, ap, _∙_}
@@ -32,7 +33,8 @@ abbrev Way : Type 0
 Way = List Float → ℕ → List Float → Float
 
 abbrev Convolves : Way → Type 0
-Convolves way = (ring : List Float) (newest : ℕ) (taps : List Float) → way ring newest taps ≡ dot zero-float (unrolled (suc newest) ring) taps
+Convolves way =
+    (ring : List Float) (newest : ℕ) (taps : List Float) → way ring newest taps ≡ dot zero-float (unrolled (suc newest) ring) taps
 
 not-silent : (way : Way) → way three 0 ones ≡ zero-float → Convolves way → ⊥
 not-silent way e meets = true≢false (ap positive (sym three-summed ∙ sym (meets three 0 ones) ∙ e))
@@ -42,7 +44,8 @@ not-silent way e meets = true≢false (ap positive (sym three-summed ∙ sym (me
 -- the two runs added apart
 abbrev runsApart : Way
 runsApart ring newest taps =
-    add binary64 (dot zero-float (reverse (take (suc newest) ring)) (take (suc newest) taps)) (dot zero-float (reverse (drop (suc newest) ring)) (drop (suc newest) taps))
+    add binary64 (dot zero-float (reverse (take (suc newest) ring)) (take (suc newest) taps))
+    (dot zero-float (reverse (drop (suc newest) ring)) (drop (suc newest) taps))
 
 -- the oldest signal first, each times its own tap
 abbrev oldestFirst : Way
@@ -60,8 +63,8 @@ secondForwards ring newest taps = dot zero-float (reverse (take (suc newest) rin
 abbrev steppedFirst : Way
 steppedFirst ring newest taps = dot zero-float (unrolled (suc (suc newest)) ring) taps
 
-silent : (runsApart three 0 ones ≡ zero-float) × (oldestFirst three 0 ones ≡ zero-float) × (runsExchanged three 0 ones ≡ zero-float) × (secondForwards three 0 ones ≡ zero-float)
-    × (steppedFirst three 0 ones ≡ zero-float)
+silent : (runsApart three 0 ones ≡ zero-float) × (oldestFirst three 0 ones ≡ zero-float) × (runsExchanged three 0 ones ≡ zero-float)
+    × (secondForwards three 0 ones ≡ zero-float) × (steppedFirst three 0 ones ≡ zero-float)
 unfolding three ones add mul sum round size span climb units odd
 silent = (refl, refl, refl, refl, refl)
 

@@ -26,7 +26,8 @@ returns c =
     let used = first-run .before .before .before in
     let split = used .before in
     let a = split .before .before .before .args in
-    two-runs (suc (a .newest)) (now (a .ring)) (now (a .taps)) _ _ _ _ (split .cells-up-to .ensures) (used .least .ensures) (first-run .run-back .ensures) (c .run-back2 .ensures)
+    two-runs (suc (a .newest)) (now (a .ring)) (now (a .taps)) (split .cells-up-to .result) (used .least .result)
+    (split .cells-up-to .ensures) (used .least .ensures) (first-run .run-back .ensures) (c .run-back2 .ensures)
 
 pub convolve-spec : {M : Type 1} → statement M
 convolve-spec =

@@ -1,7 +1,6 @@
 -- `rings::run_back` meets its contract: `Running`. Assumes nothing.
 use Prim.Native.Nat.{_-_}
 use native.Mathlib.Omega.{arith}
-use denote.Ref.{now}
 use Rattle.rings.proofs.TwoRuns.{Running, running-none, running-more, running-all}
 use Rattle.rings.proofs.run_back.Statement.{statement}
 use Rattle.rings.proofs.run_back.Tie as tie
@@ -13,7 +12,7 @@ abbrev μ-loop : tie.MeasureT-loop
 μ-loop cells taps sum n count total₀ k₀ total k = count - k
 
 loop-holds : tie.Need-loop-holds Inv-loop μ-loop
-loop-holds c = let a = c .before .before .before .args in running-none (now (a .cells)) (now (a .taps)) (a .sum) (c .least .result) (c .least .ensures)
+loop-holds c = running-none (c .least .ensures)
 
 sub-i : tie.Need-sub-i Inv-loop μ-loop
 sub-i c = omega (arith, c .before .loop .inv .ends)
@@ -37,16 +36,10 @@ loop-again : tie.Need-loop-again Inv-loop μ-loop
 loop-again c =
     let signal = c .before .before in
     let tested = signal .before .before in
-    let turn = tested .before in
-    let a = turn .before .before .before .before .args in
-    running-more (now (a .cells)) (now (a .taps)) (a .sum) (turn .before .least .result) (turn .loop .total) (turn .loop .k)
-    (signal .widen .result) (c .widen2 .result) (turn .loop .inv) (tested .loop-test .taken) (signal .widen .ensures .same) (c .widen2 .ensures .same)
+    running-more (tested .before .loop .inv) (tested .loop-test .taken) (signal .widen .ensures .same) (c .widen2 .ensures .same)
 
 returns : tie.Need-returns Inv-loop μ-loop
-returns c =
-    let turn = c .before in
-    let a = turn .before .before .before .before .args in
-    running-all (now (a .cells)) (now (a .taps)) (a .sum) (turn .before .least .result) (turn .loop .total) (turn .loop .k) (turn .loop .inv) (c .loop-test .left)
+returns c = running-all (c .before .loop .inv) (c .loop-test .left)
 
 pub run-back-spec : {M : Type 1} → statement M
 run-back-spec =

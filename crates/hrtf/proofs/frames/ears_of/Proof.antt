@@ -2,7 +2,6 @@
 use Prim.Native.Nat.{suc, _-_}
 use native.Mathlib.Omega.{arith}
 use mathlib.Core.Path.{ap}
-use denote.Ref.{now}
 use lib.Ieee.{ofBits}
 use Rattle.hrtf.specs.declared.frames.Scaled.{Scaled}
 use Rattle.hrtf.proofs.Ears.{Adding, adding-none, adding-more, adding-all}
@@ -10,14 +9,15 @@ use Rattle.hrtf.proofs.frames.ears_of.Statement.{statement}
 use Rattle.hrtf.proofs.frames.ears_of.Tie as tie
 
 abbrev Inv-loop : tie.InvT-loop
-Inv-loop scaled position row-of taps rings shape speakers left₀ right₀ s₀ left right s = Adding (scaled .shape) (suc position) row-of taps rings left right s
+Inv-loop scaled position row-of taps rings shape speakers left₀ right₀ s₀ left right s =
+    Adding (scaled .shape) (suc position) row-of taps rings left right s
 
 abbrev μ-loop : tie.MeasureT-loop
 μ-loop scaled position row-of taps rings shape speakers left₀ right₀ s₀ left right s = speakers - s
 
 loop-holds : tie.Need-loop-holds Inv-loop μ-loop
 unfolding ofBits
-loop-holds c = let a = c .before .before .before .args in adding-none (a .scaled .shape) (suc (a .position)) (now (a .row-of)) (now (a .taps)) (now (a .rings))
+loop-holds c = adding-none
 
 mul-row : tie.Need-mul-row Inv-loop μ-loop
 mul-row c = omega (arith, c .before .before .before .before .before .pre .ready .few)
@@ -30,26 +30,28 @@ of-speaker-requires c κs =
     let asked = c .before .before .before .before .before .before .pre in
     let r = asked .ready in
     let tested = c .before .loop-test .taken in
-    record { ring = omega (arith, tested); row = r .chosen _ (omega (arith, tested)); tapped = r .tapped; ringed = r .ringed; some = omega (arith, r .within); finite = asked .finite }
+    record {
+      ring = omega (arith, tested);
+      row = r .chosen _ (omega (arith, tested));
+      tapped = r .tapped;
+      ringed = r .ringed;
+      some = omega (arith, r .within);
+      finite = asked .finite;
+    }
 
 loop-again : tie.Need-loop-again Inv-loop μ-loop
 loop-again c =
     let spoken = c .before .before in
     let tested = spoken .before .before in
-    let turn = tested .before in
-    let a = turn .before .before .before .before .args in
-    adding-more (a .scaled .shape) (suc (a .position)) (now (a .row-of)) (now (a .taps)) (now (a .rings)) (turn .loop .left) (turn .loop .right) (turn .loop .s)
-    (spoken .of-speaker .result) (turn .loop .inv) (tested .loop-test .taken) (spoken .of-speaker .ensures)
+    adding-more (tested .before .loop .inv) (tested .loop-test .taken) (spoken .of-speaker .ensures)
 
 returns : tie.Need-returns Inv-loop μ-loop
 returns c =
     let left = c .before .before in
     let ended = left .before .before in
-    let turn = ended .before in
-    let start = turn .before .before .before .before in
-    let a = start .args in
-    adding-all (a .scaled .shape) (suc (a .position)) (now (a .row-of)) (now (a .taps)) (now (a .rings)) (turn .loop .left) (turn .loop .right) (turn .loop .s)
-    (a .scaled .«inverse_root») _ _ (turn .loop .inv) (ended .loop-test .left) (ap (λ (k : Scaled). k .«inverse_root») (start .pre .factor)) (left .narrow .ensures .bits) (c .narrow2 .ensures .bits)
+    let start = ended .before .before .before .before .before in
+    adding-all (ended .before .loop .inv) (ended .loop-test .left) (ap (λ (k : Scaled). k .«inverse_root») (start .pre .factor))
+    (left .narrow .ensures .bits) (c .narrow2 .ensures .bits)
 
 pub ears-of-spec : {M : Type 1} → statement M
 ears-of-spec =

@@ -31,7 +31,9 @@ ears-of-requires c κs =
     let a = s .args in
     record {
       factor = s .pre .0 .factor;
-      ready = ready-stored (a .scaled .shape) (now (a .weights)) (now (a .row-of)) (now (a .taps)) (state s) (frame s) (put .mix-frame .last .0) (s .pre .0 .ready) (put .mix-frame .ensures .put);
+      ready =
+          ready-stored (a .scaled .shape) (now (a .weights)) (now (a .row-of)) (now (a .taps)) (state s) (frame s)
+          (put .mix-frame .last .0) (s .pre .0 .ready) (put .mix-frame .ensures .put);
       finite = s .pre .0 .finite;
     }
 
@@ -55,8 +57,10 @@ returns c =
     let put = stored right-put in
     let s = start put in
     let a = s .args in
-    turned (a .scaled .shape) (now (a .weights)) (now (a .row-of)) (now (a .taps)) (state s) (frame s) (a .stride) (a .played .frames) (now (a .ears)) _ _ _ _ _ (a .played .unsettled) _
-    (put .mix-frame .ensures) (heard .ears-of .ensures) (left-put .put-sample .ensures) (right-put .put-sample2 .ensures) (late .one-if-late .ensures)
+    turned (a .scaled .shape) (now (a .weights)) (now (a .row-of)) (now (a .taps)) (state s) (frame s)
+    (a .stride) (a .played .frames) (now (a .ears)) _ _ _ _ _ (a .played .unsettled) _
+    (put .mix-frame .ensures) (heard .ears-of .ensures) (left-put .put-sample .ensures) (right-put .put-sample2 .ensures)
+    (late .one-if-late .ensures)
 
 pub one-frame-spec : {M : Type 1} → statement M
 one-frame-spec =

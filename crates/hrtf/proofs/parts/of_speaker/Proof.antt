@@ -11,7 +11,8 @@ use Rattle.hrtf.proofs.parts.of_speaker.Tie as tie
 ring-inside : (c : tie.Start) → c .args .speaker * c .args .shape .length + c .args .shape .length ≤ length (now (c .args .rings))
 ring-inside c = let a = c .args in ring-end (a .shape) (a .speaker) (a .row) (now (a .taps)) (now (a .rings)) (c .pre)
 
-taps-inside : (c : tie.Start) → c .args .row * 2 * c .args .shape .length + c .args .shape .length + c .args .shape .length ≤ length (now (c .args .taps))
+taps-inside : (c : tie.Start)
+    → c .args .row * 2 * c .args .shape .length + c .args .shape .length + c .args .shape .length ≤ length (now (c .args .taps))
 taps-inside c = let a = c .args in taps-end (a .shape) (a .speaker) (a .row) (now (a .taps)) (now (a .rings)) (c .pre)
 
 row-inside : (c : tie.Start) → c .args .row * 2 < length (now (c .args .taps))
@@ -27,7 +28,8 @@ returns : tie.Need-returns
 returns c =
     let start = c .before .before .before .before .before .before in
     let a = start .args in
-    parts-there (a .shape) (a .speaker) (a .row) (now (a .taps)) (now (a .rings)) (start .pre) (suc (a .position)) _ (c .convolve-both .ensures)
+    parts-there (a .shape) (a .speaker) (a .row) (now (a .taps)) (now (a .rings)) (start .pre)
+    (suc (a .position)) (c .convolve-both .ensures)
 
 pub of-speaker-spec : {M : Type 1} → statement M
 of-speaker-spec =

@@ -5,7 +5,6 @@ use native.Mathlib.Omega.{arith}
 use lib.ListN.{length}
 use lib.Ieee.{div, ofBits}
 use lib.Ieee.Compare.{differs-from-itself}
-use denote.Ref.{now}
 use denote.Floats.{passes}
 use Rattle.formats.proofs.Patterns.{no-nan}
 use Rattle.rings.proofs.TwoRuns.{Running, running-none, running-more, running-all}
@@ -21,19 +20,15 @@ abbrev μ-loop : tie.MeasureT-loop
 μ-loop cells left right n to-left₀ to-right₀ k₀ to-left to-right k = n - k
 
 loop-holds : tie.Need-loop-holds Inv-loop μ-loop
-loop-holds c =
-    let a = c .args in (
-      running-none (now (a .cells)) (now (a .left)) (a .sums .left) _ (omega (arith, c .pre .0 .each)),
-      running-none (now (a .cells)) (now (a .right)) (a .sums .right) _ (omega (arith, c .pre .1 .each)),
-    )
+loop-holds c = (running-none (omega (arith, c .pre .0 .each)), running-none (omega (arith, c .pre .1 .each)))
 
 returns : tie.Need-returns Inv-loop μ-loop
 unfolding div ofBits
 returns c =
     let turn = c .before .before .before in
     let start = turn .before in
-    let a = start .args in
-    nan-heard (now (a .cells)) (now (a .left)) (now (a .right)) (a .sums) (turn .loop .k) (start .pre .0) (start .pre .1) (omega arith) (differs-from-itself _ (passes _ (c .if1 .taken)))
+    nan-heard (start .args .sums) (turn .loop .k) (start .pre .0) (start .pre .1) (omega arith)
+    (differs-from-itself _ (passes _ (c .if1 .taken)))
 
 float-to-float-signal : tie.Need-float-to-float-signal Inv-loop μ-loop
 float-to-float-signal c = casts _ (c .row-known .given) (no-nan _ (c .before .if1 .left))
@@ -43,31 +38,26 @@ shared-slice-read-to-left c = omega (arith, c .before .before .before .before .b
 
 float-to-float-to-left : tie.Need-float-to-float-to-left Inv-loop μ-loop
 float-to-float-to-left c =
-    let start = c .before .before .before .before .before .before .before in
-    tap-casts (now (start .args .cells)) (now (start .args .left)) _ (start .pre .0) (omega arith) (c .row-known2 .given)
+    let turn = c .before .before .before .before .before .before in
+    tap-casts (turn .loop .k) (turn .before .pre .0) (omega arith) (c .row-known2 .given)
 
 shared-slice-read-to-right : tie.Need-shared-slice-read-to-right Inv-loop μ-loop
 shared-slice-read-to-right c = omega (arith, c .before .before .before .before .before .before .before .before .pre .1 .each)
 
 float-to-float-to-right : tie.Need-float-to-float-to-right Inv-loop μ-loop
 float-to-float-to-right c =
-    let start = c .before .before .before .before .before .before .before .before .before in
-    tap-casts (now (start .args .cells)) (now (start .args .right)) _ (start .pre .1) (omega arith) (c .row-known3 .given)
+    let turn = c .before .before .before .before .before .before .before .before in
+    tap-casts (turn .loop .k) (turn .before .pre .1) (omega arith) (c .row-known3 .given)
 
 loop-again : tie.Need-loop-again Inv-loop μ-loop
 loop-again c =
-    let turn = c .before .before .before .before .before .before .before .before in
-    let a = turn .before .args in (
-      running-more (now (a .cells)) (now (a .left)) (a .sums .left) _ (turn .loop .to-left) (turn .loop .k) _ _ (turn .loop .inv .0) (omega arith) refl refl,
-      running-more (now (a .cells)) (now (a .right)) (a .sums .right) _ (turn .loop .to-right) (turn .loop .k) _ _ (turn .loop .inv .1) (omega arith) refl refl,
-    )
+    let so-far = c .before .before .before .before .before .before .before .before .loop .inv in
+    (running-more (so-far .0) (omega arith) refl refl, running-more (so-far .1) (omega arith) refl refl)
 
 returns-2 : tie.Need-returns-2 Inv-loop μ-loop
 returns-2 c =
-    let turn = c .before in
-    let a = turn .before .args in
-    let left = running-all (now (a .cells)) (now (a .left)) (a .sums .left) _ (turn .loop .to-left) (turn .loop .k) (turn .loop .inv .0) (c .loop-test .left) in
-    let right = running-all (now (a .cells)) (now (a .right)) (a .sums .right) _ (turn .loop .to-right) (turn .loop .k) (turn .loop .inv .1) (c .loop-test .left) in
+    let left = running-all (c .before .loop .inv .0) (c .loop-test .left) in
+    let right = running-all (c .before .loop .inv .1) (c .loop-test .left) in
     λ i. record { left = left i; right = right i }
 
 pub run-back-spec : {M : Type 1} → statement M
