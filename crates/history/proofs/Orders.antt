@@ -1,5 +1,5 @@
 -- The order of each sum tells: on worked numbers 1, 2^60 and -2^60 the document's order gives 0.0, where the other way round gives 1.0. And a signal is narrowed: 1 + 2^-24 is no f32; and the sum is
--- times 1.0/root(speakers), which is not the same as divided by the root. By computing the definitions. Assumes nothing.
+-- times 1.0/root(speakers), which is not the same as divided by the root, or by that. By computing the definitions. Assumes nothing.
 use mathlib.Core.Path.{_≡_, refl}
 use mathlib.Core.Bool.{true, false, cond}
 use mathlib.Core.List.{List, [], _∷_, _++_, reverse}
@@ -61,7 +61,8 @@ narrowed-signal : mixed (one-float ∷ fin false 1 (negsuc 23) ∷ []) (one-floa
 unfolding mixed rounded add mul sum round size span climb units odd
 narrowed-signal = refl
 
--- ---- times 1.0/root(speakers): two speakers, of which one sounds. Divided by the root it would be the next f32
+-- ---- times 1.0/root(speakers): two speakers, of which one sounds. Divided by the root it would be the next f32, and divided by
+-- 1.0/root(speakers) about twice as much
 
 sounding : Float
 sounding = fin false 0x197BB9E0258965 (negsuc 51)
@@ -73,3 +74,7 @@ times-the-inverse = refl
 divided-by-the-root : narrowed (div binary64 sounding (rootOf binary64 (float (pos 2)))) ≡ fin false 0x9027C5 (negsuc 22)
 unfolding sounding rootOf rootUnits wholeRoot rootIn rounded div sum round size span climb units odd ofInt
 divided-by-the-root = refl
+
+divided-by-the-inverse : narrowed (div binary64 sounding (inverseRoot 2)) ≡ fin false 0x9027C5 (negsuc 21)
+unfolding sounding inverseRoot rootOf rootUnits wholeRoot rootIn rounded div sum round size span climb units odd ofInt
+divided-by-the-inverse = refl

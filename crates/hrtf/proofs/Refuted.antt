@@ -1,5 +1,5 @@
--- What the promises rule out whatever is played: a sample count of one's own, a desk that stays, a reset that leaves
--- something in a ring or a frame to go, and one that takes nine speakers. Assumes nothing.
+-- What the promises rule out whatever is played: a sample count of one's own, a desk that stays where one frame is played,
+-- a reset that leaves something in a ring or a frame to go, and one that takes nine speakers. Assumes nothing.
 use mathlib.Core.Path.{_≡_, sym, ap, _∙_}
 use mathlib.Core.List.{List}
 use mathlib.Core.Logic.{⊎-elim}

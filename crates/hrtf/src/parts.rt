@@ -74,10 +74,15 @@ pub(crate) fn of_speaker(
     ensures { λ r. ⌜ r ≡ partsBy shape (suc position) speaker row (now (taps .entry)) (now (rings .entry)) ⌝ }
 {
     let length = shape.length;
-    let a = speaker * length;
-    let e = a + length;
-    let b = row * 2 * length;
-    let m = b + length;
-    let f = m + length;
-    convolve_both(&rings[a..e], position, &taps[b..m], &taps[m..f])
+    let ring_from = speaker * length;
+    let ring_to = ring_from + length;
+    let left_from = row * 2 * length;
+    let right_from = left_from + length;
+    let right_to = right_from + length;
+    convolve_both(
+        &rings[ring_from..ring_to],
+        position,
+        &taps[left_from..right_from],
+        &taps[right_from..right_to],
+    )
 }

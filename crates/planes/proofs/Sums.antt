@@ -1,4 +1,5 @@
--- Laws of the ordered sum: the loop that forms it, and the products of two lists place by place. Assumes nothing.
+-- Laws of the ordered sum: the loop that forms it, the products of two lists place by place, lists that are joined, and a NaN
+-- in one. Assumes nothing.
 use mathlib.Core.Path.{_≡_, refl, sym, ap, _∙_}
 use mathlib.Core.List.{List, [], _∷_, _++_}
 use Prim.Native.Nat.{ℕ, zero, suc, _+_, _≤_, _<_, min}
@@ -44,14 +45,14 @@ products-tab (x ∷ xs) (y ∷ ys) (suc n) e =
     ap (λ (l : List Float). mul binary64 x y ∷ l)
     (products-tab xs ys n (omega arith) ∙ sym (tab-shift 0 n (productAt (x ∷ xs) (y ∷ ys))))
 
--- so the loop over the places of the shorter list forms their sum
-pub dot-all : (xs ys : List Float) (n : ℕ) (sum : Float) (i : ℕ) → Summing (productAt xs ys) n sum i → n ≤ i → n ≡ min (length xs) (length ys) → sum ≡ dot zero-float xs ys
-dot-all xs ys n sum i g h e = summing-all (productAt xs ys) n sum i g h ∙ ap (total zero-float) (sym (products-tab xs ys n e))
-
--- the same from any sum on
+-- so the loop over the places of the shorter list forms their sum, from any sum on
 pub dot-on : (a : Float) (xs ys : List Float) (n : ℕ) (sum : Float) (i : ℕ) → Going (λ k. total) (productAt xs ys) n a sum i
     → n ≤ i → n ≡ min (length xs) (length ys) → sum ≡ dot a xs ys
 dot-on a xs ys n sum i g h e = going-all (λ k. total) (productAt xs ys) n a sum i g h ∙ ap (total a) (sym (products-tab xs ys n e))
+
+pub dot-all : (xs ys : List Float) (n : ℕ) (sum : Float) (i : ℕ) → Summing (productAt xs ys) n sum i → n ≤ i
+    → n ≡ min (length xs) (length ys) → sum ≡ dot zero-float xs ys
+dot-all = dot-on zero-float
 
 -- ---- lists that are joined: the sum goes on where the first ends
 total-joined : (a : Float) (xs ys : List Float) → total a (xs ++ ys) ≡ total (total a xs) ys
@@ -83,7 +84,7 @@ products-take (suc n) [] ys h = refl
 products-take (suc n) (x ∷ xs) [] h = refl
 products-take (suc n) (x ∷ xs) (y ∷ ys) h = ap (λ (l : List Float). mul binary64 x y ∷ l) (products-take n xs ys (le-of-suc-le-suc h))
 
--- ---- a NaN among the factors makes the sum one, whatever comes before and after
+-- ---- a NaN in the first list makes the sum one, whatever comes before and after
 
 nan-added : (a : Float) → add binary64 a nan ≡ nan
 unfolding add

@@ -67,7 +67,7 @@ fn put_answer(operation: u8, args: &[u8], out: &mut [u8]) -> usize
     }
 }
 
-// Whether there is such an operation. The numbers 22 to 24 are kept free.
+// Whether there is such an operation. 22 to 24 are kept for document 02's E5 and E6.
 fn is_operation(operation: u8) -> bool {
     match operation {
         1..=21 | 25 => true,

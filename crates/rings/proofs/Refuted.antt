@@ -1,6 +1,6 @@
 -- Wrong ways through a ring, each held against the promise of `convolve` at one ring: 2^60, 1, -2^60 (f32 5D800000,
--- 3F800000, DD800000), newest at 0, taps 1, 1, 1. The promise gives 1.0 there, and each of these 0.0: equal in algebra, other
--- bits. And where a first run of another length ends. Assumes nothing.
+-- 3F800000, DD800000), newest at 0, taps 1, 1, 1. The promise gives 1.0 there, and each of these 0.0. The first two are equal
+-- to it in algebra, and the others where all taps are the same. And wrong lengths of the first run. Assumes nothing.
 use Prim.Native.Nat.{ℕ, suc, min}
 use native.Mathlib.Omega.{arith}
 use mathlib.Core.Path.{_≡_, refl, sym, ap, _∙_}
@@ -83,10 +83,10 @@ second-forwards = not-silent secondForwards (silent .3)
 stepped-first : Convolves steppedFirst → ⊥
 stepped-first = not-silent steppedFirst (silent .4)
 
--- ---- the end of the first run: never behind the last cell, and in a ring that has one the newest signal is in it
+-- ---- how many cells the first run has: in a ring that has some the newest is one of them, and there are no more than the ring has
 
-none-in-front : (newest n : ℕ) → min (suc newest) (suc n) ≡ 0 → ⊥
-none-in-front newest n e = omega arith
+first-run-empty : (newest n : ℕ) → min (suc newest) (suc n) ≡ 0 → ⊥
+first-run-empty newest n e = omega arith
 
-behind-the-end : (newest n : ℕ) → min (suc newest) n ≡ suc n → ⊥
-behind-the-end newest n e = omega arith
+first-run-too-long : (newest n : ℕ) → min (suc newest) n ≡ suc n → ⊥
+first-run-too-long newest n e = omega arith

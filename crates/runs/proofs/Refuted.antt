@@ -1,5 +1,5 @@
 -- Answers of another shape, which the promise of `process` refutes: writing nothing, in every call; and, on drill table 8 and 9 played in one block into any lent planes, refusing always, silence, filtering
--- the first frame and copying on, passing the input through, an unsettled count of one's own, and damage judged on the inputs alone. Assumes nothing.
+-- the first frame and copying on, stepping the desk before the ears are read, passing the input through, an unsettled count of one's own, and damage judged on the inputs alone. Assumes nothing.
 use mathlib.Core.Path.{_≡_, refl, sym, ap, _∙_}
 use mathlib.Core.Bool.{Bool, true, false, true≢false}
 use mathlib.Core.List.{List, [], _∷_}
@@ -96,6 +96,10 @@ module _ (a b c d e f : Float) where
 
     copied-right : getD (o .ears) 4 nan ≡ getD (o .ears) 3 nan → ⊥
     copied-right q = true≢false (ap positive (sym (at 4) ∙ q ∙ at 3))
+
+    -- the desk stepped before the ears are read: the newest sample meets the second tap
+    stepped-early : getD (o .ears) 0 nan ≡ half-float → ⊥
+    stepped-early q = half≢one (sym q ∙ at 0)
 
     -- the input passed through, to the left ear or to the right
     passed-left : ((n : ℕ) → n < 3 → sampleAt (o .ears) 3 0 n ≡ getD (into .inputs) n nan) → ⊥

@@ -2,7 +2,7 @@
 use crate::rust::{Convolver, Speaker};
 
 const SPEAKERS: usize = 6;
-/// Lists are always that long, so that runs of more and of fewer frames differ in the frames played and in nothing else.
+/// The line is always that long. How many of its frames are played is set by the ears' lists, which nothing fills.
 const MOST: usize = 4096;
 
 /// Plays the first frames of a line to six speakers, each with a channel of its own and filters of so many taps, and

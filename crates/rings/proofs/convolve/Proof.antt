@@ -10,15 +10,12 @@ use Rattle.rings.proofs.TwoRuns.{two-runs}
 use Rattle.rings.proofs.convolve.Statement.{statement}
 use Rattle.rings.proofs.convolve.Tie as tie
 
--- src/lib.rt:51:26
 slice-aggregate-run-back : tie.Need-slice-aggregate-run-back
 slice-aggregate-run-back c = sym (length-take-le _ _ (omega (arith, c .before .before .cells-up-to .ensures)))
 
--- src/lib.rt:51:42
 slice-aggregate-run-back-2 : tie.Need-slice-aggregate-run-back-2
 slice-aggregate-run-back-2 c = sym (length-take-le _ _ (omega (arith, c .before .before .least .ensures)))
 
--- src/lib.rt:46:1
 returns : tie.Need-returns
 unfolding ofBits
 returns c =
