@@ -1,5 +1,5 @@
 -- Answers of another shape, which the promise of `process` refutes: writing nothing, in every call; and, on drill table 8 and 9 played in one block into any lent planes, refusing always, silence, filtering
--- the first frame and copying on, stepping the desk before the ears are read, passing the input through, an unsettled count of one's own, and damage judged on the inputs alone. Assumes nothing.
+-- the first frame and copying on, the left ear's sum for both, stepping the desk before the ears are read, passing the input through, an unsettled count of one's own, and damage judged on the inputs alone. Assumes nothing.
 use mathlib.Core.Path.{_≡_, refl, sym, ap, _∙_}
 use mathlib.Core.Bool.{Bool, true, false, true≢false}
 use mathlib.Core.List.{List, [], _∷_}
@@ -96,6 +96,10 @@ module _ (a b c d e f : Float) where
 
     copied-right : getD (o .ears) 4 nan ≡ getD (o .ears) 3 nan → ⊥
     copied-right q = true≢false (ap positive (sym (at 4) ∙ q ∙ at 3))
+
+    -- the left ear's part in the right ear's sum: both ears hear the same
+    ears-alike : getD (o .ears) 3 nan ≡ getD (o .ears) 0 nan → ⊥
+    ears-alike q = true≢false (ap positive (sym (at 0) ∙ sym q ∙ at 3))
 
     -- the desk stepped before the ears are read: the newest sample meets the second tap
     stepped-early : getD (o .ears) 0 nan ≡ half-float → ⊥
