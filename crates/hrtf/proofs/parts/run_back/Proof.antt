@@ -39,7 +39,7 @@ shared-slice-read-to-left c = omega (arith, c .before .before .before .before .b
 float-to-float-to-left : tie.Need-float-to-float-to-left Inv-loop μ-loop
 float-to-float-to-left c =
     let turn = c .before .before .before .before .before .before in
-    tap-casts (turn .loop .k) (turn .before .pre .0) (omega arith) (c .row-known2 .given)
+    tap-casts _ (turn .before .pre .0) (omega arith) (c .row-known2 .given)
 
 shared-slice-read-to-right : tie.Need-shared-slice-read-to-right Inv-loop μ-loop
 shared-slice-read-to-right c = omega (arith, c .before .before .before .before .before .before .before .before .pre .1 .each)
@@ -47,7 +47,7 @@ shared-slice-read-to-right c = omega (arith, c .before .before .before .before .
 float-to-float-to-right : tie.Need-float-to-float-to-right Inv-loop μ-loop
 float-to-float-to-right c =
     let turn = c .before .before .before .before .before .before .before .before in
-    tap-casts (turn .loop .k) (turn .before .pre .1) (omega arith) (c .row-known3 .given)
+    tap-casts _ (turn .before .pre .1) (omega arith) (c .row-known3 .given)
 
 loop-again : tie.Need-loop-again Inv-loop μ-loop
 loop-again c =
