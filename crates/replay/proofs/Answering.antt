@@ -1,0 +1,100 @@
+-- From the judgement and the turns to what `replay` promises. Assumes nothing.
+use mathlib.Core.Path.{_≡_, sym, ap, _∙_, subst}
+use mathlib.Core.List.{List, [], _++_, append-nil}
+use Prim.Native.Nat.{ℕ, _≤_}
+use native.Mathlib.Nat.{zero-add}
+use native.Mathlib.Omega.{arith}
+use lib.ListN.{length, drop-of-length-le}
+use lib.Ieee.{Float}
+use Rattle.refusals.specs.Refusals.{answered}
+use Rattle.refusals.proofs.First.{answered-accepted, answered-refused}
+use Rattle.lists.proofs.Tables.{length-tab}
+use Rattle.planes.specs.Planes.{withFrames}
+use Rattle.rings.specs.State.{State}
+use Rattle.rings.specs.Held.{heldIn, Represents}
+use Rattle.stamps.specs.declared.Expected.{Expected}
+use Rattle.stamps.specs.declared.Planned.{Planned}
+use Rattle.stamps.specs.Counts.{plannedOf}
+use Rattle.stamps.specs.Events.{Event, eventsOf}
+use Rattle.replay.specs.declared.play.Turned.{Turned}
+use Rattle.replay.specs.Lines.{Line, setupIn, stampsIn, recordedAt, recordingIn, eventsIn}
+use Rattle.replay.specs.Heard.{heardBy, unsettledBy, afterBy, afterEvents}
+use Rattle.replay.specs.Promise.{refusalIn, Outcome, refused, accepted, outcome, stateAfter, Replays}
+use Rattle.replay.specs.Computed.{stateOf, planIn, leftBy, playedBy, countedBy}
+use Rattle.replay.specs.Gathers.{quiet}
+use Rattle.replay.specs.Turns.{eventsAt, Turns}
+use Rattle.replay.proofs.Judging.{stands, startOf, plan-is}
+use Rattle.replay.proofs.Hearing.{played-by-held, counted-by-is, left-by-is, left-by-kept}
+
+module _ (l : Line) (x : Expected) (t : State) (ears : List Float) where
+  pub outcome-accepted : refusalIn l x t (length ears) ≡ 0 → outcome l x t ears ≡ accepted l x t ears
+  unfolding outcome
+  outcome-accepted e = answered-accepted (accepted l x t ears) (λ n. refused n x t ears) (refusalIn l x t (length ears)) e
+
+  outcome-refused : (n : ℕ) → n ≡ refusalIn l x t (length ears) → (n ≡ 0 → ⊥) → outcome l x t ears ≡ refused n x t ears
+  unfolding outcome
+  outcome-refused n e some =
+      ap (λ (k : ℕ). answered k (accepted l x t ears) (λ m. refused m x t ears)) (sym e) ∙ answered-refused (accepted l x t ears) (λ m. refused m x t ears) n some
+
+  -- what is answered where a plan, a count of unsettled frames, a state and ears are known
+  abbrev answering : Planned → ℕ → State → List Float → Outcome
+  answering plan n s ys =
+      record {
+        answer = record { refusal = 0; samples = plan .out; unsettled = n; late = plan .late; silent = plan .silent; resets = plan .resets; desk = s .desk; expected = plan .expected };
+        rings = s .rings;
+        ears = ys;
+      }
+
+  -- what the steps of an accepted replay make of it
+  abbrev computed : Outcome
+  computed =
+      answering (plannedOf x (stampsIn l)) (countedBy (setupIn l) t (eventsIn l x)) (leftBy (setupIn l) t (eventsIn l x)) (withFrames ears (l .earStride) 0 (playedBy (setupIn l) t (eventsIn l x)))
+
+  -- THE LAW: of every state in which a replay is accepted, the program's steps make what is promised
+  accepted-computed : refusalIn l x t (length ears) ≡ 0 → accepted l x t ears ≡ computed
+  accepted-computed e =
+      let u = setupIn l in
+      let es = eventsIn l x in
+      let sure = stands l x t (length ears) e in
+      let count : unsettledBy u (t .desk .«to_go») [] es ≡ countedBy u t es = sym (counted-by-is u t es (sure .ringed) (sure .position) (sure .waits)) in
+      let state : afterEvents u t es ≡ leftBy u t es = sym (left-by-is u t es (sure .ringed) (sure .position)) in
+      let sums : heardBy u (heldIn u t) es ≡ playedBy u t es = sym (played-by-held u t es (sure .ringed) (sure .position)) in
+      λ i. answering (plannedOf x (stampsIn l)) (count i) (state i) (withFrames ears (l .earStride) 0 (sums i))
+
+  pub outcome-computed : refusalIn l x t (length ears) ≡ 0 → outcome l x t ears ≡ computed
+  outcome-computed e = outcome-accepted e ∙ accepted-computed e
+
+  -- the equation says it all
+  promised : (o : Outcome) → o ≡ outcome l x t ears → Replays l x t ears o
+  promised o e =
+      record {
+        answer = e;
+        keeps = λ past r z. subst (λ (q : Outcome). Represents (setupIn l) (afterBy (setupIn l) past (eventsIn l x)) (stateAfter q)) (sym (e ∙ outcome-computed z)) (left-by-kept (setupIn l) past t (eventsIn l x) r);
+      }
+
+  pub promised-refused : (n : ℕ) → n ≡ refusalIn l x t (length ears) → (n ≡ 0 → ⊥) → Replays l x t ears (refused n x t ears)
+  promised-refused n e some = promised (refused n x t ears) (sym (outcome-refused n e some))
+
+  -- ---- played to the end
+
+  module _ (e : refusalIn l x t (length ears) ≡ 0) (last : Turned) (rings₁ ears₁ : List Float)
+      (turns : Turns l (startOf x t) (t .rings) ears last rings₁ ears₁) (over : last .at ≡ l .frames) where
+    nothing-left : eventsAt l (last .expected) (last .at) ≡ []
+    nothing-left =
+        let beyond : length (recordingIn l) ≤ last .at = omega (arith, over, length-tab 0 (l .frames) (recordedAt (l .stamps) (l .shape .channels) (l .stride) (l .inputs))) in
+        ap (eventsOf (quiet (l .shape .channels)) (last .expected)) (drop-of-length-le (recordingIn l) beyond)
+
+    all-gone : turns .gone ≡ eventsIn l x
+    all-gone = sym (turns .split ∙ ap (λ (es : List (Event (List Float))). turns .gone ++ es) nothing-left ∙ append-nil (turns .gone))
+
+    pub promised-accepted : (plan : Planned) → plan ≡ planIn x (l .frames) (l .stride) (l .stamps) (l .shape .channels) (length (l .inputs)) (l .earStride) (length ears)
+        → Replays l x t ears (answering plan (last .unsettled) (stateOf (last .desk) rings₁) ears₁)
+    promised-accepted plan ep =
+        let u = setupIn l in
+        let planned : plan ≡ plannedOf x (stampsIn l) = plan-is l x t (length ears) e plan ep in
+        let counts : last .unsettled ≡ countedBy u t (eventsIn l x) = turns .counts ∙ zero-add (countedBy u t (turns .gone)) ∙ ap (countedBy u t) all-gone in
+        let leaves : stateOf (last .desk) rings₁ ≡ leftBy u t (eventsIn l x) = turns .leaves ∙ ap (leftBy u t) all-gone in
+        let sounds : ears₁ ≡ withFrames ears (l .earStride) 0 (playedBy u t (eventsIn l x)) =
+            turns .sounds ∙ ap (λ (es : List (Event (List Float))). withFrames ears (l .earStride) 0 (playedBy u t es)) all-gone in
+        promised (answering plan (last .unsettled) (stateOf (last .desk) rings₁) ears₁)
+        ((λ i. answering (planned i) (counts i) (leaves i) (sounds i)) ∙ sym (outcome-computed e))

@@ -1,0 +1,88 @@
+-- What is used of the convolver: a block of its own is not refused, what `hrtf::process` leaves of it, by its equation, and what `hrtf::reset` leaves. All that this crate knows of `hrtf` is said here.
+-- Assumes nothing.
+use mathlib.Core.Path.{_≡_, sym, ap, _∙_}
+use mathlib.Core.Bool.{false}
+use mathlib.Core.List.{List, []}
+use Prim.Native.Nat.{ℕ, _*_, _≤_}
+use native.Mathlib.Omega.{arith}
+use lib.ListN.{length, getD}
+use lib.Ieee.{Float}
+use Rattle.refusals.specs.Refusals.{outside}
+use Rattle.checks.proofs.Checks.{equal-passes, or-off}
+use Rattle.lists.proofs.Tables.{length-tab}
+use Rattle.planes.specs.Planes.{frameAt, framesOf, withFrames}
+use Rattle.planes.proofs.Planes.{frames-read}
+use Rattle.desk.specs.declared.Desk.{Desk}
+use Rattle.history.specs.History.{heard}
+use Rattle.history.proofs.Pieces.{length-heard, two-each}
+use Rattle.rings.specs.State.{State}
+use Rattle.rings.specs.Held.{heldIn}
+use Rattle.rings.specs.Computed.{left, played, counted}
+use Rattle.rings.proofs.Blocks.{played-held}
+use Rattle.hrtf_checks.specs.declared.Shape.{Shape}
+use Rattle.hrtf_checks.specs.Call.{Call}
+use Rattle.hrtf_checks.specs.Refusals.{misshapen, refusalOf}
+use Rattle.hrtf_checks.proofs.Refusing.{lengths-fit, on-desk, accept}
+use Rattle.hrtf.specs.Promise.{Outcome, outcome, stateAfter, Processes}
+use Rattle.hrtf.specs.Reset.{AfterReset, Resets}
+use Rattle.hrtf.proofs.Promised.{outcome-by, outcome-computed, reset-accepts, reset-by}
+use Rattle.replay.specs.Lines.{Line, setupIn}
+use Rattle.replay.specs.Heard.{rested}
+use Rattle.replay.specs.Computed.{stateOf, Good, Kept}
+use Rattle.replay.specs.Turns.{Resting}
+
+-- the call for a block
+abbrev pub blockCall : Line → ℕ → List Float → List Float → Call
+blockCall l count block own =
+    record { shape = l .shape; frames = count; stride = 64; inputs = block; weights = l .weights; rows = l .rows; taps = l .taps; ears = own }
+
+module _ (l : Line) (good : Good l) (t : State) (count : ℕ) (block own : List Float) (kept : Kept l t block own) (few : count ≤ 64) where
+  block-accepted : refusalOf (blockCall l count block own) t ≡ 0
+  block-accepted =
+      sym (accept (blockCall l count block own) t (
+        good .shaped,
+        (
+          good .long,
+          (
+            lengths-fit (l .shape) _ _ _ _ _ _ _ few (kept .blocked) (kept .eared) (kept .state .ringed) (good .weighted) (good .tapped),
+            (
+              good .sound,
+              (on-desk (t .desk) (l .shape .length) (kept .state .position) (kept .state .waits), tt),
+            ),
+          ),
+        ),
+      ))
+
+  module _ (o : Outcome) (p : Processes (blockCall l count block own) t o) where
+    abbrev fs : List (List Float)
+    fs = framesOf block 64 (l .shape .channels) count
+
+    abbrev past : List (List Float)
+    past = heldIn (setupIn l) t
+
+    pub block-leaves : stateAfter o ≡ left (setupIn l) t fs
+    block-leaves = ap stateAfter (p .answer ∙ outcome-computed (blockCall l count block own) t block-accepted)
+
+    pub block-counts : o .answer .unsettled ≡ counted (setupIn l) t fs
+    block-counts = ap (λ (a : Outcome). a .answer .unsettled) (p .answer ∙ outcome-computed (blockCall l count block own) t block-accepted)
+
+    long : length (heard (setupIn l) past fs) ≡ count
+    long = length-heard (setupIn l) past fs ∙ length-tab 0 count (frameAt block 64 (l .shape .channels))
+
+    pub block-sounds : framesOf (o .ears) 64 2 count ≡ played (setupIn l) t fs
+    block-sounds =
+        ap (λ (a : Outcome). framesOf (a .ears) 64 2 count) (p .answer ∙ outcome-by (blockCall l count block own) t 0 block-accepted)
+        ∙ ap (framesOf (withFrames own 64 0 (heard (setupIn l) past fs)) 64 2) (sym long)
+        ∙ frames-read 2 own 64 (heard (setupIn l) past fs) (omega (arith, long, few)) (kept .eared) (two-each (setupIn l) past fs)
+        ∙ sym (played-held (setupIn l) t fs (kept .state .ringed) (kept .state .position))
+
+-- ---- a reset
+
+pub speakers-few : (h : Shape) (rows : List ℕ) → misshapen h rows ≡ false → outside (h .speakers) 8 ≡ false
+speakers-few h rows e = or-off (outside (h .speakers) 8) _ e .0
+
+pub reset-leaves : (d : Desk) (speakers L : ℕ) (rings : List Float) (o : AfterReset) → Resting speakers L rings → Resets d speakers L rings o
+    → stateOf (o .answer .desk) (o .rings) ≡ rested (stateOf d rings)
+reset-leaves d speakers L rings o r p =
+    let none = reset-accepts speakers L rings (r .few, (r .long, (equal-passes (length rings) (speakers * L) (r .ringed), tt))) in
+    ap (λ (a : AfterReset). stateOf (a .answer .desk) (a .rings)) (p .answer ∙ reset-by d speakers L rings 0 none)

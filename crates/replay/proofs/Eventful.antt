@@ -1,0 +1,110 @@
+-- Events one after another, as the convolver plays them: in parts, and where frames are fed one after another. The state keeps what the checks ask of it. Assumes nothing.
+use mathlib.Core.Path.{_≡_, refl, sym, ap, _∙_, subst}
+use mathlib.Core.Bool.{Bool, true, false, cond}
+use mathlib.Core.List.{List, [], _∷_, _++_}
+use Prim.Native.Nat.{ℕ, zero, suc, _+_, _*_, _≤_, _<_}
+use native.Mathlib.Nat.{add-assoc}
+use native.Mathlib.Omega.{arith}
+use lib.ListN.{length, length-replicate}
+use lib.Ieee.{Float}
+use Rattle.formats.specs.Floats.{zero-float}
+use Rattle.lists.proofs.Lists.{one-at-most}
+use Rattle.desk.proofs.Going.{position-below, waits-below}
+use Rattle.history.specs.Setup.{Setup}
+use Rattle.history.specs.Signals.{damaged}
+use Rattle.rings.specs.State.{State}
+use Rattle.rings.specs.Computed.{ears, late, stepped, left, played, counted}
+use Rattle.rings.proofs.Told.{length-stored}
+use Rattle.stamps.specs.Events.{Event, feed, restart, feedsIn}
+use Rattle.replay.specs.Lines.{Line, setupIn}
+use Rattle.replay.specs.Heard.{rested}
+use Rattle.replay.specs.Computed.{Stands, leftBy, playedBy, countedBy}
+use Rattle.replay.specs.Gathers.{feeds}
+
+abbrev Events : Type 0
+Events = List (Event (List Float))
+
+module _ (u : Setup) where
+  -- ---- in parts
+
+  pub left-by-append : (t : State) (es hs : Events) → leftBy u t (es ++ hs) ≡ leftBy u (leftBy u t es) hs
+  left-by-append t [] hs = refl
+  left-by-append t (feed s f ∷ es) hs = left-by-append (stepped u t f) es hs
+  left-by-append t (restart ∷ es) hs = left-by-append (rested t) es hs
+
+  pub played-by-append : (t : State) (es hs : Events) → playedBy u t (es ++ hs) ≡ playedBy u t es ++ playedBy u (leftBy u t es) hs
+  played-by-append t [] hs = refl
+  played-by-append t (feed s f ∷ es) hs = ap (λ (l : List (List Float)). ears u t f ∷ l) (played-by-append (stepped u t f) es hs)
+  played-by-append t (restart ∷ es) hs = played-by-append (rested t) es hs
+
+  pub counted-by-append : (t : State) (es hs : Events) → countedBy u t (es ++ hs) ≡ countedBy u t es + countedBy u (leftBy u t es) hs
+  counted-by-append t [] hs = omega arith
+  counted-by-append t (feed s f ∷ es) hs = omega (arith, counted-by-append (stepped u t f) es hs)
+  counted-by-append t (restart ∷ es) hs = counted-by-append (rested t) es hs
+
+  pub length-played-by : (t : State) (es : Events) → length (playedBy u t es) ≡ feedsIn es
+  length-played-by t [] = refl
+  length-played-by t (feed s f ∷ es) = ap suc (length-played-by (stepped u t f) es)
+  length-played-by t (restart ∷ es) = length-played-by (rested t) es
+
+  -- no more are unsettled than come out
+  pub counted-few : (t : State) (es : Events) → countedBy u t es ≤ feedsIn es
+  counted-few t [] = omega arith
+  counted-few t (feed s f ∷ es) = omega (arith, one-at-most (late u t f), counted-few (stepped u t f) es)
+  counted-few t (restart ∷ es) = counted-few (rested t) es
+
+  -- ---- frames that are fed one after another, and then the rest
+
+  pub left-feeds : (t : State) (ss : List ℕ) (fs : List (List Float)) (es : Events) → length ss ≡ length fs → leftBy u t (feeds ss fs ++ es) ≡ leftBy u (left u t fs) es
+  left-feeds t [] [] es e = refl
+  left-feeds t [] (f ∷ fs) es e = absurd (omega (arith, e))
+  left-feeds t (s ∷ ss) [] es e = absurd (omega (arith, e))
+  left-feeds t (s ∷ ss) (f ∷ fs) es e = left-feeds (stepped u t f) ss fs es (omega (arith, e))
+
+  pub played-feeds : (t : State) (ss : List ℕ) (fs : List (List Float)) (es : Events) → length ss ≡ length fs → playedBy u t (feeds ss fs ++ es) ≡ played u t fs ++ playedBy u (left u t fs) es
+  played-feeds t [] [] es e = refl
+  played-feeds t [] (f ∷ fs) es e = absurd (omega (arith, e))
+  played-feeds t (s ∷ ss) [] es e = absurd (omega (arith, e))
+  played-feeds t (s ∷ ss) (f ∷ fs) es e = ap (λ (l : List (List Float)). ears u t f ∷ l) (played-feeds (stepped u t f) ss fs es (omega (arith, e)))
+
+  pub counted-feeds : (t : State) (ss : List ℕ) (fs : List (List Float)) (es : Events) → length ss ≡ length fs → countedBy u t (feeds ss fs ++ es) ≡ counted u t fs + countedBy u (left u t fs) es
+  counted-feeds t [] [] es e = omega arith
+  counted-feeds t [] (f ∷ fs) es e = absurd (omega (arith, e))
+  counted-feeds t (s ∷ ss) [] es e = absurd (omega (arith, e))
+  counted-feeds t (s ∷ ss) (f ∷ fs) es e = omega (arith, counted-feeds (stepped u t f) ss fs es (omega (arith, e)))
+
+pub feeds-feeds : (ss : List ℕ) (fs : List (List Float)) (es : Events) → length ss ≡ length fs → feedsIn (feeds ss fs ++ es) ≡ length fs + feedsIn es
+feeds-feeds [] [] es e = omega arith
+feeds-feeds [] (f ∷ fs) es e = absurd (omega (arith, e))
+feeds-feeds (s ∷ ss) [] es e = absurd (omega (arith, e))
+feeds-feeds (s ∷ ss) (f ∷ fs) es e = omega (arith, feeds-feeds ss fs es (omega (arith, e)))
+
+pub length-feeds : (ss : List ℕ) (fs : List (List Float)) → length ss ≡ length fs → length (feeds ss fs) ≡ length fs
+length-feeds [] [] e = refl
+length-feeds [] (f ∷ fs) e = absurd (omega (arith, e))
+length-feeds (s ∷ ss) [] e = absurd (omega (arith, e))
+length-feeds (s ∷ ss) (f ∷ fs) e = omega (arith, length-feeds ss fs (omega (arith, e)))
+
+-- ---- the state
+
+module _ (l : Line) where
+  rested-stands : (t : State) → 0 < l .shape .length → Stands l t → Stands l (rested t)
+  rested-stands t h p = record { ringed = length-replicate (length (t .rings)) zero-float ∙ p .ringed; position = h; waits = h }
+
+  stepped-stands : (t : State) (f : List Float) → Stands l t → Stands l (stepped (setupIn l) t f)
+  stepped-stands t f p =
+      let u = setupIn l in
+      record {
+        ringed = length-stored u t f ∙ p .ringed;
+        position = position-below (l .shape .length) (damaged u f) (t .desk) (p .position);
+        waits = waits-below (l .shape .length) (damaged u f) (t .desk) (p .position) (p .waits);
+      }
+
+  pub left-stands : (t : State) (fs : List (List Float)) → Stands l t → Stands l (left (setupIn l) t fs)
+  left-stands t [] p = p
+  left-stands t (f ∷ fs) p = left-stands (stepped (setupIn l) t f) fs (stepped-stands t f p)
+
+  pub left-by-stands : 0 < l .shape .length → (t : State) (es : Events) → Stands l t → Stands l (leftBy (setupIn l) t es)
+  left-by-stands h t [] p = p
+  left-by-stands h t (feed s f ∷ es) p = left-by-stands h (stepped (setupIn l) t f) es (stepped-stands t f p)
+  left-by-stands h t (restart ∷ es) p = left-by-stands h (rested t) es (rested-stands t h p)

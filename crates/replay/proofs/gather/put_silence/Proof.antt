@@ -1,0 +1,61 @@
+-- `replay::gather::put_silence` meets its contract: `planes`' `Sampling`. Assumes nothing.
+use Prim.Native.Nat.{_-_}
+use native.Mathlib.Omega.{arith}
+use mathlib.Core.Path.{refl, ap, _∙_}
+use denote.Ref.{now}
+use Rattle.formats.specs.Floats.{zero-float}
+use Rattle.planes.specs.Planes.{withFrame}
+use Rattle.planes.proofs.Framing.{Sampling, sampling-none, sampling-more, sampling-all}
+use Rattle.lists.proofs.Tables.{tab-constant}
+use Rattle.replay.proofs.gather.put_silence.Statement.{statement}
+use Rattle.replay.proofs.gather.put_silence.Tie as tie
+
+abbrev Inv-loop : tie.InvT-loop
+Inv-loop block₀ place channels p₀ block p = Sampling block₀ 64 place channels (λ k. zero-float) block p
+
+abbrev μ-loop : tie.MeasureT-loop
+μ-loop block₀ place channels p₀ block p = channels - p
+
+loop-holds : tie.Need-loop-holds Inv-loop μ-loop
+loop-holds c = let a = c .before .args in sampling-none (now (a .block)) 64 (a .place) (a .channels) (λ k. zero-float)
+
+put-sample-requires : tie.Need-put-sample-requires Inv-loop μ-loop
+put-sample-requires c κs = tt
+
+add-p : tie.Need-add-p Inv-loop μ-loop
+add-p c = omega arith
+
+loop-less : tie.Need-loop-less Inv-loop μ-loop
+loop-less c = omega arith
+
+loop-again : tie.Need-loop-again Inv-loop μ-loop
+unfolding lib.Ieee.ofBits
+loop-again c =
+    let put = c .before .before in
+    let at = put .before .before .before in
+    let a = at .before .before .args in
+    sampling-more (now (a .block)) 64 (a .place) (a .channels) (λ k. zero-float) (at .loop .block) (at .loop .p) (at .loop .inv) _ (put .put-sample .last .0) (put .before .before .loop-test .taken) refl (put .put-sample .ensures)
+
+same-length : tie.Need-same-length Inv-loop μ-loop
+same-length c = omega arith
+
+returns : tie.Need-returns Inv-loop μ-loop
+returns c =
+    let at = c .before in
+    let a = at .before .before .args in
+    sampling-all (now (a .block)) 64 (a .place) (a .channels) (λ k. zero-float) (at .loop .block) (at .loop .p) (at .loop .inv) (c .loop-test .left)
+    ∙ ap (withFrame (now (a .block)) 64 (a .place)) (tab-constant 0 (a .channels) zero-float)
+
+pub put-silence-spec : {M : Type 1} → statement M
+put-silence-spec =
+    tie.close
+    (tie.spec
+    Inv-loop
+    μ-loop
+    loop-holds
+    put-sample-requires
+    add-p
+    loop-less
+    loop-again
+    same-length
+    returns)

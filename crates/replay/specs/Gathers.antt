@@ -1,0 +1,72 @@
+-- What gathering asks and leaves: frames as they are fed go into a block of 64 places a plane. Definitions only; they speak of the program, and nobody has to believe them.
+use mathlib.Core.Path.{_≡_}
+use Prim.Native.Nat.{ℕ, _+_, _^_, _≤_, _<_}
+use mathlib.Core.Bool.{Bool, true, false, cond}
+use mathlib.Core.List.{List, [], _∷_, _++_}
+use lib.Dec.{leb, ltb}
+use lib.ListN.{length, getD, drop, replicate}
+use lib.Ieee.{Float}
+use Rattle.formats.specs.Floats.{zero-float}
+use Rattle.planes.specs.Planes.{frameAt, framesOf, withFrame}
+use Rattle.stamps.specs.declared.Expected.{Expected}
+use Rattle.stamps.specs.declared.Expected.the-variants.{Stamp}
+use Rattle.stamps.specs.declared.Arrival.{Arrival}
+use Rattle.stamps.specs.declared.Arrival.the-variants.{Next, Ahead, Jump, Late}
+use Rattle.stamps.specs.Arrivals.{comingOf, stampOf, thenOf, skippedOf}
+use Rattle.stamps.specs.Events.{Recorded, Event, feed, restart, eventsOf}
+use Rattle.replay.specs.declared.gather.Gathered.{Gathered}
+
+-- a frame of silence, as `silence` of `history`
+abbrev pub quiet : ℕ → List Float
+quiet channels = replicate channels zero-float
+
+-- ---- one step
+
+abbrev pub goesOn : Gathered → ℕ → Bool
+goesOn g frames = cond (g .restart) false (cond (leb frames (g .at)) false (ltb (g .count) 64))
+
+abbrev pub takenBy : Arrival → Gathered → ℕ → Gathered
+takenBy Next g s = record { count = g .count + 1; at = g .at + 1; restart = false; expected = thenOf (g .expected) s }
+takenBy (Ahead d) g s = record { count = g .count + 1; at = g .at; restart = false; expected = skippedOf (g .expected) }
+takenBy Jump g s = record { count = g .count; at = g .at; restart = true; expected = Stamp s }
+takenBy Late g s = record { count = g .count; at = g .at + 1; restart = false; expected = g .expected }
+
+-- f and q: the recorded frame, and silence
+abbrev pub filledBy : Arrival → List Float → ℕ → List Float → List Float → List Float
+filledBy Next block k f q = withFrame block 64 k f
+filledBy (Ahead d) block k f q = withFrame block 64 k q
+filledBy Jump block k f q = block
+filledBy Late block k f q = block
+
+pub record Takes (stamps : List ℕ) (channels stride : ℕ) (inputs : List Float) (g : Gathered) (block : List Float) (r : Gathered) (block₁ : List Float) : Type 0 where
+  pub below : stampOf (g .expected) < 2 ^ 32
+  pub stamp : getD stamps (g .at) 0 < 2 ^ 32
+  pub taken : r ≡ takenBy (comingOf (g .expected) (getD stamps (g .at) 0)) g (getD stamps (g .at) 0)
+  pub filled : block₁ ≡ filledBy (comingOf (g .expected) (getD stamps (g .at) 0)) block (g .count) (frameAt inputs stride channels (g .at)) (quiet channels)
+
+-- ---- a block
+
+-- frames that are fed, under these stamps
+abbrev pub feeds : List ℕ → List (List Float) → List (Event (List Float))
+feeds [] fs = []
+feeds (s ∷ ss) [] = []
+feeds (s ∷ ss) (f ∷ fs) = feed s f ∷ feeds ss fs
+
+-- a restart, or none
+abbrev pub restarting : Bool → List (Event (List Float))
+restarting b = cond b (restart ∷ []) []
+
+-- what a recording does from frame k on
+abbrev pub eventsFrom : List (Recorded (List Float)) → ℕ → Expected → ℕ → List (Event (List Float))
+eventsFrom rs channels x k = eventsOf (quiet channels) x (drop k rs)
+
+-- the frames in the block, a reset if there is one, and what is left of the recording are what the recording does
+pub record Gathers (rs : List (Recorded (List Float))) (channels : ℕ) (x : Expected) (at frames : ℕ) (r : Gathered) (block : List Float) : Type 0 where
+  pub stamps : List ℕ
+  pub as-many : length stamps ≡ r .count
+  pub split : eventsFrom rs channels x at ≡ feeds stamps (framesOf block 64 channels (r .count)) ++ (restarting (r .restart) ++ eventsFrom rs channels (r .expected) (r .at))
+  pub few : r .count ≤ 64
+  pub on : at ≤ r .at
+  pub within : r .at ≤ frames
+  -- where a recorded frame is left, the block is full or a reset comes first
+  pub goes : r .at < frames → 0 < r .count + cond (r .restart) 1 0

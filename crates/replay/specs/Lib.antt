@@ -1,0 +1,7 @@
+-- The words of the promise of `replay`; then what the functions under it ask and leave.
+pub mod Lines
+pub mod Heard
+pub mod Promise
+pub mod Computed
+pub mod Gathers
+pub mod Turns

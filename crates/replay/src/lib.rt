@@ -1,0 +1,235 @@
+// Replays a recording of the hydrophone line to two ears (document 02, E5): late frames are dropped, missing ones
+// are put in as silence, a larger gap resets the convolver, and all of it is counted.
+//
+// Recorded frames are input planes with one stamp for each frame; the ears have a stride of their own. What is
+// expected goes in and comes back by value, with desk and rings, so that a recording may be cut anywhere. How many
+// frames come out is told by the stamps alone (`stamps::plan`), so that ear planes which are too short are refused
+// before anything is played.
+//
+// `replay` takes any input. Its promise (specs/Promise.antt) is one equation for the answer, the rings and the ears,
+// over the events of the recording, whatever the rings hold. What follows from it, demand 3 between resets and that
+// a recording may be cut anywhere, is shown in `replays`.
+use desk::Desk;
+use hrtf_checks::Shape;
+use play::Turned;
+use stamps::Expected;
+use stamps::Planned;
+ghost use mathlib.Core.Path.{_≡_};
+ghost use Prim.Native.Nat.{_*_};
+ghost use lib.ListN as ListN;
+ghost use Rattle.stamps.specs.Counts.{unplanned as noPlan};
+ghost use Rattle.replay.specs.Promise.{Replays};
+ghost use Rattle.replay.specs.Computed.{lineOf, stateOf, placesOf, planIn, picked};
+
+mod gather;
+mod play;
+
+// What a replay answers: a refusal, what was expected and the desk; or 0 with the frames that came out, how many of them
+// are unsettled, how many recorded frames were late, how many silent ones were put in, and how many resets there were.
+pub struct Replayed {
+    pub refusal: u8,
+    pub samples: usize,
+    pub unsettled: usize,
+    pub late: usize,
+    pub silent: usize,
+    pub resets: usize,
+    pub desk: Desk,
+    pub expected: Expected,
+}
+
+// How many places of the block its planes take. More channels than 16 are refused.
+fn places(channels: usize) -> usize
+    ensures { λ r. ⌜ r ≡ placesOf channels ⌝ }
+{
+    if channels <= 16 {
+        return channels * gather::PLACES;
+    }
+    0
+}
+
+// A recording that does not fit.
+fn unplanned(expected: Expected) -> Planned
+    ensures { λ r. ⌜ r ≡ noPlan expected ⌝ }
+{
+    Planned {
+        fits: false,
+        out: 0,
+        late: 0,
+        silent: 0,
+        resets: 0,
+        expected,
+    }
+}
+
+// What the recording comes to; it does not fit where stamps, inputs or ears have another length than they should.
+fn plan_in(
+    expected: Expected,
+    frames: usize,
+    stride: usize,
+    stamps: &[u32],
+    channels: usize,
+    inputs: usize,
+    ear_stride: usize,
+    ears: usize,
+) -> Planned
+    ensures { λ r. ⌜ r ≡ planIn expected frames stride (now (stamps .entry)) channels inputs «ear_stride» ears ⌝ }
+{
+    if checks::is_block_unfit(stamps.len(), 1, inputs, channels, stride, frames) {
+        return unplanned(expected);
+    }
+    if !checks::is_product(ears, 2, ear_stride) {
+        return unplanned(expected);
+    }
+    stamps::plan(expected, &stamps[..frames], ear_stride)
+}
+
+// The first number that is given: the convolver's 2 and 4, then 5 where the recording does not fit, then its others.
+fn picked_of(judged: u8, fits: bool) -> u8
+    ensures { λ r. ⌜ r ≡ picked judged fits ⌝ }
+{
+    if judged == 2 {
+        return 2;
+    }
+    if judged == 4 {
+        return 4;
+    }
+    if fits {
+        return judged;
+    }
+    5
+}
+
+// Replays with a block and its ears that are lent.
+fn replay_in(
+    desk: Desk,
+    expected: Expected,
+    shape: Shape,
+    frames: usize,
+    stride: usize,
+    stamps: &[u32],
+    inputs: &[f32],
+    weights: &[f64],
+    row_of: &[usize; 8],
+    taps: &[f32],
+    rings: &mut [f32],
+    ear_stride: usize,
+    ears: &mut [f32],
+    block: &mut [f32],
+    own: &mut [f32],
+) -> Replayed
+    requires { ⌜ (ListN.length (now block) ≡ 16 * 64) × (ListN.length (now own) ≡ 2 * 64) ⌝ }
+    ensures { λ r. ⌜ Replays (lineOf shape frames stride (now (stamps .entry)) (now (inputs .entry)) (now (weights .entry)) (now («row_of» .entry)) (now (taps .entry)) «ear_stride»)
+        expected (stateOf desk (now (rings .entry))) (now (ears .entry)) (record { answer = r; rings = now (rings .exit); ears = now (ears .exit) }) ⌝ }
+{
+    let size = places(shape.channels);
+    let judged = hrtf_checks::refusal(
+        desk,
+        shape,
+        0,
+        gather::PLACES,
+        &block[..size],
+        weights,
+        row_of,
+        taps,
+        rings,
+        own,
+    );
+    let plan = plan_in(
+        expected,
+        frames,
+        stride,
+        stamps,
+        shape.channels,
+        inputs.len(),
+        ear_stride,
+        ears.len(),
+    );
+    let refusal = picked_of(judged, plan.fits);
+    if refusal != 0 {
+        return Replayed {
+            refusal,
+            samples: 0,
+            unsettled: 0,
+            late: 0,
+            silent: 0,
+            resets: 0,
+            desk,
+            expected,
+        };
+    }
+    let first = Turned {
+        desk,
+        expected,
+        at: 0,
+        done: 0,
+        unsettled: 0,
+    };
+    let last = play::play(
+        first,
+        shape,
+        frames,
+        stride,
+        stamps,
+        inputs,
+        weights,
+        row_of,
+        taps,
+        rings,
+        ear_stride,
+        ears,
+        &mut block[..size],
+        own,
+    );
+    let left = last.desk;
+    let next = plan.expected;
+    Replayed {
+        refusal: 0,
+        samples: plan.out,
+        unsettled: last.unsettled,
+        late: plan.late,
+        silent: plan.silent,
+        resets: plan.resets,
+        desk: left,
+        expected: next,
+    }
+}
+
+// Replays the first frames of a recording into the two ear planes, or refuses.
+pub fn replay(
+    desk: Desk,
+    expected: Expected,
+    shape: Shape,
+    frames: usize,
+    stride: usize,
+    stamps: &[u32],
+    inputs: &[f32],
+    weights: &[f64],
+    row_of: &[usize; 8],
+    taps: &[f32],
+    rings: &mut [f32],
+    ear_stride: usize,
+    ears: &mut [f32],
+) -> Replayed
+    ensures { λ r. ⌜ Replays (lineOf shape frames stride (now (stamps .entry)) (now (inputs .entry)) (now (weights .entry)) (now («row_of» .entry)) (now (taps .entry)) «ear_stride»)
+        expected (stateOf desk (now (rings .entry))) (now (ears .entry)) (record { answer = r; rings = now (rings .exit); ears = now (ears .exit) }) ⌝ }
+{
+    let mut block = [0.0f32; 1024];
+    let mut own = [0.0f32; 128];
+    replay_in(
+        desk,
+        expected,
+        shape,
+        frames,
+        stride,
+        stamps,
+        inputs,
+        weights,
+        row_of,
+        taps,
+        rings,
+        ear_stride,
+        ears,
+        &mut block,
+        &mut own,
+    )
+}

@@ -1,0 +1,54 @@
+-- `stamps::coming` meets its contract: the kit's wrapped difference is the definition's. Assumes nothing.
+use mathlib.Core.Path.{sym, ap, _∙_, subst}
+use Prim.Native.Nat.{_^_, _<_}
+use native.Mathlib.Omega.{arith}
+use Rattle.stamps.specs.declared.Expected.{Expected}
+use Rattle.stamps.specs.Arrivals.{comingBy, comingOf, stampOf}
+use Rattle.stamps.proofs.Wrapped.{difference-is}
+use borrow.Author.Needs.{needs}
+use Rattle.stamps.proofs.coming.Statement.{statement}
+use Rattle.stamps.proofs.coming.Tie as tie
+
+enum-told : tie.Need-enum-told
+enum-told c = search needs
+
+enum-known-expected : tie.Need-enum-known-expected
+enum-known-expected c = search needs
+
+wrapping-sub-u32-requires : tie.Need-wrapping-sub-u32-requires
+wrapping-sub-u32-requires c κs = search needs
+
+coming-by-requires : tie.Need-coming-by-requires
+coming-by-requires c κs = search needs
+
+returns : tie.Need-returns
+returns c =
+    let at = c .before .before in
+    let told = c .enum-told .given .1 in
+    record {
+      kind = sym (ap (λ (x : Expected). comingOf x (at .args .stamp)) told);
+      below = subst (λ (x : Expected). stampOf x < 2 ^ 32) (sym told) (omega arith);
+    }
+
+returns-2 : tie.Need-returns-2
+returns-2 c =
+    let at = c .before .before .before .before .before in
+    let told = c .before .before .before .expected .given .1 in
+    record {
+      kind =
+          c .coming-by .ensures
+          ∙ ap comingBy (difference-is _ _ _ (search needs) (search needs) (search needs) (c .before .wrapping-sub-u32 .ensures))
+          ∙ sym (ap (λ (x : Expected). comingOf x (at .args .stamp)) told);
+      below = subst (λ (x : Expected). stampOf x < 2 ^ 32) (sym told) (search needs);
+    }
+
+pub coming-spec : {M : Type 1} → statement M
+coming-spec =
+    tie.close
+    (tie.spec
+    enum-told
+    enum-known-expected
+    wrapping-sub-u32-requires
+    coming-by-requires
+    returns
+    returns-2)

@@ -1,0 +1,73 @@
+-- `stamps::plan` meets its contract: `Planning`. Assumes nothing.
+use Prim.Native.Nat.{_-_}
+use native.Mathlib.Omega.{arith}
+use borrow.Author.Needs.{needs}
+use borrow.Author.Tests.{not-true, not-false}
+use denote.Ref.{now}
+use lib.ListN.{length}
+use Rattle.stamps.proofs.Planning.{Planning, planning-none, planning-room, planning-more, planning-stop, planning-all}
+use Rattle.stamps.proofs.plan.Statement.{statement}
+use Rattle.stamps.proofs.plan.Tie as tie
+
+abbrev Inv-loop : tie.InvT-loop
+Inv-loop expected stamps room so-far₀ i₀ so-far i = Planning expected stamps room so-far i
+
+abbrev μ-loop : tie.MeasureT-loop
+μ-loop expected stamps room so-far₀ i₀ so-far i = length stamps - i
+
+loop-holds : tie.Need-loop-holds Inv-loop μ-loop
+loop-holds c = let a = c .before .args in planning-none (a .expected) (now (a .stamps)) (a .room)
+
+mul-stamp : tie.Need-mul-stamp Inv-loop μ-loop
+mul-stamp c = omega arith
+
+shared-slice-read-stamp : tie.Need-shared-slice-read-stamp Inv-loop μ-loop
+shared-slice-read-stamp c = omega arith
+
+plan-on-requires : tie.Need-plan-on-requires Inv-loop μ-loop
+plan-on-requires c κs =
+    let at = c .before .before in
+    let a = at .before .before .args in
+    planning-room (a .expected) (now (a .stamps)) (a .room) (at .loop .so-far) (at .loop .i) (at .loop .inv) (c .before .loop-test .taken) (search needs) (search needs)
+
+returns : tie.Need-returns Inv-loop μ-loop
+returns c =
+    let on = c .before .before in
+    let at = on .before .before .before in
+    let a = at .before .before .args in
+    planning-stop (a .expected) (now (a .stamps)) (a .room) (at .loop .so-far) (at .loop .i) (at .loop .inv) (on .before .before .loop-test .taken) (on .plan-on .result) (on .plan-on .ensures) (not-true _ (c .if1 .taken))
+
+add-i : tie.Need-add-i Inv-loop μ-loop
+add-i c = omega arith
+
+loop-less : tie.Need-loop-less Inv-loop μ-loop
+loop-less c = omega arith
+
+loop-again : tie.Need-loop-again Inv-loop μ-loop
+loop-again c =
+    let on = c .before .before in
+    let at = on .before .before .before in
+    let a = at .before .before .args in
+    planning-more (a .expected) (now (a .stamps)) (a .room) (at .loop .so-far) (at .loop .i) (at .loop .inv) (on .before .before .loop-test .taken) (on .plan-on .result) (on .plan-on .ensures) (not-false _ (c .if1 .left))
+
+returns-2 : tie.Need-returns-2 Inv-loop μ-loop
+returns-2 c =
+    let at = c .before in
+    let a = at .before .before .args in
+    planning-all (a .expected) (now (a .stamps)) (a .room) (at .loop .so-far) (at .loop .i) (at .loop .inv) (c .loop-test .left)
+
+pub plan-spec : {M : Type 1} → statement M
+plan-spec =
+    tie.close
+    (tie.spec
+    Inv-loop
+    μ-loop
+    loop-holds
+    mul-stamp
+    shared-slice-read-stamp
+    plan-on-requires
+    returns
+    add-i
+    loop-less
+    loop-again
+    returns-2)

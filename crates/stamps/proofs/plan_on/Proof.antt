@@ -1,0 +1,71 @@
+-- `stamps::plan_on` meets its contract. Assumes nothing.
+use mathlib.Core.Path.{sym, subst}
+use Prim.Native.Nat.{_≤_}
+use native.Mathlib.Omega.{arith}
+use borrow.Author.Needs.{needs}
+use Rattle.stamps.specs.declared.Arrival.{Arrival}
+use Rattle.stamps.specs.Counts.{silentOne}
+use Rattle.stamps.proofs.Differences.{silent-few}
+use Rattle.stamps.proofs.Planning.{share-late, share-silent, share-resets, on-stopped, on-counted}
+use Rattle.stamps.proofs.plan_on.Statement.{statement}
+use Rattle.stamps.proofs.plan_on.Tie as tie
+
+-- the plan and the stamp, where the frame's kind and its share are known
+abbrev start : tie.After-share-of → tie.Start
+start c = c .before .before
+
+coming-requires : tie.Need-coming-requires
+coming-requires c κs = search needs
+
+share-of-requires : tie.Need-share-of-requires
+share-of-requires c κs = subst (λ (a : Arrival). silentOne a ≤ 4096) (sym (c .coming .ensures .kind)) (silent-few (c .before .args .plan .expected) (c .before .args .stamp))
+
+sub-if1 : tie.Need-sub-if1
+sub-if1 c = search needs
+
+returns : tie.Need-returns
+returns c =
+    let at = c .before .before in
+    on-stopped (start at .args .plan) (start at .args .stamp) (start at .args .room) _ _ (at .before .coming .ensures .kind) (at .share-of .ensures) (c .if1 .taken)
+
+then-expected-requires : tie.Need-then-expected-requires
+then-expected-requires c κs = search needs
+
+add-t9 : tie.Need-add-t9
+add-t9 c = search needs
+
+add-t11 : tie.Need-add-t11
+add-t11 c =
+    let at = c .before .before .before .before .before .before in
+    omega (arith, share-late (start at .args .plan) (start at .args .stamp) (start at .args .room) _ _ (at .before .coming .ensures .kind) (at .share-of .ensures))
+
+add-t12 : tie.Need-add-t12
+add-t12 c =
+    let at = c .before .before .before .before .before .before .before .before in
+    omega (arith, share-silent (start at .args .plan) (start at .args .stamp) (start at .args .room) _ _ (at .before .coming .ensures .kind) (at .share-of .ensures), start at .pre)
+
+add-t13 : tie.Need-add-t13
+add-t13 c =
+    let at = c .before .before .before .before .before .before .before .before .before .before in
+    omega (arith, share-resets (start at .args .plan) (start at .args .stamp) (start at .args .room) _ _ (at .before .coming .ensures .kind) (at .share-of .ensures), start at .pre)
+
+returns-2 : tie.Need-returns-2
+returns-2 c =
+    let then = c .before .before .before .before .before .before .before in
+    let at = then .before .before .before in
+    on-counted (start at .args .plan) (start at .args .stamp) (start at .args .room) _ _ (at .before .coming .ensures .kind) (at .share-of .ensures) _ (then .before .if1 .left) (then .then-expected .ensures)
+
+pub plan-on-spec : {M : Type 1} → statement M
+plan-on-spec =
+    tie.close
+    (tie.spec
+    coming-requires
+    share-of-requires
+    sub-if1
+    returns
+    then-expected-requires
+    add-t9
+    add-t11
+    add-t12
+    add-t13
+    returns-2)

@@ -1,0 +1,75 @@
+-- `stamps::then_expected` meets its contract: each arm knows which it is. Assumes nothing.
+use mathlib.Core.Path.{_≡_, refl, sym, ap, _∙_}
+use Prim.Native.Nat.{ℕ}
+use borrow.Author.Needs.{needs}
+use Rattle.stamps.specs.declared.Expected.{Expected}
+use Rattle.stamps.specs.declared.Arrival.{Arrival}
+use Rattle.stamps.specs.declared.Arrival.the-variants.{Late}
+use Rattle.stamps.specs.Arrivals.{comingOf, thenBy, thenOf}
+use Rattle.stamps.proofs.then_expected.Statement.{statement}
+use Rattle.stamps.proofs.then_expected.Tie as tie
+
+coming-requires : tie.Need-coming-requires
+coming-requires c κs = search needs
+
+enum-told : tie.Need-enum-told
+enum-told c = search needs
+
+one-on-requires : tie.Need-one-on-requires
+one-on-requires c κs = search needs
+
+enum-told-2 : tie.Need-enum-told-2
+enum-told-2 c = search needs
+
+one-on-requires-2 : tie.Need-one-on-requires-2
+one-on-requires-2 c κs = search needs
+
+enum-told-3 : tie.Need-enum-told-3
+enum-told-3 c = search needs
+
+one-on-requires-3 : tie.Need-one-on-requires-3
+one-on-requires-3 c κs = search needs
+
+enum-told-4 : tie.Need-enum-told-4
+enum-told-4 c = search needs
+
+-- what is answered in the arm of y
+known : (x r : Expected) (s : ℕ) (what y : Arrival) → what ≡ comingOf x s → what ≡ y → r ≡ thenBy y x s → r ≡ thenOf x s
+known x r s what y e k a = a ∙ ap (λ (z : Arrival). thenBy z x s) (sym k ∙ e)
+
+returns : tie.Need-returns
+returns c =
+    let at = c .before .before .before in
+    known (at .before .args .expected) _ (at .before .args .stamp) _ _ (at .coming .ensures .kind) (c .before .enum-told .given .1) (c .one-on .ensures)
+
+returns-2 : tie.Need-returns-2
+returns-2 c =
+    let at = c .before .before .before in
+    known (at .before .args .expected) _ (at .before .args .stamp) _ _ (at .coming .ensures .kind) (c .before .enum-told2 .given .1) (c .one-on2 .ensures)
+
+returns-3 : tie.Need-returns-3
+returns-3 c =
+    let at = c .before .before .before in
+    known (at .before .args .expected) _ (at .before .args .stamp) _ _ (at .coming .ensures .kind) (c .before .enum-told3 .given .1) (c .one-on3 .ensures)
+
+returns-4 : tie.Need-returns-4
+returns-4 c =
+    let at = c .before .before in
+    known (at .before .args .expected) _ (at .before .args .stamp) _ Late (at .coming .ensures .kind) (c .enum-told4 .given .1) refl
+
+pub then-expected-spec : {M : Type 1} → statement M
+then-expected-spec =
+    tie.close
+    (tie.spec
+    coming-requires
+    enum-told
+    one-on-requires
+    enum-told-2
+    one-on-requires-2
+    enum-told-3
+    one-on-requires-3
+    enum-told-4
+    returns
+    returns-2
+    returns-3
+    returns-4)

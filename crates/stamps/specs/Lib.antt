@@ -1,0 +1,5 @@
+-- The words of the promises of `stamps`, and the definition of a replayed recording.
+pub mod Arrivals
+pub mod Counts
+pub mod Events
+pub mod Steps

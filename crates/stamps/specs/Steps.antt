@@ -1,0 +1,30 @@
+-- A plan with one frame more. Definitions only; they speak of the program, and nobody has to believe them.
+use Prim.Native.Nat.{ℕ, _+_, _-_}
+use mathlib.Core.Bool.{true, false, cond}
+use lib.Dec.{ltb}
+use Rattle.stamps.specs.declared.Expected.{Expected}
+use Rattle.stamps.specs.declared.Arrival.{Arrival}
+use Rattle.stamps.specs.declared.Planned.{Planned}
+use Rattle.stamps.specs.declared.Share.{Share}
+use Rattle.stamps.specs.Arrivals.{comingOf, thenOf}
+use Rattle.stamps.specs.Counts.{outOne, lateOne, silentOne, resetOne}
+
+abbrev pub shareOf : Arrival → Share
+shareOf c = record { out = outOne c; late = lateOne c; silent = silentOne c; resets = resetOne c }
+
+abbrev pub onBy : Arrival → Planned → ℕ → Planned
+onBy c p s =
+    record {
+      fits = true;
+      out = p .out + outOne c;
+      late = p .late + lateOne c;
+      silent = p .silent + silentOne c;
+      resets = p .resets + resetOne c;
+      expected = thenOf (p .expected) s;
+    }
+
+abbrev pub planOn : Planned → ℕ → ℕ → Planned
+planOn p s room =
+    cond (ltb (room - p .out) (outOne (comingOf (p .expected) s)))
+    (record { fits = false; out = 0; late = 0; silent = 0; resets = 0; expected = p .expected })
+    (onBy (comingOf (p .expected) s) p s)
