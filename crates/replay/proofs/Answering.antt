@@ -95,6 +95,6 @@ module _ (l : Line) (x : Expected) (t : State) (ears : List Float) where
         let counts : last .unsettled ≡ countedBy u t (eventsIn l x) = turns .counts ∙ zero-add (countedBy u t (turns .gone)) ∙ ap (countedBy u t) all-gone in
         let leaves : stateOf (last .desk) rings₁ ≡ leftBy u t (eventsIn l x) = turns .leaves ∙ ap (leftBy u t) all-gone in
         let sounds : ears₁ ≡ withFrames ears (l .earStride) 0 (playedBy u t (eventsIn l x)) =
-            turns .sounds ∙ ap (λ (es : List (Event (List Float))). withFrames ears (l .earStride) 0 (playedBy u t es)) all-gone in
+        turns .sounds ∙ ap (λ (es : List (Event (List Float))). withFrames ears (l .earStride) 0 (playedBy u t es)) all-gone in
         promised (answering plan (last .unsettled) (stateOf (last .desk) rings₁) ears₁)
         ((λ i. answering (planned i) (counts i) (leaves i) (sounds i)) ∙ sym (outcome-computed e))

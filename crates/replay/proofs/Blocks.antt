@@ -2,15 +2,15 @@
 use mathlib.Core.Path.{_≡_, refl, sym, ap, _∙_}
 use mathlib.Core.List.{List, [], _∷_, _++_}
 use Prim.Native.Nat.{ℕ, zero, suc, _+_, _*_, _≤_, _<_}
-use native.Mathlib.Nat.{zero-add, not-suc-le-zero}
+use native.Mathlib.Nat.{zero-add, add-zero}
 use native.Mathlib.Numerals.{add-one}
 use native.Mathlib.Omega.{arith}
-use lib.ListN.{length}
-use lib.Ieee.{Float}
+use lib.ListN.{length, getD}
+use lib.Ieee.{Float, nan}
 use Rattle.lists.specs.Tables.{tab}
-use Rattle.lists.proofs.Tables.{tab-ext, tab-snoc}
+use Rattle.lists.proofs.Tables.{tab-ext, tab-snoc, tab-is}
 use Rattle.planes.specs.Planes.{sampleAt, frameAt, framesOf, withFrame}
-use Rattle.planes.proofs.Planes.{with-frames-other, frame-read}
+use Rattle.planes.proofs.Planes.{with-frames-other, with-frames-at}
 use Rattle.stamps.specs.Events.{Event, feed}
 use Rattle.replay.specs.Gathers.{feeds}
 
@@ -31,11 +31,16 @@ block-more block places channels k f ef hk eb =
     before : tab 0 k (frameAt more places channels) ≡ tab 0 k (frameAt block places channels)
     before = tab-ext 0 k (frameAt more places channels) (frameAt block places channels) (λ n h. tab-ext 0 channels (λ p. sampleAt more places p n) (λ p. sampleAt block places p n) (λ p lt. other n p (omega arith)))
 
+    own : (j : ℕ) → j < 1 → length (getD (f ∷ []) j []) ≡ channels
+    own zero h = ef
+    own (suc j) h = absurd (omega (arith, h))
+
     last : frameAt more places channels (0 + k) ≡ f
     last =
         ap (frameAt more places channels) (zero-add k)
         ∙ ap (λ (n : ℕ). frameAt more places n k) (sym ef)
-        ∙ frame-read block places k f hk (eb ∙ ap (λ (n : ℕ). n * places) (sym ef))
+        ∙ tab-is f nan (λ p. sampleAt more places p k)
+        (λ p lt. ap (sampleAt more places p) (sym (add-zero k)) ∙ with-frames-at channels block places k (f ∷ []) p 0 (omega arith) (omega (arith, lt, ef)) (omega (arith, hk)) eb own)
 
 -- and is the last that is fed
 pub feeds-more : (ss : List ℕ) (fs : List (List Float)) (s : ℕ) (f : List Float) (es : List (Event (List Float))) → length ss ≡ length fs
