@@ -1,7 +1,7 @@
 -- From the judgement and the turns to what `replay` promises. Assumes nothing.
 use mathlib.Core.Path.{_≡_, sym, ap, _∙_, subst}
 use mathlib.Core.List.{List, [], _++_, append-nil}
-use Prim.Native.Nat.{ℕ, _≤_}
+use Prim.Native.Nat.{ℕ, _≤_, _<_}
 use native.Mathlib.Nat.{zero-add}
 use native.Mathlib.Omega.{arith}
 use lib.ListN.{length, drop-of-length-le}
@@ -9,13 +9,15 @@ use lib.Ieee.{Float}
 use Rattle.refusals.specs.Refusals.{answered}
 use Rattle.refusals.proofs.First.{answered-accepted, answered-refused}
 use Rattle.lists.proofs.Tables.{length-tab}
-use Rattle.planes.specs.Planes.{withFrames}
+use Rattle.planes.specs.Planes.{sampleAt, framesOf, withFrames}
+use Rattle.planes.proofs.Planes.{with-frames-other, frames-read}
 use Rattle.rings.specs.State.{State}
 use Rattle.rings.specs.Held.{heldIn, Represents}
 use Rattle.stamps.specs.declared.Expected.{Expected}
 use Rattle.stamps.specs.declared.Planned.{Planned}
-use Rattle.stamps.specs.Counts.{plannedOf}
+use Rattle.stamps.specs.Counts.{outIn, plannedOf}
 use Rattle.stamps.specs.Events.{Event, eventsOf}
+use Rattle.stamps.proofs.Recordings.{feeds-out}
 use Rattle.replay.specs.declared.play.Turned.{Turned}
 use Rattle.replay.specs.Lines.{Line, setupIn, stampsIn, recordedAt, recordingIn, eventsIn}
 use Rattle.replay.specs.Heard.{heardBy, unsettledBy, afterBy, afterEvents}
@@ -23,8 +25,8 @@ use Rattle.replay.specs.Promise.{refusalIn, Outcome, refused, accepted, 
 use Rattle.replay.specs.Computed.{stateOf, planIn, leftBy, playedBy, countedBy}
 use Rattle.replay.specs.Gathers.{quiet}
 use Rattle.replay.specs.Turns.{eventsAt, Turns}
-use Rattle.replay.proofs.Judging.{stands, startOf, plan-is}
-use Rattle.replay.proofs.Hearing.{played-by-held, counted-by-is, left-by-is, left-by-kept}
+use Rattle.replay.proofs.Judging.{stands, startOf, plan-is, stamps-are, fits-ears}
+use Rattle.replay.proofs.Hearing.{length-heard-by, two-each-by, played-by-held, counted-by-is, left-by-is, left-by-kept}
 
 module _ (l : Line) (x : Expected) (t : State) (ears : List Float) where
   pub outcome-accepted : refusalIn l x t (length ears) ≡ 0 → outcome l x t ears ≡ accepted l x t ears
@@ -74,6 +76,43 @@ module _ (l : Line) (x : Expected) (t : State) (ears : List Float) where
 
   pub promised-refused : (n : ℕ) → n ≡ refusalIn l x t (length ears) → (n ≡ 0 → ⊥) → Replays l x t ears (refused n x t ears)
   promised-refused n e some = promised (refused n x t ears) (sym (outcome-refused n e some))
+
+  -- ---- what stands in the ear planes
+
+  module _ (e : refusalIn l x t (length ears) ≡ 0) where
+    abbrev pairs : List (List Float)
+    pairs = heardBy (setupIn l) (heldIn (setupIn l) t) (eventsIn l x)
+
+    pub all-heard : length pairs ≡ outIn x (stampsIn l)
+    all-heard =
+        length-heard-by (setupIn l) (heldIn (setupIn l) t) (eventsIn l x)
+        ∙ feeds-out (quiet (l .shape .channels)) x (recordingIn l)
+        ∙ ap (outIn x) (stamps-are l x t (length ears) e)
+
+    -- the frames that came out, read from the planes: what the convolver played
+    pub ears-read : framesOf (outcome l x t ears .ears) (l .earStride) 2 (outcome l x t ears .answer .samples) ≡ playedBy (setupIn l) t (eventsIn l x)
+    ears-read =
+        let fit = fits-ears l x t (length ears) e in
+        let sure = stands l x t (length ears) e in
+        ap (λ (o : Outcome). framesOf (o .ears) (l .earStride) 2 (o .answer .samples)) (outcome-accepted e)
+        ∙ ap (framesOf (withFrames ears (l .earStride) 0 pairs) (l .earStride) 2) (sym all-heard)
+        ∙ frames-read 2 ears (l .earStride) pairs (omega (arith, all-heard, fit .1)) (fit .0) (two-each-by (setupIn l) (heldIn (setupIn l) t) (eventsIn l x))
+        ∙ sym (played-by-held (setupIn l) t (eventsIn l x) (sure .ringed) (sure .position))
+
+    -- frames of a plane beyond the count are unchanged
+    pub beyond : (plane i : ℕ) → outIn x (stampsIn l) ≤ i → i < l .earStride → sampleAt (outcome l x t ears .ears) (l .earStride) plane i ≡ sampleAt ears (l .earStride) plane i
+    beyond plane i h lt =
+        ap (λ (o : Outcome). sampleAt (o .ears) (l .earStride) plane i) (outcome-accepted e)
+        ∙ with-frames-other ears (l .earStride) 0 pairs plane i lt (omega (arith, all-heard, fits-ears l x t (length ears) e .1)) (λ k b q. omega (arith, all-heard, b, q, h))
+
+    -- no recorded frames change nothing, of what is expected neither
+    pub none-replayed : l .frames ≡ 0
+        → outcome l x t ears ≡ record { answer = record { refusal = 0; samples = 0; unsettled = 0; late = 0; silent = 0; resets = 0; desk = t .desk; expected = x }; rings = t .rings; ears = ears }
+    none-replayed z = outcome-computed e ∙ ap by (λ i. record { shape = l .shape; frames = z i; stride = l .stride; stamps = l .stamps; inputs = l .inputs; weights = l .weights; rows = l .rows; taps = l .taps; earStride = l .earStride })
+      where
+        by : Line → Outcome
+        by m =
+            answering (plannedOf x (stampsIn m)) (countedBy (setupIn m) t (eventsIn m x)) (leftBy (setupIn m) t (eventsIn m x)) (withFrames ears (m .earStride) 0 (playedBy (setupIn m) t (eventsIn m x)))
 
   -- ---- played to the end
 

@@ -2,10 +2,11 @@
 -- leaves what the words say (`left-by-is`), and counts the frames that are unsettled (`counted-by-is`). Then the same over a past that rings and desk stand for. Assumes nothing.
 use mathlib.Core.Path.{_≡_, refl, sym, ap, _∙_, subst}
 use mathlib.Core.Bool.{cond}
-use mathlib.Core.List.{List, [], _∷_, map}
-use Prim.Native.Nat.{ℕ, _+_, _*_, _<_}
+use mathlib.Core.List.{List, [], _∷_, _++_, map}
+use Prim.Native.Nat.{ℕ, zero, suc, _*_, _<_}
+use native.Mathlib.Nat.{not-suc-le-zero, le-of-suc-le-suc}
 use native.Mathlib.Omega.{arith}
-use lib.ListN.{length, replicate}
+use lib.ListN.{length, getD, replicate}
 use lib.Ieee.{Float}
 use Rattle.formats.specs.Floats.{zero-float}
 use Rattle.checks.specs.Finite.{unsound}
@@ -19,7 +20,7 @@ use Rattle.rings.specs.Computed.{ears, late, stepped}
 use Rattle.rings.proofs.Held.{Holds, holds-held, holds-put}
 use Rattle.rings.proofs.Told.{length-stored, kept, ears-told, waits-on, late-told}
 use Rattle.rings.proofs.Blocks.{left-is, left-kept, rings-room, fresh-represents}
-use Rattle.stamps.specs.Events.{Event, feed, restart}
+use Rattle.stamps.specs.Events.{Event, feed, restart, feedsIn}
 use Rattle.replay.specs.Heard.{heardBy, unsettledBy, afterBy, rested, afterEvents}
 use Rattle.replay.specs.Computed.{leftBy, playedBy, countedBy}
 
@@ -27,6 +28,24 @@ abbrev Events : Type 0
 Events = List (Event (List Float))
 
 module _ (u : Setup) where
+  -- ---- what is heard: two ear samples for each frame that is fed, over the past up to it
+
+  pub length-heard-by : (past : List (List Float)) (es : Events) → length (heardBy u past es) ≡ feedsIn es
+  length-heard-by past [] = refl
+  length-heard-by past (feed s f ∷ es) = ap suc (length-heard-by (signals u f ∷ past) es)
+  length-heard-by past (restart ∷ es) = length-heard-by [] es
+
+  pub two-each-by : (past : List (List Float)) (es : Events) (n : ℕ) → n < length (heardBy u past es) → length (getD (heardBy u past es) n []) ≡ 2
+  two-each-by past [] n h = absurd (not-suc-le-zero h)
+  two-each-by past (feed s f ∷ es) zero h = refl
+  two-each-by past (feed s f ∷ es) (suc n) h = two-each-by (signals u f ∷ past) es n (le-of-suc-le-suc h)
+  two-each-by past (restart ∷ es) n h = two-each-by [] es n h
+
+  pub after-by-append : (past : List (List Float)) (es hs : Events) → afterBy u past (es ++ hs) ≡ afterBy u (afterBy u past es) hs
+  after-by-append past [] hs = refl
+  after-by-append past (feed s f ∷ es) hs = after-by-append (signals u f ∷ past) es hs
+  after-by-append past (restart ∷ es) hs = after-by-append [] es hs
+
   -- ---- what a past is known by
 
   abbrev Waits : ℕ → List (List Float) → State → Type 0

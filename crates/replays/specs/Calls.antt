@@ -1,0 +1,80 @@
+-- A replay in many calls of `replay::replay`, what is expected, the rings and the desk passed on untouched. A call may be refused; it then takes nothing and leaves all as it was. Definitions only.
+use Prim.Native.Nat.{ℕ}
+use mathlib.Core.Path.{_≡_}
+use mathlib.Core.List.{List, [], _∷_, _++_}
+use lib.ListN.{length}
+use lib.Ieee.{Float}
+use Rattle.refusals.specs.Refusals.{answered}
+use Rattle.planes.specs.Planes.{framesOf}
+use Rattle.history.specs.Setup.{Setup, SameFilters}
+use Rattle.history.specs.Signals.{silence}
+use Rattle.rings.specs.State.{State}
+use Rattle.stamps.specs.declared.Expected.{Expected}
+use Rattle.stamps.specs.Events.{Recorded, Event, eventsOf, stampsOf}
+use Rattle.replay.specs.declared.Replayed.{Replayed}
+use Rattle.replay.specs.Lines.{Line, setupIn, recordingIn}
+use Rattle.replay.specs.Promise.{refusalIn, Outcome, outcome, stateAfter}
+
+-- ---- one call
+
+-- all that is handed to it but what is passed on
+pub record Call : Type 0 where
+  pub line : Line
+  pub ears : List Float
+
+-- what is passed on
+pub record Place : Type 0 where
+  pub expected : Expected
+  pub state : State
+
+abbrev pub refusalAt : Place → Call → ℕ
+refusalAt p c = refusalIn (c .line) (p .expected) (p .state) (length (c .ears))
+
+abbrev pub outcomeAt : Place → Call → Outcome
+outcomeAt p c = outcome (c .line) (p .expected) (p .state) (c .ears)
+
+abbrev pub next : Place → Call → Place
+next p c = record { expected = outcomeAt p c .answer .expected; state = stateAfter (outcomeAt p c) }
+
+-- the recorded frames that it takes: those of its line, or none where it is refused
+abbrev pub takenBy : ℕ → Call → List (Recorded (List Float))
+takenBy n c = answered n (recordingIn (c .line)) (λ k. [])
+
+abbrev pub taken : Place → Call → List (Recorded (List Float))
+taken p c = takenBy (refusalAt p c) c
+
+-- the ear samples of the frames that it says came out, read from the two ear planes as it leaves them: for each frame left, then right
+abbrev pub sounded : Place → Call → List (List Float)
+sounded p c = framesOf (outcomeAt p c .ears) (c .line .earStride) 2 (outcomeAt p c .answer .samples)
+
+-- ---- many calls
+
+-- every call that is accepted has the counts, L, weights and filters of u; a call that is refused may hold anything
+abbrev pub Alike : Setup → Place → List Call → Type 0
+Alike u p [] = Unit {0}
+Alike u p (c ∷ cs) = (refusalAt p c ≡ 0 → SameFilters (setupIn (c .line)) u) × Alike u (next p c) cs
+
+-- the recorded list
+abbrev pub takenAll : Place → List Call → List (Recorded (List Float))
+takenAll p [] = []
+takenAll p (c ∷ cs) = taken p c ++ takenAll (next p c) cs
+
+abbrev pub soundedAll : Place → List Call → List (List Float)
+soundedAll p [] = []
+soundedAll p (c ∷ cs) = sounded p c ++ soundedAll (next p c) cs
+
+abbrev pub end : Place → List Call → Place
+end p [] = p
+end p (c ∷ cs) = end (next p c) cs
+
+-- a count that each call answers
+abbrev pub counts : (Replayed → ℕ) → Place → List Call → List ℕ
+counts count p [] = []
+counts count p (c ∷ cs) = count (outcomeAt p c .answer) ∷ counts count (next p c) cs
+
+-- the stamps of the recorded list, and what it does: the frames as fed, each with its stamp, and restarts
+abbrev pub stampsAll : Place → List Call → List ℕ
+stampsAll p cs = stampsOf (takenAll p cs)
+
+abbrev pub eventsAll : Setup → Place → List Call → List (Event (List Float))
+eventsAll u p cs = eventsOf (silence u) (p .expected) (takenAll p cs)

@@ -1,0 +1,3 @@
+-- Replays in many calls, and what is shown of them.
+pub mod Calls
+pub mod Demand
