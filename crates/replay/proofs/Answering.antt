@@ -7,7 +7,7 @@ use native.Mathlib.Omega.{arith}
 use lib.ListN.{length, drop-of-length-le}
 use lib.Ieee.{Float}
 use Rattle.refusals.specs.Refusals.{answered}
-use Rattle.refusals.proofs.First.{answered-accepted, answered-refused}
+use Rattle.refusals.proofs.First.{answered-refused}
 use Rattle.lists.proofs.Tables.{length-tab}
 use Rattle.planes.specs.Planes.{sampleAt, framesOf, withFrames}
 use Rattle.planes.proofs.Planes.{with-frames-other, frames-read}
@@ -29,17 +29,15 @@ use Rattle.replay.proofs.Judging.{stands, startOf, plan-is, stamps-are,
 use Rattle.replay.proofs.Hearing.{length-heard-by, two-each-by, played-by-held, counted-by-is, left-by-is, left-by-kept}
 
 module _ (l : Line) (x : Expected) (t : State) (ears : List Float) where
-  pub outcome-accepted : refusalIn l x t (length ears) ≡ 0 → outcome l x t ears ≡ accepted l x t ears
-  unfolding outcome
-  outcome-accepted e = answered-accepted (accepted l x t ears) (λ n. refused n x t ears) (refusalIn l x t (length ears)) e
+  abbrev pub answeredBy : ℕ → Outcome
+  answeredBy k = answered k (accepted l x t ears) (λ n. refused n x t ears)
 
-  outcome-refused : (n : ℕ) → n ≡ refusalIn l x t (length ears) → (n ≡ 0 → ⊥) → outcome l x t ears ≡ refused n x t ears
+  pub outcome-by : (k : ℕ) → refusalIn l x t (length ears) ≡ k → outcome l x t ears ≡ answeredBy k
   unfolding outcome
-  outcome-refused n e some =
-      ap (λ (k : ℕ). answered k (accepted l x t ears) (λ m. refused m x t ears)) (sym e) ∙ answered-refused (accepted l x t ears) (λ m. refused m x t ears) n some
+  outcome-by k e = ap answeredBy e
 
   -- what is answered where a plan, a count of unsettled frames, a state and ears are known
-  abbrev answering : Planned → ℕ → State → List Float → Outcome
+  abbrev pub answering : Planned → ℕ → State → List Float → Outcome
   answering plan n s ys =
       record {
         answer = record { refusal = 0; samples = plan .out; unsettled = n; late = plan .late; silent = plan .silent; resets = plan .resets; desk = s .desk; expected = plan .expected };
@@ -48,7 +46,7 @@ module _ (l : Line) (x : Expected) (t : State) (ears : List Float) where
       }
 
   -- what the steps of an accepted replay make of it
-  abbrev computed : Outcome
+  abbrev pub computed : Outcome
   computed =
       answering (plannedOf x (stampsIn l)) (countedBy (setupIn l) t (eventsIn l x)) (leftBy (setupIn l) t (eventsIn l x)) (withFrames ears (l .earStride) 0 (playedBy (setupIn l) t (eventsIn l x)))
 
@@ -64,7 +62,7 @@ module _ (l : Line) (x : Expected) (t : State) (ears : List Float) where
       λ i. answering (plannedOf x (stampsIn l)) (count i) (state i) (withFrames ears (l .earStride) 0 (sums i))
 
   pub outcome-computed : refusalIn l x t (length ears) ≡ 0 → outcome l x t ears ≡ computed
-  outcome-computed e = outcome-accepted e ∙ accepted-computed e
+  outcome-computed e = outcome-by 0 e ∙ accepted-computed e
 
   -- the equation says it all
   promised : (o : Outcome) → o ≡ outcome l x t ears → Replays l x t ears o
@@ -75,7 +73,7 @@ module _ (l : Line) (x : Expected) (t : State) (ears : List Float) where
       }
 
   pub promised-refused : (n : ℕ) → n ≡ refusalIn l x t (length ears) → (n ≡ 0 → ⊥) → Replays l x t ears (refused n x t ears)
-  promised-refused n e some = promised (refused n x t ears) (sym (outcome-refused n e some))
+  promised-refused n e some = promised (refused n x t ears) (sym (outcome-by n (sym e) ∙ answered-refused (accepted l x t ears) (λ k. refused k x t ears) n some))
 
   -- ---- what stands in the ear planes
 
@@ -94,7 +92,7 @@ module _ (l : Line) (x : Expected) (t : State) (ears : List Float) where
     ears-read =
         let fit = fits-ears l x t (length ears) e in
         let sure = stands l x t (length ears) e in
-        ap (λ (o : Outcome). framesOf (o .ears) (l .earStride) 2 (o .answer .samples)) (outcome-accepted e)
+        ap (λ (o : Outcome). framesOf (o .ears) (l .earStride) 2 (o .answer .samples)) (outcome-by 0 e)
         ∙ ap (framesOf (withFrames ears (l .earStride) 0 pairs) (l .earStride) 2) (sym all-heard)
         ∙ frames-read 2 ears (l .earStride) pairs (omega (arith, all-heard, fit .1)) (fit .0) (two-each-by (setupIn l) (heldIn (setupIn l) t) (eventsIn l x))
         ∙ sym (played-by-held (setupIn l) t (eventsIn l x) (sure .ringed) (sure .position))
@@ -102,7 +100,7 @@ module _ (l : Line) (x : Expected) (t : State) (ears : List Float) where
     -- frames of a plane beyond the count are unchanged
     pub beyond : (plane i : ℕ) → outIn x (stampsIn l) ≤ i → i < l .earStride → sampleAt (outcome l x t ears .ears) (l .earStride) plane i ≡ sampleAt ears (l .earStride) plane i
     beyond plane i h lt =
-        ap (λ (o : Outcome). sampleAt (o .ears) (l .earStride) plane i) (outcome-accepted e)
+        ap (λ (o : Outcome). sampleAt (o .ears) (l .earStride) plane i) (outcome-by 0 e)
         ∙ with-frames-other ears (l .earStride) 0 pairs plane i lt (omega (arith, all-heard, fits-ears l x t (length ears) e .1)) (λ k b q. omega (arith, all-heard, b, q, h))
 
     -- no recorded frames change nothing, of what is expected neither

@@ -1,0 +1,4 @@
+-- The theorems, for crates above to cite; then the worked recording, and the answers that the promise refutes.
+mod Calls
+
+
