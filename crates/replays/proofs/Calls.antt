@@ -93,14 +93,14 @@ called-by u p c same (suc k) e =
     none : [] ≡ taken p c
     none = sym (ap (λ (n : ℕ). takenBy n c) e)
 
-called : (u : Setup) (p : Place) (c : Call) → (refusalAt p c ≡ 0 → SameFilters (setupIn (c .line)) u) → Called u p c
+pub called : (u : Setup) (p : Place) (c : Call) → (refusalAt p c ≡ 0 → SameFilters (setupIn (c .line)) u) → Called u p c
 called u p c same = called-by u p c same (refusalAt p c) refl
 
 -- ---- calls one after another
 
 module _ (u : Setup) where
   -- what the events of a call and of those behind it are together
-  events-on : (p : Place) (c : Call) (cs : List Call) → Called u p c → eventsAll u p (c ∷ cs) ≡ events u p c ++ eventsAll u (next p c) cs
+  pub events-on : (p : Place) (c : Call) (cs : List Call) → Called u p c → eventsAll u p (c ∷ cs) ≡ events u p c ++ eventsAll u (next p c) cs
   events-on p c cs w =
       events-cut (silence u) (p .expected) (taken p c) (takenAll (next p c) cs)
       ∙ ap (λ (x : Expected). events u p c ++ eventsOf (silence u) x (takenAll (next p c) cs)) (sym (w .expected))

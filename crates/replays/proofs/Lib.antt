@@ -1,4 +1,4 @@
 -- The theorems, for crates above to cite; then the worked recording, and the answers that the promise refutes.
 mod Calls
-
-
+pub mod Fed
+pub mod Demand
