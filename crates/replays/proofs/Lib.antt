@@ -2,3 +2,5 @@
 mod Calls
 pub mod Fed
 pub mod Demand
+mod Worked
+mod Refuted

@@ -1,0 +1,121 @@
+-- Answers of the same shape that the promise of `replay` refutes, on the worked recording and on small ones: a gap counted as a late frame, a late frame that is played, what was expected given back, a reset that
+-- keeps the history or the frames to go, the last sample held for the missing ones, silence that is always settled, damage by a late frame, and as many frames as there is room for. Assumes nothing.
+use mathlib.Core.Path.{_≡_, refl, sym, ap, _∙_}
+use mathlib.Core.Bool.{false}
+use mathlib.Core.List.{List, [], _∷_}
+use Prim.Native.Nat.{ℕ, zero, suc}
+use native.Mathlib.Omega.{arith}
+use lib.IntN.{pos, negsuc}
+use lib.ListN.{getD, length}
+use lib.Ieee.{Float, nan, inf, fin, add, mul, div, round, size, span, climb, units, odd, ofInt}
+use lib.Ieee as ieee
+use Rattle.formats.specs.Floats.{zero-float, one-float, half-float, float}
+use Rattle.numbers.specs.Computed.{rounded, rootOf, rootUnits, wholeRoot, rootIn}
+use Rattle.planes.specs.Planes.{framesOf}
+use Rattle.planes.specs.Sums.{mixed}
+use Rattle.planes.specs.Normalization.{inverseRoot}
+use Rattle.history.specs.History.{earOf}
+use Rattle.history.specs.Drill.{drill}
+use Rattle.rings.proofs.Blocks.{fresh}
+use Rattle.stamps.specs.declared.Expected.{Expected}
+use Rattle.stamps.specs.declared.Expected.the-variants.{First, Stamp}
+use Rattle.stamps.specs.Arrivals.{comingBy}
+use Rattle.replay.specs.Lines.{Line, eventsIn}
+use Rattle.replay.specs.Heard.{heardBy, unsettledBy}
+use Rattle.replay.specs.Promise.{refusalIn, Outcome, outcome, Replays}
+use Rattle.replay.proofs.Hearing.{played-by-heard, counted-by-told}
+use Rattle.replay.proofs.Answering.{outcome-by, outcome-computed, ears-read}
+use Rattle.replays.proofs.Worked.{line, whole, planes, pair, table, eight-short, starts, sounds, unsettled, told}
+
+-- how many units a float has, or none
+unitsOf : Float → ℕ
+unitsOf nan = 0
+unitsOf (inf s) = 0
+unitsOf (fin s m e) = m
+
+-- how many stamps are expected
+known : Expected → ℕ
+known First = 0
+known (Stamp s) = 1
+
+-- ---- on the worked recording
+
+module _ (o : Outcome) (p : Replays (whole 9) First (fresh drill) (planes 9) o) where
+  -- a gap that resets counted as a late frame
+  gap-as-late : o .answer .late ≡ 2 → ⊥
+  gap-as-late e = omega (arith, e, told o p .1 .0)
+
+  -- a late frame that is played as it comes
+  late-played : o .answer .samples ≡ 10 → ⊥
+  late-played e = omega (arith, e, told o p .0)
+
+  -- silent frames that are not counted
+  silence-uncounted : o .answer .silent ≡ 0 → ⊥
+  silence-uncounted e = omega (arith, e, told o p .1 .1 .0)
+
+  -- what was expected given back
+  first-again : o .answer .expected ≡ First → ⊥
+  unfolding known
+  first-again e = omega (arith, ap known (sym e ∙ told o p .1 .1 .1 .1))
+
+  -- a reset that keeps the rings: 10 is heard of the 8 and the 4 before the gap
+  rings-kept : getD (framesOf (o .ears) 9 2 (o .answer .samples)) 7 [] ≡ pair (float (pos 10)) (float (pos 4)) → ⊥
+  unfolding unitsOf ofInt
+  rings-kept e = absurd (off (ap (λ (fs : List (List Float)). getD fs 7 []) (sym (sounds o p)) ∙ e))
+    where
+      off : pair (float (pos 8)) zero-float ≡ pair (float (pos 10)) (float (pos 4)) → ⊥
+      off q = omega (arith, ap (λ (l : List Float). unitsOf (getD l 0 nan)) q)
+
+-- room for eight of nine frames: as many as there is room for
+as-many-as-fit : (o : Outcome) → Replays (whole 8) First (fresh drill) (planes 8) o → o .answer .refusal ≡ 0 → ⊥
+as-many-as-fit o p e = omega (arith, e, ap (λ (q : Outcome). q .answer .refusal) (p .answer ∙ outcome-by (whole 8) First (fresh drill) (planes 8) 5 eight-short))
+
+-- ---- on small ones
+
+-- two frames with these stamps and samples
+abbrev two : ℕ → ℕ → Float → Float → ℕ → Line
+two s r x y room = line 2 (s ∷ r ∷ []) (x ∷ y ∷ []) room
+
+-- the unsettled count of two frames from rest that are not refused
+count-of : (s r : ℕ) (x y : Float) (room : ℕ) (o : Outcome) → Replays (two s r x y room) First (fresh drill) (planes room) o → refusalIn (two s r x y room) First (fresh drill) (length (planes room)) ≡ 0
+    → o .answer .unsettled ≡ unsettledBy drill 0 [] (eventsIn (two s r x y room) First)
+count-of s r x y room o p e =
+    ap (λ (q : Outcome). q .answer .unsettled) (p .answer ∙ outcome-computed (two s r x y room) First (fresh drill) (planes room) e)
+    ∙ counted-by-told drill [] (fresh drill) starts (eventsIn (two s r x y room) First)
+
+-- 0 with a NaN, then 3: the silent frame behind the NaN is unsettled too
+silence-settled : (o : Outcome) → Replays (two 0 3 nan one-float 4) First (fresh drill) (planes 4) o → o .answer .unsettled ≡ 1 → ⊥
+unfolding refusalIn comingBy mixed rounded add mul ieee.sum round size span climb units odd ofInt
+silence-settled o p e = omega (arith, e, count-of 0 3 nan one-float 4 o p refl)
+
+-- 5, then 4 with a NaN: a late frame is not looked at
+late-damage : (o : Outcome) → Replays (two 5 4 one-float nan 1) First (fresh drill) (planes 1) o → o .answer .unsettled ≡ 1 → ⊥
+unfolding refusalIn comingBy mixed rounded add mul ieee.sum round size span climb units odd ofInt
+late-damage o p e = omega (arith, e, count-of 5 4 one-float nan 1 o p refl)
+
+-- 0 with a NaN, then 5000: a reset leaves no frames to go
+to-go-kept : (o : Outcome) → Replays (two 0 5000 nan one-float 2) First (fresh drill) (planes 2) o → o .answer .unsettled ≡ 2 → ⊥
+unfolding refusalIn comingBy mixed rounded add mul ieee.sum round size span climb units odd ofInt
+to-go-kept o p e = omega (arith, e, count-of 0 5000 nan one-float 2 o p refl)
+
+-- 0, then 2, with the samples 1 and 1: behind the 1 a half is heard of it, and not another 1
+held-is : heardBy drill [] (eventsIn (two 0 2 one-float one-float 3) First) ≡ pair one-float zero-float ∷ pair half-float one-float ∷ pair one-float zero-float ∷ []
+unfolding comingBy mixed earOf inverseRoot rootOf rootUnits wholeRoot rootIn rounded add mul div ieee.sum round size span climb units odd ofInt
+held-is = refl
+
+three-fit : refusalIn (two 0 2 one-float one-float 3) First (fresh drill) 6 ≡ 0
+unfolding refusalIn comingBy ofInt
+three-fit = refl
+
+-- the last sample held for the missing one: 3/2
+last-held : (o : Outcome) → Replays (two 0 2 one-float one-float 3) First (fresh drill) (planes 3) o → getD (framesOf (o .ears) 3 2 (o .answer .samples)) 1 [] ≡ pair (fin false 3 (negsuc 0)) one-float → ⊥
+unfolding unitsOf
+last-held o p e =
+    absurd (off (ap (λ (fs : List (List Float)). getD fs 1 [])
+    (sym (ap (λ (q : Outcome). framesOf (q .ears) 3 2 (q .answer .samples)) (p .answer)
+    ∙ ears-read (two 0 2 one-float one-float 3) First (fresh drill) (planes 3) three-fit
+    ∙ played-by-heard drill [] (fresh drill) starts (eventsIn (two 0 2 one-float one-float 3) First)
+    ∙ held-is)) ∙ e))
+  where
+    off : pair half-float one-float ≡ pair (fin false 3 (negsuc 0)) one-float → ⊥
+    off q = omega (arith, ap (λ (l : List Float). unitsOf (getD l 0 nan)) q)
