@@ -24,8 +24,8 @@ use Rattle.replay.specs.Heard.{heardBy, unsettledBy, afterBy, afterEvent
 use Rattle.replay.specs.Promise.{refusalIn, Outcome, refused, accepted, outcome, stateAfter, Replays}
 use Rattle.replay.specs.Computed.{stateOf, planIn, leftBy, playedBy, countedBy}
 use Rattle.replay.specs.Gathers.{quiet}
-use Rattle.replay.specs.Turns.{eventsAt, Turns}
-use Rattle.replay.proofs.Judging.{stands, startOf, plan-is, stamps-are, fits-ears}
+use Rattle.replay.specs.Turns.{startOf, eventsAt, Turns}
+use Rattle.replay.proofs.Judging.{stands, plan-is, stamps-are, fits-ears}
 use Rattle.replay.proofs.Hearing.{length-heard-by, two-each-by, played-by-held, counted-by-is, left-by-is, left-by-kept}
 
 module _ (l : Line) (x : Expected) (t : State) (ears : List Float) where
@@ -115,7 +115,7 @@ module _ (l : Line) (x : Expected) (t : State) (ears : List Float) where
   -- ---- played to the end
 
   module _ (e : refusalIn l x t (length ears) ≡ 0) (last : Turned) (rings₁ ears₁ : List Float)
-      (turns : Turns l (startOf x t) (t .rings) ears last rings₁ ears₁) (over : last .at ≡ l .frames) where
+      (turns : Turns l (startOf (t .desk) x) (t .rings) ears last rings₁ ears₁) (over : last .at ≡ l .frames) where
     nothing-left : eventsAt l (last .expected) (last .at) ≡ []
     nothing-left =
         let beyond : length (recordingIn l) ≤ last .at = omega (arith, over, length-tab 0 (l .frames) (recordedAt (l .stamps) (l .shape .channels) (l .stride) (l .inputs))) in

@@ -5,7 +5,7 @@ use mathlib.Core.Bool.{false}
 use mathlib.Core.List.{List, []}
 use Prim.Native.Nat.{ℕ, _*_, _≤_}
 use native.Mathlib.Omega.{arith}
-use lib.ListN.{length, getD}
+use lib.ListN.{length}
 use lib.Ieee.{Float}
 use Rattle.refusals.specs.Refusals.{outside}
 use Rattle.checks.proofs.Checks.{equal-passes, or-off}
@@ -23,7 +23,7 @@ use Rattle.hrtf_checks.specs.declared.Shape.{Shape}
 use Rattle.hrtf_checks.specs.Call.{Call}
 use Rattle.hrtf_checks.specs.Refusals.{misshapen, refusalOf}
 use Rattle.hrtf_checks.proofs.Refusing.{lengths-fit, on-desk, accept}
-use Rattle.hrtf.specs.Promise.{Outcome, outcome, stateAfter, Processes}
+use Rattle.hrtf.specs.Promise.{Outcome, stateAfter, Processes}
 use Rattle.hrtf.specs.Reset.{AfterReset, Resets}
 use Rattle.hrtf.proofs.Promised.{outcome-by, outcome-computed, reset-accepts, reset-by}
 use Rattle.replay.specs.Lines.{Line, setupIn}

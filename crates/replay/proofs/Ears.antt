@@ -1,13 +1,13 @@
 -- The block's ears are put behind those that stand in the ear planes. Assumes nothing.
 use mathlib.Core.Path.{_≡_, refl, sym, ap, _∙_}
-use mathlib.Core.List.{List, [], _∷_}
+use mathlib.Core.List.{List, []}
 use Prim.Native.Nat.{ℕ, _+_, _≤_, _<_}
 use native.Mathlib.Nat.{add-zero, add-suc}
 use lib.ListN.{length}
 use lib.Ieee.{Float}
 use Rattle.lists.specs.Tables.{tab}
 use Rattle.lists.proofs.Going.{Going, going-none, going-more, going-all, going-kept}
-use Rattle.planes.specs.Planes.{sampleAt, frameAt, framesOf, withSample, withFrame, withFrames}
+use Rattle.planes.specs.Planes.{sampleAt, frameAt, withSample, withFrame, withFrames}
 use Rattle.planes.proofs.Planes.{length-with-frames}
 
 -- one frame

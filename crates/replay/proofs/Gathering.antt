@@ -2,17 +2,16 @@
 use mathlib.Core.Path.{_≡_, refl, sym, ap, _∙_, subst}
 use mathlib.Core.Bool.{Bool, true, false, cond}
 use mathlib.Core.List.{List, [], _∷_, _++_}
-use Prim.Native.Nat.{ℕ, zero, suc, _+_, _-_, _*_, _^_, _≤_, _<_, zero-le}
+use Prim.Native.Nat.{ℕ, _+_, _-_, _*_, _^_, _≤_, _<_, zero-le}
 use native.Mathlib.Nat.{le-refl, zero-add}
 use native.Mathlib.Numerals.{add-one}
 use native.Mathlib.Omega.{arith}
-use borrow.Author.Tests.{leb-true, leb-false, ltb-true, ltb-false}
+use borrow.Author.Tests.{ltb-true, ltb-false}
 use lib.Dec.{leb, ltb}
-use lib.ListN.{length, getD, drop, length-append, length-replicate, replicate}
+use lib.ListN.{length, getD, drop, length-append, length-replicate}
 use lib.Seq.{drop-cons}
 use lib.Ieee.{Float}
 use Rattle.formats.specs.Floats.{zero-float}
-use Rattle.lists.specs.Tables.{tab}
 use Rattle.lists.proofs.Tests.{by-test, by-at-most}
 use Rattle.lists.proofs.Tables.{length-tab, getD-tab}
 use Rattle.planes.specs.Planes.{frameAt, framesOf, withFrame}

@@ -1,7 +1,6 @@
 -- THE LAW OF EVERY STATE: from any rings as long as they have to be and any desk whose numbers are below L, what the convolver does with events is document 01's sums over the frames as fed (`played-by-held`),
 -- leaves what the words say (`left-by-is`), and counts the frames that are unsettled (`counted-by-is`). Then the same over a past that rings and desk stand for. Assumes nothing.
 use mathlib.Core.Path.{_≡_, refl, sym, ap, _∙_, subst}
-use mathlib.Core.Bool.{cond}
 use mathlib.Core.List.{List, [], _∷_, _++_, map}
 use Prim.Native.Nat.{ℕ, zero, suc, _*_, _<_}
 use native.Mathlib.Nat.{not-suc-le-zero, le-of-suc-le-suc}
@@ -16,7 +15,7 @@ use Rattle.history.specs.Setup.{Setup}
 use Rattle.history.specs.Signals.{signals, damaged}
 use Rattle.rings.specs.State.{State}
 use Rattle.rings.specs.Held.{heldIn, stateOf, toGoAfter, Represents}
-use Rattle.rings.specs.Computed.{ears, late, stepped}
+use Rattle.rings.specs.Computed.{stepped}
 use Rattle.rings.proofs.Held.{Holds, holds-held, holds-put}
 use Rattle.rings.proofs.Told.{length-stored, kept, ears-told, waits-on, late-told}
 use Rattle.rings.proofs.Blocks.{left-is, left-kept, rings-room, fresh-represents}

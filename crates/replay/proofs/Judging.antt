@@ -1,20 +1,19 @@
 -- How a replay is judged: the number that is picked is the first of one ordered list, and a replay that is not refused has all that playing asks. Assumes nothing.
-use mathlib.Core.Path.{_≡_, refl, sym, ap, _∙_, subst}
+use mathlib.Core.Path.{_≡_, refl, sym, ap, _∙_}
 use mathlib.Core.Bool.{Bool, true, false, not, _||_, cond, true≢false}
-use mathlib.Core.List.{List, [], _∷_, map}
-use Prim.Native.Nat.{ℕ, zero, suc, _+_, _*_, _≤_, _<_, zero-le}
-use native.Mathlib.Nat.{zero-add}
+use mathlib.Core.List.{List, [], _∷_}
+use Prim.Native.Nat.{ℕ, zero, suc, _*_, _≤_, zero-le}
 use native.Mathlib.Omega.{arith}
 use borrow.Author.Tests.{leb-true, leb-false, le-leb, le-ltb, lt-ltb, ltb-false}
 use lib.Dec.{eqb, leb, ltb}
-use lib.ListN.{length, getD, take}
+use lib.ListN.{length, getD, take, replicate, length-replicate}
 use lib.Seq.{getD-take, length-take-le}
 use lib.Ieee.{Float}
-use Rattle.refusals.specs.Refusals.{Check, firstOf, _when_, outside}
+use Rattle.refusals.specs.Refusals.{firstOf, _when_, outside}
 use Rattle.refusals.proofs.Chains.{Off, none-holds}
 use Rattle.lists.specs.Tables.{tab}
-use Rattle.lists.proofs.Tests.{by-test, either}
-use Rattle.lists.proofs.Tables.{tab-is, tab-ext}
+use Rattle.lists.proofs.Tests.{by-test}
+use Rattle.lists.proofs.Tables.{tab-is}
 use Rattle.checks.specs.Finite.{unsound}
 use Rattle.checks.specs.Lengths.{unfit, blockUnfit}
 use Rattle.checks.proofs.Checks.{or-off, both-off, is-equal, not-outside, planes-fit, fitted}
@@ -22,14 +21,13 @@ use Rattle.rings.specs.State.{State}
 use Rattle.hrtf_checks.specs.Refusals.{misshapen, astray, callChecks, refusalOf}
 use Rattle.stamps.specs.declared.Expected.{Expected}
 use Rattle.stamps.specs.declared.Planned.{Planned}
-use Rattle.stamps.specs.Counts.{outIn, plannedOf, unplanned, planOf}
-use Rattle.stamps.specs.Events.{Recorded, feedsIn, stampsOf}
+use Rattle.stamps.specs.Counts.{outIn, plannedOf, unplannedOf, planOf}
+use Rattle.stamps.specs.Events.{stampsOf}
 use Rattle.stamps.proofs.Recordings.{feeds-out}
 use Rattle.replay.specs.Gathers.{quiet}
-use Rattle.replay.specs.declared.play.Turned.{Turned}
 use Rattle.replay.specs.Lines.{Line, recordedAt, recordingIn, stampsIn}
 use Rattle.replay.specs.Computed.{placesOf, planIn, picked, Good, Stands, Kept}
-use Rattle.replay.specs.Turns.{Room}
+use Rattle.replay.specs.Turns.{startOf, Room}
 use Rattle.replay.proofs.Convolver.{blockCall}
 use Rattle.replay.specs.Promise.{recordUnfit, listsUnfit, replayChecks, refusalIn}
 
@@ -55,7 +53,7 @@ picked-first false false false false false false false h = refl
 over-is : (room n : ℕ) → ltb room n ≡ not (leb n room)
 over-is room n = by-test (λ (b : Bool). ltb room n ≡ not b) (leb n room) (λ e. le-ltb room n (leb-true n room e)) (λ e. lt-ltb room n (leb-false n room e))
 
-fits-by : (a b c : Bool) (x : Expected) (p : Planned) → p .fits ≡ true → cond (a || b) (unplanned x) (cond c p (unplanned x)) .fits ≡ not (a || (b || not c))
+fits-by : (a b c : Bool) (x : Expected) (p : Planned) → p .fits ≡ true → cond (a || b) (unplannedOf x) (cond c p (unplannedOf x)) .fits ≡ not (a || (b || not c))
 fits-by true b c x p e = refl
 fits-by false true c x p e = refl
 fits-by false false true x p e = e
@@ -76,6 +74,10 @@ plan-fits l x ears =
 pub places-below : (channels : ℕ) → placesOf channels ≤ 16 * 64
 places-below channels = by-test (λ (b : Bool). (b ≡ leb channels 16) → cond b (channels * 64) 0 ≤ 16 * 64) (leb channels 16) (λ e k. omega (arith, leb-true channels 16 e)) (λ e k. omega arith) refl
 
+-- so many of a new block of 1,024 places
+pub places-lent : (n channels : ℕ) (x : Float) → n ≡ placesOf channels → length (take n (replicate 1024 x)) ≡ n
+places-lent n channels x e = length-take-le n (replicate 1024 x) (omega (arith, e, places-below channels, length-replicate 1024 x))
+
 places-are : (channels : ℕ) → channels ≤ 16 → placesOf channels ≡ channels * 64
 places-are channels h = ap (λ (b : Bool). cond b (channels * 64) 0) (le-leb channels 16 h)
 
@@ -85,10 +87,6 @@ channels-few l e =
     let a2 = or-off (outside (l .shape .rows) 8) _ (a1 .1) in
     let a3 = or-off (outside (l .shape .channels) 16) _ (a2 .1) in
     not-outside (l .shape .channels) 16 (a3 .0) .1
-
--- where a replay starts
-abbrev pub startOf : Expected → State → Turned
-startOf x t = record { desk = t .desk; expected = x; at = 0; done = 0; unsettled = 0 }
 
 module _ (l : Line) (x : Expected) (t : State) (ears : ℕ) where
   pub refusal-is : (block own : List Float) (judged : ℕ) (plan : Planned) → length block ≡ placesOf (l .shape .channels) → length own ≡ 2 * 64
@@ -160,7 +158,7 @@ module _ (l : Line) (x : Expected) (t : State) (ears : ℕ) where
         mapped i zero = refl
         mapped i (suc n) = ap (λ (ks : List ℕ). getD (l .stamps) i 0 ∷ ks) (mapped (suc i) n)
 
-    pub room : Room l (startOf x t)
+    pub room : Room l (startOf (t .desk) x)
     room =
         record {
           within = zero-le;
@@ -176,6 +174,6 @@ module _ (l : Line) (x : Expected) (t : State) (ears : ℕ) where
     pub plan-is : (plan : Planned) → plan ≡ planOn l x ears → plan ≡ plannedOf x (stampsIn l)
     plan-is plan ep =
         ep
-        ∙ ap (λ (b : Bool). cond b (unplanned x) (planOf x (stampsIn l) (l .earStride))) (both-off _ _ (record-fits .0) (record-fits .1 .0))
-        ∙ ap (λ (b : Bool). cond b (plannedOf x (stampsIn l)) (unplanned x))
+        ∙ ap (λ (b : Bool). cond b (unplannedOf x) (planOf x (stampsIn l) (l .earStride))) (both-off _ _ (record-fits .0) (record-fits .1 .0))
+        ∙ ap (λ (b : Bool). cond b (plannedOf x (stampsIn l)) (unplannedOf x))
         (le-leb (outIn x (stampsIn l)) (l .earStride) (ltb-false (l .earStride) (outIn x (stampsIn l)) (record-fits .1 .1)))

@@ -2,11 +2,11 @@
 use mathlib.Core.Path.{_≡_, refl, sym, ap, _∙_, subst}
 use mathlib.Core.Bool.{Bool, true, false, cond}
 use mathlib.Core.Logic.{⊎-elim}
-use mathlib.Core.List.{List, [], _∷_, _++_, append-assoc, append-nil}
-use Prim.Native.Nat.{ℕ, zero, suc, _+_, _-_, _*_, _≤_, _<_, zero-le}
-use native.Mathlib.Nat.{le-refl, add-zero, add-assoc}
+use mathlib.Core.List.{List, [], _++_, append-assoc, append-nil}
+use Prim.Native.Nat.{ℕ, _+_, _≤_, _<_}
+use native.Mathlib.Nat.{add-zero}
 use native.Mathlib.Omega.{arith}
-use lib.ListN.{length, drop, drop-of-length-le, length-append}
+use lib.ListN.{length, length-append}
 use lib.Ieee.{Float}
 use Rattle.lists.proofs.Lists.{split}
 use Rattle.lists.proofs.Tables.{length-tab}
@@ -17,9 +17,8 @@ use Rattle.desk.specs.declared.Desk.{Desk}
 use Rattle.rings.specs.State.{State}
 use Rattle.rings.specs.Computed.{left, played, counted}
 use Rattle.hrtf.specs.declared.Processed.{Processed}
-use Rattle.hrtf.specs.Promise.{Outcome, stateAfter, Processes}
-use Rattle.stamps.specs.declared.Expected.{Expected}
-use Rattle.stamps.specs.Events.{Event, feed, restart, feedsIn, eventsOf}
+use Rattle.hrtf.specs.Promise.{Processes}
+use Rattle.stamps.specs.Events.{Event, restart, feedsIn}
 use Rattle.stamps.proofs.Recordings.{feeds-append}
 use Rattle.replay.specs.declared.gather.Gathered.{Gathered}
 use Rattle.replay.specs.Gathers.{quiet, feeds, restarting, Gathers}

@@ -17,8 +17,9 @@ use Rattle.hrtf_checks.specs.declared.Shape.{Shape}
 use Rattle.hrtf_checks.specs.Refusals.{misshapen}
 use Rattle.stamps.specs.declared.Expected.{Expected}
 use Rattle.stamps.specs.declared.Planned.{Planned}
-use Rattle.stamps.specs.Counts.{unplanned, planOf}
+use Rattle.stamps.specs.Counts.{unplannedOf, planOf}
 use Rattle.stamps.specs.Events.{Event, feed, restart}
+use Rattle.replay.specs.declared.Replayed.{Replayed}
 use Rattle.replay.specs.Lines.{Line}
 use Rattle.replay.specs.Heard.{rested}
 
@@ -37,10 +38,14 @@ placesOf channels = cond (leb channels 16) (channels * 64) 0
 
 abbrev pub planIn : Expected → ℕ → ℕ → List ℕ → ℕ → ℕ → ℕ → ℕ → Planned
 planIn x frames stride stamps channels inputs earStride ears =
-    cond (blockUnfit (length stamps) 1 inputs channels stride frames || not (eqb ears (2 * earStride))) (unplanned x) (planOf x (take frames stamps) earStride)
+    cond (blockUnfit (length stamps) 1 inputs channels stride frames || not (eqb ears (2 * earStride))) (unplannedOf x) (planOf x (take frames stamps) earStride)
 
 abbrev pub picked : ℕ → Bool → ℕ
 picked judged fits = cond (eqb judged 2) 2 (cond (eqb judged 4) 4 (cond fits judged 5))
+
+-- what a replay answers that is refused
+abbrev pub refusedOf : ℕ → Desk → Expected → Replayed
+refusedOf n d x = record { refusal = n; samples = 0; unsettled = 0; late = 0; silent = 0; resets = 0; desk = d; expected = x }
 
 -- ---- what the checks have made sure of
 

@@ -7,14 +7,25 @@ use lib.ListN.{length}
 use lib.Ieee.{Float}
 use Rattle.refusals.specs.Refusals.{outside}
 use Rattle.planes.specs.Planes.{withFrames}
+use Rattle.desk.specs.declared.Desk.{Desk}
 use Rattle.rings.specs.State.{State}
 use Rattle.stamps.specs.declared.Expected.{Expected}
+use Rattle.stamps.specs.declared.Planned.{Planned}
 use Rattle.stamps.specs.Events.{Event, feedsIn}
+use Rattle.replay.specs.declared.Replayed.{Replayed}
 use Rattle.replay.specs.declared.play.Turned.{Turned}
 use Rattle.replay.specs.Lines.{Line, setupIn, recordingIn}
 use Rattle.replay.specs.Heard.{rested}
 use Rattle.replay.specs.Computed.{stateOf, leftBy, playedBy, countedBy}
 use Rattle.replay.specs.Gathers.{eventsFrom}
+
+-- where a replay starts, and what it answers once it was planned and played
+abbrev pub startOf : Desk → Expected → Turned
+startOf d x = record { desk = d; expected = x; at = 0; done = 0; unsettled = 0 }
+
+abbrev pub answeredOf : Planned → Turned → Replayed
+answeredOf plan last =
+    record { refusal = 0; samples = plan .out; unsettled = last .unsettled; late = plan .late; silent = plan .silent; resets = plan .resets; desk = last .desk; expected = plan .expected }
 
 -- what the recording does from frame k on
 abbrev pub eventsAt : Line → Expected → ℕ → List (Event (List Float))

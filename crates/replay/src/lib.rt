@@ -17,9 +17,9 @@ use stamps::Planned;
 ghost use mathlib.Core.Path.{_≡_};
 ghost use Prim.Native.Nat.{_*_};
 ghost use lib.ListN as ListN;
-ghost use Rattle.stamps.specs.Counts.{unplanned as noPlan};
 ghost use Rattle.replay.specs.Promise.{Replays};
-ghost use Rattle.replay.specs.Computed.{lineOf, stateOf, placesOf, planIn, picked};
+ghost use Rattle.replay.specs.Computed.{lineOf, stateOf, placesOf, planIn, picked, refusedOf};
+ghost use Rattle.replay.specs.Turns.{answeredOf};
 
 mod gather;
 mod play;
@@ -47,20 +47,6 @@ fn places(channels: usize) -> usize
     0
 }
 
-// A recording that does not fit.
-fn unplanned(expected: Expected) -> Planned
-    ensures { λ r. ⌜ r ≡ noPlan expected ⌝ }
-{
-    Planned {
-        fits: false,
-        out: 0,
-        late: 0,
-        silent: 0,
-        resets: 0,
-        expected,
-    }
-}
-
 // What the recording comes to; it does not fit where stamps, inputs or ears have another length than they should.
 fn plan_in(
     expected: Expected,
@@ -75,10 +61,10 @@ fn plan_in(
     ensures { λ r. ⌜ r ≡ planIn expected frames stride (now (stamps .entry)) channels inputs «ear_stride» ears ⌝ }
 {
     if checks::is_block_unfit(stamps.len(), 1, inputs, channels, stride, frames) {
-        return unplanned(expected);
+        return stamps::unplanned(expected);
     }
     if !checks::is_product(ears, 2, ear_stride) {
-        return unplanned(expected);
+        return stamps::unplanned(expected);
     }
     stamps::plan(expected, &stamps[..frames], ear_stride)
 }
@@ -99,8 +85,43 @@ fn picked_of(judged: u8, fits: bool) -> u8
     5
 }
 
-// Replays with a block and its ears that are lent.
+// What a replay answers that is refused.
+fn refused(refusal: u8, desk: Desk, expected: Expected) -> Replayed
+    ensures { λ r. ⌜ r ≡ refusedOf refusal desk expected ⌝ }
+{
+    Replayed {
+        refusal,
+        samples: 0,
+        unsettled: 0,
+        late: 0,
+        silent: 0,
+        resets: 0,
+        desk,
+        expected,
+    }
+}
+
+// What a replay answers that was planned and played.
+fn answered(plan: Planned, last: Turned) -> Replayed
+    ensures { λ r. ⌜ r ≡ answeredOf plan last ⌝ }
+{
+    let left = last.desk;
+    let next = plan.expected;
+    Replayed {
+        refusal: 0,
+        samples: plan.out,
+        unsettled: last.unsettled,
+        late: plan.late,
+        silent: plan.silent,
+        resets: plan.resets,
+        desk: left,
+        expected: next,
+    }
+}
+
+// Replays what is planned, with a block and its ears that are lent; what they hold does not matter.
 fn replay_in(
+    plan: Planned,
     desk: Desk,
     expected: Expected,
     shape: Shape,
@@ -117,55 +138,29 @@ fn replay_in(
     block: &mut [f32],
     own: &mut [f32],
 ) -> Replayed
-    requires { ⌜ (ListN.length (now block) ≡ 16 * 64) × (ListN.length (now own) ≡ 2 * 64) ⌝ }
+    requires { ⌜ (ListN.length (now block) ≡ placesOf (shape .channels)) × (ListN.length (now own) ≡ 2 * 64) ⌝ }
+    requires { ⌜ plan ≡ planIn expected frames stride (now stamps) (shape .channels) (ListN.length (now inputs)) «ear_stride» (ListN.length (now ears)) ⌝ }
     ensures { λ r. ⌜ Replays (lineOf shape frames stride (now (stamps .entry)) (now (inputs .entry)) (now (weights .entry)) (now («row_of» .entry)) (now (taps .entry)) «ear_stride»)
         expected (stateOf desk (now (rings .entry))) (now (ears .entry)) (record { answer = r; rings = now (rings .exit); ears = now (ears .exit) }) ⌝ }
 {
-    let size = places(shape.channels);
     let judged = hrtf_checks::refusal(
         desk,
         shape,
         0,
         gather::PLACES,
-        &block[..size],
+        block,
         weights,
         row_of,
         taps,
         rings,
         own,
     );
-    let plan = plan_in(
-        expected,
-        frames,
-        stride,
-        stamps,
-        shape.channels,
-        inputs.len(),
-        ear_stride,
-        ears.len(),
-    );
     let refusal = picked_of(judged, plan.fits);
     if refusal != 0 {
-        return Replayed {
-            refusal,
-            samples: 0,
-            unsettled: 0,
-            late: 0,
-            silent: 0,
-            resets: 0,
-            desk,
-            expected,
-        };
+        return refused(refusal, desk, expected);
     }
-    let first = Turned {
-        desk,
-        expected,
-        at: 0,
-        done: 0,
-        unsettled: 0,
-    };
     let last = play::play(
-        first,
+        play::start(desk, expected),
         shape,
         frames,
         stride,
@@ -177,21 +172,10 @@ fn replay_in(
         rings,
         ear_stride,
         ears,
-        &mut block[..size],
+        block,
         own,
     );
-    let left = last.desk;
-    let next = plan.expected;
-    Replayed {
-        refusal: 0,
-        samples: plan.out,
-        unsettled: last.unsettled,
-        late: plan.late,
-        silent: plan.silent,
-        resets: plan.resets,
-        desk: left,
-        expected: next,
-    }
+    answered(plan, last)
 }
 
 // Replays the first frames of a recording into the two ear planes, or refuses.
@@ -210,12 +194,28 @@ pub fn replay(
     ear_stride: usize,
     ears: &mut [f32],
 ) -> Replayed
-    ensures { λ r. ⌜ Replays (lineOf shape frames stride (now (stamps .entry)) (now (inputs .entry)) (now (weights .entry)) (now («row_of» .entry)) (now (taps .entry)) «ear_stride»)
-        expected (stateOf desk (now (rings .entry))) (now (ears .entry)) (record { answer = r; rings = now (rings .exit); ears = now (ears .exit) }) ⌝ }
+    ensures { λ r. ⌜ Replays
+        (record { shape = shape; frames = frames; stride = stride; stamps = now (stamps .entry); inputs = now (inputs .entry); weights = now (weights .entry); rows = now («row_of» .entry); taps = now (taps .entry); earStride = «ear_stride» })
+        expected
+        (record { rings = now (rings .entry); desk = desk })
+        (now (ears .entry))
+        (record { answer = r; rings = now (rings .exit); ears = now (ears .exit) }) ⌝ }
 {
     let mut block = [0.0f32; 1024];
     let mut own = [0.0f32; 128];
+    let plan = plan_in(
+        expected,
+        frames,
+        stride,
+        stamps,
+        shape.channels,
+        inputs.len(),
+        ear_stride,
+        ears.len(),
+    );
+    let size = places(shape.channels);
     replay_in(
+        plan,
         desk,
         expected,
         shape,
@@ -229,7 +229,7 @@ pub fn replay(
         rings,
         ear_stride,
         ears,
-        &mut block,
+        &mut block[..size],
         &mut own,
     )
 }

@@ -12,7 +12,7 @@ ghost use mathlib.Core.Path.{_≡_};
 ghost use Prim.Native.Nat.{_+_, _^_, _<_};
 ghost use Rattle.planes.specs.Planes.{frameAt, framesOf, withFrame, withFrames};
 ghost use Rattle.replay.specs.Computed.{lineOf, stateOf, Good, Kept};
-ghost use Rattle.replay.specs.Turns.{Resting, restedIf, Room, Turns, Turn};
+ghost use Rattle.replay.specs.Turns.{startOf, Resting, restedIf, Room, Turns, Turn};
 
 // How far a recording is played: the desk, what is expected, the recorded frame that comes next, the frames that came
 // out, and how many of them are unsettled.
@@ -22,6 +22,19 @@ pub(crate) struct Turned {
     pub(crate) at: usize,
     pub(crate) done: usize,
     pub(crate) unsettled: usize,
+}
+
+// Where a replay starts.
+pub(crate) fn start(desk: Desk, expected: Expected) -> Turned
+    ensures { λ r. ⌜ r ≡ startOf desk expected ⌝ }
+{
+    Turned {
+        desk,
+        expected,
+        at: 0,
+        done: 0,
+        unsettled: 0,
+    }
 }
 
 // One frame of the block's ears to a place of the ear planes.

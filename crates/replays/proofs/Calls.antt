@@ -1,25 +1,27 @@
 -- One call, accepted or refused, and calls one after another: what is sounded, counted and left is what the events of the recorded list give, one by one. Assumes nothing.
 use mathlib.Core.Path.{_≡_, refl, sym, ap, _∙_}
+use mathlib.Core.Bool.{true}
 use mathlib.Core.List.{List, [], _∷_, _++_, map-append}
 use Prim.Native.Nat.{ℕ, zero, suc, _+_}
 use native.Mathlib.Omega.{arith}
 use lib.ListN.{length, replicate}
 use lib.Ieee.{Float}
 use Rattle.formats.specs.Floats.{zero-float}
-use Rattle.refusals.specs.Refusals.{answered}
 use Rattle.planes.specs.Planes.{framesOf}
 use Rattle.history.specs.Setup.{Setup, SameFilters}
 use Rattle.history.specs.Signals.{silence}
 use Rattle.rings.specs.State.{State}
 use Rattle.stamps.specs.declared.Expected.{Expected}
+use Rattle.stamps.specs.declared.Arrival.{Arrival}
+use Rattle.stamps.specs.declared.Planned.{Planned}
 use Rattle.stamps.specs.Arrivals.{expectedAfter}
-use Rattle.stamps.specs.Counts.{outIn, lateIn, silentIn, resetsIn}
+use Rattle.stamps.specs.Counts.{addedUp, plannedOf}
 use Rattle.stamps.specs.Events.{Recorded, Event, eventsOf, stampsOf}
-use Rattle.stamps.proofs.Recordings.{expected-cut, events-cut}
+use Rattle.stamps.proofs.Recordings.{added-cut, expected-cut, events-cut}
 use Rattle.runs.specs.Runs.{sum}
 use Rattle.replay.specs.declared.Replayed.{Replayed}
-use Rattle.replay.specs.Lines.{Line, setupIn, recordingIn, stampsIn, eventsIn}
-use Rattle.replay.specs.Promise.{refusalIn, Outcome, refused, outcome, stateAfter}
+use Rattle.replay.specs.Lines.{Line, setupIn, recordingIn, eventsIn}
+use Rattle.replay.specs.Promise.{Outcome, refused, stateAfter}
 use Rattle.replay.specs.Computed.{leftBy, playedBy, countedBy}
 use Rattle.replay.proofs.Judging.{stamps-are}
 use Rattle.replay.proofs.Eventful.{left-by-append, played-by-append, counted-by-append, left-by-alike, played-by-alike, counted-by-alike}
@@ -32,15 +34,15 @@ use Rattle.replays.specs.Calls.{Call, Place, refusalAt, outcomeAt, next,
 abbrev pub events : Setup → Place → Call → List (Event (List Float))
 events u p c = eventsOf (silence u) (p .expected) (taken p c)
 
+-- what it tells of them, as a plan tells it
+abbrev tellsOf : Outcome → Planned
+tellsOf o = let r = o .answer in record { fits = true; out = r .samples; late = r .late; silent = r .silent; resets = r .resets; expected = r .expected }
+
 pub record Called (u : Setup) (p : Place) (c : Call) : Type 0 where
   pub sounds : sounded p c ≡ playedBy u (p .state) (events u p c)
   pub unsettled : outcomeAt p c .answer .unsettled ≡ countedBy u (p .state) (events u p c)
   pub state : next p c .state ≡ leftBy u (p .state) (events u p c)
-  pub expected : next p c .expected ≡ expectedAfter (p .expected) (stampsOf (taken p c))
-  pub samples : outcomeAt p c .answer .samples ≡ outIn (p .expected) (stampsOf (taken p c))
-  pub late : outcomeAt p c .answer .late ≡ lateIn (p .expected) (stampsOf (taken p c))
-  pub silent : outcomeAt p c .answer .silent ≡ silentIn (p .expected) (stampsOf (taken p c))
-  pub resets : outcomeAt p c .answer .resets ≡ resetsIn (p .expected) (stampsOf (taken p c))
+  pub told : tellsOf (outcomeAt p c) ≡ plannedOf (p .expected) (stampsOf (taken p c))
 
 called-by : (u : Setup) (p : Place) (c : Call) → (refusalAt p c ≡ 0 → SameFilters (setupIn (c .line)) u) → (k : ℕ) → refusalAt p c ≡ k → Called u p c
 called-by u p c same zero e =
@@ -48,11 +50,7 @@ called-by u p c same zero e =
       sounds = ears-read l x t (c .ears) e ∙ played-by-alike (setupIn l) u (same e) t (eventsIn l x) ∙ ap (playedBy u t) does;
       unsettled = ap (λ (o : Outcome). o .answer .unsettled) made ∙ counted-by-alike (setupIn l) u (same e) t (eventsIn l x) ∙ ap (countedBy u t) does;
       state = ap stateAfter made ∙ left-by-alike (setupIn l) u (same e) t (eventsIn l x) ∙ ap (leftBy u t) does;
-      expected = ap (λ (o : Outcome). o .answer .expected) made ∙ ap (expectedAfter x) stamps;
-      samples = ap (λ (o : Outcome). o .answer .samples) made ∙ ap (outIn x) stamps;
-      late = ap (λ (o : Outcome). o .answer .late) made ∙ ap (lateIn x) stamps;
-      silent = ap (λ (o : Outcome). o .answer .silent) made ∙ ap (silentIn x) stamps;
-      resets = ap (λ (o : Outcome). o .answer .resets) made ∙ ap (resetsIn x) stamps;
+      told = ap tellsOf made ∙ ap (plannedOf x) (sym (stamps-are l x t (length (c .ears)) e) ∙ ap stampsOf takes);
     }
   where
     l : Line
@@ -70,28 +68,21 @@ called-by u p c same zero e =
     takes : recordingIn l ≡ taken p c
     takes = sym (ap (λ (n : ℕ). takenBy n c) e)
 
-    stamps : stampsIn l ≡ stampsOf (taken p c)
-    stamps = sym (stamps-are l x t (length (c .ears)) e) ∙ ap stampsOf takes
-
     does : eventsIn l x ≡ events u p c
     does = ap (λ (n : ℕ). eventsOf (replicate n zero-float) x (recordingIn l)) (same e .channels) ∙ ap (eventsOf (silence u) x) takes
 called-by u p c same (suc k) e =
     record {
-      sounds = ap (λ (o : Outcome). framesOf (o .ears) (c .line .earStride) 2 (o .answer .samples)) made ∙ ap (λ (rs : List (Recorded (List Float))). playedBy u (p .state) (eventsOf (silence u) (p .expected) rs)) none;
-      unsettled = ap (λ (o : Outcome). o .answer .unsettled) made ∙ ap (λ (rs : List (Recorded (List Float))). countedBy u (p .state) (eventsOf (silence u) (p .expected) rs)) none;
-      state = ap stateAfter made ∙ ap (λ (rs : List (Recorded (List Float))). leftBy u (p .state) (eventsOf (silence u) (p .expected) rs)) none;
-      expected = ap (λ (o : Outcome). o .answer .expected) made ∙ ap (λ (rs : List (Recorded (List Float))). expectedAfter (p .expected) (stampsOf rs)) none;
-      samples = ap (λ (o : Outcome). o .answer .samples) made ∙ ap (λ (rs : List (Recorded (List Float))). outIn (p .expected) (stampsOf rs)) none;
-      late = ap (λ (o : Outcome). o .answer .late) made ∙ ap (λ (rs : List (Recorded (List Float))). lateIn (p .expected) (stampsOf rs)) none;
-      silent = ap (λ (o : Outcome). o .answer .silent) made ∙ ap (λ (rs : List (Recorded (List Float))). silentIn (p .expected) (stampsOf rs)) none;
-      resets = ap (λ (o : Outcome). o .answer .resets) made ∙ ap (λ (rs : List (Recorded (List Float))). resetsIn (p .expected) (stampsOf rs)) none;
+      sounds = ap (λ (o : Outcome). framesOf (o .ears) (c .line .earStride) 2 (o .answer .samples)) made ∙ ap (playedBy u (p .state)) none;
+      unsettled = ap (λ (o : Outcome). o .answer .unsettled) made ∙ ap (countedBy u (p .state)) none;
+      state = ap stateAfter made ∙ ap (leftBy u (p .state)) none;
+      told = ap tellsOf made ∙ ap (λ (n : ℕ). plannedOf (p .expected) (stampsOf (takenBy n c))) (sym e);
     }
   where
     made : outcomeAt p c ≡ refused (suc k) (p .expected) (p .state) (c .ears)
     made = outcome-by (c .line) (p .expected) (p .state) (c .ears) (suc k) e
 
-    none : [] ≡ taken p c
-    none = sym (ap (λ (n : ℕ). takenBy n c) e)
+    none : [] ≡ events u p c
+    none = ap (λ (n : ℕ). eventsOf (silence u) (p .expected) (takenBy n c)) (sym e)
 
 pub called : (u : Setup) (p : Place) (c : Call) → (refusalAt p c ≡ 0 → SameFilters (setupIn (c .line)) u) → Called u p c
 called u p c same = called-by u p c same (refusalAt p c) refl
@@ -103,7 +94,7 @@ module _ (u : Setup) where
   pub events-on : (p : Place) (c : Call) (cs : List Call) → Called u p c → eventsAll u p (c ∷ cs) ≡ events u p c ++ eventsAll u (next p c) cs
   events-on p c cs w =
       events-cut (silence u) (p .expected) (taken p c) (takenAll (next p c) cs)
-      ∙ ap (λ (x : Expected). events u p c ++ eventsOf (silence u) x (takenAll (next p c) cs)) (sym (w .expected))
+      ∙ ap (λ (x : Expected). events u p c ++ eventsOf (silence u) x (takenAll (next p c) cs)) (sym (ap (λ (q : Planned). q .expected) (w .told)))
 
   stamps-on : (p : Place) (c : Call) (cs : List Call) → stampsAll p (c ∷ cs) ≡ stampsOf (taken p c) ++ stampsAll (next p c) cs
   stamps-on p c cs = map-append (λ (r : Recorded (List Float)). r .stamp) (taken p c) (takenAll (next p c) cs)
@@ -138,17 +129,15 @@ module _ (u : Setup) where
   all-expected p (c ∷ cs) a =
       let w = called u p c (a .0) in
       all-expected (next p c) cs (a .1)
-      ∙ ap (λ (x : Expected). expectedAfter x (stampsAll (next p c) cs)) (w .expected)
+      ∙ ap (λ (x : Expected). expectedAfter x (stampsAll (next p c) cs)) (ap (λ (q : Planned). q .expected) (w .told))
       ∙ sym (ap (expectedAfter (p .expected)) (stamps-on p c cs) ∙ expected-cut (p .expected) (stampsOf (taken p c)) (stampsAll (next p c) cs))
 
-  -- a count that a call has by its stamps, and that adds up where they are cut, adds up over calls
-  pub all-counted : (count : Replayed → ℕ) (by : Expected → List ℕ → ℕ) → ((x : Expected) → by x [] ≡ 0)
-      → ((x : Expected) (ss ts : List ℕ) → by x (ss ++ ts) ≡ by x ss + by (expectedAfter x ss) ts)
-      → ((p : Place) (c : Call) → Called u p c → count (outcomeAt p c .answer) ≡ by (p .expected) (stampsOf (taken p c)))
-      → (p : Place) (cs : List Call) → Alike u p cs → sum (counts count p cs) ≡ by (p .expected) (stampsAll p cs)
-  all-counted count by none cut one p [] a = sym (none (p .expected))
-  all-counted count by none cut one p (c ∷ cs) a =
+  -- a count that a call tells by what each stamp adds is told by all calls together
+  pub all-counted : (count : Replayed → ℕ) (one : Arrival → ℕ) → ((p : Place) (c : Call) → Called u p c → count (outcomeAt p c .answer) ≡ addedUp one (p .expected) (stampsOf (taken p c)))
+      → (p : Place) (cs : List Call) → Alike u p cs → sum (counts count p cs) ≡ addedUp one (p .expected) (stampsAll p cs)
+  all-counted count one told p [] a = refl
+  all-counted count one told p (c ∷ cs) a =
       let w = called u p c (a .0) in
-      let rest = all-counted count by none cut one (next p c) cs (a .1) ∙ ap (λ (x : Expected). by x (stampsAll (next p c) cs)) (w .expected) in
-      let whole = ap (by (p .expected)) (stamps-on p c cs) ∙ cut (p .expected) (stampsOf (taken p c)) (stampsAll (next p c) cs) in
-      omega (arith, one p c w, rest, whole)
+      let rest = all-counted count one told (next p c) cs (a .1) ∙ ap (λ (x : Expected). addedUp one x (stampsAll (next p c) cs)) (ap (λ (q : Planned). q .expected) (w .told)) in
+      let whole = ap (addedUp one (p .expected)) (stamps-on p c cs) ∙ added-cut one (p .expected) (stampsOf (taken p c)) (stampsAll (next p c) cs) in
+      omega (arith, told p c w, rest, whole)

@@ -17,35 +17,36 @@ use Rattle.rings.specs.State.{State}
 use Rattle.rings.specs.Held.{Represents}
 use Rattle.hrtf.proofs.Promised.{reset-number}
 use Rattle.stamps.specs.declared.Expected.{Expected}
+use Rattle.stamps.specs.declared.Planned.{Planned}
 use Rattle.stamps.specs.Arrivals.{expectedAfter}
-use Rattle.stamps.specs.Counts.{outIn, lateIn, silentIn, resetsIn}
+use Rattle.stamps.specs.Counts.{outOne, lateOne, silentOne, resetOne, outIn, lateIn, silentIn, resetsIn}
 use Rattle.stamps.specs.Events.{Recorded, Event, feedsIn, fed, eventsOf, stampsOf}
-use Rattle.stamps.proofs.Recordings.{samples-and-late, out-cut, late-cut, silent-cut, resets-cut, feeds-append, feeds-out, restarts-resets, length-fed}
+use Rattle.stamps.proofs.Recordings.{samples-and-late, feeds-append, feeds-out, restarts-resets, length-fed}
 use Rattle.replay.specs.declared.Replayed.{Replayed}
-use Rattle.replay.specs.Heard.{heardBy, unsettledBy, afterBy}
+use Rattle.replay.specs.Heard.{heardBy, afterBy}
 use Rattle.replay.specs.Computed.{leftBy, playedBy, countedBy}
 use Rattle.replay.proofs.Eventful.{length-played-by}
 use Rattle.replay.proofs.Hearing.{after-by-append, played-by-heard, counted-by-told, left-by-kept}
 use Rattle.runs.specs.Runs.{sum}
 use Rattle.replays.specs.Calls.{Call, Place, outcomeAt, next, taken, Alike, takenAll, soundedAll, end, counts, stampsAll, eventsAll}
 use Rattle.replays.specs.Demand.{uptoFed, frameAgo, damagedAmong, damagedCounts, firstPart, laterParts, heardParts, Replay, Agree, Counted, SameReplay, ReplayDemand3}
-use Rattle.replays.proofs.Calls.{events, Called, called, events-on, all-sounded, all-unsettled, all-left, all-expected, all-counted}
+use Rattle.replays.proofs.Calls.{events, called, events-on, all-sounded, all-unsettled, all-left, all-expected, all-counted}
 use Rattle.replays.proofs.Fed.{heard-by-at, parts-heard, fed-same, each-flag}
 
 -- ---- the counts, from any rings and desk
 
 module _ (u : Setup) where
   all-late : (p : Place) (cs : List Call) → Alike u p cs → sum (counts (λ (r : Replayed). r .late) p cs) ≡ lateIn (p .expected) (stampsAll p cs)
-  all-late = all-counted u (λ (r : Replayed). r .late) lateIn (λ x. refl) late-cut (λ p c w. w .late)
+  all-late = all-counted u (λ (r : Replayed). r .late) lateOne (λ p c w. ap (λ (q : Planned). q .late) (w .told))
 
   all-silent : (p : Place) (cs : List Call) → Alike u p cs → sum (counts (λ (r : Replayed). r .silent) p cs) ≡ silentIn (p .expected) (stampsAll p cs)
-  all-silent = all-counted u (λ (r : Replayed). r .silent) silentIn (λ x. refl) silent-cut (λ p c w. w .silent)
+  all-silent = all-counted u (λ (r : Replayed). r .silent) silentOne (λ p c w. ap (λ (q : Planned). q .silent) (w .told))
 
   all-resets : (p : Place) (cs : List Call) → Alike u p cs → sum (counts (λ (r : Replayed). r .resets) p cs) ≡ resetsIn (p .expected) (stampsAll p cs)
-  all-resets = all-counted u (λ (r : Replayed). r .resets) resetsIn (λ x. refl) resets-cut (λ p c w. w .resets)
+  all-resets = all-counted u (λ (r : Replayed). r .resets) resetOne (λ p c w. ap (λ (q : Planned). q .resets) (w .told))
 
   all-samples : (p : Place) (cs : List Call) → Alike u p cs → sum (counts (λ (r : Replayed). r .samples) p cs) ≡ outIn (p .expected) (stampsAll p cs)
-  all-samples = all-counted u (λ (r : Replayed). r .samples) outIn (λ x. refl) out-cut (λ p c w. w .samples)
+  all-samples = all-counted u (λ (r : Replayed). r .samples) outOne (λ p c w. ap (λ (q : Planned). q .out) (w .told))
 
   -- as many frames are fed as come out
   fed-out : (x : Expected) (rs : List (Recorded (List Float))) → outIn x (stampsOf rs) ≡ length (fed (eventsOf (silence u) x rs))
@@ -132,7 +133,7 @@ module _ (u : Setup) (finite : unsound (u .weights) ≡ false) where
       let es = events u p c in
       let rest = eventsAll u (next p c) cs in
       let m = outcomeAt p c .answer .samples in
-      let many : feedsIn es ≡ m = feeds-out (silence u) (p .expected) (taken p c) ∙ sym (w .samples) in
+      let many : feedsIn es ≡ m = feeds-out (silence u) (p .expected) (taken p c) ∙ sym (ap (λ (q : Planned). q .out) (w .told)) in
       let whole : done ++ (es ++ rest) ≡ done ++ eventsAll u p (c ∷ cs) = ap (λ (hs : List (Event (List Float))). done ++ hs) (sym (events-on u p c cs w)) in
       let stands : Represents u (afterBy u [] (done ++ es)) (next p c .state) =
       subst (λ (s : State). Represents u (afterBy u [] (done ++ es)) s) (sym (w .state))

@@ -3,7 +3,7 @@
 use mathlib.Core.Path.{_≡_, refl, sym, ap, _∙_}
 use mathlib.Core.Bool.{false}
 use mathlib.Core.List.{List, [], _∷_}
-use Prim.Native.Nat.{ℕ, zero, suc}
+use Prim.Native.Nat.{ℕ}
 use native.Mathlib.Omega.{arith}
 use lib.IntN.{pos, negsuc}
 use lib.ListN.{getD, length}
@@ -22,10 +22,10 @@ use Rattle.stamps.specs.declared.Expected.the-variants.{First, Stamp}
 use Rattle.stamps.specs.Arrivals.{comingBy}
 use Rattle.replay.specs.Lines.{Line, eventsIn}
 use Rattle.replay.specs.Heard.{heardBy, unsettledBy}
-use Rattle.replay.specs.Promise.{refusalIn, Outcome, outcome, Replays}
+use Rattle.replay.specs.Promise.{refusalIn, Outcome, Replays}
 use Rattle.replay.proofs.Hearing.{played-by-heard, counted-by-told}
 use Rattle.replay.proofs.Answering.{outcome-by, outcome-computed, ears-read}
-use Rattle.replays.proofs.Worked.{line, whole, planes, pair, table, eight-short, starts, sounds, unsettled, told}
+use Rattle.replays.proofs.Worked.{line, whole, planes, pair, eight-short, starts, sounds, unsettled, told}
 
 -- how many units a float has, or none
 unitsOf : Float → ℕ

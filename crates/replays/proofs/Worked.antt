@@ -1,6 +1,6 @@
 -- The worked recording: it rolls over, has a damaged frame, two missing ones, a late one and a gap that resets. By computing the definitions; whoever meets the promise answers this. And the premises of demand 3 can
 -- be met: the recording from a reset in four calls, the second refused and the third of no frames. Assumes nothing.
-use mathlib.Core.Path.{_≡_, refl, sym, ap, _∙_}
+use mathlib.Core.Path.{_≡_, refl, ap, _∙_}
 use mathlib.Core.List.{List, [], _∷_, flatten}
 use Prim.Native.Nat.{ℕ, _*_}
 use native.Mathlib.Nat.{suc-ne-zero}
@@ -21,10 +21,8 @@ use Rattle.rings.specs.Held.{Represents}
 use Rattle.rings.proofs.Blocks.{fresh, fresh-represents}
 use Rattle.hrtf.specs.Reset.{resetRefusal, Resets}
 use Rattle.hrtf.proofs.Promised.{reset-accepted}
-use Rattle.stamps.specs.declared.Expected.{Expected}
 use Rattle.stamps.specs.declared.Expected.the-variants.{First, Stamp}
 use Rattle.stamps.specs.Arrivals.{comingBy}
-use Rattle.stamps.specs.Events.{Recorded}
 use Rattle.replay.specs.Lines.{Line, eventsIn}
 use Rattle.replay.specs.Heard.{heardBy, unsettledBy}
 use Rattle.replay.specs.Promise.{refusalIn, Outcome, outcome, Replays}
@@ -33,7 +31,7 @@ use Rattle.replay.proofs.Answering.{outcome-computed, ears-read}
 use Rattle.runs.specs.Runs.{sum}
 use Rattle.replay.specs.declared.Replayed.{Replayed}
 use Rattle.planes.specs.Planes.{framesOf}
-use Rattle.replays.specs.Calls.{Call, Place, Alike, takenAll, soundedAll, counts, end}
+use Rattle.replays.specs.Calls.{Call, Place, Alike, takenAll, counts}
 use Rattle.replays.specs.Demand.{Replay, SameReplay}
 use Rattle.replays.proofs.Demand.{replay-demand-3}
 

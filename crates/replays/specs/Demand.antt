@@ -13,7 +13,6 @@ use Rattle.history.specs.Setup.{Setup}
 use Rattle.history.specs.Signals.{damaged, silence}
 use Rattle.history.specs.History.{earSamples, heard}
 use Rattle.hrtf.specs.Reset.{Resets}
-use Rattle.stamps.specs.declared.Expected.{Expected}
 use Rattle.stamps.specs.Arrivals.{expectedAfter}
 use Rattle.stamps.specs.Counts.{outIn, lateIn, silentIn, resetsIn}
 use Rattle.stamps.specs.Events.{Event, feed, restart, restartsIn, fed}

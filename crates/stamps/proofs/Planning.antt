@@ -2,11 +2,10 @@
 use mathlib.Core.Path.{_≡_, refl, sym, ap, _∙_}
 use mathlib.Core.Bool.{Bool, true, false, cond}
 use mathlib.Core.List.{List, [], _∷_}
-use Prim.Native.Nat.{ℕ, zero, suc, _+_, _-_, _^_, _≤_, _<_, zero-le}
+use Prim.Native.Nat.{ℕ, _+_, _-_, _^_, _≤_, _<_, zero-le}
 use native.Mathlib.Numerals.{add-one}
 use native.Mathlib.Omega.{arith}
 use borrow.Author.Tests.{lt-ltb, le-ltb, le-leb, lt-leb}
-use lib.Dec.{ltb, leb}
 use lib.ListN.{length, getD, drop, drop-of-length-le}
 use lib.Seq.{drop-cons}
 use Rattle.lists.proofs.Tests.{by-less}
@@ -15,7 +14,7 @@ use Rattle.stamps.specs.declared.Arrival.{Arrival}
 use Rattle.stamps.specs.declared.Share.{Share}
 use Rattle.stamps.specs.declared.Planned.{Planned}
 use Rattle.stamps.specs.Arrivals.{comingOf, thenOf, expectedAfter}
-use Rattle.stamps.specs.Counts.{outIn, lateIn, silentIn, resetsIn, plannedOf, unplanned, planOf, outOne, lateOne, silentOne, resetOne}
+use Rattle.stamps.specs.Counts.{outIn, lateIn, silentIn, resetsIn, plannedOf, unplannedOf, planOf, outOne}
 use Rattle.stamps.specs.Steps.{shareOf, onBy, planOn}
 use Rattle.stamps.proofs.Differences.{one-balance, one-silent, one-reset}
 
@@ -31,7 +30,7 @@ module _ (p : Planned) (s room : ℕ) where
   on-fits : planOn p s room .fits ≡ true → (share ≤ room - p .out) × (planOn p s room ≡ added)
   on-fits = by-less (λ (y : Planned). y .fits ≡ true → (share ≤ room - p .out) × (y ≡ added)) (room - p .out) share (λ h k. off (cc)) (λ h k. (h, refl))
     where
-      off : _≡_ {A = ℕ} 0 1 → (share ≤ room - p .out) × (unplanned (p .expected) ≡ added)
+      off : _≡_ {A = ℕ} 0 1 → (share ≤ room - p .out) × (unplannedOf (p .expected) ≡ added)
       off z = absurd (omega arith)
 
   on-unfit : planOn p s room .fits ≡ false → room - p .out < share
@@ -54,16 +53,16 @@ module _ (p : Planned) (s room : ℕ) where
     pub share-resets : sh .resets ≤ 1
     share-resets = omega (arith, ap (λ (h : Share). h .resets) es, one-reset what)
 
-    pub on-stopped : room - p .out < sh .out → unplanned (p .expected) ≡ planOn p s room
+    pub on-stopped : room - p .out < sh .out → unplannedOf (p .expected) ≡ planOn p s room
     on-stopped h =
         let over : room - p .out < share = omega (arith, h, ap (λ (y : Share). y .out) same-share) in
-        sym (ap (λ (b : Bool). cond b (unplanned (p .expected)) added) (lt-ltb (room - p .out) share over))
+        sym (ap (λ (b : Bool). cond b (unplannedOf (p .expected)) added) (lt-ltb (room - p .out) share over))
 
     pub on-counted : (x : Expected) → sh .out ≤ room - p .out → x ≡ thenOf (p .expected) s
         → record { fits = true; out = p .out + sh .out; late = p .late + sh .late; silent = p .silent + sh .silent; resets = p .resets + sh .resets; expected = x } ≡ planOn p s room
     on-counted x h ex =
         let fit : share ≤ room - p .out = omega (arith, h, ap (λ (y : Share). y .out) same-share) in
-        cc (ex, same-share) ∙ sym (ap (λ (b : Bool). cond b (unplanned (p .expected)) added) (le-ltb (room - p .out) share fit))
+        cc (ex, same-share) ∙ sym (ap (λ (b : Bool). cond b (unplannedOf (p .expected)) added) (le-ltb (room - p .out) share fit))
 
 -- ---- the frames before i are counted
 
@@ -132,11 +131,11 @@ module _ (x : Expected) (ss : List ℕ) (room : ℕ) where
         rw (e ∙ on .1) (added-on (on .0))
 
     -- one too many
-    pub planning-stop : (r : Planned) → r ≡ planOn p next room → r .fits ≡ false → unplanned x ≡ planOf x ss room
+    pub planning-stop : (r : Planned) → r ≡ planOn p next room → r .fits ≡ false → unplannedOf x ≡ planOf x ss room
     planning-stop r e t =
         let over = on-unfit p next room (ap (λ (q : Planned). q .fits) (sym e) ∙ t) in
         let many : room < outIn x ss = omega (arith, over, g .out, g .within, left-more (outIn (p .expected)) ss i h) in
-        sym (ap (λ (b : Bool). cond b (plannedOf x ss) (unplanned x)) (lt-leb (outIn x ss) room many))
+        sym (ap (λ (b : Bool). cond b (plannedOf x ss) (unplannedOf x)) (lt-leb (outIn x ss) room many))
 
   pub planning-all : (p : Planned) (i : ℕ) → Planning x ss room p i → length ss ≤ i → p ≡ planOf x ss room
   planning-all p i g h =
@@ -146,7 +145,7 @@ module _ (x : Expected) (ss : List ℕ) (room : ℕ) where
       let q : p .silent ≡ silentIn x ss = omega (arith, g .silent, ap (silentIn (p .expected)) none) in
       let r : p .resets ≡ resetsIn x ss = omega (arith, g .resets, ap (resetsIn (p .expected)) none) in
       let e : p .expected ≡ expectedAfter x ss = sym (ap (expectedAfter (p .expected)) none) ∙ g .expected in
-      whole o l q r e ∙ sym (ap (λ (b : Bool). cond b (plannedOf x ss) (unplanned x)) (le-leb (outIn x ss) room (omega (arith, o, g .within))))
+      whole o l q r e ∙ sym (ap (λ (b : Bool). cond b (plannedOf x ss) (unplannedOf x)) (le-leb (outIn x ss) room (omega (arith, o, g .within))))
     where
       whole : p .out ≡ outIn x ss → p .late ≡ lateIn x ss → p .silent ≡ silentIn x ss → p .resets ≡ resetsIn x ss → p .expected ≡ expectedAfter x ss
           → record { fits = p .fits; out = p .out; late = p .late; silent = p .silent; resets = p .resets; expected = p .expected } ≡ plannedOf x ss

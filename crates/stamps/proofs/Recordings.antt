@@ -1,10 +1,9 @@
 -- Recordings: what a frame does, event by event; the counts are those of the events; a recording that is cut anywhere does what the whole does; and what comes out, with what is late, is what was
 -- recorded, with the silence. Assumes nothing.
-use mathlib.Core.Path.{_≡_, refl, sym, ap, _∙_, subst}
+use mathlib.Core.Path.{_≡_, refl, sym, ap, _∙_}
 use mathlib.Core.Bool.{true}
-use mathlib.Core.List.{List, [], _∷_, _++_, map, append-assoc}
-use Prim.Native.Nat.{ℕ, zero, suc, _+_, _^_, _≤_, _<_}
-use native.Mathlib.Nat.{add-assoc}
+use mathlib.Core.List.{List, [], _∷_, _++_, append-assoc}
+use Prim.Native.Nat.{ℕ, zero, suc, _+_, _^_, _<_}
 use native.Mathlib.Numerals.{add-one}
 use native.Mathlib.Omega.{arith}
 use lib.ListN.{length}
@@ -15,7 +14,7 @@ use Rattle.stamps.specs.declared.Expected.the-variants.{First, Stamp}
 use Rattle.stamps.specs.declared.Arrival.{Arrival}
 use Rattle.stamps.specs.declared.Arrival.the-variants.{Next, Ahead, Jump, Late}
 use Rattle.stamps.specs.Arrivals.{ahead, following, comingBy, comingOf, stampOf, thenBy, thenOf, skippedOf, expectedAfter}
-use Rattle.stamps.specs.Counts.{outIn, lateIn, silentIn, resetsIn, plannedOf, planOf, outOne, lateOne, silentOne, resetOne}
+use Rattle.stamps.specs.Counts.{addedUp, outIn, lateIn, silentIn, resetsIn, plannedOf, planOf, outOne, resetOne}
 use Rattle.stamps.specs.Events.{Recorded, Event, feed, restart, silences, eventsBy, eventsOne, eventsOf, stampsOf, feedsIn, restartsIn, fed}
 use Rattle.stamps.proofs.Wrapped.{ahead-none, ahead-less}
 use Rattle.stamps.proofs.Differences.{one-balance, ahead-difference, difference-none, difference-few}
@@ -32,21 +31,10 @@ pub expected-cut : (x : Expected) (ss ts : List ℕ) → expectedAfter x (ss ++ 
 expected-cut x [] ts = refl
 expected-cut x (s ∷ ss) ts = expected-cut (thenOf x s) ss ts
 
-pub out-cut : (x : Expected) (ss ts : List ℕ) → outIn x (ss ++ ts) ≡ outIn x ss + outIn (expectedAfter x ss) ts
-out-cut x [] ts = omega arith
-out-cut x (s ∷ ss) ts = omega (arith, out-cut (thenOf x s) ss ts)
-
-pub late-cut : (x : Expected) (ss ts : List ℕ) → lateIn x (ss ++ ts) ≡ lateIn x ss + lateIn (expectedAfter x ss) ts
-late-cut x [] ts = omega arith
-late-cut x (s ∷ ss) ts = omega (arith, late-cut (thenOf x s) ss ts)
-
-pub silent-cut : (x : Expected) (ss ts : List ℕ) → silentIn x (ss ++ ts) ≡ silentIn x ss + silentIn (expectedAfter x ss) ts
-silent-cut x [] ts = omega arith
-silent-cut x (s ∷ ss) ts = omega (arith, silent-cut (thenOf x s) ss ts)
-
-pub resets-cut : (x : Expected) (ss ts : List ℕ) → resetsIn x (ss ++ ts) ≡ resetsIn x ss + resetsIn (expectedAfter x ss) ts
-resets-cut x [] ts = omega arith
-resets-cut x (s ∷ ss) ts = omega (arith, resets-cut (thenOf x s) ss ts)
+-- what is added up, whatever it is that a frame adds
+pub added-cut : (one : Arrival → ℕ) (x : Expected) (ss ts : List ℕ) → addedUp one x (ss ++ ts) ≡ addedUp one x ss + addedUp one (expectedAfter x ss) ts
+added-cut one x [] ts = omega arith
+added-cut one x (s ∷ ss) ts = omega (arith, added-cut one (thenOf x s) ss ts)
 
 module _ {F : Type 0} (q : F) where
   -- ---- cut anywhere: the events

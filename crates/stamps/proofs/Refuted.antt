@@ -6,7 +6,7 @@ use mathlib.Core.List.{[], _∷_}
 use Rattle.stamps.specs.declared.Expected.the-variants.{First, Stamp}
 use Rattle.stamps.specs.declared.Arrival.the-variants.{Late}
 use Rattle.stamps.specs.Arrivals.{comingBy, comingOf}
-use Rattle.stamps.specs.Counts.{silentIn, lateIn}
+use Rattle.stamps.specs.Counts.{silentIn}
 
 apart : _≡_ {A = ℕ} 0 1 → ⊥
 apart z = omega arith

@@ -2,13 +2,12 @@
 use Prim.Native.Nat.{ℕ}
 use mathlib.Core.Path.{_≡_, refl}
 use mathlib.Core.Bool.{true}
-use mathlib.Core.List.{List, [], _∷_}
-use Rattle.stamps.specs.declared.Expected.{Expected}
+use mathlib.Core.List.{[], _∷_}
 use Rattle.stamps.specs.declared.Expected.the-variants.{First, Stamp}
 use Rattle.stamps.specs.declared.Planned.{Planned}
 use Rattle.stamps.specs.Arrivals.{comingBy}
 use Rattle.stamps.specs.Counts.{plannedOf}
-use Rattle.stamps.specs.Events.{Recorded, Event, feed, restart, eventsOf}
+use Rattle.stamps.specs.Events.{Recorded, feed, restart, eventsOf}
 
 abbrev told : ℕ → ℕ → ℕ → ℕ → ℕ → Planned
 told out late silent resets next = record { fits = true; out = out; late = late; silent = silent; resets = resets; expected = Stamp next }

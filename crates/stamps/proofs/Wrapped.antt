@@ -1,6 +1,6 @@
 -- Numbers that roll over at 2^32: the kit's wrapped difference is `ahead`, and how `ahead` goes on. Assumes nothing.
 use mathlib.Core.Path.{_≡_}
-use Prim.Native.Nat.{ℕ, _+_, _-_, _%_, _^_, _≤_, _<_}
+use Prim.Native.Nat.{ℕ, _+_, _%_, _^_, _<_}
 use native.Mathlib.Omega.{arith}
 use Rattle.stamps.specs.Arrivals.{ahead, following}
 

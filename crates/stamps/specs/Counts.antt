@@ -39,29 +39,30 @@ resetOne Late = 0
 
 -- ---- of all
 
+-- what frames with these stamps add, one after another, x being expected before the first
+abbrev pub addedUp : (Arrival → ℕ) → Expected → List ℕ → ℕ
+addedUp one x [] = 0
+addedUp one x (s ∷ ss) = one (comingOf x s) + addedUp one (thenOf x s) ss
+
 -- frames that come out, silent ones with them
 abbrev pub outIn : Expected → List ℕ → ℕ
-outIn x [] = 0
-outIn x (s ∷ ss) = outOne (comingOf x s) + outIn (thenOf x s) ss
+outIn = addedUp outOne
 
 abbrev pub lateIn : Expected → List ℕ → ℕ
-lateIn x [] = 0
-lateIn x (s ∷ ss) = lateOne (comingOf x s) + lateIn (thenOf x s) ss
+lateIn = addedUp lateOne
 
 abbrev pub silentIn : Expected → List ℕ → ℕ
-silentIn x [] = 0
-silentIn x (s ∷ ss) = silentOne (comingOf x s) + silentIn (thenOf x s) ss
+silentIn = addedUp silentOne
 
 abbrev pub resetsIn : Expected → List ℕ → ℕ
-resetsIn x [] = 0
-resetsIn x (s ∷ ss) = resetOne (comingOf x s) + resetsIn (thenOf x s) ss
+resetsIn = addedUp resetOne
 
 -- what a recording comes to, and what is told of one that does not fit
 abbrev pub plannedOf : Expected → List ℕ → Planned
 plannedOf x ss = record { fits = true; out = outIn x ss; late = lateIn x ss; silent = silentIn x ss; resets = resetsIn x ss; expected = expectedAfter x ss }
 
-abbrev pub unplanned : Expected → Planned
-unplanned x = record { fits = false; out = 0; late = 0; silent = 0; resets = 0; expected = x }
+abbrev pub unplannedOf : Expected → Planned
+unplannedOf x = record { fits = false; out = 0; late = 0; silent = 0; resets = 0; expected = x }
 
 abbrev pub planOf : Expected → List ℕ → ℕ → Planned
-planOf x ss room = cond (leb (outIn x ss) room) (plannedOf x ss) (unplanned x)
+planOf x ss room = cond (leb (outIn x ss) room) (plannedOf x ss) (unplannedOf x)

@@ -2,7 +2,6 @@
 use Prim.Native.Nat.{ℕ, _+_, _-_}
 use mathlib.Core.Bool.{true, false, cond}
 use lib.Dec.{ltb}
-use Rattle.stamps.specs.declared.Expected.{Expected}
 use Rattle.stamps.specs.declared.Arrival.{Arrival}
 use Rattle.stamps.specs.declared.Planned.{Planned}
 use Rattle.stamps.specs.declared.Share.{Share}

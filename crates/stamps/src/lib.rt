@@ -8,7 +8,7 @@
 ghost use mathlib.Core.Path.{_≡_};
 ghost use Prim.Native.Nat.{_-_, _≤_, _<_, _^_};
 ghost use Rattle.stamps.specs.Arrivals.{following, comingBy, Comes, thenOf, skippedOf};
-ghost use Rattle.stamps.specs.Counts.{planOf, silentOne};
+ghost use Rattle.stamps.specs.Counts.{unplannedOf, planOf, silentOne};
 ghost use Rattle.stamps.specs.Steps.{shareOf, planOn};
 
 // The stamp that comes next; before the first frame there is none.
@@ -90,6 +90,20 @@ pub struct Planned {
     pub expected: Expected,
 }
 
+// What is told of a recording that does not fit: no counts, and what was expected.
+pub fn unplanned(expected: Expected) -> Planned
+    ensures { λ r. ⌜ r ≡ unplannedOf expected ⌝ }
+{
+    Planned {
+        fits: false,
+        out: 0,
+        late: 0,
+        silent: 0,
+        resets: 0,
+        expected,
+    }
+}
+
 // What one frame adds to the counts.
 struct Share {
     out: usize,
@@ -140,14 +154,7 @@ fn plan_on(plan: Planned, stamp: u32, room: usize) -> Planned
     let what = coming(expected, stamp);
     let share = share_of(what);
     if room - out < share.out {
-        return Planned {
-            fits: false,
-            out: 0,
-            late: 0,
-            silent: 0,
-            resets: 0,
-            expected,
-        };
+        return unplanned(expected);
     }
     let next = then_expected(expected, stamp);
     Planned {
@@ -177,14 +184,7 @@ pub fn plan(expected: Expected, stamps: &[u32], room: usize) -> Planned
         let stamp = stamps[i];
         so_far = plan_on(so_far, stamp, room);
         if !so_far.fits {
-            return Planned {
-                fits: false,
-                out: 0,
-                late: 0,
-                silent: 0,
-                resets: 0,
-                expected,
-            };
+            return unplanned(expected);
         }
         i += 1;
     }

@@ -1,5 +1,5 @@
 -- `replay::plan_in` meets its contract. Assumes nothing.
-use mathlib.Core.Path.{_≡_, refl, sym, ap, _∙_}
+use mathlib.Core.Path.{_≡_, sym, ap, _∙_}
 use mathlib.Core.Bool.{Bool, true, false, not, _||_, cond}
 use mathlib.Core.List.{List}
 use Prim.Native.Nat.{ℕ, _*_, _≤_}
@@ -12,7 +12,7 @@ use lib.Seq.{length-take-le}
 use Rattle.checks.specs.Lengths.{unfit, blockUnfit}
 use Rattle.checks.proofs.Checks.{or-off, fitted}
 use Rattle.stamps.specs.declared.Planned.{Planned}
-use Rattle.stamps.specs.Counts.{unplanned, planOf}
+use Rattle.stamps.specs.Counts.{unplannedOf, planOf}
 use Rattle.replay.proofs.plan_in.Statement.{statement}
 use Rattle.replay.proofs.plan_in.Tie as tie
 
@@ -56,7 +56,7 @@ unplanned-requires c κs = search needs
 returns : tie.Need-returns
 returns c =
     let s = c .before .before .before .before in
-    one (bad s) (odd s) (c .unplanned .result) (unplanned (s .args .expected)) (plan s) (judged (c .before .before) true (c .before .if1 .taken)) (c .unplanned .ensures)
+    one (bad s) (odd s) (c .unplanned .result) (unplannedOf (s .args .expected)) (plan s) (judged (c .before .before) true (c .before .if1 .taken)) (c .unplanned .ensures)
 
 is-product-requires : tie.Need-is-product-requires
 is-product-requires c κs = search needs
@@ -68,7 +68,7 @@ returns-2 : tie.Need-returns-2
 returns-2 c =
     let asked = c .before .before in
     let s = asked .before .before .before .before in
-    other (bad s) (odd s) (c .unplanned2 .result) (unplanned (s .args .expected)) (plan s) (judged (asked .before .before) false (asked .before .if1 .left)) (measured asked true (c .before .if2 .taken)) (c .unplanned2 .ensures)
+    other (bad s) (odd s) (c .unplanned2 .result) (unplannedOf (s .args .expected)) (plan s) (judged (asked .before .before) false (asked .before .if1 .left)) (measured asked true (c .before .if2 .taken)) (c .unplanned2 .ensures)
 
 slice-aggregate-plan : tie.Need-slice-aggregate-plan
 slice-aggregate-plan c =
@@ -83,7 +83,7 @@ returns-3 : tie.Need-returns-3
 returns-3 c =
     let asked = c .before .before .before in
     let s = asked .before .before .before .before in
-    none (bad s) (odd s) (c .plan .result) (unplanned (s .args .expected)) (plan s) (judged (asked .before .before) false (asked .before .if1 .left)) (measured asked false (c .before .before .if2 .left)) (c .plan .ensures)
+    none (bad s) (odd s) (c .plan .result) (unplannedOf (s .args .expected)) (plan s) (judged (asked .before .before) false (asked .before .if1 .left)) (measured asked false (c .before .before .if2 .left)) (c .plan .ensures)
 
 pub plan-in-spec : {M : Type 1} → statement M
 plan-in-spec =

@@ -1,4 +1,5 @@
 -- `stamps::plan` meets its contract: `Planning`. Assumes nothing.
+use mathlib.Core.Path.{_∙_}
 use Prim.Native.Nat.{_-_}
 use native.Mathlib.Omega.{arith}
 use borrow.Author.Needs.{needs}
@@ -30,12 +31,15 @@ plan-on-requires c κs =
     let a = at .before .before .args in
     planning-room (a .expected) (now (a .stamps)) (a .room) (at .loop .so-far) (at .loop .i) (at .loop .inv) (c .before .loop-test .taken) (search needs) (search needs)
 
+unplanned-requires : tie.Need-unplanned-requires Inv-loop μ-loop
+unplanned-requires c κs = search needs
+
 returns : tie.Need-returns Inv-loop μ-loop
 returns c =
-    let on = c .before .before in
+    let on = c .before .before .before in
     let at = on .before .before .before in
     let a = at .before .before .args in
-    planning-stop (a .expected) (now (a .stamps)) (a .room) (at .loop .so-far) (at .loop .i) (at .loop .inv) (on .before .before .loop-test .taken) (on .plan-on .result) (on .plan-on .ensures) (not-true _ (c .if1 .taken))
+    c .unplanned .ensures ∙ planning-stop (a .expected) (now (a .stamps)) (a .room) (at .loop .so-far) (at .loop .i) (at .loop .inv) (on .before .before .loop-test .taken) (on .plan-on .result) (on .plan-on .ensures) (not-true _ (c .before .if1 .taken))
 
 add-i : tie.Need-add-i Inv-loop μ-loop
 add-i c = omega arith
@@ -66,6 +70,7 @@ plan-spec =
     mul-stamp
     shared-slice-read-stamp
     plan-on-requires
+    unplanned-requires
     returns
     add-i
     loop-less

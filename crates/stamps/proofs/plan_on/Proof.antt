@@ -1,5 +1,5 @@
 -- `stamps::plan_on` meets its contract. Assumes nothing.
-use mathlib.Core.Path.{sym, subst}
+use mathlib.Core.Path.{sym, subst, _∙_}
 use Prim.Native.Nat.{_≤_}
 use native.Mathlib.Omega.{arith}
 use borrow.Author.Needs.{needs}
@@ -23,10 +23,13 @@ share-of-requires c κs = subst (λ (a : Arrival). silentOne a ≤ 4096) (sym (c
 sub-if1 : tie.Need-sub-if1
 sub-if1 c = search needs
 
+unplanned-requires : tie.Need-unplanned-requires
+unplanned-requires c κs = search needs
+
 returns : tie.Need-returns
 returns c =
-    let at = c .before .before in
-    on-stopped (start at .args .plan) (start at .args .stamp) (start at .args .room) _ _ (at .before .coming .ensures .kind) (at .share-of .ensures) (c .if1 .taken)
+    let at = c .before .before .before in
+    c .unplanned .ensures ∙ on-stopped (start at .args .plan) (start at .args .stamp) (start at .args .room) _ _ (at .before .coming .ensures .kind) (at .share-of .ensures) (c .before .if1 .taken)
 
 then-expected-requires : tie.Need-then-expected-requires
 then-expected-requires c κs = search needs
@@ -62,6 +65,7 @@ plan-on-spec =
     coming-requires
     share-of-requires
     sub-if1
+    unplanned-requires
     returns
     then-expected-requires
     add-t9

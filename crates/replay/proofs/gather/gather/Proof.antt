@@ -2,7 +2,6 @@
 use mathlib.Core.Path.{sym, _∙_}
 use native.Mathlib.Omega.{arith}
 use denote.Ref.{now}
-use borrow.Author.Needs.{needs}
 use Rattle.replay.specs.Lines.{recording}
 use Rattle.replay.proofs.Gathering.{Gathering, leftOf, goes-on-is, gathering-none, gathering-more, gathering-less, gathering-all}
 use Rattle.replay.proofs.gather.gather.Statement.{statement}

@@ -2,7 +2,6 @@
 use Prim.Native.Nat.{_+_, _≤_}
 use native.Mathlib.Omega.{arith}
 use denote.Ref.{now}
-use borrow.Author.Needs.{needs}
 use Rattle.replay.specs.Lines.{Line}
 use Rattle.replay.specs.Computed.{lineOf}
 use Rattle.replay.proofs.Turning.{turn-room, turn-few, turn-resting, turn-made}
