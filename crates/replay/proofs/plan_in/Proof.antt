@@ -47,22 +47,10 @@ judged c b e = sym (c .is-block-unfit .ensures) ∙ e
 measured : (c : tie.After-is-product) (b : Bool) → not (c .is-product .result) ≡ b → odd (c .before .before .before .before) ≡ b
 measured c b e = sym (ap not (c .is-product .ensures)) ∙ e
 
-is-block-unfit-requires : tie.Need-is-block-unfit-requires
-is-block-unfit-requires c κs = search needs
-
-unplanned-requires : tie.Need-unplanned-requires
-unplanned-requires c κs = search needs
-
 returns : tie.Need-returns
 returns c =
     let s = c .before .before .before .before in
     one (bad s) (odd s) (c .unplanned .result) (unplannedOf (s .args .expected)) (plan s) (judged (c .before .before) true (c .before .if1 .taken)) (c .unplanned .ensures)
-
-is-product-requires : tie.Need-is-product-requires
-is-product-requires c κs = search needs
-
-unplanned-requires-2 : tie.Need-unplanned-requires-2
-unplanned-requires-2 c κs = search needs
 
 returns-2 : tie.Need-returns-2
 returns-2 c =
@@ -76,9 +64,6 @@ slice-aggregate-plan c =
     let a = else .before .before .before .args in
     sym (length-take-le (a .frames) (now (a .stamps)) (there (now (a .stamps)) (a .inputs) (a .channels) (a .stride) (a .frames) (judged (else .before) false (else .if1 .left))))
 
-plan-requires : tie.Need-plan-requires
-plan-requires c κs = search needs
-
 returns-3 : tie.Need-returns-3
 returns-3 c =
     let asked = c .before .before .before in
@@ -88,13 +73,5 @@ returns-3 c =
 pub plan-in-spec : {M : Type 1} → statement M
 plan-in-spec =
     tie.close
-    (tie.spec
-    is-block-unfit-requires
-    unplanned-requires
-    returns
-    is-product-requires
-    unplanned-requires-2
-    returns-2
-    slice-aggregate-plan
-    plan-requires
+    (tie.spec (λ c κs. search needs) (λ c κs. search needs) returns (λ c κs. search needs) (λ c κs. search needs) returns-2 slice-aggregate-plan (λ c κs. search needs)
     returns-3)

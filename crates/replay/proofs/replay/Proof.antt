@@ -35,13 +35,5 @@ returns c = c .before .before .before .before .before .before .replay-in .ensure
 pub replay-spec : {M : Type 1} → statement M
 replay-spec =
     tie.close
-    (tie.spec
-    (λ c κs. tt)
-    (λ c κs. tt)
-    array-borrow-prefix-block
-    slice-aggregate-replay-in
-    (λ c. search needs)
-    replay-in-requires
-    (λ c. search needs)
-    (λ c. search needs)
+    (tie.spec (λ c κs. tt) (λ c κs. tt) array-borrow-prefix-block slice-aggregate-replay-in (λ c. search needs) replay-in-requires (λ c. search needs) (λ c. search needs)
     returns)

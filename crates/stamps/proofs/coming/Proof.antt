@@ -9,18 +9,6 @@ use borrow.Author.Needs.{needs}
 use Rattle.stamps.proofs.coming.Statement.{statement}
 use Rattle.stamps.proofs.coming.Tie as tie
 
-enum-told : tie.Need-enum-told
-enum-told c = search needs
-
-enum-known-expected : tie.Need-enum-known-expected
-enum-known-expected c = search needs
-
-wrapping-sub-u32-requires : tie.Need-wrapping-sub-u32-requires
-wrapping-sub-u32-requires c κs = search needs
-
-coming-by-requires : tie.Need-coming-by-requires
-coming-by-requires c κs = search needs
-
 returns : tie.Need-returns
 returns c =
     let at = c .before .before in
@@ -45,10 +33,4 @@ returns-2 c =
 pub coming-spec : {M : Type 1} → statement M
 coming-spec =
     tie.close
-    (tie.spec
-    enum-told
-    enum-known-expected
-    wrapping-sub-u32-requires
-    coming-by-requires
-    returns
-    returns-2)
+    (tie.spec (λ c. search needs) (λ c. search needs) (λ c κs. search needs) (λ c κs. search needs) returns returns-2)

@@ -5,11 +5,8 @@ use Rattle.stamps.specs.declared.Expected.the-variants.{Stamp}
 use Rattle.stamps.proofs.one_on.Statement.{statement}
 use Rattle.stamps.proofs.one_on.Tie as tie
 
-wrapping-add-u32-requires : tie.Need-wrapping-add-u32-requires
-wrapping-add-u32-requires c κs = search needs
-
 returns : tie.Need-returns
 returns c = ap Stamp (c .wrapping-add-u32 .ensures)
 
 pub one-on-spec : {M : Type 1} → statement M
-one-on-spec = tie.close (tie.spec wrapping-add-u32-requires returns)
+one-on-spec = tie.close (tie.spec (λ c κs. search needs) returns)

@@ -19,20 +19,11 @@ abbrev μ-loop : tie.MeasureT-loop
 loop-holds : tie.Need-loop-holds Inv-loop μ-loop
 loop-holds c = let a = c .before .args in planning-none (a .expected) (now (a .stamps)) (a .room)
 
-mul-stamp : tie.Need-mul-stamp Inv-loop μ-loop
-mul-stamp c = omega arith
-
-shared-slice-read-stamp : tie.Need-shared-slice-read-stamp Inv-loop μ-loop
-shared-slice-read-stamp c = omega arith
-
 plan-on-requires : tie.Need-plan-on-requires Inv-loop μ-loop
 plan-on-requires c κs =
     let at = c .before .before in
     let a = at .before .before .args in
     planning-room (a .expected) (now (a .stamps)) (a .room) (at .loop .so-far) (at .loop .i) (at .loop .inv) (c .before .loop-test .taken) (search needs) (search needs)
-
-unplanned-requires : tie.Need-unplanned-requires Inv-loop μ-loop
-unplanned-requires c κs = search needs
 
 returns : tie.Need-returns Inv-loop μ-loop
 returns c =
@@ -40,12 +31,6 @@ returns c =
     let at = on .before .before .before in
     let a = at .before .before .args in
     c .unplanned .ensures ∙ planning-stop (a .expected) (now (a .stamps)) (a .room) (at .loop .so-far) (at .loop .i) (at .loop .inv) (on .before .before .loop-test .taken) (on .plan-on .result) (on .plan-on .ensures) (not-true _ (c .before .if1 .taken))
-
-add-i : tie.Need-add-i Inv-loop μ-loop
-add-i c = omega arith
-
-loop-less : tie.Need-loop-less Inv-loop μ-loop
-loop-less c = omega arith
 
 loop-again : tie.Need-loop-again Inv-loop μ-loop
 loop-again c =
@@ -63,16 +48,5 @@ returns-2 c =
 pub plan-spec : {M : Type 1} → statement M
 plan-spec =
     tie.close
-    (tie.spec
-    Inv-loop
-    μ-loop
-    loop-holds
-    mul-stamp
-    shared-slice-read-stamp
-    plan-on-requires
-    unplanned-requires
-    returns
-    add-i
-    loop-less
-    loop-again
-    returns-2)
+    (tie.spec Inv-loop μ-loop loop-holds (λ c. omega arith) (λ c. omega arith) plan-on-requires (λ c κs. search needs) returns (λ c. omega arith) (λ c. omega arith)
+    loop-again returns-2)

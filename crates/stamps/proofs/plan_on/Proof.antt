@@ -14,28 +14,13 @@ use Rattle.stamps.proofs.plan_on.Tie as tie
 abbrev start : tie.After-share-of → tie.Start
 start c = c .before .before
 
-coming-requires : tie.Need-coming-requires
-coming-requires c κs = search needs
-
 share-of-requires : tie.Need-share-of-requires
 share-of-requires c κs = subst (λ (a : Arrival). silentOne a ≤ 4096) (sym (c .coming .ensures .kind)) (silent-few (c .before .args .plan .expected) (c .before .args .stamp))
-
-sub-if1 : tie.Need-sub-if1
-sub-if1 c = search needs
-
-unplanned-requires : tie.Need-unplanned-requires
-unplanned-requires c κs = search needs
 
 returns : tie.Need-returns
 returns c =
     let at = c .before .before .before in
     c .unplanned .ensures ∙ on-stopped (start at .args .plan) (start at .args .stamp) (start at .args .room) _ _ (at .before .coming .ensures .kind) (at .share-of .ensures) (c .before .if1 .taken)
-
-then-expected-requires : tie.Need-then-expected-requires
-then-expected-requires c κs = search needs
-
-add-t9 : tie.Need-add-t9
-add-t9 c = search needs
 
 add-t11 : tie.Need-add-t11
 add-t11 c =
@@ -61,15 +46,5 @@ returns-2 c =
 pub plan-on-spec : {M : Type 1} → statement M
 plan-on-spec =
     tie.close
-    (tie.spec
-    coming-requires
-    share-of-requires
-    sub-if1
-    unplanned-requires
-    returns
-    then-expected-requires
-    add-t9
-    add-t11
-    add-t12
-    add-t13
-    returns-2)
+    (tie.spec (λ c κs. search needs) share-of-requires (λ c. search needs) (λ c κs. search needs) returns (λ c κs. search needs) (λ c. search needs) add-t11 add-t12
+    add-t13 returns-2)

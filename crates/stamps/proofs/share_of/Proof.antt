@@ -9,20 +9,8 @@ use Rattle.stamps.specs.Steps.{shareOf}
 use Rattle.stamps.proofs.share_of.Statement.{statement}
 use Rattle.stamps.proofs.share_of.Tie as tie
 
-enum-told : tie.Need-enum-told
-enum-told c = search needs
-
-enum-known-what : tie.Need-enum-known-what
-enum-known-what c = search needs
-
 add-t4 : tie.Need-add-t4
 add-t4 c = omega (arith, subst (λ (x : Arrival). silentOne x ≤ 4096) (c .before .what .given .1) (c .before .before .before .pre))
-
-enum-told-2 : tie.Need-enum-told-2
-enum-told-2 c = search needs
-
-enum-told-3 : tie.Need-enum-told-3
-enum-told-3 c = search needs
 
 returns : tie.Need-returns
 returns c = sym (ap shareOf (c .enum-told .given .1))
@@ -39,13 +27,4 @@ returns-4 c = sym (ap shareOf (c .enum-told3 .given .1))
 pub share-of-spec : {M : Type 1} → statement M
 share-of-spec =
     tie.close
-    (tie.spec
-    enum-told
-    enum-known-what
-    add-t4
-    enum-told-2
-    enum-told-3
-    returns
-    returns-2
-    returns-3
-    returns-4)
+    (tie.spec (λ c. search needs) (λ c. search needs) add-t4 (λ c. search needs) (λ c. search needs) returns returns-2 returns-3 returns-4)

@@ -9,30 +9,6 @@ use Rattle.stamps.specs.Arrivals.{comingOf, thenBy, thenOf}
 use Rattle.stamps.proofs.then_expected.Statement.{statement}
 use Rattle.stamps.proofs.then_expected.Tie as tie
 
-coming-requires : tie.Need-coming-requires
-coming-requires c κs = search needs
-
-enum-told : tie.Need-enum-told
-enum-told c = search needs
-
-one-on-requires : tie.Need-one-on-requires
-one-on-requires c κs = search needs
-
-enum-told-2 : tie.Need-enum-told-2
-enum-told-2 c = search needs
-
-one-on-requires-2 : tie.Need-one-on-requires-2
-one-on-requires-2 c κs = search needs
-
-enum-told-3 : tie.Need-enum-told-3
-enum-told-3 c = search needs
-
-one-on-requires-3 : tie.Need-one-on-requires-3
-one-on-requires-3 c κs = search needs
-
-enum-told-4 : tie.Need-enum-told-4
-enum-told-4 c = search needs
-
 -- what is answered in the arm of y
 known : (x r : Expected) (s : ℕ) (what y : Arrival) → what ≡ comingOf x s → what ≡ y → r ≡ thenBy y x s → r ≡ thenOf x s
 known x r s what y e k a = a ∙ ap (λ (z : Arrival). thenBy z x s) (sym k ∙ e)
@@ -60,16 +36,5 @@ returns-4 c =
 pub then-expected-spec : {M : Type 1} → statement M
 then-expected-spec =
     tie.close
-    (tie.spec
-    coming-requires
-    enum-told
-    one-on-requires
-    enum-told-2
-    one-on-requires-2
-    enum-told-3
-    one-on-requires-3
-    enum-told-4
-    returns
-    returns-2
-    returns-3
-    returns-4)
+    (tie.spec (λ c κs. search needs) (λ c. search needs) (λ c κs. search needs) (λ c. search needs) (λ c κs. search needs) (λ c. search needs) (λ c κs. search needs)
+    (λ c. search needs) returns returns-2 returns-3 returns-4)

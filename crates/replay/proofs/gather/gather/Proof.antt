@@ -19,9 +19,6 @@ loop-holds c =
     let a = start .args in
     gathering-none (now (a .stamps)) (a .channels) (a .stride) (now (a .inputs)) (a .expected) (a .at) (a .frames) (now (a .block)) (start .pre .0) (start .pre .1 .1)
 
-goes-on-requires : tie.Need-goes-on-requires Inv-loop μ-loop
-goes-on-requires c κs = tt
-
 take-one-requires : tie.Need-take-one-requires Inv-loop μ-loop
 take-one-requires c κs =
     let at = c .before .before .before in
@@ -62,13 +59,4 @@ returns c =
 pub gather-spec : {M : Type 1} → statement M
 gather-spec =
     tie.close
-    (tie.spec
-    Inv-loop
-    μ-loop
-    loop-holds
-    goes-on-requires
-    take-one-requires
-    loop-less
-    loop-again
-    same-length
-    returns)
+    (tie.spec Inv-loop μ-loop loop-holds (λ c κs. tt) take-one-requires loop-less loop-again same-length returns)

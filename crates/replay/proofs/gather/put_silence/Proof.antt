@@ -19,15 +19,6 @@ abbrev μ-loop : tie.MeasureT-loop
 loop-holds : tie.Need-loop-holds Inv-loop μ-loop
 loop-holds c = let a = c .before .args in sampling-none (now (a .block)) 64 (a .place) (a .channels) (λ k. zero-float)
 
-put-sample-requires : tie.Need-put-sample-requires Inv-loop μ-loop
-put-sample-requires c κs = tt
-
-add-p : tie.Need-add-p Inv-loop μ-loop
-add-p c = omega arith
-
-loop-less : tie.Need-loop-less Inv-loop μ-loop
-loop-less c = omega arith
-
 loop-again : tie.Need-loop-again Inv-loop μ-loop
 unfolding lib.Ieee.ofBits
 loop-again c =
@@ -35,9 +26,6 @@ loop-again c =
     let at = put .before .before .before in
     let a = at .before .before .args in
     sampling-more (now (a .block)) 64 (a .place) (a .channels) (λ k. zero-float) (at .loop .block) (at .loop .p) (at .loop .inv) _ (put .put-sample .last .0) (put .before .before .loop-test .taken) refl (put .put-sample .ensures)
-
-same-length : tie.Need-same-length Inv-loop μ-loop
-same-length c = omega arith
 
 returns : tie.Need-returns Inv-loop μ-loop
 returns c =
@@ -49,13 +37,4 @@ returns c =
 pub put-silence-spec : {M : Type 1} → statement M
 put-silence-spec =
     tie.close
-    (tie.spec
-    Inv-loop
-    μ-loop
-    loop-holds
-    put-sample-requires
-    add-p
-    loop-less
-    loop-again
-    same-length
-    returns)
+    (tie.spec Inv-loop μ-loop loop-holds (λ c κs. tt) (λ c. omega arith) (λ c. omega arith) loop-again (λ c. omega arith) returns)

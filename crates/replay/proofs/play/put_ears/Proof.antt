@@ -16,18 +16,6 @@ abbrev μ-loop : tie.MeasureT-loop
 loop-holds : tie.Need-loop-holds Inv-loop μ-loop
 loop-holds c = let a = c .before .before .args in earing-none (now (a .ears)) (a .ear-stride) (a .done) (a .count) (frameAt (now (a .own)) 64 2)
 
-add-put-pair : tie.Need-add-put-pair Inv-loop μ-loop
-add-put-pair c = omega arith
-
-put-pair-requires : tie.Need-put-pair-requires Inv-loop μ-loop
-put-pair-requires c κs = tt
-
-add-n : tie.Need-add-n Inv-loop μ-loop
-add-n c = omega arith
-
-loop-less : tie.Need-loop-less Inv-loop μ-loop
-loop-less c = omega arith
-
 loop-again : tie.Need-loop-again Inv-loop μ-loop
 loop-again c =
     let put = c .before .before in
@@ -35,9 +23,6 @@ loop-again c =
     let at = test .before in
     let a = at .before .before .before .args in
     earing-more (now (a .ears)) (a .ear-stride) (a .done) (a .count) (frameAt (now (a .own)) 64 2) (at .loop .ears) (at .loop .n) (at .loop .inv) _ (test .loop-test .taken) (put .put-pair .ensures)
-
-same-length : tie.Need-same-length Inv-loop μ-loop
-same-length c = omega arith
 
 returns : tie.Need-returns Inv-loop μ-loop
 returns c =
@@ -48,14 +33,4 @@ returns c =
 pub put-ears-spec : {M : Type 1} → statement M
 put-ears-spec =
     tie.close
-    (tie.spec
-    Inv-loop
-    μ-loop
-    loop-holds
-    add-put-pair
-    put-pair-requires
-    add-n
-    loop-less
-    loop-again
-    same-length
-    returns)
+    (tie.spec Inv-loop μ-loop loop-holds (λ c. omega arith) (λ c κs. tt) (λ c. omega arith) (λ c. omega arith) loop-again (λ c. omega arith) returns)

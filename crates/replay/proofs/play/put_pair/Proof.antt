@@ -5,21 +5,6 @@ use Rattle.replay.proofs.Ears.{pair-put}
 use Rattle.replay.proofs.play.put_pair.Statement.{statement}
 use Rattle.replay.proofs.play.put_pair.Tie as tie
 
-sample-requires : tie.Need-sample-requires
-sample-requires c κs = search needs
-
-sample-requires-2 : tie.Need-sample-requires-2
-sample-requires-2 c κs = search needs
-
-put-sample-requires : tie.Need-put-sample-requires
-put-sample-requires c κs = search needs
-
-put-sample-requires-2 : tie.Need-put-sample-requires-2
-put-sample-requires-2 c κs = search needs
-
-same-length : tie.Need-same-length
-same-length c = search needs
-
 returns : tie.Need-returns
 returns c =
     let second = c .before .before in
@@ -33,10 +18,4 @@ returns c =
 pub put-pair-spec : {M : Type 1} → statement M
 put-pair-spec =
     tie.close
-    (tie.spec
-    sample-requires
-    sample-requires-2
-    put-sample-requires
-    put-sample-requires-2
-    same-length
-    returns)
+    (tie.spec (λ c κs. search needs) (λ c κs. search needs) (λ c κs. search needs) (λ c κs. search needs) (λ c. search needs) returns)

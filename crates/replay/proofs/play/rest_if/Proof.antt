@@ -9,12 +9,6 @@ use Rattle.replay.proofs.Convolver.{reset-leaves}
 use Rattle.replay.proofs.play.rest_if.Statement.{statement}
 use Rattle.replay.proofs.play.rest_if.Tie as tie
 
-reset-requires : tie.Need-reset-requires
-reset-requires c κs = search needs
-
-same-length : tie.Need-same-length
-same-length c = search needs
-
 returns : tie.Need-returns
 returns c =
     let rest = c .before .before .before in
@@ -30,4 +24,4 @@ returns-2 c =
     sym (ap (λ (b : Bool). restedIf b (stateOf (a .desk) (now (a .rings)))) (c .if1 .left))
 
 pub rest-if-spec : {M : Type 1} → statement M
-rest-if-spec = tie.close (tie.spec reset-requires same-length returns returns-2)
+rest-if-spec = tie.close (tie.spec (λ c κs. search needs) (λ c. search needs) returns returns-2)

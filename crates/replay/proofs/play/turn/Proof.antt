@@ -18,9 +18,6 @@ start c = c .before .before .before .before .before .before .before .before .bef
 gather-requires : tie.Need-gather-requires
 gather-requires c κs = let s = c .before .before .before .before .before .before .before .before .before .before in (s .pre .1 .1 .within, (s .pre .0 .stamped, s .pre .1 .0 .blocked))
 
-process-requires : tie.Need-process-requires
-process-requires c κs = tt
-
 -- the frames that are gathered have room
 room : (c : tie.After-gather) → start c .args .so-far .done + c .gather .result .count ≤ start c .args .ear-stride
 room c = let s = start c in turn-room (line s) (s .args .so-far) (c .gather .result) (c .gather .last .1 .1 .1 .1 .1 .1 .1 .0) (c .gather .ensures) (s .pre .1 .1)
@@ -53,18 +50,6 @@ add-t40 c =
       turn-few (line s) (a .so-far) (got .gather .result) (got .gather .last .1 .1 .1 .1 .1 .1 .1 .0) (got .gather .ensures) (s .pre .0) (now (a .rings)) (now (a .block)) (now (a .own)) (s .pre .1 .0) (omega (arith, got .gather .kept)) (proc .process .result) (proc .process .last .1 .1 .1 .1 .1 .1 .1 .1 .0) (proc .process .last .1 .1 .1 .1 .1 .1 .1 .1 .1 .0) (proc .process .ensures),
     )
 
-same-length : tie.Need-same-length
-same-length c = omega arith
-
-same-length-2 : tie.Need-same-length-2
-same-length-2 c = omega arith
-
-same-length-3 : tie.Need-same-length-3
-same-length-3 c = omega arith
-
-same-length-4 : tie.Need-same-length-4
-same-length-4 c = omega arith
-
 returns : tie.Need-returns
 returns c =
     let rest = c .before .before .before .before in
@@ -79,15 +64,5 @@ returns c =
 pub turn-spec : {M : Type 1} → statement M
 turn-spec =
     tie.close
-    (tie.spec
-    gather-requires
-    process-requires
-    put-ears-requires
-    rest-if-requires
-    add-t39
-    add-t40
-    same-length
-    same-length-2
-    same-length-3
-    same-length-4
+    (tie.spec gather-requires (λ c κs. tt) put-ears-requires rest-if-requires add-t39 add-t40 (λ c. omega arith) (λ c. omega arith) (λ c. omega arith) (λ c. omega arith)
     returns)
