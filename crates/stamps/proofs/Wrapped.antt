@@ -4,6 +4,11 @@ use Prim.Native.Nat.{ℕ, _+_, _%_, _^_, _<_}
 use native.Mathlib.Omega.{arith}
 use Rattle.stamps.specs.Arrivals.{ahead, following}
 
+-- so far from e, going up and over, one comes to s
+ahead-reaches : (e s : ℕ) → e < 2 ^ 32 → s < 2 ^ 32 → (ahead e s < 2 ^ 32) × ((e + ahead e s) % 2 ^ 32 ≡ s)
+ahead-reaches e s he hs = (omega arith, omega arith)
+
+-- and by no other number below 2^32: the kit's wrapped difference is one
 pub difference-is : (r e s : ℕ) → r < 2 ^ 32 → e < 2 ^ 32 → s < 2 ^ 32 → (r + e) % 2 ^ 32 ≡ s → r ≡ ahead e s
 difference-is r e s hr he hs h = omega arith
 
