@@ -1,5 +1,5 @@
 -- Answers of the same shape that the promise of `replay` refutes, on the worked recording and on small ones: a gap counted as a late frame, a late frame that is played, what was expected given back, a reset that
--- keeps the history or the frames to go, the last sample held for the missing ones, silence that is always settled, damage by a late frame, and as many frames as there is room for. Assumes nothing.
+-- keeps the history or the frames to go, the last sample held for the missing ones, silence that is always settled, damage by a late frame, as many frames as there is room for, and 7 before 5. Assumes nothing.
 use mathlib.Core.Path.{_≡_, refl, sym, ap, _∙_}
 use mathlib.Core.Bool.{false}
 use mathlib.Core.List.{List, [], _∷_}
@@ -69,6 +69,14 @@ module _ (o : Outcome) (p : Replays (whole 9) First (fresh drill) (planes 9) o) 
 -- room for eight of nine frames: as many as there is room for
 as-many-as-fit : (o : Outcome) → Replays (whole 8) First (fresh drill) (planes 8) o → o .answer .refusal ≡ 0 → ⊥
 as-many-as-fit o p e = omega (arith, e, ap (λ (q : Outcome). q .answer .refusal) (p .answer ∙ outcome-by (whole 8) First (fresh drill) (planes 8) 5 eight-short))
+
+-- a weight that is NaN and room for eight: 5 comes before 7
+abbrev unfit : Line
+unfit = record { shape = whole 8 .shape; frames = 8; stride = 8; stamps = whole 8 .stamps; inputs = whole 8 .inputs; weights = nan ∷ []; rows = drill .rows; taps = drill .taps; earStride = 8 }
+
+seven-first : (o : Outcome) → Replays unfit First (fresh drill) (planes 8) o → o .answer .refusal ≡ 7 → ⊥
+unfolding refusalIn comingBy ofInt
+seven-first o p e = omega (arith, e, ap (λ (q : Outcome). q .answer .refusal) (p .answer ∙ outcome-by unfit First (fresh drill) (planes 8) 5 refl))
 
 -- ---- on small ones
 
