@@ -23,8 +23,7 @@ use Rattle.replay.specs.Lines.{Line, setupIn, stampsIn, recordedAt, reco
 use Rattle.replay.specs.Heard.{heardBy, unsettledBy, afterBy, afterEvents}
 use Rattle.replay.specs.Promise.{refusalIn, Outcome, refused, accepted, outcome, stateAfter, Replays}
 use Rattle.replay.specs.Computed.{stateOf, planIn, leftBy, playedBy, countedBy}
-use Rattle.replay.specs.Gathers.{quiet}
-use Rattle.replay.specs.Turns.{startOf, eventsAt, Turns}
+use Rattle.replay.specs.Steps.{quiet, startOf, eventsAt, Turns}
 use Rattle.replay.proofs.Judging.{stands, plan-is, stamps-are, fits-ears}
 use Rattle.replay.proofs.Hearing.{length-heard-by, two-each-by, played-by-held, counted-by-is, left-by-is, left-by-kept}
 

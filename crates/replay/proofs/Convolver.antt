@@ -29,7 +29,7 @@ use Rattle.hrtf.proofs.Promised.{outcome-by, outcome-computed, reset-accepts, r
 use Rattle.replay.specs.Lines.{Line, setupIn}
 use Rattle.replay.specs.Heard.{rested}
 use Rattle.replay.specs.Computed.{stateOf, Good, Kept}
-use Rattle.replay.specs.Turns.{Resting}
+use Rattle.replay.specs.Steps.{Resting}
 
 -- the call for a block
 abbrev pub blockCall : Line → ℕ → List Float → List Float → Call

@@ -18,7 +18,7 @@ use Rattle.stamps.specs.Events.{Event, feed, restart, feedsIn}
 use Rattle.replay.specs.Lines.{Line, setupIn}
 use Rattle.replay.specs.Heard.{rested}
 use Rattle.replay.specs.Computed.{Stands, leftBy, playedBy, countedBy}
-use Rattle.replay.specs.Gathers.{feeds}
+use Rattle.replay.specs.Steps.{feeds}
 
 abbrev Events : Type 0
 Events = List (Event (List Float))

@@ -25,7 +25,7 @@ use Rattle.stamps.specs.Events.{Recorded, Event, feed, restart, eventsOf}
 use Rattle.stamps.proofs.Recordings.{events-late, events-next, events-jump, events-silent}
 use Rattle.replay.specs.declared.gather.Gathered.{Gathered}
 use Rattle.replay.specs.Lines.{recordedAt, recording}
-use Rattle.replay.specs.Gathers.{quiet, goesOn, takenBy, filledBy, Takes, feeds, restarting, eventsFrom, Gathers}
+use Rattle.replay.specs.Steps.{quiet, goesOn, takenBy, filledBy, Takes, feeds, restarting, eventsFrom, Gathers}
 use Rattle.replay.proofs.Blocks.{block-more, feeds-more}
 
 -- ---- one step

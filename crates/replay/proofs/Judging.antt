@@ -24,10 +24,9 @@ use Rattle.stamps.specs.declared.Planned.{Planned}
 use Rattle.stamps.specs.Counts.{outIn, plannedOf, unplannedOf, planOf}
 use Rattle.stamps.specs.Events.{stampsOf}
 use Rattle.stamps.proofs.Recordings.{feeds-out}
-use Rattle.replay.specs.Gathers.{quiet}
+use Rattle.replay.specs.Steps.{quiet, startOf, Room}
 use Rattle.replay.specs.Lines.{Line, recordedAt, recordingIn, stampsIn}
 use Rattle.replay.specs.Computed.{placesOf, planIn, picked, Good, Stands, Kept}
-use Rattle.replay.specs.Turns.{startOf, Room}
 use Rattle.replay.proofs.Convolver.{blockCall}
 use Rattle.replay.specs.Promise.{recordUnfit, listsUnfit, replayChecks, refusalIn}
 

@@ -21,11 +21,10 @@ use Rattle.hrtf.specs.Promise.{Processes}
 use Rattle.stamps.specs.Events.{Event, restart, feedsIn}
 use Rattle.stamps.proofs.Recordings.{feeds-append}
 use Rattle.replay.specs.declared.gather.Gathered.{Gathered}
-use Rattle.replay.specs.Gathers.{quiet, feeds, restarting, Gathers}
+use Rattle.replay.specs.Steps.{quiet, feeds, restarting, Gathers, eventsAt, Resting, restedIf, Room, Turns, leftIn, Turn}
 use Rattle.replay.specs.declared.play.Turned.{Turned}
 use Rattle.replay.specs.Lines.{Line, setupIn, recordingIn}
 use Rattle.replay.specs.Computed.{stateOf, Good, Stands, Kept, leftBy, playedBy, countedBy}
-use Rattle.replay.specs.Turns.{eventsAt, Resting, restedIf, Room, Turns, leftIn, Turn}
 use Rattle.replay.proofs.Eventful.{left-by-append, played-by-append, counted-by-append, length-played-by, counted-few, left-feeds, played-feeds, counted-feeds, feeds-feeds, length-feeds, left-stands, left-by-stands}
 use Rattle.replay.proofs.Convolver.{blockCall, block-leaves, block-counts, block-sounds, speakers-few}
 

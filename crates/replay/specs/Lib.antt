@@ -3,5 +3,4 @@ pub mod Lines
 pub mod Heard
 pub mod Promise
 pub mod Computed
-pub mod Gathers
-pub mod Turns
+pub mod Steps

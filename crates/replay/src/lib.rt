@@ -19,7 +19,7 @@ ghost use Prim.Native.Nat.{_*_};
 ghost use lib.ListN as ListN;
 ghost use Rattle.replay.specs.Promise.{Replays};
 ghost use Rattle.replay.specs.Computed.{lineOf, stateOf, placesOf, planIn, picked, refusedOf};
-ghost use Rattle.replay.specs.Turns.{answeredOf};
+ghost use Rattle.replay.specs.Steps.{answeredOf};
 
 mod gather;
 mod play;

@@ -3,7 +3,7 @@
 // the convolver is reset.
 //
 // `play` says by the events of the recording, one after another, what the rings, the desk and the ear planes hold
-// in the end, how many frames came out and how many of them are unsettled (specs/Turns.antt).
+// in the end, how many frames came out and how many of them are unsettled (specs/Steps.antt).
 use crate::gather::PLACES;
 use desk::Desk;
 use hrtf_checks::Shape;
@@ -12,7 +12,7 @@ ghost use mathlib.Core.Path.{_≡_};
 ghost use Prim.Native.Nat.{_+_, _^_, _<_};
 ghost use Rattle.planes.specs.Planes.{frameAt, framesOf, withFrame, withFrames};
 ghost use Rattle.replay.specs.Computed.{lineOf, stateOf, Good, Kept};
-ghost use Rattle.replay.specs.Turns.{startOf, Resting, restedIf, Room, Turns, Turn};
+ghost use Rattle.replay.specs.Steps.{startOf, Resting, restedIf, Room, Turns, Turn};
 
 // How far a recording is played: the desk, what is expected, the recorded frame that comes next, the frames that came
 // out, and how many of them are unsettled.

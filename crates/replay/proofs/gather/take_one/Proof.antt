@@ -13,7 +13,7 @@ use Rattle.stamps.specs.declared.Expected.{Expected}
 use Rattle.stamps.specs.declared.Arrival.{Arrival}
 use Rattle.stamps.specs.declared.Arrival.the-variants.{Next, Ahead, Jump, Late}
 use Rattle.replay.specs.declared.gather.Gathered.{Gathered}
-use Rattle.replay.specs.Gathers.{quiet, takenBy, filledBy, Takes}
+use Rattle.replay.specs.Steps.{quiet, takenBy, filledBy, Takes}
 use Rattle.replay.proofs.Gathering.{took}
 use Rattle.replay.proofs.gather.take_one.Statement.{statement}
 use Rattle.replay.proofs.gather.take_one.Tie as tie

@@ -5,7 +5,7 @@ use mathlib.Core.Path.{refl}
 use denote.Ref.{now}
 use Rattle.replay.specs.Lines.{Line}
 use Rattle.replay.specs.Computed.{lineOf}
-use Rattle.replay.specs.Turns.{leftIn}
+use Rattle.replay.specs.Steps.{leftIn}
 use Rattle.replay.proofs.Turning.{Going, going-kept, turns-none, turns-then, turns-room}
 use Rattle.replay.proofs.play.play.Statement.{statement}
 use Rattle.replay.proofs.play.play.Tie as tie

@@ -4,7 +4,7 @@ use mathlib.Core.Bool.{Bool}
 use denote.Ref.{now}
 use borrow.Author.Needs.{needs}
 use Rattle.replay.specs.Computed.{stateOf}
-use Rattle.replay.specs.Turns.{restedIf}
+use Rattle.replay.specs.Steps.{restedIf}
 use Rattle.replay.proofs.Convolver.{reset-leaves}
 use Rattle.replay.proofs.play.rest_if.Statement.{statement}
 use Rattle.replay.proofs.play.rest_if.Tie as tie

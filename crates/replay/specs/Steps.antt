@@ -1,26 +1,36 @@
--- What gathering asks and leaves: frames as they are fed go into a block of 64 places a plane. Definitions only; they speak of the program, and nobody has to believe them.
+-- What the steps of `replay` ask and leave: gathering of frames as they are fed in a block of 64 places a plane, and turns one after another. Definitions only; they speak of the program, and nobody has to believe
+-- them: the promise of `replay` stands above them.
 use mathlib.Core.Path.{_≡_}
-use Prim.Native.Nat.{ℕ, _+_, _^_, _≤_, _<_}
+use Prim.Native.Nat.{ℕ, _+_, _^_, _≤_, _<_, _-_, _*_}
 use mathlib.Core.Bool.{Bool, true, false, cond}
 use mathlib.Core.List.{List, [], _∷_, _++_}
 use lib.Dec.{leb, ltb}
 use lib.ListN.{length, getD, drop, replicate}
 use lib.Ieee.{Float}
 use Rattle.formats.specs.Floats.{zero-float}
-use Rattle.planes.specs.Planes.{frameAt, framesOf, withFrame}
+use Rattle.planes.specs.Planes.{frameAt, framesOf, withFrame, withFrames}
 use Rattle.stamps.specs.declared.Expected.{Expected}
 use Rattle.stamps.specs.declared.Expected.the-variants.{Stamp}
 use Rattle.stamps.specs.declared.Arrival.{Arrival}
 use Rattle.stamps.specs.declared.Arrival.the-variants.{Next, Ahead, Jump, Late}
 use Rattle.stamps.specs.Arrivals.{comingOf, stampOf, thenOf, skippedOf}
-use Rattle.stamps.specs.Events.{Recorded, Event, feed, restart, eventsOf}
+use Rattle.stamps.specs.Events.{Recorded, Event, feed, restart, eventsOf, feedsIn}
 use Rattle.replay.specs.declared.gather.Gathered.{Gathered}
+use Rattle.refusals.specs.Refusals.{outside}
+use Rattle.desk.specs.declared.Desk.{Desk}
+use Rattle.rings.specs.State.{State}
+use Rattle.stamps.specs.declared.Planned.{Planned}
+use Rattle.replay.specs.declared.Replayed.{Replayed}
+use Rattle.replay.specs.declared.play.Turned.{Turned}
+use Rattle.replay.specs.Lines.{Line, setupIn, recordingIn}
+use Rattle.replay.specs.Heard.{rested}
+use Rattle.replay.specs.Computed.{stateOf, leftBy, playedBy, countedBy}
 
 -- a frame of silence, as `silence` of `history`
 abbrev pub quiet : ℕ → List Float
 quiet channels = replicate channels zero-float
 
--- ---- one step
+-- ---- gathering: one step
 
 abbrev pub goesOn : Gathered → ℕ → Bool
 goesOn g frames = cond (g .restart) false (cond (leb frames (g .at)) false (ltb (g .count) 64))
@@ -44,7 +54,7 @@ pub record Takes (stamps : List ℕ) (channels stride : ℕ) (inputs : List Floa
   pub taken : r ≡ takenBy (comingOf (g .expected) (getD stamps (g .at) 0)) g (getD stamps (g .at) 0)
   pub filled : block₁ ≡ filledBy (comingOf (g .expected) (getD stamps (g .at) 0)) block (g .count) (frameAt inputs stride channels (g .at)) (quiet channels)
 
--- ---- a block
+-- ---- gathering: a block
 
 -- frames that are fed, under these stamps
 abbrev pub feeds : List ℕ → List (List Float) → List (Event (List Float))
@@ -70,3 +80,50 @@ pub record Gathers (rs : List (Recorded (List Float))) (channels : ℕ) (x : Exp
   pub within : r .at ≤ frames
   -- where a recorded frame is left, the block is full or a reset comes first
   pub goes : r .at < frames → 0 < r .count + cond (r .restart) 1 0
+
+-- ---- turns: a block is gathered, played, and a reset made where one comes next
+
+-- where a replay starts, and what it answers once it was planned and played
+abbrev pub startOf : Desk → Expected → Turned
+startOf d x = record { desk = d; expected = x; at = 0; done = 0; unsettled = 0 }
+
+abbrev pub answeredOf : Planned → Turned → Replayed
+answeredOf plan last =
+    record { refusal = 0; samples = plan .out; unsettled = last .unsettled; late = plan .late; silent = plan .silent; resets = plan .resets; desk = last .desk; expected = plan .expected }
+
+-- what the recording does from frame k on
+abbrev pub eventsAt : Line → Expected → ℕ → List (Event (List Float))
+eventsAt l x k = eventsFrom (recordingIn l) (l .shape .channels) x k
+
+-- what a reset asks, and what it leaves where there is one
+pub record Resting (speakers L : ℕ) (rings : List Float) : Type 0 where
+  pub few : outside speakers 8 ≡ false
+  pub long : outside L 512 ≡ false
+  pub ringed : length rings ≡ speakers * L
+
+abbrev pub restedIf : Bool → State → State
+restedIf again t = cond again (rested t) t
+
+-- a place in the recording, with room for the frames that are still to come out
+pub record Room (l : Line) (p : Turned) : Type 0 where
+  pub within : p .at ≤ l .frames
+  pub room : p .done + feedsIn (eventsAt l (p .expected) (p .at)) ≤ l .earStride
+  pub few : p .unsettled ≤ p .done
+
+-- from one place to another: the events between them are played
+pub record Turns (l : Line) (p : Turned) (rings ears : List Float) (r : Turned) (rings₁ ears₁ : List Float) : Type 0 where
+  pub gone : List (Event (List Float))
+  pub split : eventsAt l (p .expected) (p .at) ≡ gone ++ eventsAt l (r .expected) (r .at)
+  pub leaves : stateOf (r .desk) rings₁ ≡ leftBy (setupIn l) (stateOf (p .desk) rings) gone
+  pub sounds : ears₁ ≡ withFrames ears (l .earStride) (p .done) (playedBy (setupIn l) (stateOf (p .desk) rings) gone)
+  pub out : r .done ≡ p .done + feedsIn gone
+  pub counts : r .unsettled ≡ p .unsettled + countedBy (setupIn l) (stateOf (p .desk) rings) gone
+  pub within : r .at ≤ l .frames
+
+-- what is left: events, and recorded frames
+abbrev pub leftIn : Line → Turned → ℕ
+leftIn l p = length (eventsAt l (p .expected) (p .at)) + (l .frames - p .at)
+
+pub record Turn (l : Line) (p : Turned) (rings ears : List Float) (r : Turned) (rings₁ ears₁ : List Float) : Type 0 where
+  pub turns : Turns l p rings ears r rings₁ ears₁
+  pub moves : p .at < l .frames → leftIn l r < leftIn l p
