@@ -20,7 +20,7 @@ use Rattle.big_endian.specs.Lists.{strided}
 use Rattle.big_endian.proofs.Fields.{lies-out, lies-long, field-out, field-lies}
 use Rattle.channel.specs.declared.Layout.{Layout}
 use Rattle.channel.specs.declared.Layout.the-variants.{Surround71, Custom}
-use Rattle.probe_request.specs.Requests.{layoutOf, eightAt, lentBy, listAt}
+use Rattle.probe_request.specs.Requests.{layoutOf, eightAt, lentBy, wordAt, listAt}
 use Rattle.probe_request.proofs.Requests.{inside}
 
 -- ---- numbers
@@ -127,3 +127,11 @@ one-two-three = 63 ∷ 128 ∷ 0 ∷ 0 ∷ 64 ∷ 0 ∷ 0 ∷ 0 ∷ 64 ∷ 64 �
 samples-eight-apart : (list r : List Float) → length list ≡ 2 → r ≡ listAt floatAt 4 one-two-three 0 list → r ≡ strided (floatAt one-two-three) 8 0 (length list) → ⊥
 unfolding floatAt fieldAt valueOf ofBits
 samples-eight-apart list r two is e = apart floatAt 4 one-two-three 0 list r is (omega arith) 8 (omega arith) (λ p. let z : _≡_ {A = ℕ} 3 2 = ap num p in omega (arith, z)) e
+
+abbrev stamps-one-two-three : List ℕ
+stamps-one-two-three = 0 ∷ 0 ∷ 0 ∷ 1 ∷ 0 ∷ 0 ∷ 0 ∷ 2 ∷ 0 ∷ 0 ∷ 0 ∷ 3 ∷ []
+
+-- the stamps 1 and 2, before a 3, are read eight bytes apart
+stamps-eight-apart : (list r : List ℕ) → length list ≡ 2 → r ≡ listAt wordAt 4 stamps-one-two-three 0 list → r ≡ strided (wordAt stamps-one-two-three) 8 0 (length list) → ⊥
+unfolding fieldAt valueOf
+stamps-eight-apart list r two is e = apart wordAt 4 stamps-one-two-three 0 list r is (omega arith) 8 (omega arith) (λ p. omega (arith, p)) e

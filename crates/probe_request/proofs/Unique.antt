@@ -8,7 +8,7 @@ use Rattle.refusals.specs.OneAnswer.{OneAnswer}
 use Rattle.refusals.proofs.Determined.{determined}
 use Rattle.big_endian.specs.Fields.{fieldAt, signedAt, floatAt, doubleAt}
 use Rattle.channel.specs.declared.Layout.{Layout}
-use Rattle.probe_request.specs.Requests.{layoutOf, eightAt, lentBy, listAt}
+use Rattle.probe_request.specs.Requests.{layoutOf, eightAt, lentBy, wordAt, listAt}
 
 number-unique : (args : List ℕ) (at count : ℕ) → OneAnswer (λ (r : ℕ). r ≡ fieldAt args at count)
 number-unique args at count = determined
@@ -30,3 +30,6 @@ get-f32s-unique args at list = determined
 
 get-f64s-unique : (args : List ℕ) (at : ℕ) (list : List Float) → OneAnswer (λ (r : List Float). r ≡ listAt doubleAt 8 args at list)
 get-f64s-unique args at list = determined
+
+get-u32s-unique : (args : List ℕ) (at : ℕ) (list : List ℕ) → OneAnswer (λ (r : List ℕ). r ≡ listAt wordAt 4 args at list)
+get-u32s-unique args at list = determined

@@ -38,6 +38,10 @@ weightsLent args at = lentBy args at 2 300
 abbrev pub cellsLent : List ℕ → ℕ → ℕ
 cellsLent args at = lentBy args at 2 4100
 
+-- a stamp: a number in four bytes
+abbrev pub wordAt : List ℕ → ℕ → ℕ
+wordAt args at = fieldAt args at 4
+
 -- "every other list holds what the request gives": as many numbers as it has places, w bytes each, from `at` on. A list that does not lie inside the arguments is left as it was.
 unfoldable pub listAt : {A : Type 0} → (List ℕ → ℕ → A) → ℕ → List ℕ → ℕ → List A → List A
 listAt read w args at list = cond (leb (at + w * length list) (length args)) (strided (read args) w at (length list)) list

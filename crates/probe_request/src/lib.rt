@@ -7,7 +7,7 @@
 use channel::Layout;
 ghost use mathlib.Core.Path.{_≡_};
 ghost use Rattle.big_endian.specs.Fields.{fieldAt, signedAt, floatAt, doubleAt};
-ghost use Rattle.probe_request.specs.Requests.{layoutOf, eightAt, lentBy, listAt};
+ghost use Rattle.probe_request.specs.Requests.{layoutOf, eightAt, lentBy, wordAt, listAt};
 
 // More than any call takes, so that a list which is too long can be lent.
 pub const MOST_AZIMUTHS: usize = 16;
@@ -65,7 +65,7 @@ pub fn eight(args: &[u8], at: usize) -> [usize; 8]
     ]
 }
 
-// Each of these three fills a list with what stands in the arguments from `at` on.
+// Each of these four fills a list with what stands in the arguments from `at` on.
 pub fn get_i16s(args: &[u8], at: usize, list: &mut [i16])
     ensures { λ _. ⌜ now (list .exit) ≡ listAt signedAt 2 (now (args .entry)) at (now (list .entry)) ⌝ }
 {
@@ -101,6 +101,19 @@ pub fn get_f64s(args: &[u8], at: usize, list: &mut [f64])
     let mut i = 0;
     while i < list.len() {
         list[i] = big_endian::get_f64(args, at + i * 8);
+        i += 1;
+    }
+}
+
+pub fn get_u32s(args: &[u8], at: usize, list: &mut [u32])
+    ensures { λ _. ⌜ now (list .exit) ≡ listAt wordAt 4 (now (args .entry)) at (now (list .entry)) ⌝ }
+{
+    if !big_endian::has_room(args.len(), at, 4, list.len()) {
+        return;
+    }
+    let mut i = 0;
+    while i < list.len() {
+        list[i] = big_endian::get(args, at + i * 4, 4) as u32;
         i += 1;
     }
 }
