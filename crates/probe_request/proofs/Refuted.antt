@@ -1,8 +1,8 @@
--- What the promises rule out: a number or an entry from elsewhere or of another width, more lent than there is, another layout, and a list that is filled though it does not lie inside. Assumes nothing.
+-- What the promises rule out: a number or an entry from elsewhere or of another width, more lent than there is, a place behind another part, another layout, and a list that is filled though it does not lie inside. Assumes nothing.
 use mathlib.Core.Path.{_≡_, sym, ap, _∙_}
 use mathlib.Core.List.{List, [], _∷_}
 use mathlib.Core.Logic.{⊎-elim}
-use Prim.Native.Nat.{ℕ, _+_, _*_, _≤_, _<_}
+use Prim.Native.Nat.{ℕ, _+_, _-_, _*_, _^_, _≤_, _<_}
 use native.Mathlib.Nat.{zero-add}
 use native.Mathlib.Omega.{arith}
 use borrow.Author.Tests.{lt-leb, ne-eqb}
@@ -20,8 +20,8 @@ use Rattle.big_endian.specs.Lists.{strided}
 use Rattle.big_endian.proofs.Fields.{lies-out, lies-long, field-out, field-lies}
 use Rattle.channel.specs.declared.Layout.{Layout}
 use Rattle.channel.specs.declared.Layout.the-variants.{Surround71, Custom}
-use Rattle.probe_request.specs.Requests.{layoutOf, eightAt, lentBy, wordAt, listAt}
-use Rattle.probe_request.proofs.Requests.{inside}
+use Rattle.probe_request.specs.Requests.{layoutOf, eightAt, lentBy, placeIn, wordAt, listAt}
+use Rattle.probe_request.proofs.Requests.{inside, place-there, place-beyond}
 
 -- ---- numbers
 
@@ -57,6 +57,17 @@ module _ (args : List ℕ) (at most r : ℕ) where
   two-bytes-always room some short is two =
       let none : 0 < fieldAt args at 2 → ⊥ = cut-number args at 2 (fieldAt args at 2) (λ i. fieldAt args at 2) short in
       none (omega arith)
+
+-- ---- places
+
+module _ (args : List ℕ) (at width count r : ℕ) (is : r ≡ placeIn (length args) (at + width * count)) where
+  -- a list that lies inside ends where it begins
+  behind-nothing : at + width * count ≤ length args → 0 < width * count → r ≡ at → ⊥
+  behind-nothing whole some e = omega (arith, is, place-there (length args) (at + width * count) whole)
+
+  -- one that does not is followed by what stands behind a part of it
+  behind-a-part : length args < at + width * count → length args < 2 ^ 64 - 1 → r ≤ length args → ⊥
+  behind-a-part out short h = omega (arith, is, place-beyond (length args) (at + width * count) out)
 
 -- ---- layouts
 

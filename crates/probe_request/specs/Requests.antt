@@ -1,5 +1,5 @@
 -- What the fields of a request stand for (docs/PROBE.md, 'Operations'). Definitions only.
-use Prim.Native.Nat.{ℕ, _+_, _*_, min}
+use Prim.Native.Nat.{ℕ, _+_, _-_, _*_, _^_, min}
 use mathlib.Core.Bool.{cond}
 use mathlib.Core.List.{List}
 use lib.Dec.{eqb, leb}
@@ -37,6 +37,10 @@ weightsLent args at = lentBy args at 2 300
 
 abbrev pub cellsLent : List ℕ → ℕ → ℕ
 cellsLent args at = lentBy args at 2 4100
+
+-- a place in arguments of so many bytes, or at their end; any other counts as the last of all, from which on nothing is read
+abbrev pub placeIn : ℕ → ℕ → ℕ
+placeIn size at = cond (leb at size) at (2 ^ 64 - 1)
 
 -- a stamp: a number in four bytes
 abbrev pub wordAt : List ℕ → ℕ → ℕ

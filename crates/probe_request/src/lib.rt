@@ -6,8 +6,10 @@
 // left as it was. Every function takes any input.
 use channel::Layout;
 ghost use mathlib.Core.Path.{_≡_};
+ghost use Prim.Native.Nat.{_+_, _*_};
+ghost use lib.ListN.{length};
 ghost use Rattle.big_endian.specs.Fields.{fieldAt, signedAt, floatAt, doubleAt};
-ghost use Rattle.probe_request.specs.Requests.{layoutOf, eightAt, lentBy, wordAt, listAt};
+ghost use Rattle.probe_request.specs.Requests.{layoutOf, eightAt, lentBy, placeIn, wordAt, listAt};
 
 // More than any call takes, so that a list which is too long can be lent.
 pub const MOST_AZIMUTHS: usize = 16;
@@ -63,6 +65,17 @@ pub fn eight(args: &[u8], at: usize) -> [usize; 8]
         number(args, at + 48, 8),
         number(args, at + 56, 8),
     ]
+}
+
+// The place behind `count` fields of `width` bytes from `at` on, and one from which on nothing is read where they do not
+// lie inside the arguments: so lists that stand one behind the other are found, whatever their lengths.
+pub fn behind(args: &[u8], at: usize, width: usize, count: usize) -> usize
+    ensures { λ r. ⌜ r ≡ placeIn (length (now (args .entry))) (at + width * count) ⌝ }
+{
+    if !big_endian::has_room(args.len(), at, width, count) {
+        return usize::MAX;
+    }
+    at + width * count
 }
 
 // Each of these four fills a list with what stands in the arguments from `at` on.
