@@ -1,14 +1,17 @@
 -- What a request gives: a list that lies inside the arguments is what stands there, a layout is its byte and its n, a list is lent at the length that is asked for, up to the room, and lists stand one behind the other. Assumes nothing.
 use mathlib.Core.Path.{_≡_, sym, ap, _∙_}
+use mathlib.Core.Bool.{false}
 use mathlib.Core.List.{List}
 use mathlib.Core.Logic.{⊎-elim}
 use Prim.Native.Nat.{ℕ, _+_, _-_, _*_, _^_, _≤_, _<_, min}
 use native.Mathlib.Omega.{arith}
 use borrow.Author.Tests.{le-leb, lt-leb}
+use lib.Dec.{leb}
 use lib.ListN.{length, take, replicate, length-take, length-replicate}
 use Rattle.lists.proofs.Lists.{split}
 use Rattle.big_endian.specs.Fields.{fieldAt}
 use Rattle.big_endian.specs.Lists.{strided}
+use Rattle.big_endian.proofs.Fields.{lies-out, field-out}
 use Rattle.channel.specs.declared.Layout.{Layout}
 use Rattle.probe_request.specs.Requests.{layoutOf, layoutAt, placeIn, listAt}
 
@@ -41,26 +44,40 @@ module _ (size at : ℕ) where
   pub place-beyond : size < at → placeIn size at ≡ 2 ^ 64 - 1
   place-beyond h = rw (lt-leb at size h)
 
-module _ (size at : ℕ) (short : size < 2 ^ 64 - 1) where
-  -- the place behind what stands there
-  pub place-behind : (k : ℕ) → placeIn size (placeIn size at + k) ≡ placeIn size (at + k)
-  place-behind k =
-      ⊎-elim (λ h. rw (place-beyond size at h) (place-beyond size (2 ^ 64 - 1 + k) (omega arith) ∙ sym (place-beyond size (at + k) (omega arith))))
+module _ (args : List ℕ) (short : length args < 2 ^ 64 - 1) where
+  abbrev size : ℕ
+  size = length args
+
+  -- what stands behind it
+  pub place-behind : (at k : ℕ) {p q : ℕ} → p ≡ placeIn size at → q ≡ placeIn size (p + k) → q ≡ placeIn size (at + k)
+  place-behind at k e f =
+      f
+      ∙ ap (λ (n : ℕ). placeIn size (n + k)) e
+      ∙ ⊎-elim (λ h. rw (place-beyond size at h) (place-beyond size (2 ^ 64 - 1 + k) (omega arith) ∙ sym (place-beyond size (at + k) (omega arith))))
       (λ h. rw (place-there size at h))
       (split size at)
 
-  -- arguments that end there
-  pub place-end : size ≡ placeIn size at → size ≡ at
-  place-end e = ⊎-elim (λ h. absurd (omega (arith, e, place-beyond size at h))) (λ h. e ∙ place-there size at h) (split size at)
+  -- the number there
+  pub place-number : (at count : ℕ) {p n : ℕ} → count ≤ 8 → 0 < count → p ≡ placeIn size at → n ≡ fieldAt args p count → n ≡ fieldAt args at count
+  place-number at count small some e f =
+      let none : (k : ℕ) → size < k → fieldAt args k count ≡ 0 = λ k h. field-out args k count (lies-out size k count small (omega arith)) in
+      f
+      ∙ ap (λ (k : ℕ). fieldAt args k count) e
+      ∙ ⊎-elim (λ h. ap (λ (k : ℕ). fieldAt args k count) (place-beyond size at h) ∙ none (2 ^ 64 - 1) short ∙ sym (none at h)) (λ h. rw (place-there size at h)) (split size at)
 
-pub place-at-end : (size at : ℕ) → size ≡ at → size ≡ placeIn size at
-place-at-end size at e = e ∙ sym (place-there size at (omega arith))
+  -- the list there
+  pub place-list : {A : Type 0} (read : List ℕ → ℕ → A) (w at : ℕ) (list : List A) {p : ℕ} {last : List A} → p ≡ placeIn size at → last ≡ listAt read w args p list → last ≡ listAt read w args at list
+  unfolding listAt
+  place-list read w at list e f =
+      let none : (k : ℕ) → size < k → leb (k + w * length list) size ≡ false = λ k h. lt-leb (k + w * length list) size (omega arith) in
+      f
+      ∙ ap (λ (k : ℕ). listAt read w args k list) e
+      ∙ ⊎-elim (λ h. rw (place-beyond size at h, none (2 ^ 64 - 1) short, none at h)) (λ h. rw (place-there size at h)) (split size at)
 
--- and a list from there on
-pub place-read : {A : Type 0} (read : List ℕ → ℕ → A) (w : ℕ) (args : List ℕ) (at : ℕ) (list : List A) → length args < 2 ^ 64 - 1
-    → listAt read w args (placeIn (length args) at) list ≡ listAt read w args at list
-unfolding listAt
-place-read read w args at list short =
-    ⊎-elim (λ h. rw (place-beyond (length args) at h, lt-leb (at + w * length list) (length args) (omega arith)) (rw (lt-leb (2 ^ 64 - 1 + w * length list) (length args) (omega arith))))
-    (λ h. rw (place-there (length args) at h))
-    (split (length args) at)
+  -- whether the arguments end there
+  module _ (at : ℕ) {p : ℕ} (e : p ≡ placeIn size at) where
+    pub place-end : size ≡ p → size ≡ at
+    place-end f = ⊎-elim (λ h. absurd (omega (arith, e, f, place-beyond size at h))) (λ h. f ∙ e ∙ place-there size at h) (split size at)
+
+    pub place-no-end : (size ≡ p → ⊥) → size ≡ at → ⊥
+    place-no-end other f = other (f ∙ sym (e ∙ place-there size at (omega arith)))
