@@ -1,5 +1,5 @@
 -- `probe_request::behind` meets its contract: past the test of the room neither the product nor the sum passes the arguments. Assumes nothing.
-use mathlib.Core.Path.{_≡_, sym, _∙_}
+use mathlib.Core.Path.{sym, _∙_}
 use Prim.Native.Nat.{_+_, _*_, _≤_}
 use native.Mathlib.Omega.{arith}
 use denote.Ref.{now}
