@@ -16,9 +16,9 @@ use Rattle.probe_request.specs.Requests.{eightAt, samplesLent, wordAt, placeIn,
 use Rattle.probe_request.proofs.Requests.{inside, place-behind, place-list, place-end, place-no-end}
 use Rattle.probe_answer.specs.Answers.{Draft, none, _then_}
 use Rattle.probe_answer.proofs.Answers.{taken, untaken, behind}
-use Rattle.probe_hrtf.specs.Requests.{deskAt, shapeAt, Lent, lentOf, Lists, lengths, ReadLists, readFrom, listsAt}
+use Rattle.probe_hrtf.specs.Requests.{deskAt, shapeAt, Lent, lentOf, Lists, lengths, ReadLists, readFrom}
 use Rattle.probe_hrtf.proofs.Lists.{read-end, lists-standing}
-use Rattle.probe_replay.specs.Requests.{expectedAt, stampsFrom, lineEnd, stampsAt, outcomeOf, outcomeAt}
+use Rattle.probe_replay.specs.Requests.{expectedAt, stampsFrom, lineEnd, outcomeOf, outcomeAt}
 use Rattle.probe_replay.specs.Answers.{thenCounts, lineShown, lineBy, lineAnswer}
 
 module _ (args out : List ℕ) (l : Lists) (stamps : List ℕ) where

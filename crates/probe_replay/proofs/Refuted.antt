@@ -2,7 +2,7 @@
 -- and a stamp that is forgotten; and an answer to another operation. Assumes nothing.
 use mathlib.Core.Path.{_≡_, sym, ap, _∙_}
 use mathlib.Core.List.{List, [], _∷_}
-use Prim.Native.Nat.{ℕ, _+_, _%_, _^_, _≤_}
+use Prim.Native.Nat.{ℕ, _%_, _^_, _≤_}
 use native.Mathlib.Omega.{arith}
 use borrow.Author.Tests.{ne-eqb}
 use lib.ListN.{length}
@@ -20,8 +20,8 @@ use Rattle.replay.specs.Promise.{Outcome, outcome, refusalIn, accepted, refused
 use Rattle.probe_request.specs.Requests.{samplesLent}
 use Rattle.probe_answer.specs.Answers.{Draft, none}
 use Rattle.probe_answer.proofs.Standing.{Told, number-told, taken-told}
-use Rattle.probe_hrtf.specs.Requests.{Lent, lentOf, Lists, listsAt, stateOf}
-use Rattle.probe_replay.specs.Requests.{expectedAt, lineEnd, stampsAt, lineOf, outcomeOf, outcomeAt}
+use Rattle.probe_hrtf.specs.Requests.{lentOf, Lists, listsAt, stateOf}
+use Rattle.probe_replay.specs.Requests.{expectedAt, lineEnd, stampsAt, lineOf, outcomeAt}
 use Rattle.probe_replay.specs.Answers.{markOf, lineShown, lineBy, answerOf}
 
 -- where a number stands in an answer
