@@ -25,7 +25,7 @@ eightAt args at = strided (λ (p : ℕ). fieldAt args p 8) 8 at 8
 abbrev pub lentBy : List ℕ → ℕ → ℕ → ℕ → ℕ
 lentBy args at count most = min (fieldAt args at count) most
 
--- "azimuths lent (1)", and "weights", "taps", "samples" or "ring cells lent (2)": "up to 16 azimuths, 8,200 taps or samples, [..] 300 weights and 4,100 ring cells"
+-- "azimuths lent (1)", and "weights", "taps", "samples", "stamps" or "ring cells lent (2)": "up to 16 azimuths, 8,200 taps, samples or stamps, [..] 300 weights and 4,100 ring cells"
 abbrev pub azimuthsLent : List ℕ → ℕ → ℕ
 azimuthsLent args at = lentBy args at 1 16
 

@@ -16,7 +16,7 @@ pub const MOST_AZIMUTHS: usize = 16;
 
 pub const MOST_WEIGHTS: usize = 300;
 
-// For samples and for taps.
+// For samples, for taps and for stamps.
 pub const MOST_SAMPLES: usize = 8200;
 
 pub const MOST_CELLS: usize = 4100;
