@@ -15,6 +15,7 @@ use Rattle.probe_planes.specs.Answers as Planes
 use Rattle.probe_hrtf.specs.Answers as Hrtf
 use Rattle.probe_setup.specs.Answers as Setup
 use Rattle.probe_script.specs.Answers as Script
+use Rattle.probe_replay.specs.Answers as Replay
 use Rattle.probe.specs.Answers.{answerOf}
 
 module _ (operation : ℕ) (args out : List ℕ) where
@@ -60,17 +61,21 @@ module _ (operation : ℕ) (args out : List ℕ) where
   unfolding answerOf
   of-script e = rw e
 
+  pub of-replay : operation ≡ 22 → Replay.answerOf operation args out ≡ answerOf operation args out
+  unfolding answerOf
+  of-replay e = rw e
+
   pub of-sum : operation ≡ 25 → Hrtf.answerOf operation args out ≡ answerOf operation args out
   unfolding answerOf
   of-sum e = rw e
 
-  pub of-none : (1 ≤ operation → 21 < operation) → (operation ≡ 25 → ⊥) → none out ≡ answerOf operation args out
+  pub of-none : (1 ≤ operation → 22 < operation) → (operation ≡ 25 → ⊥) → none out ≡ answerOf operation args out
   unfolding answerOf
   of-none far not-sum =
       elim (decLt operation 1) [
         | yes k ↦ let e : operation ≡ 0 = omega arith in rw e
         | no k ↦
-            let h : 21 < operation = far (omega arith) in
+            let h : 22 < operation = far (omega arith) in
             sym
             (rw (
               within-high 1 5 operation (omega arith) (omega arith),
@@ -82,6 +87,7 @@ module _ (operation : ℕ) (args out : List ℕ) where
               within-high 17 18 operation (omega arith) (omega arith),
               within-high 19 20 operation (omega arith) (omega arith),
               ne-eqb operation 21 (λ e. omega arith),
+              ne-eqb operation 22 (λ e. omega arith),
               ne-eqb operation 25 not-sum,
             ))
       ]

@@ -62,15 +62,16 @@ fn put_answer(operation: u8, args: &[u8], out: &mut [u8]) -> usize
         17 | 18 => probe_hrtf::answer(operation, args, out),
         19 | 20 => probe_setup::answer(operation, args, out),
         21 => probe_script::answer(operation, args, out),
+        22 => probe_replay::answer(operation, args, out),
         25 => probe_hrtf::answer(operation, args, out),
         _ => 0,
     }
 }
 
-// Whether there is such an operation. 22 to 24 are kept for document 02's E5 and E6.
+// Whether there is such an operation. 23 and 24 are kept for document 02's E6.
 fn is_operation(operation: u8) -> bool {
     match operation {
-        1..=21 | 25 => true,
+        1..=22 | 25 => true,
         _ => false,
     }
 }

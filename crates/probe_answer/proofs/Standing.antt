@@ -197,19 +197,28 @@ module _ (at count n : ℕ) where
         behind = then-further d p (at + count) (t .behind) h;
       })
 
--- the refusal with which answers begin
-pub first-told : (refusal : ℕ) (ps : List (List ℕ)) (out : List ℕ) → 1 ≤ length out → Told 0 1 refusal (parts (none out then bytesOf 1 refusal) ps)
-first-told refusal ps out room = still-told 0 1 refusal ps (none out then bytesOf 1 refusal) (omega arith) (told 0 1 refusal (none out) refl (omega arith) room)
+-- a number behind any parts
+parts-long : (ps : List (List ℕ)) (d : Draft) → length (parts d ps .bytes) ≡ length (d .bytes)
+parts-long [] d = refl
+parts-long (p ∷ ps) d = parts-long ps (d then p) ∙ then-long d p
 
--- and the number behind it
-behind-the-refusal : (refusal : ℕ) (out : List ℕ) → 1 ≤ length out → (none out then bytesOf 1 refusal) .place ≡ 1
-behind-the-refusal refusal out room = let one = length-bytes 1 refusal in omega (arith, parts-room (bytesOf 1 refusal ∷ []) (none out) (omega arith))
+pub number-told : (at count n : ℕ) (ps qs : List (List ℕ)) (out : List ℕ) → total ps ≡ at → count ≤ 8 → at + count ≤ length out → at + count ≤ nowhere
+    → Told at count n (parts (parts (none out) ps then bytesOf count n) qs)
+number-told at count n ps qs out size small room few =
+    let d = parts (none out) ps in
+    let long = parts-long ps (none out) in
+    let place : d .place ≡ at = omega (arith, size, parts-room ps (none out) (omega arith)) in
+    still-told at count n qs (d then bytesOf count n) few (told at count n d place small (omega arith))
+
+-- the refusal with which answers begin, and the number behind it
+pub first-told : (refusal : ℕ) (ps : List (List ℕ)) (out : List ℕ) → 1 ≤ length out → Told 0 1 refusal (parts (none out then bytesOf 1 refusal) ps)
+first-told refusal ps out room = number-told 0 1 refusal [] ps out refl (omega arith) room (omega arith)
 
 pub second-told : (refusal count n : ℕ) (ps : List (List ℕ)) (out : List ℕ) → count ≤ 8 → 1 + count ≤ length out → Told 1 count n (parts (none out then bytesOf 1 refusal then bytesOf count n) ps)
-second-told refusal count n ps out small room =
-    let d = none out then bytesOf 1 refusal in
-    let long = then-long (none out) (bytesOf 1 refusal) in
-    still-told 1 count n ps (d then bytesOf count n) (omega arith) (told 1 count n d (behind-the-refusal refusal out (omega arith)) small (omega arith))
+second-told refusal count n ps out small room = number-told 1 count n (bytesOf 1 refusal ∷ []) ps out (omega (arith, length-bytes 1 refusal)) small room (omega arith)
+
+behind-the-refusal : (refusal : ℕ) (out : List ℕ) → 1 ≤ length out → (none out then bytesOf 1 refusal) .place ≡ 1
+behind-the-refusal refusal out room = let one = length-bytes 1 refusal in omega (arith, parts-room (bytesOf 1 refusal ∷ []) (none out) (omega arith))
 
 -- what an answer tells is told where it is given
 pub taken-told : {at count n : ℕ} (size : ℕ) (args out : List ℕ) (r : Draft) {d : Draft} → r ≡ taking size args out d → length args ≡ size → Told at count n d → fieldAt (r .bytes) at count ≡ n % 256 ^ count

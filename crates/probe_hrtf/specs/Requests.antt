@@ -1,15 +1,15 @@
 -- What stands in a request for the convolver (docs/PROBE.md, 'Operations', 17, 18 and 25). Definitions only.
-use Prim.Native.Nat.{ℕ, _+_, _*_, _≤_}
+use Prim.Native.Nat.{ℕ, _+_, _*_}
 use mathlib.Core.List.{List}
 use lib.ListN.{length}
 use lib.Ieee.{Float}
-use Rattle.big_endian.specs.Fields.{fieldAt}
+use Rattle.big_endian.specs.Fields.{fieldAt, floatAt, doubleAt}
 use Rattle.big_endian.specs.Lists.{floatsAt, doublesAt}
 use Rattle.desk.specs.declared.Desk.{Desk}
 use Rattle.rings.specs.State.{State}
 use Rattle.hrtf_checks.specs.declared.Shape.{Shape}
 use Rattle.hrtf_checks.specs.Call.{Call}
-use Rattle.probe_request.specs.Requests.{eightAt, samplesLent, weightsLent, cellsLent}
+use Rattle.probe_request.specs.Requests.{eightAt, samplesLent, weightsLent, cellsLent, placeIn, listAt}
 
 -- "ring position, frames-to-go .. (8 each)"
 abbrev pub deskAt : List ℕ → ℕ → Desk
@@ -32,54 +32,86 @@ pub record Lent : Type 0 where
 abbrev pub lentOf : List ℕ → Lent
 lentOf args = record { inputs = samplesLent args 0; weights = weightsLent args 2; taps = samplesLent args 4; rings = cellsLent args 6; ears = samplesLent args 8 }
 
--- the lengths of five lists
-abbrev pub lengths : List Float → List Float → List Float → List Float → List Float → Lent
-lengths inputs weights taps rings ears = record { inputs = length inputs; weights = length weights; taps = length taps; rings = length rings; ears = length ears }
+-- ---- 17: the five lists, "the i samples (f32, 4 each), the w weights (f64, 8 each), the t taps, the r cells and the e samples (f32, 4 each)"
 
--- "8,200 taps or samples, [..] 300 weights and 4,100 ring cells", so that the sum of all lengths fits
-abbrev pub most : Lent
-most = record { inputs = 8200; weights = 300; taps = 8200; rings = 4100; ears = 8200 }
+pub record Lists : Type 0 where
+  pub inputs : List Float
+  pub weights : List Float
+  pub taps : List Float
+  pub rings : List Float
+  pub ears : List Float
 
-pub record Few (n : Lent) : Type 0 where
-  pub inputs : n .inputs ≤ most .inputs
-  pub weights : n .weights ≤ most .weights
-  pub taps : n .taps ≤ most .taps
-  pub rings : n .rings ≤ most .rings
-  pub ears : n .ears ≤ most .ears
+abbrev pub listed : List Float → List Float → List Float → List Float → List Float → Lists
+listed inputs weights taps rings ears = record { inputs = inputs; weights = weights; taps = taps; rings = rings; ears = ears }
 
--- ---- 17: "the i samples (f32, 4 each), the w weights (f64, 8 each), the t taps, the r cells and the e samples (f32, 4 each)", one behind the other, and where they end
+abbrev pub lengths : Lists → Lent
+lengths l = record { inputs = length (l .inputs); weights = length (l .weights); taps = length (l .taps); rings = length (l .rings); ears = length (l .ears) }
 
-abbrev pub weightsFrom : Lent → ℕ
-weightsFrom n = 138 + 4 * n .inputs
+-- one behind the other, the first from `at` on, and where they end
 
-abbrev pub tapsFrom : Lent → ℕ
-tapsFrom n = weightsFrom n + 8 * n .weights
+abbrev pub weightsFrom : ℕ → Lent → ℕ
+weightsFrom at n = at + 4 * n .inputs
 
-abbrev pub ringsFrom : Lent → ℕ
-ringsFrom n = tapsFrom n + 4 * n .taps
+abbrev pub tapsFrom : ℕ → Lent → ℕ
+tapsFrom at n = weightsFrom at n + 8 * n .weights
 
-abbrev pub earsFrom : Lent → ℕ
-earsFrom n = ringsFrom n + 4 * n .rings
+abbrev pub ringsFrom : ℕ → Lent → ℕ
+ringsFrom at n = tapsFrom at n + 4 * n .taps
 
-abbrev pub blockEnd : Lent → ℕ
-blockEnd n = earsFrom n + 4 * n .ears
+abbrev pub earsFrom : ℕ → Lent → ℕ
+earsFrom at n = ringsFrom at n + 4 * n .rings
+
+abbrev pub listsEnd : ℕ → Lent → ℕ
+listsEnd at n = earsFrom at n + 4 * n .ears
+
+-- "every other list holds what the request gives": as it stands, where all lie inside the arguments
+abbrev pub listsAt : List ℕ → ℕ → Lent → Lists
+listsAt args at n =
+    record {
+      inputs = floatsAt args at (n .inputs);
+      weights = doublesAt args (weightsFrom at n) (n .weights);
+      taps = floatsAt args (tapsFrom at n) (n .taps);
+      rings = floatsAt args (ringsFrom at n) (n .rings);
+      ears = floatsAt args (earsFrom at n) (n .ears);
+    }
+
+-- and any lists, each that does not lie inside as it was
+abbrev pub listsRead : List ℕ → ℕ → Lists → Lists
+listsRead args at l =
+    record {
+      inputs = listAt floatAt 4 args at (l .inputs);
+      weights = listAt doubleAt 8 args (weightsFrom at (lengths l)) (l .weights);
+      taps = listAt floatAt 4 args (tapsFrom at (lengths l)) (l .taps);
+      rings = listAt floatAt 4 args (ringsFrom at (lengths l)) (l .rings);
+      ears = listAt floatAt 4 args (earsFrom at (lengths l)) (l .ears);
+    }
+
+-- with the place behind them
+pub record ReadLists : Type 0 where
+  pub lists : Lists
+  pub end : ℕ
+
+abbrev pub readFrom : List ℕ → ℕ → Lists → ReadLists
+readFrom args at l = record { lists = listsRead args at l; end = placeIn (length args) (listsEnd at (lengths l)) }
 
 -- ---- 17: what is handed to the convolver
 
+abbrev pub blockEnd : Lent → ℕ
+blockEnd n = listsEnd 138 n
+
 -- "frames, stride (8 each), the bank row of each of eight speakers (8 each)", beside the lists
-abbrev pub callOf : List ℕ → List Float → List Float → List Float → List Float → Call
-callOf args inputs weights taps ears =
-    record { shape = shapeAt args; frames = fieldAt args 58 8; stride = fieldAt args 66 8; inputs = inputs; weights = weights; rows = eightAt args 74; taps = taps; ears = ears }
+abbrev pub callOf : List ℕ → Lists → Call
+callOf args l =
+    record { shape = shapeAt args; frames = fieldAt args 58 8; stride = fieldAt args 66 8; inputs = l .inputs; weights = l .weights; rows = eightAt args 74; taps = l .taps; ears = l .ears }
 
-abbrev pub stateOf : List ℕ → List Float → State
-stateOf args rings = record { rings = rings; desk = deskAt args 10 }
+abbrev pub stateOf : List ℕ → Lists → State
+stateOf args l = record { rings = l .rings; desk = deskAt args 10 }
 
--- "every other list holds what the request gives"
 unfoldable pub callAt : List ℕ → Lent → Call
-callAt args n = callOf args (floatsAt args 138 (n .inputs)) (doublesAt args (weightsFrom n) (n .weights)) (floatsAt args (tapsFrom n) (n .taps)) (floatsAt args (earsFrom n) (n .ears))
+callAt args n = callOf args (listsAt args 138 n)
 
 unfoldable pub stateAt : List ℕ → Lent → State
-stateAt args n = stateOf args (floatsAt args (ringsFrom n) (n .rings))
+stateAt args n = stateOf args (listsAt args 138 n)
 
 -- ---- 25: "the r cells and the t taps (f32, 4 each)", one behind the other, and where they end
 

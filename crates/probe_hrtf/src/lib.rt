@@ -4,7 +4,9 @@
 // what they are is what `hrtf` promises for the desk, the counts and the lists that stand in the arguments,
 // and `rings` for a ring and taps of any lengths, one part behind the other. There are 0 bytes, and the lent
 // ones are as they were, for any other operation and for arguments that have another length than the
-// operation takes. `answer` takes any input.
+// operation takes. The desk, the shape and the five lists are read, and a desk is put, by functions that the
+// replay of a recording uses too (`probe_replay`): its requests begin as those for a block. Every public function
+// takes any input.
 use desk::Desk;
 use hrtf::Processed;
 use hrtf_checks::Shape;
@@ -12,11 +14,10 @@ use probe_request::MOST_CELLS;
 use probe_request::MOST_SAMPLES;
 use probe_request::MOST_WEIGHTS;
 ghost use mathlib.Core.Path.{_≡_};
-ghost use Prim.Native.Nat.{_≤_};
 ghost use lib.ListN.{length};
 ghost use Rattle.hrtf.specs.Promise.{outcome};
 ghost use Rattle.probe_answer.specs.Answers.{draft};
-ghost use Rattle.probe_hrtf.specs.Requests.{deskAt, shapeAt, most, lengths, Few, callOf, stateOf};
+ghost use Rattle.probe_hrtf.specs.Requests.{deskAt, shapeAt, listed, lengths, readFrom, callOf, stateOf};
 ghost use Rattle.probe_hrtf.specs.Answers.{thenDesk, thenCounts, blockShown, blockBy, blockAnswer, resetBy, resetAnswer, sumBy, sumAnswer, answerOf};
 
 // Where the lists begin in a request for a block: behind five lengths, the desk, the four counts of the shape,
@@ -30,18 +31,17 @@ const CELLS: usize = 34;
 const RING: usize = 12;
 
 // The desk that stands from `at` on.
-fn desk(args: &[u8], at: usize) -> Desk
-    requires { ⌜ at ≤ 10 ⌝ }
+pub fn desk(args: &[u8], at: usize) -> Desk
     ensures { λ r. ⌜ r ≡ deskAt (now (args .entry)) at ⌝ }
 {
     Desk {
         position: probe_request::number(args, at, 8),
-        to_go: probe_request::number(args, at + 8, 8),
+        to_go: probe_request::number(args, probe_request::behind(args, at, 8, 1), 8),
     }
 }
 
 // The shape of a request for a block.
-fn shape(args: &[u8]) -> Shape
+pub fn shape(args: &[u8]) -> Shape
     ensures { λ r. ⌜ r ≡ shapeAt (now (args .entry)) ⌝ }
 {
     Shape {
@@ -52,7 +52,8 @@ fn shape(args: &[u8]) -> Shape
     }
 }
 
-fn put_desk(desk: Desk, out: &mut [u8], at: usize) -> usize
+// Puts a desk as the next part of an answer, which goes to `at`, and answers the place behind it.
+pub fn put_desk(desk: Desk, out: &mut [u8], at: usize) -> usize
     ensures { λ r. ⌜ draft r (now (out .exit)) ≡ thenDesk (draft at (now (out .entry))) desk ⌝ }
 {
     let after_position = probe_answer::put(desk.position as u64, 8, out, at);
@@ -80,7 +81,8 @@ fn play(
     out: &mut [u8],
 ) -> usize
     ensures { λ r. ⌜ draft r (now (out .exit)) ≡ blockShown
-        (outcome (callOf (now (args .entry)) (now (inputs .entry)) (now (weights .entry)) (now (taps .entry)) (now (ears .entry))) (stateOf (now (args .entry)) (now (rings .entry))))
+        (let lists = listed (now (inputs .entry)) (now (weights .entry)) (now (taps .entry)) (now (rings .entry)) (now (ears .entry)) in
+        outcome (callOf (now (args .entry)) lists) (stateOf (now (args .entry)) lists))
         (now (out .entry)) ⌝ }
 {
     let row_of = probe_request::eight(args, 74);
@@ -101,7 +103,33 @@ fn play(
     probe_answer::put_f32s(ears, out, after_rings)
 }
 
-// Reads the lists where the arguments have the length of them all, whatever they held.
+// Fills five lists with what stands in the arguments from `at` on, one behind the other, and answers the place behind them.
+pub fn get_lists(
+    args: &[u8],
+    at: usize,
+    inputs: &mut [f32],
+    weights: &mut [f64],
+    taps: &mut [f32],
+    rings: &mut [f32],
+    ears: &mut [f32],
+) -> usize
+    ensures { λ r. ⌜ record { lists = listed (now (inputs .exit)) (now (weights .exit)) (now (taps .exit)) (now (rings .exit)) (now (ears .exit)); end = r }
+        ≡ readFrom (now (args .entry)) at (listed (now (inputs .entry)) (now (weights .entry)) (now (taps .entry)) (now (rings .entry)) (now (ears .entry))) ⌝ }
+{
+    let at_weights = probe_request::behind(args, at, 4, inputs.len());
+    let at_taps = probe_request::behind(args, at_weights, 8, weights.len());
+    let at_rings = probe_request::behind(args, at_taps, 4, taps.len());
+    let at_ears = probe_request::behind(args, at_rings, 4, rings.len());
+    let end = probe_request::behind(args, at_ears, 4, ears.len());
+    probe_request::get_f32s(args, at, inputs);
+    probe_request::get_f64s(args, at_weights, weights);
+    probe_request::get_f32s(args, at_taps, taps);
+    probe_request::get_f32s(args, at_rings, rings);
+    probe_request::get_f32s(args, at_ears, ears);
+    end
+}
+
+// Plays the block where the arguments have the length of all lists, whatever they held.
 fn process_lent(
     args: &[u8],
     inputs: &mut [f32],
@@ -111,21 +139,12 @@ fn process_lent(
     ears: &mut [f32],
     out: &mut [u8],
 ) -> usize
-    requires { ⌜ Few (lengths (now inputs) (now weights) (now taps) (now rings) (now ears)) ⌝ }
-    ensures { λ r. ⌜ draft r (now (out .exit)) ≡ blockBy (lengths (now (inputs .entry)) (now (weights .entry)) (now (taps .entry)) (now (rings .entry)) (now (ears .entry))) (now (args .entry)) (now (out .entry)) ⌝ }
+    ensures { λ r. ⌜ draft r (now (out .exit)) ≡ blockBy (lengths (listed (now (inputs .entry)) (now (weights .entry)) (now (taps .entry)) (now (rings .entry)) (now (ears .entry)))) (now (args .entry)) (now (out .entry)) ⌝ }
 {
-    let at_weights = LISTS + 4 * inputs.len();
-    let at_taps = at_weights + 8 * weights.len();
-    let at_rings = at_taps + 4 * taps.len();
-    let at_ears = at_rings + 4 * rings.len();
-    if args.len() != at_ears + 4 * ears.len() {
+    let end = get_lists(args, LISTS, inputs, weights, taps, rings, ears);
+    if args.len() != end {
         return 0;
     }
-    probe_request::get_f32s(args, LISTS, inputs);
-    probe_request::get_f64s(args, at_weights, weights);
-    probe_request::get_f32s(args, at_taps, taps);
-    probe_request::get_f32s(args, at_rings, rings);
-    probe_request::get_f32s(args, at_ears, ears);
     play(args, inputs, weights, taps, rings, ears, out)
 }
 
@@ -156,10 +175,9 @@ fn process(args: &[u8], out: &mut [u8]) -> usize
 
 // Reads the cells where the arguments have their length, whatever they held.
 fn reset_lent(args: &[u8], rings: &mut [f32], out: &mut [u8]) -> usize
-    requires { ⌜ length (now rings) ≤ most .rings ⌝ }
     ensures { λ r. ⌜ draft r (now (out .exit)) ≡ resetBy (length (now (rings .entry))) (now (args .entry)) (now (out .entry)) ⌝ }
 {
-    if args.len() != CELLS + 4 * rings.len() {
+    if args.len() != probe_request::behind(args, CELLS, 4, rings.len()) {
         return 0;
     }
     probe_request::get_f32s(args, CELLS, rings);
@@ -186,12 +204,10 @@ fn reset(args: &[u8], out: &mut [u8]) -> usize
 
 // Reads the cells and the taps where the arguments have the length of both, whatever they held.
 fn convolve_lent(args: &[u8], ring: &mut [f32], taps: &mut [f32], out: &mut [u8]) -> usize
-    requires { ⌜ length (now ring) ≤ most .rings ⌝ }
-    requires { ⌜ length (now taps) ≤ most .taps ⌝ }
     ensures { λ r. ⌜ draft r (now (out .exit)) ≡ sumBy (length (now (ring .entry))) (length (now (taps .entry))) (now (args .entry)) (now (out .entry)) ⌝ }
 {
-    let at_taps = RING + 4 * ring.len();
-    if args.len() != at_taps + 4 * taps.len() {
+    let at_taps = probe_request::behind(args, RING, 4, ring.len());
+    if args.len() != probe_request::behind(args, at_taps, 4, taps.len()) {
         return 0;
     }
     probe_request::get_f32s(args, RING, ring);

@@ -1,8 +1,8 @@
--- What the promises rule out: a number or an entry from elsewhere or of another width, more lent than there is, another layout, and a list that is filled though it does not lie inside. Assumes nothing.
+-- What the promises rule out: a number or an entry from elsewhere or of another width, more lent than there is, a place behind another part, another layout, and a list that is filled though it does not lie inside. Assumes nothing.
 use mathlib.Core.Path.{_≡_, sym, ap, _∙_}
 use mathlib.Core.List.{List, [], _∷_}
 use mathlib.Core.Logic.{⊎-elim}
-use Prim.Native.Nat.{ℕ, _+_, _*_, _≤_, _<_}
+use Prim.Native.Nat.{ℕ, _+_, _-_, _*_, _^_, _≤_, _<_}
 use native.Mathlib.Nat.{zero-add}
 use native.Mathlib.Omega.{arith}
 use borrow.Author.Tests.{lt-leb, ne-eqb}
@@ -20,8 +20,8 @@ use Rattle.big_endian.specs.Lists.{strided}
 use Rattle.big_endian.proofs.Fields.{lies-out, lies-long, field-out, field-lies}
 use Rattle.channel.specs.declared.Layout.{Layout}
 use Rattle.channel.specs.declared.Layout.the-variants.{Surround71, Custom}
-use Rattle.probe_request.specs.Requests.{layoutOf, eightAt, lentBy, listAt}
-use Rattle.probe_request.proofs.Requests.{inside}
+use Rattle.probe_request.specs.Requests.{layoutOf, eightAt, lentBy, placeIn, wordAt, listAt}
+use Rattle.probe_request.proofs.Requests.{inside, place-there, place-beyond}
 
 -- ---- numbers
 
@@ -57,6 +57,17 @@ module _ (args : List ℕ) (at most r : ℕ) where
   two-bytes-always room some short is two =
       let none : 0 < fieldAt args at 2 → ⊥ = cut-number args at 2 (fieldAt args at 2) (λ i. fieldAt args at 2) short in
       none (omega arith)
+
+-- ---- places
+
+module _ (args : List ℕ) (at width count r : ℕ) (is : r ≡ placeIn (length args) (at + width * count)) where
+  -- a list that lies inside ends where it begins
+  behind-nothing : at + width * count ≤ length args → 0 < width * count → r ≡ at → ⊥
+  behind-nothing whole some e = omega (arith, is, place-there (length args) (at + width * count) whole)
+
+  -- one that does not is followed by what stands behind a part of it
+  behind-a-part : length args < at + width * count → length args < 2 ^ 64 - 1 → r ≤ length args → ⊥
+  behind-a-part out short h = omega (arith, is, place-beyond (length args) (at + width * count) out)
 
 -- ---- layouts
 
@@ -127,3 +138,11 @@ one-two-three = 63 ∷ 128 ∷ 0 ∷ 0 ∷ 64 ∷ 0 ∷ 0 ∷ 0 ∷ 64 ∷ 64 �
 samples-eight-apart : (list r : List Float) → length list ≡ 2 → r ≡ listAt floatAt 4 one-two-three 0 list → r ≡ strided (floatAt one-two-three) 8 0 (length list) → ⊥
 unfolding floatAt fieldAt valueOf ofBits
 samples-eight-apart list r two is e = apart floatAt 4 one-two-three 0 list r is (omega arith) 8 (omega arith) (λ p. let z : _≡_ {A = ℕ} 3 2 = ap num p in omega (arith, z)) e
+
+abbrev stamps-one-two-three : List ℕ
+stamps-one-two-three = 0 ∷ 0 ∷ 0 ∷ 1 ∷ 0 ∷ 0 ∷ 0 ∷ 2 ∷ 0 ∷ 0 ∷ 0 ∷ 3 ∷ []
+
+-- the stamps 1 and 2, before a 3, are read eight bytes apart
+stamps-eight-apart : (list r : List ℕ) → length list ≡ 2 → r ≡ listAt wordAt 4 stamps-one-two-three 0 list → r ≡ strided (wordAt stamps-one-two-three) 8 0 (length list) → ⊥
+unfolding fieldAt valueOf
+stamps-eight-apart list r two is e = apart wordAt 4 stamps-one-two-three 0 list r is (omega arith) 8 (omega arith) (λ p. omega (arith, p)) e

@@ -1,5 +1,5 @@
 -- What the fields of a request stand for (docs/PROBE.md, 'Operations'). Definitions only.
-use Prim.Native.Nat.{ℕ, _+_, _*_, min}
+use Prim.Native.Nat.{ℕ, _+_, _-_, _*_, _^_, min}
 use mathlib.Core.Bool.{cond}
 use mathlib.Core.List.{List}
 use lib.Dec.{eqb, leb}
@@ -25,7 +25,7 @@ eightAt args at = strided (λ (p : ℕ). fieldAt args p 8) 8 at 8
 abbrev pub lentBy : List ℕ → ℕ → ℕ → ℕ → ℕ
 lentBy args at count most = min (fieldAt args at count) most
 
--- "azimuths lent (1)", and "weights", "taps", "samples" or "ring cells lent (2)": "up to 16 azimuths, 8,200 taps or samples, [..] 300 weights and 4,100 ring cells"
+-- "azimuths lent (1)", and "weights", "taps", "samples", "stamps" or "ring cells lent (2)": "up to 16 azimuths, 8,200 taps, samples or stamps, [..] 300 weights and 4,100 ring cells"
 abbrev pub azimuthsLent : List ℕ → ℕ → ℕ
 azimuthsLent args at = lentBy args at 1 16
 
@@ -37,6 +37,14 @@ weightsLent args at = lentBy args at 2 300
 
 abbrev pub cellsLent : List ℕ → ℕ → ℕ
 cellsLent args at = lentBy args at 2 4100
+
+-- a place in arguments of so many bytes, or at their end; any other counts as the last of all, from which on nothing is read
+abbrev pub placeIn : ℕ → ℕ → ℕ
+placeIn size at = cond (leb at size) at (2 ^ 64 - 1)
+
+-- a stamp: a number in four bytes
+abbrev pub wordAt : List ℕ → ℕ → ℕ
+wordAt args at = fieldAt args at 4
 
 -- "every other list holds what the request gives": as many numbers as it has places, w bytes each, from `at` on. A list that does not lie inside the arguments is left as it was.
 unfoldable pub listAt : {A : Type 0} → (List ℕ → ℕ → A) → ℕ → List ℕ → ℕ → List A → List A

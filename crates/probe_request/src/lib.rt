@@ -6,15 +6,17 @@
 // left as it was. Every function takes any input.
 use channel::Layout;
 ghost use mathlib.Core.Path.{_≡_};
+ghost use Prim.Native.Nat.{_+_, _*_};
+ghost use lib.ListN.{length};
 ghost use Rattle.big_endian.specs.Fields.{fieldAt, signedAt, floatAt, doubleAt};
-ghost use Rattle.probe_request.specs.Requests.{layoutOf, eightAt, lentBy, listAt};
+ghost use Rattle.probe_request.specs.Requests.{layoutOf, eightAt, lentBy, placeIn, wordAt, listAt};
 
 // More than any call takes, so that a list which is too long can be lent.
 pub const MOST_AZIMUTHS: usize = 16;
 
 pub const MOST_WEIGHTS: usize = 300;
 
-// For samples and for taps.
+// For samples, for taps and for stamps.
 pub const MOST_SAMPLES: usize = 8200;
 
 pub const MOST_CELLS: usize = 4100;
@@ -65,7 +67,18 @@ pub fn eight(args: &[u8], at: usize) -> [usize; 8]
     ]
 }
 
-// Each of these three fills a list with what stands in the arguments from `at` on.
+// The place behind `count` fields of `width` bytes from `at` on, and one from which on nothing is read where they do not
+// lie inside the arguments: so lists that stand one behind the other are found, whatever their lengths.
+pub fn behind(args: &[u8], at: usize, width: usize, count: usize) -> usize
+    ensures { λ r. ⌜ r ≡ placeIn (length (now (args .entry))) (at + width * count) ⌝ }
+{
+    if !big_endian::has_room(args.len(), at, width, count) {
+        return usize::MAX;
+    }
+    at + width * count
+}
+
+// Each of these four fills a list with what stands in the arguments from `at` on.
 pub fn get_i16s(args: &[u8], at: usize, list: &mut [i16])
     ensures { λ _. ⌜ now (list .exit) ≡ listAt signedAt 2 (now (args .entry)) at (now (list .entry)) ⌝ }
 {
@@ -101,6 +114,19 @@ pub fn get_f64s(args: &[u8], at: usize, list: &mut [f64])
     let mut i = 0;
     while i < list.len() {
         list[i] = big_endian::get_f64(args, at + i * 8);
+        i += 1;
+    }
+}
+
+pub fn get_u32s(args: &[u8], at: usize, list: &mut [u32])
+    ensures { λ _. ⌜ now (list .exit) ≡ listAt wordAt 4 (now (args .entry)) at (now (list .entry)) ⌝ }
+{
+    if !big_endian::has_room(args.len(), at, 4, list.len()) {
+        return;
+    }
+    let mut i = 0;
+    while i < list.len() {
+        list[i] = big_endian::get(args, at + i * 4, 4) as u32;
         i += 1;
     }
 }

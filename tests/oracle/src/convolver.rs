@@ -26,37 +26,42 @@ const OTHER_WAYS: [Way; 7] =
 
 /// A call of `process`, with everything that it is lent.
 #[derive(Clone)]
-struct Call {
-    position: u64,
-    to_go: u64,
-    channels: u64,
-    speakers: u64,
-    rows: u64,
-    length: u64,
-    frames: u64,
-    stride: u64,
-    row_of: [u64; 8],
-    inputs: Vec<f32>,
-    weights: Vec<f64>,
-    taps: Vec<f32>,
-    rings: Vec<f32>,
-    ears: Vec<f32>,
+pub struct Call {
+    pub position: u64,
+    pub to_go: u64,
+    pub channels: u64,
+    pub speakers: u64,
+    pub rows: u64,
+    pub length: u64,
+    pub frames: u64,
+    pub stride: u64,
+    pub row_of: [u64; 8],
+    pub inputs: Vec<f32>,
+    pub weights: Vec<f64>,
+    pub taps: Vec<f32>,
+    pub rings: Vec<f32>,
+    pub ears: Vec<f32>,
 }
 
 /// What a call leaves and answers.
-struct Outcome {
-    refusal: u8,
-    samples: u64,
-    unsettled: u64,
-    position: u64,
-    to_go: u64,
-    rings: Vec<f32>,
-    ears: Vec<f32>,
+pub struct Outcome {
+    pub refusal: u8,
+    pub samples: u64,
+    pub unsettled: u64,
+    pub position: u64,
+    pub to_go: u64,
+    pub rings: Vec<f32>,
+    pub ears: Vec<f32>,
+}
+
+/// Whether a list has a x b entries. The product may be larger than any length.
+pub fn is_product(list: usize, a: u64, b: u64) -> bool {
+    u128::from(a) * u128::from(b) == list as u128
 }
 
 impl Call {
     /// A call whose lengths fit, from rings at rest, with made samples, weights and taps.
-    fn fitting(random: &mut Random, channels: usize, speakers: usize, rows: usize, length: usize, frames: usize, stride: usize) -> Self {
+    pub fn fitting(random: &mut Random, channels: usize, speakers: usize, rows: usize, length: usize, frames: usize, stride: usize) -> Self {
         Call {
             position: 0,
             to_go: 0,
@@ -75,25 +80,49 @@ impl Call {
         }
     }
 
+    /// 2: a count that is not one, or a speaker without a row.
+    pub fn is_misshapen(&self) -> bool {
+        let counts = (1..=16).contains(&self.channels) && (1..=8).contains(&self.speakers) && (1..=8).contains(&self.rows);
+        !counts || self.row_of[..self.speakers as usize].iter().any(|row| *row >= self.rows)
+    }
+
+    /// 4.
+    pub fn is_length_wrong(&self) -> bool {
+        !(1..=512).contains(&self.length)
+    }
+
+    /// 5, of the lists that are no planes.
+    pub fn is_list_unfit(&self) -> bool {
+        !is_product(self.rings.len(), self.speakers, self.length)
+            || !is_product(self.weights.len(), self.speakers, self.channels)
+            || !is_product(self.taps.len(), 2 * self.rows, self.length)
+    }
+
+    /// 7.
+    pub fn has_nonfinite(&self) -> bool {
+        self.weights.iter().any(|w| !w.is_finite()) || self.taps.iter().any(|t| !t.is_finite())
+    }
+
+    /// 8.
+    pub fn is_desk_wrong(&self) -> bool {
+        self.position >= self.length || self.to_go >= self.length
+    }
+
     /// Refusals 2, 4, 5, 7, 8, in this order.
     fn refusal(&self) -> u8 {
-        let is = |list: usize, a: u64, b: u64| u128::from(a) * u128::from(b) == list as u128;
-        let counts = (1..=16).contains(&self.channels) && (1..=8).contains(&self.speakers) && (1..=8).contains(&self.rows);
-        if !counts || self.row_of[..self.speakers as usize].iter().any(|row| *row >= self.rows) {
+        if self.is_misshapen() {
             2
-        } else if !(1..=512).contains(&self.length) {
+        } else if self.is_length_wrong() {
             4
         } else if self.stride < self.frames
-            || !is(self.inputs.len(), self.channels, self.stride)
-            || !is(self.ears.len(), 2, self.stride)
-            || !is(self.rings.len(), self.speakers, self.length)
-            || !is(self.weights.len(), self.speakers, self.channels)
-            || !is(self.taps.len(), 2 * self.rows, self.length)
+            || !is_product(self.inputs.len(), self.channels, self.stride)
+            || !is_product(self.ears.len(), 2, self.stride)
+            || self.is_list_unfit()
         {
             5
-        } else if self.weights.iter().any(|w| !w.is_finite()) || self.taps.iter().any(|t| !t.is_finite()) {
+        } else if self.has_nonfinite() {
             7
-        } else if self.position >= self.length || self.to_go >= self.length {
+        } else if self.is_desk_wrong() {
             8
         } else {
             0
@@ -104,6 +133,17 @@ impl Call {
         let length = self.length as usize;
         let at = (2 * self.row_of[speaker] as usize + ear) * length;
         &self.taps[at..at + length]
+    }
+
+    /// The speakers of an accepted call, as the Rust takes them.
+    pub fn speakers(&self) -> Vec<Speaker> {
+        let channels = self.channels as usize;
+        let speaker = |s: usize| Speaker {
+            weights: self.weights[s * channels..(s + 1) * channels].to_vec(),
+            left: self.taps_of(s, 0).to_vec(),
+            right: self.taps_of(s, 1).to_vec(),
+        };
+        (0..self.speakers as usize).map(speaker).collect()
     }
 
     /// Document 01, 'Sums', or the same with one sum formed in another way.
@@ -169,19 +209,34 @@ impl Call {
         }
     }
 
+    /// An accepted call, as document 01 says.
+    pub fn heard(&self) -> Outcome {
+        self.played(Way::Right)
+    }
+
     fn case(&self) -> Case {
         self.judged_by(&self.outcome())
     }
 
-    fn judged_by(&self, right: &Outcome) -> Case {
+    /// What stands before the lists in a request: their lengths, the desk, the counts, and the speakers' rows.
+    pub fn head(&self) -> Vec<u8> {
         let lengths = [self.inputs.len(), self.weights.len(), self.taps.len(), self.rings.len(), self.ears.len()];
-        let mut arguments: Vec<u8> = lengths.iter().flat_map(|n| (*n as u16).to_be_bytes()).collect();
+        let mut bytes: Vec<u8> = lengths.iter().flat_map(|n| (*n as u16).to_be_bytes()).collect();
         let numbers = [self.position, self.to_go, self.channels, self.speakers, self.rows, self.length, self.frames, self.stride];
-        arguments.extend(numbers.iter().chain(&self.row_of).flat_map(|n| n.to_be_bytes()));
+        bytes.extend(numbers.iter().chain(&self.row_of).flat_map(|n| n.to_be_bytes()));
+        bytes
+    }
+
+    pub fn lists(&self) -> Vec<u8> {
         let bits = |list: &[f32]| -> Vec<u8> { list.iter().flat_map(|x| x.to_bits().to_be_bytes()).collect() };
-        arguments.extend(bits(&self.inputs));
-        arguments.extend(self.weights.iter().flat_map(|w| w.to_bits().to_be_bytes()));
-        arguments.extend([&self.taps, &self.rings, &self.ears].iter().flat_map(|list| bits(list)));
+        let mut bytes = bits(&self.inputs);
+        bytes.extend(self.weights.iter().flat_map(|w| w.to_bits().to_be_bytes()));
+        bytes.extend([&self.taps, &self.rings, &self.ears].iter().flat_map(|list| bits(list)));
+        bytes
+    }
+
+    fn judged_by(&self, right: &Outcome) -> Case {
+        let arguments = [self.head(), self.lists()].concat();
         let mut answer = vec![right.refusal];
         answer.extend([right.samples, right.unsettled, right.position, right.to_go].iter().flat_map(|n| n.to_be_bytes()));
         answer.extend(right.rings.iter().chain(&right.ears).flat_map(|x| f32_bytes(*x)));
@@ -193,19 +248,12 @@ impl Call {
     /// document 01 has them, and handed on from call to call.
     fn session(&self, random: &mut Random, blocks: usize) -> Vec<Case> {
         let channels = self.channels as usize;
-        let speakers: Vec<Speaker> = (0..self.speakers as usize)
-            .map(|s| Speaker {
-                weights: self.weights[s * channels..(s + 1) * channels].to_vec(),
-                left: self.taps_of(s, 0).to_vec(),
-                right: self.taps_of(s, 1).to_vec(),
-            })
-            .collect();
         let mut calls = vec![self.clone()];
         calls.extend((1..blocks).map(|_| self.next_block(random)));
         let played = |call: &Call, c: usize| call.inputs[c * call.stride as usize..][..call.frames as usize].to_vec();
         let line: Vec<Vec<f32>> = (0..channels).map(|c| calls.iter().flat_map(|call| played(call, c)).collect()).collect();
         let total = line[0].len();
-        let heard = rust::Convolver::new(&speakers).process(&line, [vec![0.0; total], vec![0.0; total]]);
+        let heard = rust::Convolver::new(&self.speakers()).process(&line, [vec![0.0; total], vec![0.0; total]]);
         let (mut all, mut at) = (Vec::new(), 0);
         let mut state = (self.position, self.to_go, self.rings.clone());
         for mut call in calls {
@@ -255,7 +303,7 @@ impl Call {
 }
 
 /// A sample of any pattern now and then, else of a size where sums round.
-fn sample(random: &mut Random) -> f32 {
+pub fn sample(random: &mut Random) -> f32 {
     match random.below(40) {
         0 => f32::from_bits(random.bits() as u32),
         1 => f32::from_bits(random.bits() as u32 & 0x8000_0000),
@@ -582,14 +630,7 @@ mod tests {
                 Some(way) => telling(&mut random, *way),
                 None => Call::fitting(&mut random, channels as usize, speakers as usize, 3, length as usize, 4, 5),
             };
-            let speakers: Vec<Speaker> = (0..call.speakers as usize)
-                .map(|s| Speaker {
-                    weights: call.weights[s * call.channels as usize..(s + 1) * call.channels as usize].to_vec(),
-                    left: call.taps_of(s, 0).to_vec(),
-                    right: call.taps_of(s, 1).to_vec(),
-                })
-                .collect();
-            let mut convolver = rust::Convolver::new(&speakers);
+            let mut convolver = rust::Convolver::new(&call.speakers());
             let (frames, stride) = (call.frames as usize, call.stride as usize);
             let inputs: Vec<Vec<f32>> = call.inputs.chunks(stride).map(|p| p[..frames].to_vec()).collect();
             let ears = convolver.process(&inputs, [vec![0.0; frames], vec![0.0; frames]]);

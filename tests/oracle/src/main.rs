@@ -19,6 +19,8 @@ mod malformed;
 mod numbers;
 mod panner;
 mod random;
+mod recording;
+mod replay;
 mod rings;
 mod rows;
 mod rust;
@@ -61,6 +63,7 @@ const KINDS: &[Kind] = &[
     Kind { name: "new surround", make: setup::surround },
     Kind { name: "new ambisonic", make: setup::ambisonic },
     Kind { name: "script", make: drills::cases },
+    Kind { name: "replay", make: replay::cases },
     Kind { name: "convolve", make: rings::cases },
     Kind { name: "malformed", make: malformed::inside },
 ];

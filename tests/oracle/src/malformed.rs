@@ -2,6 +2,7 @@
 use crate::drills;
 use crate::frame::{Case, Sink, exactly, request, send};
 use crate::random::Random;
+use crate::recording::REPLAY;
 use crate::rings::CONVOLVE;
 use crate::script::SCRIPT;
 
@@ -27,6 +28,7 @@ const LISTED: &[(u8, &[&[u8]])] = &[
     (19, &[&[], &[0; 83], &[0; 85]]),
     (20, &[&[], &[0; 82], &[0; 84]]),
     (SCRIPT, &[&[], &[0; 45], &[0; 47]]),
+    (REPLAY, &[&[], &[0; 138], &[0; 152], &[0; 154]]),
     (CONVOLVE, &[&[], &[0; 11], &[0; 13]]),
 ];
 

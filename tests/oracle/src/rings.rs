@@ -123,7 +123,7 @@ fn at_every_split(random: &mut Random) -> Vec<Part> {
 }
 
 /// Every kind of float: NaNs, infinities, the largest, subnormals, zeros.
-const EVERY_KIND: [u32; 12] = [
+pub const EVERY_KIND: [u32; 12] = [
     0x7fc0_0000, 0xff80_0001, 0x7f80_0000, 0xff80_0000, 0x7f7f_ffff, 0xff7f_ffff, 0x0000_0001, 0x807f_ffff, 0x0000_0000, 0x8000_0000, 0x3f80_0000, 0xbf80_0000,
 ];
 

@@ -188,6 +188,11 @@ impl Convolver {
         Convolver { convolver: HrtfConvolver::with_speakers(&given), filters }
     }
 
+    /// Leaves every signal at 0.0.
+    pub fn reset(&mut self) {
+        self.convolver.reset();
+    }
+
     /// Plays planes into ears that hold `before`, left and right.
     pub fn process(&mut self, inputs: &[Vec<f32>], before: [Vec<f32>; 2]) -> [Vec<f32>; 2] {
         self.process_channels(inputs.len(), inputs, before)

@@ -1,7 +1,7 @@
 -- `probe::put_answer` meets its contract: by the operation. Assumes nothing.
 use mathlib.Core.Path.{_∙_}
 use native.Mathlib.Omega.{arith}
-use Rattle.probe.proofs.Answers.{of-numbers, of-bank, of-gains, of-matrix, of-planes, of-hrtf, of-setup, of-script, of-sum, of-none}
+use Rattle.probe.proofs.Answers.{of-numbers, of-bank, of-gains, of-matrix, of-planes, of-hrtf, of-setup, of-script, of-replay, of-sum, of-none}
 use borrow.Author.Needs.{needs}
 use Rattle.probe.proofs.put_answer.Statement.{statement}
 use Rattle.probe.proofs.put_answer.Tie as tie
@@ -16,35 +16,38 @@ returns-3 : tie.Need-returns-3
 returns-3 c = c .before .before .answer3 .ensures ∙ of-script _ _ _ (c .before .before .before .before .match .keys3)
 
 returns-4 : tie.Need-returns-4
-returns-4 c = c .before .before .answer4 .ensures ∙ of-sum _ _ _ (c .before .before .before .before .match .keys4)
+returns-4 c = c .before .before .answer4 .ensures ∙ of-replay _ _ _ (c .before .before .before .before .match .keys4)
 
 returns-5 : tie.Need-returns-5
-returns-5 c = c .before .before .answer5 .ensures ∙ of-numbers _ _ _ (omega arith) (omega arith)
+returns-5 c = c .before .before .answer5 .ensures ∙ of-sum _ _ _ (c .before .before .before .before .match .keys5)
 
 returns-6 : tie.Need-returns-6
-returns-6 c = c .before .before .answer6 .ensures ∙ of-bank _ _ _ (omega arith) (omega arith)
+returns-6 c = c .before .before .answer6 .ensures ∙ of-numbers _ _ _ (omega arith) (omega arith)
 
 returns-7 : tie.Need-returns-7
-returns-7 c = c .before .before .answer7 .ensures ∙ of-gains _ _ _ (omega arith) (omega arith)
+returns-7 c = c .before .before .answer7 .ensures ∙ of-bank _ _ _ (omega arith) (omega arith)
 
 returns-8 : tie.Need-returns-8
-returns-8 c =
-    let after-answer = c .before .before in
-    let others = after-answer .before .before .before .before .before .before .before .match .rest .0 .0 in
-    after-answer .answer8 .ensures ∙ of-hrtf _ _ _ (others .0 .1) (others .1) (omega arith) (omega arith)
+returns-8 c = c .before .before .answer8 .ensures ∙ of-gains _ _ _ (omega arith) (omega arith)
 
 returns-9 : tie.Need-returns-9
-returns-9 c = c .before .before .answer9 .ensures ∙ of-setup _ _ _ (omega arith) (omega arith)
+returns-9 c =
+    let after-answer = c .before .before in
+    let others = after-answer .before .before .before .before .before .before .before .match .rest .0 .0 .0 in
+    after-answer .answer9 .ensures ∙ of-hrtf _ _ _ (others .0 .1) (others .1) (omega arith) (omega arith)
 
 returns-10 : tie.Need-returns-10
-returns-10 c = of-none _ _ _ (λ h. omega arith) (λ e. omega arith)
+returns-10 c = c .before .before .answer10 .ensures ∙ of-setup _ _ _ (omega arith) (omega arith)
 
 returns-11 : tie.Need-returns-11
 returns-11 c = of-none _ _ _ (λ h. omega arith) (λ e. omega arith)
 
+returns-12 : tie.Need-returns-12
+returns-12 c = of-none _ _ _ (λ h. omega arith) (λ e. omega arith)
+
 pub put-answer-spec : {M : Type 1} → statement M
 put-answer-spec =
     tie.close
-    (tie.spec (λ c κs. tt) (λ c κs. tt) (λ c κs. tt) (λ c κs. tt) (λ c κs. tt) (λ c κs. tt) (λ c κs. tt) (λ c κs. tt) (λ c κs. tt) (λ c. search needs) returns (λ c. search needs) returns-2
-    (λ c. search needs) returns-3 (λ c. search needs) returns-4 (λ c. search needs) returns-5 (λ c. search needs) returns-6 (λ c. search needs) returns-7 (λ c. search needs) returns-8
-    (λ c. search needs) returns-9 returns-10 returns-11)
+    (tie.spec (λ c κs. tt) (λ c κs. tt) (λ c κs. tt) (λ c κs. tt) (λ c κs. tt) (λ c κs. tt) (λ c κs. tt) (λ c κs. tt) (λ c κs. tt) (λ c κs. tt) (λ c. search needs) returns (λ c. search needs)
+    returns-2 (λ c. search needs) returns-3 (λ c. search needs) returns-4 (λ c. search needs) returns-5 (λ c. search needs) returns-6 (λ c. search needs) returns-7 (λ c. search needs) returns-8
+    (λ c. search needs) returns-9 (λ c. search needs) returns-10 returns-11 returns-12)

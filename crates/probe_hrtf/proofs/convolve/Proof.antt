@@ -1,7 +1,6 @@
 -- `probe_hrtf::convolve` meets its contract: as many cells and taps are lent as the arguments say. Assumes nothing.
 use denote.Ref.{now}
-use lib.Ieee.{binary32, ofBits}
-use Rattle.probe_request.proofs.Requests.{lent-places, lent-length, new-few}
+use Rattle.probe_request.proofs.Requests.{lent-places, lent-length}
 use Rattle.probe_hrtf.proofs.Sums.{both-lent}
 use borrow.Author.Needs.{needs}
 use Rattle.probe_hrtf.proofs.convolve.Statement.{statement}
@@ -13,11 +12,6 @@ slice-aggregate-convolve-lent c = lent-places _ _ _ (c .before .before .lent .en
 slice-aggregate-convolve-lent-2 : tie.Need-slice-aggregate-convolve-lent-2
 slice-aggregate-convolve-lent-2 c = lent-places _ _ _ (c .before .before .lent2 .ensures)
 
-convolve-lent-requires : tie.Need-convolve-lent-requires
-convolve-lent-requires c κs =
-    let asked = c .before .before .before in
-    (new-few (ofBits binary32 0) (asked .before .lent .result) 4100, new-few (ofBits binary32 0) (asked .lent2 .result) 8200)
-
 returns : tie.Need-returns
 returns c =
     let after-convolve-lent = c .before .before .before .before in
@@ -28,5 +22,5 @@ returns c =
 pub convolve-spec : {M : Type 1} → statement M
 convolve-spec =
     tie.close
-    (tie.spec (λ c κs. tt) (λ c κs. tt) (λ c. search needs) slice-aggregate-convolve-lent (λ c. search needs) slice-aggregate-convolve-lent-2 convolve-lent-requires (λ c. search needs)
+    (tie.spec (λ c κs. tt) (λ c κs. tt) (λ c. search needs) slice-aggregate-convolve-lent (λ c. search needs) slice-aggregate-convolve-lent-2 (λ c κs. tt) (λ c. search needs)
     returns)

@@ -1,5 +1,6 @@
 -- `probe_hrtf::play` meets its contract: what is handed to the convolver stands in the arguments, and its outcome is put part by part. Assumes nothing.
 use denote.Ref.{now}
+use Rattle.probe_hrtf.specs.Requests.{listed}
 use Rattle.probe_hrtf.proofs.Blocks.{played}
 use borrow.Author.Needs.{needs}
 use Rattle.probe_hrtf.proofs.play.Statement.{statement}
@@ -16,7 +17,8 @@ returns c =
     let after-desk = after-shape .before in
     let after-eight = after-desk .before in
     let a = after-eight .before .before .before .before .before .before .before .before .args in
-    played (now (a .args)) (now (a .out)) (now (a .inputs)) (now (a .weights)) (now (a .taps)) (now (a .rings)) (now (a .ears)) _ _ _ _ _ (after-shape .shape .ensures) (after-desk .desk .ensures) (after-number .number .ensures) (after-number2 .number2 .ensures) (after-eight .eight .ensures)
+    played (now (a .args)) (now (a .out)) (listed (now (a .inputs)) (now (a .weights)) (now (a .taps)) (now (a .rings)) (now (a .ears)))
+    _ _ _ _ _ (after-shape .shape .ensures) (after-desk .desk .ensures) (after-number .number .ensures) (after-number2 .number2 .ensures) (after-eight .eight .ensures)
     _ _ _ (after-process .process .ensures .answer) _ _ _ (after-put-counts .put-counts .ensures) (after-put-f32s .put-f32s .ensures) (c .before .before .put-f32s2 .ensures)
 
 pub play-spec : {M : Type 1} → statement M

@@ -1,7 +1,6 @@
 -- `probe_hrtf::reset` meets its contract: as many cells are lent as the arguments say. Assumes nothing.
 use denote.Ref.{now}
-use lib.Ieee.{binary32, ofBits}
-use Rattle.probe_request.proofs.Requests.{lent-places, lent-length, new-few}
+use Rattle.probe_request.proofs.Requests.{lent-places, lent-length}
 use Rattle.probe_hrtf.proofs.Resets.{cells-lent}
 use borrow.Author.Needs.{needs}
 use Rattle.probe_hrtf.proofs.reset.Statement.{statement}
@@ -9,9 +8,6 @@ use Rattle.probe_hrtf.proofs.reset.Tie as tie
 
 slice-aggregate-reset-lent : tie.Need-slice-aggregate-reset-lent
 slice-aggregate-reset-lent c = lent-places _ _ _ (c .before .lent .ensures)
-
-reset-lent-requires : tie.Need-reset-lent-requires
-reset-lent-requires c κs = new-few (ofBits binary32 0) (c .before .before .lent .result) 4100
 
 returns : tie.Need-returns
 returns c =
@@ -21,4 +17,4 @@ returns c =
 
 pub reset-spec : {M : Type 1} → statement M
 reset-spec =
-    tie.close (tie.spec (λ c κs. tt) (λ c. search needs) slice-aggregate-reset-lent reset-lent-requires (λ c. search needs) returns)
+    tie.close (tie.spec (λ c κs. tt) (λ c. search needs) slice-aggregate-reset-lent (λ c κs. tt) (λ c. search needs) returns)
