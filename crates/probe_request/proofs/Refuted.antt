@@ -146,3 +146,8 @@ stamps-one-two-three = 0 ∷ 0 ∷ 0 ∷ 1 ∷ 0 ∷ 0 ∷ 0 ∷ 2 ∷ 0 ∷ 0 �
 stamps-eight-apart : (list r : List ℕ) → length list ≡ 2 → r ≡ listAt wordAt 4 stamps-one-two-three 0 list → r ≡ strided (wordAt stamps-one-two-three) 8 0 (length list) → ⊥
 unfolding fieldAt valueOf
 stamps-eight-apart list r two is e = apart wordAt 4 stamps-one-two-three 0 list r is (omega arith) 8 (omega arith) (λ p. omega (arith, p)) e
+
+-- the stamp 1 is read with its smaller part first
+stamp-the-other-way : (list r : List ℕ) → length list ≡ 2 → r ≡ listAt wordAt 4 stamps-one-two-three 0 list → getD r 0 0 ≡ 16777216 → ⊥
+unfolding fieldAt valueOf
+stamp-the-other-way list r two is e = another-entry wordAt 4 stamps-one-two-three 0 list r is (omega arith) 0 0 (omega arith) (λ p. omega (arith, p, e))
