@@ -22,7 +22,7 @@ use Rattle.replay.specs.declared.play.Turned.{Turned}
 use Rattle.replay.specs.Lines.{Line, setupIn, stampsIn, recordedAt, recordingIn, eventsIn}
 use Rattle.replay.specs.Heard.{heardBy, unsettledBy, afterBy, afterEvents}
 use Rattle.replay.specs.Promise.{refusalIn, Outcome, refused, accepted, outcome, stateAfter, Replays}
-use Rattle.replay.specs.Computed.{stateOf, planIn, leftBy, playedBy, countedBy}
+use Rattle.replay.specs.Computed.{stateWith, planIn, leftBy, playedBy, countedBy}
 use Rattle.replay.specs.Steps.{quiet, startOf, eventsAt, Turns}
 use Rattle.replay.proofs.Judging.{stands, plan-is, stamps-are, fits-ears}
 use Rattle.replay.proofs.Hearing.{length-heard-by, two-each-by, played-by-held, counted-by-is, left-by-is, left-by-kept}
@@ -124,13 +124,13 @@ module _ (l : Line) (x : Expected) (t : State) (ears : List Float) where
     all-gone = sym (turns .split ∙ ap (λ (es : List (Event (List Float))). turns .gone ++ es) nothing-left ∙ append-nil (turns .gone))
 
     pub promised-accepted : (plan : Planned) → plan ≡ planIn x (l .frames) (l .stride) (l .stamps) (l .shape .channels) (length (l .inputs)) (l .earStride) (length ears)
-        → Replays l x t ears (answering plan (last .unsettled) (stateOf (last .desk) rings₁) ears₁)
+        → Replays l x t ears (answering plan (last .unsettled) (stateWith (last .desk) rings₁) ears₁)
     promised-accepted plan ep =
         let u = setupIn l in
         let planned : plan ≡ plannedOf x (stampsIn l) = plan-is l x t (length ears) e plan ep in
         let counts : last .unsettled ≡ countedBy u t (eventsIn l x) = turns .counts ∙ zero-add (countedBy u t (turns .gone)) ∙ ap (countedBy u t) all-gone in
-        let leaves : stateOf (last .desk) rings₁ ≡ leftBy u t (eventsIn l x) = turns .leaves ∙ ap (leftBy u t) all-gone in
+        let leaves : stateWith (last .desk) rings₁ ≡ leftBy u t (eventsIn l x) = turns .leaves ∙ ap (leftBy u t) all-gone in
         let sounds : ears₁ ≡ withFrames ears (l .earStride) 0 (playedBy u t (eventsIn l x)) =
         turns .sounds ∙ ap (λ (es : List (Event (List Float))). withFrames ears (l .earStride) 0 (playedBy u t es)) all-gone in
-        promised (answering plan (last .unsettled) (stateOf (last .desk) rings₁) ears₁)
+        promised (answering plan (last .unsettled) (stateWith (last .desk) rings₁) ears₁)
         ((λ i. answering (planned i) (counts i) (leaves i) (sounds i)) ∙ sym (outcome-computed e))

@@ -28,7 +28,7 @@ use Rattle.hrtf.specs.Reset.{AfterReset, Resets}
 use Rattle.hrtf.proofs.Promised.{outcome-by, outcome-computed, reset-accepts, reset-by}
 use Rattle.replay.specs.Lines.{Line, setupIn}
 use Rattle.replay.specs.Heard.{rested}
-use Rattle.replay.specs.Computed.{stateOf, Good, Kept}
+use Rattle.replay.specs.Computed.{stateWith, Good, Kept}
 use Rattle.replay.specs.Steps.{Resting}
 
 -- the call for a block
@@ -82,7 +82,7 @@ pub speakers-few : (h : Shape) (rows : List ℕ) → misshapen h rows ≡ false 
 speakers-few h rows e = or-off (outside (h .speakers) 8) _ e .0
 
 pub reset-leaves : (d : Desk) (speakers L : ℕ) (rings : List Float) (o : AfterReset) → Resting speakers L rings → Resets d speakers L rings o
-    → stateOf (o .answer .desk) (o .rings) ≡ rested (stateOf d rings)
+    → stateWith (o .answer .desk) (o .rings) ≡ rested (stateWith d rings)
 reset-leaves d speakers L rings o r p =
     let none = reset-accepts speakers L rings (r .few, (r .long, (equal-passes (length rings) (speakers * L) (r .ringed), tt))) in
-    ap (λ (a : AfterReset). stateOf (a .answer .desk) (a .rings)) (p .answer ∙ reset-by d speakers L rings 0 none)
+    ap (λ (a : AfterReset). stateWith (a .answer .desk) (a .rings)) (p .answer ∙ reset-by d speakers L rings 0 none)

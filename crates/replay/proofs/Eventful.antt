@@ -14,7 +14,8 @@ use Rattle.rings.specs.State.{State}
 use Rattle.rings.specs.Computed.{ears, late, stepped, left, played, counted}
 use Rattle.rings.proofs.Told.{length-stored}
 use Rattle.rings.proofs.Filters.{left-alike, played-alike, counted-alike}
-use Rattle.stamps.specs.Events.{Event, feed, restart, feedsIn}
+use Rattle.stamps.specs.Events.{Event, feed, restart}
+use Rattle.stamps.specs.Steps.{feedsIn}
 use Rattle.replay.specs.Lines.{Line, setupIn}
 use Rattle.replay.specs.Heard.{rested}
 use Rattle.replay.specs.Computed.{Stands, leftBy, playedBy, countedBy}

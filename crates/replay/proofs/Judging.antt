@@ -58,10 +58,10 @@ fits-by false true c x p e = refl
 fits-by false false true x p e = e
 fits-by false false false x p e = refl
 
-abbrev planOn : Line → Expected → ℕ → Planned
-planOn l x ears = planIn x (l .frames) (l .stride) (l .stamps) (l .shape .channels) (length (l .inputs)) (l .earStride) ears
+abbrev planAt : Line → Expected → ℕ → Planned
+planAt l x ears = planIn x (l .frames) (l .stride) (l .stamps) (l .shape .channels) (length (l .inputs)) (l .earStride) ears
 
-plan-fits : (l : Line) (x : Expected) (ears : ℕ) → planOn l x ears .fits ≡ not (recordUnfit l x ears)
+plan-fits : (l : Line) (x : Expected) (ears : ℕ) → planAt l x ears .fits ≡ not (recordUnfit l x ears)
 plan-fits l x ears =
     fits-by (blockUnfit (length (l .stamps)) 1 (length (l .inputs)) (l .shape .channels) (l .stride) (l .frames)) (not (eqb ears (2 * l .earStride))) (leb (outIn x (stampsIn l)) (l .earStride)) x
     (plannedOf x (stampsIn l)) refl
@@ -89,7 +89,7 @@ channels-few l e =
 
 module _ (l : Line) (x : Expected) (t : State) (ears : ℕ) where
   pub refusal-is : (block own : List Float) (judged : ℕ) (plan : Planned) → length block ≡ placesOf (l .shape .channels) → length own ≡ 2 * 64
-      → judged ≡ refusalOf (blockCall l 0 block own) t → plan ≡ planOn l x ears → picked judged (plan .fits) ≡ refusalIn l x t ears
+      → judged ≡ refusalOf (blockCall l 0 block own) t → plan ≡ planAt l x ears → picked judged (plan .fits) ≡ refusalIn l x t ears
   unfolding refusalOf refusalIn
   refusal-is block own judged plan eb eo ej ep =
       ap (λ (n : ℕ). picked n (plan .fits)) ej
@@ -170,7 +170,7 @@ module _ (l : Line) (x : Expected) (t : State) (ears : ℕ) where
     fits-ears = (is-equal ears (2 * l .earStride) (record-fits .1 .0), ltb-false (l .earStride) (outIn x (stampsIn l)) (record-fits .1 .1))
 
     -- the plan is the recording's
-    pub plan-is : (plan : Planned) → plan ≡ planOn l x ears → plan ≡ plannedOf x (stampsIn l)
+    pub plan-is : (plan : Planned) → plan ≡ planAt l x ears → plan ≡ plannedOf x (stampsIn l)
     plan-is plan ep =
         ep
         ∙ ap (λ (b : Bool). cond b (unplannedOf x) (planOf x (stampsIn l) (l .earStride))) (both-off _ _ (record-fits .0) (record-fits .1 .0))

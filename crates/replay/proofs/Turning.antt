@@ -18,13 +18,14 @@ use Rattle.rings.specs.State.{State}
 use Rattle.rings.specs.Computed.{left, played, counted}
 use Rattle.hrtf.specs.declared.Processed.{Processed}
 use Rattle.hrtf.specs.Promise.{Processes}
-use Rattle.stamps.specs.Events.{Event, restart, feedsIn}
+use Rattle.stamps.specs.Events.{Event, restart}
+use Rattle.stamps.specs.Steps.{feedsIn}
 use Rattle.stamps.proofs.Recordings.{feeds-append}
 use Rattle.replay.specs.declared.gather.Gathered.{Gathered}
 use Rattle.replay.specs.Steps.{quiet, feeds, restarting, Gathers, eventsAt, Resting, restedIf, Room, Turns, leftIn, Turn}
 use Rattle.replay.specs.declared.play.Turned.{Turned}
 use Rattle.replay.specs.Lines.{Line, setupIn, recordingIn}
-use Rattle.replay.specs.Computed.{stateOf, Good, Stands, Kept, leftBy, playedBy, countedBy}
+use Rattle.replay.specs.Computed.{stateWith, Good, Stands, Kept, leftBy, playedBy, countedBy}
 use Rattle.replay.proofs.Eventful.{left-by-append, played-by-append, counted-by-append, length-played-by, counted-few, left-feeds, played-feeds, counted-feeds, feeds-feeds, length-feeds, left-stands, left-by-stands}
 use Rattle.replay.proofs.Convolver.{blockCall, block-leaves, block-counts, block-sounds, speakers-few}
 
@@ -62,22 +63,22 @@ module _ (l : Line) (p : Turned) (g : Gathered) (block₁ : List Float) (got : G
   fed-gone : feedsIn gone ≡ g .count
   fed-gone =
       feeds-feeds (got .stamps) fs (restarting (g .restart)) as-many
-      ∙ omega (arith, silent-rest l (g .restart) (stateOf (p .desk) []) .1 .1, length-tab 0 (g .count) (frameAt block₁ 64 (l .shape .channels)))
+      ∙ omega (arith, silent-rest l (g .restart) (stateWith (p .desk) []) .1 .1, length-tab 0 (g .count) (frameAt block₁ 64 (l .shape .channels)))
 
   -- what is put into the ear planes fits
   pub turn-room : Room l p → p .done + g .count ≤ l .earStride
   turn-room room =
       omega (arith, room .room, fed-gone, ap feedsIn parted, feeds-append (quiet (l .shape .channels)) gone (eventsAt l (g .expected) (g .at)))
 
-  module _ (good : Good l) (rings block own : List Float) (kept : Kept l (stateOf (p .desk) rings) block own) (same : length block₁ ≡ length block) where
+  module _ (good : Good l) (rings block own : List Float) (kept : Kept l (stateWith (p .desk) rings) block own) (same : length block₁ ≡ length block) where
     abbrev t : State
-    t = stateOf (p .desk) rings
+    t = stateWith (p .desk) rings
 
     kept₁ : Kept l t block₁ own
     kept₁ = record { state = kept .state; blocked = same ∙ kept .blocked; eared = kept .eared }
 
     module _ (a : Processed) (rings₁ own₁ : List Float) (plays : Processes (blockCall l (g .count) block₁ own) t (record { answer = a; rings = rings₁; ears = own₁ })) where
-      leaves : stateOf (a .desk) rings₁ ≡ left (setupIn l) t fs
+      leaves : stateWith (a .desk) rings₁ ≡ left (setupIn l) t fs
       leaves = block-leaves l good t (g .count) block₁ own kept₁ (got .few) (record { answer = a; rings = rings₁; ears = own₁ }) plays
 
       counts : a .unsettled ≡ counted (setupIn l) t fs
@@ -105,7 +106,7 @@ module _ (l : Line) (p : Turned) (g : Gathered) (block₁ : List Float) (got : G
           }
 
       pub turn-made : (ears ears₁ rings₂ : List Float) (d : Desk) → ears₁ ≡ withFrames ears (l .earStride) (p .done) (framesOf own₁ 64 2 (g .count))
-          → stateOf d rings₂ ≡ restedIf (g .restart) (stateOf (a .desk) rings₁)
+          → stateWith d rings₂ ≡ restedIf (g .restart) (stateWith (a .desk) rings₁)
           → Turn l p rings ears (record { desk = d; expected = g .expected; at = g .at; done = p .done + g .count; unsettled = p .unsettled + a .unsettled }) rings₂ ears₁
       turn-made ears ears₁ rings₂ d ee er =
           record {
@@ -158,7 +159,7 @@ module _ (l : Line) (p : Turned) (rings ears : List Float) where
     pub turns-then : (r₂ : Turned) (rings₂ ears₂ : List Float) → Turns l r rings₁ ears₁ r₂ rings₂ ears₂ → Turns l p rings ears r₂ rings₂ ears₂
     turns-then r₂ rings₂ ears₂ b =
         let u = setupIn l in
-        let t = stateOf (p .desk) rings in
+        let t = stateWith (p .desk) rings in
         record {
           gone = a .gone ++ b .gone;
           split = a .split ∙ ap (λ (es : List (Event (List Float))). a .gone ++ es) (b .split) ∙ sym (append-assoc (a .gone) (b .gone) (eventsAt l (r₂ .expected) (r₂ .at)));
@@ -181,11 +182,11 @@ module _ (l : Line) (p : Turned) (rings ears : List Float) where
         record {
           within = a .within;
           room = omega (arith, room .room, a .out, ap feedsIn (a .split), feeds-append (quiet (l .shape .channels)) (a .gone) (eventsAt l (r .expected) (r .at)));
-          few = omega (arith, room .few, a .out, a .counts, counted-few (setupIn l) (stateOf (p .desk) rings) (a .gone));
+          few = omega (arith, room .few, a .out, a .counts, counted-few (setupIn l) (stateWith (p .desk) rings) (a .gone));
         }
 
-    pub turns-stand : Good l → Stands l (stateOf (p .desk) rings) → Stands l (stateOf (r .desk) rings₁)
-    turns-stand good s = subst (Stands l) (sym (a .leaves)) (left-by-stands l (some-length l good) (stateOf (p .desk) rings) (a .gone) s)
+    pub turns-stand : Good l → Stands l (stateWith (p .desk) rings) → Stands l (stateWith (r .desk) rings₁)
+    turns-stand good s = subst (Stands l) (sym (a .leaves)) (left-by-stands l (some-length l good) (stateWith (p .desk) rings) (a .gone) s)
 
 -- ---- the loop: turns from the first place on, in lists that stay as long
 
@@ -197,6 +198,6 @@ pub record Going (l : Line) (p : Turned) (rings ears block own : List Float) (r 
   pub own-long : length own₁ ≡ length own
 
 module _ (l : Line) (p : Turned) (rings ears block own : List Float) (r : Turned) (rings₁ ears₁ block₁ own₁ : List Float) (g : Going l p rings ears block own r rings₁ ears₁ block₁ own₁) where
-  pub going-kept : Good l → Kept l (stateOf (p .desk) rings) block own → Kept l (stateOf (r .desk) rings₁) block₁ own₁
+  pub going-kept : Good l → Kept l (stateWith (p .desk) rings) block own → Kept l (stateWith (r .desk) rings₁) block₁ own₁
   going-kept good k =
       record { state = turns-stand l p rings ears r rings₁ ears₁ (g .turns) good (k .state); blocked = g .block-long ∙ k .blocked; eared = g .own-long ∙ k .eared }

@@ -19,7 +19,6 @@ use Rattle.stamps.specs.declared.Expected.{Expected}
 use Rattle.stamps.specs.declared.Planned.{Planned}
 use Rattle.stamps.specs.Counts.{unplannedOf, planOf}
 use Rattle.stamps.specs.Events.{Event, feed, restart}
-use Rattle.replay.specs.declared.Replayed.{Replayed}
 use Rattle.replay.specs.Lines.{Line}
 use Rattle.replay.specs.Heard.{rested}
 
@@ -28,8 +27,8 @@ abbrev pub lineOf : Shape → ℕ → ℕ → List ℕ → List Float → List F
 lineOf shape frames stride stamps inputs weights rows taps earStride =
     record { shape = shape; frames = frames; stride = stride; stamps = stamps; inputs = inputs; weights = weights; rows = rows; taps = taps; earStride = earStride }
 
-abbrev pub stateOf : Desk → List Float → State
-stateOf d rings = record { rings = rings; desk = d }
+abbrev pub stateWith : Desk → List Float → State
+stateWith d rings = record { rings = rings; desk = d }
 
 -- ---- how a replay is judged before anything is played
 
@@ -42,10 +41,6 @@ planIn x frames stride stamps channels inputs earStride ears =
 
 abbrev pub picked : ℕ → Bool → ℕ
 picked judged fits = cond (eqb judged 2) 2 (cond (eqb judged 4) 4 (cond fits judged 5))
-
--- what a replay answers that is refused
-abbrev pub refusedOf : ℕ → Desk → Expected → Replayed
-refusedOf n d x = record { refusal = n; samples = 0; unsettled = 0; late = 0; silent = 0; resets = 0; desk = d; expected = x }
 
 -- ---- what the checks have made sure of
 

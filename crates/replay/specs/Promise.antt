@@ -11,6 +11,7 @@ use Rattle.refusals.specs.Refusals.{Check, firstOf, _when_, answered, outside}
 use Rattle.checks.specs.Finite.{unsound}
 use Rattle.checks.specs.Lengths.{blockUnfit}
 use Rattle.planes.specs.Planes.{withFrames}
+use Rattle.desk.specs.declared.Desk.{Desk}
 use Rattle.rings.specs.State.{State}
 use Rattle.rings.specs.Held.{heldIn, Represents}
 use Rattle.hrtf_checks.specs.Refusals.{misshapen, astray}
@@ -53,16 +54,16 @@ pub record Outcome : Type 0 where
   pub rings : List Float
   pub ears : List Float
 
+-- "A refusal returns its number, counts of 0, .. and the state given in"
+abbrev pub refusedOf : ℕ → Desk → Expected → Replayed
+refusedOf n d x = record { refusal = n; samples = 0; unsettled = 0; late = 0; silent = 0; resets = 0; desk = d; expected = x }
+
+-- "lent memory stays the same"
 abbrev pub refused : ℕ → Expected → State → List Float → Outcome
-refused n x t ears =
-    record {
-      answer = record { refusal = n; samples = 0; unsettled = 0; late = 0; silent = 0; resets = 0; desk = t .desk; expected = x };
-      rings = t .rings;
-      ears = ears;
-    }
+refused n x t ears = record { answer = refusedOf n (t .desk) x; rings = t .rings; ears = ears }
 
 -- the counts of frames: those of the definition over the recorded stamps; the ears: document 01's sums over the signals of the frames as fed, newest first, and then those that the rings held, whatever these
--- are, up to the first restart; the unsettled count: over the same frames, from the frames to go that were given; the rings and the desk: what the events leave
+-- are, up to the first restart; the unsettled count: over the same frames, from the frames to go that were given, none being to go after a restart; the rings and the desk: what the events leave
 abbrev pub accepted : Line → Expected → State → List Float → Outcome
 accepted l x t ears =
     record {

@@ -14,7 +14,8 @@ use Rattle.stamps.specs.declared.Expected.the-variants.{Stamp}
 use Rattle.stamps.specs.declared.Arrival.{Arrival}
 use Rattle.stamps.specs.declared.Arrival.the-variants.{Next, Ahead, Jump, Late}
 use Rattle.stamps.specs.Arrivals.{comingOf, stampOf, thenOf, skippedOf}
-use Rattle.stamps.specs.Events.{Recorded, Event, feed, restart, eventsOf, feedsIn}
+use Rattle.stamps.specs.Events.{Recorded, Event, feed, restart, eventsOf}
+use Rattle.stamps.specs.Steps.{feedsIn}
 use Rattle.replay.specs.declared.gather.Gathered.{Gathered}
 use Rattle.refusals.specs.Refusals.{outside}
 use Rattle.desk.specs.declared.Desk.{Desk}
@@ -24,7 +25,7 @@ use Rattle.replay.specs.declared.Replayed.{Replayed}
 use Rattle.replay.specs.declared.play.Turned.{Turned}
 use Rattle.replay.specs.Lines.{Line, setupIn, recordingIn}
 use Rattle.replay.specs.Heard.{rested}
-use Rattle.replay.specs.Computed.{stateOf, leftBy, playedBy, countedBy}
+use Rattle.replay.specs.Computed.{stateWith, leftBy, playedBy, countedBy}
 
 -- a frame of silence, as `silence` of `history`
 abbrev pub quiet : ℕ → List Float
@@ -114,10 +115,10 @@ pub record Room (l : Line) (p : Turned) : Type 0 where
 pub record Turns (l : Line) (p : Turned) (rings ears : List Float) (r : Turned) (rings₁ ears₁ : List Float) : Type 0 where
   pub gone : List (Event (List Float))
   pub split : eventsAt l (p .expected) (p .at) ≡ gone ++ eventsAt l (r .expected) (r .at)
-  pub leaves : stateOf (r .desk) rings₁ ≡ leftBy (setupIn l) (stateOf (p .desk) rings) gone
-  pub sounds : ears₁ ≡ withFrames ears (l .earStride) (p .done) (playedBy (setupIn l) (stateOf (p .desk) rings) gone)
+  pub leaves : stateWith (r .desk) rings₁ ≡ leftBy (setupIn l) (stateWith (p .desk) rings) gone
+  pub sounds : ears₁ ≡ withFrames ears (l .earStride) (p .done) (playedBy (setupIn l) (stateWith (p .desk) rings) gone)
   pub out : r .done ≡ p .done + feedsIn gone
-  pub counts : r .unsettled ≡ p .unsettled + countedBy (setupIn l) (stateOf (p .desk) rings) gone
+  pub counts : r .unsettled ≡ p .unsettled + countedBy (setupIn l) (stateWith (p .desk) rings) gone
   pub within : r .at ≤ l .frames
 
 -- what is left: events, and recorded frames

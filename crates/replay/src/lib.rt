@@ -17,8 +17,8 @@ use stamps::Planned;
 ghost use mathlib.Core.Path.{_≡_};
 ghost use Prim.Native.Nat.{_*_};
 ghost use lib.ListN as ListN;
-ghost use Rattle.replay.specs.Promise.{Replays};
-ghost use Rattle.replay.specs.Computed.{lineOf, stateOf, placesOf, planIn, picked, refusedOf};
+ghost use Rattle.replay.specs.Promise.{refusedOf, Replays};
+ghost use Rattle.replay.specs.Computed.{lineOf, stateWith, placesOf, planIn, picked};
 ghost use Rattle.replay.specs.Steps.{answeredOf};
 
 mod gather;
@@ -136,12 +136,12 @@ fn replay_in(
     ear_stride: usize,
     ears: &mut [f32],
     block: &mut [f32],
-    own: &mut [f32],
+    block_ears: &mut [f32],
 ) -> Replayed
-    requires { ⌜ (ListN.length (now block) ≡ placesOf (shape .channels)) × (ListN.length (now own) ≡ 2 * 64) ⌝ }
+    requires { ⌜ (ListN.length (now block) ≡ placesOf (shape .channels)) × (ListN.length (now «block_ears») ≡ 2 * 64) ⌝ }
     requires { ⌜ plan ≡ planIn expected frames stride (now stamps) (shape .channels) (ListN.length (now inputs)) «ear_stride» (ListN.length (now ears)) ⌝ }
     ensures { λ r. ⌜ Replays (lineOf shape frames stride (now (stamps .entry)) (now (inputs .entry)) (now (weights .entry)) (now («row_of» .entry)) (now (taps .entry)) «ear_stride»)
-        expected (stateOf desk (now (rings .entry))) (now (ears .entry)) (record { answer = r; rings = now (rings .exit); ears = now (ears .exit) }) ⌝ }
+        expected (stateWith desk (now (rings .entry))) (now (ears .entry)) (record { answer = r; rings = now (rings .exit); ears = now (ears .exit) }) ⌝ }
 {
     let judged = hrtf_checks::refusal(
         desk,
@@ -153,7 +153,7 @@ fn replay_in(
         row_of,
         taps,
         rings,
-        own,
+        block_ears,
     );
     let refusal = picked_of(judged, plan.fits);
     if refusal != 0 {
@@ -173,7 +173,7 @@ fn replay_in(
         ear_stride,
         ears,
         block,
-        own,
+        block_ears,
     );
     answered(plan, last)
 }
@@ -202,7 +202,7 @@ pub fn replay(
         (record { answer = r; rings = now (rings .exit); ears = now (ears .exit) }) ⌝ }
 {
     let mut block = [0.0f32; 1024];
-    let mut own = [0.0f32; 128];
+    let mut block_ears = [0.0f32; 128];
     let plan = plan_in(
         expected,
         frames,
@@ -230,6 +230,6 @@ pub fn replay(
         ear_stride,
         ears,
         &mut block[..size],
-        &mut own,
+        &mut block_ears,
     )
 }

@@ -11,7 +11,7 @@ use stamps::Expected;
 ghost use mathlib.Core.Path.{_≡_};
 ghost use Prim.Native.Nat.{_+_, _^_, _<_};
 ghost use Rattle.planes.specs.Planes.{frameAt, framesOf, withFrame, withFrames};
-ghost use Rattle.replay.specs.Computed.{lineOf, stateOf, Good, Kept};
+ghost use Rattle.replay.specs.Computed.{lineOf, stateWith, Good, Kept};
 ghost use Rattle.replay.specs.Steps.{startOf, Resting, restedIf, Room, Turns, Turn};
 
 // How far a recording is played: the desk, what is expected, the recorded frame that comes next, the frames that came
@@ -38,23 +38,23 @@ pub(crate) fn start(desk: Desk, expected: Expected) -> Turned
 }
 
 // One frame of the block's ears to a place of the ear planes.
-fn put_pair(ears: &mut [f32], ear_stride: usize, place: usize, own: &[f32], frame: usize)
-    ensures { λ _. ⌜ now (ears .exit) ≡ withFrame (now (ears .entry)) «ear_stride» place (frameAt (now (own .entry)) 64 2 frame) ⌝ }
+fn put_pair(ears: &mut [f32], ear_stride: usize, place: usize, block_ears: &[f32], frame: usize)
+    ensures { λ _. ⌜ now (ears .exit) ≡ withFrame (now (ears .entry)) «ear_stride» place (frameAt (now («block_ears» .entry)) 64 2 frame) ⌝ }
 {
-    let left = planes::sample(own, PLACES, 0, frame);
-    let right = planes::sample(own, PLACES, 1, frame);
+    let left = planes::sample(block_ears, PLACES, 0, frame);
+    let right = planes::sample(block_ears, PLACES, 1, frame);
     planes::put_sample(ears, ear_stride, 0, place, left);
     planes::put_sample(ears, ear_stride, 1, place, right);
 }
 
 // The block's ears, behind those that stand in the ear planes.
-fn put_ears(ears: &mut [f32], ear_stride: usize, done: usize, own: &[f32], count: usize)
+fn put_ears(ears: &mut [f32], ear_stride: usize, done: usize, block_ears: &[f32], count: usize)
     requires { ⌜ done + count < 2 ^ 64 ⌝ }
-    ensures { λ _. ⌜ now (ears .exit) ≡ withFrames (now (ears .entry)) «ear_stride» done (framesOf (now (own .entry)) 64 2 count) ⌝ }
+    ensures { λ _. ⌜ now (ears .exit) ≡ withFrames (now (ears .entry)) «ear_stride» done (framesOf (now («block_ears» .entry)) 64 2 count) ⌝ }
 {
     let mut n = 0;
     while n < count {
-        put_pair(ears, ear_stride, done + n, own, n);
+        put_pair(ears, ear_stride, done + n, block_ears, n);
         n += 1;
     }
 }
@@ -62,7 +62,7 @@ fn put_ears(ears: &mut [f32], ear_stride: usize, done: usize, own: &[f32], count
 // A reset, where there is one.
 fn rest_if(restart: bool, desk: Desk, speakers: usize, length: usize, rings: &mut [f32]) -> Desk
     requires { ⌜ Resting speakers length (now rings) ⌝ }
-    ensures { λ r. ⌜ stateOf r (now (rings .exit)) ≡ restedIf restart (stateOf desk (now (rings .entry))) ⌝ }
+    ensures { λ r. ⌜ stateWith r (now (rings .exit)) ≡ restedIf restart (stateWith desk (now (rings .entry))) ⌝ }
 {
     if restart {
         let rested = hrtf::reset(desk, speakers, length, rings);
@@ -71,7 +71,7 @@ fn rest_if(restart: bool, desk: Desk, speakers: usize, length: usize, rings: &mu
     desk
 }
 
-// One turn.
+// Gathers one block, plays it, puts its ears behind those before, and resets where a reset comes next.
 fn turn(
     so_far: Turned,
     shape: Shape,
@@ -86,10 +86,10 @@ fn turn(
     ear_stride: usize,
     ears: &mut [f32],
     block: &mut [f32],
-    own: &mut [f32],
+    block_ears: &mut [f32],
 ) -> Turned
     requires { ⌜ Good (lineOf shape frames stride (now stamps) (now inputs) (now weights) (now «row_of») (now taps) «ear_stride») ⌝ }
-    requires { ⌜ Kept (lineOf shape frames stride (now stamps) (now inputs) (now weights) (now «row_of») (now taps) «ear_stride») (stateOf («so_far» .desk) (now rings)) (now block) (now own) ⌝ }
+    requires { ⌜ Kept (lineOf shape frames stride (now stamps) (now inputs) (now weights) (now «row_of») (now taps) «ear_stride») (stateWith («so_far» .desk) (now rings)) (now block) (now «block_ears») ⌝ }
     requires { ⌜ Room (lineOf shape frames stride (now stamps) (now inputs) (now weights) (now «row_of») (now taps) «ear_stride») «so_far» ⌝ }
     ensures { λ r. ⌜ Turn (lineOf shape frames stride (now (stamps .entry)) (now (inputs .entry)) (now (weights .entry)) (now («row_of» .entry)) (now (taps .entry)) «ear_stride»)
         «so_far» (now (rings .entry)) (now (ears .entry)) r (now (rings .exit)) (now (ears .exit)) ⌝ }
@@ -118,9 +118,9 @@ fn turn(
         row_of,
         taps,
         rings,
-        own,
+        block_ears,
     );
-    put_ears(ears, ear_stride, done, own, count);
+    put_ears(ears, ear_stride, done, block_ears, count);
     let left = played.desk;
     let rested = rest_if(got.restart, left, shape.speakers, shape.length, rings);
     let next = got.expected;
@@ -148,10 +148,10 @@ pub(crate) fn play(
     ear_stride: usize,
     ears: &mut [f32],
     block: &mut [f32],
-    own: &mut [f32],
+    block_ears: &mut [f32],
 ) -> Turned
     requires { ⌜ Good (lineOf shape frames stride (now stamps) (now inputs) (now weights) (now «row_of») (now taps) «ear_stride») ⌝ }
-    requires { ⌜ Kept (lineOf shape frames stride (now stamps) (now inputs) (now weights) (now «row_of») (now taps) «ear_stride») (stateOf (first .desk) (now rings)) (now block) (now own) ⌝ }
+    requires { ⌜ Kept (lineOf shape frames stride (now stamps) (now inputs) (now weights) (now «row_of») (now taps) «ear_stride») (stateWith (first .desk) (now rings)) (now block) (now «block_ears») ⌝ }
     requires { ⌜ Room (lineOf shape frames stride (now stamps) (now inputs) (now weights) (now «row_of») (now taps) «ear_stride») first ⌝ }
     ensures { λ r. ⌜ Turns (lineOf shape frames stride (now (stamps .entry)) (now (inputs .entry)) (now (weights .entry)) (now («row_of» .entry)) (now (taps .entry)) «ear_stride»)
         first (now (rings .entry)) (now (ears .entry)) r (now (rings .exit)) (now (ears .exit)) ⌝ }
@@ -173,7 +173,7 @@ pub(crate) fn play(
             ear_stride,
             ears,
             block,
-            own,
+            block_ears,
         );
     }
     so_far

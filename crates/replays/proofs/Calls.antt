@@ -26,7 +26,7 @@ use Rattle.replay.specs.Computed.{leftBy, playedBy, countedBy}
 use Rattle.replay.proofs.Judging.{stamps-are}
 use Rattle.replay.proofs.Eventful.{left-by-append, played-by-append, counted-by-append, left-by-alike, played-by-alike, counted-by-alike}
 use Rattle.replay.proofs.Answering.{computed, outcome-by, outcome-computed, ears-read}
-use Rattle.replays.specs.Calls.{Call, Place, refusalAt, outcomeAt, next, takenBy, taken, sounded, Alike, takenAll, soundedAll, end, counts, stampsAll, eventsAll}
+use Rattle.replays.specs.Calls.{Call, Place, refusalAt, outcomeAt, next, takenWhere, taken, sounded, Alike, takenAll, soundedAll, end, counts, stampsAll, eventsAll}
 
 -- ---- one call
 
@@ -66,7 +66,7 @@ called-by u p c same zero e =
     made = outcome-computed l x t (c .ears) e
 
     takes : recordingIn l ≡ taken p c
-    takes = sym (ap (λ (n : ℕ). takenBy n c) e)
+    takes = sym (ap (λ (n : ℕ). takenWhere n c) e)
 
     does : eventsIn l x ≡ events u p c
     does = ap (λ (n : ℕ). eventsOf (replicate n zero-float) x (recordingIn l)) (same e .channels) ∙ ap (eventsOf (silence u) x) takes
@@ -75,14 +75,14 @@ called-by u p c same (suc k) e =
       sounds = ap (λ (o : Outcome). framesOf (o .ears) (c .line .earStride) 2 (o .answer .samples)) made ∙ ap (playedBy u (p .state)) none;
       unsettled = ap (λ (o : Outcome). o .answer .unsettled) made ∙ ap (countedBy u (p .state)) none;
       state = ap stateAfter made ∙ ap (leftBy u (p .state)) none;
-      told = ap tellsOf made ∙ ap (λ (n : ℕ). plannedOf (p .expected) (stampsOf (takenBy n c))) (sym e);
+      told = ap tellsOf made ∙ ap (λ (n : ℕ). plannedOf (p .expected) (stampsOf (takenWhere n c))) (sym e);
     }
   where
     made : outcomeAt p c ≡ refused (suc k) (p .expected) (p .state) (c .ears)
     made = outcome-by (c .line) (p .expected) (p .state) (c .ears) (suc k) e
 
     none : [] ≡ events u p c
-    none = ap (λ (n : ℕ). eventsOf (silence u) (p .expected) (takenBy n c)) (sym e)
+    none = ap (λ (n : ℕ). eventsOf (silence u) (p .expected) (takenWhere n c)) (sym e)
 
 pub called : (u : Setup) (p : Place) (c : Call) → (refusalAt p c ≡ 0 → SameFilters (setupIn (c .line)) u) → Called u p c
 called u p c same = called-by u p c same (refusalAt p c) refl

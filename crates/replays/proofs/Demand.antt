@@ -20,7 +20,8 @@ use Rattle.stamps.specs.declared.Expected.{Expected}
 use Rattle.stamps.specs.declared.Planned.{Planned}
 use Rattle.stamps.specs.Arrivals.{expectedAfter}
 use Rattle.stamps.specs.Counts.{outOne, lateOne, silentOne, resetOne, outIn, lateIn, silentIn, resetsIn}
-use Rattle.stamps.specs.Events.{Recorded, Event, feedsIn, fed, eventsOf, stampsOf}
+use Rattle.stamps.specs.Events.{Recorded, Event, fed, eventsOf, stampsOf}
+use Rattle.stamps.specs.Steps.{feedsIn}
 use Rattle.stamps.proofs.Recordings.{samples-and-late, feeds-append, feeds-out, restarts-resets, length-fed}
 use Rattle.replay.specs.declared.Replayed.{Replayed}
 use Rattle.replay.specs.Heard.{heardBy, afterBy}
@@ -29,7 +30,7 @@ use Rattle.replay.proofs.Eventful.{length-played-by}
 use Rattle.replay.proofs.Hearing.{after-by-append, played-by-heard, counted-by-told, left-by-kept}
 use Rattle.runs.specs.Runs.{sum}
 use Rattle.replays.specs.Calls.{Call, Place, outcomeAt, next, taken, Alike, takenAll, soundedAll, end, counts, stampsAll, eventsAll}
-use Rattle.replays.specs.Demand.{uptoFed, frameAgo, damagedAmong, damagedCounts, firstPart, laterParts, heardParts, Replay, Agree, Counted, SameReplay, ReplayDemand3}
+use Rattle.replays.specs.Demand.{uptoFed, frameAgo, damagedAmong, damagedCounts, firstPart, laterParts, heardParts, Replay, Agree, Counted, SameReplay, Over, ReplayDemand3}
 use Rattle.replays.proofs.Calls.{events, called, events-on, all-sounded, all-unsettled, all-left, all-expected, all-counted}
 use Rattle.replays.proofs.Fed.{heard-by-at, parts-heard, fed-same, each-flag}
 
@@ -95,6 +96,16 @@ module _ (u : Setup) where
       by-stamps : (by : Expected → List ℕ → ℕ) {rs vs : List (Recorded (List Float))} → rs ≡ vs → by (p .expected) (stampsOf rs) ≡ by (p .expected) (stampsOf vs)
       by-stamps by e = ap (λ (rs : List (Recorded (List Float))). by (p .expected) (stampsOf rs)) e
 
+-- ---- over a past
+
+replay-over : (u : Setup) (p : Place) (cs : List Call) → Alike u p cs → (past : List (List Float)) → Represents u past (p .state) → Over u p cs past
+replay-over u p cs a past r =
+    record {
+      sounds = all-sounded u p cs a ∙ played-by-heard u past (p .state) r (eventsAll u p cs);
+      unsettled = all-unsettled u p cs a ∙ counted-by-told u past (p .state) r (eventsAll u p cs);
+      keeps = subst (Represents u (afterBy u past (eventsAll u p cs))) (sym (all-left u p cs a)) (left-by-kept u past (p .state) (eventsAll u p cs) r);
+    }
+
 -- ---- from a reset
 
 module _ (u : Setup) (p : Place) (cs : List Call) (r : Replay u p cs) where
@@ -103,7 +114,7 @@ module _ (u : Setup) (p : Place) (cs : List Call) (r : Replay u p cs) where
 
   -- the whole replay sounds as the frames as fed, however it was cut
   pub replay-heard : soundedAll p cs ≡ heardBy u [] (eventsAll u p cs)
-  replay-heard = all-sounded u p cs (r .alike) ∙ played-by-heard u [] (p .state) replay-starts (eventsAll u p cs)
+  replay-heard = replay-over u p cs (r .alike) [] replay-starts .sounds
 
   -- (a)
   replay-sums : (n : ℕ) → n < length (fed (eventsAll u p cs)) → getD (soundedAll p cs) n [] ≡ earSamples u (afterBy u [] (uptoFed (eventsAll u p cs) n))
@@ -157,6 +168,7 @@ replay-demand-3 =
     record {
       counted = replay-counted;
       all = replay-all;
+      over = replay-over;
       sums = replay-sums;
       parts = replay-parts;
       equal = replay-equal;

@@ -1,5 +1,5 @@
 -- The theorems, for crates above to cite; then the worked recording, and the answers that the promise refutes.
-mod Calls
+pub mod Calls
 pub mod Fed
 pub mod Demand
 mod Worked

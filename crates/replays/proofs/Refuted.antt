@@ -45,6 +45,10 @@ module _ (o : Outcome) (p : Replays (whole 9) First (fresh drill) (planes 9) o) 
   gap-as-late : o .answer .late ≡ 2 → ⊥
   gap-as-late e = omega (arith, e, told o p .1 .0)
 
+  -- the silent frames counted as late ones too
+  silence-as-late : o .answer .late ≡ 3 → ⊥
+  silence-as-late e = omega (arith, e, told o p .1 .0)
+
   -- a late frame that is played as it comes
   late-played : o .answer .samples ≡ 10 → ⊥
   late-played e = omega (arith, e, told o p .0)

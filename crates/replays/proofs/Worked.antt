@@ -103,6 +103,13 @@ module _ (o : Outcome) (p : Replays (whole 9) First (fresh drill) (planes 9) o) 
       ∙ counted-by-told drill [] (fresh drill) starts (eventsIn (whole 9) First)
       ∙ unsettled-is
 
+  -- accepted; both cells hold what was played since the reset, the newest last, and nothing is to go
+  pub left : (o .answer .refusal ≡ 0) × ((o .rings ≡ float (pos 8) ∷ one-float ∷ []) × (o .answer .desk ≡ zeroed))
+  unfolding comingBy mixed rounded add mul ieee.sum round size span climb units odd ofInt
+  left =
+      let made = p .answer ∙ outcome-computed (whole 9) First (fresh drill) (planes 9) nine-fit in
+      (ap (λ (q : Outcome). q .answer .refusal) made, (ap (λ (q : Outcome). q .rings) made, ap (λ (q : Outcome). q .answer .desk) made))
+
   pub told : (o .answer .samples ≡ 9) × ((o .answer .late ≡ 1) × ((o .answer .silent ≡ 2) × ((o .answer .resets ≡ 1) × (o .answer .expected ≡ Stamp 5002))))
   unfolding comingBy
   told =
@@ -117,17 +124,17 @@ module _ (o : Outcome) (p : Replays (whole 9) First (fresh drill) (planes 9) o) 
         ),
       )
 
--- ---- the recording from a reset in four calls: three frames; planes of another length than they should have; no frame; and the other five
+-- ---- the recording from a reset in four calls: two frames, the second damaged; planes of another length than they should have; no frame; and the other six
 
 abbrev pub place : Place
 place = record { expected = First; state = fresh drill }
 
 abbrev pub calls : List Call
 calls =
-    record { line = line 3 (4294967294 ∷ 4294967295 ∷ 0 ∷ []) (one-float ∷ nan ∷ zero-float ∷ []) 3; ears = planes 3 }
+    record { line = line 2 (4294967294 ∷ 4294967295 ∷ []) (one-float ∷ nan ∷ []) 2; ears = planes 2 }
     ∷ record { line = whole 8; ears = planes 7 }
     ∷ record { line = line 0 [] [] 0; ears = [] }
-    ∷ record { line = line 5 (3 ∷ 2 ∷ 4 ∷ 5000 ∷ 5001 ∷ []) (float (pos 2) ∷ float (pos 9) ∷ float (pos 4) ∷ float (pos 8) ∷ one-float ∷ []) 6; ears = planes 6 } ∷ []
+    ∷ record { line = line 6 (0 ∷ 3 ∷ 2 ∷ 4 ∷ 5000 ∷ 5001 ∷ []) (zero-float ∷ float (pos 2) ∷ float (pos 9) ∷ float (pos 4) ∷ float (pos 8) ∷ one-float ∷ []) 7; ears = planes 7 } ∷ []
 
 abbrev once : List Call
 once = record { line = whole 9; ears = planes 9 } ∷ []
@@ -152,7 +159,13 @@ same-list = refl
 in-four : SameReplay place calls once
 in-four = replay-demand-3 .cut drill place calls once alike (λ e. same-filters drill, tt) same-list
 
--- the second and the third call count nothing, and the frame that was damaged is heard in the first alone
-each-unsettled : counts (λ (r : Replayed). r .unsettled) place calls ≡ 2 ∷ 0 ∷ 0 ∷ 0 ∷ []
+-- the second and the third call count nothing and leave the frame to go, so that the first frame of the fourth is unsettled
+each-unsettled : counts (λ (r : Replayed). r .unsettled) place calls ≡ 1 ∷ 0 ∷ 0 ∷ 1 ∷ []
 unfolding refusalIn outcome comingBy flatten mixed rounded add mul ieee.sum round size span climb units odd ofInt
 each-unsettled = refl
+
+-- ---- stamp 0 with a NaN, then 3: four frames come out, and the silent one behind the NaN is unsettled with it
+
+behind-a-nan : unsettledBy drill 0 [] (eventsIn (line 2 (0 ∷ 3 ∷ []) (nan ∷ one-float ∷ []) 4) First) ≡ 2
+unfolding comingBy mixed rounded add mul ieee.sum round size span climb units odd ofInt
+behind-a-nan = refl

@@ -37,11 +37,11 @@ abbrev pub next : Place → Call → Place
 next p c = record { expected = outcomeAt p c .answer .expected; state = stateAfter (outcomeAt p c) }
 
 -- the recorded frames that it takes: those of its line, or none where it is refused
-abbrev pub takenBy : ℕ → Call → List (Recorded (List Float))
-takenBy n c = answered n (recordingIn (c .line)) (λ k. [])
+abbrev pub takenWhere : ℕ → Call → List (Recorded (List Float))
+takenWhere n c = answered n (recordingIn (c .line)) (λ k. [])
 
 abbrev pub taken : Place → Call → List (Recorded (List Float))
-taken p c = takenBy (refusalAt p c) c
+taken p c = takenWhere (refusalAt p c) c
 
 -- the ear samples of the frames that it says came out, read from the two ear planes as it leaves them: for each frame left, then right
 abbrev pub sounded : Place → Call → List (List Float)

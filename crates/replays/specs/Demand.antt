@@ -12,13 +12,14 @@ use Rattle.desk.specs.declared.Desk.{Desk}
 use Rattle.history.specs.Setup.{Setup}
 use Rattle.history.specs.Signals.{damaged, silence}
 use Rattle.history.specs.History.{earSamples, heard}
+use Rattle.rings.specs.Held.{Represents}
 use Rattle.hrtf.specs.Reset.{Resets}
 use Rattle.stamps.specs.Arrivals.{expectedAfter}
 use Rattle.stamps.specs.Counts.{outIn, lateIn, silentIn, resetsIn}
 use Rattle.stamps.specs.Events.{Event, feed, restart, restartsIn, fed}
 use Rattle.runs.specs.Runs.{sum}
 use Rattle.replay.specs.declared.Replayed.{Replayed}
-use Rattle.replay.specs.Heard.{afterBy}
+use Rattle.replay.specs.Heard.{heardBy, unsettledBy, afterBy}
 use Rattle.replays.specs.Calls.{Call, Place, next, outcomeAt, Alike, takenAll, soundedAll, end, counts, stampsAll, eventsAll}
 
 -- ---- the frames as fed
@@ -102,11 +103,19 @@ pub record SameReplay (p : Place) (cs ds : List Call) : Type 0 where
   pub resets : sum (counts (λ (r : Replayed). r .resets) p cs) ≡ sum (counts (λ (r : Replayed). r .resets) p ds)
   pub leaves : end p cs ≡ end p ds
 
+-- over a past: the ear samples, the unsettled frames of all calls together, and the past that is stood for then
+pub record Over (u : Setup) (p : Place) (cs : List Call) (past : List (List Float)) : Type 0 where
+  pub sounds : soundedAll p cs ≡ heardBy u past (eventsAll u p cs)
+  pub unsettled : sum (counts (λ (r : Replayed). r .unsettled) p cs) ≡ unsettledBy u 0 past (eventsAll u p cs)
+  pub keeps : Represents u (afterBy u past (eventsAll u p cs)) (end p cs .state)
+
 pub record ReplayDemand3 : Type 0 where
   -- "Counts of late frames, silent frames and resets equal those of a plain definition over the recorded list": from any rings and desk
   pub counted : (u : Setup) (p : Place) (cs : List Call) → Alike u p cs → Counted u p cs
   -- every frame that is fed is played
   pub all : (u : Setup) (p : Place) (cs : List Call) → Alike u p cs → length (soundedAll p cs) ≡ length (fed (eventsAll u p cs))
+  -- what is heard and counted and left over any past that the rings and the desk stand for, of which a reset's is the empty one
+  pub over : (u : Setup) (p : Place) (cs : List Call) → Alike u p cs → (past : List (List Float)) → Represents u past (p .state) → Over u p cs past
   -- (a) "both ear samples at n are document 01's sums", over the frames fed since the last restart
   pub sums : (u : Setup) (p : Place) (cs : List Call) → Replay u p cs → (n : ℕ) → n < length (fed (eventsAll u p cs))
       → getD (soundedAll p cs) n [] ≡ earSamples u (afterBy u [] (uptoFed (eventsAll u p cs) n))

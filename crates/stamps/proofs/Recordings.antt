@@ -15,7 +15,8 @@ use Rattle.stamps.specs.declared.Arrival.{Arrival}
 use Rattle.stamps.specs.declared.Arrival.the-variants.{Next, Ahead, Jump, Late}
 use Rattle.stamps.specs.Arrivals.{ahead, following, comingBy, comingOf, stampOf, thenBy, thenOf, skippedOf, expectedAfter}
 use Rattle.stamps.specs.Counts.{addedUp, outIn, lateIn, silentIn, resetsIn, plannedOf, planOf, outOne, resetOne}
-use Rattle.stamps.specs.Events.{Recorded, Event, feed, restart, silences, eventsBy, eventsOne, eventsOf, stampsOf, feedsIn, restartsIn, fed}
+use Rattle.stamps.specs.Events.{Recorded, Event, feed, restart, silences, eventsBy, eventsOne, eventsOf, stampsOf, restartsIn, fed}
+use Rattle.stamps.specs.Steps.{feedsIn}
 use Rattle.stamps.proofs.Wrapped.{ahead-none, ahead-less}
 use Rattle.stamps.proofs.Differences.{one-balance, ahead-difference, difference-none, difference-few}
 
@@ -83,12 +84,10 @@ module _ {F : Type 0} (q : F) where
   restarts-by Late e s f = refl
 
   feeds-one : (x : Expected) (s : ℕ) (f : F) → feedsIn (eventsOne q x s f) ≡ outOne (comingOf x s)
-  feeds-one First s f = refl
-  feeds-one (Stamp e) s f = feeds-by (comingBy (ahead e s)) e s f
+  feeds-one x s f = feeds-by (comingOf x s) (stampOf x) s f
 
   restarts-one : (x : Expected) (s : ℕ) (f : F) → restartsIn (eventsOne q x s f) ≡ resetOne (comingOf x s)
-  restarts-one First s f = refl
-  restarts-one (Stamp e) s f = restarts-by (comingBy (ahead e s)) e s f
+  restarts-one x s f = restarts-by (comingOf x s) (stampOf x) s f
 
   pub feeds-out : (x : Expected) (rs : List (Recorded F)) → feedsIn (eventsOf q x rs) ≡ outIn x (stampsOf rs)
   feeds-out x [] = refl
@@ -106,14 +105,12 @@ module _ {F : Type 0} (q : F) where
 
   -- ---- event by event: what is left of a recording after its first event
 
-  abbrev eventsIn : Arrival → Expected → Recorded F → List (Recorded F) → List (Event F)
-  eventsIn c First r rs = (feed (r .stamp) (r .frame) ∷ []) ++ eventsOf q (thenBy c First (r .stamp)) rs
-  eventsIn c (Stamp e) r rs = eventsBy c q e (r .stamp) (r .frame) ++ eventsOf q (thenBy c (Stamp e) (r .stamp)) rs
+  abbrev eventsAs : Arrival → Expected → Recorded F → List (Recorded F) → List (Event F)
+  eventsAs c x r rs = eventsBy c q (stampOf x) (r .stamp) (r .frame) ++ eventsOf q (thenBy c x (r .stamp)) rs
 
   module _ (r : Recorded F) (rs : List (Recorded F)) where
-    events-are : (x : Expected) (c : Arrival) → comingOf x (r .stamp) ≡ c → eventsOf q x (r ∷ rs) ≡ eventsIn c x r rs
-    events-are First c k = ap (λ (b : Arrival). eventsIn b First r rs) k
-    events-are (Stamp e) c k = ap (λ (b : Arrival). eventsIn b (Stamp e) r rs) k
+    events-are : (x : Expected) (c : Arrival) → comingOf x (r .stamp) ≡ c → eventsOf q x (r ∷ rs) ≡ eventsAs c x r rs
+    events-are x c k = ap (λ (b : Arrival). eventsAs b x r rs) k
 
     -- late: nothing
     pub events-late : (x : Expected) → comingOf x (r .stamp) ≡ Late → eventsOf q x (r ∷ rs) ≡ eventsOf q x rs
@@ -125,8 +122,7 @@ module _ {F : Type 0} (q : F) where
 
     -- next: the frame itself
     pub events-next : (x : Expected) → comingOf x (r .stamp) ≡ Next → eventsOf q x (r ∷ rs) ≡ feed (r .stamp) (r .frame) ∷ eventsOf q (thenOf x (r .stamp)) rs
-    events-next First k = refl
-    events-next (Stamp e) k = events-are (Stamp e) Next k ∙ ap (λ (c : Arrival). feed (r .stamp) (r .frame) ∷ eventsOf q (thenBy c (Stamp e) (r .stamp)) rs) (sym k)
+    events-next x k = events-are x Next k ∙ ap (λ (c : Arrival). feed (r .stamp) (r .frame) ∷ eventsOf q (thenBy c x (r .stamp)) rs) (sym k)
 
     -- a jump: a restart, and the frame is the one expected
     pub events-jump : (x : Expected) → r .stamp < 2 ^ 32 → comingOf x (r .stamp) ≡ Jump → eventsOf q x (r ∷ rs) ≡ restart ∷ eventsOf q (Stamp (r .stamp)) (r ∷ rs)

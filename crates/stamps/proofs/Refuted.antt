@@ -26,6 +26,11 @@ jump-late : comingOf (Stamp 1) 4098 ≡ Late → ⊥
 unfolding comingBy
 jump-late e = apart (cc)
 
+-- the first frame judged as if the stamp 0 were expected
+first-judged : comingOf First 5000 ≡ comingOf (Stamp 0) 5000 → ⊥
+unfolding comingBy
+first-judged e = apart (cc)
+
 -- ---- what is expected then
 
 -- a late frame that moves the stamp: after 7 and 3 the stamp 8 is next, and not four frames ahead
@@ -33,7 +38,7 @@ late-moves : silentIn First (7 ∷ 3 ∷ 8 ∷ []) ≡ 4 → ⊥
 unfolding comingBy
 late-moves e = omega arith
 
--- the same stamp again, after a frame and after a missing one; and a stamp that does not roll over
+-- the same stamp again, after a frame and after a missing one; and a stamp that stays at the top
 then-again : thenOf (Stamp 5) 5 ≡ Stamp 5 → ⊥
 unfolding comingBy
 then-again e = omega (arith, ap stampOf e)
@@ -41,7 +46,7 @@ then-again e = omega (arith, ap stampOf e)
 skipped-again : skippedOf (Stamp 5) ≡ Stamp 5 → ⊥
 skipped-again e = omega (arith, ap stampOf e)
 
-no-roll-over : skippedOf (Stamp 4294967295) ≡ Stamp 4294967296 → ⊥
+no-roll-over : skippedOf (Stamp 4294967295) ≡ Stamp 4294967295 → ⊥
 no-roll-over e = omega (arith, ap stampOf e)
 
 -- ---- what a recording comes to

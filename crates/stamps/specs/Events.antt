@@ -3,10 +3,9 @@
 use Prim.Native.Nat.{ℕ, zero, suc}
 use mathlib.Core.List.{List, [], _∷_, _++_, map}
 use Rattle.stamps.specs.declared.Expected.{Expected}
-use Rattle.stamps.specs.declared.Expected.the-variants.{First, Stamp}
 use Rattle.stamps.specs.declared.Arrival.{Arrival}
 use Rattle.stamps.specs.declared.Arrival.the-variants.{Next, Ahead, Jump, Late}
-use Rattle.stamps.specs.Arrivals.{ahead, following, comingBy, thenOf}
+use Rattle.stamps.specs.Arrivals.{following, comingOf, stampOf, thenOf}
 
 -- a recorded frame
 pub record Recorded (F : Type 0) : Type 0 where
@@ -24,7 +23,7 @@ module _ {F : Type 0} where
   silences q e zero = []
   silences q e (suc n) = feed e q ∷ silences q (following e) n
 
-  -- what one frame does, e being expected
+  -- what one frame does by what it is, e being the stamp that is expected, where there is one
   abbrev pub eventsBy : Arrival → F → ℕ → ℕ → F → List (Event F)
   eventsBy Next q e s f = feed s f ∷ []
   eventsBy (Ahead d) q e s f = silences q e d ++ (feed s f ∷ [])
@@ -32,8 +31,7 @@ module _ {F : Type 0} where
   eventsBy Late q e s f = []
 
   abbrev pub eventsOne : F → Expected → ℕ → F → List (Event F)
-  eventsOne q First s f = feed s f ∷ []
-  eventsOne q (Stamp e) s f = eventsBy (comingBy (ahead e s)) q e s f
+  eventsOne q x s f = eventsBy (comingOf x s) q (stampOf x) s f
 
   -- what a recording does
   abbrev pub eventsOf : F → Expected → List (Recorded F) → List (Event F)
@@ -43,12 +41,7 @@ module _ {F : Type 0} where
   abbrev pub stampsOf : List (Recorded F) → List ℕ
   stampsOf rs = map (λ (r : Recorded F). r .stamp) rs
 
-  -- how many frames are fed, and how many restarts there are
-  abbrev pub feedsIn : List (Event F) → ℕ
-  feedsIn [] = 0
-  feedsIn (feed s f ∷ es) = suc (feedsIn es)
-  feedsIn (restart ∷ es) = feedsIn es
-
+  -- how many restarts there are
   abbrev pub restartsIn : List (Event F) → ℕ
   restartsIn [] = 0
   restartsIn (feed s f ∷ es) = restartsIn es

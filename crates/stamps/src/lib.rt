@@ -1,10 +1,12 @@
-// The stamps of the line recorder (document 02, E5): "each with a 32-bit stamp that rolls over to zero. A frame is
+// Tells what a recorded frame is by its stamp, and what a recording comes to by its stamps alone.
+//
+// Document 02, E5, of the line recorder: "each with a 32-bit stamp that rolls over to zero. A frame is
 // next, ahead or late by the wrapped difference from the expected stamp: 0 is next, 1 to 2^31 - 1 is ahead, the
 // rest is late." What is expected goes in and comes back by value, so that a recording may be cut anywhere.
 // `plan` tells from the stamps alone how many frames come out of a recording, before anything is played.
 //
 // The definitions over the recorded list (specs/Arrivals, specs/Counts, specs/Events) have no wrapping function in
-// them. Under it lie `lists` and `refusals`.
+// them. Every public function takes any input.
 ghost use mathlib.Core.Path.{_≡_};
 ghost use Prim.Native.Nat.{_-_, _≤_, _<_, _^_};
 ghost use Rattle.stamps.specs.Arrivals.{following, comingBy, Comes, thenOf, skippedOf};
@@ -25,6 +27,7 @@ pub enum Arrival {
     Late,
 }
 
+// What a frame is whose stamp is so far ahead of the expected one.
 fn coming_by(difference: u32) -> Arrival
     ensures { λ r. ⌜ r ≡ comingBy difference ⌝ }
 {
@@ -50,13 +53,14 @@ pub fn coming(expected: Expected, stamp: u32) -> Arrival
     }
 }
 
+// The stamp after this one.
 fn one_on(stamp: u32) -> Expected
     ensures { λ r. ⌜ r ≡ Expected.Stamp (following stamp) ⌝ }
 {
     Expected::Stamp(std::num::wrapping_add_u32(stamp, 1))
 }
 
-// What is expected after it: as it was where the frame is late.
+// What is expected after a frame with this stamp; where it is late, what was.
 pub fn then_expected(expected: Expected, stamp: u32) -> Expected
     ensures { λ r. ⌜ r ≡ thenOf expected stamp ⌝ }
 {
@@ -112,6 +116,7 @@ struct Share {
     resets: usize,
 }
 
+// A frame of each kind.
 fn share_of(what: Arrival) -> Share
     requires { ⌜ silentOne what ≤ 4096 ⌝ }
     ensures { λ r. ⌜ r ≡ shareOf what ⌝ }
@@ -144,7 +149,8 @@ fn share_of(what: Arrival) -> Share
     }
 }
 
-// One frame more, if the room suffices: what is left of the room is compared, and no sum that passes it is formed.
+// One frame more, if the room suffices: what is left of the room is compared, and no count of frames that come out
+// is formed that passes it.
 fn plan_on(plan: Planned, stamp: u32, room: usize) -> Planned
     requires { ⌜ (plan .out ≤ room) × ((plan .silent ≤ plan .out) × ((plan .late < 2 ^ 64 - 1) × (plan .resets < 2 ^ 64 - 1))) ⌝ }
     ensures { λ r. ⌜ r ≡ planOn plan stamp room ⌝ }

@@ -8,7 +8,7 @@ use Rattle.replay.specs.declared.Replayed.{Replayed}
 use Rattle.replay.specs.declared.play.Turned.{Turned}
 use Rattle.replay.specs.Lines.{Line}
 use Rattle.replay.specs.Promise.{refusalIn, Replays}
-use Rattle.replay.specs.Computed.{lineOf, stateOf, Good, Kept}
+use Rattle.replay.specs.Computed.{lineOf, stateWith, Good, Kept}
 use Rattle.replay.specs.Steps.{Room, Turns}
 use Rattle.replay.proofs.Judging.{refusal-is, good, kept, room}
 use Rattle.replay.proofs.Answering.{promised-refused, promised-accepted}
@@ -20,7 +20,7 @@ abbrev line : tie.Start → Line
 line c = let a = c .args in lineOf (a .shape) (a .frames) (a .stride) (now (a .stamps)) (now (a .inputs)) (now (a .weights)) (now (a .row-of)) (now (a .taps)) (a .ear-stride)
 
 abbrev state : tie.Start → State
-state c = stateOf (c .args .desk) (now (c .args .rings))
+state c = stateWith (c .args .desk) (now (c .args .rings))
 
 -- where the number is picked
 abbrev begin : tie.After-picked-of → tie.Start
@@ -31,7 +31,7 @@ judged c =
     let s = begin c in
     let a = s .args in
     c .picked-of .ensures
-    ∙ refusal-is (line s) (a .expected) (state s) (length (now (a .ears))) (now (a .block)) (now (a .own)) (c .before .refusal .result) (a .plan) (s .pre .0 .0) (s .pre .0 .1) (c .before .refusal .ensures) (s .pre .1)
+    ∙ refusal-is (line s) (a .expected) (state s) (length (now (a .ears))) (now (a .block)) (now (a .block-ears)) (c .before .refusal .result) (a .plan) (s .pre .0 .0) (s .pre .0 .1) (c .before .refusal .ensures) (s .pre .1)
 
 accepted : (c : tie.Else1) → refusalIn (line (begin (c .before))) (begin (c .before) .args .expected) (state (begin (c .before))) (length (now (begin (c .before) .args .ears))) ≡ 0
 accepted c = sym (judged (c .before)) ∙ c .if1 .left
@@ -51,10 +51,10 @@ play-requires c κs =
     let s = begin (else .before) in
     let a = s .args in
     let e = accepted else in
-    subst (λ (first : Turned). Good (line s) × (Kept (line s) (stateOf (first .desk) (now (a .rings))) (now (a .block)) (now (a .own)) × Room (line s) first)) (sym (starts .start .ensures)) (
+    subst (λ (first : Turned). Good (line s) × (Kept (line s) (stateWith (first .desk) (now (a .rings))) (now (a .block)) (now (a .block-ears)) × Room (line s) first)) (sym (starts .start .ensures)) (
       good (line s) (a .expected) (state s) (length (now (a .ears))) e,
       (
-        kept (line s) (a .expected) (state s) (length (now (a .ears))) e (now (a .block)) (now (a .own)) (s .pre .0 .0) (s .pre .0 .1),
+        kept (line s) (a .expected) (state s) (length (now (a .ears))) e (now (a .block)) (now (a .block-ears)) (s .pre .0 .0) (s .pre .0 .1),
         room (line s) (a .expected) (state s) (length (now (a .ears))) e,
       ),
     )

@@ -38,7 +38,7 @@ turn-requires c κs =
     let a = s .args in (
       s .pre .0,
       (
-        going-kept (line s) (a .first) (now (a .rings)) (now (a .ears)) (now (a .block)) (now (a .own)) (at .loop .so-far) (at .loop .rings) (at .loop .ears) (at .loop .block) (at .loop .own) (at .loop .inv) (s .pre .0) (s .pre .1 .0),
+        going-kept (line s) (a .first) (now (a .rings)) (now (a .ears)) (now (a .block)) (now (a .block-ears)) (at .loop .so-far) (at .loop .rings) (at .loop .ears) (at .loop .block) (at .loop .block-ears) (at .loop .inv) (s .pre .0) (s .pre .1 .0),
         turns-room (line s) (a .first) (now (a .rings)) (now (a .ears)) (at .loop .so-far) (at .loop .rings) (at .loop .ears) (at .loop .inv .turns) (s .pre .1 .1),
       ),
     )

@@ -3,7 +3,7 @@ use mathlib.Core.Path.{sym, ap, _∙_}
 use mathlib.Core.Bool.{Bool}
 use denote.Ref.{now}
 use borrow.Author.Needs.{needs}
-use Rattle.replay.specs.Computed.{stateOf}
+use Rattle.replay.specs.Computed.{stateWith}
 use Rattle.replay.specs.Steps.{restedIf}
 use Rattle.replay.proofs.Convolver.{reset-leaves}
 use Rattle.replay.proofs.play.rest_if.Statement.{statement}
@@ -16,12 +16,12 @@ returns c =
     let start = test .before .before in
     let a = start .args in
     reset-leaves (a .desk) (a .speakers) (a .length) (now (a .rings)) _ (start .pre) (rest .reset .ensures)
-    ∙ sym (ap (λ (b : Bool). restedIf b (stateOf (a .desk) (now (a .rings)))) (test .if1 .taken))
+    ∙ sym (ap (λ (b : Bool). restedIf b (stateWith (a .desk) (now (a .rings)))) (test .if1 .taken))
 
 returns-2 : tie.Need-returns-2
 returns-2 c =
     let a = c .before .before .args in
-    sym (ap (λ (b : Bool). restedIf b (stateOf (a .desk) (now (a .rings)))) (c .if1 .left))
+    sym (ap (λ (b : Bool). restedIf b (stateWith (a .desk) (now (a .rings)))) (c .if1 .left))
 
 pub rest-if-spec : {M : Type 1} → statement M
 rest-if-spec = tie.close (tie.spec (λ c κs. search needs) (λ c. search needs) returns returns-2)
