@@ -47,7 +47,7 @@ some-length l good = not-outside (l .shape .length) 512 (good .long) .0
 
 -- ---- one turn
 
-module _ (l : Line) (p : Turned) (g : Gathered) (block₁ : List Float) (got : Gathers (recordingIn l) (l .shape .channels) (p .expected) (p .at) (l .frames) g block₁) where
+module _ (l : Line) (p : Turned) {g : Gathered} {block₁ : List Float} (got : Gathers (recordingIn l) (l .shape .channels) (p .expected) (p .at) (l .frames) g block₁) where
   abbrev fs : List (List Float)
   fs = framesOf block₁ 64 (l .shape .channels) (g .count)
 
@@ -70,14 +70,14 @@ module _ (l : Line) (p : Turned) (g : Gathered) (block₁ : List Float) (got : G
   turn-room room =
       omega (arith, room .room, fed-gone, ap feedsIn parted, feeds-append (quiet (l .shape .channels)) gone (eventsAt l (g .expected) (g .at)))
 
-  module _ (good : Good l) (rings block own : List Float) (kept : Kept l (stateWith (p .desk) rings) block own) (same : length block₁ ≡ length block) where
+  module _ (good : Good l) {rings block own : List Float} (kept : Kept l (stateWith (p .desk) rings) block own) (same : length block₁ ≡ length block) where
     abbrev t : State
     t = stateWith (p .desk) rings
 
     kept₁ : Kept l t block₁ own
     kept₁ = record { state = kept .state; blocked = same ∙ kept .blocked; eared = kept .eared }
 
-    module _ (a : Processed) (rings₁ own₁ : List Float) (plays : Processes (blockCall l (g .count) block₁ own) t (record { answer = a; rings = rings₁; ears = own₁ })) where
+    module _ {a : Processed} {rings₁ own₁ : List Float} (plays : Processes (blockCall l (g .count) block₁ own) t (record { answer = a; rings = rings₁; ears = own₁ })) where
       leaves : stateWith (a .desk) rings₁ ≡ left (setupIn l) t fs
       leaves = block-leaves l good t (g .count) block₁ own kept₁ (got .few) (record { answer = a; rings = rings₁; ears = own₁ }) plays
 
@@ -151,13 +151,13 @@ module _ (l : Line) (p : Turned) (g : Gathered) (block₁ : List Float) (got : G
 
 -- ---- turns one after another
 
-module _ (l : Line) (p : Turned) (rings ears : List Float) where
+module _ {l : Line} {p : Turned} {rings ears : List Float} where
   pub turns-none : p .at ≤ l .frames → Turns l p rings ears p rings ears
   turns-none h = record { gone = []; split = refl; leaves = refl; sounds = refl; out = sym (add-zero (p .done)); counts = sym (add-zero (p .unsettled)); within = h }
 
-  module _ (r : Turned) (rings₁ ears₁ : List Float) (a : Turns l p rings ears r rings₁ ears₁) where
-    pub turns-then : (r₂ : Turned) (rings₂ ears₂ : List Float) → Turns l r rings₁ ears₁ r₂ rings₂ ears₂ → Turns l p rings ears r₂ rings₂ ears₂
-    turns-then r₂ rings₂ ears₂ b =
+  module _ {r : Turned} {rings₁ ears₁ : List Float} (a : Turns l p rings ears r rings₁ ears₁) where
+    pub turns-then : {r₂ : Turned} {rings₂ ears₂ : List Float} → Turns l r rings₁ ears₁ r₂ rings₂ ears₂ → Turns l p rings ears r₂ rings₂ ears₂
+    turns-then {r₂} {rings₂} {ears₂} b =
         let u = setupIn l in
         let t = stateWith (p .desk) rings in
         record {
@@ -197,7 +197,7 @@ pub record Going (l : Line) (p : Turned) (rings ears block own : List Float) (r 
   pub block-long : length block₁ ≡ length block
   pub own-long : length own₁ ≡ length own
 
-module _ (l : Line) (p : Turned) (rings ears block own : List Float) (r : Turned) (rings₁ ears₁ block₁ own₁ : List Float) (g : Going l p rings ears block own r rings₁ ears₁ block₁ own₁) where
+module _ {l : Line} {p : Turned} {rings ears block own : List Float} {r : Turned} {rings₁ ears₁ block₁ own₁ : List Float} (g : Going l p rings ears block own r rings₁ ears₁ block₁ own₁) where
   pub going-kept : Good l → Kept l (stateWith (p .desk) rings) block own → Kept l (stateWith (r .desk) rings₁) block₁ own₁
   going-kept good k =
-      record { state = turns-stand l p rings ears r rings₁ ears₁ (g .turns) good (k .state); blocked = g .block-long ∙ k .blocked; eared = g .own-long ∙ k .eared }
+      record { state = turns-stand (g .turns) good (k .state); blocked = g .block-long ∙ k .blocked; eared = g .own-long ∙ k .eared }

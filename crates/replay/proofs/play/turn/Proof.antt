@@ -20,7 +20,7 @@ gather-requires c κs = let s = c .before .before .before .before .before .befor
 
 -- the frames that are gathered have room
 room : (c : tie.After-gather) → start c .args .so-far .done + c .gather .result .count ≤ start c .args .ear-stride
-room c = let s = start c in turn-room (line s) (s .args .so-far) (c .gather .result) (c .gather .last .1 .1 .1 .1 .1 .1 .1 .0) (c .gather .ensures) (s .pre .1 .1)
+room c = let s = start c in turn-room (line s) (s .args .so-far) (c .gather .ensures) (s .pre .1 .1)
 
 put-ears-requires : tie.Need-put-ears-requires
 put-ears-requires c κs = let got = c .before .before .before .before .before .before .before .before .before .before .before .before in omega (arith, room got, start got .fits)
@@ -31,7 +31,7 @@ rest-if-requires c κs =
     let got = proc .before .before .before .before .before .before in
     let s = start got in
     let a = s .args in
-    turn-resting (line s) (a .so-far) (got .gather .result) (got .gather .last .1 .1 .1 .1 .1 .1 .1 .0) (got .gather .ensures) (s .pre .0) (now (a .rings)) (now (a .block)) (now (a .block-ears)) (s .pre .1 .0) (omega (arith, got .gather .kept)) (proc .process .result) (proc .process .last .1 .1 .1 .1 .1 .1 .1 .1 .0) (proc .process .last .1 .1 .1 .1 .1 .1 .1 .1 .1 .0) (proc .process .ensures)
+    turn-resting (line s) (a .so-far) (got .gather .ensures) (s .pre .0) (s .pre .1 .0) (omega (arith, got .gather .kept)) (proc .process .ensures)
 
 add-t39 : tie.Need-add-t39
 add-t39 c = let got = c .before .before .before .before .before .before .before .before .before .before .before .before .before .before .before .before .before .before .before .before in omega (arith, room got, start got .fits)
@@ -47,7 +47,7 @@ add-t40 c =
       room got,
       start got .fits,
       s .pre .1 .1 .few,
-      turn-few (line s) (a .so-far) (got .gather .result) (got .gather .last .1 .1 .1 .1 .1 .1 .1 .0) (got .gather .ensures) (s .pre .0) (now (a .rings)) (now (a .block)) (now (a .block-ears)) (s .pre .1 .0) (omega (arith, got .gather .kept)) (proc .process .result) (proc .process .last .1 .1 .1 .1 .1 .1 .1 .1 .0) (proc .process .last .1 .1 .1 .1 .1 .1 .1 .1 .1 .0) (proc .process .ensures),
+      turn-few (line s) (a .so-far) (got .gather .ensures) (s .pre .0) (s .pre .1 .0) (omega (arith, got .gather .kept)) (proc .process .ensures),
     )
 
 returns : tie.Need-returns
@@ -58,7 +58,7 @@ returns c =
     let got = proc .before .before .before .before .before .before in
     let s = start got in
     let a = s .args in
-    turn-made (line s) (a .so-far) (got .gather .result) (got .gather .last .1 .1 .1 .1 .1 .1 .1 .0) (got .gather .ensures) (s .pre .0) (now (a .rings)) (now (a .block)) (now (a .block-ears)) (s .pre .1 .0) (omega (arith, got .gather .kept)) (proc .process .result) (proc .process .last .1 .1 .1 .1 .1 .1 .1 .1 .0) (proc .process .last .1 .1 .1 .1 .1 .1 .1 .1 .1 .0) (proc .process .ensures)
+    turn-made (line s) (a .so-far) (got .gather .ensures) (s .pre .0) (s .pre .1 .0) (omega (arith, got .gather .kept)) (proc .process .ensures)
     (now (a .ears)) (put .put-ears .last .0) (rest .rest-if .last .1 .1 .1 .1 .0) (rest .rest-if .result) (put .put-ears .ensures) (rest .rest-if .ensures)
 
 pub turn-spec : {M : Type 1} → statement M
