@@ -36,7 +36,7 @@ abbrev pub blockCall : Line → ℕ → List Float → List Float → Call
 blockCall l count block own =
     record { shape = l .shape; frames = count; stride = 64; inputs = block; weights = l .weights; rows = l .rows; taps = l .taps; ears = own }
 
-module _ (l : Line) (good : Good l) (t : State) (count : ℕ) (block own : List Float) (kept : Kept l t block own) (few : count ≤ 64) where
+module _ {l : Line} (good : Good l) {t : State} {count : ℕ} {block own : List Float} (kept : Kept l t block own) (few : count ≤ 64) where
   block-accepted : refusalOf (blockCall l count block own) t ≡ 0
   block-accepted =
       sym (accept (blockCall l count block own) t (
@@ -53,7 +53,7 @@ module _ (l : Line) (good : Good l) (t : State) (count : ℕ) (block own : List 
         ),
       ))
 
-  module _ (o : Outcome) (p : Processes (blockCall l count block own) t o) where
+  module _ {o : Outcome} (p : Processes (blockCall l count block own) t o) where
     abbrev fs : List (List Float)
     fs = framesOf block 64 (l .shape .channels) count
 

@@ -82,9 +82,9 @@ module _ (stamps : List ℕ) (channels stride : ℕ) (inputs : List Float) (x : 
   abbrev q : List Float
   q = quiet channels
 
-  pub gathering-none : (block : List Float) → at ≤ frames → length block ≡ channels * 64
+  pub gathering-none : {block : List Float} → at ≤ frames → length block ≡ channels * 64
       → Gathering rs channels x at frames (record { count = 0; at = at; restart = false; expected = x }) block
-  gathering-none block h e = record { stamps = []; as-many = refl; split = refl; few = zero-le; on = le-refl at; within = h; long = e }
+  gathering-none h e = record { stamps = []; as-many = refl; split = refl; few = zero-le; on = le-refl at; within = h; long = e }
 
   -- the recorded frame that comes next
   next-is : (k : ℕ) → k < frames → drop k rs ≡ recordedAt stamps channels stride inputs k ∷ drop (k + 1) rs
@@ -187,8 +187,8 @@ module _ (stamps : List ℕ) (channels stride : ℕ) (inputs : List Float) (x : 
     less-on Jump k = omega (arith, ap length left-is, ap length (events-jump q r after (g .expected) low k), ap length (again-is (Stamp s)))
     less-on Late k = omega (arith, free .1 .0, ap length left-is, ap length (events-late q r after (g .expected) k))
 
-  module _ (g : Gathered) (block : List Float) (p : Gathering rs channels x at frames g block) (going : goesOn g frames ≡ true)
-      (g₁ : Gathered) (block₁ : List Float) (t : Takes stamps channels stride inputs g block g₁ block₁) where
+  module _ {g : Gathered} {block : List Float} (p : Gathering rs channels x at frames g block) (going : goesOn g frames ≡ true)
+      {g₁ : Gathered} {block₁ : List Float} (t : Takes stamps channels stride inputs g block g₁ block₁) where
     abbrev kind : Arrival
     kind = comingOf (g .expected) (getD stamps (g .at) 0)
 
@@ -200,6 +200,6 @@ module _ (stamps : List ℕ) (channels stride : ℕ) (inputs : List Float) (x : 
     pub gathering-less : leftOf rs channels frames g₁ < leftOf rs channels frames g
     gathering-less = subst (λ (h : Gathered). leftOf rs channels frames h < leftOf rs channels frames g) (sym (t .taken)) (less-on g block p going (t .below) (t .stamp) kind refl)
 
-  pub gathering-all : (g : Gathered) (block : List Float) → Gathering rs channels x at frames g block → goesOn g frames ≡ false → Gathers rs channels x at frames g block
-  gathering-all g block p off =
+  pub gathering-all : {g : Gathered} {block : List Float} → Gathering rs channels x at frames g block → goesOn g frames ≡ false → Gathers rs channels x at frames g block
+  gathering-all {g} {block} p off =
       record { stamps = p .stamps; as-many = p .as-many; split = p .split; few = p .few; on = p .on; within = p .within; goes = goes-off-is g frames off }

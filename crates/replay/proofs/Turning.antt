@@ -79,13 +79,13 @@ module _ (l : Line) (p : Turned) {g : Gathered} {block₁ : List Float} (got : G
 
     module _ {a : Processed} {rings₁ own₁ : List Float} (plays : Processes (blockCall l (g .count) block₁ own) t (record { answer = a; rings = rings₁; ears = own₁ })) where
       leaves : stateWith (a .desk) rings₁ ≡ left (setupIn l) t fs
-      leaves = block-leaves l good t (g .count) block₁ own kept₁ (got .few) (record { answer = a; rings = rings₁; ears = own₁ }) plays
+      leaves = block-leaves good kept₁ (got .few) plays
 
       counts : a .unsettled ≡ counted (setupIn l) t fs
-      counts = block-counts l good t (g .count) block₁ own kept₁ (got .few) (record { answer = a; rings = rings₁; ears = own₁ }) plays
+      counts = block-counts good kept₁ (got .few) plays
 
       sounds : framesOf own₁ 64 2 (g .count) ≡ played (setupIn l) t fs
-      sounds = block-sounds l good t (g .count) block₁ own kept₁ (got .few) (record { answer = a; rings = rings₁; ears = own₁ }) plays
+      sounds = block-sounds good kept₁ (got .few) plays
 
       counts-gone : a .unsettled ≡ countedBy (setupIn l) t gone
       counts-gone =

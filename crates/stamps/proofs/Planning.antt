@@ -40,7 +40,7 @@ module _ (p : Planned) (s room : ℕ) where
       off z = absurd (omega arith)
 
   -- as `plan_on` does it
-  module _ (what : Arrival) (sh : Share) (ew : what ≡ comingOf (p .expected) s) (es : sh ≡ shareOf what) where
+  module _ {what : Arrival} {sh : Share} (ew : what ≡ comingOf (p .expected) s) (es : sh ≡ shareOf what) where
     same-share : sh ≡ shareOf (comingOf (p .expected) s)
     same-share = es ∙ ap shareOf ew
 
@@ -58,9 +58,9 @@ module _ (p : Planned) (s room : ℕ) where
         let over : room - p .out < share = omega (arith, h, ap (λ (y : Share). y .out) same-share) in
         sym (ap (λ (b : Bool). cond b (unplannedOf (p .expected)) added) (lt-ltb (room - p .out) share over))
 
-    pub on-counted : (x : Expected) → sh .out ≤ room - p .out → x ≡ thenOf (p .expected) s
+    pub on-counted : {x : Expected} → sh .out ≤ room - p .out → x ≡ thenOf (p .expected) s
         → record { fits = true; out = p .out + sh .out; late = p .late + sh .late; silent = p .silent + sh .silent; resets = p .resets + sh .resets; expected = x } ≡ planOn p s room
-    on-counted x h ex =
+    on-counted {x} h ex =
         let fit : share ≤ room - p .out = omega (arith, h, ap (λ (y : Share). y .out) same-share) in
         cc (ex, same-share) ∙ sym (ap (λ (b : Bool). cond b (unplannedOf (p .expected)) added) (le-ltb (room - p .out) share fit))
 
@@ -83,7 +83,7 @@ pub record Planning (x : Expected) (ss : List ℕ) (room : ℕ) (p : Planned) (i
 left-more : {B : Type 0} (f : List ℕ → B) (ss : List ℕ) (i : ℕ) → i < length ss → f (drop i ss) ≡ f (getD ss i 0 ∷ drop (i + 1) ss)
 left-more f ss i h = ap f (drop-cons ss i 0 h ∙ ap (λ (n : ℕ). getD ss i 0 ∷ drop n ss) (sym (add-one i)))
 
-module _ (x : Expected) (ss : List ℕ) (room : ℕ) where
+module _ {x : Expected} {ss : List ℕ} {room : ℕ} where
   pub planning-none : Planning x ss room (record { fits = true; out = 0; late = 0; silent = 0; resets = 0; expected = x }) 0
   planning-none =
       record {
@@ -100,7 +100,7 @@ module _ (x : Expected) (ss : List ℕ) (room : ℕ) where
         few = zero-le;
       }
 
-  module _ (p : Planned) (i : ℕ) (g : Planning x ss room p i) (h : i < length ss) where
+  module _ {p : Planned} {i : ℕ} (g : Planning x ss room p i) (h : i < length ss) where
     abbrev next : ℕ
     next = getD ss i 0
 
@@ -125,20 +125,20 @@ module _ (x : Expected) (ss : List ℕ) (room : ℕ) where
           few = omega (arith, g .few, one-reset c);
         }
 
-    pub planning-more : (r : Planned) → r ≡ planOn p next room → r .fits ≡ true → Planning x ss room r (i + 1)
-    planning-more r e t =
+    pub planning-more : {r : Planned} → r ≡ planOn p next room → r .fits ≡ true → Planning x ss room r (i + 1)
+    planning-more e t =
         let on = on-fits p next room (ap (λ (q : Planned). q .fits) (sym e) ∙ t) in
         rw (e ∙ on .1) (added-on (on .0))
 
     -- one too many
-    pub planning-stop : (r : Planned) → r ≡ planOn p next room → r .fits ≡ false → unplannedOf x ≡ planOf x ss room
-    planning-stop r e t =
+    pub planning-stop : {r : Planned} → r ≡ planOn p next room → r .fits ≡ false → unplannedOf x ≡ planOf x ss room
+    planning-stop e t =
         let over = on-unfit p next room (ap (λ (q : Planned). q .fits) (sym e) ∙ t) in
         let many : room < outIn x ss = omega (arith, over, g .out, g .within, left-more (outIn (p .expected)) ss i h) in
         sym (ap (λ (b : Bool). cond b (plannedOf x ss) (unplannedOf x)) (lt-leb (outIn x ss) room many))
 
-  pub planning-all : (p : Planned) (i : ℕ) → Planning x ss room p i → length ss ≤ i → p ≡ planOf x ss room
-  planning-all p i g h =
+  pub planning-all : {p : Planned} {i : ℕ} → Planning x ss room p i → length ss ≤ i → p ≡ planOf x ss room
+  planning-all {p} {i} g h =
       let none : drop i ss ≡ [] = drop-of-length-le ss h in
       let o : p .out ≡ outIn x ss = omega (arith, g .out, ap (outIn (p .expected)) none) in
       let l : p .late ≡ lateIn x ss = omega (arith, g .late, ap (lateIn (p .expected)) none) in

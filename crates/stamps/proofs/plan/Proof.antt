@@ -4,7 +4,6 @@ use Prim.Native.Nat.{_-_}
 use native.Mathlib.Omega.{arith}
 use borrow.Author.Needs.{needs}
 use borrow.Author.Tests.{not-true, not-false}
-use denote.Ref.{now}
 use lib.ListN.{length}
 use Rattle.stamps.proofs.Planning.{Planning, planning-none, planning-room, planning-more, planning-stop, planning-all}
 use Rattle.stamps.proofs.plan.Statement.{statement}
@@ -17,33 +16,26 @@ abbrev μ-loop : tie.MeasureT-loop
 μ-loop expected stamps room so-far₀ i₀ so-far i = length stamps - i
 
 loop-holds : tie.Need-loop-holds Inv-loop μ-loop
-loop-holds c = let a = c .before .args in planning-none (a .expected) (now (a .stamps)) (a .room)
+loop-holds c = planning-none
 
 plan-on-requires : tie.Need-plan-on-requires Inv-loop μ-loop
 plan-on-requires c κs =
-    let at = c .before .before in
-    let a = at .before .before .args in
-    planning-room (a .expected) (now (a .stamps)) (a .room) (at .loop .so-far) (at .loop .i) (at .loop .inv) (c .before .loop-test .taken) (search needs) (search needs)
+    planning-room (c .before .before .loop .inv) (c .before .loop-test .taken) (search needs) (search needs)
 
 returns : tie.Need-returns Inv-loop μ-loop
 returns c =
     let on = c .before .before .before in
-    let at = on .before .before .before in
-    let a = at .before .before .args in
-    c .unplanned .ensures ∙ planning-stop (a .expected) (now (a .stamps)) (a .room) (at .loop .so-far) (at .loop .i) (at .loop .inv) (on .before .before .loop-test .taken) (on .plan-on .result) (on .plan-on .ensures) (not-true _ (c .before .if1 .taken))
+    let test = on .before .before in
+    c .unplanned .ensures ∙ planning-stop (test .before .loop .inv) (test .loop-test .taken) (on .plan-on .ensures) (not-true _ (c .before .if1 .taken))
 
 loop-again : tie.Need-loop-again Inv-loop μ-loop
 loop-again c =
     let on = c .before .before in
-    let at = on .before .before .before in
-    let a = at .before .before .args in
-    planning-more (a .expected) (now (a .stamps)) (a .room) (at .loop .so-far) (at .loop .i) (at .loop .inv) (on .before .before .loop-test .taken) (on .plan-on .result) (on .plan-on .ensures) (not-false _ (c .if1 .left))
+    let test = on .before .before in
+    planning-more (test .before .loop .inv) (test .loop-test .taken) (on .plan-on .ensures) (not-false _ (c .if1 .left))
 
 returns-2 : tie.Need-returns-2 Inv-loop μ-loop
-returns-2 c =
-    let at = c .before in
-    let a = at .before .before .args in
-    planning-all (a .expected) (now (a .stamps)) (a .room) (at .loop .so-far) (at .loop .i) (at .loop .inv) (c .loop-test .left)
+returns-2 c = planning-all (c .before .loop .inv) (c .loop-test .left)
 
 pub plan-spec : {M : Type 1} → statement M
 plan-spec =

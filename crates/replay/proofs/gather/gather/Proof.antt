@@ -17,7 +17,7 @@ loop-holds : tie.Need-loop-holds Inv-loop μ-loop
 loop-holds c =
     let start = c .before .before .before in
     let a = start .args in
-    gathering-none (now (a .stamps)) (a .channels) (a .stride) (now (a .inputs)) (a .expected) (a .at) (a .frames) (now (a .block)) (start .pre .0) (start .pre .1 .1)
+    gathering-none (now (a .stamps)) (a .channels) (a .stride) (now (a .inputs)) (a .expected) (a .at) (a .frames) (start .pre .0) (start .pre .1 .1)
 
 take-one-requires : tie.Need-take-one-requires Inv-loop μ-loop
 take-one-requires c κs =
@@ -30,19 +30,17 @@ loop-less : tie.Need-loop-less Inv-loop μ-loop
 loop-less c =
     let took = c .before .before in
     let test = took .before .before .before in
-    let at = test .before in
-    let a = at .before .before .before .before .args in
-    gathering-less (now (a .stamps)) (a .channels) (a .stride) (now (a .inputs)) (a .expected) (a .at) (a .frames) (at .loop .so-far) (at .loop .block) (at .loop .inv)
-    (sym (test .goes-on .ensures) ∙ took .before .before .if1 .taken) (took .take-one .result) _ (took .take-one .ensures)
+    let a = test .before .before .before .before .before .args in
+    gathering-less (now (a .stamps)) (a .channels) (a .stride) (now (a .inputs)) (a .expected) (a .at) (a .frames) (test .before .loop .inv)
+    (sym (test .goes-on .ensures) ∙ took .before .before .if1 .taken) (took .take-one .ensures)
 
 loop-again : tie.Need-loop-again Inv-loop μ-loop
 loop-again c =
     let took = c .before .before in
     let test = took .before .before .before in
-    let at = test .before in
-    let a = at .before .before .before .before .args in
-    gathering-more (now (a .stamps)) (a .channels) (a .stride) (now (a .inputs)) (a .expected) (a .at) (a .frames) (at .loop .so-far) (at .loop .block) (at .loop .inv)
-    (sym (test .goes-on .ensures) ∙ took .before .before .if1 .taken) (took .take-one .result) _ (took .take-one .ensures)
+    let a = test .before .before .before .before .before .args in
+    gathering-more (now (a .stamps)) (a .channels) (a .stride) (now (a .inputs)) (a .expected) (a .at) (a .frames) (test .before .loop .inv)
+    (sym (test .goes-on .ensures) ∙ took .before .before .if1 .taken) (took .take-one .ensures)
 
 same-length : tie.Need-same-length Inv-loop μ-loop
 same-length c =
@@ -52,9 +50,8 @@ same-length c =
 returns : tie.Need-returns Inv-loop μ-loop
 returns c =
     let test = c .before in
-    let at = test .before in
-    let a = at .before .before .before .before .args in
-    gathering-all (now (a .stamps)) (a .channels) (a .stride) (now (a .inputs)) (a .expected) (a .at) (a .frames) (at .loop .so-far) (at .loop .block) (at .loop .inv) (sym (test .goes-on .ensures) ∙ c .if1 .left)
+    let a = test .before .before .before .before .before .args in
+    gathering-all (now (a .stamps)) (a .channels) (a .stride) (now (a .inputs)) (a .expected) (a .at) (a .frames) (test .before .loop .inv) (sym (test .goes-on .ensures) ∙ c .if1 .left)
 
 pub gather-spec : {M : Type 1} → statement M
 gather-spec =
