@@ -3,7 +3,7 @@ use mathlib.Core.Path.{_≡_, refl}
 use mathlib.Core.Bool.{Bool, cond}
 use Prim.Native.Nat.{ℕ, _+_, _^_, _≤_, _<_}
 use native.Mathlib.Omega.{arith}
-use borrow.Author.Tests.{eqb-true, eqb-false, ne-eqb, le-leb}
+use borrow.Author.Tests.{eqb-true, eqb-false, ne-eqb, le-leb, lt-leb, lt-ltb, le-ltb}
 use lib.Dec.{eqb, leb, ltb}
 use Rattle.lists.proofs.Tests.{by-test, by-less, by-at-most}
 use Rattle.stamps.specs.declared.Expected.{Expected}
@@ -29,6 +29,14 @@ difference-none = refl
 pub difference-few : (d : ℕ) → 0 < d → d ≤ 4096 → comingBy d ≡ Ahead d
 unfolding comingBy
 difference-few d some few = simp (ne-eqb d 0 (λ e. omega arith), le-leb d 4096 few)
+
+pub difference-more : (d : ℕ) → 4096 < d → d < 2 ^ 31 → comingBy d ≡ Jump
+unfolding comingBy
+difference-more d many less = simp (ne-eqb d 0 (λ e. omega arith), lt-leb d 4096 many, lt-ltb d (2 ^ 31) less)
+
+pub difference-half : (d : ℕ) → 2 ^ 31 ≤ d → comingBy d ≡ Late
+unfolding comingBy
+difference-half d most = simp (ne-eqb d 0 (λ e. omega arith), lt-leb d 4096 (omega arith), le-ltb d (2 ^ 31) most)
 
 -- ---- what a kind tells of the difference
 
