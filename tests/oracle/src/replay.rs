@@ -97,7 +97,8 @@ fn boundary_case(random: &mut Random, given: &Boundary) -> Case {
     line.judged_by(&right)
 }
 
-/// Gaps of 4,095 to 4,098 from several stamps, some across zero, after a frame and after a call. Those that are filled fill a request.
+/// Gaps of 4,095 to 4,098 from several stamps, some across zero, after a frame and after a call. Those that are filled take nearly all the ears that
+/// can be lent.
 fn gaps(random: &mut Random, count: usize) -> Vec<Line> {
     let mut all = Vec::new();
     for (i, expected) in [0, 1, 5, 4294967295, 4294967294, 4294963199, 4294963200, 4294963201, 4294966296, 2147483648, 2147481600].into_iter().enumerate() {
@@ -166,7 +167,7 @@ fn every_list(random: &mut Random, most: u32, from: i64) -> Vec<Line> {
 }
 
 /// NaNs and infinities in late frames, which are no damage; before silence and before a reset; several resets; every kind of float
-/// before a gap; frames that are swapped or repeated; nothing but late frames; and no frames at all.
+/// before a gap, in a late frame and before a reset; frames that are swapped or repeated; nothing but late frames; and no frames at all.
 fn damage(random: &mut Random) -> Vec<Line> {
     let mut all = Vec::new();
     let mut add = |expected: Option<u32>, stamps: &[u32], samples: &[f32]| {
@@ -189,6 +190,7 @@ fn damage(random: &mut Random) -> Vec<Line> {
     for kind in EVERY_KIND.map(f32::from_bits) {
         add(None, &[4294967295, 2, 3], &[kind, 1.0, -0.0]);
         add(Some(4294967295), &[0, 4294967295, 1], &[-0.0, kind, kind]);
+        add(None, &[10, 5000, 5002], &[kind, 1.0, kind]);
     }
     add(None, &[0, 5000, 10000, 15000, 20000], &[1.0, 2.0, 3.0, f32::NAN, 4.0]);
     add(Some(0), &[5000, 4999, 10000, 3, 10001], &[1.0, f32::NAN, 3.0, f32::NAN, 4.0]);
@@ -203,8 +205,8 @@ fn damage(random: &mut Random) -> Vec<Line> {
     all
 }
 
-/// Lines of about 64 and 128 frames: all of them next, across zero; with so many missing; with a reset behind so many; with late frames
-/// about there.
+/// Lines of about 64, 128 and 192 frames: all of them next, across zero; with so many missing; with a reset behind so many; with late
+/// frames about there; and two of several planes, one of as many as there may be.
 fn long(random: &mut Random, count: usize) -> Vec<Line> {
     let lengths: &[i64] = if count < 1000 { &[63, 64, 65] } else { &[62, 63, 64, 65, 66, 126, 127, 128, 129, 130, 192, 193] };
     let mut all = Vec::new();
@@ -221,10 +223,14 @@ fn long(random: &mut Random, count: usize) -> Vec<Line> {
             all.push(line);
         }
     }
+    for shape in [(6, 6, 2, 3), (16, 8, 8, 2)] {
+        let stamps: Vec<u32> = (0..66).chain([68]).collect();
+        all.push(Line::of(random, shape, None, &stamps));
+    }
     all
 }
 
-/// A small line with one or two of the reasons to refuse, in every pair, and with the reasons of one number each.
+/// A small line with one or two of the reasons to refuse, in every pair.
 fn pairs(random: &mut Random) -> Vec<Line> {
     let line = Line::longer(random, (1, 2, 2, 2), Some(10), &[10, 12, 11], 1, 1);
     let mut all = Vec::new();
@@ -306,7 +312,7 @@ fn misfits(random: &mut Random) -> Vec<Case> {
     all
 }
 
-/// As many frames as a request has room for, and as many stamps as can be lent: a length above that counts as that.
+/// Nearly as many frames as a request has room for, and as many stamps as can be lent: a length above that counts as that.
 fn largest(random: &mut Random) -> Vec<Case> {
     let mut stamps: Vec<u32> = (0..3900).map(|k: u32| k.wrapping_sub(1000)).collect();
     stamps[1500..].iter_mut().for_each(|stamp| *stamp += 100_000);
@@ -568,8 +574,12 @@ mod tests {
             .collect();
         assert_eq!(alone, [2, 2, 4, 5, 5, 5, 5, 5, 5, 5, 5, 5, 5, 7, 7, 8, 8]);
         let refusals: Vec<u8> = pairs(random).iter().map(Line::refusal).collect();
-        assert_eq!(refusals.len(), 17 + 17 * 16 / 2);
-        assert!((2..=8).all(|n| n == 3 || n == 6 || refusals.contains(&n)) && !refusals.contains(&0));
+        let mut first_of_each = Vec::new();
+        for (i, one) in alone.iter().enumerate() {
+            first_of_each.push(*one);
+            first_of_each.extend(alone[i + 1..].iter().map(|other| one.min(other)));
+        }
+        assert_eq!(refusals, first_of_each);
     }
 
     /// A cut anywhere leaves what the whole leaves.
