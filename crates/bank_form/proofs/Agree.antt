@@ -1,7 +1,7 @@
 -- Lists that begin alike have the same fields there, and a walk finds the same in both where all its fields end there.
 -- Assumes nothing.
 use mathlib.Core.Path.{_≡_, refl, ap}
-use mathlib.Core.Bool.{_&&_}
+use mathlib.Core.Bool.{Bool, true, false}
 use mathlib.Core.List.{List}
 use Prim.Native.Nat.{ℕ, zero, suc, _+_, _*_, _≤_}
 use native.Mathlib.Nat.{mul-le-mul-right}
@@ -12,27 +12,44 @@ use Rattle.big_endian.specs.Fields.{signedAt, floatAt}
 use Rattle.big_endian.specs.Lists.{strided}
 use Rattle.big_endian.proofs.Starts.{Agree, signed-agrees, float-agrees}
 use Rattle.lists.proofs.Tables.{tab-ext}
-use Rattle.bank_form.specs.Bank.{inRange}
-use Rattle.bank_form.specs.Fault.{rowSize, azimuthsFrom, rowsIn, lengthIn, field, tapsFault, isNew, rowFault, rowsFault, headField, headFault, faultIn}
+use lib.Dec.{eqb}
+use lib.IntN.{ℤ}
+use Rattle.bank_form.specs.Bank.{Pair, isAzimuth, isElevation}
+use Rattle.bank_form.specs.Version.{rowSize, tapsAt, elevationAt}
+use Rattle.bank_form.specs.Fault.{pairIn, pairsFrom, versionIn, rowsIn, lengthIn, field, tapsFault, isNew, elevationFault, rowFault, rowsFault, headField, headFault, faultIn}
+use Rattle.bank_form.specs.FaultLaws.{rowPlace}
 
 -- ---- fields
 
 module _ (k : ℕ) (s t : List ℕ) (same : Agree k s t) where
-  azimuths-agree : (l at n : ℕ) → at + n * rowSize l ≤ k → azimuthsFrom t l at n ≡ azimuthsFrom s l at n
+  elevation-agrees : (v at : ℕ) → tapsAt v at ≤ k → elevationAt v t at ≡ elevationAt v s at
+  unfolding elevationAt
+  elevation-agrees v at h = go (eqb v 1) refl
+    where
+      go : (b : Bool) → eqb v 1 ≡ b → elevationAt v t at ≡ elevationAt v s at
+      go true e = rw e
+      go false e = rw e (signed-agrees k s t same (at + 2) (rw e at h))
+
+  pair-agrees : (v at : ℕ) → tapsAt v at ≤ k → pairIn v t at ≡ pairIn v s at
+  pair-agrees v at h = λ i. record { azimuth = signed-agrees k s t same at (omega (arith, h)) i; elevation = elevation-agrees v at h i }
+
+  pairs-agree : (v l at n : ℕ) → at + n * rowSize v l ≤ k → pairsFrom t v l at n ≡ pairsFrom s v l at n
   unfolding strided
-  azimuths-agree l at n h =
-      tab-ext 0 n (λ j. signedAt t (at + j * rowSize l)) (λ j. signedAt s (at + j * rowSize l))
-      (λ j g. signed-agrees k s t same (at + j * rowSize l) (omega (arith, mul-le-mul-right (rowSize l) g)))
+  pairs-agree v l at n h =
+      tab-ext 0 n (λ j. pairIn v t (at + j * rowSize v l)) (λ j. pairIn v s (at + j * rowSize v l))
+      (λ j g. pair-agrees v (at + j * rowSize v l) (omega (arith, mul-le-mul-right (rowSize v l) g)))
 
-  new-agrees : (l at i : ℕ) → at + 2 ≤ k → 9 + i * rowSize l ≤ k
-      → isNew t l (signedAt t at) 9 i ≡ isNew s l (signedAt s at) 9 i
+  -- whether the pair at an offset is new, with i rows before it
+  pub new-agrees : (v l at i : ℕ) → tapsAt v at ≤ k → 9 + i * rowSize v l ≤ k
+      → isNew t v l (pairIn v t at) 9 i ≡ isNew s v l (pairIn v s at) 9 i
   unfolding isNew
-  new-agrees l at i h g = rw (azimuths-agree l 9 i g, signed-agrees k s t same at h)
+  new-agrees v l at i h g = rw (pairs-agree v l 9 i g, pair-agrees v at h)
 
-  -- whether the azimuth at an offset is good, with i rows before it
-  pub azimuth-agrees : (l at i : ℕ) → at + 2 ≤ k → 9 + i * rowSize l ≤ k
-      → (inRange (signedAt t at) && isNew t l (signedAt t at) 9 i) ≡ (inRange (signedAt s at) && isNew s l (signedAt s at) 9 i)
-  azimuth-agrees l at i h g = rw (new-agrees l at i h g, signed-agrees k s t same at h)
+  pub azimuth-agrees : (at : ℕ) → at + 2 ≤ k → isAzimuth (signedAt t at) ≡ isAzimuth (signedAt s at)
+  azimuth-agrees at h = ap isAzimuth (signed-agrees k s t same at h)
+
+  pub field-elevation-agrees : (at : ℕ) → at + 2 ≤ k → isElevation (signedAt t at) ≡ isElevation (signedAt s at)
+  field-elevation-agrees at h = ap isElevation (signed-agrees k s t same at h)
 
   -- ---- walks
 
@@ -46,20 +63,34 @@ module _ (k : ℕ) (s t : List ℕ) (same : Agree k s t) where
     taps-agree at zero h = refl
     taps-agree at (suc n) h = rw (tap-agrees at (omega arith), taps-agree (at + 4) n (omega arith))
 
-    pub row-agrees : (l i at : ℕ) → 9 + i * rowSize l ≤ k → at + rowSize l ≤ k
-        → rowFault size t l i at ≡ rowFault size s l i at
+    pub elevation-fault-agrees : (v at : ℕ) → tapsAt v at ≤ k → elevationFault size t v at ≡ elevationFault size s v at
+    unfolding elevationFault
+    elevation-fault-agrees v at h = go (eqb v 1) refl
+      where
+        go : (b : Bool) → eqb v 1 ≡ b → elevationFault size t v at ≡ elevationFault size s v at
+        go true e = rw e
+        go false e = rw e (ap (field size (at + 2) 2 20) (field-elevation-agrees (at + 2) (rw e at h)))
+
+    pub row-agrees : (v l i at : ℕ) → 9 + i * rowSize v l ≤ k → at + rowSize v l ≤ k
+        → rowFault size t v l i at ≡ rowFault size s v l i at
     unfolding rowFault
-    row-agrees l i at g h = rw (azimuth-agrees l at i (omega arith) g, taps-agree (at + 2) (2 * l) (omega arith))
+    row-agrees v l i at g h =
+        rw (
+          azimuth-agrees at (omega arith),
+          elevation-fault-agrees v at (omega arith),
+          new-agrees v l at i (omega arith) g,
+          taps-agree (tapsAt v at) (2 * l) (omega arith),
+        )
 
     -- n rows from `at` on, with i rows before them
-    rows-agree : (l i at n : ℕ) → 9 + i * rowSize l ≤ at → at + n * rowSize l ≤ k
-        → rowsFault size t l i at n ≡ rowsFault size s l i at n
+    rows-agree : (v l i at n : ℕ) → 9 + i * rowSize v l ≤ at → at + n * rowSize v l ≤ k
+        → rowsFault size t v l i at n ≡ rowsFault size s v l i at n
     unfolding rowsFault
-    rows-agree l i at zero g h = refl
-    rows-agree l i at (suc n) g h =
+    rows-agree v l i at zero g h = refl
+    rows-agree v l i at (suc n) g h =
         rw (
-          row-agrees l i at (omega arith) (omega arith),
-          rows-agree l (i + 1) (at + rowSize l) n (omega arith) (omega arith),
+          row-agrees v l i at (omega arith) (omega arith),
+          rows-agree v l (i + 1) (at + rowSize v l) n (omega arith) (omega arith),
         )
 
     head-field-agrees : (at count n low high : ℕ) → at + count ≤ k
@@ -78,12 +109,13 @@ module _ (k : ℕ) (s t : List ℕ) (same : Agree k s t) where
         )
 
     -- where all the rows end within the first k bytes
-    pub fault-agrees : 9 + rowsIn s * rowSize (lengthIn s) ≤ k → faultIn size t ≡ faultIn size s
+    pub fault-agrees : rowPlace s (rowsIn s) ≤ k → faultIn size t ≡ faultIn size s
     unfolding faultIn
     fault-agrees h =
         rw (
           head-agrees (omega arith),
+          same 0 1 (omega arith),
           same 5 2 (omega arith),
           same 7 2 (omega arith),
-          rows-agree (lengthIn s) 0 9 (rowsIn s) (omega arith) h,
+          rows-agree (versionIn s) (lengthIn s) 0 9 (rowsIn s) (omega arith) h,
         )

@@ -1,6 +1,6 @@
--- Laws that a caller's proof cites, worked files and banks, and that no two answers meet one promise.
+-- x
 pub mod Lists
-pub mod Azimuths
+pub mod Pairs
 pub mod Walk
 pub mod RoundTrip
 pub mod Exact
@@ -12,4 +12,5 @@ mod Left
 pub mod Order
 pub mod Start
 pub mod Worked
+pub mod Conversions
 mod Unique

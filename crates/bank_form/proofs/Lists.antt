@@ -14,7 +14,8 @@ use Rattle.big_endian.specs.Fields.{floatAt}
 use Rattle.big_endian.specs.Lists.{strided}
 use Rattle.big_endian.proofs.Lists.{strided-none, length-strided, strided-more, strided-snoc}
 use Rattle.bank_form.specs.Bank.{pairwise}
-use Rattle.bank_form.specs.Fault.{rowSize, rowTaps, tapsFrom}
+use Rattle.bank_form.specs.Version.{rowSize, tapsAt}
+use Rattle.bank_form.specs.Fault.{rowTaps, tapsFrom}
 
 -- four tests, two by two
 pub exchange : (a b c d : Bool) → (a && b && (c && d)) ≡ (a && c && (b && d))
@@ -68,20 +69,23 @@ module _ {A : Type 0} where
 
 -- ---- the taps of rows
 
-pub taps-none : (s : List ℕ) (l at : ℕ) → tapsFrom s l at 0 ≡ []
-unfolding tapsFrom
-taps-none s l at = ap (flatMap (rowTaps s l)) (strided-none (λ p. p) (rowSize l) at) ∙ joined-none (rowTaps s l)
+module _ (s : List ℕ) (v l at : ℕ) where
+  pub taps-none : tapsFrom s v l at 0 ≡ []
+  unfolding tapsFrom
+  taps-none = ap (flatMap (rowTaps s v l)) (strided-none (λ p. p) (rowSize v l) at) ∙ joined-none (rowTaps s v l)
 
-pub length-taps : (s : List ℕ) (l at n : ℕ) → length (tapsFrom s l at n) ≡ n * (2 * l)
-unfolding tapsFrom
-length-taps s l at n =
-    length-joined (rowTaps s l) (2 * l) (λ p. length-strided (floatAt s) 4 (p + 2) (2 * l)) (strided (λ p. p) (rowSize l) at n) ∙ ap (λ (k : ℕ). k * (2 * l)) (length-strided (λ p. p) (rowSize l) at n)
+  module _ (n : ℕ) where
+    pub length-taps : length (tapsFrom s v l at n) ≡ n * (2 * l)
+    unfolding tapsFrom
+    length-taps =
+        length-joined (rowTaps s v l) (2 * l) (λ p. length-strided (floatAt s) 4 (tapsAt v p) (2 * l)) (strided (λ p. p) (rowSize v l) at n)
+        ∙ ap (λ (k : ℕ). k * (2 * l)) (length-strided (λ p. p) (rowSize v l) at n)
 
--- one row more before the others, and behind them
-pub taps-more : (s : List ℕ) (l at n : ℕ) → tapsFrom s l at (suc n) ≡ rowTaps s l at ++ tapsFrom s l (at + rowSize l) n
-unfolding tapsFrom
-taps-more s l at n = ap (flatMap (rowTaps s l)) (strided-more (λ p. p) (rowSize l) at n) ∙ joined-more (rowTaps s l) at (strided (λ p. p) (rowSize l) (at + rowSize l) n)
+    -- one row more before the others, and behind them
+    pub taps-more : tapsFrom s v l at (suc n) ≡ rowTaps s v l at ++ tapsFrom s v l (at + rowSize v l) n
+    unfolding tapsFrom
+    taps-more = ap (flatMap (rowTaps s v l)) (strided-more (λ p. p) (rowSize v l) at n) ∙ joined-more (rowTaps s v l) at (strided (λ p. p) (rowSize v l) (at + rowSize v l) n)
 
-pub taps-snoc : (s : List ℕ) (l at n : ℕ) → tapsFrom s l at (suc n) ≡ tapsFrom s l at n ++ rowTaps s l (at + n * rowSize l)
-unfolding tapsFrom
-taps-snoc s l at n = ap (flatMap (rowTaps s l)) (strided-snoc (λ p. p) (rowSize l) at n) ∙ joined-snoc (rowTaps s l) (strided (λ p. p) (rowSize l) at n) (at + n * rowSize l)
+    pub taps-snoc : tapsFrom s v l at (suc n) ≡ tapsFrom s v l at n ++ rowTaps s v l (at + n * rowSize v l)
+    unfolding tapsFrom
+    taps-snoc = ap (flatMap (rowTaps s v l)) (strided-snoc (λ p. p) (rowSize v l) at n) ∙ joined-snoc (rowTaps s v l) (strided (λ p. p) (rowSize v l) at n) (at + n * rowSize v l)

@@ -13,11 +13,12 @@ use lib.ListN.{length}
 use Rattle.big_endian.specs.Fields.{fieldAt}
 use Rattle.refusals.specs.Ranges.{within}
 use Rattle.bank_form.specs.declared.Fault.{Fault}
-use Rattle.bank_form.specs.Fault.{rowSize, rowsIn, lengthIn, sound, unless, orElse, field, tapsFault, rowFault, rowsFault, headField, headFault, faultIn, fault}
+use Rattle.bank_form.specs.Version.{rowSize, tapsAt, pairAt}
+use Rattle.bank_form.specs.Fault.{versionIn, rowsIn, lengthIn, pairIn, isNew, elevationFault, sound, unless, orElse, field, tapsFault, rowFault, rowsFault, headField, headFault, faultIn, fault}
 use Rattle.bank_form.specs.FaultLaws.{fieldSize, ByteOrder}
-use Rattle.bank_form.proofs.Walk.{else-on, else-stop, field-short, field-bad, field-good, field-none, head-none, whole, nothing-found}
+use Rattle.bank_form.proofs.Walk.{else-on, else-stop, field-short, field-bad, field-good, field-none, no-elevation, elevation-field, elevation-none, head-none, whole, nothing-found}
 use Rattle.big_endian.proofs.Starts.{Agree, start-agrees, agree-less, float-agrees}
-use Rattle.bank_form.proofs.Agree.{azimuth-agrees, row-agrees, head-agrees, fault-agrees}
+use Rattle.bank_form.proofs.Agree.{new-agrees, azimuth-agrees, field-elevation-agrees, elevation-fault-agrees, row-agrees, head-agrees, fault-agrees}
 use Rattle.bank_form.proofs.Places.{row-ended}
 use Rattle.bank_form.proofs.Left.{bytes-left}
 
@@ -105,16 +106,42 @@ module _ (size : ℕ) (s t : List ℕ) where
       kept-next at 18 _ _ h (λ g. ap finite (float-agrees (at + 4) s t g at (le-refl (at + 4)))) (omega arith) _ _
       (kept-taps (at + 4) n)
 
-  kept-row : (l i at : ℕ) → at ≤ size → 9 + i * rowSize l ≤ at
-      → Kept at (rowFault size s l i at) (rowFault size t l i at)
-  unfolding rowFault
-  kept-row l i at h before =
-      kept-next at 17 _ _ h (λ g. azimuth-agrees (at + 2) s t g l at i (omega arith) (omega arith)) (omega arith) _ _
-      (kept-taps (at + 2) (2 * l))
+  kept-elevation : (v at : ℕ) → at + 2 ≤ size → Kept (at + 2) (elevationFault size s v at) (elevationFault size t v at)
+  kept-elevation v at h = go (eqb v 1) refl
+    where
+      go : (b : Bool) → eqb v 1 ≡ b → Kept (at + 2) (elevationFault size s v at) (elevationFault size t v at)
+      go true e = rw (no-elevation size s v at e) (kept-sound (at + 2) _)
+      go false e =
+          rw (elevation-field size s v at e, elevation-field size t v at e)
+          (kept-field (at + 2) 20 _ _ h (λ g. field-elevation-agrees (at + 2 + 2) s t g (at + 2) (le-refl (at + 2 + 2))))
 
-  module _ (rest : fieldAt s 1 4 ≡ size - 5) (l : ℕ) where
-    kept-rows : (i at n : ℕ) → at ≤ size → 9 + i * rowSize l ≤ at
-        → Kept at (rowsFault size s l i at n) (rowsFault size t l i at n)
+  -- the pair is compared once it is read: where the taps begin
+  kept-new : (v l i at : ℕ) → 9 + i * rowSize v l ≤ at
+      → Kept (tapsAt v at) (unless (isNew s v l (pairIn v s at) 9 i) 17 (pairAt v at)) (unless (isNew t v l (pairIn v t at) 9 i) 17 (pairAt v at))
+  kept-new v l i at before = go (isNew s v l (pairIn v s at) 9 i) refl
+    where
+      go : (b : Bool) → isNew s v l (pairIn v s at) 9 i ≡ b → Kept (tapsAt v at) (unless b 17 (pairAt v at)) (unless (isNew t v l (pairIn v t at) 9 i) 17 (pairAt v at))
+      go true e = kept-sound (tapsAt v at) _
+      go false e = record {
+        after = λ w. omega arith;
+        same = λ w g.
+            let start = agree-less _ (tapsAt v at) s t (omega arith) g in
+            ap (λ (b : Bool). unless b 17 (pairAt v at)) (new-agrees (tapsAt v at) s t start v l at i (le-refl (tapsAt v at)) (omega (arith, before)) ∙ e);
+      }
+
+  kept-row : (v l i at : ℕ) → at ≤ size → 9 + i * rowSize v l ≤ at
+      → Kept at (rowFault size s v l i at) (rowFault size t v l i at)
+  unfolding rowFault
+  kept-row v l i at h before =
+      kept-next at 17 _ _ h (λ g. azimuth-agrees (at + 2) s t g at (le-refl (at + 2))) (omega arith) _ _ (λ here.
+      kept-else (at + 2) (tapsAt v at) _ _ _ _ (omega arith) (kept-elevation v at here) (λ g. elevation-fault-agrees (tapsAt v at) s t g size v at (le-refl (tapsAt v at))) (λ e.
+      kept-else (tapsAt v at) (tapsAt v at) _ _ _ _ (le-refl (tapsAt v at)) (kept-new v l i at before)
+      (λ g. ap (λ (b : Bool). unless b 17 (pairAt v at)) (new-agrees (tapsAt v at) s t g v l at i (le-refl (tapsAt v at)) (omega (arith, before))))
+      (λ f. kept-taps (tapsAt v at) (2 * l) (elevation-none size s v at here e .0))))
+
+  module _ (rest : fieldAt s 1 4 ≡ size - 5) (v l : ℕ) where
+    kept-rows : (i at n : ℕ) → at ≤ size → 9 + i * rowSize v l ≤ at
+        → Kept at (rowsFault size s v l i at n) (rowsFault size t v l i at n)
     unfolding rowsFault
     kept-rows i at zero h before = go (eqb size at)
       where
@@ -122,18 +149,18 @@ module _ (size : ℕ) (s t : List ℕ) where
         go true = kept-sound at _
         go false = record { after = λ w. absurd (w .own refl rest); same = λ w g. refl }
     kept-rows i at (suc n) h before =
-        kept-else at (at + rowSize l) _ _ _ _ (omega arith) (kept-row l i at h before)
-        (λ g. row-agrees (at + rowSize l) s t g size l i at (omega arith) (omega arith))
-        (λ e. kept-rows (i + 1) (at + rowSize l) n (row-ended size s l i at e) (omega arith))
+        kept-else at (at + rowSize v l) _ _ _ _ (omega arith) (kept-row v l i at h before)
+        (λ g. row-agrees (at + rowSize v l) s t g size v l i at (omega arith) (omega arith))
+        (λ e. kept-rows (i + 1) (at + rowSize v l) n (row-ended size s v l i at e) (omega arith))
 
-  -- the rows behind a good head: each list has its own counts, and they are the same where the head is
+  -- the rows behind a good head: each list has its own version and counts, and they are the same where the head is
   kept-all : headFault size s .refusal ≡ 0
-      → Kept 9 (rowsFault size s (lengthIn s) 0 9 (rowsIn s)) (rowsFault size t (lengthIn t) 0 9 (rowsIn t))
+      → Kept 9 (rowsFault size s (versionIn s) (lengthIn s) 0 9 (rowsIn s)) (rowsFault size t (versionIn t) (lengthIn t) 0 9 (rowsIn t))
   kept-all e =
-      let k = kept-rows (head-none size s e .rest) (lengthIn s) 0 9 (rowsIn s) (head-none size s e .long) (omega arith) in
+      let k = kept-rows (head-none size s e .rest) (versionIn s) (lengthIn s) 0 9 (rowsIn s) (head-none size s e .long) (omega arith) in
       record {
         after = k .after;
-        same = λ w g. let nine = k .after w in rw (g 5 2 (omega arith), g 7 2 (omega arith)) (k .same w g);
+        same = λ w g. let nine = k .after w in rw (g 0 1 (omega arith), g 5 2 (omega arith), g 7 2 (omega arith)) (k .same w g);
       }
 
   kept-head : Kept 0 (headFault size s) (headFault size t)

@@ -14,8 +14,9 @@ use Rattle.big_endian.specs.Fields.{fieldAt}
 use Rattle.refusals.specs.Ranges.{within}
 use Rattle.refusals.proofs.Ranges.{within-true, within-low}
 use Rattle.bank_form.specs.declared.Fault.{Fault}
-use Rattle.bank_form.specs.Fault.{rowSize, largest, rowsIn, lengthIn, sound, wrong, orElse, headFault, headField, faultIn, fault}
-use Rattle.bank_form.specs.FaultLaws.{Begins, Exceeds, TakenFrom, suffices, StartSuffices}
+use Rattle.bank_form.specs.Version.{largest}
+use Rattle.bank_form.specs.Fault.{versionIn, rowsIn, lengthIn, sound, wrong, orElse, headFault, headField, faultIn, fault}
+use Rattle.bank_form.specs.FaultLaws.{rowPlace, Begins, Exceeds, TakenFrom, suffices, StartSuffices}
 use Rattle.bank_form.proofs.Walk.{Head, else-stop, field-in, head-none, fault-is, whole}
 use Rattle.big_endian.proofs.Starts.{Agree, start-agrees}
 use Rattle.bank_form.proofs.Agree.{head-agrees, fault-agrees}
@@ -24,11 +25,11 @@ use Rattle.bank_form.proofs.RoundTrip.{rows-reach}
 -- ---- the start
 
 -- a head without fault has at most 8 rows of 512 taps for each ear
-head-reach : (size : ℕ) (s : List ℕ) → Head size s → 9 + rowsIn s * rowSize (lengthIn s) ≤ largest
+head-reach : (size : ℕ) (s : List ℕ) → Head size s → rowPlace s (rowsIn s) ≤ largest
 head-reach size s head =
     let few = within-true 1 8 (rowsIn s) (head .few) .1 in
     let short = within-true 1 512 (lengthIn s) (head .short) .1 in
-    omega (arith, rows-reach (rowsIn s) 8 (lengthIn s) few short)
+    omega (arith, rows-reach (versionIn s) (rowsIn s) 8 (lengthIn s) few short)
 
 module _ (size k : ℕ) (s t : List ℕ) (same : Agree k s t) (long : largest ≤ k) where
   -- a head with a fault is all that is looked at
@@ -118,17 +119,17 @@ unfolding orElse
 stops-at-length x y = refl
 
 module _ (s : List ℕ) (size : ℕ) where
-  other-version : within 1 1 (fieldAt s 0 1) ≡ false → 1 ≤ size → faultIn size s ≡ wrong 13 0
+  other-version : within 1 2 (fieldAt s 0 1) ≡ false → 1 ≤ size → faultIn size s ≡ wrong 13 0
   unfolding headFault headField
-  other-version e h = fault-is size s ∙ rw (field-in size 0 1 13 (within 1 1 (fieldAt s 0 1)) (omega (arith, h)), e) (stops-at-version _ _)
+  other-version e h = fault-is size s ∙ rw (field-in size 0 1 13 (within 1 2 (fieldAt s 0 1)) (omega (arith, h)), e) (stops-at-version _ _)
 
-  longer-than-said : within 1 1 (fieldAt s 0 1) ≡ true → 6 + fieldAt s 1 4 ≤ size → faultIn size s ≡ wrong 14 1
+  longer-than-said : within 1 2 (fieldAt s 0 1) ≡ true → 6 + fieldAt s 1 4 ≤ size → faultIn size s ≡ wrong 14 1
   unfolding headFault headField
   longer-than-said e h =
       let other : within (size - 5) (size - 5) (fieldAt s 1 4) ≡ false = within-low (size - 5) (size - 5) (fieldAt s 1 4) (omega (arith, h)) in
       fault-is size s
       ∙ rw (
-        field-in size 0 1 13 (within 1 1 (fieldAt s 0 1)) (omega (arith, h)),
+        field-in size 0 1 13 (within 1 2 (fieldAt s 0 1)) (omega (arith, h)),
         e,
         field-in size 1 4 14 (within (size - 5) (size - 5) (fieldAt s 1 4)) (omega (arith, h)),
         other,
@@ -145,17 +146,17 @@ module _ (start : List ℕ) (size : ℕ) (file : List ℕ) (enough : T (suffices
 
   -- one fault for both
   told-of-longer : (f : Fault) × (faultIn size start ≡ f) × (fault file ≡ f) × (f .refusal ≡ 0 → ⊥)
-  told-of-longer = go (within 1 1 (fieldAt start 0 1)) refl
+  told-of-longer = go (within 1 2 (fieldAt start 0 1)) refl
     where
-      go : (good : Bool) → within 1 1 (fieldAt start 0 1) ≡ good → (f : Fault) × (faultIn size start ≡ f) × (fault file ≡ f) × (f .refusal ≡ 0 → ⊥)
+      go : (good : Bool) → within 1 2 (fieldAt start 0 1) ≡ good → (f : Fault) × (faultIn size start ≡ f) × (fault file ≡ f) × (f .refusal ≡ 0 → ⊥)
       go false e =
           let one : 1 ≤ size = rw e at (x .past) in
-          let version = ap (within 1 1) (same 0 1 (held 1 (omega arith) one)) ∙ e in
+          let version = ap (within 1 2) (same 0 1 (held 1 (omega arith) one)) ∙ e in
           (wrong 13 0, other-version start size e one, other-version file (length file) version (omega (arith, one, x .more)), λ z. omega (arith, z))
       go true e =
           let six : 6 + fieldAt start 1 4 ≤ size = rw e at (x .past) in
           let five = held 5 (omega arith) (omega (arith, six)) in
-          let version = ap (within 1 1) (same 0 1 (omega (arith, five))) ∙ e in
+          let version = ap (within 1 2) (same 0 1 (omega (arith, five))) ∙ e in
           let long : 6 + fieldAt file 1 4 ≤ length file = omega (arith, six, x .more, same 1 4 five) in
           (wrong 14 1, longer-than-said start size e six, longer-than-said file (length file) version long, λ z. omega (arith, z))
 

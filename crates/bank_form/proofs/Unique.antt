@@ -1,9 +1,12 @@
 -- No two answers meet one promise. Assumes nothing.
 use mathlib.Core.Path.{_≡_}
-use Prim.Native.Nat.{ℕ, min}
+use Prim.Native.Nat.{ℕ, _≤_, min}
 use Rattle.refusals.specs.OneAnswer.{OneAnswer}
-use Rattle.refusals.proofs.Determined.{determined}
-use Rattle.bank_form.specs.Fault.{rowSize}
+use Rattle.refusals.proofs.Determined.{determined, determined-by}
+use Rattle.bank_form.specs.Version.{elevationSize, rowSize}
 
-row-size-unique : (l : ℕ) → OneAnswer (λ (r : ℕ). r ≡ rowSize (min l 512))
-row-size-unique l = determined
+elevation-size-unique : (v : ℕ) → OneAnswer (λ (r : ℕ). (r ≡ elevationSize v) × (r ≤ 2))
+elevation-size-unique v = determined-by (λ r h. h .0)
+
+row-size-unique : (v l : ℕ) → OneAnswer (λ (r : ℕ). r ≡ rowSize v (min l 512))
+row-size-unique v l = determined

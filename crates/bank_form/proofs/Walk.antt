@@ -11,18 +11,18 @@ use lib.Dec.{ltb, eqb}
 use lib.Ieee.{binary32, fits}
 use lib.Ieee.Bits.{is-true, ofBits-fits}
 use lib.Ieee.Scale.{finite}
-use lib.IntN.{ℤ}
 use Rattle.big_endian.specs.Fields.{fieldAt, signedAt, floatAt}
 use Rattle.big_endian.specs.Lists.{strided}
 use Rattle.bank_form.specs.declared.Fault.{Fault}
 use Rattle.lists.specs.Tables.{every}
 use Rattle.refusals.specs.Ranges.{within}
 use Rattle.refusals.proofs.Ranges.{within-true, within-in}
-use Rattle.bank_form.specs.Bank.{inRange, differ, isTap}
-use Rattle.bank_form.specs.Fault.{rowSize, azimuthsFrom, rowTaps, tapsFrom, rowsIn, lengthIn, sound, wrong, unless, orElse, field, tapsFault, isNew, rowFault, rowsFault, headField, headFault, faultIn}
+use Rattle.bank_form.specs.Bank.{Pair, isAzimuth, isElevation, differ, isTap}
+use Rattle.bank_form.specs.Version.{rowSize, tapsAt, pairAt, elevationAt}
+use Rattle.bank_form.specs.Fault.{azimuthsFrom, elevationsFrom, rowTaps, tapsFrom, versionIn, rowsIn, lengthIn, pairIn, sound, wrong, unless, orElse, field, tapsFault, isNew, elevationFault, rowFault, rowsFault, headField, headFault, faultIn}
 use Rattle.lists.proofs.Every.{every-append}
 use Rattle.bank_form.proofs.Lists.{every-none, every-more, every-next, taps-none, taps-more}
-use Rattle.bank_form.proofs.Azimuths.{differ-same, differ-other}
+use Rattle.bank_form.proofs.Pairs.{differ-same}
 
 -- ---- one walk after another
 
@@ -112,15 +112,15 @@ module _ (size at count n : ℕ) (good : Bool) where
   unfolding field
   field-in h = rw (le-ltb size (at + count) h)
 
-  -- what holds of no fault, of a cut file and of a wrong field holds of a field
-  pub field-each : (P : Fault → Type 0) → P sound → P (wrong 19 size) → P (wrong n at) → P (field size at count n good)
+  -- what holds of no fault, of a cut file and of a field that is wrong holds of a field
+  pub field-each : (P : Fault → Type 0) → P sound → P (wrong 19 size) → (good ≡ false → P (wrong n at)) → P (field size at count n good)
   unfolding field
-  field-each P p q r = go (ltb size (at + count)) good
+  field-each P p q r = go (ltb size (at + count)) good refl
     where
-      go : (short right : Bool) → P (cond short (wrong 19 size) (unless right n at))
-      go true right = q
-      go false true = p
-      go false false = r
+      go : (short right : Bool) → good ≡ right → P (cond short (wrong 19 size) (unless right n at))
+      go true right e = q
+      go false true e = p
+      go false false e = r e
 
   pub field-none : 0 < n → field size at count n good .refusal ≡ 0 → (at + count ≤ size) × (good ≡ true)
   unfolding field
@@ -163,116 +163,174 @@ module _ (size : ℕ) (s : List ℕ) where
       let both = and-eq-true-iff _ _ .0 (sym (every-more (floatAt s) 4 isTap at n) ∙ e) in
       else-sound _ _ (field-good size at 4 18 _ (omega arith) (sym (tap-is s at) ∙ both .0)) (taps-sound (at + 4) n (omega arith) (both .1))
 
+-- ---- an elevation
+
+module _ (size : ℕ) (s : List ℕ) (v at : ℕ) where
+  -- version 1 has none, which is 0; any other has a field
+  pub no-elevation : eqb v 1 ≡ true → elevationFault size s v at ≡ sound
+  unfolding elevationFault
+  no-elevation e = rw e
+
+  pub elevation-field : eqb v 1 ≡ false → elevationFault size s v at ≡ field size (at + 2) 2 20 (isElevation (signedAt s (at + 2)))
+  unfolding elevationFault
+  elevation-field e = rw e
+
+  pub elevation-none : at + 2 ≤ size → elevationFault size s v at .refusal ≡ 0 → (tapsAt v at ≤ size) × (isElevation (elevationAt v s at) ≡ true)
+  unfolding elevationFault elevationAt isElevation
+  elevation-none h e = go (eqb v 1) refl
+    where
+      go : (t : Bool) → eqb v 1 ≡ t → (tapsAt v at ≤ size) × (isElevation (elevationAt v s at) ≡ true)
+      go true k = rw k (omega (arith, h), refl)
+      go false k =
+          let here = field-none size (at + 2) 2 20 (isElevation (signedAt s (at + 2))) (omega arith) (rw k at e) in
+          rw k (here .0, here .1)
+
+  pub elevation-sound : tapsAt v at ≤ size → isElevation (elevationAt v s at) ≡ true → elevationFault size s v at ≡ sound
+  unfolding elevationFault elevationAt
+  elevation-sound h e = go (eqb v 1) refl
+    where
+      go : (t : Bool) → eqb v 1 ≡ t → elevationFault size s v at ≡ sound
+      go true k = rw k
+      go false k = rw k (field-good size (at + 2) 2 20 _ (rw k at h) (rw k at e))
+
 -- ---- rows
 
 -- how many bytes a row has that is not too long
-pub one-size : (l r : ℕ) → l ≤ 512 → r ≡ rowSize (min l 512) → r ≡ rowSize l
-one-size l r h e = omega (arith, h, e)
+pub one-size : (v l r : ℕ) → l ≤ 512 → r ≡ rowSize v (min l 512) → r ≡ rowSize v l
+one-size v l r h e = omega (arith, h, e)
 
--- none of the i rows from 9 on has the azimuth that stands at an offset
-abbrev pub New : List ℕ → ℕ → ℕ → ℕ → Type 0
-New s l i at = isNew s l (signedAt s at) 9 i ≡ true
+-- none of the i rows from 9 on has the pair that stands at an offset
+abbrev pub New : List ℕ → ℕ → ℕ → ℕ → ℕ → Type 0
+New s v l i at = isNew s v l (pairIn v s at) 9 i ≡ true
 
 -- what n rows from `at` on say, with i rows before them, where the walk finds nothing
-pub record Rows (size : ℕ) (s : List ℕ) (l i at n : ℕ) : Type 0 where
-  pub ends : size ≡ at + n * rowSize l
-  pub range : every inRange (azimuthsFrom s l at n) ≡ true
-  pub new : (j : ℕ) → j < n → New s l (i + j) (at + j * rowSize l)
-  pub taps : every isTap (tapsFrom s l at n) ≡ true
+pub record Rows (size : ℕ) (s : List ℕ) (v l i at n : ℕ) : Type 0 where
+  pub ends : size ≡ at + n * rowSize v l
+  pub azimuths : every isAzimuth (azimuthsFrom s v l at n) ≡ true
+  pub elevations : every isElevation (elevationsFrom s v l at n) ≡ true
+  pub new : (j : ℕ) → j < n → New s v l (i + j) (at + j * rowSize v l)
+  pub taps : every isTap (tapsFrom s v l at n) ≡ true
 
-module _ (s : List ℕ) (l : ℕ) where
-  -- the walk over the azimuths of n rows from `at` on
-  module _ (z : ℤ) (at n : ℕ) (more : 0 < n) where
-    pub new-met : signedAt s at ≡ z → isNew s l z at n ≡ false
+module _ (s : List ℕ) (v l : ℕ) where
+  -- the walk over the pairs of n rows from `at` on
+  module _ (p : Pair) (at n : ℕ) (more : 0 < n) where
+    next : isNew s v l p at n ≡ (differ (pairIn v s at) p && isNew s v l p (at + rowSize v l) (n - 1))
     unfolding isNew
-    new-met e = rw (every-next (signedAt s) (rowSize l) (λ (y : ℤ). differ y z) at n more, e, differ-same z)
+    next = every-next (pairIn v s) (rowSize v l) (λ (q : Pair). differ q p) at n more
 
-    pub new-next : (signedAt s at ≡ z → ⊥) → isNew s l z at n ≡ isNew s l z (at + rowSize l) (n - 1)
-    unfolding isNew
-    new-next h = rw (every-next (signedAt s) (rowSize l) (λ (y : ℤ). differ y z) at n more, differ-other (signedAt s at) z h)
+    pub new-met : signedAt s at ≡ p .azimuth → elevationAt v s at ≡ p .elevation → isNew s v l p at n ≡ false
+    new-met e f = rw (next, differ-same (pairIn v s at) p e f)
 
-  pub new-end : (z : ℤ) (at : ℕ) → isNew s l z at 0 ≡ true
+    pub new-next : differ (pairIn v s at) p ≡ true → isNew s v l p at n ≡ isNew s v l p (at + rowSize v l) (n - 1)
+    new-next h = rw (next, h)
+
+  pub new-end : (p : Pair) (at : ℕ) → isNew s v l p at 0 ≡ true
   unfolding isNew
-  new-end z at = every-none (signedAt s) (rowSize l) (λ (y : ℤ). differ y z) at
+  new-end p at = every-none (pairIn v s) (rowSize v l) (λ (q : Pair). differ q p) at
 
-  moved : (i j at to : ℕ) → i ≡ j → at ≡ to → New s l i at → New s l j to
-  moved i j at to e f h = subst₂ (New s l) e f h
+  moved : (i j at to : ℕ) → i ≡ j → at ≡ to → New s v l i at → New s v l j to
+  moved i j at to e f h = subst₂ (New s v l) e f h
 
   -- the taps of n rows and one more are taps if the first row's are, and the others'
-  pub taps-parted : (at n : ℕ) → every isTap (tapsFrom s l at (suc n)) ≡ (every isTap (rowTaps s l at) && every isTap (tapsFrom s l (at + rowSize l) n))
-  taps-parted at n = ap (every isTap) (taps-more s l at n) ∙ every-append isTap (rowTaps s l at) (tapsFrom s l (at + rowSize l) n)
+  pub taps-parted : (at n : ℕ) → every isTap (tapsFrom s v l at (suc n)) ≡ (every isTap (rowTaps s v l at) && every isTap (tapsFrom s v l (at + rowSize v l) n))
+  taps-parted at n = ap (every isTap) (taps-more s v l at n) ∙ every-append isTap (rowTaps s v l at) (tapsFrom s v l (at + rowSize v l) n)
 
-module _ (size : ℕ) (s : List ℕ) (l : ℕ) where
-  pub rows-next : (i at n : ℕ) → 0 < n → rowsFault size s l i at n ≡ orElse (rowFault size s l i at) (rowsFault size s l (i + 1) (at + rowSize l) (n - 1))
+module _ (size : ℕ) (s : List ℕ) (v l : ℕ) where
+  pub rows-next : (i at n : ℕ) → 0 < n → rowsFault size s v l i at n ≡ orElse (rowFault size s v l i at) (rowsFault size s v l (i + 1) (at + rowSize v l) (n - 1))
   unfolding rowsFault
   rows-next i at zero h = absurd (omega arith)
   rows-next i at (suc n) h = rw (sub-one (suc n))
 
-  pub rows-end : (i at : ℕ) → rowsFault size s l i at 0 ≡ cond (eqb size at) sound (wrong 14 1)
+  pub rows-end : (i at : ℕ) → rowsFault size s v l i at 0 ≡ cond (eqb size at) sound (wrong 14 1)
   unfolding rowsFault
   rows-end i at = refl
 
-  pub row-is : (i at : ℕ) → rowFault size s l i at ≡ orElse (field size at 2 17 (inRange (signedAt s at) && isNew s l (signedAt s at) 9 i)) (tapsFault size s (at + 2) (2 * l))
+  -- what is walked over behind the azimuth of a row, and behind its elevation
+  abbrev pub behindElevation : ℕ → ℕ → Fault
+  behindElevation i at = orElse (unless (isNew s v l (pairIn v s at) 9 i) 17 (pairAt v at)) (tapsFault size s (tapsAt v at) (2 * l))
+
+  abbrev pub behindAzimuth : ℕ → ℕ → Fault
+  behindAzimuth i at = orElse (elevationFault size s v at) (behindElevation i at)
+
+  pub row-is : (i at : ℕ) → rowFault size s v l i at ≡ orElse (field size at 2 17 (isAzimuth (signedAt s at))) (behindAzimuth i at)
   unfolding rowFault
   row-is i at = refl
 
   -- what a row says that the walk finds nothing in
   record Row (i at : ℕ) : Type 0 where
-    range : inRange (signedAt s at) ≡ true
-    new : New s l i at
-    taps : every isTap (rowTaps s l at) ≡ true
+    azimuth : isAzimuth (signedAt s at) ≡ true
+    elevation : isElevation (elevationAt v s at) ≡ true
+    new : New s v l i at
+    taps : every isTap (rowTaps s v l at) ≡ true
 
-  row-none : (i at : ℕ) → rowFault size s l i at .refusal ≡ 0 → Row i at
+  row-none : (i at : ℕ) → rowFault size s v l i at .refusal ≡ 0 → Row i at
   row-none i at e =
-      let both = else-none _ _ (ap (λ (f : Fault). f .refusal) (sym (row-is i at)) ∙ e) in
-      let good = and-eq-true-iff _ _ .0 (field-none size at 2 17 _ (omega arith) (both .0) .1) in
-      record { range = good .0; new = good .1; taps = taps-good size s (at + 2) (2 * l) (both .1) }
+      let first = else-none _ _ (ap (λ (f : Fault). f .refusal) (sym (row-is i at)) ∙ e) in
+      let second = else-none _ _ (first .1) in
+      let third = else-none _ _ (second .1) in
+      let azimuth = field-none size at 2 17 _ (omega arith) (first .0) in
+      record {
+        azimuth = azimuth .1;
+        elevation = elevation-none size s v at (azimuth .0) (second .0) .1;
+        new = unless-none _ 17 (pairAt v at) (omega arith) (third .0);
+        taps = taps-good size s (tapsAt v at) (2 * l) (third .1);
+      }
 
-  row-sound : (i at : ℕ) → at + rowSize l ≤ size → Row i at → rowFault size s l i at ≡ sound
+  row-sound : (i at : ℕ) → at + rowSize v l ≤ size → Row i at → rowFault size s v l i at ≡ sound
   row-sound i at h r =
       row-is i at
-      ∙ else-sound _ _ (field-good size at 2 17 _ (omega arith) (and-eq-true-iff _ _ .1 (r .range, r .new)))
-      (taps-sound size s (at + 2) (2 * l) (omega arith) (r .taps))
+      ∙ else-sound _ _ (field-good size at 2 17 _ (omega (arith, h)) (r .azimuth))
+      (else-sound _ _ (elevation-sound size s v at (omega (arith, h)) (r .elevation))
+      (else-sound _ _ (rw (r .new)) (taps-sound size s (tapsAt v at) (2 * l) (omega (arith, h)) (r .taps))))
 
-  pub rows-none : (i at n : ℕ) → rowsFault size s l i at n .refusal ≡ 0 → Rows size s l i at n
+  pub rows-none : (i at n : ℕ) → rowsFault size s v l i at n .refusal ≡ 0 → Rows size s v l i at n
   unfolding rowsFault
   rows-none i at zero e = record {
     ends = ended (eqb size at) refl;
-    range = every-none (signedAt s) (rowSize l) inRange at;
+    azimuths = every-none (signedAt s) (rowSize v l) isAzimuth at;
+    elevations = every-none (elevationAt v s) (rowSize v l) isElevation at;
     new = λ j h. absurd (omega arith);
-    taps = ap (every isTap) (taps-none s l at);
+    taps = ap (every isTap) (taps-none s v l at);
   }
     where
-      ended : (t : Bool) → eqb size at ≡ t → size ≡ at + 0 * rowSize l
+      ended : (t : Bool) → eqb size at ≡ t → size ≡ at + 0 * rowSize v l
       ended true k = eqb-true size at k ∙ omega arith
       ended false k = let z : _≡_ {A = ℕ} 14 0 = rw k at e in absurd (omega arith)
   rows-none i at (suc n) e =
-      let both = else-none (rowFault size s l i at) (rowsFault size s l (i + 1) (at + rowSize l) n) e in
+      let both = else-none (rowFault size s v l i at) (rowsFault size s v l (i + 1) (at + rowSize v l) n) e in
       let row = row-none i at (both .0) in
-      let rest = rows-none (i + 1) (at + rowSize l) n (both .1) in
+      let rest = rows-none (i + 1) (at + rowSize v l) n (both .1) in
       record {
         ends = rest .ends ∙ omega arith;
-        range = every-more (signedAt s) (rowSize l) inRange at n ∙ and-eq-true-iff _ _ .1 (row .range, rest .range);
+        azimuths = every-more (signedAt s) (rowSize v l) isAzimuth at n ∙ and-eq-true-iff _ _ .1 (row .azimuth, rest .azimuths);
+        elevations = every-more (elevationAt v s) (rowSize v l) isElevation at n ∙ and-eq-true-iff _ _ .1 (row .elevation, rest .elevations);
         new = elim [
-          | zero ↦ λ h. moved s l i (i + 0) at (at + 0 * rowSize l) (omega arith) (omega arith) (row .new)
-          | suc j ↦ λ h. moved s l (i + 1 + j) (i + suc j) (at + rowSize l + j * rowSize l) (at + suc j * rowSize l) (omega arith) (omega arith) (rest .new j (le-of-suc-le-suc h))
+          | zero ↦ λ h. moved s v l i (i + 0) at (at + 0 * rowSize v l) (omega arith) (omega arith) (row .new)
+          | suc j ↦ λ h. moved s v l (i + 1 + j) (i + suc j) (at + rowSize v l + j * rowSize v l) (at + suc j * rowSize v l) (omega arith) (omega arith) (rest .new j (le-of-suc-le-suc h))
         ];
-        taps = taps-parted s l at n ∙ and-eq-true-iff _ _ .1 (row .taps, rest .taps);
+        taps = taps-parted s v l at n ∙ and-eq-true-iff _ _ .1 (row .taps, rest .taps);
       }
 
-  pub rows-sound : (i at n : ℕ) → Rows size s l i at n → rowsFault size s l i at n ≡ sound
+  pub rows-sound : (i at n : ℕ) → Rows size s v l i at n → rowsFault size s v l i at n ≡ sound
   unfolding rowsFault
   rows-sound i at zero r = rw (eq-eqb size at (r .ends ∙ omega arith))
   rows-sound i at (suc n) r =
-      let ranges = and-eq-true-iff _ _ .0 (sym (every-more (signedAt s) (rowSize l) inRange at n) ∙ r .range) in
-      let taps = and-eq-true-iff _ _ .0 (sym (taps-parted s l at n) ∙ r .taps) in
+      let azimuths = and-eq-true-iff _ _ .0 (sym (every-more (signedAt s) (rowSize v l) isAzimuth at n) ∙ r .azimuths) in
+      let elevations = and-eq-true-iff _ _ .0 (sym (every-more (elevationAt v s) (rowSize v l) isElevation at n) ∙ r .elevations) in
+      let taps = and-eq-true-iff _ _ .0 (sym (taps-parted s v l at n) ∙ r .taps) in
       let ends = r .ends in
       else-sound _ _
-      (row-sound i at (omega arith) (record { range = ranges .0; new = moved s l (i + 0) i (at + 0 * rowSize l) at (omega arith) (omega arith) (r .new 0 (omega arith)); taps = taps .0 }))
-      (rows-sound (i + 1) (at + rowSize l) n (record {
+      (row-sound i at (omega arith) (record {
+        azimuth = azimuths .0;
+        elevation = elevations .0;
+        new = moved s v l (i + 0) i (at + 0 * rowSize v l) at (omega arith) (omega arith) (r .new 0 (omega arith));
+        taps = taps .0;
+      }))
+      (rows-sound (i + 1) (at + rowSize v l) n (record {
         ends = ends ∙ omega arith;
-        range = ranges .1;
-        new = λ j h. moved s l (i + suc j) (i + 1 + j) (at + suc j * rowSize l) (at + rowSize l + j * rowSize l) (omega arith) (omega arith) (r .new (suc j) (suc-le-suc h));
+        azimuths = azimuths .1;
+        elevations = elevations .1;
+        new = λ j h. moved s v l (i + suc j) (i + 1 + j) (at + suc j * rowSize v l) (at + rowSize v l + j * rowSize v l) (omega arith) (omega arith) (r .new (suc j) (suc-le-suc h));
         taps = taps .1;
       }))
 
@@ -280,7 +338,7 @@ module _ (size : ℕ) (s : List ℕ) (l : ℕ) where
 
 -- what a head says in which the walk finds nothing, and a file
 pub record Head (size : ℕ) (s : List ℕ) : Type 0 where
-  pub version : fieldAt s 0 1 ≡ 1
+  pub version : within 1 2 (versionIn s) ≡ true
   pub rest : fieldAt s 1 4 ≡ size - 5
   pub few : within 1 8 (rowsIn s) ≡ true
   pub short : within 1 512 (lengthIn s) ≡ true
@@ -288,7 +346,7 @@ pub record Head (size : ℕ) (s : List ℕ) : Type 0 where
 
 pub record Whole (size : ℕ) (s : List ℕ) : Type 0 where
   pub head : Head size s
-  pub all : Rows size s (lengthIn s) 0 9 (rowsIn s)
+  pub all : Rows size s (versionIn s) (lengthIn s) 0 9 (rowsIn s)
 
 one-value : (n m : ℕ) → within m m n ≡ true → n ≡ m
 one-value n m h = let both = within-true m m n h in omega arith
@@ -296,11 +354,11 @@ one-value n m h = let both = within-true m m n h in omega arith
 pub head-none : (size : ℕ) (s : List ℕ) → headFault size s .refusal ≡ 0 → Head size s
 unfolding headFault headField
 head-none size s e =
-    let version = else-none (headField size s 0 1 13 1 1) _ e in
+    let version = else-none (headField size s 0 1 13 1 2) _ e in
     let rest = else-none (headField size s 1 4 14 (size - 5) (size - 5)) _ (version .1) in
     let counts = else-none (headField size s 5 2 15 1 8) _ (rest .1) in
     record {
-      version = one-value _ 1 (field-none size 0 1 13 _ (omega arith) (version .0) .1);
+      version = field-none size 0 1 13 _ (omega arith) (version .0) .1;
       rest = one-value _ _ (field-none size 1 4 14 _ (omega arith) (rest .0) .1);
       few = field-none size 5 2 15 _ (omega arith) (counts .0) .1;
       short = field-none size 7 2 16 _ (omega arith) (counts .1) .1;
@@ -311,20 +369,19 @@ head-sound : (size : ℕ) (s : List ℕ) → Head size s → headFault size s �
 unfolding headFault headField
 head-sound size s h =
     let nine = h .long in
-    let version : within 1 1 (fieldAt s 0 1) ≡ true = rw (h .version) in
     let rest : within (size - 5) (size - 5) (fieldAt s 1 4) ≡ true = rw (h .rest) (within-in (size - 5) (size - 5) (size - 5) (omega arith) (omega arith)) in
-    else-sound _ _ (field-good size 0 1 13 _ (omega arith) version)
+    else-sound _ _ (field-good size 0 1 13 _ (omega arith) (h .version))
     (else-sound _ _ (field-good size 1 4 14 _ (omega arith) rest)
     (else-sound _ _ (field-good size 5 2 15 _ (omega arith) (h .few)) (field-good size 7 2 16 _ (omega arith) (h .short))))
 
-pub fault-is : (size : ℕ) (s : List ℕ) → faultIn size s ≡ orElse (headFault size s) (rowsFault size s (lengthIn s) 0 9 (rowsIn s))
+pub fault-is : (size : ℕ) (s : List ℕ) → faultIn size s ≡ orElse (headFault size s) (rowsFault size s (versionIn s) (lengthIn s) 0 9 (rowsIn s))
 unfolding faultIn
 fault-is size s = refl
 
 pub whole : (size : ℕ) (s : List ℕ) → faultIn size s .refusal ≡ 0 → Whole size s
 whole size s e =
     let parts = else-none _ _ (ap (λ (f : Fault). f .refusal) (sym (fault-is size s)) ∙ e) in
-    record { head = head-none size s (parts .0); all = rows-none size s (lengthIn s) 0 9 (rowsIn s) (parts .1) }
+    record { head = head-none size s (parts .0); all = rows-none size s (versionIn s) (lengthIn s) 0 9 (rowsIn s) (parts .1) }
 
 pub nothing-found : (size : ℕ) (s : List ℕ) → Whole size s → faultIn size s ≡ sound
-nothing-found size s w = fault-is size s ∙ else-sound _ _ (head-sound size s (w .head)) (rows-sound size s (lengthIn s) 0 9 (rowsIn s) (w .all))
+nothing-found size s w = fault-is size s ∙ else-sound _ _ (head-sound size s (w .head)) (rows-sound size s (versionIn s) (lengthIn s) 0 9 (rowsIn s) (w .all))

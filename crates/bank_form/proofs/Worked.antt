@@ -1,4 +1,4 @@
--- Worked files and banks (document 02, E2): what is told of each, and at which byte. The short ones are computed; of a
+-- Worked files and banks (document 02, E2 and E6): what is told of each, and at which byte. The short ones are computed; of a
 -- file of 40,000 bytes the start is. Assumes nothing.
 use mathlib.Core.Path.{_≡_, refl, sym, ap, _∙_}
 use mathlib.Core.Bool.{false}
@@ -6,16 +6,17 @@ use mathlib.Core.List.{List, [], _∷_, _++_}
 use Prim.Native.Nat.{ℕ, _+_, _*_, _≤_, _<_}
 use native.Mathlib.Omega.{arith}
 use lib.Ieee.{fin, fits, ofFields, ofBits}
-use lib.IntN.{pos}
+use lib.IntN.{ℤ, pos}
 use lib.ListN.{length, take, set, replicate}
 use lib.Seq.{take-length}
 use Rattle.big_endian.specs.Bytes.{valueOf}
 use Rattle.big_endian.specs.Fields.{fieldAt, signedAt, floatAt}
 use Rattle.big_endian.specs.Lists.{strided}
 use Rattle.bank_form.specs.declared.Fault.{Fault}
-use Rattle.bank_form.specs.Bank.{Bank, rows, inRange, differ, isTap}
-use Rattle.bank_form.specs.Fault.{rowSize, rowsIn, lengthIn, sound, wrong, orElse, field, tapsFault, isNew, rowFault, rowsFault, headField, headFault, faultIn, fault}
-use Rattle.bank_form.specs.FaultLaws.{Begins}
+use Rattle.bank_form.specs.Bank.{Bank, pairsOf, rows, isAzimuth, isElevation, unlike, differ, isTap, isLevel}
+use Rattle.bank_form.specs.Version.{elevationAt}
+use Rattle.bank_form.specs.Fault.{rowsIn, bankIn, elevationFault, faultOf, raisedFrom, raised, sound, wrong, orElse, field, tapsFault, isNew, rowFault, rowsFault, headField, headFault, faultIn, fault}
+use Rattle.bank_form.specs.FaultLaws.{rowPlace, Begins}
 use Rattle.bank_form.specs.WriteFault.{tapsWrong, rowsWrong, writeFault}
 use Rattle.bank_form.proofs.Walk.{else-stop, fault-is}
 use Rattle.big_endian.proofs.Starts.{Agree, start-agrees}
@@ -23,7 +24,7 @@ use Rattle.bank_form.proofs.Agree.{head-agrees, fault-agrees}
 
 -- what opens this opens every definition that a walk computes with
 walk : ℕ → List ℕ → Fault
-unfolding faultIn headFault headField rowsFault rowFault isNew tapsFault field orElse inRange differ fieldAt signedAt floatAt valueOf strided ofBits ofFields
+unfolding faultIn headFault headField rowsFault rowFault elevationFault elevationAt isNew tapsFault field orElse isAzimuth isElevation unlike differ fieldAt signedAt floatAt valueOf strided ofBits ofFields faultOf raisedFrom isLevel
 walk size s = faultIn size s
 
 -- ---- the example of document 01: "One row at 0, L = 1, left 1.0, right 0.5"
@@ -69,9 +70,17 @@ two-rows-promised = refl
 
 -- ---- the head
 
-version-two : fault (0x02 ∷ []) ≡ wrong 13 0
+version-two-alone : fault (0x02 ∷ []) ≡ wrong 19 1
 unfolding walk
-version-two = refl
+version-two-alone = refl
+
+version-three : fault (0x03 ∷ []) ≡ wrong 13 0
+unfolding walk
+version-three = refl
+
+version-none : fault (0x00 ∷ []) ≡ wrong 13 0
+unfolding walk
+version-none = refl
 
 three-in-front : fault (0x03 ∷ example) ≡ wrong 13 0
 unfolding walk
@@ -131,6 +140,183 @@ two-rows-promised-tap-infinite : fault (set (set (set example 6 2) 15 0x7F) 16 0
 unfolding walk
 two-rows-promised-tap-infinite = refl
 
+-- ---- version 2: what is told in reading, and in turning it into version 1
+
+abbrev TurnsBack : List ℕ → Fault → Type 0
+TurnsBack s f = orElse (faultOf 2 s) (raised (bankIn s)) ≡ f
+
+abbrev head2 : List ℕ
+head2 = 0x02 ∷ 0x00 ∷ 0x00 ∷ 0x00 ∷ 0x10 ∷ 0x00 ∷ 0x01 ∷ 0x00 ∷ 0x01 ∷ []
+
+abbrev row2 : List ℕ
+row2 = 0x00 ∷ 0x00 ∷ 0x00 ∷ 0x00 ∷ 0x3F ∷ 0x80 ∷ 0x00 ∷ 0x00 ∷ 0x3F ∷ 0x00 ∷ 0x00 ∷ 0x00 ∷ []
+
+abbrev example2 : List ℕ
+example2 = head2 ++ row2
+
+-- a row like the example's with these four bytes for its azimuth and its elevation
+abbrev rowAt : ℕ → ℕ → ℕ → ℕ → List ℕ
+rowAt a b c d = set (set (set (set row2 0 a) 1 b) 2 c) 3 d
+
+-- files of one row, and of two
+abbrev oneAt : ℕ → ℕ → ℕ → ℕ → List ℕ
+oneAt a b c d = head2 ++ rowAt a b c d
+
+abbrev twoRows : List ℕ → List ℕ → List ℕ
+twoRows first second = set (set head2 4 0x1C) 6 2 ++ first ++ second
+
+the-example-read : fault example2 ≡ sound
+unfolding walk
+the-example-read = refl
+
+the-example-of-version-1-back : faultOf 2 example ≡ wrong 13 0
+unfolding walk
+the-example-of-version-1-back = refl
+
+the-example-forward : faultOf 1 example ≡ sound
+unfolding walk
+the-example-forward = refl
+
+the-example-2-forward : faultOf 1 example2 ≡ wrong 13 0
+unfolding walk
+the-example-2-forward = refl
+
+the-example-2-back : TurnsBack example2 sound
+unfolding walk
+the-example-2-back = refl
+
+three-forward : faultOf 1 (0x03 ∷ example) ≡ wrong 13 0
+unfolding walk
+three-forward = refl
+
+three-back : faultOf 2 (0x03 ∷ example) ≡ wrong 13 0
+unfolding walk
+three-back = refl
+
+nothing-forward : faultOf 1 [] ≡ wrong 19 0
+unfolding walk
+nothing-forward = refl
+
+nothing-back : faultOf 2 [] ≡ wrong 19 0
+unfolding walk
+nothing-back = refl
+
+elevation-901 : fault (oneAt 0x00 0x00 0x03 0x85) ≡ wrong 20 11
+unfolding walk
+elevation-901 = refl
+
+elevation-minus-901 : fault (oneAt 0x00 0x00 0xFC 0x7B) ≡ wrong 20 11
+unfolding walk
+elevation-minus-901 = refl
+
+elevation-901-forward : faultOf 1 (oneAt 0x00 0x00 0x03 0x85) ≡ wrong 13 0
+unfolding walk
+elevation-901-forward = refl
+
+elevation-901-back : TurnsBack (oneAt 0x00 0x00 0x03 0x85) (wrong 20 11)
+unfolding walk
+elevation-901-back = refl
+
+elevation-900 : fault (oneAt 0x00 0x00 0x03 0x84) ≡ sound
+unfolding walk
+elevation-900 = refl
+
+elevation-minus-900 : fault (oneAt 0x00 0x00 0xFC 0x7C) ≡ sound
+unfolding walk
+elevation-minus-900 = refl
+
+azimuth-minus-1800-and-elevation-901 : fault (oneAt 0xF8 0xF8 0x03 0x85) ≡ wrong 17 9
+unfolding walk
+azimuth-minus-1800-and-elevation-901 = refl
+
+azimuth-minus-1800-and-elevation-901-back : TurnsBack (oneAt 0xF8 0xF8 0x03 0x85) (wrong 17 9)
+unfolding walk
+azimuth-minus-1800-and-elevation-901-back = refl
+
+level-and-raised : fault (twoRows row2 (rowAt 0x00 0x00 0x00 0x64)) ≡ sound
+unfolding walk
+level-and-raised = refl
+
+level-and-raised-back : TurnsBack (twoRows row2 (rowAt 0x00 0x00 0x00 0x64)) (wrong 21 23)
+unfolding walk
+level-and-raised-back = refl
+
+pair-repeated : fault (twoRows (rowAt 0x00 0x00 0x00 0x64) (rowAt 0x00 0x00 0x00 0x64)) ≡ wrong 17 23
+unfolding walk
+pair-repeated = refl
+
+pair-repeated-back : TurnsBack (twoRows (rowAt 0x00 0x00 0x00 0x64) (rowAt 0x00 0x00 0x00 0x64)) (wrong 17 23)
+unfolding walk
+pair-repeated-back = refl
+
+second-at-901 : fault (twoRows row2 (rowAt 0x00 0x00 0x03 0x85)) ≡ wrong 20 23
+unfolding walk
+second-at-901 = refl
+
+second-at-901-back : TurnsBack (twoRows row2 (rowAt 0x00 0x00 0x03 0x85)) (wrong 20 23)
+unfolding walk
+second-at-901-back = refl
+
+first-at-901-before-the-second-azimuth : fault (twoRows (rowAt 0x00 0x00 0x03 0x85) (rowAt 0x07 0x09 0x00 0x00)) ≡ wrong 20 11
+unfolding walk
+first-at-901-before-the-second-azimuth = refl
+
+azimuth-repeated-in-version-1 : fault (set (set head 4 0x18) 6 2 ++ row ++ row) ≡ wrong 17 19
+unfolding walk
+azimuth-repeated-in-version-1 = refl
+
+azimuth-repeated-forward : faultOf 1 (set (set head 4 0x18) 6 2 ++ row ++ row) ≡ wrong 17 19
+unfolding walk
+azimuth-repeated-forward = refl
+
+azimuth-repeated-back : faultOf 2 (set (set head 4 0x18) 6 2 ++ row ++ row) ≡ wrong 13 0
+unfolding walk
+azimuth-repeated-back = refl
+
+cut-behind-an-azimuth : fault (set (set head2 4 0x12) 6 2 ++ row2 ++ (0x01 ∷ 0xC2 ∷ [])) ≡ wrong 19 23
+unfolding walk
+cut-behind-an-azimuth = refl
+
+cut-behind-azimuth-1801 : fault (set (set head2 4 0x12) 6 2 ++ row2 ++ (0x07 ∷ 0x09 ∷ [])) ≡ wrong 17 21
+unfolding walk
+cut-behind-azimuth-1801 = refl
+
+poles : fault (twoRows (rowAt 0x00 0x00 0x03 0x84) (rowAt 0x01 0xC2 0x03 0x84)) ≡ sound
+unfolding walk
+poles = refl
+
+poles-back : TurnsBack (twoRows (rowAt 0x00 0x00 0x03 0x84) (rowAt 0x01 0xC2 0x03 0x84)) (wrong 21 11)
+unfolding walk
+poles-back = refl
+
+version-1-with-2-in-front : fault (set example 0 2) ≡ wrong 20 11
+unfolding walk
+version-1-with-2-in-front = refl
+
+version-1-with-2-in-front-forward : faultOf 1 (set example 0 2) ≡ wrong 13 0
+unfolding walk
+version-1-with-2-in-front-forward = refl
+
+version-1-with-2-in-front-back : faultOf 2 (set example 0 2) ≡ wrong 20 11
+unfolding walk
+version-1-with-2-in-front-back = refl
+
+version-2-with-1-in-front : fault (set example2 0 1) ≡ wrong 14 1
+unfolding walk
+version-2-with-1-in-front = refl
+
+version-2-with-1-in-front-forward : faultOf 1 (set example2 0 1) ≡ wrong 14 1
+unfolding walk
+version-2-with-1-in-front-forward = refl
+
+version-2-with-1-in-front-back : faultOf 2 (set example2 0 1) ≡ wrong 13 0
+unfolding walk
+version-2-with-1-in-front-back = refl
+
+raised-back : TurnsBack (oneAt 0x00 0x00 0x00 0x64) (wrong 21 11)
+unfolding walk
+raised-back = refl
+
 -- ---- files of 40,000 bytes, whatever stands behind what is looked at
 
 -- what is told of every file of 40,000 bytes that begins with these
@@ -156,7 +342,7 @@ module _ (start file : List ℕ) (begins : Begins start 40000 file) where
       sized ∙ fault-is 40000 file ∙ sym (else-stop _ _ (wrong n at) (sym head) (λ z. omega (arith, z, some)))
 
   -- and so is one behind rows that are all in the start
-  by-rows : 9 + rowsIn start * rowSize (lengthIn start) ≤ length start → fault file ≡ faultIn 40000 start
+  by-rows : rowPlace start (rowsIn start) ≤ length start → fault file ≡ faultIn 40000 start
   by-rows all = sized ∙ fault-agrees (length start) start file same 40000 all
 
 nine-rows : Told (changed 0x9C 0x3B 9) (wrong 15 5)
@@ -171,21 +357,38 @@ nine-rows-in-a-buffer : Told (changed 0x80 0x15 9) (wrong 14 1)
 unfolding walk
 nine-rows-in-a-buffer file begins = by-head _ file begins 14 1 (omega arith) (omega arith) refl
 
--- ---- banks that are to be written
+-- ---- banks that are to be written, in version 2
 
-pub written-no-rows : writeFault (record { azimuths = []; length = 513; taps = [] }) ≡ wrong 15 5
+pub written-no-rows : writeFault 2 (record { azimuths = []; elevations = []; length = 513; taps = [] }) ≡ wrong 15 5
 unfolding writeFault orElse
 written-no-rows = refl
 
--- three rows of one tap for each ear, all of them 0.0
-abbrev threeRows : Bank
-threeRows = record { azimuths = pos 0 ∷ pos 450 ∷ pos 0 ∷ []; length = 1; taps = replicate 6 (fin false 0 (pos 0)) }
+-- rows of one tap for each ear, all of them 0.0
+abbrev levelRows : List ℤ → List ℤ → Bank
+levelRows zs es = record { azimuths = zs; elevations = es; length = 1; taps = replicate (2 * length zs) (fin false 0 (pos 0)) }
 
-written-third-as-the-first : writeFault threeRows ≡ wrong 17 29
-unfolding writeFault rowsWrong tapsWrong orElse inRange differ isTap fits
+-- what opens this opens every definition that the writer's walk computes with
+writes : Bank → Fault
+unfolding writeFault rowsWrong tapsWrong orElse isAzimuth isElevation unlike differ isTap fits pairsOf
+writes b = writeFault 2 b
+
+written-third-as-the-first : writeFault 2 (levelRows (pos 0 ∷ pos 450 ∷ pos 0 ∷ []) (pos 0 ∷ pos 0 ∷ pos 0 ∷ [])) ≡ wrong 17 35
+unfolding writes
 written-third-as-the-first = refl
 
+written-above-the-first : writeFault 2 (levelRows (pos 0 ∷ pos 0 ∷ []) (pos 0 ∷ pos 100 ∷ [])) ≡ sound
+unfolding writes
+written-above-the-first = refl
+
+written-at-901 : writeFault 2 (levelRows (pos 0 ∷ pos 0 ∷ []) (pos 0 ∷ pos 901 ∷ [])) ≡ wrong 20 23
+unfolding writes
+written-at-901 = refl
+
+written-at-1801-and-901 : writeFault 2 (levelRows (pos 1801 ∷ []) (pos 901 ∷ [])) ≡ wrong 17 9
+unfolding writes
+written-at-1801-and-901 = refl
+
 -- a row count that passes two bytes is judged as a number, whatever else the bank holds
-written-65537-rows : (b : Bank) → rows b ≡ 65537 → writeFault b ≡ wrong 15 5
+written-65537-rows : (v : ℕ) (b : Bank) → rows b ≡ 65537 → writeFault v b ≡ wrong 15 5
 unfolding writeFault orElse
-written-65537-rows b e = rw e
+written-65537-rows v b e = rw e

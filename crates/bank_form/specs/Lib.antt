@@ -1,5 +1,6 @@
 -- What a bank file is, and what a walk over one finds.
 pub mod Bank
+pub mod Version
 pub mod Encoding
 pub mod Fault
 pub mod File

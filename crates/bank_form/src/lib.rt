@@ -9,8 +9,8 @@
 // (proofs/RoundTrip.antt), that the walk finds nothing exactly if the bytes are those of a bank that keeps the
 // form (proofs/Exact.antt), and what the first fault depends on (specs/FaultLaws.antt).
 ghost use mathlib.Core.Path.{_≡_};
-ghost use Prim.Native.Nat.{min};
-ghost use Rattle.bank_form.specs.Fault.{rowSize};
+ghost use Prim.Native.Nat.{_≤_, min};
+ghost use Rattle.bank_form.specs.Version.{elevationSize, rowSize};
 
 // The first field that breaks the form: the number that tells which, and the offset of its first byte; of 19, the
 // file's size. Both are 0 where none does.
@@ -19,19 +19,30 @@ pub struct Fault {
     pub offset: usize,
 }
 
-// The bytes of the largest bank, which has 8 rows of 512 taps for each ear.
-pub const LARGEST: usize = 32793;
+// The bytes of the largest bank, which has 8 rows of 512 taps for each ear, with elevations.
+pub const LARGEST: usize = 32809;
 
 // The most taps of a filter.
 const MOST_TAPS: usize = 512;
 
-// How many bytes a row of l taps for each ear has: an azimuth, and the taps. It takes any l, and 8 l would overflow:
-// so one above 512, which no row has, counts as that.
-pub fn row_size(l: usize) -> usize
-    ensures { λ r. ⌜ r ≡ rowSize (min l 512) ⌝ }
+// How many bytes an elevation has: version 1 has none.
+pub fn elevation_size(version: usize) -> usize
+    ensures { λ r. ⌜ (r ≡ elevationSize version) × (r ≤ 2) ⌝ }
 {
-    if l < MOST_TAPS {
-        return 2 + 8 * l;
+    if version == 1 {
+        return 0;
     }
-    2 + 8 * MOST_TAPS
+    2
+}
+
+// How many bytes a row of l taps for each ear has: an azimuth, an elevation, and the taps. It takes any l, and 8 l would
+// overflow: so one above 512, which no row has, counts as that.
+pub fn row_size(version: usize, l: usize) -> usize
+    ensures { λ r. ⌜ r ≡ rowSize version (min l 512) ⌝ }
+{
+    let elevation = elevation_size(version);
+    if l < MOST_TAPS {
+        return 2 + elevation + 8 * l;
+    }
+    2 + elevation + 8 * MOST_TAPS
 }
