@@ -6,9 +6,12 @@
 // its size: as many bytes as the largest bank has, and the size, tell the fault of every file they were taken from.
 use bank_form::Fault;
 ghost use mathlib.Core.Path.{_≡_};
+ghost use mathlib.Core.Bool.{not};
 ghost use Prim.Native.Nat.{_+_, _-_, _*_, _≤_};
-ghost use Rattle.bank_form.specs.Fault.{largest, field, headField, headFault, tapsFault, isNew, rowSize, rowFault, rowsFault};
-ghost use Rattle.bank_check.specs.Checked.{CheckedStart, Checked};
+ghost use Rattle.bank_form.specs.Bank.{differ};
+ghost use Rattle.bank_form.specs.Version.{largest};
+ghost use Rattle.bank_form.specs.Fault.{pairIn, field, headField, headFault, tapsFault, isNew, elevationFault, rowFault, rowsFault};
+ghost use Rattle.bank_check.specs.Checked.{CheckedStart, Checked, CheckedVersion};
 
 // How many bytes come after the first `count`.
 fn bytes_after(size: usize, count: usize) -> usize
@@ -65,7 +68,7 @@ fn head_field(
 fn head_fault(size: usize, s: &[u8]) -> Fault
     ensures { λ r. ⌜ r ≡ headFault size (now (s .entry)) ⌝ }
 {
-    let version = head_field(size, s, 0, 1, 13, 1, 1);
+    let version = head_field(size, s, 0, 1, 13, 1, 2);
     if version.refusal != 0 {
         return version;
     }
@@ -103,16 +106,29 @@ fn taps_fault(size: usize, s: &[u8], at: usize, n: usize) -> Fault
     }
 }
 
-// Whether none of the first i rows has the azimuth z.
-fn is_new(s: &[u8], l: usize, i: usize, z: i16) -> bool
-    requires { ⌜ (l ≤ 512) × (i ≤ 8) ⌝ }
-    ensures { λ r. ⌜ r ≡ isNew (now (s .entry)) l z 9 i ⌝ }
+// Whether the row at an offset has this azimuth and this elevation.
+fn is_pair(s: &[u8], version: usize, at: usize, azimuth: i16, elevation: i16) -> bool
+    ensures { λ r. ⌜ r ≡ not (differ (pairIn version (now (s .entry)) at) (record { azimuth = azimuth; elevation = elevation })) ⌝ }
 {
-    let row = bank_form::row_size(l);
+    if big_endian::get_i16(s, at) != azimuth {
+        return false;
+    }
+    if bank_form::elevation_at(s, version, at) != elevation {
+        return false;
+    }
+    true
+}
+
+// Whether none of the first i rows has this azimuth and this elevation.
+fn is_new(s: &[u8], version: usize, l: usize, i: usize, azimuth: i16, elevation: i16) -> bool
+    requires { ⌜ (l ≤ 512) × (i ≤ 8) ⌝ }
+    ensures { λ r. ⌜ r ≡ isNew (now (s .entry)) version l (record { azimuth = azimuth; elevation = elevation }) 9 i ⌝ }
+{
+    let row = bank_form::row_size(version, l);
     let mut at = 9;
     let mut k = i;
     while 0 < k {
-        if big_endian::get_i16(s, at) == z {
+        if is_pair(s, version, at, azimuth, elevation) {
             return false;
         }
         at += row;
@@ -121,30 +137,56 @@ fn is_new(s: &[u8], l: usize, i: usize, z: i16) -> bool
     true
 }
 
-// The first fault of the row at an offset, with i rows before it.
-fn row_fault(size: usize, s: &[u8], l: usize, i: usize, at: usize) -> Fault
-    requires { ⌜ (l ≤ 512) × (i ≤ 8) × (at + rowSize l ≤ largest) ⌝ }
-    ensures { λ r. ⌜ r ≡ rowFault size (now (s .entry)) l i at ⌝ }
+// The fault of the elevation of the row at an offset; version 1 has none.
+fn elevation_fault(size: usize, s: &[u8], version: usize, at: usize) -> Fault
+    requires { ⌜ at + 4 ≤ largest ⌝ }
+    ensures { λ r. ⌜ r ≡ elevationFault size (now (s .entry)) version at ⌝ }
 {
-    let z = big_endian::get_i16(s, at);
-    let good = refusals::is_between(z, -1799, 1800) && is_new(s, l, i, z);
-    let f = field_fault(size, at, 2, 17, good);
-    if f.refusal != 0 {
-        return f;
+    if version == 1 {
+        return Fault {
+            refusal: 0,
+            offset: 0,
+        };
     }
-    taps_fault(size, s, at + 2, 2 * l)
+    let good = refusals::is_between(big_endian::get_i16(s, at + 2), -900, 900);
+    field_fault(size, at + 2, 2, 20, good)
+}
+
+// The first fault of the row at an offset, with i rows before it.
+fn row_fault(size: usize, s: &[u8], version: usize, l: usize, i: usize, at: usize) -> Fault
+    requires { ⌜ (l ≤ 512) × (i ≤ 8) × (at + 4100 ≤ largest) ⌝ }
+    ensures { λ r. ⌜ r ≡ rowFault size (now (s .entry)) version l i at ⌝ }
+{
+    let azimuth = big_endian::get_i16(s, at);
+    let range = field_fault(size, at, 2, 17, refusals::is_between(azimuth, -1799, 1800));
+    if range.refusal != 0 {
+        return range;
+    }
+    let height = elevation_fault(size, s, version, at);
+    if height.refusal != 0 {
+        return height;
+    }
+    let elevation = bank_form::elevation_at(s, version, at);
+    let pair_at = at + bank_form::elevation_size(version);
+    if !is_new(s, version, l, i, azimuth, elevation) {
+        return Fault {
+            refusal: 17,
+            offset: pair_at,
+        };
+    }
+    taps_fault(size, s, pair_at + 2, 2 * l)
 }
 
 // The first fault of n rows, and of what comes after them.
-fn rows_fault(size: usize, s: &[u8], l: usize, n: usize) -> Fault
+fn rows_fault(size: usize, s: &[u8], version: usize, l: usize, n: usize) -> Fault
     requires { ⌜ (l ≤ 512) × (n ≤ 8) ⌝ }
-    ensures { λ r. ⌜ r ≡ rowsFault size (now (s .entry)) l 0 9 n ⌝ }
+    ensures { λ r. ⌜ r ≡ rowsFault size (now (s .entry)) version l 0 9 n ⌝ }
 {
-    let row = bank_form::row_size(l);
+    let row = bank_form::row_size(version, l);
     let mut i = 0;
     let mut at = 9;
     while i < n {
-        let f = row_fault(size, s, l, i, at);
+        let f = row_fault(size, s, version, l, i, at);
         if f.refusal != 0 {
             return f;
         }
@@ -172,9 +214,10 @@ pub fn check_start(start: &[u8], size: usize) -> Fault
     if head.refusal != 0 {
         return head;
     }
+    let version = big_endian::get(start, 0, 1) as usize;
     let rows = big_endian::get(start, 5, 2) as usize;
     let length = big_endian::get(start, 7, 2) as usize;
-    rows_fault(size, start, length, rows)
+    rows_fault(size, start, version, length, rows)
 }
 
 // The first fault of a file.
@@ -182,4 +225,15 @@ pub fn check_file(file: &[u8]) -> Fault
     ensures { λ r. ⌜ Checked (now (file .entry)) r ⌝ }
 {
     check_start(file, file.len())
+}
+
+// The first fault of a file that has to be of one version, for which every other is wrong.
+pub fn check_version(file: &[u8], version: usize) -> Fault
+    ensures { λ r. ⌜ CheckedVersion version (now (file .entry)) r ⌝ }
+{
+    let first = head_field(file.len(), file, 0, 1, 13, version, version);
+    if first.refusal != 0 {
+        return first;
+    }
+    check_file(file)
 }

@@ -22,7 +22,6 @@ use Rattle.bank_form.specs.Version.{rowSize, tapsAt, pairAt, elevationAt
 use Rattle.bank_form.specs.Fault.{azimuthsFrom, elevationsFrom, rowTaps, tapsFrom, versionIn, rowsIn, lengthIn, pairIn, sound, wrong, unless, orElse, field, tapsFault, isNew, elevationFault, rowFault, rowsFault, headField, headFault, faultIn}
 use Rattle.lists.proofs.Every.{every-append}
 use Rattle.bank_form.proofs.Lists.{every-none, every-more, every-next, taps-none, taps-more}
-use Rattle.bank_form.proofs.Pairs.{differ-same}
 
 -- ---- one walk after another
 
@@ -218,8 +217,8 @@ module _ (s : List ℕ) (v l : ℕ) where
     unfolding isNew
     next = every-next (pairIn v s) (rowSize v l) (λ (q : Pair). differ q p) at n more
 
-    pub new-met : signedAt s at ≡ p .azimuth → elevationAt v s at ≡ p .elevation → isNew s v l p at n ≡ false
-    new-met e f = rw (next, differ-same (pairIn v s at) p e f)
+    pub new-met : differ (pairIn v s at) p ≡ false → isNew s v l p at n ≡ false
+    new-met h = rw (next, h)
 
     pub new-next : differ (pairIn v s at) p ≡ true → isNew s v l p at n ≡ isNew s v l p (at + rowSize v l) (n - 1)
     new-next h = rw (next, h)

@@ -10,7 +10,7 @@
 // form (proofs/Exact.antt), and what the first fault depends on (specs/FaultLaws.antt).
 ghost use mathlib.Core.Path.{_≡_};
 ghost use Prim.Native.Nat.{_≤_, min};
-ghost use Rattle.bank_form.specs.Version.{elevationSize, rowSize};
+ghost use Rattle.bank_form.specs.Version.{elevationSize, elevationAt, rowSize};
 
 // The first field that breaks the form: the number that tells which, and the offset of its first byte; of 19, the
 // file's size. Both are 0 where none does.
@@ -38,11 +38,24 @@ pub fn elevation_size(version: usize) -> usize
 // How many bytes a row of l taps for each ear has: an azimuth, an elevation, and the taps. It takes any l, and 8 l would
 // overflow: so one above 512, which no row has, counts as that.
 pub fn row_size(version: usize, l: usize) -> usize
-    ensures { λ r. ⌜ r ≡ rowSize version (min l 512) ⌝ }
+    ensures { λ r. ⌜ (r ≡ rowSize version (min l 512)) × (r ≤ 4100) ⌝ }
 {
     let elevation = elevation_size(version);
     if l < MOST_TAPS {
         return 2 + elevation + 8 * l;
     }
     2 + elevation + 8 * MOST_TAPS
+}
+
+// The elevation of the row at an offset. Version 1 has none, which is 0; one that does not lie in the list reads as 0.
+pub fn elevation_at(s: &[u8], version: usize, at: usize) -> i16
+    ensures { λ r. ⌜ r ≡ elevationAt version (now (s .entry)) at ⌝ }
+{
+    if version == 1 {
+        return 0;
+    }
+    if s.len() <= at {
+        return 0;
+    }
+    big_endian::get_i16(s, at + 2)
 }

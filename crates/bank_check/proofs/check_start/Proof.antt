@@ -1,49 +1,55 @@
 -- `bank_check::check_start` meets its contract. Assumes nothing.
 use mathlib.Core.Path.{sym, ap, ap₂, _∙_}
+use mathlib.Core.List.{List}
 use Prim.Native.Nat.{ℕ}
 use Rattle.refusals.proofs.Ranges.{within-true}
 use Rattle.bank_form.specs.declared.Fault.{Fault}
 use Rattle.bank_form.specs.Fault.{rowsIn, lengthIn, rowsFault}
-use Rattle.bank_form.proofs.Walk.{head-none, else-stop, else-on, fault-is}
+use Rattle.bank_form.proofs.Walk.{Head, head-none, else-stop, else-on, fault-is}
 use Rattle.bank_check.proofs.Starts.{checked}
 use borrow.Author.Needs.{needs}
 use Rattle.bank_check.proofs.check_start.Statement.{statement}
 use Rattle.bank_check.proofs.check_start.Tie as tie
 
-head-fault-requires : tie.Need-head-fault-requires
-head-fault-requires c κs = search needs
-
 returns : tie.Need-returns
 returns c = checked _ _ _ (else-stop _ _ _ (c .before .before .head-fault .ensures) (c .if1 .taken) ∙ sym (fault-is _ _))
 
-get-requires : tie.Need-get-requires
-get-requires c κs = search needs
+-- past the check of the head the counts are small
+module _ (c : tie.Else1) where
+  abbrev start : List ℕ
+  start = c .before .before .before .before .args .start .now
 
-get-requires-2 : tie.Need-get-requires-2
-get-requires-2 c κs = search needs
+  abbrev size : ℕ
+  size = c .before .before .before .before .args .size
+
+  head : Head size start
+  head = head-none size start (ap (λ (f : Fault). f .refusal) (sym (c .before .before .head-fault .ensures)) ∙ c .if1 .left)
 
 rows-fault-requires : tie.Need-rows-fault-requires
 rows-fault-requires c κs =
-    let args = c .before .before .before .before .before .before .args in
-    let start = args .start .now in
-    let head = head-none (args .size) start (ap (λ (f : Fault). f .refusal) (sym (c .before .before .before .before .head-fault .ensures)) ∙ c .before .before .if1 .left) in
-    let rows = within-true 1 8 (rowsIn start) (head .few) in
-    let length = within-true 1 512 (lengthIn start) (head .short) in
-    (rw (c .get2 .ensures .value) (length .1), rw (c .before .get .ensures .value) (rows .1))
+    let past = c .before .before .before in
+    let rows = within-true 1 8 (rowsIn (start past)) (head past .few) in
+    let length = within-true 1 512 (lengthIn (start past)) (head past .short) in
+    (rw (c .get3 .ensures .value) (length .1), rw (c .before .get2 .ensures .value) (rows .1))
 
 returns-2 : tie.Need-returns-2
 returns-2 c =
-    let args = c .before .before .before .before .before .before .before .args in
-    let rows = c .rows-fault .ensures ∙ ap₂ (λ (l n : ℕ). rowsFault (args .size) (args .start .now) l 0 9 n) (c .before .get2 .ensures .value) (c .before .before .get .ensures .value) in
-    checked _ _ _ (rows ∙ sym (fault-is _ _ ∙ else-on _ _ _ (c .before .before .before .before .before .head-fault .ensures) (c .before .before .before .if1 .left)))
+    let past = c .before .before .before .before in
+    let version = c .before .before .before .get .ensures .value in
+    let rows =
+    c .rows-fault .ensures
+    ∙ ap₂ (λ (l n : ℕ). rowsFault (size past) (start past) (c .before .before .before .get .result) l 0 9 n) (c .before .get3 .ensures .value) (c .before .before .get2 .ensures .value)
+    ∙ ap (λ (v : ℕ). rowsFault (size past) (start past) v (lengthIn (start past)) 0 9 (rowsIn (start past))) version in
+    checked _ _ _ (rows ∙ sym (fault-is _ _ ∙ else-on _ _ _ (past .before .before .head-fault .ensures) (past .if1 .left)))
 
 pub check-start-spec : {M : Type 1} → statement M
 check-start-spec =
     tie.close
     (tie.spec
-    head-fault-requires
+    (λ c κs. search needs)
     returns
-    get-requires
-    get-requires-2
+    (λ c κs. search needs)
+    (λ c κs. search needs)
+    (λ c κs. search needs)
     rows-fault-requires
     returns-2)

@@ -3,63 +3,60 @@ use mathlib.Core.Path.{_≡_, refl, sym, ap, _∙_}
 use mathlib.Core.Bool.{Bool}
 use Prim.Native.Nat.{ℕ, _+_, _-_, _*_, _≤_}
 use native.Mathlib.Omega.{arith}
+use borrow.Author.Tests.{not-true, not-false}
+use lib.IntN.{ℤ}
 use mir.Syntax.{w16}
-use mir.Val.{toZ, ofZ}
+use mir.Val.{SFits, toZ, ofZ}
 use mir.Facts.{toZ-ofZ}
-use Rattle.big_endian.specs.Fields.{signedAt}
-use Rattle.big_endian.proofs.Signed.{back}
-use Rattle.bank_form.specs.Fault.{rowSize, largest, isNew}
+use Rattle.bank_form.specs.Bank.{Pair}
+use Rattle.bank_form.specs.Version.{rowSize, largest}
+use Rattle.bank_form.specs.Fault.{isNew}
 use Rattle.bank_form.proofs.Walk.{one-size, new-met, new-next, new-end}
 use Rattle.bank_check.proofs.is_new.Statement.{statement}
 use Rattle.bank_check.proofs.is_new.Tie as tie
 
+-- the pair that is looked for
+abbrev wanted : ℕ → ℕ → Pair
+wanted z e = record { azimuth = toZ w16 z; elevation = toZ w16 e }
+
 abbrev Inv-loop : tie.InvT-loop
-Inv-loop s l i z row at₀ k₀ at k = (row ≡ rowSize l) × (l ≤ 512) × (at + 4098 * k ≤ largest) × (isNew s l (toZ w16 z) 9 i ≡ isNew s l (toZ w16 z) at k)
+Inv-loop s version l i azimuth elevation row at₀ k₀ at k =
+    (row ≡ rowSize version l) × (row ≤ 4100) × (at + 4100 * k ≤ largest) × (isNew s version l (wanted azimuth elevation) 9 i ≡ isNew s version l (wanted azimuth elevation) at k)
 
 abbrev μ-loop : tie.MeasureT-loop
-μ-loop s l i z row at₀ k₀ at k = k
-
-row-size-requires : tie.Need-row-size-requires Inv-loop μ-loop
-row-size-requires c κs = tt
+μ-loop s version l i azimuth elevation row at₀ k₀ at k = k
 
 loop-holds : tie.Need-loop-holds Inv-loop μ-loop
-loop-holds c = (one-size _ _ (c .before .before .pre .0) (c .row-size .ensures), c .before .before .pre .0, omega arith, refl)
+loop-holds c = (one-size (c .before .before .args .version) _ _ (c .before .before .pre .0) (c .row-size .ensures .0), c .row-size .ensures .1, omega arith, refl)
 
-get-i16-requires : tie.Need-get-i16-requires Inv-loop μ-loop
-get-i16-requires c κs = tt
+-- what stands in the arguments is what came in
+kept : (z e : ℤ) → SFits w16 z → SFits w16 e → wanted (ofZ w16 z) (ofZ w16 e) ≡ record { azimuth = z; elevation = e }
+kept z e f g = λ i. record { azimuth = toZ-ofZ f i; elevation = toZ-ofZ g i }
 
 returns : tie.Need-returns Inv-loop μ-loop
 returns c =
+    let start = c .before .before .before .before .before .before in
     let turn = c .before .before .before .loop in
-    let kept = toZ-ofZ (c .before .before .before .before .before .before .fits .z) in
-    let met = sym (c .before .get-i16 .ensures) ∙ sym (back w16 (c .before .get-i16 .result) (c .before .get-i16 .ok)) ∙ ap (toZ w16) (c .if1 .taken) in
-    sym (rw kept at (turn .inv .3 ∙ new-met _ _ _ _ _ (c .before .before .loop-test .taken) met))
-
-add-at : tie.Need-add-at Inv-loop μ-loop
-add-at c = omega arith
-
-sub-k : tie.Need-sub-k Inv-loop μ-loop
-sub-k c = omega arith
-
-loop-less : tie.Need-loop-less Inv-loop μ-loop
-loop-less c = omega arith
+    let same = kept _ _ (start .fits .azimuth) (start .fits .elevation) in
+    let met = not-true _ (sym (c .before .is-pair .ensures) ∙ c .if1 .taken) in
+    sym (rw same at (turn .inv .3 ∙ new-met _ _ _ _ _ _ (c .before .before .loop-test .taken) met))
 
 loop-again : tie.Need-loop-again Inv-loop μ-loop
 loop-again c =
     let args = c .before .before .before .before .before .before .args in
     let turn = c .before .before .before .loop in
-    let kept = toZ-ofZ (c .before .before .before .before .before .before .fits .z) in
-    let other : signedAt (args .s .now) (turn .at) ≡ toZ w16 (ofZ w16 (args .z)) → ⊥ = λ e. c .if1 .left (ap (ofZ w16) (c .before .get-i16 .ensures ∙ e ∙ kept)) in
-    let there : ℕ → Bool = λ w. isNew (args .s .now) (args .l) (toZ w16 (ofZ w16 (args .z))) (turn .at + w) (turn .k - 1) in
-    let next = turn .inv .3 ∙ new-next _ _ _ _ _ (c .before .before .loop-test .taken) other in
+    let other = not-false _ (sym (c .before .is-pair .ensures) ∙ c .if1 .left) in
+    let there : ℕ → Bool = λ w. isNew (args .s .now) (args .version) (args .l) (wanted (ofZ w16 (args .azimuth)) (ofZ w16 (args .elevation))) (turn .at + w) (turn .k - 1) in
+    let next = turn .inv .3 ∙ new-next _ _ _ _ _ _ (c .before .before .loop-test .taken) other in
     (turn .inv .0, turn .inv .1, omega arith, next ∙ ap there (sym (turn .inv .0)))
 
 returns-2 : tie.Need-returns-2 Inv-loop μ-loop
 returns-2 c =
+    let start = c .before .before .before .before in
     let turn = c .before .loop in
-    let kept = toZ-ofZ (c .before .before .before .before .fits .z) in
+    let same = kept _ _ (start .fits .azimuth) (start .fits .elevation) in
     let done : turn .k ≡ 0 = omega arith in
-    sym (rw kept at (turn .inv .3 ∙ ap (isNew _ _ _ _) done ∙ new-end _ _ _ _))
+    sym (rw same at (turn .inv .3 ∙ ap (isNew _ _ _ _ _) done ∙ new-end _ _ _ _ _))
 
 pub is-new-spec : {M : Type 1} → statement M
 is-new-spec =
@@ -67,12 +64,12 @@ is-new-spec =
     (tie.spec
     Inv-loop
     μ-loop
-    row-size-requires
+    (λ c κs. tt)
     loop-holds
-    get-i16-requires
+    (λ c κs. tt)
     returns
-    add-at
-    sub-k
-    loop-less
+    (λ c. omega arith)
+    (λ c. omega arith)
+    (λ c. omega arith)
     loop-again
     returns-2)

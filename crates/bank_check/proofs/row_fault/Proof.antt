@@ -1,16 +1,17 @@
 -- `bank_check::row_fault` meets its contract. Assumes nothing.
-use mathlib.Core.Path.{_≡_, sym, ap, _∙_}
-use mathlib.Core.Bool.{_&&_}
-use mathlib.Core.Logic.{⊎-elim}
+use mathlib.Core.Path.{_≡_, sym, ap, ap₂, _∙_}
+use mathlib.Core.Bool.{Bool}
 use mathlib.Core.List.{List}
-use Prim.Native.Nat.{ℕ}
-use lib.IntN.{ℤ}
+use Prim.Native.Nat.{ℕ, _+_, _*_}
+use native.Mathlib.Omega.{arith}
+use borrow.Author.Tests.{not-true, not-false}
 use mir.Syntax.{w16}
 use Rattle.big_endian.proofs.Signed.{back}
 use Rattle.big_endian.specs.Fields.{signedAt}
-use Rattle.bank_form.specs.Bank.{inRange}
-use Rattle.bank_form.specs.Fault.{field, isNew}
-use Rattle.bank_form.proofs.Walk.{else-stop, else-on, row-is}
+use Rattle.bank_form.specs.Bank.{Pair, isAzimuth}
+use Rattle.bank_form.specs.Version.{tapsAt, pairAt}
+use Rattle.bank_form.specs.Fault.{pairIn, wrong, field, tapsFault, isNew, rowFault}
+use Rattle.bank_form.proofs.Walk.{else-stop, else-on, unless-passes, unless-fails, behindElevation, row-is}
 use borrow.Author.Needs.{needs}
 use Rattle.bank_check.proofs.row_fault.Statement.{statement}
 use Rattle.bank_check.proofs.row_fault.Tie as tie
@@ -18,61 +19,102 @@ use Rattle.bank_check.proofs.row_fault.Tie as tie
 -- what the azimuth's field comes to
 module _ (c : tie.After-field-fault) where
   abbrev file : List ℕ
-  file = c .before .before .before .before .before .args .s .now
+  file = c .before .before .before .before .args .s .now
 
   abbrev size : ℕ
-  size = c .before .before .before .before .before .args .size
+  size = c .before .before .before .before .args .size
 
-  abbrev here : ℤ
-  here = signedAt file (c .before .before .before .before .before .args .at)
+  abbrev at : ℕ
+  at = c .before .before .before .before .args .at
 
-  azimuth : let args = c .before .before .before .before .before .args in
-      c .field-fault .result ≡ field size (args .at) 2 17 (inRange here && isNew file (args .l) here 9 (args .i))
-  unfolding inRange
-  azimuth =
-      let call = c .before .before .before .get-i16 in
-      let z = back w16 (call .result) (call .ok) ∙ call .ensures in
-      let range = c .before .before .is-between .ensures ∙ ap inRange z in
-      c .field-fault .ensures
-      ∙ ap (field _ _ _ _) (⊎-elim (λ w. w .2 ∙ w .1 .ensures ∙ rw (sym range ∙ w .0 .taken, z)) (λ w. w .1 ∙ w .0 .left ∙ rw (sym range ∙ w .0 .left)) (c .before .if1 .came))
+  range : c .field-fault .result ≡ field size at 2 17 (isAzimuth (signedAt file at))
+  unfolding isAzimuth
+  range =
+      let read = c .before .before .get-i16 in
+      c .field-fault .ensures ∙ ap (field _ _ _ _) (c .before .is-between .ensures ∙ ap isAzimuth (back w16 (read .result) (read .ok) ∙ read .ensures))
 
-get-i16-requires : tie.Need-get-i16-requires
-get-i16-requires c κs = search needs
+-- past the tests of azimuth and elevation
+module _ (c : tie.Else2) where
+  abbrev read : tie.After-field-fault
+  read = c .before .before .before .before .before
 
-is-between-requires : tie.Need-is-between-requires
-is-between-requires c κs = search needs
+  abbrev version : ℕ
+  version = read .before .before .before .before .args .version
 
-is-new-requires : tie.Need-is-new-requires
-is-new-requires c κs = search needs
+  abbrev l : ℕ
+  l = read .before .before .before .before .args .l
 
-field-fault-requires : tie.Need-field-fault-requires
-field-fault-requires c κs = search needs
+  abbrev i : ℕ
+  i = read .before .before .before .before .args .i
+
+  behind : rowFault (size read) (file read) version l i (at read) ≡ behindElevation (size read) (file read) version l i (at read)
+  behind =
+      row-is _ _ _ _ _ _
+      ∙ else-on _ _ _ (range read) (c .before .before .before .if1 .left)
+      ∙ else-on _ _ _ (c .before .before .elevation-fault .ensures) (c .if2 .left)
+
+-- what the comparison with the rows before comes to, and where its field stands
+module _ (c : tie.After-is-new) where
+  abbrev past : tie.Else2
+  past = c .before .before .before
+
+  abbrev row : tie.After-field-fault
+  row = read past
+
+  abbrev new : Bool
+  new = isNew (file row) (version past) (l past) (pairIn (version past) (file row) (at row)) 9 (i past)
+
+  found : c .is-new .result ≡ new
+  found =
+      let first = row .before .before .get-i16 in
+      let second = c .before .before .elevation-at in
+      let azimuth = back w16 (first .result) (first .ok) ∙ first .ensures in
+      let elevation = back w16 (second .result) (second .ok) ∙ second .ensures in
+      let pair : _≡_ {A = Pair} _ (pairIn (version past) (file row) (at row)) = λ k. record { azimuth = azimuth k; elevation = elevation k } in
+      c .is-new .ensures ∙ ap (λ (p : Pair). isNew (file row) (version past) (l past) p 9 (i past)) pair
+
+  place : at row + c .before .elevation-size .result ≡ pairAt (version past) (at row)
+  place = ap (λ (n : ℕ). at row + n) (c .before .elevation-size .ensures .0)
 
 returns : tie.Need-returns
-returns c = else-stop _ _ _ (azimuth (c .before .before)) (c .if2 .taken) ∙ sym (row-is _ _ _ _ _)
-
-add-taps-fault : tie.Need-add-taps-fault
-add-taps-fault c = search needs
-
-mul-taps-fault : tie.Need-mul-taps-fault
-mul-taps-fault c = search needs
-
-taps-fault-requires : tie.Need-taps-fault-requires
-taps-fault-requires c κs = search needs
+returns c = else-stop _ _ _ (range (c .before .before)) (c .if1 .taken) ∙ sym (row-is _ _ _ _ _ _)
 
 returns-2 : tie.Need-returns-2
-returns-2 c = c .taps-fault .ensures ∙ sym (row-is _ _ _ _ _ ∙ else-on _ _ _ (azimuth (c .before .before .before)) (c .before .if2 .left))
+returns-2 c =
+    let first = c .before .before .before in
+    else-stop _ _ _ (c .before .before .elevation-fault .ensures) (c .if2 .taken)
+    ∙ sym (row-is _ _ _ _ _ _ ∙ else-on _ _ _ (range (first .before .before)) (first .if1 .left))
+
+returns-3 : tie.Need-returns-3
+returns-3 c =
+    let test = c .before in
+    ap (wrong 17) (place test)
+    ∙ sym (behind (past test) ∙ unless-fails (new test) 17 _ _ (omega arith) (sym (found test) ∙ not-true _ (c .if3 .taken)))
+
+returns-4 : tie.Need-returns-4
+returns-4 c =
+    let test = c .before .before in
+    let there : at (row test) + test .before .elevation-size .result + 2 ≡ tapsAt (version (past test)) (at (row test)) = omega (arith, place test) in
+    c .taps-fault .ensures
+    ∙ ap (λ (p : ℕ). tapsFault (size (row test)) (file (row test)) p (2 * l (past test))) there
+    ∙ sym (behind (past test) ∙ unless-passes (new test) 17 _ _ (sym (found test) ∙ not-false _ (c .before .if3 .left)))
 
 pub row-fault-spec : {M : Type 1} → statement M
 row-fault-spec =
     tie.close
     (tie.spec
-    get-i16-requires
-    is-between-requires
-    is-new-requires
-    field-fault-requires
+    (λ c κs. search needs)
+    (λ c κs. search needs)
+    (λ c κs. search needs)
     returns
-    add-taps-fault
-    mul-taps-fault
-    taps-fault-requires
-    returns-2)
+    (λ c κs. search needs)
+    returns-2
+    (λ c κs. search needs)
+    (λ c κs. search needs)
+    (λ c. search needs)
+    (λ c κs. search needs)
+    returns-3
+    (λ c. search needs)
+    (λ c. search needs)
+    (λ c κs. search needs)
+    returns-4)

@@ -3,22 +3,23 @@ use mathlib.Core.Path.{_≡_, sym, ap, ap₂, _∙_}
 use Prim.Native.Nat.{ℕ, _+_, _-_, _*_, _≤_, _<_}
 use native.Mathlib.Omega.{arith}
 use borrow.Author.Tests.{eq-eqb, ne-eqb}
-use Rattle.bank_form.specs.Fault.{rowSize, rowsFault}
+use Rattle.bank_form.specs.Version.{rowSize}
+use Rattle.bank_form.specs.Fault.{rowsFault}
 use Rattle.bank_form.proofs.Walk.{one-size, else-stop, else-on, rows-next, rows-end}
 use Rattle.bank_check.proofs.rows_fault.Statement.{statement}
 use Rattle.bank_check.proofs.rows_fault.Tie as tie
 
 abbrev Inv-loop : tie.InvT-loop
-Inv-loop size s l n row i₀ at₀ i at = (row ≡ rowSize l) × (i ≤ n) × (at ≤ 9 + 4098 * i) × (rowsFault size s l 0 9 n ≡ rowsFault size s l i at (n - i))
+Inv-loop size s version l n row i₀ at₀ i at = (row ≡ rowSize version l) × (row ≤ 4100) × (i ≤ n) × (at ≤ 9 + 4100 * i) × (rowsFault size s version l 0 9 n ≡ rowsFault size s version l i at (n - i))
 
 abbrev μ-loop : tie.MeasureT-loop
-μ-loop size s l n row i₀ at₀ i at = n - i
+μ-loop size s version l n row i₀ at₀ i at = n - i
 
 row-size-requires : tie.Need-row-size-requires Inv-loop μ-loop
 row-size-requires c κs = tt
 
 loop-holds : tie.Need-loop-holds Inv-loop μ-loop
-loop-holds c = (one-size _ _ (c .before .before .pre .0) (c .row-size .ensures), omega arith, omega arith, ap (rowsFault _ _ _ _ _) (omega arith))
+loop-holds c = (one-size (c .before .before .args .version) _ _ (c .before .before .pre .0) (c .row-size .ensures .0), c .row-size .ensures .1, omega arith, omega arith, ap (rowsFault _ _ _ _ _ _) (omega arith))
 
 row-fault-requires : tie.Need-row-fault-requires Inv-loop μ-loop
 row-fault-requires c κs = omega arith
@@ -27,7 +28,7 @@ returns : tie.Need-returns Inv-loop μ-loop
 returns c =
     let turn = c .before .before .before .before .loop in
     let more : 0 < c .before .before .before .before .before .before .before .args .n - turn .i = omega arith in
-    else-stop _ _ _ (c .before .before .row-fault .ensures) (c .if1 .taken) ∙ sym (turn .inv .3 ∙ rows-next _ _ _ _ _ _ more)
+    else-stop _ _ _ (c .before .before .row-fault .ensures) (c .if1 .taken) ∙ sym (turn .inv .4 ∙ rows-next _ _ _ _ _ _ _ more)
 
 add-at : tie.Need-add-at Inv-loop μ-loop
 add-at c = omega arith
@@ -42,21 +43,23 @@ loop-again : tie.Need-loop-again Inv-loop μ-loop
 loop-again c =
     let turn = c .before .before .before .before .loop in
     let more : 0 < c .before .before .before .before .before .before .before .args .n - turn .i = omega arith in
-    let there : turn .at + rowSize _ ≡ turn .at + _ = ap (λ (w : ℕ). turn .at + w) (sym (turn .inv .0)) in
-    let next = turn .inv .3 ∙ rows-next _ _ _ _ _ _ more ∙ else-on _ _ _ (c .before .before .row-fault .ensures) (c .if1 .left) in
-    (turn .inv .0, omega arith, omega arith, next ∙ ap₂ (rowsFault _ _ _ (turn .i + 1)) there (omega arith))
+    let args = c .before .before .before .before .before .before .before .args in
+    let left : args .n - turn .i - 1 ≡ args .n - (turn .i + 1) = omega arith in
+    let there = ap (λ (w : ℕ). turn .at + w) (sym (turn .inv .0)) in
+    let next = turn .inv .4 ∙ rows-next _ _ _ _ _ _ _ more ∙ else-on _ _ _ (c .before .before .row-fault .ensures) (c .if1 .left) in
+    (turn .inv .0, turn .inv .1, omega arith, omega arith, next ∙ ap₂ (rowsFault _ _ _ _ (turn .i + 1)) there left)
 
 returns-2 : tie.Need-returns-2 Inv-loop μ-loop
 returns-2 c =
     let turn = c .before .before .loop in
     let done : c .before .before .before .before .before .args .n - turn .i ≡ 0 = omega arith in
-    sym (turn .inv .3 ∙ ap (rowsFault _ _ _ _ _) done ∙ rows-end _ _ _ _ _ ∙ rw (eq-eqb _ _ (c .if2 .taken)))
+    sym (turn .inv .4 ∙ ap (rowsFault _ _ _ _ _ _) done ∙ rows-end _ _ _ _ _ _ ∙ rw (eq-eqb _ _ (c .if2 .taken)))
 
 returns-3 : tie.Need-returns-3 Inv-loop μ-loop
 returns-3 c =
     let turn = c .before .before .loop in
     let done : c .before .before .before .before .before .args .n - turn .i ≡ 0 = omega arith in
-    sym (turn .inv .3 ∙ ap (rowsFault _ _ _ _ _) done ∙ rows-end _ _ _ _ _ ∙ rw (ne-eqb _ _ (c .if2 .left)))
+    sym (turn .inv .4 ∙ ap (rowsFault _ _ _ _ _ _) done ∙ rows-end _ _ _ _ _ _ ∙ rw (ne-eqb _ _ (c .if2 .left)))
 
 pub rows-fault-spec : {M : Type 1} → statement M
 rows-fault-spec =

@@ -5,7 +5,8 @@ use Prim.Native.Nat.{ℕ, _+_, _*_, _≤_}
 use native.Mathlib.Omega.{arith}
 use lib.Ieee.Scale.{finite}
 use Rattle.big_endian.specs.Fields.{floatAt}
-use Rattle.bank_form.specs.Fault.{largest, field, tapsFault}
+use Rattle.bank_form.specs.Version.{largest}
+use Rattle.bank_form.specs.Fault.{field, tapsFault}
 use Rattle.bank_form.proofs.Walk.{else-stop, else-on, taps-next, taps-end}
 use Rattle.bank_check.proofs.taps_fault.Statement.{statement}
 use Rattle.bank_check.proofs.taps_fault.Tie as tie

@@ -1,0 +1,25 @@
+-- `bank_check::check_version` meets its contract. Assumes nothing.
+use mathlib.Core.Path.{sym, _∙_}
+use Rattle.bank_form.specs.Fault.{faultOf}
+use Rattle.bank_form.proofs.Walk.{else-stop, else-on}
+use Rattle.bank_form.proofs.Exact.{exactly}
+use borrow.Author.Needs.{needs}
+use Rattle.bank_check.proofs.check_version.Statement.{statement}
+use Rattle.bank_check.proofs.check_version.Tie as tie
+
+returns : tie.Need-returns
+unfolding faultOf
+returns c = record {
+  first = else-stop _ _ _ (c .before .before .head-field .ensures) (c .if1 .taken);
+  exactly = exactly _ (λ i. c .before .before .before .shared-slice-known .given i .fits);
+}
+
+returns-2 : tie.Need-returns-2
+unfolding faultOf
+returns-2 c = record {
+  first = c .check-file .ensures .first ∙ sym (else-on _ _ _ (c .before .before .before .head-field .ensures) (c .before .if1 .left));
+  exactly = c .check-file .ensures .exactly;
+}
+
+pub check-version-spec : {M : Type 1} → statement M
+check-version-spec = tie.close (tie.spec (λ c κs. search needs) returns (λ c κs. search needs) returns-2)
