@@ -1,107 +1,148 @@
--- What the promises say: no two outcomes meet one (`read-unique`, `read-start-unique`, `write-unique`); a file is accepted exactly if it is the encoding of a bank that keeps the form, and that bank is filled in
--- (`accepted-is`, `is-accepted`); a bank is accepted exactly if it keeps the form (`written-is`, `is-written`); reading what was written gives the same bank (`read-after-write`), and
--- writing what was read gives the same bytes (`write-after-read`). Assumes nothing.
+-- What the promises say: no two outcomes meet one (`read-unique`, `read-start-unique`, `write-unique`, `to-version-2-unique`, `to-version-1-unique`); a file is accepted exactly if it is the encoding of a
+-- bank that keeps the form, and that bank is filled in (`accepted-is`, `is-accepted`); a bank is accepted exactly if it keeps the form (`written-is`, `is-written`); reading what was written gives the
+-- same bank (`read-after-write`), and writing what was read gives the same bytes of a file of version 2 (`write-after-read`), and of one of version 1 those that turning it gives (`write-of-version-1`);
+-- a file of version 1 that was turned into version 2 is turned back to the same bytes (`back-of-forward`), and the other way round (`forward-of-back`). Assumes nothing.
 use mathlib.Core.Path.{_≡_, refl, sym, ap, _∙_}
 use mathlib.Core.Bool.{true}
 use mathlib.Core.List.{List}
 use Prim.Native.Nat.{ℕ, _*_}
+use native.Mathlib.Omega.{arith}
 use borrow.Author.Tests.{eq-eqb, eqb-true}
 use lib.Ieee.{Float}
 use lib.IntN.{ℤ}
 use lib.ListN.{length}
-use Rattle.refusals.proofs.First.{told-is}
+use lib.Dec.{eqb}
 use Rattle.refusals.specs.OneAnswer.{OneAnswer}
 use Rattle.refusals.proofs.Determined.{determined, determined-by}
 use Rattle.lists.proofs.Placed.{take-placed}
 use Rattle.bank_form.specs.Bank.{Bank, rows, valid}
 use Rattle.bank_form.specs.Encoding.{encode}
-use Rattle.bank_form.specs.Fault.{bankIn, fault}
+use Rattle.bank_form.specs.Fault.{versionIn, bankIn, fault}
 use Rattle.bank_form.specs.WriteFault.{writeFault}
 use Rattle.bank_form.specs.File.{IsFile}
 use Rattle.bank_form.proofs.Exact.{keeps, is-file}
 use Rattle.bank_form.proofs.Writer.{write-none}
 use Rattle.bank.specs.Reading.{ReadOutcome, readBank, readRefusal, readOutcome, Reads, ReadsStart, bankFound}
-use Rattle.bank.specs.Writing.{WriteOutcome, writeRefusal, writeRefused, writeBank, writeOutcome, Writes}
-use Rattle.bank.proofs.Answers.{as-told, Accepted, lists-accepted, read-good, Lent, written, written-lengths}
+use Rattle.bank.specs.Writing.{WriteOutcome, writeRefusal, writeBank, writeOutcome, Writes}
+use Rattle.bank.specs.Conversion.{ToVersion1, ToVersion2}
+use Rattle.bank.proofs.Answers.{as-told, Lists, Accepted, lists-accepted, read-good, Lent, told-as, written, written-lengths}
+use Rattle.bank.proofs.Converting.{holds-2}
 
-pub read-unique : (file : List ℕ) (zs : List ℤ) (xs : List Float) → OneAnswer (Reads file zs xs)
-read-unique file zs xs = determined-by (λ r h. h .outcome)
+pub read-unique : (file : List ℕ) (zs es : List ℤ) (xs : List Float) → OneAnswer (Reads file zs es xs)
+read-unique file zs es xs = determined-by (λ r h. h .outcome)
 
-pub read-start-unique : (start : List ℕ) (size : ℕ) (zs : List ℤ) (xs : List Float) → OneAnswer (ReadsStart start size zs xs)
-read-start-unique start size zs xs = determined-by (λ r h. h .outcome)
+pub read-start-unique : (start : List ℕ) (size : ℕ) (zs es : List ℤ) (xs : List Float) → OneAnswer (ReadsStart start size zs es xs)
+read-start-unique start size zs es xs = determined-by (λ r h. h .outcome)
 
 pub write-unique : (b : Bank) (file : List ℕ) → OneAnswer (Writes b file)
 write-unique b file = determined
 
+pub to-version-2-unique : (file out : List ℕ) → OneAnswer (ToVersion2 file out)
+to-version-2-unique file out = determined-by (λ r h. h .outcome)
+
+pub to-version-1-unique : (file out : List ℕ) → OneAnswer (ToVersion1 file out)
+to-version-1-unique file out = determined-by (λ r h. h .outcome)
+
 -- ---- reading
 
-module _ (file : List ℕ) (zs : List ℤ) (xs : List Float) where
-  refusal-is : readOutcome file zs xs .answer .refusal ≡ readRefusal file zs xs .refusal
+module _ (file : List ℕ) (zs es : List ℤ) (xs : List Float) where
+  refusal-is : readOutcome file zs es xs .answer .refusal ≡ readRefusal file zs es xs .refusal
   unfolding readOutcome
-  refusal-is = as-told zs xs (readRefusal file zs xs) (bankIn file)
+  refusal-is = as-told zs es xs (readRefusal file zs es xs) (bankIn file)
 
-  pub accepted-parts : readOutcome file zs xs .answer .refusal ≡ 0 → Accepted zs xs (fault file)
+  pub accepted-parts : readOutcome file zs es xs .answer .refusal ≡ 0 → Accepted zs es xs (fault file)
   unfolding readRefusal
-  accepted-parts e = lists-accepted zs xs (fault file) (sym refusal-is ∙ e)
+  accepted-parts e = lists-accepted zs es xs (fault file) (sym refusal-is ∙ e)
 
   -- what is accepted is a bank file, and its bank is filled in
-  pub accepted-is : (o : ReadOutcome) → Reads file zs xs o → o .answer .refusal ≡ 0 → IsFile file (bankIn file) × (o ≡ readBank (bankIn file) zs xs)
+  pub accepted-is : (o : ReadOutcome) → Reads file zs es xs o → o .answer .refusal ≡ 0 → IsFile (versionIn file) file (bankIn file) × (o ≡ readBank (bankIn file) zs es xs)
   accepted-is o r e =
       let a = accepted-parts (ap (λ (y : ReadOutcome). y .answer .refusal) (sym (r .outcome)) ∙ e) in
       let good = is-file file (a .none) in
-      (r .exactly .sound good, r .outcome ∙ sym (read-good zs xs file (a .eight) (a .most) good))
+      (r .exactly .sound good, r .outcome ∙ sym (read-good zs es xs file (a .lists) good))
 
   -- and each bank file is accepted by lists of the lengths asked for
-  pub is-accepted : (o : ReadOutcome) → Reads file zs xs o → length zs ≡ 8 → length xs ≡ 8192 → (b : Bank) → IsFile file b → o ≡ readBank b zs xs
-  is-accepted o r h g b f =
-      let c = r .exactly .complete b f in
-      r .outcome ∙ sym (read-good zs xs file h g (c .0)) ∙ ap (λ (y : Bank). readBank y zs xs) (c .1)
+  pub is-accepted : (o : ReadOutcome) → Reads file zs es xs o → Lists zs es xs → (v : ℕ) (b : Bank) → IsFile v file b → o ≡ readBank b zs es xs
+  is-accepted o r l v b f =
+      let c = r .exactly .complete v b f in
+      r .outcome ∙ sym (read-good zs es xs file l (c .0)) ∙ ap (λ (y : Bank). readBank y zs es xs) (c .2)
 
 -- ---- writing
 
 module _ (b : Bank) (file : List ℕ) where
-  written-parts : writeOutcome b file .answer .refusal ≡ 0 → Lent b file × (writeFault b .refusal ≡ 0)
+  written-parts : writeOutcome b file .answer .refusal ≡ 0 → Lent b file × (writeFault 2 b .refusal ≡ 0)
   unfolding writeOutcome
-  written-parts e =
-      let told = told-is (writeBank b) (λ k. writeRefused (writeRefusal b file) file) (λ (w : WriteOutcome). w .answer .refusal) refl (writeRefusal b file .refusal) refl in
-      written-lengths b file (sym told ∙ e)
+  written-parts e = written-lengths b file (sym (told-as 2 b file (writeRefusal b file)) ∙ e)
+
+  valid-if : Lent b file → eqb (writeFault 2 b .refusal) 0 ≡ valid b
+  valid-if l = write-none 2 b (l .counted .paired) (l .counted .count ∙ omega arith)
 
   -- a bank that is accepted keeps the form, and its file is filled in
-  pub written-is : (w : WriteOutcome) → Writes b file w → w .answer .refusal ≡ 0 → (valid b ≡ true) × (w ≡ writeBank b)
+  pub written-is : (w : WriteOutcome) → Writes b file w → w .answer .refusal ≡ 0 → (valid b ≡ true) × (w ≡ writeBank 2 b)
   written-is w r e =
       let p = written-parts (ap (λ (y : WriteOutcome). y .answer .refusal) (sym r) ∙ e) in
-      (sym (write-none b (p .0 .count)) ∙ eq-eqb (writeFault b .refusal) 0 (p .1), r ∙ sym (written b file (p .0) (p .1)))
+      (sym (valid-if (p .0)) ∙ eq-eqb (writeFault 2 b .refusal) 0 (p .1), r ∙ sym (written b file (p .0) (p .1)))
 
   -- and each bank that keeps the form is accepted, with a buffer of its file's length
-  pub is-written : (w : WriteOutcome) → Writes b file w → valid b ≡ true → length file ≡ length (encode b) → w ≡ writeBank b
+  pub is-written : (w : WriteOutcome) → Writes b file w → valid b ≡ true → length file ≡ length (encode 2 b) → w ≡ writeBank 2 b
   is-written w r h g =
-      let count = keeps b h .count in
-      r ∙ sym (written b file (record { count = count; size = g }) (eqb-true (writeFault b .refusal) 0 (write-none b count ∙ h)))
+      let k = keeps b h in
+      let l : Lent b file = record { counted = record { paired = k .paired; count = k .count ∙ omega arith }; size = g } in
+      r ∙ sym (written b file l (eqb-true (writeFault 2 b .refusal) 0 (valid-if l ∙ h)))
 
 -- ---- there and back
 
 -- reading what was written gives the same bank
-pub read-after-write : (b : Bank) (buffer : List ℕ) (w : WriteOutcome) → Writes b buffer w → w .answer .refusal ≡ 0 → (zs : List ℤ) (xs : List Float) (o : ReadOutcome) → length zs ≡ 8
-    → length xs ≡ 8192 → Reads (w .file) zs xs o → o ≡ readBank b zs xs
-read-after-write b buffer w r e zs xs o h g f =
+pub read-after-write : (b : Bank) (buffer : List ℕ) (w : WriteOutcome) → Writes b buffer w → w .answer .refusal ≡ 0 → (zs es : List ℤ) (xs : List Float) (o : ReadOutcome) → Lists zs es xs
+    → Reads (w .file) zs es xs o → o ≡ readBank b zs es xs
+read-after-write b buffer w r e zs es xs o l f =
     let p = written-is b buffer w r e in
-    is-accepted (w .file) zs xs o f h g b (record { keeps = p .0; bytes = ap (λ (y : WriteOutcome). y .file) (sym (p .1)) })
+    is-accepted (w .file) zs es xs o f l 2 b (record { holds = holds-2 b; keeps = p .0; bytes = ap (λ (y : WriteOutcome). y .file) (sym (p .1)) })
 
-pub found : (b : Bank) (zs : List ℤ) (xs : List Float) → length (b .taps) ≡ 2 * rows b * b .length → bankFound (readBank b zs xs) ≡ b
-found b zs xs h = λ i. record { azimuths = take-placed zs (b .azimuths) (rows b) refl i; length = b .length; taps = take-placed xs (b .taps) (2 * rows b * b .length) h i }
+pub found : (b : Bank) (zs es : List ℤ) (xs : List Float) → length (b .elevations) ≡ rows b → length (b .taps) ≡ 2 * rows b * b .length → bankFound (readBank b zs es xs) ≡ b
+found b zs es xs g h = λ i. record {
+  azimuths = take-placed zs (b .azimuths) (rows b) refl i;
+  elevations = take-placed es (b .elevations) (rows b) g i;
+  length = b .length;
+  taps = take-placed xs (b .taps) (2 * rows b * b .length) h i;
+}
 
 -- which is that of the file
-pub read-is : (file : List ℕ) (zs : List ℤ) (xs : List Float) (o : ReadOutcome) → Reads file zs xs o → o .answer .refusal ≡ 0 → bankFound o ≡ bankIn file
-read-is file zs xs o r e =
-    let p = accepted-is file zs xs o r e in
-    ap bankFound (p .1) ∙ found (bankIn file) zs xs (keeps (bankIn file) (p .0 .keeps) .count)
+pub read-is : (file : List ℕ) (zs es : List ℤ) (xs : List Float) (o : ReadOutcome) → Reads file zs es xs o → o .answer .refusal ≡ 0 → bankFound o ≡ bankIn file
+read-is file zs es xs o r e =
+    let p = accepted-is file zs es xs o r e in
+    let k = keeps (bankIn file) (p .0 .keeps) in
+    ap bankFound (p .1) ∙ found (bankIn file) zs es xs (k .paired) (k .count)
 
--- writing what was read gives the same bytes
-pub write-after-read : (file : List ℕ) (zs : List ℤ) (xs : List Float) (o : ReadOutcome) → Reads file zs xs o → o .answer .refusal ≡ 0 → (buffer : List ℕ) (w : WriteOutcome)
-    → length buffer ≡ length file → Writes (bankFound o) buffer w → w .file ≡ file
-write-after-read file zs xs o r e buffer w h f =
-    let p = accepted-is file zs xs o r e in
-    let b = bankIn file in
-    let same : bankFound o ≡ b = read-is file zs xs o r e in
-    let long = h ∙ ap length (sym (p .0 .bytes)) in
-    ap (λ (y : WriteOutcome). y .file) (is-written b buffer w (rw same at f) (p .0 .keeps) long) ∙ p .0 .bytes
+module _ (file : List ℕ) (zs es : List ℤ) (xs : List Float) (o : ReadOutcome) (r : Reads file zs es xs o) (e : o .answer .refusal ≡ 0) where
+  -- writing what was read gives its bank in version 2
+  pub write-of-read : (buffer : List ℕ) (w : WriteOutcome) → length buffer ≡ length (encode 2 (bankIn file)) → Writes (bankFound o) buffer w → w ≡ writeBank 2 (bankIn file)
+  write-of-read buffer w h f = is-written (bankIn file) buffer w (rw (read-is file zs es xs o r e) at f) (accepted-is file zs es xs o r e .0 .keeps) h
+
+  -- which are the same bytes of a file of version 2
+  pub write-after-read : versionIn file ≡ 2 → (buffer : List ℕ) (w : WriteOutcome) → length buffer ≡ length file → Writes (bankFound o) buffer w → w .file ≡ file
+  write-after-read two buffer w h f =
+      let same : encode 2 (bankIn file) ≡ file = ap (λ (v : ℕ). encode v (bankIn file)) (sym two) ∙ accepted-is file zs es xs o r e .0 .bytes in
+      ap (λ (y : WriteOutcome). y .file) (write-of-read buffer w (h ∙ ap length (sym same)) f) ∙ same
+
+  -- and of one of version 1 those that turning it into version 2 gives
+  pub write-of-version-1 : (out : List ℕ) (t : WriteOutcome) → ToVersion2 file out t → t .answer .refusal ≡ 0 → (buffer : List ℕ) (w : WriteOutcome) → length buffer ≡ length (t .file)
+      → Writes (bankFound o) buffer w → w .file ≡ t .file
+  write-of-version-1 out t turns g buffer w h f =
+      let bytes = turns .turned g .1 .bytes in
+      ap (λ (y : WriteOutcome). y .file) (write-of-read buffer w (h ∙ ap length (sym bytes)) f) ∙ bytes
+
+-- "turn into version 2 and back to the same bytes"
+pub back-of-forward : (file out : List ℕ) (t : WriteOutcome) → ToVersion2 file out t → t .answer .refusal ≡ 0 → (back : List ℕ) (u : WriteOutcome) → length back ≡ length file
+    → ToVersion1 (t .file) back u → (u .answer .refusal ≡ 0) × (u .file ≡ file)
+back-of-forward file out t forward e back u h turns =
+    let f = forward .turned e in
+    let a = turns .accepted (bankIn file) (f .1) (f .0 .holds .flat refl) (h ∙ ap length (sym (f .0 .bytes))) in
+    (a .0, a .1 ∙ f .0 .bytes)
+
+pub forward-of-back : (file out : List ℕ) (t : WriteOutcome) → ToVersion1 file out t → t .answer .refusal ≡ 0 → (forth : List ℕ) (u : WriteOutcome) → length forth ≡ length file
+    → ToVersion2 (t .file) forth u → (u .answer .refusal ≡ 0) × (u .file ≡ file)
+forward-of-back file out t back e forth u h turns =
+    let f = back .turned e in
+    let a = turns .accepted (bankIn file) (f .2) (h ∙ ap length (sym (f .1 .bytes))) in
+    (a .0, a .1 ∙ f .1 .bytes)

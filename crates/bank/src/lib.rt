@@ -1,12 +1,14 @@
 // Reads and writes the filter bank file, which holds the filters of both ears for up to eight directions
-// (document 01, item 8 and 'Filter bank file').
+// (document 01, item 8 and 'Filter bank file'), and turns it from one version into the other (document 02, E6).
 //
-// `read` fills lent lists from a file, `write` fills a lent buffer with the file of a bank. Both take any
-// input. Their promises: a file is accepted exactly if it is the encoding of a bank that keeps the form, and
-// what is filled in is that bank; a bank is accepted exactly if it keeps the form, and what is filled in is
-// its encoding; a refusal tells what is wrong and at which byte (document 02, E2), and nothing lent changes.
-// What is written reads as the same bank, and what is read is written as the same bytes. `read_start` is for
-// a file of which a caller keeps the start alone, because it is longer than any bank.
+// `read` fills lent lists from a file of either version, `write` fills a lent buffer with the file of a bank, in
+// version 2. Both take any input. Their promises: a file is accepted exactly if it is the encoding of a bank that
+// keeps the form, and what is filled in is that bank; a bank is accepted exactly if it keeps the form, and what
+// is filled in is its encoding; a refusal tells what is wrong and at which byte (document 02, E2), and nothing
+// lent changes. What is written reads as the same bank, and what is read is written as the same bytes, of version
+// 1 as those that `to_version_2` makes. `read_start` is for a file of which a caller keeps the start alone,
+// because it is longer than any bank. `to_version_2` and `to_version_1` fill a lent output with the same bank in
+// the other version, the second only where every elevation is 0, and exactly then.
 use bank_form::Fault;
 use bank_form::LARGEST;
 ghost use mathlib.Core.Path.{_≡_};
@@ -22,14 +24,17 @@ ghost use Rattle.big_endian.specs.Bytes.{bytesOf};
 ghost use Rattle.big_endian.specs.Fields.{floatAt};
 ghost use Rattle.lists.specs.Placed.{placed};
 ghost use Rattle.big_endian.specs.Lists.{strided, floatBytes};
+ghost use Rattle.bank_form.specs.Bank.{pairsOf};
+ghost use Rattle.bank_form.specs.Version.{elevationSize, elevationBytes, rowSize, largest};
 ghost use Rattle.bank_form.specs.Encoding.{rowBytes, headBytes, encode};
 ghost use Rattle.lists.specs.Each.{Each};
-ghost use Rattle.bank_form.specs.FitsFields.{IsAzimuth};
-ghost use Rattle.bank_form.specs.Fault.{rowSize, largest, azimuthsFrom, tapsFrom};
+ghost use Rattle.bank_form.specs.FitsFields.{IsI16};
+ghost use Rattle.bank_form.specs.Fault.{azimuthsFrom, elevationsFrom, tapsFrom, raisedFrom};
 ghost use Rattle.bank_form.specs.WriteFault.{countsFault};
 ghost use Rattle.bank_form.specs.FaultLaws.{suffices};
 ghost use Rattle.bank.specs.Reading.{ReadsStart, Reads};
 ghost use Rattle.bank.specs.Writing.{Writes};
+ghost use Rattle.bank.specs.Conversion.{raisedFor, convertedBank, Converts, ToVersion1, ToVersion2};
 
 // What reading answers: a refusal, with the offset of the field that is wrong (of 19, the file's size), or 0 with the
 // rows and L.
@@ -40,8 +45,8 @@ pub struct BankRead {
     pub length: usize,
 }
 
-// What writing answers: a refusal, with the offset at which the field that is wrong would stand, or 0 with the
-// bytes of the file.
+// What writing and both conversions answer: a refusal, with the offset at which the field that is wrong stands or
+// would stand, or 0 with the bytes of the file.
 pub struct BankWritten {
     pub refusal: u8,
     pub offset: usize,
@@ -74,12 +79,12 @@ fn unwritten(refusal: u8, offset: usize) -> BankWritten
     }
 }
 
-// Where row i starts in a file.
-fn row_at(i: usize, l: usize) -> usize
-    requires { ⌜ (i < 8) × (l ≤ 512) ⌝ }
-    ensures { λ r. ⌜ (r ≡ 9 + i * rowSize l) × (r ≤ 28695) ⌝ }
+// Where row i starts in a file, and behind the last row where the file ends.
+fn row_at(version: usize, i: usize, l: usize) -> usize
+    requires { ⌜ (i ≤ 8) × (l ≤ 512) ⌝ }
+    ensures { λ r. ⌜ (r ≡ 9 + i * rowSize version l) × (r ≤ 9 + 4100 * i) ⌝ }
 {
-    9 + i * bank_form::row_size(l)
+    9 + i * bank_form::row_size(version, l)
 }
 
 // Where the taps of row i start in a list of taps.
@@ -102,19 +107,43 @@ fn fill_taps(file: &[u8], at: usize, n: usize, taps: &mut [f32], q: usize)
     }
 }
 
-// Fills the azimuths and the taps of n rows into the first entries of the lists.
-fn fill_rows(file: &[u8], l: usize, n: usize, azimuths: &mut [i16], taps: &mut [f32])
-    requires { ⌜ (l ≤ 512) × (n ≤ 8) × (length (now azimuths) ≡ 8) × (length (now taps) ≡ 8192) ⌝ }
-    ensures azimuths { λ _. ⌜ now (azimuths .exit) ≡ placed (now (azimuths .entry)) 0 (azimuthsFrom (now (file .entry)) l 9 n) ⌝ }
-    ensures taps { λ _. ⌜ now (taps .exit) ≡ placed (now (taps .entry)) 0 (tapsFrom (now (file .entry)) l 9 n) ⌝ }
+// Fills the azimuths, the elevations and the taps of n rows into the first entries of the lists.
+fn fill_rows(
+    file: &[u8],
+    version: usize,
+    l: usize,
+    n: usize,
+    azimuths: &mut [i16],
+    elevations: &mut [i16],
+    taps: &mut [f32],
+)
+    requires { ⌜ (l ≤ 512) × (n ≤ 8) × (length (now azimuths) ≡ 8) × (length (now elevations) ≡ 8) × (length (now taps) ≡ 8192) ⌝ }
+    ensures azimuths { λ _. ⌜ now (azimuths .exit) ≡ placed (now (azimuths .entry)) 0 (azimuthsFrom (now (file .entry)) version l 9 n) ⌝ }
+    ensures elevations { λ _. ⌜ now (elevations .exit) ≡ placed (now (elevations .entry)) 0 (elevationsFrom (now (file .entry)) version l 9 n) ⌝ }
+    ensures taps { λ _. ⌜ now (taps .exit) ≡ placed (now (taps .entry)) 0 (tapsFrom (now (file .entry)) version l 9 n) ⌝ }
 {
+    let pair = 2 + bank_form::elevation_size(version);
     let mut i = 0;
     while i < n {
-        let at = row_at(i, l);
+        let at = row_at(version, i, l);
         azimuths[i] = big_endian::get_i16(file, at);
-        fill_taps(file, at + 2, 2 * l, taps, tap_at(i, l));
+        elevations[i] = bank_form::elevation_at(file, version, at);
+        fill_taps(file, at + pair, 2 * l, taps, tap_at(i, l));
         i += 1;
     }
+}
+
+// Whether the lists that reading is lent have their lengths.
+fn lists_fit(azimuths: usize, elevations: usize, taps: usize) -> bool
+    ensures { λ r. ⌜ r ≡ (eqb azimuths 8 && eqb elevations 8 && eqb taps 8192) ⌝ }
+{
+    if azimuths != 8 {
+        return false;
+    }
+    if elevations != 8 {
+        return false;
+    }
+    taps == 8192
 }
 
 // Whether so many bytes are all of a file of `size` bytes, or at least as many of its first as the largest bank has.
@@ -130,16 +159,21 @@ fn is_enough(have: usize, size: usize) -> bool
     have <= size
 }
 
-// Reads a file of `size` bytes that begins with these into lists of 8 azimuths and 8,192 taps, once all of it is known
-// to keep the form. The start is the whole file, or its first 32,793 bytes or more: a longer file is no bank, and its
-// start and its size tell what is wrong with it. Any other start, and one longer than `size`, is refused with 5.
-pub fn read_start(start: &[u8], size: usize, azimuths: &mut [i16], taps: &mut [f32]) -> BankRead
-    ensures { λ r. ⌜ ReadsStart (now (start .entry)) size (now (azimuths .entry)) (now (taps .entry)) (record { answer = r; azimuths = now (azimuths .exit); taps = now (taps .exit) }) ⌝ }
+// Reads a file of `size` bytes that begins with these into lists of 8 azimuths, 8 elevations and 8,192 taps, once all of
+// it is known to keep the form. The start is the whole file, or as many of its first bytes as the largest bank has, or
+// more: a longer file is no bank, and its start and its size tell what is wrong with it. Any other start, and one longer
+// than `size`, is refused with 5.
+pub fn read_start(
+    start: &[u8],
+    size: usize,
+    azimuths: &mut [i16],
+    elevations: &mut [i16],
+    taps: &mut [f32],
+) -> BankRead
+    ensures { λ r. ⌜ ReadsStart (now (start .entry)) size (now (azimuths .entry)) (now (elevations .entry)) (now (taps .entry))
+        (record { answer = r; azimuths = now (azimuths .exit); elevations = now (elevations .exit); taps = now (taps .exit) }) ⌝ }
 {
-    if azimuths.len() != 8 {
-        return unread(UNFIT, 0);
-    }
-    if taps.len() != 8192 {
+    if !lists_fit(azimuths.len(), elevations.len(), taps.len()) {
         return unread(UNFIT, 0);
     }
     if !is_enough(start.len(), size) {
@@ -149,9 +183,10 @@ pub fn read_start(start: &[u8], size: usize, azimuths: &mut [i16], taps: &mut [f
     if fault.refusal != 0 {
         return unread(fault.refusal, fault.offset);
     }
+    let version = big_endian::get(start, 0, 1) as usize;
     let rows = big_endian::get(start, 5, 2) as usize;
     let length = big_endian::get(start, 7, 2) as usize;
-    fill_rows(start, length, rows, azimuths, taps);
+    fill_rows(start, version, length, rows, azimuths, elevations, taps);
     BankRead {
         refusal: 0,
         offset: 0,
@@ -160,11 +195,17 @@ pub fn read_start(start: &[u8], size: usize, azimuths: &mut [i16], taps: &mut [f
     }
 }
 
-// Reads a file into lists of 8 azimuths and 8,192 taps, once all of it is known to keep the form.
-pub fn read(file: &[u8], azimuths: &mut [i16], taps: &mut [f32]) -> BankRead
-    ensures { λ r. ⌜ Reads (now (file .entry)) (now (azimuths .entry)) (now (taps .entry)) (record { answer = r; azimuths = now (azimuths .exit); taps = now (taps .exit) }) ⌝ }
+// Reads a file into lists of 8 azimuths, 8 elevations and 8,192 taps, once all of it is known to keep the form.
+pub fn read(
+    file: &[u8],
+    azimuths: &mut [i16],
+    elevations: &mut [i16],
+    taps: &mut [f32],
+) -> BankRead
+    ensures { λ r. ⌜ Reads (now (file .entry)) (now (azimuths .entry)) (now (elevations .entry)) (now (taps .entry))
+        (record { answer = r; azimuths = now (azimuths .exit); elevations = now (elevations .exit); taps = now (taps .exit) }) ⌝ }
 {
-    read_start(file, file.len(), azimuths, taps)
+    read_start(file, file.len(), azimuths, elevations, taps)
 }
 
 // Puts n taps of the list, from q on, into the file from `at` on.
@@ -179,77 +220,133 @@ fn put_taps(taps: &[f32], q: usize, n: usize, file: &mut [u8], at: usize)
     }
 }
 
-// Puts a row at an offset: its azimuth, and 2 * l taps of the list from q on.
-fn put_row(z: i16, l: usize, taps: &[f32], q: usize, file: &mut [u8], at: usize)
-    requires { ⌜ (l ≤ 512) × (q + 2 * l ≤ length (now taps)) × (at + rowSize l ≤ length (now file)) ⌝ }
-    ensures { λ _. ⌜ now (file .exit) ≡ placed (now (file .entry)) at (bytesOf 2 (ofZ w16 z) ++ floatBytes (take (2 * l) (drop q (now (taps .entry))))) ⌝ }
+// Puts an elevation at an offset; version 1 has none.
+fn put_elevation(version: usize, z: i16, file: &mut [u8], at: usize)
+    requires { ⌜ at + elevationSize version ≤ length (now file) ⌝ }
+    ensures { λ _. ⌜ now (file .exit) ≡ placed (now (file .entry)) at (elevationBytes version z) ⌝ }
 {
+    if version == 1 {
+        return;
+    }
     big_endian::put_i16(file, at, z);
-    put_taps(taps, q, 2 * l, file, at + 2);
 }
 
-// Puts the rows of a bank behind the head. That each azimuth is one of sixteen bits is known once it is
-// read, so it is told here.
-fn put_rows(azimuths: &[i16], l: usize, taps: &[f32], file: &mut [u8])
-    requires { ⌜ (l ≤ 512) × (length (now azimuths) ≤ 8) × (length (now taps) ≡ length (now azimuths) * (2 * l)) × (length (now file) ≡ largest) ⌝ }
-    ensures bytes { λ _. ⌜ now (file .exit) ≡ placed (now (file .entry)) 9 (rowBytes (now (azimuths .entry)) l (now (taps .entry))) ⌝ }
-    ensures azimuths { λ _. ⌜ Each IsAzimuth (pos 0) (now (azimuths .entry)) ⌝ }
+// Puts a row at an offset: its azimuth, its elevation, and 2 * l taps of the list from q on.
+fn put_row(
+    version: usize,
+    azimuth: i16,
+    elevation: i16,
+    l: usize,
+    taps: &[f32],
+    q: usize,
+    file: &mut [u8],
+    at: usize,
+)
+    requires { ⌜ (l ≤ 512) × (q + 2 * l ≤ length (now taps)) × (at + rowSize version l ≤ length (now file)) ⌝ }
+    ensures { λ _. ⌜ now (file .exit) ≡ placed (now (file .entry)) at (bytesOf 2 (ofZ w16 azimuth) ++ (elevationBytes version elevation ++ floatBytes (take (2 * l) (drop q (now (taps .entry)))))) ⌝ }
+{
+    big_endian::put_i16(file, at, azimuth);
+    put_elevation(version, elevation, file, at + 2);
+    put_taps(
+        taps,
+        q,
+        2 * l,
+        file,
+        at + 2 + bank_form::elevation_size(version),
+    );
+}
+
+// Puts the rows of a bank behind the head. That each azimuth and each elevation is one of sixteen bits is known once it
+// is read, so it is told here.
+fn put_rows(
+    version: usize,
+    azimuths: &[i16],
+    elevations: &[i16],
+    l: usize,
+    taps: &[f32],
+    file: &mut [u8],
+)
+    requires { ⌜ (l ≤ 512) × (length (now azimuths) ≤ 8) × (length (now elevations) ≡ length (now azimuths)) × (length (now taps) ≡ length (now azimuths) * (2 * l)) × (9 + length (now azimuths) * rowSize version l ≤ length (now file)) ⌝ }
+    ensures bytes { λ _. ⌜ now (file .exit) ≡ placed (now (file .entry)) 9 (rowBytes version (pairsOf (now (azimuths .entry)) (now (elevations .entry))) l (now (taps .entry))) ⌝ }
+    ensures azimuths { λ _. ⌜ Each IsI16 (pos 0) (now (azimuths .entry)) ⌝ }
+    ensures elevations { λ _. ⌜ Each IsI16 (pos 0) (now (elevations .entry)) ⌝ }
 {
     let mut i = 0;
     while i < azimuths.len() {
-        put_row(azimuths[i], l, taps, tap_at(i, l), file, row_at(i, l));
+        let at = row_at(version, i, l);
+        put_row(version, azimuths[i], elevations[i], l, taps, tap_at(i, l), file, at);
         i += 1;
     }
 }
 
 // Puts the head: the version, the length of all that follows, and the two counts.
-fn put_head(file: &mut [u8], rest: u64, rows: u64, l: u64)
+fn put_head(file: &mut [u8], version: u64, rest: u64, rows: u64, l: u64)
     requires { ⌜ 9 ≤ length (now file) ⌝ }
-    ensures { λ _. ⌜ now (file .exit) ≡ placed (now (file .entry)) 0 (headBytes rest rows l) ⌝ }
+    ensures { λ _. ⌜ now (file .exit) ≡ placed (now (file .entry)) 0 (headBytes version rest rows l) ⌝ }
 {
-    big_endian::put(file, 0, 1, 1);
+    big_endian::put(file, 0, 1, version);
     big_endian::put(file, 1, 4, rest);
     big_endian::put(file, 5, 2, rows);
     big_endian::put(file, 7, 2, l);
 }
 
-// Puts a bank from the start on; its file is `size` bytes long.
-fn put_bank(azimuths: &[i16], l: usize, taps: &[f32], file: &mut [u8], size: usize)
-    requires { ⌜ (l ≤ 512) × (length (now azimuths) ≤ 8) × (length (now taps) ≡ length (now azimuths) * (2 * l)) × (size ≡ 9 + length (now azimuths) * rowSize l) × (length (now file) ≡ largest) ⌝ }
-    ensures bytes { λ _. ⌜ now (file .exit) ≡ placed (now (file .entry)) 0 (encode (record { azimuths = now (azimuths .entry); length = l; taps = now (taps .entry) })) ⌝ }
-    ensures azimuths { λ _. ⌜ Each IsAzimuth (pos 0) (now (azimuths .entry)) ⌝ }
+// Puts a bank from the start on in a version, of which its file has `size` bytes.
+fn put_bank(
+    version: usize,
+    azimuths: &[i16],
+    elevations: &[i16],
+    l: usize,
+    taps: &[f32],
+    file: &mut [u8],
+    size: usize,
+)
+    requires { ⌜ (l ≤ 512) × (length (now azimuths) ≤ 8) × (length (now elevations) ≡ length (now azimuths)) × (length (now taps) ≡ length (now azimuths) * (2 * l)) × (size ≡ 9 + length (now azimuths) * rowSize version l) × (size ≤ length (now file)) ⌝ }
+    ensures bytes { λ _. ⌜ now (file .exit) ≡ placed (now (file .entry)) 0 (encode version (record { azimuths = now (azimuths .entry); elevations = now (elevations .entry); length = l; taps = now (taps .entry) })) ⌝ }
+    ensures azimuths { λ _. ⌜ Each IsI16 (pos 0) (now (azimuths .entry)) ⌝ }
+    ensures elevations { λ _. ⌜ Each IsI16 (pos 0) (now (elevations .entry)) ⌝ }
 {
-    put_head(file, (size - 5) as u64, azimuths.len() as u64, l as u64);
-    put_rows(azimuths, l, taps, file);
+    put_head(
+        file,
+        version as u64,
+        (size - 5) as u64,
+        azimuths.len() as u64,
+        l as u64,
+    );
+    put_rows(version, azimuths, elevations, l, taps, file);
 }
 
-// Whether the lengths that writing is lent fit: 2 x rows x L taps, and a buffer of the file's length.
-fn lengths_fit(rows: usize, l: usize, taps: usize, file: usize) -> bool
+// Whether the lengths that writing is lent fit: an elevation for each row, 2 x rows x L taps, and a buffer of the length
+// of the file, in version 2.
+fn lengths_fit(rows: usize, elevations: usize, l: usize, taps: usize, file: usize) -> bool
     requires { ⌜ (rows * 2 < 2 ^ 63) × (taps * 4 < 2 ^ 63) ⌝ }
-    ensures { λ r. ⌜ r ≡ (eqb taps (2 * rows * l) && eqb file (9 + rows * rowSize l)) ⌝ }
+    ensures { λ r. ⌜ r ≡ (eqb elevations rows && eqb taps (2 * rows * l) && eqb file (9 + rows * rowSize 2 l)) ⌝ }
 {
+    if elevations != rows {
+        return false;
+    }
     if !checks::is_product(taps, 2 * rows, l) {
         return false;
     }
     if file < 9 {
         return false;
     }
-    file - 9 == rows * 2 + taps * 4
+    file - 9 == rows * 4 + taps * 4
 }
 
 // Makes the file of a bank in `made`, checks it as any file is, and copies it if it keeps the form.
 fn write_checked(
     azimuths: &[i16],
+    elevations: &[i16],
     l: usize,
     taps: &[f32],
     file: &mut [u8],
     made: &mut [u8],
 ) -> BankWritten
-    requires { ⌜ (l ≤ 512) × (length (now azimuths) ≤ 8) × (length (now taps) ≡ length (now azimuths) * (2 * l)) × (length (now file) ≡ 9 + length (now azimuths) * rowSize l) × (length (now made) ≡ largest) ⌝ }
-    ensures { λ r. ⌜ Writes (record { azimuths = now (azimuths .entry); length = l; taps = now (taps .entry) }) (now (file .entry)) (record { answer = r; file = now (file .exit) }) ⌝ }
+    requires { ⌜ (l ≤ 512) × (length (now azimuths) ≤ 8) × (length (now elevations) ≡ length (now azimuths)) × (length (now taps) ≡ length (now azimuths) * (2 * l)) × (length (now file) ≡ 9 + length (now azimuths) * rowSize 2 l) × (length (now made) ≡ largest) ⌝ }
+    ensures { λ r. ⌜ Writes (record { azimuths = now (azimuths .entry); elevations = now (elevations .entry); length = l; taps = now (taps .entry) }) (now (file .entry)) (record { answer = r; file = now (file .exit) }) ⌝ }
 {
     let size = file.len();
-    put_bank(azimuths, l, taps, made, size);
+    put_bank(2, azimuths, elevations, l, taps, made, size);
     let found = bank_check::check_file(&made[..size]);
     if found.refusal != 0 {
         return unwritten(found.refusal, found.offset);
@@ -284,12 +381,24 @@ fn counts_fault(rows: usize, l: usize) -> Fault
     }
 }
 
-// Writes the file of a bank, with an azimuth for each row, into a buffer of its length. The file is made
-// beside the buffer, so that a bank which breaks the form changes nothing.
-pub fn write(azimuths: &[i16], length: usize, taps: &[f32], file: &mut [u8]) -> BankWritten
-    ensures { λ r. ⌜ Writes (record { azimuths = now (azimuths .entry); length = length; taps = now (taps .entry) }) (now (file .entry)) (record { answer = r; file = now (file .exit) }) ⌝ }
+// Writes the file of a bank in version 2, with an azimuth and an elevation for each row, into a buffer of its length. The
+// file is made beside the buffer, so that a bank which breaks the form changes nothing.
+pub fn write(
+    azimuths: &[i16],
+    elevations: &[i16],
+    length: usize,
+    taps: &[f32],
+    file: &mut [u8],
+) -> BankWritten
+    ensures { λ r. ⌜ Writes (record { azimuths = now (azimuths .entry); elevations = now (elevations .entry); length = length; taps = now (taps .entry) }) (now (file .entry)) (record { answer = r; file = now (file .exit) }) ⌝ }
 {
-    if !lengths_fit(azimuths.len(), length, taps.len(), file.len()) {
+    if !lengths_fit(
+        azimuths.len(),
+        elevations.len(),
+        length,
+        taps.len(),
+        file.len(),
+    ) {
         return unwritten(UNFIT, 0);
     }
     let counts = counts_fault(azimuths.len(), length);
@@ -297,5 +406,109 @@ pub fn write(azimuths: &[i16], length: usize, taps: &[f32], file: &mut [u8]) -> 
         return unwritten(counts.refusal, counts.offset);
     }
     let mut made = [0u8; LARGEST];
-    write_checked(azimuths, length, taps, file, &mut made)
+    write_checked(azimuths, elevations, length, taps, file, &mut made)
+}
+
+// The first elevation that is not 0, told where a file of version 2 has it.
+fn raised_fault(elevations: &[i16], l: usize) -> Fault
+    requires { ⌜ (l ≤ 512) × (length (now elevations) ≤ 8) ⌝ }
+    ensures { λ r. ⌜ r ≡ raisedFrom l 9 (now (elevations .entry)) ⌝ }
+{
+    let row = bank_form::row_size(2, l);
+    let mut at = 9;
+    let mut i = 0;
+    while i < elevations.len() {
+        if elevations[i] != 0 {
+            return Fault {
+                refusal: 21,
+                offset: at + 2,
+            };
+        }
+        at += row;
+        i += 1;
+    }
+    Fault {
+        refusal: 0,
+        offset: 0,
+    }
+}
+
+// What is wrong with elevations in a file of a version: it may have none.
+fn elevations_fault(version: usize, elevations: &[i16], l: usize) -> Fault
+    requires { ⌜ (l ≤ 512) × (length (now elevations) ≤ 8) ⌝ }
+    ensures { λ r. ⌜ r ≡ raisedFor version l (now (elevations .entry)) ⌝ }
+{
+    if version == 1 {
+        return raised_fault(elevations, l);
+    }
+    Fault {
+        refusal: 0,
+        offset: 0,
+    }
+}
+
+// Puts a bank that keeps the form into an output of the length that its file has in a version.
+fn convert_bank(
+    version: usize,
+    azimuths: &[i16],
+    elevations: &[i16],
+    l: usize,
+    taps: &[f32],
+    out: &mut [u8],
+) -> BankWritten
+    requires { ⌜ (l ≤ 512) × (length (now azimuths) ≤ 8) × (length (now elevations) ≡ length (now azimuths)) × (length (now taps) ≡ length (now azimuths) * (2 * l)) ⌝ }
+    ensures { λ r. ⌜ record { answer = r; file = now (out .exit) } ≡ convertedBank version (record { azimuths = now (azimuths .entry); elevations = now (elevations .entry); length = l; taps = now (taps .entry) }) (now (out .entry)) ⌝ }
+{
+    let raised = elevations_fault(version, elevations, l);
+    if raised.refusal != 0 {
+        return unwritten(raised.refusal, raised.offset);
+    }
+    let size = row_at(version, azimuths.len(), l);
+    if out.len() != size {
+        return unwritten(UNFIT, 0);
+    }
+    put_bank(version, azimuths, elevations, l, taps, out, size);
+    BankWritten {
+        refusal: 0,
+        offset: 0,
+        bytes: size,
+    }
+}
+
+// Turns a file of one version into another.
+fn convert(file: &[u8], from: usize, to: usize, out: &mut [u8]) -> BankWritten
+    ensures { λ r. ⌜ Converts from to (now (file .entry)) (now (out .entry)) (record { answer = r; file = now (out .exit) }) ⌝ }
+{
+    let fault = bank_check::check_version(file, from);
+    if fault.refusal != 0 {
+        return unwritten(fault.refusal, fault.offset);
+    }
+    let mut azimuths = [0i16; 8];
+    let mut elevations = [0i16; 8];
+    let mut taps = [0.0f32; 8192];
+    let found = read(file, &mut azimuths, &mut elevations, &mut taps);
+    let n = found.rows;
+    let l = found.length;
+    convert_bank(
+        to,
+        &azimuths[..n],
+        &elevations[..n],
+        l,
+        &taps[..2 * n * l],
+        out,
+    )
+}
+
+// Turns a file of version 1 into one of version 2, which has the elevation 0 for each row.
+pub fn to_version_2(file: &[u8], out: &mut [u8]) -> BankWritten
+    ensures { λ r. ⌜ ToVersion2 (now (file .entry)) (now (out .entry)) (record { answer = r; file = now (out .exit) }) ⌝ }
+{
+    convert(file, 1, 2, out)
+}
+
+// Turns a file of version 2 back into one of version 1, which it is only if every elevation is 0.
+pub fn to_version_1(file: &[u8], out: &mut [u8]) -> BankWritten
+    ensures { λ r. ⌜ ToVersion1 (now (file .entry)) (now (out .entry)) (record { answer = r; file = now (out .exit) }) ⌝ }
+{
+    convert(file, 2, 1, out)
 }

@@ -3,11 +3,12 @@ use mathlib.Core.Path.{_≡_, refl, sym, ap, ap₂, _∙_}
 use mathlib.Core.Bool.{Bool, true, false, _&&_}
 use mathlib.Core.List.{List, [], _∷_}
 use mathlib.Core.Logic.{_⊎_, inl, inr, ⊎-elim}
-use Prim.Native.Nat.{ℕ, suc, _+_, _*_, _≤_, _<_, suc-le-suc}
+use Prim.Native.Nat.{ℕ, zero, suc, _+_, _*_, _≤_, _<_, suc-le-suc}
+use native.Mathlib.Nat.{le-of-suc-le-suc}
 use native.Mathlib.Omega.{arith}
 use native.Mathlib.Decide.{decLt}
 use lib.IntN.{ℤ, pos}
-use lib.ListN.{length, take, getD}
+use lib.ListN.{length, take, drop, getD, drop-of-length-le}
 use Rattle.big_endian.proofs.Fields.{lies-out, field-out}
 use Rattle.lists.specs.Tables.{every}
 use Rattle.refusals.specs.Ranges.{within}
@@ -65,6 +66,20 @@ clear-raised : (l at : ℕ) (es : List ℤ) → isClear (raisedFrom l at es) ≡
 unfolding raisedFrom
 clear-raised l at [] = refl
 clear-raised l at (e ∷ es) = clear-else _ _ ∙ ap₂ _&&_ (clear-unless (isLevel e) 21 (pairAt 2 at) (omega arith)) (clear-raised l (at + rowSize 2 l) es)
+
+-- from the i-th on: it, and those behind it
+pub raised-next : (l at i : ℕ) (es : List ℤ) → i < length es
+    → raisedFrom l at (drop i es) ≡ orElse (unless (isLevel (getD es i (pos 0))) 21 (pairAt 2 at)) (raisedFrom l (at + rowSize 2 l) (drop (i + 1) es))
+unfolding raisedFrom
+raised-next l at i [] h = absurd (omega (arith, h))
+raised-next l at zero (e ∷ es) h = refl
+raised-next l at (suc i) (e ∷ es) h =
+    let next : suc i + 1 ≡ suc (i + 1) = omega arith in
+    rw next (raised-next l at i es (le-of-suc-le-suc h))
+
+pub raised-end : (l at i : ℕ) (es : List ℤ) → length es ≤ i → raisedFrom l at (drop i es) ≡ sound
+unfolding raisedFrom
+raised-end l at i es h = ap (raisedFrom l at) (drop-of-length-le es {i = i} h)
 
 pub raised-exactly : RaisedExactly
 raised-exactly b = clear-raised (b .length) 9 (b .elevations)

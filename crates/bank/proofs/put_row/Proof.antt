@@ -1,9 +1,11 @@
 -- `bank::put_row` meets its contract. Assumes nothing.
-use mathlib.Core.Path.{_≡_, refl, ap, _∙_}
-use Prim.Native.Nat.{_+_, _*_}
+use mathlib.Core.Path.{_≡_, refl, sym, ap, _∙_}
+use mathlib.Core.List.{_++_, append-assoc}
+use Prim.Native.Nat.{ℕ, _+_, _*_}
 use native.Mathlib.Omega.{arith}
 use lib.Ieee.{binary32, toBits}
-use lib.ListN.{take, drop}
+use lib.IntN.{ℤ}
+use lib.ListN.{length, take, drop, length-append}
 use mir.Syntax.{w16}
 use mir.Val.{toZ, ofZ}
 use mir.Facts.{toZ-ofZ}
@@ -15,38 +17,50 @@ use Rattle.big_endian.proofs.Bytes.{length-bytes}
 use Rattle.big_endian.proofs.Fields.{field-put}
 use Rattle.lists.proofs.Tables.{length-part}
 use Rattle.big_endian.proofs.Lists.{part-more, length-fieldBytes}
+use Rattle.bank_form.specs.Version.{elevationSize, elevationBytes}
+use Rattle.bank_form.proofs.RoundTrip.{length-elevation}
 use borrow.Author.Needs.{needs}
 use Rattle.bank.proofs.put_row.Statement.{statement}
 use Rattle.bank.proofs.put_row.Tie as tie
 
-put-i16-requires : tie.Need-put-i16-requires
-put-i16-requires c κs = search needs
-
-mul-put-taps : tie.Need-mul-put-taps
-mul-put-taps c = search needs
-
-add-put-taps : tie.Need-add-put-taps
-add-put-taps c = search needs
-
-put-taps-requires : tie.Need-put-taps-requires
-put-taps-requires c κs = search needs
-
-same-length : tie.Need-same-length
-same-length c = search needs
-
 returns : tie.Need-returns
 unfolding withSigned
 returns c =
-    let start = c .before .before .before .before .before .before .before .before .before .before in
+    let taps-put = c .before .before in
+    let raised = taps-put .before .before .before .before .before in
+    let read = raised .before .before .before .before in
+    let start = read .before .before .before .before in
     let args = start .args in
-    let one = c .before .before .before .before .before .before .put-i16 in
-    let bits : ofZ w16 (toZ w16 (ofZ w16 (args .z))) ≡ ofZ w16 (args .z) = ap (ofZ w16) (toZ-ofZ (start .fits .z)) in
-    let azimuth = field-put (args .file .now) (one .last .0) (args .at) 2 _ (omega arith) (omega arith) (one .ensures) ∙ ap (placed _ _) (ap (bytesOf 2) bits) in
+    let bits : ofZ w16 (toZ w16 (ofZ w16 (args .azimuth))) ≡ ofZ w16 (args .azimuth) = ap (ofZ w16) (toZ-ofZ (start .fits .azimuth)) in
+    let azimuth = bytesOf 2 (ofZ w16 (args .azimuth)) in
+    let elevation = elevationBytes (args .version) (args .elevation) in
     let row = take (2 * args .l) (drop (args .q) (args .taps .now)) in
     let long = length-part (args .taps .now) (args .q) (2 * args .l) (omega arith) in
-    part-more (args .file .now) (one .last .0) _ _ (floatBytes row) (args .at) 2 (args .at + 2) azimuth (length-bytes 2 _) refl (omega (arith, length-fieldBytes 4 (toBits binary32) row)) (c .before .before .put-taps .ensures)
+    let size = length-elevation (args .version) (args .elevation) in
+    let one = field-put (args .file .now) (read .put-i16 .last .0) (args .at) 2 _ (omega arith) (omega arith) (read .put-i16 .ensures) ∙ ap (placed _ _) (ap (bytesOf 2) bits) in
+    let up = raised .put-elevation in
+    let two =
+    part-more (args .file .now) (read .put-i16 .last .0) (up .last .1 .1 .0) azimuth elevation (args .at) 2 (args .at + 2) one (length-bytes 2 _) refl (omega (arith, size))
+    (up .ensures ∙ ap (λ (z : ℤ). placed (read .put-i16 .last .0) (args .at + 2) (elevationBytes (args .version) z)) (toZ-ofZ (start .fits .elevation))) in
+    let three =
+    part-more (args .file .now) (up .last .1 .1 .0) _ (azimuth ++ elevation) (floatBytes row) (args .at) (2 + elevationSize (args .version)) _ two
+    (length-append azimuth elevation ∙ omega (arith, length-bytes 2 (ofZ w16 (args .azimuth)), size))
+    (omega (arith, taps-put .before .elevation-size .ensures .0))
+    (omega (arith, length-fieldBytes 4 (toBits binary32) row, long))
+    (taps-put .put-taps .ensures) in
+    three ∙ ap (placed _ _) (append-assoc azimuth elevation (floatBytes row))
 
 pub put-row-spec : {M : Type 1} → statement M
 put-row-spec =
     tie.close
-    (tie.spec put-i16-requires mul-put-taps add-put-taps put-taps-requires same-length returns)
+    (tie.spec
+    (λ c κs. search needs)
+    (λ c. search needs)
+    (λ c κs. search needs)
+    (λ c. search needs)
+    (λ c. search needs)
+    (λ c κs. search needs)
+    (λ c. search needs)
+    (λ c κs. search needs)
+    (λ c. search needs)
+    returns)

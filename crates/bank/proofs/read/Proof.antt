@@ -8,21 +8,12 @@ use borrow.Author.Needs.{needs}
 use Rattle.bank.proofs.read.Statement.{statement}
 use Rattle.bank.proofs.read.Tie as tie
 
-read-start-requires : tie.Need-read-start-requires
-read-start-requires c κs = search needs
-
-same-length : tie.Need-same-length
-same-length c = search needs
-
-same-length-2 : tie.Need-same-length-2
-same-length-2 c = search needs
-
 returns : tie.Need-returns
 returns c =
-    let read = c .before .before .before in
-    let file = read .before .before .before .before .before .args .file .now in
-    read .read-start .ensures .each file (λ i. read .before .before .before .before .shared-slice-known .given i .fits)
+    let read = c .before .before .before .before in
+    let file = read .before .before .before .before .before .before .args .file .now in
+    read .read-start .ensures .each file (λ i. read .before .before .before .before .before .shared-slice-known .given i .fits)
     (rw (enough-all (length file) (length file) refl) tt) (inl (record { long = refl; same = take-length file }))
 
 pub read-spec : {M : Type 1} → statement M
-read-spec = tie.close (tie.spec read-start-requires same-length same-length-2 returns)
+read-spec = tie.close (tie.spec (λ c κs. search needs) (λ c. search needs) (λ c. search needs) (λ c. search needs) returns)
