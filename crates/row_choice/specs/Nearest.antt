@@ -15,7 +15,7 @@ apart a b = min (natAbs (a -ℤ b) % 3600) (3600 - natAbs (a -ℤ b) % 3600)
 abbrev pub away : List ℤ → ℤ → ℕ → ℕ
 away zs p j = apart (getD zs j (pos 0)) p
 
--- elevation distance, a plain difference, as there is no way round: of row j of a list of elevations from a speaker at elevation q
+-- elevation distance: the plain difference, which has no shorter way round, of row j of a list of elevations and a speaker at elevation q
 unfoldable pub elevationAway : List ℤ → ℤ → ℕ → ℕ
 elevationAway es q j = natAbs (getD es j (pos 0) -ℤ q)
 
@@ -29,7 +29,7 @@ pub record Takes (zs es : List ℤ) (n : ℕ) (p q : ℤ) (r : ℕ) : Type 0 whe
   pub nearest : (j : ℕ) → j < n → Nearer zs es p q j r → ⊥
   pub earliest : (j : ℕ) → j < r → Nearer zs es p q r j
 
--- document 01's choice, by azimuths alone
+-- document 01's choice, by azimuths alone: none is nearer by the shorter way round, and each that comes before it is farther
 pub record TakesByAzimuth (zs : List ℤ) (n : ℕ) (p : ℤ) (r : ℕ) : Type 0 where
   pub among : r < n
   pub nearest : (j : ℕ) → j < n → away zs p r ≤ away zs p j
