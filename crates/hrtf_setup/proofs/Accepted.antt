@@ -1,4 +1,5 @@
--- What an accepted set-up leaves fits the convolver: speakers and channels as many as it plays, finite weights, and for each speaker a row of the bank. And which set-ups are accepted. Assumes nothing.
+-- What an accepted set-up leaves fits the convolver: speakers and channels as many as it plays, finite weights, and for each speaker a row of the bank, which at one elevation is document 01's. And which
+-- set-ups are accepted. Assumes nothing.
 use mathlib.Core.Path.{_≡_, refl, sym, ap, _∙_, subst}
 use mathlib.Core.Bool.{Bool, true, false, cond}
 use mathlib.Core.List.{List, _∷_}
@@ -22,11 +23,13 @@ use Rattle.channel.specs.declared.Layout.{Layout}
 use Rattle.channel.specs.Layouts.{surround}
 use Rattle.channel.proofs.Orders.{by-order}
 use Rattle.channel.proofs.Counts.{surround-few}
+use Rattle.row_choice.specs.Nearest.{TakesByAzimuth, Flat}
+use Rattle.row_choice.proofs.Level.{flat-as-before}
 use Rattle.virtual_speaker.specs.Promise.{outcome, positionOf}
 use Rattle.virtual_speaker.proofs.Laws.{outcome-kept, weights-length, weights-sound}
 use Rattle.hrtf_setup.specs.declared.Speakers.{Speakers}
 use Rattle.hrtf_setup.specs.declared.Speakers.the-variants.{Of, Virtual}
-use Rattle.hrtf_setup.specs.Speakers.{rowAt, oneIf, weightOf, weightAt}
+use Rattle.hrtf_setup.specs.Speakers.{tenthsAt, level, rowAt, oneIf, weightOf, weightAt}
 use Rattle.hrtf_setup.specs.Arrangement.{Wanted, laterChecks, refusalOf, Arrangement, arrangedBy}
 use Rattle.hrtf_setup.specs.Promise.{Arranges, ofLayout, ofOrder, NewSurround, NewAmbisonic}
 use Rattle.hrtf_setup.proofs.Arranging.{offered, by-wanted}
@@ -71,6 +74,11 @@ module _ (w : Wanted) (azimuths elevations : List ℤ) (rows : ℕ) (weights : L
 
   pub accepted-of : o .answer .refusal ≡ 0 → refusalOf w azimuths elevations rows weights ≡ 0
   accepted-of e = sym refusal-told ∙ e
+
+  -- where the bank's rows stand at one elevation, each speaker takes the row that document 01 names
+  pub flat-rows : refusalOf w azimuths elevations rows weights ≡ 0 → Flat elevations rows → (s : ℕ)
+      → TakesByAzimuth azimuths rows (tenthsAt (w .whose) s) (rowAt (w .whose) azimuths elevations rows s)
+  flat-rows z flat s = flat-as-before azimuths elevations rows (tenthsAt (w .whose) s) level flat (rowAt (w .whose) azimuths elevations rows s) .0 (a .takes z s)
 
   module _ (few : Few w) (eight : length given ≡ 8) (z : refusalOf w azimuths elevations rows weights ≡ 0) where
     is : o ≡ arrangedBy 0 (w .whose) (w .speakers) (w .channels) azimuths elevations rows weights given
