@@ -1,4 +1,5 @@
--- What an accepted set-up leaves fits the convolver: speakers and channels as many as it plays, finite weights, and for each speaker a row of the bank. And which set-ups are accepted. Assumes nothing.
+-- What an accepted set-up leaves fits the convolver: speakers and channels as many as it plays, finite weights, and for each speaker a row of the bank, which at one elevation is document 01's. And which
+-- set-ups are accepted. Assumes nothing.
 use mathlib.Core.Path.{_≡_, refl, sym, ap, _∙_, subst}
 use mathlib.Core.Bool.{Bool, true, false, cond}
 use mathlib.Core.List.{List, _∷_}
@@ -17,16 +18,18 @@ use Rattle.refusals.proofs.Chains.{off-accepts}
 use Rattle.lists.specs.Tables.{tab}
 use Rattle.checks.specs.Finite.{unsound}
 use Rattle.lists.proofs.Tables.{length-tab, getD-tab}
-use Rattle.checks.proofs.Checks.{both-off, equal-passes, sound-at, sound-tab}
+use Rattle.checks.proofs.Checks.{equal-passes, sound-at, sound-tab}
 use Rattle.channel.specs.declared.Layout.{Layout}
 use Rattle.channel.specs.Layouts.{surround}
 use Rattle.channel.proofs.Orders.{by-order}
 use Rattle.channel.proofs.Counts.{surround-few}
+use Rattle.row_choice.specs.Nearest.{TakesByAzimuth, Flat}
+use Rattle.row_choice.proofs.Level.{flat-as-before}
 use Rattle.virtual_speaker.specs.Promise.{outcome, positionOf}
 use Rattle.virtual_speaker.proofs.Laws.{outcome-kept, weights-length, weights-sound}
 use Rattle.hrtf_setup.specs.declared.Speakers.{Speakers}
 use Rattle.hrtf_setup.specs.declared.Speakers.the-variants.{Of, Virtual}
-use Rattle.hrtf_setup.specs.Speakers.{rowAt, oneIf, weightOf, weightAt}
+use Rattle.hrtf_setup.specs.Speakers.{tenthsAt, level, rowAt, oneIf, weightOf, weightAt}
 use Rattle.hrtf_setup.specs.Arrangement.{Wanted, laterChecks, refusalOf, Arrangement, arrangedBy}
 use Rattle.hrtf_setup.specs.Promise.{Arranges, ofLayout, ofOrder, NewSurround, NewAmbisonic}
 use Rattle.hrtf_setup.proofs.Arranging.{offered, by-wanted}
@@ -60,28 +63,33 @@ pub record Playable (rows : ℕ) (o : Arrangement) : Type 0 where
 abbrev Few : Wanted → Type 0
 Few w = ((0 < w .speakers) × (w .speakers ≤ 8)) × ((0 < w .channels) × (w .channels ≤ 16))
 
-module _ (w : Wanted) (azimuths : List ℤ) (rows : ℕ) (weights : List Float) (given : List ℕ) (o : Arrangement) (a : Arranges w azimuths rows weights given o) where
+module _ (w : Wanted) (azimuths elevations : List ℤ) (rows : ℕ) (weights : List Float) (given : List ℕ) (o : Arrangement) (a : Arranges w azimuths elevations rows weights given o) where
   -- the number answered is the one that is asked for
-  refusal-told : o .answer .refusal ≡ refusalOf w azimuths rows weights
-  refusal-told = ap (λ (q : Arrangement). q .answer .refusal) (a .answer ∙ by-wanted w azimuths rows weights given (refusalOf w azimuths rows weights) refl) ∙ go (refusalOf w azimuths rows weights)
+  refusal-told : o .answer .refusal ≡ refusalOf w azimuths elevations rows weights
+  refusal-told = ap (λ (q : Arrangement). q .answer .refusal) (a .answer ∙ by-wanted w azimuths elevations rows weights given (refusalOf w azimuths elevations rows weights) refl) ∙ go (refusalOf w azimuths elevations rows weights)
     where
-      go : (n : ℕ) → arrangedBy n (w .whose) (w .speakers) (w .channels) azimuths rows weights given .answer .refusal ≡ n
+      go : (n : ℕ) → arrangedBy n (w .whose) (w .speakers) (w .channels) azimuths elevations rows weights given .answer .refusal ≡ n
       go zero = refl
       go (suc n) = refl
 
-  accepted-of : o .answer .refusal ≡ 0 → refusalOf w azimuths rows weights ≡ 0
+  pub accepted-of : o .answer .refusal ≡ 0 → refusalOf w azimuths elevations rows weights ≡ 0
   accepted-of e = sym refusal-told ∙ e
 
-  module _ (few : Few w) (eight : length given ≡ 8) (z : refusalOf w azimuths rows weights ≡ 0) where
-    is : o ≡ arrangedBy 0 (w .whose) (w .speakers) (w .channels) azimuths rows weights given
-    is = a .answer ∙ by-wanted w azimuths rows weights given 0 z
+  -- where the bank's rows stand at one elevation, each speaker takes the row that document 01 names
+  pub flat-rows : refusalOf w azimuths elevations rows weights ≡ 0 → Flat elevations rows → (s : ℕ)
+      → TakesByAzimuth azimuths rows (tenthsAt (w .whose) s) (rowAt (w .whose) azimuths elevations rows s)
+  flat-rows z flat s = flat-as-before azimuths elevations rows (tenthsAt (w .whose) s) level flat (rowAt (w .whose) azimuths elevations rows s) .0 (a .takes z s)
 
-    rows-are : o .rows ≡ sets given 0 (tab 0 (w .speakers) (rowAt (w .whose) azimuths rows))
+  module _ (few : Few w) (eight : length given ≡ 8) (z : refusalOf w azimuths elevations rows weights ≡ 0) where
+    is : o ≡ arrangedBy 0 (w .whose) (w .speakers) (w .channels) azimuths elevations rows weights given
+    is = a .answer ∙ by-wanted w azimuths elevations rows weights given 0 z
+
+    rows-are : o .rows ≡ sets given 0 (tab 0 (w .speakers) (rowAt (w .whose) azimuths elevations rows))
     rows-are = ap (λ (q : Arrangement). q .rows) is
 
-    row-is : (s : ℕ) → s < w .speakers → getD (o .rows) s 0 ≡ rowAt (w .whose) azimuths rows s
+    row-is : (s : ℕ) → s < w .speakers → getD (o .rows) s 0 ≡ rowAt (w .whose) azimuths elevations rows s
     row-is s h =
-        let f = rowAt (w .whose) azimuths rows in
+        let f = rowAt (w .whose) azimuths elevations rows in
         let n : length (tab 0 (w .speakers) f) ≡ w .speakers = length-tab 0 (w .speakers) f in
         ap (λ (l : List ℕ). getD l s 0) (rows-are ∙ sets-eq (tab 0 (w .speakers) f) given 0 (omega (arith, n, eight, few .0 .1)))
         ∙ List·getD-append (tab 0 (w .speakers) f) (drop (0 + length (tab 0 (w .speakers) f)) given) 0 s (omega (arith, n, h))
@@ -103,26 +111,26 @@ module _ (w : Wanted) (azimuths : List ℤ) (rows : ℕ) (weights : List Float) 
               subst (λ (r : ℕ). r < rows) (sym (row-is s g)) (a .takes z s .among);
         }
 
--- ---- which set-ups are accepted: speakers that are offered, 1 to 8 rows of a list of 8 azimuths, and as many weights as there are
+-- ---- which set-ups are accepted: speakers that are offered, 1 to 8 rows of lists of 8 azimuths and 8 elevations, and as many weights as there are
 
-pub set-up : (w : Wanted) (azimuths : List ℤ) (rows : ℕ) (weights : List Float) → w .check .holds ≡ false → outside rows 8 ≡ false → length azimuths ≡ 8
-    → length weights ≡ w .speakers * w .channels → refusalOf w azimuths rows weights ≡ 0
+pub set-up : (w : Wanted) (azimuths elevations : List ℤ) (rows : ℕ) (weights : List Float) → w .check .holds ≡ false → outside rows 8 ≡ false → length azimuths ≡ 8 → length elevations ≡ 8
+    → length weights ≡ w .speakers * w .channels → refusalOf w azimuths elevations rows weights ≡ 0
 unfolding refusalOf
-set-up w azimuths rows weights h few full long =
-    off-accepts (w .check ∷ laterChecks (w .speakers * w .channels) azimuths rows weights)
-    (h, (few, (both-off _ _ (equal-passes (length azimuths) 8 full) (equal-passes (length weights) (w .speakers * w .channels) long), tt)))
+set-up w azimuths elevations rows weights h few full high long =
+    off-accepts (w .check ∷ laterChecks (w .speakers * w .channels) azimuths elevations rows weights)
+    (h, (few, (equal-passes (length azimuths) 8 full, (equal-passes (length elevations) 8 high, (equal-passes (length weights) (w .speakers * w .channels) long, tt)))))
 
 -- ---- each of the two
 
-module _ (azimuths : List ℤ) (rows : ℕ) (weights : List Float) (given : List ℕ) (o : Arrangement) (eight : length given ≡ 8) (e : o .answer .refusal ≡ 0) where
-  pub surround-playable : (l : Layout) → NewSurround l azimuths rows weights given o → Playable rows o
+module _ (azimuths elevations : List ℤ) (rows : ℕ) (weights : List Float) (given : List ℕ) (o : Arrangement) (eight : length given ≡ 8) (e : o .answer .refusal ≡ 0) where
+  pub surround-playable : (l : Layout) → NewSurround l azimuths elevations rows weights given o → Playable rows o
   surround-playable l p =
-      let z = accepted-of (ofLayout l) azimuths rows weights given o p e in
-      let f = surround-few l (not-false (surround l) (offered (ofLayout l) azimuths rows weights 1 refl z)) in
-      playable (ofLayout l) azimuths rows weights given o p (f, (f .0, omega (arith, f .1))) eight z
+      let z = accepted-of (ofLayout l) azimuths elevations rows weights given o p e in
+      let f = surround-few l (not-false (surround l) (offered (ofLayout l) azimuths elevations rows weights 1 refl z)) in
+      playable (ofLayout l) azimuths elevations rows weights given o p (f, (f .0, omega (arith, f .1))) eight z
 
-  pub ambisonic-playable : (order : ℕ) → NewAmbisonic order azimuths rows weights given o → Playable rows o
+  pub ambisonic-playable : (order : ℕ) → NewAmbisonic order azimuths elevations rows weights given o → Playable rows o
   ambisonic-playable order p =
-      let z = accepted-of (ofOrder order) azimuths rows weights given o (p .arranges) e in
-      playable (ofOrder order) azimuths rows weights given o (p .arranges)
-      (by-order (λ (n : ℕ). Few (ofOrder n)) ((lit< tt, lit≤ tt), (lit< tt, lit≤ tt)) ((lit< tt, lit≤ tt), (lit< tt, lit≤ tt)) ((lit< tt, lit≤ tt), (lit< tt, lit≤ tt)) order (offered (ofOrder order) azimuths rows weights 0 refl z)) eight z
+      let z = accepted-of (ofOrder order) azimuths elevations rows weights given o (p .arranges) e in
+      playable (ofOrder order) azimuths elevations rows weights given o (p .arranges)
+      (by-order (λ (n : ℕ). Few (ofOrder n)) ((lit< tt, lit≤ tt), (lit< tt, lit≤ tt)) ((lit< tt, lit≤ tt), (lit< tt, lit≤ tt)) ((lit< tt, lit≤ tt), (lit< tt, lit≤ tt)) order (offered (ofOrder order) azimuths elevations rows weights 0 refl z)) eight z

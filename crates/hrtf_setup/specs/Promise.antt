@@ -15,14 +15,15 @@ use Rattle.row_choice.specs.Nearest.{Takes}
 use Rattle.virtual_speaker.specs.Weights.{weightedFormulas}
 use Rattle.virtual_speaker.specs.Promise.{weightBits, outcome, positionOf}
 use Rattle.hrtf_setup.specs.declared.Speakers.the-variants.{Of, Virtual}
-use Rattle.hrtf_setup.specs.Speakers.{tenthsAt, rowAt, weightOf}
+use Rattle.hrtf_setup.specs.Speakers.{tenthsAt, level, rowAt, weightOf}
 use Rattle.hrtf_setup.specs.Arrangement.{Wanted, refusalOf, Arrangement, arrangement}
 
--- beside the equation, of a set-up that is accepted: every weight is its speaker's for its channel, and the row that the equation puts for a speaker is the one that document 01 names for its azimuth
-pub record Arranges (w : Wanted) (azimuths : List ℤ) (rows : ℕ) (weights : List Float) (given : List ℕ) (o : Arrangement) : Type 0 where
-  pub answer : o ≡ arrangement w azimuths rows weights given
-  pub weighs : refusalOf w azimuths rows weights ≡ 0 → (s c : ℕ) → s < w .speakers → c < w .channels → getD (o .weights) (s * w .channels + c) nan ≡ weightOf (w .whose) s c
-  pub takes : refusalOf w azimuths rows weights ≡ 0 → (s : ℕ) → Takes azimuths rows (tenthsAt (w .whose) s) (rowAt (w .whose) azimuths rows s)
+-- beside the equation, of a set-up that is accepted: every weight is its speaker's for its channel, and the row that the equation puts for a speaker is the one that documents 01 and 02 name for its
+-- azimuth and elevation
+pub record Arranges (w : Wanted) (azimuths elevations : List ℤ) (rows : ℕ) (weights : List Float) (given : List ℕ) (o : Arrangement) : Type 0 where
+  pub answer : o ≡ arrangement w azimuths elevations rows weights given
+  pub weighs : refusalOf w azimuths elevations rows weights ≡ 0 → (s c : ℕ) → s < w .speakers → c < w .channels → getD (o .weights) (s * w .channels + c) nan ≡ weightOf (w .whose) s c
+  pub takes : refusalOf w azimuths elevations rows weights ≡ 0 → (s : ℕ) → Takes azimuths elevations rows (tenthsAt (w .whose) s) level (rowAt (w .whose) azimuths elevations rows s)
 
 -- 2: "the layout isn't one the operation offers"; a speaker for each channel
 abbrev pub ofLayout : Layout → Wanted
@@ -32,11 +33,11 @@ ofLayout l = record { check = 2 when not (surround l); whose = Of l; speakers = 
 abbrev pub ofOrder : ℕ → Wanted
 ofOrder order = record { check = 1 when refusesOrder order; whose = Virtual order; speakers = 8; channels = channelsOfOrder order }
 
-abbrev pub NewSurround : Layout → List ℤ → ℕ → List Float → List ℕ → Arrangement → Type 0
-NewSurround l azimuths rows weights given o = Arranges (ofLayout l) azimuths rows weights given o
+abbrev pub NewSurround : Layout → List ℤ → List ℤ → ℕ → List Float → List ℕ → Arrangement → Type 0
+NewSurround l azimuths elevations rows weights given o = Arranges (ofLayout l) azimuths elevations rows weights given o
 
 -- and each weighted coefficient is near its formula
-pub record NewAmbisonic (order : ℕ) (azimuths : List ℤ) (rows : ℕ) (weights : List Float) (given : List ℕ) (o : Arrangement) : Type 0 where
-  pub arranges : Arranges (ofOrder order) azimuths rows weights given o
-  pub near : refusalOf (ofOrder order) azimuths rows weights ≡ 0 → (s : ℕ)
+pub record NewAmbisonic (order : ℕ) (azimuths elevations : List ℤ) (rows : ℕ) (weights : List Float) (given : List ℕ) (o : Arrangement) : Type 0 where
+  pub arranges : Arranges (ofOrder order) azimuths elevations rows weights given o
+  pub near : refusalOf (ofOrder order) azimuths elevations rows weights ≡ 0 → (s : ℕ)
       → EachWithin weightBits (outcome order (positionOf s) .weights) (weightedFormulas order (number (positionOf s .azimuth)) (number (positionOf s .elevation)))

@@ -4,7 +4,7 @@ use Prim.Native.Nat.{ℕ, _/_, _%_}
 use mathlib.Core.Bool.{cond}
 use mathlib.Core.List.{List}
 use lib.Dec.{eqb}
-use lib.IntN.{ℤ}
+use lib.IntN.{ℤ, pos}
 use lib.ListN.{getD}
 use lib.Seq.{sets}
 use lib.Ieee.{Float, nan}
@@ -21,13 +21,17 @@ abbrev pub tenthsAt : Speakers → ℕ → ℤ
 tenthsAt (Of l) s = tenthsOf l s
 tenthsAt (Virtual order) s = positionTenths s
 
--- the row that row choice gives to speaker s, among the first rows of a list of azimuths
-abbrev pub rowAt : Speakers → List ℤ → ℕ → ℕ → ℕ
-rowAt k azimuths rows s = choiceOf azimuths rows (tenthsAt k s) .row
+-- the speakers of a layout, its LFE and the eight positions all stand at elevation 0
+abbrev pub level : ℤ
+level = pos 0
+
+-- the row that row choice gives to speaker s, among the first rows of lists of azimuths and elevations
+abbrev pub rowAt : Speakers → List ℤ → List ℤ → ℕ → ℕ → ℕ
+rowAt k azimuths elevations rows s = choiceOf azimuths elevations rows (tenthsAt k s) level .row
 
 -- the rows of n speakers, put at the start of a list; what stands beyond them stays
-abbrev pub rowsOf : Speakers → ℕ → List ℤ → ℕ → List ℕ → List ℕ
-rowsOf k n azimuths rows given = sets given 0 (tab 0 n (rowAt k azimuths rows))
+abbrev pub rowsOf : Speakers → ℕ → List ℤ → List ℤ → ℕ → List ℕ → List ℕ
+rowsOf k n azimuths elevations rows given = sets given 0 (tab 0 n (rowAt k azimuths elevations rows))
 
 -- 1.0 at the own channel, 0.0 elsewhere
 abbrev pub oneIf : ℕ → ℕ → Float

@@ -1,14 +1,14 @@
 // Sets up the convolver for a surround layout or an ambisonic order: the weights of its speakers, and the
-// bank row of each (document 01, items 7 and 9, from hrtf.rs).
+// bank row of each (document 01, items 7 and 9, from hrtf.rs; document 02, E6).
 //
 // `new_surround` and `new_ambisonic` put the weights into a lent list, and the bank row of each speaker, the
-// nearest to its angle, into a list of eight. A surround weight is 1.0 at its own channel and 0.0 elsewhere;
-// the LFE takes the row for 0 degrees. The weights of the eight virtual speakers are the weighted
-// coefficients of their positions.
+// nearest to its angle at elevation 0, into a list of eight. A surround weight is 1.0 at its own channel and
+// 0.0 elsewhere; the LFE takes the row for 0 degrees. The weights of the eight virtual speakers are the
+// weighted coefficients of their positions.
 //
 // Both take any input. Their promises (specs/Promise.antt) are one equation for the answer and both lists,
-// and beside it: each speaker's row is the one that document 01 names, each weight is its speaker's for its
-// channel, and a weighted coefficient is within 2^-34 of its formula.
+// and beside it: each speaker's row is the one that documents 01 and 02 name, each weight is its speaker's for
+// its channel, and a weighted coefficient is within 2^-34 of its formula.
 use channel::Layout;
 ghost use mathlib.Core.Path.{_≡_};
 ghost use Prim.Native.Nat.{_*_, _/_, _%_, _≤_, _<_};
@@ -59,14 +59,15 @@ fn choose_rows(
     whose: Speakers,
     speakers: usize,
     azimuths: &[i16],
+    elevations: &[i16],
     rows: usize,
 )
     requires { ⌜ speakers ≤ 8 ⌝ }
-    ensures { λ _. ⌜ now («row_of» .exit) ≡ rowsOf whose speakers (now (azimuths .entry)) rows (now («row_of» .entry)) ⌝ }
+    ensures { λ _. ⌜ now («row_of» .exit) ≡ rowsOf whose speakers (now (azimuths .entry)) (now (elevations .entry)) rows (now («row_of» .entry)) ⌝ }
 {
     let mut s = 0;
     while s < speakers {
-        let choice = row_choice::nearest_row(azimuths, rows, tenths(whose, s));
+        let choice = row_choice::nearest_row(azimuths, elevations, rows, tenths(whose, s), 0);
         row_of[s] = choice.row;
         s += 1;
     }
@@ -122,13 +123,14 @@ fn arrange(
     speakers: usize,
     channels: usize,
     azimuths: &[i16],
+    elevations: &[i16],
     rows: usize,
     weights: &mut [f64],
     row_of: &mut [usize; 8],
 ) -> Arranged
     requires { ⌜ (speakers ≤ 8) × (0 < channels) × (channels ≤ 16) ⌝ }
     ensures { λ r. ⌜ record { answer = r; weights = now (weights .exit); rows = now («row_of» .exit) }
-        ≡ arrangedBy (laterRefusal (speakers * channels) (now (azimuths .entry)) rows (now (weights .entry))) whose speakers channels (now (azimuths .entry)) rows (now (weights .entry)) (now («row_of» .entry)) ⌝ }
+        ≡ arrangedBy (laterRefusal (speakers * channels) (now (azimuths .entry)) (now (elevations .entry)) rows (now (weights .entry))) whose speakers channels (now (azimuths .entry)) (now (elevations .entry)) rows (now (weights .entry)) (now («row_of» .entry)) ⌝ }
 {
     if refusals::is_outside(rows, 8) {
         return unarranged(2);
@@ -136,11 +138,14 @@ fn arrange(
     if azimuths.len() != 8 {
         return unarranged(5);
     }
+    if elevations.len() != 8 {
+        return unarranged(5);
+    }
     if !checks::is_product(weights.len(), speakers, channels) {
         return unarranged(5);
     }
     put_weights(weights, whose, channels);
-    choose_rows(row_of, whose, speakers, azimuths, rows);
+    choose_rows(row_of, whose, speakers, azimuths, elevations, rows);
     Arranged {
         refusal: 0,
         speakers,
@@ -152,11 +157,12 @@ fn arrange(
 pub fn new_surround(
     layout: Layout,
     azimuths: &[i16],
+    elevations: &[i16],
     rows: usize,
     weights: &mut [f64],
     row_of: &mut [usize; 8],
 ) -> Arranged
-    ensures { λ r. ⌜ NewSurround layout (now (azimuths .entry)) rows (now (weights .entry)) (now («row_of» .entry))
+    ensures { λ r. ⌜ NewSurround layout (now (azimuths .entry)) (now (elevations .entry)) rows (now (weights .entry)) (now («row_of» .entry))
         (record { answer = r; weights = now (weights .exit); rows = now («row_of» .exit) }) ⌝ }
 {
     if !channel::is_surround(layout) {
@@ -164,18 +170,28 @@ pub fn new_surround(
     }
     let counted = channel::channel_count(layout);
     let n = counted.channels;
-    arrange(Speakers::Of(layout), n, n, azimuths, rows, weights, row_of)
+    arrange(
+        Speakers::Of(layout),
+        n,
+        n,
+        azimuths,
+        elevations,
+        rows,
+        weights,
+        row_of,
+    )
 }
 
 // The weights and the bank rows of the eight virtual speakers, for an ambisonic order.
 pub fn new_ambisonic(
     order: usize,
     azimuths: &[i16],
+    elevations: &[i16],
     rows: usize,
     weights: &mut [f64],
     row_of: &mut [usize; 8],
 ) -> Arranged
-    ensures { λ r. ⌜ NewAmbisonic order (now (azimuths .entry)) rows (now (weights .entry)) (now («row_of» .entry))
+    ensures { λ r. ⌜ NewAmbisonic order (now (azimuths .entry)) (now (elevations .entry)) rows (now (weights .entry)) (now («row_of» .entry))
         (record { answer = r; weights = now (weights .exit); rows = now («row_of» .exit) }) ⌝ }
 {
     let counted = channel::ambisonic_channel_count(order);
@@ -188,6 +204,7 @@ pub fn new_ambisonic(
         8,
         n,
         azimuths,
+        elevations,
         rows,
         weights,
         row_of,

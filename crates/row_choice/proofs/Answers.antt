@@ -1,5 +1,5 @@
 -- What row choice answers at each of its tests. Assumes nothing.
-use mathlib.Core.Path.{_≡_, sym, ap, _∙_}
+use mathlib.Core.Path.{_≡_, refl, sym, ap, _∙_}
 use mathlib.Core.Bool.{true, false, not}
 use mathlib.Core.List.{List}
 use Prim.Native.Nat.{ℕ, _-_, _≤_, _<_}
@@ -8,34 +8,53 @@ use borrow.Author.Tests.{eq-eqb, ne-eqb}
 use lib.IntN.{ℤ}
 use lib.ListN.{length}
 use Rattle.refusals.specs.Refusals.{outside}
-use Rattle.refusals.proofs.First.{stops, goes-on, answered-accepted, answered-by}
-use Rattle.row_choice.specs.Choice.{inTenths, choiceRefusal, chose, refusedWith, choiceOf, Chooses}
+use Rattle.refusals.proofs.First.{answered-accepted, answered-by, told-is}
+use Rattle.refusals.proofs.Chains.{first-holds, off-accepts}
+use Rattle.row_choice.specs.declared.Choice.{Choice}
+use Rattle.row_choice.specs.Choice.{inTenths, inElevation, choiceChecks, choiceRefusal, chose, refusedWith, choiceOf, Chooses}
 use Rattle.row_choice.specs.NearestComputed.{nearestFrom}
 use Rattle.row_choice.proofs.Takes.{takes}
 
-module _ (zs : List ℤ) (n : ℕ) (p : ℤ) where
-  refused : (k : ℕ) → 0 < k → choiceRefusal zs n p ≡ k → Chooses zs n p (refusedWith k)
+module _ (zs es : List ℤ) (n : ℕ) (p q : ℤ) where
+  -- the number answered is that of the first test that holds
+  pub refusal-is : (r : Choice) → Chooses zs es n p q r → r .refusal ≡ choiceRefusal zs es n p q
+  unfolding choiceOf
+  refusal-is r x = ap (λ (c : Choice). c .refusal) (x .answer) ∙ told-is (chose _) refusedWith (λ (c : Choice). c .refusal) refl (choiceRefusal zs es n p q) refl
+
+  refused : (k : ℕ) → 0 < k → choiceRefusal zs es n p q ≡ k → Chooses zs es n p q (refusedWith k)
   unfolding choiceOf
   refused k h e = record { answer = answered-by _ refusedWith _ k h e; takes = λ z. absurd (omega arith) }
 
-  pub no-rows : outside n 8 ≡ true → Chooses zs n p (refusedWith 2)
+  pub no-rows : outside n 8 ≡ true → Chooses zs es n p q (refusedWith 2)
   unfolding choiceRefusal
-  no-rows h = refused 2 (omega arith) (stops _ _ h)
+  no-rows h = refused 2 (omega arith) (first-holds 0 (choiceChecks zs es n p q) h)
 
   module _ (rows : outside n 8 ≡ false) where
-    pub no-tenths : inTenths p ≡ false → Chooses zs n p (refusedWith 3)
+    pub no-azimuth : inTenths p ≡ false → Chooses zs es n p q (refusedWith 3)
     unfolding choiceRefusal
-    no-tenths h = refused 3 (omega arith) (goes-on _ _ rows ∙ stops _ _ (ap not h))
+    no-azimuth h = refused 3 (omega arith) (first-holds 1 (choiceChecks zs es n p q) (rows, ap not h))
 
     module _ (tenths : inTenths p ≡ true) where
-      pub unlent : (length zs ≡ 8 → ⊥) → Chooses zs n p (refusedWith 5)
+      pub no-elevation : inElevation q ≡ false → Chooses zs es n p q (refusedWith 3)
       unfolding choiceRefusal
-      unlent h = refused 5 (omega arith) (goes-on _ _ rows ∙ goes-on _ _ (ap not tenths) ∙ stops _ _ (ap not (ne-eqb (length zs) 8 h)))
+      no-elevation h = refused 3 (omega arith) (first-holds 2 (choiceChecks zs es n p q) (rows, (ap not tenths, ap not h)))
 
-      none-holds : length zs ≡ 8 → choiceRefusal zs n p ≡ 0
-      unfolding choiceRefusal
-      none-holds h = goes-on _ _ rows ∙ goes-on _ _ (ap not tenths) ∙ goes-on _ _ (ap not (eq-eqb (length zs) 8 h))
+      module _ (height : inElevation q ≡ true) where
+        pub no-azimuths : (length zs ≡ 8 → ⊥) → Chooses zs es n p q (refusedWith 5)
+        unfolding choiceRefusal
+        no-azimuths h = refused 5 (omega arith) (first-holds 3 (choiceChecks zs es n p q) (rows, (ap not tenths, (ap not height, ap not (ne-eqb (length zs) 8 h)))))
 
-      pub chosen : length zs ≡ 8 → (r : ℕ) → r ≡ nearestFrom zs p 0 1 (n - 1) → 1 ≤ n → Chooses zs n p (record { refusal = 0; row = r })
-      unfolding choiceOf
-      chosen h r e g = record { answer = ap chose e ∙ sym (answered-accepted _ refusedWith _ (none-holds h)); takes = λ z. rw e (takes zs p n g) }
+        pub no-elevations : length zs ≡ 8 → (length es ≡ 8 → ⊥) → Chooses zs es n p q (refusedWith 5)
+        unfolding choiceRefusal
+        no-elevations full h =
+            refused 5 (omega arith) (first-holds 4 (choiceChecks zs es n p q) (rows, (ap not tenths, (ap not height, (ap not (eq-eqb (length zs) 8 full), ap not (ne-eqb (length es) 8 h))))))
+
+        module _ (full : length zs ≡ 8) (high : length es ≡ 8) where
+          -- what crates above ask for: none of the tests holds
+          pub none-refused : choiceRefusal zs es n p q ≡ 0
+          unfolding choiceRefusal
+          none-refused = off-accepts (choiceChecks zs es n p q) (rows, (ap not tenths, (ap not height, (ap not (eq-eqb (length zs) 8 full), (ap not (eq-eqb (length es) 8 high), tt)))))
+
+          pub chosen : (r : ℕ) → r ≡ nearestFrom zs es p q 0 1 (n - 1) → 1 ≤ n → Chooses zs es n p q (record { refusal = 0; row = r })
+          unfolding choiceOf
+          chosen r e g = record { answer = ap chose e ∙ sym (answered-accepted _ refusedWith _ none-refused); takes = λ z. rw e (takes zs es p q n g) }

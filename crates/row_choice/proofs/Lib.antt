@@ -1,7 +1,11 @@
--- Laws that crates above cite: the walk finds the row that a speaker takes, and the marked example. Then this crate's answers, that no two meet the promise and only one row does, and refuted answers.
+-- Laws that crates above cite: the walk finds the row that a speaker takes, by a key that orders rows as the words do; at one elevation it is document 01's row; when no choice is refused; and the marked
+-- example. Then this crate's own, that no two answers meet the promise and only one row does, worked choices and refuted answers.
+pub mod KeyOrder
 pub mod Takes
+pub mod Level
+pub mod Answers
 pub mod Drill
-mod Unique
-mod Refuted
 mod Round
-mod Answers
+mod Unique
+mod Worked
+mod Refuted

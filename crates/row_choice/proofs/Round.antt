@@ -1,7 +1,7 @@
--- Azimuths ten turns up: their difference is the difference of the azimuths. Assumes nothing.
-use mathlib.Core.Path.{_≡_, refl, sym, _∙_}
+-- Tenths ten turns up: their difference is the difference of the tenths. Assumes nothing.
+use mathlib.Core.Path.{_≡_, refl, ap, _∙_}
 use mathlib.Core.Bool.{true, false, true≢false}
-use Prim.Native.Nat.{ℕ, zero, suc, _+_, _-_, _%_, _<_, min}
+use Prim.Native.Nat.{ℕ, zero, suc, _+_, _-_, _<_}
 use native.Mathlib.Decide.{decLt}
 use native.Mathlib.Omega.{arith}
 use borrow.Author.Tests.{lt-ltb, le-ltb, ltb-true}
@@ -10,7 +10,6 @@ use lib.Signed.{mag, ltZ}
 use mir.Syntax.{w16}
 use mir.Val.{SFits, toZ, ofZ}
 use mir.Facts.{toZ-ofZ}
-use Rattle.row_choice.specs.Nearest.{apart}
 use Rattle.row_choice.specs.NearestComputed.{turnedUp}
 
 pub turned-below : (z : ℤ) → SFits w16 z → ltZ (toZ w16 (ofZ w16 z)) (pos 0) ≡ true → 35999 - mag z ≡ turnedUp z
@@ -40,6 +39,8 @@ difference-up (negsuc m) (pos (suc n)) h g = omega arith
 difference-up (negsuc m) (negsuc n) h g = difference (suc n) (suc m) ∙ omega arith
 
 -- d is the greater of the two less the other
-pub apart-up : (a b : ℤ) (d : ℕ) → mag a < 32768 → mag b < 32768 → d ≡ turnedUp a - turnedUp b + (turnedUp b - turnedUp a) → min (d % 3600) (3600 - d % 3600) ≡ apart a b
-unfolding apart
-apart-up a b d h g e = rw (e ∙ sym (difference-up a b h g))
+pub difference-is : (a b : ℤ) (x y d : ℕ) → SFits w16 a → SFits w16 b → x ≡ turnedUp (toZ w16 (ofZ w16 a)) → y ≡ turnedUp (toZ w16 (ofZ w16 b)) → d ≡ x - y + (y - x) → d ≡ natAbs (a -ℤ b)
+difference-is a b x y d f g up down e =
+    let first = up ∙ ap turnedUp (toZ-ofZ f) in
+    let second = down ∙ ap turnedUp (toZ-ofZ g) in
+    omega (arith, difference-up a b (f .sfits) (g .sfits))

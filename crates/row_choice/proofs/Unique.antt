@@ -10,8 +10,9 @@ use Rattle.row_choice.specs.Choice.{Chooses}
 use Rattle.row_choice.specs.Nearest.{Takes}
 use Rattle.row_choice.proofs.Takes.{takes-one}
 
-pub nearest-row-unique : (zs : List ℤ) (n : ℕ) (p : ℤ) → OneAnswer (Chooses zs n p)
-nearest-row-unique zs n p = determined-by (λ r h. h .answer)
+module _ (zs es : List ℤ) (n : ℕ) (p q : ℤ) where
+  pub nearest-row-unique : OneAnswer (Chooses zs es n p q)
+  nearest-row-unique = determined-by (λ r h. h .answer)
 
-pub only-row : (zs : List ℤ) (n : ℕ) (p : ℤ) (a : Choice) → Chooses zs n p a → a .refusal ≡ 0 → (r : ℕ) → Takes zs n p r → r ≡ a .row
-only-row zs n p a x e r t = takes-one zs p n r (a .row) t (x .takes e)
+  pub only-row : (a : Choice) → Chooses zs es n p q a → a .refusal ≡ 0 → (r : ℕ) → Takes zs es n p q r → r ≡ a .row
+  only-row a x e r t = takes-one zs es p q n r (a .row) t (x .takes e)

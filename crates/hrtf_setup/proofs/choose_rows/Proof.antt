@@ -1,24 +1,27 @@
 -- `hrtf_setup::choose_rows` meets its contract: `Choosing`. Assumes nothing.
-use mathlib.Core.Path.{ap, _∙_}
+use mathlib.Core.Path.{_≡_, ap, _∙_}
 use Prim.Native.Nat.{_-_}
 use native.Mathlib.Omega.{arith}
 use denote.Ref.{now}
 use lib.IntN.{ℤ}
+use mir.Syntax.{w16}
+use mir.Val.{toZ, ofZ}
 use Rattle.row_choice.specs.declared.Choice.{Choice}
 use Rattle.row_choice.specs.Choice.{choiceOf}
+use Rattle.hrtf_setup.specs.Speakers.{level}
 use Rattle.hrtf_setup.proofs.Standing.{held-16}
 use Rattle.hrtf_setup.proofs.Choosing.{Choosing, choosing-none, choosing-more, choosing-all}
 use Rattle.hrtf_setup.proofs.choose_rows.Statement.{statement}
 use Rattle.hrtf_setup.proofs.choose_rows.Tie as tie
 
 abbrev Inv-loop : tie.InvT-loop
-Inv-loop row-of₀ whose speakers azimuths rows s₀ row-of s = Choosing whose speakers azimuths rows row-of₀ row-of s
+Inv-loop row-of₀ whose speakers azimuths elevations rows s₀ row-of s = Choosing whose speakers azimuths elevations rows row-of₀ row-of s
 
 abbrev μ-loop : tie.MeasureT-loop
-μ-loop row-of₀ whose speakers azimuths rows s₀ row-of s = speakers - s
+μ-loop row-of₀ whose speakers azimuths elevations rows s₀ row-of s = speakers - s
 
 loop-holds : tie.Need-loop-holds Inv-loop μ-loop
-loop-holds c = let a = c .args in choosing-none (a .whose) (a .speakers) (now (a .azimuths)) (a .rows) (now (a .row-of))
+loop-holds c = let a = c .args in choosing-none (a .whose) (a .speakers) (now (a .azimuths)) (now (a .elevations)) (a .rows) (now (a .row-of))
 
 tenths-requires : tie.Need-tenths-requires Inv-loop μ-loop
 tenths-requires c κs = tt
@@ -42,14 +45,17 @@ loop-again : tie.Need-loop-again Inv-loop μ-loop
 loop-again c =
     let a = c .before .before .before .before .args in
     let l = c .before .before .before .loop in
-    choosing-more (a .whose) (a .speakers) (now (a .azimuths)) (a .rows) (now (a .row-of)) (l .row-of) (l .s) (c .nearest-row .result .row) (l .inv) (c .before .before .loop-test .taken)
-    (ap (λ (r : Choice). r .row) (c .nearest-row .ensures .answer) ∙ ap (λ (p : ℤ). choiceOf (now (a .azimuths)) (a .rows) p .row) (held-16 (a .whose) (l .s) (c .before .tenths .result) (c .before .tenths .ensures)))
+    let t = c .before .tenths .result in
+    let given : c .nearest-row .result ≡ choiceOf (now (a .azimuths)) (now (a .elevations)) (a .rows) (toZ w16 (ofZ w16 t)) level = c .nearest-row .ensures .answer in
+    let stands = held-16 (a .whose) (l .s) t (c .before .tenths .ensures) in
+    choosing-more (a .whose) (a .speakers) (now (a .azimuths)) (now (a .elevations)) (a .rows) (now (a .row-of)) (l .row-of) (l .s) (c .nearest-row .result .row) (l .inv)
+    (c .before .before .loop-test .taken) (ap (λ (r : Choice). r .row) (given ∙ ap (λ (p : ℤ). choiceOf (now (a .azimuths)) (now (a .elevations)) (a .rows) p level) stands))
 
 returns : tie.Need-returns Inv-loop μ-loop
 returns c =
     let a = c .before .before .args in
     let l = c .before .loop in
-    choosing-all (a .whose) (a .speakers) (now (a .azimuths)) (a .rows) (now (a .row-of)) (l .row-of) (l .s) (l .inv) (c .loop-test .left)
+    choosing-all (a .whose) (a .speakers) (now (a .azimuths)) (now (a .elevations)) (a .rows) (now (a .row-of)) (l .row-of) (l .s) (l .inv) (c .loop-test .left)
 
 pub choose-rows-spec : {M : Type 1} → statement M
 choose-rows-spec =

@@ -17,7 +17,7 @@ unarranged-requires : tie.Need-unarranged-requires
 unarranged-requires c κs = search needs
 
 returns : tie.Need-returns
-returns c = let a = c .before .before .before .before .before .args in order-refused (a .order) (now (a .azimuths)) (a .rows) (now (a .weights)) (now (a .row-of)) _ (order-ill (a .order) _ (c .before .before .before .ambisonic-channel-count .ensures) (c .before .if1 .taken)) (c .unarranged .ensures)
+returns c = let a = c .before .before .before .before .before .args in order-refused (a .order) (now (a .azimuths)) (now (a .elevations)) (a .rows) (now (a .weights)) (now (a .row-of)) _ (order-ill (a .order) _ (c .before .before .before .ambisonic-channel-count .ensures) (c .before .if1 .taken)) (c .unarranged .ensures)
 
 -- past the test of the order
 order-in : (c : tie.Else1) → (refusesOrder (c .before .before .before .before .args .order) ≡ false) × (c .before .before .ambisonic-channel-count .result .channels ≡ channelsOfOrder (c .before .before .before .before .args .order))
@@ -37,7 +37,7 @@ returns-2 : tie.Need-returns-2
 returns-2 c =
     let past = c .before .before .before .before .before in
     let a = past .before .before .before .before .args in
-    order-arranged (a .order) (now (a .azimuths)) (a .rows) (now (a .weights)) (now (a .row-of)) _ (order-in past .0) (order-in past .1) _ (c .before .before .arrange .ensures)
+    order-arranged (a .order) (now (a .azimuths)) (now (a .elevations)) (a .rows) (now (a .weights)) (now (a .row-of)) _ (order-in past .0) (order-in past .1) _ (c .before .before .arrange .ensures)
 
 pub new-ambisonic-spec : {M : Type 1} → statement M
 new-ambisonic-spec =

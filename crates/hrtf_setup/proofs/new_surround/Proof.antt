@@ -16,7 +16,7 @@ unarranged-requires : tie.Need-unarranged-requires
 unarranged-requires c κs = search needs
 
 returns : tie.Need-returns
-returns c = let a = c .before .before .before .before .args in layout-refused (a .layout) (now (a .azimuths)) (a .rows) (now (a .weights)) (now (a .row-of)) _ (ap not (sym (c .before .before .is-surround .ensures)) ∙ c .before .if1 .taken) (c .unarranged .ensures)
+returns c = let a = c .before .before .before .before .args in layout-refused (a .layout) (now (a .azimuths)) (now (a .elevations)) (a .rows) (now (a .weights)) (now (a .row-of)) _ (ap not (sym (c .before .before .is-surround .ensures)) ∙ c .before .if1 .taken) (c .unarranged .ensures)
 
 channel-count-requires : tie.Need-channel-count-requires
 channel-count-requires c κs = search needs
@@ -38,7 +38,7 @@ returns-2 : tie.Need-returns-2
 returns-2 c =
     let n = c .before .before .before .before .before in
     let a = n .before .before .before .before .args in
-    layout-arranged (a .layout) (now (a .azimuths)) (a .rows) (now (a .weights)) (now (a .row-of)) (n .channel-count .result .channels) (offered (n .before)) (counts n) _ (c .before .before .arrange .ensures)
+    layout-arranged (a .layout) (now (a .azimuths)) (now (a .elevations)) (a .rows) (now (a .weights)) (now (a .row-of)) (n .channel-count .result .channels) (offered (n .before)) (counts n) _ (c .before .before .arrange .ensures)
 
 pub new-surround-spec : {M : Type 1} → statement M
 new-surround-spec =

@@ -11,35 +11,27 @@ use Rattle.row_choice.proofs.nearest.Statement.{statement}
 use Rattle.row_choice.proofs.nearest.Tie as tie
 
 abbrev Inv-loop : tie.InvT-loop
-Inv-loop azimuths n speaker best₀ j₀ best j = (best < n) × (1 ≤ j) × (j ≤ n) × (nearestFrom azimuths (toZ w16 speaker) 0 1 (n - 1) ≡ nearestFrom azimuths (toZ w16 speaker) best j (n - j))
+Inv-loop azimuths elevations n azimuth elevation best₀ j₀ best j =
+    let p = toZ w16 azimuth in
+    let q = toZ w16 elevation in
+    (best < n) × (1 ≤ j) × (j ≤ n) × (nearestFrom azimuths elevations p q 0 1 (n - 1) ≡ nearestFrom azimuths elevations p q best j (n - j))
 
 abbrev μ-loop : tie.MeasureT-loop
-μ-loop azimuths n speaker best₀ j₀ best j = n - j
-
-loop-holds : tie.Need-loop-holds Inv-loop μ-loop
-loop-holds c = (omega arith, omega arith, omega arith, refl)
-
-nearer-row-requires : tie.Need-nearer-row-requires Inv-loop μ-loop
-nearer-row-requires c κs = omega arith
-
-add-j : tie.Need-add-j Inv-loop μ-loop
-add-j c = omega arith
-
-loop-less : tie.Need-loop-less Inv-loop μ-loop
-loop-less c = omega arith
+μ-loop azimuths elevations n azimuth elevation best₀ j₀ best j = n - j
 
 loop-again : tie.Need-loop-again Inv-loop μ-loop
 loop-again c =
     let args = c .before .before .before .args in
     let turn = c .before .before .loop in
-    let p = toZ w16 (ofZ w16 (args .speaker)) in
+    let p = toZ w16 (ofZ w16 (args .azimuth)) in
+    let q = toZ w16 (ofZ w16 (args .elevation)) in
     let more : 0 < args .n - turn .j = omega arith in
-    let found : c .nearer-row .result ≡ nearer (args .azimuths .now) p (turn .best) (turn .j) = c .nearer-row .ensures in
+    let found : c .nearer-row .result ≡ nearer (args .azimuths .now) (args .elevations .now) p q (turn .best) (turn .j) = c .nearer-row .ensures in
     let count : args .n - turn .j - 1 ≡ args .n - (turn .j + 1) = omega arith in (
-      rw found (nearer-below _ p (turn .best) (turn .j) (args .n) (turn .inv .0) (c .before .loop-test .taken)),
+      rw found (nearer-below _ _ p q (turn .best) (turn .j) (args .n) (turn .inv .0) (c .before .loop-test .taken)),
       omega arith,
       omega arith,
-      turn .inv .3 ∙ nearest-next _ p (turn .best) (turn .j) (args .n - turn .j) more ∙ rw (count, found),
+      turn .inv .3 ∙ nearest-next _ _ p q (turn .best) (turn .j) (args .n - turn .j) more ∙ rw (count, found),
     )
 
 returns : tie.Need-returns Inv-loop μ-loop
@@ -47,9 +39,9 @@ returns c =
     let start = c .before .before in
     let turn = c .before .loop in
     let done : start .args .n - turn .j ≡ 0 = omega arith in
-    sym (rw (toZ-ofZ (start .fits .speaker)) at (turn .inv .3 ∙ ap (nearestFrom _ _ _ _) done ∙ nearest-end _ _ _ _))
+    sym (rw (toZ-ofZ (start .fits .azimuth), toZ-ofZ (start .fits .elevation)) at (turn .inv .3 ∙ ap (nearestFrom _ _ _ _ _ _) done ∙ nearest-end _ _ _ _ _ _))
 
 pub nearest-spec : {M : Type 1} → statement M
 nearest-spec =
     tie.close
-    (tie.spec Inv-loop μ-loop loop-holds nearer-row-requires add-j loop-less loop-again returns)
+    (tie.spec Inv-loop μ-loop (λ c. (omega arith, omega arith, omega arith, refl)) (λ c κs. omega arith) (λ c. omega arith) (λ c. omega arith) loop-again returns)
