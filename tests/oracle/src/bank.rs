@@ -1,5 +1,4 @@
-//! The filter bank file and row choice, against a reader, a writer and a choice that are written here from
-//! document 01, 'Filter bank file', and document 02, E2, alone. The reader goes from the front too, since the request asks
+//! The filter bank file, against a reader and a writer that are written here from document 01, 'Filter bank file', and document 02, E2, alone. The reader goes from the front too, since the request asks
 //! for byte order, but by cutting slices off what is left, and forms a bank as it goes; the writer has no walk: it looks at
 //! all of a bank's numbers, tells of those that are wrong the one that would stand first, and asks the reader whether it
 //! says the same of the file.
@@ -8,7 +7,6 @@ use crate::random::Random;
 
 const READ: u8 = 6;
 const WRITE: u8 = 7;
-const NEAREST: u8 = 8;
 
 const AZIMUTHS: usize = 8;
 const TAPS: usize = 8192;
@@ -216,35 +214,6 @@ fn write_fitting(bank: &Bank) -> Case {
     write(bank, bank.length as u64, 9 + bank.azimuths.len() * (2 + 8 * bank.length))
 }
 
-/// "the one nearest it by the difference modulo 3600, the shorter way round; on a tie the earlier row"
-pub fn nearest_row(azimuths: &[i16], rows: u64, speaker: i16) -> usize {
-    let away = |azimuth: i16| {
-        let d = (i32::from(azimuth) - i32::from(speaker)).rem_euclid(3600);
-        d.min(3600 - d)
-    };
-    // The first of the least ones.
-    (0..rows as usize).min_by_key(|i| away(azimuths[*i])).unwrap()
-}
-
-fn nearest(azimuths: &[i16], rows: u64, speaker: i16) -> Case {
-    let mut arguments = vec![azimuths.len() as u8];
-    arguments.extend(rows.to_be_bytes());
-    arguments.extend(speaker.to_be_bytes());
-    arguments.extend(azimuths.iter().flat_map(|a| a.to_be_bytes()));
-    let (refusal, row) = if !(1..=8).contains(&rows) {
-        (2, 0)
-    } else if !(-1800..=1800).contains(&speaker) {
-        (3, 0)
-    } else if azimuths.len() != AZIMUTHS {
-        (LENGTH, 0)
-    } else {
-        (0, nearest_row(azimuths, rows, speaker))
-    };
-    let mut answer = vec![refusal];
-    answer.extend((row as u32).to_be_bytes());
-    exactly(request(NEAREST, &arguments), NEAREST, answer)
-}
-
 // ---- banks to try
 
 /// A finite tap of any size and sign, or a kind that is easy to get wrong.
@@ -353,7 +322,7 @@ const TOLD_OF_BANKS: &[(&[i16], u64, &[u32], Fault)] = &[
     (&[0, 0], 1, &[0, 0, 0x7f80_0000, 0], (17, 19)),
 ];
 
-fn bytes_of(hex: &str) -> Vec<u8> {
+pub fn bytes_of(hex: &str) -> Vec<u8> {
     let digits: Vec<u8> = hex.bytes().filter(|c| *c != b' ').collect();
     digits.chunks(2).map(|pair| u8::from_str_radix(std::str::from_utf8(pair).unwrap(), 16).unwrap()).collect()
 }
@@ -615,42 +584,6 @@ pub fn writing(random: &mut Random, count: usize, sink: &mut Sink) {
         let row = random.below(bank.azimuths.len() as u64) as usize;
         bank.azimuths[row] = random.bits() as i16 >> random.below(6);
         sink(write_fitting(&bank));
-    }
-}
-
-pub fn choosing(random: &mut Random, count: usize, sink: &mut Sink) {
-    // Document 01's tenth drill item, and every pair of azimuths with a speaker midway between them, both ways round.
-    sink(nearest(&[0, 450, 0, 0, 0, 0, 0, 0], 2, 225));
-    let set = [-1800, -1799, -1350, -900, -450, -300, -1, 0, 1, 300, 450, 900, 1100, 1350, 1799, 1800, 32767, -32768];
-    for a in set {
-        for b in set {
-            let middle = ((i32::from(a) + i32::from(b)).div_euclid(2)).rem_euclid(3600);
-            for (speaker, other) in [(middle, false), (middle + 1800, false), (middle + 1, true), (middle - 1, true)] {
-                let speaker = (speaker + 1800).rem_euclid(3600) - 1800;
-                if other && count < 1000 {
-                    continue;
-                }
-                sink(nearest(&[a, b, a, b, 7, 7, 7, 7], 2 + random.below(3), speaker as i16));
-            }
-        }
-    }
-    // Each count of rows, and those that are none.
-    for rows in [0, 1, 2, 3, 4, 5, 6, 7, 8, 9, 1 << 32, 1 << 63, u64::MAX] {
-        for speaker in [-1801, -1800, 0, 1800, 1801] {
-            for lent in [0, 7, 8, 9, 16] {
-                sink(nearest(&[1700, -1700, 900, -900, 450, -450, 10, -10, 0, 0, 0, 0, 0, 0, 0, 0][..lent], rows, speaker));
-            }
-        }
-    }
-    for speaker in [i16::MIN, -32767, -1802, 1802, i16::MAX] {
-        sink(nearest(&[0; 8], 8, speaker));
-    }
-    for _ in 0..count {
-        // Few steps between azimuths, so that ties are common.
-        let step = [1, 50, 225, 450][random.below(4) as usize];
-        let azimuths: Vec<i16> = (0..8).map(|_| ((random.below(3601) as i16 - 1800) / step) * step).collect();
-        let speaker = ((random.below(3601) as i16 - 1800) / step) * step;
-        sink(nearest(&azimuths, 1 + random.below(8), speaker));
     }
 }
 

@@ -9,6 +9,7 @@ mod angles;
 mod bank;
 mod binaural;
 mod blocks;
+mod choice;
 mod convolver;
 mod differences;
 mod drills;
@@ -48,7 +49,7 @@ const KINDS: &[Kind] = &[
     Kind { name: "cosine", make: angles::cosine },
     Kind { name: "bank read", make: bank::reading },
     Kind { name: "bank write", make: bank::writing },
-    Kind { name: "row choice", make: bank::choosing },
+    Kind { name: "row choice", make: choice::choosing },
     Kind { name: "rows", make: rows::cases },
     Kind { name: "harmonics", make: gains::coefficients },
     Kind { name: "weighted coefficients", make: gains::weighted },
