@@ -14,6 +14,7 @@ mod convolver;
 mod differences;
 mod drills;
 mod exact;
+mod filing;
 mod frame;
 mod gains;
 mod malformed;
@@ -28,6 +29,9 @@ mod rust;
 mod script;
 mod setup;
 mod speed;
+mod turning;
+#[cfg(test)]
+mod wrong_banks;
 
 use frame::{Case, Sink, Verdict};
 use random::Random;
@@ -47,8 +51,8 @@ const KINDS: &[Kind] = &[
     Kind { name: "root", make: numbers::root },
     Kind { name: "sine", make: angles::sine },
     Kind { name: "cosine", make: angles::cosine },
-    Kind { name: "bank read", make: bank::reading },
-    Kind { name: "bank write", make: bank::writing },
+    Kind { name: "bank read", make: filing::reading },
+    Kind { name: "bank write", make: filing::writing },
     Kind { name: "row choice", make: choice::choosing },
     Kind { name: "rows", make: rows::cases },
     Kind { name: "harmonics", make: gains::coefficients },
@@ -65,6 +69,8 @@ const KINDS: &[Kind] = &[
     Kind { name: "new ambisonic", make: setup::ambisonic },
     Kind { name: "script", make: drills::cases },
     Kind { name: "replay", make: replay::cases },
+    Kind { name: "to version 2", make: turning::to_version_2 },
+    Kind { name: "to version 1", make: turning::to_version_1 },
     Kind { name: "convolve", make: rings::cases },
     Kind { name: "malformed", make: malformed::inside },
 ];

@@ -5,6 +5,7 @@ use crate::random::Random;
 use crate::recording::REPLAY;
 use crate::rings::CONVOLVE;
 use crate::script::SCRIPT;
+use crate::turning::{TO_VERSION_1, TO_VERSION_2};
 
 const NO_SUCH_OPERATION: u8 = 1;
 pub const WRONG_LENGTH: u8 = 2;
@@ -16,8 +17,8 @@ const FIXED: &[(u8, usize)] = &[(1, 4), (2, 8), (3, 8), (4, 8), (5, 8), (10, 24)
 
 /// The operations whose arguments hold lists, with arguments that are cut or too long for what they say of themselves.
 const LISTED: &[(u8, &[&[u8]])] = &[
-    (6, &[&[], &[8, 0, 0, 0]]),
-    (7, &[&[], &[0; 12], &[0; 14], &[1, 0, 0, 0, 0, 0, 0, 0, 0, 0, 0, 0, 0, 0], &[0, 0, 1, 0, 0, 0, 0, 0, 0, 0, 0, 0, 0, 0, 0]]),
+    (6, &[&[], &[0; 5], &[8, 8, 0x20, 0, 0]]),
+    (7, &[&[], &[0; 13], &[0; 15], &[0, 0, 0, 1, 0, 0, 0, 0, 0, 0, 0, 0, 0, 0, 0, 0]]),
     (8, &[&[], &[0; 13], &[0; 15]]),
     (9, &[&[], &[0; 9], &[0; 11], &[0, 1, 0, 0, 0, 0, 0, 0, 0, 1]]),
     (14, &[&[], &[0; 53], &[0; 55]]),
@@ -29,6 +30,8 @@ const LISTED: &[(u8, &[&[u8]])] = &[
     (20, &[&[], &[0; 83], &[0; 85]]),
     (SCRIPT, &[&[], &[0; 45], &[0; 47]]),
     (REPLAY, &[&[], &[0; 138], &[0; 152], &[0; 154]]),
+    (TO_VERSION_2, &[&[], &[0], &[21]]),
+    (TO_VERSION_1, &[&[], &[0], &[19]]),
     (CONVOLVE, &[&[], &[0; 11], &[0; 13]]),
 ];
 
