@@ -166,3 +166,21 @@ fn main() -> ExitCode {
         }
     }
 }
+
+#[cfg(test)]
+mod tests {
+    use super::*;
+
+    /// Requests are read whole up to 65,536 bytes of arguments: no kind makes a longer one but that of longer ones.
+    #[test]
+    fn no_request_is_longer_than_is_read() {
+        cases(1000, 1, &mut |name, case| assert!(name == "malformed" || case.request.len() <= 5 + 65536, "{name}"));
+    }
+
+    #[test]
+    fn kinds_have_names_of_their_own() {
+        for (i, kind) in KINDS.iter().enumerate() {
+            assert!(KINDS[..i].iter().all(|earlier| earlier.name != kind.name), "{}", kind.name);
+        }
+    }
+}

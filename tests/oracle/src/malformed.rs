@@ -35,6 +35,9 @@ const LISTED: &[(u8, &[&[u8]])] = &[
     (CONVOLVE, &[&[], &[0; 11], &[0; 13]]),
 ];
 
+/// The operations that take azimuths and elevations and say how many in their first two bytes, with the length without any list.
+const ANGLED: &[(u8, usize)] = &[(7, 14), (8, 14), (19, 85), (20, 84)];
+
 const LONGEST: usize = 65536;
 
 pub fn inside(random: &mut Random, count: usize, sink: &mut Sink) {
@@ -52,6 +55,15 @@ pub fn inside(random: &mut Random, count: usize, sink: &mut Sink) {
     for (operation, wrong) in LISTED {
         send(sink, wrong.iter().map(|arguments| exactly(request(*operation, arguments), 0, vec![WRONG_LENGTH])));
     }
+    // One azimuth or one elevation is said, and none is there, or half of one, or a byte more than one, or two.
+    for (operation, head) in ANGLED {
+        for counts in [[1, 0], [0, 1]] {
+            for length in [0, 1, 3, 4] {
+                let arguments = [&counts[..], &vec![0; head - 2 + length]].concat();
+                sink(exactly(request(*operation, &arguments), 0, vec![WRONG_LENGTH]));
+            }
+        }
+    }
     send(sink, drills::without_form(count).iter().map(|arguments| exactly(request(SCRIPT, arguments), 0, vec![WRONG_LENGTH])));
     // The longest arguments that are read whole, and longer ones, which are read past.
     sink(exactly(request(1, &vec![0; LONGEST]), 0, vec![WRONG_LENGTH]));
@@ -66,4 +78,16 @@ pub fn at_the_end() -> Case {
     let mut cut = request(2, &[0; 8]);
     cut.pop();
     exactly(cut, 0, vec![ENDS_INSIDE])
+}
+
+#[cfg(test)]
+mod tests {
+    use super::*;
+
+    #[test]
+    fn operations_are_1_to_25_without_a_gap() {
+        let mut known: Vec<u8> = FIXED.iter().map(|entry| entry.0).chain(LISTED.iter().map(|entry| entry.0)).collect();
+        known.sort();
+        assert_eq!(known, (1..=25).collect::<Vec<u8>>());
+    }
 }
