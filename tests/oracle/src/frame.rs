@@ -73,6 +73,22 @@ pub fn f64_bytes(x: f64) -> [u8; 8] {
     if x.is_nan() { 0x7ff8_0000_0000_0000u64.to_be_bytes() } else { x.to_bits().to_be_bytes() }
 }
 
+/// Whether an answer passes, and neither another operation, nor one byte less or more, nor any one byte changed.
+#[cfg(test)]
+pub fn passes_alone(case: &Case, operation: u8, bytes: &[u8]) -> bool {
+    let passes = |operation: u8, bytes: &[u8]| (case.judge)(&Answer { operation, bytes: bytes.to_vec() }).wrong.is_none();
+    let mut changed = bytes.to_vec();
+    let no_change_passes = (0..bytes.len()).all(|i| {
+        [1, 0x80, 0xff].iter().all(|off| {
+            changed[i] ^= off;
+            let is_wrong = !passes(operation, &changed);
+            changed[i] ^= off;
+            is_wrong
+        })
+    });
+    passes(operation, bytes) && no_change_passes && !passes(0, bytes) && !passes(operation, &bytes[1..]) && !passes(operation, &[bytes, &[0]].concat())
+}
+
 pub fn hex(bytes: &[u8]) -> String {
     let shown: String = bytes.iter().take(64).map(|b| format!("{b:02x}")).collect();
     if bytes.len() > 64 { format!("{shown}.. ({} bytes)", bytes.len()) } else { shown }

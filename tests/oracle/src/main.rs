@@ -9,10 +9,12 @@ mod angles;
 mod bank;
 mod binaural;
 mod blocks;
+mod choice;
 mod convolver;
 mod differences;
 mod drills;
 mod exact;
+mod filing;
 mod frame;
 mod gains;
 mod malformed;
@@ -27,6 +29,9 @@ mod rust;
 mod script;
 mod setup;
 mod speed;
+mod turning;
+#[cfg(test)]
+mod wrong_banks;
 
 use frame::{Case, Sink, Verdict};
 use random::Random;
@@ -46,9 +51,9 @@ const KINDS: &[Kind] = &[
     Kind { name: "root", make: numbers::root },
     Kind { name: "sine", make: angles::sine },
     Kind { name: "cosine", make: angles::cosine },
-    Kind { name: "bank read", make: bank::reading },
-    Kind { name: "bank write", make: bank::writing },
-    Kind { name: "row choice", make: bank::choosing },
+    Kind { name: "bank read", make: filing::reading },
+    Kind { name: "bank write", make: filing::writing },
+    Kind { name: "row choice", make: choice::choosing },
     Kind { name: "rows", make: rows::cases },
     Kind { name: "harmonics", make: gains::coefficients },
     Kind { name: "weighted coefficients", make: gains::weighted },
@@ -64,6 +69,8 @@ const KINDS: &[Kind] = &[
     Kind { name: "new ambisonic", make: setup::ambisonic },
     Kind { name: "script", make: drills::cases },
     Kind { name: "replay", make: replay::cases },
+    Kind { name: "to version 2", make: turning::to_version_2 },
+    Kind { name: "to version 1", make: turning::to_version_1 },
     Kind { name: "convolve", make: rings::cases },
     Kind { name: "malformed", make: malformed::inside },
 ];
@@ -156,6 +163,24 @@ fn main() -> ExitCode {
         Err(error) => {
             eprintln!("oracle: {error}");
             ExitCode::from(2)
+        }
+    }
+}
+
+#[cfg(test)]
+mod tests {
+    use super::*;
+
+    /// Requests are read whole up to 65,536 bytes of arguments: no kind makes a longer one but that of longer ones.
+    #[test]
+    fn no_request_is_longer_than_is_read() {
+        cases(1000, 1, &mut |name, case| assert!(name == "malformed" || case.request.len() <= 5 + 65536, "{name}"));
+    }
+
+    #[test]
+    fn kinds_have_names_of_their_own() {
+        for (i, kind) in KINDS.iter().enumerate() {
+            assert!(KINDS[..i].iter().all(|earlier| earlier.name != kind.name), "{}", kind.name);
         }
     }
 }

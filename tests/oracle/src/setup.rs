@@ -1,8 +1,9 @@
 //! Setting up the convolver, against the Rust's constructors. Which direction each speaker takes its filters from, and its
 //! weights to the digits of an f32, are read off impulses that the convolver they make plays. Beyond that surround weights
 //! are exactly 1.0 and 0.0, and ambisonic ones are held to document 01's formulas within its bound and to the Rust's virtual
-//! speakers within 2^-29. The rows are document 01's choice for those directions, written in bank.rs.
-use crate::bank::nearest_row;
+//! speakers within 2^-29. The rows are document 02's choice (E6) for those directions, written in choice.rs; the speakers
+//! stand at elevation 0.
+use crate::choice::nearest_row;
 use crate::frame::{Answer, Case, Sink, Verdict, f64_bytes, hex, request};
 use crate::gains::{Check, Layout, check_all, weighted_checks};
 use crate::random::Random;
@@ -59,6 +60,15 @@ impl Whose {
         }
     }
 
+    /// The same in whole tenths, with its elevation: a layout's speakers are level.
+    fn place(self, s: usize) -> (i16, i16) {
+        let elevation = match self {
+            Whose::Layout(_) => 0.0,
+            Whose::Order(_) => FOA_POSITIONS[s].1,
+        };
+        ((self.azimuth(s) * 10.0) as i16, (elevation * 10.0) as i16)
+    }
+
     /// What is asked of speaker s's weights, channels rising.
     fn checks(self, s: usize, channels: usize) -> Vec<Check> {
         match self {
@@ -82,6 +92,7 @@ struct SetUp {
     rows: u64,
     row_of: [u64; 8],
     azimuths: Vec<i16>,
+    elevations: Vec<i16>,
     weights: Vec<f64>,
 }
 
@@ -92,7 +103,7 @@ impl SetUp {
             Err(refusal) => refusal,
             Ok(_) if !(1..=8).contains(&self.rows) => 2,
             Ok((speakers, channels)) => {
-                if self.azimuths.len() == 8 && self.weights.len() == speakers * channels {
+                if self.azimuths.len() == 8 && self.elevations.len() == 8 && self.weights.len() == speakers * channels {
                     0
                 } else {
                     5
@@ -106,14 +117,14 @@ impl SetUp {
     }
 
     fn arguments(&self) -> Vec<u8> {
-        let mut bytes = vec![self.azimuths.len() as u8];
+        let mut bytes = vec![self.azimuths.len() as u8, self.elevations.len() as u8];
         bytes.extend((self.weights.len() as u16).to_be_bytes());
         bytes.extend([self.rows].iter().chain(&self.row_of).flat_map(|n| n.to_be_bytes()));
         match self.whose {
             Whose::Layout(layout) => bytes.extend(layout.bytes()),
             Whose::Order(order) => bytes.extend(order.to_be_bytes()),
         }
-        bytes.extend(self.azimuths.iter().flat_map(|a| a.to_be_bytes()));
+        bytes.extend(self.azimuths.iter().chain(&self.elevations).flat_map(|a| a.to_be_bytes()));
         bytes.extend(self.weights.iter().flat_map(|w| w.to_bits().to_be_bytes()));
         bytes
     }
@@ -121,7 +132,8 @@ impl SetUp {
     /// The answer up to the weights: the refusal, speakers and channels, and the rows, which stay beyond the speakers.
     fn head(&self, refusal: u8) -> Vec<u8> {
         let (speakers, channels) = if refusal == 0 { self.whose.counts().unwrap() } else { (0, 0) };
-        let row = |s: usize| if s < speakers { nearest_row(&self.azimuths, self.rows, (self.whose.azimuth(s) * 10.0) as i16) as u64 } else { self.row_of[s] };
+        let nearest = |s: usize| nearest_row(&self.azimuths, &self.elevations, self.rows, self.whose.place(s)) as u64;
+        let row = |s: usize| if s < speakers { nearest(s) } else { self.row_of[s] };
         let mut bytes = vec![refusal];
         bytes.extend([speakers as u64, channels as u64].into_iter().chain((0..8).map(row)).flat_map(u64::to_be_bytes));
         bytes
@@ -175,15 +187,27 @@ impl SetUp {
         // Few steps between azimuths, so that ties are common; now and then any number.
         let step = [1, 50, 225, 450][random.below(4) as usize];
         let azimuth = |random: &mut Random| if random.below(20) == 0 { random.bits() as i16 } else { ((random.below(3601) as i16 - 1800) / step) * step };
+        // A level bank; some rows of it above or below, by a step that two of them may share; any numbers.
+        let rise = [1, 100, 450, 900][random.below(4) as usize];
+        let kind = random.below(4);
+        let elevation = |random: &mut Random| match kind {
+            0 => 0,
+            1 | 2 => rise * [0, 0, 1, -1][random.below(4) as usize],
+            _ => random.bits() as i16 >> random.below(8),
+        };
         SetUp {
             whose,
             rows,
             row_of: [0; 8].map(|_| random.bits() >> random.below(64)),
             azimuths: (0..8).map(|_| azimuth(random)).collect(),
+            elevations: (0..8).map(|_| elevation(random)).collect(),
             weights: (0..speakers * channels).map(|_| f64::from_bits(random.bits())).collect(),
         }
     }
 }
+
+/// How many azimuths and elevations are lent.
+const LENT: [(usize, usize); 13] = [(0, 8), (7, 8), (8, 8), (9, 8), (16, 8), (8, 0), (8, 7), (8, 9), (8, 16), (7, 7), (9, 9), (7, 9), (0, 0)];
 
 /// Every count of bank rows, and every length of the lists, alone and together; then accepted calls.
 fn all(random: &mut Random, count: usize, sink: &mut Sink, all_of: &[Whose]) {
@@ -192,14 +216,15 @@ fn all(random: &mut Random, count: usize, sink: &mut Sink, all_of: &[Whose]) {
         for rows in (0..=9).chain([1 << 32, u64::MAX]) {
             sink(SetUp::fitting(random, *whose, rows).case());
         }
-        for lent in [0, 7, 8, 9, 16] {
+        for (azimuths, elevations) in LENT {
             for change in [-1i64, 0, 1, 1000] {
-                if few && lent != 8 && change == 1 {
+                if few && (azimuths, elevations) != (8, 8) && change != 0 {
                     continue;
                 }
                 let rows = 1 + random.below(8);
                 let mut call = SetUp::fitting(random, *whose, rows);
-                call.azimuths = (0..lent).map(|i| 300 * i as i16 - 1200).collect();
+                call.azimuths = (0..azimuths).map(|i| 300 * i as i16 - 1200).collect();
+                call.elevations = (0..elevations).map(|i| 100 * (i as i16 % 3)).collect();
                 let fits = call.weights.len() as i64;
                 // 1000 stands for none at all.
                 call.weights.resize(if change == 1000 { 0 } else { (fits + change) as usize }, 0.5);
@@ -210,6 +235,15 @@ fn all(random: &mut Random, count: usize, sink: &mut Sink, all_of: &[Whose]) {
         let mut call = SetUp::fitting(random, *whose, 9);
         call.weights.pop();
         sink(call.case());
+        let mut call = SetUp::fitting(random, *whose, 0);
+        call.elevations.pop();
+        sink(call.case());
+        // A count above 16 counts as 16.
+        let mut call = SetUp::fitting(random, *whose, 8);
+        call.elevations = vec![0; 16];
+        let mut case = call.case();
+        case.request[6] = 17;
+        sink(case);
     }
     let good: Vec<Whose> = all_of.iter().copied().filter(|w| w.counts().is_ok()).collect();
     for _ in 0..(if few { count / 40 } else { count / 2 }) {
@@ -227,9 +261,10 @@ pub fn surround(random: &mut Random, count: usize, sink: &mut Sink) {
     all(random, count, sink, &good);
     for whose in bad {
         // The lists of 5.1, of 7.1, and none; refused for the layout whatever they are.
-        for (rows, lent, weights) in [(8, 8, 36), (8, 8, 64), (0, 8, 36), (1, 7, 0)] {
+        for (rows, azimuths, elevations, weights) in [(8, 8, 8, 36), (8, 8, 8, 64), (0, 8, 8, 36), (1, 7, 8, 0), (1, 8, 7, 36)] {
             let mut call = SetUp::fitting(random, whose, rows);
-            call.azimuths.truncate(lent);
+            call.azimuths.truncate(azimuths);
+            call.elevations.truncate(elevations);
             call.weights.resize(weights, 0.25);
             sink(call.case());
         }
@@ -239,9 +274,10 @@ pub fn surround(random: &mut Random, count: usize, sink: &mut Sink) {
 pub fn ambisonic(random: &mut Random, count: usize, sink: &mut Sink) {
     all(random, count, sink, &[1, 2, 3].map(Whose::Order));
     for order in [0, 4, 5, 255, 257, (1 << 32) + 1, u64::MAX] {
-        for (rows, lent, weights) in [(8, 8, 32), (8, 8, 128), (8, 8, 200), (0, 8, 32), (1, 7, 0)] {
+        for (rows, azimuths, elevations, weights) in [(8, 8, 8, 32), (8, 8, 8, 128), (8, 8, 8, 200), (0, 8, 8, 32), (1, 7, 8, 0), (1, 8, 7, 32)] {
             let mut call = SetUp::fitting(random, Whose::Order(order), rows);
-            call.azimuths.truncate(lent);
+            call.azimuths.truncate(azimuths);
+            call.elevations.truncate(elevations);
             call.weights.resize(weights, 0.25);
             sink(call.case());
         }
@@ -251,10 +287,10 @@ pub fn ambisonic(random: &mut Random, count: usize, sink: &mut Sink) {
 #[cfg(test)]
 mod tests {
     use super::*;
+    use crate::bank::bytes_of;
 
-    /// An answer with the Rust's own weights, and what is changed in it.
-    fn judged(whose: Whose, change: impl Fn(&mut Vec<u8>)) -> bool {
-        let call = SetUp::fitting(&mut Random::new(3, "set-up"), whose, 5);
+    /// The Rust's own weights of an accepted call.
+    fn rust_weights(whose: Whose) -> Vec<u8> {
         let (speakers, channels) = whose.counts().unwrap();
         let weights = |s: usize| -> Vec<f64> {
             match whose {
@@ -262,8 +298,13 @@ mod tests {
                 Whose::Order(order) => rust::weighted(order as usize, FOA_POSITIONS[s].0, FOA_POSITIONS[s].1)[..channels].to_vec(),
             }
         };
-        let mut bytes = call.head(0);
-        bytes.extend((0..speakers).flat_map(weights).flat_map(|w| w.to_bits().to_be_bytes()));
+        (0..speakers).flat_map(weights).flat_map(|w| w.to_bits().to_be_bytes()).collect()
+    }
+
+    /// An answer with these weights, and what is changed in it.
+    fn judged(whose: Whose, change: impl Fn(&mut Vec<u8>)) -> bool {
+        let call = SetUp::fitting(&mut Random::new(3, "set-up"), whose, 5);
+        let mut bytes = [call.head(0), rust_weights(whose)].concat();
         change(&mut bytes);
         call.judge(&Answer { operation: call.operation(), bytes }).wrong.is_none()
     }
@@ -279,5 +320,101 @@ mod tests {
             }
             assert!(!judged(whose, |bytes| bytes.truncate(81)));
         }
+    }
+
+    /// A call, read off a request as the page says.
+    fn call_in(request: &[u8]) -> SetUp {
+        let arguments = &request[5..];
+        let number = |at: usize, count: usize| arguments[at..at + count].iter().fold(0, |n, b| n << 8 | u64::from(*b));
+        let [a, e] = [0, 1].map(|at| number(at, 1).min(16) as usize);
+        let w = number(2, 2) as usize;
+        let (whose, behind) = match request[0] {
+            NEW_SURROUND => (Whose::Layout(Layout(number(76, 1) as u8, number(77, 8))), 85),
+            _ => (Whose::Order(number(76, 8)), 84),
+        };
+        let angle = |i: usize| number(behind + 2 * i, 2) as u16 as i16;
+        let weights_at = behind + 2 * (a + e);
+        assert_eq!(arguments.len(), weights_at + 8 * w);
+        SetUp {
+            whose,
+            rows: number(4, 8),
+            row_of: std::array::from_fn(|s| number(12 + 8 * s, 8)),
+            azimuths: (0..a).map(angle).collect(),
+            elevations: (a..a + e).map(angle).collect(),
+            weights: (0..w).map(|i| f64::from_bits(number(weights_at + 8 * i, 8))).collect(),
+        }
+    }
+
+    /// What a program answers that is wrong in a way: it takes other numbers for those of the call.
+    fn answer(way: &str, mut call: SetUp) -> Vec<u8> {
+        let refusal = call.refusal();
+        match way {
+            "azimuths alone" => call.elevations.fill(0),
+            "elevations alone" => call.azimuths.fill(0),
+            "speakers at 900" => call.elevations.iter_mut().for_each(|e| *e = e.saturating_sub(900)),
+            "lists change places" => (call.azimuths, call.elevations) = (call.elevations, call.azimuths),
+            "elevations are not counted" => call.elevations.resize(8, 0),
+            "one elevation less" if call.elevations.len() == 7 => call.elevations.push(0),
+            "one elevation more" if call.elevations.len() == 9 => call.elevations.truncate(8),
+            "5 before 2" if call.elevations.len() != 8 => return [call.head(5), call.weights.iter().flat_map(|w| f64_bytes(*w)).collect()].concat(),
+            "elevations below 0 as those above" => call.elevations.iter_mut().for_each(|e| *e = (*e).max(0)),
+            _ => (),
+        }
+        let refusal = if way.contains("elevation") && way != "elevations alone" { call.refusal() } else { refusal };
+        let weights = if refusal == 0 { rust_weights(call.whose) } else { call.weights.iter().flat_map(|w| f64_bytes(*w)).collect() };
+        [call.head(refusal), weights].concat()
+    }
+
+    fn shown(way: &str, name: &str, make: fn(&mut Random, usize, &mut Sink)) -> usize {
+        let mut wrong = 0;
+        make(&mut Random::new(1, name), 400, &mut |case| {
+            let bytes = answer(way, call_in(&case.request));
+            wrong += usize::from((case.judge)(&Answer { operation: case.request[0], bytes }).wrong.is_some());
+        });
+        wrong
+    }
+
+    #[test]
+    fn the_right_program_passes_and_every_wrong_one_is_found() {
+        let wrong = [
+            "azimuths alone",
+            "elevations alone",
+            "speakers at 900",
+            "lists change places",
+            "elevations are not counted",
+            "one elevation less",
+            "one elevation more",
+            "5 before 2",
+            "elevations below 0 as those above",
+        ];
+        for (name, make) in [("new surround", surround as fn(&mut Random, usize, &mut Sink)), ("new ambisonic", ambisonic)] {
+            assert_eq!(shown("", name, make), 0, "{name}");
+            for way in wrong {
+                assert!(shown(way, name, make) > 0, "{name}: {way}");
+            }
+        }
+    }
+
+    /// Requests of the page, whole; and a bank in which a level row behind is taken, not the raised one in front.
+    #[test]
+    fn requests_and_answers_are_those_of_the_page() {
+        let mut call =
+            SetUp { whose: Whose::Layout(Layout(2, 7)), rows: 2, row_of: [9; 8], azimuths: vec![300, -1799], elevations: vec![1, 0, -1], weights: vec![1.0] };
+        let (nine, nines) = ("0000000000000009", "0000000000000009 ".repeat(8));
+        let asked = format!("02 03 0001 0000000000000002 {nines} 02 0000000000000007 012c f8f9 0001 0000 ffff 3ff0000000000000");
+        assert_eq!(call.clone().case().request, request(19, &bytes_of(&asked)));
+        let refused = bytes_of(&format!("05 0000000000000000 0000000000000000 {nines} 3ff0000000000000"));
+        assert!(call.judge(&Answer { operation: 19, bytes: refused }).wrong.is_none());
+        call.azimuths = vec![300, -1799, 0, 0, 0, 0, 0, 0];
+        call.elevations = vec![1, 0, 0, 0, 0, 0, 0, 0];
+        call.weights = vec![0.0; 36];
+        let ones = "0000000000000001 ".repeat(6);
+        let head = bytes_of(&format!("00 0000000000000006 0000000000000006 {ones} {nine} {nine}"));
+        assert!(call.judge(&Answer { operation: 19, bytes: [head.clone(), rust_weights(call.whose)].concat() }).wrong.is_none());
+        call.elevations[1] = 1;
+        assert!(call.judge(&Answer { operation: 19, bytes: [head, rust_weights(call.whose)].concat() }).wrong.is_some());
+        call.whose = Whose::Order(3);
+        (call.azimuths, call.elevations, call.weights) = (vec![5], vec![6], vec![]);
+        assert_eq!(call.case().request, request(20, &bytes_of(&format!("01 01 0000 0000000000000002 {nines} 0000000000000003 0005 0006"))));
     }
 }
