@@ -3,3 +3,5 @@ pub mod Answers
 mod Fill
 pub mod Converting
 pub mod Promises
+pub mod Drill
+mod Refuted

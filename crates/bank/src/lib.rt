@@ -196,12 +196,7 @@ pub fn read_start(
 }
 
 // Reads a file into lists of 8 azimuths, 8 elevations and 8,192 taps, once all of it is known to keep the form.
-pub fn read(
-    file: &[u8],
-    azimuths: &mut [i16],
-    elevations: &mut [i16],
-    taps: &mut [f32],
-) -> BankRead
+pub fn read(file: &[u8], azimuths: &mut [i16], elevations: &mut [i16], taps: &mut [f32]) -> BankRead
     ensures { λ r. ⌜ Reads (now (file .entry)) (now (azimuths .entry)) (now (elevations .entry)) (now (taps .entry))
         (record { answer = r; azimuths = now (azimuths .exit); elevations = now (elevations .exit); taps = now (taps .exit) }) ⌝ }
 {
@@ -274,7 +269,16 @@ fn put_rows(
     let mut i = 0;
     while i < azimuths.len() {
         let at = row_at(version, i, l);
-        put_row(version, azimuths[i], elevations[i], l, taps, tap_at(i, l), file, at);
+        put_row(
+            version,
+            azimuths[i],
+            elevations[i],
+            l,
+            taps,
+            tap_at(i, l),
+            file,
+            at,
+        );
         i += 1;
     }
 }

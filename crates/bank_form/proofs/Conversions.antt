@@ -105,12 +105,15 @@ first-raised l at (e ∷ es) = go (first-raised l (at + rowSize 2 l) es) (isLeve
     }
 
     on : isLevel e ≡ true → (i : ℕ) × First l (at + rowSize 2 l) es i → (i : ℕ) × First l at (e ∷ es) i
-    on k (i, f) = (suc i, record {
-      among = suc-le-suc (f .among);
-      told = unless-passes (isLevel e) 21 (pairAt 2 at) _ k ∙ f .told ∙ ap (λ (n : ℕ). wrong 21 (pairAt 2 n)) (omega arith);
-      before = rw k (f .before);
-      itself = f .itself;
-    })
+    on k (i, f) = (
+      suc i,
+      record {
+        among = suc-le-suc (f .among);
+        told = unless-passes (isLevel e) 21 (pairAt 2 at) _ k ∙ f .told ∙ ap (λ (n : ℕ). wrong 21 (pairAt 2 n)) (omega arith);
+        before = rw k (f .before);
+        itself = f .itself;
+      },
+    )
 
     go : (raisedFrom l (at + rowSize 2 l) es ≡ sound) ⊎ ((i : ℕ) × First l (at + rowSize 2 l) es i) → (t : Bool) → isLevel e ≡ t
         → (raisedFrom l at (e ∷ es) ≡ sound) ⊎ ((i : ℕ) × First l at (e ∷ es) i)

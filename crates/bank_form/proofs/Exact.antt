@@ -91,7 +91,7 @@ module _ (s : List ℕ) where
     azimuths = w .all .azimuths;
     elevations = w .all .elevations;
     apart = ap (pairwise differ) pairs-in
-    ∙ before-pairwise (pairIn (versionIn s) s) (rowSize (versionIn s) (lengthIn s)) differ 9 (rowsIn s) (λ j h. let z : 0 + j ≡ j = omega arith in rw z at (w .all .new j h));
+        ∙ before-pairwise (pairIn (versionIn s) s) (rowSize (versionIn s) (lengthIn s)) differ 9 (rowsIn s) (λ j h. let z : 0 + j ≡ j = omega arith in rw z at (w .all .new j h));
     numbers = w .all .taps;
   }
 
@@ -155,6 +155,10 @@ written-keeps : (v : ℕ) (b : Bank) → FitsFields v b → Keeps b → isFile (
 written-keeps v b h k =
     let w = read-write v b h in
     is-file (encode v b) (ap (λ (f : Fault). f .refusal) (nothing-found (length (encode v b)) (encode v b) (keeps-whole (encode v b) v b (h .holds .known) w (rw (w .same) k))))
+
+-- a bank file says its version
+pub version-of : (v : ℕ) (s : List ℕ) (b : Bank) → IsFile v s b → versionIn s ≡ v
+version-of v s b f = ap versionIn (sym (f .bytes)) ∙ read-write v b (keeps-fits v b (f .holds) (keeps b (f .keeps))) .version
 
 -- a file is accepted exactly if it is the encoding of a bank that keeps the form, in a version that holds it
 pub exactly : (s : List ℕ) → AreBytes s → Exactly s

@@ -276,10 +276,10 @@ read-write v b h =
       rest = a .value ∙ omega (arith, length-all v b counted);
       size = rw (c .value, d .value) long;
       same = bank-same (bankIn s) b
-      (rw (w .value, c .value, d .value) (lists-same (λ (p : Pair). p .azimuth) _ _ _ _ (azimuths-of (azimuthsFrom s v l 9 n) (elevationsFrom s v l 9 n) even) (azimuths-of (b .azimuths) (b .elevations) paired) pairs′))
-      (rw (w .value, c .value, d .value) (lists-same (λ (p : Pair). p .elevation) _ _ _ _ (elevations-of (azimuthsFrom s v l 9 n) (elevationsFrom s v l 9 n) even) (elevations-of (b .azimuths) (b .elevations) paired) pairs′))
-      (d .value)
-      (rw (w .value, c .value, d .value) (ap (tapsFrom s v l 9) (sym count) ∙ r .taps));
+          (rw (w .value, c .value, d .value) (lists-same (λ (p : Pair). p .azimuth) _ _ _ _ (azimuths-of (azimuthsFrom s v l 9 n) (elevationsFrom s v l 9 n) even) (azimuths-of (b .azimuths) (b .elevations) paired) pairs′))
+          (rw (w .value, c .value, d .value) (lists-same (λ (p : Pair). p .elevation) _ _ _ _ (elevations-of (azimuthsFrom s v l 9 n) (elevationsFrom s v l 9 n) even) (elevations-of (b .azimuths) (b .elevations) paired) pairs′))
+          (d .value)
+          (rw (w .value, c .value, d .value) (ap (tapsFrom s v l 9) (sym count) ∙ r .taps));
     }
 
 -- ---- writing what was read

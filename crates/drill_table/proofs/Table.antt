@@ -11,7 +11,7 @@ use Rattle.stereo.proofs.Drill.{left-at-minus-100, right-at-minus-100, left-at-
 use Rattle.surround.proofs.Drill.{silent-at-120, only-ls, silent-at-0, centre, left-and-right, centre-loudest, at-120, at-0}
 use Rattle.history.proofs.Drill.{drill-8, drill-9, drill-9-each, drill-9-heard}
 use Rattle.row_choice.proofs.Drill.{drill-tie}
-use Rattle.bank.proofs.Drill.{drill-written, drill-read, drill-cut}
+use Rattle.bank.proofs.Drill.{drill-written, drill-forward, drill-back, drill-read, drill-cut}
 use Rattle.drill_table.specs.Table.{DrillTable}
 
 -- the roots of 4 and 2, whose floats are computed
@@ -51,8 +51,10 @@ drill-table = record {
   item-9 = drill-9;
   item-9-each = drill-9-each;
   item-9-heard = drill-9-heard;
-  item-10 = λ rest six r. drill-tie rest six r;
+  item-10 = λ rest flat six level r. drill-tie rest six flat level r;
+  item-11-read = λ zs es xs z e x o. drill-read zs es xs (record { azimuths = z; elevations = e; taps = x }) o;
   item-11-written = λ buffer e w. drill-written buffer w e;
-  item-11-read = λ zs xs z x o. drill-read zs xs z x o;
-  item-11-cut = λ zs xs z x o. drill-cut zs xs z x o;
+  item-11-forward = λ out e w. drill-forward out w e;
+  item-11-back = λ out e w. drill-back out w e;
+  item-11-cut = λ zs es xs z e x o. drill-cut zs es xs (record { azimuths = z; elevations = e; taps = x }) o;
 }

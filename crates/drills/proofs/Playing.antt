@@ -84,30 +84,30 @@ module _ (b : Form.Bank) (o : Arrangement) where
 -- ---- from the bank file on
 
 -- what was set up has the channels that were wanted
-module _ (w : Wanted) (zs : List ℤ) (rows : ℕ) (weights : List Float) (given : List ℕ) where
-  channels-by : (n : ℕ) → arrangedBy n (w .whose) (w .speakers) (w .channels) zs rows weights given .answer .refusal ≡ 0
-      → arrangedBy n (w .whose) (w .speakers) (w .channels) zs rows weights given .answer .channels ≡ w .channels
+module _ (w : Wanted) (zs es : List ℤ) (rows : ℕ) (weights : List Float) (given : List ℕ) where
+  channels-by : (n : ℕ) → arrangedBy n (w .whose) (w .speakers) (w .channels) zs es rows weights given .answer .refusal ≡ 0
+      → arrangedBy n (w .whose) (w .speakers) (w .channels) zs es rows weights given .answer .channels ≡ w .channels
   channels-by zero e = refl
   channels-by (suc n) e = absurd (suc-ne-zero n e)
 
-  channels-are : (o : Arrangement) → Arranges w zs rows weights given o → o .answer .refusal ≡ 0 → o .answer .channels ≡ w .channels
+  channels-are : (o : Arrangement) → Arranges w zs es rows weights given o → o .answer .refusal ≡ 0 → o .answer .channels ≡ w .channels
   unfolding arrangement
   channels-are o a e =
-      ap (λ (q : Arrangement). q .answer .channels) (a .answer) ∙ channels-by (Arranging.refusalOf w zs rows weights) (sym (ap (λ (q : Arrangement). q .answer .refusal) (a .answer)) ∙ e)
+      ap (λ (q : Arrangement). q .answer .channels) (a .answer) ∙ channels-by (Arranging.refusalOf w zs es rows weights) (sym (ap (λ (q : Arrangement). q .answer .refusal) (a .answer)) ∙ e)
 
 ears-there : (ps : List Planes) → Both Eared ps (map (λ (p : Planes). replicate (2 * p .stride) zero-float) ps)
 ears-there [] = tt
 ears-there (p ∷ ps) = (length-replicate (2 * p .stride) zero-float, ears-there ps)
 
 module _ (r : ReadOutcome) (k : BankAccepted r) (d : Drill) (weights : List Float) (given : List ℕ) (o : Arrangement) (eight : length given ≡ 8)
-    (new : NewAmbisonic (d .order) (r .azimuths) (r .answer .rows) weights given o) (e : o .answer .refusal ≡ 0) (desk : Desk) (rings : List Float)
+    (new : NewAmbisonic (d .order) (r .azimuths) (r .elevations) (r .answer .rows) weights given o) (e : o .answer .refusal ≡ 0) (desk : Desk) (rings : List Float)
     (rested : Resets desk (o .answer .speakers) (r .answer .length) rings (record { answer = record { refusal = 0; desk = d .start .desk }; rings = d .start .rings }))
     (es : List (List Float)) (eared : Both Eared (planesLeft d) es) where
   abbrev calls : List Call
   calls = callsOf (bankFound r) o (planesLeft d) es
 
   counted : o .answer .channels ≡ channelsOfOrder (d .order)
-  counted = channels-are (ofOrder (d .order)) (r .azimuths) (r .answer .rows) weights given o (new .arranges) e
+  counted = channels-are (ofOrder (d .order)) (r .azimuths) (r .elevations) (r .answer .rows) weights given o (new .arranges) e
 
   none-refused : NoneRefused (d .start) calls
   none-refused =
@@ -120,7 +120,7 @@ module _ (r : ReadOutcome) (k : BankAccepted r) (d : Drill) (weights : List Floa
         desk = desk;
         rings = rings;
         reset = rested;
-        finite = ambisonic-playable (r .azimuths) (r .answer .rows) weights given o eight e (d .order) new .sound;
+        finite = ambisonic-playable (r .azimuths) (r .elevations) (r .answer .rows) weights given o eight e (d .order) new .sound;
         alike = calls-alike (bankFound r) o (d .start) (planesLeft d) es;
       }
 

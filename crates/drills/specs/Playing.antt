@@ -44,7 +44,7 @@ pub record DrillPlays : Type 0 where
   pub ears : (ps : List Planes) → Both Eared ps (map (λ (p : Planes). replicate (2 * p .stride) zero-float) ps)
   -- whatever the calls of `render` are: no call is refused that is lent what the accepted ones left, and all together are a drill
   pub plays : (r : ReadOutcome) → BankAccepted r → (d : Drill) (weights : List Float) (given : List ℕ) (o : Arrangement) → length given ≡ 8
-      → NewAmbisonic (d .order) (r .azimuths) (r .answer .rows) weights given o → o .answer .refusal ≡ 0
+      → NewAmbisonic (d .order) (r .azimuths) (r .elevations) (r .answer .rows) weights given o → o .answer .refusal ≡ 0
       → (k : Desk) (rings : List Float) → Resets k (o .answer .speakers) (r .answer .length) rings (record { answer = record { refusal = 0; desk = d .start .desk }; rings = d .start .rings })
       → (es : List (List Float)) → Both Eared (planesLeft d) es → d .plays ≡ callsOf (bankFound r) o (planesLeft d) es
       → NoneRefused (d .start) (d .plays) × Drilled (setUp (bankFound r) o) d

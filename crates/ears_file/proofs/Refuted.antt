@@ -1,4 +1,4 @@
--- What the promise of `run` rules out, whatever the bank and the line are: a refusal by another number than 9 and 13 to 19, a part frame with a place, a refusal with a
+-- What the promise of `run` rules out, whatever the bank and the line are: a refusal by another number than 9 and 13 to 20, a part frame with a place, a refusal with a
 -- count, a failure that ends as a run that was played, and more unsettled frames than frames. And what that of `told` does. Assumes nothing.
 use mathlib.Core.Path.{_≡_, refl, sym, ap, _∙_}
 use mathlib.Core.Bool.{Bool, true, false, cond}
@@ -73,13 +73,13 @@ module _ (r : Outcome) (a : Answers r) where
   no-number q = number q
 
   -- a refused bank has a number of its own
-  bank-number : {A : Type 0} → (r .ended .refusal ≡ 0 → A) → (13 ≤ r .ended .refusal → r .ended .refusal ≤ 19 → A) → r .ended ≡ refusedBank (fault (a .bank)) → A
+  bank-number : {A : Type 0} → (r .ended .refusal ≡ 0 → A) → (13 ≤ r .ended .refusal → r .ended .refusal ≤ 20 → A) → r .ended ≡ refusedBank (fault (a .bank)) → A
   bank-number none some q =
       ⊎-elim (λ s. none (number q ∙ ap (λ (f : Fault). f .refusal) s))
       (λ (p : NumberAndPlace (length (a .bank)) (fault (a .bank))). some (omega (arith, p .least, number q)) (omega (arith, p .most, number q)))
       (numbers-and-places (a .bank))
 
-  refused-otherwise : (r .ended .refusal ≡ 0 → ⊥) → (r .ended .refusal ≡ 9 → ⊥) → (13 ≤ r .ended .refusal → r .ended .refusal ≤ 19 → ⊥) → ⊥
+  refused-otherwise : (r .ended .refusal ≡ 0 → ⊥) → (r .ended .refusal ≡ 9 → ⊥) → (13 ≤ r .ended .refusal → r .ended .refusal ≤ 20 → ⊥) → ⊥
   refused-otherwise some part bank = by-end (λ p. some (no-number p)) (λ q. part (number q)) (bank-number some bank)
 
   part-frame-with-a-place : r .ended .refusal ≡ 9 → (r .ended .place ≡ 0 → ⊥) → ⊥

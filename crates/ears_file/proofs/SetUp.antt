@@ -16,7 +16,7 @@ use Rattle.bank_form.specs.Bank.{Bank, rows}
 use Rattle.bank_form.specs.Fault.{bankIn, fault, isFile}
 use Rattle.bank_form.proofs.Exact.{is-file}
 use Rattle.bank.specs.Reading.{ReadOutcome, readRefused, readBank}
-use Rattle.bank.proofs.Answers.{Accepted, read-good, read-bad}
+use Rattle.bank.proofs.Answers.{Lists, Accepted, read-good, read-bad}
 use Rattle.bank.proofs.Promises.{accepted-parts, accepted-is, read-is}
 use Rattle.history.specs.Setup.{Setup}
 use Rattle.hrtf_checks.specs.declared.Shape.{Shape}
@@ -34,7 +34,7 @@ use Rattle.files.specs.Promises.{Found}
 use Rattle.ears_file.specs.Promise.{Ends, Answers}
 use Rattle.ears_file.specs.Turns.{BlocksAccepted}
 
--- the list of azimuths that a bank is read into
+-- the lists that azimuths and elevations are read into
 abbrev zeros : List ℤ
 zeros = replicate 8 (pos 0)
 
@@ -42,7 +42,10 @@ zeros = replicate 8 (pos 0)
 abbrev shapeOf : Arrangement → ReadOutcome → Shape
 shapeOf a o = record { channels = a .answer .channels; speakers = a .answer .speakers; rows = o .answer .rows; length = o .answer .length }
 
-module _ (xs : List Float) (o : ReadOutcome) (f : Found zeros xs o) where
+module _ (xs : List Float) (o : ReadOutcome) (f : Found zeros zeros xs o) where
+  lists : length xs ≡ 8192 → Lists zeros zeros xs
+  lists most = record { azimuths = refl; elevations = refl; taps = most }
+
   -- a bank that breaks the form
   pub bank-refused : length xs ≡ 8192 → (o .answer .refusal ≡ 0 → ⊥) → (e : Ended) (r : Outcome) → e ≡ refusedBank (record { refusal = o .answer .refusal; offset = o .answer .offset })
       → r ≡ record { failed = false; ended = e } → Answers r
@@ -52,10 +55,10 @@ module _ (xs : List Float) (o : ReadOutcome) (f : Found zeros xs o) where
     where
       -- one that is a file would have been accepted
       no-file : isFile (f .file) ≡ true → ⊥
-      no-file h = bad (ap (λ (q : ReadOutcome). q .answer .refusal) (f .reads .outcome ∙ sym (read-good zeros xs (f .file) refl most h)))
+      no-file h = bad (ap (λ (q : ReadOutcome). q .answer .refusal) (f .reads .outcome ∙ sym (read-good zeros zeros xs (f .file) (lists most) h)))
 
-      left : o ≡ readRefused (fault (f .file)) zeros xs
-      left = f .reads .outcome ∙ sym (read-bad zeros xs (f .file) refl most (fault (f .file)) refl (λ z. no-file (is-file (f .file) z)))
+      left : o ≡ readRefused (fault (f .file)) zeros zeros xs
+      left = f .reads .outcome ∙ sym (read-bad zeros zeros xs (f .file) (lists most) (fault (f .file)) refl (λ z. no-file (is-file (f .file) z)))
 
       told : refusedBank (record { refusal = o .answer .refusal; offset = o .answer .offset }) ≡ refusedBank (fault (f .file))
       told = ap (λ (q : ReadOutcome). refusedBank (record { refusal = q .answer .refusal; offset = q .answer .offset })) left
@@ -69,16 +72,16 @@ module _ (xs : List Float) (o : ReadOutcome) (f : Found zeros xs o) where
     b : Bank
     b = bankIn (f .file)
 
-    parts : Accepted zeros xs (fault (f .file))
-    parts = accepted-parts (f .file) zeros xs (ap (λ (q : ReadOutcome). q .answer .refusal) (sym (f .reads .outcome)) ∙ good)
+    parts : Accepted zeros zeros xs (fault (f .file))
+    parts = accepted-parts (f .file) zeros zeros xs (ap (λ (q : ReadOutcome). q .answer .refusal) (sym (f .reads .outcome)) ∙ good)
 
-    is : o ≡ readBank b zeros xs
+    is : o ≡ readBank b zeros zeros xs
     unfolding b
-    is = accepted-is (f .file) zeros xs o (f .reads) good .1
+    is = accepted-is (f .file) zeros zeros xs o (f .reads) good .1
 
     bank-is : bankFound o ≡ b
     unfolding b
-    bank-is = read-is (f .file) zeros xs o (f .reads) good
+    bank-is = read-is (f .file) zeros zeros xs o (f .reads) good
 
     taps-are : bankFound o .taps ≡ b .taps
     taps-are = ap (λ (q : Bank). q .taps) bank-is
@@ -93,10 +96,10 @@ module _ (xs : List Float) (o : ReadOutcome) (f : Found zeros xs o) where
 
     -- there is room for its filters, and for the cells of six speakers
     pub rows-few : o .answer .rows ≤ 8
-    rows-few = not-outside (o .answer .rows) 8 (few-rows (f .file) zeros xs o (f .reads) good) .1
+    rows-few = not-outside (o .answer .rows) 8 (few-rows (f .file) zeros zeros xs o (f .reads) good) .1
 
     short : (0 < o .answer .length) × (o .answer .length ≤ 512)
-    short = not-outside (o .answer .length) 512 (short-filters (f .file) zeros xs o (f .reads) good)
+    short = not-outside (o .answer .length) 512 (short-filters (f .file) zeros zeros xs o (f .reads) good)
 
     pub taps-fit : 2 * o .answer .rows * o .answer .length ≤ 8192
     taps-fit = let few : 2 * o .answer .rows ≤ 16 = omega (arith, rows-few) in omega (arith, mul-le-mul few (short .1))
@@ -104,18 +107,18 @@ module _ (xs : List Float) (o : ReadOutcome) (f : Found zeros xs o) where
     pub taps-long : length (o .taps) ≡ 8192
     taps-long =
         let few : length (b .taps) ≤ 8192 = omega (arith, ap length taps-are, length-take (2 * o .answer .rows * o .answer .length) (o .taps), taps-fit) in
-        ap (λ (q : ReadOutcome). length (q .taps)) is ∙ length-placed xs 0 (b .taps) (omega (arith, few, parts .most)) ∙ parts .most
+        ap (λ (q : ReadOutcome). length (q .taps)) is ∙ length-placed xs 0 (b .taps) (omega (arith, few, parts .lists .taps)) ∙ parts .lists .taps
 
     module _ (weights : List Float) (size : length weights ≡ 36) (a : Arrangement)
-        (new : NewSurround Surround51 (o .azimuths) (o .answer .rows) weights (replicate 8 0) a) where
+        (new : NewSurround Surround51 (o .azimuths) (o .elevations) (o .answer .rows) weights (replicate 8 0) a) where
       arranged-is : a ≡ arranged b
       unfolding arrangement
       arranged-is =
           let whose = ofLayout Surround51 .whose in
           new .answer
-          ∙ ap (λ (m : ℕ). arrangedBy m whose 6 6 (o .azimuths) (o .answer .rows) weights (replicate 8 0))
-          (good-bank-set-up (f .file) zeros xs o (f .reads) good (ofLayout Surround51) weights refl size)
-          ∙ ap (λ (q : ReadOutcome). arrangedBy 0 whose 6 6 (q .azimuths) (q .answer .rows) weights (replicate 8 0)) is
+          ∙ ap (λ (m : ℕ). arrangedBy m whose 6 6 (o .azimuths) (o .elevations) (o .answer .rows) weights (replicate 8 0))
+          (good-bank-set-up (f .file) zeros zeros xs o (f .reads) good (ofLayout Surround51) weights refl size)
+          ∙ ap (λ (q : ReadOutcome). arrangedBy 0 whose 6 6 (q .azimuths) (q .elevations) (q .answer .rows) weights (replicate 8 0)) is
 
       pub cells-fit : a .answer .speakers * o .answer .length ≤ 3072
       cells-fit =
@@ -125,7 +128,7 @@ module _ (xs : List Float) (o : ReadOutcome) (f : Found zeros xs o) where
       plays : Playable (rows b) a
       plays =
           subst (λ (n : ℕ). Playable n a) (ap (λ (q : ReadOutcome). q .answer .rows) is)
-          (surround-playable (o .azimuths) (o .answer .rows) weights (replicate 8 0) a refl (ap (λ (q : Arrangement). q .answer .refusal) arranged-is) Surround51 new)
+          (surround-playable (o .azimuths) (o .elevations) (o .answer .rows) weights (replicate 8 0) a refl (ap (λ (q : Arrangement). q .answer .refusal) arranged-is) Surround51 new)
 
       pub ready : BlocksAccepted (shapeOf a o) (a .weights) (a .rows) (bankFound o .taps)
       unfolding b
@@ -134,7 +137,7 @@ module _ (xs : List Float) (o : ReadOutcome) (f : Found zeros xs o) where
             six = ap (λ (q : Arrangement). q .answer .channels) arranged-is;
             long = short .0;
             accepts = λ n inputs ears t few inputs-long ears-long fits.
-                set-up-accepted b (accepted-is (f .file) zeros xs o (f .reads) good .0 .keeps) a plays
+                set-up-accepted b (accepted-is (f .file) zeros zeros xs o (f .reads) good .0 .keeps) a plays
                 (record { shape = shapeOf a o; frames = n; stride = 1024; inputs = inputs; weights = a .weights; rows = a .rows; taps = bankFound o .taps; ears = ears })
                 (record {
                   shape = ap (shapeOf a) is;
@@ -154,7 +157,7 @@ module _ (xs : List Float) (o : ReadOutcome) (f : Found zeros xs o) where
       set-up =
           ap (λ (q : Arrangement). setupOf (shapeOf q o) (q .weights) (q .rows) (bankFound o .taps)) arranged-is
           ∙ ap (λ (q : ReadOutcome). setupOf (shapeOf (arranged b) q) (arranged b .weights) (arranged b .rows) (bankFound o .taps)) is
-          ∙ ap (setupOf (shapeOf (arranged b) (readBank b zeros xs)) (arranged b .weights) (arranged b .rows)) taps-are
+          ∙ ap (setupOf (shapeOf (arranged b) (readBank b zeros zeros xs)) (arranged b .weights) (arranged b .rows)) taps-are
           ∙ sym (ap setupWith bank-is)
 
       pub played-ends : (r : Outcome) → Ends (endsAs (setupOf (shapeOf a o) (a .weights) (a .rows) (bankFound o .taps))) r → Ends (endsAs (setupWith (bankFound o))) r

@@ -12,7 +12,7 @@ use Rattle.channel.specs.declared.Layout.the-variants.{Surround51}
 use Rattle.bank_form.specs.Bank.{Bank, rows}
 use Rattle.bank_form.specs.declared.Fault.{Fault}
 use Rattle.bank_form.specs.Fault.{bankIn, fault, isFile}
-use Rattle.bank.specs.Reading.{readBank}
+use Rattle.bank.specs.Reading.{ReadOutcome, readBank}
 use Rattle.history.specs.Setup.{Setup}
 use Rattle.history.specs.History.{heard, unsettledIn}
 use Rattle.hrtf_setup.specs.Arrangement.{Arrangement, arrangedBy}
@@ -25,9 +25,13 @@ use Rattle.ears_file.specs.declared.Ended.{Ended}
 use Rattle.ears_file.specs.declared.Outcome.{Outcome}
 use Rattle.wire.specs.Counting.{countedOn}
 
--- the six speakers of 5.1, arranged with a bank whose azimuths are read into a list of eight zeros
+-- what a bank is read into: lists of eight zeros
+abbrev pub readIn : Bank → ReadOutcome
+readIn b = readBank b (replicate 8 (pos 0)) (replicate 8 (pos 0)) []
+
+-- the six speakers of 5.1, arranged with a bank that was read
 abbrev pub arranged : Bank → Arrangement
-arranged b = arrangedBy 0 (ofLayout Surround51 .whose) 6 6 (readBank b (replicate 8 (pos 0)) [] .azimuths) (rows b) [] (replicate 8 0)
+arranged b = arrangedBy 0 (ofLayout Surround51 .whose) 6 6 (readIn b .azimuths) (readIn b .elevations) (rows b) [] (replicate 8 0)
 
 abbrev pub setupWith : Bank → Setup
 setupWith b = record { channels = 6; speakers = 6; L = b .length; weights = arranged b .weights; taps = b .taps; rows = arranged b .rows }

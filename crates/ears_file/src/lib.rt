@@ -92,20 +92,22 @@ fn done(ended: Ended) -> Outcome
 fn play_with(
     read: BankRead,
     azimuths: &[i16],
+    elevations: &[i16],
     taps: &[f32],
     line: i32,
     out: i32,
     limit: usize,
 ) -> Outcome
     requires { ⌜ read .refusal ≡ 0 ⌝ }
-    requires { ⌜ ((before : List Float) × Found (replicate 8 (pos 0)) before (record { answer = read; azimuths = now azimuths; taps = now taps })) ⌝ }
-    ensures { λ r. ⌜ Ends (endsAs (setupWith (bankFound (record { answer = read; azimuths = now (azimuths .entry); taps = now (taps .entry) })))) r ⌝ }
+    requires { ⌜ ((before : List Float) × Found (replicate 8 (pos 0)) (replicate 8 (pos 0)) before (record { answer = read; azimuths = now azimuths; elevations = now elevations; taps = now taps })) ⌝ }
+    ensures { λ r. ⌜ Ends (endsAs (setupWith (bankFound (record { answer = read; azimuths = now (azimuths .entry); elevations = now (elevations .entry); taps = now (taps .entry) })))) r ⌝ }
 {
     let mut weights = [0.0f64; 36];
     let mut row_of = [0usize; 8];
     let arranged = hrtf_setup::new_surround(
         Layout::Surround51,
         azimuths,
+        elevations,
         read.rows,
         &mut weights,
         &mut row_of,
@@ -137,8 +139,9 @@ pub fn run(bank: &[u8], line: i32, out: &[u8], limit: usize) -> Outcome
     ensures { λ r. ⌜ Answers r ⌝ }
 {
     let mut azimuths = [0i16; 8];
+    let mut elevations = [0i16; 8];
     let mut taps = [0.0f32; 8192];
-    let read = files::read_bank(bank, &mut azimuths, &mut taps);
+    let read = files::read_bank(bank, &mut azimuths, &mut elevations, &mut taps);
     let to = files::open_out(out);
     if read.refusal != 0 {
         if 0 <= to {
@@ -150,7 +153,7 @@ pub fn run(bank: &[u8], line: i32, out: &[u8], limit: usize) -> Outcome
         os::fail(out);
         return failed();
     }
-    let run = play_with(read, &azimuths, &taps, line, to, limit);
+    let run = play_with(read, &azimuths, &elevations, &taps, line, to, limit);
     if libc::close(to) < 0 {
         os::fail(out);
         return failed();

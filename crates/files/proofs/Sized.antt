@@ -11,14 +11,14 @@ use lib.Seq.{length-take-le, take-at}
 use Rattle.lists.proofs.Lists.{take-min}
 use Rattle.lists.proofs.Each.{each-take, each-append, each-replicate}
 use Rattle.big_endian.specs.Bytes.{IsByte, AreBytes}
-use Rattle.bank_form.specs.Fault.{largest}
+use Rattle.bank_form.specs.Version.{largest}
 use Rattle.bank_form.specs.FaultLaws.{Begins, TakenFrom}
 use Rattle.bank_form.proofs.Start.{enough-kept}
 use Rattle.bank.specs.Reading.{ReadOutcome, ReadsStart}
 use Rattle.files.specs.Promises.{ReadSized, Found}
 
-module _ (bytes : List ℕ) (size n : ℕ) (zs : List ℤ) (xs : List Float) (o : ReadOutcome) (room : length bytes ≡ largest) where
-  pub sized-reads : AreBytes bytes → n ≡ min size (length bytes) → ReadsStart (take n bytes) size zs xs o → ReadSized bytes size zs xs o
+module _ (bytes : List ℕ) (size n : ℕ) (zs es : List ℤ) (xs : List Float) (o : ReadOutcome) (room : length bytes ≡ largest) where
+  pub sized-reads : AreBytes bytes → n ≡ min size (length bytes) → ReadsStart (take n bytes) size zs es xs o → ReadSized bytes size zs es xs o
   sized-reads known e r =
       let long : length (take n bytes) ≡ n = length-take-le n bytes (omega (arith, e)) in
       let all : take size bytes ≡ take n bytes = sym (take-min bytes size n e) in
@@ -47,5 +47,5 @@ module _ (bytes : List ℕ) (size : ℕ) (room : length bytes ≡ largest) where
   unfolding file
   file-bytes are = each-append IsByte 0 (take size bytes) (replicate (size - largest) 0) (each-take IsByte 0 size bytes (omega arith) are) (each-replicate IsByte 0 (size - largest) (omega arith))
 
-  pub sized-found : (zs : List ℤ) (xs : List Float) (o : ReadOutcome) → ReadSized bytes size zs xs o → Found zs xs o
-  sized-found zs xs o r = record { file = file; are = file-bytes (r .are); reads = r .each file (file-bytes (r .are)) (inl file-begins) }
+  pub sized-found : (zs es : List ℤ) (xs : List Float) (o : ReadOutcome) → ReadSized bytes size zs es xs o → Found zs es xs o
+  sized-found zs es xs o r = record { file = file; are = file-bytes (r .are); reads = r .each file (file-bytes (r .are)) (inl file-begins) }

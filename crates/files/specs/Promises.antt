@@ -19,12 +19,12 @@ pub record ReadBehind (held limit : ℕ) (before : List ℕ) (failed : Bool) (si
   pub keeps : take held after ≡ take held before
 
 -- what reading leaves for every file that the first `size` of these bytes, and `size`, were taken from
-pub record ReadSized (bytes : List ℕ) (size : ℕ) (zs : List ℤ) (xs : List Float) (o : ReadOutcome) : Type 0 where
+pub record ReadSized (bytes : List ℕ) (size : ℕ) (zs es : List ℤ) (xs : List Float) (o : ReadOutcome) : Type 0 where
   pub are : AreBytes bytes
-  pub each : (file : List ℕ) → AreBytes file → TakenFrom (take size bytes) size file → Reads file zs xs o
+  pub each : (file : List ℕ) → AreBytes file → TakenFrom (take size bytes) size file → Reads file zs es xs o
 
 -- what reading leaves for the bytes of some file
-pub record Found (zs : List ℤ) (xs : List Float) (o : ReadOutcome) : Type 0 where
+pub record Found (zs es : List ℤ) (xs : List Float) (o : ReadOutcome) : Type 0 where
   pub file : List ℕ
   pub are : AreBytes file
-  pub reads : Reads file zs xs o
+  pub reads : Reads file zs es xs o

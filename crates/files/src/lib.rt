@@ -14,7 +14,7 @@ ghost use Prim.Native.Nat.{_+_, _^_, _≤_, _<_, max};
 ghost use lib.IntN.{pos};
 ghost use lib.ListN.{length};
 ghost use Rattle.io.specs.Counts.{Counts};
-ghost use Rattle.bank_form.specs.Fault.{largest};
+ghost use Rattle.bank_form.specs.Version.{largest};
 ghost use Rattle.bank_form.specs.FaultLaws.{bytesThatMatter};
 ghost use Rattle.files.specs.Promises.{ReadBehind, ReadSized, Found};
 
@@ -105,7 +105,7 @@ fn count_rest(file: i32, read: usize, most: usize) -> usize
 fn most_to_count(bytes: &[u8]) -> usize
     ensures { λ r. ⌜ (r ≡ bytesThatMatter (now (bytes .entry))) × (r < 2 ^ 33) ⌝ }
 {
-    if !refusals::is_within(big_endian::get(bytes, 0, 1) as usize, 1, 1) {
+    if !refusals::is_within(big_endian::get(bytes, 0, 1) as usize, 1, 2) {
         return 1;
     }
     let named = big_endian::get(bytes, 1, 4) as usize;
@@ -123,24 +123,37 @@ fn read_first(file: i32, bytes: &mut [u8]) -> usize {
 }
 
 // Reads the bank of a file of `size` bytes, whose first stand in a list that has room for the largest bank.
-fn read_sized(bytes: &[u8], size: usize, azimuths: &mut [i16], taps: &mut [f32]) -> BankRead
+fn read_sized(
+    bytes: &[u8],
+    size: usize,
+    azimuths: &mut [i16],
+    elevations: &mut [i16],
+    taps: &mut [f32],
+) -> BankRead
     requires { ⌜ length (now bytes) ≡ largest ⌝ }
-    ensures { λ r. ⌜ ReadSized (now (bytes .entry)) size (now (azimuths .entry)) (now (taps .entry)) (record { answer = r; azimuths = now (azimuths .exit); taps = now (taps .exit) }) ⌝ }
+    ensures { λ r. ⌜ ReadSized (now (bytes .entry)) size (now (azimuths .entry)) (now (elevations .entry)) (now (taps .entry))
+        (record { answer = r; azimuths = now (azimuths .exit); elevations = now (elevations .exit); taps = now (taps .exit) }) ⌝ }
 {
     let n = checks::least(size, bytes.len());
-    bank::read_start(&bytes[..n], size, azimuths, taps)
+    bank::read_start(&bytes[..n], size, azimuths, elevations, taps)
 }
 
 // Reads the bank of a name. One that is missing, or cannot be read, counts as a file of no bytes, which breaks the
 // form: from a name that cannot be opened no read succeeds.
-pub fn read_bank(path: &[u8], azimuths: &mut [i16], taps: &mut [f32]) -> BankRead
-    ensures { λ r. ⌜ Found (now (azimuths .entry)) (now (taps .entry)) (record { answer = r; azimuths = now (azimuths .exit); taps = now (taps .exit) }) ⌝ }
+pub fn read_bank(
+    path: &[u8],
+    azimuths: &mut [i16],
+    elevations: &mut [i16],
+    taps: &mut [f32],
+) -> BankRead
+    ensures { λ r. ⌜ Found (now (azimuths .entry)) (now (elevations .entry)) (now (taps .entry))
+        (record { answer = r; azimuths = now (azimuths .exit); elevations = now (elevations .exit); taps = now (taps .exit) }) ⌝ }
 {
     let file = os::open_read(path);
     let mut bytes = [0u8; LARGEST];
     let size = read_first(file, &mut bytes);
     libc::close(file);
-    read_sized(&bytes, size, azimuths, taps)
+    read_sized(&bytes, size, azimuths, elevations, taps)
 }
 
 // Opens the file of a name for the ears and empties it; a negative number where that fails. It never has the number of

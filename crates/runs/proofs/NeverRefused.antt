@@ -21,8 +21,9 @@ use Rattle.lists.specs.Tables.{every}
 use Rattle.lists.proofs.Placed.{length-placed}
 use Rattle.bank_form.specs.Bank.{Bank, isTap, valid}
 use Rattle.bank_form.specs.Fault.{bankIn}
-use Rattle.bank_form.proofs.Exact.{Keeps, keeps}
+use Rattle.bank_form.proofs.Exact.{Keeps, keeps, paired-in}
 use Rattle.bank.specs.Reading.{ReadOutcome, Reads, bankFound}
+use Rattle.bank.proofs.Answers.{Lists}
 use Rattle.bank.proofs.Promises.{accepted-parts, accepted-is, is-accepted, read-is}
 use Rattle.channel.specs.declared.Layout.{Layout}
 use Rattle.desk.specs.declared.Desk.{Desk}
@@ -162,12 +163,12 @@ reset-fits d speakers L rings a r e =
 
 -- ---- from the bank file on
 
-module _ (file : List ℕ) (zs : List ℤ) (xs : List Float) (r : ReadOutcome) (reads : Reads file zs xs r) (good : r .answer .refusal ≡ 0) where
+module _ (file : List ℕ) (zs es : List ℤ) (xs : List Float) (r : ReadOutcome) (reads : Reads file zs es xs r) (good : r .answer .refusal ≡ 0) where
   keeps-form : valid (bankFound r) ≡ true
-  keeps-form = ap valid (read-is file zs xs r reads good) ∙ accepted-is file zs xs r reads good .0 .keeps
+  keeps-form = ap valid (read-is file zs es xs r reads good) ∙ accepted-is file zs es xs r reads good .0 .keeps
 
   rows-are : r .answer .rows ≡ Form.rows (bankFound r)
-  rows-are = ap (λ (y : ReadOutcome). y .answer .rows) (accepted-is file zs xs r reads good .1) ∙ ap Form.rows (sym (read-is file zs xs r reads good))
+  rows-are = ap (λ (y : ReadOutcome). y .answer .rows) (accepted-is file zs es xs r reads good .1) ∙ ap Form.rows (sym (read-is file zs es xs r reads good))
 
   pub few-rows : outside (r .answer .rows) 8 ≡ false
   few-rows = ap (λ (n : ℕ). outside n 8) rows-are ∙ ap not (keeps (bankFound r) keeps-form .few)
@@ -175,17 +176,26 @@ module _ (file : List ℕ) (zs : List ℤ) (xs : List Float) (r : ReadOutcome) (
   pub short-filters : outside (r .answer .length) 512 ≡ false
   short-filters = ap not (keeps (bankFound r) keeps-form .short)
 
+  -- both lists are as long as they were lent
+  lent : Lists zs es xs
+  lent = accepted-parts file zs es xs (ap (λ (y : ReadOutcome). y .answer .refusal) (sym (reads .outcome)) ∙ good) .lists
+
+  most : Form.rows (bankIn file) ≤ 8
+  most = subst (λ (n : ℕ). n ≤ 8) (rows-are ∙ ap Form.rows (read-is file zs es xs r reads good)) (not-outside (r .answer .rows) 8 few-rows .1)
+
   eight-azimuths : length (r .azimuths) ≡ 8
   eight-azimuths =
-      let b = bankIn file in
-      let lent = accepted-parts file zs xs (ap (λ (y : ReadOutcome). y .answer .refusal) (sym (reads .outcome)) ∙ good) .eight in
-      let most : Form.rows b ≤ 8 = subst (λ (n : ℕ). n ≤ 8) (rows-are ∙ ap Form.rows (read-is file zs xs r reads good)) (not-outside (r .answer .rows) 8 few-rows .1) in
-      ap (λ (y : ReadOutcome). length (y .azimuths)) (accepted-is file zs xs r reads good .1)
-      ∙ length-placed zs 0 (b .azimuths) (omega (arith, lent, most)) ∙ lent
+      ap (λ (y : ReadOutcome). length (y .azimuths)) (accepted-is file zs es xs r reads good .1)
+      ∙ length-placed zs 0 (bankIn file .azimuths) (omega (arith, lent .azimuths, most)) ∙ lent .azimuths
+
+  eight-elevations : length (r .elevations) ≡ 8
+  eight-elevations =
+      ap (λ (y : ReadOutcome). length (y .elevations)) (accepted-is file zs es xs r reads good .1)
+      ∙ length-placed es 0 (bankIn file .elevations) (omega (arith, lent .elevations, most, paired-in file)) ∙ lent .elevations
 
   -- speakers that are offered are set up, and rings of their cells are reset
-  pub good-bank-set-up : (w : Wanted) (weights : List Float) → w .check .holds ≡ false → length weights ≡ w .speakers * w .channels → Arranging.refusalOf w (r .azimuths) (r .answer .rows) weights ≡ 0
-  good-bank-set-up w weights h long = set-up w (r .azimuths) (r .answer .rows) weights h few-rows eight-azimuths long
+  pub good-bank-set-up : (w : Wanted) (weights : List Float) → w .check .holds ≡ false → length weights ≡ w .speakers * w .channels → Arranging.refusalOf w (r .azimuths) (r .elevations) (r .answer .rows) weights ≡ 0
+  good-bank-set-up w weights h long = set-up w (r .azimuths) (r .elevations) (r .answer .rows) weights h few-rows eight-azimuths eight-elevations long
 
   pub good-bank-reset : (speakers : ℕ) (rings : List Float) → 0 < speakers → speakers ≤ 8 → length rings ≡ speakers * r .answer .length → resetRefusal speakers (r .answer .length) rings ≡ 0
   good-bank-reset speakers rings some few long =
@@ -198,28 +208,30 @@ module _ (file : List ℕ) (zs : List ℤ) (xs : List Float) (r : ReadOutcome) (
     plays : Playable (r .answer .rows) o → NoneRefused (record { rings = a .rings; desk = a .answer .desk }) cs
     plays p = never-refused (bankFound r) keeps-form o (subst (λ (n : ℕ). Playable n o) rows-are p) cs fs (record { rings = a .rings; desk = a .answer .desk }) (reset-fits d (o .answer .speakers) (r .answer .length) rings a rested z)
 
-    pub surround-never-refused : (l : Layout) → NewSurround l (r .azimuths) (r .answer .rows) weights given o → NoneRefused (record { rings = a .rings; desk = a .answer .desk }) cs
-    surround-never-refused l n = plays (surround-playable (r .azimuths) (r .answer .rows) weights given o eight e l n)
+    pub surround-never-refused : (l : Layout) → NewSurround l (r .azimuths) (r .elevations) (r .answer .rows) weights given o → NoneRefused (record { rings = a .rings; desk = a .answer .desk }) cs
+    surround-never-refused l n = plays (surround-playable (r .azimuths) (r .elevations) (r .answer .rows) weights given o eight e l n)
 
-    pub ambisonic-never-refused : (order : ℕ) → NewAmbisonic order (r .azimuths) (r .answer .rows) weights given o → NoneRefused (record { rings = a .rings; desk = a .answer .desk }) cs
-    ambisonic-never-refused order n = plays (ambisonic-playable (r .azimuths) (r .answer .rows) weights given o eight e order n)
+    pub ambisonic-never-refused : (order : ℕ) → NewAmbisonic order (r .azimuths) (r .elevations) (r .answer .rows) weights given o → NoneRefused (record { rings = a .rings; desk = a .answer .desk }) cs
+    ambisonic-never-refused order n = plays (ambisonic-playable (r .azimuths) (r .elevations) (r .answer .rows) weights given o eight e order n)
 
 -- what was promised of a set-up that is not refused, and of a reset
-arrangement-accepted : (w : Wanted) (zs : List ℤ) (n : ℕ) (weights : List Float) (given : List ℕ) (o : Arrangement) → Arranges w zs n weights given o → Arranging.refusalOf w zs n weights ≡ 0 → o .answer .refusal ≡ 0
+arrangement-accepted : (w : Wanted) (zs es : List ℤ) (n : ℕ) (weights : List Float) (given : List ℕ) (o : Arrangement) → Arranges w zs es n weights given o → Arranging.refusalOf w zs es n weights ≡ 0
+    → o .answer .refusal ≡ 0
 unfolding arrangement
-arrangement-accepted w zs n weights given o new e =
-    ap (λ (q : Arrangement). q .answer .refusal) (new .answer ∙ ap (λ (k : ℕ). arrangedBy k (w .whose) (w .speakers) (w .channels) zs n weights given) e)
+arrangement-accepted w zs es n weights given o new e =
+    ap (λ (q : Arrangement). q .answer .refusal) (new .answer ∙ ap (λ (k : ℕ). arrangedBy k (w .whose) (w .speakers) (w .channels) zs es n weights given) e)
 
 pub good-bank : NeverRefused
 good-bank =
     record {
-      reads = λ file b is zs xs eight most r reads. ap (λ (y : ReadOutcome). y .answer .refusal) (is-accepted file zs xs r reads eight most b is);
+      reads = λ file v b is zs es xs eight high most r reads.
+          ap (λ (y : ReadOutcome). y .answer .refusal) (is-accepted file zs es xs r reads (record { azimuths = eight; elevations = high; taps = most }) v b is);
       arranges = λ r k w offered weights given o long new.
-          arrangement-accepted w (r .azimuths) (r .answer .rows) weights given o new (good-bank-set-up (k .file) (k .zs) (k .xs) r (k .reads) (k .accepted) w weights offered long);
+          arrangement-accepted w (r .azimuths) (r .elevations) (r .answer .rows) weights given o new (good-bank-set-up (k .file) (k .zs) (k .es) (k .xs) r (k .reads) (k .accepted) w weights offered long);
       rests = λ r k d speakers rings a some few long rested.
-          reset-number d speakers (r .answer .length) rings a rested ∙ good-bank-reset (k .file) (k .zs) (k .xs) r (k .reads) (k .accepted) speakers rings some few long;
-      surround = λ r k l weights given o eight n e d rings t rested cs fs. surround-never-refused (k .file) (k .zs) (k .xs) r (k .reads) (k .accepted) weights given o eight e d rings
+          reset-number d speakers (r .answer .length) rings a rested ∙ good-bank-reset (k .file) (k .zs) (k .es) (k .xs) r (k .reads) (k .accepted) speakers rings some few long;
+      surround = λ r k l weights given o eight n e d rings t rested cs fs. surround-never-refused (k .file) (k .zs) (k .es) (k .xs) r (k .reads) (k .accepted) weights given o eight e d rings
           (record { answer = record { refusal = 0; desk = t .desk }; rings = t .rings }) rested refl cs fs l n;
-      ambisonic = λ r k order weights given o eight n e d rings t rested cs fs. ambisonic-never-refused (k .file) (k .zs) (k .xs) r (k .reads) (k .accepted) weights given o eight e d rings
+      ambisonic = λ r k order weights given o eight n e d rings t rested cs fs. ambisonic-never-refused (k .file) (k .zs) (k .es) (k .xs) r (k .reads) (k .accepted) weights given o eight e d rings
           (record { answer = record { refusal = 0; desk = t .desk }; rings = t .rings }) rested refl cs fs order n;
     }

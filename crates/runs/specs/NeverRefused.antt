@@ -51,8 +51,9 @@ NoneRefused t (c ∷ cs) = (refusalOf c t ≡ 0) × NoneRefused (next c t) cs
 pub record BankAccepted (r : ReadOutcome) : Type 0 where
   pub file : List ℕ
   pub zs : List ℤ
+  pub es : List ℤ
   pub xs : List Float
-  pub reads : Reads file zs xs r
+  pub reads : Reads file zs es xs r
   pub accepted : r .answer .refusal ≡ 0
 
 -- whatever `hrtf::reset` accepts and leaves: no call that is made of that bank and set-up is refused
@@ -62,16 +63,16 @@ AlwaysPlays r o =
     → (cs : List Call) → AllFitted (bankFound r) o cs → NoneRefused t cs
 
 pub record NeverRefused : Type 0 where
-  -- a file that keeps the form is read
-  pub reads : (file : List ℕ) (b : Form.Bank) → IsFile file b → (zs : List ℤ) (xs : List Float) → length zs ≡ 8 → length xs ≡ 8192 → (r : ReadOutcome) → Reads file zs xs r → r .answer .refusal ≡ 0
+  -- a file that keeps the form is read, in either version
+  pub reads : (file : List ℕ) (v : ℕ) (b : Form.Bank) → IsFile v file b → (zs es : List ℤ) (xs : List Float) → length zs ≡ 8 → length es ≡ 8 → length xs ≡ 8192 → (r : ReadOutcome) → Reads file zs es xs r → r .answer .refusal ≡ 0
   -- speakers that are offered are set up from it, weights of their number being lent
   pub arranges : (r : ReadOutcome) → BankAccepted r → (w : Wanted) → w .check .holds ≡ false → (weights : List Float) (given : List ℕ) (o : Arrangement) → length weights ≡ w .speakers * w .channels
-      → Arranges w (r .azimuths) (r .answer .rows) weights given o → o .answer .refusal ≡ 0
+      → Arranges w (r .azimuths) (r .elevations) (r .answer .rows) weights given o → o .answer .refusal ≡ 0
   -- rings of the cells that they need are reset
   pub rests : (r : ReadOutcome) → BankAccepted r → (d : Desk) (speakers : ℕ) (rings : List Float) (a : AfterReset) → 0 < speakers → speakers ≤ 8 → length rings ≡ speakers * r .answer .length
       → Resets d speakers (r .answer .length) rings a → a .answer .refusal ≡ 0
   -- and then every call is accepted
   pub surround : (r : ReadOutcome) → BankAccepted r → (l : Layout) (weights : List Float) (given : List ℕ) (o : Arrangement) → length given ≡ 8
-      → NewSurround l (r .azimuths) (r .answer .rows) weights given o → o .answer .refusal ≡ 0 → AlwaysPlays r o
+      → NewSurround l (r .azimuths) (r .elevations) (r .answer .rows) weights given o → o .answer .refusal ≡ 0 → AlwaysPlays r o
   pub ambisonic : (r : ReadOutcome) → BankAccepted r → (n : ℕ) (weights : List Float) (given : List ℕ) (o : Arrangement) → length given ≡ 8
-      → NewAmbisonic n (r .azimuths) (r .answer .rows) weights given o → o .answer .refusal ≡ 0 → AlwaysPlays r o
+      → NewAmbisonic n (r .azimuths) (r .elevations) (r .answer .rows) weights given o → o .answer .refusal ≡ 0 → AlwaysPlays r o

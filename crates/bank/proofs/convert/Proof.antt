@@ -7,7 +7,6 @@ use lib.Ieee.{Float, binary32, ofBits}
 use lib.IntN.{ℤ, pos}
 use lib.ListN.{length, replicate, length-replicate}
 use lib.Seq.{length-take-le}
-
 use Rattle.refusals.proofs.Ranges.{within-true}
 use Rattle.bank_form.specs.declared.Fault.{Fault}
 use Rattle.bank_form.specs.Bank.{Bank, rows}

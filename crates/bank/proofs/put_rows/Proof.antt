@@ -103,8 +103,10 @@ returns c =
     let done : turn .i ≡ length (args .azimuths .now) = omega arith in
     let all : take (turn .i) (pairs start) ≡ pairs start = ap (λ (k : ℕ). take k (pairs start)) (done ∙ sym (count start)) ∙ take-length (pairs start) in (
       turn .inv .1 ∙ ap (λ (ps : List Pair). placed (args .file .now) 9 (rowBytes (args .version) ps (args .l) (args .taps .now))) all,
-      (each-in IsI16 (pos 0) (args .azimuths .now) (omega arith) (λ j h. turn .inv .2 j (omega arith)),
-      each-in IsI16 (pos 0) (args .elevations .now) (omega arith) (λ j h. turn .inv .3 j (omega (arith, h, done, start .pre .2)))),
+      (
+        each-in IsI16 (pos 0) (args .azimuths .now) (omega arith) (λ j h. turn .inv .2 j (omega arith)),
+        each-in IsI16 (pos 0) (args .elevations .now) (omega arith) (λ j h. turn .inv .3 j (omega (arith, h, done, start .pre .2))),
+      ),
     )
 
 pub put-rows-spec : {M : Type 1} → statement M

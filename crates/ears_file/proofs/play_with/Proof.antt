@@ -13,12 +13,6 @@ use borrow.Author.Needs.{needs}
 use Rattle.ears_file.proofs.play_with.Statement.{statement}
 use Rattle.ears_file.proofs.play_with.Tie as tie
 
-slice-aggregate-new-surround : tie.Need-slice-aggregate-new-surround
-slice-aggregate-new-surround c = search needs
-
-new-surround-requires : tie.Need-new-surround-requires
-new-surround-requires c κs = tt
-
 -- where the speakers are set up, and where the function began
 abbrev start : tie.After-new-surround → tie.Start
 start c = c .before .before .before .before
@@ -75,8 +69,8 @@ pub play-with-spec : {M : Type 1} → statement M
 play-with-spec =
     tie.close
     (tie.spec
-    slice-aggregate-new-surround
-    new-surround-requires
+    (λ c. search needs)
+    (λ c κs. tt)
     mul-filters
     mul-filters-2
     mul-cells

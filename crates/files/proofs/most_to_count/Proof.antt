@@ -16,8 +16,8 @@ module _ (c : tie.After-is-within) where
   abbrev bytes : List ℕ
   bytes = c .before .before .before .args .bytes .now
 
-  version : c .is-within .result ≡ within 1 1 (fieldAt bytes 0 1)
-  version = c .is-within .ensures ∙ ap (within 1 1) (c .before .get .ensures .value)
+  version : c .is-within .result ≡ within 1 2 (fieldAt bytes 0 1)
+  version = c .is-within .ensures ∙ ap (within 1 2) (c .before .get .ensures .value)
 
 get-requires : tie.Need-get-requires
 get-requires c κs = search needs

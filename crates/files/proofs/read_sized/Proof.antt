@@ -7,35 +7,21 @@ use borrow.Author.Needs.{needs}
 use Rattle.files.proofs.read_sized.Statement.{statement}
 use Rattle.files.proofs.read_sized.Tie as tie
 
-least-requires : tie.Need-least-requires
-least-requires c κs = search needs
-
-slice-aggregate-read-start : tie.Need-slice-aggregate-read-start
-slice-aggregate-read-start c = sym (length-take-le _ _ (omega (arith, c .before .least .ensures)))
-
-read-start-requires : tie.Need-read-start-requires
-read-start-requires c κs = search needs
-
-same-length : tie.Need-same-length
-same-length c = search needs
-
-same-length-2 : tie.Need-same-length-2
-same-length-2 c = search needs
-
 returns : tie.Need-returns
 returns c =
-    let read = c .before .before .before in
-    let least = read .before .before .before .before in
+    let read = c .before .before .before .before in
+    let least = read .before .before .before .before .before in
     let known = least .before .before in
-    sized-reads _ _ _ _ _ _ (known .before .pre) (λ i. known .shared-slice-known .given i .fits) (least .least .ensures) (read .read-start .ensures)
+    sized-reads _ _ _ _ _ _ _ (known .before .pre) (λ i. known .shared-slice-known .given i .fits) (least .least .ensures) (read .read-start .ensures)
 
 pub read-sized-spec : {M : Type 1} → statement M
 read-sized-spec =
     tie.close
     (tie.spec
-    least-requires
-    slice-aggregate-read-start
-    read-start-requires
-    same-length
-    same-length-2
+    (λ c κs. search needs)
+    (λ c. sym (length-take-le _ _ (omega (arith, c .before .least .ensures))))
+    (λ c κs. search needs)
+    (λ c. search needs)
+    (λ c. search needs)
+    (λ c. search needs)
     returns)
