@@ -36,7 +36,7 @@ class Fault(Exception):
 
 
 def read(content):
-    """the rows of a bank's bytes; the first fault is raised"""
+    """the rows of a bank's bytes, of either version: azimuth, elevation, left and right taps; the first fault is raised"""
     place = 0
 
     def field(form, refusal, good):
@@ -49,14 +49,18 @@ def read(content):
             raise Fault(refusal, at)
         return value
 
-    field(">B", 13, lambda version: version == 1)
+    version = field(">B", 13, lambda v: v in (1, 2))
     field(">I", 14, lambda following: following == len(content) - 5)
     count = field(">H", 15, lambda n: 1 <= n <= 8)
     length = field(">H", 16, lambda n: 1 <= n <= 512)
     rows = []
     for _ in range(count):
-        azimuth = field(">h", 17, lambda a: -1799 <= a <= 1800 and a not in [row[0] for row in rows])
-        rows.append((azimuth, *([field(">f", 18, math.isfinite) for _ in range(length)] for _ in range(2))))
+        azimuth, elevation = field(">h", 17, lambda a: -1799 <= a <= 1800), 0
+        if version == 2:
+            elevation = field(">h", 20, lambda e: -900 <= e <= 900)
+        if (azimuth, elevation) in [row[:2] for row in rows]:
+            raise Fault(17, place - 2)
+        rows.append((azimuth, elevation, *([field(">f", 18, math.isfinite) for _ in range(length)] for _ in range(2))))
     if place < len(content):
         raise Fault(14, 1)
     return rows
@@ -69,13 +73,14 @@ def apart(a, b):
 
 
 def nearest(rows, speaker):
-    return min(range(len(rows)), key=lambda i: (apart(rows[i][0], speaker), i))
+    """the row of a speaker, which stands at elevation 0: the least elevation first"""
+    return min(range(len(rows)), key=lambda i: (abs(rows[i][1]), apart(rows[i][0], speaker), i))
 
 
 def play(rows, frames):
     """the ears of each frame, and how many frames are unsettled"""
-    length = len(rows[0][1])
-    taps = [rows[nearest(rows, s)][1:] for s in SPEAKERS]
+    length = len(rows[0][2])
+    taps = [rows[nearest(rows, s)][2:] for s in SPEAKERS]
     scale = 1.0 / math.sqrt(6.0)
     past, ears, unsettled = [], [], 0
     for frame in frames:

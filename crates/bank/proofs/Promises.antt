@@ -70,7 +70,7 @@ module _ (file : List ℕ) (zs es : List ℤ) (xs : List Float) where
 -- ---- writing
 
 module _ (b : Bank) (file : List ℕ) where
-  written-parts : writeOutcome b file .answer .refusal ≡ 0 → Lent b file × (writeFault 2 b .refusal ≡ 0)
+  pub written-parts : writeOutcome b file .answer .refusal ≡ 0 → Lent b file × (writeFault 2 b .refusal ≡ 0)
   unfolding writeOutcome
   written-parts e = written-lengths b file (sym (told-as 2 b file (writeRefusal b file)) ∙ e)
 

@@ -10,7 +10,7 @@ use lib.Signed.{mag}
 use lib.ListN.{length, take, drop, replicate, getD, length-replicate}
 use Rattle.lists.specs.Placed.{placed}
 use Rattle.big_endian.specs.Bytes.{bytesOf}
-use Rattle.bank_form.specs.Bank.{Bank, pairsOf, level}
+use Rattle.bank_form.specs.Bank.{Bank, pairsOf, valid, level}
 use Rattle.bank_form.specs.Encoding.{rowBytes, headBytes, encode}
 use Rattle.bank_form.specs.Fault.{versionIn, bankIn, wrong}
 use Rattle.bank_form.proofs.Exact.{version-of}
@@ -20,7 +20,7 @@ use Rattle.bank.specs.Writing.{WriteOutcome, writeRefused, writeOutcome,
 use Rattle.bank.specs.Conversion.{ToVersion1, ToVersion2}
 use Rattle.bank.specs.Drill.{oneRow, oneRowBytes, oneRowBytes2}
 use Rattle.bank.proofs.Answers.{Lists, lists-fit, start-lent, breaks}
-use Rattle.bank.proofs.Promises.{accepted-parts}
+use Rattle.bank.proofs.Promises.{accepted-parts, written-parts, written-is}
 use Rattle.bank.proofs.Drill.{drill-read, drill-cut, drill-written, drill-forward, drill-back}
 
 -- lists that hold something else than what the file would bring
@@ -117,6 +117,14 @@ no-rows-told-otherwise : (n at : ℕ) → ((n ≡ 15) × (at ≡ 5) → ⊥) →
 no-rows-told-otherwise n at other buffer h r =
     let e = r ∙ sym (no-rows-told buffer h) in
     other (ap (λ (w : WriteOutcome). w .answer .refusal) e, ap (λ (w : WriteOutcome). w .answer .offset) e)
+
+-- a bank that breaks the form is written
+broken-bank-written : (b : Bank) (buffer : List ℕ) (w : WriteOutcome) → Writes b buffer w → valid b ≡ false → w .answer .refusal ≡ 0 → ⊥
+broken-bank-written b buffer w r broken e = true≢false (sym (written-is b buffer w r e .0) ∙ broken)
+
+-- a buffer is taken that is longer than the file, or shorter
+other-buffer-taken : (b : Bank) (buffer : List ℕ) (w : WriteOutcome) → Writes b buffer w → (length buffer ≡ length (encode 2 b) → ⊥) → w .answer .refusal ≡ 0 → ⊥
+other-buffer-taken b buffer w r other e = other (written-parts b buffer (ap (λ (q : WriteOutcome). q .answer .refusal) (sym r) ∙ e) .0 .size)
 
 -- ---- conversions
 

@@ -1,4 +1,4 @@
--- x
+-- Laws that a caller's proof cites, worked files and banks, that no two answers meet one promise, and refuted answers.
 pub mod Lists
 pub mod Pairs
 pub mod Walk
@@ -11,6 +11,7 @@ pub mod FieldPlaces
 mod Left
 pub mod Order
 pub mod Start
-pub mod Worked
 pub mod Conversions
+pub mod Worked
 mod Unique
+mod Refuted

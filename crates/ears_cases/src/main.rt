@@ -107,13 +107,25 @@ fn banks() {
     bank_case(b"an empty bank", b"empty.line");
     bank_case(b"a folder for a bank", b"folder");
     bank_case(b"a WAV file for a bank", b"riff.wav");
+    bank_case(b"the largest bank of version 1", b"largest_1.bank");
     bank_case(b"the largest bank", b"largest.bank");
     bank_case(b"the largest bank with a byte more", b"too_long.bank");
 }
 
+// Versions: both are played, and the ears of one that is level are those of version 1.
+fn versions() {
+    bank_case(b"a bank of version 2, all of it level", b"version_2.bank");
+    bank_case(
+        b"a bank of version 2 with rows above and below",
+        b"raised.bank",
+    );
+    bank_case(b"a bank of version 3", b"version_3.bank");
+    bank_case(b"a bank of version 1 that says 2", b"said_2.bank");
+    bank_case(b"a bank of version 2 that says 1", b"said_1.bank");
+}
+
 // A fault in each field of the head, in byte order.
 fn bad_heads() {
-    bank_case(b"a bank of version 2", b"version_2.bank");
     bank_case(b"a bank that ends inside its length", b"three_bytes.bank");
     bank_case(b"a bank without its last byte", b"short.bank");
     bank_case(b"a bank with a byte more", b"long.bank");
@@ -126,6 +138,12 @@ fn bad_heads() {
 fn bad_rows() {
     bank_case(b"a bank with an azimuth of -1800", b"outside.bank");
     bank_case(b"a bank with an azimuth twice", b"twice.bank");
+    bank_case(b"a bank with an elevation of 901", b"above.bank");
+    bank_case(b"a bank with an elevation of -901", b"below.bank");
+    bank_case(
+        b"a bank with azimuth and elevation twice",
+        b"pair_twice.bank",
+    );
     bank_case(b"a bank with a tap that is not finite", b"infinite.bank");
     bank_case(
         b"a bank without its last byte, its length put right",
@@ -240,16 +258,20 @@ fn long_banks() {
     );
     long_bank_case(b"40000 bytes: one row, the length right", b"one_row.part");
     long_bank_case(
-        b"40000 bytes: nine rows, the length that of 32794",
-        b"as_32794.part",
+        b"40000 bytes: nine rows, the length that of 32810",
+        b"as_32810.part",
     );
     long_bank_case(
-        b"40000 bytes: nine rows, the length that of 32793",
-        b"as_32793.part",
+        b"40000 bytes: nine rows, the length that of 32809",
+        b"as_32809.part",
     );
     long_bank_case(
         b"40000 bytes: an azimuth twice, the length right",
         b"twice.part",
+    );
+    long_bank_case(
+        b"40000 bytes: a pair twice, the length right",
+        b"pair_twice.part",
     );
 }
 
@@ -277,6 +299,7 @@ fn bearings() {
 fn main() {
     worked();
     banks();
+    versions();
     bad_heads();
     bad_rows();
     long_banks();
