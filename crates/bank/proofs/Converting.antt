@@ -13,9 +13,9 @@ use Rattle.big_endian.specs.Bytes.{AreBytes}
 use Rattle.bank_form.specs.declared.Fault.{Fault}
 use Rattle.bank_form.specs.Bank.{Bank, level}
 use Rattle.bank_form.specs.Encoding.{encode}
-use Rattle.bank_form.specs.Fault.{versionIn, bankIn, sound, wrong, orElse, unless, headField, fault, faultOf}
+use Rattle.bank_form.specs.Fault.{versionIn, bankIn, sound, wrong, unless, headField, fault, faultOf}
 use Rattle.bank_form.specs.File.{Holds, IsFile}
-use Rattle.bank_form.proofs.Walk.{else-stop, else-on, else-none, field-none, unless-none, unless-passes, unless-fails}
+use Rattle.bank_form.proofs.Walk.{else-stop, else-on, else-none, field-none, unless-none}
 use Rattle.bank_form.proofs.Exact.{exactly, is-file, none-found}
 use Rattle.bank_form.proofs.Conversions.{conversion-fault, raised-exactly}
 use Rattle.bank.specs.Writing.{WriteOutcome, writeRefused, writeBank, writeAs}

@@ -6,21 +6,20 @@ use native.Mathlib.Nat.{mul-le-mul, mul-le-mul-right}
 use native.Mathlib.Numerals.{add-one}
 use native.Mathlib.Omega.{arith}
 use lib.Ieee.{Float, binary32, toBits}
-use lib.IntN.{ℤ, pos}
+use lib.IntN.{ℤ}
 use lib.ListN.{length, getD, take, drop, set, length-append, drop-of-length-le}
 use lib.Seq.{take-length, length-take-le}
 use mir.Syntax.{w16}
 use mir.Val.{ofZ}
 use Rattle.big_endian.specs.Bytes.{bytesOf}
-use Rattle.big_endian.specs.Fields.{signedAt, floatAt, withField}
+use Rattle.big_endian.specs.Fields.{floatAt, withField}
 use Rattle.big_endian.specs.Lists.{strided, floatBytes}
 use Rattle.big_endian.proofs.Bytes.{length-bytes}
 use Rattle.big_endian.proofs.Fields.{field-put}
 use Rattle.big_endian.proofs.Lists.{length-strided, part-more, length-fieldBytes}
-use Rattle.bank_form.specs.Bank.{Bank, Pair, pairsOf, rows}
+use Rattle.bank_form.specs.Bank.{Bank, Pair, rows}
 use Rattle.bank_form.specs.Version.{elevationBytes, rowSize, tapsAt}
 use Rattle.bank_form.specs.Encoding.{rowBytes, allRows, headBytes, encode}
-use Rattle.bank_form.proofs.Pairs.{length-pairs, pair-of}
 use Rattle.bank_form.proofs.RoundTrip.{Counted, length-elevation, length-head, length-all, length-rowBytes, oneRow, rowBytes-snoc}
 use Rattle.lists.specs.Placed.{placed}
 use Rattle.lists.proofs.Filling.{fill-more}

@@ -1,7 +1,7 @@
 -- Document 02, E6: "Version 1 files [..] turn into version 2 and back to the same bytes [..]. Version 2 turns back only if every elevation is 0, and exactly then. Each conversion gives 13 for the wrong
 -- version; an output not of the new file's length is 5, after 21. [..] 21 has elevations, in the backward conversion only, once the file is sound". Definitions only.
 use mathlib.Core.Path.{_≡_}
-use mathlib.Core.Bool.{Bool, true}
+use mathlib.Core.Bool.{true}
 use mathlib.Core.List.{List}
 use Prim.Native.Nat.{ℕ}
 use lib.Dec.{eqb}
@@ -11,8 +11,8 @@ use Rattle.bank_form.specs.declared.Fault.{Fault}
 use Rattle.bank_form.specs.Bank.{Bank, level}
 use Rattle.bank_form.specs.Version.{without}
 use Rattle.bank_form.specs.Encoding.{encode}
-use Rattle.bank_form.specs.Fault.{versionIn, bankIn, sound, orElse, unless, fault, isFile, faultOf, raisedFrom}
-use Rattle.bank_form.specs.File.{IsFile, Exactly}
+use Rattle.bank_form.specs.Fault.{bankIn, sound, orElse, unless, faultOf, raisedFrom}
+use Rattle.bank_form.specs.File.{IsFile}
 use Rattle.bank.specs.Writing.{WriteOutcome, writeAs}
 
 -- version 1 has no place for elevations

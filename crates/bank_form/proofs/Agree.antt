@@ -13,8 +13,7 @@ use Rattle.big_endian.specs.Lists.{strided}
 use Rattle.big_endian.proofs.Starts.{Agree, signed-agrees, float-agrees}
 use Rattle.lists.proofs.Tables.{tab-ext}
 use lib.Dec.{eqb}
-use lib.IntN.{ℤ}
-use Rattle.bank_form.specs.Bank.{Pair, isAzimuth, isElevation}
+use Rattle.bank_form.specs.Bank.{isAzimuth, isElevation}
 use Rattle.bank_form.specs.Version.{rowSize, tapsAt, elevationAt}
 use Rattle.bank_form.specs.Fault.{pairIn, pairsFrom, versionIn, rowsIn, lengthIn, field, tapsFault, isNew, elevationFault, rowFault, rowsFault, headField, headFault, faultIn}
 use Rattle.bank_form.specs.FaultLaws.{rowPlace}

@@ -13,8 +13,7 @@ use Rattle.big_endian.proofs.Fields.{lies-out, field-out}
 use Rattle.lists.specs.Tables.{every}
 use Rattle.refusals.specs.Ranges.{within}
 use Rattle.refusals.proofs.Ranges.{within-true, within-in, within-low, within-high}
-use Rattle.bank_form.specs.declared.Fault.{Fault}
-use Rattle.bank_form.specs.Bank.{Bank, isLevel}
+use Rattle.bank_form.specs.Bank.{isLevel}
 use Rattle.bank_form.specs.Version.{rowSize, pairAt}
 use Rattle.bank_form.specs.Fault.{versionIn, sound, wrong, orElse, unless, field, headField, fault, faultOf, raisedFrom}
 use Rattle.bank_form.specs.FaultLaws.{ConversionFault, RaisedExactly, RaisedPlace}

@@ -18,7 +18,7 @@ use Rattle.bank_form.specs.declared.Fault.{Fault}
 use Rattle.lists.specs.Tables.{every}
 use Rattle.refusals.specs.Ranges.{within, between}
 use Rattle.refusals.proofs.Ranges.{within-true}
-use Rattle.bank_form.specs.Bank.{Bank, Pair, rows, pairs, isAzimuth, isElevation, differ, isTap, isLevel, pairwise, valid, level}
+use Rattle.bank_form.specs.Bank.{Bank, rows, pairs, isAzimuth, isElevation, differ, isTap, isLevel, pairwise, valid, level}
 use Rattle.bank_form.specs.Version.{rowSize, elevationAt}
 use Rattle.bank_form.specs.Encoding.{encode}
 use Rattle.bank_form.specs.FitsFields.{IsI16, IsFloat, FitsFields}

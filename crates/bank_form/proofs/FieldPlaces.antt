@@ -10,7 +10,7 @@ use Rattle.bank_form.specs.declared.Fault.{Fault}
 use mathlib.Core.Logic.{_⊎_, inl, inr}
 use borrow.Author.Tests.{eq-eqb}
 use Rattle.big_endian.specs.Fields.{signedAt}
-use Rattle.bank_form.specs.Bank.{isAzimuth, isElevation}
+use Rattle.bank_form.specs.Bank.{isAzimuth}
 use Rattle.bank_form.specs.Version.{rowSize, tapsAt, pairAt}
 use Rattle.bank_form.specs.Fault.{versionIn, rowsIn, lengthIn, pairIn, sound, wrong, unless, field, tapsFault, isNew, elevationFault, rowFault, rowsFault, headField, headFault, faultIn}
 use Rattle.bank_form.specs.FaultLaws.{rowPlace, OutOfRange, Repeated, Steep, FieldPlace, FieldPlaces}

@@ -28,7 +28,7 @@ use Rattle.refusals.proofs.Ranges.{within-true}
 use Rattle.lists.specs.Tables.{every}
 use Rattle.lists.specs.Each.{Each}
 use Rattle.lists.proofs.Each.{each-drop, each-take}
-use Rattle.bank_form.specs.Bank.{Bank, Pair, rows, pairs, pairsOf, isTap, isLevel, level}
+use Rattle.bank_form.specs.Bank.{Bank, Pair, rows, pairs, pairsOf, isTap, isLevel}
 use Rattle.bank_form.specs.Version.{elevationSize, elevationBytes, elevationAt, rowSize, tapsAt}
 use Rattle.bank_form.specs.Encoding.{rowBytes, allRows, headBytes, encode}
 use Rattle.bank_form.specs.FitsFields.{IsI16, IsFloat, FitsFields}

@@ -21,10 +21,10 @@ use Rattle.lists.proofs.Every.{every-append}
 use Rattle.refusals.specs.Ranges.{within}
 use Rattle.refusals.proofs.Ranges.{within-in}
 use Rattle.bank_form.specs.declared.Fault.{Fault}
-use Rattle.bank_form.specs.Bank.{Bank, Pair, rows, pairs, pairsOf, isAzimuth, isElevation, differ, isTap, pairwise, valid}
+use Rattle.bank_form.specs.Bank.{Bank, Pair, rows, pairs, isAzimuth, isElevation, differ, isTap, pairwise, valid}
 use Rattle.bank_form.specs.Version.{rowSize, tapsAt, pairAt, elevationAt}
 use Rattle.bank_form.specs.Encoding.{encode}
-use Rattle.bank_form.specs.Fault.{pairIn, pairsFrom, rowTaps, tapsFrom, versionIn, rowsIn, lengthIn, bankIn, sound, orElse, unless, field, tapsFault, isNew, elevationFault, rowFault, rowsFault, headField, headFault, fault}
+use Rattle.bank_form.specs.Fault.{pairIn, pairsFrom, rowTaps, tapsFrom, versionIn, rowsIn, lengthIn, sound, orElse, unless, tapsFault, isNew, elevationFault, rowFault, rowsFault, headField, headFault, fault}
 use Rattle.bank_form.specs.WriteFault.{tapsWrong, rowsWrong, countsFault, writeFault}
 use Rattle.bank_form.specs.FaultLaws.{writerGives, WriterNumbers, WriterAsReader}
 use Rattle.bank_form.proofs.Lists.{exchange, taps-more}

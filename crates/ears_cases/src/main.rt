@@ -119,6 +119,7 @@ fn versions() {
         b"a bank of version 2 with rows above and below",
         b"raised.bank",
     );
+    bank_case(b"a bank of version 2 without a level row", b"no_level.bank");
     bank_case(b"a bank of version 3", b"version_3.bank");
     bank_case(b"a bank of version 1 that says 2", b"said_2.bank");
     bank_case(b"a bank of version 2 that says 1", b"said_1.bank");

@@ -1,5 +1,5 @@
 -- `bank::convert` meets its contract: what is read into the lists is the file's bank. Assumes nothing.
-use mathlib.Core.Path.{_≡_, refl, sym, ap, _∙_}
+use mathlib.Core.Path.{_≡_, sym, ap, _∙_}
 use mathlib.Core.List.{List}
 use Prim.Native.Nat.{ℕ, _*_, _≤_}
 use native.Mathlib.Omega.{arith}
@@ -14,7 +14,6 @@ use Rattle.bank_form.specs.Fault.{versionIn, bankIn, faultOf}
 use Rattle.bank_form.specs.File.{IsFile}
 use Rattle.bank_form.proofs.Exact.{Keeps, keeps, is-file}
 use Rattle.bank.specs.Reading.{ReadOutcome, readBank, bankFound}
-use Rattle.bank.specs.Writing.{WriteOutcome}
 use Rattle.bank.specs.Conversion.{convertedBank}
 use Rattle.bank.proofs.Answers.{Lists}
 use Rattle.bank.proofs.Converting.{version-told, version-right, right-version}

@@ -2,7 +2,7 @@
 use mathlib.Core.Path.{_≡_, refl, sym, ap, _∙_}
 use Prim.Native.Nat.{ℕ, _+_, _-_, _*_, _≤_}
 use native.Mathlib.Omega.{arith}
-use lib.IntN.{ℤ, pos}
+use lib.IntN.{pos}
 use lib.ListN.{length, drop, getD}
 use mir.Syntax.{w16}
 use mir.Val.{toZ, ofZ}
@@ -14,7 +14,6 @@ use Rattle.bank_form.specs.Fault.{raisedFrom}
 use Rattle.bank_form.proofs.Pairs.{level-zero, level-other}
 use Rattle.bank_form.proofs.Walk.{one-size, unless-passes, unless-fails}
 use Rattle.bank_form.proofs.Conversions.{raised-next, raised-end}
-use borrow.Author.Needs.{needs}
 use Rattle.bank.proofs.raised_fault.Statement.{statement}
 use Rattle.bank.proofs.raised_fault.Tie as tie
 

@@ -1,5 +1,5 @@
 -- `bank_check::is_pair` meets its contract. Assumes nothing.
-use mathlib.Core.Path.{_≡_, sym, ap, _∙_}
+use mathlib.Core.Path.{sym, ap, _∙_}
 use mathlib.Core.Bool.{not}
 use mir.Syntax.{w16}
 use mir.Val.{toZ, ofZ}

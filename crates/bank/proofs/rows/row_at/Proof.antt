@@ -1,12 +1,12 @@
--- `bank::row_at` meets its contract. Assumes nothing.
+-- `bank::rows::row_at` meets its contract. Assumes nothing.
 use mathlib.Core.Path.{_≡_, ap}
 use Prim.Native.Nat.{ℕ, _+_, _*_, _≤_}
 use native.Mathlib.Nat.{mul-le-mul-left}
 use native.Mathlib.Omega.{arith}
 use Rattle.bank_form.specs.Version.{rowSize}
 use Rattle.bank_form.proofs.Walk.{one-size}
-use Rattle.bank.proofs.row_at.Statement.{statement}
-use Rattle.bank.proofs.row_at.Tie as tie
+use Rattle.bank.proofs.rows.row_at.Statement.{statement}
+use Rattle.bank.proofs.rows.row_at.Tie as tie
 
 -- what a row's size is, and how far the rows reach
 module _ (c : tie.After-row-size) where

@@ -1,4 +1,4 @@
--- `bank::fill_rows` meets its contract. The azimuths, the elevations and the taps of the rows read so far stand at the start of their lists. Assumes nothing.
+-- `bank::rows::fill_rows` meets its contract. The azimuths, the elevations and the taps of the rows read so far stand at the start of their lists. Assumes nothing.
 use mathlib.Core.Path.{_≡_, sym, ap, _∙_}
 use Prim.Native.Nat.{ℕ, _+_, _-_, _*_, _≤_}
 use native.Mathlib.Omega.{arith}
@@ -14,8 +14,8 @@ use Rattle.bank_form.specs.Version.{elevationSize, elevationAt, rowSize, tapsAt
 use Rattle.bank_form.specs.Fault.{azimuthsFrom, elevationsFrom, tapsFrom}
 use Rattle.bank_form.proofs.Lists.{taps-none, length-taps}
 use Rattle.bank.proofs.Fill.{taps-reach, entry-more, row-more}
-use Rattle.bank.proofs.fill_rows.Statement.{statement}
-use Rattle.bank.proofs.fill_rows.Tie as tie
+use Rattle.bank.proofs.rows.fill_rows.Statement.{statement}
+use Rattle.bank.proofs.rows.fill_rows.Tie as tie
 
 abbrev Inv-loop : tie.InvT-loop
 Inv-loop file version l n azimuths₀ elevations₀ taps₀ pair i₀ azimuths elevations taps i =

@@ -1,4 +1,4 @@
--- `bank::put_taps` meets its contract. The taps put so far stand in the file from `at` on. Assumes nothing.
+-- `bank::rows::put_taps` meets its contract. The taps put so far stand in the file from `at` on. Assumes nothing.
 use mathlib.Core.Path.{_≡_, sym, ap, _∙_}
 use Prim.Native.Nat.{ℕ, _+_, _-_, _*_, _≤_}
 use native.Mathlib.Omega.{arith}
@@ -9,8 +9,8 @@ use Rattle.lists.specs.Placed.{placed}
 use Rattle.big_endian.specs.Fields.{withFloat, withField}
 use Rattle.big_endian.specs.Lists.{floatBytes}
 use Rattle.big_endian.proofs.Lists.{write-none, write-kept, write-more}
-use Rattle.bank.proofs.put_taps.Statement.{statement}
-use Rattle.bank.proofs.put_taps.Tie as tie
+use Rattle.bank.proofs.rows.put_taps.Statement.{statement}
+use Rattle.bank.proofs.rows.put_taps.Tie as tie
 
 abbrev Inv-loop : tie.InvT-loop
 Inv-loop taps q n file₀ at k₀ file k = (k ≤ n) × (file ≡ placed file₀ at (floatBytes (take k (drop q taps))))

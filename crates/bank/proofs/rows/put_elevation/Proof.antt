@@ -1,4 +1,4 @@
--- `bank::put_elevation` meets its contract. Assumes nothing.
+-- `bank::rows::put_elevation` meets its contract. Assumes nothing.
 use mathlib.Core.Path.{_≡_, sym, ap, _∙_}
 use Prim.Native.Nat.{_+_, _≤_}
 use native.Mathlib.Omega.{arith}
@@ -14,8 +14,8 @@ use Rattle.lists.specs.Placed.{placed}
 use Rattle.lists.proofs.Placed.{placed-none}
 use Rattle.bank_form.specs.Version.{elevationBytes}
 use borrow.Author.Needs.{needs}
-use Rattle.bank.proofs.put_elevation.Statement.{statement}
-use Rattle.bank.proofs.put_elevation.Tie as tie
+use Rattle.bank.proofs.rows.put_elevation.Statement.{statement}
+use Rattle.bank.proofs.rows.put_elevation.Tie as tie
 
 returns : tie.Need-returns
 unfolding elevationBytes

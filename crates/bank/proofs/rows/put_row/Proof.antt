@@ -1,11 +1,11 @@
--- `bank::put_row` meets its contract. Assumes nothing.
-use mathlib.Core.Path.{_≡_, refl, sym, ap, _∙_}
+-- `bank::rows::put_row` meets its contract. Assumes nothing.
+use mathlib.Core.Path.{_≡_, refl, ap, _∙_}
 use mathlib.Core.List.{_++_, append-assoc}
-use Prim.Native.Nat.{ℕ, _+_, _*_}
+use Prim.Native.Nat.{_+_, _*_}
 use native.Mathlib.Omega.{arith}
 use lib.Ieee.{binary32, toBits}
 use lib.IntN.{ℤ}
-use lib.ListN.{length, take, drop, length-append}
+use lib.ListN.{take, drop, length-append}
 use mir.Syntax.{w16}
 use mir.Val.{toZ, ofZ}
 use mir.Facts.{toZ-ofZ}
@@ -20,8 +20,8 @@ use Rattle.big_endian.proofs.Lists.{part-more, length-fieldBytes}
 use Rattle.bank_form.specs.Version.{elevationSize, elevationBytes}
 use Rattle.bank_form.proofs.RoundTrip.{length-elevation}
 use borrow.Author.Needs.{needs}
-use Rattle.bank.proofs.put_row.Statement.{statement}
-use Rattle.bank.proofs.put_row.Tie as tie
+use Rattle.bank.proofs.rows.put_row.Statement.{statement}
+use Rattle.bank.proofs.rows.put_row.Tie as tie
 
 returns : tie.Need-returns
 unfolding withSigned

@@ -1,8 +1,8 @@
--- `bank::put_head` meets its contract. Assumes nothing.
+-- `bank::rows::put_head` meets its contract. Assumes nothing.
 use Rattle.bank.proofs.Fill.{head-put}
 use borrow.Author.Needs.{needs}
-use Rattle.bank.proofs.put_head.Statement.{statement}
-use Rattle.bank.proofs.put_head.Tie as tie
+use Rattle.bank.proofs.rows.put_head.Statement.{statement}
+use Rattle.bank.proofs.rows.put_head.Tie as tie
 
 returns : tie.Need-returns
 returns c =

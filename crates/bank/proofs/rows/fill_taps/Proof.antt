@@ -1,4 +1,4 @@
--- `bank::fill_taps` meets its contract. The taps read so far stand in the list from q on. Assumes nothing.
+-- `bank::rows::fill_taps` meets its contract. The taps read so far stand in the list from q on. Assumes nothing.
 use mathlib.Core.Path.{_≡_, sym, ap, _∙_}
 use Prim.Native.Nat.{_+_, _-_, _*_, _≤_}
 use native.Mathlib.Omega.{arith}
@@ -8,8 +8,8 @@ use Rattle.lists.specs.Placed.{placed}
 use Rattle.big_endian.specs.Lists.{strided}
 use Rattle.lists.proofs.Filling.{fill-kept, fill-more}
 use Rattle.lists.proofs.Placed.{placed-none}
-use Rattle.bank.proofs.fill_taps.Statement.{statement}
-use Rattle.bank.proofs.fill_taps.Tie as tie
+use Rattle.bank.proofs.rows.fill_taps.Statement.{statement}
+use Rattle.bank.proofs.rows.fill_taps.Tie as tie
 
 abbrev Inv-loop : tie.InvT-loop
 Inv-loop file at n taps₀ q k₀ taps k = (k ≤ n) × (taps ≡ placed taps₀ q (strided (floatAt file) 4 at k))

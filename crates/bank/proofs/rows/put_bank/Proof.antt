@@ -1,10 +1,10 @@
--- `bank::put_bank` meets its contract. Assumes nothing.
+-- `bank::rows::put_bank` meets its contract. Assumes nothing.
 use native.Mathlib.Omega.{arith}
 use Rattle.bank_form.specs.Bank.{Bank}
 use Rattle.bank.proofs.Fill.{bank-put}
 use borrow.Author.Needs.{needs}
-use Rattle.bank.proofs.put_bank.Statement.{statement}
-use Rattle.bank.proofs.put_bank.Tie as tie
+use Rattle.bank.proofs.rows.put_bank.Statement.{statement}
+use Rattle.bank.proofs.rows.put_bank.Tie as tie
 
 returns : tie.Need-returns
 returns c =

@@ -1,4 +1,4 @@
--- `bank::put_rows` meets its contract. The rows put so far stand behind the head. Assumes nothing.
+-- `bank::rows::put_rows` meets its contract. The rows put so far stand behind the head. Assumes nothing.
 use mathlib.Core.Path.{_≡_, refl, sym, ap, _∙_}
 use mathlib.Core.List.{List}
 use Prim.Native.Nat.{ℕ, _-_, _*_, _≤_, _<_}
@@ -22,8 +22,8 @@ use Rattle.bank_form.proofs.RoundTrip.{oneRow}
 use Rattle.lists.proofs.Tables.{row-end}
 use Rattle.lists.proofs.Each.{each-in}
 use Rattle.bank.proofs.Fill.{no-rows, rows-more, length-rows}
-use Rattle.bank.proofs.put_rows.Statement.{statement}
-use Rattle.bank.proofs.put_rows.Tie as tie
+use Rattle.bank.proofs.rows.put_rows.Statement.{statement}
+use Rattle.bank.proofs.rows.put_rows.Tie as tie
 
 abbrev Inv-loop : tie.InvT-loop
 Inv-loop version azimuths elevations l taps file₀ i₀ file i =
