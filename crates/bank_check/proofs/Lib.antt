@@ -1,3 +1,4 @@
--- What the check of a start says of every file that begins so, and that no two answers meet one promise.
+-- What the check of a start says of every file that begins so, that no two answers meet one promise, and refuted answers.
 mod Starts
 mod Unique
+mod Refuted
