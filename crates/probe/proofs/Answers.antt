@@ -65,17 +65,25 @@ module _ (operation : ℕ) (args out : List ℕ) where
   unfolding answerOf
   of-replay e = rw e
 
+  pub of-conversions : 23 ≤ operation → operation ≤ 24 → Bank.answerOf operation args out ≡ answerOf operation args out
+  unfolding answerOf
+  of-conversions l h =
+      elim (decLt operation 24) [
+        | yes k ↦ let e : operation ≡ 23 = omega arith in rw e
+        | no k ↦ let e : operation ≡ 24 = omega arith in rw e
+      ]
+
   pub of-sum : operation ≡ 25 → Hrtf.answerOf operation args out ≡ answerOf operation args out
   unfolding answerOf
   of-sum e = rw e
 
-  pub of-none : (1 ≤ operation → 22 < operation) → (operation ≡ 25 → ⊥) → none out ≡ answerOf operation args out
+  pub of-none : (1 ≤ operation → 25 < operation) → none out ≡ answerOf operation args out
   unfolding answerOf
-  of-none far not-sum =
+  of-none far =
       elim (decLt operation 1) [
         | yes k ↦ let e : operation ≡ 0 = omega arith in rw e
         | no k ↦
-            let h : 22 < operation = far (omega arith) in
+            let h : 25 < operation = far (omega arith) in
             sym
             (rw (
               within-high 1 5 operation (omega arith) (omega arith),
@@ -88,6 +96,7 @@ module _ (operation : ℕ) (args out : List ℕ) where
               within-high 19 20 operation (omega arith) (omega arith),
               ne-eqb operation 21 (λ e. omega arith),
               ne-eqb operation 22 (λ e. omega arith),
-              ne-eqb operation 25 not-sum,
+              within-high 23 24 operation (omega arith) (omega arith),
+              ne-eqb operation 25 (λ e. omega arith),
             ))
       ]

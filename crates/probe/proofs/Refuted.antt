@@ -6,6 +6,6 @@ use Rattle.probe_answer.specs.Answers.{Draft, none}
 use Rattle.probe.specs.Answers.{answerOf}
 use Rattle.probe.proofs.Answers.{of-none}
 
--- an operation beyond 22 other than 25 is answered, or the lent bytes are put over
-unknown-answered : (operation : ℕ) (args out : List ℕ) (r : Draft) → r ≡ answerOf operation args out → 22 < operation → (operation ≡ 25 → ⊥) → (r ≡ none out → ⊥) → ⊥
-unknown-answered operation args out r is h not-sum other = other (is ∙ sym (of-none operation args out (λ l. h) not-sum))
+-- an operation beyond 25 is answered, or the lent bytes are put over
+unknown-answered : (operation : ℕ) (args out : List ℕ) (r : Draft) → r ≡ answerOf operation args out → 25 < operation → (r ≡ none out → ⊥) → ⊥
+unknown-answered operation args out r is h other = other (is ∙ sym (of-none operation args out (λ l. h)))

@@ -14,7 +14,7 @@ use Rattle.probe_setup.specs.Answers as Setup
 use Rattle.probe_script.specs.Answers as Script
 use Rattle.probe_replay.specs.Answers as Replay
 
--- "`probe_numbers` (1 to 5), `probe_bank` (6 to 8), `probe_gains` (9 to 13 and 15), `probe_planes` (14 and 16), `probe_hrtf` (17, 18 and 25), `probe_setup` (19 and 20),
+-- "`probe_numbers` (1 to 5), `probe_bank` (6 to 8, 23 and 24), `probe_gains` (9 to 13 and 15), `probe_planes` (14 and 16), `probe_hrtf` (17, 18 and 25), `probe_setup` (19 and 20),
 -- `probe_script` (21) and `probe_replay` (22)"; none to another one
 unfoldable pub answerOf : ℕ → List ℕ → List ℕ → Draft
 answerOf operation args out =
@@ -28,5 +28,6 @@ answerOf operation args out =
     (cond (within 19 20 operation) (Setup.answerOf operation args out)
     (cond (eqb operation 21) (Script.answerOf operation args out)
     (cond (eqb operation 22) (Replay.answerOf operation args out)
+    (cond (within 23 24 operation) (Bank.answerOf operation args out)
     (cond (eqb operation 25) (Hrtf.answerOf operation args out)
-    (none out)))))))))))
+    (none out))))))))))))

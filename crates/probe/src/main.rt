@@ -63,15 +63,16 @@ fn put_answer(operation: u8, args: &[u8], out: &mut [u8]) -> usize
         19 | 20 => probe_setup::answer(operation, args, out),
         21 => probe_script::answer(operation, args, out),
         22 => probe_replay::answer(operation, args, out),
+        23 | 24 => probe_bank::answer(operation, args, out),
         25 => probe_hrtf::answer(operation, args, out),
         _ => 0,
     }
 }
 
-// Whether there is such an operation. 23 and 24 are kept for document 02's E6.
+// Whether there is such an operation.
 fn is_operation(operation: u8) -> bool {
     match operation {
-        1..=22 | 25 => true,
+        1..=25 => true,
         _ => false,
     }
 }

@@ -3,12 +3,12 @@ ghost use mathlib.Core.Path.{_≡_};
 ghost use Prim.Native.Nat.{_<_, _≤_};
 ghost use lib.ListN.{length};
 ghost use mathlib.Core.Bool.{cond};
-ghost use Rattle.probe_bank.specs.Fillings.{azimuthFilling, tapFilling, byteFilling, filledWith, changedAt, countChanged};
+ghost use Rattle.probe_bank.specs.Fillings.{angleFilling, tapFilling, byteFilling, filledWith, changedAt, countChanged};
 
 // Place i of a list of numbers in two bytes is filled with 1000 + i.
 pub(crate) fn fill_i16s(list: &mut [i16])
     requires { ⌜ length (now list) ≤ 16 ⌝ }
-    ensures { λ _. ⌜ now (list .exit) ≡ filledWith azimuthFilling (length (now (list .entry))) ⌝ }
+    ensures { λ _. ⌜ now (list .exit) ≡ filledWith angleFilling (length (now (list .entry))) ⌝ }
 {
     let mut i = 0;
     while i < list.len() {

@@ -16,8 +16,14 @@ returns-3 : tie.Need-returns-3
 returns-3 c = chosen answerOf 8 (c .before .before .choose .ensures) (c .before .before .before .before .match .keys3)
 
 returns-4 : tie.Need-returns-4
-returns-4 c = of-none _ _ _ (c .match .rest .0 .0 .1) (c .match .rest .0 .1) (c .match .rest .1)
+returns-4 c = chosen answerOf 23 (c .before .before .turn .ensures) (c .before .before .before .before .match .keys4)
+
+returns-5 : tie.Need-returns-5
+returns-5 c = chosen answerOf 24 (c .before .before .turn2 .ensures) (c .before .before .before .before .match .keys5)
+
+returns-6 : tie.Need-returns-6
+returns-6 c = let others = c .match .rest in of-none _ _ _ (others .0 .0 .0 .0 .1) (others .0 .0 .0 .1) (others .0 .0 .1) (others .0 .1) (others .1)
 
 pub answer-spec : {M : Type 1} → statement M
 answer-spec =
-    tie.close (tie.spec (λ c κs. tt) (λ c κs. tt) (λ c κs. tt) (λ c. search needs) returns (λ c. search needs) returns-2 (λ c. search needs) returns-3 returns-4)
+    tie.close (tie.spec (λ c κs. tt) (λ c κs. tt) (λ c κs. tt) (λ c κs. tt) (λ c κs. tt) (λ c. search needs) returns (λ c. search needs) returns-2 (λ c. search needs) returns-3 (λ c. search needs) returns-4 (λ c. search needs) returns-5 returns-6)

@@ -1,25 +1,25 @@
 -- `probe_bank::choose` meets its contract. Assumes nothing.
-use mathlib.Core.Path.{ap, _∙_}
-use Prim.Native.Nat.{ℕ}
 use denote.Ref.{now}
 use lib.IntN.{pos}
-use Rattle.probe_bank.specs.Answers.{chooseFrom}
 use Rattle.probe_request.proofs.Requests.{lent-places, lent-length, new-few}
+use Rattle.probe_bank.proofs.Answering.{choice-lent}
 use borrow.Author.Needs.{needs}
 use Rattle.probe_bank.proofs.choose.Statement.{statement}
 use Rattle.probe_bank.proofs.choose.Tie as tie
 
-slice-aggregate-choose-from : tie.Need-slice-aggregate-choose-from
-slice-aggregate-choose-from c = lent-places _ _ _ (c .before .lent .ensures)
-
 choose-from-requires : tie.Need-choose-from-requires
-choose-from-requires c κs = new-few (pos 0) (c .before .before .lent .result) 16
+choose-from-requires c κs = (new-few (pos 0) (c .before .before .before .before .lent .result) 16, new-few (pos 0) (c .before .before .before .lent2 .result) 16)
 
 returns : tie.Need-returns
 returns c =
-    let args = c .before .before .before .before .before .before .before .before .before .args in
-    c .before .before .before .choose-from .ensures ∙ ap (λ (a : ℕ). chooseFrom (now (args .args)) a (now (args .out))) (lent-length _ _ _ (c .before .before .before .before .before .before .lent .ensures))
+    let after-choose-from = c .before .before .before .before in
+    let after-lent2 = after-choose-from .before .before .before .before in
+    let after-lent = after-lent2 .before in
+    let args = after-lent .before .before .before .args in
+    choice-lent (now (args .args)) (now (args .out)) _ _ _ (lent-length _ _ _ (after-lent .lent .ensures)) (lent-length _ _ _ (after-lent2 .lent2 .ensures)) (after-choose-from .choose-from .ensures)
 
 pub choose-spec : {M : Type 1} → statement M
 choose-spec =
-    tie.close (tie.spec (λ c κs. tt) (λ c. search needs) slice-aggregate-choose-from choose-from-requires (λ c. search needs) returns)
+    tie.close
+    (tie.spec (λ c κs. tt) (λ c κs. tt) (λ c. search needs) (λ c. lent-places _ _ _ (c .before .before .lent .ensures)) (λ c. search needs)
+    (λ c. lent-places _ _ _ (c .before .before .lent2 .ensures)) choose-from-requires (λ c. search needs) returns)

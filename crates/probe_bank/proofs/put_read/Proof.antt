@@ -15,7 +15,7 @@ returns c =
     let after-first = after-put .before .before .before .before in
     let args = after-first .before .before .before .before .args in
     let counts = behind _ (behind _ (after-first .put-refusal-and-number .ensures) (after-put .put .ensures)) (after-put2 .put2 .ensures) in
-    parts-behind (λ (d : Draft). thenLists d (args .shown) (now (args .azimuths)) (now (args .taps))) counts (c .before .before .put-lists .ensures)
+    parts-behind (λ (d : Draft). thenLists d (args .shown) (now (args .azimuths)) (now (args .elevations)) (now (args .taps))) counts (c .before .before .put-lists .ensures)
 
 pub put-read-spec : {M : Type 1} → statement M
 put-read-spec =
