@@ -32,7 +32,7 @@ def f32(x):
 
 
 class Fault(Exception):
-    """a number of document 02, E2, and the place of the field at fault"""
+    """a number of document 02, E2 and E6, and the place of the field at fault"""
 
 
 def read(content):

@@ -1,7 +1,8 @@
 -- What a conversion answers at each of its tests, and what its answer says of the file (`converts-2`, `converts-1`). Assumes nothing.
 use mathlib.Core.Path.{_≡_, refl, sym, ap, subst, _∙_}
-use mathlib.Core.Bool.{true}
+use mathlib.Core.Bool.{true, false, true≢false}
 use mathlib.Core.List.{List}
+use mathlib.Core.Logic.{⊎-elim}
 use Prim.Native.Nat.{ℕ}
 use native.Mathlib.Omega.{arith}
 use borrow.Author.Tests.{eq-eqb, ne-eqb, eqb-true}
@@ -13,31 +14,31 @@ use Rattle.big_endian.specs.Bytes.{AreBytes}
 use Rattle.bank_form.specs.declared.Fault.{Fault}
 use Rattle.bank_form.specs.Bank.{Bank, level}
 use Rattle.bank_form.specs.Encoding.{encode}
-use Rattle.bank_form.specs.Fault.{versionIn, bankIn, sound, wrong, unless, headField, fault, faultOf}
+use Rattle.bank_form.specs.Fault.{versionIn, bankIn, sound, wrong, orElse, unless, headField, fault, faultOf}
 use Rattle.bank_form.specs.File.{Holds, IsFile}
-use Rattle.bank_form.proofs.Walk.{else-stop, else-on, else-none, field-none, unless-none}
+use Rattle.bank_form.proofs.Walk.{else-assoc, else-stop, else-on, else-none, field-none, unless-none}
 use Rattle.bank_form.proofs.Exact.{exactly, is-file, none-found}
-use Rattle.bank_form.proofs.Conversions.{conversion-fault, raised-exactly}
+use Rattle.bank_form.proofs.Conversions.{conversion-fault, raised-exactly, raised-place}
 use Rattle.bank.specs.Writing.{WriteOutcome, writeRefused, writeBank, writeAs}
 use Rattle.bank.specs.Conversion.{raisedFor, outputFault, convertedBank, conversionRefusal, conversion, Converts, ToVersion1, ToVersion2}
 use Rattle.bank.proofs.Answers.{refused-as, written-as, told-as}
 
 -- ---- a bank into an output
 
-module _ (v : ℕ) (b : Bank) (out : List ℕ) where
-  -- what elevations are told by
-  abbrev pub raised : Fault
-  raised = raisedFor v (b .length) (b .elevations)
+-- what elevations are told by
+abbrev pub raised : ℕ → Bank → Fault
+raised v b = raisedFor v (b .length) (b .elevations)
 
+module _ (v : ℕ) (b : Bank) (out : List ℕ) where
   abbrev sized : Fault
   sized = unless (eqb (length out) (length (encode v b))) 5 0
 
-  pub raised-told : (r : Fault) → r ≡ raised → (r .refusal ≡ 0 → ⊥) → writeRefused r out ≡ convertedBank v b out
-  raised-told r e bad = refused-as v b out (outputFault v b out) r (sym (else-stop raised sized r e bad)) bad
+  pub raised-told : (r : Fault) → r ≡ raised v b → (r .refusal ≡ 0 → ⊥) → writeRefused r out ≡ convertedBank v b out
+  raised-told r e bad = refused-as v b out (outputFault v b out) r (sym (else-stop (raised v b) sized r e bad)) bad
 
-  module _ (none : raised .refusal ≡ 0) where
+  module _ (none : raised v b .refusal ≡ 0) where
     past : outputFault v b out ≡ sized
-    past = else-on raised sized raised refl none
+    past = else-on (raised v b) sized (raised v b) refl none
 
     pub other-length : (length out ≡ length (encode v b) → ⊥) → writeRefused (wrong 5 0) out ≡ convertedBank v b out
     other-length h = refused-as v b out (outputFault v b out) (wrong 5 0) (past ∙ rw (ne-eqb (length out) (length (encode v b)) h)) (λ z. omega (arith, z))
@@ -49,9 +50,9 @@ module _ (v : ℕ) (b : Bank) (out : List ℕ) where
     right-length h = written-as v b out (outputFault v b out) (ap (λ (f : Fault). f .refusal) (right h))
 
   -- an output without fault: no elevations that have no place, and the length of the new file
-  output-fits : outputFault v b out .refusal ≡ 0 → (raised .refusal ≡ 0) × (length out ≡ length (encode v b))
+  output-fits : outputFault v b out .refusal ≡ 0 → (raised v b .refusal ≡ 0) × (length out ≡ length (encode v b))
   output-fits e =
-      let both = else-none raised sized e in
+      let both = else-none (raised v b) sized e in
       (both .0, eqb-true (length out) (length (encode v b)) (unless-none (eqb (length out) (length (encode v b))) 5 0 (omega arith) (both .1)))
 
 -- ---- a file into an output
@@ -81,20 +82,22 @@ module _ (from to : ℕ) (file out : List ℕ) where
     refusal-is = ap (λ (w : WriteOutcome). w .answer .refusal) made ∙ told-as to (bankIn file) out (conversionRefusal from to file out)
 
     -- what is turned is a file of the one version, and its bank is put in the other
-    pub turned-is : o .answer .refusal ≡ 0 → IsFile from file (bankIn file) × (raised to (bankIn file) out .refusal ≡ 0) × (o ≡ writeBank to (bankIn file))
+    pub turned-is : o .answer .refusal ≡ 0 → IsFile from file (bankIn file) × (raised to (bankIn file) .refusal ≡ 0) × (o ≡ writeBank to (bankIn file)) × (length out ≡ length (o .file))
     unfolding conversionRefusal
     turned-is e =
         let both = else-none (faultOf from file) (outputFault to (bankIn file) out) (sym refusal-is ∙ e) in
         let version = right-version (both .0) in
         let good = exactly file bytes .sound (is-file file (version .1)) in
-        let fits = output-fits to (bankIn file) out (both .1) in (
+        let fits = output-fits to (bankIn file) out (both .1) in
+        let whole = made ∙ sym (version-right (both .0)) ∙ sym (right-length to (bankIn file) out (fits .0) (fits .1)) in (
           subst (λ (v : ℕ). IsFile v file (bankIn file)) (version .0) good,
           fits .0,
-          made ∙ sym (version-right (both .0)) ∙ sym (right-length to (bankIn file) out (fits .0) (fits .1)),
+          whole,
+          fits .1 ∙ sym (ap (λ (w : WriteOutcome). length (w .file)) whole),
         )
 
     -- and each file of that version is turned whose bank the other holds, into an output of the new file's length
-    pub is-turned : (b : Bank) → IsFile from file b → raised to b out .refusal ≡ 0 → length out ≡ length (encode to b) → o ≡ writeBank to b
+    pub is-turned : (b : Bank) → IsFile from file b → raised to b .refusal ≡ 0 → length out ≡ length (encode to b) → o ≡ writeBank to b
     is-turned b f none long =
         let whole = exactly file bytes .complete from b f in
         let same = whole .2 in
@@ -112,25 +115,48 @@ converts-2 file out o bytes made = record {
   outcome = made;
   turned = λ e.
       let t = turned-is 1 2 file out bytes o made e in
-      (t .0, record { holds = holds-2 (bankIn file); keeps = t .0 .keeps; bytes = ap (λ (w : WriteOutcome). w .file) (sym (t .2)) });
-  accepted = λ b f long. let t = is-turned 1 2 file out bytes o made b f refl long in (ap (λ (w : WriteOutcome). w .answer .refusal) t, ap (λ (w : WriteOutcome). w .file) t);
+      (t .0, record { holds = holds-2 (bankIn file); keeps = t .0 .keeps; bytes = ap (λ (w : WriteOutcome). w .file) (sym (t .2)) }, t .3);
+  accepted = λ b f long. is-turned 1 2 file out bytes o made b f refl long;
 }
 
 -- no elevations are told exactly of a level bank
-level-if : (b : Bank) (out : List ℕ) → raised 1 b out .refusal ≡ 0 → level b ≡ true
-level-if b out e = sym (raised-exactly b) ∙ eq-eqb (raised 1 b out .refusal) 0 e
+level-if : (b : Bank) → raised 1 b .refusal ≡ 0 → level b ≡ true
+level-if b e = sym (raised-exactly b) ∙ eq-eqb (raised 1 b .refusal) 0 e
 
-none-if : (b : Bank) (out : List ℕ) → level b ≡ true → raised 1 b out .refusal ≡ 0
-none-if b out e = eqb-true (raised 1 b out .refusal) 0 (raised-exactly b ∙ e)
+none-if : (b : Bank) → level b ≡ true → raised 1 b .refusal ≡ 0
+none-if b e = eqb-true (raised 1 b .refusal) 0 (raised-exactly b ∙ e)
 
 pub converts-1 : (file out : List ℕ) (o : WriteOutcome) → AreBytes file → Converts 2 1 file out o → ToVersion1 file out o
 converts-1 file out o bytes made = record {
   outcome = made;
   turned = λ e.
       let t = turned-is 2 1 file out bytes o made e in
-      let flat = level-if (bankIn file) out (t .1) in
-      (flat, t .0, record { holds = record { known = refl; flat = λ one. flat }; keeps = t .0 .keeps; bytes = ap (λ (w : WriteOutcome). w .file) (sym (t .2)) });
-  accepted = λ b f flat long.
-      let t = is-turned 2 1 file out bytes o made b f (none-if b out flat) long in
-      (ap (λ (w : WriteOutcome). w .answer .refusal) t, ap (λ (w : WriteOutcome). w .file) t);
+      let flat = level-if (bankIn file) (t .1) in
+      (flat, t .0, record { holds = record { known = refl; flat = λ one. flat }; keeps = t .0 .keeps; bytes = ap (λ (w : WriteOutcome). w .file) (sym (t .2)) }, t .3);
+  accepted = λ b f flat long. is-turned 2 1 file out bytes o made b f (none-if b flat) long;
 }
+
+-- ---- what is told in every output
+
+-- forward the fault of the file
+pub forward-told : (file out : List ℕ) (f : Fault) → faultOf 1 file ≡ f → (f .refusal ≡ 0 → ⊥) → conversionRefusal 1 2 file out ≡ f
+unfolding conversionRefusal
+forward-told file out f e bad = sym (else-stop (faultOf 1 file) (outputFault 2 (bankIn file) out) f (sym e) bad)
+
+-- back that, and then elevations
+pub back-told : (file out : List ℕ) (f : Fault) → orElse (faultOf 2 file) (raised 1 (bankIn file)) ≡ f → (f .refusal ≡ 0 → ⊥) → conversionRefusal 2 1 file out ≡ f
+unfolding conversionRefusal
+back-told file out f e bad =
+    sym (else-assoc (faultOf 2 file) (raised 1 (bankIn file)) (sized 1 (bankIn file) out))
+    ∙ sym (else-stop (orElse (faultOf 2 file) (raised 1 (bankIn file))) (sized 1 (bankIn file) out) f (sym e) bad)
+
+-- a bank with elevations is told by 21
+pub raised-first : (file out : List ℕ) (o : WriteOutcome) (b : Bank) → AreBytes file → Converts 2 1 file out o → IsFile 2 file b → level b ≡ false → o .answer .refusal ≡ 21
+raised-first file out o b bytes made f up =
+    let whole = exactly file bytes .complete 2 b f in
+    let none = ap (λ (g : Fault). g .refusal) (conversion-fault .right 2 file (f .holds .known) (whole .1)) ∙ none-found file (whole .0) in
+    ⊎-elim (λ s. absurd (true≢false (sym (ap (λ (g : Fault). eqb (g .refusal) 0) s) ∙ raised-exactly b ∙ up)))
+    (λ r.
+    let told = else-on (faultOf 2 file) (raised 1 (bankIn file)) (faultOf 2 file) refl none ∙ ap (raised 1) (whole .2) ∙ r .1 .told in
+    refusal-is 2 1 file out bytes o made ∙ ap (λ (g : Fault). g .refusal) (back-told file out _ told (λ z. omega (arith, z))))
+    (raised-place b)

@@ -132,17 +132,19 @@ module _ (file : List ℕ) (zs es : List ℤ) (xs : List Float) (o : ReadOutcome
       let bytes = turns .turned g .1 .bytes in
       ap (λ (y : WriteOutcome). y .file) (write-of-read buffer w (h ∙ ap length (sym bytes)) f) ∙ bytes
 
+-- an output that holds a file, and how many bytes that has
+abbrev pub handed : List ℕ → WriteOutcome
+handed file = record { answer = record { refusal = 0; offset = 0; bytes = length file }; file = file }
+
 -- "turn into version 2 and back to the same bytes"
 pub back-of-forward : (file out : List ℕ) (t : WriteOutcome) → ToVersion2 file out t → t .answer .refusal ≡ 0 → (back : List ℕ) (u : WriteOutcome) → length back ≡ length file
-    → ToVersion1 (t .file) back u → (u .answer .refusal ≡ 0) × (u .file ≡ file)
+    → ToVersion1 (t .file) back u → u ≡ handed file
 back-of-forward file out t forward e back u h turns =
     let f = forward .turned e in
-    let a = turns .accepted (bankIn file) (f .1) (f .0 .holds .flat refl) (h ∙ ap length (sym (f .0 .bytes))) in
-    (a .0, a .1 ∙ f .0 .bytes)
+    turns .accepted (bankIn file) (f .1) (f .0 .holds .flat refl) (h ∙ ap length (sym (f .0 .bytes))) ∙ ap handed (f .0 .bytes)
 
 pub forward-of-back : (file out : List ℕ) (t : WriteOutcome) → ToVersion1 file out t → t .answer .refusal ≡ 0 → (forth : List ℕ) (u : WriteOutcome) → length forth ≡ length file
-    → ToVersion2 (t .file) forth u → (u .answer .refusal ≡ 0) × (u .file ≡ file)
+    → ToVersion2 (t .file) forth u → u ≡ handed file
 forward-of-back file out t back e forth u h turns =
     let f = back .turned e in
-    let a = turns .accepted (bankIn file) (f .2) (h ∙ ap length (sym (f .1 .bytes))) in
-    (a .0, a .1 ∙ f .1 .bytes)
+    turns .accepted (bankIn file) (f .2) (h ∙ ap length (sym (f .1 .bytes))) ∙ ap handed (f .1 .bytes)

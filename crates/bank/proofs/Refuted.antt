@@ -9,10 +9,11 @@ use lib.IntN.{ℤ, pos}
 use lib.Signed.{mag}
 use lib.ListN.{length, take, drop, replicate, getD, length-replicate}
 use Rattle.lists.specs.Placed.{placed}
-use Rattle.big_endian.specs.Bytes.{bytesOf}
+use Rattle.big_endian.specs.Bytes.{bytesOf, AreBytes}
 use Rattle.bank_form.specs.Bank.{Bank, pairsOf, valid, level}
 use Rattle.bank_form.specs.Encoding.{rowBytes, headBytes, encode}
 use Rattle.bank_form.specs.Fault.{versionIn, bankIn, wrong}
+use Rattle.bank_form.specs.File.{IsFile}
 use Rattle.bank_form.proofs.Exact.{version-of}
 use Rattle.bank_form.proofs.Worked.{written-no-rows}
 use Rattle.bank.specs.Reading.{ReadOutcome, readRefused, readBank, Reads, ReadsStart}
@@ -20,6 +21,7 @@ use Rattle.bank.specs.Writing.{WriteOutcome, writeRefused, writeOutcome,
 use Rattle.bank.specs.Conversion.{ToVersion1, ToVersion2}
 use Rattle.bank.specs.Drill.{oneRow, oneRowBytes, oneRowBytes2}
 use Rattle.bank.proofs.Answers.{Lists, lists-fit, start-lent, breaks}
+use Rattle.bank.proofs.Converting.{raised-first}
 use Rattle.bank.proofs.Promises.{accepted-parts, written-parts, written-is}
 use Rattle.bank.proofs.Drill.{drill-read, drill-cut, drill-written, drill-forward, drill-back}
 
@@ -105,10 +107,10 @@ writes-nothing r =
     let z : _≡_ {A = ℕ} 0 2 = ap (λ (w : WriteOutcome). getD (w .file) 0 0) (drill-written (replicate 21 0) _ (length-replicate {A = ℕ} 21 0) r) in
     omega arith
 
--- the bytes of version 1 are written, into a buffer of the length of either version
-version-1-written : (buffer : List ℕ) → length buffer ≡ 21 → Writes oneRow buffer (record { answer = record { refusal = 0; offset = 0; bytes = 19 }; file = oneRowBytes }) → ⊥
-version-1-written buffer h r =
-    let z : _≡_ {A = ℕ} 1 2 = ap (λ (w : WriteOutcome). getD (w .file) 0 0) (drill-written buffer _ h r) in
+-- a file of version 1 is written
+version-1-written : (buffer : List ℕ) (w : WriteOutcome) → length buffer ≡ 21 → Writes oneRow buffer w → getD (w .file) 0 0 ≡ 1 → ⊥
+version-1-written buffer w h r e =
+    let z : _≡_ {A = ℕ} 1 2 = sym e ∙ ap (λ (q : WriteOutcome). getD (q .file) 0 0) (drill-written buffer w h r) in
     omega arith
 
 -- a bank of no rows, with an L that is too large, is told otherwise than by 15 at 5: by its L, which would stand behind the row count, or at another place
@@ -128,23 +130,23 @@ other-buffer-taken b buffer w r other e = other (written-parts b buffer (ap (λ 
 
 -- ---- conversions
 
--- a file is handed over as it is: version 1 for version 2, and version 2 for version 1
-forward-unchanged : (out : List ℕ) (w : WriteOutcome) → length out ≡ 21 → ToVersion2 oneRowBytes out w → w .file ≡ oneRowBytes → ⊥
-forward-unchanged out w h t e =
-    let z : _≡_ {A = ℕ} 1 2 = ap (λ (s : List ℕ). getD s 0 0) (sym e ∙ drill-forward out w h t .1) in
+-- what is made has the version that the file had
+forward-left-at-1 : (out : List ℕ) (w : WriteOutcome) → length out ≡ 21 → ToVersion2 oneRowBytes out w → getD (w .file) 0 0 ≡ 1 → ⊥
+forward-left-at-1 out w h t e =
+    let z : _≡_ {A = ℕ} 1 2 = sym e ∙ ap (λ (q : WriteOutcome). getD (q .file) 0 0) (drill-forward out w h t) in
     omega arith
 
-back-unchanged : (out : List ℕ) (w : WriteOutcome) → length out ≡ 19 → ToVersion1 oneRowBytes2 out w → w .file ≡ oneRowBytes2 → ⊥
-back-unchanged out w h t e =
-    let z : _≡_ {A = ℕ} 2 1 = ap (λ (s : List ℕ). getD s 0 0) (sym e ∙ drill-back out w h t .1) in
+back-left-at-2 : (out : List ℕ) (w : WriteOutcome) → length out ≡ 19 → ToVersion1 oneRowBytes2 out w → getD (w .file) 0 0 ≡ 2 → ⊥
+back-left-at-2 out w h t e =
+    let z : _≡_ {A = ℕ} 2 1 = sym e ∙ ap (λ (q : WriteOutcome). getD (q .file) 0 0) (drill-back out w h t) in
     omega arith
 
 -- every file is refused
 forward-refuses-always : (out : List ℕ) (w : WriteOutcome) → length out ≡ 21 → ToVersion2 oneRowBytes out w → (w .answer .refusal ≡ 0 → ⊥) → ⊥
-forward-refuses-always out w h t refuses = refuses (drill-forward out w h t .0)
+forward-refuses-always out w h t refuses = refuses (ap (λ (q : WriteOutcome). q .answer .refusal) (drill-forward out w h t))
 
 back-refuses-always : (out : List ℕ) (w : WriteOutcome) → length out ≡ 19 → ToVersion1 oneRowBytes2 out w → (w .answer .refusal ≡ 0 → ⊥) → ⊥
-back-refuses-always out w h t refuses = refuses (drill-back out w h t .0)
+back-refuses-always out w h t refuses = refuses (ap (λ (q : WriteOutcome). q .answer .refusal) (drill-back out w h t))
 
 -- a file with elevations is turned back, these being dropped
 elevations-dropped : (file out : List ℕ) (w : WriteOutcome) → ToVersion1 file out w → level (bankIn file) ≡ false → w .answer .refusal ≡ 0 → ⊥
@@ -159,4 +161,17 @@ version-2-taken file out w t two e =
 version-1-taken : (file out : List ℕ) (w : WriteOutcome) → ToVersion1 file out w → versionIn file ≡ 1 → w .answer .refusal ≡ 0 → ⊥
 version-1-taken file out w t one e =
     let z : _≡_ {A = ℕ} 1 2 = sym one ∙ version-of 2 file (bankIn file) (t .turned e .1) in
+    omega arith
+
+-- an output is taken that has another length than what is made
+other-output-taken-2 : (file out : List ℕ) (w : WriteOutcome) → ToVersion2 file out w → (length out ≡ length (w .file) → ⊥) → w .answer .refusal ≡ 0 → ⊥
+other-output-taken-2 file out w t other e = other (t .turned e .2)
+
+other-output-taken-1 : (file out : List ℕ) (w : WriteOutcome) → ToVersion1 file out w → (length out ≡ length (w .file) → ⊥) → w .answer .refusal ≡ 0 → ⊥
+other-output-taken-1 file out w t other e = other (t .turned e .3)
+
+-- of a bank with elevations the length of the output is told first
+length-before-elevations : (file out : List ℕ) (w : WriteOutcome) (b : Bank) → AreBytes file → ToVersion1 file out w → IsFile 2 file b → level b ≡ false → w .answer .refusal ≡ 5 → ⊥
+length-before-elevations file out w b bytes t f up e =
+    let z : _≡_ {A = ℕ} 5 21 = sym e ∙ raised-first file out w b bytes (t .outcome) f up in
     omega arith

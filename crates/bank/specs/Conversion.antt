@@ -13,7 +13,7 @@ use Rattle.bank_form.specs.Version.{without}
 use Rattle.bank_form.specs.Encoding.{encode}
 use Rattle.bank_form.specs.Fault.{bankIn, sound, orElse, unless, faultOf, raisedFrom}
 use Rattle.bank_form.specs.File.{IsFile}
-use Rattle.bank.specs.Writing.{WriteOutcome, writeAs}
+use Rattle.bank.specs.Writing.{WriteOutcome, writeBank, writeAs}
 
 -- version 1 has no place for elevations
 abbrev pub raisedFor : ℕ → ℕ → List ℤ → Fault
@@ -41,11 +41,11 @@ Converts from to file out o = o ≡ conversion from to file out
 -- accepted exactly if the file is one of version 1 and the output has the length of the new file; then that is the file of the same bank
 pub record ToVersion2 (file out : List ℕ) (o : WriteOutcome) : Type 0 where
   pub outcome : Converts 1 2 file out o
-  pub turned : o .answer .refusal ≡ 0 → IsFile 1 file (bankIn file) × IsFile 2 (o .file) (bankIn file)
-  pub accepted : (b : Bank) → IsFile 1 file b → length out ≡ length (encode 2 b) → (o .answer .refusal ≡ 0) × (o .file ≡ encode 2 b)
+  pub turned : o .answer .refusal ≡ 0 → IsFile 1 file (bankIn file) × IsFile 2 (o .file) (bankIn file) × (length out ≡ length (o .file))
+  pub accepted : (b : Bank) → IsFile 1 file b → length out ≡ length (encode 2 b) → o ≡ writeBank 2 b
 
 -- "only if every elevation is 0, and exactly then"
 pub record ToVersion1 (file out : List ℕ) (o : WriteOutcome) : Type 0 where
   pub outcome : Converts 2 1 file out o
-  pub turned : o .answer .refusal ≡ 0 → (level (bankIn file) ≡ true) × IsFile 2 file (bankIn file) × IsFile 1 (o .file) (bankIn file)
-  pub accepted : (b : Bank) → IsFile 2 file b → level b ≡ true → length out ≡ length (encode 1 b) → (o .answer .refusal ≡ 0) × (o .file ≡ encode 1 b)
+  pub turned : o .answer .refusal ≡ 0 → (level (bankIn file) ≡ true) × IsFile 2 file (bankIn file) × IsFile 1 (o .file) (bankIn file) × (length out ≡ length (o .file))
+  pub accepted : (b : Bank) → IsFile 2 file b → level b ≡ true → length out ≡ length (encode 1 b) → o ≡ writeBank 1 b

@@ -1,6 +1,6 @@
 -- Document 01, 'Filter bank file': "Reading fills lent lists of 8 azimuths and 8,192 taps in file order and returns rows and L; entries beyond them stay. .. Other lengths are 5."
--- Document 02, E6: "Reading also fills a list of 8 elevations"; "Version 1 files are still read, at elevation 0". E2: "Each of the new numbers also returns the offset of the first byte of the offending field". And 'Refusal numbers' of document 01: "A refusal returns its number, counts of 0, ..;
--- lent memory stays the same." Definitions only. 5 comes before the numbers of a bank, and has no place.
+-- Document 02, E6: "Reading also fills a list of 8 elevations"; "Version 1 files are still read, at elevation 0". E2: "Each of the new numbers also
+-- returns the offset of the first byte of the offending field". And 'Refusal numbers' of document 01: "A refusal returns its number, counts of 0, ..; lent memory stays the same." Definitions only. 5 comes before the numbers of a bank, and has no place.
 use mathlib.Core.Path.{_≡_}
 use mathlib.Core.Bool.{_&&_}
 use mathlib.Core.List.{List}

@@ -1,5 +1,6 @@
 -- Document 01, 'Filter bank file': "Writing takes an azimuth per row, L, 2 x rows x L taps and a buffer of exactly the file's length. Other lengths are 5." Document 02, E6:
--- "the writer takes one [elevation] per row and writes version 2"; E2: "The writer gives the same numbers, with the offset where the field would stand." And 'Refusal numbers' of document 01: "A refusal returns its number, counts of 0, ..; lent memory stays the same." Definitions only.
+-- "the writer takes one [elevation] per row and writes version 2"; E2: "The writer gives the same numbers, with the offset where the field would stand." And 'Refusal numbers'
+-- of document 01: "A refusal returns its number, counts of 0, ..; lent memory stays the same." Definitions only.
 use mathlib.Core.Path.{_≡_}
 use mathlib.Core.Bool.{Bool, _&&_}
 use mathlib.Core.List.{List}

@@ -154,6 +154,7 @@ fn lengths_fit(rows: usize, elevations: usize, l: usize, taps: usize, file: usiz
     if file < 9 {
         return false;
     }
+    // In version 2 a row has 4 bytes before its taps.
     file - 9 == rows * 4 + taps * 4
 }
 
@@ -257,7 +258,7 @@ fn raised_fault(elevations: &[i16], l: usize) -> Fault
     }
 }
 
-// What is wrong with elevations in a file of a version: it may have none.
+// What is wrong with elevations in a file of a version: version 1 has no place for them.
 fn elevations_fault(version: usize, elevations: &[i16], l: usize) -> Fault
     requires { ⌜ (l ≤ 512) × (length (now elevations) ≤ 8) ⌝ }
     ensures { λ r. ⌜ r ≡ raisedFor version l (now (elevations .entry)) ⌝ }
@@ -299,7 +300,8 @@ fn convert_bank(
     }
 }
 
-// Turns a file of one version into another.
+// Turns a file of one version into another. It is walked over twice, for its fault and for its bank, since reading takes
+// either version.
 fn convert(file: &[u8], from: usize, to: usize, out: &mut [u8]) -> BankWritten
     ensures { λ r. ⌜ Converts from to (now (file .entry)) (now (out .entry)) (record { answer = r; file = now (out .exit) }) ⌝ }
 {
@@ -330,7 +332,7 @@ pub fn to_version_2(file: &[u8], out: &mut [u8]) -> BankWritten
     convert(file, 1, 2, out)
 }
 
-// Turns a file of version 2 back into one of version 1, which it is only if every elevation is 0.
+// Turns a file of version 2 back into one of version 1. That can be had only if every elevation is 0.
 pub fn to_version_1(file: &[u8], out: &mut [u8]) -> BankWritten
     ensures { λ r. ⌜ ToVersion1 (now (file .entry)) (now (out .entry)) (record { answer = r; file = now (out .exit) }) ⌝ }
 {

@@ -12,7 +12,7 @@ ghost use Rattle.big_endian.specs.Fields.{floatAt};
 ghost use Rattle.lists.specs.Placed.{placed};
 ghost use Rattle.big_endian.specs.Lists.{strided, floatBytes};
 ghost use Rattle.bank_form.specs.Bank.{pairsOf};
-ghost use Rattle.bank_form.specs.Version.{elevationSize, elevationBytes, rowSize, largest};
+ghost use Rattle.bank_form.specs.Version.{elevationSize, elevationBytes, rowSize, largest, largestRow};
 ghost use Rattle.bank_form.specs.Encoding.{rowBytes, headBytes, encode};
 ghost use Rattle.lists.specs.Each.{Each};
 ghost use Rattle.bank_form.specs.FitsFields.{IsI16};
@@ -21,7 +21,7 @@ ghost use Rattle.bank_form.specs.Fault.{azimuthsFrom, elevationsFrom, tapsFrom}
 // Where row i starts in a file, and behind the last row where the file ends.
 pub(crate) fn row_at(version: usize, i: usize, l: usize) -> usize
     requires { ⌜ (i ≤ 8) × (l ≤ 512) ⌝ }
-    ensures { λ r. ⌜ (r ≡ 9 + i * rowSize version l) × (r ≤ 9 + 4100 * i) ⌝ }
+    ensures { λ r. ⌜ (r ≡ 9 + i * rowSize version l) × (r ≤ 9 + largestRow * i) ⌝ }
 {
     9 + i * bank_form::row_size(version, l)
 }

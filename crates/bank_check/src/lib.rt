@@ -1,15 +1,17 @@
-// Finds the first fault of a filter bank file: what breaks the form, and at which byte (document 02, E2).
+// Finds the first fault of a filter bank file, in either version: what breaks the form, and at which byte (document
+// 02, E2 and E6).
 //
 // It goes field by field, in byte order, up to the first that breaks the form, whose number and offset are
 // the answer. It takes any bytes. `check_file` has the whole file, and promises the first fault of it; there is
 // none exactly if the bytes are those of a bank that keeps the form. `check_start` has the start of a file and
-// its size: as many bytes as the largest bank has, and the size, tell the fault of every file they were taken from.
+// its size: as many bytes as the largest bank has, and the size, tell the fault of every file they were taken from. `check_version` is for a file that has to be of one
+// version, before it is turned into the other.
 use bank_form::Fault;
 ghost use mathlib.Core.Path.{_≡_};
 ghost use mathlib.Core.Bool.{not};
 ghost use Prim.Native.Nat.{_+_, _-_, _*_, _≤_};
 ghost use Rattle.bank_form.specs.Bank.{differ};
-ghost use Rattle.bank_form.specs.Version.{largest};
+ghost use Rattle.bank_form.specs.Version.{largest, largestRow};
 ghost use Rattle.bank_form.specs.Fault.{pairIn, field, headField, headFault, tapsFault, isNew, elevationFault, rowFault, rowsFault};
 ghost use Rattle.bank_check.specs.Checked.{CheckedStart, Checked, CheckedVersion};
 
@@ -154,7 +156,7 @@ fn elevation_fault(size: usize, s: &[u8], version: usize, at: usize) -> Fault
 
 // The first fault of the row at an offset, with i rows before it.
 fn row_fault(size: usize, s: &[u8], version: usize, l: usize, i: usize, at: usize) -> Fault
-    requires { ⌜ (l ≤ 512) × (i ≤ 8) × (at + 4100 ≤ largest) ⌝ }
+    requires { ⌜ (l ≤ 512) × (i ≤ 8) × (at + largestRow ≤ largest) ⌝ }
     ensures { λ r. ⌜ r ≡ rowFault size (now (s .entry)) version l i at ⌝ }
 {
     let azimuth = big_endian::get_i16(s, at);

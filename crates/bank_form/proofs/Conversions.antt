@@ -1,22 +1,22 @@
 -- What is told of a file that is to be turned into another version (`conversion-fault`), and of a bank with elevations (`raised-exactly`, `raised-place`). Assumes nothing.
 use mathlib.Core.Path.{_≡_, refl, sym, ap, ap₂, _∙_}
-use mathlib.Core.Bool.{Bool, true, false, _&&_}
+use mathlib.Core.Bool.{Bool, true, false}
 use mathlib.Core.List.{List, [], _∷_}
 use mathlib.Core.Logic.{_⊎_, inl, inr, ⊎-elim}
-use Prim.Native.Nat.{ℕ, zero, suc, _+_, _*_, _≤_, _<_, suc-le-suc}
+use Prim.Native.Nat.{ℕ, zero, suc, _+_, _≤_, _<_, suc-le-suc}
 use native.Mathlib.Nat.{le-of-suc-le-suc}
 use native.Mathlib.Omega.{arith}
 use native.Mathlib.Decide.{decLt}
 use lib.IntN.{ℤ, pos}
-use lib.ListN.{length, take, drop, getD, drop-of-length-le}
+use lib.ListN.{length, drop, getD, drop-of-length-le}
 use Rattle.big_endian.proofs.Fields.{lies-out, field-out}
 use Rattle.lists.specs.Tables.{every}
 use Rattle.refusals.specs.Ranges.{within}
 use Rattle.refusals.proofs.Ranges.{within-true, within-in, within-low, within-high}
 use Rattle.bank_form.specs.Bank.{isLevel}
-use Rattle.bank_form.specs.Version.{rowSize, pairAt}
+use Rattle.bank_form.specs.Version.{isVersion, rowSize, pairAt}
 use Rattle.bank_form.specs.Fault.{versionIn, sound, wrong, orElse, unless, field, headField, fault, faultOf, raisedFrom}
-use Rattle.bank_form.specs.FaultLaws.{ConversionFault, RaisedExactly, RaisedPlace}
+use Rattle.bank_form.specs.FaultLaws.{ConversionFault, RaisedExactly, FirstRaised, RaisedPlace}
 use Rattle.bank_form.proofs.Walk.{isClear, clear-else, clear-unless, else-on, else-stop, field-bad, field-good, unless-passes, unless-fails}
 
 -- ---- the version
@@ -46,7 +46,7 @@ module _ (v : ℕ) (s : List ℕ) where
         | no some ↦ omega arith
       ]
 
-  tells-right : within 1 2 v ≡ true → versionIn s ≡ v → faultOf v s ≡ fault s
+  tells-right : isVersion v ≡ true → versionIn s ≡ v → faultOf v s ≡ fault s
   unfolding faultOf headField
   tells-right known e =
       let byte = has-version (within-true 1 2 v known .0) e in
@@ -83,19 +83,12 @@ raised-end l at i es h = ap (raisedFrom l at) (drop-of-length-le es {i = i} h)
 pub raised-exactly : RaisedExactly
 raised-exactly b = clear-raised (b .length) 9 (b .elevations)
 
--- the first of a list of elevations that is not 0, whose rows stand from `at` on
-record First (l at : ℕ) (es : List ℤ) (i : ℕ) : Type 0 where
-  among : i < length es
-  told : raisedFrom l at es ≡ wrong 21 (pairAt 2 (at + i * rowSize 2 l))
-  before : every isLevel (take i es) ≡ true
-  itself : isLevel (getD es i (pos 0)) ≡ false
-
-first-raised : (l at : ℕ) (es : List ℤ) → (raisedFrom l at es ≡ sound) ⊎ ((i : ℕ) × First l at es i)
+first-raised : (l at : ℕ) (es : List ℤ) → (raisedFrom l at es ≡ sound) ⊎ ((i : ℕ) × FirstRaised l at es i)
 unfolding raisedFrom
 first-raised l at [] = inl refl
 first-raised l at (e ∷ es) = go (first-raised l (at + rowSize 2 l) es) (isLevel e) refl
   where
-    stop : isLevel e ≡ false → First l at (e ∷ es) 0
+    stop : isLevel e ≡ false → FirstRaised l at (e ∷ es) 0
     stop k = record {
       among = omega arith;
       told = unless-fails (isLevel e) 21 (pairAt 2 at) _ (omega arith) k ∙ ap (λ (n : ℕ). wrong 21 (pairAt 2 n)) (omega arith);
@@ -103,7 +96,7 @@ first-raised l at (e ∷ es) = go (first-raised l (at + rowSize 2 l) es) (isLeve
       itself = k;
     }
 
-    on : isLevel e ≡ true → (i : ℕ) × First l (at + rowSize 2 l) es i → (i : ℕ) × First l at (e ∷ es) i
+    on : isLevel e ≡ true → (i : ℕ) × FirstRaised l (at + rowSize 2 l) es i → (i : ℕ) × FirstRaised l at (e ∷ es) i
     on k (i, f) = (
       suc i,
       record {
@@ -114,11 +107,10 @@ first-raised l at (e ∷ es) = go (first-raised l (at + rowSize 2 l) es) (isLeve
       },
     )
 
-    go : (raisedFrom l (at + rowSize 2 l) es ≡ sound) ⊎ ((i : ℕ) × First l (at + rowSize 2 l) es i) → (t : Bool) → isLevel e ≡ t
-        → (raisedFrom l at (e ∷ es) ≡ sound) ⊎ ((i : ℕ) × First l at (e ∷ es) i)
+    go : (raisedFrom l (at + rowSize 2 l) es ≡ sound) ⊎ ((i : ℕ) × FirstRaised l (at + rowSize 2 l) es i) → (t : Bool) → isLevel e ≡ t
+        → (raisedFrom l at (e ∷ es) ≡ sound) ⊎ ((i : ℕ) × FirstRaised l at (e ∷ es) i)
     go rest false k = inr (0, stop k)
     go rest true k = ⊎-elim (λ none. inl (unless-passes (isLevel e) 21 (pairAt 2 at) _ k ∙ none)) (λ some. inr (on k some)) rest
 
 pub raised-place : RaisedPlace
-raised-place b =
-    ⊎-elim inl (λ f. inr (f .0, record { among = f .1 .among; told = f .1 .told; before = f .1 .before; itself = f .1 .itself })) (first-raised (b .length) 9 (b .elevations))
+raised-place b = first-raised (b .length) 9 (b .elevations)

@@ -9,11 +9,12 @@ use lib.ListN.{length}
 use Rattle.bank_form.specs.declared.Fault.{Fault}
 use mathlib.Core.Logic.{_⊎_, inl, inr}
 use borrow.Author.Tests.{eq-eqb}
-use Rattle.big_endian.specs.Fields.{signedAt}
+use lib.Ieee.Scale.{finite}
+use Rattle.big_endian.specs.Fields.{signedAt, floatAt}
 use Rattle.bank_form.specs.Bank.{isAzimuth}
 use Rattle.bank_form.specs.Version.{rowSize, tapsAt, pairAt}
 use Rattle.bank_form.specs.Fault.{versionIn, rowsIn, lengthIn, pairIn, sound, wrong, unless, field, tapsFault, isNew, elevationFault, rowFault, rowsFault, headField, headFault, faultIn}
-use Rattle.bank_form.specs.FaultLaws.{rowPlace, OutOfRange, Repeated, Steep, FieldPlace, FieldPlaces}
+use Rattle.bank_form.specs.FaultLaws.{rowPlace, AzimuthOut, Repeated, ElevationOut, FieldPlace, FieldPlaces}
 use Rattle.bank_form.proofs.Walk.{else-both, field-each, no-elevation, elevation-field}
 
 -- where the fields of the head stand
@@ -46,9 +47,9 @@ module _ (size : ℕ) (s : List ℕ) where
   nowhere : Right sound
   nowhere = head-place 0 0 (omega arith) (λ h. absurd (omega (arith, h)))
 
-  row-place : (n at : ℕ) → 17 ≤ n → (n ≡ 17 → (i : ℕ) × (i < rowsIn s) × (OutOfRange s i at ⊎ Repeated s i at))
-      → (n ≡ 18 → (i k : ℕ) × (i < rowsIn s) × (k < 2 * l) × (at ≡ tapsAt v (rowPlace s i) + 4 * k))
-      → (n ≡ 20 → (i : ℕ) × (i < rowsIn s) × Steep s i at) → Right (wrong n at)
+  row-place : (n at : ℕ) → 17 ≤ n → (n ≡ 17 → (i : ℕ) × (i < rowsIn s) × (AzimuthOut s i at ⊎ Repeated s i at))
+      → (n ≡ 18 → (i k : ℕ) × (i < rowsIn s) × (k < 2 * l) × (at ≡ tapsAt v (rowPlace s i) + 4 * k) × (finite (floatAt s at) ≡ false))
+      → (n ≡ 20 → (i : ℕ) × (i < rowsIn s) × ElevationOut s i at) → Right (wrong n at)
   row-place n at high azimuth tap elevation = record {
     version = λ e. absurd (omega (arith, e, high));
     length = λ e. absurd (omega (arith, e, high));
@@ -73,7 +74,7 @@ module _ (size : ℕ) (s : List ℕ) where
   right-taps i at k zero h e f = nowhere
   right-taps i at k (suc n) h e f =
       else-both _ _ Right
-      (right-field at 4 18 _ (λ bad. row-place 18 at (omega arith) (λ g. absurd (omega (arith, g))) (λ g. (i, k, h, omega (arith, f), e)) (λ g. absurd (omega (arith, g)))))
+      (right-field at 4 18 _ (λ bad. row-place 18 at (omega arith) (λ g. absurd (omega (arith, g))) (λ g. (i, k, h, omega (arith, f), e, bad)) (λ g. absurd (omega (arith, g)))))
       (right-taps i (at + 4) (k + 1) n h (omega (arith, e)) (omega (arith, f)))
 
   module _ (i : ℕ) (h : i < rowsIn s) where

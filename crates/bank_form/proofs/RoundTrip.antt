@@ -29,7 +29,7 @@ use Rattle.lists.specs.Tables.{every}
 use Rattle.lists.specs.Each.{Each}
 use Rattle.lists.proofs.Each.{each-drop, each-take}
 use Rattle.bank_form.specs.Bank.{Bank, Pair, rows, pairs, pairsOf, isTap, isLevel}
-use Rattle.bank_form.specs.Version.{elevationSize, elevationBytes, elevationAt, rowSize, tapsAt}
+use Rattle.bank_form.specs.Version.{elevationSize, elevationBytes, elevationAt, rowSize, tapsAt, largestRow}
 use Rattle.bank_form.specs.Encoding.{rowBytes, allRows, headBytes, encode}
 use Rattle.bank_form.specs.FitsFields.{IsI16, IsFloat, FitsFields}
 use Rattle.bank_form.specs.Fault.{azimuthsFrom, elevationsFrom, rowTaps, tapsFrom, pairIn, pairsFrom, versionIn, rowsIn, lengthIn, bankIn}
@@ -151,8 +151,8 @@ rowBytes-snoc v (p ∷ ps) d l xs (suc i) h =
     ∙ sym (append-assoc azimuth (elevation ++ (mine ++ front)) row)
 
 -- how far i rows reach, where there are at most k
-pub rows-reach : (v i k l : ℕ) → i ≤ k → l ≤ 512 → i * rowSize v l ≤ k * 4100
-rows-reach v i k l h g = let row : rowSize v l ≤ 4100 = omega (arith, g, elevation-small v) in mul-le-mul h row
+pub rows-reach : (v i k l : ℕ) → i ≤ k → l ≤ 512 → i * rowSize v l ≤ k * largestRow
+rows-reach v i k l h g = let row : rowSize v l ≤ largestRow = omega (arith, g, elevation-small v) in mul-le-mul h row
 
 -- ---- reading what was written
 

@@ -82,7 +82,7 @@ version-none : fault (0x00 ∷ []) ≡ wrong 13 0
 unfolding walk
 version-none = refl
 
-three-in-front : fault (0x03 ∷ example) ≡ wrong 13 0
+three-in-front : fault (set example 0 3) ≡ wrong 13 0
 unfolding walk
 three-in-front = refl
 
@@ -142,24 +142,24 @@ two-rows-promised-tap-infinite = refl
 
 -- ---- version 2: what is told in reading, and in turning it into version 1
 
-abbrev TurnsBack : List ℕ → Fault → Type 0
+abbrev pub TurnsBack : List ℕ → Fault → Type 0
 TurnsBack s f = orElse (faultOf 2 s) (raised (bankIn s)) ≡ f
 
-abbrev head2 : List ℕ
+abbrev pub head2 : List ℕ
 head2 = 0x02 ∷ 0x00 ∷ 0x00 ∷ 0x00 ∷ 0x10 ∷ 0x00 ∷ 0x01 ∷ 0x00 ∷ 0x01 ∷ []
 
-abbrev row2 : List ℕ
+abbrev pub row2 : List ℕ
 row2 = 0x00 ∷ 0x00 ∷ 0x00 ∷ 0x00 ∷ 0x3F ∷ 0x80 ∷ 0x00 ∷ 0x00 ∷ 0x3F ∷ 0x00 ∷ 0x00 ∷ 0x00 ∷ []
 
-abbrev example2 : List ℕ
+abbrev pub example2 : List ℕ
 example2 = head2 ++ row2
 
 -- a row like the example's with these four bytes for its azimuth and its elevation
-abbrev rowAt : ℕ → ℕ → ℕ → ℕ → List ℕ
+abbrev pub rowAt : ℕ → ℕ → ℕ → ℕ → List ℕ
 rowAt a b c d = set (set (set (set row2 0 a) 1 b) 2 c) 3 d
 
 -- files of one row, and of two
-abbrev oneAt : ℕ → ℕ → ℕ → ℕ → List ℕ
+abbrev pub oneAt : ℕ → ℕ → ℕ → ℕ → List ℕ
 oneAt a b c d = head2 ++ rowAt a b c d
 
 abbrev twoRows : List ℕ → List ℕ → List ℕ
@@ -185,11 +185,11 @@ the-example-2-back : TurnsBack example2 sound
 unfolding walk
 the-example-2-back = refl
 
-three-forward : faultOf 1 (0x03 ∷ example) ≡ wrong 13 0
+three-forward : faultOf 1 (set example 0 3) ≡ wrong 13 0
 unfolding walk
 three-forward = refl
 
-three-back : faultOf 2 (0x03 ∷ example) ≡ wrong 13 0
+three-back : faultOf 2 (set example2 0 3) ≡ wrong 13 0
 unfolding walk
 three-back = refl
 
@@ -213,9 +213,17 @@ elevation-901-forward : faultOf 1 (oneAt 0x00 0x00 0x03 0x85) ≡ wrong 13 0
 unfolding walk
 elevation-901-forward = refl
 
-elevation-901-back : TurnsBack (oneAt 0x00 0x00 0x03 0x85) (wrong 20 11)
+pub elevation-901-back : TurnsBack (oneAt 0x00 0x00 0x03 0x85) (wrong 20 11)
 unfolding walk
 elevation-901-back = refl
+
+elevation-minus-901-forward : faultOf 1 (oneAt 0x00 0x00 0xFC 0x7B) ≡ wrong 13 0
+unfolding walk
+elevation-minus-901-forward = refl
+
+elevation-minus-901-back : TurnsBack (oneAt 0x00 0x00 0xFC 0x7B) (wrong 20 11)
+unfolding walk
+elevation-minus-901-back = refl
 
 elevation-900 : fault (oneAt 0x00 0x00 0x03 0x84) ≡ sound
 unfolding walk
@@ -305,7 +313,7 @@ version-2-with-1-in-front : fault (set example2 0 1) ≡ wrong 14 1
 unfolding walk
 version-2-with-1-in-front = refl
 
-version-2-with-1-in-front-forward : faultOf 1 (set example2 0 1) ≡ wrong 14 1
+pub version-2-with-1-in-front-forward : faultOf 1 (set example2 0 1) ≡ wrong 14 1
 unfolding walk
 version-2-with-1-in-front-forward = refl
 
@@ -313,7 +321,7 @@ version-2-with-1-in-front-back : faultOf 2 (set example2 0 1) ≡ wrong 13 0
 unfolding walk
 version-2-with-1-in-front-back = refl
 
-raised-back : TurnsBack (oneAt 0x00 0x00 0x00 0x64) (wrong 21 11)
+pub raised-back : TurnsBack (oneAt 0x00 0x00 0x00 0x64) (wrong 21 11)
 unfolding walk
 raised-back = refl
 
@@ -323,7 +331,7 @@ raised-back = refl
 abbrev Told : List ℕ → Fault → Type 0
 Told start f = (file : List ℕ) → Begins start 40000 file → fault file ≡ f
 
--- the example with another row count and another length, whose last two bytes these are: 39,995 is 9C3B, 32,789 is 8015
+-- the example with another row count and another length, whose last two bytes these are: 39,995 is 9C3B, 32,805 is 8025
 abbrev changed : ℕ → ℕ → ℕ → List ℕ
 changed a b n = set (set (set example 3 a) 4 b) 6 n
 
@@ -353,7 +361,7 @@ one-row-and-more : Told (changed 0x9C 0x3B 1) (wrong 14 1)
 unfolding walk
 one-row-and-more file begins = by-rows _ file begins (omega arith)
 
-nine-rows-in-a-buffer : Told (changed 0x80 0x15 9) (wrong 14 1)
+nine-rows-in-a-buffer : Told (changed 0x80 0x25 9) (wrong 14 1)
 unfolding walk
 nine-rows-in-a-buffer file begins = by-head _ file begins 14 1 (omega arith) (omega arith) refl
 
@@ -364,27 +372,27 @@ unfolding writeFault orElse
 written-no-rows = refl
 
 -- rows of one tap for each ear, all of them 0.0
-abbrev levelRows : List ℤ → List ℤ → Bank
-levelRows zs es = record { azimuths = zs; elevations = es; length = 1; taps = replicate (2 * length zs) (fin false 0 (pos 0)) }
+abbrev silentRows : List ℤ → List ℤ → Bank
+silentRows zs es = record { azimuths = zs; elevations = es; length = 1; taps = replicate (2 * length zs) (fin false 0 (pos 0)) }
 
 -- what opens this opens every definition that the writer's walk computes with
 writes : Bank → Fault
 unfolding writeFault rowsWrong tapsWrong orElse isAzimuth isElevation unlike differ isTap fits pairsOf
 writes b = writeFault 2 b
 
-written-third-as-the-first : writeFault 2 (levelRows (pos 0 ∷ pos 450 ∷ pos 0 ∷ []) (pos 0 ∷ pos 0 ∷ pos 0 ∷ [])) ≡ wrong 17 35
+written-third-as-the-first : writeFault 2 (silentRows (pos 0 ∷ pos 450 ∷ pos 0 ∷ []) (pos 0 ∷ pos 0 ∷ pos 0 ∷ [])) ≡ wrong 17 35
 unfolding writes
 written-third-as-the-first = refl
 
-written-above-the-first : writeFault 2 (levelRows (pos 0 ∷ pos 0 ∷ []) (pos 0 ∷ pos 100 ∷ [])) ≡ sound
+written-above-the-first : writeFault 2 (silentRows (pos 0 ∷ pos 0 ∷ []) (pos 0 ∷ pos 100 ∷ [])) ≡ sound
 unfolding writes
 written-above-the-first = refl
 
-written-at-901 : writeFault 2 (levelRows (pos 0 ∷ pos 0 ∷ []) (pos 0 ∷ pos 901 ∷ [])) ≡ wrong 20 23
+written-at-901 : writeFault 2 (silentRows (pos 0 ∷ pos 0 ∷ []) (pos 0 ∷ pos 901 ∷ [])) ≡ wrong 20 23
 unfolding writes
 written-at-901 = refl
 
-written-at-1801-and-901 : writeFault 2 (levelRows (pos 1801 ∷ []) (pos 901 ∷ [])) ≡ wrong 17 9
+written-at-1801-and-901 : writeFault 2 (silentRows (pos 1801 ∷ []) (pos 901 ∷ [])) ≡ wrong 17 9
 unfolding writes
 written-at-1801-and-901 = refl
 

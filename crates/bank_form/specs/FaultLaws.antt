@@ -1,20 +1,21 @@
--- Document 02, E2 and E6: what the first fault of a bank depends on, and that the writer's is the reader's. Definitions only: proofs/Places.antt, FieldPlaces.antt, Order.antt, Start.antt and Writer.antt show them.
+-- Document 02, E2 and E6: what the first fault of a bank depends on, and that the writer's is the reader's. Definitions only: proofs/Places.antt, FieldPlaces.antt, Order.antt, Start.antt, Writer.antt and Conversions.antt show them.
 use mathlib.Core.Path.{_≡_}
 use mathlib.Core.Bool.{Bool, true, false, cond, _&&_, _||_}
 use mathlib.Core.List.{List, []}
 use mathlib.Core.Logic.{_⊎_}
 use Prim.Native.Nat.{ℕ, _+_, _-_, _*_, _≤_, _<_}
 use lib.Dec.{T, eqb, leb}
-use lib.IntN.{pos}
+use lib.IntN.{ℤ, pos}
 use lib.ListN.{length, take, getD}
-use Rattle.big_endian.specs.Fields.{fieldAt, signedAt}
+use lib.Ieee.Scale.{finite}
+use Rattle.big_endian.specs.Fields.{fieldAt, signedAt, floatAt}
 use Rattle.lists.specs.Tables.{every}
 use Rattle.refusals.specs.Ranges.{within}
 use Rattle.bank_form.specs.declared.Fault.{Fault}
 use Rattle.bank_form.specs.Bank.{Bank, isAzimuth, isElevation, isLevel, level}
-use Rattle.bank_form.specs.Version.{rowSize, tapsAt, pairAt, largest}
+use Rattle.bank_form.specs.Version.{isVersion, rowSize, tapsAt, pairAt, largest}
 use Rattle.bank_form.specs.Encoding.{encode}
-use Rattle.bank_form.specs.Fault.{versionIn, rowsIn, lengthIn, pairIn, sound, wrong, isNew, faultIn, fault, faultOf, raised}
+use Rattle.bank_form.specs.Fault.{versionIn, rowsIn, lengthIn, pairIn, sound, wrong, isNew, faultIn, fault, faultOf, raisedFrom, raised}
 use Rattle.bank_form.specs.FitsFields.{FitsFields}
 use Rattle.bank_form.specs.WriteFault.{writeFault}
 
@@ -40,7 +41,7 @@ abbrev pub rowPlace : List ℕ → ℕ → ℕ
 rowPlace s i = 9 + i * rowSize (versionIn s) (lengthIn s)
 
 -- 17 of row i: "the azimuth out of range or the pair repeated, the latter checked at the elevation field [..] and pointing at it (version 1: as before)"
-pub record OutOfRange (s : List ℕ) (i at : ℕ) : Type 0 where
+pub record AzimuthOut (s : List ℕ) (i at : ℕ) : Type 0 where
   pub place : at ≡ rowPlace s i
   pub bad : isAzimuth (signedAt s (rowPlace s i)) ≡ false
 
@@ -49,7 +50,7 @@ pub record Repeated (s : List ℕ) (i at : ℕ) : Type 0 where
   pub bad : isNew s (versionIn s) (lengthIn s) (pairIn (versionIn s) s (rowPlace s i)) 9 i ≡ false
 
 -- 20 of row i
-pub record Steep (s : List ℕ) (i at : ℕ) : Type 0 where
+pub record ElevationOut (s : List ℕ) (i at : ℕ) : Type 0 where
   pub version : versionIn s ≡ 1 → ⊥
   pub place : at ≡ rowPlace s i + 2
   pub bad : isElevation (signedAt s at) ≡ false
@@ -60,9 +61,9 @@ pub record FieldPlace (s : List ℕ) (f : Fault) : Type 0 where
   pub length : f .refusal ≡ 14 → f .offset ≡ 1
   pub rowCount : f .refusal ≡ 15 → f .offset ≡ 5
   pub tapCount : f .refusal ≡ 16 → f .offset ≡ 7
-  pub azimuth : f .refusal ≡ 17 → (i : ℕ) × (i < rowsIn s) × (OutOfRange s i (f .offset) ⊎ Repeated s i (f .offset))
-  pub tap : f .refusal ≡ 18 → (i k : ℕ) × (i < rowsIn s) × (k < 2 * lengthIn s) × (f .offset ≡ tapsAt (versionIn s) (rowPlace s i) + 4 * k)
-  pub elevation : f .refusal ≡ 20 → (i : ℕ) × (i < rowsIn s) × Steep s i (f .offset)
+  pub azimuth : f .refusal ≡ 17 → (i : ℕ) × (i < rowsIn s) × (AzimuthOut s i (f .offset) ⊎ Repeated s i (f .offset))
+  pub tap : f .refusal ≡ 18 → (i k : ℕ) × (i < rowsIn s) × (k < 2 * lengthIn s) × (f .offset ≡ tapsAt (versionIn s) (rowPlace s i) + 4 * k) × (finite (floatAt s (f .offset)) ≡ false)
+  pub elevation : f .refusal ≡ 20 → (i : ℕ) × (i < rowsIn s) × ElevationOut s i (f .offset)
 
 abbrev pub FieldPlaces : Type 0
 FieldPlaces = (s : List ℕ) → FieldPlace s (fault s)
@@ -87,7 +88,7 @@ pub record Begins (start : List ℕ) (size : ℕ) (file : List ℕ) : Type 0 whe
 
 -- how many bytes of a file that begins with these can make a difference: where its version is wrong, that alone; else one more than its length field asks for
 abbrev pub bytesThatMatter : List ℕ → ℕ
-bytesThatMatter start = cond (within 1 2 (versionIn start)) (6 + fieldAt start 1 4) 1
+bytesThatMatter start = cond (isVersion (versionIn start)) (6 + fieldAt start 1 4) 1
 
 -- a file of `size` bytes or more begins with these, and so many are all that can make a difference
 pub record Exceeds (start : List ℕ) (size : ℕ) (file : List ℕ) : Type 0 where
@@ -125,7 +126,7 @@ WriterAsReader = (v : ℕ) (b : Bank) → FitsFields v b → writeFault v b ≡ 
 
 -- "Each conversion gives 13 for the wrong version", and of a file in the right one it tells what reading tells
 pub record ConversionFault : Type 0 where
-  pub right : (v : ℕ) (s : List ℕ) → within 1 2 v ≡ true → versionIn s ≡ v → faultOf v s ≡ fault s
+  pub right : (v : ℕ) (s : List ℕ) → isVersion v ≡ true → versionIn s ≡ v → faultOf v s ≡ fault s
   pub other : (v : ℕ) (s : List ℕ) → 1 ≤ length s → (versionIn s ≡ v → ⊥) → faultOf v s ≡ wrong 13 0
   pub empty : (v : ℕ) → faultOf v [] ≡ wrong 19 0
 
@@ -134,11 +135,11 @@ abbrev pub RaisedExactly : Type 0
 RaisedExactly = (b : Bank) → eqb (raised b .refusal) 0 ≡ level b
 
 -- and at the first elevation that is not 0, where a file of version 2 has it
-pub record FirstRaised (b : Bank) (i : ℕ) : Type 0 where
-  pub among : i < length (b .elevations)
-  pub told : raised b ≡ wrong 21 (pairAt 2 (9 + i * rowSize 2 (b .length)))
-  pub before : every isLevel (take i (b .elevations)) ≡ true
-  pub itself : isLevel (getD (b .elevations) i (pos 0)) ≡ false
+pub record FirstRaised (l at : ℕ) (es : List ℤ) (i : ℕ) : Type 0 where
+  pub among : i < length es
+  pub told : raisedFrom l at es ≡ wrong 21 (pairAt 2 (at + i * rowSize 2 l))
+  pub before : every isLevel (take i es) ≡ true
+  pub itself : isLevel (getD es i (pos 0)) ≡ false
 
 abbrev pub RaisedPlace : Type 0
-RaisedPlace = (b : Bank) → (raised b ≡ sound) ⊎ ((i : ℕ) × FirstRaised b i)
+RaisedPlace = (b : Bank) → (raised b ≡ sound) ⊎ ((i : ℕ) × FirstRaised (b .length) 9 (b .elevations) i)

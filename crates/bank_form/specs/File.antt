@@ -3,14 +3,14 @@ use mathlib.Core.Path.{_≡_}
 use mathlib.Core.Bool.{true}
 use mathlib.Core.List.{List}
 use Prim.Native.Nat.{ℕ}
-use Rattle.refusals.specs.Ranges.{within}
 use Rattle.bank_form.specs.Bank.{Bank, valid, level}
+use Rattle.bank_form.specs.Version.{isVersion}
 use Rattle.bank_form.specs.Encoding.{encode}
 use Rattle.bank_form.specs.Fault.{versionIn, bankIn, isFile}
 
 -- a bank that version v can hold: 1 has no elevations, so each of them is 0
 pub record Holds (v : ℕ) (b : Bank) : Type 0 where
-  pub known : within 1 2 v ≡ true
+  pub known : isVersion v ≡ true
   pub flat : v ≡ 1 → level b ≡ true
 
 -- s is the file of the bank b in version v

@@ -1,14 +1,19 @@
 -- Document 02, E6: "Bank version 2 puts a signed 2-byte elevation in tenths [..] after each azimuth"; "Version 1 files are still read, at elevation 0". What hangs on the version of a file, which is a
 -- number, and the sizes that follow from it. Definitions only.
 use Prim.Native.Nat.{ℕ, _+_, _*_}
-use mathlib.Core.Bool.{cond}
+use mathlib.Core.Bool.{Bool, cond}
 use mathlib.Core.List.{List, []}
 use lib.Dec.{eqb}
 use lib.IntN.{ℤ, pos}
 use mir.Syntax.{w16}
 use mir.Val.{ofZ}
+use Rattle.refusals.specs.Ranges.{within}
 use Rattle.big_endian.specs.Bytes.{bytesOf}
 use Rattle.big_endian.specs.Fields.{signedAt}
+
+-- the versions that there are
+abbrev pub isVersion : ℕ → Bool
+isVersion v = within 1 2 v
 
 -- the first in version 1, which has no elevations, and the second where there are some
 abbrev pub without : {A : Type 0} → ℕ → A → A → A
@@ -41,6 +46,9 @@ tapsAt v at = at + 2 + elevationSize v
 abbrev pub pairAt : ℕ → ℕ → ℕ
 pairAt v at = at + elevationSize v
 
--- the bytes of the largest bank: the head, and 8 rows of 512 taps for each ear, with elevations
+-- the bytes of the largest row, and of the largest bank: the head, and 8 rows of 512 taps for each ear, with elevations
+abbrev pub largestRow : ℕ
+largestRow = rowSize 2 512
+
 abbrev pub largest : ℕ
-largest = 9 + 8 * rowSize 2 512
+largest = 9 + 8 * largestRow

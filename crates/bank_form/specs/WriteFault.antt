@@ -16,6 +16,7 @@ unfoldable pub tapsWrong : ℕ → List Float → Fault
 tapsWrong at [] = sound
 tapsWrong at (x ∷ xs) = orElse (unless (isTap x) 18 at) (tapsWrong (at + 4) xs)
 
+-- (20 is told at a field that version 1 does not have: no bank that version 1 holds has it, `Holds` of specs/File.antt.)
 -- rows that would stand from `at` on in version v, behind rows with the pairs `before`: each has a pair and the next 2 * l taps
 unfoldable pub rowsWrong : ℕ → List Pair → List Pair → ℕ → List Float → ℕ → Fault
 rowsWrong v before [] l xs at = sound

@@ -51,7 +51,7 @@ drill-table = record {
   item-9 = drill-9;
   item-9-each = drill-9-each;
   item-9-heard = drill-9-heard;
-  item-10 = λ rest flat six level r. drill-tie rest six flat level r;
+  item-10 = λ rest heights six six-heights r. drill-tie rest six heights six-heights r;
   item-11-read = λ zs es xs z e x o. drill-read zs es xs (record { azimuths = z; elevations = e; taps = x }) o;
   item-11-written = λ buffer e w. drill-written buffer w e;
   item-11-forward = λ out e w. drill-forward out w e;

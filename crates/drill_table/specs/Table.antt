@@ -68,12 +68,12 @@ pub record DrillTable : Type 0 where
   pub item-9-each : unsettledEach drill 0 [] (samples nan) ≡ true ∷ true ∷ false ∷ []
   pub item-9-heard : heard drill [] (samples nan) ≡ (nan ∷ nan ∷ []) ∷ (nan ∷ nan ∷ []) ∷ (zero-float ∷ zero-float ∷ []) ∷ []
   -- 10. Rows at 0 and 450 tenths, speaker at 225 tenths: the first. All of them at elevation 0 (document 02, E6); whatever stands in the lists beyond the two rows.
-  pub item-10 : (rest flat : List ℤ) → length rest ≡ 6 → length flat ≡ 6 → (r : Choice) → Chooses (pos 0 ∷ pos 450 ∷ rest) (pos 0 ∷ pos 0 ∷ flat) 2 (pos 225) (pos 0) r → r ≡ record { refusal = 0; row = 0 }
+  pub item-10 : (rest heights : List ℤ) → length rest ≡ 6 → length heights ≡ 6 → (r : Choice) → Chooses (pos 0 ∷ pos 450 ∷ rest) (pos 0 ∷ pos 0 ∷ heights) 2 (pos 225) (pos 0) r → r ≡ record { refusal = 0; row = 0 }
   -- 11. The bank bytes above, and 14 at 1 without the last byte (document 02, E2: 9 is no longer given for a bank). E6: they read as that bank at elevation 0; written it is the file of version 2;
   -- they turn into that, and back. Whatever is lent.
   pub item-11-read : (zs es : List ℤ) (xs : List Float) → length zs ≡ 8 → length es ≡ 8 → length xs ≡ 8192 → (o : ReadOutcome) → Reads oneRowBytes zs es xs o → o ≡ readBank oneRow zs es xs
   pub item-11-written : (buffer : List ℕ) → length buffer ≡ 21 → (w : WriteOutcome) → Writes oneRow buffer w → w ≡ record { answer = record { refusal = 0; offset = 0; bytes = 21 }; file = oneRowBytes2 }
-  pub item-11-forward : (out : List ℕ) → length out ≡ 21 → (w : WriteOutcome) → ToVersion2 oneRowBytes out w → (w .answer .refusal ≡ 0) × (w .file ≡ oneRowBytes2)
-  pub item-11-back : (out : List ℕ) → length out ≡ 19 → (w : WriteOutcome) → ToVersion1 oneRowBytes2 out w → (w .answer .refusal ≡ 0) × (w .file ≡ oneRowBytes)
+  pub item-11-forward : (out : List ℕ) → length out ≡ 21 → (w : WriteOutcome) → ToVersion2 oneRowBytes out w → w ≡ record { answer = record { refusal = 0; offset = 0; bytes = 21 }; file = oneRowBytes2 }
+  pub item-11-back : (out : List ℕ) → length out ≡ 19 → (w : WriteOutcome) → ToVersion1 oneRowBytes2 out w → w ≡ record { answer = record { refusal = 0; offset = 0; bytes = 19 }; file = oneRowBytes }
   pub item-11-cut : (zs es : List ℤ) (xs : List Float) → length zs ≡ 8 → length es ≡ 8 → length xs ≡ 8192 → (o : ReadOutcome) → Reads (take 18 oneRowBytes) zs es xs o
       → o ≡ readRefused (record { refusal = 14; offset = 1 }) zs es xs

@@ -101,7 +101,7 @@ fn bank_case(title: &[u8], bank: &[u8]) {
     case(title, bank, b"nan_first.line", NO_LIMIT);
 }
 
-// What is no bank at all, and the largest one.
+// What is no bank at all, and the largest one of each version.
 fn banks() {
     bank_case(b"no bank", b"missing.bank");
     bank_case(b"an empty bank", b"empty.line");
@@ -125,7 +125,7 @@ fn versions() {
     bank_case(b"a bank of version 2 that says 1", b"said_1.bank");
 }
 
-// A fault in each field of the head, in byte order.
+// A fault in each field of the head behind the version, in byte order.
 fn bad_heads() {
     bank_case(b"a bank that ends inside its length", b"three_bytes.bank");
     bank_case(b"a bank without its last byte", b"short.bank");
@@ -156,8 +156,14 @@ fn bad_rows() {
     );
 }
 
-// The same line however it is cut.
+// The same line however it is cut, and through filters that are longer than it.
 fn cuts() {
+    case(
+        b"ramps through the largest bank",
+        b"largest.bank",
+        b"ramps.line",
+        NO_LIMIT,
+    );
     case(
         b"ramps, read at once",
         b"good.bank",

@@ -29,7 +29,7 @@ use Rattle.virtual_speaker.specs.Promise.{outcome, positionOf}
 use Rattle.virtual_speaker.proofs.Laws.{outcome-kept, weights-length, weights-sound}
 use Rattle.hrtf_setup.specs.declared.Speakers.{Speakers}
 use Rattle.hrtf_setup.specs.declared.Speakers.the-variants.{Of, Virtual}
-use Rattle.hrtf_setup.specs.Speakers.{tenthsAt, level, rowAt, oneIf, weightOf, weightAt}
+use Rattle.hrtf_setup.specs.Speakers.{tenthsAt, speakerElevation, rowAt, oneIf, weightOf, weightAt}
 use Rattle.hrtf_setup.specs.Arrangement.{Wanted, laterChecks, refusalOf, Arrangement, arrangedBy}
 use Rattle.hrtf_setup.specs.Promise.{Arranges, ofLayout, ofOrder, NewSurround, NewAmbisonic}
 use Rattle.hrtf_setup.proofs.Arranging.{offered, by-wanted}
@@ -78,7 +78,7 @@ module _ (w : Wanted) (azimuths elevations : List ℤ) (rows : ℕ) (weights : L
   -- where the bank's rows stand at one elevation, each speaker takes the row that document 01 names
   pub flat-rows : refusalOf w azimuths elevations rows weights ≡ 0 → Flat elevations rows → (s : ℕ)
       → TakesByAzimuth azimuths rows (tenthsAt (w .whose) s) (rowAt (w .whose) azimuths elevations rows s)
-  flat-rows z flat s = flat-as-before azimuths elevations rows (tenthsAt (w .whose) s) level flat (rowAt (w .whose) azimuths elevations rows s) .0 (a .takes z s)
+  flat-rows z flat s = flat-as-before azimuths elevations rows (tenthsAt (w .whose) s) speakerElevation flat (rowAt (w .whose) azimuths elevations rows s) .0 (a .takes z s)
 
   module _ (few : Few w) (eight : length given ≡ 8) (z : refusalOf w azimuths elevations rows weights ≡ 0) where
     is : o ≡ arrangedBy 0 (w .whose) (w .speakers) (w .channels) azimuths elevations rows weights given

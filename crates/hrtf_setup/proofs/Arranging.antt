@@ -32,7 +32,7 @@ use Rattle.virtual_speaker.proofs.Laws.{outcome-kept, position-accepted}
 use Rattle.hrtf_setup.specs.declared.Arranged.{Arranged}
 use Rattle.hrtf_setup.specs.declared.Speakers.{Speakers}
 use Rattle.hrtf_setup.specs.declared.Speakers.the-variants.{Of, Virtual}
-use Rattle.hrtf_setup.specs.Speakers.{tenthsAt, level, rowAt, rowsOf, weightOf, weightAt}
+use Rattle.hrtf_setup.specs.Speakers.{tenthsAt, speakerElevation, rowAt, rowsOf, weightOf, weightAt}
 use Rattle.hrtf_setup.specs.Arrangement.{Wanted, laterChecks, laterRefusal, refusalOf, Arrangement, arrangedBy, arrangement}
 use Rattle.hrtf_setup.specs.Promise.{Arranges, ofLayout, ofOrder, NewSurround, NewAmbisonic}
 use Rattle.hrtf_setup.proofs.Standing.{stands}
@@ -49,13 +49,13 @@ weighed k n s c hc = ap (λ (q : ℕ). weightOf k q ((s * n + c) % n)) quotient 
 -- ---- the row of a speaker
 
 module _ (k : Speakers) (azimuths elevations : List ℤ) (rows s : ℕ) (few : outside rows 8 ≡ false) (full : length azimuths ≡ 8) (high : length elevations ≡ 8) where
-  row-is : nearestFrom azimuths elevations (tenthsAt k s) level 0 1 (rows - 1) ≡ rowAt k azimuths elevations rows s
+  row-is : nearestFrom azimuths elevations (tenthsAt k s) speakerElevation 0 1 (rows - 1) ≡ rowAt k azimuths elevations rows s
   unfolding choiceOf inElevation
-  row-is = sym (ap (λ (c : Choice). c .row) (answered-accepted _ refusedWith _ (none-refused azimuths elevations rows (tenthsAt k s) level few (stands k s) refl full high)))
+  row-is = sym (ap (λ (c : Choice). c .row) (answered-accepted _ refusedWith _ (none-refused azimuths elevations rows (tenthsAt k s) speakerElevation few (stands k s) refl full high)))
 
   -- rows from 1 to 8 of lists of 8: the row is the one that the words name
-  row-taken : Takes azimuths elevations rows (tenthsAt k s) level (rowAt k azimuths elevations rows s)
-  row-taken = subst (Takes azimuths elevations rows (tenthsAt k s) level) row-is (takes azimuths elevations (tenthsAt k s) level rows (not-outside rows 8 few .0))
+  row-taken : Takes azimuths elevations rows (tenthsAt k s) speakerElevation (rowAt k azimuths elevations rows s)
+  row-taken = subst (Takes azimuths elevations rows (tenthsAt k s) speakerElevation) row-is (takes azimuths elevations (tenthsAt k s) level rows (not-outside rows 8 few .0))
 
 -- ---- what both set-ups do
 

@@ -15,7 +15,7 @@ use Rattle.row_choice.specs.Nearest.{Takes}
 use Rattle.virtual_speaker.specs.Weights.{weightedFormulas}
 use Rattle.virtual_speaker.specs.Promise.{weightBits, outcome, positionOf}
 use Rattle.hrtf_setup.specs.declared.Speakers.the-variants.{Of, Virtual}
-use Rattle.hrtf_setup.specs.Speakers.{tenthsAt, level, rowAt, weightOf}
+use Rattle.hrtf_setup.specs.Speakers.{tenthsAt, speakerElevation, rowAt, weightOf}
 use Rattle.hrtf_setup.specs.Arrangement.{Wanted, refusalOf, Arrangement, arrangement}
 
 -- beside the equation, of a set-up that is accepted: every weight is its speaker's for its channel, and the row that the equation puts for a speaker is the one that documents 01 and 02 name for its
@@ -23,7 +23,7 @@ use Rattle.hrtf_setup.specs.Arrangement.{Wanted, refusalOf, Arrangement,
 pub record Arranges (w : Wanted) (azimuths elevations : List ℤ) (rows : ℕ) (weights : List Float) (given : List ℕ) (o : Arrangement) : Type 0 where
   pub answer : o ≡ arrangement w azimuths elevations rows weights given
   pub weighs : refusalOf w azimuths elevations rows weights ≡ 0 → (s c : ℕ) → s < w .speakers → c < w .channels → getD (o .weights) (s * w .channels + c) nan ≡ weightOf (w .whose) s c
-  pub takes : refusalOf w azimuths elevations rows weights ≡ 0 → (s : ℕ) → Takes azimuths elevations rows (tenthsAt (w .whose) s) level (rowAt (w .whose) azimuths elevations rows s)
+  pub takes : refusalOf w azimuths elevations rows weights ≡ 0 → (s : ℕ) → Takes azimuths elevations rows (tenthsAt (w .whose) s) speakerElevation (rowAt (w .whose) azimuths elevations rows s)
 
 -- 2: "the layout isn't one the operation offers"; a speaker for each channel
 abbrev pub ofLayout : Layout → Wanted

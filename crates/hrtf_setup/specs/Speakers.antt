@@ -22,12 +22,12 @@ tenthsAt (Of l) s = tenthsOf l s
 tenthsAt (Virtual order) s = positionTenths s
 
 -- the speakers of a layout, its LFE and the eight positions all stand at elevation 0
-abbrev pub level : ℤ
-level = pos 0
+abbrev pub speakerElevation : ℤ
+speakerElevation = pos 0
 
 -- the row that row choice gives to speaker s, among the first rows of lists of azimuths and elevations
 abbrev pub rowAt : Speakers → List ℤ → List ℤ → ℕ → ℕ → ℕ
-rowAt k azimuths elevations rows s = choiceOf azimuths elevations rows (tenthsAt k s) level .row
+rowAt k azimuths elevations rows s = choiceOf azimuths elevations rows (tenthsAt k s) speakerElevation .row
 
 -- the rows of n speakers, put at the start of a list; what stands beyond them stays
 abbrev pub rowsOf : Speakers → ℕ → List ℤ → List ℤ → ℕ → List ℕ → List ℕ

@@ -28,7 +28,7 @@ module _ (c : tie.After-row-at) where
   size : c .row-at .result ≡ length (encode (start .args .version) bank)
   size = c .row-at .ensures .0 ∙ sym (length-encode (start .args .version) bank (record { paired = start .pre .2; count = start .pre .3 }))
 
-  none : raised (start .args .version) bank out .refusal ≡ 0
+  none : raised (start .args .version) bank .refusal ≡ 0
   none = ap (λ (f : Fault). f .refusal) (sym (c .before .before .before .elevations-fault .ensures)) ∙ c .before .if1 .left
 
 returns : tie.Need-returns

@@ -9,7 +9,7 @@ use mir.Val.{toZ, ofZ}
 use Rattle.big_endian.proofs.Signed.{back}
 use Rattle.bank_form.specs.declared.Fault.{Fault}
 use Rattle.bank_form.specs.Bank.{isLevel}
-use Rattle.bank_form.specs.Version.{rowSize}
+use Rattle.bank_form.specs.Version.{rowSize, largestRow}
 use Rattle.bank_form.specs.Fault.{raisedFrom}
 use Rattle.bank_form.proofs.Pairs.{level-zero, level-other}
 use Rattle.bank_form.proofs.Walk.{one-size, unless-passes, unless-fails}
@@ -19,7 +19,7 @@ use Rattle.bank.proofs.raised_fault.Tie as tie
 
 abbrev Inv-loop : tie.InvT-loop
 Inv-loop elevations l row at₀ i₀ at i =
-    (row ≡ rowSize 2 l) × (row ≤ 4100) × (at ≤ 9 + 4100 * i) × (raisedFrom l 9 elevations ≡ raisedFrom l at (drop i elevations))
+    (row ≡ rowSize 2 l) × (row ≤ largestRow) × (at ≤ 9 + largestRow * i) × (raisedFrom l 9 elevations ≡ raisedFrom l at (drop i elevations))
 
 abbrev μ-loop : tie.MeasureT-loop
 μ-loop elevations l row at₀ i₀ at i = length elevations - i

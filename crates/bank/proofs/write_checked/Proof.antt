@@ -1,5 +1,5 @@
 -- `bank::write_checked` meets its contract. What was made is the encoding of the bank, whose first fault is the bank's. Assumes nothing.
-use mathlib.Core.Path.{_≡_, refl, sym, ap, _∙_}
+use mathlib.Core.Path.{_≡_, sym, ap, _∙_}
 use mathlib.Core.List.{List}
 use Prim.Native.Nat.{ℕ, _+_, _*_, _≤_}
 use native.Mathlib.Omega.{arith}
@@ -14,6 +14,7 @@ use Rattle.bank_form.specs.FitsFields.{FitsFields}
 use Rattle.bank_form.specs.WriteFault.{writeFault}
 use Rattle.bank_form.proofs.Writer.{writer-as-reader}
 use Rattle.bank_form.proofs.RoundTrip.{Counted, length-encode, rows-reach}
+use Rattle.bank.proofs.Converting.{holds-2}
 use Rattle.bank.proofs.Answers.{Lent, breaks, written, wrote}
 use Rattle.bank.proofs.Fill.{made-file, copied}
 use borrow.Author.Needs.{needs}
@@ -64,7 +65,7 @@ module _ (c : tie.After-put-bank) where
 
   held : FitsFields 2 bank
   held = record {
-    holds = record { known = refl; flat = λ e. absurd (omega (arith, e)) };
+    holds = holds-2 bank;
     few = omega (arith, start .pre .1);
     short = omega (arith, start .pre .0);
     follow = omega (arith, reach);

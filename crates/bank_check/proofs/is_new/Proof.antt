@@ -9,7 +9,7 @@ use mir.Syntax.{w16}
 use mir.Val.{SFits, toZ, ofZ}
 use mir.Facts.{toZ-ofZ}
 use Rattle.bank_form.specs.Bank.{Pair}
-use Rattle.bank_form.specs.Version.{rowSize, largest}
+use Rattle.bank_form.specs.Version.{rowSize, largest, largestRow}
 use Rattle.bank_form.specs.Fault.{isNew}
 use Rattle.bank_form.proofs.Walk.{one-size, new-met, new-next, new-end}
 use Rattle.bank_check.proofs.is_new.Statement.{statement}
@@ -21,7 +21,7 @@ wanted z e = record { azimuth = toZ w16 z; elevation = toZ w16 e }
 
 abbrev Inv-loop : tie.InvT-loop
 Inv-loop s version l i azimuth elevation row at₀ k₀ at k =
-    (row ≡ rowSize version l) × (row ≤ 4100) × (at + 4100 * k ≤ largest) × (isNew s version l (wanted azimuth elevation) 9 i ≡ isNew s version l (wanted azimuth elevation) at k)
+    (row ≡ rowSize version l) × (row ≤ largestRow) × (at + largestRow * k ≤ largest) × (isNew s version l (wanted azimuth elevation) 9 i ≡ isNew s version l (wanted azimuth elevation) at k)
 
 abbrev μ-loop : tie.MeasureT-loop
 μ-loop s version l i azimuth elevation row at₀ k₀ at k = k

@@ -3,14 +3,14 @@ use mathlib.Core.Path.{_≡_, sym, ap, ap₂, _∙_}
 use Prim.Native.Nat.{ℕ, _+_, _-_, _*_, _≤_, _<_}
 use native.Mathlib.Omega.{arith}
 use borrow.Author.Tests.{eq-eqb, ne-eqb}
-use Rattle.bank_form.specs.Version.{rowSize}
+use Rattle.bank_form.specs.Version.{rowSize, largestRow}
 use Rattle.bank_form.specs.Fault.{rowsFault}
 use Rattle.bank_form.proofs.Walk.{one-size, else-stop, else-on, rows-next, rows-end}
 use Rattle.bank_check.proofs.rows_fault.Statement.{statement}
 use Rattle.bank_check.proofs.rows_fault.Tie as tie
 
 abbrev Inv-loop : tie.InvT-loop
-Inv-loop size s version l n row i₀ at₀ i at = (row ≡ rowSize version l) × (row ≤ 4100) × (i ≤ n) × (at ≤ 9 + 4100 * i) × (rowsFault size s version l 0 9 n ≡ rowsFault size s version l i at (n - i))
+Inv-loop size s version l n row i₀ at₀ i at = (row ≡ rowSize version l) × (row ≤ largestRow) × (i ≤ n) × (at ≤ 9 + largestRow * i) × (rowsFault size s version l 0 9 n ≡ rowsFault size s version l i at (n - i))
 
 abbrev μ-loop : tie.MeasureT-loop
 μ-loop size s version l n row i₀ at₀ i at = n - i

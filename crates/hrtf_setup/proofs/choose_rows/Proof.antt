@@ -8,7 +8,7 @@ use mir.Syntax.{w16}
 use mir.Val.{toZ, ofZ}
 use Rattle.row_choice.specs.declared.Choice.{Choice}
 use Rattle.row_choice.specs.Choice.{choiceOf}
-use Rattle.hrtf_setup.specs.Speakers.{level}
+use Rattle.hrtf_setup.specs.Speakers.{speakerElevation}
 use Rattle.hrtf_setup.proofs.Standing.{held-16}
 use Rattle.hrtf_setup.proofs.Choosing.{Choosing, choosing-none, choosing-more, choosing-all}
 use Rattle.hrtf_setup.proofs.choose_rows.Statement.{statement}
@@ -46,10 +46,10 @@ loop-again c =
     let a = c .before .before .before .before .args in
     let l = c .before .before .before .loop in
     let t = c .before .tenths .result in
-    let given : c .nearest-row .result ≡ choiceOf (now (a .azimuths)) (now (a .elevations)) (a .rows) (toZ w16 (ofZ w16 t)) level = c .nearest-row .ensures .answer in
+    let given : c .nearest-row .result ≡ choiceOf (now (a .azimuths)) (now (a .elevations)) (a .rows) (toZ w16 (ofZ w16 t)) speakerElevation = c .nearest-row .ensures .answer in
     let stands = held-16 (a .whose) (l .s) t (c .before .tenths .ensures) in
     choosing-more (a .whose) (a .speakers) (now (a .azimuths)) (now (a .elevations)) (a .rows) (now (a .row-of)) (l .row-of) (l .s) (c .nearest-row .result .row) (l .inv)
-    (c .before .before .loop-test .taken) (ap (λ (r : Choice). r .row) (given ∙ ap (λ (p : ℤ). choiceOf (now (a .azimuths)) (now (a .elevations)) (a .rows) p level) stands))
+    (c .before .before .loop-test .taken) (ap (λ (r : Choice). r .row) (given ∙ ap (λ (p : ℤ). choiceOf (now (a .azimuths)) (now (a .elevations)) (a .rows) p speakerElevation) stands))
 
 returns : tie.Need-returns Inv-loop μ-loop
 returns c =
