@@ -55,7 +55,7 @@ module _ (k : Speakers) (azimuths elevations : List ℤ) (rows s : ℕ) (few : o
 
   -- rows from 1 to 8 of lists of 8: the row is the one that the words name
   row-taken : Takes azimuths elevations rows (tenthsAt k s) speakerElevation (rowAt k azimuths elevations rows s)
-  row-taken = subst (Takes azimuths elevations rows (tenthsAt k s) speakerElevation) row-is (takes azimuths elevations (tenthsAt k s) level rows (not-outside rows 8 few .0))
+  row-taken = subst (Takes azimuths elevations rows (tenthsAt k s) speakerElevation) row-is (takes azimuths elevations (tenthsAt k s) speakerElevation rows (not-outside rows 8 few .0))
 
 -- ---- what both set-ups do
 
