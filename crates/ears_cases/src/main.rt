@@ -1,5 +1,5 @@
 // Tests the program `ears` in the gate: plays every case of document 01's item 10, every refusal of a bank
-// that document 02, E2, names, and a hum at every 15 degrees, and prints what was told and what the output
+// that document 02, E2 and E6, names, and a hum at every 15 degrees, and prints what was told and what the output
 // holds then.
 //
 // The cases are played by file names. The banks and the lines are in data/, written by tests/ears-cases from
