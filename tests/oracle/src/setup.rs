@@ -1,14 +1,14 @@
 //! Setting up the convolver, against the Rust's constructors. Which direction each speaker takes its filters from, and its
 //! weights to the digits of an f32, are read off impulses that the convolver they make plays. Beyond that surround weights
 //! are exactly 1.0 and 0.0, and ambisonic ones are held to document 01's formulas within its bound and to the Rust's virtual
-//! speakers within 2^-29. The rows are document 02's choice (E6) for those directions, written in choice.rs; the speakers
-//! stand at elevation 0.
+//! speakers within 2^-29. The rows are document 02's choice (E6) for those directions, written in choice.rs, at the
+//! elevations of its tables, which are 0.
 use crate::choice::nearest_row;
 use crate::frame::{Answer, Case, Sink, Verdict, f64_bytes, hex, request};
 use crate::gains::{Check, Layout, check_all, weighted_checks};
 use crate::random::Random;
 use crate::rust::{self, Impulses};
-use bbx_dsp::blocks::effectors::binaural_decoder::virtual_speaker::layouts::FOA_POSITIONS;
+use bbx_dsp::blocks::effectors::binaural_decoder::virtual_speaker::layouts::{FOA_POSITIONS, SURROUND_51_POSITIONS, SURROUND_71_POSITIONS};
 use std::sync::LazyLock;
 
 const NEW_SURROUND: u8 = 19;
@@ -60,10 +60,11 @@ impl Whose {
         }
     }
 
-    /// The same in whole tenths, with its elevation: a layout's speakers are level.
+    /// The same in whole tenths, with the elevation that the Rust's tables have.
     fn place(self, s: usize) -> (i16, i16) {
         let elevation = match self {
-            Whose::Layout(_) => 0.0,
+            Whose::Layout(Layout(2, _)) => SURROUND_51_POSITIONS[s].1,
+            Whose::Layout(_) => SURROUND_71_POSITIONS[s].1,
             Whose::Order(_) => FOA_POSITIONS[s].1,
         };
         ((self.azimuth(s) * 10.0) as i16, (elevation * 10.0) as i16)
