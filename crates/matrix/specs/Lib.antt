@@ -3,3 +3,4 @@ pub mod Mirror
 pub mod Rows
 pub mod Promise
 pub mod Steps
+pub mod Ears

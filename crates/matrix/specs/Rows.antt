@@ -14,6 +14,11 @@ pub data Ear : Type 0 where
   left : Ear
   right : Ear
 
+-- of two rows, and of two ear planes, the left ear's is the first
+abbrev pub placeOf : Ear → ℕ
+placeOf left = 0
+placeOf right = 1
+
 -- the left ear's, in hundredths, in ACN order: first, second and third order
 abbrev pub foa : List ℤ
 foa = pos 50 ∷ pos 50 ∷ pos 10 ∷ pos 35 ∷ []

@@ -1,0 +1,64 @@
+-- Wrong rows, each held against what E7 asks: those of 002 do not swap the ears, and no row that differs from the promised one in a sign is an answer, whichever weight it is. Assumes nothing.
+use mathlib.Core.Path.{_≡_, refl, sym, ap, _∙_, subst}
+use mathlib.Core.Bool.{Bool, true, false, not, cond, true≢false}
+use mathlib.Core.List.{List, [], _∷_, _++_}
+use Prim.Native.Nat.{ℕ, _+_, _<_}
+use native.Mathlib.Nat.{zero-add}
+use borrow.Author.Tests.{eq-eqb}
+use lib.Dec.{eqb}
+use lib.IntN.{ℤ, pos}
+use lib.ListN.{length, getD}
+use lib.Ieee.{Float, nan, inf, fin, neg, add, sum, mul, round}
+use lib.Ieee.Scale.{finite}
+use Rattle.numbers.specs.Computed.{rounded}
+use Rattle.checks.proofs.Checks.{sound-at}
+use Rattle.rows.specs.Rows.{scaled}
+use Rattle.planes.specs.Normalization.{inverseRoot}
+use Rattle.planes.specs.Sums.{mixed}
+use Rattle.channel.specs.Layouts.{minus}
+use Rattle.matrix.specs.Mirror.{negatedAt}
+use Rattle.matrix.specs.Rows.{left, soa, literals, rows}
+use Rattle.matrix.specs.Promise.{Computes}
+use Rattle.matrix.specs.Ears.{Mirrors}
+use Rattle.matrix.proofs.Negated.{getD-negated}
+use Rattle.matrix.proofs.Mirror.{computed-order, computed-rows}
+use Rattle.matrix.proofs.Sound.{rootOfHalf, inverse-root-two, rows-finite}
+use Rattle.matrix.proofs.Worked.{fifthAlone}
+
+isNegative : Float → Bool
+isNegative nan = false
+isNegative (inf s) = s
+isNegative (fin s m e) = s
+
+-- ---- any one weight with the other sign, of either ear: a sign missing on 5 or on 11, one on 13 or on 14
+
+not-not : (s : Bool) → not s ≡ s → ⊥
+not-not true e = absurd (true≢false (sym e))
+not-not false e = absurd (true≢false e)
+
+-- no finite number is its own opposite: the two zeros are two
+not-opposite : (x : Float) → finite x ≡ true → neg x ≡ x → ⊥
+unfolding neg isNegative
+not-opposite nan f e = absurd (true≢false (sym f))
+not-opposite (inf s) f e = absurd (true≢false (sym f))
+not-opposite (fin s m e) f p = not-not s (ap isNegative p)
+
+other-sign : (n : ℕ) (lent : List Float) (k : ℕ) → k < length (rows n) → Computes n lent (record { refusal = 0; weights = negatedAt neg (λ (i : ℕ). eqb i k) 0 (rows n) }) → ⊥
+unfolding neg
+other-sign n lent k h p =
+    let wrong : List Float = negatedAt neg (λ (i : ℕ). eqb i k) 0 (rows n) in
+    let x : Float = getD (rows n) k nan in
+    not-opposite x (sound-at (rows n) k (rows-finite n (computed-order n lent wrong p)) h)
+    (sym (getD-negated neg (λ (i : ℕ). eqb i k) nan refl 0 (rows n) k ∙ ap (λ (b : Bool). cond b (neg x) x) (eq-eqb (0 + k) k (zero-add k)))
+    ∙ ap (λ (w : List Float). getD w k nan) (computed-rows n lent wrong p))
+
+-- ---- 002's rows of the second order: 1.0 on channel 5 alone is the same at both ears, and with the other sign at both when mirrored
+
+rightOf002 : List ℤ
+rightOf002 = pos 45 ∷ minus 45 ∷ pos 9 ∷ pos 32 ∷ minus 25 ∷ pos 8 ∷ pos 5 ∷ pos 8 ∷ pos 15 ∷ []
+
+rows-of-002 : Mirrors 2 (scaled (inverseRoot 2) (literals soa ++ literals rightOf002)) → ⊥
+unfolding rightOf002 isNegative mixed rounded add sum mul neg round
+rows-of-002 m =
+    let by-half : Mirrors 2 (scaled rootOfHalf (literals soa ++ literals rightOf002)) = subst (λ (f : Float). Mirrors 2 (scaled f (literals soa ++ literals rightOf002))) inverse-root-two m in
+    true≢false (ap isNegative (by-half .swaps left fifthAlone))
