@@ -7,11 +7,11 @@ use mathlib.Core.List.{List, [], _∷_, map}
 use Prim.Native.Nat.{ℕ, zero, suc, _+_}
 use native.Mathlib.Nat.{add-zero, add-suc, suc-add}
 use lib.Dec.{T}
-use lib.ListN.{getD}
+use lib.ListN.{length, getD}
 use lib.Ieee.{Float, binary64, mul, neg}
 use lib.Ieee.Fits.{and-l, and-r}
 use Rattle.formats.proofs.Signs.{mul-either}
-use Rattle.lists.specs.Tables.{every}
+use Rattle.lists.specs.Tables.{tab, every}
 use Rattle.planes.specs.Sums.{products}
 use Rattle.matrix.specs.Mirror.{negatedAt}
 
@@ -34,6 +34,14 @@ module _ {A : Type 0} (negate : A → A) (named : ℕ → Bool) where
   getD-negated d e i (x ∷ xs) zero = ap (λ (j : ℕ). cond (named j) (negate x) x) (sym (add-zero i))
   getD-negated d e i (x ∷ xs) (suc k) =
       getD-negated d e (suc i) xs k ∙ ap (λ (j : ℕ). cond (named j) (negate (getD xs k d)) (getD xs k d)) (suc-add i k ∙ sym (add-suc i k))
+
+  pub tab-negated : (i n : ℕ) (f : ℕ → A) → negatedAt negate named i (tab i n f) ≡ tab i n (λ (k : ℕ). cond (named k) (negate (f k)) (f k))
+  tab-negated i zero f = refl
+  tab-negated i (suc n) f = ap (λ (l : List A). cond (named i) (negate (f i)) (f i) ∷ l) (tab-negated (suc i) n f)
+
+  pub length-negated : (i : ℕ) (xs : List A) → length (negatedAt negate named i xs) ≡ length xs
+  length-negated i [] = refl
+  length-negated i (x ∷ xs) = ap suc (length-negated (suc i) xs)
 
 -- the function does so with each element that passes a test, and all of the list's do
 module _ {A B : Type 0} (negate : A → A) (negate' : B → B) (f : A → B) (test : A → Bool) (follows : (x : A) → T (test x) → f (negate x) ≡ negate' (f x)) (named : ℕ → Bool) where

@@ -1,0 +1,3 @@
+-- Laws of mirrored scenes.
+pub mod Blocks
+pub mod Ears

@@ -1,0 +1,3 @@
+-- What is said of mirrored scenes.
+pub mod Blocks
+pub mod Ears
