@@ -1,7 +1,10 @@
--- `Digits` names no format, only a number of digits p; `Patterns`, `Grid`, `Normal`, `Dropped` and `Signs` hold in every format.
+-- `Digits` names no format, only a number of digits p; `Patterns`, `Grid`, `Normal`, `Dropped`, `Exchanged`, `Signs`, `Zeros` and `Opposite` hold in every format.
 pub mod Digits
 pub mod Patterns
 pub mod Grid
 pub mod Normal
 pub mod Dropped
+pub mod Exchanged
 pub mod Signs
+pub mod Zeros
+pub mod Opposite

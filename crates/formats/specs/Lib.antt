@@ -1,2 +1,3 @@
 -- Numbers as the code writes them.
 pub mod Floats
+pub mod Zeros

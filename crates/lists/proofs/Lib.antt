@@ -1,6 +1,7 @@
 -- Laws that crates above cite: of lists, of tables, of parts that are put in, of a list that is filled place by place, of lists that are joined, of what is so of every element, by a test or by a kind,
 -- of a loop that goes through a table, and of what is chosen by a test.
 pub mod Lists
+pub mod Mapped
 pub mod Tables
 pub mod Placed
 pub mod Filling

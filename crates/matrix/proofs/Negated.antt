@@ -3,11 +3,11 @@
 -- a weighted sum needs no law of sums. Assumes nothing.
 use mathlib.Core.Path.{_≡_, refl, sym, ap, _∙_}
 use mathlib.Core.Bool.{Bool, true, false, cond}
-use mathlib.Core.List.{List, [], _∷_, map}
+use mathlib.Core.List.{List, [], _∷_, _++_, map}
 use Prim.Native.Nat.{ℕ, zero, suc, _+_}
 use native.Mathlib.Nat.{add-zero, add-suc, suc-add}
 use lib.Dec.{T}
-use lib.ListN.{length, getD}
+use lib.ListN.{length, getD, take}
 use lib.Ieee.{Float, binary64, mul, neg}
 use lib.Ieee.Fits.{and-l, and-r}
 use Rattle.formats.proofs.Signs.{mul-either}
@@ -39,6 +39,17 @@ module _ {A : Type 0} (negate : A → A) (named : ℕ → Bool) where
   tab-negated i zero f = refl
   tab-negated i (suc n) f = ap (λ (l : List A). cond (named i) (negate (f i)) (f i) ∷ l) (tab-negated (suc i) n f)
 
+  pub negated-take : (n i : ℕ) (xs : List A) → take n (negatedAt negate named i xs) ≡ negatedAt negate named i (take n xs)
+  negated-take zero i xs = refl
+  negated-take (suc n) i [] = refl
+  negated-take (suc n) i (x ∷ xs) = ap (λ (l : List A). cond (named i) (negate x) x ∷ l) (negated-take n (suc i) xs)
+
+  pub negated-append : (i : ℕ) (xs ys : List A) → negatedAt negate named i (xs ++ ys) ≡ negatedAt negate named i xs ++ negatedAt negate named (i + length xs) ys
+  negated-append i [] ys = ap (λ (k : ℕ). negatedAt negate named k ys) (sym (add-zero i))
+  negated-append i (x ∷ xs) ys =
+      ap (λ (l : List A). cond (named i) (negate x) x ∷ l)
+      (negated-append (suc i) xs ys ∙ ap (λ (k : ℕ). negatedAt negate named (suc i) xs ++ negatedAt negate named k ys) (suc-add i (length xs) ∙ sym (add-suc i (length xs))))
+
   pub length-negated : (i : ℕ) (xs : List A) → length (negatedAt negate named i xs) ≡ length xs
   length-negated i [] = refl
   length-negated i (x ∷ xs) = ap suc (length-negated (suc i) xs)
@@ -52,6 +63,15 @@ module _ {A B : Type 0} (negate : A → A) (negate' : B → B) (f : A → B) (te
       one : (b : Bool) → f (cond b (negate x) x) ≡ cond b (negate' (f x)) (f x)
       one true = follows x (and-l (test x) (every test xs) t)
       one false = refl
+
+-- with every element
+always : {A : Type 0} (xs : List A) → T (every (λ (x : A). true) xs)
+always [] = tt
+always (x ∷ xs) = always xs
+
+module _ {A B : Type 0} (negate : A → A) (negate' : B → B) (f : A → B) (follows : (x : A) → f (negate x) ≡ negate' (f x)) (named : ℕ → Bool) where
+  pub map-negated-each : (i : ℕ) (xs : List A) → map f (negatedAt negate named i xs) ≡ negatedAt negate' named i (map f xs)
+  map-negated-each i xs = map-negated negate negate' f (λ (x : A). true) (λ x t. follows x) named i xs (always xs)
 
 pub products-negated : (named : ℕ → Bool) (i : ℕ) (xs ws : List Float) → products (negatedAt neg named i xs) ws ≡ products xs (negatedAt neg named i ws)
 products-negated named i [] ws = refl

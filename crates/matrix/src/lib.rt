@@ -1,11 +1,14 @@
 // Gives the binaural rows: the weights by which ambisonic channels are heard at the left and at the right ear
 // without filters (document 01, item 6 and 'Gains', from matrix.rs).
 //
-// They are the literals of 002 for orders 1 to 3, both ears' rows as they stand, times 1.0/root(2.0).
-// `compute_matrix` puts them into a lent list, the left ear's row and then the right ear's, bit for bit. They
+// They are the literals of 002 for orders 1 to 3, times 1.0/root(2.0). The right ear's row is the left ear's
+// with channels 1, 4, 5, 9, 10 and 11 negated, so that a scene swapped left for right swaps the ears
+// (document 02, E7); 002 misses these signs on 5 and 11, and has one on 14.
+// `compute_matrix` puts the rows into a lent list, the left ear's and then the right ear's, bit for bit. They
 // are applied as a decoder matrix of two rows, by the decoder's own `process`: no sum stands here.
 //
-// It takes any input; its promise (specs/Promise.antt) is one equation for the refusal and the list.
+// It takes any input; its promise (specs/Promise.antt) is one equation for the refusal and the list. That the
+// ears swap is specs/Ears.antt.
 ghost use mathlib.Core.Path.{_≡_};
 ghost use Rattle.matrix.specs.Promise.{Computes};
 ghost use Rattle.matrix.specs.Steps.{put};

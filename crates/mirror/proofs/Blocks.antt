@@ -14,7 +14,8 @@ use lib.Ieee.{Float, nan, neg}
 use Rattle.refusals.specs.Refusals.{outside, answered}
 use Rattle.refusals.proofs.First.{passed, or-off}
 use Rattle.lists.specs.Tables.{tab, row}
-use Rattle.lists.proofs.Tables.{length-tab, getD-tab, tab-from, tab-ext}
+use Rattle.lists.proofs.Tables.{length-tab, getD-tab, tab-ext}
+use Rattle.lists.proofs.Mapped.{map-tab}
 use Rattle.checks.specs.Finite.{unsound}
 use Rattle.checks.specs.Lengths.{blockUnfit, unfit}
 use Rattle.checks.proofs.Checks.{fitted}
@@ -41,10 +42,6 @@ frame-mirrored xs stride planes n h =
     one p =
         getD-negated neg (λ (i : ℕ). lateral (i / stride)) nan refl 0 xs (p * stride + n)
         ∙ ap (λ (q : ℕ). cond (lateral q) (neg (sampleAt xs stride p n)) (sampleAt xs stride p n)) (ap (λ (i : ℕ). i / stride) (zero-add (p * stride + n)) ∙ digits-div p h)
-
-map-tab : {A B : Type 0} (g : A → B) (i n : ℕ) (f : ℕ → A) → map g (tab i n f) ≡ tab i n (λ (k : ℕ). g (f k))
-map-tab g i zero f = refl
-map-tab g i (suc n) f = ap (λ (l : List _). g (f i) ∷ l) (map-tab g (suc i) n f)
 
 -- ---- the frames that a call plays
 

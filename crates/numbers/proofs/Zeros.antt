@@ -1,5 +1,5 @@
 -- Sums, products and quotients of the zeros of binary64: 0.0 times a finite number is a zero of some sign, 0.0 with a zero of either sign added is 0.0, and 0.0 over a number above 0 is 0.0. Assumes nothing.
-use mathlib.Core.Path.{_≡_, refl, sym, ap, _∙_, subst}
+use mathlib.Core.Path.{_≡_, refl, ap, _∙_, subst}
 use mathlib.Core.Bool.{Bool, true, false}
 use Prim.Native.Nat.{ℕ, _*_, _<_}
 use native.Mathlib.Nat.{zero-mul, mul-pos, lt-irrefl}
@@ -9,17 +9,13 @@ use lib.IntN.{ℤ, pos}
 use lib.Ieee.{Float, nan, inf, fin, binary64, add, mul, div, round, sum, size, span, climb, units, odd, up, down, unlike}
 use lib.Ieee.Fits.{up-pos, down-pos}
 use lib.Ieee.Positive.{positive}
-use lib.Ieee.Scale.{round-same}
 use Rattle.refusals.proofs.First.{goes-on}
 use Rattle.formats.specs.Floats.{zero-float}
-
-round-zero : (s : Bool) (c : ℕ) → 0 < c → round binary64 s 0 c ≡ fin s 0 (pos 0)
-unfolding round size span climb units odd
-round-zero s c h = round-same binary64 s 0 c 0 1 h (lit< tt) (sym (zero-mul c))
+use Rattle.formats.proofs.Zeros.{zero-rounded}
 
 pub zero-times : (t : Bool) (m : ℕ) (e : ℤ) → mul binary64 zero-float (fin t m e) ≡ fin (unlike false t) 0 (pos 0)
 unfolding mul
-zero-times t m e = ap (λ (k : ℕ). round binary64 (unlike false t) k (1 * down e)) (zero-mul (m * up e)) ∙ round-zero (unlike false t) (1 * down e) (mul-pos {m = 1} (lit< tt) (down-pos e))
+zero-times t m e = ap (λ (k : ℕ). round binary64 (unlike false t) k (1 * down e)) (zero-mul (m * up e)) ∙ zero-rounded binary64 (unlike false t) (1 * down e) (mul-pos {m = 1} (lit< tt) (down-pos e))
 
 pub zero-plus : (s : Bool) → add binary64 zero-float (fin s 0 (pos 0)) ≡ zero-float
 unfolding add sum round size span climb units odd
@@ -35,4 +31,4 @@ zero-over (fin false m e) p =
     let M = ltb→lt 0 m p in
     goes-on _ _ (ne-eqb m 0 (λ z. lt-irrefl 0 (subst (λ (k : ℕ). 0 < k) z M)))
     ∙ ap (λ (k : ℕ). round binary64 false k (m * up e * 1)) (zero-mul (down e))
-    ∙ round-zero false (m * up e * 1) (mul-pos (mul-pos M (up-pos e)) (lit< tt))
+    ∙ zero-rounded binary64 false (m * up e * 1) (mul-pos (mul-pos M (up-pos e)) (lit< tt))

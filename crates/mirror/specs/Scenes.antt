@@ -1,0 +1,64 @@
+-- Document 02, E7: "Swap a scene left for right and the ears don't swap." A scene is swapped by negating the azimuth of each voice. What the program then computes: which bits change, and which stay.
+-- Definitions only.
+use Prim.Native.Nat.{ℕ, _-_, _%_, _<_}
+use mathlib.Core.Path.{_≡_}
+use mathlib.Core.List.{List, [], _∷_, map}
+use lib.ListN.{length, getD}
+use lib.Ieee.{Float, neg}
+use Rattle.channel.specs.declared.Layout.{Layout}
+use Rattle.channel.specs.declared.Layout.the-variants.{Mono, Stereo, Surround51, Surround71, Custom}
+use Rattle.channel.specs.Layouts.{speakers, positions}
+use Rattle.matrix.specs.Mirror.{mirrored}
+use Rattle.angles.specs.Computed.{turn, place}
+use Rattle.angles.specs.Promise as Angles
+use Rattle.harmonics.specs.Computed.{sin, cos}
+use Rattle.harmonics.specs.Promise as Harmonics
+use Rattle.harmonics.specs.declared.Direction.{Direction}
+use Rattle.decoder_matrix.specs.Matrix.{rowTowards, rowBy}
+use Rattle.virtual_speaker.specs.Promise.{positionOf}
+use Rattle.virtual_speaker.specs.Promise as Virtual
+use Rattle.formats.specs.Zeros.{unsignedZero}
+
+-- ---- of an angle in degrees, any float, also one that is refused: where it lies on the turn, in the program's units (what is left of the turn, or 0 again), its sine and cosine
+pub record AngleMirrors (d : Float) : Type 0 where
+  pub lies : place (neg d) ≡ (turn - place d) % turn
+  pub refusal : Angles.refusalOf (neg d) ≡ Angles.refusalOf d
+  pub cosine : cos (neg d) ≡ cos d
+  pub sine : unsignedZero (sin (neg d)) ≡ unsignedZero (neg (sin d))
+
+-- ---- of a direction: its gains, and its gains weighted
+
+abbrev pub mirroredDirection : Direction → Direction
+mirroredDirection d = record { azimuth = neg (d .azimuth); elevation = d .elevation }
+
+-- one number for each channel: those of a scene, and those of the scene that is swapped
+abbrev pub Swapped : List Float → List Float → Type 0
+Swapped xs ys = map unsignedZero ys ≡ map unsignedZero (mirrored neg xs)
+
+-- for every order and every direction, also those that are refused
+pub record DirectionMirrors (order : ℕ) (d : Direction) : Type 0 where
+  pub refusal : Harmonics.refusalOf order (mirroredDirection d) ≡ Harmonics.refusalOf order d
+  pub gains : Swapped (Harmonics.outcome order d .gains) (Harmonics.outcome order (mirroredDirection d) .gains)
+  pub weights : Swapped (Virtual.outcome order d .weights) (Virtual.outcome order (mirroredDirection d) .weights)
+
+-- ---- of speakers: each has one that stands at the opposite azimuth, itself where that is 0 or 180
+
+-- which it is, in channel order. Those of a Custom layout are computed, and left out
+abbrev pub partners : Layout → List ℕ
+partners Mono = 0 ∷ []
+partners Stereo = 1 ∷ 0 ∷ []
+partners Surround51 = 1 ∷ 0 ∷ 2 ∷ 3 ∷ 5 ∷ 4 ∷ []
+partners Surround71 = 1 ∷ 0 ∷ 2 ∷ 3 ∷ 5 ∷ 4 ∷ 7 ∷ 6 ∷ []
+partners (Custom n) = []
+
+abbrev pub positionPartners : List ℕ
+positionPartners = 0 ∷ 7 ∷ 6 ∷ 5 ∷ 4 ∷ 3 ∷ 2 ∷ 1 ∷ []
+
+abbrev pub partnerIn : List ℕ → ℕ → ℕ
+partnerIn table i = getD table i i
+
+-- the row of a decoder towards any azimuth, one of n rows of so many channels; the rows of two partners; and the weighted coefficients of two virtual speakers
+pub record SpeakersMirror (order : ℕ) : Type 0 where
+  pub row : (n channels : ℕ) (azimuth : Float) → Swapped (rowTowards order n channels azimuth) (rowTowards order n channels (neg azimuth))
+  pub rows : (l : Layout) (n channels i : ℕ) → i < length (speakers l) → Swapped (rowBy order l n channels i) (rowBy order l n channels (partnerIn (partners l) i))
+  pub weights : (i : ℕ) → i < length positions → Swapped (Virtual.outcome order (positionOf i) .weights) (Virtual.outcome order (positionOf (partnerIn positionPartners i)) .weights)
