@@ -1,9 +1,9 @@
--- The laws of the decoder matrix.
+-- The laws of the decoder matrix. Crates above cite `Answers`.
 mod Speakers
 mod Filling
 mod Near
 mod Turned
-mod Answers
+pub mod Answers
 mod LowFrequency
 mod Unique
 mod Refuted

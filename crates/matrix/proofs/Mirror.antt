@@ -45,7 +45,7 @@ weight-opposite z t = ap (λ (x : Float). mul binary64 x (inverseRoot 2)) (liter
 
 -- ---- a sum over a frame: it is the same whether the samples are negated or their weights
 
-mixed-mirrored : (w frame : List Float) → mixed (mirrored neg w) frame ≡ mixed w (mirrored neg frame)
+pub mixed-mirrored : (w frame : List Float) → mixed (mirrored neg w) frame ≡ mixed w (mirrored neg frame)
 unfolding mixed
 mixed-mirrored w frame = ap (λ (l : List Float). narrowed (total zero-float l)) (sym (products-negated lateral 0 frame w))
 

@@ -91,7 +91,7 @@ module _ (outputs channels : ℕ) (weights : List Float) where
 
   module _ (partner : ℕ → ℕ) (partners : Partners outputs channels weights partner) where
     -- a frame of the outputs, of the mirrored frame
-    frame-exchanged : (frame : List Float) → mixedAll outputs channels weights (mirrored neg frame) ≡ exchanged outputs partner (mixedAll outputs channels weights frame)
+    pub frame-exchanged : (frame : List Float) → mixedAll outputs channels weights (mirrored neg frame) ≡ exchanged outputs partner (mixedAll outputs channels weights frame)
     frame-exchanged frame =
         tab-ext 0 outputs (λ (o : ℕ). mixed (row channels o weights) (mirrored neg frame)) (λ (o : ℕ). getD (mixedAll outputs channels weights frame) (partner o) nan)
         (λ o l. let inside : o < outputs = omega (arith, l) in

@@ -20,7 +20,7 @@ use Rattle.virtual_speaker.specs.Computed.{cosineOf, weight, weigh}
 use Rattle.formats.specs.Zeros.{unsignedZero}
 use Rattle.mirror.specs.Scenes.{Swapped, mirroredDirection, DirectionMirrors}
 use Rattle.mirror.proofs.Angles.{refused-negated, angle-mirrors}
-use Rattle.mirror.proofs.Swapped.{SwappedAt, swapped-append, swapped-at, swapped-tab, swapped-product}
+use Rattle.mirror.proofs.Swapped.{SwappedAt, swapped-append, swapped-at, swapped-tab, swapped-by, times-odd}
 
 -- ---- the sixteen
 
@@ -91,7 +91,7 @@ answer-swapped false xs ys h = refl
 weigh-swapped : (c : Float) (xs ys : List Float) → Swapped xs ys → Swapped (weigh c xs) (weigh c ys)
 unfolding weigh
 weigh-swapped c xs ys h =
-    swapped-tab lateral 0 16 (weighedAt xs) (weighedAt ys) (λ k. swapped-product lateral k (getD xs k nan) (getD ys k nan) (weight c (degreeOf k)) (swapped-at lateral xs ys h k))
+    swapped-tab lateral 0 16 (weighedAt xs) (weighedAt ys) (λ k. swapped-by lateral (times-odd binary64 (weight c (degreeOf k))) k (getD xs k nan) (getD ys k nan) (swapped-at lateral xs ys h k))
   where
     weighedAt : List Float → ℕ → Float
     weighedAt zs k = mul binary64 (getD zs k nan) (weight c (degreeOf k))

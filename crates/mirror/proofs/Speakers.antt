@@ -29,7 +29,7 @@ use Rattle.virtual_speaker.specs.Computed.{cosineOf, weigh}
 use Rattle.virtual_speaker.specs.Promise as Virtual
 use Rattle.mirror.specs.Scenes.{Swapped, partners, positionPartners, partnerIn, SpeakersMirror}
 use Rattle.mirror.proofs.Angles.{angle-mirrors, sine-stays}
-use Rattle.mirror.proofs.Swapped.{swapped-take, swapped-scaled}
+use Rattle.mirror.proofs.Swapped.{times-odd, swapped-take, swapped-map}
 use Rattle.mirror.proofs.Directions.{cosine-of-multiple, refusal-mirrored, direction-mirrors}
 
 -- ---- an azimuth that lies where its opposite does, and so twice and three times it
@@ -126,7 +126,7 @@ module _ (order : ℕ) where
     row-swaps : (a : Float) → Swapped (rowTowards order n channels a) (rowTowards order n channels (neg a))
     row-swaps a =
         let gains : Float → List Float = λ b. Harmonics.outcome order (towards b) .gains in
-        swapped-scaled lateral (inverseRoot n) 0 (take channels (gains a)) (take channels (gains (neg a)))
+        swapped-map lateral (times-odd binary64 (inverseRoot n)) 0 (take channels (gains a)) (take channels (gains (neg a)))
         (swapped-take lateral channels 0 (gains a) (gains (neg a)) (direction-mirrors order (towards a) .gains))
 
     row-stays : (a : Float) → Own a → rowTowards order n channels (neg a) ≡ rowTowards order n channels a

@@ -1,4 +1,4 @@
 -- What is said of mirrored scenes.
-pub mod Scenes
 pub mod Blocks
+pub mod Scenes
 pub mod Ears

@@ -2,21 +2,28 @@
 -- Definitions only.
 use Prim.Native.Nat.{ℕ, _-_, _%_, _<_}
 use mathlib.Core.Path.{_≡_}
+use mathlib.Core.Bool.{false}
 use mathlib.Core.List.{List, [], _∷_, map}
-use lib.ListN.{length, getD}
+use lib.ListN.{length, getD, take}
 use lib.Ieee.{Float, neg}
 use Rattle.channel.specs.declared.Layout.{Layout}
 use Rattle.channel.specs.declared.Layout.the-variants.{Mono, Stereo, Surround51, Surround71, Custom}
-use Rattle.channel.specs.Layouts.{speakers, positions}
+use Rattle.channel.specs.Layouts.{channelsOf, speakers, positions}
+use Rattle.channel.specs.Orders.{refusesOrder, channelsOfOrder}
+use Rattle.planes.specs.Sums.{mixed, mixedAll}
 use Rattle.matrix.specs.Mirror.{mirrored}
 use Rattle.angles.specs.Computed.{turn, place}
 use Rattle.angles.specs.Promise as Angles
 use Rattle.harmonics.specs.Computed.{sin, cos}
 use Rattle.harmonics.specs.Promise as Harmonics
 use Rattle.harmonics.specs.declared.Direction.{Direction}
-use Rattle.decoder_matrix.specs.Matrix.{rowTowards, rowBy}
+use Rattle.decoder_matrix.specs.Matrix.{rowTowards, rowBy, matrixOf}
 use Rattle.virtual_speaker.specs.Promise.{positionOf}
 use Rattle.virtual_speaker.specs.Promise as Virtual
+use Rattle.panner.specs.declared.Command.the-variants.{Ambisonic}
+use Rattle.panner.specs.Commands.{gainsOf}
+use Rattle.panner.specs.Blocks.{narrowedAll, panned}
+use Rattle.mirror.specs.Blocks.{Partners, exchanged, BlocksMirror}
 use Rattle.formats.specs.Zeros.{unsignedZero}
 
 -- ---- of an angle in degrees, any float, also one that is refused: where it lies on the turn, in the program's units (what is left of the turn, or 0 again), its sine and cosine
@@ -62,3 +69,24 @@ pub record SpeakersMirror (order : ℕ) : Type 0 where
   pub row : (n channels : ℕ) (azimuth : Float) → Swapped (rowTowards order n channels azimuth) (rowTowards order n channels (neg azimuth))
   pub rows : (l : Layout) (n channels i : ℕ) → i < length (speakers l) → Swapped (rowBy order l n channels i) (rowBy order l n channels (partnerIn (partners l) i))
   pub weights : (i : ℕ) → i < length positions → Swapped (Virtual.outcome order (positionOf i) .weights) (Virtual.outcome order (positionOf (partnerIn positionPartners i)) .weights)
+
+-- ---- what is played of them: bit for bit, since no sum sees the sign of a zero
+
+-- what the panner puts into the planes of an order for one sample of a voice
+abbrev pub voice : ℕ → Direction → Float → List Float
+voice order d x = panned (channelsOfOrder order) (narrowedAll (gainsOf (Ambisonic d order) Mono)) x
+
+-- the weights of virtual speaker i
+abbrev pub virtualWeights : ℕ → ℕ → List Float
+virtualWeights order i = take (channelsOfOrder order) (Virtual.outcome order (positionOf i) .weights)
+
+pub record ScenesMirror (order : ℕ) : Type 0 where
+  -- a voice at the opposite azimuth, whatever the sample; through weights whose outputs have partners, as the two ears have, each output plays what its partner plays of the voice
+  pub voices : (d : Direction) (x : Float) → Swapped (voice order d x) (voice order (mirroredDirection d) x)
+  pub outputs : (n : ℕ) (weights : List Float) (partner : ℕ → ℕ) → Partners n (channelsOfOrder order) weights partner → (d : Direction) (x : Float)
+      → mixedAll n (channelsOfOrder order) weights (voice order (mirroredDirection d) x) ≡ exchanged n partner (mixedAll n (channelsOfOrder order) weights (voice order d x))
+  -- blocks of mirrored planes through the decoder matrix of a layout whose speakers stand in the table
+  pub decoders : refusesOrder order ≡ false → (l : Layout) → length (speakers l) ≡ channelsOf l → BlocksMirror (channelsOf l) (channelsOfOrder order) (matrixOf order l) (partnerIn (partners l))
+  -- the signal of a virtual speaker
+  pub signals : (i : ℕ) → i < length positions → (frame : List Float)
+      → mixed (virtualWeights order (partnerIn positionPartners i)) frame ≡ mixed (virtualWeights order i) (mirrored neg frame)
