@@ -71,6 +71,7 @@ pub fn telling(random: &mut Random, channels: usize) -> (Vec<f32>, Vec<f64>) {
 }
 
 /// A block for the decoder: planes of `stride` frames, of which `frames` are played.
+#[derive(Clone)]
 pub struct Block {
     pub outputs: u64,
     pub channels: u64,
@@ -113,14 +114,18 @@ impl Block {
         }
     }
 
+    /// Planes as far as they are played.
+    pub fn cut(&self, planes: &[f32]) -> Vec<Vec<f32>> {
+        planes.chunks(self.stride as usize).map(|p| p[..self.frames as usize].to_vec()).collect()
+    }
+
     /// The planes after the block has been played by the Rust, which gets the frames that are played and no others.
     fn played(&self, rust: impl Fn(&[Vec<f32>], Vec<Vec<f32>>) -> Vec<Vec<f32>>) -> Vec<f32> {
         let (frames, stride) = (self.frames as usize, self.stride as usize);
         if frames == 0 {
             return self.planes.clone();
         }
-        let cut = |planes: &[f32]| -> Vec<Vec<f32>> { planes.chunks(stride).map(|p| p[..frames].to_vec()).collect() };
-        let played = rust(&cut(&self.inputs), cut(&self.planes));
+        let played = rust(&self.cut(&self.inputs), self.cut(&self.planes));
         let beyond = self.planes.chunks(stride).map(|p| &p[frames..]);
         played.iter().zip(beyond).flat_map(|(plane, beyond)| [plane, beyond].concat()).collect()
     }
