@@ -4,7 +4,7 @@ use crate::frame::{Case, Sink, exactly, f32_bytes, request, send};
 use crate::random::Random;
 use crate::rust;
 
-const DECODE: u8 = 16;
+pub const DECODE: u8 = 16;
 
 /// A sample of any pattern, or of a size where sums round.
 fn sample(random: &mut Random) -> f32 {
@@ -134,18 +134,23 @@ impl Block {
         self.judged_by(|inputs, before| rust::decode(&self.weights.chunks(self.channels as usize).collect::<Vec<_>>(), inputs, before))
     }
 
-    /// The block as a request, and as right what the Rust makes of its input planes.
-    pub fn judged_by(&self, rust: impl Fn(&[Vec<f32>], Vec<Vec<f32>>) -> Vec<Vec<f32>>) -> Case {
+    /// The block as a request has it.
+    pub fn arguments(&self) -> Vec<u8> {
         let mut arguments: Vec<u8> = [self.weights.len(), self.inputs.len(), self.planes.len()].iter().flat_map(|n| (*n as u16).to_be_bytes()).collect();
         arguments.extend([self.outputs, self.channels, self.frames, self.stride].iter().flat_map(|n| n.to_be_bytes()));
         arguments.extend(self.weights.iter().flat_map(|w| w.to_bits().to_be_bytes()));
         arguments.extend(self.inputs.iter().chain(&self.planes).flat_map(|s| s.to_bits().to_be_bytes()));
+        arguments
+    }
+
+    /// The block as a request, and as right what the Rust makes of its input planes.
+    pub fn judged_by(&self, rust: impl Fn(&[Vec<f32>], Vec<Vec<f32>>) -> Vec<Vec<f32>>) -> Case {
         let refusal = self.refusal();
         let (samples, planes) = if refusal == 0 { (self.frames, self.played(rust)) } else { (0, self.planes.clone()) };
         let mut answer = vec![refusal];
         answer.extend(samples.to_be_bytes());
         answer.extend(planes.iter().flat_map(|s| f32_bytes(*s)));
-        exactly(request(DECODE, &arguments), DECODE, answer)
+        exactly(request(DECODE, &self.arguments()), DECODE, answer)
     }
 }
 

@@ -4,7 +4,7 @@ use crate::frame::{Case, Sink, exactly, f64_bytes, request, send};
 use crate::random::Random;
 use bbx_dsp::blocks::effectors::binaural_decoder::matrix;
 
-const ROWS: u8 = 9;
+pub const ROWS: u8 = 9;
 
 /// The left ear's row and the right ear's. Beyond the channels of the order stands 0.0.
 pub type Rows = [[f64; 16]; 2];
