@@ -593,7 +593,9 @@ mod tests {
             for layout in group.layouts {
                 let (places, partners) = (layout.speakers(), partners(layout));
                 assert_eq!(places.len(), partners.len());
-                assert!((0..places.len()).all(|i| partners[partners[i]] == i && apart(places[i], -places[partners[i]]) < 1e-12), "{:?}", layout.rust());
+                let farthest = (0..places.len()).map(|i| apart(places[i], -places[partners[i]])).fold(0.0, f64::max);
+                assert!((0..places.len()).all(|i| partners[partners[i]] == i) && farthest < 1e-12, "{:?}", layout.rust());
+                assert_eq!(farthest > 0.0, group.name == "Custom(14)", "{:?}", layout.rust());
             }
         }
         assert!((0..8).all(|s| apart(FOA_POSITIONS[s].0, -FOA_POSITIONS[OPPOSITE[s]].0) == 0.0));
