@@ -4,7 +4,7 @@ use crate::frame::{Case, Sink, exactly, f32_bytes, request, send};
 use crate::random::Random;
 use crate::rust;
 
-const DECODE: u8 = 16;
+pub const DECODE: u8 = 16;
 
 /// A sample of any pattern, or of a size where sums round.
 fn sample(random: &mut Random) -> f32 {
@@ -71,6 +71,7 @@ pub fn telling(random: &mut Random, channels: usize) -> (Vec<f32>, Vec<f64>) {
 }
 
 /// A block for the decoder: planes of `stride` frames, of which `frames` are played.
+#[derive(Clone)]
 pub struct Block {
     pub outputs: u64,
     pub channels: u64,
@@ -113,14 +114,18 @@ impl Block {
         }
     }
 
+    /// Planes as far as they are played.
+    pub fn cut(&self, planes: &[f32]) -> Vec<Vec<f32>> {
+        planes.chunks(self.stride as usize).map(|p| p[..self.frames as usize].to_vec()).collect()
+    }
+
     /// The planes after the block has been played by the Rust, which gets the frames that are played and no others.
     fn played(&self, rust: impl Fn(&[Vec<f32>], Vec<Vec<f32>>) -> Vec<Vec<f32>>) -> Vec<f32> {
         let (frames, stride) = (self.frames as usize, self.stride as usize);
         if frames == 0 {
             return self.planes.clone();
         }
-        let cut = |planes: &[f32]| -> Vec<Vec<f32>> { planes.chunks(stride).map(|p| p[..frames].to_vec()).collect() };
-        let played = rust(&cut(&self.inputs), cut(&self.planes));
+        let played = rust(&self.cut(&self.inputs), self.cut(&self.planes));
         let beyond = self.planes.chunks(stride).map(|p| &p[frames..]);
         played.iter().zip(beyond).flat_map(|(plane, beyond)| [plane, beyond].concat()).collect()
     }
@@ -129,18 +134,23 @@ impl Block {
         self.judged_by(|inputs, before| rust::decode(&self.weights.chunks(self.channels as usize).collect::<Vec<_>>(), inputs, before))
     }
 
-    /// The block as a request, and as right what the Rust makes of its input planes.
-    pub fn judged_by(&self, rust: impl Fn(&[Vec<f32>], Vec<Vec<f32>>) -> Vec<Vec<f32>>) -> Case {
+    /// The block as a request has it.
+    pub fn arguments(&self) -> Vec<u8> {
         let mut arguments: Vec<u8> = [self.weights.len(), self.inputs.len(), self.planes.len()].iter().flat_map(|n| (*n as u16).to_be_bytes()).collect();
         arguments.extend([self.outputs, self.channels, self.frames, self.stride].iter().flat_map(|n| n.to_be_bytes()));
         arguments.extend(self.weights.iter().flat_map(|w| w.to_bits().to_be_bytes()));
         arguments.extend(self.inputs.iter().chain(&self.planes).flat_map(|s| s.to_bits().to_be_bytes()));
+        arguments
+    }
+
+    /// The block as a request, and as right what the Rust makes of its input planes.
+    pub fn judged_by(&self, rust: impl Fn(&[Vec<f32>], Vec<Vec<f32>>) -> Vec<Vec<f32>>) -> Case {
         let refusal = self.refusal();
         let (samples, planes) = if refusal == 0 { (self.frames, self.played(rust)) } else { (0, self.planes.clone()) };
         let mut answer = vec![refusal];
         answer.extend(samples.to_be_bytes());
         answer.extend(planes.iter().flat_map(|s| f32_bytes(*s)));
-        exactly(request(DECODE, &arguments), DECODE, answer)
+        exactly(request(DECODE, &self.arguments()), DECODE, answer)
     }
 }
 

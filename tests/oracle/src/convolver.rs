@@ -4,7 +4,7 @@ use crate::frame::{Case, Sink, exactly, f32_bytes, request, send};
 use crate::random::Random;
 use crate::rust::{self, Speaker};
 
-const PROCESS: u8 = 17;
+pub const PROCESS: u8 = 17;
 const RESET: u8 = 18;
 
 /// How the sums are formed: as document 01 says, or otherwise in one way that algebra does not tell from it.

@@ -1,7 +1,8 @@
 //! What the Rust itself does where documents 01 and 02 ask for something else, each with its smallest input: run, and
 //! said in a line. tests/differences compares the lines with tests/differences.expected; docs/DIFFERENCES.md says what the
 //! documents ask and what the port does there.
-use crate::rust::{Command, Convolver, Rule, Speaker, decode, decode_order, decoder_matrix, gains, pan, pan_planes, weighted};
+use crate::rows::{Rows, WRONG_SIGNS, channels_of, corrected};
+use crate::rust::{Command, Convolver, Rule, Speaker, binaural, decode, decode_order, decoder_matrix, gains, pan, pan_planes, weighted};
 use bbx_dsp::blocks::effectors::binaural_decoder::hrtf::HrtfConvolver;
 use bbx_dsp::blocks::effectors::binaural_decoder::matrix::compute_matrix;
 use bbx_dsp::channel::ChannelLayout;
@@ -151,6 +152,32 @@ fn ninety_from_a_speaker() {
     );
 }
 
+/// The two ears of one frame, through rows of an order.
+fn ears(rows: &Rows, order: usize, frame: &[f32]) -> String {
+    let planes: Vec<Vec<f32>> = frame.iter().map(|x| vec![*x]).collect();
+    let heard = binaural(order, rows, &planes, nines(&[1, 1]));
+    format!("left {}, right {}", value(f64::from(heard[0][0])), value(f64::from(heard[1][0])))
+}
+
+/// The rows as they were published, and with four signs turned: each sign alone, then a source at a place and at its mirror image.
+fn right_rows() {
+    for (order, channel) in WRONG_SIGNS {
+        let only = |sample: f32| -> Vec<f32> { (0..channels_of(order)).map(|c| if c == channel { sample } else { 0.0 }).collect() };
+        say(
+            &format!("binaural rows, order {order}, channel {channel} alone 1.0"),
+            format!("{}; corrected {}", ears(&compute_matrix(order), order, &only(1.0)), ears(&corrected(order), order, &only(1.0))),
+        );
+    }
+    for order in 2..=3 {
+        let at = |rows: &Rows, azimuth: f64| {
+            let frame: Vec<f32> = gains(Ambisonic(order, azimuth, 20.0)).iter().map(|g| *g as f32).collect();
+            ears(rows, order, &frame)
+        };
+        let both = |rows: &Rows| format!("{}, at (-30, 20) {}", at(rows, 30.0), at(rows, -30.0));
+        say(&format!("binaural rows, order {order}, a source at (30, 20)"), format!("{}; corrected {}", both(&compute_matrix(order)), both(&corrected(order))));
+    }
+}
+
 fn blocks() {
     let long = pan(Stereo(-100.0), &vec![1.0f32; 4097], vec![vec![9.0; 4097]; 2]);
     say("panner, 4,097 frames of 1.0 at -100 over 9.0", format!("frame 4095 is {}, frame 4096 is {}", long[0][4095], long[0][4096]));
@@ -262,6 +289,7 @@ pub fn print() {
     layouts();
     angles();
     ninety_from_a_speaker();
+    right_rows();
     blocks();
     convolver();
     counts_of_planes();

@@ -7,11 +7,11 @@ use crate::rust::{self, Command, Rule};
 use bbx_dsp::channel::ChannelLayout;
 use std::sync::LazyLock;
 
-const HARMONICS: u8 = 10;
-const WEIGHTED: u8 = 11;
-const STEREO: u8 = 12;
-const SURROUND: u8 = 13;
-const DECODER_MATRIX: u8 = 15;
+pub const HARMONICS: u8 = 10;
+pub const WEIGHTED: u8 = 11;
+pub const STEREO: u8 = 12;
+pub const SURROUND: u8 = 13;
+pub const DECODER_MATRIX: u8 = 15;
 
 /// Document 01, 'Gains' and 'Differential runs'.
 const HARMONICS_BITS: usize = 34;
@@ -225,7 +225,7 @@ fn directions(random: &mut Random, count: usize) -> Vec<(u64, f64, f64)> {
     all
 }
 
-fn direction_bytes(order: u64, azimuth: f64, elevation: f64) -> Vec<u8> {
+pub fn direction_bytes(order: u64, azimuth: f64, elevation: f64) -> Vec<u8> {
     [order.to_be_bytes(), azimuth.to_bits().to_be_bytes(), elevation.to_bits().to_be_bytes()].concat()
 }
 

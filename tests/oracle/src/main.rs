@@ -5,6 +5,7 @@
 //!     oracle judge N SEED < answers         says which answers to them are wrong, and counts
 //!     oracle differences                    says what the Rust does where documents 01 and 02 ask for something else
 //!     oracle play L N                       plays N frames by the Rust's convolver, with filters of L taps
+//!     oracle mirror N SEED PROGRAM          asks the program for scenes and for their mirror images, and counts
 mod angles;
 mod bank;
 mod binaural;
@@ -18,6 +19,7 @@ mod filing;
 mod frame;
 mod gains;
 mod malformed;
+mod mirror;
 mod numbers;
 mod panner;
 mod random;
@@ -148,12 +150,15 @@ fn main() -> ExitCode {
     let done = match (words.first().map(String::as_str), numbers()) {
         (Some("requests"), Some((count, seed))) => requests(count, seed).map(|()| true),
         (Some("judge"), Some((count, seed))) => judge(count, seed),
+        (Some("mirror"), Some((count, seed))) if words.len() > 3 => mirror::run(count, seed, &words[3..]),
         (Some("play"), Some((length, frames))) => {
             println!("{:?}", speed::play(length, frames as usize));
             Ok(true)
         }
         _ => {
-            eprintln!("usage: oracle requests N SEED > requests; oracle judge N SEED < answers; oracle differences; oracle play L N");
+            eprintln!(
+                "usage: oracle requests N SEED > requests; oracle judge N SEED < answers; oracle differences; oracle play L N; oracle mirror N SEED PROGRAM"
+            );
             return ExitCode::from(2);
         }
     };

@@ -8,7 +8,7 @@ use crate::gains::{Layout, harmonics, is_direction, raw_gains, square, sum_of_sq
 use crate::random::Random;
 use crate::rust::{self, Rule};
 
-const PAN: u8 = 14;
+pub const PAN: u8 = 14;
 
 /// Document 01, 'Gains', for a position, an azimuth, a direction.
 const BITS: [i32; 3] = [36, 30, 34];

@@ -3,7 +3,6 @@ use bbx_dsp::block::Block;
 use bbx_dsp::blocks::effectors::ambisonic_decoder::AmbisonicDecoderBlock;
 use bbx_dsp::blocks::effectors::binaural_decoder::hrir_data::HRIR_LENGTH;
 use bbx_dsp::blocks::effectors::binaural_decoder::hrtf::HrtfConvolver;
-use bbx_dsp::blocks::effectors::binaural_decoder::matrix::compute_matrix;
 use bbx_dsp::blocks::effectors::binaural_decoder::virtual_speaker::VirtualSpeaker;
 use bbx_dsp::blocks::effectors::{panner, panner_corrected};
 use bbx_dsp::channel::ChannelLayout;
@@ -90,10 +89,9 @@ pub fn decode_order(order: usize, weights: &[&[f64]], inputs: &[Vec<f32>], befor
     run(&mut block, inputs, before)
 }
 
-/// Plays planes through the binaural rows of an order: the Rust's own decoder of that order, with them as its matrix.
-pub fn binaural(order: usize, inputs: &[Vec<f32>], before: Vec<Vec<f32>>) -> Vec<Vec<f32>> {
-    let [left, right] = compute_matrix(order);
-    let mut block = AmbisonicDecoderBlock::with_weights(order, ChannelLayout::Stereo, &[&left, &right]);
+/// Plays planes through binaural rows of an order: the Rust's own decoder of that order, with them as its matrix.
+pub fn binaural(order: usize, [left, right]: &[[f64; CHANNELS]; 2], inputs: &[Vec<f32>], before: Vec<Vec<f32>>) -> Vec<Vec<f32>> {
+    let mut block = AmbisonicDecoderBlock::with_weights(order, ChannelLayout::Stereo, &[left, right]);
     run(&mut block, inputs, before)
 }
 

@@ -12,7 +12,7 @@ use bbx_dsp::blocks::effectors::binaural_decoder::virtual_speaker::layouts::{FOA
 use std::sync::LazyLock;
 
 const NEW_SURROUND: u8 = 19;
-const NEW_AMBISONIC: u8 = 20;
+pub const NEW_AMBISONIC: u8 = 20;
 
 /// A weight that went through a ring of f32 and the root is within this of the weight.
 const IMPULSE_BITS: i32 = 23;
