@@ -1,4 +1,4 @@
--- `Digits` names no format, only a number of digits p; `Patterns`, `Grid`, `Normal`, `Dropped`, `Exchanged`, `Signs`, `Zeros` and `Opposite` hold in every format.
+-- `Digits` names no format, only a number of digits p; `Patterns`, `Grid`, `Normal`, `Dropped`, `Exchanged`, `Signs`, `Zeros`, `Added` and `Opposite` hold in every format.
 pub mod Digits
 pub mod Patterns
 pub mod Grid
@@ -7,4 +7,5 @@ pub mod Dropped
 pub mod Exchanged
 pub mod Signs
 pub mod Zeros
+pub mod Added
 pub mod Opposite

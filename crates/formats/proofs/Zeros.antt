@@ -1,9 +1,10 @@
--- Signs of zeros in one operation, in any format. A product has no other number for them (`mul-unsigned`); what is added to a number that is no -0.0 may have either sign of zero (`add-unsigned`); and such a sum
--- of two numbers of the format is no -0.0 (`sum-unsigned`): it is a whole number of the format's smallest values, so it rounds to a zero only where it is one. Assumes nothing.
+-- Signs of zeros in one operation, in any format. A product is the same but for the sign of a zero (`mul-unsigned`); what is added to a number that is no -0.0 may be a zero of either sign
+-- (`add-unsigned`); and such a sum of two numbers of the format is no -0.0 (`sum-unsigned`): it is a whole number of the format's smallest values, so it rounds to a zero only where it is one.
+-- Assumes nothing.
 use mathlib.Core.Path.{_≡_, refl, sym, ap, _∙_, subst}
-use mathlib.Core.Bool.{Bool, true, false, not, _&&_, Bool·beq, cond, true≢false}
+use mathlib.Core.Bool.{Bool, true, false, _&&_, Bool·beq, true≢false}
 use Prim.Native.Nat.{ℕ, zero, suc, _+_, _-_, _*_, _^_, _≤_, _<_}
-use native.Mathlib.Nat.{zero-lt-suc, le-of-lt, zero-mul, mul-assoc, mul-comm, mul-right-comm, mul-pos, mul-sub, mul-le-mul-right, le-trans, le-of-eq, one-mul, lt-irrefl, sub-zero, add-zero}
+use native.Mathlib.Nat.{zero-lt-suc, le-of-lt, zero-mul, mul-assoc, mul-comm, mul-right-comm, mul-pos, mul-sub, mul-le-mul-right, le-trans, le-of-eq, one-mul}
 use native.Mathlib.Omega.{arith}
 use borrow.Author.Tests.{lt-ltb, le-ltb, ltb-true}
 use lib.IntN.{ℤ, pos}
@@ -68,8 +69,9 @@ above-unsigned (fin false (suc m) e) t = refl
 -- one unit and more does not round to a zero
 units-above : (f : Format) (n c : ℕ) → 0 < c → c ≤ n * 2 ^ low f → T (above (round f false n c))
 units-above f n c C h =
-    above-of-le (round f false 1 (2 ^ low f)) (round f false n c)
-    (positive-of-value (round f false 1 (2 ^ low f)) 1 (2 ^ low f) (round-exact f false 1 (2 ^ low f) 1 0 (pow-pos (low f)) (pow-lt {i = 0} (some-digits f)) (pow-lt {i = 0} (omega arith)) refl) (zero-lt-suc 0))
+    let one = round f false 1 (2 ^ low f) in
+    let v : HasValue one false 1 (2 ^ low f) = round-exact f false 1 (2 ^ low f) 1 0 (pow-pos (low f)) (pow-lt {i = 0} (some-digits f)) (pow-lt {i = 0} (omega arith)) refl in
+    above-of-le one (round f false n c) (positive-of-value one 1 (2 ^ low f) v (zero-lt-suc 0))
     (round-mono f 1 (2 ^ low f) n c (pow-pos (low f)) C (le-trans (le-of-eq (one-mul c)) h))
 
 -- a whole number of the format's smallest values, above 0 if it is below zero
@@ -123,8 +125,13 @@ zero-added f true a false b c z h =
 zero-added f false a true b c z h = rw (le-ltb a b (omega arith)) (ap (λ (k : ℕ). round f false k c) (omega arith))
 
 difference-whole : (a b c v w l : ℕ) → a * l ≡ v * c → b * l ≡ w * c → (a - b) * l ≡ (v - w) * c
-difference-whole a b c v w l p q = mul-comm (a - b) l ∙ mul-sub l a b ∙ (λ i. (mul-comm l a ∙ p ∙ mul-comm v c) i - (mul-comm l b ∙ q ∙ mul-comm w c) i) ∙ sym (mul-comm (v - w) c ∙ mul-sub c v w)
+difference-whole a b c v w l p q =
+    mul-comm (a - b) l
+    ∙ mul-sub l a b
+    ∙ (λ i. (mul-comm l a ∙ p ∙ mul-comm v c) i - (mul-comm l b ∙ q ∙ mul-comm w c) i)
+    ∙ sym (mul-comm (v - w) c ∙ mul-sub c v w)
 
+-- a / c is w units, and the same over c * d or d * c
 over-both : (a w c d l : ℕ) → a * l ≡ w * c → a * d * l ≡ w * (c * d)
 over-both a w c d l h = mul-right-comm a d l ∙ ap (λ (k : ℕ). k * d) h ∙ mul-assoc w c d
 
@@ -171,4 +178,6 @@ module _ (f : Format) where
   sum-unsigned (fin s m e) (fin t n d) p h k =
       let u = held-units f s m e h in
       let v = held-units f t n d k in
-      sum-whole s _ t _ _ (u .w) (v .w) (mul-pos (down-pos e) (down-pos d)) (over-both (m * up e) (u .w) (down e) (down d) (2 ^ low f) (u .value .1)) (over-both (n * up d) (v .w) (down d) (down e) (2 ^ low f) (v .value .1) ∙ ap (λ (c : ℕ). v .w * c) (mul-comm (down d) (down e))) (size-above s m e d p)
+      sum-whole s _ t _ _ (u .w) (v .w) (mul-pos (down-pos e) (down-pos d)) (over-both (m * up e) (u .w) (down e) (down d) (2 ^ low f) (u .value .1))
+      (over-both (n * up d) (v .w) (down d) (down e) (2 ^ low f) (v .value .1) ∙ ap (λ (c : ℕ). v .w * c) (mul-comm (down d) (down e)))
+      (size-above s m e d p)

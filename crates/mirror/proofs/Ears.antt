@@ -13,7 +13,8 @@ use Rattle.matrix.specs.Rows.{left, right}
 use Rattle.matrix.specs.Ears.{Mirrors}
 use Rattle.matrix.proofs.Mirror.{computed-mirrors}
 use Rattle.mirror.specs.Blocks.{Partners}
-use Rattle.mirror.specs.Ears.{otherEar, EarsSwap}
+use Rattle.mirror.specs.Partners.{otherEar}
+use Rattle.mirror.specs.Ears.{EarsSwap}
 use Rattle.mirror.proofs.Blocks.{blocks-mirror}
 
 ears-partners : (n : ℕ) (weights : List Float) → Mirrors n weights → Partners 2 (channelsOfOrder n) weights otherEar

@@ -27,7 +27,8 @@ use Rattle.panner.specs.declared.Command.the-variants.{Ambisonic}
 use Rattle.panner.specs.Commands.{gainsOf}
 use Rattle.panner.specs.Blocks.{narrowedAll, panned}
 use Rattle.mirror.specs.Blocks.{Partners, exchanged}
-use Rattle.mirror.specs.Scenes.{Swapped, mirroredDirection, partners, positionPartners, partnerIn, voice, virtualWeights, ScenesMirror}
+use Rattle.mirror.specs.Partners.{partnerIn, partners, positionPartners}
+use Rattle.mirror.specs.Scenes.{Swapped, mirroredDirection, voice, virtualWeights, ScenesMirror}
 use Rattle.mirror.proofs.Blocks.{frame-exchanged, blocks-mirror}
 use Rattle.mirror.proofs.Swapped.{factor-odd, narrowed-odd, swapped-at, swapped-tab, swapped-by, swapped-take, mixed-weights, mixed-frames}
 use Rattle.mirror.proofs.Directions.{direction-mirrors}

@@ -27,7 +27,8 @@ use Rattle.decoder_matrix.specs.Speakers.{towards}
 use Rattle.decoder_matrix.specs.Matrix.{rowTowards, rowBy}
 use Rattle.virtual_speaker.specs.Computed.{cosineOf, weigh}
 use Rattle.virtual_speaker.specs.Promise as Virtual
-use Rattle.mirror.specs.Scenes.{Swapped, partners, positionPartners, partnerIn, SpeakersMirror}
+use Rattle.mirror.specs.Partners.{partnerIn, partners, positionPartners}
+use Rattle.mirror.specs.Scenes.{Swapped, SpeakersMirror}
 use Rattle.mirror.proofs.Angles.{angle-mirrors, sine-stays}
 use Rattle.mirror.proofs.Swapped.{times-odd, swapped-take, swapped-map}
 use Rattle.mirror.proofs.Directions.{cosine-of-multiple, refusal-mirrored, direction-mirrors}

@@ -3,11 +3,11 @@
 use Prim.Native.Nat.{ℕ, _-_, _%_, _<_}
 use mathlib.Core.Path.{_≡_}
 use mathlib.Core.Bool.{false}
-use mathlib.Core.List.{List, [], _∷_, map}
-use lib.ListN.{length, getD, take}
+use mathlib.Core.List.{List, map}
+use lib.ListN.{length, take}
 use lib.Ieee.{Float, neg}
 use Rattle.channel.specs.declared.Layout.{Layout}
-use Rattle.channel.specs.declared.Layout.the-variants.{Mono, Stereo, Surround51, Surround71, Custom}
+use Rattle.channel.specs.declared.Layout.the-variants.{Mono}
 use Rattle.channel.specs.Layouts.{channelsOf, speakers, positions}
 use Rattle.channel.specs.Orders.{refusesOrder, channelsOfOrder}
 use Rattle.planes.specs.Sums.{mixed, mixedAll}
@@ -23,6 +23,7 @@ use Rattle.virtual_speaker.specs.Promise as Virtual
 use Rattle.panner.specs.declared.Command.the-variants.{Ambisonic}
 use Rattle.panner.specs.Commands.{gainsOf}
 use Rattle.panner.specs.Blocks.{narrowedAll, panned}
+use Rattle.mirror.specs.Partners.{partnerIn, partners, positionPartners}
 use Rattle.mirror.specs.Blocks.{Partners, exchanged, BlocksMirror}
 use Rattle.formats.specs.Zeros.{unsignedZero}
 
@@ -48,21 +49,7 @@ pub record DirectionMirrors (order : ℕ) (d : Direction) : Type 0 where
   pub gains : Swapped (Harmonics.outcome order d .gains) (Harmonics.outcome order (mirroredDirection d) .gains)
   pub weights : Swapped (Virtual.outcome order d .weights) (Virtual.outcome order (mirroredDirection d) .weights)
 
--- ---- of speakers: each has one that stands at the opposite azimuth, itself where that is 0 or 180
-
--- which it is, in channel order. Those of a Custom layout are computed, and left out
-abbrev pub partners : Layout → List ℕ
-partners Mono = 0 ∷ []
-partners Stereo = 1 ∷ 0 ∷ []
-partners Surround51 = 1 ∷ 0 ∷ 2 ∷ 3 ∷ 5 ∷ 4 ∷ []
-partners Surround71 = 1 ∷ 0 ∷ 2 ∷ 3 ∷ 5 ∷ 4 ∷ 7 ∷ 6 ∷ []
-partners (Custom n) = []
-
-abbrev pub positionPartners : List ℕ
-positionPartners = 0 ∷ 7 ∷ 6 ∷ 5 ∷ 4 ∷ 3 ∷ 2 ∷ 1 ∷ []
-
-abbrev pub partnerIn : List ℕ → ℕ → ℕ
-partnerIn table i = getD table i i
+-- ---- of speakers: each has a partner that stands at the opposite azimuth, itself where that is 0 or 180
 
 -- the row of a decoder towards any azimuth, one of n rows of so many channels; the rows of two partners; and the weighted coefficients of two virtual speakers
 pub record SpeakersMirror (order : ℕ) : Type 0 where

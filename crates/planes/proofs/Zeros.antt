@@ -3,7 +3,7 @@ use mathlib.Core.Path.{_≡_, refl, sym, ap, _∙_}
 use mathlib.Core.List.{List, [], _∷_, map}
 use Prim.Native.Nat.{zero, suc}
 use lib.Dec.{T}
-use lib.Ieee.{Float, nan, fin, binary64, add, mul, fits}
+use lib.Ieee.{Float, nan, binary64, add, fits}
 use lib.Ieee.Fits.{nan-fits, add-fits, mul-fits}
 use Rattle.formats.specs.Floats.{zero-float}
 use Rattle.numbers.specs.Computed.{narrowed}
@@ -12,9 +12,9 @@ use Rattle.planes.specs.Sums.{total, products, dot, mixed}
 use Rattle.formats.specs.Zeros.{unsignedZero}
 use Rattle.formats.proofs.Zeros.{Unsigned, mul-unsigned, add-unsigned, sum-unsigned}
 
--- ---- sums of f64
+-- ---- sums of f64, which x is that is held
 
-abbrev pub Held : Float → Type 0
+abbrev Held : Float → Type 0
 Held x = T (fits binary64 x)
 
 abbrev AllHeld : List Float → Type 0
@@ -30,6 +30,10 @@ zero-unsigned = refl
 pub total-held : (a : Float) (xs : List Float) → Held a → Held (total a xs)
 total-held a [] h = h
 total-held a (x ∷ xs) h = total-held (add binary64 a x) xs (add-fits binary64 a x)
+
+pub sum-stays : (a : Float) (xs : List Float) → Unsigned a → Held a → AllHeld xs → Unsigned (total a xs)
+sum-stays a [] u h k = u
+sum-stays a (x ∷ xs) u h k = sum-stays (add binary64 a x) xs (sum-unsigned binary64 a x u h (k 0)) (add-fits binary64 a x) (λ i. k (suc i))
 
 pub total-unsigned : (a : Float) (xs : List Float) → Unsigned a → Held a → AllHeld xs → total a xs ≡ total a (map unsignedZero xs)
 total-unsigned a [] u h k = refl
