@@ -1,12 +1,11 @@
 -- A float and its opposite, but for the sign of a zero (`Opposite`). Comparing does not see that sign, and goes the other way round (`lt-opposite`); products, sums and differences of opposites are opposites
 -- (`mul-opposite`, `add-opposite`, `sub-opposite`). Assumes nothing.
-use mathlib.Core.Path.{_≡_, refl, sym, ap, _∙_, subst}
+use mathlib.Core.Path.{_≡_, refl, sym, ap, _∙_}
 use mathlib.Core.Bool.{Bool, true, false, not, _&&_, Bool·beq, cond, and-true, and-false}
 use Prim.Native.Nat.{ℕ, zero, suc, _+_, _-_, _*_, _<_}
-use native.Mathlib.Nat.{zero-mul, mul-pos, add-comm, add-zero, zero-add, le-of-lt, le-of-eq}
+use native.Mathlib.Nat.{mul-pos, zero-add, le-of-lt}
 use native.Mathlib.Omega.{arith}
 use borrow.Author.Tests.{lt-ltb, le-ltb}
-use lib.IntN.{ℤ, pos}
 use lib.Dec.{ltb}
 use lib.Ieee.{Float, nan, inf, fin, Format, up, down, round, neg, sum, add, sub, mul, lt, below}
 use lib.Ieee.Fits.{down-pos}

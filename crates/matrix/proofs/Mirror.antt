@@ -2,11 +2,11 @@
 -- by order go only the lengths of the rows, and that no literal is 0, which has no opposite, by computing. Assumes nothing.
 use mathlib.Core.Path.{_≡_, refl, sym, ap, _∙_, subst}
 use mathlib.Core.Bool.{Bool, true, false}
-use mathlib.Core.List.{List, [], _∷_, _++_, map, map-map, map-append, append-nil, flatten}
+use mathlib.Core.List.{List, [], _∷_, _++_, map-map, map-append, append-nil, flatten}
 use Prim.Native.Nat.{ℕ, zero, suc}
 use lib.Dec.{T, lit<}
 use lib.IntN.{ℤ, pos, negsuc, negℤ}
-use lib.ListN.{length, length-map}
+use lib.ListN.{length}
 use lib.Ieee.{Float, binary64, mul, neg}
 use Rattle.refusals.proofs.First.{passed, answered-accepted}
 use Rattle.formats.specs.Floats.{zero-float, literal}

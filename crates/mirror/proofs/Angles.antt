@@ -7,7 +7,6 @@ use native.Mathlib.Omega.{arith}
 use lib.Dec.{eqb, ltb, lit<}
 use lib.IntN.{pos}
 use lib.Ieee.{Float, nan, inf, fin, binary64, unlike, neg, le, div, ofInt}
-use lib.Ieee.Scale.{finite}
 use borrow.Author.Tests.{eqb-true, lt-ltb, le-ltb}
 use Rattle.lists.proofs.Tests.{by-test, by-at-most, compared}
 use Rattle.formats.specs.Floats.{zero-float}

@@ -2,7 +2,7 @@
 -- Assumes nothing.
 use mathlib.Core.Path.{_≡_, refl, sym, ap, _∙_}
 use mathlib.Core.Bool.{Bool, not, _||_, cond}
-use mathlib.Core.List.{List, [], _∷_, map}
+use mathlib.Core.List.{List, [], map}
 use Prim.Native.Nat.{ℕ, zero, suc, _+_, _*_, _/_, _≤_, _<_}
 use native.Mathlib.Nat.{zero-add}
 use native.Mathlib.Decide.{ℕ-discrete}
@@ -13,11 +13,11 @@ use lib.ListN.{length, getD}
 use lib.Ieee.{Float, nan, neg}
 use Rattle.refusals.specs.Refusals.{outside, answered}
 use Rattle.refusals.proofs.First.{passed, or-off}
-use Rattle.lists.specs.Tables.{tab, row}
+use Rattle.lists.specs.Tables.{row}
 use Rattle.lists.proofs.Tables.{length-tab, getD-tab, tab-ext}
 use Rattle.lists.proofs.Mapped.{map-tab}
 use Rattle.checks.specs.Finite.{unsound}
-use Rattle.checks.specs.Lengths.{blockUnfit, unfit}
+use Rattle.checks.specs.Lengths.{unfit}
 use Rattle.checks.proofs.Checks.{fitted}
 use Rattle.planes.specs.Planes.{sampleAt, frameAt, framesOf, withFrames}
 use Rattle.planes.specs.Sums.{mixed, mixedAll}

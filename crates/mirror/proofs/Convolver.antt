@@ -30,11 +30,14 @@ unfolding earOf
 ear-of-total n p q = ap (λ (a : Float). narrowed (mul binary64 a (inverseRoot n)))
 
 -- the other ear adds the parts of the speakers across, in the order of the speakers
-pub across-parts : (across : ℕ → ℕ) (u : Setup) (past exchanged : List (List Float)) → Across across u past exchanged → (ear : ℕ) → ear < 2
-    → earSample u (otherEar ear) exchanged ≡ earOf (u .speakers) (λ s. part u ear past (across s))
-across-parts across u past exchanged h ear e =
-    ear-of-ext (u .speakers) (part u (otherEar ear) exchanged) (λ s. part u ear past (across s))
-    (λ s l. λ i. dot zero-float (tab-ext 0 (u .L) (signalAgo s exchanged) (signalAgo (across s) past) (λ k m. h .signals s k l) i) (h .taps ear s e l i))
+across-parts : (across : ℕ → ℕ) (u v : Setup) (past exchanged : List (List Float)) → Across across u v past exchanged → (ear : ℕ) → ear < 2
+    → earSample v (otherEar ear) exchanged ≡ earOf (u .speakers) (λ s. part u ear past (across s))
+across-parts across u v past exchanged h ear e =
+    ap (λ (n : ℕ). earOf n (part v (otherEar ear) exchanged)) (h .speakers)
+    ∙ ear-of-ext (u .speakers) (part v (otherEar ear) exchanged) (λ s. part u ear past (across s))
+    (λ s l.
+    ap (λ (n : ℕ). dot zero-float (tab 0 n (signalAgo s exchanged)) (tapsOf v (otherEar ear) s)) (h .L)
+    ∙ (λ i. dot zero-float (tab-ext 0 (u .L) (signalAgo s exchanged) (signalAgo (across s) past) (λ k m. h .signals s k l) i) (h .taps ear s e l i)))
 
 -- the first two exchanged, and the others where they are
 two-exchanged : (n : ℕ) (p : ℕ → Float) → 2 ≤ n → ((s : ℕ) → Held (p s)) → total zero-float (tab 0 n (λ s. p (firstTwo s))) ≡ total zero-float (tab 0 n p)
@@ -52,9 +55,9 @@ two-exchanged (suc (suc n)) p l h =
 -- by the sum of so many parts, in the two orders
 heard : (across : ℕ → ℕ) (n : ℕ) (P : (ℕ → Float) → Type 0)
     → ((p : ℕ → Float) → ((s : ℕ) → Held (p s)) → P p → total zero-float (tab 0 n (λ s. p (across s))) ≡ total zero-float (tab 0 n p)) → HeardWhere P across n
-heard across n P h u past exchanged e a ear k w =
+heard across n P h u v past exchanged e a ear k w =
     let p = part u ear past in
-    across-parts across u past exchanged a ear k
+    across-parts across u v past exchanged a ear k
     ∙ ear-of-total (u .speakers) (λ s. p (across s)) p
     (subst (λ (m : ℕ). total zero-float (tab 0 m (λ s. p (across s))) ≡ total zero-float (tab 0 m p)) (sym e) (h p (parts-held u ear past) w))
 

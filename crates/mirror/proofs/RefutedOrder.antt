@@ -69,15 +69,17 @@ signals-across (suc (suc (suc (suc (suc (suc zero)))))) zero = refl
 signals-across (suc (suc (suc (suc (suc (suc (suc zero))))))) zero = refl
 signals-across (suc (suc (suc (suc (suc (suc (suc (suc s)))))))) zero = refl
 
-setup-across : Across acrossFrom setup past exchanged
+setup-across : Across acrossFrom setup setup past exchanged
 setup-across = record {
+  speakers = refl;
+  L = refl;
   taps = λ ear s e l. ap (λ (r : ℕ). tapsIn 1 r (otherEar ear) (setup .taps)) (own-row s) ∙ same-taps ear e ∙ ap (λ (r : ℕ). tapsIn 1 r ear (setup .taps)) (sym (own-row (acrossFrom s)));
   signals = λ s k l. signals-across s k;
 }
 
 surround-speakers-heard : Heard acrossFrom 6 → ⊥
 unfolding earOf inverseRoot rootOf rootUnits wholeRoot rootIn rounded add mul div sum round size span climb units odd ofInt
-surround-speakers-heard h = true≢false (ap positive (h setup past exchanged refl setup-across 0 (lit< tt) tt))
+surround-speakers-heard h = true≢false (ap positive (h setup setup past exchanged refl setup-across 0 (lit< tt) tt))
 
 -- ---- 7.1, behind 120 degrees: a gain at an azimuth, and that of the speaker across at the opposite one
 

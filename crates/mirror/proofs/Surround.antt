@@ -1,6 +1,6 @@
 -- The gains of 5.1 at the opposite azimuth are those of the speakers across, bit for bit, and those of 7.1 as far as the limit (`surround-exchanged`): the raw gains are, and their squares add up to
 -- the same, since of each pair one is 0.0, or the sum before it is (`parts-exchanged`). Assumes nothing.
-use mathlib.Core.Path.{_≡_, refl, sym, ap, _∙_, subst}
+use mathlib.Core.Path.{_≡_, refl, sym, ap, _∙_}
 use mathlib.Core.Logic.{inl, ⊎-map}
 use mathlib.Core.Bool.{Bool, true, false, not, cond, true≢false}
 use mathlib.Core.List.{List, [], _∷_}

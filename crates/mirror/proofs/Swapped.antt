@@ -5,9 +5,8 @@ use mathlib.Core.Bool.{Bool, true, false, cond}
 use mathlib.Core.List.{List, [], _∷_, _++_, map, map-append}
 use Prim.Native.Nat.{ℕ, zero, suc, _+_, _*_}
 use native.Mathlib.Nat.{zero-add, zero-mul}
-use lib.IntN.{pos}
 use lib.ListN.{length, getD, take, List·getD-map}
-use lib.Ieee.{Float, nan, inf, fin, Format, binary32, up, down, round, mul, neg}
+use lib.Ieee.{Float, nan, inf, fin, Format, binary32, up, down, mul, neg}
 use lib.Ieee.Fits.{down-pos}
 use Rattle.lists.specs.Tables.{tab}
 use Rattle.lists.proofs.Mapped.{map-take}
