@@ -1,4 +1,4 @@
--- Laws that crates above cite: of lists, of tables, of parts that are put in, of a list that is filled place by place, of lists that are joined, of what is so of every element, by a test or by a kind,
+-- Laws that crates above cite: of lists, of a function that goes through them, of tables, of parts that are put in, of a list that is filled place by place, of lists that are joined, of what is so of every element, by a test or by a kind,
 -- of a loop that goes through a table, and of what is chosen by a test.
 pub mod Lists
 pub mod Mapped

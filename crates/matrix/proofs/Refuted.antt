@@ -1,4 +1,4 @@
--- Wrong rows, each held against what E7 asks: those of 002 do not swap the ears, and no row that differs from the promised one in a sign is an answer, whichever weight it is. Assumes nothing.
+-- Wrong rows, each held against what E7 asks: no rows that differ from the promised ones in a sign are an answer, whichever weight it is, and those of 002 do not swap the ears. Assumes nothing.
 use mathlib.Core.Path.{_≡_, refl, sym, ap, _∙_, subst}
 use mathlib.Core.Bool.{Bool, true, false, not, cond, true≢false}
 use mathlib.Core.List.{List, [], _∷_, _++_}
@@ -17,13 +17,13 @@ use Rattle.planes.specs.Normalization.{inverseRoot}
 use Rattle.planes.specs.Sums.{mixed}
 use Rattle.channel.specs.Layouts.{minus}
 use Rattle.matrix.specs.Mirror.{negatedAt}
-use Rattle.matrix.specs.Rows.{left, soa, literals, rows}
+use Rattle.matrix.specs.Rows.{left, soa, toa, literals, rows}
 use Rattle.matrix.specs.Promise.{Computes}
 use Rattle.matrix.specs.Ears.{Mirrors}
 use Rattle.matrix.proofs.Negated.{getD-negated}
 use Rattle.matrix.proofs.Mirror.{computed-order, computed-rows}
 use Rattle.matrix.proofs.Sound.{rootOfHalf, inverse-root-two, rows-finite}
-use Rattle.matrix.proofs.Worked.{fifthAlone}
+use Rattle.matrix.proofs.Worked.{alone}
 
 isNegative : Float → Bool
 isNegative nan = false
@@ -52,13 +52,26 @@ other-sign n lent k h p =
     (sym (getD-negated neg (λ (i : ℕ). eqb i k) nan refl 0 (rows n) k ∙ ap (λ (b : Bool). cond b (neg x) x) (eq-eqb (0 + k) k (zero-add k)))
     ∙ ap (λ (w : List Float). getD w k nan) (computed-rows n lent wrong p))
 
--- ---- 002's rows of the second order: 1.0 on channel 5 alone is the same at both ears, and with the other sign at both when mirrored
+-- ---- 002's rows. Of the second order 1.0 on channel 5 alone is the same at both ears, and mirrored it has the other sign at both. Of the third 1.0 on channel 14 alone, which a mirror leaves as it is, has the other
+-- sign at the right ear
 
-rightOf002 : List ℤ
-rightOf002 = pos 45 ∷ minus 45 ∷ pos 9 ∷ pos 32 ∷ minus 25 ∷ pos 8 ∷ pos 5 ∷ pos 8 ∷ pos 15 ∷ []
+secondOf002 : List ℤ
+secondOf002 = pos 45 ∷ minus 45 ∷ pos 9 ∷ pos 32 ∷ minus 25 ∷ pos 8 ∷ pos 5 ∷ pos 8 ∷ pos 15 ∷ []
 
-rows-of-002 : Mirrors 2 (scaled (inverseRoot 2) (literals soa ++ literals rightOf002)) → ⊥
-unfolding rightOf002 isNegative mixed rounded add sum mul neg round
-rows-of-002 m =
-    let by-half : Mirrors 2 (scaled rootOfHalf (literals soa ++ literals rightOf002)) = subst (λ (f : Float). Mirrors 2 (scaled f (literals soa ++ literals rightOf002))) inverse-root-two m in
-    true≢false (ap isNegative (by-half .swaps left fifthAlone))
+thirdOf002 : List ℤ
+thirdOf002 = pos 42 ∷ minus 42 ∷ pos 8 ∷ pos 30 ∷ minus 22 ∷ pos 7 ∷ pos 4 ∷ pos 7 ∷ pos 13 ∷ minus 15 ∷ minus 10 ∷ pos 5 ∷ pos 3 ∷ pos 5 ∷ minus 10 ∷ pos 10 ∷ []
+
+-- a left and a right row, times 1.0/root(2.0), and times the float that this is
+abbrev rowsOf : List ℤ → List ℤ → Float → List Float
+rowsOf ls rs f = scaled f (literals ls ++ literals rs)
+
+by-half : (n : ℕ) (ls rs : List ℤ) → Mirrors n (rowsOf ls rs (inverseRoot 2)) → Mirrors n (rowsOf ls rs rootOfHalf)
+by-half n ls rs = subst (λ (f : Float). Mirrors n (rowsOf ls rs f)) inverse-root-two
+
+second-of-002 : Mirrors 2 (rowsOf soa secondOf002 (inverseRoot 2)) → ⊥
+unfolding secondOf002 isNegative mixed rounded add sum mul neg round
+second-of-002 m = true≢false (ap isNegative (by-half 2 soa secondOf002 m .swaps left (alone 5 9)))
+
+third-of-002 : Mirrors 3 (rowsOf toa thirdOf002 (inverseRoot 2)) → ⊥
+unfolding thirdOf002 isNegative mixed rounded add sum mul neg round
+third-of-002 m = true≢false (ap isNegative (by-half 3 toa thirdOf002 m .swaps left (alone 14 16)))

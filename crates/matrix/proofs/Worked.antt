@@ -1,13 +1,15 @@
 -- The worked bits of E7: the four weights that are not 002's, and what the two ears hear of a frame, as it is and mirrored, by computing. Assumes nothing.
 use mathlib.Core.Path.{_≡_, ap, fun-ext}
+use mathlib.Core.Bool.{cond}
 use mathlib.Core.List.{List, [], _∷_}
 use Prim.Native.Nat.{ℕ, _+_}
+use lib.Dec.{eqb}
 use lib.IntN.{pos}
 use lib.ListN.{getD}
 use lib.Ieee.{Float, nan, binary32, binary64, toBits, neg, add, mul, sum, round, ofInt}
 use Rattle.formats.specs.Floats.{zero-float, one-float, half-float, minus-one-float, float}
 use Rattle.numbers.specs.Computed.{rounded}
-use Rattle.lists.specs.Tables.{row}
+use Rattle.lists.specs.Tables.{tab, row}
 use Rattle.planes.specs.Sums.{mixed}
 use Rattle.channel.specs.Orders.{channelsOfOrder}
 use Rattle.matrix.specs.Mirror.{mirrored}
@@ -30,13 +32,14 @@ heard at n frame = toBits binary32 (mixed (row (channelsOfOrder n) (placeOf left
 abbrev heardTwice : (ℕ → List Float) → ℕ → List Float → List (List ℕ)
 heardTwice at n frame = heard at n frame ∷ heard at n (mirrored neg frame) ∷ []
 
--- 1.0 on channel 5 alone, where 002 lets both ears hear the same
-abbrev pub fifthAlone : List Float
-fifthAlone = zero-float ∷ zero-float ∷ zero-float ∷ zero-float ∷ zero-float ∷ one-float ∷ zero-float ∷ zero-float ∷ zero-float ∷ []
+-- 1.0 on one of so many channels
+abbrev pub alone : ℕ → ℕ → List Float
+alone c channels = tab 0 channels (λ (k : ℕ). cond (eqb k c) one-float zero-float)
 
-worked-second-order : heardTwice rows 2 fifthAlone ≡ (0x3D67B46A ∷ 0xBD67B46A ∷ []) ∷ (0xBD67B46A ∷ 0x3D67B46A ∷ []) ∷ []
+-- on channel 5, where 002 lets both ears hear the same
+worked-second-order : heardTwice rows 2 (alone 5 9) ≡ (0x3D67B46A ∷ 0xBD67B46A ∷ []) ∷ (0xBD67B46A ∷ 0x3D67B46A ∷ []) ∷ []
 unfolding hundredths mixed rounded add sum mul neg round toBits
-worked-second-order = ap (λ (at : ℕ → List Float). heardTwice at 2 fifthAlone) (fun-ext rows-are)
+worked-second-order = ap (λ (at : ℕ → List Float). heardTwice at 2 (alone 5 9)) (fun-ext rows-are)
 
 worked-first-order : heardTwice rows 1 (one-float ∷ float (pos 2) ∷ half-float ∷ minus-one-float ∷ []) ≡ (0x3F593924 ∷ 0xBF10D0C3 ∷ []) ∷ (0xBF10D0C3 ∷ 0x3F593924 ∷ []) ∷ []
 unfolding hundredths mixed rounded add sum mul neg round toBits ofInt

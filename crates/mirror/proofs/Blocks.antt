@@ -28,7 +28,7 @@ use Rattle.ambisonic_decoder.specs.Blocks.{refusalOf, decoded}
 use Rattle.ambisonic_decoder.specs.Promise.{answerOf, Block}
 use Rattle.matrix.specs.Mirror.{lateral, mirrored}
 use Rattle.matrix.proofs.Negated.{getD-negated, tab-negated, length-negated}
-use Rattle.mirror.specs.Blocks.{Partners, Call, mirroredPlanes, MirrorCall, blockAt, played, exchanged, BlocksMirror}
+use Rattle.mirror.specs.Blocks.{PartnersSwap, Call, mirroredPlanes, MirrorCall, blockAt, played, exchanged, BlocksMirror}
 
 -- ---- a frame of mirrored planes is the mirrored frame
 
@@ -89,7 +89,7 @@ module _ (outputs channels : ℕ) (weights : List Float) where
   played-refused : (c : Call) → (refusal c ≡ 0 → ⊥) → played outputs channels weights c ≡ []
   played-refused c e = ap (readFrom c) (block-refused answerOf (c .frames) (c .stride) (framesPut c) (c .out) (refusal c) e)
 
-  module _ (partner : ℕ → ℕ) (partners : Partners outputs channels weights partner) where
+  module _ (partner : ℕ → ℕ) (partners : PartnersSwap outputs channels weights partner) where
     -- a frame of the outputs, of the mirrored frame
     pub frame-exchanged : (frame : List Float) → mixedAll outputs channels weights (mirrored neg frame) ≡ exchanged outputs partner (mixedAll outputs channels weights frame)
     frame-exchanged frame =

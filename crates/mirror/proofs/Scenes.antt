@@ -26,7 +26,7 @@ use Rattle.virtual_speaker.specs.Promise.{outcome, positionOf}
 use Rattle.panner.specs.declared.Command.the-variants.{Ambisonic}
 use Rattle.panner.specs.Commands.{gainsOf}
 use Rattle.panner.specs.Blocks.{narrowedAll, panned}
-use Rattle.mirror.specs.Blocks.{Partners, exchanged}
+use Rattle.mirror.specs.Blocks.{PartnersSwap, exchanged}
 use Rattle.mirror.specs.Partners.{partnerIn, partners, positionPartners}
 use Rattle.mirror.specs.Scenes.{Swapped, mirroredDirection, voice, virtualWeights, ScenesMirror}
 use Rattle.mirror.proofs.Blocks.{frame-exchanged, blocks-mirror}
@@ -64,7 +64,7 @@ module _ (order : ℕ) where
       let opposite : List Float = gainsOf (Ambisonic (mirroredDirection d) order) Mono in
       panned-swapped (channelsOfOrder order) x (narrowedAll gains) (narrowedAll opposite) (narrowed-swapped gains opposite (direction-mirrors order d .gains))
 
-  voice-exchanged : (n : ℕ) (weights : List Float) (partner : ℕ → ℕ) → Partners n (channelsOfOrder order) weights partner → (d : Direction) (x : Float)
+  voice-exchanged : (n : ℕ) (weights : List Float) (partner : ℕ → ℕ) → PartnersSwap n (channelsOfOrder order) weights partner → (d : Direction) (x : Float)
       → mixedAll n (channelsOfOrder order) weights (voice order (mirroredDirection d) x) ≡ exchanged n partner (mixedAll n (channelsOfOrder order) weights (voice order d x))
   voice-exchanged n weights partner p d x =
       tab-ext 0 n (λ (o : ℕ). mixed (row (channelsOfOrder order) o weights) (voice order (mirroredDirection d) x)) (λ (o : ℕ). mixed (row (channelsOfOrder order) o weights) (mirrored neg (voice order d x)))
@@ -73,7 +73,7 @@ module _ (order : ℕ) where
 
   -- ---- the decoder matrix of a layout
 
-  matrix-partners : refusesOrder order ≡ false → (l : Layout) → length (speakers l) ≡ channelsOf l → Partners (channelsOf l) (channelsOfOrder order) (matrixOf order l) (partnerIn (partners l))
+  matrix-partners : refusesOrder order ≡ false → (l : Layout) → length (speakers l) ≡ channelsOf l → PartnersSwap (channelsOf l) (channelsOfOrder order) (matrixOf order l) (partnerIn (partners l))
   matrix-partners ok l all = record {
     inside = partner-inside l all;
     swaps = λ i h frame.

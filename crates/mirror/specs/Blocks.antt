@@ -12,7 +12,7 @@ use Rattle.ambisonic_decoder.specs.Promise.{Block, block}
 use Rattle.matrix.specs.Mirror.{lateral, negatedAt, mirrored}
 
 -- each output has a partner: what the output plays of a mirrored frame is what the partner plays of the frame, whatever its samples are
-pub record Partners (outputs channels : ℕ) (weights : List Float) (partner : ℕ → ℕ) : Type 0 where
+pub record PartnersSwap (outputs channels : ℕ) (weights : List Float) (partner : ℕ → ℕ) : Type 0 where
   pub inside : (o : ℕ) → o < outputs → partner o < outputs
   pub swaps : (o : ℕ) → o < outputs → (frame : List Float) → mixed (row channels o weights) (mirrored neg frame) ≡ mixed (row channels (partner o) weights) frame
 

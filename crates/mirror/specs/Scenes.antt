@@ -24,7 +24,7 @@ use Rattle.panner.specs.declared.Command.the-variants.{Ambisonic}
 use Rattle.panner.specs.Commands.{gainsOf}
 use Rattle.panner.specs.Blocks.{narrowedAll, panned}
 use Rattle.mirror.specs.Partners.{partnerIn, partners, positionPartners}
-use Rattle.mirror.specs.Blocks.{Partners, exchanged, BlocksMirror}
+use Rattle.mirror.specs.Blocks.{PartnersSwap, exchanged, BlocksMirror}
 use Rattle.formats.specs.Zeros.{unsignedZero}
 
 -- ---- of an angle in degrees, any float, also one that is refused: where it lies on the turn, in the program's units (what is left of the turn, or 0 again), its sine and cosine
@@ -70,7 +70,7 @@ virtualWeights order i = take (channelsOfOrder order) (Virtual.outcome order (po
 pub record ScenesMirror (order : ℕ) : Type 0 where
   -- a voice at the opposite azimuth, whatever the sample; through weights whose outputs have partners, as the two ears have, each output plays what its partner plays of the voice
   pub voices : (d : Direction) (x : Float) → Swapped (voice order d x) (voice order (mirroredDirection d) x)
-  pub outputs : (n : ℕ) (weights : List Float) (partner : ℕ → ℕ) → Partners n (channelsOfOrder order) weights partner → (d : Direction) (x : Float)
+  pub outputs : (n : ℕ) (weights : List Float) (partner : ℕ → ℕ) → PartnersSwap n (channelsOfOrder order) weights partner → (d : Direction) (x : Float)
       → mixedAll n (channelsOfOrder order) weights (voice order (mirroredDirection d) x) ≡ exchanged n partner (mixedAll n (channelsOfOrder order) weights (voice order d x))
   -- blocks of mirrored planes through the decoder matrix of a layout whose speakers stand in the table
   pub decoders : refusesOrder order ≡ false → (l : Layout) → length (speakers l) ≡ channelsOf l → BlocksMirror (channelsOf l) (channelsOfOrder order) (matrixOf order l) (partnerIn (partners l))
