@@ -1,4 +1,5 @@
--- What a format holds is rounded to itself (`held-rounded`), and so, added to 0.0, it is itself but for the sign of a zero (`zero-and`). In every format. Assumes nothing.
+-- What a format holds is rounded to itself (`held-rounded`), and so, added to 0.0, it is itself but for the sign of a zero (`zero-and`). In every
+-- format. Assumes nothing.
 use mathlib.Core.Path.{_≡_, refl, sym, ap, _∙_, subst}
 use mathlib.Core.Bool.{Bool, false}
 use Prim.Native.Nat.{ℕ, zero, suc, _*_, _^_, _<_}

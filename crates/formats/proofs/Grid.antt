@@ -16,7 +16,7 @@ use lib.Ieee.Fits.{two, reach, kept-lt}
 use lib.Ieee.Exact.{HasValue}
 use lib.Ieee.Scale.{overflow}
 use Rattle.formats.proofs.Digits.{exponent-le}
-use Rattle.formats.proofs.Patterns.{twice-hid, toBits-value, held}
+use Rattle.formats.proofs.Patterns.{twice-hid, same-value, toBits-value, held}
 
 pub record Grid (f : Format) (w : ℕ) : Type 0 where
   pub c : ℕ
@@ -88,3 +88,8 @@ finite-below f m e t =
 
     fit : (h k b o : ℕ) → b < 2 * h → suc (suc k) ≤ o → 0 + (k * h + b) < o * h
     fit h k b o l g = omega (arith, mul-le-mul-right h g)
+
+-- a zero is written in one way
+pub zero-written : (f : Format) (s : Bool) (e : ℤ) → T (fits f (fin s 0 e)) → fin s 0 e ≡ fin s 0 (pos 0)
+unfolding fits
+zero-written f s e h = same-value f s (fin s 0 e) (fin s 0 (pos 0)) 0 h tt (zero-value s e (2 ^ low f)) (zero-value s (pos 0) (2 ^ low f))

@@ -1,5 +1,5 @@
--- A float and its opposite, but for the sign of a zero (`Opposite`). Comparing does not see that sign, and goes the other way round (`lt-opposite`); products, sums and differences of opposites are opposites
--- (`mul-opposite`, `add-opposite`, `sub-opposite`). Assumes nothing.
+-- A float and its opposite, but for the sign of a zero (`Opposite`). Comparing does not see that sign, and goes the other way round (`lt-opposite`);
+-- products, sums and differences of opposites are opposites (`mul-opposite`, `add-opposite`, `sub-opposite`). Assumes nothing.
 use mathlib.Core.Path.{_≡_, refl, sym, ap, _∙_}
 use mathlib.Core.Bool.{Bool, true, false, not, _&&_, Bool·beq, cond, and-true, and-false}
 use Prim.Native.Nat.{ℕ, zero, suc, _+_, _-_, _*_, _<_}
@@ -11,12 +11,9 @@ use lib.Ieee.{Float, nan, inf, fin, Format, up, down, round, neg, sum, add, sub,
 use lib.Ieee.Fits.{down-pos}
 use Rattle.lists.proofs.Tests.{either, compared}
 use Rattle.formats.proofs.Signs.{neg-neg, round-negated, lt-negated, mul-negated-right}
-use Rattle.formats.specs.Zeros.{unsignedZero}
+use Rattle.formats.specs.Zeros.{unsignedZero, Opposite}
 use Rattle.formats.proofs.Exchanged.{add-exchanged}
 use Rattle.formats.proofs.Zeros.{zero-signs, zero-size, mul-unsigned, add-unsigned}
-
-abbrev pub Opposite : Float → Float → Type 0
-Opposite x y = unsignedZero x ≡ unsignedZero (neg y)
 
 pub neg-opposite : (x : Float) → Opposite (neg x) x
 neg-opposite x = refl
@@ -28,10 +25,10 @@ neg-unsigned (inf s) = refl
 neg-unsigned (fin s zero e) = refl
 neg-unsigned (fin s (suc m) e) = refl
 
-pub opposite-negated : (x y : Float) → Opposite x y → Opposite (neg x) (neg y)
+opposite-negated : (x y : Float) → Opposite x y → Opposite (neg x) (neg y)
 opposite-negated x y h = neg-unsigned x ∙ ap (λ (z : Float). unsignedZero (neg z)) h ∙ sym (neg-unsigned (neg y))
 
-pub opposite-of-negated : (x : Float) → Opposite x (neg x)
+opposite-of-negated : (x : Float) → Opposite x (neg x)
 opposite-of-negated x = ap unsignedZero (sym (neg-neg x))
 
 -- ---- multiplying
@@ -141,7 +138,7 @@ module _ (f : Format) where
   add-negated (fin s m e) (inf t) = refl
   add-negated (fin s m e) (fin t n d) = sum-negated s _ t _ _ (mul-pos (down-pos e) (down-pos d))
 
-  pub add-opposite : (x x' y y' : Float) → Opposite x' x → Opposite y' y → Opposite (add f x' y') (add f x y)
+  add-opposite : (x x' y y' : Float) → Opposite x' x → Opposite y' y → Opposite (add f x' y') (add f x y)
   add-opposite x x' y y' h k = add-alike x' y' ∙ (λ i. unsignedZero (add f (h i) (k i))) ∙ sym (add-alike (neg x) (neg y)) ∙ add-negated x y
 
   pub sub-opposite : (x x' y y' : Float) → Opposite x' x → Opposite y' y → Opposite (sub f x' y') (sub f x y)

@@ -1,6 +1,6 @@
--- No operation favours a sign, in any format: with the other sign a fraction rounds to the other float of that size (`round-negated`), a factor gives the other product (`mul-negated`), whichever factor it is
--- (`mul-either`), and a literal is the other one (`literal-negated`). Two opposites compare the other way round (`lt-negated`, `le-negated`). Signs of zeros and infinities are among them, and the one NaN stays.
--- Assumes nothing.
+-- No operation favours a sign, in any format: with the other sign a fraction rounds to the other float of that size (`round-negated`), a factor gives
+-- the other product (`mul-negated`), whichever factor it is (`mul-either`), and a literal is the other one (`literal-negated`). Two opposites compare
+-- the other way round (`lt-negated`, `le-negated`). Signs of zeros and infinities are among them, and the one NaN stays. Assumes nothing.
 use mathlib.Core.Path.{_≡_, refl, ap, ap₂, sym, _∙_, subst}
 use mathlib.Core.Bool.{Bool, true, false, not, _&&_, _||_, Bool·beq, cond}
 use Prim.Native.Nat.{ℕ, zero, suc, _+_, _*_, _^_}

@@ -1,6 +1,6 @@
--- Signs of zeros in one operation, in any format. A product is the same but for the sign of a zero (`mul-unsigned`); what is added to a number that is no -0.0 may be a zero of either sign
--- (`add-unsigned`); and such a sum of two numbers of the format is no -0.0 (`sum-unsigned`): it is a whole number of the format's smallest values, so it rounds to a zero only where it is one.
--- Assumes nothing.
+-- Signs of zeros in one operation, in any format. A product is the same but for the sign of a zero (`mul-unsigned`); what is added to a number that
+-- is no -0.0 may be a zero of either sign (`add-unsigned`); and such a sum of two numbers of the format is no -0.0 (`sum-unsigned`): it is a whole
+-- number of the format's smallest values, so it rounds to a zero only where it is one. Assumes nothing.
 use mathlib.Core.Path.{_≡_, refl, sym, ap, _∙_, subst}
 use mathlib.Core.Bool.{Bool, true, false, _&&_, Bool·beq, true≢false}
 use Prim.Native.Nat.{ℕ, zero, suc, _+_, _-_, _*_, _^_, _≤_, _<_}
@@ -29,7 +29,7 @@ use Rattle.formats.proofs.Exchanged.{mul-exchanged}
 abbrev pub Unsigned : Float → Type 0
 Unsigned x = unsignedZero x ≡ x
 
-pub unsigned-positive : (m : ℕ) (e : ℤ) → Unsigned (fin false m e)
+unsigned-positive : (m : ℕ) (e : ℤ) → Unsigned (fin false m e)
 unsigned-positive zero e = refl
 unsigned-positive (suc m) e = refl
 

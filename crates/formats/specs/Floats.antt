@@ -1,8 +1,13 @@
 -- Numbers as the code writes them. Definitions only. An f32 and the f64 that it widens to are one `Float`.
 use Prim.Native.Nat.{ℕ, suc, _^_}
 use mathlib.Core.Bool.{true, false}
+use lib.Dec.{T}
 use lib.IntN.{ℤ, pos, negsuc}
-use lib.Ieee.{Float, fin, binary64, round, ofInt}
+use lib.Ieee.{Float, fin, binary64, round, ofInt, fits}
+
+-- x is an f64
+abbrev pub Held : Float → Type 0
+Held x = T (fits binary64 x)
 
 -- 0.0, 1.0, -1.0 and 0.5
 abbrev pub zero-float : Float

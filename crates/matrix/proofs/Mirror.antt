@@ -1,120 +1,84 @@
--- The right ear's weights are the left ear's with the lateral channels negated, bit for bit, and negating these channels of a frame swaps what the ears hear of it (`mirrors`). Shown once over the order:
--- by order go only the lengths of the rows, and that no literal is 0, which has no opposite, by computing. Assumes nothing.
-use mathlib.Core.Path.{_≡_, refl, sym, ap, _∙_, subst}
-use mathlib.Core.Bool.{Bool, true, false}
-use mathlib.Core.List.{List, [], _∷_, _++_, map-map, map-append, append-nil, flatten}
-use Prim.Native.Nat.{ℕ, zero, suc}
-use lib.Dec.{T, lit<}
-use lib.IntN.{ℤ, pos, negsuc, negℤ}
-use lib.ListN.{length}
+-- Lists negated at named places, whatever their elements are: negated twice they are as they were (`negated-twice`), a place is read as it was or
+-- negated (`getD-negated`), and a function that takes one negation to another takes such lists to such lists (`map-negated`). Of floats: to negate
+-- samples at some places gives the same products as to negate the weights there (`products-negated`), so that a weighted sum needs no law of sums.
+-- Assumes nothing.
+use mathlib.Core.Path.{_≡_, refl, sym, ap, _∙_}
+use mathlib.Core.Bool.{Bool, true, false, cond}
+use mathlib.Core.List.{List, [], _∷_, _++_, map}
+use Prim.Native.Nat.{ℕ, zero, suc, _+_}
+use native.Mathlib.Nat.{add-zero, add-suc, suc-add}
+use lib.Dec.{T}
+use lib.ListN.{length, getD, take}
 use lib.Ieee.{Float, binary64, mul, neg}
-use Rattle.refusals.proofs.First.{passed, answered-accepted}
-use Rattle.formats.specs.Floats.{zero-float, literal}
-use Rattle.formats.proofs.Signs.{neg-neg, literal-negated, mul-negated}
-use Rattle.numbers.specs.Computed.{narrowed}
-use Rattle.lists.specs.Tables.{row, every}
-use Rattle.planes.specs.Normalization.{inverseRoot}
-use Rattle.planes.specs.Sums.{total, mixed}
-use Rattle.rows.specs.Rows.{scaled}
-use Rattle.rows.proofs.Joined.{AllOf, row-found}
-use Rattle.channel.specs.Orders.{refusesOrder, channelsOfOrder, byOrder}
-use Rattle.channel.proofs.Orders.{by-order, one-of-three}
-use Rattle.matrix.specs.Mirror.{lateral, mirrored}
-use Rattle.matrix.specs.Rows.{Ear, left, right, foa, soa, toa, placeOf, hundredths, literals, rows}
-use Rattle.matrix.specs.Promise.{Computed, Computes, refusalOf, outcome}
-use Rattle.matrix.specs.Ears.{other, earRow, earSignal, Mirrors}
-use Rattle.matrix.proofs.Negated.{negated-twice, map-negated, products-negated}
+use lib.Ieee.Fits.{and-l, and-r}
+use Rattle.formats.proofs.Signs.{mul-either}
+use Rattle.lists.specs.Tables.{tab, every}
+use Rattle.planes.specs.Sums.{products}
+use Rattle.matrix.specs.Mirror.{negatedAt}
 
--- ---- the weight of a literal
-
-abbrev isNot0 : ℤ → Bool
-isNot0 (pos zero) = false
-isNot0 (pos (suc n)) = true
-isNot0 (negsuc n) = true
-
-literal-opposite : (z : ℤ) → T (isNot0 z) → literal (negℤ z) 100 ≡ neg (literal z 100)
-literal-opposite (pos zero) t = absurd t
-literal-opposite (pos (suc n)) t = literal-negated n 100
-literal-opposite (negsuc n) t = sym (ap neg (literal-negated n 100) ∙ neg-neg (literal (pos (suc n)) 100))
-
-abbrev weight : ℤ → Float
-weight z = mul binary64 (literal z 100) (inverseRoot 2)
-
-weight-opposite : (z : ℤ) → T (isNot0 z) → weight (negℤ z) ≡ neg (weight z)
-weight-opposite z t = ap (λ (x : Float). mul binary64 x (inverseRoot 2)) (literal-opposite z t) ∙ mul-negated binary64 (literal z 100) (inverseRoot 2)
-
--- ---- a sum over a frame: it is the same whether the samples are negated or their weights
-
-pub mixed-mirrored : (w frame : List Float) → mixed (mirrored neg w) frame ≡ mixed w (mirrored neg frame)
-unfolding mixed
-mixed-mirrored w frame = ap (λ (l : List Float). narrowed (total zero-float l)) (sym (products-negated lateral 0 frame w))
-
--- ---- the rows
-
-abbrev weights : ℕ → Ear → List Float
-weights n e = scaled (inverseRoot 2) (literals (hundredths n e))
-
-weights-opposite : (n : ℕ) → weights n right ≡ mirrored neg (weights n left)
-unfolding hundredths
-weights-opposite n =
-    let zs : List ℤ = byOrder n foa soa toa in
-    map-map (λ (x : Float). mul binary64 x (inverseRoot 2)) (λ (z : ℤ). literal z 100) (mirrored negℤ zs)
-    ∙ map-negated negℤ neg weight isNot0 weight-opposite lateral 0 zs (one-of-three (λ (zs : List ℤ). T (every isNot0 zs)) tt tt tt n)
-    ∙ ap (mirrored neg) (sym (map-map (λ (x : Float). mul binary64 x (inverseRoot 2)) (λ (z : ℤ). literal z 100) zs))
-
--- each has a weight for each channel
-length-weights : (e : Ear) (n : ℕ) → refusesOrder n ≡ false → length (weights n e) ≡ channelsOfOrder n
-unfolding hundredths
-length-weights left = by-order (λ (n : ℕ). length (weights n left) ≡ channelsOfOrder n) refl refl refl
-length-weights right = by-order (λ (n : ℕ). length (weights n right) ≡ channelsOfOrder n) refl refl refl
-
-rows-joined : (n : ℕ) → rows n ≡ flatten (weights n left ∷ weights n right ∷ [])
-unfolding rows flatten
-rows-joined n =
-    map-append (λ (x : Float). mul binary64 x (inverseRoot 2)) (literals (hundredths n left)) (literals (hundredths n right))
-    ∙ ap (λ (r : List Float). weights n left ++ r) (sym (append-nil (weights n right)))
-
-module _ (n : ℕ) (order : refusesOrder n ≡ false) where
-  -- both, each found where it stands
-  ear-row : (e : Ear) → earRow n (rows n) e ≡ weights n e
-  ear-row e = ap (row (channelsOfOrder n) (placeOf e)) (rows-joined n) ∙ found e
+module _ {A : Type 0} (negate : A → A) (named : ℕ → Bool) where
+  pub negated-twice : ((x : A) → negate (negate x) ≡ x) → (i : ℕ) (xs : List A) → negatedAt negate named i (negatedAt negate named i xs) ≡ xs
+  negated-twice twice i [] = refl
+  negated-twice twice i (x ∷ xs) = cc (one (named i), negated-twice twice (suc i) xs)
     where
-      both : List (List Float)
-      both = weights n left ∷ weights n right ∷ []
+      one : (b : Bool) → cond b (negate (cond b (negate x) x)) (cond b (negate x) x) ≡ x
+      one true = twice x
+      one false = refl
 
-      long : AllOf (channelsOfOrder n) both
-      long = (length-weights left n order, (length-weights right n order, tt))
+  pub getD-negated : (d : A) → negate d ≡ d → (i : ℕ) (xs : List A) (k : ℕ)
+      → getD (negatedAt negate named i xs) k d ≡ cond (named (i + k)) (negate (getD xs k d)) (getD xs k d)
+  getD-negated d e i [] k = beyond (named (i + k))
+    where
+      beyond : (b : Bool) → d ≡ cond b (negate d) d
+      beyond true = sym e
+      beyond false = refl
+  getD-negated d e i (x ∷ xs) zero = ap (λ (j : ℕ). cond (named j) (negate x) x) (sym (add-zero i))
+  getD-negated d e i (x ∷ xs) (suc k) =
+      getD-negated d e (suc i) xs k ∙ ap (λ (j : ℕ). cond (named j) (negate (getD xs k d)) (getD xs k d)) (suc-add i k ∙ sym (add-suc i k))
 
-      found : (e : Ear) → row (channelsOfOrder n) (placeOf e) (flatten both) ≡ weights n e
-      found left = row-found (channelsOfOrder n) both 0 [] long (lit< tt)
-      found right = row-found (channelsOfOrder n) both 1 [] long (lit< tt)
+  pub tab-negated : (i n : ℕ) (f : ℕ → A) → negatedAt negate named i (tab i n f) ≡ tab i n (λ (k : ℕ). cond (named k) (negate (f k)) (f k))
+  tab-negated i zero f = refl
+  tab-negated i (suc n) f = ap (λ (l : List A). cond (named i) (negate (f i)) (f i) ∷ l) (tab-negated (suc i) n f)
 
-  right-is : earRow n (rows n) right ≡ mirrored neg (earRow n (rows n) left)
-  right-is = ear-row right ∙ weights-opposite n ∙ ap (mirrored neg) (sym (ear-row left))
+  pub negated-take : (n i : ℕ) (xs : List A) → take n (negatedAt negate named i xs) ≡ negatedAt negate named i (take n xs)
+  negated-take zero i xs = refl
+  negated-take (suc n) i [] = refl
+  negated-take (suc n) i (x ∷ xs) = ap (λ (l : List A). cond (named i) (negate x) x ∷ l) (negated-take n (suc i) xs)
 
-  -- the mirrored frame at the left ear, and so, a frame being its mirrored one mirrored, at the right ear
-  at-left : (frame : List Float) → earSignal n (rows n) left (mirrored neg frame) ≡ earSignal n (rows n) right frame
-  at-left frame = sym (ap (λ (w : List Float). mixed w frame) right-is ∙ mixed-mirrored (earRow n (rows n) left) frame)
+  pub negated-append : (i : ℕ) (xs ys : List A) → negatedAt negate named i (xs ++ ys) ≡ negatedAt negate named i xs ++ negatedAt negate named (i + length xs) ys
+  negated-append i [] ys = ap (λ (k : ℕ). negatedAt negate named k ys) (sym (add-zero i))
+  negated-append i (x ∷ xs) ys =
+      ap (λ (l : List A). cond (named i) (negate x) x ∷ l)
+      (negated-append (suc i) xs ys ∙ ap (λ (k : ℕ). negatedAt negate named (suc i) xs ++ negatedAt negate named k ys) (suc-add i (length xs) ∙ sym (add-suc i (length xs))))
 
-  swap : (e : Ear) (frame : List Float) → earSignal n (rows n) (other e) (mirrored neg frame) ≡ earSignal n (rows n) e frame
-  swap right frame = at-left frame
-  swap left frame = sym (at-left (mirrored neg frame)) ∙ ap (earSignal n (rows n) left) (negated-twice neg lateral neg-neg 0 frame)
+  pub length-negated : (i : ℕ) (xs : List A) → length (negatedAt negate named i xs) ≡ length xs
+  length-negated i [] = refl
+  length-negated i (x ∷ xs) = ap suc (length-negated (suc i) xs)
 
-  pub mirrors : Mirrors n (rows n)
-  mirrors = record { right-row = right-is; swaps = swap }
+-- the function does so with each element that passes a test, and all of the list's do
+module _ {A B : Type 0} (negate : A → A) (negate' : B → B) (f : A → B) (test : A → Bool) (follows : (x : A) → T (test x) → f (negate x) ≡ negate' (f x)) (named : ℕ → Bool) where
+  pub map-negated : (i : ℕ) (xs : List A) → T (every test xs) → map f (negatedAt negate named i xs) ≡ negatedAt negate' named i (map f xs)
+  map-negated i [] t = refl
+  map-negated i (x ∷ xs) t = cc (one (named i), map-negated (suc i) xs (and-r (test x) (every test xs) t))
+    where
+      one : (b : Bool) → f (cond b (negate x) x) ≡ cond b (negate' (f x)) (f x)
+      one true = follows x (and-l (test x) (every test xs) t)
+      one false = refl
 
--- so do the weights that any program leaves that meets the promise, which are these
-module _ (n : ℕ) (lent weights : List Float) (p : Computes n lent (record { refusal = 0; weights = weights })) where
-  accepted : refusalOf n lent ≡ 0
-  unfolding outcome
-  accepted = sym (ap (λ (o : Computed). o .refusal) p)
+-- with every element
+always : {A : Type 0} (xs : List A) → T (every (λ (x : A). true) xs)
+always [] = tt
+always (x ∷ xs) = always xs
 
-  pub computed-order : refusesOrder n ≡ false
-  computed-order = passed (refusesOrder n) 0 _ accepted .0
+module _ {A B : Type 0} (negate : A → A) (negate' : B → B) (f : A → B) (follows : (x : A) → f (negate x) ≡ negate' (f x)) (named : ℕ → Bool) where
+  pub map-negated-each : (i : ℕ) (xs : List A) → map f (negatedAt negate named i xs) ≡ negatedAt negate' named i (map f xs)
+  map-negated-each i xs = map-negated negate negate' f (λ (x : A). true) (λ x t. follows x) named i xs (always xs)
 
-  pub computed-rows : weights ≡ rows n
-  unfolding outcome
-  computed-rows = ap (λ (o : Computed). o .weights) p ∙ answered-accepted (rows n) (λ k. lent) (refusalOf n lent) accepted
-
-  pub computed-mirrors : Mirrors n weights
-  computed-mirrors = subst (Mirrors n) (sym computed-rows) (mirrors n computed-order)
+pub products-negated : (named : ℕ → Bool) (i : ℕ) (xs ws : List Float) → products (negatedAt neg named i xs) ws ≡ products xs (negatedAt neg named i ws)
+products-negated named i [] ws = refl
+products-negated named i (x ∷ xs) [] = refl
+products-negated named i (x ∷ xs) (w ∷ ws) = cc (one (named i), products-negated named (suc i) xs ws)
+  where
+    one : (b : Bool) → mul binary64 (cond b (neg x) x) w ≡ mul binary64 x (cond b (neg w) w)
+    one true = mul-either binary64 x w
+    one false = refl

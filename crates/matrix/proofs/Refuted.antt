@@ -1,4 +1,5 @@
--- Wrong rows, each held against what E7 asks: no rows that differ from the promised ones in a sign are an answer, whichever weight it is, and those of 002 do not swap the ears. Assumes nothing.
+-- Wrong rows, each held against what E7 asks: no rows that differ from the promised ones in a sign are an answer, whichever weight it is, and those
+-- of 002 do not swap the ears. Assumes nothing.
 use mathlib.Core.Path.{_≡_, refl, sym, ap, _∙_, subst}
 use mathlib.Core.Bool.{Bool, true, false, not, cond, true≢false}
 use mathlib.Core.List.{List, [], _∷_, _++_}
@@ -10,6 +11,7 @@ use lib.IntN.{ℤ, pos}
 use lib.ListN.{length, getD}
 use lib.Ieee.{Float, nan, inf, fin, neg, add, sum, mul, round}
 use lib.Ieee.Scale.{finite}
+use Rattle.numbers.specs.Conversions.{negative}
 use Rattle.numbers.specs.Computed.{rounded}
 use Rattle.checks.proofs.Checks.{sound-at}
 use Rattle.rows.specs.Rows.{scaled}
@@ -20,28 +22,23 @@ use Rattle.matrix.specs.Mirror.{negatedAt}
 use Rattle.matrix.specs.Rows.{left, soa, toa, literals, rows}
 use Rattle.matrix.specs.Promise.{Computes}
 use Rattle.matrix.specs.Ears.{Mirrors}
-use Rattle.matrix.proofs.Negated.{getD-negated}
-use Rattle.matrix.proofs.Mirror.{computed-order, computed-rows}
+use Rattle.matrix.proofs.Mirror.{getD-negated}
+use Rattle.matrix.proofs.Ears.{computed-order, computed-rows}
 use Rattle.matrix.proofs.Sound.{rootOfHalf, inverse-root-two, rows-finite}
 use Rattle.matrix.proofs.Worked.{alone}
 
-isNegative : Float → Bool
-isNegative nan = false
-isNegative (inf s) = s
-isNegative (fin s m e) = s
-
 -- ---- any one weight with the other sign, of either ear: a sign missing on 5 or on 11, one on 13 or on 14
 
-not-not : (s : Bool) → not s ≡ s → ⊥
-not-not true e = absurd (true≢false (sym e))
-not-not false e = absurd (true≢false e)
+not-self : (s : Bool) → not s ≡ s → ⊥
+not-self true e = absurd (true≢false (sym e))
+not-self false e = absurd (true≢false e)
 
 -- no finite number is its own opposite: the two zeros are two
 not-opposite : (x : Float) → finite x ≡ true → neg x ≡ x → ⊥
-unfolding neg isNegative
+unfolding neg
 not-opposite nan f e = absurd (true≢false (sym f))
 not-opposite (inf s) f e = absurd (true≢false (sym f))
-not-opposite (fin s m e) f p = not-not s (ap isNegative p)
+not-opposite (fin s m e) f p = not-self s (ap negative p)
 
 other-sign : (n : ℕ) (lent : List Float) (k : ℕ) → k < length (rows n) → Computes n lent (record { refusal = 0; weights = negatedAt neg (λ (i : ℕ). eqb i k) 0 (rows n) }) → ⊥
 unfolding neg
@@ -52,8 +49,10 @@ other-sign n lent k h p =
     (sym (getD-negated neg (λ (i : ℕ). eqb i k) nan refl 0 (rows n) k ∙ ap (λ (b : Bool). cond b (neg x) x) (eq-eqb (0 + k) k (zero-add k)))
     ∙ ap (λ (w : List Float). getD w k nan) (computed-rows n lent wrong p))
 
--- ---- 002's rows. Of the second order 1.0 on channel 5 alone is the same at both ears, and mirrored it has the other sign at both. Of the third 1.0 on channel 14 alone, which a mirror leaves as it is, has the other
--- sign at the right ear
+-- ---- 002's rows
+
+-- Of the second order 1.0 on channel 5 alone is the same at both ears, and mirrored it has the other sign at both. Of the third 1.0 on channel
+-- 14 alone, which a mirror leaves as it is, has the other sign at the right ear.
 
 secondOf002 : List ℤ
 secondOf002 = pos 45 ∷ minus 45 ∷ pos 9 ∷ pos 32 ∷ minus 25 ∷ pos 8 ∷ pos 5 ∷ pos 8 ∷ pos 15 ∷ []
@@ -69,9 +68,9 @@ by-half : (n : ℕ) (ls rs : List ℤ) → Mirrors n (rowsOf ls rs (inverseRoot 
 by-half n ls rs = subst (λ (f : Float). Mirrors n (rowsOf ls rs f)) inverse-root-two
 
 second-of-002 : Mirrors 2 (rowsOf soa secondOf002 (inverseRoot 2)) → ⊥
-unfolding secondOf002 isNegative mixed rounded add sum mul neg round
-second-of-002 m = true≢false (ap isNegative (by-half 2 soa secondOf002 m .swaps left (alone 5 9)))
+unfolding secondOf002 mixed rounded add sum mul neg round
+second-of-002 m = true≢false (ap negative (by-half 2 soa secondOf002 m .swaps left (alone 5 9)))
 
 third-of-002 : Mirrors 3 (rowsOf toa thirdOf002 (inverseRoot 2)) → ⊥
-unfolding thirdOf002 isNegative mixed rounded add sum mul neg round
-third-of-002 m = true≢false (ap isNegative (by-half 3 toa thirdOf002 m .swaps left (alone 14 16)))
+unfolding thirdOf002 mixed rounded add sum mul neg round
+third-of-002 m = true≢false (ap negative (by-half 3 toa thirdOf002 m .swaps left (alone 14 16)))

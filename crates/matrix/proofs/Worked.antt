@@ -1,33 +1,40 @@
--- The worked bits of E7: the four weights that are not 002's, and what the two ears hear of a frame, as it is and mirrored, by computing. Assumes nothing.
+-- The worked bits of E7: weights of the right ear, and what the two ears hear of a frame, as it is and mirrored, by computing. A source at (30, 20),
+-- which needs harmonics, is worked in the oracle. Assumes nothing.
 use mathlib.Core.Path.{_≡_, ap, fun-ext}
 use mathlib.Core.Bool.{cond}
-use mathlib.Core.List.{List, [], _∷_}
-use Prim.Native.Nat.{ℕ, _+_}
+use mathlib.Core.List.{List, [], _∷_, map}
+use Prim.Native.Nat.{ℕ}
 use lib.Dec.{eqb}
 use lib.IntN.{pos}
 use lib.ListN.{getD}
 use lib.Ieee.{Float, nan, binary32, binary64, toBits, neg, add, mul, sum, round, ofInt}
 use Rattle.formats.specs.Floats.{zero-float, one-float, half-float, minus-one-float, float}
 use Rattle.numbers.specs.Computed.{rounded}
-use Rattle.lists.specs.Tables.{tab, row}
+use Rattle.lists.specs.Tables.{tab}
 use Rattle.planes.specs.Sums.{mixed}
-use Rattle.channel.specs.Orders.{channelsOfOrder}
 use Rattle.matrix.specs.Mirror.{mirrored}
-use Rattle.matrix.specs.Rows.{left, right, placeOf, hundredths, rows}
+use Rattle.matrix.specs.Rows.{left, right, hundredths, rows}
+use Rattle.matrix.specs.Ears.{earRow, earSignal}
 use Rattle.matrix.proofs.Sound.{rows-are}
 
--- the right ear's weights: channel 5 of the second order; channels 5, 11 and 14 of the third
-abbrev rightBits : (ℕ → List Float) → List ℕ
-rightBits at =
-    toBits binary64 (getD (at 2) (9 + 5) nan) ∷ toBits binary64 (getD (at 3) (16 + 5) nan) ∷ toBits binary64 (getD (at 3) (16 + 11) nan) ∷ toBits binary64 (getD (at 3) (16 + 14) nan) ∷ []
+-- the right ear's weights at some channels of an order
+abbrev rightBits : (ℕ → List Float) → ℕ → List ℕ → List ℕ
+rightBits at n = map (λ (c : ℕ). toBits binary64 (getD (earRow n (at n) right) c nan))
 
-worked-weights : rightBits rows ≡ 0xBFACF68D4FFF04DC ∷ 0xBFA957BBA5FF2441 ∷ 0xBFA21A1851FF630A ∷ 0x3FB21A1851FF630A ∷ []
+-- those of the lateral channels of the second order, of which 5 is not 002's; of the third, of which 5 and 11 are not, and of 13, which has no sign,
+-- and 14, which 002 gives one
+worked-second-row : rightBits rows 2 (1 ∷ 4 ∷ 5 ∷ []) ≡ 0xBFD45D5B5C3F4F6B ∷ 0xBFC6A09E667F3BCC ∷ 0xBFACF68D4FFF04DC ∷ []
 unfolding hundredths round mul toBits
-worked-weights = ap rightBits (fun-ext rows-are)
+worked-second-row = ap (λ (at : ℕ → List Float). rightBits at 2 (1 ∷ 4 ∷ 5 ∷ [])) (fun-ext rows-are)
+
+worked-third-row : rightBits rows 3 (1 ∷ 4 ∷ 5 ∷ 9 ∷ 10 ∷ 11 ∷ 13 ∷ 14 ∷ [])
+    ≡ 0xBFD301CCBC7F5B30 ∷ 0xBFC3E98126FF5357 ∷ 0xBFA957BBA5FF2441 ∷ 0xBFBB27247AFF148E ∷ 0xBFB21A1851FF630A ∷ 0xBFA21A1851FF630A ∷ 0x3FA21A1851FF630A ∷ 0x3FB21A1851FF630A ∷ []
+unfolding hundredths round mul toBits
+worked-third-row = ap (λ (at : ℕ → List Float). rightBits at 3 (1 ∷ 4 ∷ 5 ∷ 9 ∷ 10 ∷ 11 ∷ 13 ∷ 14 ∷ [])) (fun-ext rows-are)
 
 -- what the left ear hears and what the right ear hears, of a frame and of the mirrored frame
 abbrev heard : (ℕ → List Float) → ℕ → List Float → List ℕ
-heard at n frame = toBits binary32 (mixed (row (channelsOfOrder n) (placeOf left) (at n)) frame) ∷ toBits binary32 (mixed (row (channelsOfOrder n) (placeOf right) (at n)) frame) ∷ []
+heard at n frame = toBits binary32 (earSignal n (at n) left frame) ∷ toBits binary32 (earSignal n (at n) right frame) ∷ []
 
 abbrev heardTwice : (ℕ → List Float) → ℕ → List Float → List (List ℕ)
 heardTwice at n frame = heard at n frame ∷ heard at n (mirrored neg frame) ∷ []

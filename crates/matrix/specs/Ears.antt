@@ -1,5 +1,6 @@
--- Document 02, E7: "The right row becomes the left row with channels 1, 4, 5, 9, 10 and 11 negated, for every order as far as it reaches. Then prove, once over the order: negating those input channels swaps
--- the two ear signals bit for bit, all NaNs as one." Said of the weights themselves and of single frames; of blocks it is said in `mirror`. It is shown in proofs/Mirror.antt. Definitions only.
+-- Document 02, E7: "The right row becomes the left row with channels 1, 4, 5, 9, 10 and 11 negated, for every order as far as it reaches. Then prove,
+-- once over the order: negating those input channels swaps the two ear signals bit for bit, all NaNs as one." Said of the weights themselves and of
+-- single frames; of blocks it is said in `mirror`. It is shown in proofs/Ears.antt. Definitions only.
 use Prim.Native.Nat.{ℕ}
 use mathlib.Core.Path.{_≡_}
 use mathlib.Core.List.{List}

@@ -1,4 +1,5 @@
--- The opposite angle is refused as the angle is, and its sine and cosine: it lies where what is left of the turn ends, so that the shorter way from 0 is the same and the half of the turn the other one. Assumes nothing.
+-- The opposite angle is refused as the angle is, and its sine and cosine: it lies where what is left of the turn ends, so that the shorter way from 0
+-- is the same and the half of the turn the other one. Assumes nothing.
 use mathlib.Core.Path.{_≡_, refl, sym, ap, ap₂, _∙_, subst}
 use mathlib.Core.Logic.{_⊎_, inl, inr}
 use mathlib.Core.Bool.{Bool, true, false, not, _&&_, _||_, cond, and-comm}

@@ -1,8 +1,8 @@
--- Where outputs have partners, the frames of a block of mirrored planes are those of the block exchanged (`blocks-mirror`). Nothing of sums is needed: the frames that the second call reads are the mirrored frames.
--- Assumes nothing.
+-- Where outputs have partners, the frames of a block of mirrored planes are those of the block exchanged (`blocks-mirror`). Nothing of sums is
+-- needed: the frames that the second call reads are the mirrored frames. Assumes nothing.
 use mathlib.Core.Path.{_≡_, refl, sym, ap, _∙_}
 use mathlib.Core.Bool.{Bool, not, _||_, cond}
-use mathlib.Core.List.{List, [], map}
+use mathlib.Core.List.{List, [], _∷_, map}
 use Prim.Native.Nat.{ℕ, zero, suc, _+_, _*_, _/_, _≤_, _<_}
 use native.Mathlib.Nat.{zero-add}
 use native.Mathlib.Decide.{ℕ-discrete}
@@ -11,8 +11,9 @@ use lib.Arith.{digits-div}
 use lib.Dec.{eqb}
 use lib.ListN.{length, getD}
 use lib.Ieee.{Float, nan, neg}
-use Rattle.refusals.specs.Refusals.{outside, answered}
-use Rattle.refusals.proofs.First.{passed, or-off}
+use Rattle.refusals.specs.Refusals.{Check, _when_, outside, answered}
+use Rattle.refusals.proofs.First.{or-off}
+use Rattle.refusals.proofs.Chains.{none-holds}
 use Rattle.lists.specs.Tables.{row}
 use Rattle.lists.proofs.Tables.{length-tab, getD-tab, tab-ext}
 use Rattle.lists.proofs.Mapped.{map-tab}
@@ -25,10 +26,10 @@ use Rattle.planes.specs.Blocks.{blockOf}
 use Rattle.planes.proofs.Planes.{frames-read}
 use Rattle.planes.proofs.Blocks.{block-accepted, block-refused}
 use Rattle.ambisonic_decoder.specs.Blocks.{refusalOf, decoded}
-use Rattle.ambisonic_decoder.specs.Promise.{answerOf, Block}
+use Rattle.ambisonic_decoder.specs.Promise.{answerOf, Block, block}
 use Rattle.matrix.specs.Mirror.{lateral, mirrored}
-use Rattle.matrix.proofs.Negated.{getD-negated, tab-negated, length-negated}
-use Rattle.mirror.specs.Blocks.{PartnersSwap, Call, mirroredPlanes, MirrorCall, blockAt, played, exchanged, BlocksMirror}
+use Rattle.matrix.proofs.Mirror.{getD-negated, tab-negated, length-negated}
+use Rattle.mirror.specs.Blocks.{PartnersSwap, Call, mirroredPlanes, MirrorCall, exchanged, BlocksMirror}
 
 -- ---- a frame of mirrored planes is the mirrored frame
 
@@ -55,11 +56,15 @@ module _ (outputs channels : ℕ) (weights : List Float) where
   abbrev framesPut : Call → List (List Float)
   framesPut c = decodedOf (c .frames) (c .stride) (c .inputs)
 
+  abbrev blockAt : Call → Block
+  blockAt c = block weights (record { outputs = outputs; channels = channels; frames = c .frames; stride = c .stride }) (c .inputs) (c .out)
+
   abbrev readFrom : Call → Block → List (List Float)
   readFrom c b = framesOf (b .out) (c .stride) outputs (b .answer .samples)
 
   -- the answer is told by the refusal and the frame count
-  answer-is : (r frames stride : ℕ) (put : List (List Float)) (out : List Float) → blockOf answerOf r frames stride put out .answer ≡ answered r (answerOf 0 frames) (λ (n : ℕ). answerOf n 0)
+  answer-is : (r frames stride : ℕ) (put : List (List Float)) (out : List Float)
+      → blockOf answerOf r frames stride put out .answer ≡ answered r (answerOf 0 frames) (λ (n : ℕ). answerOf n 0)
   answer-is zero frames stride put out = refl
   answer-is (suc n) frames stride put out = refl
 
@@ -69,14 +74,12 @@ module _ (outputs channels : ℕ) (weights : List Float) where
       let inputs-unfit : Bool = unfit (length (c .inputs)) channels (c .stride) (c .frames) in
       let out-unfit : Bool = unfit (length (c .out)) outputs (c .stride) (c .frames) in
       let weights-unfit : Bool = not (eqb (length weights) (outputs * channels)) in
-      let last : ℕ = cond (unsound weights) 7 0 in
-      let third : ℕ = cond (inputs-unfit || out-unfit || weights-unfit) 5 last in
-      let second : ℕ = cond (outside channels 16) 2 third in
-      let all-fit = passed (inputs-unfit || out-unfit || weights-unfit) 4 last (passed (outside channels 16) 1 third (passed (outside outputs 16) 1 second e .1) .1) .0 in
-      fitted (length (c .out)) outputs (c .stride) (c .frames) (or-off inputs-unfit out-unfit (or-off (inputs-unfit || out-unfit) weights-unfit all-fit .0) .1)
+      let checks : List Check = 2 when outside outputs 16 ∷ 2 when outside channels 16 ∷ 5 when (inputs-unfit || out-unfit || weights-unfit) ∷ 7 when unsound weights ∷ [] in
+      let lengths = none-holds checks tt e .1 .1 .0 in
+      fitted (length (c .out)) outputs (c .stride) (c .frames) (or-off inputs-unfit out-unfit (or-off (inputs-unfit || out-unfit) weights-unfit lengths .0) .1)
 
   -- and the frames that were put are read back
-  played-accepted : (c : Call) → refusal c ≡ 0 → played outputs channels weights c ≡ framesPut c
+  played-accepted : (c : Call) → refusal c ≡ 0 → readFrom c (blockAt c) ≡ framesPut c
   played-accepted c e =
       let put = framesPut c in
       let count : length put ≡ c .frames = length-tab 0 (c .frames) _ in
@@ -86,7 +89,7 @@ module _ (outputs channels : ℕ) (weights : List Float) where
       ∙ frames-read outputs (c .out) (c .stride) put (omega (arith, count, fits .0)) (fits .1)
       (λ j l. ap length (getD-tab 0 (c .frames) _ j [] (omega (arith, l, count))) ∙ length-tab 0 outputs _)
 
-  played-refused : (c : Call) → (refusal c ≡ 0 → ⊥) → played outputs channels weights c ≡ []
+  played-refused : (c : Call) → (refusal c ≡ 0 → ⊥) → readFrom c (blockAt c) ≡ []
   played-refused c e = ap (readFrom c) (block-refused answerOf (c .frames) (c .stride) (framesPut c) (c .out) (refusal c) e)
 
   module _ (partner : ℕ → ℕ) (partners : PartnersSwap outputs channels weights partner) where
@@ -96,10 +99,12 @@ module _ (outputs channels : ℕ) (weights : List Float) where
         tab-ext 0 outputs (λ (o : ℕ). mixed (row channels o weights) (mirrored neg frame)) (λ (o : ℕ). getD (mixedAll outputs channels weights frame) (partner o) nan)
         (λ o l. let inside : o < outputs = omega (arith, l) in
         partners .swaps o inside frame
-        ∙ sym (getD-tab 0 outputs (λ (q : ℕ). mixed (row channels q weights) frame) (partner o) nan (partners .inside o inside) ∙ ap (λ (q : ℕ). mixed (row channels q weights) frame) (zero-add (partner o))))
+        ∙ sym (getD-tab 0 outputs (λ (q : ℕ). mixed (row channels q weights) frame) (partner o) nan (partners .inside o inside)
+        ∙ ap (λ (q : ℕ). mixed (row channels q weights) frame) (zero-add (partner o))))
 
     -- and so every frame of a block whose planes fit
-    frames-exchanged : (frames stride : ℕ) (inputs : List Float) → frames ≤ stride → decodedOf frames stride (mirroredPlanes stride inputs) ≡ map (exchanged outputs partner) (decodedOf frames stride inputs)
+    frames-exchanged : (frames stride : ℕ) (inputs : List Float) → frames ≤ stride
+        → decodedOf frames stride (mirroredPlanes stride inputs) ≡ map (exchanged outputs partner) (decodedOf frames stride inputs)
     frames-exchanged frames stride inputs h =
         tab-ext 0 frames (λ (n : ℕ). mixedAll outputs channels weights (frameAt (mirroredPlanes stride inputs) stride channels n))
         (λ (n : ℕ). exchanged outputs partner (mixedAll outputs channels weights (frameAt inputs stride channels n)))
@@ -114,14 +119,20 @@ module _ (outputs channels : ℕ) (weights : List Float) where
       put-exchanged : refusal c ≡ 0 → framesPut d ≡ map (exchanged outputs partner) (framesPut c)
       put-exchanged e = cc (m .frames, m .stride, m .inputs) ∙ frames-exchanged (c .frames) (c .stride) (c .inputs) (out-fits c e .0)
 
-      answer-same : blockAt outputs channels weights d .answer ≡ blockAt outputs channels weights c .answer
-      answer-same = answer-is (refusal d) (d .frames) (d .stride) (framesPut d) (d .out) ∙ cc (refusal-same, m .frames) ∙ sym (answer-is (refusal c) (c .frames) (c .stride) (framesPut c) (c .out))
+      answer-same : blockAt d .answer ≡ blockAt c .answer
+      answer-same =
+          answer-is (refusal d) (d .frames) (d .stride) (framesPut d) (d .out)
+          ∙ cc (refusal-same, m .frames)
+          ∙ sym (answer-is (refusal c) (c .frames) (c .stride) (framesPut c) (c .out))
 
-      played-exchanged : played outputs channels weights d ≡ map (exchanged outputs partner) (played outputs channels weights c)
+      played-exchanged : readFrom d (blockAt d) ≡ map (exchanged outputs partner) (readFrom c (blockAt c))
       played-exchanged = elim (ℕ-discrete (refusal c) 0) [
         | yes e ↦ played-accepted d (refusal-same ∙ e) ∙ put-exchanged e ∙ ap (map (exchanged outputs partner)) (sym (played-accepted c e))
         | no e ↦ played-refused d (λ z. e (sym refusal-same ∙ z)) ∙ ap (map (exchanged outputs partner)) (sym (played-refused c e))
       ]
 
     pub blocks-mirror : BlocksMirror outputs channels weights partner
-    blocks-mirror = record { answers = answer-same; plays = played-exchanged }
+    blocks-mirror = record {
+      answers = λ c d m p q. ap (λ (b : Block). b .answer) q ∙ answer-same c d m ∙ sym (ap (λ (b : Block). b .answer) p);
+      plays = λ c d m p q. ap (readFrom d) q ∙ played-exchanged c d m ∙ ap (map (exchanged outputs partner)) (sym (ap (readFrom c) p));
+    }

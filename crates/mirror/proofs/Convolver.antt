@@ -1,5 +1,5 @@
--- The other ear adds the parts of the speakers across, in the order of the speakers (`across-parts`). So it hears what the one heard wherever these parts may be exchanged (`heard-by-other-ear`).
--- Assumes nothing.
+-- The other ear adds the parts of the speakers across, in the order of the speakers (`across-parts`). So it hears what the one heard wherever these
+-- parts may be exchanged (`heard-by-other-ear`). Assumes nothing.
 use mathlib.Core.Path.{_≡_, refl, sym, ap, _∙_, subst}
 use mathlib.Core.List.{List, _∷_}
 use Prim.Native.Nat.{ℕ, zero, suc, _≤_, _<_}
@@ -7,7 +7,7 @@ use native.Mathlib.Omega.{arith}
 use lib.Ieee.{Float, binary64, mul}
 use Rattle.lists.specs.Tables.{tab}
 use Rattle.lists.proofs.Tables.{tab-from, tab-ext}
-use Rattle.formats.specs.Floats.{zero-float}
+use Rattle.formats.specs.Floats.{Held, zero-float}
 use Rattle.numbers.specs.Computed.{narrowed}
 use Rattle.planes.specs.Sums.{total, products, dot}
 use Rattle.planes.specs.Normalization.{inverseRoot}
@@ -15,7 +15,7 @@ use Rattle.history.specs.Setup.{Setup, tapsOf}
 use Rattle.history.specs.History.{signalAgo, window, part, earOf, earSample}
 use Rattle.history.proofs.Windows.{ear-of-ext}
 use Rattle.mirror.specs.Partners.{acrossFrom, otherEar}
-use Rattle.mirror.specs.Parts.{Held, Settled}
+use Rattle.mirror.specs.Parts.{Settled}
 use Rattle.mirror.specs.Convolver.{firstTwo, Across, HeardWhere, Any, HeardByOtherEar}
 use Rattle.planes.proofs.Zeros.{zero-held, total-held}
 use Rattle.mirror.proofs.Parts.{total-exchanged, parts-exchanged}

@@ -1,4 +1,5 @@
--- The gains of a mirrored direction. Each lateral channel is a product whose last factor is a sine of the azimuth, or of twice or three times it; no other channel has such a factor. Assumes nothing.
+-- The gains of a mirrored direction. Each lateral channel is a product whose last factor is a sine of the azimuth, or of twice or three times it; no
+-- other channel has such a factor. Assumes nothing.
 use mathlib.Core.Path.{_≡_, refl, ap, ap₂, _∙_}
 use mathlib.Core.Bool.{Bool, true, false, _||_, cond}
 use mathlib.Core.List.{List, _∷_, _++_, map}
@@ -9,7 +10,7 @@ use lib.ListN.{length, length-append, length-map, getD}
 use lib.Ieee.{Float, nan, binary64, mul, neg}
 use Rattle.formats.specs.Floats.{zero-float, float}
 use Rattle.formats.proofs.Signs.{mul-negated-right}
-use Rattle.formats.proofs.Opposite.{Opposite, mul-opposite}
+use Rattle.formats.proofs.Opposite.{mul-opposite}
 use Rattle.channel.specs.Orders.{refusesOrder}
 use Rattle.matrix.specs.Mirror.{lateral}
 use Rattle.harmonics.specs.Computed.{sin, cos, _·_, wavesOf, upTo}
@@ -17,7 +18,7 @@ use Rattle.harmonics.specs.Promise as Harmonics
 use Rattle.harmonics.specs.declared.Direction.{Direction}
 use Rattle.virtual_speaker.specs.Weights.{degreeOf}
 use Rattle.virtual_speaker.specs.Computed.{cosineOf, weight, weigh}
-use Rattle.formats.specs.Zeros.{unsignedZero}
+use Rattle.formats.specs.Zeros.{unsignedZero, Opposite}
 use Rattle.mirror.specs.Scenes.{Swapped, mirroredDirection, DirectionMirrors}
 use Rattle.mirror.proofs.Angles.{refused-negated, angle-mirrors}
 use Rattle.mirror.proofs.Swapped.{SwappedAt, swapped-append, swapped-at, swapped-tab, swapped-by, times-odd}

@@ -1,4 +1,5 @@
--- The first two parts of a sum may be exchanged (`total-exchanged`), and a later pair where one of it is 0.0, or the sum before it is (`next-pair`, `parts-exchanged`). Assumes nothing.
+-- The first two parts of a sum may be exchanged (`total-exchanged`), and a later pair where one of it is 0.0, or the sum before it is (`next-pair`,
+-- `parts-exchanged`). Assumes nothing.
 use mathlib.Core.Path.{_≡_, refl, sym, ap, _∙_}
 use mathlib.Core.Logic.{_⊎_, inl, inr}
 use mathlib.Core.List.{List, [], _∷_}
@@ -7,14 +8,14 @@ use lib.Ieee.{Float, nan, binary64, add}
 use lib.Ieee.Fits.{nan-fits, add-fits}
 use Rattle.lists.specs.Tables.{tab}
 use Rattle.lists.specs.Each.{Each}
-use Rattle.formats.specs.Floats.{zero-float}
+use Rattle.formats.specs.Floats.{Held, zero-float}
 use Rattle.formats.specs.Zeros.{unsignedZero}
 use Rattle.formats.proofs.Exchanged.{add-exchanged}
 use Rattle.formats.proofs.Zeros.{Unsigned, unsigned-twice, add-unsigned, sum-unsigned}
 use Rattle.formats.proofs.Added.{held-and-zero, zero-and}
 use Rattle.planes.specs.Sums.{total}
 use Rattle.planes.proofs.Zeros.{zero-held, zero-unsigned, total-held, sum-stays}
-use Rattle.mirror.specs.Parts.{Held, OneZero, Settled, SameAcross, PartsExchanged}
+use Rattle.mirror.specs.Parts.{OneZero, Settled, SameAcross, PartsExchanged}
 
 -- ---- the first two
 
@@ -36,7 +37,7 @@ zero-exchanged b x y B U Y z =
     ∙ sym (ap (add binary64 (add binary64 b y)) z ∙ held-and-zero binary64 (add binary64 b y) (sum-unsigned binary64 b y U B Y) (add-fits binary64 b y))
 
 -- so two that are added may be exchanged where one of them is 0.0, or what they are added to
-pub pair-exchanged : (b x y : Float) → Held b → Unsigned b → Held x → Held y → OneZero x y ⊎ (b ≡ zero-float) → add binary64 (add binary64 b x) y ≡ add binary64 (add binary64 b y) x
+pair-exchanged : (b x y : Float) → Held b → Unsigned b → Held x → Held y → OneZero x y ⊎ (b ≡ zero-float) → add binary64 (add binary64 b x) y ≡ add binary64 (add binary64 b y) x
 pair-exchanged b x y B U X Y (inl (inl z)) = zero-exchanged b x y B U Y z
 pair-exchanged b x y B U X Y (inl (inr z)) = sym (zero-exchanged b y x B U X z)
 pair-exchanged b x y B U X Y (inr z) =
@@ -53,7 +54,7 @@ module _ (part : ℕ → Float) (held : (c : ℕ) → Held (part c)) where
   abbrev before : ℕ → Float
   before n = total zero-float (tab 0 n part)
 
-  pub next-pair : (n : ℕ) (rest : List Float) → Settled part n → total (before n) (part (suc n) ∷ part n ∷ rest) ≡ total (before n) (part n ∷ part (suc n) ∷ rest)
+  next-pair : (n : ℕ) (rest : List Float) → Settled part n → total (before n) (part (suc n) ∷ part n ∷ rest) ≡ total (before n) (part n ∷ part (suc n) ∷ rest)
   next-pair n rest h =
       sym (ap (λ (s : Float). total s rest)
       (pair-exchanged (before n) (part n) (part (suc n)) (total-held zero-float (tab 0 n part) zero-held)

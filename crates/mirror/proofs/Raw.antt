@@ -1,9 +1,9 @@
--- The raw gain of a speaker at an azimuth is that of the speaker across at the opposite azimuth, to the bit, at every float (`raw-opposite`, `raw-across`): the tests change places, the way to the
--- speaker has the same size, and the cosine sees no sign of a zero. Assumes nothing.
+-- The raw gain of a speaker at an azimuth is that of the speaker across at the opposite azimuth, to the bit, at every float (`raw-opposite`,
+-- `raw-across`): the tests change places, the way to the speaker has the same size, and the cosine sees no sign of a zero. Assumes nothing.
 use mathlib.Core.Path.{_≡_, refl, sym, ap, _∙_, subst}
 use mathlib.Core.Bool.{Bool, true, false, not, cond, true≢false}
 use mathlib.Core.List.{List, [], _∷_}
-use Prim.Native.Nat.{ℕ, zero, suc, _+_, _*_, _^_, _≤_, _<_}
+use Prim.Native.Nat.{ℕ, zero, suc, _+_, _*_, _≤_, _<_}
 use native.Mathlib.Nat.{zero-lt-suc, zero-add, mul-pos, le-trans}
 use native.Mathlib.Omega.{arith}
 use borrow.Author.Tests.{lt-ltb, le-ltb}
@@ -11,7 +11,7 @@ use native.Mathlib.Decide.{decLt}
 use lib.IntN.{ℤ, pos, negsuc, negℤ}
 use lib.Dec.{T, eqb, lit≤, lit<}
 use lib.ListN.{length, getD, List·getD-eq-default}
-use lib.Ieee.{Float, nan, inf, fin, binary64, low, up, down, neg, add, sub, div, lt, le, eq, fits, ofInt, round, size, span, climb, units, odd}
+use lib.Ieee.{Float, nan, inf, fin, binary64, up, down, neg, add, sub, div, lt, le, eq, fits, ofInt, round, size, span, climb, units, odd}
 use lib.Ieee.Scale.{finite}
 use lib.Ieee.Fits.{up-pos, down-pos, neg-fits, sub-fits, cond-fits}
 use lib.Ieee.Bits.{is-false}
@@ -24,8 +24,7 @@ use Rattle.fractions.proofs.Order.{at-most-trans, less-at-most}
 use Rattle.fractions.proofs.Compare.{less-true, less-false, is-not-less, lt-number}
 use Rattle.formats.specs.Floats.{zero-float, one-float, float}
 use Rattle.formats.proofs.Signs.{round-negated}
-use Rattle.formats.proofs.Patterns.{same-value}
-use Rattle.formats.proofs.Grid.{zero-value}
+use Rattle.formats.proofs.Grid.{zero-written}
 use Rattle.series.specs.Sums.{cosine}
 use Rattle.series.specs.Angles.{turned}
 use Rattle.angles.specs.Limits.{isInside, refusesAngle}
@@ -38,11 +37,11 @@ use Rattle.channel.specs.declared.Layout.{Layout}
 use Rattle.channel.specs.declared.Layout.the-variants.{Surround51, Surround71}
 use Rattle.channel.proofs.Counts.{by-surround}
 use Rattle.surround.specs.Computed.{absolute, notBelow, placeOf, isNear, wayOf, rawOf, channelGain}
-use Rattle.formats.specs.Zeros.{unsignedZero}
+use Rattle.formats.specs.Zeros.{unsignedZero, Opposite}
 use Rattle.mirror.specs.Partners.{surroundPartners, acrossFrom}
 use Rattle.mirror.specs.Surround.{RawGainsExchanged}
 use Rattle.formats.proofs.Zeros.{zero-signs}
-use Rattle.formats.proofs.Opposite.{Opposite, neg-opposite, lt-opposite, sub-opposite, on-opposite, back-opposite}
+use Rattle.formats.proofs.Opposite.{neg-opposite, lt-opposite, sub-opposite, on-opposite, back-opposite}
 
 -- ---- the size of a way
 
@@ -84,9 +83,6 @@ absolute-opposite x y h = absolute-size x ∙ sym (size-unsigned x) ∙ ap sizeO
 abbrev cosineOf : Float → Float
 cosineOf x = Angles.outcome cosine x .value
 
-zero-exponent : (s : Bool) (e : ℤ) → T (fits binary64 (fin s 0 e)) → fin s 0 e ≡ fin s 0 (pos 0)
-zero-exponent s e h = same-value binary64 s (fin s 0 e) (fin s 0 (pos 0)) 0 h (unfold fits in tt) (zero-value s e (2 ^ low binary64)) (zero-value s (pos 0) (2 ^ low binary64))
-
 zero-cosine : (s : Bool) → cosineOf (fin s 0 (pos 0)) ≡ one-float
 unfolding refusesAngle isInside lt le eq neg computed place cut Computed.units turned cosineAt short radians times nesting nest rounded div ofInt round size span climb odd
 zero-cosine true = refl
@@ -95,7 +91,7 @@ zero-cosine false = refl
 cosine-unsigned : (x : Float) → T (fits binary64 x) → cosineOf x ≡ cosineOf (unsignedZero x)
 cosine-unsigned nan h = refl
 cosine-unsigned (inf s) h = refl
-cosine-unsigned (fin s zero e) h = ap cosineOf (zero-exponent s e h) ∙ zero-cosine s ∙ sym (ap cosineOf (zero-exponent false e (unfold fits in h)) ∙ zero-cosine false)
+cosine-unsigned (fin s zero e) h = ap cosineOf (zero-written binary64 s e h) ∙ zero-cosine s ∙ sym (ap cosineOf (zero-written binary64 false e (unfold fits in h)) ∙ zero-cosine false)
 cosine-unsigned (fin s (suc m) e) h = refl
 
 way-held : (a t : Float) → T (fits binary64 (wayOf a t))
@@ -178,7 +174,7 @@ module _ (s s' : Float) (h : Opposite s' s) (X : T (finite (onHalf s))) (Y : T (
       go false true k = on-opposite binary64 s s' (float (pos 360)) h
       go false false k = h
 
-  pub raw-opposite : (a : Float) → rawOf (neg a) s' ≡ rawOf a s
+  raw-opposite : (a : Float) → rawOf (neg a) s' ≡ rawOf a s
   unfolding rawOf
   raw-opposite a =
       let t = placeOf a s in
@@ -202,7 +198,7 @@ tabled {A} n f g e h c =
 pub across-beyond : (c : ℕ) → 8 ≤ c → acrossFrom c ≡ c
 across-beyond c h = List·getD-eq-default surroundPartners c {n = c} h
 
-pub low-across : (l : Layout) (c : ℕ) → lowFrequency l (acrossFrom c) ≡ lowFrequency l c
+low-across : (l : Layout) (c : ℕ) → lowFrequency l (acrossFrom c) ≡ lowFrequency l c
 low-across l c = ap (λ (b : Bool). cond (surround l) b false) (tabled 8 (λ c. eqb (acrossFrom c) 3) (λ c. eqb c 3) refl (λ c h. ap (λ (k : ℕ). eqb k 3) (across-beyond c h)) c)
 
 degrees-across : (l : Layout) → surround l ≡ true → (c : ℕ) → degreesOf l (acrossFrom c) ≡ negℤ (degreesOf l c)

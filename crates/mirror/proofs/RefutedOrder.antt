@@ -1,18 +1,22 @@
--- From the third part on the order counts: 1, -1 and 2^-60 add up to 2^-60, and with the last two exchanged to 0.0. So with these signals at the centre and the surround speakers of 5.1 the other ear
--- does not hear the scene exchanged left for right bit for bit, though all taps are 1.0. And behind 120 degrees the gains of 7.1 are not those of the speakers across, nor are they as the f32 that
--- are played. By computing the definitions. Assumes nothing.
+-- From the third part on the order counts: 1, -1 and 2^-60 add up to 2^-60, and with the last two exchanged to 0.0. So with such signals the other
+-- ear does not hear a scene exchanged left for right bit for bit, in 5.1, in 7.1 and with the eight virtual speakers, though all taps are 1.0. And
+-- just behind 120 degrees the gains of 7.1 are not those of the speakers across, nor, farther behind, are they as the f32 that are played. By
+-- computing the definitions. Assumes nothing.
 use mathlib.Core.Path.{_≡_, refl, sym, ap, _∙_}
 use mathlib.Core.Bool.{false, true≢false}
 use mathlib.Core.List.{List, [], _∷_}
 use Prim.Native.Nat.{ℕ, zero, suc, _<_}
+use native.Mathlib.Nat.{zero-add}
 use native.Mathlib.Omega.{arith}
 use lib.Dec.{lit<}
 use lib.IntN.{pos, negsuc}
 use lib.ListN.{getD, replicate}
 use lib.Ieee.{Float, fin, binary32, binary64, lt, le, eq, neg, add, sub, mul, div, sum, round, size, span, climb, units, odd, fits, ofInt, toBits, ofBits}
 use lib.Ieee.Positive.{positive}
+use Rattle.lists.specs.Tables.{tab}
+use Rattle.lists.proofs.Tables.{getD-tab}
 use Rattle.lists.proofs.Each.{each-replicate}
-use Rattle.formats.specs.Floats.{zero-float, one-float, minus-one-float, float}
+use Rattle.formats.specs.Floats.{zero-float, one-float, minus-one-float, literal}
 use Rattle.numbers.specs.Computed.{rounded, narrowed, rootOf, rootUnits, wholeRoot, rootIn}
 use Rattle.planes.specs.Normalization.{inverseRoot}
 use Rattle.series.specs.Angles.{turned}
@@ -23,8 +27,8 @@ use Rattle.channel.specs.declared.Layout.the-variants.{Surround71}
 use Rattle.surround.specs.Computed.{absolute, notBelow, placeOf, isNear, wayOf, rawOf, channelGain, rawGains, sumOf, dividedBy}
 use Rattle.surround.specs.Promise.{gainsOf, outcome}
 use Rattle.history.specs.Setup.{Setup, tapsIn}
-use Rattle.history.specs.History.{signalAgo, earOf}
-use Rattle.mirror.specs.Partners.{acrossFrom, otherEar}
+use Rattle.history.specs.History.{signalAgo, earOf, earSample}
+use Rattle.mirror.specs.Partners.{partnerIn, acrossFrom, positionPartners, otherEar}
 use Rattle.mirror.specs.Surround.{GainsExchanged}
 use Rattle.mirror.specs.Parts.{NextTwoExchanged}
 use Rattle.mirror.specs.Convolver.{Across, Heard}
@@ -36,71 +40,93 @@ next-two-exchanged : NextTwoExchanged → ⊥
 unfolding add sum round size span climb units odd fits
 next-two-exchanged h = true≢false (ap positive (h one-float minus-one-float tiny tt tt tt))
 
--- ---- 5.1, L = 1: the weights do not count, since the signals are given
+-- ---- the ears, L = 1: all taps are 1.0, and the weights do not count, since the signals are given
 
-abbrev setup : Setup
-setup = record { channels = 6; speakers = 6; L = 1; weights = []; taps = one-float ∷ one-float ∷ []; rows = replicate 6 0 }
+-- so many speakers, which all take the one row of the bank
+abbrev setup : ℕ → Setup
+setup n = record { channels = n; speakers = n; L = 1; weights = []; taps = one-float ∷ one-float ∷ []; rows = replicate n 0 }
 
--- the signals of the one frame: C, Ls and Rs sound
-abbrev past : List (List Float)
-past = (zero-float ∷ zero-float ∷ one-float ∷ zero-float ∷ tiny ∷ minus-one-float ∷ []) ∷ []
+own-row : (n s : ℕ) → getD (setup n .rows) s 0 ≡ 0
+own-row n = each-replicate (λ (r : ℕ). r ≡ 0) 0 n refl
 
-abbrev exchanged : List (List Float)
-exchanged = (zero-float ∷ zero-float ∷ one-float ∷ zero-float ∷ minus-one-float ∷ tiny ∷ []) ∷ []
+same-taps : (n ear : ℕ) → ear < 2 → tapsIn 1 0 (otherEar ear) (setup n .taps) ≡ tapsIn 1 0 ear (setup n .taps)
+same-taps n zero e = refl
+same-taps n (suc zero) e = refl
+same-taps n (suc (suc ear)) e = absurd (omega arith)
 
--- the one row of the bank is every speaker's, and its taps are those of both ears
-own-row : (s : ℕ) → getD (setup .rows) s 0 ≡ 0
-own-row = each-replicate (λ (r : ℕ). r ≡ 0) 0 6 refl
+-- one frame of signals, and the frame in which each comes from the speaker across: told from a table
+module _ (across : ℕ → ℕ) (n : ℕ) (signals exchanged : List Float)
+    (table : tab 0 n (λ (s : ℕ). signalAgo s (exchanged ∷ []) 0) ≡ tab 0 n (λ (s : ℕ). signalAgo (across s) (signals ∷ []) 0)) where
+  signals-across : (s k : ℕ) → s < n → signalAgo s (exchanged ∷ []) k ≡ signalAgo (across s) (signals ∷ []) k
+  signals-across s (suc k) l = refl
+  signals-across s zero l =
+      sym (at (λ (s : ℕ). signalAgo s (exchanged ∷ []) 0)) ∙ ap (λ (xs : List Float). getD xs s zero-float) table ∙ at (λ (s : ℕ). signalAgo (across s) (signals ∷ []) 0)
+    where
+      at : (f : ℕ → Float) → getD (tab 0 n f) s zero-float ≡ f s
+      at f = getD-tab 0 n f s zero-float l ∙ ap f (zero-add s)
 
-same-taps : (ear : ℕ) → ear < 2 → tapsIn 1 0 (otherEar ear) (setup .taps) ≡ tapsIn 1 0 ear (setup .taps)
-same-taps zero e = refl
-same-taps (suc zero) e = refl
-same-taps (suc (suc ear)) e = absurd (omega arith)
+  setup-across : Across across (setup n) (setup n) (signals ∷ []) (exchanged ∷ [])
+  setup-across = record {
+    speakers = refl;
+    L = refl;
+    taps = λ ear s e l.
+        ap (λ (r : ℕ). tapsIn 1 r (otherEar ear) (setup n .taps)) (own-row n s)
+        ∙ same-taps n ear e
+        ∙ ap (λ (r : ℕ). tapsIn 1 r ear (setup n .taps)) (sym (own-row n (across s)));
+    signals = λ s k l. signals-across s k l;
+  }
 
-signals-across : (s k : ℕ) → signalAgo s exchanged k ≡ signalAgo (acrossFrom s) past k
-signals-across s (suc k) = refl
-signals-across zero zero = refl
-signals-across (suc zero) zero = refl
-signals-across (suc (suc zero)) zero = refl
-signals-across (suc (suc (suc zero))) zero = refl
-signals-across (suc (suc (suc (suc zero)))) zero = refl
-signals-across (suc (suc (suc (suc (suc zero))))) zero = refl
-signals-across (suc (suc (suc (suc (suc (suc zero)))))) zero = refl
-signals-across (suc (suc (suc (suc (suc (suc (suc zero))))))) zero = refl
-signals-across (suc (suc (suc (suc (suc (suc (suc (suc s)))))))) zero = refl
+  heard-alike : Heard across n → earSample (setup n) 1 (exchanged ∷ []) ≡ earSample (setup n) 0 (signals ∷ [])
+  heard-alike h = h (setup n) (setup n) (signals ∷ []) (exchanged ∷ []) refl setup-across 0 (lit< tt) tt
 
-setup-across : Across acrossFrom setup setup past exchanged
-setup-across = record {
-  speakers = refl;
-  L = refl;
-  taps = λ ear s e l. ap (λ (r : ℕ). tapsIn 1 r (otherEar ear) (setup .taps)) (own-row s) ∙ same-taps ear e ∙ ap (λ (r : ℕ). tapsIn 1 r ear (setup .taps)) (sym (own-row (acrossFrom s)));
-  signals = λ s k l. signals-across s k;
-}
-
-surround-speakers-heard : Heard acrossFrom 6 → ⊥
+-- 5.1: C, Ls and Rs sound
+five-one-heard : Heard acrossFrom 6 → ⊥
 unfolding earOf inverseRoot rootOf rootUnits wholeRoot rootIn rounded add mul div sum round size span climb units odd ofInt
-surround-speakers-heard h = true≢false (ap positive (h setup setup past exchanged refl setup-across 0 (lit< tt) tt))
+five-one-heard h =
+    true≢false
+    (ap positive
+    (heard-alike acrossFrom 6 (zero-float ∷ zero-float ∷ one-float ∷ zero-float ∷ tiny ∷ minus-one-float ∷ [])
+    (zero-float ∷ zero-float ∷ one-float ∷ zero-float ∷ minus-one-float ∷ tiny ∷ []) refl h))
+
+-- 7.1: C and the rear speakers
+seven-one-heard : Heard acrossFrom 8 → ⊥
+unfolding earOf inverseRoot rootOf rootUnits wholeRoot rootIn rounded add mul div sum round size span climb units odd ofInt
+seven-one-heard h =
+    true≢false
+    (ap positive
+    (heard-alike acrossFrom 8 (zero-float ∷ zero-float ∷ one-float ∷ zero-float ∷ zero-float ∷ zero-float ∷ tiny ∷ minus-one-float ∷ [])
+    (zero-float ∷ zero-float ∷ one-float ∷ zero-float ∷ zero-float ∷ zero-float ∷ minus-one-float ∷ tiny ∷ []) refl h))
+
+-- the eight virtual speakers: those at 0, 45 and -45 degrees
+virtual-heard : Heard (partnerIn positionPartners) 8 → ⊥
+unfolding earOf inverseRoot rootOf rootUnits wholeRoot rootIn rounded add mul div sum round size span climb units odd ofInt
+virtual-heard h =
+    true≢false
+    (ap positive
+    (heard-alike (partnerIn positionPartners) 8 (one-float ∷ tiny ∷ zero-float ∷ zero-float ∷ zero-float ∷ zero-float ∷ zero-float ∷ minus-one-float ∷ [])
+    (one-float ∷ minus-one-float ∷ zero-float ∷ zero-float ∷ zero-float ∷ zero-float ∷ zero-float ∷ tiny ∷ []) refl h))
 
 -- ---- 7.1, behind 120 degrees: a gain at an azimuth, and that of the speaker across at the opposite one
 
 abbrev gain : Float → ℕ → Float
 gain a c = getD (outcome Surround71 a .gains) c zero-float
 
-abbrev at160 : Float
-at160 = float (pos 160)
+-- 120 degrees and a sixteenth
+abbrev behind120 : Float
+behind120 = literal (pos 1921) 16
 
 -- 157.579897878559
 abbrev between : Float
 between = ofBits binary64 0x4063B28E85FEEDC8
 
-worked : toBits binary64 (gain at160 6) ∷ toBits binary64 (gain (neg at160) 7) ∷ toBits binary32 (narrowed (gain between 4)) ∷ toBits binary32 (narrowed (gain (neg between) 5)) ∷ []
-    ≡ 0x3FE9BB1F7CFE031B ∷ 0x3FE9BB1F7CFE031D ∷ 0x3E9F70CD ∷ 0x3E9F70CE ∷ []
+worked : toBits binary64 (gain behind120 6) ∷ toBits binary64 (gain (neg behind120) 7) ∷ toBits binary32 (narrowed (gain between 4)) ∷ toBits binary32 (narrowed (gain (neg between) 5)) ∷ []
+    ≡ 0x3FE6A4437134DA81 ∷ 0x3FE6A4437134DA82 ∷ 0x3E9F70CD ∷ 0x3E9F70CE ∷ []
 unfolding toBits ofBits rounded refusesAngle isInside gainsOf dividedBy sumOf rawGains channelGain rawOf isNear placeOf wayOf absolute notBelow lt le eq add
     sub mul div neg round ofInt computed place cut Angles.units turned cosineAt short times radians nesting nest Angles.rounded rootOf wholeRoot size units
 worked = refl
 
-rear-speakers-exchanged : GainsExchanged Surround71 at160 → ⊥
-rear-speakers-exchanged h = let e : _≡_ {A = ℕ} 0x3FE9BB1F7CFE031D 0x3FE9BB1F7CFE031B = cc (worked, ap (toBits binary64) (h .gains 6)) in omega arith
+rear-speakers-exchanged : GainsExchanged Surround71 behind120 → ⊥
+rear-speakers-exchanged h = let e : _≡_ {A = ℕ} 0x3FE6A4437134DA82 0x3FE6A4437134DA81 = cc (worked, ap (toBits binary64) (h .gains 6)) in omega arith
 
 -- as f32
 rear-speakers-played : narrowed (gain (neg between) 5) ≡ narrowed (gain between 4) → ⊥

@@ -1,5 +1,5 @@
--- What is played of a mirrored scene: the voice that the panner puts, through weights whose outputs have partners; blocks through the decoder matrix of a layout; the signals of virtual speakers. Bit for bit,
--- since no sum sees the sign of a zero. Assumes nothing.
+-- What is played of a mirrored scene: the voice that the panner puts, through weights whose outputs have partners; blocks through the decoder matrix
+-- of a layout; the signals of virtual speakers. Bit for bit, since no sum sees the sign of a zero. Assumes nothing.
 use mathlib.Core.Path.{_≡_, refl, sym, ap, _∙_, subst}
 use mathlib.Core.Bool.{true, false}
 use mathlib.Core.List.{List, []}
@@ -38,7 +38,8 @@ use Rattle.mirror.proofs.Speakers.{speakers-mirror}
 
 narrowed-swapped : (xs ys : List Float) → Swapped xs ys → Swapped (narrowedAll xs) (narrowedAll ys)
 narrowed-swapped xs ys h =
-    swapped-tab lateral 0 16 (λ (p : ℕ). narrowed (getD xs p nan)) (λ (p : ℕ). narrowed (getD ys p nan)) (λ p. swapped-by lateral narrowed-odd p (getD xs p nan) (getD ys p nan) (swapped-at lateral xs ys h p))
+    swapped-tab lateral 0 16 (λ (p : ℕ). narrowed (getD xs p nan)) (λ (p : ℕ). narrowed (getD ys p nan))
+    (λ p. swapped-by lateral narrowed-odd p (getD xs p nan) (getD ys p nan) (swapped-at lateral xs ys h p))
 
 panned-swapped : (planes : ℕ) (x : Float) (gs hs : List Float) → Swapped gs hs → Swapped (panned planes gs x) (panned planes hs x)
 panned-swapped planes x gs hs h =
@@ -67,13 +68,15 @@ module _ (order : ℕ) where
   voice-exchanged : (n : ℕ) (weights : List Float) (partner : ℕ → ℕ) → PartnersSwap n (channelsOfOrder order) weights partner → (d : Direction) (x : Float)
       → mixedAll n (channelsOfOrder order) weights (voice order (mirroredDirection d) x) ≡ exchanged n partner (mixedAll n (channelsOfOrder order) weights (voice order d x))
   voice-exchanged n weights partner p d x =
-      tab-ext 0 n (λ (o : ℕ). mixed (row (channelsOfOrder order) o weights) (voice order (mirroredDirection d) x)) (λ (o : ℕ). mixed (row (channelsOfOrder order) o weights) (mirrored neg (voice order d x)))
+      tab-ext 0 n (λ (o : ℕ). mixed (row (channelsOfOrder order) o weights) (voice order (mirroredDirection d) x))
+      (λ (o : ℕ). mixed (row (channelsOfOrder order) o weights) (mirrored neg (voice order d x)))
       (λ o l. mixed-frames (row (channelsOfOrder order) o weights) (voice order d x) (voice order (mirroredDirection d) x) (voice-swapped d x))
       ∙ frame-exchanged n (channelsOfOrder order) weights partner p (voice order d x)
 
   -- ---- the decoder matrix of a layout
 
-  matrix-partners : refusesOrder order ≡ false → (l : Layout) → length (speakers l) ≡ channelsOf l → PartnersSwap (channelsOf l) (channelsOfOrder order) (matrixOf order l) (partnerIn (partners l))
+  matrix-partners : refusesOrder order ≡ false → (l : Layout) → length (speakers l) ≡ channelsOf l
+      → PartnersSwap (channelsOf l) (channelsOfOrder order) (matrixOf order l) (partnerIn (partners l))
   matrix-partners ok l all = record {
     inside = partner-inside l all;
     swaps = λ i h frame.
@@ -87,7 +90,8 @@ module _ (order : ℕ) where
 
   -- ---- virtual speakers
 
-  signal-swapped : (i : ℕ) → i < length positions → (frame : List Float) → mixed (virtualWeights order (partnerIn positionPartners i)) frame ≡ mixed (virtualWeights order i) (mirrored neg frame)
+  signal-swapped : (i : ℕ) → i < length positions → (frame : List Float)
+      → mixed (virtualWeights order (partnerIn positionPartners i)) frame ≡ mixed (virtualWeights order i) (mirrored neg frame)
   signal-swapped i h frame =
       let weights : ℕ → List Float = λ j. outcome order (positionOf j) .weights in
       let p : ℕ = partnerIn positionPartners i in

@@ -1,5 +1,6 @@
--- A speaker is silent where the azimuth is from 90 to 270 degrees ahead of it (`silent-ahead`), or behind it (`silent-behind`). So in 5.1 both surround speakers sound only where the front ones are
--- silent (`settled-51`), and in 7.1 of the side speakers one is silent (`sides-71`), and of the rear ones as far as the limit (`rear-71`). Assumes nothing.
+-- A speaker is silent where the azimuth is from 90 to 270 degrees ahead of it (`silent-ahead`), or behind it (`silent-behind`). So in 5.1 both
+-- surround speakers sound only where the front ones are silent (`settled-51`), and in 7.1 of the side speakers one is silent (`sides-71`), and of the
+-- rear ones as far as the limit (`rear-71`). Assumes nothing.
 use mathlib.Core.Path.{_≡_, refl, sym, ap, _∙_, subst}
 use mathlib.Core.Logic.{_⊎_, inl, inr}
 use mathlib.Core.Bool.{Bool, false, cond}
@@ -63,14 +64,14 @@ module _ (a : Float) (A : 0 < number a .over) where
     abbrev pub Behind : Type 0
     Behind = FarBack (sub binary64 s (float (pos 90))) × FarBack (add binary64 s (float (pos 180))) × FarOn (add binary64 back (float (pos 90)))
 
-    pub silent-ahead : Ahead → rawOf a s ≡ zero-float
+    silent-ahead : Ahead → rawOf a s ≡ zero-float
     unfolding placeOf
     silent-ahead h =
         far-silent s
         (either Far (lt (add binary64 s (float (pos 180))) a) (low-end on (h .2))
         (subst Far (sym (goes-on back s (not-under (sub binary64 s (float (pos 180))) (h .1)))) (high-end s (h .0))))
 
-    pub silent-behind : Behind → rawOf a s ≡ zero-float
+    silent-behind : Behind → rawOf a s ≡ zero-float
     unfolding placeOf
     silent-behind h =
         far-silent s
@@ -84,7 +85,7 @@ module _ (a : Float) (A : 0 < number a .over) where
   abbrev gainAt : ℤ → Float
   gainAt z = rawOf a (float z)
 
-  abbrev pub FrontSilent : Type 0
+  abbrev FrontSilent : Type 0
   FrontSilent = (gainAt (pos 30) ≡ zero-float) × (gainAt (negsuc 29) ≡ zero-float) × (gainAt (pos 0) ≡ zero-float)
 
   -- behind to the left, and to the right

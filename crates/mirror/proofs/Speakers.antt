@@ -1,5 +1,5 @@
--- The rows and the weights of a speaker and of its partner. That the tables pair them is computed; 0 and 180 are their own opposites: -0.0 and -180.0 give the bits that 0.0 and 180.0 give.
--- Assumes nothing.
+-- The rows and the weights of a speaker and of its partner. That the tables pair them is computed; 0 and 180 are their own opposites: -0.0 and -180.0
+-- give the bits that 0.0 and 180.0 give. Assumes nothing.
 use mathlib.Core.Path.{_≡_, refl, sym, ap, _∙_, subst}
 use mathlib.Core.Bool.{Bool, true, false, cond}
 use mathlib.Core.List.{List, [], _∷_, map}

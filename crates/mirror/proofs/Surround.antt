@@ -1,5 +1,6 @@
--- The gains of 5.1 at the opposite azimuth are those of the speakers across, bit for bit, and those of 7.1 as far as the limit (`surround-exchanged`): the raw gains are, and their squares add up to
--- the same, since of each pair one is 0.0, or the sum before it is (`parts-exchanged`). Assumes nothing.
+-- The gains of 5.1 at the opposite azimuth are those of the speakers across, bit for bit, and those of 7.1 as far as the limit
+-- (`surround-exchanged`): the raw gains are, and their squares add up to the same, since of each pair one is 0.0, or the sum before it is
+-- (`parts-exchanged`). Assumes nothing.
 use mathlib.Core.Path.{_≡_, refl, sym, ap, _∙_}
 use mathlib.Core.Logic.{inl, ⊎-map}
 use mathlib.Core.Bool.{Bool, true, false, not, cond, true≢false}
@@ -19,7 +20,7 @@ use Rattle.lists.specs.Tables.{tab}
 use Rattle.lists.proofs.Tables.{length-tab, getD-tab, tab-ext}
 use Rattle.lists.proofs.Tests.{by-test}
 use Rattle.lists.proofs.Each.{each-replicate}
-use Rattle.formats.specs.Floats.{zero-float, float}
+use Rattle.formats.specs.Floats.{Held, zero-float, float}
 use Rattle.fractions.specs.Fraction.{magnitude, number, whole, AtMost}
 use Rattle.numbers.specs.Computed.{rootOf}
 use Rattle.planes.specs.Sums.{total}
@@ -33,7 +34,7 @@ use Rattle.harmonics.specs.Promise.{refusesAzimuth, silence}
 use Rattle.surround.specs.Computed.{channelGain, rawGains, squareAt, sumOf, dividedBy}
 use Rattle.surround.specs.Promise.{gainsOf, outcome}
 use Rattle.mirror.specs.Partners.{acrossFrom}
-use Rattle.mirror.specs.Parts.{Held, OneZero}
+use Rattle.mirror.specs.Parts.{OneZero}
 use Rattle.mirror.specs.Surround.{GainsExchanged, rearLimit, SurroundExchanged}
 use Rattle.mirror.proofs.Angles.{refused-negated}
 use Rattle.mirror.proofs.Parts.{parts-exchanged}
@@ -110,7 +111,7 @@ module _ (l : Layout) (e : surround l ≡ true) (a : Float) where
   quiet : (c : ℕ) → getD silence c zero-float ≡ zero-float
   quiet = each-replicate (λ (x : Float). x ≡ zero-float) zero-float 16 refl
 
-  pub answer-across : (refusesAzimuth a ≡ false → sumAt (neg a) ≡ sumAt a) → GainsExchanged l a
+  answer-across : (refusesAzimuth a ≡ false → sumAt (neg a) ≡ sumAt a) → GainsExchanged l a
   answer-across h = record {
     refusal = ap (λ (r : Bool). firstOf (2 when not (surround l) ∷ 3 when r ∷ [])) (refused-negated (float (pos 180)) a);
     gains =

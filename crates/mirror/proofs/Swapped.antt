@@ -1,5 +1,5 @@
--- Lists of which one is the other negated at some places, but for the signs of zeros: joined, cut short, read at a place, put down by a rule, and multiplied or narrowed. Whatever the places are; and
--- what is mixed of such lists. Assumes nothing.
+-- Lists of which one is the other negated at some places, but for the signs of zeros: joined, cut short, read at a place, put down by a rule, and
+-- multiplied or narrowed. Whatever the places are; and what is mixed of such lists. Assumes nothing.
 use mathlib.Core.Path.{_≡_, refl, sym, ap, ap₂, _∙_}
 use mathlib.Core.Bool.{Bool, true, false, cond}
 use mathlib.Core.List.{List, [], _∷_, _++_, map, map-append}
@@ -18,8 +18,8 @@ use Rattle.numbers.specs.Computed.{rounded, narrowed}
 use Rattle.planes.specs.Sums.{mixed}
 use Rattle.planes.proofs.Zeros.{mixed-unsigned}
 use Rattle.matrix.specs.Mirror.{negatedAt, mirrored}
-use Rattle.matrix.proofs.Negated.{getD-negated, negated-take, negated-append, map-negated-each}
-use Rattle.matrix.proofs.Mirror.{mixed-mirrored}
+use Rattle.matrix.proofs.Mirror.{getD-negated, negated-take, negated-append, map-negated-each}
+use Rattle.matrix.proofs.Ears.{mixed-mirrored}
 use Rattle.mirror.specs.Scenes.{Swapped}
 
 -- ---- what is done to each number: of the opposite it makes the opposite, and it looks at no zero's sign, but for the sign of the zero that it gives
@@ -48,9 +48,6 @@ narrowed-odd = record { alike = λ x y h. unsigned x ∙ ap (λ (z : Float). uns
     opposite nan = refl
     opposite (inf s) = refl
     opposite (fin s m e) = sym (round-negated binary32 s (m * up e) (down e))
-
-pub odd-then : {f g : Float → Float} → Odd f → Odd g → Odd (λ (x : Float). g (f x))
-odd-then {f} {g} F G = record { alike = λ x y h. G .alike (f x) (f y) (F .alike x y h); negated = λ x. ap g (F .negated x) ∙ G .negated (f x) }
 
 module _ (named : ℕ → Bool) where
   -- ys is xs, whose first element is at place i, negated at the places that are named

@@ -1,5 +1,6 @@
--- Document 02, E7: "negating those input channels swaps the two ear signals bit for bit, all NaNs as one". What it is for blocks of the decoder: any weights whose outputs have partners, of which the two ears are one
--- case, and two calls of `ambisonic_decoder::process`, the second lent the input planes with those channels negated. Definitions only.
+-- Document 02, E7: "negating those input channels swaps the two ear signals bit for bit, all NaNs as one". What it is for blocks of the decoder: any
+-- weights whose outputs have partners, of which the two ears are one case, and two calls of `ambisonic_decoder::process`, the second lent the input
+-- planes with those channels negated. Definitions only.
 use Prim.Native.Nat.{ℕ, _/_, _<_}
 use mathlib.Core.Path.{_≡_}
 use mathlib.Core.List.{List, map}
@@ -8,20 +9,33 @@ use lib.Ieee.{Float, nan, neg}
 use Rattle.lists.specs.Tables.{tab, row}
 use Rattle.planes.specs.Planes.{framesOf}
 use Rattle.planes.specs.Sums.{mixed}
-use Rattle.ambisonic_decoder.specs.Promise.{Block, block}
+use Rattle.ambisonic_decoder.specs.declared.Decoded.{Decoded}
+use Rattle.ambisonic_decoder.specs.Promise.{Processed}
 use Rattle.matrix.specs.Mirror.{lateral, negatedAt, mirrored}
 
 -- each output has a partner: what the output plays of a mirrored frame is what the partner plays of the frame, whatever its samples are
 pub record PartnersSwap (outputs channels : ℕ) (weights : List Float) (partner : ℕ → ℕ) : Type 0 where
   pub inside : (o : ℕ) → o < outputs → partner o < outputs
-  pub swaps : (o : ℕ) → o < outputs → (frame : List Float) → mixed (row channels o weights) (mirrored neg frame) ≡ mixed (row channels (partner o) weights) frame
+  pub swaps : (o : ℕ) → o < outputs → (frame : List Float)
+      → mixed (row channels o weights) (mirrored neg frame) ≡ mixed (row channels (partner o) weights) frame
 
--- what a call is lent beside the weights
+-- a call: what it is lent beside the weights, what it answers, and what the output planes hold then
 pub record Call : Type 0 where
   pub frames : ℕ
   pub stride : ℕ
   pub inputs : List Float
   pub out : List Float
+  pub answer : Decoded
+  pub after : List Float
+
+-- it meets the promise of `ambisonic_decoder::process`
+abbrev pub Meets : ℕ → ℕ → List Float → Call → Type 0
+Meets outputs channels weights c =
+    Processed weights (record { outputs = outputs; channels = channels; frames = c .frames; stride = c .stride }) (c .inputs) (c .out) (c .answer) (c .after)
+
+-- the frames that it says it played, read from the output planes as it leaves them
+abbrev pub played : ℕ → Call → List (List Float)
+played outputs c = framesOf (c .after) (c .stride) outputs (c .answer .samples)
 
 -- the planes of the lateral channels negated: place i stands in plane i / stride
 abbrev pub mirroredPlanes : ℕ → List Float → List Float
@@ -34,19 +48,12 @@ pub record MirrorCall (c d : Call) : Type 0 where
   pub inputs : d .inputs ≡ mirroredPlanes (c .stride) (c .inputs)
   pub out : length (d .out) ≡ length (c .out)
 
--- all that is handed back for a call (`Processed` of `ambisonic_decoder`)
-abbrev pub blockAt : ℕ → ℕ → List Float → Call → Block
-blockAt outputs channels weights c = block weights (record { outputs = outputs; channels = channels; frames = c .frames; stride = c .stride }) (c .inputs) (c .out)
-
--- the frames that it says it played, read from the output planes as it leaves them
-abbrev pub played : ℕ → ℕ → List Float → Call → List (List Float)
-played outputs channels weights c = let b = blockAt outputs channels weights c in framesOf (b .out) (c .stride) outputs (b .answer .samples)
-
 -- a frame of the outputs with each sample at its partner's place
 abbrev pub exchanged : ℕ → (ℕ → ℕ) → List Float → List Float
 exchanged outputs partner frame = tab 0 outputs (λ (o : ℕ). getD frame (partner o) nan)
 
--- of any two such calls: they are refused with the same number or play as many frames, and each frame is exchanged
+-- of any two such calls of whatever meets the promise: they are refused with the same number or play as many frames, and each frame is exchanged
 pub record BlocksMirror (outputs channels : ℕ) (weights : List Float) (partner : ℕ → ℕ) : Type 0 where
-  pub answers : (c d : Call) → MirrorCall c d → blockAt outputs channels weights d .answer ≡ blockAt outputs channels weights c .answer
-  pub plays : (c d : Call) → MirrorCall c d → played outputs channels weights d ≡ map (exchanged outputs partner) (played outputs channels weights c)
+  pub answers : (c d : Call) → MirrorCall c d → Meets outputs channels weights c → Meets outputs channels weights d → d .answer ≡ c .answer
+  pub plays : (c d : Call) → MirrorCall c d → Meets outputs channels weights c → Meets outputs channels weights d
+      → played outputs d ≡ map (exchanged outputs partner) (played outputs c)

@@ -1,5 +1,6 @@
--- Document 01, 'Sums': "parts are added from 0.0, speakers rising". A scene is exchanged left for right, and its bank with it: whether the other ear then hears what the one heard, bit for bit. It does where no
--- speakers but the first two are exchanged; in 5.1 and 7.1 it does where of each later pair one part is 0.0, or those before it add up to 0.0, and else it need not. Shown in proofs/Convolver.antt, and refuted in
+-- Document 01, 'Sums': "parts are added from 0.0, speakers rising". A scene is exchanged left for right, and its bank with it: whether the other ear
+-- then hears what the one heard, bit for bit. It does where no speakers but the first two are exchanged; in 5.1 and 7.1 it does where of each later
+-- pair one part is 0.0, or those before it add up to 0.0, and else it need not. Shown in proofs/Convolver.antt, and refuted in
 -- proofs/RefutedOrder.antt. Definitions only.
 use Prim.Native.Nat.{ℕ, _≤_, _<_}
 use mathlib.Core.Path.{_≡_}
@@ -15,7 +16,8 @@ use Rattle.mirror.specs.Parts.{Settled}
 abbrev pub firstTwo : ℕ → ℕ
 firstTwo s = partnerIn (partners Stereo) s
 
--- v has the mirrored bank of u, the filters of each ear and speaker being those of the other ear and of the speaker across, and every signal comes from the speaker across. A bank may be its own mirror
+-- v has the mirrored bank of u, the filters of each ear and speaker being those of the other ear and of the speaker across, and every signal comes
+-- from the speaker across. A bank may be its own mirror
 pub record Across (across : ℕ → ℕ) (u v : Setup) (past exchanged : List (List Float)) : Type 0 where
   pub speakers : v .speakers ≡ u .speakers
   pub L : v .L ≡ u .L

@@ -1,5 +1,6 @@
--- Which speaker stands across, left for right. Document 01, 'Gains': "speakers, in channel order. 5.1: 30, -30, 0, LFE, 110, -110. 7.1: 30, -30, 0, LFE, 90, -90, 150, -150. [..] Stereo is 30, -30; Mono 0", and the
--- eight positions of 003: 0, 45, 90, 135, 180, -135, -90, -45. Definitions only. That these stand at opposite azimuths is computed in proofs/Speakers.antt.
+-- Which speaker stands across, left for right. Document 01, 'Gains': "speakers, in channel order. 5.1: 30, -30, 0, LFE, 110, -110. 7.1: 30, -30, 0,
+-- LFE, 90, -90, 150, -150. [..] Stereo is 30, -30; Mono 0", and the eight positions of 003: 0, 45, 90, 135, 180, -135, -90, -45. Definitions only.
+-- That these stand at opposite azimuths is computed in proofs/Speakers.antt.
 use Prim.Native.Nat.{ℕ, zero, suc}
 use mathlib.Core.List.{List, [], _∷_}
 use lib.ListN.{getD, take}

@@ -1,19 +1,15 @@
--- Document 01, 'Sums': parts are added "from 0.0", in one order. Of these the first two may be exchanged, and later ones may not, but where one of the two is 0.0, or those before them add up to 0.0.
--- Shown in proofs/Parts.antt, and refuted of later ones in proofs/Refuted.antt. Definitions only.
+-- Document 01, 'Sums': parts are added "from 0.0", in one order. Of these the first two may be exchanged, and later ones may not, but where one of
+-- the two is 0.0, or those before them add up to 0.0. Shown in proofs/Parts.antt, and refuted of later ones in proofs/RefutedOrder.antt. Definitions
+-- only.
 use Prim.Native.Nat.{ℕ, suc}
 use mathlib.Core.Path.{_≡_}
 use mathlib.Core.Logic.{_⊎_}
 use mathlib.Core.List.{List, [], _∷_}
-use lib.Dec.{T}
-use lib.Ieee.{Float, binary64, fits}
-use Rattle.formats.specs.Floats.{zero-float}
+use lib.Ieee.{Float}
+use Rattle.formats.specs.Floats.{Held, zero-float}
 use Rattle.lists.specs.Tables.{tab}
 use Rattle.planes.specs.Sums.{total}
 use Rattle.mirror.specs.Partners.{acrossFrom}
-
--- x is an f64
-abbrev pub Held : Float → Type 0
-Held x = T (fits binary64 x)
 
 -- of a pair one is 0.0
 abbrev pub OneZero : Float → Float → Type 0

@@ -1,6 +1,7 @@
--- Document 01, 'Gains', surround: "speakers, in channel order", and each raw gain "divided by the root of the sum of squares". With the azimuth exchanged left for right each speaker has the gain that
--- the speaker across had, bit for bit: of the raw gains in both layouts, of the gains in 5.1. In 7.1 not so far back that both rear speakers sound with a side one: their squares are then added the
--- other way round. Shown in proofs/Surround.antt, and refuted behind that in proofs/Refuted.antt. Definitions only.
+-- Document 01, 'Gains', surround: "speakers, in channel order", and each raw gain "divided by the root of the sum of squares". With the azimuth
+-- exchanged left for right each speaker has the gain that the speaker across had, bit for bit: of the raw gains in both layouts, of the gains in 5.1.
+-- In 7.1 not so far back that both rear speakers sound with a side one: their squares are then added the other way round. Shown in
+-- proofs/Surround.antt, and refuted behind that in proofs/RefutedOrder.antt. Definitions only.
 use Prim.Native.Nat.{ℕ}
 use mathlib.Core.Path.{_≡_}
 use mathlib.Core.Bool.{true, false}

@@ -1,21 +1,18 @@
--- A sum begun at a number that is no -0.0 stays none, and so sees no sign of a zero, added or multiplied (`total-unsigned`, `dot-unsigned`); so does an output of a frame (`mixed-unsigned`). Assumes nothing.
+-- A sum begun at a number that is no -0.0 stays none, and so sees no sign of a zero, added or multiplied (`total-unsigned`, `dot-unsigned`); so does
+-- an output of a frame (`mixed-unsigned`). Assumes nothing.
 use mathlib.Core.Path.{_≡_, refl, sym, ap, _∙_}
 use mathlib.Core.List.{List, [], _∷_, map}
 use Prim.Native.Nat.{zero, suc}
-use lib.Dec.{T}
 use lib.Ieee.{Float, nan, binary64, add, fits}
 use lib.Ieee.Fits.{nan-fits, add-fits, mul-fits}
-use Rattle.formats.specs.Floats.{zero-float}
+use Rattle.formats.specs.Floats.{Held, zero-float}
 use Rattle.numbers.specs.Computed.{narrowed}
 use Rattle.lists.specs.Each.{Each}
 use Rattle.planes.specs.Sums.{total, products, dot, mixed}
 use Rattle.formats.specs.Zeros.{unsignedZero}
 use Rattle.formats.proofs.Zeros.{Unsigned, mul-unsigned, add-unsigned, sum-unsigned}
 
--- ---- sums of f64, which x is that is held
-
-abbrev Held : Float → Type 0
-Held x = T (fits binary64 x)
+-- ---- sums of f64
 
 abbrev AllHeld : List Float → Type 0
 AllHeld xs = Each Held nan xs
@@ -35,7 +32,7 @@ pub sum-stays : (a : Float) (xs : List Float) → Unsigned a → Held a → AllH
 sum-stays a [] u h k = u
 sum-stays a (x ∷ xs) u h k = sum-stays (add binary64 a x) xs (sum-unsigned binary64 a x u h (k 0)) (add-fits binary64 a x) (λ i. k (suc i))
 
-pub total-unsigned : (a : Float) (xs : List Float) → Unsigned a → Held a → AllHeld xs → total a xs ≡ total a (map unsignedZero xs)
+total-unsigned : (a : Float) (xs : List Float) → Unsigned a → Held a → AllHeld xs → total a xs ≡ total a (map unsignedZero xs)
 total-unsigned a [] u h k = refl
 total-unsigned a (x ∷ xs) u h k =
     total-unsigned (add binary64 a x) xs (sum-unsigned binary64 a x u h (k 0)) (add-fits binary64 a x) (λ i. k (suc i))
@@ -54,7 +51,7 @@ products-unsigned [] ys = refl
 products-unsigned (x ∷ xs) [] = refl
 products-unsigned (x ∷ xs) (y ∷ ys) = λ i. mul-unsigned binary64 x y i ∷ products-unsigned xs ys i
 
-pub dot-unsigned : (a : Float) (xs ys : List Float) → Unsigned a → Held a → dot a xs ys ≡ dot a (map unsignedZero xs) (map unsignedZero ys)
+dot-unsigned : (a : Float) (xs ys : List Float) → Unsigned a → Held a → dot a xs ys ≡ dot a (map unsignedZero xs) (map unsignedZero ys)
 dot-unsigned a xs ys u h =
     let ps = products xs ys in
     let qs = products (map unsignedZero xs) (map unsignedZero ys) in

@@ -2,7 +2,7 @@
 use denote.Ref.{now}
 use lib.Dec.{lit<}
 use Rattle.planes.proofs.Normalization.{inverse-value}
-use Rattle.matrix.proofs.Ears.{misfit, fits}
+use Rattle.matrix.proofs.PutEars.{misfit, fits}
 use borrow.Author.Needs.{needs}
 use Rattle.matrix.proofs.put_ears.Statement.{statement}
 use Rattle.matrix.proofs.put_ears.Tie as tie
