@@ -168,6 +168,13 @@ struct Bench {
     count: usize,
 }
 
+impl Bench {
+    /// A part of the count, and at least one: a kind without pairs would show nothing.
+    fn part(&self, of: usize) -> usize {
+        (self.count / of).max(1)
+    }
+}
+
 // ---- scenes and their mirror images
 
 /// Each place's partner on the other side: the place itself in the middle.
@@ -393,7 +400,7 @@ fn decoder_blocks(bench: &mut Bench) -> Vec<Kind> {
         for (layout, order) in group.layouts.iter().flat_map(|layout| [1, 2, 3].map(|order| (*layout, order))) {
             let weights = matrix(bench, order, layout);
             let mut blocks = cancelling_frames(&weights, channels_of(order));
-            blocks.extend((0..bench.count / 8).map(|_| block_over(&mut bench.random, &weights, channels_of(order))));
+            blocks.extend((0..bench.part(8)).map(|_| block_over(&mut bench.random, &weights, channels_of(order))));
             for block in blocks {
                 let (one, other) = (played(bench, &block), played(bench, &mirrored(&block)));
                 let image = exchanged(&one, &partners(layout), block.stride as usize);
@@ -510,7 +517,7 @@ impl Speakers {
     /// Samples and taps from -1 to 1, evenly, for more frames than a filter is long.
     fn evenly(&self, bench: &mut Bench) -> Kind {
         let mut kind = Kind::new(format!("convolver, {}, samples and taps from -1 to 1, L = 1, 8, 64", self.name), Expected::Counted, Width::Samples);
-        for pair in 0..bench.count / 8 {
+        for pair in 0..bench.part(8) {
             for length in [1, 8, 64] {
                 let mut call = self.call(&mut bench.random, length, length + 8);
                 for x in call.inputs.iter_mut().chain(&mut call.taps) {
@@ -543,7 +550,7 @@ impl Speakers {
     /// Samples and taps of all sizes, any bits among the samples.
     fn of_all_sizes(&self, bench: &mut Bench) -> Kind {
         let mut kind = Kind::new(format!("convolver, {}, samples and taps of all sizes", self.name), Expected::Always, Width::Samples);
-        for pair in 0..bench.count / 2 {
+        for pair in 0..bench.part(2) {
             let (length, frames) = (1 + bench.random.below(9) as usize, 1 + bench.random.below(12) as usize);
             let call = self.call(&mut bench.random, length, frames);
             self.compare(bench, &mut kind, &call, || format!("pair {pair}, L = {length}"));
