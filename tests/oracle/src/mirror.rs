@@ -135,12 +135,19 @@ impl Program {
         Ok(Program { child, requests, answers })
     }
 
-    /// What an accepted request is answered, without the refusal. Every scene here is to be accepted.
-    fn ask(&mut self, operation: u8, arguments: &[u8]) -> Vec<u8> {
+    /// What a request is answered, the refusal first.
+    fn answer(&mut self, operation: u8, arguments: &[u8]) -> Vec<u8> {
         self.requests.write_all(&request(operation, arguments)).expect("the program does not read");
         let answer = take(&mut self.answers).expect("the program does not answer");
-        assert!(answer.operation == operation && answer.bytes[0] == 0, "{operation} is answered {} {}", answer.operation, hex(&answer.bytes));
-        answer.bytes[1..].to_vec()
+        assert_eq!(answer.operation, operation, "{}", hex(&answer.bytes));
+        answer.bytes
+    }
+
+    /// What an accepted request is answered, without the refusal.
+    fn ask(&mut self, operation: u8, arguments: &[u8]) -> Vec<u8> {
+        let bytes = self.answer(operation, arguments);
+        assert_eq!(bytes[0], 0, "{operation} is answered {}", hex(&bytes));
+        bytes[1..].to_vec()
     }
 
     fn numbers(&mut self, operation: u8, arguments: &[u8]) -> Vec<f64> {
@@ -151,7 +158,7 @@ impl Program {
     /// The last samples of an answer.
     fn samples(&mut self, operation: u8, arguments: &[u8], count: usize) -> Vec<f32> {
         let bytes = self.ask(operation, arguments);
-        bytes[bytes.len() - 4 * count..].chunks(4).map(|b| f32::from_bits(u32::from_be_bytes(b.try_into().unwrap()))).collect()
+        samples_of(&bytes[bytes.len() - 4 * count..])
     }
 
     fn end(self) -> io::Result<bool> {
@@ -161,11 +168,22 @@ impl Program {
     }
 }
 
+fn samples_of(bytes: &[u8]) -> Vec<f32> {
+    bytes.chunks(4).map(|b| f32::from_bits(u32::from_be_bytes(b.try_into().unwrap()))).collect()
+}
+
 /// What the kinds are made with.
 struct Bench {
     program: Program,
     random: Random,
     count: usize,
+}
+
+impl Bench {
+    /// A part of the count, and at least one: a kind without pairs would show nothing.
+    fn part(&self, of: usize) -> usize {
+        (self.count / of).max(1)
+    }
 }
 
 // ---- scenes and their mirror images
@@ -195,6 +213,11 @@ fn turned(gains: &[f64]) -> Vec<f64> {
 
 fn widened(samples: &[f32]) -> Vec<f64> {
     samples.iter().map(|x| f64::from(*x)).collect()
+}
+
+/// Samples as an answer has them, all NaNs as one: a sign on one is not told.
+fn as_told(samples: &[f32]) -> Vec<f32> {
+    samples.iter().map(|x| if x.is_nan() { f32::NAN } else { *x }).collect()
 }
 
 fn uniform(random: &mut Random, end: f64) -> f64 {
@@ -393,7 +416,7 @@ fn decoder_blocks(bench: &mut Bench) -> Vec<Kind> {
         for (layout, order) in group.layouts.iter().flat_map(|layout| [1, 2, 3].map(|order| (*layout, order))) {
             let weights = matrix(bench, order, layout);
             let mut blocks = cancelling_frames(&weights, channels_of(order));
-            blocks.extend((0..bench.count / 8).map(|_| block_over(&mut bench.random, &weights, channels_of(order))));
+            blocks.extend((0..bench.part(8)).map(|_| block_over(&mut bench.random, &weights, channels_of(order))));
             for block in blocks {
                 let (one, other) = (played(bench, &block), played(bench, &mirrored(&block)));
                 let image = exchanged(&one, &partners(layout), block.stride as usize);
@@ -445,36 +468,66 @@ fn voices(bench: &mut Bench) -> Vec<Kind> {
         };
         let ((one, near), (other, far)) = (heard((a, e)), heard((-a, e)));
         let scene = || format!("order {order} at ({a:?}, {e:?}), {:08X?}", bits_of(&voice));
-        // All NaNs are one: a sign on one is not told.
-        let image = mirrored(&one).inputs.iter().map(|x| if x.is_nan() { f32::NAN } else { *x }).collect::<Vec<f32>>();
-        planes.note(scene, &widened(&image), &widened(&other.inputs));
+        planes.note(scene, &widened(&as_told(&mirrored(&one).inputs)), &widened(&other.inputs));
         ears.note(scene, &widened(&exchanged(&near, &[1, 0], voice.len())), &widened(&far));
     }
     vec![planes, ears]
+}
+
+/// What makes a block unfit: a stride below the frame count, or a sample too few or too many in or out.
+const UNFIT: [fn(&mut Block); 5] = [
+    |block| block.frames = block.stride + 1,
+    |block| _ = block.inputs.pop(),
+    |block| block.inputs.push(1.0),
+    |block| _ = block.planes.pop(),
+    |block| block.planes.push(1.0),
+];
+
+/// Unfit blocks through the binaural rows. A refusal has to be the same for the image, and to leave the planes as they were lent.
+fn refused_blocks(bench: &mut Bench) -> Vec<Kind> {
+    let mut kind = Kind::new("decoder block, binaural rows, refused for its stride or a length", Expected::Always, Width::Samples);
+    for (order, spoil) in (1..=3).flat_map(|order| UNFIT.map(|spoil| (order, spoil))) {
+        let weights = rows(bench, order);
+        for _ in 0..bench.part(8) {
+            let mut block = block_over(&mut bench.random, &weights, channels_of(order));
+            spoil(&mut block);
+            let mut answer = |block: &Block| {
+                let bytes = bench.program.answer(DECODE, &block.arguments());
+                let (refusal, count) = (f64::from(bytes[0]), u64::from_be_bytes(bytes[1..9].try_into().unwrap()) as f64);
+                [vec![refusal, count], widened(&samples_of(&bytes[9..]))].concat()
+            };
+            // 5 is what document 01 has for lengths that do not fit.
+            let due = [vec![5.0, 0.0], widened(&as_told(&block.planes))].concat();
+            let scene = || format!("order {order}, {} frames, stride {}, {} in, {} out", block.frames, block.stride, block.inputs.len(), block.planes.len());
+            kind.note(scene, &due.repeat(2), &[answer(&block), answer(&mirrored(&block))].concat());
+        }
+    }
+    vec![kind]
 }
 
 // ---- the convolver
 
 /// Speakers of a convolver: their weights, and which stand opposite each other. Each has a row of the bank to itself.
 struct Speakers {
-    name: String,
     channels: usize,
     weights: Vec<f64>,
     partners: Partners,
     is_ambisonic: bool,
+    /// Channels that are 0.0 in every frame.
+    silent: Vec<usize>,
 }
 
 impl Speakers {
     /// A speaker a channel.
-    fn surround(name: &str, partners: Partners) -> Self {
+    fn surround(partners: Partners) -> Self {
         let n = partners.len();
         let weights = (0..n * n).map(|i| f64::from(u8::from(i % (n + 1) == 0))).collect();
-        Speakers { name: name.to_string(), channels: n, weights, partners, is_ambisonic: false }
+        Speakers { channels: n, weights, partners, is_ambisonic: false, silent: Vec::new() }
     }
 
     fn ambisonic(bench: &mut Bench, order: usize) -> Self {
         let weights = virtual_speakers(bench, order);
-        Speakers { name: format!("virtual, order {order}"), channels: channels_of(order), weights, partners: OPPOSITE.to_vec(), is_ambisonic: true }
+        Speakers { channels: channels_of(order), weights, partners: OPPOSITE.to_vec(), is_ambisonic: true, silent: Vec::new() }
     }
 
     /// A call from rest, with samples and taps of all sizes.
@@ -501,72 +554,107 @@ impl Speakers {
         image
     }
 
-    fn compare(&self, bench: &mut Bench, kind: &mut Kind, call: &Call, scene: impl FnOnce() -> String) {
+    /// The call with silence on the silent channels.
+    fn silenced(&self, mut call: Call) -> Call {
+        let stride = call.stride as usize;
+        self.silent.iter().for_each(|channel| call.inputs[channel * stride..][..stride].fill(0.0));
+        call
+    }
+
+    fn compare(&self, bench: &mut Bench, kind: &mut Kind, call: Call, scene: impl FnOnce() -> String) {
+        let call = self.silenced(call);
         let mut ears = |call: &Call| bench.program.samples(PROCESS, &[call.head(), call.lists()].concat(), call.ears.len());
-        let (one, other) = (ears(call), ears(&self.mirrored(call)));
+        let (one, other) = (ears(&call), ears(&self.mirrored(&call)));
         kind.note(scene, &widened(&exchanged(&one, &[1, 0], call.stride as usize)), &widened(&other));
     }
 
     /// Samples and taps from -1 to 1, evenly, for more frames than a filter is long.
-    fn evenly(&self, bench: &mut Bench) -> Kind {
-        let mut kind = Kind::new(format!("convolver, {}, samples and taps from -1 to 1, L = 1, 8, 64", self.name), Expected::Counted, Width::Samples);
-        for pair in 0..bench.count / 8 {
+    fn evenly(&self, bench: &mut Bench, name: &str) -> Kind {
+        let mut kind = Kind::new(format!("convolver, {name}, samples and taps from -1 to 1, L = 1, 8, 64"), Expected::Counted, Width::Samples);
+        for pair in 0..bench.part(8) {
             for length in [1, 8, 64] {
                 let mut call = self.call(&mut bench.random, length, length + 8);
                 for x in call.inputs.iter_mut().chain(&mut call.taps) {
                     *x = (uniform(&mut bench.random, 2.0) - 1.0) as f32;
                 }
-                self.compare(bench, &mut kind, &call, || format!("pair {pair}, L = {length}"));
+                self.compare(bench, &mut kind, call, || format!("pair {pair}, L = {length}"));
             }
         }
         kind
     }
 
-    /// One frame in which each speaker's signal is 1.0, and three speakers with one tap of 2^60, 1 and -2^60 for both ears: in
-    /// every arrangement.
-    fn cancelling(&self, bench: &mut Bench) -> Kind {
-        let mut kind = Kind::new(format!("convolver, {}, taps that cancel, L = 1", self.name), Expected::NotAlways, Width::Samples);
+    /// One frame in which the signal of each speaker that is not silent is 1.0, and three speakers with one tap of 2^60, 1 and
+    /// -2^60 for both ears: in every arrangement.
+    fn cancelling(&self, random: &mut Random) -> Vec<(String, Call)> {
         let count = self.partners.len();
-        let places = |i: usize| [i / count / count, i / count % count, i % count];
-        for [a, b, c] in (0..count.pow(3)).map(places).filter(|[a, b, c]| a != b && a != c && b != c) {
-            let mut call = self.call(&mut bench.random, 1, 1);
+        let places = (0..count.pow(3)).map(|i| [i / count / count, i / count % count, i % count]);
+        let call = |[a, b, c]: [usize; 3]| {
+            let mut call = self.call(random, 1, 1);
             call.inputs = (0..self.channels).map(|channel| if self.is_ambisonic && channel > 0 { 0.0 } else { 1.0 }).collect();
             call.taps = vec![0.0; 2 * count];
             for (speaker, tap) in [(a, 2f32.powi(60)), (b, 1.0), (c, -2f32.powi(60))] {
                 call.taps[2 * speaker..2 * speaker + 2].fill(tap);
             }
-            self.compare(bench, &mut kind, &call, || format!("speaker {a} 2^60, {b} 1, {c} -2^60"));
-        }
-        kind
-    }
-
-    /// Samples and taps of all sizes, any bits among the samples.
-    fn of_all_sizes(&self, bench: &mut Bench) -> Kind {
-        let mut kind = Kind::new(format!("convolver, {}, samples and taps of all sizes", self.name), Expected::Always, Width::Samples);
-        for pair in 0..bench.count / 2 {
-            let (length, frames) = (1 + bench.random.below(9) as usize, 1 + bench.random.below(12) as usize);
-            let call = self.call(&mut bench.random, length, frames);
-            self.compare(bench, &mut kind, &call, || format!("pair {pair}, L = {length}"));
-        }
-        kind
+            (format!("speaker {a} 2^60, {b} 1, {c} -2^60"), call)
+        };
+        places.filter(|[a, b, c]| a != b && a != c && b != c).map(call).collect()
     }
 }
 
+fn cancelling(bench: &mut Bench, name: &str, those: &[Speakers], expected: Expected) -> Kind {
+    let mut kind = Kind::new(format!("convolver, {name}, taps that cancel, L = 1"), expected, Width::Samples);
+    for speakers in those {
+        for (scene, call) in speakers.cancelling(&mut bench.random) {
+            speakers.compare(bench, &mut kind, call, || scene);
+        }
+    }
+    kind
+}
+
+/// Samples and taps of all sizes, any bits among the samples: to each of these speakers in its turn.
+fn of_all_sizes(bench: &mut Bench, name: &str, those: &[Speakers]) -> Kind {
+    let mut kind = Kind::new(format!("convolver, {name}, samples and taps of all sizes"), Expected::Always, Width::Samples);
+    for (pair, speakers) in (0..bench.part(2)).zip(those.iter().cycle()) {
+        let (length, frames) = (1 + bench.random.below(9) as usize, 1 + bench.random.below(12) as usize);
+        let call = speakers.call(&mut bench.random, length, frames);
+        speakers.compare(bench, &mut kind, call, || format!("pair {pair}, L = {length}"));
+    }
+    kind
+}
+
 fn convolvers(bench: &mut Bench) -> Vec<Kind> {
-    let few = [Speakers::surround("one speaker", vec![0]), Speakers::surround("two speakers", vec![1, 0])];
-    let mut all: Vec<Kind> = few.iter().map(|speakers| speakers.of_all_sizes(bench)).collect();
-    let mut many = vec![Speakers::surround("5.1", partners(Layout(2, 0))), Speakers::surround("7.1", partners(Layout(3, 0)))];
-    many.extend((1..=3).map(|order| Speakers::ambisonic(bench, order)));
-    for speakers in &many {
-        all.push(speakers.evenly(bench));
-        all.push(speakers.cancelling(bench));
+    let few = [("one speaker", vec![0]), ("two speakers", vec![1, 0])];
+    let mut all: Vec<Kind> = few.map(|(name, partners)| of_all_sizes(bench, name, &[Speakers::surround(partners)])).into();
+    let mut many: Vec<(String, Speakers)> =
+        [("5.1", 2), ("7.1", 3)].map(|(name, layout)| (name.into(), Speakers::surround(partners(Layout(layout, 0))))).into();
+    many.extend((1..=3).map(|order| (format!("virtual, order {order}"), Speakers::ambisonic(bench, order))));
+    for (name, speakers) in &many {
+        all.push(speakers.evenly(bench, name));
+        all.push(cancelling(bench, name, std::slice::from_ref(speakers), Expected::NotAlways));
     }
     all
 }
 
+/// Three and more speakers whose order is not heard: those behind the first two stand in the middle, or of two that stand
+/// opposite each other one is silent, and adds 0.0 wherever it comes.
+fn settled() -> [(&'static str, Vec<Speakers>); 3] {
+    let first_two = |count: usize| Speakers::surround([1, 0].into_iter().chain(2..count).collect());
+    let without = |layout: u8, silent: &[usize]| Speakers { silent: silent.to_vec(), ..Speakers::surround(partners(Layout(layout, 0))) };
+    [
+        ("three to eight speakers, the first two exchanged", (3..=8).map(first_two).collect()),
+        ("5.1, Rs or Ls silent", [5, 4].map(|surround| without(2, &[surround])).into()),
+        ("7.1, a side and a rear speaker silent", [[5, 7], [4, 6], [5, 6], [4, 7]].map(|two| without(3, &two)).into()),
+    ]
+}
+
+fn settled_convolvers(bench: &mut Bench) -> Vec<Kind> {
+    let two_of = |(name, those): (&str, Vec<Speakers>)| [of_all_sizes(bench, name, &those), cancelling(bench, name, &those, Expected::Always)];
+    settled().into_iter().flat_map(two_of).collect()
+}
+
 /// Says a line a kind; whether each is as expected.
 pub fn run(count: usize, seed: u64, words: &[String]) -> io::Result<bool> {
-    let parts = [stereo, surround, coefficients, matrices, decoder_blocks, voices, convolvers];
+    let parts = [stereo, surround, coefficients, matrices, decoder_blocks, voices, convolvers, settled_convolvers, refused_blocks];
     let mut bench = Bench { program: Program::start(words)?, random: Random::new(seed, "mirror"), count };
     let mut is_as_expected = true;
     for kind in parts.into_iter().flat_map(|part| part(&mut bench)).collect::<Vec<_>>() {
@@ -579,6 +667,7 @@ pub fn run(count: usize, seed: u64, words: &[String]) -> io::Result<bool> {
 #[cfg(test)]
 mod tests {
     use super::*;
+    use crate::frame::{Answer, f32_bytes};
     use bbx_dsp::blocks::effectors::binaural_decoder::virtual_speaker::layouts::FOA_POSITIONS;
 
     /// How far two azimuths are apart, the shorter way round.
@@ -639,20 +728,55 @@ mod tests {
         [call.heard().ears, speakers.mirrored(call).heard().ears]
     }
 
+    fn is_mirrored(speakers: &Speakers, call: &Call) -> bool {
+        let [one, other] = heard(speakers, call).map(|ears| as_told(&ears));
+        bits_of(&exchanged(&one, &[1, 0], call.stride as usize)) == bits_of(&other)
+    }
+
     #[test]
     fn the_order_of_speakers_is_heard_from_three_on() {
         let mut random = Random::new(1, "speakers");
-        let two = Speakers::surround("", vec![1, 0]);
+        let two = Speakers::surround(vec![1, 0]);
         for _ in 0..100 {
             let call = two.call(&mut random, 3, 5);
-            let [one, other] = heard(&two, &call);
-            assert!(exchanged(&one, &[1, 0], 5).iter().zip(&other).all(|(a, b)| a.to_bits() == b.to_bits() || a.is_nan() && b.is_nan()));
+            assert!(is_mirrored(&two, &call));
             assert_eq!(two.mirrored(&two.mirrored(&call)).lists(), call.lists());
         }
         // C, Ls and Rs: 2^60 + 1 - 2^60, and 2^60 - 2^60 + 1.
-        let five_one = Speakers::surround("", partners(Layout(2, 0)));
+        let five_one = Speakers::surround(partners(Layout(2, 0)));
         let mut call = five_one.call(&mut random, 1, 1);
         (call.inputs, call.taps) = (vec![0.0, 0.0, 2f32.powi(60), 0.0, 1.0, -2f32.powi(60)], vec![1.0; 12]);
         assert_eq!(heard(&five_one, &call).map(|ears| bits_of(&ears)), [[0; 2], [0x3ed1_05ec; 2]]);
+    }
+
+    #[test]
+    fn silence_and_the_middle_settle_the_order_of_speakers() {
+        let mut random = Random::new(1, "settled");
+        for (name, those) in settled() {
+            for speakers in &those {
+                let mut calls: Vec<Call> = speakers.cancelling(&mut random).into_iter().map(|(_, call)| call).collect();
+                calls.extend((0..50).map(|_| speakers.call(&mut random, 3, 5)));
+                assert!(calls.iter().all(|call| is_mirrored(speakers, &speakers.silenced(call.clone()))), "{name}");
+                // Without the silence the order is heard.
+                assert_eq!(calls.iter().all(|call| is_mirrored(speakers, call)), speakers.silent.is_empty(), "{name}");
+                // One of each two behind the first, and no other.
+                let of_pairs = (2..speakers.channels).filter(|c| speakers.partners[*c] != *c).count();
+                assert_eq!(2 * speakers.silent.len(), of_pairs);
+            }
+        }
+    }
+
+    #[test]
+    fn unfit_blocks_are_refused_and_so_are_their_images() {
+        let mut random = Random::new(1, "unfit");
+        for spoil in UNFIT {
+            let mut block = Block::fitting(&mut random, 2, 4, 3, 3);
+            spoil(&mut block);
+            let planes = block.planes.iter().flat_map(|x| f32_bytes(*x));
+            let answer = Answer { operation: DECODE, bytes: [5].into_iter().chain([0; 8]).chain(planes).collect() };
+            for block in [mirrored(&block), block] {
+                assert!((block.judged_by(|_, _| unreachable!()).judge)(&answer).wrong.is_none());
+            }
+        }
     }
 }
