@@ -6,9 +6,9 @@
 // are mirror images but for the sign of a zero, which no sum sees.
 //
 // Surround gains are mirror images in 5.1, and in 7.1 as far as 120 degrees (specs/Surround.antt); behind that
-// three squares are added in another order. For the same reason the convolver with a mirrored bank swaps the
-// ears bit for bit where no speakers but the first two are exchanged, and else need not (specs/Convolver.antt,
-// over specs/Parts.antt). What does not hold is refuted in proofs/, and measured by tests/mirror;
-// docs/ACCURACY.md has the table.
+// three squares are added in another order. For the same reason the ears of the convolver, as document 01 sums
+// them, swap with a mirrored bank where no speakers but the first two are exchanged, and else need not
+// (specs/Convolver.antt, over specs/Parts.antt). What does not hold is refuted in proofs/, and measured by
+// tests/mirror; docs/ACCURACY.md has the table.
 //
 // No function stands here. The statements are in specs/, their proofs in proofs/.
