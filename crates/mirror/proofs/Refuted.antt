@@ -7,7 +7,8 @@ use native.Mathlib.Omega.{arith}
 use lib.Dec.{eqb}
 use lib.IntN.{pos, negsuc}
 use lib.ListN.{getD}
-use lib.Ieee.{Float, nan, binary64, toBits, round, add, sub, mul, div, neg, lt, le, eq, ofInt}
+use lib.Ieee as Ieee
+use lib.Ieee.{Float, nan, binary64, toBits, size, round, add, sub, mul, div, neg, lt, le, eq, ofInt}
 use Rattle.numbers.specs.Conversions.{negative}
 use Rattle.series.specs.Angles.{turned}
 use Rattle.angles.specs.Computed.{units, cut, place, short, times, radians, nesting, nest, rounded, sineAt, cosineAt, computed}
@@ -20,7 +21,12 @@ use Rattle.stereo.specs.Promise as Stereo
 use Rattle.matrix.specs.Mirror.{lateral, negatedAt, mirrored}
 use Rattle.formats.specs.Floats.{float}
 use Rattle.formats.specs.Zeros.{unsignedZero}
-use Rattle.mirror.specs.Scenes.{mirroredDirection}
+use Rattle.channel.specs.declared.Layout.the-variants.{Custom}
+use Rattle.numbers.specs.Computed.{rootOf, wholeRoot}
+use Rattle.planes.specs.Normalization.{inverseRoot}
+use Rattle.decoder_matrix.specs.Speakers.{customAzimuth, turnedBack}
+use Rattle.decoder_matrix.specs.Matrix.{rowBy}
+use Rattle.mirror.specs.Scenes.{mirroredDirection, Swapped}
 
 signAt : ℕ → List Float → Bool
 signAt c xs = negative (getD xs c nan)
@@ -56,3 +62,13 @@ unfolding gainBits
 stereo-exchanged h =
     let e : _≡_ {A = ℕ} 0x3FE8A80B635B6BE8 0x3FE8A80B635B6BEC = cc (worked-stereo, ap (toBits binary64) h) in
     omega arith
+
+-- ---- Custom(14): i x (360/14) is rounded, and speakers 2 and 5 do not stand quite opposite each other
+
+row14 : ℕ → List Float
+row14 = rowBy 1 (Custom 14) 14 4
+
+rows-of-14 : Swapped (row14 2) (row14 5) → ⊥
+unfolding row14 toBits inverseRoot rootOf wholeRoot size Ieee.units customAzimuth turnedBack refusesAngle isInside upTo wavesOf sin cos lt le eq computed place
+    cut units turned sineAt cosineAt short times radians nesting nest rounded ofInt div neg add sub mul round
+rows-of-14 h = true≢false (ap (λ (xs : List Float). eqb (toBits binary64 (getD (map unsignedZero (row14 5)) 1 nan)) (toBits binary64 (getD xs 1 nan))) h)

@@ -4,7 +4,6 @@ use mathlib.Core.Path.{_≡_, refl, sym, ap, _∙_, subst}
 use mathlib.Core.Bool.{true, false}
 use mathlib.Core.List.{List, []}
 use Prim.Native.Nat.{ℕ, _<_}
-use native.Mathlib.Omega.{arith}
 use borrow.Author.Tests.{ltb-true}
 use lib.Dec.{ltb}
 use lib.ListN.{length, getD}
@@ -16,7 +15,7 @@ use Rattle.numbers.specs.Computed.{narrowed}
 use Rattle.planes.specs.Sums.{mixed, mixedAll}
 use Rattle.channel.specs.declared.Layout.{Layout}
 use Rattle.channel.specs.declared.Layout.the-variants.{Mono, Stereo, Surround51, Surround71, Custom}
-use Rattle.channel.specs.Layouts.{channelsOf, speakers, positions}
+use Rattle.channel.specs.Layouts.{channelsOf, positions}
 use Rattle.channel.specs.Orders.{refusesOrder, channelsOfOrder}
 use Rattle.matrix.specs.Mirror.{lateral, mirrored}
 use Rattle.harmonics.specs.declared.Direction.{Direction}
@@ -32,7 +31,7 @@ use Rattle.mirror.specs.Scenes.{Swapped, mirroredDirection, voice, virtu
 use Rattle.mirror.proofs.Blocks.{frame-exchanged, blocks-mirror}
 use Rattle.mirror.proofs.Swapped.{factor-odd, narrowed-odd, swapped-at, swapped-tab, swapped-by, swapped-take, mixed-weights, mixed-frames}
 use Rattle.mirror.proofs.Directions.{direction-mirrors}
-use Rattle.mirror.proofs.Speakers.{speakers-mirror}
+use Rattle.mirror.proofs.Speakers.{of-symmetric, speakers-mirror}
 
 -- ---- a voice
 
@@ -48,15 +47,20 @@ panned-swapped planes x gs hs h =
 
 -- ---- partners are speakers of the layout, by computing
 
-below-all : (n : ℕ) (table : List ℕ) → length table ≡ n → every (λ (p : ℕ). ltb p n) table ≡ true → (i : ℕ) → i < n → partnerIn table i < n
-below-all n table e t i h = ltb-true (getD table i i) n (every-at (λ (p : ℕ). ltb p n) table i i t (subst (λ (m : ℕ). i < m) (sym e) h))
+-- all of a table are below n
+abbrev Below : ℕ → List ℕ → Type 0
+Below n table = every (λ (p : ℕ). ltb p n) table ≡ true
 
-partner-inside : (l : Layout) → length (speakers l) ≡ channelsOf l → (i : ℕ) → i < channelsOf l → partnerIn (partners l) i < channelsOf l
-partner-inside Mono e = below-all 1 (partners Mono) refl refl
-partner-inside Stereo e = below-all 2 (partners Stereo) refl refl
-partner-inside Surround51 e = below-all 6 (partners Surround51) refl refl
-partner-inside Surround71 e = below-all 8 (partners Surround71) refl refl
-partner-inside (Custom n) e = λ i h. absurd (omega (arith, e, h))
+partners-below : (l : Layout) → Below (channelsOf l) (partners l)
+partners-below Mono = refl
+partners-below Stereo = refl
+partners-below Surround51 = refl
+partners-below Surround71 = refl
+partners-below (Custom n) = of-symmetric Below (refl, (refl, (refl, (refl, (refl, (refl, (refl, tt))))))) (λ k. refl) n
+
+partner-inside : (l : Layout) → length (partners l) ≡ channelsOf l → (i : ℕ) → i < channelsOf l → partnerIn (partners l) i < channelsOf l
+partner-inside l e i h =
+    ltb-true (partnerIn (partners l) i) (channelsOf l) (every-at (λ (p : ℕ). ltb p (channelsOf l)) (partners l) i i (partners-below l) (subst (λ (m : ℕ). i < m) (sym e) h))
 
 module _ (order : ℕ) where
   voice-swapped : (d : Direction) (x : Float) → Swapped (voice order d x) (voice order (mirroredDirection d) x)
@@ -75,7 +79,7 @@ module _ (order : ℕ) where
 
   -- ---- the decoder matrix of a layout
 
-  matrix-partners : refusesOrder order ≡ false → (l : Layout) → length (speakers l) ≡ channelsOf l
+  matrix-partners : refusesOrder order ≡ false → (l : Layout) → length (partners l) ≡ channelsOf l
       → PartnersSwap (channelsOf l) (channelsOfOrder order) (matrixOf order l) (partnerIn (partners l))
   matrix-partners ok l all = record {
     inside = partner-inside l all;
@@ -84,7 +88,7 @@ module _ (order : ℕ) where
         let k : ℕ = channelsOfOrder order in
         let p : ℕ = partnerIn (partners l) i in
         ap (λ (w : List Float). mixed w (mirrored neg frame)) (row-is order l [] i ok h)
-        ∙ sym (mixed-weights (rowBy order l n k i) (rowBy order l n k p) frame (speakers-mirror order .rows l n k i (subst (λ (m : ℕ). i < m) (sym all) h)))
+        ∙ sym (mixed-weights (rowBy order l n k i) (rowBy order l n k p) frame (speakers-mirror order .rows l k i (subst (λ (m : ℕ). i < m) (sym all) h)))
         ∙ sym (ap (λ (w : List Float). mixed w frame) (row-is order l [] p ok (partner-inside l all i h)));
   }
 

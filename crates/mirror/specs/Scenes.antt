@@ -8,7 +8,7 @@ use lib.ListN.{length, take}
 use lib.Ieee.{Float, neg}
 use Rattle.channel.specs.declared.Layout.{Layout}
 use Rattle.channel.specs.declared.Layout.the-variants.{Mono}
-use Rattle.channel.specs.Layouts.{channelsOf, speakers, positions}
+use Rattle.channel.specs.Layouts.{channelsOf, positions}
 use Rattle.channel.specs.Orders.{refusesOrder, channelsOfOrder}
 use Rattle.planes.specs.Sums.{mixed, mixedAll}
 use Rattle.matrix.specs.Mirror.{mirrored}
@@ -55,8 +55,8 @@ pub record DirectionMirrors (order : ℕ) (d : Direction) : Type 0 where
 -- speakers
 pub record SpeakersMirror (order : ℕ) : Type 0 where
   pub row : (n channels : ℕ) (azimuth : Float) → Swapped (rowTowards order n channels azimuth) (rowTowards order n channels (neg azimuth))
-  pub rows : (l : Layout) (n channels i : ℕ) → i < length (speakers l)
-      → Swapped (rowBy order l n channels i) (rowBy order l n channels (partnerIn (partners l) i))
+  pub rows : (l : Layout) (channels i : ℕ) → i < length (partners l)
+      → Swapped (rowBy order l (channelsOf l) channels i) (rowBy order l (channelsOf l) channels (partnerIn (partners l) i))
   pub weights : (i : ℕ) → i < length positions
       → Swapped (Virtual.outcome order (positionOf i) .weights) (Virtual.outcome order (positionOf (partnerIn positionPartners i)) .weights)
 
@@ -76,8 +76,8 @@ pub record ScenesMirror (order : ℕ) : Type 0 where
   pub voices : (d : Direction) (x : Float) → Swapped (voice order d x) (voice order (mirroredDirection d) x)
   pub outputs : (n : ℕ) (weights : List Float) (partner : ℕ → ℕ) → PartnersSwap n (channelsOfOrder order) weights partner → (d : Direction) (x : Float)
       → mixedAll n (channelsOfOrder order) weights (voice order (mirroredDirection d) x) ≡ exchanged n partner (mixedAll n (channelsOfOrder order) weights (voice order d x))
-  -- blocks of mirrored planes through the decoder matrix of a layout whose speakers stand in the table
-  pub decoders : refusesOrder order ≡ false → (l : Layout) → length (speakers l) ≡ channelsOf l
+  -- blocks of mirrored planes through the decoder matrix of a layout all of whose speakers have partners
+  pub decoders : refusesOrder order ≡ false → (l : Layout) → length (partners l) ≡ channelsOf l
       → BlocksMirror (channelsOf l) (channelsOfOrder order) (matrixOf order l) (partnerIn (partners l))
   -- the signal of a virtual speaker
   pub signals : (i : ℕ) → i < length positions → (frame : List Float)
