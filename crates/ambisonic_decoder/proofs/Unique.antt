@@ -1,10 +1,7 @@
 -- No two answers meet the promise. Assumes nothing.
-use mathlib.Core.List.{List}
-use lib.Ieee.{Float}
-use Rattle.refusals.specs.OneAnswer.{OneAnswer}
-use Rattle.refusals.proofs.Determined.{determined}
-use Rattle.ambisonic_decoder.specs.declared.Shape.{Shape}
-use Rattle.ambisonic_decoder.specs.Promise.{Block, Processed}
+use Rattle.refusals.specs.OneAnswer.{AllowsOneAnswer}
+use Rattle.refusals.proofs.Determined.{determined-by}
+use Rattle.ambisonic_decoder.proofs.process
 
-pub process-unique : (weights : List Float) (s : Shape) (inputs out : List Float) → OneAnswer (λ (r : Block). Processed weights s inputs out (r .answer) (r .out))
-process-unique weights s inputs out = determined
+pub process-unique : AllowsOneAnswer process.ended process.Reads.Learnt
+process-unique κs a = determined-by (λ z h i. (h i .answer, (_, (_, (_, (_, (_, (_, (h i .out, _)))))))))

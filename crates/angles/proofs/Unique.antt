@@ -1,21 +1,15 @@
 -- No two answers meet a promise. Document 01's words alone leave room, 2 ^ -40 either way: it is the equation that leaves none. Assumes nothing.
-use mathlib.Core.Path.{_≡_}
-use mathlib.Core.Bool.{Bool}
-use lib.Ieee.{Float}
-use Rattle.refusals.specs.OneAnswer.{OneAnswer}
-use Rattle.refusals.proofs.Determined.{determined, determined-by}
-use Rattle.series.specs.Sums.{Wave, sine, cosine}
-use Rattle.angles.specs.Limits.{isInside}
-use Rattle.angles.specs.Promise.{Promise}
+use Rattle.refusals.specs.OneAnswer.{AllowsOneAnswer}
+use Rattle.refusals.proofs.Determined.{determined-by}
+use Rattle.angles.proofs.is_inside
+use Rattle.angles.proofs.sine
+use Rattle.angles.proofs.cosine
 
-promise-unique : (w : Wave) (d : Float) → OneAnswer (Promise w d)
-promise-unique w d = determined-by (λ r h. h .is)
+is-inside-unique : AllowsOneAnswer is_inside.ended is_inside.Reads.Learnt
+is-inside-unique κs a = determined-by (λ z h i. (h i, _))
 
-pub sine-unique : (d : Float) → OneAnswer (Promise sine d)
-sine-unique = promise-unique sine
+pub sine-unique : AllowsOneAnswer sine.ended sine.Reads.Learnt
+sine-unique κs a = determined-by (λ z h i. (h .is i, _))
 
-pub cosine-unique : (d : Float) → OneAnswer (Promise cosine d)
-cosine-unique = promise-unique cosine
-
-is-inside-unique : (limit x : Float) → OneAnswer (λ (r : Bool). r ≡ isInside limit x)
-is-inside-unique limit x = determined
+pub cosine-unique : AllowsOneAnswer cosine.ended cosine.Reads.Learnt
+cosine-unique κs a = determined-by (λ z h i. (h .is i, _))

@@ -1,8 +1,9 @@
--- Laws that a caller's proof cites, what the promises say together, the marked example, worked conversions, refuted answers, and the laws of the loops that fill lent lists.
+-- Laws that a caller's proof cites, what the promises say together, the marked example, one answer, worked conversions, refuted answers, and the laws of the loops that fill lent lists.
 pub mod Answers
 pub mod Converting
 pub mod Promises
 pub mod Drill
+mod Unique
 mod Worked
 mod Refuted
 mod Fill

@@ -1,4 +1,4 @@
--- What the promises say: no two outcomes meet one (`read-unique`, `read-start-unique`, `write-unique`, `to-version-2-unique`, `to-version-1-unique`); a file is accepted exactly if it is the encoding of a
+-- What the promises say: a file is accepted exactly if it is the encoding of a
 -- bank that keeps the form, and that bank is filled in (`accepted-is`, `is-accepted`); a bank is accepted exactly if it keeps the form (`written-is`, `is-written`); reading what was written gives the
 -- same bank (`read-after-write`), and writing what was read gives the same bytes of a file of version 2 (`write-after-read`), and of one of version 1 those that turning it gives (`write-of-version-1`);
 -- a file of version 1 that was turned into version 2 is turned back to the same bytes (`back-of-forward`), and the other way round (`forward-of-back`). Assumes nothing.
@@ -12,8 +12,6 @@ use lib.Ieee.{Float}
 use lib.IntN.{ℤ}
 use lib.ListN.{length}
 use lib.Dec.{eqb}
-use Rattle.refusals.specs.OneAnswer.{OneAnswer}
-use Rattle.refusals.proofs.Determined.{determined, determined-by}
 use Rattle.lists.proofs.Placed.{take-placed}
 use Rattle.bank_form.specs.Bank.{Bank, rows, valid}
 use Rattle.bank_form.specs.Encoding.{encode}
@@ -22,26 +20,11 @@ use Rattle.bank_form.specs.WriteFault.{writeFault}
 use Rattle.bank_form.specs.File.{IsFile}
 use Rattle.bank_form.proofs.Exact.{keeps, is-file}
 use Rattle.bank_form.proofs.Writer.{write-none}
-use Rattle.bank.specs.Reading.{ReadOutcome, readBank, readRefusal, readOutcome, Reads, ReadsStart, bankFound}
+use Rattle.bank.specs.Reading.{ReadOutcome, readBank, readRefusal, readOutcome, Reads, bankFound}
 use Rattle.bank.specs.Writing.{WriteOutcome, writeRefusal, writeBank, writeOutcome, Writes}
 use Rattle.bank.specs.Conversion.{ToVersion1, ToVersion2}
 use Rattle.bank.proofs.Answers.{as-told, Lists, Accepted, lists-accepted, read-good, Lent, told-as, written, written-lengths}
 use Rattle.bank.proofs.Converting.{holds-2}
-
-pub read-unique : (file : List ℕ) (zs es : List ℤ) (xs : List Float) → OneAnswer (Reads file zs es xs)
-read-unique file zs es xs = determined-by (λ r h. h .outcome)
-
-pub read-start-unique : (start : List ℕ) (size : ℕ) (zs es : List ℤ) (xs : List Float) → OneAnswer (ReadsStart start size zs es xs)
-read-start-unique start size zs es xs = determined-by (λ r h. h .outcome)
-
-pub write-unique : (b : Bank) (file : List ℕ) → OneAnswer (Writes b file)
-write-unique b file = determined
-
-pub to-version-2-unique : (file out : List ℕ) → OneAnswer (ToVersion2 file out)
-to-version-2-unique file out = determined-by (λ r h. h .outcome)
-
-pub to-version-1-unique : (file out : List ℕ) → OneAnswer (ToVersion1 file out)
-to-version-1-unique file out = determined-by (λ r h. h .outcome)
 
 -- ---- reading
 

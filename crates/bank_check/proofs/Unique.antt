@@ -1,15 +1,15 @@
 -- No two answers meet one promise. Assumes nothing.
-use mathlib.Core.List.{List}
-use Prim.Native.Nat.{ℕ}
-use Rattle.refusals.specs.OneAnswer.{OneAnswer}
+use Rattle.refusals.specs.OneAnswer.{AllowsOneAnswer}
 use Rattle.refusals.proofs.Determined.{determined-by}
-use Rattle.bank_check.specs.Checked.{CheckedStart, Checked, CheckedVersion}
+use Rattle.bank_check.proofs.check_start
+use Rattle.bank_check.proofs.check_file
+use Rattle.bank_check.proofs.check_version
 
-check-start-unique : (start : List ℕ) (size : ℕ) → OneAnswer (CheckedStart start size)
-check-start-unique start size = determined-by (λ r h. h .first)
+check-start-unique : AllowsOneAnswer check_start.ended check_start.Reads.Learnt
+check-start-unique κs a = determined-by (λ z h i. (h .first i, _))
 
-check-file-unique : (s : List ℕ) → OneAnswer (Checked s)
-check-file-unique s = determined-by (λ r h. h .first)
+check-file-unique : AllowsOneAnswer check_file.ended check_file.Reads.Learnt
+check-file-unique κs a = determined-by (λ z h i. (h .first i, _))
 
-check-version-unique : (v : ℕ) (s : List ℕ) → OneAnswer (CheckedVersion v s)
-check-version-unique v s = determined-by (λ r h. h .first)
+check-version-unique : AllowsOneAnswer check_version.ended check_version.Reads.Learnt
+check-version-unique κs a = determined-by (λ z h i. (h .first i, _))

@@ -1,17 +1,15 @@
 -- No two answers meet one promise. Assumes nothing.
-use mathlib.Core.Path.{_≡_}
-use mathlib.Core.List.{List}
-use lib.IntN.{ℤ}
-use Prim.Native.Nat.{ℕ, _≤_, min}
-use Rattle.refusals.specs.OneAnswer.{OneAnswer}
-use Rattle.refusals.proofs.Determined.{determined, determined-by}
-use Rattle.bank_form.specs.Version.{elevationSize, elevationAt, rowSize, largestRow}
+use Rattle.refusals.specs.OneAnswer.{AllowsOneAnswer}
+use Rattle.refusals.proofs.Determined.{determined-by}
+use Rattle.bank_form.proofs.elevation_size
+use Rattle.bank_form.proofs.row_size
+use Rattle.bank_form.proofs.elevation_at
 
-elevation-size-unique : (v : ℕ) → OneAnswer (λ (r : ℕ). (r ≡ elevationSize v) × (r ≤ 2))
-elevation-size-unique v = determined-by (λ r h. h .0)
+elevation-size-unique : AllowsOneAnswer elevation_size.ended elevation_size.Reads.Learnt
+elevation-size-unique κs a = determined-by (λ z h i. (h .0 i, _))
 
-row-size-unique : (v l : ℕ) → OneAnswer (λ (r : ℕ). (r ≡ rowSize v (min l 512)) × (r ≤ largestRow))
-row-size-unique v l = determined-by (λ r h. h .0)
+row-size-unique : AllowsOneAnswer row_size.ended row_size.Reads.Learnt
+row-size-unique κs a = determined-by (λ z h i. (h .0 i, _))
 
-elevation-at-unique : (s : List ℕ) (v at : ℕ) → OneAnswer (λ (r : ℤ). r ≡ elevationAt v s at)
-elevation-at-unique s v at = determined
+elevation-at-unique : AllowsOneAnswer elevation_at.ended elevation_at.Reads.Learnt
+elevation-at-unique κs a = determined-by (λ z h i. (h i, _))

@@ -1,38 +1,39 @@
 -- No two answers meet one promise. Assumes nothing.
-use mathlib.Core.Path.{_≡_}
-use mathlib.Core.List.{List}
-use mathlib.Core.Bool.{Bool}
-use Prim.Native.Nat.{ℕ, _+_, _*_}
-use lib.Dec.{leb}
-use lib.IntN.{ℤ}
-use lib.Ieee.{Float}
-use Rattle.refusals.specs.OneAnswer.{OneAnswer}
-use Rattle.refusals.proofs.Determined.{determined, determined-by}
-use Rattle.big_endian.specs.Fields.{Field, withField, signedAt, withSigned, floatAt, withFloat, doubleAt, withDouble}
+use Rattle.refusals.specs.OneAnswer.{AllowsOneAnswer}
+use Rattle.refusals.proofs.Determined.{determined-by}
+use Rattle.big_endian.proofs.has_room
+use Rattle.big_endian.proofs.get
+use Rattle.big_endian.proofs.put
+use Rattle.big_endian.proofs.get_i16
+use Rattle.big_endian.proofs.put_i16
+use Rattle.big_endian.proofs.get_f32
+use Rattle.big_endian.proofs.put_f32
+use Rattle.big_endian.proofs.get_f64
+use Rattle.big_endian.proofs.put_f64
 
-has-room-unique : (size at width count : ℕ) → OneAnswer (λ (r : Bool). r ≡ leb (at + width * count) size)
-has-room-unique size at width count = determined
+has-room-unique : AllowsOneAnswer has_room.ended has_room.Reads.Learnt
+has-room-unique κs a = determined-by (λ z h i. (h i, _))
 
-get-unique : (s : List ℕ) (at count : ℕ) → OneAnswer (Field s at count)
-get-unique s at count = determined-by (λ r h. h .value)
+get-unique : AllowsOneAnswer get.ended get.Reads.Learnt
+get-unique κs a = determined-by (λ z h i. (h .value i, _))
 
-put-unique : (s : List ℕ) (at count n : ℕ) → OneAnswer (λ (r : List ℕ). r ≡ withField s at count n)
-put-unique s at count n = determined
+put-unique : AllowsOneAnswer put.ended put.Reads.Learnt
+put-unique κs a = determined-by (λ z h i. (_, (h i, _)))
 
-get-i16-unique : (s : List ℕ) (at : ℕ) → OneAnswer (λ (r : ℤ). r ≡ signedAt s at)
-get-i16-unique s at = determined
+get-i16-unique : AllowsOneAnswer get_i16.ended get_i16.Reads.Learnt
+get-i16-unique κs a = determined-by (λ z h i. (h i, _))
 
-put-i16-unique : (s : List ℕ) (at : ℕ) (z : ℤ) → OneAnswer (λ (r : List ℕ). r ≡ withSigned s at z)
-put-i16-unique s at z = determined
+put-i16-unique : AllowsOneAnswer put_i16.ended put_i16.Reads.Learnt
+put-i16-unique κs a = determined-by (λ z h i. (_, (h i, _)))
 
-get-f32-unique : (s : List ℕ) (at : ℕ) → OneAnswer (λ (r : Float). r ≡ floatAt s at)
-get-f32-unique s at = determined
+get-f32-unique : AllowsOneAnswer get_f32.ended get_f32.Reads.Learnt
+get-f32-unique κs a = determined-by (λ z h i. (h i, _))
 
-put-f32-unique : (s : List ℕ) (at : ℕ) (x : Float) → OneAnswer (λ (r : List ℕ). r ≡ withFloat s at x)
-put-f32-unique s at x = determined
+put-f32-unique : AllowsOneAnswer put_f32.ended put_f32.Reads.Learnt
+put-f32-unique κs a = determined-by (λ z h i. (_, (h i, _)))
 
-get-f64-unique : (s : List ℕ) (at : ℕ) → OneAnswer (λ (r : Float). r ≡ doubleAt s at)
-get-f64-unique s at = determined
+get-f64-unique : AllowsOneAnswer get_f64.ended get_f64.Reads.Learnt
+get-f64-unique κs a = determined-by (λ z h i. (h i, _))
 
-put-f64-unique : (s : List ℕ) (at : ℕ) (x : Float) → OneAnswer (λ (r : List ℕ). r ≡ withDouble s at x)
-put-f64-unique s at x = determined
+put-f64-unique : AllowsOneAnswer put_f64.ended put_f64.Reads.Learnt
+put-f64-unique κs a = determined-by (λ z h i. (_, (h i, _)))

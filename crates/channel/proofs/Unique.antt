@@ -1,39 +1,39 @@
 -- No two answers meet a promise. Assumes nothing.
-use mathlib.Core.Path.{_≡_}
-use mathlib.Core.Bool.{Bool}
-use Prim.Native.Nat.{ℕ}
-use Rattle.refusals.specs.OneAnswer.{OneAnswer}
-use Rattle.refusals.proofs.Determined.{determined}
-use Rattle.channel.specs.Layouts.{counted, surround, lowFrequency, azimuthAnswer, tenthsAnswer, positionAzimuthAnswer, positionTenthsAnswer}
-use Rattle.channel.specs.Orders.{refusesOrder, countedOrder}
-use Rattle.channel.specs.declared.Layout.{Layout}
-use Rattle.channel.specs.declared.Counted.{Counted}
-use Rattle.channel.specs.declared.Angle.{Angle}
-use Rattle.channel.specs.declared.Tenths.{Tenths}
+use Rattle.refusals.specs.OneAnswer.{AllowsOneAnswer}
+use Rattle.refusals.proofs.Determined.{determined-by}
+use Rattle.channel.proofs.channel_count
+use Rattle.channel.proofs.refuses_order
+use Rattle.channel.proofs.ambisonic_channel_count
+use Rattle.channel.proofs.is_surround
+use Rattle.channel.proofs.is_low_frequency
+use Rattle.channel.proofs.speaker_azimuth
+use Rattle.channel.proofs.speaker_tenths
+use Rattle.channel.proofs.position_azimuth
+use Rattle.channel.proofs.position_tenths
 
-pub channel-count-unique : (l : Layout) → OneAnswer (λ (r : Counted). r ≡ counted l)
-channel-count-unique l = determined
+pub channel-count-unique : AllowsOneAnswer channel_count.ended channel_count.Reads.Learnt
+channel-count-unique κs a = determined-by (λ z h i. (h i, _))
 
-pub refuses-order-unique : (n : ℕ) → OneAnswer (λ (r : Bool). r ≡ refusesOrder n)
-refuses-order-unique n = determined
+pub refuses-order-unique : AllowsOneAnswer refuses_order.ended refuses_order.Reads.Learnt
+refuses-order-unique κs a = determined-by (λ z h i. (h i, _))
 
-pub ambisonic-channel-count-unique : (n : ℕ) → OneAnswer (λ (r : Counted). r ≡ countedOrder n)
-ambisonic-channel-count-unique n = determined
+pub ambisonic-channel-count-unique : AllowsOneAnswer ambisonic_channel_count.ended ambisonic_channel_count.Reads.Learnt
+ambisonic-channel-count-unique κs a = determined-by (λ z h i. (h i, _))
 
-pub is-surround-unique : (l : Layout) → OneAnswer (λ (r : Bool). r ≡ surround l)
-is-surround-unique l = determined
+pub is-surround-unique : AllowsOneAnswer is_surround.ended is_surround.Reads.Learnt
+is-surround-unique κs a = determined-by (λ z h i. (h i, _))
 
-pub is-low-frequency-unique : (l : Layout) (c : ℕ) → OneAnswer (λ (r : Bool). r ≡ lowFrequency l c)
-is-low-frequency-unique l c = determined
+pub is-low-frequency-unique : AllowsOneAnswer is_low_frequency.ended is_low_frequency.Reads.Learnt
+is-low-frequency-unique κs a = determined-by (λ z h i. (h i, _))
 
-pub speaker-azimuth-unique : (l : Layout) (c : ℕ) → OneAnswer (λ (r : Angle). r ≡ azimuthAnswer l c)
-speaker-azimuth-unique l c = determined
+pub speaker-azimuth-unique : AllowsOneAnswer speaker_azimuth.ended speaker_azimuth.Reads.Learnt
+speaker-azimuth-unique κs a = determined-by (λ z h i. (h i, _))
 
-pub speaker-tenths-unique : (l : Layout) (c : ℕ) → OneAnswer (λ (r : Tenths). r ≡ tenthsAnswer l c)
-speaker-tenths-unique l c = determined
+pub speaker-tenths-unique : AllowsOneAnswer speaker_tenths.ended speaker_tenths.Reads.Learnt
+speaker-tenths-unique κs a = determined-by (λ z h i. (h i, _))
 
-pub position-azimuth-unique : (i : ℕ) → OneAnswer (λ (r : Angle). r ≡ positionAzimuthAnswer i)
-position-azimuth-unique i = determined
+pub position-azimuth-unique : AllowsOneAnswer position_azimuth.ended position_azimuth.Reads.Learnt
+position-azimuth-unique κs a = determined-by (λ z h i. (h i, _))
 
-pub position-tenths-unique : (i : ℕ) → OneAnswer (λ (r : Tenths). r ≡ positionTenthsAnswer i)
-position-tenths-unique i = determined
+pub position-tenths-unique : AllowsOneAnswer position_tenths.ended position_tenths.Reads.Learnt
+position-tenths-unique κs a = determined-by (λ z h i. (h i, _))

@@ -1,31 +1,31 @@
 -- No two answers meet one promise. Assumes nothing.
-use mathlib.Core.Path.{_≡_}
-use mathlib.Core.Bool.{Bool}
-use mathlib.Core.List.{List}
-use Prim.Native.Nat.{ℕ, _*_, min}
-use lib.Dec.{eqb}
-use lib.Ieee.{Float}
-use lib.Ieee.Scale.{finite}
-use Rattle.refusals.specs.OneAnswer.{OneAnswer}
-use Rattle.refusals.proofs.Determined.{determined}
-use Rattle.checks.specs.Finite.{unsound}
-use Rattle.checks.specs.Lengths.{unfit, blockUnfit}
+use Rattle.refusals.specs.OneAnswer.{AllowsOneAnswer}
+use Rattle.refusals.proofs.Determined.{determined-by}
+use Rattle.checks.proofs.is_finite
+use Rattle.checks.proofs.unsound_f64
+use Rattle.checks.proofs.unsound_f32
+use Rattle.checks.proofs.is_product
+use Rattle.checks.proofs.is_unfit
+use Rattle.checks.proofs.is_block_unfit
+use Rattle.checks.proofs.least
 
-is-finite-unique : (x : Float) → OneAnswer (λ (r : Bool). r ≡ finite x)
-is-finite-unique x = determined
+is-finite-unique : AllowsOneAnswer is_finite.ended is_finite.Reads.Learnt
+is-finite-unique κs a = determined-by (λ z h i. (h i, _))
 
-is-product-unique : (n a b : ℕ) → OneAnswer (λ (r : Bool). r ≡ eqb n (a * b))
-is-product-unique n a b = determined
+unsound-f64-unique : AllowsOneAnswer unsound_f64.ended unsound_f64.Reads.Learnt
+unsound-f64-unique κs a = determined-by (λ z h i. (h i, _))
 
--- both of weights and of taps
-unsound-unique : (xs : List Float) → OneAnswer (λ (r : Bool). r ≡ unsound xs)
-unsound-unique xs = determined
+unsound-f32-unique : AllowsOneAnswer unsound_f32.ended unsound_f32.Reads.Learnt
+unsound-f32-unique κs a = determined-by (λ z h i. (h i, _))
 
-is-unfit-unique : (size planes stride frames : ℕ) → OneAnswer (λ (r : Bool). r ≡ unfit size planes stride frames)
-is-unfit-unique size planes stride frames = determined
+is-product-unique : AllowsOneAnswer is_product.ended is_product.Reads.Learnt
+is-product-unique κs a = determined-by (λ z h i. (h i, _))
 
-is-block-unfit-unique : (inputs channels out outputs stride frames : ℕ) → OneAnswer (λ (r : Bool). r ≡ blockUnfit inputs channels out outputs stride frames)
-is-block-unfit-unique inputs channels out outputs stride frames = determined
+is-unfit-unique : AllowsOneAnswer is_unfit.ended is_unfit.Reads.Learnt
+is-unfit-unique κs a = determined-by (λ z h i. (h i, _))
 
-least-unique : (a b : ℕ) → OneAnswer (λ (r : ℕ). r ≡ min a b)
-least-unique a b = determined
+is-block-unfit-unique : AllowsOneAnswer is_block_unfit.ended is_block_unfit.Reads.Learnt
+is-block-unfit-unique κs a = determined-by (λ z h i. (h i, _))
+
+least-unique : AllowsOneAnswer least.ended least.Reads.Learnt
+least-unique κs a = determined-by (λ z h i. (h i, _))

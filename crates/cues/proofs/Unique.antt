@@ -1,15 +1,20 @@
--- No two answers meet a promise. Assumes nothing.
-use mathlib.Core.Path.{_≡_}
-use mathlib.Core.List.{List}
-use Prim.Native.Nat.{ℕ}
-use Rattle.refusals.specs.OneAnswer.{OneAnswer}
-use Rattle.refusals.proofs.Determined.{determined, determined-by}
-use Rattle.cues.specs.declared.Cue.{Cue}
-use Rattle.cues.specs.declared.Judgement.{Judgement}
-use Rattle.cues.specs.Promise.{judgementOf, Finds}
+-- No two answers meet one promise. Assumes nothing.
+use mathlib.Core.Path.{refl}
+use Rattle.refusals.specs.OneAnswer.{AllowsOneAnswer, States}
+use Rattle.refusals.proofs.Determined.{determined-by}
+use Rattle.cues.proofs.judged
+use Rattle.cues.proofs.holding
 
-pub judged-unique : (cues : List Cue) → OneAnswer (λ (r : Judgement). r ≡ judgementOf cues)
-judged-unique cues = determined
+-- what `judged` ensures
+abbrev judged-states : States judged.ended (λ w κs a. judged.clauses (w .𝓤) (w .H) (w .𝓖 .A) (w .𝓜 .mem) (w .𝓡 .run) κs a .ensures tt)
+judged-states = record { claim = _; stated = λ w κs a r e. refl }
 
-pub holding-unique : (cues : List Cue) (f : ℕ) → OneAnswer (Finds cues f)
-holding-unique cues f = determined-by (λ r h. h .is)
+pub judged-unique : AllowsOneAnswer judged.ended (judged-states .claim)
+judged-unique κs a = determined-by (λ z h i. (h i, _))
+
+-- what `holding` ensures
+abbrev holding-states : States holding.ended (λ w κs a. holding.clauses (w .𝓤) (w .H) (w .𝓖 .A) (w .𝓜 .mem) (w .𝓡 .run) κs a .ensures tt)
+holding-states = record { claim = _; stated = λ w κs a r e. refl }
+
+pub holding-unique : AllowsOneAnswer holding.ended (holding-states .claim)
+holding-unique κs a = determined-by (λ z h i. (h .is i, _))

@@ -1,11 +1,7 @@
 -- No two answers meet the promise. Assumes nothing.
-use Prim.Native.Nat.{ℕ}
-use mathlib.Core.List.{List}
-use lib.Ieee.{Float}
-use Rattle.refusals.specs.OneAnswer.{OneAnswer}
+use Rattle.refusals.specs.OneAnswer.{AllowsOneAnswer}
 use Rattle.refusals.proofs.Determined.{determined-by}
-use Rattle.channel.specs.declared.Layout.{Layout}
-use Rattle.decoder_matrix.specs.Promise.{Computes}
+use Rattle.decoder_matrix.proofs.compute_decoder_matrix
 
-pub compute-decoder-matrix-unique : (order : ℕ) (l : Layout) (weights : List Float) → OneAnswer (Computes order l weights)
-compute-decoder-matrix-unique order l weights = determined-by (λ r h. h .is)
+pub compute-decoder-matrix-unique : AllowsOneAnswer compute_decoder_matrix.ended compute_decoder_matrix.Reads.Learnt
+compute-decoder-matrix-unique κs a = determined-by (λ z h i. (h .is i .refusal, (_, (_, (h .is i .weights, _)))))

@@ -1,9 +1,7 @@
 -- No two answers meet the promise. Assumes nothing.
-use mathlib.Core.List.{List}
-use Prim.Native.Nat.{ℕ}
-use Rattle.refusals.specs.OneAnswer.{OneAnswer}
+use Rattle.refusals.specs.OneAnswer.{AllowsOneAnswer}
 use Rattle.refusals.proofs.Determined.{determined-by}
-use Rattle.demo_line.specs.Records.{Places}
+use Rattle.demo_line.proofs.place
 
-place-unique : (bytes : List ℕ) → OneAnswer (Places bytes)
-place-unique bytes = determined-by (λ r h. h .is)
+place-unique : AllowsOneAnswer place.ended place.Reads.Learnt
+place-unique κs a = determined-by (λ z h i. (h .is i, _))

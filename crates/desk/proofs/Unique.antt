@@ -1,12 +1,12 @@
--- No two records meet one promise. Assumes nothing.
-use Prim.Native.Nat.{ℕ}
-use mathlib.Core.Path.{_≡_}
-use mathlib.Core.Bool.{Bool}
-use Rattle.refusals.specs.OneAnswer.{OneAnswer}
-use Rattle.refusals.proofs.Determined.{determined}
-use Rattle.desk.specs.declared.Desk.{Desk}
-use Rattle.desk.specs.Numbers.{steppedOf}
+-- No two answers meet the promise. Assumes nothing.
+use mathlib.Core.Path.{refl}
+use Rattle.refusals.specs.OneAnswer.{AllowsOneAnswer, States}
+use Rattle.refusals.proofs.Determined.{determined-by}
+use Rattle.desk.proofs.step
 
--- of the answer of `stepped`, and of what `step` leaves where the record stands
-stepped-unique : (L : ℕ) (damaged : Bool) (d : Desk) → OneAnswer (λ (r : Desk). r ≡ steppedOf L damaged d)
-stepped-unique L damaged d = determined
+-- what `step` ensures
+abbrev step-states : States step.ended (λ w κs a. step.clauses (w .𝓤) (w .H) (w .𝓖 .A) (w .𝓜 .mem) (w .𝓡 .run) κs a .ensures tt)
+step-states = record { claim = _; stated = λ w κs a r e. refl }
+
+step-unique : AllowsOneAnswer step.ended (step-states .claim)
+step-unique κs a = determined-by (λ z h i. (_, (h i, _)))

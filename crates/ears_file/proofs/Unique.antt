@@ -1,18 +1,16 @@
 -- No two answers of `told` meet its promise. Two of `run` do only with another bank, another line, or another failure (docs/UNFIXED.md). Assumes nothing.
 use mathlib.Core.Path.{_≡_, sym, _∙_}
-use mathlib.Core.List.{List}
-use Prim.Native.Nat.{ℕ}
-use Rattle.refusals.specs.OneAnswer.{OneAnswer}
-use Rattle.wire.specs.Promises.{Lined}
-use Rattle.wire.proofs.Unique.{line-unique}
-use Rattle.ears_file.specs.declared.Outcome.{Outcome}
-use Rattle.ears_file.specs.Lines.{toldBy}
-use Rattle.ears_file.specs.Promise.{Answers}
+use denote.Triple.Entry.{Args}
+use Rattle.refusals.specs.OneAnswer.{Lives, Answer, Allows, AllowsOneAnswer}
+use Rattle.refusals.proofs.Determined.{determined-by}
+use Rattle.ears_file.proofs.told
+use Rattle.ears_file.proofs.run
 
-told-unique : (run : Outcome) (out : List ℕ) → OneAnswer (λ (r : ℕ × List ℕ). Lined out (toldBy run) (r .0) (r .1))
-told-unique run out = line-unique out (toldBy run)
+told-unique : AllowsOneAnswer told.ended told.Reads.Learnt
+told-unique κs a = determined-by (λ z h i. (h .0 .count i, (_, (h .0 .filled i, _))))
 
-run-unique : (a b : Outcome) (p : Answers a) (q : Answers b) → p .bank ≡ q .bank → p .ends .line ≡ q .ends .line → a .failed ≡ b .failed → a ≡ b
-run-unique a b p q bank line failed =
-    let same : a .ended ≡ b .ended = p .ends .ended ∙ cc (bank, line, failed) ∙ sym (q .ends .ended) in
-    λ i. record { failed = failed i; ended = same i }
+run-unique : (κs : Lives run.ended) (a : Args run.signature κs) (y z : Answer run.ended κs a) (p : Allows run.ended run.Reads.Learnt κs a y) (q : Allows run.ended run.Reads.Learnt κs a z)
+    → p .bank ≡ q .bank → p .ends .line ≡ q .ends .line → y .0 .failed ≡ z .0 .failed → y ≡ z
+run-unique κs a y z p q bank line failed =
+    let same : y .0 .ended ≡ z .0 .ended = p .ends .ended ∙ cc (bank, line, failed) ∙ sym (q .ends .ended) in
+    λ i. (record { failed = failed i; ended = same i }, _)

@@ -1,11 +1,11 @@
 -- Of one file no two answers meet the promise of `read_bank`; which file it is no contract can name. Assumes nothing.
-use mathlib.Core.Path.{_≡_, sym, ap, _∙_}
-use mathlib.Core.List.{List}
-use Prim.Native.Nat.{ℕ}
-use lib.IntN.{ℤ}
-use lib.Ieee.{Float}
-use Rattle.bank.specs.Reading.{ReadOutcome, readOutcome}
-use Rattle.files.specs.Promises.{Found}
+use mathlib.Core.Path.{_≡_, sym, _∙_}
+use denote.Triple.Entry.{Args}
+use Rattle.refusals.specs.OneAnswer.{Lives, Answer, Allows}
+use Rattle.files.proofs.read_bank
 
-read-bank-unique : (zs es : List ℤ) (xs : List Float) (a b : ReadOutcome) (f : Found zs es xs a) (g : Found zs es xs b) → f .file ≡ g .file → a ≡ b
-read-bank-unique zs es xs a b f g same = f .reads .outcome ∙ ap (λ (file : List ℕ). readOutcome file zs es xs) same ∙ sym (g .reads .outcome)
+read-bank-unique : (κs : Lives read_bank.ended) (a : Args read_bank.signature κs) (y z : Answer read_bank.ended κs a)
+    (p : Allows read_bank.ended read_bank.Reads.Learnt κs a y) (q : Allows read_bank.ended read_bank.Reads.Learnt κs a z) → p .file ≡ q .file → y ≡ z
+read-bank-unique κs a y z p q same =
+    let e = p .reads .outcome ∙ cc same ∙ sym (q .reads .outcome) in
+    λ i. (e i .answer, (_, (e i .azimuths, (e i .elevations, (e i .taps, _)))))

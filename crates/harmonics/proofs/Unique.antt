@@ -1,18 +1,15 @@
 -- No two answers meet a promise. Document 01's words alone leave room, 2 ^ -34 either way: it is the equation that leaves none. Assumes nothing.
-use mathlib.Core.Path.{_≡_}
-use mathlib.Core.Bool.{Bool}
-use Prim.Native.Nat.{ℕ}
-use lib.Ieee.{Float}
-use Rattle.refusals.specs.OneAnswer.{OneAnswer}
-use Rattle.refusals.proofs.Determined.{determined, determined-by}
-use Rattle.harmonics.specs.Promise.{refusesAzimuth, refusesDirection, Promise}
-use Rattle.harmonics.specs.declared.Direction.{Direction}
+use Rattle.refusals.specs.OneAnswer.{AllowsOneAnswer}
+use Rattle.refusals.proofs.Determined.{determined-by}
+use Rattle.harmonics.proofs.refuses_azimuth
+use Rattle.harmonics.proofs.refuses_direction
+use Rattle.harmonics.proofs.compute_sh_coefficients
 
-pub refuses-azimuth-unique : (x : Float) → OneAnswer (λ (r : Bool). r ≡ refusesAzimuth x)
-refuses-azimuth-unique x = determined
+pub refuses-azimuth-unique : AllowsOneAnswer refuses_azimuth.ended refuses_azimuth.Reads.Learnt
+refuses-azimuth-unique κs a = determined-by (λ z h i. (h i, _))
 
-pub refuses-direction-unique : (d : Direction) → OneAnswer (λ (r : Bool). r ≡ refusesDirection d)
-refuses-direction-unique d = determined
+pub refuses-direction-unique : AllowsOneAnswer refuses_direction.ended refuses_direction.Reads.Learnt
+refuses-direction-unique κs a = determined-by (λ z h i. (h i, _))
 
-pub compute-sh-coefficients-unique : (order : ℕ) (d : Direction) → OneAnswer (Promise order d)
-compute-sh-coefficients-unique order d = determined-by (λ r h. h .is)
+pub compute-sh-coefficients-unique : AllowsOneAnswer compute_sh_coefficients.ended compute_sh_coefficients.Reads.Learnt
+compute-sh-coefficients-unique κs a = determined-by (λ z h i. (h .is i, _))

@@ -1,17 +1,11 @@
 -- No two answers meet one promise. Assumes nothing.
-use Prim.Native.Nat.{ℕ}
-use mathlib.Core.List.{List}
-use lib.Ieee.{Float}
-use Rattle.refusals.specs.OneAnswer.{OneAnswer}
+use Rattle.refusals.specs.OneAnswer.{AllowsOneAnswer}
 use Rattle.refusals.proofs.Determined.{determined-by}
-use Rattle.desk.specs.declared.Desk.{Desk}
-use Rattle.rings.specs.State.{State}
-use Rattle.hrtf_checks.specs.Call.{Call}
-use Rattle.hrtf.specs.Promise.{Processes}
-use Rattle.hrtf.specs.Reset.{Resets}
+use Rattle.hrtf.proofs.process
+use Rattle.hrtf.proofs.reset
 
-process-unique : (c : Call) (t : State) → OneAnswer (Processes c t)
-process-unique c t = determined-by (λ r h. h .answer)
+process-unique : AllowsOneAnswer process.ended process.Reads.Learnt
+process-unique κs a = determined-by (λ z h i. (h .answer i .answer, (_, (_, (_, (_, (_, (_, (_, (_, (h .answer i .rings, (h .answer i .ears, _))))))))))))
 
-reset-unique : (d : Desk) (speakers L : ℕ) (rings : List Float) → OneAnswer (Resets d speakers L rings)
-reset-unique d speakers L rings = determined-by (λ r h. h .answer)
+reset-unique : AllowsOneAnswer reset.ended reset.Reads.Learnt
+reset-unique κs a = determined-by (λ z h i. (h .answer i .answer, (_, (_, (_, (h .answer i .rings, _))))))

@@ -1,11 +1,7 @@
 -- No two numbers meet the promise. Assumes nothing.
-use Prim.Native.Nat.{ℕ}
-use mathlib.Core.Path.{_≡_}
-use Rattle.refusals.specs.OneAnswer.{OneAnswer}
-use Rattle.refusals.proofs.Determined.{determined}
-use Rattle.rings.specs.State.{State}
-use Rattle.hrtf_checks.specs.Call.{Call}
-use Rattle.hrtf_checks.specs.Refusals.{refusalOf}
+use Rattle.refusals.specs.OneAnswer.{AllowsOneAnswer}
+use Rattle.refusals.proofs.Determined.{determined-by}
+use Rattle.hrtf_checks.proofs.refusal
 
-refusal-unique : (c : Call) (t : State) → OneAnswer (λ (r : ℕ). r ≡ refusalOf c t)
-refusal-unique c t = determined
+refusal-unique : AllowsOneAnswer refusal.ended refusal.Reads.Learnt
+refusal-unique κs a = determined-by (λ z h i. (h i, _))

@@ -1,15 +1,11 @@
 -- No two answers meet one promise. Assumes nothing.
-use Prim.Native.Nat.{ℕ}
-use mathlib.Core.List.{List}
-use lib.IntN.{ℤ}
-use lib.Ieee.{Float}
-use Rattle.refusals.specs.OneAnswer.{OneAnswer}
+use Rattle.refusals.specs.OneAnswer.{AllowsOneAnswer}
 use Rattle.refusals.proofs.Determined.{determined-by}
-use Rattle.channel.specs.declared.Layout.{Layout}
-use Rattle.hrtf_setup.specs.Promise.{NewSurround, NewAmbisonic}
+use Rattle.hrtf_setup.proofs.new_surround
+use Rattle.hrtf_setup.proofs.new_ambisonic
 
-new-surround-unique : (l : Layout) (azimuths elevations : List ℤ) (rows : ℕ) (weights : List Float) (given : List ℕ) → OneAnswer (NewSurround l azimuths elevations rows weights given)
-new-surround-unique l azimuths elevations rows weights given = determined-by (λ r h. h .answer)
+new-surround-unique : AllowsOneAnswer new_surround.ended new_surround.Reads.Learnt
+new-surround-unique κs a = determined-by (λ z h i. (h .answer i .answer, (_, (_, (_, (_, (h .answer i .weights, (h .answer i .rows, _))))))))
 
-new-ambisonic-unique : (order : ℕ) (azimuths elevations : List ℤ) (rows : ℕ) (weights : List Float) (given : List ℕ) → OneAnswer (NewAmbisonic order azimuths elevations rows weights given)
-new-ambisonic-unique order azimuths elevations rows weights given = determined-by (λ r h. h .arranges .answer)
+new-ambisonic-unique : AllowsOneAnswer new_ambisonic.ended new_ambisonic.Reads.Learnt
+new-ambisonic-unique κs a = determined-by (λ z h i. (h .arranges .answer i .answer, (_, (_, (_, (_, (h .arranges .answer i .weights, (h .arranges .answer i .rows, _))))))))

@@ -1,10 +1,7 @@
 -- No two answers meet the promise. Assumes nothing.
-use Prim.Native.Nat.{ℕ}
-use mathlib.Core.List.{List}
-use lib.Ieee.{Float}
-use Rattle.refusals.specs.OneAnswer.{OneAnswer}
-use Rattle.refusals.proofs.Determined.{determined}
-use Rattle.matrix.specs.Promise.{Computes}
+use Rattle.refusals.specs.OneAnswer.{AllowsOneAnswer}
+use Rattle.refusals.proofs.Determined.{determined-by}
+use Rattle.matrix.proofs.compute_matrix
 
-pub compute-matrix-unique : (n : ℕ) (weights : List Float) → OneAnswer (Computes n weights)
-compute-matrix-unique n weights = determined
+pub compute-matrix-unique : AllowsOneAnswer compute_matrix.ended compute_matrix.Reads.Learnt
+compute-matrix-unique κs a = determined-by (λ z h i. (h i .refusal, (_, (h i .weights, _))))

@@ -8,26 +8,28 @@ use lib.IntN.{pos}
 use lib.Dec.{T, lt→ltb}
 use lib.Ieee.{Float, nan, inf, fin, Format, binary64, fits}
 use lib.Ieee.Positive.{positive}
-use Rattle.refusals.specs.OneAnswer.{OneAnswer}
+use Rattle.refusals.specs.OneAnswer.{OneAnswer, AllowsOneAnswer}
 use Rattle.refusals.proofs.Determined.{determined-by}
 use Rattle.formats.proofs.Grid.{zero-written}
-use Rattle.numbers.specs.Conversions.{Widens, Narrows}
+use Rattle.numbers.specs.Conversions.{Narrows}
 use Rattle.numbers.specs.Roots.{rootless, NearestRoot}
 use Rattle.formats.specs.Floats.{zero-float}
 use Rattle.numbers.specs.Computed.{rootOf, rootAnswer}
-use Rattle.numbers.specs.Promises.{Narrowed, Root}
 use Rattle.numbers.specs.declared.Rooted.{Rooted}
 use Rattle.numbers.proofs.Narrows.{narrows-only}
 use Rattle.numbers.proofs.Middle.{root-only}
+use Rattle.numbers.proofs.widen
+use Rattle.numbers.proofs.narrow
+use Rattle.numbers.proofs.root
 
-pub widen-unique : (x : Float) → OneAnswer (Widens x)
-widen-unique x = determined-by (λ r h. h .same)
+pub widen-unique : AllowsOneAnswer widen.ended widen.Reads.Learnt
+widen-unique κs a = determined-by (λ z h i. (h .same i, _))
 
-pub narrow-unique : (x : Float) → OneAnswer (Narrowed x)
-narrow-unique x = determined-by (λ r h. h .bits)
+pub narrow-unique : AllowsOneAnswer narrow.ended narrow.Reads.Learnt
+narrow-unique κs a = determined-by (λ z h i. (h .bits i, _))
 
-pub root-unique : (x : Float) → OneAnswer (Root x)
-root-unique x = determined-by (λ r h. h .answer)
+pub root-unique : AllowsOneAnswer root.ended root.Reads.Learnt
+root-unique κs a = determined-by (λ z h i. (h .answer i, _))
 
 -- ---- by document 01's words alone
 pub narrows-unique : (f : Format) (x : Float) → OneAnswer (Narrows f x)

@@ -1,23 +1,20 @@
 -- No two answers meet one promise. Assumes nothing.
-use mathlib.Core.Path.{_≡_}
-use mathlib.Core.Bool.{Bool}
-use mathlib.Core.List.{List}
-use Prim.Native.Nat.{ℕ}
-use lib.Ieee.{Float}
-use Rattle.refusals.specs.OneAnswer.{OneAnswer}
-use Rattle.refusals.proofs.Determined.{determined, determined-by}
-use Rattle.planes.specs.Planes.{sampleAt, withSample, FramePut}
-use Rattle.planes.specs.Normalization.{InverseRoot}
+use Rattle.refusals.specs.OneAnswer.{AllowsOneAnswer}
+use Rattle.refusals.proofs.Determined.{determined-by}
+use Rattle.planes.proofs.sample
+use Rattle.planes.proofs.put_sample
+use Rattle.planes.proofs.mix_frame
+use Rattle.planes.proofs.inverse_root
 
-sample-unique : (xs : List Float) (stride plane frame : ℕ) → OneAnswer (λ (r : Float). r ≡ sampleAt xs stride plane frame)
-sample-unique xs stride plane frame = determined
+sample-unique : AllowsOneAnswer sample.ended sample.Reads.Learnt
+sample-unique κs a = determined-by (λ z h i. (h i, _))
 
-put-sample-unique : (xs : List Float) (stride plane frame : ℕ) (x : Float) → OneAnswer (λ (after : List Float). after ≡ withSample xs stride plane frame x)
-put-sample-unique xs stride plane frame x = determined
+put-sample-unique : AllowsOneAnswer put_sample.ended put_sample.Reads.Learnt
+put-sample-unique κs a = determined-by (λ z h i. (_, (h i, _)))
 
--- the frame f that `mix_frame` puts is `mixedAll`'s: the planes, and whether it is damaged
-mix-frame-unique : (xs : List Float) (stride n : ℕ) (f : List Float) → OneAnswer (λ (r : List Float × Bool). FramePut xs stride n f (r .0) (r .1))
-mix-frame-unique xs stride n f = determined-by (λ r h i. (h .put i, h .damage i))
+-- the planes, and whether the frame is damaged
+mix-frame-unique : AllowsOneAnswer mix_frame.ended mix_frame.Reads.Learnt
+mix-frame-unique κs a = determined-by (λ z h i. (h .damage i, (h .put i, _)))
 
-inverse-root-unique : (n : ℕ) → OneAnswer (InverseRoot n)
-inverse-root-unique n = determined-by (λ r h. h .is)
+inverse-root-unique : AllowsOneAnswer inverse_root.ended inverse_root.Reads.Learnt
+inverse-root-unique κs a = determined-by (λ z h i. (h .is i, _))

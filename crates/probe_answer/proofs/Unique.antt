@@ -1,34 +1,35 @@
 -- No two answers meet one promise: the place and the bytes, together. Assumes nothing.
-use mathlib.Core.Path.{_≡_}
-use mathlib.Core.List.{List}
-use Prim.Native.Nat.{ℕ}
-use lib.IntN.{ℤ}
-use lib.Ieee.{Float}
-use Rattle.refusals.specs.OneAnswer.{OneAnswer}
-use Rattle.refusals.proofs.Determined.{determined}
-use Rattle.big_endian.specs.Lists.{signedBytes, floatBytes, doubleBytes, numberBytes}
-use Rattle.probe_answer.specs.Answers.{Draft, _then_, thenField, refusalAndDoubles, played}
+use Rattle.refusals.specs.OneAnswer.{AllowsOneAnswer}
+use Rattle.refusals.proofs.Determined.{determined-by}
+use Rattle.probe_answer.proofs.put
+use Rattle.probe_answer.proofs.put_bytes
+use Rattle.probe_answer.proofs.put_i16s
+use Rattle.probe_answer.proofs.put_f32s
+use Rattle.probe_answer.proofs.put_f64s
+use Rattle.probe_answer.proofs.put_usizes
+use Rattle.probe_answer.proofs.put_refusal_and_f64s
+use Rattle.probe_answer.proofs.put_played
 
-put-unique : (d : Draft) (count n : ℕ) → OneAnswer (λ (r : Draft). r ≡ thenField d count n)
-put-unique d count n = determined
+put-unique : AllowsOneAnswer put.ended put.Reads.Learnt
+put-unique κs a = determined-by (λ z h i. (h i .place, (_, (_, (h i .bytes, _)))))
 
-put-bytes-unique : (d : Draft) (list : List ℕ) → OneAnswer (λ (r : Draft). r ≡ d then list)
-put-bytes-unique d list = determined
+put-bytes-unique : AllowsOneAnswer put_bytes.ended put_bytes.Reads.Learnt
+put-bytes-unique κs a = determined-by (λ z h i. (h i .place, (_, (h i .bytes, _))))
 
-put-i16s-unique : (d : Draft) (list : List ℤ) → OneAnswer (λ (r : Draft). r ≡ d then signedBytes list)
-put-i16s-unique d list = determined
+put-i16s-unique : AllowsOneAnswer put_i16s.ended put_i16s.Reads.Learnt
+put-i16s-unique κs a = determined-by (λ z h i. (h i .place, (_, (h i .bytes, _))))
 
-put-f32s-unique : (d : Draft) (list : List Float) → OneAnswer (λ (r : Draft). r ≡ d then floatBytes list)
-put-f32s-unique d list = determined
+put-f32s-unique : AllowsOneAnswer put_f32s.ended put_f32s.Reads.Learnt
+put-f32s-unique κs a = determined-by (λ z h i. (h i .place, (_, (h i .bytes, _))))
 
-put-f64s-unique : (d : Draft) (list : List Float) → OneAnswer (λ (r : Draft). r ≡ d then doubleBytes list)
-put-f64s-unique d list = determined
+put-f64s-unique : AllowsOneAnswer put_f64s.ended put_f64s.Reads.Learnt
+put-f64s-unique κs a = determined-by (λ z h i. (h i .place, (_, (h i .bytes, _))))
 
-put-usizes-unique : (d : Draft) (list : List ℕ) → OneAnswer (λ (r : Draft). r ≡ d then numberBytes list)
-put-usizes-unique d list = determined
+put-usizes-unique : AllowsOneAnswer put_usizes.ended put_usizes.Reads.Learnt
+put-usizes-unique κs a = determined-by (λ z h i. (h i .place, (_, (h i .bytes, _))))
 
-put-refusal-and-f64s-unique : (refusal : ℕ) (list : List Float) (out : List ℕ) → OneAnswer (λ (r : Draft). r ≡ refusalAndDoubles refusal list out)
-put-refusal-and-f64s-unique refusal list out = determined
+put-refusal-and-f64s-unique : AllowsOneAnswer put_refusal_and_f64s.ended put_refusal_and_f64s.Reads.Learnt
+put-refusal-and-f64s-unique κs a = determined-by (λ z h i. (h i .place, (_, (_, (h i .bytes, _)))))
 
-put-played-unique : (refusal samples : ℕ) (list : List Float) (out : List ℕ) → OneAnswer (λ (r : Draft). r ≡ played refusal samples list out)
-put-played-unique refusal samples list out = determined
+put-played-unique : AllowsOneAnswer put_played.ended put_played.Reads.Learnt
+put-played-unique κs a = determined-by (λ z h i. (h i .place, (_, (_, (_, (h i .bytes, _))))))

@@ -1,28 +1,25 @@
 -- No two answers meet one promise. Assumes nothing.
-use mathlib.Core.Path.{_≡_}
-use mathlib.Core.List.{List}
-use Prim.Native.Nat.{ℕ}
-use Rattle.refusals.specs.OneAnswer.{OneAnswer}
-use Rattle.refusals.proofs.Determined.{determined}
-use Rattle.desk.specs.declared.Desk.{Desk}
-use Rattle.hrtf_checks.specs.declared.Shape.{Shape}
-use Rattle.probe_answer.specs.Answers.{Draft, draft}
-use Rattle.probe_hrtf.specs.Requests.{deskAt, shapeAt, Lists, ReadLists, readFrom}
-use Rattle.probe_hrtf.specs.Answers.{thenDesk, answerOf}
+use Rattle.refusals.specs.OneAnswer.{AllowsOneAnswer}
+use Rattle.refusals.proofs.Determined.{determined-by}
+use Rattle.probe_hrtf.proofs.answer
+use Rattle.probe_hrtf.proofs.desk
+use Rattle.probe_hrtf.proofs.shape
+use Rattle.probe_hrtf.proofs.put_desk
+use Rattle.probe_hrtf.proofs.get_lists
 
 -- of the count and the bytes, together
-answer-unique : (operation : ℕ) (args out : List ℕ) → OneAnswer (λ (r : Draft). r ≡ answerOf operation args out)
-answer-unique operation args out = determined
+answer-unique : AllowsOneAnswer answer.ended answer.Reads.Learnt
+answer-unique κs a = determined-by (λ z h i. (h i .place, (_, (_, (h i .bytes, _)))))
 
-desk-unique : (args : List ℕ) (at : ℕ) → OneAnswer (λ (r : Desk). r ≡ deskAt args at)
-desk-unique args at = determined
+desk-unique : AllowsOneAnswer desk.ended desk.Reads.Learnt
+desk-unique κs a = determined-by (λ z h i. (h i, _))
 
-shape-unique : (args : List ℕ) → OneAnswer (λ (r : Shape). r ≡ shapeAt args)
-shape-unique args = determined
+shape-unique : AllowsOneAnswer shape.ended shape.Reads.Learnt
+shape-unique κs a = determined-by (λ z h i. (h i, _))
 
-put-desk-unique : (desk : Desk) (out : List ℕ) (at : ℕ) → OneAnswer (λ (r : Draft). r ≡ thenDesk (draft at out) desk)
-put-desk-unique desk out at = determined
+put-desk-unique : AllowsOneAnswer put_desk.ended put_desk.Reads.Learnt
+put-desk-unique κs a = determined-by (λ z h i. (h i .place, (_, (h i .bytes, _))))
 
 -- of the five lists and the place behind them, together
-get-lists-unique : (args : List ℕ) (at : ℕ) (l : Lists) → OneAnswer (λ (r : ReadLists). r ≡ readFrom args at l)
-get-lists-unique args at l = determined
+get-lists-unique : AllowsOneAnswer get_lists.ended get_lists.Reads.Learnt
+get-lists-unique κs a = determined-by (λ z h i. (h i .end, (_, (_, (h i .lists .inputs, (h i .lists .weights, (h i .lists .taps, (h i .lists .rings, (h i .lists .ears, _)))))))))

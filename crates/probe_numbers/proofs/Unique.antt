@@ -1,12 +1,8 @@
 -- No two answers meet one promise. Assumes nothing.
-use mathlib.Core.Path.{_≡_}
-use mathlib.Core.List.{List}
-use Prim.Native.Nat.{ℕ}
-use Rattle.refusals.specs.OneAnswer.{OneAnswer}
-use Rattle.refusals.proofs.Determined.{determined}
-use Rattle.probe_answer.specs.Answers.{Draft}
-use Rattle.probe_numbers.specs.Answers.{answerOf}
+use Rattle.refusals.specs.OneAnswer.{AllowsOneAnswer}
+use Rattle.refusals.proofs.Determined.{determined-by}
+use Rattle.probe_numbers.proofs.answer
 
 -- the count and the bytes, together
-answer-unique : (operation : ℕ) (args out : List ℕ) → OneAnswer (λ (r : Draft). r ≡ answerOf operation args out)
-answer-unique operation args out = determined
+answer-unique : AllowsOneAnswer answer.ended answer.Reads.Learnt
+answer-unique κs a = determined-by (λ z h i. (h i .place, (_, (_, (h i .bytes, _)))))

@@ -1,39 +1,39 @@
 -- No two answers meet one promise. Assumes nothing.
-use mathlib.Core.Path.{_≡_}
-use mathlib.Core.List.{List}
-use Prim.Native.Nat.{ℕ, _+_, _*_}
-use lib.IntN.{ℤ}
-use lib.Ieee.{Float}
-use lib.ListN.{length}
-use Rattle.refusals.specs.OneAnswer.{OneAnswer}
-use Rattle.refusals.proofs.Determined.{determined}
-use Rattle.big_endian.specs.Fields.{fieldAt, signedAt, floatAt, doubleAt}
-use Rattle.channel.specs.declared.Layout.{Layout}
-use Rattle.probe_request.specs.Requests.{layoutOf, eightAt, lentBy, placeIn, wordAt, listAt}
+use Rattle.refusals.specs.OneAnswer.{AllowsOneAnswer}
+use Rattle.refusals.proofs.Determined.{determined-by}
+use Rattle.probe_request.proofs.number
+use Rattle.probe_request.proofs.lent
+use Rattle.probe_request.proofs.layout
+use Rattle.probe_request.proofs.eight
+use Rattle.probe_request.proofs.behind
+use Rattle.probe_request.proofs.get_i16s
+use Rattle.probe_request.proofs.get_f32s
+use Rattle.probe_request.proofs.get_f64s
+use Rattle.probe_request.proofs.get_u32s
 
-number-unique : (args : List ℕ) (at count : ℕ) → OneAnswer (λ (r : ℕ). r ≡ fieldAt args at count)
-number-unique args at count = determined
+number-unique : AllowsOneAnswer number.ended number.Reads.Learnt
+number-unique κs a = determined-by (λ z h i. (h i, _))
 
-lent-unique : (args : List ℕ) (at count most : ℕ) → OneAnswer (λ (r : ℕ). r ≡ lentBy args at count most)
-lent-unique args at count most = determined
+lent-unique : AllowsOneAnswer lent.ended lent.Reads.Learnt
+lent-unique κs a = determined-by (λ z h i. (h i, _))
 
-layout-unique : (which n : ℕ) → OneAnswer (λ (r : Layout). r ≡ layoutOf which n)
-layout-unique which n = determined
+layout-unique : AllowsOneAnswer layout.ended layout.Reads.Learnt
+layout-unique κs a = determined-by (λ z h i. (h i, _))
 
-eight-unique : (args : List ℕ) (at : ℕ) → OneAnswer (λ (r : List ℕ). r ≡ eightAt args at)
-eight-unique args at = determined
+eight-unique : AllowsOneAnswer eight.ended eight.Reads.Learnt
+eight-unique κs a = determined-by (λ z h i. (h i, _))
 
-behind-unique : (args : List ℕ) (at width count : ℕ) → OneAnswer (λ (r : ℕ). r ≡ placeIn (length args) (at + width * count))
-behind-unique args at width count = determined
+behind-unique : AllowsOneAnswer behind.ended behind.Reads.Learnt
+behind-unique κs a = determined-by (λ z h i. (h i, _))
 
-get-i16s-unique : (args : List ℕ) (at : ℕ) (list : List ℤ) → OneAnswer (λ (r : List ℤ). r ≡ listAt signedAt 2 args at list)
-get-i16s-unique args at list = determined
+get-i16s-unique : AllowsOneAnswer get_i16s.ended get_i16s.Reads.Learnt
+get-i16s-unique κs a = determined-by (λ z h i. (_, (_, (_, (h i, _)))))
 
-get-f32s-unique : (args : List ℕ) (at : ℕ) (list : List Float) → OneAnswer (λ (r : List Float). r ≡ listAt floatAt 4 args at list)
-get-f32s-unique args at list = determined
+get-f32s-unique : AllowsOneAnswer get_f32s.ended get_f32s.Reads.Learnt
+get-f32s-unique κs a = determined-by (λ z h i. (_, (_, (_, (h i, _)))))
 
-get-f64s-unique : (args : List ℕ) (at : ℕ) (list : List Float) → OneAnswer (λ (r : List Float). r ≡ listAt doubleAt 8 args at list)
-get-f64s-unique args at list = determined
+get-f64s-unique : AllowsOneAnswer get_f64s.ended get_f64s.Reads.Learnt
+get-f64s-unique κs a = determined-by (λ z h i. (_, (_, (_, (h i, _)))))
 
-get-u32s-unique : (args : List ℕ) (at : ℕ) (list : List ℕ) → OneAnswer (λ (r : List ℕ). r ≡ listAt wordAt 4 args at list)
-get-u32s-unique args at list = determined
+get-u32s-unique : AllowsOneAnswer get_u32s.ended get_u32s.Reads.Learnt
+get-u32s-unique κs a = determined-by (λ z h i. (_, (_, (_, (h i, _)))))

@@ -1,18 +1,15 @@
 -- No two answers meet one promise. Assumes nothing.
-use mathlib.Core.Path.{_≡_}
-use mathlib.Core.Bool.{Bool}
-use Prim.Native.Nat.{ℕ}
-use lib.IntN.{ℤ}
-use Rattle.refusals.specs.Ranges.{within, between}
-use Rattle.refusals.specs.Refusals.{outside}
-use Rattle.refusals.specs.OneAnswer.{OneAnswer}
-use Rattle.refusals.proofs.Determined.{determined}
+use Rattle.refusals.specs.OneAnswer.{AllowsOneAnswer}
+use Rattle.refusals.proofs.Determined.{determined-by}
+use Rattle.refusals.proofs.is_within
+use Rattle.refusals.proofs.is_between
+use Rattle.refusals.proofs.is_outside
 
-is-within-unique : (n low high : ℕ) → OneAnswer (λ (r : Bool). r ≡ within low high n)
-is-within-unique n low high = determined
+is-within-unique : AllowsOneAnswer is_within.ended is_within.Reads.Learnt
+is-within-unique κs a = determined-by (λ z h i. (h i, _))
 
-is-between-unique : (z low high : ℤ) → OneAnswer (λ (r : Bool). r ≡ between low high z)
-is-between-unique z low high = determined
+is-between-unique : AllowsOneAnswer is_between.ended is_between.Reads.Learnt
+is-between-unique κs a = determined-by (λ z h i. (h i, _))
 
-is-outside-unique : (n top : ℕ) → OneAnswer (λ (r : Bool). r ≡ outside n top)
-is-outside-unique n top = determined
+is-outside-unique : AllowsOneAnswer is_outside.ended is_outside.Reads.Learnt
+is-outside-unique κs a = determined-by (λ z h i. (h i, _))

@@ -1,12 +1,7 @@
 -- No two answers meet the promise. Assumes nothing.
-use mathlib.Core.List.{List}
-use lib.Ieee.{Float}
-use Rattle.refusals.specs.OneAnswer.{OneAnswer}
+use Rattle.refusals.specs.OneAnswer.{AllowsOneAnswer}
 use Rattle.refusals.proofs.Determined.{determined-by}
-use Rattle.rings.specs.State.{State}
-use Rattle.stamps.specs.declared.Expected.{Expected}
-use Rattle.replay.specs.Lines.{Line}
-use Rattle.replay.specs.Promise.{Replays}
+use Rattle.replay.proofs.replay
 
-replay-unique : (l : Line) (x : Expected) (t : State) (ears : List Float) → OneAnswer (Replays l x t ears)
-replay-unique l x t ears = determined-by (λ o h. h .answer)
+replay-unique : AllowsOneAnswer replay.ended replay.Reads.Learnt
+replay-unique κs a = determined-by (λ z h i. (h .answer i .answer, (_, (_, (_, (_, (_, (_, (_, (_, (_, (_, (h .answer i .rings, (_, (h .answer i .ears, _)))))))))))))))

@@ -1,16 +1,11 @@
 -- No two answers meet one promise. Assumes nothing.
-use Prim.Native.Nat.{ℕ, suc, min}
-use mathlib.Core.Path.{_≡_}
-use mathlib.Core.List.{List}
-use lib.Ieee.{Float}
-use Rattle.formats.specs.Floats.{zero-float}
-use Rattle.planes.specs.Sums.{dot}
-use Rattle.refusals.specs.OneAnswer.{OneAnswer}
-use Rattle.refusals.proofs.Determined.{determined}
-use Rattle.rings.specs.Unrolled.{unrolled}
+use Rattle.refusals.specs.OneAnswer.{AllowsOneAnswer}
+use Rattle.refusals.proofs.Determined.{determined-by}
+use Rattle.rings.proofs.convolve
+use Rattle.rings.proofs.cells_up_to
 
-convolve-unique : (ring : List Float) (newest : ℕ) (taps : List Float) → OneAnswer (λ (r : Float). r ≡ dot zero-float (unrolled (suc newest) ring) taps)
-convolve-unique ring newest taps = determined
+convolve-unique : AllowsOneAnswer convolve.ended convolve.Reads.Learnt
+convolve-unique κs a = determined-by (λ z h i. (h i, _))
 
-cells-up-to-unique : (newest n : ℕ) → OneAnswer (λ (r : ℕ). r ≡ min (suc newest) n)
-cells-up-to-unique newest n = determined
+cells-up-to-unique : AllowsOneAnswer cells_up_to.ended cells_up_to.Reads.Learnt
+cells-up-to-unique κs a = determined-by (λ z h i. (h i, _))

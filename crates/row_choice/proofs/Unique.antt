@@ -3,16 +3,17 @@ use mathlib.Core.Path.{_≡_}
 use mathlib.Core.List.{List}
 use Prim.Native.Nat.{ℕ}
 use lib.IntN.{ℤ}
-use Rattle.refusals.specs.OneAnswer.{OneAnswer}
+use Rattle.refusals.specs.OneAnswer.{AllowsOneAnswer}
 use Rattle.refusals.proofs.Determined.{determined-by}
 use Rattle.row_choice.specs.declared.Choice.{Choice}
 use Rattle.row_choice.specs.Choice.{Chooses}
 use Rattle.row_choice.specs.Nearest.{Takes}
 use Rattle.row_choice.proofs.Takes.{takes-one}
+use Rattle.row_choice.proofs.nearest_row
 
-module _ (zs es : List ℤ) (n : ℕ) (p q : ℤ) where
-  pub nearest-row-unique : OneAnswer (Chooses zs es n p q)
-  nearest-row-unique = determined-by (λ r h. h .answer)
+pub nearest-row-unique : AllowsOneAnswer nearest_row.ended nearest_row.Reads.Learnt
+nearest-row-unique κs a = determined-by (λ z h i. (h .answer i, _))
 
-  pub only-row : (a : Choice) → Chooses zs es n p q a → a .refusal ≡ 0 → (r : ℕ) → Takes zs es n p q r → r ≡ a .row
-  only-row a x e r t = takes-one zs es p q n r (a .row) t (x .takes e)
+-- by the documents' words alone
+pub only-row : (zs es : List ℤ) (n : ℕ) (p q : ℤ) (a : Choice) → Chooses zs es n p q a → a .refusal ≡ 0 → (r : ℕ) → Takes zs es n p q r → r ≡ a .row
+only-row zs es n p q a x e r t = takes-one zs es p q n r (a .row) t (x .takes e)

@@ -1,12 +1,7 @@
 -- No two answers meet the promise. Assumes nothing.
-use Prim.Native.Nat.{ℕ}
-use mathlib.Core.Path.{_≡_}
-use mathlib.Core.List.{List}
-use lib.Seq.{sets}
-use lib.Ieee.{Float}
-use Rattle.refusals.specs.OneAnswer.{OneAnswer}
-use Rattle.refusals.proofs.Determined.{determined}
-use Rattle.rows.specs.Rows.{scaled}
+use Rattle.refusals.specs.OneAnswer.{AllowsOneAnswer}
+use Rattle.refusals.proofs.Determined.{determined-by}
+use Rattle.rows.proofs.put_row
 
-pub put-row-unique : (row : List Float) (scale : Float) (weights : List Float) (at : ℕ) → OneAnswer (λ (r : List Float). r ≡ sets weights at (scaled scale row))
-put-row-unique row scale weights at = determined
+pub put-row-unique : AllowsOneAnswer put_row.ended put_row.Reads.Learnt
+put-row-unique κs a = determined-by (λ z h i. (_, (_, (_, (h i, _)))))

@@ -1,12 +1,13 @@
 -- No two answers meet the promise. Assumes nothing.
-use mathlib.Core.List.{List}
-use lib.Ieee.{Float}
-use Rattle.refusals.specs.OneAnswer.{OneAnswer}
+use mathlib.Core.Path.{refl}
+use Rattle.refusals.specs.OneAnswer.{AllowsOneAnswer, States}
 use Rattle.refusals.proofs.Determined.{determined-by}
-use Rattle.cues.specs.declared.Cue.{Cue}
-use Rattle.script.specs.Rendering.{Stretch}
-use Rattle.script.specs.Promise.{Block, Renders}
+use Rattle.script.proofs.render
+
+-- what `render` ensures
+abbrev render-states : States render.ended (λ w κs a. render.clauses (w .𝓤) (w .H) (w .𝓖 .A) (w .𝓜 .mem) (w .𝓡 .run) κs a .ensures tt)
+render-states = record { claim = _; stated = λ w κs a r e. refl }
 
 -- the answer and what the output planes hold
-pub render-unique : (s : Stretch) (cues : List Cue) (input out : List Float) → OneAnswer (λ (r : Block). Renders s cues input out (r .answer) (r .out))
-render-unique s cues input out = determined-by (λ r h. h .is)
+pub render-unique : AllowsOneAnswer render.ended (render-states .claim)
+render-unique κs a = determined-by (λ z h i. (h .is i .answer, (_, (_, (_, (_, (_, (_, (h .is i .out, _)))))))))

@@ -1,25 +1,23 @@
 -- No two answers meet one promise. Assumes nothing.
-use Prim.Native.Nat.{ℕ}
-use mathlib.Core.Path.{_≡_}
-use mathlib.Core.List.{List}
-use Rattle.refusals.specs.OneAnswer.{OneAnswer}
-use Rattle.refusals.proofs.Determined.{determined, determined-by}
-use Rattle.stamps.specs.declared.Expected.{Expected}
-use Rattle.stamps.specs.declared.Planned.{Planned}
-use Rattle.stamps.specs.Arrivals.{Comes, thenOf, skippedOf}
-use Rattle.stamps.specs.Counts.{unplannedOf, planOf}
+use Rattle.refusals.specs.OneAnswer.{AllowsOneAnswer}
+use Rattle.refusals.proofs.Determined.{determined-by}
+use Rattle.stamps.proofs.coming
+use Rattle.stamps.proofs.then_expected
+use Rattle.stamps.proofs.skipped
+use Rattle.stamps.proofs.unplanned
+use Rattle.stamps.proofs.plan
 
-coming-unique : (x : Expected) (s : ℕ) → OneAnswer (Comes x s)
-coming-unique x s = determined-by (λ r h. h .kind)
+coming-unique : AllowsOneAnswer coming.ended coming.Reads.Learnt
+coming-unique κs a = determined-by (λ z h i. (h .kind i, _))
 
-then-unique : (x : Expected) (s : ℕ) → OneAnswer (λ (r : Expected). r ≡ thenOf x s)
-then-unique x s = determined
+then-expected-unique : AllowsOneAnswer then_expected.ended then_expected.Reads.Learnt
+then-expected-unique κs a = determined-by (λ z h i. (h i, _))
 
-skipped-unique : (x : Expected) → OneAnswer (λ (r : Expected). r ≡ skippedOf x)
-skipped-unique x = determined
+skipped-unique : AllowsOneAnswer skipped.ended skipped.Reads.Learnt
+skipped-unique κs a = determined-by (λ z h i. (h i, _))
 
-unplanned-unique : (x : Expected) → OneAnswer (λ (r : Planned). r ≡ unplannedOf x)
-unplanned-unique x = determined
+unplanned-unique : AllowsOneAnswer unplanned.ended unplanned.Reads.Learnt
+unplanned-unique κs a = determined-by (λ z h i. (h i, _))
 
-plan-unique : (x : Expected) (ss : List ℕ) (room : ℕ) → OneAnswer (λ (r : Planned). r ≡ planOf x ss room)
-plan-unique x ss room = determined
+plan-unique : AllowsOneAnswer plan.ended plan.Reads.Learnt
+plan-unique κs a = determined-by (λ z h i. (h i, _))

@@ -1,9 +1,7 @@
 -- No two answers meet the promise: it is the equation that leaves no room, where document 01's bound alone leaves 2 ^ -30 either way. Assumes nothing.
-use lib.Ieee.{Float}
-use Rattle.refusals.specs.OneAnswer.{OneAnswer}
+use Rattle.refusals.specs.OneAnswer.{AllowsOneAnswer}
 use Rattle.refusals.proofs.Determined.{determined-by}
-use Rattle.channel.specs.declared.Layout.{Layout}
-use Rattle.surround.specs.Promise.{Pans}
+use Rattle.surround.proofs.calculate_vbap_gains
 
-pub calculate-vbap-gains-unique : (l : Layout) (a : Float) → OneAnswer (Pans l a)
-calculate-vbap-gains-unique l a = determined-by (λ r h. h .is)
+pub calculate-vbap-gains-unique : AllowsOneAnswer calculate_vbap_gains.ended calculate_vbap_gains.Reads.Learnt
+calculate-vbap-gains-unique κs a = determined-by (λ z h i. (h .is i, _))

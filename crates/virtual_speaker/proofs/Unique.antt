@@ -1,14 +1,11 @@
 -- No two answers meet a promise. Document 01's words alone leave room, 2 ^ -34 either way: it is the equation that leaves none. Assumes nothing.
-use mathlib.Core.Path.{_≡_}
-use Prim.Native.Nat.{ℕ}
-use Rattle.refusals.specs.OneAnswer.{OneAnswer}
-use Rattle.refusals.proofs.Determined.{determined, determined-by}
-use Rattle.harmonics.specs.declared.Direction.{Direction}
-use Rattle.virtual_speaker.specs.Promise.{Promise, positionAnswer}
-use Rattle.virtual_speaker.specs.declared.Position.{Position}
+use Rattle.refusals.specs.OneAnswer.{AllowsOneAnswer}
+use Rattle.refusals.proofs.Determined.{determined-by}
+use Rattle.virtual_speaker.proofs.compute_sh_coefficients_max_re
+use Rattle.virtual_speaker.proofs.foa_position
 
-pub compute-sh-coefficients-max-re-unique : (order : ℕ) (d : Direction) → OneAnswer (Promise order d)
-compute-sh-coefficients-max-re-unique order d = determined-by (λ r h. h .is)
+pub compute-sh-coefficients-max-re-unique : AllowsOneAnswer compute_sh_coefficients_max_re.ended compute_sh_coefficients_max_re.Reads.Learnt
+compute-sh-coefficients-max-re-unique κs a = determined-by (λ z h i. (h .is i, _))
 
-pub foa-position-unique : (i : ℕ) → OneAnswer (λ (r : Position). r ≡ positionAnswer i)
-foa-position-unique i = determined
+pub foa-position-unique : AllowsOneAnswer foa_position.ended foa_position.Reads.Learnt
+foa-position-unique κs a = determined-by (λ z h i. (h i, _))

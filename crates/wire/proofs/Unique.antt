@@ -1,27 +1,31 @@
 -- No two answers meet one promise. Assumes nothing.
-use mathlib.Core.Path.{_≡_}
-use mathlib.Core.List.{List}
-use Prim.Native.Nat.{ℕ}
-use lib.ListN.{take, drop}
-use lib.Ieee.{Float}
-use Rattle.refusals.specs.OneAnswer.{OneAnswer}
-use Rattle.refusals.proofs.Determined.{determined, determined-by}
-use Rattle.lists.specs.Placed.{placed}
-use Rattle.wire.specs.Counting.{countedOn}
-use Rattle.wire.specs.Promises.{FramesTaken, framesTaken, EarsGiven, earsGiven, Lined}
+use Rattle.refusals.specs.OneAnswer.{AllowsOneAnswer}
+use Rattle.refusals.proofs.Determined.{determined-by}
+use Rattle.wire.proofs.frames_from_bytes
+use Rattle.wire.proofs.bytes_from_ears
+use Rattle.wire.proofs.keep_rest
+use Rattle.wire.proofs.count_on
+use Rattle.wire.proofs.frames_line
+use Rattle.wire.proofs.refused_line
+use Rattle.wire.proofs.refused_at_line
 
-frames-from-bytes-unique : (bytes : List ℕ) (stride : ℕ) (inputs : List Float) → OneAnswer (λ (r : FramesTaken). r ≡ framesTaken bytes stride inputs)
-frames-from-bytes-unique bytes stride inputs = determined
+frames-from-bytes-unique : AllowsOneAnswer frames_from_bytes.ended frames_from_bytes.Reads.Learnt
+frames-from-bytes-unique κs a = determined-by (λ z h i. (h i .answer, (_, (_, (h i .inputs, _)))))
 
-bytes-from-ears-unique : (ears : List Float) (stride frames : ℕ) (out : List ℕ) → OneAnswer (λ (r : EarsGiven). r ≡ earsGiven ears stride frames out)
-bytes-from-ears-unique ears stride frames out = determined
+bytes-from-ears-unique : AllowsOneAnswer bytes_from_ears.ended bytes_from_ears.Reads.Learnt
+bytes-from-ears-unique κs a = determined-by (λ z h i. (h i .answer, (_, (_, (_, (h i .out, _))))))
 
-keep-rest-unique : (bytes : List ℕ) (from to : ℕ) → OneAnswer (λ (after : List ℕ). after ≡ placed bytes 0 (drop from (take to bytes)))
-keep-rest-unique bytes from to = determined
+keep-rest-unique : AllowsOneAnswer keep_rest.ended keep_rest.Reads.Learnt
+keep-rest-unique κs a = determined-by (λ z h i. (_, (h i, _)))
 
-count-on-unique : (count more : ℕ) → OneAnswer (λ (r : ℕ). r ≡ countedOn count more)
-count-on-unique count more = determined
+count-on-unique : AllowsOneAnswer count_on.ended count_on.Reads.Learnt
+count-on-unique κs a = determined-by (λ z h i. (h i, _))
 
--- of each of the three lines: its length, and what the list holds
-pub line-unique : (out line : List ℕ) → OneAnswer (λ (r : ℕ × List ℕ). Lined out line (r .0) (r .1))
-line-unique out line = determined-by (λ r h i. (h .count i, h .filled i))
+frames-line-unique : AllowsOneAnswer frames_line.ended frames_line.Reads.Learnt
+frames-line-unique κs a = determined-by (λ z h i. (h .count i, (_, (_, (h .filled i, _)))))
+
+refused-line-unique : AllowsOneAnswer refused_line.ended refused_line.Reads.Learnt
+refused-line-unique κs a = determined-by (λ z h i. (h .count i, (_, (h .filled i, _))))
+
+refused-at-line-unique : AllowsOneAnswer refused_at_line.ended refused_at_line.Reads.Learnt
+refused-at-line-unique κs a = determined-by (λ z h i. (h .count i, (_, (_, (h .filled i, _)))))
