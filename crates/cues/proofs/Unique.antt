@@ -12,4 +12,4 @@ pub judged-unique : (cues : List Cue) → OneAnswer (λ (r : Judgement). r ≡ j
 judged-unique cues = determined
 
 pub holding-unique : (cues : List Cue) (f : ℕ) → OneAnswer (Finds cues f)
-holding-unique cues f = determined-by (λ r h. h .is)
+holding-unique cues f = determined-by (λ r h. h .bits)

@@ -95,7 +95,7 @@ run-start u t cs r = run-starts u t cs r .1 ∙ ap (λ (p : ℕ). stateOf u p 0 
     zeroed-position : t .desk .position ≡ 0
     zeroed-position =
         ap (λ (a : AfterReset). a .answer .desk .position)
-        (r .reset .answer ∙ reset-by (r .desk) (u .speakers) (u .L) (r .rings) 0 (sym (reset-number (r .desk) (u .speakers) (u .L) (r .rings) _ (r .reset))))
+        (r .reset .bits ∙ reset-by (r .desk) (u .speakers) (u .L) (r .rings) 0 (sym (reset-number (r .desk) (u .speakers) (u .L) (r .rings) _ (r .reset))))
 
 -- so two runs that are fed the same are the same, also where each has its own reset
 run-same : (u : Setup) (t s : State) (cs ds : List Call) → Run u t cs → Run u s ds → fedAll t cs ≡ fedAll s ds

@@ -26,7 +26,7 @@ use Rattle.hrtf.specs.Reset.{Resets}
 use Rattle.hrtf_setup.specs.Arrangement.{Wanted, Arrangement, arrangedBy, arrangement}
 use Rattle.hrtf_setup.specs.Arrangement as Arranging
 use Rattle.hrtf_setup.specs.Promise.{Arranges, ofOrder, NewAmbisonic}
-use Rattle.hrtf_setup.proofs.Accepted.{ambisonic-playable}
+use Rattle.hrtf_setup.proofs.Accepted.{ambisonic-arranges, ambisonic-playable}
 use Rattle.runs.specs.Runs.{next, Alike}
 use Rattle.runs.specs.Demand.{Run}
 use Rattle.runs.specs.NeverRefused.{AllFitted, BankAccepted, NoneRefused}
@@ -93,7 +93,7 @@ module _ (w : Wanted) (zs es : List ℤ) (rows : ℕ) (weights : List Float) (gi
   channels-are : (o : Arrangement) → Arranges w zs es rows weights given o → o .answer .refusal ≡ 0 → o .answer .channels ≡ w .channels
   unfolding arrangement
   channels-are o a e =
-      ap (λ (q : Arrangement). q .answer .channels) (a .answer) ∙ channels-by (Arranging.refusalOf w zs es rows weights) (sym (ap (λ (q : Arrangement). q .answer .refusal) (a .answer)) ∙ e)
+      ap (λ (q : Arrangement). q .answer .channels) (a .bits) ∙ channels-by (Arranging.refusalOf w zs es rows weights) (sym (ap (λ (q : Arrangement). q .answer .refusal) (a .bits)) ∙ e)
 
 ears-there : (ps : List Planes) → Both Eared ps (map (λ (p : Planes). replicate (2 * p .stride) zero-float) ps)
 ears-there [] = tt
@@ -107,7 +107,7 @@ module _ (r : ReadOutcome) (k : BankAccepted r) (d : Drill) (weights : List Floa
   calls = callsOf (bankFound r) o (planesLeft d) es
 
   counted : o .answer .channels ≡ channelsOfOrder (d .order)
-  counted = channels-are (ofOrder (d .order)) (r .azimuths) (r .elevations) (r .answer .rows) weights given o (new .arranges) e
+  counted = channels-are (ofOrder (d .order)) (r .azimuths) (r .elevations) (r .answer .rows) weights given o (ambisonic-arranges (d .order) (r .azimuths) (r .elevations) (r .answer .rows) weights given o new) e
 
   none-refused : NoneRefused (d .start) calls
   none-refused =

@@ -41,7 +41,7 @@ judged-on-samples h =
 
 -- ---- an invented count for the infinite sample: two frames are unsettled
 invented : (o : Outcome) → Processes infinite-call (next refused-call (next silent-call (fresh four))) o → (n : ℕ) → (n ≡ 2 → ⊥) → o .answer .unsettled ≡ n → ⊥
-invented o p n other e = other (sym e ∙ ap (λ (q : Outcome). q .answer .unsettled) (p .answer) ∙ ap (λ (l : List ℕ). getD l 2 0) infinite-counts)
+invented o p n other e = other (sym e ∙ ap (λ (q : Outcome). q .answer .unsettled) (p .bits) ∙ ap (λ (l : List ℕ). getD l 2 0) infinite-counts)
 
 -- ---- the first call of any drill, and what answers it
 
@@ -65,7 +65,7 @@ module _ (u : Setup) (d : Drill) (c : Call) (cs : List Call) (h : Drilled u (beg
   counted-before b n e =
       suc-ne-zero n
       (sym e
-      ∙ ap (λ (q : Outcome). q .answer .unsettled) (p .answer)
+      ∙ ap (λ (q : Outcome). q .answer .unsettled) (p .bits)
       ∙ ap (λ (l : List ℕ). getD l 0 0) (drill-demand-3 .counts u (begun d c cs) h)
       ∙ none-counted 0 (length (fedTo c (d .start))) (damagedAmong u (encoded d))
       (λ k l. before-settled u (begun d c cs) h (0 + k) (omega (arith, l, fed-among)) (b (0 + k) (omega (arith, l)))))
@@ -75,7 +75,7 @@ module _ (u : Setup) (d : Drill) (c : Call) (cs : List Call) (h : Drilled u (beg
   played-among =
       omega (
         arith,
-        ap (λ (q : Outcome). q .answer .samples) (p .answer),
+        ap (λ (q : Outcome). q .answer .samples) (p .bits),
         length-append (sounded c (d .start)) (soundedAll (next c (d .start)) cs),
         length-tab 0 (outcome c (d .start) .answer .samples) (frameAt (outcome c (d .start) .ears) (c .stride) 2),
         drill-demand-3 .all u (begun d c cs) h,
@@ -83,7 +83,7 @@ module _ (u : Setup) (d : Drill) (c : Call) (cs : List Call) (h : Drilled u (beg
 
   ears-heard : (n ear : ℕ) → n < o .answer .samples → ear < 2 → sampleAt (o .ears) (c .stride) ear n ≡ getD (getD (heard (begun d c cs)) n []) ear nan
   ears-heard n ear l k =
-      subst (λ (q : Outcome). n < q .answer .samples → sampleAt (q .ears) (c .stride) ear n ≡ getD (getD (heard (begun d c cs)) n []) ear nan) (sym (p .answer)) promised l
+      subst (λ (q : Outcome). n < q .answer .samples → sampleAt (q .ears) (c .stride) ear n ≡ getD (getD (heard (begun d c cs)) n []) ear nan) (sym (p .bits)) promised l
     where
       q : Outcome
       q = outcome c (d .start)

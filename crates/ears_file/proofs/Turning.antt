@@ -148,7 +148,7 @@ module _ (h : Shape) (weights : List Float) (rows : List ℕ) (taps : List Float
     history : Represents u (after u [] (lineFrames (line ++ part))) (stateAfter o)
     history =
         subst (λ (gs : List (List Float)). Represents u gs (stateAfter o)) (ap (after u past) read ∙ past-more u line part)
-        (processes .keeps past (stood .history) not-refused)
+        (processes .words past (stood .history) not-refused)
 
     rest : drop (n * 24) (take size bytes) ≡ restIn 24 (line ++ part)
     rest = ap (λ (k : ℕ). drop (k * 24) (take size bytes)) (count) ∙ ap (restIn 24) comes ∙ sym (cut-rest 24 (omega arith) line part)

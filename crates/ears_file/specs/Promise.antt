@@ -16,7 +16,7 @@ use Rattle.ears_file.specs.Lines.{earsOf, partFrame, itemTen}
 -- a run ends as some line does; one that failed ends as one with a part frame, and is told apart
 pub record Ends (end : List ℕ → Ended) (r : Outcome) : Type 0 where
   pub line : List ℕ
-  pub ended : r .ended ≡ cond (r .failed) partFrame (end line)
+  pub bits : r .ended ≡ cond (r .failed) partFrame (end line)
 
 -- with some bank
 pub record Answers (r : Outcome) : Type 0 where

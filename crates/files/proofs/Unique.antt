@@ -8,4 +8,4 @@ use Rattle.bank.specs.Reading.{ReadOutcome, readOutcome}
 use Rattle.files.specs.Promises.{Found}
 
 read-bank-unique : (zs es : List ℤ) (xs : List Float) (a b : ReadOutcome) (f : Found zs es xs a) (g : Found zs es xs b) → f .file ≡ g .file → a ≡ b
-read-bank-unique zs es xs a b f g same = f .reads .outcome ∙ ap (λ (file : List ℕ). readOutcome file zs es xs) same ∙ sym (g .reads .outcome)
+read-bank-unique zs es xs a b f g same = f .reads .bits ∙ ap (λ (file : List ℕ). readOutcome file zs es xs) same ∙ sym (g .reads .bits)

@@ -58,17 +58,17 @@ outcome-computed c t e = outcome-by c t 0 e ∙ accepted-computed c t e
 promised : (c : Call) (t : State) (o : Outcome) → o ≡ outcome c t → Processes c t o
 promised c t o e =
     record {
-      answer = e;
-      keeps = λ past r z. subst (λ (q : Outcome). Represents (setup c) (after (setup c) past (framesIn c)) (stateAfter q)) (sym (e ∙ outcome-computed c t z)) (left-kept (setup c) past t r (framesIn c));
+      bits = e;
+      words = λ past r z. subst (λ (q : Outcome). Represents (setup c) (after (setup c) past (framesIn c)) (stateAfter q)) (sym (e ∙ outcome-computed c t z)) (left-kept (setup c) past t r (framesIn c));
     }
 
 -- an accepted call over a past that rings and desk stand for: document 01's sums over it stand in the ear planes, and the count is over it
 module _ (c : Call) (t : State) (o : Outcome) (p : Processes c t o) (past : List (List Float)) (r : Represents (setup c) past t) (z : refusalOf c t ≡ 0) where
   pub ears-over : o .ears ≡ withFrames (c .ears) (c .stride) 0 (heard (setup c) past (framesIn c))
-  ears-over = ap (λ (q : Outcome). q .ears) (p .answer ∙ outcome-computed c t z) ∙ ap (withFrames (c .ears) (c .stride) 0) (played-heard (setup c) past t r (framesIn c))
+  ears-over = ap (λ (q : Outcome). q .ears) (p .bits ∙ outcome-computed c t z) ∙ ap (withFrames (c .ears) (c .stride) 0) (played-heard (setup c) past t r (framesIn c))
 
   pub unsettled-over : o .answer .unsettled ≡ unsettledIn (setup c) 0 past (framesIn c)
-  unsettled-over = ap (λ (q : Outcome). q .answer .unsettled) (p .answer ∙ outcome-computed c t z) ∙ counted-told (setup c) past t r (framesIn c)
+  unsettled-over = ap (λ (q : Outcome). q .answer .unsettled) (p .bits ∙ outcome-computed c t z) ∙ counted-told (setup c) past t r (framesIn c)
 
 pub promised-refused : (c : Call) (t : State) (n : ℕ) → n ≡ refusalOf c t → (n ≡ 0 → ⊥) → Processes c t (refused n c t)
 promised-refused c t n e some = promised c t (refused n c t) (sym (outcome-by c t n (sym e) ∙ answered-refused (accepted c t) (λ k. refused k c t) n some))
@@ -141,8 +141,8 @@ module _ (d : Desk) (speakers L : ℕ) (rings : List Float) where
   reset-told : (o : AfterReset) → o ≡ resetOutcome d speakers L rings → Resets d speakers L rings o
   reset-told o e =
       record {
-        answer = e;
-        fresh = λ z u es eL. subst (λ (p : AfterReset). Represents u [] (record { rings = p .rings; desk = p .answer .desk })) (sym (e ∙ reset-by 0 z))
+        bits = e;
+        words = λ z u es eL. subst (λ (p : AfterReset). Represents u [] (record { rings = p .rings; desk = p .answer .desk })) (sym (e ∙ reset-by 0 z))
             (subst (λ (n : ℕ). Represents u [] (record { rings = replicate n zero-float; desk = zeroed }))
             (cells u es eL ∙ sym (reset-fits z .1)) (fresh-represents u (subst (λ (n : ℕ). 0 < n) (sym eL) (reset-fits z .0))));
       }
@@ -157,7 +157,7 @@ module _ (d : Desk) (speakers L : ℕ) (rings : List Float) where
 
   pub reset-number : (o : AfterReset) → Resets d speakers L rings o → o .answer .refusal ≡ resetRefusal speakers L rings
   unfolding resetOutcome
-  reset-number o r = ap (λ (p : AfterReset). p .answer .refusal) (r .answer) ∙ number-by (resetRefusal speakers L rings)
+  reset-number o r = ap (λ (p : AfterReset). p .answer .refusal) (r .bits) ∙ number-by (resetRefusal speakers L rings)
 
   pub reset-refused : (k : ℕ) → resetRefusal speakers L rings ≡ suc k → Resets d speakers L rings (record { answer = record { refusal = suc k; desk = d }; rings = rings })
   reset-refused k e = reset-told (record { answer = record { refusal = suc k; desk = d }; rings = rings }) (sym (reset-by (suc k) e))

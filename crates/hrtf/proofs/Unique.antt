@@ -11,7 +11,7 @@ use Rattle.hrtf.specs.Promise.{Processes}
 use Rattle.hrtf.specs.Reset.{Resets}
 
 process-unique : (c : Call) (t : State) → OneAnswer (Processes c t)
-process-unique c t = determined-by (λ r h. h .answer)
+process-unique c t = determined-by (λ r h. h .bits)
 
 reset-unique : (d : Desk) (speakers L : ℕ) (rings : List Float) → OneAnswer (Resets d speakers L rings)
-reset-unique d speakers L rings = determined-by (λ r h. h .answer)
+reset-unique d speakers L rings = determined-by (λ r h. h .bits)

@@ -44,5 +44,5 @@ stateAfter o = record { rings = o .rings; desk = o .answer .desk }
 
 -- beside the equation: what stands for a past stands, after an accepted call, for that past with the call's frames
 pub record Processes (c : Call) (t : State) (o : Outcome) : Type 0 where
-  pub answer : o ≡ outcome c t
-  pub keeps : (past : List (List Float)) → Represents (setup c) past t → refusalOf c t ≡ 0 → Represents (setup c) (after (setup c) past (framesIn c)) (stateAfter o)
+  pub bits : o ≡ outcome c t
+  pub words : (past : List (List Float)) → Represents (setup c) past t → refusalOf c t ≡ 0 → Represents (setup c) (after (setup c) past (framesIn c)) (stateAfter o)

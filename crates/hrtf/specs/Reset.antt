@@ -35,5 +35,5 @@ resetOutcome d speakers L rings = resetBy (resetRefusal speakers L rings) d ring
 
 -- beside the equation: what an accepted reset leaves stands for the empty past, whatever is set up with those speakers and that L
 pub record Resets (d : Desk) (speakers L : ℕ) (rings : List Float) (o : AfterReset) : Type 0 where
-  pub answer : o ≡ resetOutcome d speakers L rings
-  pub fresh : resetRefusal speakers L rings ≡ 0 → (u : Setup) → u .speakers ≡ speakers → u .L ≡ L → Represents u [] (record { rings = o .rings; desk = o .answer .desk })
+  pub bits : o ≡ resetOutcome d speakers L rings
+  pub words : resetRefusal speakers L rings ≡ 0 → (u : Setup) → u .speakers ≡ speakers → u .L ≡ L → Represents u [] (record { rings = o .rings; desk = o .answer .desk })

@@ -9,7 +9,7 @@ use Rattle.channel.specs.declared.Layout.{Layout}
 use Rattle.hrtf_setup.specs.Promise.{NewSurround, NewAmbisonic}
 
 new-surround-unique : (l : Layout) (azimuths elevations : List ℤ) (rows : ℕ) (weights : List Float) (given : List ℕ) → OneAnswer (NewSurround l azimuths elevations rows weights given)
-new-surround-unique l azimuths elevations rows weights given = determined-by (λ r h. h .answer)
+new-surround-unique l azimuths elevations rows weights given = determined-by (λ r h. h .bits)
 
 new-ambisonic-unique : (order : ℕ) (azimuths elevations : List ℤ) (rows : ℕ) (weights : List Float) (given : List ℕ) → OneAnswer (NewAmbisonic order azimuths elevations rows weights given)
-new-ambisonic-unique order azimuths elevations rows weights given = determined-by (λ r h. h .arranges .answer)
+new-ambisonic-unique order azimuths elevations rows weights given = determined-by (λ r h. h .bits)

@@ -67,8 +67,8 @@ module _ (l : Line) (x : Expected) (t : State) (ears : List Float) where
   promised : (o : Outcome) → o ≡ outcome l x t ears → Replays l x t ears o
   promised o e =
       record {
-        answer = e;
-        keeps = λ past r z. subst (λ (q : Outcome). Represents (setupIn l) (afterBy (setupIn l) past (eventsIn l x)) (stateAfter q)) (sym (e ∙ outcome-computed z)) (left-by-kept (setupIn l) past t (eventsIn l x) r);
+        bits = e;
+        words = λ past r z. subst (λ (q : Outcome). Represents (setupIn l) (afterBy (setupIn l) past (eventsIn l x)) (stateAfter q)) (sym (e ∙ outcome-computed z)) (left-by-kept (setupIn l) past t (eventsIn l x) r);
       }
 
   pub promised-refused : (n : ℕ) → n ≡ refusalIn l x t (length ears) → (n ≡ 0 → ⊥) → Replays l x t ears (refused n x t ears)

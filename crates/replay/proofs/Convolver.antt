@@ -61,17 +61,17 @@ module _ {l : Line} (good : Good l) {t : State} {count : ℕ} {block own : List 
     past = heldIn (setupIn l) t
 
     pub block-leaves : stateAfter o ≡ left (setupIn l) t fs
-    block-leaves = ap stateAfter (p .answer ∙ outcome-computed (blockCall l count block own) t block-accepted)
+    block-leaves = ap stateAfter (p .bits ∙ outcome-computed (blockCall l count block own) t block-accepted)
 
     pub block-counts : o .answer .unsettled ≡ counted (setupIn l) t fs
-    block-counts = ap (λ (a : Outcome). a .answer .unsettled) (p .answer ∙ outcome-computed (blockCall l count block own) t block-accepted)
+    block-counts = ap (λ (a : Outcome). a .answer .unsettled) (p .bits ∙ outcome-computed (blockCall l count block own) t block-accepted)
 
     long : length (heard (setupIn l) past fs) ≡ count
     long = length-heard (setupIn l) past fs ∙ length-tab 0 count (frameAt block 64 (l .shape .channels))
 
     pub block-sounds : framesOf (o .ears) 64 2 count ≡ played (setupIn l) t fs
     block-sounds =
-        ap (λ (a : Outcome). framesOf (a .ears) 64 2 count) (p .answer ∙ outcome-by (blockCall l count block own) t 0 block-accepted)
+        ap (λ (a : Outcome). framesOf (a .ears) 64 2 count) (p .bits ∙ outcome-by (blockCall l count block own) t 0 block-accepted)
         ∙ ap (framesOf (withFrames own 64 0 (heard (setupIn l) past fs)) 64 2) (sym long)
         ∙ frames-read 2 own 64 (heard (setupIn l) past fs) (omega (arith, long, few)) (kept .eared) (two-each (setupIn l) past fs)
         ∙ sym (played-held (setupIn l) t fs (kept .state .ringed) (kept .state .position))
@@ -85,4 +85,4 @@ pub reset-leaves : (d : Desk) (speakers L : ℕ) (rings : List Float) (o : After
     → stateWith (o .answer .desk) (o .rings) ≡ rested (stateWith d rings)
 reset-leaves d speakers L rings o r p =
     let none = reset-accepts speakers L rings (r .few, (r .long, (equal-passes (length rings) (speakers * L) (r .ringed), tt))) in
-    ap (λ (a : AfterReset). stateWith (a .answer .desk) (a .rings)) (p .answer ∙ reset-by d speakers L rings 0 none)
+    ap (λ (a : AfterReset). stateWith (a .answer .desk) (a .rings)) (p .bits ∙ reset-by d speakers L rings 0 none)

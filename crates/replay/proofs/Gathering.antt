@@ -38,8 +38,8 @@ module _ (stamps : List ℕ) (channels stride : ℕ) (inputs : List Float) (g : 
       record {
         below = c .below;
         stamp = rw es at hs;
-        taken = et ∙ ap (λ (z : Arrival). takenBy z g s) (sym k ∙ c .kind) ∙ ap (λ (n : ℕ). takenBy (comingOf (g .expected) n) g n) es;
-        filled = ef ∙ ap (λ (z : Arrival). filledBy z block (g .count) (frameAt inputs stride channels (g .at)) (quiet channels)) (sym k ∙ c .kind ∙ ap (comingOf (g .expected)) es);
+        taken = et ∙ ap (λ (z : Arrival). takenBy z g s) (sym k ∙ c .bits) ∙ ap (λ (n : ℕ). takenBy (comingOf (g .expected) n) g n) es;
+        filled = ef ∙ ap (λ (z : Arrival). filledBy z block (g .count) (frameAt inputs stride channels (g .at)) (quiet channels)) (sym k ∙ c .bits ∙ ap (comingOf (g .expected)) es);
       }
 
 -- ---- while it goes on

@@ -9,4 +9,4 @@ use Rattle.replay.specs.Lines.{Line}
 use Rattle.replay.specs.Promise.{Replays}
 
 replay-unique : (l : Line) (x : Expected) (t : State) (ears : List Float) → OneAnswer (Replays l x t ears)
-replay-unique l x t ears = determined-by (λ o h. h .answer)
+replay-unique l x t ears = determined-by (λ o h. h .bits)

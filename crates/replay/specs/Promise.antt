@@ -91,5 +91,5 @@ stateAfter o = record { rings = o .rings; desk = o .answer .desk }
 
 -- beside the equation: what stands for a past stands, after an accepted replay, for the frames fed since the last restart, and for that past before them where there was none
 pub record Replays (l : Line) (x : Expected) (t : State) (ears : List Float) (o : Outcome) : Type 0 where
-  pub answer : o ≡ outcome l x t ears
-  pub keeps : (past : List (List Float)) → Represents (setupIn l) past t → refusalIn l x t (length ears) ≡ 0 → Represents (setupIn l) (afterBy (setupIn l) past (eventsIn l x)) (stateAfter o)
+  pub bits : o ≡ outcome l x t ears
+  pub words : (past : List (List Float)) → Represents (setupIn l) past t → refusalIn l x t (length ears) ≡ 0 → Represents (setupIn l) (afterBy (setupIn l) past (eventsIn l x)) (stateAfter o)

@@ -110,7 +110,7 @@ replay-over u p cs a past r =
 
 module _ (u : Setup) (p : Place) (cs : List Call) (r : Replay u p cs) where
   pub replay-starts : Represents u [] (p .state)
-  replay-starts = r .reset .fresh (sym (reset-number (r .desk) (u .speakers) (u .L) (r .rings) _ (r .reset))) u refl refl
+  replay-starts = r .reset .words (sym (reset-number (r .desk) (u .speakers) (u .L) (r .rings) _ (r .reset))) u refl refl
 
   -- the whole replay sounds as the frames as fed, however it was cut
   pub replay-heard : soundedAll p cs ≡ heardBy u [] (eventsAll u p cs)

@@ -72,7 +72,7 @@ module _ (o : Outcome) (p : Replays (whole 9) First (fresh drill) (planes 9) o) 
 
 -- room for eight of nine frames: as many as there is room for
 as-many-as-fit : (o : Outcome) → Replays (whole 8) First (fresh drill) (planes 8) o → o .answer .refusal ≡ 0 → ⊥
-as-many-as-fit o p e = omega (arith, e, ap (λ (q : Outcome). q .answer .refusal) (p .answer ∙ outcome-by (whole 8) First (fresh drill) (planes 8) 5 eight-short))
+as-many-as-fit o p e = omega (arith, e, ap (λ (q : Outcome). q .answer .refusal) (p .bits ∙ outcome-by (whole 8) First (fresh drill) (planes 8) 5 eight-short))
 
 -- a weight that is NaN and room for eight: 5 comes before 7
 abbrev unfit : Line
@@ -80,7 +80,7 @@ unfit = record { shape = whole 8 .shape; frames = 8; stride = 8; stamps = whole 
 
 seven-first : (o : Outcome) → Replays unfit First (fresh drill) (planes 8) o → o .answer .refusal ≡ 7 → ⊥
 unfolding refusalIn comingBy ofInt
-seven-first o p e = omega (arith, e, ap (λ (q : Outcome). q .answer .refusal) (p .answer ∙ outcome-by unfit First (fresh drill) (planes 8) 5 refl))
+seven-first o p e = omega (arith, e, ap (λ (q : Outcome). q .answer .refusal) (p .bits ∙ outcome-by unfit First (fresh drill) (planes 8) 5 refl))
 
 -- ---- on small ones
 
@@ -92,7 +92,7 @@ two s r x y room = line 2 (s ∷ r ∷ []) (x ∷ y ∷ []) room
 count-of : (s r : ℕ) (x y : Float) (room : ℕ) (o : Outcome) → Replays (two s r x y room) First (fresh drill) (planes room) o → refusalIn (two s r x y room) First (fresh drill) (length (planes room)) ≡ 0
     → o .answer .unsettled ≡ unsettledBy drill 0 [] (eventsIn (two s r x y room) First)
 count-of s r x y room o p e =
-    ap (λ (q : Outcome). q .answer .unsettled) (p .answer ∙ outcome-computed (two s r x y room) First (fresh drill) (planes room) e)
+    ap (λ (q : Outcome). q .answer .unsettled) (p .bits ∙ outcome-computed (two s r x y room) First (fresh drill) (planes room) e)
     ∙ counted-by-told drill [] (fresh drill) starts (eventsIn (two s r x y room) First)
 
 -- 0 with a NaN, then 3: the silent frame behind the NaN is unsettled too
@@ -124,7 +124,7 @@ last-held : (o : Outcome) → Replays (two 0 2 one-float one-float 3) First (fre
 unfolding unitsOf
 last-held o p e =
     absurd (off (ap (λ (fs : List (List Float)). getD fs 1 [])
-    (sym (ap (λ (q : Outcome). framesOf (q .ears) 3 2 (q .answer .samples)) (p .answer)
+    (sym (ap (λ (q : Outcome). framesOf (q .ears) 3 2 (q .answer .samples)) (p .bits)
     ∙ ears-read (two 0 2 one-float one-float 3) First (fresh drill) (planes 3) three-fit
     ∙ played-by-heard drill [] (fresh drill) starts (eventsIn (two 0 2 one-float one-float 3) First)
     ∙ held-is)) ∙ e))

@@ -92,14 +92,14 @@ starts = fresh-represents drill (omega arith)
 module _ (o : Outcome) (p : Replays (whole 9) First (fresh drill) (planes 9) o) where
   pub sounds : framesOf (o .ears) 9 2 (o .answer .samples) ≡ table
   sounds =
-      ap (λ (q : Outcome). framesOf (q .ears) 9 2 (q .answer .samples)) (p .answer)
+      ap (λ (q : Outcome). framesOf (q .ears) 9 2 (q .answer .samples)) (p .bits)
       ∙ ears-read (whole 9) First (fresh drill) (planes 9) nine-fit
       ∙ played-by-heard drill [] (fresh drill) starts (eventsIn (whole 9) First)
       ∙ heard-is
 
   pub unsettled : o .answer .unsettled ≡ 2
   unsettled =
-      ap (λ (q : Outcome). q .answer .unsettled) (p .answer ∙ outcome-computed (whole 9) First (fresh drill) (planes 9) nine-fit)
+      ap (λ (q : Outcome). q .answer .unsettled) (p .bits ∙ outcome-computed (whole 9) First (fresh drill) (planes 9) nine-fit)
       ∙ counted-by-told drill [] (fresh drill) starts (eventsIn (whole 9) First)
       ∙ unsettled-is
 
@@ -107,13 +107,13 @@ module _ (o : Outcome) (p : Replays (whole 9) First (fresh drill) (planes 9) o) 
   pub left : (o .answer .refusal ≡ 0) × ((o .rings ≡ float (pos 8) ∷ one-float ∷ []) × (o .answer .desk ≡ zeroed))
   unfolding comingBy mixed rounded add mul ieee.sum round size span climb units odd ofInt
   left =
-      let made = p .answer ∙ outcome-computed (whole 9) First (fresh drill) (planes 9) nine-fit in
+      let made = p .bits ∙ outcome-computed (whole 9) First (fresh drill) (planes 9) nine-fit in
       (ap (λ (q : Outcome). q .answer .refusal) made, (ap (λ (q : Outcome). q .rings) made, ap (λ (q : Outcome). q .answer .desk) made))
 
   pub told : (o .answer .samples ≡ 9) × ((o .answer .late ≡ 1) × ((o .answer .silent ≡ 2) × ((o .answer .resets ≡ 1) × (o .answer .expected ≡ Stamp 5002))))
   unfolding comingBy
   told =
-      let made = p .answer ∙ outcome-computed (whole 9) First (fresh drill) (planes 9) nine-fit in (
+      let made = p .bits ∙ outcome-computed (whole 9) First (fresh drill) (planes 9) nine-fit in (
         ap (λ (q : Outcome). q .answer .samples) made,
         (
           ap (λ (q : Outcome). q .answer .late) made,

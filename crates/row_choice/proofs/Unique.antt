@@ -12,7 +12,7 @@ use Rattle.row_choice.proofs.Takes.{takes-one}
 
 module _ (zs es : List ℤ) (n : ℕ) (p q : ℤ) where
   pub nearest-row-unique : OneAnswer (Chooses zs es n p q)
-  nearest-row-unique = determined-by (λ r h. h .answer)
+  nearest-row-unique = determined-by (λ r h. h .bits)
 
   pub only-row : (a : Choice) → Chooses zs es n p q a → a .refusal ≡ 0 → (r : ℕ) → Takes zs es n p q r → r ≡ a .row
-  only-row a x e r t = takes-one zs es p q n r (a .row) t (x .takes e)
+  only-row a x e r t = takes-one zs es p q n r (a .row) t (x .words e)

@@ -157,7 +157,7 @@ pub reset-fits : (d : Desk) (speakers L : ℕ) (rings : List Float) (a : AfterRe
     → StateFits speakers L (record { rings = a .rings; desk = a .answer .desk })
 reset-fits d speakers L rings a r e =
     let u : Setup = record { channels = 0; speakers = speakers; L = L; weights = []; taps = []; rows = [] } in
-    let s = r .fresh (sym (reset-number d speakers L rings a r) ∙ e) u refl refl in
+    let s = r .words (sym (reset-number d speakers L rings a r) ∙ e) u refl refl in
     let t : State = record { rings = a .rings; desk = a .answer .desk } in
     record { ringed = rings-room u [] t s; within = s .0; waits = waits-few u [] t s }
 
@@ -178,7 +178,7 @@ module _ (file : List ℕ) (zs es : List ℤ) (xs : List Float) (r : ReadOutcome
 
   -- both lists are as long as they were lent
   lent : Lists zs es xs
-  lent = accepted-parts file zs es xs (ap (λ (y : ReadOutcome). y .answer .refusal) (sym (reads .outcome)) ∙ good) .lists
+  lent = accepted-parts file zs es xs (ap (λ (y : ReadOutcome). y .answer .refusal) (sym (reads .bits)) ∙ good) .lists
 
   most : Form.rows (bankIn file) ≤ 8
   most = subst (λ (n : ℕ). n ≤ 8) (rows-are ∙ ap Form.rows (read-is file zs es xs r reads good)) (not-outside (r .answer .rows) 8 few-rows .1)
@@ -219,7 +219,7 @@ arrangement-accepted : (w : Wanted) (zs es : List ℤ) (n : ℕ) (weights : List
     → o .answer .refusal ≡ 0
 unfolding arrangement
 arrangement-accepted w zs es n weights given o new e =
-    ap (λ (q : Arrangement). q .answer .refusal) (new .answer ∙ ap (λ (k : ℕ). arrangedBy k (w .whose) (w .speakers) (w .channels) zs es n weights given) e)
+    ap (λ (q : Arrangement). q .answer .refusal) (new .bits ∙ ap (λ (k : ℕ). arrangedBy k (w .whose) (w .speakers) (w .channels) zs es n weights given) e)
 
 pub good-bank : NeverRefused
 good-bank =

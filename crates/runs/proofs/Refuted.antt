@@ -48,7 +48,7 @@ accepts x = refl
 
 refuses : (o : Outcome) → Processes (whole one-float) (fresh drill) o → (n : ℕ) → o .answer .refusal ≡ suc n → ⊥
 unfolding refusalOf outcome
-refuses o p n e = suc-ne-zero n (sym e ∙ ap (λ (q : Outcome). q .answer .refusal) (p .answer))
+refuses o p n e = suc-ne-zero n (sym e ∙ ap (λ (q : Outcome). q .answer .refusal) (p .bits))
 
 -- ---- the ear planes
 
@@ -57,7 +57,7 @@ unwritten : (c : Call) (t : State) (o : Outcome) → Processes c t o → refusal
     → (sampleAt (c .ears) (c .stride) ear n ≡ getD (earSamples (setup c) (after (setup c) (heldIn (setup c) t) (take (suc n) (framesIn c)))) ear nan → ⊥)
     → o .ears ≡ c .ears → ⊥
 unwritten c t o p e ear n he hn other same =
-    other (ap (λ (ys : List Float). sampleAt ys (c .stride) ear n) (sym same ∙ ap (λ (q : Outcome). q .ears) (p .answer)) ∙ ear-at c t e ear n he hn)
+    other (ap (λ (ys : List Float). sampleAt ys (c .stride) ear n) (sym same ∙ ap (λ (q : Outcome). q .ears) (p .bits)) ∙ ear-at c t e ear n he hn)
 
 -- drill 8 into any six lent cells
 module _ (a b c d e f : Float) where

@@ -9,4 +9,4 @@ use Rattle.script.specs.Promise.{Block, Renders}
 
 -- the answer and what the output planes hold
 pub render-unique : (s : Stretch) (cues : List Cue) (input out : List Float) → OneAnswer (λ (r : Block). Renders s cues input out (r .answer) (r .out))
-render-unique s cues input out = determined-by (λ r h. h .is)
+render-unique s cues input out = determined-by (λ r h. h .bits)

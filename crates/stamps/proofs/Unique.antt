@@ -10,7 +10,7 @@ use Rattle.stamps.specs.Arrivals.{Comes, thenOf, skippedOf}
 use Rattle.stamps.specs.Counts.{unplannedOf, planOf}
 
 coming-unique : (x : Expected) (s : ℕ) → OneAnswer (Comes x s)
-coming-unique x s = determined-by (λ r h. h .kind)
+coming-unique x s = determined-by (λ r h. h .bits)
 
 then-unique : (x : Expected) (s : ℕ) → OneAnswer (λ (r : Expected). r ≡ thenOf x s)
 then-unique x s = determined

@@ -8,7 +8,7 @@ use Rattle.refusals.specs.OneAnswer.{OneAnswer}
 use Rattle.refusals.proofs.Determined.{determined, determined-by}
 use Rattle.lists.specs.Placed.{placed}
 use Rattle.wire.specs.Counting.{countedOn}
-use Rattle.wire.specs.Promises.{FramesTaken, framesTaken, EarsGiven, earsGiven, Lined}
+use Rattle.wire.specs.Promises.{FramesTaken, framesTaken, EarsGiven, earsGiven, LineGiven, Lined}
 
 frames-from-bytes-unique : (bytes : List ℕ) (stride : ℕ) (inputs : List Float) → OneAnswer (λ (r : FramesTaken). r ≡ framesTaken bytes stride inputs)
 frames-from-bytes-unique bytes stride inputs = determined
@@ -23,5 +23,5 @@ count-on-unique : (count more : ℕ) → OneAnswer (λ (r : ℕ). r ≡ countedO
 count-on-unique count more = determined
 
 -- of each of the three lines: its length, and what the list holds
-pub line-unique : (out line : List ℕ) → OneAnswer (λ (r : ℕ × List ℕ). Lined out line (r .0) (r .1))
-line-unique out line = determined-by (λ r h i. (h .count i, h .filled i))
+pub line-unique : (out line : List ℕ) → OneAnswer (λ (r : LineGiven). Lined out line (r .size) (r .out))
+line-unique out line = determined-by (λ r h. h)
