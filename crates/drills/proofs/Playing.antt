@@ -45,7 +45,7 @@ AllFit channels [] = Unit {0}
 AllFit channels (p ∷ ps) = Fits channels p × AllFit channels ps
 
 module _ (cues : List Cue) (order : ℕ) where
-  left-fits : (c : Script.Call) (f : ℕ) → Script.refusalAt cues order c f ≡ 0 → Fits (channelsOfOrder order) (outputs cues order c f)
+  left-fits : (c : Script.RenderCall) (f : ℕ) → Script.refusalAt cues order c f ≡ 0 → Fits (channelsOfOrder order) (outputs cues order c f)
   left-fits c f z =
       let s = Script.stretchOf cues order c f in
       let played = playedOf s cues (c .input) in (
@@ -53,12 +53,12 @@ module _ (cues : List Cue) (order : ℕ) where
         ap (λ (b : Block). length (b .out)) (block-accepted answerOf (c .frames) (c .stride) played (c .out) (Script.refusalAt cues order c f) z) ∙ length-with-frames (c .out) (c .stride) 0 played ∙ long s cues (c .input) (c .out) z,
       )
 
-  one-fits : (c : Script.Call) (f n : ℕ) → Script.refusalAt cues order c f ≡ n → (ps : List Planes) → AllFit (channelsOfOrder order) ps
+  one-fits : (c : Script.RenderCall) (f n : ℕ) → Script.refusalAt cues order c f ≡ n → (ps : List Planes) → AllFit (channelsOfOrder order) ps
       → AllFit (channelsOfOrder order) (passing (Script.refusalAt cues order c f) (outputs cues order c f) ++ ps)
   one-fits c f zero e ps h = subst (λ (m : ℕ). AllFit (channelsOfOrder order) (passing m (outputs cues order c f) ++ ps)) (sym e) (left-fits c f e, h)
   one-fits c f (suc n) e ps h = subst (λ (m : ℕ). AllFit (channelsOfOrder order) (passing m (outputs cues order c f) ++ ps)) (sym e) h
 
-  all-fit : (f : ℕ) (cs : List Script.Call) → AllFit (channelsOfOrder order) (leaves cues order f cs)
+  all-fit : (f : ℕ) (cs : List Script.RenderCall) → AllFit (channelsOfOrder order) (leaves cues order f cs)
   all-fit f [] = tt
   all-fit f (c ∷ cs) = one-fits c f (Script.refusalAt cues order c f) refl (leaves cues order (Script.next cues order c f) cs) (all-fit (Script.next cues order c f) cs)
 

@@ -25,7 +25,7 @@ use Rattle.history.specs.History.{unsettled, unsettledIn}
 use Rattle.wire.specs.Records.{wholeIn, restIn}
 use Rattle.wire.specs.Frames.{frameOf, lineFrames}
 use Rattle.ears_file.specs.declared.Ended.{Ended}
-use Rattle.ears_file.specs.declared.Outcome.{Outcome}
+use Rattle.ears_file.specs.declared.RunOutcome.{RunOutcome}
 use Rattle.wire.specs.Counting.{countedOn}
 use Rattle.wire.specs.Line.{refusedWord, refusedLine, refusedAtLine}
 use Rattle.wire.proofs.Drill.{refused-fourteen}
@@ -47,7 +47,7 @@ unsettled-few u go past [] = omega arith
 unsettled-few u go past (f ∷ fs) =
     omega (arith, one-at-most (unsettled u go (signals u f ∷ past)), unsettled-few u go (signals u f ∷ past) fs)
 
-module _ (r : Outcome) (a : Answers r) where
+module _ (r : RunOutcome) (a : Answers r) where
   -- a run is played, or its line ends inside a frame, or its bank is refused
   played : Ended
   played =
@@ -110,7 +110,7 @@ module _ (r : Outcome) (a : Answers r) where
 
 -- ---- what is told
 
-module _ (r : Outcome) (out : List ℕ) (size : ℕ) (after : List ℕ) (lined : Lined out (toldBy r) size after) where
+module _ (r : RunOutcome) (out : List ℕ) (size : ℕ) (after : List ℕ) (lined : Lined out (toldBy r) size after) where
   -- a line for a run that failed
   failed-run-has-a-line : r .failed ≡ true → (size ≡ 0 → ⊥) → ⊥
   failed-run-has-a-line f some = some (ap (λ (g : LineGiven). g .size) (lined ∙ ap (lineGiven out) (stops _ _ f) ∙ line-empty out))

@@ -28,7 +28,7 @@ use Rattle.bank.specs.Reading.{bankFound}
 use Rattle.runs.specs.NeverRefused.{StateFits}
 use Rattle.runs.proofs.NeverRefused.{few-rows, short-filters, good-bank-set-up, set-up-accepted}
 use Rattle.ears_file.specs.declared.Ended.{Ended}
-use Rattle.ears_file.specs.declared.Outcome.{Outcome}
+use Rattle.ears_file.specs.declared.RunOutcome.{RunOutcome}
 use Rattle.ears_file.specs.Lines.{arranged, setupWith, partFrame, refusedBank, endsAs, itemTen}
 use Rattle.files.specs.Promises.{Found}
 use Rattle.ears_file.specs.Promise.{Ends, Answers}
@@ -47,10 +47,10 @@ module _ (xs : List Float) (o : ReadOutcome) (f : Found zeros zeros xs o) where
   lists most = record { azimuths = refl; elevations = refl; taps = most }
 
   -- a bank that breaks the form
-  pub bank-refused : length xs ≡ 8192 → (o .answer .refusal ≡ 0 → ⊥) → (e : Ended) (r : Outcome) → e ≡ refusedBank (record { refusal = o .answer .refusal; offset = o .answer .offset })
+  pub bank-refused : length xs ≡ 8192 → (o .answer .refusal ≡ 0 → ⊥) → (e : Ended) (r : RunOutcome) → e ≡ refusedBank (record { refusal = o .answer .refusal; offset = o .answer .offset })
       → r ≡ record { failed = false; ended = e } → Answers r
   bank-refused most bad e r refused is =
-      subst Answers (sym (is ∙ ap {B = Outcome} (λ (q : Ended). record { failed = false; ended = q }) (refused ∙ told)))
+      subst Answers (sym (is ∙ ap {B = RunOutcome} (λ (q : Ended). record { failed = false; ended = q }) (refused ∙ told)))
       (record { bank = f .file; ends = record { line = []; bits = sym (answered-refused _ _ (fault (f .file) .refusal) bad-file) } })
     where
       -- one that is a file would have been accepted
@@ -86,7 +86,7 @@ module _ (xs : List Float) (o : ReadOutcome) (f : Found zeros zeros xs o) where
     taps-are = ap (λ (q : Bank). q .taps) bank-is
 
     -- so a run that ends as some line does with it answers as item 10 does
-    pub bank-answers : (r : Outcome) → Ends (endsAs (setupWith (bankFound o))) r → Answers r
+    pub bank-answers : (r : RunOutcome) → Ends (endsAs (setupWith (bankFound o))) r → Answers r
     unfolding b
     bank-answers r e =
         let end : endsAs (setupWith (bankFound o)) (e .line) ≡ itemTen (f .file) (e .line) =
@@ -159,5 +159,5 @@ module _ (xs : List Float) (o : ReadOutcome) (f : Found zeros zeros xs o) where
           ∙ ap (setupOf (shapeOf (arranged b) (readBank b zeros zeros xs)) (arranged b .weights) (arranged b .rows)) taps-are
           ∙ sym (ap setupWith bank-is)
 
-      pub played-ends : (r : Outcome) → Ends (endsAs (setupOf (shapeOf a o) (a .weights) (a .rows) (bankFound o .taps))) r → Ends (endsAs (setupWith (bankFound o))) r
+      pub played-ends : (r : RunOutcome) → Ends (endsAs (setupOf (shapeOf a o) (a .weights) (a .rows) (bankFound o .taps))) r → Ends (endsAs (setupWith (bankFound o))) r
       played-ends r e = subst (λ (u : Setup). Ends (endsAs u) r) set-up e

@@ -22,7 +22,7 @@ use Rattle.rings.proofs.Blocks.{rings-room, waits-few}
 use Rattle.hrtf_checks.specs.declared.Shape.{Shape}
 use Rattle.hrtf_checks.specs.Call.{Call, setupOf}
 use Rattle.hrtf_checks.specs.Refusals.{refusalOf}
-use Rattle.hrtf.specs.Promise.{Outcome, Processes, stateAfter}
+use Rattle.hrtf.specs.Promise.{BlockOutcome, Processes, stateAfter}
 use Rattle.hrtf.proofs.Promised.{ears-over, unsettled-over}
 use Rattle.runs.specs.NeverRefused.{StateFits}
 use Rattle.wire.specs.Records.{wholeIn, restIn}
@@ -61,7 +61,7 @@ module _ (h : Shape) (weights : List Float) (rows : List ℕ) (taps : List Float
     (sized : (p .held < size) × (size ≤ 24576) × (size ≤ length bytes))
     (inputs-long : length inputs ≡ 6144) (ears-long : length ears ≡ 2048) (out-long : length out ≡ 8192)
     (took : Taken) (inputs₁ : List Float) (taken : record { answer = took; inputs = inputs₁ } ≡ framesTaken (take size bytes) 1024 inputs)
-    (o : Outcome) (processes : Processes (block h weights rows taps (took .frames) inputs₁ ears) (record { rings = rings; desk = p .desk }) o)
+    (o : BlockOutcome) (processes : Processes (block h weights rows taps (took .frames) inputs₁ ears) (record { rings = rings; desk = p .desk }) o)
     (ears-kept : length (o .ears) ≡ length ears) (gave : Given) (out₁ : List ℕ) (given : record { answer = gave; out = out₁ } ≡ earsGiven (o .ears) 1024 (took .frames) out) where
   abbrev u : Setup
   u = setupOf h weights rows taps

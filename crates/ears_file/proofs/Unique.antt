@@ -5,14 +5,14 @@ use Prim.Native.Nat.{ℕ}
 use Rattle.refusals.specs.OneAnswer.{OneAnswer}
 use Rattle.wire.specs.Promises.{LineGiven, Lined}
 use Rattle.wire.proofs.Unique.{line-unique}
-use Rattle.ears_file.specs.declared.Outcome.{Outcome}
+use Rattle.ears_file.specs.declared.RunOutcome.{RunOutcome}
 use Rattle.ears_file.specs.Lines.{toldBy}
 use Rattle.ears_file.specs.Promise.{Answers}
 
-told-unique : (run : Outcome) (out : List ℕ) → OneAnswer (λ (r : LineGiven). Lined out (toldBy run) (r .size) (r .out))
+told-unique : (run : RunOutcome) (out : List ℕ) → OneAnswer (λ (r : LineGiven). Lined out (toldBy run) (r .size) (r .out))
 told-unique run out = line-unique out (toldBy run)
 
-run-unique : (a b : Outcome) (p : Answers a) (q : Answers b) → p .bank ≡ q .bank → p .ends .line ≡ q .ends .line → a .failed ≡ b .failed → a ≡ b
+run-unique : (a b : RunOutcome) (p : Answers a) (q : Answers b) → p .bank ≡ q .bank → p .ends .line ≡ q .ends .line → a .failed ≡ b .failed → a ≡ b
 run-unique a b p q bank line failed =
     let same : a .ended ≡ b .ended = p .ends .bits ∙ cc (bank, line, failed) ∙ sym (q .ends .bits) in
     λ i. record { failed = failed i; ended = same i }

@@ -22,7 +22,7 @@ use Rattle.wire.specs.Records.{wholeIn, restIn}
 use Rattle.wire.specs.Frames.{lineFrames}
 use Rattle.wire.specs.Line.{framesLine, refusedLine, refusedAtLine}
 use Rattle.ears_file.specs.declared.Ended.{Ended}
-use Rattle.ears_file.specs.declared.Outcome.{Outcome}
+use Rattle.ears_file.specs.declared.RunOutcome.{RunOutcome}
 use Rattle.wire.specs.Counting.{countedOn}
 
 -- what a bank is read into: lists of eight zeros
@@ -67,5 +67,5 @@ abbrev pub refusalLine : Ended → ℕ → List ℕ
 refusalLine e n = cond (eqb n 9) (refusedLine n) (refusedAtLine n (e .place))
 
 -- the line that a run is told by: none for one that failed
-abbrev pub toldBy : Outcome → List ℕ
+abbrev pub toldBy : RunOutcome → List ℕ
 toldBy r = cond (r .failed) [] (answered (r .ended .refusal) (framesLine (r .ended .frames) (r .ended .unsettled)) (refusalLine (r .ended)))

@@ -39,7 +39,7 @@ use Rattle.hrtf_checks.specs.Call.{Call, setup, framesIn}
 use Rattle.hrtf_checks.specs.Refusals.{misshapen, misfit, astray, refusalOf}
 use Rattle.hrtf_checks.proofs.Refusing.{lengths-fit, on-desk, accept}
 use Rattle.hrtf.specs.Promise.{stateAfter}
-use Rattle.hrtf.specs.Reset.{resetRefusal, AfterReset, Resets}
+use Rattle.hrtf.specs.Reset.{resetRefusal, ResetOutcome, Resets}
 use Rattle.hrtf.proofs.Promised.{outcome-computed, reset-accepts, reset-number}
 use Rattle.hrtf_setup.specs.Arrangement.{Wanted, Arrangement, arrangedBy, arrangement}
 use Rattle.hrtf_setup.specs.Arrangement as Arranging
@@ -153,7 +153,7 @@ some-block b o n =
 -- ---- a reset
 
 -- what is left fits
-pub reset-fits : (d : Desk) (speakers L : ℕ) (rings : List Float) (a : AfterReset) → Resets d speakers L rings a → a .answer .refusal ≡ 0
+pub reset-fits : (d : Desk) (speakers L : ℕ) (rings : List Float) (a : ResetOutcome) → Resets d speakers L rings a → a .answer .refusal ≡ 0
     → StateFits speakers L (record { rings = a .rings; desk = a .answer .desk })
 reset-fits d speakers L rings a r e =
     let u : Setup = record { channels = 0; speakers = speakers; L = L; weights = []; taps = []; rows = [] } in
@@ -203,7 +203,7 @@ module _ (file : List ℕ) (zs es : List ℤ) (xs : List Float) (r : ReadOutcome
 
   -- and then no call is refused
   module _ (weights : List Float) (given : List ℕ) (o : Arrangement) (eight : length given ≡ 8) (e : o .answer .refusal ≡ 0)
-      (d : Desk) (rings : List Float) (a : AfterReset) (rested : Resets d (o .answer .speakers) (r .answer .length) rings a) (z : a .answer .refusal ≡ 0)
+      (d : Desk) (rings : List Float) (a : ResetOutcome) (rested : Resets d (o .answer .speakers) (r .answer .length) rings a) (z : a .answer .refusal ≡ 0)
       (cs : List Call) (fs : AllFitted (bankFound r) o cs) where
     plays : Playable (r .answer .rows) o → NoneRefused (record { rings = a .rings; desk = a .answer .desk }) cs
     plays p = never-refused (bankFound r) keeps-form o (subst (λ (n : ℕ). Playable n o) rows-are p) cs fs (record { rings = a .rings; desk = a .answer .desk }) (reset-fits d (o .answer .speakers) (r .answer .length) rings a rested z)

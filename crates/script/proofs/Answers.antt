@@ -32,7 +32,7 @@ use Rattle.cues.specs.Cues.{numbersOf, refusedOf, rises, voiceAt}
 use Rattle.script.specs.Rendering.{Stretch, runsPast, mostCues, checksOf, refusalOf, spoken, rendered, samplesOf, playedOf}
 use Rattle.script.specs.Promise.{answerOf, block, AllPromised, Renders}
 use Rattle.cues.specs.Promise.{judgementOf}
-use Rattle.script.specs.Steps.{refusalBy, answerBy}
+use Rattle.script.specs.Computed.{refusalBy, answerBy}
 
 -- ---- the tests
 pub past-is : (first frames : ℕ) → first < 2 ^ 64 → (frames ≡ 0 → ⊥) → ltb (18446744073709551615 - first) (frames - 1) ≡ ltb (2 ^ 64) (first + frames)
