@@ -25,7 +25,7 @@ use Rattle.hrtf_setup.specs.Arrangement.{Arrangement, arrangedBy, arrangement}
 use Rattle.hrtf_setup.specs.Promise.{ofLayout, NewSurround}
 use Rattle.hrtf_setup.proofs.Accepted.{Playable, surround-playable}
 use Rattle.bank.specs.Reading.{bankFound}
-use Rattle.runs.specs.NeverRefused.{StateFits}
+use Rattle.rings.specs.State.{StateFits}
 use Rattle.runs.proofs.NeverRefused.{few-rows, short-filters, good-bank-set-up, set-up-accepted}
 use Rattle.ears_file.specs.declared.Ended.{Ended}
 use Rattle.ears_file.specs.declared.RunOutcome.{RunOutcome}

@@ -16,7 +16,7 @@ use Rattle.planes.proofs.Planes.{length-with-frames, frames-read}
 use Rattle.history.specs.Setup.{Setup}
 use Rattle.history.specs.History.{heard, unsettledIn, after}
 use Rattle.history.proofs.Pieces.{length-heard, two-each}
-use Rattle.rings.specs.State.{State}
+use Rattle.rings.specs.State.{State, StateFits}
 use Rattle.rings.specs.Held.{Represents}
 use Rattle.rings.proofs.Blocks.{rings-room, waits-few}
 use Rattle.hrtf_checks.specs.declared.Shape.{Shape}
@@ -24,7 +24,6 @@ use Rattle.hrtf_checks.specs.Call.{Call, setupOf}
 use Rattle.hrtf_checks.specs.Refusals.{refusalOf}
 use Rattle.hrtf.specs.Promise.{BlockOutcome, Processes, stateAfter}
 use Rattle.hrtf.proofs.Promised.{ears-over, unsettled-over}
-use Rattle.runs.specs.NeverRefused.{StateFits}
 use Rattle.wire.specs.Records.{wholeIn, restIn}
 use Rattle.wire.specs.Frames.{frameOf, lineFrames}
 use Rattle.wire.specs.Ears.{earBytes}

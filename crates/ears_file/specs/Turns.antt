@@ -9,11 +9,10 @@ use Rattle.refusals.specs.Refusals.{answered}
 use Rattle.desk.specs.Numbers.{zeroed}
 use Rattle.history.specs.Setup.{Setup}
 use Rattle.history.specs.History.{unsettledIn, after}
-use Rattle.rings.specs.State.{State}
+use Rattle.rings.specs.State.{State, StateFits}
 use Rattle.rings.specs.Held.{Represents}
 use Rattle.hrtf_checks.specs.declared.Shape.{Shape}
 use Rattle.hrtf_checks.specs.Refusals.{refusalOf}
-use Rattle.runs.specs.NeverRefused.{StateFits}
 use Rattle.wire.specs.Records.{wholeIn, restIn}
 use Rattle.wire.specs.Frames.{lineFrames}
 use Rattle.ears_file.specs.declared.Ended.{Ended}

@@ -46,7 +46,7 @@ module _ {l : Line} (good : Good l) {t : State} {count : ℕ} {block own : List 
             lengths-fit (l .shape) _ _ _ _ _ _ _ few (kept .blocked) (kept .eared) (kept .state .ringed) (good .weighted) (good .tapped),
             (
               good .sound,
-              (on-desk (t .desk) (l .shape .length) (kept .state .position) (kept .state .waits), tt),
+              (on-desk (t .desk) (l .shape .length) (kept .state .within) (kept .state .waits), tt),
             ),
           ),
         ),
@@ -73,7 +73,7 @@ module _ {l : Line} (good : Good l) {t : State} {count : ℕ} {block own : List 
         ap (λ (a : BlockOutcome). framesOf (a .ears) 64 2 count) (p .bits ∙ outcome-by (blockCall l count block own) t 0 block-accepted)
         ∙ ap (framesOf (withFrames own 64 0 (heard (setupIn l) past fs)) 64 2) (sym long)
         ∙ frames-read 2 own 64 (heard (setupIn l) past fs) (omega (arith, long, few)) (kept .eared) (two-each (setupIn l) past fs)
-        ∙ sym (played-held (setupIn l) t fs (kept .state .ringed) (kept .state .position))
+        ∙ sym (played-held (setupIn l) t fs (kept .state .ringed) (kept .state .within))
 
 -- ---- a reset
 

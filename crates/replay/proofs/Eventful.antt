@@ -112,15 +112,15 @@ length-feeds (s ∷ ss) (f ∷ fs) e = omega (arith, length-feeds ss fs (omega (
 
 module _ (l : Line) where
   rested-stands : (t : State) → 0 < l .shape .length → StateReady l t → StateReady l (rested t)
-  rested-stands t h p = record { ringed = length-replicate (length (t .rings)) zero-float ∙ p .ringed; position = h; waits = h }
+  rested-stands t h p = record { ringed = length-replicate (length (t .rings)) zero-float ∙ p .ringed; within = h; waits = h }
 
   stepped-stands : (t : State) (f : List Float) → StateReady l t → StateReady l (stepped (setupIn l) t f)
   stepped-stands t f p =
       let u = setupIn l in
       record {
         ringed = length-stored u t f ∙ p .ringed;
-        position = position-below (l .shape .length) (damaged u f) (t .desk) (p .position);
-        waits = waits-below (l .shape .length) (damaged u f) (t .desk) (p .position) (p .waits);
+        within = position-below (l .shape .length) (damaged u f) (t .desk) (p .within);
+        waits = waits-below (l .shape .length) (damaged u f) (t .desk) (p .within) (p .waits);
       }
 
   pub left-stands : (t : State) (fs : List (List Float)) → StateReady l t → StateReady l (left (setupIn l) t fs)

@@ -136,7 +136,7 @@ module _ (l : Line) (x : Expected) (t : State) (ears : ℕ) where
         let d = or-off (leb (l .shape .length) (t .desk .position)) _ (off .1 .1 .1 .1 .0) in
         record {
           ringed = is-equal (length (t .rings)) (l .shape .speakers * l .shape .length) (or-off (not (eqb (length (t .rings)) (l .shape .speakers * l .shape .length))) _ lists .0);
-          position = leb-false (l .shape .length) (t .desk .position) (d .0);
+          within = leb-false (l .shape .length) (t .desk .position) (d .0);
           waits = leb-false (l .shape .length) (t .desk .«to_go») (d .1);
         }
 

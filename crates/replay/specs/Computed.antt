@@ -11,7 +11,7 @@ use Rattle.checks.specs.Finite.{unsound}
 use Rattle.checks.specs.Lengths.{blockUnfit}
 use Rattle.desk.specs.declared.Desk.{Desk}
 use Rattle.history.specs.Setup.{Setup}
-use Rattle.rings.specs.State.{State}
+use Rattle.rings.specs.State.{State, StateFits}
 use Rattle.rings.specs.Computed.{ears, late, stepped}
 use Rattle.hrtf_checks.specs.declared.Shape.{Shape}
 use Rattle.hrtf_checks.specs.Refusals.{misshapen}
@@ -63,10 +63,8 @@ pub record Good (l : Line) : Type 0 where
   pub stamped : l .frames ≤ length (l .stamps)
 
 -- of the state, and of the block and its ears
-pub record StateReady (l : Line) (t : State) : Type 0 where
-  pub ringed : length (t .rings) ≡ l .shape .speakers * l .shape .length
-  pub position : t .desk .position < l .shape .length
-  pub waits : t .desk .«to_go» < l .shape .length
+abbrev pub StateReady : Line → State → Type 0
+StateReady l t = StateFits (l .shape .speakers) (l .shape .length) t
 
 pub record Kept (l : Line) (t : State) (block own : List Float) : Type 0 where
   pub state : StateReady l t

@@ -30,7 +30,7 @@ use Rattle.desk.specs.declared.Desk.{Desk}
 use Rattle.desk.proofs.Going.{position-below, waits-below}
 use Rattle.history.specs.Setup.{Setup}
 use Rattle.history.specs.Signals.{damaged}
-use Rattle.rings.specs.State.{State}
+use Rattle.rings.specs.State.{State, StateFits}
 use Rattle.rings.specs.Computed.{stepped, left}
 use Rattle.rings.proofs.Told.{length-stored}
 use Rattle.rings.proofs.Blocks.{rings-room, waits-few}
@@ -46,7 +46,7 @@ use Rattle.hrtf_setup.specs.Arrangement as Arranging
 use Rattle.hrtf_setup.specs.Promise.{Arranges, NewSurround, NewAmbisonic}
 use Rattle.hrtf_setup.proofs.Accepted.{Playable, set-up, surround-playable, ambisonic-playable}
 use Rattle.runs.specs.Runs.{next}
-use Rattle.runs.specs.NeverRefused.{Fitted, AllFitted, StateFits, NoneRefused, NeverRefused}
+use Rattle.runs.specs.NeverRefused.{Fitted, AllFitted, NoneRefused, NeverRefused}
 
 -- ---- a bank that keeps the form
 

@@ -34,12 +34,6 @@ abbrev pub AllFitted : Form.Bank → Arrangement → List Call → Type 0
 AllFitted b o [] = Unit {0}
 AllFitted b o (c ∷ cs) = Fitted b o c × AllFitted b o cs
 
--- rings of the cells that so many speakers need, and a desk whose numbers are below L: as a reset leaves them, and every block
-pub record StateFits (speakers L : ℕ) (t : State) : Type 0 where
-  pub ringed : length (t .rings) ≡ speakers * L
-  pub within : t .desk .position < L
-  pub waits : t .desk .«to_go» < L
-
 -- every call of a run is accepted
 abbrev pub NoneRefused : State → List Call → Type 0
 NoneRefused t [] = Unit {0}

@@ -83,6 +83,7 @@ module _ (ears : List Float) (stride frames : ℕ) (out : List ℕ) where
 
 module _ (out line : List ℕ) where
   line-by : (b : Bool) → ltb (length out) 64 ≡ b → lineGiven out line ≡ lineBy (firstOf (5 when b ∷ [])) out line
+  unfolding lineGiven
   line-by b e = ap (λ (t : Bool). lineBy (firstOf (5 when t ∷ [])) out line) e
 
   pub line-refused : length out < 64 → lineGiven out line ≡ record { size = 0; out = out }

@@ -71,7 +71,7 @@ lineRefusal out = firstOf (5 when ltb (length out) 64 ∷ [])
 abbrev pub lineBy : ℕ → List ℕ → List ℕ → LineGiven
 lineBy number out line = answered number (record { size = length line; out = placed out 0 line }) (λ k. record { size = 0; out = out })
 
-abbrev pub lineGiven : List ℕ → List ℕ → LineGiven
+unfoldable pub lineGiven : List ℕ → List ℕ → LineGiven
 lineGiven out line = lineBy (lineRefusal out) out line
 
 abbrev pub Lined : List ℕ → List ℕ → ℕ → List ℕ → Type 0
