@@ -160,8 +160,8 @@ module _ (zs es : List ℤ) (xs : List Float) where
 
   pub reads-start : (start : List ℕ) (size : ℕ) (o : ReadOutcome) → o ≡ startOutcome start size zs es xs → ReadsStart start size zs es xs o
   reads-start start size o e = record {
-    outcome = e;
-    each = λ file bytes enough kept. record { outcome = e ∙ start-reads start size file enough kept; exactly = exactly file bytes };
+    bits = e;
+    words = λ file bytes enough kept. record { bits = e ∙ start-reads start size file enough kept; words = exactly file bytes };
   }
 
 module _ (file : List ℕ) (zs es : List ℤ) (xs : List Float) where

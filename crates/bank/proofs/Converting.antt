@@ -112,11 +112,13 @@ holds-2 b = record { known = refl; flat = λ e. absurd (omega (arith, e)) }
 
 pub converts-2 : (file out : List ℕ) (o : WriteOutcome) → AreBytes file → Converts 1 2 file out o → ToVersion2 file out o
 converts-2 file out o bytes made = record {
-  outcome = made;
-  turned = λ e.
-      let t = turned-is 1 2 file out bytes o made e in
-      (t .0, record { holds = holds-2 (bankIn file); keeps = t .0 .keeps; bytes = ap (λ (w : WriteOutcome). w .file) (sym (t .2)) }, t .3);
-  accepted = λ b f long. is-turned 1 2 file out bytes o made b f refl long;
+  bits = made;
+  words = record {
+    turned = λ e.
+        let t = turned-is 1 2 file out bytes o made e in
+        (t .0, record { holds = holds-2 (bankIn file); keeps = t .0 .keeps; bytes = ap (λ (w : WriteOutcome). w .file) (sym (t .2)) }, t .3);
+    accepted = λ b f long. is-turned 1 2 file out bytes o made b f refl long;
+  };
 }
 
 -- no elevations are told exactly of a level bank
@@ -128,12 +130,14 @@ none-if b e = eqb-true (raised 1 b .refusal) 0 (raised-exactly b ∙ e)
 
 pub converts-1 : (file out : List ℕ) (o : WriteOutcome) → AreBytes file → Converts 2 1 file out o → ToVersion1 file out o
 converts-1 file out o bytes made = record {
-  outcome = made;
-  turned = λ e.
-      let t = turned-is 2 1 file out bytes o made e in
-      let flat = level-if (bankIn file) (t .1) in
-      (flat, t .0, record { holds = record { known = refl; flat = λ one. flat }; keeps = t .0 .keeps; bytes = ap (λ (w : WriteOutcome). w .file) (sym (t .2)) }, t .3);
-  accepted = λ b f flat long. is-turned 2 1 file out bytes o made b f (none-if b flat) long;
+  bits = made;
+  words = record {
+    turned = λ e.
+        let t = turned-is 2 1 file out bytes o made e in
+        let flat = level-if (bankIn file) (t .1) in
+        (flat, t .0, record { holds = record { known = refl; flat = λ one. flat }; keeps = t .0 .keeps; bytes = ap (λ (w : WriteOutcome). w .file) (sym (t .2)) }, t .3);
+    accepted = λ b f flat long. is-turned 2 1 file out bytes o made b f (none-if b flat) long;
+  };
 }
 
 -- ---- what is told in every output

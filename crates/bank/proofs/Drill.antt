@@ -59,11 +59,11 @@ drill-written buffer w h r =
     is-written oneRow buffer w r bank-keeps (h ∙ sym (ap length bank-bytes-2)) ∙ written-2
 
 pub drill-forward : (out : List ℕ) (w : WriteOutcome) → length out ≡ 21 → ToVersion2 oneRowBytes out w → w ≡ record { answer = record { refusal = 0; offset = 0; bytes = 21 }; file = oneRowBytes2 }
-drill-forward out w h t = t .accepted oneRow file-1 (h ∙ sym (ap length bank-bytes-2)) ∙ written-2
+drill-forward out w h t = t .words .accepted oneRow file-1 (h ∙ sym (ap length bank-bytes-2)) ∙ written-2
 
 pub drill-back : (out : List ℕ) (w : WriteOutcome) → length out ≡ 19 → ToVersion1 oneRowBytes2 out w → w ≡ record { answer = record { refusal = 0; offset = 0; bytes = 19 }; file = oneRowBytes }
 drill-back out w h t =
-    t .accepted oneRow file-2 bank-level (h ∙ sym (ap length bank-bytes)) ∙ (λ i. record { answer = record { refusal = 0; offset = 0; bytes = length (bank-bytes i) }; file = bank-bytes i })
+    t .words .accepted oneRow file-2 bank-level (h ∙ sym (ap length bank-bytes)) ∙ (λ i. record { answer = record { refusal = 0; offset = 0; bytes = length (bank-bytes i) }; file = bank-bytes i })
 
 module _ (zs es : List ℤ) (xs : List Float) (lists : Lists zs es xs) (o : ReadOutcome) where
   pub drill-read : Reads oneRowBytes zs es xs o → o ≡ readBank oneRow zs es xs
@@ -73,4 +73,4 @@ module _ (zs es : List ℤ) (xs : List Float) (lists : Lists zs es xs) (o : Read
   drill-read-2 r = is-accepted oneRowBytes2 zs es xs o r lists 2 oneRow file-2
 
   pub drill-cut : Reads (take 18 oneRowBytes) zs es xs o → o ≡ readRefused (wrong 14 1) zs es xs
-  drill-cut r = r .outcome ∙ sym (read-bad zs es xs (take 18 oneRowBytes) lists (wrong 14 1) bank-cut (λ z. omega (arith, z)))
+  drill-cut r = r .bits ∙ sym (read-bad zs es xs (take 18 oneRowBytes) lists (wrong 14 1) bank-cut (λ z. omega (arith, z)))

@@ -40,15 +40,15 @@ module _ (file : List ℕ) (zs es : List ℤ) (xs : List Float) where
   -- what is accepted is a bank file, and its bank is filled in
   pub accepted-is : (o : ReadOutcome) → Reads file zs es xs o → o .answer .refusal ≡ 0 → IsFile (versionIn file) file (bankIn file) × (o ≡ readBank (bankIn file) zs es xs)
   accepted-is o r e =
-      let a = accepted-parts (ap (λ (y : ReadOutcome). y .answer .refusal) (sym (r .outcome)) ∙ e) in
+      let a = accepted-parts (ap (λ (y : ReadOutcome). y .answer .refusal) (sym (r .bits)) ∙ e) in
       let good = is-file file (a .none) in
-      (r .exactly .sound good, r .outcome ∙ sym (read-good zs es xs file (a .lists) good))
+      (r .words .sound good, r .bits ∙ sym (read-good zs es xs file (a .lists) good))
 
   -- and each bank file is accepted by lists of the lengths asked for
   pub is-accepted : (o : ReadOutcome) → Reads file zs es xs o → Lists zs es xs → (v : ℕ) (b : Bank) → IsFile v file b → o ≡ readBank b zs es xs
   is-accepted o r l v b f =
-      let c = r .exactly .complete v b f in
-      r .outcome ∙ sym (read-good zs es xs file l (c .0)) ∙ ap (λ (y : Bank). readBank y zs es xs) (c .2)
+      let c = r .words .complete v b f in
+      r .bits ∙ sym (read-good zs es xs file l (c .0)) ∙ ap (λ (y : Bank). readBank y zs es xs) (c .2)
 
 -- ---- writing
 
@@ -112,7 +112,7 @@ module _ (file : List ℕ) (zs es : List ℤ) (xs : List Float) (o : ReadOutcome
   pub write-of-version-1 : (out : List ℕ) (t : WriteOutcome) → ToVersion2 file out t → t .answer .refusal ≡ 0 → (buffer : List ℕ) (w : WriteOutcome) → length buffer ≡ length (t .file)
       → Writes (bankFound o) buffer w → w .file ≡ t .file
   write-of-version-1 out t turns g buffer w h f =
-      let bytes = turns .turned g .1 .bytes in
+      let bytes = turns .words .turned g .1 .bytes in
       ap (λ (y : WriteOutcome). y .file) (write-of-read buffer w (h ∙ ap length (sym bytes)) f) ∙ bytes
 
 -- an output that holds a file, and how many bytes that has
@@ -123,11 +123,11 @@ handed file = record { answer = record { refusal = 0; offset = 0; bytes = length
 pub back-of-forward : (file out : List ℕ) (t : WriteOutcome) → ToVersion2 file out t → t .answer .refusal ≡ 0 → (back : List ℕ) (u : WriteOutcome) → length back ≡ length file
     → ToVersion1 (t .file) back u → u ≡ handed file
 back-of-forward file out t forward e back u h turns =
-    let f = forward .turned e in
-    turns .accepted (bankIn file) (f .1) (f .0 .holds .flat refl) (h ∙ ap length (sym (f .0 .bytes))) ∙ ap handed (f .0 .bytes)
+    let f = forward .words .turned e in
+    turns .words .accepted (bankIn file) (f .1) (f .0 .holds .flat refl) (h ∙ ap length (sym (f .0 .bytes))) ∙ ap handed (f .0 .bytes)
 
 pub forward-of-back : (file out : List ℕ) (t : WriteOutcome) → ToVersion1 file out t → t .answer .refusal ≡ 0 → (forth : List ℕ) (u : WriteOutcome) → length forth ≡ length file
     → ToVersion2 (t .file) forth u → u ≡ handed file
 forward-of-back file out t back e forth u h turns =
-    let f = back .turned e in
-    turns .accepted (bankIn file) (f .2) (h ∙ ap length (sym (f .1 .bytes))) ∙ ap handed (f .1 .bytes)
+    let f = back .words .turned e in
+    turns .words .accepted (bankIn file) (f .2) (h ∙ ap length (sym (f .1 .bytes))) ∙ ap handed (f .1 .bytes)

@@ -90,12 +90,12 @@ cut-told-otherwise n at other xs h r =
 -- lists of other lengths are accepted
 other-lists-read : (file : List ℕ) (zs es : List ℤ) (xs : List Float) (o : ReadOutcome) → Reads file zs es xs o
     → (Lists zs es xs → ⊥) → o .answer .refusal ≡ 0 → ⊥
-other-lists-read file zs es xs o r other e = other (accepted-parts file zs es xs (ap (λ (q : ReadOutcome). q .answer .refusal) (sym (r .outcome)) ∙ e) .lists)
+other-lists-read file zs es xs o r other e = other (accepted-parts file zs es xs (ap (λ (q : ReadOutcome). q .answer .refusal) (sym (r .bits)) ∙ e) .lists)
 
 -- a start that is too short is accepted, zeros read for the bytes that it lacks
 short-start-read : (xs : List Float) → length xs ≡ 8192 → (o : ReadOutcome) → ReadsStart (take 9 oneRowBytes) 19 sevens sevens xs o → o .answer .refusal ≡ 0 → ⊥
 short-start-read xs h o r e =
-    let five = r .outcome ∙ sym (start-lent sevens sevens xs (take 9 oneRowBytes) 19 (lists-fit sevens sevens xs (full xs h)) refl) in
+    let five = r .bits ∙ sym (start-lent sevens sevens xs (take 9 oneRowBytes) 19 (lists-fit sevens sevens xs (full xs h)) refl) in
     let z : _≡_ {A = ℕ} 0 5 = sym e ∙ ap (λ (q : ReadOutcome). q .answer .refusal) five in
     omega arith
 
@@ -150,28 +150,28 @@ back-refuses-always out w h t refuses = refuses (ap (λ (q : WriteOutcome). q .a
 
 -- a file with elevations is turned back, these being dropped
 elevations-dropped : (file out : List ℕ) (w : WriteOutcome) → ToVersion1 file out w → level (bankIn file) ≡ false → w .answer .refusal ≡ 0 → ⊥
-elevations-dropped file out w t raised e = true≢false (sym (t .turned e .0) ∙ raised)
+elevations-dropped file out w t raised e = true≢false (sym (t .words .turned e .0) ∙ raised)
 
 -- a file that is in the new version already is taken
 version-2-taken : (file out : List ℕ) (w : WriteOutcome) → ToVersion2 file out w → versionIn file ≡ 2 → w .answer .refusal ≡ 0 → ⊥
 version-2-taken file out w t two e =
-    let z : _≡_ {A = ℕ} 2 1 = sym two ∙ version-of 1 file (bankIn file) (t .turned e .0) in
+    let z : _≡_ {A = ℕ} 2 1 = sym two ∙ version-of 1 file (bankIn file) (t .words .turned e .0) in
     omega arith
 
 version-1-taken : (file out : List ℕ) (w : WriteOutcome) → ToVersion1 file out w → versionIn file ≡ 1 → w .answer .refusal ≡ 0 → ⊥
 version-1-taken file out w t one e =
-    let z : _≡_ {A = ℕ} 1 2 = sym one ∙ version-of 2 file (bankIn file) (t .turned e .1) in
+    let z : _≡_ {A = ℕ} 1 2 = sym one ∙ version-of 2 file (bankIn file) (t .words .turned e .1) in
     omega arith
 
 -- an output is taken that has another length than what is made
 other-output-taken-2 : (file out : List ℕ) (w : WriteOutcome) → ToVersion2 file out w → (length out ≡ length (w .file) → ⊥) → w .answer .refusal ≡ 0 → ⊥
-other-output-taken-2 file out w t other e = other (t .turned e .2)
+other-output-taken-2 file out w t other e = other (t .words .turned e .2)
 
 other-output-taken-1 : (file out : List ℕ) (w : WriteOutcome) → ToVersion1 file out w → (length out ≡ length (w .file) → ⊥) → w .answer .refusal ≡ 0 → ⊥
-other-output-taken-1 file out w t other e = other (t .turned e .3)
+other-output-taken-1 file out w t other e = other (t .words .turned e .3)
 
 -- of a bank with elevations the length of the output is told first
 length-before-elevations : (file out : List ℕ) (w : WriteOutcome) (b : Bank) → AreBytes file → ToVersion1 file out w → IsFile 2 file b → level b ≡ false → w .answer .refusal ≡ 5 → ⊥
 length-before-elevations file out w b bytes t f up e =
-    let z : _≡_ {A = ℕ} 5 21 = sym e ∙ raised-first file out w b bytes (t .outcome) f up in
+    let z : _≡_ {A = ℕ} 5 21 = sym e ∙ raised-first file out w b bytes (t .bits) f up in
     omega arith

@@ -74,7 +74,7 @@ unfolding threeRows encode headBytes rowBytes pairsOf elevationBytes fieldBytes 
 three-2 = record { holds = holds-2 threeRows; keeps = three-keep; bytes = refl }
 
 three-forward : (out : List ℕ) (w : WriteOutcome) → length out ≡ 45 → ToVersion2 threeBytes out w → w ≡ handed threeBytes2
-three-forward out w h t = t .accepted threeRows three-1 (h ∙ sym (ap length (three-2 .bytes))) ∙ ap handed (three-2 .bytes)
+three-forward out w h t = t .words .accepted threeRows three-1 (h ∙ sym (ap length (three-2 .bytes))) ∙ ap handed (three-2 .bytes)
 
 three-back : (out : List ℕ) (w : WriteOutcome) → length out ≡ 39 → ToVersion1 threeBytes2 out w → w ≡ handed threeBytes
-three-back out w h t = t .accepted threeRows three-2 three-level (h ∙ sym (ap length (three-1 .bytes))) ∙ ap handed (three-1 .bytes)
+three-back out w h t = t .words .accepted threeRows three-2 three-level (h ∙ sym (ap length (three-1 .bytes))) ∙ ap handed (three-1 .bytes)

@@ -39,13 +39,19 @@ Converts from to file out o = o ≡ conversion from to file out
 -- ---- the two conversions
 
 -- accepted exactly if the file is one of version 1 and the output has the length of the new file; then that is the file of the same bank
-pub record ToVersion2 (file out : List ℕ) (o : WriteOutcome) : Type 0 where
-  pub outcome : Converts 1 2 file out o
+pub record ToVersion2Words (file out : List ℕ) (o : WriteOutcome) : Type 0 where
   pub turned : o .answer .refusal ≡ 0 → IsFile 1 file (bankIn file) × IsFile 2 (o .file) (bankIn file) × (length out ≡ length (o .file))
   pub accepted : (b : Bank) → IsFile 1 file b → length out ≡ length (encode 2 b) → o ≡ writeBank 2 b
 
+pub record ToVersion2 (file out : List ℕ) (o : WriteOutcome) : Type 0 where
+  pub bits : Converts 1 2 file out o
+  pub words : ToVersion2Words file out o
+
 -- "only if every elevation is 0, and exactly then"
-pub record ToVersion1 (file out : List ℕ) (o : WriteOutcome) : Type 0 where
-  pub outcome : Converts 2 1 file out o
+pub record ToVersion1Words (file out : List ℕ) (o : WriteOutcome) : Type 0 where
   pub turned : o .answer .refusal ≡ 0 → (level (bankIn file) ≡ true) × IsFile 2 file (bankIn file) × IsFile 1 (o .file) (bankIn file) × (length out ≡ length (o .file))
   pub accepted : (b : Bank) → IsFile 2 file b → level b ≡ true → length out ≡ length (encode 1 b) → o ≡ writeBank 1 b
+
+pub record ToVersion1 (file out : List ℕ) (o : WriteOutcome) : Type 0 where
+  pub bits : Converts 2 1 file out o
+  pub words : ToVersion1Words file out o

@@ -54,8 +54,8 @@ unfoldable pub readOutcome : List ℕ → List ℤ → List ℤ → List Float �
 readOutcome file zs es xs = readAs (readRefusal file zs es xs) (bankIn file) zs es xs
 
 pub record Reads (file : List ℕ) (zs es : List ℤ) (xs : List Float) (o : ReadOutcome) : Type 0 where
-  pub outcome : o ≡ readOutcome file zs es xs
-  pub exactly : Exactly file
+  pub bits : o ≡ readOutcome file zs es xs
+  pub words : Exactly file
 
 -- ---- a file that is given by its start and its size
 
@@ -68,8 +68,8 @@ startOutcome start size zs es xs = readAs (startRefusal start size zs es xs) (ba
 
 -- where it is enough, what `read` gives for every file that the start and the size were taken from
 pub record ReadsStart (start : List ℕ) (size : ℕ) (zs es : List ℤ) (xs : List Float) (o : ReadOutcome) : Type 0 where
-  pub outcome : o ≡ startOutcome start size zs es xs
-  pub each : (file : List ℕ) → AreBytes file → T (suffices (length start) size) → TakenFrom start size file → Reads file zs es xs o
+  pub bits : o ≡ startOutcome start size zs es xs
+  pub words : (file : List ℕ) → AreBytes file → T (suffices (length start) size) → TakenFrom start size file → Reads file zs es xs o
 
 -- ---- the bank that a caller finds in its lists after an accepted reading
 

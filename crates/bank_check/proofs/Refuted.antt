@@ -11,7 +11,7 @@ use Rattle.bank_check.specs.Checked.{CheckedVersion}
 
 module _ (v : ℕ) (s : List ℕ) (some : 1 ≤ length s) (other : versionIn s ≡ v → ⊥) (r : Fault) (checked : CheckedVersion v s r) where
   told : r ≡ wrong 13 0
-  told = checked .first ∙ conversion-fault .other v s some other
+  told = checked .bits ∙ conversion-fault .other v s some other
 
   -- it is found good
   other-version-good : r .refusal ≡ 0 → ⊥

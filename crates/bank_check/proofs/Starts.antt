@@ -8,4 +8,4 @@ use Rattle.bank_form.proofs.Start.{start-suffices}
 use Rattle.bank_check.specs.Checked.{CheckedStart}
 
 pub checked : (start : List ℕ) (size : ℕ) (r : Fault) → r ≡ faultIn size start → CheckedStart start size r
-checked start size r e = record { first = e; each = λ file enough kept. e ∙ start-suffices start size file enough kept }
+checked start size r e = record { bits = e; words = λ file enough kept. e ∙ start-suffices start size file enough kept }

@@ -11,15 +11,15 @@ use Rattle.bank_form.specs.File.{Exactly}
 
 -- of a start and a size: where the start is enough, the fault of every file that they were taken from
 pub record CheckedStart (start : List ℕ) (size : ℕ) (r : Fault) : Type 0 where
-  pub first : r ≡ faultIn size start
-  pub each : (file : List ℕ) → T (suffices (length start) size) → TakenFrom start size file → r ≡ fault file
+  pub bits : r ≡ faultIn size start
+  pub words : (file : List ℕ) → T (suffices (length start) size) → TakenFrom start size file → r ≡ fault file
 
 -- of a whole file
 pub record Checked (s : List ℕ) (r : Fault) : Type 0 where
-  pub first : r ≡ fault s
-  pub exactly : Exactly s
+  pub bits : r ≡ fault s
+  pub words : Exactly s
 
 -- of a file that has to be of version v
 pub record CheckedVersion (v : ℕ) (s : List ℕ) (r : Fault) : Type 0 where
-  pub first : r ≡ faultOf v s
-  pub exactly : Exactly s
+  pub bits : r ≡ faultOf v s
+  pub words : Exactly s

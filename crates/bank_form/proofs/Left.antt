@@ -6,7 +6,7 @@ use Prim.Native.Nat.{ℕ, zero, suc, _+_, _-_, _*_, _≤_, _<_}
 use native.Mathlib.Decide.{decLt}
 use native.Mathlib.Numerals.{lt-of-le-of-ne}
 use native.Mathlib.Omega.{arith}
-use borrow.Author.Tests.{eqb-true, eqb-false}
+use borrow.Author.Tests.{eqb-false}
 use lib.Dec.{eqb}
 use lib.ListN.{length}
 use Rattle.big_endian.specs.Fields.{fieldAt}
@@ -27,11 +27,11 @@ Tells14 f = f .refusal ≡ 14
 -- where the first of two walks does not, the second does, and the first found nothing
 second : (a b : Fault) → (Tells14 a → ⊥) → Tells14 (orElse a b) → (a .refusal ≡ 0) × Tells14 b
 unfolding orElse
-second a b not e = go (eqb (a .refusal) 0) refl
+second a b not e = go (a .refusal) refl
   where
-    go : (t : Bool) → eqb (a .refusal) 0 ≡ t → (a .refusal ≡ 0) × Tells14 b
-    go true k = (eqb-true (a .refusal) 0 k, rw k at e)
-    go false k = absurd (not (rw k at e))
+    go : (n : ℕ) → a .refusal ≡ n → (a .refusal ≡ 0) × Tells14 b
+    go zero k = (k, rw k at e)
+    go (suc n) k = absurd (not (k ∙ (rw k at e)))
 
 module _ (size : ℕ) where
   -- a field with another number does not, nor does one that is good

@@ -1,12 +1,12 @@
 -- Each fault has a number from 13 to 20 and a place in the file, 19 its end (`numbers-and-places`). Assumes nothing.
-use mathlib.Core.Path.{_≡_, refl, sym, ap, _∙_}
+use mathlib.Core.Path.{_≡_, refl, sym, ap, subst, _∙_}
 use mathlib.Core.Bool.{Bool, true, false}
 use mathlib.Core.List.{List}
 use mathlib.Core.Logic.{_⊎_, inl, inr}
 use Prim.Native.Nat.{ℕ, zero, suc, _+_, _*_, _≤_}
 use native.Mathlib.Decide.{decLt}
+use native.Mathlib.Nat.{suc-ne-zero}
 use native.Mathlib.Omega.{arith}
-use borrow.Author.Tests.{eqb-true}
 use lib.Dec.{eqb}
 use lib.Ieee.Scale.{finite}
 use lib.ListN.{length}
@@ -15,7 +15,7 @@ use Rattle.bank_form.specs.declared.Fault.{Fault}
 use Rattle.bank_form.specs.Version.{rowSize, tapsAt, pairAt}
 use Rattle.bank_form.specs.Fault.{versionIn, rowsIn, lengthIn, pairIn, isNew, elevationFault, sound, wrong, unless, orElse, field, tapsFault, rowFault, rowsFault, headField, headFault, faultIn}
 use Rattle.bank_form.specs.FaultLaws.{fieldSize, NumberAndPlace, NumbersAndPlaces}
-use Rattle.bank_form.proofs.Walk.{else-none, field-short, field-bad, field-good, field-none, no-elevation, elevation-field, elevation-none, row-is, head-none}
+use Rattle.bank_form.proofs.Walk.{else-stop, else-on, else-none, field-short, field-bad, field-good, field-none, no-elevation, elevation-field, elevation-none, row-is, head-none}
 
 -- no fault, or one with a number and a place
 abbrev Fine : ℕ → Fault → Type 0
@@ -32,12 +32,11 @@ module _ (size : ℕ) where
   -- ---- a walk after another goes on only where the first finds nothing
 
   fine-else : (a b : Fault) → Fine size a → (a .refusal ≡ 0 → Fine size b) → Fine size (orElse a b)
-  unfolding orElse
-  fine-else a b p q = go (eqb (a .refusal) 0) refl
+  fine-else a b p q = go (a .refusal) refl
     where
-      go : (t : Bool) → eqb (a .refusal) 0 ≡ t → Fine size (orElse a b)
-      go true e = rw e (q (eqb-true (a .refusal) 0 e))
-      go false e = rw e p
+      go : (n : ℕ) → a .refusal ≡ n → Fine size (orElse a b)
+      go zero e = subst (Fine size) (sym (else-on a b a refl e)) (q e)
+      go (suc n) e = subst (Fine size) (else-stop a b a refl (λ z. suc-ne-zero n (sym e ∙ z))) p
 
   -- a field with a number, and as long as that says
   fine-field : (at n : ℕ) (good : Bool) → at ≤ size → 13 ≤ n → n ≤ 20 → (n ≡ 19 → ⊥) → Fine size (field size at (fieldSize n) n good)

@@ -1,12 +1,12 @@
 -- One turn of each walk of specs/Fault.antt, and what a walk that finds nothing says. Assumes nothing.
-use mathlib.Core.Path.{_≡_, refl, sym, ap, subst₂, _∙_}
+use mathlib.Core.Path.{_≡_, refl, sym, ap, subst, subst₂, _∙_}
 use mathlib.Core.Bool.{Bool, true, false, _&&_, cond, and-eq-true-iff}
 use mathlib.Core.List.{List}
 use Prim.Native.Nat.{ℕ, zero, suc, _+_, _-_, _*_, _≤_, _<_, min, suc-le-suc}
-use native.Mathlib.Nat.{le-of-suc-le-suc}
+use native.Mathlib.Nat.{le-of-suc-le-suc, suc-ne-zero}
 use native.Mathlib.Numerals.{sub-one}
 use native.Mathlib.Omega.{arith}
-use borrow.Author.Tests.{ltb-false, eqb-true, lt-ltb, le-ltb, eq-eqb, ne-eqb}
+use borrow.Author.Tests.{ltb-false, eqb-true, eqb-false, lt-ltb, le-ltb, eq-eqb, ne-eqb}
 use lib.Dec.{ltb, eqb}
 use lib.Ieee.{binary32, fits}
 use lib.Ieee.Bits.{is-true, ofBits-fits}
@@ -17,6 +17,7 @@ use Rattle.bank_form.specs.declared.Fault.{Fault}
 use Rattle.lists.specs.Tables.{every}
 use Rattle.refusals.specs.Ranges.{within}
 use Rattle.refusals.proofs.Ranges.{within-true, within-in}
+use Rattle.refusals.proofs.First.{answered-accepted, answered-refused}
 use Rattle.bank_form.specs.Bank.{Pair, isAzimuth, isElevation, differ, isTap}
 use Rattle.bank_form.specs.Version.{rowSize, tapsAt, pairAt, elevationAt}
 use Rattle.bank_form.specs.Fault.{azimuthsFrom, elevationsFrom, rowTaps, tapsFrom, versionIn, rowsIn, lengthIn, pairIn, sound, wrong, unless, orElse, field, tapsFault, isNew, elevationFault, rowFault, rowsFault, headField, headFault, faultIn}
@@ -33,20 +34,19 @@ module _ (a b : Fault) where
   -- r is what the first walk answered: it stops there, or the second goes on
   pub else-stop : (r : Fault) → r ≡ a → (r .refusal ≡ 0 → ⊥) → r ≡ orElse a b
   unfolding orElse
-  else-stop r e h = e ∙ sym (rw (ne-eqb (a .refusal) 0 (λ z. h (ap (λ (f : Fault). f .refusal) e ∙ z))))
+  else-stop r e h = e ∙ sym (answered-refused b (λ n. a) (a .refusal) (λ z. h (ap (λ (f : Fault). f .refusal) e ∙ z)))
 
   pub else-on : (r : Fault) → r ≡ a → r .refusal ≡ 0 → orElse a b ≡ b
   unfolding orElse
-  else-on r e h = rw (eq-eqb (a .refusal) 0 (ap (λ (f : Fault). f .refusal) (sym e) ∙ h))
+  else-on r e h = answered-accepted b (λ n. a) (a .refusal) (ap (λ (f : Fault). f .refusal) (sym e) ∙ h)
 
   -- it finds nothing if both do
   pub clear-else : isClear (orElse a b) ≡ (isClear a && isClear b)
-  unfolding orElse
   clear-else = go (isClear a) refl
     where
       go : (t : Bool) → isClear a ≡ t → isClear (orElse a b) ≡ (isClear a && isClear b)
-      go true e = rw e
-      go false e = rw (e, e)
+      go true e = rw (else-on a refl (eqb-true (a .refusal) 0 e), e)
+      go false e = rw (← else-stop a refl (eqb-false (a .refusal) 0 e), e)
 
   pub else-none : orElse a b .refusal ≡ 0 → (a .refusal ≡ 0) × (b .refusal ≡ 0)
   else-none h =
@@ -56,11 +56,11 @@ module _ (a b : Fault) where
   -- what holds of both holds of the first fault
   pub else-both : (P : Fault → Type 0) → P a → P b → P (orElse a b)
   unfolding orElse
-  else-both P p q = go (isClear a) refl
+  else-both P p q = go (a .refusal) refl
     where
-      go : (t : Bool) → isClear a ≡ t → P (orElse a b)
-      go true e = rw e q
-      go false e = rw e p
+      go : (n : ℕ) → a .refusal ≡ n → P (orElse a b)
+      go zero e = subst P (sym (else-on a refl e)) q
+      go (suc n) e = subst P (else-stop a refl (λ z. suc-ne-zero n (sym e ∙ z))) p
 
   pub else-sound : a ≡ sound → b ≡ sound → orElse a b ≡ sound
   unfolding orElse
@@ -68,11 +68,11 @@ module _ (a b : Fault) where
 
 pub else-assoc : (a b c : Fault) → orElse (orElse a b) c ≡ orElse a (orElse b c)
 unfolding orElse
-else-assoc a b c = go (eqb (a .refusal) 0) refl
+else-assoc a b c = go (a .refusal) refl
   where
-    go : (t : Bool) → eqb (a .refusal) 0 ≡ t → orElse (orElse a b) c ≡ orElse a (orElse b c)
-    go true e = rw e
-    go false e = rw (e, e)
+    go : (n : ℕ) → a .refusal ≡ n → orElse (orElse a b) c ≡ orElse a (orElse b c)
+    go zero e = rw e
+    go (suc n) e = rw e
 
 -- ---- a field
 
@@ -91,7 +91,7 @@ module _ (good : Bool) (n at : ℕ) where
 
   pub unless-fails : (f : Fault) → 0 < n → good ≡ false → orElse (unless good n at) f ≡ wrong n at
   unfolding orElse
-  unless-fails f some e = rw (e, ne-eqb n 0 (λ z. omega (arith, some, z)))
+  unless-fails f some e = rw e (answered-refused f (λ m. wrong n at) n (λ z. omega (arith, some, z)))
 
 module _ (size at count n : ℕ) (good : Bool) where
   pub field-short : size < at + count → field size at count n good ≡ wrong 19 size

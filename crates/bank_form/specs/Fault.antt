@@ -17,6 +17,7 @@ use Rattle.big_endian.specs.Lists.{strided, floatsAt}
 use Rattle.bank_form.specs.declared.Fault.{Fault}
 use Rattle.lists.specs.Tables.{every}
 use Rattle.refusals.specs.Ranges.{within}
+use Rattle.refusals.specs.Refusals.{answered}
 use Rattle.bank_form.specs.Bank.{Bank, Pair, isAzimuth, isElevation, differ, isLevel}
 use Rattle.bank_form.specs.Version.{without, rowSize, tapsAt, pairAt, elevationAt}
 
@@ -70,7 +71,7 @@ wrong n at = record { refusal = n; offset = at }
 
 -- the first fault of two walks, one after the other
 unfoldable pub orElse : Fault → Fault → Fault
-orElse a b = cond (eqb (a .refusal) 0) b a
+orElse a b = answered (a .refusal) b (λ n. a)
 
 -- no fault where the test holds, else this number at this place
 abbrev pub unless : Bool → ℕ → ℕ → Fault

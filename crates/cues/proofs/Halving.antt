@@ -15,7 +15,7 @@ use Rattle.cues.specs.declared.Cue.{Cue}
 use Rattle.cues.specs.declared.Search.{Search}
 use Rattle.cues.specs.Cues.{Voice, nobody, speaking, numbersOf, risesFrom, rises, orLater, voiceAt, untilNext, nowhere, always}
 use Rattle.cues.specs.Computed.{searchOf, wholeOf, halvedOf, searched, leftOf, heldOf, foundOf}
-use Rattle.cues.specs.Promise.{Holds, Finds}
+use Rattle.cues.specs.Promise.{FindsWords, Finds}
 use Rattle.cues.proofs.Cues.{frame-is, frames-length, and-left, and-right, tail-rises, least}
 
 -- ---- how many frames, from the first on, are not after f
@@ -324,7 +324,7 @@ module _ (cs : List Cue) (f : ℕ) where
         near : j < s .next - f → f < s .next → f + j < s .next
         near a b = omega (arith, a, b)
 
-    halving-holds : Holds cs f (heldOf s (length cs) f)
+    halving-holds : FindsWords cs f (heldOf s (length cs) f)
     halving-holds = record {
       voice = voice-is (s .lo) refl ∙ ap (lastOf cs) count ∙ sym (voice-last cs f h);
       until = ⊎-elim
@@ -340,8 +340,8 @@ module _ (cs : List Cue) (f : ℕ) where
 
   pub halving-all : (s : Search) → s .hi ≤ s .lo → Halving cs f s → Finds cs f (heldOf s (length cs) f)
   halving-all s over k = record {
-    is = ap (λ (t : Search). heldOf t (length cs) f) (sym (coming-all cs f s over (k .coming .turns)) ∙ k .coming .left);
-    holds = λ h. halving-holds s over h k;
+    bits = ap (λ (t : Search). heldOf t (length cs) f) (sym (coming-all cs f s over (k .coming .turns)) ∙ k .coming .left);
+    words = λ h. halving-holds s over h k;
   }
 
   -- nothing is left of the part
@@ -361,5 +361,5 @@ module _ (cs : List Cue) (f : ℕ) where
       by-test go (inr l) = subst (λ (t : Bool). Ended (cond t (searched n cs f (next cs f s)) s)) (sym (le-ltb (s .lo) (s .hi) l)) (k, l)
 
   -- document 02: what halving finds in a list that rises is the last cue not after f
-  pub halving-finds : rises fs ≡ true → Holds cs f (foundOf cs f)
-  halving-finds h = let all = searching (length cs) (wholeOf (length cs)) (omega arith) halving-whole in halving-all (searched (length cs) cs f (wholeOf (length cs))) (all .1) (all .0) .holds h
+  pub halving-finds : rises fs ≡ true → FindsWords cs f (foundOf cs f)
+  halving-finds h = let all = searching (length cs) (wholeOf (length cs)) (omega arith) halving-whole in halving-all (searched (length cs) cs f (wholeOf (length cs))) (all .1) (all .0) .words h

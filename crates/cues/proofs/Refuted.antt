@@ -44,11 +44,11 @@ speaks (speaking d) = true
 -- it lets a cue hold from the frame after its own on
 silent-at-its-frame : (c : Cue) (d : Direction) (left : ℕ) → Finds (c ∷ []) (c .frame) (record { speaks = false; direction = d; left = left }) → ⊥
 silent-at-its-frame c d left p =
-    true≢false (sym (ap speaks (p .holds refl .voice ∙ ap (λ (t : Bool). cond t (speaking (c .direction)) nobody) (le-leb (c .frame) (c .frame) (omega arith)))))
+    true≢false (sym (ap speaks (p .words refl .voice ∙ ap (λ (t : Bool). cond t (speaking (c .direction)) nobody) (le-leb (c .frame) (c .frame) (omega arith)))))
 
 -- it lets the first cue hold before its frame
 speaks-before-the-first : (c : Cue) (f : ℕ) (d : Direction) (left : ℕ) → f < c .frame → Finds (c ∷ []) f (record { speaks = true; direction = d; left = left }) → ⊥
-speaks-before-the-first c f d left l p = true≢false (ap speaks (p .holds refl .voice ∙ ap (λ (t : Bool). cond t (speaking (c .direction)) nobody) (lt-leb (c .frame) f l)))
+speaks-before-the-first c f d left l p = true≢false (ap speaks (p .words refl .voice ∙ ap (λ (t : Bool). cond t (speaking (c .direction)) nobody) (lt-leb (c .frame) f l)))
 
 -- it lets a cue hold past the next one, which points elsewhere
 module _ (c d : Cue) (rise : c .frame < d .frame) (h : Held) (p : Finds (c ∷ d ∷ []) (c .frame) h) where
@@ -63,7 +63,7 @@ module _ (c d : Cue) (rise : c .frame < d .frame) (h : Held) (p : Finds (c ∷ d
   direction-of (speaking e) = e
 
   held-past-the-next : (c .direction ≡ d .direction → ⊥) → d .frame - c .frame < h .left → ⊥
-  held-past-the-next other l = other (ap direction-of (sym first ∙ sym (p .holds rises-both .stays (d .frame - c .frame) l) ∙ ap (voiceAt both) at ∙ second))
+  held-past-the-next other l = other (ap direction-of (sym first ∙ sym (p .words rises-both .stays (d .frame - c .frame) l) ∙ ap (voiceAt both) at ∙ second))
     where
       at : c .frame + (d .frame - c .frame) ≡ d .frame
       at = omega (arith, rise)

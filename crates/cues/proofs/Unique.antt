@@ -17,4 +17,4 @@ abbrev holding-states : States holding.ended (位 w 魏s a. holding.clauses (w .饾
 holding-states = record { claim = _; stated = 位 w 魏s a r e. refl }
 
 pub holding-unique : AllowsOneAnswer holding.ended (holding-states .claim)
-holding-unique 魏s a = determined-by (位 z h i. (h .is i, _))
+holding-unique 魏s a = determined-by (位 z h i. (h .bits i, _))

@@ -24,7 +24,7 @@ abbrev pub voiceOf : Held → Voice
 voiceOf h = cond (h .speaks) (speaking (h .direction)) nobody
 
 -- document 02's voice at a frame, and how many frames there are up to the next cue: this one at least, and for all of them the voice stays
-pub record Holds (cues : List Cue) (f : ℕ) (h : Held) : Type 0 where
+pub record FindsWords (cues : List Cue) (f : ℕ) (h : Held) : Type 0 where
   pub voice : voiceOf h ≡ voiceAt cues f
   pub until : h .left ≡ untilNext (numbersOf cues) f
   pub some : 0 < h .left
@@ -32,5 +32,5 @@ pub record Holds (cues : List Cue) (f : ℕ) (h : Held) : Type 0 where
 
 -- of every list what halving comes to; of one that rises, that it is the last cue not after the frame
 pub record Finds (cues : List Cue) (f : ℕ) (h : Held) : Type 0 where
-  pub is : h ≡ foundOf cues f
-  pub holds : rises (numbersOf cues) ≡ true → Holds cues f h
+  pub bits : h ≡ foundOf cues f
+  pub words : rises (numbersOf cues) ≡ true → FindsWords cues f h

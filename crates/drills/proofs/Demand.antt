@@ -20,7 +20,7 @@ use Rattle.history.specs.History.{earSamples, upto}
 use Rattle.rings.specs.State.{State}
 use Rattle.rings.specs.Held.{stateOf}
 use Rattle.hrtf_checks.specs.Call.{Call}
-use Rattle.hrtf.specs.Reset.{AfterReset}
+use Rattle.hrtf.specs.Reset.{ResetOutcome}
 use Rattle.hrtf.proofs.Promised.{reset-by, reset-number}
 use Rattle.runs.specs.Runs.{Alike, fedAll, soundedAll, end, unsettledCounts, sum}
 use Rattle.runs.specs.Demand.{Run, frameAgo, damagedAmong, damagedCounts, SameRun}
@@ -94,8 +94,8 @@ run-start u t cs r = run-starts u t cs r .1 ∙ ap (λ (p : ℕ). stateOf u p 0 
   where
     zeroed-position : t .desk .position ≡ 0
     zeroed-position =
-        ap (λ (a : AfterReset). a .answer .desk .position)
-        (r .reset .answer ∙ reset-by (r .desk) (u .speakers) (u .L) (r .rings) 0 (sym (reset-number (r .desk) (u .speakers) (u .L) (r .rings) _ (r .reset))))
+        ap (λ (a : ResetOutcome). a .answer .desk .position)
+        (r .reset .bits ∙ reset-by (r .desk) (u .speakers) (u .L) (r .rings) 0 (sym (reset-number (r .desk) (u .speakers) (u .L) (r .rings) _ (r .reset))))
 
 -- so two runs that are fed the same are the same, also where each has its own reset
 run-same : (u : Setup) (t s : State) (cs ds : List Call) → Run u t cs → Run u s ds → fedAll t cs ≡ fedAll s ds

@@ -37,7 +37,7 @@ module _ (cues : List Cue) (order : ℕ) where
   abbrev channels : ℕ
   channels = channelsOfOrder order
 
-  put-one : (c : Script.Call) (f n : ℕ) → Script.refusalAt cues order c f ≡ n → Script.sounded cues order c f ≡ readAll channels (passing (Script.refusalAt cues order c f) (outputs cues order c f))
+  put-one : (c : Script.RenderCall) (f n : ℕ) → Script.refusalAt cues order c f ≡ n → Script.sounded cues order c f ≡ readAll channels (passing (Script.refusalAt cues order c f) (outputs cues order c f))
   put-one c f zero e =
       ap (λ (b : Block). framesOf (Script.blockAt cues order c f .out) (c .stride) channels (b .answer .samples))
       (block-accepted answerOf (c .frames) (c .stride) (playedOf (Script.stretchOf cues order c f) cues (c .input)) (c .out) (Script.refusalAt cues order c f) e)
@@ -47,7 +47,7 @@ module _ (cues : List Cue) (order : ℕ) where
       (block-refused answerOf (c .frames) (c .stride) (playedOf (Script.stretchOf cues order c f) cues (c .input)) (c .out) (Script.refusalAt cues order c f) (λ z. suc-ne-zero n (sym e ∙ z)))
       ∙ sym (read-by channels (outputs cues order c f) (Script.refusalAt cues order c f) (suc n) e)
 
-  pub put-all : (f : ℕ) (cs : List Script.Call) → Script.soundedAll cues order f cs ≡ readAll channels (leaves cues order f cs)
+  pub put-all : (f : ℕ) (cs : List Script.RenderCall) → Script.soundedAll cues order f cs ≡ readAll channels (leaves cues order f cs)
   put-all f [] = sym (joined-none (read channels))
   put-all f (c ∷ cs) =
       (λ i. put-one c f (Script.refusalAt cues order c f) refl i ++ put-all (Script.next cues order c f) cs i)

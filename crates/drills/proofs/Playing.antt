@@ -26,7 +26,7 @@ use Rattle.hrtf.specs.Reset.{Resets}
 use Rattle.hrtf_setup.specs.Arrangement.{Wanted, Arrangement, arrangedBy, arrangement}
 use Rattle.hrtf_setup.specs.Arrangement as Arranging
 use Rattle.hrtf_setup.specs.Promise.{Arranges, ofOrder, NewAmbisonic}
-use Rattle.hrtf_setup.proofs.Accepted.{ambisonic-playable}
+use Rattle.hrtf_setup.proofs.Accepted.{ambisonic-arranges, ambisonic-playable}
 use Rattle.runs.specs.Runs.{next, Alike}
 use Rattle.runs.specs.Demand.{Run}
 use Rattle.runs.specs.NeverRefused.{AllFitted, BankAccepted, NoneRefused}
@@ -45,7 +45,7 @@ AllFit channels [] = Unit {0}
 AllFit channels (p ∷ ps) = Fits channels p × AllFit channels ps
 
 module _ (cues : List Cue) (order : ℕ) where
-  left-fits : (c : Script.Call) (f : ℕ) → Script.refusalAt cues order c f ≡ 0 → Fits (channelsOfOrder order) (outputs cues order c f)
+  left-fits : (c : Script.RenderCall) (f : ℕ) → Script.refusalAt cues order c f ≡ 0 → Fits (channelsOfOrder order) (outputs cues order c f)
   left-fits c f z =
       let s = Script.stretchOf cues order c f in
       let played = playedOf s cues (c .input) in (
@@ -53,12 +53,12 @@ module _ (cues : List Cue) (order : ℕ) where
         ap (λ (b : Block). length (b .out)) (block-accepted answerOf (c .frames) (c .stride) played (c .out) (Script.refusalAt cues order c f) z) ∙ length-with-frames (c .out) (c .stride) 0 played ∙ long s cues (c .input) (c .out) z,
       )
 
-  one-fits : (c : Script.Call) (f n : ℕ) → Script.refusalAt cues order c f ≡ n → (ps : List Planes) → AllFit (channelsOfOrder order) ps
+  one-fits : (c : Script.RenderCall) (f n : ℕ) → Script.refusalAt cues order c f ≡ n → (ps : List Planes) → AllFit (channelsOfOrder order) ps
       → AllFit (channelsOfOrder order) (passing (Script.refusalAt cues order c f) (outputs cues order c f) ++ ps)
   one-fits c f zero e ps h = subst (λ (m : ℕ). AllFit (channelsOfOrder order) (passing m (outputs cues order c f) ++ ps)) (sym e) (left-fits c f e, h)
   one-fits c f (suc n) e ps h = subst (λ (m : ℕ). AllFit (channelsOfOrder order) (passing m (outputs cues order c f) ++ ps)) (sym e) h
 
-  all-fit : (f : ℕ) (cs : List Script.Call) → AllFit (channelsOfOrder order) (leaves cues order f cs)
+  all-fit : (f : ℕ) (cs : List Script.RenderCall) → AllFit (channelsOfOrder order) (leaves cues order f cs)
   all-fit f [] = tt
   all-fit f (c ∷ cs) = one-fits c f (Script.refusalAt cues order c f) refl (leaves cues order (Script.next cues order c f) cs) (all-fit (Script.next cues order c f) cs)
 
@@ -93,7 +93,7 @@ module _ (w : Wanted) (zs es : List ℤ) (rows : ℕ) (weights : List Float) (gi
   channels-are : (o : Arrangement) → Arranges w zs es rows weights given o → o .answer .refusal ≡ 0 → o .answer .channels ≡ w .channels
   unfolding arrangement
   channels-are o a e =
-      ap (λ (q : Arrangement). q .answer .channels) (a .answer) ∙ channels-by (Arranging.refusalOf w zs es rows weights) (sym (ap (λ (q : Arrangement). q .answer .refusal) (a .answer)) ∙ e)
+      ap (λ (q : Arrangement). q .answer .channels) (a .bits) ∙ channels-by (Arranging.refusalOf w zs es rows weights) (sym (ap (λ (q : Arrangement). q .answer .refusal) (a .bits)) ∙ e)
 
 ears-there : (ps : List Planes) → Both Eared ps (map (λ (p : Planes). replicate (2 * p .stride) zero-float) ps)
 ears-there [] = tt
@@ -107,7 +107,7 @@ module _ (r : ReadOutcome) (k : BankAccepted r) (d : Drill) (weights : List Floa
   calls = callsOf (bankFound r) o (planesLeft d) es
 
   counted : o .answer .channels ≡ channelsOfOrder (d .order)
-  counted = channels-are (ofOrder (d .order)) (r .azimuths) (r .elevations) (r .answer .rows) weights given o (new .arranges) e
+  counted = channels-are (ofOrder (d .order)) (r .azimuths) (r .elevations) (r .answer .rows) weights given o (ambisonic-arranges (d .order) (r .azimuths) (r .elevations) (r .answer .rows) weights given o new) e
 
   none-refused : NoneRefused (d .start) calls
   none-refused =

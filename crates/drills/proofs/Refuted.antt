@@ -20,7 +20,7 @@ use Rattle.history.specs.Signals.{damaged}
 use Rattle.rings.proofs.Blocks.{fresh}
 use Rattle.hrtf_checks.specs.Call.{Call}
 use Rattle.hrtf_checks.specs.Refusals.{refusalOf}
-use Rattle.hrtf.specs.Promise.{Outcome, outcome, Processes}
+use Rattle.hrtf.specs.Promise.{BlockOutcome, outcome, Processes}
 use Rattle.runs.specs.Runs.{next, fed as fedTo, fedAll, sounded, soundedAll}
 use Rattle.runs.specs.Demand.{damagedAmong}
 use Rattle.drills.specs.Drills.{Drill, samples, encoded, heard, Drilled}
@@ -40,8 +40,8 @@ judged-on-samples h =
     true≢false (ap (λ (l : List Float). not (finite (getD l 0 nan))) (sym (samples-are _)) ∙ sym (h four one one-drilled 0 some) ∙ drill-demand-3 .silent four one one-drilled 0 some refl)
 
 -- ---- an invented count for the infinite sample: two frames are unsettled
-invented : (o : Outcome) → Processes infinite-call (next refused-call (next silent-call (fresh four))) o → (n : ℕ) → (n ≡ 2 → ⊥) → o .answer .unsettled ≡ n → ⊥
-invented o p n other e = other (sym e ∙ ap (λ (q : Outcome). q .answer .unsettled) (p .answer) ∙ ap (λ (l : List ℕ). getD l 2 0) infinite-counts)
+invented : (o : BlockOutcome) → Processes infinite-call (next refused-call (next silent-call (fresh four))) o → (n : ℕ) → (n ≡ 2 → ⊥) → o .answer .unsettled ≡ n → ⊥
+invented o p n other e = other (sym e ∙ ap (λ (q : BlockOutcome). q .answer .unsettled) (p .bits) ∙ ap (λ (l : List ℕ). getD l 2 0) infinite-counts)
 
 -- ---- the first call of any drill, and what answers it
 
@@ -56,7 +56,7 @@ none-counted i (suc n) f h =
 abbrev begun : Drill → Call → List Call → Drill
 begun d c cs = record { cues = d .cues; order = d .order; first = d .first; renders = d .renders; start = d .start; plays = c ∷ cs }
 
-module _ (u : Setup) (d : Drill) (c : Call) (cs : List Call) (h : Drilled u (begun d c cs)) (o : Outcome) (p : Processes c (d .start) o) where
+module _ (u : Setup) (d : Drill) (c : Call) (cs : List Call) (h : Drilled u (begun d c cs)) (o : BlockOutcome) (p : Processes c (d .start) o) where
   fed-among : length (fedTo c (d .start)) ≤ length (encoded d)
   fed-among = omega (arith, length-append (fedTo c (d .start)) (fedAll (next c (d .start)) cs), ap length (drill-fed u (begun d c cs) h))
 
@@ -65,7 +65,7 @@ module _ (u : Setup) (d : Drill) (c : Call) (cs : List Call) (h : Drilled u (beg
   counted-before b n e =
       suc-ne-zero n
       (sym e
-      ∙ ap (λ (q : Outcome). q .answer .unsettled) (p .answer)
+      ∙ ap (λ (q : BlockOutcome). q .answer .unsettled) (p .bits)
       ∙ ap (λ (l : List ℕ). getD l 0 0) (drill-demand-3 .counts u (begun d c cs) h)
       ∙ none-counted 0 (length (fedTo c (d .start))) (damagedAmong u (encoded d))
       (λ k l. before-settled u (begun d c cs) h (0 + k) (omega (arith, l, fed-among)) (b (0 + k) (omega (arith, l)))))
@@ -75,7 +75,7 @@ module _ (u : Setup) (d : Drill) (c : Call) (cs : List Call) (h : Drilled u (beg
   played-among =
       omega (
         arith,
-        ap (λ (q : Outcome). q .answer .samples) (p .answer),
+        ap (λ (q : BlockOutcome). q .answer .samples) (p .bits),
         length-append (sounded c (d .start)) (soundedAll (next c (d .start)) cs),
         length-tab 0 (outcome c (d .start) .answer .samples) (frameAt (outcome c (d .start) .ears) (c .stride) 2),
         drill-demand-3 .all u (begun d c cs) h,
@@ -83,9 +83,9 @@ module _ (u : Setup) (d : Drill) (c : Call) (cs : List Call) (h : Drilled u (beg
 
   ears-heard : (n ear : ℕ) → n < o .answer .samples → ear < 2 → sampleAt (o .ears) (c .stride) ear n ≡ getD (getD (heard (begun d c cs)) n []) ear nan
   ears-heard n ear l k =
-      subst (λ (q : Outcome). n < q .answer .samples → sampleAt (q .ears) (c .stride) ear n ≡ getD (getD (heard (begun d c cs)) n []) ear nan) (sym (p .answer)) promised l
+      subst (λ (q : BlockOutcome). n < q .answer .samples → sampleAt (q .ears) (c .stride) ear n ≡ getD (getD (heard (begun d c cs)) n []) ear nan) (sym (p .bits)) promised l
     where
-      q : Outcome
+      q : BlockOutcome
       q = outcome c (d .start)
 
       promised : n < q .answer .samples → sampleAt (q .ears) (c .stride) ear n ≡ getD (getD (heard (begun d c cs)) n []) ear nan
@@ -103,12 +103,12 @@ one-fed : length (fedTo silent-call (fresh four)) ≡ 1
 unfolding refusalOf
 one-fed = refl
 
-nan-counted : (o : Outcome) → Processes silent-call (fresh four) o → (n : ℕ) → o .answer .unsettled ≡ suc n → ⊥
+nan-counted : (o : BlockOutcome) → Processes silent-call (fresh four) o → (n : ℕ) → o .answer .unsettled ≡ suc n → ⊥
 nan-counted o p = counted-before four one silent-call (refused-call ∷ one-call ∷ []) one-drilled o p (λ n l. omega (arith, l, one-fed))
 
 -- other ears than another drill's, at frames that agree after encoding with the L-1 before them
 other-ears : (u : Setup) (d₁ d₂ : Drill) (c₁ c₂ : Call) (cs₁ cs₂ : List Call) → Drilled u (begun d₁ c₁ cs₁) → Drilled u (begun d₂ c₂ cs₂)
-    → (o₁ o₂ : Outcome) → Processes c₁ (d₁ .start) o₁ → Processes c₂ (d₂ .start) o₂ → (n m : ℕ) → n < o₁ .answer .samples → m < o₂ .answer .samples → Agree u d₁ n d₂ m
+    → (o₁ o₂ : BlockOutcome) → Processes c₁ (d₁ .start) o₁ → Processes c₂ (d₂ .start) o₂ → (n m : ℕ) → n < o₁ .answer .samples → m < o₂ .answer .samples → Agree u d₁ n d₂ m
     → (ear : ℕ) → ear < 2 → (sampleAt (o₁ .ears) (c₁ .stride) ear n ≡ sampleAt (o₂ .ears) (c₂ .stride) ear m → ⊥) → ⊥
 other-ears u d₁ d₂ c₁ c₂ cs₁ cs₂ h₁ h₂ o₁ o₂ p₁ p₂ n m l₁ l₂ a ear k other =
     other

@@ -78,12 +78,12 @@ module _ (u : Setup) (finite : unsound (u .weights) ≡ false) (d : Drill) (c : 
 
 -- where something was encoded a call was accepted, and so the cues rise
 module _ (cues : List Cue) (order : ℕ) where
-  rise-by : (c : Script.Call) (f n : ℕ) → Script.refusalAt cues order c f ≡ n → (xs : List Float) → (0 < length xs → rises (numbersOf cues) ≡ true)
+  rise-by : (c : Script.RenderCall) (f n : ℕ) → Script.refusalAt cues order c f ≡ n → (xs : List Float) → (0 < length xs → rises (numbersOf cues) ≡ true)
       → 0 < length (Script.fed cues order c f ++ xs) → rises (numbersOf cues) ≡ true
   rise-by c f zero e xs k h = cues-rise (Script.stretchOf cues order c f) cues (c .input) (c .out) e
   rise-by c f (suc n) e xs k h = k (subst (λ (m : ℕ). 0 < length (answered m (samplesOf (Script.stretchOf cues order c f) (c .input)) (λ j. []) ++ xs)) e h)
 
-  some-rise : (f : ℕ) (cs : List Script.Call) → 0 < length (Script.fedAll cues order f cs) → rises (numbersOf cues) ≡ true
+  some-rise : (f : ℕ) (cs : List Script.RenderCall) → 0 < length (Script.fedAll cues order f cs) → rises (numbersOf cues) ≡ true
   some-rise f [] h = absurd (not-suc-le-zero h)
   some-rise f (c ∷ cs) h = rise-by c f (Script.refusalAt cues order c f) refl (Script.fedAll cues order (Script.next cues order c f) cs) (some-rise (Script.next cues order c f) cs) h
 

@@ -45,7 +45,7 @@ abbrev pub four : Setup
 four = record { channels = 4; speakers = 1; L = 2; weights = one-float ∷ zero-float ∷ zero-float ∷ zero-float ∷ []; taps = drill .taps; rows = drill .rows }
 
 -- a NaN and a sample; a call of more frames than its stride; and two samples of silence
-abbrev renders : Float → List Script.Call
+abbrev renders : Float → List Script.RenderCall
 renders x =
     record { frames = 2; stride = 2; input = nan ∷ x ∷ []; out = replicate 8 nan }
     ∷ record { frames = 3; stride = 2; input = one-float ∷ one-float ∷ []; out = replicate 8 nan }

@@ -21,7 +21,7 @@ pub record Drill : Type 0 where
   pub cues : List Cue
   pub order : ℕ
   pub first : ℕ
-  pub renders : List Script.Call
+  pub renders : List Script.RenderCall
   -- the rings and the desk before the first call of `process`, and the calls
   pub start : State
   pub plays : List Call
@@ -68,11 +68,11 @@ passing n p = answered n (p ∷ []) (λ k. [])
 
 module _ (cues : List Cue) (order : ℕ) where
   -- the output planes as a call of `render` from the frame f on leaves them
-  abbrev pub outputs : Script.Call → ℕ → Planes
+  abbrev pub outputs : Script.RenderCall → ℕ → Planes
   outputs c f = record { list = Script.blockAt cues order c f .out; stride = c .stride; frames = c .frames }
 
   -- those of calls one after another
-  abbrev pub leaves : ℕ → List Script.Call → List Planes
+  abbrev pub leaves : ℕ → List Script.RenderCall → List Planes
   leaves f [] = []
   leaves f (c ∷ cs) = passing (Script.refusalAt cues order c f) (outputs c f) ++ leaves (Script.next cues order c f) cs
 

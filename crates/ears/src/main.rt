@@ -4,7 +4,7 @@
 // It reads `bank.bin` and 5.1 frames on standard input, and writes `ears.raw`. With three arguments it takes
 // the names of the bank, of the line and of the output instead. `ears_file` does the work. The program
 // promises nothing of its own beyond being safe and ending.
-use ears_file::Outcome;
+use ears_file::RunOutcome;
 use libc::STDERR_FILENO;
 use libc::STDIN_FILENO;
 use libc::STDOUT_FILENO;
@@ -13,7 +13,7 @@ use libc::STDOUT_FILENO;
 const NO_LIMIT: usize = usize::MAX;
 
 // Prints the line of a run; one that failed has none.
-fn tell(run: Outcome) {
+fn tell(run: RunOutcome) {
     let mut text = [0u8; 64];
     let n = ears_file::told(run, &mut text);
     if !io::write_all(STDOUT_FILENO, &text[..n]) {

@@ -1,15 +1,14 @@
 -- What the promise of `run` rules out, whatever the bank and the line are: a refusal by another number than 9 and 13 to 20, a part frame with a place, a refusal with a
 -- count, a failure that ends as a run that was played, and more unsettled frames than frames. And what that of `told` does. Assumes nothing.
-use mathlib.Core.Path.{_≡_, refl, sym, ap, _∙_}
+use mathlib.Core.Path.{_≡_, sym, ap, _∙_}
 use mathlib.Core.Bool.{Bool, true, false, cond}
 use mathlib.Core.List.{List, [], _∷_}
 use mathlib.Core.Logic.{_⊎_, inl, inr, ⊎-elim}
-use Prim.Native.Nat.{ℕ, _+_, _≤_, _<_}
+use Prim.Native.Nat.{ℕ, zero, suc, _+_, _≤_, _<_}
 use native.Mathlib.Omega.{arith}
-use borrow.Author.Tests.{le-ltb}
-use lib.Dec.{eqb, ltb}
 use lib.ListN.{length, getD}
 use lib.Ieee.{Float}
+use Rattle.refusals.specs.Refusals.{answered}
 use Rattle.refusals.proofs.First.{stops, goes-on, not-accepted, answered-refused}
 use Rattle.lists.specs.Placed.{placed}
 use Rattle.lists.proofs.Placed.{placed-start}
@@ -17,7 +16,7 @@ use Rattle.lists.proofs.Lists.{one-at-most}
 use Rattle.lists.specs.Tables.{row}
 use Rattle.lists.proofs.Tables.{length-tab}
 use Rattle.bank_form.specs.declared.Fault.{Fault}
-use Rattle.bank_form.specs.Fault.{bankIn, fault, isFile}
+use Rattle.bank_form.specs.Fault.{bankIn, fault}
 use Rattle.bank_form.specs.FaultLaws.{NumberAndPlace}
 use Rattle.bank_form.proofs.Places.{numbers-and-places}
 use Rattle.history.specs.Setup.{Setup}
@@ -26,20 +25,21 @@ use Rattle.history.specs.History.{unsettled, unsettledIn}
 use Rattle.wire.specs.Records.{wholeIn, restIn}
 use Rattle.wire.specs.Frames.{frameOf, lineFrames}
 use Rattle.ears_file.specs.declared.Ended.{Ended}
-use Rattle.ears_file.specs.declared.Outcome.{Outcome}
+use Rattle.ears_file.specs.declared.RunOutcome.{RunOutcome}
 use Rattle.wire.specs.Counting.{countedOn}
 use Rattle.wire.specs.Line.{refusedWord, refusedLine, refusedAtLine}
 use Rattle.wire.proofs.Drill.{refused-fourteen}
-use Rattle.wire.specs.Promises.{Lined}
-use Rattle.ears_file.specs.Lines.{setupWith, partFrame, refusedBank, itemTen, refusalLine, toldBy}
+use Rattle.wire.specs.Promises.{LineGiven, lineGiven, Lined}
+use Rattle.wire.proofs.Meets.{line-accepted, line-empty}
+use Rattle.ears_file.specs.Lines.{setupWith, partFrame, refusedBank, restRefusal, itemTen, refusalLine, toldBy}
 use Rattle.ears_file.specs.Promise.{Answers}
 
 -- one of three ends
-one-of-three : (f b t : Bool) (e x y : Ended) → e ≡ cond f partFrame (cond b (cond t x partFrame) y) → (e ≡ x) ⊎ ((e ≡ partFrame) ⊎ (e ≡ y))
+one-of-three : (f : Bool) (b t : ℕ) (e x y : Ended) → e ≡ cond f partFrame (answered b (answered t x (λ n. partFrame)) (λ n. y)) → (e ≡ x) ⊎ ((e ≡ partFrame) ⊎ (e ≡ y))
 one-of-three true b t e x y q = inr (inl q)
-one-of-three false true true e x y q = inl q
-one-of-three false true false e x y q = inr (inl q)
-one-of-three false false t e x y q = inr (inr q)
+one-of-three false zero zero e x y q = inl q
+one-of-three false zero (suc t) e x y q = inr (inl q)
+one-of-three false (suc b) t e x y q = inr (inr q)
 
 -- of frames no more are unsettled than there are
 unsettled-few : (u : Setup) (go : ℕ) (past fs : List (List Float)) → unsettledIn u go past fs ≤ length fs
@@ -47,7 +47,7 @@ unsettled-few u go past [] = omega arith
 unsettled-few u go past (f ∷ fs) =
     omega (arith, one-at-most (unsettled u go (signals u f ∷ past)), unsettled-few u go (signals u f ∷ past) fs)
 
-module _ (r : Outcome) (a : Answers r) where
+module _ (r : RunOutcome) (a : Answers r) where
   -- a run is played, or its line ends inside a frame, or its bank is refused
   played : Ended
   played =
@@ -63,7 +63,7 @@ module _ (r : Outcome) (a : Answers r) where
   unfolding played
   by-end p q s =
       ⊎-elim p (⊎-elim q s)
-      (one-of-three (r .failed) (isFile (a .bank)) (eqb (length (restIn 24 (a .ends .line))) 0) (r .ended) played (refusedBank (fault (a .bank))) (a .ends .ended))
+      (one-of-three (r .failed) (fault (a .bank) .refusal) (restRefusal (length (restIn 24 (a .ends .line)))) (r .ended) played (refusedBank (fault (a .bank))) (a .ends .bits))
 
   number : {e : Ended} → r .ended ≡ e → r .ended .refusal ≡ e .refusal
   number q = ap (λ (y : Ended). y .refusal) q
@@ -94,7 +94,7 @@ module _ (r : Outcome) (a : Answers r) where
 
   failed-as-played : r .failed ≡ true → r .ended .refusal ≡ 0 → ⊥
   failed-as-played f z =
-      let nine : r .ended .refusal ≡ 9 = ap (λ (y : Ended). y .refusal) (a .ends .ended ∙ stops partFrame (itemTen (a .bank) (a .ends .line)) f) in
+      let nine : r .ended .refusal ≡ 9 = ap (λ (y : Ended). y .refusal) (a .ends .bits ∙ stops partFrame (itemTen (a .bank) (a .ends .line)) f) in
       let k : _≡_ {A = ℕ} 0 9 = sym z ∙ nine in omega arith
 
   more-unsettled-than-frames : r .ended .frames < r .ended .unsettled → ⊥
@@ -110,14 +110,10 @@ module _ (r : Outcome) (a : Answers r) where
 
 -- ---- what is told
 
-module _ (r : Outcome) (out : List ℕ) (size : ℕ) (after : List ℕ) (lined : Lined out (toldBy r) size after) where
+module _ (r : RunOutcome) (out : List ℕ) (size : ℕ) (after : List ℕ) (lined : Lined out (toldBy r) size after) where
   -- a line for a run that failed
   failed-run-has-a-line : r .failed ≡ true → (size ≡ 0 → ⊥) → ⊥
-  failed-run-has-a-line f some = some (lined .count ∙ ap (λ (line : List ℕ). cond (ltb (length out) 64) 0 (length line)) (stops _ _ f) ∙ none (ltb (length out) 64))
-    where
-      none : (t : Bool) → cond t 0 (length {A = ℕ} []) ≡ 0
-      none true = refl
-      none false = refl
+  failed-run-has-a-line f some = some (ap (λ (g : LineGiven). g .size) (lined ∙ ap (lineGiven out) (stops _ _ f) ∙ line-empty out))
 
   -- a refusal told as a count: its first letter is an r, and not an f
   refusal-told-as-frames : r .failed ≡ false → r .ended .refusal ≡ 9 → 64 ≤ length out → getD after 0 0 ≡ 102 → ⊥
@@ -126,7 +122,7 @@ module _ (r : Outcome) (out : List ℕ) (size : ℕ) (after : List ℕ) (lined :
       let told : toldBy r ≡ refusedLine 9 = goes-on _ _ f ∙ answered-refused _ (refusalLine (r .ended)) _ (not-accepted 9 (omega arith) nine) ∙ ap (refusalLine (r .ended)) nine in
       let first : getD after 0 0 ≡ 114 =
       ap (λ (l : List ℕ). getD l 0 0)
-      (lined .filled ∙ goes-on _ _ (le-ltb (length out) 64 room) ∙ ap (placed out 0) told ∙ placed-start out (refusedLine 9)) in
+      (ap (λ (g : LineGiven). g .out) (lined ∙ line-accepted out (toldBy r) room) ∙ ap (placed out 0) told ∙ placed-start out (refusedLine 9)) in
       let same : _≡_ {A = ℕ} 102 114 = sym e ∙ first in omega (arith, same)
 
   -- a bank's refusal told without its place: `refused 14` and a newline has eleven bytes, `refused 14 at 1` sixteen
@@ -134,5 +130,5 @@ module _ (r : Outcome) (out : List ℕ) (size : ℕ) (after : List ℕ) (lined :
   bank-told-without-its-place f fourteen one room e =
       let told : toldBy r ≡ refusedAtLine 14 1 =
       goes-on _ _ f ∙ answered-refused _ (refusalLine (r .ended)) _ (not-accepted 14 (omega arith) fourteen) ∙ ap (refusalLine (r .ended)) fourteen ∙ ap (refusedAtLine 14) one in
-      let long : size ≡ 16 = lined .count ∙ goes-on _ _ (le-ltb (length out) 64 room) ∙ ap length (told ∙ refused-fourteen) in
+      let long : size ≡ 16 = ap (λ (g : LineGiven). g .size) (lined ∙ line-accepted out (toldBy r) room) ∙ ap length (told ∙ refused-fourteen) in
       let same : _≡_ {A = ℕ} 11 16 = sym e ∙ long in omega (arith, same)

@@ -1,6 +1,6 @@
 -- A bank that was found and keeps the form is set up for 5.1, and the convolver refuses no block with it: `ready`. Assumes nothing.
 use mathlib.Core.Path.{_≡_, refl, sym, ap, _∙_, subst}
-use mathlib.Core.Bool.{Bool, true, false, cond}
+use mathlib.Core.Bool.{true, false, cond}
 use mathlib.Core.List.{List, []}
 use Prim.Native.Nat.{ℕ, _*_, _≤_, _<_}
 use native.Mathlib.Nat.{mul-le-mul}
@@ -8,7 +8,7 @@ use native.Mathlib.Omega.{arith}
 use lib.IntN.{ℤ, pos}
 use lib.ListN.{length, replicate, length-take}
 use lib.Ieee.{Float}
-use Rattle.refusals.proofs.First.{stops, goes-on}
+use Rattle.refusals.proofs.First.{answered-accepted, answered-refused}
 use Rattle.lists.proofs.Placed.{length-placed}
 use Rattle.checks.proofs.Checks.{not-outside}
 use Rattle.channel.specs.declared.Layout.the-variants.{Surround51}
@@ -25,10 +25,10 @@ use Rattle.hrtf_setup.specs.Arrangement.{Arrangement, arrangedBy, arrangement}
 use Rattle.hrtf_setup.specs.Promise.{ofLayout, NewSurround}
 use Rattle.hrtf_setup.proofs.Accepted.{Playable, surround-playable}
 use Rattle.bank.specs.Reading.{bankFound}
-use Rattle.runs.specs.NeverRefused.{StateFits}
+use Rattle.rings.specs.State.{StateFits}
 use Rattle.runs.proofs.NeverRefused.{few-rows, short-filters, good-bank-set-up, set-up-accepted}
 use Rattle.ears_file.specs.declared.Ended.{Ended}
-use Rattle.ears_file.specs.declared.Outcome.{Outcome}
+use Rattle.ears_file.specs.declared.RunOutcome.{RunOutcome}
 use Rattle.ears_file.specs.Lines.{arranged, setupWith, partFrame, refusedBank, endsAs, itemTen}
 use Rattle.files.specs.Promises.{Found}
 use Rattle.ears_file.specs.Promise.{Ends, Answers}
@@ -47,25 +47,24 @@ module _ (xs : List Float) (o : ReadOutcome) (f : Found zeros zeros xs o) where
   lists most = record { azimuths = refl; elevations = refl; taps = most }
 
   -- a bank that breaks the form
-  pub bank-refused : length xs ≡ 8192 → (o .answer .refusal ≡ 0 → ⊥) → (e : Ended) (r : Outcome) → e ≡ refusedBank (record { refusal = o .answer .refusal; offset = o .answer .offset })
+  pub bank-refused : length xs ≡ 8192 → (o .answer .refusal ≡ 0 → ⊥) → (e : Ended) (r : RunOutcome) → e ≡ refusedBank (record { refusal = o .answer .refusal; offset = o .answer .offset })
       → r ≡ record { failed = false; ended = e } → Answers r
   bank-refused most bad e r refused is =
-      subst Answers (sym (is ∙ ap {B = Outcome} (λ (q : Ended). record { failed = false; ended = q }) (refused ∙ told)))
-      (record { bank = f .file; ends = record { line = []; ended = go (isFile (f .file)) refl } })
+      subst Answers (sym (is ∙ ap {B = RunOutcome} (λ (q : Ended). record { failed = false; ended = q }) (refused ∙ told)))
+      (record { bank = f .file; ends = record { line = []; bits = sym (answered-refused _ _ (fault (f .file) .refusal) bad-file) } })
     where
       -- one that is a file would have been accepted
       no-file : isFile (f .file) ≡ true → ⊥
-      no-file h = bad (ap (λ (q : ReadOutcome). q .answer .refusal) (f .reads .outcome ∙ sym (read-good zeros zeros xs (f .file) (lists most) h)))
+      no-file h = bad (ap (λ (q : ReadOutcome). q .answer .refusal) (f .reads .bits ∙ sym (read-good zeros zeros xs (f .file) (lists most) h)))
+
+      bad-file : fault (f .file) .refusal ≡ 0 → ⊥
+      bad-file z = no-file (is-file (f .file) z)
 
       left : o ≡ readRefused (fault (f .file)) zeros zeros xs
-      left = f .reads .outcome ∙ sym (read-bad zeros zeros xs (f .file) (lists most) (fault (f .file)) refl (λ z. no-file (is-file (f .file) z)))
+      left = f .reads .bits ∙ sym (read-bad zeros zeros xs (f .file) (lists most) (fault (f .file)) refl bad-file)
 
       told : refusedBank (record { refusal = o .answer .refusal; offset = o .answer .offset }) ≡ refusedBank (fault (f .file))
       told = ap (λ (q : ReadOutcome). refusedBank (record { refusal = q .answer .refusal; offset = q .answer .offset })) left
-
-      go : (t : Bool) → isFile (f .file) ≡ t → refusedBank (fault (f .file)) ≡ itemTen (f .file) []
-      go true h = absurd (no-file h)
-      go false h = sym (goes-on _ _ h)
 
   -- one that keeps it
   module _ (good : o .answer .refusal ≡ 0) where
@@ -73,7 +72,7 @@ module _ (xs : List Float) (o : ReadOutcome) (f : Found zeros zeros xs o) where
     b = bankIn (f .file)
 
     parts : Accepted zeros zeros xs (fault (f .file))
-    parts = accepted-parts (f .file) zeros zeros xs (ap (λ (q : ReadOutcome). q .answer .refusal) (sym (f .reads .outcome)) ∙ good)
+    parts = accepted-parts (f .file) zeros zeros xs (ap (λ (q : ReadOutcome). q .answer .refusal) (sym (f .reads .bits)) ∙ good)
 
     is : o ≡ readBank b zeros zeros xs
     unfolding b
@@ -87,12 +86,12 @@ module _ (xs : List Float) (o : ReadOutcome) (f : Found zeros zeros xs o) where
     taps-are = ap (λ (q : Bank). q .taps) bank-is
 
     -- so a run that ends as some line does with it answers as item 10 does
-    pub bank-answers : (r : Outcome) → Ends (endsAs (setupWith (bankFound o))) r → Answers r
+    pub bank-answers : (r : RunOutcome) → Ends (endsAs (setupWith (bankFound o))) r → Answers r
     unfolding b
     bank-answers r e =
         let end : endsAs (setupWith (bankFound o)) (e .line) ≡ itemTen (f .file) (e .line) =
-        ap (λ (q : Bank). endsAs (setupWith q) (e .line)) bank-is ∙ sym (stops _ _ (is-file (f .file) (parts .none))) in
-        record { bank = f .file; ends = record { line = e .line; ended = e .ended ∙ ap (cond (r .failed) partFrame) end } }
+        ap (λ (q : Bank). endsAs (setupWith q) (e .line)) bank-is ∙ sym (answered-accepted _ _ (fault (f .file) .refusal) (parts .none)) in
+        record { bank = f .file; ends = record { line = e .line; bits = e .bits ∙ ap (cond (r .failed) partFrame) end } }
 
     -- there is room for its filters, and for the cells of six speakers
     pub rows-few : o .answer .rows ≤ 8
@@ -115,7 +114,7 @@ module _ (xs : List Float) (o : ReadOutcome) (f : Found zeros zeros xs o) where
       unfolding arrangement
       arranged-is =
           let whose = ofLayout Surround51 .whose in
-          new .answer
+          new .bits
           ∙ ap (λ (m : ℕ). arrangedBy m whose 6 6 (o .azimuths) (o .elevations) (o .answer .rows) weights (replicate 8 0))
           (good-bank-set-up (f .file) zeros zeros xs o (f .reads) good (ofLayout Surround51) weights refl size)
           ∙ ap (λ (q : ReadOutcome). arrangedBy 0 whose 6 6 (q .azimuths) (q .elevations) (q .answer .rows) weights (replicate 8 0)) is
@@ -160,5 +159,5 @@ module _ (xs : List Float) (o : ReadOutcome) (f : Found zeros zeros xs o) where
           ∙ ap (setupOf (shapeOf (arranged b) (readBank b zeros zeros xs)) (arranged b .weights) (arranged b .rows)) taps-are
           ∙ sym (ap setupWith bank-is)
 
-      pub played-ends : (r : Outcome) → Ends (endsAs (setupOf (shapeOf a o) (a .weights) (a .rows) (bankFound o .taps))) r → Ends (endsAs (setupWith (bankFound o))) r
+      pub played-ends : (r : RunOutcome) → Ends (endsAs (setupOf (shapeOf a o) (a .weights) (a .rows) (bankFound o .taps))) r → Ends (endsAs (setupWith (bankFound o))) r
       played-ends r e = subst (λ (u : Setup). Ends (endsAs u) r) set-up e

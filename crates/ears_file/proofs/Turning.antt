@@ -16,15 +16,14 @@ use Rattle.planes.proofs.Planes.{length-with-frames, frames-read}
 use Rattle.history.specs.Setup.{Setup}
 use Rattle.history.specs.History.{heard, unsettledIn, after}
 use Rattle.history.proofs.Pieces.{length-heard, two-each}
-use Rattle.rings.specs.State.{State}
+use Rattle.rings.specs.State.{State, StateFits}
 use Rattle.rings.specs.Held.{Represents}
 use Rattle.rings.proofs.Blocks.{rings-room, waits-few}
 use Rattle.hrtf_checks.specs.declared.Shape.{Shape}
 use Rattle.hrtf_checks.specs.Call.{Call, setupOf}
 use Rattle.hrtf_checks.specs.Refusals.{refusalOf}
-use Rattle.hrtf.specs.Promise.{Outcome, Processes, stateAfter}
+use Rattle.hrtf.specs.Promise.{BlockOutcome, Processes, stateAfter}
 use Rattle.hrtf.proofs.Promised.{ears-over, unsettled-over}
-use Rattle.runs.specs.NeverRefused.{StateFits}
 use Rattle.wire.specs.Records.{wholeIn, restIn}
 use Rattle.wire.specs.Frames.{frameOf, lineFrames}
 use Rattle.wire.specs.Ears.{earBytes}
@@ -61,7 +60,7 @@ module _ (h : Shape) (weights : List Float) (rows : List ℕ) (taps : List Float
     (sized : (p .held < size) × (size ≤ 24576) × (size ≤ length bytes))
     (inputs-long : length inputs ≡ 6144) (ears-long : length ears ≡ 2048) (out-long : length out ≡ 8192)
     (took : Taken) (inputs₁ : List Float) (taken : record { answer = took; inputs = inputs₁ } ≡ framesTaken (take size bytes) 1024 inputs)
-    (o : Outcome) (processes : Processes (block h weights rows taps (took .frames) inputs₁ ears) (record { rings = rings; desk = p .desk }) o)
+    (o : BlockOutcome) (processes : Processes (block h weights rows taps (took .frames) inputs₁ ears) (record { rings = rings; desk = p .desk }) o)
     (ears-kept : length (o .ears) ≡ length ears) (gave : Given) (out₁ : List ℕ) (given : record { answer = gave; out = out₁ } ≡ earsGiven (o .ears) 1024 (took .frames) out) where
   abbrev u : Setup
   u = setupOf h weights rows taps
@@ -148,7 +147,7 @@ module _ (h : Shape) (weights : List Float) (rows : List ℕ) (taps : List Float
     history : Represents u (after u [] (lineFrames (line ++ part))) (stateAfter o)
     history =
         subst (λ (gs : List (List Float)). Represents u gs (stateAfter o)) (ap (after u past) read ∙ past-more u line part)
-        (processes .keeps past (stood .history) not-refused)
+        (processes .words past (stood .history) not-refused)
 
     rest : drop (n * 24) (take size bytes) ≡ restIn 24 (line ++ part)
     rest = ap (λ (k : ℕ). drop (k * 24) (take size bytes)) (count) ∙ ap (restIn 24) comes ∙ sym (cut-rest 24 (omega arith) line part)

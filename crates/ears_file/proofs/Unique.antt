@@ -7,10 +7,10 @@ use Rattle.ears_file.proofs.told
 use Rattle.ears_file.proofs.run
 
 told-unique : AllowsOneAnswer told.ended told.Reads.Learnt
-told-unique κs a = determined-by (λ z h i. (h .0 .count i, (_, (h .0 .filled i, _))))
+told-unique κs a = determined-by (λ z h i. (h .0 i .size, (_, (h .0 i .out, _))))
 
 run-unique : (κs : Lives run.ended) (a : Args run.signature κs) (y z : Answer run.ended κs a) (p : Allows run.ended run.Reads.Learnt κs a y) (q : Allows run.ended run.Reads.Learnt κs a z)
     → p .bank ≡ q .bank → p .ends .line ≡ q .ends .line → y .0 .failed ≡ z .0 .failed → y ≡ z
 run-unique κs a y z p q bank line failed =
-    let same : y .0 .ended ≡ z .0 .ended = p .ends .ended ∙ cc (bank, line, failed) ∙ sym (q .ends .ended) in
+    let same : y .0 .ended ≡ z .0 .ended = p .ends .bits ∙ cc (bank, line, failed) ∙ sym (q .ends .bits) in
     λ i. (record { failed = failed i; ended = same i }, _)

@@ -2,16 +2,16 @@
 -- `frames 0 unsettled 0`. [..] a part frame at the end prints `refused 9` only". Document 02, E2, of a bad bank: "9 is no longer given for a bank, only for a part
 -- frame. The program prints number and place, as `refused 14 at 1`; a missing bank is read as empty." Definitions only.
 use Prim.Native.Nat.{ℕ}
-use mathlib.Core.Bool.{cond}
-use mathlib.Core.List.{List, []}
+use mathlib.Core.Bool.{cond, not}
+use mathlib.Core.List.{List, [], _∷_}
 use lib.Dec.{eqb}
 use lib.IntN.{pos}
 use lib.ListN.{length, replicate}
-use Rattle.refusals.specs.Refusals.{answered}
+use Rattle.refusals.specs.Refusals.{firstOf, _when_, answered}
 use Rattle.channel.specs.declared.Layout.the-variants.{Surround51}
 use Rattle.bank_form.specs.Bank.{Bank, rows}
 use Rattle.bank_form.specs.declared.Fault.{Fault}
-use Rattle.bank_form.specs.Fault.{bankIn, fault, isFile}
+use Rattle.bank_form.specs.Fault.{bankIn, fault}
 use Rattle.bank.specs.Reading.{ReadOutcome, readBank}
 use Rattle.history.specs.Setup.{Setup}
 use Rattle.history.specs.History.{heard, unsettledIn}
@@ -22,7 +22,7 @@ use Rattle.wire.specs.Records.{wholeIn, restIn}
 use Rattle.wire.specs.Frames.{lineFrames}
 use Rattle.wire.specs.Line.{framesLine, refusedLine, refusedAtLine}
 use Rattle.ears_file.specs.declared.Ended.{Ended}
-use Rattle.ears_file.specs.declared.Outcome.{Outcome}
+use Rattle.ears_file.specs.declared.RunOutcome.{RunOutcome}
 use Rattle.wire.specs.Counting.{countedOn}
 
 -- what a bank is read into: lists of eight zeros
@@ -47,20 +47,25 @@ partFrame = record { refusal = 9; place = 0; frames = 0; unsettled = 0 }
 abbrev pub refusedBank : Fault → Ended
 refusedBank f = record { refusal = f .refusal; place = f .offset; frames = 0; unsettled = 0 }
 
+-- 9: bytes are left behind the whole frames
+abbrev pub restRefusal : ℕ → ℕ
+restRefusal rest = firstOf (9 when not (eqb rest 0) ∷ [])
+
 -- how a line ends: whole frames and nothing behind them, or a part frame
 abbrev pub endsAs : Setup → List ℕ → Ended
 endsAs u line =
-    cond (eqb (length (restIn 24 line)) 0)
-    (record { refusal = 0; place = 0; frames = countedOn 0 (wholeIn 24 line); unsettled = countedOn 0 (unsettledIn u 0 [] (lineFrames line)) }) partFrame
+    answered (restRefusal (length (restIn 24 line)))
+    (record { refusal = 0; place = 0; frames = countedOn 0 (wholeIn 24 line); unsettled = countedOn 0 (unsettledIn u 0 [] (lineFrames line)) })
+    (λ n. partFrame)
 
 -- what item 10 gives for the bytes of a bank, none where it is missing, and the bytes of a line
 abbrev pub itemTen : List ℕ → List ℕ → Ended
-itemTen bank line = cond (isFile bank) (endsAs (setupWith (bankIn bank)) line) (refusedBank (fault bank))
+itemTen bank line = answered (fault bank .refusal) (endsAs (setupWith (bankIn bank)) line) (λ n. refusedBank (fault bank))
 
 -- a refusal is told with its place, but for a part frame
 abbrev pub refusalLine : Ended → ℕ → List ℕ
 refusalLine e n = cond (eqb n 9) (refusedLine n) (refusedAtLine n (e .place))
 
 -- the line that a run is told by: none for one that failed
-abbrev pub toldBy : Outcome → List ℕ
+abbrev pub toldBy : RunOutcome → List ℕ
 toldBy r = cond (r .failed) [] (answered (r .ended .refusal) (framesLine (r .ended .frames) (r .ended .unsettled)) (refusalLine (r .ended)))

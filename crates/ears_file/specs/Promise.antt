@@ -10,16 +10,16 @@ use Rattle.wire.specs.Records.{restIn}
 use Rattle.wire.specs.Frames.{lineFrames}
 use Rattle.wire.specs.Ears.{earBytes}
 use Rattle.ears_file.specs.declared.Ended.{Ended}
-use Rattle.ears_file.specs.declared.Outcome.{Outcome}
+use Rattle.ears_file.specs.declared.RunOutcome.{RunOutcome}
 use Rattle.ears_file.specs.Lines.{earsOf, partFrame, itemTen}
 
 -- a run ends as some line does; one that failed ends as one with a part frame, and is told apart
-pub record Ends (end : List ℕ → Ended) (r : Outcome) : Type 0 where
+pub record Ends (end : List ℕ → Ended) (r : RunOutcome) : Type 0 where
   pub line : List ℕ
-  pub ended : r .ended ≡ cond (r .failed) partFrame (end line)
+  pub bits : r .ended ≡ cond (r .failed) partFrame (end line)
 
 -- with some bank
-pub record Answers (r : Outcome) : Type 0 where
+pub record Answers (r : RunOutcome) : Type 0 where
   pub bank : List ℕ
   pub ends : Ends (itemTen bank) r
 

@@ -1,27 +1,25 @@
 -- One turn of the program: what it needs of the set-up, what the record and the lists stand for before and after it, and what it puts out.
 -- Definitions only.
 use mathlib.Core.Path.{_≡_}
-use mathlib.Core.Bool.{cond}
 use mathlib.Core.List.{List, [], _++_}
 use Prim.Native.Nat.{ℕ, _≤_, _<_}
-use lib.Dec.{eqb}
 use lib.ListN.{length, take}
 use lib.Ieee.{Float}
+use Rattle.refusals.specs.Refusals.{answered}
 use Rattle.desk.specs.Numbers.{zeroed}
 use Rattle.history.specs.Setup.{Setup}
 use Rattle.history.specs.History.{unsettledIn, after}
-use Rattle.rings.specs.State.{State}
+use Rattle.rings.specs.State.{State, StateFits}
 use Rattle.rings.specs.Held.{Represents}
 use Rattle.hrtf_checks.specs.declared.Shape.{Shape}
 use Rattle.hrtf_checks.specs.Refusals.{refusalOf}
-use Rattle.runs.specs.NeverRefused.{StateFits}
 use Rattle.wire.specs.Records.{wholeIn, restIn}
 use Rattle.wire.specs.Frames.{lineFrames}
 use Rattle.ears_file.specs.declared.Ended.{Ended}
 use Rattle.ears_file.specs.declared.turn.Progress.{Progress}
 use Rattle.ears_file.specs.declared.turn.Turn.{Turn}
 use Rattle.wire.specs.Counting.{countedOn}
-use Rattle.ears_file.specs.Lines.{partFrame}
+use Rattle.ears_file.specs.Lines.{partFrame, restRefusal}
 use Rattle.ears_file.specs.Promise.{beyond}
 
 -- six channels, and the convolver refuses no block of up to 1,024 frames
@@ -37,7 +35,7 @@ atStart = record { desk = zeroed; held = 0; frames = 0; unsettled = 0 }
 
 -- where the line ends: bytes that are held are a part frame
 abbrev pub endOf : Progress → Ended
-endOf p = cond (eqb (p .held) 0) (record { refusal = 0; place = 0; frames = p .frames; unsettled = p .unsettled }) partFrame
+endOf p = answered (restRefusal (p .held)) (record { refusal = 0; place = 0; frames = p .frames; unsettled = p .unsettled }) (λ n. partFrame)
 
 -- the record, the rings and the bytes that are held stand for all that has come of a line
 pub record Stands (u : Setup) (line : List ℕ) (p : Progress) (rings : List Float) (bytes : List ℕ) : Type 0 where

@@ -1,7 +1,7 @@
 // The loop over the input: a read, a turn, and a write. What has come of the line no contract can name, so a step
 // promises that some bytes more have come, and the loop that its answer is that of some line.
 use crate::Ended;
-use crate::Outcome;
+use crate::RunOutcome;
 use crate::turn::Progress;
 use crate::turn::Turn;
 use hrtf_checks::Shape;
@@ -123,7 +123,7 @@ pub(crate) fn play_all(
     row_of: &[usize; 8],
     taps: &[f32],
     rings: &mut [f32],
-) -> Outcome
+) -> RunOutcome
     requires { ⌜ BlocksAccepted shape (now weights) (now «row_of») (now taps) ⌝ }
     requires { ⌜ now rings ≡ replicate (shape .speakers * shape .length) zero-float ⌝ }
     ensures { λ r. ⌜ Ends (endsAs (setupOf shape (now (weights .entry)) (now («row_of» .entry)) (now (taps .entry)))) r ⌝ }

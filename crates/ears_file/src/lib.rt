@@ -36,7 +36,7 @@ pub struct Ended {
 }
 
 // What a run answers: whether the system failed, and how it ended otherwise.
-pub struct Outcome {
+pub struct RunOutcome {
     pub failed: bool,
     pub ended: Ended,
 }
@@ -69,19 +69,19 @@ fn refused_bank(read: BankRead) -> Ended
 }
 
 // The system failed, which has been told.
-fn failed() -> Outcome
+fn failed() -> RunOutcome
     ensures { λ r. ⌜ r ≡ record { failed = true; ended = partFrame } ⌝ }
 {
-    Outcome {
+    RunOutcome {
         failed: true,
         ended: part_frame(),
     }
 }
 
-fn done(ended: Ended) -> Outcome
+fn done(ended: Ended) -> RunOutcome
     ensures { λ r. ⌜ r ≡ record { failed = false; ended = ended } ⌝ }
 {
-    Outcome {
+    RunOutcome {
         failed: false,
         ended,
     }
@@ -97,7 +97,7 @@ fn play_with(
     line: i32,
     out: i32,
     limit: usize,
-) -> Outcome
+) -> RunOutcome
     requires { ⌜ read .refusal ≡ 0 ⌝ }
     requires { ⌜ ((before : List Float) × Found (replicate 8 (pos 0)) (replicate 8 (pos 0)) before (record { answer = read; azimuths = now azimuths; elevations = now elevations; taps = now taps })) ⌝ }
     ensures { λ r. ⌜ Ends (endsAs (setupWith (bankFound (record { answer = read; azimuths = now (azimuths .entry); elevations = now (elevations .entry); taps = now (taps .entry) })))) r ⌝ }
@@ -135,7 +135,7 @@ fn play_with(
 
 // Plays the line that is open as `line` with the bank of a name, into the file of a name. No more than `limit`
 // bytes are read at a time: the program lets its buffer decide, and the tests try other cuts.
-pub fn run(bank: &[u8], line: i32, out: &[u8], limit: usize) -> Outcome
+pub fn run(bank: &[u8], line: i32, out: &[u8], limit: usize) -> RunOutcome
     ensures { λ r. ⌜ Answers r ⌝ }
 {
     let mut azimuths = [0i16; 8];
@@ -163,7 +163,7 @@ pub fn run(bank: &[u8], line: i32, out: &[u8], limit: usize) -> Outcome
 
 // Puts the line that a run is told by at the start of out, and answers its length: none for a run that failed,
 // which is told on standard error.
-pub fn told(run: Outcome, out: &mut [u8]) -> usize
+pub fn told(run: RunOutcome, out: &mut [u8]) -> usize
     ensures { λ r. ⌜ Lined (now (out .entry)) (toldBy run) r (now (out .exit)) ⌝ }
     ensures room { λ r. ⌜ Counts r (now (out .exit)) ⌝ }
 {

@@ -18,7 +18,7 @@ use Rattle.files.specs.Promises.{Found}
 module _ (zs es : List ℤ) (xs : List Float) (o : ReadOutcome) (f : Found zs es xs o) where
   refusal-is : o .answer .refusal ≡ readRefusal (f .file) zs es xs .refusal
   unfolding readOutcome
-  refusal-is = ap (λ (r : ReadOutcome). r .answer .refusal) (f .reads .outcome) ∙ as-told zs es xs (readRefusal (f .file) zs es xs) (bankIn (f .file))
+  refusal-is = ap (λ (r : ReadOutcome). r .answer .refusal) (f .reads .bits) ∙ as-told zs es xs (readRefusal (f .file) zs es xs) (bankIn (f .file))
 
   -- a number that is neither that of a length nor one of a bank's: 9, for instance
   refused-otherwise : (o .answer .refusal ≡ 0 → ⊥) → (o .answer .refusal ≡ 5 → ⊥) → (13 ≤ o .answer .refusal → o .answer .refusal ≤ 20 → ⊥) → ⊥
@@ -37,5 +37,5 @@ module _ (zs es : List ℤ) (xs : List Float) (o : ReadOutcome) (f : Found zs es
   filled-though-refused : (o .answer .refusal ≡ 0 → ⊥) → ((o .azimuths ≡ zs) × (o .elevations ≡ es) × (o .taps ≡ xs) → ⊥) → ⊥
   unfolding readOutcome
   filled-though-refused some other =
-      let kept = f .reads .outcome ∙ sym (as-refused zs es xs (readRefusal (f .file) zs es xs) (readRefusal (f .file) zs es xs) (bankIn (f .file)) refl (λ z. some (refusal-is ∙ z))) in
+      let kept = f .reads .bits ∙ sym (as-refused zs es xs (readRefusal (f .file) zs es xs) (readRefusal (f .file) zs es xs) (bankIn (f .file)) refl (λ z. some (refusal-is ∙ z))) in
       other (ap (λ (r : ReadOutcome). r .azimuths) kept, ap (λ (r : ReadOutcome). r .elevations) kept, ap (λ (r : ReadOutcome). r .taps) kept)

@@ -25,7 +25,7 @@ module _ (bytes : List ℕ) (size n : ℕ) (zs es : List ℤ) (xs : List Float) 
       record {
         are = known;
         each = λ file are kept.
-            r .each file are (rw (long, enough-kept n size (omega (arith, e, room))) tt) (subst (λ (start : List ℕ). TakenFrom start size file) all kept);
+            r .words file are (rw (long, enough-kept n size (omega (arith, e, room))) tt) (subst (λ (start : List ℕ). TakenFrom start size file) all kept);
       }
 
 -- ---- a file of that size that begins so

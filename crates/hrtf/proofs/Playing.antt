@@ -23,7 +23,7 @@ use Rattle.rings.proofs.Told.{length-stored}
 use Rattle.hrtf_checks.specs.declared.Shape.{Shape}
 use Rattle.hrtf_checks.specs.Call.{Call, setupOf, setup, framesIn}
 use Rattle.hrtf_checks.specs.Computed.{Ready}
-use Rattle.hrtf.specs.Promise.{Outcome}
+use Rattle.hrtf.specs.Promise.{BlockOutcome}
 use Rattle.hrtf.specs.declared.frames.EarSamples.{EarSamples}
 use Rattle.hrtf.specs.Computed.{earsBy, FramePlayed, BlockPlayed}
 
@@ -68,7 +68,7 @@ record Stage : Type 0 where
 
 module _ (c : Call) where
   -- what comes out where frames n, n + 1, .. are played from there
-  abbrev sounded : ℕ → Stage → ℕ → List (List Float) → Outcome
+  abbrev sounded : ℕ → Stage → ℕ → List (List Float) → BlockOutcome
   sounded n s more fs =
       record {
         answer = record { refusal = 0; samples = c .frames; unsettled = more; desk = left (setup c) (s .state) fs .desk };
@@ -76,7 +76,7 @@ module _ (c : Call) where
         ears = withFrames (s .ears) (c .stride) n (played (setup c) (s .state) fs);
       }
 
-  abbrev onward : ℕ → Stage → List (List Float) → Outcome
+  abbrev onward : ℕ → Stage → List (List Float) → BlockOutcome
   onward n s fs = sounded n s (s .count + counted (setup c) (s .state) fs) fs
 
   abbrev one-late : Stage → List Float → ℕ

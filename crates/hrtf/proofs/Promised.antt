@@ -25,8 +25,8 @@ use Rattle.rings.specs.Held.{heldIn, afterFrames, Represents}
 use Rattle.rings.proofs.Blocks.{played-held, left-is, counted-is, played-heard, counted-told, left-kept, fresh-represents}
 use Rattle.hrtf_checks.specs.Call.{Call, setup, framesIn}
 use Rattle.hrtf_checks.specs.Refusals.{refusalOf}
-use Rattle.hrtf.specs.Promise.{Outcome, refused, accepted, outcomeBy, outcome, stateAfter, Processes}
-use Rattle.hrtf.specs.Reset.{resetChecks, resetRefusal, AfterReset, resetBy, resetOutcome, Resets}
+use Rattle.hrtf.specs.Promise.{BlockOutcome, refused, accepted, outcomeBy, outcome, stateAfter, Processes}
+use Rattle.hrtf.specs.Reset.{resetChecks, resetRefusal, ResetOutcome, resetBy, resetOutcome, Resets}
 use Rattle.hrtf.specs.Computed.{computed, BlockPlayed}
 use Rattle.hrtf_checks.proofs.Refusing.{ears-fit, waits, ready}
 
@@ -55,20 +55,20 @@ pub outcome-computed : (c : Call) (t : State) → refusalOf c t ≡ 0 → outcom
 outcome-computed c t e = outcome-by c t 0 e ∙ accepted-computed c t e
 
 -- the equation says it all
-promised : (c : Call) (t : State) (o : Outcome) → o ≡ outcome c t → Processes c t o
+promised : (c : Call) (t : State) (o : BlockOutcome) → o ≡ outcome c t → Processes c t o
 promised c t o e =
     record {
-      answer = e;
-      keeps = λ past r z. subst (λ (q : Outcome). Represents (setup c) (after (setup c) past (framesIn c)) (stateAfter q)) (sym (e ∙ outcome-computed c t z)) (left-kept (setup c) past t r (framesIn c));
+      bits = e;
+      words = λ past r z. subst (λ (q : BlockOutcome). Represents (setup c) (after (setup c) past (framesIn c)) (stateAfter q)) (sym (e ∙ outcome-computed c t z)) (left-kept (setup c) past t r (framesIn c));
     }
 
 -- an accepted call over a past that rings and desk stand for: document 01's sums over it stand in the ear planes, and the count is over it
-module _ (c : Call) (t : State) (o : Outcome) (p : Processes c t o) (past : List (List Float)) (r : Represents (setup c) past t) (z : refusalOf c t ≡ 0) where
+module _ (c : Call) (t : State) (o : BlockOutcome) (p : Processes c t o) (past : List (List Float)) (r : Represents (setup c) past t) (z : refusalOf c t ≡ 0) where
   pub ears-over : o .ears ≡ withFrames (c .ears) (c .stride) 0 (heard (setup c) past (framesIn c))
-  ears-over = ap (λ (q : Outcome). q .ears) (p .answer ∙ outcome-computed c t z) ∙ ap (withFrames (c .ears) (c .stride) 0) (played-heard (setup c) past t r (framesIn c))
+  ears-over = ap (λ (q : BlockOutcome). q .ears) (p .bits ∙ outcome-computed c t z) ∙ ap (withFrames (c .ears) (c .stride) 0) (played-heard (setup c) past t r (framesIn c))
 
   pub unsettled-over : o .answer .unsettled ≡ unsettledIn (setup c) 0 past (framesIn c)
-  unsettled-over = ap (λ (q : Outcome). q .answer .unsettled) (p .answer ∙ outcome-computed c t z) ∙ counted-told (setup c) past t r (framesIn c)
+  unsettled-over = ap (λ (q : BlockOutcome). q .answer .unsettled) (p .bits ∙ outcome-computed c t z) ∙ counted-told (setup c) past t r (framesIn c)
 
 pub promised-refused : (c : Call) (t : State) (n : ℕ) → n ≡ refusalOf c t → (n ≡ 0 → ⊥) → Processes c t (refused n c t)
 promised-refused c t n e some = promised c t (refused n c t) (sym (outcome-by c t n (sym e) ∙ answered-refused (accepted c t) (λ k. refused k c t) n some))
@@ -84,7 +84,7 @@ pub none-played : (c : Call) (t : State) → refusalOf c t ≡ 0 → c .frames �
     → outcome c t ≡ record { answer = record { refusal = 0; samples = c .frames; unsettled = 0; desk = t .desk }; rings = t .rings; ears = c .ears }
 none-played c t e z = outcome-computed c t e ∙ ap by (ap (framesOf (c .inputs) (c .stride) (c .shape .channels)) z)
   where
-    by : List (List Float) → Outcome
+    by : List (List Float) → BlockOutcome
     by fs =
         record {
           answer = record { refusal = 0; samples = c .frames; unsettled = counted (setup c) t fs; desk = left (setup c) t fs .desk };
@@ -104,7 +104,7 @@ ear-at c t e ear n he hn =
     let past = heldIn (setup c) t in
     let fs = framesIn c in
     let many : length fs ≡ c .frames = length-tab 0 (c .frames) (frameAt (c .inputs) (c .stride) (c .shape .channels)) in
-    ap (λ (o : Outcome). sampleAt (o .ears) (c .stride) ear n) (outcome-by c t 0 e)
+    ap (λ (o : BlockOutcome). sampleAt (o .ears) (c .stride) ear n) (outcome-by c t 0 e)
     ∙ ap (sampleAt (withFrames (c .ears) (c .stride) 0 (heard u past fs)) (c .stride) ear) (sym (zero-add n))
     ∙ with-frames-at 2 (c .ears) (c .stride) 0 (heard u past fs) ear n (omega (arith, hn, all-heard c past)) he (omega (arith, all-heard c past, ears-fit c t e .0)) (ears-fit c t e .1) (two-each u past fs)
     ∙ ap (λ (l : List Float). getD l ear nan) (heard-from u past fs n [] (omega (arith, hn, many)))
@@ -113,7 +113,7 @@ ear-at c t e ear n he hn =
 pub beyond : (c : Call) (t : State) → refusalOf c t ≡ 0 → (plane i : ℕ) → c .frames ≤ i → i < c .stride
     → sampleAt (outcome c t .ears) (c .stride) plane i ≡ sampleAt (c .ears) (c .stride) plane i
 beyond c t e plane i h lt =
-    ap (λ (o : Outcome). sampleAt (o .ears) (c .stride) plane i) (outcome-by c t 0 e)
+    ap (λ (o : BlockOutcome). sampleAt (o .ears) (c .stride) plane i) (outcome-by c t 0 e)
     ∙ with-frames-other (c .ears) (c .stride) 0 (heard (setup c) (heldIn (setup c) t) (framesIn c)) plane i lt (omega (arith, all-heard c (heldIn (setup c) t), ears-fit c t e .0)) (λ k b q. omega (arith, all-heard c (heldIn (setup c) t), b, q))
 
 -- ---- a reset
@@ -138,11 +138,11 @@ module _ (d : Desk) (speakers L : ℕ) (rings : List Float) where
   unfolding resetRefusal
   reset-fits e = let off = none-holds (resetChecks speakers L rings) tt e in (not-outside L 512 (off .1 .0) .0, is-equal (length rings) (speakers * L) (off .1 .1 .0))
 
-  reset-told : (o : AfterReset) → o ≡ resetOutcome d speakers L rings → Resets d speakers L rings o
+  reset-told : (o : ResetOutcome) → o ≡ resetOutcome d speakers L rings → Resets d speakers L rings o
   reset-told o e =
       record {
-        answer = e;
-        fresh = λ z u es eL. subst (λ (p : AfterReset). Represents u [] (record { rings = p .rings; desk = p .answer .desk })) (sym (e ∙ reset-by 0 z))
+        bits = e;
+        words = λ z u es eL. subst (λ (p : ResetOutcome). Represents u [] (record { rings = p .rings; desk = p .answer .desk })) (sym (e ∙ reset-by 0 z))
             (subst (λ (n : ℕ). Represents u [] (record { rings = replicate n zero-float; desk = zeroed }))
             (cells u es eL ∙ sym (reset-fits z .1)) (fresh-represents u (subst (λ (n : ℕ). 0 < n) (sym eL) (reset-fits z .0))));
       }
@@ -155,9 +155,9 @@ module _ (d : Desk) (speakers L : ℕ) (rings : List Float) where
   number-by zero = refl
   number-by (suc n) = refl
 
-  pub reset-number : (o : AfterReset) → Resets d speakers L rings o → o .answer .refusal ≡ resetRefusal speakers L rings
+  pub reset-number : (o : ResetOutcome) → Resets d speakers L rings o → o .answer .refusal ≡ resetRefusal speakers L rings
   unfolding resetOutcome
-  reset-number o r = ap (λ (p : AfterReset). p .answer .refusal) (r .answer) ∙ number-by (resetRefusal speakers L rings)
+  reset-number o r = ap (λ (p : ResetOutcome). p .answer .refusal) (r .bits) ∙ number-by (resetRefusal speakers L rings)
 
   pub reset-refused : (k : ℕ) → resetRefusal speakers L rings ≡ suc k → Resets d speakers L rings (record { answer = record { refusal = suc k; desk = d }; rings = rings })
   reset-refused k e = reset-told (record { answer = record { refusal = suc k; desk = d }; rings = rings }) (sym (reset-by (suc k) e))

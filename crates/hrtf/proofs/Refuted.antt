@@ -17,21 +17,21 @@ use Rattle.rings.specs.State.{State}
 use Rattle.hrtf_checks.specs.Call.{Call, framesIn}
 use Rattle.hrtf_checks.specs.Refusals.{refusalOf}
 use Rattle.hrtf_checks.proofs.Refusing.{ready}
-use Rattle.hrtf.specs.Promise.{Outcome, Processes}
-use Rattle.hrtf.specs.Reset.{resetRefusal, AfterReset, Resets}
+use Rattle.hrtf.specs.Promise.{BlockOutcome, Processes}
+use Rattle.hrtf.specs.Reset.{resetRefusal, ResetOutcome, Resets}
 use Rattle.hrtf.proofs.Promised.{outcome-by, reset-by, reset-number}
 
 -- the stride for the frames
-stride-counted : (c : Call) (t : State) (o : Outcome) → Processes c t o → refusalOf c t ≡ 0 → (c .frames ≡ c .stride → ⊥) → o .answer .samples ≡ c .stride → ⊥
-stride-counted c t o p e other s = other (sym (ap (λ (q : Outcome). q .answer .samples) (p .answer ∙ outcome-by c t 0 e)) ∙ s)
+stride-counted : (c : Call) (t : State) (o : BlockOutcome) → Processes c t o → refusalOf c t ≡ 0 → (c .frames ≡ c .stride → ⊥) → o .answer .samples ≡ c .stride → ⊥
+stride-counted c t o p e other s = other (sym (ap (λ (q : BlockOutcome). q .answer .samples) (p .bits ∙ outcome-by c t 0 e)) ∙ s)
 
 -- the desk given in, after one frame round a ring of two cells or more
-desk-kept : (c : Call) (t : State) (o : Outcome) → Processes c t o → refusalOf c t ≡ 0
+desk-kept : (c : Call) (t : State) (o : BlockOutcome) → Processes c t o → refusalOf c t ≡ 0
     → c .frames ≡ 1 → 1 < c .shape .length → o .answer .desk ≡ t .desk → ⊥
 desk-kept c t o p e one long same =
     moved (t .desk .position) (c .shape .length) long (ready c t e .within)
     (ap (λ (n : ℕ). (t .desk .position + n) % c .shape .length) (sym (many ∙ one))
-    ∙ sym (ap (λ (q : Outcome). q .answer .desk .position) (p .answer ∙ outcome-by c t 0 e)) ∙ ap (λ (d : Desk). d .position) same)
+    ∙ sym (ap (λ (q : BlockOutcome). q .answer .desk .position) (p .bits ∙ outcome-by c t 0 e)) ∙ ap (λ (d : Desk). d .position) same)
   where
     many : length (framesIn c) ≡ c .frames
     many = length-tab 0 (c .frames) (frameAt (c .inputs) (c .stride) (c .shape .channels))
@@ -45,7 +45,7 @@ desk-kept c t o p e one long same =
         omega (arith, sym (ap (λ (k : ℕ). k % m) end ∙ mod-self m) ∙ s))
         (split (n + 1) m)
 
-module _ (d : Desk) (speakers L : ℕ) (rings : List Float) (o : AfterReset) (r : Resets d speakers L rings o) where
+module _ (d : Desk) (speakers L : ℕ) (rings : List Float) (o : ResetOutcome) (r : Resets d speakers L rings o) where
   -- nine speakers taken
   nine-speakers : speakers ≡ 9 → o .answer .refusal ≡ 0 → ⊥
   unfolding resetRefusal
@@ -54,8 +54,8 @@ module _ (d : Desk) (speakers L : ℕ) (rings : List Float) (o : AfterReset) (r 
   module _ (z : resetRefusal speakers L rings ≡ 0) where
     -- a cell that is not 0.0
     sounding-cell : (i : ℕ) → i < length rings → (getD (o .rings) i nan ≡ zero-float → ⊥) → ⊥
-    sounding-cell i h other = other (ap (λ (a : AfterReset). getD (a .rings) i nan) (r .answer ∙ reset-by d speakers L rings 0 z) ∙ getD-replicate (length rings) i zero-float nan h)
+    sounding-cell i h other = other (ap (λ (a : ResetOutcome). getD (a .rings) i nan) (r .bits ∙ reset-by d speakers L rings 0 z) ∙ getD-replicate (length rings) i zero-float nan h)
 
     -- frames to go
     frames-to-go : (n : ℕ) → o .answer .desk .«to_go» ≡ suc n → ⊥
-    frames-to-go n e = suc-ne-zero n (sym e ∙ ap (λ (a : AfterReset). a .answer .desk .«to_go») (r .answer ∙ reset-by d speakers L rings 0 z))
+    frames-to-go n e = suc-ne-zero n (sym e ∙ ap (λ (a : ResetOutcome). a .answer .desk .«to_go») (r .bits ∙ reset-by d speakers L rings 0 z))

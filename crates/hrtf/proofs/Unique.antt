@@ -5,7 +5,7 @@ use Rattle.hrtf.proofs.process
 use Rattle.hrtf.proofs.reset
 
 process-unique : AllowsOneAnswer process.ended process.Reads.Learnt
-process-unique κs a = determined-by (λ z h i. (h .answer i .answer, (_, (_, (_, (_, (_, (_, (_, (_, (h .answer i .rings, (h .answer i .ears, _))))))))))))
+process-unique κs a = determined-by (λ z h i. (h .bits i .answer, (_, (_, (_, (_, (_, (_, (_, (_, (h .bits i .rings, (h .bits i .ears, _))))))))))))
 
 reset-unique : AllowsOneAnswer reset.ended reset.Reads.Learnt
-reset-unique κs a = determined-by (λ z h i. (h .answer i .answer, (_, (_, (_, (h .answer i .rings, _))))))
+reset-unique κs a = determined-by (λ z h i. (h .bits i .answer, (_, (_, (_, (h .bits i .rings, _))))))

@@ -20,7 +20,7 @@ use Rattle.hrtf_checks.specs.Computed.{Ready}
 use Rattle.hrtf.specs.declared.frames.Scaled.{Scaled}
 use Rattle.hrtf.specs.declared.frames.EarSamples.{EarSamples}
 use Rattle.hrtf.specs.declared.parts.EarSums.{EarSums}
-use Rattle.hrtf.specs.Promise.{Outcome}
+use Rattle.hrtf.specs.Promise.{BlockOutcome}
 
 -- a shape with the factor of its ears' sums
 abbrev pub scaledOf : Shape → Scaled
@@ -77,7 +77,7 @@ pub record FramePlayed (h : Shape) (weights : List Float) (rows : List ℕ) (tap
   pub damage : bad ≡ damaged (setupOf h weights rows taps) f
 
 -- what the steps of an accepted call make of it: the law `accepted-computed` ties this to the promise, in every state
-abbrev pub computed : Call → State → Outcome
+abbrev pub computed : Call → State → BlockOutcome
 computed c t =
     record {
       answer = record { refusal = 0; samples = c .frames; unsettled = counted (setup c) t (framesIn c); desk = left (setup c) t (framesIn c) .desk };

@@ -9,22 +9,22 @@ use Rattle.planes.specs.Planes.{withFrames}
 use Rattle.history.specs.History.{heard, unsettledIn, after}
 use Rattle.rings.specs.State.{State}
 use Rattle.rings.specs.Held.{heldIn, afterFrames, Represents}
-use Rattle.hrtf.specs.declared.Processed.{Processed}
+use Rattle.hrtf.specs.declared.BlockAnswer.{BlockAnswer}
 use Rattle.hrtf_checks.specs.Call.{Call, setup, framesIn}
 use Rattle.hrtf_checks.specs.Refusals.{refusalOf}
 
 -- the answer, and what the lent rings and ear planes hold
-pub record Outcome : Type 0 where
-  pub answer : Processed
+pub record BlockOutcome : Type 0 where
+  pub answer : BlockAnswer
   pub rings : List Float
   pub ears : List Float
 
-abbrev pub refused : ℕ → Call → State → Outcome
+abbrev pub refused : ℕ → Call → State → BlockOutcome
 refused n c t = record { answer = record { refusal = n; samples = 0; unsettled = 0; desk = t .desk }; rings = t .rings; ears = c .ears }
 
 -- the count: those of the call's frames that have damage among its last L, or lie within the frames to go that were given; the rings and the desk: what its frames leave; the ears: document 01's
 -- sums over the call's signals up to each frame, newest first, and then those that the rings held, whatever these are
-abbrev pub accepted : Call → State → Outcome
+abbrev pub accepted : Call → State → BlockOutcome
 accepted c t =
     record {
       answer = record { refusal = 0; samples = c .frames; unsettled = unsettledIn (setup c) (t .desk .«to_go») [] (framesIn c); desk = afterFrames (setup c) t (framesIn c) .desk };
@@ -32,17 +32,17 @@ accepted c t =
       ears = withFrames (c .ears) (c .stride) 0 (heard (setup c) (heldIn (setup c) t) (framesIn c));
     }
 
-abbrev pub outcomeBy : ℕ → Call → State → Outcome
+abbrev pub outcomeBy : ℕ → Call → State → BlockOutcome
 outcomeBy n c t = answered n (accepted c t) (λ k. refused k c t)
 
-unfoldable pub outcome : Call → State → Outcome
+unfoldable pub outcome : Call → State → BlockOutcome
 outcome c t = outcomeBy (refusalOf c t) c t
 
 -- the rings and the desk that it leaves
-abbrev pub stateAfter : Outcome → State
+abbrev pub stateAfter : BlockOutcome → State
 stateAfter o = record { rings = o .rings; desk = o .answer .desk }
 
 -- beside the equation: what stands for a past stands, after an accepted call, for that past with the call's frames
-pub record Processes (c : Call) (t : State) (o : Outcome) : Type 0 where
-  pub answer : o ≡ outcome c t
-  pub keeps : (past : List (List Float)) → Represents (setup c) past t → refusalOf c t ≡ 0 → Represents (setup c) (after (setup c) past (framesIn c)) (stateAfter o)
+pub record Processes (c : Call) (t : State) (o : BlockOutcome) : Type 0 where
+  pub bits : o ≡ outcome c t
+  pub words : (past : List (List Float)) → Represents (setup c) past t → refusalOf c t ≡ 0 → Represents (setup c) (after (setup c) past (framesIn c)) (stateAfter o)

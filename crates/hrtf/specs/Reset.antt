@@ -21,19 +21,19 @@ unfoldable pub resetRefusal : ℕ → ℕ → List Float → ℕ
 resetRefusal speakers L rings = firstOf (resetChecks speakers L rings)
 
 -- the answer, and what the lent rings hold
-pub record AfterReset : Type 0 where
+pub record ResetOutcome : Type 0 where
   pub answer : Rested
   pub rings : List Float
 
-abbrev pub resetBy : ℕ → Desk → List Float → AfterReset
+abbrev pub resetBy : ℕ → Desk → List Float → ResetOutcome
 resetBy n d rings =
     answered n (record { answer = record { refusal = 0; desk = zeroed }; rings = replicate (length rings) zero-float })
     (λ k. record { answer = record { refusal = k; desk = d }; rings = rings })
 
-unfoldable pub resetOutcome : Desk → ℕ → ℕ → List Float → AfterReset
+unfoldable pub resetOutcome : Desk → ℕ → ℕ → List Float → ResetOutcome
 resetOutcome d speakers L rings = resetBy (resetRefusal speakers L rings) d rings
 
 -- beside the equation: what an accepted reset leaves stands for the empty past, whatever is set up with those speakers and that L
-pub record Resets (d : Desk) (speakers L : ℕ) (rings : List Float) (o : AfterReset) : Type 0 where
-  pub answer : o ≡ resetOutcome d speakers L rings
-  pub fresh : resetRefusal speakers L rings ≡ 0 → (u : Setup) → u .speakers ≡ speakers → u .L ≡ L → Represents u [] (record { rings = o .rings; desk = o .answer .desk })
+pub record Resets (d : Desk) (speakers L : ℕ) (rings : List Float) (o : ResetOutcome) : Type 0 where
+  pub bits : o ≡ resetOutcome d speakers L rings
+  pub words : resetRefusal speakers L rings ≡ 0 → (u : Setup) → u .speakers ≡ speakers → u .L ≡ L → Represents u [] (record { rings = o .rings; desk = o .answer .desk })

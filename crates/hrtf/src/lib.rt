@@ -22,7 +22,7 @@ mod frames;
 mod parts;
 
 // What a block answers: a refusal, or 0 with the frames played, how many of them are unsettled, and the desk.
-pub struct Processed {
+pub struct BlockAnswer {
     pub refusal: u8,
     pub samples: usize,
     pub unsettled: usize,
@@ -47,7 +47,7 @@ pub fn process(
     taps: &[f32],
     rings: &mut [f32],
     ears: &mut [f32],
-) -> Processed
+) -> BlockAnswer
     ensures { λ r. ⌜ Processes
         (record { shape = shape; frames = frames; stride = stride; inputs = now (inputs .entry); weights = now (weights .entry); rows = now («row_of» .entry); taps = now (taps .entry); ears = now (ears .entry) })
         (record { rings = now (rings .entry); desk = desk })
@@ -66,7 +66,7 @@ pub fn process(
         ears,
     );
     if refusal != 0 {
-        return Processed {
+        return BlockAnswer {
             refusal,
             samples: 0,
             unsettled: 0,
@@ -86,7 +86,7 @@ pub fn process(
         ears,
     );
     let left = turn.desk;
-    Processed {
+    BlockAnswer {
         refusal: 0,
         samples: frames,
         unsettled: turn.unsettled,

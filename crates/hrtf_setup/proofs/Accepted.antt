@@ -66,7 +66,7 @@ Few w = ((0 < w .speakers) × (w .speakers ≤ 8)) × ((0 < w .channels) × (w .
 module _ (w : Wanted) (azimuths elevations : List ℤ) (rows : ℕ) (weights : List Float) (given : List ℕ) (o : Arrangement) (a : Arranges w azimuths elevations rows weights given o) where
   -- the number answered is the one that is asked for
   refusal-told : o .answer .refusal ≡ refusalOf w azimuths elevations rows weights
-  refusal-told = ap (λ (q : Arrangement). q .answer .refusal) (a .answer ∙ by-wanted w azimuths elevations rows weights given (refusalOf w azimuths elevations rows weights) refl) ∙ go (refusalOf w azimuths elevations rows weights)
+  refusal-told = ap (λ (q : Arrangement). q .answer .refusal) (a .bits ∙ by-wanted w azimuths elevations rows weights given (refusalOf w azimuths elevations rows weights) refl) ∙ go (refusalOf w azimuths elevations rows weights)
     where
       go : (n : ℕ) → arrangedBy n (w .whose) (w .speakers) (w .channels) azimuths elevations rows weights given .answer .refusal ≡ n
       go zero = refl
@@ -78,11 +78,11 @@ module _ (w : Wanted) (azimuths elevations : List ℤ) (rows : ℕ) (weights : L
   -- where the bank's rows stand at one elevation, each speaker takes the row that document 01 names
   pub flat-rows : refusalOf w azimuths elevations rows weights ≡ 0 → Flat elevations rows → (s : ℕ)
       → TakesByAzimuth azimuths rows (tenthsAt (w .whose) s) (rowAt (w .whose) azimuths elevations rows s)
-  flat-rows z flat s = flat-as-before azimuths elevations rows (tenthsAt (w .whose) s) speakerElevation flat (rowAt (w .whose) azimuths elevations rows s) .0 (a .takes z s)
+  flat-rows z flat s = flat-as-before azimuths elevations rows (tenthsAt (w .whose) s) speakerElevation flat (rowAt (w .whose) azimuths elevations rows s) .0 (a .words .takes z s)
 
   module _ (few : Few w) (eight : length given ≡ 8) (z : refusalOf w azimuths elevations rows weights ≡ 0) where
     is : o ≡ arrangedBy 0 (w .whose) (w .speakers) (w .channels) azimuths elevations rows weights given
-    is = a .answer ∙ by-wanted w azimuths elevations rows weights given 0 z
+    is = a .bits ∙ by-wanted w azimuths elevations rows weights given 0 z
 
     rows-are : o .rows ≡ sets given 0 (tab 0 (w .speakers) (rowAt (w .whose) azimuths elevations rows))
     rows-are = ap (λ (q : Arrangement). q .rows) is
@@ -108,7 +108,7 @@ module _ (w : Wanted) (azimuths elevations : List ℤ) (rows : ℕ) (weights : L
               ∙ sound-tab 0 (w .speakers * w .channels) (weightAt (w .whose) (w .channels))
               (λ i. weight-finite (w .whose) _ (i % w .channels) (omega (arith, mod-lt i {m = w .channels} (few .1 .0), few .1 .1)));
           chosen = λ s h. let g : s < w .speakers = subst (λ (n : ℕ). s < n) (counted .0) h in
-              subst (λ (r : ℕ). r < rows) (sym (row-is s g)) (a .takes z s .among);
+              subst (λ (r : ℕ). r < rows) (sym (row-is s g)) (a .words .takes z s .among);
         }
 
 -- ---- which set-ups are accepted: speakers that are offered, 1 to 8 rows of lists of 8 azimuths and 8 elevations, and as many weights as there are
@@ -122,6 +122,10 @@ set-up w azimuths elevations rows weights h few full high long =
 
 -- ---- each of the two
 
+pub ambisonic-arranges : (order : ℕ) (azimuths elevations : List ℤ) (rows : ℕ) (weights : List Float) (given : List ℕ) (o : Arrangement)
+    → NewAmbisonic order azimuths elevations rows weights given o → Arranges (ofOrder order) azimuths elevations rows weights given o
+ambisonic-arranges order azimuths elevations rows weights given o p = record { bits = p .bits; words = p .words .arranges }
+
 module _ (azimuths elevations : List ℤ) (rows : ℕ) (weights : List Float) (given : List ℕ) (o : Arrangement) (eight : length given ≡ 8) (e : o .answer .refusal ≡ 0) where
   pub surround-playable : (l : Layout) → NewSurround l azimuths elevations rows weights given o → Playable rows o
   surround-playable l p =
@@ -131,6 +135,6 @@ module _ (azimuths elevations : List ℤ) (rows : ℕ) (weights : List Float) (g
 
   pub ambisonic-playable : (order : ℕ) → NewAmbisonic order azimuths elevations rows weights given o → Playable rows o
   ambisonic-playable order p =
-      let z = accepted-of (ofOrder order) azimuths elevations rows weights given o (p .arranges) e in
-      playable (ofOrder order) azimuths elevations rows weights given o (p .arranges)
+      let z = accepted-of (ofOrder order) azimuths elevations rows weights given o (ambisonic-arranges order azimuths elevations rows weights given o p) e in
+      playable (ofOrder order) azimuths elevations rows weights given o (ambisonic-arranges order azimuths elevations rows weights given o p)
       (by-order (λ (n : ℕ). Few (ofOrder n)) ((lit< tt, lit≤ tt), (lit< tt, lit≤ tt)) ((lit< tt, lit≤ tt), (lit< tt, lit≤ tt)) ((lit< tt, lit≤ tt), (lit< tt, lit≤ tt)) order (offered (ofOrder order) azimuths elevations rows weights 0 refl z)) eight z

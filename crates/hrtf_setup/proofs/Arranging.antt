@@ -134,13 +134,16 @@ module _ (w : Wanted) (azimuths elevations : List ℤ) (rows : ℕ) (weights : L
     arranges : (n : ℕ) → w .check .number ≡ suc n → (o : Arrangement) → o ≡ arrangement w azimuths elevations rows weights given → Arranges w azimuths elevations rows weights given o
     arranges n en o e =
         record {
-          answer = e;
-          weighs = λ z s c hs hc.
-              ap (λ (q : Arrangement). getD (q .weights) (s * w .channels + c) nan) (e ∙ by-wanted 0 z)
-              ∙ getD-tab 0 (w .speakers * w .channels) (weightAt (w .whose) (w .channels)) (s * w .channels + c) nan (inside (w .speakers) (w .channels) s c (w .speakers * w .channels) hs hc refl)
-              ∙ ap (weightAt (w .whose) (w .channels)) (zero-add (s * w .channels + c))
-              ∙ weighed (w .whose) (w .channels) s c hc;
-          takes = λ z s. let p = later-passed (sym (later-of (offered n en z)) ∙ z) in row-taken (w .whose) azimuths elevations rows s (p .0) (p .1) (p .2);
+          bits = e;
+          words =
+              record {
+                weighs = λ z s c hs hc.
+                    ap (λ (q : Arrangement). getD (q .weights) (s * w .channels + c) nan) (e ∙ by-wanted 0 z)
+                    ∙ getD-tab 0 (w .speakers * w .channels) (weightAt (w .whose) (w .channels)) (s * w .channels + c) nan (inside (w .speakers) (w .channels) s c (w .speakers * w .channels) hs hc refl)
+                    ∙ ap (weightAt (w .whose) (w .channels)) (zero-add (s * w .channels + c))
+                    ∙ weighed (w .whose) (w .channels) s c hc;
+                takes = λ z s. let p = later-passed (sym (later-of (offered n en z)) ∙ z) in row-taken (w .whose) azimuths elevations rows s (p .0) (p .1) (p .2);
+              };
         }
 
     -- the first check decides
@@ -186,8 +189,12 @@ module _ (order : ℕ) (azimuths elevations : List ℤ) (rows : ℕ) (weights : 
   ambisonic : (o : Arrangement) → Arranges (ofOrder order) azimuths elevations rows weights given o → NewAmbisonic order azimuths elevations rows weights given o
   ambisonic o a =
       record {
-        arranges = a;
-        near = λ z s. outcome-kept order (positionOf s) .near (position-accepted order s (offered (ofOrder order) azimuths elevations rows weights 0 refl z));
+        bits = a .bits;
+        words =
+            record {
+              arranges = a .words;
+              near = λ z s. outcome-kept order (positionOf s) .near (position-accepted order s (offered (ofOrder order) azimuths elevations rows weights 0 refl z));
+            };
       }
 
   pub order-refused : (a : Arranged) → refusesOrder order ≡ true → a ≡ record { refusal = 1; speakers = 0; channels = 0 }

@@ -71,17 +71,17 @@ accepts-order = refl
 
 refuses-51 : (given : List ℕ) (o : Arrangement) → NewSurround Surround51 bank flat 2 (replicate 36 nan) given o → (n : ℕ) → o .answer .refusal ≡ suc n → ⊥
 unfolding refusalOf bank flat arrangement
-refuses-51 given o p n e = suc-ne-zero n (sym e ∙ ap (λ (q : Arrangement). q .answer .refusal) (p .answer))
+refuses-51 given o p n e = suc-ne-zero n (sym e ∙ ap (λ (q : Arrangement). q .answer .refusal) (p .bits))
 
 refuses-order : (given : List ℕ) (o : Arrangement) → NewAmbisonic 3 bank flat 2 (replicate 128 nan) given o → (n : ℕ) → o .answer .refusal ≡ suc n → ⊥
 unfolding refusalOf bank flat arrangement
-refuses-order given o p n e = suc-ne-zero n (sym e ∙ ap (λ (q : Arrangement). q .answer .refusal) (p .arranges .answer))
+refuses-order given o p n e = suc-ne-zero n (sym e ∙ ap (λ (q : Arrangement). q .answer .refusal) (p .bits))
 
 -- ---- leaves the elevations out of account: the rows put for a bank with a raised row are those of a flat one
 
 ignores-elevations : (o : Arrangement) → NewSurround Surround51 bank raised 2 (replicate 36 nan) (replicate 8 0) o → o .rows ≡ rowsOf (Of Surround51) 6 bank flat 2 (replicate 8 0) → ⊥
 unfolding refusalOf bank flat raised arrangement choiceOf choiceRefusal inTenths inElevation nearestFrom nearer key elevationAway apart
-ignores-elevations o p e = let z : _≡_ {A = ℕ} 0 1 = ap (λ (l : List ℕ). getD l 0 0) (sym e ∙ ap (λ (q : Arrangement). q .rows) (p .answer)) in omega arith
+ignores-elevations o p e = let z : _≡_ {A = ℕ} 0 1 = ap (λ (l : List ℕ). getD l 0 0) (sym e ∙ ap (λ (q : Arrangement). q .rows) (p .bits)) in omega arith
 
 -- ---- accepts a list of seven elevations
 

@@ -9,8 +9,8 @@ use Rattle.big_endian.specs.Fields.{fieldAt}
 use Rattle.big_endian.specs.Lists.{floatBytes}
 use Rattle.desk.specs.declared.Desk.{Desk}
 use Rattle.hrtf_checks.specs.declared.Shape.{Shape}
-use Rattle.hrtf.specs.declared.Processed.{Processed}
-use Rattle.hrtf.specs.Promise.{Outcome, outcome}
+use Rattle.hrtf.specs.declared.BlockAnswer.{BlockAnswer}
+use Rattle.hrtf.specs.Promise.{BlockOutcome, outcome}
 use Rattle.probe_request.specs.Requests.{eightAt}
 use Rattle.probe_answer.specs.Answers.{Draft, none, _then_}
 use Rattle.probe_answer.proofs.Answers.{taken, untaken, behind}
@@ -24,7 +24,7 @@ module _ (args out : List ℕ) (l : Lists) where
 
   -- the numbers that are read are those of the request
   module _ (h : Shape) (d : Desk) (frames stride : ℕ) (rows : List ℕ) (eh : h ≡ shapeAt args) (ed : d ≡ deskAt args 10) (ef : frames ≡ fieldAt args 58 8) (es : stride ≡ fieldAt args 66 8)
-      (er : rows ≡ eightAt args 74) (p : Processed) (rings₁ ears₁ : List Float)
+      (er : rows ≡ eightAt args 74) (p : BlockAnswer) (rings₁ ears₁ : List Float)
       (is : record { answer = p; rings = rings₁; ears = ears₁ }
       ≡ outcome (record { shape = h; frames = frames; stride = stride; inputs = l .inputs; weights = l .weights; rows = rows; taps = l .taps; ears = l .ears }) (record { rings = l .rings; desk = d })) where
     asked : record { answer = p; rings = rings₁; ears = ears₁ } ≡ outcome (callOf args l) (stateOf args l)
@@ -36,7 +36,7 @@ module _ (args out : List ℕ) (l : Lists) where
     unfolding blockShown
     played a b c counts cells samples =
         behind (floatBytes ears₁) (behind (floatBytes rings₁) counts cells) samples
-        ∙ ap (λ (o : Outcome). thenCounts (none out) (o .answer) then floatBytes (o .rings) then floatBytes (o .ears)) asked
+        ∙ ap (λ (o : BlockOutcome). thenCounts (none out) (o .answer) then floatBytes (o .rings) then floatBytes (o .ears)) asked
 
   -- ---- the lists that are lent
 

@@ -19,8 +19,8 @@ use Rattle.big_endian.proofs.Lists.{length-fieldBytes}
 use Rattle.desk.specs.declared.Desk.{Desk}
 use Rattle.hrtf_checks.specs.declared.Shape.{Shape}
 use Rattle.hrtf_checks.specs.Refusals.{refusalOf}
-use Rattle.hrtf.specs.Promise.{Outcome, outcome}
-use Rattle.hrtf.specs.Reset.{AfterReset, resetRefusal, resetBy, resetOutcome}
+use Rattle.hrtf.specs.Promise.{BlockOutcome, outcome}
+use Rattle.hrtf.specs.Reset.{ResetOutcome, resetRefusal, resetBy, resetOutcome}
 use Rattle.hrtf.proofs.Promised.{outcome-by}
 use Rattle.refusals.proofs.First.{goes-on}
 use Rattle.probe_request.specs.Requests.{samplesLent, cellsLent, listAt}
@@ -45,14 +45,14 @@ module _ (args out : List ℕ) (r : Draft) (room : 9 ≤ length out) where
       let a = o .answer in
       let rest = bytesOf 8 (a .unsettled) ∷ bytesOf 8 (a .desk .position) ∷ bytesOf 8 (a .desk .«to_go») ∷ floatBytes (o .rings) ∷ floatBytes (o .ears) ∷ [] in
       let told = taken-told (blockEnd n) args out r is long (second-told (a .refusal) 8 (a .samples) rest out (omega arith) room) in
-      let samples : a .samples ≡ fieldAt args 58 8 = ap (λ (x : Outcome). x .answer .samples) (outcome-by c t 0 accepted) in
+      let samples : a .samples ≡ fieldAt args 58 8 = ap (λ (x : BlockOutcome). x .answer .samples) (outcome-by c t 0 accepted) in
       differs (sym (told ∙ ap (λ (k : ℕ). k % 256 ^ 8) samples) ∙ e)
 
   -- a refused reset tells the ring position that it is given
   position-told : (d : Desk) (speakers L k : ℕ) (cells : List Float) → resetRefusal speakers L cells ≡ suc k → Told 1 8 (d .position) (resetShown (resetOutcome d speakers L cells) out)
   unfolding resetShown resetOutcome
   position-told d speakers L k cells refused =
-      subst (λ (o : AfterReset). Told 1 8 (d .position) (resetShown o out)) (sym (ap (λ (n : ℕ). resetBy n d cells) refused))
+      subst (λ (o : ResetOutcome). Told 1 8 (d .position) (resetShown o out)) (sym (ap (λ (n : ℕ). resetBy n d cells) refused))
       (second-told (suc k) 8 (d .position) (bytesOf 8 (d .«to_go») ∷ floatBytes cells ∷ []) out (omega arith) room)
 
   -- of a refused reset the desk is read where a block has it, and so the frames-to-go are told in the place of the ring position

@@ -10,7 +10,7 @@ use Rattle.big_endian.specs.Fields.{fieldAt, floatAt}
 use Rattle.big_endian.specs.Lists.{floatBytes, floatsAt}
 use Rattle.desk.specs.declared.Desk.{Desk}
 use Rattle.hrtf.specs.declared.Rested.{Rested}
-use Rattle.hrtf.specs.Reset.{AfterReset, resetOutcome}
+use Rattle.hrtf.specs.Reset.{ResetOutcome, resetOutcome}
 use Rattle.probe_request.specs.Requests.{cellsLent, listAt}
 use Rattle.probe_answer.specs.Answers.{Draft, none, _then_}
 use Rattle.probe_answer.proofs.Answers.{untaken, answered, parts-behind, behind}
@@ -34,7 +34,7 @@ module _ (args out : List ℕ) (rings : List Float) where
     pub rested : (a b c : Draft) → a ≡ none out then bytesOf 1 (p .refusal) → b ≡ thenDesk a (p .desk) → c ≡ b then floatBytes rings₂ → c ≡ resetBy (length rings) args out
     unfolding resetShown resetBy
     rested a b c refusal desk cells =
-        answered (λ (o : AfterReset). resetShown o out) (34 + 4 * length rings) args out full asked
+        answered (λ (o : ResetOutcome). resetShown o out) (34 + 4 * length rings) args out full asked
         (behind (floatBytes rings₂) (parts-behind (λ (x : Draft). thenDesk x (p .desk)) refusal desk) cells)
 
 pub cells-lent : (args out : List ℕ) (d : Draft) (r : ℕ) → r ≡ cellsLent args 0 → d ≡ resetBy r args out → d ≡ resetAnswer args out

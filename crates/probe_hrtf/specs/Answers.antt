@@ -11,9 +11,9 @@ use Rattle.big_endian.specs.Lists.{floatBytes, doubleBytes, floatsAt}
 use Rattle.planes.specs.Sums.{dot}
 use Rattle.desk.specs.declared.Desk.{Desk}
 use Rattle.rings.specs.Unrolled.{unrolled}
-use Rattle.hrtf.specs.declared.Processed.{Processed}
-use Rattle.hrtf.specs.Promise.{Outcome, outcome}
-use Rattle.hrtf.specs.Reset.{AfterReset, resetOutcome}
+use Rattle.hrtf.specs.declared.BlockAnswer.{BlockAnswer}
+use Rattle.hrtf.specs.Promise.{BlockOutcome, outcome}
+use Rattle.hrtf.specs.Reset.{ResetOutcome, resetOutcome}
 use Rattle.probe_request.specs.Requests.{samplesLent, cellsLent}
 use Rattle.probe_answer.specs.Answers.{Draft, none, taking, _then_}
 use Rattle.probe_hrtf.specs.Requests.{deskAt, Lent, lentOf, blockEnd, callAt, stateAt, sumTaps, sumEnd}
@@ -25,11 +25,11 @@ thenDesk d k = d then bytesOf 8 (k .position) then bytesOf 8 (k .«to_go»)
 -- ---- 17 convolver block
 
 -- "refusal (1), samples, unsettled, ring position, frames-to-go (8 each)"
-abbrev pub thenCounts : Draft → Processed → Draft
+abbrev pub thenCounts : Draft → BlockAnswer → Draft
 thenCounts d p = thenDesk (d then bytesOf 1 (p .refusal) then bytesOf 8 (p .samples) then bytesOf 8 (p .unsettled)) (p .desk)
 
 -- "the r cells, the e samples", as they stand after the call
-unfoldable pub blockShown : Outcome → List ℕ → Draft
+unfoldable pub blockShown : BlockOutcome → List ℕ → Draft
 blockShown o out = thenCounts (none out) (o .answer) then floatBytes (o .rings) then floatBytes (o .ears)
 
 -- n of each list being lent
@@ -43,7 +43,7 @@ blockAnswer args out = blockBy (lentOf args) args out
 -- ---- 18 convolver reset
 
 -- "refusal (1), ring position, frames-to-go (8 each), the r cells"
-unfoldable pub resetShown : AfterReset → List ℕ → Draft
+unfoldable pub resetShown : ResetOutcome → List ℕ → Draft
 resetShown o out = thenDesk (none out then bytesOf 1 (o .answer .refusal)) (o .answer .desk) then floatBytes (o .rings)
 
 -- "ring position, frames-to-go, speakers, L (8 each), the r cells (f32, 4 each)"

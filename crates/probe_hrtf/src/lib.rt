@@ -8,7 +8,7 @@
 // replay of a recording uses too (`probe_replay`): its requests begin as those for a block. Every public function
 // takes any input.
 use desk::Desk;
-use hrtf::Processed;
+use hrtf::BlockAnswer;
 use hrtf_checks::Shape;
 use probe_request::MOST_CELLS;
 use probe_request::MOST_SAMPLES;
@@ -60,7 +60,7 @@ pub fn put_desk(desk: Desk, out: &mut [u8], at: usize) -> usize
     probe_answer::put(desk.to_go as u64, 8, out, after_position)
 }
 
-fn put_counts(played: Processed, out: &mut [u8]) -> usize
+fn put_counts(played: BlockAnswer, out: &mut [u8]) -> usize
     ensures { λ r. ⌜ draft r (now (out .exit)) ≡ thenCounts (draft 0 (now (out .entry))) played ⌝ }
 {
     let after_refusal = probe_answer::put(played.refusal as u64, 1, out, 0);

@@ -11,7 +11,7 @@ use Rattle.desk.specs.declared.Desk.{Desk}
 use Rattle.hrtf_checks.specs.declared.Shape.{Shape}
 use Rattle.stamps.specs.declared.Expected.{Expected}
 use Rattle.replay.specs.declared.Replayed.{Replayed}
-use Rattle.replay.specs.Promise.{Outcome, outcome}
+use Rattle.replay.specs.Promise.{ReplayOutcome, outcome}
 use Rattle.probe_request.specs.Requests.{eightAt, samplesLent, wordAt, placeIn, listAt}
 use Rattle.probe_request.proofs.Requests.{inside, place-behind, place-list, place-end, place-no-end}
 use Rattle.probe_answer.specs.Answers.{Draft, none, _then_}
@@ -38,7 +38,7 @@ module _ (args out : List ℕ) (l : Lists) (stamps : List ℕ) where
     unfolding lineShown
     played a b c counts cells samples =
         behind (floatBytes ears₁) (behind (floatBytes rings₁) counts cells) samples
-        ∙ ap (λ (o : Outcome). thenCounts (none out) (o .answer) then floatBytes (o .rings) then floatBytes (o .ears)) asked
+        ∙ ap (λ (o : ReplayOutcome). thenCounts (none out) (o .answer) then floatBytes (o .rings) then floatBytes (o .ears)) asked
 
   -- ---- the lists that are lent
 

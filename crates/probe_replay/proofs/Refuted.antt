@@ -16,7 +16,7 @@ use Rattle.stamps.specs.declared.Expected.the-variants.{Stamp}
 use Rattle.stamps.specs.Arrivals.{stampOf}
 use Rattle.stamps.specs.Counts.{outIn, lateIn, silentIn}
 use Rattle.replay.specs.Lines.{Line, stampsIn}
-use Rattle.replay.specs.Promise.{Outcome, outcome, refusalIn, accepted, refused}
+use Rattle.replay.specs.Promise.{ReplayOutcome, outcome, refusalIn, accepted, refused}
 use Rattle.probe_request.specs.Requests.{samplesLent}
 use Rattle.probe_answer.specs.Answers.{Draft, none}
 use Rattle.probe_answer.proofs.Standing.{Told, number-told, taken-told}
@@ -25,7 +25,7 @@ use Rattle.probe_replay.specs.Requests.{expectedAt, lineEnd, stampsAt, l
 use Rattle.probe_replay.specs.Answers.{markOf, lineShown, lineBy, answerOf}
 
 -- where a number stands in an answer
-module _ (o : Outcome) (out : List ℕ) where
+module _ (o : ReplayOutcome) (out : List ℕ) where
   abbrev counts : List (List ℕ)
   counts =
       bytesOf 8 (o .answer .silent)
@@ -85,7 +85,7 @@ module _ (args out : List ℕ) (r : Draft) (is : r ≡ answerOf 22 args out) (lo
   abbrev refusal : ℕ
   refusal = refusalIn line x (stateOf args lists) (length (lists .ears))
 
-  abbrev o : Outcome
+  abbrev o : ReplayOutcome
   o = outcome line x (stateOf args lists) (lists .ears)
 
   shown : {at count n : ℕ} → Told at count n (lineShown o out) → fieldAt (r .bytes) at count ≡ n % 256 ^ count
@@ -99,11 +99,11 @@ module _ (args out : List ℕ) (r : Draft) (is : r ≡ answerOf 22 args out) (lo
 
     -- the frames that are handed in are told as those that come out
     frames-for-samples : (outIn x (stampsIn line) % 256 ^ 8 ≡ fieldAt args 58 8 % 256 ^ 8 → ⊥) → fieldAt (r .bytes) 1 8 ≡ fieldAt args 58 8 % 256 ^ 8 → ⊥
-    frames-for-samples differs e = differs (sym (shown (samples-told o out (omega arith)) ∙ ap (λ (y : Outcome). y .answer .samples % 256 ^ 8) played) ∙ e)
+    frames-for-samples differs e = differs (sym (shown (samples-told o out (omega arith)) ∙ ap (λ (y : ReplayOutcome). y .answer .samples % 256 ^ 8) played) ∙ e)
 
     -- the silent frames are told in the place of the late ones
     silent-for-late : (lateIn x (stampsIn line) % 256 ^ 8 ≡ silentIn x (stampsIn line) % 256 ^ 8 → ⊥) → fieldAt (r .bytes) 17 8 ≡ silentIn x (stampsIn line) % 256 ^ 8 → ⊥
-    silent-for-late differs e = differs (sym (shown (late-told o out (omega arith)) ∙ ap (λ (y : Outcome). y .answer .late % 256 ^ 8) played) ∙ e)
+    silent-for-late differs e = differs (sym (shown (late-told o out (omega arith)) ∙ ap (λ (y : ReplayOutcome). y .answer .late % 256 ^ 8) played) ∙ e)
 
   module _ (bad : refusal ≡ 0 → ⊥) where
     left : o ≡ refused refusal x (stateOf args lists) (lists .ears)
@@ -112,12 +112,12 @@ module _ (args out : List ℕ) (r : Draft) (is : r ≡ answerOf 22 args out) (lo
 
     -- of a refused replay frames that come out are told
     refused-with-a-count : (fieldAt (r .bytes) 1 8 ≡ 0 → ⊥) → ⊥
-    refused-with-a-count some = some (shown (samples-told o out (omega arith)) ∙ ap (λ (y : Outcome). y .answer .samples % 256 ^ 8) left)
+    refused-with-a-count some = some (shown (samples-told o out (omega arith)) ∙ ap (λ (y : ReplayOutcome). y .answer .samples % 256 ^ 8) left)
 
     -- the stamp that was expected is forgotten
     stamp-forgotten : (s : ℕ) → x ≡ Stamp s → (s % 256 ^ 4 ≡ 0 → ⊥) → fieldAt (r .bytes) 58 4 ≡ 0 → ⊥
     stamp-forgotten s known some e =
-        some (sym (shown (stamp-told o out room) ∙ ap (λ (y : Outcome). stampOf (y .answer .expected) % 256 ^ 4) left ∙ ap (λ (y : Expected). stampOf y % 256 ^ 4) known) ∙ e)
+        some (sym (shown (stamp-told o out room) ∙ ap (λ (y : ReplayOutcome). stampOf (y .answer .expected) % 256 ^ 4) left ∙ ap (λ (y : Expected). stampOf y % 256 ^ 4) known) ∙ e)
 
 -- another operation is answered, or the lent bytes are put over
 other-answered : (operation : ℕ) (args out : List ℕ) (r : Draft) → r ≡ answerOf operation args out → (operation ≡ 22 → ⊥) → (r ≡ none out → ⊥) → ⊥

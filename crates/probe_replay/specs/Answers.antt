@@ -9,7 +9,7 @@ use Rattle.stamps.specs.declared.Expected.{Expected}
 use Rattle.stamps.specs.declared.Expected.the-variants.{First, Stamp}
 use Rattle.stamps.specs.Arrivals.{stampOf}
 use Rattle.replay.specs.declared.Replayed.{Replayed}
-use Rattle.replay.specs.Promise.{Outcome}
+use Rattle.replay.specs.Promise.{ReplayOutcome}
 use Rattle.probe_request.specs.Requests.{samplesLent}
 use Rattle.probe_answer.specs.Answers.{Draft, none, taking, _then_}
 use Rattle.probe_hrtf.specs.Requests.{Lent, lentOf}
@@ -34,7 +34,7 @@ thenCounts d p =
     (p .expected)
 
 -- "the r cells, the e samples", as they stand after the call
-unfoldable pub lineShown : Outcome → List ℕ → Draft
+unfoldable pub lineShown : ReplayOutcome → List ℕ → Draft
 lineShown o out = thenCounts (none out) (o .answer) then floatBytes (o .rings) then floatBytes (o .ears)
 
 -- n of the five lists and s stamps being lent

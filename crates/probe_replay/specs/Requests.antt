@@ -8,7 +8,7 @@ use Rattle.big_endian.specs.Lists.{strided}
 use Rattle.stamps.specs.declared.Expected.{Expected}
 use Rattle.stamps.specs.declared.Expected.the-variants.{First, Stamp}
 use Rattle.replay.specs.Lines.{Line}
-use Rattle.replay.specs.Promise.{Outcome, outcome}
+use Rattle.replay.specs.Promise.{ReplayOutcome, outcome}
 use Rattle.probe_request.specs.Requests.{eightAt, wordAt}
 use Rattle.probe_hrtf.specs.Requests.{shapeAt, stateOf, Lent, Lists, listsEnd, listsAt}
 
@@ -41,9 +41,9 @@ lineOf args l stamps =
       earStride = fieldAt args 140 8;
     }
 
-abbrev pub outcomeOf : List ℕ → Lists → List ℕ → Outcome
+abbrev pub outcomeOf : List ℕ → Lists → List ℕ → ReplayOutcome
 outcomeOf args l stamps = outcome (lineOf args l stamps) (expectedAt args) (stateOf args l) (l .ears)
 
 -- "every other list holds what the request gives"
-unfoldable pub outcomeAt : List ℕ → Lent → ℕ → Outcome
+unfoldable pub outcomeAt : List ℕ → Lent → ℕ → ReplayOutcome
 outcomeAt args n s = outcomeOf args (listsAt args 153 n) (stampsAt args n s)

@@ -21,14 +21,13 @@ use Rattle.stamps.proofs.Recordings.{feeds-out}
 use Rattle.replay.specs.declared.play.Turned.{Turned}
 use Rattle.replay.specs.Lines.{Line, setupIn, stampsIn, recordedAt, recordingIn, eventsIn}
 use Rattle.replay.specs.Heard.{heardBy, unsettledBy, afterBy, afterEvents}
-use Rattle.replay.specs.Promise.{refusalIn, Outcome, refused, accepted, outcome, stateAfter, Replays}
-use Rattle.replay.specs.Computed.{stateWith, planIn, leftBy, playedBy, countedBy}
-use Rattle.replay.specs.Steps.{quiet, startOf, eventsAt, Turns}
+use Rattle.replay.specs.Promise.{refusalIn, ReplayOutcome, refused, accepted, outcome, stateAfter, Replays}
+use Rattle.replay.specs.Computed.{stateWith, planIn, leftBy, playedBy, countedBy, quiet, startOf, eventsAt, Turns}
 use Rattle.replay.proofs.Judging.{stands, plan-is, stamps-are, fits-ears}
 use Rattle.replay.proofs.Hearing.{length-heard-by, two-each-by, played-by-held, counted-by-is, left-by-is, left-by-kept}
 
 module _ (l : Line) (x : Expected) (t : State) (ears : List Float) where
-  abbrev pub answeredBy : ℕ → Outcome
+  abbrev pub answeredBy : ℕ → ReplayOutcome
   answeredBy k = answered k (accepted l x t ears) (λ n. refused n x t ears)
 
   pub outcome-by : (k : ℕ) → refusalIn l x t (length ears) ≡ k → outcome l x t ears ≡ answeredBy k
@@ -36,7 +35,7 @@ module _ (l : Line) (x : Expected) (t : State) (ears : List Float) where
   outcome-by k e = ap answeredBy e
 
   -- what is answered where a plan, a count of unsettled frames, a state and ears are known
-  abbrev pub answering : Planned → ℕ → State → List Float → Outcome
+  abbrev pub answering : Planned → ℕ → State → List Float → ReplayOutcome
   answering plan n s ys =
       record {
         answer = record { refusal = 0; samples = plan .out; unsettled = n; late = plan .late; silent = plan .silent; resets = plan .resets; desk = s .desk; expected = plan .expected };
@@ -45,7 +44,7 @@ module _ (l : Line) (x : Expected) (t : State) (ears : List Float) where
       }
 
   -- what the steps of an accepted replay make of it
-  abbrev pub computed : Outcome
+  abbrev pub computed : ReplayOutcome
   computed =
       answering (plannedOf x (stampsIn l)) (countedBy (setupIn l) t (eventsIn l x)) (leftBy (setupIn l) t (eventsIn l x)) (withFrames ears (l .earStride) 0 (playedBy (setupIn l) t (eventsIn l x)))
 
@@ -64,11 +63,11 @@ module _ (l : Line) (x : Expected) (t : State) (ears : List Float) where
   outcome-computed e = outcome-by 0 e ∙ accepted-computed e
 
   -- the equation says it all
-  promised : (o : Outcome) → o ≡ outcome l x t ears → Replays l x t ears o
+  promised : (o : ReplayOutcome) → o ≡ outcome l x t ears → Replays l x t ears o
   promised o e =
       record {
-        answer = e;
-        keeps = λ past r z. subst (λ (q : Outcome). Represents (setupIn l) (afterBy (setupIn l) past (eventsIn l x)) (stateAfter q)) (sym (e ∙ outcome-computed z)) (left-by-kept (setupIn l) past t (eventsIn l x) r);
+        bits = e;
+        words = λ past r z. subst (λ (q : ReplayOutcome). Represents (setupIn l) (afterBy (setupIn l) past (eventsIn l x)) (stateAfter q)) (sym (e ∙ outcome-computed z)) (left-by-kept (setupIn l) past t (eventsIn l x) r);
       }
 
   pub promised-refused : (n : ℕ) → n ≡ refusalIn l x t (length ears) → (n ≡ 0 → ⊥) → Replays l x t ears (refused n x t ears)
@@ -91,7 +90,7 @@ module _ (l : Line) (x : Expected) (t : State) (ears : List Float) where
     ears-read =
         let fit = fits-ears l x t (length ears) e in
         let sure = stands l x t (length ears) e in
-        ap (λ (o : Outcome). framesOf (o .ears) (l .earStride) 2 (o .answer .samples)) (outcome-by 0 e)
+        ap (λ (o : ReplayOutcome). framesOf (o .ears) (l .earStride) 2 (o .answer .samples)) (outcome-by 0 e)
         ∙ ap (framesOf (withFrames ears (l .earStride) 0 pairs) (l .earStride) 2) (sym all-heard)
         ∙ frames-read 2 ears (l .earStride) pairs (omega (arith, all-heard, fit .1)) (fit .0) (two-each-by (setupIn l) (heldIn (setupIn l) t) (eventsIn l x))
         ∙ sym (played-by-held (setupIn l) t (eventsIn l x) (sure .ringed) (sure .position))
@@ -99,7 +98,7 @@ module _ (l : Line) (x : Expected) (t : State) (ears : List Float) where
     -- frames of a plane beyond the count are unchanged
     pub beyond : (plane i : ℕ) → outIn x (stampsIn l) ≤ i → i < l .earStride → sampleAt (outcome l x t ears .ears) (l .earStride) plane i ≡ sampleAt ears (l .earStride) plane i
     beyond plane i h lt =
-        ap (λ (o : Outcome). sampleAt (o .ears) (l .earStride) plane i) (outcome-by 0 e)
+        ap (λ (o : ReplayOutcome). sampleAt (o .ears) (l .earStride) plane i) (outcome-by 0 e)
         ∙ with-frames-other ears (l .earStride) 0 pairs plane i lt (omega (arith, all-heard, fits-ears l x t (length ears) e .1)) (λ k b q. omega (arith, all-heard, b, q, h))
 
     -- no recorded frames change nothing, of what is expected neither
@@ -107,7 +106,7 @@ module _ (l : Line) (x : Expected) (t : State) (ears : List Float) where
         → outcome l x t ears ≡ record { answer = record { refusal = 0; samples = 0; unsettled = 0; late = 0; silent = 0; resets = 0; desk = t .desk; expected = x }; rings = t .rings; ears = ears }
     none-replayed z = outcome-computed e ∙ ap by (λ i. record { shape = l .shape; frames = z i; stride = l .stride; stamps = l .stamps; inputs = l .inputs; weights = l .weights; rows = l .rows; taps = l .taps; earStride = l .earStride })
       where
-        by : Line → Outcome
+        by : Line → ReplayOutcome
         by m =
             answering (plannedOf x (stampsIn m)) (countedBy (setupIn m) t (eventsIn m x)) (leftBy (setupIn m) t (eventsIn m x)) (withFrames ears (m .earStride) 0 (playedBy (setupIn m) t (eventsIn m x)))
 

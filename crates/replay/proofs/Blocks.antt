@@ -12,7 +12,7 @@ use Rattle.lists.proofs.Tables.{tab-ext, tab-snoc, tab-is}
 use Rattle.planes.specs.Planes.{sampleAt, frameAt, framesOf, withFrame}
 use Rattle.planes.proofs.Planes.{with-frames-other, with-frames-at}
 use Rattle.stamps.specs.Events.{Event, feed}
-use Rattle.replay.specs.Steps.{feeds}
+use Rattle.replay.specs.Computed.{feeds}
 
 -- the frames before it are as they were, and it comes behind them
 pub block-more : (block : List Float) (places channels k : ℕ) (f : List Float) → length f ≡ channels → k < places → length block ≡ channels * places

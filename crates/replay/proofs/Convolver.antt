@@ -23,13 +23,12 @@ use Rattle.hrtf_checks.specs.declared.Shape.{Shape}
 use Rattle.hrtf_checks.specs.Call.{Call}
 use Rattle.hrtf_checks.specs.Refusals.{misshapen, refusalOf}
 use Rattle.hrtf_checks.proofs.Refusing.{lengths-fit, on-desk, accept}
-use Rattle.hrtf.specs.Promise.{Outcome, stateAfter, Processes}
-use Rattle.hrtf.specs.Reset.{AfterReset, Resets}
+use Rattle.hrtf.specs.Promise.{BlockOutcome, stateAfter, Processes}
+use Rattle.hrtf.specs.Reset.{ResetOutcome, Resets}
 use Rattle.hrtf.proofs.Promised.{outcome-by, outcome-computed, reset-accepts, reset-by}
 use Rattle.replay.specs.Lines.{Line, setupIn}
 use Rattle.replay.specs.Heard.{rested}
-use Rattle.replay.specs.Computed.{stateWith, Good, Kept}
-use Rattle.replay.specs.Steps.{Resting}
+use Rattle.replay.specs.Computed.{stateWith, Good, Kept, Resting}
 
 -- the call for a block
 abbrev pub blockCall : Line → ℕ → List Float → List Float → Call
@@ -47,13 +46,13 @@ module _ {l : Line} (good : Good l) {t : State} {count : ℕ} {block own : List 
             lengths-fit (l .shape) _ _ _ _ _ _ _ few (kept .blocked) (kept .eared) (kept .state .ringed) (good .weighted) (good .tapped),
             (
               good .sound,
-              (on-desk (t .desk) (l .shape .length) (kept .state .position) (kept .state .waits), tt),
+              (on-desk (t .desk) (l .shape .length) (kept .state .within) (kept .state .waits), tt),
             ),
           ),
         ),
       ))
 
-  module _ {o : Outcome} (p : Processes (blockCall l count block own) t o) where
+  module _ {o : BlockOutcome} (p : Processes (blockCall l count block own) t o) where
     abbrev fs : List (List Float)
     fs = framesOf block 64 (l .shape .channels) count
 
@@ -61,28 +60,28 @@ module _ {l : Line} (good : Good l) {t : State} {count : ℕ} {block own : List 
     past = heldIn (setupIn l) t
 
     pub block-leaves : stateAfter o ≡ left (setupIn l) t fs
-    block-leaves = ap stateAfter (p .answer ∙ outcome-computed (blockCall l count block own) t block-accepted)
+    block-leaves = ap stateAfter (p .bits ∙ outcome-computed (blockCall l count block own) t block-accepted)
 
     pub block-counts : o .answer .unsettled ≡ counted (setupIn l) t fs
-    block-counts = ap (λ (a : Outcome). a .answer .unsettled) (p .answer ∙ outcome-computed (blockCall l count block own) t block-accepted)
+    block-counts = ap (λ (a : BlockOutcome). a .answer .unsettled) (p .bits ∙ outcome-computed (blockCall l count block own) t block-accepted)
 
     long : length (heard (setupIn l) past fs) ≡ count
     long = length-heard (setupIn l) past fs ∙ length-tab 0 count (frameAt block 64 (l .shape .channels))
 
     pub block-sounds : framesOf (o .ears) 64 2 count ≡ played (setupIn l) t fs
     block-sounds =
-        ap (λ (a : Outcome). framesOf (a .ears) 64 2 count) (p .answer ∙ outcome-by (blockCall l count block own) t 0 block-accepted)
+        ap (λ (a : BlockOutcome). framesOf (a .ears) 64 2 count) (p .bits ∙ outcome-by (blockCall l count block own) t 0 block-accepted)
         ∙ ap (framesOf (withFrames own 64 0 (heard (setupIn l) past fs)) 64 2) (sym long)
         ∙ frames-read 2 own 64 (heard (setupIn l) past fs) (omega (arith, long, few)) (kept .eared) (two-each (setupIn l) past fs)
-        ∙ sym (played-held (setupIn l) t fs (kept .state .ringed) (kept .state .position))
+        ∙ sym (played-held (setupIn l) t fs (kept .state .ringed) (kept .state .within))
 
 -- ---- a reset
 
 pub speakers-few : (h : Shape) (rows : List ℕ) → misshapen h rows ≡ false → outside (h .speakers) 8 ≡ false
 speakers-few h rows e = or-off (outside (h .speakers) 8) _ e .0
 
-pub reset-leaves : (d : Desk) (speakers L : ℕ) (rings : List Float) (o : AfterReset) → Resting speakers L rings → Resets d speakers L rings o
+pub reset-leaves : (d : Desk) (speakers L : ℕ) (rings : List Float) (o : ResetOutcome) → Resting speakers L rings → Resets d speakers L rings o
     → stateWith (o .answer .desk) (o .rings) ≡ rested (stateWith d rings)
 reset-leaves d speakers L rings o r p =
     let none = reset-accepts speakers L rings (r .few, (r .long, (equal-passes (length rings) (speakers * L) (r .ringed), tt))) in
-    ap (λ (a : AfterReset). stateWith (a .answer .desk) (a .rings)) (p .answer ∙ reset-by d speakers L rings 0 none)
+    ap (λ (a : ResetOutcome). stateWith (a .answer .desk) (a .rings)) (p .bits ∙ reset-by d speakers L rings 0 none)

@@ -15,11 +15,10 @@ use Rattle.rings.specs.Computed.{ears, late, stepped, left, played, counted}
 use Rattle.rings.proofs.Told.{length-stored}
 use Rattle.rings.proofs.Filters.{left-alike, played-alike, counted-alike}
 use Rattle.stamps.specs.Events.{Event, feed, restart}
-use Rattle.stamps.specs.Steps.{feedsIn}
+use Rattle.stamps.specs.Computed.{feedsIn}
 use Rattle.replay.specs.Lines.{Line, setupIn}
 use Rattle.replay.specs.Heard.{rested}
-use Rattle.replay.specs.Computed.{Stands, leftBy, playedBy, countedBy}
-use Rattle.replay.specs.Steps.{feeds}
+use Rattle.replay.specs.Computed.{StateReady, leftBy, playedBy, countedBy, feeds}
 
 abbrev Events : Type 0
 Events = List (Event (List Float))
@@ -112,23 +111,23 @@ length-feeds (s ∷ ss) (f ∷ fs) e = omega (arith, length-feeds ss fs (omega (
 -- ---- the state
 
 module _ (l : Line) where
-  rested-stands : (t : State) → 0 < l .shape .length → Stands l t → Stands l (rested t)
-  rested-stands t h p = record { ringed = length-replicate (length (t .rings)) zero-float ∙ p .ringed; position = h; waits = h }
+  rested-stands : (t : State) → 0 < l .shape .length → StateReady l t → StateReady l (rested t)
+  rested-stands t h p = record { ringed = length-replicate (length (t .rings)) zero-float ∙ p .ringed; within = h; waits = h }
 
-  stepped-stands : (t : State) (f : List Float) → Stands l t → Stands l (stepped (setupIn l) t f)
+  stepped-stands : (t : State) (f : List Float) → StateReady l t → StateReady l (stepped (setupIn l) t f)
   stepped-stands t f p =
       let u = setupIn l in
       record {
         ringed = length-stored u t f ∙ p .ringed;
-        position = position-below (l .shape .length) (damaged u f) (t .desk) (p .position);
-        waits = waits-below (l .shape .length) (damaged u f) (t .desk) (p .position) (p .waits);
+        within = position-below (l .shape .length) (damaged u f) (t .desk) (p .within);
+        waits = waits-below (l .shape .length) (damaged u f) (t .desk) (p .within) (p .waits);
       }
 
-  pub left-stands : (t : State) (fs : List (List Float)) → Stands l t → Stands l (left (setupIn l) t fs)
+  pub left-stands : (t : State) (fs : List (List Float)) → StateReady l t → StateReady l (left (setupIn l) t fs)
   left-stands t [] p = p
   left-stands t (f ∷ fs) p = left-stands (stepped (setupIn l) t f) fs (stepped-stands t f p)
 
-  pub left-by-stands : 0 < l .shape .length → (t : State) (es : Events) → Stands l t → Stands l (leftBy (setupIn l) t es)
+  pub left-by-stands : 0 < l .shape .length → (t : State) (es : Events) → StateReady l t → StateReady l (leftBy (setupIn l) t es)
   left-by-stands h t [] p = p
   left-by-stands h t (feed s f ∷ es) p = left-by-stands h (stepped (setupIn l) t f) es (stepped-stands t f p)
   left-by-stands h t (restart ∷ es) p = left-by-stands h (rested t) es (rested-stands t h p)

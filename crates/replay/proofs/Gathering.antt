@@ -25,7 +25,7 @@ use Rattle.stamps.specs.Events.{Recorded, Event, feed, restart, eventsOf}
 use Rattle.stamps.proofs.Recordings.{events-late, events-next, events-jump, events-silent}
 use Rattle.replay.specs.declared.gather.Gathered.{Gathered}
 use Rattle.replay.specs.Lines.{recordedAt, recording}
-use Rattle.replay.specs.Steps.{quiet, goesOn, takenBy, filledBy, Takes, feeds, restarting, eventsFrom, Gathers}
+use Rattle.replay.specs.Computed.{quiet, goesOn, takenBy, filledBy, TakesFrame, feeds, restarting, eventsFrom, Gathers}
 use Rattle.replay.proofs.Blocks.{block-more, feeds-more}
 
 -- ---- one step
@@ -33,13 +33,13 @@ use Rattle.replay.proofs.Blocks.{block-more, feeds-more}
 module _ (stamps : List ℕ) (channels stride : ℕ) (inputs : List Float) (g : Gathered) (block : List Float) where
   -- what an arm does
   pub took : (s : ℕ) (what y : Arrival) (r : Gathered) (block₁ : List Float) → Comes (g .expected) s what → s ≡ getD stamps (g .at) 0 → s < 2 ^ 32 → what ≡ y
-      → r ≡ takenBy y g s → block₁ ≡ filledBy y block (g .count) (frameAt inputs stride channels (g .at)) (quiet channels) → Takes stamps channels stride inputs g block r block₁
+      → r ≡ takenBy y g s → block₁ ≡ filledBy y block (g .count) (frameAt inputs stride channels (g .at)) (quiet channels) → TakesFrame stamps channels stride inputs g block r block₁
   took s what y r block₁ c es hs k et ef =
       record {
         below = c .below;
         stamp = rw es at hs;
-        taken = et ∙ ap (λ (z : Arrival). takenBy z g s) (sym k ∙ c .kind) ∙ ap (λ (n : ℕ). takenBy (comingOf (g .expected) n) g n) es;
-        filled = ef ∙ ap (λ (z : Arrival). filledBy z block (g .count) (frameAt inputs stride channels (g .at)) (quiet channels)) (sym k ∙ c .kind ∙ ap (comingOf (g .expected)) es);
+        taken = et ∙ ap (λ (z : Arrival). takenBy z g s) (sym k ∙ c .bits) ∙ ap (λ (n : ℕ). takenBy (comingOf (g .expected) n) g n) es;
+        filled = ef ∙ ap (λ (z : Arrival). filledBy z block (g .count) (frameAt inputs stride channels (g .at)) (quiet channels)) (sym k ∙ c .bits ∙ ap (comingOf (g .expected)) es);
       }
 
 -- ---- while it goes on
@@ -188,7 +188,7 @@ module _ (stamps : List ℕ) (channels stride : ℕ) (inputs : List Float) (x : 
     less-on Late k = omega (arith, free .1 .0, ap length left-is, ap length (events-late q r after (g .expected) k))
 
   module _ {g : Gathered} {block : List Float} (p : Gathering rs channels x at frames g block) (going : goesOn g frames ≡ true)
-      {g₁ : Gathered} {block₁ : List Float} (t : Takes stamps channels stride inputs g block g₁ block₁) where
+      {g₁ : Gathered} {block₁ : List Float} (t : TakesFrame stamps channels stride inputs g block g₁ block₁) where
     abbrev kind : Arrival
     kind = comingOf (g .expected) (getD stamps (g .at) 0)
 

@@ -20,7 +20,7 @@ use Rattle.rings.proofs.Held.{Holds, holds-held, holds-put}
 use Rattle.rings.proofs.Told.{length-stored, kept, ears-told, waits-on, late-told}
 use Rattle.rings.proofs.Blocks.{left-is, left-kept, rings-room, fresh-represents}
 use Rattle.stamps.specs.Events.{Event, feed, restart}
-use Rattle.stamps.specs.Steps.{feedsIn}
+use Rattle.stamps.specs.Computed.{feedsIn}
 use Rattle.replay.specs.Heard.{heardBy, unsettledBy, afterBy, rested, afterEvents}
 use Rattle.replay.specs.Computed.{leftBy, playedBy, countedBy}
 

@@ -24,9 +24,8 @@ use Rattle.stamps.specs.declared.Planned.{Planned}
 use Rattle.stamps.specs.Counts.{outIn, plannedOf, unplannedOf, planOf}
 use Rattle.stamps.specs.Events.{stampsOf}
 use Rattle.stamps.proofs.Recordings.{feeds-out}
-use Rattle.replay.specs.Steps.{quiet, startOf, Room}
+use Rattle.replay.specs.Computed.{quiet, startOf, Room, placesOf, planIn, picked, Good, StateReady, Kept}
 use Rattle.replay.specs.Lines.{Line, recordedAt, recordingIn, stampsIn}
-use Rattle.replay.specs.Computed.{placesOf, planIn, picked, Good, Stands, Kept}
 use Rattle.replay.proofs.Convolver.{blockCall}
 use Rattle.replay.specs.Promise.{recordUnfit, listsUnfit, replayChecks, refusalIn}
 
@@ -131,13 +130,13 @@ module _ (l : Line) (x : Expected) (t : State) (ears : ℕ) where
           stamped = omega (arith, stamps-fit);
         }
 
-    pub stands : Stands l t
+    pub stands : StateReady l t
     stands =
         let lists = or-off (recordUnfit l x ears) _ (off .1 .1 .0) .1 in
         let d = or-off (leb (l .shape .length) (t .desk .position)) _ (off .1 .1 .1 .1 .0) in
         record {
           ringed = is-equal (length (t .rings)) (l .shape .speakers * l .shape .length) (or-off (not (eqb (length (t .rings)) (l .shape .speakers * l .shape .length))) _ lists .0);
-          position = leb-false (l .shape .length) (t .desk .position) (d .0);
+          within = leb-false (l .shape .length) (t .desk .position) (d .0);
           waits = leb-false (l .shape .length) (t .desk .«to_go») (d .1);
         }
 

@@ -16,16 +16,15 @@ use Rattle.planes.proofs.Planes.{with-frames-append}
 use Rattle.desk.specs.declared.Desk.{Desk}
 use Rattle.rings.specs.State.{State}
 use Rattle.rings.specs.Computed.{left, played, counted}
-use Rattle.hrtf.specs.declared.Processed.{Processed}
+use Rattle.hrtf.specs.declared.BlockAnswer.{BlockAnswer}
 use Rattle.hrtf.specs.Promise.{Processes}
 use Rattle.stamps.specs.Events.{Event, restart}
-use Rattle.stamps.specs.Steps.{feedsIn}
+use Rattle.stamps.specs.Computed.{feedsIn}
 use Rattle.stamps.proofs.Recordings.{feeds-append}
 use Rattle.replay.specs.declared.gather.Gathered.{Gathered}
-use Rattle.replay.specs.Steps.{quiet, feeds, restarting, Gathers, eventsAt, Resting, restedIf, Room, Turns, leftIn, Turn}
+use Rattle.replay.specs.Computed.{quiet, feeds, restarting, Gathers, eventsAt, Resting, restedIf, Room, Turns, leftIn, Turn, stateWith, Good, StateReady, Kept, leftBy, playedBy, countedBy}
 use Rattle.replay.specs.declared.play.Turned.{Turned}
 use Rattle.replay.specs.Lines.{Line, setupIn, recordingIn}
-use Rattle.replay.specs.Computed.{stateWith, Good, Stands, Kept, leftBy, playedBy, countedBy}
 use Rattle.replay.proofs.Eventful.{left-by-append, played-by-append, counted-by-append, length-played-by, counted-few, left-feeds, played-feeds, counted-feeds, feeds-feeds, length-feeds, left-stands, left-by-stands}
 use Rattle.replay.proofs.Convolver.{blockCall, block-leaves, block-counts, block-sounds, speakers-few}
 
@@ -77,7 +76,7 @@ module _ (l : Line) (p : Turned) {g : Gathered} {block₁ : List Float} (got : G
     kept₁ : Kept l t block₁ own
     kept₁ = record { state = kept .state; blocked = same ∙ kept .blocked; eared = kept .eared }
 
-    module _ {a : Processed} {rings₁ own₁ : List Float} (plays : Processes (blockCall l (g .count) block₁ own) t (record { answer = a; rings = rings₁; ears = own₁ })) where
+    module _ {a : BlockAnswer} {rings₁ own₁ : List Float} (plays : Processes (blockCall l (g .count) block₁ own) t (record { answer = a; rings = rings₁; ears = own₁ })) where
       leaves : stateWith (a .desk) rings₁ ≡ left (setupIn l) t fs
       leaves = block-leaves good kept₁ (got .few) plays
 
@@ -185,8 +184,8 @@ module _ {l : Line} {p : Turned} {rings ears : List Float} where
           few = omega (arith, room .few, a .out, a .counts, counted-few (setupIn l) (stateWith (p .desk) rings) (a .gone));
         }
 
-    pub turns-stand : Good l → Stands l (stateWith (p .desk) rings) → Stands l (stateWith (r .desk) rings₁)
-    turns-stand good s = subst (Stands l) (sym (a .leaves)) (left-by-stands l (some-length l good) (stateWith (p .desk) rings) (a .gone) s)
+    pub turns-stand : Good l → StateReady l (stateWith (p .desk) rings) → StateReady l (stateWith (r .desk) rings₁)
+    turns-stand good s = subst (StateReady l) (sym (a .leaves)) (left-by-stands l (some-length l good) (stateWith (p .desk) rings) (a .gone) s)
 
 -- ---- the loop: turns from the first place on, in lists that stay as long
 

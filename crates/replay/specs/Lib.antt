@@ -3,4 +3,3 @@ pub mod Lines
 pub mod Heard
 pub mod Promise
 pub mod Computed
-pub mod Steps

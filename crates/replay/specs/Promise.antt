@@ -49,7 +49,7 @@ refusalIn l x t ears = firstOf (replayChecks l x t ears)
 
 -- ---- the answer, and what the lent rings and ear planes hold
 
-pub record Outcome : Type 0 where
+pub record ReplayOutcome : Type 0 where
   pub answer : Replayed
   pub rings : List Float
   pub ears : List Float
@@ -59,12 +59,12 @@ abbrev pub refusedOf : ℕ → Desk → Expected → Replayed
 refusedOf n d x = record { refusal = n; samples = 0; unsettled = 0; late = 0; silent = 0; resets = 0; desk = d; expected = x }
 
 -- "lent memory stays the same"
-abbrev pub refused : ℕ → Expected → State → List Float → Outcome
+abbrev pub refused : ℕ → Expected → State → List Float → ReplayOutcome
 refused n x t ears = record { answer = refusedOf n (t .desk) x; rings = t .rings; ears = ears }
 
 -- the counts of frames: those of the definition over the recorded stamps; the ears: document 01's sums over the signals of the frames as fed, newest first, and then those that the rings held, whatever these
 -- are, up to the first restart; the unsettled count: over the same frames, from the frames to go that were given, none being to go after a restart; the rings and the desk: what the events leave
-abbrev pub accepted : Line → Expected → State → List Float → Outcome
+abbrev pub accepted : Line → Expected → State → List Float → ReplayOutcome
 accepted l x t ears =
     record {
       answer =
@@ -82,14 +82,14 @@ accepted l x t ears =
       ears = withFrames ears (l .earStride) 0 (heardBy (setupIn l) (heldIn (setupIn l) t) (eventsIn l x));
     }
 
-unfoldable pub outcome : Line → Expected → State → List Float → Outcome
+unfoldable pub outcome : Line → Expected → State → List Float → ReplayOutcome
 outcome l x t ears = answered (refusalIn l x t (length ears)) (accepted l x t ears) (λ n. refused n x t ears)
 
 -- the rings and the desk that it leaves
-abbrev pub stateAfter : Outcome → State
+abbrev pub stateAfter : ReplayOutcome → State
 stateAfter o = record { rings = o .rings; desk = o .answer .desk }
 
 -- beside the equation: what stands for a past stands, after an accepted replay, for the frames fed since the last restart, and for that past before them where there was none
-pub record Replays (l : Line) (x : Expected) (t : State) (ears : List Float) (o : Outcome) : Type 0 where
-  pub answer : o ≡ outcome l x t ears
-  pub keeps : (past : List (List Float)) → Represents (setupIn l) past t → refusalIn l x t (length ears) ≡ 0 → Represents (setupIn l) (afterBy (setupIn l) past (eventsIn l x)) (stateAfter o)
+pub record Replays (l : Line) (x : Expected) (t : State) (ears : List Float) (o : ReplayOutcome) : Type 0 where
+  pub bits : o ≡ outcome l x t ears
+  pub words : (past : List (List Float)) → Represents (setupIn l) past t → refusalIn l x t (length ears) ≡ 0 → Represents (setupIn l) (afterBy (setupIn l) past (eventsIn l x)) (stateAfter o)

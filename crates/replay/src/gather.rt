@@ -4,7 +4,7 @@
 // A block ends when it is full, before a reset, or with the recording; so the convolver's checks are made once
 // for a block and not for each frame. `gather` goes on from a place of the recording; the frames in the block,
 // the reset if there is one, and what the rest of the recording does, are together what the recording does from
-// that place on (specs/Steps.antt).
+// that place on (specs/Computed.antt).
 use stamps::Arrival;
 use stamps::Expected;
 ghost use mathlib.Core.Path.{_≡_};
@@ -12,7 +12,7 @@ ghost use Prim.Native.Nat.{_*_, _≤_, _<_};
 ghost use lib.ListN.{length};
 ghost use Rattle.planes.specs.Planes.{frameAt, withFrame};
 ghost use Rattle.replay.specs.Lines.{recording};
-ghost use Rattle.replay.specs.Steps.{quiet, goesOn, Takes, Gathers};
+ghost use Rattle.replay.specs.Computed.{quiet, goesOn, TakesFrame, Gathers};
 
 // The places of a plane of the block.
 pub(crate) const PLACES: usize = 64;
@@ -66,7 +66,7 @@ fn take_one(
     block: &mut [f32],
 ) -> Gathered
     requires { ⌜ («so_far» .count < 64) × («so_far» .at < length (now stamps)) ⌝ }
-    ensures { λ r. ⌜ Takes (now (stamps .entry)) channels stride (now (inputs .entry)) «so_far» (now (block .entry)) r (now (block .exit)) ⌝ }
+    ensures { λ r. ⌜ TakesFrame (now (stamps .entry)) channels stride (now (inputs .entry)) «so_far» (now (block .entry)) r (now (block .exit)) ⌝ }
 {
     let at = so_far.at;
     let count = so_far.count;

@@ -18,8 +18,7 @@ ghost use mathlib.Core.Path.{_≡_};
 ghost use Prim.Native.Nat.{_*_};
 ghost use lib.ListN as ListN;
 ghost use Rattle.replay.specs.Promise.{refusedOf, Replays};
-ghost use Rattle.replay.specs.Computed.{lineOf, stateWith, placesOf, planIn, picked};
-ghost use Rattle.replay.specs.Steps.{answeredOf};
+ghost use Rattle.replay.specs.Computed.{lineOf, stateWith, placesOf, planIn, picked, answeredOf};
 
 mod gather;
 mod play;

@@ -3,7 +3,7 @@
 // the convolver is reset.
 //
 // `play` says by the events of the recording, one after another, what the rings, the desk and the ear planes hold
-// in the end, how many frames came out and how many of them are unsettled (specs/Steps.antt).
+// in the end, how many frames came out and how many of them are unsettled (specs/Computed.antt).
 use crate::gather::PLACES;
 use desk::Desk;
 use hrtf_checks::Shape;
@@ -11,8 +11,7 @@ use stamps::Expected;
 ghost use mathlib.Core.Path.{_≡_};
 ghost use Prim.Native.Nat.{_+_, _^_, _<_};
 ghost use Rattle.planes.specs.Planes.{frameAt, framesOf, withFrame, withFrames};
-ghost use Rattle.replay.specs.Computed.{lineOf, stateWith, Good, Kept};
-ghost use Rattle.replay.specs.Steps.{startOf, Resting, restedIf, Room, Turns, Turn};
+ghost use Rattle.replay.specs.Computed.{lineOf, stateWith, Good, Kept, startOf, Resting, restedIf, Room, Turns, Turn};
 
 // How far a recording is played: the desk, what is expected, the recorded frame that comes next, the frames that came
 // out, and how many of them are unsettled.

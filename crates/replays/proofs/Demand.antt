@@ -21,7 +21,7 @@ use Rattle.stamps.specs.declared.Planned.{Planned}
 use Rattle.stamps.specs.Arrivals.{expectedAfter}
 use Rattle.stamps.specs.Counts.{outOne, lateOne, silentOne, resetOne, outIn, lateIn, silentIn, resetsIn}
 use Rattle.stamps.specs.Events.{Recorded, Event, fed, eventsOf, stampsOf}
-use Rattle.stamps.specs.Steps.{feedsIn}
+use Rattle.stamps.specs.Computed.{feedsIn}
 use Rattle.stamps.proofs.Recordings.{samples-and-late, feeds-append, feeds-out, restarts-resets, length-fed}
 use Rattle.replay.specs.declared.Replayed.{Replayed}
 use Rattle.replay.specs.Heard.{heardBy, afterBy}
@@ -29,7 +29,7 @@ use Rattle.replay.specs.Computed.{leftBy, playedBy, countedBy}
 use Rattle.replay.proofs.Eventful.{length-played-by}
 use Rattle.replay.proofs.Hearing.{after-by-append, played-by-heard, counted-by-told, left-by-kept}
 use Rattle.runs.specs.Runs.{sum}
-use Rattle.replays.specs.Calls.{Call, Place, outcomeAt, next, taken, Alike, takenAll, soundedAll, end, counts, stampsAll, eventsAll}
+use Rattle.replays.specs.Calls.{ReplayCall, Place, outcomeAt, next, taken, Alike, takenAll, soundedAll, end, counts, stampsAll, eventsAll}
 use Rattle.replays.specs.Demand.{uptoFed, frameAgo, damagedAmong, damagedCounts, firstPart, laterParts, heardParts, Replay, Agree, Counted, SameReplay, Over, ReplayDemand3}
 use Rattle.replays.proofs.Calls.{events, called, events-on, all-sounded, all-unsettled, all-left, all-expected, all-counted}
 use Rattle.replays.proofs.Fed.{heard-by-at, parts-heard, fed-same, each-flag}
@@ -37,23 +37,23 @@ use Rattle.replays.proofs.Fed.{heard-by-at, parts-heard, fed-same, each
 -- ---- the counts, from any rings and desk
 
 module _ (u : Setup) where
-  all-late : (p : Place) (cs : List Call) → Alike u p cs → sum (counts (λ (r : Replayed). r .late) p cs) ≡ lateIn (p .expected) (stampsAll p cs)
+  all-late : (p : Place) (cs : List ReplayCall) → Alike u p cs → sum (counts (λ (r : Replayed). r .late) p cs) ≡ lateIn (p .expected) (stampsAll p cs)
   all-late = all-counted u (λ (r : Replayed). r .late) lateOne (λ p c w. ap (λ (q : Planned). q .late) (w .told))
 
-  all-silent : (p : Place) (cs : List Call) → Alike u p cs → sum (counts (λ (r : Replayed). r .silent) p cs) ≡ silentIn (p .expected) (stampsAll p cs)
+  all-silent : (p : Place) (cs : List ReplayCall) → Alike u p cs → sum (counts (λ (r : Replayed). r .silent) p cs) ≡ silentIn (p .expected) (stampsAll p cs)
   all-silent = all-counted u (λ (r : Replayed). r .silent) silentOne (λ p c w. ap (λ (q : Planned). q .silent) (w .told))
 
-  all-resets : (p : Place) (cs : List Call) → Alike u p cs → sum (counts (λ (r : Replayed). r .resets) p cs) ≡ resetsIn (p .expected) (stampsAll p cs)
+  all-resets : (p : Place) (cs : List ReplayCall) → Alike u p cs → sum (counts (λ (r : Replayed). r .resets) p cs) ≡ resetsIn (p .expected) (stampsAll p cs)
   all-resets = all-counted u (λ (r : Replayed). r .resets) resetOne (λ p c w. ap (λ (q : Planned). q .resets) (w .told))
 
-  all-samples : (p : Place) (cs : List Call) → Alike u p cs → sum (counts (λ (r : Replayed). r .samples) p cs) ≡ outIn (p .expected) (stampsAll p cs)
+  all-samples : (p : Place) (cs : List ReplayCall) → Alike u p cs → sum (counts (λ (r : Replayed). r .samples) p cs) ≡ outIn (p .expected) (stampsAll p cs)
   all-samples = all-counted u (λ (r : Replayed). r .samples) outOne (λ p c w. ap (λ (q : Planned). q .out) (w .told))
 
   -- as many frames are fed as come out
   fed-out : (x : Expected) (rs : List (Recorded (List Float))) → outIn x (stampsOf rs) ≡ length (fed (eventsOf (silence u) x rs))
   fed-out x rs = sym (length-fed (silence u) (eventsOf (silence u) x rs) ∙ feeds-out (silence u) x rs)
 
-  replay-counted : (p : Place) (cs : List Call) → Alike u p cs → Counted u p cs
+  replay-counted : (p : Place) (cs : List ReplayCall) → Alike u p cs → Counted u p cs
   replay-counted p cs a =
       record {
         late = all-late p cs a;
@@ -74,11 +74,11 @@ module _ (u : Setup) where
         expected = all-expected u p cs a;
       }
 
-  replay-all : (p : Place) (cs : List Call) → Alike u p cs → length (soundedAll p cs) ≡ length (fed (eventsAll u p cs))
+  replay-all : (p : Place) (cs : List ReplayCall) → Alike u p cs → length (soundedAll p cs) ≡ length (fed (eventsAll u p cs))
   replay-all p cs a = ap length (all-sounded u p cs a) ∙ length-played-by u (p .state) (eventsAll u p cs) ∙ sym (length-fed (silence u) (eventsAll u p cs))
 
   -- ---- (d): cutting a recording anywhere changes nothing. It needs no reset
-  replay-cut : (p : Place) (cs ds : List Call) → Alike u p cs → Alike u p ds → takenAll p cs ≡ takenAll p ds → SameReplay p cs ds
+  replay-cut : (p : Place) (cs ds : List ReplayCall) → Alike u p cs → Alike u p ds → takenAll p cs ≡ takenAll p ds → SameReplay p cs ds
   replay-cut p cs ds a b e =
       let es : eventsAll u p cs ≡ eventsAll u p ds = ap (eventsOf (silence u) (p .expected)) e in
       let state : end p cs .state ≡ end p ds .state = all-left u p cs a ∙ ap (leftBy u (p .state)) es ∙ sym (all-left u p ds b) in
@@ -98,7 +98,7 @@ module _ (u : Setup) where
 
 -- ---- over a past
 
-replay-over : (u : Setup) (p : Place) (cs : List Call) → Alike u p cs → (past : List (List Float)) → Represents u past (p .state) → Over u p cs past
+replay-over : (u : Setup) (p : Place) (cs : List ReplayCall) → Alike u p cs → (past : List (List Float)) → Represents u past (p .state) → Over u p cs past
 replay-over u p cs a past r =
     record {
       sounds = all-sounded u p cs a ∙ played-by-heard u past (p .state) r (eventsAll u p cs);
@@ -108,9 +108,9 @@ replay-over u p cs a past r =
 
 -- ---- from a reset
 
-module _ (u : Setup) (p : Place) (cs : List Call) (r : Replay u p cs) where
+module _ (u : Setup) (p : Place) (cs : List ReplayCall) (r : Replay u p cs) where
   pub replay-starts : Represents u [] (p .state)
-  replay-starts = r .reset .fresh (sym (reset-number (r .desk) (u .speakers) (u .L) (r .rings) _ (r .reset))) u refl refl
+  replay-starts = r .reset .words (sym (reset-number (r .desk) (u .speakers) (u .L) (r .rings) _ (r .reset))) u refl refl
 
   -- the whole replay sounds as the frames as fed, however it was cut
   pub replay-heard : soundedAll p cs ≡ heardBy u [] (eventsAll u p cs)
@@ -124,19 +124,19 @@ module _ (u : Setup) (p : Place) (cs : List Call) (r : Replay u p cs) where
   replay-parts = replay-heard ∙ parts-heard u [] (eventsAll u p cs)
 
 -- (b): two replays that agree on a frame as fed and the L-1 before it give the same two ear samples there, whatever came earlier
-replay-equal : (u : Setup) (p q : Place) (cs ds : List Call) → Replay u p cs → Replay u q ds → (n m : ℕ) → n < length (fed (eventsAll u p cs)) → m < length (fed (eventsAll u q ds)) → Agree u p cs n q ds m
+replay-equal : (u : Setup) (p q : Place) (cs ds : List ReplayCall) → Replay u p cs → Replay u q ds → (n m : ℕ) → n < length (fed (eventsAll u p cs)) → m < length (fed (eventsAll u q ds)) → Agree u p cs n q ds m
     → getD (soundedAll p cs) n [] ≡ getD (soundedAll q ds) m []
 replay-equal u p q cs ds r v n m hn hm e =
     replay-sums u p cs r n hn ∙ fed-same u (r .finite) (eventsAll u p cs) (eventsAll u q ds) n m e ∙ sym (replay-sums u q ds v m hm)
 
 -- both have a damaged frame among those L, or neither
-replay-settled : (u : Setup) (p q : Place) (cs ds : List Call) (n m : ℕ) → Agree u p cs n q ds m → damagedAmong u (eventsAll u p cs) n ≡ damagedAmong u (eventsAll u q ds) m
+replay-settled : (u : Setup) (p q : Place) (cs ds : List ReplayCall) (n m : ℕ) → Agree u p cs n q ds m → damagedAmong u (eventsAll u p cs) n ≡ damagedAmong u (eventsAll u q ds) m
 replay-settled u p q cs ds n m e =
     ap any (tab-ext 0 (u .L) (λ k. damaged u (frameAgo u (eventsAll u p cs) n k)) (λ k. damaged u (frameAgo u (eventsAll u q ds) m k)) (λ k h. ap (damaged u) (e k (omega arith))))
 
 -- (c): each call's count, `done` being what happened before it
 module _ (u : Setup) (finite : unsound (u .weights) ≡ false) where
-  counts-on : (done : List (Event (List Float))) (p : Place) (cs : List Call) → Alike u p cs → Represents u (afterBy u [] done) (p .state)
+  counts-on : (done : List (Event (List Float))) (p : Place) (cs : List ReplayCall) → Alike u p cs → Represents u (afterBy u [] done) (p .state)
       → counts (λ (r : Replayed). r .unsettled) p cs ≡ damagedCounts u (done ++ eventsAll u p cs) (feedsIn done) p cs
   counts-on done p [] a r = refl
   counts-on done p (c ∷ cs) a r =
@@ -160,7 +160,7 @@ module _ (u : Setup) (finite : unsound (u .weights) ≡ false) where
             ∙ ap (λ (hs : List (Event (List Float))). damagedCounts u hs (feedsIn done + m) (next p c) cs) (append-assoc done es rest ∙ whole),
       )
 
-replay-unsettled : (u : Setup) (p : Place) (cs : List Call) → Replay u p cs → counts (λ (r : Replayed). r .unsettled) p cs ≡ damagedCounts u (eventsAll u p cs) 0 p cs
+replay-unsettled : (u : Setup) (p : Place) (cs : List ReplayCall) → Replay u p cs → counts (λ (r : Replayed). r .unsettled) p cs ≡ damagedCounts u (eventsAll u p cs) 0 p cs
 replay-unsettled u p cs r = counts-on u (r .finite) [] p cs (r .alike) (replay-starts u p cs r)
 
 pub replay-demand-3 : ReplayDemand3

@@ -17,7 +17,7 @@ use Rattle.history.specs.History.{signalAgo, earSamples, unsettled, heard}
 use Rattle.history.proofs.Windows.{ears-same, any-ago}
 use Rattle.history.proofs.Silence.{signal-ago, damage-ago}
 use Rattle.stamps.specs.Events.{Event, feed, restart}
-use Rattle.stamps.specs.Steps.{feedsIn}
+use Rattle.stamps.specs.Computed.{feedsIn}
 use Rattle.stamps.proofs.Recordings.{feeds-append}
 use Rattle.replay.specs.Heard.{heardBy, unsettledEachBy, afterBy}
 use Rattle.replay.proofs.Hearing.{after-by-append}

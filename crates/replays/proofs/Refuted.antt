@@ -22,7 +22,7 @@ use Rattle.stamps.specs.declared.Expected.the-variants.{First, Stamp}
 use Rattle.stamps.specs.Arrivals.{comingBy}
 use Rattle.replay.specs.Lines.{Line, eventsIn}
 use Rattle.replay.specs.Heard.{heardBy, unsettledBy}
-use Rattle.replay.specs.Promise.{refusalIn, Outcome, Replays}
+use Rattle.replay.specs.Promise.{refusalIn, ReplayOutcome, Replays}
 use Rattle.replay.proofs.Hearing.{played-by-heard, counted-by-told}
 use Rattle.replay.proofs.Answering.{outcome-by, outcome-computed, ears-read}
 use Rattle.replays.proofs.Worked.{line, whole, planes, pair, eight-short, starts, sounds, unsettled, told}
@@ -40,7 +40,7 @@ known (Stamp s) = 1
 
 -- ---- on the worked recording
 
-module _ (o : Outcome) (p : Replays (whole 9) First (fresh drill) (planes 9) o) where
+module _ (o : ReplayOutcome) (p : Replays (whole 9) First (fresh drill) (planes 9) o) where
   -- a gap that resets counted as a late frame
   gap-as-late : o .answer .late ≡ 2 → ⊥
   gap-as-late e = omega (arith, e, told o p .1 .0)
@@ -71,16 +71,16 @@ module _ (o : Outcome) (p : Replays (whole 9) First (fresh drill) (planes 9) o) 
       off q = omega (arith, ap (λ (l : List Float). unitsOf (getD l 0 nan)) q)
 
 -- room for eight of nine frames: as many as there is room for
-as-many-as-fit : (o : Outcome) → Replays (whole 8) First (fresh drill) (planes 8) o → o .answer .refusal ≡ 0 → ⊥
-as-many-as-fit o p e = omega (arith, e, ap (λ (q : Outcome). q .answer .refusal) (p .answer ∙ outcome-by (whole 8) First (fresh drill) (planes 8) 5 eight-short))
+as-many-as-fit : (o : ReplayOutcome) → Replays (whole 8) First (fresh drill) (planes 8) o → o .answer .refusal ≡ 0 → ⊥
+as-many-as-fit o p e = omega (arith, e, ap (λ (q : ReplayOutcome). q .answer .refusal) (p .bits ∙ outcome-by (whole 8) First (fresh drill) (planes 8) 5 eight-short))
 
 -- a weight that is NaN and room for eight: 5 comes before 7
 abbrev unfit : Line
 unfit = record { shape = whole 8 .shape; frames = 8; stride = 8; stamps = whole 8 .stamps; inputs = whole 8 .inputs; weights = nan ∷ []; rows = drill .rows; taps = drill .taps; earStride = 8 }
 
-seven-first : (o : Outcome) → Replays unfit First (fresh drill) (planes 8) o → o .answer .refusal ≡ 7 → ⊥
+seven-first : (o : ReplayOutcome) → Replays unfit First (fresh drill) (planes 8) o → o .answer .refusal ≡ 7 → ⊥
 unfolding refusalIn comingBy ofInt
-seven-first o p e = omega (arith, e, ap (λ (q : Outcome). q .answer .refusal) (p .answer ∙ outcome-by unfit First (fresh drill) (planes 8) 5 refl))
+seven-first o p e = omega (arith, e, ap (λ (q : ReplayOutcome). q .answer .refusal) (p .bits ∙ outcome-by unfit First (fresh drill) (planes 8) 5 refl))
 
 -- ---- on small ones
 
@@ -89,24 +89,24 @@ abbrev two : ℕ → ℕ → Float → Float → ℕ → Line
 two s r x y room = line 2 (s ∷ r ∷ []) (x ∷ y ∷ []) room
 
 -- the unsettled count of two frames from rest that are not refused
-count-of : (s r : ℕ) (x y : Float) (room : ℕ) (o : Outcome) → Replays (two s r x y room) First (fresh drill) (planes room) o → refusalIn (two s r x y room) First (fresh drill) (length (planes room)) ≡ 0
+count-of : (s r : ℕ) (x y : Float) (room : ℕ) (o : ReplayOutcome) → Replays (two s r x y room) First (fresh drill) (planes room) o → refusalIn (two s r x y room) First (fresh drill) (length (planes room)) ≡ 0
     → o .answer .unsettled ≡ unsettledBy drill 0 [] (eventsIn (two s r x y room) First)
 count-of s r x y room o p e =
-    ap (λ (q : Outcome). q .answer .unsettled) (p .answer ∙ outcome-computed (two s r x y room) First (fresh drill) (planes room) e)
+    ap (λ (q : ReplayOutcome). q .answer .unsettled) (p .bits ∙ outcome-computed (two s r x y room) First (fresh drill) (planes room) e)
     ∙ counted-by-told drill [] (fresh drill) starts (eventsIn (two s r x y room) First)
 
 -- 0 with a NaN, then 3: the silent frame behind the NaN is unsettled too
-silence-settled : (o : Outcome) → Replays (two 0 3 nan one-float 4) First (fresh drill) (planes 4) o → o .answer .unsettled ≡ 1 → ⊥
+silence-settled : (o : ReplayOutcome) → Replays (two 0 3 nan one-float 4) First (fresh drill) (planes 4) o → o .answer .unsettled ≡ 1 → ⊥
 unfolding refusalIn comingBy mixed rounded add mul ieee.sum round size span climb units odd ofInt
 silence-settled o p e = omega (arith, e, count-of 0 3 nan one-float 4 o p refl)
 
 -- 5, then 4 with a NaN: a late frame is not looked at
-late-damage : (o : Outcome) → Replays (two 5 4 one-float nan 1) First (fresh drill) (planes 1) o → o .answer .unsettled ≡ 1 → ⊥
+late-damage : (o : ReplayOutcome) → Replays (two 5 4 one-float nan 1) First (fresh drill) (planes 1) o → o .answer .unsettled ≡ 1 → ⊥
 unfolding refusalIn comingBy mixed rounded add mul ieee.sum round size span climb units odd ofInt
 late-damage o p e = omega (arith, e, count-of 5 4 one-float nan 1 o p refl)
 
 -- 0 with a NaN, then 5000: a reset leaves no frames to go
-to-go-kept : (o : Outcome) → Replays (two 0 5000 nan one-float 2) First (fresh drill) (planes 2) o → o .answer .unsettled ≡ 2 → ⊥
+to-go-kept : (o : ReplayOutcome) → Replays (two 0 5000 nan one-float 2) First (fresh drill) (planes 2) o → o .answer .unsettled ≡ 2 → ⊥
 unfolding refusalIn comingBy mixed rounded add mul ieee.sum round size span climb units odd ofInt
 to-go-kept o p e = omega (arith, e, count-of 0 5000 nan one-float 2 o p refl)
 
@@ -120,11 +120,11 @@ unfolding refusalIn comingBy ofInt
 three-fit = refl
 
 -- the last sample held for the missing one: 3/2
-last-held : (o : Outcome) → Replays (two 0 2 one-float one-float 3) First (fresh drill) (planes 3) o → getD (framesOf (o .ears) 3 2 (o .answer .samples)) 1 [] ≡ pair (fin false 3 (negsuc 0)) one-float → ⊥
+last-held : (o : ReplayOutcome) → Replays (two 0 2 one-float one-float 3) First (fresh drill) (planes 3) o → getD (framesOf (o .ears) 3 2 (o .answer .samples)) 1 [] ≡ pair (fin false 3 (negsuc 0)) one-float → ⊥
 unfolding unitsOf
 last-held o p e =
     absurd (off (ap (λ (fs : List (List Float)). getD fs 1 [])
-    (sym (ap (λ (q : Outcome). framesOf (q .ears) 3 2 (q .answer .samples)) (p .answer)
+    (sym (ap (λ (q : ReplayOutcome). framesOf (q .ears) 3 2 (q .answer .samples)) (p .bits)
     ∙ ears-read (two 0 2 one-float one-float 3) First (fresh drill) (planes 3) three-fit
     ∙ played-by-heard drill [] (fresh drill) starts (eventsIn (two 0 2 one-float one-float 3) First)
     ∙ held-is)) ∙ e))

@@ -25,13 +25,13 @@ use Rattle.stamps.specs.declared.Expected.the-variants.{First, Stamp}
 use Rattle.stamps.specs.Arrivals.{comingBy}
 use Rattle.replay.specs.Lines.{Line, eventsIn}
 use Rattle.replay.specs.Heard.{heardBy, unsettledBy}
-use Rattle.replay.specs.Promise.{refusalIn, Outcome, outcome, Replays}
+use Rattle.replay.specs.Promise.{refusalIn, ReplayOutcome, outcome, Replays}
 use Rattle.replay.proofs.Hearing.{played-by-heard, counted-by-told}
 use Rattle.replay.proofs.Answering.{outcome-computed, ears-read}
 use Rattle.runs.specs.Runs.{sum}
 use Rattle.replay.specs.declared.Replayed.{Replayed}
 use Rattle.planes.specs.Planes.{framesOf}
-use Rattle.replays.specs.Calls.{Call, Place, Alike, takenAll, counts}
+use Rattle.replays.specs.Calls.{ReplayCall, Place, Alike, takenAll, counts}
 use Rattle.replays.specs.Demand.{Replay, SameReplay}
 use Rattle.replays.proofs.Demand.{replay-demand-3}
 
@@ -89,17 +89,17 @@ unsettled-is = refl
 pub starts : Represents drill [] (fresh drill)
 starts = fresh-represents drill (omega arith)
 
-module _ (o : Outcome) (p : Replays (whole 9) First (fresh drill) (planes 9) o) where
+module _ (o : ReplayOutcome) (p : Replays (whole 9) First (fresh drill) (planes 9) o) where
   pub sounds : framesOf (o .ears) 9 2 (o .answer .samples) ≡ table
   sounds =
-      ap (λ (q : Outcome). framesOf (q .ears) 9 2 (q .answer .samples)) (p .answer)
+      ap (λ (q : ReplayOutcome). framesOf (q .ears) 9 2 (q .answer .samples)) (p .bits)
       ∙ ears-read (whole 9) First (fresh drill) (planes 9) nine-fit
       ∙ played-by-heard drill [] (fresh drill) starts (eventsIn (whole 9) First)
       ∙ heard-is
 
   pub unsettled : o .answer .unsettled ≡ 2
   unsettled =
-      ap (λ (q : Outcome). q .answer .unsettled) (p .answer ∙ outcome-computed (whole 9) First (fresh drill) (planes 9) nine-fit)
+      ap (λ (q : ReplayOutcome). q .answer .unsettled) (p .bits ∙ outcome-computed (whole 9) First (fresh drill) (planes 9) nine-fit)
       ∙ counted-by-told drill [] (fresh drill) starts (eventsIn (whole 9) First)
       ∙ unsettled-is
 
@@ -107,19 +107,19 @@ module _ (o : Outcome) (p : Replays (whole 9) First (fresh drill) (planes 9) o) 
   pub left : (o .answer .refusal ≡ 0) × ((o .rings ≡ float (pos 8) ∷ one-float ∷ []) × (o .answer .desk ≡ zeroed))
   unfolding comingBy mixed rounded add mul ieee.sum round size span climb units odd ofInt
   left =
-      let made = p .answer ∙ outcome-computed (whole 9) First (fresh drill) (planes 9) nine-fit in
-      (ap (λ (q : Outcome). q .answer .refusal) made, (ap (λ (q : Outcome). q .rings) made, ap (λ (q : Outcome). q .answer .desk) made))
+      let made = p .bits ∙ outcome-computed (whole 9) First (fresh drill) (planes 9) nine-fit in
+      (ap (λ (q : ReplayOutcome). q .answer .refusal) made, (ap (λ (q : ReplayOutcome). q .rings) made, ap (λ (q : ReplayOutcome). q .answer .desk) made))
 
   pub told : (o .answer .samples ≡ 9) × ((o .answer .late ≡ 1) × ((o .answer .silent ≡ 2) × ((o .answer .resets ≡ 1) × (o .answer .expected ≡ Stamp 5002))))
   unfolding comingBy
   told =
-      let made = p .answer ∙ outcome-computed (whole 9) First (fresh drill) (planes 9) nine-fit in (
-        ap (λ (q : Outcome). q .answer .samples) made,
+      let made = p .bits ∙ outcome-computed (whole 9) First (fresh drill) (planes 9) nine-fit in (
+        ap (λ (q : ReplayOutcome). q .answer .samples) made,
         (
-          ap (λ (q : Outcome). q .answer .late) made,
+          ap (λ (q : ReplayOutcome). q .answer .late) made,
           (
-            ap (λ (q : Outcome). q .answer .silent) made,
-            (ap (λ (q : Outcome). q .answer .resets) made, ap (λ (q : Outcome). q .answer .expected) made),
+            ap (λ (q : ReplayOutcome). q .answer .silent) made,
+            (ap (λ (q : ReplayOutcome). q .answer .resets) made, ap (λ (q : ReplayOutcome). q .answer .expected) made),
           ),
         ),
       )
@@ -129,14 +129,14 @@ module _ (o : Outcome) (p : Replays (whole 9) First (fresh drill) (planes 9) o) 
 abbrev pub place : Place
 place = record { expected = First; state = fresh drill }
 
-abbrev pub calls : List Call
+abbrev pub calls : List ReplayCall
 calls =
     record { line = line 2 (4294967294 ∷ 4294967295 ∷ []) (one-float ∷ nan ∷ []) 2; ears = planes 2 }
     ∷ record { line = whole 8; ears = planes 7 }
     ∷ record { line = line 0 [] [] 0; ears = [] }
     ∷ record { line = line 6 (0 ∷ 3 ∷ 2 ∷ 4 ∷ 5000 ∷ 5001 ∷ []) (zero-float ∷ float (pos 2) ∷ float (pos 9) ∷ float (pos 4) ∷ float (pos 8) ∷ one-float ∷ []) 7; ears = planes 7 } ∷ []
 
-abbrev once : List Call
+abbrev once : List ReplayCall
 once = record { line = whole 9; ears = planes 9 } ∷ []
 
 alike : Alike drill place calls

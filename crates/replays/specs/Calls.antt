@@ -13,12 +13,12 @@ use Rattle.stamps.specs.declared.Expected.{Expected}
 use Rattle.stamps.specs.Events.{Recorded, Event, eventsOf, stampsOf}
 use Rattle.replay.specs.declared.Replayed.{Replayed}
 use Rattle.replay.specs.Lines.{Line, setupIn, recordingIn}
-use Rattle.replay.specs.Promise.{refusalIn, Outcome, outcome, stateAfter}
+use Rattle.replay.specs.Promise.{refusalIn, ReplayOutcome, outcome, stateAfter}
 
 -- ---- one call
 
 -- all that is handed to it but what is passed on
-pub record Call : Type 0 where
+pub record ReplayCall : Type 0 where
   pub line : Line
   pub ears : List Float
 
@@ -27,54 +27,54 @@ pub record Place : Type 0 where
   pub expected : Expected
   pub state : State
 
-abbrev pub refusalAt : Place → Call → ℕ
+abbrev pub refusalAt : Place → ReplayCall → ℕ
 refusalAt p c = refusalIn (c .line) (p .expected) (p .state) (length (c .ears))
 
-abbrev pub outcomeAt : Place → Call → Outcome
+abbrev pub outcomeAt : Place → ReplayCall → ReplayOutcome
 outcomeAt p c = outcome (c .line) (p .expected) (p .state) (c .ears)
 
-abbrev pub next : Place → Call → Place
+abbrev pub next : Place → ReplayCall → Place
 next p c = record { expected = outcomeAt p c .answer .expected; state = stateAfter (outcomeAt p c) }
 
 -- the recorded frames that it takes: those of its line, or none where it is refused
-abbrev pub takenWhere : ℕ → Call → List (Recorded (List Float))
+abbrev pub takenWhere : ℕ → ReplayCall → List (Recorded (List Float))
 takenWhere n c = answered n (recordingIn (c .line)) (λ k. [])
 
-abbrev pub taken : Place → Call → List (Recorded (List Float))
+abbrev pub taken : Place → ReplayCall → List (Recorded (List Float))
 taken p c = takenWhere (refusalAt p c) c
 
 -- the ear samples of the frames that it says came out, read from the two ear planes as it leaves them: for each frame left, then right
-abbrev pub sounded : Place → Call → List (List Float)
+abbrev pub sounded : Place → ReplayCall → List (List Float)
 sounded p c = framesOf (outcomeAt p c .ears) (c .line .earStride) 2 (outcomeAt p c .answer .samples)
 
 -- ---- many calls
 
 -- every call that is accepted has the counts, L, weights and filters of u; a call that is refused may hold anything
-abbrev pub Alike : Setup → Place → List Call → Type 0
+abbrev pub Alike : Setup → Place → List ReplayCall → Type 0
 Alike u p [] = Unit {0}
 Alike u p (c ∷ cs) = (refusalAt p c ≡ 0 → SameFilters (setupIn (c .line)) u) × Alike u (next p c) cs
 
 -- the recorded list
-abbrev pub takenAll : Place → List Call → List (Recorded (List Float))
+abbrev pub takenAll : Place → List ReplayCall → List (Recorded (List Float))
 takenAll p [] = []
 takenAll p (c ∷ cs) = taken p c ++ takenAll (next p c) cs
 
-abbrev pub soundedAll : Place → List Call → List (List Float)
+abbrev pub soundedAll : Place → List ReplayCall → List (List Float)
 soundedAll p [] = []
 soundedAll p (c ∷ cs) = sounded p c ++ soundedAll (next p c) cs
 
-abbrev pub end : Place → List Call → Place
+abbrev pub end : Place → List ReplayCall → Place
 end p [] = p
 end p (c ∷ cs) = end (next p c) cs
 
 -- a count that each call answers
-abbrev pub counts : (Replayed → ℕ) → Place → List Call → List ℕ
+abbrev pub counts : (Replayed → ℕ) → Place → List ReplayCall → List ℕ
 counts count p [] = []
 counts count p (c ∷ cs) = count (outcomeAt p c .answer) ∷ counts count (next p c) cs
 
 -- the stamps of the recorded list, and what it does: the frames as fed, each with its stamp, and restarts
-abbrev pub stampsAll : Place → List Call → List ℕ
+abbrev pub stampsAll : Place → List ReplayCall → List ℕ
 stampsAll p cs = stampsOf (takenAll p cs)
 
-abbrev pub eventsAll : Setup → Place → List Call → List (Event (List Float))
+abbrev pub eventsAll : Setup → Place → List ReplayCall → List (Event (List Float))
 eventsAll u p cs = eventsOf (silence u) (p .expected) (takenAll p cs)

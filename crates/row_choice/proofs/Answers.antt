@@ -19,11 +19,11 @@ module _ (zs es : List ℤ) (n : ℕ) (p q : ℤ) where
   -- the number answered is that of the first test that holds
   pub refusal-is : (r : Choice) → Chooses zs es n p q r → r .refusal ≡ choiceRefusal zs es n p q
   unfolding choiceOf
-  refusal-is r x = ap (λ (c : Choice). c .refusal) (x .answer) ∙ told-is (chose _) refusedWith (λ (c : Choice). c .refusal) refl (choiceRefusal zs es n p q) refl
+  refusal-is r x = ap (λ (c : Choice). c .refusal) (x .bits) ∙ told-is (chose _) refusedWith (λ (c : Choice). c .refusal) refl (choiceRefusal zs es n p q) refl
 
   refused : (k : ℕ) → 0 < k → choiceRefusal zs es n p q ≡ k → Chooses zs es n p q (refusedWith k)
   unfolding choiceOf
-  refused k h e = record { answer = answered-by _ refusedWith _ k h e; takes = λ z. absurd (omega arith) }
+  refused k h e = record { bits = answered-by _ refusedWith _ k h e; words = λ z. absurd (omega arith) }
 
   pub no-rows : outside n 8 ≡ true → Chooses zs es n p q (refusedWith 2)
   unfolding choiceRefusal
@@ -57,4 +57,4 @@ module _ (zs es : List ℤ) (n : ℕ) (p q : ℤ) where
 
           pub chosen : (r : ℕ) → r ≡ nearestFrom zs es p q 0 1 (n - 1) → 1 ≤ n → Chooses zs es n p q (record { refusal = 0; row = r })
           unfolding choiceOf
-          chosen r e g = record { answer = ap chose e ∙ sym (answered-accepted _ refusedWith _ none-refused); takes = λ z. rw e (takes zs es p q n g) }
+          chosen r e g = record { bits = ap chose e ∙ sym (answered-accepted _ refusedWith _ none-refused); words = λ z. rw e (takes zs es p q n g) }

@@ -37,7 +37,7 @@ module _ (rest : List ℤ) (six : length rest ≡ 6) (heights : List ℤ) (six-h
       → Chooses (pos 0 ∷ pos 450 ∷ rest) (pos 0 ∷ pos 0 ∷ heights) 2 p (pos 0) r → r ≡ record { refusal = 0; row = row }
   as-before p h row t x =
       let none = refusal-is _ _ 2 p (pos 0) r x ∙ accepted p h in
-      let same : r .row ≡ row = takes-one _ _ p (pos 0) 2 _ _ (x .takes none) (flat-as-before _ _ 2 p (pos 0) both-level row .1 t) in
+      let same : r .row ≡ row = takes-one _ _ p (pos 0) 2 _ _ (x .words none) (flat-as-before _ _ 2 p (pos 0) both-level row .1 t) in
       (λ i. record { refusal = none i; row = same i })
 
   pub drill-tie : Chooses (pos 0 ∷ pos 450 ∷ rest) (pos 0 ∷ pos 0 ∷ heights) 2 (pos 225) (pos 0) r → r ≡ record { refusal = 0; row = 0 }

@@ -27,11 +27,11 @@ module _ (rest : List ℤ) (six : length rest ≡ 6) (heights : List ℤ) (six-h
 module _ (zs es : List ℤ) (n row : ℕ) (p q : ℤ) (x : Chooses zs es n p q (record { refusal = 0; row = row })) where
   -- rows beyond the first are looked at: a row among the others is taken, however near it is
   beyond-the-rows : n ≤ row → ⊥
-  beyond-the-rows h = omega (arith, h, x .takes refl .among)
+  beyond-the-rows h = omega (arith, h, x .words refl .among)
 
   -- a row is taken for its azimuth, though another is nearer in elevation
   by-azimuth-alone : (j : ℕ) → j < n → elevationAway es q j < elevationAway es q row → ⊥
-  by-azimuth-alone j h l = x .takes refl .nearest j h (inl l)
+  by-azimuth-alone j h l = x .words refl .nearest j h (inl l)
 
   -- a list of seven elevations is accepted
   seven-elevations : length es ≡ 7 → ⊥
@@ -55,4 +55,4 @@ module _ (rest heights : List ℤ) where
   -- the difference of azimuths is modulo two turns: a speaker at -1799 would be a turn away from a row at 1800, which is a tenth away
   two-turns : Chooses (pos 0 ∷ pos 1800 ∷ rest) (pos 0 ∷ pos 0 ∷ heights) 2 (negsuc 1798) (pos 0) (record { refusal = 0; row = 0 }) → ⊥
   unfolding elevationAway apart
-  two-turns x = x .takes refl .nearest 1 (lit< tt) (inr (refl, lit< tt))
+  two-turns x = x .words refl .nearest 1 (lit< tt) (inr (refl, lit< tt))

@@ -12,8 +12,8 @@ use Rattle.row_choice.proofs.Takes.{takes-one}
 use Rattle.row_choice.proofs.nearest_row
 
 pub nearest-row-unique : AllowsOneAnswer nearest_row.ended nearest_row.Reads.Learnt
-nearest-row-unique κs a = determined-by (λ z h i. (h .answer i, _))
+nearest-row-unique κs a = determined-by (λ z h i. (h .bits i, _))
 
 -- by the documents' words alone
 pub only-row : (zs es : List ℤ) (n : ℕ) (p q : ℤ) (a : Choice) → Chooses zs es n p q a → a .refusal ≡ 0 → (r : ℕ) → Takes zs es n p q r → r ≡ a .row
-only-row zs es n p q a x e r t = takes-one zs es p q n r (a .row) t (x .takes e)
+only-row zs es n p q a x e r t = takes-one zs es p q n r (a .row) t (x .words e)

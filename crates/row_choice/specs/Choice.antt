@@ -37,8 +37,8 @@ unfoldable pub choiceOf : List ℤ → List ℤ → ℕ → ℤ → ℤ → Choi
 choiceOf zs es n p q = answered (choiceRefusal zs es n p q) (chose (nearestFrom zs es p q 0 1 (n - 1))) refusedWith
 
 pub record Chooses (zs es : List ℤ) (n : ℕ) (p q : ℤ) (r : Choice) : Type 0 where
-  pub answer : r ≡ choiceOf zs es n p q
-  pub takes : r .refusal ≡ 0 → Takes zs es n p q (r .row)
+  pub bits : r ≡ choiceOf zs es n p q
+  pub words : r .refusal ≡ 0 → Takes zs es n p q (r .row)
 
 -- the row that the walk finds is the one that the words name, which is one alone (`takes-one`): so whoever cites `choiceOf` cites these words
 abbrev pub ChoiceMeets : Type 0

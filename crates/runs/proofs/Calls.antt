@@ -17,7 +17,7 @@ use Rattle.rings.proofs.Filters.{played-alike, left-alike, counted-alike}
 use Rattle.hrtf_checks.specs.Call.{Call, setup, framesIn}
 use Rattle.hrtf_checks.specs.Refusals.{refusalOf}
 use Rattle.hrtf_checks.proofs.Refusing.{ears-fit, ready}
-use Rattle.hrtf.specs.Promise.{Outcome, outcomeBy, outcome, stateAfter}
+use Rattle.hrtf.specs.Promise.{BlockOutcome, outcomeBy, outcome, stateAfter}
 use Rattle.hrtf.proofs.Promised.{outcome-by, outcome-computed, all-heard}
 use Rattle.hrtf.specs.Computed.{computed}
 use Rattle.runs.specs.Runs.{next, fedBy, fed, sounded, Alike, fedAll, soundedAll, end, unsettledCounts, sum}
@@ -33,13 +33,13 @@ called-by : (u : Setup) (t : State) (c : Call) → (refusalOf c t ≡ 0 → Same
 called-by u t c same zero e =
     record {
       sounds =
-          ap (λ (o : Outcome). framesOf (o .ears) (c .stride) 2 (o .answer .samples)) (outcome-by c t 0 e)
+          ap (λ (o : BlockOutcome). framesOf (o .ears) (c .stride) 2 (o .answer .samples)) (outcome-by c t 0 e)
           ∙ ap (framesOf (outcomeBy 0 c t .ears) (c .stride) 2) (sym (all-heard c held))
           ∙ frames-read 2 (c .ears) (c .stride) (heard (setup c) held (framesIn c)) (omega (arith, all-heard c held, ears-fit c t e .0)) (ears-fit c t e .1) (two-each (setup c) held (framesIn c))
           ∙ sym (played-held (setup c) t (framesIn c) (ready c t e .ringed) (ready c t e .within))
           ∙ played-alike (setup c) u (same e) t (framesIn c)
           ∙ ap (played u t) (sym fs);
-      counts = ap (λ (o : Outcome). o .answer .unsettled) made ∙ counted-alike (setup c) u (same e) t (framesIn c) ∙ ap (counted u t) (sym fs);
+      counts = ap (λ (o : BlockOutcome). o .answer .unsettled) made ∙ counted-alike (setup c) u (same e) t (framesIn c) ∙ ap (counted u t) (sym fs);
       leaves = ap stateAfter made ∙ left-alike (setup c) u (same e) t (framesIn c) ∙ ap (left u t) (sym fs);
     }
   where
@@ -53,8 +53,8 @@ called-by u t c same zero e =
     fs = ap (λ (n : ℕ). fedBy n (framesIn c)) e
 called-by u t c same (suc k) e =
     record {
-      sounds = ap (λ (o : Outcome). framesOf (o .ears) (c .stride) 2 (o .answer .samples)) made ∙ ap (played u t) (sym fs);
-      counts = ap (λ (o : Outcome). o .answer .unsettled) made ∙ ap (counted u t) (sym fs);
+      sounds = ap (λ (o : BlockOutcome). framesOf (o .ears) (c .stride) 2 (o .answer .samples)) made ∙ ap (played u t) (sym fs);
+      counts = ap (λ (o : BlockOutcome). o .answer .unsettled) made ∙ ap (counted u t) (sym fs);
       leaves = ap stateAfter made ∙ ap (left u t) (sym fs);
     }
   where

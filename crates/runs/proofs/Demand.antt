@@ -28,7 +28,7 @@ use Rattle.runs.proofs.Counts.{upto-is, owed-counts}
 
 -- a run begins at the empty past
 pub run-starts : (u : Setup) (t : State) (cs : List Call) → Run u t cs → Represents u [] t
-run-starts u t cs r = r .reset .fresh (sym (reset-number (r .desk) (u .speakers) (u .L) (r .rings) _ (r .reset))) u refl refl
+run-starts u t cs r = r .reset .words (sym (reset-number (r .desk) (u .speakers) (u .L) (r .rings) _ (r .reset))) u refl refl
 
 -- the whole run sounds as the frames that were fed, however it was cut
 pub run-heard : (u : Setup) (t : State) (cs : List Call) → Run u t cs → soundedAll t cs ≡ heard u [] (fedAll t cs)

@@ -30,7 +30,7 @@ use Rattle.desk.specs.declared.Desk.{Desk}
 use Rattle.desk.proofs.Going.{position-below, waits-below}
 use Rattle.history.specs.Setup.{Setup}
 use Rattle.history.specs.Signals.{damaged}
-use Rattle.rings.specs.State.{State}
+use Rattle.rings.specs.State.{State, StateFits}
 use Rattle.rings.specs.Computed.{stepped, left}
 use Rattle.rings.proofs.Told.{length-stored}
 use Rattle.rings.proofs.Blocks.{rings-room, waits-few}
@@ -39,14 +39,14 @@ use Rattle.hrtf_checks.specs.Call.{Call, setup, framesIn}
 use Rattle.hrtf_checks.specs.Refusals.{misshapen, misfit, astray, refusalOf}
 use Rattle.hrtf_checks.proofs.Refusing.{lengths-fit, on-desk, accept}
 use Rattle.hrtf.specs.Promise.{stateAfter}
-use Rattle.hrtf.specs.Reset.{resetRefusal, AfterReset, Resets}
+use Rattle.hrtf.specs.Reset.{resetRefusal, ResetOutcome, Resets}
 use Rattle.hrtf.proofs.Promised.{outcome-computed, reset-accepts, reset-number}
 use Rattle.hrtf_setup.specs.Arrangement.{Wanted, Arrangement, arrangedBy, arrangement}
 use Rattle.hrtf_setup.specs.Arrangement as Arranging
 use Rattle.hrtf_setup.specs.Promise.{Arranges, NewSurround, NewAmbisonic}
 use Rattle.hrtf_setup.proofs.Accepted.{Playable, set-up, surround-playable, ambisonic-playable}
 use Rattle.runs.specs.Runs.{next}
-use Rattle.runs.specs.NeverRefused.{Fitted, AllFitted, StateFits, NoneRefused, NeverRefused}
+use Rattle.runs.specs.NeverRefused.{Fitted, AllFitted, NoneRefused, NeverRefused}
 
 -- ---- a bank that keeps the form
 
@@ -153,11 +153,11 @@ some-block b o n =
 -- ---- a reset
 
 -- what is left fits
-pub reset-fits : (d : Desk) (speakers L : ℕ) (rings : List Float) (a : AfterReset) → Resets d speakers L rings a → a .answer .refusal ≡ 0
+pub reset-fits : (d : Desk) (speakers L : ℕ) (rings : List Float) (a : ResetOutcome) → Resets d speakers L rings a → a .answer .refusal ≡ 0
     → StateFits speakers L (record { rings = a .rings; desk = a .answer .desk })
 reset-fits d speakers L rings a r e =
     let u : Setup = record { channels = 0; speakers = speakers; L = L; weights = []; taps = []; rows = [] } in
-    let s = r .fresh (sym (reset-number d speakers L rings a r) ∙ e) u refl refl in
+    let s = r .words (sym (reset-number d speakers L rings a r) ∙ e) u refl refl in
     let t : State = record { rings = a .rings; desk = a .answer .desk } in
     record { ringed = rings-room u [] t s; within = s .0; waits = waits-few u [] t s }
 
@@ -178,7 +178,7 @@ module _ (file : List ℕ) (zs es : List ℤ) (xs : List Float) (r : ReadOutcome
 
   -- both lists are as long as they were lent
   lent : Lists zs es xs
-  lent = accepted-parts file zs es xs (ap (λ (y : ReadOutcome). y .answer .refusal) (sym (reads .outcome)) ∙ good) .lists
+  lent = accepted-parts file zs es xs (ap (λ (y : ReadOutcome). y .answer .refusal) (sym (reads .bits)) ∙ good) .lists
 
   most : Form.rows (bankIn file) ≤ 8
   most = subst (λ (n : ℕ). n ≤ 8) (rows-are ∙ ap Form.rows (read-is file zs es xs r reads good)) (not-outside (r .answer .rows) 8 few-rows .1)
@@ -203,7 +203,7 @@ module _ (file : List ℕ) (zs es : List ℤ) (xs : List Float) (r : ReadOutcome
 
   -- and then no call is refused
   module _ (weights : List Float) (given : List ℕ) (o : Arrangement) (eight : length given ≡ 8) (e : o .answer .refusal ≡ 0)
-      (d : Desk) (rings : List Float) (a : AfterReset) (rested : Resets d (o .answer .speakers) (r .answer .length) rings a) (z : a .answer .refusal ≡ 0)
+      (d : Desk) (rings : List Float) (a : ResetOutcome) (rested : Resets d (o .answer .speakers) (r .answer .length) rings a) (z : a .answer .refusal ≡ 0)
       (cs : List Call) (fs : AllFitted (bankFound r) o cs) where
     plays : Playable (r .answer .rows) o → NoneRefused (record { rings = a .rings; desk = a .answer .desk }) cs
     plays p = never-refused (bankFound r) keeps-form o (subst (λ (n : ℕ). Playable n o) rows-are p) cs fs (record { rings = a .rings; desk = a .answer .desk }) (reset-fits d (o .answer .speakers) (r .answer .length) rings a rested z)
@@ -219,7 +219,7 @@ arrangement-accepted : (w : Wanted) (zs es : List ℤ) (n : ℕ) (weights : List
     → o .answer .refusal ≡ 0
 unfolding arrangement
 arrangement-accepted w zs es n weights given o new e =
-    ap (λ (q : Arrangement). q .answer .refusal) (new .answer ∙ ap (λ (k : ℕ). arrangedBy k (w .whose) (w .speakers) (w .channels) zs es n weights given) e)
+    ap (λ (q : Arrangement). q .answer .refusal) (new .bits ∙ ap (λ (k : ℕ). arrangedBy k (w .whose) (w .speakers) (w .channels) zs es n weights given) e)
 
 pub good-bank : NeverRefused
 good-bank =

@@ -21,7 +21,7 @@ use Rattle.rings.specs.Held.{heldIn, Represents}
 use Rattle.rings.proofs.Blocks.{fresh, fresh-represents}
 use Rattle.hrtf_checks.specs.Call.{Call, setup, framesIn}
 use Rattle.hrtf_checks.specs.Refusals.{refusalOf}
-use Rattle.hrtf.specs.Promise.{Outcome, outcome, Processes}
+use Rattle.hrtf.specs.Promise.{BlockOutcome, outcome, Processes}
 use Rattle.hrtf.proofs.Promised.{ear-at, ears-over, unsettled-over}
 use Rattle.runs.proofs.Worked.{block, starts}
 
@@ -46,18 +46,18 @@ accepts x = refl
 
 -- ---- refuses always
 
-refuses : (o : Outcome) → Processes (whole one-float) (fresh drill) o → (n : ℕ) → o .answer .refusal ≡ suc n → ⊥
+refuses : (o : BlockOutcome) → Processes (whole one-float) (fresh drill) o → (n : ℕ) → o .answer .refusal ≡ suc n → ⊥
 unfolding refusalOf outcome
-refuses o p n e = suc-ne-zero n (sym e ∙ ap (λ (q : Outcome). q .answer .refusal) (p .answer))
+refuses o p n e = suc-ne-zero n (sym e ∙ ap (λ (q : BlockOutcome). q .answer .refusal) (p .bits))
 
 -- ---- the ear planes
 
 -- no writing, of every call in every state: the ears unchanged, where one of the lent samples was not already document 01's sum
-unwritten : (c : Call) (t : State) (o : Outcome) → Processes c t o → refusalOf c t ≡ 0 → (ear n : ℕ) → ear < 2 → n < c .frames
+unwritten : (c : Call) (t : State) (o : BlockOutcome) → Processes c t o → refusalOf c t ≡ 0 → (ear n : ℕ) → ear < 2 → n < c .frames
     → (sampleAt (c .ears) (c .stride) ear n ≡ getD (earSamples (setup c) (after (setup c) (heldIn (setup c) t) (take (suc n) (framesIn c)))) ear nan → ⊥)
     → o .ears ≡ c .ears → ⊥
 unwritten c t o p e ear n he hn other same =
-    other (ap (λ (ys : List Float). sampleAt ys (c .stride) ear n) (sym same ∙ ap (λ (q : Outcome). q .ears) (p .answer)) ∙ ear-at c t e ear n he hn)
+    other (ap (λ (ys : List Float). sampleAt ys (c .stride) ear n) (sym same ∙ ap (λ (q : BlockOutcome). q .ears) (p .bits)) ∙ ear-at c t e ear n he hn)
 
 -- drill 8 into any six lent cells
 module _ (a b c d e f : Float) where
@@ -74,7 +74,7 @@ module _ (a b c d e f : Float) where
         ears = a ∷ b ∷ c ∷ d ∷ e ∷ f ∷ [];
       }
 
-  module _ (o : Outcome) (p : Processes into (fresh drill) o) where
+  module _ (o : BlockOutcome) (p : Processes into (fresh drill) o) where
     good : refusalOf into (fresh drill) ≡ 0
     unfolding refusalOf
     good = refl
@@ -114,10 +114,10 @@ module _ (a b c d e f : Float) where
 
 -- ---- an invented count
 
-count-is : (o : Outcome) → Processes (whole nan) (fresh drill) o → o .answer .unsettled ≡ 2
+count-is : (o : BlockOutcome) → Processes (whole nan) (fresh drill) o → o .answer .unsettled ≡ 2
 count-is o p = unsettled-over (whole nan) (fresh drill) o p [] starts (accepts nan) ∙ drill-9
 
-invented : (o : Outcome) → Processes (whole nan) (fresh drill) o → (n : ℕ) → (n ≡ 2 → ⊥) → o .answer .unsettled ≡ n → ⊥
+invented : (o : BlockOutcome) → Processes (whole nan) (fresh drill) o → (n : ℕ) → (n ≡ 2 → ⊥) → o .answer .unsettled ≡ n → ⊥
 invented o p n other e = other (sym e ∙ count-is o p)
 
 -- ---- damage judged on the inputs
@@ -135,6 +135,6 @@ unfolding refusalOf loud
 loud-accepted = refl
 
 -- a count that looks at the inputs alone
-inputs-only : (o : Outcome) → Processes loud (fresh drill) o → o .answer .unsettled ≡ 0 → ⊥
+inputs-only : (o : BlockOutcome) → Processes loud (fresh drill) o → o .answer .unsettled ≡ 0 → ⊥
 unfolding loud
 inputs-only o p e = suc-ne-zero 0 (sym (unsettled-over loud (fresh drill) o p [] loud-starts loud-accepted ∙ loud-unsettled) ∙ e)

@@ -14,7 +14,7 @@ use Rattle.history.specs.History.{earOf}
 use Rattle.history.specs.Drill.{drill}
 use Rattle.hrtf_checks.specs.Call.{Call}
 use Rattle.hrtf_checks.specs.Refusals.{refusalOf}
-use Rattle.hrtf.specs.Promise.{Outcome, outcome}
+use Rattle.hrtf.specs.Promise.{BlockOutcome, outcome}
 use Rattle.runs.proofs.Worked.{block}
 
 abbrev quarter : Float
@@ -24,7 +24,7 @@ abbrev minus-zero : Float
 minus-zero = fin true 0 (pos 0)
 
 -- what a block of one frame answers that leaves one of two cells to be written next
-abbrev one : List Float → List Float → Outcome
+abbrev one : List Float → List Float → BlockOutcome
 one rings ears = record { answer = record { refusal = 0; samples = 1; unsettled = 0; desk = record { position = 0; «to_go» = 0 } }; rings = rings; ears = ears }
 
 -- one speaker, L = 2: 0.5 was put, and the weight is now 0.0. The 0.5 is heard through the second tap of each ear

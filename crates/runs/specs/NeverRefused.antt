@@ -15,7 +15,7 @@ use Rattle.desk.specs.declared.Desk.{Desk}
 use Rattle.rings.specs.State.{State}
 use Rattle.hrtf_checks.specs.Call.{Call}
 use Rattle.hrtf_checks.specs.Refusals.{refusalOf}
-use Rattle.hrtf.specs.Reset.{AfterReset, Resets}
+use Rattle.hrtf.specs.Reset.{ResetOutcome, Resets}
 use Rattle.hrtf_setup.specs.Arrangement.{Wanted, Arrangement}
 use Rattle.hrtf_setup.specs.Promise.{Arranges, NewSurround, NewAmbisonic}
 use Rattle.runs.specs.Runs.{next}
@@ -33,12 +33,6 @@ pub record Fitted (b : Form.Bank) (o : Arrangement) (c : Call) : Type 0 where
 abbrev pub AllFitted : Form.Bank → Arrangement → List Call → Type 0
 AllFitted b o [] = Unit {0}
 AllFitted b o (c ∷ cs) = Fitted b o c × AllFitted b o cs
-
--- rings of the cells that so many speakers need, and a desk whose numbers are below L: as a reset leaves them, and every block
-pub record StateFits (speakers L : ℕ) (t : State) : Type 0 where
-  pub ringed : length (t .rings) ≡ speakers * L
-  pub within : t .desk .position < L
-  pub waits : t .desk .«to_go» < L
 
 -- every call of a run is accepted
 abbrev pub NoneRefused : State → List Call → Type 0
@@ -69,7 +63,7 @@ pub record NeverRefused : Type 0 where
   pub arranges : (r : ReadOutcome) → BankAccepted r → (w : Wanted) → w .check .holds ≡ false → (weights : List Float) (given : List ℕ) (o : Arrangement) → length weights ≡ w .speakers * w .channels
       → Arranges w (r .azimuths) (r .elevations) (r .answer .rows) weights given o → o .answer .refusal ≡ 0
   -- rings of the cells that they need are reset
-  pub rests : (r : ReadOutcome) → BankAccepted r → (d : Desk) (speakers : ℕ) (rings : List Float) (a : AfterReset) → 0 < speakers → speakers ≤ 8 → length rings ≡ speakers * r .answer .length
+  pub rests : (r : ReadOutcome) → BankAccepted r → (d : Desk) (speakers : ℕ) (rings : List Float) (a : ResetOutcome) → 0 < speakers → speakers ≤ 8 → length rings ≡ speakers * r .answer .length
       → Resets d speakers (r .answer .length) rings a → a .answer .refusal ≡ 0
   -- and then every call is accepted
   pub surround : (r : ReadOutcome) → BankAccepted r → (l : Layout) (weights : List Float) (given : List ℕ) (o : Arrangement) → length given ≡ 8

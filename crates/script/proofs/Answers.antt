@@ -32,7 +32,7 @@ use Rattle.cues.specs.Cues.{numbersOf, refusedOf, rises, voiceAt}
 use Rattle.script.specs.Rendering.{Stretch, runsPast, mostCues, checksOf, refusalOf, spoken, rendered, samplesOf, playedOf}
 use Rattle.script.specs.Promise.{answerOf, block, AllPromised, Renders}
 use Rattle.cues.specs.Promise.{judgementOf}
-use Rattle.script.specs.Steps.{refusalBy, answerBy}
+use Rattle.script.specs.Computed.{refusalBy, answerBy}
 
 -- ---- the tests
 pub past-is : (first frames : ℕ) → first < 2 ^ 64 → (frames ≡ 0 → ⊥) → ltb (18446744073709551615 - first) (frames - 1) ≡ ltb (2 ^ 64) (first + frames)
@@ -172,7 +172,7 @@ module _ (s : Stretch) (cues : List Cue) (input out : List Float) (j : Judgement
     cues-rise = not-false (rises (numbersOf cues)) (off z .1 .1 .1 .1 .0)
 
   pub answers : (after : List Float) (n : ℕ) → Parting out (s .stride) 0 (answer .samples) (frameOf s cues input) after n → answer .samples ≤ n → Renders s cues input out answer after
-  answers after n p l = record { is = by-case number refl; gains = λ z. promised-all (s .order) cues (good-order z) (none-refused z) }
+  answers after n p l = record { bits = by-case number refl; words = λ z. promised-all (s .order) cues (good-order z) (none-refused z) }
     where
       laid : after ≡ withFrames out (s .stride) 0 (tab 0 (answer .samples) (frameOf s cues input))
       laid = parting-all out (s .stride) 0 (answer .samples) (frameOf s cues input) after n p l ∙ ap (λ (m : ℕ). withFrames out (s .stride) 0 (tab 0 m (frameOf s cues input))) (sub-zero (answer .samples))

@@ -18,7 +18,7 @@ use Rattle.panner.specs.Blocks as Panner
 use Rattle.cues.specs.declared.Cue.{Cue}
 use Rattle.cues.specs.Cues.{Voice, nobody, speaking, refusedOf, voiceAt}
 use Rattle.cues.proofs.Cues.{Good, voice-good}
-use Rattle.script.specs.Stretches.{Call, fedAll, soundedAll, Separate, Part, unspoken, separate, voiceIn, samplesIn, OneVoice, shapeIn, Accepted, Cut, soundedParts, samplesParts}
+use Rattle.script.specs.Stretches.{RenderCall, fedAll, soundedAll, Separate, Part, unspoken, separate, voiceIn, samplesIn, OneVoice, shapeIn, Accepted, Cut, soundedParts, samplesParts}
 use Rattle.script.specs.DrillScript.{SomeCut}
 use Rattle.script.proofs.Divided.{stretches}
 use Rattle.script.proofs.Between.{separate-calls}
@@ -66,5 +66,5 @@ module _ (order : ℕ) (good : refusesOrder order ≡ false) where
         }
 
 -- calls that play samples which are cut at the cues
-pub heard-as-parts : (cues : List Cue) (order f : ℕ) (cs : List Call) (ps : List Part) → Cut order cues f ps → fedAll cues order f cs ≡ samplesParts ps → soundedAll cues order f cs ≡ soundedParts order ps
+pub heard-as-parts : (cues : List Cue) (order f : ℕ) (cs : List RenderCall) (ps : List Part) → Cut order cues f ps → fedAll cues order f cs ≡ samplesParts ps → soundedAll cues order f cs ≡ soundedParts order ps
 heard-as-parts cues order f cs ps c e = stretches cues order f cs ∙ ap (rendered cues order f) e ∙ separate-calls cues order f ps c

@@ -15,7 +15,7 @@ use Rattle.cues.specs.declared.Cue.{Cue}
 use Rattle.cues.specs.Cues.{voiceAt}
 use Rattle.script.specs.Rendering.{samplesOf, spoken, rendered, playedOf}
 use Rattle.script.specs.Promise.{answerOf, Block}
-use Rattle.script.specs.Stretches.{Call, stretchOf, refusalAt, next, fed, sounded, fedAll, soundedAll}
+use Rattle.script.specs.Stretches.{RenderCall, stretchOf, refusalAt, next, fed, sounded, fedAll, soundedAll}
 use Rattle.script.proofs.Answers.{played-is}
 use Rattle.script.proofs.Played.{out-frames}
 
@@ -32,7 +32,7 @@ rendered-append cues order f (x ∷ xs) ys =
 -- ---- calls one after another
 module _ (cues : List Cue) (order : ℕ) where
   -- what a call plays is what is said of its samples; none where it is refused
-  one : (c : Call) (f r : ℕ) → refusalAt cues order c f ≡ r → sounded cues order c f ≡ rendered cues order f (fed cues order c f)
+  one : (c : RenderCall) (f r : ℕ) → refusalAt cues order c f ≡ r → sounded cues order c f ≡ rendered cues order f (fed cues order c f)
   one c f zero e =
       out-frames (stretchOf cues order c f) cues (c .input) (c .out) e
       ∙ sym (played-is (stretchOf cues order c f) cues (c .input))
@@ -46,7 +46,7 @@ module _ (cues : List Cue) (order : ℕ) where
       refused z = omega (arith, z)
 
   -- and it comes to the frame behind them
-  comes-to : (c : Call) (f r : ℕ) → refusalAt cues order c f ≡ r → next cues order c f ≡ f + length (fed cues order c f)
+  comes-to : (c : RenderCall) (f r : ℕ) → refusalAt cues order c f ≡ r → next cues order c f ≡ f + length (fed cues order c f)
   comes-to c f zero e =
       ap (λ (n : ℕ). answered n (f + c .frames) (λ m. f)) e
       ∙ ap (λ (n : ℕ). f + n) (sym (length-tab 0 (c .frames) (sampleAt (c .input) (c .stride) 0)))
@@ -57,7 +57,7 @@ module _ (cues : List Cue) (order : ℕ) where
       ∙ ap (λ (n : ℕ). f + length (answered n (samplesOf (stretchOf cues order c f) (c .input)) (λ m. []))) (sym e)
 
   -- so all that is heard is what is said of all the samples that are played, whatever the calls
-  pub stretches : (f : ℕ) (cs : List Call) → soundedAll cues order f cs ≡ rendered cues order f (fedAll cues order f cs)
+  pub stretches : (f : ℕ) (cs : List RenderCall) → soundedAll cues order f cs ≡ rendered cues order f (fedAll cues order f cs)
   stretches f [] = refl
   stretches f (c ∷ cs) =
       (λ i. one c f (refusalAt cues order c f) refl i ++ stretches (next cues order c f) cs i)
@@ -65,5 +65,5 @@ module _ (cues : List Cue) (order : ℕ) where
       ∙ sym (rendered-append cues order f (fed cues order c f) (fedAll cues order (next cues order c f) cs))
 
   -- and two ways to divide the same samples are heard the same
-  pub divided-alike : (f : ℕ) (cs ds : List Call) → fedAll cues order f cs ≡ fedAll cues order f ds → soundedAll cues order f cs ≡ soundedAll cues order f ds
+  pub divided-alike : (f : ℕ) (cs ds : List RenderCall) → fedAll cues order f cs ≡ fedAll cues order f ds → soundedAll cues order f cs ≡ soundedAll cues order f ds
   divided-alike f cs ds e = stretches f cs ∙ ap (rendered cues order f) e ∙ sym (stretches f ds)

@@ -109,12 +109,12 @@ module _ (s : Stretch) (cues : List Cue) (input out : List Float) (answer : Rend
 
   -- the number given is the one that document 02 asks for
   pub refusal-is : answer .refusal ≡ refusal
-  refusal-is = ap (λ (b : Block). b .answer .refusal) (P .is) ∙ block-refusal answerOf (s .frames) (s .stride) (playedOf s cues input) out (λ (a : Rendered). a .refusal) (λ n m. refl) refusal
+  refusal-is = ap (λ (b : Block). b .answer .refusal) (P .bits) ∙ block-refusal answerOf (s .frames) (s .stride) (playedOf s cues input) out (λ (a : Rendered). a .refusal) (λ n m. refl) refusal
 
   -- a refusal counts nothing, and lent memory stays the same
   pub refused-unchanged : (answer .refusal ≡ 0 → ⊥) → (answer .samples ≡ 0) × (after ≡ out)
   refused-unchanged h =
-      let e = P .is ∙ block-refused answerOf (s .frames) (s .stride) (playedOf s cues input) out refusal (λ z. h (refusal-is ∙ z)) in
+      let e = P .bits ∙ block-refused answerOf (s .frames) (s .stride) (playedOf s cues input) out refusal (λ z. h (refusal-is ∙ z)) in
       (ap (λ (b : Block). b .answer .samples) e, ap (λ (b : Block). b .out) e)
 
   module _ (z : answer .refusal ≡ 0) where
@@ -122,14 +122,14 @@ module _ (s : Stretch) (cues : List Cue) (input out : List Float) (answer : Rend
     accepted = sym refusal-is ∙ z
 
     pub all-counted : answer .samples ≡ s .frames
-    all-counted = ap (λ (b : Block). b .answer .samples) (P .is ∙ block-is s cues input out accepted)
+    all-counted = ap (λ (b : Block). b .answer .samples) (P .bits ∙ block-is s cues input out accepted)
 
     -- every frame is played, in every plane, by the voice of its frame
     pub every-frame : (n p : ℕ) → n < s .frames → p < channelsOfOrder (s .order) → sampleAt after (s .stride) p n ≡ getD (spoken (s .order) (voiceAt cues (s .first + n)) (sampleAt input (s .stride) 0 n)) p nan
-    every-frame n p h k = ap (λ (b : Block). sampleAt (b .out) (s .stride) p n) (P .is) ∙ out-at s cues input out accepted n p h k
+    every-frame n p h k = ap (λ (b : Block). sampleAt (b .out) (s .stride) p n) (P .bits) ∙ out-at s cues input out accepted n p h k
 
     pub tail-kept : (m p : ℕ) → s .frames ≤ m → m < s .stride → sampleAt after (s .stride) p m ≡ sampleAt out (s .stride) p m
-    tail-kept m p h k = ap (λ (b : Block). sampleAt (b .out) (s .stride) p m) (P .is) ∙ out-tail s cues input out accepted m p h k
+    tail-kept m p h k = ap (λ (b : Block). sampleAt (b .out) (s .stride) p m) (P .bits) ∙ out-tail s cues input out accepted m p h k
 
     -- before the first cue every output is 0.0, whatever the sample; and of no cues at all
     pub before-the-first : (n p : ℕ) → n < s .frames → p < channelsOfOrder (s .order) → Before cues (s .first + n) → sampleAt after (s .stride) p n ≡ zero-float

@@ -16,8 +16,8 @@ use Rattle.cues.proofs.Cues.{Good, voice-good}
 use Rattle.script.specs.declared.Rendered.{Rendered}
 use Rattle.cues.specs.Cues.{Voice, nobody, speaking, numbersOf, rises, voiceAt}
 use Rattle.script.specs.Rendering.{Stretch, refusalOf, spoken}
-use Rattle.cues.specs.Promise.{judgementOf, voiceOf, Holds, Finds}
-use Rattle.script.specs.Steps.{Speakable, Spoken, answerBy}
+use Rattle.cues.specs.Promise.{judgementOf, voiceOf, FindsWords, Finds}
+use Rattle.script.specs.Computed.{Speakable, Spoken, answerBy}
 use Rattle.script.proofs.Answers.{frameOf, accepted-by, all-frames, good-order, none-refused, ends-in-time, cues-rise}
 
 module _ (s : Stretch) (cues : List Cue) (input out : List Float) (j : Judgement) (J : j ≡ judgementOf cues) (answer : Rendered) (e : answer ≡ answerBy s j (length input) (length out)) (n : ℕ) (less : n < answer .samples) where
@@ -32,8 +32,8 @@ module _ (s : Stretch) (cues : List Cue) (input out : List Float) (j : Judgement
   rising = cues-rise s cues input out j J answer e accepted
 
   module _ (f : ℕ) (h : Held) (F : Finds cues f h) where
-    H : Holds cues f h
-    H = F .holds rising
+    H : FindsWords cues f h
+    H = F .words rising
 
     pub asked : (n ≤ answer .samples) × Speakable (s .order) h
     asked = (

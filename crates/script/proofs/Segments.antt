@@ -23,7 +23,7 @@ use Rattle.cues.specs.declared.Held.{Held}
 use Rattle.cues.specs.Cues.{Voice, nobody, speaking}
 use Rattle.script.specs.Rendering.{silentPart, spoken}
 use Rattle.cues.specs.Promise.{voiceOf}
-use Rattle.script.specs.Steps.{Speakable, Spoken}
+use Rattle.script.specs.Computed.{Speakable, Spoken}
 
 module _ (order : ℕ) (h : Held) (S : Speakable order h) (stride from to : ℕ) (input : List Float) where
   -- at a direction: the panner's gains are those of the command, since nothing of it is refused

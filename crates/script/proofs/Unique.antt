@@ -10,4 +10,4 @@ render-states = record { claim = _; stated = λ w κs a r e. refl }
 
 -- the answer and what the output planes hold
 pub render-unique : AllowsOneAnswer render.ended (render-states .claim)
-render-unique κs a = determined-by (λ z h i. (h .is i .answer, (_, (_, (_, (_, (_, (_, (h .is i .out, _)))))))))
+render-unique κs a = determined-by (λ z h i. (h .bits i .answer, (_, (_, (_, (_, (_, (_, (h .bits i .out, _)))))))))

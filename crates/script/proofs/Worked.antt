@@ -20,7 +20,7 @@ use Rattle.panner.specs.Commands.{gainsOf}
 use Rattle.panner.specs.Blocks.{narrowedAll}
 use Rattle.cues.specs.declared.Cue.{Cue}
 use Rattle.script.specs.Rendering.{Stretch, refusalOf, rendered}
-use Rattle.script.specs.Stretches.{Call, fedAll, soundedAll, Part, unspoken, separate, Cut, soundedParts}
+use Rattle.script.specs.Stretches.{RenderCall, fedAll, soundedAll, Part, unspoken, separate, Cut, soundedParts}
 use Rattle.script.proofs.Divided.{stretches}
 use Rattle.script.proofs.Between.{separate-calls}
 
@@ -77,7 +77,7 @@ unfolding Numbers.rounded refusesAngle isInside upTo wavesOf sin cos lt le eq co
 worked = refl
 
 -- ---- in one call
-abbrev in-one : List Call
+abbrev in-one : List RenderCall
 in-one = record { frames = 8; stride = 8; input = samples; out = replicate 32 nan } ∷ []
 
 one-fed : fedAll cues 1 0 in-one ≡ samples
@@ -88,7 +88,7 @@ pub worked-in-one : soundedAll cues 1 0 in-one ≡ expected
 worked-in-one = stretches cues 1 0 in-one ∙ ap (rendered cues 1 0) one-fed ∙ worked
 
 -- ---- in two calls: three frames, and then five
-abbrev in-two : List Call
+abbrev in-two : List RenderCall
 in-two =
     record { frames = 3; stride = 3; input = nan ∷ minus-one-float ∷ one-float ∷ []; out = replicate 12 nan }
     ∷ record { frames = 5; stride = 6; input = minus-two ∷ half-float ∷ four ∷ minus-zero ∷ inf false ∷ one-float ∷ []; out = replicate 24 nan }

@@ -18,7 +18,7 @@ use Rattle.cues.specs.Cues.{speaking, numbersOf, refusedOf, rises, voiceAt, now
 use Rattle.script.specs.declared.Rendered.{Rendered}
 use Rattle.script.specs.Rendering.{Stretch, refusalOf, rendered}
 use Rattle.script.specs.Promise.{answerOf, Block, block, Renders}
-use Rattle.script.specs.Stretches.{Call, fedAll, soundedAll, Part, Cut, soundedParts, samplesParts}
+use Rattle.script.specs.Stretches.{RenderCall, fedAll, soundedAll, Part, Cut, soundedParts, samplesParts}
 
 -- the frame is before every cue of a list that rises
 abbrev pub Before : List Cue → ℕ → Type 0
@@ -49,11 +49,11 @@ pub record DrillScript : Type 0 where
   pub before : (s : Stretch) (cues : List Cue) (input out after : List Float) (answer : Rendered) → Renders s cues input out answer after → answer .refusal ≡ 0
       → (n p : ℕ) → n < s .frames → p < channelsOfOrder (s .order) → Before cues (s .first + n) → sampleAt after (s .stride) p n ≡ zero-float
   -- "Rendering a stretch must give the same samples however the stretch is divided": what is heard of any calls is what is said of all the samples that they play, so that two ways to divide them are heard the same
-  pub divided : (cues : List Cue) (order f : ℕ) (cs : List Call) → soundedAll cues order f cs ≡ rendered cues order f (fedAll cues order f cs)
-  pub alike : (cues : List Cue) (order f : ℕ) (cs ds : List Call) → fedAll cues order f cs ≡ fedAll cues order f ds → soundedAll cues order f cs ≡ soundedAll cues order f ds
+  pub divided : (cues : List Cue) (order f : ℕ) (cs : List RenderCall) → soundedAll cues order f cs ≡ rendered cues order f (fedAll cues order f cs)
+  pub alike : (cues : List Cue) (order f : ℕ) (cs ds : List RenderCall) → fedAll cues order f cs ≡ fedAll cues order f ds → soundedAll cues order f cs ≡ soundedAll cues order f ds
   -- "and equal separate panner calls between cues": a stretch between two cues is a block of the panner, beside every layout that can be counted; and calls
   -- that play any samples, cut so that in each part one voice holds, are heard as calls of the panner that play the parts; they can always be cut so
   pub between : (s : Stretch) (cues : List Cue) (input out : List Float) (l : Layout) (i : ℕ) → refusalOf s cues (length input) (length out) ≡ 0 → uncountable (channelsOf l) ≡ false → i < length cues
       → ((n : ℕ) → n < s .frames → Between cues i (s .first + n)) → block s cues input out ≡ asRendered (pannedAt s cues i l input out)
-  pub separate : (cues : List Cue) (order f : ℕ) (cs : List Call) (ps : List Part) → Cut order cues f ps → fedAll cues order f cs ≡ samplesParts ps → soundedAll cues order f cs ≡ soundedParts order ps
+  pub separate : (cues : List Cue) (order f : ℕ) (cs : List RenderCall) (ps : List Part) → Cut order cues f ps → fedAll cues order f cs ≡ samplesParts ps → soundedAll cues order f cs ≡ soundedParts order ps
   pub cuttable : (cues : List Cue) (order f : ℕ) (xs : List Float) → refusesOrder order ≡ false → any (refusedOf cues) ≡ false → SomeCut cues order f xs

@@ -30,5 +30,5 @@ AllPromised order (c ∷ cs) = Promised (Ambisonic (c .direction) order) Mono (g
 
 -- all that is handed back; and that the gains played are those promised
 pub record Renders (s : Stretch) (cues : List Cue) (input out : List Float) (answer : Rendered) (after : List Float) : Type 0 where
-  pub is : record { answer = answer; out = after } ≡ block s cues input out
-  pub gains : refusalOf s cues (length input) (length out) ≡ 0 → AllPromised (s .order) cues
+  pub bits : record { answer = answer; out = after } ≡ block s cues input out
+  pub words : refusalOf s cues (length input) (length out) ≡ 0 → AllPromised (s .order) cues

@@ -21,7 +21,7 @@ use Rattle.cues.specs.Cues.{Voice, nobody, speaking, voiceAt}
 use Rattle.script.specs.Rendering.{Stretch, refusalOf, samplesOf, silent}
 use Rattle.script.specs.Promise.{Block, block}
 
-pub record Call : Type 0 where
+pub record RenderCall : Type 0 where
   pub frames : ℕ
   pub stride : ℕ
   pub input : List Float
@@ -29,33 +29,33 @@ pub record Call : Type 0 where
 
 module _ (cues : List Cue) (order : ℕ) where
   -- ---- one call, from the frame f on
-  abbrev pub stretchOf : Call → ℕ → Stretch
+  abbrev pub stretchOf : RenderCall → ℕ → Stretch
   stretchOf c f = record { order = order; first = f; frames = c .frames; stride = c .stride }
 
-  abbrev pub refusalAt : Call → ℕ → ℕ
+  abbrev pub refusalAt : RenderCall → ℕ → ℕ
   refusalAt c f = refusalOf (stretchOf c f) cues (length (c .input)) (length (c .out))
 
-  abbrev pub blockAt : Call → ℕ → Block
+  abbrev pub blockAt : RenderCall → ℕ → Block
   blockAt c f = block (stretchOf c f) cues (c .input) (c .out)
 
   -- the frame that it comes to
-  abbrev pub next : Call → ℕ → ℕ
+  abbrev pub next : RenderCall → ℕ → ℕ
   next c f = answered (refusalAt c f) (f + c .frames) (λ n. f)
 
   -- the samples that it plays, or none where it is refused
-  abbrev pub fed : Call → ℕ → List Float
+  abbrev pub fed : RenderCall → ℕ → List Float
   fed c f = answered (refusalAt c f) (samplesOf (stretchOf c f) (c .input)) (λ n. [])
 
   -- the frames that it says it played, read from the output planes as it leaves them
-  abbrev pub sounded : Call → ℕ → List (List Float)
+  abbrev pub sounded : RenderCall → ℕ → List (List Float)
   sounded c f = framesOf (blockAt c f .out) (c .stride) (channelsOfOrder order) (blockAt c f .answer .samples)
 
   -- ---- calls one after another
-  abbrev pub fedAll : ℕ → List Call → List Float
+  abbrev pub fedAll : ℕ → List RenderCall → List Float
   fedAll f [] = []
   fedAll f (c ∷ cs) = fed c f ++ fedAll (next c f) cs
 
-  abbrev pub soundedAll : ℕ → List Call → List (List Float)
+  abbrev pub soundedAll : ℕ → List RenderCall → List (List Float)
   soundedAll f [] = []
   soundedAll f (c ∷ cs) = sounded c f ++ soundedAll (next c f) cs
 

@@ -16,7 +16,7 @@ ghost use lib.Dec.{ltb};
 ghost use Rattle.planes.specs.Planes.{withFrame, withFrames};
 ghost use Rattle.script.specs.Rendering.{silent, silentPart};
 ghost use Rattle.script.specs.Promise.{Renders};
-ghost use Rattle.script.specs.Steps.{Speakable, Spoken, refusalBy, answerBy};
+ghost use Rattle.script.specs.Computed.{Speakable, Spoken, refusalBy, answerBy};
 
 // As many as a panner block may have.
 const MOST_FRAMES: usize = 4096;

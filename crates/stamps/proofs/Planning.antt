@@ -15,7 +15,7 @@ use Rattle.stamps.specs.declared.Share.{Share}
 use Rattle.stamps.specs.declared.Planned.{Planned}
 use Rattle.stamps.specs.Arrivals.{comingOf, thenOf, expectedAfter}
 use Rattle.stamps.specs.Counts.{outIn, lateIn, silentIn, resetsIn, plannedOf, unplannedOf, planOf, outOne}
-use Rattle.stamps.specs.Steps.{shareOf, onBy, planOn}
+use Rattle.stamps.specs.Computed.{shareOf, onBy, planOn}
 use Rattle.stamps.proofs.Differences.{one-balance, one-silent, one-reset}
 
 -- ---- one frame more

@@ -16,7 +16,7 @@ use Rattle.stamps.specs.declared.Arrival.the-variants.{Next, Ahead, Jump
 use Rattle.stamps.specs.Arrivals.{ahead, following, comingBy, comingOf, stampOf, thenBy, thenOf, skippedOf, expectedAfter}
 use Rattle.stamps.specs.Counts.{addedUp, outIn, lateIn, silentIn, resetsIn, plannedOf, planOf, outOne, resetOne}
 use Rattle.stamps.specs.Events.{Recorded, Event, feed, restart, silences, eventsBy, eventsOne, eventsOf, stampsOf, restartsIn, fed}
-use Rattle.stamps.specs.Steps.{feedsIn}
+use Rattle.stamps.specs.Computed.{feedsIn}
 use Rattle.stamps.proofs.Wrapped.{ahead-none, ahead-less}
 use Rattle.stamps.proofs.Differences.{one-balance, ahead-difference, difference-none, difference-few}
 

@@ -8,7 +8,7 @@ use Rattle.stamps.proofs.unplanned
 use Rattle.stamps.proofs.plan
 
 coming-unique : AllowsOneAnswer coming.ended coming.Reads.Learnt
-coming-unique κs a = determined-by (λ z h i. (h .kind i, _))
+coming-unique κs a = determined-by (λ z h i. (h .bits i, _))
 
 then-expected-unique : AllowsOneAnswer then_expected.ended then_expected.Reads.Learnt
 then-expected-unique κs a = determined-by (λ z h i. (h i, _))

@@ -32,9 +32,9 @@ abbrev pub stampOf : Expected → ℕ
 stampOf First = 0
 stampOf (Stamp e) = e
 
--- what `coming` promises: the kind, and that what is expected is below 2^32, which a caller that passes an enum on cannot see of its number
+-- what `coming` promises: which kind it is, and that what is expected is below 2^32, which a caller that passes an enum on cannot see of its number
 pub record Comes (x : Expected) (s : ℕ) (r : Arrival) : Type 0 where
-  pub kind : r ≡ comingOf x s
+  pub bits : r ≡ comingOf x s
   pub below : stampOf x < 2 ^ 32
 
 -- what is expected after a frame: a late one changes nothing

@@ -2,4 +2,4 @@
 pub mod Arrivals
 pub mod Counts
 pub mod Events
-pub mod Steps
+pub mod Computed

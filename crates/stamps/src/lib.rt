@@ -11,7 +11,7 @@ ghost use mathlib.Core.Path.{_≡_};
 ghost use Prim.Native.Nat.{_-_, _≤_, _<_, _^_};
 ghost use Rattle.stamps.specs.Arrivals.{following, comingBy, Comes, thenOf, skippedOf};
 ghost use Rattle.stamps.specs.Counts.{unplannedOf, planOf, silentOne};
-ghost use Rattle.stamps.specs.Steps.{shareOf, planOn};
+ghost use Rattle.stamps.specs.Computed.{shareOf, planOn};
 
 // The stamp that comes next; before the first frame there is none.
 pub enum Expected {

@@ -3,6 +3,7 @@ use mathlib.Core.Path.{_≡_, refl, sym, ap, _∙_}
 use mathlib.Core.Bool.{Bool, true, false}
 use mathlib.Core.List.{List, [], _∷_}
 use Prim.Native.Nat.{ℕ, _*_, _/_, _≤_, _<_}
+use native.Mathlib.Decide.{decLt}
 use native.Mathlib.Omega.{arith}
 use borrow.Author.Tests.{lt-ltb, le-ltb, ltb-false}
 use lib.Dec.{ltb}
@@ -10,12 +11,13 @@ use lib.ListN.{length}
 use lib.Ieee.{Float}
 use Rattle.refusals.specs.Refusals.{firstOf, _when_}
 use Rattle.lists.specs.Placed.{placed}
+use Rattle.lists.proofs.Placed.{placed-none}
 use Rattle.checks.specs.Lengths.{unfit}
 use Rattle.planes.specs.Planes.{framesOf, withFrames}
 use Rattle.wire.specs.Records.{wholeIn}
 use Rattle.wire.specs.Frames.{lineFrames}
 use Rattle.wire.specs.Ears.{earBytes}
-use Rattle.wire.specs.Promises.{FramesTaken, takenBy, framesTaken, EarsGiven, givenBy, earsGiven}
+use Rattle.wire.specs.Promises.{FramesTaken, takenBy, framesTaken, EarsGiven, givenBy, earsGiven, LineGiven, lineBy, lineGiven}
 
 module _ (bytes : List ℕ) (stride : ℕ) (inputs : List Float) where
   taken-by : (b : Bool) → unfit (length inputs) 6 stride (wholeIn 24 bytes) ≡ b → framesTaken bytes stride inputs ≡ takenBy (firstOf (5 when b ∷ [])) bytes stride inputs
@@ -76,3 +78,32 @@ module _ (ears : List Float) (stride frames : ℕ) (out : List ℕ) where
       go false false h k =
           let all : r .answer .bytes ≡ frames * 8 = ap (λ (g : EarsGiven). g .answer .bytes) (e ∙ given-by false false h k) in
           omega (arith, all, ltb-false (length out) (frames * 8) k)
+
+-- ---- the line
+
+module _ (out line : List ℕ) where
+  line-by : (b : Bool) → ltb (length out) 64 ≡ b → lineGiven out line ≡ lineBy (firstOf (5 when b ∷ [])) out line
+  unfolding lineGiven
+  line-by b e = ap (λ (t : Bool). lineBy (firstOf (5 when t ∷ [])) out line) e
+
+  pub line-refused : length out < 64 → lineGiven out line ≡ record { size = 0; out = out }
+  line-refused h = line-by true (lt-ltb (length out) 64 h)
+
+  pub line-accepted : 64 ≤ length out → lineGiven out line ≡ record { size = length line; out = placed out 0 line }
+  line-accepted h = line-by false (le-ltb (length out) 64 h)
+
+  -- whichever it is, a line that is no longer than the longest ends in its list
+  pub line-ends : length line ≤ 64 → lineGiven out line .size ≤ length out
+  line-ends h =
+      elim (decLt (length out) 64) [
+        | yes k ↦ omega (arith, ap (λ (g : LineGiven). g .size) (line-refused k))
+        | no k ↦ omega (arith, ap (λ (g : LineGiven). g .size) (line-accepted (omega arith)))
+      ]
+
+-- an empty line changes nothing
+pub line-empty : (out : List ℕ) → lineGiven out [] ≡ record { size = 0; out = out }
+line-empty out =
+    elim (decLt (length out) 64) [
+      | yes k ↦ line-refused out [] k
+      | no k ↦ line-accepted out [] (omega arith) ∙ ap (λ (l : List ℕ). record { size = 0; out = l }) (placed-none out 0)
+    ]

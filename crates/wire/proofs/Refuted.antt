@@ -5,20 +5,19 @@ use mathlib.Core.List.{List, [], _∷_, _++_}
 use Prim.Native.Nat.{ℕ, zero, suc, _*_, _-_, _^_, _≤_, _<_}
 use native.Mathlib.Nat.{not-suc-le-zero, le-of-suc-le-suc}
 use native.Mathlib.Omega.{arith}
-use borrow.Author.Tests.{lt-ltb, le-ltb}
+use borrow.Author.Tests.{lt-ltb}
 use lib.Dec.{lit<}
 use lib.ListN.{length, getD, take, drop}
 use lib.Ieee.{Float}
-use Rattle.refusals.proofs.First.{goes-on}
 use Rattle.lists.specs.Placed.{placed}
 use Rattle.lists.proofs.Placed.{placed-start}
 use Rattle.checks.specs.Lengths.{unfit}
 use Rattle.wire.specs.Records.{wholeIn}
 use Rattle.wire.specs.Counting.{countedOn}
 use Rattle.wire.specs.Line.{framesLine, refusedLine, refusedAtLine}
-use Rattle.wire.specs.Promises.{FramesTaken, framesTaken, EarsGiven, earsGiven, Lined}
+use Rattle.wire.specs.Promises.{FramesTaken, framesTaken, EarsGiven, earsGiven, LineGiven, Lined}
 use Rattle.wire.proofs.Drill.{three-frames, refused-nine, refused-fourteen}
-use Rattle.wire.proofs.Meets.{taken-refused, given-unfit, given-by}
+use Rattle.wire.proofs.Meets.{taken-refused, given-unfit, given-by, line-accepted}
 
 -- planes that have no room are accepted
 frames-lost : (bytes : List ℕ) (stride : ℕ) (inputs : List Float) (r : FramesTaken) → unfit (length inputs) 6 stride (wholeIn 24 bytes) ≡ true
@@ -60,7 +59,7 @@ getD-first (x ∷ xs) ys (suc i) h = getD-first xs ys i (le-of-suc-le-suc h)
 -- a line that has room stands at the start of its list
 line-byte : (out line : List ℕ) (size : ℕ) (after : List ℕ) → Lined out line size after → 64 ≤ length out → (i : ℕ) → i < length line → getD after i 0 ≡ getD line i 0
 line-byte out line size after put room i h =
-    ap (λ (l : List ℕ). getD l i 0) (put .filled ∙ goes-on _ _ (le-ltb (length out) 64 room) ∙ placed-start out line) ∙ getD-first line (drop (length line) out) i h
+    ap (λ (l : List ℕ). getD l i 0) (ap (λ (g : LineGiven). g .out) (put ∙ line-accepted out line room) ∙ placed-start out line) ∙ getD-first line (drop (length line) out) i h
 
 -- the same where the line is known
 known-byte : (out line known : List ℕ) (size : ℕ) (after : List ℕ) → line ≡ known → Lined out line size after → 64 ≤ length out → (i : ℕ) → i < length known → getD after i 0 ≡ getD known i 0

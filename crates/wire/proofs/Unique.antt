@@ -22,10 +22,10 @@ count-on-unique : AllowsOneAnswer count_on.ended count_on.Reads.Learnt
 count-on-unique κs a = determined-by (λ z h i. (h i, _))
 
 frames-line-unique : AllowsOneAnswer frames_line.ended frames_line.Reads.Learnt
-frames-line-unique κs a = determined-by (λ z h i. (h .count i, (_, (_, (h .filled i, _)))))
+frames-line-unique κs a = determined-by (λ z h i. (h i .size, (_, (_, (h i .out, _)))))
 
 refused-line-unique : AllowsOneAnswer refused_line.ended refused_line.Reads.Learnt
-refused-line-unique κs a = determined-by (λ z h i. (h .count i, (_, (h .filled i, _))))
+refused-line-unique κs a = determined-by (λ z h i. (h i .size, (_, (h i .out, _))))
 
 refused-at-line-unique : AllowsOneAnswer refused_at_line.ended refused_at_line.Reads.Learnt
-refused-at-line-unique κs a = determined-by (λ z h i. (h .count i, (_, (_, (h .filled i, _)))))
+refused-at-line-unique κs a = determined-by (λ z h i. (h i .size, (_, (_, (h i .out, _)))))

@@ -1,7 +1,6 @@
 -- What each function hands back, and what the list that it fills holds. A refusal is document 01's 5, "a lent length doesn't fit", and leaves the list as it was. Definitions only.
 use mathlib.Core.Path.{_≡_}
 use Prim.Native.Nat.{ℕ, _+_, _*_}
-use mathlib.Core.Bool.{cond}
 use mathlib.Core.List.{List, [], _∷_}
 use lib.Dec.{ltb}
 use lib.ListN.{length}
@@ -59,7 +58,21 @@ pub record Put (out : List ℕ) (at : ℕ) (part : List ℕ) (end : ℕ) (after 
   pub ends : end ≡ at + length part
   pub filled : after ≡ placed out at part
 
--- the line stands at the start of a list that has room for the longest, and a shorter one is as it was
-pub record Lined (out line : List ℕ) (size : ℕ) (after : List ℕ) : Type 0 where
-  pub count : size ≡ cond (ltb (length out) 64) 0 (length line)
-  pub filled : after ≡ cond (ltb (length out) 64) out (placed out 0 line)
+-- how long the line is, and what its list holds
+pub record LineGiven : Type 0 where
+  pub size : ℕ
+  pub out : List ℕ
+
+-- room for the longest line
+abbrev pub lineRefusal : List ℕ → ℕ
+lineRefusal out = firstOf (5 when ltb (length out) 64 ∷ [])
+
+-- the line stands at the start of the list; a list without room is as it was, and the length tells no number: it is 0
+abbrev pub lineBy : ℕ → List ℕ → List ℕ → LineGiven
+lineBy number out line = answered number (record { size = length line; out = placed out 0 line }) (λ k. record { size = 0; out = out })
+
+unfoldable pub lineGiven : List ℕ → List ℕ → LineGiven
+lineGiven out line = lineBy (lineRefusal out) out line
+
+abbrev pub Lined : List ℕ → List ℕ → ℕ → List ℕ → Type 0
+Lined out line size after = record { size = size; out = after } ≡ lineGiven out line

@@ -35,10 +35,10 @@ module _ (c : tie.After-read) where
   file = start .args .file .now
 
   none : faultOf (start .args .from) file .refusal ≡ 0
-  none = ap (λ (f : Fault). f .refusal) (sym (past .before .before .check-version .ensures .first)) ∙ past .if1 .left
+  none = ap (λ (f : Fault). f .refusal) (sym (past .before .before .check-version .ensures .bits)) ∙ past .if1 .left
 
   sound : IsFile (versionIn file) file (bankIn file)
-  sound = past .before .before .check-version .ensures .exactly .sound (is-file file (right-version (start .args .from) (start .args .to) file (start .args .out .now) none .1))
+  sound = past .before .before .check-version .ensures .words .sound (is-file file (right-version (start .args .from) (start .args .to) file (start .args .out .now) none .1))
 
   abbrev read : ReadOutcome
   read = record { answer = c .read .result; azimuths = c .read .last .1 .0; elevations = c .read .last .1 .1 .0; taps = c .read .last .1 .1 .1 .0 }
@@ -84,7 +84,7 @@ module _ (c : tie.After-read) where
   taps-found = length-take-le _ _ (omega (arith, reach, taps))
 
 returns : tie.Need-returns
-returns c = rw (c .unwritten .ensures) (version-told _ _ _ _ _ (c .before .before .before .check-version .ensures .first) (c .before .if1 .taken))
+returns c = rw (c .unwritten .ensures) (version-told _ _ _ _ _ (c .before .before .before .check-version .ensures .bits) (c .before .if1 .taken))
 
 convert-bank-requires : tie.Need-convert-bank-requires
 convert-bank-requires c κs =

@@ -39,7 +39,7 @@ module _ (c : tie.Else3) where
   test = c .before .before .before
 
   none : faultIn (size test) (start test) .refusal ≡ 0
-  none = ap (λ (f : Fault). f .refusal) (sym (c .before .before .check-start .ensures .first)) ∙ c .if3 .left
+  none = ap (λ (f : Fault). f .refusal) (sym (c .before .before .check-start .ensures .bits)) ∙ c .if3 .left
 
 returns : tie.Need-returns
 returns c =
@@ -56,7 +56,7 @@ returns-3 : tie.Need-returns-3
 returns-3 c =
     let check = c .before .before .before in
     let before = check .before in
-    let wrong = broken _ _ _ _ _ (fit (past before)) (enough before) _ (check .check-start .ensures .first) (c .before .if3 .taken) in
+    let wrong = broken _ _ _ _ _ (fit (past before)) (enough before) _ (check .check-start .ensures .bits) (c .before .if3 .taken) in
     reads-start _ _ _ _ _ _ (rw (c .unread3 .ensures) wrong)
 
 fill-rows-requires : tie.Need-fill-rows-requires

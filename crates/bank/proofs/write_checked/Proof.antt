@@ -81,7 +81,7 @@ module _ (c : tie.After-check-file) where
   found : c .check-file .result ≡ writeFault 2 (bank (c .before .before .before .before))
   found =
       let put = c .before .before .before .before in
-      c .check-file .ensures .first ∙ ap fault (same put) ∙ sym (writer-as-reader 2 (bank put) (held put))
+      c .check-file .ensures .bits ∙ ap fault (same put) ∙ sym (writer-as-reader 2 (bank put) (held put))
 
 returns : tie.Need-returns
 returns c =

@@ -8,7 +8,7 @@ check-start-requires : tie.Need-check-start-requires
 check-start-requires c κs = search needs
 
 returns : tie.Need-returns
-returns c = record { first = c .check-start .ensures .first; exactly = exactly _ (λ i. c .before .shared-slice-known .given i .fits) }
+returns c = record { bits = c .check-start .ensures .bits; words = exactly _ (λ i. c .before .shared-slice-known .given i .fits) }
 
 pub check-file-spec : {M : Type 1} → statement M
 check-file-spec = tie.close (tie.spec check-start-requires returns)

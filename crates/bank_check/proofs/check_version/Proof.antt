@@ -10,15 +10,15 @@ use Rattle.bank_check.proofs.check_version.Tie as tie
 returns : tie.Need-returns
 unfolding faultOf
 returns c = record {
-  first = else-stop _ _ _ (c .before .before .head-field .ensures) (c .if1 .taken);
-  exactly = exactly _ (λ i. c .before .before .before .shared-slice-known .given i .fits);
+  bits = else-stop _ _ _ (c .before .before .head-field .ensures) (c .if1 .taken);
+  words = exactly _ (λ i. c .before .before .before .shared-slice-known .given i .fits);
 }
 
 returns-2 : tie.Need-returns-2
 unfolding faultOf
 returns-2 c = record {
-  first = c .check-file .ensures .first ∙ sym (else-on _ _ _ (c .before .before .before .head-field .ensures) (c .before .if1 .left));
-  exactly = c .check-file .ensures .exactly;
+  bits = c .check-file .ensures .bits ∙ sym (else-on _ _ _ (c .before .before .before .head-field .ensures) (c .before .if1 .left));
+  words = c .check-file .ensures .words;
 }
 
 pub check-version-spec : {M : Type 1} → statement M

@@ -2,7 +2,7 @@
 use mathlib.Core.Path.{ap}
 use mathlib.Core.Bool.{true}
 use Rattle.ears_file.specs.declared.Ended.{Ended}
-use Rattle.ears_file.specs.declared.Outcome.{Outcome}
+use Rattle.ears_file.specs.declared.RunOutcome.{RunOutcome}
 use Rattle.ears_file.proofs.failed.Statement.{statement}
 use Rattle.ears_file.proofs.failed.Tie as tie
 
@@ -10,7 +10,7 @@ part-frame-requires : tie.Need-part-frame-requires
 part-frame-requires c κs = tt
 
 returns : tie.Need-returns
-returns c = ap {B = Outcome} (λ (e : Ended). record { failed = true; ended = e }) (c .part-frame .ensures)
+returns c = ap {B = RunOutcome} (λ (e : Ended). record { failed = true; ended = e }) (c .part-frame .ensures)
 
 pub failed-spec : {M : Type 1} → statement M
 failed-spec = tie.close (tie.spec part-frame-requires returns)

@@ -46,7 +46,7 @@ loop-again c =
     let a = c .before .before .before .before .args in
     let l = c .before .before .before .loop in
     let t = c .before .tenths .result in
-    let given : c .nearest-row .result ≡ choiceOf (now (a .azimuths)) (now (a .elevations)) (a .rows) (toZ w16 (ofZ w16 t)) speakerElevation = c .nearest-row .ensures .answer in
+    let given : c .nearest-row .result ≡ choiceOf (now (a .azimuths)) (now (a .elevations)) (a .rows) (toZ w16 (ofZ w16 t)) speakerElevation = c .nearest-row .ensures .bits in
     let stands = held-16 (a .whose) (l .s) t (c .before .tenths .ensures) in
     choosing-more (a .whose) (a .speakers) (now (a .azimuths)) (now (a .elevations)) (a .rows) (now (a .row-of)) (l .row-of) (l .s) (c .nearest-row .result .row) (l .inv)
     (c .before .before .loop-test .taken) (ap (λ (r : Choice). r .row) (given ∙ ap (λ (p : ℤ). choiceOf (now (a .azimuths)) (now (a .elevations)) (a .rows) p speakerElevation) stands))

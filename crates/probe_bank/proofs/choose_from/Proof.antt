@@ -25,7 +25,7 @@ returns-2 c =
     let elevation = after-get-i162 .get-i162 in
     choice-read (now (args .args)) (now (args .azimuths)) (now (args .elevations)) (now (args .out)) _ _ _ _ _ _ _ (past-if1 .if1 .left) (after-get-i16s .get-i16s .ensures)
     (after-get-i16s2 .get-i16s2 .ensures) (after-number .number .ensures) (back w16 (azimuth .result) (azimuth .ok) ∙ azimuth .ensures) (back w16 (elevation .result) (elevation .ok) ∙ elevation .ensures)
-    (after-nearest-row .nearest-row .ensures .answer) (c .before .before .put-refusal-and-number .ensures)
+    (after-nearest-row .nearest-row .ensures .bits) (c .before .before .put-refusal-and-number .ensures)
 
 pub choose-from-spec : {M : Type 1} → statement M
 choose-from-spec =

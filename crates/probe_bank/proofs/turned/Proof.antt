@@ -7,10 +7,10 @@ use Rattle.probe_bank.proofs.turned.Statement.{statement}
 use Rattle.probe_bank.proofs.turned.Tie as tie
 
 returns : tie.Need-returns
-returns c = c .before .before .to-version-2 .ensures .outcome ∙ sym (stops _ _ (eq-eqb _ _ (c .before .before .before .before .if1 .taken)))
+returns c = c .before .before .to-version-2 .ensures .bits ∙ sym (stops _ _ (eq-eqb _ _ (c .before .before .before .before .if1 .taken)))
 
 returns-2 : tie.Need-returns-2
-returns-2 c = c .before .before .to-version-1 .ensures .outcome ∙ sym (goes-on _ _ (ne-eqb _ _ (c .before .before .before .before .if1 .left)))
+returns-2 c = c .before .before .to-version-1 .ensures .bits ∙ sym (goes-on _ _ (ne-eqb _ _ (c .before .before .before .before .if1 .left)))
 
 pub turned-spec : {M : Type 1} → statement M
 turned-spec =

@@ -32,7 +32,7 @@ returns-2 c =
     let a = begun found .args in
     let long = begun found .good .0 .1 in
     let full = place-end (now (a .args)) (omega arith) _ (found .behind .ensures) (past-if1 .if1 .left) in
-    rested (now (a .args)) (now (a .out)) (now (a .rings)) full _ (after-get-f32s .get-f32s .ensures) _ _ _ (after-desk .desk .ensures) (after-number .number .ensures) (after-number2 .number2 .ensures) _ _ (after-reset .reset .ensures .answer)
+    rested (now (a .args)) (now (a .out)) (now (a .rings)) full _ (after-get-f32s .get-f32s .ensures) _ _ _ (after-desk .desk .ensures) (after-number .number .ensures) (after-number2 .number2 .ensures) _ _ (after-reset .reset .ensures .bits)
     _ _ _ (after-put .put .ensures) (after-put-desk .put-desk .ensures) (c .before .before .put-f32s .ensures)
 
 pub reset-lent-spec : {M : Type 1} → statement M

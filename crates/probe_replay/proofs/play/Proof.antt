@@ -22,7 +22,7 @@ returns c =
     let a = after-eight .before .before .before .before .before .before .before .before .before .args in
     played (now (a .args)) (now (a .out)) (listed (now (a .inputs)) (now (a .weights)) (now (a .taps)) (now (a .rings)) (now (a .ears))) (now (a .stamps))
     _ _ _ _ _ _ _ (after-shape .shape .ensures) (after-desk .desk .ensures) (after-expected .expected .ensures) (after-number .number .ensures) (after-number2 .number2 .ensures) (after-number3 .number3 .ensures) (after-eight .eight .ensures)
-    _ _ _ (after-replay .replay .ensures .answer) _ _ _ (after-put-counts .put-counts .ensures) (after-put-f32s .put-f32s .ensures) (after-put-f32s2 .put-f32s2 .ensures)
+    _ _ _ (after-replay .replay .ensures .bits) _ _ _ (after-put-counts .put-counts .ensures) (after-put-f32s .put-f32s .ensures) (after-put-f32s2 .put-f32s2 .ensures)
 
 pub play-spec : {M : Type 1} → statement M
 play-spec =

@@ -17,7 +17,7 @@ returns c =
     let start = after-get-f32s .before .before .before .before .before in
     let a = start .args in
     renders (now (a .args)) (a .count) (now (a .input)) _ (now (a .planes)) _ _ _ _ _ _ (after-render-first .render-first .result) (start .pre .0) (start .pre .1) (after-get-f32s .get-f32s .ensures) (after-all-cues .all-cues .ensures)
-    (after-number .number .ensures) (after-number2 .number2 .ensures) (after-number3 .number3 .ensures) (after-number4 .number4 .ensures) (after-render-first .render-first .ensures .is)
+    (after-number .number .ensures) (after-number2 .number2 .ensures) (after-number3 .number3 .ensures) (after-number4 .number4 .ensures) (after-render-first .render-first .ensures .bits)
 
 pub render-lent-spec : {M : Type 1} → statement M
 render-lent-spec =

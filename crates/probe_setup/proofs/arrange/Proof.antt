@@ -13,7 +13,7 @@ returns c =
     let past-if1 = after-number2 .before in
     let after-number = past-if1 .before in
     let a = after-number .before .before .before .args in
-    as-wanted (a .operation) (now (a .args)) _ _ _ _ _ _ _ (c .before .before .new-surround .ensures .answer)
+    as-wanted (a .operation) (now (a .args)) _ _ _ _ _ _ _ (c .before .before .new-surround .ensures .bits)
     (of-layout (a .operation) (now (a .args)) _ _ _ (past-if1 .if1 .taken) (after-layout .layout .ensures) (after-number2 .number2 .ensures) (after-number3 .number3 .ensures))
     (after-number .number .ensures)
 
@@ -23,7 +23,7 @@ returns-2 c =
     let past-if1 = after-number4 .before in
     let after-number = past-if1 .before in
     let a = after-number .before .before .before .args in
-    as-wanted (a .operation) (now (a .args)) _ _ _ _ _ _ _ (c .before .before .new-ambisonic .ensures .arranges .answer)
+    as-wanted (a .operation) (now (a .args)) _ _ _ _ _ _ _ (c .before .before .new-ambisonic .ensures .bits)
     (of-order (a .operation) (now (a .args)) _ (past-if1 .if1 .left) (after-number4 .number4 .ensures)) (after-number .number .ensures)
 
 pub arrange-spec : {M : Type 1} → statement M

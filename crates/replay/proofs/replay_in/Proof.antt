@@ -8,8 +8,7 @@ use Rattle.replay.specs.declared.Replayed.{Replayed}
 use Rattle.replay.specs.declared.play.Turned.{Turned}
 use Rattle.replay.specs.Lines.{Line}
 use Rattle.replay.specs.Promise.{refusalIn, Replays}
-use Rattle.replay.specs.Computed.{lineOf, stateWith, Good, Kept}
-use Rattle.replay.specs.Steps.{Room, Turns}
+use Rattle.replay.specs.Computed.{lineOf, stateWith, Good, Kept, Room, Turns}
 use Rattle.replay.proofs.Judging.{refusal-is, good, kept, room}
 use Rattle.replay.proofs.Answering.{promised-refused, promised-accepted}
 use Rattle.replay.proofs.replay_in.Statement.{statement}

@@ -53,7 +53,7 @@ use Rattle.planes.proofs.Framing.{Parting, parting-none}
 use Rattle.script.specs.Rendering.{Stretch}
 use Rattle.script.specs.Promise.{Renders}
 use Rattle.cues.specs.Promise.{judgementOf, Finds}
-use Rattle.script.specs.Steps.{Speakable, Spoken, answerBy}
+use Rattle.script.specs.Computed.{Speakable, Spoken, answerBy}
 use Rattle.cues.specs.declared.Cue.{Cue}
 use Rattle.cues.specs.declared.Judgement.{Judgement}
 use Rattle.cues.specs.declared.Held.{Held}

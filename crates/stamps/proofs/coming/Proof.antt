@@ -14,7 +14,7 @@ returns c =
     let at = c .before .before in
     let told = c .enum-told .given .1 in
     record {
-      kind = sym (ap (λ (x : Expected). comingOf x (at .args .stamp)) told);
+      bits = sym (ap (λ (x : Expected). comingOf x (at .args .stamp)) told);
       below = subst (λ (x : Expected). stampOf x < 2 ^ 32) (sym told) (omega arith);
     }
 
@@ -23,7 +23,7 @@ returns-2 c =
     let at = c .before .before .before .before .before in
     let told = c .before .before .before .expected .given .1 in
     record {
-      kind =
+      bits =
           c .coming-by .ensures
           ∙ ap comingBy (difference-is _ _ _ (search needs) (search needs) (search needs) (c .before .wrapping-sub-u32 .ensures))
           ∙ sym (ap (λ (x : Expected). comingOf x (at .args .stamp)) told);

@@ -5,7 +5,7 @@ use native.Mathlib.Omega.{arith}
 use borrow.Author.Needs.{needs}
 use Rattle.stamps.specs.declared.Arrival.{Arrival}
 use Rattle.stamps.specs.Counts.{silentOne}
-use Rattle.stamps.specs.Steps.{shareOf}
+use Rattle.stamps.specs.Computed.{shareOf}
 use Rattle.stamps.proofs.share_of.Statement.{statement}
 use Rattle.stamps.proofs.share_of.Tie as tie
 

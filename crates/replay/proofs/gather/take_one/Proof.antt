@@ -13,7 +13,7 @@ use Rattle.stamps.specs.declared.Expected.{Expected}
 use Rattle.stamps.specs.declared.Arrival.{Arrival}
 use Rattle.stamps.specs.declared.Arrival.the-variants.{Next, Ahead, Jump, Late}
 use Rattle.replay.specs.declared.gather.Gathered.{Gathered}
-use Rattle.replay.specs.Steps.{quiet, takenBy, filledBy, Takes}
+use Rattle.replay.specs.Computed.{quiet, takenBy, filledBy, TakesFrame}
 use Rattle.replay.proofs.Gathering.{took}
 use Rattle.replay.proofs.gather.take_one.Statement.{statement}
 use Rattle.replay.proofs.gather.take_one.Tie as tie
@@ -30,7 +30,7 @@ start k = k .before .before .before .before .before
 arm : (k : tie.After-coming) (y : Arrival) (r : Gathered) (block : List Float) → k .coming .result ≡ y → let a = start k .args in
     r ≡ takenBy y (a .so-far) (getD (now (a .stamps)) (a .so-far .at) 0)
     → block ≡ filledBy y (now (a .block)) (a .so-far .count) (frameAt (now (a .inputs)) (a .stride) (a .channels) (a .so-far .at)) (quiet (a .channels))
-    → Takes (now (a .stamps)) (a .channels) (a .stride) (now (a .inputs)) (a .so-far) (now (a .block)) r block
+    → TakesFrame (now (a .stamps)) (a .channels) (a .stride) (now (a .inputs)) (a .so-far) (now (a .block)) r block
 arm k y r block e er eb =
     let a = start k .args in
     took (now (a .stamps)) (a .channels) (a .stride) (now (a .inputs)) (a .so-far) (now (a .block)) _ _ y r block (k .coming .ensures) refl

@@ -2,8 +2,7 @@
 use native.Mathlib.Nat.{le-antisymm}
 use native.Mathlib.Omega.{arith}
 use mathlib.Core.Path.{refl}
-use Rattle.replay.specs.Computed.{lineOf}
-use Rattle.replay.specs.Steps.{leftIn}
+use Rattle.replay.specs.Computed.{lineOf, leftIn}
 use Rattle.replay.proofs.Turning.{Going, going-kept, turns-none, turns-then, turns-room}
 use Rattle.replay.proofs.play.play.Statement.{statement}
 use Rattle.replay.proofs.play.play.Tie as tie
