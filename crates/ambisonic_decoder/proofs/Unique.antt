@@ -1,8 +1,8 @@
 -- No two answers meet the promise. Assumes nothing.
 use mathlib.Core.List.{List}
 use lib.Ieee.{Float}
-use Rattle.refusals.specs.OneAnswer.{OneAnswer}
-use Rattle.refusals.proofs.Determined.{determined}
+use Rattle.lists.specs.OneAnswer.{OneAnswer}
+use Rattle.lists.proofs.Determined.{determined}
 use Rattle.ambisonic_decoder.specs.declared.Shape.{Shape}
 use Rattle.ambisonic_decoder.specs.Promise.{Block, Processed}
 

@@ -5,7 +5,7 @@ use Prim.Native.Nat.{ℕ, _<_}
 use lib.Dec.{T, lit<, lit≤}
 use lib.Ieee.{Float, ofInt}
 use borrow.Author.Tests.{not-false}
-use Rattle.refusals.proofs.First.{stops, goes-on}
+use Rattle.lists.proofs.Tests.{cond-true, cond-false}
 use Rattle.fractions.specs.Fraction.{number, Within}
 use Rattle.fractions.proofs.Within.{within-weaken}
 use Rattle.series.specs.Sums.{Wave}
@@ -27,7 +27,7 @@ refused-is d = Limits.refused-is limit d (lit< tt)
 module _ (w : Wave) (d : Float) where
   -- the value at an accepted angle
   pub value-is : refusalOf d ≡ 0 → outcome w d .value ≡ computed w d
-  value-is h = goes-on zero-float (computed w d) (accepted-is d h)
+  value-is h = cond-false zero-float (computed w d) (accepted-is d h)
 
   pub outcome-kept : Promise w d (outcome w d)
   outcome-kept = record {
@@ -40,13 +40,13 @@ module _ (w : Wave) (d : Float) where
   pub refused-kept : (b : Bool) → b ≡ isInside limit d → not b ≡ true → Promise w d (record { refusal = 3; value = zero-float })
   refused-kept b e h =
       let r : isRefused d ≡ true = refused-is d ∙ ap not (sym e) ∙ h in
-      subst (Promise w d) (λ i. record { refusal = stops 3 0 r i; value = stops zero-float (computed w d) r i }) outcome-kept
+      subst (Promise w d) (λ i. record { refusal = cond-true 3 0 r i; value = cond-true zero-float (computed w d) r i }) outcome-kept
 
   pub accepted-kept : (b : Bool) (a : ℕ) (v : Float) → b ≡ isInside limit d → not b ≡ false → a ≡ place d → v ≡ waveAt w a → Promise w d (record { refusal = 0; value = v })
   unfolding computed
   accepted-kept b a v e h p q =
       let r : isRefused d ≡ false = refused-is d ∙ ap not (sym e) ∙ h in
-      subst (Promise w d) (λ i. record { refusal = goes-on 3 0 r i; value = (goes-on zero-float (computed w d) r ∙ sym (q ∙ ap (waveAt w) p)) i }) outcome-kept
+      subst (Promise w d) (λ i. record { refusal = cond-false 3 0 r i; value = (cond-false zero-float (computed w d) r ∙ sym (q ∙ ap (waveAt w) p)) i }) outcome-kept
 
 -- ---- what its functions ask of each other on the way
 module _ (d : Float) where

@@ -2,8 +2,8 @@
 use mathlib.Core.Path.{_≡_}
 use mathlib.Core.Bool.{Bool}
 use lib.Ieee.{Float}
-use Rattle.refusals.specs.OneAnswer.{OneAnswer}
-use Rattle.refusals.proofs.Determined.{determined, determined-by}
+use Rattle.lists.specs.OneAnswer.{OneAnswer}
+use Rattle.lists.proofs.Determined.{determined, determined-by}
 use Rattle.series.specs.Sums.{Wave, sine, cosine}
 use Rattle.angles.specs.Limits.{isInside}
 use Rattle.angles.specs.Promise.{Promise}

@@ -1,8 +1,8 @@
 -- No two answers meet one promise. Assumes nothing.
 use mathlib.Core.List.{List}
 use Prim.Native.Nat.{ℕ}
-use Rattle.refusals.specs.OneAnswer.{OneAnswer}
-use Rattle.refusals.proofs.Determined.{determined-by}
+use Rattle.lists.specs.OneAnswer.{OneAnswer}
+use Rattle.lists.proofs.Determined.{determined-by}
 use Rattle.bank_check.specs.Checked.{CheckedStart, Checked, CheckedVersion}
 
 check-start-unique : (start : List ℕ) (size : ℕ) → OneAnswer (CheckedStart start size)

@@ -3,8 +3,8 @@ use mathlib.Core.Path.{_≡_}
 use mathlib.Core.List.{List}
 use lib.IntN.{ℤ}
 use Prim.Native.Nat.{ℕ, _≤_, min}
-use Rattle.refusals.specs.OneAnswer.{OneAnswer}
-use Rattle.refusals.proofs.Determined.{determined, determined-by}
+use Rattle.lists.specs.OneAnswer.{OneAnswer}
+use Rattle.lists.proofs.Determined.{determined, determined-by}
 use Rattle.bank_form.specs.Version.{elevationSize, elevationAt, rowSize, largestRow}
 
 elevation-size-unique : (v : ℕ) → OneAnswer (λ (r : ℕ). (r ≡ elevationSize v) × (r ≤ 2))

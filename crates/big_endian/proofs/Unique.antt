@@ -6,15 +6,15 @@ use Prim.Native.Nat.{ℕ, _+_, _*_}
 use lib.Dec.{leb}
 use lib.IntN.{ℤ}
 use lib.Ieee.{Float}
-use Rattle.refusals.specs.OneAnswer.{OneAnswer}
-use Rattle.refusals.proofs.Determined.{determined, determined-by}
+use Rattle.lists.specs.OneAnswer.{OneAnswer}
+use Rattle.lists.proofs.Determined.{determined, determined-by}
 use Rattle.big_endian.specs.Fields.{Field, withField, signedAt, withSigned, floatAt, withFloat, doubleAt, withDouble}
 
 has-room-unique : (size at width count : ℕ) → OneAnswer (λ (r : Bool). r ≡ leb (at + width * count) size)
 has-room-unique size at width count = determined
 
 get-unique : (s : List ℕ) (at count : ℕ) → OneAnswer (Field s at count)
-get-unique s at count = determined-by (λ r h. h .value)
+get-unique s at count = determined-by (λ r h. h .bits)
 
 put-unique : (s : List ℕ) (at count n : ℕ) → OneAnswer (λ (r : List ℕ). r ≡ withField s at count n)
 put-unique s at count n = determined

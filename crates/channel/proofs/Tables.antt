@@ -14,7 +14,7 @@ use mir.Val.{SFits, toZ, ofZ}
 use mir.Facts.{sfits-widen, toZ-ofZ}
 use Rattle.lists.specs.Tables.{every}
 use Rattle.lists.proofs.Every.{every-holds}
-use Rattle.refusals.proofs.First.{stops, goes-on}
+use Rattle.lists.proofs.Tests.{cond-true, cond-false}
 use Rattle.formats.specs.Floats.{float}
 use Rattle.channel.specs.Layouts.{speakers, positions, degreesAt, missing, degreesOf}
 use Rattle.channel.specs.declared.Layout.{Layout}
@@ -65,10 +65,10 @@ module _ (table : List ℤ) (i : ℕ) where
   entryOf = record { refusal = missing table i; degrees = degreesAt table i }
 
   pub entry-there : (z : ℤ) → i < length table → z ≡ degreesAt table i → _≡_ {A = Entry} (record { refusal = 0; degrees = z }) entryOf
-  entry-there z h e = λ k. record { refusal = sym (goes-on 2 0 (lt-leb (length table) i h)) k; degrees = e k }
+  entry-there z h e = λ k. record { refusal = sym (cond-false 2 0 (lt-leb (length table) i h)) k; degrees = e k }
 
   pub entry-missing : length table ≤ i → _≡_ {A = Entry} (record { refusal = 2; degrees = pos 0 }) entryOf
-  entry-missing h = λ k. record { refusal = sym (stops 2 0 (le-leb (length table) i h)) k; degrees = sym (List·getD-eq-default table (pos 0) h) k }
+  entry-missing h = λ k. record { refusal = sym (cond-true 2 0 (le-leb (length table) i h)) k; degrees = sym (List·getD-eq-default table (pos 0) h) k }
 
   -- ---- as an f64 and in tenths, of an entry that was read
   module _ (turned-there : T (turned (degreesAt table i))) (r : Entry) (e : r ≡ entryOf) where

@@ -2,8 +2,8 @@
 use mathlib.Core.Path.{_≡_}
 use mathlib.Core.Bool.{Bool}
 use Prim.Native.Nat.{ℕ}
-use Rattle.refusals.specs.OneAnswer.{OneAnswer}
-use Rattle.refusals.proofs.Determined.{determined}
+use Rattle.lists.specs.OneAnswer.{OneAnswer}
+use Rattle.lists.proofs.Determined.{determined}
 use Rattle.channel.specs.Layouts.{counted, surround, lowFrequency, azimuthAnswer, tenthsAnswer, positionAzimuthAnswer, positionTenthsAnswer}
 use Rattle.channel.specs.Orders.{refusesOrder, countedOrder}
 use Rattle.channel.specs.declared.Layout.{Layout}

@@ -8,7 +8,7 @@ use lib.IntN.{ℤ, pos, negsuc, _*ℤ_}
 use lib.ListN.{length, getD}
 use lib.Ieee.{Float}
 use Rattle.formats.specs.Floats.{float}
-use Rattle.refusals.specs.Refusals.{firstOf, _when_, outside}
+use Rattle.refusals.specs.Refusals.{firstOf, _when_, answered, outside}
 use Rattle.channel.specs.declared.Layout.{Layout}
 use Rattle.channel.specs.declared.Layout.the-variants.{Mono, Stereo, Surround51, Surround71, Custom}
 use Rattle.channel.specs.declared.Counted.{Counted}
@@ -28,7 +28,7 @@ uncountable n = outside n 16
 
 -- n channels; or, where they are refused, the refusal and none
 abbrev pub countedBy : ℕ → Bool → ℕ → Counted
-countedBy refusal refused n = record { refusal = firstOf (refusal when refused ∷ []); channels = cond refused 0 n }
+countedBy refusal refused n = answered (firstOf (refusal when refused ∷ [])) (record { refusal = 0; channels = n }) (λ k. record { refusal = k; channels = 0 })
 
 abbrev pub counted : Layout → Counted
 counted l = countedBy 2 (uncountable (channelsOf l)) (channelsOf l)

@@ -6,8 +6,8 @@ use Prim.Native.Nat.{ℕ, _*_, min}
 use lib.Dec.{eqb}
 use lib.Ieee.{Float}
 use lib.Ieee.Scale.{finite}
-use Rattle.refusals.specs.OneAnswer.{OneAnswer}
-use Rattle.refusals.proofs.Determined.{determined}
+use Rattle.lists.specs.OneAnswer.{OneAnswer}
+use Rattle.lists.proofs.Determined.{determined}
 use Rattle.checks.specs.Finite.{unsound}
 use Rattle.checks.specs.Lengths.{unfit, blockUnfit}
 

@@ -16,7 +16,7 @@ use Rattle.fractions.specs.Fraction.{whole, number}
 use Rattle.fractions.specs.Squares.{BySquares}
 use Rattle.lists.specs.Tables.{tab, row}
 use Rattle.lists.proofs.Tables.{length-tab, getD-tab}
-use Rattle.planes.specs.Normalization.{inverseRoot}
+use Rattle.numbers.specs.Normalization.{inverseRoot}
 use Rattle.rows.specs.Steps.{putRows}
 use Rattle.rows.proofs.Joined.{AllOf, put-joined, row-found}
 use Rattle.channel.specs.declared.Layout.{Layout}

@@ -15,7 +15,7 @@ use Rattle.numbers.specs.Computed.{rootOf, wholeRoot}
 use Rattle.lists.specs.Tables.{row}
 use Rattle.formats.specs.Floats.{zero-float, float}
 use Rattle.refusals.proofs.Chains.{none-holds}
-use Rattle.planes.specs.Normalization.{inverseRoot}
+use Rattle.numbers.specs.Normalization.{inverseRoot}
 use Rattle.channel.specs.declared.Layout.{Layout}
 use Rattle.channel.specs.declared.Layout.the-variants.{Mono, Stereo, Surround51, Surround71, Custom}
 use Rattle.channel.specs.Layouts.{channelsOf, surround}

@@ -2,8 +2,8 @@
 use Prim.Native.Nat.{ℕ}
 use mathlib.Core.List.{List}
 use lib.Ieee.{Float}
-use Rattle.refusals.specs.OneAnswer.{OneAnswer}
-use Rattle.refusals.proofs.Determined.{determined-by}
+use Rattle.lists.specs.OneAnswer.{OneAnswer}
+use Rattle.lists.proofs.Determined.{determined-by}
 use Rattle.channel.specs.declared.Layout.{Layout}
 use Rattle.decoder_matrix.specs.Promise.{Computes}
 

@@ -9,7 +9,8 @@ use lib.Dec.{ltb}
 use lib.ListN.{length}
 use lib.Ieee.{Float}
 use Rattle.io.specs.Counts.{Counts}
-use Rattle.refusals.proofs.First.{stops, goes-on, answered-accepted, answered-refused}
+use Rattle.refusals.proofs.First.{answered-accepted, answered-refused}
+use Rattle.lists.proofs.Tests.{cond-true, cond-false}
 use Rattle.lists.specs.Placed.{placed}
 use Rattle.lists.proofs.Placed.{placed-none}
 use Rattle.history.specs.Setup.{Setup}
@@ -59,20 +60,20 @@ told-by r out line size after e put = subst (λ (l : List ℕ). Lined out l size
 
 pub told-failed : (r : Outcome) (out : List ℕ) → r .failed ≡ true → Lined out (toldBy r) 0 out
 told-failed r out e =
-    told-by r out [] 0 out (stops _ _ e)
+    told-by r out [] 0 out (cond-true _ _ e)
     (record { count = either (ltb (length out) 64) 0 0 refl; filled = either (ltb (length out) 64) out (placed out 0 []) (sym (placed-none out 0)) })
 
 -- a refusal, by whether it is of a part frame
 module _ (r : Outcome) (out : List ℕ) (size : ℕ) (after : List ℕ) (ran : r .failed ≡ false) (some : r .ended .refusal ≡ 0 → ⊥) where
   refusal-line : toldBy r ≡ refusalLine (r .ended) (r .ended .refusal)
-  refusal-line = goes-on _ _ ran ∙ answered-refused _ (refusalLine (r .ended)) _ some
+  refusal-line = cond-false _ _ ran ∙ answered-refused _ (refusalLine (r .ended)) _ some
 
   pub told-part-frame : r .ended .refusal ≡ 9 → Lined out (refusedLine (r .ended .refusal)) size after → Lined out (toldBy r) size after
-  told-part-frame nine put = told-by r out _ size after (refusal-line ∙ stops _ _ (eq-eqb (r .ended .refusal) 9 nine)) put
+  told-part-frame nine put = told-by r out _ size after (refusal-line ∙ cond-true _ _ (eq-eqb (r .ended .refusal) 9 nine)) put
 
   pub told-bank : (r .ended .refusal ≡ 9 → ⊥) → Lined out (refusedAtLine (r .ended .refusal) (r .ended .place)) size after → Lined out (toldBy r) size after
-  told-bank other put = told-by r out _ size after (refusal-line ∙ goes-on _ _ (ne-eqb (r .ended .refusal) 9 other)) put
+  told-bank other put = told-by r out _ size after (refusal-line ∙ cond-false _ _ (ne-eqb (r .ended .refusal) 9 other)) put
 
 pub told-played : (r : Outcome) (out : List ℕ) (size : ℕ) (after : List ℕ) → r .failed ≡ false → r .ended .refusal ≡ 0
     → Lined out (framesLine (r .ended .frames) (r .ended .unsettled)) size after → Lined out (toldBy r) size after
-told-played r out size after e none put = told-by r out _ size after (goes-on _ _ e ∙ answered-accepted _ _ _ none) put
+told-played r out size after e none put = told-by r out _ size after (cond-false _ _ e ∙ answered-accepted _ _ _ none) put

@@ -8,7 +8,7 @@ use native.Mathlib.Omega.{arith}
 use lib.IntN.{ℤ, pos}
 use lib.ListN.{length, replicate, length-take}
 use lib.Ieee.{Float}
-use Rattle.refusals.proofs.First.{stops, goes-on}
+use Rattle.lists.proofs.Tests.{cond-true, cond-false}
 use Rattle.lists.proofs.Placed.{length-placed}
 use Rattle.checks.proofs.Checks.{not-outside}
 use Rattle.channel.specs.declared.Layout.the-variants.{Surround51}
@@ -65,7 +65,7 @@ module _ (xs : List Float) (o : ReadOutcome) (f : Found zeros zeros xs o) where
 
       go : (t : Bool) → isFile (f .file) ≡ t → refusedBank (fault (f .file)) ≡ itemTen (f .file) []
       go true h = absurd (no-file h)
-      go false h = sym (goes-on _ _ h)
+      go false h = sym (cond-false _ _ h)
 
   -- one that keeps it
   module _ (good : o .answer .refusal ≡ 0) where
@@ -91,7 +91,7 @@ module _ (xs : List Float) (o : ReadOutcome) (f : Found zeros zeros xs o) where
     unfolding b
     bank-answers r e =
         let end : endsAs (setupWith (bankFound o)) (e .line) ≡ itemTen (f .file) (e .line) =
-        ap (λ (q : Bank). endsAs (setupWith q) (e .line)) bank-is ∙ sym (stops _ _ (is-file (f .file) (parts .none))) in
+        ap (λ (q : Bank). endsAs (setupWith q) (e .line)) bank-is ∙ sym (cond-true _ _ (is-file (f .file) (parts .none))) in
         record { bank = f .file; ends = record { line = e .line; ended = e .ended ∙ ap (cond (r .failed) partFrame) end } }
 
     -- there is room for its filters, and for the cells of six speakers

@@ -2,7 +2,7 @@
 use mathlib.Core.Path.{_≡_, sym, _∙_}
 use mathlib.Core.List.{List}
 use Prim.Native.Nat.{ℕ}
-use Rattle.refusals.specs.OneAnswer.{OneAnswer}
+use Rattle.lists.specs.OneAnswer.{OneAnswer}
 use Rattle.wire.specs.Promises.{Lined}
 use Rattle.wire.proofs.Unique.{line-unique}
 use Rattle.ears_file.specs.declared.Outcome.{Outcome}

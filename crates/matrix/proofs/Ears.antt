@@ -14,7 +14,7 @@ use Rattle.formats.specs.Floats.{zero-float, literal}
 use Rattle.formats.proofs.Signs.{neg-neg, literal-negated, mul-negated}
 use Rattle.numbers.specs.Computed.{narrowed}
 use Rattle.lists.specs.Tables.{row, every}
-use Rattle.planes.specs.Normalization.{inverseRoot}
+use Rattle.numbers.specs.Normalization.{inverseRoot}
 use Rattle.planes.specs.Sums.{total, mixed}
 use Rattle.rows.specs.Rows.{scaled}
 use Rattle.rows.proofs.Joined.{AllOf, row-found}

@@ -23,7 +23,7 @@ use Rattle.channel.specs.declared.Layout.{Layout}
 use Rattle.channel.specs.declared.Layout.the-variants.{Mono, Stereo, Surround51, Surround71, Custom}
 use Rattle.channel.specs.Layouts.{channelsOf, positionAzimuth}
 use Rattle.matrix.specs.Mirror.{lateral}
-use Rattle.planes.specs.Normalization.{inverseRoot}
+use Rattle.numbers.specs.Normalization.{inverseRoot}
 use Rattle.rows.specs.Rows.{scaled}
 use Rattle.harmonics.specs.Computed.{sin, cos, _·_, wavesOf, upTo}
 use Rattle.harmonics.specs.Promise as Harmonics

@@ -8,26 +8,30 @@ use lib.IntN.{pos}
 use lib.Dec.{T, lt→ltb}
 use lib.Ieee.{Float, nan, inf, fin, Format, binary64, fits}
 use lib.Ieee.Positive.{positive}
-use Rattle.refusals.specs.OneAnswer.{OneAnswer}
-use Rattle.refusals.proofs.Determined.{determined-by}
+use Rattle.lists.specs.OneAnswer.{OneAnswer}
+use Rattle.lists.proofs.Determined.{determined-by}
 use Rattle.formats.proofs.Grid.{zero-written}
 use Rattle.numbers.specs.Conversions.{Widens, Narrows}
 use Rattle.numbers.specs.Roots.{rootless, NearestRoot}
 use Rattle.formats.specs.Floats.{zero-float}
 use Rattle.numbers.specs.Computed.{rootOf, rootAnswer}
 use Rattle.numbers.specs.Promises.{Narrowed, Root}
+use Rattle.numbers.specs.Normalization.{InverseRoot}
 use Rattle.numbers.specs.declared.Rooted.{Rooted}
 use Rattle.numbers.proofs.Narrows.{narrows-only}
 use Rattle.numbers.proofs.Middle.{root-only}
 
 pub widen-unique : (x : Float) → OneAnswer (Widens x)
-widen-unique x = determined-by (λ r h. h .same)
+widen-unique x = determined-by (λ r h. h .bits)
 
 pub narrow-unique : (x : Float) → OneAnswer (Narrowed x)
 narrow-unique x = determined-by (λ r h. h .bits)
 
 pub root-unique : (x : Float) → OneAnswer (Root x)
-root-unique x = determined-by (λ r h. h .answer)
+root-unique x = determined-by (λ r h. h .bits)
+
+inverse-root-unique : (n : ℕ) → OneAnswer (InverseRoot n)
+inverse-root-unique n = determined-by (λ r h. h .bits)
 
 -- ---- by document 01's words alone
 pub narrows-unique : (f : Format) (x : Float) → OneAnswer (Narrows f x)

@@ -9,7 +9,8 @@ use borrow.Author.Tests.{lt-ltb, le-ltb}
 use lib.ListN.{length}
 use lib.Ieee.{Float}
 use Rattle.refusals.specs.Refusals.{Check, firstOf}
-use Rattle.refusals.proofs.First.{stops, goes-on, answered-accepted, answered-refused}
+use Rattle.refusals.proofs.First.{answered-accepted, answered-refused}
+use Rattle.lists.proofs.Tests.{cond-true, cond-false}
 use Rattle.refusals.proofs.Chains.{first-refused, first-accepted, none-holds}
 use Rattle.lists.specs.Tables.{tab}
 use Rattle.channel.specs.declared.Layout.{Layout}
@@ -78,11 +79,11 @@ module _ (s : Shape) (input out : List Float) where
       misfit-is = ap (λ (r : CommandGains). misfit (length input) (length out) (r .planes) (s .stride) (s .frames)) gains-are
 
       pub by-length : misfit (length input) (length out) (g .planes) (s .stride) (s .frames) ≡ true → Processed s input out (record { refusal = 5; samples = 0 }) out
-      by-length m = refused 5 (λ e. omega arith) (goes ∙ stops 5 _ (sym misfit-is ∙ m))
+      by-length m = refused 5 (λ e. omega arith) (goes ∙ cond-true 5 _ (sym misfit-is ∙ m))
 
       module _ (m : misfit (length input) (length out) (g .planes) (s .stride) (s .frames) ≡ false) where
         pub by-frames : mostFrames < s .frames → Processed s input out (record { refusal = 6; samples = 0 }) out
-        by-frames h = refused 6 (λ e. omega arith) (goes ∙ goes-on 5 _ (sym misfit-is ∙ m) ∙ stops 6 0 (lt-ltb mostFrames (s .frames) h))
+        by-frames h = refused 6 (λ e. omega arith) (goes ∙ cond-false 5 _ (sym misfit-is ∙ m) ∙ cond-true 6 0 (lt-ltb mostFrames (s .frames) h))
 
         -- a part from 0 on is the whole block, and its planes are sixteen at most
         whole : withFrames out (s .stride) 0 (pannedPart (s .stride) 0 (s .frames) (min (g .planes) 16) (g .gains) input) ≡ withFrames out (s .stride) 0 (framesOf s input)
@@ -96,6 +97,6 @@ module _ (s : Shape) (input out : List Float) where
         pub plays : (after : List Float) → s .frames ≤ mostFrames → after ≡ withFrames out (s .stride) 0 (pannedPart (s .stride) 0 (s .frames) (min (g .planes) 16) (g .gains) input)
             → Processed s input out (record { refusal = 0; samples = s .frames }) after
         plays after h w = record {
-          is = played-with answerOf (s .frames) (s .stride) (framesOf s input) out refusal after (goes ∙ goes-on 5 _ (sym misfit-is ∙ m) ∙ goes-on 6 0 (le-ltb mostFrames (s .frames) h)) (w ∙ whole);
+          is = played-with answerOf (s .frames) (s .stride) (framesOf s input) out refusal after (goes ∙ cond-false 5 _ (sym misfit-is ∙ m) ∙ cond-false 6 0 (le-ltb mostFrames (s .frames) h)) (w ∙ whole);
           gains = λ k. G .promised accepted;
         }

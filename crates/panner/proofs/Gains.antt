@@ -8,7 +8,8 @@ use borrow.Author.Tests.{not-false}
 use lib.Dec.{eqb, lit≤}
 use lib.ListN.{replicate}
 use lib.Ieee.{Float}
-use Rattle.refusals.proofs.First.{stops, goes-on, passed, not-accepted}
+use Rattle.refusals.proofs.First.{passed, not-accepted}
+use Rattle.lists.proofs.Tests.{cond-true, cond-false}
 use Rattle.channel.specs.Layouts.{channelsOf, uncountable, surround, counted}
 use Rattle.channel.specs.Orders.{refusesOrder, channelsOfOrder}
 use Rattle.channel.proofs.Counts.{surround-counted, surround-few}
@@ -62,11 +63,11 @@ module _ (l : Layout) (p : Float) (s : StereoGains) (h : Stereo.Pans p s) where
       go false = refl
 
   pub stereo-refused : isBadLayout l ≡ false → (s .refusal ≡ 0 → ⊥) → commandRefusal (Stereo p) l ≡ 3
-  stereo-refused b n = goes-on 2 _ b ∙ three (Stereo.isRefused p) (s .refusal) stereo-refusal n
+  stereo-refused b n = cond-false 2 _ b ∙ three (Stereo.isRefused p) (s .refusal) stereo-refusal n
 
   pub stereo-accepted : (g : Commanded) → isBadLayout l ≡ false → s .refusal ≡ 0 → g ≡ record { refusal = 0; planes = 2; gains = s .left ∷ s .right ∷ replicate 14 zero-float } → Commands (Stereo p) l g
   stereo-accepted g b z e = record {
-    refusal = ap (λ (x : Commanded). x .refusal) e ∙ sym (goes-on 2 _ b ∙ sym stereo-refusal ∙ z);
+    refusal = ap (λ (x : Commanded). x .refusal) e ∙ sym (cond-false 2 _ b ∙ sym stereo-refusal ∙ z);
     planes = λ k. ap (λ (x : Commanded). x .planes) e;
     gains = λ k. ap (λ (x : Commanded). x .gains) e ∙ ap (λ (x : StereoGains). x .left ∷ x .right ∷ replicate 14 zero-float) (h .is);
     promised = λ k. subst (Stereo.Pans p) (λ i. record { refusal = z i; left = h .is i .left; right = h .is i .right }) h;
@@ -94,17 +95,17 @@ module _ (l : Layout) (a : Float) (s : SurroundGains) (h : Surround.Pans l a s) 
 -- ---- a direction with an order
 module _ (l : Layout) (d : Direction) (n : ℕ) where
   pub order-refused : refusesOrder n ≡ true → commandRefusal (Ambisonic d n) l ≡ 1
-  order-refused o = stops 1 _ o
+  order-refused o = cond-true 1 _ o
 
   pub layout-refused : refusesOrder n ≡ false → isBadLayout l ≡ true → commandRefusal (Ambisonic d n) l ≡ 2
-  layout-refused o b = goes-on 1 _ o ∙ stops 2 _ b
+  layout-refused o b = cond-false 1 _ o ∙ cond-true 2 _ b
 
   module _ (s : Coefficients) (h : Harmonics.Promise n d s) (o : refusesOrder n ≡ false) (b : isBadLayout l ≡ false) where
     direction-is : s .refusal ≡ cond (Harmonics.refusesDirection d) 3 0
-    direction-is = ap (λ (x : Coefficients). x .refusal) (h .is) ∙ goes-on 1 _ o
+    direction-is = ap (λ (x : Coefficients). x .refusal) (h .is) ∙ cond-false 1 _ o
 
     command-is : commandRefusal (Ambisonic d n) l ≡ cond (Harmonics.refusesDirection d) 3 0
-    command-is = goes-on 1 _ o ∙ goes-on 2 _ b
+    command-is = cond-false 1 _ o ∙ cond-false 2 _ b
 
     pub direction-refused : (s .refusal ≡ 0 → ⊥) → commandRefusal (Ambisonic d n) l ≡ 3
     direction-refused k = command-is ∙ three (Harmonics.refusesDirection d) (s .refusal) direction-is k

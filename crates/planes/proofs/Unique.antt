@@ -4,10 +4,9 @@ use mathlib.Core.Bool.{Bool}
 use mathlib.Core.List.{List}
 use Prim.Native.Nat.{ℕ}
 use lib.Ieee.{Float}
-use Rattle.refusals.specs.OneAnswer.{OneAnswer}
-use Rattle.refusals.proofs.Determined.{determined, determined-by}
+use Rattle.lists.specs.OneAnswer.{OneAnswer}
+use Rattle.lists.proofs.Determined.{determined, determined-by}
 use Rattle.planes.specs.Planes.{sampleAt, withSample, FramePut}
-use Rattle.planes.specs.Normalization.{InverseRoot}
 
 sample-unique : (xs : List Float) (stride plane frame : ℕ) → OneAnswer (λ (r : Float). r ≡ sampleAt xs stride plane frame)
 sample-unique xs stride plane frame = determined
@@ -18,6 +17,3 @@ put-sample-unique xs stride plane frame x = determined
 -- the frame f that `mix_frame` puts is `mixedAll`'s: the planes, and whether it is damaged
 mix-frame-unique : (xs : List Float) (stride n : ℕ) (f : List Float) → OneAnswer (λ (r : List Float × Bool). FramePut xs stride n f (r .0) (r .1))
 mix-frame-unique xs stride n f = determined-by (λ r h i. (h .put i, h .damage i))
-
-inverse-root-unique : (n : ℕ) → OneAnswer (InverseRoot n)
-inverse-root-unique n = determined-by (λ r h. h .is)

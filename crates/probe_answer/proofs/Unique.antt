@@ -4,8 +4,8 @@ use mathlib.Core.List.{List}
 use Prim.Native.Nat.{ℕ}
 use lib.IntN.{ℤ}
 use lib.Ieee.{Float}
-use Rattle.refusals.specs.OneAnswer.{OneAnswer}
-use Rattle.refusals.proofs.Determined.{determined}
+use Rattle.lists.specs.OneAnswer.{OneAnswer}
+use Rattle.lists.proofs.Determined.{determined}
 use Rattle.big_endian.specs.Lists.{signedBytes, floatBytes, doubleBytes, numberBytes}
 use Rattle.probe_answer.specs.Answers.{Draft, _then_, thenField, refusalAndDoubles, played}
 

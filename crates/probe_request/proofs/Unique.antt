@@ -5,8 +5,8 @@ use Prim.Native.Nat.{ℕ, _+_, _*_}
 use lib.IntN.{ℤ}
 use lib.Ieee.{Float}
 use lib.ListN.{length}
-use Rattle.refusals.specs.OneAnswer.{OneAnswer}
-use Rattle.refusals.proofs.Determined.{determined}
+use Rattle.lists.specs.OneAnswer.{OneAnswer}
+use Rattle.lists.proofs.Determined.{determined}
 use Rattle.big_endian.specs.Fields.{fieldAt, signedAt, floatAt, doubleAt}
 use Rattle.channel.specs.declared.Layout.{Layout}
 use Rattle.probe_request.specs.Requests.{layoutOf, eightAt, lentBy, placeIn, wordAt, listAt}

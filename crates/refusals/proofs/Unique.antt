@@ -5,8 +5,8 @@ use Prim.Native.Nat.{ℕ}
 use lib.IntN.{ℤ}
 use Rattle.refusals.specs.Ranges.{within, between}
 use Rattle.refusals.specs.Refusals.{outside}
-use Rattle.refusals.specs.OneAnswer.{OneAnswer}
-use Rattle.refusals.proofs.Determined.{determined}
+use Rattle.lists.specs.OneAnswer.{OneAnswer}
+use Rattle.lists.proofs.Determined.{determined}
 
 is-within-unique : (n low high : ℕ) → OneAnswer (λ (r : Bool). r ≡ within low high n)
 is-within-unique n low high = determined

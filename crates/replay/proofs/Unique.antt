@@ -1,8 +1,8 @@
 -- No two answers meet the promise. Assumes nothing.
 use mathlib.Core.List.{List}
 use lib.Ieee.{Float}
-use Rattle.refusals.specs.OneAnswer.{OneAnswer}
-use Rattle.refusals.proofs.Determined.{determined-by}
+use Rattle.lists.specs.OneAnswer.{OneAnswer}
+use Rattle.lists.proofs.Determined.{determined-by}
 use Rattle.rings.specs.State.{State}
 use Rattle.stamps.specs.declared.Expected.{Expected}
 use Rattle.replay.specs.Lines.{Line}

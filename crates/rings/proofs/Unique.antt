@@ -5,8 +5,8 @@ use mathlib.Core.List.{List}
 use lib.Ieee.{Float}
 use Rattle.formats.specs.Floats.{zero-float}
 use Rattle.planes.specs.Sums.{dot}
-use Rattle.refusals.specs.OneAnswer.{OneAnswer}
-use Rattle.refusals.proofs.Determined.{determined}
+use Rattle.lists.specs.OneAnswer.{OneAnswer}
+use Rattle.lists.proofs.Determined.{determined}
 use Rattle.rings.specs.Unrolled.{unrolled}
 
 convolve-unique : (ring : List Float) (newest : ℕ) (taps : List Float) → OneAnswer (λ (r : Float). r ≡ dot zero-float (unrolled (suc newest) ring) taps)

@@ -6,7 +6,8 @@ use borrow.Author.Tests.{not-false}
 use lib.Dec.{T, lit<}
 use lib.Ieee.{Float}
 use lib.Ieee.Scale.{finite}
-use Rattle.refusals.proofs.First.{stops, goes-on, not-accepted}
+use Rattle.refusals.proofs.First.{not-accepted}
+use Rattle.lists.proofs.Tests.{cond-true, cond-false}
 use Rattle.fractions.specs.Fraction.{number}
 use Rattle.fractions.proofs.Number.{finite-number}
 use Rattle.series.specs.Sums.{sine, cosine}
@@ -20,9 +21,9 @@ module _ (p : Float) where
   pub refuses : isRefused p ≡ true → Pans p (refused 3)
   unfolding outcome
   refuses r =
-      let three : refusalOf p ≡ 3 = stops 3 0 r in
+      let three : refusalOf p ≡ 3 = cond-true 3 0 r in
       record {
-        is = sym (stops (refused (refusalOf p)) (played p) r ∙ ap refused three);
+        is = sym (cond-true (refused (refusalOf p)) (played p) r ∙ ap refused three);
         left = λ k. absurd (not-accepted 3 (lit< tt) three k);
         right = λ k. absurd (not-accepted 3 (lit< tt) three k);
       }
@@ -35,7 +36,7 @@ module _ (p : Float) where
       let b = subst (λ (z : Float). Promise sine (angleFrom z) r) e b' in
       let P : 0 < number p .over = finite-number p (subst T (sym (not-false (finite p) h)) tt) in
       record {
-        is = (λ i. record { refusal = 0; left = a .is i .value; right = b .is i .value }) ∙ sym (goes-on (refused (refusalOf p)) (played p) h);
+        is = (λ i. record { refusal = 0; left = a .is i .value; right = b .is i .value }) ∙ sym (cond-false (refused (refusalOf p)) (played p) h);
         left = λ k. gain-near p P cosine l a;
         right = λ k. gain-near p P sine r b;
       }

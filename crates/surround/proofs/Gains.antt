@@ -13,7 +13,7 @@ use lib.Ieee.{Float, nan, binary64, fits, div, ofInt}
 use lib.Ieee.Fits.{add-fits}
 use lib.Ieee.Positive.{positive}
 use Rattle.formats.specs.Floats.{zero-float}
-use Rattle.refusals.proofs.First.{stops, goes-on}
+use Rattle.lists.proofs.Tests.{cond-true, cond-false}
 use Rattle.fractions.specs.Fraction.{Fraction, whole, number, magnitude, AtMost, isLess}
 use Rattle.fractions.specs.Squares.{BySquares}
 use Rattle.fractions.proofs.Roots.{RootOf}
@@ -128,7 +128,7 @@ module _ (l : Layout) (a : Float) (A : 0 < number a .over) (H : AtMost (magnitud
     unfolding quotient raw
     channel-is c h =
         let k : c < 16 = omega (arith, p .small) in
-        place-is c k ∙ ap (λ (x : Float). div binary64 x root) (raw-is c k ∙ stops (channelGain l a c) zero-float (lt-ltb c n h))
+        place-is c k ∙ ap (λ (x : Float). div binary64 x root) (raw-is c k ∙ cond-true (channelGain l a c) zero-float (lt-ltb c n h))
 
     -- beyond the channels of the layout
     beyond-is : (c : ℕ) → n ≤ c → getD (gainsOf l a) c zero-float ≡ zero-float
@@ -136,7 +136,7 @@ module _ (l : Layout) (a : Float) (A : 0 < number a .over) (H : AtMost (magnitud
     beyond-is c h = go (split c 16)
       where
         go : (c < 16) ⊎ (16 ≤ c) → getD (gainsOf l a) c zero-float ≡ zero-float
-        go (inl k) = place-is c k ∙ ap (λ (x : Float). div binary64 x root) (raw-is c k ∙ goes-on (channelGain l a c) zero-float (le-ltb c n h)) ∙ zero-divided
+        go (inl k) = place-is c k ∙ ap (λ (x : Float). div binary64 x root) (raw-is c k ∙ cond-false (channelGain l a c) zero-float (le-ltb c n h)) ∙ zero-divided
         go (inr k) = List·getD-eq-default (gainsOf l a) zero-float {n = c} (omega (arith, length-tab 0 16 quotient))
 
     zeroed : (c : ℕ) → channelGain l a c ≡ zero-float → getD (gainsOf l a) c zero-float ≡ zero-float

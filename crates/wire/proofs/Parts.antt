@@ -12,7 +12,7 @@ use Rattle.io.specs.Digits.{digits, glyph, Fewest}
 use Rattle.lists.specs.Placed.{placed}
 use Rattle.lists.proofs.Placed.{placed-on}
 use Rattle.wire.specs.Line.{decimalBy}
-use Rattle.refusals.proofs.First.{stops, goes-on}
+use Rattle.lists.proofs.Tests.{cond-true, cond-false}
 use Rattle.wire.specs.Promises.{Put, Lined}
 
 -- a part that is copied into the rest of a list from `at` on
@@ -43,12 +43,12 @@ put-same {out} {at} e p = record { ends = p .ends ∙ ap (λ (t : List ℕ). at 
 
 -- a list with no room, and one with room
 pub lined-not : (out line : List ℕ) → length out < 64 → Lined out line 0 out
-lined-not out line h = let yes = lt-ltb (length out) 64 h in record { count = sym (stops _ _ yes); filled = sym (stops _ _ yes) }
+lined-not out line h = let yes = lt-ltb (length out) 64 h in record { count = sym (cond-true _ _ yes); filled = sym (cond-true _ _ yes) }
 
 pub lined-put : (out line : List ℕ) (size : ℕ) (after : List ℕ) → 64 ≤ length out → Put out 0 line size after → Lined out line size after
 lined-put out line size after h p =
     let no = le-ltb (length out) 64 h in
-    record { count = p .ends ∙ zero-add (length line) ∙ sym (goes-on _ _ no); filled = p .filled ∙ sym (goes-on _ _ no) }
+    record { count = p .ends ∙ zero-add (length line) ∙ sym (cond-false _ _ no); filled = p .filled ∙ sym (cond-false _ _ no) }
 
 -- ---- digits
 

@@ -9,7 +9,7 @@ use borrow.Author.Tests.{lt-ltb, le-ltb}
 use lib.Dec.{lit<}
 use lib.ListN.{length, getD, take, drop}
 use lib.Ieee.{Float}
-use Rattle.refusals.proofs.First.{goes-on}
+use Rattle.lists.proofs.Tests.{cond-false}
 use Rattle.lists.specs.Placed.{placed}
 use Rattle.lists.proofs.Placed.{placed-start}
 use Rattle.checks.specs.Lengths.{unfit}
@@ -60,7 +60,7 @@ getD-first (x ∷ xs) ys (suc i) h = getD-first xs ys i (le-of-suc-le-suc h)
 -- a line that has room stands at the start of its list
 line-byte : (out line : List ℕ) (size : ℕ) (after : List ℕ) → Lined out line size after → 64 ≤ length out → (i : ℕ) → i < length line → getD after i 0 ≡ getD line i 0
 line-byte out line size after put room i h =
-    ap (λ (l : List ℕ). getD l i 0) (put .filled ∙ goes-on _ _ (le-ltb (length out) 64 room) ∙ placed-start out line) ∙ getD-first line (drop (length line) out) i h
+    ap (λ (l : List ℕ). getD l i 0) (put .filled ∙ cond-false _ _ (le-ltb (length out) 64 room) ∙ placed-start out line) ∙ getD-first line (drop (length line) out) i h
 
 -- the same where the line is known
 known-byte : (out line known : List ℕ) (size : ℕ) (after : List ℕ) → line ≡ known → Lined out line size after → 64 ≤ length out → (i : ℕ) → i < length known → getD after i 0 ≡ getD known i 0

@@ -1,6 +1,6 @@
 -- An answer that is said by an equation is determined: no two answers meet it. What every uniqueness theorem of such a promise cites. Assumes nothing.
 use mathlib.Core.Path.{_≡_, sym, _∙_}
-use Rattle.refusals.specs.OneAnswer.{OneAnswer}
+use Rattle.lists.specs.OneAnswer.{OneAnswer}
 
 pub determined : {A : Type 0} {x : A} → OneAnswer (λ (a : A). a ≡ x)
 determined a b p q = p ∙ sym q
