@@ -9,7 +9,7 @@ use Rattle.angles.specs.Limits.{isInside}
 use Rattle.angles.specs.Promise.{Promise}
 
 promise-unique : (w : Wave) (d : Float) → OneAnswer (Promise w d)
-promise-unique w d = determined-by (λ r h. h .is)
+promise-unique w d = determined-by (λ r h. h .bits)
 
 pub sine-unique : (d : Float) → OneAnswer (Promise sine d)
 sine-unique = promise-unique sine

@@ -8,4 +8,4 @@ use Rattle.channel.specs.declared.Layout.{Layout}
 use Rattle.decoder_matrix.specs.Promise.{Computes}
 
 pub compute-decoder-matrix-unique : (order : ℕ) (l : Layout) (weights : List Float) → OneAnswer (Computes order l weights)
-compute-decoder-matrix-unique order l weights = determined-by (λ r h. h .is)
+compute-decoder-matrix-unique order l weights = determined-by (λ r h. h .bits)

@@ -15,4 +15,4 @@ pub refuses-direction-unique : (d : Direction) → OneAnswer (λ (r : Bool). r �
 refuses-direction-unique d = determined
 
 pub compute-sh-coefficients-unique : (order : ℕ) (d : Direction) → OneAnswer (Promise order d)
-compute-sh-coefficients-unique order d = determined-by (λ r h. h .is)
+compute-sh-coefficients-unique order d = determined-by (λ r h. h .bits)

@@ -5,4 +5,4 @@ use Rattle.lists.proofs.Determined.{determined-by}
 use Rattle.stereo.specs.Promise.{Pans}
 
 pub calculate-stereo-gains-unique : (p : Float) → OneAnswer (Pans p)
-calculate-stereo-gains-unique p = determined-by (λ r h. h .is)
+calculate-stereo-gains-unique p = determined-by (λ r h. h .bits)

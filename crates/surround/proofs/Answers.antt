@@ -1,15 +1,15 @@
 -- The answers of the program are those promised: refused by 2, by 3, and played. Assumes nothing.
 use mathlib.Core.Path.{_≡_, sym, ap, _∙_, subst}
-use mathlib.Core.Bool.{Bool, true, false, not, cond}
+use mathlib.Core.Bool.{Bool, true, false, not}
 use mathlib.Core.List.{List}
 use Prim.Native.Nat.{ℕ, _≤_, _<_}
 use native.Mathlib.Omega.{arith}
 use borrow.Author.Tests.{not-false}
-use lib.Dec.{lit<, eqb}
+use lib.Dec.{lit<}
 use lib.ListN.{getD}
 use lib.Ieee.{Float, binary64, ofInt}
 use Rattle.formats.specs.Floats.{zero-float}
-use Rattle.refusals.proofs.First.{not-accepted}
+use Rattle.refusals.proofs.First.{not-accepted, answered-accepted, answered-by}
 use Rattle.lists.proofs.Tests.{cond-true, cond-false}
 use Rattle.numbers.specs.Computed.{rootOf, rootAnswer}
 use Rattle.numbers.specs.declared.Rooted.{Rooted}
@@ -22,17 +22,19 @@ use Rattle.harmonics.specs.Promise.{refusesAzimuth, silence}
 use Rattle.harmonics.proofs.Laws.{azimuth-number, azimuth-size}
 use Rattle.surround.specs.declared.SurroundGains.{SurroundGains}
 use Rattle.surround.specs.Computed.{rawGains, sumOf, dividedBy}
-use Rattle.surround.specs.Promise.{refusalOf, gainsOf, Gains, Pans}
+use Rattle.surround.specs.Promise.{refusalOf, gainsOf, SurroundWords, Pans}
 use Rattle.surround.proofs.Gains.{gains}
 
 -- b is whether the layout is one that is offered
 module _ (l : Layout) (a : Float) (b : Bool) (s : b ≡ surround l) where
-  -- the answer that goes with a refusal number
-  abbrev answer : ℕ → SurroundGains
-  answer r = record { refusal = r; gains = cond (eqb r 0) (gainsOf l a) silence }
+  abbrev accepting : List Float → SurroundGains
+  accepting g = record { refusal = 0; gains = g }
 
-  refuses : (n : ℕ) (r : SurroundGains) → 0 < n → refusalOf l a ≡ n → r ≡ answer n → Pans l a r
-  refuses n r o h e = record { is = e ∙ sym (ap answer h); gains = λ k. absurd (not-accepted n o h k) }
+  abbrev refusing : ℕ → SurroundGains
+  refusing n = record { refusal = n; gains = silence }
+
+  refuses : (n : ℕ) (r : SurroundGains) → 0 < n → refusalOf l a ≡ n → r ≡ refusing n → Pans l a r
+  refuses n r o h e = record { bits = e ∙ answered-by (accepting (gainsOf l a)) refusing (refusalOf l a) n o h; words = λ k. absurd (not-accepted n o h k) }
 
   pub no-layout : (r : SurroundGains) → not b ≡ true → r ≡ record { refusal = 2; gains = silence } → Pans l a r
   no-layout r h e = refuses 2 r (lit< tt) (cond-true 2 _ (ap not (sym s) ∙ h)) e
@@ -53,8 +55,8 @@ module _ (l : Layout) (a : Float) (b : Bool) (s : b ≡ surround l) where
       ap (λ (y : Rooted). y .value) eo ∙ root-value x ∙ ap (rootOf binary64) (es ∙ (λ j. sumOf (count j) (raw-is j))) in
       let gains-are : g ≡ gainsOf l a = eg ∙ (λ j. dividedBy (root-is j) (raw-is j)) in
       record {
-        is = ap (λ (y : List Float). record { refusal = 0; gains = y }) gains-are ∙ sym (ap answer accepted);
-        gains = λ k. subst (λ (y : List Float). Gains l a (λ c. getD y c zero-float)) (sym gains-are) (gains l a surrounds (azimuth-number a i) (azimuth-size a i));
+        bits = ap accepting gains-are ∙ sym (answered-accepted (accepting (gainsOf l a)) refusing (refusalOf l a) accepted);
+        words = λ k. subst (λ (y : List Float). SurroundWords l a (λ c. getD y c zero-float)) (sym gains-are) (gains l a surrounds (azimuth-number a i) (azimuth-size a i));
       }
 
 -- how many channels there are to go over

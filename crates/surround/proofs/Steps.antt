@@ -28,7 +28,7 @@ module _ (a s t : Float) (b : Bool) (e : t ≡ placeOf a s) (n : b ≡ isNear a 
     value-is : g .value ≡ Angles.outcome cosine (wayOf a (placeOf a s)) .value
     unfolding wayOf
     value-is =
-        ap (λ (r : Answer). r .value) (p .is)
+        ap (λ (r : Answer). r .value) (p .bits)
         ∙ ap (λ (y : Float). Angles.outcome cosine y .value) (w ∙ ap (λ (z : Float). absolute (sub binary64 a z)) e)
 
     raw-is : rawOf a s ≡ notBelow (g .value)

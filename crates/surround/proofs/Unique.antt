@@ -6,4 +6,4 @@ use Rattle.channel.specs.declared.Layout.{Layout}
 use Rattle.surround.specs.Promise.{Pans}
 
 pub calculate-vbap-gains-unique : (l : Layout) (a : Float) → OneAnswer (Pans l a)
-calculate-vbap-gains-unique l a = determined-by (λ r h. h .is)
+calculate-vbap-gains-unique l a = determined-by (λ r h. h .bits)

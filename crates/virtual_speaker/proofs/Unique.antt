@@ -8,7 +8,7 @@ use Rattle.virtual_speaker.specs.Promise.{Promise, positionAnswer}
 use Rattle.virtual_speaker.specs.declared.Position.{Position}
 
 pub compute-sh-coefficients-max-re-unique : (order : ℕ) (d : Direction) → OneAnswer (Promise order d)
-compute-sh-coefficients-max-re-unique order d = determined-by (λ r h. h .is)
+compute-sh-coefficients-max-re-unique order d = determined-by (λ r h. h .bits)
 
 pub foa-position-unique : (i : ℕ) → OneAnswer (λ (r : Position). r ≡ positionAnswer i)
 foa-position-unique i = determined
