@@ -6,4 +6,4 @@ use Rattle.lists.proofs.Determined.{determined-by}
 use Rattle.demo_line.specs.Records.{Places}
 
 place-unique : (bytes : List ℕ) → OneAnswer (Places bytes)
-place-unique bytes = determined-by (λ r h. h .is)
+place-unique bytes = determined-by (λ r h. h .bits)

@@ -31,8 +31,8 @@ use Rattle.panner.proofs.Halves.{gained-number, gained-accepted}
 module _ (c : Command) (l : Layout) (g : Commanded) (G : Commands c l g) where
   pub gives-refused : (g .refusal ≡ 0 → ⊥) → Gained c l (noGains (g .refusal))
   gives-refused h = record {
-    is = ap noGains (G .refusal) ∙ sym (answered-refused (gainsPlayed c l) noGains (commandRefusal c l) (λ k. h (G .refusal ∙ k)));
-    promised = G .promised;
+    bits = ap noGains (G .refusal) ∙ sym (answered-refused (gainsPlayed c l) noGains (commandRefusal c l) (λ k. h (G .refusal ∙ k)));
+    words = G .promised;
   }
 
   pub gives-gains : g .refusal ≡ 0 → (narrow : List Float) → narrow ≡ narrowedAll (g .gains) → Gained c l (record { refusal = 0; planes = g .planes; gains = narrow })
@@ -40,8 +40,8 @@ module _ (c : Command) (l : Layout) (g : Commanded) (G : Commands c l g) where
       let accepted : commandRefusal c l ≡ 0 = sym (G .refusal) ∙ z in
       let narrow-is : narrow ≡ narrowedAll (gainsOf c l) = e ∙ ap narrowedAll (G .gains accepted) in
       record {
-        is = (λ i. record { refusal = 0; planes = G .planes accepted i; gains = narrow-is i }) ∙ sym (answered-accepted (gainsPlayed c l) noGains (commandRefusal c l) accepted);
-        promised = G .promised;
+        bits = (λ i. record { refusal = 0; planes = G .planes accepted i; gains = narrow-is i }) ∙ sym (answered-accepted (gainsPlayed c l) noGains (commandRefusal c l) accepted);
+        words = G .promised;
       }
 
 -- ---- a block
@@ -50,7 +50,7 @@ module _ (s : Shape) (input out : List Float) where
   refusal = refusalOf s (length input) (length out)
 
   refused : (n : ℕ) → (n ≡ 0 → ⊥) → refusal ≡ n → Processed s input out (record { refusal = n; samples = 0 }) out
-  refused n h e = record { is = refused-with answerOf (s .frames) (s .stride) (framesOf s input) out n refusal (sym e) h; gains = λ k. absurd (h (sym e ∙ k)) }
+  refused n h e = record { bits = refused-with answerOf (s .frames) (s .stride) (framesOf s input) out n refusal (sym e) h; words = λ k. absurd (h (sym e ∙ k)) }
 
   module _ (g : CommandGains) (G : Gained (s .command) (s .layout) g) where
     abbrev first : List Check
@@ -97,6 +97,6 @@ module _ (s : Shape) (input out : List Float) where
         pub plays : (after : List Float) → s .frames ≤ mostFrames → after ≡ withFrames out (s .stride) 0 (pannedPart (s .stride) 0 (s .frames) (min (g .planes) 16) (g .gains) input)
             → Processed s input out (record { refusal = 0; samples = s .frames }) after
         plays after h w = record {
-          is = played-with answerOf (s .frames) (s .stride) (framesOf s input) out refusal after (goes ∙ cond-false 5 _ (sym misfit-is ∙ m) ∙ cond-false 6 0 (le-ltb mostFrames (s .frames) h)) (w ∙ whole);
-          gains = λ k. G .promised accepted;
+          bits = played-with answerOf (s .frames) (s .stride) (framesOf s input) out refusal after (goes ∙ cond-false 5 _ (sym misfit-is ∙ m) ∙ cond-false 6 0 (le-ltb mostFrames (s .frames) h)) (w ∙ whole);
+          words = λ k. G .words accepted;
         }

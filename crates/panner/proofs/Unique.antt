@@ -14,7 +14,7 @@ use Rattle.panner.specs.Promise.{Block, Processed}
 
 -- what a command plays
 pub command-gains-unique : (c : Command) (l : Layout) → OneAnswer (Gained c l)
-command-gains-unique c l = determined-by (λ r h. h .is)
+command-gains-unique c l = determined-by (λ r h. h .bits)
 
 -- what the output planes hold after a part
 pub play-part-unique : (out : List Float) (stride from to planes : ℕ) (gains input : List Float) → OneAnswer (λ (r : List Float). r ≡ withFrames out stride from (pannedPart stride from to (min planes 16) gains input))
@@ -22,4 +22,4 @@ play-part-unique out stride from to planes gains input = determined
 
 -- the answer and what the output planes hold
 pub process-unique : (s : Shape) (input out : List Float) → OneAnswer (λ (r : Block). Processed s input out (r .answer) (r .out))
-process-unique s input out = determined-by (λ r h. h .is)
+process-unique s input out = determined-by (λ r h. h .bits)

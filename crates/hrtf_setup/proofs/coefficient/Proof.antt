@@ -26,7 +26,7 @@ array-read-result c = search needs
 returns : tie.Need-returns
 returns c =
     let a = c .before .before .before .before .args in
-    ap (λ (r : Weighted). getD (r .weights) (a .channel) nan) (c .before .before .compute-sh-coefficients-max-re .ensures .is)
+    ap (λ (r : Weighted). getD (r .weights) (a .channel) nan) (c .before .before .compute-sh-coefficients-max-re .ensures .bits)
     ∙ ap (λ (p : Position). getD (outcome (a .order) (p .direction) .weights) (a .channel) nan) (c .before .before .before .foa-position .ensures)
 
 returns-2 : tie.Need-returns-2
