@@ -188,7 +188,7 @@ module _ (order : ℕ) (azimuths elevations : List ℤ) (rows : ℕ) (weights : 
   ambisonic o a =
       record {
         arranges = a;
-        near = λ z s. outcome-kept order (positionOf s) .near (position-accepted order s (offered (ofOrder order) azimuths elevations rows weights 0 refl z));
+        near = λ z s. outcome-kept order (positionOf s) .words (position-accepted order s (offered (ofOrder order) azimuths elevations rows weights 0 refl z));
       }
 
   pub order-refused : (a : Arranged) → refusesOrder order ≡ true → a ≡ record { refusal = 1; speakers = 0; channels = 0 }

@@ -25,6 +25,8 @@ use Rattle.virtual_speaker.specs.Weights.{weightedFormulas}
 use Rattle.virtual_speaker.specs.Computed.{weigh, weighted}
 use Rattle.virtual_speaker.specs.Promise.{weightBits, Promise, positionOf}
 use Rattle.virtual_speaker.specs.declared.Weighted.{Weighted}
+-- the direction of a position, also of what is none
+pub use Rattle.virtual_speaker.proofs.Positions.{position-direction}
 -- the promise holds of the answer that the definition gives
 pub use Rattle.virtual_speaker.proofs.Kept.{outcome-kept}
 

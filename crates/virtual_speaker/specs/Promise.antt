@@ -30,4 +30,4 @@ abbrev pub positionOf : ℕ → Direction
 positionOf i = record { azimuth = positionAzimuth i; elevation = zero-float }
 
 abbrev pub positionAnswer : ℕ → Position
-positionAnswer i = record { refusal = missing positions i; direction = positionOf i }
+positionAnswer i = answered (missing positions i) (record { refusal = 0; direction = positionOf i }) (λ n. record { refusal = n; direction = record { azimuth = zero-float; elevation = zero-float } })
