@@ -10,7 +10,7 @@ use native.Mathlib.Nat.{zero-add}
 use native.Mathlib.Decide.{decLt}
 use native.Mathlib.Omega.{arith}
 use borrow.Author.Tests.{lt-ltb, le-ltb}
-use lib.Dec.{eqb, ltb, lit<}
+use lib.Dec.{ltb, lit<}
 use lib.IntN.{pos}
 use lib.ListN.{getD, List·getD-eq-default}
 use lib.Ieee.{Float, nan, binary64, neg, add, mul, div, sum, round, size, span, climb, units, odd, ofInt}
