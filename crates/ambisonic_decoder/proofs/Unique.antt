@@ -1,6 +1,6 @@
 -- No two answers meet the promise. Assumes nothing.
-use Rattle.refusals.specs.OneAnswer.{AllowsOneAnswer}
-use Rattle.refusals.proofs.Determined.{determined-by}
+use Rattle.lists.specs.OneAnswer.{AllowsOneAnswer}
+use Rattle.lists.proofs.Determined.{determined-by}
 use Rattle.ambisonic_decoder.proofs.process
 
 pub process-unique : AllowsOneAnswer process.ended process.Reads.Learnt

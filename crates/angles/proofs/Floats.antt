@@ -16,7 +16,8 @@ use lib.Ieee.Back.{round-whole}
 use lib.Ieee.Scale.{round-same}
 use lib.Arith.{le→nltb}
 use borrow.Author.Tests.{ltb-false}
-use Rattle.refusals.proofs.First.{goes-on, passed}
+use Rattle.refusals.proofs.First.{passed}
+use Rattle.lists.proofs.Tests.{cond-false}
 use Rattle.fractions.specs.Fraction.{Fraction, fraction, whole, magnitude, signed, number, _⊗_, Same, AtMost}
 use Rattle.fractions.proofs.Order.{same-refl, same-trans}
 use Rattle.fractions.proofs.Number.{number-neg, value-same, value-number}
@@ -46,7 +47,7 @@ inside-most s m e t = go s (inside-size limit (fin s m e) (lit< tt) t)
 -- an angle of 1080 at most in size is accepted
 pub accepted : (d : Float) → 0 < number d .over → AtMost (magnitude (number d)) (whole 1080) → refusalOf d ≡ 0
 unfolding ofInt
-accepted d h k = goes-on 3 0 (size-accepted limit d (lit< tt) h k)
+accepted d h k = cond-false 3 0 (size-accepted limit d (lit< tt) h k)
 
 pub accepted-is : (d : Float) → refusalOf d ≡ 0 → isRefused d ≡ false
 accepted-is d h = passed (isRefused d) 2 0 h .0

@@ -5,17 +5,19 @@ use Prim.Native.Nat.{ℕ, _<_}
 use lib.Dec.{T, lit<, lit≤}
 use lib.Ieee.{Float, ofInt}
 use borrow.Author.Tests.{not-false}
-use Rattle.refusals.proofs.First.{stops, goes-on}
+use Rattle.lists.proofs.Tests.{cond-true, cond-false}
+use Rattle.refusals.proofs.First.{answered-accepted, answered-by}
 use Rattle.fractions.specs.Fraction.{number, Within}
 use Rattle.fractions.proofs.Within.{within-weaken}
 use Rattle.series.specs.Sums.{Wave}
 use Rattle.series.specs.Angles.{defined}
+use Rattle.angles.specs.declared.Answer.{Answer}
 use Rattle.angles.specs.Limits.{limit, isInside}
 use Rattle.angles.specs.Computed.{turn, place, waveAt, computed}
 use Rattle.formats.specs.Floats.{zero-float}
 use Rattle.angles.specs.Promise.{isRefused, refusalOf, outcome, Promise}
 use Rattle.angles.proofs.Limits as Limits
-use Rattle.angles.proofs.Floats.{accepted-is, accepted-number, place-less}
+use Rattle.angles.proofs.Floats.{accepted-number, place-less}
 use Rattle.angles.proofs.Near.{computed-near}
 use Rattle.angles.proofs.Exact.{computed-exact}
 
@@ -25,28 +27,40 @@ unfolding ofInt
 refused-is d = Limits.refused-is limit d (lit< tt)
 
 module _ (w : Wave) (d : Float) where
+  -- the two answers of the program, by the value that it computes
+  abbrev accepting : Float → Answer
+  accepting v = record { refusal = 0; value = v }
+
+  abbrev refusing : ℕ → Answer
+  refusing n = record { refusal = n; value = zero-float }
+
+  outcome-accepted : refusalOf d ≡ 0 → outcome w d ≡ accepting (computed w d)
+  outcome-accepted = answered-accepted (accepting (computed w d)) refusing (refusalOf d)
+
   -- the value at an accepted angle
   pub value-is : refusalOf d ≡ 0 → outcome w d .value ≡ computed w d
-  value-is h = goes-on zero-float (computed w d) (accepted-is d h)
+  value-is h = ap (λ (r : Answer). r .value) (outcome-accepted h)
 
   pub outcome-kept : Promise w d (outcome w d)
   outcome-kept = record {
-    is = refl;
-    near = λ h. within-weaken (lit≤ tt) (subst (λ (v : Float). Within 50 (number v) (defined w (number d))) (sym (value-is h)) (computed-near w d (accepted-number d h)));
-    exact = λ h m. value-is h ∙ computed-exact w d (accepted-number d h) m;
+    bits = refl;
+    words = λ h. record {
+      near = within-weaken (lit≤ tt) (subst (λ (v : Float). Within 50 (number v) (defined w (number d))) (sym (value-is h)) (computed-near w d (accepted-number d h)));
+      exact = λ m. value-is h ∙ computed-exact w d (accepted-number d h) m;
+    };
   }
 
-  -- ---- the two answers of the program: b is what the test said, a the place on the turn and v the value there
+  -- ---- each keeps the promise: b is what the test said, a the place on the turn and v the value there
   pub refused-kept : (b : Bool) → b ≡ isInside limit d → not b ≡ true → Promise w d (record { refusal = 3; value = zero-float })
   refused-kept b e h =
       let r : isRefused d ≡ true = refused-is d ∙ ap not (sym e) ∙ h in
-      subst (Promise w d) (λ i. record { refusal = stops 3 0 r i; value = stops zero-float (computed w d) r i }) outcome-kept
+      subst (Promise w d) (sym (answered-by (accepting (computed w d)) refusing (refusalOf d) 3 (lit< tt) (cond-true 3 0 r))) outcome-kept
 
   pub accepted-kept : (b : Bool) (a : ℕ) (v : Float) → b ≡ isInside limit d → not b ≡ false → a ≡ place d → v ≡ waveAt w a → Promise w d (record { refusal = 0; value = v })
   unfolding computed
   accepted-kept b a v e h p q =
       let r : isRefused d ≡ false = refused-is d ∙ ap not (sym e) ∙ h in
-      subst (Promise w d) (λ i. record { refusal = goes-on 3 0 r i; value = (goes-on zero-float (computed w d) r ∙ sym (q ∙ ap (waveAt w) p)) i }) outcome-kept
+      subst (Promise w d) (outcome-accepted (cond-false 3 0 r) ∙ ap accepting (sym (q ∙ ap (waveAt w) p))) outcome-kept
 
 -- ---- what its functions ask of each other on the way
 module _ (d : Float) where

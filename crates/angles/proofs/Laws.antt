@@ -37,7 +37,7 @@ module _ (w : Wave) (d : Float) (answer : Answer) (p : Promise w d answer) where
   -- ---- nearer than promised
   pub value-near : refusalOf d ≡ 0 → Within 50 (number (answer .value)) (defined w (number d))
   value-near h =
-      subst (λ (v : Float). Within 50 (number v) (defined w (number d))) (sym (ap (λ (r : Answer). r .value) (p .is) ∙ value-is w d h)) (computed-near w d (accepted-number d h))
+      subst (λ (v : Float). Within 50 (number v) (defined w (number d))) (sym (ap (λ (r : Answer). r .value) (p .bits) ∙ value-is w d h)) (computed-near w d (accepted-number d h))
 
   -- ---- d is an angle rounded, and a the exact one
   pub value-carried : {k : ℕ} (a : Fraction) → k ≤ 49 → Within k (number d) a → AtMost (magnitude a) (whole 1079) → Approximates k definedMost (answer .value) (defined w a)

@@ -2,12 +2,12 @@
 -- 'Angles': "The program's sine and cosine must be within 2^-40 of the defined sum at every accepted angle, and exactly 0, 1 or -1 at multiples of 90." Definitions only.
 use Prim.Native.Nat.{ℕ}
 use mathlib.Core.Path.{_≡_}
-use mathlib.Core.Bool.{Bool, cond}
+use mathlib.Core.Bool.{Bool}
 use mathlib.Core.List.{List, [], _∷_}
 use lib.Dec.{T}
 use lib.ListN.{getD}
 use lib.Ieee.{Float}
-use Rattle.refusals.specs.Refusals.{firstOf, _when_}
+use Rattle.refusals.specs.Refusals.{firstOf, _when_, answered}
 use Rattle.formats.specs.Floats.{zero-float, one-float, minus-one-float}
 use Rattle.fractions.specs.Fraction.{number, Within}
 use Rattle.series.specs.Sums.{Wave, sine, cosine}
@@ -36,10 +36,14 @@ exactly sine = zero-float ∷ one-float ∷ zero-float ∷ minus-one-float ∷ [
 exactly cosine = one-float ∷ zero-float ∷ minus-one-float ∷ zero-float ∷ []
 
 abbrev pub outcome : Wave → Float → Answer
-outcome w d = record { refusal = refusalOf d; value = cond (isRefused d) zero-float (computed w d) }
+outcome w d = answered (refusalOf d) (record { refusal = 0; value = computed w d }) (λ n. record { refusal = n; value = zero-float })
 
--- every bit of the answer; and of the value at an accepted angle how near it is to the defined one, being a finite number, and what it is at a multiple of 90
+-- of the value at an accepted angle: how near it is to the defined one, being a finite number, and what it is at a multiple of 90
+pub record AngleWords (w : Wave) (d value : Float) : Type 0 where
+  pub near : Within angleBits (number value) (defined w (number d))
+  pub exact : T (isMultiple (number d)) → value ≡ getD (exactly w) (quarters (number d)) zero-float
+
+-- every bit of the answer, and document 01's words
 pub record Promise (w : Wave) (d : Float) (answer : Answer) : Type 0 where
-  pub is : answer ≡ outcome w d
-  pub near : refusalOf d ≡ 0 → Within angleBits (number (answer .value)) (defined w (number d))
-  pub exact : refusalOf d ≡ 0 → T (isMultiple (number d)) → answer .value ≡ getD (exactly w) (quarters (number d)) zero-float
+  pub bits : answer ≡ outcome w d
+  pub words : refusalOf d ≡ 0 → AngleWords w d (answer .value)

@@ -1,6 +1,6 @@
 -- No two answers meet one promise. Assumes nothing.
-use Rattle.refusals.specs.OneAnswer.{AllowsOneAnswer}
-use Rattle.refusals.proofs.Determined.{determined-by}
+use Rattle.lists.specs.OneAnswer.{AllowsOneAnswer}
+use Rattle.lists.proofs.Determined.{determined-by}
 use Rattle.bank_check.proofs.check_start
 use Rattle.bank_check.proofs.check_file
 use Rattle.bank_check.proofs.check_version

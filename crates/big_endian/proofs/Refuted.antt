@@ -19,12 +19,12 @@ use Rattle.big_endian.specs.Fields.{Field, fieldAt, withField, signedAt,
 -- the last byte weighs most: 01 00 would be 1
 little-endian : Field (1 ∷ 0 ∷ []) 0 2 1 → ⊥
 unfolding fieldAt valueOf
-little-endian p = let e : _≡_ {A = ℕ} 1 256 = p .value in omega arith
+little-endian p = let e : _≡_ {A = ℕ} 1 256 = p .bits in omega arith
 
 -- a field of nine bytes is read
 nine-bytes : Field (0 ∷ 0 ∷ 0 ∷ 0 ∷ 0 ∷ 0 ∷ 0 ∷ 0 ∷ 7 ∷ []) 0 9 7 → ⊥
 unfolding fieldAt
-nine-bytes p = let e : _≡_ {A = ℕ} 7 0 = p .value in omega arith
+nine-bytes p = let e : _≡_ {A = ℕ} 7 0 = p .bits in omega arith
 
 -- the first bit is a sign before a magnitude: FFFF would be -32767, and is -1
 sign-and-magnitude : negsuc 32766 ≡ signedAt (255 ∷ 255 ∷ []) 0 → ⊥

@@ -46,5 +46,5 @@ withDouble s at x = withField s at 8 (toBits binary64 x)
 
 -- what reading a field answers
 pub record Field (s : List ℕ) (at count : ℕ) (r : ℕ) : Type 0 where
-  pub value : r ≡ fieldAt s at count
+  pub bits : r ≡ fieldAt s at count
   pub bound : r < 256 ^ count

@@ -3,7 +3,7 @@ use mathlib.Core.Path.{_≡_, refl, sym, ap, _∙_}
 use mathlib.Core.Bool.{Bool, true, false, cond, false≢true}
 use Prim.Native.Nat.{ℕ, suc, _≤_, _<_}
 use lib.Dec.{lit<, lit≤}
-use Rattle.refusals.proofs.First.{goes-on, passed}
+use Rattle.refusals.proofs.First.{passed, told-is}
 use Rattle.channel.specs.Layouts.{countedBy, channelsOf, uncountable, counted, surround}
 use Rattle.channel.specs.declared.Layout.{Layout}
 use Rattle.channel.specs.declared.Layout.the-variants.{Mono, Stereo, Surround51, Surround71, Custom}
@@ -18,10 +18,12 @@ layout-counted l n b e h = ap (λ (t : Bool). countedBy 2 t n) (sym h) ∙ ap (�
 -- by whether it was refused, with a number above 0
 module _ (r : ℕ) (refused : Bool) (n : ℕ) (c : Counted) (e : c ≡ countedBy (suc r) refused n) where
   refusal-is : c .refusal ≡ cond refused (suc r) 0
-  refusal-is = ap (λ (x : Counted). x .refusal) e
+  refusal-is =
+      ap (λ (x : Counted). x .refusal) e
+      ∙ told-is (record { refusal = 0; channels = n }) (λ k. record { refusal = k; channels = 0 }) (λ (x : Counted). x .refusal) refl (cond refused (suc r) 0) refl
 
   pub well : c .refusal ≡ 0 → (refused ≡ false) × (c .channels ≡ n)
-  well z = let h = passed refused r 0 (sym refusal-is ∙ z) .0 in (h, ap (λ (x : Counted). x .channels) e ∙ goes-on 0 n h)
+  well z = let h = passed refused r 0 (sym refusal-is ∙ z) .0 in (h, ap (λ (x : Counted). x .channels) (e ∙ ap (λ (b : Bool). countedBy (suc r) b n) h))
 
   pub ill : (c .refusal ≡ 0 → ⊥) → refused ≡ true
   ill z = go refused refusal-is

@@ -1,10 +1,10 @@
 -- The tables of angles: every entry lies from -180 to 180, by one test over each table, so that an entry and ten times an entry are i32s. Assumes nothing.
-use mathlib.Core.Path.{_≡_, sym, ap, _∙_, subst}
-use mathlib.Core.Bool.{Bool}
+use mathlib.Core.Path.{_≡_, refl, sym, ap, _∙_, subst}
+use mathlib.Core.Bool.{Bool, cond}
 use mathlib.Core.List.{List}
 use Prim.Native.Nat.{ℕ, suc, _+_, _*_, _≤_, _<_}
 use native.Mathlib.Omega.{arith}
-use borrow.Author.Tests.{lt-leb, le-leb}
+use borrow.Author.Tests.{leb-true, lt-leb, le-leb}
 use lib.Dec.{T, leb, leb→le}
 use lib.IntN.{ℤ, pos, negsuc, _*ℤ_, negℤ}
 use lib.ListN.{length, List·getD-eq-default}
@@ -14,8 +14,9 @@ use mir.Val.{SFits, toZ, ofZ}
 use mir.Facts.{sfits-widen, toZ-ofZ}
 use Rattle.lists.specs.Tables.{every}
 use Rattle.lists.proofs.Every.{every-holds}
-use Rattle.refusals.proofs.First.{stops, goes-on}
-use Rattle.formats.specs.Floats.{float}
+use Rattle.lists.proofs.Tests.{cond-true, cond-false, by-test}
+use Rattle.refusals.specs.Refusals.{answered}
+use Rattle.formats.specs.Floats.{zero-float, float}
 use Rattle.channel.specs.Layouts.{speakers, positions, degreesAt, missing, degreesOf}
 use Rattle.channel.specs.declared.Layout.{Layout}
 use Rattle.channel.specs.declared.Layout.the-variants.{Mono, Stereo, Surround51, Surround71, Custom}
@@ -65,10 +66,29 @@ module _ (table : List ℤ) (i : ℕ) where
   entryOf = record { refusal = missing table i; degrees = degreesAt table i }
 
   pub entry-there : (z : ℤ) → i < length table → z ≡ degreesAt table i → _≡_ {A = Entry} (record { refusal = 0; degrees = z }) entryOf
-  entry-there z h e = λ k. record { refusal = sym (goes-on 2 0 (lt-leb (length table) i h)) k; degrees = e k }
+  entry-there z h e = λ k. record { refusal = sym (cond-false 2 0 (lt-leb (length table) i h)) k; degrees = e k }
 
   pub entry-missing : length table ≤ i → _≡_ {A = Entry} (record { refusal = 2; degrees = pos 0 }) entryOf
-  entry-missing h = λ k. record { refusal = sym (stops 2 0 (le-leb (length table) i h)) k; degrees = sym (List·getD-eq-default table (pos 0) h) k }
+  entry-missing h = λ k. record { refusal = sym (cond-true 2 0 (le-leb (length table) i h)) k; degrees = sym (List·getD-eq-default table (pos 0) h) k }
+
+  -- ---- what is answered is made of the entry, since beyond the end of a table its entry is 0
+  abbrev degreesAnswered : Angle
+  degreesAnswered = answered (missing table i) (record { refusal = 0; degrees = float (degreesAt table i) }) (λ n. record { refusal = n; degrees = zero-float })
+
+  abbrev tenthsAnswered : Tenths
+  tenthsAnswered = answered (missing table i) (record { refusal = 0; tenths = degreesAt table i *ℤ pos 10 }) (λ n. record { refusal = n; tenths = pos 0 })
+
+  entry-answered : {A : Type 0} (made : ℕ → ℤ → A) → answered (missing table i) (made 0 (degreesAt table i)) (λ n. made n (pos 0)) ≡ made (missing table i) (degreesAt table i)
+  entry-answered {A} made =
+      by-test (λ (b : Bool). answered (cond b 2 0) (made 0 (degreesAt table i)) (λ n. made n (pos 0)) ≡ made (cond b 2 0) (degreesAt table i)) (leb (length table) i)
+      (λ h. ap (made 2) (sym (List·getD-eq-default table (pos 0) (leb-true (length table) i h)))) (λ h. refl)
+
+  pub degrees-answered : degreesAnswered ≡ record { refusal = missing table i; degrees = float (degreesAt table i) }
+  unfolding ofInt
+  degrees-answered = entry-answered (λ n z. record { refusal = n; degrees = float z })
+
+  pub tenths-answered : tenthsAnswered ≡ record { refusal = missing table i; tenths = degreesAt table i *ℤ pos 10 }
+  tenths-answered = entry-answered (λ n z. record { refusal = n; tenths = z *ℤ pos 10 })
 
   -- ---- as an f64 and in tenths, of an entry that was read
   module _ (turned-there : T (turned (degreesAt table i))) (r : Entry) (e : r ≡ entryOf) where
@@ -81,11 +101,12 @@ module _ (table : List ℤ) (i : ℕ) where
     refusal-is : r .refusal ≡ missing table i
     refusal-is = ap (λ (x : Entry). x .refusal) e
 
-    pub as-float : _≡_ {A = Angle} (record { refusal = r .refusal; degrees = ofInt binary64 (again (r .degrees)) }) (record { refusal = missing table i; degrees = float (degreesAt table i) })
-    as-float = λ k. record { refusal = refusal-is k; degrees = float (read-back k) }
+    pub as-float : record { refusal = r .refusal; degrees = ofInt binary64 (again (r .degrees)) } ≡ degreesAnswered
+    as-float = (λ k. record { refusal = refusal-is k; degrees = float (read-back k) }) ∙ sym degrees-answered
 
     pub tenths-held : SFits w32 (again (r .degrees) *ℤ pos 10)
     tenths-held = subst (λ (x : ℤ). SFits w32 (x *ℤ pos 10)) (sym read-back) (tenths-fit (degreesAt table i) turned-there)
 
-    pub in-tenths : _≡_ {A = Tenths} (record { refusal = r .refusal; tenths = again (again (r .degrees) *ℤ pos 10) }) (record { refusal = missing table i; tenths = degreesAt table i *ℤ pos 10 })
-    in-tenths = λ k. record { refusal = refusal-is k; tenths = (ap (λ (x : ℤ). again (x *ℤ pos 10)) read-back ∙ toZ-ofZ {w = w32} (tenths-fit (degreesAt table i) turned-there)) k }
+    pub in-tenths : record { refusal = r .refusal; tenths = again (again (r .degrees) *ℤ pos 10) } ≡ tenthsAnswered
+    in-tenths =
+        (λ k. record { refusal = refusal-is k; tenths = (ap (λ (x : ℤ). again (x *ℤ pos 10)) read-back ∙ toZ-ofZ {w = w32} (tenths-fit (degreesAt table i) turned-there)) k }) ∙ sym tenths-answered

@@ -1,6 +1,6 @@
 -- No two answers meet a promise. Assumes nothing.
-use Rattle.refusals.specs.OneAnswer.{AllowsOneAnswer}
-use Rattle.refusals.proofs.Determined.{determined-by}
+use Rattle.lists.specs.OneAnswer.{AllowsOneAnswer}
+use Rattle.lists.proofs.Determined.{determined-by}
 use Rattle.channel.proofs.channel_count
 use Rattle.channel.proofs.refuses_order
 use Rattle.channel.proofs.ambisonic_channel_count

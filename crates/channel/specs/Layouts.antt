@@ -7,8 +7,8 @@ use lib.Dec.{eqb, leb}
 use lib.IntN.{ℤ, pos, negsuc, _*ℤ_}
 use lib.ListN.{length, getD}
 use lib.Ieee.{Float}
-use Rattle.formats.specs.Floats.{float}
-use Rattle.refusals.specs.Refusals.{firstOf, _when_, outside}
+use Rattle.formats.specs.Floats.{zero-float, float}
+use Rattle.refusals.specs.Refusals.{firstOf, _when_, answered, outside}
 use Rattle.channel.specs.declared.Layout.{Layout}
 use Rattle.channel.specs.declared.Layout.the-variants.{Mono, Stereo, Surround51, Surround71, Custom}
 use Rattle.channel.specs.declared.Counted.{Counted}
@@ -28,7 +28,7 @@ uncountable n = outside n 16
 
 -- n channels; or, where they are refused, the refusal and none
 abbrev pub countedBy : ℕ → Bool → ℕ → Counted
-countedBy refusal refused n = record { refusal = firstOf (refusal when refused ∷ []); channels = cond refused 0 n }
+countedBy refusal refused n = answered (firstOf (refusal when refused ∷ [])) (record { refusal = 0; channels = n }) (λ k. record { refusal = k; channels = 0 })
 
 abbrev pub counted : Layout → Counted
 counted l = countedBy 2 (uncountable (channelsOf l)) (channelsOf l)
@@ -79,10 +79,10 @@ abbrev pub tenthsOf : Layout → ℕ → ℤ
 tenthsOf l c = degreesOf l c *ℤ pos 10
 
 abbrev pub azimuthAnswer : Layout → ℕ → Angle
-azimuthAnswer l c = record { refusal = missing (speakers l) c; degrees = azimuthOf l c }
+azimuthAnswer l c = answered (missing (speakers l) c) (record { refusal = 0; degrees = azimuthOf l c }) (λ n. record { refusal = n; degrees = zero-float })
 
 abbrev pub tenthsAnswer : Layout → ℕ → Tenths
-tenthsAnswer l c = record { refusal = missing (speakers l) c; tenths = tenthsOf l c }
+tenthsAnswer l c = answered (missing (speakers l) c) (record { refusal = 0; tenths = tenthsOf l c }) (λ n. record { refusal = n; tenths = pos 0 })
 
 -- virtual speaker i: the same
 abbrev pub positionAzimuth : ℕ → Float
@@ -92,7 +92,7 @@ abbrev pub positionTenths : ℕ → ℤ
 positionTenths i = degreesAt positions i *ℤ pos 10
 
 abbrev pub positionAzimuthAnswer : ℕ → Angle
-positionAzimuthAnswer i = record { refusal = missing positions i; degrees = positionAzimuth i }
+positionAzimuthAnswer i = answered (missing positions i) (record { refusal = 0; degrees = positionAzimuth i }) (λ n. record { refusal = n; degrees = zero-float })
 
 abbrev pub positionTenthsAnswer : ℕ → Tenths
-positionTenthsAnswer i = record { refusal = missing positions i; tenths = positionTenths i }
+positionTenthsAnswer i = answered (missing positions i) (record { refusal = 0; tenths = positionTenths i }) (λ n. record { refusal = n; tenths = pos 0 })

@@ -1,7 +1,7 @@
 -- No two answers meet one promise. Assumes nothing.
 use mathlib.Core.Path.{refl}
-use Rattle.refusals.specs.OneAnswer.{AllowsOneAnswer, States}
-use Rattle.refusals.proofs.Determined.{determined-by}
+use Rattle.lists.specs.OneAnswer.{AllowsOneAnswer, States}
+use Rattle.lists.proofs.Determined.{determined-by}
 use Rattle.cues.proofs.judged
 use Rattle.cues.proofs.holding
 

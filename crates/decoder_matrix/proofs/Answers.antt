@@ -9,15 +9,15 @@ use borrow.Author.Tests.{eqb-true}
 use lib.Dec.{eqb}
 use lib.ListN.{length, getD, take, length-take, length-map}
 use lib.Ieee.{Float, nan, binary64, mul}
-use Rattle.refusals.proofs.First.{answered-accepted}
 use Rattle.refusals.proofs.Chains.{none-holds}
 use Rattle.rows.specs.Rows.{computedBy}
 use Rattle.fractions.specs.Fraction.{whole, number}
 use Rattle.fractions.specs.Squares.{BySquares}
 use Rattle.lists.specs.Tables.{tab, row}
 use Rattle.lists.proofs.Tables.{length-tab, getD-tab}
-use Rattle.planes.specs.Normalization.{inverseRoot}
+use Rattle.numbers.specs.Normalization.{inverseRoot}
 use Rattle.rows.specs.Steps.{putRows}
+use Rattle.rows.proofs.Answers.{computed-weights}
 use Rattle.rows.proofs.Joined.{AllOf, put-joined, row-found}
 use Rattle.channel.specs.declared.Layout.{Layout}
 use Rattle.channel.specs.Layouts.{channelsOf, uncountable}
@@ -62,12 +62,12 @@ module _ (order : ℕ) (l : Layout) (weights : List Float) where
       row-found k (tab 0 n f) i [] (all-rows order l n k (few-channels order o .1) 0 n) (subst (λ (m : ℕ). i < m) (sym (length-tab 0 n f)) h) ∙ getD-tab 0 n f i [] h ∙ ap f (zero-add i)
 
   pub weights-are : refusalOf order l weights ≡ 0 → outcome order l weights .weights ≡ matrixOf order l
-  weights-are z = answered-accepted (matrixOf order l) (λ n. weights) (refusalOf order l weights) z
+  weights-are = computed-weights (matrixOf order l) weights (refusalOf order l weights)
 
   kept : Computes order l weights (outcome order l weights)
   kept = record {
-    is = refl;
-    near = λ z i c h k.
+    bits = refl;
+    words = λ z i c h k.
         let off = none-holds (checksOf order l weights) tt z in
         subst (λ (xs : List Float). BySquares matrixBits (number (getD xs c nan)) (formulaAt order l i c) (whole (channelsOf l)))
         (sym (ap (row (channelsOfOrder order) i) (weights-are z) ∙ row-is i (off .0) h)) (near order l (off .0) (off .1 .0) i h c k (few-channels order (off .0) .1));

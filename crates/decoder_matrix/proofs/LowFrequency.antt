@@ -30,6 +30,6 @@ in-front (Custom n) i e = absurd (true≢false (sym e))
 pub low-frequency-row : (order : ℕ) (l : Layout) (w : List Float) (r : Computed) → Computes order l w r → refusalOf order l w ≡ 0 → (i : ℕ) → lowFrequency l i ≡ true
     → row (channelsOfOrder order) i (r .weights) ≡ rowTowards order (channelsOf l) (channelsOfOrder order) (float (pos 0))
 low-frequency-row order l w r p z i e =
-    ap (row (channelsOfOrder order) i) (ap (λ (c : Computed). c .weights) (p .is) ∙ weights-are order l w z)
+    ap (row (channelsOfOrder order) i) (ap (λ (c : Computed). c .weights) (p .bits) ∙ weights-are order l w z)
     ∙ row-is order l w i (none-holds (checksOf order l w) tt z .0) (in-front l i e .0)
     ∙ ap (rowTowards order (channelsOf l) (channelsOfOrder order)) (in-front l i e .1)

@@ -22,7 +22,7 @@ use Rattle.numbers.specs.Computed.{rootOf}
 use Rattle.numbers.proofs.Close.{root-close, root-fits}
 use Rattle.lists.specs.Tables.{tab, any}
 use Rattle.formats.specs.Floats.{float}
-use Rattle.planes.specs.Normalization.{inverseRoot}
+use Rattle.numbers.specs.Normalization.{inverseRoot}
 use Rattle.checks.proofs.Checks.{at-each}
 use Rattle.rows.specs.Rows.{scaled}
 use Rattle.channel.specs.declared.Layout.{Layout}

@@ -15,7 +15,7 @@ use Rattle.numbers.specs.Computed.{rootOf, wholeRoot}
 use Rattle.lists.specs.Tables.{row}
 use Rattle.formats.specs.Floats.{zero-float, float}
 use Rattle.refusals.proofs.Chains.{none-holds}
-use Rattle.planes.specs.Normalization.{inverseRoot}
+use Rattle.numbers.specs.Normalization.{inverseRoot}
 use Rattle.channel.specs.declared.Layout.{Layout}
 use Rattle.channel.specs.declared.Layout.the-variants.{Mono, Stereo, Surround51, Surround71, Custom}
 use Rattle.channel.specs.Layouts.{channelsOf, surround}
@@ -24,7 +24,8 @@ use Rattle.channel.proofs.Orders.{by-order}
 use Rattle.harmonics.specs.Formulas.{formulasOver}
 use Rattle.harmonics.specs.Computed.{upTo}
 use Rattle.angles.specs.Limits.{isInside, refusesAngle}
-use Rattle.decoder_matrix.specs.Matrix.{rowTowards, formulaAt}
+use Rattle.rows.specs.Rows.{computedBy}
+use Rattle.decoder_matrix.specs.Matrix.{rowTowards, matrixOf, formulaAt}
 use Rattle.decoder_matrix.specs.Promise.{matrixBits, Computed, checksOf, refusalOf, Computes}
 use Rattle.decoder_matrix.proofs.LowFrequency.{low-frequency-row}
 
@@ -47,7 +48,7 @@ low-frequency-silent order l w r p z e h =
     ∙ ap positive h)
 
 pub refuses-always : (w : List Float) → length w ≡ 24 → (r : Computed) → Computes 1 Surround51 w r → r .refusal ≡ 5 → ⊥
-refuses-always w long r p h = no (sym h ∙ ap (λ (c : Computed). c .refusal) (p .is) ∙ ap (λ (n : ℕ). cond (not (eqb n 24)) 5 0) long)
+refuses-always w long r p h = no (sym h ∙ ap (λ (c : Computed). c .refusal) (p .bits ∙ ap (λ (n : ℕ). computedBy (cond (not (eqb n 24)) 5 0) (matrixOf 1 Surround51) w) long))
   where
     no : _≡_ {A = ℕ} 5 0 → ⊥
     no h = omega arith
@@ -56,7 +57,7 @@ refuses-always w long r p h = no (sym h ∙ ap (λ (c : Computed). c .refusal) (
 module _ (l : Layout) (w : List Float) (r : Computed) (p : Computes 1 l w r) (x : Float) (h : getD (row 4 0 (r .weights)) 0 nan ≡ x) where
   -- it is within document 01's bound of the harmonic, 1, over the root of n
   weighs : refusalOf 1 l w ≡ 0 → 0 < channelsOf l → BySquares matrixBits (number x) (formulaAt 1 l 0 0) (whole (channelsOf l))
-  weighs z some = subst (λ (y : Float). BySquares matrixBits (number y) (formulaAt 1 l 0 0) (whole (channelsOf l))) h (p .near z 0 0 some (lit< tt))
+  weighs z some = subst (λ (y : Float). BySquares matrixBits (number y) (formulaAt 1 l 0 0) (whole (channelsOf l))) h (p .words z 0 0 some (lit< tt))
 
 -- 1/n for 1/root(n): a weight of 1/2 for two speakers
 pub over-n : (w : List Float) → length w ≡ 8 → (r : Computed) → Computes 1 Stereo w r → getD (row 4 0 (r .weights)) 0 nan ≡ fin false 1 (negsuc 0) → ⊥

@@ -6,7 +6,7 @@ use mathlib.Core.Bool.{Bool, true, false, not, cond}
 use borrow.Author.Tests.{eqb-true, not-false}
 use lib.IntN.{pos}
 use lib.Ieee.{round, ofInt, sub, mul, div, lt}
-use Rattle.refusals.proofs.First.{stops}
+use Rattle.lists.proofs.Tests.{cond-true}
 use Rattle.fractions.specs.Fraction.{number, whole, _⊖_, Same}
 use Rattle.lists.specs.Tables.{tab, any}
 use Rattle.checks.proofs.Checks.{at-each}
@@ -25,4 +25,4 @@ pub turned-exactly : (n i : ℕ) → 1 ≤ n → n ≤ 16 → i < n → lt (floa
 unfolding exact-at
 turned-exactly n i h m l t =
     let e = not-false (exact-at n i) (at-each 0 n (λ i. not (exact-at n i)) (at-each 1 16 (λ n. any (tab 0 n (λ i. not (exact-at n i)))) all-exact n h (omega arith)) i zero-le (omega arith)) in
-    eqb-true _ _ (sym (stops _ _ t) ∙ e)
+    eqb-true _ _ (sym (cond-true _ _ t) ∙ e)

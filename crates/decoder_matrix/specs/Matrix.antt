@@ -5,7 +5,7 @@ use lib.ListN.{getD, take}
 use lib.Ieee.{Float}
 use Rattle.fractions.specs.Fraction.{Fraction, whole, number}
 use Rattle.lists.specs.Tables.{tab}
-use Rattle.planes.specs.Normalization.{inverseRoot}
+use Rattle.numbers.specs.Normalization.{inverseRoot}
 use Rattle.rows.specs.Rows.{scaled}
 use Rattle.channel.specs.declared.Layout.{Layout}
 use Rattle.channel.specs.Layouts.{channelsOf}

@@ -33,6 +33,6 @@ outcome order l weights = computedBy (refusalOf order l weights) (matrixOf order
 
 -- every bit; and of each weight of an accepted matrix, that of channel c in the row of speaker i, how near it is to the harmonic over the root of n
 pub record Computes (order : ℕ) (l : Layout) (weights : List Float) (r : Computed) : Type 0 where
-  pub is : r ≡ outcome order l weights
-  pub near : refusalOf order l weights ≡ 0 → (i c : ℕ) → i < channelsOf l → c < channelsOfOrder order
+  pub bits : r ≡ outcome order l weights
+  pub words : refusalOf order l weights ≡ 0 → (i c : ℕ) → i < channelsOf l → c < channelsOfOrder order
       → BySquares matrixBits (number (getD (row (channelsOfOrder order) i (r .weights)) c nan)) (formulaAt order l i c) (whole (channelsOf l))

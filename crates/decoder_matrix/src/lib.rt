@@ -76,7 +76,7 @@ fn put_speakers(order: usize, layout: Layout, n: u32, channels: usize, weights: 
     requires { ⌜ (n ≤ 16) × (channels ≤ 16) ⌝ }
     ensures { λ _. ⌜ now (weights .exit) ≡ putRows channels (now (weights .entry)) 0 (rowsBy order layout n channels) ⌝ }
 {
-    let inverse = planes::inverse_root(n);
+    let inverse = numbers::inverse_root(n);
     let scale = inverse.value;
     let mut at = 0;
     let mut i = 0;

@@ -45,10 +45,10 @@ module _ (bytes : List ℕ) where
   refusing n = record { refusal = n; line = replicate 768 0 }
 
   pub refused-is : (r : Placed) → Places bytes r → (refusalAt bytes ≡ 0 → ⊥) → r ≡ refusing (refusalAt bytes)
-  refused-is r p h = p .is ∙ answered-refused playing refusing (refusalAt bytes) h
+  refused-is r p h = p .bits ∙ answered-refused playing refusing (refusalAt bytes) h
 
   pub played-is : (r : Placed) → Places bytes r → refusalAt bytes ≡ 0 → r ≡ playing
-  played-is r p z = p .is ∙ answered-accepted playing refusing (refusalAt bytes) z
+  played-is r p z = p .bits ∙ answered-accepted playing refusing (refusalAt bytes) z
 
 -- ---- what the panner answers to what was read of them, over planes that are lent
 module _ (bytes : List ℕ) (azimuth : Float) (voice out after : List Float) (answer : Panned)
@@ -68,14 +68,14 @@ module _ (bytes : List ℕ) (azimuth : Float) (voice out after : List Float) (an
 
   number : answer .refusal ≡ refusalAt bytes
   number =
-      ap (λ (b : Block). b .answer .refusal) (promise .is)
+      ap (λ (b : Block). b .answer .refusal) (promise .bits)
       ∙ block-refusal answerOf 32 32 (frames bytes) out (λ (a : Panned). a .refusal) (λ n m. refl) refusal
       ∙ azimuth-alone
 
   pub place-refused : (answer .refusal ≡ 0 → ⊥) → Places bytes (refusing bytes (answer .refusal))
   place-refused h =
       let same = answered-refused (playing bytes) (refusing bytes) (refusalAt bytes) (λ z. h (number ∙ z)) in
-      record { is = ap (refusing bytes) number ∙ sym same; gains = λ z. promise .gains (azimuth-alone ∙ z) }
+      record { bits = ap (refusing bytes) number ∙ sym same; words = λ z. promise .words (azimuth-alone ∙ z) }
 
   module _ (z : answer .refusal ≡ 0) where
     accepted : refusalAt bytes ≡ 0
@@ -84,7 +84,7 @@ module _ (bytes : List ℕ) (azimuth : Float) (voice out after : List Float) (an
     put : after ≡ withFrames out 32 0 (frames bytes)
     put =
         let same = block-accepted answerOf 32 32 (frames bytes) out refusal (azimuth-alone ∙ accepted) in
-        ap (λ (b : Block). b .out) (promise .is ∙ same)
+        ap (λ (b : Block). b .out) (promise .bits ∙ same)
 
     read : Planes.framesOf after 32 6 32 ≡ frames bytes
     read =
@@ -97,6 +97,6 @@ module _ (bytes : List ℕ) (azimuth : Float) (voice out after : List Float) (an
         let line-is = e ∙ ap (flatMap floatBytes) read in
         let same = answered-accepted (playing bytes) (refusing bytes) (refusalAt bytes) accepted in
         record {
-          is = (λ j. record { refusal = 0; line = line-is j }) ∙ sym same;
-          gains = λ k. promise .gains (azimuth-alone ∙ k);
+          bits = (λ j. record { refusal = 0; line = line-is j }) ∙ sym same;
+          words = λ k. promise .words (azimuth-alone ∙ k);
         }

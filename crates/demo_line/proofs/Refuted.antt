@@ -1,5 +1,5 @@
 -- Wrong answers to a record, each held against the promise. Assumes nothing.
-use mathlib.Core.Path.{_≡_, refl, ap, _∙_}
+use mathlib.Core.Path.{_≡_, refl, sym, ap, _∙_}
 use mathlib.Core.Bool.{Bool, true}
 use mathlib.Core.List.{List, [], _∷_, _++_, flatMap}
 use Prim.Native.Nat.{ℕ}
@@ -16,6 +16,7 @@ use Rattle.big_endian.specs.Lists.{strided, fieldBytes, floatBytes, doubleBytes
 use Rattle.channel.specs.declared.Layout.the-variants.{Surround51}
 use Rattle.surround.specs.declared.SurroundGains.{SurroundGains}
 use Rattle.surround.specs.Promise.{outcome}
+use Rattle.surround.proofs.Laws.{refusal-is}
 use Rattle.surround.proofs.Drill.{at-120}
 use Rattle.panner.specs.Commands.{noAngle}
 use Rattle.panner.specs.Blocks.{narrowedAll, pannedFrames}
@@ -54,7 +55,7 @@ ls-first : (line : List ℕ) → Places bytes120 (record { refusal = 0; line = l
 unfolding fieldBytes flatMap bytesOf toBits rounded round mul
 ls-first line p =
     let accepted : refusalAt bytes120 ≡ 0 =
-    ap (λ (x : Float). outcome Surround51 x .refusal) azimuth-is ∙ ap (λ (g : SurroundGains). g .refusal) at-120 in
+    sym (refusal-is Surround51 (doubleAt bytes120 0)) ∙ ap (λ (x : Float). outcome Surround51 x .refusal) azimuth-is ∙ ap (λ (g : SurroundGains). g .refusal) at-120 in
     ap (λ (r : Placed). getD (r .line) 16 0) (played-is bytes120 _ p accepted)
     ∙ (λ j. ls-byte (outcome Surround51 (azimuth-is j) .gains) (voice-is j))
     ∙ ap (λ (g : SurroundGains). ls-byte (g .gains) voice) at-120

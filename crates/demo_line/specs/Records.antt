@@ -39,5 +39,5 @@ placedAt bytes =
 
 -- all that is handed back; and that the gains played are those promised
 pub record Places (bytes : List ℕ) (answer : Placed) : Type 0 where
-  pub is : answer ≡ placedAt bytes
-  pub gains : refusalAt bytes ≡ 0 → Promised (commandAt bytes) Surround51 (gainsOf (commandAt bytes) Surround51)
+  pub bits : answer ≡ placedAt bytes
+  pub words : refusalAt bytes ≡ 0 → Promised (commandAt bytes) Surround51 (gainsOf (commandAt bytes) Surround51)

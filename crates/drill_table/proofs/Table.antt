@@ -17,11 +17,11 @@ use Rattle.drill_table.specs.Table.{DrillTable}
 -- the roots of 4 and 2, whose floats are computed
 four : (r : Rooted) → Root (float (pos 4)) r → r ≡ record { refusal = 0; value = float (pos 2) }
 unfolding ofInt
-four r p = p .answer ∙ root-four
+four r p = p .bits ∙ root-four
 
 two : (r : Rooted) → Root (float (pos 2)) r → (r .refusal ≡ 0) × (toBits binary64 (r .value) ≡ 0x3FF6A09E667F3BCD)
 unfolding ofInt
-two r p = (p .nearest tt .0, ap (λ (a : Rooted). toBits binary64 (a .value)) (p .answer) ∙ root-two)
+two r p = (p .words .nearest tt .0, ap (λ (a : Rooted). toBits binary64 (a .value)) (p .bits) ∙ root-two)
 
 pub drill-table : DrillTable
 drill-table = record {

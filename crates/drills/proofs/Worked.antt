@@ -15,7 +15,7 @@ use Rattle.series.specs.Angles.{turned}
 use Rattle.angles.specs.Computed.{units as units-of, cut, place, short, times, radians, nesting, nest, rounded, sineAt, cosineAt, computed}
 use Rattle.angles.specs.Limits.{isInside, refusesAngle}
 use Rattle.planes.specs.Sums.{mixed}
-use Rattle.planes.specs.Normalization.{inverseRoot}
+use Rattle.numbers.specs.Normalization.{inverseRoot}
 use Rattle.harmonics.specs.Computed.{sin, cos, wavesOf, upTo}
 use Rattle.harmonics.specs.Drill.{at}
 use Rattle.cues.specs.declared.Cue.{Cue}

@@ -7,9 +7,10 @@ use native.Mathlib.Omega.{arith}
 use borrow.Author.Tests.{eq-eqb, ne-eqb}
 use lib.ListN.{length}
 use lib.Ieee.{Float}
+use Rattle.lists.proofs.Tests.{cond-true, cond-false}
 use Rattle.io.specs.Counts.{Counts}
 use Rattle.refusals.specs.Refusals.{answered}
-use Rattle.refusals.proofs.First.{stops, goes-on, answered-accepted, answered-refused, answered-by}
+use Rattle.refusals.proofs.First.{answered-accepted, answered-refused, answered-by}
 use Rattle.history.specs.Setup.{Setup}
 use Rattle.wire.specs.Line.{framesLine, refusedLine, refusedAtLine}
 use Rattle.wire.specs.Promises.{LineGiven, Lined}
@@ -26,10 +27,10 @@ use Rattle.files.proofs.Parts.{counts}
 
 -- bytes that are left are a part frame, and where none are left the end is the one that is given
 pub rest-refused : (e : Ended) (rest : ℕ) → (rest ≡ 0 → ⊥) → partFrame ≡ answered (restRefusal rest) e (λ n. partFrame)
-rest-refused e rest some = answered-by e (λ n. partFrame) (restRefusal rest) 9 (lit< tt) (stops _ _ (ap not (ne-eqb rest 0 some)))
+rest-refused e rest some = answered-by e (λ n. partFrame) (restRefusal rest) 9 (lit< tt) (cond-true _ _ (ap not (ne-eqb rest 0 some)))
 
 pub rest-accepted : (e : Ended) (rest : ℕ) → rest ≡ 0 → e ≡ answered (restRefusal rest) e (λ n. partFrame)
-rest-accepted e rest none = sym (answered-accepted e (λ n. partFrame) (restRefusal rest) (goes-on _ _ (ap not (eq-eqb rest 0 none))))
+rest-accepted e rest none = sym (answered-accepted e (λ n. partFrame) (restRefusal rest) (cond-false _ _ (ap not (eq-eqb rest 0 none))))
 
 pub failed-ends : (end : List ℕ → Ended) (r : RunOutcome) → r ≡ record { failed = true; ended = partFrame } → Ends end r
 failed-ends end r e = subst (Ends end) (sym e) (record { line = []; bits = refl })
@@ -55,19 +56,19 @@ told-by : (r : RunOutcome) (out line : List ℕ) (size : ℕ) (after : List ℕ)
 told-by r out line size after e put = subst (λ (l : List ℕ). Lined out l size after) (sym e) put
 
 pub told-failed : (r : RunOutcome) (out : List ℕ) → r .failed ≡ true → Lined out (toldBy r) 0 out
-told-failed r out e = told-by r out [] 0 out (stops _ _ e) (sym (line-empty out))
+told-failed r out e = told-by r out [] 0 out (cond-true _ _ e) (sym (line-empty out))
 
 -- a refusal, by whether it is of a part frame
 module _ (r : RunOutcome) (out : List ℕ) (size : ℕ) (after : List ℕ) (ran : r .failed ≡ false) (some : r .ended .refusal ≡ 0 → ⊥) where
   refusal-line : toldBy r ≡ refusalLine (r .ended) (r .ended .refusal)
-  refusal-line = goes-on _ _ ran ∙ answered-refused _ (refusalLine (r .ended)) _ some
+  refusal-line = cond-false _ _ ran ∙ answered-refused _ (refusalLine (r .ended)) _ some
 
   pub told-part-frame : r .ended .refusal ≡ 9 → Lined out (refusedLine (r .ended .refusal)) size after → Lined out (toldBy r) size after
-  told-part-frame nine put = told-by r out _ size after (refusal-line ∙ stops _ _ (eq-eqb (r .ended .refusal) 9 nine)) put
+  told-part-frame nine put = told-by r out _ size after (refusal-line ∙ cond-true _ _ (eq-eqb (r .ended .refusal) 9 nine)) put
 
   pub told-bank : (r .ended .refusal ≡ 9 → ⊥) → Lined out (refusedAtLine (r .ended .refusal) (r .ended .place)) size after → Lined out (toldBy r) size after
-  told-bank other put = told-by r out _ size after (refusal-line ∙ goes-on _ _ (ne-eqb (r .ended .refusal) 9 other)) put
+  told-bank other put = told-by r out _ size after (refusal-line ∙ cond-false _ _ (ne-eqb (r .ended .refusal) 9 other)) put
 
 pub told-played : (r : RunOutcome) (out : List ℕ) (size : ℕ) (after : List ℕ) → r .failed ≡ false → r .ended .refusal ≡ 0
     → Lined out (framesLine (r .ended .frames) (r .ended .unsettled)) size after → Lined out (toldBy r) size after
-told-played r out size after e none put = told-by r out _ size after (goes-on _ _ e ∙ answered-accepted _ _ _ none) put
+told-played r out size after e none put = told-by r out _ size after (cond-false _ _ e ∙ answered-accepted _ _ _ none) put

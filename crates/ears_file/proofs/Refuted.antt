@@ -8,8 +8,9 @@ use Prim.Native.Nat.{ℕ, zero, suc, _+_, _≤_, _<_}
 use native.Mathlib.Omega.{arith}
 use lib.ListN.{length, getD}
 use lib.Ieee.{Float}
+use Rattle.lists.proofs.Tests.{cond-true, cond-false}
 use Rattle.refusals.specs.Refusals.{answered}
-use Rattle.refusals.proofs.First.{stops, goes-on, not-accepted, answered-refused}
+use Rattle.refusals.proofs.First.{not-accepted, answered-refused}
 use Rattle.lists.specs.Placed.{placed}
 use Rattle.lists.proofs.Placed.{placed-start}
 use Rattle.lists.proofs.Lists.{one-at-most}
@@ -94,7 +95,7 @@ module _ (r : RunOutcome) (a : Answers r) where
 
   failed-as-played : r .failed ≡ true → r .ended .refusal ≡ 0 → ⊥
   failed-as-played f z =
-      let nine : r .ended .refusal ≡ 9 = ap (λ (y : Ended). y .refusal) (a .ends .bits ∙ stops partFrame (itemTen (a .bank) (a .ends .line)) f) in
+      let nine : r .ended .refusal ≡ 9 = ap (λ (y : Ended). y .refusal) (a .ends .bits ∙ cond-true partFrame (itemTen (a .bank) (a .ends .line)) f) in
       let k : _≡_ {A = ℕ} 0 9 = sym z ∙ nine in omega arith
 
   more-unsettled-than-frames : r .ended .frames < r .ended .unsettled → ⊥
@@ -113,13 +114,13 @@ module _ (r : RunOutcome) (a : Answers r) where
 module _ (r : RunOutcome) (out : List ℕ) (size : ℕ) (after : List ℕ) (lined : Lined out (toldBy r) size after) where
   -- a line for a run that failed
   failed-run-has-a-line : r .failed ≡ true → (size ≡ 0 → ⊥) → ⊥
-  failed-run-has-a-line f some = some (ap (λ (g : LineGiven). g .size) (lined ∙ ap (lineGiven out) (stops _ _ f) ∙ line-empty out))
+  failed-run-has-a-line f some = some (ap (λ (g : LineGiven). g .size) (lined ∙ ap (lineGiven out) (cond-true _ _ f) ∙ line-empty out))
 
   -- a refusal told as a count: its first letter is an r, and not an f
   refusal-told-as-frames : r .failed ≡ false → r .ended .refusal ≡ 9 → 64 ≤ length out → getD after 0 0 ≡ 102 → ⊥
   unfolding refusedLine refusedWord
   refusal-told-as-frames f nine room e =
-      let told : toldBy r ≡ refusedLine 9 = goes-on _ _ f ∙ answered-refused _ (refusalLine (r .ended)) _ (not-accepted 9 (omega arith) nine) ∙ ap (refusalLine (r .ended)) nine in
+      let told : toldBy r ≡ refusedLine 9 = cond-false _ _ f ∙ answered-refused _ (refusalLine (r .ended)) _ (not-accepted 9 (omega arith) nine) ∙ ap (refusalLine (r .ended)) nine in
       let first : getD after 0 0 ≡ 114 =
       ap (λ (l : List ℕ). getD l 0 0)
       (ap (λ (g : LineGiven). g .out) (lined ∙ line-accepted out (toldBy r) room) ∙ ap (placed out 0) told ∙ placed-start out (refusedLine 9)) in
@@ -129,6 +130,6 @@ module _ (r : RunOutcome) (out : List ℕ) (size : ℕ) (after : List ℕ) (line
   bank-told-without-its-place : r .failed ≡ false → r .ended .refusal ≡ 14 → r .ended .place ≡ 1 → 64 ≤ length out → size ≡ 11 → ⊥
   bank-told-without-its-place f fourteen one room e =
       let told : toldBy r ≡ refusedAtLine 14 1 =
-      goes-on _ _ f ∙ answered-refused _ (refusalLine (r .ended)) _ (not-accepted 14 (omega arith) fourteen) ∙ ap (refusalLine (r .ended)) fourteen ∙ ap (refusedAtLine 14) one in
+      cond-false _ _ f ∙ answered-refused _ (refusalLine (r .ended)) _ (not-accepted 14 (omega arith) fourteen) ∙ ap (refusalLine (r .ended)) fourteen ∙ ap (refusedAtLine 14) one in
       let long : size ≡ 16 = ap (λ (g : LineGiven). g .size) (lined ∙ line-accepted out (toldBy r) room) ∙ ap length (told ∙ refused-fourteen) in
       let same : _≡_ {A = ℕ} 11 16 = sym e ∙ long in omega (arith, same)

@@ -1,8 +1,8 @@
 -- No two answers of `told` meet its promise. Two of `run` do only with another bank, another line, or another failure (docs/UNFIXED.md). Assumes nothing.
 use mathlib.Core.Path.{_≡_, sym, _∙_}
 use denote.Triple.Entry.{Args}
-use Rattle.refusals.specs.OneAnswer.{Lives, Answer, Allows, AllowsOneAnswer}
-use Rattle.refusals.proofs.Determined.{determined-by}
+use Rattle.lists.specs.OneAnswer.{Lives, Answer, Allows, AllowsOneAnswer}
+use Rattle.lists.proofs.Determined.{determined-by}
 use Rattle.ears_file.proofs.told
 use Rattle.ears_file.proofs.run
 

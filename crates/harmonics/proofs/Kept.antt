@@ -4,12 +4,12 @@ use mathlib.Core.Bool.{Bool, true, false, cond}
 use mathlib.Core.List.{List, [], _∷_}
 use Prim.Native.Nat.{ℕ, _<_}
 use lib.IntN.{pos}
-use lib.Dec.{eqb, lit<, lit≤}
+use lib.Dec.{lit<, lit≤}
 use lib.ListN.{length}
 use lib.Ieee.{Float, ofInt}
 use Rattle.formats.specs.Floats.{float}
-use Rattle.refusals.specs.Refusals.{_when_}
-use Rattle.refusals.proofs.First.{or-off}
+use Rattle.refusals.specs.Refusals.{_when_, answered}
+use Rattle.refusals.proofs.First.{or-off, answered-accepted, told-is}
 use Rattle.refusals.proofs.Chains.{none-holds}
 use Rattle.channel.specs.Orders.{refusesOrder}
 use Rattle.channel.proofs.Orders.{by-order}
@@ -47,11 +47,20 @@ module _ (order : ℕ) (d : Direction) where
       }
 
   -- ---- the answer by the two tests
+  abbrev accepting : List Float → Coefficients
+  accepting xs = record { refusal = 0; gains = xs }
+
+  abbrev refusing : ℕ → Coefficients
+  refusing n = record { refusal = n; gains = silence }
+
   abbrev answer : Bool → Bool → Coefficients
-  answer a b = let r : ℕ = cond a 1 (cond b 3 0) in record { refusal = r; gains = cond (eqb r 0) (upTo order (wavesOf d)) silence }
+  answer a b = answered (cond a 1 (cond b 3 0)) (accepting (upTo order (wavesOf d))) refusing
+
+  pub refusal-is : outcome order d .refusal ≡ refusalOf order d
+  refusal-is = told-is (accepting (upTo order (wavesOf d))) refusing (λ (r : Coefficients). r .refusal) refl (refusalOf order d) refl
 
   pub gains-are : refusalOf order d ≡ 0 → outcome order d .gains ≡ upTo order (wavesOf d)
-  gains-are h = ap (λ (r : ℕ). cond (eqb r 0) (upTo order (wavesOf d)) silence) h
+  gains-are h = ap (λ (r : Coefficients). r .gains) (answered-accepted (accepting (upTo order (wavesOf d))) refusing (refusalOf order d) h)
 
   pub length-is : length (outcome order d .gains) ≡ 16
   unfolding upTo
@@ -69,8 +78,8 @@ module _ (order : ℕ) (d : Direction) where
 
   pub outcome-kept : Promise order d (outcome order d)
   outcome-kept = record {
-    is = refl;
-    near = λ h. subst (λ (xs : List Float). EachWithin gainBits xs (formulas order (number (d .azimuth)) (number (d .elevation)))) (sym (gains-are h)) (near-all h .near);
+    bits = refl;
+    words = λ h. subst (λ (xs : List Float). EachWithin gainBits xs (formulas order (number (d .azimuth)) (number (d .elevation)))) (sym (gains-are h)) (near-all h .near);
   }
 
   -- ---- the three answers of the program
@@ -83,4 +92,4 @@ module _ (order : ℕ) (d : Direction) where
   pub accepted-kept : (g : List Float) → refusesOrder order ≡ false → refusesDirection d ≡ false → g ≡ gainsOf order (wavesOf d) → Promise order d (record { refusal = 0; gains = g })
   accepted-kept g h k e =
       subst (Promise order d)
-      ((λ i. answer (h i) (k i)) ∙ ap (λ (xs : List Float). record { refusal = 0; gains = xs }) (sym (e ∙ by-order (λ (n : ℕ). gainsOf n (wavesOf d) ≡ upTo n (wavesOf d)) refl refl refl order h))) outcome-kept
+      ((λ i. answer (h i) (k i)) ∙ ap accepting (sym (e ∙ by-order (λ (n : ℕ). gainsOf n (wavesOf d) ≡ upTo n (wavesOf d)) refl refl refl order h))) outcome-kept

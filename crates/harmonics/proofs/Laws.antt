@@ -71,10 +71,10 @@ accepted order d n h = λ i. cond (n i) 1 (cond (h i) 3 0)
 
 module _ (order : ℕ) (d : Direction) (answer : Coefficients) (p : Promise order d answer) where
   pub refusal-is : answer .refusal ≡ refusalOf order d
-  refusal-is = ap (λ (r : Coefficients). r .refusal) (p .is)
+  refusal-is = ap (λ (r : Coefficients). r .refusal) (p .bits) ∙ Kept.refusal-is order d
 
   pub gains-are : refusalOf order d ≡ 0 → answer .gains ≡ upTo order (wavesOf d)
-  gains-are h = ap (λ (r : Coefficients). r .gains) (p .is) ∙ Kept.gains-are order d h
+  gains-are h = ap (λ (r : Coefficients). r .gains) (p .bits) ∙ Kept.gains-are order d h
 
   -- ---- each, by its channel: nearer than promised, and of what magnitude
   pub gain-near : refusalOf order d ≡ 0 → (i : ℕ) (x : Float) (q : Fraction) → i < 16
@@ -84,4 +84,4 @@ module _ (order : ℕ) (d : Direction) (answer : Coefficients) (p : Promise orde
 
   -- ---- there are sixteen, refused or not
   pub gains-length : length (answer .gains) ≡ 16
-  gains-length = ap (λ (r : Coefficients). length (r .gains)) (p .is) ∙ Kept.length-is order d
+  gains-length = ap (λ (r : Coefficients). length (r .gains)) (p .bits) ∙ Kept.length-is order d

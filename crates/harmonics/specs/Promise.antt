@@ -2,13 +2,12 @@
 -- refusal returns its number, [..] 0.0 for any number or gain". 'Gains', harmonics: "Within 2^-34 of the formula over the defined sums." Definitions only.
 use Prim.Native.Nat.{ℕ}
 use mathlib.Core.Path.{_≡_}
-use mathlib.Core.Bool.{Bool, _||_, cond}
+use mathlib.Core.Bool.{Bool, _||_}
 use mathlib.Core.List.{List, [], _∷_}
-use lib.Dec.{eqb}
 use lib.IntN.{pos}
 use lib.ListN.{replicate}
 use lib.Ieee.{Float}
-use Rattle.refusals.specs.Refusals.{firstOf, _when_}
+use Rattle.refusals.specs.Refusals.{firstOf, _when_, answered}
 use Rattle.channel.specs.Orders.{refusesOrder}
 use Rattle.fractions.specs.Fraction.{number, EachWithin}
 use Rattle.angles.specs.Limits.{refusesAngle}
@@ -42,9 +41,9 @@ abbrev pub silence : List Float
 silence = replicate 16 zero-float
 
 abbrev pub outcome : ℕ → Direction → Coefficients
-outcome order d = record { refusal = refusalOf order d; gains = cond (eqb (refusalOf order d) 0) (upTo order (wavesOf d)) silence }
+outcome order d = answered (refusalOf order d) (record { refusal = 0; gains = upTo order (wavesOf d) }) (λ n. record { refusal = n; gains = silence })
 
 -- every bit of the answer; and of the coefficients of an accepted direction how near each is to its formula
 pub record Promise (order : ℕ) (d : Direction) (answer : Coefficients) : Type 0 where
-  pub is : answer ≡ outcome order d
-  pub near : refusalOf order d ≡ 0 → EachWithin gainBits (answer .gains) (formulas order (number (d .azimuth)) (number (d .elevation)))
+  pub bits : answer ≡ outcome order d
+  pub words : refusalOf order d ≡ 0 → EachWithin gainBits (answer .gains) (formulas order (number (d .azimuth)) (number (d .elevation)))

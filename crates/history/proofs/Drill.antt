@@ -7,7 +7,7 @@ use lib.Ieee.{nan, add, mul, div, sum, round, size, span, climb, units, odd, ofI
 use Rattle.formats.specs.Floats.{zero-float, one-float, half-float}
 use Rattle.numbers.specs.Computed.{rounded, rootOf, rootUnits, wholeRoot, rootIn}
 use Rattle.planes.specs.Sums.{mixed}
-use Rattle.planes.specs.Normalization.{inverseRoot}
+use Rattle.numbers.specs.Normalization.{inverseRoot}
 use Rattle.history.specs.History.{earOf, heard, unsettledEach, unsettledIn}
 use Rattle.history.specs.Drill.{drill, samples}
 

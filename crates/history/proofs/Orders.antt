@@ -10,7 +10,7 @@ use Rattle.formats.specs.Floats.{zero-float, one-float, float}
 use Rattle.numbers.specs.Computed.{rounded, narrowed, rootOf, rootUnits, wholeRoot, rootIn}
 use Rattle.planes.specs.Sums.{dot, total, mixed}
 use Rattle.history.specs.Setup.{Setup, tapsOf}
-use Rattle.planes.specs.Normalization.{inverseRoot}
+use Rattle.numbers.specs.Normalization.{inverseRoot}
 use Rattle.history.specs.History.{window, part, earOf}
 
 -- 1, 2^60, -2^60

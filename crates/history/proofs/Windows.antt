@@ -14,7 +14,7 @@ use Rattle.numbers.specs.Computed.{narrowed}
 use Rattle.lists.specs.Tables.{tab, any}
 use Rattle.checks.specs.Finite.{unsound}
 use Rattle.planes.specs.Sums.{dot, total}
-use Rattle.planes.specs.Normalization.{inverseRoot}
+use Rattle.numbers.specs.Normalization.{inverseRoot}
 use Rattle.lists.proofs.Tables.{tab-ext, tab-shift, take-tab}
 use Rattle.history.specs.Setup.{Setup, tapsOf}
 use Rattle.history.specs.History.{signalAgo, window, part, earOf, earSample, earSamples}

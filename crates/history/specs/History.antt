@@ -12,7 +12,7 @@ use Rattle.numbers.specs.Computed.{narrowed}
 use Rattle.lists.specs.Tables.{tab, any, count}
 use Rattle.checks.specs.Finite.{unsound}
 use Rattle.planes.specs.Sums.{dot, total}
-use Rattle.planes.specs.Normalization.{inverseRoot}
+use Rattle.numbers.specs.Normalization.{inverseRoot}
 use Rattle.history.specs.Setup.{Setup, tapsOf}
 use Rattle.history.specs.Signals.{signals}
 

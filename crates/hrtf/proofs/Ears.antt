@@ -7,7 +7,7 @@ use lib.ListN.{getD}
 use lib.Ieee.{Float, binary64, add, mul}
 use Rattle.formats.specs.Floats.{zero-float}
 use Rattle.numbers.specs.Computed.{narrowed}
-use Rattle.planes.specs.Normalization.{inverseRoot}
+use Rattle.numbers.specs.Normalization.{inverseRoot}
 use Rattle.planes.proofs.Sums.{Summing, summing-none, summing-more, summing-all}
 use Rattle.history.specs.History.{earOf}
 use Rattle.rings.specs.Computed.{partOf}

@@ -9,7 +9,7 @@ use Rattle.formats.specs.Floats.{zero-float}
 use Rattle.checks.specs.Finite.{unsound}
 use Rattle.planes.specs.Planes.{withFrame, withFrames}
 use Rattle.planes.specs.Sums.{dot}
-use Rattle.planes.specs.Normalization.{inverseRoot}
+use Rattle.numbers.specs.Normalization.{inverseRoot}
 use Rattle.desk.specs.declared.Desk.{Desk}
 use Rattle.history.specs.Signals.{damaged}
 use Rattle.rings.specs.State.{State}

@@ -34,7 +34,7 @@ pub(crate) fn scale(shape: Shape) -> Scaled
     requires { ⌜ (0 < shape .speakers) × (shape .speakers ≤ 8) ⌝ }
     ensures { λ r. ⌜ r ≡ scaledOf shape ⌝ }
 {
-    let inverse = planes::inverse_root(shape.speakers as u32);
+    let inverse = numbers::inverse_root(shape.speakers as u32);
     Scaled {
         shape,
         inverse_root: inverse.value,

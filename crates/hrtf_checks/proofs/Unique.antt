@@ -1,6 +1,6 @@
 -- No two numbers meet the promise. Assumes nothing.
-use Rattle.refusals.specs.OneAnswer.{AllowsOneAnswer}
-use Rattle.refusals.proofs.Determined.{determined-by}
+use Rattle.lists.specs.OneAnswer.{AllowsOneAnswer}
+use Rattle.lists.proofs.Determined.{determined-by}
 use Rattle.hrtf_checks.proofs.refusal
 
 refusal-unique : AllowsOneAnswer refusal.ended refusal.Reads.Learnt

@@ -11,7 +11,8 @@ use lib.IntN.{ℤ}
 use lib.ListN.{length, getD}
 use lib.Ieee.{Float, nan}
 use Rattle.refusals.specs.Refusals.{Check, firstOf, outside}
-use Rattle.refusals.proofs.First.{stops, goes-on, passed, answered-accepted}
+use Rattle.refusals.proofs.First.{passed, answered-accepted}
+use Rattle.lists.proofs.Tests.{cond-true, cond-false}
 use Rattle.refusals.proofs.Chains.{first-holds, off-accepts, none-holds}
 use Rattle.fractions.specs.Fraction.{number}
 use Rattle.lists.specs.Tables.{tab}
@@ -111,7 +112,7 @@ module _ (w : Wanted) (azimuths elevations : List ℤ) (rows : ℕ) (weights : L
   -- where the check that stands first does not hold, the later ones decide
   later-of : w .check .holds ≡ false → refusalOf w azimuths elevations rows weights ≡ laterRefusal (w .speakers * w .channels) azimuths elevations rows weights
   unfolding refusalOf laterRefusal
-  later-of h = goes-on (w .check .number) _ h
+  later-of h = cond-false (w .check .number) _ h
 
   later-passed : laterRefusal (w .speakers * w .channels) azimuths elevations rows weights ≡ 0 → (outside rows 8 ≡ false) × (length azimuths ≡ 8) × (length elevations ≡ 8)
   unfolding laterRefusal
@@ -152,7 +153,7 @@ module _ (w : Wanted) (azimuths elevations : List ℤ) (rows : ℕ) (weights : L
     unfolding refusalOf
     not-offered n en a h ea =
         arranges n en (record { answer = a; weights = weights; rows = given })
-        (ap (λ (b : Arranged). record { answer = b; weights = weights; rows = given }) ea ∙ sym (by-wanted (suc n) (stops (w .check .number) _ h ∙ en)))
+        (ap (λ (b : Arranged). record { answer = b; weights = weights; rows = given }) ea ∙ sym (by-wanted (suc n) (cond-true (w .check .number) _ h ∙ en)))
 
     -- or leaves it to what both do
     goes-on-to : (n : ℕ) → w .check .number ≡ suc n → w .check .holds ≡ false → (o : Arrangement)

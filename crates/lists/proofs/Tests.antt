@@ -1,5 +1,5 @@
--- What is chosen by a test: what is to hold of it is shown where the test holds, and where it does not. What is shown by comparing two numbers. And a list of tests that all hold. Assumes nothing.
-use mathlib.Core.Path.{_≡_, refl}
+-- What is chosen by a test: the first where it holds, the second where it does not. What is to hold of it is shown where the test holds, and where it does not. What is shown by comparing two numbers. And a list of tests that all hold. Assumes nothing.
+use mathlib.Core.Path.{_≡_, refl, ap}
 use mathlib.Core.Logic.{⊎-elim}
 use mathlib.Core.Bool.{Bool, true, false, cond}
 use mathlib.Core.List.{List, [], _∷_}
@@ -10,6 +10,13 @@ use lib.Ieee.Fits.{and-l, and-r}
 use borrow.Author.Tests.{ltb-true, ltb-false, leb-true, leb-false}
 use Rattle.lists.specs.Tables.{every}
 use Rattle.lists.proofs.Lists.{split}
+
+-- over the type of what is chosen, so that answers go by them as numbers do
+pub cond-true : {A : Type 0} {b : Bool} (x y : A) → b ≡ true → cond b x y ≡ x
+cond-true {A} x y h = ap (λ (t : Bool). cond t x y) h
+
+pub cond-false : {A : Type 0} {b : Bool} (x y : A) → b ≡ false → cond b x y ≡ y
+cond-false {A} x y h = ap (λ (t : Bool). cond t x y) h
 
 pub by-test : (P : Bool → Type 0) (b : Bool) → (b ≡ true → P true) → (b ≡ false → P false) → P b
 by-test P true f g = f refl

@@ -4,4 +4,5 @@
 // on, what is so of each element, and of two lists place by place. In these definitions (specs/) every crate
 // above says its sums, planes, rows and fields. The laws (proofs/): a table is known by its places, parts
 // that are put in one after the other are one part, what a loop that fills a list or goes through a table has
-// done so far, and what is chosen by a test. No function stands here.
+// done so far, what is chosen by a test, and that a promise which is an equation has one answer. No function
+// stands here.

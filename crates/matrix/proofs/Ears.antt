@@ -9,12 +9,13 @@ use lib.Dec.{T, lit<}
 use lib.IntN.{ℤ, pos, negsuc, negℤ}
 use lib.ListN.{length}
 use lib.Ieee.{Float, binary64, mul, neg}
-use Rattle.refusals.proofs.First.{passed, answered-accepted}
+use Rattle.refusals.proofs.First.{passed}
+use Rattle.rows.proofs.Answers.{computed-refusal, computed-weights}
 use Rattle.formats.specs.Floats.{zero-float, literal}
 use Rattle.formats.proofs.Signs.{neg-neg, literal-negated, mul-negated}
 use Rattle.numbers.specs.Computed.{narrowed}
 use Rattle.lists.specs.Tables.{row, every}
-use Rattle.planes.specs.Normalization.{inverseRoot}
+use Rattle.numbers.specs.Normalization.{inverseRoot}
 use Rattle.planes.specs.Sums.{total, mixed}
 use Rattle.rows.specs.Rows.{scaled}
 use Rattle.rows.proofs.Joined.{AllOf, row-found}
@@ -108,14 +109,14 @@ module _ (n : ℕ) (order : refusesOrder n ≡ false) where
 module _ (n : ℕ) (lent weights : List Float) (p : Computes n lent (record { refusal = 0; weights = weights })) where
   accepted : refusalOf n lent ≡ 0
   unfolding outcome
-  accepted = sym (ap (λ (o : Computed). o .refusal) p)
+  accepted = sym (ap (λ (o : Computed). o .refusal) p ∙ computed-refusal (rows n) lent (refusalOf n lent))
 
   pub computed-order : refusesOrder n ≡ false
   computed-order = passed (refusesOrder n) 0 _ accepted .0
 
   pub computed-rows : weights ≡ rows n
   unfolding outcome
-  computed-rows = ap (λ (o : Computed). o .weights) p ∙ answered-accepted (rows n) (λ k. lent) (refusalOf n lent) accepted
+  computed-rows = ap (λ (o : Computed). o .weights) p ∙ computed-weights (rows n) lent (refusalOf n lent) accepted
 
   pub computed-mirrors : Mirrors n weights
   computed-mirrors = subst (Mirrors n) (sym computed-rows) (mirrors n computed-order)

@@ -9,7 +9,7 @@ use lib.ListN.{length, drop, length-drop, length-map, drop-of-length-le}
 use lib.Seq.{sets}
 use lib.Ieee.{Float, binary64, mul}
 use Rattle.refusals.specs.Refusals.{firstOf, _when_}
-use Rattle.planes.specs.Normalization.{inverseRoot}
+use Rattle.numbers.specs.Normalization.{inverseRoot}
 use Rattle.rows.specs.Rows.{scaled, computedBy}
 use Rattle.rows.proofs.Behind.{put-behind}
 use Rattle.matrix.specs.Promise.{Computed}

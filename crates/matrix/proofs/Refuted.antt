@@ -15,7 +15,7 @@ use Rattle.numbers.specs.Conversions.{negative}
 use Rattle.numbers.specs.Computed.{rounded}
 use Rattle.checks.proofs.Checks.{sound-at}
 use Rattle.rows.specs.Rows.{scaled}
-use Rattle.planes.specs.Normalization.{inverseRoot}
+use Rattle.numbers.specs.Normalization.{inverseRoot}
 use Rattle.planes.specs.Sums.{mixed}
 use Rattle.channel.specs.Layouts.{minus}
 use Rattle.matrix.specs.Mirror.{negatedAt}

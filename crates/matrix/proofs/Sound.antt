@@ -13,7 +13,7 @@ use Rattle.checks.specs.Finite.{unsound}
 use Rattle.checks.proofs.Checks.{any-off}
 use Rattle.channel.specs.Orders.{refusesOrder}
 use Rattle.channel.proofs.Orders.{by-order}
-use Rattle.planes.specs.Normalization.{inverseRoot}
+use Rattle.numbers.specs.Normalization.{inverseRoot}
 use Rattle.matrix.specs.Rows.{left, right, rows, hundredths, literals}
 
 -- the f64 next below the root of 1/2

@@ -1,6 +1,6 @@
 -- No two answers meet the promise. Assumes nothing.
-use Rattle.refusals.specs.OneAnswer.{AllowsOneAnswer}
-use Rattle.refusals.proofs.Determined.{determined-by}
+use Rattle.lists.specs.OneAnswer.{AllowsOneAnswer}
+use Rattle.lists.proofs.Determined.{determined-by}
 use Rattle.matrix.proofs.compute_matrix
 
 pub compute-matrix-unique : AllowsOneAnswer compute_matrix.ended compute_matrix.Reads.Learnt

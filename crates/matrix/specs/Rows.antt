@@ -8,7 +8,7 @@ use lib.Ieee.{Float}
 use Rattle.formats.specs.Floats.{literal}
 use Rattle.channel.specs.Orders.{byOrder}
 use Rattle.rows.specs.Rows.{scaled}
-use Rattle.planes.specs.Normalization.{inverseRoot}
+use Rattle.numbers.specs.Normalization.{inverseRoot}
 use Rattle.matrix.specs.Mirror.{mirrored}
 
 pub data Ear : Type 0 where

@@ -7,7 +7,7 @@ use lib.ListN.{length}
 use lib.Ieee.{Float}
 use Rattle.refusals.specs.Refusals.{firstOf, _when_}
 use Rattle.rows.specs.Rows.{scaled, computedBy}
-use Rattle.planes.specs.Normalization.{inverseRoot}
+use Rattle.numbers.specs.Normalization.{inverseRoot}
 use Rattle.matrix.specs.Promise.{Computed}
 
 abbrev misfit : List Float → List Float → List Float → ℕ

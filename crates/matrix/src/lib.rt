@@ -66,7 +66,7 @@ fn put_ears(left: &[f64], right: &[f64], weights: &mut [f64]) -> u8
     if weights.len() != left.len() + right.len() {
         return 5;
     }
-    let inverse = planes::inverse_root(2);
+    let inverse = numbers::inverse_root(2);
     let scale = inverse.value;
     rows::put_row(left, scale, weights, 0);
     rows::put_row(right, scale, weights, left.len());

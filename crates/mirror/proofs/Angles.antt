@@ -18,6 +18,8 @@ use Rattle.series.specs.Sums.{sine}
 use Rattle.series.proofs.Reduction.{turned-less, turned-opposite}
 use Rattle.angles.specs.Computed.{one, turn, half, units, cut, place, short, times, radians, nesting, nest, outermost, fromOne, rounded, sineAt, cosineAt, computed}
 use Rattle.angles.specs.Limits.{limit, isInside, refusesAngle}
+use Rattle.refusals.specs.Refusals.{answered}
+use Rattle.angles.specs.declared.Answer.{Answer}
 use Rattle.angles.specs.Promise.{isRefused}
 use Rattle.harmonics.specs.Computed.{sin, cos}
 use Rattle.formats.specs.Zeros.{unsignedZero}
@@ -146,10 +148,14 @@ sine-opposite {r} {r'} o = go (o .sum)
         (λ m. same half sine-at-half (omega arith) (omega arith))
         (λ g. across (le-ltb half r' (omega arith) ∙ ap not (sym (lt-ltb half r g))))
 
+-- ---- the value that is answered, by whether the angle is refused
+abbrev valueBy : Bool → Float → Float
+valueBy b v = answered {A = Answer} (cond b 3 0) (record { refusal = 0; value = v }) (λ n. record { refusal = n; value = zero-float }) .value
+
 -- ---- where the opposite angle lies in the same place, the sine stays, its sign too
 pub sine-stays : (d : Float) → place (neg d) ≡ place d → sin (neg d) ≡ sin d
 unfolding sin computed
-sine-stays d h = ap₂ (λ (b : Bool) (a : ℕ). cond b zero-float (sineAt a)) (refused-negated limit d) h
+sine-stays d h = ap₂ (λ (b : Bool) (a : ℕ). valueBy b (sineAt a)) (refused-negated limit d) h
 
 -- ---- of any float
 
@@ -158,12 +164,12 @@ unfolding sin cos computed neg
 angle-mirrors d = record {
   lies = rest-of-turn (places-opposite d);
   refusal = ap (λ (b : Bool). cond b 3 0) (refused-negated limit d);
-  cosine = ap₂ (λ (b : Bool) (v : Float). cond b zero-float v) (refused-negated limit d) (cosine-opposite (places-opposite d));
+  cosine = ap₂ valueBy (refused-negated limit d) (cosine-opposite (places-opposite d));
   sine =
-      ap (λ (b : Bool). unsignedZero (cond b zero-float (computed sine (neg d)))) (refused-negated limit d)
-      ∙ answered (isRefused d) (computed sine d) (computed sine (neg d)) (sine-opposite (places-opposite d));
+      ap (λ (b : Bool). unsignedZero (valueBy b (computed sine (neg d)))) (refused-negated limit d)
+      ∙ opposite-by (isRefused d) (computed sine d) (computed sine (neg d)) (sine-opposite (places-opposite d));
 }
   where
-    answered : (b : Bool) (v v' : Float) → unsignedZero v' ≡ unsignedZero (neg v) → unsignedZero (cond b zero-float v') ≡ unsignedZero (neg (cond b zero-float v))
-    answered true v v' h = refl
-    answered false v v' h = h
+    opposite-by : (b : Bool) (v v' : Float) → unsignedZero v' ≡ unsignedZero (neg v) → unsignedZero (valueBy b v') ≡ unsignedZero (neg (valueBy b v))
+    opposite-by true v v' h = refl
+    opposite-by false v v' h = h

@@ -10,7 +10,7 @@ use Rattle.lists.proofs.Tables.{tab-from, tab-ext}
 use Rattle.formats.specs.Floats.{Held, zero-float}
 use Rattle.numbers.specs.Computed.{narrowed}
 use Rattle.planes.specs.Sums.{total, products, dot}
-use Rattle.planes.specs.Normalization.{inverseRoot}
+use Rattle.numbers.specs.Normalization.{inverseRoot}
 use Rattle.history.specs.Setup.{Setup, tapsOf}
 use Rattle.history.specs.History.{signalAgo, window, part, earOf, earSample}
 use Rattle.history.proofs.Windows.{ear-of-ext}

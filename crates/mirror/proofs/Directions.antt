@@ -3,8 +3,8 @@
 use mathlib.Core.Path.{_≡_, refl, ap, ap₂, _∙_}
 use mathlib.Core.Bool.{Bool, true, false, _||_, cond}
 use mathlib.Core.List.{List, _∷_, _++_, map}
-use Prim.Native.Nat.{ℕ, _+_}
-use lib.Dec.{leb, eqb}
+use Prim.Native.Nat.{ℕ, zero, suc, _+_}
+use lib.Dec.{leb}
 use lib.IntN.{pos}
 use lib.ListN.{length, length-append, length-map, getD}
 use lib.Ieee.{Float, nan, binary64, mul, neg}
@@ -16,6 +16,9 @@ use Rattle.matrix.specs.Mirror.{lateral}
 use Rattle.harmonics.specs.Computed.{sin, cos, _·_, wavesOf, upTo}
 use Rattle.harmonics.specs.Promise as Harmonics
 use Rattle.harmonics.specs.declared.Direction.{Direction}
+use Rattle.harmonics.specs.declared.Coefficients.{Coefficients}
+use Rattle.virtual_speaker.specs.declared.Weighted.{Weighted}
+use Rattle.refusals.specs.Refusals.{answered}
 use Rattle.virtual_speaker.specs.Weights.{degreeOf}
 use Rattle.virtual_speaker.specs.Computed.{cosineOf, weight, weigh}
 use Rattle.formats.specs.Zeros.{unsignedZero, Opposite}
@@ -83,11 +86,22 @@ cosine-of-multiple k a = ap cos (mul-negated-right binary64 k a) ∙ angle-mirro
 sine-of-multiple : (k a : Float) → Opposite (sin (k · neg a)) (sin (k · a))
 sine-of-multiple k a = ap (λ (x : Float). unsignedZero (sin x)) (mul-negated-right binary64 k a) ∙ angle-mirrors (k · a) .sine
 
--- whether they are given or not
-answer-swapped : (b : Bool) (xs ys : List Float) → Swapped xs ys → Swapped (cond b xs Harmonics.silence) (cond b ys Harmonics.silence)
+-- whether they are given or not: the gains and the weights that are answered, by the refusal
+abbrev pub gainsAnswered : ℕ → List Float → List Float
+gainsAnswered n xs = answered {A = Coefficients} n (record { refusal = 0; gains = xs }) (λ k. record { refusal = k; gains = Harmonics.silence }) .gains
+
+abbrev pub weightsAnswered : ℕ → List Float → List Float
+weightsAnswered n xs = answered {A = Weighted} n (record { refusal = 0; weights = xs }) (λ k. record { refusal = k; weights = Harmonics.silence }) .weights
+
+gains-swapped : (n : ℕ) (xs ys : List Float) → Swapped xs ys → Swapped (gainsAnswered n xs) (gainsAnswered n ys)
 unfolding neg
-answer-swapped true xs ys h = h
-answer-swapped false xs ys h = refl
+gains-swapped zero xs ys h = h
+gains-swapped (suc n) xs ys h = refl
+
+weights-swapped : (n : ℕ) (xs ys : List Float) → Swapped xs ys → Swapped (weightsAnswered n xs) (weightsAnswered n ys)
+unfolding neg
+weights-swapped zero xs ys h = h
+weights-swapped (suc n) xs ys h = refl
 
 weigh-swapped : (c : Float) (xs ys : List Float) → Swapped xs ys → Swapped (weigh c xs) (weigh c ys)
 unfolding weigh
@@ -114,13 +128,13 @@ module _ (order : ℕ) (d : Direction) where
 
   pub direction-mirrors : DirectionMirrors order d
   direction-mirrors =
-      let accepts : Bool = eqb (Harmonics.refusalOf order d) 0 in
+      let number : ℕ = Harmonics.refusalOf order d in
       let xs : List Float = upTo order (wavesOf d) in
       let ys : List Float = upTo order (wavesOf (mirroredDirection d)) in
       record {
         refusal = refusal-mirrored;
-        gains = ap (λ (n : ℕ). map unsignedZero (cond (eqb n 0) ys Harmonics.silence)) refusal-mirrored ∙ answer-swapped accepts xs ys gains-mirrored;
+        gains = ap (λ (n : ℕ). map unsignedZero (gainsAnswered n ys)) refusal-mirrored ∙ gains-swapped number xs ys gains-mirrored;
         weights =
-            ap (λ (n : ℕ). map unsignedZero (cond (eqb n 0) (weigh (cosineOf order) ys) Harmonics.silence)) refusal-mirrored
-            ∙ answer-swapped accepts (weigh (cosineOf order) xs) (weigh (cosineOf order) ys) (weigh-swapped (cosineOf order) xs ys gains-mirrored);
+            ap (λ (n : ℕ). map unsignedZero (weightsAnswered n (weigh (cosineOf order) ys))) refusal-mirrored
+            ∙ weights-swapped number (weigh (cosineOf order) xs) (weigh (cosineOf order) ys) (weigh-swapped (cosineOf order) xs ys gains-mirrored);
       }

@@ -15,10 +15,9 @@ use lib.Ieee.{Float, nan, inf, fin, binary64, up, down, neg, add, sub, div, lt, 
 use lib.Ieee.Scale.{finite}
 use lib.Ieee.Fits.{up-pos, down-pos, neg-fits, sub-fits, cond-fits}
 use lib.Ieee.Bits.{is-false}
-use Rattle.refusals.proofs.First.{stops, goes-on}
 use Rattle.lists.proofs.Tables.{getD-tab}
 use Rattle.lists.proofs.Every.{every-holds}
-use Rattle.lists.proofs.Tests.{either, all, each-holds}
+use Rattle.lists.proofs.Tests.{either, all, each-holds, cond-true, cond-false}
 use Rattle.fractions.specs.Fraction.{number}
 use Rattle.fractions.proofs.Order.{at-most-trans, less-at-most}
 use Rattle.fractions.proofs.Compare.{less-true, less-false, is-not-less, lt-number}
@@ -71,8 +70,8 @@ absolute-size (inf true) = refl
 absolute-size (inf false) = refl
 absolute-size (fin s zero e) = either (λ y. unsignedZero y ≡ fin false zero e) (lt (fin s zero e) zero-float) refl refl
 absolute-size (fin true (suc m) e) =
-    ap unsignedZero (stops (fin false (suc m) e) (fin true (suc m) e) (lt-ltb 0 (suc m * up e * 1 + 0 * 1 * down e) (omega (arith, mul-pos (zero-lt-suc m) (up-pos e)))))
-absolute-size (fin false (suc m) e) = ap unsignedZero (goes-on (fin true (suc m) e) (fin false (suc m) e) (le-ltb (suc m * up e * 1) (0 * 1 * down e) (omega arith)))
+    ap unsignedZero (cond-true (fin false (suc m) e) (fin true (suc m) e) (lt-ltb 0 (suc m * up e * 1 + 0 * 1 * down e) (omega (arith, mul-pos (zero-lt-suc m) (up-pos e)))))
+absolute-size (fin false (suc m) e) = ap unsignedZero (cond-false (fin true (suc m) e) (fin false (suc m) e) (le-ltb (suc m * up e * 1) (0 * 1 * down e) (omega arith)))
 
 absolute-opposite : (x y : Float) → Opposite x y → unsignedZero (absolute x) ≡ unsignedZero (absolute y)
 absolute-opposite x y h = absolute-size x ∙ sym (size-unsigned x) ∙ ap sizeOf h ∙ size-unsigned (neg y) ∙ size-negated y ∙ sym (absolute-size y)

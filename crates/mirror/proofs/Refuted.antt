@@ -23,7 +23,7 @@ use Rattle.formats.specs.Floats.{float}
 use Rattle.formats.specs.Zeros.{unsignedZero}
 use Rattle.channel.specs.declared.Layout.the-variants.{Custom}
 use Rattle.numbers.specs.Computed.{rootOf, wholeRoot}
-use Rattle.planes.specs.Normalization.{inverseRoot}
+use Rattle.numbers.specs.Normalization.{inverseRoot}
 use Rattle.decoder_matrix.specs.Speakers.{customAzimuth, turnedBack}
 use Rattle.decoder_matrix.specs.Matrix.{rowBy}
 use Rattle.mirror.specs.Scenes.{mirroredDirection, Swapped}

@@ -18,7 +18,7 @@ use Rattle.lists.proofs.Tables.{getD-tab}
 use Rattle.lists.proofs.Each.{each-replicate}
 use Rattle.formats.specs.Floats.{zero-float, one-float, minus-one-float, literal}
 use Rattle.numbers.specs.Computed.{rounded, narrowed, rootOf, rootUnits, wholeRoot, rootIn}
-use Rattle.planes.specs.Normalization.{inverseRoot}
+use Rattle.numbers.specs.Normalization.{inverseRoot}
 use Rattle.series.specs.Angles.{turned}
 use Rattle.angles.specs.Computed.{computed, place, cut, cosineAt, short, times, radians, nesting, nest}
 use Rattle.angles.specs.Computed as Angles

@@ -8,8 +8,7 @@ use Prim.Native.Nat.{_<_}
 use native.Mathlib.Omega.{arith}
 use lib.IntN.{ℤ, pos, negsuc}
 use lib.Ieee.{Float, binary64, neg, add, sub, lt, ofInt, round}
-use Rattle.refusals.proofs.First.{goes-on}
-use Rattle.lists.proofs.Tests.{either}
+use Rattle.lists.proofs.Tests.{either, cond-false}
 use Rattle.formats.specs.Floats.{zero-float, float}
 use Rattle.fractions.specs.Fraction.{fraction, whole, magnitude, number, AtMost}
 use Rattle.fractions.proofs.Order.{by-side}
@@ -38,7 +37,7 @@ module _ (a : Float) (A : 0 < number a .over) where
 
   low-end : (t : Float) → FarBack (sub binary64 t (float (pos 90))) → Far t
   unfolding isNear
-  low-end t h = goes-on _ false (not-over (sub binary64 t (float (pos 90))) h)
+  low-end t h = cond-false _ false (not-over (sub binary64 t (float (pos 90))) h)
 
   high-end : (t : Float) → FarOn (add binary64 t (float (pos 90))) → Far t
   unfolding isNear
@@ -48,7 +47,7 @@ module _ (a : Float) (A : 0 < number a .over) where
 
   far-silent : (s : Float) → Far (placeOf a s) → rawOf a s ≡ zero-float
   unfolding rawOf
-  far-silent s h = goes-on _ zero-float h
+  far-silent s h = cond-false _ zero-float h
 
   module _ (s : Float) where
     abbrev on : Float
@@ -69,13 +68,13 @@ module _ (a : Float) (A : 0 < number a .over) where
     silent-ahead h =
         far-silent s
         (either Far (lt (add binary64 s (float (pos 180))) a) (low-end on (h .2))
-        (subst Far (sym (goes-on back s (not-under (sub binary64 s (float (pos 180))) (h .1)))) (high-end s (h .0))))
+        (subst Far (sym (cond-false back s (not-under (sub binary64 s (float (pos 180))) (h .1)))) (high-end s (h .0))))
 
     silent-behind : Behind → rawOf a s ≡ zero-float
     unfolding placeOf
     silent-behind h =
         far-silent s
-        (subst Far (sym (goes-on on _ (not-over (add binary64 s (float (pos 180))) (h .1))))
+        (subst Far (sym (cond-false on _ (not-over (add binary64 s (float (pos 180))) (h .1))))
         (either Far (lt a (sub binary64 s (float (pos 180)))) (high-end back (h .2)) (low-end s (h .0))))
 
 -- ---- the speakers of 5.1 and 7.1

@@ -23,7 +23,7 @@ use Rattle.channel.specs.declared.Layout.{Layout}
 use Rattle.channel.specs.declared.Layout.the-variants.{Mono, Stereo, Surround51, Surround71, Custom}
 use Rattle.channel.specs.Layouts.{channelsOf, positionAzimuth}
 use Rattle.matrix.specs.Mirror.{lateral}
-use Rattle.planes.specs.Normalization.{inverseRoot}
+use Rattle.numbers.specs.Normalization.{inverseRoot}
 use Rattle.rows.specs.Rows.{scaled}
 use Rattle.harmonics.specs.Computed.{sin, cos, _·_, wavesOf, upTo}
 use Rattle.harmonics.specs.Promise as Harmonics
@@ -35,7 +35,7 @@ use Rattle.mirror.specs.Partners.{partnerIn, symmetric, customPartners, 
 use Rattle.mirror.specs.Scenes.{Swapped, SpeakersMirror}
 use Rattle.mirror.proofs.Angles.{angle-mirrors, sine-stays}
 use Rattle.mirror.proofs.Swapped.{times-odd, swapped-take, swapped-map}
-use Rattle.mirror.proofs.Directions.{cosine-of-multiple, refusal-mirrored, direction-mirrors}
+use Rattle.mirror.proofs.Directions.{cosine-of-multiple, refusal-mirrored, direction-mirrors, gainsAnswered, weightsAnswered}
 
 -- ---- an azimuth that lies where its opposite does, and so twice and three times it
 
@@ -163,7 +163,7 @@ module _ (order : ℕ) where
         (swapped-take lateral channels 0 (gains a) (gains (neg a)) (direction-mirrors order (towards a) .gains))
 
     row-stays : (a : Float) → Own a → rowTowards order n channels (neg a) ≡ rowTowards order n channels a
-    row-stays a o = λ i. scaled (inverseRoot n) (take channels (cond (eqb (refusal-mirrored order (towards a) i) 0) (upTo order (own-waves a o i)) Harmonics.silence))
+    row-stays a o = λ i. scaled (inverseRoot n) (take channels (gainsAnswered (refusal-mirrored order (towards a) i) (upTo order (own-waves a o i))))
 
   rows-swapped : (l : Layout) (channels i : ℕ) → i < length (partners l)
       → Swapped (rowBy order l (channelsOf l) channels i) (rowBy order l (channelsOf l) channels (partnerIn (partners l) i))
@@ -175,7 +175,7 @@ module _ (order : ℕ) where
   weightsTowards a = Virtual.outcome order (towards a) .weights
 
   weights-stay : (a : Float) → Own a → weightsTowards (neg a) ≡ weightsTowards a
-  weights-stay a o = λ i. cond (eqb (refusal-mirrored order (towards a) i) 0) (weigh (cosineOf order) (upTo order (own-waves a o i))) Harmonics.silence
+  weights-stay a o = λ i. weightsAnswered (refusal-mirrored order (towards a) i) (weigh (cosineOf order) (upTo order (own-waves a o i)))
 
   pub speakers-mirror : SpeakersMirror order
   speakers-mirror = record {

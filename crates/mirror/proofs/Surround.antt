@@ -10,12 +10,12 @@ use native.Mathlib.Nat.{zero-add}
 use native.Mathlib.Decide.{decLt}
 use native.Mathlib.Omega.{arith}
 use borrow.Author.Tests.{lt-ltb, le-ltb}
-use lib.Dec.{eqb, ltb, lit<}
+use lib.Dec.{ltb, lit<}
 use lib.IntN.{pos}
 use lib.ListN.{getD, List·getD-eq-default}
 use lib.Ieee.{Float, nan, binary64, neg, add, mul, div, sum, round, size, span, climb, units, odd, ofInt}
 use lib.Ieee.Fits.{mul-fits}
-use Rattle.refusals.specs.Refusals.{firstOf, _when_}
+use Rattle.refusals.specs.Refusals.{firstOf, _when_, answered}
 use Rattle.lists.specs.Tables.{tab}
 use Rattle.lists.proofs.Tables.{length-tab, getD-tab, tab-ext}
 use Rattle.lists.proofs.Tests.{by-test}
@@ -32,7 +32,9 @@ use Rattle.channel.specs.declared.Layout.the-variants.{Surround51, Surround71}
 use Rattle.channel.proofs.Counts.{by-surround}
 use Rattle.harmonics.specs.Promise.{refusesAzimuth, silence}
 use Rattle.surround.specs.Computed.{channelGain, rawGains, squareAt, sumOf, dividedBy}
+use Rattle.surround.specs.declared.SurroundGains.{SurroundGains}
 use Rattle.surround.specs.Promise.{gainsOf, outcome}
+use Rattle.surround.proofs.Laws.{refusal-is}
 use Rattle.mirror.specs.Partners.{acrossFrom}
 use Rattle.mirror.specs.Parts.{OneZero}
 use Rattle.mirror.specs.Surround.{GainsExchanged, rearLimit, SurroundExchanged}
@@ -103,7 +105,7 @@ module _ (l : Layout) (e : surround l ≡ true) (a : Float) where
   answer-is : (b : Float) → outcome l b .gains ≡ cond (refusesAzimuth b) silence (gainsOf l b)
   answer-is b = go (surround l) (refusesAzimuth b) e
     where
-      go : (s r : Bool) → s ≡ true → cond (eqb (firstOf (2 when not s ∷ 3 when r ∷ [])) 0) (gainsOf l b) silence ≡ cond r silence (gainsOf l b)
+      go : (s r : Bool) → s ≡ true → answered {A = SurroundGains} (firstOf (2 when not s ∷ 3 when r ∷ [])) (record { refusal = 0; gains = gainsOf l b }) (λ n. record { refusal = n; gains = silence }) .gains ≡ cond r silence (gainsOf l b)
       go true true k = refl
       go true false k = refl
       go false r k = absurd (true≢false (sym k))
@@ -113,7 +115,7 @@ module _ (l : Layout) (e : surround l ≡ true) (a : Float) where
 
   answer-across : (refusesAzimuth a ≡ false → sumAt (neg a) ≡ sumAt a) → GainsExchanged l a
   answer-across h = record {
-    refusal = ap (λ (r : Bool). firstOf (2 when not (surround l) ∷ 3 when r ∷ [])) (refused-negated (float (pos 180)) a);
+    refusal = refusal-is l (neg a) ∙ ap (λ (r : Bool). firstOf (2 when not (surround l) ∷ 3 when r ∷ [])) (refused-negated (float (pos 180)) a) ∙ sym (refusal-is l a);
     gains =
         λ c.
         ap (λ (gains : List Float). getD gains (acrossFrom c) zero-float) (answer-is (neg a) ∙ ap (λ (r : Bool). cond r silence (gainsOf l (neg a))) (refused-negated (float (pos 180)) a))

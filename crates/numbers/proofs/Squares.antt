@@ -6,7 +6,7 @@ use native.Mathlib.Omega.{arith}
 use lib.Pow.{pow-pos, pow-add}
 use lib.Ieee.{size}
 use lib.Ieee.Digits.{size-lt}
-use Rattle.refusals.specs.OneAnswer.{OneAnswer}
+use Rattle.lists.specs.OneAnswer.{OneAnswer}
 use Rattle.lists.proofs.Tests.{by-at-most}
 use Rattle.numbers.specs.Computed.{WholeRoot, digit, rootIn, wholeRoot}
 

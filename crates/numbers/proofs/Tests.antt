@@ -18,22 +18,20 @@ use lib.Ieee.Exact.{HasValue}
 use lib.Ieee.Positive.{positive}
 use Rattle.formats.proofs.Patterns.{digits, unpack, units-no-nan, zero-bits}
 use Rattle.formats.proofs.Grid.{finite-below}
-use Rattle.numbers.specs.Roots.{rootless}
+use Rattle.refusals.proofs.First.{answered-accepted}
+use Rattle.numbers.specs.Roots.{rootless, NearestRoot}
 use Rattle.formats.specs.Floats.{zero-float}
-use Rattle.numbers.specs.Computed.{WholeRoot, rootUnits, rootOf, rootAnswer}
+use Rattle.numbers.specs.Computed.{WholeRoot, rootUnits, rootOf, refusalOf, rootAnswer}
 use Rattle.numbers.specs.Promises.{Root}
 use Rattle.numbers.specs.Steps.{Parted}
 use Rattle.numbers.specs.declared.Rooted.{Rooted}
 use Rattle.numbers.proofs.Rooting.{rootOf-value, rooted, root-digits}
 use Rattle.numbers.proofs.Middle.{root-nearest}
+use Rattle.numbers.proofs.Answers.{root-accepted}
 
 -- ---- the answer is what document 01 says
-accepted : (x : Float) → T (positive x) → rootAnswer x .refusal ≡ 0
-accepted nan p = absurd p
-accepted (inf s) p = absurd p
-accepted (fin true m e) p = absurd p
-accepted (fin false zero e) p = refl
-accepted (fin false (suc m) e) p = refl
+accepted : (x : Float) → T (positive x) → record { refusal = 0; value = rootOf binary64 x } ≡ rootAnswer x
+accepted x p = sym (answered-accepted (record { refusal = 0; value = rootOf binary64 x }) (λ n. record { refusal = n; value = zero-float }) (refusalOf x) (root-accepted x p))
 
 refused : (x : Float) → T (rootless x) → (rootAnswer x .refusal ≡ 10) × (rootAnswer x .value ≡ zero-float)
 unfolding rootOf
@@ -49,10 +47,12 @@ kept s = (refl, refl)
 
 pub root-promised : (x : Float) (r : Rooted) → T (fits binary64 x) → r ≡ rootAnswer x → Root x r
 root-promised x r h e = subst (λ (a : Rooted). Root x a) (sym e) record {
-  answer = refl;
-  refused = refused x;
-  kept = λ s z. subst (λ (y : Float). (rootAnswer y .refusal ≡ 0) × (rootAnswer y .value ≡ y)) (sym z) (kept s);
-  nearest = λ p. (accepted x p, root-nearest binary64 x h p);
+  bits = refl;
+  words = record {
+    refused = refused x;
+    kept = λ s z. subst (λ (y : Float). (rootAnswer y .refusal ≡ 0) × (rootAnswer y .value ≡ y)) (sym z) (kept s);
+    nearest = λ p. subst (λ (a : Rooted). (a .refusal ≡ 0) × NearestRoot binary64 x (a .value)) (accepted x p) (refl, root-nearest binary64 x h p);
+  };
 }
 
 -- ---- the tests
@@ -158,7 +158,7 @@ module _ (x : Float) (m half r : ℕ) (t : T (fits binary64 x)) (h : lt zero-flo
   pub when-above : answer 0 (ofBits binary64 ((half - 26) * 2 ^ 52 + (r + 1) / 2)) ≡ rootAnswer x
   when-above =
       let v : HasValue x false n (2 ^ 1074) = subst (λ (y : Float). HasValue y false n (2 ^ 1074)) (ofBits-toBits binary64 x t) (unpack binary64 b k) in
-      λ i. answer (sym (accepted x (is-positive x h k)) i) ((found .1 ∙ sym (rootOf-value binary64 x n (is-positive x h k) v)) i)
+      ap (answer 0) (found .1 ∙ sym (rootOf-value binary64 x n (is-positive x h k) v)) ∙ accepted x (is-positive x h k)
 
   pub above-no-nan-bits : T (not (nanBits binary64 ((half - 26) * 2 ^ 52 + (r + 1) / 2)))
   above-no-nan-bits =

@@ -8,8 +8,8 @@ use lib.IntN.{pos}
 use lib.Dec.{T, lt→ltb}
 use lib.Ieee.{Float, nan, inf, fin, Format, binary64, fits}
 use lib.Ieee.Positive.{positive}
-use Rattle.refusals.specs.OneAnswer.{OneAnswer, AllowsOneAnswer}
-use Rattle.refusals.proofs.Determined.{determined-by}
+use Rattle.lists.specs.OneAnswer.{OneAnswer, AllowsOneAnswer}
+use Rattle.lists.proofs.Determined.{determined-by}
 use Rattle.formats.proofs.Grid.{zero-written}
 use Rattle.numbers.specs.Conversions.{Narrows}
 use Rattle.numbers.specs.Roots.{rootless, NearestRoot}
@@ -21,15 +21,19 @@ use Rattle.numbers.proofs.Middle.{root-only}
 use Rattle.numbers.proofs.widen
 use Rattle.numbers.proofs.narrow
 use Rattle.numbers.proofs.root
+use Rattle.numbers.proofs.inverse_root
 
 pub widen-unique : AllowsOneAnswer widen.ended widen.Reads.Learnt
-widen-unique κs a = determined-by (λ z h i. (h .same i, _))
+widen-unique κs a = determined-by (λ z h i. (h .bits i, _))
 
 pub narrow-unique : AllowsOneAnswer narrow.ended narrow.Reads.Learnt
 narrow-unique κs a = determined-by (λ z h i. (h .bits i, _))
 
 pub root-unique : AllowsOneAnswer root.ended root.Reads.Learnt
-root-unique κs a = determined-by (λ z h i. (h .answer i, _))
+root-unique κs a = determined-by (λ z h i. (h .bits i, _))
+
+inverse-root-unique : AllowsOneAnswer inverse_root.ended inverse_root.Reads.Learnt
+inverse-root-unique κs a = determined-by (λ z h i. (h .bits i, _))
 
 -- ---- by document 01's words alone
 pub narrows-unique : (f : Format) (x : Float) → OneAnswer (Narrows f x)

@@ -9,7 +9,7 @@ use lib.IntN.{ℤ, pos}
 use lib.Ieee.{Float, nan, inf, fin, binary64, add, mul, div, round, sum, size, span, climb, units, odd, up, down, unlike}
 use lib.Ieee.Fits.{up-pos, down-pos}
 use lib.Ieee.Positive.{positive}
-use Rattle.refusals.proofs.First.{goes-on}
+use Rattle.lists.proofs.Tests.{cond-false}
 use Rattle.formats.specs.Floats.{zero-float}
 use Rattle.formats.proofs.Zeros.{zero-rounded}
 
@@ -29,6 +29,6 @@ zero-over (inf s) p = absurd p
 zero-over (fin true m e) p = absurd p
 zero-over (fin false m e) p =
     let M = ltb→lt 0 m p in
-    goes-on _ _ (ne-eqb m 0 (λ z. lt-irrefl 0 (subst (λ (k : ℕ). 0 < k) z M)))
+    cond-false _ _ (ne-eqb m 0 (λ z. lt-irrefl 0 (subst (λ (k : ℕ). 0 < k) z M)))
     ∙ ap (λ (k : ℕ). round binary64 false k (m * up e * 1)) (zero-mul (down e))
     ∙ zero-rounded binary64 false (m * up e * 1) (mul-pos (mul-pos M (up-pos e)) (lit< tt))

@@ -4,7 +4,7 @@ use mathlib.Core.List.{[], _∷_}
 use Prim.Native.Nat.{ℕ, zero, suc, _-_, _*_, _/_, _^_, _≤_, _<_}
 use lib.Dec.{leb}
 use lib.Ieee.{Float, nan, inf, fin, Format, binary32, binary64, prec, low, up, down, size, units, round}
-use Rattle.refusals.specs.Refusals.{firstOf, _when_}
+use Rattle.refusals.specs.Refusals.{firstOf, _when_, answered}
 use Rattle.formats.specs.Floats.{zero-float}
 use Rattle.numbers.specs.Roots.{rootless}
 use Rattle.numbers.specs.declared.Rooted.{Rooted}
@@ -58,4 +58,4 @@ abbrev pub refusalOf : Float → ℕ
 refusalOf x = firstOf (10 when rootless x ∷ [])
 
 abbrev pub rootAnswer : Float → Rooted
-rootAnswer x = record { refusal = refusalOf x; value = rootOf binary64 x }
+rootAnswer x = answered (refusalOf x) (record { refusal = 0; value = rootOf binary64 x }) (λ n. record { refusal = n; value = zero-float })

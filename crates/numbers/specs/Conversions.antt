@@ -10,8 +10,8 @@ use Rattle.fractions.specs.Fraction.{number, AsNear}
 
 -- ---- f32 to f64: the same value, which the wider format holds
 pub record Widens (x r : Float) : Type 0 where
-  pub same : r ≡ x
-  pub held : T (fits binary64 r)
+  pub bits : r ≡ x
+  pub words : T (fits binary64 r)
 
 -- ---- to a format f
 abbrev pub infinite : Float → Bool

@@ -13,13 +13,16 @@ use Rattle.numbers.specs.declared.Rooted.{Rooted}
 
 pub record Narrowed (x r : Float) : Type 0 where
   pub bits : r ≡ narrowed x
-  pub law : Narrows binary32 x r
+  pub words : Narrows binary32 x r
 
-pub record Root (x : Float) (r : Rooted) : Type 0 where
-  pub answer : r ≡ rootAnswer x
+pub record RootWords (x : Float) (r : Rooted) : Type 0 where
   pub refused : T (rootless x) → (r .refusal ≡ 10) × (r .value ≡ zero-float)
   pub kept : (s : Bool) → x ≡ fin s 0 (pos 0) → (r .refusal ≡ 0) × (r .value ≡ x)
   pub nearest : T (positive x) → (r .refusal ≡ 0) × NearestRoot binary64 x (r .value)
+
+pub record Root (x : Float) (r : Rooted) : Type 0 where
+  pub bits : r ≡ rootAnswer x
+  pub words : RootWords x r
 
 -- what is computed meets document 01's words, of every number; they leave one answer (`narrows-unique`, `root-only`, `root-words`), so whoever cites `narrowed`, `rootOf` or `rootAnswer` cites them
 pub record NumbersMeet : Type 0 where

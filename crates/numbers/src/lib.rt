@@ -2,8 +2,9 @@
 // roots').
 //
 // `widen` takes an f32 to the same f64. `narrow` takes an f64 to the nearest f32, a tie to the even one.
-// `root` takes an f64 to the f64 nearest its exact root, or refuses it with 10. Each promises its answer by
-// an equation and, beside it, what document 01 says of it: see specs/Promises.antt.
+// `root` takes an f64 to the f64 nearest its exact root, or refuses it with 10. `inverse_root` takes a count
+// to 1.0 over its root, by which the decoder matrix, the binaural rows and the convolver scale. Each promises
+// its answer by an equation and, beside it, what document 01 says of it: see specs/Promises.antt.
 ghost use mathlib.Core.Path.{_≡_};
 ghost use mathlib.Core.Bool.{Bool, cond, not};
 ghost use Prim.Native.Nat.{_+_, _*_, _^_, _<_, _≤_};
@@ -14,6 +15,7 @@ ghost use Rattle.numbers.specs.Conversions.{Widens};
 ghost use Rattle.numbers.specs.Computed.{narrowed, WholeRoot};
 ghost use Rattle.numbers.specs.Steps.{Parted};
 ghost use Rattle.numbers.specs.Promises.{Narrowed, Root};
+ghost use Rattle.numbers.specs.Normalization.{InverseRoot};
 
 pub fn widen(x: f32) -> f64
     ensures { λ r. ⌜ Widens x r ⌝ }
@@ -168,5 +170,30 @@ pub fn root(x: f64) -> Rooted
     Rooted {
         refusal: 10,
         value: 0.0,
+    }
+}
+
+// 1.0 over the root of n; or refusal 2 and 0.0.
+pub struct Inverse {
+    pub refusal: u8,
+    pub value: f64,
+}
+
+// 1.0 over the root of n; 2 for an n of 0.
+pub fn inverse_root(n: u32) -> Inverse
+    ensures { λ r. ⌜ InverseRoot n r ⌝ }
+{
+    if n == 0 {
+        return Inverse {
+            refusal: 2,
+            value: 0.0,
+        };
+    }
+    let number = n as f64;
+    let rooted = root(number);
+    let root = rooted.value;
+    Inverse {
+        refusal: 0,
+        value: 1.0 / root,
     }
 }

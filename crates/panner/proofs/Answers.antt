@@ -9,7 +9,8 @@ use borrow.Author.Tests.{lt-ltb, le-ltb}
 use lib.ListN.{length}
 use lib.Ieee.{Float}
 use Rattle.refusals.specs.Refusals.{Check, firstOf}
-use Rattle.refusals.proofs.First.{stops, goes-on, answered-accepted, answered-refused}
+use Rattle.refusals.proofs.First.{answered-accepted, answered-refused}
+use Rattle.lists.proofs.Tests.{cond-true, cond-false}
 use Rattle.refusals.proofs.Chains.{first-refused, first-accepted, none-holds}
 use Rattle.lists.specs.Tables.{tab}
 use Rattle.channel.specs.declared.Layout.{Layout}
@@ -30,8 +31,8 @@ use Rattle.panner.proofs.Halves.{gained-number, gained-accepted}
 module _ (c : Command) (l : Layout) (g : Commanded) (G : Commands c l g) where
   pub gives-refused : (g .refusal ≡ 0 → ⊥) → Gained c l (noGains (g .refusal))
   gives-refused h = record {
-    is = ap noGains (G .refusal) ∙ sym (answered-refused (gainsPlayed c l) noGains (commandRefusal c l) (λ k. h (G .refusal ∙ k)));
-    promised = G .promised;
+    bits = ap noGains (G .refusal) ∙ sym (answered-refused (gainsPlayed c l) noGains (commandRefusal c l) (λ k. h (G .refusal ∙ k)));
+    words = G .promised;
   }
 
   pub gives-gains : g .refusal ≡ 0 → (narrow : List Float) → narrow ≡ narrowedAll (g .gains) → Gained c l (record { refusal = 0; planes = g .planes; gains = narrow })
@@ -39,8 +40,8 @@ module _ (c : Command) (l : Layout) (g : Commanded) (G : Commands c l g) where
       let accepted : commandRefusal c l ≡ 0 = sym (G .refusal) ∙ z in
       let narrow-is : narrow ≡ narrowedAll (gainsOf c l) = e ∙ ap narrowedAll (G .gains accepted) in
       record {
-        is = (λ i. record { refusal = 0; planes = G .planes accepted i; gains = narrow-is i }) ∙ sym (answered-accepted (gainsPlayed c l) noGains (commandRefusal c l) accepted);
-        promised = G .promised;
+        bits = (λ i. record { refusal = 0; planes = G .planes accepted i; gains = narrow-is i }) ∙ sym (answered-accepted (gainsPlayed c l) noGains (commandRefusal c l) accepted);
+        words = G .promised;
       }
 
 -- ---- a block
@@ -49,7 +50,7 @@ module _ (s : Shape) (input out : List Float) where
   refusal = refusalOf s (length input) (length out)
 
   refused : (n : ℕ) → (n ≡ 0 → ⊥) → refusal ≡ n → Processed s input out (record { refusal = n; samples = 0 }) out
-  refused n h e = record { is = refused-with answerOf (s .frames) (s .stride) (framesOf s input) out n refusal (sym e) h; gains = λ k. absurd (h (sym e ∙ k)) }
+  refused n h e = record { bits = refused-with answerOf (s .frames) (s .stride) (framesOf s input) out n refusal (sym e) h; words = λ k. absurd (h (sym e ∙ k)) }
 
   module _ (g : CommandGains) (G : Gained (s .command) (s .layout) g) where
     abbrev first : List Check
@@ -78,11 +79,11 @@ module _ (s : Shape) (input out : List Float) where
       misfit-is = ap (λ (r : CommandGains). misfit (length input) (length out) (r .planes) (s .stride) (s .frames)) gains-are
 
       pub by-length : misfit (length input) (length out) (g .planes) (s .stride) (s .frames) ≡ true → Processed s input out (record { refusal = 5; samples = 0 }) out
-      by-length m = refused 5 (λ e. omega arith) (goes ∙ stops 5 _ (sym misfit-is ∙ m))
+      by-length m = refused 5 (λ e. omega arith) (goes ∙ cond-true 5 _ (sym misfit-is ∙ m))
 
       module _ (m : misfit (length input) (length out) (g .planes) (s .stride) (s .frames) ≡ false) where
         pub by-frames : mostFrames < s .frames → Processed s input out (record { refusal = 6; samples = 0 }) out
-        by-frames h = refused 6 (λ e. omega arith) (goes ∙ goes-on 5 _ (sym misfit-is ∙ m) ∙ stops 6 0 (lt-ltb mostFrames (s .frames) h))
+        by-frames h = refused 6 (λ e. omega arith) (goes ∙ cond-false 5 _ (sym misfit-is ∙ m) ∙ cond-true 6 0 (lt-ltb mostFrames (s .frames) h))
 
         -- a part from 0 on is the whole block, and its planes are sixteen at most
         whole : withFrames out (s .stride) 0 (pannedPart (s .stride) 0 (s .frames) (min (g .planes) 16) (g .gains) input) ≡ withFrames out (s .stride) 0 (framesOf s input)
@@ -96,6 +97,6 @@ module _ (s : Shape) (input out : List Float) where
         pub plays : (after : List Float) → s .frames ≤ mostFrames → after ≡ withFrames out (s .stride) 0 (pannedPart (s .stride) 0 (s .frames) (min (g .planes) 16) (g .gains) input)
             → Processed s input out (record { refusal = 0; samples = s .frames }) after
         plays after h w = record {
-          is = played-with answerOf (s .frames) (s .stride) (framesOf s input) out refusal after (goes ∙ goes-on 5 _ (sym misfit-is ∙ m) ∙ goes-on 6 0 (le-ltb mostFrames (s .frames) h)) (w ∙ whole);
-          gains = λ k. G .promised accepted;
+          bits = played-with answerOf (s .frames) (s .stride) (framesOf s input) out refusal after (goes ∙ cond-false 5 _ (sym misfit-is ∙ m) ∙ cond-false 6 0 (le-ltb mostFrames (s .frames) h)) (w ∙ whole);
+          words = λ k. G .words accepted;
         }

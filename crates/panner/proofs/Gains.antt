@@ -8,8 +8,9 @@ use borrow.Author.Tests.{not-false}
 use lib.Dec.{eqb, lit≤}
 use lib.ListN.{replicate}
 use lib.Ieee.{Float}
-use Rattle.refusals.proofs.First.{stops, goes-on, passed, not-accepted}
-use Rattle.channel.specs.Layouts.{channelsOf, uncountable, surround, counted}
+use Rattle.refusals.proofs.First.{passed, not-accepted, told-is}
+use Rattle.lists.proofs.Tests.{cond-true, cond-false}
+use Rattle.channel.specs.Layouts.{channelsOf, uncountable, surround, countedBy, counted}
 use Rattle.channel.specs.Orders.{refusesOrder, channelsOfOrder}
 use Rattle.channel.proofs.Counts.{surround-counted, surround-few}
 use Rattle.channel.proofs.Orders.{few-channels}
@@ -20,9 +21,11 @@ use Rattle.stereo.specs.declared.StereoGains.{StereoGains}
 use Rattle.surround.specs.Promise as Surround
 use Rattle.formats.specs.Floats.{zero-float}
 use Rattle.surround.specs.declared.SurroundGains.{SurroundGains}
+use Rattle.surround.proofs.Laws as SurroundLaws
 use Rattle.harmonics.specs.Promise as Harmonics
 use Rattle.harmonics.specs.declared.Direction.{Direction}
 use Rattle.harmonics.specs.declared.Coefficients.{Coefficients}
+use Rattle.harmonics.proofs.Laws.{refusal-is}
 use Rattle.panner.specs.declared.Command.{Command}
 use Rattle.panner.specs.declared.Command.the-variants.{Stereo, Surround, Ambisonic}
 use Rattle.panner.specs.declared.Commanded.{Commanded}
@@ -47,7 +50,7 @@ three false n e h = absurd (h e)
 pub bad-layout : (l : Layout) (k : Counted) → k ≡ counted l → not (eqb (k .refusal) 0) ≡ isBadLayout l
 bad-layout l k e = ap (λ (x : Counted). not (eqb (x .refusal) 0)) e ∙ go (uncountable (channelsOf l))
   where
-    go : (b : Bool) → not (eqb (cond b 2 0) 0) ≡ b
+    go : (b : Bool) → not (eqb (countedBy 2 b (channelsOf l) .refusal) 0) ≡ b
     go true = refl
     go false = refl
 
@@ -55,27 +58,23 @@ bad-layout l k e = ap (λ (x : Counted). not (eqb (x .refusal) 0)) e ∙ go (unc
 module _ (l : Layout) (p : Float) (s : StereoGains) (h : Stereo.Pans p s) where
   stereo-refusal : s .refusal ≡ cond (Stereo.isRefused p) 3 0
   unfolding Stereo.outcome
-  stereo-refusal = ap (λ (x : StereoGains). x .refusal) (h .is) ∙ go (Stereo.isRefused p)
-    where
-      go : (b : Bool) → cond b (Stereo.refused (cond b 3 0)) (Stereo.played p) .refusal ≡ cond b 3 0
-      go true = refl
-      go false = refl
+  stereo-refusal = ap (λ (x : StereoGains). x .refusal) (h .bits) ∙ told-is (Stereo.played p) Stereo.refused (λ (x : StereoGains). x .refusal) refl (Stereo.refusalOf p) refl
 
   pub stereo-refused : isBadLayout l ≡ false → (s .refusal ≡ 0 → ⊥) → commandRefusal (Stereo p) l ≡ 3
-  stereo-refused b n = goes-on 2 _ b ∙ three (Stereo.isRefused p) (s .refusal) stereo-refusal n
+  stereo-refused b n = cond-false 2 _ b ∙ three (Stereo.isRefused p) (s .refusal) stereo-refusal n
 
   pub stereo-accepted : (g : Commanded) → isBadLayout l ≡ false → s .refusal ≡ 0 → g ≡ record { refusal = 0; planes = 2; gains = s .left ∷ s .right ∷ replicate 14 zero-float } → Commands (Stereo p) l g
   stereo-accepted g b z e = record {
-    refusal = ap (λ (x : Commanded). x .refusal) e ∙ sym (goes-on 2 _ b ∙ sym stereo-refusal ∙ z);
+    refusal = ap (λ (x : Commanded). x .refusal) e ∙ sym (cond-false 2 _ b ∙ sym stereo-refusal ∙ z);
     planes = λ k. ap (λ (x : Commanded). x .planes) e;
-    gains = λ k. ap (λ (x : Commanded). x .gains) e ∙ ap (λ (x : StereoGains). x .left ∷ x .right ∷ replicate 14 zero-float) (h .is);
-    promised = λ k. subst (Stereo.Pans p) (λ i. record { refusal = z i; left = h .is i .left; right = h .is i .right }) h;
+    gains = λ k. ap (λ (x : Commanded). x .gains) e ∙ ap (λ (x : StereoGains). x .left ∷ x .right ∷ replicate 14 zero-float) (h .bits);
+    promised = λ k. subst (Stereo.Pans p) (λ i. record { refusal = z i; left = h .bits i .left; right = h .bits i .right }) h;
   }
 
 -- ---- a surround azimuth
 module _ (l : Layout) (a : Float) (s : SurroundGains) (h : Surround.Pans l a s) where
   pub surround-refusal : s .refusal ≡ commandRefusal (Surround a) l
-  surround-refusal = ap (λ (x : SurroundGains). x .refusal) (h .is)
+  surround-refusal = ap (λ (x : SurroundGains). x .refusal) (h .bits) ∙ SurroundLaws.refusal-is l a
 
   offered : s .refusal ≡ 0 → surround l ≡ true
   offered z = not-false (surround l) (passed (not (surround l)) 1 _ (sym surround-refusal ∙ z) .0)
@@ -87,24 +86,24 @@ module _ (l : Layout) (a : Float) (s : SurroundGains) (h : Surround.Pans l a s) 
       record {
         refusal = ap (λ (x : Commanded). x .refusal) e ∙ sym (sym surround-refusal ∙ z);
         planes = λ k. count;
-        gains = λ k. ap (λ (x : Commanded). x .gains) e ∙ ap (λ (x : SurroundGains). x .gains) (h .is);
-        promised = λ k. subst (Surround.Pans l a) (λ i. record { refusal = z i; gains = h .is i .gains }) h;
+        gains = λ k. ap (λ (x : Commanded). x .gains) e ∙ ap (λ (x : SurroundGains). x .gains) (h .bits);
+        promised = λ k. subst (Surround.Pans l a) (λ i. record { refusal = z i; gains = h .bits i .gains }) h;
       }
 
 -- ---- a direction with an order
 module _ (l : Layout) (d : Direction) (n : ℕ) where
   pub order-refused : refusesOrder n ≡ true → commandRefusal (Ambisonic d n) l ≡ 1
-  order-refused o = stops 1 _ o
+  order-refused o = cond-true 1 _ o
 
   pub layout-refused : refusesOrder n ≡ false → isBadLayout l ≡ true → commandRefusal (Ambisonic d n) l ≡ 2
-  layout-refused o b = goes-on 1 _ o ∙ stops 2 _ b
+  layout-refused o b = cond-false 1 _ o ∙ cond-true 2 _ b
 
   module _ (s : Coefficients) (h : Harmonics.Promise n d s) (o : refusesOrder n ≡ false) (b : isBadLayout l ≡ false) where
     direction-is : s .refusal ≡ cond (Harmonics.refusesDirection d) 3 0
-    direction-is = ap (λ (x : Coefficients). x .refusal) (h .is) ∙ goes-on 1 _ o
+    direction-is = refusal-is n d s h ∙ cond-false 1 _ o
 
     command-is : commandRefusal (Ambisonic d n) l ≡ cond (Harmonics.refusesDirection d) 3 0
-    command-is = goes-on 1 _ o ∙ goes-on 2 _ b
+    command-is = cond-false 1 _ o ∙ cond-false 2 _ b
 
     pub direction-refused : (s .refusal ≡ 0 → ⊥) → commandRefusal (Ambisonic d n) l ≡ 3
     direction-refused k = command-is ∙ three (Harmonics.refusesDirection d) (s .refusal) direction-is k
@@ -113,8 +112,8 @@ module _ (l : Layout) (d : Direction) (n : ℕ) where
     ambisonic-accepted g z e = record {
       refusal = ap (λ (x : Commanded). x .refusal) e ∙ sym (command-is ∙ sym direction-is ∙ z);
       planes = λ k. ap (λ (x : Commanded). x .planes) e;
-      gains = λ k. ap (λ (x : Commanded). x .gains) e ∙ ap (λ (x : Coefficients). x .gains) (h .is);
-      promised = λ k. subst (Harmonics.Promise n d) (λ i. record { refusal = z i; gains = h .is i .gains }) h;
+      gains = λ k. ap (λ (x : Commanded). x .gains) e ∙ ap (λ (x : Coefficients). x .gains) (h .bits);
+      promised = λ k. subst (Harmonics.Promise n d) (λ i. record { refusal = z i; gains = h .bits i .gains }) h;
     }
 
 -- ---- at most sixteen planes

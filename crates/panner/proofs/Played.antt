@@ -31,17 +31,17 @@ module _ (s : Shape) (input out : List Float) (answer : Panned) (after : List Fl
 
   -- the number given is the one that document 01 asks for
   pub refusal-is : answer .refusal ≡ refusal
-  refusal-is = ap (λ (b : Block). b .answer .refusal) (P .is) ∙ block-refusal answerOf (s .frames) (s .stride) (framesOf s input) out (λ (a : Panned). a .refusal) (λ n m. refl) refusal
+  refusal-is = ap (λ (b : Block). b .answer .refusal) (P .bits) ∙ block-refusal answerOf (s .frames) (s .stride) (framesOf s input) out (λ (a : Panned). a .refusal) (λ n m. refl) refusal
 
   -- a refusal counts nothing, and lent memory stays the same
   pub refused-unchanged : (answer .refusal ≡ 0 → ⊥) → (answer .samples ≡ 0) × (after ≡ out)
   refused-unchanged h =
-      let e = P .is ∙ block-refused answerOf (s .frames) (s .stride) (framesOf s input) out refusal (λ z. h (refusal-is ∙ z)) in
+      let e = P .bits ∙ block-refused answerOf (s .frames) (s .stride) (framesOf s input) out refusal (λ z. h (refusal-is ∙ z)) in
       (ap (λ (b : Block). b .answer .samples) e, ap (λ (b : Block). b .out) e)
 
   module _ (z : answer .refusal ≡ 0) where
     played : _≡_ {A = Block} (record { answer = answer; out = after }) (record { answer = record { refusal = 0; samples = s .frames }; out = withFrames out (s .stride) 0 (framesOf s input) })
-    played = P .is ∙ block-accepted answerOf (s .frames) (s .stride) (framesOf s input) out refusal (sym refusal-is ∙ z)
+    played = P .bits ∙ block-accepted answerOf (s .frames) (s .stride) (framesOf s input) out refusal (sym refusal-is ∙ z)
 
     abbrev checks : List Check
     checks = commandChecks (s .command) (s .layout) ++ blockChecks s (length input) (length out)

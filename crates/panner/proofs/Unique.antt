@@ -1,13 +1,13 @@
 -- No two answers meet the promise. Assumes nothing.
-use Rattle.refusals.specs.OneAnswer.{AllowsOneAnswer}
-use Rattle.refusals.proofs.Determined.{determined-by}
+use Rattle.lists.specs.OneAnswer.{AllowsOneAnswer}
+use Rattle.lists.proofs.Determined.{determined-by}
 use Rattle.panner.proofs.command_gains
 use Rattle.panner.proofs.play_part
 use Rattle.panner.proofs.process
 
 -- what a command plays
 pub command-gains-unique : AllowsOneAnswer command_gains.ended command_gains.Reads.Learnt
-command-gains-unique κs a = determined-by (λ z h i. (h .is i, _))
+command-gains-unique κs a = determined-by (λ z h i. (h .bits i, _))
 
 -- what the output planes hold after a part
 pub play-part-unique : AllowsOneAnswer play_part.ended play_part.Reads.Learnt
@@ -15,4 +15,4 @@ play-part-unique κs a = determined-by (λ z h i. (_, (h i, _)))
 
 -- the answer and what the output planes hold
 pub process-unique : AllowsOneAnswer process.ended process.Reads.Learnt
-process-unique κs a = determined-by (λ z h i. (h .is i .answer, (_, (_, (_, (_, (_, (h .is i .out, _))))))))
+process-unique κs a = determined-by (λ z h i. (h .bits i .answer, (_, (_, (_, (_, (_, (h .bits i .out, _))))))))

@@ -26,8 +26,8 @@ gained c l = answered (firstOf (commandChecks c l)) (gainsPlayed c l) noGains
 
 -- all that is handed back; and that the gains are those promised
 pub record Gained (c : Command) (l : Layout) (answer : CommandGains) : Type 0 where
-  pub is : answer ≡ gained c l
-  pub promised : firstOf (commandChecks c l) ≡ 0 → Promised c l (gainsOf c l)
+  pub bits : answer ≡ gained c l
+  pub words : firstOf (commandChecks c l) ≡ 0 → Promised c l (gainsOf c l)
 
 -- the frames from one to before another: frame n of the outputs, of sample n of the input
 abbrev pub pannedPart : ℕ → ℕ → ℕ → ℕ → List Float → List Float → List (List Float)

@@ -22,5 +22,5 @@ block s input out = blockOf answerOf (refusalOf s (length input) (length out)) (
 
 -- all that is handed back; and that the gains played are those promised
 pub record Processed (s : Shape) (input out : List Float) (answer : Panned) (after : List Float) : Type 0 where
-  pub is : record { answer = answer; out = after } ≡ block s input out
-  pub gains : refusalOf s (length input) (length out) ≡ 0 → Promised (s .command) (s .layout) (gainsOf (s .command) (s .layout))
+  pub bits : record { answer = answer; out = after } ≡ block s input out
+  pub words : refusalOf s (length input) (length out) ≡ 0 → Promised (s .command) (s .layout) (gainsOf (s .command) (s .layout))

@@ -1,21 +1,15 @@
 -- Wrong answers of another shape, refuted on a worked frame of three channels with weights of 1.0: channels added from the last to the first, a sum that is narrowed at each channel, and damage judged on the sum before
--- it is narrowed. And of the inverse of a root: one of 0, and a refusal of any other number. Assumes nothing.
-use mathlib.Core.Path.{_≡_, ap, _∙_}
-use mathlib.Core.Bool.{true, false, not, true≢false}
+-- it is narrowed. Assumes nothing.
+use mathlib.Core.Path.{_≡_, ap}
+use mathlib.Core.Bool.{true, false, true≢false}
 use mathlib.Core.List.{List, [], _∷_, reverse}
-use Prim.Native.Nat.{ℕ, _<_}
-use native.Mathlib.Omega.{arith}
 use lib.IntN.{pos}
-use lib.Ieee.{Float, inf, fin, binary64, add, mul, round, sum, size, span, climb, units, odd}
+use lib.Ieee.{Float, fin, binary64, add, mul, round, sum, size, span, climb, units, odd}
 use lib.Ieee.Positive.{positive}
-use lib.Ieee.Scale.{finite}
 use Rattle.formats.specs.Floats.{zero-float}
 use Rattle.numbers.specs.Computed.{rounded, narrowed}
 use Rattle.checks.specs.Finite.{unsound}
 use Rattle.planes.specs.Sums.{dot, mixed}
-use Rattle.planes.specs.Normalization.{InverseRoot}
-use Rattle.planes.specs.declared.Inverse.{Inverse}
-use Rattle.planes.proofs.Normalization.{inverse-accepted}
 
 abbrev one : Float
 one = fin false 1 (pos 0)
@@ -51,16 +45,3 @@ loud = fin false 1 (pos 127) ∷ fin false 1 (pos 127) ∷ []
 judged-before-narrowing : unsound (mixed ones loud ∷ []) ≡ unsound (dot zero-float loud ones ∷ []) → ⊥
 unfolding mixed add mul sum round rounded size span climb units odd
 judged-before-narrowing h = true≢false h
-
--- ---- the inverse of a root: of 0 it is refused, and is no infinity; of any other number it is not
-abbrev inverse : ℕ → Float → Inverse
-inverse n x = record { refusal = n; value = x }
-
-zero-accepted : (x : Float) → InverseRoot 0 (inverse 0 x) → ⊥
-zero-accepted x p = let e : _≡_ {A = ℕ} 0 2 = ap (λ (r : Inverse). r .refusal) (p .is) in omega arith
-
-infinity-beside-the-refusal : InverseRoot 0 (inverse 2 (inf false)) → ⊥
-infinity-beside-the-refusal p = true≢false (ap (λ (r : Inverse). not (finite (r .value))) (p .is))
-
-other-refused : (n : ℕ) (x : Float) → 0 < n → InverseRoot n (inverse 2 x) → ⊥
-other-refused n x h p = let e : _≡_ {A = ℕ} 2 0 = ap (λ (r : Inverse). r .refusal) (p .is ∙ inverse-accepted n (λ z. omega arith)) in omega arith

@@ -2,4 +2,3 @@
 pub mod Planes
 pub mod Sums
 pub mod Blocks
-pub mod Normalization

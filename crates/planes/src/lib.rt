@@ -2,17 +2,15 @@
 // 01, 'What must change shape' and 'Sums').
 //
 // Planes with a stride in one list, read and written a sample or a frame at a time; the ordered sum of a
-// frame's samples times weights, narrowed; the inverse of a root; and the words for what a refused and an
-// accepted block give back. Panner, decoder and convolver are made of these, and the decoder matrix and the
-// binaural rows take their factor from here. Every public function takes any input and promises its answer by
-// an equation: what lies outside a list reads as NaN, and writing there changes nothing.
+// frame's samples times weights, narrowed; and the words for what a refused and an accepted block give back.
+// Panner, decoder and convolver are made of these. Every public function takes any input and promises its
+// answer by an equation: what lies outside a list reads as NaN, and writing there changes nothing.
 ghost use mathlib.Core.Path.{_≡_};
 ghost use Prim.Native.Nat.{_+_, _*_, _≤_, min};
 ghost use lib.ListN.{length, getD};
 ghost use lib.Ieee.{nan};
 ghost use Rattle.planes.specs.Planes.{sampleAt, frameAt, withSample, FramePut};
 ghost use Rattle.planes.specs.Sums.{mixed, mixedAll};
-ghost use Rattle.planes.specs.Normalization.{InverseRoot};
 
 // `step` places after `at` in a list of `size`, or its end where that comes first: the sum may not fit
 // and is then not formed.
@@ -116,29 +114,4 @@ pub fn mix_frame(
         o += 1;
     }
     damaged
-}
-
-// 1.0 over the root of n; or refusal 2 and 0.0.
-pub struct Inverse {
-    pub refusal: u8,
-    pub value: f64,
-}
-
-// 1.0 over the root of n; 2 for an n of 0.
-pub fn inverse_root(n: u32) -> Inverse
-    ensures { λ r. ⌜ InverseRoot n r ⌝ }
-{
-    if n == 0 {
-        return Inverse {
-            refusal: 2,
-            value: 0.0,
-        };
-    }
-    let number = n as f64;
-    let rooted = numbers::root(number);
-    let root = rooted.value;
-    Inverse {
-        refusal: 0,
-        value: 1.0 / root,
-    }
 }

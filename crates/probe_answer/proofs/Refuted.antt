@@ -9,7 +9,7 @@ use borrow.Author.Tests.{le-leb, lt-leb}
 use lib.ListN.{length, getD, take, drop, replicate, length-replicate, getD-replicate}
 use lib.Seq.{take-take, drop-drop}
 use lib.Ieee.{Float, binary32, binary64, toBits}
-use Rattle.refusals.proofs.First.{stops, goes-on}
+use Rattle.lists.proofs.Tests.{cond-true, cond-false}
 use Rattle.lists.specs.Placed.{placed}
 use Rattle.lists.proofs.Placed.{take-placed}
 use Rattle.lists.proofs.Lists.{drop-take}
@@ -79,12 +79,12 @@ module _ {A : Type 0} (w : ℕ) (bits : A → ℕ) (d : Draft) (list : List A) (
 module _ (d : Draft) (count n : ℕ) (r : Draft) (is : r ≡ thenField d count n) where
   -- a number is put in more than eight bytes
   nine-bytes : 8 < count → (r .bytes ≡ d .bytes → ⊥) → ⊥
-  nine-bytes h other = other (ap (λ (e : Draft). e .bytes) (is ∙ goes-on _ _ (lt-leb count 8 h)))
+  nine-bytes h other = other (ap (λ (e : Draft). e .bytes) (is ∙ cond-false _ _ (lt-leb count 8 h)))
 
   -- a number is put at the start, where something else stands
   at-the-start : count ≤ 8 → count ≤ d .place → (take count (d .bytes) ≡ bytesOf count n → ⊥) → r .bytes ≡ placed (d .bytes) 0 (bytesOf count n) → ⊥
   at-the-start small h other e =
-      over-what-stands d (bytesOf count n) r (is ∙ stops _ _ (le-leb count 8 small)) count h
+      over-what-stands d (bytesOf count n) r (is ∙ cond-true _ _ (le-leb count 8 small)) count h
       (λ same. other (sym same ∙ ap (take count) e ∙ take-placed (d .bytes) (bytesOf count n) count (length-bytes count n)))
 
 -- ---- a refusal, and numbers

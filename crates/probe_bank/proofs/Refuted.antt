@@ -6,7 +6,7 @@ use Prim.Native.Nat.{ℕ, _+_, _*_, _%_, _^_, _≤_}
 use native.Mathlib.Omega.{arith}
 use borrow.Author.Tests.{le-leb}
 use lib.ListN.{length, take, drop, replicate, length-drop}
-use Rattle.refusals.proofs.First.{stops}
+use Rattle.lists.proofs.Tests.{cond-true}
 use Rattle.big_endian.specs.Bytes.{valueOf, bytesOf}
 use Rattle.big_endian.specs.Fields.{fieldAt, signedAt}
 use Rattle.big_endian.specs.Lists.{strided, signedBytes, floatBytes, signedsAt}
@@ -37,7 +37,7 @@ rows-in-the-place-of-the-offset args out r is long room differs e =
     let counts : List (List ℕ) = bytesOf 4 (o .answer .rows) ∷ bytesOf 4 (o .answer .length) ∷ [] in
     let lists : List (List ℕ) = bytesOf 2 (countChanged s (o .taps)) ∷ signedBytes (o .azimuths) ∷ signedBytes (o .elevations) ∷ floatBytes (take s (o .taps)) ∷ [] in
     let told = second-told (o .answer .refusal) 4 (o .answer .offset) (counts ++ lists) out (omega arith) room in
-    let given = is ∙ stops _ _ (le-leb 6 (length args) long) in
+    let given = is ∙ cond-true _ _ (le-leb 6 (length args) long) in
     differs (sym (told .value) ∙ sym (ap (λ (d : Draft). fieldAt (d .bytes) 1 4) given) ∙ e)
 
 -- ---- 7 bank write
@@ -91,7 +91,7 @@ module _ (args out : List ℕ) (r : Draft) (long : 3 ≤ length args) (room : 1 
 
   answer-given : (operation : ℕ) → turnAnswer operation args out ≡ turnInto operation args (bytesLent args 0) out
   unfolding turnAnswer
-  answer-given operation = stops _ _ (le-leb 2 (length args) (omega arith))
+  answer-given operation = cond-true _ _ (le-leb 2 (length args) (omega arith))
 
   -- a file of version 2 that is turned back is answered as 23 is
   back-as-forth : r ≡ answerOf 24 args out → conversion 2 1 file output .answer .refusal ≡ 0 → versionIn file ≡ 2 → r ≡ answerOf 23 args out → ⊥

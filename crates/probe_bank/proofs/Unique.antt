@@ -1,6 +1,6 @@
 -- No two answers meet one promise: the count and the bytes, together. Assumes nothing.
-use Rattle.refusals.specs.OneAnswer.{AllowsOneAnswer}
-use Rattle.refusals.proofs.Determined.{determined-by}
+use Rattle.lists.specs.OneAnswer.{AllowsOneAnswer}
+use Rattle.lists.proofs.Determined.{determined-by}
 use Rattle.probe_bank.proofs.answer
 
 answer-unique : AllowsOneAnswer answer.ended answer.Reads.Learnt

@@ -22,7 +22,7 @@ use Rattle.hrtf_checks.specs.Refusals.{refusalOf}
 use Rattle.hrtf.specs.Promise.{BlockOutcome, outcome}
 use Rattle.hrtf.specs.Reset.{ResetOutcome, resetRefusal, resetBy, resetOutcome}
 use Rattle.hrtf.proofs.Promised.{outcome-by}
-use Rattle.refusals.proofs.First.{goes-on}
+use Rattle.lists.proofs.Tests.{cond-false}
 use Rattle.probe_request.specs.Requests.{samplesLent, cellsLent, listAt}
 use Rattle.probe_request.proofs.Requests.{place-there}
 use Rattle.probe_answer.specs.Answers.{Draft, draft, none, _then_}
@@ -101,7 +101,7 @@ module _ (args : List ℕ) where
     -- samples that lie inside only in part are filled
     samples-cut : length args < at + 4 * length (l .inputs) → (r .lists .inputs ≡ l .inputs → ⊥) → ⊥
     unfolding listAt
-    samples-cut short other = other (ap (λ (x : ReadLists). x .lists .inputs) is ∙ goes-on _ _ (lt-leb (at + 4 * length (l .inputs)) (length args) short))
+    samples-cut short other = other (ap (λ (x : ReadLists). x .lists .inputs) is ∙ cond-false _ _ (lt-leb (at + 4 * length (l .inputs)) (length args) short))
 
     -- behind lists that lie inside there is another place
     end-further : (k : ℕ) → listsEnd at (lengths l) ≤ length args → 0 < k → r .end ≡ listsEnd at (lengths l) + k → ⊥

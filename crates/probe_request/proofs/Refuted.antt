@@ -11,7 +11,7 @@ use lib.Ieee.{Float, ofBits}
 use lib.Ieee.Positive.{num}
 use lib.ListN.{length, getD}
 use lib.Signed.{mag}
-use Rattle.refusals.proofs.First.{goes-on}
+use Rattle.lists.proofs.Tests.{cond-false}
 use Rattle.lists.proofs.Lists.{split}
 use Rattle.lists.proofs.Tables.{getD-tab}
 use Rattle.big_endian.specs.Bytes.{valueOf}
@@ -79,7 +79,7 @@ other-surround n r is e = let z : _≡_ {A = ℕ} 0 1 = cc in omega arith
 custom-of-its-byte : (which n : ℕ) (r : Layout) → 3 < which → (which ≡ n → ⊥) → r ≡ layoutOf which n → r ≡ Custom which → ⊥
 custom-of-its-byte which n r h other is e =
     let custom : layoutOf which n ≡ Custom n =
-    goes-on _ _ (ne-eqb which 0 (λ e. omega arith)) ∙ goes-on _ _ (ne-eqb which 1 (λ e. omega arith)) ∙ goes-on _ _ (ne-eqb which 2 (λ e. omega arith)) ∙ goes-on _ _ (ne-eqb which 3 (λ e. omega arith)) in
+    cond-false _ _ (ne-eqb which 0 (λ e. omega arith)) ∙ cond-false _ _ (ne-eqb which 1 (λ e. omega arith)) ∙ cond-false _ _ (ne-eqb which 2 (λ e. omega arith)) ∙ cond-false _ _ (ne-eqb which 3 (λ e. omega arith)) in
     let same : Custom which ≡ Custom n = sym e ∙ is ∙ custom in
     other (cc)
 
@@ -109,7 +109,7 @@ module _ {A : Type 0} (read : List ℕ → ℕ → A) (w : ℕ) (args : List ℕ
   -- a list that lies inside only in part is filled
   half-inside : length args < at + w * length list → (r ≡ list → ⊥) → ⊥
   unfolding listAt
-  half-inside short other = other (is ∙ goes-on _ _ (lt-leb (at + w * length list) (length args) short))
+  half-inside short other = other (is ∙ cond-false _ _ (lt-leb (at + w * length list) (length args) short))
 
   module _ (whole : at + w * length list ≤ length args) where
     -- an entry is not what stands in its place

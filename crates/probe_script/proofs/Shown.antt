@@ -9,7 +9,7 @@ use borrow.Author.Tests.{le-leb, lt-leb, leb-true, not-true, not-false}
 use lib.Dec.{leb}
 use lib.ListN.{length, take, drop, replicate, length-take, length-replicate}
 use lib.Ieee.{Float}
-use Rattle.refusals.proofs.First.{stops, goes-on}
+use Rattle.lists.proofs.Tests.{cond-true, cond-false}
 use Rattle.lists.proofs.Lists.{split, take-replicate}
 use Rattle.lists.proofs.Tables.{take-tab, part-is}
 use Rattle.big_endian.specs.Fields.{fieldAt, floatAt, doubleAt}
@@ -100,11 +100,11 @@ module _ (args out : List ℕ) (c i o at n : ℕ) (ec : c ≡ fieldAt args 0 2) 
 
   module _ (b : Bool) (is : b ≡ fits c o at n) where
     pub no-room : not b ≡ true → none out ≡ scriptAnswer args out
-    no-room h = sym (goes-on _ _ (sym is ∙ not-true b h)) ∙ as-asked
+    no-room h = sym (cond-false _ _ (sym is ∙ not-true b h)) ∙ as-asked
 
     module _ (h : not b ≡ false) where
       there : taking (46 + 24 * c + 4 * i) args out (renderedAnswer args c i (replicate o (heldAt args)) at n out) ≡ scriptAnswer args out
-      there = sym (stops _ _ (sym is ∙ not-false b h)) ∙ as-asked
+      there = sym (cond-true _ _ (sym is ∙ not-false b h)) ∙ as-asked
 
       pub no-length : (length args ≡ 46 + 24 * c + 4 * i → ⊥) → none out ≡ scriptAnswer args out
       no-length other = untaken _ args out _ other ∙ there

@@ -7,7 +7,7 @@ use borrow.Author.Tests.{ne-eqb}
 use lib.Ieee.{Float}
 use lib.IntN.{ℤ}
 use lib.ListN.{length}
-use Rattle.refusals.proofs.First.{goes-on}
+use Rattle.lists.proofs.Tests.{cond-false}
 use Rattle.big_endian.specs.Fields.{fieldAt, signedAt, doubleAt}
 use Rattle.channel.specs.declared.Layout.{Layout}
 use Rattle.hrtf_setup.specs.Arrangement.{Wanted, Arrangement, arrangement}
@@ -24,7 +24,7 @@ module _ (operation : ℕ) (args : List ℕ) where
   of-layout l which n h e p q = ap ofLayout (layout-read args 76 which n l e p q) ∙ ap (λ (k : ℕ). wantedAt k args) (sym h)
 
   pub of-order : (order : ℕ) → (operation ≡ 19 → ⊥) → order ≡ fieldAt args 76 8 → ofOrder order ≡ wantedAt operation args
-  of-order order h e = ap ofOrder e ∙ sym (goes-on _ _ (ne-eqb _ _ h))
+  of-order order h e = ap ofOrder e ∙ sym (cond-false _ _ (ne-eqb _ _ h))
 
   pub as-wanted : (o : Arrangement) (wanted : Wanted) (azimuths elevations : List ℤ) (rows : ℕ) (weights : List Float) (given : List ℕ)
       → o ≡ arrangement wanted azimuths elevations rows weights given → wanted ≡ wantedAt operation args → rows ≡ fieldAt args 4 8

@@ -9,7 +9,8 @@ use lib.IntN.{ℤ}
 use lib.ListN.{length}
 use lib.Ieee.{Float}
 use Rattle.refusals.specs.Refusals.{firstOf, _when_, outside}
-use Rattle.refusals.proofs.First.{stops, passed, answered-accepted}
+use Rattle.refusals.proofs.First.{passed, answered-accepted}
+use Rattle.lists.proofs.Tests.{cond-true}
 use Rattle.big_endian.specs.Bytes.{bytesOf}
 use Rattle.big_endian.specs.Fields.{fieldAt}
 use Rattle.big_endian.specs.Lists.{doubleBytes, numberBytes, signedsAt, doublesAt}
@@ -50,7 +51,7 @@ module _ (azimuths elevations : List ℤ) (rows : ℕ) (weights : List Float) wh
 
   of-refused-order : (order : ℕ) → refusesOrder order ≡ true → refusalOf (ofOrder order) azimuths elevations rows weights ≡ 1
   unfolding refusalOf
-  of-refused-order order e = stops _ _ e
+  of-refused-order order e = cond-true _ _ e
 
   accepted-order : (order : ℕ) → refusalOf (ofOrder order) azimuths elevations rows weights ≡ 0 → refusesOrder order ≡ false
   unfolding refusalOf

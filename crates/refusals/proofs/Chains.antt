@@ -7,7 +7,8 @@ use Prim.Native.Nat.{ℕ, zero, suc}
 use lib.Dec.{T, ltb}
 use lib.Ieee.Fits.{and-l, and-r}
 use Rattle.refusals.specs.Refusals.{Check, firstOf}
-use Rattle.refusals.proofs.First.{stops, goes-on, passed}
+use Rattle.refusals.proofs.First.{passed}
+use Rattle.lists.proofs.Tests.{cond-true, cond-false}
 
 -- none of the checks has the number 0; of a list that is written out, by computing
 abbrev pub numbered : List Check → Bool
@@ -33,13 +34,13 @@ numberAt (suc k) (c ∷ cs) = numberAt k cs
 -- the first that holds gives its number
 pub first-holds : (k : ℕ) (cs : List Check) → FirstAt k cs → firstOf cs ≡ numberAt k cs
 first-holds k [] h = absurd h
-first-holds zero (c ∷ cs) h = stops (c .number) (firstOf cs) h
-first-holds (suc k) (c ∷ cs) h = goes-on (c .number) (firstOf cs) (h .0) ∙ first-holds k cs (h .1)
+first-holds zero (c ∷ cs) h = cond-true (c .number) (firstOf cs) h
+first-holds (suc k) (c ∷ cs) h = cond-false (c .number) (firstOf cs) (h .0) ∙ first-holds k cs (h .1)
 
 -- where none holds there is no refusal; `none-holds` is the converse
 pub off-accepts : (cs : List Check) → Off cs → firstOf cs ≡ 0
 off-accepts [] h = refl
-off-accepts (c ∷ cs) h = goes-on (c .number) (firstOf cs) (h .0) ∙ off-accepts cs (h .1)
+off-accepts (c ∷ cs) h = cond-false (c .number) (firstOf cs) (h .0) ∙ off-accepts cs (h .1)
 
 -- a refusal by the first list is the refusal
 pub first-refused : (cs ds : List Check) → (firstOf cs ≡ 0 → ⊥) → firstOf (cs ++ ds) ≡ firstOf cs
@@ -65,7 +66,7 @@ module _ (c : Check) (cs : List Check) (t : T (numbered (c ∷ cs))) (e : firstO
 -- where the first list gives none the second decides
 pub first-accepted : (cs ds : List Check) → T (numbered cs) → firstOf cs ≡ 0 → firstOf (cs ++ ds) ≡ firstOf ds
 first-accepted [] ds t e = refl
-first-accepted (c ∷ cs) ds t e = goes-on (c .number) (firstOf (cs ++ ds)) (here-off c cs t e .0) ∙ first-accepted cs ds (others c cs t e) (here-off c cs t e .1)
+first-accepted (c ∷ cs) ds t e = cond-false (c .number) (firstOf (cs ++ ds)) (here-off c cs t e .0) ∙ first-accepted cs ds (others c cs t e) (here-off c cs t e .1)
 
 -- and no check holds
 pub none-holds : (cs : List Check) → T (numbered cs) → firstOf cs ≡ 0 → Off cs

@@ -1,17 +1,10 @@
--- A test that holds decides, and one that does not leaves it to the rest. Over the type of what is chosen, so that answers go by them as numbers do. And of the numbers: 0 is given where no test holds,
--- and one above it is no acceptance. Assumes nothing.
+-- Of the refusal numbers: 0 is given where no test holds, and one above it is no acceptance. And of what is answered by such a number. Assumes nothing.
 use mathlib.Core.Path.{_≡_, refl, sym, ap, _∙_}
 use mathlib.Core.Bool.{Bool, true, false, _||_, cond, true≢false}
 use Prim.Native.Nat.{ℕ, zero, suc, _<_}
 use native.Mathlib.Nat.{suc-ne-zero}
 use native.Mathlib.Omega.{arith}
 use Rattle.refusals.specs.Refusals.{answered}
-
-pub stops : {A : Type 0} {b : Bool} (x y : A) → b ≡ true → cond b x y ≡ x
-stops {A} x y h = ap (λ (t : Bool). cond t x y) h
-
-pub goes-on : {A : Type 0} {b : Bool} (x y : A) → b ≡ false → cond b x y ≡ y
-goes-on {A} x y h = ap (λ (t : Bool). cond t x y) h
 
 -- where no number is given the first test does not hold, and the rest give none
 pub passed : (b : Bool) (k x : ℕ) → cond b (suc k) x ≡ 0 → (b ≡ false) × (x ≡ 0)

@@ -3,5 +3,4 @@ pub mod First
 pub mod Chains
 pub mod Ranges
 pub mod Counts
-pub mod Determined
 mod Unique

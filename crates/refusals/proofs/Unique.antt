@@ -1,6 +1,6 @@
 -- No two answers meet one promise. Assumes nothing.
-use Rattle.refusals.specs.OneAnswer.{AllowsOneAnswer}
-use Rattle.refusals.proofs.Determined.{determined-by}
+use Rattle.lists.specs.OneAnswer.{AllowsOneAnswer}
+use Rattle.lists.proofs.Determined.{determined-by}
 use Rattle.refusals.proofs.is_within
 use Rattle.refusals.proofs.is_between
 use Rattle.refusals.proofs.is_outside

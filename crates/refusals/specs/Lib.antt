@@ -1,4 +1,3 @@
--- What a range is, what a refusal number is, and what it is that a promise has one answer.
+-- What a range is, and what a refusal number is.
 pub mod Ranges
 pub mod Refusals
-pub mod OneAnswer

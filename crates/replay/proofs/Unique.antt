@@ -1,6 +1,6 @@
 -- No two answers meet the promise. Assumes nothing.
-use Rattle.refusals.specs.OneAnswer.{AllowsOneAnswer}
-use Rattle.refusals.proofs.Determined.{determined-by}
+use Rattle.lists.specs.OneAnswer.{AllowsOneAnswer}
+use Rattle.lists.proofs.Determined.{determined-by}
 use Rattle.replay.proofs.replay
 
 replay-unique : AllowsOneAnswer replay.ended replay.Reads.Learnt

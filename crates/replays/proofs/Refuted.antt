@@ -13,7 +13,7 @@ use Rattle.formats.specs.Floats.{zero-float, one-float, half-float, float}
 use Rattle.numbers.specs.Computed.{rounded, rootOf, rootUnits, wholeRoot, rootIn}
 use Rattle.planes.specs.Planes.{framesOf}
 use Rattle.planes.specs.Sums.{mixed}
-use Rattle.planes.specs.Normalization.{inverseRoot}
+use Rattle.numbers.specs.Normalization.{inverseRoot}
 use Rattle.history.specs.History.{earOf}
 use Rattle.history.specs.Drill.{drill}
 use Rattle.rings.proofs.Blocks.{fresh}

@@ -10,7 +10,7 @@ use native.Mathlib.Omega.{arith}
 use borrow.Author.Tests.{lt-ltb, le-ltb}
 use lib.Dec.{ltb}
 use lib.IntN.{ℤ}
-use Rattle.refusals.specs.OneAnswer.{OneAnswer}
+use Rattle.lists.specs.OneAnswer.{OneAnswer}
 use Rattle.row_choice.specs.Nearest.{Takes}
 use Rattle.row_choice.specs.Choice.{ChoiceMeets}
 use Rattle.row_choice.specs.NearestComputed.{key, nearer, nearestFrom}

@@ -2,4 +2,5 @@
 pub mod Putting
 pub mod Behind
 pub mod Joined
+pub mod Answers
 pub mod Unique

@@ -1,6 +1,6 @@
 -- No two answers meet the promise. Assumes nothing.
-use Rattle.refusals.specs.OneAnswer.{AllowsOneAnswer}
-use Rattle.refusals.proofs.Determined.{determined-by}
+use Rattle.lists.specs.OneAnswer.{AllowsOneAnswer}
+use Rattle.lists.proofs.Determined.{determined-by}
 use Rattle.rows.proofs.put_row
 
 pub put-row-unique : AllowsOneAnswer put_row.ended put_row.Reads.Learnt

@@ -14,4 +14,4 @@ pub record Computed : Type 0 where
 
 -- a refusal, what an accepted call makes of the weights, and the weights as they were lent
 abbrev pub computedBy : ℕ → List Float → List Float → Computed
-computedBy refusal made lent = record { refusal = refusal; weights = answered refusal made (λ n. lent) }
+computedBy refusal made lent = answered refusal (record { refusal = 0; weights = made }) (λ n. record { refusal = n; weights = lent })

@@ -9,7 +9,7 @@ use lib.Ieee as ieee
 use Rattle.formats.specs.Floats.{zero-float, one-float, half-float}
 use Rattle.numbers.specs.Computed.{rounded, rootOf, rootUnits, wholeRoot, rootIn}
 use Rattle.planes.specs.Sums.{mixed}
-use Rattle.planes.specs.Normalization.{inverseRoot}
+use Rattle.numbers.specs.Normalization.{inverseRoot}
 use Rattle.history.specs.History.{earOf}
 use Rattle.history.specs.Drill.{drill}
 use Rattle.hrtf_checks.specs.Call.{Call}

@@ -22,7 +22,7 @@ use Rattle.planes.specs.Planes.{sampleAt, withFrames}
 use Rattle.planes.proofs.Blocks.{refused-with, played-with}
 use Rattle.harmonics.specs.Promise.{refusesDirection}
 use Rattle.harmonics.specs.Promise as Harmonics
-use Rattle.harmonics.proofs.Laws.{accepted, outcome-kept}
+use Rattle.harmonics.proofs.Laws.{accepted, outcome-kept, refusal-is}
 use Rattle.panner.specs.Blocks.{misfit, mostFrames}
 use Rattle.planes.proofs.Framing.{Parting, parting-all}
 use Rattle.cues.specs.declared.Cue.{Cue}
@@ -100,7 +100,7 @@ promised-all order (c ∷ cs) o h =
     let d = c .direction in
     let off = or-off (refusesDirection d) (any (refusedOf cs)) h in
     let none : Harmonics.refusalOf order d ≡ 0 = accepted order d o (off .0) in
-    (subst (λ (n : ℕ). Harmonics.Promise order d (record { refusal = n; gains = Harmonics.outcome order d .gains })) none (outcome-kept order d), promised-all order cs o (off .1))
+    (subst (λ (n : ℕ). Harmonics.Promise order d (record { refusal = n; gains = Harmonics.outcome order d .gains })) (refusal-is order d (Harmonics.outcome order d) (outcome-kept order d) ∙ none) (outcome-kept order d), promised-all order cs o (off .1))
 
 -- ---- what is played, by the number of the frame within the stretch
 abbrev pub frameOf : Stretch → List Cue → List Float → ℕ → List Float

@@ -1,6 +1,6 @@
 -- No two answers meet one promise. Assumes nothing.
-use Rattle.refusals.specs.OneAnswer.{AllowsOneAnswer}
-use Rattle.refusals.proofs.Determined.{determined-by}
+use Rattle.lists.specs.OneAnswer.{AllowsOneAnswer}
+use Rattle.lists.proofs.Determined.{determined-by}
 use Rattle.stamps.proofs.coming
 use Rattle.stamps.proofs.then_expected
 use Rattle.stamps.proofs.skipped

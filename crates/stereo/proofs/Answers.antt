@@ -1,12 +1,13 @@
 -- The answers of the program are those promised: one that is refused, and one that is played. Assumes nothing.
-use mathlib.Core.Path.{_≡_, sym, ap, _∙_, subst}
+use mathlib.Core.Path.{_≡_, sym, _∙_, subst}
 use mathlib.Core.Bool.{true, false}
 use Prim.Native.Nat.{_<_}
 use borrow.Author.Tests.{not-false}
 use lib.Dec.{T, lit<}
 use lib.Ieee.{Float}
 use lib.Ieee.Scale.{finite}
-use Rattle.refusals.proofs.First.{stops, goes-on, not-accepted}
+use Rattle.refusals.proofs.First.{not-accepted, answered-accepted, answered-by}
+use Rattle.lists.proofs.Tests.{cond-true, cond-false}
 use Rattle.fractions.specs.Fraction.{number}
 use Rattle.fractions.proofs.Number.{finite-number}
 use Rattle.series.specs.Sums.{sine, cosine}
@@ -20,11 +21,10 @@ module _ (p : Float) where
   pub refuses : isRefused p ≡ true → Pans p (refused 3)
   unfolding outcome
   refuses r =
-      let three : refusalOf p ≡ 3 = stops 3 0 r in
+      let three : refusalOf p ≡ 3 = cond-true 3 0 r in
       record {
-        is = sym (stops (refused (refusalOf p)) (played p) r ∙ ap refused three);
-        left = λ k. absurd (not-accepted 3 (lit< tt) three k);
-        right = λ k. absurd (not-accepted 3 (lit< tt) three k);
+        bits = answered-by (played p) refused (refusalOf p) 3 (lit< tt) three;
+        words = λ k. absurd (not-accepted 3 (lit< tt) three k);
       }
 
   -- c is the clamped position
@@ -35,7 +35,6 @@ module _ (p : Float) where
       let b = subst (λ (z : Float). Promise sine (angleFrom z) r) e b' in
       let P : 0 < number p .over = finite-number p (subst T (sym (not-false (finite p) h)) tt) in
       record {
-        is = (λ i. record { refusal = 0; left = a .is i .value; right = b .is i .value }) ∙ sym (goes-on (refused (refusalOf p)) (played p) h);
-        left = λ k. gain-near p P cosine l a;
-        right = λ k. gain-near p P sine r b;
+        bits = (λ i. record { refusal = 0; left = a .bits i .value; right = b .bits i .value }) ∙ sym (answered-accepted (played p) refused (refusalOf p) (cond-false 3 0 h));
+        words = λ k. record { left = gain-near p P cosine l a; right = gain-near p P sine r b };
       }

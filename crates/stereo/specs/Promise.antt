@@ -1,11 +1,11 @@
 -- Document 01, 'Refusal numbers': 3 is given exactly when "an angle or position is NaN or infinite", and "A refusal returns its number, [..] 0.0 for any number or gain". 'Gains', stereo: "Within 2^-36." Definitions only.
 use Prim.Native.Nat.{ℕ}
 use mathlib.Core.Path.{_≡_}
-use mathlib.Core.Bool.{Bool, not, cond}
+use mathlib.Core.Bool.{Bool, not}
 use mathlib.Core.List.{[], _∷_}
 use lib.Ieee.{Float}
 use lib.Ieee.Scale.{finite}
-use Rattle.refusals.specs.Refusals.{firstOf, _when_}
+use Rattle.refusals.specs.Refusals.{firstOf, _when_, answered}
 use Rattle.fractions.specs.Fraction.{number, Within}
 use Rattle.series.specs.Sums.{sine, cosine}
 use Rattle.series.specs.Angles.{definedSine, definedCosine}
@@ -33,10 +33,14 @@ abbrev pub refused : ℕ → StereoGains
 refused n = record { refusal = n; left = zero-float; right = zero-float }
 
 unfoldable pub outcome : Float → StereoGains
-outcome p = cond (isRefused p) (refused (refusalOf p)) (played p)
+outcome p = answered (refusalOf p) (played p) refused
 
--- every bit of the answer; and of the gains at an accepted position how near they are to document 01's formula
+-- of the gains at an accepted position: how near they are to document 01's formula
+pub record StereoWords (p : Float) (answer : StereoGains) : Type 0 where
+  pub left : Within stereoBits (number (answer .left)) (definedCosine (angle (number p)))
+  pub right : Within stereoBits (number (answer .right)) (definedSine (angle (number p)))
+
+-- every bit of the answer, and document 01's words
 pub record Pans (p : Float) (answer : StereoGains) : Type 0 where
-  pub is : answer ≡ outcome p
-  pub left : refusalOf p ≡ 0 → Within stereoBits (number (answer .left)) (definedCosine (angle (number p)))
-  pub right : refusalOf p ≡ 0 → Within stereoBits (number (answer .right)) (definedSine (angle (number p)))
+  pub bits : answer ≡ outcome p
+  pub words : refusalOf p ≡ 0 → StereoWords p answer

@@ -13,7 +13,7 @@ use lib.Ieee.{Float, nan, binary64, fits, div, ofInt}
 use lib.Ieee.Fits.{add-fits}
 use lib.Ieee.Positive.{positive}
 use Rattle.formats.specs.Floats.{zero-float}
-use Rattle.refusals.proofs.First.{stops, goes-on}
+use Rattle.lists.proofs.Tests.{cond-true, cond-false}
 use Rattle.fractions.specs.Fraction.{Fraction, whole, number, magnitude, AtMost, isLess}
 use Rattle.fractions.specs.Squares.{BySquares}
 use Rattle.fractions.proofs.Roots.{RootOf}
@@ -37,7 +37,7 @@ use Rattle.channel.specs.declared.Layout.{Layout}
 use Rattle.channel.specs.declared.Layout.the-variants.{Surround51, Surround71}
 use Rattle.surround.specs.Formula.{speakerAt, distance, rawAt, sumAt, isSilent}
 use Rattle.surround.specs.Computed.{channelGain, rawGains, sumOf, dividedBy}
-use Rattle.surround.specs.Promise.{surroundBits, gainsOf, Gains}
+use Rattle.surround.specs.Promise.{surroundBits, gainsOf, SurroundWords}
 use Rattle.surround.proofs.Raw.{channel-raw, channel-silent, channel-low}
 use Rattle.surround.proofs.Clear.{channel-in-sum, clear}
 
@@ -128,7 +128,7 @@ module _ (l : Layout) (a : Float) (A : 0 < number a .over) (H : AtMost (magnitud
     unfolding quotient raw
     channel-is c h =
         let k : c < 16 = omega (arith, p .small) in
-        place-is c k ∙ ap (λ (x : Float). div binary64 x root) (raw-is c k ∙ stops (channelGain l a c) zero-float (lt-ltb c n h))
+        place-is c k ∙ ap (λ (x : Float). div binary64 x root) (raw-is c k ∙ cond-true (channelGain l a c) zero-float (lt-ltb c n h))
 
     -- beyond the channels of the layout
     beyond-is : (c : ℕ) → n ≤ c → getD (gainsOf l a) c zero-float ≡ zero-float
@@ -136,7 +136,7 @@ module _ (l : Layout) (a : Float) (A : 0 < number a .over) (H : AtMost (magnitud
     beyond-is c h = go (split c 16)
       where
         go : (c < 16) ⊎ (16 ≤ c) → getD (gainsOf l a) c zero-float ≡ zero-float
-        go (inl k) = place-is c k ∙ ap (λ (x : Float). div binary64 x root) (raw-is c k ∙ goes-on (channelGain l a c) zero-float (le-ltb c n h)) ∙ zero-divided
+        go (inl k) = place-is c k ∙ ap (λ (x : Float). div binary64 x root) (raw-is c k ∙ cond-false (channelGain l a c) zero-float (le-ltb c n h)) ∙ zero-divided
         go (inr k) = List·getD-eq-default (gainsOf l a) zero-float {n = c} (omega (arith, length-tab 0 16 quotient))
 
     zeroed : (c : ℕ) → channelGain l a c ≡ zero-float → getD (gainsOf l a) c zero-float ≡ zero-float
@@ -156,7 +156,7 @@ module _ (l : Layout) (a : Float) (A : 0 < number a .over) (H : AtMost (magnitud
         go false false false u v w t = zeroed c (w refl)
         go false false true u v w t = absurd t
 
-    the-gains : Gains l a (λ c. getD (gainsOf l a) c zero-float)
+    the-gains : SurroundWords l a (λ c. getD (gainsOf l a) c zero-float)
     the-gains = record {
       clear = clear q A H l e;
       near = λ c h. subst (λ (x : Float). BySquares surroundBits (number x) (rawAt l q c) (sumAt l q)) (sym (channel-is c h)) (near c h);
@@ -172,5 +172,5 @@ passes-71 : (a : Float) (A : 0 < number a .over) (H : AtMost (magnitude (number 
 unfolding sumOf rawGains ofInt
 passes-71 a A H = record { good = tt; clearly = tt; fine = tt; run-is = refl; exact-is = refl; fit = add-fits binary64 _ _; small = lit≤ tt }
 
-pub gains : (l : Layout) (a : Float) → surround l ≡ true → 0 < number a .over → AtMost (magnitude (number a)) (whole 180) → Gains l a (λ c. getD (gainsOf l a) c zero-float)
+pub gains : (l : Layout) (a : Float) → surround l ≡ true → 0 < number a .over → AtMost (magnitude (number a)) (whole 180) → SurroundWords l a (λ c. getD (gainsOf l a) c zero-float)
 gains l a e A H = the-gains l a A H e (by-surround (λ (l : Layout). Passes l a A H) (passes-51 a A H) (passes-71 a A H) l e)

@@ -1,4 +1,4 @@
--- The laws of the surround gains. Crates above cite `Drill`.
+-- The laws of the surround gains. Crates above cite `Laws` and `Drill`.
 mod Speakers
 mod Ways
 mod Steps
@@ -6,6 +6,7 @@ mod Raw
 mod Clear
 mod Gains
 mod Answers
+pub mod Laws
 mod Unique
 pub mod Drill
 mod Worked

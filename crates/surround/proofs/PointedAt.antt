@@ -9,7 +9,7 @@ use lib.Dec.{T, eqb}
 use Rattle.lists.specs.Tables.{tab, every}
 use Rattle.lists.proofs.Tables.{length-tab, getD-tab}
 use Rattle.lists.proofs.Every.{every-at}
-use Rattle.refusals.proofs.First.{goes-on}
+use Rattle.lists.proofs.Tests.{cond-false}
 use Rattle.fractions.specs.Fraction.{whole, square, isLess}
 use Rattle.fractions.proofs.Order.{isSame, same-computed}
 use Rattle.fractions.proofs.Compare.{less-true}
@@ -44,10 +44,10 @@ module _ (l : Layout) where
 
   says : every loudest channels ≡ true → (c : ℕ) → c < channelsOf l → lowFrequency l c ≡ false → Loudest l c
   says t c h low =
-      let both = and-eq-true-iff (full c) (every (softer c) channels) .0 (sym (goes-on true _ low) ∙ passed loudest (channelsOf l) c t h) in
+      let both = and-eq-true-iff (full c) (every (softer c) channels) .0 (sym (cond-false true _ low) ∙ passed loudest (channelsOf l) c t h) in
       record {
         itself = same-computed _ _ (subst T (sym (both .0)) tt);
-        others = λ k i apart. less-true _ _ (sym (goes-on true _ apart) ∙ passed (softer c) (channelsOf l) k (both .1) i);
+        others = λ k i apart. less-true _ _ (sym (cond-false true _ apart) ∙ passed (softer c) (channelsOf l) k (both .1) i);
       }
 
 loudest-51 : every (loudest Surround51) (channels Surround51) ≡ true

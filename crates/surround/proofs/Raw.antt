@@ -8,9 +8,8 @@ use native.Mathlib.Omega.{arith}
 use lib.Dec.{lit≤, lit<}
 use lib.IntN.{ℤ, pos, negsuc}
 use lib.Ieee.{Float, binary64, lt, neg, add, sub, ofInt}
-use Rattle.lists.proofs.Tests.{by-test, either, by-less}
+use Rattle.lists.proofs.Tests.{by-test, either, by-less, cond-true, cond-false}
 use Rattle.fractions.specs.Fraction.{Fraction, fraction, whole, unit, opposite, magnitude, number, _⊕_, _⊖_, Same, Less, AtMost, isLess, Within}
-use Rattle.refusals.proofs.First.{stops, goes-on}
 use Rattle.fractions.proofs.Approximates.{Approximates}
 use Rattle.fractions.proofs.Order.{same-refl, same-sym, at-most-trans, at-most-same, less-at-most}
 use Rattle.fractions.proofs.Restate.{same-sub}
@@ -192,7 +191,7 @@ module _ (a s : Float) (p m : ℕ) (A : 0 < number a .over) (H : AtMost (magnitu
 
   raw-silent : isLess d (whole 90) ≡ false → rawOf a s ≡ zero-float
   unfolding rawOf
-  raw-silent h = goes-on _ zero-float (raw-test ∙ h)
+  raw-silent h = cond-false _ zero-float (raw-test ∙ h)
 
 -- ---- of a channel
 module _ (l : Layout) (a : Float) (c : ℕ) (A : 0 < number a .over) (H : AtMost (magnitude (number a)) (whole 180)) where
@@ -220,4 +219,4 @@ module _ (l : Layout) (a : Float) (c : ℕ) (A : 0 < number a .over) (H : AtMost
 
   pub channel-low : lowFrequency l c ≡ true → channelGain l a c ≡ zero-float
   unfolding channelGain
-  channel-low h = stops zero-float (rawOf a (azimuthOf l c)) h
+  channel-low h = cond-true zero-float (rawOf a (azimuthOf l c)) h

@@ -4,7 +4,7 @@ use mathlib.Core.Bool.{Bool, true, false, not}
 use Prim.Native.Nat.{ℕ}
 use borrow.Author.Tests.{not-true, not-false}
 use lib.Ieee.{Float, binary64, lt, sub}
-use Rattle.refusals.proofs.First.{stops, goes-on}
+use Rattle.lists.proofs.Tests.{cond-true, cond-false}
 use Rattle.series.specs.Sums.{cosine}
 use Rattle.angles.specs.declared.Answer.{Answer}
 use Rattle.angles.specs.Promise as Angles
@@ -21,33 +21,33 @@ module _ (a s t : Float) (b : Bool) (e : t ≡ placeOf a s) (n : b ≡ isNear a 
 
   pub far : not b ≡ true → zero-float ≡ rawOf a s
   unfolding rawOf
-  far h = sym (goes-on _ _ (sym near-place ∙ not-true b h))
+  far h = sym (cond-false _ _ (sym near-place ∙ not-true b h))
 
   -- x is the way to it, and g the cosine's answer
   module _ (x : Float) (g : Answer) (h : not b ≡ false) (w : x ≡ absolute (sub binary64 a t)) (p : Promise cosine x g) where
     value-is : g .value ≡ Angles.outcome cosine (wayOf a (placeOf a s)) .value
     unfolding wayOf
     value-is =
-        ap (λ (r : Answer). r .value) (p .is)
+        ap (λ (r : Answer). r .value) (p .bits)
         ∙ ap (λ (y : Float). Angles.outcome cosine y .value) (w ∙ ap (λ (z : Float). absolute (sub binary64 a z)) e)
 
     raw-is : rawOf a s ≡ notBelow (g .value)
     unfolding rawOf
-    raw-is = stops _ _ (sym near-place ∙ not-false b h) ∙ ap notBelow (sym value-is)
+    raw-is = cond-true _ _ (sym near-place ∙ not-false b h) ∙ ap notBelow (sym value-is)
 
     pub lifted : lt (g .value) zero-float ≡ true → zero-float ≡ rawOf a s
     unfolding notBelow
-    lifted l = sym (raw-is ∙ stops zero-float (g .value) l)
+    lifted l = sym (raw-is ∙ cond-true zero-float (g .value) l)
 
     pub kept : lt (g .value) zero-float ≡ false → g .value ≡ rawOf a s
     unfolding notBelow
-    kept l = sym (raw-is ∙ goes-on zero-float (g .value) l)
+    kept l = sym (raw-is ∙ cond-false zero-float (g .value) l)
 
 module _ (l : Layout) (a : Float) (c : ℕ) (b : Bool) (e : b ≡ lowFrequency l c) where
   pub low : b ≡ true → zero-float ≡ channelGain l a c
   unfolding channelGain
-  low h = sym (stops _ _ (sym e ∙ h))
+  low h = sym (cond-true _ _ (sym e ∙ h))
 
   pub directed : (s g : Float) → b ≡ false → s ≡ azimuthOf l c → g ≡ rawOf a s → g ≡ channelGain l a c
   unfolding channelGain
-  directed s g h d r = r ∙ ap (rawOf a) d ∙ sym (goes-on zero-float (rawOf a (azimuthOf l c)) (sym e ∙ h))
+  directed s g h d r = r ∙ ap (rawOf a) d ∙ sym (cond-false zero-float (rawOf a (azimuthOf l c)) (sym e ∙ h))

@@ -6,8 +6,7 @@ use Prim.Native.Nat.{ℕ, _+_, _*_, _≤_, _<_}
 use native.Mathlib.Nat.{mul-pos}
 use native.Mathlib.Omega.{arith}
 use lib.Dec.{lit<}
-use Rattle.lists.proofs.Tests.{by-less}
-use Rattle.refusals.proofs.First.{stops, goes-on}
+use Rattle.lists.proofs.Tests.{by-less, cond-true, cond-false}
 use Rattle.fractions.specs.Fraction.{Fraction, fraction, whole, magnitude, _⊕_, _⊖_, Same, Less, AtMost, isLess}
 use Rattle.fractions.proofs.Close.{scaled}
 use Rattle.fractions.proofs.Order.{same-refl, at-most-same}
@@ -83,11 +82,11 @@ module _ (a : Fraction) (p m : ℕ) (A : 0 < a .over) (H : AtMost (magnitude a) 
   -- by whether it is more than 180 away
   around : Less (whole 180) apart → distance a q ≡ whole 360 ⊖ apart
   unfolding distance
-  around h = stops (whole 360 ⊖ apart) apart (is-less (whole 180) apart h)
+  around h = cond-true (whole 360 ⊖ apart) apart (is-less (whole 180) apart h)
 
   pub straight : AtMost apart (whole 180) → distance a q ≡ apart
   unfolding distance
-  straight h = goes-on (whole 360 ⊖ apart) apart (is-not-less (whole 180) apart h)
+  straight h = cond-false (whole 360 ⊖ apart) apart (is-not-less (whole 180) apart h)
 
   -- what is left of a turn, over the same number
   left-of-turn : (y : ℕ) → 360 * a .over ≡ y + apart .plus → Same (whole 360 ⊖ apart) (fraction y 0 (a .over * 1))

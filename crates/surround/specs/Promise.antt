@@ -3,13 +3,13 @@
 -- Within 2^-30, stated by squares". Definitions only.
 use Prim.Native.Nat.{ℕ, _<_}
 use mathlib.Core.Path.{_≡_}
-use mathlib.Core.Bool.{not, cond}
+use mathlib.Core.Bool.{not}
 use mathlib.Core.List.{List, [], _∷_}
-use lib.Dec.{T, eqb}
+use lib.Dec.{T}
 use lib.ListN.{getD}
 use lib.Ieee.{Float, binary64}
 use Rattle.formats.specs.Floats.{zero-float}
-use Rattle.refusals.specs.Refusals.{firstOf, _when_}
+use Rattle.refusals.specs.Refusals.{firstOf, _when_, answered}
 use Rattle.fractions.specs.Fraction.{fraction, whole, number, AtMost}
 use Rattle.fractions.specs.Squares.{BySquares}
 use Rattle.numbers.specs.Computed.{rootOf}
@@ -32,10 +32,10 @@ unfoldable pub gainsOf : Layout → Float → List Float
 gainsOf l a = let raw = rawGains l a (channelsOf l) in dividedBy (rootOf binary64 (sumOf (channelsOf l) raw)) raw
 
 abbrev pub outcome : Layout → Float → SurroundGains
-outcome l a = record { refusal = refusalOf l a; gains = cond (eqb (refusalOf l a) 0) (gainsOf l a) silence }
+outcome l a = answered (refusalOf l a) (record { refusal = 0; gains = gainsOf l a }) (λ n. record { refusal = n; gains = silence })
 
 -- an accepted answer: g is the gain of a channel
-pub record Gains (l : Layout) (a : Float) (g : ℕ → Float) : Type 0 where
+pub record SurroundWords (l : Layout) (a : Float) (g : ℕ → Float) : Type 0 where
   -- the sum of squares is far from 000's limit of 10 ^ -10
   pub clear : AtMost (fraction 3 0 100) (sumAt l (number a))
   pub near : (c : ℕ) → c < channelsOf l → BySquares surroundBits (number (g c)) (rawAt l (number a) c) (sumAt l (number a))
@@ -44,5 +44,5 @@ pub record Gains (l : Layout) (a : Float) (g : ℕ → Float) : Type 0 where
 
 -- every bit of the answer, and what document 01 says of the gains of an accepted azimuth
 pub record Pans (l : Layout) (a : Float) (answer : SurroundGains) : Type 0 where
-  pub is : answer ≡ outcome l a
-  pub gains : refusalOf l a ≡ 0 → Gains l a (λ c. getD (answer .gains) c zero-float)
+  pub bits : answer ≡ outcome l a
+  pub words : refusalOf l a ≡ 0 → SurroundWords l a (λ c. getD (answer .gains) c zero-float)

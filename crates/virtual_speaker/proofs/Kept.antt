@@ -1,11 +1,12 @@
 -- The promise is kept: all of it holds of the answer that the definition gives, and the program gives that. Assumes nothing.
 use mathlib.Core.Path.{_≡_, refl, sym, ap, _∙_, subst}
-use mathlib.Core.Bool.{Bool, true, false, cond}
 use mathlib.Core.List.{List}
-use Prim.Native.Nat.{ℕ, _≤_, _<_}
-use lib.Dec.{eqb, ltb, lit≤}
+use Prim.Native.Nat.{ℕ, zero, suc, _≤_, _<_}
+use lib.Dec.{ltb, lit≤}
 use lib.ListN.{getD}
 use lib.Ieee.{Float, nan, binary64, mul, round, ofInt}
+use Rattle.refusals.specs.Refusals.{answered}
+use Rattle.refusals.proofs.First.{answered-accepted}
 use Rattle.lists.proofs.Tests.{either}
 use Rattle.fractions.specs.Fraction.{Fraction, number, whole, _⊗_, Within, EachWithin}
 use Rattle.fractions.proofs.Approximates.{Approximates}
@@ -22,6 +23,7 @@ use Rattle.harmonics.proofs.Laws as Laws
 use Rattle.virtual_speaker.specs.Weights.{c, degreeOf, weightedFormulas}
 use Rattle.virtual_speaker.specs.Computed.{cosineOf, weight, weigh, weighted}
 use Rattle.virtual_speaker.specs.Promise.{weightBits, outcome, Promise}
+use Rattle.virtual_speaker.specs.declared.Weighted.{Weighted}
 use Rattle.virtual_speaker.proofs.Cosines.{cosine-near}
 use Rattle.virtual_speaker.proofs.Near.{weighted-near, each-tab}
 
@@ -55,22 +57,34 @@ module _ (order : ℕ) (d : Direction) where
       (subst (λ (xs : List Float). Approximates 42 (whole 5) (getD xs i nan) (getD (formulas order a e) i (whole 0))) (Laws.gains-are order d o p h) (Laws.gain-near order d o p h i nan (whole 0) l))
       (degreeOf i) (degree-most i)
 
+  abbrev accepting : List Float → Weighted
+  accepting xs = record { refusal = 0; weights = xs }
+
+  abbrev refusing : ℕ → Weighted
+  refusing n = record { refusal = n; weights = silence }
+
   weights-are : refusalOf order d ≡ 0 → outcome order d .weights ≡ weighted order d
-  weights-are h = ap (λ (r : ℕ). cond (eqb r 0) (weighted order d) silence) h
+  weights-are h = ap (λ (r : Weighted). r .weights) (answered-accepted (accepting (weighted order d)) refusing (refusalOf order d) h)
 
   pub outcome-kept : Promise order d (outcome order d)
   unfolding weigh
   outcome-kept = record {
-    is = refl;
-    near = λ h.
+    bits = refl;
+    words = λ h.
         subst (λ (xs : List Float). EachWithin weightBits xs (weightedFormulas order a e)) (sym (weights-are h))
         (each-tab weightBits 0 16 computed-at formula-at (λ i l. within-weaken (lit≤ tt) (near-at h i l)));
   }
 
   -- ---- the answer of the program
   pub weighed-kept : (r : Coefficients) → Harmonics.Promise order d r → (w : List Float) → w ≡ weigh (cosineOf order) (r .gains) → Promise order d (record { refusal = r .refusal; weights = w })
-  weighed-kept r p w h = subst (Promise order d) (λ i. record { refusal = sym (Laws.refusal-is order d r p) i; weights = sym (h ∙ ap (λ (s : Coefficients). weigh (cosineOf order) (s .gains)) (p .is) ∙ through (eqb (refusalOf order d) 0)) i }) outcome-kept
+  weighed-kept r p w h =
+      subst (Promise order d)
+      (sym ((λ i. record { refusal = p .bits i .refusal; weights = (h ∙ ap (λ (s : Coefficients). weigh (cosineOf order) (s .gains)) (p .bits)) i }) ∙ through (refusalOf order d))) outcome-kept
     where
-      through : (b : Bool) → weigh (cosineOf order) (cond b (upTo order (wavesOf d)) silence) ≡ cond b (weighted order d) silence
-      through true = refl
-      through false = silence-weighed order
+      -- by the refusal: the coefficients, and those weighed
+      coefficients : ℕ → Coefficients
+      coefficients n = answered n (record { refusal = 0; gains = upTo order (wavesOf d) }) (λ k. record { refusal = k; gains = silence })
+
+      through : (n : ℕ) → record { refusal = coefficients n .refusal; weights = weigh (cosineOf order) (coefficients n .gains) } ≡ answered n (accepting (weighted order d)) refusing
+      through zero = refl
+      through (suc n) = ap (λ (xs : List Float). record { refusal = suc n; weights = xs }) (silence-weighed order)

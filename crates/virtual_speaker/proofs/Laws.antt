@@ -1,17 +1,16 @@
 -- What the crates above cite of the weighted coefficients, beside their promise: that all are finite, whether refused or not, and that the eight positions are accepted. Assumes nothing.
 use mathlib.Core.Path.{_≡_, refl, ap, _∙_}
-use mathlib.Core.Bool.{Bool, true, false, not, _||_, cond}
+use mathlib.Core.Bool.{Bool, true, false, not, _||_}
 use mathlib.Core.List.{List, [], _∷_}
-use Prim.Native.Nat.{ℕ, suc}
+use Prim.Native.Nat.{ℕ, zero, suc}
 use native.Mathlib.Omega.{arith}
-use lib.Dec.{T, eqb, lit<, lit≤, leb→le}
-use borrow.Author.Tests.{eqb-true}
+use lib.Dec.{T, lit<, lit≤, leb→le}
 use lib.IntN.{ℤ, pos, negsuc}
 use lib.ListN.{length, getD}
 use lib.Ieee.{Float, binary64, ofInt}
 use lib.Ieee.Scale.{finite}
 use lib.Ieee.Bits.{is-true}
-use Rattle.lists.proofs.Tests.{by-test, either}
+use Rattle.refusals.specs.Refusals.{answered}
 use Rattle.formats.specs.Floats.{zero-float}
 use Rattle.fractions.specs.Fraction.{Fraction, number, EachWithin}
 use Rattle.fractions.proofs.Number.{number-finite}
@@ -26,6 +25,8 @@ use Rattle.virtual_speaker.specs.Weights.{weightedFormulas}
 use Rattle.virtual_speaker.specs.Computed.{weigh, weighted}
 use Rattle.virtual_speaker.specs.Promise.{weightBits, Promise, positionOf}
 use Rattle.virtual_speaker.specs.declared.Weighted.{Weighted}
+-- the direction of a position, also of what is none
+pub use Rattle.virtual_speaker.proofs.Positions.{position-direction}
 -- the promise holds of the answer that the definition gives
 pub use Rattle.virtual_speaker.proofs.Kept.{outcome-kept}
 
@@ -36,20 +37,25 @@ each-sound k (x ∷ xs) (q ∷ qs) h = ap (λ (b : Bool). not b || unsound xs) (
 each-sound k (x ∷ xs) [] h = absurd h
 
 module _ (order : ℕ) (d : Direction) (answer : Weighted) (p : Promise order d answer) where
-  weights-are : answer .weights ≡ cond (eqb (refusalOf order d) 0) (weighted order d) silence
-  weights-are = ap (λ (s : Weighted). s .weights) (p .is)
+  -- the answer by its refusal
+  abbrev by : ℕ → Weighted
+  by n = answered n (record { refusal = 0; weights = weighted order d }) (λ k. record { refusal = k; weights = silence })
 
   -- ---- there are sixteen, all of them finite
   pub weights-length : length (answer .weights) ≡ 16
   unfolding weigh
-  weights-length = ap length weights-are ∙ either (λ (ws : List Float). length ws ≡ 16) {x = weighted order d} {y = silence} (eqb (refusalOf order d) 0) refl refl
+  weights-length = ap (λ (s : Weighted). length (s .weights)) (p .bits) ∙ sixteen (refusalOf order d)
+    where
+      sixteen : (n : ℕ) → length (by n .weights) ≡ 16
+      sixteen zero = refl
+      sixteen (suc n) = refl
 
   pub weights-sound : unsound (answer .weights) ≡ false
-  unfolding ofInt
-  weights-sound =
-      by-test (λ (b : Bool). answer .weights ≡ cond b (weighted order d) silence → unsound (answer .weights) ≡ false) (eqb (refusalOf order d) 0)
-      (λ h e. each-sound weightBits (answer .weights) (weightedFormulas order (number (d .azimuth)) (number (d .elevation))) (p .near (eqb-true (refusalOf order d) 0 h)))
-      (λ h e. ap unsound e) weights-are
+  weights-sound = go (refusalOf order d) refl (p .bits)
+    where
+      go : (n : ℕ) → refusalOf order d ≡ n → answer ≡ by n → unsound (answer .weights) ≡ false
+      go zero h e = each-sound weightBits (answer .weights) (weightedFormulas order (number (d .azimuth)) (number (d .elevation))) (p .words h)
+      go (suc n) h e = ap (λ (s : Weighted). unsound (s .weights)) e
 
 -- ---- the positions
 turned-accepted : (z : ℤ) → T (turned z) → refusesAzimuth (ofInt binary64 z) ≡ false

@@ -2,6 +2,7 @@
 mod Cosines
 mod Near
 mod Kept
+mod Positions
 pub mod Laws
 mod Unique
 mod Worked

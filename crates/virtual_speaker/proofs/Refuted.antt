@@ -26,17 +26,17 @@ refusal r = r .refusal
 -- it refuses every direction
 refuses-always : Promise 1 (at 0 0) (record { refusal = 3; weights = silence }) → ⊥
 unfolding refusal refusesAngle isInside lt le eq neg ofInt
-refuses-always p = let e : _≡_ {A = ℕ} 3 0 = ap refusal (p .is) in omega arith
+refuses-always p = let e : _≡_ {A = ℕ} 3 0 = ap refusal (p .bits) in omega arith
 
 -- it takes order 4 for the third, as 003 does
 third-for-fourth : (ws : List Float) → Promise 4 (at 0 0) (record { refusal = 0; weights = ws }) → ⊥
 unfolding refusal
-third-for-fourth ws p = let e : _≡_ {A = ℕ} 0 1 = ap refusal (p .is) in omega arith
+third-for-fourth ws p = let e : _≡_ {A = ℕ} 0 1 = ap refusal (p .bits) in omega arith
 
 -- it takes 137.9 degrees for A, as the comment of 003 has it: the cosine of a quarter of that is 0.8243...
 by-the-comment : Promise 1 (at 0 0) (record { refusal = 0; weights = (float (pos 1) ∷ zero-float ∷ zero-float ∷ decimal 8243732515066312 ∷ []) ++ replicate 12 zero-float }) → ⊥
 unfolding refusesAngle isInside lt le eq neg round ofInt formulasOver defined isMultiple quarters turned cosineSum term power factorial
-by-the-comment p = le→leb _ _ (p .near refl .1 .1 .1 .0 .near)
+by-the-comment p = le→leb _ _ (p .words refl .1 .1 .1 .0 .near)
 
 -- there is a ninth position, whatever direction it has
 ninth-position : (d : Direction) → _≡_ {A = Position} (record { refusal = 0; direction = d }) (positionAnswer 8) → ⊥
@@ -49,4 +49,4 @@ eighth-refused d h = let e : _≡_ {A = ℕ} 2 0 = ap (λ (r : Position). r .ref
 -- it rounds up to 33 binary places: the weight of channel 3, c itself, is then more than 2^-34 too large
 rounded-up-to-33-places : (w y z : Float) (ws : List Float) → Promise 1 (at 0 0) (record { refusal = 0; weights = w ∷ y ∷ z ∷ fin false 1770517735 (negsuc 30) ∷ ws }) → ⊥
 unfolding refusesAngle isInside lt le eq neg ofInt formulasOver defined isMultiple quarters turned cosineSum term power factorial
-rounded-up-to-33-places w y z ws p = le→leb _ _ (p .near refl .1 .1 .1 .0 .near)
+rounded-up-to-33-places w y z ws p = le→leb _ _ (p .words refl .1 .1 .1 .0 .near)

@@ -2,7 +2,7 @@
 use mathlib.Core.Path.{_≡_, sym, _∙_}
 use mathlib.Core.Bool.{false}
 use Rattle.refusals.specs.Refusals.{outside}
-use Rattle.refusals.proofs.First.{stops, goes-on}
+use Rattle.lists.proofs.Tests.{cond-true, cond-false}
 use borrow.Author.Needs.{needs}
 use Rattle.ambisonic_decoder.proofs.refusal_of.Statement.{statement}
 use Rattle.ambisonic_decoder.proofs.refusal_of.Tie as tie
@@ -18,20 +18,20 @@ is-outside-requires : tie.Need-is-outside-requires
 is-outside-requires c κs = search needs
 
 returns : tie.Need-returns
-returns c = sym (stops _ _ (sym (c .before .is-outside .ensures) ∙ c .if1 .taken))
+returns c = sym (cond-true _ _ (sym (c .before .is-outside .ensures) ∙ c .if1 .taken))
 
 is-outside-requires-2 : tie.Need-is-outside-requires-2
 is-outside-requires-2 c κs = search needs
 
 returns-2 : tie.Need-returns-2
-returns-2 c = sym (goes-on _ _ (few-outputs (c .before .before)) ∙ stops _ _ (sym (c .before .is-outside2 .ensures) ∙ c .if2 .taken))
+returns-2 c = sym (cond-false _ _ (few-outputs (c .before .before)) ∙ cond-true _ _ (sym (c .before .is-outside2 .ensures) ∙ c .if2 .taken))
 
 is-misfit-requires : tie.Need-is-misfit-requires
 is-misfit-requires c κs = search needs
 
 returns-3 : tie.Need-returns-3
 returns-3 c =
-    sym (goes-on _ _ (few-outputs (c .before .before .before .before)) ∙ goes-on _ _ (few-channels (c .before .before)) ∙ stops _ _ (sym (c .before .is-misfit .ensures) ∙ c .if3 .taken))
+    sym (cond-false _ _ (few-outputs (c .before .before .before .before)) ∙ cond-false _ _ (few-channels (c .before .before)) ∙ cond-true _ _ (sym (c .before .is-misfit .ensures) ∙ c .if3 .taken))
 
 unsound-f64-requires : tie.Need-unsound-f64-requires
 unsound-f64-requires c κs = search needs
@@ -39,18 +39,18 @@ unsound-f64-requires c κs = search needs
 returns-4 : tie.Need-returns-4
 returns-4 c =
     sym
-    (goes-on _ _ (few-outputs (c .before .before .before .before .before .before))
-    ∙ goes-on _ _ (few-channels (c .before .before .before .before))
-    ∙ goes-on _ _ (sym (c .before .before .before .is-misfit .ensures) ∙ c .before .before .if3 .left)
-    ∙ stops _ _ (sym (c .before .unsound-f64 .ensures) ∙ c .if4 .taken))
+    (cond-false _ _ (few-outputs (c .before .before .before .before .before .before))
+    ∙ cond-false _ _ (few-channels (c .before .before .before .before))
+    ∙ cond-false _ _ (sym (c .before .before .before .is-misfit .ensures) ∙ c .before .before .if3 .left)
+    ∙ cond-true _ _ (sym (c .before .unsound-f64 .ensures) ∙ c .if4 .taken))
 
 returns-5 : tie.Need-returns-5
 returns-5 c =
     sym
-    (goes-on _ _ (few-outputs (c .before .before .before .before .before .before))
-    ∙ goes-on _ _ (few-channels (c .before .before .before .before))
-    ∙ goes-on _ _ (sym (c .before .before .before .is-misfit .ensures) ∙ c .before .before .if3 .left)
-    ∙ goes-on _ _ (sym (c .before .unsound-f64 .ensures) ∙ c .if4 .left))
+    (cond-false _ _ (few-outputs (c .before .before .before .before .before .before))
+    ∙ cond-false _ _ (few-channels (c .before .before .before .before))
+    ∙ cond-false _ _ (sym (c .before .before .before .is-misfit .ensures) ∙ c .before .before .if3 .left)
+    ∙ cond-false _ _ (sym (c .before .unsound-f64 .ensures) ∙ c .if4 .left))
 
 pub refusal-of-spec : {M : Type 1} → statement M
 refusal-of-spec =

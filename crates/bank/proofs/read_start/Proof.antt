@@ -65,8 +65,8 @@ fill-rows-requires c κs =
     let args = past (test checked) .before .before .before .before .args in
     let lists = lists-are (args .azimuths .now) (args .elevations .now) (args .taps .now) (fit (past (test checked))) in
     let head = whole (size (test checked)) (start (test checked)) (none checked) .head in (
-      rw (c .before .before .before .get3 .ensures .value) (within-true 1 512 (lengthIn (start (test checked))) (head .short) .1),
-      rw (c .before .before .before .before .get2 .ensures .value) (within-true 1 8 (rowsIn (start (test checked))) (head .few) .1),
+      rw (c .before .before .before .get3 .ensures .bits) (within-true 1 512 (lengthIn (start (test checked))) (head .short) .1),
+      rw (c .before .before .before .before .get2 .ensures .bits) (within-true 1 8 (rowsIn (start (test checked))) (head .few) .1),
       lists .azimuths,
       lists .elevations,
       lists .taps,
@@ -80,7 +80,7 @@ returns-4 c =
     let version = rows .before in
     let checked = version .before in
     let fill = call .fill-rows .ensures in
-    let bank = filled _ _ _ _ _ _ _ _ _ _ (version .get .ensures .value) (rows .get2 .ensures .value) (length .get3 .ensures .value) (fill .0) (fill .1 .0) (fill .1 .1) in
+    let bank = filled _ _ _ _ _ _ _ _ _ _ (version .get .ensures .bits) (rows .get2 .ensures .bits) (length .get3 .ensures .bits) (fill .0) (fill .1 .0) (fill .1 .1) in
     reads-start _ _ _ _ _ _ (bank ∙ accepted _ _ _ _ _ (fit (past (test checked))) (enough (test checked)) (none checked))
 
 pub read-start-spec : {M : Type 1} → statement M

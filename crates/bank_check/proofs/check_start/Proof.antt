@@ -30,15 +30,15 @@ rows-fault-requires c κs =
     let past = c .before .before .before in
     let rows = within-true 1 8 (rowsIn (start past)) (head past .few) in
     let length = within-true 1 512 (lengthIn (start past)) (head past .short) in
-    (rw (c .get3 .ensures .value) (length .1), rw (c .before .get2 .ensures .value) (rows .1))
+    (rw (c .get3 .ensures .bits) (length .1), rw (c .before .get2 .ensures .bits) (rows .1))
 
 returns-2 : tie.Need-returns-2
 returns-2 c =
     let past = c .before .before .before .before in
-    let version = c .before .before .before .get .ensures .value in
+    let version = c .before .before .before .get .ensures .bits in
     let rows =
     c .rows-fault .ensures
-    ∙ ap₂ (λ (l n : ℕ). rowsFault (size past) (start past) (c .before .before .before .get .result) l 0 9 n) (c .before .get3 .ensures .value) (c .before .before .get2 .ensures .value)
+    ∙ ap₂ (λ (l n : ℕ). rowsFault (size past) (start past) (c .before .before .before .get .result) l 0 9 n) (c .before .get3 .ensures .bits) (c .before .before .get2 .ensures .bits)
     ∙ ap (λ (v : ℕ). rowsFault (size past) (start past) v (lengthIn (start past)) 0 9 (rowsIn (start past))) version in
     checked _ _ _ (rows ∙ sym (fault-is _ _ ∙ else-on _ _ _ (past .before .before .head-fault .ensures) (past .if1 .left)))
 

@@ -21,7 +21,7 @@ unfolding headField
 returns c =
     let args = c .before .before .before .before .args in
     let good : c .before .is-within .result ≡ within (args .low) (args .high) (fieldAt (args .s .now) (args .at) (args .count)) =
-    c .before .is-within .ensures ∙ ap (within (args .low) (args .high)) (c .before .before .get .ensures .value) in
+    c .before .is-within .ensures ∙ ap (within (args .low) (args .high)) (c .before .before .get .ensures .bits) in
     c .field-fault .ensures ∙ ap (field _ _ _ _) good
 
 pub head-field-spec : {M : Type 1} → statement M

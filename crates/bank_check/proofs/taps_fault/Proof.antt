@@ -30,7 +30,7 @@ module _ (c : tie.After-field-fault Inv-loop μ-loop) where
 
   here : c .field-fault .result ≡ field size place 4 18 (finite (floatAt file place))
   here =
-      let tap = c .before .before .widen .ensures .same ∙ c .before .before .before .get-f32 .ensures in
+      let tap = c .before .before .widen .ensures .bits ∙ c .before .before .before .get-f32 .ensures in
       c .field-fault .ensures ∙ ap (field _ _ _ _) (c .before .is-finite .ensures ∙ ap finite tap)
 
 loop-holds : tie.Need-loop-holds Inv-loop μ-loop

@@ -20,7 +20,7 @@ lies-inside-requires : tie.Need-lies-inside-requires Inv-loop μ-loop
 lies-inside-requires c κs = tt
 
 returns : tie.Need-returns Inv-loop μ-loop
-returns c = record { value = sym (field-out _ _ _ (sym (c .before .lies-inside .ensures) ∙ not-true _ (c .if1 .taken))); bound = power-pos _ }
+returns c = record { bits = sym (field-out _ _ _ (sym (c .before .lies-inside .ensures) ∙ not-true _ (c .if1 .taken))); bound = power-pos _ }
 
 loop-holds : tie.Need-loop-holds Inv-loop μ-loop
 unfolding valueOf
@@ -66,7 +66,7 @@ returns-2 c =
     let args = c .before .before .before .before .before .args in
     let done : turn .i ≡ args .count = omega arith in
     record {
-      value = turn .inv .3 ∙ ap (λ (k : ℕ). valueOf (take k (drop (args .at) (args .s .now)))) done ∙ sym (field-lies _ _ _ (turn .inv .1) (turn .inv .2));
+      bits = turn .inv .3 ∙ ap (λ (k : ℕ). valueOf (take k (drop (args .at) (args .s .now)))) done ∙ sym (field-lies _ _ _ (turn .inv .1) (turn .inv .2));
       bound = rw done at (turn .inv .4);
     }
 

@@ -9,14 +9,14 @@ use Rattle.big_endian.proofs.get_f64.Tie as tie
 
 returns : tie.Need-returns
 unfolding doubleAt
-returns c = zero-by-zero binary64 ∙ sym (nan-pattern binary64 _ (c .if1 .taken)) ∙ ap (ofBits binary64) (c .before .get .ensures .value)
+returns c = zero-by-zero binary64 ∙ sym (nan-pattern binary64 _ (c .if1 .taken)) ∙ ap (ofBits binary64) (c .before .get .ensures .bits)
 
 float-from-bits-result : tie.Need-float-from-bits-result
 float-from-bits-result c = number-pattern binary64 _ (c .if1 .left)
 
 returns-2 : tie.Need-returns-2
 unfolding doubleAt
-returns-2 c = ap (ofBits binary64) (c .before .get .ensures .value)
+returns-2 c = ap (ofBits binary64) (c .before .get .ensures .bits)
 
 pub get-f64-spec : {M : Type 1} → statement M
 get-f64-spec =

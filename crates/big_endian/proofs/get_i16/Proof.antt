@@ -12,7 +12,7 @@ use Rattle.big_endian.proofs.get_i16.Tie as tie
 
 returns : tie.Need-returns
 unfolding signedAt
-returns c = ap (toZ w16) (c .before .get .ensures .value)
+returns c = ap (toZ w16) (c .before .get .ensures .bits)
 
 sub-result : tie.Need-sub-result
 sub-result c = let low = c .before .get .ensures .bound in rw (high-bits w16 (c .before .get .result) (c .if1 .left) (omega arith)) (sfits-toZ {w = w16} (record { fits = low }))
@@ -21,7 +21,7 @@ returns-2 : tie.Need-returns-2
 unfolding signedAt
 returns-2 c =
     let low = c .before .get .ensures .bound in
-    toZ-ofZ (sub-result c) ∙ high-bits w16 (c .before .get .result) (c .if1 .left) (omega arith) ∙ ap (toZ w16) (c .before .get .ensures .value)
+    toZ-ofZ (sub-result c) ∙ high-bits w16 (c .before .get .result) (c .if1 .left) (omega arith) ∙ ap (toZ w16) (c .before .get .ensures .bits)
 
 pub get-i16-spec : {M : Type 1} → statement M
 get-i16-spec =

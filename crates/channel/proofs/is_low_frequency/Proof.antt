@@ -2,7 +2,7 @@
 use mathlib.Core.Path.{sym, _∙_}
 use mathlib.Core.Bool.{false}
 use lib.Dec.{eqb}
-use Rattle.refusals.proofs.First.{stops}
+use Rattle.lists.proofs.Tests.{cond-true}
 use borrow.Author.Needs.{needs}
 use Rattle.channel.proofs.is_low_frequency.Statement.{statement}
 use Rattle.channel.proofs.is_low_frequency.Tie as tie
@@ -11,7 +11,7 @@ is-surround-requires : tie.Need-is-surround-requires
 is-surround-requires c κs = search needs
 
 returns : tie.Need-returns
-returns c = sym (stops (eqb (c .before .before .args .channel) 3) false (sym (c .before .is-surround .ensures) ∙ c .if1 .taken))
+returns c = sym (cond-true (eqb (c .before .before .args .channel) 3) false (sym (c .before .is-surround .ensures) ∙ c .if1 .taken))
 
 returns-2 : tie.Need-returns-2
 returns-2 c = search needs

@@ -33,7 +33,7 @@ returns : tie.Need-returns Inv-loop μ-loop
 returns c =
     let at = c .before .before .before .before .before in
     let xs = now (c .before .before .before .before .before .before .before .args .taps) in
-    unsound-found (placeOf xs) (length xs) (at .loop .k) _ (c .before .is-finite .result) (at .loop .inv) (c .before .before .before .before .loop-test .taken) (c .before .before .widen .ensures .same) (c .before .is-finite .ensures) (c .if1 .taken) ∙ unsound-list xs
+    unsound-found (placeOf xs) (length xs) (at .loop .k) _ (c .before .is-finite .result) (at .loop .inv) (c .before .before .before .before .loop-test .taken) (c .before .before .widen .ensures .bits) (c .before .is-finite .ensures) (c .if1 .taken) ∙ unsound-list xs
 
 add-k : tie.Need-add-k Inv-loop μ-loop
 add-k c = omega arith
@@ -45,7 +45,7 @@ loop-again : tie.Need-loop-again Inv-loop μ-loop
 loop-again c =
     let at = c .before .before .before .before .before in
     let xs = now (c .before .before .before .before .before .before .before .args .taps) in
-    sound-more (placeOf xs) (length xs) (at .loop .k) _ (c .before .is-finite .result) (at .loop .inv) (c .before .before .before .before .loop-test .taken) (c .before .before .widen .ensures .same) (c .before .is-finite .ensures) (c .if1 .left)
+    sound-more (placeOf xs) (length xs) (at .loop .k) _ (c .before .is-finite .result) (at .loop .inv) (c .before .before .before .before .loop-test .taken) (c .before .before .widen .ensures .bits) (c .before .is-finite .ensures) (c .if1 .left)
 
 returns-2 : tie.Need-returns-2 Inv-loop μ-loop
 returns-2 c =

@@ -32,7 +32,7 @@ returns : tie.Need-returns
 unfolding ofBits ofInt
 returns c =
     let a = c .before .before .before .before .before .before .before .before .before .args in
-    first-put (now (a .weights)) _ (a .at) (a .channels) (a .scale) _ _ (ap (λ (r : Coefficients). r .gains) (c .before .before .before .before .before .before .before .compute-sh-coefficients .ensures .is)) (c .before .before .put-row .ensures)
+    first-put (now (a .weights)) _ (a .at) (a .channels) (a .scale) _ _ (ap (λ (r : Coefficients). r .gains) (c .before .before .before .before .before .before .before .compute-sh-coefficients .ensures .bits)) (c .before .before .put-row .ensures)
 
 pub put-speaker-spec : {M : Type 1} → statement M
 put-speaker-spec =

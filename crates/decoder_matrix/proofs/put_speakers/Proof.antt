@@ -6,7 +6,7 @@ use denote.Ref.{now}
 use lib.Ieee.{Float}
 use lib.ListN.{take}
 use lib.Seq.{sets}
-use Rattle.planes.proofs.Normalization.{inverse-value}
+use Rattle.numbers.proofs.Normalization.{inverse-value}
 use Rattle.rows.specs.Rows.{scaled}
 use Rattle.harmonics.specs.Promise.{outcome}
 use Rattle.decoder_matrix.specs.Speakers.{azimuthBy, towards}

@@ -2,7 +2,9 @@
 use mathlib.Core.Path.{ap, _∙_}
 use mathlib.Core.Logic.{⊎-elim}
 use native.Mathlib.Omega.{arith}
+use Rattle.channel.specs.Layouts.{speakers}
 use Rattle.channel.specs.declared.Angle.{Angle}
+use Rattle.channel.proofs.Tables.{degrees-answered}
 use Rattle.decoder_matrix.proofs.Speakers.{by-table, computed}
 use borrow.Author.Needs.{needs}
 use Rattle.decoder_matrix.proofs.speaker_position.Statement.{statement}
@@ -29,7 +31,7 @@ speaker-azimuth-requires c κs = search needs
 returns-2 : tie.Need-returns-2
 returns-2 c =
     let a = c .before .before .args in
-    ap (λ (r : Angle). r .degrees) (c .speaker-azimuth .ensures)
+    ap (λ (r : Angle). r .degrees) (c .speaker-azimuth .ensures ∙ degrees-answered (speakers (a .layout)) (a .i))
     ∙ by-table (a .layout) (a .n) (a .i) (λ m e. ⊎-elim (λ k. omega arith) (⊎-elim (λ k. omega arith) (⊎-elim (λ k. omega arith) (λ k. omega arith))) (rw e at (c .before .match .keys2)))
 
 pub speaker-position-spec : {M : Type 1} → statement M

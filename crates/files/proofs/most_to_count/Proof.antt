@@ -5,7 +5,7 @@ use Prim.Native.Nat.{ℕ, _+_}
 use native.Mathlib.Omega.{arith}
 use borrow.Author.Tests.{not-true, not-false}
 use Rattle.refusals.specs.Ranges.{within}
-use Rattle.refusals.proofs.First.{stops, goes-on}
+use Rattle.lists.proofs.Tests.{cond-true, cond-false}
 use Rattle.big_endian.specs.Fields.{fieldAt}
 use borrow.Author.Needs.{needs}
 use Rattle.files.proofs.most_to_count.Statement.{statement}
@@ -17,7 +17,7 @@ module _ (c : tie.After-is-within) where
   bytes = c .before .before .before .args .bytes .now
 
   version : c .is-within .result ≡ within 1 2 (fieldAt bytes 0 1)
-  version = c .is-within .ensures ∙ ap (within 1 2) (c .before .get .ensures .value)
+  version = c .is-within .ensures ∙ ap (within 1 2) (c .before .get .ensures .bits)
 
 get-requires : tie.Need-get-requires
 get-requires c κs = search needs
@@ -26,7 +26,7 @@ is-within-requires : tie.Need-is-within-requires
 is-within-requires c κs = search needs
 
 returns : tie.Need-returns
-returns c = (sym (goes-on (6 + fieldAt (bytes (c .before)) 1 4) 1 (sym (version (c .before)) ∙ not-true _ (c .if1 .taken))), omega arith)
+returns c = (sym (cond-false (6 + fieldAt (bytes (c .before)) 1 4) 1 (sym (version (c .before)) ∙ not-true _ (c .if1 .taken))), omega arith)
 
 get-requires-2 : tie.Need-get-requires-2
 get-requires-2 c κs = search needs
@@ -37,8 +37,8 @@ add-result c = search needs
 returns-2 : tie.Need-returns-2
 returns-2 c =
     let test = c .before in
-    let named = ap (λ (n : ℕ). 6 + n) (c .get2 .ensures .value) in
-    (named ∙ sym (stops (6 + fieldAt (bytes (test .before)) 1 4) 1 (sym (version (test .before)) ∙ not-false _ (test .if1 .left))), omega (arith, c .get2 .ensures .bound))
+    let named = ap (λ (n : ℕ). 6 + n) (c .get2 .ensures .bits) in
+    (named ∙ sym (cond-true (6 + fieldAt (bytes (test .before)) 1 4) 1 (sym (version (test .before)) ∙ not-false _ (test .if1 .left))), omega (arith, c .get2 .ensures .bound))
 
 pub most-to-count-spec : {M : Type 1} → statement M
 most-to-count-spec =

@@ -11,7 +11,7 @@ cosine-requires c κs = search needs
 
 returns : tie.Need-returns
 unfolding cos
-returns c = ap (λ (r : Answer). r .value) (c .cosine .ensures .is)
+returns c = ap (λ (r : Answer). r .value) (c .cosine .ensures .bits)
 
 pub cos-spec : {M : Type 1} → statement M
 cos-spec = tie.close (tie.spec cosine-requires returns)

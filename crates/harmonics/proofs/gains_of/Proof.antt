@@ -1,7 +1,7 @@
 -- `harmonics::gains_of` meets its contract. Assumes nothing.
 use mathlib.Core.Path.{sym, _∙_}
 use borrow.Author.Tests.{eq-eqb, ne-eqb}
-use Rattle.refusals.proofs.First.{stops, goes-on}
+use Rattle.lists.proofs.Tests.{cond-true, cond-false}
 use borrow.Author.Needs.{needs}
 use Rattle.harmonics.proofs.gains_of.Statement.{statement}
 use Rattle.harmonics.proofs.gains_of.Tie as tie
@@ -10,19 +10,19 @@ first-order-requires : tie.Need-first-order-requires
 first-order-requires c κs = search needs
 
 returns : tie.Need-returns
-returns c = c .first-order .ensures ∙ sym (stops _ _ (eq-eqb _ 1 (c .before .if1 .taken)))
+returns c = c .first-order .ensures ∙ sym (cond-true _ _ (eq-eqb _ 1 (c .before .if1 .taken)))
 
 second-order-requires : tie.Need-second-order-requires
 second-order-requires c κs = search needs
 
 returns-2 : tie.Need-returns-2
-returns-2 c = c .second-order .ensures ∙ sym (goes-on _ _ (ne-eqb _ 1 (c .before .before .if1 .left)) ∙ stops _ _ (eq-eqb _ 2 (c .before .if2 .taken)))
+returns-2 c = c .second-order .ensures ∙ sym (cond-false _ _ (ne-eqb _ 1 (c .before .before .if1 .left)) ∙ cond-true _ _ (eq-eqb _ 2 (c .before .if2 .taken)))
 
 third-order-requires : tie.Need-third-order-requires
 third-order-requires c κs = search needs
 
 returns-3 : tie.Need-returns-3
-returns-3 c = c .third-order .ensures ∙ sym (goes-on _ _ (ne-eqb _ 1 (c .before .before .if1 .left)) ∙ goes-on _ _ (ne-eqb _ 2 (c .before .if2 .left)))
+returns-3 c = c .third-order .ensures ∙ sym (cond-false _ _ (ne-eqb _ 1 (c .before .before .if1 .left)) ∙ cond-false _ _ (ne-eqb _ 2 (c .before .if2 .left)))
 
 pub gains-of-spec : {M : Type 1} → statement M
 gains-of-spec =

@@ -11,7 +11,7 @@ sine-requires c κs = search needs
 
 returns : tie.Need-returns
 unfolding sin
-returns c = ap (λ (r : Answer). r .value) (c .sine .ensures .is)
+returns c = ap (λ (r : Answer). r .value) (c .sine .ensures .bits)
 
 pub sin-spec : {M : Type 1} → statement M
 sin-spec = tie.close (tie.spec sine-requires returns)

@@ -3,10 +3,11 @@ use mathlib.Core.Path.{sym, ap, _∙_}
 use native.Mathlib.Omega.{arith}
 use lib.ListN.{getD, List·getD-eq-default}
 use lib.Ieee.{nan, div, ofBits}
+use Rattle.harmonics.specs.declared.Direction.{Direction}
 use Rattle.virtual_speaker.specs.declared.Position.{Position}
 use Rattle.virtual_speaker.specs.declared.Weighted.{Weighted}
 use Rattle.virtual_speaker.specs.Promise.{outcome, positionOf}
-use Rattle.virtual_speaker.proofs.Laws.{outcome-kept, weights-length}
+use Rattle.virtual_speaker.proofs.Laws.{outcome-kept, weights-length, position-direction}
 use borrow.Author.Needs.{needs}
 use Rattle.hrtf_setup.proofs.coefficient.Statement.{statement}
 use Rattle.hrtf_setup.proofs.coefficient.Tie as tie
@@ -26,8 +27,8 @@ array-read-result c = search needs
 returns : tie.Need-returns
 returns c =
     let a = c .before .before .before .before .args in
-    ap (λ (r : Weighted). getD (r .weights) (a .channel) nan) (c .before .before .compute-sh-coefficients-max-re .ensures .is)
-    ∙ ap (λ (p : Position). getD (outcome (a .order) (p .direction) .weights) (a .channel) nan) (c .before .before .before .foa-position .ensures)
+    ap (λ (r : Weighted). getD (r .weights) (a .channel) nan) (c .before .before .compute-sh-coefficients-max-re .ensures .bits)
+    ∙ ap (λ (d : Direction). getD (outcome (a .order) d .weights) (a .channel) nan) (ap (λ (p : Position). p .direction) (c .before .before .before .foa-position .ensures) ∙ position-direction (a .s))
 
 returns-2 : tie.Need-returns-2
 unfolding ofBits div

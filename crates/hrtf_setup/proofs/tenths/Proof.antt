@@ -1,6 +1,8 @@
 -- `hrtf_setup::tenths` meets its contract. Assumes nothing.
 use mathlib.Core.Path.{_≡_, sym, ap, _∙_}
 use Rattle.channel.specs.declared.Tenths.{Tenths}
+use Rattle.channel.specs.Layouts.{speakers, positions}
+use Rattle.channel.proofs.Tables.{tenths-answered}
 use Rattle.hrtf_setup.specs.declared.Speakers.{Speakers}
 use Rattle.hrtf_setup.specs.declared.Speakers.the-variants.{Of, Virtual}
 use Rattle.hrtf_setup.specs.Speakers.{tenthsAt}
@@ -19,7 +21,10 @@ speaker-tenths-requires : tie.Need-speaker-tenths-requires
 speaker-tenths-requires c κs = search needs
 
 cast-result : tie.Need-cast-result
-cast-result c = cast-fits (Of (c .before .before .before .before .whose .given .0 .0)) _ _ (tenths-are (c .before .before .speaker-tenths .ensures))
+cast-result c =
+    let known = c .before .before .before .before in
+    let l = known .whose .given .0 .0 in
+    cast-fits (Of l) _ _ (tenths-are (c .before .before .speaker-tenths .ensures ∙ tenths-answered (speakers l) (known .before .before .args .s)))
 
 enum-told : tie.Need-enum-told
 enum-told c = search needs
@@ -30,19 +35,20 @@ position-tenths-requires c κs = search needs
 cast-result-2 : tie.Need-cast-result-2
 cast-result-2 c =
     let known = c .before .before .before in
-    cast-fits (Virtual (known .enum-told .given .0 .0)) (known .before .before .args .s) _ (tenths-are (c .before .before .position-tenths .ensures))
+    let s = known .before .before .args .s in
+    cast-fits (Virtual (known .enum-told .given .0 .0)) s _ (tenths-are (c .before .before .position-tenths .ensures ∙ tenths-answered positions s))
 
 returns : tie.Need-returns
 returns c =
     let known = c .before .before .before .before in
     let s = known .before .before .args .s in
-    cast-is (Of (known .whose .given .0 .0)) s _ (tenths-are (c .before .before .speaker-tenths .ensures)) ∙ ap (λ (k : Speakers). tenthsAt k s) (sym (known .whose .given .1))
+    cast-is (Of (known .whose .given .0 .0)) s _ (tenths-are (c .before .before .speaker-tenths .ensures ∙ tenths-answered (speakers (known .whose .given .0 .0)) s)) ∙ ap (λ (k : Speakers). tenthsAt k s) (sym (known .whose .given .1))
 
 returns-2 : tie.Need-returns-2
 returns-2 c =
     let known = c .before .before .before in
     let s = known .before .before .args .s in
-    cast-is (Virtual (known .enum-told .given .0 .0)) s _ (tenths-are (c .before .before .position-tenths .ensures)) ∙ ap (λ (k : Speakers). tenthsAt k s) (sym (known .enum-told .given .1))
+    cast-is (Virtual (known .enum-told .given .0 .0)) s _ (tenths-are (c .before .before .position-tenths .ensures ∙ tenths-answered positions s)) ∙ ap (λ (k : Speakers). tenthsAt k s) (sym (known .enum-told .given .1))
 
 pub tenths-spec : {M : Type 1} → statement M
 tenths-spec =

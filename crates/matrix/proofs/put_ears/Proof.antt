@@ -1,7 +1,7 @@
 -- `matrix::put_ears` meets its contract. Assumes nothing.
 use denote.Ref.{now}
 use lib.Dec.{lit<}
-use Rattle.planes.proofs.Normalization.{inverse-value}
+use Rattle.numbers.proofs.Normalization.{inverse-value}
 use Rattle.matrix.proofs.PutEars.{misfit, fits}
 use borrow.Author.Needs.{needs}
 use Rattle.matrix.proofs.put_ears.Statement.{statement}

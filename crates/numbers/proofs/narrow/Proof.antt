@@ -40,7 +40,7 @@ float-from-bits-result c =
 
 -- the law goes with the value
 promised : (x r : Float) → r ≡ narrowed x → Narrowed x r
-promised x r e = record { bits = e; law = subst (λ (v : Float). Narrows binary32 x v) (sym e) (rounded-narrows binary32 x) }
+promised x r e = record { bits = e; words = subst (λ (v : Float). Narrows binary32 x v) (sym e) (rounded-narrows binary32 x) }
 
 returns : tie.Need-returns
 unfolding div ofBits rounded

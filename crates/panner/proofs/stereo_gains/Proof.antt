@@ -2,7 +2,7 @@
 use mathlib.Core.Path.{refl, sym, _∙_}
 use lib.Dec.{lit<}
 use lib.Ieee.{ofBits, ofInt}
-use Rattle.refusals.proofs.First.{stops}
+use Rattle.lists.proofs.Tests.{cond-true}
 use Rattle.panner.specs.declared.Command.the-variants.{Stereo}
 use Rattle.panner.proofs.Gains.{refused, stereo-refused, stereo-accepted}
 use borrow.Author.Needs.{needs}
@@ -19,7 +19,7 @@ returns : tie.Need-returns
 returns c =
     let a = c .before .before .before .args in
     let r = c .refused in
-    refused (Stereo (a .position)) (a .layout) (r .result) 2 (lit< tt) (r .ensures) (stops 2 _ (sym (c .before .before .is-bad-layout .ensures) ∙ c .before .if1 .taken))
+    refused (Stereo (a .position)) (a .layout) (r .result) 2 (lit< tt) (r .ensures) (cond-true 2 _ (sym (c .before .before .is-bad-layout .ensures) ∙ c .before .if1 .taken))
 
 calculate-stereo-gains-requires : tie.Need-calculate-stereo-gains-requires
 calculate-stereo-gains-requires c κs = search needs

@@ -67,7 +67,7 @@ loop-again c =
     let at = starts .before .before in
     let a = at .before .before .before .before .args in
     let judge = judged-by (at .loop .damaged) (c .if1 .damaged) (mixes .mix .result) (tested .before .widen .result) (tested .is-finite .result)
-    (tested .before .widen .ensures .same) (tested .is-finite .ensures) in
+    (tested .before .widen .ensures .bits) (tested .is-finite .ensures) in
     judging-more (now (a .out)) (a .out-stride) (a .out-frame) (a .outputs) (output (now (a .weights)) (a .channels) (now (a .inputs)) (a .stride) (a .frame)) (at .loop .out) (at .loop .damaged) (at .loop .o) (at .loop .inv)
     (mixes .mix .result) (put .put-sample .last .0) (c .if1 .damaged) (starts .before .loop-test .taken)
     (output-is (now (a .weights)) (a .channels) (now (a .inputs)) (a .stride) (a .frame) (at .loop .o) (starts .place .result) (ends .onward .result) (mixes .mix .result) (starts .place .ensures) (ends .onward .ensures) (mixes .mix .ensures))

@@ -1,16 +1,16 @@
 -- `probe_bank::turned` meets its contract. Assumes nothing.
 use mathlib.Core.Path.{sym, _∙_}
 use borrow.Author.Tests.{eq-eqb, ne-eqb}
-use Rattle.refusals.proofs.First.{stops, goes-on}
+use Rattle.lists.proofs.Tests.{cond-true, cond-false}
 use borrow.Author.Needs.{needs}
 use Rattle.probe_bank.proofs.turned.Statement.{statement}
 use Rattle.probe_bank.proofs.turned.Tie as tie
 
 returns : tie.Need-returns
-returns c = c .before .before .to-version-2 .ensures .bits ∙ sym (stops _ _ (eq-eqb _ _ (c .before .before .before .before .if1 .taken)))
+returns c = c .before .before .to-version-2 .ensures .bits ∙ sym (cond-true _ _ (eq-eqb _ _ (c .before .before .before .before .if1 .taken)))
 
 returns-2 : tie.Need-returns-2
-returns-2 c = c .before .before .to-version-1 .ensures .bits ∙ sym (goes-on _ _ (ne-eqb _ _ (c .before .before .before .before .if1 .left)))
+returns-2 c = c .before .before .to-version-1 .ensures .bits ∙ sym (cond-false _ _ (ne-eqb _ _ (c .before .before .before .before .if1 .left)))
 
 pub turned-spec : {M : Type 1} → statement M
 turned-spec =

@@ -20,7 +20,7 @@ returns-2 c =
     let called = c .before .before .before .before .before .before in
     let a = called .before .before .before .before .before .before .args in
     answered (λ (r : Coefficients). refusalAndDoubles (r .refusal) (r .gains) (now (a .out))) 24 (now (a .args)) _ (called .before .before .before .if1 .left)
-    (called .compute-sh-coefficients .ensures .is ∙ (λ i. outcome (called .before .before .number .ensures i) (called .before .direction .ensures i)))
+    (called .compute-sh-coefficients .ensures .bits ∙ (λ i. outcome (called .before .before .number .ensures i) (called .before .direction .ensures i)))
     (c .before .before .put-refusal-and-f64s .ensures)
 
 pub coefficients-spec : {M : Type 1} → statement M

@@ -29,7 +29,7 @@ returns-2 c =
     let layout = layout-read (now (a .args)) 10 _ _ _ (placed .layout .ensures) (placed .before .before .number2 .ensures) (placed .before .number3 .ensures) in
     let weights = inside doubleAt 8 (now (a .args)) 19 (now (a .weights)) _ (read .get-f64s .ensures) (omega (arith, right)) in
     answered (λ (r : Computed). refusalAndDoubles (r .refusal) (r .weights) (now (a .out))) (19 + 8 * length (now (a .weights))) (now (a .args)) _ right
-    (called .compute-decoder-matrix .ensures .is ∙ (λ i. outcome (placed .before .before .before .number .ensures i) (layout i) (weights i)))
+    (called .compute-decoder-matrix .ensures .bits ∙ (λ i. outcome (placed .before .before .before .number .ensures i) (layout i) (weights i)))
     (c .before .before .put-refusal-and-f64s .ensures)
 
 pub decoder-matrix-spec : {M : Type 1} → statement M

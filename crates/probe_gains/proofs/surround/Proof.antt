@@ -23,7 +23,7 @@ returns-2 c =
     let a = placed .before .before .before .before .before .before .args in
     let layout = layout-read (now (a .args)) 0 _ _ _ (placed .layout .ensures) (placed .before .before .number .ensures) (placed .before .number2 .ensures) in
     answered (λ (r : SurroundGains). refusalAndDoubles (r .refusal) (r .gains) (now (a .out))) 17 (now (a .args)) _ (called .before .before .before .before .before .if1 .left)
-    (called .calculate-vbap-gains .ensures .is ∙ (λ i. outcome (layout i) (called .before .get-f64 .ensures i)))
+    (called .calculate-vbap-gains .ensures .bits ∙ (λ i. outcome (layout i) (called .before .get-f64 .ensures i)))
     (c .before .before .put-refusal-and-f64s .ensures)
 
 pub surround-spec : {M : Type 1} → statement M

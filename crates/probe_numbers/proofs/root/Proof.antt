@@ -21,7 +21,7 @@ returns-2 c =
     let called = c .before .before .before .before .before in
     let a = called .before .before .before .before .before .args in
     answered (λ (r : Rooted). refusalAndDoubles (r .refusal) (r .value ∷ []) (now (a .out))) 8 (now (a .args)) _ (called .before .before .if1 .left)
-    (called .root .ensures .answer ∙ ap Numbers.rootAnswer (called .before .get-f64 .ensures))
+    (called .root .ensures .bits ∙ ap Numbers.rootAnswer (called .before .get-f64 .ensures))
     (c .before .before .put-refusal-and-f64s .ensures)
 
 pub root-spec : {M : Type 1} → statement M

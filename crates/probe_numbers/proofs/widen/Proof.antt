@@ -21,7 +21,7 @@ returns-2 c =
     let called = c .before .before .before .before .before in
     let a = called .before .before .before .before .before .args in
     answered (λ (x : Float). none (now (a .out)) then doubleBytes (x ∷ [])) 4 (now (a .args)) _ (called .before .before .if1 .left)
-    (called .widen .ensures .same ∙ called .before .get-f32 .ensures)
+    (called .widen .ensures .bits ∙ called .before .get-f32 .ensures)
     (c .before .before .put-f64s .ensures)
 
 pub widen-spec : {M : Type 1} → statement M

@@ -18,7 +18,7 @@ kept : (c : tie.At-loop Inv-loop μ-loop) → length (c .loop .list) ≡ length 
 kept c = get-kept _ _ _ _ _ _ _ (c .loop .inv)
 
 loop-again : tie.Need-loop-again Inv-loop μ-loop
-loop-again c = let turn = c .before .before .loop in get-more _ _ _ _ _ (turn .list) (turn .i) _ (turn .inv) (c .before .loop-test .taken) (c .get .ensures .value)
+loop-again c = let turn = c .before .before .loop in get-more _ _ _ _ _ (turn .list) (turn .i) _ (turn .inv) (c .before .loop-test .taken) (c .get .ensures .bits)
 
 -- what the loop's places and counts take, and that four bytes fit, is arithmetic
 pub get-u32s-spec : {M : Type 1} → statement M

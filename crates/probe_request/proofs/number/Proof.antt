@@ -6,7 +6,7 @@ get-requires : tie.Need-get-requires
 get-requires c κs = tt
 
 returns : tie.Need-returns
-returns c = c .get .ensures .value
+returns c = c .get .ensures .bits
 
 pub number-spec : {M : Type 1} → statement M
 number-spec = tie.close (tie.spec get-requires returns)

@@ -53,7 +53,7 @@ returns-3 c =
     let a = n .before .before in
     let s = a .before .before in
     plays (s .before .args .layout) _ _ (s .is-surround .ensures) _ _ _ _ _ (a .before .if1 .left) (sym (a .refuses-azimuth .ensures) ∙ n .before .if2 .left)
-    (ap (λ (k : Counted). k .channels) (n .channel-count .ensures)) (c .before .before .before .raw-gains .ensures) (c .before .before .sum-of-squares .ensures) (c .before .root .ensures .answer) (c .divided .ensures)
+    (ap (λ (k : Counted). k .channels) (n .channel-count .ensures)) (c .before .before .before .raw-gains .ensures) (c .before .before .sum-of-squares .ensures) (c .before .root .ensures .bits) (c .divided .ensures)
 
 pub calculate-vbap-gains-spec : {M : Type 1} → statement M
 calculate-vbap-gains-spec =

@@ -1,7 +1,9 @@
 -- `surround::channel_gain` meets its contract: `Steps`. Assumes nothing.
-use mathlib.Core.Path.{ap}
+use mathlib.Core.Path.{ap, _∙_}
 use lib.Ieee.{ofBits, ofInt}
+use Rattle.channel.specs.Layouts.{speakers}
 use Rattle.channel.specs.declared.Angle.{Angle}
+use Rattle.channel.proofs.Tables.{degrees-answered}
 use Rattle.surround.proofs.Steps.{low, directed}
 use borrow.Author.Needs.{needs}
 use Rattle.surround.proofs.channel_gain.Statement.{statement}
@@ -22,7 +24,9 @@ raw-gain-requires c κs = search needs
 
 returns-2 : tie.Need-returns-2
 returns-2 c =
-    directed _ _ _ _ (c .before .before .before .is-low-frequency .ensures) _ _ (c .before .before .if1 .left) (ap (λ (r : Angle). r .degrees) (c .before .speaker-azimuth .ensures)) (c .raw-gain .ensures)
+    let a = c .before .before .before .before .args in
+    directed _ _ _ _ (c .before .before .before .is-low-frequency .ensures) _ _ (c .before .before .if1 .left)
+    (ap (λ (r : Angle). r .degrees) (c .before .speaker-azimuth .ensures ∙ degrees-answered (speakers (a .layout)) (a .channel))) (c .raw-gain .ensures)
 
 pub channel-gain-spec : {M : Type 1} → statement M
 channel-gain-spec =

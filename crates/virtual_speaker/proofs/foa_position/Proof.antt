@@ -1,7 +1,7 @@
 -- `virtual_speaker::foa_position` meets its contract. Assumes nothing.
 use lib.Ieee.{ofBits}
 use borrow.Author.Needs.{needs}
-use Rattle.formats.specs.Floats.{zero-float}
+use Rattle.virtual_speaker.proofs.Positions.{position-by}
 use Rattle.virtual_speaker.proofs.foa_position.Statement.{statement}
 use Rattle.virtual_speaker.proofs.foa_position.Tie as tie
 
@@ -10,7 +10,7 @@ position-azimuth-requires c κs = search needs
 
 returns : tie.Need-returns
 unfolding ofBits
-returns c = let e = c .position-azimuth .ensures in λ i. record { refusal = e i .refusal; direction = record { azimuth = e i .degrees; elevation = zero-float } }
+returns c = position-by (c .before .args .i) _ (c .position-azimuth .ensures)
 
 pub foa-position-spec : {M : Type 1} → statement M
 foa-position-spec = tie.close (tie.spec position-azimuth-requires returns)

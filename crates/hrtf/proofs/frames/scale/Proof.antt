@@ -2,7 +2,7 @@
 use mathlib.Core.Path.{ap}
 use native.Mathlib.Omega.{arith}
 use lib.Ieee.{Float}
-use Rattle.planes.proofs.Normalization.{inverse-value}
+use Rattle.numbers.proofs.Normalization.{inverse-value}
 use Rattle.hrtf.proofs.frames.scale.Statement.{statement}
 use Rattle.hrtf.proofs.frames.scale.Tie as tie
 

@@ -8,10 +8,10 @@ use lib.IntN.{pos}
 use lib.Ieee.{Float, binary64, div}
 use Rattle.refusals.specs.Refusals.{firstOf, _when_, answered}
 use Rattle.formats.specs.Floats.{zero-float, one-float, float}
 use Rattle.numbers.specs.Computed.{rootOf}
 use Rattle.numbers.specs.Promises.{Root}
 use Rattle.numbers.specs.declared.Rooted.{Rooted}
-use Rattle.planes.specs.declared.Inverse.{Inverse}
+use Rattle.numbers.specs.declared.Inverse.{Inverse}
 
 unfoldable pub inverseRoot : ℕ → Float
 unfolding div rootOf
@@ -27,5 +27,5 @@ inverseAnswer n = answered (inverseRefusal n) (record { refusal = 0; value = inv
 
 -- every bit of the answer; and where it is accepted, it is 1.0 over whatever document 01's words allow for the root of n
 pub record InverseRoot (n : ℕ) (answer : Inverse) : Type 0 where
-  pub is : answer ≡ inverseAnswer n
-  pub over : inverseRefusal n ≡ 0 → (r : Rooted) → Root (float (pos n)) r → answer .value ≡ div binary64 one-float (r .value)
+  pub bits : answer ≡ inverseAnswer n
+  pub words : inverseRefusal n ≡ 0 → (r : Rooted) → Root (float (pos n)) r → answer .value ≡ div binary64 one-float (r .value)
