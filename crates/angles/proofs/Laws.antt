@@ -1,6 +1,6 @@
 -- What the crates above cite of sine and cosine, beside their promise: which angles are accepted, that the value is nearer than promised, and that of an angle that was rounded the value stands for the sine
 -- or cosine of the exact one. `w` is either wave. Assumes nothing.
-use mathlib.Core.Path.{_≡_, sym, ap, _∙_, subst}
+use mathlib.Core.Path.{_≡_, ap, _∙_}
 use Prim.Native.Nat.{ℕ, _*_, _^_, _≤_, _<_}
 use native.Mathlib.Nat.{le-trans, suc-le-suc-iff}
 use native.Mathlib.Omega.{arith}
@@ -36,8 +36,7 @@ rounded-accepted d {k} a c h =
 module _ (w : Wave) (d : Float) (answer : Answer) (p : Promise w d answer) where
   -- ---- nearer than promised
   pub value-near : refusalOf d ≡ 0 → Within 50 (number (answer .value)) (defined w (number d))
-  value-near h =
-      subst (λ (v : Float). Within 50 (number v) (defined w (number d))) (sym (ap (λ (r : Answer). r .value) (p .is) ∙ value-is w d h)) (computed-near w d (accepted-number d h))
+  value-near h = rw (ap (λ (r : Answer). r .value) (p .is) ∙ value-is w d h) (computed-near w d (accepted-number d h))
 
   -- ---- d is an angle rounded, and a the exact one
   pub value-carried : {k : ℕ} (a : Fraction) → k ≤ 49 → Within k (number d) a → AtMost (magnitude a) (whole 1079) → Approximates k definedMost (answer .value) (defined w a)

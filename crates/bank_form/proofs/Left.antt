@@ -9,6 +9,7 @@ use native.Mathlib.Omega.{arith}
 use borrow.Author.Tests.{eqb-true, eqb-false}
 use lib.Dec.{eqb}
 use lib.ListN.{length}
+use Rattle.lists.proofs.Tests.{tested}
 use Rattle.big_endian.specs.Fields.{fieldAt}
 use Rattle.refusals.specs.Ranges.{within}
 use Rattle.refusals.proofs.Ranges.{within-in}
@@ -27,11 +28,8 @@ Tells14 f = f .refusal ≡ 14
 -- where the first of two walks does not, the second does, and the first found nothing
 second : (a b : Fault) → (Tells14 a → ⊥) → Tells14 (orElse a b) → (a .refusal ≡ 0) × Tells14 b
 unfolding orElse
-second a b not e = go (eqb (a .refusal) 0) refl
-  where
-    go : (t : Bool) → eqb (a .refusal) 0 ≡ t → (a .refusal ≡ 0) × Tells14 b
-    go true k = (eqb-true (a .refusal) 0 k, rw k at e)
-    go false k = absurd (not (rw k at e))
+second a b not e = tested (eqb (a .refusal) 0) (λ k. (eqb-true (a .refusal) 0 k, rw k at e))
+    (λ k. absurd (not (rw k at e)))
 
 module _ (size : ℕ) where
   -- a field with another number does not, nor does one that is good
@@ -55,11 +53,9 @@ module _ (size : ℕ) where
     other-taps at (suc n) e = other-taps (at + 4) n (second _ (tapsFault size s (at + 4) n) (other-field at 4 18 _ (λ z. absurd (omega (arith, z)))) e .1)
 
     other-elevation : (v at : ℕ) → Tells14 (elevationFault size s v at) → ⊥
-    other-elevation v at e = go (eqb v 1) refl
-      where
-        go : (t : Bool) → eqb v 1 ≡ t → ⊥
-        go true k = omega (arith, e, ap (λ (f : Fault). f .refusal) (no-elevation size s v at k))
-        go false k = other-field (at + 2) 2 20 _ (λ z. absurd (omega (arith, z))) (ap (λ (f : Fault). f .refusal) (sym (elevation-field size s v at k)) ∙ e)
+    other-elevation v at e =
+        tested (eqb v 1) (λ k. omega (arith, e, ap (λ (f : Fault). f .refusal) (no-elevation size s v at k)))
+        (λ k. other-field (at + 2) 2 20 _ (λ z. absurd (omega (arith, z))) (ap (λ (f : Fault). f .refusal) (sym (elevation-field size s v at k)) ∙ e))
 
     other-pair : (good : Bool) (at : ℕ) → Tells14 (unless good 17 at) → ⊥
     other-pair true at e = omega (arith, e)

@@ -10,6 +10,7 @@ use borrow.Author.Tests.{eqb-true}
 use lib.Dec.{eqb}
 use lib.Ieee.Scale.{finite}
 use lib.ListN.{length}
+use Rattle.lists.proofs.Tests.{tested}
 use Rattle.big_endian.specs.Fields.{floatAt}
 use Rattle.bank_form.specs.declared.Fault.{Fault}
 use Rattle.bank_form.specs.Version.{rowSize, tapsAt, pairAt}
@@ -33,11 +34,7 @@ module _ (size : ℕ) where
 
   fine-else : (a b : Fault) → Fine size a → (a .refusal ≡ 0 → Fine size b) → Fine size (orElse a b)
   unfolding orElse
-  fine-else a b p q = go (eqb (a .refusal) 0) refl
-    where
-      go : (t : Bool) → eqb (a .refusal) 0 ≡ t → Fine size (orElse a b)
-      go true e = rw e (q (eqb-true (a .refusal) 0 e))
-      go false e = rw e p
+  fine-else a b p q = tested (eqb (a .refusal) 0) (λ e. rw e (q (eqb-true (a .refusal) 0 e))) (λ e. rw e p)
 
   -- a field with a number, and as long as that says
   fine-field : (at n : ℕ) (good : Bool) → at ≤ size → 13 ≤ n → n ≤ 20 → (n ≡ 19 → ⊥) → Fine size (field size at (fieldSize n) n good)
@@ -84,11 +81,8 @@ module _ (size : ℕ) where
     fine-taps at (suc n) h = fine-next at 18 _ _ h (omega arith) (omega arith) (λ z. omega (arith, z)) (fine-taps (at + 4) n)
 
     fine-elevation : (v at : ℕ) → at + 2 ≤ size → Fine size (elevationFault size s v at)
-    fine-elevation v at h = go (eqb v 1) refl
-      where
-        go : (t : Bool) → eqb v 1 ≡ t → Fine size (elevationFault size s v at)
-        go true e = inl (no-elevation size s v at e)
-        go false e = rw (elevation-field size s v at e) (fine-field (at + 2) 20 _ h (omega arith) (omega arith) (λ z. omega (arith, z)))
+    fine-elevation v at h = tested (eqb v 1) (λ e. inl (no-elevation size s v at e))
+        (λ e. rw (elevation-field size s v at e) (fine-field (at + 2) 20 _ h (omega arith) (omega arith) (λ z. omega (arith, z))))
 
     -- the field with which a pair is read ends where the taps begin
     fine-pair : (v l i at : ℕ) → tapsAt v at ≤ size → Fine size (unless (isNew s v l (pairIn v s at) 9 i) 17 (pairAt v at))

@@ -11,6 +11,7 @@ use lib.Dec.{ltb, eqb}
 use lib.Ieee.{binary32, fits}
 use lib.Ieee.Bits.{is-true, ofBits-fits}
 use lib.Ieee.Scale.{finite}
+use Rattle.lists.proofs.Tests.{tested}
 use Rattle.big_endian.specs.Fields.{fieldAt, signedAt, floatAt}
 use Rattle.big_endian.specs.Lists.{strided}
 use Rattle.bank_form.specs.declared.Fault.{Fault}
@@ -42,11 +43,7 @@ module _ (a b : Fault) where
   -- it finds nothing if both do
   pub clear-else : isClear (orElse a b) ≡ (isClear a && isClear b)
   unfolding orElse
-  clear-else = go (isClear a) refl
-    where
-      go : (t : Bool) → isClear a ≡ t → isClear (orElse a b) ≡ (isClear a && isClear b)
-      go true e = rw e
-      go false e = rw (e, e)
+  clear-else = tested (isClear a) (λ e. rw e) (λ e. rw (e, e))
 
   pub else-none : orElse a b .refusal ≡ 0 → (a .refusal ≡ 0) × (b .refusal ≡ 0)
   else-none h =
@@ -56,11 +53,7 @@ module _ (a b : Fault) where
   -- what holds of both holds of the first fault
   pub else-both : (P : Fault → Type 0) → P a → P b → P (orElse a b)
   unfolding orElse
-  else-both P p q = go (isClear a) refl
-    where
-      go : (t : Bool) → isClear a ≡ t → P (orElse a b)
-      go true e = rw e q
-      go false e = rw e p
+  else-both P p q = tested (isClear a) (λ e. rw e q) (λ e. rw e p)
 
   pub else-sound : a ≡ sound → b ≡ sound → orElse a b ≡ sound
   unfolding orElse
@@ -68,11 +61,7 @@ module _ (a b : Fault) where
 
 pub else-assoc : (a b c : Fault) → orElse (orElse a b) c ≡ orElse a (orElse b c)
 unfolding orElse
-else-assoc a b c = go (eqb (a .refusal) 0) refl
-  where
-    go : (t : Bool) → eqb (a .refusal) 0 ≡ t → orElse (orElse a b) c ≡ orElse a (orElse b c)
-    go true e = rw e
-    go false e = rw (e, e)
+else-assoc a b c = tested (eqb (a .refusal) 0) (λ e. rw e) (λ e. rw (e, e))
 
 -- ---- a field
 
@@ -176,21 +165,14 @@ module _ (size : ℕ) (s : List ℕ) (v at : ℕ) where
 
   pub elevation-none : at + 2 ≤ size → elevationFault size s v at .refusal ≡ 0 → (tapsAt v at ≤ size) × (isElevation (elevationAt v s at) ≡ true)
   unfolding elevationFault elevationAt isElevation
-  elevation-none h e = go (eqb v 1) refl
-    where
-      go : (t : Bool) → eqb v 1 ≡ t → (tapsAt v at ≤ size) × (isElevation (elevationAt v s at) ≡ true)
-      go true k = rw k (omega (arith, h), refl)
-      go false k =
-          let here = field-none size (at + 2) 2 20 (isElevation (signedAt s (at + 2))) (omega arith) (rw k at e) in
-          rw k (here .0, here .1)
+  elevation-none h e = tested (eqb v 1) (λ k. rw k (omega (arith, h), refl))
+      (λ k. let here = field-none size (at + 2) 2 20 (isElevation (signedAt s (at + 2))) (omega arith) (rw k at e) in
+      rw k (here .0, here .1))
 
   pub elevation-sound : tapsAt v at ≤ size → isElevation (elevationAt v s at) ≡ true → elevationFault size s v at ≡ sound
   unfolding elevationFault elevationAt
-  elevation-sound h e = go (eqb v 1) refl
-    where
-      go : (t : Bool) → eqb v 1 ≡ t → elevationFault size s v at ≡ sound
-      go true k = rw k
-      go false k = rw k (field-good size (at + 2) 2 20 _ (rw k at h) (rw k at e))
+  elevation-sound h e = tested (eqb v 1) (λ k. rw k)
+      (λ k. rw k (field-good size (at + 2) 2 20 _ (rw k at h) (rw k at e)))
 
 -- ---- rows
 
