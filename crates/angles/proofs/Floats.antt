@@ -174,9 +174,7 @@ unfolding isUpright isInside lt le eq neg ofInt place cut units Defined.turned
 itself nan t l = absurd t
 itself (inf true) t l = absurd t
 itself (inf false) t l = absurd t
-itself (fin false m e) t l =
-    let u = m * up e * 2 ^ 52 / down e in
-    (and-i (not (lt (fin false m e) zero-float)) (isInside limit (fin false m e)) (subst (λ (b : Bool). T (not b)) (sym l) tt) t, (sym (add-mod-right u turn)))
+itself (fin false m e) t l = (and-i (not (lt (fin false m e) zero-float)) (isInside limit (fin false m e)) (subst (λ (b : Bool). T (not b)) (sym l) tt) t, (sym (add-mod-right (m * up e * 2 ^ 52 / down e) turn)))
 itself (fin true m e) t l =
     let z : m * up e ≡ 0 = none (m * up e) (down e) (ltb-false 0 (m * up e * 1 + 0 * down e) l) in
     let u : m * up e * 2 ^ 52 / down e ≡ 0 = ap (λ (n : ℕ). n * 2 ^ 52 / down e) z ∙ zero-div (down e) in
@@ -196,10 +194,7 @@ place-less (fin s m e) = mod-lt _ (lit< tt)
 quotient : (v : Float) (n : ℕ) → n < 2 ^ 53 → HasValue v false n 1 → HasValue (div binary64 v (fin false 1 (pos 51))) false n (2 ^ 51)
 unfolding div
 quotient (fin true m e) n h v = absurd (true≢false (v .0))
-quotient (fin false m e) n h v =
-    subst (λ (z : Float). HasValue z false n (2 ^ 51))
-    (round-same binary64 false n (2 ^ 51) (m * up e * 1) (2 ^ 51 * down e) (lit< tt) (mul-pos (pow-pos 51) (down-pos e)) (mul-left-comm n (2 ^ 51) (down e) ∙ mul-comm (2 ^ 51) (n * down e) ∙ ap (λ (x : ℕ). x * 2 ^ 51) (sym (v .1))))
-    (literal-held binary64 false n 51 h (lit≤ tt))
+quotient (fin false m e) n h v = rw (← round-same binary64 false n (2 ^ 51) (m * up e * 1) (2 ^ 51 * down e) (lit< tt) (mul-pos (pow-pos 51) (down-pos e)) (mul-left-comm n (2 ^ 51) (down e) ∙ mul-comm (2 ^ 51) (n * down e) ∙ ap (λ (x : ℕ). x * 2 ^ 51) (sym (v .1)))) (literal-held binary64 false n 51 h (lit≤ tt))
 
 -- rounded from units of 2 ^ -60 to units of 2 ^ -51 it moves by 256 of the former at most
 upright-close : (s : ℕ) → Close one (fraction ((s + 256) / 512) 0 (2 ^ 51)) (fraction s 0 one) 256

@@ -20,7 +20,7 @@ use Rattle.angles.specs.Limits.{isInside, refusesAngle}
 module _ (limit x : Float) (h : refusesAngle limit x ≡ false) where
   pub accepted-inside : T (isInside limit x)
   unfolding refusesAngle
-  accepted-inside = subst T (sym (not-false (isInside limit x) (or-off (not (finite x)) (not (isInside limit x)) h .1))) tt
+  accepted-inside = rw (not-false (isInside limit x) (or-off (not (finite x)) (not (isInside limit x)) h .1)) tt
 
   pub accepted-number : 0 < number x .over
   unfolding refusesAngle
@@ -54,9 +54,4 @@ module _ (limit x : Float) (L : 0 < number limit .over) where
 
   pub size-accepted : 0 < number x .over → AtMost (magnitude (number x)) (number limit) → refusesAngle limit x ≡ false
   unfolding isInside
-  size-accepted X h =
-      refused-is limit x L
-      ∙ ap not (is-true (isInside limit x)
-      (and-i (le (neg limit) x) (le x limit)
-      (at-most-le (neg limit) x opposite-number X (subst (λ (z : Fraction). AtMost z (number x)) (sym (number-neg limit)) (magnitude-above (number x) (number limit) h)))
-      (at-most-le x limit X L (magnitude-below (number x) (number limit) h))))
+  size-accepted X h = cc (refused-is limit x L, is-true (isInside limit x) (and-i (le (neg limit) x) (le x limit) (at-most-le (neg limit) x opposite-number X (subst (λ (z : Fraction). AtMost z (number x)) (sym (number-neg limit)) (magnitude-above (number x) (number limit) h))) (at-most-le x limit X L (magnitude-below (number x) (number limit) h))))

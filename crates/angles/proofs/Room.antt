@@ -92,7 +92,7 @@ module _ (a x : ℕ) (e : x ≡ radians (short a)) where
   outermost-room = square-room x x-most
 
   pub sine-room : (r : ℕ) → r ≡ fromOne (outermost x 25) → (x * r < 2 ^ 124) × (times x r < 2 ^ 62 - 256)
-  sine-room r f = subst (λ (n : ℕ). (x * n < 2 ^ 124) × (times x n < 2 ^ 62 - 256)) (sym f) (omega (arith, mul-le-mul x-most (sine-rest-most x x-most)), sine-fits x x-most)
+  sine-room r f = rw f (omega (arith, mul-le-mul x-most (sine-rest-most x x-most)), sine-fits x x-most)
 
   pub cosine-room : (r : ℕ) → r ≡ fromOne (outermost x 26) → r < 2 ^ 62 - 256
   cosine-room r f = subst (λ (n : ℕ). n < 2 ^ 62 - 256) (sym f) (cosine-fits x x-most)

@@ -22,11 +22,11 @@ use Rattle.angles.proofs.Room.{largest, radians-most, square-most, squa
 -- ---- x, in radians: r units of 2 ^ -52 degree. The constants are variables: c for the degree, k for 180 d, p for document 01's numerator, d for 10 ^ 18, u for 2 ^ 52, v for 2 ^ 68, o for 2 ^ 60
 above-nat : (r x c k p u v o : ℕ) → x * o * (u * k) ≤ r * c * (u * k) → c * k * (r * u) ≤ p * v * (r * u) → r * p * (v * u) ≡ r * p * (o * o)
     → (x * (u * k) + (r * 0 + 0 * p) * o) * o ≤ ((r * p + 0 * 0) * o + 0 * (u * k)) * o + 2 * (o * (u * k))
-above-nat r x c k p u v o f g e = let f' = simp ring at f in let g' = simp ring at g in let e' = simp ring at e in simp ring (omega arith)
+above-nat r x c k p u v o f g e = omega arith
 
 below-nat : (r x c k p u v o : ℕ) → r * c * (u * k) ≤ (x * o + o) * (u * k) → p * v * (r * u) ≤ (c * k + k) * (r * u) → r * (k * u) ≤ o * (k * u) → r * p * (v * u) ≡ r * p * (o * o)
     → (0 * (u * k) + (r * p + 0 * 0) * o) * o ≤ ((r * 0 + 0 * p) * o + x * (u * k)) * o + 2 * (o * (u * k))
-below-nat r x c k p u v o f g h e = let f' = simp ring at f in let g' = simp ring at g in let h' = simp ring at h in let e' = simp ring at e in simp ring (omega arith)
+below-nat r x c k p u v o f g h e = omega arith
 
 unfoldable pub angle : ℕ → Fraction
 angle r = Defined.radians (fraction r 0 (2 ^ 52))
@@ -74,7 +74,7 @@ angle-size r h =
 -- ---- x squared
 
 undivided : {v e : ℕ} {x : Fraction} → Close one (fixed (v / 1)) (x ⊘ whole 1) e → Close one (fixed v) x e
-undivided {v} {e} {x} c = subst (λ (y : Fraction). Close one (fixed v) y e) (over-one x) (subst (λ (n : ℕ). Close one (fixed n) (x ⊘ whole 1) e) (div-one v) c)
+undivided {v} {e} {x} c = rw (← over-one x) (subst (λ (n : ℕ). Close one (fixed n) (x ⊘ whole 1) e) (div-one v) c)
 
 module _ (r : ℕ) (h : r ≤ half) where
   x : ℕ

@@ -12,6 +12,7 @@ use lib.Ieee.{Float}
 use lib.Ieee.Bits.{is-true}
 use lib.IntN.{ℤ}
 use lib.ListN.{length}
+use Rattle.lists.proofs.Tests.{tested}
 use Rattle.refusals.proofs.First.{answered-accepted, answered-refused, told-is}
 use Rattle.refusals.specs.Ranges.{within}
 use Rattle.lists.specs.Placed.{placed}
@@ -63,11 +64,7 @@ module _ (zs es : List ℤ) (xs : List Float) where
 
   -- so a refusal is for a length, or the bank's
   pub wrong-or-bank : (bank : Fault) → (afterLists bank zs es xs ≡ wrong 5 0) ⊎ (afterLists bank zs es xs ≡ bank)
-  wrong-or-bank bank = go ListsFit refl
-    where
-      go : (t : Bool) → ListsFit ≡ t → (afterLists bank zs es xs ≡ wrong 5 0) ⊎ (afterLists bank zs es xs ≡ bank)
-      go true e = inr (right-lists bank e)
-      go false e = inl (wrong-lists bank e)
+  wrong-or-bank bank = tested ListsFit (λ e. inr (right-lists bank e)) (λ e. inl (wrong-lists bank e))
 
   pub record Lists : Type 0 where
     pub azimuths : length zs ≡ 8

@@ -8,6 +8,7 @@ use native.Mathlib.Nat.{mul-le-mul-right}
 use native.Mathlib.Omega.{arith}
 use lib.Ieee.{Float}
 use lib.Ieee.Scale.{finite}
+use Rattle.lists.proofs.Tests.{tested}
 use Rattle.big_endian.specs.Fields.{signedAt, floatAt}
 use Rattle.big_endian.specs.Lists.{strided}
 use Rattle.big_endian.proofs.Starts.{Agree, signed-agrees, float-agrees}
@@ -23,11 +24,7 @@ use Rattle.bank_form.specs.FaultLaws.{rowPlace}
 module _ (k : ℕ) (s t : List ℕ) (same : Agree k s t) where
   elevation-agrees : (v at : ℕ) → tapsAt v at ≤ k → elevationAt v t at ≡ elevationAt v s at
   unfolding elevationAt
-  elevation-agrees v at h = go (eqb v 1) refl
-    where
-      go : (b : Bool) → eqb v 1 ≡ b → elevationAt v t at ≡ elevationAt v s at
-      go true e = rw e
-      go false e = rw e (signed-agrees k s t same (at + 2) (rw e at h))
+  elevation-agrees v at h = tested (eqb v 1) (λ e. rw e) (λ e. rw e (signed-agrees k s t same (at + 2) (rw e at h)))
 
   pair-agrees : (v at : ℕ) → tapsAt v at ≤ k → pairIn v t at ≡ pairIn v s at
   pair-agrees v at h = λ i. record { azimuth = signed-agrees k s t same at (omega (arith, h)) i; elevation = elevation-agrees v at h i }
@@ -64,11 +61,8 @@ module _ (k : ℕ) (s t : List ℕ) (same : Agree k s t) where
 
     pub elevation-fault-agrees : (v at : ℕ) → tapsAt v at ≤ k → elevationFault size t v at ≡ elevationFault size s v at
     unfolding elevationFault
-    elevation-fault-agrees v at h = go (eqb v 1) refl
-      where
-        go : (b : Bool) → eqb v 1 ≡ b → elevationFault size t v at ≡ elevationFault size s v at
-        go true e = rw e
-        go false e = rw e (ap (field size (at + 2) 2 20) (field-elevation-agrees (at + 2) (rw e at h)))
+    elevation-fault-agrees v at h = tested (eqb v 1) (λ e. rw e)
+        (λ e. rw e (ap (field size (at + 2) 2 20) (field-elevation-agrees (at + 2) (rw e at h))))
 
     pub row-agrees : (v l i at : ℕ) → 9 + i * rowSize v l ≤ k → at + rowSize v l ≤ k
         → rowFault size t v l i at ≡ rowFault size s v l i at

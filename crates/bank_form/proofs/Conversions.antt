@@ -34,9 +34,7 @@ module _ (v : ℕ) (s : List ℕ) where
 
   tells-other : 1 ≤ length s → (versionIn s ≡ v → ⊥) → faultOf v s ≡ wrong 13 0
   unfolding faultOf headField
-  tells-other h other =
-      let first = field-bad (length s) 0 1 13 (within v v (versionIn s)) h (other-version other) in
-      sym (else-stop _ (fault s) (wrong 13 0) (sym first) (λ z. omega (arith, z)))
+  tells-other h other = sym (else-stop _ (fault s) (wrong 13 0) (sym (field-bad (length s) 0 1 13 (within v v (versionIn s)) h (other-version other))) (λ z. omega (arith, z)))
 
   -- a file that has a version has a byte
   has-version : 1 ≤ v → versionIn s ≡ v → 1 ≤ length s
@@ -48,9 +46,7 @@ module _ (v : ℕ) (s : List ℕ) where
 
   tells-right : isVersion v ≡ true → versionIn s ≡ v → faultOf v s ≡ fault s
   unfolding faultOf headField
-  tells-right known e =
-      let byte = has-version (within-true 1 2 v known .0) e in
-      else-on _ (fault s) sound (sym (field-good (length s) 0 1 13 (within v v (versionIn s)) byte (same-version e))) refl
+  tells-right known e = else-on _ (fault s) sound (sym (field-good (length s) 0 1 13 (within v v (versionIn s)) (has-version (within-true 1 2 v known .0) e) (same-version e))) refl
 
 tells-empty : (v : ℕ) → faultOf v [] ≡ wrong 19 0
 unfolding faultOf headField field orElse

@@ -114,7 +114,7 @@ module _ (s : List ℕ) where
 
 between-small : (low high : ℕ) → low < 2 ^ 15 → high < 2 ^ 15 → (z : ℤ) → between (negsuc low) (pos high) z ≡ true → IsI16 z
 between-small low high h g (pos n) e = let k = leb-true n high e in omega arith
-between-small low high h g (negsuc n) e = let k = leb-true n low (and-eq-true-iff (leb n low) true .0 e .0) in omega arith
+between-small low high h g (negsuc n) e = omega (arith, leb-true n low (and-eq-true-iff (leb n low) true .0 e .0))
 
 azimuth-small : (z : ℤ) → isAzimuth z ≡ true → IsI16 z
 unfolding isAzimuth
@@ -158,7 +158,7 @@ written-keeps v b h k =
 
 -- a bank file says its version
 pub version-of : (v : ℕ) (s : List ℕ) (b : Bank) → IsFile v s b → versionIn s ≡ v
-version-of v s b f = ap versionIn (sym (f .bytes)) ∙ read-write v b (keeps-fits v b (f .holds) (keeps b (f .keeps))) .version
+version-of v s b f = cc (f .bytes, read-write v b (keeps-fits v b (f .holds) (keeps b (f .keeps))) .version)
 
 -- a file is accepted exactly if it is the encoding of a bank that keeps the form, in a version that holds it
 pub exactly : (s : List ℕ) → AreBytes s → Exactly s

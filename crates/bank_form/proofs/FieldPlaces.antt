@@ -6,6 +6,7 @@ use Prim.Native.Nat.{ℕ, zero, suc, _+_, _*_, _≤_, _<_}
 use native.Mathlib.Omega.{arith}
 use lib.Dec.{eqb}
 use lib.ListN.{length}
+use Rattle.lists.proofs.Tests.{tested}
 use Rattle.bank_form.specs.declared.Fault.{Fault}
 use mathlib.Core.Logic.{_⊎_, inl, inr}
 use borrow.Author.Tests.{eq-eqb}
@@ -83,14 +84,10 @@ module _ (size : ℕ) (s : List ℕ) where
         right-field _ 2 17 _ (λ bad. row-place 17 _ (omega arith) (λ g. (i, h, inl (record { place = refl; bad = bad }))) (λ g. absurd (omega (arith, g))) (λ g. absurd (omega (arith, g))))
 
     right-elevation : Right (elevationFault size s v (rowPlace s i))
-    right-elevation = go (eqb v 1) refl
-      where
-        go : (t : Bool) → eqb v 1 ≡ t → Right (elevationFault size s v (rowPlace s i))
-        go true e = rw (no-elevation size s v (rowPlace s i) e) nowhere
-        go false e =
-            rw (elevation-field size s v (rowPlace s i) e)
-            (right-field _ 2 20 _ (λ bad. row-place 20 _ (omega arith) (λ g. absurd (omega (arith, g))) (λ g. absurd (omega (arith, g)))
-            (λ g. (i, h, record { version = λ one. true≢false (sym (eq-eqb v 1 one) ∙ e); place = refl; bad = bad }))))
+    right-elevation = tested (eqb v 1) (λ e. rw (no-elevation size s v (rowPlace s i) e) nowhere)
+        (λ e. rw (elevation-field size s v (rowPlace s i) e)
+        (right-field _ 2 20 _ (λ bad. row-place 20 _ (omega arith) (λ g. absurd (omega (arith, g))) (λ g. absurd (omega (arith, g)))
+        (λ g. (i, h, record { version = λ one. true≢false (sym (eq-eqb v 1 one) ∙ e); place = refl; bad = bad })))))
 
     right-pair : Right (unless (isNew s v l (pairIn v s (rowPlace s i)) 9 i) 17 (pairAt v (rowPlace s i)))
     right-pair = go (isNew s v l (pairIn v s (rowPlace s i)) 9 i) refl

@@ -9,6 +9,7 @@ use native.Mathlib.Omega.{arith}
 use borrow.Author.Tests.{eqb-false}
 use lib.Dec.{eqb}
 use lib.ListN.{length}
+use Rattle.lists.proofs.Tests.{tested}
 use Rattle.big_endian.specs.Fields.{fieldAt}
 use Rattle.refusals.specs.Ranges.{within}
 use Rattle.refusals.proofs.Ranges.{within-in}
@@ -55,11 +56,9 @@ module _ (size : ℕ) where
     other-taps at (suc n) e = other-taps (at + 4) n (second _ (tapsFault size s (at + 4) n) (other-field at 4 18 _ (λ z. absurd (omega (arith, z)))) e .1)
 
     other-elevation : (v at : ℕ) → Tells14 (elevationFault size s v at) → ⊥
-    other-elevation v at e = go (eqb v 1) refl
-      where
-        go : (t : Bool) → eqb v 1 ≡ t → ⊥
-        go true k = omega (arith, e, ap (λ (f : Fault). f .refusal) (no-elevation size s v at k))
-        go false k = other-field (at + 2) 2 20 _ (λ z. absurd (omega (arith, z))) (ap (λ (f : Fault). f .refusal) (sym (elevation-field size s v at k)) ∙ e)
+    other-elevation v at e =
+        tested (eqb v 1) (λ k. omega (arith, e, ap (λ (f : Fault). f .refusal) (no-elevation size s v at k)))
+        (λ k. other-field (at + 2) 2 20 _ (λ z. absurd (omega (arith, z))) (ap (λ (f : Fault). f .refusal) (sym (elevation-field size s v at k)) ∙ e))
 
     other-pair : (good : Bool) (at : ℕ) → Tells14 (unless good 17 at) → ⊥
     other-pair true at e = omega (arith, e)

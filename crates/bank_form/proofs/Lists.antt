@@ -77,9 +77,7 @@ module _ (s : List ℕ) (v l at : ℕ) where
   module _ (n : ℕ) where
     pub length-taps : length (tapsFrom s v l at n) ≡ n * (2 * l)
     unfolding tapsFrom
-    length-taps =
-        length-joined (rowTaps s v l) (2 * l) (λ p. length-strided (floatAt s) 4 (tapsAt v p) (2 * l)) (strided (λ p. p) (rowSize v l) at n)
-        ∙ ap (λ (k : ℕ). k * (2 * l)) (length-strided (λ p. p) (rowSize v l) at n)
+    length-taps = cc (length-joined (rowTaps s v l) (2 * l) (λ p. length-strided (floatAt s) 4 (tapsAt v p) (2 * l)) (strided (λ p. p) (rowSize v l) at n), length-strided (λ p. p) (rowSize v l) at n)
 
     -- one row more before the others, and behind them
     pub taps-more : tapsFrom s v l at (suc n) ≡ rowTaps s v l at ++ tapsFrom s v l (at + rowSize v l) n

@@ -10,6 +10,7 @@ use borrow.Author.Tests.{eqb-true, eqb-false}
 use lib.Dec.{eqb}
 use lib.Ieee.Scale.{finite}
 use lib.ListN.{length}
+use Rattle.lists.proofs.Tests.{tested}
 use Rattle.big_endian.specs.Fields.{fieldAt}
 use Rattle.refusals.specs.Ranges.{within}
 use Rattle.bank_form.specs.declared.Fault.{Fault}
@@ -107,13 +108,10 @@ module _ (size : ℕ) (s t : List ℕ) where
       (kept-taps (at + 4) n)
 
   kept-elevation : (v at : ℕ) → at + 2 ≤ size → Kept (at + 2) (elevationFault size s v at) (elevationFault size t v at)
-  kept-elevation v at h = go (eqb v 1) refl
-    where
-      go : (b : Bool) → eqb v 1 ≡ b → Kept (at + 2) (elevationFault size s v at) (elevationFault size t v at)
-      go true e = rw (no-elevation size s v at e) (kept-sound (at + 2) _)
-      go false e =
-          rw (elevation-field size s v at e, elevation-field size t v at e)
-          (kept-field (at + 2) 20 _ _ h (λ g. field-elevation-agrees (at + 2 + 2) s t g (at + 2) (le-refl (at + 2 + 2))))
+  kept-elevation v at h =
+      tested (eqb v 1) (λ e. rw (no-elevation size s v at e) (kept-sound (at + 2) _))
+      (λ e. rw (elevation-field size s v at e, elevation-field size t v at e)
+      (kept-field (at + 2) 20 _ _ h (λ g. field-elevation-agrees (at + 2 + 2) s t g (at + 2) (le-refl (at + 2 + 2)))))
 
   -- the pair is compared once it is read: where the taps begin
   kept-new : (v l i at : ℕ) → 9 + i * rowSize v l ≤ at

@@ -10,7 +10,7 @@ use native.Mathlib.Omega.{arith}
 use borrow.Author.Tests.{lt-ltb, le-ltb}
 use lib.Dec.{ltb}
 use lib.IntN.{ℤ, pos, negsuc}
-use lib.ListN.{length, getD, take}
+use lib.ListN.{length, getD}
 use lib.Signed.{mag, ltZ}
 use Rattle.big_endian.specs.Lists.{strided}
 use Rattle.big_endian.proofs.Lists.{strided-none, strided-more}
@@ -98,14 +98,7 @@ elevations-of [] (e ∷ es) h = absurd (omega (arith, h))
 elevations-of (z ∷ zs) [] h = absurd (omega (arith, h))
 elevations-of (z ∷ zs) (e ∷ es) h = ap (λ (ys : List ℤ). e ∷ ys) (elevations-of zs es (omega (arith, h)))
 
--- of the first rows, and of one
-pub take-pairs : (i : ℕ) (zs es : List ℤ) → take i (pairsOf zs es) ≡ pairsOf (take i zs) (take i es)
-unfolding pairsOf
-take-pairs zero zs es = refl
-take-pairs (suc i) [] es = refl
-take-pairs (suc i) (z ∷ zs) [] = refl
-take-pairs (suc i) (z ∷ zs) (e ∷ es) = ap (λ (ps : List Pair). record { azimuth = z; elevation = e } ∷ ps) (take-pairs i zs es)
-
+-- of one row
 pub pair-of : (zs es : List ℤ) (i : ℕ) (d : Pair) → i < length zs → i < length es → getD (pairsOf zs es) i d ≡ record { azimuth = getD zs i (pos 0); elevation = getD es i (pos 0) }
 unfolding pairsOf
 pair-of [] es i d h g = absurd (omega (arith, h))

@@ -10,6 +10,7 @@ use native.Mathlib.Omega.{arith}
 use lib.Dec.{eqb}
 use lib.Ieee.Scale.{finite}
 use lib.ListN.{length}
+use Rattle.lists.proofs.Tests.{tested}
 use Rattle.big_endian.specs.Fields.{floatAt}
 use Rattle.bank_form.specs.declared.Fault.{Fault}
 use Rattle.bank_form.specs.Version.{rowSize, tapsAt, pairAt}
@@ -83,11 +84,8 @@ module _ (size : ℕ) where
     fine-taps at (suc n) h = fine-next at 18 _ _ h (omega arith) (omega arith) (λ z. omega (arith, z)) (fine-taps (at + 4) n)
 
     fine-elevation : (v at : ℕ) → at + 2 ≤ size → Fine size (elevationFault size s v at)
-    fine-elevation v at h = go (eqb v 1) refl
-      where
-        go : (t : Bool) → eqb v 1 ≡ t → Fine size (elevationFault size s v at)
-        go true e = inl (no-elevation size s v at e)
-        go false e = rw (elevation-field size s v at e) (fine-field (at + 2) 20 _ h (omega arith) (omega arith) (λ z. omega (arith, z)))
+    fine-elevation v at h = tested (eqb v 1) (λ e. inl (no-elevation size s v at e))
+        (λ e. rw (elevation-field size s v at e) (fine-field (at + 2) 20 _ h (omega arith) (omega arith) (λ z. omega (arith, z))))
 
     -- the field with which a pair is read ends where the taps begin
     fine-pair : (v l i at : ℕ) → tapsAt v at ≤ size → Fine size (unless (isNew s v l (pairIn v s at) 9 i) 17 (pairAt v at))

@@ -17,6 +17,7 @@ use lib.Seq.{drop-drop, take-at, drop-at, length-take-le}
 use mir.Syntax.{w16}
 use mir.Val.{toZ, ofZ, SFits}
 use mir.Facts.{toZ-ofZ, ofZ-toZ, fits-ofZ}
+use Rattle.lists.proofs.Tests.{tested}
 use Rattle.formats.proofs.Patterns.{finite-no-nan}
 use Rattle.big_endian.specs.Bytes.{bytesOf, AreBytes}
 use Rattle.big_endian.specs.Fields.{fieldAt, signedAt, floatAt}
@@ -46,40 +47,26 @@ pub record FitsElevation (v : ℕ) (z : ℤ) : Type 0 where
 
 pub length-elevation : (v : ℕ) (z : ℤ) → length (elevationBytes v z) ≡ elevationSize v
 unfolding elevationBytes
-length-elevation v z = go (eqb v 1) refl
-  where
-    go : (t : Bool) → eqb v 1 ≡ t → length (elevationBytes v z) ≡ elevationSize v
-    go true e = rw e
-    go false e = rw e (length-bytes 2 (ofZ w16 z))
+length-elevation v z = tested (eqb v 1) (λ e. rw e) (λ e. rw e (length-bytes 2 (ofZ w16 z)))
 
 pub elevation-small : (v : ℕ) → elevationSize v ≤ 2
-elevation-small v = go (eqb v 1) refl
-  where
-    go : (t : Bool) → eqb v 1 ≡ t → elevationSize v ≤ 2
-    go true e = rw e (omega arith)
-    go false e = rw e (omega arith)
+elevation-small v = tested (eqb v 1) (λ e. rw e (omega arith)) (λ e. rw e (omega arith))
 
 -- the elevation of the row at an offset, where its bytes stand
 elevation-stands : (s : List ℕ) (v at : ℕ) (z : ℤ) (t : List ℕ) → FitsElevation v z → drop (at + 2) s ≡ elevationBytes v z ++ t → (elevationAt v s at ≡ z) × (drop (tapsAt v at) s ≡ t)
 unfolding elevationBytes elevationAt signedAt
-elevation-stands s v at z t f e = go (eqb v 1) refl
-  where
-    go : (b : Bool) → eqb v 1 ≡ b → (elevationAt v s at ≡ z) × (drop (tapsAt v at) s ≡ t)
-    go true k = let q : at + 2 + 0 ≡ at + 2 = omega arith in rw k (sym (f .flat k), ap (λ (n : ℕ). drop n s) q ∙ rw k at e)
-    go false k =
-        let here : SFits w16 z = record { sfits = f .i16 } in
-        let a = stands s (at + 2) 2 (ofZ w16 z) t (omega arith) (fits-ofZ here .fits) (omega arith) (rw k at e) in
-        rw k (ap (toZ w16) (a .value) ∙ toZ-ofZ here, a .after)
+elevation-stands s v at z t f e = tested (eqb v 1)
+    (λ k. let q : at + 2 + 0 ≡ at + 2 = omega arith in rw k (sym (f .flat k), ap (λ (n : ℕ). drop n s) q ∙ rw k at e))
+    (λ k. let here : SFits w16 z = record { sfits = f .i16 } in
+    let a = stands s (at + 2) 2 (ofZ w16 z) t (omega arith) (fits-ofZ here .fits) (omega arith) (rw k at e) in
+    rw k (ap (toZ w16) (a .value) ∙ toZ-ofZ here, a .after))
 
 elevation-forth : (s : List ℕ) (v at : ℕ) → AreBytes s → tapsAt v at ≤ length s → elevationBytes v (elevationAt v s at) ++ drop (tapsAt v at) s ≡ drop (at + 2) s
 unfolding elevationBytes elevationAt signedAt
-elevation-forth s v at bytes h = go (eqb v 1) refl
-  where
-    go : (b : Bool) → eqb v 1 ≡ b → elevationBytes v (elevationAt v s at) ++ drop (tapsAt v at) s ≡ drop (at + 2) s
-    go true k = let q : at + 2 + 0 ≡ at + 2 = omega arith in rw k (ap (λ (n : ℕ). drop n s) q)
-    go false k =
-        let u : ofZ w16 (toZ w16 (fieldAt s (at + 2) 2)) ≡ fieldAt s (at + 2) 2 = ofZ-toZ {w = w16} (record { fits = field-below s (at + 2) 2 bytes }) in
-        rw (k, u) (sym (stands-back s (at + 2) 2 bytes (omega arith) (rw k at h)))
+elevation-forth s v at bytes h =
+    tested (eqb v 1) (λ k. let q : at + 2 + 0 ≡ at + 2 = omega arith in rw k (ap (λ (n : ℕ). drop n s) q))
+    (λ k. let u : ofZ w16 (toZ w16 (fieldAt s (at + 2) 2)) ≡ fieldAt s (at + 2) 2 = ofZ-toZ {w = w16} (record { fits = field-below s (at + 2) 2 bytes }) in
+    rw (k, u) (sym (stands-back s (at + 2) 2 bytes (omega arith) (rw k at h))))
 
 -- ---- lengths
 
@@ -152,7 +139,7 @@ rowBytes-snoc v (p ∷ ps) d l xs (suc i) h =
 
 -- how far i rows reach, where there are at most k
 pub rows-reach : (v i k l : ℕ) → i ≤ k → l ≤ 512 → i * rowSize v l ≤ k * largestRow
-rows-reach v i k l h g = let row : rowSize v l ≤ largestRow = omega (arith, g, elevation-small v) in mul-le-mul h row
+rows-reach v i k l h g = mul-le-mul h (omega (arith, g, elevation-small v))
 
 -- ---- reading what was written
 
@@ -183,8 +170,8 @@ noPair = record { azimuth = pos 0; elevation = pos 0 }
 
 pairs-fit : (v : ℕ) (zs es : List ℤ) → Each IsI16 (pos 0) zs → Each IsI16 (pos 0) es → (eqb v 1 ≡ true → every isLevel es ≡ true) → Each (FitsPair v) noPair (pairsOf zs es)
 unfolding pairsOf noPair
-pairs-fit v [] es f g flat i = record { azimuth = omega arith; elevation = record { i16 = omega arith; flat = λ e. refl } }
-pairs-fit v (z ∷ zs) [] f g flat i = record { azimuth = omega arith; elevation = record { i16 = omega arith; flat = λ e. refl } }
+pairs-fit v [] es f g flat i = search
+pairs-fit v (z ∷ zs) [] f g flat i = search
 pairs-fit v (z ∷ zs) (e ∷ es) f g flat zero = record { azimuth = f 0; elevation = record { i16 = g 0; flat = λ k. level-is e (and-eq-true-iff (isLevel e) (every isLevel es) .0 (flat k) .0) } }
 pairs-fit v (z ∷ zs) (e ∷ es) f g flat (suc i) = pairs-fit v zs es (λ j. f (suc j)) (λ j. g (suc j)) (λ k. and-eq-true-iff (isLevel e) (every isLevel es) .0 (flat k) .1) i
 

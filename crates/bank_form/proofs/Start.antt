@@ -8,7 +8,7 @@ use native.Mathlib.Decide.{decLt, ℕ-discrete}
 use native.Mathlib.Omega.{arith}
 use borrow.Author.Tests.{eqb-true, leb-true, eq-eqb, ne-eqb, le-leb, lt-leb}
 use lib.Dec.{T, eqb, leb}
-use lib.ListN.{length, take, length-take}
+use lib.ListN.{length, length-take}
 use lib.Seq.{take-length}
 use Rattle.big_endian.specs.Fields.{fieldAt}
 use Rattle.refusals.specs.Ranges.{within}
@@ -26,17 +26,12 @@ use Rattle.bank_form.proofs.RoundTrip.{rows-reach}
 
 -- a head without fault has at most 8 rows of 512 taps for each ear
 head-reach : (size : ℕ) (s : List ℕ) → Head size s → rowPlace s (rowsIn s) ≤ largest
-head-reach size s head =
-    let few = within-true 1 8 (rowsIn s) (head .few) .1 in
-    let short = within-true 1 512 (lengthIn s) (head .short) .1 in
-    omega (arith, rows-reach (versionIn s) (rowsIn s) 8 (lengthIn s) few short)
+head-reach size s head = omega (arith, rows-reach (versionIn s) (rowsIn s) 8 (lengthIn s) (within-true 1 8 (rowsIn s) (head .few) .1) (within-true 1 512 (lengthIn s) (head .short) .1))
 
 module _ (size k : ℕ) (s t : List ℕ) (same : Agree k s t) (long : largest ≤ k) where
   -- a head with a fault is all that is looked at
   head-wrong : (headFault size s .refusal ≡ 0 → ⊥) → faultIn size t ≡ faultIn size s
-  head-wrong bad =
-      let head = head-agrees k s t same size (omega arith) in
-      fault-is size t ∙ sym (else-stop _ _ (headFault size s) (sym head) bad) ∙ else-stop _ _ (headFault size s) refl bad ∙ sym (fault-is size s)
+  head-wrong bad = fault-is size t ∙ sym (else-stop _ _ (headFault size s) (sym (head-agrees k s t same size (omega arith))) bad) ∙ else-stop _ _ (headFault size s) refl bad ∙ sym (fault-is size s)
 
   -- and behind one without all rows are among the first k bytes
   head-right : headFault size s .refusal ≡ 0 → faultIn size t ≡ faultIn size s
@@ -60,7 +55,7 @@ enough-is have size h = go (eqb have size) (leb largest have) refl refl h
 
 -- a start as long as the file is the file
 all-of : (start : List ℕ) (size : ℕ) (file : List ℕ) → Begins start size file → length start ≡ size → file ≡ start
-all-of start size file begins e = sym (take-length file) ∙ ap (λ (n : ℕ). take n file) (begins .long ∙ sym e) ∙ begins .same
+all-of start size file begins e = cc (take-length file, begins .long, e, begins .same)
 
 -- ---- what is enough of a file
 

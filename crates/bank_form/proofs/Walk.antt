@@ -11,6 +11,7 @@ use lib.Dec.{ltb, eqb}
 use lib.Ieee.{binary32, fits}
 use lib.Ieee.Bits.{is-true, ofBits-fits}
 use lib.Ieee.Scale.{finite}
+use Rattle.lists.proofs.Tests.{tested}
 use Rattle.big_endian.specs.Fields.{fieldAt, signedAt, floatAt}
 use Rattle.big_endian.specs.Lists.{strided}
 use Rattle.bank_form.specs.declared.Fault.{Fault}
@@ -176,21 +177,14 @@ module _ (size : ℕ) (s : List ℕ) (v at : ℕ) where
 
   pub elevation-none : at + 2 ≤ size → elevationFault size s v at .refusal ≡ 0 → (tapsAt v at ≤ size) × (isElevation (elevationAt v s at) ≡ true)
   unfolding elevationFault elevationAt isElevation
-  elevation-none h e = go (eqb v 1) refl
-    where
-      go : (t : Bool) → eqb v 1 ≡ t → (tapsAt v at ≤ size) × (isElevation (elevationAt v s at) ≡ true)
-      go true k = rw k (omega (arith, h), refl)
-      go false k =
-          let here = field-none size (at + 2) 2 20 (isElevation (signedAt s (at + 2))) (omega arith) (rw k at e) in
-          rw k (here .0, here .1)
+  elevation-none h e = tested (eqb v 1) (λ k. rw k (omega (arith, h), refl))
+      (λ k. let here = field-none size (at + 2) 2 20 (isElevation (signedAt s (at + 2))) (omega arith) (rw k at e) in
+      rw k (here .0, here .1))
 
   pub elevation-sound : tapsAt v at ≤ size → isElevation (elevationAt v s at) ≡ true → elevationFault size s v at ≡ sound
   unfolding elevationFault elevationAt
-  elevation-sound h e = go (eqb v 1) refl
-    where
-      go : (t : Bool) → eqb v 1 ≡ t → elevationFault size s v at ≡ sound
-      go true k = rw k
-      go false k = rw k (field-good size (at + 2) 2 20 _ (rw k at h) (rw k at e))
+  elevation-sound h e = tested (eqb v 1) (λ k. rw k)
+      (λ k. rw k (field-good size (at + 2) 2 20 _ (rw k at h) (rw k at e)))
 
 -- ---- rows
 

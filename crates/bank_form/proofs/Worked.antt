@@ -345,9 +345,7 @@ module _ (start file : List ℕ) (begins : Begins start 40000 file) where
   -- a fault of the head is the file's
   by-head : (n at : ℕ) → 9 ≤ length start → 0 < n → headFault 40000 start ≡ wrong n at
       → fault file ≡ wrong n at
-  by-head n at nine some e =
-      let head = head-agrees (length start) start file same 40000 nine ∙ e in
-      sized ∙ fault-is 40000 file ∙ sym (else-stop _ _ (wrong n at) (sym head) (λ z. omega (arith, z, some)))
+  by-head n at nine some e = sized ∙ fault-is 40000 file ∙ sym (else-stop _ _ (wrong n at) (sym (head-agrees (length start) start file same 40000 nine ∙ e)) (λ z. omega (arith, z, some)))
 
   -- and so is one behind rows that are all in the start
   by-rows : rowPlace start (rowsIn start) ≤ length start → fault file ≡ faultIn 40000 start

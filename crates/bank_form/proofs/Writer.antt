@@ -13,6 +13,7 @@ use lib.Ieee.Scale.{finite}
 use lib.Ieee.{Float}
 use lib.ListN.{length, take, drop, length-drop, take-append-drop, drop-of-length-le}
 use lib.Seq.{take-at, drop-at}
+use Rattle.lists.proofs.Tests.{tested}
 use Rattle.big_endian.specs.Fields.{fieldAt, signedAt, floatAt}
 use Rattle.big_endian.specs.Lists.{strided}
 use Rattle.big_endian.proofs.Lists.{strided-none, strided-more, strided-snoc, length-strided}
@@ -35,8 +36,7 @@ use Rattle.bank_form.proofs.Pairs.{length-pairs, azimuths-of, elevation
 
 -- four walks one after another, and a fifth
 else-four : (a b c d e : Fault) → orElse (orElse a (orElse b (orElse c d))) e ≡ orElse a (orElse b (orElse c (orElse d e)))
-else-four a b c d e =
-    else-assoc a (orElse b (orElse c d)) e ∙ ap (orElse a) (else-assoc b (orElse c d) e ∙ ap (orElse b) (else-assoc c d e))
+else-four a b c d e = cc (else-assoc a (orElse b (orElse c d)) e, else-assoc b (orElse c d) e, else-assoc c d e)
 
 -- ---- a file of the right size: the walk over it is the one over the bank that stands in it
 
@@ -50,11 +50,8 @@ module _ (size : ℕ) (s : List ℕ) where
   -- in version 1 an elevation is 0, which is one
   elevation-as-written : (v at : ℕ) → tapsAt v at ≤ size → elevationFault size s v at ≡ unless (isElevation (elevationAt v s at)) 20 (at + 2)
   unfolding elevationFault elevationAt isElevation
-  elevation-as-written v at h = go (eqb v 1) refl
-    where
-      go : (t : Bool) → eqb v 1 ≡ t → elevationFault size s v at ≡ unless (isElevation (elevationAt v s at)) 20 (at + 2)
-      go true k = rw k
-      go false k = rw k (field-in size (at + 2) 2 20 (isElevation (signedAt s (at + 2))) (rw k at h))
+  elevation-as-written v at h = tested (eqb v 1) (λ k. rw k)
+      (λ k. rw k (field-in size (at + 2) 2 20 (isElevation (signedAt s (at + 2))) (rw k at h)))
 
   module _ (v l : ℕ) where
     -- the rows before one, and it

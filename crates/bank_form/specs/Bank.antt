@@ -10,6 +10,7 @@ use lib.IntN.{ℤ, pos, negsuc}
 use lib.ListN as ListN
 use lib.Signed.{ltZ}
 use Rattle.refusals.specs.Ranges.{within, between}
+unfoldable pub use Rattle.refusals.specs.Ranges.{isElevation}
 use Rattle.lists.specs.Tables.{every}
 
 -- a bank: an azimuth and an elevation for each row, L, and the taps in file order, for each row those of the left ear and then those of the right
@@ -53,10 +54,6 @@ pairwise r (x ∷ xs) = every (r x) xs && pairwise r xs
 -- -1799 .. 1800
 unfoldable pub isAzimuth : ℤ → Bool
 isAzimuth z = between (negsuc 1798) (pos 1800) z
-
--- -900 .. 900
-unfoldable pub isElevation : ℤ → Bool
-isElevation z = between (negsuc 899) (pos 900) z
 
 -- an f32 that is neither a NaN nor an infinity
 unfoldable pub isTap : Float → Bool

@@ -12,6 +12,7 @@ use lib.Arith.{digits-lt}
 use lib.Dec.{leb}
 use lib.ListN.{length, getD, take, drop, set, length-append, drop-of-length-le, length-drop, take-append-drop}
 use lib.Seq.{take-suc, drop-cons, getD-drop, drop-drop, take-at, drop-at, length-take-le}
+use Rattle.lists.proofs.Tests.{tested}
 use Rattle.big_endian.specs.Bytes.{valueOf, bytesOf, IsByte, AreBytes}
 use Rattle.lists.specs.Placed.{placed}
 use Rattle.big_endian.specs.Fields.{lies, fieldAt, withField}
@@ -36,11 +37,9 @@ pub lies-room : (size at count : ℕ) → count ≤ 8 → leb (at + 1 * count) s
 lies-room size at count h = let one : 1 * count ≡ count = omega arith in rw (one, le-leb count 8 h)
 
 pub lies-true : (size at count : ℕ) → lies size at count ≡ true → (count ≤ 8) × (at + count ≤ size)
-lies-true size at count e = go (leb count 8) refl
-  where
-    go : (t : Bool) → leb count 8 ≡ t → (count ≤ 8) × (at + count ≤ size)
-    go true k = (leb-true count 8 k, leb-true (at + count) size (rw k at e))
-    go false k = let z : false ≡ true = rw k at e in let o : _≡_ {A = ℕ} 0 1 = cc in absurd (omega arith)
+lies-true size at count e =
+    tested (leb count 8) (λ k. (leb-true count 8 k, leb-true (at + count) size (rw k at e)))
+    (λ k. let z : false ≡ true = rw k at e in let o : _≡_ {A = ℕ} 0 1 = cc in absurd (omega arith))
 
 -- ---- reading
 
@@ -60,13 +59,10 @@ part-are-bytes : (s : List ℕ) (at count : ℕ) → AreBytes s → AreBytes (ta
 part-are-bytes s at count h = each-take IsByte 0 count (drop at s) (omega arith) (each-drop IsByte 0 at s h)
 
 pub field-below : (s : List ℕ) (at count : ℕ) → AreBytes s → fieldAt s at count < 256 ^ count
-field-below s at count h = go (lies (length s) at count) refl
-  where
-    go : (t : Bool) → lies (length s) at count ≡ t → fieldAt s at count < 256 ^ count
-    go true e =
-        let inside = lies-true (length s) at count e in
-        rw (field-is s at count e) (rw (length-part s at count (inside .1)) at (value-below (take count (drop at s)) (part-are-bytes s at count h)))
-    go false e = rw (field-out s at count e) (power-pos count)
+field-below s at count h = tested (lies (length s) at count)
+    (λ e. let inside = lies-true (length s) at count e in
+    rw (field-is s at count e) (rw (length-part s at count (inside .1)) at (value-below (take count (drop at s)) (part-are-bytes s at count h))))
+    (λ e. rw (field-out s at count e) (power-pos count))
 
 -- a loop that has read i bytes reads one more
 pub value-next : (s : List ℕ) (at i : ℕ) → at + i < length s → valueOf (take (i + 1) (drop at s)) ≡ valueOf (take i (drop at s)) * 256 + getD s (at + i) 0
@@ -182,14 +178,11 @@ field-written s at count n h g =
 -- writing what was read
 pub written-field : (s : List ℕ) (at count : ℕ) → AreBytes s → withField s at count (fieldAt s at count) ≡ s
 unfolding placed
-written-field s at count bytes = go (lies (length s) at count) refl
-  where
-    go : (t : Bool) → lies (length s) at count ≡ t → withField s at count (fieldAt s at count) ≡ s
-    go true e =
-        let inside = lies-true (length s) at count e in
-        let digits = bytesOf count (fieldAt s at count) in
-        written-is s at count (fieldAt s at count) e ∙ append-assoc (take at s) digits (drop (at + length digits) s)
-        ∙ ap (λ (k : ℕ). take at s ++ (digits ++ drop (at + k) s)) (length-bytes count (fieldAt s at count))
-        ∙ ap (λ (t : List ℕ). take at s ++ t) (sym (stands-back s at count bytes (inside .0) (inside .1)))
-        ∙ take-append-drop at s
-    go false e = written-out s at count (fieldAt s at count) e
+written-field s at count bytes = tested (lies (length s) at count)
+    (λ e. let inside = lies-true (length s) at count e in
+    let digits = bytesOf count (fieldAt s at count) in
+    written-is s at count (fieldAt s at count) e ∙ append-assoc (take at s) digits (drop (at + length digits) s)
+    ∙ ap (λ (k : ℕ). take at s ++ (digits ++ drop (at + k) s)) (length-bytes count (fieldAt s at count))
+    ∙ ap (λ (t : List ℕ). take at s ++ t) (sym (stands-back s at count bytes (inside .0) (inside .1)))
+    ∙ take-append-drop at s)
+    (λ e. written-out s at count (fieldAt s at count) e)

@@ -50,7 +50,7 @@ product-most a b c d E F h i j k = gap-product a b c d E F (gap-most a b E h i) 
 -- ---- the order of x and y, a change of sign, and another name of the same number
 module _ {W E : ℕ} {x y : Fraction} where
   pub close-sym : Close W x y E → Close W y x E
-  close-sym h = record { first = h .second; second = h .first; above = omega (arith, h .below); below = omega (arith, h .above) }
+  close-sym h = omega arith
 
   pub close-opposite : Close W x y E → Close W (opposite x) (opposite y) E
   close-opposite h = record { first = h .first; second = h .second; above = h .below; below = h .above }
@@ -60,7 +60,7 @@ module _ {W E : ℕ} {x y : Fraction} where
   close-difference h = record { above = omega (arith, h .above); below = omega (arith, h .below) }
 
   pub difference-close : 0 < x .over → 0 < y .over → Size W (x ⊖ y) E → Close W x y E
-  difference-close X Y h = record { first = X; second = Y; above = omega (arith, h .above); below = omega (arith, h .below) }
+  difference-close X Y h = omega arith
 
 pub size-opposite : {W M : ℕ} {x : Fraction} → Size W x M → Size W (opposite x) M
 size-opposite h = record { above = h .below; below = h .above }
@@ -77,11 +77,8 @@ same-close W x y X Y e =
 wider-nat : (a b D E F : ℕ) → a ≤ b + E * D → E * D ≤ F * D → a ≤ b + F * D
 wider-nat a b D E F h k = omega arith
 
-unit-nat : (a b D W U E F : ℕ) → a * W * U ≤ b * W * U + E * D * U → E * U * D ≤ F * W * D → a * U * W ≤ (b * U + F * D) * W
-unit-nat a b D W U E F h k = let h' = simp ring at h in let k' = simp ring at k in simp ring (omega arith)
-
 other-unit : (a b D W U E F : ℕ) → 0 < W → E * U ≤ F * W → a * W ≤ b * W + E * D → a * U ≤ b * U + F * D
-other-unit a b D W U E F w k h = le-of-mul-le-mul-right (unit-nat a b D W U E F (scaled _ _ _ U h) (mul-le-mul-right D k)) w
+other-unit a b D W U E F w k h = le-of-mul-le-mul-right (omega (arith, scaled _ _ _ U h, mul-le-mul-right D k)) w
 
 module _ {W E F : ℕ} {x y : Fraction} where
   pub close-wider : Close W x y E → E ≤ F → Close W x y F
@@ -105,16 +102,11 @@ module _ {W M N : ℕ} {x : Fraction} where
   size-unit {U} w k h = record { above = other-unit _ _ (x .over) W U M N w k (h .above); below = other-unit _ _ (x .over) W U M N w k (h .below) }
 
 -- ---- |x - z| ≤ |x - y| + |y - z|
-trans-nat : (xp xm xo yp ym yo zp zm zo W E F : ℕ)
-    → (xp * yo + ym * xo) * W * zo ≤ (yp * xo + xm * yo) * W * zo + E * (xo * yo) * zo → (yp * zo + zm * yo) * W * xo ≤ (zp * yo + ym * zo) * W * xo + F * (yo * zo) * xo
-    → (xp * zo + zm * xo) * W * yo ≤ ((zp * xo + xm * zo) * W + (E + F) * (xo * zo)) * yo
-trans-nat xp xm xo yp ym yo zp zm zo W E F h k = let h' = simp ring at h in let k' = simp ring at k in simp ring (omega arith)
-
 trans-above : {W E F : ℕ} {x y z : Fraction} → Close W x y E → Close W y z F
     → (x .plus * z .over + z .minus * x .over) * W ≤ (z .plus * x .over + x .minus * z .over) * W + (E + F) * (x .over * z .over)
 trans-above {W} {E} {F} {x} {y} {z} h k =
     le-of-mul-le-mul-right
-    (trans-nat (x .plus) (x .minus) (x .over) (y .plus) (y .minus) (y .over) (z .plus) (z .minus) (z .over) W E F (scaled _ _ _ (z .over) (h .above)) (scaled _ _ _ (x .over) (k .above))) (h .second)
+    (simp ring (omega (arith, simp ring at (scaled _ _ _ (z .over) (h .above)), simp ring at (scaled _ _ _ (x .over) (k .above))))) (h .second)
 
 pub close-trans : {W E F : ℕ} {x y z : Fraction} → Close W x y E → Close W y z F → Close W x z (E + F)
 close-trans h k = record { first = h .first; second = k .second; above = trans-above h k; below = trans-above (close-opposite h) (close-opposite k) }
@@ -123,12 +115,8 @@ close-trans h k = record { first = h .first; second = k .second; above = trans-a
 pub close-same : {W E : ℕ} {x y : Fraction} (x' y' : Fraction) → 0 < x' .over → 0 < y' .over → Same x' x → Same y y' → Close W x y E → Close W x' y' E
 close-same {W} {E} {x} {y} x' y' X Y e d h = close-wider (close-trans (close-trans (same-close W x' x X (h .first) e) h) (same-close W y y' (h .second) Y d)) (omega arith)
 
--- |x| ≤ |y| + |x - y|
-near-nat : (xp xm xo yp ym yo W E M : ℕ) → (xp * yo + ym * xo) * W ≤ (yp * xo + xm * yo) * W + E * (xo * yo) → yp * W * xo ≤ ym * W * xo + M * yo * xo → xp * W * yo ≤ (xm * W + (M + E) * xo) * yo
-near-nat xp xm xo yp ym yo W E M h k = let h' = simp ring at h in let k' = simp ring at k in simp ring (omega arith)
-
 near-above : {W E M : ℕ} {x y : Fraction} → Close W x y E → Size W y M → x .plus * W ≤ x .minus * W + (M + E) * x .over
-near-above {W} {E} {M} {x} {y} h k = le-of-mul-le-mul-right (near-nat (x .plus) (x .minus) (x .over) (y .plus) (y .minus) (y .over) W E M (h .above) (scaled _ _ _ (x .over) (k .above))) (h .second)
+near-above {W} {E} {M} {x} {y} h k = le-of-mul-le-mul-right (omega (arith, h .above, scaled _ _ _ (x .over) (k .above))) (h .second)
 
 pub size-near : {W E M : ℕ} {x y : Fraction} → Close W x y E → Size W y M → Size W x (M + E)
 size-near h k = record { above = near-above h k; below = near-above (close-opposite h) (size-opposite k) }
@@ -137,33 +125,22 @@ pub size-same : {W M : ℕ} {x : Fraction} (y : Fraction) → 0 < x .over → 0 
 size-same {W} {M} {x} y X Y e h = size-wider (size-near (same-close W y x Y X e) h) (omega arith)
 
 -- ---- 0 for an x that is not above 0: what is within E / W of x, and at most E / W below 0, is within E / W of 0
-zero-nat : (xp xm xo qp qm qo W E : ℕ) → xp * (qo * W) ≤ xm * (qo * W) → (xm * qo + qp * xo) * W ≤ (qm * xo + xp * qo) * W + E * (xo * qo) → (0 * qo + qp * 1) * W * xo ≤ ((qm * 1 + 0 * qo) * W + E * (1 * qo)) * xo
-zero-nat xp xm xo qp qm qo W E h k = let k' = simp ring at k in simp ring (omega arith)
-
 pub zero-near : {W E : ℕ} (x q : Fraction) → Close W x q E → AtMost x (whole 0) → AtMost (fraction 0 E W) q → Close W (whole 0) q E
 zero-near {W} {E} x q c h l = record {
   first = lit< tt;
   second = c .second;
   above = omega arith;
-  below = le-of-mul-le-mul-right (zero-nat (x .plus) (x .minus) (x .over) (q .plus) (q .minus) (q .over) W E (mul-le-mul-right (q .over * W) (under x h)) (c .below)) (c .first);
+  below = le-of-mul-le-mul-right (omega (arith, mul-le-mul-right (q .over * W) (under x h), c .below)) (c .first);
 }
   where
     under : (x : Fraction) → AtMost x (whole 0) → x .plus ≤ x .minus
     under x h = omega arith
 
 -- ---- sums
-add-nat : (xp xm xo xp' xm' xo' yp ym yo yp' ym' yo' W E F : ℕ)
-    → (xp * xo' + xm' * xo) * W * (yo * yo') ≤ (xp' * xo + xm * xo') * W * (yo * yo') + E * (xo * xo') * (yo * yo')
-    → (yp * yo' + ym' * yo) * W * (xo * xo') ≤ (yp' * yo + ym * yo') * W * (xo * xo') + F * (yo * yo') * (xo * xo')
-    → ((xp * yo + yp * xo) * (xo' * yo') + (xm' * yo' + ym' * xo') * (xo * yo)) * W
-    ≤ ((xp' * yo' + yp' * xo') * (xo * yo) + (xm * yo + ym * xo) * (xo' * yo')) * W + (E + F) * (xo * yo * (xo' * yo'))
-add-nat xp xm xo xp' xm' xo' yp ym yo yp' ym' yo' W E F h k = let h' = simp ring at h in let k' = simp ring at k in simp ring (omega arith)
-
 add-above : {W E F : ℕ} {x x' y y' : Fraction} → Close W x x' E → Close W y y' F
     → ((x ⊕ y) .plus * (x' ⊕ y') .over + (x' ⊕ y') .minus * (x ⊕ y) .over) * W ≤ ((x' ⊕ y') .plus * (x ⊕ y) .over + (x ⊕ y) .minus * (x' ⊕ y') .over) * W + (E + F) * ((x ⊕ y) .over * (x' ⊕ y') .over)
 add-above {W} {E} {F} {x} {x'} {y} {y'} h k =
-    add-nat (x .plus) (x .minus) (x .over) (x' .plus) (x' .minus) (x' .over) (y .plus) (y .minus) (y .over) (y' .plus) (y' .minus) (y' .over) W E F
-    (scaled _ _ _ (y .over * y' .over) (h .above)) (scaled _ _ _ (x .over * x' .over) (k .above))
+    simp ring (omega (arith, simp ring at (scaled _ _ _ (y .over * y' .over) (h .above)), simp ring at (scaled _ _ _ (x .over * x' .over) (k .above))))
 
 module _ {W E F : ℕ} {x x' y y' : Fraction} where
   pub close-add : Close W x x' E → Close W y y' F → Close W (x ⊕ y) (x' ⊕ y') (E + F)
@@ -173,7 +150,7 @@ pub close-sub : {W E F : ℕ} {x x' y y' : Fraction} → Close W x x' E → Clos
 close-sub h k = close-add h (close-opposite k)
 
 size-add-nat : (xp xm xo yp ym yo W M N : ℕ) → xp * W * yo ≤ xm * W * yo + M * xo * yo → yp * W * xo ≤ ym * W * xo + N * yo * xo → (xp * yo + yp * xo) * W ≤ (xm * yo + ym * xo) * W + (M + N) * (xo * yo)
-size-add-nat xp xm xo yp ym yo W M N h k = let h' = simp ring at h in let k' = simp ring at k in simp ring (omega arith)
+size-add-nat xp xm xo yp ym yo W M N h k = omega arith
 
 pub size-add : {W M N : ℕ} {x y : Fraction} → Size W x M → Size W y N → Size W (x ⊕ y) (M + N)
 size-add {W} {M} {N} {x} {y} h k = record {
@@ -213,15 +190,10 @@ close-mul G w g h k m n = record {
   below = mul-above G w g h (close-opposite k) m (size-opposite n);
 }
 
-size-mul-nat : (xp xm xo yp ym yo W M N G : ℕ) → xp * W * (yp * W) + xm * W * (ym * W) ≤ xp * W * (ym * W) + xm * W * (yp * W) + M * xo * (N * yo) → M * N * (xo * yo) ≤ G * W * (xo * yo)
-    → (xp * yp + xm * ym) * W * W ≤ ((xp * ym + xm * yp) * W + G * (xo * yo)) * W
-size-mul-nat xp xm xo yp ym yo W M N G h g = let h' = simp ring at h in let g' = simp ring at g in simp ring (omega arith)
-
 size-mul-above : {W M N : ℕ} {x y : Fraction} (G : ℕ) → 0 < W → M * N ≤ G * W → Size W x M → Size W y N → (x ⊗ y) .plus * W ≤ (x ⊗ y) .minus * W + G * (x ⊗ y) .over
 size-mul-above {W} {M} {N} {x} {y} G w g h k =
     le-of-mul-le-mul-right
-    (size-mul-nat (x .plus) (x .minus) (x .over) (y .plus) (y .minus) (y .over) W M N G
-    (product-most (x .plus * W) (x .minus * W) (y .plus * W) (y .minus * W) (M * x .over) (N * y .over) (h .above) (h .below) (k .above) (k .below)) (mul-le-mul-right (x .over * y .over) g)) w
+    (omega (arith, product-most (x .plus * W) (x .minus * W) (y .plus * W) (y .minus * W) (M * x .over) (N * y .over) (h .above) (h .below) (k .above) (k .below), mul-le-mul-right (x .over * y .over) g)) w
 
 pub size-mul : {W M N : ℕ} {x y : Fraction} (G : ℕ) → 0 < W → M * N ≤ G * W → Size W x M → Size W y N → Size W (x ⊗ y) G
 size-mul G w g h k = record { above = size-mul-above G w g h k; below = size-mul-above G w g h (size-opposite k) }

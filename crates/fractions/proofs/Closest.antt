@@ -56,9 +56,7 @@ pub closest-ge : (a b c : ℕ) → 0 < b → c * b ≤ a → c ≤ closest a b
 closest-ge a b c B h = le-trans (le-div-iff-mul-le B .1 h) (nearest-ge (a / b) (compare (a % b * 2) b))
 
 pub closest-zero : (a b : ℕ) → a * 2 < b → closest a b ≡ 0
-closest-zero a b h =
-    let l : a < b = omega arith in
-    closest-lt a b (subst (λ (x : ℕ). x * 2 < b) (sym (mod-eq-of-lt l)) h) ∙ div-eq-of-lt l
+closest-zero a b h = closest-lt a b (subst (λ (x : ℕ). x * 2 < b) (sym (mod-eq-of-lt (omega arith))) h) ∙ div-eq-of-lt (omega arith)
 
 -- ---- how far a is from w multiples of b
 abbrev off : ℕ → ℕ → ℕ → ℕ

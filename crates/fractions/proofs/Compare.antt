@@ -58,7 +58,7 @@ alike : (u v : ℕ) → (u ≡ v → (eqb u v && true) ≡ true) × ((u ≡ v �
 alike u v = (λ e. ap (λ (z : Bool). z && true) (eq-eqb u v e), λ n. ap (λ (z : Bool). z && true) (ne-eqb u v n))
 
 both-zero : (u v : ℕ) → u + v ≡ 0 → (eqb u v && eqb u 0) ≡ true
-both-zero u v e = let p : u ≡ v = omega arith in let q : u ≡ 0 = omega arith in λ i. eq-eqb u v p i && eq-eqb u 0 q i
+both-zero u v e = λ i. eq-eqb u v (omega arith) i && eq-eqb u 0 (omega arith) i
 
 not-both-zero : (u v : ℕ) → 0 < u + v → (eqb u v && eqb u 0) ≡ false
 not-both-zero u v h = go (eqb u v) (eqb u 0) (eqb-true u v) (eqb-true u 0)

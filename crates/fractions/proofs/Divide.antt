@@ -9,15 +9,8 @@ use Rattle.fractions.proofs.Order.{same-sym, not-below, left, plain, pl
 use Rattle.fractions.proofs.Close.{Close, Size, Least, scaled, product-most, close-sym, same-close, close-opposite, close-same, size-opposite}
 
 -- ---- a number that is L / W at least
-least-lt : (p m o W L : ℕ) → 0 < L * o → m * W + L * o ≤ p * W → m * W < p * W
-least-lt p m o W L h k = omega arith
-
 pub least-positive : {W L : ℕ} {x : Fraction} → 0 < L → 0 < x .over → Least W x L → x .minus < x .plus
-least-positive {W} {L} {x} l X h = lt-of-mul-lt-mul-right W (least-lt (x .plus) (x .minus) (x .over) W L (mul-pos l X) (h .least))
-
-least-near-nat : (xp xm xo yp ym yo W E K L : ℕ) → (xm * yo + yp * xo) * W ≤ (ym * xo + xp * yo) * W + E * (xo * yo) → ym * W * xo + L * yo * xo ≤ yp * W * xo → (K + E) * (xo * yo) ≤ L * (xo * yo)
-    → (xm * W + K * xo) * yo ≤ xp * W * yo
-least-near-nat xp xm xo yp ym yo W E K L h i j = let h' = simp ring at h in let i' = simp ring at i in let j' = simp ring at j in simp ring (omega arith)
+least-positive {W} {L} {x} l X h = lt-of-mul-lt-mul-right W (omega (arith, mul-pos l X, h .least))
 
 two-times : (a b c k : ℕ) → a + b ≤ c → a * k + b * k ≤ c * k
 two-times a b c k h = omega (arith, mul-le-mul-right k h)
@@ -27,30 +20,22 @@ pub least-near : {W E L : ℕ} {x y : Fraction} (K : ℕ) → K + E ≤ L → Cl
 least-near {W} {E} {L} {x} {y} K l h k = record {
   least =
       le-of-mul-le-mul-right
-      (least-near-nat (x .plus) (x .minus) (x .over) (y .plus) (y .minus) (y .over) W E K L (h .below) (two-times (y .minus * W) (L * y .over) (y .plus * W) (x .over) (k .least)) (mul-le-mul-right (x .over * y .over) l))
+      (omega (arith, h .below, two-times (y .minus * W) (L * y .over) (y .plus * W) (x .over) (k .least), mul-le-mul-right (x .over * y .over) l))
       (h .second);
 }
-
--- a number that is close to one not below 0
-near-not-below-nat : (xp xm xo yp ym yo W E : ℕ) → ym * (xo * W) ≤ yp * (xo * W) → (xm * yo + yp * xo) * W ≤ (ym * xo + xp * yo) * W + E * (xo * yo) → (0 * xo + xm * W) * yo ≤ (xp * W + E * xo) * yo
-near-not-below-nat xp xm xo yp ym yo W E h k = let h' = simp ring at h in let k' = simp ring at k in simp ring (omega arith)
 
 pub near-not-below : {W E : ℕ} (x y : Fraction) → Close W x y E → AtMost (whole 0) y → AtMost (fraction 0 E W) x
 near-not-below {W} {E} x y c h =
     le-of-mul-le-mul-right
-    (near-not-below-nat (x .plus) (x .minus) (x .over) (y .plus) (y .minus) (y .over) W E (mul-le-mul-right (x .over * W) (not-below y h)) (c .below)) (c .second)
+    (omega (arith, mul-le-mul-right (x .over * W) (not-below y h), c .below)) (c .second)
 
 -- a least value is one of the number, not of its name
 pub least-same : {W L : ℕ} (x y : Fraction) → 0 < x .over → 0 < y .over → Same x y → Least W y L → Least W x L
 least-same {W} {L} x y X Y e h = least-near L (omega arith) (same-close W x y X Y e) h
 
--- L / W in another unit: K / U ≤ L / W
-least-unit-nat : (p m o W U L K : ℕ) → m * W * U + L * o * U ≤ p * W * U → K * W * o ≤ L * U * o → (m * U + K * o) * W ≤ p * U * W
-least-unit-nat p m o W U L K h k = let h' = simp ring at h in let k' = simp ring at k in simp ring (omega arith)
-
 pub least-unit : {W U L : ℕ} {x : Fraction} (K : ℕ) → 0 < W → K * W ≤ L * U → Least W x L → Least U x K
 least-unit {W} {U} {L} {x} K w k h = record {
-  least = le-of-mul-le-mul-right (least-unit-nat (x .plus) (x .minus) (x .over) W U L K (two-times (x .minus * W) (L * x .over) (x .plus * W) U (h .least)) (mul-le-mul-right (x .over) k)) w;
+  least = le-of-mul-le-mul-right (omega (arith, two-times (x .minus * W) (L * x .over) (x .plus * W) U (h .least), mul-le-mul-right (x .over) k)) w;
 }
 
 -- what is left of a divisor above zero, in whole numbers
@@ -64,15 +49,12 @@ left-close : {W E : ℕ} {x y : Fraction} → x .minus ≤ x .plus → y .minus 
 left-close {x = x} {y = y} X Y h = omega (arith, close-same (plain x) (plain y) (h .first) (h .second) (same-sym x (plain x) (plain-same x X)) (plain-same y Y) h .above)
 
 -- ---- |x / y| ≤ B / W, where |x| ≤ M / W, y ≥ L / W and M * W ≤ B * L
-size-nat : (p m o W M z d L B : ℕ) → p * W * (d * L) ≤ m * W * (d * L) + M * o * (d * L) → L * d * (M * o) ≤ z * W * (M * o) → M * W * (z * o) ≤ B * L * (z * o) → p * d * W * L ≤ (m * d * W + B * (o * z)) * L
-size-nat p m o W M z d L B h i j = let h' = simp ring at h in let i' = simp ring at i in let j' = simp ring at j in simp ring (omega arith)
-
 size-above : {W M L : ℕ} {x y : Fraction} (B : ℕ) → 0 < L → 0 < y .over → M * W ≤ B * L → Size W x M → Least W y L → (x ⊘ y) .plus * W ≤ (x ⊘ y) .minus * W + B * (x ⊘ y) .over
 size-above {W} {M} {L} {x} {y} B l Y b h k =
     let z = left y in
     let i = left-least y (le-of-lt (least-positive l Y k)) k in
     le-of-mul-le-mul-right
-    (size-nat (x .plus) (x .minus) (x .over) W M z (y .over) L B (scaled _ _ _ (y .over * L) (h .above)) (mul-le-mul-right (M * x .over) i) (mul-le-mul-right (z * x .over) b)) l
+    (omega (arith, scaled _ _ _ (y .over * L) (h .above), mul-le-mul-right (M * x .over) i, mul-le-mul-right (z * x .over) b)) l
 
 pub size-divide : {W M L : ℕ} {x y : Fraction} (B : ℕ) → 0 < L → 0 < y .over → M * W ≤ B * L → Size W x M → Least W y L → Size W (x ⊘ y) B
 size-divide {x = x} {y = y} B l Y b h k = record { above = size-above {x = x} {y = y} B l Y b h k; below = size-above {x = opposite x} {y = y} B l Y b (size-opposite h) k }
@@ -81,13 +63,6 @@ size-divide {x = x} {y = y} B l Y b h k = record { above = size-above {x = x} {y
 -- G * K * L is W * (E * L + M * F) at least, where K / W ≤ y and L / W ≤ r
 bound-nat : (G K L E M F W z c : ℕ) → W * (E * L + M * F) * z ≤ G * (K * L) * z → L * c * (M * F) ≤ z * W * (M * F) → (E * z * W + M * F * c) * L ≤ G * K * z * L
 bound-nat G K L E M F W z c g h = let g' = simp ring at g in let h' = simp ring at h in simp ring (omega arith)
-
-close-nat : (xp xm xo qp qm qo Y d z c W E F M G K : ℕ)
-    → (xp * qo + qm * xo) * W * (d * z * W) ≤ (qp * xo + xm * qo) * W * (d * z * W) + E * (xo * qo) * (d * z * W)
-    → (qp * W * (z * d * W) + qm * W * (Y * c * W)) * xo ≤ (qp * W * (Y * c * W) + qm * W * (z * d * W)) * xo + M * qo * (F * (d * c)) * xo
-    → (E * z * W + M * F * c) * (xo * qo * d) ≤ G * K * z * (xo * qo * d) → K * d * (G * z * xo * qo) ≤ Y * W * (G * z * xo * qo)
-    → (xp * d * (qo * z) + qm * c * (xo * Y)) * W * W ≤ ((qp * c * (xo * Y) + xm * d * (qo * z)) * W + G * (xo * Y * (qo * z))) * W
-close-nat xp xm xo qp qm qo Y d z c W E F M G K h i j k = let h' = simp ring at h in let i' = simp ring at i in let j' = simp ring at j in let k' = simp ring at k in simp ring (omega arith)
 
 close-above : {W E F M L : ℕ} {x q y r : Fraction} (G K : ℕ) → 0 < W → 0 < K → K + F ≤ L → W * (E * L + M * F) ≤ G * (K * L) → Close W x q E → Close W y r F → Size W q M → Least W r L
     → ((x ⊘ y) .plus * (q ⊘ r) .over + (q ⊘ r) .minus * (x ⊘ y) .over) * W ≤ ((q ⊘ r) .plus * (x ⊘ y) .over + (x ⊘ y) .minus * (q ⊘ r) .over) * W + G * ((x ⊘ y) .over * (q ⊘ r) .over)
@@ -105,8 +80,7 @@ close-above {W} {E} {F} {M} {L} {x} {q} {y} {r} G K w kp kl g h i m l =
     let s = product-most (q .plus * W) (q .minus * W) (z * d * W) (Y * c * W) (M * q .over) (F * (d * c)) (m .above) (m .below) a b in
     let u = le-of-mul-le-mul-right (bound-nat G K L E M F W z c (mul-le-mul-right z g) (mul-le-mul-right (M * F) (left-least r rm l))) lp in
     le-of-mul-le-mul-right
-    (close-nat (x .plus) (x .minus) (x .over) (q .plus) (q .minus) (q .over) Y d z c W E F M G K (scaled _ _ _ (d * z * W) (h .above)) (scaled _ _ _ (x .over) s) (mul-le-mul-right (x .over * q .over * d) u)
-    (mul-le-mul-right (G * z * x .over * q .over) (left-least y ym k))) w
+    (simp ring (omega (arith, simp ring at (scaled _ _ _ (d * z * W) (h .above)), simp ring at (scaled _ _ _ (x .over) s), simp ring at (mul-le-mul-right (x .over * q .over * d) u), simp ring at (mul-le-mul-right (G * z * x .over * q .over) (left-least y ym k))))) w
 
 -- the divisors are no less than K / W and L / W, and the bound G is W (E L + M F) / (K L)
 pub close-divide : {W E F M L : ℕ} {x q y r : Fraction} (G K : ℕ) → 0 < W → 0 < K → K + F ≤ L → W * (E * L + M * F) ≤ G * (K * L) → Close W x q E → Close W y r F → Size W q M → Least W r L
@@ -135,25 +109,17 @@ close-over {W} {E} {x} {q} y Y h =
     }
 
 -- ---- the least of a sum and of a product
-least-add-nat : (xp xm xo yp ym yo W K L : ℕ) → xm * W * yo + K * xo * yo ≤ xp * W * yo → ym * W * xo + L * yo * xo ≤ yp * W * xo → (xm * yo + ym * xo) * W + (K + L) * (xo * yo) ≤ (xp * yo + yp * xo) * W
-least-add-nat xp xm xo yp ym yo W K L h i = let h' = simp ring at h in let i' = simp ring at i in simp ring (omega arith)
-
 pub least-add : {W K L : ℕ} {x y : Fraction} → Least W x K → Least W y L → Least W (x ⊕ y) (K + L)
 least-add {W} {K} {L} {x} {y} h i = record {
   least =
-      least-add-nat (x .plus) (x .minus) (x .over) (y .plus) (y .minus) (y .over) W K L (two-times (x .minus * W) (K * x .over) (x .plus * W) (y .over) (h .least))
-      (two-times (y .minus * W) (L * y .over) (y .plus * W) (x .over) (i .least));
+      omega (arith, two-times (x .minus * W) (K * x .over) (x .plus * W) (y .over) (h .least), two-times (y .minus * W) (L * y .over) (y .plus * W) (x .over) (i .least));
 }
-
-least-mul-nat : (xm z xo ym u yo W K L G : ℕ) → K * xo * (L * yo) ≤ z * W * (u * W) → G * W * (xo * yo) ≤ K * L * (xo * yo) → (((xm + z) * ym + xm * (ym + u)) * W + G * (xo * yo)) * W ≤ ((xm + z) * (ym + u) + xm * ym) * W * W
-least-mul-nat xm z xo ym u yo W K L G h i = let h' = simp ring at h in let i' = simp ring at i in simp ring (omega arith)
 
 pub least-mul : {W K L : ℕ} {x y : Fraction} (G : ℕ) → 0 < W → G * W ≤ K * L → x .minus ≤ x .plus → y .minus ≤ y .plus → Least W x K → Least W y L → Least W (x ⊗ y) G
 least-mul {W} {K} {L} {x} {y} G w g X Y h i = record {
   least =
       le-of-mul-le-mul-right
       (subst₂ (λ (p q : ℕ). ((p * y .minus + x .minus * q) * W + G * (x .over * y .over)) * W ≤ (p * q + x .minus * y .minus) * W * W) (add-sub-of-le X) (add-sub-of-le Y)
-      (least-mul-nat (x .minus) (left x) (x .over) (y .minus) (left y) (y .over) W K L G
-      (mul-le-mul (left-least x X h) (left-least y Y i)) (mul-le-mul-right (x .over * y .over) g)))
+      (omega (arith, mul-le-mul (left-least x X h) (left-least y Y i), mul-le-mul-right (x .over * y .over) g)))
       w;
 }

@@ -26,10 +26,7 @@ pub record Holds (f : Format) (q : Fraction) : Type 0 where
 
 -- nothing is rounded away, and the sign is the one that was handed over
 result-value : (f : Format) {z : Float} {q : Fraction} → 0 < q .over → Holds f q → (r : Result f z q) → HasValue z (r .sign) (r .size) (q .over)
-result-value f {z} {q} D h r =
-    subst (λ (x : Float). HasValue x (r .sign) (r .size) (q .over)) (sym (r .is))
-    (round-exact f (r .sign) (r .size) (q .over) (h .grid .c) (h .grid .i) D (h .grid .fit) (subst (λ (n : ℕ). n < overflow f) (h .grid .is) (h .grid .room))
-    (ap (λ (n : ℕ). n * 2 ^ low f) (sym (difference-gap (r .sign) (r .size) q (r .difference))) ∙ h .is ∙ ap (λ (n : ℕ). n * q .over) (h .grid .is)))
+result-value f {z} {q} D h r = rw (r .is) (round-exact f (r .sign) (r .size) (q .over) (h .grid .c) (h .grid .i) D (h .grid .fit) (subst (λ (n : ℕ). n < overflow f) (h .grid .is) (h .grid .room)) (ap (λ (n : ℕ). n * 2 ^ low f) (sym (difference-gap (r .sign) (r .size) q (r .difference))) ∙ h .is ∙ ap (λ (n : ℕ). n * q .over) (h .grid .is)))
 
 pub result-number : (f : Format) {z : Float} {q : Fraction} → 0 < q .over → Holds f q → Result f z q → 0 < number z .over
 result-number f {z} {q} D h r = value-number z (r .sign) (r .size) (q .over) (result-value f D h r)
@@ -83,4 +80,4 @@ round-not-below true f k q D e h = subst (λ (n : ℕ). number (round f true n (
         le-of-mul-le-mul-right (same (number x .plus) (number x .minus) (number x .over) (value-same x true 0 (q .over) (round-exact f true 0 (q .over) 0 0 D (pow-pos (prec f)) (pow-pos (low f + suc (emax f))) (zero-mul (2 ^ low f) ∙ sym (zero-mul (q .over)))))) D
 
 pub result-not-below : (f : Format) {z : Float} {q : Fraction} → 0 < q .over → Result f z q → q .minus ≤ q .plus → number z .minus ≤ number z .plus
-result-not-below f {z} {q} D r h = subst (λ (x : Float). number x .minus ≤ number x .plus) (sym (r .is)) (round-not-below (r .sign) f (r .size) q D (r .difference) h)
+result-not-below f {z} {q} D r h = rw (r .is) (round-not-below (r .sign) f (r .size) q D (r .difference) h)

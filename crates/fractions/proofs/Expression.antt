@@ -13,7 +13,7 @@ use lib.ListN.{length, getD}
 use lib.Ieee.{Float, Format, prec, emax, low, fits, round, neg, add, sub, mul, div}
 use lib.Ieee.Fits.{and-l, and-r}
 use Rattle.lists.specs.Tables.{every}
-use Rattle.fractions.specs.Fraction.{Fraction, fraction, whole, opposite, magnitude, signed, number, _⊕_, _⊖_, _⊗_, _⊘_, AtMost, gap, Within, EachWithin}
+use Rattle.fractions.specs.Fraction.{Fraction, fraction, whole, opposite, magnitude, signed, number, _⊕_, _⊖_, _⊗_, _⊘_, AtMost, Within, EachWithin}
 use Rattle.fractions.proofs.Approximates.{Approximates}
 use Rattle.fractions.proofs.Order.{left}
 use Rattle.fractions.proofs.Magnitude.{magnitude-above}
@@ -127,12 +127,8 @@ pub record Bounds (b : Bound) (x q : Fraction) : Type 0 where
 none : {A : Type 0} → 0 < 0 → A
 none h = absurd (lt-irrefl 0 h)
 
--- what a `Known` says, in units
-most-nat : (n qo mp mm mo : ℕ) → n * mo + mm * qo ≤ mp * qo + 0 * mo → n * mo ≤ mp * qo
-most-nat n qo mp mm mo h = omega arith
-
 most-size : (W : ℕ) (q m : Fraction) → 0 < m .over → AtMost (magnitude q) m → Size W q (ceiling (m .plus * W) (m .over))
-most-size W q m D h = size-unit D (ceiling-ge (m .plus * W) (m .over) D) (gap-size (most-nat (gap (q .plus) (q .minus)) (q .over) (m .plus) (m .minus) (m .over) h))
+most-size W q m D h = size-unit D (ceiling-ge (m .plus * W) (m .over) D) (gap-size (omega arith))
 
 least-size : (W : ℕ) (q l : Fraction) → 0 < l .over → AtMost l q → 0 < left l * W / l .over → Least W q (left l * W / l .over)
 least-size W q l D h p = least-unit (left l * W / l .over) D (div-mul-le-self (left l * W) (l .over)) (go (decLe (l .minus) (l .plus)))

@@ -2,7 +2,7 @@
 use mathlib.Core.Path.{_≡_, refl, sym, ap, _∙_, subst}
 use mathlib.Core.Bool.{false}
 use Prim.Native.Nat.{ℕ, zero, suc, _+_, _*_, _^_, _≤_, _<_}
-use native.Mathlib.Nat.{le-trans, le-of-eq, lt-of-lt-of-le, lt-of-le-of-lt, lt-irrefl, mul-one, mul-assoc, mul-comm, mul-right-comm, mul-pos, eq-of-mul-eq-mul-right, mul-le-mul-right, le-of-mul-le-mul-right}
+use native.Mathlib.Nat.{lt-of-lt-of-le, lt-of-le-of-lt, lt-irrefl, mul-one, mul-assoc, mul-comm, mul-right-comm, mul-pos, eq-of-mul-eq-mul-right, mul-le-mul-right, le-of-mul-le-mul-right}
 use native.Mathlib.Omega.{arith}
 use lib.Dec.{T, lit<}
 use lib.Pow.{pow-add, pow-lt, shl-lt}
@@ -43,7 +43,7 @@ same-gap : (p m o q n u : ℕ) → p * u + n * o ≡ q * o + m * u → gap p m *
 same-gap p m o q n u e = sym (gap-times p m u) ∙ gap-same (p * u) (m * u) (q * o) (n * o) e ∙ gap-times q n o
 
 same-nat : (g h L w o u : ℕ) → g * u ≡ h * o → g * L ≡ w * o → h * L * o ≡ w * u * o
-same-nat g h L w o u e f = mul-right-comm h L o ∙ ap (λ (n : ℕ). n * L) (sym e) ∙ mul-right-comm g u L ∙ ap (λ (n : ℕ). n * u) f ∙ mul-right-comm w o u
+same-nat g h L w o u e f = cc (mul-right-comm h L o, e, mul-right-comm g u L, f, mul-right-comm w o u)
 
 pub same-held : (f : Format) (p q : Fraction) → 0 < p .over → Same p q → Holds f p → Holds f q
 same-held f p q P e h = record {
@@ -66,7 +66,7 @@ power-gap : (p m k : ℕ) → gap (p * k + m * 0) (p * 0 + m * k) ≡ gap p m * 
 power-gap p m k = by-gap (λ (p m i : ℕ). gap (p * k + m * 0) (p * 0 + m * k) ≡ i * k) (λ m i. omega arith) (λ p i. omega arith) p m
 
 under-nat : (w o G L E : ℕ) → G * L ≡ w * o → G * 1 * L ≤ E * o * L → w * o ≤ E * L * o
-under-nat w o G L E e h = le-trans (le-of-eq (sym e)) (le-trans (le-of-eq (ap (λ (n : ℕ). n * L) (sym (mul-one G)))) (le-trans h (le-of-eq (mul-right-comm E o L))))
+under-nat w o G L E e h = omega arith
 
 below-top : (l e : ℕ) → 2 ^ e * 2 ^ l < 2 ^ (l + suc e)
 below-top l e = subst (λ (n : ℕ). n < 2 ^ (l + suc e)) (pow-add 2 l e ∙ mul-comm (2 ^ l) (2 ^ e)) (pow-lt (more l e))

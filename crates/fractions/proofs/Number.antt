@@ -1,6 +1,6 @@
 -- A float as a fraction: it is a number exactly if the float is finite, its sign goes with the float's, and a float that has the value of a fraction is that number (`value-same`). And how far two signed fractions
 -- are apart. Assumes nothing.
-use mathlib.Core.Path.{_≡_, refl, sym, subst}
+use mathlib.Core.Path.{_≡_, refl}
 use mathlib.Core.Bool.{Bool, true, false, not}
 use Prim.Native.Nat.{ℕ, _+_, _*_, _<_}
 use native.Mathlib.Nat.{lt-irrefl}
@@ -39,7 +39,7 @@ signed-same false a c b d e = omega arith
 pub value-same : (x : Float) (s : Bool) (a c : ℕ) → HasValue x s a c → Same (number x) (signed s a c)
 value-same nan s a c h = absurd h
 value-same (inf t) s a c h = absurd h
-value-same (fin t m e) s a c h = subst (λ (u : Bool). Same (signed u (m * up e) (down e)) (signed s a c)) (sym (h .0)) (signed-same s (m * up e) (down e) a c (h .1))
+value-same (fin t m e) s a c h = rw (h .0) (signed-same s (m * up e) (down e) a c (h .1))
 
 pub value-finite : (x : Float) (s : Bool) (a c : ℕ) → HasValue x s a c → T (finite x)
 value-finite nan s a c h = absurd h

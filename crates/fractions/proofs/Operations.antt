@@ -65,9 +65,7 @@ add-result f nan y p q = absurd (lt-irrefl 0 p)
 add-result f (inf s) y p q = absurd (lt-irrefl 0 p)
 add-result f (fin s m e) nan p q = absurd (lt-irrefl 0 q)
 add-result f (fin s m e) (inf t) p q = absurd (lt-irrefl 0 q)
-add-result f (fin s m e) (fin t n d) p q =
-    subst (λ (z : Fraction). Result f (add f (fin s m e) (fin t n d)) z) (two-is s t (m * up e) (n * up d) (down e) (down d))
-    (sum-result f (m * up e * down d) (n * up d * down e) (down e * down d) s t)
+add-result f (fin s m e) (fin t n d) p q = rw (← two-is s t (m * up e) (n * up d) (down e) (down d)) (sum-result f (m * up e * down d) (n * up d * down e) (down e * down d) s t)
 
 pub sub-result : (f : Format) (x y : Float) → 0 < number x .over → 0 < number y .over → Result f (sub f x y) (number x ⊖ number y)
 unfolding sub
@@ -82,7 +80,7 @@ pub positive-number : (y : Float) → T (positive y) → 0 < number y .plus - nu
 positive-number nan t = absurd t
 positive-number (inf s) t = absurd t
 positive-number (fin true m e) t = absurd t
-positive-number (fin false m e) t = subst (λ (n : ℕ). 0 < n) (sym (sub-zero (m * up e))) (mul-pos (ltb→lt 0 m t) (up-pos e))
+positive-number (fin false m e) t = rw (sub-zero (m * up e)) (mul-pos (ltb→lt 0 m t) (up-pos e))
 
 pub number-positive : (y : Float) → number y .minus < number y .plus → T (positive y)
 number-positive nan h = absurd (lt-irrefl 0 h)

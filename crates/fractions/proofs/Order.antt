@@ -16,12 +16,9 @@ same-refl x = omega arith
 pub same-sym : (x y : Fraction) → Same x y → Same y x
 same-sym x y h = omega arith
 
-between-nat : (xp xm xo yp ym yo zp zm zo : ℕ) → (xp * yo + ym * xo) * zo ≤ (yp * xo + xm * yo) * zo → (yp * zo + zm * yo) * xo ≤ (zp * yo + ym * zo) * xo → (xp * zo + zm * xo) * yo ≤ (zp * xo + xm * zo) * yo
-between-nat xp xm xo yp ym yo zp zm zo h k = let h' = simp ring at h in let k' = simp ring at k in simp ring (omega arith)
-
 pub at-most-trans : (x y z : Fraction) → 0 < y .over → AtMost x y → AtMost y z → AtMost x z
 at-most-trans x y z Y h k =
-    le-of-mul-le-mul-right (between-nat (x .plus) (x .minus) (x .over) (y .plus) (y .minus) (y .over) (z .plus) (z .minus) (z .over) (mul-le-mul-right (z .over) h) (mul-le-mul-right (x .over) k)) Y
+    le-of-mul-le-mul-right (omega (arith, mul-le-mul-right (z .over) h, mul-le-mul-right (x .over) k)) Y
 
 pub same-trans : (x y z : Fraction) → 0 < y .over → Same x y → Same y z → Same x z
 same-trans x y z Y h k = le-antisymm (at-most-trans x y z Y (le-of-eq h) (le-of-eq k)) (at-most-trans z y x Y (le-of-eq (sym k)) (le-of-eq (sym h)))
@@ -34,26 +31,14 @@ pub same-computed : (x y : Fraction) → T (isSame x y) → Same x y
 same-computed x y t = eqb→eq _ _ t
 
 -- ---- kept by sums and products
-add-nat : (xp xm xo xp' xm' xo' yp ym yo yp' ym' yo' : ℕ) → (xp * xo' + xm' * xo) * (yo * yo') ≡ (xp' * xo + xm * xo') * (yo * yo') → (yp * yo' + ym' * yo) * (xo * xo') ≡ (yp' * yo + ym * yo') * (xo * xo')
-    → (xp * yo + yp * xo) * (xo' * yo') + (xm' * yo' + ym' * xo') * (xo * yo) ≡ (xp' * yo' + yp' * xo') * (xo * yo) + (xm * yo + ym * xo) * (xo' * yo')
-add-nat xp xm xo xp' xm' xo' yp ym yo yp' ym' yo' h k = let h' = simp ring at h in let k' = simp ring at k in simp ring (omega arith)
-
-mul-nat : (xp xm xo xp' xm' xo' yp ym yo yp' ym' yo' : ℕ) → (xp * xo' + xm' * xo) * (yp * yo') ≡ (xp' * xo + xm * xo') * (yp * yo') → (xp * xo' + xm' * xo) * (ym * yo') ≡ (xp' * xo + xm * xo') * (ym * yo')
-    → (yp * yo' + ym' * yo) * (xp' * xo) ≡ (yp' * yo + ym * yo') * (xp' * xo) → (yp * yo' + ym' * yo) * (xm' * xo) ≡ (yp' * yo + ym * yo') * (xm' * xo)
-    → (xp * yp + xm * ym) * (xo' * yo') + (xp' * ym' + xm' * yp') * (xo * yo) ≡ (xp' * yp' + xm' * ym') * (xo * yo) + (xp * ym + xm * yp) * (xo' * yo')
-mul-nat xp xm xo xp' xm' xo' yp ym yo yp' ym' yo' h i j k =
-    let h' = simp ring at h in let i' = simp ring at i in let j' = simp ring at j in let k' = simp ring at k in simp ring (omega arith)
-
 module _ (x x' y y' : Fraction) (h : Same x x') (k : Same y y') where
   pub same-add : Same (x ⊕ y) (x' ⊕ y')
   same-add =
-      add-nat (x .plus) (x .minus) (x .over) (x' .plus) (x' .minus) (x' .over) (y .plus) (y .minus) (y .over) (y' .plus) (y' .minus) (y' .over)
-      (ap (λ (t : ℕ). t * (y .over * y' .over)) h) (ap (λ (t : ℕ). t * (x .over * x' .over)) k)
+      simp ring (omega (arith, simp ring at (ap (λ (t : ℕ). t * (y .over * y' .over)) h), simp ring at (ap (λ (t : ℕ). t * (x .over * x' .over)) k)))
 
   pub same-mul : Same (x ⊗ y) (x' ⊗ y')
   same-mul =
-      mul-nat (x .plus) (x .minus) (x .over) (x' .plus) (x' .minus) (x' .over) (y .plus) (y .minus) (y .over) (y' .plus) (y' .minus) (y' .over)
-      (ap (λ (t : ℕ). t * (y .plus * y' .over)) h) (ap (λ (t : ℕ). t * (y .minus * y' .over)) h) (ap (λ (t : ℕ). t * (x' .plus * x .over)) k) (ap (λ (t : ℕ). t * (x' .minus * x .over)) k)
+      simp ring (omega (arith, simp ring at (ap (λ (t : ℕ). t * (y .plus * y' .over)) h), simp ring at (ap (λ (t : ℕ). t * (y .minus * y' .over)) h), simp ring at (ap (λ (t : ℕ). t * (x' .plus * x .over)) k), simp ring at (ap (λ (t : ℕ). t * (x' .minus * x .over)) k)))
 
 -- ---- a comparison is one of numbers: the two sides of it differ by x - y, which is the same number in any fractions of the same two
 module _ (x x' y y' : Fraction) (h : Same x x') (k : Same y y') where
@@ -143,7 +128,7 @@ apart-same x x' y y' h k =
 
 near-nat : (d e d' e' xo yo zo xo' yo' zo' : ℕ) → d * (xo' * yo') * (zo * zo') ≡ d' * (xo * yo) * (zo * zo') → e * (xo' * zo') * (yo * yo') ≡ e' * (xo * zo) * (yo * yo') → d' * zo' * (xo * yo * zo) ≤ e' * yo' * (xo * yo * zo)
     → d * zo * (xo' * yo' * zo') ≤ e * yo * (xo' * yo' * zo')
-near-nat d e d' e' xo yo zo xo' yo' zo' h k l = let h' = simp ring at h in let k' = simp ring at k in let l' = simp ring at l in simp ring (omega arith)
+near-nat d e d' e' xo yo zo xo' yo' zo' h k l = omega arith
 
 pub near-same : (x x' y y' z z' : Fraction) → 0 < x' .over → 0 < y' .over → 0 < z' .over → Same x x' → Same y y' → Same z z' → AsNear x' y' z' → AsNear x y z
 near-same x x' y y' z z' X Y Z h k j l =

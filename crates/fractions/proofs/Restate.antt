@@ -96,10 +96,6 @@ module _ (x x' y y' : Fraction) (h : Same x x') (k : Same y y') where
 pub same-square : (x x' : Fraction) → Same x x' → Same (square x) (square x')
 same-square x x' h = same-mul x x' x x' h h
 
-over-same-nat : (xp xm xo xp' xm' xo' o o' z z' : ℕ) → (xp * xo' + xm' * xo) * (o * z') ≡ (xp' * xo + xm * xo') * (o * z') → xm' * xo * (z * o') ≡ xm' * xo * (z' * o) → xp' * xo * (z * o') ≡ xp' * xo * (z' * o)
-    → xp * o * (xo' * z') + xm' * o' * (xo * z) ≡ xp' * o' * (xo * z) + xm * o * (xo' * z')
-over-same-nat xp xm xo xp' xm' xo' o o' z z' h i j = let h' = simp ring at h in let i' = simp ring at i in let j' = simp ring at j in simp ring (omega arith)
-
 -- the divisors are not below 0, so their differences are whole numbers
 rest-nat : (p m o p' m' o' : ℕ) → m ≤ p → m' ≤ p' → p * o' + m' * o ≡ p' * o + m * o' → (p - m) * o' ≡ (p' - m') * o
 rest-nat p m o p' m' o' h h' e =
@@ -114,5 +110,4 @@ module _ (x x' y y' : Fraction) where
       let z = left y in
       let z' = left y' in
       let e = rest-nat (y .plus) (y .minus) (y .over) (y' .plus) (y' .minus) (y' .over) Y Y' k in
-      over-same-nat (x .plus) (x .minus) (x .over) (x' .plus) (x' .minus) (x' .over) (y .over) (y' .over) z z'
-      (ap (λ (t : ℕ). t * (y .over * z')) h) (ap (λ (t : ℕ). x' .minus * x .over * t) e) (ap (λ (t : ℕ). x' .plus * x .over * t) e)
+      omega (arith, ap (λ (t : ℕ). t * (y .over * z')) h, ap (λ (t : ℕ). x' .minus * x .over * t) e, ap (λ (t : ℕ). x' .plus * x .over * t) e)

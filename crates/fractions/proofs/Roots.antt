@@ -24,12 +24,6 @@ pub record RootOf (P : ℕ) (r s : Fraction) : Type 0 where
   pub above : Less s (square (r ⊗ fraction (suc P) 0 P))
 
 -- ---- u = r² and v = s, over one number: u (P - 1)² ≤ v P² and v P² ≤ u (P + 1)² say that they are 3 v / P apart at most
-far-nat : (u v q : ℕ) → u * (q * q) * (q + 1) ≤ v * ((q + 1) * (q + 1)) * (q + 1) → 4 * q * v ≤ q * q * v → 4 * v ≤ q * v → u * (q + 1) * (q * q) ≤ (v * (q + 1) + 3 * v) * (q * q)
-far-nat u v q h k l = let h' = simp ring at h in let k' = simp ring at k in simp ring (omega arith)
-
-near-nat : (u v P : ℕ) → v * (P * P) * P ≤ u * ((P + 1) * (P + 1)) * P → v * P * ((P + 1) * (P + 1)) ≤ (u * P + 3 * v) * ((P + 1) * (P + 1))
-near-nat u v P h = let h' = simp ring at h in simp ring (omega arith)
-
 -- r² o and s D², of r = z / D and s = y / o
 record Parts (P : ℕ) (z D y o : ℕ) : Type 0 where
   pub far : o * z * z * P ≤ y * (D * D) * P + 3 * (y * (D * D))
@@ -44,8 +38,8 @@ parts q z D y o h a b =
     let v = y * (D * D) in
     let f = four q v h in
     record {
-      far = le-of-mul-le-mul-right (far-nat u v q (mul-le-mul-right (q + 1) (turn (le-of-lt a))) (f .0) (f .1)) (mul-pos (positive q h) (positive q h));
-      near = le-of-mul-le-mul-right (near-nat u v (q + 1) (mul-le-mul-right (q + 1) (turn' (le-of-lt b)))) (mul-pos (two q) (two q));
+      far = le-of-mul-le-mul-right (omega (arith, mul-le-mul-right (q + 1) (turn (le-of-lt a)), f .0, f .1)) (mul-pos (positive q h) (positive q h));
+      near = le-of-mul-le-mul-right (omega (arith, mul-le-mul-right (q + 1) (turn' (le-of-lt b)))) (mul-pos (two q) (two q));
     }
   where
     positive : (q : ℕ) → 4 ≤ q → 0 < q
@@ -65,13 +59,6 @@ close-nat a b v w M t P W h k l = let h' = simp ring at h in let l' = simp ring 
 
 cancelled : (W M t q w v : ℕ) → v * W ≤ M * w → 3 * M ≤ t * (q + 1) → (a b : ℕ) → a * (q + 1) ≤ b * (q + 1) + 3 * v → a * W ≤ b * W + t * w
 cancelled W M t q w v h l a b k = le-of-mul-le-mul-right (close-nat a b v w M t (q + 1) W (scaled _ _ _ W k) h (mul-le-mul-right w l)) (omega arith)
-
--- r times c / P, squared, and s, with nothing taken away
-lower-nat : (c P z D y o : ℕ) → Less (square (fraction z 0 D ⊗ fraction c 0 P)) (fraction y 0 o) → z * c * (z * c) * o < y * (D * P * (D * P))
-lower-nat c P z D y o h = omega arith
-
-upper-nat : (c P z D y o : ℕ) → Less (fraction y 0 o) (square (fraction z 0 D ⊗ fraction c 0 P)) → y * (D * P * (D * P)) < z * c * (z * c) * o
-upper-nat c P z D y o h = omega arith
 
 above-square : (a b c m n e : ℕ) → b ≤ a → a * c + m * e < n * e + b * c → m * e < n * e
 above-square a b c m n e h k = omega (arith, mul-le-mul-right c h)
@@ -98,10 +85,10 @@ module _ {P : ℕ} (r s : Fraction) (p : 0 < P) (a : RootOf P r s) where
   part-pos = mul-pos (mul-pos (a .root) p) (mul-pos (a .root) p)
 
   lower-less : left r * (P - 1) * (left r * (P - 1)) * s .over < left s * (r .over * P * (r .over * P))
-  lower-less = lower-nat (P - 1) P (left r) (r .over) (left s) (s .over) (less-same (square (plain r ⊗ fraction (P - 1) 0 P)) (square (r ⊗ fraction (P - 1) 0 P)) (plain s) s (part-same (P - 1)) s-same part-pos (a .number) (a .below))
+  lower-less = omega (arith, less-same (square (plain r ⊗ fraction (P - 1) 0 P)) (square (r ⊗ fraction (P - 1) 0 P)) (plain s) s (part-same (P - 1)) s-same part-pos (a .number) (a .below))
 
   upper-less : left s * (r .over * P * (r .over * P)) < left r * suc P * (left r * suc P) * s .over
-  upper-less = upper-nat (suc P) P (left r) (r .over) (left s) (s .over) (less-same (plain s) s (square (plain r ⊗ fraction (suc P) 0 P)) (square (r ⊗ fraction (suc P) 0 P)) s-same (part-same (suc P)) (a .number) part-pos (a .above))
+  upper-less = omega (arith, less-same (plain s) s (square (plain r ⊗ fraction (suc P) 0 P)) (square (r ⊗ fraction (suc P) 0 P)) s-same (part-same (suc P)) (a .number) part-pos (a .above))
 
 -- the root's square and s are 3 s / P apart at most: t / W, where s is M / W at most
 pub root-square : {W P M : ℕ} {r s : Fraction} (t : ℕ) → 5 ≤ P → 3 * M ≤ t * P → RootOf P r s → Size W s M → Close W (square r) s t
@@ -134,16 +121,12 @@ from-square a b h = go (decLe a b)
     go (yes l) = l
     go (no l) = absurd (over (lt-of-not-le l))
 
-least-nat : (z D C W t b L sp sm : ℕ) → sp * (D * D) * W * W ≤ (C * z * z * W + sm * (D * D) * W + t * (D * D * C)) * W → (sm * W + b * C) * (D * D * W) ≤ sp * W * (D * D * W) → (L * L + t * W) * (D * D * C) ≤ b * W * (D * D * C)
-    → L * D * (L * D) * C ≤ z * W * (z * W) * C
-least-nat z D C W t b L sp sm h k l = let h' = simp ring at h in let k' = simp ring at k in let l' = simp ring at l in simp ring (omega arith)
-
 pub root-least : {W t b : ℕ} {r S : Fraction} (L : ℕ) → L * L + t * W ≤ b * W → Less (whole 0) r → Close W (square r) S t → Least W S b → Least W r L
 root-least {W} {t} {b} {r} {S} L l p c h =
     let m : r .minus ≤ r .plus = omega (arith, p) in
     let z = left r in
     let D = r .over in
-    let i = from-square (L * D) (z * W) (le-of-mul-le-mul-right (least-nat z D (S .over) W t b L (S .plus) (S .minus) (mul-le-mul-right W (square-below r m c)) (mul-le-mul-right (D * D * W) (h .least)) (mul-le-mul-right (D * D * S .over) l)) (c .second)) in
+    let i = from-square (L * D) (z * W) (le-of-mul-le-mul-right (simp ring (omega (arith, simp ring at (mul-le-mul-right W (square-below r m c)), simp ring at (mul-le-mul-right (D * D * W) (h .least)), simp ring at (mul-le-mul-right (D * D * S .over) l)))) (c .second)) in
     record { least = subst (λ (n : ℕ). r .minus * W + L * D ≤ n * W) (add-sub-of-le m) (go (r .minus) z i) }
   where
     go : (m z : ℕ) → L * r .over ≤ z * W → m * W + L * r .over ≤ (m + z) * W

@@ -64,10 +64,7 @@ counted-same f {x} {q} x' q' X e d o g = go
 
 -- ---- in whole numbers: the value is grid / 2 ^ low, and |grid * den - num * 2 ^ low| is num * 2 ^ low / 2 ^ prec at most, where digits are dropped, or den / 2, where none is
 off-grid : (q k n den : ℕ) → gap n (q * (den * k)) * 2 ≤ den * k → gap (q * k * den) n * 2 ≤ den * k
-off-grid q k n den h = subst (λ (g : ℕ). g * 2 ≤ den * k) (turned n (q * (den * k)) ∙ ap (λ (m : ℕ). gap m n) (simp (mul-assoc, mul-comm))) h
-  where
-    turned : (a b : ℕ) → gap a b ≡ gap b a
-    turned a b = omega arith
+off-grid q k n den h = omega arith
 
 abbrev Near-grid : Format → ℕ → ℕ → ℕ → Type 0
 Near-grid f n den d = (d * 2 ^ prec f ≤ n) ⊎ (d * 2 ≤ den)
@@ -91,9 +88,6 @@ either-way d n den H P p (inr h) = le-trans (le-of-eq (sym (mul-assoc d 2 H))) (
 under-nat : (g den num L H Z : ℕ) → g * den * (2 * H) ≤ num * L * (2 * H) + (num * L + den * H) → num * L ≤ den * Z → num * L * H ≤ den * Z * H → g * (2 * H) * den ≤ (Z * (2 * H) + Z + H) * den
 under-nat g den num L H Z x y z = let x' = simp ring at x in let z' = simp ring at z in simp ring (omega arith)
 
-room : (g H Z : ℕ) → g * (2 * H) ≤ Z * (2 * H) + Z + H → 2 * Z ≤ H * Z → H * 1 ≤ H * Z → 0 < H → g * (2 * H) < Z * 2 * (2 * H)
-room g H Z x a b c = let x' = simp ring at x in simp ring (omega arith)
-
 two-le-half : (f : Format) → 2 ≤ hid f
 two-le-half binary32 = lit≤ tt
 two-le-half binary64 = lit≤ tt
@@ -101,21 +95,18 @@ two-le-half binary64 = lit≤ tt
 twice : (l e : ℕ) → 2 ^ e * 2 ^ l * 2 ≡ 2 ^ (l + suc e)
 twice l e = sym (pow-add 2 l (suc e) ∙ simp (pow-suc, mul-assoc, mul-comm, mul-left-comm))
 
-small-nat : (num den L T : ℕ) → num * L ≤ den * T * L → num * L ≤ den * (T * L)
-small-nat num den L T h = omega (arith, mul-assoc den T L)
-
 grid-under : (f : Format) (num den : ℕ) → 0 < den → num ≤ den * 2 ^ emax f → grid f num den < 2 ^ (low f + suc (emax f))
 grid-under f num den D h =
     let L = 2 ^ low f in
     let H = hid f in
     let Z = 2 ^ emax f * L in
     let g = grid f num den in
-    let y : num * L ≤ den * Z = small-nat num den L (2 ^ emax f) (mul-le-mul-right L h) in
+    let y : num * L ≤ den * Z = omega (arith, mul-le-mul-right L h) in
     let n : g * den * (2 * H) ≤ num * L * (2 * H) + (num * L + den * H) =
     gap-above (g * den * (2 * H)) (num * L * (2 * H)) (num * L + den * H) (le-trans (le-of-eq (gap-times (g * den) (num * L) (2 * H))) (either-way (gap (g * den) (num * L)) (num * L) den H (2 ^ prec f) (twice-hid f) (grid-near f num den D))) in
     let u = le-of-mul-le-mul-right (under-nat g den num L H Z n y (mul-le-mul-right H y)) D in
     subst (λ (z : ℕ). g < z) (twice (low f) (emax f))
-    (lt-of-mul-lt-mul-right (2 * H) (room g H Z u (mul-le-mul-right Z (two-le-half f)) (mul-le-mul-left H (mul-pos (pow-pos (emax f)) (pow-pos (low f)))) (pow-pos (prec f - 1))))
+    (lt-of-mul-lt-mul-right (2 * H) (omega (arith, mul-le-mul-right Z (two-le-half f), mul-le-mul-left H (mul-pos (pow-pos (emax f)) (pow-pos (low f))), pow-pos (prec f - 1))))
 
 -- ---- the law
 round-value : (f : Format) (s : Bool) (num den : ℕ) → 0 < den → num ≤ den * 2 ^ emax f → HasValue (round f s num den) s (grid f num den) (2 ^ low f)
@@ -214,7 +205,7 @@ module _ (f : Format) (W B : ℕ) (t : T (fine f W B)) where
   fine-step = let a = ltb 0 W in let b = leb W (2 ^ suc (low f)) in leb→le _ _ (and-r a b (and-l (a && b) (leb B (2 ^ emax f * W)) t))
 
   pub fine-most : B ≤ 2 ^ emax f * W
-  fine-most = let a = ltb 0 W in let b = leb W (2 ^ suc (low f)) in leb→le _ _ (and-r (a && b) (leb B (2 ^ emax f * W)) t)
+  fine-most = leb→le _ _ (and-r ((ltb 0 W) && (leb W (2 ^ suc (low f)))) (leb B (2 ^ emax f * W)) t)
 
 pub rounds-close : (f : Format) {W B : ℕ} {x q : Fraction} → T (fine f W B) → Size W q B → Rounds f x q → Close W x q (rounding f B)
 rounds-close f {W} {B} {x} {q} t m r = go (rounds-counted f r)

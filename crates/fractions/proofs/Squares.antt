@@ -25,12 +25,7 @@ use Rattle.fractions.proofs.Near.{Near}
 
 -- ---- with |a - b| ≤ t, t * u ≤ h * b and 2 * t ≤ b: u² ≤ (u + h)² * (a / b), and v² * (a / b) ≤ u² where v + h ≤ u. Here u is the quotient by r, h what is left of the bound and a / b is S / r²
 raised-nat : (u h a b t : ℕ) → b ≤ a + t → t * u ≤ h * b → 2 * t ≤ b → u * u * b ≤ (u + h) * (u + h) * a
-raised-nat u h a b t x y z =
-    let x' = simp ring at (mul-le-mul-right ((u + h) * (u + h)) x) in
-    let y' = simp ring at (mul-le-mul-right u y) in
-    let v = simp ring at (mul-le-mul-right (u * h) z) in
-    let w = simp ring at (mul-le-mul-right (h * h) z) in
-    simp ring (omega arith)
+raised-nat u h a b t x y z = omega (arith, mul-le-mul-right ((u + h) * (u + h)) x, mul-le-mul-right u y, mul-le-mul-right (u * h) z, mul-le-mul-right (h * h) z)
 
 lowered-nat : (v h u a b t : ℕ) → a ≤ b + t → t * u ≤ h * b → v + h ≤ u → v ≤ u → v * v * a ≤ u * u * b
 lowered-nat v h u a b t x y z w =
@@ -42,23 +37,15 @@ lowered-nat v h u a b t x y z w =
     simp ring (omega arith)
 
 -- ---- |G| = A / B, S = Z / C, r = R / D, |x| = X / a, in whole numbers; 1 / P is the bound, and d / W, t / W are the errors of x and of r². K = W - d * P is what x leaves of the bound
--- the root is L / W at least, and |G| / r is M / W at most
-slack-nat : (A B R D P W M t K L : ℕ) → A * D * W * (t * P * (D * D) * W) ≤ M * (B * R) * (t * P * (D * D) * W) → t * M * P * W * (B * R * (D * D)) ≤ K * (L * L) * (B * R * (D * D))
-    → L * D * (L * D) * (K * B * R) ≤ R * W * (R * W) * (K * B * R) → t * P * A * (D * D * D) * (W * W) ≤ B * K * (R * R * R) * (W * W)
-slack-nat A B R D P W M t K L x y z = let x' = simp ring at x in let y' = simp ring at y in let z' = simp ring at z in simp ring (omega arith)
-
 slack : (A B C R D a P W M t K L : ℕ) → 0 < W → A * D * W ≤ M * (B * R) → L * D ≤ R * W → t * M * P * W ≤ K * (L * L) → t * (D * D * C) * (A * D * (a * P * W)) ≤ B * R * a * K * (C * R * R * W)
 slack A B C R D a P W M t K L w g l h =
     let c : t * P * A * (D * D * D) ≤ B * K * (R * R * R) =
-    le-of-mul-le-mul-right (slack-nat A B R D P W M t K L (mul-le-mul-right (t * P * (D * D) * W) g) (mul-le-mul-right (B * R * (D * D)) h) (mul-le-mul-right (K * B * R) (mul-le-mul l l))) (mul-pos w w) in
+    le-of-mul-le-mul-right (simp ring (omega (arith, simp ring at (mul-le-mul-right (t * P * (D * D) * W) g), simp ring at (mul-le-mul-right (B * R * (D * D)) h), simp ring at (mul-le-mul-right (K * B * R) (mul-le-mul l l))))) (mul-pos w w) in
     let c' = simp ring at (mul-le-mul-right (C * a * W) c) in
     simp ring (omega arith)
 
-half-nat : (C R D W t L : ℕ) → 2 * t * W * (D * D * C) ≤ L * L * (D * D * C) → L * D * (L * D) * C ≤ R * W * (R * W) * C → 2 * (t * (D * D * C)) * W ≤ C * R * R * W * W
-half-nat C R D W t L x y = let x' = simp ring at x in let y' = simp ring at y in simp ring (omega arith)
-
 half : (C R D W t L : ℕ) → 0 < W → L * D ≤ R * W → 2 * t * W ≤ L * L → 2 * (t * (D * D * C)) ≤ C * R * R * W
-half C R D W t L w l h = le-of-mul-le-mul-right (half-nat C R D W t L (mul-le-mul-right (D * D * C) h) (mul-le-mul-right C (mul-le-mul l l))) w
+half C R D W t L w l h = le-of-mul-le-mul-right (omega (arith, mul-le-mul-right (D * D * C) h, mul-le-mul-right C (mul-le-mul l l))) w
 
 module _ (A B C Z R D X a P W M d t K L : ℕ) (w : 0 < W) (rp : 0 < R) (dp : 0 < D) (k : K + d * P ≡ W) (g : A * D * W ≤ M * (B * R)) (l : L * D ≤ R * W)
     (small : t * M * P * W ≤ K * (L * L)) (least : 2 * t * W ≤ L * L) where
@@ -67,7 +54,7 @@ module _ (A B C Z R D X a P W M d t K L : ℕ) (w : 0 < W) (rp : 0 < R) (dp : 0 
 
   under : (y : ℕ) → X * (B * R) * W * P ≤ (A * D * a * W + d * (a * (B * R))) * P → (K + d * P) * (B * R * a) ≡ W * (B * R * a) → (y + a) * (B * R * W) ≡ X * P * (B * R * W)
       → y * (B * R * W) + B * R * a * K ≤ A * D * (a * P * W)
-  under y x e f = let x' = simp ring at x in let e' = simp ring at e in let f' = simp ring at f in simp ring (omega arith)
+  under y x e f = omega arith
 
   up : (Y : ℕ) → A * D * (a * P * W) * (A * D * (a * P * W)) * (C * R * R * W) ≤ Y * (B * R * W) * (Y * (B * R * W)) * (Z * (D * D) * W)
       → A * A * C * (a * P * (a * P)) * (D * D * (R * R) * (W * W * W)) ≤ Y * Y * (B * B * Z) * (D * D * (R * R) * (W * W * W))
@@ -149,16 +136,13 @@ record Root (W : ℕ) (r S : Fraction) (t : ℕ) : Type 0 where
   pub above : S .over * left r * left r * W ≤ left S * (r .over * r .over) * W + t * (r .over * r .over * S .over)
   pub below : left S * (r .over * r .over) * W ≤ S .over * left r * left r * W + t * (r .over * r .over * S .over)
 
-positive-nat : (a b c t : ℕ) → a + b ≤ c + t → 2 * t ≤ a → 0 < a → b < c
-positive-nat a b c t h k p = omega arith
-
 root-counted : {W t L : ℕ} {r S : Fraction} → 0 < W → 0 < L → 0 < r .over → Close W (square r) S t → Least W r L → 2 * t * W ≤ L * L → Root W r S t
 root-counted {W} {t} {L} {r} {S} w lp rp h l k =
     let D = r .over in
     let m = least-positive lp rp l in
     let z>0 : 0 < left r = sub-pos-iff-lt .1 m in
     let s : S .minus < S .plus =
-    lt-of-mul-lt-mul-right (D * D) (lt-of-mul-lt-mul-right W (positive-nat _ _ _ _ (square-above r (le-of-lt m) h) (half (S .over) (left r) D W t L w (left-least r (le-of-lt m) l) k) (mul-pos (mul-pos (mul-pos (h .second) z>0) z>0) w))) in
+    lt-of-mul-lt-mul-right (D * D) (lt-of-mul-lt-mul-right W (omega (arith, square-above r (le-of-lt m) h, half (S .over) (left r) D W t L w (left-least r (le-of-lt m) l) k, mul-pos (mul-pos (mul-pos (h .second) z>0) z>0) w))) in
     let c = close-same (square r) (plain S) (h .first) (h .second) (same-refl (square r)) (plain-same S (le-of-lt s)) h in
     record { positive = s; above = omega (arith, square-above r (le-of-lt m) c); below = omega (arith, square-below r (le-of-lt m) c) }
 
@@ -186,11 +170,6 @@ module _ (o u W E : ℕ) where
       (λ m i. by-gap (λ (q n j : ℕ). Unlike (m + i) m q n j) (λ n j h a b. like i j (omega arith) (omega arith)) (λ q j h a b. omega arith) q n)
       (λ p i. by-gap (λ (q n j : ℕ). Unlike p (p + i) q n j) (λ n j h a b. omega arith) (λ q j h a b. like i j (omega arith) (omega arith)) q n)
       p m
-
--- 2 d² P² ≤ W² and r² ≤ 2 S
-small-nat : (A B C Z R D P W d : ℕ) → A * D * W * (A * D * W) * (P * P * C) ≤ d * (B * R) * (d * (B * R)) * (P * P * C) → C * R * R * (d * P * (d * P) * (B * B)) ≤ 2 * (Z * (D * D)) * (d * P * (d * P) * (B * B))
-    → 2 * (d * P * (d * P)) * (B * B * Z * (D * D)) ≤ W * W * (B * B * Z * (D * D)) → A * A * C * (P * P) * (D * D * (W * W)) ≤ 1 * (B * B * Z) * (D * D * (W * W))
-small-nat A B C Z R D P W d x y z = let x' = simp ring at x in let y' = simp ring at y in let z' = simp ring at z in simp ring (omega arith)
 
 twice-nat : (C Z R D W t : ℕ) → C * R * R * W ≤ Z * (D * D) * W + t * (D * D * C) → 2 * (t * (D * D * C)) ≤ C * R * R * W → C * R * R * W ≤ 2 * (Z * (D * D)) * W
 twice-nat C Z R D W t h k = omega arith
@@ -310,7 +289,7 @@ module _ {W k M d t L : ℕ} (x G r S : Fraction) (f : Tests W k M d t L) (n : N
       at-most-same (square G ⊘ S) exactly (square (unit k)) (square (unit k)) (exact-is G S) (same-refl (square (unit k))) under-square (mul-pos (pow-pos k) (pow-pos k))
       (at-most-nat _ (B * B * left S) 1 (P * P)
       (le-of-mul-le-mul-right
-      (small-nat (size G) B (S .over) (left S) R D P W d (mul-le-mul-right (P * P * S .over) (mul-le-mul h h)) (mul-le-mul-right (d * P * (d * P) * (B * B)) y) (mul-le-mul-right (B * B * left S * (D * D)) (f .sign)))
+      (simp ring (omega (arith, simp ring at (mul-le-mul-right (P * P * S .over) (mul-le-mul h h)), simp ring at (mul-le-mul-right (d * P * (d * P) * (B * B)) y), simp ring at (mul-le-mul-right (B * B * left S * (D * D)) (f .sign)))))
       (mul-pos (mul-pos D>0 D>0) (mul-pos (f .unit) (f .unit)))))
 
   squares-sign : Less (square (unit k)) (square G ⊘ S) → Less (whole 0) (x ⊗ G)

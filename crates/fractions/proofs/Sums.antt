@@ -1,39 +1,29 @@
 -- Sums of squares: such a sum is no less than each of the squares in it; and as an expression. Assumes nothing.
 use mathlib.Core.List.{List, [], _∷_}
-use Prim.Native.Nat.{ℕ, zero, suc, _+_, _*_, _≤_, _<_}
+use Prim.Native.Nat.{ℕ, zero, suc, _*_, _≤_, _<_}
 use native.Mathlib.Nat.{le-refl, mul-le-mul-right, le-of-suc-le-suc, not-suc-le-zero}
 use native.Mathlib.Omega.{arith}
 use lib.ListN.{length, getD}
 use Rattle.fractions.specs.Fraction.{Fraction, whole, square, _⊕_, AtMost}
 use Rattle.fractions.specs.Squares.{sumFrom, sumSquares}
-use Rattle.fractions.proofs.Ring.{ring}
 use Rattle.fractions.proofs.Magnitude.{square-not-below}
 use Rattle.fractions.proofs.Expression.{Expression, _+'_, _*'_}
 
 -- ---- a square more, and it is not below 0 if it was not
-sum-nat : (p m o q n u : ℕ) → m * u ≤ p * u → n * o ≤ q * o → m * u + n * o ≤ p * u + q * o
-sum-nat p m o q n u h k = omega arith
-
 step : (acc g : Fraction) → acc .minus ≤ acc .plus → (acc ⊕ square g) .minus ≤ (acc ⊕ square g) .plus
-step acc g h = sum-nat (acc .plus) (acc .minus) (acc .over) (square g .plus) (square g .minus) (square g .over) (mul-le-mul-right (square g .over) h) (mul-le-mul-right (acc .over) (square-not-below g))
+step acc g h = omega (arith, mul-le-mul-right (square g .over) h, mul-le-mul-right (acc .over) (square-not-below g))
 
 -- ---- no less than each of the squares
-keep-nat : (qp qm qo sp sm so rp rm ro : ℕ) → (qp * so + sm * qo) * ro ≤ (sp * qo + qm * so) * ro → rm * (so * qo) ≤ rp * (so * qo) → qp * (so * ro) + (sm * ro + rm * so) * qo ≤ (sp * ro + rp * so) * qo + qm * (so * ro)
-keep-nat qp qm qo sp sm so rp rm ro h k = let h' = simp ring at h in let k' = simp ring at k in simp ring (omega arith)
-
 -- what is at most the sum so far is at most the whole
 kept : (l : List Fraction) (q acc : Fraction) → AtMost q acc → AtMost q (sumFrom acc l)
 kept [] q acc h = h
 kept (g ∷ l) q acc h =
     kept l q (acc ⊕ square g)
-    (keep-nat (q .plus) (q .minus) (q .over) (acc .plus) (acc .minus) (acc .over) (square g .plus) (square g .minus) (square g .over) (mul-le-mul-right (square g .over) h) (mul-le-mul-right (acc .over * q .over) (square-not-below g)))
-
-here-nat : (rp rm ro sp sm so : ℕ) → sm * (ro * ro) ≤ sp * (ro * ro) → rp * (so * ro) + (sm * ro + rm * so) * ro ≤ (sp * ro + rp * so) * ro + rm * (so * ro)
-here-nat rp rm ro sp sm so h = let h' = simp ring at h in simp ring (omega arith)
+    (omega (arith, mul-le-mul-right (square g .over) h, mul-le-mul-right (acc .over * q .over) (square-not-below g)))
 
 square-from : (acc : Fraction) (l : List Fraction) → acc .minus ≤ acc .plus → (i : ℕ) (d : Fraction) → i < length l → AtMost (square (getD l i d)) (sumFrom acc l)
 square-from acc [] h i d l = absurd (not-suc-le-zero l)
-square-from acc (g ∷ l) h zero d i = kept l (square g) (acc ⊕ square g) (here-nat (square g .plus) (square g .minus) (square g .over) (acc .plus) (acc .minus) (acc .over) (mul-le-mul-right (square g .over * square g .over) h))
+square-from acc (g ∷ l) h zero d i = kept l (square g) (acc ⊕ square g) (omega (arith, mul-le-mul-right (square g .over * square g .over) h))
 square-from acc (g ∷ l) h (suc j) d i = square-from (acc ⊕ square g) l (step acc g h) j d (le-of-suc-le-suc i)
 
 pub square-in-sum : (l : List Fraction) (i : ℕ) (d : Fraction) → i < length l → AtMost (square (getD l i d)) (sumSquares l)

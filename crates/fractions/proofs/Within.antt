@@ -44,7 +44,7 @@ apart-is x y = ap (gap ((x ⊖ y) .plus)) (add-comm (y .plus * x .over) (x .minu
 
 module _ {W E : ℕ} {x y : Fraction} where
   close-apart : Close W x y E → apart x y * W ≤ E * (x .over * y .over)
-  close-apart h = subst (λ (n : ℕ). n * W ≤ E * (x .over * y .over)) (sym (apart-is x y)) (size-gap (close-difference h))
+  close-apart h = rw (apart-is x y) (size-gap (close-difference h))
 
   pub apart-close : 0 < x .over → 0 < y .over → apart x y * W ≤ E * (x .over * y .over) → Close W x y E
   apart-close X Y h = difference-close X Y (gap-size (subst (λ (n : ℕ). n * W ≤ E * (x .over * y .over)) (apart-is x y) h))

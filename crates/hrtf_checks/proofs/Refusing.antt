@@ -57,10 +57,7 @@ module _ (c : Call) (t : State) where
   both-fit : refusalOf c t ≡ 0 → (unfit (length (c .inputs)) (c .shape .channels) (c .stride) (c .frames) ≡ false) × (unfit (length (c .ears)) 2 (c .stride) (c .frames) ≡ false)
   both-fit e = or-off (unfit (length (c .inputs)) (c .shape .channels) (c .stride) (c .frames)) _ (or-off badPlanes _ (every-test e .1 .1 .0) .0)
 
-  -- the input planes, and the ear planes
-  pub inputs-fit : refusalOf c t ≡ 0 → length (c .inputs) ≡ c .shape .channels * c .stride
-  inputs-fit e = fitted (length (c .inputs)) (c .shape .channels) (c .stride) (c .frames) (both-fit e .0) .1
-
+  -- the ear planes
   pub ears-fit : refusalOf c t ≡ 0 → (c .frames ≤ c .stride) × (length (c .ears) ≡ 2 * c .stride)
   ears-fit e = fitted (length (c .ears)) 2 (c .stride) (c .frames) (both-fit e .1)
 

@@ -25,7 +25,7 @@ use Rattle.channel.proofs.Counts.{surround-counted, surround-few}
 use Rattle.row_choice.specs.declared.Choice.{Choice}
 use Rattle.row_choice.specs.Nearest.{Takes}
 use Rattle.row_choice.specs.NearestComputed.{nearestFrom}
-use Rattle.row_choice.specs.Choice.{inElevation, refusedWith, choiceOf}
+use Rattle.row_choice.specs.Choice.{isElevation, refusedWith, choiceOf}
 use Rattle.row_choice.proofs.Takes.{takes}
 use Rattle.row_choice.proofs.Answers.{none-refused}
 use Rattle.virtual_speaker.specs.Promise.{positionOf}
@@ -51,7 +51,7 @@ weighed k n s c hc = ap (λ (q : ℕ). weightOf k q ((s * n + c) % n)) quotient 
 
 module _ (k : Speakers) (azimuths elevations : List ℤ) (rows s : ℕ) (few : outside rows 8 ≡ false) (full : length azimuths ≡ 8) (high : length elevations ≡ 8) where
   row-is : nearestFrom azimuths elevations (tenthsAt k s) speakerElevation 0 1 (rows - 1) ≡ rowAt k azimuths elevations rows s
-  unfolding choiceOf inElevation
+  unfolding choiceOf isElevation
   row-is = sym (ap (λ (c : Choice). c .row) (answered-accepted _ refusedWith _ (none-refused azimuths elevations rows (tenthsAt k s) speakerElevation few (stands k s) refl full high)))
 
   -- rows from 1 to 8 of lists of 8: the row is the one that the words name

@@ -17,7 +17,7 @@ use Rattle.channel.specs.Layouts.{surround}
 use Rattle.checks.proofs.Checks.{is-equal}
 use Rattle.row_choice.specs.Nearest.{apart, elevationAway}
 use Rattle.row_choice.specs.NearestComputed.{key, nearer, nearestFrom}
-use Rattle.row_choice.specs.Choice.{inTenths, inElevation, choiceRefusal, choiceOf}
+use Rattle.row_choice.specs.Choice.{inTenths, isElevation, choiceRefusal, choiceOf}
 use Rattle.hrtf_setup.specs.declared.Speakers.the-variants.{Of, Virtual}
 use Rattle.hrtf_setup.specs.Speakers.{tenthsAt, rowAt, rowsOf}
 use Rattle.hrtf_setup.specs.Arrangement.{laterChecks, refusalOf, Arrangement, arrangement}
@@ -46,17 +46,17 @@ raised = pos 100 ∷ replicate 7 (pos 0)
 
 -- L and Ls the first; R, C, LFE and Rs the second
 rows-of-51 : tab 0 6 (rowAt (Of Surround51) bank flat 2) ≡ 0 ∷ 1 ∷ 1 ∷ 1 ∷ 0 ∷ 1 ∷ []
-unfolding bank flat choiceOf choiceRefusal inTenths inElevation nearestFrom nearer key elevationAway apart
+unfolding bank flat choiceOf choiceRefusal inTenths isElevation nearestFrom nearer key elevationAway apart
 rows-of-51 = refl
 
 -- all the second, which is level
 rows-of-51-raised : tab 0 6 (rowAt (Of Surround51) bank raised 2) ≡ replicate 6 1
-unfolding bank raised choiceOf choiceRefusal inTenths inElevation nearestFrom nearer key elevationAway apart
+unfolding bank raised choiceOf choiceRefusal inTenths isElevation nearestFrom nearer key elevationAway apart
 rows-of-51-raised = refl
 
 -- from the front on to the left: 0, 45 and 90 degrees, and so round
 rows-of-virtual : tab 0 8 (rowAt (Virtual 1) bank flat 2) ≡ 1 ∷ 0 ∷ 0 ∷ 0 ∷ 0 ∷ 1 ∷ 1 ∷ 1 ∷ []
-unfolding bank flat choiceOf choiceRefusal inTenths inElevation nearestFrom nearer key elevationAway apart
+unfolding bank flat choiceOf choiceRefusal inTenths isElevation nearestFrom nearer key elevationAway apart
 rows-of-virtual = refl
 
 -- ---- refuses always
@@ -80,7 +80,7 @@ refuses-order given o p n e = suc-ne-zero n (sym e ∙ ap (λ (q : Arrangement).
 -- ---- leaves the elevations out of account: the rows put for a bank with a raised row are those of a flat one
 
 ignores-elevations : (o : Arrangement) → NewSurround Surround51 bank raised 2 (replicate 36 nan) (replicate 8 0) o → o .rows ≡ rowsOf (Of Surround51) 6 bank flat 2 (replicate 8 0) → ⊥
-unfolding refusalOf bank flat raised arrangement choiceOf choiceRefusal inTenths inElevation nearestFrom nearer key elevationAway apart
+unfolding refusalOf bank flat raised arrangement choiceOf choiceRefusal inTenths isElevation nearestFrom nearer key elevationAway apart
 ignores-elevations o p e = let z : _≡_ {A = ℕ} 0 1 = ap (λ (l : List ℕ). getD l 0 0) (sym e ∙ ap (λ (q : Arrangement). q .rows) (p .bits)) in omega arith
 
 -- ---- accepts a list of seven elevations

@@ -15,10 +15,6 @@ module _ {A : Type 0} where
   every-append p [] ys = refl
   every-append p (x ∷ xs) ys = rw (every-append p xs ys) (sym (and-assoc (p x) (every p xs) (every p ys)))
 
-  pub every-same : (p q : A → Bool) → ((x : A) → p x ≡ q x) → (xs : List A) → every p xs ≡ every q xs
-  every-same p q h [] = refl
-  every-same p q h (x ∷ xs) = rw (h x, every-same p q h xs)
-
   pub every-at : (p : A → Bool) (xs : List A) (d : A) (i : ℕ) → every p xs ≡ true → i < length xs → p (getD xs i d) ≡ true
   every-at p [] d i h g = absurd (omega arith)
   every-at p (x ∷ xs) d zero h g = and-eq-true-iff (p x) (every p xs) .0 h .0

@@ -22,6 +22,10 @@ pub by-test : (P : Bool → Type 0) (b : Bool) → (b ≡ true → P true) → (
 by-test P true f g = f refl
 by-test P false f g = g refl
 
+-- what does not name the test
+pub tested : {C : Type 0} (b : Bool) → (b ≡ true → C) → (b ≡ false → C) → C
+tested {C = C} b f g = by-test (λ _. C) b f g
+
 -- ---- of one of two, x and y
 
 module _ {A : Type 0} (P : A → Type 0) {x y : A} where

@@ -53,12 +53,6 @@ upper-part q u a P h pp up =
     (subst (λ (x : ℕ). 4 * a * (P * P) < x) (twice q (suc P) u) (lt-of-lt-of-le (subst (λ (x : ℕ). 4 * a * (P * P) < x) (sym (turn (suc (2 * q)) P u)) less) (mul-le-mul mu mu))))
 
 -- ---- as fractions: x is n and r is p of L to the one
-below-nat : (n p c P L : ℕ) → p * c * (p * c) * L < n * L * (P * P) * L → Less (square (signed false p L ⊗ fraction c 0 P)) (signed false n L)
-below-nat n p c P L h = omega arith
-
-above-nat : (n p c P L : ℕ) → n * L * (P * P) * L < p * c * (p * c) * L → Less (signed false n L) (square (signed false p L ⊗ fraction c 0 P))
-above-nat n p c P L h = omega arith
-
 module _ (f : Format) (x : Float) (h : T (fits f x)) (t : T (positive x)) where
   abbrev n : ℕ
   n = positive-units f x h t .w
@@ -97,12 +91,12 @@ module _ (f : Format) (x : Float) (h : T (fits f x)) (t : T (positive x)) where
     scaled-below : q * u * c * (q * u * c) < n * 2 ^ low f * (P * P) → Less (square scaled) (number x)
     scaled-below l =
         less-same (square scaled) (square (signed false (q * u) (2 ^ low f) ⊗ fraction c 0 P)) (number x) (signed false n (2 ^ low f)) square-same x-same (mul-pos scaled-pos scaled-pos) x-pos
-        (below-nat n (q * u) c P (2 ^ low f) (mul-lt-mul-of-pos-right l L))
+        (omega (arith, mul-lt-mul-of-pos-right l L))
 
     scaled-above : n * 2 ^ low f * (P * P) < q * u * c * (q * u * c) → Less (number x) (square scaled)
     scaled-above l =
         less-same (number x) (signed false n (2 ^ low f)) (square scaled) (square (signed false (q * u) (2 ^ low f) ⊗ fraction c 0 P)) x-same square-same x-pos (mul-pos scaled-pos scaled-pos)
-        (above-nat n (q * u) c P (2 ^ low f) (mul-lt-mul-of-pos-right l L))
+        (omega (arith, mul-lt-mul-of-pos-right l L))
 
   pub root-positive : T (positive (rootOf f x))
   root-positive = positive-of-value (rootOf f x) (q * u) (2 ^ low f) (root-value f x h t) (root-units-pos f x h t)

@@ -15,7 +15,7 @@ use Rattle.bank_form.proofs.Conversions.{conversion-fault}
 use Rattle.bank.specs.Writing.{WriteOutcome}
 use Rattle.bank.specs.Conversion.{conversion}
 use Rattle.bank.proofs.Converting.{version-told}
-use Rattle.row_choice.specs.Choice.{inTenths, inElevation, choiceRefusal, choiceOf}
+use Rattle.row_choice.specs.Choice.{inTenths, isElevation, choiceRefusal, choiceOf}
 use Rattle.probe_request.specs.Requests.{azimuthsLent, samplesLent}
 use Rattle.probe_answer.specs.Answers.{Draft, none}
 use Rattle.probe_answer.proofs.Answers.{untaken}
@@ -56,7 +56,7 @@ ahead = 8 ∷ 8 ∷ 0 ∷ 0 ∷ 0 ∷ 0 ∷ 0 ∷ 0 ∷ 0 ∷ 8 ∷ replicate 36
 -- the speaker's azimuth is read one byte early, and so refused
 speaker-one-byte-early : (out : List ℕ) (r : Draft) → 1 ≤ length out → r ≡ answerOf 8 ahead out
     → r ≡ choiceParts (choiceOf (signedsAt ahead 14 8) (signedsAt ahead 30 8) 8 (signedAt ahead 9) (signedAt ahead 12)) out → ⊥
-unfolding chooseFrom fieldAt signedAt valueOf strided choiceOf choiceRefusal inTenths inElevation
+unfolding chooseFrom fieldAt signedAt valueOf strided choiceOf choiceRefusal inTenths isElevation
 speaker-one-byte-early out r room is e =
     let early = choiceOf (signedsAt ahead 14 8) (signedsAt ahead 30 8) 8 (signedAt ahead 9) (signedAt ahead 12) in
     let wrong = ap (λ (d : Draft). fieldAt (d .bytes) 0 1) e ∙ first-told (early .refusal) (bytesOf 4 (early .row) ∷ []) out room .value in

@@ -2,7 +2,7 @@
 use Prim.Native.Nat.{ℕ}
 use mathlib.Core.Bool.{Bool, _&&_}
 use lib.Dec.{leb}
-use lib.IntN.{ℤ}
+use lib.IntN.{ℤ, pos, negsuc}
 use lib.Signed.{leZ}
 
 abbrev pub within : ℕ → ℕ → ℕ → Bool
@@ -11,3 +11,7 @@ within low high n = leb low n && leb n high
 -- of signed numbers
 abbrev pub between : ℤ → ℤ → ℤ → Bool
 between low high z = leZ low z && leZ z high
+
+-- an elevation in tenths of a degree, of a bank's row and of a speaker: -900 .. 900
+unfoldable pub isElevation : ℤ → Bool
+isElevation z = between (negsuc 899) (pos 900) z

@@ -13,7 +13,7 @@ use Rattle.history.specs.Signals.{damaged}
 use Rattle.rings.specs.State.{State}
 use Rattle.rings.specs.Computed.{ears, late, stepped, left, played, counted}
 use Rattle.rings.proofs.Told.{length-stored}
-use Rattle.rings.proofs.Filters.{left-alike, played-alike, counted-alike}
+use Rattle.rings.proofs.Filters.{stepped-alike, played-alike, counted-alike}
 use Rattle.stamps.specs.Events.{Event, feed, restart}
 use Rattle.stamps.specs.Computed.{feedsIn}
 use Rattle.replay.specs.Lines.{Line, setupIn}
@@ -75,24 +75,21 @@ module _ (u : Setup) where
 -- ---- set-ups with the same filters do the same
 
 module _ (u v : Setup) (a : SameFilters u v) where
-  stepped-alike : (t : State) (f : List Float) → stepped u t f ≡ stepped v t f
-  stepped-alike t f = left-alike u v a t (f ∷ [])
-
   pub left-by-alike : (t : State) (es : Events) → leftBy u t es ≡ leftBy v t es
   left-by-alike t [] = refl
-  left-by-alike t (feed s f ∷ es) = ap (λ (q : State). leftBy u q es) (stepped-alike t f) ∙ left-by-alike (stepped v t f) es
+  left-by-alike t (feed s f ∷ es) = ap (λ (q : State). leftBy u q es) (stepped-alike u v a t f) ∙ left-by-alike (stepped v t f) es
   left-by-alike t (restart ∷ es) = left-by-alike (rested t) es
 
   pub played-by-alike : (t : State) (es : Events) → playedBy u t es ≡ playedBy v t es
   played-by-alike t [] = refl
   played-by-alike t (feed s f ∷ es) =
-      cc (ap (λ (l : List (List Float)). getD l 0 []) (played-alike u v a t (f ∷ [])), ap (λ (q : State). playedBy u q es) (stepped-alike t f) ∙ played-by-alike (stepped v t f) es)
+      cc (ap (λ (l : List (List Float)). getD l 0 []) (played-alike u v a t (f ∷ [])), ap (λ (q : State). playedBy u q es) (stepped-alike u v a t f) ∙ played-by-alike (stepped v t f) es)
   played-by-alike t (restart ∷ es) = played-by-alike (rested t) es
 
   pub counted-by-alike : (t : State) (es : Events) → countedBy u t es ≡ countedBy v t es
   counted-by-alike t [] = refl
   counted-by-alike t (feed s f ∷ es) =
-      let rest : countedBy u (stepped u t f) es ≡ countedBy v (stepped v t f) es = ap (λ (q : State). countedBy u q es) (stepped-alike t f) ∙ counted-by-alike (stepped v t f) es in
+      let rest : countedBy u (stepped u t f) es ≡ countedBy v (stepped v t f) es = ap (λ (q : State). countedBy u q es) (stepped-alike u v a t f) ∙ counted-by-alike (stepped v t f) es in
       omega (arith, counted-alike u v a t (f ∷ []), rest)
   counted-by-alike t (restart ∷ es) = counted-by-alike (rested t) es
 

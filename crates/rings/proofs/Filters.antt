@@ -15,7 +15,7 @@ use Rattle.rings.specs.State.{State}
 use Rattle.rings.specs.Computed.{partOf, ringEar, stored, ears, late, stepped, left, played, lateEach, counted}
 
 module _ (u v : Setup) (a : SameFilters u v) where
-  stepped-alike : (t : State) (f : List Float) → stepped u t f ≡ stepped v t f
+  pub stepped-alike : (t : State) (f : List Float) → stepped u t f ≡ stepped v t f
   stepped-alike t f = ap (λ (w : Setup). stepped w t f) (moved-is u v a)
 
   ring-ear-alike : (ear p : ℕ) (rings : List Float) → ear < 2 → ringEar u ear p rings ≡ ringEar v ear p rings

@@ -11,7 +11,7 @@ use Rattle.refusals.specs.Refusals.{outside}
 use Rattle.refusals.proofs.First.{answered-accepted, answered-by, told-is}
 use Rattle.refusals.proofs.Chains.{first-holds, off-accepts}
 use Rattle.row_choice.specs.declared.Choice.{Choice}
-use Rattle.row_choice.specs.Choice.{inTenths, inElevation, choiceChecks, choiceRefusal, chose, refusedWith, choiceOf, Chooses}
+use Rattle.row_choice.specs.Choice.{inTenths, isElevation, choiceChecks, choiceRefusal, chose, refusedWith, choiceOf, Chooses}
 use Rattle.row_choice.specs.NearestComputed.{nearestFrom}
 use Rattle.row_choice.proofs.Takes.{takes}
 
@@ -35,11 +35,11 @@ module _ (zs es : List ℤ) (n : ℕ) (p q : ℤ) where
     no-azimuth h = refused 3 (omega arith) (first-holds 1 (choiceChecks zs es n p q) (rows, ap not h))
 
     module _ (tenths : inTenths p ≡ true) where
-      pub no-elevation : inElevation q ≡ false → Chooses zs es n p q (refusedWith 3)
+      pub no-elevation : isElevation q ≡ false → Chooses zs es n p q (refusedWith 3)
       unfolding choiceRefusal
       no-elevation h = refused 3 (omega arith) (first-holds 2 (choiceChecks zs es n p q) (rows, (ap not tenths, ap not h)))
 
-      module _ (height : inElevation q ≡ true) where
+      module _ (height : isElevation q ≡ true) where
         pub no-azimuths : (length zs ≡ 8 → ⊥) → Chooses zs es n p q (refusedWith 5)
         unfolding choiceRefusal
         no-azimuths h = refused 5 (omega arith) (first-holds 3 (choiceChecks zs es n p q) (rows, (ap not tenths, (ap not height, ap not (ne-eqb (length zs) 8 h)))))

@@ -8,7 +8,7 @@ use lib.Dec.{lit<, lit≤}
 use lib.IntN.{ℤ, pos}
 use lib.ListN.{length, getD}
 use Rattle.row_choice.specs.declared.Choice.{Choice}
-use Rattle.row_choice.specs.Choice.{inTenths, inElevation, choiceRefusal, Chooses}
+use Rattle.row_choice.specs.Choice.{inTenths, isElevation, choiceRefusal, Chooses}
 use Rattle.row_choice.specs.Nearest.{apart, TakesByAzimuth, Flat}
 use Rattle.row_choice.proofs.Takes.{takes-one}
 use Rattle.row_choice.proofs.Answers.{refusal-is}
@@ -23,7 +23,7 @@ two P x y (suc (suc j)) h = absurd (omega arith)
 -- lists of 8 that start with rows at 0 and 450, at elevation 0; what stands beyond the two rows does not count
 module _ (rest : List ℤ) (six : length rest ≡ 6) (heights : List ℤ) (six-heights : length heights ≡ 6) (r : Choice) where
   accepted : (p : ℤ) → inTenths p ≡ true → choiceRefusal (pos 0 ∷ pos 450 ∷ rest) (pos 0 ∷ pos 0 ∷ heights) 2 p (pos 0) ≡ 0
-  unfolding choiceRefusal inElevation
+  unfolding choiceRefusal isElevation
   accepted p h = rw (h, six, six-heights)
 
   at-zero : (j : ℕ) → j < 2 → getD (pos 0 ∷ pos 0 ∷ heights) j (pos 0) ≡ pos 0

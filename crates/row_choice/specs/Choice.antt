@@ -8,6 +8,7 @@ use lib.Dec.{eqb}
 use lib.IntN.{ℤ, pos, negsuc}
 use lib.ListN.{length}
 use Rattle.refusals.specs.Ranges.{between}
+unfoldable pub use Rattle.refusals.specs.Ranges.{isElevation}
 use Rattle.refusals.specs.Refusals.{Check, _when_, firstOf, answered, outside}
 use Rattle.row_choice.specs.declared.Choice.{Choice}
 use Rattle.row_choice.specs.Nearest.{Takes, TakesByAzimuth, Flat}
@@ -17,12 +18,8 @@ use Rattle.row_choice.specs.NearestComputed.{nearestFrom}
 unfoldable pub inTenths : ℤ → Bool
 inTenths p = between (negsuc 1799) (pos 1800) p
 
--- a speaker's elevation, -900 .. 900
-unfoldable pub inElevation : ℤ → Bool
-inElevation q = between (negsuc 899) (pos 900) q
-
 abbrev pub choiceChecks : List ℤ → List ℤ → ℕ → ℤ → ℤ → List Check
-choiceChecks zs es n p q = 2 when outside n 8 ∷ 3 when not (inTenths p) ∷ 3 when not (inElevation q) ∷ 5 when not (eqb (length zs) 8) ∷ 5 when not (eqb (length es) 8) ∷ []
+choiceChecks zs es n p q = 2 when outside n 8 ∷ 3 when not (inTenths p) ∷ 3 when not (isElevation q) ∷ 5 when not (eqb (length zs) 8) ∷ 5 when not (eqb (length es) 8) ∷ []
 
 unfoldable pub choiceRefusal : List ℤ → List ℤ → ℕ → ℤ → ℤ → ℕ
 choiceRefusal zs es n p q = firstOf (choiceChecks zs es n p q)

@@ -55,9 +55,6 @@ unfolding sineSum cosineSum term power factorial radians
 around-half sine = within-computed 53 _ _ tt
 around-half cosine = within-computed 53 _ _ tt
 
-high-nat : (r o o' t W : ℕ) → r * o' * W * o ≤ 180 * (o * o') * W * o → (r * 1 + 0 * o) * (W * (o * o')) ≤ (180 * o + 0 * 1) * (W * (o * o')) + t * W * (o * 1)
-high-nat r o o' t W h = let h' = simp ring at h in simp ring (omega arith)
-
 low-nat : (r o o' t W : ℕ) → (r * o' + t) * (W * o) ≡ 180 * (o * o') * (W * o) → (0 * 1 + 180 * o) * (W * (o * o')) ≤ (0 * o + r * 1) * (W * (o * o')) + t * W * (o * 1)
 low-nat r o o' t W h = let h' = simp ring at h in simp ring (omega arith)
 
@@ -66,7 +63,7 @@ to-half : (r o o' t W : ℕ) → 0 < o → r * o' + t ≡ 180 * (o * o') → Clo
 to-half r o o' t W O e = record {
   first = O;
   second = lit< tt;
-  above = high-nat r o o' t W (mul-le-mul-right o (mul-le-mul-right W (le-intro (r * o') t e)));
+  above = omega (arith, mul-le-mul-right o (mul-le-mul-right W (le-intro (r * o') t e)));
   below = low-nat r o o' t W (ap (λ (n : ℕ). n * (W * o)) e);
 }
 
@@ -82,10 +79,6 @@ from-half s o o' t W O l e =
 
     turn-nat : (s o o' u t : ℕ) → (s + u) * o' ≡ 360 * o * o' → s * o' ≡ 180 * (o * o') + t → u * o' + t ≡ 180 * (o * o')
     turn-nat s o o' u t f e = let f' = simp ring at f in simp ring (omega arith)
-
--- the three steps, counted in units of 1 / (4 K W n), with K for 2 ^ 53
-both-nat : (t u W E n A B : ℕ) → (A + t) * W ≡ 180 * n * W → (180 * n + u) * W ≡ B * W → B * W ≤ A * W + E * n → t * W + u * W ≤ E * n
-both-nat t u W E n A B e f g = omega arith
 
 steps-nat : (K t u W E n : ℕ) → K * K * W * (t * W + u * W) ≤ K * K * W * (E * n) → (K * (t * W) + 4 * (W * n) + K * (u * W)) * (K * 4 * W) ≤ (K * E + 4 * W) * (K * (4 * (W * n)))
 steps-nat K t u W E n h = let h' = simp ring at h in simp ring (omega arith)
@@ -115,7 +108,7 @@ module _ (w : Wave) (r o s o' W E : ℕ) (O : 0 < o) (O' : 0 < o') (w-pos : 0 < 
           let last = close-unit V-pos (unit-nat K (u * W) U) (degrees-close w U-pos (size-opposite full) (high-size s o' l m) b) in
           let middle : Close (K * (4 * U)) (wave w (whole 180)) (wave w (opposite (whole 180))) (4 * U) = close-unit (lit< tt) (omega arith) (within-close (around-half w)) in
           close-unit (mul-pos {m = K} (lit< tt) V-pos)
-          (steps-nat K t u W E n (mul-le-mul-left (K * K * W) (both-nat t u W E n (r * o') (s * o) (ap (λ (x : ℕ). x * W) e) (ap (λ (x : ℕ). x * W) f) g))) (close-trans (close-trans first middle) last)
+          (steps-nat K t u W E n (mul-le-mul-left (K * K * W) (omega (arith, ap (λ (x : ℕ). x * W) e, ap (λ (x : ℕ). x * W) f)))) (close-trans (close-trans first middle) last)
 
 -- ---- from any place to any other that is E / W away at most, one way round or the other
 

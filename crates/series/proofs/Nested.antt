@@ -7,10 +7,10 @@ use native.Mathlib.Nat.{add-comm, mul-pos, sub-zero}
 use native.Mathlib.Numerals.{add-one, add-two}
 use native.Mathlib.Omega.{arith}
 use lib.Dec.{lit<}
-use Rattle.fractions.specs.Fraction.{Fraction, whole, opposite, square, _⊕_, _⊖_, _⊗_, _⊘_, Same}
+use Rattle.fractions.specs.Fraction.{Fraction, whole, square, _⊕_, _⊖_, _⊗_, _⊘_, Same}
 use Rattle.fractions.proofs.Ring.{ring}
-use Rattle.fractions.proofs.Order.{same-refl, same-sym, same-trans}
-use Rattle.fractions.proofs.Restate.{equal, equal-same, over-one, same-sub, ⊕-assoc, ⊗-assoc, ⊗-comm, ⊗-one, one-⊗, ⊗-opposite, ⊗-over, ⊗-⊕}
+use Rattle.fractions.proofs.Order.{same-refl, same-trans}
+use Rattle.fractions.proofs.Restate.{equal, equal-same, over-one, same-sub, ⊕-assoc, ⊗-assoc, ⊗-comm, ⊗-one, one-⊗, ⊗-over}
 use Rattle.series.specs.Sums.{factorial, power, term, Wave, sine, cosine, sum}
 use Rattle.series.proofs.Terms.{flipped, in-turn, first, others, sum-in-turn, term-pos}
 
@@ -36,10 +36,7 @@ flipped-sub true t u = refl
 tail-in-turn : (x : Fraction) (n j : ℕ) (s : Bool) (a : Fraction) → in-turn x s a (from j n) ≡ a ⊕ flipped s (tail x j n)
 unfolding in-turn from tail
 tail-in-turn x zero j s a = refl
-tail-in-turn x (suc n) j s a =
-    tail-in-turn x n (j + 2) (not s) (a ⊕ flipped s (term x j))
-    ∙ ⊕-assoc a (flipped s (term x j)) (flipped (not s) (tail x (j + 2) n))
-    ∙ ap (λ (t : Fraction). a ⊕ t) (flipped-sub s (term x j) (tail x (j + 2) n))
+tail-in-turn x (suc n) j s a = cc (tail-in-turn x n (j + 2) (not s) (a ⊕ flipped s (term x j)), ⊕-assoc a (flipped s (term x j)) (flipped (not s) (tail x (j + 2) n)), flipped-sub s (term x j) (tail x (j + 2) n))
 
 -- how many terms follow the first
 abbrev following : Wave → ℕ
@@ -79,10 +76,10 @@ nested-pos y Y (suc n) j = mul-pos {m = 1} (lit< tt) (mul-pos (mul-pos Y (nested
 
 -- t Y B is t (y B / c), with Y for y / c
 regrouped : (t y b c : Fraction) → t ⊗ (y ⊘ c) ⊗ b ≡ t ⊗ (y ⊗ b ⊘ c)
-regrouped t y b c = ⊗-assoc t (y ⊘ c) b ∙ ap (λ (z : Fraction). t ⊗ z) (⊗-comm (y ⊘ c) b ∙ sym (⊗-over b y c) ∙ ap (λ (z : Fraction). z ⊘ c) (⊗-comm b y))
+regrouped t y b c = cc (⊗-assoc t (y ⊘ c) b, ⊗-comm (y ⊘ c) b, ⊗-over b y c, ⊗-comm b y)
 
 taken-out : (t z : Fraction) → Same (t ⊖ t ⊗ z) (t ⊗ (whole 1 ⊖ z))
-taken-out t z = same-sym (t ⊗ (whole 1 ⊖ z)) (t ⊖ t ⊗ z) (subst (λ (u : Fraction). Same (t ⊗ (whole 1 ⊖ z)) u) (λ i. ⊗-one t i ⊕ ⊗-opposite t z i) (⊗-⊕ t (whole 1) (opposite z)))
+taken-out t z = omega arith
 
 module _ (x : Fraction) (X : 0 < x .over) where
   tail-nested : (n j : ℕ) → Same (tail x j n) (term x j ⊗ nested (square x) j n)

@@ -1,6 +1,6 @@
 -- The defined values from the place that an angle is turned to, at a multiple of 90 and off it. The exact values are 2 ^ -54 at most away from the sums in whose stead they stand, so that what holds of
 -- the sums at the reduced angle holds of the defined values but for that; and the sum of their squares is 1, as that of the sums is up to 2 ^ -50. Assumes nothing.
-use mathlib.Core.Path.{_≡_, refl, sym, ap, subst}
+use mathlib.Core.Path.{_≡_, refl, sym, subst}
 use mathlib.Core.Bool.{Bool, cond}
 use mathlib.Core.List.{[], _∷_}
 use Prim.Native.Nat.{ℕ, _+_, _*_, _/_, _%_, _≤_, _<_}
@@ -75,7 +75,7 @@ place r o w = cond (eqb (r % (90 * o)) 0) (exact-at w (r / (90 * o))) (wave w (a
 
 pub defined-place : (w : Wave) (d : Fraction) → defined w d ≡ place (turned d) (d .over) w
 unfolding defined isMultiple quarters place
-defined-place w d = ap (λ (x : Fraction). cond (eqb (turned d % (90 * d .over)) 0) (exact-at w (turned d / (90 * d .over))) (wave w x)) (reduced-around d)
+defined-place w d = cc (reduced-around d)
 
 -- what is to hold there of the two waves is shown at the multiples of 90 and off them
 pub by-multiple : (P : (Wave → Fraction) → Type 0) (r o : ℕ) → 0 < o → r < 360 * o → ((k : ℕ) → k < 4 → r ≡ k * (90 * o) → P (λ w. exact-at w k)) → ((r % (90 * o) ≡ 0 → ⊥) → P (λ w. wave w (around r o))) → P (place r o)

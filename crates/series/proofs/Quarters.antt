@@ -1,36 +1,30 @@
 -- What a quarter turn more makes of the defined values: the sine becomes the cosine, and the cosine the opposite of the sine, up to 2 ^ -51. First for the sums from -180 to 180, where the law of the sums
 -- around 0 serves in front, and twice or three times over behind. Assumes nothing.
 use mathlib.Core.Path.{_≡_, refl}
-use Prim.Native.Nat.{ℕ, _+_, _*_, _^_, _≤_, _<_}
+use Prim.Native.Nat.{_+_, _*_, _^_, _≤_, _<_}
 use native.Mathlib.Nat.{mul-pos}
 use native.Mathlib.Decide.{decLe}
 use native.Mathlib.Omega.{arith}
 use lib.Dec.{lit<, lit≤}
 use Rattle.fractions.specs.Fraction.{Fraction, whole, opposite, _⊕_, _⊖_, Same, Within}
-use Rattle.fractions.proofs.Ring.{ring}
 use Rattle.fractions.proofs.Order.{same-refl, same-trans}
 use Rattle.fractions.proofs.Close.{Close, Size, close-sym, close-trans, close-opposite, close-same, close-wider}
 use Rattle.fractions.proofs.Within.{within-close, counted-within, within-same}
 use Rattle.series.specs.Sums.{Wave, sine, cosine, sum}
 use Rattle.series.specs.Angles.{reduced, Reduces, radians, defined}
 use Rattle.series.proofs.Terms.{sum-same}
-use Rattle.series.proofs.Sums.{half, quarter, parts, after, quarter-turn, sum-quarter}
+use Rattle.series.proofs.Sums.{half, quarter, after, quarter-turn, sum-quarter}
 use Rattle.series.proofs.Reduction.{reduces, reduced-pos, reduced-unique}
 use Rattle.series.proofs.Places.{radians-is, radians-pos, radians-quarter, wave, wave-pos, wave-same, wave-opposite, defined-sum}
 
 -- ---- the sums, from -180 to 180
-
-more-nat : (p m o Q P : ℕ)
-    → (90 * o + p * 1) * (2 * Q) * (P * (o * (180 * P))) + (0 * (o * (180 * P)) + m * (2 * Q) * P) * (1 * o * (180 * P))
-    ≡ (Q * (o * (180 * P)) + p * (2 * Q) * P) * (1 * o * (180 * P)) + (0 * o + m * 1) * (2 * Q) * (P * (o * (180 * P)))
-more-nat p m o Q P = simp ring (omega arith)
 
 half-is : half ≡ 2 * quarter
 unfolding half quarter
 half-is = refl
 
 radians-more : (a : Fraction) → Same (radians (whole 90 ⊕ a)) (quarter-turn ⊕ radians a)
-radians-more a = rw (radians-is a, radians-is (whole 90 ⊕ a), half-is) (more-nat (a .plus) (a .minus) (a .over) quarter parts)
+radians-more a = rw (radians-is a, radians-is (whole 90 ⊕ a), half-is) (omega arith)
 
 -- from -90 to 90, the angle c being named otherwise
 front : (w : Wave) (a c : Fraction) → 0 < a .over → 0 < c .over → Size 1 a 90 → Same c (whole 90 ⊕ a) → Close (2 ^ 54) (wave w c) (after w (λ v. wave v a)) 1
@@ -95,26 +89,17 @@ reduced-to w d b y D B h c =
     let R = reduced-pos d D in
     close-same (wave w (reduced d)) y (wave-pos w (reduced d) R) (c .second) (wave-same w (reduced d) b (reduced-unique d (reduced d) b D R B (reduces d D) h)) (same-refl y) c
 
-front-nat : (p m o p' m' o' i j : ℕ) → (p * 1 + 360 * i * o) * (o' * 1) + (m' * 1 + 0 * o') * (o * 1) ≡ (p' * 1 + 360 * j * o') * (o * 1) + (m * 1 + 0 * o) * (o' * 1)
-    → ((p * 1 + 90 * o) * 1 + 360 * i * (o * 1)) * (1 * o' * 1) + ((0 * o' + m' * 1) * 1 + 0 * (1 * o')) * (o * 1 * 1) ≡ ((90 * o' + p' * 1) * 1 + 360 * j * (1 * o')) * (o * 1 * 1) + ((m * 1 + 0 * o) * 1 + 0 * (o * 1)) * (1 * o' * 1)
-front-nat p m o p' m' o' i j e = let e' = simp ring at e in simp ring (omega arith)
-
-back-nat : (p m o p' m' o' i j : ℕ) → (p * 1 + 360 * i * o) * (o' * 1) + (m' * 1 + 0 * o') * (o * 1) ≡ (p' * 1 + 360 * j * o') * (o * 1) + (m * 1 + 0 * o) * (o' * 1)
-    → ((p * 1 + 90 * o) * 1 + 360 * i * (o * 1)) * (o' * 1 * 1) + ((m' * 1 + 270 * o') * 1 + 0 * (o' * 1)) * (o * 1 * 1)
-    ≡ ((p' * 1 + 0 * o') * 1 + 360 * (j + 1) * (o' * 1)) * (o * 1 * 1) + ((m * 1 + 0 * o) * 1 + 0 * (o * 1)) * (o' * 1 * 1)
-back-nat p m o p' m' o' i j e = let e' = simp ring at e in simp ring (omega arith)
-
 module _ (d a : Fraction) (A : 0 < a .over) (h : Reduces d a) where
   -- a quarter turn more of the reduced angle, and 360 less where that passes 180
   quarter-more : a .plus ≤ a .minus + 90 * a .over → Reduces (d ⊕ whole 90) (whole 90 ⊕ a)
   quarter-more k =
       let (i, j, e) = h .turns in
-      record { turns = (i, j, front-nat (d .plus) (d .minus) (d .over) (a .plus) (a .minus) (a .over) i j e); above = omega (arith, h .above); most = omega arith }
+      record { turns = (i, j, (omega arith)); above = omega (arith, h .above); most = omega arith }
 
   quarter-less : a .minus + 90 * a .over < a .plus → Reduces (d ⊕ whole 90) (a ⊖ whole 270)
   quarter-less k =
       let (i, j, e) = h .turns in
-      record { turns = (i, j + 1, back-nat (d .plus) (d .minus) (d .over) (a .plus) (a .minus) (a .over) i j e); above = omega arith; most = omega (arith, h .most) }
+      record { turns = (i, j + 1, (omega arith)); above = omega arith; most = omega (arith, h .most) }
 
 module _ (w : Wave) (d : Fraction) (D : 0 < d .over) where
   reduced-quarter : Close (2 ^ 54) (wave w (reduced (d ⊕ whole 90))) (after w (λ v. wave v (reduced d))) 3

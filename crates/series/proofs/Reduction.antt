@@ -38,10 +38,6 @@ turned-less d D = mod-lt (d .plus + (360 * d .over - d .minus % (360 * d .over))
 same-place : (t r s u v : ℕ) → r < t → s < t → r + t * u ≡ s + t * v → r ≡ s
 same-place t r s u v h k e = sym (mod-eq-of-lt h) ∙ sym (add-mul-mod-self-left r t u) ∙ ap (λ (n : ℕ). n % t) e ∙ add-mul-mod-self-left s t v ∙ mod-eq-of-lt k
 
-place-nat : (p m o r a b p' m' o' r' a' b' i j : ℕ) → (p + 360 * o * a) * o' ≡ (m + r + 360 * o * b) * o' → (p' + 360 * o' * a') * o ≡ (m' + r' + 360 * o' * b') * o
-    → (p * 1 + 360 * i * o) * (o' * 1) + (m' * 1 + 0 * o') * (o * 1) ≡ (p' * 1 + 360 * j * o') * (o * 1) + (m * 1 + 0 * o) * (o' * 1) → r * o' + 360 * (o * o') * (i + b + a') ≡ r' * o + 360 * (o * o') * (j + a + b')
-place-nat p m o r a b p' m' o' r' a' b' i j h k e = let h' = simp ring at h in let k' = simp ring at k in let e' = simp ring at e in simp ring (omega arith)
-
 less-nat : (r o o' : ℕ) → r < 360 * o → 0 < o' → r * o' < 360 * (o * o')
 less-nat r o o' h k = omega (arith, mul-lt-mul-of-pos-right h k)
 
@@ -55,8 +51,7 @@ module _ (d e : Fraction) (D : 0 < d .over) (E : 0 < e .over) where
       let a = turned-turns d D in
       let b = turned-turns e E in
       same-place (360 * (d .over * e .over)) (turned d * e .over) (turned e * d .over) (i + a .forth + b .back) (j + a .back + b .forth) (turned-less-both .0) (turned-less-both .1)
-      (place-nat (d .plus) (d .minus) (d .over) (turned d) (a .back) (a .forth) (e .plus) (e .minus) (e .over) (turned e) (b .back) (b .forth) i j
-      (ap (λ (n : ℕ). n * e .over) (a .round)) (ap (λ (n : ℕ). n * d .over) (b .round)) h)
+      (omega (arith, ap (λ (n : ℕ). n * e .over) (a .round), ap (λ (n : ℕ). n * d .over) (b .round)))
 
   pub turned-same : Same d e → turned d * e .over ≡ turned e * d .over
   turned-same h = turned-apart 0 0 (none (d .plus) (d .minus) (d .over) (e .plus) (e .minus) (e .over) h)
@@ -157,10 +152,6 @@ pub data Near (w e n a b : ℕ) : Type 0 where
   ahead : a * w + 360 * n * w ≤ b * w + e * n → Near w e n a b
   behind : b * w + 360 * n * w ≤ a * w + e * n → Near w e n a b
 
-near-nat : (p m o r a b p' m' o' r' a' b' : ℕ) → (p + 360 * o * a) * o' ≡ (m + r + 360 * o * b) * o' → (p' + 360 * o' * a') * o ≡ (m' + r' + 360 * o' * b') * o
-    → p * o' + m' * o + r' * o + 360 * (o * o') * (a + b') ≡ p' * o + m * o' + r * o' + 360 * (o * o') * (b + a')
-near-nat p m o r a b p' m' o' r' a' b' h k = let h' = simp ring at h in let k' = simp ring at k in simp ring (omega arith)
-
 level-nat : (w f x y a b : ℕ) → (x + b) * w ≡ (y + a) * w → x * w ≤ y * w + f → a * w ≤ b * w + f
 level-nat w f x y a b i h = omega arith
 
@@ -178,8 +169,7 @@ turned-near d e {w} {t} c =
     let b = turned-turns e (c .second) in
     near-of w t (d .over * e .over) (d .plus * e .over + e .minus * d .over) (e .plus * d .over + d .minus * e .over) (turned d * e .over) (turned e * d .over)
     (apart (360 * (d .over * e .over)) (d .plus * e .over + e .minus * d .over + turned e * d .over) (e .plus * d .over + d .minus * e .over + turned d * e .over) (a .back + b .forth) (a .forth + b .back)
-    (near-nat (d .plus) (d .minus) (d .over) (turned d) (a .back) (a .forth) (e .plus) (e .minus) (e .over) (turned e) (b .back) (b .forth)
-    (ap (λ (n : ℕ). n * e .over) (a .round)) (ap (λ (n : ℕ). n * d .over) (b .round)))) (c .above) (omega (arith, c .below))
+    (omega (arith, ap (λ (n : ℕ). n * e .over) (a .round), ap (λ (n : ℕ). n * d .over) (b .round)))) (c .above) (omega (arith, c .below))
 
 -- ---- the opposite angle's place: the two make up a turn, or both are 0
 

@@ -52,9 +52,6 @@ pub bottom-pos : (k : ℕ) → 0 < k → 0 < bottom k
 unfolding bottom
 bottom-pos k h = mul-pos common-pos (raised-pos (k * parts) 29 (mul-pos h parts-pos))
 
-larger-nat : (p m e f r : ℕ) → p * (f * (e * r)) + e * m * (f * r) ≡ e * p * (f * r) + m * (f * (e * r))
-larger-nat p m e f r = omega arith
-
 pub sum-larger : (w : Wave) (x : Fraction) → 0 < x .over → (e k : ℕ) → e * x .over ≡ k * parts → Same (sum w x) (quotient (top w (e · numerator x) k) (bottom k))
 unfolding top bottom valued
 sum-larger w x X e k i =
@@ -63,7 +60,7 @@ sum-larger w x X e k i =
     let v = value 29 cs (numerator x) d in
     subst (λ (n : ℕ). Same (sum w x) (quotient (value 29 cs (e · numerator x) n) (common * raised n 29))) i
     (same-trans (sum w x) (valued cs x) (quotient (value 29 cs (e · numerator x) (e * d)) (common * raised (e * d) 29)) (valued-pos x X cs) (sum-valued x X w)
-    (rw (value-larger e 29 cs (numerator x) d, raised-times e d 29) (larger-nat (v .plus) (v .minus) (raised e 29) common (raised d 29))))
+    (rw (value-larger e 29 cs (numerator x) d, raised-times e d 29) (omega arith)))
 
 sum-over : (w : Wave) (x : Fraction) → 0 < x .over → (f k : ℕ) → f * x .over ≡ k → Same (sum w x) (quotient (top w (numerator-by f x) k) (bottom k))
 sum-over w x X f k i = sum-larger w x X (f * parts) k (mul-right-comm f parts (x .over) ∙ ap (λ (n : ℕ). n * parts) i)
@@ -72,9 +69,7 @@ reach-nat : (p m d f P H : ℕ) → p * P * f ≤ (m * P + H * d) * f → f * P 
 reach-nat p m d f P H h = let h' = simp ring at h in simp ring (omega arith)
 
 reached : {a : ℕ} (x : Fraction) (f k : ℕ) → f * x .over ≡ k → Size parts x a → Bounded (numerator-by f x) (k * a)
-reached {a} x f k i h =
-    subst (λ (k : ℕ). Bounded (numerator-by f x) (k * a)) i
-    (record { up = reach-nat (x .plus) (x .minus) (x .over) f parts a (mul-le-mul-right f (h .above)); down = reach-nat (x .minus) (x .plus) (x .over) f parts a (mul-le-mul-right f (h .below)) })
+reached {a} x f k i h = rw (← i) (record { up = reach-nat (x .plus) (x .minus) (x .over) f parts a (mul-le-mul-right f (h .above)); down = reach-nat (x .minus) (x .plus) (x .over) f parts a (mul-le-mul-right f (h .below)) })
 
 -- ---- how steep: |S(x) - S(y)| ≤ 12 |x - y|, and so for C
 

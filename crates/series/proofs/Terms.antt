@@ -1,9 +1,9 @@
 -- The sums, term by term: what is shown here of a sum holds because it holds of each term. The sum at another name of the same number, the sum at -x, and each sum as a polynomial with
 -- whole coefficients over 28!, to which Bounds.antt applies. Assumes nothing.
-use mathlib.Core.Path.{_≡_, refl, sym, ap, _∙_, subst}
+use mathlib.Core.Path.{_≡_, refl, ap, _∙_, subst}
 use mathlib.Core.Bool.{Bool, true, false, not, _&&_, Bool·beq}
 use mathlib.Core.List.{List, [], _∷_}
-use Prim.Native.Nat.{ℕ, zero, suc, _+_, _*_, _-_, _/_, _<_, zero-le}
+use Prim.Native.Nat.{ℕ, zero, suc, _*_, _-_, _/_, _<_, zero-le}
 use native.Mathlib.Nat.{mul-pos, sub-zero, zero-lt-suc}
 use native.Mathlib.Omega.{arith}
 use lib.Dec.{T, eqb, eqb→eq, lit<}
@@ -107,7 +107,7 @@ flipped-times true x y = ⊗-opposite (opposite x) y ∙ ap opposite (opposite-�
 power-opposite : (x : Fraction) (n : ℕ) → power (opposite x) n ≡ flipped (odd n) (power x n)
 unfolding power odd
 power-opposite x zero = refl
-power-opposite x (suc n) = ap (λ (y : Fraction). opposite x ⊗ y) (power-opposite x n) ∙ flipped-times (odd n) x (power x n)
+power-opposite x (suc n) = cc (power-opposite x n, flipped-times (odd n) x (power x n))
 
 term-opposite : (x : Fraction) (n : ℕ) (b : Bool) → odd n ≡ b → term (opposite x) n ≡ flipped b (term x n)
 unfolding term
@@ -134,10 +134,7 @@ alike-is false false h = refl
 opposite-in-turn : (x : Fraction) (b s : Bool) (a : Fraction) (js : List ℕ) → T (every (alike b) js) → in-turn (opposite x) s (flipped b a) js ≡ flipped b (in-turn x s a js)
 unfolding in-turn alike
 opposite-in-turn x b s a [] h = refl
-opposite-in-turn x b s a (j ∷ js) h =
-    ap (λ (t : Fraction). in-turn (opposite x) (not s) (flipped b a ⊕ flipped s t) js) (term-opposite x j b (alike-is (odd j) b (and-l (alike b j) (every (alike b) js) h)))
-    ∙ ap (λ (t : Fraction). in-turn (opposite x) (not s) t js) (flipped-add b s a (term x j))
-    ∙ opposite-in-turn x b (not s) (a ⊕ flipped s (term x j)) js (and-r (alike b j) (every (alike b) js) h)
+opposite-in-turn x b s a (j ∷ js) h = cc (term-opposite x j b (alike-is (odd j) b (and-l (alike b j) (every (alike b) js) h)), flipped-add b s a (term x j), opposite-in-turn x b (not s) (a ⊕ flipped s (term x j)) js (and-r (alike b j) (every (alike b) js) h))
 
 -- what -x makes of a sine, and of a cosine
 abbrev pub mirrored : Wave → Fraction → Fraction
@@ -145,11 +142,7 @@ mirrored sine x = opposite x
 mirrored cosine x = x
 
 opposite-sum : (w : Wave) (b : Bool) (x : Fraction) → odd (first w) ≡ b → T (every (alike b) (others w)) → sum w (opposite x) ≡ flipped b (sum w x)
-opposite-sum w b x e h =
-    sum-in-turn w (opposite x)
-    ∙ ap (λ (t : Fraction). in-turn (opposite x) true t (others w)) (term-opposite x (first w) b e)
-    ∙ opposite-in-turn x b true (term x (first w)) (others w) h
-    ∙ ap (flipped b) (sym (sum-in-turn w x))
+opposite-sum w b x e h = cc (sum-in-turn w (opposite x), term-opposite x (first w) b e, opposite-in-turn x b true (term x (first w)) (others w) h, sum-in-turn w x)
 
 pub sum-opposite : (w : Wave) (x : Fraction) → sum w (opposite x) ≡ mirrored w (sum w x)
 unfolding first others odd alike
@@ -193,9 +186,6 @@ unfolding value further monomial power
 value-monomial x zero m c = rw (value-none (numerator x) (x .over) m) (by-parts (omega arith) (omega arith))
 value-monomial x (suc j) m c = rw (value-monomial x j m c) (by-parts (omega arith) (omega arith))
 
-term-nat : (p m D E c f : ℕ) → p * 1 * (c * f * (E * D)) + (p * (D * 0) + m * (D * c)) * (E * f) ≡ (p * (D * c) + m * (D * 0)) * (E * f) + m * 1 * (c * f * (E * D))
-term-nat p m D E c f = omega arith
-
 -- what a polynomial over 28! is at x, as a fraction
 unfoldable pub valued : List Whole → Fraction → Fraction
 valued us x = quotient (value 29 us (numerator x) (x .over)) (common * raised (x .over) 29)
@@ -218,12 +208,6 @@ pub common-pos : 0 < common
 unfolding common factorial
 common-pos = lit< tt
 
-sum-nat : (u v u' v' N : ℕ) → (u * N + v * N) * N + (u' + v') * (N * N) ≡ (u + v) * (N * N) + (u' * N + v' * N) * N
-sum-nat u v u' v' N = omega arith
-
-taken-nat : (bp bm bo vp vm N : ℕ) → bp * N + vm * bo ≡ vp * bo + bm * N → bm * N + (0 * vm + 1 * vp) * bo ≡ (0 * vp + 1 * vm) * bo + bp * N
-taken-nat bp bm bo vp vm N h = omega arith
-
 module _ (x : Fraction) (X : 0 < x .over) where
   pub valued-pos : (us : List Whole) → 0 < valued us x .over
   unfolding valued
@@ -233,7 +217,7 @@ module _ (x : Fraction) (X : 0 < x .over) where
   unfolding term
   term-value j m c e =
       rw (value-monomial x j m (more c), raised-further (x .over) j (suc m), power-over x j, sub-zero (factorial j), ← e)
-      (term-nat (power x j .plus) (power x j .minus) (raised (x .over) (suc m)) (raised (x .over) j) c (factorial j))
+      (omega arith)
 
   term-valued : (j : ℕ) → T (apt j) → Same (term x j) (valued (share j) x)
   unfolding valued share apt
@@ -251,14 +235,14 @@ module _ (x : Fraction) (X : 0 < x .over) where
       let v = value 29 vs (numerator x) (x .over) in
       let N = common * raised (x .over) 29 in
       same-trans (a ⊕ b) (quotient u N ⊕ quotient v N) (quotient (value 29 (add us vs) (numerator x) (x .over)) N) (mul-pos (valued-pos us) (valued-pos vs)) (same-add a (quotient u N) b (quotient v N) h k)
-      (rw (value-add (numerator x) (x .over) 29 us vs) (sum-nat (u .plus) (v .plus) (u .minus) (v .minus) N))
+      (rw (value-add (numerator x) (x .over) 29 us vs) (omega arith))
 
   flipped-valued : (s : Bool) (b : Fraction) (vs : List Whole) → Same b (valued vs x) → Same (flipped s b) (valued (times (sign s) vs) x)
   unfolding valued
   flipped-valued false b vs k = rw (value-times (numerator x) (x .over) 29 (more 1) vs) (omega arith)
   flipped-valued true b vs k =
       let v = value 29 vs (numerator x) (x .over) in
-      rw (value-times (numerator x) (x .over) 29 (less 1) vs) (taken-nat (b .plus) (b .minus) (b .over) (v .plus) (v .minus) (common * raised (x .over) 29) k)
+      rw (value-times (numerator x) (x .over) 29 (less 1) vs) (omega arith)
 
   valued-in-turn : (s : Bool) (a : Fraction) (us : List Whole) (js : List ℕ) → Same a (valued us x) → T (every apt js) → Same (in-turn x s a js) (valued (gathered s us js) x)
   unfolding in-turn gathered

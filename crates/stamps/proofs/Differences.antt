@@ -40,12 +40,6 @@ difference-half d most = simp (ne-eqb d 0 (λ e. omega arith), lt-leb d 4096 (om
 
 -- ---- what a kind tells of the difference
 
-pub next-difference : (d : ℕ) → comingBy d ≡ Next → d ≡ 0
-next-difference d = by-difference (λ c. c ≡ Next → d ≡ 0) d (λ e k. e) (λ s f k. off (cc)) (λ a b k. off (cc)) (λ a k. off (cc))
-  where
-    off : _≡_ {A = ℕ} 0 1 → d ≡ 0
-    off z = omega arith
-
 pub ahead-difference : (d k : ℕ) → comingBy d ≡ Ahead k → (d ≡ k) × ((0 < d) × (d ≤ 4096))
 ahead-difference d k = by-difference (λ c. c ≡ Ahead k → (d ≡ k) × ((0 < d) × (d ≤ 4096))) d (λ e h. off (cc)) (λ s f h. (cc, (s, f))) (λ a b h. off (cc)) (λ a h. off (cc))
   where

@@ -54,11 +54,8 @@ module _ (a d : Fraction) (p m : ℕ) (A : 0 < a .over) (D : 0 < d .over) (s : S
   long-over : 0 < long .over
   long-over = mul-pos {n = 1} A (lit< tt)
 
-  long-above : AtMost (whole 0) long
-  long-above = omega arith
-
   above : AtMost (whole 0) d
-  above = at-most-same (whole 0) (whole 0) d long (same-refl (whole 0)) s (lit< tt) long-over long-above
+  above = at-most-same (whole 0) (whole 0) d long (same-refl (whole 0)) s (lit< tt) long-over (omega arith)
 
   made : Way a (fraction p m 1) d
   made = record {

@@ -9,6 +9,7 @@ use borrow.Author.Tests.{lt-ltb, le-ltb, ltb-false}
 use lib.Dec.{ltb}
 use lib.ListN.{length}
 use lib.Ieee.{Float}
+use Rattle.lists.proofs.Tests.{tested}
 use Rattle.refusals.specs.Refusals.{firstOf, _when_}
 use Rattle.lists.specs.Placed.{placed}
 use Rattle.lists.proofs.Placed.{placed-none}
@@ -38,11 +39,9 @@ module _ (bytes : List ℕ) (stride : ℕ) (inputs : List Float) where
 
   -- whichever it is, no more frames than there are bytes for
   pub taken-few : (r : FramesTaken) → r ≡ framesTaken bytes stride inputs → r .answer .frames * 24 ≤ length bytes
-  taken-few r e = go (unfit (length inputs) 6 stride (wholeIn 24 bytes)) refl
-    where
-      go : (b : Bool) → unfit (length inputs) 6 stride (wholeIn 24 bytes) ≡ b → r .answer .frames * 24 ≤ length bytes
-      go true h = let none : r .answer .frames ≡ 0 = ap (λ (t : FramesTaken). t .answer .frames) (e ∙ taken-refused h) in omega (arith, none)
-      go false h = let all : r .answer .frames ≡ wholeIn 24 bytes = ap (λ (t : FramesTaken). t .answer .frames) (e ∙ taken-accepted h) in omega (arith, all)
+  taken-few r e = tested (unfit (length inputs) 6 stride (wholeIn 24 bytes))
+      (λ h. let none : r .answer .frames ≡ 0 = ap (λ (t : FramesTaken). t .answer .frames) (e ∙ taken-refused h) in omega (arith, none))
+      (λ h. let all : r .answer .frames ≡ wholeIn 24 bytes = ap (λ (t : FramesTaken). t .answer .frames) (e ∙ taken-accepted h) in omega (arith, all))
 
 module _ (ears : List Float) (stride frames : ℕ) (out : List ℕ) where
   pub given-by : (b t : Bool) → unfit (length ears) 2 stride frames ≡ b → ltb (length out) (frames * 8) ≡ t

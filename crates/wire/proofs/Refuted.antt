@@ -28,13 +28,10 @@ frames-lost bytes stride inputs r e is z =
 
 -- a list that has no room is accepted
 ears-lost : (ears : List Float) (stride frames : ℕ) (out : List ℕ) (r : EarsGiven) → length out < frames * 8 → r ≡ earsGiven ears stride frames out → r .answer .refusal ≡ 0 → ⊥
-ears-lost ears stride frames out r h is z = go (unfit (length ears) 2 stride frames) refl
-  where
-    go : (b : Bool) → unfit (length ears) 2 stride frames ≡ b → ⊥
-    go true e = let five : _≡_ {A = ℕ} 0 5 = sym z ∙ ap (λ (t : EarsGiven). t .answer .refusal) (is ∙ given-unfit ears stride frames out e) in omega (arith, five)
-    go false e =
-        let five : _≡_ {A = ℕ} 0 5 = sym z ∙ ap (λ (t : EarsGiven). t .answer .refusal) (is ∙ given-by ears stride frames out false true e (lt-ltb (length out) (frames * 8) h)) in
-        omega (arith, five)
+ears-lost ears stride frames out r h is z = tested (unfit (length ears) 2 stride frames)
+    (λ e. let five : _≡_ {A = ℕ} 0 5 = sym z ∙ ap (λ (t : EarsGiven). t .answer .refusal) (is ∙ given-unfit ears stride frames out e) in omega (arith, five))
+    (λ e. let five : _≡_ {A = ℕ} 0 5 = sym z ∙ ap (λ (t : EarsGiven). t .answer .refusal) (is ∙ given-by ears stride frames out false true e (lt-ltb (length out) (frames * 8) h)) in
+    omega (arith, five))
 
 -- the largest count and one more is none
 count-wraps : (n : ℕ) → n ≡ countedOn (2 ^ 64 - 1) 1 → n ≡ 0 → ⊥

@@ -15,9 +15,6 @@ high-of hh hl lh ll = hh + (hl + ll / 2 ^ 32) / 2 ^ 32 + (lh + (hl + ll / 2 ^ 32
 abbrev result-of : (hh hl lh ll : ℕ) → ℕ
 result-of hh hl lh ll = high-of hh hl lh ll * 16 + (lh + (hl + ll / 2 ^ 32) % 2 ^ 32) % 2 ^ 32 / 2 ^ 28
 
-columns : (n hh hl lh ll : ℕ) → n ≡ hh * 2 ^ 64 + hl * 2 ^ 32 + lh * 2 ^ 32 + ll → result-of hh hl lh ll ≡ n / 2 ^ 60
-columns n hh hl lh ll e = omega arith
-
 expanded : (h l k m : ℕ) → (h * 2 ^ 32 + l) * (k * 2 ^ 32 + m) ≡ h * k * 2 ^ 64 + h * m * 2 ^ 32 + l * k * 2 ^ 32 + l * m
 expanded h l k m =
     simp (add-mul, mul-add)
@@ -41,8 +38,7 @@ parts c =
     let k = c .fits .b .fits in
     record {
       is =
-          columns (a * b) (a / 2 ^ 32 * (b / 2 ^ 32)) (a / 2 ^ 32 * (b % 2 ^ 32)) (a % 2 ^ 32 * (b / 2 ^ 32)) (a % 2 ^ 32 * (b % 2 ^ 32))
-          ((λ i. sym (split a 32) i * sym (split b 32) i) ∙ expanded (a / 2 ^ 32) (a % 2 ^ 32) (b / 2 ^ 32) (b % 2 ^ 32));
+          omega (arith, (λ i. sym (split a 32) i * sym (split b 32) i) ∙ expanded (a / 2 ^ 32) (a % 2 ^ 32) (b / 2 ^ 32) (b % 2 ^ 32));
       hh = halves (a / 2 ^ 32) (b / 2 ^ 32) (omega arith) (omega arith);
       hl = halves (a / 2 ^ 32) (b % 2 ^ 32) (omega arith) (omega arith);
       lh = halves (a % 2 ^ 32) (b / 2 ^ 32) (omega arith) (omega arith);

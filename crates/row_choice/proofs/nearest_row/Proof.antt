@@ -6,7 +6,7 @@ use borrow.Author.Tests.{not-true, not-false}
 use mir.Facts.{toZ-ofZ}
 use Rattle.refusals.specs.Refusals.{outside}
 use Rattle.refusals.proofs.Counts.{not-outside}
-use Rattle.row_choice.specs.Choice.{inTenths, inElevation}
+use Rattle.row_choice.specs.Choice.{inTenths, isElevation}
 use Rattle.row_choice.proofs.Answers.{no-rows, no-azimuth, no-elevation, no-azimuths, no-elevations, chosen}
 use Rattle.row_choice.proofs.nearest_row.Statement.{statement}
 use Rattle.row_choice.proofs.nearest_row.Tie as tie
@@ -19,8 +19,8 @@ azimuth-in : (c : tie.Else2) → inTenths (c .before .before .before .before .ar
 unfolding inTenths
 azimuth-in c = rw (toZ-ofZ (c .before .before .before .before .fits .azimuth)) at (sym (c .before .is-between .ensures) ∙ not-false _ (c .if2 .left))
 
-elevation-in : (c : tie.Else3) → inElevation (c .before .before .before .before .before .before .args .elevation) ≡ true
-unfolding inElevation
+elevation-in : (c : tie.Else3) → isElevation (c .before .before .before .before .before .before .args .elevation) ≡ true
+unfolding isElevation
 elevation-in c = rw (toZ-ofZ (c .before .before .before .before .before .before .fits .elevation)) at (sym (c .before .is-between2 .ensures) ∙ not-false _ (c .if3 .left))
 
 returns : tie.Need-returns
@@ -33,7 +33,7 @@ returns-2 c =
     rw (c .unchosen2 .ensures) (no-azimuth _ _ _ _ _ (rows-in (c .before .before .before)) far)
 
 returns-3 : tie.Need-returns-3
-unfolding inElevation
+unfolding isElevation
 returns-3 c =
     let level = c .before .before .before in
     let far = rw (toZ-ofZ (level .before .before .before .before .fits .elevation)) at (sym (c .before .before .is-between2 .ensures) ∙ not-true _ (c .before .if3 .taken)) in
