@@ -1,6 +1,6 @@
 -- No two answers meet one promise. Assumes nothing.
-use Rattle.refusals.specs.OneAnswer.{AllowsOneAnswer}
-use Rattle.refusals.proofs.Determined.{determined-by}
+use Rattle.lists.specs.OneAnswer.{AllowsOneAnswer}
+use Rattle.lists.proofs.Determined.{determined-by}
 use Rattle.bank.proofs.read
 use Rattle.bank.proofs.read_start
 use Rattle.bank.proofs.write
