@@ -7,13 +7,11 @@ use lib.ListN.{length, getD, length-replicate}
 use lib.Ieee.{Float}
 use Rattle.formats.specs.Floats.{zero-float}
 use Rattle.lists.proofs.Lists.{one-at-most}
-use Rattle.desk.proofs.Going.{position-below, waits-below}
 use Rattle.history.specs.Setup.{Setup, SameFilters}
-use Rattle.history.specs.Signals.{damaged}
 use Rattle.rings.specs.State.{State}
 use Rattle.rings.specs.Computed.{ears, late, stepped, left, played, counted}
-use Rattle.rings.proofs.Told.{length-stored}
-use Rattle.rings.proofs.Filters.{stepped-alike, played-alike, counted-alike}
+use Rattle.rings.proofs.Told.{step-fits}
+use Rattle.rings.proofs.Filters.{left-alike, played-alike, counted-alike}
 use Rattle.stamps.specs.Events.{Event, feed, restart}
 use Rattle.stamps.specs.Computed.{feedsIn}
 use Rattle.replay.specs.Lines.{Line, setupIn}
@@ -111,20 +109,7 @@ module _ (l : Line) where
   rested-stands : (t : State) → 0 < l .shape .length → StateReady l t → StateReady l (rested t)
   rested-stands t h p = record { ringed = length-replicate (length (t .rings)) zero-float ∙ p .ringed; within = h; waits = h }
 
-  stepped-stands : (t : State) (f : List Float) → StateReady l t → StateReady l (stepped (setupIn l) t f)
-  stepped-stands t f p =
-      let u = setupIn l in
-      record {
-        ringed = length-stored u t f ∙ p .ringed;
-        within = position-below (l .shape .length) (damaged u f) (t .desk) (p .within);
-        waits = waits-below (l .shape .length) (damaged u f) (t .desk) (p .within) (p .waits);
-      }
-
-  pub left-stands : (t : State) (fs : List (List Float)) → StateReady l t → StateReady l (left (setupIn l) t fs)
-  left-stands t [] p = p
-  left-stands t (f ∷ fs) p = left-stands (stepped (setupIn l) t f) fs (stepped-stands t f p)
-
   pub left-by-stands : 0 < l .shape .length → (t : State) (es : Events) → StateReady l t → StateReady l (leftBy (setupIn l) t es)
   left-by-stands h t [] p = p
-  left-by-stands h t (feed s f ∷ es) p = left-by-stands h (stepped (setupIn l) t f) es (stepped-stands t f p)
+  left-by-stands h t (feed s f ∷ es) p = left-by-stands h (stepped (setupIn l) t f) es (step-fits (setupIn l) (l .shape .speakers) t f p)
   left-by-stands h t (restart ∷ es) p = left-by-stands h (rested t) es (rested-stands t h p)

@@ -25,7 +25,8 @@ use Rattle.replay.specs.declared.gather.Gathered.{Gathered}
 use Rattle.replay.specs.Computed.{quiet, feeds, restarting, Gathers, eventsAt, Resting, restedIf, Room, Turns, leftIn, Turn, stateWith, Good, StateReady, Kept, leftBy, playedBy, countedBy}
 use Rattle.replay.specs.declared.play.Turned.{Turned}
 use Rattle.replay.specs.Lines.{Line, setupIn, recordingIn}
-use Rattle.replay.proofs.Eventful.{left-by-append, played-by-append, counted-by-append, length-played-by, counted-few, left-feeds, played-feeds, counted-feeds, feeds-feeds, length-feeds, left-stands, left-by-stands}
+use Rattle.rings.proofs.Told.{left-fits}
+use Rattle.replay.proofs.Eventful.{left-by-append, played-by-append, counted-by-append, length-played-by, counted-few, left-feeds, played-feeds, counted-feeds, feeds-feeds, length-feeds, left-by-stands}
 use Rattle.replay.proofs.Convolver.{blockCall, block-leaves, block-counts, block-sounds, speakers-few}
 
 -- a restart, or none, as the last event
@@ -101,7 +102,7 @@ module _ (l : Line) (p : Turned) {g : Gathered} {block₁ : List Float} (got : G
           record {
             few = speakers-few (l .shape) (l .rows) (good .shaped);
             long = good .long;
-            ringed = ap (λ (s : State). length (s .rings)) leaves ∙ left-stands l t fs (kept .state) .ringed;
+            ringed = ap (λ (s : State). length (s .rings)) leaves ∙ left-fits (setupIn l) (l .shape .speakers) t fs (kept .state) .ringed;
           }
 
       pub turn-made : (ears ears₁ rings₂ : List Float) (d : Desk) → ears₁ ≡ withFrames ears (l .earStride) (p .done) (framesOf own₁ 64 2 (g .count))

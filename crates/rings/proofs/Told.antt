@@ -1,7 +1,7 @@
 -- Rings hold a past: a frame keeps that so with its signals before the rest, and what is read out is document 01's sums over it. Desk and frames to go likewise. Assumes nothing.
 use mathlib.Core.Path.{_≡_, sym, ap, _∙_, subst}
 use mathlib.Core.Bool.{Bool, _||_, cond, or-assoc}
-use mathlib.Core.List.{List, _∷_, map}
+use mathlib.Core.List.{List, [], _∷_, map}
 use Prim.Native.Nat.{ℕ, suc, _+_, _-_, _*_, _%_, _<_}
 use native.Mathlib.Nat.{zero-add}
 use native.Mathlib.Omega.{arith}
@@ -15,16 +15,16 @@ use Rattle.planes.specs.Sums.{dot}
 use Rattle.lists.proofs.Tables.{length-row}
 use Rattle.planes.proofs.Planes.{length-with-frame, row-with-frame}
 use Rattle.desk.specs.declared.Desk.{Desk}
-use Rattle.desk.proofs.Going.{desk-on, position-below}
+use Rattle.desk.proofs.Going.{desk-on, position-below, waits-below}
 use Rattle.history.specs.Setup.{Setup, tapsOf}
 use Rattle.history.specs.Signals.{signal, signals, damaged}
 use Rattle.history.specs.History.{window, part, earSample, earSamples, unsettled}
 use Rattle.history.proofs.Windows.{window-more, ear-of-ext}
 use Rattle.history.proofs.Signals.{length-signals, signal-at}
 use Rattle.rings.specs.Unrolled.{unrolled}
-use Rattle.rings.specs.State.{State}
+use Rattle.rings.specs.State.{State, StateFits}
 use Rattle.rings.specs.Held.{toGoAfter}
-use Rattle.rings.specs.Computed.{stored, partOf, ringEar, ears, late, stepped}
+use Rattle.rings.specs.Computed.{stored, partOf, ringEar, ears, late, stepped, left}
 use Rattle.rings.proofs.Ring.{unrolled-set, unrolled-wrapped}
 use Rattle.rings.proofs.ToGo.{to-go-any, any-take-cons}
 use Rattle.rings.proofs.Held.{Holds}
@@ -101,3 +101,18 @@ module _ (u : Setup) (go : ℕ) (past : List (List Float)) (t : State) (f : List
       (ap (ltb 0) waits ∙ to-go-any (u .L) go bs 0 (u .L - 1) few (omega arith) ∙ ap (λ (n : ℕ). any (take (u .L - 1) bs) || ltb n go) gone)
       ∙ sym (or-assoc (damaged u f) (any (take (u .L - 1) bs)) (ltb (length past) go))
       ∙ ap (λ (b : Bool). b || ltb (length past) go) (sym (any-take-cons (u .L) (damaged u f) bs (omega arith)))
+
+-- ---- a state that fits a convolver fits it after frames too
+
+module _ (u : Setup) (speakers : ℕ) where
+  pub step-fits : (t : State) (f : List Float) → StateFits speakers (u .L) t → StateFits speakers (u .L) (stepped u t f)
+  step-fits t f r =
+      record {
+        ringed = length-stored u t f ∙ r .ringed;
+        within = position-below (u .L) (damaged u f) (t .desk) (r .within);
+        waits = waits-below (u .L) (damaged u f) (t .desk) (r .within) (r .waits);
+      }
+
+  pub left-fits : (t : State) (fs : List (List Float)) → StateFits speakers (u .L) t → StateFits speakers (u .L) (left u t fs)
+  left-fits t [] r = r
+  left-fits t (f ∷ fs) r = left-fits (stepped u t f) fs (step-fits t f r)

@@ -27,12 +27,9 @@ use Rattle.bank.proofs.Answers.{Lists}
 use Rattle.bank.proofs.Promises.{accepted-parts, accepted-is, is-accepted, read-is}
 use Rattle.channel.specs.declared.Layout.{Layout}
 use Rattle.desk.specs.declared.Desk.{Desk}
-use Rattle.desk.proofs.Going.{position-below, waits-below}
 use Rattle.history.specs.Setup.{Setup}
-use Rattle.history.specs.Signals.{damaged}
 use Rattle.rings.specs.State.{State, StateFits}
-use Rattle.rings.specs.Computed.{stepped, left}
-use Rattle.rings.proofs.Told.{length-stored}
+use Rattle.rings.proofs.Told.{left-fits}
 use Rattle.rings.proofs.Blocks.{rings-room, waits-few}
 use Rattle.hrtf_checks.specs.declared.Shape.{Shape}
 use Rattle.hrtf_checks.specs.Call.{Call, setup, framesIn}
@@ -98,19 +95,6 @@ module _ (b : Bank) (v : valid b ≡ true) (o : Arrangement) (p : Playable (Form
   set-up-accepted = sym (accept c t (shaped, (long, (lists-fit, (sound, (there, tt))))))
 
 -- ---- what a block leaves fits again
-
-module _ (u : Setup) (speakers : ℕ) where
-  step-fits : (t : State) (f : List Float) → StateFits speakers (u .L) t → StateFits speakers (u .L) (stepped u t f)
-  step-fits t f r =
-      record {
-        ringed = length-stored u t f ∙ r .ringed;
-        within = position-below (u .L) (damaged u f) (t .desk) (r .within);
-        waits = waits-below (u .L) (damaged u f) (t .desk) (r .within) (r .waits);
-      }
-
-  left-fits : (t : State) (fs : List (List Float)) → StateFits speakers (u .L) t → StateFits speakers (u .L) (left u t fs)
-  left-fits t [] r = r
-  left-fits t (f ∷ fs) r = left-fits (stepped u t f) fs (step-fits t f r)
 
 pub next-fits : (speakers : ℕ) (c : Call) (t : State) → refusalOf c t ≡ 0 → StateFits speakers (c .shape .length) t → StateFits speakers (c .shape .length) (next c t)
 next-fits speakers c t e r = subst (StateFits speakers (c .shape .length)) (sym (ap stateAfter (outcome-computed c t e))) (left-fits (setup c) speakers t (framesIn c) r)
