@@ -11,7 +11,7 @@ use Rattle.history.specs.Setup.{Setup, SameFilters}
 use Rattle.rings.specs.State.{State}
 use Rattle.rings.specs.Computed.{ears, late, stepped, left, played, counted}
 use Rattle.rings.proofs.Told.{step-fits}
-use Rattle.rings.proofs.Filters.{left-alike, played-alike, counted-alike}
+use Rattle.rings.proofs.Filters.{stepped-alike, played-alike, counted-alike}
 use Rattle.stamps.specs.Events.{Event, feed, restart}
 use Rattle.stamps.specs.Computed.{feedsIn}
 use Rattle.replay.specs.Lines.{Line, setupIn}
