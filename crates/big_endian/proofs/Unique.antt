@@ -15,7 +15,7 @@ has-room-unique : AllowsOneAnswer has_room.ended has_room.Reads.Learnt
 has-room-unique κs a = determined-by (λ z h i. (h i, _))
 
 get-unique : AllowsOneAnswer get.ended get.Reads.Learnt
-get-unique κs a = determined-by (λ z h i. (h .value i, _))
+get-unique κs a = determined-by (λ z h i. (h .bits i, _))
 
 put-unique : AllowsOneAnswer put.ended put.Reads.Learnt
 put-unique κs a = determined-by (λ z h i. (_, (h i, _)))
