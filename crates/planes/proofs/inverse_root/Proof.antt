@@ -1,7 +1,6 @@
 -- `planes::inverse_root` meets its contract: what `root` promises of the root goes with the value. Assumes nothing.
-use mathlib.Core.Path.{_≡_, sym, ap, _∙_}
+use mathlib.Core.Path.{sym, ap, _∙_}
 use mathlib.Core.Bool.{false}
-use Prim.Native.Nat.{ℕ}
 use native.Mathlib.Omega.{arith}
 use lib.IntN.{pos}
 use lib.Ieee.{fin, binary64, div, ofBits, ofInt}
@@ -17,11 +16,8 @@ unfolding ofBits ofInt
 returns c =
     record {
       is = inverse-refused (c .before .args .n) (c .if1 .taken);
-      over = λ h r q. absurd (not-none (sym (ap inverseRefusal (c .if1 .taken)) ∙ h));
+      over = λ h r q. absurd (omega (arith, sym (ap inverseRefusal (c .if1 .taken)) ∙ h));
     }
-  where
-    not-none : _≡_ {A = ℕ} 2 0 → ⊥
-    not-none e = omega arith
 
 int-to-float-number : tie.Need-int-to-float-number
 int-to-float-number c = search needs
