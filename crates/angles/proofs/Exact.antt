@@ -28,10 +28,7 @@ at-quarter cosine = four (λ (k : ℕ). cosineAt (k * (90 * 2 ^ 52)) ≡ getD (e
 -- ---- a whole number of degrees
 
 divides : (n d x y u : ℕ) → n + d * x ≡ d * y → n * u % d ≡ 0
-divides n d x y u e = sym (add-mul-mod-self-left (n * u) d (x * u)) ∙ ap (λ (z : ℕ). z % d) (go (ap (λ (z : ℕ). z * u) e)) ∙ mul-mod-right d (y * u)
-  where
-    go : (n + d * x) * u ≡ d * y * u → n * u + d * (x * u) ≡ d * (y * u)
-    go e = omega arith
+divides n d x y u e = sym (add-mul-mod-self-left (n * u) d (x * u)) ∙ ap (λ (z : ℕ). z % d) (omega (arith, ap (λ (z : ℕ). z * u) e)) ∙ mul-mod-right d (y * u)
 
 -- then nothing is cut, and the cut angle is the angle
 module _ (s : Bool) (n d k : ℕ) (D : 0 < d) (m : T (isMultiple (signed s n d))) (e : turned (signed s n d) ≡ k * (90 * d)) where
@@ -49,10 +46,7 @@ module _ (s : Bool) (n d k : ℕ) (D : 0 < d) (m : T (isMultiple (signed s n d))
   cut-place : turned (signed s (n * 2 ^ 52 / d) (2 ^ 52)) ≡ k * (90 * 2 ^ 52)
   cut-place =
       let c = signed s (n * 2 ^ 52 / d) (2 ^ 52) in
-      eq-of-mul-eq-mul-right d D (turned c) (k * (90 * 2 ^ 52)) (sym (turned-same (signed s n d) c D (lit< tt) uncut) ∙ ap (λ (x : ℕ). x * 2 ^ 52) e ∙ turn-nat k d)
-    where
-      turn-nat : (k d : ℕ) → k * (90 * d) * 2 ^ 52 ≡ k * (90 * 2 ^ 52) * d
-      turn-nat k d = omega arith
+      eq-of-mul-eq-mul-right d D (turned c) (k * (90 * 2 ^ 52)) (sym (turned-same (signed s n d) c D (lit< tt) uncut) ∙ ap (λ (x : ℕ). x * 2 ^ 52) e ∙ (omega arith))
 
 -- ---- all together
 

@@ -1,7 +1,7 @@
 -- The float ends of the program: which floats are from -1080 to 1080, that such an angle times 2 ^ 52 is exact, so that its units are what they should be, and that the result is the float of its
 -- number of units of 2 ^ -51. Assumes nothing.
 use mathlib.Core.Path.{_≡_, refl, sym, ap, _∙_, subst}
-use Prim.Native.Nat.{ℕ, _+_, _-_, _*_, _/_, _%_, _^_, _≤_, _<_, min}
+use Prim.Native.Nat.{ℕ, _+_, _-_, _*_, _/_, _%_, _^_, _≤_, _<_}
 use native.Mathlib.Nat.{zero-add, mod-lt, add-mod-right, zero-div, lt-of-lt-of-le, lt-irrefl, mul-comm, mul-one, zero-mul, mul-left-comm, div-lt-iff-lt-mul, mul-pos, eq-of-mul-eq-mul-right, div-eq-of-lt}
 use native.Mathlib.Omega.{arith}
 use mathlib.Core.Bool.{Bool, true, false, not, cond, true≢false, false≢true}
@@ -69,31 +69,22 @@ cut-number nan num den Z D h v = absurd (lt-irrefl 0 Z)
 cut-number (inf s) num den Z D h v = absurd (lt-irrefl 0 Z)
 cut-number (fin false m e) num den Z D h v =
     let n : num / den < 2 ^ 64 = div-lt-iff-lt-mul D .1 h in
-    let d : m * up e / down e ≡ num / den = div-same (m * up e) (down e) num den (down-pos e) D (plain (m * up e) (down e) num den v) in
+    let d : m * up e / down e ≡ num / den = div-same (m * up e) (down e) num den (down-pos e) D (omega arith) in
     let u : m * up e < 2 ^ 64 * down e = div-lt-iff-lt-mul (down-pos e) .0 (subst (λ (x : ℕ). x < 2 ^ 64) (sym d) n) in
     record {
       above = lt→ltb 0 (1 * down e + m * up e * 1) (omega (arith, down-pos e));
       under = lt→ltb (m * up e * 1) (2 ^ 64 * down e) (subst (λ (x : ℕ). x < 2 ^ 64 * down e) (sym (mul-one (m * up e))) u);
-      is = capped (m * up e / down e) (num / den) d n;
+      is = omega arith;
     }
-  where
-    plain : (a c num den : ℕ) → a * den + 0 * c ≡ num * c + 0 * den → a * den ≡ num * c
-    plain a c num den v = omega arith
-
-    capped : (a n : ℕ) → a ≡ n → n < 2 ^ 64 → min a (2 ^ 64 - 1) ≡ n
-    capped a n e h = omega arith
 cut-number (fin true m e) num den Z D h v =
-    let z : m * up e ≡ 0 = eq-of-mul-eq-mul-right den D (m * up e) 0 (nothing (m * up e * den) (num * down e) (v' (m * up e) (down e) num den v) .0 ∙ sym (zero-mul den)) in
-    let n : num ≡ 0 = eq-of-mul-eq-mul-right (down e) (down-pos e) num 0 (nothing (m * up e * den) (num * down e) (v' (m * up e) (down e) num den v) .1 ∙ sym (zero-mul (down e))) in
+    let z : m * up e ≡ 0 = eq-of-mul-eq-mul-right den D (m * up e) 0 (nothing (m * up e * den) (num * down e) (omega arith) .0 ∙ sym (zero-mul den)) in
+    let n : num ≡ 0 = eq-of-mul-eq-mul-right (down e) (down-pos e) num 0 (nothing (m * up e * den) (num * down e) (omega arith) .1 ∙ sym (zero-mul (down e))) in
     record {
       above = lt→ltb (m * up e * 1) (1 * down e) (omega (arith, down-pos e));
       under = lt→ltb 0 (m * up e * 1 + 2 ^ 64 * down e) (omega (arith, down-pos e));
       is = sym (ap (λ (x : ℕ). x / den) n ∙ div-eq-of-lt D);
     }
   where
-    v' : (a c num den : ℕ) → 0 * den + 0 * c ≡ num * c + a * den → a * den + num * c ≡ 0
-    v' a c num den v = omega arith
-
     nothing : (a b : ℕ) → a + b ≡ 0 → (a ≡ 0) × (b ≡ 0)
     nothing a b h = (omega arith, omega arith)
 
@@ -176,12 +167,9 @@ itself (inf true) t l = absurd t
 itself (inf false) t l = absurd t
 itself (fin false m e) t l = (and-i (not (lt (fin false m e) zero-float)) (isInside limit (fin false m e)) (subst (λ (b : Bool). T (not b)) (sym l) tt) t, (sym (add-mod-right (m * up e * 2 ^ 52 / down e) turn)))
 itself (fin true m e) t l =
-    let z : m * up e ≡ 0 = none (m * up e) (down e) (ltb-false 0 (m * up e * 1 + 0 * down e) l) in
+    let z : m * up e ≡ 0 = omega (arith, ltb-false 0 (m * up e * 1 + 0 * down e) l) in
     let u : m * up e * 2 ^ 52 / down e ≡ 0 = ap (λ (n : ℕ). n * 2 ^ 52 / down e) z ∙ zero-div (down e) in
     (and-i (not (lt (fin true m e) zero-float)) (isInside limit (fin true m e)) (subst (λ (b : Bool). T (not b)) (sym l) tt) t, (ap (λ (n : ℕ). n % turn) u ∙ sym (ap (λ (n : ℕ). (0 + (turn - n % turn)) % turn) u)))
-  where
-    none : (a b : ℕ) → a * 1 + 0 * b ≤ 0 → a ≡ 0
-    none a b h = omega arith
 
 pub place-less : (d : Float) → place d < turn
 unfolding place cut Defined.turned

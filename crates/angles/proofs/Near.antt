@@ -64,10 +64,7 @@ unfolding angle Defined.radians
 angle-opposite a h =
     let c = Defined.degree in
     subst (λ (x : Fraction). Same x (fraction a turn (2 ^ 52) ⊗ c)) (opposite-⊗ (fraction (turn - a) 0 (2 ^ 52)) c)
-    (same-mul (opposite (fraction (turn - a) 0 (2 ^ 52))) (fraction a turn (2 ^ 52)) c c (left a h) (same-refl c))
-  where
-    left : (a : ℕ) → a ≤ turn → Same (opposite (fraction (turn - a) 0 (2 ^ 52))) (fraction a turn (2 ^ 52))
-    left a h = omega arith
+    (same-mul (opposite (fraction (turn - a) 0 (2 ^ 52))) (fraction a turn (2 ^ 52)) c c (omega arith) (same-refl c))
 
 here-number : (w : Wave) (a : ℕ) → 0 < sum w (Defined.radians (fraction a turn (2 ^ 52))) .over
 unfolding Defined.radians

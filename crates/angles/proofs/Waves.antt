@@ -44,15 +44,9 @@ radians-close r h =
     record {
       first = pow-pos 60;
       second = lit< tt;
-      above = above-nat r x degree k p (2 ^ 52) (2 ^ 68) one (mul-le-mul-right (2 ^ 52 * k) (low (r * degree))) (mul-le-mul-right (r * 2 ^ 52) (lit≤ tt)) refl;
-      below = below-nat r x degree k p (2 ^ 52) (2 ^ 68) one (mul-le-mul-right (2 ^ 52 * k) (high (r * degree))) (mul-le-mul-right (r * 2 ^ 52) (lit≤ tt)) (mul-le-mul-right {n = one} (k * 2 ^ 52) (le-trans h (lit≤ tt))) refl;
+      above = above-nat r x degree k p (2 ^ 52) (2 ^ 68) one (mul-le-mul-right (2 ^ 52 * k) (omega arith)) (mul-le-mul-right (r * 2 ^ 52) (lit≤ tt)) refl;
+      below = below-nat r x degree k p (2 ^ 52) (2 ^ 68) one (mul-le-mul-right (2 ^ 52 * k) (omega arith)) (mul-le-mul-right (r * 2 ^ 52) (lit≤ tt)) (mul-le-mul-right {n = one} (k * 2 ^ 52) (le-trans h (lit≤ tt))) refl;
     }
-  where
-    low : (n : ℕ) → n / one * one ≤ n
-    low n = omega arith
-
-    high : (n : ℕ) → n ≤ n / one * one + one
-    high n = omega arith
 
 -- ---- how large: the exact x is at most what the program's is
 

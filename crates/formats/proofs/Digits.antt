@@ -14,30 +14,18 @@ exponent-lt : (i p : ℕ) → 2 ^ i < 2 ^ p → i < p
 exponent-lt i p h = lt-of-not-le (λ (g : p ≤ i). lt-irrefl (2 ^ i) (lt-of-lt-of-le h (pow-mono g)))
 
 pub exponent-le : (i p : ℕ) → 2 ^ i ≤ 2 ^ p → i ≤ p
-exponent-le i p h = below (lt-of-not-le (λ (g : suc p ≤ i). lt-irrefl (2 ^ p) (lt-of-lt-of-le (pow-lt g) h)))
-  where
-    below : i < suc p → i ≤ p
-    below l = omega arith
+exponent-le i p h = omega (arith, lt-of-not-le (λ (g : suc p ≤ i). lt-irrefl (2 ^ p) (lt-of-lt-of-le (pow-lt g) h)))
 
 pub twice : (p : ℕ) → 0 < p → 2 ^ p ≡ 2 * 2 ^ (p - 1)
-twice p P = ap (λ (x : ℕ). 2 ^ x) (sym (suc-pred p P)) ∙ pow-succ' 2 (p - 1)
-  where
-    suc-pred : (p : ℕ) → 0 < p → suc (p - 1) ≡ p
-    suc-pred p h = omega arith
+twice p P = ap (λ (x : ℕ). 2 ^ x) (sym (omega arith)) ∙ pow-succ' 2 (p - 1)
 
 -- ---- how many digits a number has, and how many of them are beyond p
 pub size-gt : (n j : ℕ) → 2 ^ j ≤ n → j < size n
 size-gt n j h = lt-of-not-le (λ (few : size n ≤ j). let below = size-lt n in let most = pow-mono few in omega arith)
 
 pub drop-is : (p w k : ℕ) → 0 < p → w < 2 ^ (p + k) → (k ≡ 0) ⊎ (2 ^ (p - 1 + k) ≤ w) → size w - p ≡ k
-drop-is p w k P h (inl z) = few (size w) p k z (size-le w (p + k) h)
-  where
-    few : (n p k : ℕ) → k ≡ 0 → n ≤ p + k → n - p ≡ k
-    few n p k z l = omega arith
-drop-is p w k P h (inr g) = join (size w) p k P (size-le w (p + k) h) (size-gt w (p - 1 + k) g)
-  where
-    join : (n p k : ℕ) → 0 < p → n ≤ p + k → p - 1 + k < n → n - p ≡ k
-    join n p k P a b = omega arith
+drop-is p w k P h (inl z) = omega (arith, size-le w (p + k) h)
+drop-is p w k P h (inr g) = omega (arith, size-le w (p + k) h, size-gt w (p - 1 + k) g)
 
 -- ---- the pattern of q * 2 ^ k, without its sign: q's leading digit adds one to the field k, and a q of 2 ^ p adds two
 pub pack : (p q k : ℕ) → 0 < p → q ≤ 2 ^ p → (k ≡ 0) ⊎ (2 ^ (p - 1) ≤ q) → (size (q * 2 ^ k) - p) * 2 ^ (p - 1) + q * 2 ^ k / 2 ^ (size (q * 2 ^ k) - p) ≡ k * 2 ^ (p - 1) + q
@@ -85,12 +73,9 @@ past-end H q k E HP Z h g l = go (eq-or-lt-of-le reach-k) g
     reach-k : E ≤ suc k
     reach-k = exponent-le E (suc k) (le-of-mul-le-mul-right (le-trans l (le-trans (mul-le-mul-right (2 ^ k) h) (le-of-eq doubled))) HP)
 
-    none : (E k : ℕ) → E < suc k → k ≡ 0 → 0 < E → ⊥
-    none E k h z p = omega arith
-
     go : (E ≡ suc k) ⊎ (E < suc k) → (k ≡ 0) ⊎ (H ≤ q) → (E + 1) * H ≤ k * H + q
     go (inl e) g =
         let b : 2 * H ≤ q = le-of-mul-le-mul-right (le-trans (le-of-eq (doubled ∙ ap (λ (x : ℕ). 2 ^ x * H) (sym e))) l) (pow-pos k) in
         omega (arith, b, ap (λ (x : ℕ). x * H) e)
-    go (inr a) (inl z) = absurd (none E k a z Z)
+    go (inr a) (inl z) = absurd (omega arith)
     go (inr a) (inr b) = omega (arith, b, mul-le-mul-right H a)

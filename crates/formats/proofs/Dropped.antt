@@ -25,10 +25,7 @@ dropped f n c C = record { most = div-lt-iff-lt-mul U .0 (subst (λ (x : ℕ). x
     U : 0 < c * 2 ^ k
     U = mul-pos C (pow-pos k)
 
-    inside : (z p : ℕ) → 2 ≤ p → 0 < z - p → p - 1 + (z - p) < z
-    inside z p P h = omega arith
-
     go : (k ≡ 0) ⊎ (0 < k) → (k ≡ 0) ⊎ (hid f * (c * 2 ^ k) ≤ n)
     go (inl z) = inl z
     go (inr h) =
-        inr (le-trans (le-of-eq (simp (mul-assoc, mul-comm))) (le-div-iff-mul-le C .0 (le-trans (le-of-eq (sym (pow-add 2 (p - 1) k))) (size-reaches (n / c) (p - 1 + k) (inside (size (n / c)) p (two f) h)))))
+        inr (le-trans (le-of-eq (simp (mul-assoc, mul-comm))) (le-div-iff-mul-le C .0 (le-trans (le-of-eq (sym (pow-add 2 (p - 1) k))) (size-reaches (n / c) (p - 1 + k) (omega (arith, two f))))))

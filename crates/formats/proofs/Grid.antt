@@ -64,14 +64,11 @@ held-units f s (suc m) e t =
 pub grid-or-small : (f : Format) (w k : ℕ) → Grid f w → ((W : ℕ) × (w ≡ W * 2 ^ k)) ⊎ (w < hid f * 2 ^ k)
 grid-or-small f w k g = go (decLe k (g .i))
   where
-    fewer : (p i k : ℕ) → 2 ≤ p → i < k → p + i ≤ p - 1 + k
-    fewer p i k a l = omega arith
-
     go : Dec (k ≤ g .i) → ((W : ℕ) × (w ≡ W * 2 ^ k)) ⊎ (w < hid f * 2 ^ k)
     go (yes l) = inl (g .c * 2 ^ (g .i - k), g .is ∙ ap (λ (x : ℕ). g .c * x) (ap (λ (x : ℕ). 2 ^ x) (sym (sub-add-cancel l)) ∙ pow-add 2 (g .i - k) k) ∙ sym (mul-assoc (g .c) (2 ^ (g .i - k)) (2 ^ k)))
     go (no n) =
         inr (subst (λ (x : ℕ). w < x) (pow-add 2 (prec f - 1) k)
-        (lt-of-lt-of-le (subst (λ (x : ℕ). x < 2 ^ (prec f + g .i)) (sym (g .is)) (shl-lt (prec f) (g .i) (g .fit))) (pow-mono (fewer (prec f) (g .i) k (two f) (lt-of-not-le n)))))
+        (lt-of-lt-of-le (subst (λ (x : ℕ). x < 2 ^ (prec f + g .i)) (sym (g .is)) (shl-lt (prec f) (g .i) (g .fit))) (pow-mono (omega (arith, two f, lt-of-not-le n)))))
 
 -- ---- a finite value that is not negative has a pattern below the infinity's
 pub finite-below : (f : Format) (m : ℕ) (e : ℤ) → T (fits f (fin false m e)) → toBits f (fin false m e) < ones f * hid f
@@ -81,11 +78,8 @@ finite-below f m e t =
     let w = u .w in
     let k = size w - p in
     subst (λ (x : ℕ). x < ones f * hid f) (sym (toBits-value f false (fin false m e) w (u .value)))
-    (fit (hid f) k (w / 2 ^ k) (ones f) (subst (λ (x : ℕ). w / 2 ^ k < x) (twice-hid f) (kept-lt p w)) (field (size w) p (emax f) (two f) (reach f) (size-le w (low f + suc (emax f)) (u .grid .room))))
+    (fit (hid f) k (w / 2 ^ k) (ones f) (subst (λ (x : ℕ). w / 2 ^ k < x) (twice-hid f) (kept-lt p w)) (omega (arith, two f, reach f, size-le w (low f + suc (emax f)) (u .grid .room))))
   where
-    field : (z p e : ℕ) → 2 ≤ p → p ≤ suc e → z ≤ e + p - 2 + suc e → suc (suc (z - p)) ≤ 2 * e + 1
-    field z p e a b c = omega arith
-
     fit : (h k b o : ℕ) → b < 2 * h → suc (suc k) ≤ o → 0 + (k * h + b) < o * h
     fit h k b o l g = omega (arith, mul-le-mul-right h g)
 

@@ -18,19 +18,13 @@ pub scaled-normal : (f : Format) (x t l : ℕ) → 0 < x → t < hid f → Scale
 scaled-normal f x t l p h = record {
   value = ap (λ (y : ℕ). (hid f + t) * y) (pow-add 2 (x - 1) l) ∙ sym (mul-assoc (hid f + t) (2 ^ (x - 1)) (2 ^ l)) ∙ ap (λ (y : ℕ). y * 2 ^ (x - 1) * 2 ^ l) (sym (digits-normal f x t p));
   least = le-add-right (hid f) t;
-  most = more (hid f) t h;
+  most = omega arith;
 }
-  where
-    more : (h t : ℕ) → t < h → h + t < 2 * h
-    more h t l = omega arith
 
 -- without one: t has j + 1 digits, and k zeros after them make it a number of `prec` digits
 pub scaled-low : (f : Format) (t j k e l : ℕ) → 2 ^ j ≤ t → t < 2 ^ suc j → suc j + k ≡ prec f → k + e ≡ l → Scaled f (digits f 0 t * 2 ^ (0 - 1)) l (t * 2 ^ k) e
 scaled-low f t j k e l lo hi p s = record {
   value = mul-assoc t (2 ^ k) (2 ^ e) ∙ ap (λ (y : ℕ). t * y) (sym (pow-add 2 k e) ∙ ap (λ (y : ℕ). 2 ^ y) s) ∙ ap (λ (y : ℕ). y * 2 ^ l) (sym (mul-one t));
-  least = subst (λ (y : ℕ). 2 ^ y ≤ t * 2 ^ k) (less j k (prec f) p) (subst (λ (y : ℕ). y ≤ t * 2 ^ k) (sym (pow-add 2 j k)) (mul-le-mul-right (2 ^ k) lo));
+  least = subst (λ (y : ℕ). 2 ^ y ≤ t * 2 ^ k) (omega arith) (subst (λ (y : ℕ). y ≤ t * 2 ^ k) (sym (pow-add 2 j k)) (mul-le-mul-right (2 ^ k) lo));
   most = subst (λ (y : ℕ). t * 2 ^ k < y) (ap (λ (y : ℕ). 2 ^ y) p ∙ twice-hid f) (shl-lt (suc j) k hi);
 }
-  where
-    less : (j k p : ℕ) → suc j + k ≡ p → j + k ≡ p - 1
-    less j k p h = omega arith

@@ -49,10 +49,7 @@ toBits-inf f s = refl
 -- ---- the pattern of q * 2 ^ k of them, for a q of the format's digits, or the next number after these: k is 0, or q has its leading digit
 -- the overflow, 2 ^ (low + emax + 1), is 2 ^ (2 * emax) * hid
 end-is : (f : Format) → overflow f ≡ 2 ^ (2 * emax f) * hid f
-end-is f = ap (λ (x : ℕ). 2 ^ x) (same (prec f) (emax f) (two f)) ∙ pow-add 2 (2 * emax f) (prec f - 1)
-  where
-    same : (p e : ℕ) → 2 ≤ p → e + p - 2 + suc e ≡ 2 * e + (p - 1)
-    same p e h = omega arith
+end-is f = ap (λ (x : ℕ). 2 ^ x) (omega (arith, two f)) ∙ pow-add 2 (2 * emax f) (prec f - 1)
 
 module _ (f : Format) (s : Bool) (q k : ℕ) (h : q ≤ 2 ^ prec f) where
   pub units-fits : T (fits f (units f s q k))
@@ -65,10 +62,7 @@ module _ (f : Format) (s : Bool) (q k : ℕ) (h : q ≤ 2 ^ prec f) where
     few = subst (λ (x : ℕ). q ≤ x) (twice-hid f) h
 
     some : 0 < 2 * emax f
-    some = at (prec f) (emax f) (two f) (reach f)
-      where
-        at : (p e : ℕ) → 2 ≤ p → p ≤ suc e → 0 < 2 * e
-        at p e a b = omega arith
+    some = omega (arith, two f, reach f)
 
     pub under-inf : q * 2 ^ k < overflow f → k * hid f + q ≤ ones f * hid f
     under-inf l = under-end (hid f) q k (2 * emax f) some few g (subst (λ (x : ℕ). q * 2 ^ k < x) (end-is f) l)
@@ -107,12 +101,9 @@ pub fields-value : (f : Format) (s : Bool) (x t : ℕ) → x < ones f → HasVal
 unfolding ofFields
 fields-value f s zero t h = odd-sign (prec f) s t 0 (low f)
 fields-value f s (suc x) t h =
-    subst (λ (j : ℕ). HasValue (ofFields f s (suc x) t) s ((hid f + t) * 2 ^ j) (2 ^ low f)) (less x)
+    subst (λ (j : ℕ). HasValue (ofFields f s (suc x) t) s ((hid f + t) * 2 ^ j) (2 ^ low f)) (omega arith)
     (subst (λ (b : Bool). HasValue (cond b (cond (eqb t 0) (inf s) nan) (odd (prec f) s (hid f + t) x (low f))) s ((hid f + t) * 2 ^ x) (2 ^ low f)) (sym (ne-eqb (suc x) (ones f) (ne-of-lt h)))
     (odd-sign (prec f) s (hid f + t) x (low f)))
-  where
-    less : (x : ℕ) → x ≡ suc x - 1
-    less x = omega arith
 
 pub fields-inf : (f : Format) (s : Bool) → ofFields f s (ones f) 0 ≡ inf s
 unfolding ofFields

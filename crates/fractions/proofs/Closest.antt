@@ -68,32 +68,20 @@ pub record Rounded (a b c : ℕ) : Type 0 where
   pub even : off a b c * 2 ≡ b → c % 2 ≡ 0
 
 at-q : (a b q r c : ℕ) → q * b + r ≡ a → r * 2 < b → c ≡ q → Rounded a b c
-at-q a b q r c e h k = subst (λ (z : ℕ). Rounded a b z) (sym k) (record { half = omega arith; even = λ t. absurd (none t) })
-  where
-    none : off a b q * 2 ≡ b → ⊥
-    none t = omega arith
+at-q a b q r c e h k = subst (λ (z : ℕ). Rounded a b z) (sym k) (record { half = omega arith; even = λ t. absurd (omega arith) })
 
 at-next : (a b q r c : ℕ) → q * b + r ≡ a → b < r * 2 → r < b → c ≡ suc q → Rounded a b c
-at-next a b q r c e h l k = subst (λ (z : ℕ). Rounded a b z) (sym k) (record { half = omega (arith, suc-mul q b); even = λ t. absurd (none t) })
-  where
-    none : off a b (suc q) * 2 ≡ b → ⊥
-    none t = omega (arith, suc-mul q b)
+at-next a b q r c e h l k = subst (λ (z : ℕ). Rounded a b z) (sym k) (record { half = omega (arith, suc-mul q b); even = λ t. absurd (omega arith) })
 
 at-tie : (a b q r c : ℕ) → q * b + r ≡ a → r * 2 ≡ b → c ≡ q + q % 2 → Rounded a b c
-at-tie a b q r c e h k = record { half = go (eq-or-lt-of-le (bit q)); even = λ t. omega arith }
+at-tie a b q r c e h k = record { half = go (eq-or-lt-of-le (omega arith)); even = λ t. omega arith }
   where
-    bit : (q : ℕ) → q % 2 ≤ 1
-    bit q = omega arith
-
-    stays : off a b q * 2 ≤ b
-    stays = omega arith
-
     moves : off a b (suc q) * 2 ≤ b
     moves = omega (arith, suc-mul q b)
 
     go : (q % 2 ≡ 1) ⊎ (q % 2 < 1) → off a b c * 2 ≤ b
     go (inl s) = let n : c ≡ suc q = omega arith in subst (λ (z : ℕ). off a b z * 2 ≤ b) (sym n) moves
-    go (inr s) = let n : c ≡ q = omega arith in subst (λ (z : ℕ). off a b z * 2 ≤ b) (sym n) stays
+    go (inr s) = let n : c ≡ q = omega arith in subst (λ (z : ℕ). off a b z * 2 ≤ b) (sym n) (omega arith)
 
 pub closest-rounded : (a b : ℕ) → 0 < b → Rounded a b (closest a b)
 closest-rounded a b B =
@@ -104,29 +92,17 @@ closest-rounded a b B =
 -- ---- such a number is nearest: two of them are b apart, so another is off by half of b at least
 module _ (a b c w : ℕ) (r : Rounded a b c) where
   far : (w ≡ c → ⊥) → b ≤ off a b c + off a b w
-  far n = compared w c (λ l. over (w * b) (c * b) (more w c l)) (λ e. absurd (n e)) (λ g. under (w * b) (c * b) (more c w g))
+  far n = compared w c (λ l. (omega (arith, more w c l))) (λ e. absurd (n e)) (λ g. (omega (arith, more c w g)))
     where
-      over : (x y : ℕ) → x + b ≤ y → b ≤ gap a y + gap a x
-      over x y h = omega arith
-
-      under : (x y : ℕ) → y + b ≤ x → b ≤ gap a y + gap a x
-      under x y h = omega arith
-
       more : (x y : ℕ) → x < y → x * b + b ≤ y * b
       more x y h = le-trans (le-of-eq (sym (suc-mul x b))) (mul-le-mul-right b h)
 
   pub rounded-best : off a b c ≤ off a b w
   rounded-best = go (ℕ-discrete w c)
     where
-      less : (x y : ℕ) → x * 2 ≤ b → b ≤ x + y → x ≤ y
-      less x y h k = omega arith
-
       go : Dec (w ≡ c) → off a b c ≤ off a b w
       go (yes e) = le-of-eq (ap (off a b) (sym e))
-      go (no n) = less (off a b c) (off a b w) (r .half) (far n)
+      go (no n) = omega (arith, r .half, far n)
 
   pub rounded-even : off a b c ≡ off a b w → (w ≡ c → ⊥) → c % 2 ≡ 0
-  rounded-even e n = r .even (tie (off a b c) (off a b w) (r .half) (far n) e)
-    where
-      tie : (x y : ℕ) → x * 2 ≤ b → b ≤ x + y → x ≡ y → x * 2 ≡ b
-      tie x y h k e = omega arith
+  rounded-even e n = r .even (omega (arith, r .half, far n))

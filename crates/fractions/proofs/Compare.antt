@@ -63,11 +63,8 @@ both-zero u v e = λ i. eq-eqb u v (omega arith) i && eq-eqb u 0 (omega arith) i
 not-both-zero : (u v : ℕ) → 0 < u + v → (eqb u v && eqb u 0) ≡ false
 not-both-zero u v h = go (eqb u v) (eqb u 0) (eqb-true u v) (eqb-true u 0)
   where
-    none : u ≡ v → u ≡ 0 → ⊥
-    none p q = omega arith
-
     go : (a b : Bool) → (a ≡ true → u ≡ v) → (b ≡ true → u ≡ 0) → (a && b) ≡ false
-    go true true p q = absurd (none (p refl) (q refl))
+    go true true p q = absurd (omega (arith, p refl, q refl))
     go true false p q = refl
     go false b p q = refl
 

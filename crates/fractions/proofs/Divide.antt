@@ -40,10 +40,7 @@ least-unit {W} {U} {L} {x} K w k h = record {
 
 -- what is left of a divisor above zero, in whole numbers
 pub left-least : {W L : ℕ} (x : Fraction) → x .minus ≤ x .plus → Least W x L → L * x .over ≤ left x * W
-left-least {W} {L} x h k = go (x .minus) (left x) (subst (λ (n : ℕ). x .minus * W + L * x .over ≤ n * W) (sym (add-sub-of-le h)) (k .least))
-  where
-    go : (m z : ℕ) → m * W + L * x .over ≤ (m + z) * W → L * x .over ≤ z * W
-    go m z k = omega arith
+left-least {W} {L} x h k = omega (arith, subst (λ (n : ℕ). x .minus * W + L * x .over ≤ n * W) (sym (add-sub-of-le h)) (k .least))
 
 left-close : {W E : ℕ} {x y : Fraction} → x .minus ≤ x .plus → y .minus ≤ y .plus → Close W x y E → left x * y .over * W ≤ left y * x .over * W + E * (x .over * y .over)
 left-close {x = x} {y = y} X Y h = omega (arith, close-same (plain x) (plain y) (h .first) (h .second) (same-sym x (plain x) (plain-same x X)) (plain-same y Y) h .above)

@@ -37,20 +37,14 @@ result-exact f {z} {q} D h r =
 
 -- ---- the whole numbers of the format's digits are below its overflow
 pub digits-below : (f : Format) → 2 ^ (prec f + low f) ≤ 2 ^ (low f + suc (emax f))
-digits-below f = pow-mono (over (prec f) (emax f) (low f) (reach f))
-  where
-    over : (p e l : ℕ) → p ≤ suc e → p + l ≤ l + suc e
-    over p e l h = omega arith
+digits-below f = pow-mono (omega (arith, reach f))
 
 -- ---- a literal ±n / 2 ^ j
 pub literal-held : (f : Format) (s : Bool) (n j : ℕ) → n < 2 ^ prec f → j ≤ low f → HasValue (round f s n (2 ^ j)) s n (2 ^ j)
 literal-held f s n j h l =
     let i = low f - j in
-    round-exact f s n (2 ^ j) n i (pow-pos j) h (lt-of-lt-of-le (shl-lt (prec f) i h) (le-trans (pow-mono (more i (prec f) (low f) (sub-le (low f) j))) (digits-below f)))
+    round-exact f s n (2 ^ j) n i (pow-pos j) h (lt-of-lt-of-le (shl-lt (prec f) i h) (le-trans (pow-mono (omega (arith, sub-le (low f) j))) (digits-below f)))
     (ap (λ (k : ℕ). n * k) (ap (λ (k : ℕ). 2 ^ k) (sym (sub-add-cancel l)) ∙ pow-add 2 i j) ∙ sym (mul-assoc n (2 ^ i) (2 ^ j)))
-  where
-    more : (i p l : ℕ) → i ≤ l → p + i ≤ p + l
-    more i p l h = omega arith
 
 -- ---- the sign
 units-plus : (f : Format) (q k : ℕ) → number (written f false q k) .minus ≡ 0
@@ -66,18 +60,12 @@ units-plus f q k =
 
 round-not-below : (s : Bool) (f : Format) (k : ℕ) (q : Fraction) → 0 < q .over → Difference s k q → q .minus ≤ q .plus → number (round f s k (q .over)) .minus ≤ number (round f s k (q .over)) .plus
 round-not-below false f k q D e h = le-trans (le-of-eq (ap (λ (x : Float). number x .minus) (round-is f false k (q .over)) ∙ units-plus f _ _)) zero-le
-round-not-below true f k q D e h = subst (λ (n : ℕ). number (round f true n (q .over)) .minus ≤ number (round f true n (q .over)) .plus) (sym (nothing (q .plus) (q .minus) k e h)) zero
+round-not-below true f k q D e h = subst (λ (n : ℕ). number (round f true n (q .over)) .minus ≤ number (round f true n (q .over)) .plus) (sym (omega arith)) zero
   where
-    nothing : (p m k : ℕ) → m ≡ p + k → m ≤ p → k ≡ 0
-    nothing p m k e h = omega arith
-
-    same : (p m o : ℕ) → p * q .over + 0 * o ≡ 0 * o + m * q .over → m * q .over ≤ p * q .over
-    same p m o e = omega arith
-
     zero : number (round f true 0 (q .over)) .minus ≤ number (round f true 0 (q .over)) .plus
     zero =
         let x = round f true 0 (q .over) in
-        le-of-mul-le-mul-right (same (number x .plus) (number x .minus) (number x .over) (value-same x true 0 (q .over) (round-exact f true 0 (q .over) 0 0 D (pow-pos (prec f)) (pow-pos (low f + suc (emax f))) (zero-mul (2 ^ low f) ∙ sym (zero-mul (q .over)))))) D
+        le-of-mul-le-mul-right (omega (arith, value-same x true 0 (q .over) (round-exact f true 0 (q .over) 0 0 D (pow-pos (prec f)) (pow-pos (low f + suc (emax f))) (zero-mul (2 ^ low f) ∙ sym (zero-mul (q .over)))))) D
 
 pub result-not-below : (f : Format) {z : Float} {q : Fraction} → 0 < q .over → Result f z q → q .minus ≤ q .plus → number z .minus ≤ number z .plus
 result-not-below f {z} {q} D r h = rw (r .is) (round-not-below (r .sign) f (r .size) q D (r .difference) h)

@@ -133,11 +133,8 @@ most-size W q m D h = size-unit D (ceiling-ge (m .plus * W) (m .over) D) (gap-si
 least-size : (W : ℕ) (q l : Fraction) → 0 < l .over → AtMost l q → 0 < left l * W / l .over → Least W q (left l * W / l .over)
 least-size W q l D h p = least-unit (left l * W / l .over) D (div-mul-le-self (left l * W) (l .over)) (go (decLe (l .minus) (l .plus)))
   where
-    rest : (z : ℕ) → (l .minus + z) * q .over + q .minus * l .over ≤ q .plus * l .over + l .minus * q .over → q .minus * l .over + z * q .over ≤ q .plus * l .over
-    rest z h = omega arith
-
     go : Dec (l .minus ≤ l .plus) → Least (l .over) q (left l)
-    go (yes m) = record { least = rest (left l) (subst (λ (n : ℕ). n * q .over + q .minus * l .over ≤ q .plus * l .over + l .minus * q .over) (sym (add-sub-of-le m)) h) }
+    go (yes m) = record { least = omega (arith, subst (λ (n : ℕ). n * q .over + q .minus * l .over ≤ q .plus * l .over + l .minus * q .over) (sym (add-sub-of-le m)) h) }
     go (no n) = none (subst (λ (m : ℕ). 0 < m) (ap (λ (m : ℕ). m * W / l .over) (sub-eq-zero-of-le (le-of-lt (lt-of-not-le n))) ∙ ap (λ (m : ℕ). m / l .over) (zero-mul W) ∙ zero-div (l .over)) p)
 
 both-says : (k l v : ℕ) → 0 < both k l v → (0 < k) × (0 < l) × (both k l v ≡ v)

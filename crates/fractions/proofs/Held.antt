@@ -28,15 +28,9 @@ pub fits-most : (f : Format) (x : Float) → 0 < number x .over → T (fits f x)
 fits-most f nan X t = absurd (lt-irrefl 0 X)
 fits-most f (inf s) X t = absurd (lt-irrefl 0 X)
 fits-most f (fin s zero e) X t =
-    subst (λ (n : ℕ). n * 1 + 0 * down e ≤ 2 ^ suc (emax f) * down e + 0 * 1) (sym (signed-gap s (0 * up e))) (nothing (up e) (down e) (2 ^ suc (emax f) * down e))
-  where
-    nothing : (u d k : ℕ) → 0 * u * 1 + 0 * d ≤ k + 0 * 1
-    nothing u d k = omega arith
+    subst (λ (n : ℕ). n * 1 + 0 * down e ≤ 2 ^ suc (emax f) * down e + 0 * 1) (sym (signed-gap s (0 * up e))) (omega arith)
 fits-most f (fin s (suc m) e) X t =
-    subst (λ (n : ℕ). n * 1 + 0 * down e ≤ 2 ^ suc (emax f) * down e + 0 * 1) (sym (signed-gap s (suc m * up e))) (below (suc m * up e) (down e) (2 ^ suc (emax f) * down e) (held f s m e t .small))
-  where
-    below : (n d k : ℕ) → n < k → n * 1 + 0 * d ≤ k + 0 * 1
-    below n d k h = omega arith
+    subst (λ (n : ℕ). n * 1 + 0 * down e ≤ 2 ^ suc (emax f) * down e + 0 * 1) (sym (signed-gap s (suc m * up e))) (omega (arith, held f s m e t .small))
 
 -- ---- another name of the same number, and a whole number
 same-gap : (p m o q n u : ℕ) → p * u + n * o ≡ q * o + m * u → gap p m * u ≡ gap q n * o
@@ -69,10 +63,7 @@ under-nat : (w o G L E : ℕ) → G * L ≡ w * o → G * 1 * L ≤ E * o * L �
 under-nat w o G L E e h = omega arith
 
 below-top : (l e : ℕ) → 2 ^ e * 2 ^ l < 2 ^ (l + suc e)
-below-top l e = subst (λ (n : ℕ). n < 2 ^ (l + suc e)) (pow-add 2 l e ∙ mul-comm (2 ^ l) (2 ^ e)) (pow-lt (more l e))
-  where
-    more : (l e : ℕ) → l + e < l + suc e
-    more l e = omega arith
+below-top l e = subst (λ (n : ℕ). n < 2 ^ (l + suc e)) (pow-add 2 l e ∙ mul-comm (2 ^ l) (2 ^ e)) (pow-lt (omega arith))
 
 pub power-held : (f : Format) (q : Fraction) (j : ℕ) → 0 < q .over → Holds f q → Size 1 (q ⊗ whole (2 ^ j)) (2 ^ emax f) → Holds f (q ⊗ whole (2 ^ j))
 power-held f q j Q h s =
@@ -81,7 +72,7 @@ power-held f q j Q h s =
     let o = q .over * 1 in
     let G = gap (q .plus * 2 ^ j + q .minus * 0) (q .plus * 0 + q .minus * 2 ^ j) in
     let e : G * L ≡ w * o =
-    ap (λ (n : ℕ). n * L) (power-gap (q .plus) (q .minus) (2 ^ j)) ∙ mul-right-comm (gap (q .plus) (q .minus)) (2 ^ j) L ∙ ap (λ (n : ℕ). n * 2 ^ j) (h .is) ∙ regroup (h .units) (q .over) (2 ^ j) in
+    ap (λ (n : ℕ). n * L) (power-gap (q .plus) (q .minus) (2 ^ j)) ∙ mul-right-comm (gap (q .plus) (q .minus)) (2 ^ j) L ∙ ap (λ (n : ℕ). n * 2 ^ j) (h .is) ∙ (omega arith) in
     record {
       units = w;
       grid = record {
@@ -93,6 +84,3 @@ power-held f q j Q h s =
       };
       is = e;
     }
-  where
-    regroup : (w o k : ℕ) → w * o * k ≡ w * k * (o * 1)
-    regroup w o k = omega arith

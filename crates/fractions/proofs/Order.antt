@@ -98,15 +98,9 @@ plain-same x h = omega (arith, ap (λ (n : ℕ). n * x .over) (add-sub-of-le h))
 pub by-gap : (P : ℕ → ℕ → ℕ → Type 0) → ((b i : ℕ) → P (b + i) b i) → ((a i : ℕ) → P a (a + i) i) → (a b : ℕ) → P a b (gap a b)
 by-gap P f g a b = go (decLe b a)
   where
-    more : b ≤ a → a - b ≡ gap a b
-    more h = omega arith
-
-    less : ¬ (b ≤ a) → b - a ≡ gap a b
-    less h = omega arith
-
     go : Dec (b ≤ a) → P a b (gap a b)
-    go (yes h) = subst (λ (i : ℕ). P a b i) (more h) (subst (λ (z : ℕ). P z b (a - b)) (add-sub-of-le h) (f b (a - b)))
-    go (no n) = subst (λ (i : ℕ). P a b i) (less n) (subst (λ (z : ℕ). P a z (b - a)) (add-sub-of-le (le-of-lt (lt-of-not-le n))) (g a (b - a)))
+    go (yes h) = subst (λ (i : ℕ). P a b i) (omega arith) (subst (λ (z : ℕ). P z b (a - b)) (add-sub-of-le h) (f b (a - b)))
+    go (no n) = subst (λ (i : ℕ). P a b i) (omega arith) (subst (λ (z : ℕ). P a z (b - a)) (add-sub-of-le (le-of-lt (lt-of-not-le n))) (g a (b - a)))
 
 pub gap-times : (a b k : ℕ) → gap (a * k) (b * k) ≡ gap a b * k
 gap-times a b k = by-gap (λ (a b i : ℕ). gap (a * k) (b * k) ≡ i * k) (λ b i. omega arith) (λ a i. omega arith) a b

@@ -99,10 +99,7 @@ same-square x x' h = same-mul x x' x x' h h
 -- the divisors are not below 0, so their differences are whole numbers
 rest-nat : (p m o p' m' o' : ℕ) → m ≤ p → m' ≤ p' → p * o' + m' * o ≡ p' * o + m * o' → (p - m) * o' ≡ (p' - m') * o
 rest-nat p m o p' m' o' h h' e =
-    go (p - m) (p' - m') (subst₂ (λ (n n' : ℕ). n * o' + m' * o ≡ n' * o + m * o') (sym (add-sub-of-le h)) (sym (add-sub-of-le h')) e)
-  where
-    go : (z z' : ℕ) → (m + z) * o' + m' * o ≡ (m' + z') * o + m * o' → z * o' ≡ z' * o
-    go z z' e = omega arith
+    omega (arith, subst₂ (λ (n n' : ℕ). n * o' + m' * o ≡ n' * o + m * o') (sym (add-sub-of-le h)) (sym (add-sub-of-le h')) e)
 
 module _ (x x' y y' : Fraction) where
   pub same-divide : y .minus ≤ y .plus → y' .minus ≤ y' .plus → Same x x' → Same y y' → Same (x ⊘ y) (x' ⊘ y')

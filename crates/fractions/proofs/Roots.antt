@@ -103,12 +103,9 @@ root-square {W} {P} {M} {r} {s} t h l a m =
     let o = s .over in
     let c = parts q z D y o (omega arith) (subst (λ (p : ℕ). z * q * (z * q) * o < y * (D * p * (D * p))) e (lower-less r s p a)) (subst₂ (λ (c p : ℕ). y * (D * p * (D * p)) < z * c * (z * c) * o) e' e (upper-less r s p a)) in
     let i : y * W ≤ M * o = omega (arith, size-same (plain s) (a .number) (a .number) (s-same r s p a) m .above) in
-    let w = cancelled W M t q (D * D * o) (y * (D * D)) (grown y D o (mul-le-mul-right (D * D) i)) (subst (λ (p : ℕ). 3 * M ≤ t * p) e l) in
+    let w = cancelled W M t q (D * D * o) (y * (D * D)) (omega (arith, mul-le-mul-right (D * D) i)) (subst (λ (p : ℕ). 3 * M ≤ t * p) e l) in
     close-same (square r) s (mul-pos (a .root) (a .root)) (a .number) (same-square r (plain r) (plain-same r (r-not-below r s p a))) (s-same r s p a)
     (record { first = mul-pos (a .root) (a .root); second = a .number; above = omega (arith, w (o * z * z) (y * (D * D)) (c .far)); below = omega (arith, w (y * (D * D)) (o * z * z) (c .near)) })
-  where
-    grown : (y D o : ℕ) → y * W * (D * D) ≤ M * o * (D * D) → y * (D * D) * W ≤ M * (D * D * o)
-    grown y D o h = let h' = simp ring at h in simp ring (omega arith)
 
 -- ---- r from below, and G / r from above
 from-square : (a b : ℕ) → a * a ≤ b * b → a ≤ b
@@ -127,10 +124,7 @@ root-least {W} {t} {b} {r} {S} L l p c h =
     let z = left r in
     let D = r .over in
     let i = from-square (L * D) (z * W) (le-of-mul-le-mul-right (simp ring (omega (arith, simp ring at (mul-le-mul-right W (square-below r m c)), simp ring at (mul-le-mul-right (D * D * W) (h .least)), simp ring at (mul-le-mul-right (D * D * S .over) l)))) (c .second)) in
-    record { least = subst (λ (n : ℕ). r .minus * W + L * D ≤ n * W) (add-sub-of-le m) (go (r .minus) z i) }
-  where
-    go : (m z : ℕ) → L * r .over ≤ z * W → m * W + L * r .over ≤ (m + z) * W
-    go m z h = omega arith
+    record { least = subst (λ (n : ℕ). r .minus * W + L * D ≤ n * W) (add-sub-of-le m) (omega arith) }
 
 size-nat : (A B C z D W t M L sp sm : ℕ) → (A * A * C + sm * (B * B)) * (D * D * W * W * (L * L)) ≤ sp * (B * B) * (D * D * W * W * (L * L))
     → sp * (D * D) * W * (B * B * W * (L * L)) ≤ (C * z * z * W + sm * (D * D) * W + t * (D * D * C)) * (B * B * W * (L * L)) → L * D * (L * D) * (t * C * B * B * W) ≤ z * W * (z * W) * (t * C * B * B * W)
@@ -138,10 +132,7 @@ size-nat : (A B C z D W t M L sp sm : ℕ) → (A * A * C + sm * (B * B)) * (D *
 size-nat A B C z D W t M L sp sm x y i j = let x' = simp ring at x in let y' = simp ring at y in let i' = simp ring at i in let j' = simp ring at j in simp ring (omega arith)
 
 square-at-most : (A p m B C sp sm : ℕ) → A * A + (p * m + m * p) ≡ p * p + m * m → (p * p + m * m) * C + sm * (B * B) ≤ sp * (B * B) + (p * m + m * p) * C → A * A * C + sm * (B * B) ≤ sp * (B * B)
-square-at-most A p m B C sp sm e h = go (A * A) (p * m + m * p) (subst (λ (n : ℕ). n * C + sm * (B * B) ≤ sp * (B * B) + (p * m + m * p) * C) (sym e) h)
-  where
-    go : (a b : ℕ) → (a + b) * C + sm * (B * B) ≤ sp * (B * B) + b * C → a * C + sm * (B * B) ≤ sp * (B * B)
-    go a b h = omega arith
+square-at-most A p m B C sp sm e h = omega (arith, subst (λ (n : ℕ). n * C + sm * (B * B) ≤ sp * (B * B) + (p * m + m * p) * C) (sym e) h)
 
 -- where G² is S at most, the quotient is the root of 1 + t W / L² at most, in units of 1 / W
 pub quotient-size : {W t L : ℕ} (M : ℕ) (G r S : Fraction) → 0 < L → W * W * (L * L) + t * (W * W * W) ≤ M * M * (L * L) → AtMost (square G) S → Close W (square r) S t → 0 < r .over → Least W r L → Size W (G ⊘ r) M

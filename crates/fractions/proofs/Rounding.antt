@@ -119,16 +119,10 @@ signed-gap false a = omega arith
 signed-gap true a = omega arith
 
 part-nat : (d num den L P : ℕ) → d * P ≤ num * L → d * (den * P) ≤ num * (L * den)
-part-nat d num den L P h = go (mul-le-mul-right den h)
-  where
-    go : d * P * den ≤ num * L * den → d * (den * P) ≤ num * (L * den)
-    go h = let h' = simp ring at h in simp ring (omega arith)
+part-nat d num den L P h = omega (arith, mul-le-mul-right den h)
 
 half-nat : (d den L : ℕ) → d * 2 ≤ den → d * (2 * L) ≤ 1 * (L * den)
-half-nat d den L h = go (mul-le-mul-right L h)
-  where
-    go : d * 2 * L ≤ den * L → d * (2 * L) ≤ 1 * (L * den)
-    go h = let h' = simp ring at h in simp ring (omega arith)
+half-nat d den L h = omega (arith, mul-le-mul-right L h)
 
 grid-counted : (f : Format) (s : Bool) (num den : ℕ) → 0 < den → Counted f (signed s (grid f num den) (2 ^ low f)) (signed s num den)
 grid-counted f s num den D = go (grid-near f num den D)
@@ -216,9 +210,6 @@ rounds-close f {W} {B} {x} {q} t m r = go (rounds-counted f r)
         regroup : (a b c : ℕ) → a * b * c ≡ a * (c * b)
         regroup a b c = omega arith
 
-    whole : (w e : ℕ) → w ≤ e → 1 * w ≤ suc (B / 2 ^ prec f) * e
-    whole w e h = omega arith
-
     go : Counted f x q → Close W x q (rounding f B)
     go (inl h) = close-unit (mul-pos (r .second) (pow-pos (prec f))) (le-trans (size-gap m) part) h
-    go (inr h) = close-unit (pow-pos (suc (low f))) (whole W (2 ^ suc (low f)) (fine-step f W B t)) h
+    go (inr h) = close-unit (pow-pos (suc (low f))) (omega (arith, fine-step f W B t)) h

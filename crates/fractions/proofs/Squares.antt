@@ -79,10 +79,7 @@ module _ (A B C Z R D X a P W M d t K L : ℕ) (w : 0 < W) (rp : 0 < R) (dp : 0 
       let u = A * D * (a * P * W) in
       let h = B * R * a * K in
       let v = under y (mul-le-mul-right P x) (ap (λ (z : ℕ). z * (B * R * a)) k) (ap (λ (z : ℕ). z * (B * R * W)) f) in
-      le-of-mul-le-mul-right (down y (lowered-nat (y * (B * R * W)) h u (Z * (D * D) * W) (C * R * R * W) (t * (D * D * C)) s (slack A B C R D a P W M t K L w g l small) v (part _ h u v))) all-pos
-    where
-      part : (v h u : ℕ) → v + h ≤ u → v ≤ u
-      part v h u i = omega arith
+      le-of-mul-le-mul-right (down y (lowered-nat (y * (B * R * W)) h u (Z * (D * D) * W) (C * R * R * W) (t * (D * D * C)) s (slack A B C R D a P W M t K L w g l small) v (omega arith))) all-pos
 
 -- ---- the words of specs/, in the same letters
 
@@ -110,10 +107,7 @@ module _ (k : ℕ) (x : Fraction) where
       lowered-parts X a P = equal (omega arith) refl refl
 
 exact-nat : (A p m C o : ℕ) → A * A + (p * m + m * p) ≡ p * p + m * m → (p * p + m * m) * C * o + 0 * o ≡ A * A * C * o + (p * m + m * p) * C * o
-exact-nat A p m C o e = subst (λ (n : ℕ). n * C * o + 0 * o ≡ A * A * C * o + (p * m + m * p) * C * o) e (go (A * A) (p * m + m * p))
-  where
-    go : (a b : ℕ) → (a + b) * C * o + 0 * o ≡ a * C * o + b * C * o
-    go a b = omega arith
+exact-nat A p m C o e = subst (λ (n : ℕ). n * C * o + 0 * o ≡ A * A * C * o + (p * m + m * p) * C * o) e (omega arith)
 
 exact-is : (G S : Fraction) → Same (square G ⊘ S) (fraction (size G * size G * S .over) 0 (G .over * G .over * left S))
 exact-is G S = exact-nat (size G) (G .plus) (G .minus) (S .over) (G .over * G .over * left S) (square-nat (G .plus) (G .minus))
@@ -150,11 +144,8 @@ root-counted {W} {t} {L} {r} {S} w lp rp h l k =
 module _ (o u W E : ℕ) where
   -- one of i and j is 0
   like : (i j : ℕ) → i * j ≤ 0 → j * o * W ≤ i * u * W + E * (o * u) → j * W * o ≤ E * u * o
-  like i j h k = elim (eq-zero-or-pos i) [ inl e ↦ first (subst (λ (n : ℕ). j * o * W ≤ n * u * W + E * (o * u)) e k) | inr p ↦ second (mul-le-mul-right j p) ]
+  like i j h k = elim (eq-zero-or-pos i) [ inl e ↦ (omega (arith, subst (λ (n : ℕ). j * o * W ≤ n * u * W + E * (o * u)) e k)) | inr p ↦ second (mul-le-mul-right j p) ]
     where
-      first : j * o * W ≤ 0 * u * W + E * (o * u) → j * W * o ≤ E * u * o
-      first k = let k' = simp ring at k in simp ring (omega arith)
-
       second : 1 * j ≤ i * j → j * W * o ≤ E * u * o
       second p = subst (λ (n : ℕ). n * W * o ≤ E * u * o) (nought (omega arith)) (omega arith)
         where
@@ -221,19 +212,11 @@ module _ {W k M d t L : ℕ} (x G r S : Fraction) (f : Tests W k M d t L) (n : N
 
   near-above : size G * r .over * x .over * W ≤ size x * (G .over * left r) * W + d * (x .over * (G .over * left r))
   near-above =
-      go (size x) (x .over) (size G * r .over) (G .over * left r)
-      (subst (λ (m : ℕ). (0 * (G .over * left r) + m * x .over) * W ≤ (0 * x .over + size x * (G .over * left r)) * W + d * (x .over * (G .over * left r))) quotient (close-magnitude (n .close) .below))
-    where
-      go : (X a A Q : ℕ) → (0 * Q + A * a) * W ≤ (0 * a + X * Q) * W + d * (a * Q) → A * a * W ≤ X * Q * W + d * (a * Q)
-      go X a A Q h = omega arith
+      omega (arith, subst (λ (m : ℕ). (0 * (G .over * left r) + m * x .over) * W ≤ (0 * x .over + size x * (G .over * left r)) * W + d * (x .over * (G .over * left r))) quotient (close-magnitude (n .close) .below))
 
   near-below : size x * (G .over * left r) * W ≤ size G * r .over * x .over * W + d * (x .over * (G .over * left r))
   near-below =
-      go (size x) (x .over) (size G * r .over) (G .over * left r)
-      (subst (λ (m : ℕ). (size x * (G .over * left r) + 0 * x .over) * W ≤ (m * x .over + 0 * (G .over * left r)) * W + d * (x .over * (G .over * left r))) quotient (close-magnitude (n .close) .above))
-    where
-      go : (X a A Q : ℕ) → (X * Q + 0 * a) * W ≤ (A * a + 0 * Q) * W + d * (a * Q) → X * Q * W ≤ A * a * W + d * (a * Q)
-      go X a A Q h = omega arith
+      omega (arith, subst (λ (m : ℕ). (size x * (G .over * left r) + 0 * x .over) * W ≤ (m * x .over + 0 * (G .over * left r)) * W + d * (x .over * (G .over * left r))) quotient (close-magnitude (n .close) .above))
 
   under-square : 0 < G .over * G .over * left S
   under-square = mul-pos (mul-pos B>0 B>0) (sub-pos-iff-lt .1 (the-root .positive))
@@ -256,10 +239,7 @@ module _ {W k M d t L : ℕ} (x G r S : Fraction) (f : Tests W k M d t L) (n : N
   lowered-square (yes h) =
       below-nat (size G) (G .over) (S .over) (left S) (left r) (r .over) (size x) (x .over) (2 ^ k) W M d t (W - d * 2 ^ k) L (f .unit) (sub-pos-iff-lt .1 r>0) D>0 (sub-add-cancel (f .left)) sized long (f .small) (f .half)
       (size x * 2 ^ k - x .over) (sub-add-cancel h) near-below (the-root .below)
-  lowered-square (no h) = subst (λ (y : ℕ). y * y * (G .over * G .over * left S) ≤ size G * size G * S .over * (x .over * 2 ^ k * (x .over * 2 ^ k))) (sym (sub-eq-zero-of-le (le-of-lt (lt-of-not-le h)))) (none (G .over * G .over * left S))
-    where
-      none : (m : ℕ) {b : ℕ} → 0 * 0 * m ≤ b
-      none m = omega arith
+  lowered-square (no h) = subst (λ (y : ℕ). y * y * (G .over * G .over * left S) ≤ size G * size G * S .over * (x .over * 2 ^ k * (x .over * 2 ^ k))) (sym (sub-eq-zero-of-le (le-of-lt (lt-of-not-le h)))) (omega arith)
 
   squares-below : AtMost (square (lowered k x)) (square G ⊘ S)
   squares-below =
@@ -271,11 +251,8 @@ module _ {W k M d t L : ℕ} (x G r S : Fraction) (f : Tests W k M d t L) (n : N
   unlike-small h =
       le-of-mul-le-mul-right
       (subst (λ (m : ℕ). m * W * x .over ≤ d * (G .over * left r) * x .over) quotient
-      (unlike-nat (x .over) (G .over * left r) W d (x .plus) (x .minus) (G .plus * r .over) (G .minus * r .over) (turn (x .plus) (x .minus) (G .plus) (G .minus) (r .over) (mul-le-mul-right (r .over) (bare _ _ (x .over * G .over) h))) (n .close .above) (n .close .below))) (n .close .first)
+      (unlike-nat (x .over) (G .over * left r) W d (x .plus) (x .minus) (G .plus * r .over) (G .minus * r .over) (turn (x .plus) (x .minus) (G .plus) (G .minus) (r .over) (mul-le-mul-right (r .over) (omega arith))) (n .close .above) (n .close .below))) (n .close .first)
     where
-      bare : (a b o : ℕ) → a * 1 + 0 * o ≤ 0 * o + b * 1 → a ≤ b
-      bare a b o h = omega arith
-
       turn : (p m q n D : ℕ) → (p * q + m * n) * D ≤ (p * n + m * q) * D → p * (q * D) + m * (n * D) ≤ p * (n * D) + m * (q * D)
       turn p m q n D h = let h' = simp ring at h in omega arith
 

@@ -85,13 +85,10 @@ module _ {A : Type 0} where
 
   -- from i to before n, cut at m
   pub tab-cut : (i m n : ℕ) (f : ℕ → A) → i ≤ m → m ≤ n → tab i (n - i) f ≡ tab i (m - i) f ++ tab m (n - m) f
-  tab-cut i m n f a b = ap (λ (k : ℕ). tab i k f) all ∙ tab-append i (m - i) (n - m) f ∙ ap (λ (k : ℕ). tab i (m - i) f ++ tab k (n - m) f) second
+  tab-cut i m n f a b = ap (λ (k : ℕ). tab i k f) all ∙ tab-append i (m - i) (n - m) f ∙ ap (λ (k : ℕ). tab i (m - i) f ++ tab k (n - m) f) (omega arith)
     where
       all : n - i ≡ m - i + (n - m)
       all = omega (arith, a, b)
-
-      second : i + (m - i) ≡ m
-      second = omega (arith, a)
 
   -- ---- parts and rows
 

@@ -7,9 +7,9 @@ use native.Mathlib.Nat.{le-trans, le-of-eq, lt-of-lt-of-le, lt-of-le-of-lt, sub-
 use native.Mathlib.Omega.{arith}
 use lib.Dec.{T}
 use lib.Pow.{pow-pos, suc-ones}
-use lib.Ieee.{Float, Format, prec, low, fits, hid}
+use lib.Ieee.{Float, Format, prec, low, fits}
 use lib.Ieee.Positive.{positive, positive-of-value}
-use Rattle.fractions.specs.Fraction.{Fraction, fraction, whole, signed, number, _⊗_, square, Same, Less}
+use Rattle.fractions.specs.Fraction.{Fraction, fraction, signed, number, _⊗_, square, Same, Less}
 use Rattle.fractions.proofs.Roots.{RootOf}
 use Rattle.fractions.proofs.Order.{same-refl, same-mul, less-same}
 use Rattle.fractions.proofs.Restate.{same-square}
@@ -38,10 +38,7 @@ lower-part (suc q) u a P' h low =
     let sq : 2 * (Q * P') * u * (2 * (Q * P') * u) < 4 * a * (suc P' * suc P') =
     lt-of-le-of-lt (mul-le-mul mu mu) (subst (λ (x : ℕ). x < 4 * a * (suc P' * suc P')) (sym (turn y (suc P') u)) (mul-lt-mul-of-pos-right less (mul-pos (zero-lt-suc P') (zero-lt-suc P')))) in
     lt-of-mul-lt-mul-left 4 (subst (λ (x : ℕ). x < 4 * (a * (suc P' * suc P'))) (twice Q P' u) (subst (λ (x : ℕ). 2 * (Q * P') * u * (2 * (Q * P') * u) < x) (mul-assoc 4 a (suc P' * suc P')) sq))
-lower-part zero u a P' h low = absurd (none P' h)
-  where
-    none : (P' : ℕ) → suc P' ≤ 2 * 0 → ⊥
-    none P' h = omega arith
+lower-part zero u a P' h low = absurd (omega arith)
 
 upper-part : (q u a P : ℕ) → P ≤ 2 * q → 0 < P → 4 * a < suc (2 * q) * u * (suc (2 * q) * u) → a * (P * P) < q * u * suc P * (q * u * suc P)
 upper-part q u a P h pp up =
@@ -109,18 +106,12 @@ module _ (f : Format) (x : Float) (h : T (fits f x)) (t : T (positive x)) where
   root-close =
       let P = 2 ^ prec f in
       let r = root-half f x h t in
-      let big : P ≤ 2 * q = le-trans (le-of-eq (twice-hid f)) (twice-le (hid f) q (r .least)) in
+      let big : P ≤ 2 * q = le-trans (le-of-eq (twice-hid f)) (omega (arith, r .least)) in
       let s : suc (P - 1) ≡ P = suc-ones (prec f) in
       record {
         root = value-number (rootOf f x) false (q * u) (2 ^ low f) (root-value f x h t);
         number = x-pos;
-        positive = above-zero (number (rootOf f x)) (sub-pos-iff-lt .0 (positive-number (rootOf f x) root-positive));
+        positive = omega (arith, sub-pos-iff-lt .0 (positive-number (rootOf f x) root-positive));
         below = scaled-below (P - 1) P (pow-pos (prec f)) (subst (λ (z : ℕ). q * u * (P - 1) * (q * u * (P - 1)) < n * 2 ^ low f * (z * z)) s (lower-part q u (n * 2 ^ low f) (P - 1) (subst (λ (z : ℕ). z ≤ 2 * q) (sym s) big) (r .lower)));
         above = scaled-above (suc P) P (pow-pos (prec f)) (upper-part q u (n * 2 ^ low f) P big (pow-pos (prec f)) (r .upper));
       }
-    where
-      twice-le : (a b : ℕ) → a ≤ b → 2 * a ≤ 2 * b
-      twice-le a b h = omega arith
-
-      above-zero : (r : Fraction) → r .minus < r .plus → Less (whole 0) r
-      above-zero r l = omega arith

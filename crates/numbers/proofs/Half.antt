@@ -26,35 +26,17 @@ use Rattle.numbers.proofs.Rooting.{root-digits, half-digits}
 -- a has 2 * j - 1 or 2 * j digits
 half-bounds : (a j : ℕ) → suc (size a) / 2 ≡ suc j → (4 ^ j ≤ a) × (a < 4 ^ suc j)
 half-bounds a j e =
-    (subst (λ (x : ℕ). x ≤ a) (sym (four-pow j)) (size-reaches a (j + j) (lo (size a) j e)), lt-of-lt-of-le (size-lt a) (subst (λ (x : ℕ). 2 ^ size a ≤ x) (sym (four-pow (suc j))) (pow-mono (hi (size a) j e))))
-  where
-    lo : (z j : ℕ) → suc z / 2 ≡ suc j → j + j < z
-    lo z j e = omega arith
-
-    hi : (z j : ℕ) → suc z / 2 ≡ suc j → z ≤ suc j + suc j
-    hi z j e = omega arith
+    (subst (λ (x : ℕ). x ≤ a) (sym (four-pow j)) (size-reaches a (j + j) (omega arith)), lt-of-lt-of-le (size-lt a) (subst (λ (x : ℕ). 2 ^ size a ≤ x) (sym (four-pow (suc j))) (pow-mono (omega arith))))
 
 under-digits : (p a : ℕ) → p < suc (size a) / 2 → (4 ^ p ≤ 4 * a / 4 ^ drops p a) × (4 * a / 4 ^ drops p a < 4 ^ suc p)
 under-digits p a h =
     let k = drops p a in
     let j = suc (size a) / 2 - 1 in
-    let b = half-bounds a j (step (suc (size a) / 2) p h) in (
-      le-div-iff-mul-le (four-pos k) .1 (le-trans (le-of-eq (sym (pow-add 4 p k) ∙ ap (λ (x : ℕ). 4 ^ x) (join (suc (size a) / 2) p h) ∙ pow-succ' 4 j)) (times (4 ^ j) a (b .0))),
-      div-lt-iff-lt-mul (four-pos k) .1 (lt-of-lt-of-le (times-lt a (4 ^ suc j) (b .1)) (le-of-eq (sym (pow-succ' 4 (suc j)) ∙ ap (λ (x : ℕ). 4 ^ x) (sym (join' (suc (size a) / 2) p h)) ∙ pow-add 4 (suc p) k))),
+    let b = half-bounds a j (omega arith) in (
+      le-div-iff-mul-le (four-pos k) .1 (le-trans (le-of-eq (sym (pow-add 4 p k) ∙ ap (λ (x : ℕ). 4 ^ x) (omega arith) ∙ pow-succ' 4 j)) (omega (arith, b .0))),
+      div-lt-iff-lt-mul (four-pos k) .1 (lt-of-lt-of-le (times-lt a (4 ^ suc j) (b .1)) (le-of-eq (sym (pow-succ' 4 (suc j)) ∙ ap (λ (x : ℕ). 4 ^ x) (sym (omega arith)) ∙ pow-add 4 (suc p) k))),
     )
   where
-    step : (y p : ℕ) → p < y → y ≡ suc (y - 1)
-    step y p h = omega arith
-
-    join : (y p : ℕ) → p < y → p + (y - p) ≡ suc (y - 1)
-    join y p h = omega arith
-
-    join' : (y p : ℕ) → p < y → suc p + (y - p) ≡ suc (suc (y - 1))
-    join' y p h = omega arith
-
-    times : (x a : ℕ) → x ≤ a → 4 * x ≤ 4 * a
-    times x a h = omega arith
-
     times-lt : (a x : ℕ) → a < x → 4 * a < 4 * x
     times-lt a x h = omega arith
 
@@ -73,10 +55,7 @@ odd-square r h =
     let e : r ≡ suc (q + q) = omega arith in
     let s : suc (q + q) * suc (q + q) ≡ (q + q) * (q + q) + 2 * (q + q) + 1 = square-suc (q + q) in
     let d : (q + q) * (q + q) ≡ q * (q + q) + q * (q + q) = add-mul q q (q + q) in
-    ap (λ (x : ℕ). x * x % 2) e ∙ odd (suc (q + q) * suc (q + q)) (q * (q + q)) q (s ∙ ap (λ (x : ℕ). x + 2 * (q + q) + 1) d)
-  where
-    odd : (x y q : ℕ) → x ≡ y + y + 2 * (q + q) + 1 → x % 2 ≡ 1
-    odd x y q h = omega arith
+    ap (λ (x : ℕ). x * x % 2) e ∙ (omega (arith, s ∙ ap (λ (x : ℕ). x + 2 * (q + q) + 1) d))
 
 no-tie : (p r k c E : ℕ) → 2 ^ p ≤ r → r % 2 ≡ 1 → c < 2 ^ p → 0 < c → r * r * 2 ^ k ≡ c * 2 ^ E → ⊥
 no-tie p r k c E lo o h C e = go (decLe E k)
@@ -84,18 +63,12 @@ no-tie p r k c E lo o h C e = go (decLe E k)
     big : c < r * r
     big = lt-of-lt-of-le h (le-trans lo (le-trans (le-of-eq (sym (mul-one r))) (mul-le-mul (le-refl r) (le-trans (pow-pos p) lo))))
 
-    back : (k E : ℕ) → k < E → E ≡ suc (E - suc k) + k
-    back k E l = omega arith
-
-    even : (x y : ℕ) → x ≡ 2 * y → x % 2 ≡ 1 → ⊥
-    even x y h o = omega arith
-
     go : Dec (E ≤ k) → ⊥
     go (yes l) = lt-irrefl (c * 2 ^ E) (lt-of-lt-of-le (mul-lt-mul-of-pos-right big (pow-pos E)) (le-trans (mul-le-mul (le-refl (r * r)) (pow-mono l)) (le-of-eq e)))
     go (no n) =
         let d = E - suc k in
-        let s : r * r * 2 ^ k ≡ c * 2 ^ suc d * 2 ^ k = e ∙ ap (λ (x : ℕ). c * x) (ap (λ (x : ℕ). 2 ^ x) (back k E (lt-of-not-le n)) ∙ pow-add 2 (suc d) k) ∙ sym (mul-assoc c (2 ^ suc d) (2 ^ k)) in
-        even (r * r) (c * 2 ^ d) (eq-of-mul-eq-mul-right (2 ^ k) (pow-pos k) (r * r) (c * 2 ^ suc d) s ∙ ap (λ (x : ℕ). c * x) (pow-succ' 2 d) ∙ mul-left-comm c 2 (2 ^ d)) (odd-square r o)
+        let s : r * r * 2 ^ k ≡ c * 2 ^ suc d * 2 ^ k = e ∙ ap (λ (x : ℕ). c * x) (ap (λ (x : ℕ). 2 ^ x) (omega (arith, lt-of-not-le n)) ∙ pow-add 2 (suc d) k) ∙ sym (mul-assoc c (2 ^ suc d) (2 ^ k)) in
+        omega (arith, eq-of-mul-eq-mul-right (2 ^ k) (pow-pos k) (r * r) (c * 2 ^ suc d) s ∙ ap (λ (x : ℕ). c * x) (pow-succ' 2 d) ∙ mul-left-comm c 2 (2 ^ d), odd-square r o)
 
 -- ---- the root of n units is q * 2 ^ k units, for a q of prec digits, or the next power of two: within half of 2 ^ k, and not half of it either way
 
@@ -116,16 +89,10 @@ long-enough binary64 = lit< tt
 
 module _ (f : Format) (n : ℕ) (g : Grid f n) (N : 0 < n) where
   has-digits : prec f < suc (size (n * 2 ^ low f)) / 2
-  has-digits = lt-of-lt-of-le (long-enough f) (halves (low f) (size (n * 2 ^ low f)) (size-gt (n * 2 ^ low f) (low f) (le-trans (le-of-eq (sym (one-mul (2 ^ low f)))) (mul-le-mul-right (2 ^ low f) N))))
-    where
-      halves : (l z : ℕ) → l < z → suc (suc l) / 2 ≤ suc z / 2
-      halves l z h = omega arith
+  has-digits = lt-of-lt-of-le (long-enough f) (omega (arith, size-gt (n * 2 ^ low f) (low f) (le-trans (le-of-eq (sym (one-mul (2 ^ low f)))) (mul-le-mul-right (2 ^ low f) N))))
 
   in-range : prec f + drops (prec f) (n * 2 ^ low f) < low f + suc (emax f)
-  in-range = bound (prec f) (low f) (suc (emax f)) (size (n * 2 ^ low f)) has-digits (size-le (n * 2 ^ low f) (low f + suc (emax f) + low f) (shl-lt (low f + suc (emax f)) (low f) (g .room))) (two f) (reach f)
-    where
-      bound : (p l e z : ℕ) → p < suc z / 2 → z ≤ l + e + l → 2 ≤ p → p ≤ e → p + (suc z / 2 - p) < l + e
-      bound p l e z a b d h = omega arith
+  in-range = omega (arith, size-le (n * 2 ^ low f) (low f + suc (emax f) + low f) (shl-lt (low f + suc (emax f)) (low f) (g .room)), two f, reach f)
 
   tie-free : (r : ℕ) → 2 ^ prec f ≤ r → r % 2 ≡ 1 → r * 2 ^ drops (prec f) (n * 2 ^ low f) * (r * 2 ^ drops (prec f) (n * 2 ^ low f)) ≡ 4 * (n * 2 ^ low f) → ⊥
   tie-free r lo o e =
@@ -163,12 +130,9 @@ module _ (f : Format) (n : ℕ) (g : Grid f n) (N : 0 < n) where
         most = h .1;
         lower = λ y e. down (4 * a) s y u (sq .0) (tie-free s (d .0)) (pow-pos k) (s % 2) refl (omega arith) e;
         upper = lt-of-lt-of-le (sq .1) (let m : suc s * u ≤ suc (2 * (suc s / 2)) * u = mul-le-mul-right u (omega arith) in mul-le-mul m m);
-        floor = λ l. le-trans (let m : 2 * (suc s / 2) * u ≤ s * u = mul-le-mul-right u (short (hid f) s (subst (λ (x : ℕ). x ≤ s) (twice-hid f) (d .0)) l) in mul-le-mul m m) (sq .0);
+        floor = λ l. le-trans (let m : 2 * (suc s / 2) * u ≤ s * u = mul-le-mul-right u (omega (arith, subst (λ (x : ℕ). x ≤ s) (twice-hid f) (d .0))) in mul-le-mul m m) (sq .0);
       }
     where
-      short : (h s : ℕ) → 2 * h ≤ s → suc s / 2 ≤ h → 2 * (suc s / 2) ≤ s
-      short h s a b = omega arith
-
       down : (A s y u : ℕ) → s * u * (s * u) ≤ A → (s % 2 ≡ 1 → s * u * (s * u) ≡ A → ⊥) → 0 < u → (d : ℕ) → s % 2 ≡ d → d < 2 → suc y ≡ 2 * (suc s / 2) → y * u * (y * u) < A
       down A s y u le free U zero z b e = lt-of-lt-of-le (square-lt (y * u) (s * u) (mul-lt-mul-of-pos-right (omega arith) U)) le
       down A s y u le free U (suc d) z b e =

@@ -150,22 +150,13 @@ module _ (f : Format) (x r y : Float) (n p : ℕ) (vx : HasValue x false n (2 ^ 
   below : (s : Bool) → Units f s y → Less (number r) (number y) → HalfAbove (number r ⊕ number y) (number x)
   below false u l =
       over-root false (u .w) (fraction (p + u .w) 0 L) (u .value) (sum-like L p (u .w)) (omega arith)
-      (above-nat L n p (u .w) L-pos (nearest (u .w) (u .grid) .0 (lt-of-mul-lt-mul-right L (level (r-below false (u .w) (u .value) l))))) L-pos
-    where
-      level : p * L + 0 * L < u .w * L + 0 * L → p * L < u .w * L
-      level h = omega arith
-  below true u l = absurd (none (r-below true (u .w) (u .value) l))
-    where
-      none : p * L + u .w * L < 0 * L + 0 * L → ⊥
-      none h = omega arith
+      (above-nat L n p (u .w) L-pos (nearest (u .w) (u .grid) .0 (lt-of-mul-lt-mul-right L (omega (arith, r-below false (u .w) (u .value) l))))) L-pos
+  below true u l = absurd (omega (arith, r-below true (u .w) (u .value) l))
 
   above : (s : Bool) → Units f s y → Less (number y) (number r) → HalfBelow (number r ⊕ number y) (number x)
   above false u l =
       under-root false (u .w) (fraction (p + u .w) 0 L) (u .value) (sum-like L p (u .w))
-      (below-nat L n p (u .w) L-pos (nearest (u .w) (u .grid) .1 (lt-of-mul-lt-mul-right L (level (r-above false (u .w) (u .value) l)))))
-    where
-      level : u .w * L + 0 * L < p * L + 0 * L → u .w * L < p * L
-      level h = omega arith
+      (below-nat L n p (u .w) L-pos (nearest (u .w) (u .grid) .1 (lt-of-mul-lt-mul-right L (omega (arith, r-above false (u .w) (u .value) l)))))
   above true u l = go (decLe (u .w) p)
     where
       z : Fraction

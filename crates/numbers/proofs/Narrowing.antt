@@ -110,24 +110,15 @@ module _ (s : Bool) (e d : ℕ) (h : d < 2 ^ 52) where
   subnormal b a =
       shifted 0 (926 - e) (omega arith) (omega arith) (lt-of-lt-of-le few (pow-mono (more (926 - e) (omega arith)))) (inl refl)
       ∙ ap (λ (x : ℕ). cond s (2 ^ 31) 0 + min (0 * 2 ^ 23 + closest x (2 ^ (926 - e))) (255 * 2 ^ 23)) (lead (omega arith))
-      ∙ ap (λ (x : ℕ). cond s (2 ^ 31) 0 + x) (kept (closest (2 ^ 52 + d) (2 ^ (926 - e))) (subnormal-digits a))
-    where
-      kept : (q : ℕ) → q ≤ 2 ^ 24 → min (0 * 2 ^ 23 + q) (255 * 2 ^ 23) ≡ q
-      kept q h = omega arith
+      ∙ ap (λ (x : ℕ). cond s (2 ^ 31) 0 + x) (omega (arith, subnormal-digits a))
 
   -- ---- a normal value, or an infinity
   pub normal-digits : closest (2 ^ 52 + d) (2 ^ 29) ≤ 2 ^ 24
   normal-digits = closest-le (2 ^ 52 + d) (2 ^ 29) (2 ^ 24) (pow-pos 29) wide
 
   pub normal : 897 ≤ e → e < 2048 → (e ≡ 2047 → d ≡ 0) → Narrow (min ((e - 897) * 2 ^ 23 + closest (2 ^ 52 + d) (2 ^ 29)) (255 * 2 ^ 23))
-  normal b a n = go (eq-or-lt-of-le last)
+  normal b a n = go (eq-or-lt-of-le (omega arith))
     where
-      last : e ≤ 2047
-      last = omega arith
-
-      over : (k q : ℕ) → 255 ≤ k → 255 * 2 ^ 23 ≡ min (k * 2 ^ 23 + q) (255 * 2 ^ 23)
-      over k q h = omega arith
-
       go : (e ≡ 2047) ⊎ (e < 2047) → Narrow (min ((e - 897) * 2 ^ 23 + closest (2 ^ 52 + d) (2 ^ 29)) (255 * 2 ^ 23))
       go (inl i) =
           ap (λ (x : ℕ). toBits binary32 (narrowed (ofFields binary64 s x d))) i
@@ -135,7 +126,7 @@ module _ (s : Bool) (e d : ℕ) (h : d < 2 ^ 52) where
           ∙ ap (λ (v : Float). toBits binary32 (narrowed v)) (fields-inf binary64 s)
           ∙ ap (toBits binary32) (rounded-inf binary32 s)
           ∙ toBits-inf binary32 s
-          ∙ ap (λ (x : ℕ). cond s (2 ^ 31) 0 + x) (over (e - 897) (closest (2 ^ 52 + d) (2 ^ 29)) (omega arith))
+          ∙ ap (λ (x : ℕ). cond s (2 ^ 31) 0 + x) (omega arith)
       go (inr l) =
           shifted (e - 897) 29 l (omega arith) few (inr (le-trans (omega arith) (le-of-eq (sym (lead (omega arith))))))
           ∙ ap (λ (x : ℕ). cond s (2 ^ 31) 0 + min ((e - 897) * 2 ^ 23 + closest x (2 ^ 29)) (255 * 2 ^ 23)) (lead (omega arith))

@@ -50,12 +50,9 @@ module _ (f : Format) (s : Bool) (q k : ℕ) where
 even-pattern : (f : Format) (s : Bool) (q k : ℕ) → q ≤ 2 ^ prec f → (k ≡ 0) ⊎ (hid f ≤ q) → q * 2 ^ k < overflow f → toBits f (units f s q k) % 2 ≡ q % 2
 even-pattern f s q k h g o =
     ap (λ (x : ℕ). x % 2) (units-bits f s q k h g ∙ ap (λ (x : ℕ). cond s (top f) 0 + x) (min-eq-left (under-inf f s q k h g o)))
-    ∙ ap (λ (x : ℕ). (cond s (x * suc (ones f)) 0 + (k * x + q)) % 2) (twice (prec f - 1) (some (prec f) (two f)))
+    ∙ ap (λ (x : ℕ). (cond s (x * suc (ones f)) 0 + (k * x + q)) % 2) (twice (prec f - 1) (omega (arith, two f)))
     ∙ last s (2 ^ (prec f - 1 - 1)) (suc (ones f))
   where
-    some : (p : ℕ) → 2 ≤ p → 0 < p - 1
-    some p h = omega arith
-
     last : (s : Bool) (j o : ℕ) → (cond s (2 * j * o) 0 + (k * (2 * j) + q)) % 2 ≡ q % 2
     last true j o = omega arith
     last false j o = omega arith
@@ -66,19 +63,13 @@ module _ (f : Format) where
   K = low f + suc (emax f) - prec f
 
   end : overflow f ≡ 2 ^ prec f * 2 ^ K
-  end = ap (λ (x : ℕ). 2 ^ x) (sum (prec f) (emax f) (two f) (reach f)) ∙ pow-add 2 (prec f) K
-    where
-      sum : (p e : ℕ) → 2 ≤ p → p ≤ suc e → e + p - 2 + suc e ≡ p + (e + p - 2 + suc e - p)
-      sum p e a b = omega arith
+  end = ap (λ (x : ℕ). 2 ^ x) (omega (arith, two f, reach f)) ∙ pow-add 2 (prec f) K
 
   -- the largest number is one step of 2 ^ K units below the overflow
   largest-units : largest f * 2 ^ low f + 2 ^ K ≡ overflow f
   largest-units =
-      ap (λ (x : ℕ). x + 2 ^ K) (mul-assoc (2 ^ prec f - 1) (2 ^ (suc (emax f) - prec f)) (2 ^ low f) ∙ ap (λ (x : ℕ). (2 ^ prec f - 1) * x) (sym (pow-add 2 (suc (emax f) - prec f) (low f)) ∙ ap (λ (x : ℕ). 2 ^ x) (sum (prec f) (emax f) (two f) (reach f))))
+      ap (λ (x : ℕ). x + 2 ^ K) (mul-assoc (2 ^ prec f - 1) (2 ^ (suc (emax f) - prec f)) (2 ^ low f) ∙ ap (λ (x : ℕ). (2 ^ prec f - 1) * x) (sym (pow-add 2 (suc (emax f) - prec f) (low f)) ∙ ap (λ (x : ℕ). 2 ^ x) (omega (arith, two f, reach f))))
       ∙ sym (suc-mul (2 ^ prec f - 1) (2 ^ K)) ∙ ap (λ (x : ℕ). x * 2 ^ K) (suc-ones (prec f)) ∙ sym end
-    where
-      sum : (p e : ℕ) → 2 ≤ p → p ≤ suc e → suc e - p + (e + p - 2) ≡ e + p - 2 + suc e - p
-      sum p e a b = omega arith
 
   beyond-units : beyond f * 2 ^ low f ≡ overflow f
   beyond-units = mul-comm (2 ^ suc (emax f)) (2 ^ low f) ∙ sym (pow-add 2 (low f) (suc (emax f)))
@@ -257,17 +248,11 @@ module _ (f : Format) (s : Bool) (m : ℕ) (e : ℤ) where
       M : ℕ
       M = (largest f + beyond f) * c
 
-      below : (M a L X Z : ℕ) → M * L + X ≡ Z → 2 * (a * L) + X < Z → 2 * a * L < M * L
-      below M a L X Z e h = omega (arith, mul-assoc 2 a L)
-
-      above : (M a L X Z : ℕ) → M * L + X ≡ Z → Z ≤ 2 * (a * L) + X → M * L ≤ 2 * a * L
-      above M a L X Z e h = omega (arith, mul-assoc 2 a L)
-
       past : not (ltb (q * 2 ^ k) (overflow f)) ≡ leb M (2 * a)
       past =
           by-test (λ (b : Bool). not b ≡ leb M (2 * a)) (ltb (q * 2 ^ k) (overflow f))
-          (λ l. sym (lt-leb M (2 * a) (lt-of-mul-lt-mul-right (2 ^ low f) (below M a (2 ^ low f) (c * 2 ^ K f) (2 * (2 ^ prec f * (c * 2 ^ K f))) (middle f c) (before-middle f n c k (down-pos e) d (K f) (end f) (ltb-true _ _ l))))))
-          (λ l. sym (le-leb M (2 * a) (le-of-mul-le-mul-right (above M a (2 ^ low f) (c * 2 ^ K f) (2 * (2 ^ prec f * (c * 2 ^ K f))) (middle f c) (past-middle f n c k (down-pos e) d (K f) (end f) (ltb-false _ _ l))) L)))
+          (λ l. sym (lt-leb M (2 * a) (lt-of-mul-lt-mul-right (2 ^ low f) (omega (arith, middle f c, before-middle f n c k (down-pos e) d (K f) (end f) (ltb-true _ _ l))))))
+          (λ l. sym (le-leb M (2 * a) (le-of-mul-le-mul-right (omega (arith, middle f c, past-middle f n c k (down-pos e) d (K f) (end f) (ltb-false _ _ l))) L)))
 
   fin-narrows : Narrows f x r
   unfolding isNan

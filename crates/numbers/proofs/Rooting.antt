@@ -39,39 +39,27 @@ scaled-half f n l m e s =
     let short : m * 2 ^ r ≤ m * 2 = mul-le-mul-left m (pow-mono (le-of-suc-le-suc (mod-lt e (zero-lt-suc 1)))) in (
       mul-assoc m (2 ^ r) (4 ^ (e / 2)) ∙ ap (λ (x : ℕ). m * (2 ^ r * x)) (four-pow (e / 2)) ∙ ap (λ (x : ℕ). m * x) (sym (pow-add 2 r (e / 2 + e / 2)) ∙ ap (λ (x : ℕ). 2 ^ x) d) ∙ s .value,
       le-trans (s .least) grown,
-      lt-of-le-of-lt short (quadruple (hid f) m (s .most)),
+      lt-of-le-of-lt short (omega (arith, s .most)),
     )
-  where
-    quadruple : (h m : ℕ) → m < 2 * h → m * 2 < 4 * h
-    quadruple h m l = omega arith
 
 -- ---- how many digits are dropped
 
 half-size : (a i : ℕ) → 4 ^ i ≤ a → a < 4 ^ suc i → suc (size a) / 2 ≡ suc i
 half-size a i lo hi =
-    half (size a) i (size-gt a (i + i) (subst (λ (x : ℕ). x ≤ a) (four-pow i) lo)) (size-le a (suc i + suc i) (subst (λ (x : ℕ). a < x) (four-pow (suc i)) hi))
-  where
-    half : (z i : ℕ) → i + i < z → z ≤ suc i + suc i → suc z / 2 ≡ suc i
-    half z i l h = omega arith
+    omega (arith, size-gt a (i + i) (subst (λ (x : ℕ). x ≤ a) (four-pow i) lo), size-le a (suc i + suc i) (subst (λ (x : ℕ). a < x) (four-pow (suc i)) hi))
 
 -- the number under the root in units of 2 ^ k, four times: it has 2 * p + 1 or 2 * p + 2 digits
 drops-is : (p a M k : ℕ) → 2 ≤ p → M * 4 ^ k ≡ 4 * a → 4 ^ p ≤ M → M < 4 ^ suc p → drops p a ≡ k
 drops-is p a M k P e lo hi =
     ap (λ (x : ℕ). x - p) (half-size a (p - 1 + k) (le-of-mul-le-mul-left (subst (λ (x : ℕ). x ≤ 4 * a) low-is (subst (λ (x : ℕ). 4 ^ p * 4 ^ k ≤ x) e (mul-le-mul-right (4 ^ k) lo))) (lit< tt))
     (lt-of-mul-lt-mul-left 4 (subst (λ (x : ℕ). 4 * a < x) high-is (subst (λ (x : ℕ). x < 4 ^ suc p * 4 ^ k) e (mul-lt-mul-of-pos-right hi (four-pos k))))))
-    ∙ rest p k P
+    ∙ (omega arith)
   where
-    rest : (p k : ℕ) → 2 ≤ p → suc (p - 1 + k) - p ≡ k
-    rest p k P = omega arith
-
-    same : (p k : ℕ) → 2 ≤ p → p + k ≡ suc (p - 1 + k)
-    same p k P = omega arith
-
     low-is : 4 ^ p * 4 ^ k ≡ 4 * 4 ^ (p - 1 + k)
-    low-is = sym (pow-add 4 p k) ∙ ap (λ (x : ℕ). 4 ^ x) (same p k P) ∙ pow-succ' 4 (p - 1 + k)
+    low-is = sym (pow-add 4 p k) ∙ ap (λ (x : ℕ). 4 ^ x) (omega arith) ∙ pow-succ' 4 (p - 1 + k)
 
     high-is : 4 ^ suc p * 4 ^ k ≡ 4 * 4 ^ suc (p - 1 + k)
-    high-is = sym (pow-add 4 (suc p) k) ∙ ap (λ (x : ℕ). 4 ^ x) (same (suc p) k (le-trans P (le-suc p))) ∙ pow-succ' 4 (suc p - 1 + k) ∙ ap (λ (x : ℕ). 4 * 4 ^ x) (again p k P)
+    high-is = sym (pow-add 4 (suc p) k) ∙ ap (λ (x : ℕ). 4 ^ x) (omega (arith, le-trans P (le-suc p))) ∙ pow-succ' 4 (suc p - 1 + k) ∙ ap (λ (x : ℕ). 4 * 4 ^ x) (again p k P)
       where
         again : (p k : ℕ) → 2 ≤ p → suc p - 1 + k ≡ suc (p - 1 + k)
         again p k P = omega arith
@@ -85,10 +73,7 @@ root-digits p M r lo hi h = (
 )
 
 pub half-digits : (f : Format) (r : ℕ) → (2 ^ prec f ≤ r) × (r < 2 ^ suc (prec f)) → (hid f ≤ suc r / 2) × (suc r / 2 ≤ 2 * hid f)
-half-digits f r b = go (hid f) (2 ^ prec f) (2 ^ suc (prec f)) (twice-hid f) (pow-succ' 2 (prec f)) (b .0) (b .1)
-  where
-    go : (h a b : ℕ) → a ≡ 2 * h → b ≡ 2 * a → a ≤ r → r < b → (h ≤ suc r / 2) × (suc r / 2 ≤ 2 * h)
-    go h a b e e′ l g = omega arith
+half-digits f r b = omega (arith, twice-hid f, pow-succ' 2 (prec f), b .0, b .1)
 
 -- ---- what a program computes: k, the number M under the root, and r, its whole root
 

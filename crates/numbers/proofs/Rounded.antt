@@ -58,15 +58,11 @@ module _ (f : Format) (n c k : ℕ) (C : 0 < c) (d : Dropped f n c k) where
   place : (w : ℕ) → Grid f w → Place w
   place w g = go (d .least) (grid-or-small f w k g)
     where
-      nearer : (x y z : ℕ) → x < y → y ≤ n → z ≤ gap n y → z < gap n x
-      nearer x y z a b h = omega arith
-
       go : (k ≡ 0) ⊎ (hid f * (c * 2 ^ k) ≤ n) → ((W : ℕ) × (w ≡ W * 2 ^ k)) ⊎ (w < hid f * 2 ^ k) → Place w
       go l (inl (W, e)) = at W e
       go (inl z) (inr s) = at w (sym (ap (λ (x : ℕ). w * 2 ^ x) z ∙ mul-one w))
       go (inr l) (inr s) =
-          short (nearer (w * c) (hid f * (c * 2 ^ k)) (gap n (q * (c * 2 ^ k))) (subst (λ (x : ℕ). w * c < x) (multiple (hid f * 2 ^ k) (hid f) refl) (mul-lt-mul-of-pos-right s C)) l
-          (rounded-best n (c * 2 ^ k) q (hid f) rounded-q))
+          short (omega (arith, subst (λ (x : ℕ). w * c < x) (multiple (hid f * 2 ^ k) (hid f) refl) (mul-lt-mul-of-pos-right s C), rounded-best n (c * 2 ^ k) q (hid f) rounded-q))
 
   pub best : (w : ℕ) → Grid f w → gap n (q * (c * 2 ^ k)) ≤ gap n (w * c)
   best w g = go (place w g)
@@ -87,10 +83,7 @@ module _ (f : Format) (n c k : ℕ) (C : 0 < c) (d : Dropped f n c k) where
 
   -- zero is a value too: whatever has the other sign is no nearer than it
   zero-off : gap n (0 * (c * 2 ^ k)) ≡ n
-  zero-off = all n (0 * (c * 2 ^ k)) (zero-mul (c * 2 ^ k))
-    where
-      all : (n z : ℕ) → z ≡ 0 → gap n z ≡ n
-      all n z e = omega arith
+  zero-off = omega (arith, zero-mul (c * 2 ^ k))
 
   pub best-zero : gap n (q * (c * 2 ^ k)) ≤ n
   best-zero = le-trans (rounded-best n (c * 2 ^ k) q 0 rounded-q) (le-of-eq zero-off)
@@ -165,9 +158,6 @@ module _ (f : Format) (n c k : ℕ) (C : 0 < c) (d : Dropped f n c k) where
         reach-k : K ≤ k
         reach-k = exponent-le K k (le-of-mul-le-mul-left (le-trans (le-of-eq (sym end)) (le-trans o (mul-le-mul-right (2 ^ k) most-digits))) (pow-pos (prec f)))
 
-        at-end : (Z U : ℕ) → n < Z → gap n Z * 2 ≤ U → 2 * Z ≤ 2 * n + U
-        at-end Z U l g = omega arith
-
         full : k ≡ K → q ≡ 2 ^ prec f
         full e = le-antisymm most-digits (le-of-mul-le-mul-right (le-trans (le-of-eq (ap (λ (x : ℕ). 2 ^ prec f * 2 ^ x) e ∙ sym end)) o) (pow-pos k))
 
@@ -177,7 +167,7 @@ module _ (f : Format) (n c k : ℕ) (C : 0 < c) (d : Dropped f n c k) where
         go : Dec (k ≡ K) → (k ≡ 0) ⊎ (hid f * (c * 2 ^ k) ≤ n) → 2 * (2 ^ prec f * (c * 2 ^ K)) ≤ 2 * n + c * 2 ^ K
         go (yes e) l =
             subst (λ (j : ℕ). 2 * (2 ^ prec f * (c * 2 ^ j)) ≤ 2 * n + c * 2 ^ j) e
-            (at-end (2 ^ prec f * (c * 2 ^ k)) (c * 2 ^ k) (d .most) (subst (λ (x : ℕ). gap n (x * (c * 2 ^ k)) * 2 ≤ c * 2 ^ k) (full e) (rounded-q .half)))
+            (omega (arith, d .most, subst (λ (x : ℕ). gap n (x * (c * 2 ^ k)) * 2 ≤ c * 2 ^ k) (full e) (rounded-q .half)))
         go (no ne) (inl z) = absurd (none k K reach-k ne z)
           where
             none : (k K : ℕ) → K ≤ k → ¬ (k ≡ K) → k ≡ 0 → ⊥

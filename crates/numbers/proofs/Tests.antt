@@ -144,11 +144,8 @@ module _ (x : Float) (m half r : ℕ) (t : T (fits binary64 x)) (h : lt zero-flo
   under : m * 2 ^ 54 * 4 ^ (half - 26) ≡ 4 * (n * 2 ^ 1074)
   under =
       mul-assoc m (4 ^ 27) (4 ^ (half - 26))
-      ∙ ap (λ (y : ℕ). m * y) (sym (pow-add 4 27 (half - 26)) ∙ ap (λ (y : ℕ). 4 ^ y) (far half (p .far)) ∙ pow-succ' 4 half)
+      ∙ ap (λ (y : ℕ). m * y) (sym (pow-add 4 27 (half - 26)) ∙ ap (λ (y : ℕ). 4 ^ y) (omega (arith, p .far)) ∙ pow-succ' 4 half)
       ∙ mul-left-comm m 4 (4 ^ half) ∙ ap (λ (y : ℕ). 4 * y) (p .value)
-    where
-      far : (y : ℕ) → 26 ≤ y → 27 + (y - 26) ≡ suc y
-      far y h = omega arith
 
   found : (rootUnits binary64 n ≡ units binary64 false (suc r / 2) (half - 26)) × (ofBits binary64 ((half - 26) * 2 ^ 52 + (r + 1) / 2) ≡ rootUnits binary64 n)
   found =

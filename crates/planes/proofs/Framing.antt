@@ -106,11 +106,8 @@ module _ (out₀ : List Float) (stride from to : ℕ) (f : ℕ → List Float) w
           long = ap length e ∙ length-with-frames out stride n (tab n (m - n) f) ∙ p .long;
         }
       where
-        reach : n + (m - n) ≡ m
-        reach = omega (arith, a)
-
         end : n + length (tab n (m - n) f) ≡ m
-        end = ap (λ (k : ℕ). n + k) (length-tab n (m - n) f) ∙ reach
+        end = ap (λ (k : ℕ). n + k) (length-tab n (m - n) f) ∙ (omega arith)
 
     pub parting-all : to ≤ n → out ≡ whole
     parting-all = left-none (following stride) f to whole out n (p .left)

@@ -42,12 +42,9 @@ with-frame-at : (p : ℕ) (xs : List Float) (stride n : ℕ) (f : List Float) (k
     → getD (withFrameFrom p xs stride n f) ((p + k) * stride + n) nan ≡ getD f k nan
 with-frame-at p xs stride n [] k lt hn room = absurd (not-suc-le-zero lt)
 with-frame-at p xs stride n (x ∷ f) zero lt hn room =
-    with-frame-other (suc p) (withSample xs stride p n x) stride n f ((p + 0) * stride + n) (λ k h e. later k (same-plane stride (p + 0) (suc p + k) n n hn hn e))
+    with-frame-other (suc p) (withSample xs stride p n x) stride n f ((p + 0) * stride + n) (λ k h e. (omega (arith, same-plane stride (p + 0) (suc p + k) n n hn hn e)))
     ∙ ap (λ (q : ℕ). getD (withSample xs stride p n x) (q * stride + n) nan) (add-zero p)
     ∙ getD-set-same xs (p * stride + n) x nan (rw add-zero at room)
-  where
-    later : (k : ℕ) → p + 0 ≡ suc p + k → ⊥
-    later k e = omega arith
 with-frame-at p xs stride n (x ∷ f) (suc k) lt hn room =
     ap (λ (q : ℕ). getD (withFrameFrom (suc p) (withSample xs stride p n x) stride n f) (q * stride + n) nan) (move p k)
     ∙ with-frame-at (suc p) (withSample xs stride p n x) stride n f k (le-of-suc-le-suc lt) hn (rw (length-set, ← move p k) room)
@@ -102,10 +99,7 @@ pub with-frames-other : (xs : List Float) (stride n : ℕ) (fs : List (List Floa
 with-frames-other xs stride n [] p m hm room h = refl
 with-frames-other xs stride n (f ∷ fs) p m hm room h =
     with-frames-other (withFrame xs stride n f) stride (suc n) fs p m hm (omega arith) (λ k lt e. h (suc k) (suc-le-suc lt) (omega arith))
-    ∙ with-frame-other 0 xs stride n f (p * stride + m) (λ k lt e. h 0 (suc-le-suc (omega arith)) (here (same-frame stride p (0 + k) m n hm (omega arith) e)))
-  where
-    here : m ≡ n → m ≡ n + 0
-    here e = omega arith
+    ∙ with-frame-other 0 xs stride n f (p * stride + m) (λ k lt e. h 0 (suc-le-suc (omega arith)) (omega (arith, same-frame stride p (0 + k) m n hm (omega arith) e)))
 
 pub with-frames-at : (planes : ℕ) (xs : List Float) (stride n : ℕ) (fs : List (List Float)) (p k : ℕ) → k < length fs → p < planes → n + length fs ≤ stride → length xs ≡ planes * stride
     → ((j : ℕ) → j < length fs → length (getD fs j []) ≡ planes) → sampleAt (withFrames xs stride n fs) stride p (n + k) ≡ getD (getD fs k []) p nan

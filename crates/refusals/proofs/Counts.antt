@@ -19,13 +19,10 @@ module _ (n top : ℕ) where
   -- any other is judged by the top
   pub count-some : (n ≡ 0 → ⊥) → outside n top ≡ ltb top n
   count-some h =
-      ap not (within-from 1 top n (some h)) ∙ elim (decLt top n) [
+      ap not (within-from 1 top n (omega arith)) ∙ elim (decLt top n) [
         | yes l ↦ rw (lt-leb n top l, lt-ltb top n l)
         | no l ↦ rw (le-leb n top (omega arith), le-ltb top n (omega arith))
       ]
-    where
-      some : (n ≡ 0 → ⊥) → 1 ≤ n
-      some h = omega (arith, h)
 
   pub count-inside : 0 < n → n ≤ top → outside n top ≡ false
   count-inside some most = ap not (within-in 1 top n some most)

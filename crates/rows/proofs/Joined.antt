@@ -1,5 +1,5 @@
 -- Rows of one length, put one behind another into a list that just has room for them, make the list of them joined; and each is found there again. Assumes nothing.
-use Prim.Native.Nat.{ℕ, zero, suc, _+_, _-_, _*_, _≤_, _<_}
+use Prim.Native.Nat.{ℕ, zero, suc, _+_, _-_, _*_, _<_}
 use native.Mathlib.Nat.{zero-mul, not-suc-le-zero, le-of-suc-le-suc}
 use native.Mathlib.Omega.{arith}
 use mathlib.Core.Path.{_≡_, sym, ap, _∙_}
@@ -23,13 +23,10 @@ module _ {A : Type 0} (n : ℕ) where
   put-joined [] done rest h e = ap (λ (xs : List A). done ++ xs) (drop-of-length-le rest {i = 0} (omega arith))
   put-joined (r ∷ rs) done rest h e =
       let left : List A = drop (length r) rest in
-      ap (λ (xs : List A). putRows n xs (length done + n) rs) (put-behind done r rest (room (length r) (length rest) (length rs) (h .0) e))
+      ap (λ (xs : List A). putRows n xs (length done + n) rs) (put-behind done r rest (omega (arith, h .0)))
       ∙ ap (λ (k : ℕ). putRows n (done ++ r ++ left) k rs) (ap (λ (k : ℕ). length done + k) (sym (h .0)) ∙ sym (length-append done r))
       ∙ put-joined rs (done ++ r) left (h .1) (length-drop (length r) rest ∙ less (length r) (length rest) (length rs) n (h .0) e)
       ∙ append-assoc done r (flatten rs)
-    where
-      room : (a b k : ℕ) → a ≡ n → b ≡ suc k * n → a ≤ b
-      room a b k s e = omega arith
 
   pub row-found : (rs : List (List A)) (i : ℕ) (d : List A) → AllOf n rs → i < length rs → take n (drop (i * n) (flatten rs)) ≡ getD rs i d
   unfolding flatten

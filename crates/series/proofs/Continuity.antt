@@ -72,13 +72,10 @@ from-half : (s o o' t W : ℕ) → 0 < o → s ≤ 360 * o → s * o' ≡ 180 * 
 from-half s o o' t W O l e =
     let (u, f) = le-dest l in
     close-same (opposite (whole 180)) (fraction s (360 * o) o) (lit< tt) O (same-refl (opposite (whole 180))) (rest-nat s o u f)
-    (close-opposite (close-sym (to-half u o o' t W O (turn-nat s o o' u t (ap (λ (n : ℕ). n * o') f) e))))
+    (close-opposite (close-sym (to-half u o o' t W O (omega (arith, ap (λ (n : ℕ). n * o') f)))))
   where
     rest-nat : (s o u : ℕ) → s + u ≡ 360 * o → 0 * o + 360 * o * o ≡ s * o + u * o
     rest-nat s o u f = omega (arith, ap (λ (n : ℕ). n * o) f)
-
-    turn-nat : (s o o' u t : ℕ) → (s + u) * o' ≡ 360 * o * o' → s * o' ≡ 180 * (o * o') + t → u * o' + t ≡ 180 * (o * o')
-    turn-nat s o o' u t f e = let f' = simp ring at f in simp ring (omega arith)
 
 steps-nat : (K t u W E n : ℕ) → K * K * W * (t * W + u * W) ≤ K * K * W * (E * n) → (K * (t * W) + 4 * (W * n) + K * (u * W)) * (K * 4 * W) ≤ (K * E + 4 * W) * (K * (4 * (W * n)))
 steps-nat K t u W E n h = let h' = simp ring at h in simp ring (omega arith)
@@ -128,10 +125,7 @@ one-side {W} {E} {n} {A} {B} h k (behind i) = let p = ahead-nat W E n B A (mul-l
 
 module _ (w : Wave) (W E : ℕ) (w-pos : 0 < W) where
   straight : {a b : Fraction} → Size 1 a 180 → Size 1 b 180 → Close W a b E → Close (2 ^ 55 * W) (wave w a) (wave w b) (2 ^ 53 * E + 4 * W)
-  straight h k c = close-unit (mul-pos {m = 4} (lit< tt) w-pos) (enough (2 ^ 53) W E) (degrees-close w w-pos h k c)
-    where
-      enough : (K W E : ℕ) → E * (K * 4 * W) ≤ (K * E + 4 * W) * (4 * W)
-      enough K W E = omega arith
+  straight h k c = close-unit (mul-pos {m = 4} (lit< tt) w-pos) (omega arith) (degrees-close w w-pos h k c)
 
   module _ (r o s o' : ℕ) (O : 0 < o) (O' : 0 < o') where
     both-low : r ≤ 180 * o → s ≤ 180 * o' → Near W E (o * o') (r * o') (s * o) → Close W (fraction r 0 o) (fraction s 0 o') E
@@ -181,7 +175,4 @@ defined-close w {W} {E} {a} {b} o c =
     let U-pos : 0 < U = mul-pos {m = 2 ^ 55} (lit< tt) o in
     let first : Close U (defined w a) (wave w (reduced a)) (2 * W) = close-unit (lit< tt) (omega arith) (within-close (defined-sum w a (c .first))) in
     let last : Close U (wave w (reduced b)) (defined w b) (2 * W) = close-unit (lit< tt) (omega arith) (close-sym (within-close (defined-sum w b (c .second)))) in
-    close-unit U-pos (enough W E) (close-trans (close-trans first (reduced-close w o c)) last)
-  where
-    enough : (W E : ℕ) → (2 * W + (2 ^ 53 * E + 4 * W) + 2 * W) * (2 ^ 54 * W) ≤ (2 ^ 52 * E + 4 * W) * (2 ^ 55 * W)
-    enough W E = omega arith
+    close-unit U-pos (omega arith) (close-trans (close-trans first (reduced-close w o c)) last)

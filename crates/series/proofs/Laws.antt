@@ -55,11 +55,8 @@ module _ (w : Wave) {k : ℕ} {a b : Fraction} (l : k ≤ 50) where
   pub defined-carried : {x : Fraction} → Within (suc k) x (defined w a) → Within k a b → Within k x (defined w b)
   defined-carried g h =
       counted-within (mul-pos {m = 2 ^ 54} (lit< tt) (pow-pos k)) (enough (2 ^ k) (pow-mono l))
-      (close-trans (within-counted (2 ^ 53) (rw (two-pow-succ k) (twice (2 ^ k))) g) (defined-close w (pow-pos k) (within-close h)))
+      (close-trans (within-counted (2 ^ 53) (rw (two-pow-succ k) (omega arith)) g) (defined-close w (pow-pos k) (within-close h)))
     where
-      twice : (p : ℕ) → 2 ^ 54 * p ≤ 2 ^ 53 * (p + p)
-      twice p = omega arith
-
       enough : (p : ℕ) → p ≤ 2 ^ 50 → (2 ^ 53 + (2 ^ 52 * 1 + 4 * p)) * p ≤ 2 ^ 54 * p
       enough p h = omega (arith, mul-le-mul-right p h)
 

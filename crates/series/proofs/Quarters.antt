@@ -108,12 +108,6 @@ module _ (w : Wave) (d : Fraction) (D : 0 < d .over) where
       D' : 0 < (d ⊕ whole 90) .over
       D' = mul-pos {n = 1} D (lit< tt)
 
-      least : (a : Fraction) → Reduces d a → a .minus ≤ a .plus + 180 * a .over
-      least a h = omega (arith, h .above)
-
-      most : (a : Fraction) → Reduces d a → a .plus ≤ a .minus + 180 * a .over
-      most a h = omega (arith, h .most)
-
       go : (a : Fraction) → 0 < a .over → Reduces d a → Close (2 ^ 54) (wave w (reduced (d ⊕ whole 90))) (after w (λ v. wave v a)) 3
       go a A h = by (decLe (a .plus) (a .minus + 90 * a .over)) (decLe (a .minus) (a .plus + 90 * a .over))
         where
@@ -125,8 +119,8 @@ module _ (w : Wave) (d : Fraction) (D : 0 < d .over) where
               reduced-to w (d ⊕ whole 90) (whole 90 ⊕ a) y D' (mul-pos {m = 1} (lit< tt) A) (quarter-more d a A h l)
               (close-wider (front w a (whole 90 ⊕ a) A (mul-pos {m = 1} (lit< tt) A) (record { above = omega arith; below = omega arith }) (same-refl (whole 90 ⊕ a))) (lit≤ tt))
           by (yes l) (no m) =
-              reduced-to w (d ⊕ whole 90) (whole 90 ⊕ a) y D' (mul-pos {m = 1} (lit< tt) A) (quarter-more d a A h l) (close-wider (right-behind a A (omega arith) (least a h) w) (lit≤ tt))
-          by (no l) m = reduced-to w (d ⊕ whole 90) (a ⊖ whole 270) y D' (mul-pos {n = 1} A (lit< tt)) (quarter-less d a A h (omega arith)) (left-behind a A (omega arith) (most a h) w)
+              reduced-to w (d ⊕ whole 90) (whole 90 ⊕ a) y D' (mul-pos {m = 1} (lit< tt) A) (quarter-more d a A h l) (close-wider (right-behind a A (omega arith) (omega arith) w) (lit≤ tt))
+          by (no l) m = reduced-to w (d ⊕ whole 90) (a ⊖ whole 270) y D' (mul-pos {n = 1} A (lit< tt)) (quarter-less d a A h (omega arith)) (left-behind a A (omega arith) (omega arith) w)
 
   pub defined-quarter : Within 51 (defined w (d ⊕ whole 90)) (after w (λ v. defined v d))
   defined-quarter =

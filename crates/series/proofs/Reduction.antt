@@ -24,10 +24,7 @@ turned-turns d D =
     let t = 360 * d .over in
     let m = d .minus in
     let s = d .plus + (t - m % t) in
-    record { back = m / t + 1; forth = s / t; round = go (d .plus) m t (m % t) (m / t) (s % t) (s / t) (div-add-mod m t) (mod-lt m {m = t} (omega arith)) (div-add-mod s t) }
-  where
-    go : (p m t r q r' q' : ℕ) → t * q + r ≡ m → r < t → t * q' + r' ≡ p + (t - r) → p + t * (q + 1) ≡ m + r' + t * q'
-    go p m t r q r' q' e l f = omega arith
+    record { back = m / t + 1; forth = s / t; round = omega (arith, div-add-mod m t, mod-lt m {m = t} (omega arith), div-add-mod s t) }
 
 pub turned-less : (d : Fraction) → 0 < d .over → turned d < 360 * d .over
 unfolding turned
@@ -54,10 +51,7 @@ module _ (d e : Fraction) (D : 0 < d .over) (E : 0 < e .over) where
       (omega (arith, ap (λ (n : ℕ). n * e .over) (a .round), ap (λ (n : ℕ). n * d .over) (b .round)))
 
   pub turned-same : Same d e → turned d * e .over ≡ turned e * d .over
-  turned-same h = turned-apart 0 0 (none (d .plus) (d .minus) (d .over) (e .plus) (e .minus) (e .over) h)
-    where
-      none : (p m o p' m' o' : ℕ) → p * o' + m' * o ≡ p' * o + m * o' → (p * 1 + 0 * o) * (o' * 1) + (m' * 1 + 0 * o') * (o * 1) ≡ (p' * 1 + 0 * o') * (o * 1) + (m * 1 + 0 * o) * (o' * 1)
-      none p m o p' m' o' h = omega arith
+  turned-same h = turned-apart 0 0 (omega arith)
 
 -- ---- the reduced angle, on the two sides of 180
 
@@ -86,14 +80,8 @@ around-pos r o h = by-side (λ (x : Fraction). 0 < x .over) r o (λ l. h) (λ l.
 
 around-reduces : (d : Fraction) → 0 < d .over → (r : ℕ) → r < 360 * d .over → Turns (d .plus) (d .minus) r (360 * d .over) → Reduces d (around r (d .over))
 around-reduces d D r l t = by-side (λ (x : Fraction). Reduces d x) r (d .over)
-    (λ h. record { turns = (t .back, t .forth, below-nat (d .plus) (d .minus) (d .over) r (t .back) (t .forth) (ap (λ (n : ℕ). n * d .over) (t .round))); above = omega arith; most = omega arith })
-    (λ h. record { turns = (t .back, t .forth + 1, above-nat (d .plus) (d .minus) (d .over) r (t .back) (t .forth) (ap (λ (n : ℕ). n * d .over) (t .round))); above = omega arith; most = omega arith })
-  where
-    below-nat : (p m o r a b : ℕ) → (p + 360 * o * a) * o ≡ (m + r + 360 * o * b) * o → (p * 1 + 360 * a * o) * (o * 1) + (0 * 1 + 0 * o) * (o * 1) ≡ (r * 1 + 360 * b * o) * (o * 1) + (m * 1 + 0 * o) * (o * 1)
-    below-nat p m o r a b h = let h' = simp ring at h in simp ring (omega arith)
-
-    above-nat : (p m o r a b : ℕ) → (p + 360 * o * a) * o ≡ (m + r + 360 * o * b) * o → (p * 1 + 360 * a * o) * (o * 1) + (360 * o * 1 + 0 * o) * (o * 1) ≡ (r * 1 + 360 * (b + 1) * o) * (o * 1) + (m * 1 + 0 * o) * (o * 1)
-    above-nat p m o r a b h = let h' = simp ring at h in simp ring (omega arith)
+    (λ h. record { turns = (t .back, t .forth, (omega (arith, ap (λ (n : ℕ). n * d .over) (t .round)))); above = omega arith; most = omega arith })
+    (λ h. record { turns = (t .back, t .forth + 1, (omega (arith, ap (λ (n : ℕ). n * d .over) (t .round)))); above = omega arith; most = omega arith })
 
 pub reduces : (d : Fraction) → 0 < d .over → Reduces d (reduced d)
 reduces d D = rw (reduced-around d) (around-reduces d D (turned d) (turned-less d D) (turned-turns d D))
@@ -179,12 +167,9 @@ turned-opposite d D =
     let b = turned-turns (opposite d) D in
     let t = 360 * d .over in
     go (apart t (turned d + turned (opposite d)) t (a .forth + b .forth + 1) (a .back + b .back)
-    (sum-nat (d .plus) (d .minus) t (turned d) (a .back) (a .forth) (turned (opposite d)) (b .back) (b .forth) (a .round) (b .round)))
+    (omega (arith, a .round, b .round)))
     (turned-less d D) (turned-less (opposite d) D)
   where
-    sum-nat : (p m t r a b r' a' b' : ℕ) → p + t * a ≡ m + r + t * b → m + t * a' ≡ p + r' + t * b' → r + r' + t * (b + b' + 1) ≡ t + t * (a + a')
-    sum-nat p m t r a b r' a' b' h k = omega arith
-
     go : {r r' t : ℕ} → Apart t (r + r') t → r < t → r' < t → (r + r' ≡ 0) ⊎ (r + r' ≡ t)
     go (level e) h k = inr e
     go (over l) h k = absurd (not-le-of-lt (add-lt-add-of-lt-of-le h (le-of-lt k)) l)

@@ -78,24 +78,18 @@ module _ (r s o : ℕ) (O : 0 < o) (t : r + s ≡ 360 * o) where
   around-opposite : (r % (90 * o) ≡ 0 → ⊥) → Same (around s o) (opposite (around r o))
   around-opposite n =
       by-side (λ (y : Fraction). Same y (opposite (around r o))) s o
-      (λ k. by-side (λ (x : Fraction). Same (fraction s 0 o) (opposite x)) r o (λ h. absurd (n (ap (λ (i : ℕ). i % (90 * o)) (straight h k) ∙ mul-mod-left 2 (90 * o)))) (λ h. omega (arith, ap (λ (i : ℕ). i * o) t)))
+      (λ k. by-side (λ (x : Fraction). Same (fraction s 0 o) (opposite x)) r o (λ h. absurd (n (ap (λ (i : ℕ). i % (90 * o)) (omega arith) ∙ mul-mod-left 2 (90 * o)))) (λ h. omega (arith, ap (λ (i : ℕ). i * o) t)))
       (λ k. by-side (λ (x : Fraction). Same (fraction s (360 * o) o) (opposite x)) r o (λ h. omega (arith, ap (λ (i : ℕ). i * o) t)) (λ h. omega arith))
-    where
-      straight : r ≤ 180 * o → s ≤ 180 * o → r ≡ 2 * (90 * o)
-      straight h k = omega arith
 
 place-opposite : (w : Wave) (r s o : ℕ) → 0 < o → r < 360 * o → s < 360 * o → r + s ≡ 360 * o → Same (place s o w) (mirrored w (place r o w))
 place-opposite w r s o O h k t =
     by-multiple (λ (f : Wave → Fraction). Same (place s o w) (mirrored w (f w))) r o O h
     (λ i a p. by-multiple (λ (g : Wave → Fraction). Same (g w) (mirrored w (exact-at w i))) s o O k
-    (λ j b q. subst (λ (n : ℕ). Same (exact-at w n) (mirrored w (exact-at w i))) (back i j (rest r s o O t i j p q) a b) (exact-opposite w i a))
+    (λ j b q. subst (λ (n : ℕ). Same (exact-at w n) (mirrored w (exact-at w i))) (omega (arith, rest r s o O t i j p q)) (exact-opposite w i a))
     (λ n. absurd (n (rest-multiple r s o O t i a p))))
     (λ n. by-multiple (λ (g : Wave → Fraction). Same (g w) (mirrored w (wave w (around r o)))) s o O k
     (λ j b q. absurd (n (rest-multiple s r o O (add-comm s r ∙ t) j b q)))
     (λ m. subst (λ (x : Fraction). Same (wave w (around s o)) x) (wave-opposite w (around r o)) (wave-same w (around s o) (opposite (around r o)) (around-opposite r s o O t n))))
-  where
-    back : (i j : ℕ) → i + j ≡ 4 → i < 4 → j < 4 → (4 - i) % 4 ≡ j
-    back i j e a b = omega arith
 
 place-nought : (w : Wave) (o : ℕ) → 0 < o → Same (place 0 o w) (mirrored w (place 0 o w))
 place-nought w o O =
@@ -143,7 +137,4 @@ multiple-only d D h =
     let t = turned-turns d D in
     let o = d .over in
     let q = turned d / (90 * o) in
-    (q + 4 * t .forth, 4 * t .back, is (d .plus) (d .minus) o (turned d) q (t .back) (t .forth) (quarters-times (turned d) o D (turned-less d D) (eqb→eq (turned d % (90 * o)) 0 h)) (t .round))
-  where
-    is : (p m o r q a b : ℕ) → r ≡ q * (90 * o) → p + 360 * o * a ≡ m + r + 360 * o * b → p * 1 + 90 * (4 * a) * o ≡ 90 * (q + 4 * b) * o + m * 1
-    is p m o r q a b e f = omega arith
+    (q + 4 * t .forth, 4 * t .back, (omega (arith, quarters-times (turned d) o D (turned-less d D) (eqb→eq (turned d % (90 * o)) 0 h), t .round)))

@@ -22,10 +22,7 @@ start y j = refl
 
 again : (y f j n : ℕ) → 1 < j → f ≡ nest y (j + 2) n → one - nesting y f j ≡ nest y (j - 2 + 2) (suc n)
 unfolding nest
-again y f j n h e = ap (λ (x : ℕ). one - nesting y x j) e ∙ ap (λ (x : ℕ). nest y x (suc n)) back
-  where
-    back : j ≡ j - 2 + 2
-    back = omega arith
+again y f j n h e = ap (λ (x : ℕ). one - nesting y x j) e ∙ ap (λ (x : ℕ). nest y x (suc n)) (omega arith)
 
 times-requires : tie.Need-times-requires Inv-loop μ-loop
 times-requires c κs = omega (arith, c .pre .0)
