@@ -1,11 +1,14 @@
 -- What the promise rules out, of every request of the right length: a number read from a later byte, an answer behind the start, and a refused root that is told as an accepted one. Assumes nothing.
-use mathlib.Core.Path.{_≡_, sym, ap, _∙_}
+use mathlib.Core.Path.{_≡_, refl, sym, ap, _∙_}
 use mathlib.Core.List.{List, [], _∷_}
 use Prim.Native.Nat.{ℕ, _%_, _^_, _≤_, _<_}
 use native.Mathlib.Omega.{arith}
 use lib.ListN.{length}
 use lib.Ieee.{Float, binary32, binary64, ofBits, toBits, nan}
+use Rattle.refusals.proofs.First.{told-is}
+use Rattle.formats.specs.Floats.{zero-float}
 use Rattle.numbers.specs.Computed as Numbers
+use Rattle.numbers.specs.declared.Rooted.{Rooted}
 use Rattle.big_endian.specs.Fields.{fieldAt, floatAt, doubleAt}
 use Rattle.big_endian.specs.Lists.{floatBytes, doubleBytes}
 use Rattle.big_endian.proofs.Fields.{lies-out, field-out}
@@ -45,5 +48,7 @@ module _ (args out : List ℕ) (r : Draft) where
   refused-root-accepted is eight room ten e =
       let root = Numbers.rootAnswer (doubleAt args 0) in
       let told = taken-told 8 args out r is eight (first-told (root .refusal) (doubleBytes (root .value ∷ []) ∷ []) out room) in
-      let k : root .refusal % 256 ^ 1 ≡ 10 = ap (λ (n : ℕ). n % 256 ^ 1) ten in
+      let number : root .refusal ≡ Numbers.refusalOf (doubleAt args 0) =
+      told-is (record { refusal = 0; value = Numbers.rootOf binary64 (doubleAt args 0) }) (λ n. record { refusal = n; value = zero-float }) (λ (a : Rooted). a .refusal) refl (Numbers.refusalOf (doubleAt args 0)) refl in
+      let k : root .refusal % 256 ^ 1 ≡ 10 = ap (λ (n : ℕ). n % 256 ^ 1) (number ∙ ten) in
       omega arith
