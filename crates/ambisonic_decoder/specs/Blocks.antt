@@ -9,7 +9,7 @@ use lib.ListN.{length}
 use lib.Ieee.{Float}
 use Rattle.refusals.specs.Refusals.{firstOf, _when_, outside}
 use Rattle.lists.specs.Tables.{tab}
-use Rattle.checks.specs.Finite.{unsound}
+use Rattle.checks.specs.Finite.{hasNonfinite}
 use Rattle.checks.specs.Lengths.{blockUnfit}
 use Rattle.planes.specs.Planes.{frameAt}
 use Rattle.planes.specs.Sums.{mixedAll}
@@ -22,7 +22,7 @@ misfit s weights inputs out =
 
 abbrev pub refusalOf : Shape → List Float → ℕ → ℕ → ℕ
 refusalOf s weights inputs out =
-    firstOf (2 when outside (s .outputs) 16 ∷ 2 when outside (s .channels) 16 ∷ 5 when misfit s (length weights) inputs out ∷ 7 when unsound weights ∷ [])
+    firstOf (2 when outside (s .outputs) 16 ∷ 2 when outside (s .channels) 16 ∷ 5 when misfit s (length weights) inputs out ∷ 7 when hasNonfinite weights ∷ [])
 
 -- frame n of the outputs, of frame n of the inputs
 abbrev pub decoded : Shape → List Float → List Float → List (List Float)

@@ -52,7 +52,7 @@ fn refusal_of(shape: Shape, weights: &[f64], inputs: usize, out: usize) -> u8
     if is_misfit(shape, weights.len(), inputs, out) {
         return 5;
     }
-    if checks::unsound_f64(weights) {
+    if checks::has_nonfinite_f64(weights) {
         return 7;
     }
     0

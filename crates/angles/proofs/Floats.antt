@@ -25,7 +25,7 @@ use Rattle.fractions.proofs.Close.{Close, Size, size-wider, close-same, close-o
 use Rattle.fractions.proofs.Rounding.{Result}
 use Rattle.fractions.proofs.Operations.{mul-result}
 use Rattle.fractions.proofs.Exact.{Holds, result-number, result-exact, literal-held}
-use Rattle.fractions.proofs.Held.{float-held, power-held}
+use Rattle.fractions.proofs.ExactInFormat.{float-held, power-held}
 use Rattle.formats.specs.Floats.{zero-float}
 use Rattle.series.specs.Angles as Defined
 use Rattle.angles.specs.Computed.{one, turn, isUpright, units, cut, place, rounded}

@@ -18,9 +18,9 @@ use Rattle.angles.specs.declared.Answer.{Answer}
 use Rattle.angles.specs.Promise.{refusalOf, Promise}
 use Rattle.angles.proofs.Floats.{accepted-number}
 use Rattle.angles.proofs.Near.{computed-near}
-use Rattle.angles.proofs.Kept.{value-is}
+use Rattle.angles.proofs.Meets.{value-is}
 -- the promise holds of the answer that the definition gives, so that all of it can be had of a value that is said by the definition alone
-pub use Rattle.angles.proofs.Kept.{outcome-kept}
+pub use Rattle.angles.proofs.Meets.{outcome-kept}
 -- angles of 1080 degrees at most in size are accepted
 pub use Rattle.angles.proofs.Floats.{accepted}
 

@@ -6,7 +6,7 @@ mod Waves
 mod Floats
 mod Near
 mod Exact
-mod Kept
+mod Meets
 pub mod Laws
 mod Unique
 mod Worked

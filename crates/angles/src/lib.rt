@@ -25,7 +25,7 @@
 ghost use mathlib.Core.Path.{_≡_};
 ghost use Prim.Native.Nat.{_-_, _*_, _^_, _<_, _≤_};
 ghost use lib.Dec.{T};
-ghost use Rattle.angles.specs.Computed as Steps;
+ghost use Rattle.angles.specs.Computed as Computed;
 ghost use Rattle.angles.specs.Limits as Limits;
 ghost use Rattle.angles.specs.Limits.{isInside};
 ghost use Rattle.angles.specs.Promise as Said;
@@ -51,7 +51,7 @@ const DEGREE: u64 = 5151302725743731798;
 // a * b / 2^60, cut: the four products of halves, added column by column.
 fn times(a: u64, b: u64) -> u64
     requires { ⌜ a * b < 2 ^ 124 ⌝ }
-    ensures { λ r. ⌜ r ≡ Steps.times a b ⌝ }
+    ensures { λ r. ⌜ r ≡ Computed.times a b ⌝ }
 {
     let a1 = a / 0x1_0000_0000;
     let a0 = a % 0x1_0000_0000;
@@ -67,7 +67,7 @@ fn times(a: u64, b: u64) -> u64
 // One nesting: y * f / ((j + 1) (j + 2)).
 fn nesting(y: u64, f: u64, j: u64) -> u64
     requires { ⌜ (y ≤ 12 * 2 ^ 60) × (f ≤ 2 ^ 60) × (j ≤ 26) ⌝ }
-    ensures { λ r. ⌜ r ≡ Steps.nesting y f j ⌝ }
+    ensures { λ r. ⌜ r ≡ Computed.nesting y f j ⌝ }
 {
     times(y, f) / ((j + 1) * (j + 2))
 }
@@ -75,7 +75,7 @@ fn nesting(y: u64, f: u64, j: u64) -> u64
 // The outermost nesting at x radians, of the sine (top 25) or the cosine (top 26): 1 less it is the sum's bracket.
 fn outermost(x: u64, top: u64) -> u64
     requires { ⌜ (x * x ≤ 12 * 2 ^ 120) × (top ≤ 26) ⌝ }
-    ensures { λ r. ⌜ r ≡ Steps.outermost x top ⌝ }
+    ensures { λ r. ⌜ r ≡ Computed.outermost x top ⌝ }
 {
     let y = times(x, x);
     let mut f = ONE;
@@ -96,8 +96,8 @@ pub fn is_inside(limit: f64, angle: f64) -> bool
 
 // An angle of 0 to 1080 degrees in units of 2^-52 degree, cut.
 fn units(d: f64) -> u64
-    requires { ⌜ T (Steps.isUpright d) ⌝ }
-    ensures { λ r. ⌜ r ≡ Steps.units d ⌝ }
+    requires { ⌜ T (Computed.isUpright d) ⌝ }
+    ensures { λ r. ⌜ r ≡ Computed.units d ⌝ }
 {
     std::num::truncating_f64_to_u64(d * 4503599627370496.0)
 }
@@ -105,7 +105,7 @@ fn units(d: f64) -> u64
 // An angle from -1080 to 1080 degrees turned into 0 up to a turn, in the same units.
 fn turned(d: f64) -> u64
     requires { ⌜ T (isInside Limits.limit d) ⌝ }
-    ensures { λ r. ⌜ r ≡ Steps.place d ⌝ }
+    ensures { λ r. ⌜ r ≡ Computed.place d ⌝ }
 {
     if d < 0.0 {
         (TURN - units(-d) % TURN) % TURN
@@ -116,8 +116,8 @@ fn turned(d: f64) -> u64
 
 // The radians of a place on the turn, by the shorter way from 0, in units of 2^-60.
 fn radians(a: u64) -> u64
-    requires { ⌜ a < Steps.turn ⌝ }
-    ensures { λ r. ⌜ r ≡ Steps.radians (Steps.short a) ⌝ }
+    requires { ⌜ a < Computed.turn ⌝ }
+    ensures { λ r. ⌜ r ≡ Computed.radians (Computed.short a) ⌝ }
 {
     if a <= HALF {
         times(a, DEGREE)
@@ -128,7 +128,7 @@ fn radians(a: u64) -> u64
 
 // How far g is from 1, either way.
 fn from_one(g: u64) -> u64
-    ensures { λ r. ⌜ r ≡ Steps.fromOne g ⌝ }
+    ensures { λ r. ⌜ r ≡ Computed.fromOne g ⌝ }
 {
     if g <= ONE { ONE - g } else { g - ONE }
 }
@@ -136,7 +136,7 @@ fn from_one(g: u64) -> u64
 // A size in units of 2^-60 as a float, rounded to units of 2^-51. 0 has no sign.
 fn rounded(negative: bool, size: u64) -> f64
     requires { ⌜ size < 2 ^ 62 - 256 ⌝ }
-    ensures { λ r. ⌜ r ≡ Steps.rounded negative size ⌝ }
+    ensures { λ r. ⌜ r ≡ Computed.rounded negative size ⌝ }
 {
     let n = (size + 256) / 512;
     let v = n as f64 / 2251799813685248.0;
@@ -149,8 +149,8 @@ fn rounded(negative: bool, size: u64) -> f64
 
 // The sine at a place on the turn: x times the bracket, with the other sign beyond half a turn.
 fn sine_at(a: u64) -> f64
-    requires { ⌜ a < Steps.turn ⌝ }
-    ensures { λ r. ⌜ r ≡ Steps.sineAt a ⌝ }
+    requires { ⌜ a < Computed.turn ⌝ }
+    ensures { λ r. ⌜ r ≡ Computed.sineAt a ⌝ }
 {
     let x = radians(a);
     let g = outermost(x, 25);
@@ -159,8 +159,8 @@ fn sine_at(a: u64) -> f64
 
 // The cosine at a place on the turn: the bracket.
 fn cosine_at(a: u64) -> f64
-    requires { ⌜ a < Steps.turn ⌝ }
-    ensures { λ r. ⌜ r ≡ Steps.cosineAt a ⌝ }
+    requires { ⌜ a < Computed.turn ⌝ }
+    ensures { λ r. ⌜ r ≡ Computed.cosineAt a ⌝ }
 {
     let x = radians(a);
     let g = outermost(x, 26);
@@ -175,7 +175,7 @@ enum Wave {
 
 // The sine or the cosine of d degrees. No NaN is from -1080 to 1080, and no infinity.
 fn of_degrees(wave: Wave, d: f64) -> Answer
-    ensures { λ r. ⌜ Said.Promise (Steps.waveOf wave) d r ⌝ }
+    ensures { λ r. ⌜ Said.Promise (Computed.waveOf wave) d r ⌝ }
 {
     if !is_inside(1080.0, d) {
         return Answer {

@@ -21,7 +21,7 @@ use Rattle.bank_form.proofs.Exact.{exactly, is-file, none-found}
 use Rattle.bank_form.proofs.Conversions.{conversion-fault, raised-exactly, raised-place}
 use Rattle.bank.specs.Writing.{WriteOutcome, writeRefused, writeBank, writeAs}
 use Rattle.bank.specs.Conversion.{raisedFor, outputFault, convertedBank, conversionRefusal, conversion, Converts, ToVersion1, ToVersion2}
-use Rattle.bank.proofs.Answers.{refused-as, written-as, told-as}
+use Rattle.bank.proofs.Meets.{refused-as, written-as, told-as}
 
 -- ---- a bank into an output
 

@@ -20,9 +20,9 @@ use Rattle.bank.specs.Reading.{ReadOutcome, readBank, readRefused, Reads
 use Rattle.bank.specs.Writing.{WriteOutcome, writeBank, Writes}
 use Rattle.bank.specs.Conversion.{ToVersion1, ToVersion2}
 use Rattle.bank.specs.Drill.{oneRow, oneRowBytes, oneRowBytes2}
-use Rattle.bank.proofs.Answers.{Lists, read-bad}
+use Rattle.bank.proofs.Meets.{Lists, read-bad}
 use Rattle.bank.proofs.Converting.{holds-2}
-use Rattle.bank.proofs.Promises.{is-accepted, is-written}
+use Rattle.bank.proofs.Laws.{is-accepted, is-written}
 
 pub bank-bytes : encode 1 oneRow ≡ oneRowBytes
 unfolding encode headBytes rowBytes pairsOf elevationBytes fieldBytes flatMap bytesOf toBits

@@ -20,9 +20,9 @@ use Rattle.bank.specs.Reading.{ReadOutcome, readRefused, readBank, Reads
 use Rattle.bank.specs.Writing.{WriteOutcome, writeRefused, writeOutcome, Writes}
 use Rattle.bank.specs.Conversion.{ToVersion1, ToVersion2}
 use Rattle.bank.specs.Drill.{oneRow, oneRowBytes, oneRowBytes2}
-use Rattle.bank.proofs.Answers.{Lists, lists-fit, start-lent, breaks}
+use Rattle.bank.proofs.Meets.{Lists, lists-fit, start-lent, breaks}
 use Rattle.bank.proofs.Converting.{raised-first}
-use Rattle.bank.proofs.Promises.{accepted-parts, written-parts, written-is}
+use Rattle.bank.proofs.Laws.{accepted-parts, written-parts, written-is}
 use Rattle.bank.proofs.Drill.{drill-read, drill-cut, drill-written, drill-forward, drill-back}
 
 -- lists that hold something else than what the file would bring

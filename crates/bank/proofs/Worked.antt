@@ -19,7 +19,7 @@ use Rattle.bank_form.proofs.Worked.{example2, oneAt, version-2-with-1-in-front-
 use Rattle.bank.specs.Writing.{WriteOutcome}
 use Rattle.bank.specs.Conversion.{conversionRefusal, ToVersion1, ToVersion2}
 use Rattle.bank.proofs.Converting.{holds-2, forward-told, back-told}
-use Rattle.bank.proofs.Promises.{handed}
+use Rattle.bank.proofs.Laws.{handed}
 use lib.ListN.{set}
 
 -- ---- the length of the output comes last

@@ -14,7 +14,7 @@ ghost use Rattle.big_endian.specs.Lists.{strided, floatBytes};
 ghost use Rattle.bank_form.specs.Bank.{pairsOf};
 ghost use Rattle.bank_form.specs.Version.{elevationSize, elevationBytes, rowSize, largest, largestRow};
 ghost use Rattle.bank_form.specs.Encoding.{rowBytes, headBytes, encode};
-ghost use Rattle.lists.specs.Each.{Each};
+ghost use Rattle.lists.specs.ForAll.{ForAll};
 ghost use Rattle.bank_form.specs.FitsFields.{IsI16};
 ghost use Rattle.bank_form.specs.Fault.{azimuthsFrom, elevationsFrom, tapsFrom};
 
@@ -132,8 +132,8 @@ fn put_rows(
 )
     requires { ⌜ (l ≤ 512) × (length (now azimuths) ≤ 8) × (length (now elevations) ≡ length (now azimuths)) × (length (now taps) ≡ length (now azimuths) * (2 * l)) × (9 + length (now azimuths) * rowSize version l ≤ length (now file)) ⌝ }
     ensures bytes { λ _. ⌜ now (file .exit) ≡ placed (now (file .entry)) 9 (rowBytes version (pairsOf (now (azimuths .entry)) (now (elevations .entry))) l (now (taps .entry))) ⌝ }
-    ensures azimuths { λ _. ⌜ Each IsI16 (pos 0) (now (azimuths .entry)) ⌝ }
-    ensures elevations { λ _. ⌜ Each IsI16 (pos 0) (now (elevations .entry)) ⌝ }
+    ensures azimuths { λ _. ⌜ ForAll IsI16 (pos 0) (now (azimuths .entry)) ⌝ }
+    ensures elevations { λ _. ⌜ ForAll IsI16 (pos 0) (now (elevations .entry)) ⌝ }
 {
     let mut i = 0;
     while i < azimuths.len() {
@@ -175,8 +175,8 @@ pub(crate) fn put_bank(
 )
     requires { ⌜ (l ≤ 512) × (length (now azimuths) ≤ 8) × (length (now elevations) ≡ length (now azimuths)) × (length (now taps) ≡ length (now azimuths) * (2 * l)) × (size ≡ 9 + length (now azimuths) * rowSize version l) × (size ≤ length (now file)) ⌝ }
     ensures bytes { λ _. ⌜ now (file .exit) ≡ placed (now (file .entry)) 0 (encode version (record { azimuths = now (azimuths .entry); elevations = now (elevations .entry); length = l; taps = now (taps .entry) })) ⌝ }
-    ensures azimuths { λ _. ⌜ Each IsI16 (pos 0) (now (azimuths .entry)) ⌝ }
-    ensures elevations { λ _. ⌜ Each IsI16 (pos 0) (now (elevations .entry)) ⌝ }
+    ensures azimuths { λ _. ⌜ ForAll IsI16 (pos 0) (now (azimuths .entry)) ⌝ }
+    ensures elevations { λ _. ⌜ ForAll IsI16 (pos 0) (now (elevations .entry)) ⌝ }
 {
     put_head(
         file,

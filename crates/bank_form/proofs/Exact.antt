@@ -24,7 +24,7 @@ use Rattle.bank_form.specs.Encoding.{encode}
 use Rattle.bank_form.specs.FitsFields.{IsI16, IsFloat, FitsFields}
 use Rattle.bank_form.specs.Fault.{elevationsFrom, pairIn, pairsFrom, versionIn, rowsIn, lengthIn, bankIn, isNew, sound, fault, isFile}
 use Rattle.bank_form.specs.File.{Holds, IsFile, Exactly}
-use Rattle.lists.proofs.Each.{each-every}
+use Rattle.lists.proofs.ForAll.{each-every}
 use Rattle.bank_form.proofs.Lists.{every-none, every-more, length-taps, pairwise-before, before-pairwise}
 use Rattle.bank_form.proofs.Walk.{Whole, whole, nothing-found}
 use Rattle.bank_form.proofs.Pairs.{level-zero}

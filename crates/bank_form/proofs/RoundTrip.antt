@@ -27,8 +27,8 @@ use Rattle.big_endian.proofs.Fields.{stands, stands-back, field-below}
 use Rattle.big_endian.proofs.Lists.{strided-none, strided-more, length-strided, fieldBytes-none, fieldBytes-more, length-fieldBytes}
 use Rattle.refusals.proofs.Ranges.{within-true}
 use Rattle.lists.specs.Tables.{every}
-use Rattle.lists.specs.Each.{Each}
-use Rattle.lists.proofs.Each.{each-drop, each-take}
+use Rattle.lists.specs.ForAll.{ForAll}
+use Rattle.lists.proofs.ForAll.{each-drop, each-take}
 use Rattle.bank_form.specs.Bank.{Bank, Pair, rows, pairs, pairsOf, isTap, isLevel}
 use Rattle.bank_form.specs.Version.{elevationSize, elevationBytes, elevationAt, rowSize, tapsAt, largestRow}
 use Rattle.bank_form.specs.Encoding.{rowBytes, allRows, headBytes, encode}
@@ -150,7 +150,7 @@ record TapsStand (s : List ℕ) (p : ℕ) (xs : List Float) (t : List ℕ) : Typ
   same : strided (floatAt s) 4 p (length xs) ≡ xs
   after : drop (p + 4 * length xs) s ≡ t
 
-taps-stand : (s : List ℕ) (p : ℕ) (xs : List Float) (t : List ℕ) → Each IsFloat nan xs → drop p s ≡ floatBytes xs ++ t → TapsStand s p xs t
+taps-stand : (s : List ℕ) (p : ℕ) (xs : List Float) (t : List ℕ) → ForAll IsFloat nan xs → drop p s ≡ floatBytes xs ++ t → TapsStand s p xs t
 unfolding floatAt
 taps-stand s p [] t f e = record { same = strided-none (floatAt s) 4 p; after = from-there s (p + 4 * 0) p t (omega arith) (e ∙ ap (λ (b : List ℕ). b ++ t) (fieldBytes-none 4 (toBits binary32))) }
 taps-stand s p (x ∷ xs) t f e =
@@ -168,7 +168,7 @@ pub record FitsPair (v : ℕ) (p : Pair) : Type 0 where
 noPair : Pair
 noPair = record { azimuth = pos 0; elevation = pos 0 }
 
-pairs-fit : (v : ℕ) (zs es : List ℤ) → Each IsI16 (pos 0) zs → Each IsI16 (pos 0) es → (eqb v 1 ≡ true → every isLevel es ≡ true) → Each (FitsPair v) noPair (pairsOf zs es)
+pairs-fit : (v : ℕ) (zs es : List ℤ) → ForAll IsI16 (pos 0) zs → ForAll IsI16 (pos 0) es → (eqb v 1 ≡ true → every isLevel es ≡ true) → ForAll (FitsPair v) noPair (pairsOf zs es)
 unfolding pairsOf noPair
 pairs-fit v [] es f g flat i = search
 pairs-fit v (z ∷ zs) [] f g flat i = search
@@ -180,7 +180,7 @@ record RowsStand (s : List ℕ) (v p : ℕ) (ps : List Pair) (l : ℕ) (xs : Lis
   taps : tapsFrom s v l p (length ps) ≡ xs
   after : drop (p + length ps * rowSize v l) s ≡ t
 
-rows-stand : (s : List ℕ) (v p : ℕ) (ps : List Pair) (l : ℕ) (xs : List Float) (t : List ℕ) → length xs ≡ length ps * (2 * l) → Each (FitsPair v) noPair ps → Each IsFloat nan xs
+rows-stand : (s : List ℕ) (v p : ℕ) (ps : List Pair) (l : ℕ) (xs : List Float) (t : List ℕ) → length xs ≡ length ps * (2 * l) → ForAll (FitsPair v) noPair ps → ForAll IsFloat nan xs
     → drop p s ≡ rowBytes v ps l xs ++ t → RowsStand s v p ps l xs t
 unfolding rowBytes signedAt
 rows-stand s v p [] l xs t n g f e = record {

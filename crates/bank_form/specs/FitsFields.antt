@@ -6,7 +6,7 @@ use lib.Ieee.{Float, nan, binary32, fits}
 use lib.IntN.{ℤ, pos}
 use lib.ListN.{length}
 use lib.Signed.{mag}
-use Rattle.lists.specs.Each.{Each}
+use Rattle.lists.specs.ForAll.{ForAll}
 use Rattle.bank_form.specs.Bank.{Bank, rows}
 use Rattle.bank_form.specs.Version.{rowSize}
 use Rattle.bank_form.specs.File.{Holds}
@@ -26,6 +26,6 @@ pub record FitsFields (v : ℕ) (b : Bank) : Type 0 where
   pub follow : 4 + rows b * rowSize v (b .length) < 2 ^ 32
   pub paired : length (b .elevations) ≡ rows b
   pub count : length (b .taps) ≡ rows b * (2 * b .length)
-  pub azimuths : Each IsI16 (pos 0) (b .azimuths)
-  pub elevations : Each IsI16 (pos 0) (b .elevations)
-  pub taps : Each IsFloat nan (b .taps)
+  pub azimuths : ForAll IsI16 (pos 0) (b .azimuths)
+  pub elevations : ForAll IsI16 (pos 0) (b .elevations)
+  pub taps : ForAll IsFloat nan (b .taps)

@@ -17,7 +17,7 @@ use Rattle.big_endian.specs.Bytes.{valueOf, bytesOf, IsByte, AreBytes}
 use Rattle.lists.specs.Placed.{placed}
 use Rattle.big_endian.specs.Fields.{lies, fieldAt, withField}
 use Rattle.lists.proofs.Tables.{length-part}
-use Rattle.lists.proofs.Each.{each-drop, each-take}
+use Rattle.lists.proofs.ForAll.{each-drop, each-take}
 use Rattle.lists.proofs.Placed.{placed-none, length-placed, store-before}
 use Rattle.big_endian.proofs.Bytes.{power-pos, length-bytes, digit, value-bytes, value-bytes-fits, value-below, bytes-value, value-snoc}
 

@@ -2,7 +2,7 @@
 use Prim.Native.Nat.{ℕ, zero, suc, _+_, _*_, _/_, _%_, _^_, _<_}
 use mathlib.Core.List.{List, [], _∷_}
 use lib.ListN.{length}
-use Rattle.lists.specs.Each.{Each}
+use Rattle.lists.specs.ForAll.{ForAll}
 
 -- the number that a list of bytes stands for
 unfoldable pub valueOf : List ℕ → ℕ
@@ -19,4 +19,4 @@ IsByte b = b < 256
 
 -- each element is a byte, as in every slice of them
 abbrev pub AreBytes : List ℕ → Type 0
-AreBytes s = Each IsByte 0 s
+AreBytes s = ForAll IsByte 0 s

@@ -13,7 +13,7 @@ use lib.Ieee.Scale.{finite}
 pub use Rattle.refusals.proofs.Counts.{not-outside, count-inside}
 pub use Rattle.refusals.proofs.First.{or-off}
 use Rattle.lists.specs.Tables.{tab, any}
-use Rattle.checks.specs.Finite.{unsound}
+use Rattle.checks.specs.Finite.{hasNonfinite}
 use Rattle.checks.specs.Lengths.{unfit}
 use Rattle.lists.proofs.Tables.{tab-more, tab-none, tab-all, tab-getD}
 
@@ -86,9 +86,9 @@ module _ (f : ℕ → Bool) (n : ℕ) where
 abbrev pub wrong : (ℕ → Float) → ℕ → Bool
 wrong f k = not (finite (f k))
 
-unsound-tab : (i n : ℕ) (f : ℕ → Float) → any (tab i n (wrong f)) ≡ unsound (tab i n f)
-unsound-tab i zero f = refl
-unsound-tab i (suc n) f = ap (λ (b : Bool). wrong f i || b) (unsound-tab (suc i) n f)
+nonfinite-tab : (i n : ℕ) (f : ℕ → Float) → any (tab i n (wrong f)) ≡ hasNonfinite (tab i n f)
+nonfinite-tab i zero f = refl
+nonfinite-tab i (suc n) f = ap (λ (b : Bool). wrong f i || b) (nonfinite-tab (suc i) n f)
 
 -- the loop that stops at the first of them: x is the one looked at, and b whether it was found finite
 module _ (f : ℕ → Float) (n : ℕ) where
@@ -98,40 +98,40 @@ module _ (f : ℕ → Float) (n : ℕ) where
   pub sound-more : (s : ℕ) (x : Float) (b : Bool) → Passing (wrong f) n s → s < n → x ≡ f s → b ≡ finite x → not b ≡ false → Passing (wrong f) n (s + 1)
   sound-more s x b p h ex eb e = passing-more (wrong f) n s p h (looked-at s x b false ex eb e)
 
-  pub unsound-found : (s : ℕ) (x : Float) (b : Bool) → Passing (wrong f) n s → s < n → x ≡ f s → b ≡ finite x → not b ≡ true → true ≡ unsound (tab 0 n f)
-  unsound-found s x b p h ex eb e = passing-found (wrong f) n s p h (looked-at s x b true ex eb e) ∙ unsound-tab 0 n f
+  pub nonfinite-found : (s : ℕ) (x : Float) (b : Bool) → Passing (wrong f) n s → s < n → x ≡ f s → b ≡ finite x → not b ≡ true → true ≡ hasNonfinite (tab 0 n f)
+  nonfinite-found s x b p h ex eb e = passing-found (wrong f) n s p h (looked-at s x b true ex eb e) ∙ nonfinite-tab 0 n f
 
-  pub sound-all : (s : ℕ) → Passing (wrong f) n s → n ≤ s → false ≡ unsound (tab 0 n f)
-  sound-all s p h = passing-all (wrong f) n s p h ∙ unsound-tab 0 n f
+  pub sound-all : (s : ℕ) → Passing (wrong f) n s → n ≤ s → false ≡ hasNonfinite (tab 0 n f)
+  sound-all s p h = passing-all (wrong f) n s p h ∙ nonfinite-tab 0 n f
 
 -- the floats of a list
 abbrev pub placeOf : List Float → ℕ → Float
 placeOf xs k = getD xs k nan
 
-pub unsound-list : (xs : List Float) → unsound (tab 0 (length xs) (placeOf xs)) ≡ unsound xs
-unsound-list xs = ap unsound (tab-getD xs nan)
+pub nonfinite-list : (xs : List Float) → hasNonfinite (tab 0 (length xs) (placeOf xs)) ≡ hasNonfinite xs
+nonfinite-list xs = ap hasNonfinite (tab-getD xs nan)
 
 -- a place of a sound list is finite, and a list of finite places is sound
 
-pub sound-at : (xs : List Float) (i : ℕ) → unsound xs ≡ false → i < length xs → finite (getD xs i nan) ≡ true
+pub sound-at : (xs : List Float) (i : ℕ) → hasNonfinite xs ≡ false → i < length xs → finite (getD xs i nan) ≡ true
 sound-at xs i e h =
     not-false (finite (getD xs i nan))
-    (ap (wrong (placeOf xs)) (sym (zero-add i)) ∙ any-off 0 (length xs) (wrong (placeOf xs)) (unsound-tab 0 (length xs) (placeOf xs) ∙ unsound-list xs ∙ e) i h)
+    (ap (wrong (placeOf xs)) (sym (zero-add i)) ∙ any-off 0 (length xs) (wrong (placeOf xs)) (nonfinite-tab 0 (length xs) (placeOf xs) ∙ nonfinite-list xs ∙ e) i h)
 
-pub sound-tab : (i n : ℕ) (f : ℕ → Float) → ((k : ℕ) → finite (f k) ≡ true) → unsound (tab i n f) ≡ false
+pub sound-tab : (i n : ℕ) (f : ℕ → Float) → ((k : ℕ) → finite (f k) ≡ true) → hasNonfinite (tab i n f) ≡ false
 sound-tab i zero f e = refl
-sound-tab i (suc n) f e = ap (λ (b : Bool). not b || unsound (tab (suc i) n f)) (e i) ∙ sound-tab (suc i) n f e
+sound-tab i (suc n) f e = ap (λ (b : Bool). not b || hasNonfinite (tab (suc i) n f)) (e i) ∙ sound-tab (suc i) n f e
 
 -- what is sound is sound in its parts
 
-pub sound-take : (n : ℕ) (xs : List Float) → unsound xs ≡ false → unsound (take n xs) ≡ false
+pub sound-take : (n : ℕ) (xs : List Float) → hasNonfinite xs ≡ false → hasNonfinite (take n xs) ≡ false
 sound-take zero xs h = refl
 sound-take (suc n) [] h = refl
 sound-take (suc n) (x ∷ xs) h =
-    let o = or-off (not (finite x)) (unsound xs) h in
-    both-off (not (finite x)) (unsound (take n xs)) (o .0) (sound-take n xs (o .1))
+    let o = or-off (not (finite x)) (hasNonfinite xs) h in
+    both-off (not (finite x)) (hasNonfinite (take n xs)) (o .0) (sound-take n xs (o .1))
 
-pub sound-drop : (n : ℕ) (xs : List Float) → unsound xs ≡ false → unsound (drop n xs) ≡ false
+pub sound-drop : (n : ℕ) (xs : List Float) → hasNonfinite xs ≡ false → hasNonfinite (drop n xs) ≡ false
 sound-drop zero xs h = h
 sound-drop (suc n) [] h = refl
-sound-drop (suc n) (x ∷ xs) h = sound-drop n xs (or-off (not (finite x)) (unsound xs) h .1)
+sound-drop (suc n) (x ∷ xs) h = sound-drop n xs (or-off (not (finite x)) (hasNonfinite xs) h .1)

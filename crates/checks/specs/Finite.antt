@@ -5,6 +5,6 @@ use lib.Ieee.{Float}
 use lib.Ieee.Scale.{finite}
 
 -- one of them is NaN or infinite
-abbrev pub unsound : List Float → Bool
-unsound [] = false
-unsound (x ∷ xs) = not (finite x) || unsound xs
+abbrev pub hasNonfinite : List Float → Bool
+hasNonfinite [] = false
+hasNonfinite (x ∷ xs) = not (finite x) || hasNonfinite xs

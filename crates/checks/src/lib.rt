@@ -11,7 +11,7 @@ ghost use mathlib.Core.Path.{_≡_};
 ghost use Prim.Native.Nat.{_*_, min};
 ghost use lib.Dec.{eqb};
 ghost use lib.Ieee.Scale.{finite};
-ghost use Rattle.checks.specs.Finite.{unsound};
+ghost use Rattle.checks.specs.Finite.{hasNonfinite};
 ghost use Rattle.checks.specs.Lengths.{unfit, blockUnfit};
 
 // Whether x is neither a NaN nor an infinity.
@@ -25,8 +25,8 @@ pub fn is_finite(x: f64) -> bool
 }
 
 // Whether one of the weights is NaN or infinite.
-pub fn unsound_f64(weights: &[f64]) -> bool
-    ensures { λ r. ⌜ r ≡ unsound (now (weights .entry)) ⌝ }
+pub fn has_nonfinite_f64(weights: &[f64]) -> bool
+    ensures { λ r. ⌜ r ≡ hasNonfinite (now (weights .entry)) ⌝ }
 {
     let mut w = 0;
     while w < weights.len() {
@@ -39,8 +39,8 @@ pub fn unsound_f64(weights: &[f64]) -> bool
 }
 
 // Whether one of the taps is NaN or infinite.
-pub fn unsound_f32(taps: &[f32]) -> bool
-    ensures { λ r. ⌜ r ≡ unsound (now (taps .entry)) ⌝ }
+pub fn has_nonfinite_f32(taps: &[f32]) -> bool
+    ensures { λ r. ⌜ r ≡ hasNonfinite (now (taps .entry)) ⌝ }
 {
     let mut k = 0;
     while k < taps.len() {
@@ -93,7 +93,7 @@ pub fn is_block_unfit(
 }
 
 // The smaller of two counts.
-pub fn least(a: usize, b: usize) -> usize
+pub fn min(a: usize, b: usize) -> usize
     ensures { λ r. ⌜ r ≡ min a b ⌝ }
 {
     if a < b {

@@ -3,7 +3,7 @@ mod Speakers
 mod Filling
 mod Near
 mod Turned
-pub mod Answers
+pub mod Meets
 mod LowFrequency
 mod Unique
 mod Refuted

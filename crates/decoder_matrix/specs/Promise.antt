@@ -10,11 +10,11 @@ use lib.Ieee.{Float, nan}
 use Rattle.refusals.specs.Refusals.{Check, firstOf, _when_}
 use Rattle.fractions.specs.Fraction.{whole, number}
 use Rattle.fractions.specs.Squares.{BySquares}
-use Rattle.lists.specs.Tables.{row}
+use Rattle.lists.specs.Tables.{chunk}
 use Rattle.channel.specs.declared.Layout.{Layout}
 use Rattle.channel.specs.Layouts.{channelsOf, uncountable}
 use Rattle.channel.specs.Orders.{refusesOrder, channelsOfOrder}
-pub use Rattle.rows.specs.Rows.{Computed}
+pub use Rattle.rows.specs.Rows.{WeightsAnswer}
 use Rattle.rows.specs.Rows.{computedBy}
 use Rattle.decoder_matrix.specs.Matrix.{matrixOf, formulaAt}
 
@@ -28,11 +28,11 @@ checksOf order l weights = 1 when refusesOrder order ∷ 2 when uncountable (cha
 abbrev pub refusalOf : ℕ → Layout → List Float → ℕ
 refusalOf order l weights = firstOf (checksOf order l weights)
 
-abbrev pub outcome : ℕ → Layout → List Float → Computed
+abbrev pub outcome : ℕ → Layout → List Float → WeightsAnswer
 outcome order l weights = computedBy (refusalOf order l weights) (matrixOf order l) weights
 
 -- every bit; and of each weight of an accepted matrix, that of channel c in the row of speaker i, how near it is to the harmonic over the root of n
-pub record Computes (order : ℕ) (l : Layout) (weights : List Float) (r : Computed) : Type 0 where
+pub record Computes (order : ℕ) (l : Layout) (weights : List Float) (r : WeightsAnswer) : Type 0 where
   pub bits : r ≡ outcome order l weights
   pub words : refusalOf order l weights ≡ 0 → (i c : ℕ) → i < channelsOf l → c < channelsOfOrder order
-      → BySquares matrixBits (number (getD (row (channelsOfOrder order) i (r .weights)) c nan)) (formulaAt order l i c) (whole (channelsOf l))
+      → BySquares matrixBits (number (getD (chunk (channelsOfOrder order) i (r .weights)) c nan)) (formulaAt order l i c) (whole (channelsOf l))

@@ -18,7 +18,7 @@ ghost use Rattle.rows.specs.Rows.{scaled};
 ghost use Rattle.harmonics.specs.Promise.{outcome};
 ghost use Rattle.decoder_matrix.specs.Speakers.{customAzimuth, turnedBack, azimuthBy, towards};
 ghost use Rattle.decoder_matrix.specs.Matrix.{rowsBy};
-ghost use Rattle.rows.specs.Steps.{putRows};
+ghost use Rattle.rows.specs.Computed.{putRows};
 ghost use Rattle.decoder_matrix.specs.Promise.{Computes};
 
 // Where a speaker of a Custom layout sits: each operation is rounded once.

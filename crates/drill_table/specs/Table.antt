@@ -10,11 +10,11 @@ use lib.Ieee.{Float, nan, fin, binary64, toBits}
 use Rattle.fractions.specs.Fraction.{Fraction, whole, number, square, Less}
 use Rattle.formats.specs.Floats.{zero-float, one-float, half-float, float}
 use Rattle.numbers.specs.declared.Rooted.{Rooted}
-use Rattle.numbers.specs.Promises.{Narrowed, Root}
+use Rattle.numbers.specs.Promise.{Narrowed, Root}
 use Rattle.series.specs.Angles.{definedSine, definedCosine}
 use Rattle.lists.specs.Tables.{tab}
 use Rattle.channel.specs.declared.Layout.the-variants.{Surround51}
-use Rattle.harmonics.specs.Formulas.{h, m, q, formulas}
+use Rattle.harmonics.specs.Formulas.{sn3dH, sn3dM, sn3dQ, formulas}
 use Rattle.harmonics.specs.Promise.{refusesAzimuth}
 use Rattle.harmonics.specs.Drill.{at, given, Alike, front, frontFloats, left, Above}
 use Rattle.stereo.specs.Angle.{angle}
@@ -22,10 +22,10 @@ use Rattle.stereo.specs.Promise as Stereo
 use Rattle.surround.specs.Formula.{rawAt, sumAt, isSilent}
 use Rattle.surround.specs.Promise as Surround
 use Rattle.surround.specs.Drill.{gains51, sidesAt0, centreAt0}
-use Rattle.history.specs.History.{heard, unsettledEach, unsettledIn}
-use Rattle.history.specs.Drill.{drill, samples}
-use Rattle.row_choice.specs.declared.Choice.{Choice}
-use Rattle.row_choice.specs.Choice.{Chooses}
+use Rattle.hrtf_history.specs.History.{heard, unsettledEach, unsettledIn}
+use Rattle.hrtf_history.specs.Drill.{drill, samples}
+use Rattle.bank_choice.specs.declared.Choice.{Choice}
+use Rattle.bank_choice.specs.Choice.{Chooses}
 use Rattle.bank.specs.Reading.{ReadOutcome, readBank, readRefused, Reads}
 use Rattle.bank.specs.Writing.{WriteOutcome, Writes}
 use Rattle.bank.specs.Conversion.{ToVersion1, ToVersion2}
@@ -33,7 +33,7 @@ use Rattle.bank.specs.Drill.{oneRow, oneRowBytes, oneRowBytes2}
 
 pub record DrillTable : Type 0 where
   -- 1. Order 3 at (0,0): channels 0, 3, 6, 8, 13, 15 are 1, 1, -0.5, h, -m, q; the rest 0.
-  pub item-1 : Alike (formulas 3 (whole 0) (whole 0)) (front h m q)
+  pub item-1 : Alike (formulas 3 (whole 0) (whole 0)) (front sn3dH sn3dM sn3dQ)
   pub item-1-given : Alike (given 3 (at 0 0)) frontFloats
   -- 2. Order 1 at (90,0): 1, 1, 0, 0.
   pub item-2 : Alike (formulas 1 (whole 90) (whole 0)) left

@@ -8,35 +8,35 @@ use native.Mathlib.Omega.{arith}
 use lib.ListN.{length, getD}
 use lib.Ieee.{Float, nan, binary32, mul}
 use lib.Ieee.Scale.{finite}
-use Rattle.lists.specs.Tables.{tab, row}
+use Rattle.lists.specs.Tables.{tab, chunk}
 use Rattle.lists.proofs.Tables.{length-tab, getD-tab, length-row}
-use Rattle.checks.specs.Finite.{unsound}
+use Rattle.checks.specs.Finite.{hasNonfinite}
 use Rattle.channel.specs.Orders.{channelsOfOrder}
 use Rattle.planes.proofs.Sums.{mixed-nan}
 use Rattle.harmonics.specs.declared.Direction.{Direction}
 use Rattle.cues.specs.Cues.{Voice, speaking, voiceAt}
 use Rattle.script.specs.Rendering.{spoken}
-use Rattle.history.specs.Setup.{Setup, SameFilters}
-use Rattle.history.specs.Signals.{signal, damaged}
-use Rattle.rings.specs.State.{State}
+use Rattle.hrtf_history.specs.Setup.{Setup, SameFilters}
+use Rattle.hrtf_history.specs.Signals.{signal, damaged}
+use Rattle.hrtf_rings.specs.State.{State}
 use Rattle.hrtf_checks.specs.Call.{Call, setup, framesIn}
 use Rattle.hrtf_checks.specs.Refusals.{refusalOf}
 use Rattle.hrtf_checks.proofs.Refusing.{some-speakers, weighed}
-use Rattle.runs.specs.Runs.{next, fedBy, Alike, fedAll}
+use Rattle.hrtf_runs.specs.Runs.{next, fedBy, Alike, fedAll}
 use Rattle.drills.specs.Drills.{Drill, samples, encoded, fed}
 use Rattle.drills.specs.Demand.{gainsAt}
 use Rattle.drills.proofs.Silence.{encoded-at}
 
 -- ---- a frame
 
-first-nan : (n : ℕ) (f : ℕ → Float) → 0 < n → f 0 ≡ nan → unsound (tab 0 n f) ≡ true
+first-nan : (n : ℕ) (f : ℕ → Float) → 0 < n → f 0 ≡ nan → hasNonfinite (tab 0 n f) ≡ true
 first-nan zero f h e = absurd (not-suc-le-zero h)
-first-nan (suc n) f h e = ap (λ (x : Float). not (finite x) || unsound (tab 1 n f)) e
+first-nan (suc n) f h e = ap (λ (x : Float). not (finite x) || hasNonfinite (tab 1 n f)) e
 
 channel-damages : (u : Setup) → 0 < u .speakers → length (u .weights) ≡ u .speakers * u .channels → (f : List Float) (c : ℕ) → c < u .channels → c < length f → getD f c nan ≡ nan → damaged u f ≡ true
 channel-damages u some weighed f c hc hf e =
     first-nan (u .speakers) (λ s. signal u s f) some
-    (mixed-nan (row (u .channels) 0 (u .weights)) f c hf (subst (λ (n : ℕ). c < n) (sym (length-row (u .channels) 0 (u .speakers) (u .weights) some weighed)) hc) e)
+    (mixed-nan (chunk (u .channels) 0 (u .weights)) f c hf (subst (λ (n : ℕ). c < n) (sym (length-row (u .channels) 0 (u .speakers) (u .weights) some weighed)) hc) e)
 
 -- ---- a run that is fed something has speakers, and weights for all of them
 

@@ -1,4 +1,4 @@
--- DEMAND 3 ON THE FRAMES AFTER ENCODING. What the convolver is fed is what was encoded, so every sentence of `demand-3` of `runs` reads on the encoded frames. Assumes nothing.
+-- DEMAND 3 ON THE FRAMES AFTER ENCODING. What the convolver is fed is what was encoded, so every sentence of `demand-3` of `hrtf_runs` reads on the encoded frames. Assumes nothing.
 use mathlib.Core.Path.{_≡_, sym, ap, _∙_, subst}
 use mathlib.Core.Bool.{Bool, true, false}
 use mathlib.Core.List.{List, []}
@@ -14,17 +14,17 @@ use Rattle.cues.specs.Cues.{speaking, voiceAt}
 use Rattle.script.specs.Rendering.{rendered}
 use Rattle.script.specs.DrillScript.{Before}
 use Rattle.script.proofs.Divided.{stretches}
-use Rattle.history.specs.Setup.{Setup}
-use Rattle.history.specs.Signals.{damaged}
-use Rattle.history.specs.History.{earSamples, upto}
-use Rattle.rings.specs.State.{State}
-use Rattle.rings.specs.Held.{stateOf}
+use Rattle.hrtf_history.specs.Setup.{Setup}
+use Rattle.hrtf_history.specs.Signals.{damaged}
+use Rattle.hrtf_history.specs.History.{earSamples, upto}
+use Rattle.hrtf_rings.specs.State.{State}
+use Rattle.hrtf_rings.specs.Held.{stateOf}
 use Rattle.hrtf_checks.specs.Call.{Call}
 use Rattle.hrtf.specs.Reset.{ResetOutcome}
-use Rattle.hrtf.proofs.Promised.{reset-by, reset-number}
-use Rattle.runs.specs.Runs.{Alike, fedAll, soundedAll, end, unsettledCounts, sum}
-use Rattle.runs.specs.Demand.{Run, frameAgo, damagedAmong, damagedCounts, SameRun}
-use Rattle.runs.proofs.Demand.{run-starts, demand-3}
+use Rattle.hrtf.proofs.Meets.{reset-by, reset-number}
+use Rattle.hrtf_runs.specs.Runs.{Alike, fedAll, soundedAll, end, unsettledCounts, sum}
+use Rattle.hrtf_runs.specs.Demand.{Run, frameAgo, damagedAmong, damagedCounts, SameRun}
+use Rattle.hrtf_runs.proofs.Demand.{run-starts, demand-3}
 use Rattle.drills.specs.Drills.{Drill, samples, encoded, fed, heard, Drilled, planesLeft, planesTaken}
 use Rattle.drills.specs.Demand.{gainsAt, Agree, SameDrill, SameScript, DrillDemand3}
 use Rattle.drills.proofs.Passing.{readAll, put-all, fed-all}

@@ -13,11 +13,11 @@ use Rattle.cues.specs.declared.Cue.{Cue}
 use Rattle.script.specs.Rendering.{playedOf}
 use Rattle.script.specs.Promise.{answerOf, Block}
 use Rattle.script.specs.Stretches as Script
-use Rattle.history.specs.Setup.{Setup, SameFilters}
-use Rattle.rings.specs.State.{State}
+use Rattle.hrtf_history.specs.Setup.{Setup, SameFilters}
+use Rattle.hrtf_rings.specs.State.{State}
 use Rattle.hrtf_checks.specs.Call.{Call, setup, framesIn}
 use Rattle.hrtf_checks.specs.Refusals.{refusalOf}
-use Rattle.runs.specs.Runs.{next, fedBy, fed, fedAll, Alike}
+use Rattle.hrtf_runs.specs.Runs.{next, fedBy, fed, fedAll, Alike}
 use Rattle.drills.specs.Drills.{Planes, passing, outputs, leaves, inputs, takes}
 
 -- the frames that stand in planes, so many channels being read

@@ -7,7 +7,7 @@ use lib.IntN.{ℤ}
 use lib.ListN.{length, replicate, length-replicate}
 use lib.Ieee.{Float}
 use Rattle.formats.specs.Floats.{zero-float}
-use Rattle.lists.specs.Both.{Both}
+use Rattle.lists.specs.Pairwise.{Pairwise}
 use Rattle.channel.specs.Orders.{channelsOfOrder}
 use Rattle.planes.proofs.Planes.{length-with-frames}
 use Rattle.planes.proofs.Blocks.{block-accepted}
@@ -18,19 +18,19 @@ use Rattle.script.specs.Stretches as Script
 use Rattle.script.proofs.Played.{room, long}
 use Rattle.bank_form.specs.Bank as Form
 use Rattle.bank.specs.Reading.{ReadOutcome, bankFound}
-use Rattle.desk.specs.declared.Desk.{Desk}
-use Rattle.history.proofs.Filters.{same-filters}
-use Rattle.rings.specs.State.{State}
+use Rattle.hrtf_desk.specs.declared.Desk.{Desk}
+use Rattle.hrtf_history.proofs.Filters.{same-filters}
+use Rattle.hrtf_rings.specs.State.{State}
 use Rattle.hrtf_checks.specs.Call.{Call}
 use Rattle.hrtf.specs.Reset.{Resets}
 use Rattle.hrtf_setup.specs.Arrangement.{Wanted, Arrangement, arrangedBy, arrangement}
 use Rattle.hrtf_setup.specs.Arrangement as Arranging
 use Rattle.hrtf_setup.specs.Promise.{Arranges, ofOrder, NewAmbisonic}
 use Rattle.hrtf_setup.proofs.Accepted.{ambisonic-arranges, ambisonic-playable}
-use Rattle.runs.specs.Runs.{next, Alike}
-use Rattle.runs.specs.Demand.{Run}
-use Rattle.runs.specs.NeverRefused.{AllFitted, BankAccepted, NoneRefused}
-use Rattle.runs.proofs.NeverRefused.{good-bank}
+use Rattle.hrtf_runs.specs.Runs.{next, Alike}
+use Rattle.hrtf_runs.specs.Demand.{Run}
+use Rattle.hrtf_runs.specs.NeverRefused.{AllFitted, BankAccepted, NoneRefused}
+use Rattle.hrtf_runs.proofs.NeverRefused.{good-bank}
 use Rattle.drills.specs.Drills.{Drill, Drilled, Planes, passing, outputs, leaves, planesLeft, takes}
 use Rattle.drills.specs.Playing.{setUp, callOf, callsOf, Eared, DrillPlays}
 use Rattle.drills.proofs.Demand.{drill-handed}
@@ -65,7 +65,7 @@ module _ (cues : List Cue) (order : ℕ) where
 -- ---- calls that are lent such planes
 
 module _ (b : Form.Bank) (o : Arrangement) where
-  calls-fitted : (ps : List Planes) (es : List (List Float)) → AllFit (o .answer .channels) ps → Both Eared ps es → AllFitted b o (callsOf b o ps es)
+  calls-fitted : (ps : List Planes) (es : List (List Float)) → AllFit (o .answer .channels) ps → Pairwise Eared ps es → AllFitted b o (callsOf b o ps es)
   calls-fitted [] [] h k = tt
   calls-fitted (p ∷ ps) (e ∷ es) h k = (record { shape = refl; weights = refl; rows = refl; taps = refl; room = h .0 .0; inputs = h .0 .1; ears = k .0 }, calls-fitted ps es (h .1) (k .1))
 
@@ -75,7 +75,7 @@ module _ (b : Form.Bank) (o : Arrangement) where
   calls-alike t (p ∷ ps) (e ∷ es) = (λ z. same-filters (setUp b o), calls-alike _ ps es)
 
   -- being accepted, they take them all
-  calls-take : (t : State) (ps : List Planes) (es : List (List Float)) → Both Eared ps es → NoneRefused t (callsOf b o ps es) → takes t (callsOf b o ps es) ≡ ps
+  calls-take : (t : State) (ps : List Planes) (es : List (List Float)) → Pairwise Eared ps es → NoneRefused t (callsOf b o ps es) → takes t (callsOf b o ps es) ≡ ps
   calls-take t [] [] k h = refl
   calls-take t (p ∷ ps) (e ∷ es) k h =
       let c = callOf b o p e in
@@ -95,14 +95,14 @@ module _ (w : Wanted) (zs es : List ℤ) (rows : ℕ) (weights : List Float) (gi
   channels-are o a e =
       ap (λ (q : Arrangement). q .answer .channels) (a .bits) ∙ channels-by (Arranging.refusalOf w zs es rows weights) (sym (ap (λ (q : Arrangement). q .answer .refusal) (a .bits)) ∙ e)
 
-ears-there : (ps : List Planes) → Both Eared ps (map (λ (p : Planes). replicate (2 * p .stride) zero-float) ps)
+ears-there : (ps : List Planes) → Pairwise Eared ps (map (λ (p : Planes). replicate (2 * p .stride) zero-float) ps)
 ears-there [] = tt
 ears-there (p ∷ ps) = (length-replicate (2 * p .stride) zero-float, ears-there ps)
 
 module _ (r : ReadOutcome) (k : BankAccepted r) (d : Drill) (weights : List Float) (given : List ℕ) (o : Arrangement) (eight : length given ≡ 8)
     (new : NewAmbisonic (d .order) (r .azimuths) (r .elevations) (r .answer .rows) weights given o) (e : o .answer .refusal ≡ 0) (desk : Desk) (rings : List Float)
     (rested : Resets desk (o .answer .speakers) (r .answer .length) rings (record { answer = record { refusal = 0; desk = d .start .desk }; rings = d .start .rings }))
-    (es : List (List Float)) (eared : Both Eared (planesLeft d) es) where
+    (es : List (List Float)) (eared : Pairwise Eared (planesLeft d) es) where
   abbrev calls : List Call
   calls = callsOf (bankFound r) o (planesLeft d) es
 

@@ -15,14 +15,14 @@ use Rattle.lists.specs.Tables.{tab, count}
 use Rattle.lists.proofs.Tables.{length-tab, getD-tab}
 use Rattle.planes.specs.Planes.{sampleAt, frameAt}
 use Rattle.script.specs.DrillScript.{Before}
-use Rattle.history.specs.Setup.{Setup}
-use Rattle.history.specs.Signals.{damaged}
-use Rattle.rings.proofs.Blocks.{fresh}
+use Rattle.hrtf_history.specs.Setup.{Setup}
+use Rattle.hrtf_history.specs.Signals.{damaged}
+use Rattle.hrtf_rings.proofs.Blocks.{fresh}
 use Rattle.hrtf_checks.specs.Call.{Call}
 use Rattle.hrtf_checks.specs.Refusals.{refusalOf}
 use Rattle.hrtf.specs.Promise.{BlockOutcome, outcome, Processes}
-use Rattle.runs.specs.Runs.{next, fed as fedTo, fedAll, sounded, soundedAll}
-use Rattle.runs.specs.Demand.{damagedAmong}
+use Rattle.hrtf_runs.specs.Runs.{next, fed as fedTo, fedAll, sounded, soundedAll}
+use Rattle.hrtf_runs.specs.Demand.{damagedAmong}
 use Rattle.drills.specs.Drills.{Drill, samples, encoded, heard, Drilled}
 use Rattle.drills.specs.Demand.{Agree}
 use Rattle.drills.proofs.Demand.{drill-fed, drill-demand-3, before-settled}

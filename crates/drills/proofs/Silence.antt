@@ -12,7 +12,7 @@ use Rattle.refusals.specs.Refusals.{answered}
 use Rattle.formats.specs.Floats.{zero-float}
 use Rattle.lists.proofs.Lists.{reverse-replicate, replicate-at}
 use Rattle.lists.proofs.Tables.{tab-constant}
-use Rattle.checks.specs.Finite.{unsound}
+use Rattle.checks.specs.Finite.{hasNonfinite}
 use Rattle.checks.proofs.Checks.{all-off}
 use Rattle.channel.specs.Orders.{channelsOfOrder}
 use Rattle.cues.specs.declared.Cue.{Cue}
@@ -21,10 +21,10 @@ use Rattle.script.specs.Rendering.{samplesOf, spoken, rendered}
 use Rattle.script.specs.Stretches as Script
 use Rattle.script.specs.DrillScript.{Before}
 use Rattle.script.proofs.Played.{cues-rise, nobody-before}
-use Rattle.history.specs.Setup.{Setup}
-use Rattle.history.specs.Signals.{damaged, silence}
-use Rattle.history.proofs.Silence.{silence-sound}
-use Rattle.runs.specs.Demand.{frameAgo, damagedAmong}
+use Rattle.hrtf_history.specs.Setup.{Setup}
+use Rattle.hrtf_history.specs.Signals.{damaged, silence}
+use Rattle.hrtf_history.proofs.Silence.{silence-sound}
+use Rattle.hrtf_runs.specs.Demand.{frameAgo, damagedAmong}
 use Rattle.drills.specs.Drills.{Drill, samples, encoded}
 
 -- frame n of what is rendered is sample n by the voice at its frame number
@@ -55,7 +55,7 @@ nobody-silent u order x c = tab-constant 0 (channelsOfOrder order) zero-float �
 encoded-silent : (u : Setup) (d : Drill) → u .channels ≡ channelsOfOrder (d .order) → (n : ℕ) → n < length (encoded d) → voiceAt (d .cues) (d .first + n) ≡ nobody → getD (encoded d) n [] ≡ silence u
 encoded-silent u d c n h v = encoded-at d n h ∙ ap (λ (w : Voice). spoken (d .order) w (getD (samples d) n nan)) v ∙ nobody-silent u (d .order) (getD (samples d) n nan) c
 
-module _ (u : Setup) (finite : unsound (u .weights) ≡ false) (d : Drill) (c : u .channels ≡ channelsOfOrder (d .order)) (n : ℕ) (h : n < length (encoded d)) where
+module _ (u : Setup) (finite : hasNonfinite (u .weights) ≡ false) (d : Drill) (c : u .channels ≡ channelsOfOrder (d .order)) (n : ℕ) (h : n < length (encoded d)) where
   pub silent-sound : voiceAt (d .cues) (d .first + n) ≡ nobody → damaged u (getD (encoded d) n []) ≡ false
   silent-sound v = ap (damaged u) (encoded-silent u d c n h v) ∙ silence-sound u finite
 

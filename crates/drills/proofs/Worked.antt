@@ -22,20 +22,20 @@ use Rattle.cues.specs.declared.Cue.{Cue}
 use Rattle.script.specs.Rendering.{rendered}
 use Rattle.script.specs.Stretches as Script
 use Rattle.script.proofs.Divided.{stretches}
-use Rattle.desk.specs.Numbers.{zeroed}
-use Rattle.history.specs.Setup.{Setup}
-use Rattle.history.specs.History.{earOf, heard as heardAfter}
-use Rattle.history.specs.Drill.{drill}
-use Rattle.history.proofs.Filters.{same-filters}
-use Rattle.rings.proofs.Blocks.{fresh}
+use Rattle.hrtf_desk.specs.Numbers.{zeroed}
+use Rattle.hrtf_history.specs.Setup.{Setup}
+use Rattle.hrtf_history.specs.History.{earOf, heard as heardAfter}
+use Rattle.hrtf_history.specs.Drill.{drill}
+use Rattle.hrtf_history.proofs.Filters.{same-filters}
+use Rattle.hrtf_rings.proofs.Blocks.{fresh}
 use Rattle.hrtf_checks.specs.Call.{Call}
 use Rattle.hrtf_checks.specs.Refusals.{refusalOf}
 use Rattle.hrtf.specs.Promise.{outcome}
 use Rattle.hrtf.specs.Reset.{resetRefusal, Resets}
-use Rattle.hrtf.proofs.Promised.{reset-accepted}
-use Rattle.runs.specs.Runs.{Alike, fedAll, unsettledCounts}
-use Rattle.runs.specs.Demand.{Run}
-use Rattle.runs.proofs.Demand.{run-heard}
+use Rattle.hrtf.proofs.Meets.{reset-accepted}
+use Rattle.hrtf_runs.specs.Runs.{Alike, fedAll, unsettledCounts}
+use Rattle.hrtf_runs.specs.Demand.{Run}
+use Rattle.hrtf_runs.proofs.Demand.{run-heard}
 use Rattle.drills.specs.Drills.{Drill, encoded, heard, Drilled}
 
 -- ---- the two lists of calls

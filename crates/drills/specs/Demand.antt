@@ -1,4 +1,4 @@
--- Demand 3 on the frames after encoding, in the order of its words (`runs`, specs/Demand.antt); it is shown in proofs/Demand.antt. Document 02, E1: "Demand 3 reads on the frames after encoding." Definitions only.
+-- Demand 3 on the frames after encoding, in the order of its words (`hrtf_runs`, specs/Demand.antt); it is shown in proofs/Demand.antt. Document 02, E1: "Demand 3 reads on the frames after encoding." Definitions only.
 use Prim.Native.Nat.{ℕ, suc, _+_, _<_}
 use mathlib.Core.Path.{_≡_}
 use mathlib.Core.Bool.{Bool, true, false}
@@ -13,11 +13,11 @@ use Rattle.panner.specs.declared.Command.the-variants.{Ambisonic}
 use Rattle.panner.specs.Commands.{gainsOf}
 use Rattle.panner.specs.Blocks.{narrowedAll}
 use Rattle.cues.specs.Cues.{nobody, speaking, voiceAt}
-use Rattle.history.specs.Setup.{Setup}
-use Rattle.history.specs.Signals.{damaged}
-use Rattle.history.specs.History.{earSamples, upto}
-use Rattle.runs.specs.Runs.{end, unsettledCounts, sum}
-use Rattle.runs.specs.Demand.{Run, frameAgo, damagedAmong, damagedCounts}
+use Rattle.hrtf_history.specs.Setup.{Setup}
+use Rattle.hrtf_history.specs.Signals.{damaged}
+use Rattle.hrtf_history.specs.History.{earSamples, upto}
+use Rattle.hrtf_runs.specs.Runs.{end, unsettledCounts, sum}
+use Rattle.hrtf_runs.specs.Demand.{Run, frameAgo, damagedAmong, damagedCounts}
 use Rattle.drills.specs.Drills.{Drill, samples, encoded, fed, heard, Drilled, planesLeft, planesTaken}
 
 -- the gains that are played at a direction

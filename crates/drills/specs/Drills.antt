@@ -9,12 +9,12 @@ use Rattle.channel.specs.Orders.{channelsOfOrder}
 use Rattle.cues.specs.declared.Cue.{Cue}
 use Rattle.script.specs.Rendering.{rendered}
 use Rattle.script.specs.Stretches as Script
-use Rattle.history.specs.Setup.{Setup}
-use Rattle.rings.specs.State.{State}
+use Rattle.hrtf_history.specs.Setup.{Setup}
+use Rattle.hrtf_rings.specs.State.{State}
 use Rattle.hrtf_checks.specs.Call.{Call}
 use Rattle.hrtf_checks.specs.Refusals.{refusalOf}
-use Rattle.runs.specs.Runs.{next, fedAll, soundedAll}
-use Rattle.runs.specs.Demand.{Run}
+use Rattle.hrtf_runs.specs.Runs.{next, fedAll, soundedAll}
+use Rattle.hrtf_runs.specs.Demand.{Run}
 
 pub record Drill : Type 0 where
   -- the cues and the order of every call of `render`, the frame number of the first sample, and the calls

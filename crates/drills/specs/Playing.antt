@@ -6,17 +6,17 @@ use mathlib.Core.List.{List, [], _∷_, map}
 use lib.ListN.{length, replicate}
 use lib.Ieee.{Float}
 use Rattle.formats.specs.Floats.{zero-float}
-use Rattle.lists.specs.Both.{Both}
+use Rattle.lists.specs.Pairwise.{Pairwise}
 use Rattle.bank_form.specs.Bank as Form
 use Rattle.bank.specs.Reading.{ReadOutcome, bankFound}
-use Rattle.desk.specs.declared.Desk.{Desk}
-use Rattle.history.specs.Setup.{Setup}
+use Rattle.hrtf_desk.specs.declared.Desk.{Desk}
+use Rattle.hrtf_history.specs.Setup.{Setup}
 use Rattle.hrtf_checks.specs.declared.Shape.{Shape}
 use Rattle.hrtf_checks.specs.Call.{Call, setupOf}
 use Rattle.hrtf.specs.Reset.{Resets}
 use Rattle.hrtf_setup.specs.Arrangement.{Arrangement}
 use Rattle.hrtf_setup.specs.Promise.{NewAmbisonic}
-use Rattle.runs.specs.NeverRefused.{BankAccepted, NoneRefused}
+use Rattle.hrtf_runs.specs.NeverRefused.{BankAccepted, NoneRefused}
 use Rattle.drills.specs.Drills.{Drill, Drilled, Planes, planesLeft}
 
 -- the counts, weights and filters of a bank and of what a set-up left
@@ -41,10 +41,10 @@ Eared p ears = length ears ≡ 2 * p .stride
 
 pub record DrillPlays : Type 0 where
   -- lists for the ears there are
-  pub ears : (ps : List Planes) → Both Eared ps (map (λ (p : Planes). replicate (2 * p .stride) zero-float) ps)
+  pub ears : (ps : List Planes) → Pairwise Eared ps (map (λ (p : Planes). replicate (2 * p .stride) zero-float) ps)
   -- whatever the calls of `render` are: no call is refused that is lent what the accepted ones left, and all together are a drill
   pub plays : (r : ReadOutcome) → BankAccepted r → (d : Drill) (weights : List Float) (given : List ℕ) (o : Arrangement) → length given ≡ 8
       → NewAmbisonic (d .order) (r .azimuths) (r .elevations) (r .answer .rows) weights given o → o .answer .refusal ≡ 0
       → (k : Desk) (rings : List Float) → Resets k (o .answer .speakers) (r .answer .length) rings (record { answer = record { refusal = 0; desk = d .start .desk }; rings = d .start .rings })
-      → (es : List (List Float)) → Both Eared (planesLeft d) es → d .plays ≡ callsOf (bankFound r) o (planesLeft d) es
+      → (es : List (List Float)) → Pairwise Eared (planesLeft d) es → d .plays ≡ callsOf (bankFound r) o (planesLeft d) es
       → NoneRefused (d .start) (d .plays) × Drilled (setUp (bankFound r) o) d

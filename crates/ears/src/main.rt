@@ -15,7 +15,7 @@ const NO_LIMIT: usize = usize::MAX;
 // Prints the line of a run; one that failed has none.
 fn tell(run: RunOutcome) {
     let mut text = [0u8; 64];
-    let n = ears_file::told(run, &mut text);
+    let n = ears_file::result_line(run, &mut text);
     if !io::write_all(STDOUT_FILENO, &text[..n]) {
         os::fail(b"standard output");
     }

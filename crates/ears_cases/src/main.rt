@@ -59,7 +59,7 @@ fn play(bank: &[u8], line: &[u8], limit: usize) {
     leave_something(out);
     let from = os::open_read(line);
     let mut text = [0u8; 64];
-    let n = ears_file::told(ears_file::run(bank, from, out, limit), &mut text);
+    let n = ears_file::result_line(ears_file::run(bank, from, out, limit), &mut text);
     say(&text[..n]);
     if 0 <= from {
         libc::close(from);

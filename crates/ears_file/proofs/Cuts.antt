@@ -4,14 +4,14 @@ use mathlib.Core.List.{List, [], _∷_, _++_, flatten, flatMap, append-nil, appe
 use Prim.Native.Nat.{ℕ, _+_}
 use native.Mathlib.Omega.{arith}
 use lib.Ieee.{Float}
-use Rattle.history.specs.Setup.{Setup}
-use Rattle.history.specs.History.{heard, unsettledIn, after}
-use Rattle.history.proofs.Pieces.{after-append, heard-append, unsettled-append}
-use Rattle.wire.specs.Records.{wholeIn, restIn}
-use Rattle.wire.specs.Frames.{lineFrames}
-use Rattle.wire.specs.Ears.{earBytes}
-use Rattle.wire.proofs.Ears.{ears-append}
-use Rattle.wire.proofs.Cut.{cut-frames, cut-whole}
+use Rattle.hrtf_history.specs.Setup.{Setup}
+use Rattle.hrtf_history.specs.History.{heard, unsettledIn, after}
+use Rattle.hrtf_history.proofs.Pieces.{after-append, heard-append, unsettled-append}
+use Rattle.ears_wire.specs.Records.{wholeIn, restIn}
+use Rattle.ears_wire.specs.Frames.{lineFrames}
+use Rattle.ears_wire.specs.Ears.{earBytes}
+use Rattle.ears_wire.proofs.Ears.{ears-append}
+use Rattle.ears_wire.proofs.Cut.{cut-frames, cut-whole}
 use Rattle.ears_file.specs.Lines.{earsOf}
 use Rattle.ears_file.specs.Promise.{beyond, putInParts, CutAnywhere}
 

@@ -11,10 +11,10 @@ use Rattle.lists.proofs.Tests.{cond-true, cond-false}
 use Rattle.io.specs.Counts.{Counts}
 use Rattle.refusals.specs.Refusals.{answered}
 use Rattle.refusals.proofs.First.{answered-accepted, answered-refused, answered-by}
-use Rattle.history.specs.Setup.{Setup}
-use Rattle.wire.specs.Line.{framesLine, refusedLine, refusedAtLine}
-use Rattle.wire.specs.Promises.{LineGiven, Lined}
-use Rattle.wire.proofs.Meets.{line-ends, line-empty}
+use Rattle.hrtf_history.specs.Setup.{Setup}
+use Rattle.ears_wire.specs.Line.{framesLine, refusedLine, refusedAtLine}
+use Rattle.ears_wire.specs.Promise.{LineGiven, Lined}
+use Rattle.ears_wire.proofs.Meets.{line-ends, line-empty}
 use Rattle.ears_file.specs.declared.Ended.{Ended}
 use Rattle.ears_file.specs.declared.RunOutcome.{RunOutcome}
 use Rattle.ears_file.specs.declared.turn.Progress.{Progress}

@@ -14,24 +14,24 @@ use Rattle.refusals.proofs.First.{not-accepted, answered-refused}
 use Rattle.lists.specs.Placed.{placed}
 use Rattle.lists.proofs.Placed.{placed-start}
 use Rattle.lists.proofs.Lists.{one-at-most}
-use Rattle.lists.specs.Tables.{row}
+use Rattle.lists.specs.Tables.{chunk}
 use Rattle.lists.proofs.Tables.{length-tab}
 use Rattle.bank_form.specs.declared.Fault.{Fault}
 use Rattle.bank_form.specs.Fault.{bankIn, fault}
 use Rattle.bank_form.specs.FaultLaws.{NumberAndPlace}
 use Rattle.bank_form.proofs.Places.{numbers-and-places}
-use Rattle.history.specs.Setup.{Setup}
-use Rattle.history.specs.Signals.{signals}
-use Rattle.history.specs.History.{unsettled, unsettledIn}
-use Rattle.wire.specs.Records.{wholeIn, restIn}
-use Rattle.wire.specs.Frames.{frameOf, lineFrames}
+use Rattle.hrtf_history.specs.Setup.{Setup}
+use Rattle.hrtf_history.specs.Signals.{signals}
+use Rattle.hrtf_history.specs.History.{unsettled, unsettledIn}
+use Rattle.ears_wire.specs.Records.{wholeIn, restIn}
+use Rattle.ears_wire.specs.Frames.{frameOf, lineFrames}
 use Rattle.ears_file.specs.declared.Ended.{Ended}
 use Rattle.ears_file.specs.declared.RunOutcome.{RunOutcome}
-use Rattle.wire.specs.Counting.{countedOn}
-use Rattle.wire.specs.Line.{refusedWord, refusedLine, refusedAtLine}
-use Rattle.wire.proofs.Drill.{refused-fourteen}
-use Rattle.wire.specs.Promises.{LineGiven, lineGiven, Lined}
-use Rattle.wire.proofs.Meets.{line-accepted, line-empty}
+use Rattle.ears_wire.specs.Counting.{countedOn}
+use Rattle.ears_wire.specs.Line.{refusedWord, refusedLine, refusedAtLine}
+use Rattle.ears_wire.proofs.Drill.{refused-fourteen}
+use Rattle.ears_wire.specs.Promise.{LineGiven, lineGiven, Lined}
+use Rattle.ears_wire.proofs.Meets.{line-accepted, line-empty}
 use Rattle.ears_file.specs.Lines.{setupWith, partFrame, refusedBank, restRefusal, itemTen, refusalLine, toldBy}
 use Rattle.ears_file.specs.Promise.{Answers}
 
@@ -103,7 +103,7 @@ module _ (r : RunOutcome) (a : Answers r) where
   more-unsettled-than-frames h =
       let line = a .ends .line in
       let few = unsettled-few (setupWith (bankIn (a .bank))) 0 [] (lineFrames line) in
-      let many : length (lineFrames line) ≡ wholeIn 24 line = length-tab 0 (wholeIn 24 line) (λ i. frameOf (row 24 i line)) in
+      let many : length (lineFrames line) ≡ wholeIn 24 line = length-tab 0 (wholeIn 24 line) (λ i. frameOf (chunk 24 i line)) in
       by-end
       (λ p. omega (arith, h, few, many, ap (λ (y : Ended). y .frames) p, ap (λ (y : Ended). y .unsettled) p))
       (λ q. omega (arith, h, ap (λ (y : Ended). y .frames) q, ap (λ (y : Ended). y .unsettled) q))

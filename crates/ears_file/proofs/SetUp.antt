@@ -16,21 +16,21 @@ use Rattle.bank_form.specs.Bank.{Bank, rows}
 use Rattle.bank_form.specs.Fault.{bankIn, fault, isFile}
 use Rattle.bank_form.proofs.Exact.{is-file}
 use Rattle.bank.specs.Reading.{ReadOutcome, readRefused, readBank}
-use Rattle.bank.proofs.Answers.{Lists, Accepted, read-good, read-bad}
-use Rattle.bank.proofs.Promises.{accepted-parts, accepted-is, read-is}
-use Rattle.history.specs.Setup.{Setup}
+use Rattle.bank.proofs.Meets.{Lists, Accepted, read-good, read-bad}
+use Rattle.bank.proofs.Laws.{accepted-parts, accepted-is, read-is}
+use Rattle.hrtf_history.specs.Setup.{Setup}
 use Rattle.hrtf_checks.specs.declared.Shape.{Shape}
 use Rattle.hrtf_checks.specs.Call.{setupOf}
 use Rattle.hrtf_setup.specs.Arrangement.{Arrangement, arrangedBy, arrangement}
 use Rattle.hrtf_setup.specs.Promise.{ofLayout, NewSurround}
 use Rattle.hrtf_setup.proofs.Accepted.{Playable, surround-playable}
 use Rattle.bank.specs.Reading.{bankFound}
-use Rattle.rings.specs.State.{StateFits}
-use Rattle.runs.proofs.NeverRefused.{few-rows, short-filters, good-bank-set-up, set-up-accepted}
+use Rattle.hrtf_rings.specs.State.{StateFits}
+use Rattle.hrtf_runs.proofs.NeverRefused.{few-rows, short-filters, good-bank-set-up, set-up-accepted}
 use Rattle.ears_file.specs.declared.Ended.{Ended}
 use Rattle.ears_file.specs.declared.RunOutcome.{RunOutcome}
 use Rattle.ears_file.specs.Lines.{arranged, setupWith, partFrame, refusedBank, endsAs, itemTen}
-use Rattle.files.specs.Promises.{Found}
+use Rattle.files.specs.Promise.{Found}
 use Rattle.ears_file.specs.Promise.{Ends, Answers}
 use Rattle.ears_file.specs.Turns.{BlocksAccepted}
 

@@ -10,15 +10,15 @@ use lib.Dec.{eqb}
 use lib.ListN.{length, take, drop, replicate, length-take, length-drop}
 use lib.Ieee.{Float}
 use Rattle.formats.specs.Floats.{zero-float}
-use Rattle.lists.specs.Tables.{tab, row}
-use Rattle.desk.specs.Numbers.{zeroed}
-use Rattle.history.specs.Setup.{Setup}
-use Rattle.history.specs.History.{heard, after}
-use Rattle.rings.specs.Held.{Represents}
-use Rattle.rings.proofs.Blocks.{fresh-represents}
-use Rattle.wire.specs.Ears.{earBytes}
-use Rattle.wire.specs.Records.{wholeIn, restIn}
-use Rattle.wire.specs.Frames.{frameOf, lineFrames}
+use Rattle.lists.specs.Tables.{tab, chunk}
+use Rattle.hrtf_desk.specs.Numbers.{zeroed}
+use Rattle.hrtf_history.specs.Setup.{Setup}
+use Rattle.hrtf_history.specs.History.{heard, after}
+use Rattle.hrtf_rings.specs.Held.{Represents}
+use Rattle.hrtf_rings.proofs.Blocks.{fresh-represents}
+use Rattle.ears_wire.specs.Ears.{earBytes}
+use Rattle.ears_wire.specs.Records.{wholeIn, restIn}
+use Rattle.ears_wire.specs.Frames.{frameOf, lineFrames}
 use Rattle.ears_file.specs.declared.input.Stepped.{Stepped}
 use Rattle.ears_file.specs.declared.turn.Progress.{Progress}
 use Rattle.ears_file.specs.declared.turn.Turn.{Turn}
@@ -69,7 +69,7 @@ module _ (u : Setup) (p : Progress) (rings : List Float) (bytes read : List ℕ)
   unfolding earBytes flatMap
   none-beyond line =
       let few : wholeIn 24 (restIn 24 line) ≡ 0 = omega (arith, length-drop (wholeIn 24 line * 24) line) in
-      let none : lineFrames (restIn 24 line ++ []) ≡ [] = ap lineFrames (append-nil (restIn 24 line)) ∙ ap (λ (m : ℕ). tab 0 m (λ i. frameOf (row 24 i (restIn 24 line)))) few in
+      let none : lineFrames (restIn 24 line ++ []) ≡ [] = ap lineFrames (append-nil (restIn 24 line)) ∙ ap (λ (m : ℕ). tab 0 m (λ i. frameOf (chunk 24 i (restIn 24 line)))) few in
       sym (ap (λ (fs : List (List Float)). earBytes (heard u (after u [] (lineFrames line)) fs)) none)
 
   -- nothing more came

@@ -1,4 +1,4 @@
--- What a turn leaves, from what `wire` and `hrtf` promise: `turn-further`. Where something stands for a line the convolver does not refuse. Assumes nothing.
+-- What a turn leaves, from what `ears_wire` and `hrtf` promise: `turn-further`. Where something stands for a line the convolver does not refuse. Assumes nothing.
 use mathlib.Core.Path.{_≡_, sym, ap, _∙_, subst}
 use mathlib.Core.List.{List, [], _++_}
 use Prim.Native.Nat.{ℕ, _+_, _-_, _*_, _≤_, _<_}
@@ -6,37 +6,37 @@ use native.Mathlib.Omega.{arith}
 use lib.ListN.{length, take, drop, length-drop, take-append-drop}
 use lib.Seq.{take-take, length-take-le}
 use lib.Ieee.{Float}
-use Rattle.lists.specs.Tables.{row}
+use Rattle.lists.specs.Tables.{chunk}
 use Rattle.lists.specs.Placed.{placed}
 use Rattle.lists.proofs.Placed.{take-placed}
 use Rattle.lists.proofs.Tables.{length-tab}
 use Rattle.checks.proofs.Checks.{planes-fit}
 use Rattle.planes.specs.Planes.{frameAt, framesOf, withFrames}
 use Rattle.planes.proofs.Planes.{length-with-frames, frames-read}
-use Rattle.history.specs.Setup.{Setup}
-use Rattle.history.specs.History.{heard, unsettledIn, after}
-use Rattle.history.proofs.Pieces.{length-heard, two-each}
-use Rattle.rings.specs.State.{State, StateFits}
-use Rattle.rings.specs.Held.{Represents}
-use Rattle.rings.proofs.Blocks.{rings-room, waits-few}
+use Rattle.hrtf_history.specs.Setup.{Setup}
+use Rattle.hrtf_history.specs.History.{heard, unsettledIn, after}
+use Rattle.hrtf_history.proofs.Pieces.{length-heard, two-each}
+use Rattle.hrtf_rings.specs.State.{State, StateFits}
+use Rattle.hrtf_rings.specs.Held.{Represents}
+use Rattle.hrtf_rings.proofs.Blocks.{rings-room, waits-few}
 use Rattle.hrtf_checks.specs.declared.Shape.{Shape}
 use Rattle.hrtf_checks.specs.Call.{Call, setupOf}
 use Rattle.hrtf_checks.specs.Refusals.{refusalOf}
 use Rattle.hrtf.specs.Promise.{BlockOutcome, Processes, stateAfter}
-use Rattle.hrtf.proofs.Promised.{ears-over, unsettled-over}
-use Rattle.wire.specs.Records.{wholeIn, restIn}
-use Rattle.wire.specs.Frames.{frameOf, lineFrames}
-use Rattle.wire.specs.Ears.{earBytes}
-use Rattle.wire.specs.declared.Taken.{Taken}
-use Rattle.wire.specs.declared.Given.{Given}
-use Rattle.wire.specs.Promises.{FramesTaken, framesTaken, EarsGiven, earsGiven}
-use Rattle.wire.proofs.Meets.{taken-accepted, given-accepted}
-use Rattle.wire.proofs.Cut.{cut-rest}
-use Rattle.wire.proofs.Ears.{length-ears}
-use Rattle.wire.proofs.Lengths.{six-each}
+use Rattle.hrtf.proofs.Meets.{ears-over, unsettled-over}
+use Rattle.ears_wire.specs.Records.{wholeIn, restIn}
+use Rattle.ears_wire.specs.Frames.{frameOf, lineFrames}
+use Rattle.ears_wire.specs.Ears.{earBytes}
+use Rattle.ears_wire.specs.declared.Taken.{Taken}
+use Rattle.ears_wire.specs.declared.Given.{Given}
+use Rattle.ears_wire.specs.Promise.{FramesTaken, framesTaken, EarsGiven, earsGiven}
+use Rattle.ears_wire.proofs.Meets.{taken-accepted, given-accepted}
+use Rattle.ears_wire.proofs.Cut.{cut-rest}
+use Rattle.ears_wire.proofs.Ears.{length-ears}
+use Rattle.ears_wire.proofs.Lengths.{six-each}
 use Rattle.ears_file.specs.declared.turn.Progress.{Progress}
 use Rattle.ears_file.specs.declared.turn.Turn.{Turn}
-use Rattle.wire.specs.Counting.{countedOn}
+use Rattle.ears_wire.specs.Counting.{countedOn}
 use Rattle.ears_file.specs.Promise.{beyond}
 use Rattle.ears_file.specs.Turns.{BlocksAccepted, Stands, Further}
 use Rattle.ears_file.proofs.Cuts.{past-more, unsettled-more, whole-more}
@@ -121,7 +121,7 @@ module _ (h : Shape) (weights : List Float) (rows : List ℕ) (taps : List Float
     read : framesOf inputs₁ 1024 (h .channels) n ≡ lineFrames (restIn 24 line ++ part)
     read =
         let come = take size bytes in
-        let many : length (lineFrames come) ≡ wholeIn 24 come = length-tab 0 (wholeIn 24 come) (λ i. frameOf (row 24 i come)) in
+        let many : length (lineFrames come) ≡ wholeIn 24 come = length-tab 0 (wholeIn 24 come) (λ i. frameOf (chunk 24 i come)) in
         ap (λ (xs : List Float). framesOf xs 1024 (h .channels) n) (filled)
         ∙ ap (λ (k : ℕ). framesOf (withFrames inputs 1024 0 (lineFrames come)) 1024 k n) (ready .six)
         ∙ ap (framesOf (withFrames inputs 1024 0 (lineFrames come)) 1024 6) (count ∙ sym many)

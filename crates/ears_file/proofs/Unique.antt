@@ -3,11 +3,11 @@ use mathlib.Core.Path.{_≡_, sym, _∙_}
 use denote.Triple.Entry.{Args}
 use Rattle.lists.specs.OneAnswer.{Lives, Answer, Allows, AllowsOneAnswer}
 use Rattle.lists.proofs.Determined.{determined-by}
-use Rattle.ears_file.proofs.told
+use Rattle.ears_file.proofs.result_line
 use Rattle.ears_file.proofs.run
 
-told-unique : AllowsOneAnswer told.ended told.Reads.Learnt
-told-unique κs a = determined-by (λ z h i. (h .0 i .size, (_, (h .0 i .out, _))))
+result-line-unique : AllowsOneAnswer told.ended told.Reads.Learnt
+result-line-unique κs a = determined-by (λ z h i. (h .0 i .size, (_, (h .0 i .out, _))))
 
 run-unique : (κs : Lives run.ended) (a : Args run.signature κs) (y z : Answer run.ended κs a) (p : Allows run.ended run.Reads.Learnt κs a y) (q : Allows run.ended run.Reads.Learnt κs a z)
     → p .bank ≡ q .bank → p .ends .line ≡ q .ends .line → y .0 .failed ≡ z .0 .failed → y ≡ z

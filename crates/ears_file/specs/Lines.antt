@@ -13,17 +13,17 @@ use Rattle.bank_form.specs.Bank.{Bank, rows}
 use Rattle.bank_form.specs.declared.Fault.{Fault}
 use Rattle.bank_form.specs.Fault.{bankIn, fault}
 use Rattle.bank.specs.Reading.{ReadOutcome, readBank}
-use Rattle.history.specs.Setup.{Setup}
-use Rattle.history.specs.History.{heard, unsettledIn}
+use Rattle.hrtf_history.specs.Setup.{Setup}
+use Rattle.hrtf_history.specs.History.{heard, unsettledIn}
 use Rattle.hrtf_setup.specs.Arrangement.{Arrangement, arrangedBy}
 use Rattle.hrtf_setup.specs.Promise.{ofLayout}
-use Rattle.wire.specs.Ears.{earBytes}
-use Rattle.wire.specs.Records.{wholeIn, restIn}
-use Rattle.wire.specs.Frames.{lineFrames}
-use Rattle.wire.specs.Line.{framesLine, refusedLine, refusedAtLine}
+use Rattle.ears_wire.specs.Ears.{earBytes}
+use Rattle.ears_wire.specs.Records.{wholeIn, restIn}
+use Rattle.ears_wire.specs.Frames.{lineFrames}
+use Rattle.ears_wire.specs.Line.{framesLine, refusedLine, refusedAtLine}
 use Rattle.ears_file.specs.declared.Ended.{Ended}
 use Rattle.ears_file.specs.declared.RunOutcome.{RunOutcome}
-use Rattle.wire.specs.Counting.{countedOn}
+use Rattle.ears_wire.specs.Counting.{countedOn}
 
 -- what a bank is read into: lists of eight zeros
 abbrev pub readIn : Bank → ReadOutcome

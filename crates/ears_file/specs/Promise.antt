@@ -4,11 +4,11 @@ use mathlib.Core.Path.{_≡_}
 use mathlib.Core.Bool.{cond}
 use mathlib.Core.List.{List, [], _∷_, _++_, flatten}
 use Prim.Native.Nat.{ℕ}
-use Rattle.history.specs.Setup.{Setup}
-use Rattle.history.specs.History.{heard, after}
-use Rattle.wire.specs.Records.{restIn}
-use Rattle.wire.specs.Frames.{lineFrames}
-use Rattle.wire.specs.Ears.{earBytes}
+use Rattle.hrtf_history.specs.Setup.{Setup}
+use Rattle.hrtf_history.specs.History.{heard, after}
+use Rattle.ears_wire.specs.Records.{restIn}
+use Rattle.ears_wire.specs.Frames.{lineFrames}
+use Rattle.ears_wire.specs.Ears.{earBytes}
 use Rattle.ears_file.specs.declared.Ended.{Ended}
 use Rattle.ears_file.specs.declared.RunOutcome.{RunOutcome}
 use Rattle.ears_file.specs.Lines.{earsOf, partFrame, itemTen}

@@ -6,19 +6,19 @@ use Prim.Native.Nat.{ℕ, _≤_, _<_}
 use lib.ListN.{length, take}
 use lib.Ieee.{Float}
 use Rattle.refusals.specs.Refusals.{answered}
-use Rattle.desk.specs.Numbers.{zeroed}
-use Rattle.history.specs.Setup.{Setup}
-use Rattle.history.specs.History.{unsettledIn, after}
-use Rattle.rings.specs.State.{State, StateFits}
-use Rattle.rings.specs.Held.{Represents}
+use Rattle.hrtf_desk.specs.Numbers.{zeroed}
+use Rattle.hrtf_history.specs.Setup.{Setup}
+use Rattle.hrtf_history.specs.History.{unsettledIn, after}
+use Rattle.hrtf_rings.specs.State.{State, StateFits}
+use Rattle.hrtf_rings.specs.Held.{Represents}
 use Rattle.hrtf_checks.specs.declared.Shape.{Shape}
 use Rattle.hrtf_checks.specs.Refusals.{refusalOf}
-use Rattle.wire.specs.Records.{wholeIn, restIn}
-use Rattle.wire.specs.Frames.{lineFrames}
+use Rattle.ears_wire.specs.Records.{wholeIn, restIn}
+use Rattle.ears_wire.specs.Frames.{lineFrames}
 use Rattle.ears_file.specs.declared.Ended.{Ended}
 use Rattle.ears_file.specs.declared.turn.Progress.{Progress}
 use Rattle.ears_file.specs.declared.turn.Turn.{Turn}
-use Rattle.wire.specs.Counting.{countedOn}
+use Rattle.ears_wire.specs.Counting.{countedOn}
 use Rattle.ears_file.specs.Lines.{partFrame, restRefusal}
 use Rattle.ears_file.specs.Promise.{beyond}
 

@@ -1,7 +1,7 @@
 // Does the work of the program `ears` by file names: plays a line of 5.1 frames through a bank into the file
 // of the ears (document 01, item 10; document 02, E2).
 //
-// `run` plays, and `told` gives the line that a program prints; a failure of the system is told on standard
+// `run` plays, and `result_line` gives the line that a program prints; a failure of the system is told on standard
 // error, and then there is no line.
 //
 // The bank is judged first. The output is emptied in every case. The input may be of any length and come in
@@ -19,9 +19,9 @@ ghost use lib.IntN.{pos};
 ghost use lib.ListN.{replicate};
 ghost use Rattle.io.specs.Counts.{Counts};
 ghost use Rattle.bank.specs.Reading.{bankFound};
-ghost use Rattle.wire.specs.Promises.{Lined};
+ghost use Rattle.ears_wire.specs.Promise.{Lined};
 ghost use Rattle.ears_file.specs.Lines.{setupWith, partFrame, refusedBank, endsAs, toldBy};
-ghost use Rattle.files.specs.Promises.{Found};
+ghost use Rattle.files.specs.Promise.{Found};
 ghost use Rattle.ears_file.specs.Promise.{Ends, Answers};
 
 mod input;
@@ -163,7 +163,7 @@ pub fn run(bank: &[u8], line: i32, out: &[u8], limit: usize) -> RunOutcome
 
 // Puts the line that a run is told by at the start of out, and answers its length: none for a run that failed,
 // which is told on standard error.
-pub fn told(run: RunOutcome, out: &mut [u8]) -> usize
+pub fn result_line(run: RunOutcome, out: &mut [u8]) -> usize
     ensures { λ r. ⌜ Lined (now (out .entry)) (toldBy run) r (now (out .exit)) ⌝ }
     ensures room { λ r. ⌜ Counts r (now (out .exit)) ⌝ }
 {
@@ -172,10 +172,10 @@ pub fn told(run: RunOutcome, out: &mut [u8]) -> usize
     }
     let ended = run.ended;
     if ended.refusal == 0 {
-        return wire::frames_line(ended.frames, ended.unsettled, out);
+        return ears_wire::frames_line(ended.frames, ended.unsettled, out);
     }
     if ended.refusal == PART_FRAME {
-        return wire::refused_line(ended.refusal, out);
+        return ears_wire::refused_line(ended.refusal, out);
     }
-    wire::refused_at_line(ended.refusal, ended.place, out)
+    ears_wire::refused_at_line(ended.refusal, ended.place, out)
 }

@@ -3,8 +3,8 @@
 // whole stays for the next turn. All that is remembered between turns is one small record.
 //
 // The convolver judges each block once, and a set-up that is ready is never refused: so its refusal is not asked for.
-use desk::Desk;
 use hrtf_checks::Shape;
+use hrtf_desk::Desk;
 ghost use mathlib.Core.Path.{_≡_};
 ghost use Prim.Native.Nat.{_≤_, _<_};
 ghost use lib.ListN.{length, take, drop};
@@ -70,7 +70,7 @@ pub(crate) fn play(
     ensures room { λ r. ⌜ Counts (r .bytes) (now (out .exit)) ⌝ }
 {
     let desk = progress.desk;
-    let taken = wire::frames_from_bytes(&bytes[..size], BLOCK, inputs);
+    let taken = ears_wire::frames_from_bytes(&bytes[..size], BLOCK, inputs);
     let frames = taken.frames;
     let played = hrtf::process(
         desk,
@@ -84,16 +84,16 @@ pub(crate) fn play(
         rings,
         ears,
     );
-    let given = wire::bytes_from_ears(ears, BLOCK, frames, out);
+    let given = ears_wire::bytes_from_ears(ears, BLOCK, frames, out);
     let from = frames * FRAME;
-    wire::keep_rest(bytes, from, size);
+    ears_wire::keep_rest(bytes, from, size);
     let next = played.desk;
     Turn {
         progress: Progress {
             desk: next,
             held: size - from,
-            frames: wire::count_on(progress.frames, frames),
-            unsettled: wire::count_on(progress.unsettled, played.unsettled),
+            frames: ears_wire::count_on(progress.frames, frames),
+            unsettled: ears_wire::count_on(progress.unsettled, played.unsettled),
         },
         bytes: given.bytes,
     }

@@ -8,7 +8,7 @@ use lib.ListN.{length, take}
 use lib.Seq.{length-take-le}
 use Rattle.lists.proofs.Lists.{take-min}
 use Rattle.io.specs.Counts.{Counts}
-use Rattle.files.specs.Promises.{ReadBehind}
+use Rattle.files.specs.Promise.{ReadBehind}
 
 pub counts : (n : ℕ) (xs : List ℕ) → n ≤ length xs → Counts n xs
 counts n xs h = (h, sym (length-take-le n xs h))

@@ -12,8 +12,8 @@ use Rattle.bank_form.specs.Fault.{bankIn, fault}
 use Rattle.bank_form.specs.FaultLaws.{NumberAndPlace}
 use Rattle.bank_form.proofs.Places.{numbers-and-places}
 use Rattle.bank.specs.Reading.{ReadOutcome, readRefusal, readOutcome}
-use Rattle.bank.proofs.Answers.{as-refused, as-told, wrong-or-bank}
-use Rattle.files.specs.Promises.{Found}
+use Rattle.bank.proofs.Meets.{as-refused, as-told, wrong-or-bank}
+use Rattle.files.specs.Promise.{Found}
 
 module _ (zs es : List ℤ) (xs : List Float) (o : ReadOutcome) (f : Found zs es xs o) where
   refusal-is : o .answer .refusal ≡ readRefusal (f .file) zs es xs .refusal

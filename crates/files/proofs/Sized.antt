@@ -9,13 +9,13 @@ use lib.Ieee.{Float}
 use lib.ListN.{length, take, replicate, length-append, length-take, length-replicate}
 use lib.Seq.{length-take-le, take-at}
 use Rattle.lists.proofs.Lists.{take-min}
-use Rattle.lists.proofs.Each.{each-take, each-append, each-replicate}
+use Rattle.lists.proofs.ForAll.{each-take, each-append, each-replicate}
 use Rattle.big_endian.specs.Bytes.{IsByte, AreBytes}
 use Rattle.bank_form.specs.Version.{largest}
 use Rattle.bank_form.specs.FaultLaws.{Begins, TakenFrom}
 use Rattle.bank_form.proofs.Start.{enough-kept}
 use Rattle.bank.specs.Reading.{ReadOutcome, ReadsStart}
-use Rattle.files.specs.Promises.{ReadSized, Found}
+use Rattle.files.specs.Promise.{ReadSized, Found}
 
 module _ (bytes : List ℕ) (size n : ℕ) (zs es : List ℤ) (xs : List Float) (o : ReadOutcome) (room : length bytes ≡ largest) where
   pub sized-reads : AreBytes bytes → n ≡ min size (length bytes) → ReadsStart (take n bytes) size zs es xs o → ReadSized bytes size zs es xs o

@@ -1,2 +1,2 @@
 -- The words of the promises of `files`.
-pub mod Promises
+pub mod Promise

@@ -16,7 +16,7 @@ ghost use lib.ListN.{length};
 ghost use Rattle.io.specs.Counts.{Counts};
 ghost use Rattle.bank_form.specs.Version.{largest};
 ghost use Rattle.bank_form.specs.FaultLaws.{bytesThatMatter};
-ghost use Rattle.files.specs.Promises.{ReadBehind, ReadSized, Found};
+ghost use Rattle.files.specs.Promise.{ReadBehind, ReadSized, Found};
 
 // Whether a read failed, and how many bytes now stand in the buffer. One that failed has added none.
 pub struct Got {
@@ -54,7 +54,7 @@ fn read_into(file: i32, part: &mut [u8]) -> Got
 pub fn read_some(file: i32, held: usize, limit: usize, bytes: &mut [u8]) -> Got
     ensures { λ r. ⌜ ReadBehind held limit (now (bytes .entry)) (r .failed) (r .size) (now (bytes .exit)) ⌝ }
 {
-    let at = checks::least(held, bytes.len());
+    let at = checks::min(held, bytes.len());
     let end = end_of_read(at, limit, bytes.len());
     let got = read_into(file, &mut bytes[at..end]);
     Got {
@@ -134,7 +134,7 @@ fn read_sized(
     ensures { λ r. ⌜ ReadSized (now (bytes .entry)) size (now (azimuths .entry)) (now (elevations .entry)) (now (taps .entry))
         (record { answer = r; azimuths = now (azimuths .exit); elevations = now (elevations .exit); taps = now (taps .exit) }) ⌝ }
 {
-    let n = checks::least(size, bytes.len());
+    let n = checks::min(size, bytes.len());
     bank::read_start(&bytes[..n], size, azimuths, elevations, taps)
 }
 

@@ -1,5 +1,5 @@
 -- Where rounding changes nothing. A fraction that the format holds (`Holds`: in units of the smallest value it is on the format's grid) is what its `Result` is, as a number (`result-exact`);
--- Held.antt shows of which fractions that is so. And rounding keeps the sign: what is not below 0 does not fall below it (`result-not-below`). Assumes nothing.
+-- ExactInFormat.antt shows of which fractions that is so. And rounding keeps the sign: what is not below 0 does not fall below it (`result-not-below`). Assumes nothing.
 use mathlib.Core.Path.{_≡_, refl, sym, ap, _∙_, subst}
 use mathlib.Core.Bool.{Bool, true, false, cond}
 use Prim.Native.Nat.{ℕ, suc, _+_, _*_, _-_, _^_, _≤_, _<_, zero-le}

@@ -21,7 +21,7 @@ use Rattle.fractions.proofs.Close.{Size, Least, size-unit, ceiling, cei
 use Rattle.fractions.proofs.Within.{within-refl, gap-size, within-counted, counted-within, size-at-most, least-at-most}
 use Rattle.fractions.proofs.Rounding.{rounding, fine}
 use Rattle.fractions.proofs.Divide.{least-unit, least-add, least-mul, least-positive}
-use Rattle.fractions.proofs.Held.{fits-most}
+use Rattle.fractions.proofs.ExactInFormat.{fits-most}
 use Rattle.fractions.proofs.Near.{Near, near-neg, near-add, near-sub, near-mul, near-div, near-literal, near-held, quotient-most, quotient-result, quotient-error}
 
 -- ---- a float of which something is known: it is within 2 ^ -bits of `exact`, which is `most` in magnitude at most and `least` at least

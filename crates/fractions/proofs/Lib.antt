@@ -13,7 +13,7 @@ pub mod Compare
 pub mod Rounding
 pub mod Operations
 pub mod Exact
-pub mod Held
+pub mod ExactInFormat
 -- Bounds: the calculus of errors, expressions, and quotients by a root.
 pub mod Approximates
 pub mod Near
@@ -23,4 +23,4 @@ pub mod Roots
 pub mod Sums
 pub mod Normalised
 -- The definitions at closed numbers.
-mod Trials
+mod Worked

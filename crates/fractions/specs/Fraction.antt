@@ -6,7 +6,7 @@ use mathlib.Core.Bool.{Bool, cond}
 use mathlib.Core.List.{List}
 use lib.Dec.{ltb}
 use lib.Ieee.{Float, nan, inf, fin, up, down}
-use Rattle.lists.specs.Both.{Both}
+use Rattle.lists.specs.Pairwise.{Pairwise}
 
 -- (plus - minus) / over
 pub record Fraction : Type 0 where
@@ -96,4 +96,4 @@ pub record Within (k : ℕ) (x y : Fraction) : Type 0 where
 
 -- of a row of floats, as the gains of document 01: as many as there are numbers, each within 2 ^ -k of the number in its place
 abbrev pub EachWithin : ℕ → List Float → List Fraction → Type 0
-EachWithin k = Both (λ x q. Within k (number x) q)
+EachWithin k = Pairwise (λ x q. Within k (number x) q)

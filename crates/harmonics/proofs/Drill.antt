@@ -15,13 +15,13 @@ use Rattle.fractions.specs.Fraction.{Fraction, number, whole, magnitude, _⊗_,
 use Rattle.fractions.proofs.Order.{same-sym, same-trans, isSame, same-computed}
 use Rattle.fractions.proofs.Operations.{mul-result}
 use Rattle.fractions.proofs.Exact.{result-exact}
-use Rattle.fractions.proofs.Held.{whole-held, same-held}
+use Rattle.fractions.proofs.ExactInFormat.{whole-held, same-held}
 use Rattle.series.specs.Sums.{Wave, sine, cosine}
 use Rattle.series.specs.Angles.{turned, isMultiple, quarters, defined, definedSine, definedCosine}
 use Rattle.angles.specs.Computed.{units, cut, place, short, times, radians, nesting, nest, rounded, sineAt, cosineAt, computed}
 use Rattle.angles.specs.Limits.{isInside, refusesAngle}
 use Rattle.angles.specs.Promise as Angles
-use Rattle.harmonics.specs.Formulas.{h, q, m, formulasOver, formulas}
+use Rattle.harmonics.specs.Formulas.{sn3dH, sn3dQ, sn3dM, formulasOver, formulas}
 use Rattle.harmonics.specs.Computed.{sin, cos, wavesOf, upTo}
 use Rattle.harmonics.specs.Promise.{refusesAzimuth, outcome}
 use Rattle.harmonics.specs.Drill.{at, given, Alike, none, front, frontFloats, left, Above}
@@ -42,9 +42,9 @@ alike (x ∷ xs) (y ∷ ys) t = (same-computed x y (and-l (isSame x y) (isAlike 
 alike [] (y ∷ ys) t = absurd t
 alike (x ∷ xs) [] t = absurd t
 
-pub drill-1 : Alike (formulas 3 (whole 0) (whole 0)) (front h m q)
+pub drill-1 : Alike (formulas 3 (whole 0) (whole 0)) (front sn3dH sn3dM sn3dQ)
 unfolding formulasOver defined isMultiple quarters turned
-drill-1 = alike (formulas 3 (whole 0) (whole 0)) (front h m q) tt
+drill-1 = alike (formulas 3 (whole 0) (whole 0)) (front sn3dH sn3dM sn3dQ) tt
 
 pub drill-1-floats : Alike (given 3 (at 0 0)) frontFloats
 unfolding refusesAngle isInside upTo wavesOf sin cos lt le eq computed place cut units turned sineAt cosineAt short times radians nesting nest rounded ofInt div neg add sub mul round

@@ -24,11 +24,11 @@ use Rattle.harmonics.specs.Promise.{refusesAzimuth, refusesElevation, re
 use Rattle.harmonics.specs.declared.Direction.{Direction}
 use Rattle.harmonics.specs.declared.Coefficients.{Coefficients}
 use Rattle.angles.proofs.Limits.{accepted-number, accepted-size, size-accepted}
-use Rattle.harmonics.proofs.Kept as Kept
+use Rattle.harmonics.proofs.Meets as Kept
 -- what is known of an order and a direction that are accepted
-pub use Rattle.harmonics.proofs.Kept.{is-accepted}
+pub use Rattle.harmonics.proofs.Meets.{is-accepted}
 -- the promise holds of the answer that the definition gives, so that all of it can be had of coefficients that are said by the definition alone
-pub use Rattle.harmonics.proofs.Kept.{outcome-kept}
+pub use Rattle.harmonics.proofs.Meets.{outcome-kept}
 
 -- ---- which angles are accepted: those of 180, or of 90 degrees at most in size
 module _ (x : Float) (X : 0 < number x .over) where

@@ -4,7 +4,7 @@ use Prim.Native.Nat.{ℕ}
 use mathlib.Core.List.{List, [], _∷_, map}
 use lib.IntN.{pos}
 use lib.ListN.{getD}
-use Rattle.lists.specs.Both.{Both}
+use Rattle.lists.specs.Pairwise.{Pairwise}
 use Rattle.formats.specs.Floats.{float, decimal}
 use Rattle.fractions.specs.Fraction.{Fraction, fraction, number, whole, opposite, Same}
 use Rattle.harmonics.specs.Promise.{outcome}
@@ -19,7 +19,7 @@ given order d = map number (outcome order d .gains)
 
 -- as many numbers as numbers, the same in each place
 abbrev pub Alike : List Fraction → List Fraction → Type 0
-Alike = Both Same
+Alike = Pairwise Same
 
 abbrev pub none : Fraction
 none = whole 0

@@ -11,17 +11,17 @@ use Rattle.series.specs.Angles.{definedSine, definedCosine}
 abbrev pub cube : Fraction → Fraction
 cube x = square x ⊗ x
 
-abbrev pub h : Fraction
-h = fraction 8660254037844386 0 (10 ^ 16)
+abbrev pub sn3dH : Fraction
+sn3dH = fraction 8660254037844386 0 (10 ^ 16)
 
-abbrev pub q : Fraction
-q = fraction 7905694150420949 0 (10 ^ 16)
+abbrev pub sn3dQ : Fraction
+sn3dQ = fraction 7905694150420949 0 (10 ^ 16)
 
-abbrev pub o : Fraction
-o = fraction 19364916731037085 0 (10 ^ 16)
+abbrev pub sn3dO : Fraction
+sn3dO = fraction 19364916731037085 0 (10 ^ 16)
 
-abbrev pub m : Fraction
-m = fraction 6123724356957945 0 (10 ^ 16)
+abbrev pub sn3dM : Fraction
+sn3dM = fraction 6123724356957945 0 (10 ^ 16)
 
 -- ---- over the sines and cosines: of the elevation, of twice it, of the azimuth, and of twice and three times it
 pub record Sines : Type 0 where
@@ -57,22 +57,22 @@ degree1 s = s .cosE ⊗ s .sinA ∷ s .sinE ∷ s .cosE ⊗ s .cosA ∷ []
 
 abbrev pub degree2 : Sines → List Fraction
 degree2 s =
-    h ⊗ square (s .cosE) ⊗ s .sin2A
-    ∷ h ⊗ s .sin2E ⊗ s .sinA
+    sn3dH ⊗ square (s .cosE) ⊗ s .sin2A
+    ∷ sn3dH ⊗ s .sin2E ⊗ s .sinA
     ∷ (whole 3 ⊗ square (s .sinE) ⊖ whole 1) ⊘ whole 2
-    ∷ h ⊗ s .sin2E ⊗ s .cosA
-    ∷ h ⊗ square (s .cosE) ⊗ s .cos2A
+    ∷ sn3dH ⊗ s .sin2E ⊗ s .cosA
+    ∷ sn3dH ⊗ square (s .cosE) ⊗ s .cos2A
     ∷ []
 
 abbrev pub degree3 : Sines → List Fraction
 degree3 s =
-    q ⊗ cube (s .cosE) ⊗ s .sin3A
-    ∷ o ⊗ square (s .cosE) ⊗ s .sinE ⊗ s .sin2A
-    ∷ m ⊗ s .cosE ⊗ (whole 5 ⊗ square (s .sinE) ⊖ whole 1) ⊗ s .sinA
+    sn3dQ ⊗ cube (s .cosE) ⊗ s .sin3A
+    ∷ sn3dO ⊗ square (s .cosE) ⊗ s .sinE ⊗ s .sin2A
+    ∷ sn3dM ⊗ s .cosE ⊗ (whole 5 ⊗ square (s .sinE) ⊖ whole 1) ⊗ s .sinA
     ∷ s .sinE ⊗ (whole 5 ⊗ square (s .sinE) ⊖ whole 3) ⊘ whole 2
-    ∷ m ⊗ s .cosE ⊗ (whole 5 ⊗ square (s .sinE) ⊖ whole 1) ⊗ s .cosA
-    ∷ o ⊗ square (s .cosE) ⊗ s .sinE ⊗ s .cos2A
-    ∷ q ⊗ cube (s .cosE) ⊗ s .cos3A
+    ∷ sn3dM ⊗ s .cosE ⊗ (whole 5 ⊗ square (s .sinE) ⊖ whole 1) ⊗ s .cosA
+    ∷ sn3dO ⊗ square (s .cosE) ⊗ s .sinE ⊗ s .cos2A
+    ∷ sn3dQ ⊗ cube (s .cosE) ⊗ s .cos3A
     ∷ []
 
 -- ---- up to an order; beyond it each is 0. Of fractions here, of floats in Computed.antt

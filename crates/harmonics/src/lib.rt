@@ -22,7 +22,7 @@
 //   channels 9, 15                                            105
 //   channels 10, 14                                           131
 ghost use mathlib.Core.Path.{_≡_};
-ghost use Rattle.harmonics.specs.Computed as Steps;
+ghost use Rattle.harmonics.specs.Computed as Computed;
 ghost use Rattle.harmonics.specs.Promise as Said;
 
 // Where a sound comes from, in degrees: azimuth 0 is the front and 90 the left, elevation 90 is above.
@@ -72,19 +72,19 @@ pub fn refuses_direction(direction: Direction) -> bool
 }
 
 fn sin(angle: f64) -> f64
-    ensures { λ r. ⌜ r ≡ Steps.sin angle ⌝ }
+    ensures { λ r. ⌜ r ≡ Computed.sin angle ⌝ }
 {
     angles::sine(angle).value
 }
 
 fn cos(angle: f64) -> f64
-    ensures { λ r. ⌜ r ≡ Steps.cos angle ⌝ }
+    ensures { λ r. ⌜ r ≡ Computed.cos angle ⌝ }
 {
     angles::cosine(angle).value
 }
 
 fn waves_of(direction: Direction) -> Waves
-    ensures { λ r. ⌜ r ≡ Steps.wavesOf direction ⌝ }
+    ensures { λ r. ⌜ r ≡ Computed.wavesOf direction ⌝ }
 {
     let az = direction.azimuth;
     let el = direction.elevation;
@@ -103,7 +103,7 @@ fn waves_of(direction: Direction) -> Waves
 
 // Order 0: W, and order 1: Y, Z, X (ACN 1, 2, 3).
 fn first_order(w: Waves) -> [f64; 16]
-    ensures { λ r. ⌜ r ≡ Steps.upTo 1 w ⌝ }
+    ensures { λ r. ⌜ r ≡ Computed.upTo 1 w ⌝ }
 {
     let mut gains = [0.0; 16];
     gains[0] = 1.0; // W
@@ -115,7 +115,7 @@ fn first_order(w: Waves) -> [f64; 16]
 
 // And order 2: ACN 4-8.
 fn second_order(w: Waves) -> [f64; 16]
-    ensures { λ r. ⌜ r ≡ Steps.upTo 2 w ⌝ }
+    ensures { λ r. ⌜ r ≡ Computed.upTo 2 w ⌝ }
 {
     let mut gains = first_order(w);
     let cos_el_sq = w.cos_el * w.cos_el;
@@ -129,7 +129,7 @@ fn second_order(w: Waves) -> [f64; 16]
 
 // And order 3: ACN 9-15.
 fn third_order(w: Waves) -> [f64; 16]
-    ensures { λ r. ⌜ r ≡ Steps.upTo 3 w ⌝ }
+    ensures { λ r. ⌜ r ≡ Computed.upTo 3 w ⌝ }
 {
     let mut gains = second_order(w);
     let cos_el_sq = w.cos_el * w.cos_el;
@@ -147,7 +147,7 @@ fn third_order(w: Waves) -> [f64; 16]
 
 // The sixteen of an accepted order.
 fn gains_of(order: usize, w: Waves) -> [f64; 16]
-    ensures { λ r. ⌜ r ≡ Steps.gainsOf order w ⌝ }
+    ensures { λ r. ⌜ r ≡ Computed.gainsOf order w ⌝ }
 {
     if order == 1 {
         return first_order(w);

@@ -9,8 +9,8 @@ use Rattle.formats.specs.Floats.{zero-float}
 use Rattle.numbers.specs.Computed.{narrowed}
 use Rattle.numbers.specs.Normalization.{inverseRoot}
 use Rattle.planes.proofs.Sums.{Summing, summing-none, summing-more, summing-all}
-use Rattle.history.specs.History.{earOf}
-use Rattle.rings.specs.Computed.{partOf}
+use Rattle.hrtf_history.specs.History.{earOf}
+use Rattle.hrtf_rings.specs.Computed.{partOf}
 use Rattle.hrtf_checks.specs.declared.Shape.{Shape}
 use Rattle.hrtf_checks.specs.Call.{setupOf}
 use Rattle.hrtf.specs.declared.parts.EarSums.{EarSums}

@@ -9,17 +9,17 @@ use lib.Dec.{ltb}
 use lib.ListN.{length}
 use lib.Ieee.{Float}
 use Rattle.planes.specs.Planes.{frameAt, withSample, withFrame, FramePut, withFrames}
-use Rattle.lists.proofs.Going.{Going, going-none, going-more, going-all}
+use Rattle.lists.proofs.LoopOverTable.{LoopOverTable, loop-none, loop-more, loop-all}
 use Rattle.lists.proofs.Lists.{one-at-most}
 use Rattle.planes.proofs.Planes.{length-with-frame}
-use Rattle.desk.specs.declared.Desk.{Desk}
-use Rattle.desk.specs.Numbers.{steppedOf}
-use Rattle.desk.proofs.Going.{position-below}
-use Rattle.history.specs.Setup.{Setup}
-use Rattle.history.specs.Signals.{signals}
-use Rattle.rings.specs.State.{State}
-use Rattle.rings.specs.Computed.{stored, ears, late, stepped, left, played, counted}
-use Rattle.rings.proofs.Told.{length-stored}
+use Rattle.hrtf_desk.specs.declared.Desk.{Desk}
+use Rattle.hrtf_desk.specs.Numbers.{steppedOf}
+use Rattle.hrtf_desk.proofs.DeskInRange.{position-below}
+use Rattle.hrtf_history.specs.Setup.{Setup}
+use Rattle.hrtf_history.specs.Signals.{signals}
+use Rattle.hrtf_rings.specs.State.{State}
+use Rattle.hrtf_rings.specs.Computed.{stored, ears, late, stepped, left, played, counted}
+use Rattle.hrtf_rings.proofs.RingsHoldHistory.{length-stored}
 use Rattle.hrtf_checks.specs.declared.Shape.{Shape}
 use Rattle.hrtf_checks.specs.Call.{Call, setupOf, setup, framesIn}
 use Rattle.hrtf_checks.specs.Computed.{Ready}
@@ -96,7 +96,7 @@ pub record Playing (c : Call) (t : State) (rings ears₁ : List Float) (d : Desk
   pub room : length ears₁ ≡ length (c .ears)
   pub same : length rings ≡ length (t .rings)
   pub goes :
-      Going (onward c) (frameAt (c .inputs) (c .stride) (c .shape .channels)) (c .frames) (record { state = t; ears = c .ears; count = 0 })
+      LoopOverTable (onward c) (frameAt (c .inputs) (c .stride) (c .shape .channels)) (c .frames) (record { state = t; ears = c .ears; count = 0 })
       (record { state = record { rings = rings; desk = d }; ears = ears₁; count = count }) n
 
 module _ (c : Call) (t : State) where
@@ -107,7 +107,7 @@ module _ (c : Call) (t : State) where
   first = record { state = t; ears = c .ears; count = 0 }
 
   pub playing-none : Ready (c .shape) (t .desk .position) (c .rows) (c .taps) (t .rings) → Playing c t (t .rings) (c .ears) (t .desk) 0 0
-  playing-none r = record { few = zero-le; ready = r; room = refl; same = refl; goes = going-none (onward c) frame (c .frames) first }
+  playing-none r = record { few = zero-le; ready = r; room = refl; same = refl; goes = loop-none (onward c) frame (c .frames) first }
 
   module _ (rings ears₁ : List Float) (d : Desk) (count n : ℕ) (p : Playing c t rings ears₁ d count n) where
     abbrev st : State
@@ -146,11 +146,11 @@ module _ (c : Call) (t : State) where
                   };
               room = ap length (e .eared) ∙ length-with-frame 0 ears₁ (c .stride) n (ears (setup c) st (frame n)) ∙ p .room;
               same = long ∙ p .same;
-              goes = going-more (onward c) frame (c .frames) first (staged c) (takes c) now-stands n (frame n) _ (p .goes) h refl stands;
+              goes = loop-more (onward c) frame (c .frames) first (staged c) (takes c) now-stands n (frame n) _ (p .goes) h refl stands;
             }
 
     pub playing-all : c .frames ≤ n → BlockPlayed c t rings ears₁ d count
     playing-all h =
         ap (λ (k : ℕ). sounded c n now-stands k []) (sym (add-zero count))
-        ∙ going-all (onward c) frame (c .frames) first now-stands n (p .goes) h
+        ∙ loop-all (onward c) frame (c .frames) first now-stands n (p .goes) h
         ∙ ap (λ (k : ℕ). sounded c 0 first k (framesIn c)) (zero-add (counted (setup c) t (framesIn c)))

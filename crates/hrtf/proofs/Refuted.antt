@@ -12,14 +12,14 @@ use Rattle.formats.specs.Floats.{zero-float}
 use Rattle.lists.proofs.Lists.{split}
 use Rattle.lists.proofs.Tables.{length-tab}
 use Rattle.planes.specs.Planes.{frameAt}
-use Rattle.desk.specs.declared.Desk.{Desk}
-use Rattle.rings.specs.State.{State}
+use Rattle.hrtf_desk.specs.declared.Desk.{Desk}
+use Rattle.hrtf_rings.specs.State.{State}
 use Rattle.hrtf_checks.specs.Call.{Call, framesIn}
 use Rattle.hrtf_checks.specs.Refusals.{refusalOf}
 use Rattle.hrtf_checks.proofs.Refusing.{ready}
 use Rattle.hrtf.specs.Promise.{BlockOutcome, Processes}
 use Rattle.hrtf.specs.Reset.{resetRefusal, ResetOutcome, Resets}
-use Rattle.hrtf.proofs.Promised.{outcome-by, reset-by, reset-number}
+use Rattle.hrtf.proofs.Meets.{outcome-by, reset-by, reset-number}
 
 -- the stride for the frames
 stride-counted : (c : Call) (t : State) (o : BlockOutcome) → Processes c t o → refusalOf c t ≡ 0 → (c .frames ≡ c .stride → ⊥) → o .answer .samples ≡ c .stride → ⊥

@@ -13,15 +13,15 @@ use lib.Ieee.{Float, nan, binary32, binary64, isNan, fits}
 use lib.Ieee.Fits.{and-i, fits-widens}
 use Rattle.formats.specs.Floats.{zero-float}
 use Rattle.formats.proofs.Patterns.{finite-no-nan}
-use Rattle.lists.specs.Tables.{row}
+use Rattle.lists.specs.Tables.{chunk}
 use Rattle.lists.proofs.Lists.{getD-reverse}
 use Rattle.lists.proofs.Tables.{length-part, part-is, row-end}
 use Rattle.checks.proofs.Checks.{sound-at, sound-take, sound-drop}
 use Rattle.planes.specs.Sums.{dot}
 use Rattle.planes.proofs.Sums.{dot-nan}
-use Rattle.rings.specs.Unrolled.{unrolled}
-use Rattle.rings.specs.Computed.{partBy}
-use Rattle.rings.proofs.TwoRuns.{two-runs}
+use Rattle.hrtf_rings.specs.Unrolled.{unrolled}
+use Rattle.hrtf_rings.specs.Computed.{partBy}
+use Rattle.hrtf_rings.proofs.TwoRuns.{two-runs}
 use Rattle.hrtf_checks.specs.declared.Shape.{Shape}
 use Rattle.hrtf.specs.declared.parts.EarSums.{EarSums}
 use Rattle.hrtf.specs.Computed.{TapsFor, dotEach, noSums, PartsInside, partsBy}
@@ -144,5 +144,5 @@ module _ (h : Shape) (s j : ℕ) (taps rings : List Float) (p : PartsInside h s 
           → dot zero-float (unrolled q ring) (piece at (h .length) taps) ≡ partBy (h .length) q s j side taps rings
       ear side {at} there =
           ap (λ (l : List Float). dot zero-float (unrolled q l) (piece at (h .length) taps)) (part-is (s * h .length) (h .length) rings)
-          ∙ ap (dot zero-float (unrolled q (row (h .length) s rings)))
+          ∙ ap (dot zero-float (unrolled q (chunk (h .length) s rings)))
           (part-is at (h .length) taps ∙ ap (λ (k : ℕ). take (h .length) (drop k taps)) there)

@@ -6,14 +6,14 @@ use mathlib.Core.List.{List, []}
 use lib.ListN.{length}
 use lib.Ieee.{Float}
 use Rattle.formats.specs.Floats.{zero-float}
-use Rattle.checks.specs.Finite.{unsound}
+use Rattle.checks.specs.Finite.{hasNonfinite}
 use Rattle.planes.specs.Planes.{withFrame, withFrames}
 use Rattle.planes.specs.Sums.{dot}
 use Rattle.numbers.specs.Normalization.{inverseRoot}
-use Rattle.desk.specs.declared.Desk.{Desk}
-use Rattle.history.specs.Signals.{damaged}
-use Rattle.rings.specs.State.{State}
-use Rattle.rings.specs.Computed.{stored, partBy, ringEar, ears, late, left, played, counted}
+use Rattle.hrtf_desk.specs.declared.Desk.{Desk}
+use Rattle.hrtf_history.specs.Signals.{damaged}
+use Rattle.hrtf_rings.specs.State.{State}
+use Rattle.hrtf_rings.specs.Computed.{stored, partBy, ringEar, ears, late, left, played, counted}
 use Rattle.hrtf_checks.specs.declared.Shape.{Shape}
 use Rattle.hrtf_checks.specs.Call.{Call, setupOf, setup, framesIn}
 use Rattle.hrtf_checks.specs.Computed.{Ready}
@@ -30,14 +30,14 @@ scaledOf h = record { shape = h; «inverse_root» = inverseRoot (h .speakers) }
 pub record ScaledReady (k : Scaled) (position : ℕ) (rows : List ℕ) (taps rings : List Float) : Type 0 where
   pub factor : k ≡ scaledOf (k .shape)
   pub ready : Ready (k .shape) position rows taps rings
-  pub finite : unsound taps ≡ false
+  pub finite : hasNonfinite taps ≡ false
 
 -- ---- one speaker
 
 -- taps that go with so many cells: one for each, and each of them finite
 pub record TapsFor (cells taps : List Float) : Type 0 where
   pub each : length taps ≡ length cells
-  pub finite : unsound taps ≡ false
+  pub finite : hasNonfinite taps ≡ false
 
 -- both sums gone on with, each by its own taps
 abbrev pub dotEach : EarSums → List Float → List Float → List Float → EarSums
@@ -53,7 +53,7 @@ pub record PartsInside (h : Shape) (s j : ℕ) (taps rings : List Float) : Type 
   pub tapped : length taps ≡ 2 * h .rows * h .length
   pub ringed : length rings ≡ h .speakers * h .length
   pub some : 0 < h .length
-  pub finite : unsound taps ≡ false
+  pub finite : hasNonfinite taps ≡ false
 
 -- both ears' parts of speaker s with the taps of row j, where p is the cell that is written next
 abbrev pub partsBy : Shape → ℕ → ℕ → ℕ → List Float → List Float → EarSums

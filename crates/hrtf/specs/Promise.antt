@@ -6,9 +6,9 @@ use mathlib.Core.List.{List, []}
 use lib.Ieee.{Float}
 use Rattle.refusals.specs.Refusals.{answered}
 use Rattle.planes.specs.Planes.{withFrames}
-use Rattle.history.specs.History.{heard, unsettledIn, after}
-use Rattle.rings.specs.State.{State}
-use Rattle.rings.specs.Held.{heldIn, afterFrames, Represents}
+use Rattle.hrtf_history.specs.History.{heard, unsettledIn, after}
+use Rattle.hrtf_rings.specs.State.{State}
+use Rattle.hrtf_rings.specs.Held.{heldIn, afterFrames, Represents}
 use Rattle.hrtf.specs.declared.BlockAnswer.{BlockAnswer}
 use Rattle.hrtf_checks.specs.Call.{Call, setup, framesIn}
 use Rattle.hrtf_checks.specs.Refusals.{refusalOf}

@@ -8,10 +8,10 @@ use lib.ListN.{length, replicate}
 use lib.Ieee.{Float}
 use Rattle.formats.specs.Floats.{zero-float}
 use Rattle.refusals.specs.Refusals.{Check, firstOf, _when_, answered, outside}
-use Rattle.desk.specs.declared.Desk.{Desk}
-use Rattle.desk.specs.Numbers.{zeroed}
-use Rattle.history.specs.Setup.{Setup}
-use Rattle.rings.specs.Held.{Represents}
+use Rattle.hrtf_desk.specs.declared.Desk.{Desk}
+use Rattle.hrtf_desk.specs.Numbers.{zeroed}
+use Rattle.hrtf_history.specs.Setup.{Setup}
+use Rattle.hrtf_rings.specs.Held.{Represents}
 use Rattle.hrtf.specs.declared.Rested.{Rested}
 
 abbrev pub resetChecks : ℕ → ℕ → List Float → List Check

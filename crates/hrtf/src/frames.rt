@@ -1,8 +1,8 @@
 // The frames of a block that is accepted, one after another in the order of time. A frame's signals are put
 // into the rings by `planes`, at the desk's position; then each ear's parts are added, speakers rising; then
 // the desk's record is changed where it stands.
-use desk::Desk;
 use hrtf_checks::Shape;
+use hrtf_desk::Desk;
 ghost use mathlib.Core.Path.{_≡_};
 ghost use mathlib.Core.Bool.{cond, _||_};
 ghost use Prim.Native.Nat.{suc, _≤_, _<_, _^_};
@@ -172,7 +172,7 @@ pub(crate) fn block(
             rings,
             ears,
         );
-        desk::step(&mut standing, scaled.shape.length, played.damaged);
+        hrtf_desk::step(&mut standing, scaled.shape.length, played.damaged);
     }
     Turn {
         desk: standing,

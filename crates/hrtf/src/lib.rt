@@ -9,9 +9,9 @@
 // rings and the ears, whatever the rings hold: the ears are document 01's sums over the block's signals,
 // newest first, followed by those that were held; the rings left hold the newest L of these. What stands for
 // a past before the block stands for that past with the block's frames after it; what `reset` leaves stands
-// for none. Demand 3, over runs of many calls, is stated and shown in `runs`.
-use desk::Desk;
+// for none. Demand 3, over runs of many calls, is stated and shown in `hrtf_runs`.
 use hrtf_checks::Shape;
+use hrtf_desk::Desk;
 ghost use mathlib.Core.Path.{_≡_};
 ghost use lib.ListN.{replicate};
 ghost use Rattle.formats.specs.Floats.{zero-float};

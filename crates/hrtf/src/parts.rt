@@ -6,7 +6,7 @@ use hrtf_checks::Shape;
 ghost use mathlib.Core.Path.{_≡_};
 ghost use mathlib.Core.List.{reverse};
 ghost use Prim.Native.Nat.{suc};
-ghost use Rattle.rings.specs.Unrolled.{unrolled};
+ghost use Rattle.hrtf_rings.specs.Unrolled.{unrolled};
 ghost use Rattle.hrtf.specs.Computed.{TapsFor, dotEach, noSums, PartsInside, partsBy};
 
 // A sum for each ear.
@@ -51,7 +51,7 @@ fn convolve_both(ring: &[f32], newest: usize, left: &[f32], right: &[f32]) -> Ea
     requires { ⌜ TapsFor (now ring) (now left) × TapsFor (now ring) (now right) ⌝ }
     ensures { λ r. ⌜ r ≡ dotEach noSums (unrolled (suc newest) (now (ring .entry))) (now (left .entry)) (now (right .entry)) ⌝ }
 {
-    let split = rings::cells_up_to(newest, ring.len());
+    let split = hrtf_rings::cells_up_to(newest, ring.len());
     let none = EarSums {
         left: 0.0,
         right: 0.0,

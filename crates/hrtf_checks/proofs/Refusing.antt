@@ -9,15 +9,15 @@ use lib.Dec.{leb, eqb}
 use lib.ListN.{length, getD}
 use Rattle.refusals.specs.Refusals.{outside}
 use Rattle.refusals.proofs.Chains.{Off, FirstAt, numberAt, first-holds, off-accepts, none-holds}
-use Rattle.checks.specs.Finite.{unsound}
+use Rattle.checks.specs.Finite.{hasNonfinite}
 use Rattle.checks.specs.Lengths.{unfit, blockUnfit}
 use Rattle.checks.proofs.Checks.{or-off, both-off, any-off, is-equal, equal-passes, not-outside, planes-fit, fitted}
-use Rattle.desk.specs.declared.Desk.{Desk}
-use Rattle.rings.specs.State.{State}
+use Rattle.hrtf_desk.specs.declared.Desk.{Desk}
+use Rattle.hrtf_rings.specs.State.{State}
 use Rattle.hrtf_checks.specs.declared.Shape.{Shape}
 use Rattle.hrtf_checks.specs.Call.{Call}
 use Rattle.hrtf_checks.specs.Computed.{Ready}
-use Rattle.hrtf_checks.specs.Refusals.{misshapen, misfit, astray, callChecks, refusalOf}
+use Rattle.hrtf_checks.specs.Refusals.{misshapen, misfit, deskOutOfRange, callChecks, refusalOf}
 
 -- a bank that is well shaped has at most 8 rows
 pub few-rows : (h : Shape) (rows : List ℕ) → misshapen h rows ≡ false → h .rows ≤ 8
@@ -31,8 +31,8 @@ lengths-fit h frames stride inputs weights taps rings ears low ei ee er ew et =
     (both-off _ _ (equal-passes rings (h .speakers * h .length) er)
     (both-off _ _ (equal-passes weights (h .speakers * h .channels) ew) (equal-passes taps (2 * h .rows * h .length) et)))
 
--- a desk whose numbers are below L is not astray
-pub on-desk : (d : Desk) (L : ℕ) → d .position < L → d .«to_go» < L → astray d L ≡ false
+-- a desk whose numbers are below L is not deskOutOfRange
+pub on-desk : (d : Desk) (L : ℕ) → d .position < L → d .«to_go» < L → deskOutOfRange d L ≡ false
 on-desk d L p w = both-off _ _ (lt-leb L (d .position) p) (lt-leb L (d .«to_go») w)
 
 module _ (c : Call) (t : State) where
@@ -83,8 +83,8 @@ module _ (c : Call) (t : State) where
   weighed e = lent e .1
 
   -- 7 was not given
-  pub taps-finite : refusalOf c t ≡ 0 → unsound (c .taps) ≡ false
-  taps-finite e = or-off (unsound (c .weights)) _ (every-test e .1 .1 .1 .0) .1
+  pub taps-finite : refusalOf c t ≡ 0 → hasNonfinite (c .taps) ≡ false
+  taps-finite e = or-off (hasNonfinite (c .weights)) _ (every-test e .1 .1 .1 .0) .1
 
   pub ready : refusalOf c t ≡ 0 → Ready (c .shape) (t .desk .position) (c .rows) (c .taps) (t .rings)
   ready e =

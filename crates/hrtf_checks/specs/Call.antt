@@ -3,7 +3,7 @@ use Prim.Native.Nat.{ℕ}
 use mathlib.Core.List.{List}
 use lib.Ieee.{Float}
 use Rattle.planes.specs.Planes.{framesOf}
-use Rattle.history.specs.Setup.{Setup}
+use Rattle.hrtf_history.specs.Setup.{Setup}
 use Rattle.hrtf_checks.specs.declared.Shape.{Shape}
 
 pub record Call : Type 0 where

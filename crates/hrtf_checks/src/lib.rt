@@ -4,10 +4,10 @@
 // These are the numbers whose argument `hrtf::process` has. Each test is a function of its own, in document
 // 01's words; `refusal` gives the number of the first that holds, and 0 where none does. It takes any input,
 // and promises the number by an equation.
-use desk::Desk;
+use hrtf_desk::Desk;
 ghost use mathlib.Core.Path.{_≡_};
 ghost use Prim.Native.Nat.{_≤_};
-ghost use Rattle.hrtf_checks.specs.Refusals.{rowless, misshapen, misfit, astray, refusalOf};
+ghost use Rattle.hrtf_checks.specs.Refusals.{rowMissing, misshapen, misfit, deskOutOfRange, refusalOf};
 
 // What stays the same from frame to frame: how many channels and speakers there are, how many rows the
 // bank has, and the length L of its filters.
@@ -19,9 +19,9 @@ pub struct Shape {
 }
 
 // Whether a speaker's row isn't in the bank. Entries beyond the speakers are not looked at.
-fn is_rowless(row_of: &[usize; 8], speakers: usize, rows: usize) -> bool
+fn is_row_missing(row_of: &[usize; 8], speakers: usize, rows: usize) -> bool
     requires { ⌜ speakers ≤ 8 ⌝ }
-    ensures { λ r. ⌜ r ≡ rowless (now («row_of» .entry)) speakers rows ⌝ }
+    ensures { λ r. ⌜ r ≡ rowMissing (now («row_of» .entry)) speakers rows ⌝ }
 {
     let mut s = 0;
     while s < speakers {
@@ -49,7 +49,7 @@ fn is_misshapen(shape: Shape, row_of: &[usize; 8]) -> bool
     if refusals::is_outside(shape.channels, 16) {
         return true;
     }
-    is_rowless(row_of, speakers, rows)
+    is_row_missing(row_of, speakers, rows)
 }
 
 // Whether a lent length doesn't fit. Products of lengths that may not fit in 64 bits are not formed.
@@ -81,8 +81,8 @@ fn is_misfit(
 }
 
 // Whether the ring position or the frames to go are not below L.
-fn is_astray(desk: Desk, length: usize) -> bool
-    ensures { λ r. ⌜ r ≡ astray desk length ⌝ }
+fn is_desk_out_of_range(desk: Desk, length: usize) -> bool
+    ensures { λ r. ⌜ r ≡ deskOutOfRange desk length ⌝ }
 {
     let position = desk.position;
     let to_go = desk.to_go;
@@ -127,13 +127,13 @@ pub fn refusal(
     ) {
         return 5;
     }
-    if checks::unsound_f64(weights) {
+    if checks::has_nonfinite_f64(weights) {
         return 7;
     }
-    if checks::unsound_f32(taps) {
+    if checks::has_nonfinite_f32(taps) {
         return 7;
     }
-    if is_astray(desk, shape.length) {
+    if is_desk_out_of_range(desk, shape.length) {
         return 8;
     }
     0

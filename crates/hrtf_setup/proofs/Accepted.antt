@@ -16,15 +16,15 @@ use lib.Ieee.Scale.{finite}
 use Rattle.refusals.specs.Refusals.{outside}
 use Rattle.refusals.proofs.Chains.{off-accepts}
 use Rattle.lists.specs.Tables.{tab}
-use Rattle.checks.specs.Finite.{unsound}
+use Rattle.checks.specs.Finite.{hasNonfinite}
 use Rattle.lists.proofs.Tables.{length-tab, getD-tab}
 use Rattle.checks.proofs.Checks.{equal-passes, sound-at, sound-tab}
 use Rattle.channel.specs.declared.Layout.{Layout}
 use Rattle.channel.specs.Layouts.{surround}
 use Rattle.channel.proofs.Orders.{by-order}
 use Rattle.channel.proofs.Counts.{surround-few}
-use Rattle.row_choice.specs.Nearest.{TakesByAzimuth, Flat}
-use Rattle.row_choice.proofs.Level.{flat-as-before}
+use Rattle.bank_choice.specs.Nearest.{TakesByAzimuth, Flat}
+use Rattle.bank_choice.proofs.Level.{flat-as-before}
 use Rattle.virtual_speaker.specs.Promise.{outcome, positionOf}
 use Rattle.virtual_speaker.proofs.Laws.{outcome-kept, weights-length, weights-sound}
 use Rattle.hrtf_setup.specs.declared.Speakers.{Speakers}
@@ -56,7 +56,7 @@ pub record Playable (rows : ℕ) (o : Arrangement) : Type 0 where
   pub speakers : (0 < o .answer .speakers) × (o .answer .speakers ≤ 8)
   pub channels : (0 < o .answer .channels) × (o .answer .channels ≤ 16)
   pub weighed : length (o .weights) ≡ o .answer .speakers * o .answer .channels
-  pub sound : unsound (o .weights) ≡ false
+  pub sound : hasNonfinite (o .weights) ≡ false
   pub chosen : (s : ℕ) → s < o .answer .speakers → getD (o .rows) s 0 < rows
 
 -- so many speakers and channels are wanted
@@ -104,7 +104,7 @@ module _ (w : Wanted) (azimuths elevations : List ℤ) (rows : ℕ) (weights : L
           channels = subst (λ (n : ℕ). (0 < n) × (n ≤ 16)) (sym (counted .1)) (few .1);
           weighed = ap (λ (q : Arrangement). length (q .weights)) is ∙ length-tab 0 (w .speakers * w .channels) (weightAt (w .whose) (w .channels))
               ∙ sym (ap (λ (q : Arrangement). q .answer .speakers * q .answer .channels) is);
-          sound = ap (λ (q : Arrangement). unsound (q .weights)) is
+          sound = ap (λ (q : Arrangement). hasNonfinite (q .weights)) is
               ∙ sound-tab 0 (w .speakers * w .channels) (weightAt (w .whose) (w .channels))
               (λ i. weight-finite (w .whose) _ (i % w .channels) (omega (arith, mod-lt i {m = w .channels} (few .1 .0), few .1 .1)));
           chosen = λ s h. let g : s < w .speakers = subst (λ (n : ℕ). s < n) (counted .0) h in

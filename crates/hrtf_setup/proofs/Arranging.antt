@@ -22,12 +22,12 @@ use Rattle.channel.specs.declared.Layout.{Layout}
 use Rattle.channel.specs.Layouts.{channelsOf, counted, surround}
 use Rattle.channel.specs.Orders.{refusesOrder, channelsOfOrder}
 use Rattle.channel.proofs.Counts.{surround-counted, surround-few}
-use Rattle.row_choice.specs.declared.Choice.{Choice}
-use Rattle.row_choice.specs.Nearest.{Takes}
-use Rattle.row_choice.specs.NearestComputed.{nearestFrom}
-use Rattle.row_choice.specs.Choice.{isElevation, refusedWith, choiceOf}
-use Rattle.row_choice.proofs.Takes.{takes}
-use Rattle.row_choice.proofs.Answers.{none-refused}
+use Rattle.bank_choice.specs.declared.Choice.{Choice}
+use Rattle.bank_choice.specs.Nearest.{Takes}
+use Rattle.bank_choice.specs.NearestComputed.{nearestFrom}
+use Rattle.bank_choice.specs.Choice.{isElevation, refusedWith, choiceOf}
+use Rattle.bank_choice.proofs.Takes.{takes}
+use Rattle.bank_choice.proofs.Meets.{none-refused}
 use Rattle.virtual_speaker.specs.Promise.{positionOf}
 use Rattle.virtual_speaker.proofs.Laws.{outcome-kept, position-accepted}
 use Rattle.hrtf_setup.specs.declared.Arranged.{Arranged}

@@ -5,7 +5,7 @@ use Prim.Native.Nat.{ℕ, _+_, _≤_, _<_}
 use lib.IntN.{ℤ}
 use lib.ListN.{set}
 use lib.Seq.{sets}
-use Rattle.lists.proofs.Going.{Going, going-none, going-more, going-all}
+use Rattle.lists.proofs.LoopOverTable.{LoopOverTable, loop-none, loop-more, loop-all}
 use Rattle.hrtf_setup.specs.declared.Speakers.{Speakers}
 use Rattle.hrtf_setup.specs.Speakers.{rowAt, rowsOf}
 
@@ -14,14 +14,14 @@ abbrev following : ℕ → List ℕ → List ℕ → List ℕ
 following s l rows = sets l s rows
 
 abbrev pub Choosing : Speakers → ℕ → List ℤ → List ℤ → ℕ → List ℕ → List ℕ → ℕ → Type 0
-Choosing k n azimuths elevations rows l₀ l s = Going following (rowAt k azimuths elevations rows) n l₀ l s
+Choosing k n azimuths elevations rows l₀ l s = LoopOverTable following (rowAt k azimuths elevations rows) n l₀ l s
 
 module _ (k : Speakers) (n : ℕ) (azimuths elevations : List ℤ) (rows : ℕ) (l₀ : List ℕ) where
   pub choosing-none : Choosing k n azimuths elevations rows l₀ l₀ 0
-  choosing-none = going-none following (rowAt k azimuths elevations rows) n l₀
+  choosing-none = loop-none following (rowAt k azimuths elevations rows) n l₀
 
   pub choosing-more : (l : List ℕ) (s r : ℕ) → Choosing k n azimuths elevations rows l₀ l s → s < n → r ≡ rowAt k azimuths elevations rows s → Choosing k n azimuths elevations rows l₀ (set l s r) (s + 1)
-  choosing-more l s r g h e = going-more following (rowAt k azimuths elevations rows) n l₀ (λ i m x. set m i x) (λ i m x rest. refl) l s r (set l s r) g h e refl
+  choosing-more l s r g h e = loop-more following (rowAt k azimuths elevations rows) n l₀ (λ i m x. set m i x) (λ i m x rest. refl) l s r (set l s r) g h e refl
 
   pub choosing-all : (l : List ℕ) (s : ℕ) → Choosing k n azimuths elevations rows l₀ l s → n ≤ s → l ≡ rowsOf k n azimuths elevations rows l₀
-  choosing-all = going-all following (rowAt k azimuths elevations rows) n l₀
+  choosing-all = loop-all following (rowAt k azimuths elevations rows) n l₀

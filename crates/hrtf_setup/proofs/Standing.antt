@@ -12,7 +12,7 @@ use mir.Val.{SFits, toZ, ofZ}
 use mir.Facts.{sfits-widen, toZ-ofZ}
 use Rattle.channel.specs.Layouts.{positions, degreesOf}
 use Rattle.channel.proofs.Tables.{turned, speaker-turned, position-turned, ten-more, tenths-fit-16}
-use Rattle.row_choice.specs.Choice.{inTenths}
+use Rattle.bank_choice.specs.Choice.{inTenths}
 use Rattle.hrtf_setup.specs.declared.Speakers.{Speakers}
 use Rattle.hrtf_setup.specs.declared.Speakers.the-variants.{Of, Virtual}
 use Rattle.hrtf_setup.specs.Speakers.{tenthsAt}

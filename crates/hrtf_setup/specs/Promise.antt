@@ -11,7 +11,7 @@ use Rattle.fractions.specs.Fraction.{number, EachWithin}
 use Rattle.channel.specs.declared.Layout.{Layout}
 use Rattle.channel.specs.Layouts.{channelsOf, surround}
 use Rattle.channel.specs.Orders.{refusesOrder, channelsOfOrder}
-use Rattle.row_choice.specs.Nearest.{Takes}
+use Rattle.bank_choice.specs.Nearest.{Takes}
 use Rattle.virtual_speaker.specs.Weights.{weightedFormulas}
 use Rattle.virtual_speaker.specs.Promise.{weightBits, outcome, positionOf}
 use Rattle.hrtf_setup.specs.declared.Speakers.the-variants.{Of, Virtual}

@@ -11,7 +11,7 @@ use lib.Ieee.{Float, nan}
 use Rattle.formats.specs.Floats.{zero-float, one-float}
 use Rattle.lists.specs.Tables.{tab}
 use Rattle.channel.specs.Layouts.{tenthsOf, positionTenths}
-use Rattle.row_choice.specs.Choice.{choiceOf}
+use Rattle.bank_choice.specs.Choice.{choiceOf}
 use Rattle.virtual_speaker.specs.Promise.{outcome, positionOf}
 use Rattle.hrtf_setup.specs.declared.Speakers.{Speakers}
 use Rattle.hrtf_setup.specs.declared.Speakers.the-variants.{Of, Virtual}

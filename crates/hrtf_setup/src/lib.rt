@@ -67,7 +67,7 @@ fn choose_rows(
 {
     let mut s = 0;
     while s < speakers {
-        let choice = row_choice::nearest_row(azimuths, elevations, rows, tenths(whose, s), 0);
+        let choice = bank_choice::nearest_row(azimuths, elevations, rows, tenths(whose, s), 0);
         row_of[s] = choice.row;
         s += 1;
     }

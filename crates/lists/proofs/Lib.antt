@@ -7,7 +7,7 @@ pub mod Placed
 pub mod Filling
 pub mod Joined
 pub mod Every
-pub mod Each
-pub mod Going
+pub mod ForAll
+pub mod LoopOverTable
 pub mod Tests
 pub mod Determined

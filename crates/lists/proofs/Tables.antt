@@ -8,7 +8,7 @@ use native.Mathlib.Omega.{arith}
 use lib.Arith.{digits-lt}
 use lib.ListN.{length, getD, take, drop, replicate, length-drop}
 use lib.Seq.{length-take-le}
-use Rattle.lists.specs.Tables.{tab, row}
+use Rattle.lists.specs.Tables.{tab, chunk}
 
 module _ {A : Type 0} where
   pub length-tab : (i n : ℕ) (f : ℕ → A) → length (tab i n f) ≡ n
@@ -103,7 +103,7 @@ module _ {A : Type 0} where
 pub row-end : (i m n room : ℕ) → i < m → room ≡ m * n → i * n + n ≤ room
 row-end i m n room h e = omega (arith, mul-le-mul-right n h, suc-mul i n)
 
-pub length-row : {A : Type 0} (n i m : ℕ) (xs : List A) → i < m → length xs ≡ m * n → length (row n i xs) ≡ n
+pub length-row : {A : Type 0} (n i m : ℕ) (xs : List A) → i < m → length xs ≡ m * n → length (chunk n i xs) ≡ n
 length-row n i m xs h e = length-part xs (i * n) n (row-end i m n (length xs) h e)
 
 -- place n of row p of so many rows lies inside

@@ -11,8 +11,8 @@ module _ {A : Type 0} where
   tab i (suc n) f = f i ∷ tab (suc i) n f
 
   -- row i of a list that holds rows of n one after another
-  abbrev pub row : ℕ → ℕ → List A → List A
-  row n i xs = take n (drop (i * n) xs)
+  abbrev pub chunk : ℕ → ℕ → List A → List A
+  chunk n i xs = take n (drop (i * n) xs)
 
   -- each of them is so
   abbrev pub every : (A → Bool) → List A → Bool

@@ -14,7 +14,7 @@ use Rattle.rows.proofs.Answers.{computed-refusal, computed-weights}
 use Rattle.formats.specs.Floats.{zero-float, literal}
 use Rattle.formats.proofs.Signs.{neg-neg, literal-negated, mul-negated}
 use Rattle.numbers.specs.Computed.{narrowed}
-use Rattle.lists.specs.Tables.{row, every}
+use Rattle.lists.specs.Tables.{chunk, every}
 use Rattle.numbers.specs.Normalization.{inverseRoot}
 use Rattle.planes.specs.Sums.{total, mixed}
 use Rattle.rows.specs.Rows.{scaled}
@@ -23,7 +23,7 @@ use Rattle.channel.specs.Orders.{refusesOrder, channelsOfOrder, byOrder}
 use Rattle.channel.proofs.Orders.{by-order, one-of-three}
 use Rattle.matrix.specs.Mirror.{lateral, mirrored}
 use Rattle.matrix.specs.Rows.{Ear, left, right, foa, soa, toa, placeOf, hundredths, literals, rows}
-use Rattle.matrix.specs.Promise.{Computed, Computes, refusalOf, outcome}
+use Rattle.matrix.specs.Promise.{WeightsAnswer, Computes, refusalOf, outcome}
 use Rattle.matrix.specs.Ears.{other, earRow, earSignal, Mirrors}
 use Rattle.matrix.proofs.Mirror.{negated-twice, map-negated, products-negated}
 
@@ -79,7 +79,7 @@ rows-joined n =
 module _ (n : ℕ) (order : refusesOrder n ≡ false) where
   -- both, each found where it stands
   ear-row : (e : Ear) → earRow n (rows n) e ≡ weights n e
-  ear-row e = ap (row (channelsOfOrder n) (placeOf e)) (rows-joined n) ∙ found e
+  ear-row e = ap (chunk (channelsOfOrder n) (placeOf e)) (rows-joined n) ∙ found e
     where
       both : List (List Float)
       both = weights n left ∷ weights n right ∷ []
@@ -87,7 +87,7 @@ module _ (n : ℕ) (order : refusesOrder n ≡ false) where
       long : AllOf (channelsOfOrder n) both
       long = (length-weights left n order, (length-weights right n order, tt))
 
-      found : (e : Ear) → row (channelsOfOrder n) (placeOf e) (flatten both) ≡ weights n e
+      found : (e : Ear) → chunk (channelsOfOrder n) (placeOf e) (flatten both) ≡ weights n e
       found left = row-found (channelsOfOrder n) both 0 [] long (lit< tt)
       found right = row-found (channelsOfOrder n) both 1 [] long (lit< tt)
 
@@ -109,14 +109,14 @@ module _ (n : ℕ) (order : refusesOrder n ≡ false) where
 module _ (n : ℕ) (lent weights : List Float) (p : Computes n lent (record { refusal = 0; weights = weights })) where
   accepted : refusalOf n lent ≡ 0
   unfolding outcome
-  accepted = sym (ap (λ (o : Computed). o .refusal) p ∙ computed-refusal (rows n) lent (refusalOf n lent))
+  accepted = sym (ap (λ (o : WeightsAnswer). o .refusal) p ∙ computed-refusal (rows n) lent (refusalOf n lent))
 
   pub computed-order : refusesOrder n ≡ false
   computed-order = passed (refusesOrder n) 0 _ accepted .0
 
   pub computed-rows : weights ≡ rows n
   unfolding outcome
-  computed-rows = ap (λ (o : Computed). o .weights) p ∙ computed-weights (rows n) lent (refusalOf n lent) accepted
+  computed-rows = ap (λ (o : WeightsAnswer). o .weights) p ∙ computed-weights (rows n) lent (refusalOf n lent) accepted
 
   pub computed-mirrors : Mirrors n weights
   computed-mirrors = subst (Mirrors n) (sym computed-rows) (mirrors n computed-order)

@@ -10,9 +10,9 @@ use Rattle.refusals.specs.Refusals.{firstOf, _when_}
 use Rattle.channel.specs.Orders.{refusesOrder, channelsOfOrder}
 use Rattle.rows.specs.Rows.{computedBy}
 use Rattle.matrix.specs.Rows.{rows}
-use Rattle.matrix.specs.Promise.{Computed, outcome, Computes}
+use Rattle.matrix.specs.Promise.{WeightsAnswer, outcome, Computes}
 
-pub of-order : {n m : ℕ} (w : List Float) (o : Computed) → n ≡ m → o ≡ outcome m w → Computes n w o
+pub of-order : {n m : ℕ} (w : List Float) (o : WeightsAnswer) → n ≡ m → o ≡ outcome m w → Computes n w o
 of-order w o e p = p ∙ ap (λ (k : ℕ). outcome k w) (sym e)
 
 pub no-order : (n : ℕ) (w : List Float) → refusesOrder n ≡ true → Computes n w (record { refusal = 1; weights = w })

@@ -11,9 +11,9 @@ use lib.Ieee.{Float, binary64, mul}
 use Rattle.refusals.specs.Refusals.{firstOf, _when_}
 use Rattle.numbers.specs.Normalization.{inverseRoot}
 use Rattle.rows.specs.Rows.{scaled, computedBy}
-use Rattle.rows.proofs.Behind.{put-behind}
-use Rattle.matrix.specs.Promise.{Computed}
-use Rattle.matrix.specs.Steps.{put}
+use Rattle.rows.proofs.PutAppends.{put-behind}
+use Rattle.matrix.specs.Promise.{WeightsAnswer}
+use Rattle.matrix.specs.Computed.{put}
 
 -- of any lists
 fill : {A : Type 0} (xs ys w : List A) → length w ≡ length xs + length ys → sets (sets w 0 xs) (length xs) ys ≡ xs ++ ys
@@ -33,7 +33,7 @@ ears-put f left right w n =
 
 module _ (left right w : List Float) where
   -- by whether the length fits
-  abbrev answer : Bool → Computed
+  abbrev answer : Bool → WeightsAnswer
   answer b = computedBy (firstOf (5 when not b ∷ [])) (scaled (inverseRoot 2) (left ++ right)) w
 
   pub misfit : (length w ≡ length left + length right → ⊥) → record { refusal = 5; weights = w } ≡ put left right w

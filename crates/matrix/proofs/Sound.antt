@@ -9,7 +9,7 @@ use lib.Ieee.{Float, fin, size, units, round, mul, div, ofInt}
 use Rattle.numbers.specs.Computed.{rootOf, wholeRoot}
 use Rattle.rows.specs.Rows.{scaled}
 use Rattle.lists.specs.Tables.{tab, any}
-use Rattle.checks.specs.Finite.{unsound}
+use Rattle.checks.specs.Finite.{hasNonfinite}
 use Rattle.checks.proofs.Checks.{any-off}
 use Rattle.channel.specs.Orders.{refusesOrder}
 use Rattle.channel.proofs.Orders.{by-order}
@@ -30,10 +30,10 @@ unfolding rows
 rows-are n = ap (λ (f : Float). scaled f (literals (hundredths n left) ++ literals (hundredths n right))) inverse-root-two
 
 -- none of the three orders has a number that is NaN or infinite
-rows-sound : any (tab 1 3 (λ n. unsound (rows n))) ≡ false
+rows-sound : any (tab 1 3 (λ n. hasNonfinite (rows n))) ≡ false
 unfolding hundredths round mul
-rows-sound = ap (λ (at : ℕ → List Float). any (tab 1 3 (λ n. unsound (at n)))) (fun-ext rows-are)
+rows-sound = ap (λ (at : ℕ → List Float). any (tab 1 3 (λ n. hasNonfinite (at n)))) (fun-ext rows-are)
 
 -- so a decoder does not refuse them with 7
-pub rows-finite : (n : ℕ) → refusesOrder n ≡ false → unsound (rows n) ≡ false
-rows-finite = let one = any-off 1 3 (λ n. unsound (rows n)) rows-sound in by-order (λ (n : ℕ). unsound (rows n) ≡ false) (one 0 (lit< tt)) (one 1 (lit< tt)) (one 2 (lit< tt))
+pub rows-finite : (n : ℕ) → refusesOrder n ≡ false → hasNonfinite (rows n) ≡ false
+rows-finite = let one = any-off 1 3 (λ n. hasNonfinite (rows n)) rows-sound in by-order (λ (n : ℕ). hasNonfinite (rows n) ≡ false) (one 0 (lit< tt)) (one 1 (lit< tt)) (one 2 (lit< tt))

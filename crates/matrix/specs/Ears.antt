@@ -5,7 +5,7 @@ use Prim.Native.Nat.{ℕ}
 use mathlib.Core.Path.{_≡_}
 use mathlib.Core.List.{List}
 use lib.Ieee.{Float, neg}
-use Rattle.lists.specs.Tables.{row}
+use Rattle.lists.specs.Tables.{chunk}
 use Rattle.planes.specs.Sums.{mixed}
 use Rattle.channel.specs.Orders.{channelsOfOrder}
 use Rattle.matrix.specs.Mirror.{mirrored}
@@ -17,7 +17,7 @@ other right = left
 
 -- the weights of an ear, of those that `compute_matrix` puts for an order
 abbrev pub earRow : ℕ → List Float → Ear → List Float
-earRow n weights e = row (channelsOfOrder n) (placeOf e) weights
+earRow n weights e = chunk (channelsOfOrder n) (placeOf e) weights
 
 -- the signal of an ear: document 01's sum of a frame, a sample for each channel
 abbrev pub earSignal : ℕ → List Float → Ear → List Float → Float

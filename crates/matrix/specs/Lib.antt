@@ -2,5 +2,5 @@
 pub mod Mirror
 pub mod Rows
 pub mod Promise
-pub mod Steps
+pub mod Computed
 pub mod Ears

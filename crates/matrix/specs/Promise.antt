@@ -9,15 +9,15 @@ use lib.ListN.{length}
 use lib.Ieee.{Float}
 use Rattle.refusals.specs.Refusals.{firstOf, _when_}
 use Rattle.channel.specs.Orders.{refusesOrder, channelsOfOrder}
-pub use Rattle.rows.specs.Rows.{Computed}
+pub use Rattle.rows.specs.Rows.{WeightsAnswer}
 use Rattle.rows.specs.Rows.{computedBy}
 use Rattle.matrix.specs.Rows.{rows}
 
 abbrev pub refusalOf : ℕ → List Float → ℕ
 refusalOf n weights = firstOf (1 when refusesOrder n ∷ 5 when not (eqb (length weights) (2 * channelsOfOrder n)) ∷ [])
 
-unfoldable pub outcome : ℕ → List Float → Computed
+unfoldable pub outcome : ℕ → List Float → WeightsAnswer
 outcome n weights = computedBy (refusalOf n weights) (rows n) weights
 
-abbrev pub Computes : ℕ → List Float → Computed → Type 0
+abbrev pub Computes : ℕ → List Float → WeightsAnswer → Type 0
 Computes n weights o = o ≡ outcome n weights

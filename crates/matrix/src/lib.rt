@@ -11,7 +11,7 @@
 // ears swap is specs/Ears.antt.
 ghost use mathlib.Core.Path.{_≡_};
 ghost use Rattle.matrix.specs.Promise.{Computes};
-ghost use Rattle.matrix.specs.Steps.{put};
+ghost use Rattle.matrix.specs.Computed.{put};
 
 const FOA_LEFT: [f64; 4] = [0.5, 0.5, 0.1, 0.35];
 

@@ -14,10 +14,10 @@ use lib.Ieee.{Float, nan, neg}
 use Rattle.refusals.specs.Refusals.{Check, _when_, outside, answered}
 use Rattle.refusals.proofs.First.{or-off}
 use Rattle.refusals.proofs.Chains.{none-holds}
-use Rattle.lists.specs.Tables.{row}
+use Rattle.lists.specs.Tables.{chunk}
 use Rattle.lists.proofs.Tables.{length-tab, getD-tab, tab-ext}
 use Rattle.lists.proofs.Mapped.{map-tab}
-use Rattle.checks.specs.Finite.{unsound}
+use Rattle.checks.specs.Finite.{hasNonfinite}
 use Rattle.checks.specs.Lengths.{unfit}
 use Rattle.checks.proofs.Checks.{fitted}
 use Rattle.planes.specs.Planes.{sampleAt, frameAt, framesOf, withFrames}
@@ -74,7 +74,7 @@ module _ (outputs channels : ℕ) (weights : List Float) where
       let inputs-unfit : Bool = unfit (length (c .inputs)) channels (c .stride) (c .frames) in
       let out-unfit : Bool = unfit (length (c .out)) outputs (c .stride) (c .frames) in
       let weights-unfit : Bool = not (eqb (length weights) (outputs * channels)) in
-      let checks : List Check = 2 when outside outputs 16 ∷ 2 when outside channels 16 ∷ 5 when (inputs-unfit || out-unfit || weights-unfit) ∷ 7 when unsound weights ∷ [] in
+      let checks : List Check = 2 when outside outputs 16 ∷ 2 when outside channels 16 ∷ 5 when (inputs-unfit || out-unfit || weights-unfit) ∷ 7 when hasNonfinite weights ∷ [] in
       let lengths = none-holds checks tt e .1 .1 .0 in
       fitted (length (c .out)) outputs (c .stride) (c .frames) (or-off inputs-unfit out-unfit (or-off (inputs-unfit || out-unfit) weights-unfit lengths .0) .1)
 
@@ -96,11 +96,11 @@ module _ (outputs channels : ℕ) (weights : List Float) where
     -- a frame of the outputs, of the mirrored frame
     pub frame-exchanged : (frame : List Float) → mixedAll outputs channels weights (mirrored neg frame) ≡ exchanged outputs partner (mixedAll outputs channels weights frame)
     frame-exchanged frame =
-        tab-ext 0 outputs (λ (o : ℕ). mixed (row channels o weights) (mirrored neg frame)) (λ (o : ℕ). getD (mixedAll outputs channels weights frame) (partner o) nan)
+        tab-ext 0 outputs (λ (o : ℕ). mixed (chunk channels o weights) (mirrored neg frame)) (λ (o : ℕ). getD (mixedAll outputs channels weights frame) (partner o) nan)
         (λ o l. let inside : o < outputs = omega (arith, l) in
         partners .swaps o inside frame
-        ∙ sym (getD-tab 0 outputs (λ (q : ℕ). mixed (row channels q weights) frame) (partner o) nan (partners .inside o inside)
-        ∙ ap (λ (q : ℕ). mixed (row channels q weights) frame) (zero-add (partner o))))
+        ∙ sym (getD-tab 0 outputs (λ (q : ℕ). mixed (chunk channels q weights) frame) (partner o) nan (partners .inside o inside)
+        ∙ ap (λ (q : ℕ). mixed (chunk channels q weights) frame) (zero-add (partner o))))
 
     -- and so every frame of a block whose planes fit
     frames-exchanged : (frames stride : ℕ) (inputs : List Float) → frames ≤ stride

@@ -11,9 +11,9 @@ use Rattle.formats.specs.Floats.{Held, zero-float}
 use Rattle.numbers.specs.Computed.{narrowed}
 use Rattle.planes.specs.Sums.{total, products, dot}
 use Rattle.numbers.specs.Normalization.{inverseRoot}
-use Rattle.history.specs.Setup.{Setup, tapsOf}
-use Rattle.history.specs.History.{signalAgo, window, part, earOf, earSample}
-use Rattle.history.proofs.Windows.{ear-of-ext}
+use Rattle.hrtf_history.specs.Setup.{Setup, tapsOf}
+use Rattle.hrtf_history.specs.History.{signalAgo, window, part, earOf, earSample}
+use Rattle.hrtf_history.proofs.Windows.{ear-of-ext}
 use Rattle.mirror.specs.Partners.{acrossFrom, otherEar}
 use Rattle.mirror.specs.Parts.{Settled}
 use Rattle.mirror.specs.Convolver.{firstTwo, Across, HeardWhere, Any, HeardByOtherEar}

@@ -8,12 +8,12 @@ use native.Mathlib.Omega.{arith}
 use lib.Dec.{lit<, eqb}
 use lib.ListN.{length}
 use lib.Ieee.{Float, neg}
-use Rattle.lists.specs.Tables.{row}
+use Rattle.lists.specs.Tables.{chunk}
 use Rattle.planes.specs.Sums.{mixed}
 use Rattle.refusals.specs.Refusals.{_when_, outside}
 use Rattle.refusals.proofs.Counts.{count-inside}
 use Rattle.refusals.proofs.Chains.{off-accepts}
-use Rattle.checks.specs.Finite.{unsound}
+use Rattle.checks.specs.Finite.{hasNonfinite}
 use Rattle.checks.specs.Lengths.{unfit}
 use Rattle.checks.proofs.Checks.{both-off, planes-fit, equal-passes}
 use Rattle.channel.specs.Orders.{refusesOrder, channelsOfOrder}
@@ -37,7 +37,7 @@ ears-partners n weights m = record { inside = inside; swaps = swap }
     inside zero h = lit< tt
     inside (suc o) h = lit< tt
 
-    swap : (o : ℕ) → o < 2 → (frame : List Float) → mixed (row (channelsOfOrder n) o weights) (mirrored neg frame) ≡ mixed (row (channelsOfOrder n) (otherEar o) weights) frame
+    swap : (o : ℕ) → o < 2 → (frame : List Float) → mixed (chunk (channelsOfOrder n) o weights) (mirrored neg frame) ≡ mixed (chunk (channelsOfOrder n) (otherEar o) weights) frame
     swap zero h frame = m .swaps right frame
     swap (suc zero) h frame = m .swaps left frame
     swap (suc (suc o)) h frame = absurd (omega arith)
@@ -55,7 +55,7 @@ module _ (n : ℕ) (order : refusesOrder n ≡ false) (weights : List Float) (sa
       let some = few-channels n order in
       let planes : Bool = unfit inputs k stride frames || unfit out 2 stride frames in
       let lengths : Bool = planes || not (eqb (length weights) (2 * k)) in
-      off-accepts (2 when outside 2 16 ∷ 2 when outside k 16 ∷ 5 when lengths ∷ 7 when unsound weights ∷ []) (
+      off-accepts (2 when outside 2 16 ∷ 2 when outside k 16 ∷ 5 when lengths ∷ 7 when hasNonfinite weights ∷ []) (
         refl,
         (
           count-inside k 16 (some .0) (some .1),
@@ -63,7 +63,7 @@ module _ (n : ℕ) (order : refusesOrder n ≡ false) (weights : List Float) (sa
             both-off planes (not (eqb (length weights) (2 * k)))
                 (both-off (unfit inputs k stride frames) (unfit out 2 stride frames) (planes-fit inputs k stride frames fit e) (planes-fit out 2 stride frames fit o))
                 (equal-passes (length weights) (2 * k) long),
-            (ap unsound same ∙ rows-finite n order, tt),
+            (ap hasNonfinite same ∙ rows-finite n order, tt),
           ),
         ),
       )

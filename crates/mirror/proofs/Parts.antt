@@ -7,7 +7,7 @@ use Prim.Native.Nat.{ℕ, zero, suc}
 use lib.Ieee.{Float, nan, binary64, add}
 use lib.Ieee.Fits.{nan-fits, add-fits}
 use Rattle.lists.specs.Tables.{tab}
-use Rattle.lists.specs.Each.{Each}
+use Rattle.lists.specs.ForAll.{ForAll}
 use Rattle.formats.specs.Floats.{Held, zero-float}
 use Rattle.formats.specs.Zeros.{unsignedZero}
 use Rattle.formats.proofs.Exchanged.{add-exchanged}
@@ -45,7 +45,7 @@ pair-exchanged b x y B U X Y (inr z) =
 
 -- the parts of a sum
 module _ (part : ℕ → Float) (held : (c : ℕ) → Held (part c)) where
-  table-held : (i n : ℕ) → Each Held nan (tab i n part)
+  table-held : (i n : ℕ) → ForAll Held nan (tab i n part)
   table-held i zero k = nan-fits binary64
   table-held i (suc n) zero = held i
   table-held i (suc n) (suc k) = table-held (suc i) n k

@@ -15,7 +15,7 @@ use lib.Ieee.{Float, fin, binary32, binary64, lt, le, eq, neg, add, sub, mul, di
 use lib.Ieee.Positive.{positive}
 use Rattle.lists.specs.Tables.{tab}
 use Rattle.lists.proofs.Tables.{getD-tab}
-use Rattle.lists.proofs.Each.{each-replicate}
+use Rattle.lists.proofs.ForAll.{each-replicate}
 use Rattle.formats.specs.Floats.{zero-float, one-float, minus-one-float, literal}
 use Rattle.numbers.specs.Computed.{rounded, narrowed, rootOf, rootUnits, wholeRoot, rootIn}
 use Rattle.numbers.specs.Normalization.{inverseRoot}
@@ -26,8 +26,8 @@ use Rattle.angles.specs.Limits.{isInside, refusesAngle}
 use Rattle.channel.specs.declared.Layout.the-variants.{Surround71}
 use Rattle.surround.specs.Computed.{absolute, notBelow, placeOf, isNear, wayOf, rawOf, channelGain, rawGains, sumOf, dividedBy}
 use Rattle.surround.specs.Promise.{gainsOf, outcome}
-use Rattle.history.specs.Setup.{Setup, tapsIn}
-use Rattle.history.specs.History.{signalAgo, earOf, earSample}
+use Rattle.hrtf_history.specs.Setup.{Setup, tapsIn}
+use Rattle.hrtf_history.specs.History.{signalAgo, earOf, earSample}
 use Rattle.mirror.specs.Partners.{partnerIn, acrossFrom, positionPartners, otherEar}
 use Rattle.mirror.specs.Surround.{GainsExchanged}
 use Rattle.mirror.specs.Parts.{NextTwoExchanged}

@@ -8,7 +8,7 @@ use borrow.Author.Tests.{ltb-true}
 use lib.Dec.{ltb}
 use lib.ListN.{length, getD}
 use lib.Ieee.{Float, nan, binary32, mul, neg}
-use Rattle.lists.specs.Tables.{row, every}
+use Rattle.lists.specs.Tables.{chunk, every}
 use Rattle.lists.proofs.Every.{every-at}
 use Rattle.lists.proofs.Tables.{tab-ext}
 use Rattle.numbers.specs.Computed.{narrowed}
@@ -20,7 +20,7 @@ use Rattle.channel.specs.Orders.{refusesOrder, channelsOfOrder}
 use Rattle.matrix.specs.Mirror.{lateral, mirrored}
 use Rattle.harmonics.specs.declared.Direction.{Direction}
 use Rattle.decoder_matrix.specs.Matrix.{rowBy, matrixOf}
-use Rattle.decoder_matrix.proofs.Answers.{row-is}
+use Rattle.decoder_matrix.proofs.Meets.{row-is}
 use Rattle.virtual_speaker.specs.Promise.{outcome, positionOf}
 use Rattle.panner.specs.declared.Command.the-variants.{Ambisonic}
 use Rattle.panner.specs.Commands.{gainsOf}
@@ -72,9 +72,9 @@ module _ (order : ℕ) where
   voice-exchanged : (n : ℕ) (weights : List Float) (partner : ℕ → ℕ) → PartnersSwap n (channelsOfOrder order) weights partner → (d : Direction) (x : Float)
       → mixedAll n (channelsOfOrder order) weights (voice order (mirroredDirection d) x) ≡ exchanged n partner (mixedAll n (channelsOfOrder order) weights (voice order d x))
   voice-exchanged n weights partner p d x =
-      tab-ext 0 n (λ (o : ℕ). mixed (row (channelsOfOrder order) o weights) (voice order (mirroredDirection d) x))
-      (λ (o : ℕ). mixed (row (channelsOfOrder order) o weights) (mirrored neg (voice order d x)))
-      (λ o l. mixed-frames (row (channelsOfOrder order) o weights) (voice order d x) (voice order (mirroredDirection d) x) (voice-swapped d x))
+      tab-ext 0 n (λ (o : ℕ). mixed (chunk (channelsOfOrder order) o weights) (voice order (mirroredDirection d) x))
+      (λ (o : ℕ). mixed (chunk (channelsOfOrder order) o weights) (mirrored neg (voice order d x)))
+      (λ o l. mixed-frames (chunk (channelsOfOrder order) o weights) (voice order d x) (voice order (mirroredDirection d) x) (voice-swapped d x))
       ∙ frame-exchanged n (channelsOfOrder order) weights partner p (voice order d x)
 
   -- ---- the decoder matrix of a layout

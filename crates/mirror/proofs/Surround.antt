@@ -19,7 +19,7 @@ use Rattle.refusals.specs.Refusals.{firstOf, _when_, answered}
 use Rattle.lists.specs.Tables.{tab}
 use Rattle.lists.proofs.Tables.{length-tab, getD-tab, tab-ext}
 use Rattle.lists.proofs.Tests.{by-test}
-use Rattle.lists.proofs.Each.{each-replicate}
+use Rattle.lists.proofs.ForAll.{each-replicate}
 use Rattle.formats.specs.Floats.{Held, zero-float, float}
 use Rattle.fractions.specs.Fraction.{magnitude, number, whole, AtMost}
 use Rattle.numbers.specs.Computed.{rootOf}

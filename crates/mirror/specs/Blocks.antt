@@ -6,7 +6,7 @@ use mathlib.Core.Path.{_≡_}
 use mathlib.Core.List.{List, map}
 use lib.ListN.{length, getD}
 use lib.Ieee.{Float, nan, neg}
-use Rattle.lists.specs.Tables.{tab, row}
+use Rattle.lists.specs.Tables.{tab, chunk}
 use Rattle.planes.specs.Planes.{framesOf}
 use Rattle.planes.specs.Sums.{mixed}
 use Rattle.ambisonic_decoder.specs.declared.Decoded.{Decoded}
@@ -17,7 +17,7 @@ use Rattle.matrix.specs.Mirror.{lateral, negatedAt, mirrored}
 pub record PartnersSwap (outputs channels : ℕ) (weights : List Float) (partner : ℕ → ℕ) : Type 0 where
   pub inside : (o : ℕ) → o < outputs → partner o < outputs
   pub swaps : (o : ℕ) → o < outputs → (frame : List Float)
-      → mixed (row channels o weights) (mirrored neg frame) ≡ mixed (row channels (partner o) weights) frame
+      → mixed (chunk channels o weights) (mirrored neg frame) ≡ mixed (chunk channels (partner o) weights) frame
 
 -- a call: what it is lent beside the weights, what it answers, and what the output planes hold then
 pub record Call : Type 0 where

@@ -7,8 +7,8 @@ use mathlib.Core.Path.{_≡_}
 use mathlib.Core.List.{List}
 use lib.Ieee.{Float}
 use Rattle.channel.specs.declared.Layout.the-variants.{Stereo}
-use Rattle.history.specs.Setup.{Setup, tapsOf}
-use Rattle.history.specs.History.{signalAgo, part, earSample}
+use Rattle.hrtf_history.specs.Setup.{Setup, tapsOf}
+use Rattle.hrtf_history.specs.History.{signalAgo, part, earSample}
 use Rattle.mirror.specs.Partners.{partnerIn, acrossFrom, partners, otherEar}
 use Rattle.mirror.specs.Parts.{Settled}
 

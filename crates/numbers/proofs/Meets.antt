@@ -2,7 +2,7 @@
 use mathlib.Core.Path.{refl}
 use lib.Ieee.{binary32, binary64}
 use Rattle.numbers.specs.Computed.{rootAnswer}
-use Rattle.numbers.specs.Promises.{NumbersMeet}
+use Rattle.numbers.specs.Promise.{NumbersMeet}
 use Rattle.numbers.proofs.Narrows.{rounded-narrows}
 use Rattle.numbers.proofs.Middle.{root-nearest}
 use Rattle.numbers.proofs.Tests.{root-promised}

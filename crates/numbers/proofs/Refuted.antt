@@ -12,7 +12,7 @@ use lib.Ieee.Scale.{finite}
 use Rattle.formats.specs.Floats.{zero-float, one-float}
 use Rattle.numbers.specs.Conversions.{Narrows, negative, tooLarge}
 use Rattle.numbers.specs.Roots.{NearestRoot}
-use Rattle.numbers.specs.Promises.{Root}
+use Rattle.numbers.specs.Promise.{Root}
 use Rattle.numbers.specs.Normalization.{InverseRoot}
 use Rattle.numbers.specs.declared.Inverse.{Inverse}
 use Rattle.numbers.proofs.Normalization.{inverse-accepted}

@@ -1,13 +1,16 @@
 -- What the program computes: the values by which its answers are fixed bit for bit. Definitions only. Nobody has to believe them: `Promises` ties each to document 01's words.
+-- What the steps of the program promise each other. Definitions only, and none that a public promise cites.
 use mathlib.Core.Bool.{true, false, cond}
 use mathlib.Core.List.{[], _∷_}
-use Prim.Native.Nat.{ℕ, zero, suc, _-_, _*_, _/_, _^_, _≤_, _<_}
+use Prim.Native.Nat.{ℕ, zero, suc, _-_, _*_, _/_, _^_, _≤_, _<_, _%_}
 use lib.Dec.{leb}
 use lib.Ieee.{Float, nan, inf, fin, Format, binary32, binary64, prec, low, up, down, size, units, round}
 use Rattle.refusals.specs.Refusals.{firstOf, _when_, answered}
 use Rattle.formats.specs.Floats.{zero-float}
 use Rattle.numbers.specs.Roots.{rootless}
 use Rattle.numbers.specs.declared.Rooted.{Rooted}
+use mathlib.Core.Path.{_≡_}
+use Rattle.formats.proofs.Patterns.{digits}
 
 -- ---- conversions: `fin s m e` is the fraction m * up e / down e with the sign s, and `round` is the kit's
 unfoldable pub rounded : Format → Float → Float
@@ -59,3 +62,11 @@ refusalOf x = firstOf (10 when rootless x ∷ [])
 
 abbrev pub rootAnswer : Float → Rooted
 rootAnswer x = answered (refusalOf x) (record { refusal = 0; value = rootOf binary64 x }) (λ n. record { refusal = n; value = zero-float })
+
+-- the number that the pattern stands for, times 2 ^ 2148, is m * 4 ^ half
+pub record Parted (bits m half : ℕ) : Type 0 where
+  pub value : m * 4 ^ half ≡ digits binary64 (bits / 2 ^ 52) (bits % 2 ^ 52) * 2 ^ (bits / 2 ^ 52 - 1) * 2 ^ 1074
+  pub least : 2 ^ 52 ≤ m
+  pub most : m < 2 ^ 54
+  pub far : 26 ≤ half
+  pub near : half ≤ 1560

@@ -3,6 +3,5 @@
 pub mod Conversions
 pub mod Roots
 pub mod Computed
-pub mod Promises
+pub mod Promise
 pub mod Normalization
-pub mod Steps

@@ -9,7 +9,7 @@ use lib.Ieee.{Float, binary64, div}
 use Rattle.refusals.specs.Refusals.{firstOf, _when_, answered}
 use Rattle.formats.specs.Floats.{zero-float, one-float, float}
 use Rattle.numbers.specs.Computed.{rootOf}
-use Rattle.numbers.specs.Promises.{Root}
+use Rattle.numbers.specs.Promise.{Root}
 use Rattle.numbers.specs.declared.Rooted.{Rooted}
 use Rattle.numbers.specs.declared.Inverse.{Inverse}
 

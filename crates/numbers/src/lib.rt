@@ -4,7 +4,7 @@
 // `widen` takes an f32 to the same f64. `narrow` takes an f64 to the nearest f32, a tie to the even one.
 // `root` takes an f64 to the f64 nearest its exact root, or refuses it with 10. `inverse_root` takes a count
 // to 1.0 over its root, by which the decoder matrix, the binaural rows and the convolver scale. Each promises
-// its answer by an equation and, beside it, what document 01 says of it: see specs/Promises.antt.
+// its answer by an equation and, beside it, what document 01 says of it: see specs/Promise.antt.
 ghost use mathlib.Core.Path.{_≡_};
 ghost use mathlib.Core.Bool.{Bool, cond, not};
 ghost use Prim.Native.Nat.{_+_, _*_, _^_, _<_, _≤_};
@@ -13,8 +13,8 @@ ghost use lib.Ieee.{binary32, binary64, top, ofFields, ofBits, toBits, nanBits};
 ghost use lib.Ieee.Nearest.{closest};
 ghost use Rattle.numbers.specs.Conversions.{Widens};
 ghost use Rattle.numbers.specs.Computed.{narrowed, WholeRoot};
-ghost use Rattle.numbers.specs.Steps.{Parted};
-ghost use Rattle.numbers.specs.Promises.{Narrowed, Root};
+ghost use Rattle.numbers.specs.Computed.{Parted};
+ghost use Rattle.numbers.specs.Promise.{Narrowed, Root};
 ghost use Rattle.numbers.specs.Normalization.{InverseRoot};
 
 pub fn widen(x: f32) -> f64

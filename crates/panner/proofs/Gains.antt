@@ -30,7 +30,7 @@ use Rattle.panner.specs.declared.Command.{Command}
 use Rattle.panner.specs.declared.Command.the-variants.{Stereo, Surround, Ambisonic}
 use Rattle.panner.specs.declared.Commanded.{Commanded}
 use Rattle.panner.specs.Commands.{noOrder, notOffered, planesOf}
-use Rattle.panner.specs.Steps.{isBadLayout, commandRefusal, Commands}
+use Rattle.panner.specs.Computed.{isBadLayout, commandRefusal, Commands}
 
 -- ---- a refusal
 pub refused : (c : Command) (l : Layout) (g : Commanded) (n : ℕ) → 0 < n → g .refusal ≡ n → commandRefusal c l ≡ n → Commands c l g

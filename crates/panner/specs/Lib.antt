@@ -3,4 +3,4 @@ pub mod Commands
 pub mod Blocks
 pub mod Promise
 pub mod Halves
-pub mod Steps
+pub mod Computed

@@ -17,7 +17,7 @@ ghost use Rattle.planes.specs.Planes.{withFrame, withFrames};
 ghost use Rattle.panner.specs.declared.Command.{Command};
 ghost use Rattle.panner.specs.Blocks.{panned, narrowedAll};
 ghost use Rattle.panner.specs.Halves.{pannedPart, Gained};
-ghost use Rattle.panner.specs.Steps.{Commands, isBadLayout};
+ghost use Rattle.panner.specs.Computed.{Commands, isBadLayout};
 ghost use Rattle.panner.specs.Promise.{Processed};
 
 pub enum Command {
@@ -192,7 +192,7 @@ pub fn play_part(
 )
     ensures { λ _. ⌜ now (out .exit) ≡ withFrames (now (out .entry)) stride from (pannedPart stride from to (min planes 16) gains (now (input .entry))) ⌝ }
 {
-    let few = checks::least(planes, 16);
+    let few = checks::min(planes, 16);
     let mut n = from;
     while n < to {
         pan(

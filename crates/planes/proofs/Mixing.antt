@@ -9,7 +9,7 @@ use lib.ListN.{length, getD, take, drop, length-take, length-drop}
 use lib.Ieee.{Float, nan, binary64, add, mul}
 use Rattle.formats.specs.Floats.{zero-float}
 use Rattle.numbers.specs.Computed.{narrowed}
-use Rattle.lists.specs.Tables.{row}
+use Rattle.lists.specs.Tables.{chunk}
 use Rattle.planes.specs.Planes.{sampleAt, frameAt}
 use Rattle.planes.specs.Sums.{total, dot, mixed}
 use Rattle.lists.proofs.Lists.{getD-min, drop-min, take-min}
@@ -52,23 +52,23 @@ module _ (weights inputs : List Float) (stride frame : ℕ) where
 
 -- ---- a row of the weights, handed on as a part
 
-row-part : (n i : ℕ) (xs : List Float) (from to : ℕ) → from ≡ min (i * n + 0) (length xs) → to ≡ min (from + n) (length xs) → take (to - from) (drop from xs) ≡ row n i xs
+row-part : (n i : ℕ) (xs : List Float) (from to : ℕ) → from ≡ min (i * n + 0) (length xs) → to ≡ min (from + n) (length xs) → take (to - from) (drop from xs) ≡ chunk n i xs
 row-part n i xs from to ef et = take-min (drop from xs) n (to - from) (omega (arith, length-drop from xs)) ∙ ap (take n) (drop-min xs (i * n) from (omega arith))
 
 -- a row is no longer than n, so that it does not reach further channels
 mixed-row : (n i : ℕ) (weights inputs : List Float) (stride frame : ℕ)
-    → mixed (row n i weights) (frameAt inputs stride (length (row n i weights)) frame) ≡ mixed (row n i weights) (frameAt inputs stride n frame)
+    → mixed (chunk n i weights) (frameAt inputs stride (length (chunk n i weights)) frame) ≡ mixed (chunk n i weights) (frameAt inputs stride n frame)
 unfolding mixed
 mixed-row n i weights inputs stride frame =
     ap narrowed
-    (ap (λ (f : List Float). dot zero-float f (row n i weights)) (sym (take-tab 0 (length (row n i weights)) n (λ p. sampleAt inputs stride p frame) (omega (arith, length-take n (drop (i * n) weights)))))
-    ∙ ap (total zero-float) (products-take (length (row n i weights)) (frameAt inputs stride n frame) (row n i weights) (omega arith)))
+    (ap (λ (f : List Float). dot zero-float f (chunk n i weights)) (sym (take-tab 0 (length (chunk n i weights)) n (λ p. sampleAt inputs stride p frame) (omega (arith, length-take n (drop (i * n) weights)))))
+    ∙ ap (total zero-float) (products-take (length (chunk n i weights)) (frameAt inputs stride n frame) (chunk n i weights) (omega arith)))
 
 -- ---- the loop over outputs
 
 -- output o of a frame
 abbrev pub output : List Float → ℕ → List Float → ℕ → ℕ → ℕ → Float
-output weights channels inputs stride frame o = mixed (row channels o weights) (frameAt inputs stride channels frame)
+output weights channels inputs stride frame o = mixed (chunk channels o weights) (frameAt inputs stride channels frame)
 
 pub output-is : (weights : List Float) (channels : ℕ) (inputs : List Float) (stride frame o from to : ℕ) (x : Float) → from ≡ min (o * channels + 0) (length weights)
     → to ≡ min (from + channels) (length weights)

@@ -9,7 +9,7 @@ use lib.Arith.{digits-div, digits-mod}
 use lib.ListN.{length, getD, set, drop, length-set}
 use lib.Seq.{getD-set-same, getD-set-other, getD-take, getD-drop, ext-getD}
 use lib.Ieee.{Float, nan}
-use Rattle.lists.specs.Tables.{tab, row}
+use Rattle.lists.specs.Tables.{tab, chunk}
 use Rattle.planes.specs.Planes.{sampleAt, frameAt, framesOf, withSample, withFrameFrom, withFrame, withFrames}
 use Rattle.lists.proofs.Tables.{tab-is, length-row, inside}
 
@@ -51,16 +51,16 @@ with-frame-at p xs stride n (x ∷ f) (suc k) lt hn room =
 
 -- the row of plane p has that sample of the frame at n, and all else as it was
 pub row-with-frame : (planes : ℕ) (xs : List Float) (stride n : ℕ) (f : List Float) (p : ℕ) → p < length f → n < stride → length xs ≡ planes * stride → length f ≤ planes
-    → row stride p (withFrame xs stride n f) ≡ set (row stride p xs) n (getD f p nan)
+    → chunk stride p (withFrame xs stride n f) ≡ set (chunk stride p xs) n (getD f p nan)
 row-with-frame planes xs stride n f p hp hn e few =
-    ext-getD nan (row stride p (withFrame xs stride n f)) (set (row stride p xs) n (getD f p nan)) same-length
+    ext-getD nan (chunk stride p (withFrame xs stride n f)) (set (chunk stride p xs) n (getD f p nan)) same-length
     (λ i lt. let i<s : i < stride = omega (arith, lt, new-length) in read i i<s ∙ elim (ℕ-discrete i n) [
       | yes q ↦ ap (λ (j : ℕ). getD (withFrame xs stride n f) (p * stride + j) nan) q
           ∙ ap (λ (r : ℕ). getD (withFrame xs stride n f) (r * stride + n) nan) (sym (zero-add p))
           ∙ with-frame-at 0 xs stride n f p hp hn (rw zero-add (room n hn))
-          ∙ sym (ap (λ (j : ℕ). getD (set (row stride p xs) n (getD f p nan)) j nan) q ∙ getD-set-same (row stride p xs) n (getD f p nan) nan (rw old-length hn))
+          ∙ sym (ap (λ (j : ℕ). getD (set (chunk stride p xs) n (getD f p nan)) j nan) q ∙ getD-set-same (chunk stride p xs) n (getD f p nan) nan (rw old-length hn))
       | no q ↦ with-frame-other 0 xs stride n f (p * stride + i) (λ k h z. q (same-frame stride p (0 + k) i n i<s hn z))
-          ∙ sym (getD-set-other (row stride p xs) n i (getD f p nan) nan q ∙ getD-take stride (drop (p * stride) xs) i nan i<s ∙ getD-drop (p * stride) xs i nan)
+          ∙ sym (getD-set-other (chunk stride p xs) n i (getD f p nan) nan q ∙ getD-take stride (drop (p * stride) xs) i nan i<s ∙ getD-drop (p * stride) xs i nan)
     ])
   where
     among : p < planes
@@ -69,16 +69,16 @@ row-with-frame planes xs stride n f p hp hn e few =
     room : (m : ℕ) → m < stride → p * stride + m < length xs
     room m hm = inside planes stride p m (length xs) among hm e
 
-    old-length : length (row stride p xs) ≡ stride
+    old-length : length (chunk stride p xs) ≡ stride
     old-length = length-row stride p planes xs among e
 
-    new-length : length (row stride p (withFrame xs stride n f)) ≡ stride
+    new-length : length (chunk stride p (withFrame xs stride n f)) ≡ stride
     new-length = length-row stride p planes (withFrame xs stride n f) among (length-with-frame 0 xs stride n f ∙ e)
 
-    same-length : length (row stride p (withFrame xs stride n f)) ≡ length (set (row stride p xs) n (getD f p nan))
-    same-length = new-length ∙ sym (length-set (row stride p xs) n (getD f p nan) ∙ old-length)
+    same-length : length (chunk stride p (withFrame xs stride n f)) ≡ length (set (chunk stride p xs) n (getD f p nan))
+    same-length = new-length ∙ sym (length-set (chunk stride p xs) n (getD f p nan) ∙ old-length)
 
-    read : (i : ℕ) → i < stride → getD (row stride p (withFrame xs stride n f)) i nan ≡ getD (withFrame xs stride n f) (p * stride + i) nan
+    read : (i : ℕ) → i < stride → getD (chunk stride p (withFrame xs stride n f)) i nan ≡ getD (withFrame xs stride n f) (p * stride + i) nan
     read i h = getD-take stride (drop (p * stride) (withFrame xs stride n f)) i nan h ∙ getD-drop (p * stride) (withFrame xs stride n f) i nan
 
 -- ---- frames one after another

@@ -8,7 +8,7 @@ use lib.Ieee.{Float, fin, binary64, add, mul, round, sum, size, span, climb, uni
 use lib.Ieee.Positive.{positive}
 use Rattle.formats.specs.Floats.{zero-float}
 use Rattle.numbers.specs.Computed.{rounded, narrowed}
-use Rattle.checks.specs.Finite.{unsound}
+use Rattle.checks.specs.Finite.{hasNonfinite}
 use Rattle.planes.specs.Sums.{dot, mixed}
 
 abbrev one : Float
@@ -42,6 +42,6 @@ narrowed-at-each-channel h = true≢false (ap positive h)
 abbrev loud : List Float
 loud = fin false 1 (pos 127) ∷ fin false 1 (pos 127) ∷ []
 
-judged-before-narrowing : unsound (mixed ones loud ∷ []) ≡ unsound (dot zero-float loud ones ∷ []) → ⊥
+judged-before-narrowing : hasNonfinite (mixed ones loud ∷ []) ≡ hasNonfinite (dot zero-float loud ones ∷ []) → ⊥
 unfolding mixed add mul sum round rounded size span climb units odd
 judged-before-narrowing h = true≢false h

@@ -8,10 +8,10 @@ use lib.Ieee.{Float, nan, inf, fin, binary64, add, round, unlike}
 use Rattle.formats.specs.Floats.{zero-float}
 use Rattle.numbers.specs.Computed.{rounded, narrowed}
 use Rattle.numbers.proofs.Zeros.{zero-times, zero-plus}
-use Rattle.checks.specs.Finite.{unsound}
+use Rattle.checks.specs.Finite.{hasNonfinite}
 use Rattle.planes.specs.Sums.{dot, mixed}
 
-dot-silence : (n : ℕ) (ws : List Float) → unsound ws ≡ false → dot zero-float (replicate n zero-float) ws ≡ zero-float
+dot-silence : (n : ℕ) (ws : List Float) → hasNonfinite ws ≡ false → dot zero-float (replicate n zero-float) ws ≡ zero-float
 dot-silence zero ws h = refl
 dot-silence (suc n) [] h = refl
 dot-silence (suc n) (nan ∷ ws) h = absurd (true≢false h)
@@ -23,6 +23,6 @@ narrowed-zero : narrowed zero-float ≡ zero-float
 unfolding rounded round
 narrowed-zero = refl
 
-pub mixed-silence : (n : ℕ) (ws : List Float) → unsound ws ≡ false → mixed ws (replicate n zero-float) ≡ zero-float
+pub mixed-silence : (n : ℕ) (ws : List Float) → hasNonfinite ws ≡ false → mixed ws (replicate n zero-float) ≡ zero-float
 unfolding mixed
 mixed-silence n ws h = ap narrowed (dot-silence n ws h) ∙ narrowed-zero

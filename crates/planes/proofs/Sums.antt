@@ -11,23 +11,23 @@ use Rattle.formats.specs.Floats.{zero-float}
 use Rattle.numbers.specs.Computed.{rounded, narrowed}
 use Rattle.lists.specs.Tables.{tab}
 use Rattle.lists.proofs.Tables.{tab-shift}
-use Rattle.lists.proofs.Going.{Going, going-none, going-more, going-all}
+use Rattle.lists.proofs.LoopOverTable.{LoopOverTable, loop-none, loop-more, loop-all}
 use Rattle.planes.specs.Sums.{total, products, dot, mixed}
 
 -- ---- the loop: f 0, f 1, .., f (n - 1) are added, those before i so far
 
 abbrev pub Summing : (ℕ → Float) → ℕ → Float → ℕ → Type 0
-Summing f n sum i = Going (λ k. total) f n zero-float sum i
+Summing f n sum i = LoopOverTable (λ k. total) f n zero-float sum i
 
 module _ (f : ℕ → Float) (n : ℕ) where
   pub summing-none : Summing f n zero-float 0
-  summing-none = going-none (λ k. total) f n zero-float
+  summing-none = loop-none (λ k. total) f n zero-float
 
   pub summing-more : (sum : Float) (i : ℕ) (x : Float) → Summing f n sum i → i < n → x ≡ f i → Summing f n (add binary64 sum x) (i + 1)
-  summing-more sum i x g h e = going-more (λ k. total) f n zero-float (λ k. add binary64) (λ k s a l. refl) sum i x (add binary64 sum x) g h e refl
+  summing-more sum i x g h e = loop-more (λ k. total) f n zero-float (λ k. add binary64) (λ k s a l. refl) sum i x (add binary64 sum x) g h e refl
 
   pub summing-all : (sum : Float) (i : ℕ) → Summing f n sum i → n ≤ i → sum ≡ total zero-float (tab 0 n f)
-  summing-all sum i = going-all (λ k. total) f n zero-float sum i
+  summing-all sum i = loop-all (λ k. total) f n zero-float sum i
 
 -- ---- products
 
@@ -46,9 +46,9 @@ products-tab (x ∷ xs) (y ∷ ys) (suc n) e =
     (products-tab xs ys n (omega arith) ∙ sym (tab-shift 0 n (productAt (x ∷ xs) (y ∷ ys))))
 
 -- so the loop over the places of the shorter list forms their sum, from any sum on
-pub dot-on : (a : Float) (xs ys : List Float) (n : ℕ) (sum : Float) (i : ℕ) → Going (λ k. total) (productAt xs ys) n a sum i
+pub dot-on : (a : Float) (xs ys : List Float) (n : ℕ) (sum : Float) (i : ℕ) → LoopOverTable (λ k. total) (productAt xs ys) n a sum i
     → n ≤ i → n ≡ min (length xs) (length ys) → sum ≡ dot a xs ys
-dot-on a xs ys n sum i g h e = going-all (λ k. total) (productAt xs ys) n a sum i g h ∙ ap (total a) (sym (products-tab xs ys n e))
+dot-on a xs ys n sum i g h e = loop-all (λ k. total) (productAt xs ys) n a sum i g h ∙ ap (total a) (sym (products-tab xs ys n e))
 
 pub dot-all : (xs ys : List Float) (n : ℕ) (sum : Float) (i : ℕ) → Summing (productAt xs ys) n sum i → n ≤ i
     → n ≡ min (length xs) (length ys) → sum ≡ dot zero-float xs ys

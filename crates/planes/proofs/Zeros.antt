@@ -7,7 +7,7 @@ use lib.Ieee.{Float, nan, binary64, add, fits}
 use lib.Ieee.Fits.{nan-fits, add-fits, mul-fits}
 use Rattle.formats.specs.Floats.{Held, zero-float}
 use Rattle.numbers.specs.Computed.{narrowed}
-use Rattle.lists.specs.Each.{Each}
+use Rattle.lists.specs.ForAll.{ForAll}
 use Rattle.planes.specs.Sums.{total, products, dot, mixed}
 use Rattle.formats.specs.Zeros.{unsignedZero}
 use Rattle.formats.proofs.Zeros.{Unsigned, mul-unsigned, add-unsigned, sum-unsigned}
@@ -15,7 +15,7 @@ use Rattle.formats.proofs.Zeros.{Unsigned, mul-unsigned, add-unsigned, sum-unsi
 -- ---- sums of f64
 
 abbrev AllHeld : List Float → Type 0
-AllHeld xs = Each Held nan xs
+AllHeld xs = ForAll Held nan xs
 
 pub zero-held : Held zero-float
 unfolding fits

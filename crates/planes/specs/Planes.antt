@@ -7,7 +7,7 @@ use mathlib.Core.List.{List, [], _∷_}
 use lib.ListN.{getD, set}
 use lib.Ieee.{Float, nan}
 use Rattle.lists.specs.Tables.{tab}
-use Rattle.checks.specs.Finite.{unsound}
+use Rattle.checks.specs.Finite.{hasNonfinite}
 
 -- ---- reading
 
@@ -38,7 +38,7 @@ withFrame xs stride n f = withFrameFrom 0 xs stride n f
 -- the samples f are put as frame n, and the answer is whether one of them is NaN or infinite
 pub record FramePut (xs : List Float) (stride n : ℕ) (f ys : List Float) (bad : Bool) : Type 0 where
   pub put : ys ≡ withFrame xs stride n f
-  pub damage : bad ≡ unsound f
+  pub damage : bad ≡ hasNonfinite f
 
 -- frames n, n + 1, ..
 abbrev pub withFrames : List Float → ℕ → ℕ → List (List Float) → List Float

@@ -5,7 +5,7 @@ use mathlib.Core.List.{List, [], _∷_}
 use lib.Ieee.{Float, binary64, add, mul}
 use Rattle.formats.specs.Floats.{zero-float}
 use Rattle.numbers.specs.Computed.{narrowed}
-use Rattle.lists.specs.Tables.{tab, row}
+use Rattle.lists.specs.Tables.{tab, chunk}
 
 -- a + x₀ + x₁ + .., each sum rounded, in this order
 abbrev pub total : Float → List Float → Float
@@ -28,4 +28,4 @@ mixed weights frame = narrowed (dot zero-float frame weights)
 
 -- every output of a frame: the weights are outputs x channels
 abbrev pub mixedAll : ℕ → ℕ → List Float → List Float → List Float
-mixedAll outputs channels weights frame = tab 0 outputs (λ o. mixed (row channels o weights) frame)
+mixedAll outputs channels weights frame = tab 0 outputs (λ o. mixed (chunk channels o weights) frame)

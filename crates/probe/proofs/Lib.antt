@@ -1,3 +1,3 @@
 -- Which family answers an operation, and a wrong answer.
-mod Answers
+mod Meets
 mod Refuted

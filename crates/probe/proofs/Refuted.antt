@@ -4,7 +4,7 @@ use mathlib.Core.List.{List}
 use Prim.Native.Nat.{ℕ, _<_}
 use Rattle.probe_answer.specs.Answers.{Draft, none}
 use Rattle.probe.specs.Answers.{answerOf}
-use Rattle.probe.proofs.Answers.{of-none}
+use Rattle.probe.proofs.Meets.{of-none}
 
 -- an operation beyond 25 is answered, or the lent bytes are put over
 unknown-answered : (operation : ℕ) (args out : List ℕ) (r : Draft) → r ≡ answerOf operation args out → 25 < operation → (r ≡ none out → ⊥) → ⊥

@@ -19,7 +19,7 @@ use Rattle.big_endian.proofs.Fields.{field-put}
 use Rattle.lists.proofs.Placed.{placed-none, length-placed, store-on}
 use Rattle.big_endian.proofs.Lists.{length-fieldBytes, write-none, write-more}
 use Rattle.probe_answer.specs.Answers.{draft, nowhere, _then_, thenField}
-use Rattle.probe_answer.proofs.Answers.{then-room, then-cut}
+use Rattle.probe_answer.proofs.Meets.{then-room, then-cut}
 
 -- ---- a part of w bytes for each of n elements
 

@@ -20,7 +20,7 @@ use Rattle.big_endian.proofs.Bytes.{length-bytes, value-bytes}
 use Rattle.big_endian.proofs.Fields.{field-lies}
 use Rattle.big_endian.proofs.Lists.{length-fieldBytes}
 use Rattle.probe_answer.specs.Answers.{Draft, draft, none, nowhere, _then_, thenField, refusalAndDoubles, played}
-use Rattle.probe_answer.proofs.Answers.{then-cut}
+use Rattle.probe_answer.proofs.Meets.{then-cut}
 use Rattle.probe_answer.proofs.Standing.{then-long, then-before, then-there, then-same, entry-bytes, parts-room, other-length, other-samples}
 
 -- ---- a part

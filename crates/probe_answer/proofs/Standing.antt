@@ -19,7 +19,7 @@ use Rattle.big_endian.proofs.Bytes.{length-bytes, value-bytes}
 use Rattle.big_endian.proofs.Fields.{field-lies}
 use Rattle.big_endian.proofs.Lists.{fieldBytes-more, length-fieldBytes}
 use Rattle.probe_answer.specs.Answers.{Draft, draft, none, taking, nowhere, cut, _then_, refusalAndDoubles, played}
-use Rattle.probe_answer.proofs.Answers.{taken, untaken, then-room, then-cut, cut-then}
+use Rattle.probe_answer.proofs.Meets.{taken, untaken, then-room, then-cut, cut-then}
 
 -- a field is known by the bytes up to its end
 same-field : (s t : List ℕ) (at count : ℕ) → length s ≡ length t → take (at + count) s ≡ take (at + count) t → fieldAt s at count ≡ fieldAt t at count

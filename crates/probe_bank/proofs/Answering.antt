@@ -12,12 +12,12 @@ use Rattle.big_endian.specs.Fields.{fieldAt, signedAt, floatAt}
 use Rattle.bank_form.specs.Bank.{Bank}
 use Rattle.bank.specs.Reading.{ReadOutcome, readOutcome}
 use Rattle.bank.specs.Writing.{WriteOutcome, writeOutcome}
-use Rattle.row_choice.specs.declared.Choice.{Choice}
-use Rattle.row_choice.specs.Choice.{choiceOf}
+use Rattle.bank_choice.specs.declared.Choice.{Choice}
+use Rattle.bank_choice.specs.Choice.{choiceOf}
 use Rattle.lists.proofs.Tables.{length-tab}
 use Rattle.probe_request.specs.Requests.{lentBy, azimuthsLent, samplesLent, listAt}
 use Rattle.probe_answer.specs.Answers.{Draft, none}
-use Rattle.probe_answer.proofs.Answers.{taken, untaken, answered}
+use Rattle.probe_answer.proofs.Meets.{taken, untaken, answered}
 use Rattle.probe_request.proofs.Requests.{inside}
 use Rattle.probe_bank.specs.Fillings.{angleFilling, tapFilling, byteFilling, filledWith}
 use Rattle.probe_bank.specs.Answers.{bytesLent, readParts, readInto, readAnswer, bankAt, writeParts, writeFrom, writeInto, writeAnswer, choiceParts, chooseFrom, chooseAnswer, turnedBy, turnInto, turnAnswer, answerOf}

@@ -15,10 +15,10 @@ use Rattle.bank_form.proofs.Conversions.{conversion-fault}
 use Rattle.bank.specs.Writing.{WriteOutcome}
 use Rattle.bank.specs.Conversion.{conversion}
 use Rattle.bank.proofs.Converting.{version-told}
-use Rattle.row_choice.specs.Choice.{inTenths, isElevation, choiceRefusal, choiceOf}
+use Rattle.bank_choice.specs.Choice.{inTenths, isElevation, choiceRefusal, choiceOf}
 use Rattle.probe_request.specs.Requests.{azimuthsLent, samplesLent}
 use Rattle.probe_answer.specs.Answers.{Draft, none}
-use Rattle.probe_answer.proofs.Answers.{untaken}
+use Rattle.probe_answer.proofs.Meets.{untaken}
 use Rattle.probe_answer.proofs.Standing.{Told, first-told, second-told, taken-told}
 use Rattle.probe_bank.specs.Fillings.{byteFilling, filledWith, countChanged}
 use Rattle.probe_bank.specs.Answers.{tapsShown, bytesLent, thenLists, readParts, readBy, readInto, readAnswer, writeParts, writeInto, choiceParts, choiceBy, chooseFrom, turnInto, turnAnswer, answerOf}

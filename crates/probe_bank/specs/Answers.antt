@@ -13,8 +13,8 @@ use Rattle.bank_form.specs.Bank.{Bank}
 use Rattle.bank.specs.Reading.{ReadOutcome, readOutcome}
 use Rattle.bank.specs.Writing.{WriteOutcome, writeOutcome}
 use Rattle.bank.specs.Conversion.{conversion}
-use Rattle.row_choice.specs.declared.Choice.{Choice}
-use Rattle.row_choice.specs.Choice.{choiceOf}
+use Rattle.bank_choice.specs.declared.Choice.{Choice}
+use Rattle.bank_choice.specs.Choice.{choiceOf}
 use Rattle.probe_request.specs.Requests.{lentBy, azimuthsLent, samplesLent}
 use Rattle.probe_answer.specs.Answers.{Draft, none, taking, _then_}
 use Rattle.probe_bank.specs.Fillings.{angleFilling, tapFilling, byteFilling, filledWith, countChanged}

@@ -2,7 +2,7 @@
 // (docs/PROBE.md, operations 6 to 8, 23 and 24).
 //
 // Test code, and promised by equations all the same: how many bytes are answered, and that they are the
-// refusal, the numbers and the lists that `bank` and `row_choice` promise for what stands in the request, one
+// refusal, the numbers and the lists that `bank` and `bank_choice` promise for what stands in the request, one
 // behind the other.
 use bank::BankRead;
 use bank::BankWritten;
@@ -193,7 +193,7 @@ fn choose_from(args: &[u8], azimuths: &mut [i16], elevations: &mut [i16], out: &
     let rows = probe_request::number(args, 2, 8);
     let azimuth = big_endian::get_i16(args, 10);
     let elevation = big_endian::get_i16(args, 12);
-    let r = row_choice::nearest_row(azimuths, elevations, rows, azimuth, elevation);
+    let r = bank_choice::nearest_row(azimuths, elevations, rows, azimuth, elevation);
     put_refusal_and_number(r.refusal, r.row, out)
 }
 

@@ -1,4 +1,4 @@
 -- When an answer is given and over which weights, that no two answers meet one promise, and wrong answers.
-mod Answers
+mod Meets
 mod Unique
 mod Refuted

@@ -13,7 +13,7 @@ use Rattle.stereo.specs.declared.StereoGains.{StereoGains}
 use Rattle.stereo.proofs.Drill.{at-minus-100}
 use Rattle.probe_request.specs.Requests.{layoutAt, weightsLent}
 use Rattle.probe_answer.specs.Answers.{Draft, refusalAndDoubles}
-use Rattle.probe_answer.proofs.Answers.{taken}
+use Rattle.probe_answer.proofs.Meets.{taken}
 use Rattle.probe_answer.proofs.Standing.{same-entry, counted, other-arguments, doubles-known}
 use Rattle.probe_gains.specs.Answers.{rowsAnswer, decoderAnswer, stereoAnswer, answerOf}
 

@@ -7,13 +7,13 @@ use lib.ListN.{length}
 use lib.Ieee.{Float}
 use Rattle.big_endian.specs.Fields.{fieldAt}
 use Rattle.big_endian.specs.Lists.{floatBytes}
-use Rattle.desk.specs.declared.Desk.{Desk}
+use Rattle.hrtf_desk.specs.declared.Desk.{Desk}
 use Rattle.hrtf_checks.specs.declared.Shape.{Shape}
 use Rattle.hrtf.specs.declared.BlockAnswer.{BlockAnswer}
 use Rattle.hrtf.specs.Promise.{BlockOutcome, outcome}
 use Rattle.probe_request.specs.Requests.{eightAt}
 use Rattle.probe_answer.specs.Answers.{Draft, none, _then_}
-use Rattle.probe_answer.proofs.Answers.{taken, untaken, behind}
+use Rattle.probe_answer.proofs.Meets.{taken, untaken, behind}
 use Rattle.probe_request.proofs.Requests.{place-end, place-no-end}
 use Rattle.probe_hrtf.specs.Requests.{deskAt, shapeAt, Lent, lentOf, Lists, lengths, blockEnd, ReadLists, readFrom, callOf, stateOf, callAt, stateAt}
 use Rattle.probe_hrtf.specs.Answers.{thenCounts, blockShown, blockBy, blockAnswer}

@@ -16,17 +16,17 @@ use Rattle.big_endian.specs.Lists.{strided, floatBytes, doubleBytes, floatsAt}
 use Rattle.big_endian.proofs.Bytes.{length-bytes}
 use Rattle.big_endian.proofs.Fields.{lies-out, field-out}
 use Rattle.big_endian.proofs.Lists.{length-fieldBytes}
-use Rattle.desk.specs.declared.Desk.{Desk}
+use Rattle.hrtf_desk.specs.declared.Desk.{Desk}
 use Rattle.hrtf_checks.specs.declared.Shape.{Shape}
 use Rattle.hrtf_checks.specs.Refusals.{refusalOf}
 use Rattle.hrtf.specs.Promise.{BlockOutcome, outcome}
 use Rattle.hrtf.specs.Reset.{ResetOutcome, resetRefusal, resetBy, resetOutcome}
-use Rattle.hrtf.proofs.Promised.{outcome-by}
+use Rattle.hrtf.proofs.Meets.{outcome-by}
 use Rattle.lists.proofs.Tests.{cond-false}
 use Rattle.probe_request.specs.Requests.{samplesLent, cellsLent, listAt}
 use Rattle.probe_request.proofs.Requests.{place-there}
 use Rattle.probe_answer.specs.Answers.{Draft, draft, none, _then_}
-use Rattle.probe_answer.proofs.Answers.{taken}
+use Rattle.probe_answer.proofs.Meets.{taken}
 use Rattle.probe_answer.proofs.Standing.{Told, then-same, same-entry, parts-room, second-told, taken-told}
 use Rattle.probe_hrtf.specs.Requests.{deskAt, shapeAt, lentOf, Lists, ReadLists, lengths, listsEnd, readFrom, blockEnd, callAt, stateAt, sumEnd}
 use Rattle.probe_hrtf.specs.Answers as Answers

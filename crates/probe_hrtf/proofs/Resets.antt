@@ -8,12 +8,12 @@ use lib.Ieee.{Float}
 use Rattle.big_endian.specs.Bytes.{bytesOf}
 use Rattle.big_endian.specs.Fields.{fieldAt, floatAt}
 use Rattle.big_endian.specs.Lists.{floatBytes, floatsAt}
-use Rattle.desk.specs.declared.Desk.{Desk}
+use Rattle.hrtf_desk.specs.declared.Desk.{Desk}
 use Rattle.hrtf.specs.declared.Rested.{Rested}
 use Rattle.hrtf.specs.Reset.{ResetOutcome, resetOutcome}
 use Rattle.probe_request.specs.Requests.{cellsLent, listAt}
 use Rattle.probe_answer.specs.Answers.{Draft, none, _then_}
-use Rattle.probe_answer.proofs.Answers.{untaken, answered, parts-behind, behind}
+use Rattle.probe_answer.proofs.Meets.{untaken, answered, parts-behind, behind}
 use Rattle.probe_request.proofs.Requests.{inside}
 use Rattle.probe_hrtf.specs.Requests.{deskAt}
 use Rattle.probe_hrtf.specs.Answers.{thenDesk, resetShown, resetBy, resetAnswer}

@@ -8,7 +8,7 @@ use lib.Ieee.{Float}
 use Rattle.big_endian.specs.Fields.{fieldAt, floatAt}
 use Rattle.probe_request.specs.Requests.{samplesLent, cellsLent, listAt}
 use Rattle.probe_answer.specs.Answers.{Draft, none}
-use Rattle.probe_answer.proofs.Answers.{untaken, answered}
+use Rattle.probe_answer.proofs.Meets.{untaken, answered}
 use Rattle.probe_request.proofs.Requests.{inside}
 use Rattle.probe_hrtf.specs.Requests.{sumTaps, sumEnd}
 use Rattle.probe_hrtf.specs.Answers.{sumOf, sumAt, sumShown, sumBy, sumAnswer}

@@ -9,8 +9,8 @@ use Rattle.big_endian.specs.Bytes.{bytesOf}
 use Rattle.big_endian.specs.Fields.{fieldAt}
 use Rattle.big_endian.specs.Lists.{floatBytes, doubleBytes, floatsAt}
 use Rattle.planes.specs.Sums.{dot}
-use Rattle.desk.specs.declared.Desk.{Desk}
-use Rattle.rings.specs.Unrolled.{unrolled}
+use Rattle.hrtf_desk.specs.declared.Desk.{Desk}
+use Rattle.hrtf_rings.specs.Unrolled.{unrolled}
 use Rattle.hrtf.specs.declared.BlockAnswer.{BlockAnswer}
 use Rattle.hrtf.specs.Promise.{BlockOutcome, outcome}
 use Rattle.hrtf.specs.Reset.{ResetOutcome, resetOutcome}
@@ -57,7 +57,7 @@ resetAnswer args out = resetBy (cellsLent args 0) args out
 
 -- ---- 25 convolve
 
--- what `rings::convolve` promises of a ring, its newest cell and taps
+-- what `hrtf_rings::convolve` promises of a ring, its newest cell and taps
 abbrev pub sumOf : List Float → ℕ → List Float → Float
 sumOf ring newest taps = dot zero-float (unrolled (suc newest) ring) taps
 

@@ -5,8 +5,8 @@ use lib.ListN.{length}
 use lib.Ieee.{Float}
 use Rattle.big_endian.specs.Fields.{fieldAt, floatAt, doubleAt}
 use Rattle.big_endian.specs.Lists.{floatsAt, doublesAt}
-use Rattle.desk.specs.declared.Desk.{Desk}
-use Rattle.rings.specs.State.{State}
+use Rattle.hrtf_desk.specs.declared.Desk.{Desk}
+use Rattle.hrtf_rings.specs.State.{State}
 use Rattle.hrtf_checks.specs.declared.Shape.{Shape}
 use Rattle.hrtf_checks.specs.Call.{Call}
 use Rattle.probe_request.specs.Requests.{eightAt, samplesLent, weightsLent, cellsLent, placeIn, listAt}

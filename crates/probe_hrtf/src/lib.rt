@@ -2,14 +2,14 @@
 //
 // Test code, and promised by equations all the same (specs/Answers.antt): how many bytes the answer has and
 // what they are is what `hrtf` promises for the desk, the counts and the lists that stand in the arguments,
-// and `rings` for a ring and taps of any lengths, one part behind the other. There are 0 bytes, and the lent
+// and `hrtf_rings` for a ring and taps of any lengths, one part behind the other. There are 0 bytes, and the lent
 // ones are as they were, for any other operation and for arguments that have another length than the
 // operation takes. The desk, the shape and the five lists are read, and a desk is put, by functions that the
 // replay of a recording uses too (`probe_replay`): its requests begin as those for a block. Every public function
 // takes any input.
-use desk::Desk;
 use hrtf::BlockAnswer;
 use hrtf_checks::Shape;
+use hrtf_desk::Desk;
 use probe_request::MOST_CELLS;
 use probe_request::MOST_SAMPLES;
 use probe_request::MOST_WEIGHTS;
@@ -212,7 +212,7 @@ fn convolve_lent(args: &[u8], ring: &mut [f32], taps: &mut [f32], out: &mut [u8]
     }
     probe_request::get_f32s(args, RING, ring);
     probe_request::get_f32s(args, at_taps, taps);
-    let sum = [rings::convolve(ring, probe_request::number(args, 4, 8), taps)];
+    let sum = [hrtf_rings::convolve(ring, probe_request::number(args, 4, 8), taps)];
     probe_answer::put_f64s(&sum, out, 0)
 }
 

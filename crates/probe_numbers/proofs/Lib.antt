@@ -1,4 +1,4 @@
 -- Which answer is given, that no two answers meet one promise, and wrong answers.
-mod Answers
+mod Meets
 mod Unique
 mod Refuted

@@ -14,7 +14,7 @@ use Rattle.big_endian.specs.Lists.{floatBytes, doubleBytes}
 use Rattle.big_endian.proofs.Fields.{lies-out, field-out}
 use Rattle.big_endian.proofs.Lists.{length-fieldBytes}
 use Rattle.probe_answer.specs.Answers.{Draft, draft, none, nowhere, _then_, refusalAndDoubles}
-use Rattle.probe_answer.proofs.Answers.{taken}
+use Rattle.probe_answer.proofs.Meets.{taken}
 use Rattle.probe_answer.proofs.Standing.{then-same, same-entry, behind-the-start, first-told, taken-told}
 use Rattle.probe_numbers.specs.Answers.{widenAnswer, narrowAnswer, rootAnswer, answerOf}
 

@@ -10,7 +10,7 @@ use Rattle.ambisonic_decoder.specs.declared.Decoded.{Decoded}
 use Rattle.ambisonic_decoder.specs.Promise.{Block, block}
 use Rattle.probe_request.specs.Requests.{samplesLent, weightsLent, listAt}
 use Rattle.probe_answer.specs.Answers.{Draft, none, played}
-use Rattle.probe_answer.proofs.Answers.{taken, untaken}
+use Rattle.probe_answer.proofs.Meets.{taken, untaken}
 use Rattle.probe_request.proofs.Requests.{inside}
 use Rattle.probe_planes.specs.Answers.{decodedAnswer, decodeLent, decodeAnswer}
 

@@ -15,7 +15,7 @@ use Rattle.panner.specs.declared.Panned.{Panned}
 use Rattle.panner.specs.Promise.{Block, block}
 use Rattle.probe_request.specs.Requests.{layoutOf, samplesLent, listAt}
 use Rattle.probe_answer.specs.Answers.{Draft, none, played}
-use Rattle.probe_answer.proofs.Answers.{taken, untaken}
+use Rattle.probe_answer.proofs.Meets.{taken, untaken}
 use Rattle.probe_request.proofs.Requests.{inside, layout-read}
 use Rattle.probe_planes.specs.Answers.{commandOf, commandAt, pannedAnswer, panLent, panAnswer}
 

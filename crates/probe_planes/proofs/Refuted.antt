@@ -21,7 +21,7 @@ use Rattle.ambisonic_decoder.specs.Blocks.{refusalOf}
 use Rattle.ambisonic_decoder.specs.Promise as Decoding
 use Rattle.probe_request.specs.Requests.{samplesLent, weightsLent}
 use Rattle.probe_answer.specs.Answers.{Draft, nowhere, played}
-use Rattle.probe_answer.proofs.Answers.{taken}
+use Rattle.probe_answer.proofs.Meets.{taken}
 use Rattle.probe_answer.proofs.Standing.{other-samples, first-told, taken-told}
 use Rattle.probe_planes.specs.Answers.{panAt, panned, pannedAnswer, panAnswer, decoded, decodedAnswer, decodeAnswer, answerOf}
 

@@ -7,7 +7,7 @@ use lib.ListN.{length}
 use lib.Ieee.{Float}
 use Rattle.big_endian.specs.Fields.{fieldAt}
 use Rattle.big_endian.specs.Lists.{floatBytes}
-use Rattle.desk.specs.declared.Desk.{Desk}
+use Rattle.hrtf_desk.specs.declared.Desk.{Desk}
 use Rattle.hrtf_checks.specs.declared.Shape.{Shape}
 use Rattle.stamps.specs.declared.Expected.{Expected}
 use Rattle.replay.specs.declared.Replayed.{Replayed}
@@ -15,7 +15,7 @@ use Rattle.replay.specs.Promise.{ReplayOutcome, outcome}
 use Rattle.probe_request.specs.Requests.{eightAt, samplesLent, wordAt, placeIn, listAt}
 use Rattle.probe_request.proofs.Requests.{inside, place-behind, place-list, place-end, place-no-end}
 use Rattle.probe_answer.specs.Answers.{Draft, none, _then_}
-use Rattle.probe_answer.proofs.Answers.{taken, untaken, behind}
+use Rattle.probe_answer.proofs.Meets.{taken, untaken, behind}
 use Rattle.probe_hrtf.specs.Requests.{deskAt, shapeAt, Lent, lentOf, Lists, lengths, ReadLists, readFrom}
 use Rattle.probe_hrtf.proofs.Lists.{read-end, lists-standing}
 use Rattle.probe_replay.specs.Requests.{expectedAt, stampsFrom, lineEnd, outcomeOf, outcomeAt}

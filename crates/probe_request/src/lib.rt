@@ -32,7 +32,7 @@ pub fn number(args: &[u8], at: usize, count: usize) -> usize
 pub fn lent(args: &[u8], at: usize, count: usize, most: usize) -> usize
     ensures { λ r. ⌜ r ≡ lentBy (now (args .entry)) at count most ⌝ }
 {
-    checks::least(number(args, at, count), most)
+    checks::min(number(args, at, count), most)
 }
 
 // A layout: 0 Mono, 1 Stereo, 2 and 3 the surround ones, and any other number a Custom of n.

@@ -20,7 +20,7 @@ use Rattle.script.specs.Promise.{Block, block}
 use Rattle.probe_request.specs.Requests.{samplesLent, lentBy, listAt}
 use Rattle.probe_request.proofs.Requests.{inside}
 use Rattle.probe_answer.specs.Answers.{Draft, none, taking, played}
-use Rattle.probe_answer.proofs.Answers.{taken, untaken}
+use Rattle.probe_answer.proofs.Meets.{taken, untaken}
 use Rattle.probe_script.specs.Answers.{heldAt, cueAt, cuesAt, rendered, shown, renderedAnswer, fits, scriptLent, scriptAnswer}
 
 -- ---- the cues

@@ -14,7 +14,7 @@ use Rattle.hrtf_setup.specs.Arrangement.{Wanted, Arrangement, arrangement}
 use Rattle.hrtf_setup.specs.Promise.{ofLayout, ofOrder}
 use Rattle.probe_request.specs.Requests.{layoutOf, listAt, eightAt, azimuthsLent, weightsLent}
 use Rattle.probe_answer.specs.Answers.{Draft, none}
-use Rattle.probe_answer.proofs.Answers.{taken, untaken}
+use Rattle.probe_answer.proofs.Meets.{taken, untaken}
 use Rattle.probe_request.proofs.Requests.{inside, layout-read}
 use Rattle.probe_setup.specs.Answers.{shown, wantedAt, arrangedAnswer, setUpLent, setUpAnswer}
 

@@ -11,8 +11,8 @@ use Rattle.refusals.proofs.First.{answered-refused}
 use Rattle.lists.proofs.Tables.{length-tab}
 use Rattle.planes.specs.Planes.{sampleAt, framesOf, withFrames}
 use Rattle.planes.proofs.Planes.{with-frames-other, frames-read}
-use Rattle.rings.specs.State.{State}
-use Rattle.rings.specs.Held.{heldIn, Represents}
+use Rattle.hrtf_rings.specs.State.{State}
+use Rattle.hrtf_rings.specs.Held.{heldIn, Represents}
 use Rattle.stamps.specs.declared.Expected.{Expected}
 use Rattle.stamps.specs.declared.Planned.{Planned}
 use Rattle.stamps.specs.Counts.{outIn, plannedOf}

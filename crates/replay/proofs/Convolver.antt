@@ -12,20 +12,20 @@ use Rattle.checks.proofs.Checks.{equal-passes, or-off}
 use Rattle.lists.proofs.Tables.{length-tab}
 use Rattle.planes.specs.Planes.{frameAt, framesOf, withFrames}
 use Rattle.planes.proofs.Planes.{frames-read}
-use Rattle.desk.specs.declared.Desk.{Desk}
-use Rattle.history.specs.History.{heard}
-use Rattle.history.proofs.Pieces.{length-heard, two-each}
-use Rattle.rings.specs.State.{State}
-use Rattle.rings.specs.Held.{heldIn}
-use Rattle.rings.specs.Computed.{left, played, counted}
-use Rattle.rings.proofs.Blocks.{played-held}
+use Rattle.hrtf_desk.specs.declared.Desk.{Desk}
+use Rattle.hrtf_history.specs.History.{heard}
+use Rattle.hrtf_history.proofs.Pieces.{length-heard, two-each}
+use Rattle.hrtf_rings.specs.State.{State}
+use Rattle.hrtf_rings.specs.Held.{heldIn}
+use Rattle.hrtf_rings.specs.Computed.{left, played, counted}
+use Rattle.hrtf_rings.proofs.Blocks.{played-held}
 use Rattle.hrtf_checks.specs.declared.Shape.{Shape}
 use Rattle.hrtf_checks.specs.Call.{Call}
 use Rattle.hrtf_checks.specs.Refusals.{misshapen, refusalOf}
 use Rattle.hrtf_checks.proofs.Refusing.{lengths-fit, on-desk, accept}
 use Rattle.hrtf.specs.Promise.{BlockOutcome, stateAfter, Processes}
 use Rattle.hrtf.specs.Reset.{ResetOutcome, Resets}
-use Rattle.hrtf.proofs.Promised.{outcome-by, outcome-computed, reset-accepts, reset-by}
+use Rattle.hrtf.proofs.Meets.{outcome-by, outcome-computed, reset-accepts, reset-by}
 use Rattle.replay.specs.Lines.{Line, setupIn}
 use Rattle.replay.specs.Heard.{rested}
 use Rattle.replay.specs.Computed.{stateWith, Good, Kept, Resting}

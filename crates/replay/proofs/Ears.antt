@@ -6,7 +6,7 @@ use native.Mathlib.Nat.{add-zero, add-suc}
 use lib.ListN.{length}
 use lib.Ieee.{Float}
 use Rattle.lists.specs.Tables.{tab}
-use Rattle.lists.proofs.Going.{Going, going-none, going-more, going-all, going-kept}
+use Rattle.lists.proofs.LoopOverTable.{LoopOverTable, loop-none, loop-more, loop-all, loop-kept}
 use Rattle.planes.specs.Planes.{sampleAt, frameAt, withSample, withFrame, withFrames}
 use Rattle.planes.proofs.Planes.{length-with-frames}
 
@@ -25,24 +25,24 @@ abbrev behind : ℕ → ℕ → ℕ → List Float → List (List Float) → Lis
 behind stride done n out fs = withFrames out stride (done + n) fs
 
 pub record Earing (out₀ : List Float) (stride done count : ℕ) (f : ℕ → List Float) (out : List Float) (n : ℕ) : Type 0 where
-  pub laid : Going (behind stride done) f count out₀ out n
+  pub laid : LoopOverTable (behind stride done) f count out₀ out n
   pub long : length out ≡ length out₀
 
 module _ (out₀ : List Float) (stride done count : ℕ) (f : ℕ → List Float) where
-  eared : (out : List Float) (n : ℕ) → Going (behind stride done) f count out₀ out n → Earing out₀ stride done count f out n
-  eared out n g = record { laid = g; long = going-kept (behind stride done) f count out₀ length length (λ k ys fs. length-with-frames ys stride (done + k) fs) out n g }
+  eared : (out : List Float) (n : ℕ) → LoopOverTable (behind stride done) f count out₀ out n → Earing out₀ stride done count f out n
+  eared out n g = record { laid = g; long = loop-kept (behind stride done) f count out₀ length length (λ k ys fs. length-with-frames ys stride (done + k) fs) out n g }
 
   pub earing-none : Earing out₀ stride done count f out₀ 0
-  earing-none = eared out₀ 0 (going-none (behind stride done) f count out₀)
+  earing-none = eared out₀ 0 (loop-none (behind stride done) f count out₀)
 
   module _ (out : List Float) (n : ℕ) (g : Earing out₀ stride done count f out n) where
     pub earing-more : (out₁ : List Float) → n < count → out₁ ≡ withFrame out stride (done + n) (f n) → Earing out₀ stride done count f out₁ (n + 1)
     earing-more out₁ h e =
         eared out₁ (n + 1)
-        (going-more (behind stride done) f count out₀ (λ k ys y. withFrame ys stride (done + k) y)
+        (loop-more (behind stride done) f count out₀ (λ k ys y. withFrame ys stride (done + k) y)
         (λ k ys y rest. ap (λ (m : ℕ). withFrames (withFrame ys stride (done + k) y) stride m rest) (sym (add-suc done k))) out n (f n) out₁ (g .laid) h refl e)
 
     pub earing-all : count ≤ n → out ≡ withFrames out₀ stride done (tab 0 count f)
     earing-all h =
-        going-all (behind stride done) f count out₀ out n (g .laid) h
+        loop-all (behind stride done) f count out₀ out n (g .laid) h
         ∙ ap (λ (m : ℕ). withFrames out₀ stride m (tab 0 count f)) (add-zero done)

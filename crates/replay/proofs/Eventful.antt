@@ -7,11 +7,11 @@ use lib.ListN.{length, getD, length-replicate}
 use lib.Ieee.{Float}
 use Rattle.formats.specs.Floats.{zero-float}
 use Rattle.lists.proofs.Lists.{one-at-most}
-use Rattle.history.specs.Setup.{Setup, SameFilters}
-use Rattle.rings.specs.State.{State}
-use Rattle.rings.specs.Computed.{ears, late, stepped, left, played, counted}
-use Rattle.rings.proofs.Told.{step-fits}
-use Rattle.rings.proofs.Filters.{stepped-alike, played-alike, counted-alike}
+use Rattle.hrtf_history.specs.Setup.{Setup, SameFilters}
+use Rattle.hrtf_rings.specs.State.{State}
+use Rattle.hrtf_rings.specs.Computed.{ears, late, stepped, left, played, counted}
+use Rattle.hrtf_rings.proofs.RingsHoldHistory.{step-fits}
+use Rattle.hrtf_rings.proofs.Filters.{stepped-alike, played-alike, counted-alike}
 use Rattle.stamps.specs.Events.{Event, feed, restart}
 use Rattle.stamps.specs.Computed.{feedsIn}
 use Rattle.replay.specs.Lines.{Line, setupIn}

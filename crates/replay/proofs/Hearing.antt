@@ -8,17 +8,17 @@ use native.Mathlib.Omega.{arith}
 use lib.ListN.{length, getD, replicate}
 use lib.Ieee.{Float}
 use Rattle.formats.specs.Floats.{zero-float}
-use Rattle.checks.specs.Finite.{unsound}
-use Rattle.desk.specs.Numbers.{zeroed}
-use Rattle.desk.proofs.Going.{position-below}
-use Rattle.history.specs.Setup.{Setup}
-use Rattle.history.specs.Signals.{signals, damaged}
-use Rattle.rings.specs.State.{State}
-use Rattle.rings.specs.Held.{heldIn, stateOf, toGoAfter, Represents}
-use Rattle.rings.specs.Computed.{stepped}
-use Rattle.rings.proofs.Held.{Holds, holds-held, holds-put}
-use Rattle.rings.proofs.Told.{length-stored, kept, ears-told, waits-on, late-told}
-use Rattle.rings.proofs.Blocks.{left-is, left-kept, rings-room, fresh-represents}
+use Rattle.checks.specs.Finite.{hasNonfinite}
+use Rattle.hrtf_desk.specs.Numbers.{zeroed}
+use Rattle.hrtf_desk.proofs.DeskInRange.{position-below}
+use Rattle.hrtf_history.specs.Setup.{Setup}
+use Rattle.hrtf_history.specs.Signals.{signals, damaged}
+use Rattle.hrtf_rings.specs.State.{State}
+use Rattle.hrtf_rings.specs.Held.{heldIn, stateOf, toGoAfter, Represents}
+use Rattle.hrtf_rings.specs.Computed.{stepped}
+use Rattle.hrtf_rings.proofs.Held.{Holds, holds-held, holds-put}
+use Rattle.hrtf_rings.proofs.RingsHoldHistory.{length-stored, kept, ears-told, waits-on, late-told}
+use Rattle.hrtf_rings.proofs.Blocks.{left-is, left-kept, rings-room, fresh-represents}
 use Rattle.stamps.specs.Events.{Event, feed, restart}
 use Rattle.stamps.specs.Computed.{feedsIn}
 use Rattle.replay.specs.Heard.{heardBy, unsettledBy, afterBy, rested, afterEvents}
@@ -49,10 +49,10 @@ module _ (u : Setup) where
   -- ---- what a past is known by
 
   abbrev Waits : ℕ → List (List Float) → State → Type 0
-  Waits go past t = t .desk .«to_go» ≡ toGoAfter (u .L) go (map unsound past)
+  Waits go past t = t .desk .«to_go» ≡ toGoAfter (u .L) go (map hasNonfinite past)
 
   holds : (past : List (List Float)) (t : State) → Represents u past t → Holds u past t
-  holds past t r = subst (Holds u past) (sym (r .1)) (holds-put u (stateOf u (t .desk .position) (toGoAfter (u .L) 0 (map unsound past)) past .desk) past (r .0))
+  holds past t r = subst (Holds u past) (sym (r .1)) (holds-put u (stateOf u (t .desk .position) (toGoAfter (u .L) 0 (map hasNonfinite past)) past .desk) past (r .0))
 
   -- a reset stands for no past
   pub rested-represents : (t : State) → length (t .rings) ≡ u .speakers * u .L → 0 < u .L → Represents u [] (rested t)

@@ -14,11 +14,11 @@ use Rattle.refusals.proofs.Chains.{Off, none-holds}
 use Rattle.lists.specs.Tables.{tab}
 use Rattle.lists.proofs.Tests.{by-test}
 use Rattle.lists.proofs.Tables.{tab-is}
-use Rattle.checks.specs.Finite.{unsound}
+use Rattle.checks.specs.Finite.{hasNonfinite}
 use Rattle.checks.specs.Lengths.{unfit, blockUnfit}
 use Rattle.checks.proofs.Checks.{or-off, both-off, is-equal, not-outside, planes-fit, fitted}
-use Rattle.rings.specs.State.{State}
-use Rattle.hrtf_checks.specs.Refusals.{misshapen, astray, callChecks, refusalOf}
+use Rattle.hrtf_rings.specs.State.{State}
+use Rattle.hrtf_checks.specs.Refusals.{misshapen, deskOutOfRange, callChecks, refusalOf}
 use Rattle.stamps.specs.declared.Expected.{Expected}
 use Rattle.stamps.specs.declared.Planned.{Planned}
 use Rattle.stamps.specs.Counts.{outIn, plannedOf, unplannedOf, planOf}
@@ -94,7 +94,7 @@ module _ (l : Line) (x : Expected) (t : State) (ears : ℕ) where
       ap (λ (n : ℕ). picked n (plan .fits)) ej
       ∙ ap (picked (firstOf (callChecks (blockCall l 0 block own) t))) (ap (λ (p : Planned). p .fits) ep ∙ plan-fits l x ears)
       ∙ picked-first (misshapen (l .shape) (l .rows)) (outside (l .shape .length) 512) (blockUnfit (length block) (l .shape .channels) (length own) 2 64 0)
-      (listsUnfit l (length (t .rings))) (recordUnfit l x ears) (unsound (l .weights) || unsound (l .taps)) (astray (t .desk) (l .shape .length))
+      (listsUnfit l (length (t .rings))) (recordUnfit l x ears) (hasNonfinite (l .weights) || hasNonfinite (l .taps)) (deskOutOfRange (t .desk) (l .shape .length))
       (λ shaped. both-off _ _
       (planes-fit (length block) (l .shape .channels) 64 0 zero-le (eb ∙ places-are (l .shape .channels) (channels-few l shaped)))
       (planes-fit (length own) 2 64 0 zero-le eo))

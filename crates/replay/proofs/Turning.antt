@@ -13,9 +13,9 @@ use Rattle.lists.proofs.Tables.{length-tab}
 use Rattle.checks.proofs.Checks.{not-outside}
 use Rattle.planes.specs.Planes.{frameAt, framesOf, withFrames}
 use Rattle.planes.proofs.Planes.{with-frames-append}
-use Rattle.desk.specs.declared.Desk.{Desk}
-use Rattle.rings.specs.State.{State}
-use Rattle.rings.specs.Computed.{left, played, counted}
+use Rattle.hrtf_desk.specs.declared.Desk.{Desk}
+use Rattle.hrtf_rings.specs.State.{State}
+use Rattle.hrtf_rings.specs.Computed.{left, played, counted}
 use Rattle.hrtf.specs.declared.BlockAnswer.{BlockAnswer}
 use Rattle.hrtf.specs.Promise.{Processes}
 use Rattle.stamps.specs.Events.{Event, restart}
@@ -25,7 +25,7 @@ use Rattle.replay.specs.declared.gather.Gathered.{Gathered}
 use Rattle.replay.specs.Computed.{quiet, feeds, restarting, Gathers, eventsAt, Resting, restedIf, Room, Turns, leftIn, Turn, stateWith, Good, StateReady, Kept, leftBy, playedBy, countedBy}
 use Rattle.replay.specs.declared.play.Turned.{Turned}
 use Rattle.replay.specs.Lines.{Line, setupIn, recordingIn}
-use Rattle.rings.proofs.Told.{left-fits}
+use Rattle.hrtf_rings.proofs.RingsHoldHistory.{left-fits}
 use Rattle.replay.proofs.Eventful.{left-by-append, played-by-append, counted-by-append, length-played-by, counted-few, left-feeds, played-feeds, counted-feeds, feeds-feeds, length-feeds, left-by-stands}
 use Rattle.replay.proofs.Convolver.{blockCall, block-leaves, block-counts, block-sounds, speakers-few}
 
@@ -190,14 +190,14 @@ module _ {l : Line} {p : Turned} {rings ears : List Float} where
 
 -- ---- the loop: turns from the first place on, in lists that stay as long
 
-pub record Going (l : Line) (p : Turned) (rings ears block own : List Float) (r : Turned) (rings₁ ears₁ block₁ own₁ : List Float) : Type 0 where
+pub record LoopOverTable (l : Line) (p : Turned) (rings ears block own : List Float) (r : Turned) (rings₁ ears₁ block₁ own₁ : List Float) : Type 0 where
   pub turns : Turns l p rings ears r rings₁ ears₁
   pub rings-long : length rings₁ ≡ length rings
   pub ears-long : length ears₁ ≡ length ears
   pub block-long : length block₁ ≡ length block
   pub own-long : length own₁ ≡ length own
 
-module _ {l : Line} {p : Turned} {rings ears block own : List Float} {r : Turned} {rings₁ ears₁ block₁ own₁ : List Float} (g : Going l p rings ears block own r rings₁ ears₁ block₁ own₁) where
-  pub going-kept : Good l → Kept l (stateWith (p .desk) rings) block own → Kept l (stateWith (r .desk) rings₁) block₁ own₁
-  going-kept good k =
+module _ {l : Line} {p : Turned} {rings ears block own : List Float} {r : Turned} {rings₁ ears₁ block₁ own₁ : List Float} (g : LoopOverTable l p rings ears block own r rings₁ ears₁ block₁ own₁) where
+  pub loop-kept : Good l → Kept l (stateWith (p .desk) rings) block own → Kept l (stateWith (r .desk) rings₁) block₁ own₁
+  loop-kept good k =
       record { state = turns-stand (g .turns) good (k .state); blocked = g .block-long ∙ k .blocked; eared = g .own-long ∙ k .eared }

@@ -7,12 +7,12 @@ use lib.Dec.{eqb, leb, ltb}
 use lib.ListN.{length, take, getD, drop, replicate}
 use lib.Ieee.{Float}
 use Rattle.refusals.specs.Refusals.{outside}
-use Rattle.checks.specs.Finite.{unsound}
+use Rattle.checks.specs.Finite.{hasNonfinite}
 use Rattle.checks.specs.Lengths.{blockUnfit}
-use Rattle.desk.specs.declared.Desk.{Desk}
-use Rattle.history.specs.Setup.{Setup}
-use Rattle.rings.specs.State.{State, StateFits}
-use Rattle.rings.specs.Computed.{ears, late, stepped}
+use Rattle.hrtf_desk.specs.declared.Desk.{Desk}
+use Rattle.hrtf_history.specs.Setup.{Setup}
+use Rattle.hrtf_rings.specs.State.{State, StateFits}
+use Rattle.hrtf_rings.specs.Computed.{ears, late, stepped}
 use Rattle.hrtf_checks.specs.declared.Shape.{Shape}
 use Rattle.hrtf_checks.specs.Refusals.{misshapen}
 use Rattle.stamps.specs.declared.Expected.{Expected}
@@ -59,7 +59,7 @@ pub record Good (l : Line) : Type 0 where
   pub long : outside (l .shape .length) 512 ≡ false
   pub weighted : length (l .weights) ≡ l .shape .speakers * l .shape .channels
   pub tapped : length (l .taps) ≡ 2 * l .shape .rows * l .shape .length
-  pub sound : (unsound (l .weights) || unsound (l .taps)) ≡ false
+  pub sound : (hasNonfinite (l .weights) || hasNonfinite (l .taps)) ≡ false
   pub stamped : l .frames ≤ length (l .stamps)
 
 -- of the state, and of the block and its ears
@@ -88,7 +88,7 @@ countedBy u t [] = 0
 countedBy u t (feed s f ∷ es) = cond (late u t f) 1 0 + countedBy u (stepped u t f) es
 countedBy u t (restart ∷ es) = countedBy u (rested t) es
 
--- a frame of silence, as `silence` of `history`
+-- a frame of silence, as `silence` of `hrtf_history`
 abbrev pub quiet : ℕ → List Float
 quiet channels = replicate channels zero-float
 

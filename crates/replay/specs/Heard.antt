@@ -1,15 +1,15 @@
--- What is heard of events, and what they leave (document 02, E5: "Demand 3 holds for the frames as fed, between resets"). Definitions only, in the words of `history` and `rings`: silence that was put in is a
+-- What is heard of events, and what they leave (document 02, E5: "Demand 3 holds for the frames as fed, between resets"). Definitions only, in the words of `hrtf_history` and `hrtf_rings`: silence that was put in is a
 -- frame like any other, and a restart leaves what a reset of the convolver leaves. A past is the list of the signals of the frames fed since the last restart, the newest first.
 use Prim.Native.Nat.{ℕ}
 use mathlib.Core.Bool.{Bool}
 use mathlib.Core.List.{List, [], _∷_}
 use lib.Ieee.{Float}
 use Rattle.lists.specs.Tables.{count}
-use Rattle.history.specs.Setup.{Setup}
-use Rattle.history.specs.Signals.{signals}
-use Rattle.history.specs.History.{earSamples, unsettled}
-use Rattle.rings.specs.State.{State}
-use Rattle.rings.specs.Held.{afterFrames}
+use Rattle.hrtf_history.specs.Setup.{Setup}
+use Rattle.hrtf_history.specs.Signals.{signals}
+use Rattle.hrtf_history.specs.History.{earSamples, unsettled}
+use Rattle.hrtf_rings.specs.State.{State}
+use Rattle.hrtf_rings.specs.Held.{afterFrames}
 use Rattle.hrtf.specs.Reset.{resetBy}
 use Rattle.stamps.specs.Events.{Event, feed, restart}
 

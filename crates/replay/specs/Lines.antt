@@ -6,8 +6,8 @@ use lib.ListN.{getD, take}
 use lib.Ieee.{Float}
 use Rattle.lists.specs.Tables.{tab}
 use Rattle.planes.specs.Planes.{frameAt}
-use Rattle.history.specs.Setup.{Setup}
-use Rattle.history.specs.Signals.{silence}
+use Rattle.hrtf_history.specs.Setup.{Setup}
+use Rattle.hrtf_history.specs.Signals.{silence}
 use Rattle.hrtf_checks.specs.declared.Shape.{Shape}
 use Rattle.hrtf_checks.specs.Call.{setupOf}
 use Rattle.stamps.specs.declared.Expected.{Expected}

@@ -8,13 +8,13 @@ use lib.Dec.{eqb, ltb}
 use lib.ListN.{length}
 use lib.Ieee.{Float}
 use Rattle.refusals.specs.Refusals.{Check, firstOf, _when_, answered, outside}
-use Rattle.checks.specs.Finite.{unsound}
+use Rattle.checks.specs.Finite.{hasNonfinite}
 use Rattle.checks.specs.Lengths.{blockUnfit}
 use Rattle.planes.specs.Planes.{withFrames}
-use Rattle.desk.specs.declared.Desk.{Desk}
-use Rattle.rings.specs.State.{State}
-use Rattle.rings.specs.Held.{heldIn, Represents}
-use Rattle.hrtf_checks.specs.Refusals.{misshapen, astray}
+use Rattle.hrtf_desk.specs.declared.Desk.{Desk}
+use Rattle.hrtf_rings.specs.State.{State}
+use Rattle.hrtf_rings.specs.Held.{heldIn, Represents}
+use Rattle.hrtf_checks.specs.Refusals.{misshapen, deskOutOfRange}
 use Rattle.stamps.specs.declared.Expected.{Expected}
 use Rattle.stamps.specs.Arrivals.{expectedAfter}
 use Rattle.stamps.specs.Counts.{outIn, lateIn, silentIn, resetsIn}
@@ -41,8 +41,8 @@ replayChecks l x t ears =
     2 when misshapen (l .shape) (l .rows)
     ∷ 4 when outside (l .shape .length) 512
     ∷ 5 when (recordUnfit l x ears || listsUnfit l (length (t .rings)))
-    ∷ 7 when (unsound (l .weights) || unsound (l .taps))
-    ∷ 8 when astray (t .desk) (l .shape .length) ∷ []
+    ∷ 7 when (hasNonfinite (l .weights) || hasNonfinite (l .taps))
+    ∷ 8 when deskOutOfRange (t .desk) (l .shape .length) ∷ []
 
 unfoldable pub refusalIn : Line → Expected → State → ℕ → ℕ
 refusalIn l x t ears = firstOf (replayChecks l x t ears)

@@ -9,8 +9,8 @@
 // `replay` takes any input. Its promise (specs/Promise.antt) is one equation for the answer, the rings and the ears,
 // over the events of the recording, whatever the rings hold. What follows from it, demand 3 between resets and that
 // a recording may be cut anywhere, is shown in `replays`.
-use desk::Desk;
 use hrtf_checks::Shape;
+use hrtf_desk::Desk;
 use play::Turned;
 use stamps::Expected;
 use stamps::Planned;

@@ -5,8 +5,8 @@
 // `play` says by the events of the recording, one after another, what the rings, the desk and the ear planes hold
 // in the end, how many frames came out and how many of them are unsettled (specs/Computed.antt).
 use crate::gather::PLACES;
-use desk::Desk;
 use hrtf_checks::Shape;
+use hrtf_desk::Desk;
 use stamps::Expected;
 ghost use mathlib.Core.Path.{_≡_};
 ghost use Prim.Native.Nat.{_+_, _^_, _<_};

@@ -8,9 +8,9 @@ use lib.ListN.{length, replicate}
 use lib.Ieee.{Float}
 use Rattle.formats.specs.Floats.{zero-float}
 use Rattle.planes.specs.Planes.{framesOf}
-use Rattle.history.specs.Setup.{Setup, SameFilters}
-use Rattle.history.specs.Signals.{silence}
-use Rattle.rings.specs.State.{State}
+use Rattle.hrtf_history.specs.Setup.{Setup, SameFilters}
+use Rattle.hrtf_history.specs.Signals.{silence}
+use Rattle.hrtf_rings.specs.State.{State}
 use Rattle.stamps.specs.declared.Expected.{Expected}
 use Rattle.stamps.specs.declared.Arrival.{Arrival}
 use Rattle.stamps.specs.declared.Planned.{Planned}
@@ -18,7 +18,7 @@ use Rattle.stamps.specs.Arrivals.{expectedAfter}
 use Rattle.stamps.specs.Counts.{addedUp, plannedOf}
 use Rattle.stamps.specs.Events.{Recorded, Event, eventsOf, stampsOf}
 use Rattle.stamps.proofs.Recordings.{added-cut, expected-cut, events-cut}
-use Rattle.runs.specs.Runs.{sum}
+use Rattle.hrtf_runs.specs.Runs.{sum}
 use Rattle.replay.specs.declared.Replayed.{Replayed}
 use Rattle.replay.specs.Lines.{Line, setupIn, recordingIn, eventsIn}
 use Rattle.replay.specs.Promise.{ReplayOutcome, refused, stateAfter}

@@ -9,13 +9,13 @@ use lib.ListN.{length, getD, length-map}
 use lib.Ieee.{Float}
 use Rattle.lists.specs.Tables.{tab, any, count}
 use Rattle.lists.proofs.Tables.{tab-ext}
-use Rattle.checks.specs.Finite.{unsound}
-use Rattle.history.specs.Setup.{Setup}
-use Rattle.history.specs.Signals.{damaged, silence}
-use Rattle.history.specs.History.{earSamples, heard}
-use Rattle.rings.specs.State.{State}
-use Rattle.rings.specs.Held.{Represents}
-use Rattle.hrtf.proofs.Promised.{reset-number}
+use Rattle.checks.specs.Finite.{hasNonfinite}
+use Rattle.hrtf_history.specs.Setup.{Setup}
+use Rattle.hrtf_history.specs.Signals.{damaged, silence}
+use Rattle.hrtf_history.specs.History.{earSamples, heard}
+use Rattle.hrtf_rings.specs.State.{State}
+use Rattle.hrtf_rings.specs.Held.{Represents}
+use Rattle.hrtf.proofs.Meets.{reset-number}
 use Rattle.stamps.specs.declared.Expected.{Expected}
 use Rattle.stamps.specs.declared.Planned.{Planned}
 use Rattle.stamps.specs.Arrivals.{expectedAfter}
@@ -28,7 +28,7 @@ use Rattle.replay.specs.Heard.{heardBy, afterBy}
 use Rattle.replay.specs.Computed.{leftBy, playedBy, countedBy}
 use Rattle.replay.proofs.Eventful.{length-played-by}
 use Rattle.replay.proofs.Hearing.{after-by-append, played-by-heard, counted-by-told, left-by-kept}
-use Rattle.runs.specs.Runs.{sum}
+use Rattle.hrtf_runs.specs.Runs.{sum}
 use Rattle.replays.specs.Calls.{ReplayCall, Place, outcomeAt, next, taken, Alike, takenAll, soundedAll, end, counts, stampsAll, eventsAll}
 use Rattle.replays.specs.Demand.{uptoFed, frameAgo, damagedAmong, damagedCounts, firstPart, laterParts, heardParts, Replay, Agree, Counted, SameReplay, Over, ReplayDemand3}
 use Rattle.replays.proofs.Calls.{events, called, events-on, all-sounded, all-unsettled, all-left, all-expected, all-counted}
@@ -135,7 +135,7 @@ replay-settled u p q cs ds n m e =
     ap any (tab-ext 0 (u .L) (λ k. damaged u (frameAgo u (eventsAll u p cs) n k)) (λ k. damaged u (frameAgo u (eventsAll u q ds) m k)) (λ k h. ap (damaged u) (e k (omega arith))))
 
 -- (c): each call's count, `done` being what happened before it
-module _ (u : Setup) (finite : unsound (u .weights) ≡ false) where
+module _ (u : Setup) (finite : hasNonfinite (u .weights) ≡ false) where
   counts-on : (done : List (Event (List Float))) (p : Place) (cs : List ReplayCall) → Alike u p cs → Represents u (afterBy u [] done) (p .state)
       → counts (λ (r : Replayed). r .unsettled) p cs ≡ damagedCounts u (done ++ eventsAll u p cs) (feedsIn done) p cs
   counts-on done p [] a r = refl

@@ -10,12 +10,12 @@ use lib.ListN.{length, getD, take}
 use lib.Ieee.{Float}
 use Rattle.lists.specs.Tables.{tab, any}
 use Rattle.lists.proofs.Tables.{tab-ext}
-use Rattle.checks.specs.Finite.{unsound}
-use Rattle.history.specs.Setup.{Setup}
-use Rattle.history.specs.Signals.{signal, signals, damaged, silence}
-use Rattle.history.specs.History.{signalAgo, earSamples, unsettled, heard}
-use Rattle.history.proofs.Windows.{ears-same, any-ago}
-use Rattle.history.proofs.Silence.{signal-ago, damage-ago}
+use Rattle.checks.specs.Finite.{hasNonfinite}
+use Rattle.hrtf_history.specs.Setup.{Setup}
+use Rattle.hrtf_history.specs.Signals.{signal, signals, damaged, silence}
+use Rattle.hrtf_history.specs.History.{signalAgo, earSamples, unsettled, heard}
+use Rattle.hrtf_history.proofs.Windows.{ears-same, any-ago}
+use Rattle.hrtf_history.proofs.Silence.{signal-ago, damage-ago}
 use Rattle.stamps.specs.Events.{Event, feed, restart}
 use Rattle.stamps.specs.Computed.{feedsIn}
 use Rattle.stamps.proofs.Recordings.{feeds-append}
@@ -52,7 +52,7 @@ module _ (u : Setup) where
   parts-heard past (feed s f ∷ es) = ap (λ (l : List (List Float)). earSamples u (signals u f ∷ past) ∷ l) (parts-heard (signals u f ∷ past) es)
   parts-heard past (restart ∷ es) = parts-heard [] es
 
-module _ (u : Setup) (finite : unsound (u .weights) ≡ false) where
+module _ (u : Setup) (finite : hasNonfinite (u .weights) ≡ false) where
   -- ---- frames that agree
 
   signal-is : (es : Events) (n k s : ℕ) → s < u .speakers → signalAgo s (afterBy u [] (uptoFed es n)) k ≡ signal u s (frameAgo u es n k)
@@ -65,17 +65,17 @@ module _ (u : Setup) (finite : unsound (u .weights) ≡ false) where
 
   -- ---- damage among the last L
 
-  among : (es : Events) (n : ℕ) → any (take (u .L) (map unsound (afterBy u [] (uptoFed es n)))) ≡ damagedAmong u es n
+  among : (es : Events) (n : ℕ) → any (take (u .L) (map hasNonfinite (afterBy u [] (uptoFed es n)))) ≡ damagedAmong u es n
   among es n =
       any-ago (u .L) (afterBy u [] (uptoFed es n))
-      ∙ ap any (tab-ext 0 (u .L) (λ k. unsound (getD (afterBy u [] (uptoFed es n)) k [])) (λ k. damaged u (frameAgo u es n k))
-      (λ k h. ap (λ (l : List (List Float)). unsound (getD l k [])) (after-since u [] (uptoFed es n)) ∙ damage-ago u finite (fedSince [] (uptoFed es n)) k))
+      ∙ ap any (tab-ext 0 (u .L) (λ k. hasNonfinite (getD (afterBy u [] (uptoFed es n)) k [])) (λ k. damaged u (frameAgo u es n k))
+      (λ k h. ap (λ (l : List (List Float)). hasNonfinite (getD l k [])) (after-since u [] (uptoFed es n)) ∙ damage-ago u finite (fedSince [] (uptoFed es n)) k))
 
   frame-flag : (done : Events) (s : ℕ) (f : List Float) (rest : Events) → unsettled u 0 (signals u f ∷ afterBy u [] done) ≡ damagedAmong u (done ++ (feed s f ∷ rest)) (feedsIn done)
   frame-flag done s f rest =
-      ap (λ (b : Bool). any (take (u .L) (map unsound (signals u f ∷ afterBy u [] done))) || b) (lt-leb (suc (length (afterBy u [] done))) 0 (omega arith))
-      ∙ or-false (any (take (u .L) (map unsound (signals u f ∷ afterBy u [] done))))
-      ∙ ap (λ (past : List (List Float)). any (take (u .L) (map unsound past)))
+      ap (λ (b : Bool). any (take (u .L) (map hasNonfinite (signals u f ∷ afterBy u [] done))) || b) (lt-leb (suc (length (afterBy u [] done))) 0 (omega arith))
+      ∙ or-false (any (take (u .L) (map hasNonfinite (signals u f ∷ afterBy u [] done))))
+      ∙ ap (λ (past : List (List Float)). any (take (u .L) (map hasNonfinite past)))
       (sym (ap (afterBy u []) (upto-at done s f rest) ∙ after-by-append u [] done (feed s f ∷ [])))
       ∙ among (done ++ (feed s f ∷ rest)) (feedsIn done)
 

@@ -14,9 +14,9 @@ use Rattle.numbers.specs.Computed.{rounded, rootOf, rootUnits, wholeRoot, rootI
 use Rattle.planes.specs.Planes.{framesOf}
 use Rattle.planes.specs.Sums.{mixed}
 use Rattle.numbers.specs.Normalization.{inverseRoot}
-use Rattle.history.specs.History.{earOf}
-use Rattle.history.specs.Drill.{drill}
-use Rattle.rings.proofs.Blocks.{fresh}
+use Rattle.hrtf_history.specs.History.{earOf}
+use Rattle.hrtf_history.specs.Drill.{drill}
+use Rattle.hrtf_rings.proofs.Blocks.{fresh}
 use Rattle.stamps.specs.declared.Expected.{Expected}
 use Rattle.stamps.specs.declared.Expected.the-variants.{First, Stamp}
 use Rattle.stamps.specs.Arrivals.{comingBy}

@@ -13,14 +13,14 @@ use Rattle.formats.specs.Floats.{zero-float, one-float, float}
 use Rattle.numbers.specs.Computed.{rounded, rootOf, rootUnits, wholeRoot, rootIn}
 use Rattle.planes.specs.Sums.{mixed}
 use Rattle.numbers.specs.Normalization.{inverseRoot}
-use Rattle.desk.specs.Numbers.{zeroed}
-use Rattle.history.specs.History.{earOf}
-use Rattle.history.specs.Drill.{drill}
-use Rattle.history.proofs.Filters.{same-filters}
-use Rattle.rings.specs.Held.{Represents}
-use Rattle.rings.proofs.Blocks.{fresh, fresh-represents}
+use Rattle.hrtf_desk.specs.Numbers.{zeroed}
+use Rattle.hrtf_history.specs.History.{earOf}
+use Rattle.hrtf_history.specs.Drill.{drill}
+use Rattle.hrtf_history.proofs.Filters.{same-filters}
+use Rattle.hrtf_rings.specs.Held.{Represents}
+use Rattle.hrtf_rings.proofs.Blocks.{fresh, fresh-represents}
 use Rattle.hrtf.specs.Reset.{resetRefusal, Resets}
-use Rattle.hrtf.proofs.Promised.{reset-accepted}
+use Rattle.hrtf.proofs.Meets.{reset-accepted}
 use Rattle.stamps.specs.declared.Expected.the-variants.{First, Stamp}
 use Rattle.stamps.specs.Arrivals.{comingBy}
 use Rattle.replay.specs.Lines.{Line, eventsIn}
@@ -28,7 +28,7 @@ use Rattle.replay.specs.Heard.{heardBy, unsettledBy}
 use Rattle.replay.specs.Promise.{refusalIn, ReplayOutcome, outcome, Replays}
 use Rattle.replay.proofs.Hearing.{played-by-heard, counted-by-told}
 use Rattle.replay.proofs.Answering.{outcome-computed, ears-read}
-use Rattle.runs.specs.Runs.{sum}
+use Rattle.hrtf_runs.specs.Runs.{sum}
 use Rattle.replay.specs.declared.Replayed.{Replayed}
 use Rattle.planes.specs.Planes.{framesOf}
 use Rattle.replays.specs.Calls.{ReplayCall, Place, Alike, takenAll, counts}

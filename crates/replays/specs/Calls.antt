@@ -6,9 +6,9 @@ use lib.ListN.{length}
 use lib.Ieee.{Float}
 use Rattle.refusals.specs.Refusals.{answered}
 use Rattle.planes.specs.Planes.{framesOf}
-use Rattle.history.specs.Setup.{Setup, SameFilters}
-use Rattle.history.specs.Signals.{silence}
-use Rattle.rings.specs.State.{State}
+use Rattle.hrtf_history.specs.Setup.{Setup, SameFilters}
+use Rattle.hrtf_history.specs.Signals.{silence}
+use Rattle.hrtf_rings.specs.State.{State}
 use Rattle.stamps.specs.declared.Expected.{Expected}
 use Rattle.stamps.specs.Events.{Recorded, Event, eventsOf, stampsOf}
 use Rattle.replay.specs.declared.Replayed.{Replayed}

@@ -7,17 +7,17 @@ use mathlib.Core.List.{List, [], _∷_, _++_}
 use lib.ListN.{length, getD}
 use lib.Ieee.{Float}
 use Rattle.lists.specs.Tables.{tab, any, count}
-use Rattle.checks.specs.Finite.{unsound}
-use Rattle.desk.specs.declared.Desk.{Desk}
-use Rattle.history.specs.Setup.{Setup}
-use Rattle.history.specs.Signals.{damaged, silence}
-use Rattle.history.specs.History.{earSamples, heard}
-use Rattle.rings.specs.Held.{Represents}
+use Rattle.checks.specs.Finite.{hasNonfinite}
+use Rattle.hrtf_desk.specs.declared.Desk.{Desk}
+use Rattle.hrtf_history.specs.Setup.{Setup}
+use Rattle.hrtf_history.specs.Signals.{damaged, silence}
+use Rattle.hrtf_history.specs.History.{earSamples, heard}
+use Rattle.hrtf_rings.specs.Held.{Represents}
 use Rattle.hrtf.specs.Reset.{Resets}
 use Rattle.stamps.specs.Arrivals.{expectedAfter}
 use Rattle.stamps.specs.Counts.{outIn, lateIn, silentIn, resetsIn}
 use Rattle.stamps.specs.Events.{Event, feed, restart, restartsIn, fed}
-use Rattle.runs.specs.Runs.{sum}
+use Rattle.hrtf_runs.specs.Runs.{sum}
 use Rattle.replay.specs.declared.Replayed.{Replayed}
 use Rattle.replay.specs.Heard.{heardBy, unsettledBy, afterBy}
 use Rattle.replays.specs.Calls.{ReplayCall, Place, next, outcomeAt, Alike, takenAll, soundedAll, end, counts, stampsAll, eventsAll}
@@ -73,7 +73,7 @@ pub record Replay (u : Setup) (p : Place) (cs : List ReplayCall) : Type 0 where
   pub desk : Desk
   pub rings : List Float
   pub reset : Resets desk (u .speakers) (u .L) rings (record { answer = record { refusal = 0; desk = p .state .desk }; rings = p .state .rings })
-  pub finite : unsound (u .weights) ≡ false
+  pub finite : hasNonfinite (u .weights) ≡ false
   pub alike : Alike u p cs
 
 -- frame n as fed of one replay and frame m of another, and the L-1 before each since the last restart, agree

@@ -4,11 +4,11 @@ use mathlib.Core.Path.{_≡_, refl, ap}
 use mathlib.Core.List.{List}
 use lib.Ieee.{Float}
 use Rattle.refusals.proofs.First.{answered-accepted, told-is}
-use Rattle.rows.specs.Rows.{Computed, computedBy}
+use Rattle.rows.specs.Rows.{WeightsAnswer, computedBy}
 
 module _ (made lent : List Float) (r : ℕ) where
   pub computed-refusal : computedBy r made lent .refusal ≡ r
-  computed-refusal = told-is (record { refusal = 0; weights = made }) (λ n. record { refusal = n; weights = lent }) (λ (c : Computed). c .refusal) refl r refl
+  computed-refusal = told-is (record { refusal = 0; weights = made }) (λ n. record { refusal = n; weights = lent }) (λ (c : WeightsAnswer). c .refusal) refl r refl
 
   pub computed-weights : r ≡ 0 → computedBy r made lent .weights ≡ made
-  computed-weights e = ap (λ (c : Computed). c .weights) (answered-accepted (record { refusal = 0; weights = made }) (λ n. record { refusal = n; weights = lent }) r e)
+  computed-weights e = ap (λ (c : WeightsAnswer). c .weights) (answered-accepted (record { refusal = 0; weights = made }) (λ n. record { refusal = n; weights = lent }) r e)

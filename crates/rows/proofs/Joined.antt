@@ -6,8 +6,8 @@ use mathlib.Core.Path.{_≡_, sym, ap, _∙_}
 use mathlib.Core.List.{List, [], _∷_, _++_, flatten, append-assoc}
 use lib.ListN.{length, getD, take, drop, length-append, length-drop, drop-of-length-le}
 use lib.Seq.{take-append-seam, drop-append-add}
-use Rattle.rows.specs.Steps.{putRows}
-use Rattle.rows.proofs.Behind.{put-behind}
+use Rattle.rows.specs.Computed.{putRows}
+use Rattle.rows.proofs.PutAppends.{put-behind}
 
 -- each of the rows has n numbers
 abbrev pub AllOf : {A : Type 0} → ℕ → List (List A) → Type 0

@@ -1,6 +1,6 @@
 -- Laws of rows of weights that crates above cite.
 pub mod Putting
-pub mod Behind
+pub mod PutAppends
 pub mod Joined
 pub mod Answers
 pub mod Unique

@@ -1,3 +1,3 @@
 -- The words of the promise of `rows`.
 pub mod Rows
-pub mod Steps
+pub mod Computed

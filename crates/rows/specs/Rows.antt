@@ -8,10 +8,10 @@ abbrev pub scaled : Float → List Float → List Float
 scaled f = map (λ (x : Float). mul binary64 x f)
 
 -- the refusal, and what the lent weights hold
-pub record Computed : Type 0 where
+pub record WeightsAnswer : Type 0 where
   pub refusal : ℕ
   pub weights : List Float
 
 -- a refusal, what an accepted call makes of the weights, and the weights as they were lent
-abbrev pub computedBy : ℕ → List Float → List Float → Computed
+abbrev pub computedBy : ℕ → List Float → List Float → WeightsAnswer
 computedBy refusal made lent = answered refusal (record { refusal = 0; weights = made }) (λ n. record { refusal = n; weights = lent })

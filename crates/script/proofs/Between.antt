@@ -31,7 +31,7 @@ use Rattle.script.specs.Rendering.{Stretch, runsPast, checksOf, refusalO
 use Rattle.script.specs.Promise.{answerOf, Block, block}
 use Rattle.script.specs.DrillScript.{Between, pannedAt, asRendered}
 use Rattle.script.specs.Stretches.{Separate, Part, unspoken, separate, voiceIn, samplesIn, OneVoice, shapeIn, Accepted, soundedIn, Cut, soundedParts, samplesParts}
-use Rattle.script.proofs.Answers.{frameOf, played-is}
+use Rattle.script.proofs.Meets.{frameOf, played-is}
 use Rattle.script.proofs.Played.{block-is, cues-rise, out-frames}
 use Rattle.script.proofs.Divided.{rendered-append}
 

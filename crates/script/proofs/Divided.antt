@@ -16,7 +16,7 @@ use Rattle.cues.specs.Cues.{voiceAt}
 use Rattle.script.specs.Rendering.{samplesOf, spoken, rendered, playedOf}
 use Rattle.script.specs.Promise.{answerOf, Block}
 use Rattle.script.specs.Stretches.{RenderCall, stretchOf, refusalAt, next, fed, sounded, fedAll, soundedAll}
-use Rattle.script.proofs.Answers.{played-is}
+use Rattle.script.proofs.Meets.{played-is}
 use Rattle.script.proofs.Played.{out-frames}
 
 -- ---- samples in two parts

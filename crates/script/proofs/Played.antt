@@ -29,7 +29,7 @@ use Rattle.script.specs.Rendering.{Stretch, runsPast, mostCues, checksOf
 use Rattle.script.specs.Promise.{answerOf, Block, block, Renders}
 use Rattle.script.specs.DrillScript.{Before}
 use Rattle.cues.proofs.Halving.{none-left}
-use Rattle.script.proofs.Answers.{frameOf, played-is}
+use Rattle.script.proofs.Meets.{frameOf, played-is}
 
 -- a voice speaks to every plane of the order
 spoken-length : (order : ℕ) (v : Voice) (x : Float) → length (spoken order v x) ≡ channelsOfOrder order

@@ -18,7 +18,7 @@ use Rattle.cues.specs.Cues.{Voice, nobody, speaking, numbersOf, rises, voiceAt}
 use Rattle.script.specs.Rendering.{Stretch, refusalOf, spoken}
 use Rattle.cues.specs.Promise.{judgementOf, voiceOf, FindsWords, Finds}
 use Rattle.script.specs.Computed.{Speakable, Spoken, answerBy}
-use Rattle.script.proofs.Answers.{frameOf, accepted-by, all-frames, good-order, none-refused, ends-in-time, cues-rise}
+use Rattle.script.proofs.Meets.{frameOf, accepted-by, all-frames, good-order, none-refused, ends-in-time, cues-rise}
 
 module _ (s : Stretch) (cues : List Cue) (input out : List Float) (j : Judgement) (J : j ≡ judgementOf cues) (answer : Rendered) (e : answer ≡ answerBy s j (length input) (length out)) (n : ℕ) (less : n < answer .samples) where
   accepted : refusalOf s cues (length input) (length out) ≡ 0

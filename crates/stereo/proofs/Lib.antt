@@ -1,7 +1,7 @@
 -- The laws of the stereo gains. The drill table, the panner and the test program cite `Drill`.
 mod Clamp
 mod Near
-mod Answers
+mod Meets
 mod Unique
 pub mod Drill
 mod Refuted

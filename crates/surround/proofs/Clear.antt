@@ -18,7 +18,7 @@ use Rattle.channel.proofs.Counts.{by-surround}
 use Rattle.channel.specs.Layouts.{channelsOf, surround}
 use Rattle.channel.specs.declared.Layout.{Layout}
 use Rattle.channel.specs.declared.Layout.the-variants.{Surround51, Surround71}
-use Rattle.surround.specs.Formula.{rawGain, rawAt, rawGains, sumAt}
+use Rattle.surround.specs.Formula.{rawGain, rawAt, rawFormulas, sumAt}
 use Rattle.surround.proofs.Ways.{straight}
 
 abbrev least : Fraction
@@ -47,7 +47,7 @@ module _ (a : Fraction) (p m : ℕ) (A : 0 < a .over) (H : AtMost (magnitude a) 
 pub channel-in-sum : (l : Layout) (a : Fraction) (c : ℕ) → c < channelsOf l → AtMost (square (rawAt l a c)) (sumAt l a)
 channel-in-sum l a c h =
     let n = channelsOf l in
-    subst (λ (g : Fraction). AtMost (square g) (sumAt l a)) (getD-tab 0 n (rawAt l a) c (whole 0) h ∙ ap (rawAt l a) (zero-add c)) (square-in-sum (rawGains l a) c (whole 0) (omega (arith, length-tab 0 n (rawAt l a))))
+    subst (λ (g : Fraction). AtMost (square g) (sumAt l a)) (getD-tab 0 n (rawAt l a) c (whole 0) h ∙ ap (rawAt l a) (zero-add c)) (square-in-sum (rawFormulas l a) c (whole 0) (omega (arith, length-tab 0 n (rawAt l a))))
 
 module _ (a : Fraction) (A : 0 < a .over) (H : AtMost (magnitude a) (whole 180)) where
   sum-least : (l : Layout) (c : ℕ) → c < channelsOf l → Loud (rawAt l a c) → AtMost least (sumAt l a)

@@ -5,7 +5,7 @@ mod Steps
 mod Raw
 mod Clear
 mod Gains
-mod Answers
+mod Meets
 pub mod Laws
 mod Unique
 pub mod Drill

@@ -35,11 +35,11 @@ unfoldable pub rawAt : Layout → Fraction → ℕ → Fraction
 rawAt l a c = cond (lowFrequency l c) (whole 0) (rawGain a (speakerAt l c))
 
 -- of all channels, and the sum of their squares
-abbrev pub rawGains : Layout → Fraction → List Fraction
-rawGains l a = tab 0 (channelsOf l) (rawAt l a)
+abbrev pub rawFormulas : Layout → Fraction → List Fraction
+rawFormulas l a = tab 0 (channelsOf l) (rawAt l a)
 
 abbrev pub sumAt : Layout → Fraction → Fraction
-sumAt l a = sumSquares (rawGains l a)
+sumAt l a = sumSquares (rawFormulas l a)
 
 -- the LFE, the speakers that are 90 degrees away or more, and the places beyond the layout's channels
 unfoldable pub isSilent : Layout → Fraction → ℕ → Bool

@@ -14,7 +14,7 @@ use Rattle.refusals.specs.Refusals.{answered}
 use Rattle.formats.specs.Floats.{zero-float}
 use Rattle.fractions.specs.Fraction.{Fraction, number, EachWithin}
 use Rattle.fractions.proofs.Number.{number-finite}
-use Rattle.checks.specs.Finite.{unsound}
+use Rattle.checks.specs.Finite.{hasNonfinite}
 use Rattle.channel.specs.Layouts.{positions}
 use Rattle.channel.proofs.Tables.{turned, position-turned}
 use Rattle.channel.specs.Orders.{refusesOrder}
@@ -28,12 +28,12 @@ use Rattle.virtual_speaker.specs.declared.Weighted.{Weighted}
 -- the direction of a position, also of what is none
 pub use Rattle.virtual_speaker.proofs.Positions.{position-direction}
 -- the promise holds of the answer that the definition gives
-pub use Rattle.virtual_speaker.proofs.Kept.{outcome-kept}
+pub use Rattle.virtual_speaker.proofs.Meets.{outcome-kept}
 
 -- ---- what is near a number is finite
-each-sound : (k : ℕ) (xs : List Float) (qs : List Fraction) → EachWithin k xs qs → unsound xs ≡ false
+each-sound : (k : ℕ) (xs : List Float) (qs : List Fraction) → EachWithin k xs qs → hasNonfinite xs ≡ false
 each-sound k [] qs h = refl
-each-sound k (x ∷ xs) (q ∷ qs) h = ap (λ (b : Bool). not b || unsound xs) (is-true (finite x) (number-finite x (h .0 .first))) ∙ each-sound k xs qs (h .1)
+each-sound k (x ∷ xs) (q ∷ qs) h = ap (λ (b : Bool). not b || hasNonfinite xs) (is-true (finite x) (number-finite x (h .0 .first))) ∙ each-sound k xs qs (h .1)
 each-sound k (x ∷ xs) [] h = absurd h
 
 module _ (order : ℕ) (d : Direction) (answer : Weighted) (p : Promise order d answer) where
@@ -50,12 +50,12 @@ module _ (order : ℕ) (d : Direction) (answer : Weighted) (p : Promise order d 
       sixteen zero = refl
       sixteen (suc n) = refl
 
-  pub weights-sound : unsound (answer .weights) ≡ false
+  pub weights-sound : hasNonfinite (answer .weights) ≡ false
   weights-sound = go (refusalOf order d) refl (p .bits)
     where
-      go : (n : ℕ) → refusalOf order d ≡ n → answer ≡ by n → unsound (answer .weights) ≡ false
+      go : (n : ℕ) → refusalOf order d ≡ n → answer ≡ by n → hasNonfinite (answer .weights) ≡ false
       go zero h e = each-sound weightBits (answer .weights) (weightedFormulas order (number (d .azimuth)) (number (d .elevation))) (p .words h)
-      go (suc n) h e = ap (λ (s : Weighted). unsound (s .weights)) e
+      go (suc n) h e = ap (λ (s : Weighted). hasNonfinite (s .weights)) e
 
 -- ---- the positions
 turned-accepted : (z : ℤ) → T (turned z) → refusesAzimuth (ofInt binary64 z) ≡ false

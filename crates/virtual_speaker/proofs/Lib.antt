@@ -1,7 +1,7 @@
 -- What the proofs of `virtual_speaker` share. Crates above cite `Laws`.
 mod Cosines
 mod Near
-mod Kept
+mod Meets
 mod Positions
 pub mod Laws
 mod Unique

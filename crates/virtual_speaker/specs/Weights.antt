@@ -11,15 +11,15 @@ use Rattle.lists.specs.Tables.{tab}
 use Rattle.channel.specs.Orders.{channelsOfOrder}
 use Rattle.harmonics.specs.Formulas.{formulas}
 
-abbrev pub A : Fraction
-A = fraction 2406184877014388 0 (10 ^ 15)
+abbrev pub maxReAngle : Fraction
+maxReAngle = fraction 2406184877014388 0 (10 ^ 15)
 
-abbrev pub c : ℕ → Fraction
-c order = cosineSum (A ⊘ whole (2 * (order + 1)))
+abbrev pub maxReCosine : ℕ → Fraction
+maxReCosine order = cosineSum (maxReAngle ⊘ whole (2 * (order + 1)))
 
 -- in ACN order the channels of order l are those of degree l at most
 abbrev pub degreeOf : ℕ → ℕ
 degreeOf channel = cond (ltb channel (channelsOfOrder 0)) 0 (cond (ltb channel (channelsOfOrder 1)) 1 (cond (ltb channel (channelsOfOrder 2)) 2 3))
 
 abbrev pub weightedFormulas : ℕ → Fraction → Fraction → List Fraction
-weightedFormulas order a e = tab 0 16 (λ i. getD (formulas order a e) i (whole 0) ⊗ power (c order) (degreeOf i))
+weightedFormulas order a e = tab 0 16 (λ i. getD (formulas order a e) i (whole 0) ⊗ power (maxReCosine order) (degreeOf i))

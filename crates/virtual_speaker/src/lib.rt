@@ -21,7 +21,7 @@
 //   of degree 3                                               259
 ghost use mathlib.Core.Path.{_≡_};
 ghost use Rattle.virtual_speaker.specs.Weights.{degreeOf};
-ghost use Rattle.virtual_speaker.specs.Computed as Steps;
+ghost use Rattle.virtual_speaker.specs.Computed as Computed;
 ghost use Rattle.virtual_speaker.specs.Promise as Said;
 use harmonics::Direction;
 
@@ -41,7 +41,7 @@ pub struct Position {
 const COSINES: [f64; 3] = [0.8244615675902878, 0.9206590873000569, 0.9551077341301053];
 
 fn max_re_cosine(order: usize) -> f64
-    ensures { λ r. ⌜ r ≡ Steps.cosineOf order ⌝ }
+    ensures { λ r. ⌜ r ≡ Computed.cosineOf order ⌝ }
 {
     if order == 1 {
         return COSINES[0];
@@ -54,7 +54,7 @@ fn max_re_cosine(order: usize) -> f64
 
 // The weight of a channel, by its degree: l² to (l+1)² - 1 are of degree l.
 fn weight(c: f64, channel: usize) -> f64
-    ensures { λ r. ⌜ r ≡ Steps.weight c (degreeOf channel) ⌝ }
+    ensures { λ r. ⌜ r ≡ Computed.weight c (degreeOf channel) ⌝ }
 {
     if channel < 1 {
         return 1.0;
@@ -70,7 +70,7 @@ fn weight(c: f64, channel: usize) -> f64
 
 // Each coefficient times its weight.
 fn weigh(coeffs: [f64; 16], c: f64) -> [f64; 16]
-    ensures { λ r. ⌜ r ≡ Steps.weigh c coeffs ⌝ }
+    ensures { λ r. ⌜ r ≡ Computed.weigh c coeffs ⌝ }
 {
     let mut weights = [0.0; 16];
     let mut i = 0;

@@ -33,8 +33,8 @@ returns-3 : tie.Need-returns-3
 returns-3 c =
     sym (cond-false _ _ (few-outputs (c .before .before .before .before)) ∙ cond-false _ _ (few-channels (c .before .before)) ∙ cond-true _ _ (sym (c .before .is-misfit .ensures) ∙ c .if3 .taken))
 
-unsound-f64-requires : tie.Need-unsound-f64-requires
-unsound-f64-requires c κs = search needs
+has-nonfinite-f64-requires : tie.Need-has-nonfinite-f64-requires
+has-nonfinite-f64-requires c κs = search needs
 
 returns-4 : tie.Need-returns-4
 returns-4 c =
@@ -42,7 +42,7 @@ returns-4 c =
     (cond-false _ _ (few-outputs (c .before .before .before .before .before .before))
     ∙ cond-false _ _ (few-channels (c .before .before .before .before))
     ∙ cond-false _ _ (sym (c .before .before .before .is-misfit .ensures) ∙ c .before .before .if3 .left)
-    ∙ cond-true _ _ (sym (c .before .unsound-f64 .ensures) ∙ c .if4 .taken))
+    ∙ cond-true _ _ (sym (c .before .has-nonfinite-f64 .ensures) ∙ c .if4 .taken))
 
 returns-5 : tie.Need-returns-5
 returns-5 c =
@@ -50,7 +50,7 @@ returns-5 c =
     (cond-false _ _ (few-outputs (c .before .before .before .before .before .before))
     ∙ cond-false _ _ (few-channels (c .before .before .before .before))
     ∙ cond-false _ _ (sym (c .before .before .before .is-misfit .ensures) ∙ c .before .before .if3 .left)
-    ∙ cond-false _ _ (sym (c .before .unsound-f64 .ensures) ∙ c .if4 .left))
+    ∙ cond-false _ _ (sym (c .before .has-nonfinite-f64 .ensures) ∙ c .if4 .left))
 
 pub refusal-of-spec : {M : Type 1} → statement M
 refusal-of-spec =
@@ -62,6 +62,6 @@ refusal-of-spec =
     returns-2
     is-misfit-requires
     returns-3
-    unsound-f64-requires
+    has-nonfinite-f64-requires
     returns-4
     returns-5)

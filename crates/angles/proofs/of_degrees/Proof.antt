@@ -4,7 +4,7 @@ use lib.Ieee.{ofBits, ofInt}
 use borrow.Author.Needs.{needs}
 use Rattle.angles.specs.Computed.{waveOf, waveAt}
 use Rattle.angles.specs.declared.Wave.{Wave}
-use Rattle.angles.proofs.Kept.{inside, placed, accepted-kept, refused-kept}
+use Rattle.angles.proofs.Meets.{inside, placed, accepted-kept, refused-kept}
 use Rattle.angles.proofs.of_degrees.Statement.{statement}
 use Rattle.angles.proofs.of_degrees.Tie as tie
 

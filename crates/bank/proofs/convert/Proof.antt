@@ -15,9 +15,9 @@ use Rattle.bank_form.specs.File.{IsFile}
 use Rattle.bank_form.proofs.Exact.{Keeps, keeps, is-file}
 use Rattle.bank.specs.Reading.{ReadOutcome, readBank, bankFound}
 use Rattle.bank.specs.Conversion.{convertedBank}
-use Rattle.bank.proofs.Answers.{Lists}
+use Rattle.bank.proofs.Meets.{Lists}
 use Rattle.bank.proofs.Converting.{version-told, version-right, right-version}
-use Rattle.bank.proofs.Promises.{is-accepted, read-is}
+use Rattle.bank.proofs.Laws.{is-accepted, read-is}
 use Rattle.bank.proofs.Fill.{taps-reach}
 use borrow.Author.Needs.{needs}
 use Rattle.bank.proofs.convert.Statement.{statement}

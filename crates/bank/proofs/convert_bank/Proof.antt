@@ -7,7 +7,7 @@ use Rattle.bank_form.specs.declared.Fault.{Fault}
 use Rattle.bank_form.specs.Bank.{Bank}
 use Rattle.bank_form.specs.Encoding.{encode}
 use Rattle.bank_form.proofs.RoundTrip.{length-encode}
-use Rattle.bank.proofs.Answers.{wrote}
+use Rattle.bank.proofs.Meets.{wrote}
 use Rattle.bank.proofs.Converting.{raised, raised-told, other-length, right-length}
 use Rattle.bank.proofs.Fill.{placed-all}
 use borrow.Author.Needs.{needs}

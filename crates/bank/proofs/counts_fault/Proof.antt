@@ -1,7 +1,7 @@
 -- `bank::counts_fault` meets its contract. Assumes nothing.
 use mathlib.Core.Path.{sym, _∙_}
 use borrow.Author.Tests.{not-true, not-false}
-use Rattle.bank.proofs.Answers.{rows-wrong, length-wrong, counts-right}
+use Rattle.bank.proofs.Meets.{rows-wrong, length-wrong, counts-right}
 use borrow.Author.Needs.{needs}
 use Rattle.bank.proofs.counts_fault.Statement.{statement}
 use Rattle.bank.proofs.counts_fault.Tie as tie

@@ -1,6 +1,6 @@
 -- `bank::lengths_fit` meets its contract. Assumes nothing.
 use borrow.Author.Tests.{not-true, not-false}
-use Rattle.bank.proofs.Answers.{other-elevations, other-taps, short-file, bytes-fit, same-length}
+use Rattle.bank.proofs.Meets.{other-elevations, other-taps, short-file, bytes-fit, same-length}
 use borrow.Author.Needs.{needs}
 use Rattle.bank.proofs.lengths_fit.Statement.{statement}
 use Rattle.bank.proofs.lengths_fit.Tie as tie

@@ -10,7 +10,7 @@ use Rattle.bank_form.specs.declared.Fault.{Fault}
 use Rattle.bank_form.specs.Fault.{rowsIn, lengthIn, faultIn}
 use Rattle.bank_form.specs.FaultLaws.{suffices}
 use Rattle.bank_form.proofs.Walk.{whole}
-use Rattle.bank.proofs.Answers.{ListsFit, lists-are, reads-start, lists-lent, start-lent, broken, accepted, filled}
+use Rattle.bank.proofs.Meets.{ListsFit, lists-are, reads-start, lists-lent, start-lent, broken, accepted, filled}
 use borrow.Author.Needs.{needs}
 use Rattle.bank.proofs.read_start.Statement.{statement}
 use Rattle.bank.proofs.read_start.Tie as tie

@@ -8,7 +8,7 @@ use Rattle.bank_form.specs.declared.Fault.{Fault}
 use Rattle.bank_form.specs.Bank.{Bank, rows}
 use Rattle.bank_form.specs.Version.{largest}
 use Rattle.bank_form.proofs.RoundTrip.{length-encode}
-use Rattle.bank.proofs.Answers.{Lent, lent, unlent, breaks, counts-fit, counts-break}
+use Rattle.bank.proofs.Meets.{Lent, lent, unlent, breaks, counts-fit, counts-break}
 use borrow.Author.Needs.{needs}
 use Rattle.bank.proofs.write.Statement.{statement}
 use Rattle.bank.proofs.write.Tie as tie

@@ -15,7 +15,7 @@ use Rattle.bank_form.specs.WriteFault.{writeFault}
 use Rattle.bank_form.proofs.Writer.{writer-as-reader}
 use Rattle.bank_form.proofs.RoundTrip.{Counted, length-encode, rows-reach}
 use Rattle.bank.proofs.Converting.{holds-2}
-use Rattle.bank.proofs.Answers.{Lent, breaks, written, wrote}
+use Rattle.bank.proofs.Meets.{Lent, breaks, written, wrote}
 use Rattle.bank.proofs.Fill.{made-file, copied}
 use borrow.Author.Needs.{needs}
 use Rattle.bank.proofs.write_checked.Statement.{statement}

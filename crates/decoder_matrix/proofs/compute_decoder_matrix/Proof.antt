@@ -7,14 +7,14 @@ use denote.Ref.{now}
 use borrow.Author.Tests.{not-true, not-false}
 use lib.Dec.{eqb}
 use lib.ListN.{length}
-use Rattle.rows.specs.Steps.{putRows}
+use Rattle.rows.specs.Computed.{putRows}
 use Rattle.channel.specs.Layouts.{channelsOf, uncountable}
 use Rattle.channel.specs.Orders.{refusesOrder, channelsOfOrder}
 use Rattle.refusals.proofs.Counts.{not-outside}
 use Rattle.channel.proofs.Counts.{counted-well, counted-ill}
 use Rattle.channel.proofs.Orders.{few-channels, order-well, order-ill}
 use Rattle.decoder_matrix.specs.Matrix.{rowsBy}
-use Rattle.decoder_matrix.proofs.Answers.{order-refused, layout-refused, length-refused, matrix-put}
+use Rattle.decoder_matrix.proofs.Meets.{order-refused, layout-refused, length-refused, matrix-put}
 use borrow.Author.Needs.{needs}
 use Rattle.decoder_matrix.proofs.compute_decoder_matrix.Statement.{statement}
 use Rattle.decoder_matrix.proofs.compute_decoder_matrix.Tie as tie

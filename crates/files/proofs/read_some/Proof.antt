@@ -7,8 +7,8 @@ use borrow.Author.Needs.{needs}
 use Rattle.files.proofs.read_some.Statement.{statement}
 use Rattle.files.proofs.read_some.Tie as tie
 
-least-requires : tie.Need-least-requires
-least-requires c κs = search needs
+min-requires : tie.Need-min-requires
+min-requires c κs = search needs
 
 end-of-read-requires : tie.Need-end-of-read-requires
 end-of-read-requires c κs = search needs
@@ -37,15 +37,15 @@ returns c =
     let ended = read .before .before in
     let least = ended .before in
     let args = least .before .before .args in
-    behind (args .held) (args .limit) (least .least .result) _ _ _ _ (least .least .ensures) (search needs) (omega (arith, read .read-into .ensures .0, ended .end-of-read .ensures)) (search needs)
+    behind (args .held) (args .limit) (least .min .result) _ _ _ _ (least .min .ensures) (search needs) (omega (arith, read .read-into .ensures .0, ended .end-of-read .ensures)) (search needs)
     (read .read-into .ensures .1)
-    (take-put (least .least .result) (ended .end-of-read .result - least .least .result) (args .bytes .now) (read .read-into .last .1 .0) (omega (arith, least .least .ensures)))
+    (take-put (least .min .result) (ended .end-of-read .result - least .min .result) (args .bytes .now) (read .read-into .last .1 .0) (omega (arith, least .min .ensures)))
 
 pub read-some-spec : {M : Type 1} → statement M
 read-some-spec =
     tie.close
     (tie.spec
-    least-requires
+    min-requires
     end-of-read-requires
     sub-read-into
     part-read-into-start

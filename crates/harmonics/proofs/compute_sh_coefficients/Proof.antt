@@ -1,7 +1,7 @@
 -- `harmonics::compute_sh_coefficients` meets its contract. Assumes nothing.
 use mathlib.Core.Path.{sym, ap, _∙_}
 use Rattle.harmonics.specs.Computed.{gainsOf}
-use Rattle.harmonics.proofs.Kept.{order-refused, direction-refused, accepted-kept}
+use Rattle.harmonics.proofs.Meets.{order-refused, direction-refused, accepted-kept}
 use borrow.Author.Needs.{needs}
 use Rattle.harmonics.proofs.compute_sh_coefficients.Statement.{statement}
 use Rattle.harmonics.proofs.compute_sh_coefficients.Tie as tie

@@ -4,15 +4,15 @@ use mathlib.Core.List.{List}
 use Prim.Native.Nat.{ℕ}
 use lib.Ieee.{Float}
 use denote.Ref.{now}
-use Rattle.desk.specs.declared.Desk.{Desk}
-use Rattle.rings.specs.State.{State}
+use Rattle.hrtf_desk.specs.declared.Desk.{Desk}
+use Rattle.hrtf_rings.specs.State.{State}
 use Rattle.hrtf_checks.specs.declared.Shape.{Shape}
 use Rattle.hrtf_checks.specs.Call.{Call}
 use Rattle.hrtf_checks.specs.Refusals.{refusalOf}
 use Rattle.hrtf_checks.proofs.Refusing.{some-speakers, taps-finite, ready}
 use Rattle.hrtf.specs.declared.frames.Scaled.{Scaled}
 use Rattle.hrtf.specs.Computed.{scaledOf, ScaledReady, computed, BlockPlayed}
-use Rattle.hrtf.proofs.Promised.{promised-refused, promised-accepted}
+use Rattle.hrtf.proofs.Meets.{promised-refused, promised-accepted}
 use borrow.Author.Needs.{needs}
 use Rattle.hrtf.proofs.process.Statement.{statement}
 use Rattle.hrtf.proofs.process.Tie as tie

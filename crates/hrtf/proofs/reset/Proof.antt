@@ -2,7 +2,7 @@
 use mathlib.Core.Path.{sym, ap, _∙_}
 use mathlib.Core.Bool.{not}
 use denote.Ref.{now}
-use Rattle.hrtf.proofs.Promised.{reset-refuses, reset-accepts, reset-refused, reset-accepted}
+use Rattle.hrtf.proofs.Meets.{reset-refuses, reset-accepts, reset-refused, reset-accepted}
 use borrow.Author.Needs.{needs}
 use Rattle.hrtf.proofs.reset.Statement.{statement}
 use Rattle.hrtf.proofs.reset.Tie as tie

@@ -23,11 +23,11 @@ is-outside-requires-3 c κs = search needs
 returns-3 : tie.Need-returns-3
 returns-3 c = or-next _ _ _ (sym (c .before .before .before .before .before .is-outside .ensures) ∙ c .before .before .before .before .if1 .left) (or-next _ _ _ (sym (c .before .before .before .is-outside2 .ensures) ∙ c .before .before .if2 .left) (or-yes _ _ (sym (c .before .is-outside3 .ensures) ∙ c .if3 .taken)))
 
-is-rowless-requires : tie.Need-is-rowless-requires
-is-rowless-requires c κs = not-outside (c .before .before .before .before .before .before .args .shape .speakers) 8 (sym (c .before .before .before .before .before .is-outside .ensures) ∙ c .before .before .before .before .if1 .left) .1
+is-row-missing-requires : tie.Need-is-row-missing-requires
+is-row-missing-requires c κs = not-outside (c .before .before .before .before .before .before .args .shape .speakers) 8 (sym (c .before .before .before .before .before .is-outside .ensures) ∙ c .before .before .before .before .if1 .left) .1
 
 returns-4 : tie.Need-returns-4
-returns-4 c = or-next _ _ _ (sym (c .before .before .before .before .before .before .is-outside .ensures) ∙ c .before .before .before .before .before .if1 .left) (or-next _ _ _ (sym (c .before .before .before .before .is-outside2 .ensures) ∙ c .before .before .before .if2 .left) (or-next _ _ _ (sym (c .before .before .is-outside3 .ensures) ∙ c .before .if3 .left) (c .is-rowless .ensures)))
+returns-4 c = or-next _ _ _ (sym (c .before .before .before .before .before .before .is-outside .ensures) ∙ c .before .before .before .before .before .if1 .left) (or-next _ _ _ (sym (c .before .before .before .before .is-outside2 .ensures) ∙ c .before .before .before .if2 .left) (or-next _ _ _ (sym (c .before .before .is-outside3 .ensures) ∙ c .before .if3 .left) (c .is-row-missing .ensures)))
 
 pub is-misshapen-spec : {M : Type 1} → statement M
 is-misshapen-spec =
@@ -39,5 +39,5 @@ is-misshapen-spec =
     returns-2
     is-outside-requires-3
     returns-3
-    is-rowless-requires
+    is-row-missing-requires
     returns-4)

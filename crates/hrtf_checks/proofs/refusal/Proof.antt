@@ -26,26 +26,26 @@ is-misfit-requires c κs = let a = c .before .before .before .before .before .be
 returns-3 : tie.Need-returns-3
 returns-3 c = refuse _ _ 2 (sym (c .before .before .before .before .before .is-misshapen .ensures) ∙ c .before .before .before .before .if1 .left, (sym (c .before .before .before .is-outside .ensures) ∙ c .before .before .if2 .left, sym (c .before .is-misfit .ensures) ∙ c .if3 .taken))
 
-unsound-f64-requires : tie.Need-unsound-f64-requires
-unsound-f64-requires c κs = search needs
+has-nonfinite-f64-requires : tie.Need-has-nonfinite-f64-requires
+has-nonfinite-f64-requires c κs = search needs
 
 returns-4 : tie.Need-returns-4
-returns-4 c = refuse _ _ 3 (sym (c .before .before .before .before .before .before .before .is-misshapen .ensures) ∙ c .before .before .before .before .before .before .if1 .left, (sym (c .before .before .before .before .before .is-outside .ensures) ∙ c .before .before .before .before .if2 .left, (sym (c .before .before .before .is-misfit .ensures) ∙ c .before .before .if3 .left, sym (or-yes _ _ (sym (c .before .unsound-f64 .ensures) ∙ c .if4 .taken)))))
+returns-4 c = refuse _ _ 3 (sym (c .before .before .before .before .before .before .before .is-misshapen .ensures) ∙ c .before .before .before .before .before .before .if1 .left, (sym (c .before .before .before .before .before .is-outside .ensures) ∙ c .before .before .before .before .if2 .left, (sym (c .before .before .before .is-misfit .ensures) ∙ c .before .before .if3 .left, sym (or-yes _ _ (sym (c .before .has-nonfinite-f64 .ensures) ∙ c .if4 .taken)))))
 
-unsound-f32-requires : tie.Need-unsound-f32-requires
-unsound-f32-requires c κs = search needs
+has-nonfinite-f32-requires : tie.Need-has-nonfinite-f32-requires
+has-nonfinite-f32-requires c κs = search needs
 
 returns-5 : tie.Need-returns-5
-returns-5 c = refuse _ _ 3 (sym (c .before .before .before .before .before .before .before .before .before .is-misshapen .ensures) ∙ c .before .before .before .before .before .before .before .before .if1 .left, (sym (c .before .before .before .before .before .before .before .is-outside .ensures) ∙ c .before .before .before .before .before .before .if2 .left, (sym (c .before .before .before .before .before .is-misfit .ensures) ∙ c .before .before .before .before .if3 .left, sym (or-next _ _ true (sym (c .before .before .before .unsound-f64 .ensures) ∙ c .before .before .if4 .left) (sym (sym (c .before .unsound-f32 .ensures) ∙ c .if5 .taken))))))
+returns-5 c = refuse _ _ 3 (sym (c .before .before .before .before .before .before .before .before .before .is-misshapen .ensures) ∙ c .before .before .before .before .before .before .before .before .if1 .left, (sym (c .before .before .before .before .before .before .before .is-outside .ensures) ∙ c .before .before .before .before .before .before .if2 .left, (sym (c .before .before .before .before .before .is-misfit .ensures) ∙ c .before .before .before .before .if3 .left, sym (or-next _ _ true (sym (c .before .before .before .has-nonfinite-f64 .ensures) ∙ c .before .before .if4 .left) (sym (sym (c .before .has-nonfinite-f32 .ensures) ∙ c .if5 .taken))))))
 
-is-astray-requires : tie.Need-is-astray-requires
-is-astray-requires c κs = search needs
+is-desk-out-of-range-requires : tie.Need-is-desk-out-of-range-requires
+is-desk-out-of-range-requires c κs = search needs
 
 returns-6 : tie.Need-returns-6
-returns-6 c = refuse _ _ 4 (sym (c .before .before .before .before .before .before .before .before .before .before .before .is-misshapen .ensures) ∙ c .before .before .before .before .before .before .before .before .before .before .if1 .left, (sym (c .before .before .before .before .before .before .before .before .before .is-outside .ensures) ∙ c .before .before .before .before .before .before .before .before .if2 .left, (sym (c .before .before .before .before .before .before .before .is-misfit .ensures) ∙ c .before .before .before .before .before .before .if3 .left, (sym (or-next _ _ false (sym (c .before .before .before .before .before .unsound-f64 .ensures) ∙ c .before .before .before .before .if4 .left) (sym (sym (c .before .before .before .unsound-f32 .ensures) ∙ c .before .before .if5 .left))), sym (c .before .is-astray .ensures) ∙ c .if6 .taken))))
+returns-6 c = refuse _ _ 4 (sym (c .before .before .before .before .before .before .before .before .before .before .before .is-misshapen .ensures) ∙ c .before .before .before .before .before .before .before .before .before .before .if1 .left, (sym (c .before .before .before .before .before .before .before .before .before .is-outside .ensures) ∙ c .before .before .before .before .before .before .before .before .if2 .left, (sym (c .before .before .before .before .before .before .before .is-misfit .ensures) ∙ c .before .before .before .before .before .before .if3 .left, (sym (or-next _ _ false (sym (c .before .before .before .before .before .has-nonfinite-f64 .ensures) ∙ c .before .before .before .before .if4 .left) (sym (sym (c .before .before .before .has-nonfinite-f32 .ensures) ∙ c .before .before .if5 .left))), sym (c .before .is-desk-out-of-range .ensures) ∙ c .if6 .taken))))
 
 returns-7 : tie.Need-returns-7
-returns-7 c = accept _ _ (sym (c .before .before .before .before .before .before .before .before .before .before .before .is-misshapen .ensures) ∙ c .before .before .before .before .before .before .before .before .before .before .if1 .left, (sym (c .before .before .before .before .before .before .before .before .before .is-outside .ensures) ∙ c .before .before .before .before .before .before .before .before .if2 .left, (sym (c .before .before .before .before .before .before .before .is-misfit .ensures) ∙ c .before .before .before .before .before .before .if3 .left, (sym (or-next _ _ false (sym (c .before .before .before .before .before .unsound-f64 .ensures) ∙ c .before .before .before .before .if4 .left) (sym (sym (c .before .before .before .unsound-f32 .ensures) ∙ c .before .before .if5 .left))), (sym (c .before .is-astray .ensures) ∙ c .if6 .left, tt)))))
+returns-7 c = accept _ _ (sym (c .before .before .before .before .before .before .before .before .before .before .before .is-misshapen .ensures) ∙ c .before .before .before .before .before .before .before .before .before .before .if1 .left, (sym (c .before .before .before .before .before .before .before .before .before .is-outside .ensures) ∙ c .before .before .before .before .before .before .before .before .if2 .left, (sym (c .before .before .before .before .before .before .before .is-misfit .ensures) ∙ c .before .before .before .before .before .before .if3 .left, (sym (or-next _ _ false (sym (c .before .before .before .before .before .has-nonfinite-f64 .ensures) ∙ c .before .before .before .before .if4 .left) (sym (sym (c .before .before .before .has-nonfinite-f32 .ensures) ∙ c .before .before .if5 .left))), (sym (c .before .is-desk-out-of-range .ensures) ∙ c .if6 .left, tt)))))
 
 pub refusal-spec : {M : Type 1} → statement M
 refusal-spec =
@@ -57,10 +57,10 @@ refusal-spec =
     returns-2
     is-misfit-requires
     returns-3
-    unsound-f64-requires
+    has-nonfinite-f64-requires
     returns-4
-    unsound-f32-requires
+    has-nonfinite-f32-requires
     returns-5
-    is-astray-requires
+    is-desk-out-of-range-requires
     returns-6
     returns-7)

@@ -6,8 +6,8 @@ use denote.Ref.{now}
 use lib.IntN.{ℤ}
 use mir.Syntax.{w16}
 use mir.Val.{toZ, ofZ}
-use Rattle.row_choice.specs.declared.Choice.{Choice}
-use Rattle.row_choice.specs.Choice.{choiceOf}
+use Rattle.bank_choice.specs.declared.Choice.{Choice}
+use Rattle.bank_choice.specs.Choice.{choiceOf}
 use Rattle.hrtf_setup.specs.Speakers.{speakerElevation}
 use Rattle.hrtf_setup.proofs.Standing.{held-16}
 use Rattle.hrtf_setup.proofs.Choosing.{Choosing, choosing-none, choosing-more, choosing-all}

@@ -9,7 +9,7 @@ use lib.Ieee.Compare.{differs-from-itself}
 use denote.Floats.{passes}
 use Rattle.numbers.specs.Computed.{rounded, narrowed}
 use Rattle.numbers.specs.Conversions.{Narrows}
-use Rattle.numbers.specs.Promises.{Narrowed}
+use Rattle.numbers.specs.Promise.{Narrowed}
 use Rattle.formats.proofs.Patterns.{no-nan, pattern-no-nan}
 use Rattle.numbers.proofs.Narrows.{rounded-narrows}
 use Rattle.numbers.proofs.Narrowing.{rounded-no-nan, rounded-fits}

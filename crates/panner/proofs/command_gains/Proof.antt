@@ -1,5 +1,5 @@
 -- `panner::command_gains` meets its contract: `Answers`. Assumes nothing.
-use Rattle.panner.proofs.Answers.{gives-refused, gives-gains}
+use Rattle.panner.proofs.Meets.{gives-refused, gives-gains}
 use borrow.Author.Needs.{needs}
 use lib.Ieee.{ofBits, ofInt}
 use Rattle.panner.proofs.command_gains.Statement.{statement}

@@ -1,7 +1,7 @@
 -- `panner::gains_of` meets its contract: each arm knows which command it is. Assumes nothing.
 use mathlib.Core.Path.{sym, subst}
 use Rattle.panner.specs.declared.Command.{Command}
-use Rattle.panner.specs.Steps.{Commands}
+use Rattle.panner.specs.Computed.{Commands}
 use borrow.Author.Needs.{needs}
 use Rattle.panner.proofs.gains_of.Statement.{statement}
 use Rattle.panner.proofs.gains_of.Tie as tie

@@ -17,19 +17,19 @@ Inv-loop out₀ stride from to planes gains input few n₀ out n = Parting out�
 abbrev μ-loop : tie.MeasureT-loop
 μ-loop out₀ stride from to planes gains input few n₀ out n = to - n
 
-least-requires : tie.Need-least-requires Inv-loop μ-loop
-least-requires c κs = tt
+min-requires : tie.Need-min-requires Inv-loop μ-loop
+min-requires c κs = tt
 
 loop-holds : tie.Need-loop-holds Inv-loop μ-loop
 loop-holds c =
     let a = c .before .before .before .args in
-    parting-none (now (a .out)) (a .stride) (a .from) (a .to) (λ k. panned (c .least .result) (a .gains) (sampleAt (now (a .input)) (a .stride) 0 k))
+    parting-none (now (a .out)) (a .stride) (a .from) (a .to) (λ k. panned (c .min .result) (a .gains) (sampleAt (now (a .input)) (a .stride) 0 k))
 
 sample-requires : tie.Need-sample-requires Inv-loop μ-loop
 sample-requires c κs = tt
 
 pan-requires : tie.Need-pan-requires Inv-loop μ-loop
-pan-requires c κs = omega (arith, c .before .before .before .before .least .ensures)
+pan-requires c κs = omega (arith, c .before .before .before .before .min .ensures)
 
 add-n : tie.Need-add-n Inv-loop μ-loop
 add-n c = omega arith
@@ -40,7 +40,7 @@ loop-less c = omega arith
 loop-again : tie.Need-loop-again Inv-loop μ-loop
 loop-again c =
     let a = c .before .before .before .before .before .before .before .before .before .before .args in
-    let few = c .before .before .before .before .before .before .before .least .result in
+    let few = c .before .before .before .before .before .before .before .min .result in
     let at = c .before .before .before .before .before .before .loop in
     let x = c .before .before .before .sample in
     parting-more (now (a .out)) (a .stride) (a .from) (a .to) (λ k. panned few (a .gains) (sampleAt (now (a .input)) (a .stride) 0 k)) (at .out) (at .n) (at .inv) (c .before .before .pan .last .0)
@@ -54,7 +54,7 @@ returns : tie.Need-returns Inv-loop μ-loop
 returns c =
     let a = c .before .before .before .before .before .args in
     let at = c .before .loop in
-    let few = c .before .before .least in
+    let few = c .before .before .min in
     parting-all (now (a .out)) (a .stride) (a .from) (a .to) (λ k. panned (few .result) (a .gains) (sampleAt (now (a .input)) (a .stride) 0 k)) (at .out) (at .n) (at .inv) (c .loop-test .left)
     ∙ ap (λ (m : ℕ). withFrames (now (a .out)) (a .stride) (a .from) (tab (a .from) (a .to - a .from) (λ k. panned m (a .gains) (sampleAt (now (a .input)) (a .stride) 0 k)))) (few .ensures)
 
@@ -64,7 +64,7 @@ play-part-spec =
     (tie.spec
     Inv-loop
     μ-loop
-    least-requires
+    min-requires
     loop-holds
     sample-requires
     pan-requires

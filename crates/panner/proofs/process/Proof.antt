@@ -2,7 +2,7 @@
 use mathlib.Core.Path.{sym, _∙_}
 use native.Mathlib.Omega.{arith}
 use denote.Ref.{now}
-use Rattle.panner.proofs.Answers.{by-command, by-length, by-frames, plays}
+use Rattle.panner.proofs.Meets.{by-command, by-length, by-frames, plays}
 use borrow.Author.Needs.{needs}
 use Rattle.panner.proofs.process.Statement.{statement}
 use Rattle.panner.proofs.process.Tie as tie

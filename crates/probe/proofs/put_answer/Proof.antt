@@ -1,7 +1,7 @@
 -- `probe::put_answer` meets its contract: by the operation. Assumes nothing.
 use mathlib.Core.Path.{_∙_}
 use native.Mathlib.Omega.{arith}
-use Rattle.probe.proofs.Answers.{of-numbers, of-bank, of-gains, of-matrix, of-planes, of-hrtf, of-setup, of-script, of-replay, of-conversions, of-sum, of-none}
+use Rattle.probe.proofs.Meets.{of-numbers, of-bank, of-gains, of-matrix, of-planes, of-hrtf, of-setup, of-script, of-replay, of-conversions, of-sum, of-none}
 use borrow.Author.Needs.{needs}
 use Rattle.probe.proofs.put_answer.Statement.{statement}
 use Rattle.probe.proofs.put_answer.Tie as tie

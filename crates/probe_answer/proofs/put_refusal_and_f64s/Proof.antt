@@ -1,6 +1,6 @@
 -- `probe_answer::put_refusal_and_f64s` meets its contract: one part behind the other. Assumes nothing.
 use Rattle.probe_answer.specs.Answers.{refusalAndDoubles}
-use Rattle.probe_answer.proofs.Answers.{behind}
+use Rattle.probe_answer.proofs.Meets.{behind}
 use borrow.Author.Needs.{needs}
 use Rattle.probe_answer.proofs.put_refusal_and_f64s.Statement.{statement}
 use Rattle.probe_answer.proofs.put_refusal_and_f64s.Tie as tie

@@ -1,5 +1,5 @@
 -- `probe_bank::answer` meets its contract: by the operation. Assumes nothing.
-use Rattle.probe_answer.proofs.Answers.{chosen}
+use Rattle.probe_answer.proofs.Meets.{chosen}
 use Rattle.probe_bank.specs.Answers.{answerOf}
 use Rattle.probe_bank.proofs.Answering.{of-none}
 use borrow.Author.Needs.{needs}

@@ -6,7 +6,7 @@ use lib.Seq.{length-take-le}
 use Rattle.big_endian.specs.Bytes.{bytesOf}
 use Rattle.probe_answer.specs.Answers.{draft, _then_}
 use Rattle.probe_bank.specs.Answers.{thenLists}
-use Rattle.probe_answer.proofs.Answers.{behind}
+use Rattle.probe_answer.proofs.Meets.{behind}
 use borrow.Author.Needs.{needs}
 use Rattle.probe_bank.proofs.put_lists.Statement.{statement}
 use Rattle.probe_bank.proofs.put_lists.Tie as tie

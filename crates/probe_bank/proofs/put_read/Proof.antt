@@ -2,7 +2,7 @@
 use denote.Ref.{now}
 use Rattle.probe_answer.specs.Answers.{Draft}
 use Rattle.probe_bank.specs.Answers.{thenLists, readParts}
-use Rattle.probe_answer.proofs.Answers.{parts-behind, behind}
+use Rattle.probe_answer.proofs.Meets.{parts-behind, behind}
 use borrow.Author.Needs.{needs}
 use Rattle.probe_bank.proofs.put_read.Statement.{statement}
 use Rattle.probe_bank.proofs.put_read.Tie as tie

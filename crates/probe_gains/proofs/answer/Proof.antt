@@ -1,8 +1,8 @@
 -- `probe_gains::answer` meets its contract. Assumes nothing.
 use mathlib.Core.Path.{_∙_}
-use Rattle.probe_answer.proofs.Answers.{chosen}
+use Rattle.probe_answer.proofs.Meets.{chosen}
 use Rattle.probe_gains.specs.Answers.{answerOf}
-use Rattle.probe_gains.proofs.Answers.{either, not-chosen}
+use Rattle.probe_gains.proofs.Meets.{either, not-chosen}
 use borrow.Author.Needs.{needs}
 use Rattle.probe_gains.proofs.answer.Statement.{statement}
 use Rattle.probe_gains.proofs.answer.Tie as tie

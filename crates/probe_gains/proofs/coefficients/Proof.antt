@@ -4,7 +4,7 @@ use denote.Ref.{now}
 use Rattle.harmonics.specs.declared.Coefficients.{Coefficients}
 use Rattle.harmonics.specs.Promise.{outcome}
 use Rattle.probe_answer.specs.Answers.{refusalAndDoubles}
-use Rattle.probe_answer.proofs.Answers.{untaken, answered}
+use Rattle.probe_answer.proofs.Meets.{untaken, answered}
 use Rattle.probe_gains.specs.Answers.{harmonicsAnswer}
 use borrow.Author.Needs.{needs}
 use Rattle.probe_gains.proofs.coefficients.Statement.{statement}

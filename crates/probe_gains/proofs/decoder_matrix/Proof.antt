@@ -4,10 +4,10 @@ use Prim.Native.Nat.{_+_, _*_}
 use native.Mathlib.Omega.{arith}
 use denote.Ref.{now}
 use lib.ListN.{length}
-use Rattle.decoder_matrix.specs.Promise.{Computed, outcome}
+use Rattle.decoder_matrix.specs.Promise.{WeightsAnswer, outcome}
 use Rattle.big_endian.specs.Fields.{doubleAt}
 use Rattle.probe_answer.specs.Answers.{refusalAndDoubles}
-use Rattle.probe_answer.proofs.Answers.{untaken, answered}
+use Rattle.probe_answer.proofs.Meets.{untaken, answered}
 use Rattle.probe_request.proofs.Requests.{inside, layout-read}
 use Rattle.probe_gains.specs.Answers.{decoderAnswer}
 use borrow.Author.Needs.{needs}
@@ -28,7 +28,7 @@ returns-2 c =
     let a = read .before .before .before .before .before .before .args in
     let layout = layout-read (now (a .args)) 10 _ _ _ (placed .layout .ensures) (placed .before .before .number2 .ensures) (placed .before .number3 .ensures) in
     let weights = inside doubleAt 8 (now (a .args)) 19 (now (a .weights)) _ (read .get-f64s .ensures) (omega (arith, right)) in
-    answered (λ (r : Computed). refusalAndDoubles (r .refusal) (r .weights) (now (a .out))) (19 + 8 * length (now (a .weights))) (now (a .args)) _ right
+    answered (λ (r : WeightsAnswer). refusalAndDoubles (r .refusal) (r .weights) (now (a .out))) (19 + 8 * length (now (a .weights))) (now (a .args)) _ right
     (called .compute-decoder-matrix .ensures .bits ∙ (λ i. outcome (placed .before .before .before .number .ensures i) (layout i) (weights i)))
     (c .before .before .put-refusal-and-f64s .ensures)
 

@@ -4,10 +4,10 @@ use Prim.Native.Nat.{_+_, _*_}
 use native.Mathlib.Omega.{arith}
 use denote.Ref.{now}
 use lib.ListN.{length}
-use Rattle.matrix.specs.Promise.{Computed, outcome}
+use Rattle.matrix.specs.Promise.{WeightsAnswer, outcome}
 use Rattle.big_endian.specs.Fields.{doubleAt}
 use Rattle.probe_answer.specs.Answers.{refusalAndDoubles}
-use Rattle.probe_answer.proofs.Answers.{untaken, answered}
+use Rattle.probe_answer.proofs.Meets.{untaken, answered}
 use Rattle.probe_request.proofs.Requests.{inside}
 use Rattle.probe_gains.specs.Answers.{rowsAnswer}
 use borrow.Author.Needs.{needs}
@@ -26,7 +26,7 @@ returns-2 c =
     let right = read .before .before .if1 .left in
     let a = read .before .before .before .before .before .before .args in
     let weights = inside doubleAt 8 (now (a .args)) 10 (now (a .weights)) _ (read .get-f64s .ensures) (omega (arith, right)) in
-    answered (λ (r : Computed). refusalAndDoubles (r .refusal) (r .weights) (now (a .out))) (10 + 8 * length (now (a .weights))) (now (a .args)) _ right
+    answered (λ (r : WeightsAnswer). refusalAndDoubles (r .refusal) (r .weights) (now (a .out))) (10 + 8 * length (now (a .weights))) (now (a .args)) _ right
     (called .compute-matrix .ensures ∙ (λ i. outcome (called .before .before .number .ensures i) (weights i)))
     (c .before .before .put-refusal-and-f64s .ensures)
 

@@ -5,7 +5,7 @@ use denote.Ref.{now}
 use Rattle.stereo.specs.declared.StereoGains.{StereoGains}
 use Rattle.stereo.specs.Promise.{outcome}
 use Rattle.probe_answer.specs.Answers.{refusalAndDoubles}
-use Rattle.probe_answer.proofs.Answers.{untaken, answered}
+use Rattle.probe_answer.proofs.Meets.{untaken, answered}
 use Rattle.probe_gains.specs.Answers.{stereoAnswer}
 use borrow.Author.Needs.{needs}
 use Rattle.probe_gains.proofs.stereo.Statement.{statement}

@@ -4,7 +4,7 @@ use denote.Ref.{now}
 use Rattle.surround.specs.declared.SurroundGains.{SurroundGains}
 use Rattle.surround.specs.Promise.{outcome}
 use Rattle.probe_answer.specs.Answers.{refusalAndDoubles}
-use Rattle.probe_answer.proofs.Answers.{untaken, answered}
+use Rattle.probe_answer.proofs.Meets.{untaken, answered}
 use Rattle.probe_request.proofs.Requests.{layout-read}
 use Rattle.probe_gains.specs.Answers.{surroundAnswer}
 use borrow.Author.Needs.{needs}

@@ -4,7 +4,7 @@ use denote.Ref.{now}
 use Rattle.virtual_speaker.specs.declared.Weighted.{Weighted}
 use Rattle.virtual_speaker.specs.Promise.{outcome}
 use Rattle.probe_answer.specs.Answers.{refusalAndDoubles}
-use Rattle.probe_answer.proofs.Answers.{untaken, answered}
+use Rattle.probe_answer.proofs.Meets.{untaken, answered}
 use Rattle.probe_gains.specs.Answers.{weightedAnswer}
 use borrow.Author.Needs.{needs}
 use Rattle.probe_gains.proofs.weighted.Statement.{statement}

@@ -1,6 +1,6 @@
 -- `probe_hrtf::put_counts` meets its contract: one part behind the other, and then the desk. Assumes nothing.
 use Rattle.probe_answer.specs.Answers.{Draft}
-use Rattle.probe_answer.proofs.Answers.{parts-behind, behind}
+use Rattle.probe_answer.proofs.Meets.{parts-behind, behind}
 use Rattle.probe_hrtf.specs.Answers.{thenDesk}
 use borrow.Author.Needs.{needs}
 use Rattle.probe_hrtf.proofs.put_counts.Statement.{statement}

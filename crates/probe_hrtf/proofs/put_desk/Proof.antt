@@ -1,5 +1,5 @@
 -- `probe_hrtf::put_desk` meets its contract: one part behind the other. Assumes nothing.
-use Rattle.probe_answer.proofs.Answers.{behind}
+use Rattle.probe_answer.proofs.Meets.{behind}
 use borrow.Author.Needs.{needs}
 use Rattle.probe_hrtf.proofs.put_desk.Statement.{statement}
 use Rattle.probe_hrtf.proofs.put_desk.Tie as tie

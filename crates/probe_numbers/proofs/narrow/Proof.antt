@@ -6,7 +6,7 @@ use lib.Ieee.{Float}
 use Rattle.numbers.specs.Computed.{narrowed}
 use Rattle.big_endian.specs.Lists.{floatBytes}
 use Rattle.probe_answer.specs.Answers.{none, _then_}
-use Rattle.probe_answer.proofs.Answers.{untaken, answered}
+use Rattle.probe_answer.proofs.Meets.{untaken, answered}
 use Rattle.probe_numbers.specs.Answers.{narrowAnswer}
 use borrow.Author.Needs.{needs}
 use Rattle.probe_numbers.proofs.narrow.Statement.{statement}

@@ -5,7 +5,7 @@ use denote.Ref.{now}
 use Rattle.numbers.specs.Computed as Numbers
 use Rattle.numbers.specs.declared.Rooted.{Rooted}
 use Rattle.probe_answer.specs.Answers.{refusalAndDoubles}
-use Rattle.probe_answer.proofs.Answers.{untaken, answered}
+use Rattle.probe_answer.proofs.Meets.{untaken, answered}
 use Rattle.probe_numbers.specs.Answers.{rootAnswer}
 use borrow.Author.Needs.{needs}
 use Rattle.probe_numbers.proofs.root.Statement.{statement}

@@ -5,7 +5,7 @@ use denote.Ref.{now}
 use Rattle.angles.specs.Promise.{outcome}
 use Rattle.angles.specs.declared.Answer.{Answer}
 use Rattle.probe_answer.specs.Answers.{refusalAndDoubles}
-use Rattle.probe_answer.proofs.Answers.{untaken, answered}
+use Rattle.probe_answer.proofs.Meets.{untaken, answered}
 use Rattle.probe_numbers.specs.Answers.{waveOf, waveAnswer}
 use borrow.Author.Needs.{needs}
 use Rattle.probe_numbers.proofs.sine_or_cosine.Statement.{statement}

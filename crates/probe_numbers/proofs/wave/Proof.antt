@@ -2,7 +2,7 @@
 use mathlib.Core.Path.{ap, _∙_}
 use Rattle.series.specs.Sums.{Wave}
 use Rattle.angles.specs.Promise.{outcome}
-use Rattle.probe_numbers.proofs.Answers.{is-sine, is-cosine}
+use Rattle.probe_numbers.proofs.Meets.{is-sine, is-cosine}
 use Rattle.probe_numbers.proofs.wave.Statement.{statement}
 use Rattle.probe_numbers.proofs.wave.Tie as tie
 

@@ -5,7 +5,7 @@ use denote.Ref.{now}
 use lib.Ieee.{Float}
 use Rattle.big_endian.specs.Lists.{doubleBytes}
 use Rattle.probe_answer.specs.Answers.{none, _then_}
-use Rattle.probe_answer.proofs.Answers.{untaken, answered}
+use Rattle.probe_answer.proofs.Meets.{untaken, answered}
 use Rattle.probe_numbers.specs.Answers.{widenAnswer}
 use borrow.Author.Needs.{needs}
 use Rattle.probe_numbers.proofs.widen.Statement.{statement}

@@ -1,6 +1,6 @@
 -- `probe_replay::put_counts` meets its contract: one part behind the other, then the desk, and what is expected. Assumes nothing.
 use Rattle.probe_answer.specs.Answers.{Draft}
-use Rattle.probe_answer.proofs.Answers.{parts-behind, behind}
+use Rattle.probe_answer.proofs.Meets.{parts-behind, behind}
 use Rattle.probe_hrtf.specs.Answers.{thenDesk}
 use Rattle.probe_replay.specs.Answers.{thenExpected}
 use borrow.Author.Needs.{needs}

@@ -2,7 +2,7 @@
 use denote.Ref.{now}
 use mathlib.Core.Path.{sym, ap, _∙_}
 use Rattle.probe_answer.specs.Answers.{draft}
-use Rattle.probe_answer.proofs.Answers.{behind}
+use Rattle.probe_answer.proofs.Meets.{behind}
 use Rattle.probe_replay.specs.Answers.{thenExpected}
 use borrow.Author.Needs.{needs}
 use Rattle.probe_replay.proofs.put_expected.Statement.{statement}

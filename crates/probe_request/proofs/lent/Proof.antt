@@ -7,11 +7,11 @@ use Rattle.probe_request.proofs.lent.Tie as tie
 number-requires : tie.Need-number-requires
 number-requires c κs = tt
 
-least-requires : tie.Need-least-requires
-least-requires c κs = tt
+min-requires : tie.Need-min-requires
+min-requires c κs = tt
 
 returns : tie.Need-returns
-returns c = c .least .ensures ∙ ap (λ (n : ℕ). min n (c .before .before .before .args .most)) (c .before .number .ensures)
+returns c = c .min .ensures ∙ ap (λ (n : ℕ). min n (c .before .before .before .args .most)) (c .before .number .ensures)
 
 pub lent-spec : {M : Type 1} → statement M
-lent-spec = tie.close (tie.spec number-requires least-requires returns)
+lent-spec = tie.close (tie.spec number-requires min-requires returns)

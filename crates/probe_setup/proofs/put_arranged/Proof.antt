@@ -1,5 +1,5 @@
 -- `probe_setup::put_arranged` meets its contract: one part behind the other. Assumes nothing.
-use Rattle.probe_answer.proofs.Answers.{behind}
+use Rattle.probe_answer.proofs.Meets.{behind}
 use borrow.Author.Needs.{needs}
 use Rattle.probe_setup.proofs.put_arranged.Statement.{statement}
 use Rattle.probe_setup.proofs.put_arranged.Tie as tie

@@ -1,7 +1,7 @@
 -- `script::refusal_of` meets its contract: `Answers`. Assumes nothing.
 use native.Mathlib.Omega.{arith}
 use borrow.Author.Needs.{needs}
-use Rattle.script.proofs.Answers.{by-order, by-direction, by-length, by-end, by-frames, by-rising, by-count, by-none}
+use Rattle.script.proofs.Meets.{by-order, by-direction, by-length, by-end, by-frames, by-rising, by-count, by-none}
 use Rattle.script.proofs.refusal_of.Statement.{statement}
 use Rattle.script.proofs.refusal_of.Tie as tie
 

@@ -43,7 +43,7 @@ use Rattle.script.proofs.Rendered as R
 use Rattle.script.proofs.Rendered.Laws as R′
 use Rattle.walks.proofs.Relent.{Hold, refers, loan, mine, lends-one, takes-one}
 use Rattle.walks.proofs.Walking.{places, pairs-back, behind, room, full, local, tests}
-use Rattle.script.proofs.Answers.{frameOf, answers}
+use Rattle.script.proofs.Meets.{frameOf, answers}
 use Rattle.script.proofs.Playing.{frame-fits, asked, turned, nearer}
 use Rattle.cues.proofs.judged as judged
 use Rattle.cues.proofs.judged.Symbol as judged-def

@@ -4,7 +4,7 @@ use Prim.Native.Nat.{_+_, _^_}
 use native.Mathlib.Omega.{arith}
 use borrow.Author.Needs.{needs}
 use borrow.Author.Tests.{le-ltb}
-use Rattle.script.proofs.Answers.{past-is}
+use Rattle.script.proofs.Meets.{past-is}
 use Rattle.script.proofs.runs_past.Statement.{statement}
 use Rattle.script.proofs.runs_past.Tie as tie
 

@@ -2,7 +2,7 @@
 use mathlib.Core.Path.{sym, ap, _∙_}
 use mathlib.Core.Bool.{not}
 use lib.Ieee.{ofBits, ofInt}
-use Rattle.stereo.proofs.Answers.{refuses, plays}
+use Rattle.stereo.proofs.Meets.{refuses, plays}
 use borrow.Author.Needs.{needs}
 use Rattle.stereo.proofs.calculate_stereo_gains.Statement.{statement}
 use Rattle.stereo.proofs.calculate_stereo_gains.Tie as tie

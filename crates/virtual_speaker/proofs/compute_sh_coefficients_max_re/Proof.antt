@@ -2,7 +2,7 @@
 use mathlib.Core.Path.{ap, _∙_}
 use lib.Ieee.{Float}
 use Rattle.virtual_speaker.specs.Computed.{weigh}
-use Rattle.virtual_speaker.proofs.Kept.{weighed-kept}
+use Rattle.virtual_speaker.proofs.Meets.{weighed-kept}
 use borrow.Author.Needs.{needs}
 use Rattle.virtual_speaker.proofs.compute_sh_coefficients_max_re.Statement.{statement}
 use Rattle.virtual_speaker.proofs.compute_sh_coefficients_max_re.Tie as tie

@@ -20,7 +20,7 @@ use Rattle.bank_form.specs.FitsFields.{IsI16}
 use Rattle.bank_form.proofs.Pairs.{length-pairs, pair-of}
 use Rattle.bank_form.proofs.RoundTrip.{oneRow}
 use Rattle.lists.proofs.Tables.{row-end}
-use Rattle.lists.proofs.Each.{each-in}
+use Rattle.lists.proofs.ForAll.{each-in}
 use Rattle.bank.proofs.Fill.{no-rows, rows-more, length-rows}
 use Rattle.bank.proofs.rows.put_rows.Statement.{statement}
 use Rattle.bank.proofs.rows.put_rows.Tie as tie

@@ -6,7 +6,7 @@ use denote.Ref.{now}
 use lib.ListN.{length, length-take}
 use lib.Seq.{length-take-le}
 use Rattle.files.proofs.Parts.{counts}
-use Rattle.wire.proofs.Meets.{taken-few, given-few}
+use Rattle.ears_wire.proofs.Meets.{taken-few, given-few}
 use Rattle.ears_file.proofs.Turning.{turn-further}
 use borrow.Author.Needs.{needs}
 use Rattle.ears_file.proofs.turn.play.Statement.{statement}

@@ -33,15 +33,15 @@ use types.SemTy.{Body}
 use denote.Signature.Array.{arrayOf}
 use denote.Struct.Laws as LL
 use Rattle.planes.specs.Planes.{frameAt}
-use Rattle.desk.specs.Numbers.{steppedOf}
-use Rattle.desk.specs.declared.Desk.{Desk}
-use Rattle.desk.proofs.Desk as D
-use Rattle.desk.proofs.Desk.Laws as D′
-use Rattle.desk.proofs.step as step
-use Rattle.desk.proofs.step.Symbol as step-def
-use Rattle.desk.proofs.step.Symbol.{name as #desk·step}
-use Rattle.desk.proofs.step.Met as step-thm
-use Rattle.rings.specs.State.{State}
+use Rattle.hrtf_desk.specs.Numbers.{steppedOf}
+use Rattle.hrtf_desk.specs.declared.Desk.{Desk}
+use Rattle.hrtf_desk.proofs.Desk as D
+use Rattle.hrtf_desk.proofs.Desk.Laws as D′
+use Rattle.hrtf_desk.proofs.step as step
+use Rattle.hrtf_desk.proofs.step.Symbol as step-def
+use Rattle.hrtf_desk.proofs.step.Symbol.{name as #hrtf-desk·step}
+use Rattle.hrtf_desk.proofs.step.Met as step-thm
+use Rattle.hrtf_rings.specs.State.{State}
 use Rattle.hrtf_checks.specs.declared.Shape.{Shape}
 use Rattle.hrtf_checks.specs.Call.{Call}
 use Rattle.hrtf_checks.proofs.Shape as S
@@ -351,7 +351,7 @@ module _ {M : Type 1} (𝓤 : URA M) (H : Heap 𝓤) (A : Atoms 𝓤) (W : Given
   Nearer-wf : WellFounded Nearer
   Nearer-wf = InvImage·wf (λ (s : Now). frames - s .played .frames) (Nat·lt-wfRel .wf)
 
-  module _ (𝓣 : Tables 𝓤 H) (known-frame : Triple 𝓤 (𝓣 .C #hrtf·frames·one-frame) (OneFrame 𝓤 H A at-mem run)) (known-step : Triple 𝓤 (𝓣 .C #desk·step) (Step 𝓤 H A at-mem run)) where
+  module _ (𝓣 : Tables 𝓤 H) (known-frame : Triple 𝓤 (𝓣 .C #hrtf·frames·one-frame) (OneFrame 𝓤 H A at-mem run)) (known-step : Triple 𝓤 (𝓣 .C #hrtf-desk·step) (Step 𝓤 H A at-mem run)) where
     abbrev C : Calls 𝓤 H
     C = 𝓣 .C
 
@@ -518,7 +518,7 @@ module _ {M : Type 1} (𝓤 : URA M) (H : Heap 𝓤) (A : Atoms 𝓤) (W : Given
         keep ! (pairs-back 22 (44 ∷ 47 ∷ 45 ∷ 48 ∷ 46 ∷ 49 ∷ [])) $
         by ! (plays l₀ l₁ l₂ l₃ l₄ l₅ l₆ l₇ l₈ l₉ l₁₀ l₁₁ l₁₂ l₁₃ l₁₄ l₁₅ l₁₆ l₁₇ l₁₈ l₁₉ l₂₀ l₂₁ (record { rings = rings₀ .now; ears = ears₀ .now; desk = d₀; played = none; is-desk = is-d₀; is-played = none-is; playing = playing-none call before (ready .ready) }))))))))))))))))))))))))
 
-module _ {M : Type 1} (𝓤 : URA M) (H : Heap 𝓤) (A : Atoms 𝓤) (W : Given 𝓤 H A) (at-mem : Memory → SProp 𝓤) (run : Routine → Fun 𝓤) (𝓣 : Tables 𝓤 H) (known-frame : Triple 𝓤 (𝓣 .C #hrtf·frames·one-frame) (OneFrame 𝓤 H A at-mem run)) (known-step : Triple 𝓤 (𝓣 .C #desk·step) (Step 𝓤 H A at-mem run)) where
+module _ {M : Type 1} (𝓤 : URA M) (H : Heap 𝓤) (A : Atoms 𝓤) (W : Given 𝓤 H A) (at-mem : Memory → SProp 𝓤) (run : Routine → Fun 𝓤) (𝓣 : Tables 𝓤 H) (known-frame : Triple 𝓤 (𝓣 .C #hrtf·frames·one-frame) (OneFrame 𝓤 H A at-mem run)) (known-step : Triple 𝓤 (𝓣 .C #hrtf-desk·step) (Step 𝓤 H A at-mem run)) where
   block-walks : Walks 𝓤 H A f.ended stayed (WpFn 𝓤 H (𝓣 .C) (𝓣 .Λ) code.function) (f.clauses 𝓤 H A at-mem run)
   block-walks =
       walked 𝓤 H A f.ended stayed (f.clauses 𝓤 H A at-mem run) (WpFn 𝓤 H (𝓣 .C) (𝓣 .Λ) code.function)
@@ -545,4 +545,4 @@ block-spec 𝓤 H 𝓜 𝓖 𝓡 =
     (tables 𝓤 H 𝓜 𝓡 code.env .C) (tables 𝓤 H 𝓜 𝓡 code.env .Λ) #hrtf·frames·block code.function (code.unfolded 𝓤 H 𝓜 𝓡)
     (block-meets 𝓤 H (𝓖 .A) (givenOf 𝓤 H 𝓜 𝓖) (𝓜 .mem) (𝓡 .run) (tablesOf 𝓤 H 𝓜 (tables 𝓤 H 𝓜 𝓡 code.env))
     (cited 𝓤 H (OneFrame 𝓤 H (𝓖 .A) (𝓜 .mem) (𝓡 .run)) 𝓜 𝓡 code.env #hrtf·frames·one-frame one-frame-def.routine code.calls-hrtf·frames·one-frame (one-frame-thm.met 𝓤 H 𝓜 𝓖 𝓡))
-    (cited 𝓤 H (Step 𝓤 H (𝓖 .A) (𝓜 .mem) (𝓡 .run)) 𝓜 𝓡 code.env #desk·step step-def.routine code.calls-desk·step (step-thm.met 𝓤 H 𝓜 𝓖 𝓡)))
+    (cited 𝓤 H (Step 𝓤 H (𝓖 .A) (𝓜 .mem) (𝓡 .run)) 𝓜 𝓡 code.env #hrtf-desk·step step-def.routine code.calls-hrtf-desk·step (step-thm.met 𝓤 H 𝓜 𝓖 𝓡)))

@@ -6,7 +6,7 @@ use lib.Dec.{ltb}
 use lib.Ieee.{Float}
 use denote.Ref.{now}
 use Rattle.planes.specs.Planes.{frameAt}
-use Rattle.rings.specs.State.{State}
+use Rattle.hrtf_rings.specs.State.{State}
 use Rattle.lists.proofs.Lists.{one-at-most}
 use Rattle.hrtf.proofs.Playing.{ready-stored, turned}
 use borrow.Author.Needs.{needs}

@@ -1,4 +1,4 @@
--- `hrtf::parts::run_back` meets its contract: `rings`' `Running`, once for each ear; and `nan-heard`, at a NaN. Assumes nothing.
+-- `hrtf::parts::run_back` meets its contract: `hrtf_rings`' `Running`, once for each ear; and `nan-heard`, at a NaN. Assumes nothing.
 use Prim.Native.Nat.{_-_}
 use mathlib.Core.Path.{refl}
 use native.Mathlib.Omega.{arith}
@@ -7,7 +7,7 @@ use lib.Ieee.{div, ofBits}
 use lib.Ieee.Compare.{differs-from-itself}
 use denote.Floats.{passes}
 use Rattle.formats.proofs.Patterns.{no-nan}
-use Rattle.rings.proofs.TwoRuns.{Running, running-none, running-more, running-all}
+use Rattle.hrtf_rings.proofs.TwoRuns.{Running, running-none, running-more, running-all}
 use Rattle.hrtf.proofs.SpeakerParts.{casts, tap-casts, nan-heard}
 use Rattle.hrtf.proofs.parts.run_back.Statement.{statement}
 use Rattle.hrtf.proofs.parts.run_back.Tie as tie

@@ -3,13 +3,13 @@ use native.Mathlib.Nat.{le-antisymm}
 use native.Mathlib.Omega.{arith}
 use mathlib.Core.Path.{refl}
 use Rattle.replay.specs.Computed.{lineOf, leftIn}
-use Rattle.replay.proofs.Turning.{Going, going-kept, turns-none, turns-then, turns-room}
+use Rattle.replay.proofs.Turning.{LoopOverTable, loop-kept, turns-none, turns-then, turns-room}
 use Rattle.replay.proofs.play.play.Statement.{statement}
 use Rattle.replay.proofs.play.play.Tie as tie
 
 abbrev Inv-loop : tie.InvT-loop
 Inv-loop shape frames stride stamps inputs weights row-of taps rings₀ ear-stride ears₀ block₀ own₀ so-far₀ rings ears block own so-far =
-    Going (lineOf shape frames stride stamps inputs weights row-of taps ear-stride) so-far₀ rings₀ ears₀ block₀ own₀ so-far rings ears block own
+    LoopOverTable (lineOf shape frames stride stamps inputs weights row-of taps ear-stride) so-far₀ rings₀ ears₀ block₀ own₀ so-far rings ears block own
 
 abbrev μ-loop : tie.MeasureT-loop
 μ-loop shape frames stride stamps inputs weights row-of taps rings₀ ear-stride ears₀ block₀ own₀ so-far₀ rings ears block own so-far =
@@ -28,7 +28,7 @@ turn-requires : tie.Need-turn-requires Inv-loop μ-loop
 turn-requires c κs =
     let at = c .before .before .before .before .before .before in
     let s = start at in
-    (s .pre .0, (going-kept (at .loop .inv) (s .pre .0) (s .pre .1 .0), turns-room (at .loop .inv .turns) (s .pre .1 .1)))
+    (s .pre .0, (loop-kept (at .loop .inv) (s .pre .0) (s .pre .1 .0), turns-room (at .loop .inv .turns) (s .pre .1 .1)))
 
 loop-less : tie.Need-loop-less Inv-loop μ-loop
 loop-less c =

@@ -1,0 +1,70 @@
+-- `checks::has_nonfinite_f32` meets its contract. The loop has passed no element that is NaN or infinite. Assumes nothing.
+use mathlib.Core.Path.{_∙_}
+use Prim.Native.Nat.{_-_}
+use native.Mathlib.Omega.{arith}
+use lib.ListN.{length}
+use denote.Ref.{now}
+use Rattle.checks.proofs.Checks.{Passing, passing-none, wrong, sound-more, nonfinite-found, sound-all, placeOf, nonfinite-list}
+use Rattle.checks.proofs.has_nonfinite_f32.Statement.{statement}
+use Rattle.checks.proofs.has_nonfinite_f32.Tie as tie
+
+abbrev Inv-loop : tie.InvT-loop
+Inv-loop taps k₀ k = Passing (wrong (placeOf taps)) (length taps) k
+
+abbrev μ-loop : tie.MeasureT-loop
+μ-loop taps k₀ k = length taps - k
+
+loop-holds : tie.Need-loop-holds Inv-loop μ-loop
+loop-holds c = passing-none (wrong (placeOf (now (c .before .args .taps)))) (length (now (c .before .args .taps)))
+
+mul-widen : tie.Need-mul-widen Inv-loop μ-loop
+mul-widen c = omega arith
+
+shared-slice-read-widen : tie.Need-shared-slice-read-widen Inv-loop μ-loop
+shared-slice-read-widen c = omega arith
+
+widen-requires : tie.Need-widen-requires Inv-loop μ-loop
+widen-requires c κs = tt
+
+is-finite-requires : tie.Need-is-finite-requires Inv-loop μ-loop
+is-finite-requires c κs = tt
+
+returns : tie.Need-returns Inv-loop μ-loop
+returns c =
+    let at = c .before .before .before .before .before in
+    let xs = now (c .before .before .before .before .before .before .before .args .taps) in
+    nonfinite-found (placeOf xs) (length xs) (at .loop .k) _ (c .before .is-finite .result) (at .loop .inv) (c .before .before .before .before .loop-test .taken) (c .before .before .widen .ensures .bits) (c .before .is-finite .ensures) (c .if1 .taken) ∙ nonfinite-list xs
+
+add-k : tie.Need-add-k Inv-loop μ-loop
+add-k c = omega arith
+
+loop-less : tie.Need-loop-less Inv-loop μ-loop
+loop-less c = omega arith
+
+loop-again : tie.Need-loop-again Inv-loop μ-loop
+loop-again c =
+    let at = c .before .before .before .before .before in
+    let xs = now (c .before .before .before .before .before .before .before .args .taps) in
+    sound-more (placeOf xs) (length xs) (at .loop .k) _ (c .before .is-finite .result) (at .loop .inv) (c .before .before .before .before .loop-test .taken) (c .before .before .widen .ensures .bits) (c .before .is-finite .ensures) (c .if1 .left)
+
+returns-2 : tie.Need-returns-2 Inv-loop μ-loop
+returns-2 c =
+    let xs = now (c .before .before .before .args .taps) in
+    sound-all (placeOf xs) (length xs) (c .before .loop .k) (c .before .loop .inv) (c .loop-test .left) ∙ nonfinite-list xs
+
+pub has-nonfinite-f32-spec : {M : Type 1} → statement M
+has-nonfinite-f32-spec =
+    tie.close
+    (tie.spec
+    Inv-loop
+    μ-loop
+    loop-holds
+    mul-widen
+    shared-slice-read-widen
+    widen-requires
+    is-finite-requires
+    returns
+    add-k
+    loop-less
+    loop-again
+    returns-2)

@@ -1,0 +1,66 @@
+-- `checks::has_nonfinite_f64` meets its contract. The loop has passed no element that is NaN or infinite. Assumes nothing.
+use mathlib.Core.Path.{refl, _∙_}
+use Prim.Native.Nat.{_-_}
+use native.Mathlib.Omega.{arith}
+use lib.ListN.{length}
+use denote.Ref.{now}
+use Rattle.checks.proofs.Checks.{Passing, passing-none, wrong, sound-more, nonfinite-found, sound-all, placeOf, nonfinite-list}
+use Rattle.checks.proofs.has_nonfinite_f64.Statement.{statement}
+use Rattle.checks.proofs.has_nonfinite_f64.Tie as tie
+
+abbrev Inv-loop : tie.InvT-loop
+Inv-loop weights w₀ w = Passing (wrong (placeOf weights)) (length weights) w
+
+abbrev μ-loop : tie.MeasureT-loop
+μ-loop weights w₀ w = length weights - w
+
+loop-holds : tie.Need-loop-holds Inv-loop μ-loop
+loop-holds c = passing-none (wrong (placeOf (now (c .before .args .weights)))) (length (now (c .before .args .weights)))
+
+mul-is-finite : tie.Need-mul-is-finite Inv-loop μ-loop
+mul-is-finite c = omega arith
+
+shared-slice-read-is-finite : tie.Need-shared-slice-read-is-finite Inv-loop μ-loop
+shared-slice-read-is-finite c = omega arith
+
+is-finite-requires : tie.Need-is-finite-requires Inv-loop μ-loop
+is-finite-requires c κs = tt
+
+returns : tie.Need-returns Inv-loop μ-loop
+returns c =
+    let at = c .before .before .before .before in
+    let xs = now (c .before .before .before .before .before .before .args .weights) in
+    nonfinite-found (placeOf xs) (length xs) (at .loop .w) _ (c .before .is-finite .result) (at .loop .inv) (c .before .before .before .loop-test .taken) refl (c .before .is-finite .ensures) (c .if1 .taken) ∙ nonfinite-list xs
+
+add-w : tie.Need-add-w Inv-loop μ-loop
+add-w c = omega arith
+
+loop-less : tie.Need-loop-less Inv-loop μ-loop
+loop-less c = omega arith
+
+loop-again : tie.Need-loop-again Inv-loop μ-loop
+loop-again c =
+    let at = c .before .before .before .before in
+    let xs = now (c .before .before .before .before .before .before .args .weights) in
+    sound-more (placeOf xs) (length xs) (at .loop .w) _ (c .before .is-finite .result) (at .loop .inv) (c .before .before .before .loop-test .taken) refl (c .before .is-finite .ensures) (c .if1 .left)
+
+returns-2 : tie.Need-returns-2 Inv-loop μ-loop
+returns-2 c =
+    let xs = now (c .before .before .before .args .weights) in
+    sound-all (placeOf xs) (length xs) (c .before .loop .w) (c .before .loop .inv) (c .loop-test .left) ∙ nonfinite-list xs
+
+pub has-nonfinite-f64-spec : {M : Type 1} → statement M
+has-nonfinite-f64-spec =
+    tie.close
+    (tie.spec
+    Inv-loop
+    μ-loop
+    loop-holds
+    mul-is-finite
+    shared-slice-read-is-finite
+    is-finite-requires
+    returns
+    add-w
+    loop-less
+    loop-again
+    returns-2)

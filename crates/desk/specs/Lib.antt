@@ -1,2 +1,0 @@
--- The words of the promises of `desk`.
-pub mod Numbers

@@ -1,0 +1,37 @@
+-- `ears_wire::line::put_part` meets its contract: the part is copied into the rest of the list. Assumes nothing.
+use mathlib.Core.Path.{ap}
+use Prim.Native.Nat.{ℕ, _+_}
+use native.Mathlib.Omega.{arith}
+use denote.Ref.{now}
+use Rattle.ears_wire.proofs.Parts.{put-copied}
+use borrow.Author.Needs.{needs}
+use Rattle.ears_wire.proofs.line.put_part.Statement.{statement}
+use Rattle.ears_wire.proofs.line.put_part.Tie as tie
+
+sub-copy : tie.Need-sub-copy
+sub-copy c = search needs
+
+part-copy-start : tie.Need-part-copy-start
+part-copy-start c = search needs
+
+part-copy-end : tie.Need-part-copy-end
+part-copy-end c = search needs
+
+copy-requires : tie.Need-copy-requires
+copy-requires c κs = search needs
+
+add-result : tie.Need-add-result
+add-result c = search needs
+
+same-length : tie.Need-same-length
+same-length c = search needs
+
+returns : tie.Need-returns
+returns c =
+    let a = c .before .before .before .before .before .before .args in
+    let copies = c .before .before .copy in
+    record { ends = ap (λ (n : ℕ). a .at + n) (copies .ensures .0); filled = put-copied (now (a .out)) (now (a .part)) _ (a .at) (omega arith) (copies .ensures .1) }
+
+pub put-part-spec : {M : Type 1} → statement M
+put-part-spec =
+    tie.close (tie.spec sub-copy part-copy-start part-copy-end copy-requires add-result same-length returns)

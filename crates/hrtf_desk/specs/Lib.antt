@@ -1,0 +1,2 @@
+-- The words of the promises of `hrtf_desk`.
+pub mod Numbers

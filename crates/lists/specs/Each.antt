@@ -1,9 +1,0 @@
--- What is so of each element of a list. Definitions only.
-use Prim.Native.Nat.{ℕ}
-use mathlib.Core.List.{List}
-use lib.ListN.{getD}
-
-module _ {A : Type 0} where
-  -- every element is of a kind, and beyond them the default is too, as in every slice
-  abbrev pub Each : (A → Type 0) → A → List A → Type 0
-  Each P d xs = (i : ℕ) → P (getD xs i d)
