@@ -17,7 +17,7 @@ use Rattle.lists.specs.Tables.{tab, chunk}
 use Rattle.lists.proofs.Tables.{length-tab, getD-tab}
 use Rattle.numbers.specs.Normalization.{inverseRoot}
 use Rattle.rows.specs.Computed.{putRows}
-use Rattle.rows.proofs.Answers.{computed-weights}
+use Rattle.rows.proofs.WeightsAnswers.{computed-weights}
 use Rattle.rows.proofs.Joined.{AllOf, put-joined, row-found}
 use Rattle.channel.specs.declared.Layout.{Layout}
 use Rattle.channel.specs.Layouts.{channelsOf, uncountable}

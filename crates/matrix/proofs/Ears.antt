@@ -10,7 +10,7 @@ use lib.IntN.{ℤ, pos, negsuc, negℤ}
 use lib.ListN.{length}
 use lib.Ieee.{Float, binary64, mul, neg}
 use Rattle.refusals.proofs.First.{passed}
-use Rattle.rows.proofs.Answers.{computed-refusal, computed-weights}
+use Rattle.rows.proofs.WeightsAnswers.{computed-refusal, computed-weights}
 use Rattle.formats.specs.Floats.{zero-float, literal}
 use Rattle.formats.proofs.Signs.{neg-neg, literal-negated, mul-negated}
 use Rattle.numbers.specs.Computed.{narrowed}

@@ -8,7 +8,7 @@ mod Half
 mod Middle
 pub mod Close
 pub mod Zeros
-pub mod Answers
+pub mod RootAnswer
 pub mod Normalization
 mod Narrowing
 mod Turns

@@ -27,7 +27,7 @@ use Rattle.numbers.specs.Computed.{Parted}
 use Rattle.numbers.specs.declared.Rooted.{Rooted}
 use Rattle.numbers.proofs.Rooting.{rootOf-value, rooted, root-digits}
 use Rattle.numbers.proofs.Middle.{root-nearest}
-use Rattle.numbers.proofs.Answers.{root-accepted}
+use Rattle.numbers.proofs.RootAnswer.{root-accepted}
 
 -- ---- the answer is what document 01 says
 accepted : (x : Float) → T (positive x) → record { refusal = 0; value = rootOf binary64 x } ≡ rootAnswer x

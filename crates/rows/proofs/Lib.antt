@@ -2,5 +2,5 @@
 pub mod Putting
 pub mod PutAppends
 pub mod Joined
-pub mod Answers
+pub mod WeightsAnswers
 pub mod Unique

@@ -13,7 +13,7 @@ use Rattle.refusals.proofs.First.{not-accepted, answered-accepted, answered-by}
 use Rattle.lists.proofs.Tests.{cond-true, cond-false}
 use Rattle.numbers.specs.Computed.{rootOf, rootAnswer}
 use Rattle.numbers.specs.declared.Rooted.{Rooted}
-use Rattle.numbers.proofs.Answers.{root-value}
+use Rattle.numbers.proofs.RootAnswer.{root-value}
 use Rattle.channel.specs.Layouts.{channelsOf, surround, counted}
 use Rattle.channel.specs.declared.Layout.{Layout}
 use Rattle.channel.specs.declared.Counted.{Counted}

@@ -9,7 +9,7 @@ use borrow.Author.Needs.{needs}
 use Rattle.formats.specs.Floats.{float}
 use Rattle.numbers.specs.declared.Rooted.{Rooted}
 use Rattle.numbers.specs.Normalization.{inverseRoot, inverseRefusal}
-use Rattle.numbers.proofs.Answers.{root-value}
+use Rattle.numbers.proofs.RootAnswer.{root-value}
 use Rattle.numbers.proofs.Normalization.{inverse-refused, inverse-accepted}
 use Rattle.numbers.proofs.inverse_root.Statement.{statement}
 use Rattle.numbers.proofs.inverse_root.Tie as tie
