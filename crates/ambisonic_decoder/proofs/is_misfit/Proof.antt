@@ -6,17 +6,11 @@ use borrow.Author.Needs.{needs}
 use Rattle.ambisonic_decoder.proofs.is_misfit.Statement.{statement}
 use Rattle.ambisonic_decoder.proofs.is_misfit.Tie as tie
 
-is-block-unfit-requires : tie.Need-is-block-unfit-requires
-is-block-unfit-requires c κs = search needs
-
 returns : tie.Need-returns
 returns c = or-yes _ _ (sym (c .before .is-block-unfit .ensures) ∙ c .if1 .taken)
-
-is-product-requires : tie.Need-is-product-requires
-is-product-requires c κs = search needs
 
 returns-2 : tie.Need-returns-2
 returns-2 c = or-next _ _ _ (sym (c .before .before .is-block-unfit .ensures) ∙ c .before .if1 .left) (ap not (c .is-product .ensures))
 
 pub is-misfit-spec : {M : Type 1} → statement M
-is-misfit-spec = tie.close (tie.spec is-block-unfit-requires returns is-product-requires returns-2)
+is-misfit-spec = tie.close (tie.spec (λ c κs. search needs) returns (λ c κs. search needs) returns-2)

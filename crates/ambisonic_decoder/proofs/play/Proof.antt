@@ -24,23 +24,11 @@ abbrev μ-loop : tie.MeasureT-loop
 loop-holds : tie.Need-loop-holds Inv-loop μ-loop
 loop-holds c = let a = c .before .before .before .args in framing-none (now (a .out)) (a .shape .stride) (a .shape .frames) (outputs-at (a .shape) (now (a .weights)) (now (a .inputs)))
 
-mix-frame-requires : tie.Need-mix-frame-requires Inv-loop μ-loop
-mix-frame-requires c κs = tt
-
-add-n : tie.Need-add-n Inv-loop μ-loop
-add-n c = omega arith
-
-loop-less : tie.Need-loop-less Inv-loop μ-loop
-loop-less c = omega arith
-
 loop-again : tie.Need-loop-again Inv-loop μ-loop
 loop-again c =
     let a = c .before .before .before .before .before .before .before .before .before .before .args in
     let at = c .before .before .before .before .before .before .loop in
     framing-more (now (a .out)) (a .shape .stride) (a .shape .frames) (outputs-at (a .shape) (now (a .weights)) (now (a .inputs))) (at .out) (at .n) (at .inv) (c .before .before .mix-frame .last .0) (c .before .before .before .before .if1 .taken) (c .before .before .mix-frame .ensures .put)
-
-same-length : tie.Need-same-length Inv-loop μ-loop
-same-length c = omega arith
 
 returns : tie.Need-returns Inv-loop μ-loop
 returns c =
@@ -51,13 +39,5 @@ returns c =
 pub play-spec : {M : Type 1} → statement M
 play-spec =
     tie.close
-    (tie.spec
-    Inv-loop
-    μ-loop
-    loop-holds
-    mix-frame-requires
-    add-n
-    loop-less
-    loop-again
-    same-length
-    returns)
+    (tie.spec Inv-loop μ-loop loop-holds (λ c κs. tt) (λ c. omega arith) (λ c. omega arith) loop-again
+    (λ c. omega arith) returns)

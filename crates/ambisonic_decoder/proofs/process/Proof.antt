@@ -14,19 +14,10 @@ use Rattle.ambisonic_decoder.proofs.process.Tie as tie
 abbrev sounds : tie.Start → List (List Float)
 sounds c = let a = c .args in decoded (record { outputs = a .outputs; channels = a .channels; frames = a .frames; stride = a .stride }) (now (a .weights)) (now (a .inputs))
 
-refusal-of-requires : tie.Need-refusal-of-requires
-refusal-of-requires c κs = search needs
-
 returns : tie.Need-returns
 returns c =
     let start = c .before .before .before .before .before in
     refused-with answerOf (start .args .frames) (start .args .stride) (sounds start) (now (start .args .out)) _ _ (c .before .refusal-of .ensures) (c .if1 .taken)
-
-play-requires : tie.Need-play-requires
-play-requires c κs = search needs
-
-same-length : tie.Need-same-length
-same-length c = search needs
 
 returns-2 : tie.Need-returns-2
 returns-2 c =
@@ -34,4 +25,4 @@ returns-2 c =
     played-with answerOf (start .args .frames) (start .args .stride) (sounds start) (now (start .args .out)) _ _ (sym (c .before .before .before .before .before .refusal-of .ensures) ∙ c .before .before .before .before .if1 .left) (c .before .before .play .ensures)
 
 pub process-spec : {M : Type 1} → statement M
-process-spec = tie.close (tie.spec refusal-of-requires returns play-requires same-length returns-2)
+process-spec = tie.close (tie.spec (λ c κs. search needs) returns (λ c κs. search needs) (λ c. search needs) returns-2)

@@ -14,27 +14,15 @@ few-outputs c = sym (c .before .is-outside .ensures) ∙ c .if1 .left
 few-channels : (c : tie.Else2) → outside (c .before .before .before .before .before .args .shape .channels) 16 ≡ false
 few-channels c = sym (c .before .is-outside2 .ensures) ∙ c .if2 .left
 
-is-outside-requires : tie.Need-is-outside-requires
-is-outside-requires c κs = search needs
-
 returns : tie.Need-returns
 returns c = sym (cond-true _ _ (sym (c .before .is-outside .ensures) ∙ c .if1 .taken))
-
-is-outside-requires-2 : tie.Need-is-outside-requires-2
-is-outside-requires-2 c κs = search needs
 
 returns-2 : tie.Need-returns-2
 returns-2 c = sym (cond-false _ _ (few-outputs (c .before .before)) ∙ cond-true _ _ (sym (c .before .is-outside2 .ensures) ∙ c .if2 .taken))
 
-is-misfit-requires : tie.Need-is-misfit-requires
-is-misfit-requires c κs = search needs
-
 returns-3 : tie.Need-returns-3
 returns-3 c =
     sym (cond-false _ _ (few-outputs (c .before .before .before .before)) ∙ cond-false _ _ (few-channels (c .before .before)) ∙ cond-true _ _ (sym (c .before .is-misfit .ensures) ∙ c .if3 .taken))
-
-has-nonfinite-f64-requires : tie.Need-has-nonfinite-f64-requires
-has-nonfinite-f64-requires c κs = search needs
 
 returns-4 : tie.Need-returns-4
 returns-4 c =
@@ -55,13 +43,5 @@ returns-5 c =
 pub refusal-of-spec : {M : Type 1} → statement M
 refusal-of-spec =
     tie.close
-    (tie.spec
-    is-outside-requires
-    returns
-    is-outside-requires-2
-    returns-2
-    is-misfit-requires
-    returns-3
-    has-nonfinite-f64-requires
-    returns-4
-    returns-5)
+    (tie.spec (λ c κs. search needs) returns (λ c κs. search needs) returns-2 (λ c κs. search needs) returns-3
+    (λ c κs. search needs) returns-4 returns-5)

@@ -3,11 +3,8 @@ use borrow.Author.Needs.{needs}
 use Rattle.angles.proofs.cosine.Statement.{statement}
 use Rattle.angles.proofs.cosine.Tie as tie
 
-of-degrees-requires : tie.Need-of-degrees-requires
-of-degrees-requires c κs = search needs
-
 returns : tie.Need-returns
 returns c = c .of-degrees .ensures
 
 pub cosine-spec : {M : Type 1} → statement M
-cosine-spec = tie.close (tie.spec of-degrees-requires returns)
+cosine-spec = tie.close (tie.spec (λ c κs. search needs) returns)

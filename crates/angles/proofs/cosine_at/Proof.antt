@@ -8,14 +8,8 @@ use Rattle.angles.proofs.Room.{outermost-room, cosine-room}
 use Rattle.angles.proofs.cosine_at.Statement.{statement}
 use Rattle.angles.proofs.cosine_at.Tie as tie
 
-radians-requires : tie.Need-radians-requires
-radians-requires c κs = search needs
-
 outermost-requires : tie.Need-outermost-requires
 outermost-requires c κs = (outermost-room _ _ (c .radians .ensures), lit≤ tt)
-
-from-one-requires : tie.Need-from-one-requires
-from-one-requires c κs = search needs
 
 rounded-requires : tie.Need-rounded-requires
 rounded-requires c κs = cosine-room _ _ (c .before .before .radians .ensures) _ (c .from-one .ensures ∙ ap fromOne (c .before .outermost .ensures))
@@ -28,4 +22,4 @@ returns c =
     c .rounded .ensures ∙ (λ i. rounded (ltb one (g i)) ((s .from-one .ensures ∙ ap fromOne g) i))
 
 pub cosine-at-spec : {M : Type 1} → statement M
-cosine-at-spec = tie.close (tie.spec radians-requires outermost-requires from-one-requires rounded-requires returns)
+cosine-at-spec = tie.close (tie.spec (λ c κs. search needs) outermost-requires (λ c κs. search needs) rounded-requires returns)

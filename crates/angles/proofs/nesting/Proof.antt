@@ -19,12 +19,6 @@ few a b h k = omega (arith, mul-le-mul h k)
 times-requires : tie.Need-times-requires
 times-requires c κs = small _ _ (c .pre .0) (c .pre .1)
 
-add-result : tie.Need-add-result
-add-result c = omega arith
-
-add-result-2 : tie.Need-add-result-2
-add-result-2 c = omega arith
-
 mul-result : tie.Need-mul-result
 mul-result c = few _ _ (omega (arith, c .before .pre .2)) (omega (arith, c .before .pre .2))
 
@@ -36,4 +30,4 @@ unfolding nesting
 returns c = ap (λ (x : ℕ). x / ((c .before .args .j + 1) * (c .before .args .j + 2))) (c .times .ensures)
 
 pub nesting-spec : {M : Type 1} → statement M
-nesting-spec = tie.close (tie.spec times-requires add-result add-result-2 mul-result div-result returns)
+nesting-spec = tie.close (tie.spec times-requires (λ c. omega arith) (λ c. omega arith) mul-result div-result returns)

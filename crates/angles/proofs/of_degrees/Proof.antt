@@ -8,9 +8,6 @@ use Rattle.angles.proofs.Meets.{inside, placed, accepted-kept, refused-
 use Rattle.angles.proofs.of_degrees.Statement.{statement}
 use Rattle.angles.proofs.of_degrees.Tie as tie
 
-is-inside-requires : tie.Need-is-inside-requires
-is-inside-requires c κs = search needs
-
 returns : tie.Need-returns
 unfolding ofBits ofInt
 returns c = let a = c .before .before .args in refused-kept (waveOf (a .wave)) (a .d) _ (c .before .is-inside .ensures) (c .if1 .taken)
@@ -19,14 +16,8 @@ turned-requires : tie.Need-turned-requires
 unfolding ofBits ofInt
 turned-requires c κs = inside _ _ (c .before .is-inside .ensures) (c .if1 .left)
 
-enum-told : tie.Need-enum-told
-enum-told c = search needs
-
 sine-at-requires : tie.Need-sine-at-requires
 sine-at-requires c κs = placed _ _ (c .before .before .turned .ensures)
-
-enum-told-2 : tie.Need-enum-told-2
-enum-told-2 c = search needs
 
 cosine-at-requires : tie.Need-cosine-at-requires
 cosine-at-requires c κs = placed _ _ (c .before .before .turned .ensures)
@@ -50,13 +41,5 @@ returns-3 c =
 pub of-degrees-spec : {M : Type 1} → statement M
 of-degrees-spec =
     tie.close
-    (tie.spec
-    is-inside-requires
-    returns
-    turned-requires
-    enum-told
-    sine-at-requires
-    enum-told-2
-    cosine-at-requires
-    returns-2
-    returns-3)
+    (tie.spec (λ c κs. search needs) returns turned-requires (λ c. search needs) sine-at-requires (λ c. search needs)
+    cosine-at-requires returns-2 returns-3)

@@ -48,12 +48,6 @@ sub-f c =
     let a = asked _ _ _ _ _ (i .0) (s .before .pre .0) (s .before .pre .1) (s .times .ensures) (i .1) (i .2) in
     subst (λ (x : ℕ). x ≤ one) (sym (c .nesting .ensures)) (nesting-most (s .times .result) (l .loop .f) (l .loop .j) (a .0) (a .1) (c .before .loop-test .taken))
 
-sub-j : tie.Need-sub-j Inv-loop μ-loop
-sub-j c = omega arith
-
-loop-less : tie.Need-loop-less Inv-loop μ-loop
-loop-less c = omega arith
-
 loop-again : tie.Need-loop-again Inv-loop μ-loop
 loop-again c =
     let l = c .before .before in
@@ -84,4 +78,4 @@ returns c =
     c .nesting2 .ensures ∙ last (l .before .before .args .x) (l .before .before .args .top) _ (l .loop .f) (l .loop .j) (i .0) (l .before .times .ensures) (c .before .loop-test .left) (i .1) (i .2)
 
 pub outermost-spec : {M : Type 1} → statement M
-outermost-spec = tie.close (tie.spec Inv-loop μ-loop times-requires loop-holds nesting-requires sub-f sub-j loop-less loop-again nesting-requires-2 returns)
+outermost-spec = tie.close (tie.spec Inv-loop μ-loop times-requires loop-holds nesting-requires sub-f (λ c. omega arith) (λ c. omega arith) loop-again nesting-requires-2 returns)

@@ -6,15 +6,6 @@ use Rattle.angles.proofs.Room.{short-low, short-high}
 use Rattle.angles.proofs.radians.Statement.{statement}
 use Rattle.angles.proofs.radians.Tie as tie
 
-times-requires : tie.Need-times-requires
-times-requires c κs = search needs
-
-sub-times : tie.Need-sub-times
-sub-times c = search needs
-
-times-requires-2 : tie.Need-times-requires-2
-times-requires-2 c κs = search needs
-
 returns : tie.Need-returns
 unfolding radians
 returns c = c .times .ensures ∙ sym (ap radians (short-low (c .before .before .args .a) (c .before .if1 .taken)))
@@ -24,4 +15,4 @@ unfolding radians
 returns-2 c = c .times2 .ensures ∙ sym (ap radians (short-high (c .before .before .args .a) (c .before .if1 .left)))
 
 pub radians-spec : {M : Type 1} → statement M
-radians-spec = tie.close (tie.spec times-requires sub-times times-requires-2 returns returns-2)
+radians-spec = tie.close (tie.spec (λ c κs. search needs) (λ c. search needs) (λ c κs. search needs) returns returns-2)

@@ -16,9 +16,6 @@ use Rattle.angles.proofs.rounded.Tie as tie
 abbrev pick : Bool → Bool → ℕ → Float
 pick negative none n = let v = div binary64 (ofInt binary64 (pos n)) (fin false 1 (pos 51)) in cond negative (cond none v (neg v)) v
 
-add-n : tie.Need-add-n
-add-n c = search needs
-
 int-to-float-v : tie.Need-int-to-float-v
 unfolding inFloat
 int-to-float-v c = le→leb ((c .before .args .size + 256) / 512) (2 ^ 53) (omega (arith, c .before .pre))
@@ -36,4 +33,4 @@ unfolding rounded ofBits
 returns-3 c = let s = c .before .before .args in let n = (s .size + 256) / 512 in sym (ap (λ (b : Bool). pick b (eqb n 0) n) (c .if1 .left))
 
 pub rounded-spec : {M : Type 1} → statement M
-rounded-spec = tie.close (tie.spec add-n int-to-float-v returns returns-2 returns-3)
+rounded-spec = tie.close (tie.spec (λ c. search needs) int-to-float-v returns returns-2 returns-3)

@@ -9,14 +9,8 @@ use Rattle.angles.proofs.Room.{outermost-room, sine-room}
 use Rattle.angles.proofs.sine_at.Statement.{statement}
 use Rattle.angles.proofs.sine_at.Tie as tie
 
-radians-requires : tie.Need-radians-requires
-radians-requires c κs = search needs
-
 outermost-requires : tie.Need-outermost-requires
 outermost-requires c κs = (outermost-room _ _ (c .radians .ensures), lit≤ tt)
-
-from-one-requires : tie.Need-from-one-requires
-from-one-requires c κs = search needs
 
 times-requires : tie.Need-times-requires
 times-requires c κs = sine-room _ _ (c .before .before .radians .ensures) _ (c .from-one .ensures ∙ ap fromOne (c .before .outermost .ensures)) .0
@@ -36,4 +30,4 @@ returns c =
     c .rounded .ensures ∙ (λ i. f (g i) ((c .before .times .ensures ∙ λ j. times (x j) ((s .from-one .ensures ∙ ap fromOne g) j)) i))
 
 pub sine-at-spec : {M : Type 1} → statement M
-sine-at-spec = tie.close (tie.spec radians-requires outermost-requires from-one-requires times-requires rounded-requires returns)
+sine-at-spec = tie.close (tie.spec (λ c κs. search needs) outermost-requires (λ c κs. search needs) times-requires rounded-requires returns)

@@ -12,9 +12,6 @@ units-requires : tie.Need-units-requires
 unfolding ofBits ofInt
 units-requires c κs = negated (c .before .args .d) (c .before .pre) (c .if1 .taken) .0
 
-sub-result : tie.Need-sub-result
-sub-result c = search needs
-
 units-requires-2 : tie.Need-units-requires-2
 unfolding ofBits ofInt
 units-requires-2 c κs = itself (c .before .args .d) (c .before .pre) (c .if1 .left) .0
@@ -33,4 +30,4 @@ returns-2 c =
     ap (λ (u : ℕ). u % turn) (c .units2 .ensures) ∙ itself (s .args .d) (s .pre) (c .before .if1 .left) .1
 
 pub turned-spec : {M : Type 1} → statement M
-turned-spec = tie.close (tie.spec units-requires sub-result units-requires-2 returns returns-2)
+turned-spec = tie.close (tie.spec units-requires (λ c. search needs) units-requires-2 returns returns-2)

@@ -101,22 +101,13 @@ returns-2 c =
 pub convert-spec : {M : Type 1} → statement M
 convert-spec =
     tie.close
-    (tie.spec
-    (λ c κs. search needs)
-    (λ c κs. tt)
-    returns
-    (λ c. search needs)
-    (λ c. search needs)
-    (λ c. search needs)
-    (λ c κs. search needs)
-    (λ c. let r = c .before .before .before in omega (arith, few r, azimuths r))
+    (tie.spec (λ c κs. search needs) (λ c κs. tt) returns (λ c. search needs) (λ c. search needs) (λ c. search needs)
+    (λ c κs. search needs) (λ c. let r = c .before .before .before in omega (arith, few r, azimuths r))
     (λ c. sym (rows-found (c .before .before .before .before)))
     (λ c. let r = c .before .before .before .before in omega (arith, few r, elevations r))
     (λ c. sym (raised-found (c .before .before .before .before .before)))
     (λ c. omega (arith, few (c .before .before .before .before .before)))
     (λ c. omega (arith, reach (c .before .before .before .before .before)))
     (λ c. let r = c .before .before .before .before .before in omega (arith, reach r, taps r))
-    (λ c. sym (taps-found (c .before .before .before .before .before .before)))
-    convert-bank-requires
-    (λ c. search needs)
-    returns-2)
+    (λ c. sym (taps-found (c .before .before .before .before .before .before))) convert-bank-requires
+    (λ c. search needs) returns-2)

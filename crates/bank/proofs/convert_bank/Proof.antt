@@ -52,13 +52,5 @@ returns-3 c =
 pub convert-bank-spec : {M : Type 1} → statement M
 convert-bank-spec =
     tie.close
-    (tie.spec
-    (λ c κs. search needs)
-    (λ c κs. tt)
-    returns
-    (λ c κs. search needs)
-    (λ c κs. tt)
-    returns-2
-    (λ c κs. search needs)
-    (λ c. search needs)
-    returns-3)
+    (tie.spec (λ c κs. search needs) (λ c κs. tt) returns (λ c κs. search needs) (λ c κs. tt) returns-2
+    (λ c κs. search needs) (λ c. search needs) returns-3)

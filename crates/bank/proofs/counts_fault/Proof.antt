@@ -6,16 +6,10 @@ use borrow.Author.Needs.{needs}
 use Rattle.bank.proofs.counts_fault.Statement.{statement}
 use Rattle.bank.proofs.counts_fault.Tie as tie
 
-is-within-requires : tie.Need-is-within-requires
-is-within-requires c κs = search needs
-
 returns : tie.Need-returns
 returns c =
     let args = c .before .before .args in
     rows-wrong (args .rows) (args .l) (sym (c .before .is-within .ensures) ∙ not-true _ (c .if1 .taken))
-
-is-within-requires-2 : tie.Need-is-within-requires-2
-is-within-requires-2 c κs = search needs
 
 returns-2 : tie.Need-returns-2
 returns-2 c =
@@ -31,4 +25,4 @@ returns-3 c =
 
 pub counts-fault-spec : {M : Type 1} → statement M
 counts-fault-spec =
-    tie.close (tie.spec is-within-requires returns is-within-requires-2 returns-2 returns-3)
+    tie.close (tie.spec (λ c κs. search needs) returns (λ c κs. search needs) returns-2 returns-3)

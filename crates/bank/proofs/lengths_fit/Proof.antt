@@ -34,13 +34,5 @@ returns-4 c =
 pub lengths-fit-spec : {M : Type 1} → statement M
 lengths-fit-spec =
     tie.close
-    (tie.spec
-    returns
-    (λ c. search needs)
-    (λ c κs. search needs)
-    returns-2
-    returns-3
-    (λ c. search needs)
-    (λ c. search needs)
-    add-result
-    returns-4)
+    (tie.spec returns (λ c. search needs) (λ c κs. search needs) returns-2 returns-3 (λ c. search needs)
+    (λ c. search needs) add-result returns-4)

@@ -51,17 +51,5 @@ returns-2 c = sym (c .before .loop .inv .3 ∙ raised-end _ _ (c .before .loop .
 pub raised-fault-spec : {M : Type 1} → statement M
 raised-fault-spec =
     tie.close
-    (tie.spec
-    Inv-loop
-    μ-loop
-    (λ c κs. tt)
-    loop-holds
-    (λ c. omega arith)
-    (λ c. c .loop-test .taken)
-    (λ c. omega arith)
-    returns
-    (λ c. omega arith)
-    (λ c. omega arith)
-    (λ c. omega arith)
-    loop-again
-    returns-2)
+    (tie.spec Inv-loop μ-loop (λ c κs. tt) loop-holds (λ c. omega arith) (λ c. c .loop-test .taken) (λ c. omega arith)
+    returns (λ c. omega arith) (λ c. omega arith) (λ c. omega arith) loop-again returns-2)

@@ -86,21 +86,6 @@ returns-4 c =
 pub read-start-spec : {M : Type 1} → statement M
 read-start-spec =
     tie.close
-    (tie.spec
-    (λ c κs. search needs)
-    (λ c κs. tt)
-    returns
-    (λ c κs. search needs)
-    (λ c κs. tt)
-    returns-2
-    (λ c κs. search needs)
-    (λ c κs. tt)
-    returns-3
-    (λ c κs. search needs)
-    (λ c κs. search needs)
-    (λ c κs. search needs)
-    fill-rows-requires
-    (λ c. search needs)
-    (λ c. search needs)
-    (λ c. search needs)
-    returns-4)
+    (tie.spec (λ c κs. search needs) (λ c κs. tt) returns (λ c κs. search needs) (λ c κs. tt) returns-2
+    (λ c κs. search needs) (λ c κs. tt) returns-3 (λ c κs. search needs) (λ c κs. search needs) (λ c κs. search needs)
+    fill-rows-requires (λ c. search needs) (λ c. search needs) (λ c. search needs) returns-4)

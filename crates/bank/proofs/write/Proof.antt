@@ -45,14 +45,5 @@ write-checked-requires c κs =
 pub write-spec : {M : Type 1} → statement M
 write-spec =
     tie.close
-    (tie.spec
-    (λ c κs. search needs)
-    (λ c κs. tt)
-    returns
-    (λ c κs. search needs)
-    (λ c κs. tt)
-    returns-2
-    (λ c. search needs)
-    write-checked-requires
-    (λ c. search needs)
-    (λ c. search needs))
+    (tie.spec (λ c κs. search needs) (λ c κs. tt) returns (λ c κs. search needs) (λ c κs. tt) returns-2
+    (λ c. search needs) write-checked-requires (λ c. search needs) (λ c. search needs))

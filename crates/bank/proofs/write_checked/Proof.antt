@@ -104,17 +104,8 @@ returns-2 c =
 pub write-checked-spec : {M : Type 1} → statement M
 write-checked-spec =
     tie.close
-    (tie.spec
-    put-bank-requires
-    (λ c. room (c .before .before))
-    (λ c. sym (length-take-le _ _ (room (c .before .before .before))))
-    (λ c κs. search needs)
-    (λ c κs. tt)
-    (λ c. search needs)
-    returns
-    (λ c. room (c .before .before .before .before .before .before))
-    (λ c. sym (length-take-le _ _ (room (c .before .before .before .before .before .before .before))))
-    copy-requires
-    (λ c. search needs)
-    (λ c. search needs)
-    returns-2)
+    (tie.spec put-bank-requires (λ c. room (c .before .before))
+    (λ c. sym (length-take-le _ _ (room (c .before .before .before)))) (λ c κs. search needs) (λ c κs. tt)
+    (λ c. search needs) returns (λ c. room (c .before .before .before .before .before .before))
+    (λ c. sym (length-take-le _ _ (room (c .before .before .before .before .before .before .before)))) copy-requires
+    (λ c. search needs) (λ c. search needs) returns-2)

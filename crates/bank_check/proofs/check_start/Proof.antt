@@ -45,11 +45,5 @@ returns-2 c =
 pub check-start-spec : {M : Type 1} → statement M
 check-start-spec =
     tie.close
-    (tie.spec
-    (λ c κs. search needs)
-    returns
-    (λ c κs. search needs)
-    (λ c κs. search needs)
-    (λ c κs. search needs)
-    rows-fault-requires
-    returns-2)
+    (tie.spec (λ c κs. search needs) returns (λ c κs. search needs) (λ c κs. search needs) (λ c κs. search needs)
+    rows-fault-requires returns-2)

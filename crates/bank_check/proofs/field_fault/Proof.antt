@@ -5,9 +5,6 @@ use borrow.Author.Needs.{needs}
 use Rattle.bank_check.proofs.field_fault.Statement.{statement}
 use Rattle.bank_check.proofs.field_fault.Tie as tie
 
-add-if1 : tie.Need-add-if1
-add-if1 c = search needs
-
 returns : tie.Need-returns
 returns c = sym (field-short _ _ _ _ _ (c .if1 .taken))
 
@@ -18,4 +15,4 @@ returns-3 : tie.Need-returns-3
 returns-3 c = sym (field-bad _ _ _ _ _ (c .before .if1 .left) (c .if2 .left))
 
 pub field-fault-spec : {M : Type 1} → statement M
-field-fault-spec = tie.close (tie.spec add-if1 returns returns-2 returns-3)
+field-fault-spec = tie.close (tie.spec (λ c. search needs) returns returns-2 returns-3)

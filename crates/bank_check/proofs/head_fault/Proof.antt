@@ -19,18 +19,9 @@ module _ (c : tie.After-head-field2) where
   length-field : c .head-field2 .result ≡ headField size file 1 4 14 (size - 5) (size - 5)
   length-field = c .head-field2 .ensures ∙ ap₂ (headField _ _ _ _ _) (c .before .bytes-after .ensures) (c .before .bytes-after .ensures)
 
-head-field-requires : tie.Need-head-field-requires
-head-field-requires c κs = search needs
-
 returns : tie.Need-returns
 unfolding headFault
 returns c = else-stop _ _ _ (c .before .before .head-field .ensures) (c .if1 .taken)
-
-bytes-after-requires : tie.Need-bytes-after-requires
-bytes-after-requires c κs = search needs
-
-head-field-requires-2 : tie.Need-head-field-requires-2
-head-field-requires-2 c κs = search needs
 
 returns-2 : tie.Need-returns-2
 unfolding headFault
@@ -38,18 +29,12 @@ returns-2 c =
     let version = else-on _ _ _ (c .before .before .before .before .before .before .head-field .ensures) (c .before .before .before .before .if1 .left) in
     else-stop _ _ _ (length-field (c .before .before)) (c .if2 .taken) ∙ sym version
 
-head-field-requires-3 : tie.Need-head-field-requires-3
-head-field-requires-3 c κs = search needs
-
 returns-3 : tie.Need-returns-3
 unfolding headFault
 returns-3 c =
     let version = else-on _ _ _ (c .before .before .before .before .before .before .before .before .before .head-field .ensures) (c .before .before .before .before .before .before .before .if1 .left) in
     let rest = else-on _ _ _ (length-field (c .before .before .before .before .before)) (c .before .before .before .if2 .left) in
     else-stop _ _ _ (c .before .before .head-field3 .ensures) (c .if3 .taken) ∙ sym (version ∙ rest)
-
-head-field-requires-4 : tie.Need-head-field-requires-4
-head-field-requires-4 c κs = search needs
 
 returns-4 : tie.Need-returns-4
 unfolding headFault
@@ -62,13 +47,5 @@ returns-4 c =
 pub head-fault-spec : {M : Type 1} → statement M
 head-fault-spec =
     tie.close
-    (tie.spec
-    head-field-requires
-    returns
-    bytes-after-requires
-    head-field-requires-2
-    returns-2
-    head-field-requires-3
-    returns-3
-    head-field-requires-4
-    returns-4)
+    (tie.spec (λ c κs. search needs) returns (λ c κs. search needs) (λ c κs. search needs) returns-2
+    (λ c κs. search needs) returns-3 (λ c κs. search needs) returns-4)

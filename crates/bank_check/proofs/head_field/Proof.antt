@@ -7,15 +7,6 @@ use borrow.Author.Needs.{needs}
 use Rattle.bank_check.proofs.head_field.Statement.{statement}
 use Rattle.bank_check.proofs.head_field.Tie as tie
 
-get-requires : tie.Need-get-requires
-get-requires c κs = search needs
-
-is-within-requires : tie.Need-is-within-requires
-is-within-requires c κs = search needs
-
-field-fault-requires : tie.Need-field-fault-requires
-field-fault-requires c κs = search needs
-
 returns : tie.Need-returns
 unfolding headField
 returns c =
@@ -25,4 +16,4 @@ returns c =
     c .field-fault .ensures ∙ ap (field _ _ _ _) good
 
 pub head-field-spec : {M : Type 1} → statement M
-head-field-spec = tie.close (tie.spec get-requires is-within-requires field-fault-requires returns)
+head-field-spec = tie.close (tie.spec (λ c κs. search needs) (λ c κs. search needs) (λ c κs. search needs) returns)

@@ -15,29 +15,14 @@ Inv-loop size s version l n row i₀ at₀ i at = (row ≡ rowSize version l) ×
 abbrev μ-loop : tie.MeasureT-loop
 μ-loop size s version l n row i₀ at₀ i at = n - i
 
-row-size-requires : tie.Need-row-size-requires Inv-loop μ-loop
-row-size-requires c κs = tt
-
 loop-holds : tie.Need-loop-holds Inv-loop μ-loop
 loop-holds c = (one-size (c .before .before .args .version) _ _ (c .before .before .pre .0) (c .row-size .ensures .0), c .row-size .ensures .1, omega arith, omega arith, ap (rowsFault _ _ _ _ _ _) (omega arith))
-
-row-fault-requires : tie.Need-row-fault-requires Inv-loop μ-loop
-row-fault-requires c κs = omega arith
 
 returns : tie.Need-returns Inv-loop μ-loop
 returns c =
     let turn = c .before .before .before .before .loop in
     let more : 0 < c .before .before .before .before .before .before .before .args .n - turn .i = omega arith in
     else-stop _ _ _ (c .before .before .row-fault .ensures) (c .if1 .taken) ∙ sym (turn .inv .4 ∙ rows-next _ _ _ _ _ _ _ more)
-
-add-at : tie.Need-add-at Inv-loop μ-loop
-add-at c = omega arith
-
-add-i : tie.Need-add-i Inv-loop μ-loop
-add-i c = omega arith
-
-loop-less : tie.Need-loop-less Inv-loop μ-loop
-loop-less c = omega arith
 
 loop-again : tie.Need-loop-again Inv-loop μ-loop
 loop-again c =
@@ -64,16 +49,5 @@ returns-3 c =
 pub rows-fault-spec : {M : Type 1} → statement M
 rows-fault-spec =
     tie.close
-    (tie.spec
-    Inv-loop
-    μ-loop
-    row-size-requires
-    loop-holds
-    row-fault-requires
-    returns
-    add-at
-    add-i
-    loop-less
-    loop-again
-    returns-2
-    returns-3)
+    (tie.spec Inv-loop μ-loop (λ c κs. tt) loop-holds (λ c κs. omega arith) returns (λ c. omega arith)
+    (λ c. omega arith) (λ c. omega arith) loop-again returns-2 returns-3)

@@ -36,32 +36,11 @@ module _ (c : tie.After-field-fault Inv-loop μ-loop) where
 loop-holds : tie.Need-loop-holds Inv-loop μ-loop
 loop-holds c = (c .before .pre, refl)
 
-get-f32-requires : tie.Need-get-f32-requires Inv-loop μ-loop
-get-f32-requires c κs = tt
-
-widen-requires : tie.Need-widen-requires Inv-loop μ-loop
-widen-requires c κs = tt
-
-is-finite-requires : tie.Need-is-finite-requires Inv-loop μ-loop
-is-finite-requires c κs = tt
-
-field-fault-requires : tie.Need-field-fault-requires Inv-loop μ-loop
-field-fault-requires c κs = omega arith
-
 returns : tie.Need-returns Inv-loop μ-loop
 returns c =
     let turn = c .before .before .before .before .before .before .before .loop in
     let more = c .before .before .before .before .before .before .loop-test .taken in
     else-stop _ _ _ (here (c .before .before)) (c .if1 .taken) ∙ sym (turn .inv .1 ∙ taps-next _ _ _ _ more)
-
-add-p : tie.Need-add-p Inv-loop μ-loop
-add-p c = omega arith
-
-sub-k : tie.Need-sub-k Inv-loop μ-loop
-sub-k c = omega arith
-
-loop-less : tie.Need-loop-less Inv-loop μ-loop
-loop-less c = omega arith
 
 loop-again : tie.Need-loop-again Inv-loop μ-loop
 loop-again c =
@@ -78,17 +57,5 @@ returns-2 c =
 pub taps-fault-spec : {M : Type 1} → statement M
 taps-fault-spec =
     tie.close
-    (tie.spec
-    Inv-loop
-    μ-loop
-    loop-holds
-    get-f32-requires
-    widen-requires
-    is-finite-requires
-    field-fault-requires
-    returns
-    add-p
-    sub-k
-    loop-less
-    loop-again
-    returns-2)
+    (tie.spec Inv-loop μ-loop loop-holds (λ c κs. tt) (λ c κs. tt) (λ c κs. tt) (λ c κs. omega arith) returns
+    (λ c. omega arith) (λ c. omega arith) (λ c. omega arith) loop-again returns-2)

@@ -16,9 +16,6 @@ Inv-loop s at count n₀ i₀ n i = (i ≤ count) × (count ≤ 8) × (at + coun
 abbrev μ-loop : tie.MeasureT-loop
 μ-loop s at count n₀ i₀ n i = count - i
 
-lies-inside-requires : tie.Need-lies-inside-requires Inv-loop μ-loop
-lies-inside-requires c κs = tt
-
 returns : tie.Need-returns Inv-loop μ-loop
 returns c = record { bits = sym (field-out _ _ _ (sym (c .before .lies-inside .ensures) ∙ not-true _ (c .if1 .taken))); bound = power-pos _ }
 
@@ -31,25 +28,10 @@ loop-holds c =
 mul-n : tie.Need-mul-n Inv-loop μ-loop
 mul-n c = let small = eight-fit _ _ (omega arith) (below-next (c .before .loop .n) (c .before .loop .i) 0 (c .before .loop .inv .4) (omega arith)) in omega arith
 
-add-wide : tie.Need-add-wide Inv-loop μ-loop
-add-wide c = omega arith
-
-shared-slice-read-wide : tie.Need-shared-slice-read-wide Inv-loop μ-loop
-shared-slice-read-wide c = omega arith
-
-wide-requires : tie.Need-wide-requires Inv-loop μ-loop
-wide-requires c κs = tt
-
 add-n : tie.Need-add-n Inv-loop μ-loop
 add-n c =
     let turn = c .before .before .before .loop in
     record { fits = eight-fit _ _ (omega arith) (below-next (turn .n) (turn .i) (c .wide .result) (turn .inv .4) (c .wide .ensures .1)) }
-
-add-i : tie.Need-add-i Inv-loop μ-loop
-add-i c = omega arith
-
-loop-less : tie.Need-loop-less Inv-loop μ-loop
-loop-less c = omega arith
 
 loop-again : tie.Need-loop-again Inv-loop μ-loop
 loop-again c =
@@ -73,18 +55,5 @@ returns-2 c =
 pub get-spec : {M : Type 1} → statement M
 get-spec =
     tie.close
-    (tie.spec
-    Inv-loop
-    μ-loop
-    lies-inside-requires
-    returns
-    loop-holds
-    mul-n
-    add-wide
-    shared-slice-read-wide
-    wide-requires
-    add-n
-    add-i
-    loop-less
-    loop-again
-    returns-2)
+    (tie.spec Inv-loop μ-loop (λ c κs. tt) returns loop-holds mul-n (λ c. omega arith) (λ c. omega arith) (λ c κs. tt)
+    add-n (λ c. omega arith) (λ c. omega arith) loop-again returns-2)

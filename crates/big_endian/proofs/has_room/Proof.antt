@@ -7,9 +7,6 @@ use Rattle.big_endian.proofs.has_room.Tie as tie
 returns : tie.Need-returns
 returns c = no-width _ _ _ _ (c .if1 .taken)
 
-div-if2 : tie.Need-div-if2
-div-if2 c = omega arith
-
 returns-2 : tie.Need-returns-2
 returns-2 c = too-many _ _ _ _ (c .before .if1 .left) (c .if2 .taken)
 
@@ -23,4 +20,4 @@ returns-3 : tie.Need-returns-3
 returns-3 c = same-room _ _ _ (few-enough _ _ _ (c .before .if1 .left) (c .if2 .left))
 
 pub has-room-spec : {M : Type 1} → statement M
-has-room-spec = tie.close (tie.spec returns div-if2 returns-2 mul-result sub-result returns-3)
+has-room-spec = tie.close (tie.spec returns (λ c. omega arith) returns-2 mul-result sub-result returns-3)

@@ -7,11 +7,8 @@ use Rattle.big_endian.proofs.lies_inside.Tie as tie
 returns : tie.Need-returns
 returns c = sym (lies-long _ _ _ (c .if1 .taken))
 
-has-room-requires : tie.Need-has-room-requires
-has-room-requires c κs = tt
-
 returns-2 : tie.Need-returns-2
 returns-2 c = c .has-room .ensures ∙ lies-room _ _ _ (c .before .if1 .left)
 
 pub lies-inside-spec : {M : Type 1} → statement M
-lies-inside-spec = tie.close (tie.spec returns has-room-requires returns-2)
+lies-inside-spec = tie.close (tie.spec returns (λ c κs. tt) returns-2)

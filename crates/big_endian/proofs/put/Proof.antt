@@ -14,9 +14,6 @@ Inv-loop out₀ at count n rest₀ k₀ out rest k = (k ≤ count) × (count ≤
 abbrev μ-loop : tie.MeasureT-loop
 μ-loop out₀ at count n rest₀ k₀ out rest k = k
 
-lies-inside-requires : tie.Need-lies-inside-requires Inv-loop μ-loop
-lies-inside-requires c κs = tt
-
 returns : tie.Need-returns Inv-loop μ-loop
 returns c = sym (written-out _ _ _ _ (sym (c .before .lies-inside .ensures) ∙ not-true _ (c .if1 .taken)))
 
@@ -25,23 +22,11 @@ loop-holds c =
     let inside = lies-true _ _ _ (sym (c .before .lies-inside .ensures) ∙ not-false _ (c .if1 .left)) in
     (omega arith, inside .0, inside .1, all-left _ _, put-none _ _ _ _)
 
-sub-k : tie.Need-sub-k Inv-loop μ-loop
-sub-k c = omega arith
-
-cast-out : tie.Need-cast-out Inv-loop μ-loop
-cast-out c = omega arith
-
-add-out : tie.Need-add-out Inv-loop μ-loop
-add-out c = omega arith
-
 slice-write-out : tie.Need-slice-write-out Inv-loop μ-loop
 slice-write-out c =
     let turn = c .before .loop in
     let long : length (turn .out) ≡ length (c .before .before .before .before .before .args .out .now) = rw (turn .inv .4) (length-put _ _ _ _ _ (turn .inv .0) (turn .inv .2)) in
     omega arith
-
-loop-less : tie.Need-loop-less Inv-loop μ-loop
-loop-less c = omega arith
 
 loop-again : tie.Need-loop-again Inv-loop μ-loop
 loop-again c =
@@ -61,17 +46,5 @@ returns-2 c =
 pub put-spec : {M : Type 1} → statement M
 put-spec =
     tie.close
-    (tie.spec
-    Inv-loop
-    μ-loop
-    lies-inside-requires
-    returns
-    loop-holds
-    sub-k
-    cast-out
-    add-out
-    slice-write-out
-    loop-less
-    loop-again
-    same-length
-    returns-2)
+    (tie.spec Inv-loop μ-loop (λ c κs. tt) returns loop-holds (λ c. omega arith) (λ c. omega arith) (λ c. omega arith)
+    slice-write-out (λ c. omega arith) loop-again same-length returns-2)

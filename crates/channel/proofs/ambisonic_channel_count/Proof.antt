@@ -9,9 +9,6 @@ use borrow.Author.Needs.{needs}
 use Rattle.channel.proofs.ambisonic_channel_count.Statement.{statement}
 use Rattle.channel.proofs.ambisonic_channel_count.Tie as tie
 
-refuses-order-requires : tie.Need-refuses-order-requires
-refuses-order-requires c κs = search needs
-
 returns : tie.Need-returns
 returns c = order-counted (c .before .before .args .order) true (sym (c .if1 .taken) ∙ c .before .refuses-order .ensures)
 
@@ -33,4 +30,4 @@ returns-2 c = order-counted (c .before .before .args .order) false (sym (order-i
 
 pub ambisonic-channel-count-spec : {M : Type 1} → statement M
 ambisonic-channel-count-spec =
-    tie.close (tie.spec refuses-order-requires returns add-t3 add-t4 mul-t5 returns-2)
+    tie.close (tie.spec (λ c κs. search needs) returns add-t3 add-t4 mul-t5 returns-2)

@@ -6,12 +6,6 @@ use borrow.Author.Needs.{needs}
 use Rattle.channel.proofs.channel_count.Statement.{statement}
 use Rattle.channel.proofs.channel_count.Tie as tie
 
-channels-requires : tie.Need-channels-requires
-channels-requires c κs = search needs
-
-is-outside-requires : tie.Need-is-outside-requires
-is-outside-requires c κs = search needs
-
 returns : tie.Need-returns
 returns c = layout-counted (c .before .before .before .args .layout) _ true (c .before .before .channels .ensures) (sym (c .before .is-outside .ensures) ∙ c .if1 .taken)
 
@@ -19,4 +13,4 @@ returns-2 : tie.Need-returns-2
 returns-2 c = layout-counted (c .before .before .before .args .layout) _ false (c .before .before .channels .ensures) (sym (c .before .is-outside .ensures) ∙ c .if1 .left)
 
 pub channel-count-spec : {M : Type 1} → statement M
-channel-count-spec = tie.close (tie.spec channels-requires is-outside-requires returns returns-2)
+channel-count-spec = tie.close (tie.spec (λ c κs. search needs) (λ c κs. search needs) returns returns-2)

@@ -5,21 +5,6 @@ use borrow.Author.Needs.{needs}
 use Rattle.channel.proofs.channels.Statement.{statement}
 use Rattle.channel.proofs.channels.Tie as tie
 
-enum-told : tie.Need-enum-told
-enum-told c = search needs
-
-enum-told-2 : tie.Need-enum-told-2
-enum-told-2 c = search needs
-
-enum-told-3 : tie.Need-enum-told-3
-enum-told-3 c = search needs
-
-enum-told-4 : tie.Need-enum-told-4
-enum-told-4 c = search needs
-
-enum-known-layout : tie.Need-enum-known-layout
-enum-known-layout c = search needs
-
 returns : tie.Need-returns
 returns c = ap channelsOf (sym (c .enum-told .given .1))
 
@@ -32,20 +17,8 @@ returns-3 c = ap channelsOf (sym (c .enum-told3 .given .1))
 returns-4 : tie.Need-returns-4
 returns-4 c = ap channelsOf (sym (c .enum-told4 .given .1))
 
-returns-5 : tie.Need-returns-5
-returns-5 c = search needs
-
 pub channels-spec : {M : Type 1} → statement M
 channels-spec =
     tie.close
-    (tie.spec
-    enum-told
-    enum-told-2
-    enum-told-3
-    enum-told-4
-    enum-known-layout
-    returns
-    returns-2
-    returns-3
-    returns-4
-    returns-5)
+    (tie.spec (λ c. search needs) (λ c. search needs) (λ c. search needs) (λ c. search needs) (λ c. search needs)
+    returns returns-2 returns-3 returns-4 (λ c. search needs))

@@ -7,14 +7,8 @@ use borrow.Author.Needs.{needs}
 use Rattle.channel.proofs.is_low_frequency.Statement.{statement}
 use Rattle.channel.proofs.is_low_frequency.Tie as tie
 
-is-surround-requires : tie.Need-is-surround-requires
-is-surround-requires c κs = search needs
-
 returns : tie.Need-returns
 returns c = sym (cond-true (eqb (c .before .before .args .channel) 3) false (sym (c .before .is-surround .ensures) ∙ c .if1 .taken))
 
-returns-2 : tie.Need-returns-2
-returns-2 c = search needs
-
 pub is-low-frequency-spec : {M : Type 1} → statement M
-is-low-frequency-spec = tie.close (tie.spec is-surround-requires returns returns-2)
+is-low-frequency-spec = tie.close (tie.spec (λ c κs. search needs) returns (λ c. search needs))

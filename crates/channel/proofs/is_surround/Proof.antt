@@ -5,21 +5,6 @@ use borrow.Author.Needs.{needs}
 use Rattle.channel.proofs.is_surround.Statement.{statement}
 use Rattle.channel.proofs.is_surround.Tie as tie
 
-enum-told : tie.Need-enum-told
-enum-told c = search needs
-
-enum-told-2 : tie.Need-enum-told-2
-enum-told-2 c = search needs
-
-enum-told-3 : tie.Need-enum-told-3
-enum-told-3 c = search needs
-
-enum-told-4 : tie.Need-enum-told-4
-enum-told-4 c = search needs
-
-enum-told-5 : tie.Need-enum-told-5
-enum-told-5 c = search needs
-
 returns : tie.Need-returns
 returns c = ap surround (sym (c .enum-told .given .1))
 
@@ -38,14 +23,5 @@ returns-5 c = ap surround (sym (c .enum-told5 .given .1))
 pub is-surround-spec : {M : Type 1} → statement M
 is-surround-spec =
     tie.close
-    (tie.spec
-    enum-told
-    enum-told-2
-    enum-told-3
-    enum-told-4
-    enum-told-5
-    returns
-    returns-2
-    returns-3
-    returns-4
-    returns-5)
+    (tie.spec (λ c. search needs) (λ c. search needs) (λ c. search needs) (λ c. search needs) (λ c. search needs)
+    returns returns-2 returns-3 returns-4 returns-5)

@@ -5,12 +5,6 @@ use borrow.Author.Needs.{needs}
 use Rattle.channel.proofs.position_tenths.Statement.{statement}
 use Rattle.channel.proofs.position_tenths.Tie as tie
 
-slice-aggregate-look-up : tie.Need-slice-aggregate-look-up
-slice-aggregate-look-up c = search needs
-
-look-up-requires : tie.Need-look-up-requires
-look-up-requires c κs = search needs
-
 mul-t6 : tie.Need-mul-t6
 mul-t6 c = let i = c .before .before .before .before .args .i in tenths-held positions i (position-turned i) _ (c .before .before .look-up .ensures)
 
@@ -18,4 +12,4 @@ returns : tie.Need-returns
 returns c = let i = c .before .before .before .before .args .i in in-tenths positions i (position-turned i) _ (c .before .before .look-up .ensures)
 
 pub position-tenths-spec : {M : Type 1} → statement M
-position-tenths-spec = tie.close (tie.spec slice-aggregate-look-up look-up-requires mul-t6 returns)
+position-tenths-spec = tie.close (tie.spec (λ c. search needs) (λ c κs. search needs) mul-t6 returns)

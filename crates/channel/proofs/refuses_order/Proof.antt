@@ -3,11 +3,8 @@ use borrow.Author.Needs.{needs}
 use Rattle.channel.proofs.refuses_order.Statement.{statement}
 use Rattle.channel.proofs.refuses_order.Tie as tie
 
-is-outside-requires : tie.Need-is-outside-requires
-is-outside-requires c κs = search needs
-
 returns : tie.Need-returns
 returns c = c .is-outside .ensures
 
 pub refuses-order-spec : {M : Type 1} → statement M
-refuses-order-spec = tie.close (tie.spec is-outside-requires returns)
+refuses-order-spec = tie.close (tie.spec (λ c κs. search needs) returns)

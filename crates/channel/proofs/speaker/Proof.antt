@@ -9,45 +9,6 @@ use borrow.Author.Needs.{needs}
 use Rattle.channel.proofs.speaker.Statement.{statement}
 use Rattle.channel.proofs.speaker.Tie as tie
 
-enum-told : tie.Need-enum-told
-enum-told c = search needs
-
-slice-aggregate-look-up : tie.Need-slice-aggregate-look-up
-slice-aggregate-look-up c = search needs
-
-look-up-requires : tie.Need-look-up-requires
-look-up-requires c κs = search needs
-
-enum-told-2 : tie.Need-enum-told-2
-enum-told-2 c = search needs
-
-slice-aggregate-look-up-2 : tie.Need-slice-aggregate-look-up-2
-slice-aggregate-look-up-2 c = search needs
-
-look-up-requires-2 : tie.Need-look-up-requires-2
-look-up-requires-2 c κs = search needs
-
-enum-told-3 : tie.Need-enum-told-3
-enum-told-3 c = search needs
-
-slice-aggregate-look-up-3 : tie.Need-slice-aggregate-look-up-3
-slice-aggregate-look-up-3 c = search needs
-
-look-up-requires-3 : tie.Need-look-up-requires-3
-look-up-requires-3 c κs = search needs
-
-enum-told-4 : tie.Need-enum-told-4
-enum-told-4 c = search needs
-
-slice-aggregate-look-up-4 : tie.Need-slice-aggregate-look-up-4
-slice-aggregate-look-up-4 c = search needs
-
-look-up-requires-4 : tie.Need-look-up-requires-4
-look-up-requires-4 c κs = search needs
-
-enum-told-5 : tie.Need-enum-told-5
-enum-told-5 c = search needs
-
 returns : tie.Need-returns
 returns c =
     let s = c .before .before .before .before in
@@ -76,22 +37,6 @@ returns-5 c =
 pub speaker-spec : {M : Type 1} → statement M
 speaker-spec =
     tie.close
-    (tie.spec
-    enum-told
-    slice-aggregate-look-up
-    look-up-requires
-    enum-told-2
-    slice-aggregate-look-up-2
-    look-up-requires-2
-    enum-told-3
-    slice-aggregate-look-up-3
-    look-up-requires-3
-    enum-told-4
-    slice-aggregate-look-up-4
-    look-up-requires-4
-    enum-told-5
-    returns
-    returns-2
-    returns-3
-    returns-4
-    returns-5)
+    (tie.spec (λ c. search needs) (λ c. search needs) (λ c κs. search needs) (λ c. search needs) (λ c. search needs)
+    (λ c κs. search needs) (λ c. search needs) (λ c. search needs) (λ c κs. search needs) (λ c. search needs)
+    (λ c. search needs) (λ c κs. search needs) (λ c. search needs) returns returns-2 returns-3 returns-4 returns-5)

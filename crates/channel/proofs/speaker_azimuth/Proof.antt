@@ -5,16 +5,10 @@ use borrow.Author.Needs.{needs}
 use Rattle.channel.proofs.speaker_azimuth.Statement.{statement}
 use Rattle.channel.proofs.speaker_azimuth.Tie as tie
 
-speaker-requires : tie.Need-speaker-requires
-speaker-requires c κs = search needs
-
-int-to-float-t4 : tie.Need-int-to-float-t4
-int-to-float-t4 c = search needs
-
 returns : tie.Need-returns
 returns c =
     let a = c .before .before .before .args in
     as-float (speakers (a .layout)) (a .channel) (speaker-turned (a .layout) (a .channel)) _ (c .before .before .speaker .ensures)
 
 pub speaker-azimuth-spec : {M : Type 1} → statement M
-speaker-azimuth-spec = tie.close (tie.spec speaker-requires int-to-float-t4 returns)
+speaker-azimuth-spec = tie.close (tie.spec (λ c κs. search needs) (λ c. search needs) returns)

@@ -5,9 +5,6 @@ use borrow.Author.Needs.{needs}
 use Rattle.channel.proofs.speaker_tenths.Statement.{statement}
 use Rattle.channel.proofs.speaker_tenths.Tie as tie
 
-speaker-requires : tie.Need-speaker-requires
-speaker-requires c κs = search needs
-
 mul-t4 : tie.Need-mul-t4
 mul-t4 c =
     let a = c .before .before .before .args in
@@ -19,4 +16,4 @@ returns c =
     in-tenths (speakers (a .layout)) (a .channel) (speaker-turned (a .layout) (a .channel)) _ (c .before .before .speaker .ensures)
 
 pub speaker-tenths-spec : {M : Type 1} → statement M
-speaker-tenths-spec = tie.close (tie.spec speaker-requires mul-t4 returns)
+speaker-tenths-spec = tie.close (tie.spec (λ c κs. search needs) mul-t4 returns)

@@ -17,29 +17,11 @@ abbrev μ-loop : tie.MeasureT-loop
 loop-holds : tie.Need-loop-holds Inv-loop μ-loop
 loop-holds c = passing-none (wrong (placeOf (now (c .before .args .taps)))) (length (now (c .before .args .taps)))
 
-mul-widen : tie.Need-mul-widen Inv-loop μ-loop
-mul-widen c = omega arith
-
-shared-slice-read-widen : tie.Need-shared-slice-read-widen Inv-loop μ-loop
-shared-slice-read-widen c = omega arith
-
-widen-requires : tie.Need-widen-requires Inv-loop μ-loop
-widen-requires c κs = tt
-
-is-finite-requires : tie.Need-is-finite-requires Inv-loop μ-loop
-is-finite-requires c κs = tt
-
 returns : tie.Need-returns Inv-loop μ-loop
 returns c =
     let at = c .before .before .before .before .before in
     let xs = now (c .before .before .before .before .before .before .before .args .taps) in
     nonfinite-found (placeOf xs) (length xs) (at .loop .k) _ (c .before .is-finite .result) (at .loop .inv) (c .before .before .before .before .loop-test .taken) (c .before .before .widen .ensures .bits) (c .before .is-finite .ensures) (c .if1 .taken) ∙ nonfinite-list xs
-
-add-k : tie.Need-add-k Inv-loop μ-loop
-add-k c = omega arith
-
-loop-less : tie.Need-loop-less Inv-loop μ-loop
-loop-less c = omega arith
 
 loop-again : tie.Need-loop-again Inv-loop μ-loop
 loop-again c =
@@ -55,16 +37,5 @@ returns-2 c =
 pub has-nonfinite-f32-spec : {M : Type 1} → statement M
 has-nonfinite-f32-spec =
     tie.close
-    (tie.spec
-    Inv-loop
-    μ-loop
-    loop-holds
-    mul-widen
-    shared-slice-read-widen
-    widen-requires
-    is-finite-requires
-    returns
-    add-k
-    loop-less
-    loop-again
-    returns-2)
+    (tie.spec Inv-loop μ-loop loop-holds (λ c. omega arith) (λ c. omega arith) (λ c κs. tt) (λ c κs. tt) returns
+    (λ c. omega arith) (λ c. omega arith) loop-again returns-2)

@@ -9,17 +9,11 @@ use Rattle.checks.proofs.is_product.Tie as tie
 returns : tie.Need-returns
 returns c = none _ _ _ (c .if1 .taken)
 
-rem-if2 : tie.Need-rem-if2
-rem-if2 c = search needs
-
 returns-2 : tie.Need-returns-2
 returns-2 c = remains _ _ _ (c .if2 .taken)
-
-div-result : tie.Need-div-result
-div-result c = search needs
 
 returns-3 : tie.Need-returns-3
 returns-3 c = let some : 0 < c .before .before .args .a = omega arith in divides _ _ _ some (c .if2 .left)
 
 pub is-product-spec : {M : Type 1} → statement M
-is-product-spec = tie.close (tie.spec returns rem-if2 returns-2 div-result returns-3)
+is-product-spec = tie.close (tie.spec returns (λ c. search needs) returns-2 (λ c. search needs) returns-3)

@@ -10,11 +10,8 @@ use Rattle.checks.proofs.is_unfit.Tie as tie
 returns : tie.Need-returns
 returns c = or-yes _ _ (lt-ltb _ _ (c .if1 .taken))
 
-is-product-requires : tie.Need-is-product-requires
-is-product-requires c κs = search needs
-
 returns-2 : tie.Need-returns-2
 returns-2 c = or-next _ _ _ (le-ltb _ _ (c .before .if1 .left)) (ap not (c .is-product .ensures))
 
 pub is-unfit-spec : {M : Type 1} → statement M
-is-unfit-spec = tie.close (tie.spec returns is-product-requires returns-2)
+is-unfit-spec = tie.close (tie.spec returns (λ c κs. search needs) returns-2)

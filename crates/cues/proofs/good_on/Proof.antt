@@ -7,11 +7,8 @@ use Rattle.cues.proofs.good_on.Tie as tie
 returns : tie.Need-returns
 returns c = simp (not-true (c .before .args .good) (c .if1 .taken))
 
-refuses-direction-requires : tie.Need-refuses-direction-requires
-refuses-direction-requires c κs = search needs
-
 returns-2 : tie.Need-returns-2
 returns-2 c = simp (not-false (c .before .before .args .good) (c .before .if1 .left), c .refuses-direction .ensures)
 
 pub good-on-spec : {M : Type 1} → statement M
-good-on-spec = tie.close (tie.spec returns refuses-direction-requires returns-2)
+good-on-spec = tie.close (tie.spec returns (λ c κs. search needs) returns-2)

@@ -19,9 +19,6 @@ use borrow.Author.Needs.{needs}
 use Rattle.decoder_matrix.proofs.compute_decoder_matrix.Statement.{statement}
 use Rattle.decoder_matrix.proofs.compute_decoder_matrix.Tie as tie
 
-ambisonic-channel-count-requires : tie.Need-ambisonic-channel-count-requires
-ambisonic-channel-count-requires c κs = search needs
-
 returns : tie.Need-returns
 returns c = order-refused _ _ _ (order-ill (c .before .before .before .before .args .order) _ (c .before .before .ambisonic-channel-count .ensures) (c .if1 .taken))
 
@@ -39,14 +36,8 @@ few-speakers c = omega (arith, layout-in c .1, not-outside (channelsOf (c .befor
 size-is : (c : tie.Else2) → c .before .before .channel-count .result .channels * c .before .before .before .before .before .ambisonic-channel-count .result .channels ≡ channelsOf (c .before .before .before .before .before .before .before .args .layout) * channelsOfOrder (c .before .before .before .before .before .before .before .args .order)
 size-is c = λ i. layout-in c .1 i * order-in (c .before .before .before) .1 i
 
-channel-count-requires : tie.Need-channel-count-requires
-channel-count-requires c κs = search needs
-
 returns-2 : tie.Need-returns-2
 returns-2 c = layout-refused _ _ _ (order-in (c .before .before .before) .0) (counted-ill (c .before .before .before .before .before .before .before .args .layout) _ (c .before .before .channel-count .ensures) (c .if2 .taken))
-
-is-product-requires : tie.Need-is-product-requires
-is-product-requires c κs = search needs
 
 returns-3 : tie.Need-returns-3
 returns-3 c =
@@ -63,9 +54,6 @@ put-speakers-requires c κs =
     let order = order-in (past .before .before .before) in
     (few-speakers past, omega (arith, order .1, few-channels (past .before .before .before .before .before .before .before .args .order) (order .0) .1))
 
-same-length : tie.Need-same-length
-same-length c = search needs
-
 returns-4 : tie.Need-returns-4
 returns-4 c =
     let past = c .before .before .before .before .before .before .before in
@@ -78,14 +66,5 @@ returns-4 c =
 pub compute-decoder-matrix-spec : {M : Type 1} → statement M
 compute-decoder-matrix-spec =
     tie.close
-    (tie.spec
-    ambisonic-channel-count-requires
-    returns
-    channel-count-requires
-    returns-2
-    is-product-requires
-    returns-3
-    cast-put-speakers
-    put-speakers-requires
-    same-length
-    returns-4)
+    (tie.spec (λ c κs. search needs) returns (λ c κs. search needs) returns-2 (λ c κs. search needs) returns-3
+    cast-put-speakers put-speakers-requires (λ c. search needs) returns-4)

@@ -10,23 +10,8 @@ use borrow.Author.Needs.{needs}
 use Rattle.decoder_matrix.proofs.put_speaker.Statement.{statement}
 use Rattle.decoder_matrix.proofs.put_speaker.Tie as tie
 
-compute-sh-coefficients-requires : tie.Need-compute-sh-coefficients-requires
-compute-sh-coefficients-requires c κs = search needs
-
-sub-put-row : tie.Need-sub-put-row
-sub-put-row c = search needs
-
-part-put-row-start : tie.Need-part-put-row-start
-part-put-row-start c = search needs
-
 part-put-row-end : tie.Need-part-put-row-end
 part-put-row-end c = omega (arith, gains-length _ _ _ (c .before .before .compute-sh-coefficients .ensures))
-
-put-row-requires : tie.Need-put-row-requires
-put-row-requires c κs = search needs
-
-same-length : tie.Need-same-length
-same-length c = search needs
 
 returns : tie.Need-returns
 unfolding ofBits ofInt
@@ -37,11 +22,5 @@ returns c =
 pub put-speaker-spec : {M : Type 1} → statement M
 put-speaker-spec =
     tie.close
-    (tie.spec
-    compute-sh-coefficients-requires
-    sub-put-row
-    part-put-row-start
-    part-put-row-end
-    put-row-requires
-    same-length
-    returns)
+    (tie.spec (λ c κs. search needs) (λ c. search needs) (λ c. search needs) part-put-row-end (λ c κs. search needs)
+    (λ c. search needs) returns)

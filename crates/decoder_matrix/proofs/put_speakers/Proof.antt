@@ -21,26 +21,8 @@ Inv-loop order layout n channels weights₀ scale at₀ i₀ weights at i = Fill
 abbrev μ-loop : tie.MeasureT-loop
 μ-loop order layout n channels weights₀ scale at₀ i₀ weights at i = n - i
 
-inverse-root-requires : tie.Need-inverse-root-requires Inv-loop μ-loop
-inverse-root-requires c κs = tt
-
 loop-holds : tie.Need-loop-holds Inv-loop μ-loop
 loop-holds c = let a = c .before .before .args in filling-none (now (a .weights)) (a .channels) (a .n) (rowBy (a .order) (a .layout) (a .n) (a .channels))
-
-speaker-position-requires : tie.Need-speaker-position-requires Inv-loop μ-loop
-speaker-position-requires c κs = tt
-
-put-speaker-requires : tie.Need-put-speaker-requires Inv-loop μ-loop
-put-speaker-requires c κs = omega arith
-
-add-at : tie.Need-add-at Inv-loop μ-loop
-add-at c = omega arith
-
-add-i : tie.Need-add-i Inv-loop μ-loop
-add-i c = omega arith
-
-loop-less : tie.Need-loop-less Inv-loop μ-loop
-loop-less c = omega arith
 
 loop-again : tie.Need-loop-again Inv-loop μ-loop
 loop-again c =
@@ -54,9 +36,6 @@ loop-again c =
     ∙ ap (λ (s : Float). sets (at .weights) (at .at) (scaled s (take (a .channels) (outcome (a .order) (towards (azimuthBy (a .layout) (a .n) (at .i))) .gains))))
     (inverse-value (a .n) (inverse .result) (omega (arith, tested .loop-test .taken)) (inverse .ensures)))
 
-same-length : tie.Need-same-length Inv-loop μ-loop
-same-length c = omega arith
-
 returns : tie.Need-returns Inv-loop μ-loop
 returns c =
     let a = c .before .before .before .before .args in
@@ -66,16 +45,5 @@ returns c =
 pub put-speakers-spec : {M : Type 1} → statement M
 put-speakers-spec =
     tie.close
-    (tie.spec
-    Inv-loop
-    μ-loop
-    inverse-root-requires
-    loop-holds
-    speaker-position-requires
-    put-speaker-requires
-    add-at
-    add-i
-    loop-less
-    loop-again
-    same-length
-    returns)
+    (tie.spec Inv-loop μ-loop (λ c κs. tt) loop-holds (λ c κs. tt) (λ c κs. omega arith) (λ c. omega arith)
+    (λ c. omega arith) (λ c. omega arith) loop-again (λ c. omega arith) returns)

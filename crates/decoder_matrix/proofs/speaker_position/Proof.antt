@@ -10,22 +10,10 @@ use borrow.Author.Needs.{needs}
 use Rattle.decoder_matrix.proofs.speaker_position.Statement.{statement}
 use Rattle.decoder_matrix.proofs.speaker_position.Tie as tie
 
-enum-told : tie.Need-enum-told
-enum-told c = search needs
-
-custom-azimuth-requires : tie.Need-custom-azimuth-requires
-custom-azimuth-requires c κs = search needs
-
-turned-back-requires : tie.Need-turned-back-requires
-turned-back-requires c κs = search needs
-
 returns : tie.Need-returns
 returns c =
     let a = c .before .before .before .before .args in
     computed (a .layout) (a .n) (a .i) _ _ _ (c .before .before .enum-told .given .1) (c .before .custom-azimuth .ensures) (c .turned-back .ensures)
-
-speaker-azimuth-requires : tie.Need-speaker-azimuth-requires
-speaker-azimuth-requires c κs = search needs
 
 -- the layout is one of the four before Custom, which is variant 4
 returns-2 : tie.Need-returns-2
@@ -37,10 +25,5 @@ returns-2 c =
 pub speaker-position-spec : {M : Type 1} → statement M
 speaker-position-spec =
     tie.close
-    (tie.spec
-    enum-told
-    custom-azimuth-requires
-    turned-back-requires
-    returns
-    speaker-azimuth-requires
+    (tie.spec (λ c. search needs) (λ c κs. search needs) (λ c κs. search needs) returns (λ c κs. search needs)
     returns-2)

@@ -10,25 +10,7 @@ Inv-loop to part i₀ i = i ≤ 200
 abbrev μ-loop : tie.MeasureT-loop
 μ-loop to part i₀ i = 200 - i
 
-loop-holds : tie.Need-loop-holds Inv-loop μ-loop
-loop-holds c = omega arith
-
-write-all-requires : tie.Need-write-all-requires Inv-loop μ-loop
-write-all-requires c κs = tt
-
-add-i : tie.Need-add-i Inv-loop μ-loop
-add-i c = omega arith
-
-loop-less : tie.Need-loop-less Inv-loop μ-loop
-loop-less c = omega arith
-
-loop-again : tie.Need-loop-again Inv-loop μ-loop
-loop-again c = omega arith
-
-returns : tie.Need-returns Inv-loop μ-loop
-returns c = tt
-
 pub write-often-spec : {M : Type 1} → statement M
 write-often-spec =
     tie.close
-    (tie.spec Inv-loop μ-loop loop-holds write-all-requires add-i loop-less loop-again returns)
+    (tie.spec Inv-loop μ-loop (λ c. omega arith) (λ c κs. tt) (λ c. omega arith) (λ c. omega arith) (λ c. omega arith) (λ c. tt))

@@ -3,8 +3,5 @@ use mathlib.Core.Path.{refl}
 use Rattle.ears_file.proofs.part_frame.Statement.{statement}
 use Rattle.ears_file.proofs.part_frame.Tie as tie
 
-returns : tie.Need-returns
-returns c = refl
-
 pub part-frame-spec : {M : Type 1} → statement M
-part-frame-spec = tie.close (tie.spec returns)
+part-frame-spec = tie.close (tie.spec (λ c. refl))

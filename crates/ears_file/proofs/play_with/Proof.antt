@@ -34,9 +34,6 @@ mul-filters-2 c = omega (arith, filters (c .before .before .before .before .befo
 mul-cells : tie.Need-mul-cells
 mul-cells c = omega (arith, cells (c .before .before .before .before .before))
 
-slice-aggregate-play-all : tie.Need-slice-aggregate-play-all
-slice-aggregate-play-all c = search needs
-
 slice-aggregate-play-all-2 : tie.Need-slice-aggregate-play-all-2
 slice-aggregate-play-all-2 c =
     let begun = start (c .before .before .before .before .before .before .before .before) in
@@ -68,15 +65,5 @@ returns c =
 pub play-with-spec : {M : Type 1} → statement M
 play-with-spec =
     tie.close
-    (tie.spec
-    (λ c. search needs)
-    (λ c κs. tt)
-    mul-filters
-    mul-filters-2
-    mul-cells
-    slice-aggregate-play-all
-    slice-aggregate-play-all-2
-    array-borrow-prefix-rings
-    slice-aggregate-play-all-3
-    play-all-requires
-    returns)
+    (tie.spec (λ c. search needs) (λ c κs. tt) mul-filters mul-filters-2 mul-cells (λ c. search needs)
+    slice-aggregate-play-all-2 array-borrow-prefix-rings slice-aggregate-play-all-3 play-all-requires returns)

@@ -8,12 +8,6 @@ use Rattle.ears_file.proofs.result_line.Tie as tie
 returns : tie.Need-returns
 returns c = search (told-failed, needs)
 
-frames-line-requires : tie.Need-frames-line-requires
-frames-line-requires c κs = tt
-
-same-length : tie.Need-same-length
-same-length c = search needs
-
 returns-2 : tie.Need-returns-2
 returns-2 c =
     let put = c .before .before in
@@ -21,12 +15,6 @@ returns-2 c =
     let first = test .before .before .before in
     let line = put .frames-line .ensures in
     (told-played _ _ _ _ (first .if1 .left) (test .if2 .taken) line, line-counts _ _ _ _ (frames-short _ _) line (search needs))
-
-refused-line-requires : tie.Need-refused-line-requires
-refused-line-requires c κs = tt
-
-same-length-2 : tie.Need-same-length-2
-same-length-2 c = search needs
 
 returns-3 : tie.Need-returns-3
 returns-3 c =
@@ -36,12 +24,6 @@ returns-3 c =
     let first = test .before .before .before in
     let line = put .refused-line .ensures in
     (told-part-frame _ _ _ _ (first .if1 .left) (test .if2 .left) (nine .if3 .taken) line, line-counts _ _ _ _ (refused-short _) line (search needs))
-
-refused-at-line-requires : tie.Need-refused-at-line-requires
-refused-at-line-requires c κs = tt
-
-same-length-3 : tie.Need-same-length-3
-same-length-3 c = search needs
 
 returns-4 : tie.Need-returns-4
 returns-4 c =
@@ -55,14 +37,5 @@ returns-4 c =
 pub result-line-spec : {M : Type 1} → statement M
 result-line-spec =
     tie.close
-    (tie.spec
-    returns
-    frames-line-requires
-    same-length
-    returns-2
-    refused-line-requires
-    same-length-2
-    returns-3
-    refused-at-line-requires
-    same-length-3
-    returns-4)
+    (tie.spec returns (λ c κs. tt) (λ c. search needs) returns-2 (λ c κs. tt) (λ c. search needs) returns-3 (λ c κs. tt)
+    (λ c. search needs) returns-4)

@@ -25,25 +25,7 @@ returns-4 c =
 pub run-spec : {M : Type 1} → statement M
 run-spec =
     tie.close
-    (tie.spec
-    (λ c. search needs)
-    (λ c. search needs)
-    (λ c. search needs)
-    (λ c κs. tt)
-    (λ c κs. tt)
-    (λ c κs. tt)
-    (λ c κs. tt)
-    (λ c κs. tt)
-    returns
-    (λ c κs. tt)
-    (λ c κs. tt)
-    (λ c. failed-answers _ (c .failed .ensures))
-    (λ c. search needs)
-    (λ c. search needs)
-    (λ c. search needs)
-    play-with-requires
-    (λ c κs. tt)
-    (λ c κs. tt)
-    (λ c κs. tt)
-    (λ c. failed-answers _ (c .failed2 .ensures))
-    returns-4)
+    (tie.spec (λ c. search needs) (λ c. search needs) (λ c. search needs) (λ c κs. tt) (λ c κs. tt) (λ c κs. tt)
+    (λ c κs. tt) (λ c κs. tt) returns (λ c κs. tt) (λ c κs. tt) (λ c. failed-answers _ (c .failed .ensures))
+    (λ c. search needs) (λ c. search needs) (λ c. search needs) play-with-requires (λ c κs. tt) (λ c κs. tt)
+    (λ c κs. tt) (λ c. failed-answers _ (c .failed2 .ensures)) returns-4)

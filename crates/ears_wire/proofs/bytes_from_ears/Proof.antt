@@ -6,9 +6,6 @@ use borrow.Author.Needs.{needs}
 use Rattle.ears_wire.proofs.bytes_from_ears.Statement.{statement}
 use Rattle.ears_wire.proofs.bytes_from_ears.Tie as tie
 
-is-unfit-requires : tie.Need-is-unfit-requires
-is-unfit-requires c κs = search needs
-
 returns : tie.Need-returns
 returns c = sym (given-unfit _ _ _ _ (sym (c .before .is-unfit .ensures) ∙ c .if1 .taken))
 
@@ -17,12 +14,6 @@ returns-2 c = sym (given-short _ _ _ _ (sym (c .before .before .is-unfit .ensure
 
 give-frames-requires : tie.Need-give-frames-requires
 give-frames-requires c κs = omega (arith, c .before .if2 .left)
-
-mul-t6 : tie.Need-mul-t6
-mul-t6 c = search needs
-
-same-length : tie.Need-same-length
-same-length c = search needs
 
 returns-3 : tie.Need-returns-3
 returns-3 c =
@@ -34,11 +25,5 @@ returns-3 c =
 pub bytes-from-ears-spec : {M : Type 1} → statement M
 bytes-from-ears-spec =
     tie.close
-    (tie.spec
-    is-unfit-requires
-    returns
-    returns-2
-    give-frames-requires
-    mul-t6
-    same-length
+    (tie.spec (λ c κs. search needs) returns returns-2 give-frames-requires (λ c. search needs) (λ c. search needs)
     returns-3)

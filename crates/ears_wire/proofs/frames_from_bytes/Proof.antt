@@ -5,17 +5,8 @@ use borrow.Author.Needs.{needs}
 use Rattle.ears_wire.proofs.frames_from_bytes.Statement.{statement}
 use Rattle.ears_wire.proofs.frames_from_bytes.Tie as tie
 
-is-unfit-requires : tie.Need-is-unfit-requires
-is-unfit-requires c κs = search needs
-
 returns : tie.Need-returns
 returns c = sym (taken-refused _ _ _ (sym (c .before .is-unfit .ensures) ∙ c .if1 .taken))
-
-take-frames-requires : tie.Need-take-frames-requires
-take-frames-requires c κs = refl
-
-same-length : tie.Need-same-length
-same-length c = search needs
 
 returns-2 : tie.Need-returns-2
 returns-2 c =
@@ -24,4 +15,4 @@ returns-2 c =
     taken-filled _ _ _ _ (sym (fits .before .is-unfit .ensures) ∙ fits .if1 .left) (taken .take-frames .ensures)
 
 pub frames-from-bytes-spec : {M : Type 1} → statement M
-frames-from-bytes-spec = tie.close (tie.spec is-unfit-requires returns take-frames-requires same-length returns-2)
+frames-from-bytes-spec = tie.close (tie.spec (λ c κs. search needs) returns (λ c κs. refl) (λ c. search needs) returns-2)

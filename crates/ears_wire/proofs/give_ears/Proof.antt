@@ -9,27 +9,6 @@ use borrow.Author.Needs.{needs}
 use Rattle.ears_wire.proofs.give_ears.Statement.{statement}
 use Rattle.ears_wire.proofs.give_ears.Tie as tie
 
-mul-at : tie.Need-mul-at
-mul-at c = search needs
-
-sample-requires : tie.Need-sample-requires
-sample-requires c κs = search needs
-
-sample-requires-2 : tie.Need-sample-requires-2
-sample-requires-2 c κs = search needs
-
-put-f32-requires : tie.Need-put-f32-requires
-put-f32-requires c κs = search needs
-
-add-put-f32 : tie.Need-add-put-f32
-add-put-f32 c = search needs
-
-put-f32-requires-2 : tie.Need-put-f32-requires-2
-put-f32-requires-2 c κs = search needs
-
-same-length : tie.Need-same-length
-same-length c = search needs
-
 returns : tie.Need-returns
 returns c =
     let a = c .before .before .before .before .before .before .before .before .before .before .before .before .args in
@@ -40,12 +19,5 @@ returns c =
 pub give-ears-spec : {M : Type 1} → statement M
 give-ears-spec =
     tie.close
-    (tie.spec
-    mul-at
-    sample-requires
-    sample-requires-2
-    put-f32-requires
-    add-put-f32
-    put-f32-requires-2
-    same-length
-    returns)
+    (tie.spec (λ c. search needs) (λ c κs. search needs) (λ c κs. search needs) (λ c κs. search needs)
+    (λ c. search needs) (λ c κs. search needs) (λ c. search needs) returns)

@@ -25,12 +25,6 @@ give-ears-requires c κs =
     let at = c .before .before .loop in
     omega (arith, giving-long (now (a .ears)) (a .stride) (now (a .out)) (at .n) (at .out) (omega arith) (at .inv .1))
 
-add-n : tie.Need-add-n Inv-loop μ-loop
-add-n c = omega arith
-
-loop-less : tie.Need-loop-less Inv-loop μ-loop
-loop-less c = omega arith
-
 loop-again : tie.Need-loop-again Inv-loop μ-loop
 loop-again c =
     let a = c .before .before .before .before .before .before .before .before .args in
@@ -53,13 +47,5 @@ returns c =
 pub give-frames-spec : {M : Type 1} → statement M
 give-frames-spec =
     tie.close
-    (tie.spec
-    Inv-loop
-    μ-loop
-    loop-holds
-    give-ears-requires
-    add-n
-    loop-less
-    loop-again
-    same-length
+    (tie.spec Inv-loop μ-loop loop-holds give-ears-requires (λ c. omega arith) (λ c. omega arith) loop-again same-length
     returns)

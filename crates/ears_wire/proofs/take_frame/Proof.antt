@@ -23,29 +23,11 @@ abbrev μ-loop : tie.MeasureT-loop
 loop-holds : tie.Need-loop-holds Inv-loop μ-loop
 loop-holds c = let a = c .before .before .args in sampling-none (now (a .inputs)) (a .stride) (a .n) 6 (channel (now (a .bytes)))
 
-mul-get-f32 : tie.Need-mul-get-f32 Inv-loop μ-loop
-mul-get-f32 c = omega arith
-
-get-f32-requires : tie.Need-get-f32-requires Inv-loop μ-loop
-get-f32-requires c κs = tt
-
-put-sample-requires : tie.Need-put-sample-requires Inv-loop μ-loop
-put-sample-requires c κs = tt
-
-add-c : tie.Need-add-c Inv-loop μ-loop
-add-c c = omega arith
-
-loop-less : tie.Need-loop-less Inv-loop μ-loop
-loop-less c = omega arith
-
 loop-again : tie.Need-loop-again Inv-loop μ-loop
 loop-again c =
     let a = c .before .before .before .before .before .before .before .before .before .args in
     let at = c .before .before .before .before .before .before .loop in
     sampling-more (now (a .inputs)) (a .stride) (a .n) 6 (channel (now (a .bytes))) (at .inputs) (at .c) (at .inv) _ _ (c .before .before .before .before .before .loop-test .taken) (c .before .before .before .before .get-f32 .ensures) (c .before .before .put-sample .ensures)
-
-same-length : tie.Need-same-length Inv-loop μ-loop
-same-length c = omega arith
 
 returns : tie.Need-returns Inv-loop μ-loop
 unfolding strided
@@ -57,15 +39,5 @@ returns c =
 pub take-frame-spec : {M : Type 1} → statement M
 take-frame-spec =
     tie.close
-    (tie.spec
-    Inv-loop
-    μ-loop
-    loop-holds
-    mul-get-f32
-    get-f32-requires
-    put-sample-requires
-    add-c
-    loop-less
-    loop-again
-    same-length
-    returns)
+    (tie.spec Inv-loop μ-loop loop-holds (λ c. omega arith) (λ c κs. tt) (λ c κs. tt) (λ c. omega arith)
+    (λ c. omega arith) loop-again (λ c. omega arith) returns)

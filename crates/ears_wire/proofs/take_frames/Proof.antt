@@ -33,23 +33,8 @@ mul-from c = omega (arith, c .before .before .before .before .pre)
 add-to : tie.Need-add-to Inv-loop μ-loop
 add-to c = omega (arith, c .before .before .before .before .pre)
 
-sub-take-frame : tie.Need-sub-take-frame Inv-loop μ-loop
-sub-take-frame c = omega arith
-
-part-take-frame-start : tie.Need-part-take-frame-start Inv-loop μ-loop
-part-take-frame-start c = omega arith
-
 part-take-frame-end : tie.Need-part-take-frame-end Inv-loop μ-loop
 part-take-frame-end c = omega (arith, c .before .before .before .before .pre)
-
-take-frame-requires : tie.Need-take-frame-requires Inv-loop μ-loop
-take-frame-requires c κs = tt
-
-add-n : tie.Need-add-n Inv-loop μ-loop
-add-n c = omega arith
-
-loop-less : tie.Need-loop-less Inv-loop μ-loop
-loop-less c = omega arith
 
 loop-again : tie.Need-loop-again Inv-loop μ-loop
 loop-again c =
@@ -61,9 +46,6 @@ loop-again c =
     framing-more (now (a .inputs)) (a .stride) (wholeIn 24 bytes) (frame bytes) (at .inputs) (at .n) (at .inv) _ (omega (arith, loop .before .before .before .pre, taken .before .before .before .loop-test .taken))
     (taken .take-frame .ensures ∙ ap (λ (part : List ℕ). withFrame (at .inputs) (a .stride) (at .n) (frameOf part)) (part-is (at .n * 24) 24 bytes))
 
-same-length : tie.Need-same-length Inv-loop μ-loop
-same-length c = omega arith
-
 returns : tie.Need-returns Inv-loop μ-loop
 returns c =
     let a = c .before .before .before .before .args in
@@ -73,18 +55,5 @@ returns c =
 pub take-frames-spec : {M : Type 1} → statement M
 take-frames-spec =
     tie.close
-    (tie.spec
-    Inv-loop
-    μ-loop
-    loop-holds
-    mul-from
-    add-to
-    sub-take-frame
-    part-take-frame-start
-    part-take-frame-end
-    take-frame-requires
-    add-n
-    loop-less
-    loop-again
-    same-length
-    returns)
+    (tie.spec Inv-loop μ-loop loop-holds mul-from add-to (λ c. omega arith) (λ c. omega arith) part-take-frame-end
+    (λ c κs. tt) (λ c. omega arith) (λ c. omega arith) loop-again (λ c. omega arith) returns)

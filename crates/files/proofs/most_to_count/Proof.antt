@@ -19,20 +19,8 @@ module _ (c : tie.After-is-within) where
   version : c .is-within .result ≡ within 1 2 (fieldAt bytes 0 1)
   version = c .is-within .ensures ∙ ap (within 1 2) (c .before .get .ensures .bits)
 
-get-requires : tie.Need-get-requires
-get-requires c κs = search needs
-
-is-within-requires : tie.Need-is-within-requires
-is-within-requires c κs = search needs
-
 returns : tie.Need-returns
 returns c = (sym (cond-false (6 + fieldAt (bytes (c .before)) 1 4) 1 (sym (version (c .before)) ∙ not-true _ (c .if1 .taken))), omega arith)
-
-get-requires-2 : tie.Need-get-requires-2
-get-requires-2 c κs = search needs
-
-add-result : tie.Need-add-result
-add-result c = search needs
 
 returns-2 : tie.Need-returns-2
 returns-2 c =
@@ -43,4 +31,4 @@ returns-2 c =
 pub most-to-count-spec : {M : Type 1} → statement M
 most-to-count-spec =
     tie.close
-    (tie.spec get-requires is-within-requires returns get-requires-2 add-result returns-2)
+    (tie.spec (λ c κs. search needs) (λ c κs. search needs) returns (λ c κs. search needs) (λ c. search needs) returns-2)

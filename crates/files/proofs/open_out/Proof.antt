@@ -23,17 +23,8 @@ two-only n m false e = absurd (true≢false (ap isNegative e))
 word-two : (n : ℕ) → toZ w32 n ≡ pos 2 → n ≡ 2
 word-two n e = two-only n (2 ^ bits w32 - suc n) (ltb n (2 ^ hbits w32)) e
 
-open-overwrite-requires : tie.Need-open-overwrite-requires
-open-overwrite-requires c κs = search needs
-
 returns : tie.Need-returns
 returns c = λ e. c .if1 .taken (word-two (ofZ w32 (c .before .open-overwrite .result)) e)
-
-open-overwrite-requires-2 : tie.Need-open-overwrite-requires-2
-open-overwrite-requires-2 c κs = search needs
-
-close-requires : tie.Need-close-requires
-close-requires c κs = search needs
 
 returns-2 : tie.Need-returns-2
 returns-2 c = λ e. c .if2 .taken (word-two (ofZ w32 (c .before .before .open-overwrite2 .result)) e)
@@ -43,4 +34,4 @@ unfolding isNegative
 returns-3 c = λ e. true≢false (ap isNegative e)
 
 pub open-out-spec : {M : Type 1} → statement M
-open-out-spec = tie.close (tie.spec open-overwrite-requires returns open-overwrite-requires-2 close-requires returns-2 returns-3)
+open-out-spec = tie.close (tie.spec (λ c κs. search needs) returns (λ c κs. search needs) (λ c κs. search needs) returns-2 returns-3)

@@ -18,19 +18,10 @@ negative-none : (z : ℤ) (most : ℕ) → ltZ z (pos 0) ≡ true → clamped z 
 negative-none (pos n) most e = absurd (omega (arith, ltb-true n 0 e))
 negative-none (negsuc n) most e = refl
 
-read-requires : tie.Need-read-requires
-read-requires c κs = search needs
-
-count-requires : tie.Need-count-requires
-count-requires c κs = search needs
-
-same-length : tie.Need-same-length
-same-length c = search needs
-
 returns : tie.Need-returns
 returns c =
     let read = c .before .before .before .before .read in
     (search needs, λ f. c .count .ensures .1 ∙ negative-none (toZ w64 (ofZ w64 (read .result))) (length (read .last .1 .0)) f)
 
 pub read-into-spec : {M : Type 1} → statement M
-read-into-spec = tie.close (tie.spec read-requires count-requires same-length returns)
+read-into-spec = tie.close (tie.spec (λ c κs. search needs) (λ c κs. search needs) (λ c. search needs) returns)

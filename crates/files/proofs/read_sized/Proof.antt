@@ -17,11 +17,5 @@ returns c =
 pub read-sized-spec : {M : Type 1} → statement M
 read-sized-spec =
     tie.close
-    (tie.spec
-    (λ c κs. search needs)
-    (λ c. sym (length-take-le _ _ (omega (arith, c .before .min .ensures))))
-    (λ c κs. search needs)
-    (λ c. search needs)
-    (λ c. search needs)
-    (λ c. search needs)
-    returns)
+    (tie.spec (λ c κs. search needs) (λ c. sym (length-take-le _ _ (omega (arith, c .before .min .ensures))))
+    (λ c κs. search needs) (λ c. search needs) (λ c. search needs) (λ c. search needs) returns)

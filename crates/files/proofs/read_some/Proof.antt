@@ -7,30 +7,6 @@ use borrow.Author.Needs.{needs}
 use Rattle.files.proofs.read_some.Statement.{statement}
 use Rattle.files.proofs.read_some.Tie as tie
 
-min-requires : tie.Need-min-requires
-min-requires c κs = search needs
-
-end-of-read-requires : tie.Need-end-of-read-requires
-end-of-read-requires c κs = search needs
-
-sub-read-into : tie.Need-sub-read-into
-sub-read-into c = search needs
-
-part-read-into-start : tie.Need-part-read-into-start
-part-read-into-start c = search needs
-
-part-read-into-end : tie.Need-part-read-into-end
-part-read-into-end c = search needs
-
-read-into-requires : tie.Need-read-into-requires
-read-into-requires c κs = search needs
-
-add-t8 : tie.Need-add-t8
-add-t8 c = search needs
-
-same-length : tie.Need-same-length
-same-length c = search needs
-
 returns : tie.Need-returns
 returns c =
     let read = c .before .before .before in
@@ -44,13 +20,5 @@ returns c =
 pub read-some-spec : {M : Type 1} → statement M
 read-some-spec =
     tie.close
-    (tie.spec
-    min-requires
-    end-of-read-requires
-    sub-read-into
-    part-read-into-start
-    part-read-into-end
-    read-into-requires
-    add-t8
-    same-length
-    returns)
+    (tie.spec (λ c κs. search needs) (λ c κs. search needs) (λ c. search needs) (λ c. search needs) (λ c. search needs)
+    (λ c κs. search needs) (λ c. search needs) (λ c. search needs) returns)

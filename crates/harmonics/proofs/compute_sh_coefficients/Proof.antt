@@ -6,31 +6,13 @@ use borrow.Author.Needs.{needs}
 use Rattle.harmonics.proofs.compute_sh_coefficients.Statement.{statement}
 use Rattle.harmonics.proofs.compute_sh_coefficients.Tie as tie
 
-refuses-order-requires : tie.Need-refuses-order-requires
-refuses-order-requires c κs = search needs
-
-refused-requires : tie.Need-refused-requires
-refused-requires c κs = search needs
-
 returns : tie.Need-returns
 returns c = order-refused _ _ _ (sym (c .before .before .refuses-order .ensures) ∙ c .before .if1 .taken) (c .refused .ensures)
-
-refuses-direction-requires : tie.Need-refuses-direction-requires
-refuses-direction-requires c κs = search needs
-
-refused-requires-2 : tie.Need-refused-requires-2
-refused-requires-2 c κs = search needs
 
 returns-2 : tie.Need-returns-2
 returns-2 c =
     let s = c .before .before in
     direction-refused _ _ _ (sym (s .before .before .refuses-order .ensures) ∙ s .before .if1 .left) (sym (s .refuses-direction .ensures) ∙ c .before .if2 .taken) (c .refused2 .ensures)
-
-waves-of-requires : tie.Need-waves-of-requires
-waves-of-requires c κs = search needs
-
-gains-of-requires : tie.Need-gains-of-requires
-gains-of-requires c κs = search needs
 
 returns-3 : tie.Need-returns-3
 returns-3 c =
@@ -42,13 +24,5 @@ returns-3 c =
 pub compute-sh-coefficients-spec : {M : Type 1} → statement M
 compute-sh-coefficients-spec =
     tie.close
-    (tie.spec
-    refuses-order-requires
-    refused-requires
-    returns
-    refuses-direction-requires
-    refused-requires-2
-    returns-2
-    waves-of-requires
-    gains-of-requires
-    returns-3)
+    (tie.spec (λ c κs. search needs) (λ c κs. search needs) returns (λ c κs. search needs) (λ c κs. search needs)
+    returns-2 (λ c κs. search needs) (λ c κs. search needs) returns-3)

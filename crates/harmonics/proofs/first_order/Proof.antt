@@ -6,18 +6,6 @@ use borrow.Author.Needs.{needs}
 use Rattle.harmonics.proofs.first_order.Statement.{statement}
 use Rattle.harmonics.proofs.first_order.Tie as tie
 
-array-write-gains : tie.Need-array-write-gains
-array-write-gains c = search needs
-
-array-write-gains-2 : tie.Need-array-write-gains-2
-array-write-gains-2 c = search needs
-
-array-write-gains-3 : tie.Need-array-write-gains-3
-array-write-gains-3 c = search needs
-
-array-write-gains-4 : tie.Need-array-write-gains-4
-array-write-gains-4 c = search needs
-
 returns : tie.Need-returns
 unfolding upTo ofInt round ofBits
 returns c = refl
@@ -25,9 +13,4 @@ returns c = refl
 pub first-order-spec : {M : Type 1} → statement M
 first-order-spec =
     tie.close
-    (tie.spec
-    array-write-gains
-    array-write-gains-2
-    array-write-gains-3
-    array-write-gains-4
-    returns)
+    (tie.spec (λ c. search needs) (λ c. search needs) (λ c. search needs) (λ c. search needs) returns)

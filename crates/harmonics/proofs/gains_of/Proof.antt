@@ -6,20 +6,11 @@ use borrow.Author.Needs.{needs}
 use Rattle.harmonics.proofs.gains_of.Statement.{statement}
 use Rattle.harmonics.proofs.gains_of.Tie as tie
 
-first-order-requires : tie.Need-first-order-requires
-first-order-requires c κs = search needs
-
 returns : tie.Need-returns
 returns c = c .first-order .ensures ∙ sym (cond-true _ _ (eq-eqb _ 1 (c .before .if1 .taken)))
 
-second-order-requires : tie.Need-second-order-requires
-second-order-requires c κs = search needs
-
 returns-2 : tie.Need-returns-2
 returns-2 c = c .second-order .ensures ∙ sym (cond-false _ _ (ne-eqb _ 1 (c .before .before .if1 .left)) ∙ cond-true _ _ (eq-eqb _ 2 (c .before .if2 .taken)))
-
-third-order-requires : tie.Need-third-order-requires
-third-order-requires c κs = search needs
 
 returns-3 : tie.Need-returns-3
 returns-3 c = c .third-order .ensures ∙ sym (cond-false _ _ (ne-eqb _ 1 (c .before .before .if1 .left)) ∙ cond-false _ _ (ne-eqb _ 2 (c .before .if2 .left)))
@@ -27,10 +18,4 @@ returns-3 c = c .third-order .ensures ∙ sym (cond-false _ _ (ne-eqb _ 1 (c .be
 pub gains-of-spec : {M : Type 1} → statement M
 gains-of-spec =
     tie.close
-    (tie.spec
-    first-order-requires
-    returns
-    second-order-requires
-    returns-2
-    third-order-requires
-    returns-3)
+    (tie.spec (λ c κs. search needs) returns (λ c κs. search needs) returns-2 (λ c κs. search needs) returns-3)

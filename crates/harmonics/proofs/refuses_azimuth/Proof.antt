@@ -10,12 +10,9 @@ use Rattle.angles.proofs.Limits.{refused-is}
 use Rattle.harmonics.proofs.refuses_azimuth.Statement.{statement}
 use Rattle.harmonics.proofs.refuses_azimuth.Tie as tie
 
-is-inside-requires : tie.Need-is-inside-requires
-is-inside-requires c κs = search needs
-
 returns : tie.Need-returns
 unfolding ofBits ofInt
 returns c = ap not (c .is-inside .ensures) ∙ sym (refused-is (float (pos 180)) (c .before .args .azimuth) (lit< tt))
 
 pub refuses-azimuth-spec : {M : Type 1} → statement M
-refuses-azimuth-spec = tie.close (tie.spec is-inside-requires returns)
+refuses-azimuth-spec = tie.close (tie.spec (λ c κs. search needs) returns)

@@ -6,12 +6,6 @@ use Rattle.harmonics.specs.Promise.{refusesElevation}
 use Rattle.harmonics.proofs.refuses_direction.Statement.{statement}
 use Rattle.harmonics.proofs.refuses_direction.Tie as tie
 
-refuses-azimuth-requires : tie.Need-refuses-azimuth-requires
-refuses-azimuth-requires c κs = search needs
-
-refuses-elevation-requires : tie.Need-refuses-elevation-requires
-refuses-elevation-requires c κs = search needs
-
 returns : tie.Need-returns
 returns c =
     c .if1 .taken ∙ sym (ap (λ (b : Bool). b || refusesElevation (c .before .before .args .direction .elevation)) (sym (c .before .refuses-azimuth .ensures) ∙ c .if1 .taken))
@@ -22,4 +16,4 @@ returns-2 c =
     c .refuses-elevation .ensures ∙ sym (ap (λ (b : Bool). b || refusesElevation (s .before .args .direction .elevation)) (sym (s .refuses-azimuth .ensures) ∙ c .before .if1 .left))
 
 pub refuses-direction-spec : {M : Type 1} → statement M
-refuses-direction-spec = tie.close (tie.spec refuses-azimuth-requires refuses-elevation-requires returns returns-2)
+refuses-direction-spec = tie.close (tie.spec (λ c κs. search needs) (λ c κs. search needs) returns returns-2)

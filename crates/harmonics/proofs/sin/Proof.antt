@@ -6,12 +6,9 @@ use Rattle.harmonics.specs.Computed.{sin}
 use Rattle.harmonics.proofs.sin.Statement.{statement}
 use Rattle.harmonics.proofs.sin.Tie as tie
 
-sine-requires : tie.Need-sine-requires
-sine-requires c κs = search needs
-
 returns : tie.Need-returns
 unfolding sin
 returns c = ap (λ (r : Answer). r .value) (c .sine .ensures .bits)
 
 pub sin-spec : {M : Type 1} → statement M
-sin-spec = tie.close (tie.spec sine-requires returns)
+sin-spec = tie.close (tie.spec (λ c κs. search needs) returns)

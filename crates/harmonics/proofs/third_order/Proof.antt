@@ -5,30 +5,6 @@ use borrow.Author.Needs.{needs}
 use Rattle.harmonics.proofs.third_order.Statement.{statement}
 use Rattle.harmonics.proofs.third_order.Tie as tie
 
-second-order-requires : tie.Need-second-order-requires
-second-order-requires c κs = search needs
-
-array-write-gains : tie.Need-array-write-gains
-array-write-gains c = search needs
-
-array-write-gains-2 : tie.Need-array-write-gains-2
-array-write-gains-2 c = search needs
-
-array-write-gains-3 : tie.Need-array-write-gains-3
-array-write-gains-3 c = search needs
-
-array-write-gains-4 : tie.Need-array-write-gains-4
-array-write-gains-4 c = search needs
-
-array-write-gains-5 : tie.Need-array-write-gains-5
-array-write-gains-5 c = search needs
-
-array-write-gains-6 : tie.Need-array-write-gains-6
-array-write-gains-6 c = search needs
-
-array-write-gains-7 : tie.Need-array-write-gains-7
-array-write-gains-7 c = search needs
-
 returns : tie.Need-returns
 unfolding upTo ofInt round ofBits
 returns c = rw (c .before .before .before .before .before .before .before .before .before .before .before .before .before .before .second-order .ensures)
@@ -36,13 +12,5 @@ returns c = rw (c .before .before .before .before .before .before .before .befor
 pub third-order-spec : {M : Type 1} → statement M
 third-order-spec =
     tie.close
-    (tie.spec
-    second-order-requires
-    array-write-gains
-    array-write-gains-2
-    array-write-gains-3
-    array-write-gains-4
-    array-write-gains-5
-    array-write-gains-6
-    array-write-gains-7
-    returns)
+    (tie.spec (λ c κs. search needs) (λ c. search needs) (λ c. search needs) (λ c. search needs) (λ c. search needs)
+    (λ c. search needs) (λ c. search needs) (λ c. search needs) returns)

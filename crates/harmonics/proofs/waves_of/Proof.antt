@@ -5,33 +5,6 @@ use borrow.Author.Needs.{needs}
 use Rattle.harmonics.proofs.waves_of.Statement.{statement}
 use Rattle.harmonics.proofs.waves_of.Tie as tie
 
-cos-requires : tie.Need-cos-requires
-cos-requires c κs = search needs
-
-sin-requires : tie.Need-sin-requires
-sin-requires c κs = search needs
-
-sin-requires-2 : tie.Need-sin-requires-2
-sin-requires-2 c κs = search needs
-
-cos-requires-2 : tie.Need-cos-requires-2
-cos-requires-2 c κs = search needs
-
-sin-requires-3 : tie.Need-sin-requires-3
-sin-requires-3 c κs = search needs
-
-cos-requires-3 : tie.Need-cos-requires-3
-cos-requires-3 c κs = search needs
-
-sin-requires-4 : tie.Need-sin-requires-4
-sin-requires-4 c κs = search needs
-
-cos-requires-4 : tie.Need-cos-requires-4
-cos-requires-4 c κs = search needs
-
-sin-requires-5 : tie.Need-sin-requires-5
-sin-requires-5 c κs = search needs
-
 returns : tie.Need-returns
 unfolding wavesOf ofInt round ofBits
 returns c = λ i. record {
@@ -49,14 +22,6 @@ returns c = λ i. record {
 pub waves-of-spec : {M : Type 1} → statement M
 waves-of-spec =
     tie.close
-    (tie.spec
-    cos-requires
-    sin-requires
-    sin-requires-2
-    cos-requires-2
-    sin-requires-3
-    cos-requires-3
-    sin-requires-4
-    cos-requires-4
-    sin-requires-5
+    (tie.spec (λ c κs. search needs) (λ c κs. search needs) (λ c κs. search needs) (λ c κs. search needs)
+    (λ c κs. search needs) (λ c κs. search needs) (λ c κs. search needs) (λ c κs. search needs) (λ c κs. search needs)
     returns)

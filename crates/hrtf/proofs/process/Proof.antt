@@ -30,15 +30,6 @@ state c = record { rings = now (c .args .rings); desk = c .args .desk }
 abbrev start : tie.After-refusal → tie.Start
 start c = c .before .before .before .before .before .before .before .before
 
-refusal-requires : tie.Need-refusal-requires
-refusal-requires c κs = search needs
-
-same-length : tie.Need-same-length
-same-length c = search needs
-
-same-length-2 : tie.Need-same-length-2
-same-length-2 c = search needs
-
 returns : tie.Need-returns
 returns c = promised-refused (call (start (c .before))) (state (start (c .before))) _ (c .before .refusal .ensures) (c .if1 .taken)
 
@@ -58,12 +49,6 @@ block-requires c κs =
     subst (λ (k : Scaled). ScaledReady k (s .args .desk .position) (now (s .args .row-of)) (now (s .args .taps)) (now (s .args .rings))) (sym (scaled .scale .ensures))
     (record { factor = refl; ready = ready (call s) (state s) (accepted (scaled .before)); finite = taps-finite (call s) (state s) (accepted (scaled .before)) })
 
-same-length-3 : tie.Need-same-length-3
-same-length-3 c = search needs
-
-same-length-4 : tie.Need-same-length-4
-same-length-4 c = search needs
-
 -- the shape that was scaled is the call's own
 own-shape : (s : tie.Start) (k : Scaled) (rings₁ ears₁ : List Float) (d : Desk) (more : ℕ) → k ≡ scaledOf (s .args .shape)
     → BlockPlayed (shaped s (k .shape)) (state s) rings₁ ears₁ d more
@@ -81,13 +66,5 @@ returns-2 c =
 pub process-spec : {M : Type 1} → statement M
 process-spec =
     tie.close
-    (tie.spec
-    refusal-requires
-    same-length
-    same-length-2
-    returns
-    scale-requires
-    block-requires
-    same-length-3
-    same-length-4
-    returns-2)
+    (tie.spec (λ c κs. search needs) (λ c. search needs) (λ c. search needs) returns scale-requires block-requires
+    (λ c. search needs) (λ c. search needs) returns-2)

@@ -7,29 +7,14 @@ use borrow.Author.Needs.{needs}
 use Rattle.hrtf.proofs.reset.Statement.{statement}
 use Rattle.hrtf.proofs.reset.Tie as tie
 
-is-outside-requires : tie.Need-is-outside-requires
-is-outside-requires c κs = search needs
-
 returns : tie.Need-returns
 returns c = let a = c .before .before .before .args in reset-refused (a .desk) (a .speakers) (a .length) (now (a .rings)) 1 (reset-refuses _ _ _ 0 (sym (c .before .is-outside .ensures) ∙ c .if1 .taken))
-
-is-outside-requires-2 : tie.Need-is-outside-requires-2
-is-outside-requires-2 c κs = search needs
 
 returns-2 : tie.Need-returns-2
 returns-2 c = let a = c .before .before .before .before .before .args in reset-refused (a .desk) (a .speakers) (a .length) (now (a .rings)) 3 (reset-refuses _ _ _ 1 (sym (c .before .before .before .is-outside .ensures) ∙ c .before .before .if1 .left, sym (c .before .is-outside2 .ensures) ∙ c .if2 .taken))
 
-is-product-requires : tie.Need-is-product-requires
-is-product-requires c κs = search needs
-
 returns-3 : tie.Need-returns-3
 returns-3 c = let a = c .before .before .before .before .before .before .before .args in reset-refused (a .desk) (a .speakers) (a .length) (now (a .rings)) 4 (reset-refuses _ _ _ 2 (sym (c .before .before .before .before .before .is-outside .ensures) ∙ c .before .before .before .before .if1 .left, (sym (c .before .before .before .is-outside2 .ensures) ∙ c .before .before .if2 .left, ap not (sym (c .before .is-product .ensures)) ∙ c .if3 .taken)))
-
-silence-requires : tie.Need-silence-requires
-silence-requires c κs = search needs
-
-same-length : tie.Need-same-length
-same-length c = search needs
 
 returns-4 : tie.Need-returns-4
 returns-4 c =
@@ -39,13 +24,5 @@ returns-4 c =
 pub reset-spec : {M : Type 1} → statement M
 reset-spec =
     tie.close
-    (tie.spec
-    is-outside-requires
-    returns
-    is-outside-requires-2
-    returns-2
-    is-product-requires
-    returns-3
-    silence-requires
-    same-length
-    returns-4)
+    (tie.spec (λ c κs. search needs) returns (λ c κs. search needs) returns-2 (λ c κs. search needs) returns-3
+    (λ c κs. search needs) (λ c. search needs) returns-4)

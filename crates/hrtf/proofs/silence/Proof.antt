@@ -49,14 +49,4 @@ returns c =
 pub silence-spec : {M : Type 1} → statement M
 silence-spec =
     tie.close
-    (tie.spec
-    Inv-loop
-    μ-loop
-    loop-holds
-    mul-rings
-    slice-write-rings
-    add-i
-    loop-less
-    loop-again
-    same-length
-    returns)
+    (tie.spec Inv-loop μ-loop loop-holds mul-rings slice-write-rings add-i loop-less loop-again same-length returns)

@@ -7,29 +7,14 @@ use borrow.Author.Needs.{needs}
 use Rattle.hrtf_checks.proofs.is_misfit.Statement.{statement}
 use Rattle.hrtf_checks.proofs.is_misfit.Tie as tie
 
-is-block-unfit-requires : tie.Need-is-block-unfit-requires
-is-block-unfit-requires c κs = search needs
-
 returns : tie.Need-returns
 returns c = or-yes _ _ (sym (c .before .is-block-unfit .ensures) ∙ c .if1 .taken)
-
-is-product-requires : tie.Need-is-product-requires
-is-product-requires c κs = search needs
 
 returns-2 : tie.Need-returns-2
 returns-2 c = or-next _ _ _ (sym (c .before .before .before .is-block-unfit .ensures) ∙ c .before .before .if1 .left) (or-yes _ _ (ap not (sym (c .before .is-product .ensures)) ∙ c .if2 .taken))
 
-is-product-requires-2 : tie.Need-is-product-requires-2
-is-product-requires-2 c κs = search needs
-
 returns-3 : tie.Need-returns-3
 returns-3 c = or-next _ _ _ (sym (c .before .before .before .before .before .is-block-unfit .ensures) ∙ c .before .before .before .before .if1 .left) (or-next _ _ _ (ap not (sym (c .before .before .before .is-product .ensures)) ∙ c .before .before .if2 .left) (or-yes _ _ (ap not (sym (c .before .is-product2 .ensures)) ∙ c .if3 .taken)))
-
-mul-is-product : tie.Need-mul-is-product
-mul-is-product c = omega arith
-
-is-product-requires-3 : tie.Need-is-product-requires-3
-is-product-requires-3 c κs = search needs
 
 returns-4 : tie.Need-returns-4
 returns-4 c = or-next _ _ _ (sym (c .before .before .before .before .before .before .before .is-block-unfit .ensures) ∙ c .before .before .before .before .before .before .if1 .left) (or-next _ _ _ (ap not (sym (c .before .before .before .before .before .is-product .ensures)) ∙ c .before .before .before .before .if2 .left) (or-next _ _ _ (ap not (sym (c .before .before .before .is-product2 .ensures)) ∙ c .before .before .if3 .left) (ap not (c .is-product3 .ensures))))
@@ -37,13 +22,5 @@ returns-4 c = or-next _ _ _ (sym (c .before .before .before .before .before .bef
 pub is-misfit-spec : {M : Type 1} → statement M
 is-misfit-spec =
     tie.close
-    (tie.spec
-    is-block-unfit-requires
-    returns
-    is-product-requires
-    returns-2
-    is-product-requires-2
-    returns-3
-    mul-is-product
-    is-product-requires-3
-    returns-4)
+    (tie.spec (λ c κs. search needs) returns (λ c κs. search needs) returns-2 (λ c κs. search needs) returns-3
+    (λ c. omega arith) (λ c κs. search needs) returns-4)

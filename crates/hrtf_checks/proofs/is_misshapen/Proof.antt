@@ -5,20 +5,11 @@ use borrow.Author.Needs.{needs}
 use Rattle.hrtf_checks.proofs.is_misshapen.Statement.{statement}
 use Rattle.hrtf_checks.proofs.is_misshapen.Tie as tie
 
-is-outside-requires : tie.Need-is-outside-requires
-is-outside-requires c κs = search needs
-
 returns : tie.Need-returns
 returns c = or-yes _ _ (sym (c .before .is-outside .ensures) ∙ c .if1 .taken)
 
-is-outside-requires-2 : tie.Need-is-outside-requires-2
-is-outside-requires-2 c κs = search needs
-
 returns-2 : tie.Need-returns-2
 returns-2 c = or-next _ _ _ (sym (c .before .before .before .is-outside .ensures) ∙ c .before .before .if1 .left) (or-yes _ _ (sym (c .before .is-outside2 .ensures) ∙ c .if2 .taken))
-
-is-outside-requires-3 : tie.Need-is-outside-requires-3
-is-outside-requires-3 c κs = search needs
 
 returns-3 : tie.Need-returns-3
 returns-3 c = or-next _ _ _ (sym (c .before .before .before .before .before .is-outside .ensures) ∙ c .before .before .before .before .if1 .left) (or-next _ _ _ (sym (c .before .before .before .is-outside2 .ensures) ∙ c .before .before .if2 .left) (or-yes _ _ (sym (c .before .is-outside3 .ensures) ∙ c .if3 .taken)))
@@ -32,12 +23,5 @@ returns-4 c = or-next _ _ _ (sym (c .before .before .before .before .before .bef
 pub is-misshapen-spec : {M : Type 1} → statement M
 is-misshapen-spec =
     tie.close
-    (tie.spec
-    is-outside-requires
-    returns
-    is-outside-requires-2
-    returns-2
-    is-outside-requires-3
-    returns-3
-    is-row-missing-requires
-    returns-4)
+    (tie.spec (λ c κs. search needs) returns (λ c κs. search needs) returns-2 (λ c κs. search needs) returns-3
+    is-row-missing-requires returns-4)

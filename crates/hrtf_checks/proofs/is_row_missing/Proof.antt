@@ -18,20 +18,8 @@ abbrev μ-loop : tie.MeasureT-loop
 loop-holds : tie.Need-loop-holds Inv-loop μ-loop
 loop-holds c = let a = c .args in passing-none (λ i. leb (a .rows) (getD (now (a .row-of)) i 0)) (a .speakers)
 
-mul-row : tie.Need-mul-row Inv-loop μ-loop
-mul-row c = omega arith
-
-element-copy-out-row : tie.Need-element-copy-out-row Inv-loop μ-loop
-element-copy-out-row c = omega arith
-
 returns : tie.Need-returns Inv-loop μ-loop
 returns c = let a = c .before .before .before .before .args in passing-found (λ i. leb (a .rows) (getD (now (a .row-of)) i 0)) (a .speakers) (c .before .before .before .loop .s) (c .before .before .before .loop .inv) (c .before .before .loop-test .taken) (le-leb _ _ (c .if1 .taken))
-
-add-s : tie.Need-add-s Inv-loop μ-loop
-add-s c = omega arith
-
-loop-less : tie.Need-loop-less Inv-loop μ-loop
-loop-less c = omega arith
 
 loop-again : tie.Need-loop-again Inv-loop μ-loop
 loop-again c = let a = c .before .before .before .before .args in passing-more (λ i. leb (a .rows) (getD (now (a .row-of)) i 0)) (a .speakers) (c .before .before .before .loop .s) (c .before .before .before .loop .inv) (c .before .before .loop-test .taken) (lt-leb _ _ (c .if1 .left))
@@ -42,14 +30,5 @@ returns-2 c = let a = c .before .before .args in passing-all (λ i. leb (a .rows
 pub is-row-missing-spec : {M : Type 1} → statement M
 is-row-missing-spec =
     tie.close
-    (tie.spec
-    Inv-loop
-    μ-loop
-    loop-holds
-    mul-row
-    element-copy-out-row
-    returns
-    add-s
-    loop-less
-    loop-again
-    returns-2)
+    (tie.spec Inv-loop μ-loop loop-holds (λ c. omega arith) (λ c. omega arith) returns (λ c. omega arith)
+    (λ c. omega arith) loop-again returns-2)

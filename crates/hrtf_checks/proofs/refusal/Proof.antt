@@ -8,14 +8,8 @@ use borrow.Author.Needs.{needs}
 use Rattle.hrtf_checks.proofs.refusal.Statement.{statement}
 use Rattle.hrtf_checks.proofs.refusal.Tie as tie
 
-is-misshapen-requires : tie.Need-is-misshapen-requires
-is-misshapen-requires c κs = search needs
-
 returns : tie.Need-returns
 returns c = refuse _ _ 0 (sym (c .before .is-misshapen .ensures) ∙ c .if1 .taken)
-
-is-outside-requires : tie.Need-is-outside-requires
-is-outside-requires c κs = search needs
 
 returns-2 : tie.Need-returns-2
 returns-2 c = refuse _ _ 1 (sym (c .before .before .before .is-misshapen .ensures) ∙ c .before .before .if1 .left, sym (c .before .is-outside .ensures) ∙ c .if2 .taken)
@@ -26,20 +20,11 @@ is-misfit-requires c κs = let a = c .before .before .before .before .before .be
 returns-3 : tie.Need-returns-3
 returns-3 c = refuse _ _ 2 (sym (c .before .before .before .before .before .is-misshapen .ensures) ∙ c .before .before .before .before .if1 .left, (sym (c .before .before .before .is-outside .ensures) ∙ c .before .before .if2 .left, sym (c .before .is-misfit .ensures) ∙ c .if3 .taken))
 
-has-nonfinite-f64-requires : tie.Need-has-nonfinite-f64-requires
-has-nonfinite-f64-requires c κs = search needs
-
 returns-4 : tie.Need-returns-4
 returns-4 c = refuse _ _ 3 (sym (c .before .before .before .before .before .before .before .is-misshapen .ensures) ∙ c .before .before .before .before .before .before .if1 .left, (sym (c .before .before .before .before .before .is-outside .ensures) ∙ c .before .before .before .before .if2 .left, (sym (c .before .before .before .is-misfit .ensures) ∙ c .before .before .if3 .left, sym (or-yes _ _ (sym (c .before .has-nonfinite-f64 .ensures) ∙ c .if4 .taken)))))
 
-has-nonfinite-f32-requires : tie.Need-has-nonfinite-f32-requires
-has-nonfinite-f32-requires c κs = search needs
-
 returns-5 : tie.Need-returns-5
 returns-5 c = refuse _ _ 3 (sym (c .before .before .before .before .before .before .before .before .before .is-misshapen .ensures) ∙ c .before .before .before .before .before .before .before .before .if1 .left, (sym (c .before .before .before .before .before .before .before .is-outside .ensures) ∙ c .before .before .before .before .before .before .if2 .left, (sym (c .before .before .before .before .before .is-misfit .ensures) ∙ c .before .before .before .before .if3 .left, sym (or-next _ _ true (sym (c .before .before .before .has-nonfinite-f64 .ensures) ∙ c .before .before .if4 .left) (sym (sym (c .before .has-nonfinite-f32 .ensures) ∙ c .if5 .taken))))))
-
-is-desk-out-of-range-requires : tie.Need-is-desk-out-of-range-requires
-is-desk-out-of-range-requires c κs = search needs
 
 returns-6 : tie.Need-returns-6
 returns-6 c = refuse _ _ 4 (sym (c .before .before .before .before .before .before .before .before .before .before .before .is-misshapen .ensures) ∙ c .before .before .before .before .before .before .before .before .before .before .if1 .left, (sym (c .before .before .before .before .before .before .before .before .before .is-outside .ensures) ∙ c .before .before .before .before .before .before .before .before .if2 .left, (sym (c .before .before .before .before .before .before .before .is-misfit .ensures) ∙ c .before .before .before .before .before .before .if3 .left, (sym (or-next _ _ false (sym (c .before .before .before .before .before .has-nonfinite-f64 .ensures) ∙ c .before .before .before .before .if4 .left) (sym (sym (c .before .before .before .has-nonfinite-f32 .ensures) ∙ c .before .before .if5 .left))), sym (c .before .is-desk-out-of-range .ensures) ∙ c .if6 .taken))))
@@ -50,17 +35,5 @@ returns-7 c = accept _ _ (sym (c .before .before .before .before .before .before
 pub refusal-spec : {M : Type 1} → statement M
 refusal-spec =
     tie.close
-    (tie.spec
-    is-misshapen-requires
-    returns
-    is-outside-requires
-    returns-2
-    is-misfit-requires
-    returns-3
-    has-nonfinite-f64-requires
-    returns-4
-    has-nonfinite-f32-requires
-    returns-5
-    is-desk-out-of-range-requires
-    returns-6
-    returns-7)
+    (tie.spec (λ c κs. search needs) returns (λ c κs. search needs) returns-2 is-misfit-requires returns-3
+    (λ c κs. search needs) returns-4 (λ c κs. search needs) returns-5 (λ c κs. search needs) returns-6 returns-7)

@@ -3,20 +3,14 @@ use borrow.Author.Needs.{needs}
 use Rattle.hrtf_desk.proofs.left_to_go.Statement.{statement}
 use Rattle.hrtf_desk.proofs.left_to_go.Tie as tie
 
-sub-result : tie.Need-sub-result
-sub-result c = search needs
-
 returns : tie.Need-returns
 returns c = simp (c .if1 .taken)
 
 returns-2 : tie.Need-returns-2
 returns-2 c = simp (c .before .if1 .left, c .if2 .taken)
 
-sub-result-2 : tie.Need-sub-result-2
-sub-result-2 c = search needs
-
 returns-3 : tie.Need-returns-3
 returns-3 c = simp (c .before .if1 .left)
 
 pub left-to-go-spec : {M : Type 1} → statement M
-left-to-go-spec = tie.close (tie.spec sub-result returns returns-2 sub-result-2 returns-3)
+left-to-go-spec = tie.close (tie.spec (λ c. search needs) returns returns-2 (λ c. search needs) returns-3)

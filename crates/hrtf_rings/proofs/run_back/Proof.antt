@@ -44,20 +44,5 @@ returns c = running-all (c .before .loop .inv) (c .loop-test .left)
 pub run-back-spec : {M : Type 1} → statement M
 run-back-spec =
     tie.close
-    (tie.spec
-    Inv-loop
-    μ-loop
-    (λ c κs. tt)
-    loop-holds
-    sub-i
-    sub-i-2
-    mul-widen
-    shared-slice-read-widen
-    (λ c κs. tt)
-    mul-widen-2
-    shared-slice-read-widen-2
-    (λ c κs. tt)
-    (λ c. omega arith)
-    (λ c. omega arith)
-    loop-again
-    returns)
+    (tie.spec Inv-loop μ-loop (λ c κs. tt) loop-holds sub-i sub-i-2 mul-widen shared-slice-read-widen (λ c κs. tt)
+    mul-widen-2 shared-slice-read-widen-2 (λ c κs. tt) (λ c. omega arith) (λ c. omega arith) loop-again returns)

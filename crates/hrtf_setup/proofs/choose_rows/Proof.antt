@@ -23,15 +23,6 @@ abbrev μ-loop : tie.MeasureT-loop
 loop-holds : tie.Need-loop-holds Inv-loop μ-loop
 loop-holds c = let a = c .args in choosing-none (a .whose) (a .speakers) (now (a .azimuths)) (now (a .elevations)) (a .rows) (now (a .row-of))
 
-tenths-requires : tie.Need-tenths-requires Inv-loop μ-loop
-tenths-requires c κs = tt
-
-nearest-row-requires : tie.Need-nearest-row-requires Inv-loop μ-loop
-nearest-row-requires c κs = tt
-
-mul-row-of : tie.Need-mul-row-of Inv-loop μ-loop
-mul-row-of c = omega arith
-
 element-write-row-of : tie.Need-element-write-row-of Inv-loop μ-loop
 element-write-row-of c = omega (arith, c .before .before .before .before .pre, c .before .before .loop-test .taken)
 
@@ -60,15 +51,5 @@ returns c =
 pub choose-rows-spec : {M : Type 1} → statement M
 choose-rows-spec =
     tie.close
-    (tie.spec
-    Inv-loop
-    μ-loop
-    loop-holds
-    tenths-requires
-    nearest-row-requires
-    mul-row-of
-    element-write-row-of
-    add-s
-    loop-less
-    loop-again
-    returns)
+    (tie.spec Inv-loop μ-loop loop-holds (λ c κs. tt) (λ c κs. tt) (λ c. omega arith) element-write-row-of add-s
+    loop-less loop-again returns)

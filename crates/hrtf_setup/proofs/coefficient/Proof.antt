@@ -12,18 +12,6 @@ use borrow.Author.Needs.{needs}
 use Rattle.hrtf_setup.proofs.coefficient.Statement.{statement}
 use Rattle.hrtf_setup.proofs.coefficient.Tie as tie
 
-foa-position-requires : tie.Need-foa-position-requires
-foa-position-requires c κs = search needs
-
-compute-sh-coefficients-max-re-requires : tie.Need-compute-sh-coefficients-max-re-requires
-compute-sh-coefficients-max-re-requires c κs = search needs
-
-mul-result : tie.Need-mul-result
-mul-result c = search needs
-
-array-read-result : tie.Need-array-read-result
-array-read-result c = search needs
-
 returns : tie.Need-returns
 returns c =
     let a = c .before .before .before .before .args in
@@ -41,10 +29,4 @@ returns-2 c =
 pub coefficient-spec : {M : Type 1} → statement M
 coefficient-spec =
     tie.close
-    (tie.spec
-    foa-position-requires
-    compute-sh-coefficients-max-re-requires
-    mul-result
-    array-read-result
-    returns
-    returns-2)
+    (tie.spec (λ c κs. search needs) (λ c κs. search needs) (λ c. search needs) (λ c. search needs) returns returns-2)

@@ -10,12 +10,6 @@ use borrow.Author.Needs.{needs}
 use Rattle.hrtf_setup.proofs.new_ambisonic.Statement.{statement}
 use Rattle.hrtf_setup.proofs.new_ambisonic.Tie as tie
 
-ambisonic-channel-count-requires : tie.Need-ambisonic-channel-count-requires
-ambisonic-channel-count-requires c κs = search needs
-
-unarranged-requires : tie.Need-unarranged-requires
-unarranged-requires c κs = search needs
-
 returns : tie.Need-returns
 returns c = let a = c .before .before .before .before .before .args in order-refused (a .order) (now (a .azimuths)) (now (a .elevations)) (a .rows) (now (a .weights)) (now (a .row-of)) _ (order-ill (a .order) _ (c .before .before .before .ambisonic-channel-count .ensures) (c .before .if1 .taken)) (c .unarranged .ensures)
 
@@ -30,9 +24,6 @@ arrange-requires c κs =
     let f = few-channels (past .before .before .before .before .args .order) (order .0) in
     (omega arith, omega (arith, order .1, f .0), omega (arith, order .1, f .1))
 
-same-length : tie.Need-same-length
-same-length c = search needs
-
 returns-2 : tie.Need-returns-2
 returns-2 c =
     let past = c .before .before .before .before .before in
@@ -42,10 +33,4 @@ returns-2 c =
 pub new-ambisonic-spec : {M : Type 1} → statement M
 new-ambisonic-spec =
     tie.close
-    (tie.spec
-    ambisonic-channel-count-requires
-    unarranged-requires
-    returns
-    arrange-requires
-    same-length
-    returns-2)
+    (tie.spec (λ c κs. search needs) (λ c κs. search needs) returns arrange-requires (λ c. search needs) returns-2)

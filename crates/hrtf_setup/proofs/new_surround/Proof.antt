@@ -9,17 +9,8 @@ use borrow.Author.Needs.{needs}
 use Rattle.hrtf_setup.proofs.new_surround.Statement.{statement}
 use Rattle.hrtf_setup.proofs.new_surround.Tie as tie
 
-is-surround-requires : tie.Need-is-surround-requires
-is-surround-requires c κs = search needs
-
-unarranged-requires : tie.Need-unarranged-requires
-unarranged-requires c κs = search needs
-
 returns : tie.Need-returns
 returns c = let a = c .before .before .before .before .args in layout-refused (a .layout) (now (a .azimuths)) (now (a .elevations)) (a .rows) (now (a .weights)) (now (a .row-of)) _ (ap not (sym (c .before .before .is-surround .ensures)) ∙ c .before .if1 .taken) (c .unarranged .ensures)
-
-channel-count-requires : tie.Need-channel-count-requires
-channel-count-requires c κs = search needs
 
 -- past the test of the layout
 offered : (c : tie.Else1) → not (surround (c .before .before .before .args .layout)) ≡ false
@@ -31,9 +22,6 @@ counts c = ap (λ (r : Counted). r .channels) (c .channel-count .ensures)
 arrange-requires : tie.Need-arrange-requires
 arrange-requires c κs = let n = c .before .before in few-of-layout (n .before .before .before .before .args .layout) (offered (n .before)) (n .channel-count .result .channels) (counts n)
 
-same-length : tie.Need-same-length
-same-length c = search needs
-
 returns-2 : tie.Need-returns-2
 returns-2 c =
     let n = c .before .before .before .before .before in
@@ -43,11 +31,5 @@ returns-2 c =
 pub new-surround-spec : {M : Type 1} → statement M
 new-surround-spec =
     tie.close
-    (tie.spec
-    is-surround-requires
-    unarranged-requires
-    returns
-    channel-count-requires
-    arrange-requires
-    same-length
-    returns-2)
+    (tie.spec (λ c κs. search needs) (λ c κs. search needs) returns (λ c κs. search needs) arrange-requires
+    (λ c. search needs) returns-2)

@@ -24,9 +24,6 @@ div-weight c = c .before .before .before .pre
 rem-weight : tie.Need-rem-weight Inv-loop μ-loop
 rem-weight c = c .before .before .before .pre
 
-weight-requires : tie.Need-weight-requires Inv-loop μ-loop
-weight-requires c κs = tt
-
 mul-weights : tie.Need-mul-weights Inv-loop μ-loop
 mul-weights c = omega (arith, c .before .before .loop .inv .same)
 
@@ -57,17 +54,5 @@ returns c =
 pub put-weights-spec : {M : Type 1} → statement M
 put-weights-spec =
     tie.close
-    (tie.spec
-    Inv-loop
-    μ-loop
-    loop-holds
-    div-weight
-    rem-weight
-    weight-requires
-    mul-weights
-    slice-write-weights
-    add-i
-    loop-less
-    loop-again
-    same-length
-    returns)
+    (tie.spec Inv-loop μ-loop loop-holds div-weight rem-weight (λ c κs. tt) mul-weights slice-write-weights add-i
+    loop-less loop-again same-length returns)

@@ -14,23 +14,11 @@ use Rattle.hrtf_setup.proofs.tenths.Tie as tie
 tenths-are : {r t : Tenths} → r ≡ t → r .tenths ≡ t .tenths
 tenths-are e = ap (λ (x : Tenths). x .tenths) e
 
-enum-known-whose : tie.Need-enum-known-whose
-enum-known-whose c = search needs
-
-speaker-tenths-requires : tie.Need-speaker-tenths-requires
-speaker-tenths-requires c κs = search needs
-
 cast-result : tie.Need-cast-result
 cast-result c =
     let known = c .before .before .before .before in
     let l = known .whose .given .0 .0 in
     cast-fits (Of l) _ _ (tenths-are (c .before .before .speaker-tenths .ensures ∙ tenths-answered (speakers l) (known .before .before .args .s)))
-
-enum-told : tie.Need-enum-told
-enum-told c = search needs
-
-position-tenths-requires : tie.Need-position-tenths-requires
-position-tenths-requires c κs = search needs
 
 cast-result-2 : tie.Need-cast-result-2
 cast-result-2 c =
@@ -53,12 +41,5 @@ returns-2 c =
 pub tenths-spec : {M : Type 1} → statement M
 tenths-spec =
     tie.close
-    (tie.spec
-    enum-known-whose
-    speaker-tenths-requires
-    cast-result
-    enum-told
-    position-tenths-requires
-    cast-result-2
-    returns
-    returns-2)
+    (tie.spec (λ c. search needs) (λ c κs. search needs) cast-result (λ c. search needs) (λ c κs. search needs)
+    cast-result-2 returns returns-2)

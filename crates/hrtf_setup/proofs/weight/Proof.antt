@@ -6,18 +6,6 @@ use borrow.Author.Needs.{needs}
 use Rattle.hrtf_setup.proofs.weight.Statement.{statement}
 use Rattle.hrtf_setup.proofs.weight.Tie as tie
 
-enum-told : tie.Need-enum-told
-enum-told c = search needs
-
-own-channel-requires : tie.Need-own-channel-requires
-own-channel-requires c κs = search needs
-
-enum-known-whose : tie.Need-enum-known-whose
-enum-known-whose c = search needs
-
-coefficient-requires : tie.Need-coefficient-requires
-coefficient-requires c κs = search needs
-
 returns : tie.Need-returns
 returns c = let a = c .before .before .before .args in c .own-channel .ensures ∙ ap (λ (k : Speakers). weightOf k (a .s) (a .channel)) (sym (c .before .enum-told .given .1))
 
@@ -27,10 +15,4 @@ returns-2 c = let a = c .before .before .before .before .args in c .coefficient 
 pub weight-spec : {M : Type 1} → statement M
 weight-spec =
     tie.close
-    (tie.spec
-    enum-told
-    own-channel-requires
-    enum-known-whose
-    coefficient-requires
-    returns
-    returns-2)
+    (tie.spec (λ c. search needs) (λ c κs. search needs) (λ c. search needs) (λ c κs. search needs) returns returns-2)

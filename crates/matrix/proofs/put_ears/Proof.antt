@@ -7,23 +7,8 @@ use borrow.Author.Needs.{needs}
 use Rattle.matrix.proofs.put_ears.Statement.{statement}
 use Rattle.matrix.proofs.put_ears.Tie as tie
 
-add-if1 : tie.Need-add-if1
-add-if1 c = search needs
-
 returns : tie.Need-returns
 returns c = let a = c .before .before .before .before .args in misfit (now (a .left)) (now (a .right)) (now (a .weights)) (c .if1 .taken)
-
-inverse-root-requires : tie.Need-inverse-root-requires
-inverse-root-requires c κs = search needs
-
-put-row-requires : tie.Need-put-row-requires
-put-row-requires c κs = search needs
-
-put-row-requires-2 : tie.Need-put-row-requires-2
-put-row-requires-2 c κs = search needs
-
-same-length : tie.Need-same-length
-same-length c = search needs
 
 returns-2 : tie.Need-returns-2
 returns-2 c =
@@ -33,11 +18,5 @@ returns-2 c =
 pub put-ears-spec : {M : Type 1} → statement M
 put-ears-spec =
     tie.close
-    (tie.spec
-    add-if1
-    returns
-    inverse-root-requires
-    put-row-requires
-    put-row-requires-2
-    same-length
-    returns-2)
+    (tie.spec (λ c. search needs) returns (λ c κs. search needs) (λ c κs. search needs) (λ c κs. search needs)
+    (λ c. search needs) returns-2)

@@ -25,12 +25,6 @@ returns c =
     not-none : _≡_ {A = ℕ} 2 0 → ⊥
     not-none e = omega arith
 
-int-to-float-number : tie.Need-int-to-float-number
-int-to-float-number c = search needs
-
-root-requires : tie.Need-root-requires
-root-requires c κs = search needs
-
 returns-2 : tie.Need-returns-2
 unfolding ofBits inverseRoot ofInt
 returns-2 c =
@@ -43,4 +37,4 @@ returns-2 c =
     }
 
 pub inverse-root-spec : {M : Type 1} → statement M
-inverse-root-spec = tie.close (tie.spec returns int-to-float-number root-requires returns-2)
+inverse-root-spec = tie.close (tie.spec returns (λ c. search needs) (λ c κs. search needs) returns-2)

@@ -18,9 +18,6 @@ use Rattle.numbers.proofs.narrow_bits.Tie as tie
 narrow-magnitude-requires : tie.Need-narrow-magnitude-requires
 narrow-magnitude-requires c κs = (omega arith, (omega arith, no-nan-fields (c .args .b) (c .pre)))
 
-add-result : tie.Need-add-result
-add-result c = search needs
-
 -- the pattern b, read with its sign s
 signed : (b : ℕ) (s : Bool) → leb (2 ^ 63) b ≡ s
     → toBits binary32 (narrowed (ofFields binary64 s (b % 2 ^ 63 / 2 ^ 52) (b % 2 ^ 52))) ≡ toBits binary32 (narrowed (ofBits binary64 b))
@@ -41,4 +38,4 @@ returns-2 c =
     ∙ signed b true (is-true (leb (2 ^ 63) b) (le→leb (2 ^ 63) b (c .if1 .left)))
 
 pub narrow-bits-spec : {M : Type 1} → statement M
-narrow-bits-spec = tie.close (tie.spec narrow-magnitude-requires add-result returns returns-2)
+narrow-bits-spec = tie.close (tie.spec narrow-magnitude-requires (λ c. search needs) returns returns-2)

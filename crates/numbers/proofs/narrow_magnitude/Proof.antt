@@ -22,32 +22,11 @@ shifted-2 c =
     let a = c .before .before .before in
     le-trans (le-of-eq (c .nearest-shift2 .ensures)) (normal-digits true (a .args .e) (a .args .d) (a .pre .1 .0))
 
-add-nearest-shift : tie.Need-add-nearest-shift
-add-nearest-shift c = search needs
-
-sub-nearest-shift : tie.Need-sub-nearest-shift
-sub-nearest-shift c = search needs
-
-nearest-shift-requires : tie.Need-nearest-shift-requires
-nearest-shift-requires c κs = search needs
-
 cast-result : tie.Need-cast-result
 cast-result c = omega (arith, shifted c)
 
-mul-n : tie.Need-mul-n
-mul-n c = search needs
-
-add-nearest-shift-2 : tie.Need-add-nearest-shift-2
-add-nearest-shift-2 c = search needs
-
-nearest-shift-requires-2 : tie.Need-nearest-shift-requires-2
-nearest-shift-requires-2 c κs = search needs
-
 add-n : tie.Need-add-n
 add-n c = omega (arith, shifted-2 c)
-
-cast-result-2 : tie.Need-cast-result-2
-cast-result-2 c = search needs
 
 returns : tie.Need-returns
 returns c = ((λ s. tiny s (c .before .args .e) (c .before .args .d) (c .before .pre .1 .0) (c .if1 .taken)), omega arith)
@@ -79,17 +58,5 @@ returns-4 c = ((λ s. cut (c .before) s ∙ ap (λ (x : ℕ). cond s (2 ^ 31) 0 
 pub narrow-magnitude-spec : {M : Type 1} → statement M
 narrow-magnitude-spec =
     tie.close
-    (tie.spec
-    add-nearest-shift
-    sub-nearest-shift
-    nearest-shift-requires
-    cast-result
-    mul-n
-    add-nearest-shift-2
-    nearest-shift-requires-2
-    add-n
-    cast-result-2
-    returns
-    returns-2
-    returns-3
-    returns-4)
+    (tie.spec (λ c. search needs) (λ c. search needs) (λ c κs. search needs) cast-result (λ c. search needs)
+    (λ c. search needs) (λ c κs. search needs) add-n (λ c. search needs) returns returns-2 returns-3 returns-4)

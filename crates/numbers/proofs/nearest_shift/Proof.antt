@@ -36,9 +36,6 @@ module _ (c : tie.Start) where
   q-lt : c .args .m / unit (c .args .t) < 2 ^ 63
   q-lt = div-lt-iff-lt-mul u-pos .1 (lt-of-lt-of-le (c .fits .m .fits) (mul-le-mul-left (2 ^ 63) u-ge))
 
-shl-u : tie.Need-shl-u
-shl-u c = search needs
-
 div-q : tie.Need-div-q
 div-q c = u-pos c
 
@@ -68,4 +65,4 @@ returns-3 c =
     add-one (a .m / unit (a .t)) ∙ sym (closest-gt (a .m) (unit (a .t)) (omega arith)) ∙ ap (λ (x : ℕ). closest (a .m) x) (is (c .before .before))
 
 pub nearest-shift-spec : {M : Type 1} → statement M
-nearest-shift-spec = tie.close (tie.spec shl-u div-q rem-r mul-r add-result add-result-2 returns returns-2 returns-3)
+nearest-shift-spec = tie.close (tie.spec (λ c. search needs) div-q rem-r mul-r add-result add-result-2 returns returns-2 returns-3)

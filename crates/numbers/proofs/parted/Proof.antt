@@ -13,9 +13,6 @@ use Rattle.numbers.proofs.parted.Tie as tie
 add-digits : tie.Need-add-digits
 add-digits c = omega (arith, mask-lt (c .args .bits) 52)
 
-add-e : tie.Need-add-e
-add-e c = search needs
-
 -- where there is no leading digit, the count of zeros above the digits is from 12 to 63
 zeros : (c : tie.Then1) → (j : ℕ) × (leadingZeros 64 (bitAnd (c .before .args .bits) (2 ^ 52 - 1)) + suc j ≡ 64) × (j < 52)
 zeros c =
@@ -36,9 +33,6 @@ shl-digits c = omega (arith, zeros c .1)
 sub-e : tie.Need-sub-e
 sub-e c = omega (arith, zeros c .1)
 
-shl-t11 : tie.Need-shl-t11
-shl-t11 c = search needs
-
 aligned : (c : tie.Joined1) → Aligned (c .before .args .bits) (c .if1 .digits) (c .if1 .e)
 aligned c =
     let b = c .before .args .bits in
@@ -51,4 +45,4 @@ returns : tie.Need-returns
 returns c = parted-of (c .before .before .before .args .bits) (c .before .before .if1 .digits) (c .before .before .if1 .e) (aligned (c .before .before))
 
 pub parted-spec : {M : Type 1} → statement M
-parted-spec = tie.close (tie.spec add-digits add-e cast-z sub-digits shl-digits sub-e shl-t11 returns)
+parted-spec = tie.close (tie.spec add-digits (λ c. search needs) cast-z sub-digits shl-digits sub-e (λ c. search needs) returns)

@@ -25,20 +25,8 @@ parted-requires c κs =
     let s = c .before .before .before in
     (bits-positive (s .args .x) (held s) (rw (zero-bits binary64) at (c .before .if2 .taken)), c .if3 .taken)
 
-whole-root-requires : tie.Need-whole-root-requires
-whole-root-requires c κs = search needs
-
-sub-t7 : tie.Need-sub-t7
-sub-t7 c = search needs
-
-mul-t8 : tie.Need-mul-t8
-mul-t8 c = search needs
-
 add-t9 : tie.Need-add-t9
 add-t9 c = omega (arith, root-short (c .before .before .parted .result .digits) (c .before .whole-root .result) (c .before .before .parted .ensures .least) (c .before .before .parted .ensures .most) (c .before .whole-root .ensures))
-
-add-t11 : tie.Need-add-t11
-add-t11 c = search needs
 
 float-from-bits-t12 : tie.Need-float-from-bits-t12
 float-from-bits-t12 c =
@@ -70,4 +58,4 @@ returns-4 c =
 pub root-spec : {M : Type 1} → statement M
 root-spec =
     tie.close
-    (tie.spec returns float-to-bits-bits parted-requires whole-root-requires sub-t7 mul-t8 add-t9 add-t11 float-from-bits-t12 returns-2 returns-3 returns-4)
+    (tie.spec returns float-to-bits-bits parted-requires (λ c κs. search needs) (λ c. search needs) (λ c. search needs) add-t9 (λ c. search needs) float-from-bits-t12 returns-2 returns-3 returns-4)

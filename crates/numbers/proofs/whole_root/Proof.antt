@@ -36,12 +36,6 @@ mul-root c = omega (arith, bound (c .before))
 add-root : tie.Need-add-root Inv-loop μ-loop
 add-root c = omega (arith, bound (c .before .before))
 
-add-i : tie.Need-add-i Inv-loop μ-loop
-add-i c = omega arith
-
-loop-less : tie.Need-loop-less Inv-loop μ-loop
-loop-less c = omega arith
-
 loop-again : tie.Need-loop-again Inv-loop μ-loop
 loop-again c =
     let l = c .before .before .loop in
@@ -54,4 +48,4 @@ returns : tie.Need-returns Inv-loop μ-loop
 returns c = last-turn (c .before .before .args .m) (c .before .loop .left) (c .before .loop .root) (c .before .loop .rest) (c .before .loop .i) (c .before .loop .inv) (c .loop-test .left)
 
 pub whole-root-spec : {M : Type 1} → statement M
-whole-root-spec = tie.close (tie.spec Inv-loop μ-loop loop-holds mul-next add-next mul-trial add-trial mul-root add-root add-i loop-less loop-again returns)
+whole-root-spec = tie.close (tie.spec Inv-loop μ-loop loop-holds mul-next add-next mul-trial add-trial mul-root add-root (λ c. omega arith) (λ c. omega arith) loop-again returns)

@@ -8,9 +8,6 @@ use denote.Floats.{passes}
 use Rattle.numbers.proofs.widen.Statement.{statement}
 use Rattle.numbers.proofs.widen.Tie as tie
 
-f32-to-f64-with-nan-requires : tie.Need-f32-to-f64-with-nan-requires
-f32-to-f64-with-nan-requires c = search needs
-
 returns : tie.Need-returns
 returns c =
     let x = c .before .args .x in
@@ -18,4 +15,4 @@ returns c =
     record { bits = e; words = subst (λ (v : Float). T (fits binary64 v)) (sym e) (fits-widens x (passes (fits binary32 x) (c .before .good .0 .1))) }
 
 pub widen-spec : {M : Type 1} → statement M
-widen-spec = tie.close (tie.spec f32-to-f64-with-nan-requires returns)
+widen-spec = tie.close (tie.spec (λ c. search needs) returns)

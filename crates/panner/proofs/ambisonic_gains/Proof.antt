@@ -10,12 +10,6 @@ use borrow.Author.Needs.{needs}
 use Rattle.panner.proofs.ambisonic_gains.Statement.{statement}
 use Rattle.panner.proofs.ambisonic_gains.Tie as tie
 
-ambisonic-channel-count-requires : tie.Need-ambisonic-channel-count-requires
-ambisonic-channel-count-requires c κs = search needs
-
-refused-requires : tie.Need-refused-requires
-refused-requires c κs = search needs
-
 returns : tie.Need-returns
 returns c =
     let a = c .before .before .before .before .args in
@@ -27,12 +21,6 @@ returns c =
 order-in : (c : tie.Else1) → (refusesOrder (c .before .before .before .args .order) ≡ false) × (c .before .before .ambisonic-channel-count .result .channels ≡ channelsOfOrder (c .before .before .before .args .order))
 order-in c = order-well (c .before .before .before .args .order) _ (c .before .before .ambisonic-channel-count .ensures) (c .if1 .left)
 
-is-bad-layout-requires : tie.Need-is-bad-layout-requires
-is-bad-layout-requires c κs = search needs
-
-refused-requires-2 : tie.Need-refused-requires-2
-refused-requires-2 c κs = search needs
-
 returns-2 : tie.Need-returns-2
 returns-2 c =
     let past = c .before .before .before in
@@ -40,12 +28,6 @@ returns-2 c =
     let r = c .refused2 in
     refused (Ambisonic (a .direction) (a .order)) (a .layout) (r .result) 2 (lit< tt) (r .ensures)
     (layout-refused (a .layout) (a .direction) (a .order) (order-in past .0) (sym (c .before .before .is-bad-layout .ensures) ∙ c .before .if2 .taken))
-
-compute-sh-coefficients-requires : tie.Need-compute-sh-coefficients-requires
-compute-sh-coefficients-requires c κs = search needs
-
-refused-requires-3 : tie.Need-refused-requires-3
-refused-requires-3 c κs = search needs
 
 returns-3 : tie.Need-returns-3
 returns-3 c =
@@ -67,14 +49,5 @@ returns-4 c =
 pub ambisonic-gains-spec : {M : Type 1} → statement M
 ambisonic-gains-spec =
     tie.close
-    (tie.spec
-    ambisonic-channel-count-requires
-    refused-requires
-    returns
-    is-bad-layout-requires
-    refused-requires-2
-    returns-2
-    compute-sh-coefficients-requires
-    refused-requires-3
-    returns-3
-    returns-4)
+    (tie.spec (λ c κs. search needs) (λ c κs. search needs) returns (λ c κs. search needs) (λ c κs. search needs)
+    returns-2 (λ c κs. search needs) (λ c κs. search needs) returns-3 returns-4)

@@ -5,18 +5,12 @@ use lib.Ieee.{ofBits, ofInt}
 use Rattle.panner.proofs.command_gains.Statement.{statement}
 use Rattle.panner.proofs.command_gains.Tie as tie
 
-gains-of-requires : tie.Need-gains-of-requires
-gains-of-requires c κs = search needs
-
 returns : tie.Need-returns
 unfolding ofBits ofInt
 returns c =
     let a = c .before .before .before .args in
     let g = c .before .before .gains-of in
     gives-refused (a .command) (a .layout) (g .result) (g .ensures) (c .if1 .taken)
-
-narrowed-requires : tie.Need-narrowed-requires
-narrowed-requires c κs = search needs
 
 returns-2 : tie.Need-returns-2
 returns-2 c =
@@ -27,4 +21,4 @@ returns-2 c =
 
 pub command-gains-spec : {M : Type 1} → statement M
 command-gains-spec =
-    tie.close (tie.spec gains-of-requires returns narrowed-requires returns-2)
+    tie.close (tie.spec (λ c κs. search needs) returns (λ c κs. search needs) returns-2)

@@ -6,24 +6,6 @@ use borrow.Author.Needs.{needs}
 use Rattle.panner.proofs.gains_of.Statement.{statement}
 use Rattle.panner.proofs.gains_of.Tie as tie
 
-enum-known-command : tie.Need-enum-known-command
-enum-known-command c = search needs
-
-stereo-gains-requires : tie.Need-stereo-gains-requires
-stereo-gains-requires c κs = search needs
-
-enum-known-command-2 : tie.Need-enum-known-command-2
-enum-known-command-2 c = search needs
-
-surround-gains-requires : tie.Need-surround-gains-requires
-surround-gains-requires c κs = search needs
-
-enum-known-command-3 : tie.Need-enum-known-command-3
-enum-known-command-3 c = search needs
-
-ambisonic-gains-requires : tie.Need-ambisonic-gains-requires
-ambisonic-gains-requires c κs = search needs
-
 returns : tie.Need-returns
 returns c =
     let a = c .before .before .before .before .args in
@@ -42,13 +24,5 @@ returns-3 c =
 pub gains-of-spec : {M : Type 1} → statement M
 gains-of-spec =
     tie.close
-    (tie.spec
-    enum-known-command
-    stereo-gains-requires
-    enum-known-command-2
-    surround-gains-requires
-    enum-known-command-3
-    ambisonic-gains-requires
-    returns
-    returns-2
-    returns-3)
+    (tie.spec (λ c. search needs) (λ c κs. search needs) (λ c. search needs) (λ c κs. search needs) (λ c. search needs)
+    (λ c κs. search needs) returns returns-2 returns-3)

@@ -4,11 +4,8 @@ use borrow.Author.Needs.{needs}
 use Rattle.panner.proofs.is_bad_layout.Statement.{statement}
 use Rattle.panner.proofs.is_bad_layout.Tie as tie
 
-channel-count-requires : tie.Need-channel-count-requires
-channel-count-requires c κs = search needs
-
 returns : tie.Need-returns
 returns c = bad-layout (c .before .before .args .layout) (c .before .channel-count .result) (c .before .channel-count .ensures)
 
 pub is-bad-layout-spec : {M : Type 1} → statement M
-is-bad-layout-spec = tie.close (tie.spec channel-count-requires returns)
+is-bad-layout-spec = tie.close (tie.spec (λ c κs. search needs) returns)

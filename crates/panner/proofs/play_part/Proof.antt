@@ -17,25 +17,13 @@ Inv-loop out₀ stride from to planes gains input few n₀ out n = Parting out�
 abbrev μ-loop : tie.MeasureT-loop
 μ-loop out₀ stride from to planes gains input few n₀ out n = to - n
 
-min-requires : tie.Need-min-requires Inv-loop μ-loop
-min-requires c κs = tt
-
 loop-holds : tie.Need-loop-holds Inv-loop μ-loop
 loop-holds c =
     let a = c .before .before .before .args in
     parting-none (now (a .out)) (a .stride) (a .from) (a .to) (λ k. panned (c .min .result) (a .gains) (sampleAt (now (a .input)) (a .stride) 0 k))
 
-sample-requires : tie.Need-sample-requires Inv-loop μ-loop
-sample-requires c κs = tt
-
 pan-requires : tie.Need-pan-requires Inv-loop μ-loop
 pan-requires c κs = omega (arith, c .before .before .before .before .min .ensures)
-
-add-n : tie.Need-add-n Inv-loop μ-loop
-add-n c = omega arith
-
-loop-less : tie.Need-loop-less Inv-loop μ-loop
-loop-less c = omega arith
 
 loop-again : tie.Need-loop-again Inv-loop μ-loop
 loop-again c =
@@ -46,9 +34,6 @@ loop-again c =
     parting-more (now (a .out)) (a .stride) (a .from) (a .to) (λ k. panned few (a .gains) (sampleAt (now (a .input)) (a .stride) 0 k)) (at .out) (at .n) (at .inv) (c .before .before .pan .last .0)
     (omega (arith, c .before .before .before .before .before .loop-test .taken))
     (c .before .before .pan .ensures ∙ ap (λ (y : Float). withFrame (at .out) (a .stride) (at .n) (panned few (a .gains) y)) (x .ensures))
-
-same-length : tie.Need-same-length Inv-loop μ-loop
-same-length c = omega arith
 
 returns : tie.Need-returns Inv-loop μ-loop
 returns c =
@@ -61,15 +46,5 @@ returns c =
 pub play-part-spec : {M : Type 1} → statement M
 play-part-spec =
     tie.close
-    (tie.spec
-    Inv-loop
-    μ-loop
-    min-requires
-    loop-holds
-    sample-requires
-    pan-requires
-    add-n
-    loop-less
-    loop-again
-    same-length
-    returns)
+    (tie.spec Inv-loop μ-loop (λ c κs. tt) loop-holds (λ c κs. tt) pan-requires (λ c. omega arith) (λ c. omega arith)
+    loop-again (λ c. omega arith) returns)

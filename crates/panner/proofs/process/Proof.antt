@@ -7,17 +7,11 @@ use borrow.Author.Needs.{needs}
 use Rattle.panner.proofs.process.Statement.{statement}
 use Rattle.panner.proofs.process.Tie as tie
 
-command-gains-requires : tie.Need-command-gains-requires
-command-gains-requires c κs = search needs
-
 returns : tie.Need-returns
 returns c =
     let a = c .before .before .before .before .before .args in
     let g = c .before .before .command-gains in
     by-command (record { command = a .command; layout = a .layout; frames = a .frames; stride = a .stride }) (now (a .input)) (now (a .out)) (g .result) (g .ensures) (c .if1 .taken)
-
-is-block-unfit-requires : tie.Need-is-block-unfit-requires
-is-block-unfit-requires c κs = search needs
 
 returns-2 : tie.Need-returns-2
 returns-2 c =
@@ -31,12 +25,6 @@ returns-3 c =
     let g = c .before .before .before .before .before .command-gains in
     by-frames (record { command = a .command; layout = a .layout; frames = a .frames; stride = a .stride }) (now (a .input)) (now (a .out)) (g .result) (g .ensures) (c .before .before .before .if1 .left) (sym (c .before .before .is-block-unfit .ensures) ∙ c .before .if2 .left) (omega (arith, c .if3 .taken))
 
-play-part-requires : tie.Need-play-part-requires
-play-part-requires c κs = search needs
-
-same-length : tie.Need-same-length
-same-length c = search needs
-
 returns-4 : tie.Need-returns-4
 returns-4 c =
     let a = c .before .before .before .before .before .before .before .before .before .before .before .before .before .args in
@@ -47,12 +35,5 @@ returns-4 c =
 pub process-spec : {M : Type 1} → statement M
 process-spec =
     tie.close
-    (tie.spec
-    command-gains-requires
-    returns
-    is-block-unfit-requires
-    returns-2
-    returns-3
-    play-part-requires
-    same-length
-    returns-4)
+    (tie.spec (λ c κs. search needs) returns (λ c κs. search needs) returns-2 returns-3 (λ c κs. search needs)
+    (λ c. search needs) returns-4)

@@ -9,23 +9,11 @@ use borrow.Author.Needs.{needs}
 use Rattle.panner.proofs.stereo_gains.Statement.{statement}
 use Rattle.panner.proofs.stereo_gains.Tie as tie
 
-is-bad-layout-requires : tie.Need-is-bad-layout-requires
-is-bad-layout-requires c κs = search needs
-
-refused-requires : tie.Need-refused-requires
-refused-requires c κs = search needs
-
 returns : tie.Need-returns
 returns c =
     let a = c .before .before .before .args in
     let r = c .refused in
     refused (Stereo (a .position)) (a .layout) (r .result) 2 (lit< tt) (r .ensures) (cond-true 2 _ (sym (c .before .before .is-bad-layout .ensures) ∙ c .before .if1 .taken))
-
-calculate-stereo-gains-requires : tie.Need-calculate-stereo-gains-requires
-calculate-stereo-gains-requires c κs = search needs
-
-refused-requires-2 : tie.Need-refused-requires-2
-refused-requires-2 c κs = search needs
 
 returns-2 : tie.Need-returns-2
 returns-2 c =
@@ -34,12 +22,6 @@ returns-2 c =
     let s = c .before .before .before .calculate-stereo-gains in
     refused (Stereo (a .position)) (a .layout) (r .result) 3 (lit< tt) (r .ensures)
     (stereo-refused (a .layout) (a .position) (s .result) (s .ensures) (sym (c .before .before .before .before .before .is-bad-layout .ensures) ∙ c .before .before .before .before .if1 .left) (c .before .if2 .taken))
-
-array-write-gains : tie.Need-array-write-gains
-array-write-gains c = search needs
-
-array-write-gains-2 : tie.Need-array-write-gains-2
-array-write-gains-2 c = search needs
 
 returns-3 : tie.Need-returns-3
 unfolding ofBits ofInt
@@ -51,13 +33,5 @@ returns-3 c =
 pub stereo-gains-spec : {M : Type 1} → statement M
 stereo-gains-spec =
     tie.close
-    (tie.spec
-    is-bad-layout-requires
-    refused-requires
-    returns
-    calculate-stereo-gains-requires
-    refused-requires-2
-    returns-2
-    array-write-gains
-    array-write-gains-2
-    returns-3)
+    (tie.spec (λ c κs. search needs) (λ c κs. search needs) returns (λ c κs. search needs) (λ c κs. search needs)
+    returns-2 (λ c. search needs) (λ c. search needs) returns-3)

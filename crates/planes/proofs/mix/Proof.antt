@@ -21,33 +21,12 @@ loop-holds : tie.Need-loop-holds Inv-loop μ-loop
 unfolding ofBits
 loop-holds c = let a = c .before .before .before .args in mixing-none (now (a .weights)) (now (a .inputs)) (a .stride) (a .frame) (c .onward .result) (c .onward .ensures)
 
-value-requires : tie.Need-value-requires Inv-loop μ-loop
-value-requires c κs = tt
-
-mul-sum : tie.Need-mul-sum Inv-loop μ-loop
-mul-sum c = omega arith
-
-shared-slice-read-sum : tie.Need-shared-slice-read-sum Inv-loop μ-loop
-shared-slice-read-sum c = omega arith
-
-onward-requires-2 : tie.Need-onward-requires-2 Inv-loop μ-loop
-onward-requires-2 c κs = omega arith
-
-add-c : tie.Need-add-c Inv-loop μ-loop
-add-c c = omega arith
-
-loop-less : tie.Need-loop-less Inv-loop μ-loop
-loop-less c = omega arith
-
 loop-again : tie.Need-loop-again Inv-loop μ-loop
 loop-again c =
     let at = c .before .before .before .before in
     let a = c .before .before .before .before .before .before .before .before .args in
     mixing-more (now (a .weights)) (now (a .inputs)) (a .stride) (a .frame) (at .loop .sum) (at .loop .at) (at .loop .c) (c .before .before .value .result) (c .onward2 .result)
     (at .loop .inv) (c .before .before .before .loop-test .taken) (c .before .before .value .ensures) (c .onward2 .ensures)
-
-narrow-requires : tie.Need-narrow-requires Inv-loop μ-loop
-narrow-requires c κs = tt
 
 returns : tie.Need-returns Inv-loop μ-loop
 returns c =
@@ -58,17 +37,5 @@ returns c =
 pub mix-spec : {M : Type 1} → statement M
 mix-spec =
     tie.close
-    (tie.spec
-    Inv-loop
-    μ-loop
-    onward-requires
-    loop-holds
-    value-requires
-    mul-sum
-    shared-slice-read-sum
-    onward-requires-2
-    add-c
-    loop-less
-    loop-again
-    narrow-requires
-    returns)
+    (tie.spec Inv-loop μ-loop onward-requires loop-holds (λ c κs. tt) (λ c. omega arith) (λ c. omega arith)
+    (λ c κs. omega arith) (λ c. omega arith) (λ c. omega arith) loop-again (λ c κs. tt) returns)

@@ -21,42 +21,6 @@ loop-holds c =
     let a = c .before .before .before .args in
     judging-none (now (a .out)) (a .out-stride) (a .out-frame) (a .outputs) (output (now (a .weights)) (a .channels) (now (a .inputs)) (a .stride) (a .frame))
 
-place-requires : tie.Need-place-requires Inv-loop μ-loop
-place-requires c κs = tt
-
-onward-requires : tie.Need-onward-requires Inv-loop μ-loop
-onward-requires c κs = omega arith
-
-mul-mix : tie.Need-mul-mix Inv-loop μ-loop
-mul-mix c = omega arith
-
-sub-mix : tie.Need-sub-mix Inv-loop μ-loop
-sub-mix c = omega arith
-
-part-mix-start : tie.Need-part-mix-start Inv-loop μ-loop
-part-mix-start c = omega arith
-
-part-mix-end : tie.Need-part-mix-end Inv-loop μ-loop
-part-mix-end c = omega arith
-
-mix-requires : tie.Need-mix-requires Inv-loop μ-loop
-mix-requires c κs = tt
-
-put-sample-requires : tie.Need-put-sample-requires Inv-loop μ-loop
-put-sample-requires c κs = tt
-
-widen-requires : tie.Need-widen-requires Inv-loop μ-loop
-widen-requires c κs = tt
-
-is-finite-requires : tie.Need-is-finite-requires Inv-loop μ-loop
-is-finite-requires c κs = tt
-
-add-o : tie.Need-add-o Inv-loop μ-loop
-add-o c = omega arith
-
-loop-less : tie.Need-loop-less Inv-loop μ-loop
-loop-less c = omega arith
-
 loop-again : tie.Need-loop-again Inv-loop μ-loop
 loop-again c =
     let tested = c .before in
@@ -74,9 +38,6 @@ loop-again c =
     (put .put-sample .ensures)
     (⊎-elim (λ w. judge true (w .0 .taken) (w .1 ∙ sym (or-true (at .loop .damaged)))) (λ w. judge false (w .0 .left) (w .1 ∙ sym (or-false (at .loop .damaged)))) (c .if1 .came))
 
-same-length : tie.Need-same-length Inv-loop μ-loop
-same-length c = omega arith
-
 returns : tie.Need-returns Inv-loop μ-loop
 returns c =
     let a = c .before .before .before .before .before .args in
@@ -85,22 +46,6 @@ returns c =
 pub mix-frame-spec : {M : Type 1} → statement M
 mix-frame-spec =
     tie.close
-    (tie.spec
-    Inv-loop
-    μ-loop
-    loop-holds
-    place-requires
-    onward-requires
-    mul-mix
-    sub-mix
-    part-mix-start
-    part-mix-end
-    mix-requires
-    put-sample-requires
-    widen-requires
-    is-finite-requires
-    add-o
-    loop-less
-    loop-again
-    same-length
-    returns)
+    (tie.spec Inv-loop μ-loop loop-holds (λ c κs. tt) (λ c κs. omega arith) (λ c. omega arith) (λ c. omega arith)
+    (λ c. omega arith) (λ c. omega arith) (λ c κs. tt) (λ c κs. tt) (λ c κs. tt) (λ c κs. tt) (λ c. omega arith)
+    (λ c. omega arith) loop-again (λ c. omega arith) returns)

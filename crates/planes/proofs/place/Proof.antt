@@ -5,20 +5,8 @@ use borrow.Author.Needs.{needs}
 use Rattle.planes.proofs.place.Statement.{statement}
 use Rattle.planes.proofs.place.Tie as tie
 
-returns : tie.Need-returns
-returns c = search needs
-
 returns-2 : tie.Need-returns-2
 returns-2 c = let a = c .before .before .args in omega (arith, one-place (a .size) (a .stride) (a .plane) (a .frame) (c .if2 .taken))
-
-sub-if3 : tie.Need-sub-if3
-sub-if3 c = search needs
-
-sub-if3-2 : tie.Need-sub-if3-2
-sub-if3-2 c = search needs
-
-div-if3 : tie.Need-div-if3
-div-if3 c = search needs
 
 returns-3 : tie.Need-returns-3
 returns-3 c = let a = c .before .before .before .args in omega (arith, beyond (a .size) (a .stride) (a .plane) (a .frame) (omega arith) (omega arith) (c .if3 .taken))
@@ -35,13 +23,5 @@ returns-4 c = let a = c .before .before .before .args in omega (arith, within (a
 pub place-spec : {M : Type 1} → statement M
 place-spec =
     tie.close
-    (tie.spec
-    returns
-    returns-2
-    sub-if3
-    sub-if3-2
-    div-if3
-    returns-3
-    mul-result
-    add-result
-    returns-4)
+    (tie.spec (λ c. search needs) returns-2 (λ c. search needs) (λ c. search needs) (λ c. search needs) returns-3
+    mul-result add-result returns-4)

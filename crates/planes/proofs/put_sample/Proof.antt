@@ -7,18 +7,6 @@ use borrow.Author.Needs.{needs}
 use Rattle.planes.proofs.put_sample.Statement.{statement}
 use Rattle.planes.proofs.put_sample.Tie as tie
 
-place-requires : tie.Need-place-requires
-place-requires c κs = search needs
-
-mul-xs : tie.Need-mul-xs
-mul-xs c = search needs
-
-slice-write-xs : tie.Need-slice-write-xs
-slice-write-xs c = search needs
-
-same-length : tie.Need-same-length
-same-length c = search needs
-
 returns : tie.Need-returns
 returns c = set-min (now (c .before .before .before .args .xs)) _ _ _ (c .before .place .ensures)
 
@@ -27,4 +15,4 @@ returns-2 c = let a = c .before .before .before .args in sym (set-out (now (a .x
 
 pub put-sample-spec : {M : Type 1} → statement M
 put-sample-spec =
-    tie.close (tie.spec place-requires mul-xs slice-write-xs same-length returns returns-2)
+    tie.close (tie.spec (λ c κs. search needs) (λ c. search needs) (λ c. search needs) (λ c. search needs) returns returns-2)

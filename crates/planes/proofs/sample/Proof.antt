@@ -8,15 +8,6 @@ use borrow.Author.Needs.{needs}
 use Rattle.planes.proofs.sample.Statement.{statement}
 use Rattle.planes.proofs.sample.Tie as tie
 
-place-requires : tie.Need-place-requires
-place-requires c κs = search needs
-
-mul-result : tie.Need-mul-result
-mul-result c = search needs
-
-shared-slice-read-result : tie.Need-shared-slice-read-result
-shared-slice-read-result c = search needs
-
 returns : tie.Need-returns
 returns c = getD-min (now (c .before .before .before .before .args .xs)) _ _ nan (c .before .before .place .ensures)
 
@@ -26,4 +17,4 @@ returns-2 c = sym (List·getD-eq-default (now (c .before .before .before .args .
 
 pub sample-spec : {M : Type 1} → statement M
 sample-spec =
-    tie.close (tie.spec place-requires mul-result shared-slice-read-result returns returns-2)
+    tie.close (tie.spec (λ c κs. search needs) (λ c. search needs) (λ c. search needs) returns returns-2)

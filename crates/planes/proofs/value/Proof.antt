@@ -7,22 +7,10 @@ use borrow.Author.Needs.{needs}
 use Rattle.planes.proofs.value.Statement.{statement}
 use Rattle.planes.proofs.value.Tie as tie
 
-mul-widen : tie.Need-mul-widen
-mul-widen c = search needs
-
-shared-slice-read-widen : tie.Need-shared-slice-read-widen
-shared-slice-read-widen c = search needs
-
-widen-requires : tie.Need-widen-requires
-widen-requires c κs = search needs
-
-returns : tie.Need-returns
-returns c = search needs
-
 returns-2 : tie.Need-returns-2
 unfolding ofBits div
 returns-2 c = sym (List·getD-eq-default (now (c .before .before .args .xs)) nan (c .if1 .left))
 
 pub value-spec : {M : Type 1} → statement M
 value-spec =
-    tie.close (tie.spec mul-widen shared-slice-read-widen widen-requires returns returns-2)
+    tie.close (tie.spec (λ c. search needs) (λ c. search needs) (λ c κs. search needs) (λ c. search needs) returns-2)

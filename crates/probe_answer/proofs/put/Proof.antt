@@ -22,20 +22,11 @@ module _ (c : tie.Else2) where
 returns : tie.Need-returns
 returns c = field-long _ _ _ _ (c .if1 .taken)
 
-has-room-requires : tie.Need-has-room-requires
-has-room-requires c κs = tt
-
 returns-2 : tie.Need-returns-2
 returns-2 c = field-none _ _ _ _ (c .before .before .if1 .left) (sym (c .before .has-room .ensures) ∙ not-true _ (c .if2 .taken))
 
-put-requires : tie.Need-put-requires
-put-requires c κs = tt
-
 add-result : tie.Need-add-result
 add-result c = omega (arith, inside (c .before .before .before .before))
-
-same-length : tie.Need-same-length
-same-length c = search needs
 
 returns-3 : tie.Need-returns-3
 returns-3 c =
@@ -45,4 +36,4 @@ returns-3 c =
 pub put-spec : {M : Type 1} → statement M
 put-spec =
     tie.close
-    (tie.spec returns has-room-requires returns-2 put-requires add-result same-length returns-3)
+    (tie.spec returns (λ c κs. tt) returns-2 (λ c κs. tt) add-result (λ c. search needs) returns-3)

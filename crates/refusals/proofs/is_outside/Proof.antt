@@ -5,11 +5,8 @@ use borrow.Author.Needs.{needs}
 use Rattle.refusals.proofs.is_outside.Statement.{statement}
 use Rattle.refusals.proofs.is_outside.Tie as tie
 
-is-within-requires : tie.Need-is-within-requires
-is-within-requires c κs = search needs
-
 returns : tie.Need-returns
 returns c = ap not (c .is-within .ensures)
 
 pub is-outside-spec : {M : Type 1} → statement M
-is-outside-spec = tie.close (tie.spec is-within-requires returns)
+is-outside-spec = tie.close (tie.spec (λ c κs. search needs) returns)

@@ -6,9 +6,6 @@ use Rattle.script.specs.Promise.{answerOf}
 use Rattle.script.proofs.answer_of.Statement.{statement}
 use Rattle.script.proofs.answer_of.Tie as tie
 
-refusal-of-requires : tie.Need-refusal-of-requires
-refusal-of-requires c κs = search needs
-
 returns : tie.Need-returns
 returns c =
     let a = c .before .before .args in
@@ -22,4 +19,4 @@ returns-2 c =
     sym (answered-accepted (answerOf 0 (a .frames)) (λ n. answerOf n 0) _ (sym (r .ensures) ∙ c .if1 .left))
 
 pub answer-of-spec : {M : Type 1} → statement M
-answer-of-spec = tie.close (tie.spec refusal-of-requires returns returns-2)
+answer-of-spec = tie.close (tie.spec (λ c κs. search needs) returns returns-2)

@@ -18,15 +18,6 @@ abbrev μ-loop : tie.MeasureT-loop
 loop-holds : tie.Need-loop-holds Inv-loop μ-loop
 loop-holds c = let a = c .before .args in sampling-none (now (a .out)) (a .stride) (a .frame) (a .planes) (λ k. zero-float)
 
-put-sample-requires : tie.Need-put-sample-requires Inv-loop μ-loop
-put-sample-requires c κs = tt
-
-add-p : tie.Need-add-p Inv-loop μ-loop
-add-p c = omega arith
-
-loop-less : tie.Need-loop-less Inv-loop μ-loop
-loop-less c = omega arith
-
 loop-again : tie.Need-loop-again Inv-loop μ-loop
 unfolding ofBits ofInt
 loop-again c =
@@ -34,9 +25,6 @@ loop-again c =
     let at = c .before .before .before .before .before .loop in
     sampling-more (now (a .out)) (a .stride) (a .frame) (a .planes) (λ k. zero-float) (at .out) (at .p) (at .inv) _ (c .before .before .put-sample .last .0)
     (c .before .before .before .before .loop-test .taken) refl (c .before .before .put-sample .ensures)
-
-same-length : tie.Need-same-length Inv-loop μ-loop
-same-length c = omega arith
 
 returns : tie.Need-returns Inv-loop μ-loop
 returns c =
@@ -47,13 +35,5 @@ returns c =
 pub mute-spec : {M : Type 1} → statement M
 mute-spec =
     tie.close
-    (tie.spec
-    Inv-loop
-    μ-loop
-    loop-holds
-    put-sample-requires
-    add-p
-    loop-less
-    loop-again
-    same-length
-    returns)
+    (tie.spec Inv-loop μ-loop loop-holds (λ c κs. tt) (λ c. omega arith) (λ c. omega arith) loop-again
+    (λ c. omega arith) returns)

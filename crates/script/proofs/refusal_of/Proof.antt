@@ -5,15 +5,6 @@ use Rattle.script.proofs.Meets.{by-order, by-direction, by-length, by-e
 use Rattle.script.proofs.refusal_of.Statement.{statement}
 use Rattle.script.proofs.refusal_of.Tie as tie
 
-ambisonic-channel-count-requires : tie.Need-ambisonic-channel-count-requires
-ambisonic-channel-count-requires c κs = search needs
-
-is-block-unfit-requires : tie.Need-is-block-unfit-requires
-is-block-unfit-requires c κs = search needs
-
-runs-past-requires : tie.Need-runs-past-requires
-runs-past-requires c κs = search needs
-
 returns : tie.Need-returns
 returns c =
     let a = c .before .before .before .args in
@@ -65,15 +56,5 @@ returns-8 c =
 pub refusal-of-spec : {M : Type 1} → statement M
 refusal-of-spec =
     tie.close
-    (tie.spec
-    ambisonic-channel-count-requires
-    returns
-    returns-2
-    is-block-unfit-requires
-    returns-3
-    runs-past-requires
-    returns-4
-    returns-5
-    returns-6
-    returns-7
-    returns-8)
+    (tie.spec (λ c κs. search needs) returns returns-2 (λ c κs. search needs) returns-3 (λ c κs. search needs) returns-4
+    returns-5 returns-6 returns-7 returns-8)

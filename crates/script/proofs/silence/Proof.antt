@@ -16,24 +16,12 @@ abbrev μ-loop : tie.MeasureT-loop
 loop-holds : tie.Need-loop-holds Inv-loop μ-loop
 loop-holds c = let a = c .before .args in parting-none (now (a .out)) (a .stride) (a .from) (a .to) (λ k. silent (a .planes))
 
-mute-requires : tie.Need-mute-requires Inv-loop μ-loop
-mute-requires c κs = tt
-
-add-n : tie.Need-add-n Inv-loop μ-loop
-add-n c = omega arith
-
-loop-less : tie.Need-loop-less Inv-loop μ-loop
-loop-less c = omega arith
-
 loop-again : tie.Need-loop-again Inv-loop μ-loop
 loop-again c =
     let a = c .before .before .before .before .before .before .before .args in
     let at = c .before .before .before .before .before .loop in
     parting-more (now (a .out)) (a .stride) (a .from) (a .to) (λ k. silent (a .planes)) (at .out) (at .n) (at .inv) (c .before .before .mute .last .0)
     (c .before .before .before .before .loop-test .taken) (c .before .before .mute .ensures)
-
-same-length : tie.Need-same-length Inv-loop μ-loop
-same-length c = omega arith
 
 returns : tie.Need-returns Inv-loop μ-loop
 returns c =
@@ -44,13 +32,5 @@ returns c =
 pub silence-spec : {M : Type 1} → statement M
 silence-spec =
     tie.close
-    (tie.spec
-    Inv-loop
-    μ-loop
-    loop-holds
-    mute-requires
-    add-n
-    loop-less
-    loop-again
-    same-length
-    returns)
+    (tie.spec Inv-loop μ-loop loop-holds (λ c κs. tt) (λ c. omega arith) (λ c. omega arith) loop-again
+    (λ c. omega arith) returns)

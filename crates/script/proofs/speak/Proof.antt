@@ -9,18 +9,6 @@ use Rattle.script.proofs.Segments.{speaks-so, silent-so}
 use Rattle.script.proofs.speak.Statement.{statement}
 use Rattle.script.proofs.speak.Tie as tie
 
-until-requires : tie.Need-until-requires
-until-requires c κs = search needs
-
-command-gains-requires : tie.Need-command-gains-requires
-command-gains-requires c κs = search needs
-
-play-part-requires : tie.Need-play-part-requires
-play-part-requires c κs = search needs
-
-same-length : tie.Need-same-length
-same-length c = search needs
-
 returns : tie.Need-returns
 returns c =
     let z = c .before .before .before .before .before .before .before .before .before .before .before in
@@ -29,15 +17,6 @@ returns c =
     let g = c .before .before .before .before .before .command-gains in
     let p = c .before .before .play-part in
     (to .ensures, p .ensures ∙ ap (λ (fs : List (List Float)). withFrames (now (a .out)) (a .stride) (a .from) fs) (speaks-so (a .order) (a .held) (z .pre .1) (a .stride) (a .from) (to .result) (now (a .input)) (c .before .before .before .before .before .before .if1 .taken) (g .result) (g .ensures)))
-
-ambisonic-channel-count-requires : tie.Need-ambisonic-channel-count-requires
-ambisonic-channel-count-requires c κs = search needs
-
-silence-requires : tie.Need-silence-requires
-silence-requires c κs = search needs
-
-same-length-2 : tie.Need-same-length-2
-same-length-2 c = search needs
 
 returns-2 : tie.Need-returns-2
 returns-2 c =
@@ -51,13 +30,5 @@ returns-2 c =
 pub speak-spec : {M : Type 1} → statement M
 speak-spec =
     tie.close
-    (tie.spec
-    until-requires
-    command-gains-requires
-    play-part-requires
-    same-length
-    returns
-    ambisonic-channel-count-requires
-    silence-requires
-    same-length-2
-    returns-2)
+    (tie.spec (λ c κs. search needs) (λ c κs. search needs) (λ c κs. search needs) (λ c. search needs) returns
+    (λ c κs. search needs) (λ c κs. search needs) (λ c. search needs) returns-2)

@@ -7,21 +7,9 @@ use borrow.Author.Needs.{needs}
 use Rattle.stereo.proofs.calculate_stereo_gains.Statement.{statement}
 use Rattle.stereo.proofs.calculate_stereo_gains.Tie as tie
 
-is-finite-requires : tie.Need-is-finite-requires
-is-finite-requires c κs = search needs
-
 returns : tie.Need-returns
 unfolding ofBits ofInt
 returns c = refuses _ (ap not (sym (c .before .is-finite .ensures)) ∙ c .if1 .taken)
-
-clamped-requires : tie.Need-clamped-requires
-clamped-requires c κs = search needs
-
-cosine-requires : tie.Need-cosine-requires
-cosine-requires c κs = search needs
-
-sine-requires : tie.Need-sine-requires
-sine-requires c κs = search needs
 
 returns-2 : tie.Need-returns-2
 unfolding ofBits ofInt
@@ -32,4 +20,4 @@ returns-2 c =
 pub calculate-stereo-gains-spec : {M : Type 1} → statement M
 calculate-stereo-gains-spec =
     tie.close
-    (tie.spec is-finite-requires returns clamped-requires cosine-requires sine-requires returns-2)
+    (tie.spec (λ c κs. search needs) returns (λ c κs. search needs) (λ c κs. search needs) (λ c κs. search needs) returns-2)

@@ -6,29 +6,14 @@ use borrow.Author.Needs.{needs}
 use Rattle.surround.proofs.calculate_vbap_gains.Statement.{statement}
 use Rattle.surround.proofs.calculate_vbap_gains.Tie as tie
 
-is-surround-requires : tie.Need-is-surround-requires
-is-surround-requires c κs = search needs
-
-refused-requires : tie.Need-refused-requires
-refused-requires c κs = search needs
-
 returns : tie.Need-returns
 returns c = let s = c .before .before in no-layout (s .before .args .layout) (s .before .args .azimuth) _ (s .is-surround .ensures) _ (c .before .if1 .taken) (c .refused .ensures)
-
-refuses-azimuth-requires : tie.Need-refuses-azimuth-requires
-refuses-azimuth-requires c κs = search needs
-
-refused-requires-2 : tie.Need-refused-requires-2
-refused-requires-2 c κs = search needs
 
 returns-2 : tie.Need-returns-2
 returns-2 c =
     let a = c .before .before in
     let s = a .before .before in
     no-azimuth (s .before .args .layout) (s .before .args .azimuth) _ (s .is-surround .ensures) _ (a .before .if1 .left) (sym (a .refuses-azimuth .ensures) ∙ c .before .if2 .taken) (c .refused2 .ensures)
-
-channel-count-requires : tie.Need-channel-count-requires
-channel-count-requires c κs = search needs
 
 raw-gains-requires : tie.Need-raw-gains-requires
 raw-gains-requires c κs =
@@ -41,12 +26,6 @@ sum-of-squares-requires c κs =
     let s = n .before .before .before .before in
     few-counted (s .before .args .layout) _ _ (s .is-surround .ensures) (n .before .before .before .if1 .left) (n .channel-count .ensures)
 
-root-requires : tie.Need-root-requires
-root-requires c κs = search needs
-
-divided-requires : tie.Need-divided-requires
-divided-requires c κs = search needs
-
 returns-3 : tie.Need-returns-3
 returns-3 c =
     let n = c .before .before .before .before in
@@ -58,16 +37,6 @@ returns-3 c =
 pub calculate-vbap-gains-spec : {M : Type 1} → statement M
 calculate-vbap-gains-spec =
     tie.close
-    (tie.spec
-    is-surround-requires
-    refused-requires
-    returns
-    refuses-azimuth-requires
-    refused-requires-2
-    returns-2
-    channel-count-requires
-    raw-gains-requires
-    sum-of-squares-requires
-    root-requires
-    divided-requires
-    returns-3)
+    (tie.spec (λ c κs. search needs) (λ c κs. search needs) returns (λ c κs. search needs) (λ c κs. search needs)
+    returns-2 (λ c κs. search needs) raw-gains-requires sum-of-squares-requires (λ c κs. search needs)
+    (λ c κs. search needs) returns-3)

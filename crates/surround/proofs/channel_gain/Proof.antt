@@ -9,18 +9,9 @@ use borrow.Author.Needs.{needs}
 use Rattle.surround.proofs.channel_gain.Statement.{statement}
 use Rattle.surround.proofs.channel_gain.Tie as tie
 
-is-low-frequency-requires : tie.Need-is-low-frequency-requires
-is-low-frequency-requires c κs = search needs
-
 returns : tie.Need-returns
 unfolding ofBits ofInt
 returns c = low _ _ _ _ (c .before .is-low-frequency .ensures) (c .if1 .taken)
-
-speaker-azimuth-requires : tie.Need-speaker-azimuth-requires
-speaker-azimuth-requires c κs = search needs
-
-raw-gain-requires : tie.Need-raw-gain-requires
-raw-gain-requires c κs = search needs
 
 returns-2 : tie.Need-returns-2
 returns-2 c =
@@ -31,9 +22,4 @@ returns-2 c =
 pub channel-gain-spec : {M : Type 1} → statement M
 channel-gain-spec =
     tie.close
-    (tie.spec
-    is-low-frequency-requires
-    returns
-    speaker-azimuth-requires
-    raw-gain-requires
-    returns-2)
+    (tie.spec (λ c κs. search needs) returns (λ c κs. search needs) (λ c κs. search needs) returns-2)

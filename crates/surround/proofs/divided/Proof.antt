@@ -19,24 +19,6 @@ abbrev μ-loop : tie.MeasureT-loop
 loop-holds : tie.Need-loop-holds Inv-loop μ-loop
 loop-holds c = filling-none _ 16 _
 
-mul-gains : tie.Need-mul-gains Inv-loop μ-loop
-mul-gains c = omega arith
-
-array-read-gains : tie.Need-array-read-gains Inv-loop μ-loop
-array-read-gains c = omega arith
-
-mul-gains-2 : tie.Need-mul-gains-2 Inv-loop μ-loop
-mul-gains-2 c = omega arith
-
-array-write-gains : tie.Need-array-write-gains Inv-loop μ-loop
-array-write-gains c = omega arith
-
-add-c : tie.Need-add-c Inv-loop μ-loop
-add-c c = omega arith
-
-loop-less : tie.Need-loop-less Inv-loop μ-loop
-loop-less c = omega arith
-
 loop-again : tie.Need-loop-again Inv-loop μ-loop
 loop-again c =
     let at = c .before .loop in
@@ -51,15 +33,5 @@ returns c =
 pub divided-spec : {M : Type 1} → statement M
 divided-spec =
     tie.close
-    (tie.spec
-    Inv-loop
-    μ-loop
-    loop-holds
-    mul-gains
-    array-read-gains
-    mul-gains-2
-    array-write-gains
-    add-c
-    loop-less
-    loop-again
-    returns)
+    (tie.spec Inv-loop μ-loop loop-holds (λ c. omega arith) (λ c. omega arith) (λ c. omega arith) (λ c. omega arith)
+    (λ c. omega arith) (λ c. omega arith) loop-again returns)

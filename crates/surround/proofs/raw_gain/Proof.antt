@@ -5,21 +5,9 @@ use borrow.Author.Needs.{needs}
 use Rattle.surround.proofs.raw_gain.Statement.{statement}
 use Rattle.surround.proofs.raw_gain.Tie as tie
 
-place-requires : tie.Need-place-requires
-place-requires c κs = search needs
-
-is-near-requires : tie.Need-is-near-requires
-is-near-requires c κs = search needs
-
 returns : tie.Need-returns
 unfolding ofBits ofInt
 returns c = far _ _ _ _ (c .before .before .place .ensures) (c .before .is-near .ensures) (c .if1 .taken)
-
-absolute-value-requires : tie.Need-absolute-value-requires
-absolute-value-requires c κs = search needs
-
-cosine-requires : tie.Need-cosine-requires
-cosine-requires c κs = search needs
 
 returns-2 : tie.Need-returns-2
 unfolding ofBits ofInt
@@ -38,11 +26,5 @@ returns-3 c =
 pub raw-gain-spec : {M : Type 1} → statement M
 raw-gain-spec =
     tie.close
-    (tie.spec
-    place-requires
-    is-near-requires
-    returns
-    absolute-value-requires
-    cosine-requires
-    returns-2
-    returns-3)
+    (tie.spec (λ c κs. search needs) (λ c κs. search needs) returns (λ c κs. search needs) (λ c κs. search needs)
+    returns-2 returns-3)

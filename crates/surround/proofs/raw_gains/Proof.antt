@@ -18,21 +18,6 @@ abbrev μ-loop : tie.MeasureT-loop
 loop-holds : tie.Need-loop-holds Inv-loop μ-loop
 loop-holds c = filling-none _ _ _
 
-channel-gain-requires : tie.Need-channel-gain-requires Inv-loop μ-loop
-channel-gain-requires c κs = tt
-
-mul-gains : tie.Need-mul-gains Inv-loop μ-loop
-mul-gains c = omega arith
-
-array-write-gains : tie.Need-array-write-gains Inv-loop μ-loop
-array-write-gains c = omega arith
-
-add-c : tie.Need-add-c Inv-loop μ-loop
-add-c c = omega arith
-
-loop-less : tie.Need-loop-less Inv-loop μ-loop
-loop-less c = omega arith
-
 loop-again : tie.Need-loop-again Inv-loop μ-loop
 loop-again c =
     let at = c .before .before .loop in
@@ -48,14 +33,5 @@ returns c =
 pub raw-gains-spec : {M : Type 1} → statement M
 raw-gains-spec =
     tie.close
-    (tie.spec
-    Inv-loop
-    μ-loop
-    loop-holds
-    channel-gain-requires
-    mul-gains
-    array-write-gains
-    add-c
-    loop-less
-    loop-again
-    returns)
+    (tie.spec Inv-loop μ-loop loop-holds (λ c κs. tt) (λ c. omega arith) (λ c. omega arith) (λ c. omega arith)
+    (λ c. omega arith) loop-again returns)

@@ -7,15 +7,6 @@ use borrow.Author.Needs.{needs}
 use Rattle.virtual_speaker.proofs.compute_sh_coefficients_max_re.Statement.{statement}
 use Rattle.virtual_speaker.proofs.compute_sh_coefficients_max_re.Tie as tie
 
-compute-sh-coefficients-requires : tie.Need-compute-sh-coefficients-requires
-compute-sh-coefficients-requires c κs = search needs
-
-max-re-cosine-requires : tie.Need-max-re-cosine-requires
-max-re-cosine-requires c κs = search needs
-
-weigh-requires : tie.Need-weigh-requires
-weigh-requires c κs = search needs
-
 returns : tie.Need-returns
 returns c =
     let s = c .before .before .before .compute-sh-coefficients in
@@ -24,4 +15,4 @@ returns c =
 pub compute-sh-coefficients-max-re-spec : {M : Type 1} → statement M
 compute-sh-coefficients-max-re-spec =
     tie.close
-    (tie.spec compute-sh-coefficients-requires max-re-cosine-requires weigh-requires returns)
+    (tie.spec (λ c κs. search needs) (λ c κs. search needs) (λ c κs. search needs) returns)

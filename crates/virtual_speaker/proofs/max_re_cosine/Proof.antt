@@ -7,22 +7,13 @@ use Rattle.lists.proofs.Tests.{cond-true, cond-false}
 use Rattle.virtual_speaker.proofs.max_re_cosine.Statement.{statement}
 use Rattle.virtual_speaker.proofs.max_re_cosine.Tie as tie
 
-array-read-result : tie.Need-array-read-result
-array-read-result c = search needs
-
 returns : tie.Need-returns
 unfolding ofBits round
 returns c = sym (cond-true _ _ (eq-eqb _ 1 (c .if1 .taken)))
 
-array-read-result-2 : tie.Need-array-read-result-2
-array-read-result-2 c = search needs
-
 returns-2 : tie.Need-returns-2
 unfolding ofBits round
 returns-2 c = sym (cond-false _ _ (ne-eqb _ 1 (c .before .if1 .left)) ∙ cond-true _ _ (eq-eqb _ 2 (c .if2 .taken)))
-
-array-read-result-3 : tie.Need-array-read-result-3
-array-read-result-3 c = search needs
 
 returns-3 : tie.Need-returns-3
 unfolding ofBits round
@@ -31,10 +22,4 @@ returns-3 c = sym (cond-false _ _ (ne-eqb _ 1 (c .before .if1 .left)) ∙ cond-f
 pub max-re-cosine-spec : {M : Type 1} → statement M
 max-re-cosine-spec =
     tie.close
-    (tie.spec
-    array-read-result
-    returns
-    array-read-result-2
-    returns-2
-    array-read-result-3
-    returns-3)
+    (tie.spec (λ c. search needs) returns (λ c. search needs) returns-2 (λ c. search needs) returns-3)

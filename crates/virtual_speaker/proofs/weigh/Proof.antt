@@ -21,27 +21,6 @@ abbrev μ-loop : tie.MeasureT-loop
 loop-holds : tie.Need-loop-holds Inv-loop μ-loop
 loop-holds c = filling-none _ 16 _
 
-mul-weights : tie.Need-mul-weights Inv-loop μ-loop
-mul-weights c = omega arith
-
-array-read-weights : tie.Need-array-read-weights Inv-loop μ-loop
-array-read-weights c = omega arith
-
-weight-requires : tie.Need-weight-requires Inv-loop μ-loop
-weight-requires c κs = search needs
-
-mul-weights-2 : tie.Need-mul-weights-2 Inv-loop μ-loop
-mul-weights-2 c = omega arith
-
-array-write-weights : tie.Need-array-write-weights Inv-loop μ-loop
-array-write-weights c = omega arith
-
-add-i : tie.Need-add-i Inv-loop μ-loop
-add-i c = omega arith
-
-loop-less : tie.Need-loop-less Inv-loop μ-loop
-loop-less c = omega arith
-
 loop-again : tie.Need-loop-again Inv-loop μ-loop
 loop-again c =
     let a = c .before .before .before .args in
@@ -55,16 +34,5 @@ returns c = let l = c .before .loop in filling-whole _ 16 _ (l .weights) (l .i) 
 pub weigh-spec : {M : Type 1} → statement M
 weigh-spec =
     tie.close
-    (tie.spec
-    Inv-loop
-    μ-loop
-    loop-holds
-    mul-weights
-    array-read-weights
-    weight-requires
-    mul-weights-2
-    array-write-weights
-    add-i
-    loop-less
-    loop-again
-    returns)
+    (tie.spec Inv-loop μ-loop loop-holds (λ c. omega arith) (λ c. omega arith) (λ c κs. search needs) (λ c. omega arith)
+    (λ c. omega arith) (λ c. omega arith) (λ c. omega arith) loop-again returns)

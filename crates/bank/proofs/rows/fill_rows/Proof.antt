@@ -90,27 +90,9 @@ returns c =
 pub fill-rows-spec : {M : Type 1} → statement M
 fill-rows-spec =
     tie.close
-    (tie.spec
-    Inv-loop
-    μ-loop
-    (λ c κs. tt)
-    (λ c. omega arith)
-    loop-holds
-    (λ c κs. omega arith)
-    (λ c κs. tt)
-    (λ c. omega arith)
-    (λ c. omega (arith, kept-azimuths (c .before .before .before)))
-    (λ c κs. tt)
-    (λ c. omega arith)
-    (λ c. omega (arith, kept-elevations (c .before .before .before .before)))
-    (λ c. omega arith)
-    (λ c. omega arith)
-    (λ c κs. omega arith)
-    (λ c κs. omega (arith, kept-taps (c .before .before .before .before .before .before)))
-    (λ c. omega arith)
-    (λ c. omega arith)
-    loop-again
-    (λ c. kept-azimuths (c .before))
-    (λ c. kept-elevations (c .before))
-    (λ c. kept-taps (c .before))
-    returns)
+    (tie.spec Inv-loop μ-loop (λ c κs. tt) (λ c. omega arith) loop-holds (λ c κs. omega arith) (λ c κs. tt)
+    (λ c. omega arith) (λ c. omega (arith, kept-azimuths (c .before .before .before))) (λ c κs. tt) (λ c. omega arith)
+    (λ c. omega (arith, kept-elevations (c .before .before .before .before))) (λ c. omega arith) (λ c. omega arith)
+    (λ c κs. omega arith) (λ c κs. omega (arith, kept-taps (c .before .before .before .before .before .before)))
+    (λ c. omega arith) (λ c. omega arith) loop-again (λ c. kept-azimuths (c .before)) (λ c. kept-elevations (c .before))
+    (λ c. kept-taps (c .before)) returns)

@@ -28,29 +28,8 @@ loop-holds : tie.Need-loop-holds Inv-loop μ-loop
 unfolding strided
 loop-holds c = (omega arith, sym (placed-none _ _))
 
-mul-get-f32 : tie.Need-mul-get-f32 Inv-loop μ-loop
-mul-get-f32 c = omega arith
-
-add-get-f32 : tie.Need-add-get-f32 Inv-loop μ-loop
-add-get-f32 c = omega arith
-
-get-f32-requires : tie.Need-get-f32-requires Inv-loop μ-loop
-get-f32-requires c κs = tt
-
-add-taps : tie.Need-add-taps Inv-loop μ-loop
-add-taps c = omega arith
-
-mul-taps : tie.Need-mul-taps Inv-loop μ-loop
-mul-taps c = omega arith
-
 slice-write-taps : tie.Need-slice-write-taps Inv-loop μ-loop
 slice-write-taps c = omega (arith, kept (c .before .before))
-
-add-k : tie.Need-add-k Inv-loop μ-loop
-add-k c = omega arith
-
-loop-less : tie.Need-loop-less Inv-loop μ-loop
-loop-less c = omega arith
 
 loop-again : tie.Need-loop-again Inv-loop μ-loop
 unfolding strided
@@ -70,18 +49,5 @@ returns c =
 pub fill-taps-spec : {M : Type 1} → statement M
 fill-taps-spec =
     tie.close
-    (tie.spec
-    Inv-loop
-    μ-loop
-    loop-holds
-    mul-get-f32
-    add-get-f32
-    get-f32-requires
-    add-taps
-    mul-taps
-    slice-write-taps
-    add-k
-    loop-less
-    loop-again
-    same-length
-    returns)
+    (tie.spec Inv-loop μ-loop loop-holds (λ c. omega arith) (λ c. omega arith) (λ c κs. tt) (λ c. omega arith)
+    (λ c. omega arith) slice-write-taps (λ c. omega arith) (λ c. omega arith) loop-again same-length returns)

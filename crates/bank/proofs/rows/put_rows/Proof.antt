@@ -112,19 +112,6 @@ returns c =
 pub put-rows-spec : {M : Type 1} → statement M
 put-rows-spec =
     tie.close
-    (tie.spec
-    Inv-loop
-    μ-loop
-    loop-holds
-    (λ c κs. omega arith)
-    (λ c. omega arith)
-    (λ c. c .before .loop-test .taken)
-    (λ c. omega arith)
-    (λ c. omega arith)
-    (λ c κs. omega arith)
-    put-row-requires
-    (λ c. omega arith)
-    (λ c. omega arith)
-    loop-again
-    (λ c. kept (c .before))
-    returns)
+    (tie.spec Inv-loop μ-loop loop-holds (λ c κs. omega arith) (λ c. omega arith) (λ c. c .before .loop-test .taken)
+    (λ c. omega arith) (λ c. omega arith) (λ c κs. omega arith) put-row-requires (λ c. omega arith) (λ c. omega arith)
+    loop-again (λ c. kept (c .before)) returns)

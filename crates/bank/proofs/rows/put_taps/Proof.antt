@@ -28,30 +28,6 @@ kept c =
 loop-holds : tie.Need-loop-holds Inv-loop μ-loop
 loop-holds c = let args = c .before .before .args in (omega arith, write-none 4 (toBits binary32) (args .file .now) (args .at) (drop (args .q) (args .taps .now)))
 
-mul-put-f32 : tie.Need-mul-put-f32 Inv-loop μ-loop
-mul-put-f32 c = omega arith
-
-add-put-f32 : tie.Need-add-put-f32 Inv-loop μ-loop
-add-put-f32 c = omega arith
-
-add-put-f32-2 : tie.Need-add-put-f32-2 Inv-loop μ-loop
-add-put-f32-2 c = omega arith
-
-mul-put-f32-2 : tie.Need-mul-put-f32-2 Inv-loop μ-loop
-mul-put-f32-2 c = omega arith
-
-shared-slice-read-put-f32 : tie.Need-shared-slice-read-put-f32 Inv-loop μ-loop
-shared-slice-read-put-f32 c = omega arith
-
-put-f32-requires : tie.Need-put-f32-requires Inv-loop μ-loop
-put-f32-requires c κs = tt
-
-add-k : tie.Need-add-k Inv-loop μ-loop
-add-k c = omega arith
-
-loop-less : tie.Need-loop-less Inv-loop μ-loop
-loop-less c = omega arith
-
 loop-again : tie.Need-loop-again Inv-loop μ-loop
 unfolding withFloat
 loop-again c =
@@ -73,18 +49,5 @@ returns c =
 pub put-taps-spec : {M : Type 1} → statement M
 put-taps-spec =
     tie.close
-    (tie.spec
-    Inv-loop
-    μ-loop
-    loop-holds
-    mul-put-f32
-    add-put-f32
-    add-put-f32-2
-    mul-put-f32-2
-    shared-slice-read-put-f32
-    put-f32-requires
-    add-k
-    loop-less
-    loop-again
-    same-length
-    returns)
+    (tie.spec Inv-loop μ-loop loop-holds (λ c. omega arith) (λ c. omega arith) (λ c. omega arith) (λ c. omega arith)
+    (λ c. omega arith) (λ c κs. tt) (λ c. omega arith) (λ c. omega arith) loop-again same-length returns)

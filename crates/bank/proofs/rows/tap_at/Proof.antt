@@ -9,9 +9,6 @@ use Rattle.bank.proofs.rows.tap_at.Tie as tie
 small : (c : tie.Start) → c .args .i * (2 * c .args .l) ≤ 7168
 small c = taps-reach (c .args .i) 7 (c .args .l) (omega arith) (c .pre .1)
 
-mul-result : tie.Need-mul-result
-mul-result c = search needs
-
 mul-result-2 : tie.Need-mul-result-2
 mul-result-2 c = omega (arith, small c)
 
@@ -19,4 +16,4 @@ returns : tie.Need-returns
 returns c = (omega arith, omega (arith, small c))
 
 pub tap-at-spec : {M : Type 1} → statement M
-tap-at-spec = tie.close (tie.spec mul-result mul-result-2 returns)
+tap-at-spec = tie.close (tie.spec (λ c. search needs) mul-result-2 returns)

@@ -19,9 +19,6 @@ abbrev μ-loop : tie.MeasureT-loop
 μ-loop line out limit shape weights row-of taps rings₀ bytes₀ inputs₀ ears₀ text₀ progress₀ steps₀ rings bytes inputs ears text progress steps =
     steps
 
-start-requires : tie.Need-start-requires Inv-loop μ-loop
-start-requires c κs = tt
-
 loop-holds : tie.Need-loop-holds Inv-loop μ-loop
 loop-holds c =
     let pre = c .before .before .before .before .pre in
@@ -32,35 +29,14 @@ step-requires c κs =
     let loop = c .before .before .before .before .before .before in
     (loop .before .before .before .before .before .pre .0, holds-few _ _ _ _ _ (loop .loop .inv .1 .1))
 
-failed-requires : tie.Need-failed-requires Inv-loop μ-loop
-failed-requires c κs = tt
-
-same-length : tie.Need-same-length Inv-loop μ-loop
-same-length c = omega arith
-
 returns : tie.Need-returns Inv-loop μ-loop
 returns c = failed-ends _ _ (c .failed .ensures)
-
-at-end-requires : tie.Need-at-end-requires Inv-loop μ-loop
-at-end-requires c κs = tt
-
-done-requires : tie.Need-done-requires Inv-loop μ-loop
-done-requires c κs = tt
-
-same-length-2 : tie.Need-same-length-2 Inv-loop μ-loop
-same-length-2 c = omega arith
 
 returns-2 : tie.Need-returns-2 Inv-loop μ-loop
 returns-2 c =
     let step = c .before .before .before .before .before .before .before .before in
     let come = step .before .before .before .before .before .before .before .loop .inv .1 in
     stands-ends _ _ _ _ _ (step .step .ensures .2 .stands (come .0) (come .1)) _ _ (c .before .at-end .ensures) (c .done .ensures)
-
-sub-steps : tie.Need-sub-steps Inv-loop μ-loop
-sub-steps c = omega arith
-
-loop-less : tie.Need-loop-less Inv-loop μ-loop
-loop-less c = omega arith
 
 loop-again : tie.Need-loop-again Inv-loop μ-loop
 loop-again c =
@@ -69,34 +45,12 @@ loop-again c =
     let more = step .step .ensures in
     (omega (arith, inv .0, step .step .kept), (inv .1 .0 ++ more .0, more .2 .stands (inv .1 .0) (inv .1 .1)))
 
-failed-requires-2 : tie.Need-failed-requires-2 Inv-loop μ-loop
-failed-requires-2 c κs = tt
-
-same-length-3 : tie.Need-same-length-3 Inv-loop μ-loop
-same-length-3 c = omega arith
-
 returns-3 : tie.Need-returns-3 Inv-loop μ-loop
 returns-3 c = failed-ends _ _ (c .failed2 .ensures)
 
 pub play-all-spec : {M : Type 1} → statement M
 play-all-spec =
     tie.close
-    (tie.spec
-    Inv-loop
-    μ-loop
-    start-requires
-    loop-holds
-    step-requires
-    failed-requires
-    same-length
-    returns
-    at-end-requires
-    done-requires
-    same-length-2
-    returns-2
-    sub-steps
-    loop-less
-    loop-again
-    failed-requires-2
-    same-length-3
-    returns-3)
+    (tie.spec Inv-loop μ-loop (λ c κs. tt) loop-holds step-requires (λ c κs. tt) (λ c. omega arith) returns (λ c κs. tt)
+    (λ c κs. tt) (λ c. omega arith) returns-2 (λ c. omega arith) (λ c. omega arith) loop-again (λ c κs. tt)
+    (λ c. omega arith) returns-3)

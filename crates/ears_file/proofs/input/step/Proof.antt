@@ -5,12 +5,6 @@ use Rattle.ears_file.proofs.Stepping.{more, read-further, none-further}
 use Rattle.ears_file.proofs.input.step.Statement.{statement}
 use Rattle.ears_file.proofs.input.step.Tie as tie
 
-read-some-requires : tie.Need-read-some-requires
-read-some-requires c κs = tt
-
-stopped-requires : tie.Need-stopped-requires
-stopped-requires c κs = tt
-
 returns : tie.Need-returns
 returns c =
     let read = c .before .before .before .read-some in
@@ -30,9 +24,6 @@ play-requires c κs =
 write-some-requires : tie.Need-write-some-requires
 write-some-requires c κs = c .before .before .before .before .play .ensures .1
 
-same-length : tie.Need-same-length
-same-length c = omega arith
-
 returns-2 : tie.Need-returns-2
 returns-2 c =
     let turn = c .before .before .before .before .before in
@@ -43,11 +34,4 @@ returns-2 c =
 pub step-spec : {M : Type 1} → statement M
 step-spec =
     tie.close
-    (tie.spec
-    read-some-requires
-    stopped-requires
-    returns
-    play-requires
-    write-some-requires
-    same-length
-    returns-2)
+    (tie.spec (λ c κs. tt) (λ c κs. tt) returns play-requires write-some-requires (λ c. omega arith) returns-2)

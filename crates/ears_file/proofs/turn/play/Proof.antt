@@ -12,20 +12,8 @@ use borrow.Author.Needs.{needs}
 use Rattle.ears_file.proofs.turn.play.Statement.{statement}
 use Rattle.ears_file.proofs.turn.play.Tie as tie
 
-slice-reshare-prefix-frames-from-bytes : tie.Need-slice-reshare-prefix-frames-from-bytes
-slice-reshare-prefix-frames-from-bytes c = search needs
-
 slice-aggregate-frames-from-bytes : tie.Need-slice-aggregate-frames-from-bytes
 slice-aggregate-frames-from-bytes c = sym (length-take-le _ _ (c .before .before .before .before .before .before .pre .1 .2))
-
-frames-from-bytes-requires : tie.Need-frames-from-bytes-requires
-frames-from-bytes-requires c κs = tt
-
-process-requires : tie.Need-process-requires
-process-requires c κs = tt
-
-bytes-from-ears-requires : tie.Need-bytes-from-ears-requires
-bytes-from-ears-requires c κs = tt
 
 -- where the frames were taken, and where the turn began
 abbrev taken : tie.After-bytes-from-ears → tie.After-frames-from-bytes
@@ -41,23 +29,8 @@ whole c = omega (arith, taken-few _ _ _ _ (taken c .frames-from-bytes .ensures),
 mul-from : tie.Need-mul-from
 mul-from c = omega (arith, whole c, start c .pre .1 .1)
 
-keep-rest-requires : tie.Need-keep-rest-requires
-keep-rest-requires c κs = tt
-
 sub-t36 : tie.Need-sub-t36
 sub-t36 c = whole (c .before .before .before .before .before)
-
-count-on-requires : tie.Need-count-on-requires
-count-on-requires c κs = tt
-
-count-on-requires-2 : tie.Need-count-on-requires-2
-count-on-requires-2 c κs = tt
-
-same-length : tie.Need-same-length
-same-length c = omega arith
-
-same-length-2 : tie.Need-same-length-2
-same-length-2 c = omega arith
 
 returns : tie.Need-returns
 returns c =
@@ -78,17 +51,5 @@ returns c =
 pub play-spec : {M : Type 1} → statement M
 play-spec =
     tie.close
-    (tie.spec
-    slice-reshare-prefix-frames-from-bytes
-    slice-aggregate-frames-from-bytes
-    frames-from-bytes-requires
-    process-requires
-    bytes-from-ears-requires
-    mul-from
-    keep-rest-requires
-    sub-t36
-    count-on-requires
-    count-on-requires-2
-    same-length
-    same-length-2
-    returns)
+    (tie.spec (λ c. search needs) slice-aggregate-frames-from-bytes (λ c κs. tt) (λ c κs. tt) (λ c κs. tt) mul-from
+    (λ c κs. tt) sub-t36 (λ c κs. tt) (λ c κs. tt) (λ c. omega arith) (λ c. omega arith) returns)

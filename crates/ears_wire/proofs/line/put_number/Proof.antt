@@ -8,24 +8,12 @@ use borrow.Author.Needs.{needs}
 use Rattle.ears_wire.proofs.line.put_number.Statement.{statement}
 use Rattle.ears_wire.proofs.line.put_number.Tie as tie
 
-decimal-requires : tie.Need-decimal-requires
-decimal-requires c κs = search needs
-
-array-share-prefix-digits : tie.Need-array-share-prefix-digits
-array-share-prefix-digits c = search needs
-
-slice-aggregate-put-part : tie.Need-slice-aggregate-put-part
-slice-aggregate-put-part c = search needs
-
 -- the digits are few
 few : (c : tie.After-decimal) → c .decimal .result ≤ 20
 few c = fewest-few _ _ (c .before .before .before .fits .n .fits) (c .decimal .ensures .1 .0)
 
 put-part-requires : tie.Need-put-part-requires
 put-part-requires c κs = omega (arith, few (c .before .before), c .before .before .decimal .ensures .0)
-
-same-length : tie.Need-same-length
-same-length c = search needs
 
 returns : tie.Need-returns
 unfolding decimal
@@ -37,10 +25,5 @@ returns c =
 pub put-number-spec : {M : Type 1} → statement M
 put-number-spec =
     tie.close
-    (tie.spec
-    decimal-requires
-    array-share-prefix-digits
-    slice-aggregate-put-part
-    put-part-requires
-    same-length
+    (tie.spec (λ c κs. search needs) (λ c. search needs) (λ c. search needs) put-part-requires (λ c. search needs)
     returns)

@@ -8,24 +8,6 @@ use borrow.Author.Needs.{needs}
 use Rattle.ears_wire.proofs.line.put_part.Statement.{statement}
 use Rattle.ears_wire.proofs.line.put_part.Tie as tie
 
-sub-copy : tie.Need-sub-copy
-sub-copy c = search needs
-
-part-copy-start : tie.Need-part-copy-start
-part-copy-start c = search needs
-
-part-copy-end : tie.Need-part-copy-end
-part-copy-end c = search needs
-
-copy-requires : tie.Need-copy-requires
-copy-requires c κs = search needs
-
-add-result : tie.Need-add-result
-add-result c = search needs
-
-same-length : tie.Need-same-length
-same-length c = search needs
-
 returns : tie.Need-returns
 returns c =
     let a = c .before .before .before .before .before .before .args in
@@ -34,4 +16,4 @@ returns c =
 
 pub put-part-spec : {M : Type 1} → statement M
 put-part-spec =
-    tie.close (tie.spec sub-copy part-copy-start part-copy-end copy-requires add-result same-length returns)
+    tie.close (tie.spec (λ c. search needs) (λ c. search needs) (λ c. search needs) (λ c κs. search needs) (λ c. search needs) (λ c. search needs) returns)

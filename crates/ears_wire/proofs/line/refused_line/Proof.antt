@@ -7,14 +7,8 @@ use Rattle.ears_wire.proofs.line.refused_line.Tie as tie
 returns : tie.Need-returns
 returns c = lined-not _ _ (c .if1 .taken)
 
-put-refused-requires : tie.Need-put-refused-requires
-put-refused-requires c κs = search needs
-
-same-length : tie.Need-same-length
-same-length c = search needs
-
 returns-2 : tie.Need-returns-2
 returns-2 c = lined-put _ _ _ _ (c .before .before .before .before .if1 .left) (c .before .before .put-refused .ensures)
 
 pub refused-line-spec : {M : Type 1} → statement M
-refused-line-spec = tie.close (tie.spec returns put-refused-requires same-length returns-2)
+refused-line-spec = tie.close (tie.spec returns (λ c κs. search needs) (λ c. search needs) returns-2)

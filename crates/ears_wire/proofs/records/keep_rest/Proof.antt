@@ -12,29 +12,8 @@ Inv-loop bytes₀ from to end i₀ bytes i = Kept bytes₀ from end bytes i
 abbrev μ-loop : tie.MeasureT-loop
 μ-loop bytes₀ from to end i₀ bytes i = end - (from + i)
 
-min-requires : tie.Need-min-requires Inv-loop μ-loop
-min-requires c κs = tt
-
 loop-holds : tie.Need-loop-holds Inv-loop μ-loop
 loop-holds c = kept-none _ _ _ (omega (arith, c .min .ensures))
-
-add-loop : tie.Need-add-loop Inv-loop μ-loop
-add-loop c = omega arith
-
-add-bytes : tie.Need-add-bytes Inv-loop μ-loop
-add-bytes c = omega arith
-
-slice-read-bytes : tie.Need-slice-read-bytes Inv-loop μ-loop
-slice-read-bytes c = omega arith
-
-slice-write-bytes : tie.Need-slice-write-bytes Inv-loop μ-loop
-slice-write-bytes c = omega arith
-
-add-i : tie.Need-add-i Inv-loop μ-loop
-add-i c = omega arith
-
-loop-less : tie.Need-loop-less Inv-loop μ-loop
-loop-less c = omega arith
 
 loop-again : tie.Need-loop-again Inv-loop μ-loop
 loop-again c =
@@ -42,9 +21,6 @@ loop-again c =
     let a = least .before .before .args in
     let at = c .before .before .loop in
     kept-more (now (a .bytes)) (a .from) (least .min .result) (at .bytes) (at .i) (at .inv) (c .before .loop-test .taken)
-
-same-length : tie.Need-same-length Inv-loop μ-loop
-same-length c = omega arith
 
 returns : tie.Need-returns Inv-loop μ-loop
 returns c =
@@ -56,17 +32,5 @@ returns c =
 pub keep-rest-spec : {M : Type 1} → statement M
 keep-rest-spec =
     tie.close
-    (tie.spec
-    Inv-loop
-    μ-loop
-    min-requires
-    loop-holds
-    add-loop
-    add-bytes
-    slice-read-bytes
-    slice-write-bytes
-    add-i
-    loop-less
-    loop-again
-    same-length
-    returns)
+    (tie.spec Inv-loop μ-loop (λ c κs. tt) loop-holds (λ c. omega arith) (λ c. omega arith) (λ c. omega arith)
+    (λ c. omega arith) (λ c. omega arith) (λ c. omega arith) loop-again (λ c. omega arith) returns)

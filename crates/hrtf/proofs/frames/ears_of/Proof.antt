@@ -56,16 +56,5 @@ returns c =
 pub ears-of-spec : {M : Type 1} → statement M
 ears-of-spec =
     tie.close
-    (tie.spec
-    Inv-loop
-    μ-loop
-    loop-holds
-    mul-row
-    element-copy-out-row
-    of-speaker-requires
-    (λ c. omega arith)
-    (λ c. omega arith)
-    loop-again
-    (λ c κs. tt)
-    (λ c κs. tt)
-    returns)
+    (tie.spec Inv-loop μ-loop loop-holds mul-row element-copy-out-row of-speaker-requires (λ c. omega arith)
+    (λ c. omega arith) loop-again (λ c κs. tt) (λ c κs. tt) returns)

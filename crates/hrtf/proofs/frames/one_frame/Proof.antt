@@ -65,14 +65,5 @@ returns c =
 pub one-frame-spec : {M : Type 1} → statement M
 one-frame-spec =
     tie.close
-    (tie.spec
-    (λ c κs. search needs)
-    ears-of-requires
-    (λ c κs. search needs)
-    (λ c κs. search needs)
-    (λ c. search needs)
-    (λ c κs. search needs)
-    add-t30
-    (λ c. search needs)
-    (λ c. search needs)
-    returns)
+    (tie.spec (λ c κs. search needs) ears-of-requires (λ c κs. search needs) (λ c κs. search needs) (λ c. search needs)
+    (λ c κs. search needs) add-t30 (λ c. search needs) (λ c. search needs) returns)

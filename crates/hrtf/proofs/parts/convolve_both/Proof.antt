@@ -54,23 +54,7 @@ returns c =
 pub convolve-both-spec : {M : Type 1} → statement M
 convolve-both-spec =
     tie.close
-    (tie.spec
-    (λ c κs. search needs)
-    slice-aggregate-run-back
-    slice-aggregate-run-back-2
-    slice-aggregate-run-back-3
-    run-back-requires
-    (λ c. search needs)
-    (λ c. search needs)
-    (λ c. search needs)
-    (λ c. search needs)
-    (λ c. search needs)
-    (λ c. search needs)
-    (λ c. search needs)
-    (λ c. search needs)
-    (λ c. search needs)
-    (λ c. search needs)
-    (λ c. search needs)
-    (λ c. search needs)
-    run-back-requires-2
-    returns)
+    (tie.spec (λ c κs. search needs) slice-aggregate-run-back slice-aggregate-run-back-2 slice-aggregate-run-back-3
+    run-back-requires (λ c. search needs) (λ c. search needs) (λ c. search needs) (λ c. search needs)
+    (λ c. search needs) (λ c. search needs) (λ c. search needs) (λ c. search needs) (λ c. search needs)
+    (λ c. search needs) (λ c. search needs) (λ c. search needs) run-back-requires-2 returns)

@@ -34,24 +34,14 @@ returns c =
 pub of-speaker-spec : {M : Type 1} → statement M
 of-speaker-spec =
     tie.close
-    (tie.spec
-    (λ c. omega (arith, ring-inside (c .before .before)))
-    (λ c. omega (arith, ring-inside (c .before .before)))
-    (λ c. omega (arith, row-inside (c .before .before)))
-    (λ c. omega (arith, taps-inside (c .before .before)))
-    (λ c. omega (arith, taps-inside (c .before .before)))
-    (λ c. omega (arith, taps-inside (c .before .before)))
-    (λ c. omega (arith, ring-inside (c .before .before)))
-    (λ c. omega (arith, ring-inside (c .before .before)))
-    (λ c. omega arith)
-    (λ c. ring-inside (c .before .before))
+    (tie.spec (λ c. omega (arith, ring-inside (c .before .before)))
+    (λ c. omega (arith, ring-inside (c .before .before))) (λ c. omega (arith, row-inside (c .before .before)))
+    (λ c. omega (arith, taps-inside (c .before .before))) (λ c. omega (arith, taps-inside (c .before .before)))
+    (λ c. omega (arith, taps-inside (c .before .before))) (λ c. omega (arith, ring-inside (c .before .before)))
+    (λ c. omega (arith, ring-inside (c .before .before))) (λ c. omega arith) (λ c. ring-inside (c .before .before))
     (λ c. omega (arith, taps-inside (c .before .before .before)))
-    (λ c. omega (arith, taps-inside (c .before .before .before)))
-    (λ c. omega arith)
+    (λ c. omega (arith, taps-inside (c .before .before .before))) (λ c. omega arith)
     (λ c. omega (arith, taps-inside (c .before .before .before)))
     (λ c. omega (arith, taps-inside (c .before .before .before .before)))
-    (λ c. omega (arith, taps-inside (c .before .before .before .before)))
-    (λ c. omega arith)
-    (λ c. taps-inside (c .before .before .before .before))
-    convolve-both-requires
-    returns)
+    (λ c. omega (arith, taps-inside (c .before .before .before .before))) (λ c. omega arith)
+    (λ c. taps-inside (c .before .before .before .before)) convolve-both-requires returns)

@@ -63,23 +63,6 @@ returns-2 c =
 pub run-back-spec : {M : Type 1} → statement M
 run-back-spec =
     tie.close
-    (tie.spec
-    Inv-loop
-    μ-loop
-    loop-holds
-    (λ c. omega arith)
-    (λ c. omega arith)
-    (λ c. omega arith)
-    (λ c. omega arith)
-    returns
-    float-to-float-signal
-    (λ c. omega arith)
-    shared-slice-read-to-left
-    float-to-float-to-left
-    (λ c. omega arith)
-    shared-slice-read-to-right
-    float-to-float-to-right
-    (λ c. omega arith)
-    (λ c. omega arith)
-    loop-again
-    returns-2)
+    (tie.spec Inv-loop μ-loop loop-holds (λ c. omega arith) (λ c. omega arith) (λ c. omega arith) (λ c. omega arith)
+    returns float-to-float-signal (λ c. omega arith) shared-slice-read-to-left float-to-float-to-left (λ c. omega arith)
+    shared-slice-read-to-right float-to-float-to-right (λ c. omega arith) (λ c. omega arith) loop-again returns-2)
