@@ -22,18 +22,26 @@ abbrev μ-loop : tie.MeasureT-loop
 μ-loop shape weights inputs out₀ n₀ out n = shape .frames - n
 
 loop-holds : tie.Need-loop-holds Inv-loop μ-loop
-loop-holds c = let a = c .before .before .before .args in framing-none (now (a .out)) (a .shape .stride) (a .shape .frames) (outputs-at (a .shape) (now (a .weights)) (now (a .inputs)))
+loop-holds c =
+    let start = c .before .before .before in
+    let a = start .args in framing-none (now (a .out)) (a .shape .stride) (a .shape .frames) (outputs-at (a .shape) (now (a .weights)) (now (a .inputs)))
 
 loop-again : tie.Need-loop-again Inv-loop μ-loop
 loop-again c =
-    let a = c .before .before .before .before .before .before .before .before .before .before .args in
-    let at = c .before .before .before .before .before .before .loop in
-    framing-more (now (a .out)) (a .shape .stride) (a .shape .frames) (outputs-at (a .shape) (now (a .weights)) (now (a .inputs))) (at .out) (at .n) (at .inv) (c .before .before .mix-frame .last .0) (c .before .before .before .before .if1 .taken) (c .before .before .mix-frame .ensures .put)
+    let at-mix-frame = c .before .before in
+    let at-if1 = at-mix-frame .before .before in
+    let at-loop = at-if1 .before .before in
+    let start = at-loop .before .before .before .before in
+    let a = start .args in
+    let at = at-loop .loop in
+    framing-more (now (a .out)) (a .shape .stride) (a .shape .frames) (outputs-at (a .shape) (now (a .weights)) (now (a .inputs))) (at .out) (at .n) (at .inv) (at-mix-frame .mix-frame .last .0) (at-if1 .if1 .taken) (at-mix-frame .mix-frame .ensures .put)
 
 returns : tie.Need-returns Inv-loop μ-loop
 returns c =
-    let a = c .before .before .before .before .before .before .args in
-    let at = c .before .before .loop in
+    let at-loop = c .before .before in
+    let start = at-loop .before .before .before .before in
+    let a = start .args in
+    let at = at-loop .loop in
     framing-all (now (a .out)) (a .shape .stride) (a .shape .frames) (outputs-at (a .shape) (now (a .weights)) (now (a .inputs))) (at .out) (at .n) (at .inv) (c .if1 .left)
 
 pub play-spec : {M : Type 1} → statement M

@@ -21,8 +21,11 @@ returns c =
 
 returns-2 : tie.Need-returns-2
 returns-2 c =
-    let start = c .before .before .before .before .before .before .before .before .before in
-    played-with answerOf (start .args .frames) (start .args .stride) (sounds start) (now (start .args .out)) _ _ (sym (c .before .before .before .before .before .refusal-of .ensures) ∙ c .before .before .before .before .if1 .left) (c .before .before .play .ensures)
+    let at-play = c .before .before in
+    let at-if1 = at-play .before .before in
+    let at-refusal-of = at-if1 .before in
+    let start = at-refusal-of .before .before .before .before in
+    played-with answerOf (start .args .frames) (start .args .stride) (sounds start) (now (start .args .out)) _ _ (sym (at-refusal-of .refusal-of .ensures) ∙ at-if1 .if1 .left) (at-play .play .ensures)
 
 pub process-spec : {M : Type 1} → statement M
 process-spec = tie.close (tie.spec (λ c κs. search needs) returns (λ c κs. search needs) (λ c. search needs) returns-2)

@@ -22,22 +22,32 @@ returns-2 c = sym (cond-false _ _ (few-outputs (c .before .before)) ∙ cond-tru
 
 returns-3 : tie.Need-returns-3
 returns-3 c =
-    sym (cond-false _ _ (few-outputs (c .before .before .before .before)) ∙ cond-false _ _ (few-channels (c .before .before)) ∙ cond-true _ _ (sym (c .before .is-misfit .ensures) ∙ c .if3 .taken))
+    let at-few-channels = c .before .before in
+    let at-few-outputs = at-few-channels .before .before in
+    sym (cond-false _ _ (few-outputs at-few-outputs) ∙ cond-false _ _ (few-channels at-few-channels) ∙ cond-true _ _ (sym (c .before .is-misfit .ensures) ∙ c .if3 .taken))
 
 returns-4 : tie.Need-returns-4
 returns-4 c =
+    let at-if3 = c .before .before in
+    let at-is-misfit = at-if3 .before in
+    let at-few-channels = at-is-misfit .before in
+    let at-few-outputs = at-few-channels .before .before in
     sym
-    (cond-false _ _ (few-outputs (c .before .before .before .before .before .before))
-    ∙ cond-false _ _ (few-channels (c .before .before .before .before))
-    ∙ cond-false _ _ (sym (c .before .before .before .is-misfit .ensures) ∙ c .before .before .if3 .left)
+    (cond-false _ _ (few-outputs at-few-outputs)
+    ∙ cond-false _ _ (few-channels at-few-channels)
+    ∙ cond-false _ _ (sym (at-is-misfit .is-misfit .ensures) ∙ at-if3 .if3 .left)
     ∙ cond-true _ _ (sym (c .before .has-nonfinite-f64 .ensures) ∙ c .if4 .taken))
 
 returns-5 : tie.Need-returns-5
 returns-5 c =
+    let at-if3 = c .before .before in
+    let at-is-misfit = at-if3 .before in
+    let at-few-channels = at-is-misfit .before in
+    let at-few-outputs = at-few-channels .before .before in
     sym
-    (cond-false _ _ (few-outputs (c .before .before .before .before .before .before))
-    ∙ cond-false _ _ (few-channels (c .before .before .before .before))
-    ∙ cond-false _ _ (sym (c .before .before .before .is-misfit .ensures) ∙ c .before .before .if3 .left)
+    (cond-false _ _ (few-outputs at-few-outputs)
+    ∙ cond-false _ _ (few-channels at-few-channels)
+    ∙ cond-false _ _ (sym (at-is-misfit .is-misfit .ensures) ∙ at-if3 .if3 .left)
     ∙ cond-false _ _ (sym (c .before .has-nonfinite-f64 .ensures) ∙ c .if4 .left))
 
 pub refusal-of-spec : {M : Type 1} → statement M

@@ -22,11 +22,15 @@ int-to-float-v c = le→leb ((c .before .args .size + 256) / 512) (2 ^ 53) (omeg
 
 returns : tie.Need-returns
 unfolding rounded ofBits
-returns c = let s = c .before .before .before .args in let n = (s .size + 256) / 512 in sym (λ i. pick (c .before .if1 .taken i) (eq-eqb n 0 (c .if2 .taken) i) n)
+returns c =
+    let start = c .before .before .before in
+    let s = start .args in let n = (s .size + 256) / 512 in sym (λ i. pick (c .before .if1 .taken i) (eq-eqb n 0 (c .if2 .taken) i) n)
 
 returns-2 : tie.Need-returns-2
 unfolding rounded ofBits
-returns-2 c = let s = c .before .before .before .args in let n = (s .size + 256) / 512 in sym (λ i. pick (c .before .if1 .taken i) (ne-eqb n 0 (c .if2 .left) i) n)
+returns-2 c =
+    let start = c .before .before .before in
+    let s = start .args in let n = (s .size + 256) / 512 in sym (λ i. pick (c .before .if1 .taken i) (ne-eqb n 0 (c .if2 .left) i) n)
 
 returns-3 : tie.Need-returns-3
 unfolding rounded ofBits

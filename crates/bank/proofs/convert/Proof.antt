@@ -84,7 +84,9 @@ module _ (c : tie.After-read) where
   taps-found = length-take-le _ _ (omega (arith, reach, taps))
 
 returns : tie.Need-returns
-returns c = rw (c .unwritten .ensures) (version-told _ _ _ _ _ (c .before .before .before .check-version .ensures .bits) (c .before .if1 .taken))
+returns c =
+    let at-check-version = c .before .before .before in
+    rw (c .unwritten .ensures) (version-told _ _ _ _ _ (at-check-version .check-version .ensures .bits) (c .before .if1 .taken))
 
 convert-bank-requires : tie.Need-convert-bank-requires
 convert-bank-requires c κs =

@@ -29,13 +29,17 @@ module _ (c : tie.After-row-at) where
   size = c .row-at .ensures .0 ∙ sym (length-encode (start .args .version) bank (record { paired = start .pre .2; count = start .pre .3 }))
 
   none : raised (start .args .version) bank .refusal ≡ 0
-  none = ap (λ (f : Fault). f .refusal) (sym (c .before .before .before .elevations-fault .ensures)) ∙ c .before .if1 .left
+  none =
+      let at-elevations-fault = c .before .before .before in
+      ap (λ (f : Fault). f .refusal) (sym (at-elevations-fault .elevations-fault .ensures)) ∙ c .before .if1 .left
 
 returns : tie.Need-returns
 returns c =
-    let args = c .before .before .before .before .before .before .args in
+    let at-elevations-fault = c .before .before .before in
+    let start = at-elevations-fault .before .before .before in
+    let args = start .args in
     let given : Bank = record { azimuths = args .azimuths .now; elevations = args .elevations .now; length = args .l; taps = args .taps .now } in
-    rw (c .unwritten .ensures) (raised-told (args .version) given _ _ (c .before .before .before .elevations-fault .ensures) (c .before .if1 .taken))
+    rw (c .unwritten .ensures) (raised-told (args .version) given _ _ (at-elevations-fault .elevations-fault .ensures) (c .before .if1 .taken))
 
 returns-2 : tie.Need-returns-2
 returns-2 c = let at = c .before .before in rw (c .unwritten2 .ensures) (other-length _ (bank at) _ (none at) (λ e. c .before .if2 .taken (e ∙ sym (size at))))

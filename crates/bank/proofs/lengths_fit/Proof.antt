@@ -10,26 +10,35 @@ returns c = let args = c .before .args in other-elevations (args .rows) (args .e
 
 returns-2 : tie.Need-returns-2
 returns-2 c =
-    let args = c .before .before .before .args in
-    other-taps (args .rows) (args .elevations) (args .taps) (args .l) (args .file) (c .before .before .if1 .left) _ (c .before .is-product .ensures) (not-true _ (c .if2 .taken))
+    let at-if1 = c .before .before in
+    let start = at-if1 .before in
+    let args = start .args in
+    other-taps (args .rows) (args .elevations) (args .taps) (args .l) (args .file) (at-if1 .if1 .left) _ (c .before .is-product .ensures) (not-true _ (c .if2 .taken))
 
 returns-3 : tie.Need-returns-3
 returns-3 c =
-    let args = c .before .before .before .before .args in
-    short-file (args .rows) (args .elevations) (args .taps) (args .l) (args .file) (c .before .before .before .if1 .left) (c .if3 .taken)
+    let at-if1 = c .before .before .before in
+    let start = at-if1 .before in
+    let args = start .args in
+    short-file (args .rows) (args .elevations) (args .taps) (args .l) (args .file) (at-if1 .if1 .left) (c .if3 .taken)
 
 add-result : tie.Need-add-result
 add-result c =
-    let start = c .before .before .before .before in
+    let at-is-product = c .before .before in
+    let at-if1 = at-is-product .before in
+    let start = at-if1 .before in
     let args = start .args in
     record {
-      fits = bytes-fit (args .rows) (args .elevations) (args .taps) (args .l) (args .file) (c .before .before .before .if1 .left) _ (c .before .before .is-product .ensures) (not-false _ (c .before .if2 .left)) (start .pre .0) (start .pre .1);
+      fits = bytes-fit (args .rows) (args .elevations) (args .taps) (args .l) (args .file) (at-if1 .if1 .left) _ (at-is-product .is-product .ensures) (not-false _ (c .before .if2 .left)) (start .pre .0) (start .pre .1);
     }
 
 returns-4 : tie.Need-returns-4
 returns-4 c =
-    let args = c .before .before .before .before .args in
-    same-length (args .rows) (args .elevations) (args .taps) (args .l) (args .file) (c .before .before .before .if1 .left) _ (c .before .before .is-product .ensures) (not-false _ (c .before .if2 .left)) (c .if3 .left)
+    let at-is-product = c .before .before in
+    let at-if1 = at-is-product .before in
+    let start = at-if1 .before in
+    let args = start .args in
+    same-length (args .rows) (args .elevations) (args .taps) (args .l) (args .file) (at-if1 .if1 .left) _ (at-is-product .is-product .ensures) (not-false _ (c .before .if2 .left)) (c .if3 .left)
 
 pub lengths-fit-spec : {M : Type 1} → statement M
 lengths-fit-spec =

@@ -29,17 +29,23 @@ loop-holds c = (one-size 2 _ _ (c .before .pre .0) (c .row-size .ensures .0), c 
 
 returns : tie.Need-returns Inv-loop μ-loop
 returns c =
-    let turn = c .before .before .before .loop in
-    let inside = c .before .before .loop-test .taken in
-    let args = c .before .before .before .before .before .args in
+    let at-loop-test = c .before .before in
+    let at-loop = at-loop-test .before in
+    let start = at-loop .before .before in
+    let turn = at-loop .loop in
+    let inside = at-loop-test .loop-test .taken in
+    let args = start .args in
     let level = level-other (getD (args .elevations .now) (turn .i) (pos 0)) (λ e. c .if1 .taken (ap (ofZ w16) e)) in
     sym (turn .inv .3 ∙ raised-next _ _ (turn .i) _ inside ∙ unless-fails _ 21 _ _ (omega arith) level)
 
 loop-again : tie.Need-loop-again Inv-loop μ-loop
 loop-again c =
-    let turn = c .before .before .before .loop in
-    let inside = c .before .before .loop-test .taken in
-    let args = c .before .before .before .before .before .args in
+    let at-loop-test = c .before .before in
+    let at-loop = at-loop-test .before in
+    let start = at-loop .before .before in
+    let turn = at-loop .loop in
+    let inside = at-loop-test .loop-test .taken in
+    let args = start .args in
     let there : ℕ → Fault = λ w. raisedFrom (args .l) (turn .at + w) (drop (turn .i + 1) (args .elevations .now)) in
     let zero : getD (args .elevations .now) (turn .i) (pos 0) ≡ pos 0 = sym (back w16 _ (c .before .if12 .given)) ∙ ap (toZ w16) (c .if1 .left) in
     let next = turn .inv .3 ∙ raised-next _ _ (turn .i) _ inside ∙ unless-passes _ 21 _ _ (ap isLevel zero ∙ level-zero) in

@@ -61,12 +61,14 @@ returns-3 c =
 
 fill-rows-requires : tie.Need-fill-rows-requires
 fill-rows-requires c κs =
-    let checked = c .before .before .before .before .before .before in
+    let at-get3 = c .before .before .before in
+    let at-get2 = at-get3 .before in
+    let checked = at-get2 .before .before in
     let args = past (test checked) .before .before .before .before .args in
     let lists = lists-are (args .azimuths .now) (args .elevations .now) (args .taps .now) (fit (past (test checked))) in
     let head = whole (size (test checked)) (start (test checked)) (none checked) .head in (
-      rw (c .before .before .before .get3 .ensures .bits) (within-true 1 512 (lengthIn (start (test checked))) (head .short) .1),
-      rw (c .before .before .before .before .get2 .ensures .bits) (within-true 1 8 (rowsIn (start (test checked))) (head .few) .1),
+      rw (at-get3 .get3 .ensures .bits) (within-true 1 512 (lengthIn (start (test checked))) (head .short) .1),
+      rw (at-get2 .get2 .ensures .bits) (within-true 1 8 (rowsIn (start (test checked))) (head .few) .1),
       lists .azimuths,
       lists .elevations,
       lists .taps,

@@ -16,7 +16,9 @@ use Rattle.bank.proofs.write.Tie as tie
 -- past the test of the lengths
 module _ (c : tie.Else1) where
   abbrev bank : Bank
-  bank = let args = c .before .before .before .before .args in record { azimuths = args .azimuths .now; elevations = args .elevations .now; length = args .length; taps = args .taps .now }
+  bank =
+      let start = c .before .before .before .before in
+      let args = start .args in record { azimuths = args .azimuths .now; elevations = args .elevations .now; length = args .length; taps = args .taps .now }
 
   abbrev file : List ℕ
   file = c .before .before .before .before .args .file .now
@@ -36,10 +38,11 @@ returns-2 c =
 
 write-checked-requires : tie.Need-write-checked-requires
 write-checked-requires c κs =
-    let counts = c .before .before .before .before in
+    let at-if2 = c .before .before in
+    let counts = at-if2 .before .before in
     let past = counts .before in
     let fit = lengths past in
-    let few = counts-fit (rows (bank past)) (bank past .length) (ap (λ (f : Fault). f .refusal) (sym (counts .counts-fault .ensures)) ∙ c .before .before .if2 .left) in
+    let few = counts-fit (rows (bank past)) (bank past .length) (ap (λ (f : Fault). f .refusal) (sym (counts .counts-fault .ensures)) ∙ at-if2 .if2 .left) in
     (few .1, few .0, fit .counted .paired, fit .counted .count, fit .size ∙ length-encode 2 (bank past) (fit .counted), length-replicate {A = ℕ} largest 0)
 
 pub write-spec : {M : Type 1} → statement M

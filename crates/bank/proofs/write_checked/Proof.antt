@@ -95,10 +95,12 @@ copy-requires c κs =
 
 returns-2 : tie.Need-returns-2
 returns-2 c =
-    let check = c .before .before .before .before .before .before .before in
+    let at-copy = c .before .before in
+    let at-if1 = at-copy .before .before .before in
+    let check = at-if1 .before .before in
     let put = check .before .before .before .before in
-    let none = ap (λ (f : Fault). f .refusal) (sym (found check)) ∙ c .before .before .before .before .before .if1 .left in
-    let copy = c .before .before .copy .ensures .1 ∙ copied _ (file put) (length-take-le (length (file put)) (made put) (room put)) ∙ same put in
+    let none = ap (λ (f : Fault). f .refusal) (sym (found check)) ∙ at-if1 .if1 .left in
+    let copy = at-copy .copy .ensures .1 ∙ copied _ (file put) (length-take-le (length (file put)) (made put) (room put)) ∙ same put in
     wrote 2 (bank put) (file put) _ _ (sym (size put)) copy ∙ written (bank put) (file put) (lent put) none
 
 pub write-checked-spec : {M : Type 1} → statement M

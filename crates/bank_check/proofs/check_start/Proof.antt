@@ -34,11 +34,13 @@ rows-fault-requires c κs =
 
 returns-2 : tie.Need-returns-2
 returns-2 c =
-    let past = c .before .before .before .before in
-    let version = c .before .before .before .get .ensures .bits in
+    let at-get2 = c .before .before in
+    let at-get = at-get2 .before in
+    let past = at-get .before in
+    let version = at-get .get .ensures .bits in
     let rows =
     c .rows-fault .ensures
-    ∙ ap₂ (λ (l n : ℕ). rowsFault (size past) (start past) (c .before .before .before .get .result) l 0 9 n) (c .before .get3 .ensures .bits) (c .before .before .get2 .ensures .bits)
+    ∙ ap₂ (λ (l n : ℕ). rowsFault (size past) (start past) (at-get .get .result) l 0 9 n) (c .before .get3 .ensures .bits) (at-get2 .get2 .ensures .bits)
     ∙ ap (λ (v : ℕ). rowsFault (size past) (start past) v (lengthIn (start past)) 0 9 (rowsIn (start past))) version in
     checked _ _ _ (rows ∙ sym (fault-is _ _ ∙ else-on _ _ _ (past .before .before .head-fault .ensures) (past .if1 .left)))
 

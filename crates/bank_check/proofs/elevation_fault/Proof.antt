@@ -16,9 +16,11 @@ returns c = sym (no-elevation _ _ _ _ (eq-eqb _ _ (c .if1 .taken)))
 returns-2 : tie.Need-returns-2
 unfolding isElevation
 returns-2 c =
-    let read = c .before .before .get-i16 in
+    let at-get-i16 = c .before .before in
+    let at-if1 = at-get-i16 .before in
+    let read = at-get-i16 .get-i16 in
     let good = c .before .is-between .ensures ∙ ap isElevation (back w16 (read .result) (read .ok) ∙ read .ensures) in
-    c .field-fault .ensures ∙ ap (field _ _ _ _) good ∙ sym (elevation-field _ _ _ _ (ne-eqb _ _ (c .before .before .before .if1 .left)))
+    c .field-fault .ensures ∙ ap (field _ _ _ _) good ∙ sym (elevation-field _ _ _ _ (ne-eqb _ _ (at-if1 .if1 .left)))
 
 pub elevation-fault-spec : {M : Type 1} → statement M
 elevation-fault-spec =

@@ -26,22 +26,35 @@ returns c = else-stop _ _ _ (c .before .before .head-field .ensures) (c .if1 .ta
 returns-2 : tie.Need-returns-2
 unfolding headFault
 returns-2 c =
-    let version = else-on _ _ _ (c .before .before .before .before .before .before .head-field .ensures) (c .before .before .before .before .if1 .left) in
-    else-stop _ _ _ (length-field (c .before .before)) (c .if2 .taken) ∙ sym version
+    let at-length-field = c .before .before in
+    let at-if1 = at-length-field .before .before in
+    let at-head-field = at-if1 .before .before in
+    let version = else-on _ _ _ (at-head-field .head-field .ensures) (at-if1 .if1 .left) in
+    else-stop _ _ _ (length-field at-length-field) (c .if2 .taken) ∙ sym version
 
 returns-3 : tie.Need-returns-3
 unfolding headFault
 returns-3 c =
-    let version = else-on _ _ _ (c .before .before .before .before .before .before .before .before .before .head-field .ensures) (c .before .before .before .before .before .before .before .if1 .left) in
-    let rest = else-on _ _ _ (length-field (c .before .before .before .before .before)) (c .before .before .before .if2 .left) in
-    else-stop _ _ _ (c .before .before .head-field3 .ensures) (c .if3 .taken) ∙ sym (version ∙ rest)
+    let at-head-field3 = c .before .before in
+    let at-if2 = at-head-field3 .before in
+    let at-length-field = at-if2 .before .before in
+    let at-if1 = at-length-field .before .before in
+    let at-head-field = at-if1 .before .before in
+    let version = else-on _ _ _ (at-head-field .head-field .ensures) (at-if1 .if1 .left) in
+    let rest = else-on _ _ _ (length-field at-length-field) (at-if2 .if2 .left) in
+    else-stop _ _ _ (at-head-field3 .head-field3 .ensures) (c .if3 .taken) ∙ sym (version ∙ rest)
 
 returns-4 : tie.Need-returns-4
 unfolding headFault
 returns-4 c =
-    let version = else-on _ _ _ (c .before .before .before .before .before .before .before .before .before .before .head-field .ensures) (c .before .before .before .before .before .before .before .before .if1 .left) in
-    let rest = else-on _ _ _ (length-field (c .before .before .before .before .before .before)) (c .before .before .before .before .if2 .left) in
-    let rows = else-on _ _ _ (c .before .before .before .head-field3 .ensures) (c .before .if3 .left) in
+    let at-head-field3 = c .before .before .before in
+    let at-if2 = at-head-field3 .before in
+    let at-length-field = at-if2 .before .before in
+    let at-if1 = at-length-field .before .before in
+    let at-head-field = at-if1 .before .before in
+    let version = else-on _ _ _ (at-head-field .head-field .ensures) (at-if1 .if1 .left) in
+    let rest = else-on _ _ _ (length-field at-length-field) (at-if2 .if2 .left) in
+    let rows = else-on _ _ _ (at-head-field3 .head-field3 .ensures) (c .before .if3 .left) in
     c .head-field4 .ensures ∙ sym (version ∙ rest ∙ rows)
 
 pub head-fault-spec : {M : Type 1} → statement M

@@ -10,9 +10,12 @@ use Rattle.bank_check.proofs.head_field.Tie as tie
 returns : tie.Need-returns
 unfolding headField
 returns c =
-    let args = c .before .before .before .before .args in
-    let good : c .before .is-within .result ≡ within (args .low) (args .high) (fieldAt (args .s .now) (args .at) (args .count)) =
-    c .before .is-within .ensures ∙ ap (within (args .low) (args .high)) (c .before .before .get .ensures .bits) in
+    let at-is-within = c .before in
+    let at-get = at-is-within .before in
+    let start = at-get .before .before in
+    let args = start .args in
+    let good : at-is-within .is-within .result ≡ within (args .low) (args .high) (fieldAt (args .s .now) (args .at) (args .count)) =
+    at-is-within .is-within .ensures ∙ ap (within (args .low) (args .high)) (at-get .get .ensures .bits) in
     c .field-fault .ensures ∙ ap (field _ _ _ _) good
 
 pub head-field-spec : {M : Type 1} → statement M

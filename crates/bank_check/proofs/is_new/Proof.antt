@@ -35,19 +35,24 @@ kept z e f g = λ i. record { azimuth = toZ-ofZ f i; elevation = toZ-ofZ g i }
 
 returns : tie.Need-returns Inv-loop μ-loop
 returns c =
-    let start = c .before .before .before .before .before .before in
-    let turn = c .before .before .before .loop in
+    let at-loop-test = c .before .before in
+    let at-loop = at-loop-test .before in
+    let start = at-loop .before .before .before in
+    let turn = at-loop .loop in
     let same = kept _ _ (start .fits .azimuth) (start .fits .elevation) in
     let met = not-true _ (sym (c .before .is-pair .ensures) ∙ c .if1 .taken) in
-    sym (rw same at (turn .inv .3 ∙ new-met _ _ _ _ _ _ (c .before .before .loop-test .taken) met))
+    sym (rw same at (turn .inv .3 ∙ new-met _ _ _ _ _ _ (at-loop-test .loop-test .taken) met))
 
 loop-again : tie.Need-loop-again Inv-loop μ-loop
 loop-again c =
-    let args = c .before .before .before .before .before .before .args in
-    let turn = c .before .before .before .loop in
+    let at-loop-test = c .before .before in
+    let at-loop = at-loop-test .before in
+    let start = at-loop .before .before .before in
+    let args = start .args in
+    let turn = at-loop .loop in
     let other = not-false _ (sym (c .before .is-pair .ensures) ∙ c .if1 .left) in
     let there : ℕ → Bool = λ w. isNew (args .s .now) (args .version) (args .l) (wanted (ofZ w16 (args .azimuth)) (ofZ w16 (args .elevation))) (turn .at + w) (turn .k - 1) in
-    let next = turn .inv .3 ∙ new-next _ _ _ _ _ _ (c .before .before .loop-test .taken) other in
+    let next = turn .inv .3 ∙ new-next _ _ _ _ _ _ (at-loop-test .loop-test .taken) other in
     (turn .inv .0, turn .inv .1, omega arith, next ∙ ap there (sym (turn .inv .0)))
 
 returns-2 : tie.Need-returns-2 Inv-loop μ-loop

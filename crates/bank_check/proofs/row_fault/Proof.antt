@@ -49,9 +49,11 @@ module _ (c : tie.Else2) where
 
   behind : rowFault (size read) (file read) version l i (at read) ≡ behindElevation (size read) (file read) version l i (at read)
   behind =
+      let at-elevation-fault = c .before .before in
+      let at-if1 = at-elevation-fault .before in
       row-is _ _ _ _ _ _
-      ∙ else-on _ _ _ (range read) (c .before .before .before .if1 .left)
-      ∙ else-on _ _ _ (c .before .before .elevation-fault .ensures) (c .if2 .left)
+      ∙ else-on _ _ _ (range read) (at-if1 .if1 .left)
+      ∙ else-on _ _ _ (at-elevation-fault .elevation-fault .ensures) (c .if2 .left)
 
 -- what the comparison with the rows before comes to, and where its field stands
 module _ (c : tie.After-is-new) where
@@ -81,8 +83,9 @@ returns c = else-stop _ _ _ (range (c .before .before)) (c .if1 .taken) ∙ sym 
 
 returns-2 : tie.Need-returns-2
 returns-2 c =
-    let first = c .before .before .before in
-    else-stop _ _ _ (c .before .before .elevation-fault .ensures) (c .if2 .taken)
+    let at-elevation-fault = c .before .before in
+    let first = at-elevation-fault .before in
+    else-stop _ _ _ (at-elevation-fault .elevation-fault .ensures) (c .if2 .taken)
     ∙ sym (row-is _ _ _ _ _ _ ∙ else-on _ _ _ (range (first .before .before)) (first .if1 .left))
 
 returns-3 : tie.Need-returns-3

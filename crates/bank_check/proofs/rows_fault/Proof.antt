@@ -20,30 +20,40 @@ loop-holds c = (one-size (c .before .before .args .version) _ _ (c .before .befo
 
 returns : tie.Need-returns Inv-loop μ-loop
 returns c =
-    let turn = c .before .before .before .before .loop in
-    let more : 0 < c .before .before .before .before .before .before .before .args .n - turn .i = omega arith in
-    else-stop _ _ _ (c .before .before .row-fault .ensures) (c .if1 .taken) ∙ sym (turn .inv .4 ∙ rows-next _ _ _ _ _ _ _ more)
+    let at-row-fault = c .before .before in
+    let at-loop = at-row-fault .before .before in
+    let start = at-loop .before .before .before in
+    let turn = at-loop .loop in
+    let more : 0 < start .args .n - turn .i = omega arith in
+    else-stop _ _ _ (at-row-fault .row-fault .ensures) (c .if1 .taken) ∙ sym (turn .inv .4 ∙ rows-next _ _ _ _ _ _ _ more)
 
 loop-again : tie.Need-loop-again Inv-loop μ-loop
 loop-again c =
-    let turn = c .before .before .before .before .loop in
-    let more : 0 < c .before .before .before .before .before .before .before .args .n - turn .i = omega arith in
-    let args = c .before .before .before .before .before .before .before .args in
+    let at-row-fault = c .before .before in
+    let at-loop = at-row-fault .before .before in
+    let start = at-loop .before .before .before in
+    let turn = at-loop .loop in
+    let more : 0 < start .args .n - turn .i = omega arith in
+    let args = start .args in
     let left : args .n - turn .i - 1 ≡ args .n - (turn .i + 1) = omega arith in
     let there = ap (λ (w : ℕ). turn .at + w) (sym (turn .inv .0)) in
-    let next = turn .inv .4 ∙ rows-next _ _ _ _ _ _ _ more ∙ else-on _ _ _ (c .before .before .row-fault .ensures) (c .if1 .left) in
+    let next = turn .inv .4 ∙ rows-next _ _ _ _ _ _ _ more ∙ else-on _ _ _ (at-row-fault .row-fault .ensures) (c .if1 .left) in
     (turn .inv .0, turn .inv .1, omega arith, omega arith, next ∙ ap₂ (rowsFault _ _ _ _ (turn .i + 1)) there left)
 
 returns-2 : tie.Need-returns-2 Inv-loop μ-loop
 returns-2 c =
-    let turn = c .before .before .loop in
-    let done : c .before .before .before .before .before .args .n - turn .i ≡ 0 = omega arith in
+    let at-loop = c .before .before in
+    let start = at-loop .before .before .before in
+    let turn = at-loop .loop in
+    let done : start .args .n - turn .i ≡ 0 = omega arith in
     sym (turn .inv .4 ∙ ap (rowsFault _ _ _ _ _ _) done ∙ rows-end _ _ _ _ _ _ ∙ rw (eq-eqb _ _ (c .if2 .taken)))
 
 returns-3 : tie.Need-returns-3 Inv-loop μ-loop
 returns-3 c =
-    let turn = c .before .before .loop in
-    let done : c .before .before .before .before .before .args .n - turn .i ≡ 0 = omega arith in
+    let at-loop = c .before .before in
+    let start = at-loop .before .before .before in
+    let turn = at-loop .loop in
+    let done : start .args .n - turn .i ≡ 0 = omega arith in
     sym (turn .inv .4 ∙ ap (rowsFault _ _ _ _ _ _) done ∙ rows-end _ _ _ _ _ _ ∙ rw (ne-eqb _ _ (c .if2 .left)))
 
 pub rows-fault-spec : {M : Type 1} → statement M

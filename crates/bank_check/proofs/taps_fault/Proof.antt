@@ -30,7 +30,9 @@ module _ (c : tie.After-field-fault Inv-loop μ-loop) where
 
   here : c .field-fault .result ≡ field size place 4 18 (finite (floatAt file place))
   here =
-      let tap = c .before .before .widen .ensures .bits ∙ c .before .before .before .get-f32 .ensures in
+      let at-widen = c .before .before in
+      let at-get-f32 = at-widen .before in
+      let tap = at-widen .widen .ensures .bits ∙ at-get-f32 .get-f32 .ensures in
       c .field-fault .ensures ∙ ap (field _ _ _ _) (c .before .is-finite .ensures ∙ ap finite tap)
 
 loop-holds : tie.Need-loop-holds Inv-loop μ-loop
@@ -38,15 +40,21 @@ loop-holds c = (c .before .pre, refl)
 
 returns : tie.Need-returns Inv-loop μ-loop
 returns c =
-    let turn = c .before .before .before .before .before .before .before .loop in
-    let more = c .before .before .before .before .before .before .loop-test .taken in
-    else-stop _ _ _ (here (c .before .before)) (c .if1 .taken) ∙ sym (turn .inv .1 ∙ taps-next _ _ _ _ more)
+    let at-here = c .before .before in
+    let at-loop-test = at-here .before .before .before .before in
+    let at-loop = at-loop-test .before in
+    let turn = at-loop .loop in
+    let more = at-loop-test .loop-test .taken in
+    else-stop _ _ _ (here at-here) (c .if1 .taken) ∙ sym (turn .inv .1 ∙ taps-next _ _ _ _ more)
 
 loop-again : tie.Need-loop-again Inv-loop μ-loop
 loop-again c =
-    let turn = c .before .before .before .before .before .before .before .loop in
-    let more = c .before .before .before .before .before .before .loop-test .taken in
-    (omega arith, turn .inv .1 ∙ taps-next _ _ _ _ more ∙ else-on _ _ _ (here (c .before .before)) (c .if1 .left))
+    let at-here = c .before .before in
+    let at-loop-test = at-here .before .before .before .before in
+    let at-loop = at-loop-test .before in
+    let turn = at-loop .loop in
+    let more = at-loop-test .loop-test .taken in
+    (omega arith, turn .inv .1 ∙ taps-next _ _ _ _ more ∙ else-on _ _ _ (here at-here) (c .if1 .left))
 
 returns-2 : tie.Need-returns-2 Inv-loop μ-loop
 returns-2 c =

@@ -15,10 +15,12 @@ use Rattle.bank_choice.proofs.distance_key.Tie as tie
 returns : tie.Need-returns
 unfolding key elevationAway
 returns c =
-    let start = c .before .before .before .before in
+    let at-difference = c .before .before in
+    let at-difference-arg = at-difference .before in
+    let start = at-difference-arg .before in
     let a = start .args in
-    let height = c .before .before .difference .ensures .0
-    ∙ ap₂ (λ (e q : ℤ). natAbs (e -ℤ q)) (back w16 (getD (a .elevations .now) (a .j) (pos 0)) (c .before .before .before .difference-arg .given)) (toZ-ofZ (start .fits .elevation)) in
+    let height = at-difference .difference .ensures .0
+    ∙ ap₂ (λ (e q : ℤ). natAbs (e -ℤ q)) (back w16 (getD (a .elevations .now) (a .j) (pos 0)) (at-difference-arg .difference-arg .given)) (toZ-ofZ (start .fits .elevation)) in
     let round = c .tenths-apart .ensures .0
     ∙ ap₂ apart (back w16 (getD (a .azimuths .now) (a .j) (pos 0)) (c .before .tenths-apart-arg .given)) (toZ-ofZ (start .fits .azimuth)) in
     omega arith

@@ -21,8 +21,10 @@ abbrev μ-loop : tie.MeasureT-loop
 
 loop-again : tie.Need-loop-again Inv-loop μ-loop
 loop-again c =
-    let args = c .before .before .before .args in
-    let turn = c .before .before .loop in
+    let at-loop = c .before .before in
+    let start = at-loop .before in
+    let args = start .args in
+    let turn = at-loop .loop in
     let p = toZ w16 (ofZ w16 (args .azimuth)) in
     let q = toZ w16 (ofZ w16 (args .elevation)) in
     let more : 0 < args .n - turn .j = omega arith in

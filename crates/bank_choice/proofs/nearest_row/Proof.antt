@@ -17,11 +17,15 @@ rows-in c = sym (c .before .is-outside .ensures) ∙ c .if1 .left
 
 azimuth-in : (c : tie.Else2) → inTenths (c .before .before .before .before .args .azimuth) ≡ true
 unfolding inTenths
-azimuth-in c = rw (toZ-ofZ (c .before .before .before .before .fits .azimuth)) at (sym (c .before .is-between .ensures) ∙ not-false _ (c .if2 .left))
+azimuth-in c =
+    let at-fits = c .before .before .before .before in
+    rw (toZ-ofZ (at-fits .fits .azimuth)) at (sym (c .before .is-between .ensures) ∙ not-false _ (c .if2 .left))
 
 elevation-in : (c : tie.Else3) → isElevation (c .before .before .before .before .before .before .args .elevation) ≡ true
 unfolding isElevation
-elevation-in c = rw (toZ-ofZ (c .before .before .before .before .before .before .fits .elevation)) at (sym (c .before .is-between2 .ensures) ∙ not-false _ (c .if3 .left))
+elevation-in c =
+    let at-fits = c .before .before .before .before .before .before in
+    rw (toZ-ofZ (at-fits .fits .elevation)) at (sym (c .before .is-between2 .ensures) ∙ not-false _ (c .if3 .left))
 
 returns : tie.Need-returns
 returns c = rw (c .unchosen .ensures) (no-rows _ _ _ _ _ (sym (c .before .before .is-outside .ensures) ∙ c .before .if1 .taken))
@@ -29,14 +33,18 @@ returns c = rw (c .unchosen .ensures) (no-rows _ _ _ _ _ (sym (c .before .before
 returns-2 : tie.Need-returns-2
 unfolding inTenths
 returns-2 c =
-    let far = rw (toZ-ofZ (c .before .before .before .before .before .fits .azimuth)) at (sym (c .before .before .is-between .ensures) ∙ not-true _ (c .before .if2 .taken)) in
-    rw (c .unchosen2 .ensures) (no-azimuth _ _ _ _ _ (rows-in (c .before .before .before)) far)
+    let at-is-between = c .before .before in
+    let at-rows-in = at-is-between .before in
+    let at-fits = at-rows-in .before .before in
+    let far = rw (toZ-ofZ (at-fits .fits .azimuth)) at (sym (at-is-between .is-between .ensures) ∙ not-true _ (c .before .if2 .taken)) in
+    rw (c .unchosen2 .ensures) (no-azimuth _ _ _ _ _ (rows-in at-rows-in) far)
 
 returns-3 : tie.Need-returns-3
 unfolding isElevation
 returns-3 c =
-    let level = c .before .before .before in
-    let far = rw (toZ-ofZ (level .before .before .before .before .fits .elevation)) at (sym (c .before .before .is-between2 .ensures) ∙ not-true _ (c .before .if3 .taken)) in
+    let at-is-between2 = c .before .before in
+    let level = at-is-between2 .before in
+    let far = rw (toZ-ofZ (level .before .before .before .before .fits .elevation)) at (sym (at-is-between2 .is-between2 .ensures) ∙ not-true _ (c .before .if3 .taken)) in
     rw (c .unchosen3 .ensures) (no-elevation _ _ _ _ _ (rows-in (level .before .before)) (azimuth-in level) far)
 
 returns-4 : tie.Need-returns-4

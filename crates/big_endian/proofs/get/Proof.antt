@@ -30,13 +30,16 @@ mul-n c = let small = eight-fit _ _ (omega arith) (below-next (c .before .loop .
 
 add-n : tie.Need-add-n Inv-loop μ-loop
 add-n c =
-    let turn = c .before .before .before .loop in
+    let at-loop = c .before .before .before in
+    let turn = at-loop .loop in
     record { fits = eight-fit _ _ (omega arith) (below-next (turn .n) (turn .i) (c .wide .result) (turn .inv .4) (c .wide .ensures .1)) }
 
 loop-again : tie.Need-loop-again Inv-loop μ-loop
 loop-again c =
-    let turn = c .before .before .before .loop in
-    let args = c .before .before .before .before .before .before .before .args in
+    let at-loop = c .before .before .before in
+    let start = at-loop .before .before .before .before in
+    let turn = at-loop .loop in
+    let args = start .args in
     let inside : args .at + turn .i < length (args .s .now) = omega arith in
     let read : turn .n * 256 + c .wide .result ≡ valueOf (take (turn .i + 1) (drop (args .at) (args .s .now))) =
     rw (value-next (args .s .now) (args .at) (turn .i) inside, ← turn .inv .3, c .wide .ensures .0) in
@@ -44,8 +47,9 @@ loop-again c =
 
 returns-2 : tie.Need-returns-2 Inv-loop μ-loop
 returns-2 c =
+    let start = c .before .before .before .before .before in
     let turn = c .before .loop in
-    let args = c .before .before .before .before .before .args in
+    let args = start .args in
     let done : turn .i ≡ args .count = omega arith in
     record {
       bits = turn .inv .3 ∙ ap (λ (k : ℕ). valueOf (take k (drop (args .at) (args .s .now)))) done ∙ sym (field-lies _ _ _ (turn .inv .1) (turn .inv .2));

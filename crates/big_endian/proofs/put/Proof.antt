@@ -24,8 +24,9 @@ loop-holds c =
 
 slice-write-out : tie.Need-slice-write-out Inv-loop μ-loop
 slice-write-out c =
+    let start = c .before .before .before .before .before in
     let turn = c .before .loop in
-    let long : length (turn .out) ≡ length (c .before .before .before .before .before .args .out .now) = rw (turn .inv .4) (length-put _ _ _ _ _ (turn .inv .0) (turn .inv .2)) in
+    let long : length (turn .out) ≡ length (start .args .out .now) = rw (turn .inv .4) (length-put _ _ _ _ _ (turn .inv .0) (turn .inv .2)) in
     omega arith
 
 loop-again : tie.Need-loop-again Inv-loop μ-loop

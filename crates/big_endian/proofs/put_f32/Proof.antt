@@ -13,7 +13,10 @@ use Rattle.big_endian.proofs.put_f32.Tie as tie
 
 returns : tie.Need-returns
 unfolding withFloat
-returns c = c .before .before .put .ensures ∙ ap (withField _ _ _) (sym (nan-written binary32 _ (c .before .before .before .before .if1 .taken)))
+returns c =
+    let at-put = c .before .before in
+    let at-if1 = at-put .before .before in
+    at-put .put .ensures ∙ ap (withField _ _ _) (sym (nan-written binary32 _ (at-if1 .if1 .taken)))
 
 float-to-bits-put : tie.Need-float-to-bits-put
 float-to-bits-put c = no-nan _ (c .before .if1 .left)

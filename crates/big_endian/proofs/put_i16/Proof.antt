@@ -14,27 +14,39 @@ sub-k : tie.Need-sub-k
 sub-k c = let fit = c .before .before .fits .z in rw (below-part w16 _ fit (c .if1 .taken)) (record { sfits = fit .sfits })
 
 cast-put : tie.Need-cast-put
-cast-put c = let fit = c .before .before .before .fits .z in rw (below-whole w16 _ fit (c .before .if1 .taken)) (tt, let h = fit .sfits in omega arith)
+cast-put c =
+    let at-fits = c .before .before .before in
+    let fit = at-fits .fits .z in rw (below-whole w16 _ fit (c .before .if1 .taken)) (tt, let h = fit .sfits in omega arith)
 
 sub-put : tie.Need-sub-put
-sub-put c = let fit = c .before .before .before .fits .z in rw (below-whole w16 _ fit (c .before .if1 .taken)) (let h = fit .sfits in omega arith)
+sub-put c =
+    let at-fits = c .before .before .before in
+    let fit = at-fits .fits .z in rw (below-whole w16 _ fit (c .before .if1 .taken)) (let h = fit .sfits in omega arith)
 
 returns : tie.Need-returns
 unfolding withSigned
 returns c =
-    let below = c .before .before .before .before .if1 .taken in
-    let fit = c .before .before .before .before .before .before .fits .z in
-    c .before .before .put .ensures ∙ ap (withField _ _ _) (ap (λ (y : ℤ). 65535 - natAbs y) (below-whole w16 _ fit below) ∙ below-bits w16 _ fit below)
+    let at-put = c .before .before in
+    let at-if1 = at-put .before .before in
+    let at-fits = at-if1 .before .before in
+    let below = at-if1 .if1 .taken in
+    let fit = at-fits .fits .z in
+    at-put .put .ensures ∙ ap (withField _ _ _) (ap (λ (y : ℤ). 65535 - natAbs y) (below-whole w16 _ fit below) ∙ below-bits w16 _ fit below)
 
 cast-put-2 : tie.Need-cast-put-2
-cast-put-2 c = let fit = c .before .before .before .fits .z in rw (above-part w16 _ fit (c .before .if1 .left)) (tt, let h = fit .sfits in omega arith)
+cast-put-2 c =
+    let at-fits = c .before .before .before in
+    let fit = at-fits .fits .z in rw (above-part w16 _ fit (c .before .if1 .left)) (tt, let h = fit .sfits in omega arith)
 
 returns-2 : tie.Need-returns-2
 unfolding withSigned
 returns-2 c =
-    let above = c .before .before .before .before .if1 .left in
-    let fit = c .before .before .before .before .before .before .fits .z in
-    c .before .before .put2 .ensures ∙ ap (withField _ _ _) (ap natAbs (above-part w16 _ fit above) ∙ above-bits w16 _ fit above)
+    let at-put2 = c .before .before in
+    let at-if1 = at-put2 .before .before in
+    let at-fits = at-if1 .before .before in
+    let above = at-if1 .if1 .left in
+    let fit = at-fits .fits .z in
+    at-put2 .put2 .ensures ∙ ap (withField _ _ _) (ap natAbs (above-part w16 _ fit above) ∙ above-bits w16 _ fit above)
 
 pub put-i16-spec : {M : Type 1} → statement M
 put-i16-spec =

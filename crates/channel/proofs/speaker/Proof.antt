@@ -11,23 +11,27 @@ use Rattle.channel.proofs.speaker.Tie as tie
 
 returns : tie.Need-returns
 returns c =
-    let s = c .before .before .before .before in
-    c .look-up .ensures ∙ ap (λ (l : Layout). entryOf (speakers l) (s .args .channel)) (sym (c .before .before .enum-told .given .1))
+    let at-enum-told = c .before .before in
+    let s = at-enum-told .before .before in
+    c .look-up .ensures ∙ ap (λ (l : Layout). entryOf (speakers l) (s .args .channel)) (sym (at-enum-told .enum-told .given .1))
 
 returns-2 : tie.Need-returns-2
 returns-2 c =
-    let s = c .before .before .before .before in
-    c .look-up2 .ensures ∙ ap (λ (l : Layout). entryOf (speakers l) (s .args .channel)) (sym (c .before .before .enum-told2 .given .1))
+    let at-enum-told2 = c .before .before in
+    let s = at-enum-told2 .before .before in
+    c .look-up2 .ensures ∙ ap (λ (l : Layout). entryOf (speakers l) (s .args .channel)) (sym (at-enum-told2 .enum-told2 .given .1))
 
 returns-3 : tie.Need-returns-3
 returns-3 c =
-    let s = c .before .before .before .before in
-    c .look-up3 .ensures ∙ ap (λ (l : Layout). entryOf (speakers l) (s .args .channel)) (sym (c .before .before .enum-told3 .given .1))
+    let at-enum-told3 = c .before .before in
+    let s = at-enum-told3 .before .before in
+    c .look-up3 .ensures ∙ ap (λ (l : Layout). entryOf (speakers l) (s .args .channel)) (sym (at-enum-told3 .enum-told3 .given .1))
 
 returns-4 : tie.Need-returns-4
 returns-4 c =
-    let s = c .before .before .before .before in
-    c .look-up4 .ensures ∙ ap (λ (l : Layout). entryOf (speakers l) (s .args .channel)) (sym (c .before .before .enum-told4 .given .1))
+    let at-enum-told4 = c .before .before in
+    let s = at-enum-told4 .before .before in
+    c .look-up4 .ensures ∙ ap (λ (l : Layout). entryOf (speakers l) (s .args .channel)) (sym (at-enum-told4 .enum-told4 .given .1))
 
 returns-5 : tie.Need-returns-5
 returns-5 c =

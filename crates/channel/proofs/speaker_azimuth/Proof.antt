@@ -7,8 +7,10 @@ use Rattle.channel.proofs.speaker_azimuth.Tie as tie
 
 returns : tie.Need-returns
 returns c =
-    let a = c .before .before .before .args in
-    as-float (speakers (a .layout)) (a .channel) (speaker-turned (a .layout) (a .channel)) _ (c .before .before .speaker .ensures)
+    let at-speaker = c .before .before in
+    let start = at-speaker .before in
+    let a = start .args in
+    as-float (speakers (a .layout)) (a .channel) (speaker-turned (a .layout) (a .channel)) _ (at-speaker .speaker .ensures)
 
 pub speaker-azimuth-spec : {M : Type 1} → statement M
 speaker-azimuth-spec = tie.close (tie.spec (λ c κs. search needs) (λ c. search needs) returns)

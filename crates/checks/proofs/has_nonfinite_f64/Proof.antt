@@ -19,20 +19,28 @@ loop-holds c = passing-none (wrong (placeOf (now (c .before .args .weights)))) (
 
 returns : tie.Need-returns Inv-loop μ-loop
 returns c =
-    let at = c .before .before .before .before in
-    let xs = now (c .before .before .before .before .before .before .args .weights) in
-    nonfinite-found (placeOf xs) (length xs) (at .loop .w) _ (c .before .is-finite .result) (at .loop .inv) (c .before .before .before .loop-test .taken) refl (c .before .is-finite .ensures) (c .if1 .taken) ∙ nonfinite-list xs
+    let at-is-finite = c .before in
+    let at-loop-test = at-is-finite .before .before in
+    let at = at-loop-test .before in
+    let start = at .before .before in
+    let xs = now (start .args .weights) in
+    nonfinite-found (placeOf xs) (length xs) (at .loop .w) _ (at-is-finite .is-finite .result) (at .loop .inv) (at-loop-test .loop-test .taken) refl (at-is-finite .is-finite .ensures) (c .if1 .taken) ∙ nonfinite-list xs
 
 loop-again : tie.Need-loop-again Inv-loop μ-loop
 loop-again c =
-    let at = c .before .before .before .before in
-    let xs = now (c .before .before .before .before .before .before .args .weights) in
-    sound-more (placeOf xs) (length xs) (at .loop .w) _ (c .before .is-finite .result) (at .loop .inv) (c .before .before .before .loop-test .taken) refl (c .before .is-finite .ensures) (c .if1 .left)
+    let at-is-finite = c .before in
+    let at-loop-test = at-is-finite .before .before in
+    let at = at-loop-test .before in
+    let start = at .before .before in
+    let xs = now (start .args .weights) in
+    sound-more (placeOf xs) (length xs) (at .loop .w) _ (at-is-finite .is-finite .result) (at .loop .inv) (at-loop-test .loop-test .taken) refl (at-is-finite .is-finite .ensures) (c .if1 .left)
 
 returns-2 : tie.Need-returns-2 Inv-loop μ-loop
 returns-2 c =
-    let xs = now (c .before .before .before .args .weights) in
-    sound-all (placeOf xs) (length xs) (c .before .loop .w) (c .before .loop .inv) (c .loop-test .left) ∙ nonfinite-list xs
+    let at-loop = c .before in
+    let start = at-loop .before .before in
+    let xs = now (start .args .weights) in
+    sound-all (placeOf xs) (length xs) (at-loop .loop .w) (at-loop .loop .inv) (c .loop-test .left) ∙ nonfinite-list xs
 
 pub has-nonfinite-f64-spec : {M : Type 1} → statement M
 has-nonfinite-f64-spec =

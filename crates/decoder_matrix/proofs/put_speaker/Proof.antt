@@ -16,8 +16,11 @@ part-put-row-end c = omega (arith, gains-length _ _ _ (c .before .before .comput
 returns : tie.Need-returns
 unfolding ofBits ofInt
 returns c =
-    let a = c .before .before .before .before .before .before .before .before .before .args in
-    first-put (now (a .weights)) _ (a .at) (a .channels) (a .scale) _ _ (ap (λ (r : Coefficients). r .gains) (c .before .before .before .before .before .before .before .compute-sh-coefficients .ensures .bits)) (c .before .before .put-row .ensures)
+    let at-put-row = c .before .before in
+    let at-compute-sh-coefficients = at-put-row .before .before .before .before .before in
+    let start = at-compute-sh-coefficients .before .before in
+    let a = start .args in
+    first-put (now (a .weights)) _ (a .at) (a .channels) (a .scale) _ _ (ap (λ (r : Coefficients). r .gains) (at-compute-sh-coefficients .compute-sh-coefficients .ensures .bits)) (at-put-row .put-row .ensures)
 
 pub put-speaker-spec : {M : Type 1} → statement M
 put-speaker-spec =

@@ -26,19 +26,22 @@ loop-holds c = let a = c .before .before .args in filling-none (now (a .weights)
 
 loop-again : tie.Need-loop-again Inv-loop μ-loop
 loop-again c =
-    let tested = c .before .before .before .before .before in
+    let at-put-speaker = c .before .before in
+    let at-speaker-position = at-put-speaker .before .before in
+    let tested = at-speaker-position .before in
     let inverse = tested .before .before .inverse-root in
     let a = tested .before .before .before .before .args in
     let at = tested .before .loop in
-    filling-more (now (a .weights)) (a .channels) (a .n) (rowBy (a .order) (a .layout) (a .n) (a .channels)) (at .weights) (at .at) (at .i) (at .inv) (c .before .before .put-speaker .last .1 .1 .1 .1 .0) (omega arith) (tested .loop-test .taken)
-    (c .before .before .put-speaker .ensures
-    ∙ ap (λ (z : Float). sets (at .weights) (at .at) (scaled (inverse .result .value) (take (a .channels) (outcome (a .order) (towards z) .gains)))) (c .before .before .before .before .speaker-position .ensures)
+    filling-more (now (a .weights)) (a .channels) (a .n) (rowBy (a .order) (a .layout) (a .n) (a .channels)) (at .weights) (at .at) (at .i) (at .inv) (at-put-speaker .put-speaker .last .1 .1 .1 .1 .0) (omega arith) (tested .loop-test .taken)
+    (at-put-speaker .put-speaker .ensures
+    ∙ ap (λ (z : Float). sets (at .weights) (at .at) (scaled (inverse .result .value) (take (a .channels) (outcome (a .order) (towards z) .gains)))) (at-speaker-position .speaker-position .ensures)
     ∙ ap (λ (s : Float). sets (at .weights) (at .at) (scaled s (take (a .channels) (outcome (a .order) (towards (azimuthBy (a .layout) (a .n) (at .i))) .gains))))
     (inverse-value (a .n) (inverse .result) (omega (arith, tested .loop-test .taken)) (inverse .ensures)))
 
 returns : tie.Need-returns Inv-loop μ-loop
 returns c =
-    let a = c .before .before .before .before .args in
+    let start = c .before .before .before .before in
+    let a = start .args in
     let at = c .before .loop in
     filling-all (now (a .weights)) (a .channels) (a .n) (rowBy (a .order) (a .layout) (a .n) (a .channels)) (at .weights) (at .at) (at .i) (at .inv) (c .loop-test .left)
 

@@ -17,12 +17,13 @@ returns c =
 
 returns-2 : tie.Need-returns-2
 returns-2 c =
-    let after-process = c .before .before .before .before .before in
+    let at-if1 = c .before .before in
+    let after-process = at-if1 .before .before .before in
     let after-voice = after-process .before .before .before in
     let after-azimuth = after-voice .before in
     place-played (now (after-azimuth .before .before .args .bytes)) _ _ _ _ (after-process .process .result)
     (after-azimuth .get-f64 .ensures) (after-voice .voice-of .ensures) refl (after-process .process .ensures)
-    (c .before .before .if1 .left) _ (c .line-of .ensures)
+    (at-if1 .if1 .left) _ (c .line-of .ensures)
 
 pub place-spec : {M : Type 1} → statement M
 place-spec =

@@ -26,21 +26,28 @@ cells c =
     cells-fit _ _ (pre .1 .1) (pre .0) _ (length-replicate 36 zero-float) _ (c .new-surround .ensures)
 
 mul-filters : tie.Need-mul-filters
-mul-filters c = let pre = c .before .before .before .before .before .before .pre in omega (arith, rows-few _ _ (pre .1 .1) (pre .0))
+mul-filters c =
+    let at-pre = c .before .before .before .before .before .before in
+    let pre = at-pre .pre in omega (arith, rows-few _ _ (pre .1 .1) (pre .0))
 
 mul-filters-2 : tie.Need-mul-filters-2
-mul-filters-2 c = omega (arith, filters (c .before .before .before .before .before .before .before))
+mul-filters-2 c =
+    let at-filters = c .before .before .before .before .before .before .before in
+    omega (arith, filters at-filters)
 
 mul-cells : tie.Need-mul-cells
 mul-cells c = omega (arith, cells (c .before .before .before .before .before))
 
 slice-aggregate-play-all-2 : tie.Need-slice-aggregate-play-all-2
 slice-aggregate-play-all-2 c =
-    let begun = start (c .before .before .before .before .before .before .before .before) in
+    let at-start = c .before .before .before .before .before .before .before .before in
+    let begun = start at-start in
     sym (length-take-le _ (begun .args .taps .now) (omega (arith, filters begun, taps-long _ _ (begun .pre .1 .1) (begun .pre .0))))
 
 array-borrow-prefix-rings : tie.Need-array-borrow-prefix-rings
-array-borrow-prefix-rings c = omega (arith, cells (c .before .before .before .before .before .before .before .before))
+array-borrow-prefix-rings c =
+    let at-cells = c .before .before .before .before .before .before .before .before in
+    omega (arith, cells at-cells)
 
 slice-aggregate-play-all-3 : tie.Need-slice-aggregate-play-all-3
 slice-aggregate-play-all-3 c =

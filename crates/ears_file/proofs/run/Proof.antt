@@ -14,7 +14,9 @@ returns c =
     bank-refused _ _ (read .ensures) (length-replicate 8192 zero-float) (test .if1 .taken) _ _ (c .before .refused-bank .ensures) (c .done .ensures)
 
 play-with-requires : tie.Need-play-with-requires
-play-with-requires c κs = let test = c .before .before .before .before in (test .if1 .left, (_, test .before .before .before .before .before .before .read-bank .ensures))
+play-with-requires c κs =
+    let before-2 = c .before .before .before .before in
+    let test = before-2 in (test .if1 .left, (_, test .before .before .before .before .before .before .read-bank .ensures))
 
 returns-4 : tie.Need-returns-4
 returns-4 c =

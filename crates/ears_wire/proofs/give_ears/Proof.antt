@@ -11,10 +11,15 @@ use Rattle.ears_wire.proofs.give_ears.Tie as tie
 
 returns : tie.Need-returns
 returns c =
-    let a = c .before .before .before .before .before .before .before .before .before .before .before .before .args in
+    let at-put-f322 = c .before .before in
+    let at-put-f32 = at-put-f322 .before .before .before .before in
+    let at-sample2 = at-put-f32 .before .before in
+    let at-sample = at-sample2 .before in
+    let start = at-sample .before .before .before in
+    let a = start .args in
     both-stored (now (a .out)) _ _ (a .n * 8) _ _ (omega arith)
-    (c .before .before .before .before .before .before .put-f32 .ensures ∙ ap (withFloat _ _) (c .before .before .before .before .before .before .before .before .before .sample .ensures))
-    (c .before .before .put-f322 .ensures ∙ ap (withFloat _ _) (c .before .before .before .before .before .before .before .before .sample2 .ensures))
+    (at-put-f32 .put-f32 .ensures ∙ ap (withFloat _ _) (at-sample .sample .ensures))
+    (at-put-f322 .put-f322 .ensures ∙ ap (withFloat _ _) (at-sample2 .sample2 .ensures))
 
 pub give-ears-spec : {M : Type 1} → statement M
 give-ears-spec =

@@ -21,15 +21,20 @@ loop-holds c = let a = c .before .before .args in (omega arith, giving-none (now
 
 give-ears-requires : tie.Need-give-ears-requires Inv-loop μ-loop
 give-ears-requires c κs =
-    let a = c .before .before .before .before .before .args in
-    let at = c .before .before .loop in
+    let at-loop = c .before .before in
+    let start = at-loop .before .before .before in
+    let a = start .args in
+    let at = at-loop .loop in
     omega (arith, giving-long (now (a .ears)) (a .stride) (now (a .out)) (at .n) (at .out) (omega arith) (at .inv .1))
 
 loop-again : tie.Need-loop-again Inv-loop μ-loop
 loop-again c =
-    let a = c .before .before .before .before .before .before .before .before .args in
-    let at = c .before .before .before .before .before .loop in
-    (omega arith, giving-more (now (a .ears)) (a .stride) (now (a .out)) (at .n) (at .out) _ (omega arith) (at .inv .1) (c .before .before .give-ears .ensures))
+    let at-give-ears = c .before .before in
+    let at-loop = at-give-ears .before .before .before in
+    let start = at-loop .before .before .before in
+    let a = start .args in
+    let at = at-loop .loop in
+    (omega arith, giving-more (now (a .ears)) (a .stride) (now (a .out)) (at .n) (at .out) _ (omega arith) (at .inv .1) (at-give-ears .give-ears .ensures))
 
 same-length : tie.Need-same-length Inv-loop μ-loop
 same-length c =

@@ -25,14 +25,20 @@ loop-holds c = let a = c .before .before .args in sampling-none (now (a .inputs)
 
 loop-again : tie.Need-loop-again Inv-loop μ-loop
 loop-again c =
-    let a = c .before .before .before .before .before .before .before .before .before .args in
-    let at = c .before .before .before .before .before .before .loop in
-    sampling-more (now (a .inputs)) (a .stride) (a .n) 6 (channel (now (a .bytes))) (at .inputs) (at .c) (at .inv) _ _ (c .before .before .before .before .before .loop-test .taken) (c .before .before .before .before .get-f32 .ensures) (c .before .before .put-sample .ensures)
+    let at-put-sample = c .before .before in
+    let at-get-f32 = at-put-sample .before .before in
+    let at-loop-test = at-get-f32 .before in
+    let at-loop = at-loop-test .before in
+    let start = at-loop .before .before .before in
+    let a = start .args in
+    let at = at-loop .loop in
+    sampling-more (now (a .inputs)) (a .stride) (a .n) 6 (channel (now (a .bytes))) (at .inputs) (at .c) (at .inv) _ _ (at-loop-test .loop-test .taken) (at-get-f32 .get-f32 .ensures) (at-put-sample .put-sample .ensures)
 
 returns : tie.Need-returns Inv-loop μ-loop
 unfolding strided
 returns c =
-    let a = c .before .before .before .before .args in
+    let start = c .before .before .before .before in
+    let a = start .args in
     let at = c .before .loop in
     sampling-all (now (a .inputs)) (a .stride) (a .n) 6 (channel (now (a .bytes))) (at .inputs) (at .c) (at .inv) (c .loop-test .left)
 

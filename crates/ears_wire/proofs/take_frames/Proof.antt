@@ -48,9 +48,10 @@ loop-again c =
 
 returns : tie.Need-returns Inv-loop μ-loop
 returns c =
-    let a = c .before .before .before .before .args in
+    let start = c .before .before .before .before in
+    let a = start .args in
     let at = c .before .loop in
-    framing-all (now (a .inputs)) (a .stride) (wholeIn 24 (now (a .bytes))) (frame (now (a .bytes))) (at .inputs) (at .n) (at .inv) (omega (arith, c .before .before .before .before .pre, c .loop-test .left))
+    framing-all (now (a .inputs)) (a .stride) (wholeIn 24 (now (a .bytes))) (frame (now (a .bytes))) (at .inputs) (at .n) (at .inv) (omega (arith, start .pre, c .loop-test .left))
 
 pub take-frames-spec : {M : Type 1} → statement M
 take-frames-spec =

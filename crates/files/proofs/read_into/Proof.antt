@@ -20,7 +20,8 @@ negative-none (negsuc n) most e = refl
 
 returns : tie.Need-returns
 returns c =
-    let read = c .before .before .before .before .read in
+    let at-read = c .before .before .before .before in
+    let read = at-read .read in
     (search needs, λ f. c .count .ensures .1 ∙ negative-none (toZ w64 (ofZ w64 (read .result))) (length (read .last .1 .0)) f)
 
 pub read-into-spec : {M : Type 1} → statement M

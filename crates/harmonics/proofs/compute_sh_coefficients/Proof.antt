@@ -16,9 +16,10 @@ returns-2 c =
 
 returns-3 : tie.Need-returns-3
 returns-3 c =
-    let s = c .before .before .before in
+    let at-if2 = c .before .before in
+    let s = at-if2 .before in
     let o = s .before .before in
-    accepted-kept _ _ _ (sym (o .refuses-order .ensures) ∙ s .before .if1 .left) (sym (s .refuses-direction .ensures) ∙ c .before .before .if2 .left)
+    accepted-kept _ _ _ (sym (o .refuses-order .ensures) ∙ s .before .if1 .left) (sym (s .refuses-direction .ensures) ∙ at-if2 .if2 .left)
     (c .gains-of .ensures ∙ ap (gainsOf (o .before .args .order)) (c .before .waves-of .ensures))
 
 pub compute-sh-coefficients-spec : {M : Type 1} → statement M

@@ -7,7 +7,9 @@ use Rattle.harmonics.proofs.second_order.Tie as tie
 
 returns : tie.Need-returns
 unfolding upTo ofInt round ofBits
-returns c = rw (c .before .before .before .before .before .before .before .before .before .first-order .ensures)
+returns c =
+    let at-first-order = c .before .before .before .before .before .before .before .before .before in
+    rw (at-first-order .first-order .ensures)
 
 pub second-order-spec : {M : Type 1} → statement M
 second-order-spec =

@@ -19,10 +19,18 @@ loop-holds : tie.Need-loop-holds Inv-loop μ-loop
 loop-holds c = let a = c .args in passing-none (λ i. leb (a .rows) (getD (now (a .row-of)) i 0)) (a .speakers)
 
 returns : tie.Need-returns Inv-loop μ-loop
-returns c = let a = c .before .before .before .before .args in passing-found (λ i. leb (a .rows) (getD (now (a .row-of)) i 0)) (a .speakers) (c .before .before .before .loop .s) (c .before .before .before .loop .inv) (c .before .before .loop-test .taken) (le-leb _ _ (c .if1 .taken))
+returns c =
+    let at-loop-test = c .before .before in
+    let at-loop = at-loop-test .before in
+    let start = at-loop .before in
+    let a = start .args in passing-found (λ i. leb (a .rows) (getD (now (a .row-of)) i 0)) (a .speakers) (at-loop .loop .s) (at-loop .loop .inv) (at-loop-test .loop-test .taken) (le-leb _ _ (c .if1 .taken))
 
 loop-again : tie.Need-loop-again Inv-loop μ-loop
-loop-again c = let a = c .before .before .before .before .args in passing-more (λ i. leb (a .rows) (getD (now (a .row-of)) i 0)) (a .speakers) (c .before .before .before .loop .s) (c .before .before .before .loop .inv) (c .before .before .loop-test .taken) (lt-leb _ _ (c .if1 .left))
+loop-again c =
+    let at-loop-test = c .before .before in
+    let at-loop = at-loop-test .before in
+    let start = at-loop .before in
+    let a = start .args in passing-more (λ i. leb (a .rows) (getD (now (a .row-of)) i 0)) (a .speakers) (at-loop .loop .s) (at-loop .loop .inv) (at-loop-test .loop-test .taken) (lt-leb _ _ (c .if1 .left))
 
 returns-2 : tie.Need-returns-2 Inv-loop μ-loop
 returns-2 c = let a = c .before .before .args in passing-all (λ i. leb (a .rows) (getD (now (a .row-of)) i 0)) (a .speakers) (c .before .loop .s) (c .before .loop .inv) (c .loop-test .left)

@@ -14,9 +14,11 @@ rows-in c = sym (c .before .is-outside .ensures) ∙ c .if1 .left
 
 returns : tie.Need-returns
 returns c =
-    let a = c .before .before .before .before .args in
+    let at-is-outside = c .before .before in
+    let start = at-is-outside .before .before in
+    let a = start .args in
     no-rows (a .whose) (a .speakers) (a .channels) (now (a .azimuths)) (now (a .elevations)) (a .rows) (now (a .weights)) (now (a .row-of)) _
-    (sym (c .before .before .is-outside .ensures) ∙ c .before .if1 .taken) (c .unarranged .ensures)
+    (sym (at-is-outside .is-outside .ensures) ∙ c .before .if1 .taken) (c .unarranged .ensures)
 
 returns-2 : tie.Need-returns-2
 returns-2 c =
@@ -35,12 +37,13 @@ returns-3 c =
 
 returns-4 : tie.Need-returns-4
 returns-4 c =
-    let past-elevations = c .before .before .before in
+    let at-is-product = c .before .before in
+    let past-elevations = at-is-product .before in
     let past-azimuths = past-elevations .before in
     let past-rows = past-azimuths .before in
     let a = past-rows .before .before .before .args in
     no-weights (a .whose) (a .speakers) (a .channels) (now (a .azimuths)) (now (a .elevations)) (a .rows) (now (a .weights)) (now (a .row-of)) (rows-in past-rows) (past-azimuths .if2 .left)
-    (past-elevations .if3 .left) _ (ap not (sym (c .before .before .is-product .ensures)) ∙ c .before .if4 .taken) (c .unarranged4 .ensures)
+    (past-elevations .if3 .left) _ (ap not (sym (at-is-product .is-product .ensures)) ∙ c .before .if4 .taken) (c .unarranged4 .ensures)
 
 put-weights-requires : tie.Need-put-weights-requires
 put-weights-requires c κs = c .before .before .before .before .before .before .before .before .pre .1

@@ -24,23 +24,33 @@ loop-holds : tie.Need-loop-holds Inv-loop μ-loop
 loop-holds c = let a = c .args in choosing-none (a .whose) (a .speakers) (now (a .azimuths)) (now (a .elevations)) (a .rows) (now (a .row-of))
 
 element-write-row-of : tie.Need-element-write-row-of Inv-loop μ-loop
-element-write-row-of c = omega (arith, c .before .before .before .before .pre, c .before .before .loop-test .taken)
+element-write-row-of c =
+    let at-loop-test = c .before .before in
+    let at-pre = at-loop-test .before .before in
+    omega (arith, at-pre .pre, at-loop-test .loop-test .taken)
 
 add-s : tie.Need-add-s Inv-loop μ-loop
-add-s c = omega (arith, c .before .before .before .before .pre, c .before .before .loop-test .taken)
+add-s c =
+    let at-loop-test = c .before .before in
+    let at-pre = at-loop-test .before .before in
+    omega (arith, at-pre .pre, at-loop-test .loop-test .taken)
 
 loop-less : tie.Need-loop-less Inv-loop μ-loop
 loop-less c = omega (arith, c .before .before .loop-test .taken)
 
 loop-again : tie.Need-loop-again Inv-loop μ-loop
 loop-again c =
-    let a = c .before .before .before .before .args in
-    let l = c .before .before .before .loop in
-    let t = c .before .tenths .result in
+    let at-tenths = c .before in
+    let at-loop-test = at-tenths .before in
+    let at-loop = at-loop-test .before in
+    let start = at-loop .before in
+    let a = start .args in
+    let l = at-loop .loop in
+    let t = at-tenths .tenths .result in
     let given : c .nearest-row .result ≡ choiceOf (now (a .azimuths)) (now (a .elevations)) (a .rows) (toZ w16 (ofZ w16 t)) speakerElevation = c .nearest-row .ensures .bits in
-    let stands = held-16 (a .whose) (l .s) t (c .before .tenths .ensures) in
+    let stands = held-16 (a .whose) (l .s) t (at-tenths .tenths .ensures) in
     choosing-more (a .whose) (a .speakers) (now (a .azimuths)) (now (a .elevations)) (a .rows) (now (a .row-of)) (l .row-of) (l .s) (c .nearest-row .result .row) (l .inv)
-    (c .before .before .loop-test .taken) (ap (λ (r : Choice). r .row) (given ∙ ap (λ (p : ℤ). choiceOf (now (a .azimuths)) (now (a .elevations)) (a .rows) p speakerElevation) stands))
+    (at-loop-test .loop-test .taken) (ap (λ (r : Choice). r .row) (given ∙ ap (λ (p : ℤ). choiceOf (now (a .azimuths)) (now (a .elevations)) (a .rows) p speakerElevation) stands))
 
 returns : tie.Need-returns Inv-loop μ-loop
 returns c =

@@ -11,11 +11,17 @@ use Rattle.hrtf_setup.proofs.new_ambisonic.Statement.{statement}
 use Rattle.hrtf_setup.proofs.new_ambisonic.Tie as tie
 
 returns : tie.Need-returns
-returns c = let a = c .before .before .before .before .before .args in order-refused (a .order) (now (a .azimuths)) (now (a .elevations)) (a .rows) (now (a .weights)) (now (a .row-of)) _ (order-ill (a .order) _ (c .before .before .before .ambisonic-channel-count .ensures) (c .before .if1 .taken)) (c .unarranged .ensures)
+returns c =
+    let at-ambisonic-channel-count = c .before .before .before in
+    let start = at-ambisonic-channel-count .before .before in
+    let a = start .args in order-refused (a .order) (now (a .azimuths)) (now (a .elevations)) (a .rows) (now (a .weights)) (now (a .row-of)) _ (order-ill (a .order) _ (at-ambisonic-channel-count .ambisonic-channel-count .ensures) (c .before .if1 .taken)) (c .unarranged .ensures)
 
 -- past the test of the order
 order-in : (c : tie.Else1) → (refusesOrder (c .before .before .before .before .args .order) ≡ false) × (c .before .before .ambisonic-channel-count .result .channels ≡ channelsOfOrder (c .before .before .before .before .args .order))
-order-in c = order-well (c .before .before .before .before .args .order) _ (c .before .before .ambisonic-channel-count .ensures) (c .if1 .left)
+order-in c =
+    let at-ambisonic-channel-count = c .before .before in
+    let start = at-ambisonic-channel-count .before .before in
+    order-well (start .args .order) _ (at-ambisonic-channel-count .ambisonic-channel-count .ensures) (c .if1 .left)
 
 arrange-requires : tie.Need-arrange-requires
 arrange-requires c κs =
@@ -26,9 +32,10 @@ arrange-requires c κs =
 
 returns-2 : tie.Need-returns-2
 returns-2 c =
-    let past = c .before .before .before .before .before in
+    let at-arrange = c .before .before in
+    let past = at-arrange .before .before .before in
     let a = past .before .before .before .before .args in
-    order-arranged (a .order) (now (a .azimuths)) (now (a .elevations)) (a .rows) (now (a .weights)) (now (a .row-of)) _ (order-in past .0) (order-in past .1) _ (c .before .before .arrange .ensures)
+    order-arranged (a .order) (now (a .azimuths)) (now (a .elevations)) (a .rows) (now (a .weights)) (now (a .row-of)) _ (order-in past .0) (order-in past .1) _ (at-arrange .arrange .ensures)
 
 pub new-ambisonic-spec : {M : Type 1} → statement M
 new-ambisonic-spec =

@@ -10,7 +10,10 @@ use Rattle.hrtf_setup.proofs.new_surround.Statement.{statement}
 use Rattle.hrtf_setup.proofs.new_surround.Tie as tie
 
 returns : tie.Need-returns
-returns c = let a = c .before .before .before .before .args in layout-refused (a .layout) (now (a .azimuths)) (now (a .elevations)) (a .rows) (now (a .weights)) (now (a .row-of)) _ (ap not (sym (c .before .before .is-surround .ensures)) ∙ c .before .if1 .taken) (c .unarranged .ensures)
+returns c =
+    let at-is-surround = c .before .before in
+    let start = at-is-surround .before .before in
+    let a = start .args in layout-refused (a .layout) (now (a .azimuths)) (now (a .elevations)) (a .rows) (now (a .weights)) (now (a .row-of)) _ (ap not (sym (at-is-surround .is-surround .ensures)) ∙ c .before .if1 .taken) (c .unarranged .ensures)
 
 -- past the test of the layout
 offered : (c : tie.Else1) → not (surround (c .before .before .before .args .layout)) ≡ false
@@ -24,9 +27,10 @@ arrange-requires c κs = let n = c .before .before in few-of-layout (n .before .
 
 returns-2 : tie.Need-returns-2
 returns-2 c =
-    let n = c .before .before .before .before .before in
+    let at-arrange = c .before .before in
+    let n = at-arrange .before .before .before in
     let a = n .before .before .before .before .args in
-    layout-arranged (a .layout) (now (a .azimuths)) (now (a .elevations)) (a .rows) (now (a .weights)) (now (a .row-of)) (n .channel-count .result .channels) (offered (n .before)) (counts n) _ (c .before .before .arrange .ensures)
+    layout-arranged (a .layout) (now (a .azimuths)) (now (a .elevations)) (a .rows) (now (a .weights)) (now (a .row-of)) (n .channel-count .result .channels) (offered (n .before)) (counts n) _ (at-arrange .arrange .ensures)
 
 pub new-surround-spec : {M : Type 1} → statement M
 new-surround-spec =

@@ -38,8 +38,10 @@ loop-less c = omega (arith, c .before .loop-test .taken, c .before .before .loop
 
 loop-again : tie.Need-loop-again Inv-loop μ-loop
 loop-again c =
-    let a = c .before .before .before .before .args in
-    let l = c .before .before .loop in
+    let at-loop = c .before .before in
+    let start = at-loop .before .before in
+    let a = start .args in
+    let l = at-loop .loop in
     filling-more (weightAt (a .whose) (a .n)) (length (now (a .weights))) (now (a .weights)) (l .weights) (l .i) (c .weight .result) (l .inv) (omega (arith, c .before .loop-test .taken, l .inv .same)) (omega arith) (c .weight .ensures)
 
 same-length : tie.Need-same-length Inv-loop μ-loop
@@ -47,7 +49,8 @@ same-length c = c .before .loop .inv .same
 
 returns : tie.Need-returns Inv-loop μ-loop
 returns c =
-    let a = c .before .before .before .args in
+    let start = c .before .before .before in
+    let a = start .args in
     let l = c .before .loop in
     filling-whole (weightAt (a .whose) (a .n)) (length (now (a .weights))) (now (a .weights)) (l .weights) (l .i) (l .inv) (omega (arith, c .loop-test .left, l .inv .same)) refl
 

@@ -11,22 +11,33 @@ use Rattle.matrix.proofs.compute_matrix.Statement.{statement}
 use Rattle.matrix.proofs.compute_matrix.Tie as tie
 
 returns : tie.Need-returns
-returns c = let a = c .before .before .before .args in no-order (a .order) (now (a .weights)) (sym (c .before .refuses-order .ensures) ∙ c .if1 .taken)
+returns c =
+    let start = c .before .before .before in
+    let a = start .args in no-order (a .order) (now (a .weights)) (sym (c .before .refuses-order .ensures) ∙ c .if1 .taken)
 
 returns-2 : tie.Need-returns-2
 unfolding outcome rows hundredths round ofBits neg
-returns-2 c = of-order (now (c .before .before .before .before .before .before .before .before .before .before .args .weights)) _ (c .before .before .before .before .before .before .if2 .taken) (c .before .before .put-ears .ensures)
+returns-2 c =
+    let at-put-ears = c .before .before in
+    let at-if2 = at-put-ears .before .before .before .before in
+    let start = at-if2 .before .before .before .before in
+    of-order (now (start .args .weights)) _ (at-if2 .if2 .taken) (at-put-ears .put-ears .ensures)
 
 returns-3 : tie.Need-returns-3
 unfolding outcome rows hundredths round ofBits neg
-returns-3 c = of-order (now (c .before .before .before .before .before .before .before .before .before .before .before .args .weights)) _ (c .before .before .before .before .before .before .if3 .taken) (c .before .before .put-ears2 .ensures)
+returns-3 c =
+    let at-put-ears2 = c .before .before in
+    let at-if3 = at-put-ears2 .before .before .before .before in
+    let start = at-if3 .before .before .before .before .before in
+    of-order (now (start .args .weights)) _ (at-if3 .if3 .taken) (at-put-ears2 .put-ears2 .ensures)
 
 returns-4 : tie.Need-returns-4
 unfolding outcome rows hundredths round ofBits neg
 returns-4 c =
-    let past = c .before .before .before .before .before .before in
+    let at-put-ears3 = c .before .before in
+    let past = at-put-ears3 .before .before .before .before in
     let a = past .before .before .before .before .before .args in
-    of-order (now (a .weights)) _ (third-order (a .order) (sym (past .before .before .before .refuses-order .ensures) ∙ past .before .before .if1 .left) (past .before .if2 .left) (past .if3 .left)) (c .before .before .put-ears3 .ensures)
+    of-order (now (a .weights)) _ (third-order (a .order) (sym (past .before .before .before .refuses-order .ensures) ∙ past .before .before .if1 .left) (past .before .if2 .left) (past .if3 .left)) (at-put-ears3 .put-ears3 .ensures)
 
 pub compute-matrix-spec : {M : Type 1} → statement M
 compute-matrix-spec =

@@ -28,11 +28,13 @@ returns c =
 returns-2 : tie.Need-returns-2
 unfolding ofBits inverseRoot ofInt
 returns-2 c =
-    let n = c .before .before .before .args .n in
+    let at-if1 = c .before .before in
+    let start = at-if1 .before in
+    let n = start .args .n in
     record {
       bits =
           (λ i. record { refusal = 0; value = div binary64 (fin false 1 (pos 0)) ((ap (λ (v : Rooted). v .value) (c .root .ensures .bits) ∙ root-value (float (pos n))) i) })
-          ∙ sym (inverse-accepted n (c .before .before .if1 .left));
+          ∙ sym (inverse-accepted n (at-if1 .if1 .left));
       words = λ h r q. ap (λ (v : Rooted). div binary64 (fin false 1 (pos 0)) (v .value)) (c .root .ensures .bits ∙ sym (q .bits));
     }
 

@@ -42,7 +42,10 @@ aligned c =
     (c .if1 .came)
 
 returns : tie.Need-returns
-returns c = parted-of (c .before .before .before .args .bits) (c .before .before .if1 .digits) (c .before .before .if1 .e) (aligned (c .before .before))
+returns c =
+    let at-if1 = c .before .before in
+    let start = at-if1 .before in
+    parted-of (start .args .bits) (at-if1 .if1 .digits) (at-if1 .if1 .e) (aligned at-if1)
 
 pub parted-spec : {M : Type 1} → statement M
 parted-spec = tie.close (tie.spec add-digits (λ c. search needs) cast-z sub-digits shl-digits sub-e (λ c. search needs) returns)

@@ -38,10 +38,13 @@ add-root c = omega (arith, bound (c .before .before))
 
 loop-again : tie.Need-loop-again Inv-loop μ-loop
 loop-again c =
-    let l = c .before .before .loop in
-    let m = c .before .before .before .args .m in
-    ⊎-elim (λ w. rw (w .1, w .2) (one-digit m (l .left) (l .root) (l .rest) (l .i) (l .inv) (omega (arith, c .before .loop-test .taken)) (w .0 .taken)))
-    (λ w. rw (w .1, w .2) (no-digit m (l .left) (l .root) (l .rest) (l .i) (l .inv) (omega (arith, c .before .loop-test .taken)) (w .0 .left)))
+    let at-loop-test = c .before in
+    let at-loop = at-loop-test .before in
+    let start = at-loop .before in
+    let l = at-loop .loop in
+    let m = start .args .m in
+    ⊎-elim (λ w. rw (w .1, w .2) (one-digit m (l .left) (l .root) (l .rest) (l .i) (l .inv) (omega (arith, at-loop-test .loop-test .taken)) (w .0 .taken)))
+    (λ w. rw (w .1, w .2) (no-digit m (l .left) (l .root) (l .rest) (l .i) (l .inv) (omega (arith, at-loop-test .loop-test .taken)) (w .0 .left)))
     (c .if1 .came)
 
 returns : tie.Need-returns Inv-loop μ-loop

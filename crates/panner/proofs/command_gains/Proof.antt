@@ -8,16 +8,21 @@ use Rattle.panner.proofs.command_gains.Tie as tie
 returns : tie.Need-returns
 unfolding ofBits ofInt
 returns c =
-    let a = c .before .before .before .args in
-    let g = c .before .before .gains-of in
+    let at-gains-of = c .before .before in
+    let start = at-gains-of .before in
+    let a = start .args in
+    let g = at-gains-of .gains-of in
     gives-refused (a .command) (a .layout) (g .result) (g .ensures) (c .if1 .taken)
 
 returns-2 : tie.Need-returns-2
 returns-2 c =
-    let a = c .before .before .before .before .before .args in
-    let g = c .before .before .before .before .gains-of in
+    let at-if1 = c .before .before in
+    let at-gains-of = at-if1 .before .before in
+    let start = at-gains-of .before in
+    let a = start .args in
+    let g = at-gains-of .gains-of in
     let n = c .narrowed in
-    gives-gains (a .command) (a .layout) (g .result) (g .ensures) (c .before .before .if1 .left) (n .result) (n .ensures)
+    gives-gains (a .command) (a .layout) (g .result) (g .ensures) (at-if1 .if1 .left) (n .result) (n .ensures)
 
 pub command-gains-spec : {M : Type 1} → statement M
 command-gains-spec =

@@ -8,18 +8,24 @@ use Rattle.panner.proofs.gains_of.Tie as tie
 
 returns : tie.Need-returns
 returns c =
-    let a = c .before .before .before .before .args in
-    subst (λ (x : Command). Commands x (a .layout) (c .stereo-gains .result)) (sym (c .before .before .command .given .1)) (c .stereo-gains .ensures)
+    let at-command = c .before .before in
+    let start = at-command .before .before in
+    let a = start .args in
+    subst (λ (x : Command). Commands x (a .layout) (c .stereo-gains .result)) (sym (at-command .command .given .1)) (c .stereo-gains .ensures)
 
 returns-2 : tie.Need-returns-2
 returns-2 c =
-    let a = c .before .before .before .before .args in
-    subst (λ (x : Command). Commands x (a .layout) (c .surround-gains .result)) (sym (c .before .before .command2 .given .1)) (c .surround-gains .ensures)
+    let at-command2 = c .before .before in
+    let start = at-command2 .before .before in
+    let a = start .args in
+    subst (λ (x : Command). Commands x (a .layout) (c .surround-gains .result)) (sym (at-command2 .command2 .given .1)) (c .surround-gains .ensures)
 
 returns-3 : tie.Need-returns-3
 returns-3 c =
-    let a = c .before .before .before .before .args in
-    subst (λ (x : Command). Commands x (a .layout) (c .ambisonic-gains .result)) (sym (c .before .before .command3 .given .1)) (c .ambisonic-gains .ensures)
+    let at-command3 = c .before .before in
+    let start = at-command3 .before .before in
+    let a = start .args in
+    subst (λ (x : Command). Commands x (a .layout) (c .ambisonic-gains .result)) (sym (at-command3 .command3 .given .1)) (c .ambisonic-gains .ensures)
 
 pub gains-of-spec : {M : Type 1} → statement M
 gains-of-spec =

@@ -19,7 +19,8 @@ abbrev μ-loop : tie.MeasureT-loop
 
 loop-holds : tie.Need-loop-holds Inv-loop μ-loop
 loop-holds c =
-    let a = c .before .before .before .args in
+    let start = c .before .before .before in
+    let a = start .args in
     parting-none (now (a .out)) (a .stride) (a .from) (a .to) (λ k. panned (c .min .result) (a .gains) (sampleAt (now (a .input)) (a .stride) 0 k))
 
 pan-requires : tie.Need-pan-requires Inv-loop μ-loop
@@ -27,19 +28,27 @@ pan-requires c κs = omega (arith, c .before .before .before .before .min .ensur
 
 loop-again : tie.Need-loop-again Inv-loop μ-loop
 loop-again c =
-    let a = c .before .before .before .before .before .before .before .before .before .before .args in
-    let few = c .before .before .before .before .before .before .before .min .result in
-    let at = c .before .before .before .before .before .before .loop in
-    let x = c .before .before .before .sample in
-    parting-more (now (a .out)) (a .stride) (a .from) (a .to) (λ k. panned few (a .gains) (sampleAt (now (a .input)) (a .stride) 0 k)) (at .out) (at .n) (at .inv) (c .before .before .pan .last .0)
-    (omega (arith, c .before .before .before .before .before .loop-test .taken))
-    (c .before .before .pan .ensures ∙ ap (λ (y : Float). withFrame (at .out) (a .stride) (at .n) (panned few (a .gains) y)) (x .ensures))
+    let at-pan = c .before .before in
+    let at-sample = at-pan .before in
+    let at-loop-test = at-sample .before .before in
+    let at-loop = at-loop-test .before in
+    let at-min = at-loop .before in
+    let start = at-min .before .before .before in
+    let a = start .args in
+    let few = at-min .min .result in
+    let at = at-loop .loop in
+    let x = at-sample .sample in
+    parting-more (now (a .out)) (a .stride) (a .from) (a .to) (λ k. panned few (a .gains) (sampleAt (now (a .input)) (a .stride) 0 k)) (at .out) (at .n) (at .inv) (at-pan .pan .last .0)
+    (omega (arith, at-loop-test .loop-test .taken))
+    (at-pan .pan .ensures ∙ ap (λ (y : Float). withFrame (at .out) (a .stride) (at .n) (panned few (a .gains) y)) (x .ensures))
 
 returns : tie.Need-returns Inv-loop μ-loop
 returns c =
-    let a = c .before .before .before .before .before .args in
+    let at-min = c .before .before in
+    let start = at-min .before .before .before in
+    let a = start .args in
     let at = c .before .loop in
-    let few = c .before .before .min in
+    let few = at-min .min in
     parting-all (now (a .out)) (a .stride) (a .from) (a .to) (λ k. panned (few .result) (a .gains) (sampleAt (now (a .input)) (a .stride) 0 k)) (at .out) (at .n) (at .inv) (c .loop-test .left)
     ∙ ap (λ (m : ℕ). withFrames (now (a .out)) (a .stride) (a .from) (tab (a .from) (a .to - a .from) (λ k. panned m (a .gains) (sampleAt (now (a .input)) (a .stride) 0 k)))) (few .ensures)
 

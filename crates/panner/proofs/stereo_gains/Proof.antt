@@ -11,24 +11,34 @@ use Rattle.panner.proofs.stereo_gains.Tie as tie
 
 returns : tie.Need-returns
 returns c =
-    let a = c .before .before .before .args in
+    let at-is-bad-layout = c .before .before in
+    let start = at-is-bad-layout .before in
+    let a = start .args in
     let r = c .refused in
-    refused (Stereo (a .position)) (a .layout) (r .result) 2 (lit< tt) (r .ensures) (cond-true 2 _ (sym (c .before .before .is-bad-layout .ensures) ∙ c .before .if1 .taken))
+    refused (Stereo (a .position)) (a .layout) (r .result) 2 (lit< tt) (r .ensures) (cond-true 2 _ (sym (at-is-bad-layout .is-bad-layout .ensures) ∙ c .before .if1 .taken))
 
 returns-2 : tie.Need-returns-2
 returns-2 c =
-    let a = c .before .before .before .before .before .before .args in
+    let at-calculate-stereo-gains = c .before .before .before in
+    let at-if1 = at-calculate-stereo-gains .before in
+    let at-is-bad-layout = at-if1 .before in
+    let start = at-is-bad-layout .before in
+    let a = start .args in
     let r = c .refused2 in
-    let s = c .before .before .before .calculate-stereo-gains in
+    let s = at-calculate-stereo-gains .calculate-stereo-gains in
     refused (Stereo (a .position)) (a .layout) (r .result) 3 (lit< tt) (r .ensures)
-    (stereo-refused (a .layout) (a .position) (s .result) (s .ensures) (sym (c .before .before .before .before .before .is-bad-layout .ensures) ∙ c .before .before .before .before .if1 .left) (c .before .if2 .taken))
+    (stereo-refused (a .layout) (a .position) (s .result) (s .ensures) (sym (at-is-bad-layout .is-bad-layout .ensures) ∙ at-if1 .if1 .left) (c .before .if2 .taken))
 
 returns-3 : tie.Need-returns-3
 unfolding ofBits ofInt
 returns-3 c =
-    let a = c .before .before .before .before .before .args in
-    let s = c .before .before .calculate-stereo-gains in
-    stereo-accepted (a .layout) (a .position) (s .result) (s .ensures) _ (sym (c .before .before .before .before .is-bad-layout .ensures) ∙ c .before .before .before .if1 .left) (c .if2 .left) refl
+    let at-calculate-stereo-gains = c .before .before in
+    let at-if1 = at-calculate-stereo-gains .before in
+    let at-is-bad-layout = at-if1 .before in
+    let start = at-is-bad-layout .before in
+    let a = start .args in
+    let s = at-calculate-stereo-gains .calculate-stereo-gains in
+    stereo-accepted (a .layout) (a .position) (s .result) (s .ensures) _ (sym (at-is-bad-layout .is-bad-layout .ensures) ∙ at-if1 .if1 .left) (c .if2 .left) refl
 
 pub stereo-gains-spec : {M : Type 1} → statement M
 stereo-gains-spec =

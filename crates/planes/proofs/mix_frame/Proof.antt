@@ -18,7 +18,8 @@ abbrev μ-loop : tie.MeasureT-loop
 
 loop-holds : tie.Need-loop-holds Inv-loop μ-loop
 loop-holds c =
-    let a = c .before .before .before .args in
+    let start = c .before .before .before in
+    let a = start .args in
     judging-none (now (a .out)) (a .out-stride) (a .out-frame) (a .outputs) (output (now (a .weights)) (a .channels) (now (a .inputs)) (a .stride) (a .frame))
 
 loop-again : tie.Need-loop-again Inv-loop μ-loop
@@ -40,8 +41,10 @@ loop-again c =
 
 returns : tie.Need-returns Inv-loop μ-loop
 returns c =
-    let a = c .before .before .before .before .before .args in
-    judging-all (now (a .out)) (a .out-stride) (a .out-frame) (a .outputs) (output (now (a .weights)) (a .channels) (now (a .inputs)) (a .stride) (a .frame)) (c .before .loop .out) (c .before .loop .damaged) (c .before .loop .o) (c .before .loop .inv) (c .loop-test .left)
+    let at-loop = c .before in
+    let start = at-loop .before .before .before .before in
+    let a = start .args in
+    judging-all (now (a .out)) (a .out-stride) (a .out-frame) (a .outputs) (output (now (a .weights)) (a .channels) (now (a .inputs)) (a .stride) (a .frame)) (at-loop .loop .out) (at-loop .loop .damaged) (at-loop .loop .o) (at-loop .loop .inv) (c .loop-test .left)
 
 pub mix-frame-spec : {M : Type 1} → statement M
 mix-frame-spec =

@@ -9,16 +9,24 @@ returns-2 : tie.Need-returns-2
 returns-2 c = let a = c .before .before .args in omega (arith, one-place (a .size) (a .stride) (a .plane) (a .frame) (c .if2 .taken))
 
 returns-3 : tie.Need-returns-3
-returns-3 c = let a = c .before .before .before .args in omega (arith, beyond (a .size) (a .stride) (a .plane) (a .frame) (omega arith) (omega arith) (c .if3 .taken))
+returns-3 c =
+    let start = c .before .before .before in
+    let a = start .args in omega (arith, beyond (a .size) (a .stride) (a .plane) (a .frame) (omega arith) (omega arith) (c .if3 .taken))
 
 mul-result : tie.Need-mul-result
-mul-result c = let a = c .before .before .before .args in omega (arith, within (a .size) (a .stride) (a .plane) (a .frame) (omega arith) (omega arith) (c .if3 .left))
+mul-result c =
+    let start = c .before .before .before in
+    let a = start .args in omega (arith, within (a .size) (a .stride) (a .plane) (a .frame) (omega arith) (omega arith) (c .if3 .left))
 
 add-result : tie.Need-add-result
-add-result c = let a = c .before .before .before .args in omega (arith, within (a .size) (a .stride) (a .plane) (a .frame) (omega arith) (omega arith) (c .if3 .left))
+add-result c =
+    let start = c .before .before .before in
+    let a = start .args in omega (arith, within (a .size) (a .stride) (a .plane) (a .frame) (omega arith) (omega arith) (c .if3 .left))
 
 returns-4 : tie.Need-returns-4
-returns-4 c = let a = c .before .before .before .args in omega (arith, within (a .size) (a .stride) (a .plane) (a .frame) (omega arith) (omega arith) (c .if3 .left))
+returns-4 c =
+    let start = c .before .before .before in
+    let a = start .args in omega (arith, within (a .size) (a .stride) (a .plane) (a .frame) (omega arith) (omega arith) (c .if3 .left))
 
 pub place-spec : {M : Type 1} → statement M
 place-spec =

@@ -11,7 +11,9 @@ returns : tie.Need-returns
 returns c = set-min (now (c .before .before .before .args .xs)) _ _ _ (c .before .place .ensures)
 
 returns-2 : tie.Need-returns-2
-returns-2 c = let a = c .before .before .before .args in sym (set-out (now (a .xs)) _ (a .x) (c .if1 .left)) ∙ set-min (now (a .xs)) _ _ (a .x) (c .before .place .ensures)
+returns-2 c =
+    let start = c .before .before .before in
+    let a = start .args in sym (set-out (now (a .xs)) _ (a .x) (c .if1 .left)) ∙ set-min (now (a .xs)) _ _ (a .x) (c .before .place .ensures)
 
 pub put-sample-spec : {M : Type 1} → statement M
 put-sample-spec =

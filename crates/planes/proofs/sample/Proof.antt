@@ -9,11 +9,16 @@ use Rattle.planes.proofs.sample.Statement.{statement}
 use Rattle.planes.proofs.sample.Tie as tie
 
 returns : tie.Need-returns
-returns c = getD-min (now (c .before .before .before .before .args .xs)) _ _ nan (c .before .before .place .ensures)
+returns c =
+    let at-place = c .before .before in
+    let start = at-place .before .before in
+    getD-min (now (start .args .xs)) _ _ nan (at-place .place .ensures)
 
 returns-2 : tie.Need-returns-2
 unfolding ofBits div
-returns-2 c = sym (List·getD-eq-default (now (c .before .before .before .args .xs)) nan (c .if1 .left)) ∙ getD-min (now (c .before .before .before .args .xs)) _ _ nan (c .before .place .ensures)
+returns-2 c =
+    let start = c .before .before .before in
+    sym (List·getD-eq-default (now (start .args .xs)) nan (c .if1 .left)) ∙ getD-min (now (start .args .xs)) _ _ nan (c .before .place .ensures)
 
 pub sample-spec : {M : Type 1} → statement M
 sample-spec =

@@ -9,7 +9,9 @@ slice-aggregate-read-full-2 : tie.Need-slice-aggregate-read-full-2
 slice-aggregate-read-full-2 c = simp length-take (omega arith)
 
 slice-aggregate-answer : tie.Need-slice-aggregate-answer
-slice-aggregate-answer c = simp (length-take, length-append, length-drop) (omega (arith, simp length-take at (c .before .before .before .before .read-full2 .kept .1 .0)))
+slice-aggregate-answer c =
+    let at-read-full2 = c .before .before .before .before in
+    simp (length-take, length-append, length-drop) (omega (arith, simp length-take at (at-read-full2 .read-full2 .kept .1 .0)))
 
 pub one-spec : {M : Type 1} → statement M
 one-spec =

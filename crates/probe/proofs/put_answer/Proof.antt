@@ -7,19 +7,34 @@ use Rattle.probe.proofs.put_answer.Statement.{statement}
 use Rattle.probe.proofs.put_answer.Tie as tie
 
 returns : tie.Need-returns
-returns c = c .before .before .answer .ensures ∙ of-planes _ _ _ (c .before .before .before .before .match .keys1)
+returns c =
+    let at-answer = c .before .before in
+    let at-match = at-answer .before .before in
+    at-answer .answer .ensures ∙ of-planes _ _ _ (at-match .match .keys1)
 
 returns-2 : tie.Need-returns-2
-returns-2 c = c .before .before .answer2 .ensures ∙ of-matrix _ _ _ (c .before .before .before .before .match .keys2)
+returns-2 c =
+    let at-answer2 = c .before .before in
+    let at-match = at-answer2 .before .before in
+    at-answer2 .answer2 .ensures ∙ of-matrix _ _ _ (at-match .match .keys2)
 
 returns-3 : tie.Need-returns-3
-returns-3 c = c .before .before .answer3 .ensures ∙ of-script _ _ _ (c .before .before .before .before .match .keys3)
+returns-3 c =
+    let at-answer3 = c .before .before in
+    let at-match = at-answer3 .before .before in
+    at-answer3 .answer3 .ensures ∙ of-script _ _ _ (at-match .match .keys3)
 
 returns-4 : tie.Need-returns-4
-returns-4 c = c .before .before .answer4 .ensures ∙ of-replay _ _ _ (c .before .before .before .before .match .keys4)
+returns-4 c =
+    let at-answer4 = c .before .before in
+    let at-match = at-answer4 .before .before in
+    at-answer4 .answer4 .ensures ∙ of-replay _ _ _ (at-match .match .keys4)
 
 returns-5 : tie.Need-returns-5
-returns-5 c = c .before .before .answer5 .ensures ∙ of-sum _ _ _ (c .before .before .before .before .match .keys5)
+returns-5 c =
+    let at-answer5 = c .before .before in
+    let at-match = at-answer5 .before .before in
+    at-answer5 .answer5 .ensures ∙ of-sum _ _ _ (at-match .match .keys5)
 
 returns-6 : tie.Need-returns-6
 returns-6 c = c .before .before .answer6 .ensures ∙ of-numbers _ _ _ (omega arith) (omega arith)

@@ -9,7 +9,10 @@ slice-aggregate-read-full : tie.Need-slice-aggregate-read-full
 slice-aggregate-read-full c = simp length-take (omega arith)
 
 sub-result : tie.Need-sub-result
-sub-result c = omega (arith, c .before .before .read-full .ensures .0, c .before .before .read-full .kept .1 .0, length-take (c .before .before .before .before .before .before .args .left) (c .before .before .before .before .before .before .args .args .now))
+sub-result c =
+    let at-read-full = c .before .before in
+    let start = at-read-full .before .before .before .before in
+    omega (arith, at-read-full .read-full .ensures .0, at-read-full .read-full .kept .1 .0, length-take (start .args .left) (start .args .args .now))
 
 pub skip-some-spec : {M : Type 1} → statement M
 skip-some-spec =

@@ -7,13 +7,22 @@ use Rattle.probe.proofs.write_answer.Statement.{statement}
 use Rattle.probe.proofs.write_answer.Tie as tie
 
 slice-reshare-prefix-write-all : tie.Need-slice-reshare-prefix-write-all
-slice-reshare-prefix-write-all c = omega (arith, c .before .before .put .kept .0, length-set (c .before .before .before .before .before .before .before .args .out .now) 0 (c .before .before .before .before .before .before .before .args .operation))
+slice-reshare-prefix-write-all c =
+    let at-put = c .before .before in
+    let start = at-put .before .before .before .before .before in
+    omega (arith, at-put .put .kept .0, length-set (start .args .out .now) 0 (start .args .operation))
 
 slice-aggregate-write-all : tie.Need-slice-aggregate-write-all
-slice-aggregate-write-all c = simp length-take (omega (arith, c .before .before .before .put .kept .0, length-set (c .before .before .before .before .before .before .before .before .args .out .now) 0 (c .before .before .before .before .before .before .before .before .args .operation)))
+slice-aggregate-write-all c =
+    let at-put = c .before .before .before in
+    let start = at-put .before .before .before .before .before in
+    simp length-take (omega (arith, at-put .put .kept .0, length-set (start .args .out .now) 0 (start .args .operation)))
 
 same-length : tie.Need-same-length
-same-length c = c .before .before .before .before .put .kept .0 ∙ length-set (c .before .before .before .before .before .before .before .before .before .args .out .now) 0 (c .before .before .before .before .before .before .before .before .before .args .operation)
+same-length c =
+    let at-put = c .before .before .before .before in
+    let start = at-put .before .before .before .before .before in
+    at-put .put .kept .0 ∙ length-set (start .args .out .now) 0 (start .args .operation)
 
 pub write-answer-spec : {M : Type 1} → statement M
 write-answer-spec =

@@ -6,7 +6,10 @@ use Rattle.probe.proofs.write_malformed.Statement.{statement}
 use Rattle.probe.proofs.write_malformed.Tie as tie
 
 same-length : tie.Need-same-length
-same-length c = c .before .before .write-answer .kept .1 .1 .0 ∙ length-set (c .before .before .before .before .before .before .args .out .now) 5 (c .before .before .before .before .before .before .args .reason)
+same-length c =
+    let at-write-answer = c .before .before in
+    let start = at-write-answer .before .before .before .before in
+    at-write-answer .write-answer .kept .1 .1 .0 ∙ length-set (start .args .out .now) 5 (start .args .reason)
 
 pub write-malformed-spec : {M : Type 1} → statement M
 write-malformed-spec =

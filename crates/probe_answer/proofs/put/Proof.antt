@@ -30,8 +30,9 @@ add-result c = omega (arith, inside (c .before .before .before .before))
 
 returns-3 : tie.Need-returns-3
 returns-3 c =
-    let past = c .before .before .before .before in
-    field-all _ _ _ _ _ (past .before .before .if1 .left) (room past) (c .before .before .put .ensures)
+    let at-put = c .before .before in
+    let past = at-put .before .before in
+    field-all _ _ _ _ _ (past .before .before .if1 .left) (room past) (at-put .put .ensures)
 
 pub put-spec : {M : Type 1} → statement M
 put-spec =

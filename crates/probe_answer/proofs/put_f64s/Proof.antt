@@ -16,7 +16,11 @@ abbrev μ-loop : tie.MeasureT-loop
 
 loop-again : tie.Need-loop-again Inv-loop μ-loop
 unfolding withDouble
-loop-again c = let turn = c .before .before .before .before .before .before .loop in fields-more _ _ _ _ _ (turn .out) _ (turn .i) nan (omega arith) (turn .inv) (c .before .before .before .before .before .loop-test .taken) (c .before .before .put-f64 .ensures)
+loop-again c =
+    let at-put-f64 = c .before .before in
+    let at-loop-test = at-put-f64 .before .before .before in
+    let at-loop = at-loop-test .before in
+    let turn = at-loop .loop in fields-more _ _ _ _ _ (turn .out) _ (turn .i) nan (omega arith) (turn .inv) (at-loop-test .loop-test .taken) (at-put-f64 .put-f64 .ensures)
 
 -- what the loop's places and counts take is arithmetic
 pub put-f64s-spec : {M : Type 1} → statement M

@@ -21,10 +21,15 @@ abbrev μ-loop : tie.MeasureT-loop
 loop-again : tie.Need-loop-again Inv-loop μ-loop
 unfolding withSigned
 loop-again c =
-    let turn = c .before .before .before .before .before .before .loop in
-    let z = getD (c .before .before .before .before .before .before .before .before .before .before .args .list .now) (turn .i) (pos 0) in
-    let bits : ofZ w16 (toZ w16 (ofZ w16 z)) ≡ ofZ w16 z = ap (ofZ w16) (back w16 z (c .before .before .before .put-i16-arg2 .given)) in
-    fields-more _ _ _ _ _ (turn .out) _ (turn .i) (pos 0) (omega arith) (turn .inv) (c .before .before .before .before .before .loop-test .taken) (c .before .before .put-i16 .ensures ∙ ap (withField _ _ 2) bits)
+    let at-put-i16 = c .before .before in
+    let at-put-i16-arg2 = at-put-i16 .before in
+    let at-loop-test = at-put-i16-arg2 .before .before in
+    let at-loop = at-loop-test .before in
+    let start = at-loop .before .before .before .before in
+    let turn = at-loop .loop in
+    let z = getD (start .args .list .now) (turn .i) (pos 0) in
+    let bits : ofZ w16 (toZ w16 (ofZ w16 z)) ≡ ofZ w16 z = ap (ofZ w16) (back w16 z (at-put-i16-arg2 .put-i16-arg2 .given)) in
+    fields-more _ _ _ _ _ (turn .out) _ (turn .i) (pos 0) (omega arith) (turn .inv) (at-loop-test .loop-test .taken) (at-put-i16 .put-i16 .ensures ∙ ap (withField _ _ 2) bits)
 
 -- what the loop's places and counts take is arithmetic
 pub put-i16s-spec : {M : Type 1} → statement M

@@ -5,7 +5,11 @@ use Rattle.probe_answer.proofs.put_played.Statement.{statement}
 use Rattle.probe_answer.proofs.put_played.Tie as tie
 
 returns : tie.Need-returns
-returns c = behind _ (behind _ (c .before .before .before .before .before .before .before .before .before .before .put .ensures) (c .before .before .before .before .before .before .put2 .ensures)) (c .before .before .put-f32s .ensures)
+returns c =
+    let at-put-f32s = c .before .before in
+    let at-put2 = at-put-f32s .before .before .before .before in
+    let at-put = at-put2 .before .before .before .before in
+    behind _ (behind _ (at-put .put .ensures) (at-put2 .put2 .ensures)) (at-put-f32s .put-f32s .ensures)
 
 pub put-played-spec : {M : Type 1} → statement M
 put-played-spec =

@@ -7,7 +7,10 @@ use Rattle.probe_answer.proofs.put_refusal_and_f64s.Tie as tie
 
 returns : tie.Need-returns
 unfolding refusalAndDoubles
-returns c = behind _ (c .before .before .before .before .before .before .put .ensures) (c .before .before .put-f64s .ensures)
+returns c =
+    let at-put-f64s = c .before .before in
+    let at-put = at-put-f64s .before .before .before .before in
+    behind _ (at-put .put .ensures) (at-put-f64s .put-f64s .ensures)
 
 pub put-refusal-and-f64s-spec : {M : Type 1} → statement M
 put-refusal-and-f64s-spec =

@@ -13,7 +13,11 @@ abbrev μ-loop : tie.MeasureT-loop
 μ-loop list out₀ at i₀ out i = length list - i
 
 loop-again : tie.Need-loop-again Inv-loop μ-loop
-loop-again c = let turn = c .before .before .before .before .before .before .loop in fields-more _ _ _ _ _ (turn .out) _ (turn .i) 0 (omega arith) (turn .inv) (c .before .before .before .before .before .loop-test .taken) (c .before .before .put .ensures)
+loop-again c =
+    let at-put = c .before .before in
+    let at-loop-test = at-put .before .before .before in
+    let at-loop = at-loop-test .before in
+    let turn = at-loop .loop in fields-more _ _ _ _ _ (turn .out) _ (turn .i) 0 (omega arith) (turn .inv) (at-loop-test .loop-test .taken) (at-put .put .ensures)
 
 -- what the loop's places and counts take is arithmetic
 pub put-usizes-spec : {M : Type 1} → statement M

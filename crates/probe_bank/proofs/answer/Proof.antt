@@ -7,19 +7,34 @@ use Rattle.probe_bank.proofs.answer.Statement.{statement}
 use Rattle.probe_bank.proofs.answer.Tie as tie
 
 returns : tie.Need-returns
-returns c = chosen answerOf 6 (c .before .before .read .ensures) (c .before .before .before .before .match .keys1)
+returns c =
+    let at-read = c .before .before in
+    let at-match = at-read .before .before in
+    chosen answerOf 6 (at-read .read .ensures) (at-match .match .keys1)
 
 returns-2 : tie.Need-returns-2
-returns-2 c = chosen answerOf 7 (c .before .before .write .ensures) (c .before .before .before .before .match .keys2)
+returns-2 c =
+    let at-write = c .before .before in
+    let at-match = at-write .before .before in
+    chosen answerOf 7 (at-write .write .ensures) (at-match .match .keys2)
 
 returns-3 : tie.Need-returns-3
-returns-3 c = chosen answerOf 8 (c .before .before .choose .ensures) (c .before .before .before .before .match .keys3)
+returns-3 c =
+    let at-choose = c .before .before in
+    let at-match = at-choose .before .before in
+    chosen answerOf 8 (at-choose .choose .ensures) (at-match .match .keys3)
 
 returns-4 : tie.Need-returns-4
-returns-4 c = chosen answerOf 23 (c .before .before .turn .ensures) (c .before .before .before .before .match .keys4)
+returns-4 c =
+    let at-turn = c .before .before in
+    let at-match = at-turn .before .before in
+    chosen answerOf 23 (at-turn .turn .ensures) (at-match .match .keys4)
 
 returns-5 : tie.Need-returns-5
-returns-5 c = chosen answerOf 24 (c .before .before .turn2 .ensures) (c .before .before .before .before .match .keys5)
+returns-5 c =
+    let at-turn2 = c .before .before in
+    let at-match = at-turn2 .before .before in
+    chosen answerOf 24 (at-turn2 .turn2 .ensures) (at-match .match .keys5)
 
 returns-6 : tie.Need-returns-6
 returns-6 c = let others = c .match .rest in of-none _ _ _ (others .0 .0 .0 .0 .1) (others .0 .0 .0 .1) (others .0 .0 .1) (others .0 .1) (others .1)

@@ -8,7 +8,10 @@ use Rattle.probe_bank.proofs.choose.Statement.{statement}
 use Rattle.probe_bank.proofs.choose.Tie as tie
 
 choose-from-requires : tie.Need-choose-from-requires
-choose-from-requires c κs = (new-few (pos 0) (c .before .before .before .before .lent .result) 16, new-few (pos 0) (c .before .before .before .lent2 .result) 16)
+choose-from-requires c κs =
+    let at-lent2 = c .before .before .before in
+    let at-lent = at-lent2 .before in
+    (new-few (pos 0) (at-lent .lent .result) 16, new-few (pos 0) (at-lent2 .lent2 .result) 16)
 
 returns : tie.Need-returns
 returns c =

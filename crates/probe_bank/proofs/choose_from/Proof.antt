@@ -9,11 +9,14 @@ use Rattle.probe_bank.proofs.choose_from.Statement.{statement}
 use Rattle.probe_bank.proofs.choose_from.Tie as tie
 
 returns : tie.Need-returns
-returns c = let args = c .before .before .before .args in choice-misfit (now (args .args)) (now (args .azimuths)) (now (args .elevations)) (now (args .out)) (c .if1 .taken)
+returns c =
+    let start = c .before .before .before in
+    let args = start .args in choice-misfit (now (args .args)) (now (args .azimuths)) (now (args .elevations)) (now (args .out)) (c .if1 .taken)
 
 returns-2 : tie.Need-returns-2
 returns-2 c =
-    let after-nearest-row = c .before .before .before .before in
+    let at-put-refusal-and-number = c .before .before in
+    let after-nearest-row = at-put-refusal-and-number .before .before in
     let after-get-i162 = after-nearest-row .before .before .before in
     let after-get-i16 = after-get-i162 .before in
     let after-number = after-get-i16 .before in
@@ -25,7 +28,7 @@ returns-2 c =
     let elevation = after-get-i162 .get-i162 in
     choice-read (now (args .args)) (now (args .azimuths)) (now (args .elevations)) (now (args .out)) _ _ _ _ _ _ _ (past-if1 .if1 .left) (after-get-i16s .get-i16s .ensures)
     (after-get-i16s2 .get-i16s2 .ensures) (after-number .number .ensures) (back w16 (azimuth .result) (azimuth .ok) ∙ azimuth .ensures) (back w16 (elevation .result) (elevation .ok) ∙ elevation .ensures)
-    (after-nearest-row .nearest-row .ensures .bits) (c .before .before .put-refusal-and-number .ensures)
+    (after-nearest-row .nearest-row .ensures .bits) (at-put-refusal-and-number .put-refusal-and-number .ensures)
 
 pub choose-from-spec : {M : Type 1} → statement M
 choose-from-spec =

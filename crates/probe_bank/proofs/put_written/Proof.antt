@@ -8,9 +8,10 @@ use Rattle.probe_bank.proofs.put_written.Tie as tie
 returns : tie.Need-returns
 unfolding writeParts
 returns c =
-    let after-put = c .before .before .before .before .before .before in
+    let at-put-bytes = c .before .before in
+    let after-put = at-put-bytes .before .before .before .before in
     let after-first = after-put .before .before .before .before in
-    behind _ (behind _ (after-first .put-refusal-and-number .ensures) (after-put .put .ensures)) (c .before .before .put-bytes .ensures)
+    behind _ (behind _ (after-first .put-refusal-and-number .ensures) (after-put .put .ensures)) (at-put-bytes .put-bytes .ensures)
 
 pub put-written-spec : {M : Type 1} → statement M
 put-written-spec =

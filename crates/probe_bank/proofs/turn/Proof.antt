@@ -10,7 +10,10 @@ returns : tie.Need-returns
 returns c = turn-short _ _ _ (c .if1 .taken)
 
 turn-into-requires : tie.Need-turn-into-requires
-turn-into-requires c κs = (c .before .before .before .if1 .left, new-few 0 (c .before .before .lent .result) 33000)
+turn-into-requires c κs =
+    let at-lent = c .before .before in
+    let at-if1 = at-lent .before in
+    (at-if1 .if1 .left, new-few 0 (at-lent .lent .result) 33000)
 
 returns-2 : tie.Need-returns-2
 returns-2 c =

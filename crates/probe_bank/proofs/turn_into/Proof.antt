@@ -7,11 +7,12 @@ use Rattle.probe_bank.proofs.turn_into.Tie as tie
 
 returns : tie.Need-returns
 returns c =
-    let after-turned = c .before .before .before .before .before .before .before in
+    let at-put-written = c .before .before in
+    let after-turned = at-put-written .before .before .before .before .before in
     let after-fill-bytes = after-turned .before .before .before .before .before in
     let args = after-fill-bytes .before .before .before .before .before .args in
     turn-put (args .operation) (now (args .args)) (now (args .out)) _ _ _ _ _ (file-rest 2 (now (args .args))) (after-fill-bytes .fill-bytes .ensures) (after-turned .turned .ensures)
-    (c .before .before .put-written .ensures)
+    (at-put-written .put-written .ensures)
 
 pub turn-into-spec : {M : Type 1} → statement M
 turn-into-spec =

@@ -6,8 +6,9 @@ use Rattle.probe_bank.proofs.write_from.Tie as tie
 
 returns : tie.Need-returns
 returns c =
-    let after-write = c .before .before .before .before .before .before .before in
-    written _ _ _ _ _ _ (after-write .before .before .before .before .fill-bytes .ensures) (after-write .write .ensures) (c .before .before .put-written .ensures)
+    let at-put-written = c .before .before in
+    let after-write = at-put-written .before .before .before .before .before in
+    written _ _ _ _ _ _ (after-write .before .before .before .before .fill-bytes .ensures) (after-write .write .ensures) (at-put-written .put-written .ensures)
 
 pub write-from-spec : {M : Type 1} → statement M
 write-from-spec =

@@ -8,7 +8,8 @@ use Rattle.probe_bank.proofs.write_into.Tie as tie
 
 returns : tie.Need-returns
 returns c =
-    let args = c .before .before .before .before .before .args in
+    let start = c .before .before .before .before .before in
+    let args = start .args in
     write-misfit (now (args .args)) (now (args .azimuths)) (now (args .elevations)) (now (args .taps)) (length (now (args .file))) (now (args .out)) (c .if1 .taken)
 
 returns-2 : tie.Need-returns-2

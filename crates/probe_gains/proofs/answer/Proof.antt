@@ -8,23 +8,38 @@ use Rattle.probe_gains.proofs.answer.Statement.{statement}
 use Rattle.probe_gains.proofs.answer.Tie as tie
 
 returns : tie.Need-returns
-returns c = c .before .before .matrix-over .ensures ∙ either _ _ _ (c .before .before .before .before .match .keys1)
+returns c =
+    let at-matrix-over = c .before .before in
+    let at-match = at-matrix-over .before .before in
+    at-matrix-over .matrix-over .ensures ∙ either _ _ _ (at-match .match .keys1)
 
 returns-2 : tie.Need-returns-2
 unfolding answerOf
-returns-2 c = chosen answerOf 10 (c .before .before .coefficients .ensures) (c .before .before .before .before .match .keys2)
+returns-2 c =
+    let at-coefficients = c .before .before in
+    let at-match = at-coefficients .before .before in
+    chosen answerOf 10 (at-coefficients .coefficients .ensures) (at-match .match .keys2)
 
 returns-3 : tie.Need-returns-3
 unfolding answerOf
-returns-3 c = chosen answerOf 11 (c .before .before .weighted .ensures) (c .before .before .before .before .match .keys3)
+returns-3 c =
+    let at-weighted = c .before .before in
+    let at-match = at-weighted .before .before in
+    chosen answerOf 11 (at-weighted .weighted .ensures) (at-match .match .keys3)
 
 returns-4 : tie.Need-returns-4
 unfolding answerOf
-returns-4 c = chosen answerOf 12 (c .before .before .stereo .ensures) (c .before .before .before .before .match .keys4)
+returns-4 c =
+    let at-stereo = c .before .before in
+    let at-match = at-stereo .before .before in
+    chosen answerOf 12 (at-stereo .stereo .ensures) (at-match .match .keys4)
 
 returns-5 : tie.Need-returns-5
 unfolding answerOf
-returns-5 c = chosen answerOf 13 (c .before .before .surround .ensures) (c .before .before .before .before .match .keys5)
+returns-5 c =
+    let at-surround = c .before .before in
+    let at-match = at-surround .before .before in
+    chosen answerOf 13 (at-surround .surround .ensures) (at-match .match .keys5)
 
 returns-6 : tie.Need-returns-6
 returns-6 c = let others = c .match .rest in not-chosen _ _ _ (others .0 .0 .0 .0 .1) (others .0 .0 .0 .1) (others .0 .0 .1) (others .0 .1) (others .1)

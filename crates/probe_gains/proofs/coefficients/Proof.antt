@@ -17,11 +17,12 @@ returns c = untaken 24 _ _ _ (c .if1 .taken)
 returns-2 : tie.Need-returns-2
 unfolding harmonicsAnswer
 returns-2 c =
-    let called = c .before .before .before .before .before .before in
+    let at-put-refusal-and-f64s = c .before .before in
+    let called = at-put-refusal-and-f64s .before .before .before .before in
     let a = called .before .before .before .before .before .before .args in
     answered (λ (r : Coefficients). refusalAndDoubles (r .refusal) (r .gains) (now (a .out))) 24 (now (a .args)) _ (called .before .before .before .if1 .left)
     (called .compute-sh-coefficients .ensures .bits ∙ (λ i. outcome (called .before .before .number .ensures i) (called .before .direction .ensures i)))
-    (c .before .before .put-refusal-and-f64s .ensures)
+    (at-put-refusal-and-f64s .put-refusal-and-f64s .ensures)
 
 pub coefficients-spec : {M : Type 1} → statement M
 coefficients-spec =

@@ -21,7 +21,8 @@ returns c = untaken (19 + 8 * length (now (c .before .before .before .before .ar
 returns-2 : tie.Need-returns-2
 unfolding decoderAnswer
 returns-2 c =
-    let called = c .before .before .before .before .before .before .before in
+    let at-put-refusal-and-f64s = c .before .before in
+    let called = at-put-refusal-and-f64s .before .before .before .before .before in
     let placed = called .before .before in
     let read = placed .before .before .before .before .before .before in
     let right = read .before .before .if1 .left in
@@ -30,7 +31,7 @@ returns-2 c =
     let weights = inside doubleAt 8 (now (a .args)) 19 (now (a .weights)) _ (read .get-f64s .ensures) (omega (arith, right)) in
     answered (λ (r : WeightsAnswer). refusalAndDoubles (r .refusal) (r .weights) (now (a .out))) (19 + 8 * length (now (a .weights))) (now (a .args)) _ right
     (called .compute-decoder-matrix .ensures .bits ∙ (λ i. outcome (placed .before .before .before .number .ensures i) (layout i) (weights i)))
-    (c .before .before .put-refusal-and-f64s .ensures)
+    (at-put-refusal-and-f64s .put-refusal-and-f64s .ensures)
 
 pub decoder-matrix-spec : {M : Type 1} → statement M
 decoder-matrix-spec =

@@ -6,10 +6,16 @@ use Rattle.probe_gains.proofs.matrix.Statement.{statement}
 use Rattle.probe_gains.proofs.matrix.Tie as tie
 
 returns : tie.Need-returns
-returns c = c .before .before .before .before .rows .ensures ∙ first _ _ _ _ (c .before .before .before .before .before .before .before .if1 .taken)
+returns c =
+    let at-rows = c .before .before .before .before in
+    let at-if1 = at-rows .before .before .before in
+    at-rows .rows .ensures ∙ first _ _ _ _ (at-if1 .if1 .taken)
 
 returns-2 : tie.Need-returns-2
-returns-2 c = c .before .before .before .before .decoder-matrix .ensures ∙ second _ _ _ _ (c .before .before .before .before .before .before .before .if1 .left)
+returns-2 c =
+    let at-decoder-matrix = c .before .before .before .before in
+    let at-if1 = at-decoder-matrix .before .before .before in
+    at-decoder-matrix .decoder-matrix .ensures ∙ second _ _ _ _ (at-if1 .if1 .left)
 
 pub matrix-spec : {M : Type 1} → statement M
 matrix-spec =

@@ -11,9 +11,12 @@ use Rattle.probe_gains.proofs.matrix_over.Tie as tie
 
 returns : tie.Need-returns
 returns c =
-    let a = c .before .before .before .before .before .before .before .before .before .args in
-    c .before .before .before .matrix .ensures
-    ∙ ap (λ (w : ℕ). matrixAnswer (a .operation) w (now (a .args)) (now (a .out))) (lent-length _ _ _ (c .before .before .before .before .before .before .lent .ensures))
+    let at-matrix = c .before .before .before in
+    let at-lent = at-matrix .before .before .before in
+    let start = at-lent .before .before .before in
+    let a = start .args in
+    at-matrix .matrix .ensures
+    ∙ ap (λ (w : ℕ). matrixAnswer (a .operation) w (now (a .args)) (now (a .out))) (lent-length _ _ _ (at-lent .lent .ensures))
 
 pub matrix-over-spec : {M : Type 1} → statement M
 matrix-over-spec =

@@ -21,14 +21,15 @@ returns c = untaken (10 + 8 * length (now (c .before .before .before .before .ar
 returns-2 : tie.Need-returns-2
 unfolding rowsAnswer
 returns-2 c =
-    let called = c .before .before .before .before .before .before .before in
+    let at-put-refusal-and-f64s = c .before .before in
+    let called = at-put-refusal-and-f64s .before .before .before .before .before in
     let read = called .before .before .before .before .before in
     let right = read .before .before .if1 .left in
     let a = read .before .before .before .before .before .before .args in
     let weights = inside doubleAt 8 (now (a .args)) 10 (now (a .weights)) _ (read .get-f64s .ensures) (omega (arith, right)) in
     answered (λ (r : WeightsAnswer). refusalAndDoubles (r .refusal) (r .weights) (now (a .out))) (10 + 8 * length (now (a .weights))) (now (a .args)) _ right
     (called .compute-matrix .ensures ∙ (λ i. outcome (called .before .before .number .ensures i) (weights i)))
-    (c .before .before .put-refusal-and-f64s .ensures)
+    (at-put-refusal-and-f64s .put-refusal-and-f64s .ensures)
 
 pub rows-spec : {M : Type 1} → statement M
 rows-spec =

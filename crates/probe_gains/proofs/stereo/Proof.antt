@@ -18,11 +18,12 @@ returns c = untaken 8 _ _ _ (c .if1 .taken)
 returns-2 : tie.Need-returns-2
 unfolding stereoAnswer
 returns-2 c =
-    let called = c .before .before .before .before .before in
+    let at-put-refusal-and-f64s = c .before .before in
+    let called = at-put-refusal-and-f64s .before .before .before in
     let a = called .before .before .before .before .before .args in
     answered (λ (r : StereoGains). refusalAndDoubles (r .refusal) (r .left ∷ r .right ∷ []) (now (a .out))) 8 (now (a .args)) _ (called .before .before .if1 .left)
     (called .calculate-stereo-gains .ensures .bits ∙ ap outcome (called .before .get-f64 .ensures))
-    (c .before .before .put-refusal-and-f64s .ensures)
+    (at-put-refusal-and-f64s .put-refusal-and-f64s .ensures)
 
 pub stereo-spec : {M : Type 1} → statement M
 stereo-spec =

@@ -18,13 +18,14 @@ returns c = untaken 17 _ _ _ (c .if1 .taken)
 returns-2 : tie.Need-returns-2
 unfolding surroundAnswer
 returns-2 c =
-    let called = c .before .before .before .before .before .before in
+    let at-put-refusal-and-f64s = c .before .before in
+    let called = at-put-refusal-and-f64s .before .before .before .before in
     let placed = called .before .before in
     let a = placed .before .before .before .before .before .before .args in
     let layout = layout-read (now (a .args)) 0 _ _ _ (placed .layout .ensures) (placed .before .before .number .ensures) (placed .before .number2 .ensures) in
     answered (λ (r : SurroundGains). refusalAndDoubles (r .refusal) (r .gains) (now (a .out))) 17 (now (a .args)) _ (called .before .before .before .before .before .if1 .left)
     (called .calculate-vbap-gains .ensures .bits ∙ (λ i. outcome (layout i) (called .before .get-f64 .ensures i)))
-    (c .before .before .put-refusal-and-f64s .ensures)
+    (at-put-refusal-and-f64s .put-refusal-and-f64s .ensures)
 
 pub surround-spec : {M : Type 1} → statement M
 surround-spec =

@@ -9,15 +9,24 @@ use Rattle.probe_hrtf.proofs.answer.Tie as tie
 
 returns : tie.Need-returns
 unfolding answerOf
-returns c = chosen answerOf 17 (c .before .before .process .ensures) (c .before .before .before .before .match .keys1)
+returns c =
+    let at-process = c .before .before in
+    let at-match = at-process .before .before in
+    chosen answerOf 17 (at-process .process .ensures) (at-match .match .keys1)
 
 returns-2 : tie.Need-returns-2
 unfolding answerOf
-returns-2 c = chosen answerOf 18 (c .before .before .reset .ensures) (c .before .before .before .before .match .keys2)
+returns-2 c =
+    let at-reset = c .before .before in
+    let at-match = at-reset .before .before in
+    chosen answerOf 18 (at-reset .reset .ensures) (at-match .match .keys2)
 
 returns-3 : tie.Need-returns-3
 unfolding answerOf
-returns-3 c = chosen answerOf 25 (c .before .before .convolve .ensures) (c .before .before .before .before .match .keys3)
+returns-3 c =
+    let at-convolve = c .before .before in
+    let at-match = at-convolve .before .before in
+    chosen answerOf 25 (at-convolve .convolve .ensures) (at-match .match .keys3)
 
 returns-4 : tie.Need-returns-4
 unfolding answerOf

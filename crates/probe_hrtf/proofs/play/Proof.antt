@@ -8,7 +8,8 @@ use Rattle.probe_hrtf.proofs.play.Tie as tie
 
 returns : tie.Need-returns
 returns c =
-    let after-put-f32s = c .before .before .before .before .before .before .before in
+    let at-put-f32s2 = c .before .before in
+    let after-put-f32s = at-put-f32s2 .before .before .before .before .before in
     let after-put-counts = after-put-f32s .before .before .before .before .before in
     let after-process = after-put-counts .before .before .before .before .before .before in
     let after-number2 = after-process .before .before .before .before in
@@ -19,7 +20,7 @@ returns c =
     let a = after-eight .before .before .before .before .before .before .before .before .args in
     played (now (a .args)) (now (a .out)) (listed (now (a .inputs)) (now (a .weights)) (now (a .taps)) (now (a .rings)) (now (a .ears)))
     _ _ _ _ _ (after-shape .shape .ensures) (after-desk .desk .ensures) (after-number .number .ensures) (after-number2 .number2 .ensures) (after-eight .eight .ensures)
-    _ _ _ (after-process .process .ensures .bits) _ _ _ (after-put-counts .put-counts .ensures) (after-put-f32s .put-f32s .ensures) (c .before .before .put-f32s2 .ensures)
+    _ _ _ (after-process .process .ensures .bits) _ _ _ (after-put-counts .put-counts .ensures) (after-put-f32s .put-f32s .ensures) (at-put-f32s2 .put-f32s2 .ensures)
 
 pub play-spec : {M : Type 1} → statement M
 play-spec =

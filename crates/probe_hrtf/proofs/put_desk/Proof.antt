@@ -5,7 +5,10 @@ use Rattle.probe_hrtf.proofs.put_desk.Statement.{statement}
 use Rattle.probe_hrtf.proofs.put_desk.Tie as tie
 
 returns : tie.Need-returns
-returns c = behind _ (c .before .before .before .before .before .before .put .ensures) (c .before .before .put2 .ensures)
+returns c =
+    let at-put2 = c .before .before in
+    let at-put = at-put2 .before .before .before .before in
+    behind _ (at-put .put .ensures) (at-put2 .put2 .ensures)
 
 pub put-desk-spec : {M : Type 1} → statement M
 put-desk-spec =

@@ -11,9 +11,10 @@ slice-aggregate-reset-lent c = lent-places _ _ _ (c .before .lent .ensures)
 
 returns : tie.Need-returns
 returns c =
-    let asked = c .before .before .before .before .before .before in
+    let at-reset-lent = c .before .before .before in
+    let asked = at-reset-lent .before .before .before in
     let args = asked .before .before .before .args in
-    cells-lent (now (args .args)) (now (args .out)) _ _ (lent-length _ _ _ (asked .lent .ensures)) (c .before .before .before .reset-lent .ensures)
+    cells-lent (now (args .args)) (now (args .out)) _ _ (lent-length _ _ _ (asked .lent .ensures)) (at-reset-lent .reset-lent .ensures)
 
 pub reset-spec : {M : Type 1} → statement M
 reset-spec =

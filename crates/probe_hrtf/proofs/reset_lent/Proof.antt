@@ -20,7 +20,8 @@ returns c =
 
 returns-2 : tie.Need-returns-2
 returns-2 c =
-    let after-put-desk = c .before .before .before .before .before .before .before in
+    let at-put-f32s = c .before .before in
+    let after-put-desk = at-put-f32s .before .before .before .before .before in
     let after-put = after-put-desk .before .before .before .before .before in
     let after-reset = after-put .before .before .before .before .before in
     let after-number2 = after-reset .before .before in
@@ -33,7 +34,7 @@ returns-2 c =
     let long = begun found .good .0 .1 in
     let full = place-end (now (a .args)) (omega arith) _ (found .behind .ensures) (past-if1 .if1 .left) in
     rested (now (a .args)) (now (a .out)) (now (a .rings)) full _ (after-get-f32s .get-f32s .ensures) _ _ _ (after-desk .desk .ensures) (after-number .number .ensures) (after-number2 .number2 .ensures) _ _ (after-reset .reset .ensures .bits)
-    _ _ _ (after-put .put .ensures) (after-put-desk .put-desk .ensures) (c .before .before .put-f32s .ensures)
+    _ _ _ (after-put .put .ensures) (after-put-desk .put-desk .ensures) (at-put-f32s .put-f32s .ensures)
 
 pub reset-lent-spec : {M : Type 1} → statement M
 reset-lent-spec =

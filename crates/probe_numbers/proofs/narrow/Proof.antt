@@ -19,11 +19,12 @@ returns c = untaken 8 _ _ _ (c .if1 .taken)
 returns-2 : tie.Need-returns-2
 unfolding narrowAnswer
 returns-2 c =
-    let called = c .before .before .before .before .before in
+    let at-put-f32s = c .before .before in
+    let called = at-put-f32s .before .before .before in
     let a = called .before .before .before .before .before .args in
     answered (λ (x : Float). none (now (a .out)) then floatBytes (x ∷ [])) 8 (now (a .args)) _ (called .before .before .if1 .left)
     (called .narrow .ensures .bits ∙ ap narrowed (called .before .get-f64 .ensures))
-    (c .before .before .put-f32s .ensures)
+    (at-put-f32s .put-f32s .ensures)
 
 pub narrow-spec : {M : Type 1} → statement M
 narrow-spec =

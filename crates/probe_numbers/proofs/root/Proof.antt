@@ -18,11 +18,12 @@ returns c = untaken 8 _ _ _ (c .if1 .taken)
 returns-2 : tie.Need-returns-2
 unfolding rootAnswer
 returns-2 c =
-    let called = c .before .before .before .before .before in
+    let at-put-refusal-and-f64s = c .before .before in
+    let called = at-put-refusal-and-f64s .before .before .before in
     let a = called .before .before .before .before .before .args in
     answered (λ (r : Rooted). refusalAndDoubles (r .refusal) (r .value ∷ []) (now (a .out))) 8 (now (a .args)) _ (called .before .before .if1 .left)
     (called .root .ensures .bits ∙ ap Numbers.rootAnswer (called .before .get-f64 .ensures))
-    (c .before .before .put-refusal-and-f64s .ensures)
+    (at-put-refusal-and-f64s .put-refusal-and-f64s .ensures)
 
 pub root-spec : {M : Type 1} → statement M
 root-spec =

@@ -18,11 +18,12 @@ returns c = untaken 8 _ _ _ (c .if1 .taken)
 returns-2 : tie.Need-returns-2
 unfolding waveAnswer
 returns-2 c =
-    let called = c .before .before .before .before .before in
+    let at-put-refusal-and-f64s = c .before .before in
+    let called = at-put-refusal-and-f64s .before .before .before in
     let a = called .before .before .before .before .before .args in
     answered (λ (r : Answer). refusalAndDoubles (r .refusal) (r .value ∷ []) (now (a .out))) 8 (now (a .args)) _ (called .before .before .if1 .left)
     (called .wave .ensures ∙ ap (outcome (waveOf (a .operation))) (called .before .get-f64 .ensures))
-    (c .before .before .put-refusal-and-f64s .ensures)
+    (at-put-refusal-and-f64s .put-refusal-and-f64s .ensures)
 
 pub sine-or-cosine-spec : {M : Type 1} → statement M
 sine-or-cosine-spec =

@@ -18,11 +18,12 @@ returns c = untaken 4 _ _ _ (c .if1 .taken)
 returns-2 : tie.Need-returns-2
 unfolding widenAnswer
 returns-2 c =
-    let called = c .before .before .before .before .before in
+    let at-put-f64s = c .before .before in
+    let called = at-put-f64s .before .before .before in
     let a = called .before .before .before .before .before .args in
     answered (λ (x : Float). none (now (a .out)) then doubleBytes (x ∷ [])) 4 (now (a .args)) _ (called .before .before .if1 .left)
     (called .widen .ensures .bits ∙ called .before .get-f32 .ensures)
-    (c .before .before .put-f64s .ensures)
+    (at-put-f64s .put-f64s .ensures)
 
 pub widen-spec : {M : Type 1} → statement M
 widen-spec =

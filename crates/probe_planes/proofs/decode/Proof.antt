@@ -8,22 +8,27 @@ use Rattle.probe_planes.proofs.decode.Tie as tie
 
 returns : tie.Need-returns
 returns c =
-    let a = c .before .before .before .before .before .before .args in
-    decode-none (now (a .args)) (now (a .out)) _ _ _ (c .before .before .before .lent .ensures) (c .before .before .lent2 .ensures) (c .before .lent3 .ensures) (c .if1 .taken)
+    let at-lent2 = c .before .before in
+    let at-lent = at-lent2 .before in
+    let start = at-lent .before .before .before in
+    let a = start .args in
+    decode-none (now (a .args)) (now (a .out)) _ _ _ (at-lent .lent .ensures) (at-lent2 .lent2 .ensures) (c .before .lent3 .ensures) (c .if1 .taken)
 
 decode-lent-requires : tie.Need-decode-lent-requires
 decode-lent-requires c κs =
-    let asked = c .before .before .before .before .before in
-    decode-fits _ _ _ _ _ _ _ (lent-places _ _ _ (asked .before .before .lent .ensures)) (lent-places _ _ _ (asked .before .lent2 .ensures)) (lent-places _ _ _ (asked .lent3 .ensures)) (c .before .before .before .before .if1 .left)
+    let at-if1 = c .before .before .before .before in
+    let asked = at-if1 .before in
+    decode-fits _ _ _ _ _ _ _ (lent-places _ _ _ (asked .before .before .lent .ensures)) (lent-places _ _ _ (asked .before .lent2 .ensures)) (lent-places _ _ _ (asked .lent3 .ensures)) (at-if1 .if1 .left)
 
 returns-2 : tie.Need-returns-2
 returns-2 c =
-    let right = c .before .before .before .before .before .before .before .before .before .before in
+    let at-decode-lent = c .before .before .before .before .before in
+    let right = at-decode-lent .before .before .before .before .before in
     let asked = right .before in
     let a = asked .before .before .before .before .before .args in
     decode-some (now (a .args)) (now (a .out)) _ _ _ _ (lent-length _ _ _ (asked .before .before .lent .ensures)) (lent-length _ _ _ (asked .before .lent2 .ensures)) (lent-length _ _ _ (asked .lent3 .ensures))
     (decode-fits _ _ _ _ _ _ _ (lent-places _ _ _ (asked .before .before .lent .ensures)) (lent-places _ _ _ (asked .before .lent2 .ensures)) (lent-places _ _ _ (asked .lent3 .ensures)) (right .if1 .left))
-    (c .before .before .before .before .before .decode-lent .ensures)
+    (at-decode-lent .decode-lent .ensures)
 
 pub decode-spec : {M : Type 1} → statement M
 decode-spec =

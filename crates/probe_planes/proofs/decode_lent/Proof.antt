@@ -12,7 +12,8 @@ same-length c =
 
 returns : tie.Need-returns
 returns c =
-    let after-process = c .before .before .before .before .before .before .before in
+    let at-put-played = c .before .before in
+    let after-process = at-put-played .before .before .before .before .before in
     let after-number4 = after-process .before .before .before in
     let after-number3 = after-number4 .before in
     let after-number2 = after-number3 .before in
@@ -22,7 +23,7 @@ returns c =
     let after-get-f64s = after-get-f32s .before .before .before .before in
     let a = after-get-f64s .before .before .before .before .before .before .before .args in
     decode-plays (now (a .args)) (now (a .out)) (now (a .weights)) (now (a .inputs)) (now (a .planes)) _ _ _ _ _ _ _ _ (after-process .process .result) _ (after-get-f64s .before .before .before .before .before .before .before .pre) (after-get-f64s .get-f64s .ensures) (after-get-f32s .get-f32s .ensures) (after-get-f32s2 .get-f32s2 .ensures)
-    (after-number .number .ensures) (after-number2 .number2 .ensures) (after-number3 .number3 .ensures) (after-number4 .number4 .ensures) (after-process .process .ensures) (c .before .before .put-played .ensures)
+    (after-number .number .ensures) (after-number2 .number2 .ensures) (after-number3 .number3 .ensures) (after-number4 .number4 .ensures) (after-process .process .ensures) (at-put-played .put-played .ensures)
 
 pub decode-lent-spec : {M : Type 1} → statement M
 decode-lent-spec =

@@ -7,7 +7,8 @@ use Rattle.probe_planes.proofs.pan_lent.Tie as tie
 
 returns : tie.Need-returns
 returns c =
-    let after-process = c .before .before .before .before .before .before .before in
+    let at-put-played = c .before .before in
+    let after-process = at-put-played .before .before .before .before .before in
     let after-number4 = after-process .before .before .before in
     let after-number3 = after-number4 .before in
     let after-layout = after-number3 .before in
@@ -18,7 +19,7 @@ returns c =
     let after-get-f32s = after-get-f32s2 .before .before .before .before in
     let a = after-get-f32s .before .before .before .before .before .before .args in
     pan-plays (now (a .args)) (now (a .out)) (now (a .input)) (now (a .planes)) _ _ _ _ _ _ _ _ _ (after-process .process .result) _ (after-get-f32s .before .before .before .before .before .before .pre) (after-get-f32s .get-f32s .ensures) (after-get-f32s2 .get-f32s2 .ensures)
-    (after-command .command .ensures) (after-layout .layout .ensures) (after-number .number .ensures) (after-number2 .number2 .ensures) (after-number3 .number3 .ensures) (after-number4 .number4 .ensures) (after-process .process .ensures .bits) (c .before .before .put-played .ensures)
+    (after-command .command .ensures) (after-layout .layout .ensures) (after-number .number .ensures) (after-number2 .number2 .ensures) (after-number3 .number3 .ensures) (after-number4 .number4 .ensures) (after-process .process .ensures .bits) (at-put-played .put-played .ensures)
 
 pub pan-lent-spec : {M : Type 1} → statement M
 pan-lent-spec =

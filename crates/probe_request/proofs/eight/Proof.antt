@@ -29,13 +29,19 @@ returns c = far _ _ (c .if1 .taken)
 
 returns-2 : tie.Need-returns-2
 returns-2 c =
+    let at-number6 = c .before .before in
+    let at-number5 = at-number6 .before in
+    let at-number4 = at-number5 .before in
+    let at-number3 = at-number4 .before in
+    let at-number2 = at-number3 .before in
+    let at-number = at-number2 .before in
     near _ _ _ _ _ _ _ _ _ _
-    (c .before .before .before .before .before .before .before .number .ensures)
-    (c .before .before .before .before .before .before .number2 .ensures)
-    (c .before .before .before .before .before .number3 .ensures)
-    (c .before .before .before .before .number4 .ensures)
-    (c .before .before .before .number5 .ensures)
-    (c .before .before .number6 .ensures)
+    (at-number .number .ensures)
+    (at-number2 .number2 .ensures)
+    (at-number3 .number3 .ensures)
+    (at-number4 .number4 .ensures)
+    (at-number5 .number5 .ensures)
+    (at-number6 .number6 .ensures)
     (c .before .number7 .ensures)
     (c .number8 .ensures)
 

@@ -8,7 +8,10 @@ use Rattle.probe_script.proofs.answer.Statement.{statement}
 use Rattle.probe_script.proofs.answer.Tie as tie
 
 returns : tie.Need-returns
-returns c = chosen answerOf 21 (c .before .before .stretch .ensures) (c .before .before .before .before .match .keys1)
+returns c =
+    let at-stretch = c .before .before in
+    let at-match = at-stretch .before .before in
+    chosen answerOf 21 (at-stretch .stretch .ensures) (at-match .match .keys1)
 
 returns-2 : tie.Need-returns-2
 returns-2 c = sym (rw (ne-eqb _ _ (c .match .rest .1)))

@@ -7,8 +7,10 @@ use Rattle.probe_script.proofs.cue.Tie as tie
 
 returns : tie.Need-returns
 returns c =
-    let a = c .before .before .before .before .args in
-    cue-read (now (a .args)) (a .at) _ _ _ (c .before .before .number .ensures) (c .before .get-f64 .ensures) (c .get-f642 .ensures)
+    let at-number = c .before .before in
+    let start = at-number .before .before in
+    let a = start .args in
+    cue-read (now (a .args)) (a .at) _ _ _ (at-number .number .ensures) (c .before .get-f64 .ensures) (c .get-f642 .ensures)
 
 pub cue-spec : {M : Type 1} → statement M
 cue-spec =

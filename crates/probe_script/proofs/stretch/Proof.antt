@@ -20,13 +20,16 @@ returns c =
 
 returns-2 : tie.Need-returns-2
 returns-2 c =
-    let asked = c .before .before .before in
+    let at-fits-room = c .before .before in
+    let asked = at-fits-room .before in
     let a = asked .before .before .before .before .before .before .before .args in
     no-length (now (a .args)) (now (a .out)) _ _ _ _ _ (asked .before .before .before .before .number .ensures) (asked .before .before .before .lent .ensures) (asked .before .before .number2 .ensures) (asked .before .number3 .ensures) (asked .lent2 .ensures)
-    _ (c .before .before .fits-room .ensures) (c .before .if1 .left) (c .if2 .taken)
+    _ (at-fits-room .fits-room .ensures) (c .before .if1 .left) (c .if2 .taken)
 
 slice-aggregate-show-lent : tie.Need-slice-aggregate-show-lent
-slice-aggregate-show-lent c = lent-places _ _ _ (c .before .before .before .before .before .before .before .before .lent .ensures)
+slice-aggregate-show-lent c =
+    let at-lent = c .before .before .before .before .before .before .before .before in
+    lent-places _ _ _ (at-lent .lent .ensures)
 
 array-borrow-prefix-planes : tie.Need-array-borrow-prefix-planes
 array-borrow-prefix-planes c = fit (c .before .before .before) .room
@@ -41,14 +44,15 @@ show-lent-requires c κs =
 
 returns-3 : tie.Need-returns-3
 returns-3 c =
-    let got = c .before .before .before .before .before .before .before .before in
+    let at-show-lent = c .before .before .before .before in
+    let got = at-show-lent .before .before .before .before in
     let right = got .before in
     let asked = right .before .before .before in
     let a = asked .before .before .before .before .before .before .before .args in
     let lent = asked .before .before .before .lent .ensures in
     let fits = lends _ _ _ _ _ _ _ _ (lent-places _ _ _ lent) (lent-first (got .get-f32 .result) _ 16400 (fit (right .before) .room)) (fit (right .before)) (right .if2 .left) in
     shown-lent (now (a .args)) (now (a .out)) _ _ _ _ _ (asked .before .before .before .before .number .ensures) (lent-length _ _ _ lent) (asked .before .before .number2 .ensures) (asked .before .number3 .ensures) (asked .lent2 .ensures)
-    _ (right .before .before .fits-room .ensures) (right .before .if1 .left) (got .get-f32 .result) _ (got .get-f32 .ensures) (fits .1) (c .before .before .before .before .show-lent .ensures)
+    _ (right .before .before .fits-room .ensures) (right .before .if1 .left) (got .get-f32 .result) _ (got .get-f32 .ensures) (fits .1) (at-show-lent .show-lent .ensures)
 
 pub stretch-spec : {M : Type 1} → statement M
 stretch-spec =

@@ -49,8 +49,9 @@ measured c b e = sym (ap not (c .is-product .ensures)) ∙ e
 
 returns : tie.Need-returns
 returns c =
-    let s = c .before .before .before .before in
-    one (bad s) (odd s) (c .unplanned .result) (unplannedOf (s .args .expected)) (plan s) (judged (c .before .before) true (c .before .if1 .taken)) (c .unplanned .ensures)
+    let at-judged = c .before .before in
+    let s = at-judged .before .before in
+    one (bad s) (odd s) (c .unplanned .result) (unplannedOf (s .args .expected)) (plan s) (judged at-judged true (c .before .if1 .taken)) (c .unplanned .ensures)
 
 returns-2 : tie.Need-returns-2
 returns-2 c =
@@ -66,9 +67,10 @@ slice-aggregate-plan c =
 
 returns-3 : tie.Need-returns-3
 returns-3 c =
-    let asked = c .before .before .before in
+    let at-if2 = c .before .before in
+    let asked = at-if2 .before in
     let s = asked .before .before .before .before in
-    none (bad s) (odd s) (c .plan .result) (unplannedOf (s .args .expected)) (plan s) (judged (asked .before .before) false (asked .before .if1 .left)) (measured asked false (c .before .before .if2 .left)) (c .plan .ensures)
+    none (bad s) (odd s) (c .plan .result) (unplannedOf (s .args .expected)) (plan s) (judged (asked .before .before) false (asked .before .if1 .left)) (measured asked false (at-if2 .if2 .left)) (c .plan .ensures)
 
 pub plan-in-spec : {M : Type 1} → statement M
 plan-in-spec =

@@ -17,11 +17,14 @@ array-borrow-prefix-block : tie.Need-array-borrow-prefix-block
 array-borrow-prefix-block c = let asked = c .before .before in omega (arith, asked .places .ensures, places-below (channels asked))
 
 slice-aggregate-replay-in : tie.Need-slice-aggregate-replay-in
-slice-aggregate-replay-in c = let asked = c .before .before .before in sym (places-lent (asked .places .result) (channels asked) (ofBits binary32 0) (asked .places .ensures))
+slice-aggregate-replay-in c =
+    let before-2 = c .before .before .before in
+    let asked = before-2 in sym (places-lent (asked .places .result) (channels asked) (ofBits binary32 0) (asked .places .ensures))
 
 replay-in-requires : tie.Need-replay-in-requires
 replay-in-requires c κs =
-    let asked = c .before .before .before .before in (
+    let before-2 = c .before .before .before .before in
+    let asked = before-2 in (
       (
         places-lent (asked .places .result) (channels asked) (ofBits binary32 0) (asked .places .ensures) ∙ asked .places .ensures,
         length-replicate 128 (ofBits binary32 0),

@@ -19,14 +19,17 @@ loop-holds c = let a = c .args in none-put (now (a .row)) (a .scale) (now (a .we
 
 loop-again : tie.Need-loop-again Inv-loop μ-loop
 loop-again c =
-    let a = c .before .before .before .before .args in
-    let at = c .before .before .before in
-    one-put (now (a .row)) (a .scale) (now (a .weights)) (a .at) (at .loop .weights) (at .loop .to) (at .loop .i) (at .loop .inv) nan (c .before .before .loop-test .taken)
+    let at-loop-test = c .before .before in
+    let at = at-loop-test .before in
+    let start = at .before in
+    let a = start .args in
+    one-put (now (a .row)) (a .scale) (now (a .weights)) (a .at) (at .loop .weights) (at .loop .to) (at .loop .i) (at .loop .inv) nan (at-loop-test .loop-test .taken)
 
 loop-again-2 : tie.Need-loop-again-2 Inv-loop μ-loop
 loop-again-2 c =
-    let a = c .before .before .before .before .args in
     let at = c .before .before .before in
+    let start = at .before in
+    let a = start .args in
     one-left-out (now (a .row)) (a .scale) (now (a .weights)) (a .at) (at .loop .weights) (at .loop .to) (at .loop .i) (at .loop .inv) (c .if1 .left)
 
 same-length : tie.Need-same-length Inv-loop μ-loop

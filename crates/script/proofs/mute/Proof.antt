@@ -21,14 +21,19 @@ loop-holds c = let a = c .before .args in sampling-none (now (a .out)) (a .strid
 loop-again : tie.Need-loop-again Inv-loop μ-loop
 unfolding ofBits ofInt
 loop-again c =
-    let a = c .before .before .before .before .before .before .before .args in
-    let at = c .before .before .before .before .before .loop in
-    sampling-more (now (a .out)) (a .stride) (a .frame) (a .planes) (λ k. zero-float) (at .out) (at .p) (at .inv) _ (c .before .before .put-sample .last .0)
-    (c .before .before .before .before .loop-test .taken) refl (c .before .before .put-sample .ensures)
+    let at-put-sample = c .before .before in
+    let at-loop-test = at-put-sample .before .before in
+    let at-loop = at-loop-test .before in
+    let start = at-loop .before .before in
+    let a = start .args in
+    let at = at-loop .loop in
+    sampling-more (now (a .out)) (a .stride) (a .frame) (a .planes) (λ k. zero-float) (at .out) (at .p) (at .inv) _ (at-put-sample .put-sample .last .0)
+    (at-loop-test .loop-test .taken) refl (at-put-sample .put-sample .ensures)
 
 returns : tie.Need-returns Inv-loop μ-loop
 returns c =
-    let a = c .before .before .before .args in
+    let start = c .before .before .before in
+    let a = start .args in
     let at = c .before .loop in
     sampling-all (now (a .out)) (a .stride) (a .frame) (a .planes) (λ k. zero-float) (at .out) (at .p) (at .inv) (c .loop-test .left)
 

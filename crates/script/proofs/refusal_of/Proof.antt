@@ -7,51 +7,104 @@ use Rattle.script.proofs.refusal_of.Tie as tie
 
 returns : tie.Need-returns
 returns c =
-    let a = c .before .before .before .args in
-    let k = c .before .before .ambisonic-channel-count in
+    let at-ambisonic-channel-count = c .before .before in
+    let start = at-ambisonic-channel-count .before in
+    let a = start .args in
+    let k = at-ambisonic-channel-count .ambisonic-channel-count in
     by-order (record { order = a .order; first = a .first; frames = a .frames; stride = a .stride }) (a .judged) (a .inputs) (a .outs) (k .result) (k .ensures) (c .if1 .taken)
 
 returns-2 : tie.Need-returns-2
 returns-2 c =
-    let a = c .before .before .before .before .before .args in
-    let k = c .before .before .before .before .ambisonic-channel-count in
-    by-direction (record { order = a .order; first = a .first; frames = a .frames; stride = a .stride }) (a .judged) (a .inputs) (a .outs) (k .result) (k .ensures) (c .before .before .if1 .left) (c .if2 .taken)
+    let at-if1 = c .before .before in
+    let at-ambisonic-channel-count = at-if1 .before .before in
+    let start = at-ambisonic-channel-count .before in
+    let a = start .args in
+    let k = at-ambisonic-channel-count .ambisonic-channel-count in
+    by-direction (record { order = a .order; first = a .first; frames = a .frames; stride = a .stride }) (a .judged) (a .inputs) (a .outs) (k .result) (k .ensures) (at-if1 .if1 .left) (c .if2 .taken)
 
 returns-3 : tie.Need-returns-3
 returns-3 c =
-    let a = c .before .before .before .before .before .before .before .args in
-    let k = c .before .before .before .before .before .before .ambisonic-channel-count in
-    by-length (record { order = a .order; first = a .first; frames = a .frames; stride = a .stride }) (a .judged) (a .inputs) (a .outs) (k .result) (k .ensures) (c .before .before .before .before .if1 .left) (c .before .before .if2 .left) (c .before .is-block-unfit .result) (c .before .is-block-unfit .ensures) (c .if3 .taken)
+    let at-is-block-unfit = c .before in
+    let at-if2 = at-is-block-unfit .before in
+    let at-if1 = at-if2 .before .before in
+    let at-ambisonic-channel-count = at-if1 .before .before in
+    let start = at-ambisonic-channel-count .before in
+    let a = start .args in
+    let k = at-ambisonic-channel-count .ambisonic-channel-count in
+    by-length (record { order = a .order; first = a .first; frames = a .frames; stride = a .stride }) (a .judged) (a .inputs) (a .outs) (k .result) (k .ensures) (at-if1 .if1 .left) (at-if2 .if2 .left) (at-is-block-unfit .is-block-unfit .result) (at-is-block-unfit .is-block-unfit .ensures) (c .if3 .taken)
 
 returns-4 : tie.Need-returns-4
 returns-4 c =
-    let a = c .before .before .before .before .before .before .before .before .before .args in
-    let k = c .before .before .before .before .before .before .before .before .ambisonic-channel-count in
-    by-end (record { order = a .order; first = a .first; frames = a .frames; stride = a .stride }) (a .judged) (a .inputs) (a .outs) (k .result) (k .ensures) (c .before .before .before .before .before .before .if1 .left) (c .before .before .before .before .if2 .left) (c .before .before .before .is-block-unfit .result) (c .before .before .before .is-block-unfit .ensures) (c .before .before .if3 .left) (c .before .runs-past .result) (c .before .runs-past .ensures) (c .if4 .taken)
+    let at-runs-past = c .before in
+    let at-if3 = at-runs-past .before in
+    let at-is-block-unfit = at-if3 .before in
+    let at-if2 = at-is-block-unfit .before in
+    let at-if1 = at-if2 .before .before in
+    let at-ambisonic-channel-count = at-if1 .before .before in
+    let start = at-ambisonic-channel-count .before in
+    let a = start .args in
+    let k = at-ambisonic-channel-count .ambisonic-channel-count in
+    by-end (record { order = a .order; first = a .first; frames = a .frames; stride = a .stride }) (a .judged) (a .inputs) (a .outs) (k .result) (k .ensures) (at-if1 .if1 .left) (at-if2 .if2 .left) (at-is-block-unfit .is-block-unfit .result) (at-is-block-unfit .is-block-unfit .ensures) (at-if3 .if3 .left) (at-runs-past .runs-past .result) (at-runs-past .runs-past .ensures) (c .if4 .taken)
 
 returns-5 : tie.Need-returns-5
 returns-5 c =
-    let a = c .before .before .before .before .before .before .before .before .before .before .args in
-    let k = c .before .before .before .before .before .before .before .before .before .ambisonic-channel-count in
-    by-frames (record { order = a .order; first = a .first; frames = a .frames; stride = a .stride }) (a .judged) (a .inputs) (a .outs) (k .result) (k .ensures) (c .before .before .before .before .before .before .before .if1 .left) (c .before .before .before .before .before .if2 .left) (c .before .before .before .before .is-block-unfit .result) (c .before .before .before .before .is-block-unfit .ensures) (c .before .before .before .if3 .left) (c .before .before .runs-past .result) (c .before .before .runs-past .ensures) (c .before .if4 .left) (omega (arith, c .if5 .taken))
+    let at-runs-past = c .before .before in
+    let at-if3 = at-runs-past .before in
+    let at-is-block-unfit = at-if3 .before in
+    let at-if2 = at-is-block-unfit .before in
+    let at-if1 = at-if2 .before .before in
+    let at-ambisonic-channel-count = at-if1 .before .before in
+    let start = at-ambisonic-channel-count .before in
+    let a = start .args in
+    let k = at-ambisonic-channel-count .ambisonic-channel-count in
+    by-frames (record { order = a .order; first = a .first; frames = a .frames; stride = a .stride }) (a .judged) (a .inputs) (a .outs) (k .result) (k .ensures) (at-if1 .if1 .left) (at-if2 .if2 .left) (at-is-block-unfit .is-block-unfit .result) (at-is-block-unfit .is-block-unfit .ensures) (at-if3 .if3 .left) (at-runs-past .runs-past .result) (at-runs-past .runs-past .ensures) (c .before .if4 .left) (omega (arith, c .if5 .taken))
 
 returns-6 : tie.Need-returns-6
 returns-6 c =
-    let a = c .before .before .before .before .before .before .before .before .before .before .before .before .args in
-    let k = c .before .before .before .before .before .before .before .before .before .before .before .ambisonic-channel-count in
-    by-rising (record { order = a .order; first = a .first; frames = a .frames; stride = a .stride }) (a .judged) (a .inputs) (a .outs) (k .result) (k .ensures) (c .before .before .before .before .before .before .before .before .before .if1 .left) (c .before .before .before .before .before .before .before .if2 .left) (c .before .before .before .before .before .before .is-block-unfit .result) (c .before .before .before .before .before .before .is-block-unfit .ensures) (c .before .before .before .before .before .if3 .left) (c .before .before .before .before .runs-past .result) (c .before .before .before .before .runs-past .ensures) (c .before .before .before .if4 .left) (omega (arith, c .before .before .if5 .left)) (c .if6 .taken)
+    let at-if5 = c .before .before in
+    let at-if4 = at-if5 .before in
+    let at-runs-past = at-if4 .before in
+    let at-if3 = at-runs-past .before in
+    let at-is-block-unfit = at-if3 .before in
+    let at-if2 = at-is-block-unfit .before in
+    let at-if1 = at-if2 .before .before in
+    let at-ambisonic-channel-count = at-if1 .before .before in
+    let start = at-ambisonic-channel-count .before in
+    let a = start .args in
+    let k = at-ambisonic-channel-count .ambisonic-channel-count in
+    by-rising (record { order = a .order; first = a .first; frames = a .frames; stride = a .stride }) (a .judged) (a .inputs) (a .outs) (k .result) (k .ensures) (at-if1 .if1 .left) (at-if2 .if2 .left) (at-is-block-unfit .is-block-unfit .result) (at-is-block-unfit .is-block-unfit .ensures) (at-if3 .if3 .left) (at-runs-past .runs-past .result) (at-runs-past .runs-past .ensures) (at-if4 .if4 .left) (omega (arith, at-if5 .if5 .left)) (c .if6 .taken)
 
 returns-7 : tie.Need-returns-7
 returns-7 c =
-    let a = c .before .before .before .before .before .before .before .before .before .before .before .before .before .before .args in
-    let k = c .before .before .before .before .before .before .before .before .before .before .before .before .before .ambisonic-channel-count in
-    by-count (record { order = a .order; first = a .first; frames = a .frames; stride = a .stride }) (a .judged) (a .inputs) (a .outs) (k .result) (k .ensures) (c .before .before .before .before .before .before .before .before .before .before .before .if1 .left) (c .before .before .before .before .before .before .before .before .before .if2 .left) (c .before .before .before .before .before .before .before .before .is-block-unfit .result) (c .before .before .before .before .before .before .before .before .is-block-unfit .ensures) (c .before .before .before .before .before .before .before .if3 .left) (c .before .before .before .before .before .before .runs-past .result) (c .before .before .before .before .before .before .runs-past .ensures) (c .before .before .before .before .before .if4 .left) (omega (arith, c .before .before .before .before .if5 .left)) (c .before .before .if6 .left) (omega (arith, c .if7 .taken))
+    let at-if6 = c .before .before in
+    let at-if5 = at-if6 .before .before in
+    let at-if4 = at-if5 .before in
+    let at-runs-past = at-if4 .before in
+    let at-if3 = at-runs-past .before in
+    let at-is-block-unfit = at-if3 .before in
+    let at-if2 = at-is-block-unfit .before in
+    let at-if1 = at-if2 .before .before in
+    let at-ambisonic-channel-count = at-if1 .before .before in
+    let start = at-ambisonic-channel-count .before in
+    let a = start .args in
+    let k = at-ambisonic-channel-count .ambisonic-channel-count in
+    by-count (record { order = a .order; first = a .first; frames = a .frames; stride = a .stride }) (a .judged) (a .inputs) (a .outs) (k .result) (k .ensures) (at-if1 .if1 .left) (at-if2 .if2 .left) (at-is-block-unfit .is-block-unfit .result) (at-is-block-unfit .is-block-unfit .ensures) (at-if3 .if3 .left) (at-runs-past .runs-past .result) (at-runs-past .runs-past .ensures) (at-if4 .if4 .left) (omega (arith, at-if5 .if5 .left)) (at-if6 .if6 .left) (omega (arith, c .if7 .taken))
 
 returns-8 : tie.Need-returns-8
 returns-8 c =
-    let a = c .before .before .before .before .before .before .before .before .before .before .before .before .before .before .args in
-    let k = c .before .before .before .before .before .before .before .before .before .before .before .before .before .ambisonic-channel-count in
-    by-none (record { order = a .order; first = a .first; frames = a .frames; stride = a .stride }) (a .judged) (a .inputs) (a .outs) (k .result) (k .ensures) (c .before .before .before .before .before .before .before .before .before .before .before .if1 .left) (c .before .before .before .before .before .before .before .before .before .if2 .left) (c .before .before .before .before .before .before .before .before .is-block-unfit .result) (c .before .before .before .before .before .before .before .before .is-block-unfit .ensures) (c .before .before .before .before .before .before .before .if3 .left) (c .before .before .before .before .before .before .runs-past .result) (c .before .before .before .before .before .before .runs-past .ensures) (c .before .before .before .before .before .if4 .left) (omega (arith, c .before .before .before .before .if5 .left)) (c .before .before .if6 .left) (omega (arith, c .if7 .left))
+    let at-if6 = c .before .before in
+    let at-if5 = at-if6 .before .before in
+    let at-if4 = at-if5 .before in
+    let at-runs-past = at-if4 .before in
+    let at-if3 = at-runs-past .before in
+    let at-is-block-unfit = at-if3 .before in
+    let at-if2 = at-is-block-unfit .before in
+    let at-if1 = at-if2 .before .before in
+    let at-ambisonic-channel-count = at-if1 .before .before in
+    let start = at-ambisonic-channel-count .before in
+    let a = start .args in
+    let k = at-ambisonic-channel-count .ambisonic-channel-count in
+    by-none (record { order = a .order; first = a .first; frames = a .frames; stride = a .stride }) (a .judged) (a .inputs) (a .outs) (k .result) (k .ensures) (at-if1 .if1 .left) (at-if2 .if2 .left) (at-is-block-unfit .is-block-unfit .result) (at-is-block-unfit .is-block-unfit .ensures) (at-if3 .if3 .left) (at-runs-past .runs-past .result) (at-runs-past .runs-past .ensures) (at-if4 .if4 .left) (omega (arith, at-if5 .if5 .left)) (at-if6 .if6 .left) (omega (arith, c .if7 .left))
 
 pub refusal-of-spec : {M : Type 1} → statement M
 refusal-of-spec =

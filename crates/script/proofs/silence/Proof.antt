@@ -18,14 +18,19 @@ loop-holds c = let a = c .before .args in parting-none (now (a .out)) (a .stride
 
 loop-again : tie.Need-loop-again Inv-loop μ-loop
 loop-again c =
-    let a = c .before .before .before .before .before .before .before .args in
-    let at = c .before .before .before .before .before .loop in
-    parting-more (now (a .out)) (a .stride) (a .from) (a .to) (λ k. silent (a .planes)) (at .out) (at .n) (at .inv) (c .before .before .mute .last .0)
-    (c .before .before .before .before .loop-test .taken) (c .before .before .mute .ensures)
+    let at-mute = c .before .before in
+    let at-loop-test = at-mute .before .before in
+    let at-loop = at-loop-test .before in
+    let start = at-loop .before .before in
+    let a = start .args in
+    let at = at-loop .loop in
+    parting-more (now (a .out)) (a .stride) (a .from) (a .to) (λ k. silent (a .planes)) (at .out) (at .n) (at .inv) (at-mute .mute .last .0)
+    (at-loop-test .loop-test .taken) (at-mute .mute .ensures)
 
 returns : tie.Need-returns Inv-loop μ-loop
 returns c =
-    let a = c .before .before .before .args in
+    let start = c .before .before .before in
+    let a = start .args in
     let at = c .before .loop in
     parting-all (now (a .out)) (a .stride) (a .from) (a .to) (λ k. silent (a .planes)) (at .out) (at .n) (at .inv) (c .loop-test .left)
 

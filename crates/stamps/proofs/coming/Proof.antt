@@ -20,8 +20,9 @@ returns c =
 
 returns-2 : tie.Need-returns-2
 returns-2 c =
-    let at = c .before .before .before .before .before in
-    let told = c .before .before .before .expected .given .1 in
+    let at-expected = c .before .before .before in
+    let at = at-expected .before .before in
+    let told = at-expected .expected .given .1 in
     record {
       bits =
           c .coming-by .ensures

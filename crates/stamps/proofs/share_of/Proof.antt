@@ -10,7 +10,9 @@ use Rattle.stamps.proofs.share_of.Statement.{statement}
 use Rattle.stamps.proofs.share_of.Tie as tie
 
 add-t4 : tie.Need-add-t4
-add-t4 c = omega (arith, subst (λ (x : Arrival). silentOne x ≤ 4096) (c .before .what .given .1) (c .before .before .before .pre))
+add-t4 c =
+    let at-pre = c .before .before .before in
+    omega (arith, subst (λ (x : Arrival). silentOne x ≤ 4096) (c .before .what .given .1) (at-pre .pre))
 
 returns : tie.Need-returns
 returns c = sym (ap shareOf (c .enum-told .given .1))

@@ -14,8 +14,9 @@ returns c = refuses _ (ap not (sym (c .before .is-finite .ensures)) ∙ c .if1 .
 returns-2 : tie.Need-returns-2
 unfolding ofBits ofInt
 returns-2 c =
-    let f = c .before .before .before in
-    plays _ _ _ _ (ap not (sym (f .before .is-finite .ensures)) ∙ f .if1 .left) (c .before .before .clamped .ensures) (c .before .cosine .ensures) (c .sine .ensures)
+    let at-clamped = c .before .before in
+    let f = at-clamped .before in
+    plays _ _ _ _ (ap not (sym (f .before .is-finite .ensures)) ∙ f .if1 .left) (at-clamped .clamped .ensures) (c .before .cosine .ensures) (c .sine .ensures)
 
 pub calculate-stereo-gains-spec : {M : Type 1} → statement M
 calculate-stereo-gains-spec =

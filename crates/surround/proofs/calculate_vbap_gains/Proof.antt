@@ -17,8 +17,9 @@ returns-2 c =
 
 raw-gains-requires : tie.Need-raw-gains-requires
 raw-gains-requires c κs =
-    let s = c .before .before .before .before in
-    few-counted (s .before .args .layout) _ _ (s .is-surround .ensures) (c .before .before .before .if1 .left) (c .channel-count .ensures)
+    let at-if1 = c .before .before .before in
+    let s = at-if1 .before in
+    few-counted (s .before .args .layout) _ _ (s .is-surround .ensures) (at-if1 .if1 .left) (c .channel-count .ensures)
 
 sum-of-squares-requires : tie.Need-sum-of-squares-requires
 sum-of-squares-requires c κs =
@@ -28,11 +29,13 @@ sum-of-squares-requires c κs =
 
 returns-3 : tie.Need-returns-3
 returns-3 c =
-    let n = c .before .before .before .before in
+    let at-sum-of-squares = c .before .before in
+    let at-raw-gains = at-sum-of-squares .before in
+    let n = at-raw-gains .before in
     let a = n .before .before in
     let s = a .before .before in
     plays (s .before .args .layout) _ _ (s .is-surround .ensures) _ _ _ _ _ (a .before .if1 .left) (sym (a .refuses-azimuth .ensures) ∙ n .before .if2 .left)
-    (ap (λ (k : Counted). k .channels) (n .channel-count .ensures)) (c .before .before .before .raw-gains .ensures) (c .before .before .sum-of-squares .ensures) (c .before .root .ensures .bits) (c .divided .ensures)
+    (ap (λ (k : Counted). k .channels) (n .channel-count .ensures)) (at-raw-gains .raw-gains .ensures) (at-sum-of-squares .sum-of-squares .ensures) (c .before .root .ensures .bits) (c .divided .ensures)
 
 pub calculate-vbap-gains-spec : {M : Type 1} → statement M
 calculate-vbap-gains-spec =

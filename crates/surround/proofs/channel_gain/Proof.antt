@@ -15,8 +15,11 @@ returns c = low _ _ _ _ (c .before .is-low-frequency .ensures) (c .if1 .taken)
 
 returns-2 : tie.Need-returns-2
 returns-2 c =
-    let a = c .before .before .before .before .args in
-    directed _ _ _ _ (c .before .before .before .is-low-frequency .ensures) _ _ (c .before .before .if1 .left)
+    let at-if1 = c .before .before in
+    let at-is-low-frequency = at-if1 .before in
+    let start = at-is-low-frequency .before in
+    let a = start .args in
+    directed _ _ _ _ (at-is-low-frequency .is-low-frequency .ensures) _ _ (at-if1 .if1 .left)
     (ap (λ (r : Angle). r .degrees) (c .before .speaker-azimuth .ensures ∙ degrees-answered (speakers (a .layout)) (a .channel))) (c .raw-gain .ensures)
 
 pub channel-gain-spec : {M : Type 1} → statement M

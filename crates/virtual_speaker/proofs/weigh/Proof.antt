@@ -23,8 +23,10 @@ loop-holds c = filling-none _ 16 _
 
 loop-again : tie.Need-loop-again Inv-loop μ-loop
 loop-again c =
-    let a = c .before .before .before .args in
-    let l = c .before .before .loop in
+    let at-loop = c .before .before in
+    let start = at-loop .before in
+    let a = start .args in
+    let l = at-loop .loop in
     filling-more _ 16 _ (l .weights) (l .i) _ (l .inv) (omega arith) (lit≤ tt) (ap (λ (w : Float). mul binary64 (getD (a .t1) (l .i) nan) w) (c .weight .ensures))
 
 returns : tie.Need-returns Inv-loop μ-loop

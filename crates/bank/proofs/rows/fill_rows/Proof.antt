@@ -36,13 +36,15 @@ module _ (c : tie.At-loop Inv-loop μ-loop) where
   kept-azimuths : length (c .loop .azimuths) ≡ length (c .before .before .before .before .args .azimuths .now)
   unfolding strided
   kept-azimuths =
-      let args = c .before .before .before .before .args in
+      let start = c .before .before .before .before in
+      let args = start .args in
       fill-kept (λ k. signedAt (args .file .now) (9 + k * rowSize (args .version) (args .l))) _ 0 _ (c .loop .i) (c .loop .inv .1) (omega arith)
 
   kept-elevations : length (c .loop .elevations) ≡ length (c .before .before .before .before .args .elevations .now)
   unfolding strided
   kept-elevations =
-      let args = c .before .before .before .before .args in
+      let start = c .before .before .before .before in
+      let args = start .args in
       fill-kept (λ k. elevationAt (args .version) (args .file .now) (9 + k * rowSize (args .version) (args .l))) _ 0 _ (c .loop .i) (c .loop .inv .2) (omega arith)
 
   kept-taps : length (c .loop .taps) ≡ length (c .before .before .before .before .args .taps .now)
@@ -82,9 +84,11 @@ loop-again c =
 
 returns : tie.Need-returns Inv-loop μ-loop
 returns c =
-    let done : c .before .loop .i ≡ c .before .before .before .before .before .args .n = omega arith in (
-      c .before .loop .inv .1 ∙ ap (placed _ _) (ap (strided _ _ _) done),
-      (c .before .loop .inv .2 ∙ ap (placed _ _) (ap (strided _ _ _) done), c .before .loop .inv .3 ∙ ap (placed _ _) (ap (tapsFrom _ _ _ _) done)),
+    let at-loop = c .before in
+    let start = at-loop .before .before .before .before in
+    let done : at-loop .loop .i ≡ start .args .n = omega arith in (
+      at-loop .loop .inv .1 ∙ ap (placed _ _) (ap (strided _ _ _) done),
+      (at-loop .loop .inv .2 ∙ ap (placed _ _) (ap (strided _ _ _) done), at-loop .loop .inv .3 ∙ ap (placed _ _) (ap (tapsFrom _ _ _ _) done)),
     )
 
 pub fill-rows-spec : {M : Type 1} → statement M

@@ -21,7 +21,8 @@ abbrev μ-loop : tie.MeasureT-loop
 kept : (c : tie.At-loop Inv-loop μ-loop) → length (c .loop .taps) ≡ length (c .before .before .before .args .taps .now)
 unfolding strided
 kept c =
-    let args = c .before .before .before .args in
+    let start = c .before .before .before in
+    let args = start .args in
     fill-kept (λ k. floatAt (args .file .now) (args .at + k * 4)) _ (args .q) _ (c .loop .k) (c .loop .inv .1) (omega arith)
 
 loop-holds : tie.Need-loop-holds Inv-loop μ-loop
@@ -34,8 +35,10 @@ slice-write-taps c = omega (arith, kept (c .before .before))
 loop-again : tie.Need-loop-again Inv-loop μ-loop
 unfolding strided
 loop-again c =
-    let args = c .before .before .before .before .before .args in
-    let turn = c .before .before .loop in
+    let at-loop = c .before .before in
+    let start = at-loop .before .before .before in
+    let args = start .args in
+    let turn = at-loop .loop in
     (omega arith, fill-more (λ k. floatAt (args .file .now) (args .at + k * 4)) (args .taps .now) (args .q) (turn .taps) (turn .k) _ (turn .inv .1) (omega arith) (c .get-f32 .ensures))
 
 same-length : tie.Need-same-length Inv-loop μ-loop

@@ -8,11 +8,13 @@ use Rattle.bank.proofs.rows.put_bank.Tie as tie
 
 returns : tie.Need-returns
 returns c =
-    let start = c .before .before .before .before .before .before .before .before .before .before in
+    let at-put-rows = c .before .before in
+    let at-put-head = at-put-rows .before .before .before .before in
+    let start = at-put-head .before .before .before .before in
     let args = start .args in
     let bank : Bank = record { azimuths = args .azimuths .now; elevations = args .elevations .now; length = args .l; taps = args .taps .now } in
-    let head = c .before .before .before .before .before .before .put-head in
-    let rows = c .before .before .put-rows .ensures in (
+    let head = at-put-head .put-head in
+    let rows = at-put-rows .put-rows .ensures in (
       bank-put (args .version) bank (args .file .now) (head .last .0) _ _ (record { paired = start .pre .2; count = start .pre .3 }) (omega (arith, start .pre .4, start .pre .5)) (omega (arith, start .pre .4)) (head .ensures) (rows .0),
       rows .1,
     )

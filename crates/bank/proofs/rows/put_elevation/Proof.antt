@@ -24,11 +24,13 @@ returns c = sym (rw (eq-eqb _ _ (c .if1 .taken)) (placed-none _ _))
 returns-2 : tie.Need-returns-2
 unfolding elevationBytes withSigned
 returns-2 c =
-    let start = c .before .before .before .before .before .before in
+    let at-put-i16 = c .before .before in
+    let at-if1 = at-put-i16 .before .before in
+    let start = at-if1 .before .before in
     let args = start .args in
-    let put = c .before .before .put-i16 in
+    let put = at-put-i16 .put-i16 in
     let bits : ofZ w16 (toZ w16 (ofZ w16 (args .z))) ≡ ofZ w16 (args .z) = ap (ofZ w16) (toZ-ofZ (start .fits .z)) in
-    let other = ne-eqb _ _ (c .before .before .before .before .if1 .left) in
+    let other = ne-eqb _ _ (at-if1 .if1 .left) in
     let room : args .at + 2 ≤ length (args .file .now) = rw other at (start .pre) in
     let done = field-put (args .file .now) (put .last .0) (args .at) 2 _ (omega arith) room (put .ensures) ∙ ap (placed _ _) (ap (bytesOf 2) bits) in
     rw other done

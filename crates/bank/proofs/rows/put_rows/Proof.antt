@@ -61,14 +61,16 @@ loop-holds c = (omega arith, sym (ap (placed _ _) (no-rows _ _ _) ∙ placed-non
 
 put-row-requires : tie.Need-put-row-requires Inv-loop μ-loop
 put-row-requires c κs =
-    let turn = c .before .before .before .before .before .before in
+    let at-row-at = c .before .before .before .before in
+    let at-loop-test = at-row-at .before in
+    let turn = at-loop-test .before in
     let start = turn .before .before .before in
     let args = start .args in
-    let inside = c .before .before .before .before .before .loop-test .taken in
+    let inside = at-loop-test .loop-test .taken in
     let taps = row-end (turn .loop .i) (length (args .azimuths .now)) (2 * args .l) _ inside refl in
     let bytes = row-end (turn .loop .i) (length (args .azimuths .now)) (rowSize (args .version) (args .l)) _ inside refl in
     let long = kept turn in
-    omega (arith, c .before .tap-at .ensures, c .before .before .before .before .row-at .ensures)
+    omega (arith, c .before .tap-at .ensures, at-row-at .row-at .ensures)
 
 loop-again : tie.Need-loop-again Inv-loop μ-loop
 loop-again c =

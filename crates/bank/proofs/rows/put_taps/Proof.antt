@@ -21,7 +21,8 @@ abbrev μ-loop : tie.MeasureT-loop
 -- the file is as long as it was
 kept : (c : tie.At-loop Inv-loop μ-loop) → length (c .loop .file) ≡ length (c .before .before .before .args .file .now)
 kept c =
-    let args = c .before .before .before .args in
+    let start = c .before .before .before in
+    let args = start .args in
     let row = drop (args .q) (args .taps .now) in
     write-kept 4 (toBits binary32) (args .file .now) (args .at) row _ (c .loop .k) (c .loop .inv .1) (omega (arith, length-drop (args .q) (args .taps .now))) (omega arith)
 
@@ -31,10 +32,13 @@ loop-holds c = let args = c .before .before .args in (omega arith, write-none 4 
 loop-again : tie.Need-loop-again Inv-loop μ-loop
 unfolding withFloat
 loop-again c =
-    let args = c .before .before .before .before .before .before .before .before .before .args in
-    let turn = c .before .before .before .before .before .before .loop in
+    let at-put-f32 = c .before .before in
+    let at-loop = at-put-f32 .before .before .before .before in
+    let start = at-loop .before .before .before in
+    let args = start .args in
+    let turn = at-loop .loop in
     let row = drop (args .q) (args .taps .now) in
-    let tap = c .before .before .put-f32 .ensures ∙ ap (λ (x : Float). withField (turn .file) (args .at + 4 * turn .k) 4 (toBits binary32 x)) (sym (getD-drop (args .q) (args .taps .now) (turn .k) nan)) in
+    let tap = at-put-f32 .put-f32 .ensures ∙ ap (λ (x : Float). withField (turn .file) (args .at + 4 * turn .k) 4 (toBits binary32 x)) (sym (getD-drop (args .q) (args .taps .now) (turn .k) nan)) in
     (omega arith, write-more 4 (toBits binary32) (args .file .now) (args .at) row (turn .file) _ nan (turn .k) (omega arith) (turn .inv .1) (omega (arith, length-drop (args .q) (args .taps .now))) (omega arith) tap)
 
 same-length : tie.Need-same-length Inv-loop μ-loop
@@ -42,9 +46,11 @@ same-length c = kept (c .before)
 
 returns : tie.Need-returns Inv-loop μ-loop
 returns c =
-    let args = c .before .before .before .before .args in
-    let done : c .before .loop .k ≡ args .n = omega arith in
-    c .before .loop .inv .1 ∙ ap (λ (k : ℕ). placed (args .file .now) (args .at) (floatBytes (take k (drop (args .q) (args .taps .now))))) done
+    let at-loop = c .before in
+    let start = at-loop .before .before .before in
+    let args = start .args in
+    let done : at-loop .loop .k ≡ args .n = omega arith in
+    at-loop .loop .inv .1 ∙ ap (λ (k : ℕ). placed (args .file .now) (args .at) (floatBytes (take k (drop (args .q) (args .taps .now))))) done
 
 pub put-taps-spec : {M : Type 1} → statement M
 put-taps-spec =

@@ -12,7 +12,10 @@ returns c =
 
 -- more bytes are there than were held
 went-on : (c : tie.Else1) → c .before .before .before .before .before .before .before .args .progress .held < c .before .before .read-some .result .size
-went-on c = more _ _ (omega (arith, c .before .before .read-some .ensures .more, c .before .before .before .before .before .before .before .pre .1)) (c .if1 .left)
+went-on c =
+    let at-read-some = c .before .before in
+    let at-pre = at-read-some .before .before .before .before .before in
+    more _ _ (omega (arith, at-read-some .read-some .ensures .more, at-pre .pre .1)) (c .if1 .left)
 
 play-requires : tie.Need-play-requires
 play-requires c κs =

@@ -13,7 +13,9 @@ use Rattle.ears_file.proofs.turn.play.Statement.{statement}
 use Rattle.ears_file.proofs.turn.play.Tie as tie
 
 slice-aggregate-frames-from-bytes : tie.Need-slice-aggregate-frames-from-bytes
-slice-aggregate-frames-from-bytes c = sym (length-take-le _ _ (c .before .before .before .before .before .before .pre .1 .2))
+slice-aggregate-frames-from-bytes c =
+    let at-pre = c .before .before .before .before .before .before in
+    sym (length-take-le _ _ (at-pre .pre .1 .2))
 
 -- where the frames were taken, and where the turn began
 abbrev taken : tie.After-bytes-from-ears → tie.After-frames-from-bytes

@@ -18,8 +18,9 @@ put-part-requires c κs = omega (arith, few (c .before .before), c .before .befo
 returns : tie.Need-returns
 unfolding decimal
 returns c =
-    let made = c .before .before .before .before .before in
-    let put = c .before .before .put-part .ensures in
+    let at-put-part = c .before .before in
+    let made = at-put-part .before .before .before in
+    let put = at-put-part .put-part .ensures in
     (put-same (made .decimal .ensures .1 .1 ∙ fewest-digits 20 _ _ (few made) (made .decimal .ensures .1 .0)) put, omega (arith, put .ends, few made, made .decimal .ensures .0))
 
 pub put-number-spec : {M : Type 1} → statement M

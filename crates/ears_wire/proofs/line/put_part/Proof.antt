@@ -10,8 +10,10 @@ use Rattle.ears_wire.proofs.line.put_part.Tie as tie
 
 returns : tie.Need-returns
 returns c =
-    let a = c .before .before .before .before .before .before .args in
-    let copies = c .before .before .copy in
+    let at-copy = c .before .before in
+    let start = at-copy .before .before .before .before in
+    let a = start .args in
+    let copies = at-copy .copy in
     record { ends = ap (λ (n : ℕ). a .at + n) (copies .ensures .0); filled = put-copied (now (a .out)) (now (a .part)) _ (a .at) (omega arith) (copies .ensures .1) }
 
 pub put-part-spec : {M : Type 1} → statement M

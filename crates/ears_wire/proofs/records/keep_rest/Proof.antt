@@ -17,9 +17,10 @@ loop-holds c = kept-none _ _ _ (omega (arith, c .min .ensures))
 
 loop-again : tie.Need-loop-again Inv-loop μ-loop
 loop-again c =
-    let least = c .before .before .before in
+    let at-loop = c .before .before in
+    let least = at-loop .before in
     let a = least .before .before .args in
-    let at = c .before .before .loop in
+    let at = at-loop .loop in
     kept-more (now (a .bytes)) (a .from) (least .min .result) (at .bytes) (at .i) (at .inv) (c .before .loop-test .taken)
 
 returns : tie.Need-returns Inv-loop μ-loop

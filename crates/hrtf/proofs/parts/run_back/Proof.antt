@@ -42,7 +42,9 @@ float-to-float-to-left c =
     tap-casts _ (turn .before .pre .0) (omega arith) (c .row-known2 .given)
 
 shared-slice-read-to-right : tie.Need-shared-slice-read-to-right Inv-loop μ-loop
-shared-slice-read-to-right c = omega (arith, c .before .before .before .before .before .before .before .before .pre .1 .each)
+shared-slice-read-to-right c =
+    let at-pre = c .before .before .before .before .before .before .before .before in
+    omega (arith, at-pre .pre .1 .each)
 
 float-to-float-to-right : tie.Need-float-to-float-to-right Inv-loop μ-loop
 float-to-float-to-right c =
@@ -51,7 +53,8 @@ float-to-float-to-right c =
 
 loop-again : tie.Need-loop-again Inv-loop μ-loop
 loop-again c =
-    let so-far = c .before .before .before .before .before .before .before .before .loop .inv in
+    let at-loop = c .before .before .before .before .before .before .before .before in
+    let so-far = at-loop .loop .inv in
     (running-more (so-far .0) (omega arith) refl refl, running-more (so-far .1) (omega arith) refl refl)
 
 returns-2 : tie.Need-returns-2 Inv-loop μ-loop

@@ -20,16 +20,24 @@ loop-holds : tie.Need-loop-holds Inv-loop μ-loop
 loop-holds c = (omega arith, omega arith)
 
 add-count : tie.Need-add-count Inv-loop μ-loop
-add-count c = omega (arith, c .changed .ensures, one-at-most (changedAt (c .before .before .before .loop .i) (getD (c .before .before .before .before .before .args .list .now) (c .before .before .before .loop .i) nan)))
+add-count c =
+    let at-loop = c .before .before .before in
+    let start = at-loop .before .before in
+    omega (arith, c .changed .ensures, one-at-most (changedAt (at-loop .loop .i) (getD (start .args .list .now) (at-loop .loop .i) nan)))
 
 loop-again : tie.Need-loop-again Inv-loop μ-loop
 loop-again c =
-    let list = c .before .before .before .before .before .args .list .now in
-    let i = c .before .before .before .loop .i in
-    omega (arith, c .changed .ensures, one-at-most (changedAt i (getD list i nan)), count-more list i (c .before .before .loop-test .taken))
+    let at-loop-test = c .before .before in
+    let at-loop = at-loop-test .before in
+    let start = at-loop .before .before in
+    let list = start .args .list .now in
+    let i = at-loop .loop .i in
+    omega (arith, c .changed .ensures, one-at-most (changedAt i (getD list i nan)), count-more list i (at-loop-test .loop-test .taken))
 
 returns : tie.Need-returns Inv-loop μ-loop
-returns c = omega (arith, count-none (c .before .before .before .args .list .now) (c .before .loop .i) (c .loop-test .left))
+returns c =
+    let start = c .before .before .before in
+    omega (arith, count-none (start .args .list .now) (c .before .loop .i) (c .loop-test .left))
 
 pub count-changed-spec : {M : Type 1} → statement M
 count-changed-spec =

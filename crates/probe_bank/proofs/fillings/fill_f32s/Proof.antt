@@ -20,8 +20,10 @@ loop-holds c = let l = now (c .before .args .list) in filling-none tapFilling (l
 
 loop-again : tie.Need-loop-again Inv-loop μ-loop
 loop-again c =
-    let l = now (c .before .before .before .before .args .list) in
-    let turn = c .before .before .loop in
+    let at-loop = c .before .before in
+    let start = at-loop .before .before in
+    let l = now (start .args .list) in
+    let turn = at-loop .loop in
     filling-more tapFilling (length l) l (turn .list) (turn .i) (c .filling .result) (turn .inv) (omega (arith, c .before .loop-test .taken, turn .inv .same)) (omega arith) (c .filling .ensures)
 
 same-length : tie.Need-same-length Inv-loop μ-loop
@@ -29,8 +31,10 @@ same-length c = c .before .loop .inv .same
 
 returns : tie.Need-returns Inv-loop μ-loop
 returns c =
-    let l = now (c .before .before .before .args .list) in
-    filling-whole tapFilling (length l) l (c .before .loop .list) (c .before .loop .i) (c .before .loop .inv) (omega (arith, c .loop-test .left, c .before .loop .inv .same)) refl
+    let at-loop = c .before in
+    let start = at-loop .before .before in
+    let l = now (start .args .list) in
+    filling-whole tapFilling (length l) l (at-loop .loop .list) (at-loop .loop .i) (at-loop .loop .inv) (omega (arith, c .loop-test .left, at-loop .loop .inv .same)) refl
 
 pub fill-f32s-spec : {M : Type 1} → statement M
 fill-f32s-spec =

@@ -21,9 +21,10 @@ loop-holds c =
 
 take-one-requires : tie.Need-take-one-requires Inv-loop μ-loop
 take-one-requires c κs =
-    let at = c .before .before .before in
+    let at-goes-on = c .before .before in
+    let at = at-goes-on .before in
     let start = at .before .before .before .before in
-    let free = goes-on-is (at .loop .so-far) (start .args .frames) (sym (c .before .before .goes-on .ensures) ∙ c .before .if1 .taken) in
+    let free = goes-on-is (at .loop .so-far) (start .args .frames) (sym (at-goes-on .goes-on .ensures) ∙ c .before .if1 .taken) in
     (free .1 .1, omega (arith, free .1 .0, start .pre .1 .0))
 
 loop-less : tie.Need-loop-less Inv-loop μ-loop

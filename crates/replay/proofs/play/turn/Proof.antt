@@ -16,14 +16,18 @@ abbrev start : tie.After-gather → tie.Start
 start c = c .before .before .before .before .before .before .before .before .before .before .before
 
 gather-requires : tie.Need-gather-requires
-gather-requires c κs = let s = c .before .before .before .before .before .before .before .before .before .before in (s .pre .1 .1 .within, (s .pre .0 .stamped, s .pre .1 .0 .blocked))
+gather-requires c κs =
+    let before-2 = c .before .before .before .before .before .before .before .before .before .before in
+    let s = before-2 in (s .pre .1 .1 .within, (s .pre .0 .stamped, s .pre .1 .0 .blocked))
 
 -- the frames that are gathered have room
 room : (c : tie.After-gather) → start c .args .so-far .done + c .gather .result .count ≤ start c .args .ear-stride
 room c = let s = start c in turn-room (line s) (s .args .so-far) (c .gather .ensures) (s .pre .1 .1)
 
 put-ears-requires : tie.Need-put-ears-requires
-put-ears-requires c κs = let got = c .before .before .before .before .before .before .before .before .before .before .before .before in omega (arith, room got, start got .fits)
+put-ears-requires c κs =
+    let before-2 = c .before .before .before .before .before .before .before .before .before .before .before .before in
+    let got = before-2 in omega (arith, room got, start got .fits)
 
 rest-if-requires : tie.Need-rest-if-requires
 rest-if-requires c κs =
@@ -34,7 +38,9 @@ rest-if-requires c κs =
     turn-resting (line s) (a .so-far) (got .gather .ensures) (s .pre .0) (s .pre .1 .0) (omega (arith, got .gather .kept)) (proc .process .ensures)
 
 add-t39 : tie.Need-add-t39
-add-t39 c = let got = c .before .before .before .before .before .before .before .before .before .before .before .before .before .before .before .before .before .before .before .before in omega (arith, room got, start got .fits)
+add-t39 c =
+    let before-2 = c .before .before .before .before .before .before .before .before .before .before .before .before .before .before .before .before .before .before .before .before in
+    let got = before-2 in omega (arith, room got, start got .fits)
 
 add-t40 : tie.Need-add-t40
 add-t40 c =
