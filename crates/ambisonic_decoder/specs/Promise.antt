@@ -18,7 +18,8 @@ abbrev pub Block : Type 0
 Block = Blocks.Block Decoded
 
 abbrev pub block : List Float → Shape → List Float → List Float → Block
-block weights s inputs out = blockOf answerOf (refusalOf s weights (length inputs) (length out)) (s .frames) (s .stride) (decoded s weights inputs) out
+block weights s inputs out = blockOf answerOf (refusalOf s weights (length inputs) (length out)) (s .frames) (s .stride)
+    (decoded s weights inputs) out
 
 abbrev pub Processed : List Float → Shape → List Float → List Float → Decoded → List Float → Type 0
 Processed weights s inputs out answer after = record { answer = answer; out = after } ≡ block weights s inputs out

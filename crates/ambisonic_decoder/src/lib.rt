@@ -60,7 +60,8 @@ fn refusal_of(shape: Shape, weights: &[f64], inputs: usize, out: usize) -> u8
 
 // Plays every frame.
 fn play(shape: Shape, weights: &[f64], inputs: &[f32], out: &mut [f32])
-    ensures { λ _. ⌜ now (out .exit) ≡ withFrames (now (out .entry)) (shape .stride) 0 (decoded shape (now (weights .entry)) (now (inputs .entry))) ⌝ }
+    ensures { λ _. ⌜ now (out .exit) ≡ withFrames (now (out .entry)) (shape .stride) 0
+        (decoded shape (now (weights .entry)) (now (inputs .entry))) ⌝ }
 {
     let mut n = 0;
     while n < shape.frames {
@@ -89,7 +90,9 @@ pub fn process(
     inputs: &[f32],
     out: &mut [f32],
 ) -> Decoded
-    ensures { λ r. ⌜ Processed (now (weights .entry)) (record { outputs = outputs; channels = channels; frames = frames; stride = stride }) (now (inputs .entry)) (now (out .entry)) r (now (out .exit)) ⌝ }
+    ensures { λ r. ⌜ Processed (now (weights .entry))
+        (record { outputs = outputs; channels = channels; frames = frames; stride = stride }) (now (inputs .entry))
+        (now (out .entry)) r (now (out .exit)) ⌝ }
 {
     let shape = Shape {
         outputs,

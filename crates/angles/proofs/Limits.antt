@@ -1,4 +1,5 @@
--- The angles that are refused: those that are no number from -limit to limit. Said over the limit, a float that is a number, and so for an azimuth, an elevation and a sine's angle. Assumes nothing.
+-- The angles that are refused: those that are no number from -limit to limit. Said over the limit, a float that is a
+-- number, and so for an azimuth, an elevation and a sine's angle. Assumes nothing.
 use mathlib.Core.Path.{_≡_, refl, sym, ap, _∙_, subst}
 use mathlib.Core.Bool.{true, false, not}
 use Prim.Native.Nat.{_<_}
@@ -24,7 +25,8 @@ module _ (limit x : Float) (h : refusesAngle limit x ≡ false) where
 
   pub accepted-number : 0 < number x .over
   unfolding refusesAngle
-  accepted-number = finite-number x (subst T (sym (not-false (finite x) (or-off (not (finite x)) (not (isInside limit x)) h .0))) tt)
+  accepted-number =
+      finite-number x (subst T (sym (not-false (finite x) (or-off (not (finite x)) (not (isInside limit x)) h .0))) tt)
 
 -- ---- what lies inside is a number, so that one test is enough
 pub refused-is : (limit x : Float) → 0 < number limit .over → refusesAngle limit x ≡ not (isInside limit x)
@@ -46,7 +48,8 @@ module _ (limit x : Float) (L : 0 < number limit .over) where
   inside-size i =
       let X = accepted-number limit x (refused-is limit x L ∙ ap not (is-true (isInside limit x) i)) in
       between-magnitude (number x) (number limit)
-      (subst (λ (z : Fraction). AtMost z (number x)) (number-neg limit) (le-at-most (neg limit) x (and-l (le (neg limit) x) (le x limit) i) opposite-number X))
+      (subst (λ (z : Fraction). AtMost z (number x)) (number-neg limit)
+      (le-at-most (neg limit) x (and-l (le (neg limit) x) (le x limit) i) opposite-number X))
       (le-at-most x limit (and-r (le (neg limit) x) (le x limit) i) X L)
 
   pub accepted-size : refusesAngle limit x ≡ false → AtMost (magnitude (number x)) (number limit)
@@ -54,4 +57,12 @@ module _ (limit x : Float) (L : 0 < number limit .over) where
 
   pub size-accepted : 0 < number x .over → AtMost (magnitude (number x)) (number limit) → refusesAngle limit x ≡ false
   unfolding isInside
-  size-accepted X h = cc (refused-is limit x L, is-true (isInside limit x) (and-i (le (neg limit) x) (le x limit) (at-most-le (neg limit) x opposite-number X (subst (λ (z : Fraction). AtMost z (number x)) (sym (number-neg limit)) (magnitude-above (number x) (number limit) h))) (at-most-le x limit X L (magnitude-below (number x) (number limit) h))))
+  size-accepted X h = cc (
+    refused-is limit x L,
+    is-true (isInside limit x)
+        (and-i (le (neg limit) x) (le x limit)
+        (at-most-le (neg limit) x opposite-number X
+        (subst (λ (z : Fraction). AtMost z (number x)) (sym (number-neg limit))
+        (magnitude-above (number x) (number limit) h)))
+        (at-most-le x limit X L (magnitude-below (number x) (number limit) h))),
+  )

@@ -1,4 +1,5 @@
--- The promise is kept: all of it holds of the answer that the definition gives, for either wave, and so of the two answers that the program can give. Assumes nothing.
+-- The promise is kept: all of it holds of the answer that the definition gives, for either wave, and so of the two
+-- answers that the program can give. Assumes nothing.
 use mathlib.Core.Path.{_≡_, refl, sym, ap, _∙_, subst}
 use mathlib.Core.Bool.{Bool, true, false, not}
 use Prim.Native.Nat.{ℕ, _<_}
@@ -45,18 +46,24 @@ module _ (w : Wave) (d : Float) where
   outcome-kept = record {
     bits = refl;
     words = λ h. record {
-      near = within-weaken (lit≤ tt) (subst (λ (v : Float). Within 50 (number v) (defined w (number d))) (sym (value-is h)) (computed-near w d (accepted-number d h)));
+      near = within-weaken (lit≤ tt)
+          (subst (λ (v : Float). Within 50 (number v) (defined w (number d))) (sym (value-is h))
+          (computed-near w d (accepted-number d h)));
       exact = λ m. value-is h ∙ computed-exact w d (accepted-number d h) m;
     };
   }
 
   -- ---- each keeps the promise: b is what the test said, a the place on the turn and v the value there
-  pub refused-kept : (b : Bool) → b ≡ isInside limit d → not b ≡ true → Promise w d (record { refusal = 3; value = zero-float })
+  pub refused-kept : (b : Bool) → b ≡ isInside limit d → not b ≡ true
+      → Promise w d (record { refusal = 3; value = zero-float })
   refused-kept b e h =
       let r : isRefused d ≡ true = refused-is d ∙ ap not (sym e) ∙ h in
-      subst (Promise w d) (sym (answered-by (accepting (computed w d)) refusing (refusalOf d) 3 (lit< tt) (cond-true 3 0 r))) outcome-kept
+      subst (Promise w d)
+      (sym (answered-by (accepting (computed w d)) refusing (refusalOf d) 3 (lit< tt) (cond-true 3 0 r)))
+      outcome-kept
 
-  pub accepted-kept : (b : Bool) (a : ℕ) (v : Float) → b ≡ isInside limit d → not b ≡ false → a ≡ place d → v ≡ waveAt w a → Promise w d (record { refusal = 0; value = v })
+  pub accepted-kept : (b : Bool) (a : ℕ) (v : Float) → b ≡ isInside limit d → not b ≡ false → a ≡ place d
+      → v ≡ waveAt w a → Promise w d (record { refusal = 0; value = v })
   unfolding computed
   accepted-kept b a v e h p q =
       let r : isRefused d ≡ false = refused-is d ∙ ap not (sym e) ∙ h in

@@ -50,11 +50,14 @@ unfolding refusesAngle isInside lt le eq neg ofInt isMultiple quarters turned si
 side-forgotten p = false≢true (ap sign (p .words refl .exact tt))
 
 -- it takes degrees for radians: at 1 degree the sine of 1 radian, 0.8414709848078965
-radians-taken : Promise sine (float (pos 1)) (record { refusal = 0; value = fin false 3789648413623927 (negsuc 51) }) → ⊥
-unfolding refusesAngle isInside lt le eq neg ofInt defined isMultiple quarters turned reduced around radians sineSum term power factorial
+radians-taken : Promise sine (float (pos 1)) (record { refusal = 0; value = fin false 3789648413623927 (negsuc 51) })
+    → ⊥
+unfolding refusesAngle isInside lt le eq neg ofInt defined isMultiple quarters turned reduced around radians sineSum
+    term power factorial
 radians-taken p = le→leb _ _ (p .words refl .near .near)
 
 -- it keeps 39 binary places: the sine of 2 degrees, cut there, is more than 2^-40 too small
 cut-to-39-places : Promise sine (float (pos 2)) (record { refusal = 0; value = fin false 19186201213 (negsuc 38) }) → ⊥
-unfolding refusesAngle isInside lt le eq neg ofInt defined isMultiple quarters turned reduced around radians sineSum term power factorial
+unfolding refusesAngle isInside lt le eq neg ofInt defined isMultiple quarters turned reduced around radians sineSum
+    term power factorial
 cut-to-39-places p = le→leb _ _ (p .words refl .near .near)

@@ -2,13 +2,15 @@
 use mathlib.Core.Path.{_≡_, sym, ap, subst}
 use mathlib.Core.Bool.{Bool, cond}
 use Prim.Native.Nat.{ℕ, zero, suc, _+_, _-_, _*_, _^_, _≤_, _<_}
-use native.Mathlib.Nat.{le-refl, le-trans, le-of-eq, mul-pos, mul-comm, mul-le-mul, mul-le-mul-left, mul-le-mul-right, div-le-of-le-mul}
+use native.Mathlib.Nat.{le-refl, le-trans, le-of-eq, mul-pos, mul-comm, mul-le-mul, mul-le-mul-left, mul-le-mul-right}
+use native.Mathlib.Nat.{div-le-of-le-mul}
 use native.Mathlib.Omega.{arith}
 use lib.Dec.{lit≤}
 use lib.Pow.{shr-mono}
 use borrow.Author.Tests.{le-leb, lt-leb}
 use Rattle.lists.proofs.Tests.{by-at-most}
-use Rattle.angles.specs.Computed.{one, turn, half, degree, short, times, radians, nesting, nest, outermost, fromOne}
+use Rattle.angles.specs.Computed.{one, turn, half, degree, short, times, radians, nesting, nest, outermost}
+use Rattle.angles.specs.Computed.{fromOne}
 
 -- ---- the nestings
 
@@ -27,7 +29,8 @@ times-most y f h = div-le-of-le-mul one (le-trans (mul-le-mul-left y h) (le-of-e
 
 pub nesting-most : (y f j : ℕ) → y ≤ 12 * one → f ≤ one → 2 ≤ j → nesting y f j ≤ one
 unfolding nesting
-nesting-most y f j h k l = div-le-of-le-mul ((j + 1) * (j + 2)) (le-trans (le-trans (times-most y f k) h) (mul-le-mul-right one (twelve j l)))
+nesting-most y f j h k l =
+    div-le-of-le-mul ((j + 1) * (j + 2)) (le-trans (le-trans (times-most y f k) h) (mul-le-mul-right one (twelve j l)))
 
 pub divisor-positive : (j : ℕ) → 0 < (j + 1) * (j + 2)
 divisor-positive j = mul-pos {m = j + 1} {n = j + 2} (omega arith) (omega arith)

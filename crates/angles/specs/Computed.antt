@@ -1,5 +1,6 @@
--- What the program computes, step by step, in whole numbers: angles in units of 2 ^ -52 degree, all else in units of 2 ^ -60, and the last step in floats. Nobody has to believe it: specs/Promise.antt ties
--- the results to the defined values. Definitions only.
+-- What the program computes, step by step, in whole numbers: angles in units of 2 ^ -52 degree, all else in units of 2
+-- ^ -60, and the last step in floats. Nobody has to believe it: specs/Promise.antt ties the results to the defined
+-- values. Definitions only.
 use Prim.Native.Nat.{ℕ, zero, suc, _+_, _-_, _*_, _/_, _%_, _^_}
 use mathlib.Core.Bool.{Bool, false, not, _&&_, cond}
 use lib.Dec.{eqb, leb, ltb}

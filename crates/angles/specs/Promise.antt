@@ -1,5 +1,7 @@
--- Document 01, 'Refusal numbers': 3 is given exactly when "an angle [..] is NaN or infinite, or [..] a sine's angle outside -1080..1080 degrees", and "A refusal returns its number, [..] 0.0 for any number".
--- 'Angles': "The program's sine and cosine must be within 2^-40 of the defined sum at every accepted angle, and exactly 0, 1 or -1 at multiples of 90." Definitions only.
+-- Document 01, 'Refusal numbers': 3 is given exactly when "an angle [..] is NaN or infinite, or [..] a sine's angle
+-- outside -1080..1080 degrees", and "A refusal returns its number, [..] 0.0 for any number". 'Angles': "The program's
+-- sine and cosine must be within 2^-40 of the defined sum at every accepted angle, and exactly 0, 1 or -1 at multiples
+-- of 90." Definitions only.
 use Prim.Native.Nat.{ℕ}
 use mathlib.Core.Path.{_≡_}
 use mathlib.Core.Bool.{Bool}
@@ -36,9 +38,11 @@ exactly sine = zero-float ∷ one-float ∷ zero-float ∷ minus-one-float ∷ [
 exactly cosine = one-float ∷ zero-float ∷ minus-one-float ∷ zero-float ∷ []
 
 abbrev pub outcome : Wave → Float → Answer
-outcome w d = answered (refusalOf d) (record { refusal = 0; value = computed w d }) (λ n. record { refusal = n; value = zero-float })
+outcome w d = answered (refusalOf d) (record { refusal = 0; value = computed w d })
+    (λ n. record { refusal = n; value = zero-float })
 
--- of the value at an accepted angle: how near it is to the defined one, being a finite number, and what it is at a multiple of 90
+-- of the value at an accepted angle: how near it is to the defined one, being a finite number, and what it is at a
+-- multiple of 90
 pub record AngleWords (w : Wave) (d value : Float) : Type 0 where
   pub near : Within angleBits (number value) (defined w (number d))
   pub exact : T (isMultiple (number d)) → value ≡ getD (exactly w) (quarters (number d)) zero-float

@@ -1,5 +1,7 @@
--- Item 11 of the marked drill table (document 02, E2 and E6): the bank of one row at 0, L = 1, left 1.0, right 0.5 is exactly the bytes of document 01 in version 1, and one elevation more in version 2, which is what
--- is written; both read as that bank, at elevation 0; each turns into the other; and without the last byte those of document 01 are refused with 14 at 1. Assumes nothing.
+-- Item 11 of the marked drill table (document 02, E2 and E6): the bank of one row at 0, L = 1, left 1.0, right 0.5 is
+-- exactly the bytes of document 01 in version 1, and one elevation more in version 2, which is what is written; both
+-- read as that bank, at elevation 0; each turns into the other; and without the last byte those of document 01 are
+-- refused with 14 at 1. Assumes nothing.
 use mathlib.Core.Path.{_≡_, refl, sym, ap, _∙_}
 use mathlib.Core.Bool.{true}
 use mathlib.Core.List.{List, flatMap}
@@ -50,20 +52,28 @@ file-2 : IsFile 2 oneRowBytes2 oneRow
 file-2 = record { holds = holds-2 oneRow; keeps = bank-keeps; bytes = bank-bytes-2 }
 
 written-2 : writeBank 2 oneRow ≡ record { answer = record { refusal = 0; offset = 0; bytes = 21 }; file = oneRowBytes2 }
-written-2 = λ i. record { answer = record { refusal = 0; offset = 0; bytes = length (bank-bytes-2 i) }; file = bank-bytes-2 i }
+written-2 =
+    λ i. record { answer = record { refusal = 0; offset = 0; bytes = length (bank-bytes-2 i) }; file = bank-bytes-2 i }
 
 -- what every writing, turning and reading of them comes to
 
-pub drill-written : (buffer : List ℕ) (w : WriteOutcome) → length buffer ≡ 21 → Writes oneRow buffer w → w ≡ record { answer = record { refusal = 0; offset = 0; bytes = 21 }; file = oneRowBytes2 }
+pub drill-written : (buffer : List ℕ) (w : WriteOutcome) → length buffer ≡ 21 → Writes oneRow buffer w
+    → w ≡ record { answer = record { refusal = 0; offset = 0; bytes = 21 }; file = oneRowBytes2 }
 drill-written buffer w h r =
     is-written oneRow buffer w r bank-keeps (h ∙ sym (ap length bank-bytes-2)) ∙ written-2
 
-pub drill-forward : (out : List ℕ) (w : WriteOutcome) → length out ≡ 21 → ToVersion2 oneRowBytes out w → w ≡ record { answer = record { refusal = 0; offset = 0; bytes = 21 }; file = oneRowBytes2 }
+pub drill-forward : (out : List ℕ) (w : WriteOutcome) → length out ≡ 21 → ToVersion2 oneRowBytes out w
+    → w ≡ record { answer = record { refusal = 0; offset = 0; bytes = 21 }; file = oneRowBytes2 }
 drill-forward out w h t = t .words .accepted oneRow file-1 (h ∙ sym (ap length bank-bytes-2)) ∙ written-2
 
-pub drill-back : (out : List ℕ) (w : WriteOutcome) → length out ≡ 19 → ToVersion1 oneRowBytes2 out w → w ≡ record { answer = record { refusal = 0; offset = 0; bytes = 19 }; file = oneRowBytes }
+pub drill-back : (out : List ℕ) (w : WriteOutcome) → length out ≡ 19 → ToVersion1 oneRowBytes2 out w
+    → w ≡ record { answer = record { refusal = 0; offset = 0; bytes = 19 }; file = oneRowBytes }
 drill-back out w h t =
-    t .words .accepted oneRow file-2 bank-level (h ∙ sym (ap length bank-bytes)) ∙ (λ i. record { answer = record { refusal = 0; offset = 0; bytes = length (bank-bytes i) }; file = bank-bytes i })
+    t .words .accepted oneRow file-2 bank-level (h ∙ sym (ap length bank-bytes)) ∙ (λ i. record {
+      answer =
+          record { refusal = 0; offset = 0; bytes = length (bank-bytes i) };
+      file = bank-bytes i;
+    })
 
 module _ (zs es : List ℤ) (xs : List Float) (lists : Lists zs es xs) (o : ReadOutcome) where
   pub drill-read : Reads oneRowBytes zs es xs o → o ≡ readBank oneRow zs es xs
@@ -73,4 +83,5 @@ module _ (zs es : List ℤ) (xs : List Float) (lists : Lists zs es xs) (o : Read
   drill-read-2 r = is-accepted oneRowBytes2 zs es xs o r lists 2 oneRow file-2
 
   pub drill-cut : Reads (take 18 oneRowBytes) zs es xs o → o ≡ readRefused (wrong 14 1) zs es xs
-  drill-cut r = r .bits ∙ sym (read-bad zs es xs (take 18 oneRowBytes) lists (wrong 14 1) bank-cut (λ z. omega (arith, z)))
+  drill-cut r =
+      r .bits ∙ sym (read-bad zs es xs (take 18 oneRowBytes) lists (wrong 14 1) bank-cut (λ z. omega (arith, z)))

@@ -20,7 +20,8 @@ use Rattle.bank_form.specs.declared.Fault.{Fault}
 use Rattle.bank_form.specs.Bank.{Bank, rows}
 use Rattle.bank_form.specs.Encoding.{encode}
 use Rattle.bank_form.specs.Version.{rowSize}
-use Rattle.bank_form.specs.Fault.{azimuthsFrom, elevationsFrom, tapsFrom, versionIn, rowsIn, lengthIn, bankIn, sound, wrong, orElse, unless, faultIn, fault, isFile}
+use Rattle.bank_form.specs.Fault.{azimuthsFrom, elevationsFrom, tapsFrom, versionIn, rowsIn, lengthIn, bankIn, sound}
+use Rattle.bank_form.specs.Fault.{wrong, orElse, unless, faultIn, fault, isFile}
 use Rattle.bank_form.specs.FaultLaws.{TakenFrom, suffices}
 use Rattle.bank_form.specs.WriteFault.{countsFault, writeFault}
 use Rattle.bank_form.proofs.Exact.{rows-in, exactly, none-found}
@@ -28,8 +29,10 @@ use Rattle.bank_form.proofs.Walk.{else-stop, else-none, unless-none, unless-pas
 use Rattle.bank_form.proofs.Start.{start-suffices, whole-start}
 use Rattle.bank_form.proofs.RoundTrip.{Counted, length-encode}
 use Rattle.refusals.proofs.Ranges.{within-true}
-use Rattle.bank.specs.Reading.{ReadOutcome, afterLists, readRefused, readBank, readAs, readRefusal, readOutcome, startRefusal, startOutcome, ReadsStart}
-use Rattle.bank.specs.Writing.{WriteOutcome, lengthsFit, writeRefusal, writeRefused, writeBank, writeAs, writeOutcome}
+use Rattle.bank.specs.Reading.{ReadOutcome, afterLists, readRefused, readBank, readAs, readRefusal, readOutcome}
+use Rattle.bank.specs.Reading.{startRefusal, startOutcome, ReadsStart}
+use Rattle.bank.specs.Writing.{WriteOutcome, lengthsFit, writeRefusal, writeRefused, writeBank, writeAs}
+use Rattle.bank.specs.Writing.{writeOutcome}
 
 -- ---- reading
 
@@ -38,15 +41,18 @@ module _ (zs es : List ℤ) (xs : List Float) where
   abbrev pub ListsFit : Bool
   ListsFit = eqb (length zs) 8 && eqb (length es) 8 && eqb (length xs) 8192
 
-  pub as-refused : (f g : Fault) (b : Bank) → f ≡ g → (g .refusal ≡ 0 → ⊥) → readRefused g zs es xs ≡ readAs f b zs es xs
+  pub as-refused : (f g : Fault) (b : Bank) → f ≡ g → (g .refusal ≡ 0 → ⊥)
+      → readRefused g zs es xs ≡ readAs f b zs es xs
   as-refused f g b e bad =
-      sym (answered-refused _ (λ k. readRefused f zs es xs) (f .refusal) (λ z. bad (ap (λ (q : Fault). q .refusal) (sym e) ∙ z)) ∙ ap (λ (q : Fault). readRefused q zs es xs) e)
+      sym (answered-refused _ (λ k. readRefused f zs es xs) (f .refusal)
+      (λ z. bad (ap (λ (q : Fault). q .refusal) (sym e) ∙ z)) ∙ ap (λ (q : Fault). readRefused q zs es xs) e)
 
   as-read : (f : Fault) (b : Bank) → f .refusal ≡ 0 → readBank b zs es xs ≡ readAs f b zs es xs
   as-read f b e = sym (answered-accepted _ (λ k. readRefused f zs es xs) (f .refusal) e)
 
   pub as-told : (f : Fault) (b : Bank) → readAs f b zs es xs .answer .refusal ≡ f .refusal
-  as-told f b = told-is (readBank b zs es xs) (λ k. readRefused f zs es xs) (λ (o : ReadOutcome). o .answer .refusal) refl (f .refusal) refl
+  as-told f b = told-is (readBank b zs es xs) (λ k. readRefused f zs es xs) (λ (o : ReadOutcome). o .answer .refusal)
+      refl (f .refusal) refl
 
   -- the same refusal, and the same bank where there is none
   as-same : (f g : Fault) (b c : Bank) → f ≡ g → (f .refusal ≡ 0 → b ≡ c) → readAs f b zs es xs ≡ readAs g c zs es xs
@@ -96,7 +102,8 @@ module _ (zs es : List ℤ) (xs : List Float) where
     abbrev startWrong : Fault
     startWrong = orElse (unless (suffices (length start) size) 5 0) (faultIn size start)
 
-    start-refused : (g : Fault) → startRefusal start size zs es xs ≡ g → (g .refusal ≡ 0 → ⊥) → readRefused g zs es xs ≡ startOutcome start size zs es xs
+    start-refused : (g : Fault) → startRefusal start size zs es xs ≡ g → (g .refusal ≡ 0 → ⊥)
+        → readRefused g zs es xs ≡ startOutcome start size zs es xs
     unfolding startOutcome
     start-refused g e bad = as-refused (startRefusal start size zs es xs) g (bankIn start) e bad
 
@@ -105,21 +112,28 @@ module _ (zs es : List ℤ) (xs : List Float) where
     lists-lent h = start-refused (wrong 5 0) (wrong-lists startWrong h) (λ z. omega (arith, z))
 
     module _ (fit : ListsFit ≡ true) where
-      pub start-lent : suffices (length start) size ≡ false → readRefused (wrong 5 0) zs es xs ≡ startOutcome start size zs es xs
+      pub start-lent : suffices (length start) size ≡ false
+          → readRefused (wrong 5 0) zs es xs ≡ startOutcome start size zs es xs
       unfolding startRefusal
-      start-lent h = start-refused (wrong 5 0) (right-lists startWrong fit ∙ unless-fails (suffices (length start) size) 5 0 (faultIn size start) (omega arith) h) (λ z. omega (arith, z))
+      start-lent h = start-refused (wrong 5 0)
+          (right-lists startWrong fit ∙ unless-fails (suffices (length start) size) 5 0 (faultIn size start)
+          (omega arith) h) (λ z. omega (arith, z))
 
       module _ (enough : suffices (length start) size ≡ true) where
         judged : startRefusal start size zs es xs ≡ faultIn size start
         unfolding startRefusal
-        judged = right-lists startWrong fit ∙ unless-passes (suffices (length start) size) 5 0 (faultIn size start) enough
+        judged = right-lists startWrong fit ∙ unless-passes (suffices (length start) size) 5 0 (faultIn size start)
+            enough
 
-        pub broken : (r : Fault) → r ≡ faultIn size start → (r .refusal ≡ 0 → ⊥) → readRefused r zs es xs ≡ startOutcome start size zs es xs
+        pub broken : (r : Fault) → r ≡ faultIn size start → (r .refusal ≡ 0 → ⊥)
+            → readRefused r zs es xs ≡ startOutcome start size zs es xs
         broken r e bad = start-refused r (judged ∙ sym e) bad
 
-        pub accepted : faultIn size start .refusal ≡ 0 → readBank (bankIn start) zs es xs ≡ startOutcome start size zs es xs
+        pub accepted : faultIn size start .refusal ≡ 0 → readBank (bankIn start) zs es xs
+            ≡ startOutcome start size zs es xs
         unfolding startOutcome
-        accepted none = as-read (startRefusal start size zs es xs) (bankIn start) (ap (λ (f : Fault). f .refusal) judged ∙ none)
+        accepted none = as-read (startRefusal start size zs es xs) (bankIn start)
+            (ap (λ (f : Fault). f .refusal) judged ∙ none)
 
     -- what is left is what reading a file leaves that they were taken from
     module _ (file : List ℕ) (enough : T (suffices (length start) size)) (kept : TakenFrom start size file) where
@@ -128,17 +142,20 @@ module _ (zs es : List ℤ) (xs : List Float) where
       start-fault =
           let yes = is-true (suffices (length start) size) enough in
           ap (λ (f : Fault). afterLists f zs es xs)
-          (unless-passes (suffices (length start) size) 5 0 (faultIn size start) yes ∙ start-suffices start size file enough kept)
+          (unless-passes (suffices (length start) size) 5 0 (faultIn size start) yes
+          ∙ start-suffices start size file enough kept)
 
       whole-file : startRefusal start size zs es xs .refusal ≡ 0 → bankIn start ≡ bankIn file
       unfolding startRefusal
       whole-file e =
-          let none = else-none (unless (suffices (length start) size) 5 0) (faultIn size start) (lists-accepted _ e .none) in
+          let none = else-none (unless (suffices (length start) size) 5 0) (faultIn size start)
+          (lists-accepted _ e .none) in
           ap bankIn (sym (whole-start start size file enough kept (none .1)))
 
       start-reads : startOutcome start size zs es xs ≡ readOutcome file zs es xs
       unfolding startOutcome readOutcome
-      start-reads = as-same (startRefusal start size zs es xs) (readRefusal file zs es xs) (bankIn start) (bankIn file) start-fault whole-file
+      start-reads = as-same (startRefusal start size zs es xs) (readRefusal file zs es xs) (bankIn start)
+          (bankIn file) start-fault whole-file
 
   -- ---- of a whole file, in lists of the lengths asked for
 
@@ -149,28 +166,46 @@ module _ (zs es : List ℤ) (xs : List Float) where
 
     pub read-good : isFile file ≡ true → readBank (bankIn file) zs es xs ≡ readOutcome file zs es xs
     unfolding readOutcome
-    read-good h = as-read (readRefusal file zs es xs) (bankIn file) (ap (λ (f : Fault). f .refusal) found ∙ none-found file h)
+    read-good h =
+        as-read (readRefusal file zs es xs) (bankIn file) (ap (λ (f : Fault). f .refusal) found ∙ none-found file h)
 
-    pub read-bad : (f : Fault) → fault file ≡ f → (f .refusal ≡ 0 → ⊥) → readRefused f zs es xs ≡ readOutcome file zs es xs
+    pub read-bad : (f : Fault) → fault file ≡ f → (f .refusal ≡ 0 → ⊥)
+        → readRefused f zs es xs ≡ readOutcome file zs es xs
     unfolding readOutcome
     read-bad f e bad = as-refused (readRefusal file zs es xs) f (bankIn file) (found ∙ e) bad
 
-  pub reads-start : (start : List ℕ) (size : ℕ) (o : ReadOutcome) → o ≡ startOutcome start size zs es xs → ReadsStart start size zs es xs o
+  pub reads-start : (start : List ℕ) (size : ℕ) (o : ReadOutcome) → o ≡ startOutcome start size zs es xs
+      → ReadsStart start size zs es xs o
   reads-start start size o e = record {
     bits = e;
-    words = λ file bytes enough kept. record { bits = e ∙ start-reads start size file enough kept; words = exactly file bytes };
+    words = λ file bytes enough kept. record {
+      bits = e ∙ start-reads start size file enough kept;
+      words = exactly file bytes;
+    };
   }
 
 module _ (file : List ℕ) (zs es : List ℤ) (xs : List Float) where
   -- what stands in the lists once the rows are filled in
   pub filled : (v n l : ℕ) (ys ts : List ℤ) (ws : List Float) → v ≡ versionIn file → n ≡ rowsIn file → l ≡ lengthIn file
-      → ys ≡ placed zs 0 (azimuthsFrom file v l 9 n) → ts ≡ placed es 0 (elevationsFrom file v l 9 n) → ws ≡ placed xs 0 (tapsFrom file v l 9 n)
-      → _≡_ {A = ReadOutcome} (record { answer = record { refusal = 0; offset = 0; rows = n; length = l }; azimuths = ys; elevations = ts; taps = ws }) (readBank (bankIn file) zs es xs)
+      → ys ≡ placed zs 0 (azimuthsFrom file v l 9 n) → ts ≡ placed es 0 (elevationsFrom file v l 9 n)
+      → ws ≡ placed xs 0 (tapsFrom file v l 9 n)
+      → _≡_ {A = ReadOutcome}
+      (record {
+        answer = record { refusal = 0; offset = 0; rows = n; length = l };
+        azimuths = ys;
+        elevations = ts;
+        taps = ws;
+      }) (readBank (bankIn file) zs es xs)
   filled v n l ys ts ws d e f g k h =
       let zs′ : ys ≡ placed zs 0 (bankIn file .azimuths) = rw (d, e, f) at g in
       let es′ : ts ≡ placed es 0 (bankIn file .elevations) = rw (d, e, f) at k in
       let xs′ : ws ≡ placed xs 0 (bankIn file .taps) = rw (d, e, f) at h in
-      λ i. record { answer = record { refusal = 0; offset = 0; rows = (e ∙ sym (rows-in file)) i; length = f i }; azimuths = zs′ i; elevations = es′ i; taps = xs′ i }
+      λ i. record {
+        answer = record { refusal = 0; offset = 0; rows = (e ∙ sym (rows-in file)) i; length = f i };
+        azimuths = zs′ i;
+        elevations = es′ i;
+        taps = xs′ i;
+      }
 
 -- ---- the lengths that writing is lent
 
@@ -187,13 +222,15 @@ module _ (n elevations taps l file : ℕ) where
     other-taps t e h = let out : eqb taps (2 * n * l) ≡ false = sym e ∙ h in sym (rw (eq-eqb elevations n paired, out))
 
     pub short-file : file < 9 → false ≡ Fit
-    short-file h = sym (rw (eq-eqb elevations n paired, ne-eqb file (9 + n * rowSize 2 l) (λ e. omega arith)) (and-false (eqb taps (2 * n * l))))
+    short-file h = sym (rw (eq-eqb elevations n paired, ne-eqb file (9 + n * rowSize 2 l) (λ e. omega arith))
+        (and-false (eqb taps (2 * n * l))))
 
     module _ (t : Bool) (is : t ≡ eqb taps (2 * n * l)) (holds : t ≡ true) where
       pub counted : taps ≡ 2 * n * l
       counted = eqb-true taps (2 * n * l) (sym is ∙ holds)
 
-      -- the bytes behind the head are as many as 64 bits hold: without taps those of the rows alone, and with some at most twice the taps'
+      -- the bytes behind the head are as many as 64 bits hold: without taps those of the rows alone, and with some at
+      -- most twice the taps'
       pub bytes-fit : n * 2 < 2 ^ 63 → taps * 4 < 2 ^ 63 → n * 4 + taps * 4 < 2 ^ 64
       bytes-fit h g = go l counted
         where
@@ -205,8 +242,18 @@ module _ (n elevations taps l file : ℕ) where
       same-length h =
           let e = counted in
           elim (ℕ-discrete file (9 + n * rowSize 2 l)) [
-            | yes k ↦ eq-eqb (file - 9) (n * 4 + taps * 4) (omega arith) ∙ sym (rw (eq-eqb elevations n paired, eq-eqb taps (2 * n * l) e, eq-eqb file (9 + n * rowSize 2 l) k))
-            | no k ↦ ne-eqb (file - 9) (n * 4 + taps * 4) (λ g. k (omega arith)) ∙ sym (rw (eq-eqb elevations n paired, eq-eqb taps (2 * n * l) e, ne-eqb file (9 + n * rowSize 2 l) k))
+            | yes k ↦ eq-eqb (file - 9) (n * 4 + taps * 4) (omega arith)
+                ∙ sym (rw (
+                  eq-eqb elevations n paired,
+                  eq-eqb taps (2 * n * l) e,
+                  eq-eqb file (9 + n * rowSize 2 l) k,
+                ))
+            | no k ↦ ne-eqb (file - 9) (n * 4 + taps * 4) (λ g. k (omega arith))
+                ∙ sym (rw (
+                  eq-eqb elevations n paired,
+                  eq-eqb taps (2 * n * l) e,
+                  ne-eqb file (9 + n * rowSize 2 l) k,
+                ))
           ]
 
 -- ---- writing
@@ -225,26 +272,32 @@ module _ (n l : ℕ) where
 -- counts that are right, and those that are not
 pub counts-fit : (n l : ℕ) → countsFault n l .refusal ≡ 0 → (n ≤ 8) × (l ≤ 512)
 counts-fit n l e =
-    let both = else-none (unless (within 1 8 n) 15 5) (unless (within 1 512 l) 16 7) e in
-    (within-true 1 8 n (unless-none _ 15 5 (omega arith) (both .0)) .1, within-true 1 512 l (unless-none _ 16 7 (omega arith) (both .1)) .1)
+    let both = else-none (unless (within 1 8 n) 15 5) (unless (within 1 512 l) 16 7) e in (
+      within-true 1 8 n (unless-none _ 15 5 (omega arith) (both .0)) .1,
+      within-true 1 512 l (unless-none _ 16 7 (omega arith) (both .1)) .1,
+    )
 
-pub counts-break : (v : ℕ) (b : Bank) (r : Fault) → r ≡ countsFault (rows b) (b .length) → (r .refusal ≡ 0 → ⊥) → r ≡ writeFault v b
+pub counts-break : (v : ℕ) (b : Bank) (r : Fault) → r ≡ countsFault (rows b) (b .length) → (r .refusal ≡ 0 → ⊥)
+    → r ≡ writeFault v b
 unfolding writeFault
 counts-break v b r e bad = else-stop (countsFault (rows b) (b .length)) _ r e bad
 
 module _ (v : ℕ) (b : Bank) (file : List ℕ) where
   pub refused-as : (f g : Fault) → f ≡ g → (g .refusal ≡ 0 → ⊥) → writeRefused g file ≡ writeAs f v b file
   refused-as f g e bad =
-      sym (answered-refused _ (λ k. writeRefused f file) (f .refusal) (λ z. bad (ap (λ (q : Fault). q .refusal) (sym e) ∙ z)) ∙ ap (λ (q : Fault). writeRefused q file) e)
+      sym (answered-refused _ (λ k. writeRefused f file) (f .refusal)
+      (λ z. bad (ap (λ (q : Fault). q .refusal) (sym e) ∙ z)) ∙ ap (λ (q : Fault). writeRefused q file) e)
 
   pub written-as : (f : Fault) → f .refusal ≡ 0 → writeBank v b ≡ writeAs f v b file
   written-as f e = sym (answered-accepted _ (λ k. writeRefused f file) (f .refusal) e)
 
   pub told-as : (f : Fault) → writeAs f v b file .answer .refusal ≡ f .refusal
-  told-as f = told-is (writeBank v b) (λ k. writeRefused f file) (λ (w : WriteOutcome). w .answer .refusal) refl (f .refusal) refl
+  told-as f = told-is (writeBank v b) (λ k. writeRefused f file) (λ (w : WriteOutcome). w .answer .refusal) refl
+      (f .refusal) refl
 
   pub wrote : (n : ℕ) (last : List ℕ) → n ≡ length (encode v b) → last ≡ encode v b
-      → _≡_ {A = WriteOutcome} (record { answer = record { refusal = 0; offset = 0; bytes = n }; file = last }) (writeBank v b)
+      → _≡_ {A = WriteOutcome} (record { answer = record { refusal = 0; offset = 0; bytes = n }; file = last })
+      (writeBank v b)
   wrote n last e f = λ i. record { answer = record { refusal = 0; offset = 0; bytes = e i }; file = f i }
 
 module _ (b : Bank) (file : List ℕ) where
@@ -255,7 +308,8 @@ module _ (b : Bank) (file : List ℕ) where
 
   -- as numbers
   abbrev sizesFit : Bool
-  sizesFit = eqb (length (b .elevations)) (rows b) && eqb (length (b .taps)) (2 * rows b * b .length) && eqb (length file) (9 + rows b * rowSize 2 (b .length))
+  sizesFit = eqb (length (b .elevations)) (rows b) && eqb (length (b .taps)) (2 * rows b * b .length)
+      && eqb (length file) (9 + rows b * rowSize 2 (b .length))
 
   pub counted-if : length (b .elevations) ≡ rows b → length (b .taps) ≡ 2 * rows b * b .length → Counted b
   counted-if e f = record { paired = e; count = f ∙ omega arith }
@@ -264,32 +318,42 @@ module _ (b : Bank) (file : List ℕ) where
   sizes-same : sizesFit ≡ lengthsFit b file
   sizes-same = go (eqb (length (b .elevations)) (rows b)) (eqb (length (b .taps)) (2 * rows b * b .length)) refl refl
     where
-      go : (s t : Bool) → eqb (length (b .elevations)) (rows b) ≡ s → eqb (length (b .taps)) (2 * rows b * b .length) ≡ t → sizesFit ≡ lengthsFit b file
+      go : (s t : Bool) → eqb (length (b .elevations)) (rows b) ≡ s
+          → eqb (length (b .taps)) (2 * rows b * b .length) ≡ t → sizesFit ≡ lengthsFit b file
       go false t e f = rw e
       go true false e f = rw (e, f)
-      go true true e f = rw (e, f) (ap (eqb (length file)) (sym (length-encode 2 b (counted-if (eqb-true _ _ e) (eqb-true _ _ f)))))
+      go true true e f = rw (e, f)
+          (ap (eqb (length file)) (sym (length-encode 2 b (counted-if (eqb-true _ _ e) (eqb-true _ _ f)))))
 
   pub unlent : sizesFit ≡ false → writeRefused (wrong 5 0) file ≡ writeOutcome b file
   unfolding writeOutcome writeRefusal
-  unlent h = refused-as 2 b file (writeRefusal b file) (wrong 5 0) (unless-fails (lengthsFit b file) 5 0 _ (omega arith) (sym sizes-same ∙ h)) (λ z. omega (arith, z))
+  unlent h = refused-as 2 b file (writeRefusal b file) (wrong 5 0)
+      (unless-fails (lengthsFit b file) 5 0 _ (omega arith) (sym sizes-same ∙ h)) (λ z. omega (arith, z))
 
   lengths-are : lengthsFit b file ≡ true → Lent
   lengths-are h =
       let both = and-eq-true-iff _ (eqb (length file) (length (encode 2 b))) .0 h in
-      let first = and-eq-true-iff (eqb (length (b .elevations)) (rows b)) (eqb (length (b .taps)) (2 * rows b * b .length)) .0 (both .0) in
+      let first = and-eq-true-iff (eqb (length (b .elevations)) (rows b))
+      (eqb (length (b .taps)) (2 * rows b * b .length)) .0 (both .0) in
       record { counted = counted-if (eqb-true _ _ (first .0)) (eqb-true _ _ (first .1)); size = eqb-true _ _ (both .1) }
 
   pub lent : sizesFit ≡ true → Lent
   lent h = lengths-are (sym sizes-same ∙ h)
 
   pub lent-fit : Lent → lengthsFit b file ≡ true
-  lent-fit l = rw (eq-eqb _ _ (l .counted .paired), eq-eqb (length (b .taps)) (2 * rows b * b .length) (l .counted .count ∙ omega arith), eq-eqb _ _ (l .size))
+  lent-fit l = rw (
+    eq-eqb _ _ (l .counted .paired),
+    eq-eqb (length (b .taps)) (2 * rows b * b .length)
+        (l .counted .count ∙ omega arith),
+    eq-eqb _ _ (l .size),
+  )
 
   judged-bank : Lent → writeRefusal b file ≡ writeFault 2 b
   unfolding writeRefusal
   judged-bank l = unless-passes _ 5 0 _ (lent-fit l)
 
-  pub breaks : Lent → (r : Fault) → r ≡ writeFault 2 b → (r .refusal ≡ 0 → ⊥) → writeRefused r file ≡ writeOutcome b file
+  pub breaks : Lent → (r : Fault) → r ≡ writeFault 2 b → (r .refusal ≡ 0 → ⊥)
+      → writeRefused r file ≡ writeOutcome b file
   unfolding writeOutcome
   breaks l r e bad = refused-as 2 b file (writeRefusal b file) r (judged-bank l ∙ sym e) bad
 

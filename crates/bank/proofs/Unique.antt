@@ -8,10 +8,12 @@ use Rattle.bank.proofs.to_version_2
 use Rattle.bank.proofs.to_version_1
 
 read-unique : AllowsOneAnswer read.ended read.Reads.Learnt
-read-unique κs a = determined-by (λ z h i. (h .bits i .answer, (_, (h .bits i .azimuths, (h .bits i .elevations, (h .bits i .taps, _))))))
+read-unique κs a = determined-by
+    (λ z h i. (h .bits i .answer, (_, (h .bits i .azimuths, (h .bits i .elevations, (h .bits i .taps, _))))))
 
 read-start-unique : AllowsOneAnswer read_start.ended read_start.Reads.Learnt
-read-start-unique κs a = determined-by (λ z h i. (h .bits i .answer, (_, (_, (h .bits i .azimuths, (h .bits i .elevations, (h .bits i .taps, _)))))))
+read-start-unique κs a = determined-by
+    (λ z h i. (h .bits i .answer, (_, (_, (h .bits i .azimuths, (h .bits i .elevations, (h .bits i .taps, _)))))))
 
 write-unique : AllowsOneAnswer write.ended write.Reads.Learnt
 write-unique κs a = determined-by (λ z h i. (h i .answer, (_, (_, (_, (_, (h i .file, _)))))))

@@ -1,4 +1,5 @@
--- Worked conversions (document 02, E6): which refusal comes first, in whatever output, and three rows there and back. Assumes nothing.
+-- Worked conversions (document 02, E6): which refusal comes first, in whatever output, and three rows there and back.
+-- Assumes nothing.
 use mathlib.Core.Path.{_≡_, refl, sym, ap, _∙_}
 use mathlib.Core.Bool.{true}
 use mathlib.Core.List.{List, [], _∷_, flatMap}
@@ -10,7 +11,8 @@ use lib.ListN.{length}
 use Rattle.formats.specs.Floats.{one-float, half-float}
 use Rattle.big_endian.specs.Bytes.{bytesOf}
 use Rattle.big_endian.specs.Lists.{fieldBytes}
-use Rattle.bank_form.specs.Bank.{Bank, pairsOf, unlike, differ, isAzimuth, isElevation, isTap, isLevel, pairwise, valid, level}
+use Rattle.bank_form.specs.Bank.{Bank, pairsOf, unlike, differ, isAzimuth, isElevation, isTap, isLevel, pairwise}
+use Rattle.bank_form.specs.Bank.{valid, level}
 use Rattle.bank_form.specs.Version.{elevationBytes}
 use Rattle.bank_form.specs.Encoding.{rowBytes, headBytes, encode}
 use Rattle.bank_form.specs.Fault.{wrong}
@@ -25,7 +27,8 @@ use lib.ListN.{set}
 -- ---- the length of the output comes last
 
 forward-cut : (out : List ℕ) → conversionRefusal 1 2 (set example2 0 1) out ≡ wrong 14 1
-forward-cut out = forward-told (set example2 0 1) out (wrong 14 1) version-2-with-1-in-front-forward (λ z. omega (arith, z))
+forward-cut out =
+    forward-told (set example2 0 1) out (wrong 14 1) version-2-with-1-in-front-forward (λ z. omega (arith, z))
 
 back-at-901 : (out : List ℕ) → conversionRefusal 2 1 (oneAt 0x00 0x00 0x03 0x85) out ≡ wrong 20 11
 back-at-901 out = back-told (oneAt 0x00 0x00 0x03 0x85) out (wrong 20 11) elevation-901-back (λ z. omega (arith, z))
@@ -73,8 +76,11 @@ three-2 : IsFile 2 threeBytes2 threeRows
 unfolding threeRows encode headBytes rowBytes pairsOf elevationBytes fieldBytes flatMap bytesOf toBits
 three-2 = record { holds = holds-2 threeRows; keeps = three-keep; bytes = refl }
 
-three-forward : (out : List ℕ) (w : WriteOutcome) → length out ≡ 45 → ToVersion2 threeBytes out w → w ≡ handed threeBytes2
-three-forward out w h t = t .words .accepted threeRows three-1 (h ∙ sym (ap length (three-2 .bytes))) ∙ ap handed (three-2 .bytes)
+three-forward : (out : List ℕ) (w : WriteOutcome) → length out ≡ 45 → ToVersion2 threeBytes out w
+    → w ≡ handed threeBytes2
+three-forward out w h t =
+    t .words .accepted threeRows three-1 (h ∙ sym (ap length (three-2 .bytes))) ∙ ap handed (three-2 .bytes)
 
 three-back : (out : List ℕ) (w : WriteOutcome) → length out ≡ 39 → ToVersion1 threeBytes2 out w → w ≡ handed threeBytes
-three-back out w h t = t .words .accepted threeRows three-2 three-level (h ∙ sym (ap length (three-1 .bytes))) ∙ ap handed (three-1 .bytes)
+three-back out w h t =
+    t .words .accepted threeRows three-2 three-level (h ∙ sym (ap length (three-1 .bytes))) ∙ ap handed (three-1 .bytes)

@@ -1,5 +1,7 @@
--- Document 02, E6: "Version 1 files [..] turn into version 2 and back to the same bytes [..]. Version 2 turns back only if every elevation is 0, and exactly then. Each conversion gives 13 for the wrong
--- version; an output not of the new file's length is 5, after 21. [..] 21 has elevations, in the backward conversion only, once the file is sound". Definitions only.
+-- Document 02, E6: "Version 1 files [..] turn into version 2 and back to the same bytes [..]. Version 2 turns back only
+-- if every elevation is 0, and exactly then. Each conversion gives 13 for the wrong version; an output not of the new
+-- file's length is 5, after 21. [..] 21 has elevations, in the backward conversion only, once the file is sound".
+-- Definitions only.
 use mathlib.Core.Path.{_≡_}
 use mathlib.Core.Bool.{true}
 use mathlib.Core.List.{List}
@@ -21,7 +23,8 @@ raisedFor v l es = without v (raisedFrom l 9 es) sound
 
 -- what is wrong with a bank that keeps the form, to be put into an output in version v
 abbrev pub outputFault : ℕ → Bank → List ℕ → Fault
-outputFault v b out = orElse (raisedFor v (b .length) (b .elevations)) (unless (eqb (length out) (length (encode v b))) 5 0)
+outputFault v b out =
+    orElse (raisedFor v (b .length) (b .elevations)) (unless (eqb (length out) (length (encode v b))) 5 0)
 
 abbrev pub convertedBank : ℕ → Bank → List ℕ → WriteOutcome
 convertedBank v b out = writeAs (outputFault v b out) v b out
@@ -38,9 +41,11 @@ Converts from to file out o = o ≡ conversion from to file out
 
 -- ---- the two conversions
 
--- accepted exactly if the file is one of version 1 and the output has the length of the new file; then that is the file of the same bank
+-- accepted exactly if the file is one of version 1 and the output has the length of the new file; then that is the file
+-- of the same bank
 pub record ToVersion2Words (file out : List ℕ) (o : WriteOutcome) : Type 0 where
-  pub turned : o .answer .refusal ≡ 0 → IsFile 1 file (bankIn file) × IsFile 2 (o .file) (bankIn file) × (length out ≡ length (o .file))
+  pub turned : o .answer .refusal ≡ 0 → IsFile 1 file (bankIn file) × IsFile 2 (o .file) (bankIn file)
+      × (length out ≡ length (o .file))
   pub accepted : (b : Bank) → IsFile 1 file b → length out ≡ length (encode 2 b) → o ≡ writeBank 2 b
 
 pub record ToVersion2 (file out : List ℕ) (o : WriteOutcome) : Type 0 where
@@ -49,7 +54,8 @@ pub record ToVersion2 (file out : List ℕ) (o : WriteOutcome) : Type 0 where
 
 -- "only if every elevation is 0, and exactly then"
 pub record ToVersion1Words (file out : List ℕ) (o : WriteOutcome) : Type 0 where
-  pub turned : o .answer .refusal ≡ 0 → (level (bankIn file) ≡ true) × IsFile 2 file (bankIn file) × IsFile 1 (o .file) (bankIn file) × (length out ≡ length (o .file))
+  pub turned : o .answer .refusal ≡ 0 → (level (bankIn file) ≡ true) × IsFile 2 file (bankIn file)
+      × IsFile 1 (o .file) (bankIn file) × (length out ≡ length (o .file))
   pub accepted : (b : Bank) → IsFile 2 file b → level b ≡ true → length out ≡ length (encode 1 b) → o ≡ writeBank 1 b
 
 pub record ToVersion1 (file out : List ℕ) (o : WriteOutcome) : Type 0 where

@@ -1,6 +1,9 @@
--- Document 01, 'Filter bank file': "Reading fills lent lists of 8 azimuths and 8,192 taps in file order and returns rows and L; entries beyond them stay. .. Other lengths are 5."
--- Document 02, E6: "Reading also fills a list of 8 elevations"; "Version 1 files are still read, at elevation 0". E2: "Each of the new numbers also
--- returns the offset of the first byte of the offending field". And 'Refusal numbers' of document 01: "A refusal returns its number, counts of 0, ..; lent memory stays the same." Definitions only. 5 comes before the numbers of a bank, and has no place.
+-- Document 01, 'Filter bank file': "Reading fills lent lists of 8 azimuths and 8,192 taps in file order and returns
+-- rows and L; entries beyond them stay. .. Other lengths are 5." Document 02, E6: "Reading also fills a list of 8
+-- elevations"; "Version 1 files are still read, at elevation 0". E2: "Each of the new numbers also returns the offset
+-- of the first byte of the offending field". And 'Refusal numbers' of document 01: "A refusal returns its number,
+-- counts of 0, ..; lent memory stays the same." Definitions only. 5 comes before the numbers of a bank, and has no
+-- place.
 use mathlib.Core.Path.{_≡_}
 use mathlib.Core.Bool.{_&&_}
 use mathlib.Core.List.{List}
@@ -31,7 +34,12 @@ abbrev pub afterLists : Fault → List ℤ → List ℤ → List Float → Fault
 afterLists bank zs es xs = orElse (unless (eqb (length zs) 8 && eqb (length es) 8 && eqb (length xs) 8192) 5 0) bank
 
 abbrev pub readRefused : Fault → List ℤ → List ℤ → List Float → ReadOutcome
-readRefused f zs es xs = record { answer = record { refusal = f .refusal; offset = f .offset; rows = 0; length = 0 }; azimuths = zs; elevations = es; taps = xs }
+readRefused f zs es xs = record {
+  answer = record { refusal = f .refusal; offset = f .offset; rows = 0; length = 0 };
+  azimuths = zs;
+  elevations = es;
+  taps = xs;
+}
 
 -- the bank's entries, and beyond them what stood there
 abbrev pub readBank : Bank → List ℤ → List ℤ → List Float → ReadOutcome
@@ -61,7 +69,8 @@ pub record Reads (file : List ℕ) (zs es : List ℤ) (xs : List Float) (o : Rea
 
 -- a start that is not enough is a lent length that doesn't fit
 unfoldable pub startRefusal : List ℕ → ℕ → List ℤ → List ℤ → List Float → Fault
-startRefusal start size zs es xs = afterLists (orElse (unless (suffices (length start) size) 5 0) (faultIn size start)) zs es xs
+startRefusal start size zs es xs =
+    afterLists (orElse (unless (suffices (length start) size) 5 0) (faultIn size start)) zs es xs
 
 unfoldable pub startOutcome : List ℕ → ℕ → List ℤ → List ℤ → List Float → ReadOutcome
 startOutcome start size zs es xs = readAs (startRefusal start size zs es xs) (bankIn start) zs es xs
@@ -69,7 +78,8 @@ startOutcome start size zs es xs = readAs (startRefusal start size zs es xs) (ba
 -- where it is enough, what `read` gives for every file that the start and the size were taken from
 pub record ReadsStart (start : List ℕ) (size : ℕ) (zs es : List ℤ) (xs : List Float) (o : ReadOutcome) : Type 0 where
   pub bits : o ≡ startOutcome start size zs es xs
-  pub words : (file : List ℕ) → AreBytes file → T (suffices (length start) size) → TakenFrom start size file → Reads file zs es xs o
+  pub words : (file : List ℕ) → AreBytes file → T (suffices (length start) size) → TakenFrom start size file
+      → Reads file zs es xs o
 
 -- ---- the bank that a caller finds in its lists after an accepted reading
 

@@ -1,6 +1,7 @@
--- Document 01, 'Filter bank file': "Writing takes an azimuth per row, L, 2 x rows x L taps and a buffer of exactly the file's length. Other lengths are 5." Document 02, E6:
--- "the writer takes one [elevation] per row and writes version 2"; E2: "The writer gives the same numbers, with the offset where the field would stand." And 'Refusal numbers'
--- of document 01: "A refusal returns its number, counts of 0, ..; lent memory stays the same." Definitions only.
+-- Document 01, 'Filter bank file': "Writing takes an azimuth per row, L, 2 x rows x L taps and a buffer of exactly the
+-- file's length. Other lengths are 5." Document 02, E6: "the writer takes one [elevation] per row and writes version
+-- 2"; E2: "The writer gives the same numbers, with the offset where the field would stand." And 'Refusal numbers' of
+-- document 01: "A refusal returns its number, counts of 0, ..; lent memory stays the same." Definitions only.
 use mathlib.Core.Path.{_≡_}
 use mathlib.Core.Bool.{Bool, _&&_}
 use mathlib.Core.List.{List}
@@ -22,7 +23,8 @@ pub record WriteOutcome : Type 0 where
 
 -- the lengths that a bank asks for: an elevation for each row, 2 x rows x L taps, and as many bytes as its file has
 abbrev pub lengthsFit : Bank → List ℕ → Bool
-lengthsFit b file = eqb (length (b .elevations)) (rows b) && eqb (length (b .taps)) (2 * rows b * b .length) && eqb (length file) (length (encode 2 b))
+lengthsFit b file = eqb (length (b .elevations)) (rows b) && eqb (length (b .taps)) (2 * rows b * b .length)
+    && eqb (length file) (length (encode 2 b))
 
 -- other lengths are refused before what is wrong with the bank
 unfoldable pub writeRefusal : Bank → List ℕ → Fault

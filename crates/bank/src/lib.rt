@@ -95,10 +95,10 @@ fn is_enough(have: usize, size: usize) -> bool
     have <= size
 }
 
-// Reads a file of `size` bytes that begins with these into lists of 8 azimuths, 8 elevations and 8,192 taps, once all of
-// it is known to keep the form. The start is the whole file, or as many of its first bytes as the largest bank has, or
-// more: a longer file is no bank, and its start and its size tell what is wrong with it. Any other start, and one longer
-// than `size`, is refused with 5.
+// Reads a file of `size` bytes that begins with these into lists of 8 azimuths, 8 elevations and 8,192 taps,
+// once all of it is known to keep the form. The start is the whole file, or as many of its first bytes as the
+// largest bank has, or more: a longer file is no bank, and its start and its size tell what is wrong with it.
+// Any other start, and one longer than `size`, is refused with 5.
 pub fn read_start(
     start: &[u8],
     size: usize,
@@ -106,8 +106,14 @@ pub fn read_start(
     elevations: &mut [i16],
     taps: &mut [f32],
 ) -> BankRead
-    ensures { λ r. ⌜ ReadsStart (now (start .entry)) size (now (azimuths .entry)) (now (elevations .entry)) (now (taps .entry))
-        (record { answer = r; azimuths = now (azimuths .exit); elevations = now (elevations .exit); taps = now (taps .exit) }) ⌝ }
+    ensures { λ r. ⌜ ReadsStart (now (start .entry)) size (now (azimuths .entry)) (now (elevations .entry))
+        (now (taps .entry))
+        (record {
+          answer = r;
+          azimuths = now (azimuths .exit);
+          elevations = now (elevations .exit);
+          taps = now (taps .exit);
+        }) ⌝ }
 {
     if !lists_fit(azimuths.len(), elevations.len(), taps.len()) {
         return unread(UNFIT, 0);
@@ -134,13 +140,18 @@ pub fn read_start(
 // Reads a file into lists of 8 azimuths, 8 elevations and 8,192 taps, once all of it is known to keep the form.
 pub fn read(file: &[u8], azimuths: &mut [i16], elevations: &mut [i16], taps: &mut [f32]) -> BankRead
     ensures { λ r. ⌜ Reads (now (file .entry)) (now (azimuths .entry)) (now (elevations .entry)) (now (taps .entry))
-        (record { answer = r; azimuths = now (azimuths .exit); elevations = now (elevations .exit); taps = now (taps .exit) }) ⌝ }
+        (record {
+          answer = r;
+          azimuths = now (azimuths .exit);
+          elevations = now (elevations .exit);
+          taps = now (taps .exit);
+        }) ⌝ }
 {
     read_start(file, file.len(), azimuths, elevations, taps)
 }
 
-// Whether the lengths that writing is lent fit: an elevation for each row, 2 x rows x L taps, and a buffer of the length
-// of the file, in version 2.
+// Whether the lengths that writing is lent fit: an elevation for each row, 2 x rows x L taps, and a buffer of
+// the length of the file, in version 2.
 fn lengths_fit(rows: usize, elevations: usize, l: usize, taps: usize, file: usize) -> bool
     requires { ⌜ (rows * 2 < 2 ^ 63) × (taps * 4 < 2 ^ 63) ⌝ }
     ensures { λ r. ⌜ r ≡ (eqb elevations rows && eqb taps (2 * rows * l) && eqb file (9 + rows * rowSize 2 l)) ⌝ }
@@ -167,8 +178,16 @@ fn write_checked(
     file: &mut [u8],
     made: &mut [u8],
 ) -> BankWritten
-    requires { ⌜ (l ≤ 512) × (length (now azimuths) ≤ 8) × (length (now elevations) ≡ length (now azimuths)) × (length (now taps) ≡ length (now azimuths) * (2 * l)) × (length (now file) ≡ 9 + length (now azimuths) * rowSize 2 l) × (length (now made) ≡ largest) ⌝ }
-    ensures { λ r. ⌜ Writes (record { azimuths = now (azimuths .entry); elevations = now (elevations .entry); length = l; taps = now (taps .entry) }) (now (file .entry)) (record { answer = r; file = now (file .exit) }) ⌝ }
+    requires { ⌜ (l ≤ 512) × (length (now azimuths) ≤ 8) × (length (now elevations) ≡ length (now azimuths))
+        × (length (now taps) ≡ length (now azimuths) * (2 * l))
+        × (length (now file) ≡ 9 + length (now azimuths) * rowSize 2 l) × (length (now made) ≡ largest) ⌝ }
+    ensures { λ r.
+        ⌜ Writes (record {
+          azimuths = now (azimuths .entry);
+          elevations = now (elevations .entry);
+          length = l;
+          taps = now (taps .entry);
+        }) (now (file .entry)) (record { answer = r; file = now (file .exit) }) ⌝ }
 {
     let size = file.len();
     rows::put_bank(2, azimuths, elevations, l, taps, made, size);
@@ -184,7 +203,8 @@ fn write_checked(
     }
 }
 
-// What is wrong with a row count and an L, judged as numbers: they need not fit the bytes that they would be written in.
+// What is wrong with a row count and an L, judged as numbers: they need not fit the bytes that they would be
+// written in.
 fn counts_fault(rows: usize, l: usize) -> Fault
     ensures { λ r. ⌜ r ≡ countsFault rows l ⌝ }
 {
@@ -206,8 +226,8 @@ fn counts_fault(rows: usize, l: usize) -> Fault
     }
 }
 
-// Writes the file of a bank in version 2, with an azimuth and an elevation for each row, into a buffer of its length. The
-// file is made beside the buffer, so that a bank which breaks the form changes nothing.
+// Writes the file of a bank in version 2, with an azimuth and an elevation for each row, into a buffer of its
+// length. The file is made beside the buffer, so that a bank which breaks the form changes nothing.
 pub fn write(
     azimuths: &[i16],
     elevations: &[i16],
@@ -215,7 +235,13 @@ pub fn write(
     taps: &[f32],
     file: &mut [u8],
 ) -> BankWritten
-    ensures { λ r. ⌜ Writes (record { azimuths = now (azimuths .entry); elevations = now (elevations .entry); length = length; taps = now (taps .entry) }) (now (file .entry)) (record { answer = r; file = now (file .exit) }) ⌝ }
+    ensures { λ r.
+        ⌜ Writes (record {
+          azimuths = now (azimuths .entry);
+          elevations = now (elevations .entry);
+          length = length;
+          taps = now (taps .entry);
+        }) (now (file .entry)) (record { answer = r; file = now (file .exit) }) ⌝ }
 {
     if !lengths_fit(
         azimuths.len(),
@@ -281,8 +307,15 @@ fn convert_bank(
     taps: &[f32],
     out: &mut [u8],
 ) -> BankWritten
-    requires { ⌜ (l ≤ 512) × (length (now azimuths) ≤ 8) × (length (now elevations) ≡ length (now azimuths)) × (length (now taps) ≡ length (now azimuths) * (2 * l)) ⌝ }
-    ensures { λ r. ⌜ record { answer = r; file = now (out .exit) } ≡ convertedBank version (record { azimuths = now (azimuths .entry); elevations = now (elevations .entry); length = l; taps = now (taps .entry) }) (now (out .entry)) ⌝ }
+    requires { ⌜ (l ≤ 512) × (length (now azimuths) ≤ 8) × (length (now elevations) ≡ length (now azimuths))
+        × (length (now taps) ≡ length (now azimuths) * (2 * l)) ⌝ }
+    ensures { λ r. ⌜ record { answer = r; file = now (out .exit) } ≡ convertedBank version
+        (record {
+          azimuths = now (azimuths .entry);
+          elevations = now (elevations .entry);
+          length = l;
+          taps = now (taps .entry);
+        }) (now (out .entry)) ⌝ }
 {
     let raised = elevations_fault(version, elevations, l);
     if raised.refusal != 0 {
@@ -300,10 +333,11 @@ fn convert_bank(
     }
 }
 
-// Turns a file of one version into another. It is walked over twice, for its fault and for its bank, since reading takes
-// either version.
+// Turns a file of one version into another. It is walked over twice, for its fault and for its bank, since
+// reading takes either version.
 fn convert(file: &[u8], from: usize, to: usize, out: &mut [u8]) -> BankWritten
-    ensures { λ r. ⌜ Converts from to (now (file .entry)) (now (out .entry)) (record { answer = r; file = now (out .exit) }) ⌝ }
+    ensures { λ r. ⌜ Converts from to (now (file .entry)) (now (out .entry))
+        (record { answer = r; file = now (out .exit) }) ⌝ }
 {
     let wrong = bank_check::check_version(file, from);
     if wrong.refusal != 0 {
@@ -327,14 +361,16 @@ fn convert(file: &[u8], from: usize, to: usize, out: &mut [u8]) -> BankWritten
 
 // Turns a file of version 1 into one of version 2, which has the elevation 0 for each row.
 pub fn to_version_2(file: &[u8], out: &mut [u8]) -> BankWritten
-    ensures { λ r. ⌜ ToVersion2 (now (file .entry)) (now (out .entry)) (record { answer = r; file = now (out .exit) }) ⌝ }
+    ensures { λ r. ⌜ ToVersion2 (now (file .entry)) (now (out .entry))
+        (record { answer = r; file = now (out .exit) }) ⌝ }
 {
     convert(file, 1, 2, out)
 }
 
 // Turns a file of version 2 back into one of version 1. That can be had only if every elevation is 0.
 pub fn to_version_1(file: &[u8], out: &mut [u8]) -> BankWritten
-    ensures { λ r. ⌜ ToVersion1 (now (file .entry)) (now (out .entry)) (record { answer = r; file = now (out .exit) }) ⌝ }
+    ensures { λ r. ⌜ ToVersion1 (now (file .entry)) (now (out .entry))
+        (record { answer = r; file = now (out .exit) }) ⌝ }
 {
     convert(file, 2, 1, out)
 }

@@ -56,9 +56,12 @@ pub(crate) fn fill_rows(
     elevations: &mut [i16],
     taps: &mut [f32],
 )
-    requires { ⌜ (l ≤ 512) × (n ≤ 8) × (length (now azimuths) ≡ 8) × (length (now elevations) ≡ 8) × (length (now taps) ≡ 8192) ⌝ }
-    ensures azimuths { λ _. ⌜ now (azimuths .exit) ≡ placed (now (azimuths .entry)) 0 (azimuthsFrom (now (file .entry)) version l 9 n) ⌝ }
-    ensures elevations { λ _. ⌜ now (elevations .exit) ≡ placed (now (elevations .entry)) 0 (elevationsFrom (now (file .entry)) version l 9 n) ⌝ }
+    requires { ⌜ (l ≤ 512) × (n ≤ 8) × (length (now azimuths) ≡ 8) × (length (now elevations) ≡ 8)
+        × (length (now taps) ≡ 8192) ⌝ }
+    ensures azimuths { λ _. ⌜ now (azimuths .exit) ≡ placed (now (azimuths .entry)) 0
+        (azimuthsFrom (now (file .entry)) version l 9 n) ⌝ }
+    ensures elevations { λ _. ⌜ now (elevations .exit) ≡ placed (now (elevations .entry)) 0
+        (elevationsFrom (now (file .entry)) version l 9 n) ⌝ }
     ensures taps { λ _. ⌜ now (taps .exit) ≡ placed (now (taps .entry)) 0 (tapsFrom (now (file .entry)) version l 9 n) ⌝ }
 {
     let pair = 2 + bank_form::elevation_size(version);
@@ -75,7 +78,8 @@ pub(crate) fn fill_rows(
 // Puts n taps of the list, from q on, into the file from `at` on.
 fn put_taps(taps: &[f32], q: usize, n: usize, file: &mut [u8], at: usize)
     requires { ⌜ (q + n ≤ length (now taps)) × (at + 4 * n ≤ length (now file)) ⌝ }
-    ensures { λ _. ⌜ now (file .exit) ≡ placed (now (file .entry)) at (floatBytes (take n (drop q (now (taps .entry))))) ⌝ }
+    ensures { λ _. ⌜ now (file .exit) ≡ placed (now (file .entry)) at
+        (floatBytes (take n (drop q (now (taps .entry))))) ⌝ }
 {
     let mut k = 0;
     while k < n {
@@ -107,7 +111,9 @@ fn put_row(
     at: usize,
 )
     requires { ⌜ (l ≤ 512) × (q + 2 * l ≤ length (now taps)) × (at + rowSize version l ≤ length (now file)) ⌝ }
-    ensures { λ _. ⌜ now (file .exit) ≡ placed (now (file .entry)) at (bytesOf 2 (ofZ w16 azimuth) ++ (elevationBytes version elevation ++ floatBytes (take (2 * l) (drop q (now (taps .entry)))))) ⌝ }
+    ensures { λ _. ⌜ now (file .exit) ≡ placed (now (file .entry)) at
+        (bytesOf 2 (ofZ w16 azimuth)
+        ++ (elevationBytes version elevation ++ floatBytes (take (2 * l) (drop q (now (taps .entry)))))) ⌝ }
 {
     big_endian::put_i16(file, at, azimuth);
     put_elevation(version, elevation, file, at + 2);
@@ -130,8 +136,11 @@ fn put_rows(
     taps: &[f32],
     file: &mut [u8],
 )
-    requires { ⌜ (l ≤ 512) × (length (now azimuths) ≤ 8) × (length (now elevations) ≡ length (now azimuths)) × (length (now taps) ≡ length (now azimuths) * (2 * l)) × (9 + length (now azimuths) * rowSize version l ≤ length (now file)) ⌝ }
-    ensures bytes { λ _. ⌜ now (file .exit) ≡ placed (now (file .entry)) 9 (rowBytes version (pairsOf (now (azimuths .entry)) (now (elevations .entry))) l (now (taps .entry))) ⌝ }
+    requires { ⌜ (l ≤ 512) × (length (now azimuths) ≤ 8) × (length (now elevations) ≡ length (now azimuths))
+        × (length (now taps) ≡ length (now azimuths) * (2 * l))
+        × (9 + length (now azimuths) * rowSize version l ≤ length (now file)) ⌝ }
+    ensures bytes { λ _. ⌜ now (file .exit) ≡ placed (now (file .entry)) 9
+        (rowBytes version (pairsOf (now (azimuths .entry)) (now (elevations .entry))) l (now (taps .entry))) ⌝ }
     ensures azimuths { λ _. ⌜ ForAll IsI16 (pos 0) (now (azimuths .entry)) ⌝ }
     ensures elevations { λ _. ⌜ ForAll IsI16 (pos 0) (now (elevations .entry)) ⌝ }
 {
@@ -173,8 +182,17 @@ pub(crate) fn put_bank(
     file: &mut [u8],
     size: usize,
 )
-    requires { ⌜ (l ≤ 512) × (length (now azimuths) ≤ 8) × (length (now elevations) ≡ length (now azimuths)) × (length (now taps) ≡ length (now azimuths) * (2 * l)) × (size ≡ 9 + length (now azimuths) * rowSize version l) × (size ≤ length (now file)) ⌝ }
-    ensures bytes { λ _. ⌜ now (file .exit) ≡ placed (now (file .entry)) 0 (encode version (record { azimuths = now (azimuths .entry); elevations = now (elevations .entry); length = l; taps = now (taps .entry) })) ⌝ }
+    requires { ⌜ (l ≤ 512) × (length (now azimuths) ≤ 8) × (length (now elevations) ≡ length (now azimuths))
+        × (length (now taps) ≡ length (now azimuths) * (2 * l)) × (size ≡ 9 + length (now azimuths) * rowSize version l)
+        × (size ≤ length (now file)) ⌝ }
+    ensures bytes { λ _. ⌜ now (file .exit) ≡ placed (now (file .entry)) 0
+        (encode version
+        (record {
+          azimuths = now (azimuths .entry);
+          elevations = now (elevations .entry);
+          length = l;
+          taps = now (taps .entry);
+        })) ⌝ }
     ensures azimuths { λ _. ⌜ ForAll IsI16 (pos 0) (now (azimuths .entry)) ⌝ }
     ensures elevations { λ _. ⌜ ForAll IsI16 (pos 0) (now (elevations .entry)) ⌝ }
 {

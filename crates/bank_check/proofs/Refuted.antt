@@ -9,7 +9,8 @@ use Rattle.bank_form.specs.Fault.{versionIn, wrong}
 use Rattle.bank_form.proofs.Conversions.{conversion-fault}
 use Rattle.bank_check.specs.Checked.{CheckedVersion}
 
-module _ (v : ℕ) (s : List ℕ) (some : 1 ≤ length s) (other : versionIn s ≡ v → ⊥) (r : Fault) (checked : CheckedVersion v s r) where
+module _ (v : ℕ) (s : List ℕ) (some : 1 ≤ length s) (other : versionIn s ≡ v → ⊥) (r : Fault)
+    (checked : CheckedVersion v s r) where
   told : r ≡ wrong 13 0
   told = checked .bits ∙ conversion-fault .other v s some other
 

@@ -1,4 +1,5 @@
--- What the check of a file answers: the first fault in byte order (document 02, E2 and E6); there is none exactly if the bytes are a bank file (document 01, 'Filter bank file'). Definitions only.
+-- What the check of a file answers: the first fault in byte order (document 02, E2 and E6); there is none exactly if
+-- the bytes are a bank file (document 01, 'Filter bank file'). Definitions only.
 use mathlib.Core.Path.{_≡_}
 use mathlib.Core.List.{List}
 use Prim.Native.Nat.{ℕ}

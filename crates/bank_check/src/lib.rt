@@ -4,15 +4,16 @@
 // It goes field by field, in byte order, up to the first that breaks the form, whose number and offset are
 // the answer. It takes any bytes. `check_file` has the whole file, and promises the first fault of it; there is
 // none exactly if the bytes are those of a bank that keeps the form. `check_start` has the start of a file and
-// its size: as many bytes as the largest bank has, and the size, tell the fault of every file they were taken from. `check_version` is for a file that has to be of one
-// version, before it is turned into the other.
+// its size: as many bytes as the largest bank has, and the size, tell the fault of every file they were taken
+// from. `check_version` is for a file that has to be of one version, before it is turned into the other.
 use bank_form::Fault;
 ghost use mathlib.Core.Path.{_≡_};
 ghost use mathlib.Core.Bool.{not};
 ghost use Prim.Native.Nat.{_+_, _-_, _*_, _≤_};
 ghost use Rattle.bank_form.specs.Bank.{differ};
 ghost use Rattle.bank_form.specs.Version.{largest, largestRow};
-ghost use Rattle.bank_form.specs.Fault.{pairIn, field, headField, headFault, tapsFault, isNew, elevationFault, rowFault, rowsFault};
+ghost use Rattle.bank_form.specs.Fault.{pairIn, field, headField, headFault, tapsFault, isNew, elevationFault};
+ghost use Rattle.bank_form.specs.Fault.{rowFault, rowsFault};
 ghost use Rattle.bank_check.specs.Checked.{CheckedStart, Checked, CheckedVersion};
 
 // How many bytes come after the first `count`.
@@ -110,7 +111,9 @@ fn taps_fault(size: usize, s: &[u8], at: usize, n: usize) -> Fault
 
 // Whether the row at an offset has this azimuth and this elevation.
 fn is_pair(s: &[u8], version: usize, at: usize, azimuth: i16, elevation: i16) -> bool
-    ensures { λ r. ⌜ r ≡ not (differ (pairIn version (now (s .entry)) at) (record { azimuth = azimuth; elevation = elevation })) ⌝ }
+    ensures { λ r.
+        ⌜ r ≡ not (differ (pairIn version (now (s .entry)) at)
+        (record { azimuth = azimuth; elevation = elevation })) ⌝ }
 {
     if big_endian::get_i16(s, at) != azimuth {
         return false;

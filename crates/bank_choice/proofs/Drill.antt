@@ -1,4 +1,5 @@
--- Item 10 of the marked drill table, at elevation 0 throughout: with rows at 0 and 450 tenths, a speaker at 225 tenths takes the first. It is document 01's choice (`flat-as-before`). Assumes nothing.
+-- Item 10 of the marked drill table, at elevation 0 throughout: with rows at 0 and 450 tenths, a speaker at 225 tenths
+-- takes the first. It is document 01's choice (`flat-as-before`). Assumes nothing.
 use mathlib.Core.Path.{_≡_, refl, sym, _∙_}
 use mathlib.Core.Bool.{true}
 use mathlib.Core.List.{List, _∷_}
@@ -21,8 +22,10 @@ two P x y (suc zero) h = y
 two P x y (suc (suc j)) h = absurd (omega arith)
 
 -- lists of 8 that start with rows at 0 and 450, at elevation 0; what stands beyond the two rows does not count
-module _ (rest : List ℤ) (six : length rest ≡ 6) (heights : List ℤ) (six-heights : length heights ≡ 6) (r : Choice) where
-  accepted : (p : ℤ) → inTenths p ≡ true → choiceRefusal (pos 0 ∷ pos 450 ∷ rest) (pos 0 ∷ pos 0 ∷ heights) 2 p (pos 0) ≡ 0
+module _ (rest : List ℤ) (six : length rest ≡ 6) (heights : List ℤ) (six-heights : length heights ≡ 6)
+    (r : Choice) where
+  accepted : (p : ℤ) → inTenths p ≡ true → choiceRefusal (pos 0 ∷ pos 450 ∷ rest) (pos 0 ∷ pos 0 ∷ heights) 2 p (pos 0)
+      ≡ 0
   unfolding choiceRefusal isElevation
   accepted p h = rw (h, six, six-heights)
 
@@ -37,14 +40,23 @@ module _ (rest : List ℤ) (six : length rest ≡ 6) (heights : List ℤ) (six-h
       → Chooses (pos 0 ∷ pos 450 ∷ rest) (pos 0 ∷ pos 0 ∷ heights) 2 p (pos 0) r → r ≡ record { refusal = 0; row = row }
   as-before p h row t x =
       let none = refusal-is _ _ 2 p (pos 0) r x ∙ accepted p h in
-      let same : r .row ≡ row = takes-one _ _ p (pos 0) 2 _ _ (x .words none) (flat-as-before _ _ 2 p (pos 0) both-level row .1 t) in
+      let same : r .row ≡ row = takes-one _ _ p (pos 0) 2 _ _ (x .words none)
+      (flat-as-before _ _ 2 p (pos 0) both-level row .1 t) in
       (λ i. record { refusal = none i; row = same i })
 
-  pub drill-tie : Chooses (pos 0 ∷ pos 450 ∷ rest) (pos 0 ∷ pos 0 ∷ heights) 2 (pos 225) (pos 0) r → r ≡ record { refusal = 0; row = 0 }
+  pub drill-tie : Chooses (pos 0 ∷ pos 450 ∷ rest) (pos 0 ∷ pos 0 ∷ heights) 2 (pos 225) (pos 0) r
+      → r ≡ record { refusal = 0; row = 0 }
   unfolding inTenths apart
-  drill-tie = as-before (pos 225) refl 0 (record { among = lit< tt; nearest = two _ (lit≤ tt) (lit≤ tt); earliest = λ j h. absurd (omega arith) })
+  drill-tie = as-before (pos 225) refl 0
+      (record { among = lit< tt; nearest = two _ (lit≤ tt) (lit≤ tt); earliest = λ j h. absurd (omega arith) })
 
   -- a speaker that is nearer to the second takes it
-  pub drill-second : Chooses (pos 0 ∷ pos 450 ∷ rest) (pos 0 ∷ pos 0 ∷ heights) 2 (pos 226) (pos 0) r → r ≡ record { refusal = 0; row = 1 }
+  pub drill-second : Chooses (pos 0 ∷ pos 450 ∷ rest) (pos 0 ∷ pos 0 ∷ heights) 2 (pos 226) (pos 0) r
+      → r ≡ record { refusal = 0; row = 1 }
   unfolding inTenths apart
-  drill-second = as-before (pos 226) refl 1 (record { among = lit< tt; nearest = two _ (lit≤ tt) (lit≤ tt); earliest = λ j h. let e : j ≡ 0 = omega arith in rw e (lit< tt) })
+  drill-second = as-before (pos 226) refl 1
+      (record {
+        among = lit< tt;
+        nearest = two _ (lit≤ tt) (lit≤ tt);
+        earliest = λ j h. let e : j ≡ 0 = omega arith in rw e (lit< tt);
+      })

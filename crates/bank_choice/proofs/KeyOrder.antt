@@ -1,4 +1,5 @@
--- The key orders rows as the words do: the way round is at most 1800, so it never makes up for a tenth of elevation. Assumes nothing.
+-- The key orders rows as the words do: the way round is at most 1800, so it never makes up for a tenth of elevation.
+-- Assumes nothing.
 use mathlib.Core.Logic.{inl, inr, ⊎-elim}
 use mathlib.Core.List.{List}
 use Prim.Native.Nat.{ℕ, _≤_, _<_}

@@ -11,7 +11,8 @@ use Rattle.refusals.specs.Refusals.{outside}
 use Rattle.refusals.proofs.First.{answered-accepted, answered-by, told-is}
 use Rattle.refusals.proofs.Chains.{first-holds, off-accepts}
 use Rattle.bank_choice.specs.declared.Choice.{Choice}
-use Rattle.bank_choice.specs.Choice.{inTenths, isElevation, choiceChecks, choiceRefusal, chose, refusedWith, choiceOf, Chooses}
+use Rattle.bank_choice.specs.Choice.{inTenths, isElevation, choiceChecks, choiceRefusal, chose, refusedWith}
+use Rattle.bank_choice.specs.Choice.{choiceOf, Chooses}
 use Rattle.bank_choice.specs.NearestComputed.{nearestFrom}
 use Rattle.bank_choice.proofs.Takes.{takes}
 
@@ -19,7 +20,8 @@ module _ (zs es : List ℤ) (n : ℕ) (p q : ℤ) where
   -- the number answered is that of the first test that holds
   pub refusal-is : (r : Choice) → Chooses zs es n p q r → r .refusal ≡ choiceRefusal zs es n p q
   unfolding choiceOf
-  refusal-is r x = ap (λ (c : Choice). c .refusal) (x .bits) ∙ told-is (chose _) refusedWith (λ (c : Choice). c .refusal) refl (choiceRefusal zs es n p q) refl
+  refusal-is r x = ap (λ (c : Choice). c .refusal) (x .bits)
+      ∙ told-is (chose _) refusedWith (λ (c : Choice). c .refusal) refl (choiceRefusal zs es n p q) refl
 
   refused : (k : ℕ) → 0 < k → choiceRefusal zs es n p q ≡ k → Chooses zs es n p q (refusedWith k)
   unfolding choiceOf
@@ -37,24 +39,44 @@ module _ (zs es : List ℤ) (n : ℕ) (p q : ℤ) where
     module _ (tenths : inTenths p ≡ true) where
       pub no-elevation : isElevation q ≡ false → Chooses zs es n p q (refusedWith 3)
       unfolding choiceRefusal
-      no-elevation h = refused 3 (omega arith) (first-holds 2 (choiceChecks zs es n p q) (rows, (ap not tenths, ap not h)))
+      no-elevation h = refused 3 (omega arith)
+          (first-holds 2 (choiceChecks zs es n p q) (rows, (ap not tenths, ap not h)))
 
       module _ (height : isElevation q ≡ true) where
         pub no-azimuths : (length zs ≡ 8 → ⊥) → Chooses zs es n p q (refusedWith 5)
         unfolding choiceRefusal
-        no-azimuths h = refused 5 (omega arith) (first-holds 3 (choiceChecks zs es n p q) (rows, (ap not tenths, (ap not height, ap not (ne-eqb (length zs) 8 h)))))
+        no-azimuths h = refused 5 (omega arith)
+            (first-holds 3 (choiceChecks zs es n p q)
+            (rows, (ap not tenths, (ap not height, ap not (ne-eqb (length zs) 8 h)))))
 
         pub no-elevations : length zs ≡ 8 → (length es ≡ 8 → ⊥) → Chooses zs es n p q (refusedWith 5)
         unfolding choiceRefusal
         no-elevations full h =
-            refused 5 (omega arith) (first-holds 4 (choiceChecks zs es n p q) (rows, (ap not tenths, (ap not height, (ap not (eq-eqb (length zs) 8 full), ap not (ne-eqb (length es) 8 h))))))
+            refused 5 (omega arith)
+            (first-holds 4 (choiceChecks zs es n p q) (
+              rows,
+              (
+                ap not tenths,
+                (ap not height, (ap not (eq-eqb (length zs) 8 full), ap not (ne-eqb (length es) 8 h))),
+              ),
+            ))
 
         module _ (full : length zs ≡ 8) (high : length es ≡ 8) where
           -- what crates above ask for: none of the tests holds
           pub none-refused : choiceRefusal zs es n p q ≡ 0
           unfolding choiceRefusal
-          none-refused = off-accepts (choiceChecks zs es n p q) (rows, (ap not tenths, (ap not height, (ap not (eq-eqb (length zs) 8 full), (ap not (eq-eqb (length es) 8 high), tt)))))
+          none-refused = off-accepts (choiceChecks zs es n p q) (
+            rows,
+            (
+              ap not tenths,
+              (ap not height, (ap not (eq-eqb (length zs) 8 full), (ap not (eq-eqb (length es) 8 high), tt))),
+            ),
+          )
 
-          pub chosen : (r : ℕ) → r ≡ nearestFrom zs es p q 0 1 (n - 1) → 1 ≤ n → Chooses zs es n p q (record { refusal = 0; row = r })
+          pub chosen : (r : ℕ) → r ≡ nearestFrom zs es p q 0 1 (n - 1) → 1 ≤ n
+              → Chooses zs es n p q (record { refusal = 0; row = r })
           unfolding choiceOf
-          chosen r e g = record { bits = ap chose e ∙ sym (answered-accepted _ refusedWith _ none-refused); words = λ z. rw e (takes zs es p q n g) }
+          chosen r e g = record {
+            bits = ap chose e ∙ sym (answered-accepted _ refusedWith _ none-refused);
+            words = λ z. rw e (takes zs es p q n g);
+          }

@@ -29,7 +29,8 @@ difference a b =
       | no h ↦ rw (le-ltb a b (omega arith)) (omega arith)
     ]
 
-difference-up : (a b : ℤ) → mag a < 32768 → mag b < 32768 → natAbs (a -ℤ b) ≡ turnedUp a - turnedUp b + (turnedUp b - turnedUp a)
+difference-up : (a b : ℤ) → mag a < 32768 → mag b < 32768
+    → natAbs (a -ℤ b) ≡ turnedUp a - turnedUp b + (turnedUp b - turnedUp a)
 unfolding turnedUp
 difference-up (pos m) (pos zero) h g = omega arith
 difference-up (pos m) (pos (suc n)) h g = difference m (suc n) ∙ omega arith
@@ -39,7 +40,8 @@ difference-up (negsuc m) (pos (suc n)) h g = omega arith
 difference-up (negsuc m) (negsuc n) h g = difference (suc n) (suc m) ∙ omega arith
 
 -- d is the greater of the two less the other
-pub difference-is : (a b : ℤ) (x y d : ℕ) → SFits w16 a → SFits w16 b → x ≡ turnedUp (toZ w16 (ofZ w16 a)) → y ≡ turnedUp (toZ w16 (ofZ w16 b)) → d ≡ x - y + (y - x) → d ≡ natAbs (a -ℤ b)
+pub difference-is : (a b : ℤ) (x y d : ℕ) → SFits w16 a → SFits w16 b → x ≡ turnedUp (toZ w16 (ofZ w16 a))
+    → y ≡ turnedUp (toZ w16 (ofZ w16 b)) → d ≡ x - y + (y - x) → d ≡ natAbs (a -ℤ b)
 difference-is a b x y d f g up down e =
     let first = up ∙ ap turnedUp (toZ-ofZ f) in
     let second = down ∙ ap turnedUp (toZ-ofZ g) in

@@ -33,7 +33,8 @@ module _ (zs es : List ℤ) (p q : ℤ) where
       go true = g
       go false = h
 
-  pub nearest-next : (best j k : ℕ) → 0 < k → nearestFrom zs es p q best j k ≡ nearestFrom zs es p q (nearer zs es p q best j) (j + 1) (k - 1)
+  pub nearest-next : (best j k : ℕ) → 0 < k → nearestFrom zs es p q best j k ≡ nearestFrom zs es p q
+      (nearer zs es p q best j) (j + 1) (k - 1)
   unfolding nearestFrom
   nearest-next best j zero h = absurd (omega arith)
   nearest-next best j (suc k) h = rw (sub-one (suc k))
@@ -42,7 +43,8 @@ module _ (zs es : List ℤ) (p q : ℤ) where
   unfolding nearestFrom
   nearest-end best j = refl
 
-  walk : (best j k : ℕ) → best < j → ((i : ℕ) → i < j → key zs es p q best ≤ key zs es p q i) → ((i : ℕ) → i < best → key zs es p q best < key zs es p q i)
+  walk : (best j k : ℕ) → best < j → ((i : ℕ) → i < j → key zs es p q best ≤ key zs es p q i)
+      → ((i : ℕ) → i < best → key zs es p q best < key zs es p q i)
       → Takes zs es (j + k) p q (nearestFrom zs es p q best j k)
   unfolding nearestFrom
   walk best j zero h near first =
@@ -57,17 +59,24 @@ module _ (zs es : List ℤ) (p q : ℤ) where
         | yes f ↦
             rw (← nearer-other best j f, l)
             (walk j (j + 1) k (omega arith)
-            (λ i g. elim (decLt i j) [ yes s ↦ let t = near i s in omega arith | no s ↦ let e : i ≡ j = omega arith in rw e (le-refl (key zs es p q j)) ])
+            (λ i g. elim (decLt i j) [
+              | yes s ↦ let t = near i s in omega arith
+              | no s ↦ let e : i
+                  ≡ j = omega arith in rw e (le-refl (key zs es p q j))
+            ])
             (λ i g. let t = near i g in omega arith))
         | no f ↦
             rw (← nearer-first best j (omega arith), l)
-            (walk best (j + 1) k (omega arith) (λ i g. elim (decLt i j) [ yes s ↦ near i s | no s ↦ let e : i ≡ j = omega arith in rw e (omega arith) ]) first)
+            (walk best (j + 1) k (omega arith)
+            (λ i g. elim (decLt i j)
+            [ yes s ↦ near i s | no s ↦ let e : i ≡ j = omega arith in rw e (omega arith) ]) first)
       ]
 
   pub takes : (n : ℕ) → 1 ≤ n → Takes zs es n p q (nearestFrom zs es p q 0 1 (n - 1))
   takes n h =
       let l : 1 + (n - 1) ≡ n = omega arith in
-      rw l at (walk 0 1 (n - 1) (omega arith) (λ i g. let e : i ≡ 0 = omega arith in rw e (le-refl (key zs es p q 0))) (λ i g. absurd (omega arith)))
+      rw l at (walk 0 1 (n - 1) (omega arith) (λ i g. let e : i ≡ 0 = omega arith in rw e (le-refl (key zs es p q 0)))
+      (λ i g. absurd (omega arith)))
 
   pub takes-one : (n : ℕ) → OneAnswer (Takes zs es n p q)
   takes-one n a b x y =

@@ -15,5 +15,6 @@ pub nearest-row-unique : AllowsOneAnswer nearest_row.ended nearest_row.Reads.Lea
 nearest-row-unique κs a = determined-by (λ z h i. (h .bits i, _))
 
 -- by the documents' words alone
-pub only-row : (zs es : List ℤ) (n : ℕ) (p q : ℤ) (a : Choice) → Chooses zs es n p q a → a .refusal ≡ 0 → (r : ℕ) → Takes zs es n p q r → r ≡ a .row
+pub only-row : (zs es : List ℤ) (n : ℕ) (p q : ℤ) (a : Choice) → Chooses zs es n p q a → a .refusal ≡ 0 → (r : ℕ)
+    → Takes zs es n p q r → r ≡ a .row
 only-row zs es n p q a x e r t = takes-one zs es p q n r (a .row) t (x .words e)

@@ -1,4 +1,5 @@
--- Worked choices: elevation decides before azimuth, and the earlier row on a tie of both; the range of a speaker's elevation; and which number comes first. Assumes nothing.
+-- Worked choices: elevation decides before azimuth, and the earlier row on a tie of both; the range of a speaker's
+-- elevation; and which number comes first. Assumes nothing.
 use mathlib.Core.Path.{_≡_, refl}
 use mathlib.Core.List.{List, [], _∷_, _++_}
 use lib.IntN.{ℤ, pos, negsuc}
@@ -32,7 +33,8 @@ unfolding choiceOf choiceRefusal inTenths isElevation nearestFrom nearer key ele
 then-round = refl
 
 -- as far in elevation and as far round: the earlier
-then-earlier : choiceOf (eight (pos 300 ∷ pos 300 ∷ negsuc 299 ∷ [])) (eight (pos 0 ∷ pos 450 ∷ pos 450 ∷ [])) 3 (pos 0) (pos 300) ≡ chose 1
+then-earlier : choiceOf (eight (pos 300 ∷ pos 300 ∷ negsuc 299 ∷ [])) (eight (pos 0 ∷ pos 450 ∷ pos 450 ∷ [])) 3 (pos 0)
+    (pos 300) ≡ chose 1
 unfolding choiceOf choiceRefusal inTenths isElevation nearestFrom nearer key elevationAway apart
 then-earlier = refl
 
@@ -47,12 +49,14 @@ unfolding choiceOf choiceRefusal inTenths isElevation nearestFrom nearer key ele
 elevation-901 = refl
 
 -- from below too
-elevation-minus-900 : choiceOf (eight (pos 0 ∷ pos 0 ∷ [])) (eight (pos 0 ∷ negsuc 899 ∷ [])) 2 (pos 0) (negsuc 899) ≡ chose 1
+elevation-minus-900 : choiceOf (eight (pos 0 ∷ pos 0 ∷ [])) (eight (pos 0 ∷ negsuc 899 ∷ [])) 2 (pos 0) (negsuc 899)
+    ≡ chose 1
 unfolding choiceOf choiceRefusal inTenths isElevation nearestFrom nearer key elevationAway apart
 elevation-minus-900 = refl
 
 -- and no less
-elevation-minus-901 : choiceOf (eight (pos 0 ∷ pos 0 ∷ [])) (eight (pos 0 ∷ negsuc 899 ∷ [])) 2 (pos 0) (negsuc 900) ≡ refusedWith 3
+elevation-minus-901 : choiceOf (eight (pos 0 ∷ pos 0 ∷ [])) (eight (pos 0 ∷ negsuc 899 ∷ [])) 2 (pos 0) (negsuc 900)
+    ≡ refusedWith 3
 unfolding choiceOf choiceRefusal inTenths isElevation nearestFrom nearer key elevationAway apart
 elevation-minus-901 = refl
 

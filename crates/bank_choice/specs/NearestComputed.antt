@@ -1,5 +1,6 @@
--- What the program computes: one number for how far a row is, the walk to the row where it is least, and tenths moved up so that none is below zero. Definitions only. Nobody has to believe them: the
--- promise says beside the walk that the row it finds is the one that `Takes` names.
+-- What the program computes: one number for how far a row is, the walk to the row where it is least, and tenths moved
+-- up so that none is below zero. Definitions only. Nobody has to believe them: the promise says beside the walk that
+-- the row it finds is the one that `Takes` names.
 use mathlib.Core.Bool.{cond}
 use mathlib.Core.List.{List}
 use Prim.Native.Nat.{ℕ, zero, suc, _+_, _-_, _*_}
@@ -7,7 +8,8 @@ use lib.Dec.{ltb}
 use lib.IntN.{ℤ, pos, negsuc}
 use Rattle.bank_choice.specs.Nearest.{away, elevationAway}
 
--- 1801 for each tenth of elevation, and the way round, which is at most 1800: so it is less exactly for a nearer row (`key-nearer`, `nearer-key`)
+-- 1801 for each tenth of elevation, and the way round, which is at most 1800: so it is less exactly for a nearer row
+-- (`key-nearer`, `nearer-key`)
 unfoldable pub key : List ℤ → List ℤ → ℤ → ℤ → ℕ → ℕ
 key zs es p q j = 1801 * elevationAway es q j + away zs p j
 

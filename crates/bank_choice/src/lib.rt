@@ -92,7 +92,8 @@ fn nearer_row(
     best: usize,
     j: usize,
 ) -> usize
-    requires { ⌜ (best < length (now azimuths)) × (best < length (now elevations)) × (j < length (now azimuths)) × (j < length (now elevations)) ⌝ }
+    requires { ⌜ (best < length (now azimuths)) × (best < length (now elevations)) × (j < length (now azimuths))
+        × (j < length (now elevations)) ⌝ }
     ensures { λ r. ⌜ r ≡ nearer (now (azimuths .entry)) (now (elevations .entry)) azimuth elevation best j ⌝ }
 {
     let there = distance_key(azimuths, elevations, azimuth, elevation, j);

@@ -16,7 +16,8 @@ use Rattle.lists.proofs.Tables.{tab-ext}
 use lib.Dec.{eqb}
 use Rattle.bank_form.specs.Bank.{isAzimuth, isElevation}
 use Rattle.bank_form.specs.Version.{rowSize, tapsAt, elevationAt}
-use Rattle.bank_form.specs.Fault.{pairIn, pairsFrom, versionIn, rowsIn, lengthIn, field, tapsFault, isNew, elevationFault, rowFault, rowsFault, headField, headFault, faultIn}
+use Rattle.bank_form.specs.Fault.{pairIn, pairsFrom, versionIn, rowsIn, lengthIn, field, tapsFault, isNew}
+use Rattle.bank_form.specs.Fault.{elevationFault, rowFault, rowsFault, headField, headFault, faultIn}
 use Rattle.bank_form.specs.FaultLaws.{rowPlace}
 
 -- ---- fields
@@ -27,7 +28,8 @@ module _ (k : ℕ) (s t : List ℕ) (same : Agree k s t) where
   elevation-agrees v at h = tested (eqb v 1) (λ e. rw e) (λ e. rw e (signed-agrees k s t same (at + 2) (rw e at h)))
 
   pair-agrees : (v at : ℕ) → tapsAt v at ≤ k → pairIn v t at ≡ pairIn v s at
-  pair-agrees v at h = λ i. record { azimuth = signed-agrees k s t same at (omega (arith, h)) i; elevation = elevation-agrees v at h i }
+  pair-agrees v at h =
+      λ i. record { azimuth = signed-agrees k s t same at (omega (arith, h)) i; elevation = elevation-agrees v at h i }
 
   pairs-agree : (v l at n : ℕ) → at + n * rowSize v l ≤ k → pairsFrom t v l at n ≡ pairsFrom s v l at n
   unfolding strided

@@ -1,4 +1,5 @@
--- What is told of a file that is to be turned into another version (`conversion-fault`), and of a bank with elevations (`raised-exactly`, `raised-place`). Assumes nothing.
+-- What is told of a file that is to be turned into another version (`conversion-fault`), and of a bank with elevations
+-- (`raised-exactly`, `raised-place`). Assumes nothing.
 use mathlib.Core.Path.{_≡_, refl, sym, ap, ap₂, _∙_}
 use mathlib.Core.Bool.{Bool, true, false, _&&_}
 use mathlib.Core.List.{List, [], _∷_}
@@ -15,9 +16,11 @@ use Rattle.refusals.specs.Ranges.{within}
 use Rattle.refusals.proofs.Ranges.{within-true, within-in, within-low, within-high}
 use Rattle.bank_form.specs.Bank.{isLevel}
 use Rattle.bank_form.specs.Version.{isVersion, rowSize, pairAt}
-use Rattle.bank_form.specs.Fault.{versionIn, sound, wrong, orElse, unless, field, headField, fault, faultOf, raisedFrom}
+use Rattle.bank_form.specs.Fault.{versionIn, sound, wrong, orElse, unless, field, headField, fault, faultOf}
+use Rattle.bank_form.specs.Fault.{raisedFrom}
 use Rattle.bank_form.specs.FaultLaws.{ConversionFault, RaisedExactly, FirstRaised, RaisedPlace}
-use Rattle.bank_form.proofs.Walk.{isClear, clear-else, clear-unless, else-on, else-stop, field-bad, field-good, unless-passes, unless-fails}
+use Rattle.bank_form.proofs.Walk.{isClear, clear-else, clear-unless, else-on, else-stop, field-bad, field-good}
+use Rattle.bank_form.proofs.Walk.{unless-passes, unless-fails}
 
 -- ---- the version
 
@@ -29,12 +32,14 @@ module _ (v : ℕ) (s : List ℕ) where
   other-version other =
       elim (decLt (versionIn s) v) [
         | yes h ↦ within-low v v (versionIn s) h
-        | no h ↦ elim (decLt v (versionIn s)) [ yes g ↦ within-high v v (versionIn s) (omega arith) g | no g ↦ absurd (other (omega arith)) ]
+        | no h ↦ elim (decLt v (versionIn s))
+            [ yes g ↦ within-high v v (versionIn s) (omega arith) g | no g ↦ absurd (other (omega arith)) ]
       ]
 
   tells-other : 1 ≤ length s → (versionIn s ≡ v → ⊥) → faultOf v s ≡ wrong 13 0
   unfolding faultOf headField
-  tells-other h other = sym (else-stop _ (fault s) (wrong 13 0) (sym (field-bad (length s) 0 1 13 (within v v (versionIn s)) h (other-version other))) (λ z. omega (arith, z)))
+  tells-other h other = sym (else-stop _ (fault s) (wrong 13 0)
+      (sym (field-bad (length s) 0 1 13 (within v v (versionIn s)) h (other-version other))) (λ z. omega (arith, z)))
 
   -- a file that has a version has a byte
   has-version : 1 ≤ v → versionIn s ≡ v → 1 ≤ length s
@@ -46,7 +51,9 @@ module _ (v : ℕ) (s : List ℕ) where
 
   tells-right : isVersion v ≡ true → versionIn s ≡ v → faultOf v s ≡ fault s
   unfolding faultOf headField
-  tells-right known e = else-on _ (fault s) sound (sym (field-good (length s) 0 1 13 (within v v (versionIn s)) (has-version (within-true 1 2 v known .0) e) (same-version e))) refl
+  tells-right known e = else-on _ (fault s) sound
+      (sym (field-good (length s) 0 1 13 (within v v (versionIn s)) (has-version (within-true 1 2 v known .0) e)
+      (same-version e))) refl
 
 tells-empty : (v : ℕ) → faultOf v [] ≡ wrong 19 0
 unfolding faultOf headField field orElse
@@ -60,11 +67,13 @@ conversion-fault = record { right = tells-right; other = tells-other; empty = te
 clear-raised : (l at : ℕ) (es : List ℤ) → isClear (raisedFrom l at es) ≡ every isLevel es
 unfolding raisedFrom
 clear-raised l at [] = refl
-clear-raised l at (e ∷ es) = clear-else _ _ ∙ ap₂ _&&_ (clear-unless (isLevel e) 21 (pairAt 2 at) (omega arith)) (clear-raised l (at + rowSize 2 l) es)
+clear-raised l at (e ∷ es) = clear-else _ _ ∙ ap₂ _&&_ (clear-unless (isLevel e) 21 (pairAt 2 at) (omega arith))
+    (clear-raised l (at + rowSize 2 l) es)
 
 -- from the i-th on: it, and those behind it
 pub raised-next : (l at i : ℕ) (es : List ℤ) → i < length es
-    → raisedFrom l at (drop i es) ≡ orElse (unless (isLevel (getD es i (pos 0))) 21 (pairAt 2 at)) (raisedFrom l (at + rowSize 2 l) (drop (i + 1) es))
+    → raisedFrom l at (drop i es) ≡ orElse (unless (isLevel (getD es i (pos 0))) 21 (pairAt 2 at))
+    (raisedFrom l (at + rowSize 2 l) (drop (i + 1) es))
 unfolding raisedFrom
 raised-next l at i [] h = absurd (omega (arith, h))
 raised-next l at zero (e ∷ es) h = refl
@@ -87,7 +96,8 @@ first-raised l at (e ∷ es) = go (first-raised l (at + rowSize 2 l) es) (isLeve
     stop : isLevel e ≡ false → FirstRaised l at (e ∷ es) 0
     stop k = record {
       among = omega arith;
-      told = unless-fails (isLevel e) 21 (pairAt 2 at) _ (omega arith) k ∙ ap (λ (n : ℕ). wrong 21 (pairAt 2 n)) (omega arith);
+      told = unless-fails (isLevel e) 21 (pairAt 2 at) _ (omega arith) k
+          ∙ ap (λ (n : ℕ). wrong 21 (pairAt 2 n)) (omega arith);
       before = refl;
       itself = k;
     }
@@ -97,16 +107,19 @@ first-raised l at (e ∷ es) = go (first-raised l (at + rowSize 2 l) es) (isLeve
       suc i,
       record {
         among = suc-le-suc (f .among);
-        told = unless-passes (isLevel e) 21 (pairAt 2 at) _ k ∙ f .told ∙ ap (λ (n : ℕ). wrong 21 (pairAt 2 n)) (omega arith);
+        told = unless-passes (isLevel e) 21 (pairAt 2 at) _ k ∙ f .told
+            ∙ ap (λ (n : ℕ). wrong 21 (pairAt 2 n)) (omega arith);
         before = rw k (f .before);
         itself = f .itself;
       },
     )
 
-    go : (raisedFrom l (at + rowSize 2 l) es ≡ sound) ⊎ ((i : ℕ) × FirstRaised l (at + rowSize 2 l) es i) → (t : Bool) → isLevel e ≡ t
+    go : (raisedFrom l (at + rowSize 2 l) es ≡ sound) ⊎ ((i : ℕ) × FirstRaised l (at + rowSize 2 l) es i) → (t : Bool)
+        → isLevel e ≡ t
         → (raisedFrom l at (e ∷ es) ≡ sound) ⊎ ((i : ℕ) × FirstRaised l at (e ∷ es) i)
     go rest false k = inr (0, stop k)
-    go rest true k = ⊎-elim (λ none. inl (unless-passes (isLevel e) 21 (pairAt 2 at) _ k ∙ none)) (λ some. inr (on k some)) rest
+    go rest true k =
+        ⊎-elim (λ none. inl (unless-passes (isLevel e) 21 (pairAt 2 at) _ k ∙ none)) (λ some. inr (on k some)) rest
 
 pub raised-place : RaisedPlace
 raised-place b = first-raised (b .length) 9 (b .elevations)

@@ -18,11 +18,13 @@ use Rattle.bank_form.specs.declared.Fault.{Fault}
 use Rattle.lists.specs.Tables.{every}
 use Rattle.refusals.specs.Ranges.{within, between}
 use Rattle.refusals.proofs.Ranges.{within-true}
-use Rattle.bank_form.specs.Bank.{Bank, rows, pairs, isAzimuth, isElevation, differ, isTap, isLevel, pairwise, valid, level}
+use Rattle.bank_form.specs.Bank.{Bank, rows, pairs, isAzimuth, isElevation, differ, isTap, isLevel, pairwise}
+use Rattle.bank_form.specs.Bank.{valid, level}
 use Rattle.bank_form.specs.Version.{rowSize, elevationAt}
 use Rattle.bank_form.specs.Encoding.{encode}
 use Rattle.bank_form.specs.FitsFields.{IsI16, IsFloat, FitsFields}
-use Rattle.bank_form.specs.Fault.{elevationsFrom, pairIn, pairsFrom, versionIn, rowsIn, lengthIn, bankIn, isNew, sound, fault, isFile}
+use Rattle.bank_form.specs.Fault.{elevationsFrom, pairIn, pairsFrom, versionIn, rowsIn, lengthIn, bankIn, isNew}
+use Rattle.bank_form.specs.Fault.{sound, fault, isFile}
 use Rattle.bank_form.specs.File.{Holds, IsFile, Exactly}
 use Rattle.lists.proofs.ForAll.{each-every}
 use Rattle.bank_form.proofs.Lists.{every-none, every-more, length-taps, pairwise-before, before-pairwise}
@@ -52,11 +54,29 @@ keeps b h =
     let f = and-eq-true-iff _ (eqb (length (b .taps)) (2 * rows b * b .length)) .0 (e .0) in
     let g = and-eq-true-iff _ (eqb (length (b .elevations)) (rows b)) .0 (f .0) in
     let k = and-eq-true-iff (within 1 8 (rows b)) (within 1 512 (b .length)) .0 (g .0) in
-    record { few = k .0; short = k .1; paired = eqb-true _ _ (g .1); count = eqb-true _ _ (f .1); azimuths = e .1; elevations = d .1; apart = c .1; numbers = a .1 }
+    record {
+      few = k .0;
+      short = k .1;
+      paired = eqb-true _ _ (g .1);
+      count = eqb-true _ _ (f .1);
+      azimuths = e .1;
+      elevations = d .1;
+      apart = c .1;
+      numbers = a .1;
+    }
 
 pub is-valid : (b : Bank) → Keeps b → valid b ≡ true
 unfolding valid
-is-valid b k = rw (k .few, k .short, eq-eqb _ _ (k .paired), eq-eqb _ _ (k .count), k .azimuths, k .elevations, k .apart, k .numbers)
+is-valid b k = rw (
+  k .few,
+  k .short,
+  eq-eqb _ _ (k .paired),
+  eq-eqb _ _ (k .count),
+  k .azimuths,
+  k .elevations,
+  k .apart,
+  k .numbers,
+)
 
 -- ---- the bank that stands in a file
 
@@ -73,7 +93,8 @@ module _ (s : List ℕ) where
   rows-in = length-strided (signedAt s) (rowSize (versionIn s) (lengthIn s)) 9 (rowsIn s)
 
   pub paired-in : length (bankIn s .elevations) ≡ rows (bankIn s)
-  paired-in = length-strided (elevationAt (versionIn s) s) (rowSize (versionIn s) (lengthIn s)) 9 (rowsIn s) ∙ sym rows-in
+  paired-in =
+      length-strided (elevationAt (versionIn s) s) (rowSize (versionIn s) (lengthIn s)) 9 (rowsIn s) ∙ sym rows-in
 
   pub flat-in : versionIn s ≡ 1 → level (bankIn s) ≡ true
   flat-in e = levels s (versionIn s) (lengthIn s) 9 (rowsIn s) e
@@ -91,28 +112,37 @@ module _ (s : List ℕ) where
     azimuths = w .all .azimuths;
     elevations = w .all .elevations;
     apart = ap (pairwise differ) pairs-in
-        ∙ before-pairwise (pairIn (versionIn s) s) (rowSize (versionIn s) (lengthIn s)) differ 9 (rowsIn s) (λ j h. let z : 0 + j ≡ j = omega arith in rw z at (w .all .new j h));
+        ∙ before-pairwise (pairIn (versionIn s) s) (rowSize (versionIn s) (lengthIn s)) differ 9 (rowsIn s)
+        (λ j h. let z : 0 + j ≡ j = omega arith in rw z at (w .all .new j h));
     numbers = w .all .taps;
   }
 
   keeps-whole : (v : ℕ) (b : Bank) → within 1 2 v ≡ true → Written v b s → Keeps (bankIn s) → Whole (length s) s
   unfolding isNew
   keeps-whole v b known a k = record {
-    head = record { version = rw (a .version) known; rest = a .rest; few = rw rows-in at (k .few); short = k .short; long = omega (arith, a .size) };
+    head = record {
+      version = rw (a .version) known;
+      rest = a .rest;
+      few = rw rows-in at (k .few);
+      short = k .short;
+      long = omega (arith, a .size);
+    };
     all = record {
       ends = rw (a .version) (a .size);
       azimuths = k .azimuths;
       elevations = k .elevations;
       new = λ j h.
           let z : 0 + j ≡ j = omega arith in
-          rw z (pairwise-before (pairIn (versionIn s) s) (rowSize (versionIn s) (lengthIn s)) differ 9 (rowsIn s) (ap (pairwise differ) (sym pairs-in) ∙ k .apart) j h);
+          rw z (pairwise-before (pairIn (versionIn s) s) (rowSize (versionIn s) (lengthIn s)) differ 9 (rowsIn s)
+          (ap (pairwise differ) (sym pairs-in) ∙ k .apart) j h);
       taps = k .numbers;
     };
   }
 
 -- ---- a bank that keeps the form is one that the lists hold
 
-between-small : (low high : ℕ) → low < 2 ^ 15 → high < 2 ^ 15 → (z : ℤ) → between (negsuc low) (pos high) z ≡ true → IsI16 z
+between-small : (low high : ℕ) → low < 2 ^ 15 → high < 2 ^ 15 → (z : ℤ) → between (negsuc low) (pos high) z ≡ true
+    → IsI16 z
 between-small low high h g (pos n) e = let k = leb-true n high e in omega arith
 between-small low high h g (negsuc n) e = omega (arith, leb-true n low (and-eq-true-iff (leb n low) true .0 e .0))
 
@@ -133,7 +163,11 @@ keeps-fits v b h k = record {
   holds = h;
   few = omega (arith, within-true 1 8 (rows b) (k .few) .1);
   short = omega (arith, within-true 1 512 (b .length) (k .short) .1);
-  follow = omega (arith, rows-reach v (rows b) 8 (b .length) (within-true 1 8 (rows b) (k .few) .1) (within-true 1 512 (b .length) (k .short) .1));
+  follow = omega (
+    arith,
+    rows-reach v (rows b) 8 (b .length) (within-true 1 8 (rows b) (k .few) .1)
+        (within-true 1 512 (b .length) (k .short) .1),
+  );
   paired = k .paired;
   count = k .count ∙ omega arith;
   azimuths = each-every IsI16 (pos 0) isAzimuth azimuth-small (omega arith) (b .azimuths) (k .azimuths);
@@ -154,7 +188,9 @@ none-found s e = eqb-true (fault s .refusal) 0 e
 written-keeps : (v : ℕ) (b : Bank) → FitsFields v b → Keeps b → isFile (encode v b) ≡ true
 written-keeps v b h k =
     let w = read-write v b h in
-    is-file (encode v b) (ap (λ (f : Fault). f .refusal) (nothing-found (length (encode v b)) (encode v b) (keeps-whole (encode v b) v b (h .holds .known) w (rw (w .same) k))))
+    is-file (encode v b) (ap (λ (f : Fault). f .refusal)
+    (nothing-found (length (encode v b)) (encode v b)
+    (keeps-whole (encode v b) v b (h .holds .known) w (rw (w .same) k))))
 
 -- a bank file says its version
 pub version-of : (v : ℕ) (s : List ℕ) (b : Bank) → IsFile v s b → versionIn s ≡ v
@@ -166,11 +202,16 @@ unfolding isFile
 exactly s bytes = record {
   sound = λ e.
       let w = whole (length s) s (none-found s e) in
-      record { holds = record { known = w .head .version; flat = flat-in s }; keeps = is-valid (bankIn s) (whole-keeps s w); bytes = write-read s bytes w };
+      record {
+        holds = record { known = w .head .version; flat = flat-in s };
+        keeps = is-valid (bankIn s) (whole-keeps s w);
+        bytes = write-read s bytes w;
+      };
   complete = λ v b f. complete v b (f .holds) (keeps b (f .keeps)) (f .bytes);
 }
   where
-    complete : (v : ℕ) (b : Bank) → Holds v b → Keeps b → encode v b ≡ s → (isFile s ≡ true) × (versionIn s ≡ v) × (bankIn s ≡ b)
+    complete : (v : ℕ) (b : Bank) → Holds v b → Keeps b → encode v b ≡ s → (isFile s ≡ true) × (versionIn s ≡ v)
+        × (bankIn s ≡ b)
     complete v b h k e =
         let fit = keeps-fits v b h k in
         let w = read-write v b fit in

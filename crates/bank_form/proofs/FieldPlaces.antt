@@ -14,7 +14,8 @@ use lib.Ieee.Scale.{finite}
 use Rattle.big_endian.specs.Fields.{signedAt, floatAt}
 use Rattle.bank_form.specs.Bank.{isAzimuth}
 use Rattle.bank_form.specs.Version.{rowSize, tapsAt, pairAt}
-use Rattle.bank_form.specs.Fault.{versionIn, rowsIn, lengthIn, pairIn, sound, wrong, unless, field, tapsFault, isNew, elevationFault, rowFault, rowsFault, headField, headFault, faultIn}
+use Rattle.bank_form.specs.Fault.{versionIn, rowsIn, lengthIn, pairIn, sound, wrong, unless, field, tapsFault}
+use Rattle.bank_form.specs.Fault.{isNew, elevationFault, rowFault, rowsFault, headField, headFault, faultIn}
 use Rattle.bank_form.specs.FaultLaws.{rowPlace, AzimuthOut, Repeated, ElevationOut, FieldPlace, FieldPlaces}
 use Rattle.bank_form.proofs.Walk.{else-both, field-each, no-elevation, elevation-field}
 
@@ -49,7 +50,8 @@ module _ (size : ℕ) (s : List ℕ) where
   nowhere = head-place 0 0 (omega arith) (λ h. absurd (omega (arith, h)))
 
   row-place : (n at : ℕ) → 17 ≤ n → (n ≡ 17 → (i : ℕ) × (i < rowsIn s) × (AzimuthOut s i at ⊎ Repeated s i at))
-      → (n ≡ 18 → (i k : ℕ) × (i < rowsIn s) × (k < 2 * l) × (at ≡ tapsAt v (rowPlace s i) + 4 * k) × (finite (floatAt s at) ≡ false))
+      → (n ≡ 18 → (i k : ℕ) × (i < rowsIn s) × (k < 2 * l) × (at ≡ tapsAt v (rowPlace s i) + 4 * k)
+      × (finite (floatAt s at) ≡ false))
       → (n ≡ 20 → (i : ℕ) × (i < rowsIn s) × ElevationOut s i at) → Right (wrong n at)
   row-place n at high azimuth tap elevation = record {
     version = λ e. absurd (omega (arith, e, high));
@@ -63,45 +65,55 @@ module _ (size : ℕ) (s : List ℕ) where
 
   -- ---- a field, which may be good, or missing
 
-  right-field : (at count n : ℕ) (good : Bool) → (good ≡ false → Right (wrong n at)) → Right (field size at count n good)
+  right-field : (at count n : ℕ) (good : Bool) → (good ≡ false → Right (wrong n at))
+      → Right (field size at count n good)
   right-field at count n good r =
       field-each size at count n good Right nowhere
-      (row-place 19 size (omega arith) (λ e. absurd (omega (arith, e))) (λ e. absurd (omega (arith, e))) (λ e. absurd (omega (arith, e)))) r
+      (row-place 19 size (omega arith) (λ e. absurd (omega (arith, e))) (λ e. absurd (omega (arith, e)))
+      (λ e. absurd (omega (arith, e)))) r
 
   -- ---- the walks: k taps of the row i were looked at, and i rows
 
-  right-taps : (i at k n : ℕ) → i < rowsIn s → at ≡ tapsAt v (rowPlace s i) + 4 * k → k + n ≡ 2 * l → Right (tapsFault size s at n)
+  right-taps : (i at k n : ℕ) → i < rowsIn s → at ≡ tapsAt v (rowPlace s i) + 4 * k → k + n ≡ 2 * l
+      → Right (tapsFault size s at n)
   unfolding tapsFault
   right-taps i at k zero h e f = nowhere
   right-taps i at k (suc n) h e f =
       else-both _ _ Right
-      (right-field at 4 18 _ (λ bad. row-place 18 at (omega arith) (λ g. absurd (omega (arith, g))) (λ g. (i, k, h, omega (arith, f), e, bad)) (λ g. absurd (omega (arith, g)))))
+      (right-field at 4 18 _ (λ bad. row-place 18 at (omega arith) (λ g. absurd (omega (arith, g)))
+      (λ g. (i, k, h, omega (arith, f), e, bad)) (λ g. absurd (omega (arith, g)))))
       (right-taps i (at + 4) (k + 1) n h (omega (arith, e)) (omega (arith, f)))
 
   module _ (i : ℕ) (h : i < rowsIn s) where
     right-azimuth : Right (field size (rowPlace s i) 2 17 (isAzimuth (signedAt s (rowPlace s i))))
     right-azimuth =
-        right-field _ 2 17 _ (λ bad. row-place 17 _ (omega arith) (λ g. (i, h, inl (record { place = refl; bad = bad }))) (λ g. absurd (omega (arith, g))) (λ g. absurd (omega (arith, g))))
+        right-field _ 2 17 _ (λ bad. row-place 17 _ (omega arith)
+        (λ g. (i, h, inl (record { place = refl; bad = bad }))) (λ g. absurd (omega (arith, g)))
+        (λ g. absurd (omega (arith, g))))
 
     right-elevation : Right (elevationFault size s v (rowPlace s i))
     right-elevation = tested (eqb v 1) (λ e. rw (no-elevation size s v (rowPlace s i) e) nowhere)
         (λ e. rw (elevation-field size s v (rowPlace s i) e)
-        (right-field _ 2 20 _ (λ bad. row-place 20 _ (omega arith) (λ g. absurd (omega (arith, g))) (λ g. absurd (omega (arith, g)))
+        (right-field _ 2 20 _ (λ bad. row-place 20 _ (omega arith) (λ g. absurd (omega (arith, g)))
+        (λ g. absurd (omega (arith, g)))
         (λ g. (i, h, record { version = λ one. true≢false (sym (eq-eqb v 1 one) ∙ e); place = refl; bad = bad })))))
 
     right-pair : Right (unless (isNew s v l (pairIn v s (rowPlace s i)) 9 i) 17 (pairAt v (rowPlace s i)))
     right-pair = go (isNew s v l (pairIn v s (rowPlace s i)) 9 i) refl
       where
-        go : (t : Bool) → isNew s v l (pairIn v s (rowPlace s i)) 9 i ≡ t → Right (unless t 17 (pairAt v (rowPlace s i)))
+        go : (t : Bool) → isNew s v l (pairIn v s (rowPlace s i)) 9 i ≡ t
+            → Right (unless t 17 (pairAt v (rowPlace s i)))
         go true bad = nowhere
-        go false bad = row-place 17 _ (omega arith) (λ g. (i, h, inr (record { place = refl; bad = bad }))) (λ g. absurd (omega (arith, g))) (λ g. absurd (omega (arith, g)))
+        go false bad = row-place 17 _ (omega arith) (λ g. (i, h, inr (record { place = refl; bad = bad })))
+            (λ g. absurd (omega (arith, g))) (λ g. absurd (omega (arith, g)))
 
     right-row : Right (rowFault size s v l i (rowPlace s i))
     unfolding rowFault
     right-row =
         else-both _ _ Right right-azimuth
         (else-both _ _ Right right-elevation
-        (else-both _ _ Right right-pair (right-taps i (tapsAt v (rowPlace s i)) 0 (2 * l) h (omega arith) (omega arith))))
+        (else-both _ _ Right right-pair
+        (right-taps i (tapsAt v (rowPlace s i)) 0 (2 * l) h (omega arith) (omega arith))))
 
   right-rows : (i at n : ℕ) → at ≡ rowPlace s i → i + n ≡ rowsIn s → Right (rowsFault size s v l i at n)
   unfolding rowsFault
@@ -111,7 +123,8 @@ module _ (size : ℕ) (s : List ℕ) where
       go true = nowhere
       go false = head-place 14 1 (omega arith) (λ g. refl)
   right-rows i at (suc n) e f =
-      else-both _ _ Right (rw e (right-row i (omega (arith, f)))) (right-rows (i + 1) (at + rowSize v l) n (omega (arith, e)) (omega (arith, f)))
+      else-both _ _ Right (rw e (right-row i (omega (arith, f))))
+      (right-rows (i + 1) (at + rowSize v l) n (omega (arith, e)) (omega (arith, f)))
 
   right-head : Right (headFault size s)
   unfolding headFault headField

@@ -1,4 +1,5 @@
--- The laws of `pairwise` and `tapsFrom`: what holds of the fields that stand a stride apart holds of their list, and the other way round. Assumes nothing.
+-- The laws of `pairwise` and `tapsFrom`: what holds of the fields that stand a stride apart holds of their list, and
+-- the other way round. Assumes nothing.
 use mathlib.Core.Path.{_≡_, refl, sym, ap, _∙_}
 use mathlib.Core.Bool.{Bool, true, false, _&&_, and-eq-true-iff, and-true}
 use mathlib.Core.List.{List, [], _∷_, _++_, flatMap}
@@ -31,30 +32,36 @@ module _ {A : Type 0} where
   unfolding pairwise
   pairwise-none r = refl
 
-  pub pairwise-snoc : (r : A → A → Bool) (xs : List A) (y : A) → pairwise r (xs ++ (y ∷ [])) ≡ (pairwise r xs && every (λ (x : A). r x y) xs)
+  pub pairwise-snoc : (r : A → A → Bool) (xs : List A) (y : A)
+      → pairwise r (xs ++ (y ∷ [])) ≡ (pairwise r xs && every (λ (x : A). r x y) xs)
   unfolding pairwise
   pairwise-snoc r [] y = refl
   pairwise-snoc r (x ∷ xs) y =
-      rw (every-append (r x) xs (y ∷ []), pairwise-snoc r xs y, and-true (r x y)) (exchange (every (r x) xs) (r x y) (pairwise r xs) (every (λ (z : A). r z y) xs))
+      rw (every-append (r x) xs (y ∷ []), pairwise-snoc r xs y, and-true (r x y))
+      (exchange (every (r x) xs) (r x y) (pairwise r xs) (every (λ (z : A). r z y) xs))
 
   module _ (f : ℕ → A) (w : ℕ) where
     pub every-none : (p : A → Bool) (at : ℕ) → every p (strided f w at 0) ≡ true
     unfolding strided
     every-none p at = refl
 
-    pub every-more : (p : A → Bool) (at n : ℕ) → every p (strided f w at (suc n)) ≡ (p (f at) && every p (strided f w (at + w) n))
+    pub every-more : (p : A → Bool) (at n : ℕ) → every p (strided f w at (suc n))
+        ≡ (p (f at) && every p (strided f w (at + w) n))
     every-more p at n = ap (every p) (strided-more f w at n)
 
-    pub every-next : (p : A → Bool) (at n : ℕ) → 0 < n → every p (strided f w at n) ≡ (p (f at) && every p (strided f w (at + w) (n - 1)))
+    pub every-next : (p : A → Bool) (at n : ℕ) → 0 < n → every p (strided f w at n)
+        ≡ (p (f at) && every p (strided f w (at + w) (n - 1)))
     every-next p at zero h = absurd (omega arith)
     every-next p at (suc n) h = rw (sub-one (suc n)) (every-more p at n)
 
     -- each field differs from those before it exactly if they differ pairwise
     module _ (r : A → A → Bool) (at : ℕ) where
-      one-more : (n : ℕ) → pairwise r (strided f w at (suc n)) ≡ (pairwise r (strided f w at n) && every (λ (x : A). r x (f (at + n * w))) (strided f w at n))
+      one-more : (n : ℕ) → pairwise r (strided f w at (suc n))
+          ≡ (pairwise r (strided f w at n) && every (λ (x : A). r x (f (at + n * w))) (strided f w at n))
       one-more n = ap (pairwise r) (strided-snoc f w at n) ∙ pairwise-snoc r (strided f w at n) (f (at + n * w))
 
-      pub pairwise-before : (n : ℕ) → pairwise r (strided f w at n) ≡ true → (j : ℕ) → j < n → every (λ (x : A). r x (f (at + j * w))) (strided f w at j) ≡ true
+      pub pairwise-before : (n : ℕ) → pairwise r (strided f w at n) ≡ true → (j : ℕ) → j < n
+          → every (λ (x : A). r x (f (at + j * w))) (strided f w at j) ≡ true
       pairwise-before zero h j g = absurd (omega arith)
       pairwise-before (suc n) h j g =
           let both = and-eq-true-iff _ _ .0 (sym (one-more n) ∙ h) in
@@ -63,9 +70,12 @@ module _ {A : Type 0} where
             | no k ↦ let q : j ≡ n = omega arith in rw q (both .1)
           ]
 
-      pub before-pairwise : (n : ℕ) → ((j : ℕ) → j < n → every (λ (x : A). r x (f (at + j * w))) (strided f w at j) ≡ true) → pairwise r (strided f w at n) ≡ true
+      pub before-pairwise : (n : ℕ)
+          → ((j : ℕ) → j < n → every (λ (x : A). r x (f (at + j * w))) (strided f w at j) ≡ true)
+          → pairwise r (strided f w at n) ≡ true
       before-pairwise zero h = ap (pairwise r) (strided-none f w at) ∙ pairwise-none r
-      before-pairwise (suc n) h = one-more n ∙ and-eq-true-iff _ _ .1 (before-pairwise n (λ j g. h j (omega arith)), h n (omega arith))
+      before-pairwise (suc n) h = one-more n ∙ and-eq-true-iff _ _ .1
+          (before-pairwise n (λ j g. h j (omega arith)), h n (omega arith))
 
 -- ---- the taps of rows
 
@@ -77,13 +87,19 @@ module _ (s : List ℕ) (v l at : ℕ) where
   module _ (n : ℕ) where
     pub length-taps : length (tapsFrom s v l at n) ≡ n * (2 * l)
     unfolding tapsFrom
-    length-taps = cc (length-joined (rowTaps s v l) (2 * l) (λ p. length-strided (floatAt s) 4 (tapsAt v p) (2 * l)) (strided (λ p. p) (rowSize v l) at n), length-strided (λ p. p) (rowSize v l) at n)
+    length-taps = cc (
+      length-joined (rowTaps s v l) (2 * l) (λ p. length-strided (floatAt s) 4 (tapsAt v p) (2 * l))
+          (strided (λ p. p) (rowSize v l) at n),
+      length-strided (λ p. p) (rowSize v l) at n,
+    )
 
     -- one row more before the others, and behind them
     pub taps-more : tapsFrom s v l at (suc n) ≡ rowTaps s v l at ++ tapsFrom s v l (at + rowSize v l) n
     unfolding tapsFrom
-    taps-more = ap (flatMap (rowTaps s v l)) (strided-more (λ p. p) (rowSize v l) at n) ∙ joined-more (rowTaps s v l) at (strided (λ p. p) (rowSize v l) (at + rowSize v l) n)
+    taps-more = ap (flatMap (rowTaps s v l)) (strided-more (λ p. p) (rowSize v l) at n)
+        ∙ joined-more (rowTaps s v l) at (strided (λ p. p) (rowSize v l) (at + rowSize v l) n)
 
     pub taps-snoc : tapsFrom s v l at (suc n) ≡ tapsFrom s v l at n ++ rowTaps s v l (at + n * rowSize v l)
     unfolding tapsFrom
-    taps-snoc = ap (flatMap (rowTaps s v l)) (strided-snoc (λ p. p) (rowSize v l) at n) ∙ joined-snoc (rowTaps s v l) (strided (λ p. p) (rowSize v l) at n) (at + n * rowSize v l)
+    taps-snoc = ap (flatMap (rowTaps s v l)) (strided-snoc (λ p. p) (rowSize v l) at n)
+        ∙ joined-snoc (rowTaps s v l) (strided (λ p. p) (rowSize v l) at n) (at + n * rowSize v l)

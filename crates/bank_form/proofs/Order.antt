@@ -15,11 +15,16 @@ use Rattle.big_endian.specs.Fields.{fieldAt}
 use Rattle.refusals.specs.Ranges.{within}
 use Rattle.bank_form.specs.declared.Fault.{Fault}
 use Rattle.bank_form.specs.Version.{rowSize, tapsAt, pairAt}
-use Rattle.bank_form.specs.Fault.{versionIn, rowsIn, lengthIn, pairIn, isNew, elevationFault, sound, unless, orElse, field, tapsFault, rowFault, rowsFault, headField, headFault, faultIn, fault}
+use Rattle.bank_form.specs.Fault.{versionIn, rowsIn, lengthIn, pairIn, isNew, elevationFault, sound, unless}
+use Rattle.bank_form.specs.Fault.{orElse, field, tapsFault, rowFault, rowsFault, headField, headFault, faultIn}
+use Rattle.bank_form.specs.Fault.{fault}
 use Rattle.bank_form.specs.FaultLaws.{fieldSize, ByteOrder}
-use Rattle.bank_form.proofs.Walk.{else-on, else-stop, field-short, field-bad, field-good, field-none, no-elevation, elevation-field, elevation-none, head-none, whole, nothing-found}
+use Rattle.bank_form.proofs.Walk.{else-on, else-stop, field-short, field-bad, field-good, field-none}
+use Rattle.bank_form.proofs.Walk.{no-elevation, elevation-field, elevation-none, head-none, whole}
+use Rattle.bank_form.proofs.Walk.{nothing-found}
 use Rattle.big_endian.proofs.Starts.{Agree, start-agrees, agree-less, float-agrees}
-use Rattle.bank_form.proofs.Agree.{new-agrees, azimuth-agrees, field-elevation-agrees, elevation-fault-agrees, row-agrees, head-agrees, fault-agrees}
+use Rattle.bank_form.proofs.Agree.{new-agrees, azimuth-agrees, field-elevation-agrees, elevation-fault-agrees}
+use Rattle.bank_form.proofs.Agree.{row-agrees, head-agrees, fault-agrees}
 use Rattle.bank_form.proofs.Places.{row-ended}
 use Rattle.bank_form.proofs.Left.{bytes-left}
 
@@ -115,16 +120,19 @@ module _ (size : ℕ) (s t : List ℕ) where
 
   -- the pair is compared once it is read: where the taps begin
   kept-new : (v l i at : ℕ) → 9 + i * rowSize v l ≤ at
-      → Kept (tapsAt v at) (unless (isNew s v l (pairIn v s at) 9 i) 17 (pairAt v at)) (unless (isNew t v l (pairIn v t at) 9 i) 17 (pairAt v at))
+      → Kept (tapsAt v at) (unless (isNew s v l (pairIn v s at) 9 i) 17 (pairAt v at))
+      (unless (isNew t v l (pairIn v t at) 9 i) 17 (pairAt v at))
   kept-new v l i at before = go (isNew s v l (pairIn v s at) 9 i) refl
     where
-      go : (b : Bool) → isNew s v l (pairIn v s at) 9 i ≡ b → Kept (tapsAt v at) (unless b 17 (pairAt v at)) (unless (isNew t v l (pairIn v t at) 9 i) 17 (pairAt v at))
+      go : (b : Bool) → isNew s v l (pairIn v s at) 9 i ≡ b
+          → Kept (tapsAt v at) (unless b 17 (pairAt v at)) (unless (isNew t v l (pairIn v t at) 9 i) 17 (pairAt v at))
       go true e = kept-sound (tapsAt v at) _
       go false e = record {
         after = λ w. omega arith;
         same = λ w g.
             let start = agree-less _ (tapsAt v at) s t (omega arith) g in
-            ap (λ (b : Bool). unless b 17 (pairAt v at)) (new-agrees (tapsAt v at) s t start v l at i (le-refl (tapsAt v at)) (omega (arith, before)) ∙ e);
+            ap (λ (b : Bool). unless b 17 (pairAt v at))
+            (new-agrees (tapsAt v at) s t start v l at i (le-refl (tapsAt v at)) (omega (arith, before)) ∙ e);
       }
 
   kept-row : (v l i at : ℕ) → at ≤ size → 9 + i * rowSize v l ≤ at
@@ -132,9 +140,11 @@ module _ (size : ℕ) (s t : List ℕ) where
   unfolding rowFault
   kept-row v l i at h before =
       kept-next at 17 _ _ h (λ g. azimuth-agrees (at + 2) s t g at (le-refl (at + 2))) (omega arith) _ _ (λ here.
-      kept-else (at + 2) (tapsAt v at) _ _ _ _ (omega arith) (kept-elevation v at here) (λ g. elevation-fault-agrees (tapsAt v at) s t g size v at (le-refl (tapsAt v at))) (λ e.
+      kept-else (at + 2) (tapsAt v at) _ _ _ _ (omega arith) (kept-elevation v at here)
+      (λ g. elevation-fault-agrees (tapsAt v at) s t g size v at (le-refl (tapsAt v at))) (λ e.
       kept-else (tapsAt v at) (tapsAt v at) _ _ _ _ (le-refl (tapsAt v at)) (kept-new v l i at before)
-      (λ g. ap (λ (b : Bool). unless b 17 (pairAt v at)) (new-agrees (tapsAt v at) s t g v l at i (le-refl (tapsAt v at)) (omega (arith, before))))
+      (λ g. ap (λ (b : Bool). unless b 17 (pairAt v at))
+      (new-agrees (tapsAt v at) s t g v l at i (le-refl (tapsAt v at)) (omega (arith, before))))
       (λ f. kept-taps (tapsAt v at) (2 * l) (elevation-none size s v at here e .0))))
 
   module _ (rest : fieldAt s 1 4 ≡ size - 5) (v l : ℕ) where
@@ -153,12 +163,15 @@ module _ (size : ℕ) (s t : List ℕ) where
 
   -- the rows behind a good head: each list has its own version and counts, and they are the same where the head is
   kept-all : headFault size s .refusal ≡ 0
-      → Kept 9 (rowsFault size s (versionIn s) (lengthIn s) 0 9 (rowsIn s)) (rowsFault size t (versionIn t) (lengthIn t) 0 9 (rowsIn t))
+      → Kept 9 (rowsFault size s (versionIn s) (lengthIn s) 0 9 (rowsIn s))
+      (rowsFault size t (versionIn t) (lengthIn t) 0 9 (rowsIn t))
   kept-all e =
-      let k = kept-rows (head-none size s e .rest) (versionIn s) (lengthIn s) 0 9 (rowsIn s) (head-none size s e .long) (omega arith) in
+      let k = kept-rows (head-none size s e .rest) (versionIn s) (lengthIn s) 0 9 (rowsIn s) (head-none size s e .long)
+      (omega arith) in
       record {
         after = k .after;
-        same = λ w g. let nine = k .after w in rw (g 0 1 (omega arith), g 5 2 (omega arith), g 7 2 (omega arith)) (k .same w g);
+        same = λ w g. let nine = k .after w in rw (g 0 1 (omega arith), g 5 2 (omega arith), g 7 2 (omega arith))
+            (k .same w g);
       }
 
   kept-head : Kept 0 (headFault size s) (headFault size t)

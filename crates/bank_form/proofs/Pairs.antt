@@ -99,7 +99,8 @@ elevations-of (z ∷ zs) [] h = absurd (omega (arith, h))
 elevations-of (z ∷ zs) (e ∷ es) h = ap (λ (ys : List ℤ). e ∷ ys) (elevations-of zs es (omega (arith, h)))
 
 -- of one row
-pub pair-of : (zs es : List ℤ) (i : ℕ) (d : Pair) → i < length zs → i < length es → getD (pairsOf zs es) i d ≡ record { azimuth = getD zs i (pos 0); elevation = getD es i (pos 0) }
+pub pair-of : (zs es : List ℤ) (i : ℕ) (d : Pair) → i < length zs → i < length es
+    → getD (pairsOf zs es) i d ≡ record { azimuth = getD zs i (pos 0); elevation = getD es i (pos 0) }
 unfolding pairsOf
 pair-of [] es i d h g = absurd (omega (arith, h))
 pair-of (z ∷ zs) [] i d h g = absurd (omega (arith, g))
@@ -107,8 +108,14 @@ pair-of (z ∷ zs) (e ∷ es) zero d h g = refl
 pair-of (z ∷ zs) (e ∷ es) (suc i) d h g = pair-of zs es i d (le-of-suc-le-suc h) (le-of-suc-le-suc g)
 
 -- of fields that stand a stride apart
-pub pairs-strided : (f g : ℕ → ℤ) (w at n : ℕ) → pairsOf (strided f w at n) (strided g w at n) ≡ strided (λ p. record { azimuth = f p; elevation = g p }) w at n
+pub pairs-strided : (f g : ℕ → ℤ) (w at n : ℕ) → pairsOf (strided f w at n) (strided g w at n)
+    ≡ strided (λ p. record { azimuth = f p; elevation = g p }) w at n
 unfolding pairsOf
-pairs-strided f g w at zero = rw (strided-none f w at) (sym (strided-none (λ p. record { azimuth = f p; elevation = g p }) w at))
+pairs-strided f g w at zero =
+    rw (strided-none f w at) (sym (strided-none (λ p. record { azimuth = f p; elevation = g p }) w at))
 pairs-strided f g w at (suc n) =
-    rw (strided-more f w at n, strided-more g w at n, pairs-strided f g w (at + w) n) (sym (strided-more (λ p. record { azimuth = f p; elevation = g p }) w at n))
+    rw (strided-more f w at n, strided-more g w at n, pairs-strided f g w (at + w) n) (sym (strided-more (λ p. record {
+      azimuth =
+          f p;
+      elevation = g p;
+    }) w at n))

@@ -14,9 +14,12 @@ use Rattle.lists.proofs.Tests.{tested}
 use Rattle.big_endian.specs.Fields.{floatAt}
 use Rattle.bank_form.specs.declared.Fault.{Fault}
 use Rattle.bank_form.specs.Version.{rowSize, tapsAt, pairAt}
-use Rattle.bank_form.specs.Fault.{versionIn, rowsIn, lengthIn, pairIn, isNew, elevationFault, sound, wrong, unless, orElse, field, tapsFault, rowFault, rowsFault, headField, headFault, faultIn}
+use Rattle.bank_form.specs.Fault.{versionIn, rowsIn, lengthIn, pairIn, isNew, elevationFault, sound, wrong}
+use Rattle.bank_form.specs.Fault.{unless, orElse, field, tapsFault, rowFault, rowsFault, headField, headFault}
+use Rattle.bank_form.specs.Fault.{faultIn}
 use Rattle.bank_form.specs.FaultLaws.{fieldSize, NumberAndPlace, NumbersAndPlaces}
-use Rattle.bank_form.proofs.Walk.{else-stop, else-on, else-none, field-short, field-bad, field-good, field-none, no-elevation, elevation-field, elevation-none, row-is, head-none}
+use Rattle.bank_form.proofs.Walk.{else-stop, else-on, else-none, field-short, field-bad, field-good}
+use Rattle.bank_form.proofs.Walk.{field-none, no-elevation, elevation-field, elevation-none, row-is, head-none}
 
 -- no fault, or one with a number and a place
 abbrev Fine : ℕ → Fault → Type 0
@@ -25,7 +28,8 @@ Fine size f = (f ≡ sound) ⊎ NumberAndPlace size f
 module _ (size : ℕ) where
   -- a fault by its number and its place
   wrong-at : (n at : ℕ) → 13 ≤ n → n ≤ 20 → (n ≡ 19 → ⊥) → at + fieldSize n ≤ size → Fine size (wrong n at)
-  wrong-at n at low high other h = inr (record { least = low; most = omega arith; inside = h; end = λ e. absurd (other e) })
+  wrong-at n at low high other h =
+      inr (record { least = low; most = omega arith; inside = h; end = λ e. absurd (other e) })
 
   wrong-at-end : Fine size (wrong 19 size)
   wrong-at-end = inr (record { least = omega arith; most = omega arith; inside = omega arith; end = λ e. refl })
@@ -40,7 +44,8 @@ module _ (size : ℕ) where
       go (suc n) e = subst (Fine size) (else-stop a b a refl (λ z. suc-ne-zero n (sym e ∙ z))) p
 
   -- a field with a number, and as long as that says
-  fine-field : (at n : ℕ) (good : Bool) → at ≤ size → 13 ≤ n → n ≤ 20 → (n ≡ 19 → ⊥) → Fine size (field size at (fieldSize n) n good)
+  fine-field : (at n : ℕ) (good : Bool) → at ≤ size → 13 ≤ n → n ≤ 20 → (n ≡ 19 → ⊥)
+      → Fine size (field size at (fieldSize n) n good)
   fine-field at n good h low high other =
       elim (decLt size (at + fieldSize n)) [
         | yes k ↦ rw (field-short size at (fieldSize n) n good k) wrong-at-end
@@ -52,10 +57,12 @@ module _ (size : ℕ) where
       go false e k = rw (field-bad size at (fieldSize n) n good k e) (wrong-at n at low high other k)
 
   -- and a walk that begins behind it
-  fine-next : (at n : ℕ) (good : Bool) (b : Fault) → at ≤ size → 13 ≤ n → n ≤ 20 → (n ≡ 19 → ⊥) → (at + fieldSize n ≤ size → Fine size b)
+  fine-next : (at n : ℕ) (good : Bool) (b : Fault) → at ≤ size → 13 ≤ n → n ≤ 20 → (n ≡ 19 → ⊥)
+      → (at + fieldSize n ≤ size → Fine size b)
       → Fine size (orElse (field size at (fieldSize n) n good) b)
   fine-next at n good b h low high other rest =
-      fine-else _ b (fine-field at n good h low high other) (λ e. rest (field-none size at (fieldSize n) n good (omega arith) e .0))
+      fine-else _ b (fine-field at n good h low high other)
+      (λ e. rest (field-none size at (fieldSize n) n good (omega arith) e .0))
 
   -- ---- where a walk that finds nothing ends
 
@@ -73,7 +80,8 @@ module _ (size : ℕ) where
         let first = else-none _ _ (ap (λ (f : Fault). f .refusal) (sym (row-is size s v l i at)) ∙ e) in
         let second = else-none _ _ (first .1) in
         let third = else-none _ _ (second .1) in
-        let behind = elevation-none size s v at (field-none size at 2 17 _ (omega arith) (first .0) .0) (second .0) .0 in
+        let behind = elevation-none size s v at (field-none size at 2 17 _ (omega arith) (first .0) .0)
+        (second .0) .0 in
         omega (arith, taps-ended (tapsAt v at) (2 * l) behind (third .1))
 
     -- ---- the walks
@@ -81,14 +89,17 @@ module _ (size : ℕ) where
     fine-taps : (at n : ℕ) → at ≤ size → Fine size (tapsFault size s at n)
     unfolding tapsFault
     fine-taps at zero h = inl refl
-    fine-taps at (suc n) h = fine-next at 18 _ _ h (omega arith) (omega arith) (λ z. omega (arith, z)) (fine-taps (at + 4) n)
+    fine-taps at (suc n) h =
+        fine-next at 18 _ _ h (omega arith) (omega arith) (λ z. omega (arith, z)) (fine-taps (at + 4) n)
 
     fine-elevation : (v at : ℕ) → at + 2 ≤ size → Fine size (elevationFault size s v at)
     fine-elevation v at h = tested (eqb v 1) (λ e. inl (no-elevation size s v at e))
-        (λ e. rw (elevation-field size s v at e) (fine-field (at + 2) 20 _ h (omega arith) (omega arith) (λ z. omega (arith, z))))
+        (λ e. rw (elevation-field size s v at e)
+        (fine-field (at + 2) 20 _ h (omega arith) (omega arith) (λ z. omega (arith, z))))
 
     -- the field with which a pair is read ends where the taps begin
-    fine-pair : (v l i at : ℕ) → tapsAt v at ≤ size → Fine size (unless (isNew s v l (pairIn v s at) 9 i) 17 (pairAt v at))
+    fine-pair : (v l i at : ℕ) → tapsAt v at ≤ size → Fine size
+        (unless (isNew s v l (pairIn v s at) 9 i) 17 (pairAt v at))
     fine-pair v l i at h = go (isNew s v l (pairIn v s at) 9 i)
       where
         go : (t : Bool) → Fine size (unless t 17 (pairAt v at))
@@ -125,7 +136,8 @@ module _ (size : ℕ) where
     -- of any size, whatever the list
     fine-fault : Fine size (faultIn size s)
     unfolding faultIn
-    fine-fault = fine-else _ _ fine-head (λ e. fine-rows (versionIn s) (lengthIn s) 0 9 (rowsIn s) (omega arith) (head-none size s e .long))
+    fine-fault = fine-else _ _ fine-head
+        (λ e. fine-rows (versionIn s) (lengthIn s) 0 9 (rowsIn s) (omega arith) (head-none size s e .long))
 
 pub numbers-and-places : NumbersAndPlaces
 numbers-and-places s = fine-fault (length s) s

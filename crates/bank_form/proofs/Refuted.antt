@@ -23,7 +23,8 @@ one-ear h = omega (arith, h .0)
 version-1-for-2 : (10 ≡ rowSize 2 (min 1 512)) × (10 ≤ largestRow) → ⊥
 version-1-for-2 h = omega (arith, h .0)
 
--- the bytes behind an azimuth are read as an elevation in version 1, and the azimuth for it in version 2: here 7 stands in the second field, and then in the first
+-- the bytes behind an azimuth are read as an elevation in version 1, and the azimuth for it in version 2: here 7 stands
+-- in the second field, and then in the first
 behind-the-azimuth : pos 7 ≡ elevationAt 1 (0 ∷ 0 ∷ 0 ∷ 7 ∷ []) 0 → ⊥
 unfolding elevationAt
 behind-the-azimuth e = let z : _≡_ {A = ℕ} 7 0 = ap mag e in omega arith

@@ -21,7 +21,9 @@ use Rattle.refusals.proofs.Ranges.{within-true, within-in}
 use Rattle.refusals.proofs.First.{answered-accepted, answered-refused}
 use Rattle.bank_form.specs.Bank.{Pair, isAzimuth, isElevation, differ, isTap}
 use Rattle.bank_form.specs.Version.{rowSize, tapsAt, pairAt, elevationAt}
-use Rattle.bank_form.specs.Fault.{azimuthsFrom, elevationsFrom, rowTaps, tapsFrom, versionIn, rowsIn, lengthIn, pairIn, sound, wrong, unless, orElse, field, tapsFault, isNew, elevationFault, rowFault, rowsFault, headField, headFault, faultIn}
+use Rattle.bank_form.specs.Fault.{azimuthsFrom, elevationsFrom, rowTaps, tapsFrom, versionIn, rowsIn, lengthIn}
+use Rattle.bank_form.specs.Fault.{pairIn, sound, wrong, unless, orElse, field, tapsFault, isNew, elevationFault}
+use Rattle.bank_form.specs.Fault.{rowFault, rowsFault, headField, headFault, faultIn}
 use Rattle.lists.proofs.Every.{every-append}
 use Rattle.bank_form.proofs.Lists.{every-none, every-more, every-next, taps-none, taps-more}
 
@@ -113,7 +115,8 @@ module _ (size at count n : ℕ) (good : Bool) where
   field-in h = rw (le-ltb size (at + count) h)
 
   -- what holds of no fault, of a cut file and of a field that is wrong holds of a field
-  pub field-each : (P : Fault → Type 0) → P sound → P (wrong 19 size) → (good ≡ false → P (wrong n at)) → P (field size at count n good)
+  pub field-each : (P : Fault → Type 0) → P sound → P (wrong 19 size) → (good ≡ false → P (wrong n at))
+      → P (field size at count n good)
   unfolding field
   field-each P p q r = go (ltb size (at + count)) good refl
     where
@@ -125,8 +128,12 @@ module _ (size at count n : ℕ) (good : Bool) where
   pub field-none : 0 < n → field size at count n good .refusal ≡ 0 → (at + count ≤ size) × (good ≡ true)
   unfolding field
   field-none h e =
-      let room = fits (ltb size (at + count)) refl in
-      (room, unless-none good n at h (ap (λ (b : Bool). cond b (wrong 19 size) (unless good n at) .refusal) (sym (le-ltb size (at + count) room)) ∙ e))
+      let room = fits (ltb size (at + count)) refl in (
+        room,
+        unless-none good n at h
+            (ap (λ (b : Bool). cond b (wrong 19 size) (unless good n at) .refusal) (sym (le-ltb size (at + count) room))
+            ∙ e),
+      )
     where
       fits : (t : Bool) → ltb size (at + count) ≡ t → at + count ≤ size
       fits true k = let z : _≡_ {A = ℕ} 19 0 = rw k at e in absurd (omega arith)
@@ -139,7 +146,8 @@ unfolding floatAt isTap
 tap-is s at = rw (is-true (fits binary32 (floatAt s at)) (ofBits-fits binary32 (fieldAt s at 4)))
 
 module _ (size : ℕ) (s : List ℕ) where
-  pub taps-next : (at n : ℕ) → 0 < n → tapsFault size s at n ≡ orElse (field size at 4 18 (finite (floatAt s at))) (tapsFault size s (at + 4) (n - 1))
+  pub taps-next : (at n : ℕ) → 0 < n → tapsFault size s at n ≡ orElse (field size at 4 18 (finite (floatAt s at)))
+      (tapsFault size s (at + 4) (n - 1))
   unfolding tapsFault
   taps-next at zero h = absurd (omega arith)
   taps-next at (suc n) h = rw (sub-one (suc n))
@@ -154,14 +162,17 @@ module _ (size : ℕ) (s : List ℕ) where
   taps-good at (suc n) e =
       let both = else-none (field size at 4 18 (finite (floatAt s at))) (tapsFault size s (at + 4) n) e in
       let here = field-none size at 4 18 (finite (floatAt s at)) (omega arith) (both .0) in
-      every-more (floatAt s) 4 isTap at n ∙ and-eq-true-iff _ _ .1 (tap-is s at ∙ here .1, taps-good (at + 4) n (both .1))
+      every-more (floatAt s) 4 isTap at n ∙ and-eq-true-iff _ _ .1
+      (tap-is s at ∙ here .1, taps-good (at + 4) n (both .1))
 
-  taps-sound : (at n : ℕ) → at + 4 * n ≤ size → every isTap (strided (floatAt s) 4 at n) ≡ true → tapsFault size s at n ≡ sound
+  taps-sound : (at n : ℕ) → at + 4 * n ≤ size → every isTap (strided (floatAt s) 4 at n) ≡ true
+      → tapsFault size s at n ≡ sound
   unfolding tapsFault
   taps-sound at zero h e = refl
   taps-sound at (suc n) h e =
       let both = and-eq-true-iff _ _ .0 (sym (every-more (floatAt s) 4 isTap at n) ∙ e) in
-      else-sound _ _ (field-good size at 4 18 _ (omega arith) (sym (tap-is s at) ∙ both .0)) (taps-sound (at + 4) n (omega arith) (both .1))
+      else-sound _ _ (field-good size at 4 18 _ (omega arith) (sym (tap-is s at) ∙ both .0))
+      (taps-sound (at + 4) n (omega arith) (both .1))
 
 -- ---- an elevation
 
@@ -171,17 +182,20 @@ module _ (size : ℕ) (s : List ℕ) (v at : ℕ) where
   unfolding elevationFault
   no-elevation e = rw e
 
-  pub elevation-field : eqb v 1 ≡ false → elevationFault size s v at ≡ field size (at + 2) 2 20 (isElevation (signedAt s (at + 2)))
+  pub elevation-field : eqb v 1 ≡ false → elevationFault size s v at ≡ field size (at + 2) 2 20
+      (isElevation (signedAt s (at + 2)))
   unfolding elevationFault
   elevation-field e = rw e
 
-  pub elevation-none : at + 2 ≤ size → elevationFault size s v at .refusal ≡ 0 → (tapsAt v at ≤ size) × (isElevation (elevationAt v s at) ≡ true)
+  pub elevation-none : at + 2 ≤ size → elevationFault size s v at .refusal ≡ 0
+      → (tapsAt v at ≤ size) × (isElevation (elevationAt v s at) ≡ true)
   unfolding elevationFault elevationAt isElevation
   elevation-none h e = tested (eqb v 1) (λ k. rw k (omega (arith, h), refl))
       (λ k. let here = field-none size (at + 2) 2 20 (isElevation (signedAt s (at + 2))) (omega arith) (rw k at e) in
       rw k (here .0, here .1))
 
-  pub elevation-sound : tapsAt v at ≤ size → isElevation (elevationAt v s at) ≡ true → elevationFault size s v at ≡ sound
+  pub elevation-sound : tapsAt v at ≤ size → isElevation (elevationAt v s at) ≡ true
+      → elevationFault size s v at ≡ sound
   unfolding elevationFault elevationAt
   elevation-sound h e = tested (eqb v 1) (λ k. rw k)
       (λ k. rw k (field-good size (at + 2) 2 20 _ (rw k at h) (rw k at e)))
@@ -225,11 +239,14 @@ module _ (s : List ℕ) (v l : ℕ) where
   moved i j at to e f h = subst₂ (New s v l) e f h
 
   -- the taps of n rows and one more are taps if the first row's are, and the others'
-  pub taps-parted : (at n : ℕ) → every isTap (tapsFrom s v l at (suc n)) ≡ (every isTap (rowTaps s v l at) && every isTap (tapsFrom s v l (at + rowSize v l) n))
-  taps-parted at n = ap (every isTap) (taps-more s v l at n) ∙ every-append isTap (rowTaps s v l at) (tapsFrom s v l (at + rowSize v l) n)
+  pub taps-parted : (at n : ℕ) → every isTap (tapsFrom s v l at (suc n))
+      ≡ (every isTap (rowTaps s v l at) && every isTap (tapsFrom s v l (at + rowSize v l) n))
+  taps-parted at n = ap (every isTap) (taps-more s v l at n)
+      ∙ every-append isTap (rowTaps s v l at) (tapsFrom s v l (at + rowSize v l) n)
 
 module _ (size : ℕ) (s : List ℕ) (v l : ℕ) where
-  pub rows-next : (i at n : ℕ) → 0 < n → rowsFault size s v l i at n ≡ orElse (rowFault size s v l i at) (rowsFault size s v l (i + 1) (at + rowSize v l) (n - 1))
+  pub rows-next : (i at n : ℕ) → 0 < n → rowsFault size s v l i at n ≡ orElse (rowFault size s v l i at)
+      (rowsFault size s v l (i + 1) (at + rowSize v l) (n - 1))
   unfolding rowsFault
   rows-next i at zero h = absurd (omega arith)
   rows-next i at (suc n) h = rw (sub-one (suc n))
@@ -240,12 +257,14 @@ module _ (size : ℕ) (s : List ℕ) (v l : ℕ) where
 
   -- what is walked over behind the azimuth of a row, and behind its elevation
   abbrev pub behindElevation : ℕ → ℕ → Fault
-  behindElevation i at = orElse (unless (isNew s v l (pairIn v s at) 9 i) 17 (pairAt v at)) (tapsFault size s (tapsAt v at) (2 * l))
+  behindElevation i at =
+      orElse (unless (isNew s v l (pairIn v s at) 9 i) 17 (pairAt v at)) (tapsFault size s (tapsAt v at) (2 * l))
 
   abbrev pub behindAzimuth : ℕ → ℕ → Fault
   behindAzimuth i at = orElse (elevationFault size s v at) (behindElevation i at)
 
-  pub row-is : (i at : ℕ) → rowFault size s v l i at ≡ orElse (field size at 2 17 (isAzimuth (signedAt s at))) (behindAzimuth i at)
+  pub row-is : (i at : ℕ) → rowFault size s v l i at ≡ orElse (field size at 2 17 (isAzimuth (signedAt s at)))
+      (behindAzimuth i at)
   unfolding rowFault
   row-is i at = refl
 
@@ -295,11 +314,14 @@ module _ (size : ℕ) (s : List ℕ) (v l : ℕ) where
       let rest = rows-none (i + 1) (at + rowSize v l) n (both .1) in
       record {
         ends = rest .ends ∙ omega arith;
-        azimuths = every-more (signedAt s) (rowSize v l) isAzimuth at n ∙ and-eq-true-iff _ _ .1 (row .azimuth, rest .azimuths);
-        elevations = every-more (elevationAt v s) (rowSize v l) isElevation at n ∙ and-eq-true-iff _ _ .1 (row .elevation, rest .elevations);
+        azimuths = every-more (signedAt s) (rowSize v l) isAzimuth at n
+            ∙ and-eq-true-iff _ _ .1 (row .azimuth, rest .azimuths);
+        elevations = every-more (elevationAt v s) (rowSize v l) isElevation at n
+            ∙ and-eq-true-iff _ _ .1 (row .elevation, rest .elevations);
         new = elim [
           | zero ↦ λ h. moved s v l i (i + 0) at (at + 0 * rowSize v l) (omega arith) (omega arith) (row .new)
-          | suc j ↦ λ h. moved s v l (i + 1 + j) (i + suc j) (at + rowSize v l + j * rowSize v l) (at + suc j * rowSize v l) (omega arith) (omega arith) (rest .new j (le-of-suc-le-suc h))
+          | suc j ↦ λ h. moved s v l (i + 1 + j) (i + suc j) (at + rowSize v l + j * rowSize v l)
+              (at + suc j * rowSize v l) (omega arith) (omega arith) (rest .new j (le-of-suc-le-suc h))
         ];
         taps = taps-parted s v l at n ∙ and-eq-true-iff _ _ .1 (row .taps, rest .taps);
       }
@@ -308,8 +330,10 @@ module _ (size : ℕ) (s : List ℕ) (v l : ℕ) where
   unfolding rowsFault
   rows-sound i at zero r = rw (eq-eqb size at (r .ends ∙ omega arith))
   rows-sound i at (suc n) r =
-      let azimuths = and-eq-true-iff _ _ .0 (sym (every-more (signedAt s) (rowSize v l) isAzimuth at n) ∙ r .azimuths) in
-      let elevations = and-eq-true-iff _ _ .0 (sym (every-more (elevationAt v s) (rowSize v l) isElevation at n) ∙ r .elevations) in
+      let azimuths = and-eq-true-iff _ _ .0
+      (sym (every-more (signedAt s) (rowSize v l) isAzimuth at n) ∙ r .azimuths) in
+      let elevations = and-eq-true-iff _ _ .0
+      (sym (every-more (elevationAt v s) (rowSize v l) isElevation at n) ∙ r .elevations) in
       let taps = and-eq-true-iff _ _ .0 (sym (taps-parted s v l at n) ∙ r .taps) in
       let ends = r .ends in
       else-sound _ _
@@ -323,7 +347,8 @@ module _ (size : ℕ) (s : List ℕ) (v l : ℕ) where
         ends = ends ∙ omega arith;
         azimuths = azimuths .1;
         elevations = elevations .1;
-        new = λ j h. moved s v l (i + suc j) (i + 1 + j) (at + suc j * rowSize v l) (at + rowSize v l + j * rowSize v l) (omega arith) (omega arith) (r .new (suc j) (suc-le-suc h));
+        new = λ j h. moved s v l (i + suc j) (i + 1 + j) (at + suc j * rowSize v l) (at + rowSize v l + j * rowSize v l)
+            (omega arith) (omega arith) (r .new (suc j) (suc-le-suc h));
         taps = taps .1;
       }))
 
@@ -362,19 +387,27 @@ head-sound : (size : ℕ) (s : List ℕ) → Head size s → headFault size s �
 unfolding headFault headField
 head-sound size s h =
     let nine = h .long in
-    let rest : within (size - 5) (size - 5) (fieldAt s 1 4) ≡ true = rw (h .rest) (within-in (size - 5) (size - 5) (size - 5) (omega arith) (omega arith)) in
+    let rest : within (size - 5) (size - 5) (fieldAt s 1 4) ≡ true = rw (h .rest)
+    (within-in (size - 5) (size - 5) (size - 5) (omega arith) (omega arith)) in
     else-sound _ _ (field-good size 0 1 13 _ (omega arith) (h .version))
     (else-sound _ _ (field-good size 1 4 14 _ (omega arith) rest)
-    (else-sound _ _ (field-good size 5 2 15 _ (omega arith) (h .few)) (field-good size 7 2 16 _ (omega arith) (h .short))))
+    (else-sound _ _ (field-good size 5 2 15 _ (omega arith) (h .few))
+    (field-good size 7 2 16 _ (omega arith) (h .short))))
 
-pub fault-is : (size : ℕ) (s : List ℕ) → faultIn size s ≡ orElse (headFault size s) (rowsFault size s (versionIn s) (lengthIn s) 0 9 (rowsIn s))
+pub fault-is : (size : ℕ) (s : List ℕ) → faultIn size s ≡ orElse (headFault size s)
+    (rowsFault size s (versionIn s) (lengthIn s) 0 9 (rowsIn s))
 unfolding faultIn
 fault-is size s = refl
 
 pub whole : (size : ℕ) (s : List ℕ) → faultIn size s .refusal ≡ 0 → Whole size s
 whole size s e =
     let parts = else-none _ _ (ap (λ (f : Fault). f .refusal) (sym (fault-is size s)) ∙ e) in
-    record { head = head-none size s (parts .0); all = rows-none size s (versionIn s) (lengthIn s) 0 9 (rowsIn s) (parts .1) }
+    record {
+      head =
+          head-none size s (parts .0);
+      all = rows-none size s (versionIn s) (lengthIn s) 0 9 (rowsIn s) (parts .1);
+    }
 
 pub nothing-found : (size : ℕ) (s : List ℕ) → Whole size s → faultIn size s ≡ sound
-nothing-found size s w = fault-is size s ∙ else-sound _ _ (head-sound size s (w .head)) (rows-sound size s (versionIn s) (lengthIn s) 0 9 (rowsIn s) (w .all))
+nothing-found size s w = fault-is size s ∙ else-sound _ _ (head-sound size s (w .head))
+    (rows-sound size s (versionIn s) (lengthIn s) 0 9 (rowsIn s) (w .all))

@@ -1,5 +1,5 @@
--- Worked files and banks (document 02, E2 and E6): what is told of each, and at which byte. The short ones are computed; of a
--- file of 40,000 bytes the start is. Assumes nothing.
+-- Worked files and banks (document 02, E2 and E6): what is told of each, and at which byte. The short ones are
+-- computed; of a file of 40,000 bytes the start is. Assumes nothing.
 use mathlib.Core.Path.{_≡_, refl, sym, ap, _∙_}
 use mathlib.Core.Bool.{false}
 use mathlib.Core.List.{List, [], _∷_, _++_}
@@ -15,7 +15,9 @@ use Rattle.big_endian.specs.Lists.{strided}
 use Rattle.bank_form.specs.declared.Fault.{Fault}
 use Rattle.bank_form.specs.Bank.{Bank, pairsOf, rows, isAzimuth, isElevation, unlike, differ, isTap, isLevel}
 use Rattle.bank_form.specs.Version.{elevationAt}
-use Rattle.bank_form.specs.Fault.{rowsIn, bankIn, elevationFault, faultOf, raisedFrom, raised, sound, wrong, orElse, field, tapsFault, isNew, rowFault, rowsFault, headField, headFault, faultIn, fault}
+use Rattle.bank_form.specs.Fault.{rowsIn, bankIn, elevationFault, faultOf, raisedFrom, raised, sound, wrong}
+use Rattle.bank_form.specs.Fault.{orElse, field, tapsFault, isNew, rowFault, rowsFault, headField, headFault}
+use Rattle.bank_form.specs.Fault.{faultIn, fault}
 use Rattle.bank_form.specs.FaultLaws.{rowPlace, Begins}
 use Rattle.bank_form.specs.WriteFault.{tapsWrong, rowsWrong, writeFault}
 use Rattle.bank_form.proofs.Walk.{else-stop, fault-is}
@@ -24,7 +26,9 @@ use Rattle.bank_form.proofs.Agree.{head-agrees, fault-agrees}
 
 -- what opens this opens every definition that a walk computes with
 walk : ℕ → List ℕ → Fault
-unfolding faultIn headFault headField rowsFault rowFault elevationFault elevationAt isNew tapsFault field orElse isAzimuth isElevation unlike differ fieldAt signedAt floatAt valueOf strided ofBits ofFields faultOf raisedFrom isLevel
+unfolding faultIn headFault headField rowsFault rowFault elevationFault elevationAt isNew tapsFault field orElse
+    isAzimuth isElevation unlike differ fieldAt signedAt floatAt valueOf strided ofBits ofFields faultOf raisedFrom
+    isLevel
 walk size s = faultIn size s
 
 -- ---- the example of document 01: "One row at 0, L = 1, left 1.0, right 0.5"
@@ -265,7 +269,8 @@ second-at-901-back : TurnsBack (twoRows row2 (rowAt 0x00 0x00 0x03 0x85)) (wrong
 unfolding walk
 second-at-901-back = refl
 
-first-at-901-before-the-second-azimuth : fault (twoRows (rowAt 0x00 0x00 0x03 0x85) (rowAt 0x07 0x09 0x00 0x00)) ≡ wrong 20 11
+first-at-901-before-the-second-azimuth : fault (twoRows (rowAt 0x00 0x00 0x03 0x85) (rowAt 0x07 0x09 0x00 0x00))
+    ≡ wrong 20 11
 unfolding walk
 first-at-901-before-the-second-azimuth = refl
 
@@ -345,7 +350,9 @@ module _ (start file : List ℕ) (begins : Begins start 40000 file) where
   -- a fault of the head is the file's
   by-head : (n at : ℕ) → 9 ≤ length start → 0 < n → headFault 40000 start ≡ wrong n at
       → fault file ≡ wrong n at
-  by-head n at nine some e = sized ∙ fault-is 40000 file ∙ sym (else-stop _ _ (wrong n at) (sym (head-agrees (length start) start file same 40000 nine ∙ e)) (λ z. omega (arith, z, some)))
+  by-head n at nine some e = sized ∙ fault-is 40000 file
+      ∙ sym (else-stop _ _ (wrong n at) (sym (head-agrees (length start) start file same 40000 nine ∙ e))
+      (λ z. omega (arith, z, some)))
 
   -- and so is one behind rows that are all in the start
   by-rows : rowPlace start (rowsIn start) ≤ length start → fault file ≡ faultIn 40000 start
@@ -371,14 +378,16 @@ written-no-rows = refl
 
 -- rows of one tap for each ear, all of them 0.0
 abbrev silentRows : List ℤ → List ℤ → Bank
-silentRows zs es = record { azimuths = zs; elevations = es; length = 1; taps = replicate (2 * length zs) (fin false 0 (pos 0)) }
+silentRows zs es =
+    record { azimuths = zs; elevations = es; length = 1; taps = replicate (2 * length zs) (fin false 0 (pos 0)) }
 
 -- what opens this opens every definition that the writer's walk computes with
 writes : Bank → Fault
 unfolding writeFault rowsWrong tapsWrong orElse isAzimuth isElevation unlike differ isTap fits pairsOf
 writes b = writeFault 2 b
 
-written-third-as-the-first : writeFault 2 (silentRows (pos 0 ∷ pos 450 ∷ pos 0 ∷ []) (pos 0 ∷ pos 0 ∷ pos 0 ∷ [])) ≡ wrong 17 35
+written-third-as-the-first : writeFault 2 (silentRows (pos 0 ∷ pos 450 ∷ pos 0 ∷ []) (pos 0 ∷ pos 0 ∷ pos 0 ∷ []))
+    ≡ wrong 17 35
 unfolding writes
 written-third-as-the-first = refl
 

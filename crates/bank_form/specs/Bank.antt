@@ -1,5 +1,6 @@
--- Document 01, 'Filter bank file': "row count 1..8", "azimuth in tenths of a degree, -1799..1800", "L is 1..512", "taps are finite", "2 x rows x L taps". Document 02, E6: "elevation in tenths,
--- -900..900", "pairs of azimuth and elevation must differ, instead of azimuths". Definitions only.
+-- Document 01, 'Filter bank file': "row count 1..8", "azimuth in tenths of a degree, -1799..1800", "L is 1..512", "taps
+-- are finite", "2 x rows x L taps". Document 02, E6: "elevation in tenths, -900..900", "pairs of azimuth and elevation
+-- must differ, instead of azimuths". Definitions only.
 use Prim.Native.Nat.{ℕ, _*_}
 use mathlib.Core.Bool.{Bool, true, not, _&&_, _||_}
 use mathlib.Core.List.{List, [], _∷_}
@@ -13,7 +14,8 @@ use Rattle.refusals.specs.Ranges.{within, between}
 unfoldable pub use Rattle.refusals.specs.Ranges.{isElevation}
 use Rattle.lists.specs.Tables.{every}
 
--- a bank: an azimuth and an elevation for each row, L, and the taps in file order, for each row those of the left ear and then those of the right
+-- a bank: an azimuth and an elevation for each row, L, and the taps in file order, for each row those of the left ear
+-- and then those of the right
 pub record Bank : Type 0 where
   pub azimuths : List ℤ
   pub elevations : List ℤ
@@ -62,7 +64,8 @@ isTap x = fits binary32 x && finite x
 -- whether a bank keeps the form
 unfoldable pub valid : Bank → Bool
 valid b =
-    within 1 8 (rows b) && within 1 512 (b .length) && eqb (ListN.length (b .elevations)) (rows b) && eqb (ListN.length (b .taps)) (2 * rows b * b .length)
+    within 1 8 (rows b) && within 1 512 (b .length) && eqb (ListN.length (b .elevations)) (rows b)
+    && eqb (ListN.length (b .taps)) (2 * rows b * b .length)
     && every isAzimuth (b .azimuths)
     && every isElevation (b .elevations)
     && pairwise differ (pairs b)

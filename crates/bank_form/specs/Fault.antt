@@ -1,9 +1,12 @@
 -- Document 02, E2 and E6: what is wrong with a bank, and where. Definitions only.
--- "Each of the new numbers also returns the offset of the first byte of the offending field; 19 gives the file's length. Checks run in byte order; an azimuth is compared with earlier rows once
--- it is read. The length is wrong, at its own field, if it isn't the number of bytes after it, checked at once, or if bytes are left after the last row." And "Refusals: 13 version, 14 length, 15
--- row count, 16 tap count, 17 azimuth out of range or repeated, 18 tap not finite, 19 ends before or inside a field still to be read." E6: "20 elevation out of range, checked where its bytes stand;
--- [..] 17 now means the azimuth out of range or the pair repeated, the latter checked at the elevation field after 20 and pointing at it (version 1: as before)."
--- The walk is over a file of so many bytes, of which a list has all, or the first: `StartSuffices` of specs/FaultLaws.antt says how many of them are enough.
+-- "Each of the new numbers also returns the offset of the first byte of the offending field; 19 gives the file's
+-- length. Checks run in byte order; an azimuth is compared with earlier rows once it is read. The length is wrong, at
+-- its own field, if it isn't the number of bytes after it, checked at once, or if bytes are left after the last row."
+-- And "Refusals: 13 version, 14 length, 15 row count, 16 tap count, 17 azimuth out of range or repeated, 18 tap not
+-- finite, 19 ends before or inside a field still to be read." E6: "20 elevation out of range, checked where its bytes
+-- stand; [..] 17 now means the azimuth out of range or the pair repeated, the latter checked at the elevation field
+-- after 20 and pointing at it (version 1: as before)." The walk is over a file of so many bytes, of which a list has
+-- all, or the first: `StartSuffices` of specs/FaultLaws.antt says how many of them are enough.
 use Prim.Native.Nat.{ℕ, zero, suc, _+_, _-_, _*_}
 use mathlib.Core.Bool.{Bool, cond}
 use mathlib.Core.List.{List, [], _∷_, flatMap}
@@ -107,7 +110,8 @@ rowFault size s v l i at =
 -- n rows from `at` on, with i rows before them; after the last the file ends, or its length is wrong
 unfoldable pub rowsFault : ℕ → List ℕ → ℕ → ℕ → ℕ → ℕ → ℕ → Fault
 rowsFault size s v l i at zero = unless (eqb size at) 14 1
-rowsFault size s v l i at (suc n) = orElse (rowFault size s v l i at) (rowsFault size s v l (i + 1) (at + rowSize v l) n)
+rowsFault size s v l i at (suc n) =
+    orElse (rowFault size s v l i at) (rowsFault size s v l (i + 1) (at + rowSize v l) n)
 
 -- the four fields of the head, each of which has a least and a largest value
 unfoldable pub headField : ℕ → List ℕ → ℕ → ℕ → ℕ → ℕ → ℕ → Fault

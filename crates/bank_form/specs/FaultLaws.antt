@@ -1,4 +1,5 @@
--- Document 02, E2 and E6: what the first fault of a bank depends on, and that the writer's is the reader's. Definitions only: proofs/Places.antt, FieldPlaces.antt, Order.antt, Start.antt, Writer.antt and Conversions.antt show them.
+-- Document 02, E2 and E6: what the first fault of a bank depends on, and that the writer's is the reader's. Definitions
+-- only: proofs/Places.antt, FieldPlaces.antt, Order.antt, Start.antt, Writer.antt and Conversions.antt show them.
 use mathlib.Core.Path.{_≡_}
 use mathlib.Core.Bool.{Bool, true, false, cond, _&&_, _||_}
 use mathlib.Core.List.{List, []}
@@ -15,13 +16,15 @@ use Rattle.bank_form.specs.declared.Fault.{Fault}
 use Rattle.bank_form.specs.Bank.{Bank, isAzimuth, isElevation, isLevel, level}
 use Rattle.bank_form.specs.Version.{isVersion, rowSize, tapsAt, pairAt, largest}
 use Rattle.bank_form.specs.Encoding.{encode}
-use Rattle.bank_form.specs.Fault.{versionIn, rowsIn, lengthIn, pairIn, sound, wrong, isNew, faultIn, fault, faultOf, raisedFrom, raised}
+use Rattle.bank_form.specs.Fault.{versionIn, rowsIn, lengthIn, pairIn, sound, wrong, isNew, faultIn, fault}
+use Rattle.bank_form.specs.Fault.{faultOf, raisedFrom, raised}
 use Rattle.bank_form.specs.FitsFields.{FitsFields}
 use Rattle.bank_form.specs.WriteFault.{writeFault}
 
 -- ---- numbers and places
 
--- the bytes of the field that a number tells: the version has one, the length and a tap four, the counts, an azimuth and an elevation two; 19 is told behind the last byte
+-- the bytes of the field that a number tells: the version has one, the length and a tap four, the counts, an azimuth
+-- and an elevation two; 19 is told behind the last byte
 abbrev pub fieldSize : ℕ → ℕ
 fieldSize n = cond (eqb n 13) 1 (cond (eqb n 14 || eqb n 18) 4 (cond (eqb n 19) 0 2))
 
@@ -40,7 +43,8 @@ NumbersAndPlaces = (s : List ℕ) → (fault s ≡ sound) ⊎ NumberAndPlace (le
 abbrev pub rowPlace : List ℕ → ℕ → ℕ
 rowPlace s i = 9 + i * rowSize (versionIn s) (lengthIn s)
 
--- 17 of row i: "the azimuth out of range or the pair repeated, the latter checked at the elevation field [..] and pointing at it (version 1: as before)"
+-- 17 of row i: "the azimuth out of range or the pair repeated, the latter checked at the elevation field [..] and
+-- pointing at it (version 1: as before)"
 pub record AzimuthOut (s : List ℕ) (i at : ℕ) : Type 0 where
   pub place : at ≡ rowPlace s i
   pub bad : isAzimuth (signedAt s (rowPlace s i)) ≡ false
@@ -55,14 +59,16 @@ pub record ElevationOut (s : List ℕ) (i at : ℕ) : Type 0 where
   pub place : at ≡ rowPlace s i + 2
   pub bad : isElevation (signedAt s at) ≡ false
 
--- "the offset of the first byte of the offending field": where the fields of a number stand in a file. A row of the file has its azimuth first, then its elevation, and then the taps of both ears.
+-- "the offset of the first byte of the offending field": where the fields of a number stand in a file. A row of the
+-- file has its azimuth first, then its elevation, and then the taps of both ears.
 pub record FieldPlace (s : List ℕ) (f : Fault) : Type 0 where
   pub version : f .refusal ≡ 13 → f .offset ≡ 0
   pub length : f .refusal ≡ 14 → f .offset ≡ 1
   pub rowCount : f .refusal ≡ 15 → f .offset ≡ 5
   pub tapCount : f .refusal ≡ 16 → f .offset ≡ 7
   pub azimuth : f .refusal ≡ 17 → (i : ℕ) × (i < rowsIn s) × (AzimuthOut s i (f .offset) ⊎ Repeated s i (f .offset))
-  pub tap : f .refusal ≡ 18 → (i k : ℕ) × (i < rowsIn s) × (k < 2 * lengthIn s) × (f .offset ≡ tapsAt (versionIn s) (rowPlace s i) + 4 * k) × (finite (floatAt s (f .offset)) ≡ false)
+  pub tap : f .refusal ≡ 18 → (i k : ℕ) × (i < rowsIn s) × (k < 2 * lengthIn s)
+      × (f .offset ≡ tapsAt (versionIn s) (rowPlace s i) + 4 * k) × (finite (floatAt s (f .offset)) ≡ false)
   pub elevation : f .refusal ≡ 20 → (i : ℕ) × (i < rowsIn s) × ElevationOut s i (f .offset)
 
 abbrev pub FieldPlaces : Type 0
@@ -70,14 +76,19 @@ FieldPlaces = (s : List ℕ) → FieldPlace s (fault s)
 
 -- ---- byte order
 
--- "Checks run in byte order": a file as long that agrees up to the end of the field at fault has the same fault. (Of 19, which is told at the end, that says nothing.) Bytes
--- that are left after the last row have no field of their own: 14 is told of a length that is right only where there are some, and every file as long that agrees up to
--- the end of that row has the same fault.
+-- "Checks run in byte order": a file as long that agrees up to the end of the field at fault has the same fault. (Of
+-- 19, which is told at the end, that says nothing.) Bytes that are left after the last row have no field of their own:
+-- 14 is told of a length that is right only where there are some, and every file as long that agrees up to the end of
+-- that row has the same fault.
 pub record ByteOrder : Type 0 where
-  pub field-at-fault : (s t : List ℕ) → length t ≡ length s → (fault s ≡ sound → ⊥) → (fault s .refusal ≡ 14 → fieldAt s 1 4 ≡ length s - 5 → ⊥)
-      → take (fault s .offset + fieldSize (fault s .refusal)) t ≡ take (fault s .offset + fieldSize (fault s .refusal)) s → fault t ≡ fault s
-  pub bytes-left : (s : List ℕ) → fault s .refusal ≡ 14 → fieldAt s 1 4 ≡ length s - 5 → rowPlace s (rowsIn s) < length s
-  pub last-row : (s t : List ℕ) → length t ≡ length s → take (rowPlace s (rowsIn s)) t ≡ take (rowPlace s (rowsIn s)) s → fault t ≡ fault s
+  pub field-at-fault : (s t : List ℕ) → length t ≡ length s → (fault s ≡ sound → ⊥)
+      → (fault s .refusal ≡ 14 → fieldAt s 1 4 ≡ length s - 5 → ⊥)
+      → take (fault s .offset + fieldSize (fault s .refusal)) t ≡ take (fault s .offset + fieldSize (fault s .refusal))
+      s → fault t ≡ fault s
+  pub bytes-left : (s : List ℕ) → fault s .refusal ≡ 14 → fieldAt s 1 4 ≡ length s - 5
+      → rowPlace s (rowsIn s) < length s
+  pub last-row : (s t : List ℕ) → length t ≡ length s → take (rowPlace s (rowsIn s)) t ≡ take (rowPlace s (rowsIn s)) s
+      → fault t ≡ fault s
 
 -- ---- the start of a file
 
@@ -86,7 +97,8 @@ pub record Begins (start : List ℕ) (size : ℕ) (file : List ℕ) : Type 0 whe
   pub long : length file ≡ size
   pub same : take (length start) file ≡ start
 
--- how many bytes of a file that begins with these can make a difference: where its version is wrong, that alone; else one more than its length field asks for
+-- how many bytes of a file that begins with these can make a difference: where its version is wrong, that alone; else
+-- one more than its length field asks for
 abbrev pub bytesThatMatter : List ℕ → ℕ
 bytesThatMatter start = cond (isVersion (versionIn start)) (6 + fieldAt start 1 4) 1
 
@@ -106,7 +118,8 @@ suffices have size = eqb have size || (leb largest have && leb have size)
 
 -- then they tell the fault of the file that they were taken from
 abbrev pub StartSuffices : Type 0
-StartSuffices = (start : List ℕ) (size : ℕ) (file : List ℕ) → T (suffices (length start) size) → TakenFrom start size file → faultIn size start ≡ fault file
+StartSuffices = (start : List ℕ) (size : ℕ) (file : List ℕ) → T (suffices (length start) size)
+    → TakenFrom start size file → faultIn size start ≡ fault file
 
 -- ---- the writer
 
@@ -118,7 +131,8 @@ writerGives n = within 15 18 n || eqb n 20
 abbrev pub WriterNumbers : Type 0
 WriterNumbers = (v : ℕ) (b : Bank) → (writeFault v b ≡ sound) ⊎ (writerGives (writeFault v b .refusal) ≡ true)
 
--- the writer's fault is the reader's of the bytes that would be written, for every bank of i16 and f32 that has an elevation for each row and 2 x rows x L taps, and whose counts fit their fields
+-- the writer's fault is the reader's of the bytes that would be written, for every bank of i16 and f32 that has an
+-- elevation for each row and 2 x rows x L taps, and whose counts fit their fields
 abbrev pub WriterAsReader : Type 0
 WriterAsReader = (v : ℕ) (b : Bank) → FitsFields v b → writeFault v b ≡ fault (encode v b)
 

@@ -18,7 +18,8 @@ IsI16 z = mag z < 2 ^ 15
 abbrev pub IsFloat : Float → Type 0
 IsFloat x = T (fits binary32 x)
 
--- a bank that lists of i16 and f32 hold, with the elevations and the taps that its counts ask for, small enough that its counts and its length fit their fields, and with no elevation in version 1
+-- a bank that lists of i16 and f32 hold, with the elevations and the taps that its counts ask for, small enough that
+-- its counts and its length fit their fields, and with no elevation in version 1
 pub record FitsFields (v : ℕ) (b : Bank) : Type 0 where
   pub holds : Holds v b
   pub few : rows b < 2 ^ 16

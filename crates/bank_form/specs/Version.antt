@@ -1,5 +1,6 @@
--- Document 02, E6: "Bank version 2 puts a signed 2-byte elevation in tenths [..] after each azimuth"; "Version 1 files are still read, at elevation 0". What hangs on the version of a file, which is a
--- number, and the sizes that follow from it. Definitions only.
+-- Document 02, E6: "Bank version 2 puts a signed 2-byte elevation in tenths [..] after each azimuth"; "Version 1 files
+-- are still read, at elevation 0". What hangs on the version of a file, which is a number, and the sizes that follow
+-- from it. Definitions only.
 use Prim.Native.Nat.{ℕ, _+_, _*_}
 use mathlib.Core.Bool.{Bool, cond}
 use mathlib.Core.List.{List, []}

@@ -1,5 +1,7 @@
--- Document 02, E2 and E6, of a bank that is to be written in version v: "The writer gives the same numbers, with the offset where the field would stand." Definitions only.
--- Counts are judged as numbers, whether or not they fit the bytes that they would be written in. `WriterAsReader` of specs/FaultLaws.antt says that these are the reader's faults.
+-- Document 02, E2 and E6, of a bank that is to be written in version v: "The writer gives the same numbers, with the
+-- offset where the field would stand." Definitions only. Counts are judged as numbers, whether or not they fit the
+-- bytes that they would be written in. `WriterAsReader` of specs/FaultLaws.antt says that these are the reader's
+-- faults.
 use Prim.Native.Nat.{ℕ, _+_, _*_}
 use mathlib.Core.List.{List, [], _∷_, _++_}
 use lib.Ieee.{Float}
@@ -16,8 +18,9 @@ unfoldable pub tapsWrong : ℕ → List Float → Fault
 tapsWrong at [] = sound
 tapsWrong at (x ∷ xs) = orElse (unless (isTap x) 18 at) (tapsWrong (at + 4) xs)
 
--- (20 is told at a field that version 1 does not have: no bank that version 1 holds has it, `Holds` of specs/File.antt.)
--- rows that would stand from `at` on in version v, behind rows with the pairs `before`: each has a pair and the next 2 * l taps
+-- (20 is told at a field that version 1 does not have: no bank that version 1 holds has it, `Holds` of
+-- specs/File.antt.) rows that would stand from `at` on in version v, behind rows with the pairs `before`: each has a
+-- pair and the next 2 * l taps
 unfoldable pub rowsWrong : ℕ → List Pair → List Pair → ℕ → List Float → ℕ → Fault
 rowsWrong v before [] l xs at = sound
 rowsWrong v before (p ∷ ps) l xs at =

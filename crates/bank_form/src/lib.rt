@@ -4,11 +4,12 @@
 // Definitions and laws over both versions of the file (document 02, E6), and what reader and writer share: the
 // largest file, the sizes of a row and of an elevation, and the elevation of a row. specs/Bank.antt has what a
 // bank is and when it keeps the form, specs/Version.antt what hangs on the version, specs/Encoding.antt a bank's
-// bytes, and specs/File.antt what a bank file is; specs/Fault.antt the walk over a file, field by field, that finds the first which breaks the form, with its
-// offset, and specs/WriteFault.antt the same of a bank that is to be written (document 02, E2). The laws say
-// that what is written and read is the same bank, and what is read and written the same bytes
-// (proofs/RoundTrip.antt), that the walk finds nothing exactly if the bytes are those of a bank that keeps the
-// form (proofs/Exact.antt), and what the first fault depends on (specs/FaultLaws.antt).
+// bytes, and specs/File.antt what a bank file is; specs/Fault.antt the walk over a file, field by field, that
+// finds the first which breaks the form, with its offset, and specs/WriteFault.antt the same of a bank that
+// is to be written (document 02, E2). The laws say that what is written and read is the same bank, and what
+// is read and written the same bytes (proofs/RoundTrip.antt), that the walk finds nothing exactly if the
+// bytes are those of a bank that keeps the form (proofs/Exact.antt), and what the first fault depends on
+// (specs/FaultLaws.antt).
 ghost use mathlib.Core.Path.{_≡_};
 ghost use Prim.Native.Nat.{_≤_, min};
 ghost use Rattle.bank_form.specs.Version.{elevationSize, elevationAt, rowSize, largestRow};
@@ -36,8 +37,8 @@ pub fn elevation_size(version: usize) -> usize
     2
 }
 
-// How many bytes a row of l taps for each ear has: an azimuth, an elevation, and the taps. It takes any l, and 8 l would
-// overflow: so one above 512, which no row has, counts as that.
+// How many bytes a row of l taps for each ear has: an azimuth, an elevation, and the taps. It takes any l,
+// and 8 l would overflow: so one above 512, which no row has, counts as that.
 pub fn row_size(version: usize, l: usize) -> usize
     ensures { λ r. ⌜ (r ≡ rowSize version (min l 512)) × (r ≤ largestRow) ⌝ }
 {

@@ -1,4 +1,5 @@
--- The laws of numbers as bytes, over the width: the value of a number's bytes is the number (`value-bytes`), the bytes of a value are the bytes (`bytes-value`). Assumes nothing.
+-- The laws of numbers as bytes, over the width: the value of a number's bytes is the number (`value-bytes`), the bytes
+-- of a value are the bytes (`bytes-value`). Assumes nothing.
 use mathlib.Core.Path.{_≡_, refl, sym, ap, _∙_}
 use mathlib.Core.List.{List, [], _∷_, _++_}
 use Prim.Native.Nat.{ℕ, zero, suc, _+_, _-_, _*_, _/_, _%_, _^_, _<_}

@@ -1,5 +1,6 @@
--- The laws of fields, over the width: what a field that lies inside reads as and what writing one leaves, that reading gives what was written (`field-written`)
--- and writing what was read changes nothing (`written-field`); and what stands at an offset, from what the list is from there on (`stands`, `stands-back`). Assumes nothing.
+-- The laws of fields, over the width: what a field that lies inside reads as and what writing one leaves, that reading
+-- gives what was written (`field-written`) and writing what was read changes nothing (`written-field`); and what stands
+-- at an offset, from what the list is from there on (`stands`, `stands-back`). Assumes nothing.
 use mathlib.Core.Path.{_≡_, refl, sym, ap, _∙_}
 use mathlib.Core.Bool.{Bool, true, false}
 use mathlib.Core.List.{List, [], _∷_, _++_, append-assoc}
@@ -19,7 +20,8 @@ use Rattle.big_endian.specs.Fields.{lies, fieldAt, withField}
 use Rattle.lists.proofs.Tables.{length-part}
 use Rattle.lists.proofs.ForAll.{each-drop, each-take}
 use Rattle.lists.proofs.Placed.{placed-none, length-placed, store-before}
-use Rattle.big_endian.proofs.Bytes.{power-pos, length-bytes, digit, value-bytes, value-bytes-fits, value-below, bytes-value, value-snoc}
+use Rattle.big_endian.proofs.Bytes.{power-pos, length-bytes, digit, value-bytes, value-bytes-fits, value-below}
+use Rattle.big_endian.proofs.Bytes.{bytes-value, value-snoc}
 
 -- ---- lying inside
 
@@ -61,14 +63,21 @@ part-are-bytes s at count h = each-take IsByte 0 count (drop at s) (omega arith)
 pub field-below : (s : List ℕ) (at count : ℕ) → AreBytes s → fieldAt s at count < 256 ^ count
 field-below s at count h = tested (lies (length s) at count)
     (λ e. let inside = lies-true (length s) at count e in
-    rw (field-is s at count e) (rw (length-part s at count (inside .1)) at (value-below (take count (drop at s)) (part-are-bytes s at count h))))
+    rw (field-is s at count e) (rw (length-part s at count (inside .1)) at
+    (value-below (take count (drop at s)) (part-are-bytes s at count h))))
     (λ e. rw (field-out s at count e) (power-pos count))
 
 -- a loop that has read i bytes reads one more
-pub value-next : (s : List ℕ) (at i : ℕ) → at + i < length s → valueOf (take (i + 1) (drop at s)) ≡ valueOf (take i (drop at s)) * 256 + getD s (at + i) 0
+pub value-next : (s : List ℕ) (at i : ℕ) → at + i < length s
+    → valueOf (take (i + 1) (drop at s)) ≡ valueOf (take i (drop at s)) * 256 + getD s (at + i) 0
 value-next s at i h =
     let inside : i < length (drop at s) = omega (arith, length-drop at s) in
-    rw (add-one i, take-suc (drop at s) i 0 inside, value-snoc (take i (drop at s)) (getD (drop at s) i 0), getD-drop at s i 0)
+    rw (
+      add-one i,
+      take-suc (drop at s) i 0 inside,
+      value-snoc (take i (drop at s)) (getD (drop at s) i 0),
+      getD-drop at s i 0,
+    )
 
 -- and what it has read stays within 64 bits
 pub below-next : (n i b : ℕ) → n < 256 ^ i → b < 256 → n * 256 + b < 256 ^ (i + 1)
@@ -92,7 +101,8 @@ module _ (s : List ℕ) (at count n : ℕ) where
   written-lies h g = written-is (lies-in (length s) at count h g)
 
 -- a field that is put where there is room for it stands there
-pub field-put : (ys last : List ℕ) (at count n : ℕ) → count ≤ 8 → at + count ≤ length ys → last ≡ withField ys at count n → last ≡ placed ys at (bytesOf count n)
+pub field-put : (ys last : List ℕ) (at count n : ℕ) → count ≤ 8 → at + count ≤ length ys
+    → last ≡ withField ys at count n → last ≡ placed ys at (bytesOf count n)
 field-put ys last at count n h g e = e ∙ written-lies ys at count n h g
 
 -- a loop that puts the digits in from the last to the first: those from k on stand
@@ -106,18 +116,23 @@ module _ (s : List ℕ) (at count n : ℕ) where
   pub put-none : s ≡ putFrom s at count n count
   unfolding putFrom
   put-none =
-      let none : drop count (bytesOf count n) ≡ [] = drop-of-length-le (bytesOf count n) {i = count} (omega (arith, length-bytes count n)) in
+      let none : drop count (bytesOf count n) ≡ [] = drop-of-length-le (bytesOf count n) {i = count}
+      (omega (arith, length-bytes count n)) in
       sym (rw none (placed-none s (at + count)))
 
-  put-digit : (j : ℕ) → j < count → at + count ≤ length s → set (putFrom s at count n (suc j)) (at + j) (n / 256 ^ (count - suc j) % 256) ≡ putFrom s at count n j
+  put-digit : (j : ℕ) → j < count → at + count ≤ length s
+      → set (putFrom s at count n (suc j)) (at + j) (n / 256 ^ (count - suc j) % 256) ≡ putFrom s at count n j
   unfolding putFrom
   put-digit j h g =
       let q : at + suc j ≡ suc (at + j) = omega arith in
       let here : n / 256 ^ (count - suc j) % 256 ∷ drop (suc j) (bytesOf count n) ≡ drop j (bytesOf count n) =
-      ap (λ (b : ℕ). b ∷ drop (suc j) (bytesOf count n)) (sym (digit count n j h)) ∙ sym (drop-cons (bytesOf count n) j 0 (omega (arith, length-bytes count n))) in
-      rw q (store-before s (at + j) (drop (suc j) (bytesOf count n)) (n / 256 ^ (count - suc j) % 256) (omega (arith, left (suc j) h)) ∙ ap (placed s (at + j)) here)
+      ap (λ (b : ℕ). b ∷ drop (suc j) (bytesOf count n)) (sym (digit count n j h))
+      ∙ sym (drop-cons (bytesOf count n) j 0 (omega (arith, length-bytes count n))) in
+      rw q (store-before s (at + j) (drop (suc j) (bytesOf count n)) (n / 256 ^ (count - suc j) % 256)
+      (omega (arith, left (suc j) h)) ∙ ap (placed s (at + j)) here)
 
-  pub put-next : (k : ℕ) → 0 < k → k ≤ count → at + count ≤ length s → set (putFrom s at count n k) (at + (k - 1)) (n / 256 ^ (count - k) % 256) ≡ putFrom s at count n (k - 1)
+  pub put-next : (k : ℕ) → 0 < k → k ≤ count → at + count ≤ length s
+      → set (putFrom s at count n k) (at + (k - 1)) (n / 256 ^ (count - k) % 256) ≡ putFrom s at count n (k - 1)
   put-next zero h g room = absurd (omega arith)
   put-next (suc j) h g room = rw (sub-one (suc j)) (put-digit j g room)
 
@@ -131,7 +146,8 @@ module _ (s : List ℕ) (at count n : ℕ) where
 
 -- what is left of a number after j digits, and after one more
 pub digits-left : (n count k : ℕ) → 0 < k → k ≤ count → n / 256 ^ (count - k) / 256 ≡ n / 256 ^ (count - (k - 1))
-digits-left n count k h g = let q : count - (k - 1) ≡ suc (count - k) = omega arith in rw (q, pow-suc 256 (count - k)) (div-div-eq-div-mul n (256 ^ (count - k)) 256)
+digits-left n count k h g = let q : count - (k - 1) ≡ suc (count - k) = omega arith in rw (q, pow-suc 256 (count - k))
+    (div-div-eq-div-mul n (256 ^ (count - k)) 256)
 
 pub all-left : (n count : ℕ) → n ≡ n / 256 ^ (count - count)
 all-left n count = let q : count - count ≡ 0 = omega arith in rw q (sym (div-one n))
@@ -144,35 +160,51 @@ pub record Stands (s : List ℕ) (p count n : ℕ) (t : List ℕ) : Type 0 where
   pub value : fieldAt s p count ≡ n
   pub after : drop (p + count) s ≡ t
 
-pub stands : (s : List ℕ) (p count n : ℕ) (t : List ℕ) → count ≤ 8 → n < 256 ^ count → 0 < count → drop p s ≡ bytesOf count n ++ t → Stands s p count n t
+pub stands : (s : List ℕ) (p count n : ℕ) (t : List ℕ) → count ≤ 8 → n < 256 ^ count → 0 < count
+    → drop p s ≡ bytesOf count n ++ t → Stands s p count n t
 stands s p count n t h fit positive e =
     let k = length-bytes count n in
-    let long : length (drop p s) ≡ count + length t = ap length e ∙ length-append (bytesOf count n) t ∙ ap (λ (m : ℕ). m + length t) k in
+    let long : length (drop p s) ≡ count + length t = ap length e ∙ length-append (bytesOf count n) t
+    ∙ ap (λ (m : ℕ). m + length t) k in
     let room : p + count ≤ length s = omega (arith, length-drop p s) in
     record {
       room = room;
-      value = field-lies s p count h room ∙ ap valueOf (ap (take count) e ∙ take-at (bytesOf count n) t count k) ∙ value-bytes-fits count n fit;
+      value = field-lies s p count h room ∙ ap valueOf (ap (take count) e ∙ take-at (bytesOf count n) t count k)
+          ∙ value-bytes-fits count n fit;
       after = sym (drop-drop count p s) ∙ ap (drop count) e ∙ drop-at (bytesOf count n) t count k;
     }
 
 -- and back: the bytes of the number that is read
-pub stands-back : (s : List ℕ) (p count : ℕ) → AreBytes s → count ≤ 8 → p + count ≤ length s → drop p s ≡ bytesOf count (fieldAt s p count) ++ drop (p + count) s
+pub stands-back : (s : List ℕ) (p count : ℕ) → AreBytes s → count ≤ 8 → p + count ≤ length s
+    → drop p s ≡ bytesOf count (fieldAt s p count) ++ drop (p + count) s
 stands-back s p count bytes h g =
     let part = take count (drop p s) in
     let same : bytesOf count (fieldAt s p count) ≡ part =
-    ap (bytesOf count) (field-lies s p count h g) ∙ ap (λ (k : ℕ). bytesOf k (valueOf part)) (sym (length-part s p count g)) ∙ bytes-value part (part-are-bytes s p count bytes) in
+    ap (bytesOf count) (field-lies s p count h g) ∙ ap (λ (k : ℕ). bytesOf k (valueOf part))
+    (sym (length-part s p count g)) ∙ bytes-value part (part-are-bytes s p count bytes) in
     sym (rw (same, ← drop-drop count p s) (take-append-drop count (drop p s)))
 
 -- reading what was written
-pub field-written : (s : List ℕ) (at count n : ℕ) → count ≤ 8 → at + count ≤ length s → fieldAt (withField s at count n) at count ≡ n % 256 ^ count
+pub field-written : (s : List ℕ) (at count n : ℕ) → count ≤ 8 → at + count ≤ length s
+    → fieldAt (withField s at count n) at count ≡ n % 256 ^ count
 unfolding placed
 field-written s at count n h g =
     let bytes = bytesOf count n in
     let k = length-bytes count n in
     let rest = drop (at + length bytes) s in
     let front : length (take at s) ≡ at = length-take-le at s (omega arith) in
-    let long : at + count ≤ length (take at s ++ (bytes ++ rest)) = omega (arith, length-append (take at s) (bytes ++ rest), length-append bytes rest) in
-    rw (written-lies s at count n h g, append-assoc (take at s) bytes rest, field-lies (take at s ++ (bytes ++ rest)) at count h long, drop-at (take at s) (bytes ++ rest) at front, take-at bytes rest count k)
+    let long : at + count ≤ length (take at s ++ (bytes ++ rest)) = omega (
+      arith,
+      length-append (take at s) (bytes ++ rest),
+      length-append bytes rest,
+    ) in
+    rw (
+      written-lies s at count n h g,
+      append-assoc (take at s) bytes rest,
+      field-lies (take at s ++ (bytes ++ rest)) at count h long,
+      drop-at (take at s) (bytes ++ rest) at front,
+      take-at bytes rest count k,
+    )
     (value-bytes count n)
 
 -- writing what was read

@@ -12,7 +12,8 @@ use lib.Signed.{mag}
 use Rattle.formats.specs.Floats.{one-float}
 use Rattle.lists.specs.Placed.{placed}
 use Rattle.big_endian.specs.Bytes.{valueOf, bytesOf}
-use Rattle.big_endian.specs.Fields.{Field, fieldAt, withField, signedAt, withSigned, floatAt, withFloat, doubleAt, withDouble}
+use Rattle.big_endian.specs.Fields.{Field, fieldAt, withField, signedAt, withSigned, floatAt, withFloat}
+use Rattle.big_endian.specs.Fields.{doubleAt, withDouble}
 
 -- ---- reading
 
@@ -73,6 +74,7 @@ unfolding withFloat withField bytesOf placed toBits
 float-at-the-start p = let e : _≡_ {A = ℕ} 63 9 = ap (byte 0) p in omega arith
 
 -- a NaN is written as an infinity
-double-nan-as-infinity : 127 ∷ 240 ∷ 0 ∷ 0 ∷ 0 ∷ 0 ∷ 0 ∷ 0 ∷ [] ≡ withDouble (9 ∷ 9 ∷ 9 ∷ 9 ∷ 9 ∷ 9 ∷ 9 ∷ 9 ∷ []) 0 nan → ⊥
+double-nan-as-infinity : 127 ∷ 240 ∷ 0 ∷ 0 ∷ 0 ∷ 0 ∷ 0 ∷ 0 ∷ [] ≡ withDouble (9 ∷ 9 ∷ 9 ∷ 9 ∷ 9 ∷ 9 ∷ 9 ∷ 9 ∷ []) 0 nan
+    → ⊥
 unfolding withDouble withField bytesOf placed toBits
 double-nan-as-infinity p = let e : _≡_ {A = ℕ} 240 248 = ap (byte 1) p in omega arith

@@ -10,9 +10,11 @@ use lib.Dec.{leb}
 
 -- fields of no bytes take no room
 pub no-width : (size at width count : ℕ) → width ≡ 0 → leb at size ≡ leb (at + width * count) size
-no-width size at width count e = let none : at ≡ at + width * count = rw e (omega arith) in ap (λ (n : ℕ). leb n size) none
+no-width size at width count e =
+    let none : at ≡ at + width * count = rw e (omega arith) in ap (λ (n : ℕ). leb n size) none
 
-pub too-many : (size at width count : ℕ) → (width ≡ 0 → ⊥) → size / width < count → false ≡ leb (at + width * count) size
+pub too-many : (size at width count : ℕ) → (width ≡ 0 → ⊥) → size / width < count
+    → false ≡ leb (at + width * count) size
 too-many size at width count wide h =
     let positive : 0 < width = omega arith in
     let long : size < count * width = div-lt-iff-lt-mul positive .0 h in

@@ -1,4 +1,5 @@
--- Document 01, 'Filter bank file' and item 10: "Big-endian". A number as bytes, the first byte the one that weighs most. Definitions only.
+-- Document 01, 'Filter bank file' and item 10: "Big-endian". A number as bytes, the first byte the one that weighs
+-- most. Definitions only.
 use Prim.Native.Nat.{ℕ, zero, suc, _+_, _*_, _/_, _%_, _^_, _<_}
 use mathlib.Core.List.{List, [], _∷_}
 use lib.ListN.{length}

@@ -1,5 +1,6 @@
--- Document 01, 'Filter bank file' and item 10: the fields of a file, `count` bytes from the offset `at` on, "Big-endian", some "signed", some "f32 bits". Definitions only.
--- A field has at most eight bytes. One that is longer, or does not lie inside the list, reads as 0, and writing it changes nothing.
+-- Document 01, 'Filter bank file' and item 10: the fields of a file, `count` bytes from the offset `at` on,
+-- "Big-endian", some "signed", some "f32 bits". Definitions only. A field has at most eight bytes. One that is longer,
+-- or does not lie inside the list, reads as 0, and writing it changes nothing.
 use Prim.Native.Nat.{ℕ, _+_, _^_, _<_}
 use mathlib.Core.Path.{_≡_}
 use mathlib.Core.Bool.{Bool, _&&_, cond}

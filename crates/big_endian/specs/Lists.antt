@@ -1,4 +1,5 @@
--- Document 01, 'Filter bank file' and item 10: numbers that stand one after another, "Big-endian", samples "as f32 bits". Definitions only.
+-- Document 01, 'Filter bank file' and item 10: numbers that stand one after another, "Big-endian", samples "as f32
+-- bits". Definitions only.
 use Prim.Native.Nat.{ℕ, _+_, _*_}
 use mathlib.Core.List.{List, flatMap}
 use lib.Ieee.{Float, binary32, binary64, toBits}

@@ -9,7 +9,8 @@
 ghost use mathlib.Core.Path.{_≡_};
 ghost use Prim.Native.Nat.{_+_, _*_, _<_};
 ghost use lib.Dec.{leb};
-ghost use Rattle.big_endian.specs.Fields.{lies, Field, withField, signedAt, withSigned, floatAt, withFloat, doubleAt, withDouble};
+ghost use Rattle.big_endian.specs.Fields.{lies, Field, withField, signedAt, withSigned, floatAt, withFloat};
+ghost use Rattle.big_endian.specs.Fields.{doubleAt, withDouble};
 
 fn wide(b: u8) -> u64
     ensures { λ r. ⌜ (r ≡ b) × (r < 256) ⌝ }

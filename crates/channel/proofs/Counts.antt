@@ -1,4 +1,5 @@
--- How many channels a layout has, by the test of their number; what a caller learns from a count, of a layout or of an order; and what holds of 5.1 and 7.1. Assumes nothing.
+-- How many channels a layout has, by the test of their number; what a caller learns from a count, of a layout or of an
+-- order; and what holds of 5.1 and 7.1. Assumes nothing.
 use mathlib.Core.Path.{_≡_, refl, sym, ap, _∙_}
 use mathlib.Core.Bool.{Bool, true, false, cond, false≢true}
 use Prim.Native.Nat.{ℕ, suc, _≤_, _<_}
@@ -10,7 +11,8 @@ use Rattle.channel.specs.declared.Layout.the-variants.{Mono, Stereo, Sur
 use Rattle.channel.specs.declared.Counted.{Counted}
 
 -- n is how many the layout would have, and b whether that is refused
-pub layout-counted : (l : Layout) (n : ℕ) (b : Bool) → n ≡ channelsOf l → uncountable n ≡ b → countedBy 2 b n ≡ counted l
+pub layout-counted : (l : Layout) (n : ℕ) (b : Bool) → n ≡ channelsOf l → uncountable n ≡ b
+    → countedBy 2 b n ≡ counted l
 layout-counted l n b e h = ap (λ (t : Bool). countedBy 2 t n) (sym h) ∙ ap (λ (k : ℕ). countedBy 2 (uncountable k) k) e
 
 -- ---- what a caller learns from a count
@@ -20,10 +22,12 @@ module _ (r : ℕ) (refused : Bool) (n : ℕ) (c : Counted) (e : c ≡ countedBy
   refusal-is : c .refusal ≡ cond refused (suc r) 0
   refusal-is =
       ap (λ (x : Counted). x .refusal) e
-      ∙ told-is (record { refusal = 0; channels = n }) (λ k. record { refusal = k; channels = 0 }) (λ (x : Counted). x .refusal) refl (cond refused (suc r) 0) refl
+      ∙ told-is (record { refusal = 0; channels = n }) (λ k. record { refusal = k; channels = 0 })
+      (λ (x : Counted). x .refusal) refl (cond refused (suc r) 0) refl
 
   pub well : c .refusal ≡ 0 → (refused ≡ false) × (c .channels ≡ n)
-  well z = let h = passed refused r 0 (sym refusal-is ∙ z) .0 in (h, ap (λ (x : Counted). x .channels) (e ∙ ap (λ (b : Bool). countedBy (suc r) b n) h))
+  well z = let h = passed refused r 0 (sym refusal-is ∙ z) .0 in
+      (h, ap (λ (x : Counted). x .channels) (e ∙ ap (λ (b : Bool). countedBy (suc r) b n) h))
 
   pub ill : (c .refusal ≡ 0 → ⊥) → refused ≡ true
   ill z = go refused refusal-is
@@ -32,7 +36,8 @@ module _ (r : ℕ) (refused : Bool) (n : ℕ) (c : Counted) (e : c ≡ countedBy
       go true h = refl
       go false h = absurd (z h)
 
-pub counted-well : (l : Layout) (c : Counted) → c ≡ counted l → c .refusal ≡ 0 → (uncountable (channelsOf l) ≡ false) × (c .channels ≡ channelsOf l)
+pub counted-well : (l : Layout) (c : Counted) → c ≡ counted l → c .refusal ≡ 0 → (uncountable (channelsOf l) ≡ false)
+    × (c .channels ≡ channelsOf l)
 counted-well l = well 1 (uncountable (channelsOf l)) (channelsOf l)
 
 pub counted-ill : (l : Layout) (c : Counted) → c ≡ counted l → (c .refusal ≡ 0 → ⊥) → uncountable (channelsOf l) ≡ true
@@ -52,4 +57,5 @@ pub surround-counted : (l : Layout) → surround l ≡ true → counted l .chann
 surround-counted = by-surround (λ (l : Layout). counted l .channels ≡ channelsOf l) refl refl
 
 pub surround-few : (l : Layout) → surround l ≡ true → (0 < channelsOf l) × (channelsOf l ≤ 8)
-surround-few = by-surround (λ (l : Layout). (0 < channelsOf l) × (channelsOf l ≤ 8)) (lit< tt, lit≤ tt) (lit< tt, lit≤ tt)
+surround-few =
+    by-surround (λ (l : Layout). (0 < channelsOf l) × (channelsOf l ≤ 8)) (lit< tt, lit≤ tt) (lit< tt, lit≤ tt)

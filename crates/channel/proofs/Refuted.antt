@@ -1,5 +1,6 @@
--- Wrong answers of the look-ups, each held against the promise on an input where it breaks it: an angle, whatever it is, where no speaker stands in the table; a refusal of the last that is in it; an angle
--- beside a refusal; the LFE behind; five channels of 5.1; and another number for what is no order. Assumes nothing.
+-- Wrong answers of the look-ups, each held against the promise on an input where it breaks it: an angle, whatever it
+-- is, where no speaker stands in the table; a refusal of the last that is in it; an angle beside a refusal; the LFE
+-- behind; five channels of 5.1; and another number for what is no order. Assumes nothing.
 use mathlib.Core.Path.{_≡_, refl, ap}
 use mathlib.Core.Bool.{Bool, true, true≢false}
 use Prim.Native.Nat.{ℕ}
@@ -9,7 +10,8 @@ use lib.Signed.{mag, ltZ}
 use lib.Ieee.{Float, ofInt}
 use lib.Ieee.Positive.{positive}
 use Rattle.formats.specs.Floats.{zero-float, float}
-use Rattle.channel.specs.Layouts.{counted, surround, minus, azimuthAnswer, tenthsAnswer, positionAzimuthAnswer, positionTenthsAnswer}
+use Rattle.channel.specs.Layouts.{counted, surround, minus, azimuthAnswer, tenthsAnswer, positionAzimuthAnswer}
+use Rattle.channel.specs.Layouts.{positionTenthsAnswer}
 use Rattle.channel.specs.Orders.{countedOrder}
 use Rattle.channel.specs.declared.Layout.{Layout}
 use Rattle.channel.specs.declared.Layout.the-variants.{Stereo, Surround51, Surround71, Custom}
@@ -89,13 +91,15 @@ refused-with-an-angle h = true≢false (ap (λ (a : Tenths). ltZ (a .tenths) (po
 -- ---- the LFE counts as 0 degrees, in every surround layout
 low-frequency-behind : (l : Layout) → surround l ≡ true → angle 0 (float (pos 180)) ≡ azimuthAnswer l 3 → ⊥
 unfolding ofInt
-low-frequency-behind = by-surround (λ (l : Layout). angle 0 (float (pos 180)) ≡ azimuthAnswer l 3 → ⊥) (λ h. true≢false (ap above h)) (λ h. true≢false (ap above h))
+low-frequency-behind = by-surround (λ (l : Layout). angle 0 (float (pos 180)) ≡ azimuthAnswer l 3 → ⊥)
+    (λ h. true≢false (ap above h)) (λ h. true≢false (ap above h))
   where
     above : Angle → Bool
     above a = positive (a .degrees)
 
 low-frequency-filters-behind : (l : Layout) → surround l ≡ true → tenths 0 (pos 1800) ≡ tenthsAnswer l 3 → ⊥
-low-frequency-filters-behind = by-surround (λ (l : Layout). tenths 0 (pos 1800) ≡ tenthsAnswer l 3 → ⊥) (λ h. true≢false (ap above h)) (λ h. true≢false (ap above h))
+low-frequency-filters-behind = by-surround (λ (l : Layout). tenths 0 (pos 1800) ≡ tenthsAnswer l 3 → ⊥)
+    (λ h. true≢false (ap above h)) (λ h. true≢false (ap above h))
   where
     above : Tenths → Bool
     above a = ltZ (pos 0) (a .tenths)

@@ -1,4 +1,5 @@
--- The tables of angles: every entry lies from -180 to 180, by one test over each table, so that an entry and ten times an entry are i32s. Assumes nothing.
+-- The tables of angles: every entry lies from -180 to 180, by one test over each table, so that an entry and ten times
+-- an entry are i32s. Assumes nothing.
 use mathlib.Core.Path.{_≡_, refl, sym, ap, _∙_, subst}
 use mathlib.Core.Bool.{Bool, cond}
 use mathlib.Core.List.{List}
@@ -52,7 +53,8 @@ ten-more n = omega arith
 
 pub tenths-fit-16 : (z : ℤ) → T (turned z) → SFits w16 (z *ℤ pos 10)
 tenths-fit-16 (pos n) t = record { sfits = omega (arith, leb→le n 180 t) }
-tenths-fit-16 (negsuc n) t = subst (λ (k : ℕ). SFits w16 (negℤ (pos k))) (sym (ten-more n)) record { sfits = omega (arith, leb→le n 179 t) }
+tenths-fit-16 (negsuc n) t =
+    subst (λ (k : ℕ). SFits w16 (negℤ (pos k))) (sym (ten-more n)) record { sfits = omega (arith, leb→le n 179 t) }
 
 tenths-fit : (z : ℤ) → T (turned z) → SFits w32 (z *ℤ pos 10)
 tenths-fit z t = sfits-widen {w = w16} {w′ = w32} tt (tenths-fit-16 z t)
@@ -65,22 +67,30 @@ module _ (table : List ℤ) (i : ℕ) where
   abbrev pub entryOf : Entry
   entryOf = record { refusal = missing table i; degrees = degreesAt table i }
 
-  pub entry-there : (z : ℤ) → i < length table → z ≡ degreesAt table i → _≡_ {A = Entry} (record { refusal = 0; degrees = z }) entryOf
+  pub entry-there : (z : ℤ) → i < length table → z ≡ degreesAt table i
+      → _≡_ {A = Entry} (record { refusal = 0; degrees = z }) entryOf
   entry-there z h e = λ k. record { refusal = sym (cond-false 2 0 (lt-leb (length table) i h)) k; degrees = e k }
 
   pub entry-missing : length table ≤ i → _≡_ {A = Entry} (record { refusal = 2; degrees = pos 0 }) entryOf
-  entry-missing h = λ k. record { refusal = sym (cond-true 2 0 (le-leb (length table) i h)) k; degrees = sym (List·getD-eq-default table (pos 0) h) k }
+  entry-missing h = λ k. record {
+    refusal = sym (cond-true 2 0 (le-leb (length table) i h)) k;
+    degrees = sym (List·getD-eq-default table (pos 0) h) k;
+  }
 
   -- ---- what is answered is made of the entry, since beyond the end of a table its entry is 0
   abbrev degreesAnswered : Angle
-  degreesAnswered = answered (missing table i) (record { refusal = 0; degrees = float (degreesAt table i) }) (λ n. record { refusal = n; degrees = zero-float })
+  degreesAnswered = answered (missing table i) (record { refusal = 0; degrees = float (degreesAt table i) })
+      (λ n. record { refusal = n; degrees = zero-float })
 
   abbrev tenthsAnswered : Tenths
-  tenthsAnswered = answered (missing table i) (record { refusal = 0; tenths = degreesAt table i *ℤ pos 10 }) (λ n. record { refusal = n; tenths = pos 0 })
+  tenthsAnswered = answered (missing table i) (record { refusal = 0; tenths = degreesAt table i *ℤ pos 10 })
+      (λ n. record { refusal = n; tenths = pos 0 })
 
-  entry-answered : {A : Type 0} (made : ℕ → ℤ → A) → answered (missing table i) (made 0 (degreesAt table i)) (λ n. made n (pos 0)) ≡ made (missing table i) (degreesAt table i)
+  entry-answered : {A : Type 0} (made : ℕ → ℤ → A) → answered (missing table i) (made 0 (degreesAt table i))
+      (λ n. made n (pos 0)) ≡ made (missing table i) (degreesAt table i)
   entry-answered {A} made =
-      by-test (λ (b : Bool). answered (cond b 2 0) (made 0 (degreesAt table i)) (λ n. made n (pos 0)) ≡ made (cond b 2 0) (degreesAt table i)) (leb (length table) i)
+      by-test (λ (b : Bool). answered (cond b 2 0) (made 0 (degreesAt table i)) (λ n. made n (pos 0))
+      ≡ made (cond b 2 0) (degreesAt table i)) (leb (length table) i)
       (λ h. ap (made 2) (sym (List·getD-eq-default table (pos 0) (leb-true (length table) i h)))) (λ h. refl)
 
   pub degrees-answered : degreesAnswered ≡ record { refusal = missing table i; degrees = float (degreesAt table i) }
@@ -105,8 +115,13 @@ module _ (table : List ℤ) (i : ℕ) where
     as-float = (λ k. record { refusal = refusal-is k; degrees = float (read-back k) }) ∙ sym degrees-answered
 
     pub tenths-held : SFits w32 (again (r .degrees) *ℤ pos 10)
-    tenths-held = subst (λ (x : ℤ). SFits w32 (x *ℤ pos 10)) (sym read-back) (tenths-fit (degreesAt table i) turned-there)
+    tenths-held =
+        subst (λ (x : ℤ). SFits w32 (x *ℤ pos 10)) (sym read-back) (tenths-fit (degreesAt table i) turned-there)
 
     pub in-tenths : record { refusal = r .refusal; tenths = again (again (r .degrees) *ℤ pos 10) } ≡ tenthsAnswered
     in-tenths =
-        (λ k. record { refusal = refusal-is k; tenths = (ap (λ (x : ℤ). again (x *ℤ pos 10)) read-back ∙ toZ-ofZ {w = w32} (tenths-fit (degreesAt table i) turned-there)) k }) ∙ sym tenths-answered
+        (λ k. record {
+          refusal = refusal-is k;
+          tenths = (ap (λ (x : ℤ). again (x *ℤ pos 10)) read-back
+              ∙ toZ-ofZ {w = w32} (tenths-fit (degreesAt table i) turned-there)) k;
+        }) ∙ sym tenths-answered

@@ -1,5 +1,7 @@
--- Document 01, item 2: "Layouts: Mono, Stereo, Surround51, Surround71, Custom(n) with n 1..16"; 'Gains', surround: "speakers, in channel order. 5.1: 30, -30, 0, LFE, 110, -110.
--- 7.1: 30, -30, 0, LFE, 90, -90, 150, -150"; decoder: "LFE takes the 0 degree row. Stereo is 30, -30; Mono 0"; and the eight positions of 003. Definitions only. Angles are whole degrees.
+-- Document 01, item 2: "Layouts: Mono, Stereo, Surround51, Surround71, Custom(n) with n 1..16"; 'Gains', surround:
+-- "speakers, in channel order. 5.1: 30, -30, 0, LFE, 110, -110. 7.1: 30, -30, 0, LFE, 90, -90, 150, -150"; decoder:
+-- "LFE takes the 0 degree row. Stereo is 30, -30; Mono 0"; and the eight positions of 003. Definitions only. Angles are
+-- whole degrees.
 use Prim.Native.Nat.{ℕ, _-_}
 use mathlib.Core.Bool.{Bool, true, false, cond}
 use mathlib.Core.List.{List, [], _∷_}
@@ -28,7 +30,8 @@ uncountable n = outside n 16
 
 -- n channels; or, where they are refused, the refusal and none
 abbrev pub countedBy : ℕ → Bool → ℕ → Counted
-countedBy refusal refused n = answered (firstOf (refusal when refused ∷ [])) (record { refusal = 0; channels = n }) (λ k. record { refusal = k; channels = 0 })
+countedBy refusal refused n = answered (firstOf (refusal when refused ∷ [])) (record { refusal = 0; channels = n })
+    (λ k. record { refusal = k; channels = 0 })
 
 abbrev pub counted : Layout → Counted
 counted l = countedBy 2 (uncountable (channelsOf l)) (channelsOf l)
@@ -48,7 +51,8 @@ lowFrequency l c = cond (surround l) (eqb c 3) false
 abbrev pub minus : ℕ → ℤ
 minus n = negsuc (n - 1)
 
--- where the speakers of a layout stand, in channel order; the LFE, which points nowhere, counts as 0 where an angle is wanted. The speakers of a Custom layout are computed.
+-- where the speakers of a layout stand, in channel order; the LFE, which points nowhere, counts as 0 where an angle is
+-- wanted. The speakers of a Custom layout are computed.
 abbrev pub speakers : Layout → List ℤ
 speakers Mono = pos 0 ∷ []
 speakers Stereo = pos 30 ∷ minus 30 ∷ []
@@ -64,7 +68,8 @@ positions = pos 0 ∷ pos 45 ∷ pos 90 ∷ pos 135 ∷ pos 180 ∷ minus 135 �
 abbrev pub degreesAt : List ℤ → ℕ → ℤ
 degreesAt table i = getD table i (pos 0)
 
--- "the layout isn't one the operation offers", or a count is out of its range: the table has no such place. No place of a Custom layout is in it.
+-- "the layout isn't one the operation offers", or a count is out of its range: the table has no such place. No place of
+-- a Custom layout is in it.
 abbrev pub missing : List ℤ → ℕ → ℕ
 missing table i = firstOf (2 when leb (length table) i ∷ [])
 
@@ -79,10 +84,12 @@ abbrev pub tenthsOf : Layout → ℕ → ℤ
 tenthsOf l c = degreesOf l c *ℤ pos 10
 
 abbrev pub azimuthAnswer : Layout → ℕ → Angle
-azimuthAnswer l c = answered (missing (speakers l) c) (record { refusal = 0; degrees = azimuthOf l c }) (λ n. record { refusal = n; degrees = zero-float })
+azimuthAnswer l c = answered (missing (speakers l) c) (record { refusal = 0; degrees = azimuthOf l c })
+    (λ n. record { refusal = n; degrees = zero-float })
 
 abbrev pub tenthsAnswer : Layout → ℕ → Tenths
-tenthsAnswer l c = answered (missing (speakers l) c) (record { refusal = 0; tenths = tenthsOf l c }) (λ n. record { refusal = n; tenths = pos 0 })
+tenthsAnswer l c = answered (missing (speakers l) c) (record { refusal = 0; tenths = tenthsOf l c })
+    (λ n. record { refusal = n; tenths = pos 0 })
 
 -- virtual speaker i: the same
 abbrev pub positionAzimuth : ℕ → Float
@@ -92,7 +99,9 @@ abbrev pub positionTenths : ℕ → ℤ
 positionTenths i = degreesAt positions i *ℤ pos 10
 
 abbrev pub positionAzimuthAnswer : ℕ → Angle
-positionAzimuthAnswer i = answered (missing positions i) (record { refusal = 0; degrees = positionAzimuth i }) (λ n. record { refusal = n; degrees = zero-float })
+positionAzimuthAnswer i = answered (missing positions i) (record { refusal = 0; degrees = positionAzimuth i })
+    (λ n. record { refusal = n; degrees = zero-float })
 
 abbrev pub positionTenthsAnswer : ℕ → Tenths
-positionTenthsAnswer i = answered (missing positions i) (record { refusal = 0; tenths = positionTenths i }) (λ n. record { refusal = n; tenths = pos 0 })
+positionTenthsAnswer i = answered (missing positions i) (record { refusal = 0; tenths = positionTenths i })
+    (λ n. record { refusal = n; tenths = pos 0 })

@@ -1,4 +1,5 @@
--- Document 01, 'Refusal numbers': 1 is given exactly when "ambisonic order is not 1, 2 or 3"; and an order has (order + 1)² channels, those of the harmonics up to its degree. And a choice by the order. Definitions only.
+-- Document 01, 'Refusal numbers': 1 is given exactly when "ambisonic order is not 1, 2 or 3"; and an order has (order +
+-- 1)² channels, those of the harmonics up to its degree. And a choice by the order. Definitions only.
 use Prim.Native.Nat.{ℕ, _+_, _*_}
 use mathlib.Core.Bool.{Bool, cond}
 use lib.Dec.{eqb}

@@ -11,7 +11,8 @@
 ghost use mathlib.Core.Path.{_≡_};
 ghost use lib.IntN.{pos};
 ghost use lib.ListN.{getD};
-ghost use Rattle.channel.specs.Layouts.{channelsOf, counted, surround, lowFrequency, speakers, missing, degreesOf};
+ghost use Rattle.channel.specs.Layouts.{channelsOf, counted, surround, lowFrequency, speakers, missing};
+ghost use Rattle.channel.specs.Layouts.{degreesOf};
 ghost use Rattle.channel.specs.Layouts.{azimuthAnswer, tenthsAnswer, positionAzimuthAnswer, positionTenthsAnswer};
 ghost use Rattle.channel.specs.Orders.{refusesOrder, countedOrder};
 
@@ -133,7 +134,8 @@ struct Entry {
 }
 
 fn look_up(table: &[i32], i: usize) -> Entry
-    ensures { λ r. ⌜ r ≡ record { refusal = missing (now (table .entry)) i; degrees = getD (now (table .entry)) i (pos 0) } ⌝ }
+    ensures { λ r.
+        ⌜ r ≡ record { refusal = missing (now (table .entry)) i; degrees = getD (now (table .entry)) i (pos 0) } ⌝ }
 {
     if i < table.len() {
         return Entry {

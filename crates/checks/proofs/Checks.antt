@@ -31,7 +31,8 @@ both-off a b p q = ap (λ (t : Bool). t || b) p ∙ q
 pub any-off : (i n : ℕ) (f : ℕ → Bool) → any (tab i n f) ≡ false → (k : ℕ) → k < n → f (i + k) ≡ false
 any-off i zero f e k h = absurd (not-suc-le-zero h)
 any-off i (suc n) f e zero h = ap f (add-zero i) ∙ or-off (f i) (any (tab (suc i) n f)) e .0
-any-off i (suc n) f e (suc k) h = ap f (add-suc i k ∙ sym (suc-add i k)) ∙ any-off (suc i) n f (or-off (f i) (any (tab (suc i) n f)) e .1) k (omega arith)
+any-off i (suc n) f e (suc k) h = ap f (add-suc i k ∙ sym (suc-add i k))
+    ∙ any-off (suc i) n f (or-off (f i) (any (tab (suc i) n f)) e .1) k (omega arith)
 
 -- said of the places themselves
 pub at-each : (i n : ℕ) (f : ℕ → Bool) → any (tab i n f) ≡ false → (k : ℕ) → i ≤ k → k < i + n → f k ≡ false
@@ -48,7 +49,8 @@ pub is-equal : (a b : ℕ) → not (eqb a b) ≡ false → a ≡ b
 is-equal a b e = eqb-true a b (not-false (eqb a b) e)
 
 -- planes that were tested fit
-pub fitted : (size planes stride frames : ℕ) → unfit size planes stride frames ≡ false → (frames ≤ stride) × (size ≡ planes * stride)
+pub fitted : (size planes stride frames : ℕ) → unfit size planes stride frames ≡ false
+    → (frames ≤ stride) × (size ≡ planes * stride)
 fitted size planes stride frames e =
     let p = or-off (ltb stride frames) (not (eqb size (planes * stride))) e in
     (ltb-false stride frames (p .0), is-equal size (planes * stride) (p .1))
@@ -58,8 +60,10 @@ fitted size planes stride frames e =
 pub equal-passes : (a b : ℕ) → a ≡ b → not (eqb a b) ≡ false
 equal-passes a b e = ap not (eq-eqb a b e)
 
-pub planes-fit : (size planes stride frames : ℕ) → frames ≤ stride → size ≡ planes * stride → unfit size planes stride frames ≡ false
-planes-fit size planes stride frames room e = both-off (ltb stride frames) (not (eqb size (planes * stride))) (le-ltb stride frames room) (equal-passes size (planes * stride) e)
+pub planes-fit : (size planes stride frames : ℕ) → frames ≤ stride → size ≡ planes * stride
+    → unfit size planes stride frames ≡ false
+planes-fit size planes stride frames room e = both-off (ltb stride frames) (not (eqb size (planes * stride)))
+    (le-ltb stride frames room) (equal-passes size (planes * stride) e)
 
 -- ---- a loop over places 0, 1, .. that stops at the first of which f holds
 
@@ -73,7 +77,11 @@ module _ (f : ℕ → Bool) (n : ℕ) where
 
   pub passing-more : (s : ℕ) → Passing f n s → s < n → f s ≡ false → Passing f n (s + 1)
   passing-more s p h e =
-      record { below = omega arith; same = ap (λ (b : Bool). b || any (tab (s + 1) (n - (s + 1)) f)) (sym e) ∙ ap any (sym (tab-more n s f h)) ∙ p .same }
+      record {
+        below = omega arith;
+        same = ap (λ (b : Bool). b || any (tab (s + 1) (n - (s + 1)) f)) (sym e)
+            ∙ ap any (sym (tab-more n s f h)) ∙ p .same;
+      }
 
   pub passing-found : (s : ℕ) → Passing f n s → s < n → f s ≡ true → true ≡ any (tab 0 n f)
   passing-found s p h e = or-yes (f s) (any (tab (s + 1) (n - (s + 1)) f)) e ∙ ap any (sym (tab-more n s f h)) ∙ p .same
@@ -95,11 +103,14 @@ module _ (f : ℕ → Float) (n : ℕ) where
   looked-at : (s : ℕ) (x : Float) (b t : Bool) → x ≡ f s → b ≡ finite x → not b ≡ t → wrong f s ≡ t
   looked-at s x b t ex eb e = ap (λ (v : Float). not (finite v)) (sym ex) ∙ ap not (sym eb) ∙ e
 
-  pub sound-more : (s : ℕ) (x : Float) (b : Bool) → Passing (wrong f) n s → s < n → x ≡ f s → b ≡ finite x → not b ≡ false → Passing (wrong f) n (s + 1)
+  pub sound-more : (s : ℕ) (x : Float) (b : Bool) → Passing (wrong f) n s → s < n → x ≡ f s → b ≡ finite x
+      → not b ≡ false → Passing (wrong f) n (s + 1)
   sound-more s x b p h ex eb e = passing-more (wrong f) n s p h (looked-at s x b false ex eb e)
 
-  pub nonfinite-found : (s : ℕ) (x : Float) (b : Bool) → Passing (wrong f) n s → s < n → x ≡ f s → b ≡ finite x → not b ≡ true → true ≡ hasNonfinite (tab 0 n f)
-  nonfinite-found s x b p h ex eb e = passing-found (wrong f) n s p h (looked-at s x b true ex eb e) ∙ nonfinite-tab 0 n f
+  pub nonfinite-found : (s : ℕ) (x : Float) (b : Bool) → Passing (wrong f) n s → s < n → x ≡ f s → b ≡ finite x
+      → not b ≡ true → true ≡ hasNonfinite (tab 0 n f)
+  nonfinite-found s x b p h ex eb e =
+      passing-found (wrong f) n s p h (looked-at s x b true ex eb e) ∙ nonfinite-tab 0 n f
 
   pub sound-all : (s : ℕ) → Passing (wrong f) n s → n ≤ s → false ≡ hasNonfinite (tab 0 n f)
   sound-all s p h = passing-all (wrong f) n s p h ∙ nonfinite-tab 0 n f
@@ -116,7 +127,8 @@ nonfinite-list xs = ap hasNonfinite (tab-getD xs nan)
 pub sound-at : (xs : List Float) (i : ℕ) → hasNonfinite xs ≡ false → i < length xs → finite (getD xs i nan) ≡ true
 sound-at xs i e h =
     not-false (finite (getD xs i nan))
-    (ap (wrong (placeOf xs)) (sym (zero-add i)) ∙ any-off 0 (length xs) (wrong (placeOf xs)) (nonfinite-tab 0 (length xs) (placeOf xs) ∙ nonfinite-list xs ∙ e) i h)
+    (ap (wrong (placeOf xs)) (sym (zero-add i)) ∙ any-off 0 (length xs) (wrong (placeOf xs))
+    (nonfinite-tab 0 (length xs) (placeOf xs) ∙ nonfinite-list xs ∙ e) i h)
 
 pub sound-tab : (i n : ℕ) (f : ℕ → Float) → ((k : ℕ) → finite (f k) ≡ true) → hasNonfinite (tab i n f) ≡ false
 sound-tab i zero f e = refl

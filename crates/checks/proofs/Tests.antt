@@ -1,4 +1,5 @@
--- Why the tests are right: a number is finite exactly if it lies between the infinities, n is a * b exactly if a divides it b times, and of two counts the one that is below the other is the least. Assumes nothing.
+-- Why the tests are right: a number is finite exactly if it lies between the infinities, n is a * b exactly if a
+-- divides it b times, and of two counts the one that is below the other is the least. Assumes nothing.
 use mathlib.Core.Path.{_≡_, refl, sym, ap, _∙_}
 use mathlib.Core.Bool.{true, false, true≢false, false≢true}
 use Prim.Native.Nat.{ℕ, _*_, _/_, _%_, _≤_, _<_, min}

@@ -1,4 +1,5 @@
--- Laws of the definitions of specs/Cues.antt: what stands at a place of the frames, what follows where frames rise, and of the cues of a list none of which is refused. Assumes nothing.
+-- Laws of the definitions of specs/Cues.antt: what stands at a place of the frames, what follows where frames rise, and
+-- of the cues of a list none of which is refused. Assumes nothing.
 use mathlib.Core.Path.{_≡_, refl, ap}
 use Prim.Native.Nat.{ℕ, zero, suc, _<_, _≤_}
 use native.Mathlib.Nat.{not-suc-le-zero, le-of-suc-le-suc}
@@ -12,7 +13,8 @@ use Rattle.lists.specs.Tables.{any}
 use Rattle.refusals.proofs.First.{or-off}
 use Rattle.harmonics.specs.Promise.{refusesDirection}
 use Rattle.cues.specs.declared.Cue.{Cue}
-use Rattle.cues.specs.Cues.{Voice, nobody, speaking, orLater, voiceAt, numbersOf, refusedOf, risesFrom, rises, nowhere}
+use Rattle.cues.specs.Cues.{Voice, nobody, speaking, orLater, voiceAt, numbersOf, refusedOf, risesFrom, rises}
+use Rattle.cues.specs.Cues.{nowhere}
 
 pub frame-is : (cs : List Cue) (i : ℕ) → i < length cs → getD cs i nowhere .frame ≡ getD (numbersOf cs) i 0
 frame-is [] i l = absurd (not-suc-le-zero l)
@@ -41,7 +43,11 @@ tail-rises x (y ∷ ys) h = and-right (ltb x y) (risesFrom y ys) h
 pub least : (x : ℕ) (xs : List ℕ) (i : ℕ) → risesFrom x xs ≡ true → i < length (x ∷ xs) → x ≤ getD (x ∷ xs) i 0
 least x xs zero h l = omega arith
 least x [] (suc i) h l = absurd (not-suc-le-zero (le-of-suc-le-suc l))
-least x (y ∷ ys) (suc i) h l = omega (arith, ltb-true x y (and-left (ltb x y) (risesFrom y ys) h), least y ys i (and-right (ltb x y) (risesFrom y ys) h) (le-of-suc-le-suc l))
+least x (y ∷ ys) (suc i) h l = omega (
+  arith,
+  ltb-true x y (and-left (ltb x y) (risesFrom y ys) h),
+  least y ys i (and-right (ltb x y) (risesFrom y ys) h) (le-of-suc-le-suc l),
+)
 
 -- each is below the next, at any place
 pub next-above : (x : ℕ) (xs : List ℕ) (i : ℕ) → risesFrom x xs ≡ true → i < length xs → getD (x ∷ xs) i 0 < getD xs i 0
@@ -50,10 +56,12 @@ next-above x (y ∷ ys) zero h l = ltb-true x y (and-left (ltb x y) (risesFrom y
 next-above x (y ∷ ys) (suc i) h l = next-above y ys i (and-right (ltb x y) (risesFrom y ys) h) (le-of-suc-le-suc l)
 
 -- ---- a list of which no direction is refused
-pub each-good : (cs : List Cue) (i : ℕ) → any (refusedOf cs) ≡ false → i < length cs → refusesDirection (getD cs i nowhere .direction) ≡ false
+pub each-good : (cs : List Cue) (i : ℕ) → any (refusedOf cs) ≡ false → i < length cs
+    → refusesDirection (getD cs i nowhere .direction) ≡ false
 each-good [] i h l = absurd (not-suc-le-zero l)
 each-good (c ∷ cs) zero h l = or-off (refusesDirection (c .direction)) (any (refusedOf cs)) h .0
-each-good (c ∷ cs) (suc i) h l = each-good cs i (or-off (refusesDirection (c .direction)) (any (refusedOf cs)) h .1) (le-of-suc-le-suc l)
+each-good (c ∷ cs) (suc i) h l =
+    each-good cs i (or-off (refusesDirection (c .direction)) (any (refusedOf cs)) h .1) (le-of-suc-le-suc l)
 
 -- a voice at a direction that is not refused
 abbrev pub Good : Voice → Type 0

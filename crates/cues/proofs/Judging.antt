@@ -46,7 +46,8 @@ good-all s (c ∷ cs) = good-all (judgedOn s c) cs ∙ go (s .good) (refusesDire
     go true false a = refl
     go false r a = refl
 
-rising-later : (s : Judgement) (cs : List Cue) → eqb (s .seen) 0 ≡ false → onward s cs .rising ≡ cond (s .rising) (risesFrom (s .last) (numbersOf cs)) false
+rising-later : (s : Judgement) (cs : List Cue) → eqb (s .seen) 0 ≡ false
+    → onward s cs .rising ≡ cond (s .rising) (risesFrom (s .last) (numbersOf cs)) false
 rising-later s [] h = go (s .rising)
   where
     go : (b : Bool) → b ≡ cond b true false
@@ -54,7 +55,8 @@ rising-later s [] h = go (s .rising)
     go false = refl
 rising-later s (c ∷ cs) h =
     rising-later (judgedOn s c) cs (ne-eqb (s .seen + 1) 0 (λ e. omega (arith, e)))
-    ∙ ap (λ (t : Bool). cond (cond (s .rising) (t || ltb (s .last) (c .frame)) false) (risesFrom (c .frame) (numbersOf cs)) false) h
+    ∙ ap (λ (t : Bool). cond (cond (s .rising) (t || ltb (s .last) (c .frame)) false)
+    (risesFrom (c .frame) (numbersOf cs)) false) h
     ∙ go (s .rising) (ltb (s .last) (c .frame)) (risesFrom (c .frame) (numbersOf cs))
   where
     go : (b l r : Bool) → cond (cond b l false) r false ≡ cond b (l && r) false
@@ -78,7 +80,8 @@ pub record Judging (cs : List Cue) (s : Judgement) : Type 0 where
 pub judging-none : (cs : List Cue) → Judging cs start
 judging-none cs = record { below = omega arith; left = refl }
 
-pub judging-more : (cs : List Cue) (s : Judgement) → s .seen < length cs → Judging cs s → Judging cs (judgedOn s (getD cs (s .seen) nowhere))
+pub judging-more : (cs : List Cue) (s : Judgement) → s .seen < length cs → Judging cs s
+    → Judging cs (judgedOn s (getD cs (s .seen) nowhere))
 judging-more cs s l j = record {
   below = omega (arith, l);
   left =
@@ -87,7 +90,13 @@ judging-more cs s l j = record {
 }
 
 pub judging-all : (cs : List Cue) (s : Judgement) → length cs ≤ s .seen → Judging cs s → s ≡ judgementOf cs
-judging-all cs s l j = whole ∙ (λ i. record { seen = seen-all cs i; last = last-all start cs i; rising = rising-all cs i; good = good-all start cs i })
+judging-all cs s l j = whole
+    ∙ (λ i. record {
+      seen = seen-all cs i;
+      last = last-all start cs i;
+      rising = rising-all cs i;
+      good = good-all start cs i;
+    })
   where
     all : s .seen ≡ length cs
     all = let b = j .below in omega (arith, l, b)

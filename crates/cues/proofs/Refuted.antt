@@ -20,7 +20,8 @@ use Rattle.cues.proofs.Halving.{holds-between}
 -- ---- a list is judged
 
 -- it takes frames for rising ones that are equal somewhere, or fall
-level-frames-rise : (c : Cue) (cs : List Cue) (i : ℕ) (j : Judgement) → i < length (numbersOf cs) → getD (numbersOf cs) i 0 ≤ getD (numbersOf (c ∷ cs)) i 0 → j ≡ judgementOf (c ∷ cs) → j .rising ≡ true → ⊥
+level-frames-rise : (c : Cue) (cs : List Cue) (i : ℕ) (j : Judgement) → i < length (numbersOf cs)
+    → getD (numbersOf cs) i 0 ≤ getD (numbersOf (c ∷ cs)) i 0 → j ≡ judgementOf (c ∷ cs) → j .rising ≡ true → ⊥
 level-frames-rise c cs i j l fall is r =
     below (next-above (c .frame) (numbersOf cs) i (sym (ap (λ (k : Judgement). k .rising) is) ∙ r) l)
   where
@@ -28,8 +29,10 @@ level-frames-rise c cs i j l fall is r =
     below m = omega (arith, m, fall)
 
 -- it does not look at every direction: at any place of the list one that is refused is found
-bad-direction-missed : (cs : List Cue) (i : ℕ) (j : Judgement) → i < length cs → refusesDirection (getD cs i nowhere .direction) ≡ true → j ≡ judgementOf cs → j .good ≡ true → ⊥
-bad-direction-missed cs i j l bad is s = true≢false (sym bad ∙ each-good cs i (none (any (refusedOf cs)) (sym (ap (λ (k : Judgement). k .good) is) ∙ s)) l)
+bad-direction-missed : (cs : List Cue) (i : ℕ) (j : Judgement) → i < length cs
+    → refusesDirection (getD cs i nowhere .direction) ≡ true → j ≡ judgementOf cs → j .good ≡ true → ⊥
+bad-direction-missed cs i j l bad is s =
+    true≢false (sym bad ∙ each-good cs i (none (any (refusedOf cs)) (sym (ap (λ (k : Judgement). k .good) is) ∙ s)) l)
   where
     none : (b : Bool) → not b ≡ true → b ≡ false
     none true h = sym h
@@ -42,13 +45,19 @@ speaks nobody = false
 speaks (speaking d) = true
 
 -- it lets a cue hold from the frame after its own on
-silent-at-its-frame : (c : Cue) (d : Direction) (left : ℕ) → Finds (c ∷ []) (c .frame) (record { speaks = false; direction = d; left = left }) → ⊥
+silent-at-its-frame : (c : Cue) (d : Direction) (left : ℕ)
+    → Finds (c ∷ []) (c .frame) (record { speaks = false; direction = d; left = left }) → ⊥
 silent-at-its-frame c d left p =
-    true≢false (sym (ap speaks (p .words refl .voice ∙ ap (λ (t : Bool). cond t (speaking (c .direction)) nobody) (le-leb (c .frame) (c .frame) (omega arith)))))
+    true≢false (sym
+    (ap speaks (p .words refl .voice ∙ ap (λ (t : Bool). cond t (speaking (c .direction)) nobody)
+    (le-leb (c .frame) (c .frame) (omega arith)))))
 
 -- it lets the first cue hold before its frame
-speaks-before-the-first : (c : Cue) (f : ℕ) (d : Direction) (left : ℕ) → f < c .frame → Finds (c ∷ []) f (record { speaks = true; direction = d; left = left }) → ⊥
-speaks-before-the-first c f d left l p = true≢false (ap speaks (p .words refl .voice ∙ ap (λ (t : Bool). cond t (speaking (c .direction)) nobody) (lt-leb (c .frame) f l)))
+speaks-before-the-first : (c : Cue) (f : ℕ) (d : Direction) (left : ℕ) → f < c .frame
+    → Finds (c ∷ []) f (record { speaks = true; direction = d; left = left }) → ⊥
+speaks-before-the-first c f d left l p = true≢false
+    (ap speaks (p .words refl .voice ∙ ap (λ (t : Bool). cond t (speaking (c .direction)) nobody)
+    (lt-leb (c .frame) f l)))
 
 -- it lets a cue hold past the next one, which points elsewhere
 module _ (c d : Cue) (rise : c .frame < d .frame) (h : Held) (p : Finds (c ∷ d ∷ []) (c .frame) h) where
@@ -63,7 +72,9 @@ module _ (c d : Cue) (rise : c .frame < d .frame) (h : Held) (p : Finds (c ∷ d
   direction-of (speaking e) = e
 
   held-past-the-next : (c .direction ≡ d .direction → ⊥) → d .frame - c .frame < h .left → ⊥
-  held-past-the-next other l = other (ap direction-of (sym first ∙ sym (p .words rises-both .stays (d .frame - c .frame) l) ∙ ap (voiceAt both) at ∙ second))
+  held-past-the-next other l = other
+      (ap direction-of (sym first ∙ sym (p .words rises-both .stays (d .frame - c .frame) l) ∙ ap (voiceAt both) at
+      ∙ second))
     where
       at : c .frame + (d .frame - c .frame) ≡ d .frame
       at = omega (arith, rise)

@@ -1,5 +1,6 @@
--- Document 02, E1: "a lent list of cues, each with a frame number and a direction. The direction at a frame is that of the last cue not after it, found by halving"; "11 a list whose frames don't rise strictly". Nothing here
--- is of halving. Definitions only.
+-- Document 02, E1: "a lent list of cues, each with a frame number and a direction. The direction at a frame is that of
+-- the last cue not after it, found by halving"; "11 a list whose frames don't rise strictly". Nothing here is of
+-- halving. Definitions only.
 use Prim.Native.Nat.{ℕ, _-_, _^_}
 use mathlib.Core.Bool.{Bool, true, _&&_, cond}
 use mathlib.Core.List.{List, [], _∷_}

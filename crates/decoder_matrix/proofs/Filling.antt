@@ -1,4 +1,5 @@
--- Rows put speaker by speaker: those that are left, put where they belong, give the list that is promised. Assumes nothing.
+-- Rows put speaker by speaker: those that are left, put where they belong, give the list that is promised. Assumes
+-- nothing.
 use Prim.Native.Nat.{ℕ, _+_, _-_, _*_, _≤_, _<_, zero-le}
 use native.Mathlib.Nat.{sub-zero}
 use native.Mathlib.Omega.{arith}
@@ -27,13 +28,15 @@ module _ (w₀ : List Float) (channels n : ℕ) (f : ℕ → List Float) where
   filling-none = record { far = zero-le; long = refl; laid = loop-none (following channels) f n (w₀, 0) }
 
   module _ (w : List Float) (at i : ℕ) (p : Filling w₀ channels n f w at i) where
-    pub filling-more : (w₁ : List Float) → channels ≤ 16 → i < n → w₁ ≡ sets w at (f i) → Filling w₀ channels n f w₁ (at + channels) (i + 1)
+    pub filling-more : (w₁ : List Float) → channels ≤ 16 → i < n → w₁ ≡ sets w at (f i)
+        → Filling w₀ channels n f w₁ (at + channels) (i + 1)
     filling-more w₁ c h e =
         record {
           far = omega (arith, p .far);
           long = ap length e ∙ length-sets w at (f i) ∙ p .long;
           laid =
-              loop-more (following channels) f n (w₀, 0) (λ k v row. (sets (v .0) (v .1) row, v .1 + channels)) (λ k v row rest. refl) (w, at) i (f i) (w₁, at + channels) (p .laid) h refl
+              loop-more (following channels) f n (w₀, 0) (λ k v row. (sets (v .0) (v .1) row, v .1 + channels))
+              (λ k v row rest. refl) (w, at) i (f i) (w₁, at + channels) (p .laid) h refl
               (ap (λ (v : List Float). (v, at + channels)) e);
         }
 
@@ -41,5 +44,7 @@ module _ (w₀ : List Float) (channels n : ℕ) (f : ℕ → List Float) where
     filling-all = loop-all (following channels) f n (w₀, 0) (w, at) i (p .laid)
 
 -- the first numbers of a row, as a part that starts at its head
-pub first-put : (w v : List Float) (at channels : ℕ) (scale : Float) (xs ys : List Float) → xs ≡ ys → v ≡ sets w at (scaled scale (take (channels - 0) (drop 0 xs))) → v ≡ sets w at (scaled scale (take channels ys))
-first-put w v at channels scale xs ys e h = h ∙ ap (λ (k : ℕ). sets w at (scaled scale (take k xs))) (sub-zero channels) ∙ ap (λ (zs : List Float). sets w at (scaled scale (take channels zs))) e
+pub first-put : (w v : List Float) (at channels : ℕ) (scale : Float) (xs ys : List Float) → xs ≡ ys
+    → v ≡ sets w at (scaled scale (take (channels - 0) (drop 0 xs))) → v ≡ sets w at (scaled scale (take channels ys))
+first-put w v at channels scale xs ys e h = h ∙ ap (λ (k : ℕ). sets w at (scaled scale (take k xs))) (sub-zero channels)
+    ∙ ap (λ (zs : List Float). sets w at (scaled scale (take channels zs))) e

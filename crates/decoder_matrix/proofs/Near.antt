@@ -1,5 +1,6 @@
--- Each weight of a matrix is as near its formula as is promised, by squares: the harmonic is known by its promise, the root of n by the root's, and the rest is one expression. Every speaker's azimuth is one that
--- the harmonics take, by one test over the tables. Assumes nothing.
+-- Each weight of a matrix is as near its formula as is promised, by squares: the harmonic is known by its promise, the
+-- root of n by the root's, and the rest is one expression. Every speaker's azimuth is one that the harmonics take, by
+-- one test over the tables. Assumes nothing.
 use Prim.Native.Nat.{ℕ, _^_, _≤_, _<_, zero-le}
 use native.Mathlib.Omega.{arith}
 use mathlib.Core.Path.{_≡_, refl, sym, ap, _∙_, subst}
@@ -39,7 +40,8 @@ use Rattle.decoder_matrix.specs.Promise.{matrixBits}
 
 -- ---- the numbers 1 to 16 as floats
 abbrev whole-tests : ℕ → List Bool
-whole-tests n = let x = float (pos n) in fits binary64 x ∷ positive x ∷ eqb (number x .plus) n ∷ eqb (number x .minus) 0 ∷ eqb (number x .over) 1 ∷ []
+whole-tests n = let x = float (pos n) in fits binary64 x ∷ positive x ∷ eqb (number x .plus) n ∷ eqb (number x .minus) 0
+    ∷ eqb (number x .over) 1 ∷ []
 
 whole-float : ℕ → Bool
 whole-float n = all (whole-tests n)
@@ -69,7 +71,9 @@ is-whole n t =
     }
 
 whole-is : (n : ℕ) → 1 ≤ n → n ≤ 16 → Whole n
-whole-is n h l = is-whole n (subst T (sym (not-false (whole-float n) (at-each 1 16 (λ n. not (whole-float n)) all-whole n h (omega arith)))) tt)
+whole-is n h l = is-whole n
+    (subst T (sym (not-false (whole-float n) (at-each 1 16 (λ n. not (whole-float n)) all-whole n h (omega arith))))
+    tt)
 
 -- ---- every speaker's azimuth is one that the harmonics take
 refused-at : Layout → ℕ → Bool
@@ -85,9 +89,11 @@ tables Mono u = refl
 tables Stereo u = refl
 tables Surround51 u = refl
 tables Surround71 u = refl
-tables (Custom n) u = at-each 1 16 (λ n. any (tab 0 n (refused-at (Custom n)))) customs n (not-outside n 16 u .0) (omega (arith, not-outside n 16 u .1))
+tables (Custom n) u = at-each 1 16 (λ n. any (tab 0 n (refused-at (Custom n)))) customs n (not-outside n 16 u .0)
+    (omega (arith, not-outside n 16 u .1))
 
-taken : (l : Layout) (i : ℕ) → uncountable (channelsOf l) ≡ false → i < channelsOf l → refusesAzimuth (azimuthAt l i) ≡ false
+taken : (l : Layout) (i : ℕ) → uncountable (channelsOf l) ≡ false → i < channelsOf l
+    → refusesAzimuth (azimuthAt l i) ≡ false
 unfolding refused-at
 taken l i u h = at-each 0 (channelsOf l) (refused-at l) (tables l u) i zero-le (omega arith)
 
@@ -100,24 +106,34 @@ front : refusesElevation (ofInt binary64 (pos 0)) ≡ false
 unfolding refusesAngle isInside ofInt le neg
 front = refl
 
-module _ (order : ℕ) (l : Layout) (o : refusesOrder order ≡ false) (u : uncountable (channelsOf l) ≡ false) (i : ℕ) (h : i < channelsOf l) where
+module _ (order : ℕ) (l : Layout) (o : refusesOrder order ≡ false) (u : uncountable (channelsOf l) ≡ false) (i : ℕ)
+    (h : i < channelsOf l) where
   root : RootOf (2 ^ 53) (number (rootOf binary64 (float (pos (channelsOf l))))) (whole (channelsOf l))
   root =
       let w = whole-is (channelsOf l) (not-outside (channelsOf l) 16 u .0) (not-outside (channelsOf l) 16 u .1) in
-      subst (RootOf (2 ^ 53) (number (rootOf binary64 (float (pos (channelsOf l)))))) (w .value) (root-close binary64 (float (pos (channelsOf l))) (w .held) (w .above))
+      subst (RootOf (2 ^ 53) (number (rootOf binary64 (float (pos (channelsOf l)))))) (w .value)
+      (root-close binary64 (float (pos (channelsOf l))) (w .held) (w .above))
 
-  near-one : (x : Float) (a : Fraction) → Approximates 42 (whole 5) x a → BySquares matrixBits (number (mul binary64 x (inverseRoot (channelsOf l)))) a (whole (channelsOf l))
+  near-one : (x : Float) (a : Fraction) → Approximates 42 (whole 5) x a
+      → BySquares matrixBits (number (mul binary64 x (inverseRoot (channelsOf l)))) a (whole (channelsOf l))
   unfolding inverseRoot round
   near-one x a s =
       let w = whole-is (channelsOf l) (not-outside (channelsOf l) 16 u .0) (not-outside (channelsOf l) 16 u .1) in
-      over-root (rootOf binary64 (float (pos (channelsOf l)))) (channelsOf l) s (not-outside (channelsOf l) 16 u .0) (not-outside (channelsOf l) 16 u .1) root (root-fits binary64 (float (pos (channelsOf l))) (w .held) (w .above)) matrixBits tt
+      over-root (rootOf binary64 (float (pos (channelsOf l)))) (channelsOf l) s (not-outside (channelsOf l) 16 u .0)
+      (not-outside (channelsOf l) 16 u .1) root
+      (root-fits binary64 (float (pos (channelsOf l))) (w .held) (w .above)) matrixBits tt
 
-  pub near : (c : ℕ) → c < channelsOfOrder order → channelsOfOrder order ≤ 16 → BySquares matrixBits (number (getD (rowBy order l (channelsOf l) (channelsOfOrder order) i) c nan)) (formulaAt order l i c) (whole (channelsOf l))
+  pub near : (c : ℕ) → c < channelsOfOrder order → channelsOfOrder order ≤ 16
+      → BySquares matrixBits (number (getD (rowBy order l (channelsOf l) (channelsOfOrder order) i) c nan))
+      (formulaAt order l i c) (whole (channelsOf l))
   unfolding ofInt
   near c k m =
       let d = towards (azimuthAt l i) in
       let g = outcome order d .gains in
       let z = accepted order d o (direction-accepted d (taken l i u h) front) in
       subst (λ (x : Float). BySquares matrixBits (number x) (formulaAt order l i c) (whole (channelsOf l)))
-      (sym (getD-scaled (inverseRoot (channelsOf l)) (take (channelsOfOrder order) g) c ∙ ap (λ (x : Float). mul binary64 x (inverseRoot (channelsOf l))) (getD-take (channelsOfOrder order) g c nan k)))
-      (near-one (getD g c nan) (formulaAt order l i c) (gain-near order d (outcome order d) (outcome-kept order d) z c nan (whole 0) (omega arith)))
+      (sym (getD-scaled (inverseRoot (channelsOf l)) (take (channelsOfOrder order) g) c
+      ∙ ap (λ (x : Float). mul binary64 x (inverseRoot (channelsOf l)))
+      (getD-take (channelsOfOrder order) g c nan k)))
+      (near-one (getD g c nan) (formulaAt order l i c)
+      (gain-near order d (outcome order d) (outcome-kept order d) z c nan (whole 0) (omega arith)))

@@ -14,5 +14,6 @@ by-table Surround51 n i h = refl
 by-table Surround71 n i h = refl
 by-table (Custom m) n i h = absurd (h m refl)
 
-pub computed : (l : Layout) (n i m : ℕ) (a r : Float) → l ≡ Custom m → a ≡ customAzimuth n i → r ≡ turnedBack a → r ≡ azimuthBy l n i
+pub computed : (l : Layout) (n i m : ℕ) (a r : Float) → l ≡ Custom m → a ≡ customAzimuth n i → r ≡ turnedBack a
+    → r ≡ azimuthBy l n i
 computed l n i m a r e h t = t ∙ ap turnedBack h ∙ sym (ap (λ (k : Layout). azimuthBy k n i) e)

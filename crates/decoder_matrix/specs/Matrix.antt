@@ -1,4 +1,5 @@
--- Document 01, 'Gains', decoder matrix: "harmonics at the speaker times 1/root(n)", a row a speaker, a weight a channel. Definitions only.
+-- Document 01, 'Gains', decoder matrix: "harmonics at the speaker times 1/root(n)", a row a speaker, a weight a
+-- channel. Definitions only.
 use Prim.Native.Nat.{ℕ}
 use mathlib.Core.List.{List, flatten}
 use lib.ListN.{getD, take}

@@ -1,5 +1,6 @@
--- Document 01, 'Gains', decoder matrix: "LFE takes the 0 degree row. Stereo is 30, -30; Mono 0; Custom speaker i sits at i x (360/n) - 90, each operation rounded once." Definitions only.
--- An azimuth above 180 is turned back by 360, so that it is one that the harmonics take; the defined sine and cosine reduce by 360 anyway.
+-- Document 01, 'Gains', decoder matrix: "LFE takes the 0 degree row. Stereo is 30, -30; Mono 0; Custom speaker i sits
+-- at i x (360/n) - 90, each operation rounded once." Definitions only. An azimuth above 180 is turned back by 360, so
+-- that it is one that the harmonics take; the defined sine and cosine reduce by 360 anyway.
 use Prim.Native.Nat.{ℕ}
 use mathlib.Core.Bool.{cond}
 use lib.IntN.{pos}
@@ -11,7 +12,8 @@ use Rattle.channel.specs.Layouts.{channelsOf, azimuthOf}
 use Rattle.harmonics.specs.declared.Direction.{Direction}
 
 unfoldable pub customAzimuth : ℕ → ℕ → Float
-customAzimuth n i = sub binary64 (mul binary64 (float (pos i)) (div binary64 (float (pos 360)) (float (pos n)))) (float (pos 90))
+customAzimuth n i =
+    sub binary64 (mul binary64 (float (pos i)) (div binary64 (float (pos 360)) (float (pos n)))) (float (pos 90))
 
 unfoldable pub turnedBack : Float → Float
 turnedBack a = cond (lt (float (pos 180)) a) (sub binary64 a (float (pos 360))) a

@@ -60,7 +60,8 @@ fn put_speaker(
     at: usize,
 )
     requires { ⌜ channels ≤ 16 ⌝ }
-    ensures { λ _. ⌜ now (weights .exit) ≡ sets (now (weights .entry)) at (scaled scale (take channels (outcome order (towards azimuth) .gains))) ⌝ }
+    ensures { λ _. ⌜ now (weights .exit) ≡ sets (now (weights .entry)) at
+        (scaled scale (take channels (outcome order (towards azimuth) .gains))) ⌝ }
 {
     let direction = Direction {
         azimuth,
@@ -74,7 +75,8 @@ fn put_speaker(
 // Puts the rows of the n speakers, one behind another.
 fn put_speakers(order: usize, layout: Layout, n: u32, channels: usize, weights: &mut [f64])
     requires { ⌜ (n ≤ 16) × (channels ≤ 16) ⌝ }
-    ensures { λ _. ⌜ now (weights .exit) ≡ putRows channels (now (weights .entry)) 0 (rowsBy order layout n channels) ⌝ }
+    ensures { λ _. ⌜ now (weights .exit) ≡ putRows channels (now (weights .entry)) 0
+        (rowsBy order layout n channels) ⌝ }
 {
     let inverse = numbers::inverse_root(n);
     let scale = inverse.value;
@@ -90,7 +92,8 @@ fn put_speakers(order: usize, layout: Layout, n: u32, channels: usize, weights: 
 
 // The matrix of an order and a layout, speakers x channels; the refusal.
 pub fn compute_decoder_matrix(order: usize, layout: Layout, weights: &mut [f64]) -> u8
-    ensures { λ r. ⌜ Computes order layout (now (weights .entry)) (record { refusal = r; weights = now (weights .exit) }) ⌝ }
+    ensures { λ r. ⌜ Computes order layout (now (weights .entry))
+        (record { refusal = r; weights = now (weights .exit) }) ⌝ }
 {
     let ambisonic = channel::ambisonic_channel_count(order);
     if ambisonic.refusal != 0 {

@@ -61,6 +61,7 @@ module _ (sample : ℕ → Float) (count : ℕ) (room : List ℕ) where
 
 -- it is a line of frames: sample i belongs to frame i / 6, and there to channel i % 6
 pub line-frames : (sample : ℕ → ℕ → Float)
-    → floatBytes (tab 0 192 (λ i. sample (i % 6) (i / 6))) ≡ flatMap floatBytes (tab 0 32 (λ n. tab 0 6 (λ p. sample p n)))
+    → floatBytes (tab 0 192 (λ i. sample (i % 6) (i / 6))) ≡ flatMap floatBytes
+    (tab 0 32 (λ n. tab 0 6 (λ p. sample p n)))
 unfolding fieldBytes flatMap bytesOf
 line-frames sample = refl

@@ -55,7 +55,8 @@ ls-first : (line : List ℕ) → Places bytes120 (record { refusal = 0; line = l
 unfolding fieldBytes flatMap bytesOf toBits rounded round mul
 ls-first line p =
     let accepted : refusalAt bytes120 ≡ 0 =
-    sym (refusal-is Surround51 (doubleAt bytes120 0)) ∙ ap (λ (x : Float). outcome Surround51 x .refusal) azimuth-is ∙ ap (λ (g : SurroundGains). g .refusal) at-120 in
+    sym (refusal-is Surround51 (doubleAt bytes120 0)) ∙ ap (λ (x : Float). outcome Surround51 x .refusal) azimuth-is
+    ∙ ap (λ (g : SurroundGains). g .refusal) at-120 in
     ap (λ (r : Placed). getD (r .line) 16 0) (played-is bytes120 _ p accepted)
     ∙ (λ j. ls-byte (outcome Surround51 (azimuth-is j) .gains) (voice-is j))
     ∙ ap (λ (g : SurroundGains). ls-byte (g .gains) voice) at-120

@@ -30,7 +30,8 @@ shapeAt bytes = record { command = commandAt bytes; layout = Surround51; frames 
 abbrev pub refusalAt : List ℕ → ℕ
 refusalAt bytes = firstOf (3 when noAngle (commandAt bytes) ∷ [])
 
--- the frames that the panner plays, one after the other, each a sample of L, R, C, LFE, Ls and Rs; or the refusal and no sound
+-- the frames that the panner plays, one after the other, each a sample of L, R, C, LFE, Ls and Rs; or the refusal and
+-- no sound
 abbrev pub placedAt : List ℕ → Placed
 placedAt bytes =
     answered (refusalAt bytes)

@@ -8,7 +8,8 @@ use Rattle.numbers.specs.Promise.{Root}
 use Rattle.numbers.proofs.Drill.{root-four, root-two, tie-down, tie-up}
 use Rattle.harmonics.proofs.Drill.{drill-1, drill-1-floats, drill-2, drill-2-floats, drill-3, drill-3-floats}
 use Rattle.stereo.proofs.Drill.{left-at-minus-100, right-at-minus-100, left-at-250, right-at-250, at-minus-100, at-250}
-use Rattle.surround.proofs.Drill.{silent-at-120, only-ls, silent-at-0, centre, left-and-right, centre-loudest, at-120, at-0}
+use Rattle.surround.proofs.Drill.{silent-at-120, only-ls, silent-at-0, centre, left-and-right, centre-loudest, at-120}
+use Rattle.surround.proofs.Drill.{at-0}
 use Rattle.hrtf_history.proofs.Drill.{drill-8, drill-9, drill-9-each, drill-9-heard}
 use Rattle.bank_choice.proofs.Drill.{drill-tie}
 use Rattle.bank.proofs.Drill.{drill-written, drill-forward, drill-back, drill-read, drill-cut}

@@ -1,4 +1,5 @@
--- A NaN in one channel damages a frame at all weights, since every sum over it is NaN; and so does a sample whose product with the gain of a channel is NaN. Assumes nothing.
+-- A NaN in one channel damages a frame at all weights, since every sum over it is NaN; and so does a sample whose
+-- product with the gain of a channel is NaN. Assumes nothing.
 use mathlib.Core.Path.{_≡_, refl, sym, ap, _∙_, subst}
 use mathlib.Core.Bool.{true, not, _||_}
 use mathlib.Core.List.{List, [], _∷_, _++_}
@@ -33,17 +34,20 @@ first-nan : (n : ℕ) (f : ℕ → Float) → 0 < n → f 0 ≡ nan → hasNonfi
 first-nan zero f h e = absurd (not-suc-le-zero h)
 first-nan (suc n) f h e = ap (λ (x : Float). not (finite x) || hasNonfinite (tab 1 n f)) e
 
-channel-damages : (u : Setup) → 0 < u .speakers → length (u .weights) ≡ u .speakers * u .channels → (f : List Float) (c : ℕ) → c < u .channels → c < length f → getD f c nan ≡ nan → damaged u f ≡ true
+channel-damages : (u : Setup) → 0 < u .speakers → length (u .weights) ≡ u .speakers * u .channels
+    → (f : List Float) (c : ℕ) → c < u .channels → c < length f → getD f c nan ≡ nan → damaged u f ≡ true
 channel-damages u some weighed f c hc hf e =
     first-nan (u .speakers) (λ s. signal u s f) some
-    (mixed-nan (chunk (u .channels) 0 (u .weights)) f c hf (subst (λ (n : ℕ). c < n) (sym (length-row (u .channels) 0 (u .speakers) (u .weights) some weighed)) hc) e)
+    (mixed-nan (chunk (u .channels) 0 (u .weights)) f c hf
+    (subst (λ (n : ℕ). c < n) (sym (length-row (u .channels) 0 (u .speakers) (u .weights) some weighed)) hc) e)
 
 -- ---- a run that is fed something has speakers, and weights for all of them
 
 abbrev Weighed : Setup → Type 0
 Weighed u = (0 < u .speakers) × (length (u .weights) ≡ u .speakers * u .channels)
 
-weighed-by : (u : Setup) (c : Call) (t : State) → (refusalOf c t ≡ 0 → SameFilters (setup c) u) → (n : ℕ) → refusalOf c t ≡ n → (fs : List (List Float)) → (0 < length fs → Weighed u)
+weighed-by : (u : Setup) (c : Call) (t : State) → (refusalOf c t ≡ 0 → SameFilters (setup c) u) → (n : ℕ)
+    → refusalOf c t ≡ n → (fs : List (List Float)) → (0 < length fs → Weighed u)
     → 0 < length (fedBy (refusalOf c t) (framesIn c) ++ fs) → Weighed u
 weighed-by u c t a zero e fs k h =
     let same = a e in (
@@ -54,16 +58,21 @@ weighed-by u c t a (suc n) e fs k h = k (subst (λ (m : ℕ). 0 < length (fedBy 
 
 some-weighed : (u : Setup) (t : State) (cs : List Call) → Alike u t cs → 0 < length (fedAll t cs) → Weighed u
 some-weighed u t [] a h = absurd (not-suc-le-zero h)
-some-weighed u t (c ∷ cs) a h = weighed-by u c t (a .0) (refusalOf c t) refl (fedAll (next c t) cs) (some-weighed u (next c t) cs (a .1)) h
+some-weighed u t (c ∷ cs) a h =
+    weighed-by u c t (a .0) (refusalOf c t) refl (fedAll (next c t) cs) (some-weighed u (next c t) cs (a .1)) h
 
 -- ---- a drill
 
-module _ (u : Setup) (d : Drill) (a : Alike u (d .start) (d .plays)) (channels : u .channels ≡ channelsOfOrder (d .order)) (is : fed d ≡ encoded d) where
-  pub product-damages : (n : ℕ) → n < length (encoded d) → (v : Direction) → voiceAt (d .cues) (d .first + n) ≡ speaking v → (p : ℕ) → p < channelsOfOrder (d .order)
-      → mul binary32 (getD (samples d) n nan) (getD (gainsAt (d .order) v) p nan) ≡ nan → damaged u (getD (encoded d) n []) ≡ true
+module _ (u : Setup) (d : Drill) (a : Alike u (d .start) (d .plays))
+    (channels : u .channels ≡ channelsOfOrder (d .order)) (is : fed d ≡ encoded d) where
+  pub product-damages : (n : ℕ) → n < length (encoded d) → (v : Direction)
+      → voiceAt (d .cues) (d .first + n) ≡ speaking v → (p : ℕ) → p < channelsOfOrder (d .order)
+      → mul binary32 (getD (samples d) n nan) (getD (gainsAt (d .order) v) p nan) ≡ nan
+      → damaged u (getD (encoded d) n []) ≡ true
   product-damages n l v at p c e =
       ap (damaged u) frame
-      ∙ channel-damages u (some .0) (some .1) (tab 0 planes product) p (subst (λ (m : ℕ). p < m) (sym channels) c) (subst (λ (m : ℕ). p < m) (sym (length-tab 0 planes product)) c) there
+      ∙ channel-damages u (some .0) (some .1) (tab 0 planes product) p (subst (λ (m : ℕ). p < m) (sym channels) c)
+      (subst (λ (m : ℕ). p < m) (sym (length-tab 0 planes product)) c) there
     where
       planes : ℕ
       planes = channelsOfOrder (d .order)
@@ -75,7 +84,8 @@ module _ (u : Setup) (d : Drill) (a : Alike u (d .start) (d .plays)) (channels :
       frame = encoded-at d n l ∙ ap (λ (w : Voice). spoken (d .order) w (getD (samples d) n nan)) at
 
       some : Weighed u
-      some = some-weighed u (d .start) (d .plays) a (subst (λ (fs : List (List Float)). 0 < length fs) (sym is) (omega (arith, l)))
+      some = some-weighed u (d .start) (d .plays) a
+          (subst (λ (fs : List (List Float)). 0 < length fs) (sym is) (omega (arith, l)))
 
       there : getD (tab 0 planes product) p nan ≡ nan
       there = getD-tab 0 planes product p nan c ∙ ap product (zero-add p) ∙ e

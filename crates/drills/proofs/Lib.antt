@@ -1,4 +1,5 @@
--- The theorems of demand 3 on the frames after encoding, and of what is damage there; that there are drills, three that are worked out, and the readings and answers that are refuted.
+-- The theorems of demand 3 on the frames after encoding, and of what is damage there; that there are drills, three that
+-- are worked out, and the readings and answers that are refuted.
 mod Passing
 mod Silence
 mod Damage

@@ -1,5 +1,6 @@
--- Wrong readings of demand 3, and wrong answers in a drill, each held against what is promised: the samples before encoding compared, damage judged on them, a frame before the first cue counted as unsettled,
--- an infinite sample at a gain of 0.0 counted otherwise, and other ears than those of a drill that agrees after encoding. Assumes nothing.
+-- Wrong readings of demand 3, and wrong answers in a drill, each held against what is promised: the samples before
+-- encoding compared, damage judged on them, a frame before the first cue counted as unsettled, an infinite sample at a
+-- gain of 0.0 counted otherwise, and other ears than those of a drill that agrees after encoding. Assumes nothing.
 use mathlib.Core.Path.{_≡_, refl, sym, ap, _∙_, subst}
 use mathlib.Core.Bool.{Bool, false, not, cond, true≢false}
 use mathlib.Core.List.{List, [], _∷_}
@@ -26,22 +27,31 @@ use Rattle.hrtf_runs.specs.Demand.{damagedAmong}
 use Rattle.drills.specs.Drills.{Drill, samples, encoded, heard, Drilled}
 use Rattle.drills.specs.Demand.{Agree}
 use Rattle.drills.proofs.Demand.{drill-fed, drill-demand-3, before-settled}
-use Rattle.drills.proofs.Worked.{four, one, unheard, samples-are, one-encoded, one-drilled, unheard-drilled, one-heard, unheard-heard, silent-call, refused-call, one-call, infinite-call, infinite-counts}
+use Rattle.drills.proofs.Worked.{four, one, unheard, samples-are, one-encoded, one-drilled, unheard-drilled}
+use Rattle.drills.proofs.Worked.{one-heard, unheard-heard, silent-call, refused-call, one-call, infinite-call}
+use Rattle.drills.proofs.Worked.{infinite-counts}
 
 -- ---- demand 3 read on the samples before encoding: two drills with the same samples sound the same
-before-encoding : ((u : Setup) (d e : Drill) → Drilled u d → Drilled u e → samples d ≡ samples e → heard d ≡ heard e) → ⊥
+before-encoding : ((u : Setup) (d e : Drill) → Drilled u d → Drilled u e → samples d ≡ samples e → heard d ≡ heard e)
+    → ⊥
 before-encoding h =
-    true≢false (ap (λ (l : List (List Float)). positive (getD (getD l 1 []) 0 nan)) (sym one-heard ∙ h four one unheard one-drilled unheard-drilled (samples-are _) ∙ unheard-heard))
+    true≢false (ap (λ (l : List (List Float)). positive (getD (getD l 1 []) 0 nan))
+    (sym one-heard ∙ h four one unheard one-drilled unheard-drilled (samples-are _) ∙ unheard-heard))
 
 -- ---- damage judged on the samples: frame 0 of the worked drill is a NaN before the first cue
-judged-on-samples : ((u : Setup) (d : Drill) → Drilled u d → (n : ℕ) → n < length (encoded d) → damaged u (getD (encoded d) n []) ≡ not (finite (getD (samples d) n nan))) → ⊥
+judged-on-samples : ((u : Setup) (d : Drill) → Drilled u d → (n : ℕ) → n < length (encoded d)
+    → damaged u (getD (encoded d) n []) ≡ not (finite (getD (samples d) n nan))) → ⊥
 judged-on-samples h =
-    let some : 0 < length (encoded one) = subst (λ (fs : List (List Float)). 0 < length fs) (sym one-encoded) (lit< tt) in
-    true≢false (ap (λ (l : List Float). not (finite (getD l 0 nan))) (sym (samples-are _)) ∙ sym (h four one one-drilled 0 some) ∙ drill-demand-3 .silent four one one-drilled 0 some refl)
+    let some : 0 < length (encoded one) = subst (λ (fs : List (List Float)). 0 < length fs) (sym one-encoded)
+    (lit< tt) in
+    true≢false (ap (λ (l : List Float). not (finite (getD l 0 nan))) (sym (samples-are _))
+    ∙ sym (h four one one-drilled 0 some) ∙ drill-demand-3 .silent four one one-drilled 0 some refl)
 
 -- ---- an invented count for the infinite sample: two frames are unsettled
-invented : (o : BlockOutcome) → Processes infinite-call (next refused-call (next silent-call (fresh four))) o → (n : ℕ) → (n ≡ 2 → ⊥) → o .answer .unsettled ≡ n → ⊥
-invented o p n other e = other (sym e ∙ ap (λ (q : BlockOutcome). q .answer .unsettled) (p .bits) ∙ ap (λ (l : List ℕ). getD l 2 0) infinite-counts)
+invented : (o : BlockOutcome) → Processes infinite-call (next refused-call (next silent-call (fresh four))) o → (n : ℕ)
+    → (n ≡ 2 → ⊥) → o .answer .unsettled ≡ n → ⊥
+invented o p n other e = other (sym e ∙ ap (λ (q : BlockOutcome). q .answer .unsettled) (p .bits)
+    ∙ ap (λ (l : List ℕ). getD l 2 0) infinite-counts)
 
 -- ---- the first call of any drill, and what answers it
 
@@ -54,14 +64,27 @@ none-counted i (suc n) f h =
 
 -- a drill that begins with this call
 abbrev begun : Drill → Call → List Call → Drill
-begun d c cs = record { cues = d .cues; order = d .order; first = d .first; renders = d .renders; start = d .start; plays = c ∷ cs }
+begun d c cs = record {
+  cues = d .cues;
+  order = d .order;
+  first = d .first;
+  renders = d .renders;
+  start = d .start;
+  plays = c ∷ cs;
+}
 
-module _ (u : Setup) (d : Drill) (c : Call) (cs : List Call) (h : Drilled u (begun d c cs)) (o : BlockOutcome) (p : Processes c (d .start) o) where
+module _ (u : Setup) (d : Drill) (c : Call) (cs : List Call) (h : Drilled u (begun d c cs)) (o : BlockOutcome)
+    (p : Processes c (d .start) o) where
   fed-among : length (fedTo c (d .start)) ≤ length (encoded d)
-  fed-among = omega (arith, length-append (fedTo c (d .start)) (fedAll (next c (d .start)) cs), ap length (drill-fed u (begun d c cs) h))
+  fed-among = omega (
+    arith,
+    length-append (fedTo c (d .start)) (fedAll (next c (d .start)) cs),
+    ap length (drill-fed u (begun d c cs) h),
+  )
 
   -- its frames are before the first cue, and one is counted as unsettled: whatever the samples are
-  counted-before : ((n : ℕ) → n < length (fedTo c (d .start)) → Before (d .cues) (d .first + n)) → (n : ℕ) → o .answer .unsettled ≡ suc n → ⊥
+  counted-before : ((n : ℕ) → n < length (fedTo c (d .start)) → Before (d .cues) (d .first + n)) → (n : ℕ)
+      → o .answer .unsettled ≡ suc n → ⊥
   counted-before b n e =
       suc-ne-zero n
       (sym e
@@ -81,18 +104,22 @@ module _ (u : Setup) (d : Drill) (c : Call) (cs : List Call) (h : Drilled u (beg
         drill-demand-3 .all u (begun d c cs) h,
       )
 
-  ears-heard : (n ear : ℕ) → n < o .answer .samples → ear < 2 → sampleAt (o .ears) (c .stride) ear n ≡ getD (getD (heard (begun d c cs)) n []) ear nan
+  ears-heard : (n ear : ℕ) → n < o .answer .samples → ear < 2
+      → sampleAt (o .ears) (c .stride) ear n ≡ getD (getD (heard (begun d c cs)) n []) ear nan
   ears-heard n ear l k =
-      subst (λ (q : BlockOutcome). n < q .answer .samples → sampleAt (q .ears) (c .stride) ear n ≡ getD (getD (heard (begun d c cs)) n []) ear nan) (sym (p .bits)) promised l
+      subst (λ (q : BlockOutcome). n < q .answer .samples → sampleAt (q .ears) (c .stride) ear n
+      ≡ getD (getD (heard (begun d c cs)) n []) ear nan) (sym (p .bits)) promised l
     where
       q : BlockOutcome
       q = outcome c (d .start)
 
-      promised : n < q .answer .samples → sampleAt (q .ears) (c .stride) ear n ≡ getD (getD (heard (begun d c cs)) n []) ear nan
+      promised : n < q .answer .samples → sampleAt (q .ears) (c .stride) ear n ≡ getD (getD (heard (begun d c cs)) n [])
+          ear nan
       promised m =
           sym
           (ap (λ (f : List Float). getD f ear nan)
-          (List·getD-append (sounded c (d .start)) (soundedAll (next c (d .start)) cs) [] n (omega (arith, m, length-tab 0 (q .answer .samples) (frameAt (q .ears) (c .stride) 2)))
+          (List·getD-append (sounded c (d .start)) (soundedAll (next c (d .start)) cs) [] n
+          (omega (arith, m, length-tab 0 (q .answer .samples) (frameAt (q .ears) (c .stride) 2)))
           ∙ getD-tab 0 (q .answer .samples) (frameAt (q .ears) (c .stride) 2) n [] m
           ∙ ap (frameAt (q .ears) (c .stride) 2) (zero-add n))
           ∙ getD-tab 0 2 (λ s. sampleAt (q .ears) (c .stride) s n) ear nan k
@@ -104,15 +131,20 @@ unfolding refusalOf
 one-fed = refl
 
 nan-counted : (o : BlockOutcome) → Processes silent-call (fresh four) o → (n : ℕ) → o .answer .unsettled ≡ suc n → ⊥
-nan-counted o p = counted-before four one silent-call (refused-call ∷ one-call ∷ []) one-drilled o p (λ n l. omega (arith, l, one-fed))
+nan-counted o p = counted-before four one silent-call (refused-call ∷ one-call ∷ []) one-drilled o p
+    (λ n l. omega (arith, l, one-fed))
 
 -- other ears than another drill's, at frames that agree after encoding with the L-1 before them
-other-ears : (u : Setup) (d₁ d₂ : Drill) (c₁ c₂ : Call) (cs₁ cs₂ : List Call) → Drilled u (begun d₁ c₁ cs₁) → Drilled u (begun d₂ c₂ cs₂)
-    → (o₁ o₂ : BlockOutcome) → Processes c₁ (d₁ .start) o₁ → Processes c₂ (d₂ .start) o₂ → (n m : ℕ) → n < o₁ .answer .samples → m < o₂ .answer .samples → Agree u d₁ n d₂ m
+other-ears : (u : Setup) (d₁ d₂ : Drill) (c₁ c₂ : Call) (cs₁ cs₂ : List Call) → Drilled u (begun d₁ c₁ cs₁)
+    → Drilled u (begun d₂ c₂ cs₂)
+    → (o₁ o₂ : BlockOutcome) → Processes c₁ (d₁ .start) o₁ → Processes c₂ (d₂ .start) o₂ → (n m : ℕ)
+    → n < o₁ .answer .samples → m < o₂ .answer .samples → Agree u d₁ n d₂ m
     → (ear : ℕ) → ear < 2 → (sampleAt (o₁ .ears) (c₁ .stride) ear n ≡ sampleAt (o₂ .ears) (c₂ .stride) ear m → ⊥) → ⊥
 other-ears u d₁ d₂ c₁ c₂ cs₁ cs₂ h₁ h₂ o₁ o₂ p₁ p₂ n m l₁ l₂ a ear k other =
     other
     (ears-heard u d₁ c₁ cs₁ h₁ o₁ p₁ n ear l₁ k
     ∙ ap (λ (f : List Float). getD f ear nan)
-    (drill-demand-3 .equal u (begun d₁ c₁ cs₁) (begun d₂ c₂ cs₂) h₁ h₂ n m (omega (arith, l₁, played-among u d₁ c₁ cs₁ h₁ o₁ p₁)) (omega (arith, l₂, played-among u d₂ c₂ cs₂ h₂ o₂ p₂)) a)
+    (drill-demand-3 .equal u (begun d₁ c₁ cs₁) (begun d₂ c₂ cs₂) h₁ h₂ n m
+    (omega (arith, l₁, played-among u d₁ c₁ cs₁ h₁ o₁ p₁)) (omega (arith, l₂, played-among u d₂ c₂ cs₂ h₂ o₂ p₂))
+    a)
     ∙ sym (ears-heard u d₂ c₂ cs₂ h₂ o₂ p₂ m ear l₂ k))

@@ -1,5 +1,6 @@
--- The premises can be met: three drills worked out from the cues to the ears. Four samples at order 1, the first a NaN; two calls of `render` with a refused one between, and two calls of `process`, cut elsewhere,
--- with a refused one between. By computing the definitions. Assumes nothing.
+-- The premises can be met: three drills worked out from the cues to the ears. Four samples at order 1, the first a NaN;
+-- two calls of `render` with a refused one between, and two calls of `process`, cut elsewhere, with a refused one
+-- between. By computing the definitions. Assumes nothing.
 use mathlib.Core.Path.{_≡_, refl, sym, ap, _∙_}
 use mathlib.Core.Bool.{false}
 use mathlib.Core.List.{List, [], _∷_, flatten}
@@ -12,7 +13,8 @@ use Rattle.formats.specs.Floats.{zero-float, one-float, half-float}
 use Rattle.numbers.specs.Computed as Numbers
 use Rattle.numbers.specs.Computed.{rootOf, rootUnits, wholeRoot, rootIn}
 use Rattle.series.specs.Angles.{turned}
-use Rattle.angles.specs.Computed.{units as units-of, cut, place, short, times, radians, nesting, nest, rounded, sineAt, cosineAt, computed}
+use Rattle.angles.specs.Computed.{units as units-of, cut, place, short, times, radians, nesting, nest, rounded}
+use Rattle.angles.specs.Computed.{sineAt, cosineAt, computed}
 use Rattle.angles.specs.Limits.{isInside, refusesAngle}
 use Rattle.planes.specs.Sums.{mixed}
 use Rattle.numbers.specs.Normalization.{inverseRoot}
@@ -42,7 +44,15 @@ use Rattle.drills.specs.Drills.{Drill, encoded, heard, Drilled}
 
 -- the speaker and the filters of drill table 8, which hears the first of four channels
 abbrev pub four : Setup
-four = record { channels = 4; speakers = 1; L = 2; weights = one-float ∷ zero-float ∷ zero-float ∷ zero-float ∷ []; taps = drill .taps; rows = drill .rows }
+four = record {
+  channels = 4;
+  speakers = 1;
+  L = 2;
+  weights = one-float ∷ zero-float ∷ zero-float ∷ zero-float
+      ∷ [];
+  taps = drill .taps;
+  rows = drill .rows;
+}
 
 -- a NaN and a sample; a call of more frames than its stride; and two samples of silence
 abbrev renders : Float → List Script.RenderCall
@@ -66,7 +76,8 @@ block weight n planes =
       ears = replicate (2 * n) nan;
     }
 
--- a frame of silence; a call with a NaN for a weight; and a frame of which the first channel and the last are w and the two between are y, with two of silence behind it
+-- a frame of silence; a call with a NaN for a weight; and a frame of which the first channel and the last are w and the
+-- two between are y, with two of silence behind it
 abbrev pub silent-call : Call
 silent-call = block one-float 1 (replicate 4 zero-float)
 
@@ -74,13 +85,15 @@ abbrev pub refused-call : Call
 refused-call = block nan 1 (replicate 4 one-float)
 
 abbrev sounding-call : Float → Float → Call
-sounding-call w y = block one-float 3 (w ∷ zero-float ∷ zero-float ∷ y ∷ zero-float ∷ zero-float ∷ y ∷ zero-float ∷ zero-float ∷ w ∷ zero-float ∷ zero-float ∷ [])
+sounding-call w y = block one-float 3 (w ∷ zero-float ∷ zero-float ∷ y ∷ zero-float ∷ zero-float ∷ y ∷ zero-float
+    ∷ zero-float ∷ w ∷ zero-float ∷ zero-float ∷ [])
 
 abbrev plays : Float → Float → List Call
 plays w y = silent-call ∷ refused-call ∷ sounding-call w y ∷ []
 
 abbrev pub worked : List Cue → Float → Float → Float → Drill
-worked cues x w y = record { cues = cues; order = 1; first = 0; renders = renders x; start = fresh four; plays = plays w y }
+worked cues x w y =
+    record { cues = cues; order = 1; first = 0; renders = renders x; start = fresh four; plays = plays w y }
 
 -- a cue in front from frame 1 on
 abbrev pub front : List Cue
@@ -91,16 +104,24 @@ silent = replicate 4 zero-float
 
 -- ---- the run
 
-rested : Resets (record { position = 7; «to_go» = 7 }) 1 2 (nan ∷ nan ∷ []) (record { answer = record { refusal = 0; desk = zeroed }; rings = zero-float ∷ zero-float ∷ [] })
+rested : Resets (record { position = 7; «to_go» = 7 }) 1 2 (nan ∷ nan ∷ [])
+    (record { answer = record { refusal = 0; desk = zeroed }; rings = zero-float ∷ zero-float ∷ [] })
 unfolding resetRefusal
-rested = reset-accepted (record { position = 7; «to_go» = 7 }) 1 2 (nan ∷ nan ∷ []) (zero-float ∷ zero-float ∷ []) refl refl
+rested = reset-accepted (record { position = 7; «to_go» = 7 }) 1 2 (nan ∷ nan ∷ []) (zero-float ∷ zero-float ∷ []) refl
+    refl
 
 alike : (w y : Float) → Alike four (fresh four) (plays w y)
 unfolding refusalOf outcome flatten mixed Numbers.rounded add mul ieee.sum round size span climb units odd
 alike w y = (λ e. same-filters four, (λ e. absurd (suc-ne-zero 6 e), (λ e. same-filters four, tt)))
 
 run : (w y : Float) → Run four (fresh four) (plays w y)
-run w y = record { desk = record { position = 7; «to_go» = 7 }; rings = nan ∷ nan ∷ []; reset = rested; finite = refl; alike = alike w y }
+run w y = record {
+  desk = record { position = 7; «to_go» = 7 };
+  rings = nan ∷ nan ∷ [];
+  reset = rested;
+  finite = refl;
+  alike = alike w y;
+}
 
 -- whether the last call is accepted hangs on the frames to go that the first leaves, so it is computed
 fed-is : (w y : Float) → fedAll (fresh four) (plays w y) ≡ silent ∷ (w ∷ y ∷ y ∷ w ∷ []) ∷ silent ∷ silent ∷ []
@@ -109,21 +130,27 @@ fed-is w y = refl
 
 -- ---- the drills
 
-drilled : (cues : List Cue) (x w y : Float) → encoded (worked cues x w y) ≡ silent ∷ (w ∷ y ∷ y ∷ w ∷ []) ∷ silent ∷ silent ∷ [] → Drilled four (worked cues x w y)
-drilled cues x w y e = record { run = run w y; channels = refl; passed = fed-is w y ∙ sym (stretches cues 1 0 (renders x) ∙ e) }
+drilled : (cues : List Cue) (x w y : Float) → encoded (worked cues x w y) ≡ silent ∷ (w ∷ y ∷ y ∷ w ∷ []) ∷ silent
+    ∷ silent ∷ [] → Drilled four (worked cues x w y)
+drilled cues x w y e =
+    record { run = run w y; channels = refl; passed = fed-is w y ∙ sym (stretches cues 1 0 (renders x) ∙ e) }
 
 pub samples-are : (x : Float) → Script.fedAll front 1 0 (renders x) ≡ nan ∷ x ∷ zero-float ∷ zero-float ∷ []
 unfolding refusesAngle isInside lt le eq ofInt neg sub add mul round
 samples-are x = refl
 
 -- 1.0 in front: the gains are 1, 0, 0, 1
-one-rendered : rendered front 1 0 (nan ∷ one-float ∷ zero-float ∷ zero-float ∷ []) ≡ silent ∷ (one-float ∷ zero-float ∷ zero-float ∷ one-float ∷ []) ∷ silent ∷ silent ∷ []
-unfolding Numbers.rounded refusesAngle isInside upTo wavesOf sin cos lt le eq computed place cut units-of turned sineAt cosineAt short times radians nesting nest rounded ofInt div neg add sub mul round
+one-rendered : rendered front 1 0 (nan ∷ one-float ∷ zero-float ∷ zero-float ∷ []) ≡ silent
+    ∷ (one-float ∷ zero-float ∷ zero-float ∷ one-float ∷ []) ∷ silent ∷ silent ∷ []
+unfolding Numbers.rounded refusesAngle isInside upTo wavesOf sin cos lt le eq computed place cut units-of turned sineAt
+    cosineAt short times radians nesting nest rounded ofInt div neg add sub mul round
 one-rendered = refl
 
 -- an infinite sample there is NaN where the gain is 0.0
-infinite-rendered : rendered front 1 0 (nan ∷ inf false ∷ zero-float ∷ zero-float ∷ []) ≡ silent ∷ (inf false ∷ nan ∷ nan ∷ inf false ∷ []) ∷ silent ∷ silent ∷ []
-unfolding Numbers.rounded refusesAngle isInside upTo wavesOf sin cos lt le eq computed place cut units-of turned sineAt cosineAt short times radians nesting nest rounded ofInt div neg add sub mul round
+infinite-rendered : rendered front 1 0 (nan ∷ inf false ∷ zero-float ∷ zero-float ∷ []) ≡ silent
+    ∷ (inf false ∷ nan ∷ nan ∷ inf false ∷ []) ∷ silent ∷ silent ∷ []
+unfolding Numbers.rounded refusesAngle isInside upTo wavesOf sin cos lt le eq computed place cut units-of turned sineAt
+    cosineAt short times radians nesting nest rounded ofInt div neg add sub mul round
 infinite-rendered = refl
 
 abbrev pub one : Drill
@@ -149,25 +176,34 @@ pub one-drilled : Drilled four one
 one-drilled = drilled front one-float one-float zero-float one-encoded
 
 pub infinite-drilled : Drilled four infinite
-infinite-drilled = drilled front (inf false) (inf false) nan (ap (rendered front 1 0) (samples-are (inf false)) ∙ infinite-rendered)
+infinite-drilled =
+    drilled front (inf false) (inf false) nan (ap (rendered front 1 0) (samples-are (inf false)) ∙ infinite-rendered)
 
 pub unheard-drilled : Drilled four unheard
 unheard-drilled = drilled [] one-float zero-float zero-float refl
 
 -- ---- what is heard: drill table 8, a frame later; and nothing
 
-pub one-heard : heard one ≡ (zero-float ∷ zero-float ∷ []) ∷ (one-float ∷ zero-float ∷ []) ∷ (half-float ∷ one-float ∷ []) ∷ (zero-float ∷ zero-float ∷ []) ∷ []
-unfolding mixed earOf inverseRoot rootOf rootUnits wholeRoot rootIn Numbers.rounded add mul div ieee.sum round size span climb units odd ofInt
-one-heard = run-heard four (fresh four) (plays one-float zero-float) (run one-float zero-float) ∙ ap (heardAfter four []) (fed-is one-float zero-float)
+pub one-heard : heard one ≡ (zero-float ∷ zero-float ∷ []) ∷ (one-float ∷ zero-float ∷ [])
+    ∷ (half-float ∷ one-float ∷ []) ∷ (zero-float ∷ zero-float ∷ []) ∷ []
+unfolding mixed earOf inverseRoot rootOf rootUnits wholeRoot rootIn Numbers.rounded add mul div ieee.sum round size span
+    climb units odd ofInt
+one-heard = run-heard four (fresh four) (plays one-float zero-float) (run one-float zero-float)
+    ∙ ap (heardAfter four []) (fed-is one-float zero-float)
 
 pub unheard-heard : heard unheard ≡ replicate 4 (zero-float ∷ zero-float ∷ [])
-unfolding mixed earOf inverseRoot rootOf rootUnits wholeRoot rootIn Numbers.rounded add mul div ieee.sum round size span climb units odd ofInt
-unheard-heard = run-heard four (fresh four) (plays zero-float zero-float) (run zero-float zero-float) ∙ ap (heardAfter four []) (fed-is zero-float zero-float)
+unfolding mixed earOf inverseRoot rootOf rootUnits wholeRoot rootIn Numbers.rounded add mul div ieee.sum round size span
+    climb units odd ofInt
+unheard-heard = run-heard four (fresh four) (plays zero-float zero-float) (run zero-float zero-float)
+    ∙ ap (heardAfter four []) (fed-is zero-float zero-float)
 
 -- the infinite sample: NaN for as long as the filters are, and then 0.0
-infinite-heard : heard infinite ≡ (zero-float ∷ zero-float ∷ []) ∷ (nan ∷ nan ∷ []) ∷ (nan ∷ nan ∷ []) ∷ (zero-float ∷ zero-float ∷ []) ∷ []
-unfolding mixed earOf inverseRoot rootOf rootUnits wholeRoot rootIn Numbers.rounded add mul div ieee.sum round size span climb units odd ofInt
-infinite-heard = run-heard four (fresh four) (plays (inf false) nan) (run (inf false) nan) ∙ ap (heardAfter four []) (fed-is (inf false) nan)
+infinite-heard : heard infinite ≡ (zero-float ∷ zero-float ∷ []) ∷ (nan ∷ nan ∷ []) ∷ (nan ∷ nan ∷ [])
+    ∷ (zero-float ∷ zero-float ∷ []) ∷ []
+unfolding mixed earOf inverseRoot rootOf rootUnits wholeRoot rootIn Numbers.rounded add mul div ieee.sum round size span
+    climb units odd ofInt
+infinite-heard = run-heard four (fresh four) (plays (inf false) nan) (run (inf false) nan)
+    ∙ ap (heardAfter four []) (fed-is (inf false) nan)
 
 -- the NaN before the first cue leaves every frame settled; the infinite sample leaves two unsettled
 one-counts : unsettledCounts (fresh four) (one .plays) ≡ 0 ∷ 0 ∷ 0 ∷ []

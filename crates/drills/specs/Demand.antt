@@ -1,4 +1,5 @@
--- Demand 3 on the frames after encoding, in the order of its words (`hrtf_runs`, specs/Demand.antt); it is shown in proofs/Demand.antt. Document 02, E1: "Demand 3 reads on the frames after encoding." Definitions only.
+-- Demand 3 on the frames after encoding, in the order of its words (`hrtf_runs`, specs/Demand.antt); it is shown in
+-- proofs/Demand.antt. Document 02, E1: "Demand 3 reads on the frames after encoding." Definitions only.
 use Prim.Native.Nat.{ℕ, suc, _+_, _<_}
 use mathlib.Core.Path.{_≡_}
 use mathlib.Core.Bool.{Bool, true, false}
@@ -43,28 +44,42 @@ pub record SameScript (d e : Drill) : Type 0 where
 
 pub record DrillDemand3 : Type 0 where
   -- planes lent to the convolver as `render` left them, one for one, feed it the frames that `render` put
-  pub handed : (u : Setup) (d : Drill) → Run u (d .start) (d .plays) → u .channels ≡ channelsOfOrder (d .order) → planesTaken d ≡ planesLeft d → Drilled u d
+  pub handed : (u : Setup) (d : Drill) → Run u (d .start) (d .plays) → u .channels ≡ channelsOfOrder (d .order)
+      → planesTaken d ≡ planesLeft d → Drilled u d
   -- "the frames after encoding" are those that the convolver is fed
   pub after-encoding : (u : Setup) (d : Drill) → Drilled u d → fed d ≡ encoded d
   -- every frame that is encoded is played
   pub all : (u : Setup) (d : Drill) → Drilled u d → length (heard d) ≡ length (encoded d)
   -- (a) "both ear samples at n are document 01's sums"
-  pub sums : (u : Setup) (d : Drill) → Drilled u d → (n : ℕ) → n < length (encoded d) → getD (heard d) n [] ≡ earSamples u (upto u (encoded d) n)
-  -- (b) "If they agree on frame n and the L-1 frames before it", they are "equal in both runs, whatever NaN or noise came earlier": whatever the cues, the frame numbers and the samples are
-  pub equal : (u : Setup) (d e : Drill) → Drilled u d → Drilled u e → (n m : ℕ) → n < length (encoded d) → m < length (encoded e) → Agree u d n e m → getD (heard d) n [] ≡ getD (heard e) m []
+  pub sums : (u : Setup) (d : Drill) → Drilled u d → (n : ℕ) → n < length (encoded d)
+      → getD (heard d) n [] ≡ earSamples u (upto u (encoded d) n)
+  -- (b) "If they agree on frame n and the L-1 frames before it", they are "equal in both runs, whatever NaN or noise
+  -- came earlier": whatever the cues, the frame numbers and the samples are
+  pub equal : (u : Setup) (d e : Drill) → Drilled u d → Drilled u e → (n m : ℕ) → n < length (encoded d)
+      → m < length (encoded e) → Agree u d n e m → getD (heard d) n [] ≡ getD (heard e) m []
   -- and they are both unsettled there, or both settled
-  pub settled : (u : Setup) (d e : Drill) → Drilled u d → Drilled u e → (n m : ℕ) → Agree u d n e m → damagedAmong u (encoded d) n ≡ damagedAmong u (encoded e) m
+  pub settled : (u : Setup) (d e : Drill) → Drilled u d → Drilled u e → (n m : ℕ) → Agree u d n e m
+      → damagedAmong u (encoded d) n ≡ damagedAmong u (encoded e) m
   -- (c) "Each call's unsettled count is exactly the number of its frames with a damaged frame among those L"
-  pub counts : (u : Setup) (d : Drill) → Drilled u d → unsettledCounts (d .start) (d .plays) ≡ damagedCounts u (encoded d) 0 (d .start) (d .plays)
-  -- "before the first cue every output is 0.0": where nobody speaks no frame is damaged, whatever the sample; and until somebody has spoken every frame is settled
-  pub silent : (u : Setup) (d : Drill) → Drilled u d → (n : ℕ) → n < length (encoded d) → voiceAt (d .cues) (d .first + n) ≡ nobody → damaged u (getD (encoded d) n []) ≡ false
-  pub quiet : (u : Setup) (d : Drill) → Drilled u d → (n : ℕ) → n < length (encoded d) → ((j : ℕ) → j < suc n → voiceAt (d .cues) (d .first + j) ≡ nobody) → damagedAmong u (encoded d) n ≡ false
-  -- from the first cue on a NaN sample is damage, and so is an infinite one where a channel's gain is 0.0: their product is NaN
-  pub nan-damages : (u : Setup) (d : Drill) → Drilled u d → (n : ℕ) → n < length (encoded d) → (v : Direction) → voiceAt (d .cues) (d .first + n) ≡ speaking v
+  pub counts : (u : Setup) (d : Drill) → Drilled u d → unsettledCounts (d .start) (d .plays) ≡ damagedCounts u
+      (encoded d) 0 (d .start) (d .plays)
+  -- "before the first cue every output is 0.0": where nobody speaks no frame is damaged, whatever the sample; and until
+  -- somebody has spoken every frame is settled
+  pub silent : (u : Setup) (d : Drill) → Drilled u d → (n : ℕ) → n < length (encoded d)
+      → voiceAt (d .cues) (d .first + n) ≡ nobody → damaged u (getD (encoded d) n []) ≡ false
+  pub quiet : (u : Setup) (d : Drill) → Drilled u d → (n : ℕ) → n < length (encoded d)
+      → ((j : ℕ) → j < suc n → voiceAt (d .cues) (d .first + j) ≡ nobody) → damagedAmong u (encoded d) n ≡ false
+  -- from the first cue on a NaN sample is damage, and so is an infinite one where a channel's gain is 0.0: their
+  -- product is NaN
+  pub nan-damages : (u : Setup) (d : Drill) → Drilled u d → (n : ℕ) → n < length (encoded d) → (v : Direction)
+      → voiceAt (d .cues) (d .first + n) ≡ speaking v
       → getD (samples d) n nan ≡ nan → damaged u (getD (encoded d) n []) ≡ true
-  pub infinite-damages : (u : Setup) (d : Drill) → Drilled u d → (n : ℕ) → n < length (encoded d) → (v : Direction) → voiceAt (d .cues) (d .first + n) ≡ speaking v
-      → (s : Bool) → getD (samples d) n nan ≡ inf s → (p : ℕ) → p < channelsOfOrder (d .order) → getD (gainsAt (d .order) v) p nan ≡ zero-float → damaged u (getD (encoded d) n []) ≡ true
-  -- (d) "each cut into blocks anywhere": the same frames after encoding, however the calls of both kinds are cut, and refused calls where they may be
+  pub infinite-damages : (u : Setup) (d : Drill) → Drilled u d → (n : ℕ) → n < length (encoded d) → (v : Direction)
+      → voiceAt (d .cues) (d .first + n) ≡ speaking v
+      → (s : Bool) → getD (samples d) n nan ≡ inf s → (p : ℕ) → p < channelsOfOrder (d .order)
+      → getD (gainsAt (d .order) v) p nan ≡ zero-float → damaged u (getD (encoded d) n []) ≡ true
+  -- (d) "each cut into blocks anywhere": the same frames after encoding, however the calls of both kinds are cut, and
+  -- refused calls where they may be
   pub cut : (u : Setup) (d e : Drill) → Drilled u d → Drilled u e → encoded d ≡ encoded e → SameDrill d e
   -- so the same script gives the same
   pub divided : (u : Setup) (d e : Drill) → Drilled u d → Drilled u e → SameScript d e → SameDrill d e

@@ -1,5 +1,6 @@
--- Document 02, E1: "Demand 3 reads on the frames after encoding." A drill is two lists of calls: `script::render` encodes samples into planes, one for each channel of the order, and `hrtf::process` plays such
--- planes to the ears. A call of either kind may be refused; it then passes nothing on. Definitions only.
+-- Document 02, E1: "Demand 3 reads on the frames after encoding." A drill is two lists of calls: `script::render`
+-- encodes samples into planes, one for each channel of the order, and `hrtf::process` plays such planes to the ears. A
+-- call of either kind may be refused; it then passes nothing on. Definitions only.
 use Prim.Native.Nat.{ℕ}
 use mathlib.Core.Path.{_≡_}
 use mathlib.Core.List.{List, [], _∷_, _++_}
@@ -48,7 +49,8 @@ fed d = fedAll (d .start) (d .plays)
 abbrev pub heard : Drill → List (List Float)
 heard d = soundedAll (d .start) (d .plays)
 
--- the convolver runs from a reset, set up for the channels of the order, and is fed the frames that `render` put, in order. How the frames are cut into calls, and at which stride they stand, may differ between the two
+-- the convolver runs from a reset, set up for the channels of the order, and is fed the frames that `render` put, in
+-- order. How the frames are cut into calls, and at which stride they stand, may differ between the two
 pub record Drilled (u : Setup) (d : Drill) : Type 0 where
   pub run : Run u (d .start) (d .plays)
   pub channels : u .channels ≡ channelsOfOrder (d .order)

@@ -1,5 +1,6 @@
--- Document 02, E1: "Demand 3 reads on the frames after encoding." There are drills: a bank file is read, speakers are set up from it for the order, the rings are reset, and planes are lent to the convolver as `render` left them. None of these calls is refused
--- (`DrillPlays`, shown in proofs/Playing.antt). Definitions only.
+-- Document 02, E1: "Demand 3 reads on the frames after encoding." There are drills: a bank file is read, speakers are
+-- set up from it for the order, the rings are reset, and planes are lent to the convolver as `render` left them. None
+-- of these calls is refused (`DrillPlays`, shown in proofs/Playing.antt). Definitions only.
 use Prim.Native.Nat.{ℕ, _*_}
 use mathlib.Core.Path.{_≡_}
 use mathlib.Core.List.{List, [], _∷_, map}
@@ -21,14 +22,25 @@ use Rattle.drills.specs.Drills.{Drill, Drilled, Planes, planesLeft}
 
 -- the counts, weights and filters of a bank and of what a set-up left
 abbrev pub shapeOf : Form.Bank → Arrangement → Shape
-shapeOf b o = record { channels = o .answer .channels; speakers = o .answer .speakers; rows = Form.rows b; length = b .length }
+shapeOf b o =
+    record { channels = o .answer .channels; speakers = o .answer .speakers; rows = Form.rows b; length = b .length }
 
 abbrev pub setUp : Form.Bank → Arrangement → Setup
 setUp b o = setupOf (shapeOf b o) (o .weights) (o .rows) (b .taps)
 
--- the call of `process` that is made of them, and is lent these planes and this list for the ears; and calls, one for each
+-- the call of `process` that is made of them, and is lent these planes and this list for the ears; and calls, one for
+-- each
 abbrev pub callOf : Form.Bank → Arrangement → Planes → List Float → Call
-callOf b o p ears = record { shape = shapeOf b o; frames = p .frames; stride = p .stride; inputs = p .list; weights = o .weights; rows = o .rows; taps = b .taps; ears = ears }
+callOf b o p ears = record {
+  shape = shapeOf b o;
+  frames = p .frames;
+  stride = p .stride;
+  inputs = p .list;
+  weights = o .weights;
+  rows = o .rows;
+  taps = b .taps;
+  ears = ears;
+}
 
 abbrev pub callsOf : Form.Bank → Arrangement → List Planes → List (List Float) → List Call
 callsOf b o [] es = []
@@ -42,9 +54,13 @@ Eared p ears = length ears ≡ 2 * p .stride
 pub record DrillPlays : Type 0 where
   -- lists for the ears there are
   pub ears : (ps : List Planes) → Pairwise Eared ps (map (λ (p : Planes). replicate (2 * p .stride) zero-float) ps)
-  -- whatever the calls of `render` are: no call is refused that is lent what the accepted ones left, and all together are a drill
-  pub plays : (r : ReadOutcome) → BankAccepted r → (d : Drill) (weights : List Float) (given : List ℕ) (o : Arrangement) → length given ≡ 8
+  -- whatever the calls of `render` are: no call is refused that is lent what the accepted ones left, and all together
+  -- are a drill
+  pub plays : (r : ReadOutcome) → BankAccepted r → (d : Drill) (weights : List Float) (given : List ℕ) (o : Arrangement)
+      → length given ≡ 8
       → NewAmbisonic (d .order) (r .azimuths) (r .elevations) (r .answer .rows) weights given o → o .answer .refusal ≡ 0
-      → (k : Desk) (rings : List Float) → Resets k (o .answer .speakers) (r .answer .length) rings (record { answer = record { refusal = 0; desk = d .start .desk }; rings = d .start .rings })
-      → (es : List (List Float)) → Pairwise Eared (planesLeft d) es → d .plays ≡ callsOf (bankFound r) o (planesLeft d) es
+      → (k : Desk) (rings : List Float) → Resets k (o .answer .speakers) (r .answer .length) rings
+      (record { answer = record { refusal = 0; desk = d .start .desk }; rings = d .start .rings })
+      → (es : List (List Float)) → Pairwise Eared (planesLeft d) es
+      → d .plays ≡ callsOf (bankFound r) o (planesLeft d) es
       → NoneRefused (d .start) (d .plays) × Drilled (setUp (bankFound r) o) d

@@ -1,4 +1,5 @@
--- The same ears wherever the line is cut: `cut-anywhere`; and what a part more adds to the past, the ears and the counts of a line. Assumes nothing.
+-- The same ears wherever the line is cut: `cut-anywhere`; and what a part more adds to the past, the ears and the
+-- counts of a line. Assumes nothing.
 use mathlib.Core.Path.{_≡_, sym, ap, _∙_}
 use mathlib.Core.List.{List, [], _∷_, _++_, flatten, flatMap, append-nil, append-assoc}
 use Prim.Native.Nat.{ℕ, _+_}
@@ -32,27 +33,35 @@ module _ (u : Setup) (all fs gs : List (List Float)) (e : all ≡ fs ++ gs) wher
 -- ---- a line, and a part more
 
 module _ (u : Setup) (line part : List ℕ) where
-  pub past-more : after u (after u [] (lineFrames line)) (lineFrames (restIn 24 line ++ part)) ≡ after u [] (lineFrames (line ++ part))
-  past-more = past-on u (lineFrames (line ++ part)) (lineFrames line) (lineFrames (restIn 24 line ++ part)) (cut-frames line part)
+  pub past-more : after u (after u [] (lineFrames line)) (lineFrames (restIn 24 line ++ part))
+      ≡ after u [] (lineFrames (line ++ part))
+  past-more = past-on u (lineFrames (line ++ part)) (lineFrames line) (lineFrames (restIn 24 line ++ part))
+      (cut-frames line part)
 
   ears-more : earsOf u line ++ beyond u line part ≡ earsOf u (line ++ part)
-  ears-more = ears-on u (lineFrames (line ++ part)) (lineFrames line) (lineFrames (restIn 24 line ++ part)) (cut-frames line part)
+  ears-more = ears-on u (lineFrames (line ++ part)) (lineFrames line) (lineFrames (restIn 24 line ++ part))
+      (cut-frames line part)
 
-  pub unsettled-more : unsettledIn u 0 [] (lineFrames line) + unsettledIn u 0 (after u [] (lineFrames line)) (lineFrames (restIn 24 line ++ part))
+  pub unsettled-more : unsettledIn u 0 [] (lineFrames line) + unsettledIn u 0 (after u [] (lineFrames line))
+      (lineFrames (restIn 24 line ++ part))
       ≡ unsettledIn u 0 [] (lineFrames (line ++ part))
-  unsettled-more = unsettled-on u (lineFrames (line ++ part)) (lineFrames line) (lineFrames (restIn 24 line ++ part)) (cut-frames line part)
+  unsettled-more = unsettled-on u (lineFrames (line ++ part)) (lineFrames line) (lineFrames (restIn 24 line ++ part))
+      (cut-frames line part)
 
-pub whole-more : (line part : List ℕ) → wholeIn 24 line + wholeIn 24 (restIn 24 line ++ part) ≡ wholeIn 24 (line ++ part)
+pub whole-more : (line part : List ℕ) → wholeIn 24 line + wholeIn 24 (restIn 24 line ++ part)
+    ≡ wholeIn 24 (line ++ part)
 whole-more line part = sym (cut-whole 24 (omega arith) line part)
 
 -- ---- parts
 
-put-after : (u : Setup) (line : List ℕ) (parts : List (List ℕ)) → earsOf u line ++ flatten (putInParts u line parts) ≡ earsOf u (line ++ flatten parts)
+put-after : (u : Setup) (line : List ℕ) (parts : List (List ℕ))
+    → earsOf u line ++ flatten (putInParts u line parts) ≡ earsOf u (line ++ flatten parts)
 unfolding flatten
 put-after u line [] = append-nil (earsOf u line) ∙ ap (earsOf u) (sym (append-nil line))
 put-after u line (part ∷ parts) =
     let later = flatten (putInParts u (line ++ part) parts) in
-    sym (append-assoc (earsOf u line) (beyond u line part) later) ∙ ap (λ (bs : List ℕ). bs ++ later) (ears-more u line part)
+    sym (append-assoc (earsOf u line) (beyond u line part) later)
+    ∙ ap (λ (bs : List ℕ). bs ++ later) (ears-more u line part)
     ∙ put-after u (line ++ part) parts ∙ ap (earsOf u) (append-assoc line part (flatten parts))
 
 pub cut-anywhere : CutAnywhere
@@ -60,5 +69,6 @@ unfolding earBytes flatMap
 cut-anywhere u parts = put-after u [] parts
 
 -- so two ways of cutting the same line put out the same
-cut-alike : (u : Setup) (parts others : List (List ℕ)) → flatten parts ≡ flatten others → flatten (putInParts u [] parts) ≡ flatten (putInParts u [] others)
+cut-alike : (u : Setup) (parts others : List (List ℕ)) → flatten parts ≡ flatten others
+    → flatten (putInParts u [] parts) ≡ flatten (putInParts u [] others)
 cut-alike u parts others e = cut-anywhere u parts ∙ ap (earsOf u) e ∙ sym (cut-anywhere u others)

@@ -1,5 +1,6 @@
--- What the promise of `run` rules out, whatever the bank and the line are: a refusal by another number than 9 and 13 to 20, a part frame with a place, a refusal with a
--- count, a failure that ends as a run that was played, and more unsettled frames than frames. And what that of `told` does. Assumes nothing.
+-- What the promise of `run` rules out, whatever the bank and the line are: a refusal by another number than 9 and 13 to
+-- 20, a part frame with a place, a refusal with a count, a failure that ends as a run that was played, and more
+-- unsettled frames than frames. And what that of `told` does. Assumes nothing.
 use mathlib.Core.Path.{_≡_, sym, ap, _∙_}
 use mathlib.Core.Bool.{Bool, true, false, cond}
 use mathlib.Core.List.{List, [], _∷_}
@@ -36,7 +37,8 @@ use Rattle.ears_file.specs.Lines.{setupWith, partFrame, refusedBank, res
 use Rattle.ears_file.specs.Promise.{Answers}
 
 -- one of three ends
-one-of-three : (f : Bool) (b t : ℕ) (e x y : Ended) → e ≡ cond f partFrame (answered b (answered t x (λ n. partFrame)) (λ n. y)) → (e ≡ x) ⊎ ((e ≡ partFrame) ⊎ (e ≡ y))
+one-of-three : (f : Bool) (b t : ℕ) (e x y : Ended) → e ≡ cond f partFrame
+    (answered b (answered t x (λ n. partFrame)) (λ n. y)) → (e ≡ x) ⊎ ((e ≡ partFrame) ⊎ (e ≡ y))
 one-of-three true b t e x y q = inr (inl q)
 one-of-three false zero zero e x y q = inl q
 one-of-three false zero (suc t) e x y q = inr (inl q)
@@ -60,11 +62,13 @@ module _ (r : RunOutcome) (a : Answers r) where
         unsettled = countedOn 0 (unsettledIn (setupWith (bankIn (a .bank))) 0 [] (lineFrames line));
       }
 
-  by-end : {A : Type 0} → (r .ended ≡ played → A) → (r .ended ≡ partFrame → A) → (r .ended ≡ refusedBank (fault (a .bank)) → A) → A
+  by-end : {A : Type 0} → (r .ended ≡ played → A) → (r .ended ≡ partFrame → A)
+      → (r .ended ≡ refusedBank (fault (a .bank)) → A) → A
   unfolding played
   by-end p q s =
       ⊎-elim p (⊎-elim q s)
-      (one-of-three (r .failed) (fault (a .bank) .refusal) (restRefusal (length (restIn 24 (a .ends .line)))) (r .ended) played (refusedBank (fault (a .bank))) (a .ends .bits))
+      (one-of-three (r .failed) (fault (a .bank) .refusal) (restRefusal (length (restIn 24 (a .ends .line))))
+      (r .ended) played (refusedBank (fault (a .bank))) (a .ends .bits))
 
   number : {e : Ended} → r .ended ≡ e → r .ended .refusal ≡ e .refusal
   number q = ap (λ (y : Ended). y .refusal) q
@@ -74,18 +78,22 @@ module _ (r : RunOutcome) (a : Answers r) where
   no-number q = number q
 
   -- a refused bank has a number of its own
-  bank-number : {A : Type 0} → (r .ended .refusal ≡ 0 → A) → (13 ≤ r .ended .refusal → r .ended .refusal ≤ 20 → A) → r .ended ≡ refusedBank (fault (a .bank)) → A
+  bank-number : {A : Type 0} → (r .ended .refusal ≡ 0 → A) → (13 ≤ r .ended .refusal → r .ended .refusal ≤ 20 → A)
+      → r .ended ≡ refusedBank (fault (a .bank)) → A
   bank-number none some q =
       ⊎-elim (λ s. none (number q ∙ ap (λ (f : Fault). f .refusal) s))
-      (λ (p : NumberAndPlace (length (a .bank)) (fault (a .bank))). some (omega (arith, p .least, number q)) (omega (arith, p .most, number q)))
+      (λ (p : NumberAndPlace (length (a .bank)) (fault (a .bank))). some (omega (arith, p .least, number q))
+      (omega (arith, p .most, number q)))
       (numbers-and-places (a .bank))
 
-  refused-otherwise : (r .ended .refusal ≡ 0 → ⊥) → (r .ended .refusal ≡ 9 → ⊥) → (13 ≤ r .ended .refusal → r .ended .refusal ≤ 20 → ⊥) → ⊥
+  refused-otherwise : (r .ended .refusal ≡ 0 → ⊥) → (r .ended .refusal ≡ 9 → ⊥)
+      → (13 ≤ r .ended .refusal → r .ended .refusal ≤ 20 → ⊥) → ⊥
   refused-otherwise some part bank = by-end (λ p. some (no-number p)) (λ q. part (number q)) (bank-number some bank)
 
   part-frame-with-a-place : r .ended .refusal ≡ 9 → (r .ended .place ≡ 0 → ⊥) → ⊥
   part-frame-with-a-place nine other =
-      by-end (λ p. omega (arith, nine, no-number p)) (λ q. other (ap (λ (y : Ended). y .place) q)) (bank-number (λ z. omega (arith, nine, z)) (λ low high. omega (arith, nine, low)))
+      by-end (λ p. omega (arith, nine, no-number p)) (λ q. other (ap (λ (y : Ended). y .place) q))
+      (bank-number (λ z. omega (arith, nine, z)) (λ low high. omega (arith, nine, low)))
 
   refused-with-counts : (r .ended .refusal ≡ 0 → ⊥) → 0 < r .ended .frames + r .ended .unsettled → ⊥
   refused-with-counts some h = by-end (λ p. some (no-number p)) none none
@@ -95,7 +103,8 @@ module _ (r : RunOutcome) (a : Answers r) where
 
   failed-as-played : r .failed ≡ true → r .ended .refusal ≡ 0 → ⊥
   failed-as-played f z =
-      let nine : r .ended .refusal ≡ 9 = ap (λ (y : Ended). y .refusal) (a .ends .bits ∙ cond-true partFrame (itemTen (a .bank) (a .ends .line)) f) in
+      let nine : r .ended .refusal ≡ 9 = ap (λ (y : Ended). y .refusal)
+      (a .ends .bits ∙ cond-true partFrame (itemTen (a .bank) (a .ends .line)) f) in
       let k : _≡_ {A = ℕ} 0 9 = sym z ∙ nine in omega arith
 
   more-unsettled-than-frames : r .ended .frames < r .ended .unsettled → ⊥
@@ -103,7 +112,8 @@ module _ (r : RunOutcome) (a : Answers r) where
   more-unsettled-than-frames h =
       let line = a .ends .line in
       let few = unsettled-few (setupWith (bankIn (a .bank))) 0 [] (lineFrames line) in
-      let many : length (lineFrames line) ≡ wholeIn 24 line = length-tab 0 (wholeIn 24 line) (λ i. frameOf (chunk 24 i line)) in
+      let many : length (lineFrames line) ≡ wholeIn 24 line = length-tab 0 (wholeIn 24 line)
+      (λ i. frameOf (chunk 24 i line)) in
       by-end
       (λ p. omega (arith, h, few, many, ap (λ (y : Ended). y .frames) p, ap (λ (y : Ended). y .unsettled) p))
       (λ q. omega (arith, h, ap (λ (y : Ended). y .frames) q, ap (λ (y : Ended). y .unsettled) q))
@@ -114,22 +124,29 @@ module _ (r : RunOutcome) (a : Answers r) where
 module _ (r : RunOutcome) (out : List ℕ) (size : ℕ) (after : List ℕ) (lined : Lined out (toldBy r) size after) where
   -- a line for a run that failed
   failed-run-has-a-line : r .failed ≡ true → (size ≡ 0 → ⊥) → ⊥
-  failed-run-has-a-line f some = some (ap (λ (g : LineGiven). g .size) (lined ∙ ap (lineGiven out) (cond-true _ _ f) ∙ line-empty out))
+  failed-run-has-a-line f some =
+      some (ap (λ (g : LineGiven). g .size) (lined ∙ ap (lineGiven out) (cond-true _ _ f) ∙ line-empty out))
 
   -- a refusal told as a count: its first letter is an r, and not an f
   refusal-told-as-frames : r .failed ≡ false → r .ended .refusal ≡ 9 → 64 ≤ length out → getD after 0 0 ≡ 102 → ⊥
   unfolding refusedLine refusedWord
   refusal-told-as-frames f nine room e =
-      let told : toldBy r ≡ refusedLine 9 = cond-false _ _ f ∙ answered-refused _ (refusalLine (r .ended)) _ (not-accepted 9 (omega arith) nine) ∙ ap (refusalLine (r .ended)) nine in
+      let told : toldBy r ≡ refusedLine 9 = cond-false _ _ f
+      ∙ answered-refused _ (refusalLine (r .ended)) _ (not-accepted 9 (omega arith) nine)
+      ∙ ap (refusalLine (r .ended)) nine in
       let first : getD after 0 0 ≡ 114 =
       ap (λ (l : List ℕ). getD l 0 0)
-      (ap (λ (g : LineGiven). g .out) (lined ∙ line-accepted out (toldBy r) room) ∙ ap (placed out 0) told ∙ placed-start out (refusedLine 9)) in
+      (ap (λ (g : LineGiven). g .out) (lined ∙ line-accepted out (toldBy r) room) ∙ ap (placed out 0) told
+      ∙ placed-start out (refusedLine 9)) in
       let same : _≡_ {A = ℕ} 102 114 = sym e ∙ first in omega (arith, same)
 
   -- a bank's refusal told without its place: `refused 14` and a newline has eleven bytes, `refused 14 at 1` sixteen
-  bank-told-without-its-place : r .failed ≡ false → r .ended .refusal ≡ 14 → r .ended .place ≡ 1 → 64 ≤ length out → size ≡ 11 → ⊥
+  bank-told-without-its-place : r .failed ≡ false → r .ended .refusal ≡ 14 → r .ended .place ≡ 1 → 64 ≤ length out
+      → size ≡ 11 → ⊥
   bank-told-without-its-place f fourteen one room e =
       let told : toldBy r ≡ refusedAtLine 14 1 =
-      cond-false _ _ f ∙ answered-refused _ (refusalLine (r .ended)) _ (not-accepted 14 (omega arith) fourteen) ∙ ap (refusalLine (r .ended)) fourteen ∙ ap (refusedAtLine 14) one in
-      let long : size ≡ 16 = ap (λ (g : LineGiven). g .size) (lined ∙ line-accepted out (toldBy r) room) ∙ ap length (told ∙ refused-fourteen) in
+      cond-false _ _ f ∙ answered-refused _ (refusalLine (r .ended)) _ (not-accepted 14 (omega arith) fourteen)
+      ∙ ap (refusalLine (r .ended)) fourteen ∙ ap (refusedAtLine 14) one in
+      let long : size ≡ 16 = ap (λ (g : LineGiven). g .size) (lined ∙ line-accepted out (toldBy r) room)
+      ∙ ap length (told ∙ refused-fourteen) in
       let same : _≡_ {A = ℕ} 11 16 = sym e ∙ long in omega (arith, same)

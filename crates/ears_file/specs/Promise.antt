@@ -1,5 +1,5 @@
--- What a run promises: what the system hands over no contract can name, so it is said that there are such bytes. And that a line may be cut
--- anywhere. Definitions only.
+-- What a run promises: what the system hands over no contract can name, so it is said that there are such bytes. And
+-- that a line may be cut anywhere. Definitions only.
 use mathlib.Core.Path.{_≡_}
 use mathlib.Core.Bool.{cond}
 use mathlib.Core.List.{List, [], _∷_, _++_, flatten}

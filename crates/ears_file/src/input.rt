@@ -68,8 +68,11 @@ fn step(
 ) -> Stepped
     requires { ⌜ BlocksAccepted shape (now weights) (now «row_of») (now taps) ⌝ }
     requires { ⌜ progress .held < 24 ⌝ }
-    ensures { λ r. ⌜ ((part : List ℕ) × (r .over ≡ eqb (length part) 0) × Further (setupOf shape (now (weights .entry)) (now («row_of» .entry)) (now (taps .entry)))
-        progress (now (rings .entry)) (now (bytes .entry)) part (r .turn) (now (rings .exit)) (now (bytes .exit)) (now (text .exit))) ⌝ }
+    ensures { λ r.
+        ⌜ ((part : List ℕ) × (r .over ≡ eqb (length part) 0)
+        × Further (setupOf shape (now (weights .entry)) (now («row_of» .entry)) (now (taps .entry)))
+        progress (now (rings .entry)) (now (bytes .entry)) part (r .turn) (now (rings .exit)) (now (bytes .exit))
+        (now (text .exit))) ⌝ }
 {
     let held = progress.held;
     let got = files::read_some(line, held, limit, bytes);
@@ -126,7 +129,8 @@ pub(crate) fn play_all(
 ) -> RunOutcome
     requires { ⌜ BlocksAccepted shape (now weights) (now «row_of») (now taps) ⌝ }
     requires { ⌜ now rings ≡ replicate (shape .speakers * shape .length) zero-float ⌝ }
-    ensures { λ r. ⌜ Ends (endsAs (setupOf shape (now (weights .entry)) (now («row_of» .entry)) (now (taps .entry)))) r ⌝ }
+    ensures { λ r. ⌜ Ends (endsAs (setupOf shape (now (weights .entry)) (now («row_of» .entry)) (now (taps .entry))))
+        r ⌝ }
 {
     let mut bytes = [0u8; 24576];
     let mut inputs = [0.0f32; 6144];

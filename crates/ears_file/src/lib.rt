@@ -99,8 +99,17 @@ fn play_with(
     limit: usize,
 ) -> RunOutcome
     requires { ⌜ read .refusal ≡ 0 ⌝ }
-    requires { ⌜ ((before : List Float) × Found (replicate 8 (pos 0)) (replicate 8 (pos 0)) before (record { answer = read; azimuths = now azimuths; elevations = now elevations; taps = now taps })) ⌝ }
-    ensures { λ r. ⌜ Ends (endsAs (setupWith (bankFound (record { answer = read; azimuths = now (azimuths .entry); elevations = now (elevations .entry); taps = now (taps .entry) })))) r ⌝ }
+    requires { ⌜ ((before : List Float) × Found (replicate 8 (pos 0)) (replicate 8 (pos 0)) before
+        (record { answer = read; azimuths = now azimuths; elevations = now elevations; taps = now taps })) ⌝ }
+    ensures { λ r.
+        ⌜ Ends (endsAs
+        (setupWith (bankFound
+        (record {
+          answer = read;
+          azimuths = now (azimuths .entry);
+          elevations = now (elevations .entry);
+          taps = now (taps .entry);
+        })))) r ⌝ }
 {
     let mut weights = [0.0f64; 36];
     let mut row_of = [0usize; 8];

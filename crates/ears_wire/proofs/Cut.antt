@@ -1,9 +1,11 @@
--- Records in bytes that come in two parts, wherever they are cut: those of the first part, and then those of what the first part left over with the second behind it.
--- So whoever takes whole records and keeps the rest takes the same ones, however the bytes come. One law for every size of a record, and for whatever it says. Assumes nothing.
+-- Records in bytes that come in two parts, wherever they are cut: those of the first part, and then those of what the
+-- first part left over with the second behind it. So whoever takes whole records and keeps the rest takes the same
+-- ones, however the bytes come. One law for every size of a record, and for whatever it says. Assumes nothing.
 use mathlib.Core.Path.{_≡_, sym, ap, _∙_}
 use mathlib.Core.List.{List, [], _++_, append-assoc, append-nil}
 use Prim.Native.Nat.{ℕ, _+_, _*_, _/_, _<_}
-use native.Mathlib.Nat.{add-zero, zero-add, add-mul, mul-add-div-right, mul-div-cancel, div-mul-le-self, lt-div-mul-add, div-eq-of-lt}
+use native.Mathlib.Nat.{add-zero, zero-add, add-mul, mul-add-div-right, mul-div-cancel, div-mul-le-self}
+use native.Mathlib.Nat.{lt-div-mul-add, div-eq-of-lt}
 use native.Mathlib.Omega.{arith}
 use lib.ListN.{length, take, drop, length-append, length-drop, take-append-drop}
 use lib.Seq.{take-append-le, drop-append-le, drop-at, drop-drop, length-take-le}
@@ -16,7 +18,8 @@ module _ (w : ℕ) (some : 0 < w) where
   -- k records, and bytes behind them
   module _ (a b : List ℕ) (k : ℕ) (e : length a ≡ k * w) where
     whole-both : wholeIn w (a ++ b) ≡ k + wholeIn w b
-    whole-both = ap (λ (n : ℕ). n / w) (length-append a b ∙ ap (λ (n : ℕ). n + length b) e) ∙ mul-add-div-right some k (length b)
+    whole-both =
+        ap (λ (n : ℕ). n / w) (length-append a b ∙ ap (λ (n : ℕ). n + length b) e) ∙ mul-add-div-right some k (length b)
 
     whole-first : wholeIn w a ≡ k
     whole-first = ap (λ (n : ℕ). n / w) e ∙ mul-div-cancel k some
@@ -24,10 +27,12 @@ module _ (w : ℕ) (some : 0 < w) where
     row-first : (i : ℕ) → i < 0 + k → chunk w i (a ++ b) ≡ chunk w i a
     row-first i h =
         let end = row-end i k w (length a) (omega arith) e in
-        ap (take w) (drop-append-le (i * w) a b (omega (arith, end))) ∙ take-append-le w (drop (i * w) a) b (omega (arith, end, length-drop (i * w) a))
+        ap (take w) (drop-append-le (i * w) a b (omega (arith, end)))
+        ∙ take-append-le w (drop (i * w) a) b (omega (arith, end, length-drop (i * w) a))
 
     row-second : (i : ℕ) → chunk w (k + i) (a ++ b) ≡ chunk w i b
-    row-second i = ap (take w) (ap (λ (n : ℕ). drop n (a ++ b)) (add-mul k i w) ∙ sym (drop-drop (i * w) (k * w) (a ++ b)) ∙ ap (drop (i * w)) (drop-at a b (k * w) e))
+    row-second i = ap (take w) (ap (λ (n : ℕ). drop n (a ++ b)) (add-mul k i w)
+        ∙ sym (drop-drop (i * w) (k * w) (a ++ b)) ∙ ap (drop (i * w)) (drop-at a b (k * w) e))
 
     each-both : {A : Type 0} (says : List ℕ → A) → eachIn w says (a ++ b) ≡ eachIn w says a ++ eachIn w says b
     each-both {A} says =
@@ -35,7 +40,8 @@ module _ (w : ℕ) (some : 0 < w) where
         ap (λ (m : ℕ). tab 0 m at) whole-both
         ∙ tab-append 0 k (wholeIn w b) at
         ∙ ap (λ (l : List A). l ++ tab (0 + k) (wholeIn w b) at)
-        (tab-ext 0 k at (λ i. says (chunk w i a)) (λ i h. ap says (row-first i h)) ∙ ap (λ (m : ℕ). tab 0 m (λ i. says (chunk w i a))) (sym whole-first))
+        (tab-ext 0 k at (λ i. says (chunk w i a)) (λ i h. ap says (row-first i h))
+        ∙ ap (λ (m : ℕ). tab 0 m (λ i. says (chunk w i a))) (sym whole-first))
         ∙ ap (λ (l : List A). eachIn w says a ++ l)
         (ap (λ (j : ℕ). tab j (wholeIn w b) at) (zero-add k ∙ sym (add-zero k)) ∙ tab-moved k 0 (wholeIn w b) at
         ∙ tab-ext 0 (wholeIn w b) (λ i. at (k + i)) (λ i. says (chunk w i b)) (λ i h. ap says (row-second i)))
@@ -78,7 +84,8 @@ module _ (w : ℕ) (some : 0 < w) where
 
       each-first : eachIn w says s ≡ eachIn w says wholes
       each-first =
-          ap (eachIn w says) parts ∙ each-both wholes (restIn w s) (wholeIn w s) long says ∙ ap (λ (l : List A). eachIn w says wholes ++ l) none
+          ap (eachIn w says) parts ∙ each-both wholes (restIn w s) (wholeIn w s) long says
+          ∙ ap (λ (l : List A). eachIn w says wholes ++ l) none
           ∙ append-nil (eachIn w says wholes)
 
       pub cut-each : eachIn w says (s ++ t) ≡ eachIn w says s ++ eachIn w says (restIn w s ++ t)

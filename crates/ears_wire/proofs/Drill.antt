@@ -7,15 +7,18 @@ use lib.Ieee.{nan, fin, toBits}
 use Rattle.big_endian.specs.Bytes.{bytesOf}
 use Rattle.big_endian.specs.Lists.{fieldBytes}
 use Rattle.ears_wire.specs.Ears.{earBytes}
-use Rattle.ears_wire.specs.Line.{decimalBy, decimal, framesWord, unsettledWord, refusedWord, atWord, newline, framesLine, refusedLine, refusedAtLine}
+use Rattle.ears_wire.specs.Line.{decimalBy, decimal, framesWord, unsettledWord, refusedWord, atWord, newline}
+use Rattle.ears_wire.specs.Line.{framesLine, refusedLine, refusedAtLine}
 
 -- `frames 3 unsettled 2` and a newline
-pub three-frames : framesLine 3 2 ≡ 102 ∷ 114 ∷ 97 ∷ 109 ∷ 101 ∷ 115 ∷ 32 ∷ 51 ∷ 32 ∷ 117 ∷ 110 ∷ 115 ∷ 101 ∷ 116 ∷ 116 ∷ 108 ∷ 101 ∷ 100 ∷ 32 ∷ 50 ∷ 10 ∷ []
+pub three-frames : framesLine 3 2 ≡ 102 ∷ 114 ∷ 97 ∷ 109 ∷ 101 ∷ 115 ∷ 32 ∷ 51 ∷ 32 ∷ 117 ∷ 110 ∷ 115 ∷ 101 ∷ 116 ∷ 116
+    ∷ 108 ∷ 101 ∷ 100 ∷ 32 ∷ 50 ∷ 10 ∷ []
 unfolding framesLine framesWord unsettledWord newline decimal decimalBy
 three-frames = refl
 
 -- `frames 0 unsettled 0`
-no-frames : framesLine 0 0 ≡ 102 ∷ 114 ∷ 97 ∷ 109 ∷ 101 ∷ 115 ∷ 32 ∷ 48 ∷ 32 ∷ 117 ∷ 110 ∷ 115 ∷ 101 ∷ 116 ∷ 116 ∷ 108 ∷ 101 ∷ 100 ∷ 32 ∷ 48 ∷ 10 ∷ []
+no-frames : framesLine 0 0 ≡ 102 ∷ 114 ∷ 97 ∷ 109 ∷ 101 ∷ 115 ∷ 32 ∷ 48 ∷ 32 ∷ 117 ∷ 110 ∷ 115 ∷ 101 ∷ 116 ∷ 116 ∷ 108
+    ∷ 101 ∷ 100 ∷ 32 ∷ 48 ∷ 10 ∷ []
 unfolding framesLine framesWord unsettledWord newline decimal decimalBy
 no-frames = refl
 
@@ -25,7 +28,8 @@ unfolding refusedLine refusedWord newline decimal decimalBy
 refused-nine = refl
 
 -- `refused 14 at 1` and a newline
-pub refused-fourteen : refusedAtLine 14 1 ≡ 114 ∷ 101 ∷ 102 ∷ 117 ∷ 115 ∷ 101 ∷ 100 ∷ 32 ∷ 49 ∷ 52 ∷ 32 ∷ 97 ∷ 116 ∷ 32 ∷ 49 ∷ 10 ∷ []
+pub refused-fourteen : refusedAtLine 14 1 ≡ 114 ∷ 101 ∷ 102 ∷ 117 ∷ 115 ∷ 101 ∷ 100 ∷ 32 ∷ 49 ∷ 52 ∷ 32 ∷ 97 ∷ 116 ∷ 32
+    ∷ 49 ∷ 10 ∷ []
 unfolding refusedAtLine refusedWord atWord newline decimal decimalBy
 refused-fourteen = refl
 

@@ -26,15 +26,18 @@ unfolding earBytes
 ears-append = joined-append floatBytes
 
 -- two samples, one store after the other
-pub both-stored : (out one two : List ℕ) (at : ℕ) (a b : Float) → at + 8 ≤ length out → one ≡ withFloat out at a → two ≡ withFloat one (at + 4) b → two ≡ placed out at (floatBytes (a ∷ b ∷ []))
+pub both-stored : (out one two : List ℕ) (at : ℕ) (a b : Float) → at + 8 ≤ length out → one ≡ withFloat out at a
+    → two ≡ withFloat one (at + 4) b → two ≡ placed out at (floatBytes (a ∷ b ∷ []))
 unfolding withFloat
 both-stored out one two at a b h e f =
     let first = field-put out one at 4 (toBits binary32 a) (omega arith) (omega arith) e in
     let four = length-bytes 4 (toBits binary32 a) in
-    let long : length one ≡ length out = ap length first ∙ length-placed out at (bytesOf 4 (toBits binary32 a)) (omega arith) in
+    let long : length one ≡ length out = ap length first ∙ length-placed out at (bytesOf 4 (toBits binary32 a))
+    (omega arith) in
     field-put one two (at + 4) 4 (toBits binary32 b) (omega arith) (omega arith) f
     ∙ ap (λ (ys : List ℕ). placed ys (at + 4) (bytesOf 4 (toBits binary32 b))) first
-    ∙ placed-on out at 4 (bytesOf 4 (toBits binary32 a)) (bytesOf 4 (toBits binary32 b)) four (omega (arith, length-bytes 4 (toBits binary32 b)))
+    ∙ placed-on out at 4 (bytesOf 4 (toBits binary32 a)) (bytesOf 4 (toBits binary32 b)) four
+    (omega (arith, length-bytes 4 (toBits binary32 b)))
     ∙ ap (placed out at) (sym (fieldBytes-two 4 (toBits binary32) a b))
 
 -- the loop: the ears of the frames so far stand at the start
@@ -53,7 +56,9 @@ module _ (ears : List Float) (stride : ℕ) (out : List ℕ) where
   unfolding earBytes
   giving-none = sym (ap (placed out 0) (joined-none floatBytes) ∙ placed-none out 0)
 
-  pub giving-more : (n : ℕ) (ys last : List ℕ) → n * 8 + 8 ≤ length out → ys ≡ placed out 0 (earBytes (framesOf ears stride 2 n)) → last ≡ placed ys (n * 8) (floatBytes (frameAt ears stride 2 n))
+  pub giving-more : (n : ℕ) (ys last : List ℕ) → n * 8 + 8 ≤ length out
+      → ys ≡ placed out 0 (earBytes (framesOf ears stride 2 n))
+      → last ≡ placed ys (n * 8) (floatBytes (frameAt ears stride 2 n))
       → last ≡ placed out 0 (earBytes (framesOf ears stride 2 (n + 1)))
   unfolding earBytes
   giving-more n ys last h e f =
@@ -61,10 +66,15 @@ module _ (ears : List Float) (stride : ℕ) (out : List ℕ) where
       let frame = floatBytes (frameAt ears stride 2 n) in
       let start : n * 8 ≡ 0 + n * 8 = omega arith in
       let more : so-far ++ frame ≡ earBytes (framesOf ears stride 2 (n + 1)) =
-      sym (rw (add-one n, tab-snoc 0 n (frameAt ears stride 2)) (joined-snoc floatBytes (framesOf ears stride 2 n) (frameAt ears stride 2 (0 + n)) ∙ ap (λ (k : ℕ). so-far ++ floatBytes (frameAt ears stride 2 k)) (zero-add n))) in
+      sym (rw (add-one n, tab-snoc 0 n (frameAt ears stride 2))
+      (joined-snoc floatBytes (framesOf ears stride 2 n) (frameAt ears stride 2 (0 + n))
+      ∙ ap (λ (k : ℕ). so-far ++ floatBytes (frameAt ears stride 2 k)) (zero-add n))) in
       f ∙ ap (λ (k : ℕ). placed ys k frame) start ∙ ap (λ (l : List ℕ). placed l (0 + n * 8) frame) e
-      ∙ placed-on out 0 (n * 8) so-far frame (length-ears ears stride n) (omega (arith, length-fieldBytes 4 (toBits binary32) (frameAt ears stride 2 n)))
+      ∙ placed-on out 0 (n * 8) so-far frame (length-ears ears stride n)
+      (omega (arith, length-fieldBytes 4 (toBits binary32) (frameAt ears stride 2 n)))
       ∙ ap (placed out 0) more
 
-  pub giving-long : (n : ℕ) (ys : List ℕ) → n * 8 ≤ length out → ys ≡ placed out 0 (earBytes (framesOf ears stride 2 n)) → length ys ≡ length out
-  giving-long n ys h e = ap length e ∙ length-placed out 0 (earBytes (framesOf ears stride 2 n)) (omega (arith, length-ears ears stride n))
+  pub giving-long : (n : ℕ) (ys : List ℕ) → n * 8 ≤ length out → ys ≡ placed out 0 (earBytes (framesOf ears stride 2 n))
+      → length ys ≡ length out
+  giving-long n ys h e =
+      ap length e ∙ length-placed out 0 (earBytes (framesOf ears stride 2 n)) (omega (arith, length-ears ears stride n))

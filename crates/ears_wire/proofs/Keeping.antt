@@ -37,12 +37,14 @@ module _ (xs : List ℕ) (from to : ℕ) where
 
     -- the byte that is next to be moved
     here : getD ys (from + i) 0 ≡ getD (drop from xs) i 0
-    here = ap (λ (l : List ℕ). getD l (from + i) 0) (k .moved) ∙ behind xs (take i (drop from xs)) (from + i) (omega (arith, some)) ∙ sym (getD-drop from xs i 0)
+    here = ap (λ (l : List ℕ). getD l (from + i) 0) (k .moved)
+        ∙ behind xs (take i (drop from xs)) (from + i) (omega (arith, some)) ∙ sym (getD-drop from xs i 0)
 
     pub kept-more : from + i < to → Kept xs from to (set ys i (getD ys (from + i) 0)) (i + 1)
     kept-more h =
         let part = take i (drop from xs) in
-        let more : part ++ (getD (drop from xs) i 0 ∷ []) ≡ take (i + 1) (drop from xs) = sym (rw add-one (take-suc (drop from xs) i 0 (omega (arith, length-drop from xs, k .room)))) in
+        let more : part ++ (getD (drop from xs) i 0 ∷ []) ≡ take (i + 1) (drop from xs) = sym (rw add-one
+        (take-suc (drop from xs) i 0 (omega (arith, length-drop from xs, k .room)))) in
         let none : 0 + i ≡ i = omega arith in
         record {
           room = k .room;

@@ -1,4 +1,5 @@
--- How long a frame is, six samples; and how long a line: a number has at most twenty digits, so 59 bytes at the most. Assumes nothing.
+-- How long a frame is, six samples; and how long a line: a number has at most twenty digits, so 59 bytes at the most.
+-- Assumes nothing.
 use mathlib.Core.Path.{_≡_, ap, _∙_}
 use mathlib.Core.Bool.{Bool, true, false, cond}
 use mathlib.Core.List.{List, [], _∷_, _++_}
@@ -13,15 +14,18 @@ use Rattle.lists.specs.Tables.{chunk}
 use Rattle.big_endian.proofs.Lists.{length-strided}
 use Rattle.ears_wire.specs.Records.{wholeIn}
 use Rattle.ears_wire.specs.Frames.{frameOf, lineFrames}
-use Rattle.ears_wire.specs.Line.{decimalBy, decimal, framesWord, unsettledWord, refusedWord, atWord, newline, framesLine, refusedLine, refusedAtLine}
+use Rattle.ears_wire.specs.Line.{decimalBy, decimal, framesWord, unsettledWord, refusedWord, atWord, newline}
+use Rattle.ears_wire.specs.Line.{framesLine, refusedLine, refusedAtLine}
 
 pub six-each : (bytes : List ℕ) (n : ℕ) → n < length (lineFrames bytes) → length (getD (lineFrames bytes) n []) ≡ 6
 six-each bytes n h =
     let frame : ℕ → List Float = λ i. frameOf (chunk 24 i bytes) in
-    ap length (getD-tab 0 (wholeIn 24 bytes) frame n [] (omega (arith, length-tab 0 (wholeIn 24 bytes) frame))) ∙ length-strided (floatAt (chunk 24 (0 + n) bytes)) 4 0 6
+    ap length (getD-tab 0 (wholeIn 24 bytes) frame n [] (omega (arith, length-tab 0 (wholeIn 24 bytes) frame)))
+    ∙ length-strided (floatAt (chunk 24 (0 + n) bytes)) 4 0 6
 
 -- one digit, or one more than the number's tenth has
-one-more : (t : Bool) (k digit last : ℕ) (before : List ℕ) → length before ≤ k → length (cond t (digit ∷ []) (before ++ (last ∷ []))) ≤ suc k
+one-more : (t : Bool) (k digit last : ℕ) (before : List ℕ) → length before ≤ k
+    → length (cond t (digit ∷ []) (before ++ (last ∷ []))) ≤ suc k
 one-more true k digit last before h = omega arith
 one-more false k digit last before h = omega (arith, length-append before (last ∷ []), h)
 

@@ -1,4 +1,5 @@
--- Parts put one after another into a list, the line that stands at its start or not at all, and that the fewest digits are the decimal ones. Assumes nothing.
+-- Parts put one after another into a list, the line that stands at its start or not at all, and that the fewest digits
+-- are the decimal ones. Assumes nothing.
 use mathlib.Core.Path.{_≡_, refl, sym, ap, _∙_}
 use mathlib.Core.List.{List, [], _∷_, _++_, append-assoc, append-nil}
 use Prim.Native.Nat.{ℕ, zero, suc, _+_, _-_, _/_, _%_, _^_, _≤_, _<_}
@@ -16,7 +17,8 @@ use Rattle.ears_wire.specs.Promise.{Put, Lined}
 use Rattle.ears_wire.proofs.Meets.{line-refused, line-accepted}
 
 -- a part that is copied into the rest of a list from `at` on
-pub put-copied : (out part ys : List ℕ) (at : ℕ) → at ≤ length out → ys ≡ take (length part) part ++ drop (length part) (take (length out - at) (drop at out))
+pub put-copied : (out part ys : List ℕ) (at : ℕ) → at ≤ length out
+    → ys ≡ take (length part) part ++ drop (length part) (take (length out - at) (drop at out))
     → take at out ++ (ys ++ drop (length out - at) (drop at out)) ≡ placed out at part
 unfolding placed
 put-copied out part ys at h e =
@@ -27,26 +29,32 @@ put-copied out part ys at h e =
     ∙ sym (append-assoc (take at out) part (drop (at + length part) out))
 
 -- a part more, where the last one ended
-pub put-more : {out : List ℕ} {at : ℕ} {a : List ℕ} {end : ℕ} {ys b : List ℕ} {end₁ : ℕ} {last : List ℕ} → Put out at a end ys → Put ys end b end₁ last
+pub put-more : {out : List ℕ} {at : ℕ} {a : List ℕ} {end : ℕ} {ys b : List ℕ} {end₁ : ℕ} {last : List ℕ}
+    → Put out at a end ys → Put ys end b end₁ last
     → end₁ ≤ length out → Put out at (a ++ b) end₁ last
 put-more {out} {at} {a} {end} {ys} {b} p q h =
     record {
       ends = q .ends ∙ omega (arith, p .ends, length-append a b);
       filled =
-          q .filled ∙ ap (λ (k : ℕ). placed ys k b) (p .ends) ∙ ap (λ (l : List ℕ). placed l (at + length a) b) (p .filled)
+          q .filled ∙ ap (λ (k : ℕ). placed ys k b) (p .ends)
+          ∙ ap (λ (l : List ℕ). placed l (at + length a) b) (p .filled)
           ∙ placed-on out at (length a) a b refl (omega (arith, p .ends, q .ends));
     }
 
 -- a part is known by what it holds
-pub put-same : {out : List ℕ} {at : ℕ} {a b : List ℕ} {end : ℕ} {after : List ℕ} → a ≡ b → Put out at a end after → Put out at b end after
-put-same {out} {at} e p = record { ends = p .ends ∙ ap (λ (t : List ℕ). at + length t) e; filled = p .filled ∙ ap (placed out at) e }
+pub put-same : {out : List ℕ} {at : ℕ} {a b : List ℕ} {end : ℕ} {after : List ℕ} → a ≡ b → Put out at a end after
+    → Put out at b end after
+put-same {out} {at} e p =
+    record { ends = p .ends ∙ ap (λ (t : List ℕ). at + length t) e; filled = p .filled ∙ ap (placed out at) e }
 
 -- a list with no room, and one with room
 pub lined-not : (out line : List ℕ) → length out < 64 → Lined out line 0 out
 lined-not out line h = sym (line-refused out line h)
 
-pub lined-put : (out line : List ℕ) (size : ℕ) (after : List ℕ) → 64 ≤ length out → Put out 0 line size after → Lined out line size after
-lined-put out line size after h p = (λ i. record { size = (p .ends ∙ zero-add (length line)) i; out = p .filled i }) ∙ sym (line-accepted out line h)
+pub lined-put : (out line : List ℕ) (size : ℕ) (after : List ℕ) → 64 ≤ length out → Put out 0 line size after
+    → Lined out line size after
+lined-put out line size after h p =
+    (λ i. record { size = (p .ends ∙ zero-add (length line)) i; out = p .filled i }) ∙ sym (line-accepted out line h)
 
 -- ---- digits
 
@@ -54,7 +62,8 @@ lined-put out line size after h p = (λ i. record { size = (p .ends ∙ zero-add
 pub fewest-few : (n r : ℕ) → n < 2 ^ 64 → Fewest 10 1 n r → r ≤ 20
 fewest-few n r small f =
     elim (decLt 20 r) [
-      | yes many ↦ let more : 20 ≤ r - 1 = omega arith in let low : 10 ^ 20 ≤ 10 ^ (r - 1) = pow-le-pow-right {n = 10} (omega arith) more in absurd (omega (arith, f .2 (omega arith)))
+      | yes many ↦ let more : 20 ≤ r - 1 = omega arith in let low : 10 ^ 20 ≤ 10 ^ (r - 1) = pow-le-pow-right {n = 10}
+          (omega arith) more in absurd (omega (arith, f .2 (omega arith)))
       | no few ↦ omega arith
     ]
 
@@ -79,4 +88,5 @@ fewest-digits (suc k) (suc (suc r)) n h f =
     let upper : n / 10 < 10 ^ suc r = omega (arith, f .1) in
     let less : suc r - 1 ≡ r = omega arith in
     let lower : 10 ^ (suc r - 1) ≤ n / 10 = rw less (omega arith) in
-    rw (le-ltb n 10 ten, fewest-digits k (suc r) (n / 10) (omega arith) (omega arith, upper, λ _. lower)) (ap (λ (d : ℕ). decimalBy k (n / 10) ++ (d ∷ [])) (digit-glyph (n % 10) (omega arith)))
+    rw (le-ltb n 10 ten, fewest-digits k (suc r) (n / 10) (omega arith) (omega arith, upper, λ _. lower))
+    (ap (λ (d : ℕ). decimalBy k (n / 10) ++ (d ∷ [])) (digit-glyph (n % 10) (omega arith)))

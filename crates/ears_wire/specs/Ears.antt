@@ -1,4 +1,5 @@
--- Document 01, item 10: "writes each frame's left then right, big-endian". Definitions only. The one NaN is written 7FC00000.
+-- Document 01, item 10: "writes each frame's left then right, big-endian". Definitions only. The one NaN is written
+-- 7FC00000.
 use Prim.Native.Nat.{ℕ}
 use mathlib.Core.List.{List, flatMap}
 use lib.Ieee.{Float}

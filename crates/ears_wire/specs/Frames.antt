@@ -1,4 +1,5 @@
--- Document 01, item 10: "5.1 frames of six big-endian f32". A frame is a record of 24 bytes, its channels in their order, four bytes each. Definitions only.
+-- Document 01, item 10: "5.1 frames of six big-endian f32". A frame is a record of 24 bytes, its channels in their
+-- order, four bytes each. Definitions only.
 use Prim.Native.Nat.{ℕ}
 use mathlib.Core.List.{List}
 use lib.Ieee.{Float}

@@ -1,4 +1,5 @@
--- What each function hands back, and what the list that it fills holds. A refusal is document 01's 5, "a lent length doesn't fit", and leaves the list as it was. Definitions only.
+-- What each function hands back, and what the list that it fills holds. A refusal is document 01's 5, "a lent length
+-- doesn't fit", and leaves the list as it was. Definitions only.
 use mathlib.Core.Path.{_≡_}
 use Prim.Native.Nat.{ℕ, _+_, _*_}
 use mathlib.Core.List.{List, [], _∷_}
@@ -27,7 +28,11 @@ takenRefusal bytes stride inputs = firstOf (5 when unfit (length inputs) 6 strid
 
 abbrev pub takenBy : ℕ → List ℕ → ℕ → List Float → FramesTaken
 takenBy number bytes stride inputs =
-    answered number (record { answer = record { refusal = 0; frames = wholeIn 24 bytes }; inputs = withFrames inputs stride 0 (lineFrames bytes) })
+    answered number (record {
+      answer =
+          record { refusal = 0; frames = wholeIn 24 bytes };
+      inputs = withFrames inputs stride 0 (lineFrames bytes);
+    })
     (λ k. record { answer = record { refusal = k; frames = 0 }; inputs = inputs })
 
 unfoldable pub framesTaken : List ℕ → ℕ → List Float → FramesTaken
@@ -41,11 +46,16 @@ pub record EarsGiven : Type 0 where
 
 -- two planes, which have the frames, and room for all their bytes
 abbrev pub givenRefusal : List Float → ℕ → ℕ → List ℕ → ℕ
-givenRefusal ears stride frames out = firstOf (5 when unfit (length ears) 2 stride frames ∷ 5 when ltb (length out) (frames * 8) ∷ [])
+givenRefusal ears stride frames out =
+    firstOf (5 when unfit (length ears) 2 stride frames ∷ 5 when ltb (length out) (frames * 8) ∷ [])
 
 abbrev pub givenBy : ℕ → List Float → ℕ → ℕ → List ℕ → EarsGiven
 givenBy number ears stride frames out =
-    answered number (record { answer = record { refusal = 0; bytes = frames * 8 }; out = placed out 0 (earBytes (framesOf ears stride 2 frames)) })
+    answered number (record {
+      answer =
+          record { refusal = 0; bytes = frames * 8 };
+      out = placed out 0 (earBytes (framesOf ears stride 2 frames));
+    })
     (λ k. record { answer = record { refusal = k; bytes = 0 }; out = out })
 
 unfoldable pub earsGiven : List Float → ℕ → ℕ → List ℕ → EarsGiven
@@ -69,7 +79,8 @@ lineRefusal out = firstOf (5 when ltb (length out) 64 ∷ [])
 
 -- the line stands at the start of the list; a list without room is as it was, and the length tells no number: it is 0
 abbrev pub lineBy : ℕ → List ℕ → List ℕ → LineGiven
-lineBy number out line = answered number (record { size = length line; out = placed out 0 line }) (λ k. record { size = 0; out = out })
+lineBy number out line =
+    answered number (record { size = length line; out = placed out 0 line }) (λ k. record { size = 0; out = out })
 
 unfoldable pub lineGiven : List ℕ → List ℕ → LineGiven
 lineGiven out line = lineBy (lineRefusal out) out line

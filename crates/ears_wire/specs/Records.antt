@@ -1,4 +1,5 @@
--- Records of n bytes each, in bytes that come in parts of any sizes: the whole ones, and the bytes behind them. Definitions only.
+-- Records of n bytes each, in bytes that come in parts of any sizes: the whole ones, and the bytes behind them.
+-- Definitions only.
 use Prim.Native.Nat.{ℕ, _*_, _/_}
 use mathlib.Core.List.{List}
 use lib.ListN.{length, drop}

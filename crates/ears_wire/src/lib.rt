@@ -61,7 +61,8 @@ fn take_frame(bytes: &[u8], n: usize, stride: usize, inputs: &mut [f32])
 // Puts the whole frames of the bytes into the planes.
 fn take_frames(bytes: &[u8], frames: usize, stride: usize, inputs: &mut [f32])
     requires { ⌜ frames ≡ wholeIn 24 (now bytes) ⌝ }
-    ensures { λ _. ⌜ now (inputs .exit) ≡ withFrames (now (inputs .entry)) stride 0 (lineFrames (now (bytes .entry))) ⌝ }
+    ensures { λ _. ⌜ now (inputs .exit) ≡ withFrames (now (inputs .entry)) stride 0
+        (lineFrames (now (bytes .entry))) ⌝ }
 {
     let mut n = 0;
     while n < frames {
@@ -74,7 +75,8 @@ fn take_frames(bytes: &[u8], frames: usize, stride: usize, inputs: &mut [f32])
 
 // Puts the whole frames of the bytes into six planes, or refuses planes that have no room for them.
 pub fn frames_from_bytes(bytes: &[u8], stride: usize, inputs: &mut [f32]) -> Taken
-    ensures { λ r. ⌜ record { answer = r; inputs = now (inputs .exit) } ≡ framesTaken (now (bytes .entry)) stride (now (inputs .entry)) ⌝ }
+    ensures { λ r. ⌜ record { answer = r; inputs = now (inputs .exit) } ≡ framesTaken (now (bytes .entry)) stride
+        (now (inputs .entry)) ⌝ }
 {
     let frames = bytes.len() / FRAME;
     if checks::is_unfit(inputs.len(), 6, stride, frames) {
@@ -90,7 +92,8 @@ pub fn frames_from_bytes(bytes: &[u8], stride: usize, inputs: &mut [f32]) -> Tak
 // Puts the two ears of frame n, left then right, where they belong.
 fn give_ears(ears: &[f32], stride: usize, n: usize, out: &mut [u8])
     requires { ⌜ n * 8 + 8 ≤ length (now out) ⌝ }
-    ensures { λ _. ⌜ now (out .exit) ≡ placed (now (out .entry)) (n * 8) (floatBytes (frameAt (now (ears .entry)) stride 2 n)) ⌝ }
+    ensures { λ _. ⌜ now (out .exit) ≡ placed (now (out .entry)) (n * 8)
+        (floatBytes (frameAt (now (ears .entry)) stride 2 n)) ⌝ }
 {
     let at = n * EARS;
     let left = planes::sample(ears, stride, 0, n);
@@ -102,7 +105,8 @@ fn give_ears(ears: &[f32], stride: usize, n: usize, out: &mut [u8])
 // Puts the ears of the first frames at the start of out.
 fn give_frames(ears: &[f32], stride: usize, frames: usize, out: &mut [u8])
     requires { ⌜ frames * 8 ≤ length (now out) ⌝ }
-    ensures { λ _. ⌜ now (out .exit) ≡ placed (now (out .entry)) 0 (earBytes (framesOf (now (ears .entry)) stride 2 frames)) ⌝ }
+    ensures { λ _. ⌜ now (out .exit) ≡ placed (now (out .entry)) 0
+        (earBytes (framesOf (now (ears .entry)) stride 2 frames)) ⌝ }
 {
     let mut n = 0;
     while n < frames {
@@ -114,7 +118,8 @@ fn give_frames(ears: &[f32], stride: usize, frames: usize, out: &mut [u8])
 // Puts the ears of the first frames at the start of out, or refuses planes that have not so many and a list that has
 // no room for them.
 pub fn bytes_from_ears(ears: &[f32], stride: usize, frames: usize, out: &mut [u8]) -> Given
-    ensures { λ r. ⌜ record { answer = r; out = now (out .exit) } ≡ earsGiven (now (ears .entry)) stride frames (now (out .entry)) ⌝ }
+    ensures { λ r. ⌜ record { answer = r; out = now (out .exit) } ≡ earsGiven (now (ears .entry)) stride frames
+        (now (out .entry)) ⌝ }
 {
     if checks::is_unfit(ears.len(), 2, stride, frames) {
         return Given {

@@ -43,7 +43,8 @@ fn put_named(out: &mut [u8], at: usize, word: &[u8], n: u64) -> usize
 fn put_two(out: &mut [u8], first: &[u8], m: u64, second: &[u8], n: u64) -> usize
     requires room { ⌜ 64 ≤ length (now out) ⌝ }
     requires short { ⌜ length (now first) + length (now second) ≤ 23 ⌝ }
-    ensures { λ r. ⌜ Put (now (out .entry)) 0 (now (first .entry) ++ (decimal m ++ (now (second .entry) ++ (decimal n ++ newline)))) r (now (out .exit)) ⌝ }
+    ensures { λ r. ⌜ Put (now (out .entry)) 0
+        (now (first .entry) ++ (decimal m ++ (now (second .entry) ++ (decimal n ++ newline)))) r (now (out .exit)) ⌝ }
 {
     let a = put_named(out, 0, first, m);
     let b = put_named(out, a, second, n);

@@ -8,7 +8,9 @@ ghost use Rattle.panner.specs.Promise.{Processed};
 
 // Plays four samples at a direction. The planes have four samples each, one plane after another.
 fn place(direction: Direction, voice: &[f32], planes: &mut [f32]) -> panner::Panned
-    ensures { λ r. ⌜ Processed (record { command = Command.Ambisonic direction 1; layout = Layout.Mono; frames = 4; stride = 4 }) (now (voice .entry)) (now (planes .entry)) r (now (planes .exit)) ⌝ }
+    ensures { λ r.
+        ⌜ Processed (record { command = Command.Ambisonic direction 1; layout = Layout.Mono; frames = 4; stride = 4 })
+        (now (voice .entry)) (now (planes .entry)) r (now (planes .exit)) ⌝ }
 {
     let command = Command::Ambisonic(direction, 1);
     panner::process(command, Layout::Mono, 4, 4, voice, planes)

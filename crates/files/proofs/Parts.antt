@@ -1,4 +1,5 @@
--- What stands at the start of a list: a count of it that a caller can cut off, and what a read behind it keeps. Assumes nothing.
+-- What stands at the start of a list: a count of it that a caller can cut off, and what a read behind it keeps. Assumes
+-- nothing.
 use mathlib.Core.Path.{_≡_, sym, ap, _∙_}
 use mathlib.Core.List.{List}
 use mathlib.Core.Bool.{Bool, true}
@@ -13,8 +14,10 @@ use Rattle.files.specs.Promise.{ReadBehind}
 pub counts : (n : ℕ) (xs : List ℕ) → n ≤ length xs → Counts n xs
 counts n xs h = (h, sym (length-take-le n xs h))
 
--- behind the held bytes, or behind the last where there are not so many; `got` bytes came, and there was room for no more than `limit`
-pub behind : (held limit at got : ℕ) (failed : Bool) (before after : List ℕ) → at ≡ min held (length before) → length after ≡ length before → got ≤ max 1 limit → at + got ≤ length after
+-- behind the held bytes, or behind the last where there are not so many; `got` bytes came, and there was room for no
+-- more than `limit`
+pub behind : (held limit at got : ℕ) (failed : Bool) (before after : List ℕ) → at ≡ min held (length before)
+    → length after ≡ length before → got ≤ max 1 limit → at + got ≤ length after
     → (failed ≡ true → got ≡ 0) → take at after ≡ take at before → ReadBehind held limit before failed (at + got) after
 behind held limit at got failed before after e long few room none same =
     record {

@@ -10,7 +10,8 @@ use Rattle.big_endian.specs.Bytes.{AreBytes}
 use Rattle.bank_form.specs.FaultLaws.{TakenFrom}
 use Rattle.bank.specs.Reading.{ReadOutcome, Reads}
 
--- bytes are read behind those that are held, no more than `limit`, or one where that is 0: those that were there stay, so many stand there now, and a read that failed has added none
+-- bytes are read behind those that are held, no more than `limit`, or one where that is 0: those that were there stay,
+-- so many stand there now, and a read that failed has added none
 pub record ReadBehind (held limit : ℕ) (before : List ℕ) (failed : Bool) (size : ℕ) (after : List ℕ) : Type 0 where
   pub more : min held (length before) ≤ size
   pub most : size ≤ min held (length before) + max 1 limit

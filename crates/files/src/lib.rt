@@ -131,8 +131,14 @@ fn read_sized(
     taps: &mut [f32],
 ) -> BankRead
     requires { ⌜ length (now bytes) ≡ largest ⌝ }
-    ensures { λ r. ⌜ ReadSized (now (bytes .entry)) size (now (azimuths .entry)) (now (elevations .entry)) (now (taps .entry))
-        (record { answer = r; azimuths = now (azimuths .exit); elevations = now (elevations .exit); taps = now (taps .exit) }) ⌝ }
+    ensures { λ r. ⌜ ReadSized (now (bytes .entry)) size (now (azimuths .entry)) (now (elevations .entry))
+        (now (taps .entry))
+        (record {
+          answer = r;
+          azimuths = now (azimuths .exit);
+          elevations = now (elevations .exit);
+          taps = now (taps .exit);
+        }) ⌝ }
 {
     let n = checks::min(size, bytes.len());
     bank::read_start(&bytes[..n], size, azimuths, elevations, taps)
@@ -147,7 +153,12 @@ pub fn read_bank(
     taps: &mut [f32],
 ) -> BankRead
     ensures { λ r. ⌜ Found (now (azimuths .entry)) (now (elevations .entry)) (now (taps .entry))
-        (record { answer = r; azimuths = now (azimuths .exit); elevations = now (elevations .exit); taps = now (taps .exit) }) ⌝ }
+        (record {
+          answer = r;
+          azimuths = now (azimuths .exit);
+          elevations = now (elevations .exit);
+          taps = now (taps .exit);
+        }) ⌝ }
 {
     let file = os::open_read(path);
     let mut bytes = [0u8; LARGEST];

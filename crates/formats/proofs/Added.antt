@@ -1,5 +1,5 @@
--- What a format holds is rounded to itself (`held-rounded`), and so, added to 0.0, it is itself but for the sign of a zero (`zero-and`). In every
--- format. Assumes nothing.
+-- What a format holds is rounded to itself (`held-rounded`), and so, added to 0.0, it is itself but for the sign of a
+-- zero (`zero-and`). In every format. Assumes nothing.
 use mathlib.Core.Path.{_≡_, refl, sym, ap, _∙_, subst}
 use mathlib.Core.Bool.{Bool, false}
 use Prim.Native.Nat.{ℕ, zero, suc, _*_, _^_, _<_}
@@ -23,16 +23,19 @@ use Rattle.formats.proofs.Zeros.{Unsigned, unsigned-twice, zero-added, 
 same-fraction : (m d n c w l : ℕ) → 0 < d → m * c ≡ n * d → m * l ≡ w * d → n * l ≡ w * c
 same-fraction m d n c w l D p q =
     eq-of-mul-eq-mul-right d D (n * l) (w * c)
-    (mul-right-comm n l d ∙ ap (λ (k : ℕ). k * l) (sym p) ∙ mul-right-comm m c l ∙ ap (λ (k : ℕ). k * c) q ∙ mul-right-comm w d c)
+    (mul-right-comm n l d ∙ ap (λ (k : ℕ). k * l) (sym p) ∙ mul-right-comm m c l ∙ ap (λ (k : ℕ). k * c) q
+    ∙ mul-right-comm w d c)
 
 module _ (f : Format) (s : Bool) (m : ℕ) (e : ℤ) (h : T (fits f (fin s m e))) where
   held-rounded : (n c : ℕ) → 0 < c → m * up e * c ≡ n * down e → round f s n c ≡ fin s m e
   held-rounded n c C v =
       let u = held-units f s m e h in
       let g = u .grid in
-      round-same f s n c (u .w) (2 ^ low f) C (pow-pos (low f)) (same-fraction (m * up e) (down e) n c (u .w) (2 ^ low f) (down-pos e) v (u .value .1))
+      round-same f s n c (u .w) (2 ^ low f) C (pow-pos (low f))
+      (same-fraction (m * up e) (down e) n c (u .w) (2 ^ low f) (down-pos e) v (u .value .1))
       ∙ same-value f s (round f s (u .w) (2 ^ low f)) (fin s m e) (u .w) (round-fits f s (u .w) (2 ^ low f)) h
-      (round-exact f s (u .w) (2 ^ low f) (g .c) (g .i) (pow-pos (low f)) (g .fit) (subst (λ (k : ℕ). k < overflow f) (g .is) (g .room)) (ap (λ (k : ℕ). k * 2 ^ low f) (g .is)))
+      (round-exact f s (u .w) (2 ^ low f) (g .c) (g .i) (pow-pos (low f)) (g .fit)
+      (subst (λ (k : ℕ). k < overflow f) (g .is) (g .room)) (ap (λ (k : ℕ). k * 2 ^ low f) (g .is)))
       (u .value)
 
 -- ---- 0.0 and what the format holds

@@ -26,7 +26,8 @@ module _ (f : Format) (c : ℕ) where
   equal-exchanged s a t b e = rw (le-ltb a b (le-of-eq (sym e)), le-ltb b a (le-of-eq e), and-false s, and-false t, e)
 
   difference-exchanged : (s : Bool) (a : ℕ) (t : Bool) (b : ℕ) → difference s a t b ≡ difference t b s a
-  difference-exchanged s a t b = compared a b (less-exchanged s a t b) (equal-exchanged s a t b) (λ l. sym (less-exchanged t b s a l))
+  difference-exchanged s a t b =
+      compared a b (less-exchanged s a t b) (equal-exchanged s a t b) (λ l. sym (less-exchanged t b s a l))
 
 sum-exchanged : (f : Format) (s : Bool) (a : ℕ) (t : Bool) (b c : ℕ) → sum f s a t b c ≡ sum f t b s a c
 unfolding sum
@@ -49,7 +50,8 @@ module _ (f : Format) where
   add-exchanged (inf s) (fin t n d) = refl
   add-exchanged (fin s m e) nan = refl
   add-exchanged (fin s m e) (inf t) = refl
-  add-exchanged (fin s m e) (fin t n d) = sum-exchanged f s _ t _ _ ∙ ap (sum f t (n * up d * down e) s (m * up e * down d)) (mul-comm (down e) (down d))
+  add-exchanged (fin s m e) (fin t n d) =
+      sum-exchanged f s _ t _ _ ∙ ap (sum f t (n * up d * down e) s (m * up e * down d)) (mul-comm (down e) (down d))
 
   pub mul-exchanged : (x y : Float) → mul f x y ≡ mul f y x
   unfolding mul
@@ -61,4 +63,5 @@ module _ (f : Format) where
   mul-exchanged (inf s) (fin t n d) = ap (λ (b : Bool). cond (eqb n 0) nan (inf b)) (unlike-exchanged s t)
   mul-exchanged (fin s m e) nan = refl
   mul-exchanged (fin s m e) (inf t) = ap (λ (b : Bool). cond (eqb m 0) nan (inf b)) (unlike-exchanged s t)
-  mul-exchanged (fin s m e) (fin t n d) = λ i. round f (unlike-exchanged s t i) (mul-comm (m * up e) (n * up d) i) (mul-comm (down e) (down d) i)
+  mul-exchanged (fin s m e) (fin t n d) =
+      λ i. round f (unlike-exchanged s t i) (mul-comm (m * up e) (n * up d) i) (mul-comm (down e) (down d) i)

@@ -1,4 +1,5 @@
--- `Digits` names no format, only a number of digits p; `Patterns`, `Grid`, `Normal`, `Dropped`, `Exchanged`, `Signs`, `Zeros`, `Added` and `Opposite` hold in every format.
+-- `Digits` names no format, only a number of digits p; `Patterns`, `Grid`, `Normal`, `Dropped`, `Exchanged`, `Signs`,
+-- `Zeros`, `Added` and `Opposite` hold in every format.
 pub mod Digits
 pub mod Patterns
 pub mod Grid

@@ -1,5 +1,6 @@
--- A float and its opposite, but for the sign of a zero (`Opposite`). Comparing does not see that sign, and goes the other way round (`lt-opposite`);
--- products, sums and differences of opposites are opposites (`mul-opposite`, `add-opposite`, `sub-opposite`). Assumes nothing.
+-- A float and its opposite, but for the sign of a zero (`Opposite`). Comparing does not see that sign, and goes the
+-- other way round (`lt-opposite`); products, sums and differences of opposites are opposites (`mul-opposite`,
+-- `add-opposite`, `sub-opposite`). Assumes nothing.
 use mathlib.Core.Path.{_≡_, refl, sym, ap, _∙_}
 use mathlib.Core.Bool.{Bool, true, false, not, _&&_, Bool·beq, cond, and-true, and-false}
 use Prim.Native.Nat.{ℕ, zero, suc, _+_, _-_, _*_, _<_}
@@ -34,7 +35,8 @@ opposite-of-negated x = ap unsignedZero (sym (neg-neg x))
 -- ---- multiplying
 
 module _ (f : Format) where
-  pub mul-alike : (x x' y y' : Float) → unsignedZero x ≡ unsignedZero x' → unsignedZero y ≡ unsignedZero y' → unsignedZero (mul f x y) ≡ unsignedZero (mul f x' y')
+  pub mul-alike : (x x' y y' : Float) → unsignedZero x ≡ unsignedZero x' → unsignedZero y ≡ unsignedZero y'
+      → unsignedZero (mul f x y) ≡ unsignedZero (mul f x' y')
   mul-alike x x' y y' h k = mul-unsigned f x y ∙ (λ i. unsignedZero (mul f (h i) (k i))) ∙ sym (mul-unsigned f x' y')
 
   -- a factor that is opposite gives the opposite product
@@ -45,7 +47,8 @@ module _ (f : Format) where
 
 zero-below : (s t : Bool) (a b : ℕ) → a ≡ 0 → below s a t b ≡ below false a t b
 zero-below false t a b z = refl
-zero-below true false a b z = ap (λ (k : ℕ). ltb 0 (k + b)) z ∙ ap (ltb 0) (zero-add b) ∙ ap (λ (k : ℕ). ltb k b) (sym z)
+zero-below true false a b z =
+    ap (λ (k : ℕ). ltb 0 (k + b)) z ∙ ap (ltb 0) (zero-add b) ∙ ap (λ (k : ℕ). ltb k b) (sym z)
 zero-below true true a b z = le-ltb b a (omega arith)
 
 lt-unsigned-first : (x y : Float) → lt x y ≡ lt (unsignedZero x) y
@@ -71,15 +74,18 @@ lt-unsigned x y =
     u = unsignedZero x
 
 pub lt-opposite : (x x' y y' : Float) → Opposite x' x → Opposite y' y → lt x' y' ≡ lt y x
-lt-opposite x x' y y' h k = lt-unsigned x' y' ∙ (λ i. lt (h i) (k i)) ∙ sym (lt-unsigned (neg x) (neg y)) ∙ lt-negated x y
+lt-opposite x x' y y' h k =
+    lt-unsigned x' y' ∙ (λ i. lt (h i) (k i)) ∙ sym (lt-unsigned (neg x) (neg y)) ∙ lt-negated x y
 
 -- ---- adding
 
 -- two zeros
-zeros-added : (f : Format) (s : Bool) (a : ℕ) (t : Bool) (b c : ℕ) → a ≡ 0 → b ≡ 0 → 0 < c → unsignedZero (sum f s a t b c) ≡ unsignedZero (round f false 0 c)
+zeros-added : (f : Format) (s : Bool) (a : ℕ) (t : Bool) (b c : ℕ) → a ≡ 0 → b ≡ 0 → 0 < c
+    → unsignedZero (sum f s a t b c) ≡ unsignedZero (round f false 0 c)
 unfolding sum
 zeros-added f s a t b c p q C =
-    either Zero (Bool·beq s t) (zero s (a + b) (omega arith)) (either Zero (ltb a b) (zero t (b - a) (omega arith)) (zero (s && ltb b a) (a - b) (omega arith)))
+    either Zero (Bool·beq s t) (zero s (a + b) (omega arith))
+    (either Zero (ltb a b) (zero t (b - a) (omega arith)) (zero (s && ltb b a) (a - b) (omega arith)))
   where
     Zero : Float → Type 0
     Zero x = unsignedZero x ≡ unsignedZero (round f false 0 c)
@@ -95,11 +101,14 @@ module _ (f : Format) where
   add-unsigned-second x (fin t (suc n) d) = refl
   add-unsigned-second nan (fin t zero d) = refl
   add-unsigned-second (inf s) (fin t zero d) = refl
-  add-unsigned-second (fin s (suc m) e) (fin t zero d) = ap unsignedZero (add-unsigned f (fin s (suc m) e) (fin t zero d) refl)
+  add-unsigned-second (fin s (suc m) e) (fin t zero d) =
+      ap unsignedZero (add-unsigned f (fin s (suc m) e) (fin t zero d) refl)
   add-unsigned-second (fin s zero e) (fin t zero d) = no-size s t ∙ sym (no-size s false)
     where
-      no-size : (s t : Bool) → unsignedZero (add f (fin s 0 e) (fin t 0 d)) ≡ unsignedZero (round f false 0 (down e * down d))
-      no-size s t = zeros-added f s _ t _ _ (zero-size (up e) (down d)) (zero-size (up d) (down e)) (mul-pos (down-pos e) (down-pos d))
+      no-size : (s t : Bool) → unsignedZero (add f (fin s 0 e) (fin t 0 d))
+          ≡ unsignedZero (round f false 0 (down e * down d))
+      no-size s t = zeros-added f s _ t _ _ (zero-size (up e) (down d)) (zero-size (up d) (down e))
+          (mul-pos (down-pos e) (down-pos d))
 
   add-alike : (x y : Float) → unsignedZero (add f x y) ≡ unsignedZero (add f (unsignedZero x) (unsignedZero y))
   add-alike x y =
@@ -110,15 +119,18 @@ module _ (f : Format) where
       ∙ ap unsignedZero (add-exchanged f v (unsignedZero x))
 
   difference-negated : (s : Bool) (a : ℕ) (t : Bool) (b c : ℕ) → 0 < c
-      → unsignedZero (cond (ltb a b) (round f (not t) (b - a) c) (round f (not s && ltb b a) (a - b) c)) ≡ unsignedZero (neg (cond (ltb a b) (round f t (b - a) c) (round f (s && ltb b a) (a - b) c)))
+      → unsignedZero (cond (ltb a b) (round f (not t) (b - a) c) (round f (not s && ltb b a) (a - b) c))
+      ≡ unsignedZero (neg (cond (ltb a b) (round f t (b - a) c) (round f (s && ltb b a) (a - b) c)))
   difference-negated s a t b c C =
       compared a b (λ l. rw (lt-ltb a b l) (ap unsignedZero (sym (round-negated f t (b - a) c))))
       (λ e.
       rw (le-ltb a b (omega arith), le-ltb b a (omega arith), and-false s, and-false (not s))
       (zero-signs f false true (a - b) c (omega arith) C ∙ ap unsignedZero (sym (round-negated f false (a - b) c))))
-      (λ l. rw (le-ltb a b (le-of-lt l), lt-ltb b a l, and-true s, and-true (not s)) (ap unsignedZero (sym (round-negated f s (a - b) c))))
+      (λ l. rw (le-ltb a b (le-of-lt l), lt-ltb b a l, and-true s, and-true (not s))
+      (ap unsignedZero (sym (round-negated f s (a - b) c))))
 
-  sum-negated : (s : Bool) (a : ℕ) (t : Bool) (b c : ℕ) → 0 < c → unsignedZero (sum f (not s) a (not t) b c) ≡ unsignedZero (neg (sum f s a t b c))
+  sum-negated : (s : Bool) (a : ℕ) (t : Bool) (b c : ℕ) → 0 < c
+      → unsignedZero (sum f (not s) a (not t) b c) ≡ unsignedZero (neg (sum f s a t b c))
   unfolding sum
   sum-negated true a true b c C = ap unsignedZero (sym (round-negated f true (a + b) c))
   sum-negated false a false b c C = ap unsignedZero (sym (round-negated f false (a + b) c))
@@ -139,7 +151,8 @@ module _ (f : Format) where
   add-negated (fin s m e) (fin t n d) = sum-negated s _ t _ _ (mul-pos (down-pos e) (down-pos d))
 
   add-opposite : (x x' y y' : Float) → Opposite x' x → Opposite y' y → Opposite (add f x' y') (add f x y)
-  add-opposite x x' y y' h k = add-alike x' y' ∙ (λ i. unsignedZero (add f (h i) (k i))) ∙ sym (add-alike (neg x) (neg y)) ∙ add-negated x y
+  add-opposite x x' y y' h k =
+      add-alike x' y' ∙ (λ i. unsignedZero (add f (h i) (k i))) ∙ sym (add-alike (neg x) (neg y)) ∙ add-negated x y
 
   pub sub-opposite : (x x' y y' : Float) → Opposite x' x → Opposite y' y → Opposite (sub f x' y') (sub f x y)
   unfolding sub

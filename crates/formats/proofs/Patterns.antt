@@ -1,17 +1,21 @@
--- Bit patterns of the values of a format f. A finite value is known by its sign and by how many of the format's smallest values it is (`same-value`), which its fields tell (`fields-value`),
--- and so is its pattern (`toBits-value`). The pattern of q * 2 ^ k of them is one sum for subnormal and normal values, for a carry into the exponent and for an infinity alike
--- (`units-bits`, read back by `ofBits-units`). Each holds in every format. Assumes nothing.
+-- Bit patterns of the values of a format f. A finite value is known by its sign and by how many of the format's
+-- smallest values it is (`same-value`), which its fields tell (`fields-value`), and so is its pattern (`toBits-value`).
+-- The pattern of q * 2 ^ k of them is one sum for subnormal and normal values, for a carry into the exponent and for an
+-- infinity alike (`units-bits`, read back by `ofBits-units`). Each holds in every format. Assumes nothing.
 use mathlib.Core.Path.{_≡_, refl, sym, ap, _∙_, subst}
 use mathlib.Core.Logic.{_⊎_}
 use Prim.Native.Nat.{ℕ, zero, suc, _+_, _-_, _*_, _/_, _%_, _^_, _≤_, _<_, min}
-use native.Mathlib.Nat.{le-refl, le-suc, lt-of-lt-of-le, lt-of-le-of-lt, lt-irrefl, ne-of-lt, add-assoc, mul-comm, mul-pos, zero-lt-suc, zero-mod, zero-div, mul-div-cancel, mul-le-mul-right, mod-eq-of-lt, div-lt-iff-lt-mul, min-eq-left, min-eq-right}
+use native.Mathlib.Nat.{le-refl, le-suc, lt-of-lt-of-le, lt-of-le-of-lt, lt-irrefl, ne-of-lt, add-assoc, mul-comm}
+use native.Mathlib.Nat.{mul-pos, zero-lt-suc, zero-mod, zero-div, mul-div-cancel, mul-le-mul-right, mod-eq-of-lt}
+use native.Mathlib.Nat.{div-lt-iff-lt-mul, min-eq-left, min-eq-right}
 use native.Mathlib.Omega.{arith}
 use mathlib.Core.Bool.{Bool, true, false, not, cond, _&&_, true≢false}
 use lib.IntN.{ℤ}
 use lib.Dec.{T, leb, ltb, eqb, leb→le, ltb→lt}
 use borrow.Author.Tests.{lt-ltb, le-ltb, lt-leb, ne-eqb}
 use lib.Pow.{pow-add, pow-pos, pow-lt}
-use lib.Ieee.{Float, nan, inf, fin, Format, binary32, binary64, prec, emax, low, up, down, size, odd, units, round, ne, fits, isNan, hid, ones, top, ofFields, ofBits, toBits, nanBits}
+use lib.Ieee.{Float, nan, inf, fin, Format, binary32, binary64, prec, emax, low, up, down, size, odd, units, round}
+use lib.Ieee.{ne, fits, isNan, hid, ones, top, ofFields, ofBits, toBits, nanBits}
 use lib.Ieee.Fits.{two, reach, two-le-pos, down-pos, odd-fits, inf-fits, and-l, and-r}
 use lib.Ieee.Bits.{ofBits-toBits, nanBits-is, nanBits-above}
 use lib.Ieee.Compare.{nan-differs}
@@ -28,7 +32,8 @@ pub twice-hid : (f : Format) → 2 ^ prec f ≡ 2 * hid f
 twice-hid f = twice (prec f) (some-digits f)
 
 -- ---- the pattern of a finite value, which is a of the format's smallest values
-pub toBits-value : (f : Format) (s : Bool) (v : Float) (a : ℕ) → HasValue v s a (2 ^ low f) → toBits f v ≡ cond s (top f) 0 + ((size a - prec f) * hid f + a / 2 ^ (size a - prec f))
+pub toBits-value : (f : Format) (s : Bool) (v : Float) (a : ℕ) → HasValue v s a (2 ^ low f)
+    → toBits f v ≡ cond s (top f) 0 + ((size a - prec f) * hid f + a / 2 ^ (size a - prec f))
 unfolding toBits
 toBits-value f s nan a h = absurd h
 toBits-value f s (inf t) a h = absurd h
@@ -38,15 +43,18 @@ toBits-value f s (fin t m e) a h =
     ∙ ap (λ (b : Bool). cond b (top f) 0 + (size a - prec f) * hid f + a / 2 ^ (size a - prec f)) (h .0)
     ∙ add-assoc (cond s (top f) 0) ((size a - prec f) * hid f) (a / 2 ^ (size a - prec f))
 
-pub same-value : (f : Format) (s : Bool) (x y : Float) (a : ℕ) → T (fits f x) → T (fits f y) → HasValue x s a (2 ^ low f) → HasValue y s a (2 ^ low f) → x ≡ y
+pub same-value : (f : Format) (s : Bool) (x y : Float) (a : ℕ) → T (fits f x) → T (fits f y)
+    → HasValue x s a (2 ^ low f) → HasValue y s a (2 ^ low f) → x ≡ y
 same-value f s x y a p q h k =
-    sym (ofBits-toBits f x p) ∙ ap (ofBits f) (toBits-value f s x a h ∙ sym (toBits-value f s y a k)) ∙ ofBits-toBits f y q
+    sym (ofBits-toBits f x p) ∙ ap (ofBits f) (toBits-value f s x a h ∙ sym (toBits-value f s y a k))
+    ∙ ofBits-toBits f y q
 
 pub toBits-inf : (f : Format) (s : Bool) → toBits f (inf s) ≡ cond s (top f) 0 + ones f * hid f
 unfolding toBits
 toBits-inf f s = refl
 
--- ---- the pattern of q * 2 ^ k of them, for a q of the format's digits, or the next number after these: k is 0, or q has its leading digit
+-- ---- the pattern of q * 2 ^ k of them, for a q of the format's digits, or the next number after these: k is 0, or q
+-- has its leading digit
 -- the overflow, 2 ^ (low + emax + 1), is 2 ^ (2 * emax) * hid
 end-is : (f : Format) → overflow f ≡ 2 ^ (2 * emax f) * hid f
 end-is f = ap (λ (x : ℕ). 2 ^ x) (omega (arith, two f)) ∙ pow-add 2 (2 * emax f) (prec f - 1)
@@ -55,7 +63,8 @@ module _ (f : Format) (s : Bool) (q k : ℕ) (h : q ≤ 2 ^ prec f) where
   pub units-fits : T (fits f (units f s q k))
   unfolding units
   units-fits =
-      by-less (λ (x : Float). T (fits f x)) (q * 2 ^ k) (overflow f) (odd-fits f (suc (prec f)) s q k (lt-of-le-of-lt h (pow-lt (le-refl (suc (prec f))))) h) (λ l. inf-fits f s)
+      by-less (λ (x : Float). T (fits f x)) (q * 2 ^ k) (overflow f)
+      (odd-fits f (suc (prec f)) s q k (lt-of-le-of-lt h (pow-lt (le-refl (suc (prec f))))) h) (λ l. inf-fits f s)
 
   module _ (g : (k ≡ 0) ⊎ (hid f ≤ q)) where
     few : q ≤ 2 * hid f
@@ -68,14 +77,17 @@ module _ (f : Format) (s : Bool) (q k : ℕ) (h : q ≤ 2 ^ prec f) where
     under-inf l = under-end (hid f) q k (2 * emax f) some few g (subst (λ (x : ℕ). q * 2 ^ k < x) (end-is f) l)
 
     past-inf : overflow f ≤ q * 2 ^ k → ones f * hid f ≤ k * hid f + q
-    past-inf l = past-end (hid f) q k (2 * emax f) (pow-pos (prec f - 1)) some few g (subst (λ (x : ℕ). x ≤ q * 2 ^ k) (end-is f) l)
+    past-inf l = past-end (hid f) q k (2 * emax f) (pow-pos (prec f - 1)) some few g
+        (subst (λ (x : ℕ). x ≤ q * 2 ^ k) (end-is f) l)
 
     pub units-bits : toBits f (units f s q k) ≡ cond s (top f) 0 + min (k * hid f + q) (ones f * hid f)
     unfolding units
     units-bits =
-        by-less (λ (v : Float). toBits f v ≡ cond s (top f) 0 + min (k * hid f + q) (ones f * hid f)) (q * 2 ^ k) (overflow f)
+        by-less (λ (v : Float). toBits f v ≡ cond s (top f) 0 + min (k * hid f + q) (ones f * hid f)) (q * 2 ^ k)
+        (overflow f)
         (λ l. toBits-value f s (odd (suc (prec f)) s q k (low f)) (q * 2 ^ k) (odd-sign (suc (prec f)) s q k (low f))
-        ∙ ap (λ (x : ℕ). cond s (top f) 0 + x) (pack (prec f) q k (some-digits f) h g ∙ sym (min-eq-left (under-inf l))))
+        ∙ ap (λ (x : ℕ). cond s (top f) 0 + x)
+        (pack (prec f) q k (some-digits f) h g ∙ sym (min-eq-left (under-inf l))))
         (λ r. toBits-inf f s ∙ ap (λ (x : ℕ). cond s (top f) 0 + x) (sym (min-eq-right (past-inf r))))
 
     pub ofBits-units : ofBits f (cond s (top f) 0 + min (k * hid f + q) (ones f * hid f)) ≡ units f s q k
@@ -97,12 +109,14 @@ digits-lt f x t h = subst (λ (z : ℕ). digits f x t < z) (sym (twice-hid f)) (
     go zero = omega arith
     go (suc x) = omega arith
 
-pub fields-value : (f : Format) (s : Bool) (x t : ℕ) → x < ones f → HasValue (ofFields f s x t) s (digits f x t * 2 ^ (x - 1)) (2 ^ low f)
+pub fields-value : (f : Format) (s : Bool) (x t : ℕ) → x < ones f
+    → HasValue (ofFields f s x t) s (digits f x t * 2 ^ (x - 1)) (2 ^ low f)
 unfolding ofFields
 fields-value f s zero t h = odd-sign (prec f) s t 0 (low f)
 fields-value f s (suc x) t h =
     subst (λ (j : ℕ). HasValue (ofFields f s (suc x) t) s ((hid f + t) * 2 ^ j) (2 ^ low f)) (omega arith)
-    (subst (λ (b : Bool). HasValue (cond b (cond (eqb t 0) (inf s) nan) (odd (prec f) s (hid f + t) x (low f))) s ((hid f + t) * 2 ^ x) (2 ^ low f)) (sym (ne-eqb (suc x) (ones f) (ne-of-lt h)))
+    (subst (λ (b : Bool). HasValue (cond b (cond (eqb t 0) (inf s) nan) (odd (prec f) s (hid f + t) x (low f))) s
+    ((hid f + t) * 2 ^ x) (2 ^ low f)) (sym (ne-eqb (suc x) (ones f) (ne-of-lt h)))
     (odd-sign (prec f) s (hid f + t) x (low f)))
 
 pub fields-inf : (f : Format) (s : Bool) → ofFields f s (ones f) 0 ≡ inf s
@@ -115,11 +129,15 @@ unfolding ofBits
 ofBits-fields f b = refl
 
 -- a pattern below the infinity's has no sign
-pub unpack : (f : Format) (b : ℕ) → b < ones f * hid f → HasValue (ofBits f b) false (digits f (b / hid f) (b % hid f) * 2 ^ (b / hid f - 1)) (2 ^ low f)
-unpack f b h = subst (λ (v : Float). HasValue v false (digits f (b / hid f) (b % hid f) * 2 ^ (b / hid f - 1)) (2 ^ low f)) (sym is) (fields-value f false (b / hid f) (b % hid f) (div-lt-iff-lt-mul (pow-pos (prec f - 1)) .1 h))
+pub unpack : (f : Format) (b : ℕ) → b < ones f * hid f → HasValue (ofBits f b) false
+    (digits f (b / hid f) (b % hid f) * 2 ^ (b / hid f - 1)) (2 ^ low f)
+unpack f b h = subst (λ (v : Float). HasValue v false (digits f (b / hid f) (b % hid f) * 2 ^ (b / hid f - 1))
+    (2 ^ low f)) (sym is) (fields-value f false (b / hid f) (b % hid f)
+    (div-lt-iff-lt-mul (pow-pos (prec f - 1)) .1 h))
   where
     under : b < top f
-    under = lt-of-lt-of-le h (subst (λ (x : ℕ). ones f * hid f ≤ x) (mul-comm (suc (ones f)) (hid f)) (mul-le-mul-right (hid f) (le-suc (ones f))))
+    under = lt-of-lt-of-le h (subst (λ (x : ℕ). ones f * hid f ≤ x) (mul-comm (suc (ones f)) (hid f))
+        (mul-le-mul-right (hid f) (le-suc (ones f))))
 
     is : ofBits f b ≡ ofFields f false (b / hid f) (b % hid f)
     is =
@@ -158,11 +176,13 @@ is-nan (fin s m e) h = absurd (true≢false (sym h))
 pub zero-bits : (f : Format) → ofBits f 0 ≡ zero-float
 unfolding ofBits ofFields odd
 zero-bits f =
-    λ i. ofFields f (lt-leb (top f) 0 (mul-pos (pow-pos (prec f - 1)) (zero-lt-suc (ones f))) i) ((ap (λ (x : ℕ). x / hid f) (zero-mod (top f)) ∙ zero-div (hid f)) i) (zero-mod (hid f) i)
+    λ i. ofFields f (lt-leb (top f) 0 (mul-pos (pow-pos (prec f - 1)) (zero-lt-suc (ones f))) i)
+    ((ap (λ (x : ℕ). x / hid f) (zero-mod (top f)) ∙ zero-div (hid f)) i) (zero-mod (hid f) i)
 
 -- beyond the pattern of an infinity stand the NaNs
 pub nan-pattern : (f : Format) (n : ℕ) → ones f * hid f < n % top f → ofBits f n ≡ nan
-nan-pattern f n h = is-nan (ofBits f n) (sym (nanBits-is f n) ∙ nanBits-above f n ∙ lt-ltb (ones f * hid f) (n % top f) h)
+nan-pattern f n h =
+    is-nan (ofBits f n) (sym (nanBits-is f n) ∙ nanBits-above f n ∙ lt-ltb (ones f * hid f) (n % top f) h)
 
 pub number-pattern : (f : Format) (n : ℕ) → n % top f ≤ ones f * hid f → T (not (nanBits f n))
 number-pattern f n h = rw (nanBits-above f n, le-ltb (ones f * hid f) (n % top f) h) tt
@@ -187,7 +207,8 @@ unfolding round
 round-no-nan f s a c = units-no-nan f s _ _
 
 pub pattern-no-nan : (f : Format) (v : Float) → T (fits f v) → T (not (isNan v)) → T (not (nanBits f (toBits f v)))
-pattern-no-nan f v h n = subst (λ (b : Bool). T (not b)) (sym (nanBits-is f (toBits f v) ∙ ap isNan (ofBits-toBits f v h))) n
+pattern-no-nan f v h n =
+    subst (λ (b : Bool). T (not b)) (sym (nanBits-is f (toBits f v) ∙ ap isNan (ofBits-toBits f v h))) n
 
 pub finite-no-nan : (x : Float) → finite x ≡ true → T (not (isNan x))
 unfolding isNan

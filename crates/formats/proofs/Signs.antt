@@ -1,6 +1,7 @@
--- No operation favours a sign, in any format: with the other sign a fraction rounds to the other float of that size (`round-negated`), a factor gives
--- the other product (`mul-negated`), whichever factor it is (`mul-either`), and a literal is the other one (`literal-negated`). Two opposites compare
--- the other way round (`lt-negated`, `le-negated`). Signs of zeros and infinities are among them, and the one NaN stays. Assumes nothing.
+-- No operation favours a sign, in any format: with the other sign a fraction rounds to the other float of that size
+-- (`round-negated`), a factor gives the other product (`mul-negated`), whichever factor it is (`mul-either`), and a
+-- literal is the other one (`literal-negated`). Two opposites compare the other way round (`lt-negated`, `le-negated`).
+-- Signs of zeros and infinities are among them, and the one NaN stays. Assumes nothing.
 use mathlib.Core.Path.{_≡_, refl, ap, ap₂, sym, _∙_, subst}
 use mathlib.Core.Bool.{Bool, true, false, not, _&&_, _||_, Bool·beq, cond}
 use Prim.Native.Nat.{ℕ, zero, suc, _+_, _*_, _^_}
@@ -8,7 +9,8 @@ use native.Mathlib.Nat.{add-comm}
 use borrow.Author.Tests.{eqb-true, eqb-false, ne-eqb}
 use lib.IntN.{pos, negsuc}
 use lib.Dec.{eqb, ltb}
-use lib.Ieee.{Float, nan, inf, fin, Format, binary64, prec, emax, low, mul, neg, unlike, odd, units, round, up, down, below, level, lt, eq, le}
+use lib.Ieee.{Float, nan, inf, fin, Format, binary64, prec, emax, low, mul, neg, unlike, odd, units, round, up, down}
+use lib.Ieee.{below, level, lt, eq, le}
 use lib.Ieee.Scale.{finite}
 use Rattle.lists.proofs.Tests.{by-test}
 use Rattle.formats.specs.Floats.{literal}
@@ -47,7 +49,8 @@ units-negated : (f : Format) (s : Bool) (q k : ℕ) → neg (units f s q k) ≡ 
 unfolding units neg
 units-negated f s q k =
     let below : Bool = ltb (q * 2 ^ k) (2 ^ (low f + suc (emax f))) in
-    neg-cond below (odd (suc (prec f)) s q k (low f)) (inf s) ∙ ap (λ (x : Float). cond below x (inf (not s))) (odd-negated (suc (prec f)) s q k (low f))
+    neg-cond below (odd (suc (prec f)) s q k (low f)) (inf s)
+    ∙ ap (λ (x : Float). cond below x (inf (not s))) (odd-negated (suc (prec f)) s q k (low f))
 
 pub round-negated : (f : Format) (s : Bool) (num den : ℕ) → neg (round f s num den) ≡ round f (not s) num den
 unfolding round
@@ -65,12 +68,15 @@ module _ (f : Format) where
   mul-negated nan y = refl
   mul-negated (inf s) nan = refl
   mul-negated (inf s) (inf t) = ap inf (unlike-not s t)
-  mul-negated (inf s) (fin t n d) = ap (λ (b : Bool). cond (eqb n 0) nan (inf b)) (unlike-not s t) ∙ sym (neg-cond (eqb n 0) nan (inf (unlike s t)))
+  mul-negated (inf s) (fin t n d) =
+      ap (λ (b : Bool). cond (eqb n 0) nan (inf b)) (unlike-not s t) ∙ sym (neg-cond (eqb n 0) nan (inf (unlike s t)))
   mul-negated (fin s m e) nan = refl
-  mul-negated (fin s m e) (inf t) = ap (λ (b : Bool). cond (eqb m 0) nan (inf b)) (unlike-not s t) ∙ sym (neg-cond (eqb m 0) nan (inf (unlike s t)))
+  mul-negated (fin s m e) (inf t) =
+      ap (λ (b : Bool). cond (eqb m 0) nan (inf b)) (unlike-not s t) ∙ sym (neg-cond (eqb m 0) nan (inf (unlike s t)))
   mul-negated (fin s m e) (fin t n d) =
       let size : ℕ = m * up e * (n * up d) in
-      ap (λ (b : Bool). round f b size (down e * down d)) (unlike-not s t) ∙ sym (round-negated f (unlike s t) size (down e * down d))
+      ap (λ (b : Bool). round f b size (down e * down d)) (unlike-not s t)
+      ∙ sym (round-negated f (unlike s t) size (down e * down d))
 
   pub mul-negated-right : (x y : Float) → mul f x (neg y) ≡ neg (mul f x y)
   mul-negated-right x y = mul-exchanged f x (neg y) ∙ mul-negated y x ∙ ap neg (mul-exchanged f y x)
@@ -96,11 +102,13 @@ level-negated s a t b = by-test (λ (q : Bool). level (not s) a (not t) b ≡ le
     signs false false q = refl
 
     same : eqb a b ≡ true → level (not s) a (not t) b ≡ level t b s a
-    same e = subst (λ (n : ℕ). level (not s) a (not t) n ≡ level t n s a) (eqb-true a b e) (ap (λ (q : Bool). eqb a a && q) (signs s t (eqb a 0)))
+    same e = subst (λ (n : ℕ). level (not s) a (not t) n ≡ level t n s a) (eqb-true a b e)
+        (ap (λ (q : Bool). eqb a a && q) (signs s t (eqb a 0)))
 
     other : eqb a b ≡ false → level (not s) a (not t) b ≡ level t b s a
     other e =
-        ap (λ (q : Bool). q && (Bool·beq (not s) (not t) || eqb a 0)) e ∙ sym (ap (λ (q : Bool). q && (Bool·beq t s || eqb b 0)) (ne-eqb b a (λ h. eqb-false a b e (sym h))))
+        ap (λ (q : Bool). q && (Bool·beq (not s) (not t) || eqb a 0)) e
+        ∙ sym (ap (λ (q : Bool). q && (Bool·beq t s || eqb b 0)) (ne-eqb b a (λ h. eqb-false a b e (sym h))))
 
 -- both comparisons at once
 compared-negated : (x y : Float) → (lt (neg x) (neg y) ≡ lt y x) × (eq (neg x) (neg y) ≡ eq y x)

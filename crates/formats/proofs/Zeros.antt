@@ -1,16 +1,19 @@
--- Signs of zeros in one operation, in any format. A product is the same but for the sign of a zero (`mul-unsigned`); what is added to a number that
--- is no -0.0 may be a zero of either sign (`add-unsigned`); and such a sum of two numbers of the format is no -0.0 (`sum-unsigned`): it is a whole
--- number of the format's smallest values, so it rounds to a zero only where it is one. Assumes nothing.
+-- Signs of zeros in one operation, in any format. A product is the same but for the sign of a zero (`mul-unsigned`);
+-- what is added to a number that is no -0.0 may be a zero of either sign (`add-unsigned`); and such a sum of two
+-- numbers of the format is no -0.0 (`sum-unsigned`): it is a whole number of the format's smallest values, so it rounds
+-- to a zero only where it is one. Assumes nothing.
 use mathlib.Core.Path.{_≡_, refl, sym, ap, _∙_, subst}
 use mathlib.Core.Bool.{Bool, true, false, _&&_, Bool·beq, true≢false}
 use Prim.Native.Nat.{ℕ, zero, suc, _+_, _-_, _*_, _^_, _≤_, _<_}
-use native.Mathlib.Nat.{zero-lt-suc, le-of-lt, zero-mul, mul-assoc, mul-comm, mul-right-comm, mul-pos, mul-sub, mul-le-mul-right, le-trans, le-of-eq, one-mul}
+use native.Mathlib.Nat.{zero-lt-suc, le-of-lt, zero-mul, mul-assoc, mul-comm, mul-right-comm, mul-pos, mul-sub}
+use native.Mathlib.Nat.{mul-le-mul-right, le-trans, le-of-eq, one-mul}
 use native.Mathlib.Omega.{arith}
 use borrow.Author.Tests.{lt-ltb, le-ltb, ltb-true}
 use lib.IntN.{ℤ, pos}
 use lib.Dec.{T, ltb, lit<}
 use lib.Pow.{pow-pos, pow-lt}
-use lib.Ieee.{Float, nan, inf, fin, Format, binary32, binary64, prec, emax, low, up, down, unlike, size, span, climb, odd, units, round, neg, sum, add, mul, fits}
+use lib.Ieee.{Float, nan, inf, fin, Format, binary32, binary64, prec, emax, low, up, down, unlike, size, span, climb}
+use lib.Ieee.{odd, units, round, neg, sum, add, mul, fits}
 use lib.Ieee.Fits.{up-pos, down-pos, round-is}
 use lib.Ieee.Exact.{HasValue, round-exact}
 use lib.Ieee.Scale.{round-same}
@@ -53,7 +56,8 @@ odd-unsigned d (suc q) k l = unsigned-positive _ _
 
 units-unsigned : (f : Format) (q k : ℕ) → Unsigned (units f false q k)
 unfolding units
-units-unsigned f q k = either Unsigned (ltb (q * 2 ^ k) (2 ^ (low f + suc (emax f)))) (odd-unsigned (suc (prec f)) q k (low f)) refl
+units-unsigned f q k =
+    either Unsigned (ltb (q * 2 ^ k) (2 ^ (low f + suc (emax f)))) (odd-unsigned (suc (prec f)) q k (low f)) refl
 
 positive-unsigned : (f : Format) (n c : ℕ) → Unsigned (round f false n c)
 positive-unsigned f n c = subst Unsigned (sym (round-is f false n c)) (units-unsigned f _ _)
@@ -70,24 +74,29 @@ above-unsigned (fin false (suc m) e) t = refl
 units-above : (f : Format) (n c : ℕ) → 0 < c → c ≤ n * 2 ^ low f → T (above (round f false n c))
 units-above f n c C h =
     let one = round f false 1 (2 ^ low f) in
-    let v : HasValue one false 1 (2 ^ low f) = round-exact f false 1 (2 ^ low f) 1 0 (pow-pos (low f)) (pow-lt {i = 0} (some-digits f)) (pow-lt {i = 0} (omega arith)) refl in
+    let v : HasValue one false 1 (2 ^ low f) = round-exact f false 1 (2 ^ low f) 1 0 (pow-pos (low f))
+    (pow-lt {i = 0} (some-digits f)) (pow-lt {i = 0} (omega arith)) refl in
     above-of-le one (round f false n c) (positive-of-value one 1 (2 ^ low f) v (zero-lt-suc 0))
     (round-mono f 1 (2 ^ low f) n c (pow-pos (low f)) C (le-trans (le-of-eq (one-mul c)) h))
 
 -- a whole number of the format's smallest values, above 0 if it is below zero
-round-unsigned : (f : Format) (s : Bool) (n c w : ℕ) → 0 < c → n * 2 ^ low f ≡ w * c → (s ≡ true → 0 < n) → Unsigned (round f s n c)
+round-unsigned : (f : Format) (s : Bool) (n c w : ℕ) → 0 < c → n * 2 ^ low f ≡ w * c → (s ≡ true → 0 < n)
+    → Unsigned (round f s n c)
 round-unsigned f false n c w C e h = positive-unsigned f n c
 round-unsigned f true n c w C e h =
     let W : 0 < w = first-pos w c (subst (λ (k : ℕ). 0 < k) e (mul-pos (h refl) (pow-pos (low f)))) in
     subst Unsigned (round-negated f false n c)
-    (above-unsigned (round f false n c) (units-above f n c C (le-trans (le-of-eq (sym (one-mul c))) (le-trans (mul-le-mul-right c W) (le-of-eq (sym e))))))
+    (above-unsigned (round f false n c)
+    (units-above f n c C (le-trans (le-of-eq (sym (one-mul c)))
+    (le-trans (mul-le-mul-right c W) (le-of-eq (sym e))))))
 
 -- ---- products
 
 pub zero-size : (a b : ℕ) → 0 * a * b ≡ 0
 zero-size a b = ap (λ (k : ℕ). k * b) (zero-mul a) ∙ zero-mul b
 
-pub zero-signs : (f : Format) (s t : Bool) (n c : ℕ) → n ≡ 0 → 0 < c → unsignedZero (round f s n c) ≡ unsignedZero (round f t n c)
+pub zero-signs : (f : Format) (s t : Bool) (n c : ℕ) → n ≡ 0 → 0 < c
+    → unsignedZero (round f s n c) ≡ unsignedZero (round f t n c)
 zero-signs f s t n c z C =
     ap (λ (k : ℕ). unsignedZero (round f s k c)) z
     ∙ ap unsignedZero (zero-rounded f s c C)
@@ -115,7 +124,8 @@ module _ (f : Format) where
 -- ---- sums
 
 -- what a zero is added to is rounded, if it is no -0.0
-pub zero-added : (f : Format) (s : Bool) (a : ℕ) (t : Bool) (b c : ℕ) → b ≡ 0 → (s ≡ true → 0 < a) → sum f s a t b c ≡ round f s a c
+pub zero-added : (f : Format) (s : Bool) (a : ℕ) (t : Bool) (b c : ℕ) → b ≡ 0 → (s ≡ true → 0 < a)
+    → sum f s a t b c ≡ round f s a c
 unfolding sum
 zero-added f true a true b c z h = ap (λ (k : ℕ). round f true k c) (omega arith)
 zero-added f false a false b c z h = ap (λ (k : ℕ). round f false k c) (omega arith)
@@ -159,13 +169,16 @@ module _ (f : Format) where
       zero-added f s _ t _ _ z h ∙ sym (zero-added f s _ false _ _ z h)
 
   -- a whole number of the format's smallest values with another added
-  sum-whole : (s : Bool) (a : ℕ) (t : Bool) (b c v w : ℕ) → 0 < c → a * 2 ^ low f ≡ v * c → b * 2 ^ low f ≡ w * c → (s ≡ true → 0 < a)
+  sum-whole : (s : Bool) (a : ℕ) (t : Bool) (b c v w : ℕ) → 0 < c → a * 2 ^ low f ≡ v * c → b * 2 ^ low f ≡ w * c
+      → (s ≡ true → 0 < a)
       → Unsigned (sum f s a t b c)
   unfolding sum
   sum-whole s a t b c v w C p q h =
       either Unsigned (Bool·beq s t) (round-unsigned f s (a + b) c (v + w) C (omega arith) (λ e. omega (arith, h e)))
-      (by-less Unsigned a b (λ l. round-unsigned f t (b - a) c (w - v) C (difference-whole b a c w v (2 ^ low f) q p) (λ e. omega arith))
-      (λ l. round-unsigned f (s && ltb b a) (a - b) c (v - w) C (difference-whole a b c v w (2 ^ low f) p q) (λ e. omega (arith, ltb-true b a (and-second s (ltb b a) e)))))
+      (by-less Unsigned a b (λ l. round-unsigned f t (b - a) c (w - v) C (difference-whole b a c w v (2 ^ low f) q p)
+      (λ e. omega arith))
+      (λ l. round-unsigned f (s && ltb b a) (a - b) c (v - w) C (difference-whole a b c v w (2 ^ low f) p q)
+      (λ e. omega (arith, ltb-true b a (and-second s (ltb b a) e)))))
 
   pub sum-unsigned : (x y : Float) → Unsigned x → T (fits f x) → T (fits f y) → Unsigned (add f x y)
   unfolding add
@@ -178,6 +191,8 @@ module _ (f : Format) where
   sum-unsigned (fin s m e) (fin t n d) p h k =
       let u = held-units f s m e h in
       let v = held-units f t n d k in
-      sum-whole s _ t _ _ (u .w) (v .w) (mul-pos (down-pos e) (down-pos d)) (over-both (m * up e) (u .w) (down e) (down d) (2 ^ low f) (u .value .1))
-      (over-both (n * up d) (v .w) (down d) (down e) (2 ^ low f) (v .value .1) ∙ ap (λ (c : ℕ). v .w * c) (mul-comm (down d) (down e)))
+      sum-whole s _ t _ _ (u .w) (v .w) (mul-pos (down-pos e) (down-pos d))
+      (over-both (m * up e) (u .w) (down e) (down d) (2 ^ low f) (u .value .1))
+      (over-both (n * up d) (v .w) (down d) (down e) (2 ^ low f) (v .value .1)
+      ∙ ap (λ (c : ℕ). v .w * c) (mul-comm (down d) (down e)))
       (size-above s m e d p)

@@ -1,4 +1,5 @@
--- What is known of a float that stands for an exact number, so that what is made of it can be bounded: how near the number is, and how large it is. Assumes nothing.
+-- What is known of a float that stands for an exact number, so that what is made of it can be bounded: how near the
+-- number is, and how large it is. Assumes nothing.
 use Prim.Native.Nat.{ℕ}
 use lib.Ieee.{Float}
 use Rattle.fractions.specs.Fraction.{Fraction, magnitude, number, AtMost, Within}

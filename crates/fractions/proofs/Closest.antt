@@ -1,9 +1,12 @@
--- a / b to the nearest whole number, a tie to the even one (`closest` of the kit): by its three cases, its bounds, and what makes it the nearest: no multiple of b is nearer to a
--- (`rounded-best`), and if another is as near the number is even (`rounded-even`). Assumes nothing.
+-- a / b to the nearest whole number, a tie to the even one (`closest` of the kit): by its three cases, its bounds, and
+-- what makes it the nearest: no multiple of b is nearer to a (`rounded-best`), and if another is as near the number is
+-- even (`rounded-even`). Assumes nothing.
 use mathlib.Core.Path.{_≡_, refl, sym, ap, _∙_, subst}
 use mathlib.Core.Logic.{_⊎_, inl, inr}
 use Prim.Native.Nat.{ℕ, suc, _+_, _*_, _/_, _%_, _≤_, _<_, compare, Ordering, Ordering·lt, Ordering·eq, Ordering·gt}
-use native.Mathlib.Nat.{le-trans, le-of-eq, le-of-lt, lt-irrefl, not-le-of-lt, eq-or-lt-of-le, mul-le-mul-right, le-div-iff-mul-le, div-lt-iff-lt-mul, mod-lt, mod-eq-of-lt, div-eq-of-lt, div-add-mod', suc-mul}
+use native.Mathlib.Nat.{le-trans, le-of-eq, le-of-lt, lt-irrefl, not-le-of-lt, eq-or-lt-of-le, mul-le-mul-right}
+use native.Mathlib.Nat.{le-div-iff-mul-le, div-lt-iff-lt-mul, mod-lt, mod-eq-of-lt, div-eq-of-lt, div-add-mod'}
+use native.Mathlib.Nat.{suc-mul}
 use native.Mathlib.Decide.{ℕ-discrete}
 use native.Mathlib.Omega.{arith}
 use lib.Dec.{T, isLe, isEq, eqb, le→leb, leb→le, eqb→eq, eqb-refl}
@@ -15,7 +18,8 @@ use Rattle.fractions.specs.Fraction.{gap}
 
 -- ---- what `compare` says
 compare-lt : (a b : ℕ) → a < b → compare a b ≡ Ordering·lt
-compare-lt a b h = go (compare a b) (le→leb a b (le-of-lt h)) (λ t. lt-irrefl b (subst (λ (x : ℕ). x < b) (eqb→eq a b t) h))
+compare-lt a b h =
+    go (compare a b) (le→leb a b (le-of-lt h)) (λ t. lt-irrefl b (subst (λ (x : ℕ). x < b) (eqb→eq a b t) h))
   where
     go : (o : Ordering) → T (isLe o) → (T (isEq o) → ⊥) → o ≡ Ordering·lt
     go Ordering·lt l n = refl
@@ -56,22 +60,26 @@ pub closest-ge : (a b c : ℕ) → 0 < b → c * b ≤ a → c ≤ closest a b
 closest-ge a b c B h = le-trans (le-div-iff-mul-le B .1 h) (nearest-ge (a / b) (compare (a % b * 2) b))
 
 pub closest-zero : (a b : ℕ) → a * 2 < b → closest a b ≡ 0
-closest-zero a b h = closest-lt a b (subst (λ (x : ℕ). x * 2 < b) (sym (mod-eq-of-lt (omega arith))) h) ∙ div-eq-of-lt (omega arith)
+closest-zero a b h =
+    closest-lt a b (subst (λ (x : ℕ). x * 2 < b) (sym (mod-eq-of-lt (omega arith))) h) ∙ div-eq-of-lt (omega arith)
 
 -- ---- how far a is from w multiples of b
 abbrev off : ℕ → ℕ → ℕ → ℕ
 off a b w = gap a (w * b)
 
--- the number, its quotient being q and its remainder r: q or the next, and twice what it is off by is b at most, b only where it is even
+-- the number, its quotient being q and its remainder r: q or the next, and twice what it is off by is b at most, b only
+-- where it is even
 pub record Rounded (a b c : ℕ) : Type 0 where
   pub half : off a b c * 2 ≤ b
   pub even : off a b c * 2 ≡ b → c % 2 ≡ 0
 
 at-q : (a b q r c : ℕ) → q * b + r ≡ a → r * 2 < b → c ≡ q → Rounded a b c
-at-q a b q r c e h k = subst (λ (z : ℕ). Rounded a b z) (sym k) (record { half = omega arith; even = λ t. absurd (omega arith) })
+at-q a b q r c e h k =
+    subst (λ (z : ℕ). Rounded a b z) (sym k) (record { half = omega arith; even = λ t. absurd (omega arith) })
 
 at-next : (a b q r c : ℕ) → q * b + r ≡ a → b < r * 2 → r < b → c ≡ suc q → Rounded a b c
-at-next a b q r c e h l k = subst (λ (z : ℕ). Rounded a b z) (sym k) (record { half = omega (arith, suc-mul q b); even = λ t. absurd (omega arith) })
+at-next a b q r c e h l k = subst (λ (z : ℕ). Rounded a b z) (sym k)
+    (record { half = omega (arith, suc-mul q b); even = λ t. absurd (omega arith) })
 
 at-tie : (a b q r c : ℕ) → q * b + r ≡ a → r * 2 ≡ b → c ≡ q + q % 2 → Rounded a b c
 at-tie a b q r c e h k = record { half = go (eq-or-lt-of-le (omega arith)); even = λ t. omega arith }
@@ -86,7 +94,8 @@ at-tie a b q r c e h k = record { half = go (eq-or-lt-of-le (omega arith)); even
 pub closest-rounded : (a b : ℕ) → 0 < b → Rounded a b (closest a b)
 closest-rounded a b B =
     let e = div-add-mod' a b in
-    compared (a % b * 2) b (λ l. at-q a b (a / b) (a % b) (closest a b) e l (closest-lt a b l)) (λ t. at-tie a b (a / b) (a % b) (closest a b) e t (closest-tie a b t))
+    compared (a % b * 2) b (λ l. at-q a b (a / b) (a % b) (closest a b) e l (closest-lt a b l))
+    (λ t. at-tie a b (a / b) (a % b) (closest a b) e t (closest-tie a b t))
     (λ g. at-next a b (a / b) (a % b) (closest a b) e g (mod-lt a B) (closest-gt a b g))
 
 -- ---- such a number is nearest: two of them are b apart, so another is off by half of b at least

@@ -1,5 +1,6 @@
--- Comparing two floats that are numbers compares the numbers, exactly: nothing is rounded. So a definition that goes by cases on fractions and a program that goes by cases on floats take the same way
--- (`lt-number`, `le-number`). Assumes nothing.
+-- Comparing two floats that are numbers compares the numbers, exactly: nothing is rounded. So a definition that goes by
+-- cases on fractions and a program that goes by cases on floats take the same way (`lt-number`, `le-number`). Assumes
+-- nothing.
 use mathlib.Core.Path.{_≡_, refl, sym, ap, _∙_, subst}
 use mathlib.Core.Bool.{Bool, true, false, not, _&&_, _||_}
 use Prim.Native.Nat.{ℕ, _+_, _*_, _<_, zero-le}
@@ -68,16 +69,22 @@ not-both-zero u v h = go (eqb u v) (eqb u 0) (eqb-true u v) (eqb-true u 0)
     go true false p q = refl
     go false b p q = refl
 
-signed-at-most : (s t : Bool) (a c b d : ℕ) → (below s (a * d) t (b * c) || level s (a * d) t (b * c)) ≡ not (isLess (signed t b d) (signed s a c))
+signed-at-most : (s t : Bool) (a c b d : ℕ) → (below s (a * d) t (b * c) || level s (a * d) t (b * c))
+    ≡ not (isLess (signed t b d) (signed s a c))
 signed-at-most false false a c b d =
-    at-most-test (a * d) (b * c) _ (alike (a * d) (b * c) .0) (λ l. alike (a * d) (b * c) .1 (λ e. omega arith)) ∙ ap not (sides (b * c) (a * d) (b * c + 0 * d) (a * d + 0 * c) (omega arith) (omega arith))
+    at-most-test (a * d) (b * c) _ (alike (a * d) (b * c) .0) (λ l. alike (a * d) (b * c) .1 (λ e. omega arith))
+    ∙ ap not (sides (b * c) (a * d) (b * c + 0 * d) (a * d + 0 * c) (omega arith) (omega arith))
 signed-at-most true true a c b d =
-    at-most-test (b * c) (a * d) _ (λ e. alike (a * d) (b * c) .0 (sym e)) (λ l. alike (a * d) (b * c) .1 (λ e. omega arith)) ∙ ap not (sides (a * d) (b * c) (0 * c + a * d) (0 * d + b * c) (omega arith) (omega arith))
+    at-most-test (b * c) (a * d) _ (λ e. alike (a * d) (b * c) .0 (sym e))
+    (λ l. alike (a * d) (b * c) .1 (λ e. omega arith))
+    ∙ ap not (sides (a * d) (b * c) (0 * c + a * d) (0 * d + b * c) (omega arith) (omega arith))
 signed-at-most true false a c b d =
-    at-most-test 0 (a * d + b * c) _ (λ e. both-zero (a * d) (b * c) (sym e)) (λ l. absurd (not-suc-le-zero l)) ∙ ap not (sides (a * d + b * c) 0 (b * c + a * d) (0 * d + 0 * c) (omega arith) (omega arith))
+    at-most-test 0 (a * d + b * c) _ (λ e. both-zero (a * d) (b * c) (sym e)) (λ l. absurd (not-suc-le-zero l))
+    ∙ ap not (sides (a * d + b * c) 0 (b * c + a * d) (0 * d + 0 * c) (omega arith) (omega arith))
 signed-at-most false true a c b d =
     let w = eqb (a * d) (b * c) && eqb (a * d) 0 in
-    sym (ap (λ (z : Bool). z || w) (le-ltb (a * d + b * c) 0 zero-le)) ∙ at-most-test (a * d + b * c) 0 w (both-zero (a * d) (b * c)) (not-both-zero (a * d) (b * c))
+    sym (ap (λ (z : Bool). z || w) (le-ltb (a * d + b * c) 0 zero-le))
+    ∙ at-most-test (a * d + b * c) 0 w (both-zero (a * d) (b * c)) (not-both-zero (a * d) (b * c))
     ∙ ap not (sides 0 (a * d + b * c) (0 * c + 0 * d) (a * d + b * c) (omega arith) refl)
 
 pub le-number : (x y : Float) → 0 < number x .over → 0 < number y .over → le x y ≡ not (isLess (number y) (number x))
@@ -89,13 +96,15 @@ le-number (fin s m e) (inf t) h k = absurd (lt-irrefl 0 k)
 le-number (fin s m e) (fin t n d) h k = signed-at-most s t (m * up e) (down e) (n * up d) (down d)
 
 pub le-at-most : (x y : Float) → T (le x y) → 0 < number x .over → 0 < number y .over → AtMost (number x) (number y)
-le-at-most x y h X Y = less-false (number y) (number x) (not-true (isLess (number y) (number x)) (sym (le-number x y X Y) ∙ is-true (le x y) h))
+le-at-most x y h X Y = less-false (number y) (number x)
+    (not-true (isLess (number y) (number x)) (sym (le-number x y X Y) ∙ is-true (le x y) h))
 
 pub at-most-le : (x y : Float) → 0 < number x .over → 0 < number y .over → AtMost (number x) (number y) → T (le x y)
 at-most-le x y X Y h = subst T (sym (le-number x y X Y ∙ ap not (is-not-less (number y) (number x) h))) tt
 
 -- ---- other names of the same numbers
-pub is-less-same : (x x' y y' : Fraction) → 0 < x .over → 0 < x' .over → 0 < y .over → 0 < y' .over → Same x x' → Same y y' → isLess x y ≡ isLess x' y'
+pub is-less-same : (x x' y y' : Fraction) → 0 < x .over → 0 < x' .over → 0 < y .over → 0 < y' .over → Same x x'
+    → Same y y' → isLess x y ≡ isLess x' y'
 is-less-same x x' y y' X X' Y Y' e f = go (isLess x' y') refl
   where
     go : (b : Bool) → isLess x' y' ≡ b → isLess x y ≡ b

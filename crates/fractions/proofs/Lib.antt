@@ -6,7 +6,8 @@ pub mod Close
 pub mod Within
 pub mod Magnitude
 pub mod Divide
--- Floats: each operation is the exact result, rounded once; how far that moves it, and where it does not; and comparing them.
+-- Floats: each operation is the exact result, rounded once; how far that moves it, and where it does not; and comparing
+-- them.
 pub mod Closest
 pub mod Number
 pub mod Compare

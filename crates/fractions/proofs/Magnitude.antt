@@ -1,4 +1,5 @@
--- Magnitudes: |x| ≤ l says -l ≤ x ≤ l, |x| is x or -x by the sign, ||x| - |y|| ≤ |x - y|, and |x|² is x². So a law for numbers that are not below zero serves numbers of either sign. Assumes nothing.
+-- Magnitudes: |x| ≤ l says -l ≤ x ≤ l, |x| is x or -x by the sign, ||x| - |y|| ≤ |x - y|, and |x|² is x². So a law for
+-- numbers that are not below zero serves numbers of either sign. Assumes nothing.
 use mathlib.Core.Path.{_≡_, ap}
 use Prim.Native.Nat.{ℕ, _+_, _*_, _≤_, _<_}
 use native.Mathlib.Nat.{le-trans, le-of-eq, le-add-left}
@@ -8,13 +9,18 @@ use Rattle.fractions.proofs.Order.{not-below, by-gap}
 use Rattle.fractions.proofs.Close.{Close}
 
 -- ---- from -l to l
-between-nat : (xp xm xo lp lm lo : ℕ) → lm * xo + xm * lo ≤ xp * lo + lp * xo → xp * lo + lm * xo ≤ lp * xo + xm * lo → gap xp xm * lo + lm * xo ≤ lp * xo + 0 * lo
+between-nat : (xp xm xo lp lm lo : ℕ) → lm * xo + xm * lo ≤ xp * lo + lp * xo → xp * lo + lm * xo ≤ lp * xo + xm * lo
+    → gap xp xm * lo + lm * xo ≤ lp * xo + 0 * lo
 between-nat xp xm xo lp lm lo =
-    by-gap (λ (p m i : ℕ). lm * xo + m * lo ≤ p * lo + lp * xo → p * lo + lm * xo ≤ lp * xo + m * lo → i * lo + lm * xo ≤ lp * xo + 0 * lo) (λ m i h k. omega arith) (λ p i h k. omega arith) xp xm
+    by-gap (λ (p m i : ℕ). lm * xo + m * lo ≤ p * lo + lp * xo → p * lo + lm * xo ≤ lp * xo + m * lo
+    → i * lo + lm * xo ≤ lp * xo + 0 * lo) (λ m i h k. omega arith) (λ p i h k. omega arith) xp xm
 
-below-nat : (xp xm xo lp lm lo : ℕ) → gap xp xm * lo + lm * xo ≤ lp * xo + 0 * lo → (lm * xo + xm * lo ≤ xp * lo + lp * xo) × (xp * lo + lm * xo ≤ lp * xo + xm * lo)
+below-nat : (xp xm xo lp lm lo : ℕ) → gap xp xm * lo + lm * xo ≤ lp * xo + 0 * lo
+    → (lm * xo + xm * lo ≤ xp * lo + lp * xo) × (xp * lo + lm * xo ≤ lp * xo + xm * lo)
 below-nat xp xm xo lp lm lo =
-    by-gap (λ (p m i : ℕ). i * lo + lm * xo ≤ lp * xo + 0 * lo → (lm * xo + m * lo ≤ p * lo + lp * xo) × (p * lo + lm * xo ≤ lp * xo + m * lo)) (λ m i h. (omega arith, omega arith)) (λ p i h. (omega arith, omega arith)) xp xm
+    by-gap (λ (p m i : ℕ). i * lo + lm * xo ≤ lp * xo + 0 * lo → (lm * xo + m * lo ≤ p * lo + lp * xo)
+    × (p * lo + lm * xo ≤ lp * xo + m * lo)) (λ m i h. (omega arith, omega arith))
+    (λ p i h. (omega arith, omega arith)) xp xm
 
 module _ (x l : Fraction) where
   pub between-magnitude : AtMost (opposite l) x → AtMost x l → AtMost (magnitude x) l
@@ -49,18 +55,23 @@ module _ (o u W D : ℕ) where
   kept : (p m q n : ℕ) → Kept p m (gap p m) q n (gap q n)
   kept p m q n =
       by-gap (λ (p m i : ℕ). Kept p m i q n (gap q n))
-      (λ m i. by-gap (λ (q n j : ℕ). Kept (m + i) m i q n j) (λ n j h k. (omega arith, omega arith)) (λ q j h k. (omega arith, omega arith)) q n)
-      (λ p i. by-gap (λ (q n j : ℕ). Kept p (p + i) i q n j) (λ n j h k. (omega arith, omega arith)) (λ q j h k. (omega arith, omega arith)) q n)
+      (λ m i. by-gap (λ (q n j : ℕ). Kept (m + i) m i q n j) (λ n j h k. (omega arith, omega arith))
+      (λ q j h k. (omega arith, omega arith)) q n)
+      (λ p i. by-gap (λ (q n j : ℕ). Kept p (p + i) i q n j) (λ n j h k. (omega arith, omega arith))
+      (λ q j h k. (omega arith, omega arith)) q n)
       p m
 
 pub close-magnitude : {W E : ℕ} {x y : Fraction} → Close W x y E → Close W (magnitude x) (magnitude y) E
 close-magnitude {W} {E} {x} {y} h =
-    let s = kept (x .over) (y .over) W (E * (x .over * y .over)) (x .plus) (x .minus) (y .plus) (y .minus) (h .above) (h .below) in
+    let s = kept (x .over) (y .over) W (E * (x .over * y .over)) (x .plus) (x .minus) (y .plus) (y .minus) (h .above)
+    (h .below) in
     record { first = h .first; second = h .second; above = s .0; below = s .1 }
 
 -- |p - m|² is p² + m² - 2 p m
 pub square-nat : (p m : ℕ) → gap p m * gap p m + (p * m + m * p) ≡ p * p + m * m
-square-nat p m = by-gap (λ (p m i : ℕ). i * i + (p * m + m * p) ≡ p * p + m * m) (λ m i. omega arith) (λ p i. omega arith) p m
+square-nat p m =
+    by-gap (λ (p m i : ℕ). i * i + (p * m + m * p) ≡ p * p + m * m) (λ m i. omega arith) (λ p i. omega arith) p m
 
 pub square-not-below : (x : Fraction) → square x .minus ≤ square x .plus
-square-not-below x = le-trans (le-add-left (x .plus * x .minus + x .minus * x .plus) (gap (x .plus) (x .minus) * gap (x .plus) (x .minus))) (le-of-eq (square-nat (x .plus) (x .minus)))
+square-not-below x = le-trans (le-add-left (x .plus * x .minus + x .minus * x .plus)
+    (gap (x .plus) (x .minus) * gap (x .plus) (x .minus))) (le-of-eq (square-nat (x .plus) (x .minus)))

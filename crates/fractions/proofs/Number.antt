@@ -1,5 +1,6 @@
--- A float as a fraction: it is a number exactly if the float is finite, its sign goes with the float's, and a float that has the value of a fraction is that number (`value-same`). And how far two signed fractions
--- are apart. Assumes nothing.
+-- A float as a fraction: it is a number exactly if the float is finite, its sign goes with the float's, and a float
+-- that has the value of a fraction is that number (`value-same`). And how far two signed fractions are apart. Assumes
+-- nothing.
 use mathlib.Core.Path.{_≡_, refl}
 use mathlib.Core.Bool.{Bool, true, false, not}
 use Prim.Native.Nat.{ℕ, _+_, _*_, _<_}

@@ -1,5 +1,7 @@
--- Two ways to write a formula are the same number. Where the two are even equal as fractions, number by number, the law is a path, for `rw` and `ap`; a law that changes what stands under the line
--- (distribution, a common factor) is a `Same`. With the congruences here and in Order.antt they tie the order in which a document writes a formula to the order in which a program computes it. Assumes nothing.
+-- Two ways to write a formula are the same number. Where the two are even equal as fractions, number by number, the law
+-- is a path, for `rw` and `ap`; a law that changes what stands under the line (distribution, a common factor) is a
+-- `Same`. With the congruences here and in Order.antt they tie the order in which a document writes a formula to the
+-- order in which a program computes it. Assumes nothing.
 use mathlib.Core.Path.{_≡_, sym, ap, _∙_, subst, subst₂}
 use Prim.Native.Nat.{ℕ, _+_, _*_, _-_, _≤_}
 use native.Mathlib.Nat.{sub-zero, add-sub-of-le, mul-assoc, mul-comm}
@@ -66,21 +68,29 @@ over-nat : (a b c d e : ℕ) → (a * b + c * d) * e ≡ a * (b * e) + c * (d * 
 over-nat a b c d e = simp ring (omega arith)
 
 distrib-nat : (xp xm xo yp ym yo zp zm zo : ℕ)
-    → (xp * (yp * zo + zp * yo) + xm * (ym * zo + zm * yo)) * (xo * yo * (xo * zo)) + ((xp * ym + xm * yp) * (xo * zo) + (xp * zm + xm * zp) * (xo * yo)) * (xo * (yo * zo))
-    ≡ ((xp * yp + xm * ym) * (xo * zo) + (xp * zp + xm * zm) * (xo * yo)) * (xo * (yo * zo)) + (xp * (ym * zo + zm * yo) + xm * (yp * zo + zp * yo)) * (xo * yo * (xo * zo))
+    → (xp * (yp * zo + zp * yo) + xm * (ym * zo + zm * yo)) * (xo * yo * (xo * zo))
+    + ((xp * ym + xm * yp) * (xo * zo) + (xp * zm + xm * zp) * (xo * yo)) * (xo * (yo * zo))
+    ≡ ((xp * yp + xm * ym) * (xo * zo) + (xp * zp + xm * zm) * (xo * yo)) * (xo * (yo * zo))
+    + (xp * (ym * zo + zm * yo) + xm * (yp * zo + zp * yo)) * (xo * yo * (xo * zo))
 distrib-nat xp xm xo yp ym yo zp zm zo = simp ring (omega arith)
 
 module _ (x y z : Fraction) where
   pub ⊕-assoc : x ⊕ y ⊕ z ≡ x ⊕ (y ⊕ z)
-  ⊕-assoc = equal (sum-nat (x .plus) (y .plus) (x .over) (y .over) (z .plus) (z .over)) (sum-nat (x .minus) (y .minus) (x .over) (y .over) (z .minus) (z .over)) (mul-assoc (x .over) (y .over) (z .over))
+  ⊕-assoc = equal (sum-nat (x .plus) (y .plus) (x .over) (y .over) (z .plus) (z .over))
+      (sum-nat (x .minus) (y .minus) (x .over) (y .over) (z .minus) (z .over))
+      (mul-assoc (x .over) (y .over) (z .over))
 
   pub ⊗-assoc : x ⊗ y ⊗ z ≡ x ⊗ (y ⊗ z)
   ⊗-assoc =
-      equal (grouped-nat (x .plus) (x .minus) (y .plus) (y .minus) (z .plus) (z .minus)) (grouped-nat (x .plus) (x .minus) (y .plus) (y .minus) (z .minus) (z .plus)) (mul-assoc (x .over) (y .over) (z .over))
+      equal (grouped-nat (x .plus) (x .minus) (y .plus) (y .minus) (z .plus) (z .minus))
+      (grouped-nat (x .plus) (x .minus) (y .plus) (y .minus) (z .minus) (z .plus))
+      (mul-assoc (x .over) (y .over) (z .over))
 
   pub ⊗-over : x ⊗ y ⊘ z ≡ x ⊗ (y ⊘ z)
   ⊗-over =
-      equal (over-nat (x .plus) (y .plus) (x .minus) (y .minus) (z .over)) (over-nat (x .plus) (y .minus) (x .minus) (y .plus) (z .over)) (mul-assoc (x .over) (y .over) (z .plus - z .minus))
+      equal (over-nat (x .plus) (y .plus) (x .minus) (y .minus) (z .over))
+      (over-nat (x .plus) (y .minus) (x .minus) (y .plus) (z .over))
+      (mul-assoc (x .over) (y .over) (z .plus - z .minus))
 
   pub ⊗-⊕ : Same (x ⊗ (y ⊕ z)) (x ⊗ y ⊕ x ⊗ z)
   ⊗-⊕ = distrib-nat (x .plus) (x .minus) (x .over) (y .plus) (y .minus) (y .over) (z .plus) (z .minus) (z .over)
@@ -99,7 +109,11 @@ same-square x x' h = same-mul x x' x x' h h
 -- the divisors are not below 0, so their differences are whole numbers
 rest-nat : (p m o p' m' o' : ℕ) → m ≤ p → m' ≤ p' → p * o' + m' * o ≡ p' * o + m * o' → (p - m) * o' ≡ (p' - m') * o
 rest-nat p m o p' m' o' h h' e =
-    omega (arith, subst₂ (λ (n n' : ℕ). n * o' + m' * o ≡ n' * o + m * o') (sym (add-sub-of-le h)) (sym (add-sub-of-le h')) e)
+    omega (
+      arith,
+      subst₂ (λ (n n' : ℕ). n * o' + m' * o ≡ n' * o + m * o') (sym (add-sub-of-le h))
+          (sym (add-sub-of-le h')) e,
+    )
 
 module _ (x x' y y' : Fraction) where
   pub same-divide : y .minus ≤ y .plus → y' .minus ≤ y' .plus → Same x x' → Same y y' → Same (x ⊘ y) (x' ⊘ y')
@@ -107,4 +121,9 @@ module _ (x x' y y' : Fraction) where
       let z = left y in
       let z' = left y' in
       let e = rest-nat (y .plus) (y .minus) (y .over) (y' .plus) (y' .minus) (y' .over) Y Y' k in
-      omega (arith, ap (λ (t : ℕ). t * (y .over * z')) h, ap (λ (t : ℕ). x' .minus * x .over * t) e, ap (λ (t : ℕ). x' .plus * x .over * t) e)
+      omega (
+        arith,
+        ap (λ (t : ℕ). t * (y .over * z')) h,
+        ap (λ (t : ℕ). x' .minus * x .over * t) e,
+        ap (λ (t : ℕ). x' .plus * x .over * t) e,
+      )

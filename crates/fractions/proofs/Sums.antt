@@ -21,12 +21,15 @@ kept (g ∷ l) q acc h =
     kept l q (acc ⊕ square g)
     (omega (arith, mul-le-mul-right (square g .over) h, mul-le-mul-right (acc .over * q .over) (square-not-below g)))
 
-square-from : (acc : Fraction) (l : List Fraction) → acc .minus ≤ acc .plus → (i : ℕ) (d : Fraction) → i < length l → AtMost (square (getD l i d)) (sumFrom acc l)
+square-from : (acc : Fraction) (l : List Fraction) → acc .minus ≤ acc .plus → (i : ℕ) (d : Fraction) → i < length l
+    → AtMost (square (getD l i d)) (sumFrom acc l)
 square-from acc [] h i d l = absurd (not-suc-le-zero l)
-square-from acc (g ∷ l) h zero d i = kept l (square g) (acc ⊕ square g) (omega (arith, mul-le-mul-right (square g .over * square g .over) h))
+square-from acc (g ∷ l) h zero d i =
+    kept l (square g) (acc ⊕ square g) (omega (arith, mul-le-mul-right (square g .over * square g .over) h))
 square-from acc (g ∷ l) h (suc j) d i = square-from (acc ⊕ square g) l (step acc g h) j d (le-of-suc-le-suc i)
 
-pub square-in-sum : (l : List Fraction) (i : ℕ) (d : Fraction) → i < length l → AtMost (square (getD l i d)) (sumSquares l)
+pub square-in-sum : (l : List Fraction) (i : ℕ) (d : Fraction) → i < length l
+    → AtMost (square (getD l i d)) (sumSquares l)
 square-in-sum l i d h = square-from (whole 0) l (le-refl 0) i d h
 
 -- ---- as an expression, added up from `acc`

@@ -1,4 +1,6 @@
--- Controls on the definitions of specs/, and on `Rounds` and `RootOf`, at closed numbers: what they say and what they do not, at the edge and past it. A definition that is wrong here would say the wrong thing everywhere. Assumes nothing.
+-- Controls on the definitions of specs/, and on `Rounds` and `RootOf`, at closed numbers: what they say and what they
+-- do not, at the edge and past it. A definition that is wrong here would say the wrong thing everywhere. Assumes
+-- nothing.
 use mathlib.Core.Path.{_≡_, refl}
 use mathlib.Core.Logic.{inl, inr, ⊎-elim}
 use mathlib.Core.Bool.{false, true}
@@ -8,7 +10,8 @@ use native.Mathlib.Nat.{lt-irrefl}
 use lib.Dec.{le→leb, lit<, lit≤}
 use lib.IntN.{pos, negsuc}
 use lib.Ieee.{nan, inf, fin, binary64}
-use Rattle.fractions.specs.Fraction.{Fraction, fraction, whole, unit, number, opposite, magnitude, square, _⊕_, _⊖_, _⊗_, _⊘_, Same, Less, AtMost, Within}
+use Rattle.fractions.specs.Fraction.{Fraction, fraction, whole, unit, number, opposite, magnitude, square, _⊕_}
+use Rattle.fractions.specs.Fraction.{_⊖_, _⊗_, _⊘_, Same, Less, AtMost, Within}
 use Rattle.fractions.proofs.Rounding.{Rounds}
 use Rattle.fractions.specs.Squares.{sumSquares, BySquares}
 use Rattle.fractions.proofs.Roots.{RootOf}
@@ -25,9 +28,13 @@ nan-near-nothing k y h = lt-irrefl 0 (h .first)
 infinity-near-nothing : (k : ℕ) (y : Fraction) → Within k (number (inf false)) y → ⊥
 infinity-near-nothing k y h = lt-irrefl 0 (h .first)
 
--- ---- arithmetic: 1/2 + 1/3, 1/2 - 1/3, (-1/2) (2/3), (-1/2) (-2/3), (1/2) / (2/3), |-3/2|; and what is divided by -1 is no number
-arithmetic : Same (fraction 1 0 2 ⊕ fraction 1 0 3) (fraction 5 0 6) × Same (fraction 1 0 2 ⊖ fraction 1 0 3) (fraction 1 0 6) × Same (fraction 0 1 2 ⊗ fraction 2 0 3) (fraction 0 1 3)
-    × Same (fraction 0 1 2 ⊗ fraction 0 2 3) (fraction 1 0 3) × Same (fraction 1 0 2 ⊘ fraction 2 0 3) (fraction 3 0 4) × Same (magnitude (fraction 0 3 2)) (fraction 3 0 2) × ((whole 1 ⊘ fraction 0 1 1) .over ≡ 0)
+-- ---- arithmetic: 1/2 + 1/3, 1/2 - 1/3, (-1/2) (2/3), (-1/2) (-2/3), (1/2) / (2/3), |-3/2|; and what is divided by -1
+-- is no number
+arithmetic : Same (fraction 1 0 2 ⊕ fraction 1 0 3) (fraction 5 0 6)
+    × Same (fraction 1 0 2 ⊖ fraction 1 0 3) (fraction 1 0 6)
+    × Same (fraction 0 1 2 ⊗ fraction 2 0 3) (fraction 0 1 3)
+    × Same (fraction 0 1 2 ⊗ fraction 0 2 3) (fraction 1 0 3) × Same (fraction 1 0 2 ⊘ fraction 2 0 3) (fraction 3 0 4)
+    × Same (magnitude (fraction 0 3 2)) (fraction 3 0 2) × ((whole 1 ⊘ fraction 0 1 1) .over ≡ 0)
 arithmetic = (refl, refl, refl, refl, refl, refl, refl)
 
 -- -1/2 < 1/3, 1/3 ≤ 2/6, and not 1/3 < 2/6
@@ -70,13 +77,37 @@ too-large h = le→leb _ _ (h .size)
 
 -- ---- by squares, of 1 / √4, at it, at the edges and past them; and of -1 / √4, which has the other sign
 half-squares : BySquares 30 (fraction 1 0 2) (whole 1) (whole 4)
-half-squares = record { gain = lit< tt; formula = lit< tt; sum = lit< tt; positive = lit< tt; above = lit≤ tt; below = lit≤ tt; sign = λ h. lit< tt }
+half-squares = record {
+  gain = lit< tt;
+  formula = lit< tt;
+  sum = lit< tt;
+  positive = lit< tt;
+  above = lit≤ tt;
+  below = lit≤ tt;
+  sign = λ h. lit< tt;
+}
 
 half-edge : BySquares 30 (fraction 1 0 2 ⊕ unit 30) (whole 1) (whole 4)
-half-edge = record { gain = lit< tt; formula = lit< tt; sum = lit< tt; positive = lit< tt; above = lit≤ tt; below = lit≤ tt; sign = λ h. lit< tt }
+half-edge = record {
+  gain = lit< tt;
+  formula = lit< tt;
+  sum = lit< tt;
+  positive = lit< tt;
+  above = lit≤ tt;
+  below = lit≤ tt;
+  sign = λ h. lit< tt;
+}
 
 half-edge-below : BySquares 30 (fraction 1 0 2 ⊖ unit 30) (whole 1) (whole 4)
-half-edge-below = record { gain = lit< tt; formula = lit< tt; sum = lit< tt; positive = lit< tt; above = lit≤ tt; below = lit≤ tt; sign = λ h. lit< tt }
+half-edge-below = record {
+  gain = lit< tt;
+  formula = lit< tt;
+  sum = lit< tt;
+  positive = lit< tt;
+  above = lit≤ tt;
+  below = lit≤ tt;
+  sign = λ h. lit< tt;
+}
 
 half-past : BySquares 30 (fraction 1 0 2 ⊕ unit 29) (whole 1) (whole 4) → ⊥
 half-past h = le→leb _ _ (h .below)
@@ -88,18 +119,50 @@ other-sign : BySquares 30 (fraction 0 1 2) (whole 1) (whole 4) → ⊥
 other-sign h = le→leb _ _ (h .sign (lit< tt))
 
 minus-half : BySquares 30 (fraction 0 1 2) (opposite (whole 1)) (whole 4)
-minus-half = record { gain = lit< tt; formula = lit< tt; sum = lit< tt; positive = lit< tt; above = lit≤ tt; below = lit≤ tt; sign = λ h. lit< tt }
+minus-half = record {
+  gain = lit< tt;
+  formula = lit< tt;
+  sum = lit< tt;
+  positive = lit< tt;
+  above = lit≤ tt;
+  below = lit≤ tt;
+  sign = λ h. lit< tt;
+}
 
 -- a silent speaker: what is less than 0 counts as 0
 silent : BySquares 30 (whole 0) (whole 0) (whole 1)
-silent = record { gain = lit< tt; formula = lit< tt; sum = lit< tt; positive = lit< tt; above = lit≤ tt; below = lit≤ tt; sign = λ h. absurd (le→leb _ _ h) }
+silent = record {
+  gain = lit< tt;
+  formula = lit< tt;
+  sum = lit< tt;
+  positive = lit< tt;
+  above = lit≤ tt;
+  below = lit≤ tt;
+  sign = λ h. absurd (le→leb _ _ h);
+}
 
 -- where the exact gain is 2 ^ -30 at most, a 0 or a value of the other sign will do
 small-zero : BySquares 30 (whole 0) (unit 30) (whole 1)
-small-zero = record { gain = lit< tt; formula = lit< tt; sum = lit< tt; positive = lit< tt; above = lit≤ tt; below = lit≤ tt; sign = λ h. absurd (le→leb _ _ h) }
+small-zero = record {
+  gain = lit< tt;
+  formula = lit< tt;
+  sum = lit< tt;
+  positive = lit< tt;
+  above = lit≤ tt;
+  below = lit≤ tt;
+  sign = λ h. absurd (le→leb _ _ h);
+}
 
 small-sign : BySquares 30 (opposite (unit 31)) (unit 30) (whole 1)
-small-sign = record { gain = lit< tt; formula = lit< tt; sum = lit< tt; positive = lit< tt; above = lit≤ tt; below = lit≤ tt; sign = λ h. absurd (le→leb _ _ h) }
+small-sign = record {
+  gain = lit< tt;
+  formula = lit< tt;
+  sum = lit< tt;
+  positive = lit< tt;
+  above = lit≤ tt;
+  below = lit≤ tt;
+  sign = λ h. absurd (le→leb _ _ h);
+}
 
 -- 3 ² + 4 ² is 5 ², and 5 is its root to one part in 8; 6 is not
 squares : Same (sumSquares (whole 3 ∷ fraction 0 4 1 ∷ [])) (square (whole 5))

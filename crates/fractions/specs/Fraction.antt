@@ -1,5 +1,6 @@
--- Signed fractions of whole numbers, and what a float is as one. Definitions only. A fraction is no more than its three numbers: it need not be in lowest terms,
--- and two fractions that are the same number are `Same`, not equal. One whose `over` is 0 is no number: that is how a NaN and an infinity are told.
+-- Signed fractions of whole numbers, and what a float is as one. Definitions only. A fraction is no more than its three
+-- numbers: it need not be in lowest terms, and two fractions that are the same number are `Same`, not equal. One whose
+-- `over` is 0 is no number: that is how a NaN and an infinity are told.
 use Prim.Native.Nat.{ℕ, _+_, _-_, _*_, _^_, _≤_, _<_}
 use mathlib.Core.Path.{_≡_}
 use mathlib.Core.Bool.{Bool, cond}
@@ -94,6 +95,7 @@ pub record Within (k : ℕ) (x y : Fraction) : Type 0 where
   pub second : 0 < y .over
   pub near : apart x y * 2 ^ k ≤ x .over * y .over
 
--- of a row of floats, as the gains of document 01: as many as there are numbers, each within 2 ^ -k of the number in its place
+-- of a row of floats, as the gains of document 01: as many as there are numbers, each within 2 ^ -k of the number in
+-- its place
 abbrev pub EachWithin : ℕ → List Float → List Fraction → Type 0
 EachWithin k = Pairwise (λ x q. Within k (number x) q)

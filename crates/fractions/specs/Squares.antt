@@ -1,9 +1,11 @@
--- Document 01, 'Gains': the bounds that are stated by squares, since the exact gain is G / √S and that is no fraction. Surround: "the gain is not below zero, and the square of the exact gain lies between the
--- squares of this gain less 2^-30 (zero if that is negative) and plus 2^-30." Decoder matrix: "by squares in the same way on magnitudes, with the sign of the formula wherever the formula exceeds 2^-33 in
--- magnitude." Definitions only.
+-- Document 01, 'Gains': the bounds that are stated by squares, since the exact gain is G / √S and that is no fraction.
+-- Surround: "the gain is not below zero, and the square of the exact gain lies between the squares of this gain less
+-- 2^-30 (zero if that is negative) and plus 2^-30." Decoder matrix: "by squares in the same way on magnitudes, with the
+-- sign of the formula wherever the formula exceeds 2^-33 in magnitude." Definitions only.
 use Prim.Native.Nat.{ℕ, _-_, _<_}
 use mathlib.Core.List.{List, [], _∷_}
-use Rattle.fractions.specs.Fraction.{Fraction, fraction, whole, unit, magnitude, square, _⊕_, _⊖_, _⊗_, _⊘_, Less, AtMost}
+use Rattle.fractions.specs.Fraction.{Fraction, fraction, whole, unit, magnitude, square, _⊕_, _⊖_, _⊗_, _⊘_}
+use Rattle.fractions.specs.Fraction.{Less, AtMost}
 
 -- the sum of squares, from 0
 abbrev pub sumFrom : Fraction → List Fraction → Fraction
@@ -21,7 +23,8 @@ raised k x = magnitude x ⊕ unit k
 abbrev pub lowered : ℕ → Fraction → Fraction
 lowered k x = let d = magnitude x ⊖ unit k in fraction (d .plus - d .minus) 0 (d .over)
 
--- x is within 2 ^ -k of G / √S, by squares: the exact square G² / S lies between those of x lowered and x raised, and x has the sign of G wherever the exact gain exceeds 2 ^ -k in magnitude
+-- x is within 2 ^ -k of G / √S, by squares: the exact square G² / S lies between those of x lowered and x raised, and x
+-- has the sign of G wherever the exact gain exceeds 2 ^ -k in magnitude
 pub record BySquares (k : ℕ) (x G S : Fraction) : Type 0 where
   pub gain : 0 < x .over
   pub formula : 0 < G .over

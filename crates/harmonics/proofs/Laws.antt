@@ -1,5 +1,5 @@
--- What the crates above cite of the coefficients, beside their promise: which orders and directions are accepted, that each coefficient is nearer its formula than promised, and how large the formula is.
--- Assumes nothing.
+-- What the crates above cite of the coefficients, beside their promise: which orders and directions are accepted, that
+-- each coefficient is nearer its formula than promised, and how large the formula is. Assumes nothing.
 use mathlib.Core.Path.{_≡_, sym, ap, _∙_, subst}
 use mathlib.Core.Bool.{Bool, true, false, _||_, cond}
 use mathlib.Core.List.{List}
@@ -27,7 +27,8 @@ use Rattle.angles.proofs.Limits.{accepted-number, accepted-size, size-accepted}
 use Rattle.harmonics.proofs.Meets as Kept
 -- what is known of an order and a direction that are accepted
 pub use Rattle.harmonics.proofs.Meets.{is-accepted}
--- the promise holds of the answer that the definition gives, so that all of it can be had of coefficients that are said by the definition alone
+-- the promise holds of the answer that the definition gives, so that all of it can be had of coefficients that are said
+-- by the definition alone
 pub use Rattle.harmonics.proofs.Meets.{outcome-kept}
 
 -- ---- which angles are accepted: those of 180, or of 90 degrees at most in size
@@ -63,10 +64,12 @@ module _ (s : Bool) (n : ℕ) (h : n ≤ 180) where
       size false = record { above = omega arith; below = omega arith }
 
 -- ---- which orders and directions are accepted
-pub direction-accepted : (d : Direction) → refusesAzimuth (d .azimuth) ≡ false → refusesElevation (d .elevation) ≡ false → refusesDirection d ≡ false
+pub direction-accepted : (d : Direction) → refusesAzimuth (d .azimuth) ≡ false → refusesElevation (d .elevation) ≡ false
+    → refusesDirection d ≡ false
 direction-accepted d a e = λ i. a i || e i
 
-pub accepted : (order : ℕ) (d : Direction) → refusesOrder order ≡ false → refusesDirection d ≡ false → refusalOf order d ≡ 0
+pub accepted : (order : ℕ) (d : Direction) → refusesOrder order ≡ false → refusesDirection d ≡ false
+    → refusalOf order d ≡ 0
 accepted order d n h = λ i. cond (n i) 1 (cond (h i) 3 0)
 
 module _ (order : ℕ) (d : Direction) (answer : Coefficients) (p : Promise order d answer) where
@@ -78,9 +81,12 @@ module _ (order : ℕ) (d : Direction) (answer : Coefficients) (p : Promise orde
 
   -- ---- each, by its channel: nearer than promised, and of what magnitude
   pub gain-near : refusalOf order d ≡ 0 → (i : ℕ) (x : Float) (q : Fraction) → i < 16
-      → Approximates 42 (whole 5) (getD (answer .gains) i x) (getD (formulas order (number (d .azimuth)) (number (d .elevation))) i q)
+      → Approximates 42 (whole 5) (getD (answer .gains) i x)
+      (getD (formulas order (number (d .azimuth)) (number (d .elevation))) i q)
   gain-near h i x q l =
-      subst (λ (xs : List Float). Approximates 42 (whole 5) (getD xs i x) (getD (formulas order (number (d .azimuth)) (number (d .elevation))) i q)) (sym (gains-are h)) (Kept.near-all order d h .each i x q l)
+      subst (λ (xs : List Float). Approximates 42 (whole 5) (getD xs i x)
+      (getD (formulas order (number (d .azimuth)) (number (d .elevation))) i q)) (sym (gains-are h))
+      (Kept.near-all order d h .each i x q l)
 
   -- ---- there are sixteen, refused or not
   pub gains-length : length (answer .gains) ≡ 16

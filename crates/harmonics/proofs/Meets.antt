@@ -1,4 +1,5 @@
--- The promise is kept: all of it holds of the answer that the definition gives, and so of the three answers that the program can give. Assumes nothing.
+-- The promise is kept: all of it holds of the answer that the definition gives, and so of the three answers that the
+-- program can give. Assumes nothing.
 use mathlib.Core.Path.{_≡_, refl, sym, ap, _∙_, subst}
 use mathlib.Core.Bool.{Bool, true, false, cond}
 use mathlib.Core.List.{List, [], _∷_}
@@ -18,7 +19,8 @@ use Rattle.fractions.proofs.Close.{size-wider}
 use Rattle.fractions.proofs.Within.{at-most-size, size-at-most}
 use Rattle.harmonics.specs.Formulas.{formulas}
 use Rattle.harmonics.specs.Computed.{wavesOf, upTo, gainsOf}
-use Rattle.harmonics.specs.Promise.{gainBits, refusesAzimuth, refusesElevation, refusesDirection, refusalOf, silence, outcome, Promise}
+use Rattle.harmonics.specs.Promise.{gainBits, refusesAzimuth, refusesElevation, refusesDirection, refusalOf}
+use Rattle.harmonics.specs.Promise.{silence, outcome, Promise}
 use Rattle.harmonics.specs.declared.Direction.{Direction}
 use Rattle.harmonics.specs.declared.Coefficients.{Coefficients}
 use Rattle.angles.proofs.Limits.{accepted-number, accepted-size}
@@ -57,14 +59,17 @@ module _ (order : ℕ) (d : Direction) where
   answer a b = answered (cond a 1 (cond b 3 0)) (accepting (upTo order (wavesOf d))) refusing
 
   pub refusal-is : outcome order d .refusal ≡ refusalOf order d
-  refusal-is = told-is (accepting (upTo order (wavesOf d))) refusing (λ (r : Coefficients). r .refusal) refl (refusalOf order d) refl
+  refusal-is = told-is (accepting (upTo order (wavesOf d))) refusing (λ (r : Coefficients). r .refusal) refl
+      (refusalOf order d) refl
 
   pub gains-are : refusalOf order d ≡ 0 → outcome order d .gains ≡ upTo order (wavesOf d)
-  gains-are h = ap (λ (r : Coefficients). r .gains) (answered-accepted (accepting (upTo order (wavesOf d))) refusing (refusalOf order d) h)
+  gains-are h = ap (λ (r : Coefficients). r .gains)
+      (answered-accepted (accepting (upTo order (wavesOf d))) refusing (refusalOf order d) h)
 
   pub length-is : length (outcome order d .gains) ≡ 16
   unfolding upTo
-  length-is = go (refusesOrder order) (refusesDirection d) (λ h. by-order (λ (n : ℕ). length (upTo n (wavesOf d)) ≡ 16) refl refl refl order h)
+  length-is = go (refusesOrder order) (refusesDirection d)
+      (λ h. by-order (λ (n : ℕ). length (upTo n (wavesOf d)) ≡ 16) refl refl refl order h)
     where
       go : (a b : Bool) → (a ≡ false → length (upTo order (wavesOf d)) ≡ 16) → length (answer a b .gains) ≡ 16
       go true b f = refl
@@ -74,22 +79,30 @@ module _ (order : ℕ) (d : Direction) where
   pub near-all : refusalOf order d ≡ 0 → Bounded d order
   near-all h =
       let a = is-accepted h in
-      bounded d (a .azimuth) (a .azimuth-size) (a .elevation) (size-at-most (size-wider (at-most-size (a .elevation-size)) (lit≤ tt))) order (a .order-is)
+      bounded d (a .azimuth) (a .azimuth-size) (a .elevation)
+      (size-at-most (size-wider (at-most-size (a .elevation-size)) (lit≤ tt))) order (a .order-is)
 
   pub outcome-kept : Promise order d (outcome order d)
   outcome-kept = record {
     bits = refl;
-    words = λ h. subst (λ (xs : List Float). EachWithin gainBits xs (formulas order (number (d .azimuth)) (number (d .elevation)))) (sym (gains-are h)) (near-all h .near);
+    words = λ h. subst (λ (xs : List Float). EachWithin gainBits xs
+        (formulas order (number (d .azimuth)) (number (d .elevation)))) (sym (gains-are h)) (near-all h .near);
   }
 
   -- ---- the three answers of the program
-  pub order-refused : (r : Coefficients) → refusesOrder order ≡ true → r ≡ record { refusal = 1; gains = silence } → Promise order d r
-  order-refused r h e = subst (Promise order d) (ap (λ (a : Bool). answer a (refusesDirection d)) h ∙ sym e) outcome-kept
+  pub order-refused : (r : Coefficients) → refusesOrder order ≡ true → r ≡ record { refusal = 1; gains = silence }
+      → Promise order d r
+  order-refused r h e =
+      subst (Promise order d) (ap (λ (a : Bool). answer a (refusesDirection d)) h ∙ sym e) outcome-kept
 
-  pub direction-refused : (r : Coefficients) → refusesOrder order ≡ false → refusesDirection d ≡ true → r ≡ record { refusal = 3; gains = silence } → Promise order d r
+  pub direction-refused : (r : Coefficients) → refusesOrder order ≡ false → refusesDirection d ≡ true
+      → r ≡ record { refusal = 3; gains = silence } → Promise order d r
   direction-refused r h k e = subst (Promise order d) ((λ i. answer (h i) (k i)) ∙ sym e) outcome-kept
 
-  pub accepted-kept : (g : List Float) → refusesOrder order ≡ false → refusesDirection d ≡ false → g ≡ gainsOf order (wavesOf d) → Promise order d (record { refusal = 0; gains = g })
+  pub accepted-kept : (g : List Float) → refusesOrder order ≡ false → refusesDirection d ≡ false
+      → g ≡ gainsOf order (wavesOf d) → Promise order d (record { refusal = 0; gains = g })
   accepted-kept g h k e =
       subst (Promise order d)
-      ((λ i. answer (h i) (k i)) ∙ ap accepting (sym (e ∙ by-order (λ (n : ℕ). gainsOf n (wavesOf d) ≡ upTo n (wavesOf d)) refl refl refl order h))) outcome-kept
+      ((λ i. answer (h i) (k i)) ∙ ap accepting
+      (sym (e ∙ by-order (λ (n : ℕ). gainsOf n (wavesOf d) ≡ upTo n (wavesOf d)) refl refl refl order h)))
+      outcome-kept

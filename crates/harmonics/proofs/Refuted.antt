@@ -38,7 +38,8 @@ unfolding refusal
 falls-back p = let e : _≡_ {A = ℕ} 0 1 = ap refusal (p .bits) in omega arith
 
 -- it plays an azimuth that is NaN as 0
-nan-in-front : Promise 1 (record { azimuth = nan; elevation = zero-float }) (record { refusal = 0; gains = upTo 1 (wavesOf (at 0 0)) }) → ⊥
+nan-in-front : Promise 1 (record { azimuth = nan; elevation = zero-float })
+    (record { refusal = 0; gains = upTo 1 (wavesOf (at 0 0)) }) → ⊥
 unfolding refusal refusesAngle
 nan-in-front p = let e : _≡_ {A = ℕ} 0 3 = ap refusal (p .bits) in omega arith
 
@@ -53,14 +54,20 @@ unfolding refusal
 direction-first p = let e : _≡_ {A = ℕ} 3 1 = ap refusal (p .bits) in omega arith
 
 -- it keeps 33 binary places: channel 1 at 45 degrees, cut there, is more than 2^-34 too small
-cut-to-33-places : (w : Float) (g : List Float) → Promise 1 (at 45 0) (record { refusal = 0; gains = w ∷ fin false 6074000999 (negsuc 32) ∷ g }) → ⊥
-unfolding refusesAngle isInside lt le eq neg ofInt formulasOver defined isMultiple quarters turned reduced around radians sineSum term power factorial
+cut-to-33-places : (w : Float) (g : List Float) → Promise 1 (at 45 0)
+    (record { refusal = 0; gains = w ∷ fin false 6074000999 (negsuc 32) ∷ g }) → ⊥
+unfolding refusesAngle isInside lt le eq neg ofInt formulasOver defined isMultiple quarters turned reduced around
+    radians sineSum term power factorial
 cut-to-33-places w g p = le→leb _ _ (p .words refl .1 .0 .near)
 
 -- it judges a direction by its azimuth alone
-elevation-not-judged : (d : Direction) (r : Bool) → refusesElevation (d .elevation) ≡ true → r ≡ refusesDirection d → r ≡ false → ⊥
-elevation-not-judged d r bad is off = true≢false (sym bad ∙ or-off (refusesAzimuth (d .azimuth)) (refusesElevation (d .elevation)) (sym is ∙ off) .1)
+elevation-not-judged : (d : Direction) (r : Bool) → refusesElevation (d .elevation) ≡ true → r ≡ refusesDirection d
+    → r ≡ false → ⊥
+elevation-not-judged d r bad is off =
+    true≢false (sym bad ∙ or-off (refusesAzimuth (d .azimuth)) (refusesElevation (d .elevation)) (sym is ∙ off) .1)
 
 -- it judges a direction by its elevation alone
-azimuth-not-judged : (d : Direction) (r : Bool) → refusesAzimuth (d .azimuth) ≡ true → r ≡ refusesDirection d → r ≡ false → ⊥
-azimuth-not-judged d r bad is off = true≢false (sym bad ∙ or-off (refusesAzimuth (d .azimuth)) (refusesElevation (d .elevation)) (sym is ∙ off) .0)
+azimuth-not-judged : (d : Direction) (r : Bool) → refusesAzimuth (d .azimuth) ≡ true → r ≡ refusesDirection d
+    → r ≡ false → ⊥
+azimuth-not-judged d r bad is off =
+    true≢false (sym bad ∙ or-off (refusesAzimuth (d .azimuth)) (refusesElevation (d .elevation)) (sym is ∙ off) .0)

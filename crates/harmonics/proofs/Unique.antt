@@ -1,4 +1,5 @@
--- No two answers meet a promise. Document 01's words alone leave room, 2 ^ -34 either way: it is the equation that leaves none. Assumes nothing.
+-- No two answers meet a promise. Document 01's words alone leave room, 2 ^ -34 either way: it is the equation that
+-- leaves none. Assumes nothing.
 use Rattle.lists.specs.OneAnswer.{AllowsOneAnswer}
 use Rattle.lists.proofs.Determined.{determined-by}
 use Rattle.harmonics.proofs.refuses_azimuth

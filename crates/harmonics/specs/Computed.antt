@@ -1,4 +1,5 @@
--- What the program computes, operation by operation, in f64. Nobody has to believe it: specs/Promise.antt ties the sixteen to document 01's formulas. Definitions only.
+-- What the program computes, operation by operation, in f64. Nobody has to believe it: specs/Promise.antt ties the
+-- sixteen to document 01's formulas. Definitions only.
 use Prim.Native.Nat.{ℕ}
 use mathlib.Core.List.{List, [], _∷_}
 use lib.IntN.{pos}

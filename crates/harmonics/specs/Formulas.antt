@@ -1,6 +1,9 @@
--- Document 01, 'Gains': "Harmonics, ACN order, SN3D. With a azimuth, e elevation: 0: 1; 1: cos e sin a; 2: sin e; 3: cos e cos a; 4: h cos²e sin 2a; 5: h sin 2e sin a; 6: (3 sin²e - 1)/2; 7: h sin 2e cos a;
--- 8: h cos²e cos 2a; 9: q cos³e sin 3a; 10: o cos²e sin e sin 2a; 11: m cos e (5 sin²e - 1) sin a; 12: sin e (5 sin²e - 3)/2; 13: as 11 with cos a; 14: as 10 with cos 2a; 15: q cos³e cos 3a. The constants
--- h, q, o, m are 0.8660254037844386, 0.7905694150420949, 1.9364916731037085, 0.6123724356957945." Over the defined sums, angles in degrees. Definitions only.
+-- Document 01, 'Gains': "Harmonics, ACN order, SN3D. With a azimuth, e elevation: 0: 1; 1: cos e sin a; 2: sin e; 3:
+-- cos e cos a; 4: h cos²e sin 2a; 5: h sin 2e sin a; 6: (3 sin²e - 1)/2; 7: h sin 2e cos a; 8: h cos²e cos 2a; 9: q
+-- cos³e sin 3a; 10: o cos²e sin e sin 2a; 11: m cos e (5 sin²e - 1) sin a; 12: sin e (5 sin²e - 3)/2; 13: as 11 with
+-- cos a; 14: as 10 with cos 2a; 15: q cos³e cos 3a. The constants h, q, o, m are 0.8660254037844386,
+-- 0.7905694150420949, 1.9364916731037085, 0.6123724356957945." Over the defined sums, angles in degrees. Definitions
+-- only.
 use Prim.Native.Nat.{ℕ, _^_}
 use mathlib.Core.List.{List, [], _∷_, _++_, map}
 use mathlib.Core.Bool.{cond}
@@ -82,7 +85,8 @@ abbrev pub ofDegree : {A : Type 0} → A → ℕ → ℕ → List A → List A
 ofDegree zero order l xs = cond (leb l order) xs (map (λ x. zero) xs)
 
 abbrev pub sixteen : {A : Type 0} → A → ℕ → List A → List A → List A → List A → List A
-sixteen zero order d0 d1 d2 d3 = ofDegree zero order 0 d0 ++ ofDegree zero order 1 d1 ++ ofDegree zero order 2 d2 ++ ofDegree zero order 3 d3
+sixteen zero order d0 d1 d2 d3 =
+    ofDegree zero order 0 d0 ++ ofDegree zero order 1 d1 ++ ofDegree zero order 2 d2 ++ ofDegree zero order 3 d3
 
 unfoldable pub formulasOver : ℕ → Sines → List Fraction
 formulasOver order s = sixteen (whole 0) order (degree0 s) (degree1 s) (degree2 s) (degree3 s)

@@ -1,5 +1,7 @@
--- Document 01, 'Refusal numbers': 1 is given exactly when "ambisonic order is not 1, 2 or 3", 3 when "an angle [..] is NaN or infinite, or azimuth is outside -180..180, elevation outside -90..90", and "A
--- refusal returns its number, [..] 0.0 for any number or gain". 'Gains', harmonics: "Within 2^-34 of the formula over the defined sums." Definitions only.
+-- Document 01, 'Refusal numbers': 1 is given exactly when "ambisonic order is not 1, 2 or 3", 3 when "an angle [..] is
+-- NaN or infinite, or azimuth is outside -180..180, elevation outside -90..90", and "A refusal returns its number, [..]
+-- 0.0 for any number or gain". 'Gains', harmonics: "Within 2^-34 of the formula over the defined sums." Definitions
+-- only.
 use Prim.Native.Nat.{ℕ}
 use mathlib.Core.Path.{_≡_}
 use mathlib.Core.Bool.{Bool, _||_}
@@ -41,9 +43,11 @@ abbrev pub silence : List Float
 silence = replicate 16 zero-float
 
 abbrev pub outcome : ℕ → Direction → Coefficients
-outcome order d = answered (refusalOf order d) (record { refusal = 0; gains = upTo order (wavesOf d) }) (λ n. record { refusal = n; gains = silence })
+outcome order d = answered (refusalOf order d) (record { refusal = 0; gains = upTo order (wavesOf d) })
+    (λ n. record { refusal = n; gains = silence })
 
 -- every bit of the answer; and of the coefficients of an accepted direction how near each is to its formula
 pub record Promise (order : ℕ) (d : Direction) (answer : Coefficients) : Type 0 where
   pub bits : answer ≡ outcome order d
-  pub words : refusalOf order d ≡ 0 → EachWithin gainBits (answer .gains) (formulas order (number (d .azimuth)) (number (d .elevation)))
+  pub words : refusalOf order d ≡ 0 → EachWithin gainBits (answer .gains)
+      (formulas order (number (d .azimuth)) (number (d .elevation)))

@@ -21,7 +21,8 @@ abbrev parts : Shape → ℕ → List ℕ → List Float → List Float → ℕ 
 parts h p rows taps rings ear = partOf (setupOf h [] rows taps) ear p rings
 
 -- the parts of the speakers before s are added, each ear's to its own sum
-pub record Adding (h : Shape) (p : ℕ) (rows : List ℕ) (taps rings : List Float) (left right : Float) (s : ℕ) : Type 0 where
+pub record Adding (h : Shape) (p : ℕ) (rows : List ℕ) (taps rings : List Float) (left right : Float)
+    (s : ℕ) : Type 0 where
   pub to-left : Summing (parts h p rows taps rings 0) (h .speakers) left s
   pub to-right : Summing (parts h p rows taps rings 1) (h .speakers) right s
 
@@ -33,22 +34,30 @@ module _ {h : Shape} {p : ℕ} {rows : List ℕ} {taps rings : List Float} where
         to-right = summing-none (parts h p rows taps rings 1) (h .speakers);
       }
 
-  pub adding-more : {left right : Float} {s : ℕ} {both : EarSums} → Adding h p rows taps rings left right s → s < h .speakers
+  pub adding-more : {left right : Float} {s : ℕ} {both : EarSums} → Adding h p rows taps rings left right s
+      → s < h .speakers
       → both ≡ partsBy h p s (getD rows s 0) taps rings
       → Adding h p rows taps rings (add binary64 left (both .left)) (add binary64 right (both .right)) (s + 1)
   adding-more g lt e =
       record {
-        to-left = summing-more (parts h p rows taps rings 0) (h .speakers) _ _ _ (g .to-left) lt (ap (λ (b : EarSums). b .left) e);
-        to-right = summing-more (parts h p rows taps rings 1) (h .speakers) _ _ _ (g .to-right) lt (ap (λ (b : EarSums). b .right) e);
+        to-left = summing-more (parts h p rows taps rings 0) (h .speakers) _ _ _ (g .to-left) lt
+            (ap (λ (b : EarSums). b .left) e);
+        to-right = summing-more (parts h p rows taps rings 1) (h .speakers) _ _ _ (g .to-right) lt
+            (ap (λ (b : EarSums). b .right) e);
       }
 
   -- the sums times the factor, narrowed, are the ears' samples
-  pub adding-all : {left right : Float} {s : ℕ} {factor x y : Float} → Adding h p rows taps rings left right s → h .speakers ≤ s
-      → factor ≡ inverseRoot (h .speakers) → x ≡ narrowed (mul binary64 left factor) → y ≡ narrowed (mul binary64 right factor)
+  pub adding-all : {left right : Float} {s : ℕ} {factor x y : Float} → Adding h p rows taps rings left right s
+      → h .speakers ≤ s
+      → factor ≡ inverseRoot (h .speakers) → x ≡ narrowed (mul binary64 left factor)
+      → y ≡ narrowed (mul binary64 right factor)
       → record { left = x; right = y } ≡ earsBy h rows taps p rings
   unfolding earOf
-  adding-all {s = s} {factor = factor} g end ef ex ey = λ i. record { left = eared 0 (g .to-left) ex i; right = eared 1 (g .to-right) ey i }
+  adding-all {s = s} {factor = factor} g end ef ex ey = λ i.
+      record { left = eared 0 (g .to-left) ex i; right = eared 1 (g .to-right) ey i }
     where
-      eared : (ear : ℕ) {sum r : Float} → Summing (parts h p rows taps rings ear) (h .speakers) sum s → r ≡ narrowed (mul binary64 sum factor)
+      eared : (ear : ℕ) {sum r : Float} → Summing (parts h p rows taps rings ear) (h .speakers) sum s
+          → r ≡ narrowed (mul binary64 sum factor)
           → r ≡ earBy h rows taps ear p rings
-      eared ear {sum} summed er = er ∙ rw (summing-all (parts h p rows taps rings ear) (h .speakers) sum s summed end, ef)
+      eared ear {sum} summed er = er
+          ∙ rw (summing-all (parts h p rows taps rings ear) (h .speakers) sum s summed end, ef)

@@ -1,5 +1,5 @@
--- From what the block leaves to what `process` promises, and from filled rings to what `reset` promises. What document 01 says besides of a call: zero frames change nothing, and frames beyond the
--- count are as they were. Assumes nothing.
+-- From what the block leaves to what `process` promises, and from filled rings to what `reset` promises. What document
+-- 01 says besides of a call: zero frames change nothing, and frames beyond the count are as they were. Assumes nothing.
 use mathlib.Core.Path.{_≡_, refl, sym, ap, _∙_, subst}
 use mathlib.Core.List.{List, []}
 use Prim.Native.Nat.{ℕ, zero, suc, _*_, _≤_, _<_}
@@ -22,7 +22,8 @@ use Rattle.hrtf_history.proofs.Pieces.{length-heard, heard-from, two-each}
 use Rattle.hrtf_rings.specs.State.{State}
 use Rattle.hrtf_rings.specs.Computed.{left, played, counted}
 use Rattle.hrtf_rings.specs.Held.{heldIn, afterFrames, Represents}
-use Rattle.hrtf_rings.proofs.Blocks.{played-held, left-is, counted-is, played-heard, counted-told, left-kept, fresh-represents}
+use Rattle.hrtf_rings.proofs.Blocks.{played-held, left-is, counted-is, played-heard, counted-told, left-kept}
+use Rattle.hrtf_rings.proofs.Blocks.{fresh-represents}
 use Rattle.hrtf_checks.specs.Call.{Call, setup, framesIn}
 use Rattle.hrtf_checks.specs.Refusals.{refusalOf}
 use Rattle.hrtf.specs.Promise.{BlockOutcome, refused, accepted, outcomeBy, outcome, stateAfter, Processes}
@@ -42,9 +43,11 @@ accepted-computed c t e =
     let u = setup c in
     let room = ready c t e .ringed in
     let within = ready c t e .within in
-    let count : unsettledIn u (t .desk .«to_go») [] (framesIn c) ≡ counted u t (framesIn c) = sym (counted-is u t (framesIn c) room within (waits c t e)) in
+    let count : unsettledIn u (t .desk .«to_go») [] (framesIn c) ≡ counted u t (framesIn c) = sym (counted-is u t
+    (framesIn c) room within (waits c t e)) in
     let state : afterFrames u t (framesIn c) ≡ left u t (framesIn c) = sym (left-is u t (framesIn c) room within) in
-    let sums : heard u (heldIn u t) (framesIn c) ≡ played u t (framesIn c) = sym (played-held u t (framesIn c) room within) in
+    let sums : heard u (heldIn u t) (framesIn c) ≡ played u t (framesIn c) = sym (played-held u t (framesIn c) room
+    within) in
     λ i. record {
       answer = record { refusal = 0; samples = c .frames; unsettled = count i; desk = state i .desk };
       rings = state i .rings;
@@ -59,54 +62,86 @@ promised : (c : Call) (t : State) (o : BlockOutcome) → o ≡ outcome c t → P
 promised c t o e =
     record {
       bits = e;
-      words = λ past r z. subst (λ (q : BlockOutcome). Represents (setup c) (after (setup c) past (framesIn c)) (stateAfter q)) (sym (e ∙ outcome-computed c t z)) (left-kept (setup c) past t r (framesIn c));
+      words = λ past r z. subst (λ (q : BlockOutcome). Represents (setup c) (after (setup c) past (framesIn c))
+          (stateAfter q)) (sym (e ∙ outcome-computed c t z)) (left-kept (setup c) past t r (framesIn c));
     }
 
--- an accepted call over a past that rings and desk stand for: document 01's sums over it stand in the ear planes, and the count is over it
-module _ (c : Call) (t : State) (o : BlockOutcome) (p : Processes c t o) (past : List (List Float)) (r : Represents (setup c) past t) (z : refusalOf c t ≡ 0) where
+-- an accepted call over a past that rings and desk stand for: document 01's sums over it stand in the ear planes, and
+-- the count is over it
+module _ (c : Call) (t : State) (o : BlockOutcome) (p : Processes c t o) (past : List (List Float))
+    (r : Represents (setup c) past t) (z : refusalOf c t ≡ 0) where
   pub ears-over : o .ears ≡ withFrames (c .ears) (c .stride) 0 (heard (setup c) past (framesIn c))
-  ears-over = ap (λ (q : BlockOutcome). q .ears) (p .bits ∙ outcome-computed c t z) ∙ ap (withFrames (c .ears) (c .stride) 0) (played-heard (setup c) past t r (framesIn c))
+  ears-over = ap (λ (q : BlockOutcome). q .ears) (p .bits ∙ outcome-computed c t z)
+      ∙ ap (withFrames (c .ears) (c .stride) 0) (played-heard (setup c) past t r (framesIn c))
 
   pub unsettled-over : o .answer .unsettled ≡ unsettledIn (setup c) 0 past (framesIn c)
-  unsettled-over = ap (λ (q : BlockOutcome). q .answer .unsettled) (p .bits ∙ outcome-computed c t z) ∙ counted-told (setup c) past t r (framesIn c)
+  unsettled-over = ap (λ (q : BlockOutcome). q .answer .unsettled) (p .bits ∙ outcome-computed c t z)
+      ∙ counted-told (setup c) past t r (framesIn c)
 
 pub promised-refused : (c : Call) (t : State) (n : ℕ) → n ≡ refusalOf c t → (n ≡ 0 → ⊥) → Processes c t (refused n c t)
-promised-refused c t n e some = promised c t (refused n c t) (sym (outcome-by c t n (sym e) ∙ answered-refused (accepted c t) (λ k. refused k c t) n some))
+promised-refused c t n e some = promised c t (refused n c t)
+    (sym (outcome-by c t n (sym e) ∙ answered-refused (accepted c t) (λ k. refused k c t) n some))
 
-pub promised-accepted : (c : Call) (t : State) (rings₁ ears₁ : List Float) (desk₁ : Desk) (more : ℕ) → 0 ≡ refusalOf c t → BlockPlayed c t rings₁ ears₁ desk₁ more
-    → Processes c t (record { answer = record { refusal = 0; samples = c .frames; unsettled = more; desk = desk₁ }; rings = rings₁; ears = ears₁ })
+pub promised-accepted : (c : Call) (t : State) (rings₁ ears₁ : List Float) (desk₁ : Desk) (more : ℕ) → 0 ≡ refusalOf c t
+    → BlockPlayed c t rings₁ ears₁ desk₁ more
+    → Processes c t (record {
+      answer =
+          record { refusal = 0; samples = c .frames; unsettled = more; desk = desk₁ };
+      rings = rings₁;
+      ears = ears₁;
+    })
 promised-accepted c t rings₁ ears₁ desk₁ more e b =
-    promised c t (record { answer = record { refusal = 0; samples = c .frames; unsettled = more; desk = desk₁ }; rings = rings₁; ears = ears₁ })
+    promised c t (record {
+      answer =
+          record { refusal = 0; samples = c .frames; unsettled = more; desk = desk₁ };
+      rings = rings₁;
+      ears = ears₁;
+    })
     (b ∙ sym (outcome-computed c t (sym e)))
 
 -- zero frames change nothing
 pub none-played : (c : Call) (t : State) → refusalOf c t ≡ 0 → c .frames ≡ 0
-    → outcome c t ≡ record { answer = record { refusal = 0; samples = c .frames; unsettled = 0; desk = t .desk }; rings = t .rings; ears = c .ears }
+    → outcome c t ≡ record {
+      answer =
+          record { refusal = 0; samples = c .frames; unsettled = 0; desk = t .desk };
+      rings = t .rings;
+      ears = c .ears;
+    }
 none-played c t e z = outcome-computed c t e ∙ ap by (ap (framesOf (c .inputs) (c .stride) (c .shape .channels)) z)
   where
     by : List (List Float) → BlockOutcome
     by fs =
         record {
-          answer = record { refusal = 0; samples = c .frames; unsettled = counted (setup c) t fs; desk = left (setup c) t fs .desk };
+          answer = record {
+            refusal = 0;
+            samples = c .frames;
+            unsettled = counted (setup c) t fs;
+            desk = left (setup c) t fs .desk;
+          };
           rings = left (setup c) t fs .rings;
           ears = withFrames (c .ears) (c .stride) 0 (played (setup c) t fs);
         }
 
 -- two ear samples for each frame
 pub all-heard : (c : Call) (past : List (List Float)) → length (heard (setup c) past (framesIn c)) ≡ c .frames
-all-heard c past = length-heard (setup c) past (framesIn c) ∙ length-tab 0 (c .frames) (frameAt (c .inputs) (c .stride) (c .shape .channels))
+all-heard c past = length-heard (setup c) past (framesIn c)
+    ∙ length-tab 0 (c .frames) (frameAt (c .inputs) (c .stride) (c .shape .channels))
 
--- the ear samples at frame n: document 01's sums over the call's signals up to it, newest first, and then those that the rings held
+-- the ear samples at frame n: document 01's sums over the call's signals up to it, newest first, and then those that
+-- the rings held
 pub ear-at : (c : Call) (t : State) → refusalOf c t ≡ 0 → (ear n : ℕ) → ear < 2 → n < c .frames
-    → sampleAt (outcome c t .ears) (c .stride) ear n ≡ getD (earSamples (setup c) (after (setup c) (heldIn (setup c) t) (take (suc n) (framesIn c)))) ear nan
+    → sampleAt (outcome c t .ears) (c .stride) ear n ≡ getD
+    (earSamples (setup c) (after (setup c) (heldIn (setup c) t) (take (suc n) (framesIn c)))) ear nan
 ear-at c t e ear n he hn =
     let u = setup c in
     let past = heldIn (setup c) t in
     let fs = framesIn c in
-    let many : length fs ≡ c .frames = length-tab 0 (c .frames) (frameAt (c .inputs) (c .stride) (c .shape .channels)) in
+    let many : length fs ≡ c .frames = length-tab 0 (c .frames)
+    (frameAt (c .inputs) (c .stride) (c .shape .channels)) in
     ap (λ (o : BlockOutcome). sampleAt (o .ears) (c .stride) ear n) (outcome-by c t 0 e)
     ∙ ap (sampleAt (withFrames (c .ears) (c .stride) 0 (heard u past fs)) (c .stride) ear) (sym (zero-add n))
-    ∙ with-frames-at 2 (c .ears) (c .stride) 0 (heard u past fs) ear n (omega (arith, hn, all-heard c past)) he (omega (arith, all-heard c past, ears-fit c t e .0)) (ears-fit c t e .1) (two-each u past fs)
+    ∙ with-frames-at 2 (c .ears) (c .stride) 0 (heard u past fs) ear n (omega (arith, hn, all-heard c past)) he
+    (omega (arith, all-heard c past, ears-fit c t e .0)) (ears-fit c t e .1) (two-each u past fs)
     ∙ ap (λ (l : List Float). getD l ear nan) (heard-from u past fs n [] (omega (arith, hn, many)))
 
 -- frames of a plane beyond the count are unchanged
@@ -114,13 +149,16 @@ pub beyond : (c : Call) (t : State) → refusalOf c t ≡ 0 → (plane i : ℕ) 
     → sampleAt (outcome c t .ears) (c .stride) plane i ≡ sampleAt (c .ears) (c .stride) plane i
 beyond c t e plane i h lt =
     ap (λ (o : BlockOutcome). sampleAt (o .ears) (c .stride) plane i) (outcome-by c t 0 e)
-    ∙ with-frames-other (c .ears) (c .stride) 0 (heard (setup c) (heldIn (setup c) t) (framesIn c)) plane i lt (omega (arith, all-heard c (heldIn (setup c) t), ears-fit c t e .0)) (λ k b q. omega (arith, all-heard c (heldIn (setup c) t), b, q))
+    ∙ with-frames-other (c .ears) (c .stride) 0 (heard (setup c) (heldIn (setup c) t) (framesIn c)) plane i lt
+    (omega (arith, all-heard c (heldIn (setup c) t), ears-fit c t e .0))
+    (λ k b q. omega (arith, all-heard c (heldIn (setup c) t), b, q))
 
 -- ---- a reset
 
 module _ (speakers L : ℕ) (rings : List Float) where
   -- the number of the first test that fails
-  pub reset-refuses : (k : ℕ) → FirstAt k (resetChecks speakers L rings) → resetRefusal speakers L rings ≡ numberAt k (resetChecks speakers L rings)
+  pub reset-refuses : (k : ℕ) → FirstAt k (resetChecks speakers L rings)
+      → resetRefusal speakers L rings ≡ numberAt k (resetChecks speakers L rings)
   unfolding resetRefusal
   reset-refuses k h = first-holds k (resetChecks speakers L rings) h
 
@@ -136,15 +174,19 @@ module _ (d : Desk) (speakers L : ℕ) (rings : List Float) where
   -- an accepted reset is given at least one cell, and exactly those of the speakers
   reset-fits : resetRefusal speakers L rings ≡ 0 → (0 < L) × (length rings ≡ speakers * L)
   unfolding resetRefusal
-  reset-fits e = let off = none-holds (resetChecks speakers L rings) tt e in (not-outside L 512 (off .1 .0) .0, is-equal (length rings) (speakers * L) (off .1 .1 .0))
+  reset-fits e = let off = none-holds (resetChecks speakers L rings) tt e in
+      (not-outside L 512 (off .1 .0) .0, is-equal (length rings) (speakers * L) (off .1 .1 .0))
 
   reset-told : (o : ResetOutcome) → o ≡ resetOutcome d speakers L rings → Resets d speakers L rings o
   reset-told o e =
       record {
         bits = e;
-        words = λ z u es eL. subst (λ (p : ResetOutcome). Represents u [] (record { rings = p .rings; desk = p .answer .desk })) (sym (e ∙ reset-by 0 z))
+        words = λ z u es eL. subst
+            (λ (p : ResetOutcome). Represents u [] (record { rings = p .rings; desk = p .answer .desk }))
+            (sym (e ∙ reset-by 0 z))
             (subst (λ (n : ℕ). Represents u [] (record { rings = replicate n zero-float; desk = zeroed }))
-            (cells u es eL ∙ sym (reset-fits z .1)) (fresh-represents u (subst (λ (n : ℕ). 0 < n) (sym eL) (reset-fits z .0))));
+            (cells u es eL ∙ sym (reset-fits z .1))
+            (fresh-represents u (subst (λ (n : ℕ). 0 < n) (sym eL) (reset-fits z .0))));
       }
     where
       cells : (u : Setup) → u .speakers ≡ speakers → u .L ≡ L → u .speakers * u .L ≡ speakers * L
@@ -155,15 +197,20 @@ module _ (d : Desk) (speakers L : ℕ) (rings : List Float) where
   number-by zero = refl
   number-by (suc n) = refl
 
-  pub reset-number : (o : ResetOutcome) → Resets d speakers L rings o → o .answer .refusal ≡ resetRefusal speakers L rings
+  pub reset-number : (o : ResetOutcome) → Resets d speakers L rings o
+      → o .answer .refusal ≡ resetRefusal speakers L rings
   unfolding resetOutcome
   reset-number o r = ap (λ (p : ResetOutcome). p .answer .refusal) (r .bits) ∙ number-by (resetRefusal speakers L rings)
 
-  pub reset-refused : (k : ℕ) → resetRefusal speakers L rings ≡ suc k → Resets d speakers L rings (record { answer = record { refusal = suc k; desk = d }; rings = rings })
-  reset-refused k e = reset-told (record { answer = record { refusal = suc k; desk = d }; rings = rings }) (sym (reset-by (suc k) e))
+  pub reset-refused : (k : ℕ) → resetRefusal speakers L rings ≡ suc k
+      → Resets d speakers L rings (record { answer = record { refusal = suc k; desk = d }; rings = rings })
+  reset-refused k e =
+      reset-told (record { answer = record { refusal = suc k; desk = d }; rings = rings }) (sym (reset-by (suc k) e))
 
-  pub reset-accepted : (rings₁ : List Float) → resetRefusal speakers L rings ≡ 0 → rings₁ ≡ replicate (length rings) zero-float
+  pub reset-accepted : (rings₁ : List Float) → resetRefusal speakers L rings ≡ 0
+      → rings₁ ≡ replicate (length rings) zero-float
       → Resets d speakers L rings (record { answer = record { refusal = 0; desk = zeroed }; rings = rings₁ })
   reset-accepted rings₁ e f =
       reset-told (record { answer = record { refusal = 0; desk = zeroed }; rings = rings₁ })
-      (ap (λ (l : List Float). record { answer = record { refusal = 0; desk = zeroed }; rings = l }) f ∙ sym (reset-by 0 e))
+      (ap (λ (l : List Float). record { answer = record { refusal = 0; desk = zeroed }; rings = l }) f
+      ∙ sym (reset-by 0 e))

@@ -1,4 +1,5 @@
--- What one frame makes of rings, ears and desk, and what the loop of `block` keeps: the frames that are left, played from here, give what the block promises. Assumes nothing.
+-- What one frame makes of rings, ears and desk, and what the loop of `block` keeps: the frames that are left, played
+-- from here, give what the block promises. Assumes nothing.
 use mathlib.Core.Path.{_≡_, refl, sym, ap, _∙_, subst}
 use mathlib.Core.Bool.{Bool, _||_, cond}
 use mathlib.Core.List.{List, [], _∷_}
@@ -34,11 +35,20 @@ module _ (h : Shape) (weights : List Float) (rows : List ℕ) (taps : List Float
   u = setupOf h weights rows taps
 
   -- a frame leaves the rings as long as they were, so that the ears may be read
-  pub ready-stored : (rings₁ : List Float) → Ready h (t .desk .position) rows taps (t .rings) → rings₁ ≡ stored u t f → Ready h (t .desk .position) rows taps rings₁
+  pub ready-stored : (rings₁ : List Float) → Ready h (t .desk .position) rows taps (t .rings) → rings₁ ≡ stored u t f
+      → Ready h (t .desk .position) rows taps rings₁
   ready-stored rings₁ r e =
-      record { few = r .few; chosen = r .chosen; tapped = r .tapped; ringed = ap length e ∙ length-stored u t f ∙ r .ringed; within = r .within }
+      record {
+        few = r .few;
+        chosen = r .chosen;
+        tapped = r .tapped;
+        ringed = ap length e ∙ length-stored u t f
+            ∙ r .ringed;
+        within = r .within;
+      }
 
-  pub turned : (stride n : ℕ) (ears₀ rings₁ : List Float) (bad : Bool) (both : EarSamples) (ears₁ ears₂ : List Float) (count one : ℕ)
+  pub turned : (stride n : ℕ) (ears₀ rings₁ : List Float) (bad : Bool) (both : EarSamples) (ears₁ ears₂ : List Float)
+      (count one : ℕ)
       → FramePut (t .rings) (h .length) (t .desk .position) (signals u f) rings₁ bad
       → both ≡ earsBy h rows taps (suc (t .desk .position)) rings₁
       → ears₁ ≡ withSample ears₀ stride 0 n (both .left)
@@ -54,7 +64,8 @@ module _ (h : Shape) (weights : List Float) (rows : List ℕ) (taps : List Float
             ∙ ap (λ (b : EarSamples). withSample (withSample ears₀ stride 0 n (b .left)) stride 1 n (b .right))
             (eb ∙ ap (earsBy h rows taps (suc (t .desk .position))) (put .put));
         more = refl;
-        counts = ap (λ (k : ℕ). count + k) (eo ∙ ap (λ (b : Bool). cond (b || ltb 0 (t .desk .«to_go»)) 1 0) (put .damage));
+        counts = ap (λ (k : ℕ). count + k)
+            (eo ∙ ap (λ (b : Bool). cond (b || ltb 0 (t .desk .«to_go»)) 1 0) (put .damage));
         damage = put .damage;
       }
 
@@ -71,7 +82,12 @@ module _ (c : Call) where
   abbrev sounded : ℕ → Stage → ℕ → List (List Float) → BlockOutcome
   sounded n s more fs =
       record {
-        answer = record { refusal = 0; samples = c .frames; unsettled = more; desk = left (setup c) (s .state) fs .desk };
+        answer = record {
+          refusal = 0;
+          samples = c .frames;
+          unsettled = more;
+          desk = left (setup c) (s .state) fs .desk;
+        };
         rings = left (setup c) (s .state) fs .rings;
         ears = withFrames (s .ears) (c .stride) n (played (setup c) (s .state) fs);
       }
@@ -84,11 +100,18 @@ module _ (c : Call) where
 
   abbrev staged : ℕ → Stage → List Float → Stage
   staged n s f =
-      record { state = stepped (setup c) (s .state) f; ears = withFrame (s .ears) (c .stride) n (ears (setup c) (s .state) f); count = s .count + one-late s f }
+      record {
+        state = stepped (setup c) (s .state) f;
+        ears = withFrame (s .ears) (c .stride) n
+            (ears (setup c) (s .state) f);
+        count = s .count + one-late s f;
+      }
 
-  takes : (n : ℕ) (s : Stage) (f : List Float) (fs : List (List Float)) → onward n s (f ∷ fs) ≡ onward (suc n) (staged n s f) fs
+  takes : (n : ℕ) (s : Stage) (f : List Float) (fs : List (List Float))
+      → onward n s (f ∷ fs) ≡ onward (suc n) (staged n s f) fs
   takes n s f fs =
-      ap (λ (k : ℕ). sounded n s k (f ∷ fs)) (sym (add-assoc (s .count) (one-late s f) (counted (setup c) (stepped (setup c) (s .state) f) fs)))
+      ap (λ (k : ℕ). sounded n s k (f ∷ fs))
+      (sym (add-assoc (s .count) (one-late s f) (counted (setup c) (stepped (setup c) (s .state) f) fs)))
 
 pub record Playing (c : Call) (t : State) (rings ears₁ : List Float) (d : Desk) (count n : ℕ) : Type 0 where
   pub few : count ≤ n
@@ -96,7 +119,8 @@ pub record Playing (c : Call) (t : State) (rings ears₁ : List Float) (d : Desk
   pub room : length ears₁ ≡ length (c .ears)
   pub same : length rings ≡ length (t .rings)
   pub goes :
-      LoopOverTable (onward c) (frameAt (c .inputs) (c .stride) (c .shape .channels)) (c .frames) (record { state = t; ears = c .ears; count = 0 })
+      LoopOverTable (onward c) (frameAt (c .inputs) (c .stride) (c .shape .channels)) (c .frames)
+      (record { state = t; ears = c .ears; count = 0 })
       (record { state = record { rings = rings; desk = d }; ears = ears₁; count = count }) n
 
 module _ (c : Call) (t : State) where
@@ -106,8 +130,10 @@ module _ (c : Call) (t : State) where
   abbrev first : Stage
   first = record { state = t; ears = c .ears; count = 0 }
 
-  pub playing-none : Ready (c .shape) (t .desk .position) (c .rows) (c .taps) (t .rings) → Playing c t (t .rings) (c .ears) (t .desk) 0 0
-  playing-none r = record { few = zero-le; ready = r; room = refl; same = refl; goes = loop-none (onward c) frame (c .frames) first }
+  pub playing-none : Ready (c .shape) (t .desk .position) (c .rows) (c .taps) (t .rings)
+      → Playing c t (t .rings) (c .ears) (t .desk) 0 0
+  playing-none r =
+      record { few = zero-le; ready = r; room = refl; same = refl; goes = loop-none (onward c) frame (c .frames) first }
 
   module _ (rings ears₁ : List Float) (d : Desk) (count n : ℕ) (p : Playing c t rings ears₁ d count n) where
     abbrev st : State
@@ -118,15 +144,18 @@ module _ (c : Call) (t : State) where
 
     -- a frame further, the record changed after it
     pub playing-more : (rings₂ ears₂ : List Float) (d₂ : Desk) (count₂ n₂ : ℕ) (bad : Bool) → n < c .frames
-        → FramePlayed (c .shape) (c .weights) (c .rows) (c .taps) st (frame n) (c .stride) n count ears₁ rings₂ ears₂ n₂ count₂ bad
+        → FramePlayed (c .shape) (c .weights) (c .rows) (c .taps) st (frame n) (c .stride) n count ears₁ rings₂ ears₂ n₂
+        count₂ bad
         → d₂ ≡ steppedOf (c .shape .length) bad d
         → Playing c t rings₂ ears₂ d₂ count₂ n₂
-    playing-more rings₂ ears₂ d₂ count₂ n₂ bad h e ed = subst (λ (k : ℕ). Playing c t rings₂ ears₂ d₂ count₂ k) (sym (e .more)) on-by-one
+    playing-more rings₂ ears₂ d₂ count₂ n₂ bad h e ed =
+        subst (λ (k : ℕ). Playing c t rings₂ ears₂ d₂ count₂ k) (sym (e .more)) on-by-one
       where
         desked : d₂ ≡ stepped (setup c) st (frame n) .desk
         desked = ed ∙ ap (λ (b : Bool). steppedOf (c .shape .length) b d) (e .damage)
 
-        stands : _≡_ {A = Stage} (record { state = record { rings = rings₂; desk = d₂ }; ears = ears₂; count = count₂ }) (staged c n now-stands (frame n))
+        stands : _≡_ {A = Stage} (record { state = record { rings = rings₂; desk = d₂ }; ears = ears₂; count = count₂ })
+            (staged c n now-stands (frame n))
         stands = cc (e .ringed, desked, e .eared, e .counts)
 
         long : length rings₂ ≡ length rings
@@ -142,11 +171,14 @@ module _ (c : Call) (t : State) where
                     chosen = p .ready .chosen;
                     tapped = p .ready .tapped;
                     ringed = long ∙ p .ready .ringed;
-                    within = subst (λ (b : Desk). b .position < c .shape .length) (sym ed) (position-below (c .shape .length) bad d (p .ready .within));
+                    within = subst (λ (b : Desk). b .position < c .shape .length) (sym ed)
+                        (position-below (c .shape .length) bad d (p .ready .within));
                   };
-              room = ap length (e .eared) ∙ length-with-frame 0 ears₁ (c .stride) n (ears (setup c) st (frame n)) ∙ p .room;
+              room = ap length (e .eared) ∙ length-with-frame 0 ears₁ (c .stride) n (ears (setup c) st (frame n))
+                  ∙ p .room;
               same = long ∙ p .same;
-              goes = loop-more (onward c) frame (c .frames) first (staged c) (takes c) now-stands n (frame n) _ (p .goes) h refl stands;
+              goes = loop-more (onward c) frame (c .frames) first (staged c) (takes c) now-stands n (frame n) _
+                  (p .goes) h refl stands;
             }
 
     pub playing-all : c .frames ≤ n → BlockPlayed c t rings ears₁ d count

@@ -1,5 +1,5 @@
--- What the promises rule out whatever is played: a sample count of one's own, a desk that stays where one frame is played,
--- a reset that leaves something in a ring or a frame to go, and one that takes nine speakers. Assumes nothing.
+-- What the promises rule out whatever is played: a sample count of one's own, a desk that stays where one frame is
+-- played, a reset that leaves something in a ring or a frame to go, and one that takes nine speakers. Assumes nothing.
 use mathlib.Core.Path.{_≡_, sym, ap, _∙_}
 use mathlib.Core.List.{List}
 use mathlib.Core.Logic.{⊎-elim}
@@ -22,8 +22,10 @@ use Rattle.hrtf.specs.Reset.{resetRefusal, ResetOutcome, Resets}
 use Rattle.hrtf.proofs.Meets.{outcome-by, reset-by, reset-number}
 
 -- the stride for the frames
-stride-counted : (c : Call) (t : State) (o : BlockOutcome) → Processes c t o → refusalOf c t ≡ 0 → (c .frames ≡ c .stride → ⊥) → o .answer .samples ≡ c .stride → ⊥
-stride-counted c t o p e other s = other (sym (ap (λ (q : BlockOutcome). q .answer .samples) (p .bits ∙ outcome-by c t 0 e)) ∙ s)
+stride-counted : (c : Call) (t : State) (o : BlockOutcome) → Processes c t o → refusalOf c t ≡ 0
+    → (c .frames ≡ c .stride → ⊥) → o .answer .samples ≡ c .stride → ⊥
+stride-counted c t o p e other s =
+    other (sym (ap (λ (q : BlockOutcome). q .answer .samples) (p .bits ∙ outcome-by c t 0 e)) ∙ s)
 
 -- the desk given in, after one frame round a ring of two cells or more
 desk-kept : (c : Call) (t : State) (o : BlockOutcome) → Processes c t o → refusalOf c t ≡ 0
@@ -31,7 +33,8 @@ desk-kept : (c : Call) (t : State) (o : BlockOutcome) → Processes c t o → re
 desk-kept c t o p e one long same =
     moved (t .desk .position) (c .shape .length) long (ready c t e .within)
     (ap (λ (n : ℕ). (t .desk .position + n) % c .shape .length) (sym (many ∙ one))
-    ∙ sym (ap (λ (q : BlockOutcome). q .answer .desk .position) (p .bits ∙ outcome-by c t 0 e)) ∙ ap (λ (d : Desk). d .position) same)
+    ∙ sym (ap (λ (q : BlockOutcome). q .answer .desk .position) (p .bits ∙ outcome-by c t 0 e))
+    ∙ ap (λ (d : Desk). d .position) same)
   where
     many : length (framesIn c) ≡ c .frames
     many = length-tab 0 (c .frames) (frameAt (c .inputs) (c .stride) (c .shape .channels))
@@ -49,13 +52,17 @@ module _ (d : Desk) (speakers L : ℕ) (rings : List Float) (o : ResetOutcome) (
   -- nine speakers taken
   nine-speakers : speakers ≡ 9 → o .answer .refusal ≡ 0 → ⊥
   unfolding resetRefusal
-  nine-speakers e z = suc-ne-zero 1 (sym (ap (λ (n : ℕ). resetRefusal n L rings) e) ∙ sym (reset-number d speakers L rings o r) ∙ z)
+  nine-speakers e z =
+      suc-ne-zero 1 (sym (ap (λ (n : ℕ). resetRefusal n L rings) e) ∙ sym (reset-number d speakers L rings o r) ∙ z)
 
   module _ (z : resetRefusal speakers L rings ≡ 0) where
     -- a cell that is not 0.0
     sounding-cell : (i : ℕ) → i < length rings → (getD (o .rings) i nan ≡ zero-float → ⊥) → ⊥
-    sounding-cell i h other = other (ap (λ (a : ResetOutcome). getD (a .rings) i nan) (r .bits ∙ reset-by d speakers L rings 0 z) ∙ getD-replicate (length rings) i zero-float nan h)
+    sounding-cell i h other = other
+        (ap (λ (a : ResetOutcome). getD (a .rings) i nan) (r .bits ∙ reset-by d speakers L rings 0 z)
+        ∙ getD-replicate (length rings) i zero-float nan h)
 
     -- frames to go
     frames-to-go : (n : ℕ) → o .answer .desk .«to_go» ≡ suc n → ⊥
-    frames-to-go n e = suc-ne-zero n (sym e ∙ ap (λ (a : ResetOutcome). a .answer .desk .«to_go») (r .bits ∙ reset-by d speakers L rings 0 z))
+    frames-to-go n e = suc-ne-zero n
+        (sym e ∙ ap (λ (a : ResetOutcome). a .answer .desk .«to_go») (r .bits ∙ reset-by d speakers L rings 0 z))

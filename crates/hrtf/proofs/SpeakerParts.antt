@@ -1,5 +1,5 @@
--- Both ears' parts of one speaker: taps that go with cells, the two straight runs for each ear, and where a speaker's ring
--- and taps stand in the lent lists. Assumes nothing.
+-- Both ears' parts of one speaker: taps that go with cells, the two straight runs for each ear, and where a speaker's
+-- ring and taps stand in the lent lists. Assumes nothing.
 use mathlib.Core.Path.{_≡_, sym, ap, _∙_}
 use mathlib.Core.Bool.{not, _&&_}
 use mathlib.Core.List.{List, reverse}
@@ -35,13 +35,16 @@ casts x held number = and-i (fits binary64 x) (not (isNan x)) (fits-widens x hel
 
 -- ---- taps that go with cells: each may be cast, and so go the parts of both
 
-pub tap-casts : {cells taps : List Float} (k : ℕ) → TapsFor cells taps → k < length cells → T (fits binary32 (getD taps k nan))
+pub tap-casts : {cells taps : List Float} (k : ℕ) → TapsFor cells taps → k < length cells
+    → T (fits binary32 (getD taps k nan))
     → Casts (getD taps k nan)
 tap-casts {taps = taps} k t h held =
-    casts (getD taps k nan) held (finite-no-nan (getD taps k nan) (sound-at taps k (t .finite) (omega (arith, t .each))))
+    casts (getD taps k nan) held
+    (finite-no-nan (getD taps k nan) (sound-at taps k (t .finite) (omega (arith, t .each))))
 
 pub taps-before : {cells taps : List Float} (n : ℕ) → TapsFor cells taps → TapsFor (take n cells) (take n taps)
-taps-before {taps = taps} n t = record { each = simp (length-take) (omega (arith, t .each)); finite = sound-take n taps (t .finite) }
+taps-before {taps =
+    taps} n t = record { each = simp (length-take) (omega (arith, t .each)); finite = sound-take n taps (t .finite) }
 
 pub taps-behind : {cells taps : List Float} (n : ℕ) → TapsFor cells taps
     → TapsFor (take (length cells - n) (drop n cells)) (take (length taps - n) (drop n taps))
@@ -55,7 +58,8 @@ taps-behind {taps = taps} n t =
 pub nan-heard : {cells left right : List Float} (sums : EarSums) (k : ℕ) → TapsFor cells left → TapsFor cells right
     → k < length cells → getD cells (length cells - 1 - k) nan ≡ nan
     → record { left = nan; right = nan } ≡ dotEach sums (reverse cells) left right
-nan-heard {cells} {left} {right} sums k tl tr h e = λ i. record { left = ear left (sums .left) tl i; right = ear right (sums .right) tr i }
+nan-heard {cells} {left} {right} sums k tl tr h e =
+    λ i. record { left = ear left (sums .left) tl i; right = ear right (sums .right) tr i }
   where
     ear : (taps : List Float) (a : Float) → TapsFor cells taps → nan ≡ dot a (reverse cells) taps
     ear taps a t =
@@ -79,7 +83,8 @@ both-runs p ring left right split es tl tr ef e = λ i. record {
   right = ear right tr (ap (λ (s : EarSums). s .right) ef) (ap (λ (s : EarSums). s .right) e) i;
 }
   where
-    ear : (taps : List Float) → TapsFor ring taps → {x y : Float} → x ≡ dot zero-float (reverse (take split ring)) (take split taps)
+    ear : (taps : List Float) → TapsFor ring taps → {x y : Float}
+        → x ≡ dot zero-float (reverse (take split ring)) (take split taps)
         → y ≡ dot x (reverse (behind split ring)) (behind split taps) → y ≡ dot zero-float (unrolled p ring) taps
     ear taps t = two-runs p ring taps split split es (omega (arith, t .each))
 
@@ -101,7 +106,12 @@ module _ (h : Shape) (s j : ℕ) (taps rings : List Float) (p : PartsInside h s 
   ring-end = row-end s (h .speakers) (h .length) (length rings) (p .ring) (p .ringed)
 
   pub taps-end : j * 2 * h .length + h .length + h .length ≤ length taps
-  taps-end = omega (arith, right-behind, row-end (j * 2 + 1) (2 * h .rows) (h .length) (length taps) (omega (arith, p .row)) (p .tapped))
+  taps-end = omega (
+    arith,
+    right-behind,
+    row-end (j * 2 + 1) (2 * h .rows) (h .length) (length taps)
+        (omega (arith, p .row)) (p .tapped),
+  )
 
   -- the row's number is no larger than its place, so that it fits where the place does
   pub row-small : j * 2 < length taps
@@ -134,7 +144,8 @@ module _ (h : Shape) (s j : ℕ) (taps rings : List Float) (p : PartsInside h s 
           }
 
   -- and give the speaker's parts
-  pub parts-there : (q : ℕ) {sums : EarSums} → sums ≡ dotEach noSums (unrolled q ring) left-taps right-taps → sums ≡ partsBy h q s j taps rings
+  pub parts-there : (q : ℕ) {sums : EarSums} → sums ≡ dotEach noSums (unrolled q ring) left-taps right-taps
+      → sums ≡ partsBy h q s j taps rings
   parts-there q e = e ∙ (λ i. record {
     left = ear 0 (ap (λ (n : ℕ). n * h .length) (sym (add-zero (j * 2)))) i;
     right = ear 1 (sym right-behind) i;
@@ -143,6 +154,7 @@ module _ (h : Shape) (s j : ℕ) (taps rings : List Float) (p : PartsInside h s 
       ear : (side : ℕ) {at : ℕ} → at ≡ (j * 2 + side) * h .length
           → dot zero-float (unrolled q ring) (piece at (h .length) taps) ≡ partBy (h .length) q s j side taps rings
       ear side {at} there =
-          ap (λ (l : List Float). dot zero-float (unrolled q l) (piece at (h .length) taps)) (part-is (s * h .length) (h .length) rings)
+          ap (λ (l : List Float). dot zero-float (unrolled q l) (piece at (h .length) taps))
+          (part-is (s * h .length) (h .length) rings)
           ∙ ap (dot zero-float (unrolled q (chunk (h .length) s rings)))
           (part-is at (h .length) taps ∙ ap (λ (k : ℕ). take (h .length) (drop k taps)) there)

@@ -1,4 +1,5 @@
--- What the functions under `process` ask and leave. Definitions only; they speak of the program, and nobody has to believe them.
+-- What the functions under `process` ask and leave. Definitions only; they speak of the program, and nobody has to
+-- believe them.
 use mathlib.Core.Path.{_≡_}
 use Prim.Native.Nat.{ℕ, _+_, _*_, _<_}
 use mathlib.Core.Bool.{Bool, false, cond}
@@ -26,7 +27,8 @@ use Rattle.hrtf.specs.Promise.{BlockOutcome}
 abbrev pub scaledOf : Shape → Scaled
 scaledOf h = record { shape = h; «inverse_root» = inverseRoot (h .speakers) }
 
--- what playing asks: the factor is that of the shape; what an accepted call has made sure of; and that every tap is finite, since 7 was not given
+-- what playing asks: the factor is that of the shape; what an accepted call has made sure of; and that every tap is
+-- finite, since 7 was not given
 pub record ScaledReady (k : Scaled) (position : ℕ) (rows : List ℕ) (taps rings : List Float) : Type 0 where
   pub factor : k ≡ scaledOf (k .shape)
   pub ready : Ready (k .shape) position rows taps rings
@@ -41,7 +43,8 @@ pub record TapsFor (cells taps : List Float) : Type 0 where
 
 -- both sums gone on with, each by its own taps
 abbrev pub dotEach : EarSums → List Float → List Float → List Float → EarSums
-dotEach sums signals left right = record { left = dot (sums .left) signals left; right = dot (sums .right) signals right }
+dotEach sums signals left right =
+    record { left = dot (sums .left) signals left; right = dot (sums .right) signals right }
 
 abbrev pub noSums : EarSums
 noSums = record { left = zero-float; right = zero-float }
@@ -57,7 +60,8 @@ pub record PartsInside (h : Shape) (s j : ℕ) (taps rings : List Float) : Type 
 
 -- both ears' parts of speaker s with the taps of row j, where p is the cell that is written next
 abbrev pub partsBy : Shape → ℕ → ℕ → ℕ → List Float → List Float → EarSums
-partsBy h p s j taps rings = record { left = partBy (h .length) p s j 0 taps rings; right = partBy (h .length) p s j 1 taps rings }
+partsBy h p s j taps rings =
+    record { left = partBy (h .length) p s j 0 taps rings; right = partBy (h .length) p s j 1 taps rings }
 
 -- ---- one frame
 
@@ -69,7 +73,9 @@ abbrev pub earsBy : Shape → List ℕ → List Float → ℕ → List Float →
 earsBy h rows taps p rings = record { left = earBy h rows taps 0 p rings; right = earBy h rows taps 1 p rings }
 
 -- what one frame leaves, n having been played and `count` of them being unsettled
-pub record FramePlayed (h : Shape) (weights : List Float) (rows : List ℕ) (taps : List Float) (t : State) (f : List Float) (stride n count : ℕ) (ears₀ rings₁ ears₁ : List Float) (n₁ count₁ : ℕ) (bad : Bool) : Type 0 where
+pub record FramePlayed (h : Shape) (weights : List Float) (rows : List ℕ) (taps : List Float) (t : State)
+    (f : List Float) (stride n count : ℕ) (ears₀ rings₁ ears₁ : List Float) (n₁ count₁ : ℕ) (bad : Bool) : Type
+    0 where
   pub ringed : rings₁ ≡ stored (setupOf h weights rows taps) t f
   pub eared : ears₁ ≡ withFrame ears₀ stride n (ears (setupOf h weights rows taps) t f)
   pub more : n₁ ≡ n + 1
@@ -80,11 +86,21 @@ pub record FramePlayed (h : Shape) (weights : List Float) (rows : List ℕ) (tap
 abbrev pub computed : Call → State → BlockOutcome
 computed c t =
     record {
-      answer = record { refusal = 0; samples = c .frames; unsettled = counted (setup c) t (framesIn c); desk = left (setup c) t (framesIn c) .desk };
+      answer = record {
+        refusal = 0;
+        samples = c .frames;
+        unsettled = counted (setup c) t (framesIn c);
+        desk = left (setup c) t (framesIn c) .desk;
+      };
       rings = left (setup c) t (framesIn c) .rings;
       ears = withFrames (c .ears) (c .stride) 0 (played (setup c) t (framesIn c));
     }
 
 -- what a block leaves
 abbrev pub BlockPlayed : Call → State → List Float → List Float → Desk → ℕ → Type 0
-BlockPlayed c t rings₁ ears₁ desk₁ more = record { answer = record { refusal = 0; samples = c .frames; unsettled = more; desk = desk₁ }; rings = rings₁; ears = ears₁ } ≡ computed c t
+BlockPlayed c t rings₁ ears₁ desk₁ more =
+    record {
+      answer = record { refusal = 0; samples = c .frames; unsettled = more; desk = desk₁ };
+      rings = rings₁;
+      ears = ears₁;
+    } ≡ computed c t

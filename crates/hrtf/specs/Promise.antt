@@ -1,5 +1,7 @@
--- Everything that a call of `process` hands back. Document 01: "An accepted block plays every frame it is given and returns that number as its sample count. Zero frames is accepted and changes nothing.
--- Frames of a plane beyond the count are unchanged"; "A refusal returns its number, counts of 0, .. and the state given in; lent memory stays the same." Definitions only.
+-- Everything that a call of `process` hands back. Document 01: "An accepted block plays every frame it is given and
+-- returns that number as its sample count. Zero frames is accepted and changes nothing. Frames of a plane beyond the
+-- count are unchanged"; "A refusal returns its number, counts of 0, .. and the state given in; lent memory stays the
+-- same." Definitions only.
 use Prim.Native.Nat.{ℕ}
 use mathlib.Core.Path.{_≡_}
 use mathlib.Core.List.{List, []}
@@ -20,14 +22,25 @@ pub record BlockOutcome : Type 0 where
   pub ears : List Float
 
 abbrev pub refused : ℕ → Call → State → BlockOutcome
-refused n c t = record { answer = record { refusal = n; samples = 0; unsettled = 0; desk = t .desk }; rings = t .rings; ears = c .ears }
+refused n c t = record {
+  answer = record { refusal = n; samples = 0; unsettled = 0; desk = t .desk };
+  rings = t .rings;
+  ears = c .ears;
+}
 
--- the count: those of the call's frames that have damage among its last L, or lie within the frames to go that were given; the rings and the desk: what its frames leave; the ears: document 01's
--- sums over the call's signals up to each frame, newest first, and then those that the rings held, whatever these are
+-- the count: those of the call's frames that have damage among its last L, or lie within the frames to go that were
+-- given; the rings and the desk: what its frames leave; the ears: document 01's sums over the call's signals up to each
+-- frame, newest first, and then those that the rings held, whatever these are
 abbrev pub accepted : Call → State → BlockOutcome
 accepted c t =
     record {
-      answer = record { refusal = 0; samples = c .frames; unsettled = unsettledIn (setup c) (t .desk .«to_go») [] (framesIn c); desk = afterFrames (setup c) t (framesIn c) .desk };
+      answer = record {
+        refusal = 0;
+        samples = c .frames;
+        unsettled = unsettledIn (setup c) (t .desk .«to_go») []
+            (framesIn c);
+        desk = afterFrames (setup c) t (framesIn c) .desk;
+      };
       rings = afterFrames (setup c) t (framesIn c) .rings;
       ears = withFrames (c .ears) (c .stride) 0 (heard (setup c) (heldIn (setup c) t) (framesIn c));
     }
@@ -45,4 +58,5 @@ stateAfter o = record { rings = o .rings; desk = o .answer .desk }
 -- beside the equation: what stands for a past stands, after an accepted call, for that past with the call's frames
 pub record Processes (c : Call) (t : State) (o : BlockOutcome) : Type 0 where
   pub bits : o ≡ outcome c t
-  pub words : (past : List (List Float)) → Represents (setup c) past t → refusalOf c t ≡ 0 → Represents (setup c) (after (setup c) past (framesIn c)) (stateAfter o)
+  pub words : (past : List (List Float)) → Represents (setup c) past t → refusalOf c t ≡ 0
+      → Represents (setup c) (after (setup c) past (framesIn c)) (stateAfter o)

@@ -15,7 +15,8 @@ use Rattle.hrtf_rings.specs.Held.{Represents}
 use Rattle.hrtf.specs.declared.Rested.{Rested}
 
 abbrev pub resetChecks : ℕ → ℕ → List Float → List Check
-resetChecks speakers L rings = 2 when outside speakers 8 ∷ 4 when outside L 512 ∷ 5 when not (eqb (length rings) (speakers * L)) ∷ []
+resetChecks speakers L rings =
+    2 when outside speakers 8 ∷ 4 when outside L 512 ∷ 5 when not (eqb (length rings) (speakers * L)) ∷ []
 
 unfoldable pub resetRefusal : ℕ → ℕ → List Float → ℕ
 resetRefusal speakers L rings = firstOf (resetChecks speakers L rings)
@@ -33,7 +34,9 @@ resetBy n d rings =
 unfoldable pub resetOutcome : Desk → ℕ → ℕ → List Float → ResetOutcome
 resetOutcome d speakers L rings = resetBy (resetRefusal speakers L rings) d rings
 
--- beside the equation: what an accepted reset leaves stands for the empty past, whatever is set up with those speakers and that L
+-- beside the equation: what an accepted reset leaves stands for the empty past, whatever is set up with those speakers
+-- and that L
 pub record Resets (d : Desk) (speakers L : ℕ) (rings : List Float) (o : ResetOutcome) : Type 0 where
   pub bits : o ≡ resetOutcome d speakers L rings
-  pub words : resetRefusal speakers L rings ≡ 0 → (u : Setup) → u .speakers ≡ speakers → u .L ≡ L → Represents u [] (record { rings = o .rings; desk = o .answer .desk })
+  pub words : resetRefusal speakers L rings ≡ 0 → (u : Setup) → u .speakers ≡ speakers → u .L ≡ L
+      → Represents u [] (record { rings = o .rings; desk = o .answer .desk })

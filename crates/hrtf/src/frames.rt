@@ -56,7 +56,8 @@ fn ears_of(
     rings: &[f32],
 ) -> EarSamples
     requires { ⌜ ScaledReady scaled position (now «row_of») (now taps) (now rings) ⌝ }
-    ensures { λ r. ⌜ r ≡ earsBy (scaled .shape) (now («row_of» .entry)) (now (taps .entry)) (suc position) (now (rings .entry)) ⌝ }
+    ensures { λ r. ⌜ r ≡ earsBy (scaled .shape) (now («row_of» .entry)) (now (taps .entry)) (suc position)
+        (now (rings .entry)) ⌝ }
 {
     let shape = scaled.shape;
     let speakers = shape.speakers;
@@ -102,9 +103,12 @@ fn one_frame(
     rings: &mut [f32],
     ears: &mut [f32],
 ) -> Played
-    requires { ⌜ ScaledReady scaled (desk .position) (now «row_of») (now taps) (now rings) × (played .unsettled ≤ played .frames) × (suc (played .frames) < 2 ^ 64) ⌝ }
-    ensures { λ r. ⌜ FramePlayed (scaled .shape) (now (weights .entry)) (now («row_of» .entry)) (now (taps .entry)) (record { rings = now (rings .entry); desk = desk })
-        (frameAt (now (inputs .entry)) stride (scaled .shape .channels) (played .frames)) stride (played .frames) (played .unsettled) (now (ears .entry)) (now (rings .exit)) (now (ears .exit))
+    requires { ⌜ ScaledReady scaled (desk .position) (now «row_of») (now taps) (now rings)
+        × (played .unsettled ≤ played .frames) × (suc (played .frames) < 2 ^ 64) ⌝ }
+    ensures { λ r. ⌜ FramePlayed (scaled .shape) (now (weights .entry)) (now («row_of» .entry)) (now (taps .entry))
+        (record { rings = now (rings .entry); desk = desk })
+        (frameAt (now (inputs .entry)) stride (scaled .shape .channels) (played .frames)) stride (played .frames)
+        (played .unsettled) (now (ears .entry)) (now (rings .exit)) (now (ears .exit))
         (r .frames) (r .unsettled) (r .damaged) ⌝ }
 {
     let shape = scaled.shape;
@@ -150,8 +154,18 @@ pub(crate) fn block(
 ) -> Turn
     requires { ⌜ ScaledReady scaled (desk .position) (now «row_of») (now taps) (now rings) ⌝ }
     ensures { λ r. ⌜ BlockPlayed
-        (record { shape = scaled .shape; frames = frames; stride = stride; inputs = now (inputs .entry); weights = now (weights .entry); rows = now («row_of» .entry); taps = now (taps .entry); ears = now (ears .entry) })
-        (record { rings = now (rings .entry); desk = desk }) (now (rings .exit)) (now (ears .exit)) (r .desk) (r .unsettled) ⌝ }
+        (record {
+          shape = scaled .shape;
+          frames = frames;
+          stride = stride;
+          inputs = now (inputs .entry);
+          weights = now (weights .entry);
+          rows = now («row_of» .entry);
+          taps = now (taps .entry);
+          ears = now (ears .entry);
+        })
+        (record { rings = now (rings .entry); desk = desk }) (now (rings .exit)) (now (ears .exit)) (r .desk)
+        (r .unsettled) ⌝ }
 {
     let mut standing = desk;
     let mut played = Played {

@@ -49,7 +49,16 @@ pub fn process(
     ears: &mut [f32],
 ) -> BlockAnswer
     ensures { λ r. ⌜ Processes
-        (record { shape = shape; frames = frames; stride = stride; inputs = now (inputs .entry); weights = now (weights .entry); rows = now («row_of» .entry); taps = now (taps .entry); ears = now (ears .entry) })
+        (record {
+          shape = shape;
+          frames = frames;
+          stride = stride;
+          inputs = now (inputs .entry);
+          weights = now (weights .entry);
+          rows = now («row_of» .entry);
+          taps = now (taps .entry);
+          ears = now (ears .entry);
+        })
         (record { rings = now (rings .entry); desk = desk })
         (record { answer = r; rings = now (rings .exit); ears = now (ears .exit) }) ⌝ }
 {
@@ -106,7 +115,8 @@ fn silence(rings: &mut [f32])
 
 // Every ring 0.0, both numbers 0.
 pub fn reset(desk: Desk, speakers: usize, length: usize, rings: &mut [f32]) -> Rested
-    ensures { λ r. ⌜ Resets desk speakers length (now (rings .entry)) (record { answer = r; rings = now (rings .exit) }) ⌝ }
+    ensures { λ r. ⌜ Resets desk speakers length (now (rings .entry))
+        (record { answer = r; rings = now (rings .exit) }) ⌝ }
 {
     if refusals::is_outside(speakers, 8) {
         return Rested { refusal: 2, desk };

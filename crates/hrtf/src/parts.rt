@@ -49,7 +49,8 @@ fn run_back(cells: &[f32], left: &[f32], right: &[f32], sums: EarSums) -> EarSum
 // then from the end back to the oldest, the sums going on.
 fn convolve_both(ring: &[f32], newest: usize, left: &[f32], right: &[f32]) -> EarSums
     requires { ⌜ TapsFor (now ring) (now left) × TapsFor (now ring) (now right) ⌝ }
-    ensures { λ r. ⌜ r ≡ dotEach noSums (unrolled (suc newest) (now (ring .entry))) (now (left .entry)) (now (right .entry)) ⌝ }
+    ensures { λ r. ⌜ r ≡ dotEach noSums (unrolled (suc newest) (now (ring .entry))) (now (left .entry))
+        (now (right .entry)) ⌝ }
 {
     let split = hrtf_rings::cells_up_to(newest, ring.len());
     let none = EarSums {

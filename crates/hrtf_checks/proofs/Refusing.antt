@@ -1,4 +1,5 @@
--- What the tests of a call show: which number is given, and that the lent lists of a call that none refuses fit. Assumes nothing.
+-- What the tests of a call show: which number is given, and that the lent lists of a call that none refuses fit.
+-- Assumes nothing.
 use mathlib.Core.Path.{_≡_, sym, subst}
 use mathlib.Core.Bool.{Bool, false, not}
 use mathlib.Core.List.{List}
@@ -21,15 +22,20 @@ use Rattle.hrtf_checks.specs.Refusals.{misshapen, misfit, deskOutOfRange
 
 -- a bank that is well shaped has at most 8 rows
 pub few-rows : (h : Shape) (rows : List ℕ) → misshapen h rows ≡ false → h .rows ≤ 8
-few-rows h rows e = not-outside (h .rows) 8 (or-off (outside (h .rows) 8) _ (or-off (outside (h .speakers) 8) _ e .1) .0) .1
+few-rows h rows e =
+    not-outside (h .rows) 8 (or-off (outside (h .rows) 8) _ (or-off (outside (h .speakers) 8) _ e .1) .0) .1
 
 -- lists of the lengths that are asked for fit
-pub lengths-fit : (h : Shape) (frames stride inputs weights taps rings ears : ℕ) → frames ≤ stride → inputs ≡ h .channels * stride → ears ≡ 2 * stride → rings ≡ h .speakers * h .length
-    → weights ≡ h .speakers * h .channels → taps ≡ 2 * h .rows * h .length → misfit h frames stride inputs weights taps rings ears ≡ false
+pub lengths-fit : (h : Shape) (frames stride inputs weights taps rings ears : ℕ) → frames ≤ stride
+    → inputs ≡ h .channels * stride → ears ≡ 2 * stride → rings ≡ h .speakers * h .length
+    → weights ≡ h .speakers * h .channels → taps ≡ 2 * h .rows * h .length
+    → misfit h frames stride inputs weights taps rings ears ≡ false
 lengths-fit h frames stride inputs weights taps rings ears low ei ee er ew et =
-    both-off _ _ (both-off _ _ (planes-fit inputs (h .channels) stride frames low ei) (planes-fit ears 2 stride frames low ee))
+    both-off _ _ (both-off _ _ (planes-fit inputs (h .channels) stride frames low ei)
+    (planes-fit ears 2 stride frames low ee))
     (both-off _ _ (equal-passes rings (h .speakers * h .length) er)
-    (both-off _ _ (equal-passes weights (h .speakers * h .channels) ew) (equal-passes taps (2 * h .rows * h .length) et)))
+    (both-off _ _ (equal-passes weights (h .speakers * h .channels) ew)
+    (equal-passes taps (2 * h .rows * h .length) et)))
 
 -- a desk whose numbers are below L is not deskOutOfRange
 pub on-desk : (d : Desk) (L : ℕ) → d .position < L → d .«to_go» < L → deskOutOfRange d L ≡ false
@@ -54,8 +60,10 @@ module _ (c : Call) (t : State) where
   abbrev badPlanes : Bool
   badPlanes = blockUnfit (length (c .inputs)) (c .shape .channels) (length (c .ears)) 2 (c .stride) (c .frames)
 
-  both-fit : refusalOf c t ≡ 0 → (unfit (length (c .inputs)) (c .shape .channels) (c .stride) (c .frames) ≡ false) × (unfit (length (c .ears)) 2 (c .stride) (c .frames) ≡ false)
-  both-fit e = or-off (unfit (length (c .inputs)) (c .shape .channels) (c .stride) (c .frames)) _ (or-off badPlanes _ (every-test e .1 .1 .0) .0)
+  both-fit : refusalOf c t ≡ 0 → (unfit (length (c .inputs)) (c .shape .channels) (c .stride) (c .frames) ≡ false)
+      × (unfit (length (c .ears)) 2 (c .stride) (c .frames) ≡ false)
+  both-fit e = or-off (unfit (length (c .inputs)) (c .shape .channels) (c .stride) (c .frames)) _
+      (or-off badPlanes _ (every-test e .1 .1 .0) .0)
 
   -- the ear planes
   pub ears-fit : refusalOf c t ≡ 0 → (c .frames ≤ c .stride) × (length (c .ears) ≡ 2 * c .stride)
@@ -63,13 +71,17 @@ module _ (c : Call) (t : State) where
 
   -- the frames to go
   pub waits : refusalOf c t ≡ 0 → t .desk .«to_go» < c .shape .length
-  waits e = leb-false (c .shape .length) (t .desk .«to_go») (or-off (leb (c .shape .length) (t .desk .position)) _ (every-test e .1 .1 .1 .1 .0) .1)
+  waits e = leb-false (c .shape .length) (t .desk .«to_go»)
+      (or-off (leb (c .shape .length) (t .desk .position)) _ (every-test e .1 .1 .1 .1 .0) .1)
 
   pub some-speakers : refusalOf c t ≡ 0 → 0 < c .shape .speakers
-  some-speakers e = not-outside (c .shape .speakers) 8 (or-off (outside (c .shape .speakers) 8) _ (every-test e .0) .0) .0
+  some-speakers e =
+      not-outside (c .shape .speakers) 8 (or-off (outside (c .shape .speakers) 8) _ (every-test e .0) .0) .0
 
   -- the rings, the weights and the taps
-  lent : refusalOf c t ≡ 0 → (length (t .rings) ≡ c .shape .speakers * c .shape .length) × (length (c .weights) ≡ c .shape .speakers * c .shape .channels) × (length (c .taps) ≡ 2 * c .shape .rows * c .shape .length)
+  lent : refusalOf c t ≡ 0 → (length (t .rings) ≡ c .shape .speakers * c .shape .length)
+      × (length (c .weights) ≡ c .shape .speakers * c .shape .channels)
+      × (length (c .taps) ≡ 2 * c .shape .rows * c .shape .length)
   lent e =
       let planes = or-off badPlanes _ (every-test e .1 .1 .0) in
       let rings = or-off (not (eqb (length (t .rings)) (c .shape .speakers * c .shape .length))) _ (planes .1) in

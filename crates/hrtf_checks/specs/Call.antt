@@ -17,7 +17,14 @@ pub record Call : Type 0 where
   pub ears : List Float
 
 abbrev pub setupOf : Shape → List Float → List ℕ → List Float → Setup
-setupOf h weights rows taps = record { channels = h .channels; speakers = h .speakers; L = h .length; weights = weights; taps = taps; rows = rows }
+setupOf h weights rows taps = record {
+  channels = h .channels;
+  speakers = h .speakers;
+  L = h .length;
+  weights = weights;
+  taps = taps;
+  rows = rows;
+}
 
 abbrev pub setup : Call → Setup
 setup c = setupOf (c .shape) (c .weights) (c .rows) (c .taps)

@@ -1,4 +1,5 @@
--- What playing a call asks, which the functions under `hrtf::process` go by. Definitions only; nobody has to believe them.
+-- What playing a call asks, which the functions under `hrtf::process` go by. Definitions only; nobody has to believe
+-- them.
 use Prim.Native.Nat.{ℕ, _*_, _≤_, _<_}
 use mathlib.Core.Path.{_≡_}
 use mathlib.Core.List.{List}

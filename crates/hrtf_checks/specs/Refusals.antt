@@ -19,9 +19,11 @@ rowMissing rows speakers bank = any (tab 0 speakers (λ s. leb bank (getD rows s
 
 -- 2: "speakers or bank rows are not 1..8, or a speaker's row isn't in the bank, or channels not 1..16"
 abbrev pub misshapen : Shape → List ℕ → Bool
-misshapen h rows = outside (h .speakers) 8 || (outside (h .rows) 8 || (outside (h .channels) 16 || rowMissing rows (h .speakers) (h .rows)))
+misshapen h rows = outside (h .speakers) 8
+    || (outside (h .rows) 8 || (outside (h .channels) 16 || rowMissing rows (h .speakers) (h .rows)))
 
--- 5: "stride below the frame count, or a length other than planes x stride, rings speakers x L, weights .. speakers x channels, taps 2 x bank rows x L"
+-- 5: "stride below the frame count, or a length other than planes x stride, rings speakers x L, weights .. speakers x
+-- channels, taps 2 x bank rows x L"
 abbrev pub misfit : Shape → ℕ → ℕ → ℕ → ℕ → ℕ → ℕ → ℕ → Bool
 misfit h frames stride inputs weights taps rings ears =
     blockUnfit inputs (h .channels) ears 2 stride frames || (not (eqb rings (h .speakers * h .length))
@@ -35,7 +37,8 @@ abbrev pub callChecks : Call → State → List Check
 callChecks c t =
     2 when misshapen (c .shape) (c .rows)
     ∷ 4 when outside (c .shape .length) 512
-    ∷ 5 when misfit (c .shape) (c .frames) (c .stride) (length (c .inputs)) (length (c .weights)) (length (c .taps)) (length (t .rings)) (length (c .ears))
+    ∷ 5 when misfit (c .shape) (c .frames) (c .stride) (length (c .inputs)) (length (c .weights)) (length (c .taps))
+    (length (t .rings)) (length (c .ears))
     ∷ 7 when (hasNonfinite (c .weights) || hasNonfinite (c .taps))
     ∷ 8 when deskOutOfRange (t .desk) (c .shape .length) ∷ []
 

@@ -106,7 +106,16 @@ pub fn refusal(
     ears: &[f32],
 ) -> u8
     ensures { λ r. ⌜ r ≡ refusalOf
-        (record { shape = shape; frames = frames; stride = stride; inputs = now (inputs .entry); weights = now (weights .entry); rows = now («row_of» .entry); taps = now (taps .entry); ears = now (ears .entry) })
+        (record {
+          shape = shape;
+          frames = frames;
+          stride = stride;
+          inputs = now (inputs .entry);
+          weights = now (weights .entry);
+          rows = now («row_of» .entry);
+          taps = now (taps .entry);
+          ears = now (ears .entry);
+        })
         (record { rings = now (rings .entry); desk = desk }) ⌝ }
 {
     if is_misshapen(shape, row_of) {

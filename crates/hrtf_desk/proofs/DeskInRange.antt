@@ -16,7 +16,8 @@ module _ (L : ℕ) (bad : Bool) (d : Desk) (h : d .position < L) where
   desk-on = ap (λ (b : Bool). cond b advanced d) (lt-ltb (d .position) L h)
 
   pub position-below : steppedOf L bad d .position < L
-  position-below = subst (λ (e : Desk). e .position < L) (sym desk-on) (mod-lt (d .position + 1) {m = L} (omega (arith, h)))
+  position-below =
+      subst (λ (e : Desk). e .position < L) (sym desk-on) (mod-lt (d .position + 1) {m = L} (omega (arith, h)))
 
   pub waits-below : d .«to_go» < L → steppedOf L bad d .«to_go» < L
   waits-below w = subst (λ (e : Desk). e .«to_go» < L) (sym desk-on) (fewer bad)

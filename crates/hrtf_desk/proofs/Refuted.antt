@@ -1,4 +1,5 @@
--- Wrong ways to go a frame on, each held against the record that `step` promises, in a ring of two or three cells. Assumes nothing.
+-- Wrong ways to go a frame on, each held against the record that `step` promises, in a ring of two or three cells.
+-- Assumes nothing.
 use Prim.Native.Nat.{ℕ}
 use native.Mathlib.Omega.{arith}
 use mathlib.Core.Path.{_≡_, ap}
@@ -15,11 +16,13 @@ record-kept : (n : ℕ) (damaged : Bool) → start n ≡ steppedOf 2 damaged (st
 record-kept n damaged e = let z : _≡_ {A = ℕ} 0 1 = ap (λ (d : Desk). d .position) e in omega arith
 
 -- it goes two frames on
-two-frames-on : (n : ℕ) (damaged : Bool) → steppedOf 3 damaged (steppedOf 3 damaged (start n)) ≡ steppedOf 3 damaged (start n) → ⊥
+two-frames-on : (n : ℕ) (damaged : Bool) → steppedOf 3 damaged (steppedOf 3 damaged (start n)) ≡ steppedOf 3 damaged
+    (start n) → ⊥
 two-frames-on n damaged e = let z : _≡_ {A = ℕ} 2 1 = ap (λ (d : Desk). d .position) e in omega arith
 
 -- it goes round a ring that is a cell shorter
-shorter-ring : (n : ℕ) (damaged : Bool) → steppedOf 2 damaged (record { position = 1; «to_go» = n }) ≡ steppedOf 3 damaged (record { position = 1; «to_go» = n }) → ⊥
+shorter-ring : (n : ℕ) (damaged : Bool) → steppedOf 2 damaged (record { position = 1; «to_go» = n })
+    ≡ steppedOf 3 damaged (record { position = 1; «to_go» = n }) → ⊥
 shorter-ring n damaged e = let z : _≡_ {A = ℕ} 0 2 = ap (λ (d : Desk). d .position) e in omega arith
 
 -- it takes a damaged frame for a sound one: one frame is to go then, and not none

@@ -9,10 +9,24 @@ same-filters u = record { channels = refl; speakers = refl; L = refl; weights = 
 module _ (u v : Setup) (a : SameFilters u v) where
   -- u with the bank of v, which is v
   abbrev pub moved : Setup
-  moved = record { channels = u .channels; speakers = u .speakers; L = u .L; weights = u .weights; taps = v .taps; rows = v .rows }
+  moved = record {
+    channels = u .channels;
+    speakers = u .speakers;
+    L = u .L;
+    weights = u .weights;
+    taps = v .taps;
+    rows = v .rows;
+  }
 
   pub moved-is : moved ≡ v
-  moved-is = λ i. record { channels = a .channels i; speakers = a .speakers i; L = a .L i; weights = a .weights i; taps = v .taps; rows = v .rows }
+  moved-is = λ i. record {
+    channels = a .channels i;
+    speakers = a .speakers i;
+    L = a .L i;
+    weights = a .weights i;
+    taps = v .taps;
+    rows = v .rows;
+  }
 
   pub moved-filters : (ear s : ℕ) → ear < 2 → s < u .speakers → tapsOf u ear s ≡ tapsOf moved ear s
   moved-filters ear s e h = a .filters ear s e h ∙ sym (ap (λ (w : Setup). tapsOf w ear s) moved-is)

@@ -1,4 +1,5 @@
--- Damage is judged on the signals: the largest f32, at a weight of 2.0, is a finite sample whose signal narrows to an infinite one. By computing the definitions. Assumes nothing.
+-- Damage is judged on the signals: the largest f32, at a weight of 2.0, is a finite sample whose signal narrows to an
+-- infinite one. By computing the definitions. Assumes nothing.
 use mathlib.Core.Path.{_≡_, refl}
 use mathlib.Core.Bool.{false, true}
 use mathlib.Core.List.{[], _∷_}

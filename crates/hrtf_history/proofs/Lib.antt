@@ -1,4 +1,5 @@
--- Laws that crates above cite, the marked drill examples, a finite sample whose signal is damaged, and numbers that tell the order of each sum.
+-- Laws that crates above cite, the marked drill examples, a finite sample whose signal is damaged, and numbers that
+-- tell the order of each sum.
 pub mod Signals
 pub mod Windows
 pub mod Filters

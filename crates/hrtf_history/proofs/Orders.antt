@@ -1,5 +1,6 @@
--- The order of each sum tells: on worked numbers 1, 2^60 and -2^60 the document's order gives 0.0, where the other way round gives 1.0. And a signal is narrowed: 1 + 2^-24 is no f32; and the sum is
--- times 1.0/root(speakers), which is not the same as divided by the root, or by that. By computing the definitions. Assumes nothing.
+-- The order of each sum tells: on worked numbers 1, 2^60 and -2^60 the document's order gives 0.0, where the other way
+-- round gives 1.0. And a signal is narrowed: 1 + 2^-24 is no f32; and the sum is times 1.0/root(speakers), which is not
+-- the same as divided by the root, or by that. By computing the definitions. Assumes nothing.
 use mathlib.Core.Path.{_≡_, refl}
 use mathlib.Core.Bool.{true, false, cond}
 use mathlib.Core.List.{List, [], _∷_, _++_, reverse}
@@ -41,7 +42,9 @@ newest-first : part filtering 0 ((one-float ∷ []) ∷ (one-float ∷ []) ∷ (
 unfolding filtering rising ones mixed rounded add mul sum round size span climb units odd
 newest-first = refl
 
-oldest-first : dot zero-float (reverse (window filtering 0 ((one-float ∷ []) ∷ (one-float ∷ []) ∷ (one-float ∷ []) ∷ []))) (reverse (tapsOf filtering 0 0)) ≡ one-float
+oldest-first : dot zero-float
+    (reverse (window filtering 0 ((one-float ∷ []) ∷ (one-float ∷ []) ∷ (one-float ∷ []) ∷ [])))
+    (reverse (tapsOf filtering 0 0)) ≡ one-float
 unfolding filtering rising ones mixed rounded add mul sum round size span climb units odd
 oldest-first = refl
 
@@ -61,17 +64,20 @@ narrowed-signal : mixed (one-float ∷ fin false 1 (negsuc 23) ∷ []) (one-floa
 unfolding mixed rounded add mul sum round size span climb units odd
 narrowed-signal = refl
 
--- ---- times 1.0/root(speakers): two speakers, of which one sounds. Divided by the root it would be the next f32, and divided by
+-- ---- times 1.0/root(speakers): two speakers, of which one sounds. Divided by the root it would be the next f32, and
+-- divided by
 -- 1.0/root(speakers) about twice as much
 
 sounding : Float
 sounding = fin false 0x197BB9E0258965 (negsuc 51)
 
 times-the-inverse : earOf 2 (λ s. cond (eqb s 0) sounding zero-float) ≡ fin false 0x2409F1 (negsuc 20)
-unfolding sounding earOf inverseRoot rootOf rootUnits wholeRoot rootIn rounded add mul div sum round size span climb units odd ofInt
+unfolding sounding earOf inverseRoot rootOf rootUnits wholeRoot rootIn rounded add mul div sum round size span climb
+    units odd ofInt
 times-the-inverse = refl
 
-divided-by-the-root : narrowed (div binary64 sounding (rootOf binary64 (float (pos 2)))) ≡ fin false 0x9027C5 (negsuc 22)
+divided-by-the-root : narrowed (div binary64 sounding (rootOf binary64 (float (pos 2)))) ≡ fin false 0x9027C5
+    (negsuc 22)
 unfolding sounding rootOf rootUnits wholeRoot rootIn rounded div sum round size span climb units odd ofInt
 divided-by-the-root = refl
 

@@ -1,6 +1,8 @@
--- Document 01, 'Sums': "An ear's part of a speaker is the f64 sum from 0.0, k from 0 to L-1, of signal k frames ago times tap k; parts are added from 0.0, speakers rising; the result times
--- 1.0/root(speakers), narrowed, is the ear sample"; and, of the unsettled count, "equal to a definition over the last L frames of history". Definitions only.
--- A past is the list of the signals of the frames so far, one for each speaker, the newest frame first. Before the first there was silence: every signal 0.0.
+-- Document 01, 'Sums': "An ear's part of a speaker is the f64 sum from 0.0, k from 0 to L-1, of signal k frames ago
+-- times tap k; parts are added from 0.0, speakers rising; the result times 1.0/root(speakers), narrowed, is the ear
+-- sample"; and, of the unsettled count, "equal to a definition over the last L frames of history". Definitions only. A
+-- past is the list of the signals of the frames so far, one for each speaker, the newest frame first. Before the first
+-- there was silence: every signal 0.0.
 use Prim.Native.Nat.{ℕ, suc}
 use mathlib.Core.Bool.{Bool, _||_}
 use mathlib.Core.List.{List, [], _∷_, map, reverseAux}

@@ -1,5 +1,6 @@
--- What stays the same from frame to frame: how many channels and speakers there are, the filters' length L, the weights (speakers x channels), the bank's taps (2 x bank rows x L: for each row L left taps
--- and then L right taps), and the row of each speaker. Definitions only.
+-- What stays the same from frame to frame: how many channels and speakers there are, the filters' length L, the weights
+-- (speakers x channels), the bank's taps (2 x bank rows x L: for each row L left taps and then L right taps), and the
+-- row of each speaker. Definitions only.
 use Prim.Native.Nat.{ℕ, _+_, _*_, _<_}
 use mathlib.Core.Path.{_≡_}
 use mathlib.Core.List.{List}
@@ -27,7 +28,8 @@ tapsIn L j ear taps = chunk L (j * 2 + ear) taps
 abbrev pub tapsOf : Setup → ℕ → ℕ → List Float
 tapsOf u ear s = tapsIn (u .L) (getD (u .rows) s 0) ear (u .taps)
 
--- the same counts, L and weights, and the same filters for every speaker: where in a bank they stand does not matter, nor what else is in it
+-- the same counts, L and weights, and the same filters for every speaker: where in a bank they stand does not matter,
+-- nor what else is in it
 pub record SameFilters (u v : Setup) : Type 0 where
   pub channels : u .channels ≡ v .channels
   pub speakers : u .speakers ≡ v .speakers

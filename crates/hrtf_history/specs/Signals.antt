@@ -1,5 +1,6 @@
--- Document 01, 'Sums': "per frame and speaker, the signal is the f64 sum from 0.0 over channels rising, narrowed to f32", and "A frame is damaged when one of its speaker signals is NaN or infinite."
--- Definitions only. A frame is a list of one sample for each channel.
+-- Document 01, 'Sums': "per frame and speaker, the signal is the f64 sum from 0.0 over channels rising, narrowed to
+-- f32", and "A frame is damaged when one of its speaker signals is NaN or infinite." Definitions only. A frame is a
+-- list of one sample for each channel.
 use Prim.Native.Nat.{ℕ}
 use mathlib.Core.Bool.{Bool}
 use mathlib.Core.List.{List}

@@ -1,6 +1,8 @@
--- Frames played one after another. THE LAW OF EVERY STATE: from any rings as long as they have to be and any desk whose numbers are below L, the program's steps give document 01's sums over the frames'
--- signals and what the rings held (`played-held`), leave the rings that hold the newest L of these (`left-is`), and count the frames that are unsettled (`counted-is`). Then the same over a past that rings
--- and desk stand for; what a reset leaves stands for none. And frames played in two pieces give what the whole gives. Assumes nothing.
+-- Frames played one after another. THE LAW OF EVERY STATE: from any rings as long as they have to be and any desk whose
+-- numbers are below L, the program's steps give document 01's sums over the frames' signals and what the rings held
+-- (`played-held`), leave the rings that hold the newest L of these (`left-is`), and count the frames that are unsettled
+-- (`counted-is`). Then the same over a past that rings and desk stand for; what a reset leaves stands for none. And
+-- frames played in two pieces give what the whole gives. Assumes nothing.
 use mathlib.Core.Path.{_≡_, refl, sym, ap, _∙_, subst}
 use mathlib.Core.Bool.{cond}
 use mathlib.Core.List.{List, [], _∷_, _++_, map, reverse}
@@ -34,17 +36,21 @@ fresh u = record { rings = replicate (u .speakers * u .L) zero-float; desk = zer
 module _ (u : Setup) where
   -- ---- over a past that the rings hold
 
-  played-over : (past : List (List Float)) (t : State) (fs : List (List Float)) → Holds u past t → played u t fs ≡ heard u past fs
+  played-over : (past : List (List Float)) (t : State) (fs : List (List Float)) → Holds u past t
+      → played u t fs ≡ heard u past fs
   played-over past t [] r = refl
-  played-over past t (f ∷ fs) r = cc (ears-told u past t f r, played-over (signals u f ∷ past) (stepped u t f) fs (kept u past t f r))
+  played-over past t (f ∷ fs) r =
+      cc (ears-told u past t f r, played-over (signals u f ∷ past) (stepped u t f) fs (kept u past t f r))
 
-  left-holds : (past : List (List Float)) (t : State) (fs : List (List Float)) → Holds u past t → Holds u (after u past fs) (left u t fs)
+  left-holds : (past : List (List Float)) (t : State) (fs : List (List Float)) → Holds u past t
+      → Holds u (after u past fs) (left u t fs)
   left-holds past t [] r = r
   left-holds past t (f ∷ fs) r = left-holds (signals u f ∷ past) (stepped u t f) fs (kept u past t f r)
 
   -- ---- the desk
 
-  position-left : (t : State) (fs : List (List Float)) → t .desk .position < u .L → left u t fs .desk .position ≡ (t .desk .position + length fs) % u .L
+  position-left : (t : State) (fs : List (List Float)) → t .desk .position < u .L
+      → left u t fs .desk .position ≡ (t .desk .position + length fs) % u .L
   position-left t [] h = sym (ap (λ (n : ℕ). n % u .L) (add-zero (t .desk .position)) ∙ mod-eq-of-lt h)
   position-left t (f ∷ fs) h =
       position-left (stepped u t f) fs (position-below (u .L) (damaged u f) (t .desk) h)
@@ -53,27 +59,37 @@ module _ (u : Setup) where
       ∙ ap (λ (n : ℕ). n % u .L) (omega arith)
 
   module _ (go : ℕ) where
-    waits-left : (past : List (List Float)) (t : State) (fs : List (List Float)) → t .desk .position < u .L → t .desk .«to_go» ≡ toGoAfter (u .L) go (map hasNonfinite past)
+    waits-left : (past : List (List Float)) (t : State) (fs : List (List Float)) → t .desk .position < u .L
+        → t .desk .«to_go» ≡ toGoAfter (u .L) go (map hasNonfinite past)
         → left u t fs .desk .«to_go» ≡ toGoAfter (u .L) go (map hasNonfinite (after u past fs))
     waits-left past t [] h w = w
-    waits-left past t (f ∷ fs) h w = waits-left (signals u f ∷ past) (stepped u t f) fs (position-below (u .L) (damaged u f) (t .desk) h) (waits-on u go past t f h w)
+    waits-left past t (f ∷ fs) h w = waits-left (signals u f ∷ past) (stepped u t f) fs
+        (position-below (u .L) (damaged u f) (t .desk) h) (waits-on u go past t f h w)
 
-    late-each : (past : List (List Float)) (t : State) (fs : List (List Float)) → go < u .L → t .desk .position < u .L → t .desk .«to_go» ≡ toGoAfter (u .L) go (map hasNonfinite past)
+    late-each : (past : List (List Float)) (t : State) (fs : List (List Float)) → go < u .L → t .desk .position < u .L
+        → t .desk .«to_go» ≡ toGoAfter (u .L) go (map hasNonfinite past)
         → lateEach u t fs ≡ unsettledEach u go past fs
     late-each past t [] few h w = refl
     late-each past t (f ∷ fs) few h w =
-        cc (late-told u go past t f h w few, late-each (signals u f ∷ past) (stepped u t f) fs few (position-below (u .L) (damaged u f) (t .desk) h) (waits-on u go past t f h w))
+        cc (
+          late-told u go past t f h w few,
+          late-each (signals u f ∷ past) (stepped u t f) fs few
+              (position-below (u .L) (damaged u f) (t .desk) h) (waits-on u go past t f h w),
+        )
 
   -- ---- THE LAW OF EVERY STATE
 
-  module _ (t : State) (fs : List (List Float)) (room : length (t .rings) ≡ u .speakers * u .L) (within : t .desk .position < u .L) where
+  module _ (t : State) (fs : List (List Float)) (room : length (t .rings) ≡ u .speakers * u .L)
+      (within : t .desk .position < u .L) where
     pub played-held : played u t fs ≡ heard u (heldIn u t) fs
     played-held = played-over (heldIn u t) t fs (holds-held u t room within)
 
     pub left-is : left u t fs ≡ afterFrames u t fs
     left-is =
         let on = position-left t fs within in
-        let rings = rings-are u (left u t fs) (after u (heldIn u t) fs) (left-holds (heldIn u t) t fs (holds-held u t room within)) ∙ ap (λ (p : ℕ). ringsOf u p (after u (heldIn u t) fs)) on in
+        let rings = rings-are u (left u t fs) (after u (heldIn u t) fs)
+        (left-holds (heldIn u t) t fs (holds-held u t room within))
+        ∙ ap (λ (p : ℕ). ringsOf u p (after u (heldIn u t) fs)) on in
         let waits = waits-left (t .desk .«to_go») [] t fs within refl in
         λ i. record { rings = rings i; desk = record { position = on i; «to_go» = waits i } }
 
@@ -82,12 +98,21 @@ module _ (u : Setup) where
 
   -- ---- a past that rings and desk stand for
 
-  represents : (past : List (List Float)) (t : State) → Holds u past t → t .desk .«to_go» ≡ toGoAfter (u .L) 0 (map hasNonfinite past) → Represents u past t
-  represents past t h w = (h .within, λ i. record { rings = rings-are u t past h i; desk = record { position = t .desk .position; «to_go» = w i } })
+  represents : (past : List (List Float)) (t : State) → Holds u past t
+      → t .desk .«to_go» ≡ toGoAfter (u .L) 0 (map hasNonfinite past) → Represents u past t
+  represents past t h w = (
+    h .within,
+    λ i. record {
+      rings = rings-are u t past h i;
+      desk = record { position = t .desk .position; «to_go» = w i };
+    },
+  )
 
   module _ (past : List (List Float)) (t : State) (r : Represents u past t) where
     holds : Holds u past t
-    holds = subst (Holds u past) (sym (r .1)) (holds-put u (stateOf u (t .desk .position) (toGoAfter (u .L) 0 (map hasNonfinite past)) past .desk) past (r .0))
+    holds = subst (Holds u past) (sym (r .1))
+        (holds-put u (stateOf u (t .desk .position) (toGoAfter (u .L) 0 (map hasNonfinite past)) past .desk) past
+        (r .0))
 
     waits : t .desk .«to_go» ≡ toGoAfter (u .L) 0 (map hasNonfinite past)
     waits = ap (λ (s : State). s .desk .«to_go») (r .1)
@@ -96,7 +121,8 @@ module _ (u : Setup) where
     rings-room = holds .room
 
     pub waits-few : t .desk .«to_go» < u .L
-    waits-few = subst (λ (n : ℕ). n < u .L) (sym waits) (to-go-below (u .L) 0 (map hasNonfinite past) (omega (arith, r .0)))
+    waits-few =
+        subst (λ (n : ℕ). n < u .L) (sym waits) (to-go-below (u .L) 0 (map hasNonfinite past) (omega (arith, r .0)))
 
     pub played-heard : (fs : List (List Float)) → played u t fs ≡ heard u past fs
     played-heard fs = played-over past t fs holds
@@ -105,26 +131,30 @@ module _ (u : Setup) where
     counted-told fs = ap count (late-each 0 past t fs (omega (arith, r .0)) (r .0) waits)
 
     pub left-kept : (fs : List (List Float)) → Represents u (after u past fs) (left u t fs)
-    left-kept fs = represents (after u past fs) (left u t fs) (left-holds past t fs holds) (waits-left 0 past t fs (r .0) waits)
+    left-kept fs =
+        represents (after u past fs) (left u t fs) (left-holds past t fs holds) (waits-left 0 past t fs (r .0) waits)
 
   -- what a reset leaves
   pub fresh-represents : 0 < u .L → Represents u [] (fresh u)
   fresh-represents h =
-      represents [] (fresh u) (record { room = length-replicate (u .speakers * u .L) zero-float; within = h; told = told }) refl
+      represents [] (fresh u)
+      (record { room = length-replicate (u .speakers * u .L) zero-float; within = h; told = told }) refl
     where
       fits : (s : ℕ) → s < u .speakers → u .L ≤ u .speakers * u .L - s * u .L
       fits s lt = omega (arith, mul-le-mul-right (u .L) lt, suc-mul s (u .L))
 
       told : (s : ℕ) → s < u .speakers → reverse (chunk (u .L) s (fresh u .rings)) ≡ window u s []
       told s lt =
-          ap {B = List Float} (λ (r : List Float). reverse (take (u .L) r)) (drop-replicate (s * u .L) (u .speakers * u .L) zero-float)
+          ap {B = List Float} (λ (r : List Float). reverse (take (u .L) r))
+          (drop-replicate (s * u .L) (u .speakers * u .L) zero-float)
           ∙ ap reverse (take-replicate (u .L) (u .speakers * u .L - s * u .L) zero-float (fits s lt))
           ∙ reverse-replicate (u .L) zero-float
           ∙ sym (tab-constant 0 (u .L) zero-float)
 
   -- ---- frames in two pieces
 
-  pub played-append : (t : State) (fs gs : List (List Float)) → played u t (fs ++ gs) ≡ played u t fs ++ played u (left u t fs) gs
+  pub played-append : (t : State) (fs gs : List (List Float)) → played u t (fs ++ gs) ≡ played u t fs
+      ++ played u (left u t fs) gs
   played-append t [] gs = refl
   played-append t (f ∷ fs) gs = ap (λ (l : List (List Float)). ears u t f ∷ l) (played-append (stepped u t f) fs gs)
 
@@ -132,8 +162,10 @@ module _ (u : Setup) where
   left-append t [] gs = refl
   left-append t (f ∷ fs) gs = left-append (stepped u t f) fs gs
 
-  pub counted-append : (t : State) (fs gs : List (List Float)) → counted u t (fs ++ gs) ≡ counted u t fs + counted u (left u t fs) gs
+  pub counted-append : (t : State) (fs gs : List (List Float))
+      → counted u t (fs ++ gs) ≡ counted u t fs + counted u (left u t fs) gs
   counted-append t [] gs = omega arith
   counted-append t (f ∷ fs) gs =
       ap (λ (n : ℕ). cond (late u t f) 1 0 + n) (counted-append (stepped u t f) fs gs)
-      ∙ sym (add-assoc (cond (late u t f) 1 0) (counted u (stepped u t f) fs) (counted u (left u (stepped u t f) fs) gs))
+      ∙ sym (add-assoc (cond (late u t f) 1 0) (counted u (stepped u t f) fs)
+      (counted u (left u (stepped u t f) fs) gs))

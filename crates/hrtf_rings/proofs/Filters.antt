@@ -12,7 +12,8 @@ use Rattle.hrtf_history.proofs.Windows.{ear-of-ext}
 use Rattle.hrtf_history.proofs.Filters.{moved, moved-is, moved-filters}
 use Rattle.hrtf_rings.specs.Unrolled.{unrolled}
 use Rattle.hrtf_rings.specs.State.{State}
-use Rattle.hrtf_rings.specs.Computed.{partOf, ringEar, stored, ears, late, stepped, left, played, lateEach, counted}
+use Rattle.hrtf_rings.specs.Computed.{partOf, ringEar, stored, ears, late, stepped, left, played, lateEach}
+use Rattle.hrtf_rings.specs.Computed.{counted}
 
 module _ (u v : Setup) (a : SameFilters u v) where
   pub stepped-alike : (t : State) (f : List Float) → stepped u t f ≡ stepped v t f
@@ -20,7 +21,8 @@ module _ (u v : Setup) (a : SameFilters u v) where
 
   ring-ear-alike : (ear p : ℕ) (rings : List Float) → ear < 2 → ringEar u ear p rings ≡ ringEar v ear p rings
   ring-ear-alike ear p rings e =
-      ear-of-ext (u .speakers) (partOf u ear p rings) (partOf (moved u v a) ear p rings) (λ s h. ap (dot zero-float (unrolled p (chunk (u .L) s rings))) (moved-filters u v a ear s e h))
+      ear-of-ext (u .speakers) (partOf u ear p rings) (partOf (moved u v a) ear p rings)
+      (λ s h. ap (dot zero-float (unrolled p (chunk (u .L) s rings))) (moved-filters u v a ear s e h))
       ∙ ap (λ (w : Setup). ringEar w ear p rings) (moved-is u v a)
 
   ears-alike : (t : State) (f : List Float) → ears u t f ≡ ears v t f
@@ -35,11 +37,15 @@ module _ (u v : Setup) (a : SameFilters u v) where
 
   pub played-alike : (t : State) (fs : List (List Float)) → played u t fs ≡ played v t fs
   played-alike t [] = refl
-  played-alike t (f ∷ fs) = cc (ears-alike t f, ap (λ (s : State). played u s fs) (stepped-alike t f) ∙ played-alike (stepped v t f) fs)
+  played-alike t (f ∷ fs) =
+      cc (ears-alike t f, ap (λ (s : State). played u s fs) (stepped-alike t f) ∙ played-alike (stepped v t f) fs)
 
   late-alike : (t : State) (fs : List (List Float)) → lateEach u t fs ≡ lateEach v t fs
   late-alike t [] = refl
-  late-alike t (f ∷ fs) = cc (ap (λ (w : Setup). late w t f) (moved-is u v a), ap (λ (s : State). lateEach u s fs) (stepped-alike t f) ∙ late-alike (stepped v t f) fs)
+  late-alike t (f ∷ fs) = cc (
+    ap (λ (w : Setup). late w t f) (moved-is u v a),
+    ap (λ (s : State). lateEach u s fs) (stepped-alike t f) ∙ late-alike (stepped v t f) fs,
+  )
 
   pub counted-alike : (t : State) (fs : List (List Float)) → counted u t fs ≡ counted v t fs
   counted-alike t fs = ap count (late-alike t fs)

@@ -1,5 +1,5 @@
--- What is read out of rings and put back: every state holds what `heldIn` reads out of it, `ringsOf` gives the rings again, and what is read out of rings that hold a past is its last L frames.
--- Assumes nothing.
+-- What is read out of rings and put back: every state holds what `heldIn` reads out of it, `ringsOf` gives the rings
+-- again, and what is read out of rings that hold a past is its last L frames. Assumes nothing.
 use mathlib.Core.Path.{_≡_, sym, ap, _∙_}
 use mathlib.Core.List.{List, [], _++_, flatten}
 use Prim.Native.Nat.{ℕ, zero, suc, _+_, _*_, _≤_, _<_}
@@ -20,13 +20,15 @@ use Rattle.hrtf_rings.specs.Held.{heldIn, ringsOf}
 use Rattle.hrtf_rings.proofs.Ring.{length-unrolled, unrolled-twice}
 
 -- rows put one behind the other
-rows-from : {A : Type 0} (n : ℕ) (xs : List A) (i m : ℕ) → flatten (tab i m (λ k. chunk n k xs)) ≡ take (m * n) (drop (i * n) xs)
+rows-from : {A : Type 0} (n : ℕ) (xs : List A) (i m : ℕ) → flatten (tab i m (λ k. chunk n k xs))
+    ≡ take (m * n) (drop (i * n) xs)
 unfolding flatten
 rows-from n xs i zero = ap (λ (k : ℕ). take k (drop (i * n) xs)) (sym (zero-mul n))
 rows-from {A} n xs i (suc m) =
     let more : suc m * n ≡ n + m * n = omega (arith, suc-mul m n) in
     ap (λ (l : List A). chunk n i xs ++ l)
-    (rows-from n xs (suc i) m ∙ ap (λ (l : List A). take (m * n) l) (ap (λ (k : ℕ). drop k xs) (suc-mul i n) ∙ sym (drop-drop n (i * n) xs)))
+    (rows-from n xs (suc i) m ∙ ap (λ (l : List A). take (m * n) l)
+    (ap (λ (k : ℕ). drop k xs) (suc-mul i n) ∙ sym (drop-drop n (i * n) xs)))
     ∙ sym (ap (λ (k : ℕ). take k (drop (i * n) xs)) more ∙ take-add n (m * n) (drop (i * n) xs))
 
 rows-joined : {A : Type 0} (n m : ℕ) (xs : List A) → length xs ≡ m * n → flatten (tab 0 m (λ k. chunk n k xs)) ≡ xs
@@ -38,22 +40,26 @@ module _ {A : Type 0} (n : ℕ) (F : ℕ → List A) (each : (k : ℕ) → lengt
   length-rows : (i m : ℕ) → length (flatten (tab i m F)) ≡ m * n
   unfolding flatten
   length-rows i zero = sym (zero-mul n)
-  length-rows i (suc m) = length-append (F i) (flatten (tab (suc i) m F)) ∙ omega (arith, each i, length-rows (suc i) m, suc-mul m n)
+  length-rows i (suc m) =
+      length-append (F i) (flatten (tab (suc i) m F)) ∙ omega (arith, each i, length-rows (suc i) m, suc-mul m n)
 
   row-of-rows : (i m s : ℕ) → s < m → chunk n s (flatten (tab i m F)) ≡ F (i + s)
   unfolding flatten
   row-of-rows i zero s h = absurd (not-suc-le-zero h)
   row-of-rows i (suc m) zero h =
-      ap (λ (k : ℕ). take n (drop k (F i ++ flatten (tab (suc i) m F)))) (zero-mul n) ∙ take-at (F i) (flatten (tab (suc i) m F)) n (each i) ∙ ap F (sym (add-zero i))
+      ap (λ (k : ℕ). take n (drop k (F i ++ flatten (tab (suc i) m F)))) (zero-mul n)
+      ∙ take-at (F i) (flatten (tab (suc i) m F)) n (each i) ∙ ap F (sym (add-zero i))
   row-of-rows i (suc m) (suc s) h =
       let rest = flatten (tab (suc i) m F) in
       let more : suc s * n ≡ n + s * n = omega (arith, suc-mul s n) in
       ap (take n)
-      (ap (λ (k : ℕ). drop k (F i ++ rest)) more ∙ sym (drop-drop (s * n) n (F i ++ rest)) ∙ ap (λ (l : List A). drop (s * n) l) (drop-at (F i) rest n (each i)))
+      (ap (λ (k : ℕ). drop k (F i ++ rest)) more ∙ sym (drop-drop (s * n) n (F i ++ rest))
+      ∙ ap (λ (l : List A). drop (s * n) l) (drop-at (F i) rest n (each i)))
       ∙ row-of-rows (suc i) m s (le-of-suc-le-suc h) ∙ ap F (omega arith)
 
 -- a table of signals, read as a past
-ago-table : (n speakers : ℕ) (G : ℕ → ℕ → Float) (k s : ℕ) → k < n → s < speakers → signalAgo s (tab 0 n (λ j. tab 0 speakers (λ o. G j o))) k ≡ G k s
+ago-table : (n speakers : ℕ) (G : ℕ → ℕ → Float) (k s : ℕ) → k < n → s < speakers
+    → signalAgo s (tab 0 n (λ j. tab 0 speakers (λ o. G j o))) k ≡ G k s
 ago-table n speakers G k s hk hs =
     ap (λ (l : List Float). getD l s zero-float) (getD-tab 0 n (λ j. tab 0 speakers (λ o. G j o)) k [] hk)
     ∙ getD-tab 0 speakers (λ o. G (0 + k) o) s zero-float hs
@@ -73,11 +79,13 @@ module _ (u : Setup) (t : State) where
   abbrev ring : ℕ → List Float
   ring s = chunk (u .L) s (t .rings)
 
-  window-held : length (t .rings) ≡ u .speakers * u .L → (s : ℕ) → s < u .speakers → window u s (heldIn u t) ≡ unrolled (t .desk .position) (ring s)
+  window-held : length (t .rings) ≡ u .speakers * u .L → (s : ℕ) → s < u .speakers
+      → window u s (heldIn u t) ≡ unrolled (t .desk .position) (ring s)
   window-held room s lt =
       ap (λ (n : ℕ). tab 0 n (signalAgo s (heldIn u t))) (sym long)
       ∙ tab-is (unrolled (t .desk .position) (ring s)) nan (signalAgo s (heldIn u t))
-      (λ k h. ago-table (u .L) (u .speakers) (λ j o. getD (unrolled (t .desk .position) (ring o)) j nan) k s (omega (arith, h, long)) lt)
+      (λ k h. ago-table (u .L) (u .speakers) (λ j o. getD (unrolled (t .desk .position) (ring o)) j nan) k s
+      (omega (arith, h, long)) lt)
     where
       long : length (unrolled (t .desk .position) (ring s)) ≡ u .L
       long = length-unrolled (t .desk .position) (ring s) ∙ length-row (u .L) s (u .speakers) (t .rings) lt room
@@ -90,16 +98,20 @@ module _ (u : Setup) (t : State) where
     -- what is read out of rings that hold a past is its last L frames
     held-last : Holds u past t → heldIn u t ≡ lastOf u past
     held-last r =
-        tab-ext 0 (u .L) (λ k. tab 0 (u .speakers) (λ s. getD (unrolled (t .desk .position) (ring s)) k nan)) (λ k. tab 0 (u .speakers) (λ s. signalAgo s past k))
-        (λ k hk. tab-ext 0 (u .speakers) (λ s. getD (unrolled (t .desk .position) (ring s)) k nan) (λ s. signalAgo s past k)
-        (λ s hs. ap (λ (w : List Float). getD w k nan) (r .told s (omega arith)) ∙ getD-tab 0 (u .L) (signalAgo s past) k nan (omega arith) ∙ ap (signalAgo s past) (zero-add k)))
+        tab-ext 0 (u .L) (λ k. tab 0 (u .speakers) (λ s. getD (unrolled (t .desk .position) (ring s)) k nan))
+        (λ k. tab 0 (u .speakers) (λ s. signalAgo s past k))
+        (λ k hk. tab-ext 0 (u .speakers) (λ s. getD (unrolled (t .desk .position) (ring s)) k nan)
+        (λ s. signalAgo s past k)
+        (λ s hs. ap (λ (w : List Float). getD w k nan) (r .told s (omega arith))
+        ∙ getD-tab 0 (u .L) (signalAgo s past) k nan (omega arith) ∙ ap (signalAgo s past) (zero-add k)))
 
     -- the rings are those that hold it
     pub rings-are : Holds u past t → t .rings ≡ ringsOf u (t .desk .position) past
     rings-are r =
         sym
         (ap flatten (tab-ext 0 (u .speakers) (λ s. unrolled (t .desk .position) (window u s past)) ring
-        (λ s h. ap (unrolled (t .desk .position)) (sym (r .told s (omega arith))) ∙ unrolled-twice (t .desk .position) (ring s) (inside s (omega arith))))
+        (λ s h. ap (unrolled (t .desk .position)) (sym (r .told s (omega arith)))
+        ∙ unrolled-twice (t .desk .position) (ring s) (inside s (omega arith))))
         ∙ rows-joined (u .L) (u .speakers) (t .rings) (r .room))
       where
         inside : (s : ℕ) → s < u .speakers → t .desk .position ≤ length (ring s)
@@ -107,15 +119,19 @@ module _ (u : Setup) (t : State) where
 
 -- ---- `ringsOf` and `heldIn` undo each other
 
-pub put-held : (u : Setup) (t : State) → length (t .rings) ≡ u .speakers * u .L → t .desk .position < u .L → ringsOf u (t .desk .position) (heldIn u t) ≡ t .rings
+pub put-held : (u : Setup) (t : State) → length (t .rings) ≡ u .speakers * u .L → t .desk .position < u .L
+    → ringsOf u (t .desk .position) (heldIn u t) ≡ t .rings
 put-held u t room within = sym (rings-are u t (heldIn u t) (holds-held u t room within))
 
-pub holds-put : (u : Setup) (d : Desk) (past : List (List Float)) → d .position < u .L → Holds u past (record { rings = ringsOf u (d .position) past; desk = d })
+pub holds-put : (u : Setup) (d : Desk) (past : List (List Float)) → d .position < u .L
+    → Holds u past (record { rings = ringsOf u (d .position) past; desk = d })
 holds-put u d past h =
     record {
       room = length-rows (u .L) turned long 0 (u .speakers);
       within = h;
-      told = λ s lt. ap (unrolled (d .position)) (row-of-rows (u .L) turned long 0 (u .speakers) s lt ∙ ap turned (zero-add s)) ∙ unrolled-twice (d .position) (window u s past) (inside s);
+      told = λ s lt. ap (unrolled (d .position))
+          (row-of-rows (u .L) turned long 0 (u .speakers) s lt ∙ ap turned (zero-add s))
+          ∙ unrolled-twice (d .position) (window u s past) (inside s);
     }
   where
     turned : ℕ → List Float
@@ -127,5 +143,7 @@ holds-put u d past h =
     inside : (s : ℕ) → d .position ≤ length (window u s past)
     inside s = omega (arith, h, length-tab 0 (u .L) (signalAgo s past))
 
-pub held-put : (u : Setup) (d : Desk) (past : List (List Float)) → d .position < u .L → heldIn u (record { rings = ringsOf u (d .position) past; desk = d }) ≡ lastOf u past
-held-put u d past h = held-last u (record { rings = ringsOf u (d .position) past; desk = d }) past (holds-put u d past h)
+pub held-put : (u : Setup) (d : Desk) (past : List (List Float)) → d .position < u .L
+    → heldIn u (record { rings = ringsOf u (d .position) past; desk = d }) ≡ lastOf u past
+held-put u d past h =
+    held-last u (record { rings = ringsOf u (d .position) past; desk = d }) past (holds-put u d past h)

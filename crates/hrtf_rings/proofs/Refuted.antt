@@ -1,6 +1,7 @@
 -- Wrong ways through a ring, each held against the promise of `convolve` at one ring: 2^60, 1, -2^60 (f32 5D800000,
--- 3F800000, DD800000), newest at 0, taps 1, 1, 1. The promise gives 1.0 there, and each of these 0.0. The first two are equal
--- to it in algebra, and the others where all taps are the same. And wrong lengths of the first run. Assumes nothing.
+-- 3F800000, DD800000), newest at 0, taps 1, 1, 1. The promise gives 1.0 there, and each of these 0.0. The first two are
+-- equal to it in algebra, and the others where all taps are the same. And wrong lengths of the first run. Assumes
+-- nothing.
 use Prim.Native.Nat.{ℕ, suc, min}
 use native.Mathlib.Omega.{arith}
 use mathlib.Core.Path.{_≡_, refl, sym, ap, _∙_}
@@ -34,7 +35,8 @@ Way = List Float → ℕ → List Float → Float
 
 abbrev Convolves : Way → Type 0
 Convolves way =
-    (ring : List Float) (newest : ℕ) (taps : List Float) → way ring newest taps ≡ dot zero-float (unrolled (suc newest) ring) taps
+    (ring : List Float) (newest : ℕ) (taps : List Float)
+    → way ring newest taps ≡ dot zero-float (unrolled (suc newest) ring) taps
 
 not-silent : (way : Way) → way three 0 ones ≡ zero-float → Convolves way → ⊥
 not-silent way e meets = true≢false (ap positive (sym three-summed ∙ sym (meets three 0 ones) ∙ e))
@@ -53,7 +55,8 @@ oldestFirst ring newest taps = dot zero-float (reverse (unrolled (suc newest) ri
 
 -- the second run before the first
 abbrev runsExchanged : Way
-runsExchanged ring newest taps = dot zero-float (reverse (drop (suc newest) ring) ++ reverse (take (suc newest) ring)) taps
+runsExchanged ring newest taps =
+    dot zero-float (reverse (drop (suc newest) ring) ++ reverse (take (suc newest) ring)) taps
 
 -- the second run from its start on
 abbrev secondForwards : Way
@@ -63,7 +66,8 @@ secondForwards ring newest taps = dot zero-float (reverse (take (suc newest) rin
 abbrev steppedFirst : Way
 steppedFirst ring newest taps = dot zero-float (unrolled (suc (suc newest)) ring) taps
 
-silent : (runsApart three 0 ones ≡ zero-float) × (oldestFirst three 0 ones ≡ zero-float) × (runsExchanged three 0 ones ≡ zero-float)
+silent : (runsApart three 0 ones ≡ zero-float) × (oldestFirst three 0 ones ≡ zero-float)
+    × (runsExchanged three 0 ones ≡ zero-float)
     × (secondForwards three 0 ones ≡ zero-float) × (steppedFirst three 0 ones ≡ zero-float)
 unfolding three ones add mul sum round size span climb units odd
 silent = (refl, refl, refl, refl, refl)
@@ -83,7 +87,8 @@ second-forwards = not-silent secondForwards (silent .3)
 stepped-first : Convolves steppedFirst → ⊥
 stepped-first = not-silent steppedFirst (silent .4)
 
--- ---- how many cells the first run has: in a ring that has some the newest is one of them, and there are no more than the ring has
+-- ---- how many cells the first run has: in a ring that has some the newest is one of them, and there are no more than
+-- the ring has
 
 first-run-empty : (newest n : ℕ) → min (suc newest) (suc n) ≡ 0 → ⊥
 first-run-empty newest n e = omega arith

@@ -1,4 +1,5 @@
--- Rings hold a past: a frame keeps that so with its signals before the rest, and what is read out is document 01's sums over it. Desk and frames to go likewise. Assumes nothing.
+-- Rings hold a past: a frame keeps that so with its signals before the rest, and what is read out is document 01's sums
+-- over it. Desk and frames to go likewise. Assumes nothing.
 use mathlib.Core.Path.{_≡_, sym, ap, _∙_, subst}
 use mathlib.Core.Bool.{Bool, _||_, cond, or-assoc}
 use mathlib.Core.List.{List, [], _∷_, map}
@@ -34,13 +35,16 @@ length-stored u t f = length-with-frame 0 (t .rings) (u .L) (t .desk .position) 
 
 module _ (u : Setup) (past : List (List Float)) (t : State) (f : List Float) (r : Holds u past t) where
   -- what a frame leaves of speaker s's ring
-  ring-stored : (s : ℕ) → s < u .speakers → chunk (u .L) s (stored u t f) ≡ set (chunk (u .L) s (t .rings)) (t .desk .position) (signal u s f)
+  ring-stored : (s : ℕ) → s < u .speakers → chunk (u .L) s (stored u t f) ≡ set (chunk (u .L) s (t .rings))
+      (t .desk .position) (signal u s f)
   ring-stored s lt =
-      row-with-frame (u .speakers) (t .rings) (u .L) (t .desk .position) (signals u f) s (rw (length-signals u f) lt) (r .within) (r .room) (omega (arith, length-signals u f))
+      row-with-frame (u .speakers) (t .rings) (u .L) (t .desk .position) (signals u f) s (rw (length-signals u f) lt)
+      (r .within) (r .room) (omega (arith, length-signals u f))
       ∙ ap (set (chunk (u .L) s (t .rings)) (t .desk .position)) (signal-at u f s nan lt)
 
   -- once a frame's signals are put, each ring read from its newest is the window of the past with that frame
-  told-stored : (s : ℕ) → s < u .speakers → unrolled (suc (t .desk .position)) (chunk (u .L) s (stored u t f)) ≡ window u s (signals u f ∷ past)
+  told-stored : (s : ℕ) → s < u .speakers → unrolled (suc (t .desk .position)) (chunk (u .L) s (stored u t f))
+      ≡ window u s (signals u f ∷ past)
   told-stored s lt =
       ap {B = List Float} (unrolled (suc (t .desk .position))) (ring-stored s lt)
       ∙ unrolled-set (t .desk .position) ring x (rw full (r .within))
@@ -64,7 +68,8 @@ module _ (u : Setup) (past : List (List Float)) (t : State) (f : List Float) (r 
       record {
         room = same;
         within = position-below (u .L) (damaged u f) (t .desk) (r .within);
-        told = λ s lt. ap (λ (d : Desk). unrolled (d .position) (chunk (u .L) s (stored u t f))) (desk-on (u .L) (damaged u f) (t .desk) (r .within)) ∙ turn s lt ∙ told-stored s lt;
+        told = λ s lt. ap (λ (d : Desk). unrolled (d .position) (chunk (u .L) s (stored u t f)))
+            (desk-on (u .L) (damaged u f) (t .desk) (r .within)) ∙ turn s lt ∙ told-stored s lt;
       }
     where
       same : length (stored u t f) ≡ u .speakers * u .L
@@ -74,10 +79,13 @@ module _ (u : Setup) (past : List (List Float)) (t : State) (f : List Float) (r 
       full s lt = length-row (u .L) s (u .speakers) (stored u t f) lt same
 
       turn : (s : ℕ) → s < u .speakers
-          → unrolled ((t .desk .position + 1) % u .L) (chunk (u .L) s (stored u t f)) ≡ unrolled (suc (t .desk .position)) (chunk (u .L) s (stored u t f))
+          → unrolled ((t .desk .position + 1) % u .L) (chunk (u .L) s (stored u t f))
+          ≡ unrolled (suc (t .desk .position)) (chunk (u .L) s (stored u t f))
       turn s lt =
-          subst (λ (m : ℕ). unrolled ((t .desk .position + 1) % m) (chunk (u .L) s (stored u t f)) ≡ unrolled (suc (t .desk .position)) (chunk (u .L) s (stored u t f)))
-          (full s lt) (unrolled-wrapped (t .desk .position) (chunk (u .L) s (stored u t f)) (subst (λ (m : ℕ). t .desk .position < m) (sym (full s lt)) (r .within)))
+          subst (λ (m : ℕ). unrolled ((t .desk .position + 1) % m) (chunk (u .L) s (stored u t f))
+          ≡ unrolled (suc (t .desk .position)) (chunk (u .L) s (stored u t f)))
+          (full s lt) (unrolled-wrapped (t .desk .position) (chunk (u .L) s (stored u t f))
+          (subst (λ (m : ℕ). t .desk .position < m) (sym (full s lt)) (r .within)))
 
   ear-told : (ear : ℕ) → ringEar u ear (suc (t .desk .position)) (stored u t f) ≡ earSample u ear (signals u f ∷ past)
   ear-told ear =
@@ -89,16 +97,19 @@ module _ (u : Setup) (past : List (List Float)) (t : State) (f : List Float) (r 
 
 -- ---- the frames to go, `go` of them having been to go before the frames of `past`
 
-module _ (u : Setup) (go : ℕ) (past : List (List Float)) (t : State) (f : List Float) (within : t .desk .position < u .L) (waits : t .desk .«to_go» ≡ toGoAfter (u .L) go (map hasNonfinite past)) where
+module _ (u : Setup) (go : ℕ) (past : List (List Float)) (t : State) (f : List Float)
+    (within : t .desk .position < u .L) (waits : t .desk .«to_go» ≡ toGoAfter (u .L) go (map hasNonfinite past)) where
   pub waits-on : stepped u t f .desk .«to_go» ≡ toGoAfter (u .L) go (map hasNonfinite (signals u f ∷ past))
-  waits-on = ap (λ (d : Desk). d .«to_go») (desk-on (u .L) (damaged u f) (t .desk) within) ∙ ap (λ (k : ℕ). cond (damaged u f) (u .L - 1) (k - 1)) waits
+  waits-on = ap (λ (d : Desk). d .«to_go») (desk-on (u .L) (damaged u f) (t .desk) within)
+      ∙ ap (λ (k : ℕ). cond (damaged u f) (u .L - 1) (k - 1)) waits
 
   pub late-told : go < u .L → late u t f ≡ unsettled u go (signals u f ∷ past)
   late-told few =
       let bs = map hasNonfinite past in
       let gone : 0 + length bs ≡ length past = zero-add (length bs) ∙ length-map past hasNonfinite in
       ap (λ (b : Bool). damaged u f || b)
-      (ap (ltb 0) waits ∙ to-go-any (u .L) go bs 0 (u .L - 1) few (omega arith) ∙ ap (λ (n : ℕ). any (take (u .L - 1) bs) || ltb n go) gone)
+      (ap (ltb 0) waits ∙ to-go-any (u .L) go bs 0 (u .L - 1) few (omega arith)
+      ∙ ap (λ (n : ℕ). any (take (u .L - 1) bs) || ltb n go) gone)
       ∙ sym (or-assoc (damaged u f) (any (take (u .L - 1) bs)) (ltb (length past) go))
       ∙ ap (λ (b : Bool). b || ltb (length past) go) (sym (any-take-cons (u .L) (damaged u f) bs (omega arith)))
 
@@ -113,6 +124,7 @@ module _ (u : Setup) (speakers : ℕ) where
         waits = waits-below (u .L) (damaged u f) (t .desk) (r .within) (r .waits);
       }
 
-  pub left-fits : (t : State) (fs : List (List Float)) → StateFits speakers (u .L) t → StateFits speakers (u .L) (left u t fs)
+  pub left-fits : (t : State) (fs : List (List Float)) → StateFits speakers (u .L) t
+      → StateFits speakers (u .L) (left u t fs)
   left-fits t [] r = r
   left-fits t (f ∷ fs) r = left-fits (stepped u t f) fs (step-fits t f r)

@@ -1,5 +1,5 @@
--- The frames to go count the damage among the last L: more than j are to go exactly where a damaged frame is among the newest L - 1 - j, or where more than j and all those frames were to go before
--- them. Assumes nothing.
+-- The frames to go count the damage among the last L: more than j are to go exactly where a damaged frame is among the
+-- newest L - 1 - j, or where more than j and all those frames were to go before them. Assumes nothing.
 use mathlib.Core.Path.{_≡_, sym, ap, _∙_}
 use mathlib.Core.Logic.{⊎-elim}
 use mathlib.Core.Bool.{Bool, true, false, _||_}
@@ -29,13 +29,18 @@ to-go-below n go [] h = h
 to-go-below n go (true ∷ bs) h = omega arith
 to-go-below n go (false ∷ bs) h = omega (arith, to-go-below n go bs h)
 
-pub to-go-any : (n go : ℕ) (bs : List Bool) (j k : ℕ) → go < n → k ≡ n - 1 - j → ltb j (toGoAfter n go bs) ≡ (any (take k bs) || ltb (j + length bs) go)
-to-go-any n go [] j k h e = ap (λ (i : ℕ). ltb i go) (sym (add-zero j)) ∙ ap (λ (b : Bool). b || ltb (j + 0) go) (ap any (sym (take-nil k)))
-to-go-any n go (true ∷ bs) j zero h e = le-ltb j (n - 1) (omega arith) ∙ sym (le-ltb (j + suc (length bs)) go (omega arith))
+pub to-go-any : (n go : ℕ) (bs : List Bool) (j k : ℕ) → go < n → k ≡ n - 1 - j
+    → ltb j (toGoAfter n go bs) ≡ (any (take k bs) || ltb (j + length bs) go)
+to-go-any n go [] j k h e =
+    ap (λ (i : ℕ). ltb i go) (sym (add-zero j)) ∙ ap (λ (b : Bool). b || ltb (j + 0) go) (ap any (sym (take-nil k)))
+to-go-any n go (true ∷ bs) j zero h e =
+    le-ltb j (n - 1) (omega arith) ∙ sym (le-ltb (j + suc (length bs)) go (omega arith))
 to-go-any n go (true ∷ bs) j (suc k) h e = lt-ltb j (n - 1) (omega arith)
-to-go-any n go (false ∷ bs) j zero h e = ltb-pred j (toGoAfter n go bs) ∙ to-go-any n go bs (suc j) zero h (omega arith) ∙ ap (λ (i : ℕ). ltb i go) (omega arith)
+to-go-any n go (false ∷ bs) j zero h e = ltb-pred j (toGoAfter n go bs) ∙ to-go-any n go bs (suc j) zero h (omega arith)
+    ∙ ap (λ (i : ℕ). ltb i go) (omega arith)
 to-go-any n go (false ∷ bs) j (suc k) h e =
-    ltb-pred j (toGoAfter n go bs) ∙ to-go-any n go bs (suc j) k h (omega arith) ∙ ap (λ (i : ℕ). any (take k bs) || ltb i go) (omega arith)
+    ltb-pred j (toGoAfter n go bs) ∙ to-go-any n go bs (suc j) k h (omega arith)
+    ∙ ap (λ (i : ℕ). any (take k bs) || ltb i go) (omega arith)
 
 -- the newest of them, and the rest
 pub any-take-cons : (n : ℕ) (b : Bool) (bs : List Bool) → 0 < n → any (take n (b ∷ bs)) ≡ (b || any (take (n - 1) bs))

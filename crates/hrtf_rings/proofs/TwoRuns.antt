@@ -14,7 +14,8 @@ use Rattle.planes.specs.Sums.{total, dot}
 use Rattle.planes.proofs.Sums.{productAt, dot-on, dot-joined}
 use Rattle.hrtf_rings.specs.Unrolled.{unrolled}
 
--- ---- a run: its cells from the last back to the first times the taps in order, added to a first sum; `sum` is what the
+-- ---- a run: its cells from the last back to the first times the taps in order, added to a first sum; `sum` is what
+-- the
 -- first k products have come to
 
 pub record Running (cells taps : List Float) (first : Float) (count : ℕ) (sum : Float) (k : ℕ) : Type 0 where
@@ -32,11 +33,13 @@ module _ {cells taps : List Float} {first : Float} {count : ℕ} where
       record {
         ends = r .ends;
         summed =
-            loop-more (λ i. total) (productAt (reverse cells) taps) count first (λ i. add binary64) (λ i s a l. refl) sum k _ _
+            loop-more (λ i. total) (productAt (reverse cells) taps) count first (λ i. add binary64) (λ i s a l. refl)
+            sum k _ _
             (r .summed) h (cc (ex ∙ sym (getD-reverse cells k nan (omega (arith, r .ends))), ey)) refl;
       }
 
-  pub running-all : {sum : Float} {k : ℕ} → Running cells taps first count sum k → count ≤ k → sum ≡ dot first (reverse cells) taps
+  pub running-all : {sum : Float} {k : ℕ} → Running cells taps first count sum k → count ≤ k
+      → sum ≡ dot first (reverse cells) taps
   running-all {sum} {k} r h =
       dot-on first (reverse cells) taps count sum k (r .summed) h
       (r .ends ∙ ap (λ (n : ℕ). min n (length taps)) (sym (length-reverse cells)))
@@ -51,11 +54,19 @@ to-the-end n xs = take-all (length xs - n) (drop n xs) (omega (arith, length-dro
 pub two-runs : (p : ℕ) (ring taps : List Float) (split used : ℕ) {first sum : Float}
     → split ≡ min p (length ring) → used ≡ min split (length taps)
     → first ≡ dot zero-float (reverse (take split ring)) (take used taps)
-    → sum ≡ dot first (reverse (take (length ring - split) (drop split ring))) (take (length taps - used) (drop used taps))
+    → sum ≡ dot first (reverse (take (length ring - split) (drop split ring)))
+    (take (length taps - used) (drop used taps))
     → sum ≡ dot zero-float (unrolled p ring) taps
 two-runs p ring taps split used es eu ef e =
     e
-    ∙ cc (ef, to-the-end split ring, to-the-end used taps, take-min taps split used eu, drop-min taps split used eu, long)
+    ∙ cc (
+      ef,
+      to-the-end split ring,
+      to-the-end used taps,
+      take-min taps split used eu,
+      drop-min taps split used eu,
+      long,
+    )
     ∙ sym (dot-joined zero-float (reverse (take split ring)) (reverse (drop split ring)) taps)
     ∙ cc (take-min ring p split es, drop-min ring p split es)
   where

@@ -1,4 +1,6 @@
--- What the program does, as a function of the rings and the desk that it is given. Definitions only. Nobody has to believe them: `played-held`, `left-is` and `counted-is` (proofs/Blocks.antt) tie them to the words of specs/Held.antt in every state.
+-- What the program does, as a function of the rings and the desk that it is given. Definitions only. Nobody has to
+-- believe them: `played-held`, `left-is` and `counted-is` (proofs/Blocks.antt) tie them to the words of specs/Held.antt
+-- in every state.
 use Prim.Native.Nat.{ℕ, suc}
 use mathlib.Core.Bool.{Bool, _||_}
 use mathlib.Core.List.{List, [], _∷_}
@@ -34,7 +36,8 @@ abbrev pub ringEar : Setup → ℕ → ℕ → List Float → Float
 ringEar u ear p rings = earOf (u .speakers) (partOf u ear p rings)
 
 abbrev pub ears : Setup → State → List Float → List Float
-ears u t f = ringEar u 0 (suc (t .desk .position)) (stored u t f) ∷ ringEar u 1 (suc (t .desk .position)) (stored u t f) ∷ []
+ears u t f =
+    ringEar u 0 (suc (t .desk .position)) (stored u t f) ∷ ringEar u 1 (suc (t .desk .position)) (stored u t f) ∷ []
 
 abbrev pub late : Setup → State → List Float → Bool
 late u t f = damaged u f || ltb 0 (t .desk .«to_go»)

@@ -10,7 +10,8 @@ pub record State : Type 0 where
   pub rings : List Float
   pub desk : Desk
 
--- rings of the cells that so many speakers need, and a desk whose numbers are below L: as a reset leaves them, and every block
+-- rings of the cells that so many speakers need, and a desk whose numbers are below L: as a reset leaves them, and
+-- every block
 pub record StateFits (speakers L : ℕ) (t : State) : Type 0 where
   pub ringed : length (t .rings) ≡ speakers * L
   pub within : t .desk .position < L

@@ -1,4 +1,5 @@
--- The frames of a call that are unsettled over the past are those with a damaged frame among the last L of the run. Assumes nothing.
+-- The frames of a call that are unsettled over the past are those with a damaged frame among the last L of the run.
+-- Assumes nothing.
 use mathlib.Core.Path.{_≡_, refl, sym, ap, _∙_}
 use mathlib.Core.Bool.{Bool, false, _||_, or-false}
 use mathlib.Core.List.{List, [], _∷_, _++_, map, reverse, append-assoc}
@@ -28,28 +29,37 @@ pub upto-is : (u : Setup) (fs : List (List Float)) (n : ℕ) → upto u fs n ≡
 upto-is u fs n = after-is u (take (suc n) fs) []
 
 -- a frame behind others, and more behind it
-upto-next : (u : Setup) (done : List (List Float)) (f : List Float) (rest : List (List Float)) → upto u (done ++ (f ∷ rest)) (length done) ≡ signals u f ∷ after u [] done
+upto-next : (u : Setup) (done : List (List Float)) (f : List Float) (rest : List (List Float))
+    → upto u (done ++ (f ∷ rest)) (length done) ≡ signals u f ∷ after u [] done
 upto-next u done f rest =
     ap (after u [])
-    (ap (take (suc (length done))) (sym (append-assoc done (f ∷ []) rest)) ∙ take-at (done ++ (f ∷ [])) rest (suc (length done)) (omega (arith, length-append done (f ∷ []))))
+    (ap (take (suc (length done))) (sym (append-assoc done (f ∷ []) rest))
+    ∙ take-at (done ++ (f ∷ [])) rest (suc (length done)) (omega (arith, length-append done (f ∷ []))))
     ∙ after-append u [] done (f ∷ [])
 
 module _ (u : Setup) (finite : hasNonfinite (u .weights) ≡ false) where
   -- the damage k frames ago is that of the frame
-  pub damage-is : (fs : List (List Float)) (n k : ℕ) → hasNonfinite (getD (upto u fs n) k []) ≡ damaged u (frameAgo u fs n k)
-  damage-is fs n k = ap (λ (l : List (List Float)). hasNonfinite (getD l k [])) (upto-is u fs n) ∙ damage-ago u finite (reverse (take (suc n) fs)) k
+  pub damage-is : (fs : List (List Float)) (n k : ℕ) → hasNonfinite (getD (upto u fs n) k [])
+      ≡ damaged u (frameAgo u fs n k)
+  damage-is fs n k = ap (λ (l : List (List Float)). hasNonfinite (getD l k [])) (upto-is u fs n)
+      ∙ damage-ago u finite (reverse (take (suc n) fs)) k
 
   among : (fs : List (List Float)) (n : ℕ) → any (take (u .L) (map hasNonfinite (upto u fs n))) ≡ damagedAmong u fs n
-  among fs n = any-ago (u .L) (upto u fs n) ∙ ap any (tab-ext 0 (u .L) (λ k. hasNonfinite (getD (upto u fs n) k [])) (λ k. damaged u (frameAgo u fs n k)) (λ k h. damage-is fs n k))
+  among fs n = any-ago (u .L) (upto u fs n) ∙ ap any
+      (tab-ext 0 (u .L) (λ k. hasNonfinite (getD (upto u fs n) k [])) (λ k. damaged u (frameAgo u fs n k))
+      (λ k h. damage-is fs n k))
 
-  frame-counts : (done : List (List Float)) (f : List Float) (rest : List (List Float)) → unsettled u 0 (signals u f ∷ after u [] done) ≡ damagedAmong u (done ++ (f ∷ rest)) (length done)
+  frame-counts : (done : List (List Float)) (f : List Float) (rest : List (List Float))
+      → unsettled u 0 (signals u f ∷ after u [] done) ≡ damagedAmong u (done ++ (f ∷ rest)) (length done)
   frame-counts done f rest =
-      ap (λ (b : Bool). any (take (u .L) (map hasNonfinite (signals u f ∷ after u [] done))) || b) (lt-leb (suc (length (after u [] done))) 0 (omega arith))
+      ap (λ (b : Bool). any (take (u .L) (map hasNonfinite (signals u f ∷ after u [] done))) || b)
+      (lt-leb (suc (length (after u [] done))) 0 (omega arith))
       ∙ or-false (any (take (u .L) (map hasNonfinite (signals u f ∷ after u [] done))))
       ∙ ap (λ (past : List (List Float)). any (take (u .L) (map hasNonfinite past))) (sym (upto-next u done f rest))
       ∙ among (done ++ (f ∷ rest)) (length done)
 
-  each-counts : (done fs rest : List (List Float)) → unsettledEach u 0 (after u [] done) fs ≡ tab (length done) (length fs) (damagedAmong u (done ++ (fs ++ rest)))
+  each-counts : (done fs rest : List (List Float)) → unsettledEach u 0 (after u [] done) fs ≡ tab (length done)
+      (length fs) (damagedAmong u (done ++ (fs ++ rest)))
   each-counts done [] rest = refl
   each-counts done (f ∷ fs) rest =
       let one : length (done ++ (f ∷ [])) ≡ suc (length done) = omega (arith, length-append done (f ∷ [])) in
@@ -58,10 +68,12 @@ module _ (u : Setup) (finite : hasNonfinite (u .weights) ≡ false) where
         ap (λ (past : List (List Float)). unsettledEach u 0 past fs) (sym (after-append u [] done (f ∷ [])))
             ∙ each-counts (done ++ (f ∷ [])) fs rest
             ∙ ap (λ (n : ℕ). tab n (length fs) (damagedAmong u ((done ++ (f ∷ [])) ++ (fs ++ rest)))) one
-            ∙ ap (λ (l : List (List Float)). tab (suc (length done)) (length fs) (damagedAmong u l)) (append-assoc done (f ∷ []) (fs ++ rest)),
+            ∙ ap (λ (l : List (List Float)). tab (suc (length done)) (length fs) (damagedAmong u l))
+            (append-assoc done (f ∷ []) (fs ++ rest)),
       )
 
-  pub owed-counts : (done : List (List Float)) (t : State) (cs : List Call) → owed u (after u [] done) t cs ≡ damagedCounts u (done ++ fedAll t cs) (length done) t cs
+  pub owed-counts : (done : List (List Float)) (t : State) (cs : List Call)
+      → owed u (after u [] done) t cs ≡ damagedCounts u (done ++ fedAll t cs) (length done) t cs
   owed-counts done t [] = refl
   owed-counts done t (c ∷ cs) =
       let fs = fed c t in
@@ -71,5 +83,6 @@ module _ (u : Setup) (finite : hasNonfinite (u .weights) ≡ false) where
         ap (λ (past : List (List Float)). owed u past (next c t) cs) (sym (after-append u [] done fs))
             ∙ owed-counts (done ++ fs) (next c t) cs
             ∙ ap (λ (n : ℕ). damagedCounts u ((done ++ fs) ++ rest) n (next c t) cs) (length-append done fs)
-            ∙ ap (λ (l : List (List Float)). damagedCounts u l (length done + length fs) (next c t) cs) (append-assoc done fs rest),
+            ∙ ap (λ (l : List (List Float)). damagedCounts u l (length done + length fs) (next c t) cs)
+            (append-assoc done fs rest),
       )

@@ -1,5 +1,7 @@
--- Answers of another shape, which the promise of `process` refutes: writing nothing, in every call; and, on drill table 8 and 9 played in one block into any lent planes, refusing always, silence, filtering
--- the first frame and copying on, the left ear's sum for both, stepping the desk before the ears are read, passing the input through, an unsettled count of one's own, and damage judged on the inputs alone. Assumes nothing.
+-- Answers of another shape, which the promise of `process` refutes: writing nothing, in every call; and, on drill table
+-- 8 and 9 played in one block into any lent planes, refusing always, silence, filtering the first frame and copying on,
+-- the left ear's sum for both, stepping the desk before the ears are read, passing the input through, an unsettled
+-- count of one's own, and damage judged on the inputs alone. Assumes nothing.
 use mathlib.Core.Path.{_≡_, refl, sym, ap, _∙_}
 use mathlib.Core.Bool.{Bool, true, false, true≢false}
 use mathlib.Core.List.{List, [], _∷_}
@@ -52,12 +54,16 @@ refuses o p n e = suc-ne-zero n (sym e ∙ ap (λ (q : BlockOutcome). q .answer 
 
 -- ---- the ear planes
 
--- no writing, of every call in every state: the ears unchanged, where one of the lent samples was not already document 01's sum
-unwritten : (c : Call) (t : State) (o : BlockOutcome) → Processes c t o → refusalOf c t ≡ 0 → (ear n : ℕ) → ear < 2 → n < c .frames
-    → (sampleAt (c .ears) (c .stride) ear n ≡ getD (earSamples (setup c) (after (setup c) (heldIn (setup c) t) (take (suc n) (framesIn c)))) ear nan → ⊥)
+-- no writing, of every call in every state: the ears unchanged, where one of the lent samples was not already document
+-- 01's sum
+unwritten : (c : Call) (t : State) (o : BlockOutcome) → Processes c t o → refusalOf c t ≡ 0 → (ear n : ℕ) → ear < 2
+    → n < c .frames
+    → (sampleAt (c .ears) (c .stride) ear n ≡ getD
+    (earSamples (setup c) (after (setup c) (heldIn (setup c) t) (take (suc n) (framesIn c)))) ear nan → ⊥)
     → o .ears ≡ c .ears → ⊥
 unwritten c t o p e ear n he hn other same =
-    other (ap (λ (ys : List Float). sampleAt ys (c .stride) ear n) (sym same ∙ ap (λ (q : BlockOutcome). q .ears) (p .bits)) ∙ ear-at c t e ear n he hn)
+    other (ap (λ (ys : List Float). sampleAt ys (c .stride) ear n)
+    (sym same ∙ ap (λ (q : BlockOutcome). q .ears) (p .bits)) ∙ ear-at c t e ear n he hn)
 
 -- drill 8 into any six lent cells
 module _ (a b c d e f : Float) where
@@ -83,7 +89,8 @@ module _ (a b c d e f : Float) where
     ears : o .ears ≡ one-float ∷ half-float ∷ zero-float ∷ zero-float ∷ one-float ∷ zero-float ∷ []
     ears = ears-over into (fresh drill) o p [] starts good ∙ ap (withFrames (a ∷ b ∷ c ∷ d ∷ e ∷ f ∷ []) 3 0) drill-8
 
-    at : (i : ℕ) → getD (o .ears) i nan ≡ getD (one-float ∷ half-float ∷ zero-float ∷ zero-float ∷ one-float ∷ zero-float ∷ []) i nan
+    at : (i : ℕ) → getD (o .ears) i nan ≡ getD
+        (one-float ∷ half-float ∷ zero-float ∷ zero-float ∷ one-float ∷ zero-float ∷ []) i nan
     at i = ap (λ (l : List Float). getD l i nan) ears
 
     -- silence
@@ -117,7 +124,8 @@ module _ (a b c d e f : Float) where
 count-is : (o : BlockOutcome) → Processes (whole nan) (fresh drill) o → o .answer .unsettled ≡ 2
 count-is o p = unsettled-over (whole nan) (fresh drill) o p [] starts (accepts nan) ∙ drill-9
 
-invented : (o : BlockOutcome) → Processes (whole nan) (fresh drill) o → (n : ℕ) → (n ≡ 2 → ⊥) → o .answer .unsettled ≡ n → ⊥
+invented : (o : BlockOutcome) → Processes (whole nan) (fresh drill) o → (n : ℕ) → (n ≡ 2 → ⊥) → o .answer .unsettled ≡ n
+    → ⊥
 invented o p n other e = other (sym e ∙ count-is o p)
 
 -- ---- damage judged on the inputs
@@ -137,4 +145,5 @@ loud-accepted = refl
 -- a count that looks at the inputs alone
 inputs-only : (o : BlockOutcome) → Processes loud (fresh drill) o → o .answer .unsettled ≡ 0 → ⊥
 unfolding loud
-inputs-only o p e = suc-ne-zero 0 (sym (unsettled-over loud (fresh drill) o p [] loud-starts loud-accepted ∙ loud-unsettled) ∙ e)
+inputs-only o p e =
+    suc-ne-zero 0 (sym (unsettled-over loud (fresh drill) o p [] loud-starts loud-accepted ∙ loud-unsettled) ∙ e)

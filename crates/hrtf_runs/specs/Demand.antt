@@ -16,12 +16,14 @@ use Rattle.hrtf_checks.specs.Call.{Call}
 use Rattle.hrtf.specs.Reset.{Resets}
 use Rattle.hrtf_runs.specs.Runs.{next, fed, Alike, fedAll, soundedAll, end, unsettledCounts, sum}
 
--- "from reset with the same filters, finite weights, speaker count and filter length L throughout, .. refused calls between them, state and rings passed on untouched from call to call": t is what
--- `hrtf::reset` promises to leave of a desk and rings that it accepts
+-- "from reset with the same filters, finite weights, speaker count and filter length L throughout, .. refused calls
+-- between them, state and rings passed on untouched from call to call": t is what `hrtf::reset` promises to leave of a
+-- desk and rings that it accepts
 pub record Run (u : Setup) (t : State) (cs : List Call) : Type 0 where
   pub desk : Desk
   pub rings : List Float
-  pub reset : Resets desk (u .speakers) (u .L) rings (record { answer = record { refusal = 0; desk = t .desk }; rings = t .rings })
+  pub reset : Resets desk (u .speakers) (u .L) rings
+      (record { answer = record { refusal = 0; desk = t .desk }; rings = t .rings })
   pub finite : hasNonfinite (u .weights) ≡ false
   pub alike : Alike u t cs
 
@@ -37,10 +39,12 @@ Agree u t cs n s ds m = (k : ℕ) → k < u .L → frameAgo u (fedAll t cs) n k 
 abbrev pub damagedAmong : Setup → List (List Float) → ℕ → Bool
 damagedAmong u fs n = any (tab 0 (u .L) (λ k. damaged u (frameAgo u fs n k)))
 
--- of each call the number of its frames that have one: fs are the frames of the whole run, n of which were fed before the call
+-- of each call the number of its frames that have one: fs are the frames of the whole run, n of which were fed before
+-- the call
 abbrev pub damagedCounts : Setup → List (List Float) → ℕ → State → List Call → List ℕ
 damagedCounts u fs n t [] = []
-damagedCounts u fs n t (c ∷ cs) = count (tab n (length (fed c t)) (damagedAmong u fs)) ∷ damagedCounts u fs (n + length (fed c t)) (next c t) cs
+damagedCounts u fs n t (c ∷ cs) =
+    count (tab n (length (fed c t)) (damagedAmong u fs)) ∷ damagedCounts u fs (n + length (fed c t)) (next c t) cs
 
 -- two runs from the same rings and desk sound the same, count the same in all, and leave the same
 pub record SameRun (t : State) (cs ds : List Call) : Type 0 where
@@ -52,13 +56,20 @@ pub record Demand3 : Type 0 where
   -- every frame that is fed is played
   pub all : (u : Setup) (t : State) (cs : List Call) → Run u t cs → length (soundedAll t cs) ≡ length (fedAll t cs)
   -- (a) "both ear samples at n are document 01's sums"
-  pub sums : (u : Setup) (t : State) (cs : List Call) → Run u t cs → (n : ℕ) → n < length (fedAll t cs) → getD (soundedAll t cs) n [] ≡ earSamples u (upto u (fedAll t cs) n)
-  -- (b) "If they agree on frame n and the L-1 frames before it", they are "equal in both runs, whatever NaN or noise came earlier"
-  pub equal : (u : Setup) (t s : State) (cs ds : List Call) → Run u t cs → Run u s ds → (n m : ℕ) → n < length (fedAll t cs) → m < length (fedAll s ds) → Agree u t cs n s ds m
+  pub sums : (u : Setup) (t : State) (cs : List Call) → Run u t cs → (n : ℕ) → n < length (fedAll t cs)
+      → getD (soundedAll t cs) n [] ≡ earSamples u (upto u (fedAll t cs) n)
+  -- (b) "If they agree on frame n and the L-1 frames before it", they are "equal in both runs, whatever NaN or noise
+  -- came earlier"
+  pub equal : (u : Setup) (t s : State) (cs ds : List Call) → Run u t cs → Run u s ds → (n m : ℕ)
+      → n < length (fedAll t cs) → m < length (fedAll s ds) → Agree u t cs n s ds m
       → getD (soundedAll t cs) n [] ≡ getD (soundedAll s ds) m []
   -- and they are both unsettled there, or both settled
-  pub settled : (u : Setup) (t s : State) (cs ds : List Call) (n m : ℕ) → Agree u t cs n s ds m → damagedAmong u (fedAll t cs) n ≡ damagedAmong u (fedAll s ds) m
+  pub settled : (u : Setup) (t s : State) (cs ds : List Call) (n m : ℕ) → Agree u t cs n s ds m
+      → damagedAmong u (fedAll t cs) n ≡ damagedAmong u (fedAll s ds) m
   -- (c) "Each call's unsettled count is exactly the number of its frames with a damaged frame among those L"
-  pub counts : (u : Setup) (t : State) (cs : List Call) → Run u t cs → unsettledCounts t cs ≡ damagedCounts u (fedAll t cs) 0 t cs
-  -- (d) "each cut into blocks anywhere": the same frames, cut as they may be, and refused calls where they may be; from any rings and desk
-  pub cut : (u : Setup) (t : State) (cs ds : List Call) → Alike u t cs → Alike u t ds → fedAll t cs ≡ fedAll t ds → SameRun t cs ds
+  pub counts : (u : Setup) (t : State) (cs : List Call) → Run u t cs
+      → unsettledCounts t cs ≡ damagedCounts u (fedAll t cs) 0 t cs
+  -- (d) "each cut into blocks anywhere": the same frames, cut as they may be, and refused calls where they may be; from
+  -- any rings and desk
+  pub cut : (u : Setup) (t : State) (cs ds : List Call) → Alike u t cs → Alike u t ds → fedAll t cs ≡ fedAll t ds
+      → SameRun t cs ds

@@ -1,5 +1,6 @@
--- A bank file is read, speakers are set up from it, rings are reset, and blocks are played: where the file keeps the form, none of these is refused, whatever is heard (`NeverRefused`, shown in
--- proofs/NeverRefused.antt). Definitions only.
+-- A bank file is read, speakers are set up from it, rings are reset, and blocks are played: where the file keeps the
+-- form, none of these is refused, whatever is heard (`NeverRefused`, shown in proofs/NeverRefused.antt). Definitions
+-- only.
 use Prim.Native.Nat.{ℕ, _*_, _≤_, _<_}
 use mathlib.Core.Path.{_≡_}
 use mathlib.Core.Bool.{false}
@@ -20,9 +21,15 @@ use Rattle.hrtf_setup.specs.Arrangement.{Wanted, Arrangement}
 use Rattle.hrtf_setup.specs.Promise.{Arranges, NewSurround, NewAmbisonic}
 use Rattle.hrtf_runs.specs.Runs.{next}
 
--- a call that is made of a bank and of what a set-up left: their counts, weights, rows and taps, and planes as long as its frames need
+-- a call that is made of a bank and of what a set-up left: their counts, weights, rows and taps, and planes as long as
+-- its frames need
 pub record Fitted (b : Form.Bank) (o : Arrangement) (c : Call) : Type 0 where
-  pub shape : c .shape ≡ record { channels = o .answer .channels; speakers = o .answer .speakers; rows = Form.rows b; length = b .length }
+  pub shape : c .shape ≡ record {
+    channels = o .answer .channels;
+    speakers = o .answer .speakers;
+    rows = Form.rows b;
+    length = b .length;
+  }
   pub weights : c .weights ≡ o .weights
   pub rows : c .rows ≡ o .rows
   pub taps : c .taps ≡ b .taps
@@ -53,20 +60,29 @@ pub record BankAccepted (r : ReadOutcome) : Type 0 where
 -- whatever `hrtf::reset` accepts and leaves: no call that is made of that bank and set-up is refused
 abbrev pub AlwaysPlays : ReadOutcome → Arrangement → Type 0
 AlwaysPlays r o =
-    (d : Desk) (rings : List Float) (t : State) → Resets d (o .answer .speakers) (r .answer .length) rings (record { answer = record { refusal = 0; desk = t .desk }; rings = t .rings })
+    (d : Desk) (rings : List Float) (t : State) → Resets d (o .answer .speakers) (r .answer .length) rings
+    (record { answer = record { refusal = 0; desk = t .desk }; rings = t .rings })
     → (cs : List Call) → AllFitted (bankFound r) o cs → NoneRefused t cs
 
 pub record NeverRefused : Type 0 where
   -- a file that keeps the form is read, in either version
-  pub reads : (file : List ℕ) (v : ℕ) (b : Form.Bank) → IsFile v file b → (zs es : List ℤ) (xs : List Float) → length zs ≡ 8 → length es ≡ 8 → length xs ≡ 8192 → (r : ReadOutcome) → Reads file zs es xs r → r .answer .refusal ≡ 0
+  pub reads : (file : List ℕ) (v : ℕ) (b : Form.Bank) → IsFile v file b → (zs es : List ℤ) (xs : List Float)
+      → length zs ≡ 8 → length es ≡ 8 → length xs ≡ 8192 → (r : ReadOutcome) → Reads file zs es xs r
+      → r .answer .refusal ≡ 0
   -- speakers that are offered are set up from it, weights of their number being lent
-  pub arranges : (r : ReadOutcome) → BankAccepted r → (w : Wanted) → w .check .holds ≡ false → (weights : List Float) (given : List ℕ) (o : Arrangement) → length weights ≡ w .speakers * w .channels
+  pub arranges : (r : ReadOutcome) → BankAccepted r → (w : Wanted) → w .check .holds ≡ false
+      → (weights : List Float) (given : List ℕ) (o : Arrangement) → length weights ≡ w .speakers * w .channels
       → Arranges w (r .azimuths) (r .elevations) (r .answer .rows) weights given o → o .answer .refusal ≡ 0
   -- rings of the cells that they need are reset
-  pub rests : (r : ReadOutcome) → BankAccepted r → (d : Desk) (speakers : ℕ) (rings : List Float) (a : ResetOutcome) → 0 < speakers → speakers ≤ 8 → length rings ≡ speakers * r .answer .length
+  pub rests : (r : ReadOutcome) → BankAccepted r → (d : Desk) (speakers : ℕ) (rings : List Float) (a : ResetOutcome)
+      → 0 < speakers → speakers ≤ 8 → length rings ≡ speakers * r .answer .length
       → Resets d speakers (r .answer .length) rings a → a .answer .refusal ≡ 0
   -- and then every call is accepted
-  pub surround : (r : ReadOutcome) → BankAccepted r → (l : Layout) (weights : List Float) (given : List ℕ) (o : Arrangement) → length given ≡ 8
-      → NewSurround l (r .azimuths) (r .elevations) (r .answer .rows) weights given o → o .answer .refusal ≡ 0 → AlwaysPlays r o
-  pub ambisonic : (r : ReadOutcome) → BankAccepted r → (n : ℕ) (weights : List Float) (given : List ℕ) (o : Arrangement) → length given ≡ 8
-      → NewAmbisonic n (r .azimuths) (r .elevations) (r .answer .rows) weights given o → o .answer .refusal ≡ 0 → AlwaysPlays r o
+  pub surround : (r : ReadOutcome) → BankAccepted r → (l : Layout) (weights : List Float) (given : List ℕ)
+      (o : Arrangement) → length given ≡ 8
+      → NewSurround l (r .azimuths) (r .elevations) (r .answer .rows) weights given o → o .answer .refusal ≡ 0
+      → AlwaysPlays r o
+  pub ambisonic : (r : ReadOutcome) → BankAccepted r → (n : ℕ) (weights : List Float) (given : List ℕ) (o : Arrangement)
+      → length given ≡ 8
+      → NewAmbisonic n (r .azimuths) (r .elevations) (r .answer .rows) weights given o → o .answer .refusal ≡ 0
+      → AlwaysPlays r o

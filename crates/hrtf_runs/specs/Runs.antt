@@ -1,4 +1,5 @@
--- A run: calls of `process` one after another, the rings and the desk passed on untouched. A call may be refused; it then feeds nothing and leaves all as it was. Definitions only.
+-- A run: calls of `process` one after another, the rings and the desk passed on untouched. A call may be refused; it
+-- then feeds nothing and leaves all as it was. Definitions only.
 use Prim.Native.Nat.{ℕ, _+_}
 use mathlib.Core.Path.{_≡_}
 use mathlib.Core.List.{List, [], _∷_, _++_}
@@ -24,7 +25,8 @@ fedBy n fs = answered n fs (λ k. [])
 abbrev pub fed : Call → State → List (List Float)
 fed c t = fedBy (refusalOf c t) (framesIn c)
 
--- the ear samples of the frames that it says it played, read from the two ear planes as it leaves them: for each frame left, then right
+-- the ear samples of the frames that it says it played, read from the two ear planes as it leaves them: for each frame
+-- left, then right
 abbrev pub sounded : Call → State → List (List Float)
 sounded c t = framesOf (outcome c t .ears) (c .stride) 2 (outcome c t .answer .samples)
 

@@ -1,5 +1,6 @@
--- What an accepted set-up leaves fits the convolver: speakers and channels as many as it plays, finite weights, and for each speaker a row of the bank, which at one elevation is document 01's. And which
--- set-ups are accepted. Assumes nothing.
+-- What an accepted set-up leaves fits the convolver: speakers and channels as many as it plays, finite weights, and for
+-- each speaker a row of the bank, which at one elevation is document 01's. And which set-ups are accepted. Assumes
+-- nothing.
 use mathlib.Core.Path.{_≡_, refl, sym, ap, _∙_, subst}
 use mathlib.Core.Bool.{Bool, true, false, cond}
 use mathlib.Core.List.{List, _∷_}
@@ -48,7 +49,8 @@ weight-finite (Of l) s c h = own-finite s c
 weight-finite (Virtual order) s c h =
     let o = outcome order (positionOf s) in
     let kept = outcome-kept order (positionOf s) in
-    sound-at (o .weights) c (weights-sound order (positionOf s) o kept) (subst (λ (n : ℕ). c < n) (sym (weights-length order (positionOf s) o kept)) h)
+    sound-at (o .weights) c (weights-sound order (positionOf s) o kept)
+    (subst (λ (n : ℕ). c < n) (sym (weights-length order (positionOf s) o kept)) h)
 
 -- ---- what an accepted set-up leaves
 
@@ -63,12 +65,16 @@ pub record Playable (rows : ℕ) (o : Arrangement) : Type 0 where
 abbrev Few : Wanted → Type 0
 Few w = ((0 < w .speakers) × (w .speakers ≤ 8)) × ((0 < w .channels) × (w .channels ≤ 16))
 
-module _ (w : Wanted) (azimuths elevations : List ℤ) (rows : ℕ) (weights : List Float) (given : List ℕ) (o : Arrangement) (a : Arranges w azimuths elevations rows weights given o) where
+module _ (w : Wanted) (azimuths elevations : List ℤ) (rows : ℕ) (weights : List Float) (given : List ℕ)
+    (o : Arrangement) (a : Arranges w azimuths elevations rows weights given o) where
   -- the number answered is the one that is asked for
   refusal-told : o .answer .refusal ≡ refusalOf w azimuths elevations rows weights
-  refusal-told = ap (λ (q : Arrangement). q .answer .refusal) (a .bits ∙ by-wanted w azimuths elevations rows weights given (refusalOf w azimuths elevations rows weights) refl) ∙ go (refusalOf w azimuths elevations rows weights)
+  refusal-told = ap (λ (q : Arrangement). q .answer .refusal)
+      (a .bits ∙ by-wanted w azimuths elevations rows weights given (refusalOf w azimuths elevations rows weights)
+      refl) ∙ go (refusalOf w azimuths elevations rows weights)
     where
-      go : (n : ℕ) → arrangedBy n (w .whose) (w .speakers) (w .channels) azimuths elevations rows weights given .answer .refusal ≡ n
+      go : (n : ℕ) → arrangedBy n (w .whose) (w .speakers) (w .channels) azimuths elevations rows weights
+          given .answer .refusal ≡ n
       go zero = refl
       go (suc n) = refl
 
@@ -78,7 +84,8 @@ module _ (w : Wanted) (azimuths elevations : List ℤ) (rows : ℕ) (weights : L
   -- where the bank's rows stand at one elevation, each speaker takes the row that document 01 names
   pub flat-rows : refusalOf w azimuths elevations rows weights ≡ 0 → Flat elevations rows → (s : ℕ)
       → TakesByAzimuth azimuths rows (tenthsAt (w .whose) s) (rowAt (w .whose) azimuths elevations rows s)
-  flat-rows z flat s = flat-as-before azimuths elevations rows (tenthsAt (w .whose) s) speakerElevation flat (rowAt (w .whose) azimuths elevations rows s) .0 (a .words .takes z s)
+  flat-rows z flat s = flat-as-before azimuths elevations rows (tenthsAt (w .whose) s) speakerElevation flat
+      (rowAt (w .whose) azimuths elevations rows s) .0 (a .words .takes z s)
 
   module _ (few : Few w) (eight : length given ≡ 8) (z : refusalOf w azimuths elevations rows weights ≡ 0) where
     is : o ≡ arrangedBy 0 (w .whose) (w .speakers) (w .channels) azimuths elevations rows weights given
@@ -91,50 +98,80 @@ module _ (w : Wanted) (azimuths elevations : List ℤ) (rows : ℕ) (weights : L
     row-is s h =
         let f = rowAt (w .whose) azimuths elevations rows in
         let n : length (tab 0 (w .speakers) f) ≡ w .speakers = length-tab 0 (w .speakers) f in
-        ap (λ (l : List ℕ). getD l s 0) (rows-are ∙ sets-eq (tab 0 (w .speakers) f) given 0 (omega (arith, n, eight, few .0 .1)))
-        ∙ List·getD-append (tab 0 (w .speakers) f) (drop (0 + length (tab 0 (w .speakers) f)) given) 0 s (omega (arith, n, h))
+        ap (λ (l : List ℕ). getD l s 0)
+        (rows-are ∙ sets-eq (tab 0 (w .speakers) f) given 0 (omega (arith, n, eight, few .0 .1)))
+        ∙ List·getD-append (tab 0 (w .speakers) f) (drop (0 + length (tab 0 (w .speakers) f)) given) 0 s
+        (omega (arith, n, h))
         ∙ getD-tab 0 (w .speakers) f s 0 h
         ∙ ap f (zero-add s)
 
     playable : Playable rows o
     playable =
-        let counted : (o .answer .speakers ≡ w .speakers) × (o .answer .channels ≡ w .channels) = (ap (λ (q : Arrangement). q .answer .speakers) is, ap (λ (q : Arrangement). q .answer .channels) is) in
+        let counted : (o .answer .speakers ≡ w .speakers) × (o .answer .channels ≡ w .channels) = (
+          ap
+              (λ (q : Arrangement). q .answer .speakers) is,
+          ap (λ (q : Arrangement). q .answer .channels) is,
+        ) in
         record {
           speakers = subst (λ (n : ℕ). (0 < n) × (n ≤ 8)) (sym (counted .0)) (few .0);
           channels = subst (λ (n : ℕ). (0 < n) × (n ≤ 16)) (sym (counted .1)) (few .1);
-          weighed = ap (λ (q : Arrangement). length (q .weights)) is ∙ length-tab 0 (w .speakers * w .channels) (weightAt (w .whose) (w .channels))
+          weighed = ap (λ (q : Arrangement). length (q .weights)) is
+              ∙ length-tab 0 (w .speakers * w .channels) (weightAt (w .whose) (w .channels))
               ∙ sym (ap (λ (q : Arrangement). q .answer .speakers * q .answer .channels) is);
           sound = ap (λ (q : Arrangement). hasNonfinite (q .weights)) is
               ∙ sound-tab 0 (w .speakers * w .channels) (weightAt (w .whose) (w .channels))
-              (λ i. weight-finite (w .whose) _ (i % w .channels) (omega (arith, mod-lt i {m = w .channels} (few .1 .0), few .1 .1)));
+              (λ i. weight-finite (w .whose) _ (i % w .channels)
+              (omega (arith, mod-lt i {m = w .channels} (few .1 .0), few .1 .1)));
           chosen = λ s h. let g : s < w .speakers = subst (λ (n : ℕ). s < n) (counted .0) h in
               subst (λ (r : ℕ). r < rows) (sym (row-is s g)) (a .words .takes z s .among);
         }
 
--- ---- which set-ups are accepted: speakers that are offered, 1 to 8 rows of lists of 8 azimuths and 8 elevations, and as many weights as there are
+-- ---- which set-ups are accepted: speakers that are offered, 1 to 8 rows of lists of 8 azimuths and 8 elevations, and
+-- as many weights as there are
 
-pub set-up : (w : Wanted) (azimuths elevations : List ℤ) (rows : ℕ) (weights : List Float) → w .check .holds ≡ false → outside rows 8 ≡ false → length azimuths ≡ 8 → length elevations ≡ 8
+pub set-up : (w : Wanted) (azimuths elevations : List ℤ) (rows : ℕ) (weights : List Float) → w .check .holds ≡ false
+    → outside rows 8 ≡ false → length azimuths ≡ 8 → length elevations ≡ 8
     → length weights ≡ w .speakers * w .channels → refusalOf w azimuths elevations rows weights ≡ 0
 unfolding refusalOf
 set-up w azimuths elevations rows weights h few full high long =
-    off-accepts (w .check ∷ laterChecks (w .speakers * w .channels) azimuths elevations rows weights)
-    (h, (few, (equal-passes (length azimuths) 8 full, (equal-passes (length elevations) 8 high, (equal-passes (length weights) (w .speakers * w .channels) long, tt)))))
+    off-accepts (w .check ∷ laterChecks (w .speakers * w .channels) azimuths elevations rows weights) (
+      h,
+      (
+        few,
+        (
+          equal-passes (length azimuths) 8 full,
+          (
+            equal-passes (length elevations) 8 high,
+            (equal-passes (length weights) (w .speakers * w .channels) long, tt),
+          ),
+        ),
+      ),
+    )
 
 -- ---- each of the two
 
-pub ambisonic-arranges : (order : ℕ) (azimuths elevations : List ℤ) (rows : ℕ) (weights : List Float) (given : List ℕ) (o : Arrangement)
-    → NewAmbisonic order azimuths elevations rows weights given o → Arranges (ofOrder order) azimuths elevations rows weights given o
-ambisonic-arranges order azimuths elevations rows weights given o p = record { bits = p .bits; words = p .words .arranges }
+pub ambisonic-arranges : (order : ℕ) (azimuths elevations : List ℤ) (rows : ℕ) (weights : List Float) (given : List ℕ)
+    (o : Arrangement)
+    → NewAmbisonic order azimuths elevations rows weights given o
+    → Arranges (ofOrder order) azimuths elevations rows weights given o
+ambisonic-arranges order azimuths elevations rows weights given o p =
+    record { bits = p .bits; words = p .words .arranges }
 
-module _ (azimuths elevations : List ℤ) (rows : ℕ) (weights : List Float) (given : List ℕ) (o : Arrangement) (eight : length given ≡ 8) (e : o .answer .refusal ≡ 0) where
+module _ (azimuths elevations : List ℤ) (rows : ℕ) (weights : List Float) (given : List ℕ) (o : Arrangement)
+    (eight : length given ≡ 8) (e : o .answer .refusal ≡ 0) where
   pub surround-playable : (l : Layout) → NewSurround l azimuths elevations rows weights given o → Playable rows o
   surround-playable l p =
       let z = accepted-of (ofLayout l) azimuths elevations rows weights given o p e in
-      let f = surround-few l (not-false (surround l) (offered (ofLayout l) azimuths elevations rows weights 1 refl z)) in
+      let f = surround-few l
+      (not-false (surround l) (offered (ofLayout l) azimuths elevations rows weights 1 refl z)) in
       playable (ofLayout l) azimuths elevations rows weights given o p (f, (f .0, omega (arith, f .1))) eight z
 
   pub ambisonic-playable : (order : ℕ) → NewAmbisonic order azimuths elevations rows weights given o → Playable rows o
   ambisonic-playable order p =
-      let z = accepted-of (ofOrder order) azimuths elevations rows weights given o (ambisonic-arranges order azimuths elevations rows weights given o p) e in
-      playable (ofOrder order) azimuths elevations rows weights given o (ambisonic-arranges order azimuths elevations rows weights given o p)
-      (by-order (λ (n : ℕ). Few (ofOrder n)) ((lit< tt, lit≤ tt), (lit< tt, lit≤ tt)) ((lit< tt, lit≤ tt), (lit< tt, lit≤ tt)) ((lit< tt, lit≤ tt), (lit< tt, lit≤ tt)) order (offered (ofOrder order) azimuths elevations rows weights 0 refl z)) eight z
+      let z = accepted-of (ofOrder order) azimuths elevations rows weights given o
+      (ambisonic-arranges order azimuths elevations rows weights given o p) e in
+      playable (ofOrder order) azimuths elevations rows weights given o
+      (ambisonic-arranges order azimuths elevations rows weights given o p)
+      (by-order (λ (n : ℕ). Few (ofOrder n)) ((lit< tt, lit≤ tt), (lit< tt, lit≤ tt))
+      ((lit< tt, lit≤ tt), (lit< tt, lit≤ tt)) ((lit< tt, lit≤ tt), (lit< tt, lit≤ tt)) order
+      (offered (ofOrder order) azimuths elevations rows weights 0 refl z)) eight z

@@ -1,4 +1,5 @@
--- Where speakers stand in tenths: from -1800 to 1800, by one test over each table of angles, so that row choice accepts them and an i16 holds them. Assumes nothing.
+-- Where speakers stand in tenths: from -1800 to 1800, by one test over each table of angles, so that row choice accepts
+-- them and an i16 holds them. Assumes nothing.
 use mathlib.Core.Path.{_≡_, sym, ap, _∙_, subst}
 use mathlib.Core.Bool.{true}
 use Prim.Native.Nat.{ℕ, _+_, _*_}
@@ -20,7 +21,8 @@ use Rattle.hrtf_setup.specs.Speakers.{tenthsAt}
 ten-times : (z : ℤ) → T (turned z) → inTenths (z *ℤ pos 10) ≡ true
 unfolding inTenths
 ten-times (pos n) t = rw (le-leb (n * 10) 1800 (omega (arith, leb→le n 180 t)))
-ten-times (negsuc n) t = subst (λ (k : ℕ). inTenths (negℤ (pos k)) ≡ true) (sym (ten-more n)) (rw (le-leb (n * 10 + 9) 1799 (omega (arith, leb→le n 179 t))))
+ten-times (negsuc n) t = subst (λ (k : ℕ). inTenths (negℤ (pos k)) ≡ true) (sym (ten-more n))
+    (rw (le-leb (n * 10 + 9) 1799 (omega (arith, leb→le n 179 t))))
 
 pub stands : (k : Speakers) (s : ℕ) → inTenths (tenthsAt k s) ≡ true
 stands (Of l) s = ten-times (degreesOf l s) (speaker-turned l s)

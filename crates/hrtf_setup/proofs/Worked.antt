@@ -1,5 +1,6 @@
--- The promises can be met, and what they say of a small bank: rows at 30 and 0 degrees, 5.1. The LFE, which points nowhere, takes the row for 0 degrees. Where a row stands above the speakers, the level
--- one is taken. Answers that refuse always, that leave the elevations out of account, or that accept seven of them are refuted. Assumes nothing.
+-- The promises can be met, and what they say of a small bank: rows at 30 and 0 degrees, 5.1. The LFE, which points
+-- nowhere, takes the row for 0 degrees. Where a row stands above the speakers, the level one is taken. Answers that
+-- refuse always, that leave the elevations out of account, or that accept seven of them are refuted. Assumes nothing.
 use mathlib.Core.Path.{_≡_, refl, sym, ap, _∙_}
 use mathlib.Core.Bool.{true, true≢false}
 use mathlib.Core.List.{List, [], _∷_}
@@ -69,27 +70,34 @@ accepts-order : refusalOf (ofOrder 3) bank flat 2 (replicate 128 nan) ≡ 0
 unfolding refusalOf bank flat
 accepts-order = refl
 
-refuses-51 : (given : List ℕ) (o : Arrangement) → NewSurround Surround51 bank flat 2 (replicate 36 nan) given o → (n : ℕ) → o .answer .refusal ≡ suc n → ⊥
+refuses-51 : (given : List ℕ) (o : Arrangement) → NewSurround Surround51 bank flat 2 (replicate 36 nan) given o
+    → (n : ℕ) → o .answer .refusal ≡ suc n → ⊥
 unfolding refusalOf bank flat arrangement
 refuses-51 given o p n e = suc-ne-zero n (sym e ∙ ap (λ (q : Arrangement). q .answer .refusal) (p .bits))
 
-refuses-order : (given : List ℕ) (o : Arrangement) → NewAmbisonic 3 bank flat 2 (replicate 128 nan) given o → (n : ℕ) → o .answer .refusal ≡ suc n → ⊥
+refuses-order : (given : List ℕ) (o : Arrangement) → NewAmbisonic 3 bank flat 2 (replicate 128 nan) given o → (n : ℕ)
+    → o .answer .refusal ≡ suc n → ⊥
 unfolding refusalOf bank flat arrangement
 refuses-order given o p n e = suc-ne-zero n (sym e ∙ ap (λ (q : Arrangement). q .answer .refusal) (p .bits))
 
 -- ---- leaves the elevations out of account: the rows put for a bank with a raised row are those of a flat one
 
-ignores-elevations : (o : Arrangement) → NewSurround Surround51 bank raised 2 (replicate 36 nan) (replicate 8 0) o → o .rows ≡ rowsOf (Of Surround51) 6 bank flat 2 (replicate 8 0) → ⊥
-unfolding refusalOf bank flat raised arrangement choiceOf choiceRefusal inTenths isElevation nearestFrom nearer key elevationAway apart
-ignores-elevations o p e = let z : _≡_ {A = ℕ} 0 1 = ap (λ (l : List ℕ). getD l 0 0) (sym e ∙ ap (λ (q : Arrangement). q .rows) (p .bits)) in omega arith
+ignores-elevations : (o : Arrangement) → NewSurround Surround51 bank raised 2 (replicate 36 nan) (replicate 8 0) o
+    → o .rows ≡ rowsOf (Of Surround51) 6 bank flat 2 (replicate 8 0) → ⊥
+unfolding refusalOf bank flat raised arrangement choiceOf choiceRefusal inTenths isElevation nearestFrom nearer key
+    elevationAway apart
+ignores-elevations o p e = let z : _≡_ {A = ℕ} 0 1 = ap (λ (l : List ℕ). getD l 0 0)
+    (sym e ∙ ap (λ (q : Arrangement). q .rows) (p .bits)) in omega arith
 
 -- ---- accepts a list of seven elevations
 
-accepts-seven : (l : Layout) (azimuths elevations : List ℤ) (rows : ℕ) (weights : List Float) (given : List ℕ) (o : Arrangement) → NewSurround l azimuths elevations rows weights given o
+accepts-seven : (l : Layout) (azimuths elevations : List ℤ) (rows : ℕ) (weights : List Float) (given : List ℕ)
+    (o : Arrangement) → NewSurround l azimuths elevations rows weights given o
     → length elevations ≡ 7 → o .answer .refusal ≡ 0 → ⊥
 unfolding refusalOf
 accepts-seven l azimuths elevations rows weights given o p seven e =
     let w = ofLayout l in
-    let off = none-holds (w .check ∷ laterChecks (w .speakers * w .channels) azimuths elevations rows weights) tt (accepted-of w azimuths elevations rows weights given o p e) in
+    let off = none-holds (w .check ∷ laterChecks (w .speakers * w .channels) azimuths elevations rows weights) tt
+    (accepted-of w azimuths elevations rows weights given o p e) in
     let eight = is-equal (length elevations) 8 (off .1 .1 .1 .0) in
     omega arith

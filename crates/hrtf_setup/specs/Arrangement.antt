@@ -1,5 +1,5 @@
--- Everything that a set-up hands back, by its refusal: first what the operation offers, then 2 (bank rows not 1..8) and 5 (a list of azimuths or of elevations that is not of 8, weights other than
--- speakers x channels). Definitions only.
+-- Everything that a set-up hands back, by its refusal: first what the operation offers, then 2 (bank rows not 1..8) and
+-- 5 (a list of azimuths or of elevations that is not of 8, weights other than speakers x channels). Definitions only.
 use Prim.Native.Nat.{ℕ, _*_}
 use mathlib.Core.Bool.{not}
 use mathlib.Core.List.{List, [], _∷_}
@@ -22,13 +22,15 @@ pub record Wanted : Type 0 where
 
 abbrev pub laterChecks : ℕ → List ℤ → List ℤ → ℕ → List Float → List Check
 laterChecks size azimuths elevations rows weights =
-    2 when outside rows 8 ∷ 5 when not (eqb (length azimuths) 8) ∷ 5 when not (eqb (length elevations) 8) ∷ 5 when not (eqb (length weights) size) ∷ []
+    2 when outside rows 8 ∷ 5 when not (eqb (length azimuths) 8) ∷ 5 when not (eqb (length elevations) 8)
+    ∷ 5 when not (eqb (length weights) size) ∷ []
 
 unfoldable pub laterRefusal : ℕ → List ℤ → List ℤ → ℕ → List Float → ℕ
 laterRefusal size azimuths elevations rows weights = firstOf (laterChecks size azimuths elevations rows weights)
 
 unfoldable pub refusalOf : Wanted → List ℤ → List ℤ → ℕ → List Float → ℕ
-refusalOf w azimuths elevations rows weights = firstOf (w .check ∷ laterChecks (w .speakers * w .channels) azimuths elevations rows weights)
+refusalOf w azimuths elevations rows weights =
+    firstOf (w .check ∷ laterChecks (w .speakers * w .channels) azimuths elevations rows weights)
 
 -- the answer, and what the two lists hold
 pub record Arrangement : Type 0 where
@@ -47,4 +49,5 @@ arrangedBy n k speakers channels azimuths elevations rows weights given =
     (λ m. record { answer = record { refusal = m; speakers = 0; channels = 0 }; weights = weights; rows = given })
 
 unfoldable pub arrangement : Wanted → List ℤ → List ℤ → ℕ → List Float → List ℕ → Arrangement
-arrangement w azimuths elevations rows weights given = arrangedBy (refusalOf w azimuths elevations rows weights) (w .whose) (w .speakers) (w .channels) azimuths elevations rows weights given
+arrangement w azimuths elevations rows weights given = arrangedBy (refusalOf w azimuths elevations rows weights)
+    (w .whose) (w .speakers) (w .channels) azimuths elevations rows weights given

@@ -1,5 +1,6 @@
--- Document 01, 'Sums': "A surround weight is 1.0 at its own channel and 0.0 elsewhere", "LFE uses the 0 degree filters"; the virtual speakers of 003 stand at eight positions, and their weights are the
--- weighted coefficients there. Where the speakers stand, the bank row of each, and its weights. Definitions only.
+-- Document 01, 'Sums': "A surround weight is 1.0 at its own channel and 0.0 elsewhere", "LFE uses the 0 degree
+-- filters"; the virtual speakers of 003 stand at eight positions, and their weights are the weighted coefficients
+-- there. Where the speakers stand, the bank row of each, and its weights. Definitions only.
 use Prim.Native.Nat.{ℕ, _/_, _%_}
 use mathlib.Core.Bool.{cond}
 use mathlib.Core.List.{List}

@@ -63,7 +63,8 @@ fn choose_rows(
     rows: usize,
 )
     requires { ⌜ speakers ≤ 8 ⌝ }
-    ensures { λ _. ⌜ now («row_of» .exit) ≡ rowsOf whose speakers (now (azimuths .entry)) (now (elevations .entry)) rows (now («row_of» .entry)) ⌝ }
+    ensures { λ _. ⌜ now («row_of» .exit) ≡ rowsOf whose speakers (now (azimuths .entry)) (now (elevations .entry)) rows
+        (now («row_of» .entry)) ⌝ }
 {
     let mut s = 0;
     while s < speakers {
@@ -130,7 +131,9 @@ fn arrange(
 ) -> Arranged
     requires { ⌜ (speakers ≤ 8) × (0 < channels) × (channels ≤ 16) ⌝ }
     ensures { λ r. ⌜ record { answer = r; weights = now (weights .exit); rows = now («row_of» .exit) }
-        ≡ arrangedBy (laterRefusal (speakers * channels) (now (azimuths .entry)) (now (elevations .entry)) rows (now (weights .entry))) whose speakers channels (now (azimuths .entry)) (now (elevations .entry)) rows (now (weights .entry)) (now («row_of» .entry)) ⌝ }
+        ≡ arrangedBy (laterRefusal (speakers * channels) (now (azimuths .entry)) (now (elevations .entry)) rows
+        (now (weights .entry))) whose speakers channels (now (azimuths .entry)) (now (elevations .entry)) rows
+        (now (weights .entry)) (now («row_of» .entry)) ⌝ }
 {
     if refusals::is_outside(rows, 8) {
         return unarranged(2);
@@ -162,7 +165,8 @@ pub fn new_surround(
     weights: &mut [f64],
     row_of: &mut [usize; 8],
 ) -> Arranged
-    ensures { λ r. ⌜ NewSurround layout (now (azimuths .entry)) (now (elevations .entry)) rows (now (weights .entry)) (now («row_of» .entry))
+    ensures { λ r. ⌜ NewSurround layout (now (azimuths .entry)) (now (elevations .entry)) rows (now (weights .entry))
+        (now («row_of» .entry))
         (record { answer = r; weights = now (weights .exit); rows = now («row_of» .exit) }) ⌝ }
 {
     if !channel::is_surround(layout) {
@@ -191,7 +195,8 @@ pub fn new_ambisonic(
     weights: &mut [f64],
     row_of: &mut [usize; 8],
 ) -> Arranged
-    ensures { λ r. ⌜ NewAmbisonic order (now (azimuths .entry)) (now (elevations .entry)) rows (now (weights .entry)) (now («row_of» .entry))
+    ensures { λ r. ⌜ NewAmbisonic order (now (azimuths .entry)) (now (elevations .entry)) rows (now (weights .entry))
+        (now («row_of» .entry))
         (record { answer = r; weights = now (weights .exit); rows = now («row_of» .exit) }) ⌝ }
 {
     let counted = channel::ambisonic_channel_count(order);

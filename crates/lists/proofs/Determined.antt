@@ -1,4 +1,5 @@
--- An answer of which a promise says what it is equal to is determined: no two answers meet the promise. What every uniqueness theorem cites. Assumes nothing.
+-- An answer of which a promise says what it is equal to is determined: no two answers meet the promise. What every
+-- uniqueness theorem cites. Assumes nothing.
 use mathlib.Core.Path.{_≡_, sym, _∙_}
 use Rattle.lists.specs.OneAnswer.{OneAnswer}
 

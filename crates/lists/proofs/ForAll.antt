@@ -1,4 +1,5 @@
--- Lists of which each element is of a kind: shown of those that are there (`each-in`), of a test that each passes, and of a list's parts. Assumes nothing.
+-- Lists of which each element is of a kind: shown of those that are there (`each-in`), of a test that each passes, and
+-- of a list's parts. Assumes nothing.
 use mathlib.Core.Path.{_≡_}
 use mathlib.Core.Bool.{Bool, true}
 use mathlib.Core.List.{List, [], _∷_, _++_}
@@ -19,7 +20,8 @@ module _ {A : Type 0} (P : A → Type 0) (d : A) where
         | no g ↦ rw (List·getD-eq-default xs d {n = i} (omega arith)) k
       ]
 
-  pub each-every : (p : A → Bool) → ((x : A) → p x ≡ true → P x) → P d → (xs : List A) → every p xs ≡ true → ForAll P d xs
+  pub each-every : (p : A → Bool) → ((x : A) → p x ≡ true → P x) → P d → (xs : List A) → every p xs ≡ true
+      → ForAll P d xs
   each-every p f k xs h = each-in xs k (λ i g. f (getD xs i d) (every-at p xs d i h g))
 
   pub each-drop : (m : ℕ) (xs : List A) → ForAll P d xs → ForAll P d (drop m xs)
@@ -36,4 +38,5 @@ module _ {A : Type 0} (P : A → Type 0) (d : A) where
   ]
 
   pub each-replicate : (n : ℕ) → P d → ForAll P d (replicate n d)
-  each-replicate n k = each-in (replicate n d) k (λ i h. rw (getD-replicate n i d d (omega (arith, h, length-replicate n d))) k)
+  each-replicate n k =
+      each-in (replicate n d) k (λ i h. rw (getD-replicate n i d d (omega (arith, h, length-replicate n d))) k)

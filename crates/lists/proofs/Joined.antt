@@ -17,7 +17,8 @@ module _ {A B : Type 0} (f : A → List B) where
   pub joined-append : (xs ys : List A) → flatMap f (xs ++ ys) ≡ flatMap f xs ++ flatMap f ys
   unfolding flatMap
   joined-append [] ys = refl
-  joined-append (x ∷ xs) ys = ap (λ (t : List B). f x ++ t) (joined-append xs ys) ∙ sym (append-assoc (f x) (flatMap f xs) (flatMap f ys))
+  joined-append (x ∷ xs) ys =
+      ap (λ (t : List B). f x ++ t) (joined-append xs ys) ∙ sym (append-assoc (f x) (flatMap f xs) (flatMap f ys))
 
   pub joined-one : (x : A) → flatMap f (x ∷ []) ≡ f x
   unfolding flatMap

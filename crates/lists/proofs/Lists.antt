@@ -1,4 +1,5 @@
--- Laws of lists that the library lacks: a place beyond the end, what is left of a part, a list read backwards, and a list of one value. Assumes nothing.
+-- Laws of lists that the library lacks: a place beyond the end, what is left of a part, a list read backwards, and a
+-- list of one value. Assumes nothing.
 use mathlib.Core.Path.{_≡_, refl, sym, ap, _∙_}
 use mathlib.Core.Bool.{Bool, true, false, cond}
 use mathlib.Core.Logic.{_⊎_, inl, inr, ⊎-elim}
@@ -6,7 +7,8 @@ use mathlib.Core.List.{List, [], _∷_, _++_, reverse, reverse-cons}
 use Prim.Native.Nat.{ℕ, zero, suc, _+_, _-_, _≤_, _<_, min, zero-le, suc-le-suc}
 use native.Mathlib.Nat.{not-suc-le-zero, le-of-suc-le-suc, sub-zero, zero-sub, suc-sub-suc}
 use native.Mathlib.Omega.{arith}
-use lib.ListN.{length, getD, set, take, drop, replicate, length-reverse, length-replicate, getD-replicate, drop-of-length-le, List·getD-append, List·getD-eq-default}
+use lib.ListN.{length, getD, set, take, drop, replicate, length-reverse, length-replicate, getD-replicate}
+use lib.ListN.{drop-of-length-le, List·getD-append, List·getD-eq-default}
 use lib.Seq.{getD-append-add, set-out, take-all, take-nil, ext-getD}
 
 -- of two numbers the first is below the second, or it is not
@@ -59,7 +61,8 @@ module _ {A : Type 0} where
       ∙ getD-reverse xs k d lt ∙ ap (λ (i : ℕ). getD (x ∷ xs) i d) (inner (length xs) k lt))
       (λ (ge : length xs ≤ k).
       ap (λ (i : ℕ). getD (reverse xs ++ (x ∷ [])) i d) (outer ge)
-      ∙ getD-append-add (reverse xs) (x ∷ []) 0 d ∙ ap (λ (i : ℕ). getD (x ∷ xs) i d) (last (length xs) k ge (omega arith)))
+      ∙ getD-append-add (reverse xs) (x ∷ []) 0 d ∙ ap (λ (i : ℕ). getD (x ∷ xs) i d)
+      (last (length xs) k ge (omega arith)))
       (split k (length xs))
     where
       inner : (n k : ℕ) → k < n → suc (n - 1 - k) ≡ suc n - 1 - k
@@ -76,7 +79,8 @@ module _ {A : Type 0} where
       ext-getD a (reverse (replicate n a)) (replicate n a) (length-reverse (replicate n a))
       (λ k lt. let k<n : k < n = omega (arith, lt, length-reverse (replicate n a), length-replicate n a) in
       getD-reverse (replicate n a) k a (omega (arith, length-replicate n a))
-      ∙ getD-replicate n (length (replicate n a) - 1 - k) a a (omega (arith, length-replicate n a)) ∙ sym (getD-replicate n k a a k<n))
+      ∙ getD-replicate n (length (replicate n a) - 1 - k) a a (omega (arith, length-replicate n a))
+      ∙ sym (getD-replicate n k a a k<n))
 
   pub replicate-at : (n k : ℕ) (a : A) → getD (replicate n a) k a ≡ a
   replicate-at zero k a = refl

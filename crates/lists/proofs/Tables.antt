@@ -1,8 +1,10 @@
--- Laws of tables and rows: what a table holds, that it is known by its places, what is left of it in a loop, and where a row begins and ends. Assumes nothing.
+-- Laws of tables and rows: what a table holds, that it is known by its places, what is left of it in a loop, and where
+-- a row begins and ends. Assumes nothing.
 use mathlib.Core.Path.{_≡_, refl, sym, ap, _∙_}
 use mathlib.Core.List.{List, [], _∷_, _++_}
 use Prim.Native.Nat.{ℕ, zero, suc, _+_, _-_, _*_, _≤_, _<_}
-use native.Mathlib.Nat.{le-refl, not-suc-le-zero, le-of-suc-le-suc, add-zero, zero-add, add-suc, suc-add, sub-zero, add-sub-cancel-left, mul-le-mul-right, suc-mul}
+use native.Mathlib.Nat.{le-refl, not-suc-le-zero, le-of-suc-le-suc, add-zero, zero-add, add-suc, suc-add, sub-zero}
+use native.Mathlib.Nat.{add-sub-cancel-left, mul-le-mul-right, suc-mul}
 use native.Mathlib.Numerals.{add-one}
 use native.Mathlib.Omega.{arith}
 use lib.Arith.{digits-lt}
@@ -18,12 +20,14 @@ module _ {A : Type 0} where
   pub getD-tab : (i n : ℕ) (f : ℕ → A) (k : ℕ) (d : A) → k < n → getD (tab i n f) k d ≡ f (i + k)
   getD-tab i zero f k d h = absurd (not-suc-le-zero h)
   getD-tab i (suc n) f zero d h = ap f (sym (add-zero i))
-  getD-tab i (suc n) f (suc k) d h = getD-tab (suc i) n f k d (le-of-suc-le-suc h) ∙ ap f (suc-add i k ∙ sym (add-suc i k))
+  getD-tab i (suc n) f (suc k) d h =
+      getD-tab (suc i) n f k d (le-of-suc-le-suc h) ∙ ap f (suc-add i k ∙ sym (add-suc i k))
 
   -- a table is known by its places
   pub tab-from : (i n : ℕ) (f g : ℕ → A) → ((s : ℕ) → i ≤ s → s < i + n → f s ≡ g s) → tab i n f ≡ tab i n g
   tab-from i zero f g e = refl
-  tab-from i (suc n) f g e = cc (e i (le-refl i) (omega arith), tab-from (suc i) n f g (λ s l h. e s (omega arith) (omega arith)))
+  tab-from i (suc n) f g e =
+      cc (e i (le-refl i) (omega arith), tab-from (suc i) n f g (λ s l h. e s (omega arith) (omega arith)))
 
   pub tab-ext : (i n : ℕ) (f g : ℕ → A) → ((s : ℕ) → s < i + n → f s ≡ g s) → tab i n f ≡ tab i n g
   tab-ext i n f g e = tab-from i n f g (λ s l h. e s h)
@@ -38,7 +42,8 @@ module _ {A : Type 0} where
   tab-append i zero m f = ap (λ (k : ℕ). tab i k f) (zero-add m) ∙ ap (λ (k : ℕ). tab k m f) (sym (add-zero i))
   tab-append i (suc n) m f =
       ap (λ (k : ℕ). tab i k f) (suc-add n m)
-      ∙ ap (λ (r : List A). f i ∷ r) (tab-append (suc i) n m f ∙ ap (λ (k : ℕ). tab (suc i) n f ++ tab k m f) (suc-add i n ∙ sym (add-suc i n)))
+      ∙ ap (λ (r : List A). f i ∷ r) (tab-append (suc i) n m f
+      ∙ ap (λ (k : ℕ). tab (suc i) n f ++ tab k m f) (suc-add i n ∙ sym (add-suc i n)))
 
   pub tab-snoc : (i n : ℕ) (f : ℕ → A) → tab i (suc n) f ≡ tab i n f ++ (f (i + n) ∷ [])
   tab-snoc i n f = ap (λ (k : ℕ). tab i k f) (sym (add-one n)) ∙ tab-append i n 1 f
@@ -50,14 +55,16 @@ module _ {A : Type 0} where
   -- a table from k on is one from 0 on
   pub tab-moved : (k i n : ℕ) (f : ℕ → A) → tab (k + i) n f ≡ tab i n (λ m. f (k + m))
   tab-moved k i zero f = refl
-  tab-moved k i (suc n) f = ap (λ (r : List A). f (k + i) ∷ r) (ap (λ (j : ℕ). tab j n f) (sym (add-suc k i)) ∙ tab-moved k (suc i) n f)
+  tab-moved k i (suc n) f =
+      ap (λ (r : List A). f (k + i) ∷ r) (ap (λ (j : ℕ). tab j n f) (sym (add-suc k i)) ∙ tab-moved k (suc i) n f)
 
   -- a list is the table of what stands at its places
   pub tab-getD : (xs : List A) (d : A) → tab 0 (length xs) (λ k. getD xs k d) ≡ xs
   tab-getD [] d = refl
   tab-getD (x ∷ xs) d = ap (λ (r : List A). x ∷ r) (tab-shift 0 (length xs) (λ k. getD (x ∷ xs) k d) ∙ tab-getD xs d)
 
-  pub tab-is : (xs : List A) (d : A) (f : ℕ → A) → ((k : ℕ) → k < length xs → f k ≡ getD xs k d) → tab 0 (length xs) f ≡ xs
+  pub tab-is : (xs : List A) (d : A) (f : ℕ → A) → ((k : ℕ) → k < length xs → f k ≡ getD xs k d)
+      → tab 0 (length xs) f ≡ xs
   tab-is xs d f e = tab-ext 0 (length xs) f (λ k. getD xs k d) (λ k h. e k (omega arith)) ∙ tab-getD xs d
 
   pub take-tab : (i k n : ℕ) (f : ℕ → A) → k ≤ n → take k (tab i n f) ≡ tab i k f
@@ -85,7 +92,8 @@ module _ {A : Type 0} where
 
   -- from i to before n, cut at m
   pub tab-cut : (i m n : ℕ) (f : ℕ → A) → i ≤ m → m ≤ n → tab i (n - i) f ≡ tab i (m - i) f ++ tab m (n - m) f
-  tab-cut i m n f a b = ap (λ (k : ℕ). tab i k f) all ∙ tab-append i (m - i) (n - m) f ∙ ap (λ (k : ℕ). tab i (m - i) f ++ tab k (n - m) f) (omega arith)
+  tab-cut i m n f a b = ap (λ (k : ℕ). tab i k f) all ∙ tab-append i (m - i) (n - m) f
+      ∙ ap (λ (k : ℕ). tab i (m - i) f ++ tab k (n - m) f) (omega arith)
     where
       all : n - i ≡ m - i + (n - m)
       all = omega (arith, a, b)

@@ -1,6 +1,6 @@
--- The right ear's weights are the left ear's with the lateral channels negated, bit for bit, and negating these channels of a frame swaps what the
--- ears hear of it (`mirrors`). Shown once over the order: by order go only the lengths of the rows, and that no literal is 0, which has no opposite,
--- by computing. Assumes nothing.
+-- The right ear's weights are the left ear's with the lateral channels negated, bit for bit, and negating these
+-- channels of a frame swaps what the ears hear of it (`mirrors`). Shown once over the order: by order go only the
+-- lengths of the rows, and that no literal is 0, which has no opposite, by computing. Assumes nothing.
 use mathlib.Core.Path.{_≡_, refl, sym, ap, _∙_, subst}
 use mathlib.Core.Bool.{Bool, true, false}
 use mathlib.Core.List.{List, [], _∷_, _++_, map-map, map-append, append-nil, flatten}
@@ -43,13 +43,15 @@ abbrev weight : ℤ → Float
 weight z = mul binary64 (literal z 100) (inverseRoot 2)
 
 weight-opposite : (z : ℤ) → T (isNot0 z) → weight (negℤ z) ≡ neg (weight z)
-weight-opposite z t = ap (λ (x : Float). mul binary64 x (inverseRoot 2)) (literal-opposite z t) ∙ mul-negated binary64 (literal z 100) (inverseRoot 2)
+weight-opposite z t = ap (λ (x : Float). mul binary64 x (inverseRoot 2)) (literal-opposite z t)
+    ∙ mul-negated binary64 (literal z 100) (inverseRoot 2)
 
 -- ---- a sum over a frame: it is the same whether the samples are negated or their weights
 
 pub mixed-mirrored : (w frame : List Float) → mixed (mirrored neg w) frame ≡ mixed w (mirrored neg frame)
 unfolding mixed
-mixed-mirrored w frame = ap (λ (l : List Float). narrowed (total zero-float l)) (sym (products-negated lateral 0 frame w))
+mixed-mirrored w frame =
+    ap (λ (l : List Float). narrowed (total zero-float l)) (sym (products-negated lateral 0 frame w))
 
 -- ---- the rows
 
@@ -61,7 +63,8 @@ unfolding hundredths
 weights-opposite n =
     let zs : List ℤ = byOrder n foa soa toa in
     map-map (λ (x : Float). mul binary64 x (inverseRoot 2)) (λ (z : ℤ). literal z 100) (mirrored negℤ zs)
-    ∙ map-negated negℤ neg weight isNot0 weight-opposite lateral 0 zs (one-of-three (λ (zs : List ℤ). T (every isNot0 zs)) tt tt tt n)
+    ∙ map-negated negℤ neg weight isNot0 weight-opposite lateral 0 zs
+    (one-of-three (λ (zs : List ℤ). T (every isNot0 zs)) tt tt tt n)
     ∙ ap (mirrored neg) (sym (map-map (λ (x : Float). mul binary64 x (inverseRoot 2)) (λ (z : ℤ). literal z 100) zs))
 
 -- each has a weight for each channel
@@ -73,7 +76,8 @@ length-weights right = by-order (λ (n : ℕ). length (weights n right) ≡ chan
 rows-joined : (n : ℕ) → rows n ≡ flatten (weights n left ∷ weights n right ∷ [])
 unfolding rows flatten
 rows-joined n =
-    map-append (λ (x : Float). mul binary64 x (inverseRoot 2)) (literals (hundredths n left)) (literals (hundredths n right))
+    map-append (λ (x : Float). mul binary64 x (inverseRoot 2)) (literals (hundredths n left))
+    (literals (hundredths n right))
     ∙ ap (λ (r : List Float). weights n left ++ r) (sym (append-nil (weights n right)))
 
 module _ (n : ℕ) (order : refusesOrder n ≡ false) where
@@ -98,9 +102,11 @@ module _ (n : ℕ) (order : refusesOrder n ≡ false) where
   at-left : (frame : List Float) → earSignal n (rows n) left (mirrored neg frame) ≡ earSignal n (rows n) right frame
   at-left frame = sym (ap (λ (w : List Float). mixed w frame) right-is ∙ mixed-mirrored (earRow n (rows n) left) frame)
 
-  swap : (e : Ear) (frame : List Float) → earSignal n (rows n) (other e) (mirrored neg frame) ≡ earSignal n (rows n) e frame
+  swap : (e : Ear) (frame : List Float) → earSignal n (rows n) (other e) (mirrored neg frame)
+      ≡ earSignal n (rows n) e frame
   swap right frame = at-left frame
-  swap left frame = sym (at-left (mirrored neg frame)) ∙ ap (earSignal n (rows n) left) (negated-twice neg lateral neg-neg 0 frame)
+  swap left frame =
+      sym (at-left (mirrored neg frame)) ∙ ap (earSignal n (rows n) left) (negated-twice neg lateral neg-neg 0 frame)
 
   pub mirrors : Mirrors n (rows n)
   mirrors = record { right-row = right-is; swaps = swap }

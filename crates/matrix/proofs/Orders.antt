@@ -18,4 +18,5 @@ of-order w o e p = p ∙ ap (λ (k : ℕ). outcome k w) (sym e)
 pub no-order : (n : ℕ) (w : List Float) → refusesOrder n ≡ true → Computes n w (record { refusal = 1; weights = w })
 unfolding outcome
 no-order n w e =
-    sym (ap (λ (t : Bool). computedBy (firstOf (1 when t ∷ 5 when not (eqb (length w) (2 * channelsOfOrder n)) ∷ [])) (rows n) w) e)
+    sym (ap (λ (t : Bool). computedBy (firstOf (1 when t ∷ 5 when not (eqb (length w) (2 * channelsOfOrder n)) ∷ []))
+    (rows n) w) e)

@@ -25,11 +25,14 @@ fill {A = A} xs ys w n =
     ∙ ap (λ (v : List A). xs ++ ys ++ v) (drop-of-length-le rest {i = length ys} (omega arith))
     ∙ append-nil (xs ++ ys)
 
-ears-put : (f : Float) (left right w : List Float) → length w ≡ length left + length right → sets (sets w 0 (scaled f left)) (length left) (scaled f right) ≡ scaled f (left ++ right)
+ears-put : (f : Float) (left right w : List Float) → length w ≡ length left + length right
+    → sets (sets w 0 (scaled f left)) (length left) (scaled f right) ≡ scaled f (left ++ right)
 ears-put f left right w n =
     let l : length (scaled f left) ≡ length left = length-map left (λ (x : Float). mul binary64 x f) in
     let r : length (scaled f right) ≡ length right = length-map right (λ (x : Float). mul binary64 x f) in
-    ap (λ (k : ℕ). sets (sets w 0 (scaled f left)) k (scaled f right)) (sym l) ∙ fill (scaled f left) (scaled f right) w (omega arith) ∙ sym (map-append (λ (x : Float). mul binary64 x f) left right)
+    ap (λ (k : ℕ). sets (sets w 0 (scaled f left)) k (scaled f right)) (sym l)
+    ∙ fill (scaled f left) (scaled f right) w (omega arith)
+    ∙ sym (map-append (λ (x : Float). mul binary64 x f) left right)
 
 module _ (left right w : List Float) where
   -- by whether the length fits
@@ -39,9 +42,11 @@ module _ (left right w : List Float) where
   pub misfit : (length w ≡ length left + length right → ⊥) → record { refusal = 5; weights = w } ≡ put left right w
   misfit n = sym (ap answer (ne-eqb (length w) (length left + length right) n))
 
-  pub fits : (f : Float) (v u : List Float) → length w ≡ length left + length right → f ≡ inverseRoot 2 → v ≡ sets w 0 (scaled f left) → u ≡ sets v (length left) (scaled f right)
+  pub fits : (f : Float) (v u : List Float) → length w ≡ length left + length right → f ≡ inverseRoot 2
+      → v ≡ sets w 0 (scaled f left) → u ≡ sets v (length left) (scaled f right)
       → record { refusal = 0; weights = u } ≡ put left right w
   fits f v u n e p q =
       ap (λ (xs : List Float). record { refusal = 0; weights = xs })
-      (q ∙ ap (λ (xs : List Float). sets xs (length left) (scaled f right)) p ∙ ears-put f left right w n ∙ ap (λ (g : Float). scaled g (left ++ right)) e)
+      (q ∙ ap (λ (xs : List Float). sets xs (length left) (scaled f right)) p ∙ ears-put f left right w n
+      ∙ ap (λ (g : Float). scaled g (left ++ right)) e)
       ∙ sym (ap answer (eq-eqb (length w) (length left + length right) n))

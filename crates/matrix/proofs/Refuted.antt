@@ -1,5 +1,5 @@
--- Wrong rows, each held against what E7 asks: no rows that differ from the promised ones in a sign are an answer, whichever weight it is, and those
--- of 002 do not swap the ears. Assumes nothing.
+-- Wrong rows, each held against what E7 asks: no rows that differ from the promised ones in a sign are an answer,
+-- whichever weight it is, and those of 002 do not swap the ears. Assumes nothing.
 use mathlib.Core.Path.{_≡_, refl, sym, ap, _∙_, subst}
 use mathlib.Core.Bool.{Bool, true, false, not, cond, true≢false}
 use mathlib.Core.List.{List, [], _∷_, _++_}
@@ -40,25 +40,28 @@ not-opposite nan f e = absurd (true≢false (sym f))
 not-opposite (inf s) f e = absurd (true≢false (sym f))
 not-opposite (fin s m e) f p = not-self s (ap negative p)
 
-other-sign : (n : ℕ) (lent : List Float) (k : ℕ) → k < length (rows n) → Computes n lent (record { refusal = 0; weights = negatedAt neg (λ (i : ℕ). eqb i k) 0 (rows n) }) → ⊥
+other-sign : (n : ℕ) (lent : List Float) (k : ℕ) → k < length (rows n)
+    → Computes n lent (record { refusal = 0; weights = negatedAt neg (λ (i : ℕ). eqb i k) 0 (rows n) }) → ⊥
 unfolding neg
 other-sign n lent k h p =
     let wrong : List Float = negatedAt neg (λ (i : ℕ). eqb i k) 0 (rows n) in
     let x : Float = getD (rows n) k nan in
     not-opposite x (sound-at (rows n) k (rows-finite n (computed-order n lent wrong p)) h)
-    (sym (getD-negated neg (λ (i : ℕ). eqb i k) nan refl 0 (rows n) k ∙ ap (λ (b : Bool). cond b (neg x) x) (eq-eqb (0 + k) k (zero-add k)))
+    (sym (getD-negated neg (λ (i : ℕ). eqb i k) nan refl 0 (rows n) k
+    ∙ ap (λ (b : Bool). cond b (neg x) x) (eq-eqb (0 + k) k (zero-add k)))
     ∙ ap (λ (w : List Float). getD w k nan) (computed-rows n lent wrong p))
 
 -- ---- 002's rows
 
--- Of the second order 1.0 on channel 5 alone is the same at both ears, and mirrored it has the other sign at both. Of the third 1.0 on channel
--- 14 alone, which a mirror leaves as it is, has the other sign at the right ear.
+-- Of the second order 1.0 on channel 5 alone is the same at both ears, and mirrored it has the other sign at both. Of
+-- the third 1.0 on channel 14 alone, which a mirror leaves as it is, has the other sign at the right ear.
 
 secondOf002 : List ℤ
 secondOf002 = pos 45 ∷ minus 45 ∷ pos 9 ∷ pos 32 ∷ minus 25 ∷ pos 8 ∷ pos 5 ∷ pos 8 ∷ pos 15 ∷ []
 
 thirdOf002 : List ℤ
-thirdOf002 = pos 42 ∷ minus 42 ∷ pos 8 ∷ pos 30 ∷ minus 22 ∷ pos 7 ∷ pos 4 ∷ pos 7 ∷ pos 13 ∷ minus 15 ∷ minus 10 ∷ pos 5 ∷ pos 3 ∷ pos 5 ∷ minus 10 ∷ pos 10 ∷ []
+thirdOf002 = pos 42 ∷ minus 42 ∷ pos 8 ∷ pos 30 ∷ minus 22 ∷ pos 7 ∷ pos 4 ∷ pos 7 ∷ pos 13 ∷ minus 15 ∷ minus 10
+    ∷ pos 5 ∷ pos 3 ∷ pos 5 ∷ minus 10 ∷ pos 10 ∷ []
 
 -- a left and a right row, times 1.0/root(2.0), and times the float that this is
 abbrev rowsOf : List ℤ → List ℤ → Float → List Float

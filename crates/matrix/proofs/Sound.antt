@@ -27,7 +27,8 @@ inverse-root-two = refl
 
 pub rows-are : (n : ℕ) → rows n ≡ scaled rootOfHalf (literals (hundredths n left) ++ literals (hundredths n right))
 unfolding rows
-rows-are n = ap (λ (f : Float). scaled f (literals (hundredths n left) ++ literals (hundredths n right))) inverse-root-two
+rows-are n =
+    ap (λ (f : Float). scaled f (literals (hundredths n left) ++ literals (hundredths n right))) inverse-root-two
 
 -- none of the three orders has a number that is NaN or infinite
 rows-sound : any (tab 1 3 (λ n. hasNonfinite (rows n))) ≡ false
@@ -36,4 +37,5 @@ rows-sound = ap (λ (at : ℕ → List Float). any (tab 1 3 (λ n. hasNonfinite 
 
 -- so a decoder does not refuse them with 7
 pub rows-finite : (n : ℕ) → refusesOrder n ≡ false → hasNonfinite (rows n) ≡ false
-rows-finite = let one = any-off 1 3 (λ n. hasNonfinite (rows n)) rows-sound in by-order (λ (n : ℕ). hasNonfinite (rows n) ≡ false) (one 0 (lit< tt)) (one 1 (lit< tt)) (one 2 (lit< tt))
+rows-finite = let one = any-off 1 3 (λ n. hasNonfinite (rows n)) rows-sound in by-order
+    (λ (n : ℕ). hasNonfinite (rows n) ≡ false) (one 0 (lit< tt)) (one 1 (lit< tt)) (one 2 (lit< tt))

@@ -1,4 +1,5 @@
--- What the program does once the order has named two rows. Definitions only; that these are document 01's rows is what the proof of `compute_matrix` shows.
+-- What the program does once the order has named two rows. Definitions only; that these are document 01's rows is what
+-- the proof of `compute_matrix` shows.
 use Prim.Native.Nat.{ℕ, _+_}
 use mathlib.Core.Bool.{not}
 use mathlib.Core.List.{List, [], _∷_, _++_}

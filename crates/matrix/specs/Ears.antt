@@ -1,6 +1,7 @@
--- Document 02, E7: "The right row becomes the left row with channels 1, 4, 5, 9, 10 and 11 negated, for every order as far as it reaches. Then prove,
--- once over the order: negating those input channels swaps the two ear signals bit for bit, all NaNs as one." Said of the weights themselves and of
--- single frames; of blocks it is said in `mirror`. It is shown in proofs/Ears.antt. Definitions only.
+-- Document 02, E7: "The right row becomes the left row with channels 1, 4, 5, 9, 10 and 11 negated, for every order as
+-- far as it reaches. Then prove, once over the order: negating those input channels swaps the two ear signals bit for
+-- bit, all NaNs as one." Said of the weights themselves and of single frames; of blocks it is said in `mirror`. It is
+-- shown in proofs/Ears.antt. Definitions only.
 use Prim.Native.Nat.{ℕ}
 use mathlib.Core.Path.{_≡_}
 use mathlib.Core.List.{List}
@@ -26,4 +27,5 @@ earSignal n weights e frame = mixed (earRow n weights e) frame
 -- a frame may hold any samples, and be of any length
 pub record Mirrors (n : ℕ) (weights : List Float) : Type 0 where
   pub right-row : earRow n weights right ≡ mirrored neg (earRow n weights left)
-  pub swaps : (e : Ear) (frame : List Float) → earSignal n weights (other e) (mirrored neg frame) ≡ earSignal n weights e frame
+  pub swaps : (e : Ear) (frame : List Float) → earSignal n weights (other e) (mirrored neg frame)
+      ≡ earSignal n weights e frame

@@ -1,5 +1,5 @@
--- Document 01, 'Refusal numbers': 1 is given exactly when "ambisonic order is not 1, 2 or 3", 5 when the length of the lent weights is other than outputs x channels; "lent memory stays the same" on a
--- refusal. Definitions only.
+-- Document 01, 'Refusal numbers': 1 is given exactly when "ambisonic order is not 1, 2 or 3", 5 when the length of the
+-- lent weights is other than outputs x channels; "lent memory stays the same" on a refusal. Definitions only.
 use Prim.Native.Nat.{ℕ, _*_}
 use mathlib.Core.Path.{_≡_}
 use mathlib.Core.Bool.{not}

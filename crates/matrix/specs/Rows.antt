@@ -1,6 +1,7 @@
--- Document 01, 'Gains': "Binaural rows (002): the literals of 002 for orders 1 to 3, [..] times 1.0/root(2.0). Bit-exact." Document 02, E7: "The
--- right row becomes the left row with channels 1, 4, 5, 9, 10 and 11 negated, for every order as far as it reaches. [..] Document 01's rows follow."
--- Definitions only. Every literal of 002 is a whole number of hundredths, so the left rows are written as those.
+-- Document 01, 'Gains': "Binaural rows (002): the literals of 002 for orders 1 to 3, [..] times 1.0/root(2.0).
+-- Bit-exact." Document 02, E7: "The right row becomes the left row with channels 1, 4, 5, 9, 10 and 11 negated, for
+-- every order as far as it reaches. [..] Document 01's rows follow." Definitions only. Every literal of 002 is a whole
+-- number of hundredths, so the left rows are written as those.
 use Prim.Native.Nat.{ℕ}
 use mathlib.Core.List.{List, [], _∷_, _++_, map}
 use lib.IntN.{ℤ, pos, negℤ}
@@ -28,7 +29,8 @@ abbrev pub soa : List ℤ
 soa = pos 45 ∷ pos 45 ∷ pos 9 ∷ pos 32 ∷ pos 25 ∷ pos 8 ∷ pos 5 ∷ pos 8 ∷ pos 15 ∷ []
 
 abbrev pub toa : List ℤ
-toa = pos 42 ∷ pos 42 ∷ pos 8 ∷ pos 30 ∷ pos 22 ∷ pos 7 ∷ pos 4 ∷ pos 7 ∷ pos 13 ∷ pos 15 ∷ pos 10 ∷ pos 5 ∷ pos 3 ∷ pos 5 ∷ pos 10 ∷ pos 10 ∷ []
+toa = pos 42 ∷ pos 42 ∷ pos 8 ∷ pos 30 ∷ pos 22 ∷ pos 7 ∷ pos 4 ∷ pos 7 ∷ pos 13 ∷ pos 15 ∷ pos 10 ∷ pos 5 ∷ pos 3
+    ∷ pos 5 ∷ pos 10 ∷ pos 10 ∷ []
 
 -- the row of an ear, made of the left ear's row: the right ear's is that row with the lateral channels negated
 abbrev pub rowOf : Ear → List ℤ → List ℤ

@@ -61,7 +61,8 @@ const TOA_RIGHT: [f64; 16] = [
 
 // Puts the left ear's row and then the right ear's, times 1.0/root(2.0); the refusal.
 fn put_ears(left: &[f64], right: &[f64], weights: &mut [f64]) -> u8
-    ensures { λ r. ⌜ record { refusal = r; weights = now (weights .exit) } ≡ put (now (left .entry)) (now (right .entry)) (now (weights .entry)) ⌝ }
+    ensures { λ r. ⌜ record { refusal = r; weights = now (weights .exit) } ≡ put (now (left .entry))
+        (now (right .entry)) (now (weights .entry)) ⌝ }
 {
     if weights.len() != left.len() + right.len() {
         return 5;

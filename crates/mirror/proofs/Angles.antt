@@ -1,5 +1,5 @@
--- The opposite angle is refused as the angle is, and its sine and cosine: it lies where what is left of the turn ends, so that the shorter way from 0
--- is the same and the half of the turn the other one. Assumes nothing.
+-- The opposite angle is refused as the angle is, and its sine and cosine: it lies where what is left of the turn ends,
+-- so that the shorter way from 0 is the same and the half of the turn the other one. Assumes nothing.
 use mathlib.Core.Path.{_≡_, refl, sym, ap, ap₂, _∙_, subst}
 use mathlib.Core.Logic.{_⊎_, inl, inr}
 use mathlib.Core.Bool.{Bool, true, false, not, _&&_, _||_, cond, and-comm}
@@ -16,7 +16,8 @@ use Rattle.fractions.specs.Fraction.{Fraction, signed, opposite}
 use Rattle.series.specs.Angles.{turned}
 use Rattle.series.specs.Sums.{sine}
 use Rattle.series.proofs.Reduction.{turned-less, turned-opposite}
-use Rattle.angles.specs.Computed.{one, turn, half, units, cut, place, short, times, radians, nesting, nest, outermost, fromOne, rounded, sineAt, cosineAt, computed}
+use Rattle.angles.specs.Computed.{one, turn, half, units, cut, place, short, times, radians, nesting, nest, outermost}
+use Rattle.angles.specs.Computed.{fromOne, rounded, sineAt, cosineAt, computed}
 use Rattle.angles.specs.Limits.{limit, isInside, refusesAngle}
 use Rattle.refusals.specs.Refusals.{answered}
 use Rattle.angles.specs.declared.Answer.{Answer}
@@ -30,7 +31,8 @@ use Rattle.mirror.specs.Scenes.{AngleMirrors}
 inside-negated : (limit x : Float) → isInside limit (neg x) ≡ isInside limit x
 unfolding isInside
 inside-negated limit x =
-    ap₂ _&&_ (le-negated limit x) (ap (le (neg x)) (sym (neg-neg limit)) ∙ le-negated x (neg limit)) ∙ and-comm (le x limit) (le (neg limit) x)
+    ap₂ _&&_ (le-negated limit x) (ap (le (neg x)) (sym (neg-neg limit)) ∙ le-negated x (neg limit))
+    ∙ and-comm (le x limit) (le (neg limit) x)
 
 pub refused-negated : (limit x : Float) → refusesAngle limit (neg x) ≡ refusesAngle limit x
 unfolding refusesAngle
@@ -87,7 +89,8 @@ short-opposite {r} {r'} o = go (o .sum)
 
 cosine-opposite : {r r' : ℕ} → WholeTurn r r' → cosineAt r' ≡ cosineAt r
 unfolding cosineAt
-cosine-opposite o = let at : ℕ → Float = λ s. rounded (ltb one (outermost (radians s) 26)) (fromOne (outermost (radians s) 26)) in ap at (short-opposite o)
+cosine-opposite o = let at : ℕ → Float = λ s. rounded (ltb one (outermost (radians s) 26))
+    (fromOne (outermost (radians s) 26)) in ap at (short-opposite o)
 
 -- ---- the sine
 
@@ -96,16 +99,20 @@ rounded-negated : (b : Bool) (size : ℕ) → unsignedZero (rounded (not b) size
 unfolding rounded ofInt div neg
 rounded-negated b size =
     let n : ℕ = (size + 256) / 512 in
-    signed-either b n (value n) (λ e. subst (λ (k : ℕ). unsignedZero (value k) ≡ unsignedZero (neg (value k))) (sym e) refl)
+    signed-either b n (value n) (λ e. subst (λ (k : ℕ). unsignedZero (value k) ≡ unsignedZero (neg (value k)))
+    (sym e) refl)
   where
     value : ℕ → Float
     value n = div binary64 (ofInt binary64 (pos n)) (fin false 1 (pos 51))
 
     signed-either : (b : Bool) (n : ℕ) (v : Float) → (n ≡ 0 → unsignedZero v ≡ unsignedZero (neg v))
-        → unsignedZero (cond (not b) (cond (eqb n 0) v (neg v)) v) ≡ unsignedZero (neg (cond b (cond (eqb n 0) v (neg v)) v))
+        → unsignedZero (cond (not b) (cond (eqb n 0) v (neg v)) v)
+        ≡ unsignedZero (neg (cond b (cond (eqb n 0) v (neg v)) v))
     signed-either true n v h =
-        by-test (λ (q : Bool). unsignedZero v ≡ unsignedZero (neg (cond q v (neg v)))) (eqb n 0) (λ e. h (eqb-true n 0 e)) (λ e. ap unsignedZero (sym (neg-neg v)))
-    signed-either false n v h = by-test (λ (q : Bool). unsignedZero (cond q v (neg v)) ≡ unsignedZero (neg v)) (eqb n 0) (λ e. h (eqb-true n 0 e)) (λ e. refl)
+        by-test (λ (q : Bool). unsignedZero v ≡ unsignedZero (neg (cond q v (neg v)))) (eqb n 0)
+        (λ e. h (eqb-true n 0 e)) (λ e. ap unsignedZero (sym (neg-neg v)))
+    signed-either false n v h = by-test (λ (q : Bool). unsignedZero (cond q v (neg v)) ≡ unsignedZero (neg v)) (eqb n 0)
+        (λ e. h (eqb-true n 0 e)) (λ e. refl)
 
 -- by whether it lies in the far half of the turn, and the shorter way from 0 in radians
 sineBy : Bool → ℕ → Float
@@ -135,10 +142,12 @@ unfolding sineAt sineBy
 sine-opposite {r} {r'} o = go (o .sum)
   where
     same : (k : ℕ) → Sineless k → k ≡ r → k ≡ r' → unsignedZero (sineAt r') ≡ unsignedZero (neg (sineAt r))
-    same k z e e' = sym (ap (λ (i : ℕ). unsignedZero (sineAt i)) e') ∙ z ∙ ap (λ (i : ℕ). unsignedZero (neg (sineAt i))) e
+    same k z e e' =
+        sym (ap (λ (i : ℕ). unsignedZero (sineAt i)) e') ∙ z ∙ ap (λ (i : ℕ). unsignedZero (neg (sineAt i))) e
 
     across : ltb half r' ≡ not (ltb half r) → unsignedZero (sineAt r') ≡ unsignedZero (neg (sineAt r))
-    across h = ap₂ (λ (far : Bool) (s : ℕ). unsignedZero (sineBy far (radians s))) h (short-opposite o) ∙ sine-by-negated (ltb half r) (radians (short r))
+    across h = ap₂ (λ (far : Bool) (s : ℕ). unsignedZero (sineBy far (radians s))) h (short-opposite o)
+        ∙ sine-by-negated (ltb half r) (radians (short r))
 
     go : (r + r' ≡ 0) ⊎ (r + r' ≡ turn) → unsignedZero (sineAt r') ≡ unsignedZero (neg (sineAt r))
     go (inl e) = same 0 sine-at-none (omega arith) (omega arith)
@@ -150,7 +159,8 @@ sine-opposite {r} {r'} o = go (o .sum)
 
 -- ---- the value that is answered, by whether the angle is refused
 abbrev valueBy : Bool → Float → Float
-valueBy b v = answered {A = Answer} (cond b 3 0) (record { refusal = 0; value = v }) (λ n. record { refusal = n; value = zero-float }) .value
+valueBy b v = answered {A = Answer} (cond b 3 0) (record { refusal = 0; value = v })
+    (λ n. record { refusal = n; value = zero-float }) .value
 
 -- ---- where the opposite angle lies in the same place, the sine stays, its sign too
 pub sine-stays : (d : Float) → place (neg d) ≡ place d → sin (neg d) ≡ sin d
@@ -170,6 +180,7 @@ angle-mirrors d = record {
       ∙ opposite-by (isRefused d) (computed sine d) (computed sine (neg d)) (sine-opposite (places-opposite d));
 }
   where
-    opposite-by : (b : Bool) (v v' : Float) → unsignedZero v' ≡ unsignedZero (neg v) → unsignedZero (valueBy b v') ≡ unsignedZero (neg (valueBy b v))
+    opposite-by : (b : Bool) (v v' : Float) → unsignedZero v' ≡ unsignedZero (neg v)
+        → unsignedZero (valueBy b v') ≡ unsignedZero (neg (valueBy b v))
     opposite-by true v v' h = refl
     opposite-by false v v' h = h

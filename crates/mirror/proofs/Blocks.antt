@@ -1,5 +1,6 @@
--- Where outputs have partners, the frames of a block of mirrored planes are those of the block exchanged (`blocks-mirror`). Nothing of sums is
--- needed: the frames that the second call reads are the mirrored frames. Assumes nothing.
+-- Where outputs have partners, the frames of a block of mirrored planes are those of the block exchanged
+-- (`blocks-mirror`). Nothing of sums is needed: the frames that the second call reads are the mirrored frames. Assumes
+-- nothing.
 use mathlib.Core.Path.{_≡_, refl, sym, ap, _∙_}
 use mathlib.Core.Bool.{Bool, not, _||_, cond}
 use mathlib.Core.List.{List, [], _∷_, map}
@@ -33,31 +34,38 @@ use Rattle.mirror.specs.Blocks.{PartnersSwap, Call, mirroredPlanes, Mirr
 
 -- ---- a frame of mirrored planes is the mirrored frame
 
-frame-mirrored : (xs : List Float) (stride planes n : ℕ) → n < stride → frameAt (mirroredPlanes stride xs) stride planes n ≡ mirrored neg (frameAt xs stride planes n)
+frame-mirrored : (xs : List Float) (stride planes n : ℕ) → n < stride
+    → frameAt (mirroredPlanes stride xs) stride planes n ≡ mirrored neg (frameAt xs stride planes n)
 unfolding neg
 frame-mirrored xs stride planes n h =
-    tab-ext 0 planes (λ (p : ℕ). sampleAt (mirroredPlanes stride xs) stride p n) (λ (p : ℕ). cond (lateral p) (neg (sampleAt xs stride p n)) (sampleAt xs stride p n)) (λ p l. one p)
+    tab-ext 0 planes (λ (p : ℕ). sampleAt (mirroredPlanes stride xs) stride p n)
+    (λ (p : ℕ). cond (lateral p) (neg (sampleAt xs stride p n)) (sampleAt xs stride p n)) (λ p l. one p)
     ∙ sym (tab-negated neg lateral 0 planes (λ (p : ℕ). sampleAt xs stride p n))
   where
-    one : (p : ℕ) → sampleAt (mirroredPlanes stride xs) stride p n ≡ cond (lateral p) (neg (sampleAt xs stride p n)) (sampleAt xs stride p n)
+    one : (p : ℕ) → sampleAt (mirroredPlanes stride xs) stride p n ≡ cond (lateral p) (neg (sampleAt xs stride p n))
+        (sampleAt xs stride p n)
     one p =
         getD-negated neg (λ (i : ℕ). lateral (i / stride)) nan refl 0 xs (p * stride + n)
-        ∙ ap (λ (q : ℕ). cond (lateral q) (neg (sampleAt xs stride p n)) (sampleAt xs stride p n)) (ap (λ (i : ℕ). i / stride) (zero-add (p * stride + n)) ∙ digits-div p h)
+        ∙ ap (λ (q : ℕ). cond (lateral q) (neg (sampleAt xs stride p n)) (sampleAt xs stride p n))
+        (ap (λ (i : ℕ). i / stride) (zero-add (p * stride + n)) ∙ digits-div p h)
 
 -- ---- the frames that a call plays
 
 module _ (outputs channels : ℕ) (weights : List Float) where
   abbrev refusal : Call → ℕ
-  refusal c = refusalOf (record { outputs = outputs; channels = channels; frames = c .frames; stride = c .stride }) weights (length (c .inputs)) (length (c .out))
+  refusal c = refusalOf (record { outputs = outputs; channels = channels; frames = c .frames; stride = c .stride })
+      weights (length (c .inputs)) (length (c .out))
 
   abbrev decodedOf : ℕ → ℕ → List Float → List (List Float)
-  decodedOf frames stride inputs = decoded (record { outputs = outputs; channels = channels; frames = frames; stride = stride }) weights inputs
+  decodedOf frames stride inputs =
+      decoded (record { outputs = outputs; channels = channels; frames = frames; stride = stride }) weights inputs
 
   abbrev framesPut : Call → List (List Float)
   framesPut c = decodedOf (c .frames) (c .stride) (c .inputs)
 
   abbrev blockAt : Call → Block
-  blockAt c = block weights (record { outputs = outputs; channels = channels; frames = c .frames; stride = c .stride }) (c .inputs) (c .out)
+  blockAt c = block weights (record { outputs = outputs; channels = channels; frames = c .frames; stride = c .stride })
+      (c .inputs) (c .out)
 
   abbrev readFrom : Call → Block → List (List Float)
   readFrom c b = framesOf (b .out) (c .stride) outputs (b .answer .samples)
@@ -74,9 +82,11 @@ module _ (outputs channels : ℕ) (weights : List Float) where
       let inputs-unfit : Bool = unfit (length (c .inputs)) channels (c .stride) (c .frames) in
       let out-unfit : Bool = unfit (length (c .out)) outputs (c .stride) (c .frames) in
       let weights-unfit : Bool = not (eqb (length weights) (outputs * channels)) in
-      let checks : List Check = 2 when outside outputs 16 ∷ 2 when outside channels 16 ∷ 5 when (inputs-unfit || out-unfit || weights-unfit) ∷ 7 when hasNonfinite weights ∷ [] in
+      let checks : List Check = 2 when outside outputs 16 ∷ 2 when outside channels 16
+      ∷ 5 when (inputs-unfit || out-unfit || weights-unfit) ∷ 7 when hasNonfinite weights ∷ [] in
       let lengths = none-holds checks tt e .1 .1 .0 in
-      fitted (length (c .out)) outputs (c .stride) (c .frames) (or-off inputs-unfit out-unfit (or-off (inputs-unfit || out-unfit) weights-unfit lengths .0) .1)
+      fitted (length (c .out)) outputs (c .stride) (c .frames)
+      (or-off inputs-unfit out-unfit (or-off (inputs-unfit || out-unfit) weights-unfit lengths .0) .1)
 
   -- and the frames that were put are read back
   played-accepted : (c : Call) → refusal c ≡ 0 → readFrom c (blockAt c) ≡ framesPut c
@@ -90,34 +100,49 @@ module _ (outputs channels : ℕ) (weights : List Float) where
       (λ j l. ap length (getD-tab 0 (c .frames) _ j [] (omega (arith, l, count))) ∙ length-tab 0 outputs _)
 
   played-refused : (c : Call) → (refusal c ≡ 0 → ⊥) → readFrom c (blockAt c) ≡ []
-  played-refused c e = ap (readFrom c) (block-refused answerOf (c .frames) (c .stride) (framesPut c) (c .out) (refusal c) e)
+  played-refused c e =
+      ap (readFrom c) (block-refused answerOf (c .frames) (c .stride) (framesPut c) (c .out) (refusal c) e)
 
   module _ (partner : ℕ → ℕ) (partners : PartnersSwap outputs channels weights partner) where
     -- a frame of the outputs, of the mirrored frame
-    pub frame-exchanged : (frame : List Float) → mixedAll outputs channels weights (mirrored neg frame) ≡ exchanged outputs partner (mixedAll outputs channels weights frame)
+    pub frame-exchanged : (frame : List Float) → mixedAll outputs channels weights (mirrored neg frame)
+        ≡ exchanged outputs partner (mixedAll outputs channels weights frame)
     frame-exchanged frame =
-        tab-ext 0 outputs (λ (o : ℕ). mixed (chunk channels o weights) (mirrored neg frame)) (λ (o : ℕ). getD (mixedAll outputs channels weights frame) (partner o) nan)
+        tab-ext 0 outputs (λ (o : ℕ). mixed (chunk channels o weights) (mirrored neg frame))
+        (λ (o : ℕ). getD (mixedAll outputs channels weights frame) (partner o) nan)
         (λ o l. let inside : o < outputs = omega (arith, l) in
         partners .swaps o inside frame
-        ∙ sym (getD-tab 0 outputs (λ (q : ℕ). mixed (chunk channels q weights) frame) (partner o) nan (partners .inside o inside)
+        ∙ sym (getD-tab 0 outputs (λ (q : ℕ). mixed (chunk channels q weights) frame) (partner o) nan
+        (partners .inside o inside)
         ∙ ap (λ (q : ℕ). mixed (chunk channels q weights) frame) (zero-add (partner o))))
 
     -- and so every frame of a block whose planes fit
     frames-exchanged : (frames stride : ℕ) (inputs : List Float) → frames ≤ stride
-        → decodedOf frames stride (mirroredPlanes stride inputs) ≡ map (exchanged outputs partner) (decodedOf frames stride inputs)
+        → decodedOf frames stride (mirroredPlanes stride inputs) ≡ map (exchanged outputs partner)
+        (decodedOf frames stride inputs)
     frames-exchanged frames stride inputs h =
-        tab-ext 0 frames (λ (n : ℕ). mixedAll outputs channels weights (frameAt (mirroredPlanes stride inputs) stride channels n))
+        tab-ext 0 frames (λ (n : ℕ). mixedAll outputs channels weights
+        (frameAt (mirroredPlanes stride inputs) stride channels n))
         (λ (n : ℕ). exchanged outputs partner (mixedAll outputs channels weights (frameAt inputs stride channels n)))
-        (λ n l. ap (mixedAll outputs channels weights) (frame-mirrored inputs stride channels n (omega (arith, l, h))) ∙ frame-exchanged (frameAt inputs stride channels n))
-        ∙ sym (map-tab (exchanged outputs partner) 0 frames (λ (n : ℕ). mixedAll outputs channels weights (frameAt inputs stride channels n)))
+        (λ n l. ap (mixedAll outputs channels weights) (frame-mirrored inputs stride channels n (omega (arith, l, h)))
+        ∙ frame-exchanged (frameAt inputs stride channels n))
+        ∙ sym (map-tab (exchanged outputs partner) 0 frames
+        (λ (n : ℕ). mixedAll outputs channels weights (frameAt inputs stride channels n)))
 
     module _ (c d : Call) (m : MirrorCall c d) where
       -- the second call is lent lists of the same lengths, so it is refused as the first is
       refusal-same : refusal d ≡ refusal c
-      refusal-same = cc (m .frames, m .stride, ap length (m .inputs) ∙ length-negated neg (λ (i : ℕ). lateral (i / c .stride)) 0 (c .inputs), m .out)
+      refusal-same = cc (
+        m .frames,
+        m .stride,
+        ap length (m .inputs)
+            ∙ length-negated neg (λ (i : ℕ). lateral (i / c .stride)) 0 (c .inputs),
+        m .out,
+      )
 
       put-exchanged : refusal c ≡ 0 → framesPut d ≡ map (exchanged outputs partner) (framesPut c)
-      put-exchanged e = cc (m .frames, m .stride, m .inputs) ∙ frames-exchanged (c .frames) (c .stride) (c .inputs) (out-fits c e .0)
+      put-exchanged e = cc (m .frames, m .stride, m .inputs)
+          ∙ frames-exchanged (c .frames) (c .stride) (c .inputs) (out-fits c e .0)
 
       answer-same : blockAt d .answer ≡ blockAt c .answer
       answer-same =
@@ -127,12 +152,16 @@ module _ (outputs channels : ℕ) (weights : List Float) where
 
       played-exchanged : readFrom d (blockAt d) ≡ map (exchanged outputs partner) (readFrom c (blockAt c))
       played-exchanged = elim (ℕ-discrete (refusal c) 0) [
-        | yes e ↦ played-accepted d (refusal-same ∙ e) ∙ put-exchanged e ∙ ap (map (exchanged outputs partner)) (sym (played-accepted c e))
-        | no e ↦ played-refused d (λ z. e (sym refusal-same ∙ z)) ∙ ap (map (exchanged outputs partner)) (sym (played-refused c e))
+        | yes e ↦ played-accepted d (refusal-same ∙ e) ∙ put-exchanged e
+            ∙ ap (map (exchanged outputs partner)) (sym (played-accepted c e))
+        | no e ↦ played-refused d (λ z. e (sym refusal-same ∙ z))
+            ∙ ap (map (exchanged outputs partner)) (sym (played-refused c e))
       ]
 
     pub blocks-mirror : BlocksMirror outputs channels weights partner
     blocks-mirror = record {
-      answers = λ c d m p q. ap (λ (b : Block). b .answer) q ∙ answer-same c d m ∙ sym (ap (λ (b : Block). b .answer) p);
-      plays = λ c d m p q. ap (readFrom d) q ∙ played-exchanged c d m ∙ ap (map (exchanged outputs partner)) (sym (ap (readFrom c) p));
+      answers = λ c d m p q. ap (λ (b : Block). b .answer) q ∙ answer-same c d m
+          ∙ sym (ap (λ (b : Block). b .answer) p);
+      plays = λ c d m p q. ap (readFrom d) q ∙ played-exchanged c d m
+          ∙ ap (map (exchanged outputs partner)) (sym (ap (readFrom c) p));
     }

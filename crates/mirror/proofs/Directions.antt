@@ -1,5 +1,5 @@
--- The gains of a mirrored direction. Each lateral channel is a product whose last factor is a sine of the azimuth, or of twice or three times it; no
--- other channel has such a factor. Assumes nothing.
+-- The gains of a mirrored direction. Each lateral channel is a product whose last factor is a sine of the azimuth, or
+-- of twice or three times it; no other channel has such a factor. Assumes nothing.
 use mathlib.Core.Path.{_≡_, refl, ap, ap₂, _∙_}
 use mathlib.Core.Bool.{Bool, true, false, _||_, cond}
 use mathlib.Core.List.{List, _∷_, _++_, map}
@@ -48,7 +48,8 @@ record Part (i n : ℕ) (xs xs' : List Float) : Type 0 where
   long : length xs ≡ n
   swapped : SwappedAt lateral i xs xs'
 
-part-append : (i n m : ℕ) (xs xs' ys ys' : List Float) → Part i n xs xs' → Part (i + n) m ys ys' → Part i (n + m) (xs ++ ys) (xs' ++ ys')
+part-append : (i n m : ℕ) (xs xs' ys ys' : List Float) → Part i n xs xs' → Part (i + n) m ys ys'
+    → Part i (n + m) (xs ++ ys) (xs' ++ ys')
 part-append i n m xs xs' ys ys' p q = record {
   long = length-append xs ys ∙ ap₂ _+_ (p .long) (q .long);
   swapped = swapped-append lateral i xs xs' ys ys' (p .swapped) (rw (p .long) (q .swapped));
@@ -58,7 +59,8 @@ part-append i n m xs xs' ys ys' p q = record {
 abbrev none : List Float → List Float
 none = map (λ x. zero-float)
 
-part-of-degree : (b : Bool) (i : ℕ) (xs xs' : List Float) → SwappedAt lateral i xs xs' → SwappedAt lateral i (none xs) (none xs') → Part i (length xs) (cond b xs (none xs)) (cond b xs' (none xs'))
+part-of-degree : (b : Bool) (i : ℕ) (xs xs' : List Float) → SwappedAt lateral i xs xs'
+    → SwappedAt lateral i (none xs) (none xs') → Part i (length xs) (cond b xs (none xs)) (cond b xs' (none xs'))
 part-of-degree true i xs xs' h z = record { long = refl; swapped = h }
 part-of-degree false i xs xs' h z = record { long = length-map xs (λ x. zero-float); swapped = z }
 
@@ -73,7 +75,8 @@ module _ (order : ℕ) (e c1 c2 c3 s1 t1 s2 t2 s3 t3 : Float)
       let by3 : (k : Float) → Opposite (k · t3) (k · s3) = λ k. mul-opposite binary64 k s3 t3 h3 in
       part-append 0 9 7 _ _ _ _
       (part-append 0 4 5 _ _ _ _
-      (part-append 0 1 3 _ _ _ _ (part-of-degree (leb 0 order) 0 _ _ refl refl) (part-of-degree (leb 1 order) 1 _ _ (ap₂ _∷_ (by1 _) refl) refl))
+      (part-append 0 1 3 _ _ _ _ (part-of-degree (leb 0 order) 0 _ _ refl refl)
+      (part-of-degree (leb 1 order) 1 _ _ (ap₂ _∷_ (by1 _) refl) refl))
       (part-of-degree (leb 2 order) 4 _ _ (ap₂ _∷_ (by2 _) (ap₂ _∷_ (by1 _) refl)) refl))
       (part-of-degree (leb 3 order) 9 _ _ (ap₂ _∷_ (by3 _) (ap₂ _∷_ (by2 _) (ap₂ _∷_ (by1 _) refl))) refl) .swapped
 
@@ -84,14 +87,17 @@ pub cosine-of-multiple : (k a : Float) → cos (k · neg a) ≡ cos (k · a)
 cosine-of-multiple k a = ap cos (mul-negated-right binary64 k a) ∙ angle-mirrors (k · a) .cosine
 
 sine-of-multiple : (k a : Float) → Opposite (sin (k · neg a)) (sin (k · a))
-sine-of-multiple k a = ap (λ (x : Float). unsignedZero (sin x)) (mul-negated-right binary64 k a) ∙ angle-mirrors (k · a) .sine
+sine-of-multiple k a =
+    ap (λ (x : Float). unsignedZero (sin x)) (mul-negated-right binary64 k a) ∙ angle-mirrors (k · a) .sine
 
 -- whether they are given or not: the gains and the weights that are answered, by the refusal
 abbrev pub gainsAnswered : ℕ → List Float → List Float
-gainsAnswered n xs = answered {A = Coefficients} n (record { refusal = 0; gains = xs }) (λ k. record { refusal = k; gains = Harmonics.silence }) .gains
+gainsAnswered n xs = answered {A = Coefficients} n (record { refusal = 0; gains = xs })
+    (λ k. record { refusal = k; gains = Harmonics.silence }) .gains
 
 abbrev pub weightsAnswered : ℕ → List Float → List Float
-weightsAnswered n xs = answered {A = Weighted} n (record { refusal = 0; weights = xs }) (λ k. record { refusal = k; weights = Harmonics.silence }) .weights
+weightsAnswered n xs = answered {A = Weighted} n (record { refusal = 0; weights = xs })
+    (λ k. record { refusal = k; weights = Harmonics.silence }) .weights
 
 gains-swapped : (n : ℕ) (xs ys : List Float) → Swapped xs ys → Swapped (gainsAnswered n xs) (gainsAnswered n ys)
 unfolding neg
@@ -106,14 +112,17 @@ weights-swapped (suc n) xs ys h = refl
 weigh-swapped : (c : Float) (xs ys : List Float) → Swapped xs ys → Swapped (weigh c xs) (weigh c ys)
 unfolding weigh
 weigh-swapped c xs ys h =
-    swapped-tab lateral 0 16 (weighedAt xs) (weighedAt ys) (λ k. swapped-by lateral (times-odd binary64 (weight c (degreeOf k))) k (getD xs k nan) (getD ys k nan) (swapped-at lateral xs ys h k))
+    swapped-tab lateral 0 16 (weighedAt xs) (weighedAt ys)
+    (λ k. swapped-by lateral (times-odd binary64 (weight c (degreeOf k))) k (getD xs k nan) (getD ys k nan)
+    (swapped-at lateral xs ys h k))
   where
     weighedAt : List Float → ℕ → Float
     weighedAt zs k = mul binary64 (getD zs k nan) (weight c (degreeOf k))
 
 module _ (order : ℕ) (d : Direction) where
   pub refusal-mirrored : Harmonics.refusalOf order (mirroredDirection d) ≡ Harmonics.refusalOf order d
-  refusal-mirrored = ap (λ (b : Bool). cond (refusesOrder order) 1 (cond (b || Harmonics.refusesElevation (d .elevation)) 3 0)) (refused-negated (float (pos 180)) (d .azimuth))
+  refusal-mirrored = ap (λ (b : Bool). cond (refusesOrder order) 1
+      (cond (b || Harmonics.refusesElevation (d .elevation)) 3 0)) (refused-negated (float (pos 180)) (d .azimuth))
 
   gains-mirrored : Swapped (upTo order (wavesOf d)) (upTo order (wavesOf (mirroredDirection d)))
   unfolding wavesOf
@@ -122,8 +131,10 @@ module _ (order : ℕ) (d : Direction) where
       let e : Float = d .elevation in
       let two : Float = float (pos 2) in
       let three : Float = float (pos 3) in
-      (λ i. map unsignedZero (gainsBy order e (angle-mirrors a .cosine i) (sin (neg a)) (cosine-of-multiple two a i) (sin (two · neg a)) (cosine-of-multiple three a i) (sin (three · neg a))))
-      ∙ sines-swapped order e (cos a) (cos (two · a)) (cos (three · a)) (sin a) (sin (neg a)) (sin (two · a)) (sin (two · neg a)) (sin (three · a)) (sin (three · neg a))
+      (λ i. map unsignedZero (gainsBy order e (angle-mirrors a .cosine i) (sin (neg a)) (cosine-of-multiple two a i)
+      (sin (two · neg a)) (cosine-of-multiple three a i) (sin (three · neg a))))
+      ∙ sines-swapped order e (cos a) (cos (two · a)) (cos (three · a)) (sin a) (sin (neg a)) (sin (two · a))
+      (sin (two · neg a)) (sin (three · a)) (sin (three · neg a))
       (angle-mirrors a .sine) (sine-of-multiple two a) (sine-of-multiple three a)
 
   pub direction-mirrors : DirectionMirrors order d
@@ -133,8 +144,10 @@ module _ (order : ℕ) (d : Direction) where
       let ys : List Float = upTo order (wavesOf (mirroredDirection d)) in
       record {
         refusal = refusal-mirrored;
-        gains = ap (λ (n : ℕ). map unsignedZero (gainsAnswered n ys)) refusal-mirrored ∙ gains-swapped number xs ys gains-mirrored;
+        gains = ap (λ (n : ℕ). map unsignedZero (gainsAnswered n ys)) refusal-mirrored
+            ∙ gains-swapped number xs ys gains-mirrored;
         weights =
             ap (λ (n : ℕ). map unsignedZero (weightsAnswered n (weigh (cosineOf order) ys))) refusal-mirrored
-            ∙ weights-swapped number (weigh (cosineOf order) xs) (weigh (cosineOf order) ys) (weigh-swapped (cosineOf order) xs ys gains-mirrored);
+            ∙ weights-swapped number (weigh (cosineOf order) xs) (weigh (cosineOf order) ys)
+            (weigh-swapped (cosineOf order) xs ys gains-mirrored);
       }

@@ -1,5 +1,5 @@
--- Negating the lateral channels swaps the two ears, in each frame alone and in blocks (`ears-swap`): the right ear is the left one's partner. Assumes
--- nothing.
+-- Negating the lateral channels swaps the two ears, in each frame alone and in blocks (`ears-swap`): the right ear is
+-- the left one's partner. Assumes nothing.
 use mathlib.Core.Path.{_≡_, refl, ap, _∙_}
 use mathlib.Core.Bool.{Bool, false, not, _||_}
 use mathlib.Core.List.{List, [], _∷_}
@@ -37,7 +37,8 @@ ears-partners n weights m = record { inside = inside; swaps = swap }
     inside zero h = lit< tt
     inside (suc o) h = lit< tt
 
-    swap : (o : ℕ) → o < 2 → (frame : List Float) → mixed (chunk (channelsOfOrder n) o weights) (mirrored neg frame) ≡ mixed (chunk (channelsOfOrder n) (otherEar o) weights) frame
+    swap : (o : ℕ) → o < 2 → (frame : List Float) → mixed (chunk (channelsOfOrder n) o weights) (mirrored neg frame)
+        ≡ mixed (chunk (channelsOfOrder n) (otherEar o) weights) frame
     swap zero h frame = m .swaps right frame
     swap (suc zero) h frame = m .swaps left frame
     swap (suc (suc o)) h frame = absurd (omega arith)
@@ -48,8 +49,10 @@ module _ (n : ℕ) (order : refusesOrder n ≡ false) (weights : List Float) (sa
   unfolding rows hundredths
   long = ap length same ∙ by-order (λ (m : ℕ). length (rows m) ≡ 2 * channelsOfOrder m) refl refl refl n order
 
-  fits-accepted : (frames stride inputs out : ℕ) → frames ≤ stride → inputs ≡ channelsOfOrder n * stride → out ≡ 2 * stride
-      → refusalOf (record { outputs = 2; channels = channelsOfOrder n; frames = frames; stride = stride }) weights inputs out ≡ 0
+  fits-accepted : (frames stride inputs out : ℕ) → frames ≤ stride → inputs ≡ channelsOfOrder n * stride
+      → out ≡ 2 * stride
+      → refusalOf (record { outputs = 2; channels = channelsOfOrder n; frames = frames; stride = stride }) weights
+      inputs out ≡ 0
   fits-accepted frames stride inputs out fit e o =
       let k : ℕ = channelsOfOrder n in
       let some = few-channels n order in
@@ -61,7 +64,8 @@ module _ (n : ℕ) (order : refusesOrder n ≡ false) (weights : List Float) (sa
           count-inside k 16 (some .0) (some .1),
           (
             both-off planes (not (eqb (length weights) (2 * k)))
-                (both-off (unfit inputs k stride frames) (unfit out 2 stride frames) (planes-fit inputs k stride frames fit e) (planes-fit out 2 stride frames fit o))
+                (both-off (unfit inputs k stride frames) (unfit out 2 stride frames)
+                (planes-fit inputs k stride frames fit e) (planes-fit out 2 stride frames fit o))
                 (equal-passes (length weights) (2 * k) long),
             (ap hasNonfinite same ∙ rows-finite n order, tt),
           ),

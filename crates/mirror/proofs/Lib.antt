@@ -1,5 +1,5 @@
--- Laws of mirrored scenes: of angles, directions and speakers, of blocks, of what is played of a scene, of the two ears; of the parts of a sum, of
--- the convolver and of surround gains. And readings that are refuted.
+-- Laws of mirrored scenes: of angles, directions and speakers, of blocks, of what is played of a scene, of the two
+-- ears; of the parts of a sum, of the convolver and of surround gains. And readings that are refuted.
 mod Angles
 mod Swapped
 mod Directions

@@ -1,6 +1,7 @@
--- A speaker is silent where the azimuth is from 90 to 270 degrees ahead of it (`silent-ahead`), or behind it (`silent-behind`). So in 5.1 both
--- surround speakers sound only where the front ones are silent (`settled-51`), and in 7.1 of the side speakers one is silent (`sides-71`), and of the
--- rear ones as far as the limit (`rear-71`). Assumes nothing.
+-- A speaker is silent where the azimuth is from 90 to 270 degrees ahead of it (`silent-ahead`), or behind it
+-- (`silent-behind`). So in 5.1 both surround speakers sound only where the front ones are silent (`settled-51`), and in
+-- 7.1 of the side speakers one is silent (`sides-71`), and of the rear ones as far as the limit (`rear-71`). Assumes
+-- nothing.
 use mathlib.Core.Path.{_≡_, refl, sym, ap, _∙_, subst}
 use mathlib.Core.Logic.{_⊎_, inl, inr}
 use mathlib.Core.Bool.{Bool, false, cond}
@@ -43,7 +44,8 @@ module _ (a : Float) (A : 0 < number a .over) where
   unfolding isNear
   high-end t h =
       let low = lt (sub binary64 t (float (pos 90))) a in
-      ap (λ (b : Bool). cond low b false) (not-under (add binary64 t (float (pos 90))) h) ∙ either (λ (b : Bool). b ≡ false) low refl refl
+      ap (λ (b : Bool). cond low b false) (not-under (add binary64 t (float (pos 90))) h)
+      ∙ either (λ (b : Bool). b ≡ false) low refl refl
 
   far-silent : (s : Float) → Far (placeOf a s) → rawOf a s ≡ zero-float
   unfolding rawOf
@@ -58,10 +60,12 @@ module _ (a : Float) (A : 0 < number a .over) where
 
     -- ahead of the speaker by 90 degrees at least, and by 270 at most; behind it
     abbrev pub Ahead : Type 0
-    Ahead = FarOn (add binary64 s (float (pos 90))) × FarOn (sub binary64 s (float (pos 180))) × FarBack (sub binary64 on (float (pos 90)))
+    Ahead = FarOn (add binary64 s (float (pos 90))) × FarOn (sub binary64 s (float (pos 180)))
+        × FarBack (sub binary64 on (float (pos 90)))
 
     abbrev pub Behind : Type 0
-    Behind = FarBack (sub binary64 s (float (pos 90))) × FarBack (add binary64 s (float (pos 180))) × FarOn (add binary64 back (float (pos 90)))
+    Behind = FarBack (sub binary64 s (float (pos 90))) × FarBack (add binary64 s (float (pos 180)))
+        × FarOn (add binary64 back (float (pos 90)))
 
     silent-ahead : Ahead → rawOf a s ≡ zero-float
     unfolding placeOf
@@ -90,11 +94,19 @@ module _ (a : Float) (A : 0 < number a .over) where
   -- behind to the left, and to the right
   front-left : AtMost (whole 120) (number a) → AtMost (number a) (whole 180) → FrontSilent
   unfolding add sub neg ofInt round
-  front-left h k = (silent-ahead a A (float (pos 30)) (omega arith), silent-ahead a A (float (negsuc 29)) (omega arith), silent-ahead a A (float (pos 0)) (omega arith))
+  front-left h k = (
+    silent-ahead a A (float (pos 30)) (omega arith),
+    silent-ahead a A (float (negsuc 29)) (omega arith),
+    silent-ahead a A (float (pos 0)) (omega arith),
+  )
 
   front-right : AtMost (number a) (fraction 0 120 1) → AtMost (fraction 0 180 1) (number a) → FrontSilent
   unfolding add sub neg ofInt round
-  front-right h k = (silent-behind a A (float (pos 30)) (omega arith), silent-behind a A (float (negsuc 29)) (omega arith), silent-behind a A (float (pos 0)) (omega arith))
+  front-right h k = (
+    silent-behind a A (float (pos 30)) (omega arith),
+    silent-behind a A (float (negsuc 29)) (omega arith),
+    silent-behind a A (float (pos 0)) (omega arith),
+  )
 
   module _ (H : AtMost (magnitude (number a)) (whole 180)) where
     pub settled-51 : OneZero (gainAt (pos 110)) (gainAt (negsuc 109)) ⊎ FrontSilent
@@ -102,12 +114,15 @@ module _ (a : Float) (A : 0 < number a .over) where
     settled-51 =
         by-side (whole 160) (number a) (λ l. inr (front-left (omega arith) (omega arith)))
         (λ h. by-side (number a) (fraction 0 160 1) (λ l. inr (front-right (omega arith) (omega arith)))
-        (λ k. by-side (number a) (whole 0) (λ l. inl (inl (silent-behind a A (float (pos 110)) (omega arith)))) (λ l. inl (inr (silent-ahead a A (float (negsuc 109)) (omega arith))))))
+        (λ k. by-side (number a) (whole 0) (λ l. inl (inl (silent-behind a A (float (pos 110)) (omega arith))))
+        (λ l. inl (inr (silent-ahead a A (float (negsuc 109)) (omega arith))))))
 
     pub sides-71 : OneZero (gainAt (pos 90)) (gainAt (negsuc 89))
     unfolding add sub neg ofInt round
-    sides-71 = by-side (number a) (whole 0) (λ l. inl (silent-behind a A (float (pos 90)) (omega arith))) (λ l. inr (silent-ahead a A (float (negsuc 89)) (omega arith)))
+    sides-71 = by-side (number a) (whole 0) (λ l. inl (silent-behind a A (float (pos 90)) (omega arith)))
+        (λ l. inr (silent-ahead a A (float (negsuc 89)) (omega arith)))
 
   pub rear-71 : AtMost (magnitude (number a)) (number rearLimit) → OneZero (gainAt (pos 150)) (gainAt (negsuc 149))
   unfolding add sub neg ofInt round
-  rear-71 H = by-side (number a) (whole 0) (λ l. inl (silent-behind a A (float (pos 150)) (omega arith))) (λ l. inr (silent-ahead a A (float (negsuc 149)) (omega arith)))
+  rear-71 H = by-side (number a) (whole 0) (λ l. inl (silent-behind a A (float (pos 150)) (omega arith)))
+      (λ l. inr (silent-ahead a A (float (negsuc 149)) (omega arith)))

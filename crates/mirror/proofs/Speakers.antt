@@ -1,5 +1,5 @@
--- The rows and the weights of a speaker and of its partner. That the tables pair them is computed; 0 and 180 are their own opposites: -0.0 and -180.0
--- give the bits that 0.0 and 180.0 give. Assumes nothing.
+-- The rows and the weights of a speaker and of its partner. That the tables pair them is computed; 0 and 180 are their
+-- own opposites: -0.0 and -180.0 give the bits that 0.0 and 180.0 give. Assumes nothing.
 use mathlib.Core.Path.{_≡_, refl, sym, ap, _∙_, subst}
 use mathlib.Core.Bool.{Bool, true, false, not, _&&_, _||_, cond, true≢false, and-eq-true-iff}
 use mathlib.Core.List.{List, [], _∷_, map}
@@ -35,7 +35,8 @@ use Rattle.mirror.specs.Partners.{partnerIn, symmetric, customPartners, 
 use Rattle.mirror.specs.Scenes.{Swapped, SpeakersMirror}
 use Rattle.mirror.proofs.Angles.{angle-mirrors, sine-stays}
 use Rattle.mirror.proofs.Swapped.{times-odd, swapped-take, swapped-map}
-use Rattle.mirror.proofs.Directions.{cosine-of-multiple, refusal-mirrored, direction-mirrors, gainsAnswered, weightsAnswered}
+use Rattle.mirror.proofs.Directions.{cosine-of-multiple, refusal-mirrored, direction-mirrors, gainsAnswered}
+use Rattle.mirror.proofs.Directions.{weightsAnswered}
 
 -- ---- an azimuth that lies where its opposite does, and so twice and three times it
 
@@ -53,7 +54,8 @@ isOwn a = samePlace a && samePlace (float (pos 2) · a) && samePlace (float (pos
 own-of : (a : Float) → isOwn a ≡ true → Own a
 unfolding isOwn
 own-of a t =
-    let (first, third) = and-eq-true-iff (samePlace a && samePlace (float (pos 2) · a)) (samePlace (float (pos 3) · a)) .0 t in
+    let (first, third) = and-eq-true-iff (samePlace a && samePlace (float (pos 2) · a))
+    (samePlace (float (pos 3) · a)) .0 t in
     let (one, two) = and-eq-true-iff (samePlace a) (samePlace (float (pos 2) · a)) .0 first in
     record { once = eqb-true _ _ one; twice = eqb-true _ _ two; thrice = eqb-true _ _ third }
 
@@ -99,19 +101,24 @@ AllHold P (k ∷ ks) = P k × AllHold P ks
 
 one-of : (P : ℕ → Type 0) (ks : List ℕ) → AllHold P ks → (n : ℕ) → any (map (eqb n) ks) ≡ true → P n
 one-of P [] h n t = absurd (true≢false (sym t))
-one-of P (k ∷ ks) h n t = by-test (λ (b : Bool). b || any (map (eqb n) ks) ≡ true → P n) (eqb n k) (λ e u. subst P (sym (eqb-true n k e)) (h .0)) (λ e u. one-of P ks (h .1) n u) t
+one-of P (k ∷ ks) h n t = by-test (λ (b : Bool). b || any (map (eqb n) ks) ≡ true → P n) (eqb n k)
+    (λ e u. subst P (sym (eqb-true n k e)) (h .0)) (λ e u. one-of P ks (h .1) n u) t
 
-pub of-symmetric : (P : ℕ → List ℕ → Type 0) → AllHold (λ (n : ℕ). P n (customPartners n)) symmetric → ((n : ℕ) → P n []) → (n : ℕ) → P n (partners (Custom n))
+pub of-symmetric : (P : ℕ → List ℕ → Type 0) → AllHold (λ (n : ℕ). P n (customPartners n)) symmetric
+    → ((n : ℕ) → P n []) → (n : ℕ) → P n (partners (Custom n))
 of-symmetric P all none n =
-    by-test (λ (b : Bool). P n (cond b (customPartners n) [])) (any (map (eqb n) symmetric)) (λ e. one-of (λ (k : ℕ). P k (customPartners k)) symmetric all n e) (λ e. none n)
+    by-test (λ (b : Bool). P n (cond b (customPartners n) [])) (any (map (eqb n) symmetric))
+    (λ e. one-of (λ (k : ℕ). P k (customPartners k)) symmetric all n e) (λ e. none n)
 
 layout-paired : (l : Layout) → Paired (azimuthAt l) (partners l)
-unfolding isAcross acrossOf isOwn toBits customAzimuth turnedBack place cut units turned neg lt add sub mul div round ofInt
+unfolding isAcross acrossOf isOwn toBits customAzimuth turnedBack place cut units turned neg lt add sub mul div round
+    ofInt
 layout-paired Mono = refl
 layout-paired Stereo = refl
 layout-paired Surround51 = refl
 layout-paired Surround71 = refl
-layout-paired (Custom n) = of-symmetric (λ (k : ℕ) (pairs : List ℕ). Paired (azimuthAt (Custom k)) pairs) (refl, (refl, (refl, (refl, (refl, (refl, (refl, tt))))))) (λ k. refl) n
+layout-paired (Custom n) = of-symmetric (λ (k : ℕ) (pairs : List ℕ). Paired (azimuthAt (Custom k)) pairs)
+    (refl, (refl, (refl, (refl, (refl, (refl, (refl, tt))))))) (λ k. refl) n
 
 positions-paired : Paired positionAzimuth positionPartners
 unfolding isAcross acrossOf isOwn toBits place cut units turned neg mul round ofInt
@@ -125,21 +132,26 @@ azimuth-held Surround51 i = ofInt-fits binary64 _
 azimuth-held Surround71 i = ofInt-fits binary64 _
 azimuth-held (Custom n) i =
     let a : Float = customAzimuth n i in
-    cond-fits binary64 (lt (float (pos 180)) a) (sub binary64 a (float (pos 360))) a (sub-fits binary64 a (float (pos 360)))
+    cond-fits binary64 (lt (float (pos 180)) a) (sub binary64 a (float (pos 360))) a
+    (sub-fits binary64 a (float (pos 360)))
     (sub-fits binary64 (mul binary64 (float (pos i)) (div binary64 (float (pos 360)) (float (pos n)))) (float (pos 90)))
 
-partner-across : (azimuth : ℕ → Float) → ((i : ℕ) → Held (azimuth i)) → (pairs : List ℕ) → Paired azimuth pairs → (i : ℕ) → i < length pairs → azimuth (partnerIn pairs i) ≡ acrossOf (azimuth i)
+partner-across : (azimuth : ℕ → Float) → ((i : ℕ) → Held (azimuth i)) → (pairs : List ℕ) → Paired azimuth pairs
+    → (i : ℕ) → i < length pairs → azimuth (partnerIn pairs i) ≡ acrossOf (azimuth i)
 unfolding isAcross
 partner-across azimuth held pairs p i h =
     let a : Float = azimuth (partnerIn pairs i) in
     let b : Float = acrossOf (azimuth i) in
     let none : not (isAcross azimuth pairs i) ≡ false =
-    ap (λ (k : ℕ). not (isAcross azimuth pairs k)) (sym (zero-add i)) ∙ any-off 0 (length pairs) (λ (k : ℕ). not (isAcross azimuth pairs k)) p i h in
+    ap (λ (k : ℕ). not (isAcross azimuth pairs k)) (sym (zero-add i))
+    ∙ any-off 0 (length pairs) (λ (k : ℕ). not (isAcross azimuth pairs k)) p i h in
     let same : toBits binary64 a ≡ toBits binary64 b = eqb-true _ _ (not-false (isAcross azimuth pairs i) none) in
-    sym (ofBits-toBits binary64 a (held (partnerIn pairs i))) ∙ ap (ofBits binary64) same ∙ ofBits-toBits binary64 b (across-held (azimuth i) (held i))
+    sym (ofBits-toBits binary64 a (held (partnerIn pairs i))) ∙ ap (ofBits binary64) same
+    ∙ ofBits-toBits binary64 b (across-held (azimuth i) (held i))
 
 -- ---- whatever is given towards an azimuth
-module _ (given : Float → List Float) (swaps : (a : Float) → Swapped (given a) (given (neg a))) (stays : (a : Float) → Own a → given (neg a) ≡ given a) where
+module _ (given : Float → List Float) (swaps : (a : Float) → Swapped (given a) (given (neg a)))
+    (stays : (a : Float) → Own a → given (neg a) ≡ given a) where
   across-swapped : (a : Float) → Swapped (given a) (given (acrossOf a))
   unfolding acrossOf
   across-swapped a =
@@ -147,10 +159,12 @@ module _ (given : Float → List Float) (swaps : (a : Float) → Swapped (given 
       (λ e. subst (λ (xs : List Float). Swapped (given a) xs) (stays a (own-of a e)) (swaps a))
       (λ e. swaps a)
 
-  partners-swapped : (azimuth : ℕ → Float) → ((i : ℕ) → Held (azimuth i)) → (pairs : List ℕ) → Paired azimuth pairs → (i : ℕ) → i < length pairs
+  partners-swapped : (azimuth : ℕ → Float) → ((i : ℕ) → Held (azimuth i)) → (pairs : List ℕ) → Paired azimuth pairs
+      → (i : ℕ) → i < length pairs
       → Swapped (given (azimuth i)) (given (azimuth (partnerIn pairs i)))
   partners-swapped azimuth held pairs p i h =
-      subst (λ (b : Float). Swapped (given (azimuth i)) (given b)) (sym (partner-across azimuth held pairs p i h)) (across-swapped (azimuth i))
+      subst (λ (b : Float). Swapped (given (azimuth i)) (given b)) (sym (partner-across azimuth held pairs p i h))
+      (across-swapped (azimuth i))
 
 -- ---- rows and weights
 
@@ -159,27 +173,33 @@ module _ (order : ℕ) where
     row-swaps : (a : Float) → Swapped (rowTowards order n channels a) (rowTowards order n channels (neg a))
     row-swaps a =
         let gains : Float → List Float = λ b. Harmonics.outcome order (towards b) .gains in
-        swapped-map lateral (times-odd binary64 (inverseRoot n)) 0 (take channels (gains a)) (take channels (gains (neg a)))
+        swapped-map lateral (times-odd binary64 (inverseRoot n)) 0 (take channels (gains a))
+        (take channels (gains (neg a)))
         (swapped-take lateral channels 0 (gains a) (gains (neg a)) (direction-mirrors order (towards a) .gains))
 
     row-stays : (a : Float) → Own a → rowTowards order n channels (neg a) ≡ rowTowards order n channels a
-    row-stays a o = λ i. scaled (inverseRoot n) (take channels (gainsAnswered (refusal-mirrored order (towards a) i) (upTo order (own-waves a o i))))
+    row-stays a o = λ i. scaled (inverseRoot n)
+        (take channels (gainsAnswered (refusal-mirrored order (towards a) i) (upTo order (own-waves a o i))))
 
   rows-swapped : (l : Layout) (channels i : ℕ) → i < length (partners l)
-      → Swapped (rowBy order l (channelsOf l) channels i) (rowBy order l (channelsOf l) channels (partnerIn (partners l) i))
+      → Swapped (rowBy order l (channelsOf l) channels i)
+      (rowBy order l (channelsOf l) channels (partnerIn (partners l) i))
   rows-swapped l channels =
       let n : ℕ = channelsOf l in
-      partners-swapped (rowTowards order n channels) (row-swaps n channels) (row-stays n channels) (azimuthAt l) (azimuth-held l) (partners l) (layout-paired l)
+      partners-swapped (rowTowards order n channels) (row-swaps n channels) (row-stays n channels) (azimuthAt l)
+      (azimuth-held l) (partners l) (layout-paired l)
 
   abbrev weightsTowards : Float → List Float
   weightsTowards a = Virtual.outcome order (towards a) .weights
 
   weights-stay : (a : Float) → Own a → weightsTowards (neg a) ≡ weightsTowards a
-  weights-stay a o = λ i. weightsAnswered (refusal-mirrored order (towards a) i) (weigh (cosineOf order) (upTo order (own-waves a o i)))
+  weights-stay a o = λ i. weightsAnswered (refusal-mirrored order (towards a) i)
+      (weigh (cosineOf order) (upTo order (own-waves a o i)))
 
   pub speakers-mirror : SpeakersMirror order
   speakers-mirror = record {
     row = row-swaps;
     rows = rows-swapped;
-    weights = partners-swapped weightsTowards (λ a. direction-mirrors order (towards a) .weights) weights-stay positionAzimuth (λ i. ofInt-fits binary64 _) positionPartners positions-paired;
+    weights = partners-swapped weightsTowards (λ a. direction-mirrors order (towards a) .weights) weights-stay
+        positionAzimuth (λ i. ofInt-fits binary64 _) positionPartners positions-paired;
   }

@@ -1,6 +1,6 @@
--- The gains of 5.1 at the opposite azimuth are those of the speakers across, bit for bit, and those of 7.1 as far as the limit
--- (`surround-exchanged`): the raw gains are, and their squares add up to the same, since of each pair one is 0.0, or the sum before it is
--- (`parts-exchanged`). Assumes nothing.
+-- The gains of 5.1 at the opposite azimuth are those of the speakers across, bit for bit, and those of 7.1 as far as
+-- the limit (`surround-exchanged`): the raw gains are, and their squares add up to the same, since of each pair one is
+-- 0.0, or the sum before it is (`parts-exchanged`). Assumes nothing.
 use mathlib.Core.Path.{_≡_, refl, sym, ap, _∙_}
 use mathlib.Core.Logic.{inl, ⊎-map}
 use mathlib.Core.Bool.{Bool, true, false, not, cond, true≢false}
@@ -49,23 +49,28 @@ getD-table : {A : Type 0} (n : ℕ) (f : ℕ → A) (k : ℕ) (d : A) → getD (
 getD-table {A} n f k d =
     elim (decLt k n) [
       | yes l ↦ getD-tab 0 n f k d l ∙ ap f (zero-add k) ∙ sym (ap (λ (b : Bool). cond b (f k) d) (lt-ltb k n l))
-      | no l ↦ List·getD-eq-default (tab 0 n f) d {n = k} (omega (arith, length-tab 0 n f)) ∙ sym (ap (λ (b : Bool). cond b (f k) d) (le-ltb k n (omega arith)))
+      | no l ↦ List·getD-eq-default (tab 0 n f) d {n = k} (omega (arith, length-tab 0 n f))
+          ∙ sym (ap (λ (b : Bool). cond b (f k) d) (le-ltb k n (omega arith)))
     ]
 
 across-twice : (c : ℕ) → acrossFrom (acrossFrom c) ≡ c
 across-twice = tabled 8 _ _ refl (λ c h. ap acrossFrom (across-beyond c h) ∙ across-beyond c h)
 
 -- below a number of channels, told from a table of the first eight
-below : (n : ℕ) → tab 0 8 (λ c. ltb (acrossFrom c) n) ≡ tab 0 8 (λ c. ltb c n) → (c : ℕ) → ltb (acrossFrom c) n ≡ ltb c n
+below : (n : ℕ) → tab 0 8 (λ c. ltb (acrossFrom c) n) ≡ tab 0 8 (λ c. ltb c n) → (c : ℕ)
+    → ltb (acrossFrom c) n ≡ ltb c n
 below n e = tabled 8 _ _ e (λ c h. ap (λ (k : ℕ). ltb k n) (across-beyond c h))
 
 below-channels : (l : Layout) → surround l ≡ true → (c : ℕ) → ltb (acrossFrom c) (channelsOf l) ≡ ltb c (channelsOf l)
 below-channels =
-    by-surround (λ (l : Layout). (c : ℕ) → ltb (acrossFrom c) (channelsOf l) ≡ ltb c (channelsOf l)) (below 6 refl) (below 8 refl)
+    by-surround (λ (l : Layout). (c : ℕ) → ltb (acrossFrom c) (channelsOf l) ≡ ltb c (channelsOf l)) (below 6 refl)
+    (below 8 refl)
 
 -- a table over the speakers across
-table-across : {A : Type 0} (f g : ℕ → A) (d : A) → ((c : ℕ) → f (acrossFrom c) ≡ g c) → (c : ℕ) → getD (tab 0 16 f) (acrossFrom c) d ≡ getD (tab 0 16 g) c d
-table-across f g d h c = getD-table 16 f (acrossFrom c) d ∙ (λ i. cond (below 16 refl c i) (h c i) d) ∙ sym (getD-table 16 g c d)
+table-across : {A : Type 0} (f g : ℕ → A) (d : A) → ((c : ℕ) → f (acrossFrom c) ≡ g c) → (c : ℕ)
+    → getD (tab 0 16 f) (acrossFrom c) d ≡ getD (tab 0 16 g) c d
+table-across f g d h c =
+    getD-table 16 f (acrossFrom c) d ∙ (λ i. cond (below 16 refl c i) (h c i) d) ∙ sym (getD-table 16 g c d)
 
 limit-number : 0 < number (float (pos 180)) .over
 unfolding ofInt round
@@ -81,7 +86,8 @@ module _ (l : Layout) (e : surround l ≡ true) (a : Float) where
 
   raw-table : (c : ℕ) → getD (raw (neg a)) (acrossFrom c) nan ≡ getD (raw a) c nan
   unfolding rawGains
-  raw-table = table-across (place (neg a)) (place a) nan (λ c. λ i. cond (below-channels l e c i) (raw-across l e a c i) zero-float)
+  raw-table = table-across (place (neg a)) (place a) nan
+      (λ c. λ i. cond (below-channels l e c i) (raw-across l e a c i) zero-float)
     where
       place : Float → ℕ → Float
       place b k = cond (ltb k (channelsOf l)) (channelGain l b k) zero-float
@@ -91,11 +97,14 @@ module _ (l : Layout) (e : surround l ≡ true) (a : Float) where
   unfolding sumOf
   squares-across =
       ap (total zero-float) (tab-ext 0 (channelsOf l) (squareAt (raw (neg a))) (λ c. squareAt (raw a) (acrossFrom c))
-      (λ c h. ap (λ (g : Float). mul binary64 g g) (ap (λ (k : ℕ). getD (raw (neg a)) k nan) (sym (across-twice c)) ∙ raw-table (acrossFrom c))))
+      (λ c h. ap (λ (g : Float). mul binary64 g g)
+      (ap (λ (k : ℕ). getD (raw (neg a)) k nan) (sym (across-twice c)) ∙ raw-table (acrossFrom c))))
 
-  gains-across : sumAt (neg a) ≡ sumAt a → (c : ℕ) → getD (gainsOf l (neg a)) (acrossFrom c) zero-float ≡ getD (gainsOf l a) c zero-float
+  gains-across : sumAt (neg a) ≡ sumAt a → (c : ℕ) → getD (gainsOf l (neg a)) (acrossFrom c) zero-float
+      ≡ getD (gainsOf l a) c zero-float
   unfolding gainsOf dividedBy
-  gains-across h = table-across (place (neg a)) (place a) zero-float (λ c. λ i. div binary64 (raw-table c i) (rootOf binary64 (h i)))
+  gains-across h =
+      table-across (place (neg a)) (place a) zero-float (λ c. λ i. div binary64 (raw-table c i) (rootOf binary64 (h i)))
     where
       place : Float → ℕ → Float
       place b k = div binary64 (getD (raw b) k nan) (rootOf binary64 (sumAt b))
@@ -105,7 +114,9 @@ module _ (l : Layout) (e : surround l ≡ true) (a : Float) where
   answer-is : (b : Float) → outcome l b .gains ≡ cond (refusesAzimuth b) silence (gainsOf l b)
   answer-is b = go (surround l) (refusesAzimuth b) e
     where
-      go : (s r : Bool) → s ≡ true → answered {A = SurroundGains} (firstOf (2 when not s ∷ 3 when r ∷ [])) (record { refusal = 0; gains = gainsOf l b }) (λ n. record { refusal = n; gains = silence }) .gains ≡ cond r silence (gainsOf l b)
+      go : (s r : Bool) → s ≡ true → answered {A = SurroundGains} (firstOf (2 when not s ∷ 3 when r ∷ []))
+          (record { refusal = 0; gains = gainsOf l b }) (λ n. record { refusal = n; gains = silence }) .gains
+          ≡ cond r silence (gainsOf l b)
       go true true k = refl
       go true false k = refl
       go false r k = absurd (true≢false (sym k))
@@ -115,11 +126,15 @@ module _ (l : Layout) (e : surround l ≡ true) (a : Float) where
 
   answer-across : (refusesAzimuth a ≡ false → sumAt (neg a) ≡ sumAt a) → GainsExchanged l a
   answer-across h = record {
-    refusal = refusal-is l (neg a) ∙ ap (λ (r : Bool). firstOf (2 when not (surround l) ∷ 3 when r ∷ [])) (refused-negated (float (pos 180)) a) ∙ sym (refusal-is l a);
+    refusal = refusal-is l (neg a) ∙ ap (λ (r : Bool). firstOf (2 when not (surround l) ∷ 3 when r ∷ []))
+        (refused-negated (float (pos 180)) a) ∙ sym (refusal-is l a);
     gains =
         λ c.
-        ap (λ (gains : List Float). getD gains (acrossFrom c) zero-float) (answer-is (neg a) ∙ ap (λ (r : Bool). cond r silence (gainsOf l (neg a))) (refused-negated (float (pos 180)) a))
-        ∙ by-test (λ (r : Bool). getD (cond r silence (gainsOf l (neg a))) (acrossFrom c) zero-float ≡ getD (cond r silence (gainsOf l a)) c zero-float) (refusesAzimuth a)
+        ap (λ (gains : List Float). getD gains (acrossFrom c) zero-float)
+        (answer-is (neg a) ∙ ap (λ (r : Bool). cond r silence (gainsOf l (neg a)))
+        (refused-negated (float (pos 180)) a))
+        ∙ by-test (λ (r : Bool). getD (cond r silence (gainsOf l (neg a))) (acrossFrom c) zero-float
+        ≡ getD (cond r silence (gainsOf l a)) c zero-float) (refusesAzimuth a)
         (λ r. quiet (acrossFrom c) ∙ sym (quiet c)) (λ r. gains-across (h r) c)
         ∙ sym (ap (λ (gains : List Float). getD gains c zero-float) (answer-is a));
   }
@@ -136,10 +151,12 @@ module _ (xs : List Float) where
   pair-silent : (n : ℕ) → OneZero (getD xs n nan) (getD xs (suc n) nan) → OneZero (squareAt xs n) (squareAt xs (suc n))
   pair-silent n = ⊎-map (square-silent n) (square-silent (suc n))
 
-  silent-before : getD xs 0 nan ≡ zero-float → getD xs 1 nan ≡ zero-float → getD xs 2 nan ≡ zero-float → getD xs 3 nan ≡ zero-float
+  silent-before : getD xs 0 nan ≡ zero-float → getD xs 1 nan ≡ zero-float → getD xs 2 nan ≡ zero-float
+      → getD xs 3 nan ≡ zero-float
       → total zero-float (tab 0 4 (squareAt xs)) ≡ zero-float
   unfolding add sum round size span climb units odd
-  silent-before x y z w = λ i. total zero-float (square-silent 0 x i ∷ square-silent 1 y i ∷ square-silent 2 z i ∷ square-silent 3 w i ∷ [])
+  silent-before x y z w =
+      λ i. total zero-float (square-silent 0 x i ∷ square-silent 1 y i ∷ square-silent 2 z i ∷ square-silent 3 w i ∷ [])
 
 module _ (a : Float) (r : refusesAzimuth a ≡ false) where
   abbrev A : 0 < number a .over
@@ -154,14 +171,17 @@ module _ (a : Float) (r : refusesAzimuth a ≡ false) where
   sum-51 =
       let xs = rawGains Surround51 a 6 in
       squares-across Surround51 refl a
-      ∙ parts-exchanged .six (squareAt xs) (square-held xs) (⊎-map (pair-silent xs 4) (λ z. silent-before xs (z .0) (z .1) (z .2) refl) (settled-51 a A H))
+      ∙ parts-exchanged .six (squareAt xs) (square-held xs)
+      (⊎-map (pair-silent xs 4) (λ z. silent-before xs (z .0) (z .1) (z .2) refl) (settled-51 a A H))
 
-  sum-71 : refusesAngle rearLimit a ≡ false → sumOf 8 (rawGains Surround71 (neg a) 8) ≡ sumOf 8 (rawGains Surround71 a 8)
+  sum-71 : refusesAngle rearLimit a ≡ false → sumOf 8 (rawGains Surround71 (neg a) 8)
+      ≡ sumOf 8 (rawGains Surround71 a 8)
   unfolding sumOf rawGains channelGain ofInt round
   sum-71 h =
       let xs = rawGains Surround71 a 8 in
       squares-across Surround71 refl a
-      ∙ parts-exchanged .eight (squareAt xs) (square-held xs) (inl (pair-silent xs 4 (sides-71 a A H))) (inl (pair-silent xs 6 (rear-71 a A (accepted-size rearLimit a (lit< tt) h))))
+      ∙ parts-exchanged .eight (squareAt xs) (square-held xs) (inl (pair-silent xs 4 (sides-71 a A H)))
+      (inl (pair-silent xs 6 (rear-71 a A (accepted-size rearLimit a (lit< tt) h))))
 
 pub surround-exchanged : SurroundExchanged
 surround-exchanged = record {

@@ -1,5 +1,6 @@
--- Lists of which one is the other negated at some places, but for the signs of zeros: joined, cut short, read at a place, put down by a rule, and
--- multiplied or narrowed. Whatever the places are; and what is mixed of such lists. Assumes nothing.
+-- Lists of which one is the other negated at some places, but for the signs of zeros: joined, cut short, read at a
+-- place, put down by a rule, and multiplied or narrowed. Whatever the places are; and what is mixed of such lists.
+-- Assumes nothing.
 use mathlib.Core.Path.{_≡_, refl, sym, ap, ap₂, _∙_}
 use mathlib.Core.Bool.{Bool, true, false, cond}
 use mathlib.Core.List.{List, [], _∷_, _++_, map, map-append}
@@ -22,7 +23,8 @@ use Rattle.matrix.proofs.Mirror.{getD-negated, negated-take, negated-append, ma
 use Rattle.matrix.proofs.Ears.{mixed-mirrored}
 use Rattle.mirror.specs.Scenes.{Swapped}
 
--- ---- what is done to each number: of the opposite it makes the opposite, and it looks at no zero's sign, but for the sign of the zero that it gives
+-- ---- what is done to each number: of the opposite it makes the opposite, and it looks at no zero's sign, but for the
+-- sign of the zero that it gives
 
 pub record Odd (f : Float → Float) : Type 0 where
   pub alike : (x y : Float) → unsignedZero x ≡ unsignedZero y → unsignedZero (f x) ≡ unsignedZero (f y)
@@ -36,7 +38,11 @@ factor-odd f k = record { alike = λ x y h. mul-alike f k k x y refl h; negated 
 
 pub narrowed-odd : Odd narrowed
 unfolding rounded neg
-narrowed-odd = record { alike = λ x y h. unsigned x ∙ ap (λ (z : Float). unsignedZero (narrowed z)) h ∙ sym (unsigned y); negated = opposite }
+narrowed-odd = record {
+  alike = λ x y h. unsigned x ∙ ap (λ (z : Float). unsignedZero (narrowed z)) h
+      ∙ sym (unsigned y);
+  negated = opposite;
+}
   where
     unsigned : (x : Float) → unsignedZero (narrowed x) ≡ unsignedZero (narrowed (unsignedZero x))
     unsigned nan = refl
@@ -60,39 +66,49 @@ module _ (named : ℕ → Bool) where
 
   -- ---- joined
 
-  pub swapped-append : (i : ℕ) (xs xs' ys ys' : List Float) → SwappedAt i xs xs' → SwappedAt (i + length xs) ys ys' → SwappedAt i (xs ++ ys) (xs' ++ ys')
+  pub swapped-append : (i : ℕ) (xs xs' ys ys' : List Float) → SwappedAt i xs xs' → SwappedAt (i + length xs) ys ys'
+      → SwappedAt i (xs ++ ys) (xs' ++ ys')
   swapped-append i xs xs' ys ys' h k =
-      map-append unsignedZero xs' ys' ∙ ap₂ _++_ h k ∙ sym (map-append unsignedZero (negatedAt neg named i xs) (negatedAt neg named (i + length xs) ys))
+      map-append unsignedZero xs' ys' ∙ ap₂ _++_ h k
+      ∙ sym (map-append unsignedZero (negatedAt neg named i xs) (negatedAt neg named (i + length xs) ys))
       ∙ ap (map unsignedZero) (sym (negated-append neg named i xs ys))
 
   -- ---- cut short
 
   pub swapped-take : (n i : ℕ) (xs ys : List Float) → SwappedAt i xs ys → SwappedAt i (take n xs) (take n ys)
-  swapped-take n i xs ys h = map-take unsignedZero n ys ∙ ap (take n) h ∙ sym (map-take unsignedZero n (negatedAt neg named i xs)) ∙ ap (map unsignedZero) (negated-take neg named n i xs)
+  swapped-take n i xs ys h = map-take unsignedZero n ys ∙ ap (take n) h
+      ∙ sym (map-take unsignedZero n (negatedAt neg named i xs))
+      ∙ ap (map unsignedZero) (negated-take neg named n i xs)
 
   -- ---- read at a place, and put down by a rule
 
-  pub swapped-at : (xs ys : List Float) → SwappedAt 0 xs ys → (k : ℕ) → unsignedZero (getD ys k nan) ≡ unsignedZero (ifNamed k (getD xs k nan))
+  pub swapped-at : (xs ys : List Float) → SwappedAt 0 xs ys → (k : ℕ)
+      → unsignedZero (getD ys k nan) ≡ unsignedZero (ifNamed k (getD xs k nan))
   unfolding neg
   swapped-at xs ys h k =
-      sym (List·getD-map unsignedZero ys k nan) ∙ ap (λ (l : List Float). getD l k nan) h ∙ List·getD-map unsignedZero (negatedAt neg named 0 xs) k nan
-      ∙ ap unsignedZero (getD-negated neg named nan refl 0 xs k ∙ ap (λ (j : ℕ). ifNamed j (getD xs k nan)) (zero-add k))
+      sym (List·getD-map unsignedZero ys k nan) ∙ ap (λ (l : List Float). getD l k nan) h
+      ∙ List·getD-map unsignedZero (negatedAt neg named 0 xs) k nan
+      ∙ ap unsignedZero (getD-negated neg named nan refl 0 xs k
+      ∙ ap (λ (j : ℕ). ifNamed j (getD xs k nan)) (zero-add k))
 
-  pub swapped-tab : (i n : ℕ) (f g : ℕ → Float) → ((k : ℕ) → unsignedZero (g k) ≡ unsignedZero (ifNamed k (f k))) → SwappedAt i (tab i n f) (tab i n g)
+  pub swapped-tab : (i n : ℕ) (f g : ℕ → Float) → ((k : ℕ) → unsignedZero (g k) ≡ unsignedZero (ifNamed k (f k)))
+      → SwappedAt i (tab i n f) (tab i n g)
   swapped-tab i zero f g h = refl
   swapped-tab i (suc n) f g h = ap₂ _∷_ (h i) (swapped-tab (suc i) n f g h)
 
   -- ---- done something to
 
   module _ {f : Float → Float} (odd : Odd f) where
-    pub swapped-by : (i : ℕ) (x y : Float) → unsignedZero y ≡ unsignedZero (ifNamed i x) → unsignedZero (f y) ≡ unsignedZero (ifNamed i (f x))
+    pub swapped-by : (i : ℕ) (x y : Float) → unsignedZero y ≡ unsignedZero (ifNamed i x)
+        → unsignedZero (f y) ≡ unsignedZero (ifNamed i (f x))
     swapped-by i x y h = odd .alike y (ifNamed i x) h ∙ ap unsignedZero (either (named i))
       where
         either : (b : Bool) → f (cond b (neg x) x) ≡ cond b (neg (f x)) (f x)
         either true = odd .negated x
         either false = refl
 
-    map-unsigned : (xs : List Float) → map unsignedZero (map f xs) ≡ map (λ (x : Float). unsignedZero (f x)) (map unsignedZero xs)
+    map-unsigned : (xs : List Float) → map unsignedZero (map f xs) ≡ map (λ (x : Float). unsignedZero (f x))
+        (map unsignedZero xs)
     map-unsigned [] = refl
     map-unsigned (x ∷ xs) = ap₂ _∷_ (odd .alike x (unsignedZero x) (sym (unsigned-twice x))) (map-unsigned xs)
 
@@ -105,7 +121,9 @@ module _ (named : ℕ → Bool) where
 
 pub mixed-weights : (xs ys frame : List Float) → Swapped xs ys → mixed ys frame ≡ mixed xs (mirrored neg frame)
 mixed-weights xs ys frame h =
-    mixed-unsigned ys frame ∙ ap (λ (w : List Float). mixed w (map unsignedZero frame)) h ∙ sym (mixed-unsigned (mirrored neg xs) frame) ∙ mixed-mirrored xs frame
+    mixed-unsigned ys frame ∙ ap (λ (w : List Float). mixed w (map unsignedZero frame)) h
+    ∙ sym (mixed-unsigned (mirrored neg xs) frame) ∙ mixed-mirrored xs frame
 
 pub mixed-frames : (weights xs ys : List Float) → Swapped xs ys → mixed weights ys ≡ mixed weights (mirrored neg xs)
-mixed-frames weights xs ys h = mixed-unsigned weights ys ∙ ap (mixed (map unsignedZero weights)) h ∙ sym (mixed-unsigned weights (mirrored neg xs))
+mixed-frames weights xs ys h =
+    mixed-unsigned weights ys ∙ ap (mixed (map unsignedZero weights)) h ∙ sym (mixed-unsigned weights (mirrored neg xs))

@@ -1,6 +1,6 @@
--- Document 02, E7: "negating those input channels swaps the two ear signals bit for bit, all NaNs as one". What it is for blocks of the decoder: any
--- weights whose outputs have partners, of which the two ears are one case, and two calls of `ambisonic_decoder::process`, the second lent the input
--- planes with those channels negated. Definitions only.
+-- Document 02, E7: "negating those input channels swaps the two ear signals bit for bit, all NaNs as one". What it is
+-- for blocks of the decoder: any weights whose outputs have partners, of which the two ears are one case, and two calls
+-- of `ambisonic_decoder::process`, the second lent the input planes with those channels negated. Definitions only.
 use Prim.Native.Nat.{ℕ, _/_, _<_}
 use mathlib.Core.Path.{_≡_}
 use mathlib.Core.List.{List, map}
@@ -13,7 +13,8 @@ use Rattle.ambisonic_decoder.specs.declared.Decoded.{Decoded}
 use Rattle.ambisonic_decoder.specs.Promise.{Processed}
 use Rattle.matrix.specs.Mirror.{lateral, negatedAt, mirrored}
 
--- each output has a partner: what the output plays of a mirrored frame is what the partner plays of the frame, whatever its samples are
+-- each output has a partner: what the output plays of a mirrored frame is what the partner plays of the frame, whatever
+-- its samples are
 pub record PartnersSwap (outputs channels : ℕ) (weights : List Float) (partner : ℕ → ℕ) : Type 0 where
   pub inside : (o : ℕ) → o < outputs → partner o < outputs
   pub swaps : (o : ℕ) → o < outputs → (frame : List Float)
@@ -31,7 +32,8 @@ pub record Call : Type 0 where
 -- it meets the promise of `ambisonic_decoder::process`
 abbrev pub Meets : ℕ → ℕ → List Float → Call → Type 0
 Meets outputs channels weights c =
-    Processed weights (record { outputs = outputs; channels = channels; frames = c .frames; stride = c .stride }) (c .inputs) (c .out) (c .answer) (c .after)
+    Processed weights (record { outputs = outputs; channels = channels; frames = c .frames; stride = c .stride })
+    (c .inputs) (c .out) (c .answer) (c .after)
 
 -- the frames that it says it played, read from the output planes as it leaves them
 abbrev pub played : ℕ → Call → List (List Float)
@@ -52,8 +54,10 @@ pub record MirrorCall (c d : Call) : Type 0 where
 abbrev pub exchanged : ℕ → (ℕ → ℕ) → List Float → List Float
 exchanged outputs partner frame = tab 0 outputs (λ (o : ℕ). getD frame (partner o) nan)
 
--- of any two such calls of whatever meets the promise: they are refused with the same number or play as many frames, and each frame is exchanged
+-- of any two such calls of whatever meets the promise: they are refused with the same number or play as many frames,
+-- and each frame is exchanged
 pub record BlocksMirror (outputs channels : ℕ) (weights : List Float) (partner : ℕ → ℕ) : Type 0 where
-  pub answers : (c d : Call) → MirrorCall c d → Meets outputs channels weights c → Meets outputs channels weights d → d .answer ≡ c .answer
+  pub answers : (c d : Call) → MirrorCall c d → Meets outputs channels weights c → Meets outputs channels weights d
+      → d .answer ≡ c .answer
   pub plays : (c d : Call) → MirrorCall c d → Meets outputs channels weights c → Meets outputs channels weights d
       → played outputs d ≡ map (exchanged outputs partner) (played outputs c)

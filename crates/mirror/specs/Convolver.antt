@@ -1,7 +1,7 @@
--- Document 01, 'Sums': "parts are added from 0.0, speakers rising". A scene is exchanged left for right, and its bank with it: whether the other ear
--- then hears what the one heard, bit for bit. It does where no speakers but the first two are exchanged; in 5.1 and 7.1 it does where of each later
--- pair one part is 0.0, or those before it add up to 0.0, and else it need not. Shown in proofs/Convolver.antt, and refuted in
--- proofs/RefutedOrder.antt. Definitions only.
+-- Document 01, 'Sums': "parts are added from 0.0, speakers rising". A scene is exchanged left for right, and its bank
+-- with it: whether the other ear then hears what the one heard, bit for bit. It does where no speakers but the first
+-- two are exchanged; in 5.1 and 7.1 it does where of each later pair one part is 0.0, or those before it add up to 0.0,
+-- and else it need not. Shown in proofs/Convolver.antt, and refuted in proofs/RefutedOrder.antt. Definitions only.
 use Prim.Native.Nat.{ℕ, _≤_, _<_}
 use mathlib.Core.Path.{_≡_}
 use mathlib.Core.List.{List}
@@ -16,8 +16,8 @@ use Rattle.mirror.specs.Parts.{Settled}
 abbrev pub firstTwo : ℕ → ℕ
 firstTwo s = partnerIn (partners Stereo) s
 
--- v has the mirrored bank of u, the filters of each ear and speaker being those of the other ear and of the speaker across, and every signal comes
--- from the speaker across. A bank may be its own mirror
+-- v has the mirrored bank of u, the filters of each ear and speaker being those of the other ear and of the speaker
+-- across, and every signal comes from the speaker across. A bank may be its own mirror
 pub record Across (across : ℕ → ℕ) (u v : Setup) (past exchanged : List (List Float)) : Type 0 where
   pub speakers : v .speakers ≡ u .speakers
   pub L : v .L ≡ u .L
@@ -27,7 +27,8 @@ pub record Across (across : ℕ → ℕ) (u v : Setup) (past exchanged : List (L
 -- then the other ear hears it, where it is so of the parts
 abbrev pub HeardWhere : ((ℕ → Float) → Type 0) → (ℕ → ℕ) → ℕ → Type 0
 HeardWhere P across speakers =
-    (u v : Setup) (past exchanged : List (List Float)) → u .speakers ≡ speakers → Across across u v past exchanged → (ear : ℕ) → ear < 2 → P (part u ear past)
+    (u v : Setup) (past exchanged : List (List Float)) → u .speakers ≡ speakers → Across across u v past exchanged
+    → (ear : ℕ) → ear < 2 → P (part u ear past)
     → earSample v (otherEar ear) exchanged ≡ earSample u ear past
 
 -- whatever they are

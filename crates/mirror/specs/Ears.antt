@@ -1,5 +1,6 @@
--- Document 02, E7: "negating those input channels swaps the two ear signals bit for bit, all NaNs as one", of the weights that an accepted
--- `compute_matrix` left, whatever was lent to it. The right row is in `Mirrors` of `matrix`. It is shown in proofs/Ears.antt. Definitions only.
+-- Document 02, E7: "negating those input channels swaps the two ear signals bit for bit, all NaNs as one", of the
+-- weights that an accepted `compute_matrix` left, whatever was lent to it. The right row is in `Mirrors` of `matrix`.
+-- It is shown in proofs/Ears.antt. Definitions only.
 use Prim.Native.Nat.{ℕ, _*_, _≤_}
 use mathlib.Core.Path.{_≡_}
 use mathlib.Core.List.{List}
@@ -23,10 +24,14 @@ pub record EarsSwap (n : ℕ) (weights : List Float) : Type 0 where
   pub frames : Mirrors n weights
   -- blocks; and where the lengths fit they are accepted
   pub blocks : BlocksMirror 2 (channelsOfOrder n) weights otherEar
-  pub accepted : (frames stride inputs out : ℕ) → frames ≤ stride → inputs ≡ channelsOfOrder n * stride → out ≡ 2 * stride
-      → refusalOf (record { outputs = 2; channels = channelsOfOrder n; frames = frames; stride = stride }) weights inputs out ≡ 0
+  pub accepted : (frames stride inputs out : ℕ) → frames ≤ stride → inputs ≡ channelsOfOrder n * stride
+      → out ≡ 2 * stride
+      → refusalOf (record { outputs = 2; channels = channelsOfOrder n; frames = frames; stride = stride }) weights
+      inputs out ≡ 0
   -- a voice that the panner puts at the opposite azimuth
-  pub voices : (d : Direction) (x : Float) → ears n weights (voice n (mirroredDirection d) x) ≡ exchanged 2 otherEar (ears n weights (voice n d x))
+  pub voices : (d : Direction) (x : Float) → ears n weights (voice n (mirroredDirection d) x) ≡ exchanged 2 otherEar
+      (ears n weights (voice n d x))
 
 abbrev pub RowsSwapEars : Type 0
-RowsSwapEars = (n : ℕ) (lent weights : List Float) → Computes n lent (record { refusal = 0; weights = weights }) → EarsSwap n weights
+RowsSwapEars = (n : ℕ) (lent weights : List Float) → Computes n lent (record { refusal = 0; weights = weights })
+    → EarsSwap n weights

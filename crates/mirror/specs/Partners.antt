@@ -1,6 +1,7 @@
--- Which speaker stands across, left for right. Document 01, 'Gains': "speakers, in channel order. 5.1: 30, -30, 0, LFE, 110, -110. 7.1: 30, -30, 0,
--- LFE, 90, -90, 150, -150. [..] Stereo is 30, -30; Mono 0; Custom speaker i sits at i x (360/n) - 90", and the eight positions of 003: 0, 45, 90,
--- 135, 180, -135, -90, -45. Definitions only. That these stand at opposite azimuths is computed in proofs/Speakers.antt.
+-- Which speaker stands across, left for right. Document 01, 'Gains': "speakers, in channel order. 5.1: 30, -30, 0, LFE,
+-- 110, -110. 7.1: 30, -30, 0, LFE, 90, -90, 150, -150. [..] Stereo is 30, -30; Mono 0; Custom speaker i sits at i x
+-- (360/n) - 90", and the eight positions of 003: 0, 45, 90, 135, 180, -135, -90, -45. Definitions only. That these
+-- stand at opposite azimuths is computed in proofs/Speakers.antt.
 use Prim.Native.Nat.{ℕ, zero, suc, _+_, _-_, _/_, _%_}
 use mathlib.Core.Bool.{cond}
 use mathlib.Core.List.{List, [], _∷_, map}
@@ -22,8 +23,8 @@ surroundPartners = 1 ∷ 0 ∷ 2 ∷ 3 ∷ 5 ∷ 4 ∷ 7 ∷ 6 ∷ []
 abbrev pub acrossFrom : ℕ → ℕ
 acrossFrom c = partnerIn surroundPartners c
 
--- those of a Custom layout of n speakers, at i x (360/n) - 90: where n is odd there are none, and in Custom(14) the rounded azimuths are not
--- quite opposite
+-- those of a Custom layout of n speakers, at i x (360/n) - 90: where n is odd there are none, and in Custom(14) the
+-- rounded azimuths are not quite opposite
 abbrev pub symmetric : List ℕ
 symmetric = 2 ∷ 4 ∷ 6 ∷ 8 ∷ 10 ∷ 12 ∷ 16 ∷ []
 

@@ -1,6 +1,6 @@
--- Document 01, 'Sums': parts are added "from 0.0", in one order. Of these the first two may be exchanged, and later ones may not, but where one of
--- the two is 0.0, or those before them add up to 0.0. Shown in proofs/Parts.antt, and refuted of later ones in proofs/RefutedOrder.antt. Definitions
--- only.
+-- Document 01, 'Sums': parts are added "from 0.0", in one order. Of these the first two may be exchanged, and later
+-- ones may not, but where one of the two is 0.0, or those before them add up to 0.0. Shown in proofs/Parts.antt, and
+-- refuted of later ones in proofs/RefutedOrder.antt. Definitions only.
 use Prim.Native.Nat.{ℕ, suc}
 use mathlib.Core.Path.{_≡_}
 use mathlib.Core.Logic.{_⊎_}
@@ -24,11 +24,13 @@ abbrev pub SameAcross : ℕ → (ℕ → Float) → Type 0
 SameAcross n part = total zero-float (tab 0 n (λ c. part (acrossFrom c))) ≡ total zero-float (tab 0 n part)
 
 pub record PartsExchanged : Type 0 where
-  pub first-two : (x y : Float) (rest : List Float) → Held x → Held y → total zero-float (x ∷ y ∷ rest) ≡ total zero-float (y ∷ x ∷ rest)
+  pub first-two : (x y : Float) (rest : List Float) → Held x → Held y
+      → total zero-float (x ∷ y ∷ rest) ≡ total zero-float (y ∷ x ∷ rest)
   -- of the six speakers of 5.1, and of the eight of 7.1
   pub six : (part : ℕ → Float) → ((c : ℕ) → Held (part c)) → Settled part 4 → SameAcross 6 part
   pub eight : (part : ℕ → Float) → ((c : ℕ) → Held (part c)) → Settled part 4 → Settled part 6 → SameAcross 8 part
 
 -- refuted
 abbrev pub NextTwoExchanged : Type 0
-NextTwoExchanged = (x y z : Float) → Held x → Held y → Held z → total zero-float (x ∷ y ∷ z ∷ []) ≡ total zero-float (x ∷ z ∷ y ∷ [])
+NextTwoExchanged =
+    (x y z : Float) → Held x → Held y → Held z → total zero-float (x ∷ y ∷ z ∷ []) ≡ total zero-float (x ∷ z ∷ y ∷ [])

@@ -1,4 +1,5 @@
--- Document 01, 'Marked drill table', items 6 and 7, and a few numbers more, from the definitions by computing. Assumes nothing.
+-- Document 01, 'Marked drill table', items 6 and 7, and a few numbers more, from the definitions by computing. Assumes
+-- nothing.
 use mathlib.Core.Path.{_≡_, refl}
 use mathlib.Core.Bool.{true, false}
 use lib.IntN.{pos, negsuc}

@@ -8,4 +8,8 @@ use Rattle.numbers.proofs.Middle.{root-nearest}
 use Rattle.numbers.proofs.Tests.{root-promised}
 
 pub numbers-meet : NumbersMeet
-numbers-meet = record { narrowing = rounded-narrows binary32; nearest-root = root-nearest binary64; rooting = λ x h. root-promised x (rootAnswer x) h refl }
+numbers-meet = record {
+  narrowing = rounded-narrows binary32;
+  nearest-root = root-nearest binary64;
+  rooting = λ x h. root-promised x (rootAnswer x) h refl;
+}

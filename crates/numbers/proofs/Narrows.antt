@@ -1,15 +1,18 @@
--- `rounded` is what document 01 says of a conversion (`rounded-narrows`), and nothing else is (`narrows-only`). In every format. Assumes nothing.
+-- `rounded` is what document 01 says of a conversion (`rounded-narrows`), and nothing else is (`narrows-only`). In
+-- every format. Assumes nothing.
 use mathlib.Core.Path.{_≡_, refl, sym, ap, _∙_, subst, subst₂}
 use mathlib.Core.Logic.{_⊎_, inl, inr}
 use mathlib.Core.Bool.{Bool, true, false, not, cond, true≢false}
 use Prim.Native.Nat.{ℕ, zero, suc, _+_, _-_, _*_, _/_, _%_, _^_, _≤_, _<_}
-use native.Mathlib.Nat.{le-trans, mul-assoc, mul-comm, mul-le-mul-right, le-of-mul-le-mul-right, lt-of-mul-lt-mul-right, eq-of-mul-eq-mul-right, le-add-right, suc-mul, min-eq-left}
+use native.Mathlib.Nat.{le-trans, mul-assoc, mul-comm, mul-le-mul-right, le-of-mul-le-mul-right}
+use native.Mathlib.Nat.{lt-of-mul-lt-mul-right, eq-of-mul-eq-mul-right, le-add-right, suc-mul, min-eq-left}
 use native.Mathlib.Decide.{ℕ-discrete}
 use native.Mathlib.Omega.{arith}
 use lib.IntN.{ℤ}
 use lib.Dec.{T, leb, ltb}
 use lib.Pow.{pow-pos, pow-add, suc-ones}
-use lib.Ieee.{Float, nan, inf, fin, Format, prec, emax, low, up, down, size, odd, units, fits, isNan, hid, ones, top, toBits}
+use lib.Ieee.{Float, nan, inf, fin, Format, prec, emax, low, up, down, size, odd, units, fits, isNan, hid, ones, top}
+use lib.Ieee.{toBits}
 use lib.Ieee.Fits.{two, reach, down-pos, round-is, nan-fits, inf-fits}
 use lib.Ieee.Exact.{HasValue, units-val}
 use lib.Ieee.Scale.{finite, overflow}
@@ -26,7 +29,8 @@ use Rattle.numbers.specs.Conversions.{infinite, negative, largest, beyon
 use Rattle.numbers.specs.Computed.{rounded}
 use Rattle.fractions.proofs.Number.{finite-number, value-finite, value-same, apart-like, apart-unlike}
 use Rattle.formats.proofs.Dropped.{Dropped, dropped}
-use Rattle.numbers.proofs.Rounded.{most-digits, leading, best, tie, next, best-zero, tie-zero, past-middle, before-middle}
+use Rattle.numbers.proofs.Rounded.{most-digits, leading, best, tie, next, best-zero, tie-zero, past-middle}
+use Rattle.numbers.proofs.Rounded.{before-middle}
 
 -- ---- what `units` is, by whether it overflows
 module _ (f : Format) (s : Bool) (q k : ℕ) where
@@ -44,12 +48,15 @@ module _ (f : Format) (s : Bool) (q k : ℕ) where
 
   units-under : T (finite (units f s q k)) → q * 2 ^ k < overflow f
   unfolding units
-  units-under = by-less (λ (v : Float). T (finite v) → q * 2 ^ k < overflow f) (q * 2 ^ k) (overflow f) (λ l t. l) (λ l t. absurd t)
+  units-under = by-less (λ (v : Float). T (finite v) → q * 2 ^ k < overflow f) (q * 2 ^ k) (overflow f) (λ l t. l)
+      (λ l t. absurd t)
 
 -- ---- the last digit of a pattern is that of q
-even-pattern : (f : Format) (s : Bool) (q k : ℕ) → q ≤ 2 ^ prec f → (k ≡ 0) ⊎ (hid f ≤ q) → q * 2 ^ k < overflow f → toBits f (units f s q k) % 2 ≡ q % 2
+even-pattern : (f : Format) (s : Bool) (q k : ℕ) → q ≤ 2 ^ prec f → (k ≡ 0) ⊎ (hid f ≤ q) → q * 2 ^ k < overflow f
+    → toBits f (units f s q k) % 2 ≡ q % 2
 even-pattern f s q k h g o =
-    ap (λ (x : ℕ). x % 2) (units-bits f s q k h g ∙ ap (λ (x : ℕ). cond s (top f) 0 + x) (min-eq-left (under-inf f s q k h g o)))
+    ap (λ (x : ℕ). x % 2) (units-bits f s q k h g ∙ ap (λ (x : ℕ). cond s (top f) 0 + x)
+    (min-eq-left (under-inf f s q k h g o)))
     ∙ ap (λ (x : ℕ). (cond s (x * suc (ones f)) 0 + (k * x + q)) % 2) (twice (prec f - 1) (omega (arith, two f)))
     ∙ last s (2 ^ (prec f - 1 - 1)) (suc (ones f))
   where
@@ -68,7 +75,10 @@ module _ (f : Format) where
   -- the largest number is one step of 2 ^ K units below the overflow
   largest-units : largest f * 2 ^ low f + 2 ^ K ≡ overflow f
   largest-units =
-      ap (λ (x : ℕ). x + 2 ^ K) (mul-assoc (2 ^ prec f - 1) (2 ^ (suc (emax f) - prec f)) (2 ^ low f) ∙ ap (λ (x : ℕ). (2 ^ prec f - 1) * x) (sym (pow-add 2 (suc (emax f) - prec f) (low f)) ∙ ap (λ (x : ℕ). 2 ^ x) (omega (arith, two f, reach f))))
+      ap (λ (x : ℕ). x + 2 ^ K) (mul-assoc (2 ^ prec f - 1) (2 ^ (suc (emax f) - prec f)) (2 ^ low f)
+      ∙ ap (λ (x : ℕ). (2 ^ prec f - 1) * x)
+      (sym (pow-add 2 (suc (emax f) - prec f) (low f))
+      ∙ ap (λ (x : ℕ). 2 ^ x) (omega (arith, two f, reach f))))
       ∙ sym (suc-mul (2 ^ prec f - 1) (2 ^ K)) ∙ ap (λ (x : ℕ). x * 2 ^ K) (suc-ones (prec f)) ∙ sym end
 
   beyond-units : beyond f * 2 ^ low f ≡ overflow f
@@ -153,7 +163,9 @@ module _ (f : Format) (s : Bool) (m : ℕ) (e : ℤ) where
       nearer = best f n c k (down-pos e) d (u .w) (u .grid);
       tied = λ l ne.
           tie f n c k (down-pos e) d (u .w) (u .grid) l
-          (λ (i : u .w ≡ q * 2 ^ k). ne (same-value f s y r (q * 2 ^ k) h r-fits (subst (λ (w : ℕ). HasValue y s w (2 ^ low f)) i (u .value)) value));
+          (λ (i : u .w ≡ q * 2 ^ k). ne
+          (same-value f s y r (q * 2 ^ k) h r-fits (subst (λ (w : ℕ). HasValue y s w (2 ^ low f)) i (u .value))
+          value));
     }
       where
         r-fits : T (fits f r)
@@ -188,24 +200,31 @@ module _ (f : Format) (s : Bool) (m : ℕ) (e : ℤ) where
     nearest : (y : Float) → T (fits f y) → T (finite y) → AsNear (number x) (number r) (number y)
     nearest y h p =
         let b = beside y h p in
-        near-same (number x) (signed s a c) (number r) (signed s (q * 2 ^ k) (2 ^ low f)) (number y) (signed (b .sign) (b .w) (2 ^ low f)) (down-pos e) L L
+        near-same (number x) (signed s a c) (number r) (signed s (q * 2 ^ k) (2 ^ low f)) (number y)
+        (signed (b .sign) (b .w) (2 ^ low f)) (down-pos e) L L
         (same-refl (number x)) (value-same r s (q * 2 ^ k) (2 ^ low f) value) (b .same)
         (mul-le-mul-right (2 ^ low f) (subst₂ (λ (i j : ℕ). i ≤ j) (sym off-r) (sym (b .away)) (b .nearer)))
 
     -- how near y is, in units
-    as-near : (y : Float) (p : T (finite y)) (b : Beside y) → AsNear (number x) (number y) (number r) → b .j ≤ gap n (q * (c * 2 ^ k))
+    as-near : (y : Float) (p : T (finite y)) (b : Beside y) → AsNear (number x) (number y) (number r)
+        → b .j ≤ gap n (q * (c * 2 ^ k))
     as-near y p b l =
         let z = signed (b .sign) (b .w) (2 ^ low f) in
         subst₂ (λ (i j : ℕ). i ≤ j) (b .away) off-r
         (le-of-mul-le-mul-right
-        (near-same (signed s a c) (number x) z (number y) (signed s (q * 2 ^ k) (2 ^ low f)) (number r) (down-pos e) (finite-number y p) (finite-number r t)
-        (same-refl (number x)) (same-sym (number y) z (b .same)) (same-sym (number r) (signed s (q * 2 ^ k) (2 ^ low f)) (value-same r s (q * 2 ^ k) (2 ^ low f) value)) l) L)
+        (near-same (signed s a c) (number x) z (number y) (signed s (q * 2 ^ k) (2 ^ low f)) (number r) (down-pos e)
+        (finite-number y p) (finite-number r t)
+        (same-refl (number x)) (same-sym (number y) z (b .same))
+        (same-sym (number r) (signed s (q * 2 ^ k) (2 ^ low f)) (value-same r s (q * 2 ^ k) (2 ^ low f) value)) l)
+        L)
 
-    even : (y : Float) → T (fits f y) → T (finite y) → AsNear (number x) (number y) (number r) → (y ≡ r → ⊥) → toBits f r % 2 ≡ 0
+    even : (y : Float) → T (fits f y) → T (finite y) → AsNear (number x) (number y) (number r) → (y ≡ r → ⊥)
+        → toBits f r % 2 ≡ 0
     even y h p l ne = let b = beside y h p in even-pattern f s q k q-most q-leads o ∙ b .tied (as-near y p b l) ne
 
     -- of two neighbours that are as near only one is even
-    only : (y : Float) → T (fits f y) → Units f s y → AsNear (number x) (number y) (number r) → ((r ≡ y → ⊥) → toBits f y % 2 ≡ 0) → y ≡ r
+    only : (y : Float) → T (fits f y) → Units f s y → AsNear (number x) (number y) (number r)
+        → ((r ≡ y → ⊥) → toBits f y % 2 ≡ 0) → y ≡ r
     unfolding like
     only y h u l even-y = go (ℕ-discrete (u .w) (q * 2 ^ k))
       where
@@ -226,14 +245,20 @@ module _ (f : Format) (s : Bool) (m : ℕ) (e : ℤ) where
             let near = as-near y (value-finite y s (u .w) (2 ^ low f) (u .value)) b l in
             let v = next f n c k (down-pos e) d (u .w) (u .grid) near ne in
             let under : v .W * 2 ^ k < overflow f = subst (λ (i : ℕ). i < overflow f) (v .is) (u .grid .room) in
-            let differ : y ≡ r → ⊥ = λ (i : y ≡ r). ne (units-one r (u .w) (q * 2 ^ k) (subst (λ (z : Float). HasValue z s (u .w) (2 ^ low f)) i (u .value)) value) in
-            let is : units f s (v .W) k ≡ y = same-value f s (units f s (v .W) k) y (v .W * 2 ^ k) (units-fits f s (v .W) k (v .most)) h (units-val f s (v .W) k under) (subst (λ (i : ℕ). HasValue y s i (2 ^ low f)) (v .is) (u .value)) in
+            let differ : y ≡ r → ⊥ = λ (i : y ≡ r). ne
+            (units-one r (u .w) (q * 2 ^ k) (subst (λ (z : Float). HasValue z s (u .w) (2 ^ low f)) i (u .value))
+            value) in
+            let is : units f s (v .W) k ≡ y = same-value f s (units f s (v .W) k) y (v .W * 2 ^ k)
+            (units-fits f s (v .W) k (v .most)) h (units-val f s (v .W) k under)
+            (subst (λ (i : ℕ). HasValue y s i (2 ^ low f)) (v .is) (u .value)) in
             both (v .W) (v .beside)
-            (sym (even-pattern f s (v .W) k (v .most) (v .leads) under) ∙ ap (λ (z : Float). toBits f z % 2) is ∙ even-y (λ i. differ (sym i)))
+            (sym (even-pattern f s (v .W) k (v .most) (v .leads) under) ∙ ap (λ (z : Float). toBits f z % 2) is
+            ∙ even-y (λ i. differ (sym i)))
             (b .tied near differ)
 
         go : Dec (u .w ≡ q * 2 ^ k) → y ≡ r
-        go (yes i) = same-value f s y r (q * 2 ^ k) h (units-fits f s q k q-most) (subst (λ (w : ℕ). HasValue y s w (2 ^ low f)) i (u .value)) value
+        go (yes i) = same-value f s y r (q * 2 ^ k) h (units-fits f s q k q-most)
+            (subst (λ (w : ℕ). HasValue y s w (2 ^ low f)) i (u .value)) value
         go (no ne) = absurd (clash ne)
 
   -- past the middle, and only there, r is an infinity
@@ -251,8 +276,18 @@ module _ (f : Format) (s : Bool) (m : ℕ) (e : ℤ) where
       past : not (ltb (q * 2 ^ k) (overflow f)) ≡ leb M (2 * a)
       past =
           by-test (λ (b : Bool). not b ≡ leb M (2 * a)) (ltb (q * 2 ^ k) (overflow f))
-          (λ l. sym (lt-leb M (2 * a) (lt-of-mul-lt-mul-right (2 ^ low f) (omega (arith, middle f c, before-middle f n c k (down-pos e) d (K f) (end f) (ltb-true _ _ l))))))
-          (λ l. sym (le-leb M (2 * a) (le-of-mul-le-mul-right (omega (arith, middle f c, past-middle f n c k (down-pos e) d (K f) (end f) (ltb-false _ _ l))) L)))
+          (λ l. sym (lt-leb M (2 * a)
+          (lt-of-mul-lt-mul-right (2 ^ low f)
+          (omega (
+            arith,
+            middle f c,
+            before-middle f n c k (down-pos e) d (K f) (end f)
+                (ltb-true _ _ l),
+          )))))
+          (λ l. sym (le-leb M (2 * a)
+          (le-of-mul-le-mul-right
+          (omega (arith, middle f c, past-middle f n c k (down-pos e) d (K f) (end f) (ltb-false _ _ l)))
+          L)))
 
   fin-narrows : Narrows f x r
   unfolding isNan
@@ -267,9 +302,24 @@ module _ (f : Format) (s : Bool) (m : ℕ) (e : ℤ) where
 
 pub rounded-narrows : (f : Format) (x : Float) → Narrows f x (rounded f x)
 unfolding rounded isNan
-rounded-narrows f nan = record { held = nan-fits f; not-a-number = refl; sign = refl; large = refl; nearest = λ y h. absurd h; even = λ y h. absurd h }
-rounded-narrows f (inf s) = record { held = inf-fits f s; not-a-number = refl; sign = refl; large = refl; nearest = λ y h. absurd h; even = λ y h. absurd h }
-rounded-narrows f (fin s m e) = subst (λ (v : Float). Narrows f (fin s m e) v) (sym (round-is f s (m * up e) (down e))) (fin-narrows f s m e)
+rounded-narrows f nan = record {
+  held = nan-fits f;
+  not-a-number = refl;
+  sign = refl;
+  large = refl;
+  nearest = λ y h. absurd h;
+  even = λ y h. absurd h;
+}
+rounded-narrows f (inf s) = record {
+  held = inf-fits f s;
+  not-a-number = refl;
+  sign = refl;
+  large = refl;
+  nearest = λ y h. absurd h;
+  even = λ y h. absurd h;
+}
+rounded-narrows f (fin s m e) =
+    subst (λ (v : Float). Narrows f (fin s m e) v) (sym (round-is f s (m * up e) (down e))) (fin-narrows f s m e)
 
 -- ---- nothing else is what document 01 says
 kind-inf : (v : Float) → infinite v ≡ true → v ≡ inf (negative v)
@@ -286,11 +336,14 @@ kind-fin (fin s m e) h k = tt
 fin-only : (f : Format) (s : Bool) (m : ℕ) (e : ℤ) (y : Float) → Narrows f (x f s m e) y → y ≡ r f s m e
 unfolding isNan
 fin-only f s m e nan h = absurd (true≢false (h .not-a-number))
-fin-only f s m e (inf t) h = let g = fin-narrows f s m e in ap inf (h .sign ∙ sym (g .sign)) ∙ sym (kind-inf (r f s m e) (g .large ∙ sym (h .large)))
+fin-only f s m e (inf t) h = let g = fin-narrows f s m e in ap inf (h .sign ∙ sym (g .sign))
+    ∙ sym (kind-inf (r f s m e) (g .large ∙ sym (h .large)))
 fin-only f s m e (fin t i j) h =
     let g = fin-narrows f s m e in
     let p = kind-fin (r f s m e) (g .not-a-number) (g .large ∙ sym (h .large)) in
-    only f s m e p (fin t i j) (h .held) (subst (λ (b : Bool). Units f b (fin t i j)) (h .sign) (held-units f t i j (h .held))) (h .nearest (r f s m e) tt tt (g .held) p)
+    only f s m e p (fin t i j) (h .held)
+    (subst (λ (b : Bool). Units f b (fin t i j)) (h .sign) (held-units f t i j (h .held)))
+    (h .nearest (r f s m e) tt tt (g .held) p)
     (λ ne. h .even (r f s m e) tt tt (g .held) p (g .nearest (fin t i j) tt p (h .held) tt) ne)
 
 pub narrows-only : (f : Format) (x y : Float) → Narrows f x y → y ≡ rounded f x

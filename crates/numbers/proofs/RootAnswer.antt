@@ -1,4 +1,5 @@
--- The answer to the root of a float: a positive number is accepted, and the value is `rootOf` of it, also where it is refused. Assumes nothing.
+-- The answer to the root of a float: a positive number is accepted, and the value is `rootOf` of it, also where it is
+-- refused. Assumes nothing.
 use mathlib.Core.Path.{_≡_, refl}
 use mathlib.Core.Bool.{true, false}
 use Prim.Native.Nat.{zero, suc}

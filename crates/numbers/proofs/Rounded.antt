@@ -1,10 +1,15 @@
--- What `round` makes of a fraction is the nearest value of the format: no other is nearer (`best`), of two as near it is the even one (`tie`), and what is too large is an infinity (`past-middle`,
--- `before-middle`). In units of the format's smallest value the fraction is n / c, of which k digits are dropped. So it is rounded to a multiple of U = c * 2 ^ k, and a value of the format is such a
--- multiple or is too short to be near. Over every format, and in whole numbers: Narrows.antt says it of floats. Assumes nothing.
+-- What `round` makes of a fraction is the nearest value of the format: no other is nearer (`best`), of two as near it
+-- is the even one (`tie`), and what is too large is an infinity (`past-middle`, `before-middle`). In units of the
+-- format's smallest value the fraction is n / c, of which k digits are dropped. So it is rounded to a multiple of U = c
+-- * 2 ^ k, and a value of the format is such a multiple or is too short to be near. Over every format, and in whole
+-- numbers: Narrows.antt says it of floats. Assumes nothing.
 use mathlib.Core.Path.{_≡_, refl, sym, ap, _∙_, subst}
 use mathlib.Core.Logic.{_⊎_, inl, inr}
 use Prim.Native.Nat.{ℕ, suc, _+_, _*_, _%_, _^_, _≤_, _<_}
-use native.Mathlib.Nat.{le-trans, le-of-eq, le-of-lt, lt-of-lt-of-le, lt-irrefl, not-le-of-lt, le-antisymm, le-of-suc-le-suc, eq-or-lt-of-le, suc-mul, mul-le-mul, zero-mul, mul-one, mul-assoc, mul-comm, mul-left-comm, mul-pos, pow-suc, mul-le-mul-right, mul-le-mul-left, mul-lt-mul-of-pos-right, le-of-mul-le-mul-left, le-of-mul-le-mul-right, lt-of-mul-lt-mul-right}
+use native.Mathlib.Nat.{le-trans, le-of-eq, le-of-lt, lt-of-lt-of-le, lt-irrefl, not-le-of-lt, le-antisymm}
+use native.Mathlib.Nat.{le-of-suc-le-suc, eq-or-lt-of-le, suc-mul, mul-le-mul, zero-mul, mul-one, mul-assoc, mul-comm}
+use native.Mathlib.Nat.{mul-left-comm, mul-pos, pow-suc, mul-le-mul-right, mul-le-mul-left, mul-lt-mul-of-pos-right}
+use native.Mathlib.Nat.{le-of-mul-le-mul-left, le-of-mul-le-mul-right, lt-of-mul-lt-mul-right}
 use native.Mathlib.Decide.{ℕ-discrete, decLt}
 use native.Mathlib.Omega.{arith}
 use lib.Arith.{lt-of-le-ne}
@@ -26,7 +31,8 @@ short-of n y x U u h k m = omega arith
 beyond : (n y x U : ℕ) → 0 < U → gap n y * 2 ≤ U → gap n x ≤ gap n y → y + U + U ≤ x → ⊥
 beyond n y x U u h k m = omega arith
 
--- ---- in units: q * U is as near to n as w * c for any w of the format, and if that is as near too, q is even or q * 2 ^ k is w
+-- ---- in units: q * U is as near to n as w * c for any w of the format, and if that is as near too, q is even or q *
+-- 2 ^ k is w
 module _ (f : Format) (n c k : ℕ) (C : 0 < c) (d : Dropped f n c k) where
   abbrev q : ℕ
   q = closest n (c * 2 ^ k)
@@ -62,13 +68,19 @@ module _ (f : Format) (n c k : ℕ) (C : 0 < c) (d : Dropped f n c k) where
       go l (inl (W, e)) = at W e
       go (inl z) (inr s) = at w (sym (ap (λ (x : ℕ). w * 2 ^ x) z ∙ mul-one w))
       go (inr l) (inr s) =
-          short (omega (arith, subst (λ (x : ℕ). w * c < x) (multiple (hid f * 2 ^ k) (hid f) refl) (mul-lt-mul-of-pos-right s C), rounded-best n (c * 2 ^ k) q (hid f) rounded-q))
+          short (omega (
+            arith,
+            subst (λ (x : ℕ). w * c < x) (multiple (hid f * 2 ^ k) (hid f) refl)
+                (mul-lt-mul-of-pos-right s C),
+            rounded-best n (c * 2 ^ k) q (hid f) rounded-q,
+          ))
 
   pub best : (w : ℕ) → Grid f w → gap n (q * (c * 2 ^ k)) ≤ gap n (w * c)
   best w g = go (place w g)
     where
       go : Place w → gap n (q * (c * 2 ^ k)) ≤ gap n (w * c)
-      go (at W e) = subst (λ (x : ℕ). gap n (q * (c * 2 ^ k)) ≤ gap n x) (sym (multiple w W e)) (rounded-best n (c * 2 ^ k) q W rounded-q)
+      go (at W e) = subst (λ (x : ℕ). gap n (q * (c * 2 ^ k)) ≤ gap n x) (sym (multiple w W e))
+          (rounded-best n (c * 2 ^ k) q W rounded-q)
       go (short l) = le-of-lt l
 
   pub tie : (w : ℕ) → Grid f w → gap n (w * c) ≤ gap n (q * (c * 2 ^ k)) → (w ≡ q * 2 ^ k → ⊥) → q % 2 ≡ 0
@@ -77,7 +89,8 @@ module _ (f : Format) (n c k : ℕ) (C : 0 < c) (d : Dropped f n c k) where
       go : Place w → q % 2 ≡ 0
       go (at W e) =
           rounded-even n (c * 2 ^ k) q W rounded-q
-          (le-antisymm (rounded-best n (c * 2 ^ k) q W rounded-q) (subst (λ (x : ℕ). gap n x ≤ gap n (q * (c * 2 ^ k))) (multiple w W e) l))
+          (le-antisymm (rounded-best n (c * 2 ^ k) q W rounded-q)
+          (subst (λ (x : ℕ). gap n x ≤ gap n (q * (c * 2 ^ k))) (multiple w W e) l))
           (λ h. ne (e ∙ ap (λ (x : ℕ). x * 2 ^ k) h))
       go (short s) = absurd (not-le-of-lt s l)
 
@@ -93,7 +106,9 @@ module _ (f : Format) (n c k : ℕ) (C : 0 < c) (d : Dropped f n c k) where
     where
       go : Dec (0 ≡ q) → q % 2 ≡ 0
       go (yes e) = ap (λ (x : ℕ). x % 2) (sym e)
-      go (no ne) = rounded-even n (c * 2 ^ k) q 0 rounded-q (le-antisymm (rounded-best n (c * 2 ^ k) q 0 rounded-q) (subst (λ (x : ℕ). x ≤ gap n (q * (c * 2 ^ k))) (sym zero-off) l)) ne
+      go (no ne) = rounded-even n (c * 2 ^ k) q 0 rounded-q
+          (le-antisymm (rounded-best n (c * 2 ^ k) q 0 rounded-q)
+          (subst (λ (x : ℕ). x ≤ gap n (q * (c * 2 ^ k))) (sym zero-off) l)) ne
 
   -- ---- another value that is as near is the next on the other side, and has its digits as q has
   pub record Next (w : ℕ) : Type 0 where
@@ -107,7 +122,8 @@ module _ (f : Format) (n c k : ℕ) (C : 0 < c) (d : Dropped f n c k) where
   next w g l ne = go (place w g)
     where
       -- x and y multiples of U, each no more than half of U from n, and not the same
-      either : (U x y : ℕ) → 0 < U → gap n (y * U) * 2 ≤ U → gap n (x * U) ≤ gap n (y * U) → (x ≡ y → ⊥) → (suc x ≡ y) ⊎ (x ≡ suc y)
+      either : (U x y : ℕ) → 0 < U → gap n (y * U) * 2 ≤ U → gap n (x * U) ≤ gap n (y * U) → (x ≡ y → ⊥)
+          → (suc x ≡ y) ⊎ (x ≡ suc y)
       either U x y u h k t = at-most (decLt x y)
         where
           two-more : (i : ℕ) → suc (suc i) * U ≡ i * U + U + U
@@ -120,23 +136,31 @@ module _ (f : Format) (n c k : ℕ) (C : 0 < c) (d : Dropped f n c k) where
           down a b e = omega arith
 
           at-most : Dec (x < y) → (suc x ≡ y) ⊎ (x ≡ suc y)
-          at-most (yes a) = inl (up a (λ b. short-of n (y * U) (x * U) U u h k (le-trans (le-of-eq (sym (two-more x))) (mul-le-mul-right U b))))
-          at-most (no a) = inr (down a t (λ b. beyond n (y * U) (x * U) U u h k (le-trans (le-of-eq (sym (two-more y))) (mul-le-mul-right U b))))
+          at-most (yes a) = inl
+              (up a (λ b. short-of n (y * U) (x * U) U u h k
+              (le-trans (le-of-eq (sym (two-more x))) (mul-le-mul-right U b))))
+          at-most (no a) = inr
+              (down a t (λ b. beyond n (y * U) (x * U) U u h k
+              (le-trans (le-of-eq (sym (two-more y))) (mul-le-mul-right U b))))
 
       under : (U x P : ℕ) → 0 < U → gap n (x * U) * 2 ≤ U → n < P * U → x ≤ P
-      under U x P u h m = le-of-suc-le-suc (lt-of-mul-lt-mul-right U (subst (λ (z : ℕ). x * U < z) (sym (suc-mul P U)) (omega arith)))
+      under U x P u h m = le-of-suc-le-suc
+          (lt-of-mul-lt-mul-right U (subst (λ (z : ℕ). x * U < z) (sym (suc-mul P U)) (omega arith)))
 
       over : (U x H : ℕ) → 0 < U → gap n (x * U) * 2 ≤ U → H * U ≤ n → H ≤ x
-      over U x H u h m = le-of-suc-le-suc (lt-of-mul-lt-mul-right U (subst (λ (z : ℕ). H * U < z) (sym (suc-mul x U)) (omega arith)))
+      over U x H u h m = le-of-suc-le-suc
+          (lt-of-mul-lt-mul-right U (subst (λ (z : ℕ). H * U < z) (sym (suc-mul x U)) (omega arith)))
 
-      lead : (W : ℕ) → gap n (W * (c * 2 ^ k)) * 2 ≤ c * 2 ^ k → (k ≡ 0) ⊎ (hid f * (c * 2 ^ k) ≤ n) → (k ≡ 0) ⊎ (hid f ≤ W)
+      lead : (W : ℕ) → gap n (W * (c * 2 ^ k)) * 2 ≤ c * 2 ^ k → (k ≡ 0) ⊎ (hid f * (c * 2 ^ k) ≤ n)
+          → (k ≡ 0) ⊎ (hid f ≤ W)
       lead W h (inl z) = inl z
       lead W h (inr m) = inr (over (c * 2 ^ k) W (hid f) U-pos h m)
 
       go : Place w → Next w
       go (short s) = absurd (not-le-of-lt s l)
       go (at W e) =
-          let near : gap n (W * (c * 2 ^ k)) ≤ gap n (q * (c * 2 ^ k)) = subst (λ (x : ℕ). gap n x ≤ gap n (q * (c * 2 ^ k))) (multiple w W e) l in
+          let near : gap n (W * (c * 2 ^ k)) ≤ gap n (q * (c * 2 ^ k)) = subst
+          (λ (x : ℕ). gap n x ≤ gap n (q * (c * 2 ^ k))) (multiple w W e) l in
           let half : gap n (W * (c * 2 ^ k)) * 2 ≤ c * 2 ^ k = le-trans (mul-le-mul-right 2 near) (rounded-q .half) in
           record {
             W = W;
@@ -146,7 +170,8 @@ module _ (f : Format) (n c k : ℕ) (C : 0 < c) (d : Dropped f n c k) where
             leads = lead W half (d .least);
           }
 
-  -- ---- too large: K digits are dropped of the largest numbers, so that the middle between the last of them and the next power of two is 2 ^ prec * X less half of X, X being c * 2 ^ K
+  -- ---- too large: K digits are dropped of the largest numbers, so that the middle between the last of them and the
+  -- next power of two is 2 ^ prec * X less half of X, X being c * 2 ^ K
   module _ (K : ℕ) (end : overflow f ≡ 2 ^ prec f * 2 ^ K) where
     more : (i j : ℕ) → i < j → 2 * (c * 2 ^ i) ≤ c * 2 ^ j
     more i j l = le-trans (le-of-eq (simp (pow-suc, mul-comm, mul-left-comm))) (mul-le-mul-left c (pow-mono l))
@@ -156,10 +181,14 @@ module _ (f : Format) (n c k : ℕ) (C : 0 < c) (d : Dropped f n c k) where
     past-middle o = go (ℕ-discrete k K) (d .least)
       where
         reach-k : K ≤ k
-        reach-k = exponent-le K k (le-of-mul-le-mul-left (le-trans (le-of-eq (sym end)) (le-trans o (mul-le-mul-right (2 ^ k) most-digits))) (pow-pos (prec f)))
+        reach-k = exponent-le K k
+            (le-of-mul-le-mul-left (le-trans (le-of-eq (sym end)) (le-trans o (mul-le-mul-right (2 ^ k) most-digits)))
+            (pow-pos (prec f)))
 
         full : k ≡ K → q ≡ 2 ^ prec f
-        full e = le-antisymm most-digits (le-of-mul-le-mul-right (le-trans (le-of-eq (ap (λ (x : ℕ). 2 ^ prec f * 2 ^ x) e ∙ sym end)) o) (pow-pos k))
+        full e = le-antisymm most-digits
+            (le-of-mul-le-mul-right (le-trans (le-of-eq (ap (λ (x : ℕ). 2 ^ prec f * 2 ^ x) e ∙ sym end)) o)
+            (pow-pos k))
 
         far : (H P X Y : ℕ) → P ≡ 2 * H → H * Y ≤ n → H * (2 * X) ≤ H * Y → 2 * (P * X) ≤ 2 * n + X
         far H P X Y e h l = subst (λ (z : ℕ). 2 * (z * X) ≤ 2 * n + X) (sym e) (omega arith)
@@ -167,12 +196,18 @@ module _ (f : Format) (n c k : ℕ) (C : 0 < c) (d : Dropped f n c k) where
         go : Dec (k ≡ K) → (k ≡ 0) ⊎ (hid f * (c * 2 ^ k) ≤ n) → 2 * (2 ^ prec f * (c * 2 ^ K)) ≤ 2 * n + c * 2 ^ K
         go (yes e) l =
             subst (λ (j : ℕ). 2 * (2 ^ prec f * (c * 2 ^ j)) ≤ 2 * n + c * 2 ^ j) e
-            (omega (arith, d .most, subst (λ (x : ℕ). gap n (x * (c * 2 ^ k)) * 2 ≤ c * 2 ^ k) (full e) (rounded-q .half)))
+            (omega (
+              arith,
+              d .most,
+              subst (λ (x : ℕ). gap n (x * (c * 2 ^ k)) * 2 ≤ c * 2 ^ k) (full e)
+                  (rounded-q .half),
+            ))
         go (no ne) (inl z) = absurd (none k K reach-k ne z)
           where
             none : (k K : ℕ) → K ≤ k → ¬ (k ≡ K) → k ≡ 0 → ⊥
             none k K h ne z = omega arith
-        go (no ne) (inr h) = far (hid f) (2 ^ prec f) (c * 2 ^ K) (c * 2 ^ k) (twice-hid f) h (mul-le-mul-left (hid f) (more K k (above k K reach-k ne)))
+        go (no ne) (inr h) = far (hid f) (2 ^ prec f) (c * 2 ^ K) (c * 2 ^ k) (twice-hid f) h
+            (mul-le-mul-left (hid f) (more K k (above k K reach-k ne)))
           where
             above : (k K : ℕ) → K ≤ k → ¬ (k ≡ K) → K < k
             above k K h ne = omega arith
@@ -204,8 +239,11 @@ module _ (f : Format) (n c k : ℕ) (C : 0 < c) (d : Dropped f n c k) where
             beyond Z W h k = omega arith
 
             last : (suc x ≡ P) ⊎ (suc x < P) → 2 * n + U < 2 * (P * U)
-            last (inl m) = subst (λ (z : ℕ). 2 * n + U < 2 * z) (sym (suc-mul x U) ∙ ap (λ (z : ℕ). z * U) m) (next (x * U) (strict (gap n (x * U)) (r .half) (r .even) m))
-            last (inr m) = beyond (x * U) (P * U) (r .half) (le-trans (le-of-eq (ap (λ (z : ℕ). z + U) (sym (suc-mul x U)) ∙ sym (suc-mul (suc x) U))) (mul-le-mul-right U m))
+            last (inl m) = subst (λ (z : ℕ). 2 * n + U < 2 * z) (sym (suc-mul x U) ∙ ap (λ (z : ℕ). z * U) m)
+                (next (x * U) (strict (gap n (x * U)) (r .half) (r .even) m))
+            last (inr m) = beyond (x * U) (P * U) (r .half)
+                (le-trans (le-of-eq (ap (λ (z : ℕ). z + U) (sym (suc-mul x U)) ∙ sym (suc-mul (suc x) U)))
+                (mul-le-mul-right U m))
 
         under : (P X Y : ℕ) → n < P * Y → P * (2 * Y) ≤ P * X → 1 * X ≤ P * X → 2 * n + X < 2 * (P * X)
         under P X Y h l m = omega arith
@@ -216,13 +254,23 @@ module _ (f : Format) (n c k : ℕ) (C : 0 < c) (d : Dropped f n c k) where
             none : K < k → k ≡ 0 → ⊥
             none l z = omega arith
         past l (inr h) =
-            lt-irrefl (q * 2 ^ k) (lt-of-lt-of-le o (le-trans (le-of-eq end) (le-trans (le-of-eq (ap (λ (x : ℕ). x * 2 ^ K) (twice-hid f) ∙ simp (pow-suc, mul-assoc, mul-comm, mul-left-comm))) (mul-le-mul h (pow-mono l)))))
+            lt-irrefl (q * 2 ^ k)
+            (lt-of-lt-of-le o
+            (le-trans (le-of-eq end)
+            (le-trans (le-of-eq
+            (ap (λ (x : ℕ). x * 2 ^ K) (twice-hid f)
+            ∙ simp (pow-suc, mul-assoc, mul-comm, mul-left-comm)))
+            (mul-le-mul h (pow-mono l)))))
 
         go : Dec (k ≡ K) → Dec (k < K) → 2 * n + c * 2 ^ K < 2 * (2 ^ prec f * (c * 2 ^ K))
         go (yes e) l =
             subst (λ (j : ℕ). 2 * n + c * 2 ^ j < 2 * (2 ^ prec f * (c * 2 ^ j))) e
-            (at-end q (2 ^ prec f) (c * 2 ^ k) U-pos (lt-of-mul-lt-mul-right (2 ^ k) (subst (λ (j : ℕ). q * 2 ^ k < 2 ^ prec f * 2 ^ j) (sym e) (subst (λ (x : ℕ). q * 2 ^ k < x) end o))) even rounded-q)
-        go (no ne) (yes l) = under (2 ^ prec f) (c * 2 ^ K) (c * 2 ^ k) (d .most) (mul-le-mul-left (2 ^ prec f) (more k K l)) (mul-le-mul-right (c * 2 ^ K) (pow-pos (prec f)))
+            (at-end q (2 ^ prec f) (c * 2 ^ k) U-pos
+            (lt-of-mul-lt-mul-right (2 ^ k)
+            (subst (λ (j : ℕ). q * 2 ^ k < 2 ^ prec f * 2 ^ j) (sym e)
+            (subst (λ (x : ℕ). q * 2 ^ k < x) end o))) even rounded-q)
+        go (no ne) (yes l) = under (2 ^ prec f) (c * 2 ^ K) (c * 2 ^ k) (d .most)
+            (mul-le-mul-left (2 ^ prec f) (more k K l)) (mul-le-mul-right (c * 2 ^ K) (pow-pos (prec f)))
         go (no ne) (no nl) = absurd (past (above k K ne nl) leading)
           where
             above : (k K : ℕ) → ¬ (k ≡ K) → ¬ (k < K) → K < k

@@ -1,5 +1,5 @@
--- No two answers meet a promise. Of a conversion and of a root document 01's words alone allow one answer: the equations beside them are a help to callers and nothing that has to be
--- believed. Assumes nothing.
+-- No two answers meet a promise. Of a conversion and of a root document 01's words alone allow one answer: the
+-- equations beside them are a help to callers and nothing that has to be believed. Assumes nothing.
 use mathlib.Core.Path.{_≡_}
 use mathlib.Core.Bool.{Bool, true, false}
 use Prim.Native.Nat.{ℕ, zero, suc}
@@ -42,7 +42,9 @@ narrows-unique f x = determined-by (narrows-only f x)
 same : (r : Rooted) {n : ℕ} {v : Float} → (r .refusal ≡ n) × (r .value ≡ v) → r ≡ record { refusal = n; value = v }
 same r h = λ i. record { refusal = h .0 i; value = h .1 i }
 
-pub root-words : (x : Float) (r : Rooted) → T (fits binary64 x) → (T (rootless x) → (r .refusal ≡ 10) × (r .value ≡ zero-float)) → ((s : Bool) → x ≡ fin s 0 (pos 0) → (r .refusal ≡ 0) × (r .value ≡ x))
+pub root-words : (x : Float) (r : Rooted) → T (fits binary64 x)
+    → (T (rootless x) → (r .refusal ≡ 10) × (r .value ≡ zero-float))
+    → ((s : Bool) → x ≡ fin s 0 (pos 0) → (r .refusal ≡ 0) × (r .value ≡ x))
     → (T (positive x) → (r .refusal ≡ 0) × NearestRoot binary64 x (r .value)) → r ≡ rootAnswer x
 unfolding rootOf
 root-words nan r h refused kept nearest = same r (refused tt)

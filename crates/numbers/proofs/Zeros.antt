@@ -1,4 +1,5 @@
--- Sums, products and quotients of the zeros of binary64: 0.0 times a finite number is a zero of some sign, 0.0 with a zero of either sign added is 0.0, and 0.0 over a number above 0 is 0.0. Assumes nothing.
+-- Sums, products and quotients of the zeros of binary64: 0.0 times a finite number is a zero of some sign, 0.0 with a
+-- zero of either sign added is 0.0, and 0.0 over a number above 0 is 0.0. Assumes nothing.
 use mathlib.Core.Path.{_≡_, refl, ap, _∙_, subst}
 use mathlib.Core.Bool.{Bool, true, false}
 use Prim.Native.Nat.{ℕ, _*_, _<_}
@@ -6,7 +7,8 @@ use native.Mathlib.Nat.{zero-mul, mul-pos, lt-irrefl}
 use borrow.Author.Tests.{ne-eqb}
 use lib.Dec.{T, ltb→lt, lit<}
 use lib.IntN.{ℤ, pos}
-use lib.Ieee.{Float, nan, inf, fin, binary64, add, mul, div, round, sum, size, span, climb, units, odd, up, down, unlike}
+use lib.Ieee.{Float, nan, inf, fin, binary64, add, mul, div, round, sum, size, span, climb, units, odd, up, down}
+use lib.Ieee.{unlike}
 use lib.Ieee.Fits.{up-pos, down-pos}
 use lib.Ieee.Positive.{positive}
 use Rattle.lists.proofs.Tests.{cond-false}
@@ -15,7 +17,8 @@ use Rattle.formats.proofs.Zeros.{zero-rounded}
 
 pub zero-times : (t : Bool) (m : ℕ) (e : ℤ) → mul binary64 zero-float (fin t m e) ≡ fin (unlike false t) 0 (pos 0)
 unfolding mul
-zero-times t m e = ap (λ (k : ℕ). round binary64 (unlike false t) k (1 * down e)) (zero-mul (m * up e)) ∙ zero-rounded binary64 (unlike false t) (1 * down e) (mul-pos {m = 1} (lit< tt) (down-pos e))
+zero-times t m e = ap (λ (k : ℕ). round binary64 (unlike false t) k (1 * down e)) (zero-mul (m * up e))
+    ∙ zero-rounded binary64 (unlike false t) (1 * down e) (mul-pos {m = 1} (lit< tt) (down-pos e))
 
 pub zero-plus : (s : Bool) → add binary64 zero-float (fin s 0 (pos 0)) ≡ zero-float
 unfolding add sum round size span climb units odd

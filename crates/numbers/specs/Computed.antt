@@ -1,5 +1,6 @@
--- What the program computes: the values by which its answers are fixed bit for bit. Definitions only. Nobody has to believe them: `Promises` ties each to document 01's words.
--- What the steps of the program promise each other. Definitions only, and none that a public promise cites.
+-- What the program computes: the values by which its answers are fixed bit for bit. Definitions only. Nobody has to
+-- believe them: `Promises` ties each to document 01's words. What the steps of the program promise each other.
+-- Definitions only, and none that a public promise cites.
 use mathlib.Core.Bool.{true, false, cond}
 use mathlib.Core.List.{[], _∷_}
 use Prim.Native.Nat.{ℕ, zero, suc, _-_, _*_, _/_, _^_, _≤_, _<_, _%_}
@@ -37,8 +38,10 @@ unfoldable pub wholeRoot : ℕ → ℕ
 unfolding rootIn
 wholeRoot n = rootIn (size n) n
 
--- ---- the root of a float. A positive x is n of the format's smallest values, and its root is the root of a = n * 2 ^ low of them. That root has half as many digits as a, of which
--- the format keeps `prec` and drops k. Twice the root, in units of 2 ^ k, has the whole part r = wholeRoot (4 * a / 4 ^ k), so (r + 1) / 2 is the whole number nearest to the root.
+-- ---- the root of a float. A positive x is n of the format's smallest values, and its root is the root of a = n * 2 ^
+-- low of them. That root has half as many digits as a, of which
+-- the format keeps `prec` and drops k. Twice the root, in units of 2 ^ k, has the whole part r = wholeRoot (4 * a / 4 ^
+-- k), so (r + 1) / 2 is the whole number nearest to the root.
 abbrev pub drops : ℕ → ℕ → ℕ
 drops p a = suc (size a) / 2 - p
 
@@ -61,7 +64,8 @@ abbrev pub refusalOf : Float → ℕ
 refusalOf x = firstOf (10 when rootless x ∷ [])
 
 abbrev pub rootAnswer : Float → Rooted
-rootAnswer x = answered (refusalOf x) (record { refusal = 0; value = rootOf binary64 x }) (λ n. record { refusal = n; value = zero-float })
+rootAnswer x = answered (refusalOf x) (record { refusal = 0; value = rootOf binary64 x })
+    (λ n. record { refusal = n; value = zero-float })
 
 -- the number that the pattern stands for, times 2 ^ 2148, is m * 4 ^ half
 pub record Parted (bits m half : ℕ) : Type 0 where

@@ -1,5 +1,6 @@
--- Document 01, 'Conversions and roots': "f32 to f64 is exact. f64 to f32 takes the nearest, ties to the even one, with subnormals; too large gives infinity; the sign is kept, of zero too;
--- a NaN gives a NaN." Definitions only. Subnormals need no word of their own: they are values of the format like any other.
+-- Document 01, 'Conversions and roots': "f32 to f64 is exact. f64 to f32 takes the nearest, ties to the even one, with
+-- subnormals; too large gives infinity; the sign is kept, of zero too; a NaN gives a NaN." Definitions only. Subnormals
+-- need no word of their own: they are values of the format like any other.
 use mathlib.Core.Path.{_≡_}
 use mathlib.Core.Bool.{Bool, true, false, _&&_, _||_}
 use Prim.Native.Nat.{ℕ, suc, _+_, _-_, _*_, _%_, _^_}
@@ -31,7 +32,8 @@ largest f = (2 ^ prec f - 1) * 2 ^ (suc (emax f) - prec f)
 abbrev pub beyond : Format → ℕ
 beyond f = 2 ^ suc (emax f)
 
--- |x| is no nearer to the largest number than to the one beyond, which is the even one of the two. Of `plus` and `minus` of a float one is 0, so that their sum is the magnitude.
+-- |x| is no nearer to the largest number than to the one beyond, which is the even one of the two. Of `plus` and
+-- `minus` of a float one is 0, so that their sum is the magnitude.
 unfoldable pub tooLarge : Format → Float → Bool
 tooLarge f x = leb ((largest f + beyond f) * number x .over) (2 * (number x .plus + number x .minus))
 
@@ -40,5 +42,7 @@ pub record Narrows (f : Format) (x r : Float) : Type 0 where
   pub not-a-number : isNan r ≡ isNan x
   pub sign : negative r ≡ negative x
   pub large : infinite r ≡ (infinite x || (finite x && tooLarge f x))
-  pub nearest : (y : Float) → T (finite x) → T (finite r) → T (fits f y) → T (finite y) → AsNear (number x) (number r) (number y)
-  pub even : (y : Float) → T (finite x) → T (finite r) → T (fits f y) → T (finite y) → AsNear (number x) (number y) (number r) → (y ≡ r → ⊥) → toBits f r % 2 ≡ 0
+  pub nearest : (y : Float) → T (finite x) → T (finite r) → T (fits f y) → T (finite y)
+      → AsNear (number x) (number r) (number y)
+  pub even : (y : Float) → T (finite x) → T (finite r) → T (fits f y) → T (finite y)
+      → AsNear (number x) (number y) (number r) → (y ≡ r → ⊥) → toBits f r % 2 ≡ 0

@@ -1,5 +1,6 @@
--- Document 01, 'Sums': "times 1.0/root(speakers)", and 'Gains': "times 1/root(n)", "times 1.0/root(2.0)". Definitions only. The root is the one that `numbers::root` promises, the f64 nearest the
--- exact root; its inverse is one f64 division.
+-- Document 01, 'Sums': "times 1.0/root(speakers)", and 'Gains': "times 1/root(n)", "times 1.0/root(2.0)". Definitions
+-- only. The root is the one that `numbers::root` promises, the f64 nearest the exact root; its inverse is one f64
+-- division.
 use Prim.Native.Nat.{ℕ}
 use mathlib.Core.Path.{_≡_}
 use mathlib.Core.List.{[], _∷_}
@@ -23,9 +24,12 @@ inverseRefusal n = firstOf (2 when eqb n 0 ∷ [])
 
 -- "A refusal returns its number, [..] 0.0 for any number"
 abbrev pub inverseAnswer : ℕ → Inverse
-inverseAnswer n = answered (inverseRefusal n) (record { refusal = 0; value = inverseRoot n }) (λ r. record { refusal = r; value = zero-float })
+inverseAnswer n = answered (inverseRefusal n) (record { refusal = 0; value = inverseRoot n })
+    (λ r. record { refusal = r; value = zero-float })
 
--- every bit of the answer; and where it is accepted, it is 1.0 over whatever document 01's words allow for the root of n
+-- every bit of the answer; and where it is accepted, it is 1.0 over whatever document 01's words allow for the root of
+-- n
 pub record InverseRoot (n : ℕ) (answer : Inverse) : Type 0 where
   pub bits : answer ≡ inverseAnswer n
-  pub words : inverseRefusal n ≡ 0 → (r : Rooted) → Root (float (pos n)) r → answer .value ≡ div binary64 one-float (r .value)
+  pub words : inverseRefusal n ≡ 0 → (r : Rooted) → Root (float (pos n)) r
+      → answer .value ≡ div binary64 one-float (r .value)

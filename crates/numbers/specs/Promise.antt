@@ -1,4 +1,5 @@
--- What each public function promises: the answer by an equation, which leaves no second answer, and beside it what document 01 says of it. Definitions only.
+-- What each public function promises: the answer by an equation, which leaves no second answer, and beside it what
+-- document 01 says of it. Definitions only.
 use mathlib.Core.Path.{_≡_}
 use mathlib.Core.Bool.{Bool}
 use lib.IntN.{pos}
@@ -24,7 +25,8 @@ pub record Root (x : Float) (r : Rooted) : Type 0 where
   pub bits : r ≡ rootAnswer x
   pub words : RootWords x r
 
--- what is computed meets document 01's words, of every number; they leave one answer (`narrows-unique`, `root-only`, `root-words`), so whoever cites `narrowed`, `rootOf` or `rootAnswer` cites them
+-- what is computed meets document 01's words, of every number; they leave one answer (`narrows-unique`, `root-only`,
+-- `root-words`), so whoever cites `narrowed`, `rootOf` or `rootAnswer` cites them
 pub record NumbersMeet : Type 0 where
   pub narrowing : (x : Float) → Narrows binary32 x (narrowed x)
   pub nearest-root : (x : Float) → T (fits binary64 x) → T (positive x) → NearestRoot binary64 x (rootOf binary64 x)

@@ -1,4 +1,5 @@
--- The gains of a command are those of the crate that computes them, and its refusal is theirs, in the panner's order. Assumes nothing.
+-- The gains of a command are those of the crate that computes them, and its refusal is theirs, in the panner's order.
+-- Assumes nothing.
 use mathlib.Core.Path.{_≡_, refl, sym, ap, _∙_, subst}
 use mathlib.Core.Bool.{Bool, true, false, not, cond}
 use mathlib.Core.List.{_∷_}
@@ -33,7 +34,8 @@ use Rattle.panner.specs.Commands.{noOrder, notOffered, planesOf}
 use Rattle.panner.specs.Computed.{isBadLayout, commandRefusal, Commands}
 
 -- ---- a refusal
-pub refused : (c : Command) (l : Layout) (g : Commanded) (n : ℕ) → 0 < n → g .refusal ≡ n → commandRefusal c l ≡ n → Commands c l g
+pub refused : (c : Command) (l : Layout) (g : Commanded) (n : ℕ) → 0 < n → g .refusal ≡ n → commandRefusal c l ≡ n
+    → Commands c l g
 refused c l g n o r e = record {
   refusal = r ∙ sym e;
   planes = λ k. absurd (not-accepted n o e k);
@@ -58,17 +60,22 @@ bad-layout l k e = ap (λ (x : Counted). not (eqb (x .refusal) 0)) e ∙ go (unc
 module _ (l : Layout) (p : Float) (s : StereoGains) (h : Stereo.Pans p s) where
   stereo-refusal : s .refusal ≡ cond (Stereo.isRefused p) 3 0
   unfolding Stereo.outcome
-  stereo-refusal = ap (λ (x : StereoGains). x .refusal) (h .bits) ∙ told-is (Stereo.played p) Stereo.refused (λ (x : StereoGains). x .refusal) refl (Stereo.refusalOf p) refl
+  stereo-refusal = ap (λ (x : StereoGains). x .refusal) (h .bits)
+      ∙ told-is (Stereo.played p) Stereo.refused (λ (x : StereoGains). x .refusal) refl (Stereo.refusalOf p) refl
 
   pub stereo-refused : isBadLayout l ≡ false → (s .refusal ≡ 0 → ⊥) → commandRefusal (Stereo p) l ≡ 3
   stereo-refused b n = cond-false 2 _ b ∙ three (Stereo.isRefused p) (s .refusal) stereo-refusal n
 
-  pub stereo-accepted : (g : Commanded) → isBadLayout l ≡ false → s .refusal ≡ 0 → g ≡ record { refusal = 0; planes = 2; gains = s .left ∷ s .right ∷ replicate 14 zero-float } → Commands (Stereo p) l g
+  pub stereo-accepted : (g : Commanded) → isBadLayout l ≡ false → s .refusal ≡ 0
+      → g ≡ record { refusal = 0; planes = 2; gains = s .left ∷ s .right ∷ replicate 14 zero-float }
+      → Commands (Stereo p) l g
   stereo-accepted g b z e = record {
     refusal = ap (λ (x : Commanded). x .refusal) e ∙ sym (cond-false 2 _ b ∙ sym stereo-refusal ∙ z);
     planes = λ k. ap (λ (x : Commanded). x .planes) e;
-    gains = λ k. ap (λ (x : Commanded). x .gains) e ∙ ap (λ (x : StereoGains). x .left ∷ x .right ∷ replicate 14 zero-float) (h .bits);
-    promised = λ k. subst (Stereo.Pans p) (λ i. record { refusal = z i; left = h .bits i .left; right = h .bits i .right }) h;
+    gains = λ k. ap (λ (x : Commanded). x .gains) e
+        ∙ ap (λ (x : StereoGains). x .left ∷ x .right ∷ replicate 14 zero-float) (h .bits);
+    promised = λ k. subst (Stereo.Pans p)
+        (λ i. record { refusal = z i; left = h .bits i .left; right = h .bits i .right }) h;
   }
 
 -- ---- a surround azimuth
@@ -79,10 +86,12 @@ module _ (l : Layout) (a : Float) (s : SurroundGains) (h : Surround.Pans l a s) 
   offered : s .refusal ≡ 0 → surround l ≡ true
   offered z = not-false (surround l) (passed (not (surround l)) 1 _ (sym surround-refusal ∙ z) .0)
 
-  pub surround-accepted : (g : Commanded) (k : Counted) → k ≡ counted l → s .refusal ≡ 0 → g ≡ record { refusal = 0; planes = k .channels; gains = s .gains } → Commands (Surround a) l g
+  pub surround-accepted : (g : Commanded) (k : Counted) → k ≡ counted l → s .refusal ≡ 0
+      → g ≡ record { refusal = 0; planes = k .channels; gains = s .gains } → Commands (Surround a) l g
   surround-accepted g k n z e =
       let o = offered z in
-      let count : g .planes ≡ channelsOf l = ap (λ (x : Commanded). x .planes) e ∙ ap (λ (x : Counted). x .channels) n ∙ surround-counted l o in
+      let count : g .planes ≡ channelsOf l = ap (λ (x : Commanded). x .planes) e ∙ ap (λ (x : Counted). x .channels) n
+      ∙ surround-counted l o in
       record {
         refusal = ap (λ (x : Commanded). x .refusal) e ∙ sym (sym surround-refusal ∙ z);
         planes = λ k. count;
@@ -98,7 +107,8 @@ module _ (l : Layout) (d : Direction) (n : ℕ) where
   pub layout-refused : refusesOrder n ≡ false → isBadLayout l ≡ true → commandRefusal (Ambisonic d n) l ≡ 2
   layout-refused o b = cond-false 1 _ o ∙ cond-true 2 _ b
 
-  module _ (s : Coefficients) (h : Harmonics.Promise n d s) (o : refusesOrder n ≡ false) (b : isBadLayout l ≡ false) where
+  module _ (s : Coefficients) (h : Harmonics.Promise n d s) (o : refusesOrder n ≡ false)
+      (b : isBadLayout l ≡ false) where
     direction-is : s .refusal ≡ cond (Harmonics.refusesDirection d) 3 0
     direction-is = refusal-is n d s h ∙ cond-false 1 _ o
 
@@ -108,7 +118,8 @@ module _ (l : Layout) (d : Direction) (n : ℕ) where
     pub direction-refused : (s .refusal ≡ 0 → ⊥) → commandRefusal (Ambisonic d n) l ≡ 3
     direction-refused k = command-is ∙ three (Harmonics.refusesDirection d) (s .refusal) direction-is k
 
-    pub ambisonic-accepted : (g : Commanded) → s .refusal ≡ 0 → g ≡ record { refusal = 0; planes = channelsOfOrder n; gains = s .gains } → Commands (Ambisonic d n) l g
+    pub ambisonic-accepted : (g : Commanded) → s .refusal ≡ 0
+        → g ≡ record { refusal = 0; planes = channelsOfOrder n; gains = s .gains } → Commands (Ambisonic d n) l g
     ambisonic-accepted g z e = record {
       refusal = ap (λ (x : Commanded). x .refusal) e ∙ sym (command-is ∙ sym direction-is ∙ z);
       planes = λ k. ap (λ (x : Commanded). x .planes) e;

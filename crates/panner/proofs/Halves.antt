@@ -10,7 +10,8 @@ use Rattle.panner.specs.Halves.{gainsPlayed, noGains, Gained}
 
 module _ (c : Command) (l : Layout) (g : CommandGains) (G : Gained c l g) where
   pub gained-number : g .refusal ≡ firstOf (commandChecks c l)
-  gained-number = ap (λ (r : CommandGains). r .refusal) (G .bits) ∙ told-is (gainsPlayed c l) noGains (λ (r : CommandGains). r .refusal) refl (firstOf (commandChecks c l)) refl
+  gained-number = ap (λ (r : CommandGains). r .refusal) (G .bits)
+      ∙ told-is (gainsPlayed c l) noGains (λ (r : CommandGains). r .refusal) refl (firstOf (commandChecks c l)) refl
 
   pub gained-accepted : firstOf (commandChecks c l) ≡ 0 → g ≡ gainsPlayed c l
   gained-accepted z = G .bits ∙ answered-accepted (gainsPlayed c l) noGains (firstOf (commandChecks c l)) z

@@ -1,4 +1,5 @@
--- The answers of `command_gains` and of `process` are those promised: refused by the command, by a length, by the number of frames, and played. Assumes nothing.
+-- The answers of `command_gains` and of `process` are those promised: refused by the command, by a length, by the
+-- number of frames, and played. Assumes nothing.
 use mathlib.Core.Path.{_≡_, sym, ap, _∙_}
 use mathlib.Core.Bool.{true, false}
 use mathlib.Core.List.{List}
@@ -20,7 +21,8 @@ use Rattle.panner.specs.declared.Command.{Command}
 use Rattle.panner.specs.declared.Commanded.{Commanded}
 use Rattle.panner.specs.declared.CommandGains.{CommandGains}
 use Rattle.panner.specs.Commands.{commandChecks, gainsOf}
-use Rattle.panner.specs.Blocks.{Shape, misfit, mostFrames, planesIn, blockChecks, refusalOf, narrowedAll, panned, framesOf}
+use Rattle.panner.specs.Blocks.{Shape, misfit, mostFrames, planesIn, blockChecks, refusalOf, narrowedAll}
+use Rattle.panner.specs.Blocks.{panned, framesOf}
 use Rattle.panner.specs.Halves.{pannedPart, gainsPlayed, noGains, Gained}
 use Rattle.panner.specs.Promise.{answerOf, Processed}
 use Rattle.panner.specs.Computed.{commandRefusal, Commands}
@@ -31,16 +33,19 @@ use Rattle.panner.proofs.Halves.{gained-number, gained-accepted}
 module _ (c : Command) (l : Layout) (g : Commanded) (G : Commands c l g) where
   pub gives-refused : (g .refusal ≡ 0 → ⊥) → Gained c l (noGains (g .refusal))
   gives-refused h = record {
-    bits = ap noGains (G .refusal) ∙ sym (answered-refused (gainsPlayed c l) noGains (commandRefusal c l) (λ k. h (G .refusal ∙ k)));
+    bits = ap noGains (G .refusal)
+        ∙ sym (answered-refused (gainsPlayed c l) noGains (commandRefusal c l) (λ k. h (G .refusal ∙ k)));
     words = G .promised;
   }
 
-  pub gives-gains : g .refusal ≡ 0 → (narrow : List Float) → narrow ≡ narrowedAll (g .gains) → Gained c l (record { refusal = 0; planes = g .planes; gains = narrow })
+  pub gives-gains : g .refusal ≡ 0 → (narrow : List Float) → narrow ≡ narrowedAll (g .gains)
+      → Gained c l (record { refusal = 0; planes = g .planes; gains = narrow })
   gives-gains z narrow e =
       let accepted : commandRefusal c l ≡ 0 = sym (G .refusal) ∙ z in
       let narrow-is : narrow ≡ narrowedAll (gainsOf c l) = e ∙ ap narrowedAll (G .gains accepted) in
       record {
-        bits = (λ i. record { refusal = 0; planes = G .planes accepted i; gains = narrow-is i }) ∙ sym (answered-accepted (gainsPlayed c l) noGains (commandRefusal c l) accepted);
+        bits = (λ i. record { refusal = 0; planes = G .planes accepted i; gains = narrow-is i })
+            ∙ sym (answered-accepted (gainsPlayed c l) noGains (commandRefusal c l) accepted);
         words = G .promised;
       }
 
@@ -50,7 +55,11 @@ module _ (s : Shape) (input out : List Float) where
   refusal = refusalOf s (length input) (length out)
 
   refused : (n : ℕ) → (n ≡ 0 → ⊥) → refusal ≡ n → Processed s input out (record { refusal = n; samples = 0 }) out
-  refused n h e = record { bits = refused-with answerOf (s .frames) (s .stride) (framesOf s input) out n refusal (sym e) h; words = λ k. absurd (h (sym e ∙ k)) }
+  refused n h e = record {
+    bits = refused-with answerOf (s .frames) (s .stride) (framesOf s input) out n refusal
+        (sym e) h;
+    words = λ k. absurd (h (sym e ∙ k));
+  }
 
   module _ (g : CommandGains) (G : Gained (s .command) (s .layout) g) where
     abbrev first : List Check
@@ -75,28 +84,42 @@ module _ (s : Shape) (input out : List Float) where
       goes : refusal ≡ firstOf then
       goes = first-accepted first then tt accepted
 
-      misfit-is : misfit (length input) (length out) (g .planes) (s .stride) (s .frames) ≡ misfit (length input) (length out) (planesIn s) (s .stride) (s .frames)
-      misfit-is = ap (λ (r : CommandGains). misfit (length input) (length out) (r .planes) (s .stride) (s .frames)) gains-are
+      misfit-is : misfit (length input) (length out) (g .planes) (s .stride) (s .frames) ≡ misfit (length input)
+          (length out) (planesIn s) (s .stride) (s .frames)
+      misfit-is = ap (λ (r : CommandGains). misfit (length input) (length out) (r .planes) (s .stride) (s .frames))
+          gains-are
 
-      pub by-length : misfit (length input) (length out) (g .planes) (s .stride) (s .frames) ≡ true → Processed s input out (record { refusal = 5; samples = 0 }) out
+      pub by-length : misfit (length input) (length out) (g .planes) (s .stride) (s .frames) ≡ true
+          → Processed s input out (record { refusal = 5; samples = 0 }) out
       by-length m = refused 5 (λ e. omega arith) (goes ∙ cond-true 5 _ (sym misfit-is ∙ m))
 
       module _ (m : misfit (length input) (length out) (g .planes) (s .stride) (s .frames) ≡ false) where
         pub by-frames : mostFrames < s .frames → Processed s input out (record { refusal = 6; samples = 0 }) out
-        by-frames h = refused 6 (λ e. omega arith) (goes ∙ cond-false 5 _ (sym misfit-is ∙ m) ∙ cond-true 6 0 (lt-ltb mostFrames (s .frames) h))
+        by-frames h = refused 6 (λ e. omega arith)
+            (goes ∙ cond-false 5 _ (sym misfit-is ∙ m) ∙ cond-true 6 0 (lt-ltb mostFrames (s .frames) h))
 
         -- a part from 0 on is the whole block, and its planes are sixteen at most
-        whole : withFrames out (s .stride) 0 (pannedPart (s .stride) 0 (s .frames) (min (g .planes) 16) (g .gains) input) ≡ withFrames out (s .stride) 0 (framesOf s input)
+        whole : withFrames out (s .stride) 0
+            (pannedPart (s .stride) 0 (s .frames) (min (g .planes) 16) (g .gains) input) ≡ withFrames out
+            (s .stride) 0 (framesOf s input)
         whole =
             let off = none-holds first tt accepted in
             let most = planes-most (s .command) (s .layout) (off .0) (off .1 .0) in
             let few : min (planesIn s) 16 ≡ planesIn s = omega (arith, most) in
-            ap (λ (r : CommandGains). withFrames out (s .stride) 0 (pannedPart (s .stride) 0 (s .frames) (min (r .planes) 16) (r .gains) input)) gains-are
-            ∙ (λ i. withFrames out (s .stride) 0 (tab 0 (sub-zero (s .frames) i) (λ n. panned (few i) (narrowedAll (gainsOf (s .command) (s .layout))) (sampleAt input (s .stride) 0 n))))
+            ap (λ (r : CommandGains). withFrames out (s .stride) 0
+            (pannedPart (s .stride) 0 (s .frames) (min (r .planes) 16) (r .gains) input)) gains-are
+            ∙ (λ i. withFrames out (s .stride) 0
+            (tab 0 (sub-zero (s .frames) i)
+            (λ n. panned (few i) (narrowedAll (gainsOf (s .command) (s .layout)))
+            (sampleAt input (s .stride) 0 n))))
 
-        pub plays : (after : List Float) → s .frames ≤ mostFrames → after ≡ withFrames out (s .stride) 0 (pannedPart (s .stride) 0 (s .frames) (min (g .planes) 16) (g .gains) input)
+        pub plays : (after : List Float) → s .frames ≤ mostFrames
+            → after ≡ withFrames out (s .stride) 0
+            (pannedPart (s .stride) 0 (s .frames) (min (g .planes) 16) (g .gains) input)
             → Processed s input out (record { refusal = 0; samples = s .frames }) after
         plays after h w = record {
-          bits = played-with answerOf (s .frames) (s .stride) (framesOf s input) out refusal after (goes ∙ cond-false 5 _ (sym misfit-is ∙ m) ∙ cond-false 6 0 (le-ltb mostFrames (s .frames) h)) (w ∙ whole);
+          bits = played-with answerOf (s .frames) (s .stride) (framesOf s input) out refusal after
+              (goes ∙ cond-false 5 _ (sym misfit-is ∙ m) ∙ cond-false 6 0 (le-ltb mostFrames (s .frames) h))
+              (w ∙ whole);
           words = λ k. G .words accepted;
         }

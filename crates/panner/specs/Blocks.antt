@@ -1,5 +1,6 @@
--- Document 01, 'Sums': "Panner: the f32 product of sample and narrowed gain." 'Refusal numbers': 5 when "a lent length doesn't fit: stride below the frame count, or a length other than planes x stride", 6 when "a
--- panner block has more than 4,096 frames". Definitions only. The input is one plane.
+-- Document 01, 'Sums': "Panner: the f32 product of sample and narrowed gain." 'Refusal numbers': 5 when "a lent length
+-- doesn't fit: stride below the frame count, or a length other than planes x stride", 6 when "a panner block has more
+-- than 4,096 frames". Definitions only. The input is one plane.
 use Prim.Native.Nat.{ℕ}
 use mathlib.Core.Bool.{Bool}
 use mathlib.Core.List.{List, [], _∷_, _++_}
@@ -34,7 +35,8 @@ planesIn s = planesOf (s .command) (s .layout)
 
 -- what is checked of a block: 1, 2 and 3 of its command, then its lengths and its frames
 abbrev pub blockChecks : Shape → ℕ → ℕ → List Check
-blockChecks s input out = 5 when misfit input out (planesIn s) (s .stride) (s .frames) ∷ 6 when ltb mostFrames (s .frames) ∷ []
+blockChecks s input out =
+    5 when misfit input out (planesIn s) (s .stride) (s .frames) ∷ 6 when ltb mostFrames (s .frames) ∷ []
 
 abbrev pub refusalOf : Shape → ℕ → ℕ → ℕ
 refusalOf s input out = firstOf (commandChecks (s .command) (s .layout) ++ blockChecks s input out)
@@ -53,4 +55,5 @@ abbrev pub pannedFrames : ℕ → ℕ → ℕ → List Float → List Float → 
 pannedFrames stride frames planes gains input = tab 0 frames (λ n. panned planes gains (sampleAt input stride 0 n))
 
 abbrev pub framesOf : Shape → List Float → List (List Float)
-framesOf s input = pannedFrames (s .stride) (s .frames) (planesIn s) (narrowedAll (gainsOf (s .command) (s .layout))) input
+framesOf s input =
+    pannedFrames (s .stride) (s .frames) (planesIn s) (narrowedAll (gainsOf (s .command) (s .layout))) input

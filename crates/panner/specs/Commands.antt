@@ -1,5 +1,7 @@
--- Document 01: "A panner command is a stereo position, a surround azimuth, or a direction with an order." What each refuses ('Refusal numbers' 1, 2 and 3: "The panner offers Surround51 and Surround71 for
--- surround"; Custom 0 or above 16 is 2 wherever a layout is handed in), how many planes it plays to, and with which gains ('Gains'). Definitions only.
+-- Document 01: "A panner command is a stereo position, a surround azimuth, or a direction with an order." What each
+-- refuses ('Refusal numbers' 1, 2 and 3: "The panner offers Surround51 and Surround71 for surround"; Custom 0 or above
+-- 16 is 2 wherever a layout is handed in), how many planes it plays to, and with which gains ('Gains'). Definitions
+-- only.
 use Prim.Native.Nat.{ℕ}
 use mathlib.Core.Bool.{Bool, false, not}
 use mathlib.Core.List.{List, [], _∷_}
@@ -51,6 +53,7 @@ gainsOf (Ambisonic d n) l = Harmonics.outcome n d .gains
 
 -- what is promised of them, and how near they are to document 01's formulas
 abbrev pub Promised : Command → Layout → List Float → Type 0
-Promised (Stereo p) l g = Stereo.Pans p (record { refusal = 0; left = getD g 0 zero-float; right = getD g 1 zero-float })
+Promised (Stereo p) l g =
+    Stereo.Pans p (record { refusal = 0; left = getD g 0 zero-float; right = getD g 1 zero-float })
 Promised (Surround a) l g = Surround.Pans l a (record { refusal = 0; gains = g })
 Promised (Ambisonic d n) l g = Harmonics.Promise n d (record { refusal = 0; gains = g })

@@ -1,4 +1,5 @@
--- What the two halves of `process` promise: the gains that a command plays with, and some frames of a block played. Document 01: "A refusal returns its number, counts of 0, 0.0 for any number or gain"; 'Sums': "Panner: the f32
+-- What the two halves of `process` promise: the gains that a command plays with, and some frames of a block played.
+-- Document 01: "A refusal returns its number, counts of 0, 0.0 for any number or gain"; 'Sums': "Panner: the f32
 -- product of sample and narrowed gain." Definitions only.
 use Prim.Native.Nat.{ℕ, _-_}
 use mathlib.Core.Path.{_≡_}
@@ -31,4 +32,5 @@ pub record Gained (c : Command) (l : Layout) (answer : CommandGains) : Type 0 wh
 
 -- the frames from one to before another: frame n of the outputs, of sample n of the input
 abbrev pub pannedPart : ℕ → ℕ → ℕ → ℕ → List Float → List Float → List (List Float)
-pannedPart stride from to planes gains input = tab from (to - from) (λ n. panned planes gains (sampleAt input stride 0 n))
+pannedPart stride from to planes gains input =
+    tab from (to - from) (λ n. panned planes gains (sampleAt input stride 0 n))

@@ -1,4 +1,5 @@
--- All that is handed back for a block (`planes`, specs/Blocks.antt). Document 01: "Input samples may be any bit pattern." Definitions only.
+-- All that is handed back for a block (`planes`, specs/Blocks.antt). Document 01: "Input samples may be any bit
+-- pattern." Definitions only.
 use Prim.Native.Nat.{ℕ}
 use mathlib.Core.Path.{_≡_}
 use mathlib.Core.List.{List}
@@ -18,9 +19,11 @@ abbrev pub Block : Type 0
 Block = Blocks.Block Panned
 
 abbrev pub block : Shape → List Float → List Float → Block
-block s input out = blockOf answerOf (refusalOf s (length input) (length out)) (s .frames) (s .stride) (framesOf s input) out
+block s input out =
+    blockOf answerOf (refusalOf s (length input) (length out)) (s .frames) (s .stride) (framesOf s input) out
 
 -- all that is handed back; and that the gains played are those promised
 pub record Processed (s : Shape) (input out : List Float) (answer : Panned) (after : List Float) : Type 0 where
   pub bits : record { answer = answer; out = after } ≡ block s input out
-  pub words : refusalOf s (length input) (length out) ≡ 0 → Promised (s .command) (s .layout) (gainsOf (s .command) (s .layout))
+  pub words : refusalOf s (length input) (length out) ≡ 0
+      → Promised (s .command) (s .layout) (gainsOf (s .command) (s .layout))

@@ -190,7 +190,8 @@ pub fn play_part(
     gains: [f32; 16],
     input: &[f32],
 )
-    ensures { λ _. ⌜ now (out .exit) ≡ withFrames (now (out .entry)) stride from (pannedPart stride from to (min planes 16) gains (now (input .entry))) ⌝ }
+    ensures { λ _. ⌜ now (out .exit) ≡ withFrames (now (out .entry)) stride from
+        (pannedPart stride from to (min planes 16) gains (now (input .entry))) ⌝ }
 {
     let few = checks::min(planes, 16);
     let mut n = from;
@@ -216,7 +217,8 @@ pub fn process(
     input: &[f32],
     out: &mut [f32],
 ) -> Panned
-    ensures { λ r. ⌜ Processed (record { command = command; layout = layout; frames = frames; stride = stride }) (now (input .entry)) (now (out .entry)) r (now (out .exit)) ⌝ }
+    ensures { λ r. ⌜ Processed (record { command = command; layout = layout; frames = frames; stride = stride })
+        (now (input .entry)) (now (out .entry)) r (now (out .exit)) ⌝ }
 {
     let played = command_gains(command, layout);
     if played.refusal != 0 {

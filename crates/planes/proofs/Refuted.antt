@@ -1,5 +1,6 @@
--- Wrong answers of another shape, refuted on a worked frame of three channels with weights of 1.0: channels added from the last to the first, a sum that is narrowed at each channel, and damage judged on the sum before
--- it is narrowed. Assumes nothing.
+-- Wrong answers of another shape, refuted on a worked frame of three channels with weights of 1.0: channels added from
+-- the last to the first, a sum that is narrowed at each channel, and damage judged on the sum before it is narrowed.
+-- Assumes nothing.
 use mathlib.Core.Path.{_≡_, ap}
 use mathlib.Core.Bool.{true, false, true≢false}
 use mathlib.Core.List.{List, [], _∷_, reverse}

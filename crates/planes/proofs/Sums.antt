@@ -1,5 +1,5 @@
--- Laws of the ordered sum: the loop that forms it, the products of two lists place by place, lists that are joined, and a NaN
--- in one. Assumes nothing.
+-- Laws of the ordered sum: the loop that forms it, the products of two lists place by place, lists that are joined, and
+-- a NaN in one. Assumes nothing.
 use mathlib.Core.Path.{_≡_, refl, sym, ap, _∙_}
 use mathlib.Core.List.{List, [], _∷_, _++_}
 use Prim.Native.Nat.{ℕ, zero, suc, _+_, _≤_, _<_, min}
@@ -23,8 +23,10 @@ module _ (f : ℕ → Float) (n : ℕ) where
   pub summing-none : Summing f n zero-float 0
   summing-none = loop-none (λ k. total) f n zero-float
 
-  pub summing-more : (sum : Float) (i : ℕ) (x : Float) → Summing f n sum i → i < n → x ≡ f i → Summing f n (add binary64 sum x) (i + 1)
-  summing-more sum i x g h e = loop-more (λ k. total) f n zero-float (λ k. add binary64) (λ k s a l. refl) sum i x (add binary64 sum x) g h e refl
+  pub summing-more : (sum : Float) (i : ℕ) (x : Float) → Summing f n sum i → i < n → x ≡ f i
+      → Summing f n (add binary64 sum x) (i + 1)
+  summing-more sum i x g h e = loop-more (λ k. total) f n zero-float (λ k. add binary64) (λ k s a l. refl) sum i x
+      (add binary64 sum x) g h e refl
 
   pub summing-all : (sum : Float) (i : ℕ) → Summing f n sum i → n ≤ i → sum ≡ total zero-float (tab 0 n f)
   summing-all sum i = loop-all (λ k. total) f n zero-float sum i
@@ -35,7 +37,8 @@ module _ (f : ℕ → Float) (n : ℕ) where
 abbrev pub productAt : List Float → List Float → ℕ → Float
 productAt xs ys k = mul binary64 (getD xs k nan) (getD ys k nan)
 
-products-tab : (xs ys : List Float) (n : ℕ) → n ≡ min (length xs) (length ys) → products xs ys ≡ tab 0 n (productAt xs ys)
+products-tab : (xs ys : List Float) (n : ℕ) → n ≡ min (length xs) (length ys)
+    → products xs ys ≡ tab 0 n (productAt xs ys)
 products-tab [] ys zero e = refl
 products-tab [] ys (suc n) e = absurd (omega arith)
 products-tab (x ∷ xs) [] zero e = refl
@@ -46,9 +49,11 @@ products-tab (x ∷ xs) (y ∷ ys) (suc n) e =
     (products-tab xs ys n (omega arith) ∙ sym (tab-shift 0 n (productAt (x ∷ xs) (y ∷ ys))))
 
 -- so the loop over the places of the shorter list forms their sum, from any sum on
-pub dot-on : (a : Float) (xs ys : List Float) (n : ℕ) (sum : Float) (i : ℕ) → LoopOverTable (λ k. total) (productAt xs ys) n a sum i
+pub dot-on : (a : Float) (xs ys : List Float) (n : ℕ) (sum : Float) (i : ℕ)
+    → LoopOverTable (λ k. total) (productAt xs ys) n a sum i
     → n ≤ i → n ≡ min (length xs) (length ys) → sum ≡ dot a xs ys
-dot-on a xs ys n sum i g h e = loop-all (λ k. total) (productAt xs ys) n a sum i g h ∙ ap (total a) (sym (products-tab xs ys n e))
+dot-on a xs ys n sum i g h e =
+    loop-all (λ k. total) (productAt xs ys) n a sum i g h ∙ ap (total a) (sym (products-tab xs ys n e))
 
 pub dot-all : (xs ys : List Float) (n : ℕ) (sum : Float) (i : ℕ) → Summing (productAt xs ys) n sum i → n ≤ i
     → n ≡ min (length xs) (length ys) → sum ≡ dot zero-float xs ys
@@ -82,7 +87,8 @@ products-take zero (x ∷ xs) [] h = refl
 products-take zero (x ∷ xs) (y ∷ ys) h = absurd (not-suc-le-zero h)
 products-take (suc n) [] ys h = refl
 products-take (suc n) (x ∷ xs) [] h = refl
-products-take (suc n) (x ∷ xs) (y ∷ ys) h = ap (λ (l : List Float). mul binary64 x y ∷ l) (products-take n xs ys (le-of-suc-le-suc h))
+products-take (suc n) (x ∷ xs) (y ∷ ys) h =
+    ap (λ (l : List Float). mul binary64 x y ∷ l) (products-take n xs ys (le-of-suc-le-suc h))
 
 -- ---- a NaN in the first list makes the sum one, whatever comes before and after
 
@@ -97,7 +103,8 @@ unfolding add
 total-nan [] = refl
 total-nan (x ∷ xs) = total-nan xs
 
-pub dot-nan : (a : Float) (xs ws : List Float) (c : ℕ) → c < length xs → c < length ws → getD xs c nan ≡ nan → dot a xs ws ≡ nan
+pub dot-nan : (a : Float) (xs ws : List Float) (c : ℕ) → c < length xs → c < length ws → getD xs c nan ≡ nan
+    → dot a xs ws ≡ nan
 unfolding mul
 dot-nan a [] ws c hx hw e = absurd (not-suc-le-zero hx)
 dot-nan a (x ∷ xs) [] c hx hw e = absurd (not-suc-le-zero hw)

@@ -1,5 +1,5 @@
--- A sum begun at a number that is no -0.0 stays none, and so sees no sign of a zero, added or multiplied (`total-unsigned`, `dot-unsigned`); so does
--- an output of a frame (`mixed-unsigned`). Assumes nothing.
+-- A sum begun at a number that is no -0.0 stays none, and so sees no sign of a zero, added or multiplied
+-- (`total-unsigned`, `dot-unsigned`); so does an output of a frame (`mixed-unsigned`). Assumes nothing.
 use mathlib.Core.Path.{_≡_, refl, sym, ap, _∙_}
 use mathlib.Core.List.{List, [], _∷_, map}
 use Prim.Native.Nat.{zero, suc}
@@ -30,9 +30,11 @@ total-held a (x ∷ xs) h = total-held (add binary64 a x) xs (add-fits binary64 
 
 pub sum-stays : (a : Float) (xs : List Float) → Unsigned a → Held a → AllHeld xs → Unsigned (total a xs)
 sum-stays a [] u h k = u
-sum-stays a (x ∷ xs) u h k = sum-stays (add binary64 a x) xs (sum-unsigned binary64 a x u h (k 0)) (add-fits binary64 a x) (λ i. k (suc i))
+sum-stays a (x ∷ xs) u h k =
+    sum-stays (add binary64 a x) xs (sum-unsigned binary64 a x u h (k 0)) (add-fits binary64 a x) (λ i. k (suc i))
 
-total-unsigned : (a : Float) (xs : List Float) → Unsigned a → Held a → AllHeld xs → total a xs ≡ total a (map unsignedZero xs)
+total-unsigned : (a : Float) (xs : List Float) → Unsigned a → Held a → AllHeld xs
+    → total a xs ≡ total a (map unsignedZero xs)
 total-unsigned a [] u h k = refl
 total-unsigned a (x ∷ xs) u h k =
     total-unsigned (add binary64 a x) xs (sum-unsigned binary64 a x u h (k 0)) (add-fits binary64 a x) (λ i. k (suc i))
@@ -46,16 +48,19 @@ products-held (x ∷ xs) [] i = nan-fits binary64
 products-held (x ∷ xs) (y ∷ ys) zero = mul-fits binary64 x y
 products-held (x ∷ xs) (y ∷ ys) (suc i) = products-held xs ys i
 
-products-unsigned : (xs ys : List Float) → map unsignedZero (products xs ys) ≡ map unsignedZero (products (map unsignedZero xs) (map unsignedZero ys))
+products-unsigned : (xs ys : List Float) → map unsignedZero (products xs ys) ≡ map unsignedZero
+    (products (map unsignedZero xs) (map unsignedZero ys))
 products-unsigned [] ys = refl
 products-unsigned (x ∷ xs) [] = refl
 products-unsigned (x ∷ xs) (y ∷ ys) = λ i. mul-unsigned binary64 x y i ∷ products-unsigned xs ys i
 
-dot-unsigned : (a : Float) (xs ys : List Float) → Unsigned a → Held a → dot a xs ys ≡ dot a (map unsignedZero xs) (map unsignedZero ys)
+dot-unsigned : (a : Float) (xs ys : List Float) → Unsigned a → Held a
+    → dot a xs ys ≡ dot a (map unsignedZero xs) (map unsignedZero ys)
 dot-unsigned a xs ys u h =
     let ps = products xs ys in
     let qs = products (map unsignedZero xs) (map unsignedZero ys) in
-    total-unsigned a ps u h (products-held xs ys) ∙ ap (total a) (products-unsigned xs ys) ∙ sym (total-unsigned a qs u h (products-held (map unsignedZero xs) (map unsignedZero ys)))
+    total-unsigned a ps u h (products-held xs ys) ∙ ap (total a) (products-unsigned xs ys)
+    ∙ sym (total-unsigned a qs u h (products-held (map unsignedZero xs) (map unsignedZero ys)))
 
 -- ---- outputs
 

@@ -1,5 +1,6 @@
 -- Document 01, 'What must change shape': "`&[&[S]]` becomes planes with a stride in one slice".
--- Frame n of plane p stands at p x stride + n. Definitions only. A place outside the list reads as NaN, and writing there changes nothing.
+-- Frame n of plane p stands at p x stride + n. Definitions only. A place outside the list reads as NaN, and writing
+-- there changes nothing.
 use Prim.Native.Nat.{ℕ, suc, _+_, _*_}
 use mathlib.Core.Path.{_≡_}
 use mathlib.Core.Bool.{Bool}

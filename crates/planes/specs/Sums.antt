@@ -1,5 +1,7 @@
--- Document 01, 'Sums': "each output is the f64 sum from 0.0, channels rising, of sample times coefficient, then narrowed", and of the convolver "the signal is the f64 sum from 0.0 over channels
--- rising, narrowed to f32". Definitions only. An f32 and the f64 that it widens to are one `Float`, so widening is not written; `narrowed` is what `numbers::narrow` promises.
+-- Document 01, 'Sums': "each output is the f64 sum from 0.0, channels rising, of sample times coefficient, then
+-- narrowed", and of the convolver "the signal is the f64 sum from 0.0 over channels rising, narrowed to f32".
+-- Definitions only. An f32 and the f64 that it widens to are one `Float`, so widening is not written; `narrowed` is
+-- what `numbers::narrow` promises.
 use Prim.Native.Nat.{ℕ}
 use mathlib.Core.List.{List, [], _∷_}
 use lib.Ieee.{Float, binary64, add, mul}

@@ -73,7 +73,8 @@ pub fn put_sample(xs: &mut [f32], stride: usize, plane: usize, frame: usize, x: 
 
 // One output of a frame: the f64 sum from 0.0, channels rising, of sample times weight, narrowed.
 fn mix(weights: &[f64], inputs: &[f32], stride: usize, frame: usize) -> f32
-    ensures { λ r. ⌜ r ≡ mixed (now (weights .entry)) (frameAt (now (inputs .entry)) stride (length (now (weights .entry))) frame) ⌝ }
+    ensures { λ r. ⌜ r ≡ mixed (now (weights .entry))
+        (frameAt (now (inputs .entry)) stride (length (now (weights .entry))) frame) ⌝ }
 {
     let mut sum = 0.0;
     let mut at = onward(0, frame, inputs.len());
@@ -99,7 +100,8 @@ pub fn mix_frame(
     frame: usize,
 ) -> bool
     ensures { λ r. ⌜ FramePut (now (out .entry)) «out_stride» «out_frame»
-        (mixedAll outputs channels (now (weights .entry)) (frameAt (now (inputs .entry)) stride channels frame)) (now (out .exit)) r ⌝ }
+        (mixedAll outputs channels (now (weights .entry)) (frameAt (now (inputs .entry)) stride channels frame))
+        (now (out .exit)) r ⌝ }
 {
     let mut damaged = false;
     let mut o = 0;

@@ -29,7 +29,12 @@ module _ (operation : ℕ) (args out : List ℕ) where
 
   pub of-gains : 9 ≤ operation → operation ≤ 13 → Gains.answerOf operation args out ≡ answerOf operation args out
   unfolding answerOf
-  of-gains l h = sym (rw (within-high 1 5 operation (omega arith) (omega arith), within-high 6 8 operation (omega arith) (omega arith), within-in 9 13 operation l h))
+  of-gains l h =
+      sym (rw (
+        within-high 1 5 operation (omega arith) (omega arith),
+        within-high 6 8 operation (omega arith) (omega arith),
+        within-in 9 13 operation l h,
+      ))
 
   pub of-matrix : operation ≡ 15 → Gains.answerOf operation args out ≡ answerOf operation args out
   unfolding answerOf
@@ -39,7 +44,8 @@ module _ (operation : ℕ) (args out : List ℕ) where
   unfolding answerOf
   of-planes = ⊎-elim (λ e. rw e) (λ e. rw e)
 
-  pub of-hrtf : ((operation ≡ 14) ⊎ (operation ≡ 16) → ⊥) → (operation ≡ 15 → ⊥) → 14 ≤ operation → operation < 19 → Hrtf.answerOf operation args out ≡ answerOf operation args out
+  pub of-hrtf : ((operation ≡ 14) ⊎ (operation ≡ 16) → ⊥) → (operation ≡ 15 → ⊥) → 14 ≤ operation → operation < 19
+      → Hrtf.answerOf operation args out ≡ answerOf operation args out
   unfolding answerOf
   of-hrtf planes matrix l h =
       let not-pan : operation ≡ 14 → ⊥ = λ e. planes (inl e) in

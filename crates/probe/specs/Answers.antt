@@ -1,4 +1,5 @@
--- docs/PROBE.md: what stands in an answer "is put there by a library for each family of operations", by the number of the operation. Definitions only.
+-- docs/PROBE.md: what stands in an answer "is put there by a library for each family of operations", by the number of
+-- the operation. Definitions only.
 use Prim.Native.Nat.{ℕ}
 use mathlib.Core.Bool.{cond}
 use mathlib.Core.List.{List}
@@ -14,8 +15,9 @@ use Rattle.probe_setup.specs.Answers as Setup
 use Rattle.probe_script.specs.Answers as Script
 use Rattle.probe_replay.specs.Answers as Replay
 
--- "`probe_numbers` (1 to 5), `probe_bank` (6 to 8, 23 and 24), `probe_gains` (9 to 13 and 15), `probe_planes` (14 and 16), `probe_hrtf` (17, 18 and 25), `probe_setup` (19 and 20),
--- `probe_script` (21) and `probe_replay` (22)"; none to another one
+-- "`probe_numbers` (1 to 5), `probe_bank` (6 to 8, 23 and 24), `probe_gains` (9 to 13 and 15), `probe_planes` (14 and
+-- 16), `probe_hrtf` (17, 18 and 25), `probe_setup` (19 and 20), `probe_script` (21) and `probe_replay` (22)"; none to
+-- another one
 unfoldable pub answerOf : ℕ → List ℕ → List ℕ → Draft
 answerOf operation args out =
     cond (within 1 5 operation) (Numbers.answerOf operation args out)

@@ -1,4 +1,5 @@
--- A loop that puts a list into an answer, over the width and the bits: how it begins, one turn, and what it leaves; and the same for bytes, which are put as they are. Assumes nothing.
+-- A loop that puts a list into an answer, over the width and the bits: how it begins, one turn, and what it leaves; and
+-- the same for bytes, which are put as they are. Assumes nothing.
 use mathlib.Core.Path.{_≡_, refl, sym, ap, _∙_}
 use mathlib.Core.Bool.{Bool, true, false, not}
 use mathlib.Core.List.{List, [], _∷_, _++_}
@@ -32,17 +33,21 @@ module _ (w n : ℕ) (part : ℕ → List ℕ) (out : List ℕ) (at : ℕ) where
     pub so-far : ys ≡ placed out at (part i)
 
   pub put-kept : (ys : List ℕ) (i : ℕ) → Put ys i → length ys ≡ length out
-  put-kept ys i p = let before = mul-le-mul-left w (p .few) in let long = p .long in let inside = p .inside in ap length (p .so-far) ∙ length-placed out at (part i) (omega arith)
+  put-kept ys i p = let before = mul-le-mul-left w (p .few) in let long = p .long in let inside = p .inside in ap length
+      (p .so-far) ∙ length-placed out at (part i) (omega arith)
 
   pub put-all : (ys : List ℕ) (i : ℕ) → Put ys i → n ≤ i → draft (at + w * n) ys ≡ draft at out then part n
   put-all ys i p h =
       let done : i ≡ n = omega arith in
       let all : length (part n) ≡ w * n = rw done at (p .long) in
       let inside = p .inside in
-      (λ j. draft (at + sym all j) ((p .so-far ∙ ap (λ (k : ℕ). placed out at (part k)) done) j)) ∙ sym (then-room (draft at out) (part n) (omega arith))
+      (λ j. draft (at + sym all j) ((p .so-far ∙ ap (λ (k : ℕ). placed out at (part k)) done) j))
+      ∙ sym (then-room (draft at out) (part n) (omega arith))
 
-  pub put-none : length (part n) ≡ w * n → leb (at + w * n) (length out) ≡ false → draft nowhere out ≡ draft at out then part n
-  put-none e h = let far : length out < at + w * n = leb-false _ _ h in sym (then-cut (draft at out) (part n) (omega arith))
+  pub put-none : length (part n) ≡ w * n → leb (at + w * n) (length out) ≡ false
+      → draft nowhere out ≡ draft at out then part n
+  put-none e h =
+      let far : length out < at + w * n = leb-false _ _ h in sym (then-cut (draft at out) (part n) (omega arith))
 
 -- ---- fields
 
@@ -60,19 +65,34 @@ module _ {A : Type 0} (w : ℕ) (bits : A → ℕ) (list : List A) (out : List �
   all-firsts = ap (fieldBytes w bits) (take-length list)
 
   pub fields-first : {t : Bool} → t ≡ leb (at + w * length list) (length out) → not t ≡ false → PutFields out 0
-  fields-first e h = record { inside = leb-true _ _ (sym e ∙ not-false _ h); few = omega arith; long = length-firsts 0 (omega arith); so-far = write-none w bits out at list }
+  fields-first e h = record {
+    inside = leb-true _ _ (sym e ∙ not-false _ h);
+    few = omega arith;
+    long = length-firsts 0 (omega arith);
+    so-far = write-none w bits out at list;
+  }
 
-  pub fields-more : (ys last : List ℕ) (i : ℕ) (d : A) → w ≤ 8 → PutFields ys i → i < length list → last ≡ withField ys (at + w * i) w (bits (getD list i d)) → PutFields last (i + 1)
+  pub fields-more : (ys last : List ℕ) (i : ℕ) (d : A) → w ≤ 8 → PutFields ys i → i < length list
+      → last ≡ withField ys (at + w * i) w (bits (getD list i d)) → PutFields last (i + 1)
   fields-more ys last i d small p h e =
       let next : w * (i + 1) ≤ w * length list = mul-le-mul-left w (omega arith) in
       let inside = p .inside in
-      record { inside = inside; few = omega arith; long = length-firsts (i + 1) (omega arith); so-far = write-more w bits out at list ys last d i small (p .so-far) h (omega arith) e }
+      record {
+        inside = inside;
+        few = omega arith;
+        long = length-firsts (i + 1) (omega arith);
+        so-far = write-more w bits out at list ys last d i small (p .so-far) h (omega arith) e;
+      }
 
-  pub fields-all : (ys : List ℕ) (i : ℕ) → PutFields ys i → length list ≤ i → draft (at + w * length list) ys ≡ draft at out then fieldBytes w bits list
-  fields-all ys i p h = put-all w (length list) firsts out at ys i p h ∙ ap (λ (l : List ℕ). draft at out then l) all-firsts
+  pub fields-all : (ys : List ℕ) (i : ℕ) → PutFields ys i → length list ≤ i
+      → draft (at + w * length list) ys ≡ draft at out then fieldBytes w bits list
+  fields-all ys i p h =
+      put-all w (length list) firsts out at ys i p h ∙ ap (λ (l : List ℕ). draft at out then l) all-firsts
 
-  pub fields-none : {t : Bool} → t ≡ leb (at + w * length list) (length out) → not t ≡ true → draft nowhere out ≡ draft at out then fieldBytes w bits list
-  fields-none e h = put-none w (length list) firsts out at (length-firsts (length list) (omega arith)) (sym e ∙ not-true _ h) ∙ ap (λ (l : List ℕ). draft at out then l) all-firsts
+  pub fields-none : {t : Bool} → t ≡ leb (at + w * length list) (length out) → not t ≡ true
+      → draft nowhere out ≡ draft at out then fieldBytes w bits list
+  fields-none e h = put-none w (length list) firsts out at (length-firsts (length list) (omega arith))
+      (sym e ∙ not-true _ h) ∙ ap (λ (l : List ℕ). draft at out then l) all-firsts
 
 -- ---- bytes
 
@@ -81,9 +101,15 @@ module _ (list out : List ℕ) (at : ℕ) where
   PutBytes = Put 1 (length list) (λ (i : ℕ). take i list) out at
 
   pub bytes-first : {t : Bool} → t ≡ leb (at + 1 * length list) (length out) → not t ≡ false → PutBytes out 0
-  bytes-first e h = record { inside = leb-true _ _ (sym e ∙ not-false _ h); few = omega arith; long = refl; so-far = sym (placed-none out at) }
+  bytes-first e h = record {
+    inside = leb-true _ _ (sym e ∙ not-false _ h);
+    few = omega arith;
+    long = refl;
+    so-far = sym (placed-none out at);
+  }
 
-  pub bytes-more : (ys : List ℕ) (i : ℕ) → PutBytes ys i → i < length list → PutBytes (set ys (at + i) (getD list i 0)) (i + 1)
+  pub bytes-more : (ys : List ℕ) (i : ℕ) → PutBytes ys i → i < length list
+      → PutBytes (set ys (at + i) (getD list i 0)) (i + 1)
   bytes-more ys i p h =
       let inside = p .inside in
       let some = length-take-le i list (omega arith) in
@@ -92,17 +118,22 @@ module _ (list out : List ℕ) (at : ℕ) where
         inside = inside;
         few = omega arith;
         long = length-take-le (i + 1) list (omega arith) ∙ omega arith;
-        so-far = rw (p .so-far) (store-on out at i (take i list) (getD list i 0) some (omega arith) ∙ ap (placed out at) more);
+        so-far = rw (p .so-far) (store-on out at i (take i list) (getD list i 0) some (omega arith)
+            ∙ ap (placed out at) more);
       }
 
-  pub bytes-all : (ys : List ℕ) (i : ℕ) → PutBytes ys i → length list ≤ i → draft (at + length list) ys ≡ draft at out then list
+  pub bytes-all : (ys : List ℕ) (i : ℕ) → PutBytes ys i → length list ≤ i
+      → draft (at + length list) ys ≡ draft at out then list
   bytes-all ys i p h =
       let one : length list ≡ 1 * length list = omega arith in
-      ap (λ (k : ℕ). draft (at + k) ys) one ∙ put-all 1 (length list) (λ (k : ℕ). take k list) out at ys i p h ∙ ap (λ (l : List ℕ). draft at out then l) (take-length list)
+      ap (λ (k : ℕ). draft (at + k) ys) one ∙ put-all 1 (length list) (λ (k : ℕ). take k list) out at ys i p h
+      ∙ ap (λ (l : List ℕ). draft at out then l) (take-length list)
 
-  pub bytes-none : {t : Bool} → t ≡ leb (at + 1 * length list) (length out) → not t ≡ true → draft nowhere out ≡ draft at out then list
+  pub bytes-none : {t : Bool} → t ≡ leb (at + 1 * length list) (length out) → not t ≡ true
+      → draft nowhere out ≡ draft at out then list
   bytes-none e h =
-      put-none 1 (length list) (λ (k : ℕ). take k list) out at (ap length (take-length list) ∙ omega arith) (sym e ∙ not-true _ h) ∙ ap (λ (l : List ℕ). draft at out then l) (take-length list)
+      put-none 1 (length list) (λ (k : ℕ). take k list) out at (ap length (take-length list) ∙ omega arith)
+      (sym e ∙ not-true _ h) ∙ ap (λ (l : List ℕ). draft at out then l) (take-length list)
 
 -- ---- one field
 
@@ -110,14 +141,17 @@ module _ (n count : ℕ) (out : List ℕ) (at : ℕ) where
   pub field-long : 8 < count → draft nowhere out ≡ thenField (draft at out) count n
   field-long h = sym (rw (lt-leb count 8 h))
 
-  pub field-none : count ≤ 8 → leb (at + 1 * count) (length out) ≡ false → draft nowhere out ≡ thenField (draft at out) count n
+  pub field-none : count ≤ 8 → leb (at + 1 * count) (length out) ≡ false
+      → draft nowhere out ≡ thenField (draft at out) count n
   field-none h g =
       let far : length out < at + 1 * count = leb-false _ _ g in
       sym (rw (le-leb count 8 h) (then-cut (draft at out) (bytesOf count n) (omega (arith, length-bytes count n))))
 
-  pub field-all : (last : List ℕ) → count ≤ 8 → leb (at + 1 * count) (length out) ≡ true → last ≡ withField out at count n → draft (at + count) last ≡ thenField (draft at out) count n
+  pub field-all : (last : List ℕ) → count ≤ 8 → leb (at + 1 * count) (length out) ≡ true
+      → last ≡ withField out at count n → draft (at + count) last ≡ thenField (draft at out) count n
   field-all last h g e =
       let inside : at + 1 * count ≤ length out = leb-true _ _ g in
       let put = field-put out last at count n h (omega arith) e in
       let long = length-bytes count n in
-      (λ j. draft (at + sym long j) (put j)) ∙ sym (rw (le-leb count 8 h) (then-room (draft at out) (bytesOf count n) (omega arith)))
+      (λ j. draft (at + sym long j) (put j))
+      ∙ sym (rw (le-leb count 8 h) (then-room (draft at out) (bytesOf count n) (omega arith)))

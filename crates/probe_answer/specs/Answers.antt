@@ -1,4 +1,5 @@
--- How an answer is put together (docs/PROBE.md, 'Operations'): its parts stand one behind the other, from the start of the lent bytes on. Definitions only.
+-- How an answer is put together (docs/PROBE.md, 'Operations'): its parts stand one behind the other, from the start of
+-- the lent bytes on. Definitions only.
 use Prim.Native.Nat.{ℕ, _+_}
 use mathlib.Core.Bool.{cond}
 use mathlib.Core.List.{List}
@@ -17,7 +18,8 @@ pub record Draft : Type 0 where
 abbrev pub draft : ℕ → List ℕ → Draft
 draft place bytes = record { place = place; bytes = bytes }
 
--- nothing is put: so an answer begins, and so it is left where none is given, with a count of 0 and the bytes as they were
+-- nothing is put: so an answer begins, and so it is left where none is given, with a count of 0 and the bytes as they
+-- were
 abbrev pub none : List ℕ → Draft
 none out = draft 0 out
 
@@ -35,7 +37,8 @@ cut d = draft nowhere (d .bytes)
 
 infixl 60 _then_
 unfoldable pub _then_ : Draft → List ℕ → Draft
-d then part = cond (leb (d .place + length part) (length (d .bytes))) (draft (d .place + length part) (placed (d .bytes) (d .place) part)) (cut d)
+d then part = cond (leb (d .place + length part) (length (d .bytes)))
+    (draft (d .place + length part) (placed (d .bytes) (d .place) part)) (cut d)
 
 -- a number in `count` bytes, of which no number has more than eight
 abbrev pub thenField : Draft → ℕ → ℕ → Draft

@@ -9,7 +9,8 @@ use Rattle.lists.specs.Tables.{count}
 use Rattle.lists.proofs.Tables.{tab-more, tab-none}
 use Rattle.probe_bank.specs.Fillings.{tapFilling, changedAt, countChanged}
 
-pub changed-test : (i : ℕ) (x y : Float) (b : Bool) → y ≡ tapFilling i → ne x y ≡ b → _≡_ {A = ℕ} (cond b 1 0) (cond (changedAt i x) 1 0)
+pub changed-test : (i : ℕ) (x y : Float) (b : Bool) → y ≡ tapFilling i → ne x y ≡ b
+    → _≡_ {A = ℕ} (cond b 1 0) (cond (changedAt i x) 1 0)
 unfolding changedAt
 changed-test i x y b e h = cc (e, h)
 

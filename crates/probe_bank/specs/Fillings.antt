@@ -1,4 +1,5 @@
--- What lists and buffers hold before a call, and what is counted after it (docs/PROBE.md, 'Operations'). Definitions only.
+-- What lists and buffers hold before a call, and what is counted after it (docs/PROBE.md, 'Operations'). Definitions
+-- only.
 use Prim.Native.Nat.{ℕ, _+_, _-_, _*_, _%_}
 use mathlib.Core.Bool.{Bool}
 use mathlib.Core.List.{List}
@@ -7,7 +8,8 @@ use lib.IntN.{ℤ, pos}
 use lib.ListN.{length, getD}
 use Rattle.lists.specs.Tables.{tab, count}
 
--- "Before the call the lists that a bank is read into are filled, entry i of the azimuths, of the elevations and of the taps with 1000 + i, and what a file is written or turned into, byte i with the last byte of 7 i + 3"
+-- "Before the call the lists that a bank is read into are filled, entry i of the azimuths, of the elevations and of the
+-- taps with 1000 + i, and what a file is written or turned into, byte i with the last byte of 7 i + 3"
 abbrev pub angleFilling : ℕ → ℤ
 angleFilling i = pos (1000 + i)
 

@@ -3,7 +3,8 @@ ghost use mathlib.Core.Path.{_≡_};
 ghost use Prim.Native.Nat.{_<_, _≤_};
 ghost use lib.ListN.{length};
 ghost use mathlib.Core.Bool.{cond};
-ghost use Rattle.probe_bank.specs.Fillings.{angleFilling, tapFilling, byteFilling, filledWith, changedAt, countChanged};
+ghost use Rattle.probe_bank.specs.Fillings.{angleFilling, tapFilling, byteFilling, filledWith, changedAt};
+ghost use Rattle.probe_bank.specs.Fillings.{countChanged};
 
 // Place i of a list of numbers in two bytes is filled with 1000 + i.
 pub(crate) fn fill_i16s(list: &mut [i16])

@@ -12,7 +12,9 @@ ghost use mathlib.Core.Path.{_≡_};
 ghost use Prim.Native.Nat.{_≤_};
 ghost use lib.ListN.{length};
 ghost use Rattle.probe_answer.specs.Answers.{draft};
-ghost use Rattle.probe_bank.specs.Answers.{refusalAndNumber, thenLists, readParts, readInto, readAnswer, writeParts, writeFrom, writeInto, writeAnswer, chooseFrom, chooseAnswer, turnedBy, turnInto, turnAnswer, answerOf};
+ghost use Rattle.probe_bank.specs.Answers.{refusalAndNumber, thenLists, readParts, readInto, readAnswer};
+ghost use Rattle.probe_bank.specs.Answers.{writeParts, writeFrom, writeInto, writeAnswer, chooseFrom};
+ghost use Rattle.probe_bank.specs.Answers.{chooseAnswer, turnedBy, turnInto, turnAnswer, answerOf};
 
 mod fillings;
 
@@ -38,7 +40,8 @@ fn put_lists(
     at: usize,
 ) -> usize
     requires { ⌜ (shown ≤ length (now taps)) × (length (now taps) ≤ 8200) ⌝ }
-    ensures { λ r. ⌜ draft r (now (out .exit)) ≡ thenLists (draft at (now (out .entry))) shown (now (azimuths .entry)) (now (elevations .entry)) (now (taps .entry)) ⌝ }
+    ensures { λ r. ⌜ draft r (now (out .exit)) ≡ thenLists (draft at (now (out .entry))) shown (now (azimuths .entry))
+        (now (elevations .entry)) (now (taps .entry)) ⌝ }
 {
     let a = probe_answer::put(fillings::count_changed(taps, shown), 2, out, at);
     let b = probe_answer::put_i16s(azimuths, out, a);
@@ -57,7 +60,12 @@ fn put_read(
 ) -> usize
     requires { ⌜ (shown ≤ length (now taps)) × (length (now taps) ≤ 8200) ⌝ }
     ensures { λ n. ⌜ draft n (now (out .exit))
-        ≡ readParts (record { answer = r; azimuths = now (azimuths .entry); elevations = now (elevations .entry); taps = now (taps .entry) }) shown (now (out .entry)) ⌝ }
+        ≡ readParts (record {
+          answer = r;
+          azimuths = now (azimuths .entry);
+          elevations = now (elevations .entry);
+          taps = now (taps .entry);
+        }) shown (now (out .entry)) ⌝ }
 {
     let a = put_refusal_and_number(r.refusal, r.offset, out);
     let b = probe_answer::put(r.rows as u64, 4, out, a);
@@ -73,8 +81,10 @@ fn read_into(
     taps: &mut [f32],
     out: &mut [u8],
 ) -> usize
-    requires { ⌜ (6 ≤ length (now args)) × (length (now azimuths) ≤ 16) × (length (now elevations) ≤ 16) × (length (now taps) ≤ 8200) ⌝ }
-    ensures { λ r. ⌜ draft r (now (out .exit)) ≡ readInto (now (args .entry)) (length (now (azimuths .entry))) (length (now (elevations .entry))) (length (now (taps .entry))) (now (out .entry)) ⌝ }
+    requires { ⌜ (6 ≤ length (now args)) × (length (now azimuths) ≤ 16) × (length (now elevations) ≤ 16)
+        × (length (now taps) ≤ 8200) ⌝ }
+    ensures { λ r. ⌜ draft r (now (out .exit)) ≡ readInto (now (args .entry)) (length (now (azimuths .entry)))
+        (length (now (elevations .entry))) (length (now (taps .entry))) (now (out .entry)) ⌝ }
 {
     fillings::fill_i16s(azimuths);
     fillings::fill_i16s(elevations);
@@ -108,7 +118,8 @@ fn read(args: &[u8], out: &mut [u8]) -> usize
 
 // Puts what writing or turning a file answered, and the buffer as it stands after it.
 fn put_written(r: BankWritten, file: &[u8], out: &mut [u8]) -> usize
-    ensures { λ n. ⌜ draft n (now (out .exit)) ≡ writeParts (record { answer = r; file = now (file .entry) }) (now (out .entry)) ⌝ }
+    ensures { λ n. ⌜ draft n (now (out .exit)) ≡ writeParts (record { answer = r; file = now (file .entry) })
+        (now (out .entry)) ⌝ }
 {
     let a = put_refusal_and_number(r.refusal, r.offset, out);
     let b = probe_answer::put(r.bytes as u64, 4, out, a);
@@ -126,7 +137,12 @@ fn write_from(
 ) -> usize
     requires { ⌜ length (now file) ≤ 33000 ⌝ }
     ensures { λ r. ⌜ draft r (now (out .exit))
-        ≡ writeFrom (record { azimuths = now (azimuths .entry); elevations = now (elevations .entry); length = l; taps = now (taps .entry) }) (length (now (file .entry))) (now (out .entry)) ⌝ }
+        ≡ writeFrom (record {
+          azimuths = now (azimuths .entry);
+          elevations = now (elevations .entry);
+          length = l;
+          taps = now (taps .entry);
+        }) (length (now (file .entry))) (now (out .entry)) ⌝ }
 {
     fillings::fill_bytes(file);
     let r = bank::write(azimuths, elevations, l, taps, file);
@@ -142,9 +158,11 @@ fn write_into(
     file: &mut [u8],
     out: &mut [u8],
 ) -> usize
-    requires { ⌜ (length (now azimuths) ≤ 16) × (length (now elevations) ≤ 16) × (length (now taps) ≤ 8200) × (length (now file) ≤ 33000) ⌝ }
+    requires { ⌜ (length (now azimuths) ≤ 16) × (length (now elevations) ≤ 16) × (length (now taps) ≤ 8200)
+        × (length (now file) ≤ 33000) ⌝ }
     ensures { λ r. ⌜ draft r (now (out .exit))
-        ≡ writeInto (now (args .entry)) (length (now (azimuths .entry))) (length (now (elevations .entry))) (length (now (taps .entry))) (length (now (file .entry))) (now (out .entry)) ⌝ }
+        ≡ writeInto (now (args .entry)) (length (now (azimuths .entry))) (length (now (elevations .entry)))
+        (length (now (taps .entry))) (length (now (file .entry))) (now (out .entry)) ⌝ }
 {
     let elevations_at = 14 + 2 * azimuths.len();
     let taps_at = elevations_at + 2 * elevations.len();
@@ -182,7 +200,8 @@ fn write(args: &[u8], out: &mut [u8]) -> usize
 // Chooses the row of a speaker in the lists that stand in the arguments behind their lengths, the rows and the speaker.
 fn choose_from(args: &[u8], azimuths: &mut [i16], elevations: &mut [i16], out: &mut [u8]) -> usize
     requires { ⌜ (length (now azimuths) ≤ 16) × (length (now elevations) ≤ 16) ⌝ }
-    ensures { λ r. ⌜ draft r (now (out .exit)) ≡ chooseFrom (now (args .entry)) (length (now (azimuths .entry))) (length (now (elevations .entry))) (now (out .entry)) ⌝ }
+    ensures { λ r. ⌜ draft r (now (out .exit)) ≡ chooseFrom (now (args .entry)) (length (now (azimuths .entry)))
+        (length (now (elevations .entry))) (now (out .entry)) ⌝ }
 {
     let elevations_at = 14 + 2 * azimuths.len();
     if args.len() != elevations_at + 2 * elevations.len() {
@@ -209,7 +228,8 @@ fn choose(args: &[u8], out: &mut [u8]) -> usize
 
 // 23 turns a file of version 1 into one of version 2, 24 one of version 2 back.
 fn turned(operation: u8, file: &[u8], output: &mut [u8]) -> BankWritten
-    ensures { λ r. ⌜ record { answer = r; file = now (output .exit) } ≡ turnedBy operation (now (file .entry)) (now (output .entry)) ⌝ }
+    ensures { λ r. ⌜ record { answer = r; file = now (output .exit) } ≡ turnedBy operation (now (file .entry))
+        (now (output .entry)) ⌝ }
 {
     if operation == 23 {
         return bank::to_version_2(file, output);
@@ -220,7 +240,8 @@ fn turned(operation: u8, file: &[u8], output: &mut [u8]) -> BankWritten
 // Turns the file that stands in the arguments behind a length into an output that is filled first.
 fn turn_into(operation: u8, args: &[u8], output: &mut [u8], out: &mut [u8]) -> usize
     requires { ⌜ (2 ≤ length (now args)) × (length (now output) ≤ 33000) ⌝ }
-    ensures { λ r. ⌜ draft r (now (out .exit)) ≡ turnInto operation (now (args .entry)) (length (now (output .entry))) (now (out .entry)) ⌝ }
+    ensures { λ r. ⌜ draft r (now (out .exit)) ≡ turnInto operation (now (args .entry)) (length (now (output .entry)))
+        (now (out .entry)) ⌝ }
 {
     fillings::fill_bytes(output);
     let r = turned(operation, &args[2..], output);

@@ -17,11 +17,20 @@ module _ (operation : ℕ) (args out : List ℕ) where
   unfolding matrixAnswer
   second w e = rw (ne-eqb operation 9 e)
 
-  pub either : (operation ≡ 9) ⊎ (operation ≡ 15) → matrixAnswer operation (weightsLent args 0) args out ≡ answerOf operation args out
+  pub either : (operation ≡ 9) ⊎ (operation ≡ 15) → matrixAnswer operation (weightsLent args 0) args out
+      ≡ answerOf operation args out
   unfolding matrixAnswer answerOf
   either = ⊎-elim (λ e. rw e) (λ e. rw e)
 
-  pub not-chosen : ((operation ≡ 9) ⊎ (operation ≡ 15) → ⊥) → (operation ≡ 10 → ⊥) → (operation ≡ 11 → ⊥) → (operation ≡ 12 → ⊥) → (operation ≡ 13 → ⊥) → none out ≡ answerOf operation args out
+  pub not-chosen : ((operation ≡ 9) ⊎ (operation ≡ 15) → ⊥) → (operation ≡ 10 → ⊥) → (operation ≡ 11 → ⊥)
+      → (operation ≡ 12 → ⊥) → (operation ≡ 13 → ⊥) → none out ≡ answerOf operation args out
   unfolding answerOf
   not-chosen a b c d e =
-      rw (ne-eqb operation 9 (λ h. a (inl h)), ne-eqb operation 10 b, ne-eqb operation 11 c, ne-eqb operation 12 d, ne-eqb operation 13 e, ne-eqb operation 15 (λ h. a (inr h)))
+      rw (
+        ne-eqb operation 9 (λ h. a (inl h)),
+        ne-eqb operation 10 b,
+        ne-eqb operation 11 c,
+        ne-eqb operation 12 d,
+        ne-eqb operation 13 e,
+        ne-eqb operation 15 (λ h. a (inr h)),
+      )

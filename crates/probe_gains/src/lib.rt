@@ -13,12 +13,15 @@ ghost use Prim.Native.Nat.{_≤_};
 ghost use lib.ListN.{length};
 ghost use Rattle.probe_request.specs.Requests.{weightsLent};
 ghost use Rattle.probe_answer.specs.Answers.{draft};
-ghost use Rattle.probe_gains.specs.Answers.{directionAt, rowsAnswer, harmonicsAnswer, weightedAnswer, stereoAnswer, surroundAnswer, decoderAnswer, matrixAnswer, answerOf};
+ghost use Rattle.probe_gains.specs.Answers.{directionAt, rowsAnswer, harmonicsAnswer, weightedAnswer};
+ghost use Rattle.probe_gains.specs.Answers.{stereoAnswer, surroundAnswer, decoderAnswer, matrixAnswer};
+ghost use Rattle.probe_gains.specs.Answers.{answerOf};
 
 // The binaural rows of an order, put over the weights that stand in the arguments after their count and the order.
 fn rows(args: &[u8], weights: &mut [f64], out: &mut [u8]) -> usize
     requires { ⌜ length (now weights) ≤ 300 ⌝ }
-    ensures { λ r. ⌜ draft r (now (out .exit)) ≡ rowsAnswer (length (now (weights .entry))) (now (args .entry)) (now (out .entry)) ⌝ }
+    ensures { λ r. ⌜ draft r (now (out .exit)) ≡ rowsAnswer (length (now (weights .entry))) (now (args .entry))
+        (now (out .entry)) ⌝ }
 {
     if args.len() != 10 + 8 * weights.len() {
         return 0;
@@ -31,7 +34,8 @@ fn rows(args: &[u8], weights: &mut [f64], out: &mut [u8]) -> usize
 // The matrix of a layout, put over the weights that stand in the arguments after their count, the order and the layout.
 fn decoder_matrix(args: &[u8], weights: &mut [f64], out: &mut [u8]) -> usize
     requires { ⌜ length (now weights) ≤ 300 ⌝ }
-    ensures { λ r. ⌜ draft r (now (out .exit)) ≡ decoderAnswer (length (now (weights .entry))) (now (args .entry)) (now (out .entry)) ⌝ }
+    ensures { λ r. ⌜ draft r (now (out .exit)) ≡ decoderAnswer (length (now (weights .entry))) (now (args .entry))
+        (now (out .entry)) ⌝ }
 {
     if args.len() != 19 + 8 * weights.len() {
         return 0;
@@ -48,7 +52,8 @@ fn decoder_matrix(args: &[u8], weights: &mut [f64], out: &mut [u8]) -> usize
 
 fn matrix(operation: u8, args: &[u8], weights: &mut [f64], out: &mut [u8]) -> usize
     requires { ⌜ length (now weights) ≤ 300 ⌝ }
-    ensures { λ r. ⌜ draft r (now (out .exit)) ≡ matrixAnswer operation (length (now (weights .entry))) (now (args .entry)) (now (out .entry)) ⌝ }
+    ensures { λ r. ⌜ draft r (now (out .exit)) ≡ matrixAnswer operation (length (now (weights .entry)))
+        (now (args .entry)) (now (out .entry)) ⌝ }
 {
     if operation == 9 {
         return rows(args, weights, out);
@@ -58,7 +63,8 @@ fn matrix(operation: u8, args: &[u8], weights: &mut [f64], out: &mut [u8]) -> us
 
 // Lends as many weights as the arguments say first.
 fn matrix_over(operation: u8, args: &[u8], out: &mut [u8]) -> usize
-    ensures { λ r. ⌜ draft r (now (out .exit)) ≡ matrixAnswer operation (weightsLent (now (args .entry)) 0) (now (args .entry)) (now (out .entry)) ⌝ }
+    ensures { λ r. ⌜ draft r (now (out .exit)) ≡ matrixAnswer operation (weightsLent (now (args .entry)) 0)
+        (now (args .entry)) (now (out .entry)) ⌝ }
 {
     let mut weights = [0.0f64; MOST_WEIGHTS];
     let w = probe_request::lent(args, 0, 2, MOST_WEIGHTS);

@@ -15,7 +15,8 @@ use Rattle.probe_request.specs.Requests.{eightAt}
 use Rattle.probe_answer.specs.Answers.{Draft, none, _then_}
 use Rattle.probe_answer.proofs.Meets.{taken, untaken, behind}
 use Rattle.probe_request.proofs.Requests.{place-end, place-no-end}
-use Rattle.probe_hrtf.specs.Requests.{deskAt, shapeAt, Lent, lentOf, Lists, lengths, blockEnd, ReadLists, readFrom, callOf, stateOf, callAt, stateAt}
+use Rattle.probe_hrtf.specs.Requests.{deskAt, shapeAt, Lent, lentOf, Lists, lengths, blockEnd, ReadLists}
+use Rattle.probe_hrtf.specs.Requests.{readFrom, callOf, stateOf, callAt, stateAt}
 use Rattle.probe_hrtf.specs.Answers.{thenCounts, blockShown, blockBy, blockAnswer}
 use Rattle.probe_hrtf.proofs.Lists.{read-end, lists-standing}
 
@@ -23,20 +24,42 @@ module _ (args out : List ℕ) (l : Lists) where
   -- ---- the call and what is put of it
 
   -- the numbers that are read are those of the request
-  module _ (h : Shape) (d : Desk) (frames stride : ℕ) (rows : List ℕ) (eh : h ≡ shapeAt args) (ed : d ≡ deskAt args 10) (ef : frames ≡ fieldAt args 58 8) (es : stride ≡ fieldAt args 66 8)
+  module _ (h : Shape) (d : Desk) (frames stride : ℕ) (rows : List ℕ) (eh : h ≡ shapeAt args) (ed : d ≡ deskAt args 10)
+      (ef : frames ≡ fieldAt args 58 8) (es : stride ≡ fieldAt args 66 8)
       (er : rows ≡ eightAt args 74) (p : BlockAnswer) (rings₁ ears₁ : List Float)
       (is : record { answer = p; rings = rings₁; ears = ears₁ }
-      ≡ outcome (record { shape = h; frames = frames; stride = stride; inputs = l .inputs; weights = l .weights; rows = rows; taps = l .taps; ears = l .ears }) (record { rings = l .rings; desk = d })) where
+      ≡ outcome (record {
+        shape = h;
+        frames = frames;
+        stride = stride;
+        inputs = l .inputs;
+        weights = l .weights;
+        rows = rows;
+        taps = l .taps;
+        ears = l .ears;
+      }) (record { rings = l .rings; desk = d })) where
     asked : record { answer = p; rings = rings₁; ears = ears₁ } ≡ outcome (callOf args l) (stateOf args l)
     asked =
         is
-        ∙ (λ i. outcome (record { shape = eh i; frames = ef i; stride = es i; inputs = l .inputs; weights = l .weights; rows = er i; taps = l .taps; ears = l .ears }) (record { rings = l .rings; desk = ed i }))
+        ∙ (λ i. outcome
+        (record {
+          shape = eh i;
+          frames = ef i;
+          stride = es i;
+          inputs = l .inputs;
+          weights = l .weights;
+          rows = er i;
+          taps = l .taps;
+          ears = l .ears;
+        }) (record { rings = l .rings; desk = ed i }))
 
-    pub played : (a b c : Draft) → a ≡ thenCounts (none out) p → b ≡ a then floatBytes rings₁ → c ≡ b then floatBytes ears₁ → c ≡ blockShown (outcome (callOf args l) (stateOf args l)) out
+    pub played : (a b c : Draft) → a ≡ thenCounts (none out) p → b ≡ a then floatBytes rings₁
+        → c ≡ b then floatBytes ears₁ → c ≡ blockShown (outcome (callOf args l) (stateOf args l)) out
     unfolding blockShown
     played a b c counts cells samples =
         behind (floatBytes ears₁) (behind (floatBytes rings₁) counts cells) samples
-        ∙ ap (λ (o : BlockOutcome). thenCounts (none out) (o .answer) then floatBytes (o .rings) then floatBytes (o .ears)) asked
+        ∙ ap (λ (o : BlockOutcome). thenCounts (none out) (o .answer) then floatBytes (o .rings) then floatBytes
+        (o .ears)) asked
 
   -- ---- the lists that are lent
 
@@ -48,11 +71,14 @@ module _ (args out : List ℕ) (l : Lists) where
     unfolding blockBy
     left h = untaken (blockEnd n) args out _ (place-no-end args short (blockEnd n) (read-end args 138 l read) h)
 
-    pub lists-played : length args ≡ x .end → {d : Draft} → d ≡ blockShown (outcome (callOf args (x .lists)) (stateOf args (x .lists))) out → d ≡ blockBy n args out
+    pub lists-played : length args ≡ x .end → {d : Draft}
+        → d ≡ blockShown (outcome (callOf args (x .lists)) (stateOf args (x .lists))) out → d ≡ blockBy n args out
     unfolding blockBy callAt stateAt
     lists-played h p =
         let full : length args ≡ blockEnd n = place-end args short (blockEnd n) (read-end args 138 l read) h in
-        p ∙ ap (λ (y : Lists). blockShown (outcome (callOf args y) (stateOf args y)) out) (lists-standing args 138 l read (omega arith)) ∙ taken (blockEnd n) args out _ full
+        p ∙ ap (λ (y : Lists). blockShown (outcome (callOf args y) (stateOf args y)) out)
+        (lists-standing args 138 l read (omega arith)) ∙ taken (blockEnd n) args out _ full
 
-pub lists-lent : (args out : List ℕ) {d : Draft} {n : Lent} → n ≡ lentOf args → d ≡ blockBy n args out → d ≡ blockAnswer args out
+pub lists-lent : (args out : List ℕ) {d : Draft} {n : Lent} → n ≡ lentOf args → d ≡ blockBy n args out
+    → d ≡ blockAnswer args out
 lists-lent args out e p = p ∙ ap (λ (x : Lent). blockBy x args out) e

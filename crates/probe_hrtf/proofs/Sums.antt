@@ -22,7 +22,8 @@ module _ (args out : List ℕ) (ring taps : List Float) where
   left h = untaken end args out _ h
 
   -- the cells, the newest and the taps that are read are those of the request
-  module _ (full : length args ≡ end) (ring₁ taps₁ : List Float) (er : ring₁ ≡ listAt floatAt 4 args 12 ring) (et : taps₁ ≡ listAt floatAt 4 args (sumTaps (length ring)) taps) (newest : ℕ)
+  module _ (full : length args ≡ end) (ring₁ taps₁ : List Float) (er : ring₁ ≡ listAt floatAt 4 args 12 ring)
+      (et : taps₁ ≡ listAt floatAt 4 args (sumTaps (length ring)) taps) (newest : ℕ)
       (en : newest ≡ fieldAt args 4 8) (sum : Float) (is : sum ≡ sumOf ring₁ newest taps₁) where
     asked : sum ≡ sumAt args (length ring) (length taps)
     unfolding sumAt
@@ -35,5 +36,6 @@ module _ (args out : List ℕ) (ring taps : List Float) where
     unfolding sumBy
     summed d put = answered (λ (x : Float). sumShown x out) end args out full asked put
 
-pub both-lent : (args out : List ℕ) (d : Draft) (r t : ℕ) → r ≡ cellsLent args 0 → t ≡ samplesLent args 2 → d ≡ sumBy r t args out → d ≡ sumAnswer args out
+pub both-lent : (args out : List ℕ) (d : Draft) (r t : ℕ) → r ≡ cellsLent args 0 → t ≡ samplesLent args 2
+    → d ≡ sumBy r t args out → d ≡ sumAnswer args out
 both-lent args out d r t rs ts p = p ∙ (λ k. sumBy (rs k) (ts k) args out)

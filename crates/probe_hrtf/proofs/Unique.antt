@@ -22,4 +22,17 @@ put-desk-unique κs a = determined-by (λ z h i. (h i .place, (_, (h i .bytes, _
 
 -- of the five lists and the place behind them, together
 get-lists-unique : AllowsOneAnswer get_lists.ended get_lists.Reads.Learnt
-get-lists-unique κs a = determined-by (λ z h i. (h i .end, (_, (_, (h i .lists .inputs, (h i .lists .weights, (h i .lists .taps, (h i .lists .rings, (h i .lists .ears, _)))))))))
+get-lists-unique κs a = determined-by
+    (λ z h i. (
+      h i .end,
+      (
+        _,
+        (
+          _,
+          (
+            h i .lists .inputs,
+            (h i .lists .weights, (h i .lists .taps, (h i .lists .rings, (h i .lists .ears, _)))),
+          ),
+        ),
+      ),
+    ))

@@ -26,7 +26,8 @@ thenDesk d k = d then bytesOf 8 (k .position) then bytesOf 8 (k .«to_go»)
 
 -- "refusal (1), samples, unsettled, ring position, frames-to-go (8 each)"
 abbrev pub thenCounts : Draft → BlockAnswer → Draft
-thenCounts d p = thenDesk (d then bytesOf 1 (p .refusal) then bytesOf 8 (p .samples) then bytesOf 8 (p .unsettled)) (p .desk)
+thenCounts d p =
+    thenDesk (d then bytesOf 1 (p .refusal) then bytesOf 8 (p .samples) then bytesOf 8 (p .unsettled)) (p .desk)
 
 -- "the r cells, the e samples", as they stand after the call
 unfoldable pub blockShown : BlockOutcome → List ℕ → Draft
@@ -49,7 +50,8 @@ resetShown o out = thenDesk (none out then bytesOf 1 (o .answer .refusal)) (o .a
 -- "ring position, frames-to-go, speakers, L (8 each), the r cells (f32, 4 each)"
 unfoldable pub resetBy : ℕ → List ℕ → List ℕ → Draft
 resetBy r args out =
-    taking (34 + 4 * r) args out (resetShown (resetOutcome (deskAt args 2) (fieldAt args 18 8) (fieldAt args 26 8) (floatsAt args 34 r)) out)
+    taking (34 + 4 * r) args out
+    (resetShown (resetOutcome (deskAt args 2) (fieldAt args 18 8) (fieldAt args 26 8) (floatsAt args 34 r)) out)
 
 -- "r: ring cells lent (2)"
 abbrev pub resetAnswer : List ℕ → List ℕ → Draft

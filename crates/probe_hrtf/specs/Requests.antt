@@ -17,7 +17,12 @@ deskAt args at = record { position = fieldAt args at 8; «to_go» = fieldAt args
 
 -- "channels, speakers, bank rows, L .. (8 each)"
 abbrev pub shapeAt : List ℕ → Shape
-shapeAt args = record { channels = fieldAt args 26 8; speakers = fieldAt args 34 8; rows = fieldAt args 42 8; length = fieldAt args 50 8 }
+shapeAt args = record {
+  channels = fieldAt args 26 8;
+  speakers = fieldAt args 34 8;
+  rows = fieldAt args 42 8;
+  length = fieldAt args 50 8;
+}
 
 -- ---- 17: how many of each list are lent
 
@@ -30,9 +35,16 @@ pub record Lent : Type 0 where
 
 -- "i, w, t, r, e: input samples, weights, taps, ring cells and ear samples lent (2 each)"
 abbrev pub lentOf : List ℕ → Lent
-lentOf args = record { inputs = samplesLent args 0; weights = weightsLent args 2; taps = samplesLent args 4; rings = cellsLent args 6; ears = samplesLent args 8 }
+lentOf args = record {
+  inputs = samplesLent args 0;
+  weights = weightsLent args 2;
+  taps = samplesLent args 4;
+  rings = cellsLent args 6;
+  ears = samplesLent args 8;
+}
 
--- ---- 17: the five lists, "the i samples (f32, 4 each), the w weights (f64, 8 each), the t taps, the r cells and the e samples (f32, 4 each)"
+-- ---- 17: the five lists, "the i samples (f32, 4 each), the w weights (f64, 8 each), the t taps, the r cells and the
+-- e samples (f32, 4 each)"
 
 pub record Lists : Type 0 where
   pub inputs : List Float
@@ -42,10 +54,17 @@ pub record Lists : Type 0 where
   pub ears : List Float
 
 abbrev pub listed : List Float → List Float → List Float → List Float → List Float → Lists
-listed inputs weights taps rings ears = record { inputs = inputs; weights = weights; taps = taps; rings = rings; ears = ears }
+listed inputs weights taps rings ears =
+    record { inputs = inputs; weights = weights; taps = taps; rings = rings; ears = ears }
 
 abbrev pub lengths : Lists → Lent
-lengths l = record { inputs = length (l .inputs); weights = length (l .weights); taps = length (l .taps); rings = length (l .rings); ears = length (l .ears) }
+lengths l = record {
+  inputs = length (l .inputs);
+  weights = length (l .weights);
+  taps = length (l .taps);
+  rings = length (l .rings);
+  ears = length (l .ears);
+}
 
 -- one behind the other, the first from `at` on, and where they end
 
@@ -102,7 +121,16 @@ blockEnd n = listsEnd 138 n
 -- "frames, stride (8 each), the bank row of each of eight speakers (8 each)", beside the lists
 abbrev pub callOf : List ℕ → Lists → Call
 callOf args l =
-    record { shape = shapeAt args; frames = fieldAt args 58 8; stride = fieldAt args 66 8; inputs = l .inputs; weights = l .weights; rows = eightAt args 74; taps = l .taps; ears = l .ears }
+    record {
+      shape = shapeAt args;
+      frames = fieldAt args 58 8;
+      stride = fieldAt args 66 8;
+      inputs = l .inputs;
+      weights = l .weights;
+      rows = eightAt args 74;
+      taps = l .taps;
+      ears = l .ears;
+    }
 
 abbrev pub stateOf : List ℕ → Lists → State
 stateOf args l = record { rings = l .rings; desk = deskAt args 10 }

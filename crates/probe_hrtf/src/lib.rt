@@ -18,7 +18,8 @@ ghost use lib.ListN.{length};
 ghost use Rattle.hrtf.specs.Promise.{outcome};
 ghost use Rattle.probe_answer.specs.Answers.{draft};
 ghost use Rattle.probe_hrtf.specs.Requests.{deskAt, shapeAt, listed, lengths, readFrom, callOf, stateOf};
-ghost use Rattle.probe_hrtf.specs.Answers.{thenDesk, thenCounts, blockShown, blockBy, blockAnswer, resetBy, resetAnswer, sumBy, sumAnswer, answerOf};
+ghost use Rattle.probe_hrtf.specs.Answers.{thenDesk, thenCounts, blockShown, blockBy, blockAnswer, resetBy};
+ghost use Rattle.probe_hrtf.specs.Answers.{resetAnswer, sumBy, sumAnswer, answerOf};
 
 // Where the lists begin in a request for a block: behind five lengths, the desk, the four counts of the shape,
 // frames and stride, and the rows of the eight speakers.
@@ -81,7 +82,8 @@ fn play(
     out: &mut [u8],
 ) -> usize
     ensures { λ r. ⌜ draft r (now (out .exit)) ≡ blockShown
-        (let lists = listed (now (inputs .entry)) (now (weights .entry)) (now (taps .entry)) (now (rings .entry)) (now (ears .entry)) in
+        (let lists = listed (now (inputs .entry)) (now (weights .entry)) (now (taps .entry)) (now (rings .entry))
+        (now (ears .entry)) in
         outcome (callOf (now (args .entry)) lists) (stateOf (now (args .entry)) lists))
         (now (out .entry)) ⌝ }
 {
@@ -103,7 +105,8 @@ fn play(
     probe_answer::put_f32s(ears, out, after_rings)
 }
 
-// Fills five lists with what stands in the arguments from `at` on, one behind the other, and answers the place behind them.
+// Fills five lists with what stands in the arguments from `at` on, one behind the other, and answers the
+// place behind them.
 pub fn get_lists(
     args: &[u8],
     at: usize,
@@ -113,8 +116,15 @@ pub fn get_lists(
     rings: &mut [f32],
     ears: &mut [f32],
 ) -> usize
-    ensures { λ r. ⌜ record { lists = listed (now (inputs .exit)) (now (weights .exit)) (now (taps .exit)) (now (rings .exit)) (now (ears .exit)); end = r }
-        ≡ readFrom (now (args .entry)) at (listed (now (inputs .entry)) (now (weights .entry)) (now (taps .entry)) (now (rings .entry)) (now (ears .entry))) ⌝ }
+    ensures { λ r.
+        ⌜ record {
+          lists = listed (now (inputs .exit)) (now (weights .exit)) (now (taps .exit)) (now (rings .exit))
+              (now (ears .exit));
+          end = r;
+        }
+        ≡ readFrom (now (args .entry)) at
+        (listed (now (inputs .entry)) (now (weights .entry)) (now (taps .entry)) (now (rings .entry))
+        (now (ears .entry))) ⌝ }
 {
     let at_weights = probe_request::behind(args, at, 4, inputs.len());
     let at_taps = probe_request::behind(args, at_weights, 8, weights.len());
@@ -139,7 +149,9 @@ fn process_lent(
     ears: &mut [f32],
     out: &mut [u8],
 ) -> usize
-    ensures { λ r. ⌜ draft r (now (out .exit)) ≡ blockBy (lengths (listed (now (inputs .entry)) (now (weights .entry)) (now (taps .entry)) (now (rings .entry)) (now (ears .entry)))) (now (args .entry)) (now (out .entry)) ⌝ }
+    ensures { λ r. ⌜ draft r (now (out .exit)) ≡ blockBy
+        (lengths (listed (now (inputs .entry)) (now (weights .entry)) (now (taps .entry)) (now (rings .entry))
+        (now (ears .entry)))) (now (args .entry)) (now (out .entry)) ⌝ }
 {
     let end = get_lists(args, LISTS, inputs, weights, taps, rings, ears);
     if args.len() != end {
@@ -175,7 +187,8 @@ fn process(args: &[u8], out: &mut [u8]) -> usize
 
 // Reads the cells where the arguments have their length, whatever they held.
 fn reset_lent(args: &[u8], rings: &mut [f32], out: &mut [u8]) -> usize
-    ensures { λ r. ⌜ draft r (now (out .exit)) ≡ resetBy (length (now (rings .entry))) (now (args .entry)) (now (out .entry)) ⌝ }
+    ensures { λ r. ⌜ draft r (now (out .exit)) ≡ resetBy (length (now (rings .entry))) (now (args .entry))
+        (now (out .entry)) ⌝ }
 {
     if args.len() != probe_request::behind(args, CELLS, 4, rings.len()) {
         return 0;
@@ -204,7 +217,8 @@ fn reset(args: &[u8], out: &mut [u8]) -> usize
 
 // Reads the cells and the taps where the arguments have the length of both, whatever they held.
 fn convolve_lent(args: &[u8], ring: &mut [f32], taps: &mut [f32], out: &mut [u8]) -> usize
-    ensures { λ r. ⌜ draft r (now (out .exit)) ≡ sumBy (length (now (ring .entry))) (length (now (taps .entry))) (now (args .entry)) (now (out .entry)) ⌝ }
+    ensures { λ r. ⌜ draft r (now (out .exit)) ≡ sumBy (length (now (ring .entry))) (length (now (taps .entry)))
+        (now (args .entry)) (now (out .entry)) ⌝ }
 {
     let at_taps = probe_request::behind(args, RING, 4, ring.len());
     if args.len() != probe_request::behind(args, at_taps, 4, taps.len()) {

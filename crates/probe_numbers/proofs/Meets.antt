@@ -25,7 +25,14 @@ module _ (operation : ℕ) where
           | no k ↦ let e : operation ≡ 5 = omega arith in rw e
         ]
 
-    pub not-chosen : (operation ≡ 1 → ⊥) → (operation ≡ 2 → ⊥) → (operation ≡ 3 → ⊥) → (operation ≡ 4 → ⊥) → (operation ≡ 5 → ⊥) → none out ≡ answerOf operation args out
+    pub not-chosen : (operation ≡ 1 → ⊥) → (operation ≡ 2 → ⊥) → (operation ≡ 3 → ⊥) → (operation ≡ 4 → ⊥)
+        → (operation ≡ 5 → ⊥) → none out ≡ answerOf operation args out
     unfolding answerOf
     not-chosen a b c d e =
-        rw (ne-eqb operation 1 a, ne-eqb operation 2 b, ne-eqb operation 3 c, ne-eqb operation 4 d, ne-eqb operation 5 e)
+        rw (
+          ne-eqb operation 1 a,
+          ne-eqb operation 2 b,
+          ne-eqb operation 3 c,
+          ne-eqb operation 4 d,
+          ne-eqb operation 5 e,
+        )

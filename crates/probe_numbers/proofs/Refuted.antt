@@ -1,4 +1,5 @@
--- What the promise rules out, of every request of the right length: a number read from a later byte, an answer behind the start, and a refused root that is told as an accepted one. Assumes nothing.
+-- What the promise rules out, of every request of the right length: a number read from a later byte, an answer behind
+-- the start, and a refused root that is told as an accepted one. Assumes nothing.
 use mathlib.Core.Path.{_≡_, refl, sym, ap, _∙_}
 use mathlib.Core.List.{List, [], _∷_}
 use Prim.Native.Nat.{ℕ, _%_, _^_, _≤_, _<_}
@@ -20,17 +21,22 @@ use Rattle.probe_numbers.specs.Answers.{widenAnswer, narrowAnswer, rootA
 
 module _ (args out : List ℕ) (r : Draft) where
   -- the f32 is read from the second byte on, where one is missing: 0.0, whatever is asked for
-  widened-from-a-later-byte : r ≡ answerOf 1 args out → length args ≡ 4 → 8 ≤ length out → 0 < toBits binary64 (floatAt args 0) % 256 ^ 8
+  widened-from-a-later-byte : r ≡ answerOf 1 args out → length args ≡ 4 → 8 ≤ length out
+      → 0 < toBits binary64 (floatAt args 0) % 256 ^ 8
       → r ≡ none out then doubleBytes (floatAt args 1 ∷ []) → ⊥
   unfolding answerOf widenAnswer floatAt ofBits toBits
   widened-from-a-later-byte is four room some e =
       let late : fieldAt args 1 4 ≡ 0 = field-out args 1 4 (lies-out (length args) 1 4 (omega arith) (omega arith)) in
-      let size : (x : Float) → length (doubleBytes (x ∷ [])) ≡ 8 = λ x. length-fieldBytes 8 (toBits binary64) (x ∷ []) in
+      let size : (x : Float) → length (doubleBytes (x ∷ [])) ≡ 8 = λ x. length-fieldBytes 8 (toBits binary64)
+      (x ∷ []) in
       let first = doubleBytes (floatAt args 0 ∷ []) in
       let later = doubleBytes (floatAt args 1 ∷ []) in
-      let same : first ≡ later = then-same (none out) first later (size _ ∙ sym (size _)) (omega (arith, size (floatAt args 0))) (taken 4 args out _ four ∙ sym is ∙ e) in
-      let bits : toBits binary64 (floatAt args 0) % 256 ^ 8 ≡ toBits binary64 (floatAt args 1) % 256 ^ 8 = same-entry 8 (toBits binary64) (floatAt args 0 ∷ []) (floatAt args 1 ∷ []) 0 nan (omega arith) (omega arith) same in
-      let none : toBits binary64 (floatAt args 1) % 256 ^ 8 ≡ 0 = ap (λ (n : ℕ). toBits binary64 (ofBits binary32 n) % 256 ^ 8) late in
+      let same : first ≡ later = then-same (none out) first later (size _ ∙ sym (size _))
+      (omega (arith, size (floatAt args 0))) (taken 4 args out _ four ∙ sym is ∙ e) in
+      let bits : toBits binary64 (floatAt args 0) % 256 ^ 8 ≡ toBits binary64 (floatAt args 1) % 256 ^ 8 = same-entry 8
+      (toBits binary64) (floatAt args 0 ∷ []) (floatAt args 1 ∷ []) 0 nan (omega arith) (omega arith) same in
+      let none : toBits binary64 (floatAt args 1) % 256 ^ 8 ≡ 0 = ap (λ (n : ℕ). toBits binary64 (ofBits binary32 n) %
+      256 ^ 8) late in
       omega (arith, bits, none)
 
   -- the answer stands four bytes behind the start
@@ -43,12 +49,16 @@ module _ (args out : List ℕ) (r : Draft) where
       behind-the-start (part ∷ []) out 4 (omega arith) h (omega arith) room (taken 8 args out _ eight ∙ sym is ∙ e)
 
   -- a refused root is told as an accepted one
-  refused-root-accepted : r ≡ answerOf 3 args out → length args ≡ 8 → 1 ≤ length out → Numbers.refusalOf (doubleAt args 0) ≡ 10 → fieldAt (r .bytes) 0 1 ≡ 0 → ⊥
+  refused-root-accepted : r ≡ answerOf 3 args out → length args ≡ 8 → 1 ≤ length out
+      → Numbers.refusalOf (doubleAt args 0) ≡ 10 → fieldAt (r .bytes) 0 1 ≡ 0 → ⊥
   unfolding answerOf rootAnswer refusalAndDoubles
   refused-root-accepted is eight room ten e =
       let root = Numbers.rootAnswer (doubleAt args 0) in
-      let told = taken-told 8 args out r is eight (first-told (root .refusal) (doubleBytes (root .value ∷ []) ∷ []) out room) in
+      let told = taken-told 8 args out r is eight
+      (first-told (root .refusal) (doubleBytes (root .value ∷ []) ∷ []) out room) in
       let number : root .refusal ≡ Numbers.refusalOf (doubleAt args 0) =
-      told-is (record { refusal = 0; value = Numbers.rootOf binary64 (doubleAt args 0) }) (λ n. record { refusal = n; value = zero-float }) (λ (a : Rooted). a .refusal) refl (Numbers.refusalOf (doubleAt args 0)) refl in
+      told-is (record { refusal = 0; value = Numbers.rootOf binary64 (doubleAt args 0) })
+      (λ n. record { refusal = n; value = zero-float }) (λ (a : Rooted). a .refusal) refl
+      (Numbers.refusalOf (doubleAt args 0)) refl in
       let k : root .refusal % 256 ^ 1 ≡ 10 = ap (λ (n : ℕ). n % 256 ^ 1) (number ∙ ten) in
       omega arith

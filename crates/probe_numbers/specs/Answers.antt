@@ -1,4 +1,5 @@
--- docs/PROBE.md, 'Operations', 1 to 5: the count of the bytes of an answer and what the lent bytes hold with it, in the order of the page. Definitions only.
+-- docs/PROBE.md, 'Operations', 1 to 5: the count of the bytes of an answer and what the lent bytes hold with it, in the
+-- order of the page. Definitions only.
 use Prim.Native.Nat.{ℕ}
 use mathlib.Core.Bool.{cond}
 use mathlib.Core.List.{List, [], _∷_}
@@ -20,14 +21,16 @@ narrowAnswer args out = taking 8 args out (none out then floatBytes (Numbers.nar
 
 -- 3 root: "f64 (8)", "refusal (1), f64 (8)"
 unfoldable pub rootAnswer : List ℕ → List ℕ → Draft
-rootAnswer args out = let r = Numbers.rootAnswer (doubleAt args 0) in taking 8 args out (refusalAndDoubles (r .refusal) (r .value ∷ []) out)
+rootAnswer args out = let r = Numbers.rootAnswer (doubleAt args 0) in taking 8 args out
+    (refusalAndDoubles (r .refusal) (r .value ∷ []) out)
 
 -- 4 sine and 5 cosine: "f64, degrees (8)", "refusal (1), f64 (8)"
 abbrev pub waveOf : ℕ → Wave
 waveOf operation = cond (eqb operation 4) sine cosine
 
 unfoldable pub waveAnswer : ℕ → List ℕ → List ℕ → Draft
-waveAnswer operation args out = let r = Angles.outcome (waveOf operation) (doubleAt args 0) in taking 8 args out (refusalAndDoubles (r .refusal) (r .value ∷ []) out)
+waveAnswer operation args out = let r = Angles.outcome (waveOf operation) (doubleAt args 0) in taking 8 args out
+    (refusalAndDoubles (r .refusal) (r .value ∷ []) out)
 
 -- by the operation, and none to another one
 unfoldable pub answerOf : ℕ → List ℕ → List ℕ → Draft

@@ -9,7 +9,8 @@ use angles::Answer;
 ghost use mathlib.Core.Path.{_≡_};
 ghost use Rattle.angles.specs.Promise.{outcome};
 ghost use Rattle.probe_answer.specs.Answers.{draft};
-ghost use Rattle.probe_numbers.specs.Answers.{widenAnswer, narrowAnswer, rootAnswer, waveOf, waveAnswer, answerOf};
+ghost use Rattle.probe_numbers.specs.Answers.{widenAnswer, narrowAnswer, rootAnswer, waveOf, waveAnswer};
+ghost use Rattle.probe_numbers.specs.Answers.{answerOf};
 
 fn widen(args: &[u8], out: &mut [u8]) -> usize
     ensures { λ r. ⌜ draft r (now (out .exit)) ≡ widenAnswer (now (args .entry)) (now (out .entry)) ⌝ }

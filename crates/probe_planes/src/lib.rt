@@ -13,7 +13,8 @@ ghost use mathlib.Core.Path.{_≡_};
 ghost use Prim.Native.Nat.{_+_, _*_};
 ghost use lib.ListN.{length};
 ghost use Rattle.probe_answer.specs.Answers.{draft};
-ghost use Rattle.probe_planes.specs.Answers.{commandAt, pannedAnswer, panAnswer, decodedAnswer, decodeAnswer, answerOf};
+ghost use Rattle.probe_planes.specs.Answers.{commandAt, pannedAnswer, panAnswer, decodedAnswer, decodeAnswer};
+ghost use Rattle.probe_planes.specs.Answers.{answerOf};
 
 // A panner command: 0 a stereo position, 1 a surround azimuth, any other number a direction with an order.
 fn command(args: &[u8]) -> Command
@@ -39,7 +40,8 @@ fn command(args: &[u8]) -> Command
 // both lists. What the lists lent held before does not matter.
 fn pan_lent(args: &[u8], input: &mut [f32], planes: &mut [f32], out: &mut [u8]) -> usize
     requires { ⌜ length (now args) ≡ 54 + 4 * length (now input) + 4 * length (now planes) ⌝ }
-    ensures { λ r. ⌜ draft r (now (out .exit)) ≡ pannedAnswer (now (args .entry)) (length (now (input .entry))) (length (now (planes .entry))) (now (out .entry)) ⌝ }
+    ensures { λ r. ⌜ draft r (now (out .exit)) ≡ pannedAnswer (now (args .entry)) (length (now (input .entry)))
+        (length (now (planes .entry))) (now (out .entry)) ⌝ }
 {
     let planes_at = 54 + 4 * input.len();
     probe_request::get_f32s(args, 54, input);
@@ -81,8 +83,10 @@ fn decode_lent(
     planes: &mut [f32],
     out: &mut [u8],
 ) -> usize
-    requires { ⌜ length (now args) ≡ 38 + 8 * length (now weights) + 4 * length (now inputs) + 4 * length (now planes) ⌝ }
-    ensures { λ r. ⌜ draft r (now (out .exit)) ≡ decodedAnswer (now (args .entry)) (length (now (weights .entry))) (length (now (inputs .entry))) (length (now (planes .entry))) (now (out .entry)) ⌝ }
+    requires { ⌜ length (now args) ≡ 38 + 8 * length (now weights) + 4 * length (now inputs) + 4 * length
+        (now planes) ⌝ }
+    ensures { λ r. ⌜ draft r (now (out .exit)) ≡ decodedAnswer (now (args .entry)) (length (now (weights .entry)))
+        (length (now (inputs .entry))) (length (now (planes .entry))) (now (out .entry)) ⌝ }
 {
     let inputs_at = 38 + 8 * weights.len();
     let planes_at = inputs_at + 4 * inputs.len();

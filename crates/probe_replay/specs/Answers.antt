@@ -29,7 +29,8 @@ abbrev pub thenCounts : Draft → Replayed → Draft
 thenCounts d p =
     thenExpected
     (thenDesk
-    (d then bytesOf 1 (p .refusal) then bytesOf 8 (p .samples) then bytesOf 8 (p .unsettled) then bytesOf 8 (p .late) then bytesOf 8 (p .silent) then bytesOf 8 (p .resets))
+    (d then bytesOf 1 (p .refusal) then bytesOf 8 (p .samples) then bytesOf 8 (p .unsettled) then bytesOf 8
+    (p .late) then bytesOf 8 (p .silent) then bytesOf 8 (p .resets))
     (p .desk))
     (p .expected)
 

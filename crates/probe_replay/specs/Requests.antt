@@ -1,4 +1,5 @@
--- What stands in a request for the replay of a recorded line (docs/PROBE.md, 'Operations', 22). Its first 138 bytes are those of a block (`probe_hrtf`). Definitions only.
+-- What stands in a request for the replay of a recorded line (docs/PROBE.md, 'Operations', 22). Its first 138 bytes are
+-- those of a block (`probe_hrtf`). Definitions only.
 use Prim.Native.Nat.{ℕ, _+_, _*_}
 use mathlib.Core.Bool.{cond}
 use mathlib.Core.List.{List}
@@ -26,7 +27,8 @@ lineEnd n s = stampsFrom n + 4 * s
 abbrev pub stampsAt : List ℕ → Lent → ℕ → List ℕ
 stampsAt args n s = strided (wordAt args) 4 (stampsFrom n) s
 
--- what is handed to `replay`: "frames, stride (8 each), the bank row of each of eight speakers (8 each)", "ear stride (8)", beside the lists; and what it makes of that
+-- what is handed to `replay`: "frames, stride (8 each), the bank row of each of eight speakers (8 each)", "ear stride
+-- (8)", beside the lists; and what it makes of that
 abbrev pub lineOf : List ℕ → Lists → List ℕ → Line
 lineOf args l stamps =
     record {

@@ -73,7 +73,9 @@ fn play(
     out: &mut [u8],
 ) -> usize
     ensures { λ r. ⌜ draft r (now (out .exit)) ≡ lineShown
-        (outcomeOf (now (args .entry)) (listed (now (inputs .entry)) (now (weights .entry)) (now (taps .entry)) (now (rings .entry)) (now (ears .entry))) (now (stamps .entry)))
+        (outcomeOf (now (args .entry))
+        (listed (now (inputs .entry)) (now (weights .entry)) (now (taps .entry)) (now (rings .entry))
+        (now (ears .entry))) (now (stamps .entry)))
         (now (out .entry)) ⌝ }
 {
     let row_of = probe_request::eight(args, 74);
@@ -109,7 +111,8 @@ fn replay_lent(
     out: &mut [u8],
 ) -> usize
     ensures { λ r. ⌜ draft r (now (out .exit)) ≡ lineBy
-        (lengths (listed (now (inputs .entry)) (now (weights .entry)) (now (taps .entry)) (now (rings .entry)) (now (ears .entry)))) (length (now (stamps .entry)))
+        (lengths (listed (now (inputs .entry)) (now (weights .entry)) (now (taps .entry)) (now (rings .entry))
+        (now (ears .entry)))) (length (now (stamps .entry)))
         (now (args .entry)) (now (out .entry)) ⌝ }
 {
     let at_stamps = probe_hrtf::get_lists(args, LISTS, inputs, weights, taps, rings, ears);

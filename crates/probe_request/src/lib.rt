@@ -67,8 +67,9 @@ pub fn eight(args: &[u8], at: usize) -> [usize; 8]
     ]
 }
 
-// The place behind `count` fields of `width` bytes from `at` on, and one from which on nothing is read where they do not
-// lie inside the arguments: so lists that stand one behind the other are found, whatever their lengths.
+// The place behind `count` fields of `width` bytes from `at` on, and one from which on nothing is read where
+// they do not lie inside the arguments: so lists that stand one behind the other are found, whatever their
+// lengths.
 pub fn behind(args: &[u8], at: usize, width: usize, count: usize) -> usize
     ensures { λ r. ⌜ r ≡ placeIn (length (now (args .entry))) (at + width * count) ⌝ }
 {

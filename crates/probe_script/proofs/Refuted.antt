@@ -1,4 +1,5 @@
--- What the promise rules out: the frames of a stretch at one cue too many counted, and all outputs lent shown where some are asked for. Assumes nothing.
+-- What the promise rules out: the frames of a stretch at one cue too many counted, and all outputs lent shown where
+-- some are asked for. Assumes nothing.
 use mathlib.Core.Path.{_≡_, refl, sym, ap, _∙_}
 use mathlib.Core.Bool.{true}
 use mathlib.Core.List.{List, [], _∷_}
@@ -20,7 +21,8 @@ use Rattle.script.proofs.Played.{cues-most}
 use Rattle.probe_request.specs.Requests.{samplesLent, lentBy}
 use Rattle.probe_answer.specs.Answers.{Draft, nowhere, played}
 use Rattle.probe_answer.proofs.Standing.{other-samples, second-told}
-use Rattle.probe_script.specs.Answers.{stretchAt, heldAt, cueAt, cuesAt, rendered, shown, renderedAnswer, fits, answerOf}
+use Rattle.probe_script.specs.Answers.{stretchAt, heldAt, cueAt, cuesAt, rendered, shown, renderedAnswer, fits}
+use Rattle.probe_script.specs.Answers.{answerOf}
 use Rattle.probe_script.proofs.Shown.{fitting, shown-all}
 
 -- ---- a stretch
@@ -31,15 +33,20 @@ module _ (s : Stretch) (cues : List Cue) (input out : List Float) where
 
   -- a refused one counts no frames
   uncounted : (number ≡ 0 → ⊥) → block s cues input out .answer .samples ≡ 0
-  uncounted h = ap (λ (b : Block). b .answer .samples) (block-refused Promise.answerOf (s .frames) (s .stride) (playedOf s cues input) out number h)
+  uncounted h = ap (λ (b : Block). b .answer .samples)
+      (block-refused Promise.answerOf (s .frames) (s .stride) (playedOf s cues input) out number h)
 
   -- the outputs stay as many
   as-many : length (block s cues input out .out) ≡ length out
   as-many = go number refl
     where
       go : (k : ℕ) → number ≡ k → length (block s cues input out .out) ≡ length out
-      go zero e = ap (λ (b : Block). length (b .out)) (block-accepted Promise.answerOf (s .frames) (s .stride) (playedOf s cues input) out number e) ∙ length-with-frames out (s .stride) 0 (playedOf s cues input)
-      go (suc k) e = ap (λ (b : Block). length (b .out)) (block-refused Promise.answerOf (s .frames) (s .stride) (playedOf s cues input) out number (λ z. omega (arith, e, z)))
+      go zero e = ap (λ (b : Block). length (b .out))
+          (block-accepted Promise.answerOf (s .frames) (s .stride) (playedOf s cues input) out number e)
+          ∙ length-with-frames out (s .stride) 0 (playedOf s cues input)
+      go (suc k) e = ap (λ (b : Block). length (b .out))
+          (block-refused Promise.answerOf (s .frames) (s .stride) (playedOf s cues input) out number
+          (λ z. omega (arith, e, z)))
 
 -- ---- 21 script
 
@@ -74,16 +81,28 @@ module _ (args out : List ℕ) (r : Draft) (is : r ≡ answerOf 21 args out) whe
     unfolding renderedAnswer
     one-cue-too-many all room some =
         let input = floatsAt args (46 + 24 * c) i in
-        let refused : number (stretchAt args) (cuesAt args c) input planes ≡ 0 → ⊥ = λ z. omega (arith, all, cues-most (stretchAt args) (cuesAt args c) input planes z, length-strided (cueAt args) 24 46 c) in
-        let none : b .answer .samples % 256 ^ 8 ≡ 0 = ap (λ (k : ℕ). k % 256 ^ 8) (uncounted (stretchAt args) (cuesAt args c) input planes refused) in
-        let told = second-told (b .answer .refusal) 8 (b .answer .samples) (floatBytes (shown at n (b .out)) ∷ []) out (omega arith) room .value in
+        let refused : number (stretchAt args) (cuesAt args c) input planes ≡ 0 → ⊥ = λ z.
+        omega (
+          arith,
+          all,
+          cues-most (stretchAt args) (cuesAt args c) input planes z,
+          length-strided (cueAt args) 24 46 c,
+        ) in
+        let none : b .answer .samples % 256 ^ 8 ≡ 0 = ap (λ (k : ℕ). k % 256 ^ 8)
+        (uncounted (stretchAt args) (cuesAt args c) input planes refused) in
+        let told = second-told (b .answer .refusal) 8 (b .answer .samples) (floatBytes (shown at n (b .out)) ∷ []) out
+        (omega arith) room .value in
         let zero : fieldAt (r .bytes) 1 8 ≡ 0 = ap (λ (d : Draft). fieldAt (d .bytes) 1 8) given ∙ told ∙ none in
         omega arith
 
     -- all outputs are shown, though fewer are asked for
-    all-shown : 9 + 4 * n ≤ length out → length out < nowhere → (n ≡ o → ⊥) → r ≡ played (b .answer .refusal) (b .answer .samples) (b .out) out → ⊥
+    all-shown : 9 + 4 * n ≤ length out → length out < nowhere → (n ≡ o → ⊥)
+        → r ≡ played (b .answer .refusal) (b .answer .samples) (b .out) out → ⊥
     unfolding renderedAnswer
     all-shown room h differs e =
-        let every : length (b .out) ≡ o = as-many (stretchAt args) (cuesAt args c) (floatsAt args (46 + 24 * c) i) planes ∙ length-replicate o (heldAt args) in
-        let part : length (shown at n (b .out)) ≡ n = length-part (b .out) at n (omega (arith, every, fitting c o at n true fit refl .within)) in
-        other-samples (b .answer .refusal) (b .answer .samples) (shown at n (b .out)) (b .out) out (omega (arith, part)) h (λ s. differs (omega (arith, s, part, every))) (sym given ∙ e)
+        let every : length (b .out) ≡ o = as-many (stretchAt args) (cuesAt args c) (floatsAt args (46 + 24 * c) i)
+        planes ∙ length-replicate o (heldAt args) in
+        let part : length (shown at n (b .out)) ≡ n = length-part (b .out) at n
+        (omega (arith, every, fitting c o at n true fit refl .within)) in
+        other-samples (b .answer .refusal) (b .answer .samples) (shown at n (b .out)) (b .out) out (omega (arith, part))
+        h (λ s. differs (omega (arith, s, part, every))) (sym given ∙ e)

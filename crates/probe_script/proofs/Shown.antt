@@ -1,4 +1,5 @@
--- The answer to a stretch of a drill script: the cues that a request gives are read, the block that `script` promises for them is shown in part, or there is no answer. Assumes nothing.
+-- The answer to a stretch of a drill script: the cues that a request gives are read, the block that `script` promises
+-- for them is shown in part, or there is no answer. Assumes nothing.
 use mathlib.Core.Path.{_≡_, sym, ap, _∙_}
 use mathlib.Core.Bool.{Bool, true, false, _&&_, not, and-eq-true-iff}
 use mathlib.Core.List.{List}
@@ -21,13 +22,17 @@ use Rattle.probe_request.specs.Requests.{samplesLent, lentBy, listAt}
 use Rattle.probe_request.proofs.Requests.{inside}
 use Rattle.probe_answer.specs.Answers.{Draft, none, taking, played}
 use Rattle.probe_answer.proofs.Meets.{taken, untaken}
-use Rattle.probe_script.specs.Answers.{heldAt, cueAt, cuesAt, rendered, shown, renderedAnswer, fits, scriptLent, scriptAnswer}
+use Rattle.probe_script.specs.Answers.{heldAt, cueAt, cuesAt, rendered, shown, renderedAnswer, fits, scriptLent}
+use Rattle.probe_script.specs.Answers.{scriptAnswer}
 
 -- ---- the cues
 
-pub cue-read : (args : List ℕ) (at frame : ℕ) (azimuth elevation : Float) → frame ≡ fieldAt args at 8 → azimuth ≡ doubleAt args (at + 8) → elevation ≡ doubleAt args (at + 16)
-    → _≡_ {A = Cue} (record { frame = frame; direction = record { azimuth = azimuth; elevation = elevation } }) (cueAt args at)
-cue-read args at frame azimuth elevation f a e = λ i. record { frame = f i; direction = record { azimuth = a i; elevation = e i } }
+pub cue-read : (args : List ℕ) (at frame : ℕ) (azimuth elevation : Float) → frame ≡ fieldAt args at 8
+    → azimuth ≡ doubleAt args (at + 8) → elevation ≡ doubleAt args (at + 16)
+    → _≡_ {A = Cue} (record { frame = frame; direction = record { azimuth = azimuth; elevation = elevation } })
+    (cueAt args at)
+cue-read args at frame azimuth elevation f a e =
+    λ i. record { frame = f i; direction = record { azimuth = a i; elevation = e i } }
 
 -- the first of them
 pub first-cues : (args : List ℕ) (c : ℕ) → c ≤ 257 → take c (cuesAt args 257) ≡ cuesAt args c
@@ -51,7 +56,8 @@ module _ (c o at n : ℕ) where
       pub lies-inside : at ≤ o → leb n (o - at) ≡ fits c o at n
       lies-inside h =
           let all : leb (at + n) o ≡ fits c o at n = sym (rw (le-leb c 257 few, le-leb o 16400 room)) in
-          ⊎-elim (λ s. lt-leb n (o - at) s ∙ sym (lt-leb (at + n) o (omega arith))) (λ s. le-leb n (o - at) s ∙ sym (le-leb (at + n) o (omega arith))) (split (o - at) n) ∙ all
+          ⊎-elim (λ s. lt-leb n (o - at) s ∙ sym (lt-leb (at + n) o (omega arith)))
+          (λ s. le-leb n (o - at) s ∙ sym (le-leb (at + n) o (omega arith))) (split (o - at) n) ∙ all
 
 -- so where it is told that they fit, they do
 pub record Fitting (c o at n : ℕ) : Type 0 where
@@ -70,30 +76,38 @@ pub lent-first : {A : Type 0} (x : A) (o most : ℕ) → o ≤ most → o ≡ le
 lent-first x o most h = omega (arith, length-take o (replicate most x), length-replicate most x)
 
 -- so the lists lent are as long as they are to be
-pub lends : (size c i o at n k l : ℕ) → i ≡ k → o ≡ l → Fitting c o at n → size ≡ 46 + 24 * c + 4 * i → (c ≤ 257) × (size ≡ 46 + 24 * c + 4 * k) × (at + n ≤ l)
+pub lends : (size c i o at n k l : ℕ) → i ≡ k → o ≡ l → Fitting c o at n → size ≡ 46 + 24 * c + 4 * i
+    → (c ≤ 257) × (size ≡ 46 + 24 * c + 4 * k) × (at + n ≤ l)
 lends size c i o at n k l e g fit h = (fit .few, omega arith, omega (arith, fit .within))
 
 -- ---- the block
 
 module _ (args : List ℕ) (c : ℕ) where
-  pub renders : (input before planes last : List Float) (cues : List Cue) (order first frames stride : ℕ) (r : Rendered) → c ≤ 257 → length args ≡ 46 + 24 * c + 4 * length input
-      → before ≡ listAt floatAt 4 args (46 + 24 * c) input → cues ≡ cuesAt args 257 → order ≡ fieldAt args 10 8 → first ≡ fieldAt args 18 8 → frames ≡ fieldAt args 26 8 → stride ≡ fieldAt args 34 8
-      → record { answer = r; out = last } ≡ block (record { order = order; first = first; frames = frames; stride = stride }) (take c cues) before planes
+  pub renders : (input before planes last : List Float) (cues : List Cue) (order first frames stride : ℕ) (r : Rendered)
+      → c ≤ 257 → length args ≡ 46 + 24 * c + 4 * length input
+      → before ≡ listAt floatAt 4 args (46 + 24 * c) input → cues ≡ cuesAt args 257 → order ≡ fieldAt args 10 8
+      → first ≡ fieldAt args 18 8 → frames ≡ fieldAt args 26 8 → stride ≡ fieldAt args 34 8
+      → record { answer = r; out = last } ≡ block
+      (record { order = order; first = first; frames = frames; stride = stride }) (take c cues) before planes
       → record { answer = r; out = last } ≡ rendered args c (length input) planes
   renders input before planes last cues order first frames stride r few long e g eo ef en es p =
       let i = inside floatAt 4 args (46 + 24 * c) input before e (omega arith) in
       let list : take c cues ≡ cuesAt args c = ap (take c) g ∙ first-cues args c few in
       p ∙ (λ j. block (record { order = eo j; first = ef j; frames = en j; stride = es j }) (list j) (i j) planes)
 
-  pub shows : (i : ℕ) (planes last : List Float) (at n : ℕ) (out : List ℕ) (r : Rendered) (d : Draft) → record { answer = r; out = last } ≡ rendered args c i planes
-      → d ≡ played (r .refusal) (r .samples) (take (at + n - at) (drop at last)) out → d ≡ renderedAnswer args c i planes at n out
+  pub shows : (i : ℕ) (planes last : List Float) (at n : ℕ) (out : List ℕ) (r : Rendered) (d : Draft)
+      → record { answer = r; out = last } ≡ rendered args c i planes
+      → d ≡ played (r .refusal) (r .samples) (take (at + n - at) (drop at last)) out
+      → d ≡ renderedAnswer args c i planes at n out
   unfolding renderedAnswer
   shows i planes last at n out r d e p =
-      p ∙ ap (λ (l : List Float). played (r .refusal) (r .samples) l out) (part-is at n last) ∙ ap (λ (b : Block). played (b .answer .refusal) (b .answer .samples) (shown at n (b .out)) out) e
+      p ∙ ap (λ (l : List Float). played (r .refusal) (r .samples) l out) (part-is at n last)
+      ∙ ap (λ (b : Block). played (b .answer .refusal) (b .answer .samples) (shown at n (b .out)) out) e
 
 -- ---- the answer
 
-module _ (args out : List ℕ) (c i o at n : ℕ) (ec : c ≡ fieldAt args 0 2) (ei : i ≡ samplesLent args 2) (eo : o ≡ fieldAt args 4 2) (ea : at ≡ fieldAt args 6 2) (en : n ≡ lentBy args 8 2 16380) where
+module _ (args out : List ℕ) (c i o at n : ℕ) (ec : c ≡ fieldAt args 0 2) (ei : i ≡ samplesLent args 2)
+    (eo : o ≡ fieldAt args 4 2) (ea : at ≡ fieldAt args 6 2) (en : n ≡ lentBy args 8 2 16380) where
   as-asked : scriptLent args c i o at n out ≡ scriptAnswer args out
   unfolding scriptAnswer
   as-asked j = scriptLent args (ec j) (ei j) (eo j) (ea j) (en j) out
@@ -103,17 +117,21 @@ module _ (args out : List ℕ) (c i o at n : ℕ) (ec : c ≡ fieldAt args 0 2) 
     no-room h = sym (cond-false _ _ (sym is ∙ not-true b h)) ∙ as-asked
 
     module _ (h : not b ≡ false) where
-      there : taking (46 + 24 * c + 4 * i) args out (renderedAnswer args c i (replicate o (heldAt args)) at n out) ≡ scriptAnswer args out
+      there : taking (46 + 24 * c + 4 * i) args out (renderedAnswer args c i (replicate o (heldAt args)) at n out)
+          ≡ scriptAnswer args out
       there = sym (cond-true _ _ (sym is ∙ not-false b h)) ∙ as-asked
 
       pub no-length : (length args ≡ 46 + 24 * c + 4 * i → ⊥) → none out ≡ scriptAnswer args out
       no-length other = untaken _ args out _ other ∙ there
 
-      pub shown-all : length args ≡ 46 + 24 * c + 4 * i → renderedAnswer args c i (replicate o (heldAt args)) at n out ≡ scriptAnswer args out
+      pub shown-all : length args ≡ 46 + 24 * c + 4 * i → renderedAnswer args c i (replicate o (heldAt args)) at n out
+          ≡ scriptAnswer args out
       shown-all long = taken _ args out _ long ∙ there
 
       -- of an array that holds it throughout
-      pub shown-lent : (held : Float) (d : Draft) → held ≡ heldAt args → length args ≡ 46 + 24 * c + 4 * i → d ≡ renderedAnswer args c i (take o (replicate 16400 held)) at n out → d ≡ scriptAnswer args out
+      pub shown-lent : (held : Float) (d : Draft) → held ≡ heldAt args → length args ≡ 46 + 24 * c + 4 * i
+          → d ≡ renderedAnswer args c i (take o (replicate 16400 held)) at n out → d ≡ scriptAnswer args out
       shown-lent held d e long p =
-          let planes : take o (replicate 16400 held) ≡ replicate o (heldAt args) = take-replicate o 16400 held (fitting c o at n b is h .room) ∙ ap (replicate o) e in
+          let planes : take o (replicate 16400 held) ≡ replicate o (heldAt args) = take-replicate o 16400 held
+          (fitting c o at n b is h .room) ∙ ap (replicate o) e in
           p ∙ ap (λ (l : List Float). renderedAnswer args c i l at n out) planes ∙ shown-all long

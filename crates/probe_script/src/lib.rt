@@ -17,7 +17,8 @@ ghost use Prim.Native.Nat.{_+_, _*_, _^_, _≤_, _<_};
 ghost use lib.ListN.{length, take};
 ghost use Rattle.script.specs.Promise.{Renders};
 ghost use Rattle.probe_answer.specs.Answers.{draft};
-ghost use Rattle.probe_script.specs.Answers.{cueAt, cuesAt, fits, rendered, renderedAnswer, scriptAnswer, answerOf};
+ghost use Rattle.probe_script.specs.Answers.{cueAt, cuesAt, fits, rendered, renderedAnswer, scriptAnswer};
+ghost use Rattle.probe_script.specs.Answers.{answerOf};
 
 // One more than a list may have, so that one which is too long can be lent.
 const MOST_CUES: usize = 257;
@@ -70,7 +71,8 @@ fn render_first(
     out: &mut [f32],
 ) -> Rendered
     requires { ⌜ count ≤ 257 ⌝ }
-    ensures { λ r. ⌜ Renders (record { order = order; first = first; frames = frames; stride = stride }) (take count cues) (now (input .entry)) (now (out .entry)) r (now (out .exit)) ⌝ }
+    ensures { λ r. ⌜ Renders (record { order = order; first = first; frames = frames; stride = stride })
+        (take count cues) (now (input .entry)) (now (out .entry)) r (now (out .exit)) ⌝ }
 {
     script::render(&cues[..count], order, first, frames, stride, input, out)
 }
@@ -78,7 +80,8 @@ fn render_first(
 // Renders a stretch at so many cues: what the input lent held before does not matter.
 fn render_lent(args: &[u8], count: usize, input: &mut [f32], planes: &mut [f32]) -> Rendered
     requires { ⌜ (count ≤ 257) × (length (now args) ≡ 46 + 24 * count + 4 * length (now input)) ⌝ }
-    ensures { λ r. ⌜ record { answer = r; out = now (planes .exit) } ≡ rendered (now (args .entry)) count (length (now (input .entry))) (now (planes .entry)) ⌝ }
+    ensures { λ r. ⌜ record { answer = r; out = now (planes .exit) } ≡ rendered (now (args .entry)) count
+        (length (now (input .entry))) (now (planes .entry)) ⌝ }
 {
     probe_request::get_f32s(args, 46 + 24 * count, input);
     render_first(
@@ -103,8 +106,10 @@ fn show_lent(
     planes: &mut [f32],
     out: &mut [u8],
 ) -> usize
-    requires { ⌜ (count ≤ 257) × (length (now args) ≡ 46 + 24 * count + 4 * length (now input)) × (at + n ≤ length (now planes)) ⌝ }
-    ensures { λ r. ⌜ draft r (now (out .exit)) ≡ renderedAnswer (now (args .entry)) count (length (now (input .entry))) (now (planes .entry)) at n (now (out .entry)) ⌝ }
+    requires { ⌜ (count ≤ 257) × (length (now args) ≡ 46 + 24 * count + 4 * length (now input))
+        × (at + n ≤ length (now planes)) ⌝ }
+    ensures { λ r. ⌜ draft r (now (out .exit)) ≡ renderedAnswer (now (args .entry)) count (length (now (input .entry)))
+        (now (planes .entry)) at n (now (out .entry)) ⌝ }
 {
     let played = render_lent(args, count, input, planes);
     probe_answer::put_played(played.refusal, played.samples, &planes[at..at + n], out)

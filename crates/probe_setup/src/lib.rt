@@ -17,7 +17,9 @@ ghost use Rattle.probe_setup.specs.Answers.{shown, wantedAt, arrangedAns
 
 // Puts the answer, and the rows and the weights as they stand.
 fn put_arranged(arranged: Arranged, row_of: &[usize; 8], weights: &[f64], out: &mut [u8]) -> usize
-    ensures { λ r. ⌜ draft r (now (out .exit)) ≡ shown (record { answer = arranged; weights = now (weights .entry); rows = now («row_of» .entry) }) (now (out .entry)) ⌝ }
+    ensures { λ r. ⌜ draft r (now (out .exit)) ≡ shown
+        (record { answer = arranged; weights = now (weights .entry); rows = now («row_of» .entry) })
+        (now (out .entry)) ⌝ }
 {
     let a = probe_answer::put(arranged.refusal as u64, 1, out, 0);
     let b = probe_answer::put(arranged.speakers as u64, 8, out, a);
@@ -36,7 +38,8 @@ fn arrange(
     row_of: &mut [usize; 8],
 ) -> Arranged
     ensures { λ r. ⌜ record { answer = r; weights = now (weights .exit); rows = now («row_of» .exit) }
-        ≡ arrangement (wantedAt operation (now (args .entry))) (now (azimuths .entry)) (now (elevations .entry)) (fieldAt (now (args .entry)) 4 8) (now (weights .entry)) (now («row_of» .entry)) ⌝ }
+        ≡ arrangement (wantedAt operation (now (args .entry))) (now (azimuths .entry)) (now (elevations .entry))
+        (fieldAt (now (args .entry)) 4 8) (now (weights .entry)) (now («row_of» .entry)) ⌝ }
 {
     let rows = probe_request::number(args, 4, 8);
     if operation == 19 {
@@ -60,8 +63,11 @@ fn set_up_lent(
     weights: &mut [f64],
     out: &mut [u8],
 ) -> usize
-    requires { ⌜ length (now args) ≡ at + 2 * length (now azimuths) + 2 * length (now elevations) + 8 * length (now weights) ⌝ }
-    ensures { λ r. ⌜ draft r (now (out .exit)) ≡ arrangedAnswer operation (now (args .entry)) at (length (now (azimuths .entry))) (length (now (elevations .entry))) (length (now (weights .entry))) (now (out .entry)) ⌝ }
+    requires { ⌜ length (now args) ≡ at + 2 * length (now azimuths) + 2 * length (now elevations) + 8 * length
+        (now weights) ⌝ }
+    ensures { λ r. ⌜ draft r (now (out .exit)) ≡ arrangedAnswer operation (now (args .entry)) at
+        (length (now (azimuths .entry))) (length (now (elevations .entry))) (length (now (weights .entry)))
+        (now (out .entry)) ⌝ }
 {
     let elevations_at = at + 2 * azimuths.len();
     let weights_at = elevations_at + 2 * elevations.len();

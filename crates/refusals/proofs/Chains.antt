@@ -1,5 +1,6 @@
--- Lists of checks: the number given is that of the first that holds; there is no refusal where none holds, and only there if no check has the number 0; and one list that goes on after another, which
--- decides where the first refuses nothing. Assumes nothing.
+-- Lists of checks: the number given is that of the first that holds; there is no refusal where none holds, and only
+-- there if no check has the number 0; and one list that goes on after another, which decides where the first refuses
+-- nothing. Assumes nothing.
 use mathlib.Core.Path.{_≡_, refl, _∙_}
 use mathlib.Core.Bool.{Bool, true, false, _&&_, cond}
 use mathlib.Core.List.{List, [], _∷_, _++_}
@@ -47,7 +48,9 @@ pub first-refused : (cs ds : List Check) → (firstOf cs ≡ 0 → ⊥) → firs
 first-refused [] ds n = absurd (n refl)
 first-refused (c ∷ cs) ds n = go (c .holds) (first-refused cs ds) n
   where
-    go : (b : Bool) → ((firstOf cs ≡ 0 → ⊥) → firstOf (cs ++ ds) ≡ firstOf cs) → (cond b (c .number) (firstOf cs) ≡ 0 → ⊥) → cond b (c .number) (firstOf (cs ++ ds)) ≡ cond b (c .number) (firstOf cs)
+    go : (b : Bool) → ((firstOf cs ≡ 0 → ⊥) → firstOf (cs ++ ds) ≡ firstOf cs)
+        → (cond b (c .number) (firstOf cs) ≡ 0 → ⊥) → cond b (c .number) (firstOf (cs ++ ds)) ≡ cond b (c .number)
+        (firstOf cs)
     go true f n = refl
     go false f n = f n
 
@@ -66,7 +69,8 @@ module _ (c : Check) (cs : List Check) (t : T (numbered (c ∷ cs))) (e : firstO
 -- where the first list gives none the second decides
 pub first-accepted : (cs ds : List Check) → T (numbered cs) → firstOf cs ≡ 0 → firstOf (cs ++ ds) ≡ firstOf ds
 first-accepted [] ds t e = refl
-first-accepted (c ∷ cs) ds t e = cond-false (c .number) (firstOf (cs ++ ds)) (here-off c cs t e .0) ∙ first-accepted cs ds (others c cs t e) (here-off c cs t e .1)
+first-accepted (c ∷ cs) ds t e = cond-false (c .number) (firstOf (cs ++ ds)) (here-off c cs t e .0)
+    ∙ first-accepted cs ds (others c cs t e) (here-off c cs t e .1)
 
 -- and no check holds
 pub none-holds : (cs : List Check) → T (numbered cs) → firstOf cs ≡ 0 → Off cs

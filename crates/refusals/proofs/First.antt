@@ -1,4 +1,5 @@
--- Of the refusal numbers: 0 is given where no test holds, and one above it is no acceptance. And of what is answered by such a number. Assumes nothing.
+-- Of the refusal numbers: 0 is given where no test holds, and one above it is no acceptance. And of what is answered by
+-- such a number. Assumes nothing.
 use mathlib.Core.Path.{_≡_, refl, sym, ap, _∙_}
 use mathlib.Core.Bool.{Bool, true, false, _||_, cond, true≢false}
 use Prim.Native.Nat.{ℕ, zero, suc, _<_}
@@ -34,6 +35,7 @@ module _ {A : Type 0} (accepted : A) (refused : ℕ → A) where
   answered-by r n h e = ap refused (sym e) ∙ sym (answered-refused r (not-accepted n h e))
 
   -- and what an answer tells is the number that it is given by
-  pub told-is : (told : A → ℕ) → told accepted ≡ 0 → (r : ℕ) → told (refused r) ≡ r → told (answered r accepted refused) ≡ r
+  pub told-is : (told : A → ℕ) → told accepted ≡ 0 → (r : ℕ) → told (refused r) ≡ r
+      → told (answered r accepted refused) ≡ r
   told-is told none zero same = none
   told-is told none (suc n) same = same

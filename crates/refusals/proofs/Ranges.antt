@@ -1,4 +1,5 @@
--- The tests of a range: what they say of a number that passes, and which they refuse, by the test of the lower end that comes first. Assumes nothing.
+-- The tests of a range: what they say of a number that passes, and which they refuse, by the test of the lower end that
+-- comes first. Assumes nothing.
 use mathlib.Core.Path.{_≡_, refl, sym, _∙_}
 use mathlib.Core.Bool.{true, false, true≢false, and-eq-true-iff}
 use Prim.Native.Nat.{ℕ, _≤_, _<_}
@@ -10,7 +11,8 @@ use Rattle.refusals.specs.Ranges.{within, between}
 
 module _ (low high n : ℕ) where
   pub within-true : within low high n ≡ true → (low ≤ n) × (n ≤ high)
-  within-true h = let both = and-eq-true-iff (leb low n) (leb n high) .0 h in (leb-true low n (both .0), leb-true n high (both .1))
+  within-true h =
+      let both = and-eq-true-iff (leb low n) (leb n high) .0 h in (leb-true low n (both .0), leb-true n high (both .1))
 
   pub within-low : n < low → within low high n ≡ false
   within-low h = rw (lt-leb low n h)

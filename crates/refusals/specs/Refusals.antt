@@ -1,6 +1,7 @@
--- Document 01, 'Refusal numbers': "Checked in rising order; the first that holds is given, and none is given otherwise." Definitions only.
--- An operation lists its tests in the order in which they are checked, each with its number. The order is that of the list, so that a number which has to stand
--- elsewhere than its size says (as some of the later requests ask) is a matter of where it is written.
+-- Document 01, 'Refusal numbers': "Checked in rising order; the first that holds is given, and none is given
+-- otherwise." Definitions only. An operation lists its tests in the order in which they are checked, each with its
+-- number. The order is that of the list, so that a number which has to stand elsewhere than its size says (as some of
+-- the later requests ask) is a matter of where it is written.
 use Prim.Native.Nat.{ℕ, zero, suc}
 use mathlib.Core.Bool.{Bool, cond, not}
 use mathlib.Core.List.{List, [], _∷_}
@@ -25,6 +26,7 @@ module _ {A : Type 0} where
   answered zero accepted refused = accepted
   answered (suc n) accepted refused = refused (suc n)
 
--- a count is not 1..top: "ambisonic order is not 1, 2 or 3", "Custom n is 0 or above 16", "speakers or bank rows are not 1..8", "channels not 1..16", "L is 0 or above 512"
+-- a count is not 1..top: "ambisonic order is not 1, 2 or 3", "Custom n is 0 or above 16", "speakers or bank rows are
+-- not 1..8", "channels not 1..16", "L is 0 or above 512"
 abbrev pub outside : ℕ → ℕ → Bool
 outside n top = not (within 1 top n)

@@ -1,5 +1,5 @@
--- What is used of the convolver: a block of its own is not refused, what `hrtf::process` leaves of it, by its equation, and what `hrtf::reset` leaves. All that this crate knows of `hrtf` is said here.
--- Assumes nothing.
+-- What is used of the convolver: a block of its own is not refused, what `hrtf::process` leaves of it, by its equation,
+-- and what `hrtf::reset` leaves. All that this crate knows of `hrtf` is said here. Assumes nothing.
 use mathlib.Core.Path.{_≡_, sym, ap, _∙_}
 use mathlib.Core.Bool.{false}
 use mathlib.Core.List.{List, []}
@@ -33,9 +33,19 @@ use Rattle.replay.specs.Computed.{stateWith, Good, Kept, Resting}
 -- the call for a block
 abbrev pub blockCall : Line → ℕ → List Float → List Float → Call
 blockCall l count block own =
-    record { shape = l .shape; frames = count; stride = 64; inputs = block; weights = l .weights; rows = l .rows; taps = l .taps; ears = own }
+    record {
+      shape = l .shape;
+      frames = count;
+      stride = 64;
+      inputs = block;
+      weights = l .weights;
+      rows = l .rows;
+      taps = l .taps;
+      ears = own;
+    }
 
-module _ {l : Line} (good : Good l) {t : State} {count : ℕ} {block own : List Float} (kept : Kept l t block own) (few : count ≤ 64) where
+module _ {l : Line} (good : Good l) {t : State} {count : ℕ} {block own : List Float} (kept : Kept l t block own)
+    (few : count ≤ 64) where
   block-accepted : refusalOf (blockCall l count block own) t ≡ 0
   block-accepted =
       sym (accept (blockCall l count block own) t (
@@ -43,7 +53,8 @@ module _ {l : Line} (good : Good l) {t : State} {count : ℕ} {block own : List 
         (
           good .long,
           (
-            lengths-fit (l .shape) _ _ _ _ _ _ _ few (kept .blocked) (kept .eared) (kept .state .ringed) (good .weighted) (good .tapped),
+            lengths-fit (l .shape) _ _ _ _ _ _ _ few (kept .blocked) (kept .eared) (kept .state .ringed)
+                (good .weighted) (good .tapped),
             (
               good .sound,
               (on-desk (t .desk) (l .shape .length) (kept .state .within) (kept .state .waits), tt),
@@ -63,16 +74,19 @@ module _ {l : Line} (good : Good l) {t : State} {count : ℕ} {block own : List 
     block-leaves = ap stateAfter (p .bits ∙ outcome-computed (blockCall l count block own) t block-accepted)
 
     pub block-counts : o .answer .unsettled ≡ counted (setupIn l) t fs
-    block-counts = ap (λ (a : BlockOutcome). a .answer .unsettled) (p .bits ∙ outcome-computed (blockCall l count block own) t block-accepted)
+    block-counts = ap (λ (a : BlockOutcome). a .answer .unsettled)
+        (p .bits ∙ outcome-computed (blockCall l count block own) t block-accepted)
 
     long : length (heard (setupIn l) past fs) ≡ count
     long = length-heard (setupIn l) past fs ∙ length-tab 0 count (frameAt block 64 (l .shape .channels))
 
     pub block-sounds : framesOf (o .ears) 64 2 count ≡ played (setupIn l) t fs
     block-sounds =
-        ap (λ (a : BlockOutcome). framesOf (a .ears) 64 2 count) (p .bits ∙ outcome-by (blockCall l count block own) t 0 block-accepted)
+        ap (λ (a : BlockOutcome). framesOf (a .ears) 64 2 count)
+        (p .bits ∙ outcome-by (blockCall l count block own) t 0 block-accepted)
         ∙ ap (framesOf (withFrames own 64 0 (heard (setupIn l) past fs)) 64 2) (sym long)
-        ∙ frames-read 2 own 64 (heard (setupIn l) past fs) (omega (arith, long, few)) (kept .eared) (two-each (setupIn l) past fs)
+        ∙ frames-read 2 own 64 (heard (setupIn l) past fs) (omega (arith, long, few)) (kept .eared)
+        (two-each (setupIn l) past fs)
         ∙ sym (played-held (setupIn l) t fs (kept .state .ringed) (kept .state .within))
 
 -- ---- a reset
@@ -80,8 +94,10 @@ module _ {l : Line} (good : Good l) {t : State} {count : ℕ} {block own : List 
 pub speakers-few : (h : Shape) (rows : List ℕ) → misshapen h rows ≡ false → outside (h .speakers) 8 ≡ false
 speakers-few h rows e = or-off (outside (h .speakers) 8) _ e .0
 
-pub reset-leaves : (d : Desk) (speakers L : ℕ) (rings : List Float) (o : ResetOutcome) → Resting speakers L rings → Resets d speakers L rings o
+pub reset-leaves : (d : Desk) (speakers L : ℕ) (rings : List Float) (o : ResetOutcome) → Resting speakers L rings
+    → Resets d speakers L rings o
     → stateWith (o .answer .desk) (o .rings) ≡ rested (stateWith d rings)
 reset-leaves d speakers L rings o r p =
-    let none = reset-accepts speakers L rings (r .few, (r .long, (equal-passes (length rings) (speakers * L) (r .ringed), tt))) in
+    let none = reset-accepts speakers L rings
+    (r .few, (r .long, (equal-passes (length rings) (speakers * L) (r .ringed), tt))) in
     ap (λ (a : ResetOutcome). stateWith (a .answer .desk) (a .rings)) (p .bits ∙ reset-by d speakers L rings 0 none)

@@ -1,4 +1,5 @@
--- Events one after another, as the convolver plays them: in parts, and where frames are fed one after another. The state keeps what the checks ask of it. Assumes nothing.
+-- Events one after another, as the convolver plays them: in parts, and where frames are fed one after another. The
+-- state keeps what the checks ask of it. Assumes nothing.
 use mathlib.Core.Path.{_≡_, refl, ap, _∙_}
 use mathlib.Core.List.{List, [], _∷_, _++_}
 use Prim.Native.Nat.{ℕ, suc, _+_, _≤_, _<_}
@@ -29,12 +30,15 @@ module _ (u : Setup) where
   left-by-append t (feed s f ∷ es) hs = left-by-append (stepped u t f) es hs
   left-by-append t (restart ∷ es) hs = left-by-append (rested t) es hs
 
-  pub played-by-append : (t : State) (es hs : Events) → playedBy u t (es ++ hs) ≡ playedBy u t es ++ playedBy u (leftBy u t es) hs
+  pub played-by-append : (t : State) (es hs : Events) → playedBy u t (es ++ hs) ≡ playedBy u t es
+      ++ playedBy u (leftBy u t es) hs
   played-by-append t [] hs = refl
-  played-by-append t (feed s f ∷ es) hs = ap (λ (l : List (List Float)). ears u t f ∷ l) (played-by-append (stepped u t f) es hs)
+  played-by-append t (feed s f ∷ es) hs =
+      ap (λ (l : List (List Float)). ears u t f ∷ l) (played-by-append (stepped u t f) es hs)
   played-by-append t (restart ∷ es) hs = played-by-append (rested t) es hs
 
-  pub counted-by-append : (t : State) (es hs : Events) → countedBy u t (es ++ hs) ≡ countedBy u t es + countedBy u (leftBy u t es) hs
+  pub counted-by-append : (t : State) (es hs : Events) → countedBy u t (es ++ hs) ≡ countedBy u t es + countedBy u
+      (leftBy u t es) hs
   counted-by-append t [] hs = omega arith
   counted-by-append t (feed s f ∷ es) hs = omega (arith, counted-by-append (stepped u t f) es hs)
   counted-by-append t (restart ∷ es) hs = counted-by-append (rested t) es hs
@@ -52,19 +56,23 @@ module _ (u : Setup) where
 
   -- ---- frames that are fed one after another, and then the rest
 
-  pub left-feeds : (t : State) (ss : List ℕ) (fs : List (List Float)) (es : Events) → length ss ≡ length fs → leftBy u t (feeds ss fs ++ es) ≡ leftBy u (left u t fs) es
+  pub left-feeds : (t : State) (ss : List ℕ) (fs : List (List Float)) (es : Events) → length ss ≡ length fs
+      → leftBy u t (feeds ss fs ++ es) ≡ leftBy u (left u t fs) es
   left-feeds t [] [] es e = refl
   left-feeds t [] (f ∷ fs) es e = absurd (omega (arith, e))
   left-feeds t (s ∷ ss) [] es e = absurd (omega (arith, e))
   left-feeds t (s ∷ ss) (f ∷ fs) es e = left-feeds (stepped u t f) ss fs es (omega (arith, e))
 
-  pub played-feeds : (t : State) (ss : List ℕ) (fs : List (List Float)) (es : Events) → length ss ≡ length fs → playedBy u t (feeds ss fs ++ es) ≡ played u t fs ++ playedBy u (left u t fs) es
+  pub played-feeds : (t : State) (ss : List ℕ) (fs : List (List Float)) (es : Events) → length ss ≡ length fs
+      → playedBy u t (feeds ss fs ++ es) ≡ played u t fs ++ playedBy u (left u t fs) es
   played-feeds t [] [] es e = refl
   played-feeds t [] (f ∷ fs) es e = absurd (omega (arith, e))
   played-feeds t (s ∷ ss) [] es e = absurd (omega (arith, e))
-  played-feeds t (s ∷ ss) (f ∷ fs) es e = ap (λ (l : List (List Float)). ears u t f ∷ l) (played-feeds (stepped u t f) ss fs es (omega (arith, e)))
+  played-feeds t (s ∷ ss) (f ∷ fs) es e =
+      ap (λ (l : List (List Float)). ears u t f ∷ l) (played-feeds (stepped u t f) ss fs es (omega (arith, e)))
 
-  pub counted-feeds : (t : State) (ss : List ℕ) (fs : List (List Float)) (es : Events) → length ss ≡ length fs → countedBy u t (feeds ss fs ++ es) ≡ counted u t fs + countedBy u (left u t fs) es
+  pub counted-feeds : (t : State) (ss : List ℕ) (fs : List (List Float)) (es : Events) → length ss ≡ length fs
+      → countedBy u t (feeds ss fs ++ es) ≡ counted u t fs + countedBy u (left u t fs) es
   counted-feeds t [] [] es e = omega arith
   counted-feeds t [] (f ∷ fs) es e = absurd (omega (arith, e))
   counted-feeds t (s ∷ ss) [] es e = absurd (omega (arith, e))
@@ -75,23 +83,29 @@ module _ (u : Setup) where
 module _ (u v : Setup) (a : SameFilters u v) where
   pub left-by-alike : (t : State) (es : Events) → leftBy u t es ≡ leftBy v t es
   left-by-alike t [] = refl
-  left-by-alike t (feed s f ∷ es) = ap (λ (q : State). leftBy u q es) (stepped-alike u v a t f) ∙ left-by-alike (stepped v t f) es
+  left-by-alike t (feed s f ∷ es) =
+      ap (λ (q : State). leftBy u q es) (stepped-alike u v a t f) ∙ left-by-alike (stepped v t f) es
   left-by-alike t (restart ∷ es) = left-by-alike (rested t) es
 
   pub played-by-alike : (t : State) (es : Events) → playedBy u t es ≡ playedBy v t es
   played-by-alike t [] = refl
   played-by-alike t (feed s f ∷ es) =
-      cc (ap (λ (l : List (List Float)). getD l 0 []) (played-alike u v a t (f ∷ [])), ap (λ (q : State). playedBy u q es) (stepped-alike u v a t f) ∙ played-by-alike (stepped v t f) es)
+      cc (
+        ap (λ (l : List (List Float)). getD l 0 []) (played-alike u v a t (f ∷ [])),
+        ap (λ (q : State). playedBy u q es) (stepped-alike u v a t f) ∙ played-by-alike (stepped v t f) es,
+      )
   played-by-alike t (restart ∷ es) = played-by-alike (rested t) es
 
   pub counted-by-alike : (t : State) (es : Events) → countedBy u t es ≡ countedBy v t es
   counted-by-alike t [] = refl
   counted-by-alike t (feed s f ∷ es) =
-      let rest : countedBy u (stepped u t f) es ≡ countedBy v (stepped v t f) es = ap (λ (q : State). countedBy u q es) (stepped-alike u v a t f) ∙ counted-by-alike (stepped v t f) es in
+      let rest : countedBy u (stepped u t f) es ≡ countedBy v (stepped v t f) es = ap (λ (q : State). countedBy u q es)
+      (stepped-alike u v a t f) ∙ counted-by-alike (stepped v t f) es in
       omega (arith, counted-alike u v a t (f ∷ []), rest)
   counted-by-alike t (restart ∷ es) = counted-by-alike (rested t) es
 
-pub feeds-feeds : (ss : List ℕ) (fs : List (List Float)) (es : Events) → length ss ≡ length fs → feedsIn (feeds ss fs ++ es) ≡ length fs + feedsIn es
+pub feeds-feeds : (ss : List ℕ) (fs : List (List Float)) (es : Events) → length ss ≡ length fs
+    → feedsIn (feeds ss fs ++ es) ≡ length fs + feedsIn es
 feeds-feeds [] [] es e = omega arith
 feeds-feeds [] (f ∷ fs) es e = absurd (omega (arith, e))
 feeds-feeds (s ∷ ss) [] es e = absurd (omega (arith, e))
@@ -107,9 +121,12 @@ length-feeds (s ∷ ss) (f ∷ fs) e = omega (arith, length-feeds ss fs (omega (
 
 module _ (l : Line) where
   rested-stands : (t : State) → 0 < l .shape .length → StateReady l t → StateReady l (rested t)
-  rested-stands t h p = record { ringed = length-replicate (length (t .rings)) zero-float ∙ p .ringed; within = h; waits = h }
+  rested-stands t h p =
+      record { ringed = length-replicate (length (t .rings)) zero-float ∙ p .ringed; within = h; waits = h }
 
-  pub left-by-stands : 0 < l .shape .length → (t : State) (es : Events) → StateReady l t → StateReady l (leftBy (setupIn l) t es)
+  pub left-by-stands : 0 < l .shape .length → (t : State) (es : Events) → StateReady l t
+      → StateReady l (leftBy (setupIn l) t es)
   left-by-stands h t [] p = p
-  left-by-stands h t (feed s f ∷ es) p = left-by-stands h (stepped (setupIn l) t f) es (step-fits (setupIn l) (l .shape .speakers) t f p)
+  left-by-stands h t (feed s f ∷ es) p =
+      left-by-stands h (stepped (setupIn l) t f) es (step-fits (setupIn l) (l .shape .speakers) t f p)
   left-by-stands h t (restart ∷ es) p = left-by-stands h (rested t) es (rested-stands t h p)

@@ -1,4 +1,5 @@
--- Laws that crates above cite: of events one after another, of what is heard of them, and of what a call hands back. Then those of this crate's loops, and that no two answers meet one promise.
+-- Laws that crates above cite: of events one after another, of what is heard of them, and of what a call hands back.
+-- Then those of this crate's loops, and that no two answers meet one promise.
 mod Blocks
 mod Gathering
 mod Ears

@@ -4,4 +4,8 @@ use Rattle.lists.proofs.Determined.{determined-by}
 use Rattle.replay.proofs.replay
 
 replay-unique : AllowsOneAnswer replay.ended replay.Reads.Learnt
-replay-unique κs a = determined-by (λ z h i. (h .bits i .answer, (_, (_, (_, (_, (_, (_, (_, (_, (_, (_, (h .bits i .rings, (_, (h .bits i .ears, _)))))))))))))))
+replay-unique κs a = determined-by
+    (λ z h i. (
+      h .bits i .answer,
+      (_, (_, (_, (_, (_, (_, (_, (_, (_, (_, (h .bits i .rings, (_, (h .bits i .ears, _))))))))))))),
+    ))

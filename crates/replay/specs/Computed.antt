@@ -1,4 +1,5 @@
--- What the functions under `replay` ask and leave. Definitions only; they speak of the program, and nobody has to believe them: the law `accepted-computed` (proofs/Answering.antt) ties them to the promise.
+-- What the functions under `replay` ask and leave. Definitions only; they speak of the program, and nobody has to
+-- believe them: the law `accepted-computed` (proofs/Answering.antt) ties them to the promise.
 use mathlib.Core.Path.{_≡_}
 use Prim.Native.Nat.{ℕ, _+_, _*_, _≤_, _<_, _^_, _-_}
 use mathlib.Core.Bool.{Bool, false, not, _||_, cond, true}
@@ -35,7 +36,17 @@ use Rattle.replay.specs.declared.play.Turned.{Turned}
 -- a line, in the order of the code
 abbrev pub lineOf : Shape → ℕ → ℕ → List ℕ → List Float → List Float → List ℕ → List Float → ℕ → Line
 lineOf shape frames stride stamps inputs weights rows taps earStride =
-    record { shape = shape; frames = frames; stride = stride; stamps = stamps; inputs = inputs; weights = weights; rows = rows; taps = taps; earStride = earStride }
+    record {
+      shape = shape;
+      frames = frames;
+      stride = stride;
+      stamps = stamps;
+      inputs = inputs;
+      weights = weights;
+      rows = rows;
+      taps = taps;
+      earStride = earStride;
+    }
 
 abbrev pub stateWith : Desk → List Float → State
 stateWith d rings = record { rings = rings; desk = d }
@@ -47,7 +58,8 @@ placesOf channels = cond (leb channels 16) (channels * 64) 0
 
 abbrev pub planIn : Expected → ℕ → ℕ → List ℕ → ℕ → ℕ → ℕ → ℕ → Planned
 planIn x frames stride stamps channels inputs earStride ears =
-    cond (blockUnfit (length stamps) 1 inputs channels stride frames || not (eqb ears (2 * earStride))) (unplannedOf x) (planOf x (take frames stamps) earStride)
+    cond (blockUnfit (length stamps) 1 inputs channels stride frames || not (eqb ears (2 * earStride))) (unplannedOf x)
+    (planOf x (take frames stamps) earStride)
 
 abbrev pub picked : ℕ → Bool → ℕ
 picked judged fits = cond (eqb judged 2) 2 (cond (eqb judged 4) 4 (cond fits judged 5))
@@ -110,11 +122,13 @@ filledBy (Ahead d) block k f q = withFrame block 64 k q
 filledBy Jump block k f q = block
 filledBy Late block k f q = block
 
-pub record TakesFrame (stamps : List ℕ) (channels stride : ℕ) (inputs : List Float) (g : Gathered) (block : List Float) (r : Gathered) (block₁ : List Float) : Type 0 where
+pub record TakesFrame (stamps : List ℕ) (channels stride : ℕ) (inputs : List Float) (g : Gathered) (block : List Float)
+    (r : Gathered) (block₁ : List Float) : Type 0 where
   pub below : stampOf (g .expected) < 2 ^ 32
   pub stamp : getD stamps (g .at) 0 < 2 ^ 32
   pub taken : r ≡ takenBy (comingOf (g .expected) (getD stamps (g .at) 0)) g (getD stamps (g .at) 0)
-  pub filled : block₁ ≡ filledBy (comingOf (g .expected) (getD stamps (g .at) 0)) block (g .count) (frameAt inputs stride channels (g .at)) (quiet channels)
+  pub filled : block₁ ≡ filledBy (comingOf (g .expected) (getD stamps (g .at) 0)) block (g .count)
+      (frameAt inputs stride channels (g .at)) (quiet channels)
 
 -- ---- gathering: a block
 
@@ -133,10 +147,12 @@ abbrev pub eventsFrom : List (Recorded (List Float)) → ℕ → Expected → �
 eventsFrom rs channels x k = eventsOf (quiet channels) x (drop k rs)
 
 -- the frames in the block, a reset if there is one, and what is left of the recording are what the recording does
-pub record Gathers (rs : List (Recorded (List Float))) (channels : ℕ) (x : Expected) (at frames : ℕ) (r : Gathered) (block : List Float) : Type 0 where
+pub record Gathers (rs : List (Recorded (List Float))) (channels : ℕ) (x : Expected) (at frames : ℕ) (r : Gathered)
+    (block : List Float) : Type 0 where
   pub stamps : List ℕ
   pub as-many : length stamps ≡ r .count
-  pub split : eventsFrom rs channels x at ≡ feeds stamps (framesOf block 64 channels (r .count)) ++ (restarting (r .restart) ++ eventsFrom rs channels (r .expected) (r .at))
+  pub split : eventsFrom rs channels x at ≡ feeds stamps (framesOf block 64 channels (r .count))
+      ++ (restarting (r .restart) ++ eventsFrom rs channels (r .expected) (r .at))
   pub few : r .count ≤ 64
   pub on : at ≤ r .at
   pub within : r .at ≤ frames
@@ -151,7 +167,16 @@ startOf d x = record { desk = d; expected = x; at = 0; done = 0; unsettled = 0 }
 
 abbrev pub answeredOf : Planned → Turned → Replayed
 answeredOf plan last =
-    record { refusal = 0; samples = plan .out; unsettled = last .unsettled; late = plan .late; silent = plan .silent; resets = plan .resets; desk = last .desk; expected = plan .expected }
+    record {
+      refusal = 0;
+      samples = plan .out;
+      unsettled = last .unsettled;
+      late = plan .late;
+      silent = plan .silent;
+      resets = plan .resets;
+      desk = last .desk;
+      expected = plan .expected;
+    }
 
 -- what the recording does from frame k on
 abbrev pub eventsAt : Line → Expected → ℕ → List (Event (List Float))
@@ -173,7 +198,8 @@ pub record Room (l : Line) (p : Turned) : Type 0 where
   pub few : p .unsettled ≤ p .done
 
 -- from one place to another: the events between them are played
-pub record Turns (l : Line) (p : Turned) (rings ears : List Float) (r : Turned) (rings₁ ears₁ : List Float) : Type 0 where
+pub record Turns (l : Line) (p : Turned) (rings ears : List Float) (r : Turned) (rings₁ ears₁ : List Float) : Type
+    0 where
   pub gone : List (Event (List Float))
   pub split : eventsAt l (p .expected) (p .at) ≡ gone ++ eventsAt l (r .expected) (r .at)
   pub leaves : stateWith (r .desk) rings₁ ≡ leftBy (setupIn l) (stateWith (p .desk) rings) gone
@@ -186,6 +212,7 @@ pub record Turns (l : Line) (p : Turned) (rings ears : List Float) (r : Turned) 
 abbrev pub leftIn : Line → Turned → ℕ
 leftIn l p = length (eventsAt l (p .expected) (p .at)) + (l .frames - p .at)
 
-pub record Turn (l : Line) (p : Turned) (rings ears : List Float) (r : Turned) (rings₁ ears₁ : List Float) : Type 0 where
+pub record Turn (l : Line) (p : Turned) (rings ears : List Float) (r : Turned) (rings₁ ears₁ : List Float) : Type
+    0 where
   pub turns : Turns l p rings ears r rings₁ ears₁
   pub moves : p .at < l .frames → leftIn l r < leftIn l p

@@ -1,5 +1,7 @@
--- What is heard of events, and what they leave (document 02, E5: "Demand 3 holds for the frames as fed, between resets"). Definitions only, in the words of `hrtf_history` and `hrtf_rings`: silence that was put in is a
--- frame like any other, and a restart leaves what a reset of the convolver leaves. A past is the list of the signals of the frames fed since the last restart, the newest first.
+-- What is heard of events, and what they leave (document 02, E5: "Demand 3 holds for the frames as fed, between
+-- resets"). Definitions only, in the words of `hrtf_history` and `hrtf_rings`: silence that was put in is a frame like
+-- any other, and a restart leaves what a reset of the convolver leaves. A past is the list of the signals of the frames
+-- fed since the last restart, the newest first.
 use Prim.Native.Nat.{ℕ}
 use mathlib.Core.Bool.{Bool}
 use mathlib.Core.List.{List, [], _∷_}
@@ -22,7 +24,8 @@ heardBy u past (restart ∷ es) = heardBy u [] es
 -- whether each of them is unsettled, `go` frames having been to go before the first of the past, and how many are
 abbrev pub unsettledEachBy : Setup → ℕ → List (List Float) → List (Event (List Float)) → List Bool
 unsettledEachBy u go past [] = []
-unsettledEachBy u go past (feed s f ∷ es) = unsettled u go (signals u f ∷ past) ∷ unsettledEachBy u go (signals u f ∷ past) es
+unsettledEachBy u go past (feed s f ∷ es) =
+    unsettled u go (signals u f ∷ past) ∷ unsettledEachBy u go (signals u f ∷ past) es
 unsettledEachBy u go past (restart ∷ es) = unsettledEachBy u 0 [] es
 
 abbrev pub unsettledBy : Setup → ℕ → List (List Float) → List (Event (List Float)) → ℕ

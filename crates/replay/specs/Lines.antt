@@ -1,5 +1,6 @@
--- A recorded line as it is lent to one call, with all that stays the same through it; what is recorded there, and what it does (document 02, E5: "The line recorder keeps 5.1 frames, each with a 32-bit stamp").
--- Definitions only. The stamps are one plane, at the stride of the input planes; the ear planes have a stride of their own.
+-- A recorded line as it is lent to one call, with all that stays the same through it; what is recorded there, and what
+-- it does (document 02, E5: "The line recorder keeps 5.1 frames, each with a 32-bit stamp"). Definitions only. The
+-- stamps are one plane, at the stride of the input planes; the ear planes have a stride of their own.
 use Prim.Native.Nat.{ℕ}
 use mathlib.Core.List.{List}
 use lib.ListN.{getD, take}
@@ -33,7 +34,8 @@ stampsIn l = take (l .frames) (l .stamps)
 
 -- recorded frame k of stamps and input planes: its stamp, and its samples
 abbrev pub recordedAt : List ℕ → ℕ → ℕ → List Float → ℕ → Recorded (List Float)
-recordedAt stamps channels stride inputs k = record { stamp = getD stamps k 0; frame = frameAt inputs stride channels k }
+recordedAt stamps channels stride inputs k =
+    record { stamp = getD stamps k 0; frame = frameAt inputs stride channels k }
 
 -- the first of them, in their order
 abbrev pub recording : List ℕ → ℕ → ℕ → List Float → ℕ → List (Recorded (List Float))

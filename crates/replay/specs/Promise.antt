@@ -1,5 +1,6 @@
--- Everything that a call of `replay` hands back (document 02, E5). "Counts of late frames, silent frames and resets equal those of a plain definition over the recorded list. Ear planes shorter than the frames
--- that come out are refused with 5 before anything is played." Definitions only.
+-- Everything that a call of `replay` hands back (document 02, E5). "Counts of late frames, silent frames and resets
+-- equal those of a plain definition over the recorded list. Ear planes shorter than the frames that come out are
+-- refused with 5 before anything is played." Definitions only.
 use Prim.Native.Nat.{ℕ, _*_}
 use mathlib.Core.Path.{_≡_}
 use mathlib.Core.Bool.{Bool, not, _||_}
@@ -24,7 +25,8 @@ use Rattle.replay.specs.Heard.{heardBy, unsettledBy, afterBy, afterEvent
 
 -- ---- refusals: 2, 4, 5, 7 and 8
 
--- 5: the stamps are one plane, at the stride of the input planes; the ear planes are two, at a stride of their own, and it has room for the frames that come out
+-- 5: the stamps are one plane, at the stride of the input planes; the ear planes are two, at a stride of their own, and
+-- it has room for the frames that come out
 abbrev pub recordUnfit : Line → Expected → ℕ → Bool
 recordUnfit l x ears =
     blockUnfit (length (l .stamps)) 1 (length (l .inputs)) (l .shape .channels) (l .stride) (l .frames)
@@ -34,7 +36,8 @@ recordUnfit l x ears =
 abbrev pub listsUnfit : Line → ℕ → Bool
 listsUnfit l rings =
     not (eqb rings (l .shape .speakers * l .shape .length))
-    || (not (eqb (length (l .weights)) (l .shape .speakers * l .shape .channels)) || not (eqb (length (l .taps)) (2 * l .shape .rows * l .shape .length)))
+    || (not (eqb (length (l .weights)) (l .shape .speakers * l .shape .channels))
+    || not (eqb (length (l .taps)) (2 * l .shape .rows * l .shape .length)))
 
 abbrev pub replayChecks : Line → Expected → State → ℕ → List Check
 replayChecks l x t ears =
@@ -56,14 +59,17 @@ pub record ReplayOutcome : Type 0 where
 
 -- "A refusal returns its number, counts of 0, .. and the state given in"
 abbrev pub refusedOf : ℕ → Desk → Expected → Replayed
-refusedOf n d x = record { refusal = n; samples = 0; unsettled = 0; late = 0; silent = 0; resets = 0; desk = d; expected = x }
+refusedOf n d x =
+    record { refusal = n; samples = 0; unsettled = 0; late = 0; silent = 0; resets = 0; desk = d; expected = x }
 
 -- "lent memory stays the same"
 abbrev pub refused : ℕ → Expected → State → List Float → ReplayOutcome
 refused n x t ears = record { answer = refusedOf n (t .desk) x; rings = t .rings; ears = ears }
 
--- the counts of frames: those of the definition over the recorded stamps; the ears: document 01's sums over the signals of the frames as fed, newest first, and then those that the rings held, whatever these
--- are, up to the first restart; the unsettled count: over the same frames, from the frames to go that were given, none being to go after a restart; the rings and the desk: what the events leave
+-- the counts of frames: those of the definition over the recorded stamps; the ears: document 01's sums over the signals
+-- of the frames as fed, newest first, and then those that the rings held, whatever these are, up to the first restart;
+-- the unsettled count: over the same frames, from the frames to go that were given, none being to go after a restart;
+-- the rings and the desk: what the events leave
 abbrev pub accepted : Line → Expected → State → List Float → ReplayOutcome
 accepted l x t ears =
     record {
@@ -89,7 +95,9 @@ outcome l x t ears = answered (refusalIn l x t (length ears)) (accepted l x t ea
 abbrev pub stateAfter : ReplayOutcome → State
 stateAfter o = record { rings = o .rings; desk = o .answer .desk }
 
--- beside the equation: what stands for a past stands, after an accepted replay, for the frames fed since the last restart, and for that past before them where there was none
+-- beside the equation: what stands for a past stands, after an accepted replay, for the frames fed since the last
+-- restart, and for that past before them where there was none
 pub record Replays (l : Line) (x : Expected) (t : State) (ears : List Float) (o : ReplayOutcome) : Type 0 where
   pub bits : o ≡ outcome l x t ears
-  pub words : (past : List (List Float)) → Represents (setupIn l) past t → refusalIn l x t (length ears) ≡ 0 → Represents (setupIn l) (afterBy (setupIn l) past (eventsIn l x)) (stateAfter o)
+  pub words : (past : List (List Float)) → Represents (setupIn l) past t → refusalIn l x t (length ears) ≡ 0
+      → Represents (setupIn l) (afterBy (setupIn l) past (eventsIn l x)) (stateAfter o)

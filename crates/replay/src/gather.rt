@@ -35,7 +35,8 @@ fn put_frame(
     stride: usize,
     frame: usize,
 )
-    ensures { λ _. ⌜ now (block .exit) ≡ withFrame (now (block .entry)) 64 place (frameAt (now (inputs .entry)) stride channels frame) ⌝ }
+    ensures { λ _. ⌜ now (block .exit) ≡ withFrame (now (block .entry)) 64 place
+        (frameAt (now (inputs .entry)) stride channels frame) ⌝ }
 {
     let mut p = 0;
     while p < channels {
@@ -66,7 +67,8 @@ fn take_one(
     block: &mut [f32],
 ) -> Gathered
     requires { ⌜ («so_far» .count < 64) × («so_far» .at < length (now stamps)) ⌝ }
-    ensures { λ r. ⌜ TakesFrame (now (stamps .entry)) channels stride (now (inputs .entry)) «so_far» (now (block .entry)) r (now (block .exit)) ⌝ }
+    ensures { λ r. ⌜ TakesFrame (now (stamps .entry)) channels stride (now (inputs .entry)) «so_far»
+        (now (block .entry)) r (now (block .exit)) ⌝ }
 {
     let at = so_far.at;
     let count = so_far.count;
@@ -134,7 +136,8 @@ pub(crate) fn gather(
     block: &mut [f32],
 ) -> Gathered
     requires { ⌜ (at ≤ frames) × ((frames ≤ length (now stamps)) × (length (now block) ≡ channels * 64)) ⌝ }
-    ensures { λ r. ⌜ Gathers (recording (now (stamps .entry)) channels stride (now (inputs .entry)) frames) channels expected at frames r (now (block .exit)) ⌝ }
+    ensures { λ r. ⌜ Gathers (recording (now (stamps .entry)) channels stride (now (inputs .entry)) frames) channels
+        expected at frames r (now (block .exit)) ⌝ }
 {
     let mut so_far = Gathered {
         count: 0,

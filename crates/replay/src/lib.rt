@@ -23,8 +23,9 @@ ghost use Rattle.replay.specs.Computed.{lineOf, stateWith, placesOf, pla
 mod gather;
 mod play;
 
-// What a replay answers: a refusal, what was expected and the desk; or 0 with the frames that came out, how many of them
-// are unsettled, how many recorded frames were late, how many silent ones were put in, and how many resets there were.
+// What a replay answers: a refusal, what was expected and the desk; or 0 with the frames that came out, how
+// many of them are unsettled, how many recorded frames were late, how many silent ones were put in, and how
+// many resets there were.
 pub struct Replayed {
     pub refusal: u8,
     pub samples: usize,
@@ -137,10 +138,15 @@ fn replay_in(
     block: &mut [f32],
     block_ears: &mut [f32],
 ) -> Replayed
-    requires { ⌜ (ListN.length (now block) ≡ placesOf (shape .channels)) × (ListN.length (now «block_ears») ≡ 2 * 64) ⌝ }
-    requires { ⌜ plan ≡ planIn expected frames stride (now stamps) (shape .channels) (ListN.length (now inputs)) «ear_stride» (ListN.length (now ears)) ⌝ }
-    ensures { λ r. ⌜ Replays (lineOf shape frames stride (now (stamps .entry)) (now (inputs .entry)) (now (weights .entry)) (now («row_of» .entry)) (now (taps .entry)) «ear_stride»)
-        expected (stateWith desk (now (rings .entry))) (now (ears .entry)) (record { answer = r; rings = now (rings .exit); ears = now (ears .exit) }) ⌝ }
+    requires { ⌜ (ListN.length (now block) ≡ placesOf (shape .channels))
+        × (ListN.length (now «block_ears») ≡ 2 * 64) ⌝ }
+    requires { ⌜ plan ≡ planIn expected frames stride (now stamps) (shape .channels) (ListN.length (now inputs))
+        «ear_stride» (ListN.length (now ears)) ⌝ }
+    ensures { λ r.
+        ⌜ Replays (lineOf shape frames stride (now (stamps .entry)) (now (inputs .entry)) (now (weights .entry))
+        (now («row_of» .entry)) (now (taps .entry)) «ear_stride»)
+        expected (stateWith desk (now (rings .entry))) (now (ears .entry))
+        (record { answer = r; rings = now (rings .exit); ears = now (ears .exit) }) ⌝ }
 {
     let judged = hrtf_checks::refusal(
         desk,
@@ -194,7 +200,17 @@ pub fn replay(
     ears: &mut [f32],
 ) -> Replayed
     ensures { λ r. ⌜ Replays
-        (record { shape = shape; frames = frames; stride = stride; stamps = now (stamps .entry); inputs = now (inputs .entry); weights = now (weights .entry); rows = now («row_of» .entry); taps = now (taps .entry); earStride = «ear_stride» })
+        (record {
+          shape = shape;
+          frames = frames;
+          stride = stride;
+          stamps = now (stamps .entry);
+          inputs = now (inputs .entry);
+          weights = now (weights .entry);
+          rows = now («row_of» .entry);
+          taps = now (taps .entry);
+          earStride = «ear_stride»;
+        })
         expected
         (record { rings = now (rings .entry); desk = desk })
         (now (ears .entry))

@@ -11,7 +11,8 @@ use stamps::Expected;
 ghost use mathlib.Core.Path.{_≡_};
 ghost use Prim.Native.Nat.{_+_, _^_, _<_};
 ghost use Rattle.planes.specs.Planes.{frameAt, framesOf, withFrame, withFrames};
-ghost use Rattle.replay.specs.Computed.{lineOf, stateWith, Good, Kept, startOf, Resting, restedIf, Room, Turns, Turn};
+ghost use Rattle.replay.specs.Computed.{lineOf, stateWith, Good, Kept, startOf, Resting, restedIf, Room, Turns};
+ghost use Rattle.replay.specs.Computed.{Turn};
 
 // How far a recording is played: the desk, what is expected, the recorded frame that comes next, the frames that came
 // out, and how many of them are unsettled.
@@ -38,7 +39,8 @@ pub(crate) fn start(desk: Desk, expected: Expected) -> Turned
 
 // One frame of the block's ears to a place of the ear planes.
 fn put_pair(ears: &mut [f32], ear_stride: usize, place: usize, block_ears: &[f32], frame: usize)
-    ensures { λ _. ⌜ now (ears .exit) ≡ withFrame (now (ears .entry)) «ear_stride» place (frameAt (now («block_ears» .entry)) 64 2 frame) ⌝ }
+    ensures { λ _. ⌜ now (ears .exit) ≡ withFrame (now (ears .entry)) «ear_stride» place
+        (frameAt (now («block_ears» .entry)) 64 2 frame) ⌝ }
 {
     let left = planes::sample(block_ears, PLACES, 0, frame);
     let right = planes::sample(block_ears, PLACES, 1, frame);
@@ -49,7 +51,8 @@ fn put_pair(ears: &mut [f32], ear_stride: usize, place: usize, block_ears: &[f32
 // The block's ears, behind those that stand in the ear planes.
 fn put_ears(ears: &mut [f32], ear_stride: usize, done: usize, block_ears: &[f32], count: usize)
     requires { ⌜ done + count < 2 ^ 64 ⌝ }
-    ensures { λ _. ⌜ now (ears .exit) ≡ withFrames (now (ears .entry)) «ear_stride» done (framesOf (now («block_ears» .entry)) 64 2 count) ⌝ }
+    ensures { λ _. ⌜ now (ears .exit) ≡ withFrames (now (ears .entry)) «ear_stride» done
+        (framesOf (now («block_ears» .entry)) 64 2 count) ⌝ }
 {
     let mut n = 0;
     while n < count {
@@ -87,10 +90,15 @@ fn turn(
     block: &mut [f32],
     block_ears: &mut [f32],
 ) -> Turned
-    requires { ⌜ Good (lineOf shape frames stride (now stamps) (now inputs) (now weights) (now «row_of») (now taps) «ear_stride») ⌝ }
-    requires { ⌜ Kept (lineOf shape frames stride (now stamps) (now inputs) (now weights) (now «row_of») (now taps) «ear_stride») (stateWith («so_far» .desk) (now rings)) (now block) (now «block_ears») ⌝ }
-    requires { ⌜ Room (lineOf shape frames stride (now stamps) (now inputs) (now weights) (now «row_of») (now taps) «ear_stride») «so_far» ⌝ }
-    ensures { λ r. ⌜ Turn (lineOf shape frames stride (now (stamps .entry)) (now (inputs .entry)) (now (weights .entry)) (now («row_of» .entry)) (now (taps .entry)) «ear_stride»)
+    requires { ⌜ Good (lineOf shape frames stride (now stamps) (now inputs) (now weights) (now «row_of»)
+        (now taps) «ear_stride») ⌝ }
+    requires { ⌜ Kept (lineOf shape frames stride (now stamps) (now inputs) (now weights) (now «row_of»)
+        (now taps) «ear_stride») (stateWith («so_far» .desk) (now rings)) (now block) (now «block_ears») ⌝ }
+    requires { ⌜ Room (lineOf shape frames stride (now stamps) (now inputs) (now weights) (now «row_of»)
+        (now taps) «ear_stride») «so_far» ⌝ }
+    ensures { λ r.
+        ⌜ Turn (lineOf shape frames stride (now (stamps .entry)) (now (inputs .entry)) (now (weights .entry))
+        (now («row_of» .entry)) (now (taps .entry)) «ear_stride»)
         «so_far» (now (rings .entry)) (now (ears .entry)) r (now (rings .exit)) (now (ears .exit)) ⌝ }
 {
     let desk = so_far.desk;
@@ -149,10 +157,15 @@ pub(crate) fn play(
     block: &mut [f32],
     block_ears: &mut [f32],
 ) -> Turned
-    requires { ⌜ Good (lineOf shape frames stride (now stamps) (now inputs) (now weights) (now «row_of») (now taps) «ear_stride») ⌝ }
-    requires { ⌜ Kept (lineOf shape frames stride (now stamps) (now inputs) (now weights) (now «row_of») (now taps) «ear_stride») (stateWith (first .desk) (now rings)) (now block) (now «block_ears») ⌝ }
-    requires { ⌜ Room (lineOf shape frames stride (now stamps) (now inputs) (now weights) (now «row_of») (now taps) «ear_stride») first ⌝ }
-    ensures { λ r. ⌜ Turns (lineOf shape frames stride (now (stamps .entry)) (now (inputs .entry)) (now (weights .entry)) (now («row_of» .entry)) (now (taps .entry)) «ear_stride»)
+    requires { ⌜ Good (lineOf shape frames stride (now stamps) (now inputs) (now weights) (now «row_of»)
+        (now taps) «ear_stride») ⌝ }
+    requires { ⌜ Kept (lineOf shape frames stride (now stamps) (now inputs) (now weights) (now «row_of»)
+        (now taps) «ear_stride») (stateWith (first .desk) (now rings)) (now block) (now «block_ears») ⌝ }
+    requires { ⌜ Room (lineOf shape frames stride (now stamps) (now inputs) (now weights) (now «row_of»)
+        (now taps) «ear_stride») first ⌝ }
+    ensures { λ r.
+        ⌜ Turns (lineOf shape frames stride (now (stamps .entry)) (now (inputs .entry)) (now (weights .entry))
+        (now («row_of» .entry)) (now (taps .entry)) «ear_stride»)
         first (now (rings .entry)) (now (ears .entry)) r (now (rings .exit)) (now (ears .exit)) ⌝ }
     ensures over { λ r. ⌜ r .at ≡ frames ⌝ }
 {

@@ -1,5 +1,6 @@
--- The worked recording: it rolls over, has a damaged frame, two missing ones, a late one and a gap that resets. By computing the definitions; whoever meets the promise answers this. And the premises of demand 3 can
--- be met: the recording from a reset in four calls, the second refused and the third of no frames. Assumes nothing.
+-- The worked recording: it rolls over, has a damaged frame, two missing ones, a late one and a gap that resets. By
+-- computing the definitions; whoever meets the promise answers this. And the premises of demand 3 can be met: the
+-- recording from a reset in four calls, the second refused and the third of no frames. Assumes nothing.
 use mathlib.Core.Path.{_≡_, refl, ap, _∙_}
 use mathlib.Core.List.{List, [], _∷_, flatten}
 use Prim.Native.Nat.{ℕ, _*_}
@@ -35,7 +36,8 @@ use Rattle.replays.specs.Calls.{ReplayCall, Place, Alike, takenAll, coun
 use Rattle.replays.specs.Demand.{Replay, SameReplay}
 use Rattle.replays.proofs.Demand.{replay-demand-3}
 
--- a line with the drill's filters, one channel and one speaker, L = 2: so many frames, and so much room in the ear planes
+-- a line with the drill's filters, one channel and one speaker, L = 2: so many frames, and so much room in the ear
+-- planes
 abbrev pub line : ℕ → List ℕ → List Float → ℕ → Line
 line frames stamps samples room =
     record {
@@ -65,7 +67,8 @@ pair l r = l ∷ r ∷ []
 abbrev pub table : List (List Float)
 table =
     pair one-float zero-float ∷ pair nan nan ∷ pair nan nan ∷ pair zero-float zero-float ∷ pair zero-float zero-float
-    ∷ pair (float (pos 2)) zero-float ∷ pair (float (pos 5)) (float (pos 2)) ∷ pair (float (pos 8)) zero-float ∷ pair (float (pos 5)) (float (pos 8)) ∷ []
+    ∷ pair (float (pos 2)) zero-float ∷ pair (float (pos 5)) (float (pos 2)) ∷ pair (float (pos 8)) zero-float
+    ∷ pair (float (pos 5)) (float (pos 8)) ∷ []
 
 -- room for nine is accepted, and for eight is not
 pub nine-fit : refusalIn (whole 9) First (fresh drill) 18 ≡ 0
@@ -77,7 +80,8 @@ unfolding refusalIn comingBy ofInt
 eight-short = refl
 
 heard-is : heardBy drill [] (eventsIn (whole 9) First) ≡ table
-unfolding comingBy mixed earOf inverseRoot rootOf rootUnits wholeRoot rootIn rounded add mul div ieee.sum round size span climb units odd ofInt
+unfolding comingBy mixed earOf inverseRoot rootOf rootUnits wholeRoot rootIn rounded add mul div ieee.sum round size
+    span climb units odd ofInt
 heard-is = refl
 
 unsettled-is : unsettledBy drill 0 [] (eventsIn (whole 9) First) ≡ 2
@@ -99,7 +103,8 @@ module _ (o : ReplayOutcome) (p : Replays (whole 9) First (fresh drill) (planes 
 
   pub unsettled : o .answer .unsettled ≡ 2
   unsettled =
-      ap (λ (q : ReplayOutcome). q .answer .unsettled) (p .bits ∙ outcome-computed (whole 9) First (fresh drill) (planes 9) nine-fit)
+      ap (λ (q : ReplayOutcome). q .answer .unsettled)
+      (p .bits ∙ outcome-computed (whole 9) First (fresh drill) (planes 9) nine-fit)
       ∙ counted-by-told drill [] (fresh drill) starts (eventsIn (whole 9) First)
       ∙ unsettled-is
 
@@ -107,10 +112,14 @@ module _ (o : ReplayOutcome) (p : Replays (whole 9) First (fresh drill) (planes 
   pub left : (o .answer .refusal ≡ 0) × ((o .rings ≡ float (pos 8) ∷ one-float ∷ []) × (o .answer .desk ≡ zeroed))
   unfolding comingBy mixed rounded add mul ieee.sum round size span climb units odd ofInt
   left =
-      let made = p .bits ∙ outcome-computed (whole 9) First (fresh drill) (planes 9) nine-fit in
-      (ap (λ (q : ReplayOutcome). q .answer .refusal) made, (ap (λ (q : ReplayOutcome). q .rings) made, ap (λ (q : ReplayOutcome). q .answer .desk) made))
+      let made = p .bits ∙ outcome-computed (whole 9) First (fresh drill) (planes 9) nine-fit in (
+        ap (λ (q : ReplayOutcome). q .answer .refusal) made,
+        (ap (λ (q : ReplayOutcome). q .rings) made, ap (λ (q : ReplayOutcome). q .answer .desk) made),
+      )
 
-  pub told : (o .answer .samples ≡ 9) × ((o .answer .late ≡ 1) × ((o .answer .silent ≡ 2) × ((o .answer .resets ≡ 1) × (o .answer .expected ≡ Stamp 5002))))
+  pub told : (o .answer .samples ≡ 9)
+      × ((o .answer .late ≡ 1)
+      × ((o .answer .silent ≡ 2) × ((o .answer .resets ≡ 1) × (o .answer .expected ≡ Stamp 5002))))
   unfolding comingBy
   told =
       let made = p .bits ∙ outcome-computed (whole 9) First (fresh drill) (planes 9) nine-fit in (
@@ -124,7 +133,8 @@ module _ (o : ReplayOutcome) (p : Replays (whole 9) First (fresh drill) (planes 
         ),
       )
 
--- ---- the recording from a reset in four calls: two frames, the second damaged; planes of another length than they should have; no frame; and the other six
+-- ---- the recording from a reset in four calls: two frames, the second damaged; planes of another length than they
+-- should have; no frame; and the other six
 
 abbrev pub place : Place
 place = record { expected = First; state = fresh drill }
@@ -134,22 +144,37 @@ calls =
     record { line = line 2 (4294967294 ∷ 4294967295 ∷ []) (one-float ∷ nan ∷ []) 2; ears = planes 2 }
     ∷ record { line = whole 8; ears = planes 7 }
     ∷ record { line = line 0 [] [] 0; ears = [] }
-    ∷ record { line = line 6 (0 ∷ 3 ∷ 2 ∷ 4 ∷ 5000 ∷ 5001 ∷ []) (zero-float ∷ float (pos 2) ∷ float (pos 9) ∷ float (pos 4) ∷ float (pos 8) ∷ one-float ∷ []) 7; ears = planes 7 } ∷ []
+    ∷ record {
+      line = line 6 (0 ∷ 3 ∷ 2 ∷ 4 ∷ 5000 ∷ 5001 ∷ [])
+          (zero-float ∷ float (pos 2) ∷ float (pos 9) ∷ float (pos 4) ∷ float (pos 8) ∷ one-float ∷ []) 7;
+      ears = planes 7;
+    } ∷ []
 
 abbrev once : List ReplayCall
 once = record { line = whole 9; ears = planes 9 } ∷ []
 
 alike : Alike drill place calls
 unfolding refusalIn ofInt
-alike = (λ e. same-filters drill, (λ e. absurd (suc-ne-zero 4 e), (λ e. same-filters drill, (λ e. same-filters drill, tt))))
+alike = (
+  λ e. same-filters drill,
+  (λ e. absurd (suc-ne-zero 4 e), (λ e. same-filters drill, (λ e. same-filters drill, tt))),
+)
 
 -- of any desk and any two cells
-rested : Resets (record { position = 7; «to_go» = 7 }) 1 2 (nan ∷ nan ∷ []) (record { answer = record { refusal = 0; desk = zeroed }; rings = zero-float ∷ zero-float ∷ [] })
+rested : Resets (record { position = 7; «to_go» = 7 }) 1 2 (nan ∷ nan ∷ [])
+    (record { answer = record { refusal = 0; desk = zeroed }; rings = zero-float ∷ zero-float ∷ [] })
 unfolding resetRefusal
-rested = reset-accepted (record { position = 7; «to_go» = 7 }) 1 2 (nan ∷ nan ∷ []) (zero-float ∷ zero-float ∷ []) refl refl
+rested = reset-accepted (record { position = 7; «to_go» = 7 }) 1 2 (nan ∷ nan ∷ []) (zero-float ∷ zero-float ∷ []) refl
+    refl
 
 pub replay : Replay drill place calls
-replay = record { desk = record { position = 7; «to_go» = 7 }; rings = nan ∷ nan ∷ []; reset = rested; finite = refl; alike = alike }
+replay = record {
+  desk = record { position = 7; «to_go» = 7 };
+  rings = nan ∷ nan ∷ [];
+  reset = rested;
+  finite = refl;
+  alike = alike;
+}
 
 -- whether the third and fourth call are accepted hangs on the frames to go that the first leaves, so each is computed
 same-list : takenAll place calls ≡ takenAll place once
@@ -159,7 +184,8 @@ same-list = refl
 in-four : SameReplay place calls once
 in-four = replay-demand-3 .cut drill place calls once alike (λ e. same-filters drill, tt) same-list
 
--- the second and the third call count nothing and leave the frame to go, so that the first frame of the fourth is unsettled
+-- the second and the third call count nothing and leave the frame to go, so that the first frame of the fourth is
+-- unsettled
 each-unsettled : counts (λ (r : Replayed). r .unsettled) place calls ≡ 1 ∷ 0 ∷ 0 ∷ 1 ∷ []
 unfolding refusalIn outcome comingBy flatten mixed rounded add mul ieee.sum round size span climb units odd ofInt
 each-unsettled = refl

@@ -1,4 +1,5 @@
--- A replay in many calls of `replay::replay`, what is expected, the rings and the desk passed on untouched. A call may be refused; it then takes nothing and leaves all as it was. Definitions only.
+-- A replay in many calls of `replay::replay`, what is expected, the rings and the desk passed on untouched. A call may
+-- be refused; it then takes nothing and leaves all as it was. Definitions only.
 use Prim.Native.Nat.{ℕ}
 use mathlib.Core.Path.{_≡_}
 use mathlib.Core.List.{List, [], _∷_, _++_}
@@ -43,7 +44,8 @@ takenWhere n c = answered n (recordingIn (c .line)) (λ k. [])
 abbrev pub taken : Place → ReplayCall → List (Recorded (List Float))
 taken p c = takenWhere (refusalAt p c) c
 
--- the ear samples of the frames that it says came out, read from the two ear planes as it leaves them: for each frame left, then right
+-- the ear samples of the frames that it says came out, read from the two ear planes as it leaves them: for each frame
+-- left, then right
 abbrev pub sounded : Place → ReplayCall → List (List Float)
 sounded p c = framesOf (outcomeAt p c .ears) (c .line .earStride) 2 (outcomeAt p c .answer .samples)
 

@@ -1,4 +1,5 @@
--- What is put for a segment is what document 02 says of its frames: the panner's gains at the direction that holds, or 0.0 in the planes of the order. Assumes nothing.
+-- What is put for a segment is what document 02 says of its frames: the panner's gains at the direction that holds, or
+-- 0.0 in the planes of the order. Assumes nothing.
 use mathlib.Core.Path.{_≡_, refl, sym, ap, _∙_}
 use mathlib.Core.Bool.{Bool, true, false, cond}
 use mathlib.Core.List.{List}
@@ -29,7 +30,8 @@ module _ (order : ℕ) (h : Held) (S : Speakable order h) (stride from to : ℕ)
   -- at a direction: the panner's gains are those of the command, since nothing of it is refused
   module _ (on : h .speaks ≡ true) (g : CommandGains) (G : Gained (Ambisonic (h .direction) order) Mono g) where
     none : firstOf (commandChecks (Ambisonic (h .direction) order) Mono) ≡ 0
-    none = off-accepts (commandChecks (Ambisonic (h .direction) order) Mono) (S .order-good, (refl, (S .direction-good on, tt)))
+    none = off-accepts (commandChecks (Ambisonic (h .direction) order) Mono)
+        (S .order-good, (refl, (S .direction-good on, tt)))
 
     few : min (channelsOfOrder order) 16 ≡ channelsOfOrder order
     few = let l = few-channels order (S .order-good) .1 in omega (arith, l)
@@ -37,14 +39,20 @@ module _ (order : ℕ) (h : Held) (S : Speakable order h) (stride from to : ℕ)
     voice-on : voiceOf h ≡ speaking (h .direction)
     voice-on = ap (λ (t : Bool). cond t (speaking (h .direction)) nobody) on
 
-    pub speaks-so : pannedPart stride from to (min (g .planes) 16) (g .gains) input ≡ Spoken order h stride from to input
+    pub speaks-so : pannedPart stride from to (min (g .planes) 16) (g .gains) input
+        ≡ Spoken order h stride from to input
     speaks-so =
-        ap (λ (c : CommandGains). pannedPart stride from to (min (c .planes) 16) (c .gains) input) (gained-accepted (Ambisonic (h .direction) order) Mono g G none)
-        ∙ ap (λ (k : ℕ). pannedPart stride from to k (narrowedAll (gainsOf (Ambisonic (h .direction) order) Mono)) input) few
+        ap (λ (c : CommandGains). pannedPart stride from to (min (c .planes) 16) (c .gains) input)
+        (gained-accepted (Ambisonic (h .direction) order) Mono g G none)
+        ∙ ap (λ (k : ℕ). pannedPart stride from to k (narrowedAll (gainsOf (Ambisonic (h .direction) order) Mono))
+        input) few
         ∙ ap (λ (v : Voice). tab from (to - from) (λ n. spoken order v (sampleAt input stride 0 n))) (sym voice-on)
 
   -- nowhere: the planes of the order
-  pub silent-so : h .speaks ≡ false → (k : Counted) → k ≡ countedOrder order → silentPart from to (k .channels) ≡ Spoken order h stride from to input
+  pub silent-so : h .speaks ≡ false → (k : Counted) → k ≡ countedOrder order
+      → silentPart from to (k .channels) ≡ Spoken order h stride from to input
   silent-so off k e =
-      ap (λ (m : ℕ). silentPart from to m) (ap (λ (c : Counted). c .channels) (e ∙ sym (order-counted order false (sym (S .order-good)))))
-      ∙ ap (λ (v : Voice). tab from (to - from) (λ n. spoken order v (sampleAt input stride 0 n))) (sym (ap (λ (t : Bool). cond t (speaking (h .direction)) nobody) off))
+      ap (λ (m : ℕ). silentPart from to m)
+      (ap (λ (c : Counted). c .channels) (e ∙ sym (order-counted order false (sym (S .order-good)))))
+      ∙ ap (λ (v : Voice). tab from (to - from) (λ n. spoken order v (sampleAt input stride 0 n)))
+      (sym (ap (λ (t : Bool). cond t (speaking (h .direction)) nobody) off))

@@ -5,7 +5,8 @@ use Rattle.lists.proofs.Determined.{determined-by}
 use Rattle.script.proofs.render
 
 -- what `render` ensures
-abbrev render-states : States render.ended (λ w κs a. render.clauses (w .𝓤) (w .H) (w .𝓖 .A) (w .𝓜 .mem) (w .𝓡 .run) κs a .ensures tt)
+abbrev render-states : States render.ended
+    (λ w κs a. render.clauses (w .𝓤) (w .H) (w .𝓖 .A) (w .𝓜 .mem) (w .𝓡 .run) κs a .ensures tt)
 render-states = record { claim = _; stated = λ w κs a r e. refl }
 
 -- the answer and what the output planes hold

@@ -1,4 +1,6 @@
--- A worked drill: order 1, a cue at frame 2 in front and one at frame 5 on the left, eight frames from 0 on. Each output by its bits, in one call, in two, and as calls of the panner between the cues; the third order's gains; and the numbers of calls that are refused. Assumes nothing.
+-- A worked drill: order 1, a cue at frame 2 in front and one at frame 5 on the left, eight frames from 0 on. Each
+-- output by its bits, in one call, in two, and as calls of the panner between the cues; the third order's gains; and
+-- the numbers of calls that are refused. Assumes nothing.
 use mathlib.Core.Path.{_≡_, refl, sym, ap, _∙_}
 use mathlib.Core.Bool.{true, false}
 use mathlib.Core.List.{List, [], _∷_, _++_, map}
@@ -9,7 +11,8 @@ use lib.Ieee.{Float, nan, inf, fin, binary32, ofBits, lt, le, eq, ofInt, add, su
 use Rattle.formats.specs.Floats.{zero-float, one-float, minus-one-float, half-float}
 use Rattle.numbers.specs.Computed as Numbers
 use Rattle.series.specs.Angles.{turned}
-use Rattle.angles.specs.Computed.{units as units-of, cut, place, short, times, radians, nesting, nest, rounded, sineAt, cosineAt, computed}
+use Rattle.angles.specs.Computed.{units as units-of, cut, place, short, times, radians, nesting, nest, rounded}
+use Rattle.angles.specs.Computed.{sineAt, cosineAt, computed}
 use Rattle.angles.specs.Limits.{isInside, refusesAngle}
 use Rattle.channel.specs.declared.Layout.the-variants.{Mono, Surround51}
 use Rattle.harmonics.specs.Computed.{sin, cos, wavesOf, upTo}
@@ -35,11 +38,13 @@ silence : ℕ → List Float
 silence n = replicate n zero-float
 
 front : narrowedAll (gainsOf (Ambisonic (at 0 0) 1) Mono) ≡ one-float ∷ zero-float ∷ zero-float ∷ one-float ∷ silence 12
-unfolding silence Numbers.rounded refusesAngle isInside upTo wavesOf sin cos lt le eq computed place cut units-of turned sineAt cosineAt short times radians nesting nest rounded ofInt div neg add sub mul round
+unfolding silence Numbers.rounded refusesAngle isInside upTo wavesOf sin cos lt le eq computed place cut units-of turned
+    sineAt cosineAt short times radians nesting nest rounded ofInt div neg add sub mul round
 front = refl
 
 left : narrowedAll (gainsOf (Ambisonic (at 90 0) 1) Mono) ≡ one-float ∷ one-float ∷ zero-float ∷ zero-float ∷ silence 12
-unfolding silence Numbers.rounded refusesAngle isInside upTo wavesOf sin cos lt le eq computed place cut units-of turned sineAt cosineAt short times radians nesting nest rounded ofInt div neg add sub mul round
+unfolding silence Numbers.rounded refusesAngle isInside upTo wavesOf sin cos lt le eq computed place cut units-of turned
+    sineAt cosineAt short times radians nesting nest rounded ofInt div neg add sub mul round
 left = refl
 
 -- ---- the frames
@@ -73,7 +78,8 @@ expected =
     ∷ []
 
 pub worked : rendered cues 1 0 samples ≡ expected
-unfolding Numbers.rounded refusesAngle isInside upTo wavesOf sin cos lt le eq computed place cut units-of turned sineAt cosineAt short times radians nesting nest rounded ofInt div neg add sub mul round
+unfolding Numbers.rounded refusesAngle isInside upTo wavesOf sin cos lt le eq computed place cut units-of turned sineAt
+    cosineAt short times radians nesting nest rounded ofInt div neg add sub mul round
 worked = refl
 
 -- ---- in one call
@@ -91,7 +97,13 @@ worked-in-one = stretches cues 1 0 in-one ∙ ap (rendered cues 1 0) one-fed ∙
 abbrev in-two : List RenderCall
 in-two =
     record { frames = 3; stride = 3; input = nan ∷ minus-one-float ∷ one-float ∷ []; out = replicate 12 nan }
-    ∷ record { frames = 5; stride = 6; input = minus-two ∷ half-float ∷ four ∷ minus-zero ∷ inf false ∷ one-float ∷ []; out = replicate 24 nan }
+    ∷ record {
+      frames = 5;
+      stride = 6;
+      input = minus-two ∷ half-float ∷ four ∷ minus-zero ∷ inf false ∷ one-float
+          ∷ [];
+      out = replicate 24 nan;
+    }
     ∷ []
 
 both-fed : fedAll cues 1 0 in-two ≡ samples
@@ -101,12 +113,29 @@ both-fed = refl
 pub worked-in-two : soundedAll cues 1 0 in-two ≡ expected
 worked-in-two = stretches cues 1 0 in-two ∙ ap (rendered cues 1 0) both-fed ∙ worked
 
--- ---- as separate calls: nobody for two frames, then a call of the panner for each cue, beside other layouts and at other strides
+-- ---- as separate calls: nobody for two frames, then a call of the panner for each cue, beside other layouts and at
+-- other strides
 abbrev parts : List Part
 parts =
     unspoken (nan ∷ minus-one-float ∷ [])
-    ∷ separate (record { direction = at 0 0; layout = Mono; frames = 3; stride = 3; input = one-float ∷ minus-two ∷ half-float ∷ []; out = replicate 12 nan })
-    ∷ separate (record { direction = at 90 0; layout = Surround51; frames = 3; stride = 4; input = four ∷ minus-zero ∷ inf false ∷ nan ∷ []; out = replicate 16 nan })
+    ∷ separate (record {
+      direction = at 0 0;
+      layout = Mono;
+      frames = 3;
+      stride = 3;
+      input = one-float ∷ minus-two
+          ∷ half-float ∷ [];
+      out = replicate 12 nan;
+    })
+    ∷ separate (record {
+      direction = at 90 0;
+      layout = Surround51;
+      frames = 3;
+      stride = 4;
+      input = four ∷ minus-zero
+          ∷ inf false ∷ nan ∷ [];
+      out = replicate 16 nan;
+    })
     ∷ []
 
 cut-at-the-cues : Cut 1 cues 0 parts
@@ -185,6 +214,8 @@ frames-4097-misfit = refl
 
 -- ---- third order at azimuth 30, elevation 20: the sixteen gains, which a sample of 1.0 shows, by their bits
 pub third-order : rendered (cue 0 (at 30 20) ∷ []) 3 0 (one-float ∷ []) ≡ map (ofBits binary32)
-    (1065353216 ∷ 1055952818 ∷ 1051663684 ∷ 1062229259 ∷ 1059686991 ∷ 1049526772 ∷ 3198560572 ∷ 1056363672 ∷ 1053017259 ∷ 1059581692 ∷ 1057073467 ∷ 3186924273 ∷ 3201529300 ∷ 3193165208 ∷ 1049999422 ∷ 0 ∷ []) ∷ []
-unfolding ofBits Numbers.rounded refusesAngle isInside upTo wavesOf sin cos lt le eq computed place cut units-of turned sineAt cosineAt short times radians nesting nest rounded ofInt div neg add sub mul round
+    (1065353216 ∷ 1055952818 ∷ 1051663684 ∷ 1062229259 ∷ 1059686991 ∷ 1049526772 ∷ 3198560572 ∷ 1056363672 ∷ 1053017259
+    ∷ 1059581692 ∷ 1057073467 ∷ 3186924273 ∷ 3201529300 ∷ 3193165208 ∷ 1049999422 ∷ 0 ∷ []) ∷ []
+unfolding ofBits Numbers.rounded refusesAngle isInside upTo wavesOf sin cos lt le eq computed place cut units-of turned
+    sineAt cosineAt short times radians nesting nest rounded ofInt div neg add sub mul round
 third-order = refl

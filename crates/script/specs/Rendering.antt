@@ -1,5 +1,7 @@
--- Document 02, E1: "before the first cue every output is 0.0. Frame numbers are 64-bit; a stretch that would run past the largest is 5, one above 4,096 frames 6." "Refusals: 11 a list whose frames don't rise strictly, 12 a list
--- longer than 256, after 10." What is played at a direction, and how many frames a block may have, are the panner's own words. Definitions only. The input is one plane.
+-- Document 02, E1: "before the first cue every output is 0.0. Frame numbers are 64-bit; a stretch that would run past
+-- the largest is 5, one above 4,096 frames 6." "Refusals: 11 a list whose frames don't rise strictly, 12 a list longer
+-- than 256, after 10." What is played at a direction, and how many frames a block may have, are the panner's own words.
+-- Definitions only. The input is one plane.
 use Prim.Native.Nat.{ℕ, _+_, _-_, _^_}
 use mathlib.Core.Bool.{Bool, not, _||_}
 use mathlib.Core.List.{List, [], _∷_}
@@ -34,7 +36,8 @@ runsPast first frames = ltb (2 ^ 64) (first + frames)
 abbrev pub mostCues : ℕ
 mostCues = 256
 
--- what is checked, in this order; of the cues whether one has a direction that is refused, whether they rise, and how many there are
+-- what is checked, in this order; of the cues whether one has a direction that is refused, whether they rise, and how
+-- many there are
 abbrev pub checksOf : Stretch → Bool → Bool → ℕ → ℕ → ℕ → List Check
 checksOf s refused rising count input out =
     1 when refusesOrder (s .order)
@@ -47,7 +50,8 @@ checksOf s refused rising count input out =
 
 -- 3 looks at every cue, whether the stretch reaches it or not
 abbrev pub refusalOf : Stretch → List Cue → ℕ → ℕ → ℕ
-refusalOf s cues input out = firstOf (checksOf s (any (refusedOf cues)) (rises (numbersOf cues)) (length cues) input out)
+refusalOf s cues input out =
+    firstOf (checksOf s (any (refusedOf cues)) (rises (numbersOf cues)) (length cues) input out)
 
 -- ---- what is played
 

@@ -1,7 +1,10 @@
--- Document 02, E1: "Rendering a stretch must give the same samples however the stretch is divided, and equal separate panner calls between cues." Stretches that follow one another: calls of `render` with the same cues and order,
--- each with its own frames, stride and lists, each from the frame that the one before came to. A call may be refused, by 5 or 6; it then plays nothing, and the next begins at the same frame. (A call with other cues or another order belongs to another drill: what it
--- answers and leaves is the same, since nothing is held from call to call.) After frame 2 ^ 64 - 1 no call of this drill follows, not even of no frames, since there is no such frame number. And parts in each of which one voice
--- holds, each played by a call of the panner. Definitions only.
+-- Document 02, E1: "Rendering a stretch must give the same samples however the stretch is divided, and equal separate
+-- panner calls between cues." Stretches that follow one another: calls of `render` with the same cues and order, each
+-- with its own frames, stride and lists, each from the frame that the one before came to. A call may be refused, by 5
+-- or 6; it then plays nothing, and the next begins at the same frame. (A call with other cues or another order belongs
+-- to another drill: what it answers and leaves is the same, since nothing is held from call to call.) After frame 2 ^
+-- 64 - 1 no call of this drill follows, not even of no frames, since there is no such frame number. And parts in each
+-- of which one voice holds, each played by a call of the panner. Definitions only.
 use Prim.Native.Nat.{ℕ, _+_}
 use mathlib.Core.Path.{_≡_}
 use mathlib.Core.List.{List, [], _∷_, _++_, map}
@@ -90,7 +93,8 @@ OneVoice cues f v (x ∷ xs) = (voiceAt cues f ≡ v) × OneVoice cues (f + 1) v
 
 module _ (order : ℕ) where
   abbrev pub shapeIn : Separate → Panner.Shape
-  shapeIn c = record { command = Ambisonic (c .direction) order; layout = c .layout; frames = c .frames; stride = c .stride }
+  shapeIn c =
+      record { command = Ambisonic (c .direction) order; layout = c .layout; frames = c .frames; stride = c .stride }
 
   abbrev pub pannedIn : Separate → Panner′.Block
   pannedIn c = Panner′.block (shapeIn c) (c .input) (c .out)

@@ -80,7 +80,9 @@ fn speak(
     input: &[f32],
 ) -> usize
     requires { ⌜ (from ≤ frames) × Speakable order held ⌝ }
-    ensures { λ r. ⌜ (r ≡ min (from + held .left) frames) × (now (out .exit) ≡ withFrames (now (out .entry)) stride from (Spoken order held stride from r (now (input .entry)))) ⌝ }
+    ensures { λ r. ⌜ (r ≡ min (from + held .left) frames)
+        × (now (out .exit) ≡ withFrames (now (out .entry)) stride from
+        (Spoken order held stride from r (now (input .entry)))) ⌝ }
 {
     let speaks = held.speaks;
     let direction = held.direction;
@@ -116,7 +118,8 @@ fn refusal_of(
     inputs: usize,
     outs: usize,
 ) -> u8
-    ensures { λ r. ⌜ r ≡ refusalBy (record { order = order; first = first; frames = frames; stride = stride }) judged inputs outs ⌝ }
+    ensures { λ r. ⌜ r ≡ refusalBy (record { order = order; first = first; frames = frames; stride = stride }) judged
+        inputs outs ⌝ }
 {
     let counted = channel::ambisonic_channel_count(order);
     if counted.refusal != 0 {
@@ -153,7 +156,8 @@ fn answer_of(
     inputs: usize,
     outs: usize,
 ) -> Rendered
-    ensures { λ r. ⌜ r ≡ answerBy (record { order = order; first = first; frames = frames; stride = stride }) judged inputs outs ⌝ }
+    ensures { λ r. ⌜ r ≡ answerBy (record { order = order; first = first; frames = frames; stride = stride }) judged
+        inputs outs ⌝ }
 {
     let refusal = refusal_of(order, judged, first, frames, stride, inputs, outs);
     if refusal != 0 {
@@ -178,7 +182,8 @@ pub fn render(
     input: &[f32],
     out: &mut [f32],
 ) -> Rendered
-    ensures { λ r. ⌜ Renders (record { order = order; first = first; frames = frames; stride = stride }) (now (cues .entry)) (now (input .entry)) (now (out .entry)) r (now (out .exit)) ⌝ }
+    ensures { λ r. ⌜ Renders (record { order = order; first = first; frames = frames; stride = stride })
+        (now (cues .entry)) (now (input .entry)) (now (out .entry)) r (now (out .exit)) ⌝ }
 {
     let found = cues::judged(cues);
     let answer = answer_of(order, found, first, frames, stride, input.len(), out.len());

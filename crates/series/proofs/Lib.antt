@@ -1,4 +1,5 @@
--- What the crates above cite: the laws of the defined sine and cosine, the sums as a program evaluates them, and reduction by 360. The other files are how these are shown.
+-- What the crates above cite: the laws of the defined sine and cosine, the sums as a program evaluates them, and
+-- reduction by 360. The other files are how these are shown.
 pub mod Laws
 pub mod Nested
 pub mod Reduction

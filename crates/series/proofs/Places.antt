@@ -1,5 +1,7 @@
--- The defined values from the place that an angle is turned to, at a multiple of 90 and off it. The exact values are 2 ^ -54 at most away from the sums in whose stead they stand, so that what holds of
--- the sums at the reduced angle holds of the defined values but for that; and the sum of their squares is 1, as that of the sums is up to 2 ^ -50. Assumes nothing.
+-- The defined values from the place that an angle is turned to, at a multiple of 90 and off it. The exact values are 2
+-- ^ -54 at most away from the sums in whose stead they stand, so that what holds of the sums at the reduced angle holds
+-- of the defined values but for that; and the sum of their squares is 1, as that of the sums is up to 2 ^ -50. Assumes
+-- nothing.
 use mathlib.Core.Path.{_≡_, refl, sym, subst}
 use mathlib.Core.Bool.{Bool, cond}
 use mathlib.Core.List.{[], _∷_}
@@ -19,7 +21,8 @@ use Rattle.series.specs.Sums.{factorial, power, term, sineSum, cosineSum
 use Rattle.series.specs.Angles.{turned, around, reduced, degree, radians, isMultiple, quarters, exact, defined}
 use Rattle.series.proofs.Terms.{sum-same, sum-number, mirrored, sum-opposite}
 use Rattle.series.proofs.Sums.{half, quarter, parts, Half, sum-squares}
-use Rattle.series.proofs.Reduction.{four, quarters-few, quarters-times, turned-less, reduced-around, by-side, around-size, around-pos}
+use Rattle.series.proofs.Reduction.{four, quarters-few, quarters-times, turned-less, reduced-around, by-side}
+use Rattle.series.proofs.Reduction.{around-size, around-pos}
 
 -- ---- degrees as radians
 
@@ -44,7 +47,11 @@ size-nat p m o H P n q h k = omega (arith, mul-le-mul-right (H * P) h, mul-le-mu
 
 radians-size : (d : Fraction) {n q : ℕ} → n * half ≤ 180 * q → Size 1 d n → Size parts (radians d) q
 radians-size d {n} {q} k h =
-    rw (radians-is d) (record { above = size-nat (d .plus) (d .minus) (d .over) half parts n q (h .above) k; below = size-nat (d .minus) (d .plus) (d .over) half parts n q (h .below) k })
+    rw (radians-is d)
+    (record {
+      above = size-nat (d .plus) (d .minus) (d .over) half parts n q (h .above) k;
+      below = size-nat (d .minus) (d .plus) (d .over) half parts n q (h .below) k;
+    })
 
 pub radians-half : (d : Fraction) → Size 1 d 180 → Half (radians d)
 radians-half d = radians-size d (le-refl (180 * half))
@@ -78,11 +85,14 @@ unfolding defined isMultiple quarters place
 defined-place w d = cc (reduced-around d)
 
 -- what is to hold there of the two waves is shown at the multiples of 90 and off them
-pub by-multiple : (P : (Wave → Fraction) → Type 0) (r o : ℕ) → 0 < o → r < 360 * o → ((k : ℕ) → k < 4 → r ≡ k * (90 * o) → P (λ w. exact-at w k)) → ((r % (90 * o) ≡ 0 → ⊥) → P (λ w. wave w (around r o))) → P (place r o)
+pub by-multiple : (P : (Wave → Fraction) → Type 0) (r o : ℕ) → 0 < o → r < 360 * o
+    → ((k : ℕ) → k < 4 → r ≡ k * (90 * o) → P (λ w. exact-at w k))
+    → ((r % (90 * o) ≡ 0 → ⊥) → P (λ w. wave w (around r o))) → P (place r o)
 unfolding place
 by-multiple P r o O h f g =
     let q = r / (90 * o) in
-    by-test (λ (b : Bool). P (λ w. cond b (exact-at w q) (wave w (around r o)))) (eqb (r % (90 * o)) 0) (λ e. f q (quarters-few r o O h) (quarters-times r o O h (eqb-true _ 0 e))) (λ e. g (eqb-false _ 0 e))
+    by-test (λ (b : Bool). P (λ w. cond b (exact-at w q) (wave w (around r o)))) (eqb (r % (90 * o)) 0)
+    (λ e. f q (quarters-few r o O h) (quarters-times r o O h (eqb-true _ 0 e))) (λ e. g (eqb-false _ 0 e))
 
 -- ---- the exact values and the sums: computed at 0, 90, 180 and -90
 
@@ -92,9 +102,11 @@ right-angle k = getD (whole 0 ∷ whole 90 ∷ whole 180 ∷ opposite (whole 90)
 exact-within : (w : Wave) (k : ℕ) → k < 4 → Within 54 (exact-at w k) (wave w (right-angle k))
 unfolding sineSum cosineSum term power factorial radians
 exact-within sine =
-    four (λ (k : ℕ). Within 54 (exact-at sine k) (wave sine (right-angle k))) (within-computed 54 _ _ tt) (within-computed 54 _ _ tt) (within-computed 54 _ _ tt) (within-computed 54 _ _ tt)
+    four (λ (k : ℕ). Within 54 (exact-at sine k) (wave sine (right-angle k))) (within-computed 54 _ _ tt)
+    (within-computed 54 _ _ tt) (within-computed 54 _ _ tt) (within-computed 54 _ _ tt)
 exact-within cosine =
-    four (λ (k : ℕ). Within 54 (exact-at cosine k) (wave cosine (right-angle k))) (within-computed 54 _ _ tt) (within-computed 54 _ _ tt) (within-computed 54 _ _ tt) (within-computed 54 _ _ tt)
+    four (λ (k : ℕ). Within 54 (exact-at cosine k) (wave cosine (right-angle k))) (within-computed 54 _ _ tt)
+    (within-computed 54 _ _ tt) (within-computed 54 _ _ tt) (within-computed 54 _ _ tt)
 
 around-multiple : (o : ℕ) → 0 < o → (k : ℕ) → k < 4 → Same (around (k * (90 * o)) o) (right-angle k)
 around-multiple o O =
@@ -126,14 +138,18 @@ defined-number w d D = defined-sum w d D .first
 
 exact-squares : (k : ℕ) → k < 4 → Within 50 (square (exact-at sine k) ⊕ square (exact-at cosine k)) (whole 1)
 exact-squares =
-    four (λ (k : ℕ). Within 50 (square (exact-at sine k) ⊕ square (exact-at cosine k)) (whole 1)) (within-computed 50 _ _ tt) (within-computed 50 _ _ tt) (within-computed 50 _ _ tt) (within-computed 50 _ _ tt)
+    four (λ (k : ℕ). Within 50 (square (exact-at sine k) ⊕ square (exact-at cosine k)) (whole 1))
+    (within-computed 50 _ _ tt) (within-computed 50 _ _ tt) (within-computed 50 _ _ tt)
+    (within-computed 50 _ _ tt)
 
-pub defined-squares : (d : Fraction) → 0 < d .over → Within 50 (square (defined sine d) ⊕ square (defined cosine d)) (whole 1)
+pub defined-squares : (d : Fraction) → 0 < d .over → Within 50 (square (defined sine d) ⊕ square (defined cosine d))
+    (whole 1)
 defined-squares d D =
     let r = turned d in
     let o = d .over in
     let x = around r o in
     let l = turned-less d D in
     rw (defined-place sine d, defined-place cosine d)
-    (by-multiple (λ (f : Wave → Fraction). Within 50 (square (f sine) ⊕ square (f cosine)) (whole 1)) r o D l (λ k h e. exact-squares k h)
+    (by-multiple (λ (f : Wave → Fraction). Within 50 (square (f sine) ⊕ square (f cosine)) (whole 1)) r o D l
+    (λ k h e. exact-squares k h)
     (λ n. sum-squares (radians x) (radians-pos x (around-pos r o D)) (radians-half x (around-size r o l))))

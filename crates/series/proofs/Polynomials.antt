@@ -1,5 +1,6 @@
--- Polynomials as lists of whole coefficients, the lowest first, evaluated at a fraction x / d over the one denominator d ^ m: at a sum, a product, a fraction written larger, and a place shifted.
--- Its laws are equations of values. Assumes nothing.
+-- Polynomials as lists of whole coefficients, the lowest first, evaluated at a fraction x / d over the one denominator
+-- d ^ m: at a sum, a product, a fraction written larger, and a place shifted. Its laws are equations of values. Assumes
+-- nothing.
 use mathlib.Core.Path.{_≡_, refl}
 use mathlib.Core.List.{List, [], _∷_}
 use Prim.Native.Nat.{ℕ, zero, suc, _*_, _<_}
@@ -71,11 +72,13 @@ fits-further zero m bs h = h
 fits-further (suc n) m bs h = fits-suc (further n m) bs (fits-further n m bs h)
 
 -- the same fraction, written larger
-pub value-larger : (k m : ℕ) (cs : List Whole) (x : Whole) (d : ℕ) → value m cs (k · x) (k * d) ≡ raised k m · value m cs x d
+pub value-larger : (k m : ℕ) (cs : List Whole) (x : Whole) (d : ℕ)
+    → value m cs (k · x) (k * d) ≡ raised k m · value m cs x d
 unfolding value raised
 value-larger k zero cs x d = by-parts (omega arith) (omega arith)
 value-larger k (suc m) [] x d = by-parts (omega arith) (omega arith)
-value-larger k (suc m) (c ∷ cs) x d = rw (value-larger k m cs x d, raised-times k d m) (by-parts (omega arith) (omega arith))
+value-larger k (suc m) (c ∷ cs) x d =
+    rw (value-larger k m cs x d, raised-times k d m) (by-parts (omega arith) (omega arith))
 
 module _ (x : Whole) (d : ℕ) where
   pub value-none : (m : ℕ) → value m [] x d ≡ nought
@@ -110,15 +113,22 @@ module _ (x : Whole) (d : ℕ) where
   value-further : (n m : ℕ) (bs : List Whole) → Fits m bs → value (further n m) bs x d ≡ raised d n · value m bs x d
   unfolding raised further
   value-further zero m bs h = by-parts (omega arith) (omega arith)
-  value-further (suc n) m bs h = rw (value-suc (further n m) bs (fits-further n m bs h), value-further n m bs h) (by-parts (omega arith) (omega arith))
+  value-further (suc n) m bs h = rw (value-suc (further n m) bs (fits-further n m bs h), value-further n m bs h)
+      (by-parts (omega arith) (omega arith))
 
-  pub value-product : (n m : ℕ) (us bs : List Whole) → Fits n us → Fits m bs → value (further n m) (product us bs) x d ≡ value n us x d ⊠ value m bs x d
+  pub value-product : (n m : ℕ) (us bs : List Whole) → Fits n us → Fits m bs
+      → value (further n m) (product us bs) x d ≡ value n us x d ⊠ value m bs x d
   unfolding value product Fits further
   value-product zero m [] bs h k = rw (value-none m) (by-parts (omega arith) (omega arith))
   value-product zero m (a ∷ us) bs h k = absurd h
   value-product (suc n) m [] bs h k = by-parts (omega arith) (omega arith)
   value-product (suc n) m (a ∷ us) bs h k =
-      rw (value-add (suc (further n m)) (times a bs) (nought ∷ product us bs), value-times (suc (further n m)) a bs, value-further (suc n) m bs k, value-product n m us bs h k)
+      rw (
+        value-add (suc (further n m)) (times a bs) (nought ∷ product us bs),
+        value-times (suc (further n m)) a bs,
+        value-further (suc n) m bs k,
+        value-product n m us bs h k,
+      )
       (by-parts (omega arith) (omega arith))
 
 -- ---- at x + a / b
@@ -148,21 +158,30 @@ fits-times (suc m) c (u ∷ us) h = fits-times m c us h
 
 fits-linear : (a b m : ℕ) (t : List Whole) → Fits m t → Fits (suc m) (linear a b t)
 unfolding Fits linear
-fits-linear a b m t h = fits-add (suc m) (times (more a) t) (nought ∷ times (more b) t) (fits-suc m (times (more a) t) (fits-times m (more a) t h)) (fits-times m (more b) t h)
+fits-linear a b m t h = fits-add (suc m) (times (more a) t) (nought ∷ times (more b) t)
+    (fits-suc m (times (more a) t) (fits-times m (more a) t h)) (fits-times m (more b) t h)
 
 fits-shifted : (a b m : ℕ) (cs : List Whole) → Fits m (shifted a b m cs)
 unfolding Fits shifted
 fits-shifted a b zero cs = tt
 fits-shifted a b (suc m) [] = tt
-fits-shifted a b (suc m) (c ∷ cs) = fits-add (suc m) ((raised b (suc m) · c) ∷ []) (linear a b (shifted a b m cs)) tt (fits-linear a b m (shifted a b m cs) (fits-shifted a b m cs))
+fits-shifted a b (suc m) (c ∷ cs) = fits-add (suc m) ((raised b (suc m) · c) ∷ []) (linear a b (shifted a b m cs)) tt
+    (fits-linear a b m (shifted a b m cs) (fits-shifted a b m cs))
 
-value-linear : (x : Whole) (d a b m : ℕ) (t : List Whole) → Fits m t → value (suc m) (linear a b t) x d ≡ (d * a) · value m t x d ⊞ b · (x ⊠ value m t x d)
+value-linear : (x : Whole) (d a b m : ℕ) (t : List Whole) → Fits m t
+    → value (suc m) (linear a b t) x d ≡ (d * a) · value m t x d ⊞ b · (x ⊠ value m t x d)
 unfolding linear value
 value-linear x d a b m t h =
-    rw (value-add x d (suc m) (times (more a) t) (nought ∷ times (more b) t), value-times x d (suc m) (more a) t, value-suc x d m t h, value-times x d m (more b) t)
+    rw (
+      value-add x d (suc m) (times (more a) t) (nought ∷ times (more b) t),
+      value-times x d (suc m) (more a) t,
+      value-suc x d m t h,
+      value-times x d m (more b) t,
+    )
     (by-parts (omega arith) (omega arith))
 
-pub value-shifted : (a b k m : ℕ) (cs : List Whole) (x : Whole) → value m (shifted a b m cs) x (k * b) ≡ raised b m · value m cs (more (k * a) ⊞ x) (k * b)
+pub value-shifted : (a b k m : ℕ) (cs : List Whole) (x : Whole)
+    → value m (shifted a b m cs) x (k * b) ≡ raised b m · value m cs (more (k * a) ⊞ x) (k * b)
 unfolding value shifted raised
 value-shifted a b k zero cs x = by-parts (omega arith) (omega arith)
 value-shifted a b k (suc m) [] x = by-parts (omega arith) (omega arith)

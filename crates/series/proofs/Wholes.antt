@@ -1,5 +1,7 @@
--- Whole numbers with a sign, as differences of natural numbers, plus less minus, in no normal form: the numerators in this crate's proofs, which no law that another crate cites speaks of.
--- What they are good for: the laws of sums and products hold part by part, as equations of natural numbers, so that `rw` and `omega arith` serve, where fractions are only `Same`. Assumes nothing.
+-- Whole numbers with a sign, as differences of natural numbers, plus less minus, in no normal form: the numerators in
+-- this crate's proofs, which no law that another crate cites speaks of. What they are good for: the laws of sums and
+-- products hold part by part, as equations of natural numbers, so that `rw` and `omega arith` serve, where fractions
+-- are only `Same`. Assumes nothing.
 use mathlib.Core.Path.{_≡_, ap}
 use Prim.Native.Nat.{ℕ, _+_, _*_, _≤_}
 use native.Mathlib.Nat.{mul-le-mul-left}

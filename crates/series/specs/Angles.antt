@@ -1,5 +1,6 @@
--- Document 01, 'Angles': "The sine is defined over fractions of whole numbers: reduce by 360 into -180 < d <= 180, take x = d x 3141592653589793238 / (180 x 10^18), and sum [..].
--- At multiples of 90 the defined value is the exact 0, 1 or -1 instead." d is an angle in degrees, and any fraction of whole numbers. Definitions only.
+-- Document 01, 'Angles': "The sine is defined over fractions of whole numbers: reduce by 360 into -180 < d <= 180, take
+-- x = d x 3141592653589793238 / (180 x 10^18), and sum [..]. At multiples of 90 the defined value is the exact 0, 1 or
+-- -1 instead." d is an angle in degrees, and any fraction of whole numbers. Definitions only.
 use Prim.Native.Nat.{ℕ, _+_, _-_, _*_, _/_, _%_, _^_}
 use mathlib.Core.Bool.{Bool, cond}
 use mathlib.Core.List.{List, [], _∷_}
@@ -21,8 +22,9 @@ around r o = cond (leb r (180 * o)) (fraction r 0 o) (fraction r (360 * o) o)
 unfoldable pub reduced : Fraction → Fraction
 reduced d = around (turned d) (d .over)
 
--- what that asks of the reduced angle r, in document 01's words: some number of turns away from d, and above -180, and at most 180. `reduced d` is such an angle, and there is no other
--- (proofs/Reduction.antt: `reduces`, `reduced-unique`).
+-- what that asks of the reduced angle r, in document 01's words: some number of turns away from d, and above -180, and
+-- at most 180. `reduced d` is such an angle, and there is no other (proofs/Reduction.antt: `reduces`,
+-- `reduced-unique`).
 pub record Reduces (d r : Fraction) : Type 0 where
   pub turns : (m : ℕ) × (n : ℕ) × Same (d ⊕ whole (360 * m)) (r ⊕ whole (360 * n))
   pub above : Less (opposite (whole 180)) r
@@ -35,7 +37,8 @@ degree = fraction 3141592653589793238 0 (180 * 10 ^ 18)
 unfoldable pub radians : Fraction → Fraction
 radians d = d ⊗ degree
 
--- ---- at multiples of 90: at 90 times a whole number, and nowhere else (proofs/Laws.antt: `defined-multiple`, `multiple-only`)
+-- ---- at multiples of 90: at 90 times a whole number, and nowhere else (proofs/Laws.antt: `defined-multiple`,
+-- `multiple-only`)
 unfoldable pub isMultiple : Fraction → Bool
 isMultiple d = eqb (turned d % (90 * d .over)) 0
 

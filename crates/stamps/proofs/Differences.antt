@@ -15,12 +15,14 @@ use Rattle.stamps.specs.Counts.{outOne, lateOne, silentOne, resetOne}
 
 -- ---- of a difference
 
-pub by-difference : (P : Arrival → Type 0) (d : ℕ) → (d ≡ 0 → P Next) → (0 < d → d ≤ 4096 → P (Ahead d)) → (4096 < d → d < 2 ^ 31 → P Jump) → (2 ^ 31 ≤ d → P Late) → P (comingBy d)
+pub by-difference : (P : Arrival → Type 0) (d : ℕ) → (d ≡ 0 → P Next) → (0 < d → d ≤ 4096 → P (Ahead d))
+    → (4096 < d → d < 2 ^ 31 → P Jump) → (2 ^ 31 ≤ d → P Late) → P (comingBy d)
 unfolding comingBy
 by-difference P d next missing jump late =
     by-test (λ (b : Bool). P (cond b Next (cond (leb d 4096) (Ahead d) (cond (ltb d (2 ^ 31)) Jump Late)))) (eqb d 0)
     (λ e. next (eqb-true d 0 e))
-    (λ e. let some : d ≡ 0 → ⊥ = eqb-false d 0 e in by-at-most P d 4096 (λ h. missing (omega (arith, some)) h) (λ h. by-less P d (2 ^ 31) (λ k. jump h k) late))
+    (λ e. let some : d ≡ 0 → ⊥ = eqb-false d 0 e in by-at-most P d 4096 (λ h. missing (omega (arith, some)) h)
+    (λ h. by-less P d (2 ^ 31) (λ k. jump h k) late))
 
 pub difference-none : comingBy 0 ≡ Next
 unfolding comingBy
@@ -41,7 +43,8 @@ difference-half d most = simp (ne-eqb d 0 (λ e. omega arith), lt-leb d 4096 (om
 -- ---- what a kind tells of the difference
 
 pub ahead-difference : (d k : ℕ) → comingBy d ≡ Ahead k → (d ≡ k) × ((0 < d) × (d ≤ 4096))
-ahead-difference d k = by-difference (λ c. c ≡ Ahead k → (d ≡ k) × ((0 < d) × (d ≤ 4096))) d (λ e h. off (cc)) (λ s f h. (cc, (s, f))) (λ a b h. off (cc)) (λ a h. off (cc))
+ahead-difference d k = by-difference (λ c. c ≡ Ahead k → (d ≡ k) × ((0 < d) × (d ≤ 4096))) d (λ e h. off (cc))
+    (λ s f h. (cc, (s, f))) (λ a b h. off (cc)) (λ a h. off (cc))
   where
     off : _≡_ {A = ℕ} 0 1 → (d ≡ k) × ((0 < d) × (d ≤ 4096))
     off z = absurd (omega arith)
@@ -69,4 +72,5 @@ one-reset Late = omega arith
 
 pub silent-few : (x : Expected) (s : ℕ) → silentOne (comingOf x s) ≤ 4096
 silent-few First s = omega arith
-silent-few (Stamp e) s = by-difference (λ c. silentOne c ≤ 4096) (ahead e s) (λ z. omega arith) (λ a b. b) (λ a b. omega arith) (λ a. omega arith)
+silent-few (Stamp e) s = by-difference (λ c. silentOne c ≤ 4096) (ahead e s) (λ z. omega arith) (λ a b. b)
+    (λ a b. omega arith) (λ a. omega arith)

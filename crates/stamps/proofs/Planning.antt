@@ -1,4 +1,5 @@
--- The loop of `plan`: the counts so far and those of what is left are the counts of the whole, and no count so far passes the room or the frames gone through. Assumes nothing.
+-- The loop of `plan`: the counts so far and those of what is left are the counts of the whole, and no count so far
+-- passes the room or the frames gone through. Assumes nothing.
 use mathlib.Core.Path.{_≡_, refl, sym, ap, _∙_}
 use mathlib.Core.Bool.{Bool, true, false, cond}
 use mathlib.Core.List.{List, [], _∷_}
@@ -28,13 +29,15 @@ module _ (p : Planned) (s room : ℕ) where
   share = outOne (comingOf (p .expected) s)
 
   on-fits : planOn p s room .fits ≡ true → (share ≤ room - p .out) × (planOn p s room ≡ added)
-  on-fits = by-less (λ (y : Planned). y .fits ≡ true → (share ≤ room - p .out) × (y ≡ added)) (room - p .out) share (λ h k. off (cc)) (λ h k. (h, refl))
+  on-fits = by-less (λ (y : Planned). y .fits ≡ true → (share ≤ room - p .out) × (y ≡ added)) (room - p .out) share
+      (λ h k. off (cc)) (λ h k. (h, refl))
     where
       off : _≡_ {A = ℕ} 0 1 → (share ≤ room - p .out) × (unplannedOf (p .expected) ≡ added)
       off z = absurd (omega arith)
 
   on-unfit : planOn p s room .fits ≡ false → room - p .out < share
-  on-unfit = by-less (λ (y : Planned). y .fits ≡ false → room - p .out < share) (room - p .out) share (λ h k. h) (λ h k. off (cc))
+  on-unfit = by-less (λ (y : Planned). y .fits ≡ false → room - p .out < share) (room - p .out) share (λ h k. h)
+      (λ h k. off (cc))
     where
       off : _≡_ {A = ℕ} 0 1 → room - p .out < share
       off z = absurd (omega arith)
@@ -59,10 +62,18 @@ module _ (p : Planned) (s room : ℕ) where
         sym (ap (λ (b : Bool). cond b (unplannedOf (p .expected)) added) (lt-ltb (room - p .out) share over))
 
     pub on-counted : {x : Expected} → sh .out ≤ room - p .out → x ≡ thenOf (p .expected) s
-        → record { fits = true; out = p .out + sh .out; late = p .late + sh .late; silent = p .silent + sh .silent; resets = p .resets + sh .resets; expected = x } ≡ planOn p s room
+        → record {
+          fits = true;
+          out = p .out + sh .out;
+          late = p .late + sh .late;
+          silent = p .silent + sh .silent;
+          resets = p .resets + sh .resets;
+          expected = x;
+        } ≡ planOn p s room
     on-counted {x} h ex =
         let fit : share ≤ room - p .out = omega (arith, h, ap (λ (y : Share). y .out) same-share) in
-        cc (ex, same-share) ∙ sym (ap (λ (b : Bool). cond b (unplannedOf (p .expected)) added) (le-ltb (room - p .out) share fit))
+        cc (ex, same-share)
+        ∙ sym (ap (λ (b : Bool). cond b (unplannedOf (p .expected)) added) (le-ltb (room - p .out) share fit))
 
 -- ---- the frames before i are counted
 
@@ -80,11 +91,13 @@ pub record Planning (x : Expected) (ss : List ℕ) (room : ℕ) (p : Planned) (i
   pub few : p .resets ≤ i
 
 -- the next frame is one of those left
-left-more : {B : Type 0} (f : List ℕ → B) (ss : List ℕ) (i : ℕ) → i < length ss → f (drop i ss) ≡ f (getD ss i 0 ∷ drop (i + 1) ss)
+left-more : {B : Type 0} (f : List ℕ → B) (ss : List ℕ) (i : ℕ) → i < length ss
+    → f (drop i ss) ≡ f (getD ss i 0 ∷ drop (i + 1) ss)
 left-more f ss i h = ap f (drop-cons ss i 0 h ∙ ap (λ (n : ℕ). getD ss i 0 ∷ drop n ss) (sym (add-one i)))
 
 module _ {x : Expected} {ss : List ℕ} {room : ℕ} where
-  pub planning-none : Planning x ss room (record { fits = true; out = 0; late = 0; silent = 0; resets = 0; expected = x }) 0
+  pub planning-none : Planning x ss room
+      (record { fits = true; out = 0; late = 0; silent = 0; resets = 0; expected = x }) 0
   planning-none =
       record {
         fits = refl;
@@ -105,7 +118,8 @@ module _ {x : Expected} {ss : List ℕ} {room : ℕ} where
     next = getD ss i 0
 
     -- what `plan_on` asks
-    pub planning-room : length ss < 2 ^ 64 → room < 2 ^ 64 → (p .out ≤ room) × ((p .silent ≤ p .out) × ((p .late < 2 ^ 64 - 1) × (p .resets < 2 ^ 64 - 1)))
+    pub planning-room : length ss < 2 ^ 64 → room < 2 ^ 64 → (p .out ≤ room)
+        × ((p .silent ≤ p .out) × ((p .late < 2 ^ 64 - 1) × (p .resets < 2 ^ 64 - 1)))
     planning-room a b = (g .within, (g .less, (omega (arith, g .balance, g .less), omega (arith, g .few))))
 
     added-on : share p next room ≤ room - p .out → Planning x ss room (added p next room) (i + 1)
@@ -145,8 +159,17 @@ module _ {x : Expected} {ss : List ℕ} {room : ℕ} where
       let q : p .silent ≡ silentIn x ss = omega (arith, g .silent, ap (silentIn (p .expected)) none) in
       let r : p .resets ≡ resetsIn x ss = omega (arith, g .resets, ap (resetsIn (p .expected)) none) in
       let e : p .expected ≡ expectedAfter x ss = sym (ap (expectedAfter (p .expected)) none) ∙ g .expected in
-      whole o l q r e ∙ sym (ap (λ (b : Bool). cond b (plannedOf x ss) (unplannedOf x)) (le-leb (outIn x ss) room (omega (arith, o, g .within))))
+      whole o l q r e ∙ sym (ap (λ (b : Bool). cond b (plannedOf x ss) (unplannedOf x))
+      (le-leb (outIn x ss) room (omega (arith, o, g .within))))
     where
-      whole : p .out ≡ outIn x ss → p .late ≡ lateIn x ss → p .silent ≡ silentIn x ss → p .resets ≡ resetsIn x ss → p .expected ≡ expectedAfter x ss
-          → record { fits = p .fits; out = p .out; late = p .late; silent = p .silent; resets = p .resets; expected = p .expected } ≡ plannedOf x ss
+      whole : p .out ≡ outIn x ss → p .late ≡ lateIn x ss → p .silent ≡ silentIn x ss → p .resets ≡ resetsIn x ss
+          → p .expected ≡ expectedAfter x ss
+          → record {
+            fits = p .fits;
+            out = p .out;
+            late = p .late;
+            silent = p .silent;
+            resets = p .resets;
+            expected = p .expected;
+          } ≡ plannedOf x ss
       whole o l q r e = cc (g .fits)

@@ -1,5 +1,6 @@
--- Recordings: what a frame does, event by event; the counts are those of the events; a recording that is cut anywhere does what the whole does; and what comes out, with what is late, is what was
--- recorded, with the silence. Assumes nothing.
+-- Recordings: what a frame does, event by event; the counts are those of the events; a recording that is cut anywhere
+-- does what the whole does; and what comes out, with what is late, is what was recorded, with the silence. Assumes
+-- nothing.
 use mathlib.Core.Path.{_≡_, refl, sym, ap, _∙_}
 use mathlib.Core.Bool.{true}
 use mathlib.Core.List.{List, [], _∷_, _++_, append-assoc}
@@ -13,9 +14,11 @@ use Rattle.stamps.specs.declared.Planned.{Planned}
 use Rattle.stamps.specs.declared.Expected.the-variants.{First, Stamp}
 use Rattle.stamps.specs.declared.Arrival.{Arrival}
 use Rattle.stamps.specs.declared.Arrival.the-variants.{Next, Ahead, Jump, Late}
-use Rattle.stamps.specs.Arrivals.{ahead, following, comingBy, comingOf, stampOf, thenBy, thenOf, skippedOf, expectedAfter}
+use Rattle.stamps.specs.Arrivals.{ahead, following, comingBy, comingOf, stampOf, thenBy, thenOf, skippedOf}
+use Rattle.stamps.specs.Arrivals.{expectedAfter}
 use Rattle.stamps.specs.Counts.{addedUp, outIn, lateIn, silentIn, resetsIn, plannedOf, planOf, outOne, resetOne}
-use Rattle.stamps.specs.Events.{Recorded, Event, feed, restart, silences, eventsBy, eventsOne, eventsOf, stampsOf, restartsIn, fed}
+use Rattle.stamps.specs.Events.{Recorded, Event, feed, restart, silences, eventsBy, eventsOne, eventsOf}
+use Rattle.stamps.specs.Events.{stampsOf, restartsIn, fed}
 use Rattle.stamps.specs.Computed.{feedsIn}
 use Rattle.stamps.proofs.Wrapped.{ahead-none, ahead-less}
 use Rattle.stamps.proofs.Differences.{one-balance, ahead-difference, difference-none, difference-few}
@@ -33,18 +36,21 @@ expected-cut x [] ts = refl
 expected-cut x (s ∷ ss) ts = expected-cut (thenOf x s) ss ts
 
 -- what is added up, whatever it is that a frame adds
-pub added-cut : (one : Arrival → ℕ) (x : Expected) (ss ts : List ℕ) → addedUp one x (ss ++ ts) ≡ addedUp one x ss + addedUp one (expectedAfter x ss) ts
+pub added-cut : (one : Arrival → ℕ) (x : Expected) (ss ts : List ℕ)
+    → addedUp one x (ss ++ ts) ≡ addedUp one x ss + addedUp one (expectedAfter x ss) ts
 added-cut one x [] ts = omega arith
 added-cut one x (s ∷ ss) ts = omega (arith, added-cut one (thenOf x s) ss ts)
 
 module _ {F : Type 0} (q : F) where
   -- ---- cut anywhere: the events
 
-  pub events-cut : (x : Expected) (rs vs : List (Recorded F)) → eventsOf q x (rs ++ vs) ≡ eventsOf q x rs ++ eventsOf q (expectedAfter x (stampsOf rs)) vs
+  pub events-cut : (x : Expected) (rs vs : List (Recorded F)) → eventsOf q x (rs ++ vs) ≡ eventsOf q x rs
+      ++ eventsOf q (expectedAfter x (stampsOf rs)) vs
   events-cut x [] vs = refl
   events-cut x (r ∷ rs) vs =
       ap (λ (es : List (Event F)). eventsOne q x (r .stamp) (r .frame) ++ es) (events-cut (thenOf x (r .stamp)) rs vs)
-      ∙ sym (append-assoc (eventsOne q x (r .stamp) (r .frame)) (eventsOf q (thenOf x (r .stamp)) rs) (eventsOf q (expectedAfter x (stampsOf (r ∷ rs))) vs))
+      ∙ sym (append-assoc (eventsOne q x (r .stamp) (r .frame)) (eventsOf q (thenOf x (r .stamp)) rs)
+      (eventsOf q (expectedAfter x (stampsOf (r ∷ rs))) vs))
 
   -- ---- the counts are those of the events
 
@@ -96,12 +102,18 @@ module _ {F : Type 0} (q : F) where
       let rest = eventsOf q (thenOf x (r .stamp)) rs in
       omega (arith, feeds-append es rest, feeds-one x (r .stamp) (r .frame), feeds-out (thenOf x (r .stamp)) rs)
 
-  pub restarts-resets : (x : Expected) (rs : List (Recorded F)) → restartsIn (eventsOf q x rs) ≡ resetsIn x (stampsOf rs)
+  pub restarts-resets : (x : Expected) (rs : List (Recorded F))
+      → restartsIn (eventsOf q x rs) ≡ resetsIn x (stampsOf rs)
   restarts-resets x [] = refl
   restarts-resets x (r ∷ rs) =
       let es = eventsOne q x (r .stamp) (r .frame) in
       let rest = eventsOf q (thenOf x (r .stamp)) rs in
-      omega (arith, restarts-append es rest, restarts-one x (r .stamp) (r .frame), restarts-resets (thenOf x (r .stamp)) rs)
+      omega (
+        arith,
+        restarts-append es rest,
+        restarts-one x (r .stamp) (r .frame),
+        restarts-resets (thenOf x (r .stamp)) rs,
+      )
 
   -- ---- event by event: what is left of a recording after its first event
 
@@ -121,18 +133,22 @@ module _ {F : Type 0} (q : F) where
     events-late (Stamp e) k = events-are (Stamp e) Late k
 
     -- next: the frame itself
-    pub events-next : (x : Expected) → comingOf x (r .stamp) ≡ Next → eventsOf q x (r ∷ rs) ≡ feed (r .stamp) (r .frame) ∷ eventsOf q (thenOf x (r .stamp)) rs
-    events-next x k = events-are x Next k ∙ ap (λ (c : Arrival). feed (r .stamp) (r .frame) ∷ eventsOf q (thenBy c x (r .stamp)) rs) (sym k)
+    pub events-next : (x : Expected) → comingOf x (r .stamp) ≡ Next → eventsOf q x (r ∷ rs) ≡ feed (r .stamp) (r .frame)
+        ∷ eventsOf q (thenOf x (r .stamp)) rs
+    events-next x k = events-are x Next k
+        ∙ ap (λ (c : Arrival). feed (r .stamp) (r .frame) ∷ eventsOf q (thenBy c x (r .stamp)) rs) (sym k)
 
     -- a jump: a restart, and the frame is the one expected
-    pub events-jump : (x : Expected) → r .stamp < 2 ^ 32 → comingOf x (r .stamp) ≡ Jump → eventsOf q x (r ∷ rs) ≡ restart ∷ eventsOf q (Stamp (r .stamp)) (r ∷ rs)
+    pub events-jump : (x : Expected) → r .stamp < 2 ^ 32 → comingOf x (r .stamp) ≡ Jump
+        → eventsOf q x (r ∷ rs) ≡ restart ∷ eventsOf q (Stamp (r .stamp)) (r ∷ rs)
     events-jump First hs k = absurd (off (cc))
       where
         off : _≡_ {A = ℕ} 0 1 → ⊥
         off z = omega arith
     events-jump (Stamp e) hs k =
         events-are (Stamp e) Jump k
-        ∙ ap (λ (es : List (Event F)). restart ∷ es) (sym (events-are (Stamp (r .stamp)) Next (ap comingBy (ahead-none (r .stamp) hs) ∙ difference-none)))
+        ∙ ap (λ (es : List (Event F)). restart ∷ es)
+        (sym (events-are (Stamp (r .stamp)) Next (ap comingBy (ahead-none (r .stamp) hs) ∙ difference-none)))
 
     -- ahead: one silent frame under the stamp that is expected, and then one less is missing
     pub events-ahead : (e d : ℕ) → e < 2 ^ 32 → r .stamp < 2 ^ 32 → comingBy (ahead e (r .stamp)) ≡ Ahead d
@@ -142,16 +158,19 @@ module _ {F : Type 0} (q : F) where
         let known = ahead-difference (ahead e (r .stamp)) 1 k in
         events-are (Stamp e) (Ahead 1) k
         ∙ ap (λ (es : List (Event F)). feed e q ∷ es)
-        (sym (events-are (Stamp (following e)) Next (ap comingBy (ahead-less e (r .stamp) 0 he hs (known .0)) ∙ difference-none)))
+        (sym (events-are (Stamp (following e)) Next
+        (ap comingBy (ahead-less e (r .stamp) 0 he hs (known .0)) ∙ difference-none)))
     events-ahead e (suc (suc n)) he hs k =
         let known = ahead-difference (ahead e (r .stamp)) (suc (suc n)) k in
         events-are (Stamp e) (Ahead (suc (suc n))) k
         ∙ ap (λ (es : List (Event F)). feed e q ∷ es)
         (sym (events-are (Stamp (following e)) (Ahead (suc n))
-        (ap comingBy (ahead-less e (r .stamp) (suc n) he hs (known .0 ∙ sym (add-one (suc n)))) ∙ difference-few (suc n) (omega arith) (omega (arith, known)))))
+        (ap comingBy (ahead-less e (r .stamp) (suc n) he hs (known .0 ∙ sym (add-one (suc n))))
+        ∙ difference-few (suc n) (omega arith) (omega (arith, known)))))
 
     -- the same of any that is expected
-    pub events-silent : (x : Expected) (d : ℕ) → stampOf x < 2 ^ 32 → r .stamp < 2 ^ 32 → comingOf x (r .stamp) ≡ Ahead d
+    pub events-silent : (x : Expected) (d : ℕ) → stampOf x < 2 ^ 32 → r .stamp < 2 ^ 32
+        → comingOf x (r .stamp) ≡ Ahead d
         → eventsOf q x (r ∷ rs) ≡ feed (stampOf x) q ∷ eventsOf q (skippedOf x) (r ∷ rs)
     events-silent First d hx hs k = absurd (off (cc))
       where
@@ -161,10 +180,14 @@ module _ {F : Type 0} (q : F) where
 
 -- ---- an accepted plan: its counts are the definition's, of the stamps and of the events
 
-pub plan-counts : {F : Type 0} (q : F) (x : Expected) (rs : List (Recorded F)) (room : ℕ) → planOf x (stampsOf rs) room .fits ≡ true
-    → (planOf x (stampsOf rs) room ≡ plannedOf x (stampsOf rs)) × ((planOf x (stampsOf rs) room .out ≡ feedsIn (eventsOf q x rs)) × (planOf x (stampsOf rs) room .resets ≡ restartsIn (eventsOf q x rs)))
+pub plan-counts : {F : Type 0} (q : F) (x : Expected) (rs : List (Recorded F)) (room : ℕ)
+    → planOf x (stampsOf rs) room .fits ≡ true
+    → (planOf x (stampsOf rs) room ≡ plannedOf x (stampsOf rs))
+    × ((planOf x (stampsOf rs) room .out ≡ feedsIn (eventsOf q x rs))
+    × (planOf x (stampsOf rs) room .resets ≡ restartsIn (eventsOf q x rs)))
 plan-counts q x rs room =
-    by-at-most (λ (p : Planned). p .fits ≡ true → (p ≡ plannedOf x (stampsOf rs)) × ((p .out ≡ feedsIn (eventsOf q x rs)) × (p .resets ≡ restartsIn (eventsOf q x rs))))
+    by-at-most (λ (p : Planned). p .fits ≡ true → (p ≡ plannedOf x (stampsOf rs))
+    × ((p .out ≡ feedsIn (eventsOf q x rs)) × (p .resets ≡ restartsIn (eventsOf q x rs))))
     (outIn x (stampsOf rs)) room
     (λ h t. (refl, (sym (feeds-out q x rs), sym (restarts-resets q x rs))))
     (λ h t. absurd (off (cc)))

@@ -1,4 +1,5 @@
--- Worked recordings: the counts at every boundary, and a recording that rolls over, loses frames, has a late one and jumps, event by event. Assumes nothing.
+-- Worked recordings: the counts at every boundary, and a recording that rolls over, loses frames, has a late one and
+-- jumps, event by event. Assumes nothing.
 use Prim.Native.Nat.{ℕ}
 use mathlib.Core.Path.{_≡_, refl}
 use mathlib.Core.Bool.{true}
@@ -10,7 +11,8 @@ use Rattle.stamps.specs.Counts.{plannedOf}
 use Rattle.stamps.specs.Events.{Recorded, feed, restart, eventsOf}
 
 abbrev told : ℕ → ℕ → ℕ → ℕ → ℕ → Planned
-told out late silent resets next = record { fits = true; out = out; late = late; silent = silent; resets = resets; expected = Stamp next }
+told out late silent resets next =
+    record { fits = true; out = out; late = late; silent = silent; resets = resets; expected = Stamp next }
 
 -- a gap of 4,096, and of 4,097
 gap-4096 : plannedOf First (0 ∷ 4097 ∷ []) ≡ told 4098 0 4096 0 4098
@@ -49,7 +51,9 @@ unfolding comingBy
 stamped = refl
 
 -- 0 is silence
-events : eventsOf 0 First (at 4294967294 11 ∷ at 4294967295 12 ∷ at 0 13 ∷ at 3 14 ∷ at 2 15 ∷ at 4 16 ∷ at 5000 17 ∷ at 5001 18 ∷ [])
-    ≡ feed 4294967294 11 ∷ feed 4294967295 12 ∷ feed 0 13 ∷ feed 1 0 ∷ feed 2 0 ∷ feed 3 14 ∷ feed 4 16 ∷ restart ∷ feed 5000 17 ∷ feed 5001 18 ∷ []
+events : eventsOf 0 First (at 4294967294 11 ∷ at 4294967295 12 ∷ at 0 13 ∷ at 3 14 ∷ at 2 15 ∷ at 4 16 ∷ at 5000 17
+    ∷ at 5001 18 ∷ [])
+    ≡ feed 4294967294 11 ∷ feed 4294967295 12 ∷ feed 0 13 ∷ feed 1 0 ∷ feed 2 0 ∷ feed 3 14 ∷ feed 4 16 ∷ restart
+    ∷ feed 5000 17 ∷ feed 5001 18 ∷ []
 unfolding comingBy
 events = refl

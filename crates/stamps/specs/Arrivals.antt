@@ -1,5 +1,7 @@
--- Document 02, E5: "A frame is next, ahead or late by the wrapped difference from the expected stamp: 0 is next, 1 to 2^31 - 1 is ahead, the rest is late. .. An ahead frame has silence put in for the
--- missing ones, at most 4,096; a larger gap resets the convolver and starts at that stamp. The first frame sets the stamp." Definitions only. A stamp is a number below 2^32.
+-- Document 02, E5: "A frame is next, ahead or late by the wrapped difference from the expected stamp: 0 is next, 1 to
+-- 2^31 - 1 is ahead, the rest is late. .. An ahead frame has silence put in for the missing ones, at most 4,096; a
+-- larger gap resets the convolver and starts at that stamp. The first frame sets the stamp." Definitions only. A stamp
+-- is a number below 2^32.
 use Prim.Native.Nat.{ℕ, _+_, _-_, _%_, _^_, _<_}
 use mathlib.Core.Path.{_≡_}
 use mathlib.Core.Bool.{cond}
@@ -32,7 +34,8 @@ abbrev pub stampOf : Expected → ℕ
 stampOf First = 0
 stampOf (Stamp e) = e
 
--- what `coming` promises: which kind it is, and that what is expected is below 2^32, which a caller that passes an enum on cannot see of its number
+-- what `coming` promises: which kind it is, and that what is expected is below 2^32, which a caller that passes an enum
+-- on cannot see of its number
 pub record Comes (x : Expected) (s : ℕ) (r : Arrival) : Type 0 where
   pub bits : r ≡ comingOf x s
   pub below : stampOf x < 2 ^ 32

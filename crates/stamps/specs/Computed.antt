@@ -1,4 +1,5 @@
--- A plan with one frame more, and how many frames are fed. Definitions only; they speak of the program, and nobody has to believe them.
+-- A plan with one frame more, and how many frames are fed. Definitions only; they speak of the program, and nobody has
+-- to believe them.
 use Prim.Native.Nat.{ℕ, suc, _+_, _-_}
 use mathlib.Core.Bool.{true, cond}
 use mathlib.Core.List.{List, [], _∷_}

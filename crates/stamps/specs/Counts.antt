@@ -1,5 +1,6 @@
--- Document 02, E5: "Late frames are dropped and counted. An ahead frame has silence put in for the missing ones, at most 4,096; a larger gap resets the convolver .. Counts of late frames, silent
--- frames and resets equal those of a plain definition over the recorded list." Definitions only, over the stamps of the recorded frames in their order.
+-- Document 02, E5: "Late frames are dropped and counted. An ahead frame has silence put in for the missing ones, at
+-- most 4,096; a larger gap resets the convolver .. Counts of late frames, silent frames and resets equal those of a
+-- plain definition over the recorded list." Definitions only, over the stamps of the recorded frames in their order.
 use Prim.Native.Nat.{ℕ, _+_}
 use mathlib.Core.Bool.{true, false, cond}
 use mathlib.Core.List.{List, [], _∷_}
@@ -59,7 +60,14 @@ resetsIn = addedUp resetOne
 
 -- what a recording comes to, and what is told of one that does not fit
 abbrev pub plannedOf : Expected → List ℕ → Planned
-plannedOf x ss = record { fits = true; out = outIn x ss; late = lateIn x ss; silent = silentIn x ss; resets = resetsIn x ss; expected = expectedAfter x ss }
+plannedOf x ss = record {
+  fits = true;
+  out = outIn x ss;
+  late = lateIn x ss;
+  silent = silentIn x ss;
+  resets = resetsIn x ss;
+  expected = expectedAfter x ss;
+}
 
 abbrev pub unplannedOf : Expected → Planned
 unplannedOf x = record { fits = false; out = 0; late = 0; silent = 0; resets = 0; expected = x }

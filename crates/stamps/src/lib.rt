@@ -152,7 +152,8 @@ fn share_of(what: Arrival) -> Share
 // One frame more, if the room suffices: what is left of the room is compared, and no count of frames that come out
 // is formed that passes it.
 fn plan_on(plan: Planned, stamp: u32, room: usize) -> Planned
-    requires { ⌜ (plan .out ≤ room) × ((plan .silent ≤ plan .out) × ((plan .late < 2 ^ 64 - 1) × (plan .resets < 2 ^ 64 - 1))) ⌝ }
+    requires { ⌜ (plan .out ≤ room)
+        × ((plan .silent ≤ plan .out) × ((plan .late < 2 ^ 64 - 1) × (plan .resets < 2 ^ 64 - 1))) ⌝ }
     ensures { λ r. ⌜ r ≡ planOn plan stamp room ⌝ }
 {
     let expected = plan.expected;

@@ -28,13 +28,15 @@ module _ (p : Float) where
       }
 
   -- c is the clamped position
-  pub plays : (c : Float) (l r : Answer) → isRefused p ≡ false → c ≡ clampedTo p → Promise cosine (angleFrom c) l → Promise sine (angleFrom c) r → Pans p (record { refusal = 0; left = l .value; right = r .value })
+  pub plays : (c : Float) (l r : Answer) → isRefused p ≡ false → c ≡ clampedTo p → Promise cosine (angleFrom c) l
+      → Promise sine (angleFrom c) r → Pans p (record { refusal = 0; left = l .value; right = r .value })
   unfolding outcome angleOf
   plays c l r h e a' b' =
       let a = subst (λ (z : Float). Promise cosine (angleFrom z) l) e a' in
       let b = subst (λ (z : Float). Promise sine (angleFrom z) r) e b' in
       let P : 0 < number p .over = finite-number p (subst T (sym (not-false (finite p) h)) tt) in
       record {
-        bits = (λ i. record { refusal = 0; left = a .bits i .value; right = b .bits i .value }) ∙ sym (answered-accepted (played p) refused (refusalOf p) (cond-false 3 0 h));
+        bits = (λ i. record { refusal = 0; left = a .bits i .value; right = b .bits i .value })
+            ∙ sym (answered-accepted (played p) refused (refusalOf p) (cond-false 3 0 h));
         words = λ k. record { left = gain-near p P cosine l a; right = gain-near p P sine r b };
       }

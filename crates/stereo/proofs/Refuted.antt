@@ -16,11 +16,13 @@ use Rattle.stereo.proofs.Drill.{accepted, at-minus-100, of-infinity}
 
 -- it refuses every position
 refuses-always : Pans (float (negsuc 99)) (refused 3) → ⊥
-refuses-always p = let e : _≡_ {A = ℕ} 3 0 = ap (λ (g : StereoGains). g .refusal) (p .bits ∙ at-minus-100) in omega arith
+refuses-always p =
+    let e : _≡_ {A = ℕ} 3 0 = ap (λ (g : StereoGains). g .refusal) (p .bits ∙ at-minus-100) in omega arith
 
 -- it plays an infinite position as the end that it lies beyond
 infinity-played : Pans (inf true) (accepted one-float zero-float) → ⊥
-infinity-played p = let e : _≡_ {A = ℕ} 0 3 = ap (λ (g : StereoGains). g .refusal) (p .bits ∙ of-infinity) in omega arith
+infinity-played p =
+    let e : _≡_ {A = ℕ} 0 3 = ap (λ (g : StereoGains). g .refusal) (p .bits ∙ of-infinity) in omega arith
 
 -- it is silent
 silent : Pans (float (negsuc 99)) (accepted zero-float zero-float) → ⊥

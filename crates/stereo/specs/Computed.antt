@@ -1,4 +1,5 @@
--- What the program computes: the angle as its floats have it. Definitions only. Nobody has to believe them: `Promise` ties the gains to document 01's formula.
+-- What the program computes: the angle as its floats have it. Definitions only. Nobody has to believe them: `Promise`
+-- ties the gains to document 01's formula.
 use mathlib.Core.Bool.{cond}
 use lib.IntN.{pos, negsuc}
 use lib.Ieee.{Float, binary64, lt, add, mul, div}

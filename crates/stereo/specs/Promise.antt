@@ -1,4 +1,5 @@
--- Document 01, 'Refusal numbers': 3 is given exactly when "an angle or position is NaN or infinite", and "A refusal returns its number, [..] 0.0 for any number or gain". 'Gains', stereo: "Within 2^-36." Definitions only.
+-- Document 01, 'Refusal numbers': 3 is given exactly when "an angle or position is NaN or infinite", and "A refusal
+-- returns its number, [..] 0.0 for any number or gain". 'Gains', stereo: "Within 2^-36." Definitions only.
 use Prim.Native.Nat.{ℕ}
 use mathlib.Core.Path.{_≡_}
 use mathlib.Core.Bool.{Bool, not}
@@ -27,7 +28,11 @@ refusalOf p = firstOf (3 when isRefused p ∷ [])
 
 -- left the cosine, right the sine
 abbrev pub played : Float → StereoGains
-played p = record { refusal = 0; left = Angles.outcome cosine (angleOf p) .value; right = Angles.outcome sine (angleOf p) .value }
+played p = record {
+  refusal = 0;
+  left = Angles.outcome cosine (angleOf p) .value;
+  right = Angles.outcome sine (angleOf p) .value;
+}
 
 abbrev pub refused : ℕ → StereoGains
 refused n = record { refusal = n; left = zero-float; right = zero-float }

@@ -1,5 +1,7 @@
--- On both layouts some speaker is 80 degrees away at most, whatever the azimuth: in front C, behind one of the rear pair. So the sum of squares is 3 / 100 at least, the square of the cosine of 80 degrees being
--- 0.0301. (The least sum is larger: that of 5.1 at 180 degrees is 1 + cos 140, 0.2339.., and that of 7.1 3 / 2. Document 01 asks only that it is never near 10 ^ -10.) Assumes nothing.
+-- On both layouts some speaker is 80 degrees away at most, whatever the azimuth: in front C, behind one of the rear
+-- pair. So the sum of squares is 3 / 100 at least, the square of the cosine of 80 degrees being 0.0301. (The least sum
+-- is larger: that of 5.1 at 180 degrees is 1 + cos 140, 0.2339.., and that of 7.1 3 / 2. Document 01 asks only that it
+-- is never near 10 ^ -10.) Assumes nothing.
 use mathlib.Core.Path.{_≡_, refl, sym, ap, _∙_, subst}
 use mathlib.Core.Bool.{true}
 use Prim.Native.Nat.{ℕ, _<_}
@@ -41,13 +43,16 @@ module _ (a : Fraction) (p m : ℕ) (A : 0 < a .over) (H : AtMost (magnitude a) 
   loud K h =
       let D : 0 < apart .over = mul-pos {n = 1} A (lit< tt) in
       let N : 0 < definedCosine apart .over = defined-number cosine apart D in
-      rw (straight a p m A H K (omega arith), is-less apart (whole 90) (omega arith)) (cosine-square-least apart D (omega arith) h, mul-pos N N)
+      rw (straight a p m A H K (omega arith), is-less apart (whole 90) (omega arith))
+      (cosine-square-least apart D (omega arith) h, mul-pos N N)
 
 -- the sum is no less than the square of a channel's gain
 pub channel-in-sum : (l : Layout) (a : Fraction) (c : ℕ) → c < channelsOf l → AtMost (square (rawAt l a c)) (sumAt l a)
 channel-in-sum l a c h =
     let n = channelsOf l in
-    subst (λ (g : Fraction). AtMost (square g) (sumAt l a)) (getD-tab 0 n (rawAt l a) c (whole 0) h ∙ ap (rawAt l a) (zero-add c)) (square-in-sum (rawFormulas l a) c (whole 0) (omega (arith, length-tab 0 n (rawAt l a))))
+    subst (λ (g : Fraction). AtMost (square g) (sumAt l a))
+    (getD-tab 0 n (rawAt l a) c (whole 0) h ∙ ap (rawAt l a) (zero-add c))
+    (square-in-sum (rawFormulas l a) c (whole 0) (omega (arith, length-tab 0 n (rawAt l a))))
 
 module _ (a : Fraction) (A : 0 < a .over) (H : AtMost (magnitude a) (whole 180)) where
   sum-least : (l : Layout) (c : ℕ) → c < channelsOf l → Loud (rawAt l a c) → AtMost least (sumAt l a)
@@ -58,9 +63,11 @@ module _ (a : Fraction) (A : 0 < a .over) (H : AtMost (magnitude a) (whole 180))
     front : Less (fraction 0 80 1) a → Less a (whole 80) → AtMost least (sumAt l a)
     front h k = sum-least l 2 three (subst Loud (sym C) (loud a 0 0 A H (lit≤ tt) (omega arith)))
 
-    all-round : (AtMost (whole 80) a → AtMost least (sumAt l a)) → (AtMost a (fraction 0 80 1) → AtMost least (sumAt l a))
+    all-round : (AtMost (whole 80) a → AtMost least (sumAt l a))
+        → (AtMost a (fraction 0 80 1) → AtMost least (sumAt l a))
         → AtMost least (sumAt l a)
-    all-round rear-left rear-right = by-side (fraction 0 80 1) a (λ h. by-side a (whole 80) (front h) rear-left) rear-right
+    all-round rear-left rear-right =
+        by-side (fraction 0 80 1) a (λ h. by-side a (whole 80) (front h) rear-left) rear-right
 
   clear-51 : AtMost least (sumAt Surround51 a)
   unfolding rawAt

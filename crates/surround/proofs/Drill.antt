@@ -1,4 +1,5 @@
--- Document 02, E3, of document 01's drill item 5: "at 120 only Ls still sounds; at 0, C is now loudest, with L and R equal", of the formulas and of the program's gains, by computing. Assumes nothing.
+-- Document 02, E3, of document 01's drill item 5: "at 120 only Ls still sounds; at 0, C is now loudest, with L and R
+-- equal", of the formulas and of the program's gains, by computing. Assumes nothing.
 use mathlib.Core.Path.{_≡_, refl, _∙_}
 use mathlib.Core.Bool.{true, false}
 use mathlib.Core.List.{[], _∷_}
@@ -20,7 +21,8 @@ use Rattle.channel.specs.declared.Layout.the-variants.{Stereo, Surround51, Surr
 use Rattle.harmonics.specs.Promise.{silence}
 use Rattle.surround.specs.Drill.{gains51, sidesAt0, centreAt0}
 use Rattle.surround.specs.Formula.{distance, rawGain, rawAt, sumAt, isSilent}
-use Rattle.surround.specs.Computed.{absolute, notBelow, placeOf, isNear, wayOf, rawOf, channelGain, rawGains, sumOf, dividedBy}
+use Rattle.surround.specs.Computed.{absolute, notBelow, placeOf, isNear, wayOf, rawOf, channelGain, rawGains}
+use Rattle.surround.specs.Computed.{sumOf, dividedBy}
 use Rattle.surround.specs.Promise.{gainsOf, outcome}
 
 -- ---- at 120 only Ls sounds: the others are silent by the rule, and the square of Ls is all of the sum
@@ -46,16 +48,23 @@ unfolding rawAt rawGain distance
 left-and-right = refl
 
 pub centre-loudest : Less (square (rawAt Surround51 (whole 0) 0)) (square (rawAt Surround51 (whole 0) 2))
-unfolding rawAt rawGain distance defined isMultiple quarters turned reduced around Series.radians cosineSum term power factorial
+unfolding rawAt rawGain distance defined isMultiple quarters turned reduced around Series.radians cosineSum term power
+    factorial
 centre-loudest = lit< tt
 
 -- ---- the program's gains, bit for bit
-pub at-120 : outcome Surround51 (float (pos 120)) ≡ record { refusal = 0; gains = gains51 zero-float zero-float zero-float one-float }
-unfolding refusesAngle isInside gainsOf dividedBy sumOf rawGains channelGain rawOf isNear placeOf wayOf absolute notBelow lt le eq add sub mul div neg round ofInt computed place cut Angles.units turned cosineAt short times radians nesting nest rounded rootOf wholeRoot size units
+pub at-120 : outcome Surround51 (float (pos 120))
+    ≡ record { refusal = 0; gains = gains51 zero-float zero-float zero-float one-float }
+unfolding refusesAngle isInside gainsOf dividedBy sumOf rawGains channelGain rawOf isNear placeOf wayOf absolute
+    notBelow lt le eq add sub mul div neg round ofInt computed place cut Angles.units turned cosineAt short times
+    radians nesting nest rounded rootOf wholeRoot size units
 at-120 = refl
 
-pub at-0 : outcome Surround51 (float (pos 0)) ≡ record { refusal = 0; gains = gains51 sidesAt0 sidesAt0 centreAt0 zero-float }
-unfolding ofBits refusesAngle isInside gainsOf dividedBy sumOf rawGains channelGain rawOf isNear placeOf wayOf absolute notBelow lt le eq add sub mul div neg round ofInt computed place cut Angles.units turned cosineAt short times radians nesting nest rounded rootOf wholeRoot size units
+pub at-0 : outcome Surround51 (float (pos 0))
+    ≡ record { refusal = 0; gains = gains51 sidesAt0 sidesAt0 centreAt0 zero-float }
+unfolding ofBits refusesAngle isInside gainsOf dividedBy sumOf rawGains channelGain rawOf isNear placeOf wayOf absolute
+    notBelow lt le eq add sub mul div neg round ofInt computed place cut Angles.units turned cosineAt short times
+    radians nesting nest rounded rootOf wholeRoot size units
 at-0 = refl
 
 -- ---- what is refused

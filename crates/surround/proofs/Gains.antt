@@ -1,5 +1,6 @@
--- The gains of an accepted azimuth: each raw gain over the root of the sum of squares is within 2 ^ -30, by squares, of document 01's; not below 0; and exactly 0.0 where the raw gain is. One law for any layout
--- of which the tests pass; 5.1 and 7.1 pass them by computing. Assumes nothing.
+-- The gains of an accepted azimuth: each raw gain over the root of the sum of squares is within 2 ^ -30, by squares, of
+-- document 01's; not below 0; and exactly 0.0 where the raw gain is. One law for any layout of which the tests pass;
+-- 5.1 and 7.1 pass them by computing. Assumes nothing.
 use mathlib.Core.Path.{_≡_, refl, sym, ap, _∙_, subst, subst₂}
 use mathlib.Core.Logic.{_⊎_, inl, inr}
 use mathlib.Core.Bool.{Bool, true, false, _||_, not, cond}
@@ -74,7 +75,8 @@ module _ (l : Layout) (a : Float) (A : 0 < number a .over) (H : AtMost (magnitud
   record Passes : Type 0 where
     good : T (bound binary64 squares .good)
     clearly : T (leb (1 + bound binary64 squares .error) leastSum)
-    fine : T (normal binary64 surroundBits (bound binary64 (gain 0) .most) (bound binary64 (gain 0) .error) mostGain (root-error (2 ^ 53) (bound binary64 squares .most) (bound binary64 squares .error)) leastRoot leastSum)
+    fine : T (normal binary64 surroundBits (bound binary64 (gain 0) .most) (bound binary64 (gain 0) .error) mostGain
+        (root-error (2 ^ 53) (bound binary64 squares .most) (bound binary64 squares .error)) leastRoot leastSum)
     run-is : run binary64 squares ≡ sum
     exact-is : exact squares ≡ sumAt l q
     fit : T (fits binary64 sum)
@@ -82,13 +84,16 @@ module _ (l : Layout) (a : Float) (A : 0 < number a .over) (H : AtMost (magnitud
 
   module _ (e : surround l ≡ true) (p : Passes) where
     sum-near : Near scale (number sum) (sumAt l q) (bound binary64 squares .most) (bound binary64 squares .error)
-    sum-near = subst₂ (λ (x : Float) (s : Fraction). Near scale (number x) s (bound binary64 squares .most) (bound binary64 squares .error)) (p .run-is) (p .exact-is) (sound binary64 squares (p .good) .near)
+    sum-near = subst₂ (λ (x : Float) (s : Fraction). Near scale (number x) s (bound binary64 squares .most)
+        (bound binary64 squares .error)) (p .run-is) (p .exact-is) (sound binary64 squares (p .good) .near)
 
     sum-least : Least scale (sumAt l q) leastSum
     sum-least = least-unit leastSum (lit< tt) (lit≤ tt) (at-most-least (clear q A H l e))
 
     sum-positive : T (positive sum)
-    sum-positive = number-positive sum (least-positive (lit< tt) (sum-near .close .first) (least-near 1 (leb→le _ _ (p .clearly)) (sum-near .close) sum-least))
+    sum-positive = number-positive sum
+        (least-positive (lit< tt) (sum-near .close .first)
+        (least-near 1 (leb→le _ _ (p .clearly)) (sum-near .close) sum-least))
 
     root-law : RootOf (2 ^ 53) (number root) (number sum)
     root-law = root-close binary64 sum (p .fit) sum-positive
@@ -101,13 +106,16 @@ module _ (l : Layout) (a : Float) (A : 0 < number a .over) (H : AtMost (magnitud
     zero-divided = zero-over root above-zero
 
     -- ---- a channel
-    near : (c : ℕ) → c < n → BySquares surroundBits (number (div binary64 (channelGain l a c) root)) (rawAt l q c) (sumAt l q)
+    near : (c : ℕ) → c < n → BySquares surroundBits (number (div binary64 (channelGain l a c) root)) (rawAt l q c)
+        (sumAt l q)
     near c h =
-        normalised binary64 surroundBits mostGain leastRoot (channelGain l a c) root (rawAt l q c) (sumAt l q) (p .fine) (sound binary64 (gain c) tt .near) (root-law .positive)
+        normalised binary64 surroundBits mostGain leastRoot (channelGain l a c) root (rawAt l q c) (sumAt l q) (p .fine)
+        (sound binary64 (gain c) tt .near) (root-law .positive)
         (root-near (2 ^ 53) (number root) (lit≤ tt) root-law sum-near) sum-least (channel-in-sum l q c h)
 
     not-below : (c : ℕ) → AtMost (whole 0) (number (div binary64 (channelGain l a c) root))
-    not-below c = quotient-not-below binary64 (channelGain l a c) root (channel-raw l a c A H .known .near .first) above-zero (channel-raw l a c A H .not-below)
+    not-below c = quotient-not-below binary64 (channelGain l a c) root (channel-raw l a c A H .known .near .first)
+        above-zero (channel-raw l a c A H .not-below)
 
     -- ---- the sixteen places of the answer
     quotient : ℕ → Float
@@ -128,7 +136,8 @@ module _ (l : Layout) (a : Float) (A : 0 < number a .over) (H : AtMost (magnitud
     unfolding quotient raw
     channel-is c h =
         let k : c < 16 = omega (arith, p .small) in
-        place-is c k ∙ ap (λ (x : Float). div binary64 x root) (raw-is c k ∙ cond-true (channelGain l a c) zero-float (lt-ltb c n h))
+        place-is c k ∙ ap (λ (x : Float). div binary64 x root)
+        (raw-is c k ∙ cond-true (channelGain l a c) zero-float (lt-ltb c n h))
 
     -- beyond the channels of the layout
     beyond-is : (c : ℕ) → n ≤ c → getD (gainsOf l a) c zero-float ≡ zero-float
@@ -136,7 +145,8 @@ module _ (l : Layout) (a : Float) (A : 0 < number a .over) (H : AtMost (magnitud
     beyond-is c h = go (split c 16)
       where
         go : (c < 16) ⊎ (16 ≤ c) → getD (gainsOf l a) c zero-float ≡ zero-float
-        go (inl k) = place-is c k ∙ ap (λ (x : Float). div binary64 x root) (raw-is c k ∙ cond-false (channelGain l a c) zero-float (le-ltb c n h)) ∙ zero-divided
+        go (inl k) = place-is c k ∙ ap (λ (x : Float). div binary64 x root)
+            (raw-is c k ∙ cond-false (channelGain l a c) zero-float (le-ltb c n h)) ∙ zero-divided
         go (inr k) = List·getD-eq-default (gainsOf l a) zero-float {n = c} (omega (arith, length-tab 0 16 quotient))
 
     zeroed : (c : ℕ) → channelGain l a c ≡ zero-float → getD (gainsOf l a) c zero-float ≡ zero-float
@@ -148,9 +158,12 @@ module _ (l : Layout) (a : Float) (A : 0 < number a .over) (H : AtMost (magnitud
 
     silent : (c : ℕ) → T (isSilent l q c) → getD (gainsOf l a) c zero-float ≡ zero-float
     unfolding isSilent
-    silent c t = go (leb n c) (lowFrequency l c) (isLess (distance q (speakerAt l c)) (whole 90)) (leb→le n c) (channel-low l a c A H) (channel-silent l a c A H) t
+    silent c t = go (leb n c) (lowFrequency l c) (isLess (distance q (speakerAt l c)) (whole 90)) (leb→le n c)
+        (channel-low l a c A H) (channel-silent l a c A H) t
       where
-        go : (b f d : Bool) → (T b → n ≤ c) → (f ≡ true → channelGain l a c ≡ zero-float) → (d ≡ false → channelGain l a c ≡ zero-float) → T (b || f || not d) → getD (gainsOf l a) c zero-float ≡ zero-float
+        go : (b f d : Bool) → (T b → n ≤ c) → (f ≡ true → channelGain l a c ≡ zero-float)
+            → (d ≡ false → channelGain l a c ≡ zero-float) → T (b || f || not d)
+            → getD (gainsOf l a) c zero-float ≡ zero-float
         go true f d u v w t = beyond-is c (u tt)
         go false true d u v w t = zeroed c (v refl)
         go false false false u v w t = zeroed c (w refl)
@@ -159,18 +172,39 @@ module _ (l : Layout) (a : Float) (A : 0 < number a .over) (H : AtMost (magnitud
     the-gains : SurroundWords l a (λ c. getD (gainsOf l a) c zero-float)
     the-gains = record {
       clear = clear q A H l e;
-      near = λ c h. subst (λ (x : Float). BySquares surroundBits (number x) (rawAt l q c) (sumAt l q)) (sym (channel-is c h)) (near c h);
+      near = λ c h. subst (λ (x : Float). BySquares surroundBits (number x) (rawAt l q c) (sumAt l q))
+          (sym (channel-is c h)) (near c h);
       above = λ c h. subst (λ (x : Float). AtMost (whole 0) (number x)) (sym (channel-is c h)) (not-below c);
       silent = silent;
     }
 
-passes-51 : (a : Float) (A : 0 < number a .over) (H : AtMost (magnitude (number a)) (whole 180)) → Passes Surround51 a A H
+passes-51 : (a : Float) (A : 0 < number a .over) (H : AtMost (magnitude (number a)) (whole 180))
+    → Passes Surround51 a A H
 unfolding sumOf rawGains ofInt
-passes-51 a A H = record { good = tt; clearly = tt; fine = tt; run-is = refl; exact-is = refl; fit = add-fits binary64 _ _; small = lit≤ tt }
+passes-51 a A H = record {
+  good = tt;
+  clearly = tt;
+  fine = tt;
+  run-is = refl;
+  exact-is = refl;
+  fit = add-fits binary64 _ _;
+  small = lit≤ tt;
+}
 
-passes-71 : (a : Float) (A : 0 < number a .over) (H : AtMost (magnitude (number a)) (whole 180)) → Passes Surround71 a A H
+passes-71 : (a : Float) (A : 0 < number a .over) (H : AtMost (magnitude (number a)) (whole 180))
+    → Passes Surround71 a A H
 unfolding sumOf rawGains ofInt
-passes-71 a A H = record { good = tt; clearly = tt; fine = tt; run-is = refl; exact-is = refl; fit = add-fits binary64 _ _; small = lit≤ tt }
+passes-71 a A H = record {
+  good = tt;
+  clearly = tt;
+  fine = tt;
+  run-is = refl;
+  exact-is = refl;
+  fit = add-fits binary64 _ _;
+  small = lit≤ tt;
+}
 
-pub gains : (l : Layout) (a : Float) → surround l ≡ true → 0 < number a .over → AtMost (magnitude (number a)) (whole 180) → SurroundWords l a (λ c. getD (gainsOf l a) c zero-float)
-gains l a e A H = the-gains l a A H e (by-surround (λ (l : Layout). Passes l a A H) (passes-51 a A H) (passes-71 a A H) l e)
+pub gains : (l : Layout) (a : Float) → surround l ≡ true → 0 < number a .over
+    → AtMost (magnitude (number a)) (whole 180) → SurroundWords l a (λ c. getD (gainsOf l a) c zero-float)
+gains l a e A H =
+    the-gains l a A H e (by-surround (λ (l : Layout). Passes l a A H) (passes-51 a A H) (passes-71 a A H) l e)

@@ -34,16 +34,21 @@ module _ (l : Layout) (a : Float) (b : Bool) (s : b ≡ surround l) where
   refusing n = record { refusal = n; gains = silence }
 
   refuses : (n : ℕ) (r : SurroundGains) → 0 < n → refusalOf l a ≡ n → r ≡ refusing n → Pans l a r
-  refuses n r o h e = record { bits = e ∙ answered-by (accepting (gainsOf l a)) refusing (refusalOf l a) n o h; words = λ k. absurd (not-accepted n o h k) }
+  refuses n r o h e = record {
+    bits = e ∙ answered-by (accepting (gainsOf l a)) refusing (refusalOf l a) n o h;
+    words = λ k. absurd (not-accepted n o h k);
+  }
 
   pub no-layout : (r : SurroundGains) → not b ≡ true → r ≡ record { refusal = 2; gains = silence } → Pans l a r
   no-layout r h e = refuses 2 r (lit< tt) (cond-true 2 _ (ap not (sym s) ∙ h)) e
 
-  pub no-azimuth : (r : SurroundGains) → not b ≡ false → refusesAzimuth a ≡ true → r ≡ record { refusal = 3; gains = silence } → Pans l a r
+  pub no-azimuth : (r : SurroundGains) → not b ≡ false → refusesAzimuth a ≡ true
+      → r ≡ record { refusal = 3; gains = silence } → Pans l a r
   no-azimuth r h i e = refuses 3 r (lit< tt) (cond-false 2 _ (ap not (sym s) ∙ h) ∙ cond-true 3 0 i) e
 
   -- n channels, their raw gains, the sum of their squares and its root
-  pub plays : (n : ℕ) (raw : List Float) (x : Float) (r : Rooted) (g : List Float) → not b ≡ false → refusesAzimuth a ≡ false → n ≡ counted l .channels → raw ≡ rawGains l a n → x ≡ sumOf n raw
+  pub plays : (n : ℕ) (raw : List Float) (x : Float) (r : Rooted) (g : List Float) → not b ≡ false
+      → refusesAzimuth a ≡ false → n ≡ counted l .channels → raw ≡ rawGains l a n → x ≡ sumOf n raw
       → r ≡ rootAnswer x → g ≡ dividedBy (r .value) raw → Pans l a (record { refusal = 0; gains = g })
   unfolding gainsOf ofInt
   plays n raw x r g h i en er es eo eg =
@@ -55,10 +60,14 @@ module _ (l : Layout) (a : Float) (b : Bool) (s : b ≡ surround l) where
       ap (λ (y : Rooted). y .value) eo ∙ root-value x ∙ ap (rootOf binary64) (es ∙ (λ j. sumOf (count j) (raw-is j))) in
       let gains-are : g ≡ gainsOf l a = eg ∙ (λ j. dividedBy (root-is j) (raw-is j)) in
       record {
-        bits = ap accepting gains-are ∙ sym (answered-accepted (accepting (gainsOf l a)) refusing (refusalOf l a) accepted);
-        words = λ k. subst (λ (y : List Float). SurroundWords l a (λ c. getD y c zero-float)) (sym gains-are) (gains l a surrounds (azimuth-number a i) (azimuth-size a i));
+        bits = ap accepting gains-are
+            ∙ sym (answered-accepted (accepting (gainsOf l a)) refusing (refusalOf l a) accepted);
+        words = λ k. subst (λ (y : List Float). SurroundWords l a (λ c. getD y c zero-float)) (sym gains-are)
+            (gains l a surrounds (azimuth-number a i) (azimuth-size a i));
       }
 
 -- how many channels there are to go over
-pub few-counted : (l : Layout) (b : Bool) (k : Counted) → b ≡ surround l → not b ≡ false → k ≡ counted l → k .channels ≤ 16
-few-counted l b k e h c = let s = sym e ∙ not-false b h in omega (arith, ap (λ (x : Counted). x .channels) c ∙ surround-counted l s, surround-few l s .1)
+pub few-counted : (l : Layout) (b : Bool) (k : Counted) → b ≡ surround l → not b ≡ false → k ≡ counted l
+    → k .channels ≤ 16
+few-counted l b k e h c = let s = sym e ∙ not-false b h in
+    omega (arith, ap (λ (x : Counted). x .channels) c ∙ surround-counted l s, surround-few l s .1)

@@ -1,4 +1,5 @@
--- A voice at the azimuth of a speaker is loudest there, by one computed test over the speakers of both layouts. Assumes nothing.
+-- A voice at the azimuth of a speaker is loudest there, by one computed test over the speakers of both layouts. Assumes
+-- nothing.
 use mathlib.Core.Path.{_≡_, refl, sym, ap, _∙_, subst}
 use mathlib.Core.Bool.{Bool, true, false, _&&_, cond, and-eq-true-iff}
 use mathlib.Core.List.{List}
@@ -44,18 +45,22 @@ module _ (l : Layout) where
 
   says : every loudest channels ≡ true → (c : ℕ) → c < channelsOf l → lowFrequency l c ≡ false → Loudest l c
   says t c h low =
-      let both = and-eq-true-iff (full c) (every (softer c) channels) .0 (sym (cond-false true _ low) ∙ passed loudest (channelsOf l) c t h) in
+      let both = and-eq-true-iff (full c) (every (softer c) channels) .0
+      (sym (cond-false true _ low) ∙ passed loudest (channelsOf l) c t h) in
       record {
         itself = same-computed _ _ (subst T (sym (both .0)) tt);
-        others = λ k i apart. less-true _ _ (sym (cond-false true _ apart) ∙ passed (softer c) (channelsOf l) k (both .1) i);
+        others = λ k i apart. less-true _ _
+            (sym (cond-false true _ apart) ∙ passed (softer c) (channelsOf l) k (both .1) i);
       }
 
 loudest-51 : every (loudest Surround51) (channels Surround51) ≡ true
-unfolding rawAt rawGain distance defined isMultiple quarters turned reduced around radians cosineSum term power factorial
+unfolding rawAt rawGain distance defined isMultiple quarters turned reduced around radians cosineSum term power
+    factorial
 loudest-51 = refl
 
 loudest-71 : every (loudest Surround71) (channels Surround71) ≡ true
-unfolding rawAt rawGain distance defined isMultiple quarters turned reduced around radians cosineSum term power factorial
+unfolding rawAt rawGain distance defined isMultiple quarters turned reduced around radians cosineSum term power
+    factorial
 loudest-71 = refl
 
 pub pointed-at : PointedAt

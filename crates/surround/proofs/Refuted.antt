@@ -28,27 +28,35 @@ refuses-always p = let e : _≡_ {A = ℕ} 3 0 = same-refusal p at-120 in omega 
 
 -- it is silent: Ls sounds alone, so that the square of its exact gain is 1
 silent : Pans Surround51 (float (pos 120)) (record { refusal = 0; gains = silence }) → ⊥
-unfolding refusesAngle isInside lt le eq neg ofInt rawAt rawGain distance defined isMultiple quarters turned reduced around radians cosineSum term power factorial
+unfolding refusesAngle isInside lt le eq neg ofInt rawAt rawGain distance defined isMultiple quarters turned reduced
+    around radians cosineSum term power factorial
 silent p = le→leb _ _ (p .words refl .near 4 (lit< tt) .above)
 
 -- the speaker pointed at is silent, as the Rust has it: C at 0 degrees
-pointed-at-silent : (l r : Float) (g : List Float) → Pans Surround51 (float (pos 0)) (record { refusal = 0; gains = l ∷ r ∷ zero-float ∷ g }) → ⊥
-unfolding refusesAngle isInside lt le eq neg ofInt rawAt rawGain distance defined isMultiple quarters turned reduced around radians cosineSum term power factorial
+pointed-at-silent : (l r : Float) (g : List Float) → Pans Surround51 (float (pos 0))
+    (record { refusal = 0; gains = l ∷ r ∷ zero-float ∷ g }) → ⊥
+unfolding refusesAngle isInside lt le eq neg ofInt rawAt rawGain distance defined isMultiple quarters turned reduced
+    around radians cosineSum term power factorial
 pointed-at-silent l r g p = le→leb _ _ (p .words refl .near 2 (lit< tt) .above)
 
 -- and L at 30 degrees, where trainees found the left speaker dead
 left-dead : (g : List Float) → Pans Surround51 (float (pos 30)) (record { refusal = 0; gains = zero-float ∷ g }) → ⊥
-unfolding refusesAngle isInside lt le eq neg ofInt rawAt rawGain distance defined isMultiple quarters turned reduced around radians cosineSum term power factorial
+unfolding refusesAngle isInside lt le eq neg ofInt rawAt rawGain distance defined isMultiple quarters turned reduced
+    around radians cosineSum term power factorial
 left-dead g p = le→leb _ _ (p .words refl .near 0 (lit< tt) .above)
 
 -- the three in front share alike at 0 degrees: each has the f64 nearest to the root of 1/3
-equal-thirds : (l r : Float) (g : List Float) → Pans Surround51 (float (pos 0)) (record { refusal = 0; gains = l ∷ r ∷ ofBits binary64 0x3FE279A74590331C ∷ g }) → ⊥
-unfolding ofBits refusesAngle isInside lt le eq neg ofInt rawAt rawGain distance defined isMultiple quarters turned reduced around radians cosineSum term power factorial
+equal-thirds : (l r : Float) (g : List Float) → Pans Surround51 (float (pos 0))
+    (record { refusal = 0; gains = l ∷ r ∷ ofBits binary64 0x3FE279A74590331C ∷ g }) → ⊥
+unfolding ofBits refusesAngle isInside lt le eq neg ofInt rawAt rawGain distance defined isMultiple quarters turned
+    reduced around radians cosineSum term power factorial
 equal-thirds l r g p = le→leb _ _ (p .words refl .near 2 (lit< tt) .above)
 
 -- the speaker pointed at sounds alone: L and R are less than 90 degrees away, and sound too
-centre-alone : (l r : Float) (g : List Float) → Pans Surround51 (float (pos 0)) (record { refusal = 0; gains = l ∷ r ∷ one-float ∷ g }) → ⊥
-unfolding refusesAngle isInside lt le eq neg ofInt rawAt rawGain distance defined isMultiple quarters turned reduced around radians cosineSum term power factorial
+centre-alone : (l r : Float) (g : List Float) → Pans Surround51 (float (pos 0))
+    (record { refusal = 0; gains = l ∷ r ∷ one-float ∷ g }) → ⊥
+unfolding refusesAngle isInside lt le eq neg ofInt rawAt rawGain distance defined isMultiple quarters turned reduced
+    around radians cosineSum term power factorial
 centre-alone l r g p = le→leb _ _ (p .words refl .near 2 (lit< tt) .below)
 
 -- it plays a layout of seventeen channels
@@ -63,6 +71,8 @@ azimuth-refused-by-2 : (g : List Float) → Pans Surround71 (float (pos 181)) (r
 azimuth-refused-by-2 g p = let e : _≡_ {A = ℕ} 2 3 = same-refusal p beyond-180 in omega arith
 
 -- it is off by 2^-29, twice what document 01 allows: Ls sounds alone at 120 degrees, with a gain of 1
-off-by-twice : (l r c f : Float) (g : List Float) → Pans Surround51 (float (pos 120)) (record { refusal = 0; gains = l ∷ r ∷ c ∷ f ∷ fin false 536870911 (negsuc 28) ∷ g }) → ⊥
-unfolding refusesAngle isInside lt le eq neg ofInt rawAt rawGain distance defined isMultiple quarters turned reduced around radians cosineSum term power factorial
+off-by-twice : (l r c f : Float) (g : List Float) → Pans Surround51 (float (pos 120))
+    (record { refusal = 0; gains = l ∷ r ∷ c ∷ f ∷ fin false 536870911 (negsuc 28) ∷ g }) → ⊥
+unfolding refusesAngle isInside lt le eq neg ofInt rawAt rawGain distance defined isMultiple quarters turned reduced
+    around radians cosineSum term power factorial
 off-by-twice l r c f g p = le→leb _ _ (p .words refl .near 4 (lit< tt) .above)

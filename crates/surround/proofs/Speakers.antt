@@ -1,4 +1,5 @@
--- Where the program adds whole numbers to the azimuth of a speaker nothing is rounded: by one computed test over the tables of speakers. Assumes nothing.
+-- Where the program adds whole numbers to the azimuth of a speaker nothing is rounded: by one computed test over the
+-- tables of speakers. Assumes nothing.
 use mathlib.Core.Bool.{Bool}
 use mathlib.Core.List.{List, [], _∷_}
 use Prim.Native.Nat.{ℕ, _+_, _*_, _<_}
@@ -43,7 +44,8 @@ abbrev exactly : Float → Fraction → List Bool
 exactly x q = ltb 0 (number x .over) ∷ ltb 0 (q .over) ∷ isSame (number x) q ∷ []
 
 abbrev sides : Float → Fraction → List Bool
-sides t q = all (exactly t q) ∷ all (exactly (sub binary64 t (float (pos 90))) (q ⊖ whole 90)) ∷ all (exactly (add binary64 t (float (pos 90))) (q ⊕ whole 90)) ∷ []
+sides t q = all (exactly t q) ∷ all (exactly (sub binary64 t (float (pos 90))) (q ⊖ whole 90))
+    ∷ all (exactly (add binary64 t (float (pos 90))) (q ⊕ whole 90)) ∷ []
 
 abbrev stands : Float → Fraction → List Bool
 stands s q =
@@ -58,10 +60,16 @@ stands s q =
 exactly-says : (x : Float) (q : Fraction) → T (all (exactly x q)) → Exactly x q
 exactly-says x q t =
     let (first, (second, (same, end))) = each-holds (exactly x q) t in
-    record { first = ltb→lt 0 (number x .over) first; second = ltb→lt 0 (q .over) second; same = same-computed (number x) q same }
+    record {
+      first =
+          ltb→lt 0 (number x .over) first;
+      second = ltb→lt 0 (q .over) second;
+      same = same-computed (number x) q same;
+    }
 
 sides-say : (x : Float) (q : Fraction) → T (all (sides x q)) → Sides x q
-sides-say x q t = let (is, (below, (above, end))) = each-holds (sides x q) t in record { is = exactly-says _ _ is; below = exactly-says _ _ below; above = exactly-says _ _ above }
+sides-say x q t = let (is, (below, (above, end))) = each-holds (sides x q) t in
+    record { is = exactly-says _ _ is; below = exactly-says _ _ below; above = exactly-says _ _ above }
 
 stands-says : (s : Float) (q : Fraction) → T (all (stands s q)) → Stands s q
 stands-says s q t =
@@ -80,7 +88,8 @@ abbrev stands-at : ℤ → Bool
 stands-at z = all (stands (ofInt binary64 z) (degrees z))
 
 -- and 0 where the table ends
-all-stand : (zs : List ℤ) → T (stands-at (pos 0)) → T (every stands-at zs) → (i : ℕ) → Stands (ofInt binary64 (getD zs i (pos 0))) (degrees (getD zs i (pos 0)))
+all-stand : (zs : List ℤ) → T (stands-at (pos 0)) → T (every stands-at zs) → (i : ℕ)
+    → Stands (ofInt binary64 (getD zs i (pos 0))) (degrees (getD zs i (pos 0)))
 all-stand zs o t i = stands-says _ _ (every-holds stands-at zs (pos 0) o t i)
 
 pub speaker-stands : (l : Layout) (c : ℕ) → Stands (azimuthOf l c) (speakerAt l c)

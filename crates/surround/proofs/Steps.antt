@@ -24,7 +24,8 @@ module _ (a s t : Float) (b : Bool) (e : t ≡ placeOf a s) (n : b ≡ isNear a 
   far h = sym (cond-false _ _ (sym near-place ∙ not-true b h))
 
   -- x is the way to it, and g the cosine's answer
-  module _ (x : Float) (g : Answer) (h : not b ≡ false) (w : x ≡ absolute (sub binary64 a t)) (p : Promise cosine x g) where
+  module _ (x : Float) (g : Answer) (h : not b ≡ false) (w : x ≡ absolute (sub binary64 a t))
+      (p : Promise cosine x g) where
     value-is : g .value ≡ Angles.outcome cosine (wayOf a (placeOf a s)) .value
     unfolding wayOf
     value-is =

@@ -1,4 +1,5 @@
--- The worked bits of E3: the program's gains at azimuths where a speaker is pointed at, where it falls silent, and just short of that, on both layouts, by computing. Assumes nothing.
+-- The worked bits of E3: the program's gains at azimuths where a speaker is pointed at, where it falls silent, and just
+-- short of that, on both layouts, by computing. Assumes nothing.
 use mathlib.Core.Path.{_≡_, refl}
 use mathlib.Core.Bool.{false}
 use mathlib.Core.List.{List, [], _∷_}
@@ -18,7 +19,8 @@ use Rattle.channel.specs.Layouts.{channelsOf}
 use Rattle.channel.specs.declared.Layout.{Layout}
 use Rattle.channel.specs.declared.Layout.the-variants.{Surround51, Surround71}
 use Rattle.surround.specs.Formula.{distance, isSilent}
-use Rattle.surround.specs.Computed.{absolute, notBelow, placeOf, isNear, wayOf, rawOf, channelGain, rawGains, sumOf, dividedBy}
+use Rattle.surround.specs.Computed.{absolute, notBelow, placeOf, isNear, wayOf, rawOf, channelGain, rawGains}
+use Rattle.surround.specs.Computed.{sumOf, dividedBy}
 use Rattle.surround.specs.Promise.{gainsOf, outcome}
 
 -- the gains of a layout's channels, each as its 64 bits
@@ -44,7 +46,9 @@ worked :
     ∷ (0x3FE5555555555554 ∷ 0x3FD5555555555554 ∷ 0x3FE279A74590331D ∷ 0 ∷ 0x3FD5555555555554 ∷ 0 ∷ 0 ∷ 0 ∷ [])
     ∷ (0 ∷ 0 ∷ 0 ∷ 0 ∷ 0x3FE6A09E667F3BCC ∷ 0 ∷ 0x3FE6A09E667F3BCC ∷ 0 ∷ [])
     ∷ []
-unfolding toBits ofBits refusesAngle isInside gainsOf dividedBy sumOf rawGains channelGain rawOf isNear placeOf wayOf absolute notBelow lt le eq add sub mul div neg round ofInt computed place cut Angles.units turned cosineAt short times radians nesting nest rounded rootOf wholeRoot size units
+unfolding toBits ofBits refusesAngle isInside gainsOf dividedBy sumOf rawGains channelGain rawOf isNear placeOf wayOf
+    absolute notBelow lt le eq add sub mul div neg round ofInt computed place cut Angles.units turned cosineAt short
+    times radians nesting nest rounded rootOf wholeRoot size units
 worked = refl
 
 -- the f64 next above -60: L is 90 degrees less 2 ^ -47 away there, which rounds to 90
@@ -53,6 +57,9 @@ nextAboveMinus60 = ofBits binary64 0xC04DFFFFFFFFFFFF
 
 -- less than 90 away, and 0.0 all the same. The rule does not call it silent, and no promise says that it sounds: its
 -- exact gain is some 10 ^ -16
-rounded-to-90 : (getD (bits Surround51 nextAboveMinus60) 0 1 ≡ 0) × (isSilent Surround51 (number nextAboveMinus60) 0 ≡ false)
-unfolding isSilent distance toBits ofBits refusesAngle isInside gainsOf dividedBy sumOf rawGains channelGain rawOf isNear placeOf wayOf absolute notBelow lt le eq add sub mul div neg round ofInt computed place cut Angles.units turned cosineAt short times radians nesting nest rounded rootOf wholeRoot size units
+rounded-to-90 : (getD (bits Surround51 nextAboveMinus60) 0 1 ≡ 0)
+    × (isSilent Surround51 (number nextAboveMinus60) 0 ≡ false)
+unfolding isSilent distance toBits ofBits refusesAngle isInside gainsOf dividedBy sumOf rawGains channelGain rawOf
+    isNear placeOf wayOf absolute notBelow lt le eq add sub mul div neg round ofInt computed place cut Angles.units
+    turned cosineAt short times radians nesting nest rounded rootOf wholeRoot size units
 rounded-to-90 = (refl, refl)

@@ -1,4 +1,5 @@
--- What the program computes: the gains as its floats have them. Definitions only. Nobody has to believe them: `Promise` ties them to the documents' formulas.
+-- What the program computes: the gains as its floats have them. Definitions only. Nobody has to believe them: `Promise`
+-- ties them to the documents' formulas.
 use Prim.Native.Nat.{ℕ}
 use mathlib.Core.Bool.{Bool, false, cond}
 use mathlib.Core.List.{List}
@@ -21,7 +22,8 @@ unfoldable pub notBelow : Float → Float
 notBelow x = cond (lt x zero-float) zero-float x
 
 unfoldable pub placeOf : Float → Float → Float
-placeOf a s = cond (lt (add binary64 s (float (pos 180))) a) (add binary64 s (float (pos 360))) (cond (lt a (sub binary64 s (float (pos 180)))) (sub binary64 s (float (pos 360))) s)
+placeOf a s = cond (lt (add binary64 s (float (pos 180))) a) (add binary64 s (float (pos 360)))
+    (cond (lt a (sub binary64 s (float (pos 180)))) (sub binary64 s (float (pos 360))) s)
 
 unfoldable pub isNear : Float → Float → Bool
 isNear a t = cond (lt (sub binary64 t (float (pos 90))) a) (lt a (add binary64 t (float (pos 90)))) false

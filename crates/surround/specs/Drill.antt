@@ -1,4 +1,5 @@
--- Document 02, E3: "Document 01's rule and case 5 change: at 120 only Ls still sounds; at 0, C is now loudest, with L and R equal." The floats that the program gives there. Definitions only.
+-- Document 02, E3: "Document 01's rule and case 5 change: at 120 only Ls still sounds; at 0, C is now loudest, with L
+-- and R equal." The floats that the program gives there. Definitions only.
 use mathlib.Core.List.{List, [], _∷_}
 use lib.Ieee.{Float, binary64, ofBits}
 use Rattle.formats.specs.Floats.{zero-float}

@@ -1,5 +1,7 @@
--- Document 01, 'Gains', surround: "d is the shorter way round from azimuth to speaker. LFE is exactly 0.0. [..] 'less than 90' is decided on exact values, not on a rounded difference. Then each is divided by the
--- root of the sum of squares." Document 02, E3: "The raw gain becomes cos d for d < 90, else 0." Definitions only, over fractions of degrees: nothing is rounded here. The speakers of a layout are those of `channel`.
+-- Document 01, 'Gains', surround: "d is the shorter way round from azimuth to speaker. LFE is exactly 0.0. [..] 'less
+-- than 90' is decided on exact values, not on a rounded difference. Then each is divided by the root of the sum of
+-- squares." Document 02, E3: "The raw gain becomes cos d for d < 90, else 0." Definitions only, over fractions of
+-- degrees: nothing is rounded here. The speakers of a layout are those of `channel`.
 use Prim.Native.Nat.{ℕ, suc}
 use mathlib.Core.Bool.{Bool, not, _||_, cond}
 use mathlib.Core.List.{List}

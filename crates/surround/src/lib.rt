@@ -16,7 +16,8 @@
 //   a gain, by squares, at a sum of 3/100           2^-37
 ghost use mathlib.Core.Path.{_≡_};
 ghost use Prim.Native.Nat.{_≤_};
-ghost use Rattle.surround.specs.Computed.{absolute, placeOf, isNear, rawOf, channelGain, rawGains, sumOf, dividedBy};
+ghost use Rattle.surround.specs.Computed.{absolute, placeOf, isNear, rawOf, channelGain, rawGains, sumOf};
+ghost use Rattle.surround.specs.Computed.{dividedBy};
 ghost use Rattle.surround.specs.Promise.{Pans};
 ghost use Rattle.harmonics.specs.Promise.{silence};
 

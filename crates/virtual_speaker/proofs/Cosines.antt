@@ -13,9 +13,11 @@ use Rattle.channel.proofs.Orders.{by-order}
 use Rattle.virtual_speaker.specs.Weights.{maxReCosine}
 use Rattle.virtual_speaker.specs.Computed.{cosineOf}
 
-near-series : (n : ℕ) → T (isWithin 54 (number (cosineOf n)) (maxReCosine n)) → AtMost (magnitude (maxReCosine n)) (whole 1) → Approximates 54 (whole 1) (cosineOf n) (maxReCosine n)
+near-series : (n : ℕ) → T (isWithin 54 (number (cosineOf n)) (maxReCosine n))
+    → AtMost (magnitude (maxReCosine n)) (whole 1) → Approximates 54 (whole 1) (cosineOf n) (maxReCosine n)
 near-series n t h = record { near = within-computed 54 (number (cosineOf n)) (maxReCosine n) t; size = h }
 
 pub cosine-near : (n : ℕ) → refusesOrder n ≡ false → Approximates 54 (whole 1) (cosineOf n) (maxReCosine n)
 unfolding cosineSum term power factorial round
-cosine-near = by-order (λ (n : ℕ). Approximates 54 (whole 1) (cosineOf n) (maxReCosine n)) (near-series 1 tt (lit≤ tt)) (near-series 2 tt (lit≤ tt)) (near-series 3 tt (lit≤ tt))
+cosine-near = by-order (λ (n : ℕ). Approximates 54 (whole 1) (cosineOf n) (maxReCosine n)) (near-series 1 tt (lit≤ tt))
+    (near-series 2 tt (lit≤ tt)) (near-series 3 tt (lit≤ tt))

@@ -1,4 +1,5 @@
--- What the crates above cite of the weighted coefficients, beside their promise: that all are finite, whether refused or not, and that the eight positions are accepted. Assumes nothing.
+-- What the crates above cite of the weighted coefficients, beside their promise: that all are finite, whether refused
+-- or not, and that the eight positions are accepted. Assumes nothing.
 use mathlib.Core.Path.{_≡_, refl, ap, _∙_}
 use mathlib.Core.Bool.{Bool, true, false, not, _||_}
 use mathlib.Core.List.{List, [], _∷_}
@@ -33,13 +34,15 @@ pub use Rattle.virtual_speaker.proofs.Meets.{outcome-kept}
 -- ---- what is near a number is finite
 each-sound : (k : ℕ) (xs : List Float) (qs : List Fraction) → EachWithin k xs qs → hasNonfinite xs ≡ false
 each-sound k [] qs h = refl
-each-sound k (x ∷ xs) (q ∷ qs) h = ap (λ (b : Bool). not b || hasNonfinite xs) (is-true (finite x) (number-finite x (h .0 .first))) ∙ each-sound k xs qs (h .1)
+each-sound k (x ∷ xs) (q ∷ qs) h = ap (λ (b : Bool). not b || hasNonfinite xs)
+    (is-true (finite x) (number-finite x (h .0 .first))) ∙ each-sound k xs qs (h .1)
 each-sound k (x ∷ xs) [] h = absurd h
 
 module _ (order : ℕ) (d : Direction) (answer : Weighted) (p : Promise order d answer) where
   -- the answer by its refusal
   abbrev by : ℕ → Weighted
-  by n = answered n (record { refusal = 0; weights = weighted order d }) (λ k. record { refusal = k; weights = silence })
+  by n = answered n (record { refusal = 0; weights = weighted order d })
+      (λ k. record { refusal = k; weights = silence })
 
   -- ---- there are sixteen, all of them finite
   pub weights-length : length (answer .weights) ≡ 16
@@ -54,7 +57,8 @@ module _ (order : ℕ) (d : Direction) (answer : Weighted) (p : Promise order d 
   weights-sound = go (refusalOf order d) refl (p .bits)
     where
       go : (n : ℕ) → refusalOf order d ≡ n → answer ≡ by n → hasNonfinite (answer .weights) ≡ false
-      go zero h e = each-sound weightBits (answer .weights) (weightedFormulas order (number (d .azimuth)) (number (d .elevation))) (p .words h)
+      go zero h e = each-sound weightBits (answer .weights)
+          (weightedFormulas order (number (d .azimuth)) (number (d .elevation))) (p .words h)
       go (suc n) h e = ap (λ (s : Weighted). hasNonfinite (s .weights)) e
 
 -- ---- the positions
@@ -65,4 +69,6 @@ turned-accepted (negsuc n) t = whole-accepted true (suc n) (omega (arith, leb→
 
 pub position-accepted : (order i : ℕ) → refusesOrder order ≡ false → refusalOf order (positionOf i) ≡ 0
 unfolding ofInt
-position-accepted order i h = accepted order (positionOf i) h (direction-accepted (positionOf i) (turned-accepted (getD positions i (pos 0)) (position-turned i)) (elevation-accepted zero-float (lit< tt) (lit≤ tt)))
+position-accepted order i h = accepted order (positionOf i) h
+    (direction-accepted (positionOf i) (turned-accepted (getD positions i (pos 0)) (position-turned i))
+    (elevation-accepted zero-float (lit< tt) (lit≤ tt)))

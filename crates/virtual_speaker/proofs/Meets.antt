@@ -1,4 +1,5 @@
--- The promise is kept: all of it holds of the answer that the definition gives, and the program gives that. Assumes nothing.
+-- The promise is kept: all of it holds of the answer that the definition gives, and the program gives that. Assumes
+-- nothing.
 use mathlib.Core.Path.{_≡_, refl, sym, ap, _∙_, subst}
 use mathlib.Core.List.{List}
 use Prim.Native.Nat.{ℕ, zero, suc, _≤_, _<_}
@@ -33,7 +34,8 @@ unfolding weigh mul round ofInt
 silence-weighed = one-of-three (λ (k : Float). weigh k silence ≡ silence) refl refl refl
 
 degree-most : (i : ℕ) → degreeOf i ≤ 3
-degree-most i = let P : ℕ → Type 0 = λ l. l ≤ 3 in either P (ltb i 1) (lit≤ tt) (either P (ltb i 4) (lit≤ tt) (either P (ltb i 9) (lit≤ tt) (lit≤ tt)))
+degree-most i = let P : ℕ → Type 0 = λ l. l ≤ 3 in either P (ltb i 1) (lit≤ tt)
+    (either P (ltb i 4) (lit≤ tt) (either P (ltb i 9) (lit≤ tt) (lit≤ tt)))
 
 module _ (order : ℕ) (d : Direction) where
   abbrev a : Fraction
@@ -54,7 +56,8 @@ module _ (order : ℕ) (d : Direction) where
       let o = Harmonics.outcome order d in
       let p = Laws.outcome-kept order d in
       weighted-near (cosine-near order (Laws.is-accepted order d h .order-is))
-      (subst (λ (xs : List Float). Approximates 42 (whole 5) (getD xs i nan) (getD (formulas order a e) i (whole 0))) (Laws.gains-are order d o p h) (Laws.gain-near order d o p h i nan (whole 0) l))
+      (subst (λ (xs : List Float). Approximates 42 (whole 5) (getD xs i nan) (getD (formulas order a e) i (whole 0)))
+      (Laws.gains-are order d o p h) (Laws.gain-near order d o p h i nan (whole 0) l))
       (degreeOf i) (degree-most i)
 
   abbrev accepting : List Float → Weighted
@@ -64,7 +67,8 @@ module _ (order : ℕ) (d : Direction) where
   refusing n = record { refusal = n; weights = silence }
 
   weights-are : refusalOf order d ≡ 0 → outcome order d .weights ≡ weighted order d
-  weights-are h = ap (λ (r : Weighted). r .weights) (answered-accepted (accepting (weighted order d)) refusing (refusalOf order d) h)
+  weights-are h = ap (λ (r : Weighted). r .weights)
+      (answered-accepted (accepting (weighted order d)) refusing (refusalOf order d) h)
 
   pub outcome-kept : Promise order d (outcome order d)
   unfolding weigh
@@ -76,15 +80,25 @@ module _ (order : ℕ) (d : Direction) where
   }
 
   -- ---- the answer of the program
-  pub weighed-kept : (r : Coefficients) → Harmonics.Promise order d r → (w : List Float) → w ≡ weigh (cosineOf order) (r .gains) → Promise order d (record { refusal = r .refusal; weights = w })
+  pub weighed-kept : (r : Coefficients) → Harmonics.Promise order d r → (w : List Float)
+      → w ≡ weigh (cosineOf order) (r .gains) → Promise order d (record { refusal = r .refusal; weights = w })
   weighed-kept r p w h =
       subst (Promise order d)
-      (sym ((λ i. record { refusal = p .bits i .refusal; weights = (h ∙ ap (λ (s : Coefficients). weigh (cosineOf order) (s .gains)) (p .bits)) i }) ∙ through (refusalOf order d))) outcome-kept
+      (sym ((λ i. record {
+        refusal = p .bits i .refusal;
+        weights = (h ∙ ap (λ (s : Coefficients). weigh (cosineOf order) (s .gains)) (p .bits)) i;
+      })
+      ∙ through (refusalOf order d))) outcome-kept
     where
       -- by the refusal: the coefficients, and those weighed
       coefficients : ℕ → Coefficients
-      coefficients n = answered n (record { refusal = 0; gains = upTo order (wavesOf d) }) (λ k. record { refusal = k; gains = silence })
+      coefficients n = answered n (record { refusal = 0; gains = upTo order (wavesOf d) })
+          (λ k. record { refusal = k; gains = silence })
 
-      through : (n : ℕ) → record { refusal = coefficients n .refusal; weights = weigh (cosineOf order) (coefficients n .gains) } ≡ answered n (accepting (weighted order d)) refusing
+      through : (n : ℕ) → record {
+        refusal = coefficients n .refusal;
+        weights = weigh (cosineOf order) (coefficients n .gains);
+      } ≡ answered n (accepting (weighted order d))
+          refusing
       through zero = refl
       through (suc n) = ap (λ (xs : List Float). record { refusal = suc n; weights = xs }) (silence-weighed order)

@@ -1,5 +1,5 @@
--- Each weighted coefficient is within 2 ^ -41 of document 01's formula: a coefficient of `harmonics`, 2 ^ -42 from its formula and 5 in magnitude at most, times a power of a cosine that is 2 ^ -54 from the
--- series. Assumes nothing.
+-- Each weighted coefficient is within 2 ^ -41 of document 01's formula: a coefficient of `harmonics`, 2 ^ -42 from its
+-- formula and 5 in magnitude at most, times a power of a cosine that is 2 ^ -54 from the series. Assumes nothing.
 use mathlib.Core.Path.{_≡_, refl, sym, ap, _∙_, subst₂}
 use mathlib.Core.Bool.{false}
 use Prim.Native.Nat.{ℕ, zero, suc, _+_, _≤_, _<_}
@@ -35,8 +35,10 @@ module _ {x : Float} {q : Fraction} (k : Approximates 54 (whole 1) x q) where
 
   -- ---- a coefficient times one of them
   module _ {y : Float} {r : Fraction} (h : Approximates 42 (whole 5) y r) where
-    product : (l : ℕ) → T (passes binary64 41 (value h *' powers l)) → Within 41 (number (mul binary64 y (weight x l))) (r ⊗ power q l)
-    product l t = subst₂ (λ (z : Float) (s : Fraction). Within 41 (number (mul binary64 y z)) (r ⊗ s)) (run-is l) (exact-is l) (within binary64 41 (value h *' powers l) t)
+    product : (l : ℕ) → T (passes binary64 41 (value h *' powers l))
+        → Within 41 (number (mul binary64 y (weight x l))) (r ⊗ power q l)
+    product l t = subst₂ (λ (z : Float) (s : Fraction). Within 41 (number (mul binary64 y z)) (r ⊗ s)) (run-is l)
+        (exact-is l) (within binary64 41 (value h *' powers l) t)
 
     pub weighted-near : (l : ℕ) → l ≤ 3 → Within 41 (number (mul binary64 y (weight x l))) (r ⊗ power q l)
     weighted-near zero l = product zero tt
@@ -49,6 +51,7 @@ module _ {x : Float} {q : Fraction} (k : Approximates 54 (whole 1) x q) where
         beyond n l = omega arith
 
 -- ---- the sixteen
-pub each-tab : (k i n : ℕ) (f : ℕ → Float) (g : ℕ → Fraction) → ((j : ℕ) → j < i + n → Within k (number (f j)) (g j)) → EachWithin k (tab i n f) (tab i n g)
+pub each-tab : (k i n : ℕ) (f : ℕ → Float) (g : ℕ → Fraction) → ((j : ℕ) → j < i + n → Within k (number (f j)) (g j))
+    → EachWithin k (tab i n f) (tab i n g)
 each-tab k i zero f g h = tt
 each-tab k i (suc n) f g h = (h i (omega arith), each-tab k (suc i) n f g (λ j l. h j (omega arith)))

@@ -34,8 +34,14 @@ unfolding refusal
 third-for-fourth ws p = let e : _≡_ {A = ℕ} 0 1 = ap refusal (p .bits) in omega arith
 
 -- it takes 137.9 degrees for A, as the comment of 003 has it: the cosine of a quarter of that is 0.8243...
-by-the-comment : Promise 1 (at 0 0) (record { refusal = 0; weights = (float (pos 1) ∷ zero-float ∷ zero-float ∷ decimal 8243732515066312 ∷ []) ++ replicate 12 zero-float }) → ⊥
-unfolding refusesAngle isInside lt le eq neg round ofInt formulasOver defined isMultiple quarters turned cosineSum term power factorial
+by-the-comment : Promise 1 (at 0 0)
+    (record {
+      refusal = 0;
+      weights = (float (pos 1) ∷ zero-float ∷ zero-float ∷ decimal 8243732515066312 ∷ [])
+          ++ replicate 12 zero-float;
+    }) → ⊥
+unfolding refusesAngle isInside lt le eq neg round ofInt formulasOver defined isMultiple quarters turned cosineSum term
+    power factorial
 by-the-comment p = le→leb _ _ (p .words refl .1 .1 .1 .0 .near)
 
 -- there is a ninth position, whatever direction it has
@@ -47,6 +53,8 @@ eighth-refused : (d : Direction) → _≡_ {A = Position} (record { refusal = 2;
 eighth-refused d h = let e : _≡_ {A = ℕ} 2 0 = ap (λ (r : Position). r .refusal) h in omega arith
 
 -- it rounds up to 33 binary places: the weight of channel 3, c itself, is then more than 2^-34 too large
-rounded-up-to-33-places : (w y z : Float) (ws : List Float) → Promise 1 (at 0 0) (record { refusal = 0; weights = w ∷ y ∷ z ∷ fin false 1770517735 (negsuc 30) ∷ ws }) → ⊥
-unfolding refusesAngle isInside lt le eq neg ofInt formulasOver defined isMultiple quarters turned cosineSum term power factorial
+rounded-up-to-33-places : (w y z : Float) (ws : List Float)
+    → Promise 1 (at 0 0) (record { refusal = 0; weights = w ∷ y ∷ z ∷ fin false 1770517735 (negsuc 30) ∷ ws }) → ⊥
+unfolding refusesAngle isInside lt le eq neg ofInt formulasOver defined isMultiple quarters turned cosineSum term power
+    factorial
 rounded-up-to-33-places w y z ws p = le→leb _ _ (p .words refl .1 .1 .1 .0 .near)

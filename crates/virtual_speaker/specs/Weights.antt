@@ -1,5 +1,6 @@
--- Document 01, 'Gains': "max-rE (003): degree l of order N is weighted by c^l, c = cos(A/(2(N+1))) with A = 2.406184877014388 radians, over the same defined series." The angle is in radians already: the series
--- is summed at it as it is. Definitions only.
+-- Document 01, 'Gains': "max-rE (003): degree l of order N is weighted by c^l, c = cos(A/(2(N+1))) with A =
+-- 2.406184877014388 radians, over the same defined series." The angle is in radians already: the series is summed at it
+-- as it is. Definitions only.
 use Prim.Native.Nat.{ℕ, _+_, _*_, _^_}
 use mathlib.Core.Bool.{cond}
 use mathlib.Core.List.{List}
@@ -19,7 +20,9 @@ maxReCosine order = cosineSum (maxReAngle ⊘ whole (2 * (order + 1)))
 
 -- in ACN order the channels of order l are those of degree l at most
 abbrev pub degreeOf : ℕ → ℕ
-degreeOf channel = cond (ltb channel (channelsOfOrder 0)) 0 (cond (ltb channel (channelsOfOrder 1)) 1 (cond (ltb channel (channelsOfOrder 2)) 2 3))
+degreeOf channel = cond (ltb channel (channelsOfOrder 0)) 0
+    (cond (ltb channel (channelsOfOrder 1)) 1 (cond (ltb channel (channelsOfOrder 2)) 2 3))
 
 abbrev pub weightedFormulas : ℕ → Fraction → Fraction → List Fraction
-weightedFormulas order a e = tab 0 16 (λ i. getD (formulas order a e) i (whole 0) ⊗ power (maxReCosine order) (degreeOf i))
+weightedFormulas order a e =
+    tab 0 16 (λ i. getD (formulas order a e) i (whole 0) ⊗ power (maxReCosine order) (degreeOf i))

@@ -3,7 +3,9 @@
 --     behind                what is left of a body after some of its statements
 --     room, full            a local that holds nothing, and one that holds a value
 --     local                 an operand that is a local, whose cell is entry n of the context
---     tests                 the head of a `while`. The kit's steps for it ask that the walk knows how the test comes out; a loop that is walked once for all its turns does not. So both ways are walked, each with what the
+--     tests                 the head of a `while`. The kit's steps for it ask that the walk knows how the test comes
+--                           out; a loop that is walked once for all its turns does not. So both ways are walked, each
+--                                with what the
 --                           test then tells
 -- `local` and `tests` assume `Given`.
 use mathlib.Core.Path.{_≡_}
@@ -55,11 +57,16 @@ module _ {M : Type 1} {𝓤 : URA M} where
   abbrev pub full : Ty → ℕ → Val → List (Item 𝓤) → List (Item 𝓤)
   full τ l v Γ = ‵ (fat fullShare τ l 0 v) ∷ ‵ (fdies τ l) ∷ Γ
 
-module _ {M : Type 1} {𝓤 : URA M} {H : Heap 𝓤} {A : Atoms 𝓤} {K : Type 0} {W : Given 𝓤 H A} {Γ : List (Item 𝓤)} {E : Env 𝓤 H} where
-  pub local : K → (n : ℕ) {q : Share} {i : ℕ} {v : Val} → nth 𝓤 H A n Γ ≡ ‵ (fat q (spotOf 𝓤 H E i .0) (spotOf 𝓤 H E i .1) (spotOf 𝓤 H E i .2) v) → Opd K W Γ E (copy (place i [])) v
+module _ {M : Type 1} {𝓤 : URA M} {H : Heap 𝓤} {A : Atoms 𝓤} {K : Type 0} {W : Given 𝓤 H A} {Γ : List (Item 𝓤)}
+    {E : Env 𝓤 H} where
+  pub local : K → (n : ℕ) {q : Share} {i : ℕ} {v : Val}
+      → nth 𝓤 H A n Γ ≡ ‵ (fat q (spotOf 𝓤 H E i .0) (spotOf 𝓤 H E i .1) (spotOf 𝓤 H E i .2) v)
+      → Opd K W Γ E (copy (place i [])) v
   local t n e = load t (from t (stop t)) (look t n e)
 
   module _ {C : Calls 𝓤 H} {Λ : Loops 𝓤 H} {q : Post 𝓤 H} where
-    pub tests : K → {c : Operand} {n : ℕ} {b : Body} {y : Bool} → Opd K W Γ E c (vbool y) → (T y → Seq K W Γ (runs C Λ E b q)) → (T (not y) → Seq K W Γ (prop (post 𝓤 H q (exits n)))) → Seq K W Γ (runs C Λ E (seq (cond c skip (exit n)) b) q)
+    pub tests : K → {c : Operand} {n : ℕ} {b : Body} {y : Bool} → Opd K W Γ E c (vbool y)
+        → (T y → Seq K W Γ (runs C Λ E b q)) → (T (not y) → Seq K W Γ (prop (post 𝓤 H q (exits n))))
+        → Seq K W Γ (runs C Λ E (seq (cond c skip (exit n)) b) q)
     tests t {y = true} o on off = stays t o $ on tt
     tests t {y = false} o on off = leaves-loop t o $ off tt

@@ -13,10 +13,12 @@ use Rattle.ambisonic_decoder.proofs.play.Tie as tie
 
 -- a frame of the outputs
 abbrev outputs-at : Shape → List Float → List Float → ℕ → List Float
-outputs-at shape weights inputs n = mixedAll (shape .outputs) (shape .channels) weights (frameAt inputs (shape .stride) (shape .channels) n)
+outputs-at shape weights inputs n =
+    mixedAll (shape .outputs) (shape .channels) weights (frameAt inputs (shape .stride) (shape .channels) n)
 
 abbrev Inv-loop : tie.InvT-loop
-Inv-loop shape weights inputs out₀ n₀ out n = Framing out₀ (shape .stride) (shape .frames) (outputs-at shape weights inputs) out n
+Inv-loop shape weights inputs out₀ n₀ out n =
+    Framing out₀ (shape .stride) (shape .frames) (outputs-at shape weights inputs) out n
 
 abbrev μ-loop : tie.MeasureT-loop
 μ-loop shape weights inputs out₀ n₀ out n = shape .frames - n
@@ -24,7 +26,8 @@ abbrev μ-loop : tie.MeasureT-loop
 loop-holds : tie.Need-loop-holds Inv-loop μ-loop
 loop-holds c =
     let start = c .before .before .before in
-    let a = start .args in framing-none (now (a .out)) (a .shape .stride) (a .shape .frames) (outputs-at (a .shape) (now (a .weights)) (now (a .inputs)))
+    let a = start .args in framing-none (now (a .out)) (a .shape .stride) (a .shape .frames)
+    (outputs-at (a .shape) (now (a .weights)) (now (a .inputs)))
 
 loop-again : tie.Need-loop-again Inv-loop μ-loop
 loop-again c =
@@ -34,7 +37,9 @@ loop-again c =
     let start = at-loop .before .before .before .before in
     let a = start .args in
     let at = at-loop .loop in
-    framing-more (now (a .out)) (a .shape .stride) (a .shape .frames) (outputs-at (a .shape) (now (a .weights)) (now (a .inputs))) (at .out) (at .n) (at .inv) (at-mix-frame .mix-frame .last .0) (at-if1 .if1 .taken) (at-mix-frame .mix-frame .ensures .put)
+    framing-more (now (a .out)) (a .shape .stride) (a .shape .frames)
+    (outputs-at (a .shape) (now (a .weights)) (now (a .inputs))) (at .out) (at .n) (at .inv)
+    (at-mix-frame .mix-frame .last .0) (at-if1 .if1 .taken) (at-mix-frame .mix-frame .ensures .put)
 
 returns : tie.Need-returns Inv-loop μ-loop
 returns c =
@@ -42,7 +47,8 @@ returns c =
     let start = at-loop .before .before .before .before in
     let a = start .args in
     let at = at-loop .loop in
-    framing-all (now (a .out)) (a .shape .stride) (a .shape .frames) (outputs-at (a .shape) (now (a .weights)) (now (a .inputs))) (at .out) (at .n) (at .inv) (c .if1 .left)
+    framing-all (now (a .out)) (a .shape .stride) (a .shape .frames)
+    (outputs-at (a .shape) (now (a .weights)) (now (a .inputs))) (at .out) (at .n) (at .inv) (c .if1 .left)
 
 pub play-spec : {M : Type 1} → statement M
 play-spec =

@@ -18,13 +18,15 @@ returns : tie.Need-returns
 returns c = sym (cond-true _ _ (sym (c .before .is-outside .ensures) ∙ c .if1 .taken))
 
 returns-2 : tie.Need-returns-2
-returns-2 c = sym (cond-false _ _ (few-outputs (c .before .before)) ∙ cond-true _ _ (sym (c .before .is-outside2 .ensures) ∙ c .if2 .taken))
+returns-2 c = sym (cond-false _ _ (few-outputs (c .before .before))
+    ∙ cond-true _ _ (sym (c .before .is-outside2 .ensures) ∙ c .if2 .taken))
 
 returns-3 : tie.Need-returns-3
 returns-3 c =
     let at-few-channels = c .before .before in
     let at-few-outputs = at-few-channels .before .before in
-    sym (cond-false _ _ (few-outputs at-few-outputs) ∙ cond-false _ _ (few-channels at-few-channels) ∙ cond-true _ _ (sym (c .before .is-misfit .ensures) ∙ c .if3 .taken))
+    sym (cond-false _ _ (few-outputs at-few-outputs) ∙ cond-false _ _ (few-channels at-few-channels)
+    ∙ cond-true _ _ (sym (c .before .is-misfit .ensures) ∙ c .if3 .taken))
 
 returns-4 : tie.Need-returns-4
 returns-4 c =

@@ -1,4 +1,5 @@
--- `angles::cosine_at` meets its contract: its steps are those of the definition, and none of its numbers is too large. Assumes nothing.
+-- `angles::cosine_at` meets its contract: its steps are those of the definition, and none of its numbers is too large.
+-- Assumes nothing.
 use mathlib.Core.Path.{ap, _∙_}
 use Prim.Native.Nat.{ℕ}
 use lib.Dec.{ltb, lit≤}
@@ -12,7 +13,8 @@ outermost-requires : tie.Need-outermost-requires
 outermost-requires c κs = (outermost-room _ _ (c .radians .ensures), lit≤ tt)
 
 rounded-requires : tie.Need-rounded-requires
-rounded-requires c κs = cosine-room _ _ (c .before .before .radians .ensures) _ (c .from-one .ensures ∙ ap fromOne (c .before .outermost .ensures))
+rounded-requires c κs = cosine-room _ _ (c .before .before .radians .ensures) _
+    (c .from-one .ensures ∙ ap fromOne (c .before .outermost .ensures))
 
 returns : tie.Need-returns
 unfolding cosineAt
@@ -22,4 +24,5 @@ returns c =
     c .rounded .ensures ∙ (λ i. rounded (ltb one (g i)) ((s .from-one .ensures ∙ ap fromOne g) i))
 
 pub cosine-at-spec : {M : Type 1} → statement M
-cosine-at-spec = tie.close (tie.spec (λ c κs. search needs) outermost-requires (λ c κs. search needs) rounded-requires returns)
+cosine-at-spec =
+    tie.close (tie.spec (λ c κs. search needs) outermost-requires (λ c κs. search needs) rounded-requires returns)

@@ -12,7 +12,8 @@ returns c = sym (ap (λ (b : Bool). b && le (c .before .args .angle) (c .before 
 
 returns-2 : tie.Need-returns-2
 unfolding isInside
-returns-2 c = c .if1 .left ∙ sym (ap (λ (b : Bool). b && le (c .before .args .angle) (c .before .args .limit)) (c .if1 .left))
+returns-2 c =
+    c .if1 .left ∙ sym (ap (λ (b : Bool). b && le (c .before .args .angle) (c .before .args .limit)) (c .if1 .left))
 
 pub is-inside-spec : {M : Type 1} → statement M
 is-inside-spec = tie.close (tie.spec returns returns-2)

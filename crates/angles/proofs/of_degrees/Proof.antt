@@ -10,7 +10,8 @@ use Rattle.angles.proofs.of_degrees.Tie as tie
 
 returns : tie.Need-returns
 unfolding ofBits ofInt
-returns c = let a = c .before .before .args in refused-kept (waveOf (a .wave)) (a .d) _ (c .before .is-inside .ensures) (c .if1 .taken)
+returns c = let a = c .before .before .args in refused-kept (waveOf (a .wave)) (a .d) _ (c .before .is-inside .ensures)
+    (c .if1 .taken)
 
 turned-requires : tie.Need-turned-requires
 unfolding ofBits ofInt
@@ -27,16 +28,20 @@ unfolding ofBits ofInt
 returns-2 c =
     let t = c .before .before .before in
     let i = t .before .before in
-    accepted-kept (waveOf (i .before .args .wave)) (i .before .args .d) _ (t .turned .result) _ (i .is-inside .ensures) (t .before .if1 .left) (t .turned .ensures)
-    (c .sine-at .ensures ∙ ap (λ (w : Wave). waveAt (waveOf w) (t .turned .result)) (sym (c .before .enum-told .given .1)))
+    accepted-kept (waveOf (i .before .args .wave)) (i .before .args .d) _ (t .turned .result) _ (i .is-inside .ensures)
+    (t .before .if1 .left) (t .turned .ensures)
+    (c .sine-at .ensures ∙ ap (λ (w : Wave). waveAt (waveOf w) (t .turned .result))
+    (sym (c .before .enum-told .given .1)))
 
 returns-3 : tie.Need-returns-3
 unfolding ofBits ofInt
 returns-3 c =
     let t = c .before .before .before in
     let i = t .before .before in
-    accepted-kept (waveOf (i .before .args .wave)) (i .before .args .d) _ (t .turned .result) _ (i .is-inside .ensures) (t .before .if1 .left) (t .turned .ensures)
-    (c .cosine-at .ensures ∙ ap (λ (w : Wave). waveAt (waveOf w) (t .turned .result)) (sym (c .before .enum-told2 .given .1)))
+    accepted-kept (waveOf (i .before .args .wave)) (i .before .args .d) _ (t .turned .result) _ (i .is-inside .ensures)
+    (t .before .if1 .left) (t .turned .ensures)
+    (c .cosine-at .ensures ∙ ap (λ (w : Wave). waveAt (waveOf w) (t .turned .result))
+    (sym (c .before .enum-told2 .given .1)))
 
 pub of-degrees-spec : {M : Type 1} → statement M
 of-degrees-spec =

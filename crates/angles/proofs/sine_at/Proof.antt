@@ -1,4 +1,5 @@
--- `angles::sine_at` meets its contract: its steps are those of the definition, and none of its numbers is too large. Assumes nothing.
+-- `angles::sine_at` meets its contract: its steps are those of the definition, and none of its numbers is too large.
+-- Assumes nothing.
 use mathlib.Core.Path.{sym, ap, _∙_, subst}
 use Prim.Native.Nat.{ℕ, _-_, _^_, _<_}
 use lib.Dec.{ltb, lit≤}
@@ -13,12 +14,15 @@ outermost-requires : tie.Need-outermost-requires
 outermost-requires c κs = (outermost-room _ _ (c .radians .ensures), lit≤ tt)
 
 times-requires : tie.Need-times-requires
-times-requires c κs = sine-room _ _ (c .before .before .radians .ensures) _ (c .from-one .ensures ∙ ap fromOne (c .before .outermost .ensures)) .0
+times-requires c κs = sine-room _ _ (c .before .before .radians .ensures) _
+    (c .from-one .ensures ∙ ap fromOne (c .before .outermost .ensures)) .0
 
 rounded-requires : tie.Need-rounded-requires
 rounded-requires c κs =
     let s = c .before in
-    subst (λ (n : ℕ). n < 2 ^ 62 - 256) (sym (c .times .ensures)) (sine-room _ _ (s .before .before .radians .ensures) _ (s .from-one .ensures ∙ ap fromOne (s .before .outermost .ensures)) .1)
+    subst (λ (n : ℕ). n < 2 ^ 62 - 256) (sym (c .times .ensures))
+    (sine-room _ _ (s .before .before .radians .ensures) _
+    (s .from-one .ensures ∙ ap fromOne (s .before .outermost .ensures)) .1)
 
 returns : tie.Need-returns
 unfolding sineAt
@@ -27,7 +31,9 @@ returns c =
     let x = s .before .before .radians .ensures in
     let g = s .before .outermost .ensures ∙ ap (λ (z : ℕ). outermost z 25) x in
     let f : ℕ → ℕ → Float = λ z w. rounded (unlike (ltb half (s .before .before .before .args .a)) (ltb one z)) w in
-    c .rounded .ensures ∙ (λ i. f (g i) ((c .before .times .ensures ∙ λ j. times (x j) ((s .from-one .ensures ∙ ap fromOne g) j)) i))
+    c .rounded .ensures
+    ∙ (λ i. f (g i) ((c .before .times .ensures ∙ λ j. times (x j) ((s .from-one .ensures ∙ ap fromOne g) j)) i))
 
 pub sine-at-spec : {M : Type 1} → statement M
-sine-at-spec = tie.close (tie.spec (λ c κs. search needs) outermost-requires (λ c κs. search needs) times-requires rounded-requires returns)
+sine-at-spec = tie.close (tie.spec (λ c κs. search needs) outermost-requires (λ c κs. search needs) times-requires
+    rounded-requires returns)

@@ -1,4 +1,5 @@
--- `angles::turned` meets its contract: an angle below 0 lies what its opposite's units are short of a turn. Assumes nothing.
+-- `angles::turned` meets its contract: an angle below 0 lies what its opposite's units are short of a turn. Assumes
+-- nothing.
 use mathlib.Core.Path.{ap, _∙_}
 use Prim.Native.Nat.{ℕ, _-_, _%_}
 use lib.Ieee.{ofBits, ofInt}

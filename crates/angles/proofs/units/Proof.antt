@@ -1,4 +1,5 @@
--- `angles::units` meets its contract: times 2 ^ 52 the angle is exact, and what is cut off is a fraction of a unit. Assumes nothing.
+-- `angles::units` meets its contract: times 2 ^ 52 the angle is exact, and what is cut off is a fraction of a unit.
+-- Assumes nothing.
 use mathlib.Core.Path.{sym, _∙_, subst}
 use lib.Dec.{T}
 use lib.Ieee.{binary64, fits, ofBits}

@@ -38,15 +38,26 @@ module _ (c : tie.After-read) where
   none = ap (λ (f : Fault). f .refusal) (sym (past .before .before .check-version .ensures .bits)) ∙ past .if1 .left
 
   sound : IsFile (versionIn file) file (bankIn file)
-  sound = past .before .before .check-version .ensures .words .sound (is-file file (right-version (start .args .from) (start .args .to) file (start .args .out .now) none .1))
+  sound = past .before .before .check-version .ensures .words .sound
+      (is-file file (right-version (start .args .from) (start .args .to) file (start .args .out .now) none .1))
 
   abbrev read : ReadOutcome
-  read = record { answer = c .read .result; azimuths = c .read .last .1 .0; elevations = c .read .last .1 .1 .0; taps = c .read .last .1 .1 .1 .0 }
+  read = record {
+    answer = c .read .result;
+    azimuths = c .read .last .1 .0;
+    elevations = c .read .last .1 .1 .0;
+    taps = c .read .last .1 .1 .1 .0;
+  }
 
   lent : Lists (replicate 8 (pos 0)) (replicate 8 (pos 0)) (replicate 8192 (ofBits binary32 0))
-  lent = record { azimuths = length-replicate {A = ℤ} 8 (pos 0); elevations = length-replicate {A = ℤ} 8 (pos 0); taps = length-replicate {A = Float} 8192 (ofBits binary32 0) }
+  lent = record {
+    azimuths = length-replicate {A = ℤ} 8 (pos 0);
+    elevations = length-replicate {A = ℤ} 8 (pos 0);
+    taps = length-replicate {A = Float} 8192 (ofBits binary32 0);
+  }
 
-  filled : read ≡ readBank (bankIn file) (replicate 8 (pos 0)) (replicate 8 (pos 0)) (replicate 8192 (ofBits binary32 0))
+  filled : read ≡ readBank (bankIn file) (replicate 8 (pos 0)) (replicate 8 (pos 0))
+      (replicate 8192 (ofBits binary32 0))
   filled = is-accepted file _ _ _ read (c .read .ensures) lent (versionIn file) (bankIn file) sound
 
   same : bankFound read ≡ bankIn file
@@ -57,10 +68,18 @@ module _ (c : tie.After-read) where
 
   -- how long the lists are, and how much of them is the bank's
   few : c .read .result .rows ≤ 8
-  few = omega (arith, ap (λ (o : ReadOutcome). o .answer .rows) filled, within-true 1 8 (rows (bankIn file)) (form .few) .1)
+  few = omega (
+    arith,
+    ap (λ (o : ReadOutcome). o .answer .rows) filled,
+    within-true 1 8 (rows (bankIn file)) (form .few) .1,
+  )
 
   short : c .read .result .length ≤ 512
-  short = omega (arith, ap (λ (o : ReadOutcome). o .answer .length) filled, within-true 1 512 (bankIn file .length) (form .short) .1)
+  short = omega (
+    arith,
+    ap (λ (o : ReadOutcome). o .answer .length) filled,
+    within-true 1 512 (bankIn file .length) (form .short) .1,
+  )
 
   reach : 2 * c .read .result .rows * c .read .result .length ≤ 8192
   reach = omega (arith, taps-reach (c .read .result .rows) 8 (c .read .result .length) few short)
@@ -86,19 +105,26 @@ module _ (c : tie.After-read) where
 returns : tie.Need-returns
 returns c =
     let at-check-version = c .before .before .before in
-    rw (c .unwritten .ensures) (version-told _ _ _ _ _ (at-check-version .check-version .ensures .bits) (c .before .if1 .taken))
+    rw (c .unwritten .ensures) (version-told _ _ _ _ _ (at-check-version .check-version .ensures .bits)
+    (c .before .if1 .taken))
 
 convert-bank-requires : tie.Need-convert-bank-requires
 convert-bank-requires c κs =
-    let r = c .before .before .before .before .before .before .before in
-    (short r, omega (arith, few r, rows-found r), raised-found r ∙ sym (rows-found r), taps-found r ∙ omega (arith, ap (λ (n : ℕ). n * (2 * r .read .result .length)) (rows-found r)))
+    let r = c .before .before .before .before .before .before .before in (
+      short r,
+      omega (arith, few r, rows-found r),
+      raised-found r ∙ sym (rows-found r),
+      taps-found r
+          ∙ omega (arith, ap (λ (n : ℕ). n * (2 * r .read .result .length)) (rows-found r)),
+    )
 
 returns-2 : tie.Need-returns-2
 returns-2 c =
     let call = c .before .before in
     let r = call .before .before .before .before .before .before .before .before in
     let args = start r .args in
-    call .convert-bank .ensures ∙ ap (λ (b : Bank). convertedBank (args .to) b (args .out .now)) (same r) ∙ version-right (args .from) (args .to) (file r) (args .out .now) (none r)
+    call .convert-bank .ensures ∙ ap (λ (b : Bank). convertedBank (args .to) b (args .out .now)) (same r)
+    ∙ version-right (args .from) (args .to) (file r) (args .out .now) (none r)
 
 pub convert-spec : {M : Type 1} → statement M
 convert-spec =

@@ -20,13 +20,19 @@ module _ (c : tie.After-row-at) where
   start = c .before .before .before .before .before .before
 
   abbrev bank : Bank
-  bank = let args = start .args in record { azimuths = args .azimuths .now; elevations = args .elevations .now; length = args .l; taps = args .taps .now }
+  bank = let args = start .args in record {
+    azimuths = args .azimuths .now;
+    elevations = args .elevations .now;
+    length = args .l;
+    taps = args .taps .now;
+  }
 
   abbrev out : List ℕ
   out = start .args .out .now
 
   size : c .row-at .result ≡ length (encode (start .args .version) bank)
-  size = c .row-at .ensures .0 ∙ sym (length-encode (start .args .version) bank (record { paired = start .pre .2; count = start .pre .3 }))
+  size = c .row-at .ensures .0
+      ∙ sym (length-encode (start .args .version) bank (record { paired = start .pre .2; count = start .pre .3 }))
 
   none : raised (start .args .version) bank .refusal ≡ 0
   none =
@@ -38,11 +44,18 @@ returns c =
     let at-elevations-fault = c .before .before .before in
     let start = at-elevations-fault .before .before .before in
     let args = start .args in
-    let given : Bank = record { azimuths = args .azimuths .now; elevations = args .elevations .now; length = args .l; taps = args .taps .now } in
-    rw (c .unwritten .ensures) (raised-told (args .version) given _ _ (at-elevations-fault .elevations-fault .ensures) (c .before .if1 .taken))
+    let given : Bank = record {
+      azimuths = args .azimuths .now;
+      elevations = args .elevations .now;
+      length = args .l;
+      taps = args .taps .now;
+    } in
+    rw (c .unwritten .ensures) (raised-told (args .version) given _ _ (at-elevations-fault .elevations-fault .ensures)
+    (c .before .if1 .taken))
 
 returns-2 : tie.Need-returns-2
-returns-2 c = let at = c .before .before in rw (c .unwritten2 .ensures) (other-length _ (bank at) _ (none at) (λ e. c .before .if2 .taken (e ∙ sym (size at))))
+returns-2 c = let at = c .before .before in rw (c .unwritten2 .ensures)
+    (other-length _ (bank at) _ (none at) (λ e. c .before .if2 .taken (e ∙ sym (size at))))
 
 returns-3 : tie.Need-returns-3
 returns-3 c =
@@ -51,7 +64,8 @@ returns-3 c =
     let at = test .before in
     let v = start at .args .version in
     let long = test .if2 .left ∙ size at in
-    wrote v (bank at) (out at) _ _ (size at) (put .put-bank .ensures .0 ∙ placed-all (out at) (encode v (bank at)) long) ∙ right-length v (bank at) (out at) (none at) long
+    wrote v (bank at) (out at) _ _ (size at) (put .put-bank .ensures .0 ∙ placed-all (out at) (encode v (bank at)) long)
+    ∙ right-length v (bank at) (out at) (none at) long
 
 pub convert-bank-spec : {M : Type 1} → statement M
 convert-bank-spec =

@@ -15,13 +15,15 @@ returns-2 : tie.Need-returns-2
 returns-2 c =
     let rows = c .before .before in
     let args = rows .before .before .args in
-    length-wrong (args .rows) (args .l) (sym (rows .before .is-within .ensures) ∙ not-false _ (rows .if1 .left)) (sym (c .before .is-within2 .ensures) ∙ not-true _ (c .if2 .taken))
+    length-wrong (args .rows) (args .l) (sym (rows .before .is-within .ensures) ∙ not-false _ (rows .if1 .left))
+    (sym (c .before .is-within2 .ensures) ∙ not-true _ (c .if2 .taken))
 
 returns-3 : tie.Need-returns-3
 returns-3 c =
     let rows = c .before .before in
     let args = rows .before .before .args in
-    counts-right (args .rows) (args .l) (sym (rows .before .is-within .ensures) ∙ not-false _ (rows .if1 .left)) (sym (c .before .is-within2 .ensures) ∙ not-false _ (c .if2 .left))
+    counts-right (args .rows) (args .l) (sym (rows .before .is-within .ensures) ∙ not-false _ (rows .if1 .left))
+    (sym (c .before .is-within2 .ensures) ∙ not-false _ (c .if2 .left))
 
 pub counts-fault-spec : {M : Type 1} → statement M
 counts-fault-spec =

@@ -19,13 +19,15 @@ use Rattle.bank.proofs.raised_fault.Tie as tie
 
 abbrev Inv-loop : tie.InvT-loop
 Inv-loop elevations l row at₀ i₀ at i =
-    (row ≡ rowSize 2 l) × (row ≤ largestRow) × (at ≤ 9 + largestRow * i) × (raisedFrom l 9 elevations ≡ raisedFrom l at (drop i elevations))
+    (row ≡ rowSize 2 l) × (row ≤ largestRow) × (at ≤ 9 + largestRow * i)
+    × (raisedFrom l 9 elevations ≡ raisedFrom l at (drop i elevations))
 
 abbrev μ-loop : tie.MeasureT-loop
 μ-loop elevations l row at₀ i₀ at i = length elevations - i
 
 loop-holds : tie.Need-loop-holds Inv-loop μ-loop
-loop-holds c = (one-size 2 _ _ (c .before .pre .0) (c .row-size .ensures .0), c .row-size .ensures .1, omega arith, refl)
+loop-holds c =
+    (one-size 2 _ _ (c .before .pre .0) (c .row-size .ensures .0), c .row-size .ensures .1, omega arith, refl)
 
 returns : tie.Need-returns Inv-loop μ-loop
 returns c =
@@ -47,8 +49,10 @@ loop-again c =
     let inside = at-loop-test .loop-test .taken in
     let args = start .args in
     let there : ℕ → Fault = λ w. raisedFrom (args .l) (turn .at + w) (drop (turn .i + 1) (args .elevations .now)) in
-    let zero : getD (args .elevations .now) (turn .i) (pos 0) ≡ pos 0 = sym (back w16 _ (c .before .if12 .given)) ∙ ap (toZ w16) (c .if1 .left) in
-    let next = turn .inv .3 ∙ raised-next _ _ (turn .i) _ inside ∙ unless-passes _ 21 _ _ (ap isLevel zero ∙ level-zero) in
+    let zero : getD (args .elevations .now) (turn .i) (pos 0) ≡ pos 0 = sym (back w16 _ (c .before .if12 .given))
+    ∙ ap (toZ w16) (c .if1 .left) in
+    let next = turn .inv .3 ∙ raised-next _ _ (turn .i) _ inside
+    ∙ unless-passes _ 21 _ _ (ap isLevel zero ∙ level-zero) in
     (turn .inv .0, turn .inv .1, omega arith, next ∙ ap there (sym (turn .inv .0)))
 
 returns-2 : tie.Need-returns-2 Inv-loop μ-loop

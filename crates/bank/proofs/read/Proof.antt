@@ -12,8 +12,10 @@ returns : tie.Need-returns
 returns c =
     let read = c .before .before .before .before in
     let file = read .before .before .before .before .before .before .args .file .now in
-    read .read-start .ensures .words file (λ i. read .before .before .before .before .before .shared-slice-known .given i .fits)
+    read .read-start .ensures .words file
+    (λ i. read .before .before .before .before .before .shared-slice-known .given i .fits)
     (rw (enough-all (length file) (length file) refl) tt) (inl (record { long = refl; same = take-length file }))
 
 pub read-spec : {M : Type 1} → statement M
-read-spec = tie.close (tie.spec (λ c κs. search needs) (λ c. search needs) (λ c. search needs) (λ c. search needs) returns)
+read-spec =
+    tie.close (tie.spec (λ c κs. search needs) (λ c. search needs) (λ c. search needs) (λ c. search needs) returns)

@@ -16,7 +16,8 @@ use Rattle.bank.proofs.read_start.Statement.{statement}
 use Rattle.bank.proofs.read_start.Tie as tie
 
 -- past the test of the lists they have their lengths
-fit : (c : tie.Else1) → let args = c .before .before .before .before .args in ListsFit (args .azimuths .now) (args .elevations .now) (args .taps .now) ≡ true
+fit : (c : tie.Else1) → let args = c .before .before .before .before .args in ListsFit (args .azimuths .now)
+    (args .elevations .now) (args .taps .now) ≡ true
 fit c = sym (c .before .lists-fit .ensures) ∙ not-false _ (c .if1 .left)
 
 -- past the test of the start it is enough
@@ -56,7 +57,8 @@ returns-3 : tie.Need-returns-3
 returns-3 c =
     let check = c .before .before .before in
     let before = check .before in
-    let wrong = broken _ _ _ _ _ (fit (past before)) (enough before) _ (check .check-start .ensures .bits) (c .before .if3 .taken) in
+    let wrong = broken _ _ _ _ _ (fit (past before)) (enough before) _ (check .check-start .ensures .bits)
+    (c .before .if3 .taken) in
     reads-start _ _ _ _ _ _ (rw (c .unread3 .ensures) wrong)
 
 fill-rows-requires : tie.Need-fill-rows-requires
@@ -82,8 +84,10 @@ returns-4 c =
     let version = rows .before in
     let checked = version .before in
     let fill = call .fill-rows .ensures in
-    let bank = filled _ _ _ _ _ _ _ _ _ _ (version .get .ensures .bits) (rows .get2 .ensures .bits) (length .get3 .ensures .bits) (fill .0) (fill .1 .0) (fill .1 .1) in
-    reads-start _ _ _ _ _ _ (bank ∙ accepted _ _ _ _ _ (fit (past (test checked))) (enough (test checked)) (none checked))
+    let bank = filled _ _ _ _ _ _ _ _ _ _ (version .get .ensures .bits) (rows .get2 .ensures .bits)
+    (length .get3 .ensures .bits) (fill .0) (fill .1 .0) (fill .1 .1) in
+    reads-start _ _ _ _ _ _ (bank ∙ accepted _ _ _ _ _ (fit (past (test checked))) (enough (test checked))
+    (none checked))
 
 pub read-start-spec : {M : Type 1} → statement M
 read-start-spec =

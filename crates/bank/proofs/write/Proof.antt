@@ -18,7 +18,12 @@ module _ (c : tie.Else1) where
   abbrev bank : Bank
   bank =
       let start = c .before .before .before .before in
-      let args = start .args in record { azimuths = args .azimuths .now; elevations = args .elevations .now; length = args .length; taps = args .taps .now }
+      let args = start .args in record {
+        azimuths = args .azimuths .now;
+        elevations = args .elevations .now;
+        length = args .length;
+        taps = args .taps .now;
+      }
 
   abbrev file : List ℕ
   file = c .before .before .before .before .args .file .now
@@ -27,14 +32,16 @@ module _ (c : tie.Else1) where
   lengths = lent bank file (sym (c .before .lengths-fit .ensures) ∙ not-false _ (c .if1 .left))
 
 returns : tie.Need-returns
-returns c = rw (c .unwritten .ensures) (unlent _ _ (sym (c .before .before .lengths-fit .ensures) ∙ not-true _ (c .before .if1 .taken)))
+returns c = rw (c .unwritten .ensures)
+    (unlent _ _ (sym (c .before .before .lengths-fit .ensures) ∙ not-true _ (c .before .if1 .taken)))
 
 returns-2 : tie.Need-returns-2
 returns-2 c =
     let counts = c .before .before .before in
     let past = counts .before in
     let bad = c .before .if2 .taken in
-    rw (c .unwritten2 .ensures) (breaks (bank past) (file past) (lengths past) _ (counts-break 2 (bank past) _ (counts .counts-fault .ensures) bad) bad)
+    rw (c .unwritten2 .ensures) (breaks (bank past) (file past) (lengths past) _
+    (counts-break 2 (bank past) _ (counts .counts-fault .ensures) bad) bad)
 
 write-checked-requires : tie.Need-write-checked-requires
 write-checked-requires c κs =
@@ -42,8 +49,15 @@ write-checked-requires c κs =
     let counts = at-if2 .before .before in
     let past = counts .before in
     let fit = lengths past in
-    let few = counts-fit (rows (bank past)) (bank past .length) (ap (λ (f : Fault). f .refusal) (sym (counts .counts-fault .ensures)) ∙ at-if2 .if2 .left) in
-    (few .1, few .0, fit .counted .paired, fit .counted .count, fit .size ∙ length-encode 2 (bank past) (fit .counted), length-replicate {A = ℕ} largest 0)
+    let few = counts-fit (rows (bank past)) (bank past .length)
+    (ap (λ (f : Fault). f .refusal) (sym (counts .counts-fault .ensures)) ∙ at-if2 .if2 .left) in (
+      few .1,
+      few .0,
+      fit .counted .paired,
+      fit .counted .count,
+      fit .size ∙ length-encode 2 (bank past) (fit .counted),
+      length-replicate {A = ℕ} largest 0,
+    )
 
 pub write-spec : {M : Type 1} → statement M
 write-spec =

@@ -1,4 +1,5 @@
--- `bank::write_checked` meets its contract. What was made is the encoding of the bank, whose first fault is the bank's. Assumes nothing.
+-- `bank::write_checked` meets its contract. What was made is the encoding of the bank, whose first fault is the bank's.
+-- Assumes nothing.
 use mathlib.Core.Path.{_≡_, sym, ap, _∙_}
 use mathlib.Core.List.{List}
 use Prim.Native.Nat.{ℕ, _+_, _*_, _≤_}
@@ -28,8 +29,14 @@ room-made n l h g = omega (arith, rows-reach 2 n 8 l h g)
 put-bank-requires : tie.Need-put-bank-requires
 put-bank-requires c κs =
     let start = c .before .before .before .before in
-    let room = room-made (length (start .args .azimuths .now)) (start .args .l) (start .pre .1) (start .pre .0) in
-    (start .pre .0, start .pre .1, start .pre .2, start .pre .3, start .pre .4, omega (arith, room, start .pre .4, start .pre .5))
+    let room = room-made (length (start .args .azimuths .now)) (start .args .l) (start .pre .1) (start .pre .0) in (
+      start .pre .0,
+      start .pre .1,
+      start .pre .2,
+      start .pre .3,
+      start .pre .4,
+      omega (arith, room, start .pre .4, start .pre .5),
+    )
 
 -- what is known once the file is made
 module _ (c : tie.After-put-bank) where
@@ -37,7 +44,12 @@ module _ (c : tie.After-put-bank) where
   start = c .before .before .before .before .before
 
   abbrev bank : Bank
-  bank = let args = start .args in record { azimuths = args .azimuths .now; elevations = args .elevations .now; length = args .l; taps = args .taps .now }
+  bank = let args = start .args in record {
+    azimuths = args .azimuths .now;
+    elevations = args .elevations .now;
+    length = args .l;
+    taps = args .taps .now;
+  }
 
   abbrev file : List ℕ
   file = start .args .file .now
@@ -86,7 +98,8 @@ module _ (c : tie.After-check-file) where
 returns : tie.Need-returns
 returns c =
     let check = c .before .before .before in
-    rw (c .unwritten .ensures) (breaks _ _ (lent (check .before .before .before .before)) _ (found check) (c .before .if1 .taken))
+    rw (c .unwritten .ensures) (breaks _ _ (lent (check .before .before .before .before)) _ (found check)
+    (c .before .if1 .taken))
 
 copy-requires : tie.Need-copy-requires
 copy-requires c κs =
@@ -100,7 +113,8 @@ returns-2 c =
     let check = at-if1 .before .before in
     let put = check .before .before .before .before in
     let none = ap (λ (f : Fault). f .refusal) (sym (found check)) ∙ at-if1 .if1 .left in
-    let copy = at-copy .copy .ensures .1 ∙ copied _ (file put) (length-take-le (length (file put)) (made put) (room put)) ∙ same put in
+    let copy = at-copy .copy .ensures .1 ∙ copied _ (file put)
+    (length-take-le (length (file put)) (made put) (room put)) ∙ same put in
     wrote 2 (bank put) (file put) _ _ (sym (size put)) copy ∙ written (bank put) (file put) (lent put) none
 
 pub write-checked-spec : {M : Type 1} → statement M

@@ -5,7 +5,10 @@ use Rattle.bank_check.proofs.check_file.Statement.{statement}
 use Rattle.bank_check.proofs.check_file.Tie as tie
 
 returns : tie.Need-returns
-returns c = record { bits = c .check-start .ensures .bits; words = exactly _ (λ i. c .before .shared-slice-known .given i .fits) }
+returns c = record {
+  bits = c .check-start .ensures .bits;
+  words = exactly _ (λ i. c .before .shared-slice-known .given i .fits);
+}
 
 pub check-file-spec : {M : Type 1} → statement M
 check-file-spec = tie.close (tie.spec (λ c κs. search needs) returns)

@@ -12,7 +12,8 @@ use Rattle.bank_check.proofs.check_start.Statement.{statement}
 use Rattle.bank_check.proofs.check_start.Tie as tie
 
 returns : tie.Need-returns
-returns c = checked _ _ _ (else-stop _ _ _ (c .before .before .head-fault .ensures) (c .if1 .taken) ∙ sym (fault-is _ _))
+returns c =
+    checked _ _ _ (else-stop _ _ _ (c .before .before .head-fault .ensures) (c .if1 .taken) ∙ sym (fault-is _ _))
 
 -- past the check of the head the counts are small
 module _ (c : tie.Else1) where
@@ -23,7 +24,8 @@ module _ (c : tie.Else1) where
   size = c .before .before .before .before .args .size
 
   head : Head size start
-  head = head-none size start (ap (λ (f : Fault). f .refusal) (sym (c .before .before .head-fault .ensures)) ∙ c .if1 .left)
+  head = head-none size start (ap (λ (f : Fault). f .refusal) (sym (c .before .before .head-fault .ensures))
+      ∙ c .if1 .left)
 
 rows-fault-requires : tie.Need-rows-fault-requires
 rows-fault-requires c κs =
@@ -40,9 +42,11 @@ returns-2 c =
     let version = at-get .get .ensures .bits in
     let rows =
     c .rows-fault .ensures
-    ∙ ap₂ (λ (l n : ℕ). rowsFault (size past) (start past) (at-get .get .result) l 0 9 n) (c .before .get3 .ensures .bits) (at-get2 .get2 .ensures .bits)
+    ∙ ap₂ (λ (l n : ℕ). rowsFault (size past) (start past) (at-get .get .result) l 0 9 n)
+    (c .before .get3 .ensures .bits) (at-get2 .get2 .ensures .bits)
     ∙ ap (λ (v : ℕ). rowsFault (size past) (start past) v (lengthIn (start past)) 0 9 (rowsIn (start past))) version in
-    checked _ _ _ (rows ∙ sym (fault-is _ _ ∙ else-on _ _ _ (past .before .before .head-fault .ensures) (past .if1 .left)))
+    checked _ _ _
+    (rows ∙ sym (fault-is _ _ ∙ else-on _ _ _ (past .before .before .head-fault .ensures) (past .if1 .left)))
 
 pub check-start-spec : {M : Type 1} → statement M
 check-start-spec =

@@ -22,7 +22,8 @@ unfolding faultOf
 returns-2 c =
     let at-head-field = c .before .before .before in
     record {
-      bits = c .check-file .ensures .bits ∙ sym (else-on _ _ _ (at-head-field .head-field .ensures) (c .before .if1 .left));
+      bits = c .check-file .ensures .bits
+          ∙ sym (else-on _ _ _ (at-head-field .head-field .ensures) (c .before .if1 .left));
       words = c .check-file .ensures .words;
     }
 

@@ -17,7 +17,8 @@ module _ (c : tie.After-head-field2) where
   size = c .before .before .before .before .before .before .args .size
 
   length-field : c .head-field2 .result ≡ headField size file 1 4 14 (size - 5) (size - 5)
-  length-field = c .head-field2 .ensures ∙ ap₂ (headField _ _ _ _ _) (c .before .bytes-after .ensures) (c .before .bytes-after .ensures)
+  length-field = c .head-field2 .ensures ∙ ap₂ (headField _ _ _ _ _) (c .before .bytes-after .ensures)
+      (c .before .bytes-after .ensures)
 
 returns : tie.Need-returns
 unfolding headFault

@@ -14,7 +14,8 @@ returns c =
     let at-get = at-is-within .before in
     let start = at-get .before .before in
     let args = start .args in
-    let good : at-is-within .is-within .result ≡ within (args .low) (args .high) (fieldAt (args .s .now) (args .at) (args .count)) =
+    let good : at-is-within .is-within .result ≡ within (args .low) (args .high)
+    (fieldAt (args .s .now) (args .at) (args .count)) =
     at-is-within .is-within .ensures ∙ ap (within (args .low) (args .high)) (at-get .get .ensures .bits) in
     c .field-fault .ensures ∙ ap (field _ _ _ _) good
 

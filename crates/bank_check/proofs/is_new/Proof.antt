@@ -21,13 +21,19 @@ wanted z e = record { azimuth = toZ w16 z; elevation = toZ w16 e }
 
 abbrev Inv-loop : tie.InvT-loop
 Inv-loop s version l i azimuth elevation row at₀ k₀ at k =
-    (row ≡ rowSize version l) × (row ≤ largestRow) × (at + largestRow * k ≤ largest) × (isNew s version l (wanted azimuth elevation) 9 i ≡ isNew s version l (wanted azimuth elevation) at k)
+    (row ≡ rowSize version l) × (row ≤ largestRow) × (at + largestRow * k ≤ largest)
+    × (isNew s version l (wanted azimuth elevation) 9 i ≡ isNew s version l (wanted azimuth elevation) at k)
 
 abbrev μ-loop : tie.MeasureT-loop
 μ-loop s version l i azimuth elevation row at₀ k₀ at k = k
 
 loop-holds : tie.Need-loop-holds Inv-loop μ-loop
-loop-holds c = (one-size (c .before .before .args .version) _ _ (c .before .before .pre .0) (c .row-size .ensures .0), c .row-size .ensures .1, omega arith, refl)
+loop-holds c = (
+  one-size (c .before .before .args .version) _ _ (c .before .before .pre .0) (c .row-size .ensures .0),
+  c .row-size .ensures .1,
+  omega arith,
+  refl,
+)
 
 -- what stands in the arguments is what came in
 kept : (z e : ℤ) → SFits w16 z → SFits w16 e → wanted (ofZ w16 z) (ofZ w16 e) ≡ record { azimuth = z; elevation = e }
@@ -51,7 +57,8 @@ loop-again c =
     let args = start .args in
     let turn = at-loop .loop in
     let other = not-false _ (sym (c .before .is-pair .ensures) ∙ c .if1 .left) in
-    let there : ℕ → Bool = λ w. isNew (args .s .now) (args .version) (args .l) (wanted (ofZ w16 (args .azimuth)) (ofZ w16 (args .elevation))) (turn .at + w) (turn .k - 1) in
+    let there : ℕ → Bool = λ w. isNew (args .s .now) (args .version) (args .l)
+    (wanted (ofZ w16 (args .azimuth)) (ofZ w16 (args .elevation))) (turn .at + w) (turn .k - 1) in
     let next = turn .inv .3 ∙ new-next _ _ _ _ _ _ (at-loop-test .loop-test .taken) other in
     (turn .inv .0, turn .inv .1, omega arith, next ∙ ap there (sym (turn .inv .0)))
 

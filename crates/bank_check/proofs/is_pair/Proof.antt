@@ -26,8 +26,10 @@ returns-3 c =
     let start = first .before .before .before in
     let read = first .before .get-i16 in
     let call = c .before .elevation-at in
-    let azimuth = sym (read .ensures) ∙ sym (back w16 (read .result) (read .ok)) ∙ ap (toZ w16) (first .if1 .left) ∙ toZ-ofZ (start .fits .azimuth) in
-    let elevation = sym (call .ensures) ∙ sym (back w16 (call .result) (call .ok)) ∙ ap (toZ w16) (c .if2 .left) ∙ toZ-ofZ (start .fits .elevation) in
+    let azimuth = sym (read .ensures) ∙ sym (back w16 (read .result) (read .ok)) ∙ ap (toZ w16) (first .if1 .left)
+    ∙ toZ-ofZ (start .fits .azimuth) in
+    let elevation = sym (call .ensures) ∙ sym (back w16 (call .result) (call .ok)) ∙ ap (toZ w16) (c .if2 .left)
+    ∙ toZ-ofZ (start .fits .elevation) in
     sym (ap not (differ-same _ _ azimuth elevation))
 
 pub is-pair-spec : {M : Type 1} → statement M

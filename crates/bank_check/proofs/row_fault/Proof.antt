@@ -31,7 +31,8 @@ module _ (c : tie.After-field-fault) where
   unfolding isAzimuth
   range =
       let read = c .before .before .get-i16 in
-      c .field-fault .ensures ∙ ap (field _ _ _ _) (c .before .is-between .ensures ∙ ap isAzimuth (back w16 (read .result) (read .ok) ∙ read .ensures))
+      c .field-fault .ensures ∙ ap (field _ _ _ _)
+      (c .before .is-between .ensures ∙ ap isAzimuth (back w16 (read .result) (read .ok) ∙ read .ensures))
 
 -- past the tests of azimuth and elevation
 module _ (c : tie.Else2) where
@@ -47,7 +48,8 @@ module _ (c : tie.Else2) where
   abbrev i : ℕ
   i = read .before .before .before .before .args .i
 
-  behind : rowFault (size read) (file read) version l i (at read) ≡ behindElevation (size read) (file read) version l i (at read)
+  behind : rowFault (size read) (file read) version l i (at read) ≡ behindElevation (size read) (file read) version l i
+      (at read)
   behind =
       let at-elevation-fault = c .before .before in
       let at-if1 = at-elevation-fault .before in
@@ -72,7 +74,8 @@ module _ (c : tie.After-is-new) where
       let second = c .before .before .elevation-at in
       let azimuth = back w16 (first .result) (first .ok) ∙ first .ensures in
       let elevation = back w16 (second .result) (second .ok) ∙ second .ensures in
-      let pair : _≡_ {A = Pair} _ (pairIn (version past) (file row) (at row)) = λ k. record { azimuth = azimuth k; elevation = elevation k } in
+      let pair : _≡_ {A = Pair} _ (pairIn (version past) (file row) (at row)) =
+      λ k. record { azimuth = azimuth k; elevation = elevation k } in
       c .is-new .ensures ∙ ap (λ (p : Pair). isNew (file row) (version past) (l past) p 9 (i past)) pair
 
   place : at row + c .before .elevation-size .result ≡ pairAt (version past) (at row)
@@ -92,12 +95,14 @@ returns-3 : tie.Need-returns-3
 returns-3 c =
     let test = c .before in
     ap (wrong 17) (place test)
-    ∙ sym (behind (past test) ∙ unless-fails (new test) 17 _ _ (omega arith) (sym (found test) ∙ not-true _ (c .if3 .taken)))
+    ∙ sym (behind (past test) ∙ unless-fails (new test) 17 _ _ (omega arith)
+    (sym (found test) ∙ not-true _ (c .if3 .taken)))
 
 returns-4 : tie.Need-returns-4
 returns-4 c =
     let test = c .before .before in
-    let there : at (row test) + test .before .elevation-size .result + 2 ≡ tapsAt (version (past test)) (at (row test)) = omega (arith, place test) in
+    let there : at (row test) + test .before .elevation-size .result + 2 ≡ tapsAt (version (past test))
+    (at (row test)) = omega (arith, place test) in
     c .taps-fault .ensures
     ∙ ap (λ (p : ℕ). tapsFault (size (row test)) (file (row test)) p (2 * l (past test))) there
     ∙ sym (behind (past test) ∙ unless-passes (new test) 17 _ _ (sym (found test) ∙ not-false _ (c .before .if3 .left)))

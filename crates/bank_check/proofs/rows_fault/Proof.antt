@@ -10,13 +10,20 @@ use Rattle.bank_check.proofs.rows_fault.Statement.{statement}
 use Rattle.bank_check.proofs.rows_fault.Tie as tie
 
 abbrev Inv-loop : tie.InvT-loop
-Inv-loop size s version l n row i₀ at₀ i at = (row ≡ rowSize version l) × (row ≤ largestRow) × (i ≤ n) × (at ≤ 9 + largestRow * i) × (rowsFault size s version l 0 9 n ≡ rowsFault size s version l i at (n - i))
+Inv-loop size s version l n row i₀ at₀ i at = (row ≡ rowSize version l) × (row ≤ largestRow) × (i ≤ n)
+    × (at ≤ 9 + largestRow * i) × (rowsFault size s version l 0 9 n ≡ rowsFault size s version l i at (n - i))
 
 abbrev μ-loop : tie.MeasureT-loop
 μ-loop size s version l n row i₀ at₀ i at = n - i
 
 loop-holds : tie.Need-loop-holds Inv-loop μ-loop
-loop-holds c = (one-size (c .before .before .args .version) _ _ (c .before .before .pre .0) (c .row-size .ensures .0), c .row-size .ensures .1, omega arith, omega arith, ap (rowsFault _ _ _ _ _ _) (omega arith))
+loop-holds c = (
+  one-size (c .before .before .args .version) _ _ (c .before .before .pre .0) (c .row-size .ensures .0),
+  c .row-size .ensures .1,
+  omega arith,
+  omega arith,
+  ap (rowsFault _ _ _ _ _ _) (omega arith),
+)
 
 returns : tie.Need-returns Inv-loop μ-loop
 returns c =
@@ -25,7 +32,8 @@ returns c =
     let start = at-loop .before .before .before in
     let turn = at-loop .loop in
     let more : 0 < start .args .n - turn .i = omega arith in
-    else-stop _ _ _ (at-row-fault .row-fault .ensures) (c .if1 .taken) ∙ sym (turn .inv .4 ∙ rows-next _ _ _ _ _ _ _ more)
+    else-stop _ _ _ (at-row-fault .row-fault .ensures) (c .if1 .taken)
+    ∙ sym (turn .inv .4 ∙ rows-next _ _ _ _ _ _ _ more)
 
 loop-again : tie.Need-loop-again Inv-loop μ-loop
 loop-again c =
@@ -37,7 +45,8 @@ loop-again c =
     let args = start .args in
     let left : args .n - turn .i - 1 ≡ args .n - (turn .i + 1) = omega arith in
     let there = ap (λ (w : ℕ). turn .at + w) (sym (turn .inv .0)) in
-    let next = turn .inv .4 ∙ rows-next _ _ _ _ _ _ _ more ∙ else-on _ _ _ (at-row-fault .row-fault .ensures) (c .if1 .left) in
+    let next = turn .inv .4 ∙ rows-next _ _ _ _ _ _ _ more
+    ∙ else-on _ _ _ (at-row-fault .row-fault .ensures) (c .if1 .left) in
     (turn .inv .0, turn .inv .1, omega arith, omega arith, next ∙ ap₂ (rowsFault _ _ _ _ (turn .i + 1)) there left)
 
 returns-2 : tie.Need-returns-2 Inv-loop μ-loop

@@ -9,11 +9,13 @@ use Rattle.bank_choice.proofs.difference.Statement.{statement}
 use Rattle.bank_choice.proofs.difference.Tie as tie
 
 -- past both: the greater less the other is the difference
-is : (c : tie.After-turned-up2) (d : ℕ) → d ≡ c .before .turned-up .result - c .turned-up2 .result + (c .turned-up2 .result - c .before .turned-up .result)
+is : (c : tie.After-turned-up2) (d : ℕ) → d ≡ c .before .turned-up .result - c .turned-up2 .result
+    + (c .turned-up2 .result - c .before .turned-up .result)
     → d ≡ natAbs (c .before .before .args .a -ℤ c .before .before .args .b)
 is c d e =
     let start = c .before .before in
-    difference-is (start .args .a) (start .args .b) _ _ d (start .fits .a) (start .fits .b) (c .before .turned-up .ensures .0) (c .turned-up2 .ensures .0) e
+    difference-is (start .args .a) (start .args .b) _ _ d (start .fits .a) (start .fits .b)
+    (c .before .turned-up .ensures .0) (c .turned-up2 .ensures .0) e
 
 returns : tie.Need-returns
 returns c = (is (c .before) _ (omega arith), omega arith)

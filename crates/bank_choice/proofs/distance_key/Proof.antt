@@ -20,13 +20,17 @@ returns c =
     let start = at-difference-arg .before in
     let a = start .args in
     let height = at-difference .difference .ensures .0
-    ∙ ap₂ (λ (e q : ℤ). natAbs (e -ℤ q)) (back w16 (getD (a .elevations .now) (a .j) (pos 0)) (at-difference-arg .difference-arg .given)) (toZ-ofZ (start .fits .elevation)) in
+    ∙ ap₂ (λ (e q : ℤ). natAbs (e -ℤ q))
+    (back w16 (getD (a .elevations .now) (a .j) (pos 0)) (at-difference-arg .difference-arg .given))
+    (toZ-ofZ (start .fits .elevation)) in
     let round = c .tenths-apart .ensures .0
-    ∙ ap₂ apart (back w16 (getD (a .azimuths .now) (a .j) (pos 0)) (c .before .tenths-apart-arg .given)) (toZ-ofZ (start .fits .azimuth)) in
+    ∙ ap₂ apart (back w16 (getD (a .azimuths .now) (a .j) (pos 0)) (c .before .tenths-apart-arg .given))
+    (toZ-ofZ (start .fits .azimuth)) in
     omega arith
 
 pub distance-key-spec : {M : Type 1} → statement M
 distance-key-spec =
     tie.close
-    (tie.spec (λ c. search needs) (λ c. search needs) (λ c κs. search needs) (λ c. search needs) (λ c. search needs) (λ c κs. search needs) (λ c. omega arith) (λ c. omega arith)
+    (tie.spec (λ c. search needs) (λ c. search needs) (λ c κs. search needs) (λ c. search needs) (λ c. search needs)
+    (λ c κs. search needs) (λ c. omega arith) (λ c. omega arith)
     returns)

@@ -14,10 +14,12 @@ module _ (c : tie.After-distance-key2) where
   far j = let a = c .before .before .args in key (a .azimuths .now) (a .elevations .now) (a .azimuth) (a .elevation) j
 
   there : c .before .distance-key .result ≡ far (c .before .before .args .j)
-  there = let fits = c .before .before .fits in rw (toZ-ofZ (fits .azimuth), toZ-ofZ (fits .elevation)) at (c .before .distance-key .ensures)
+  there = let fits = c .before .before .fits in rw (toZ-ofZ (fits .azimuth), toZ-ofZ (fits .elevation)) at
+      (c .before .distance-key .ensures)
 
   here : c .distance-key2 .result ≡ far (c .before .before .args .best)
-  here = let fits = c .before .before .fits in rw (toZ-ofZ (fits .azimuth), toZ-ofZ (fits .elevation)) at (c .distance-key2 .ensures)
+  here = let fits = c .before .before .fits in rw (toZ-ofZ (fits .azimuth), toZ-ofZ (fits .elevation)) at
+      (c .distance-key2 .ensures)
 
 returns : tie.Need-returns
 returns c = nearer-other _ _ _ _ _ _ (rw (there (c .before), here (c .before)) at (c .if1 .taken))

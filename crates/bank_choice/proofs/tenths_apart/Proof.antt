@@ -11,7 +11,8 @@ returns : tie.Need-returns
 unfolding apart
 returns c =
     let fits = c .before .before .fits in
-    let round = c .shorter .ensures .0 ∙ ap (λ (d : ℕ). min (d % 3600) (3600 - d % 3600)) (c .before .difference .ensures .0) in
+    let round = c .shorter .ensures .0 ∙ ap (λ (d : ℕ). min (d % 3600) (3600 - d % 3600))
+    (c .before .difference .ensures .0) in
     (round ∙ ap₂ (λ (a b : ℤ). apart a b) (toZ-ofZ (fits .a)) (toZ-ofZ (fits .b)), c .shorter .ensures .1)
 
 pub tenths-apart-spec : {M : Type 1} → statement M

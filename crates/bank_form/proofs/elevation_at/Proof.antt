@@ -22,7 +22,9 @@ unfolding elevationAt signedAt
 returns-2 c =
     let start = c .before .before .before in
     let args = start .args in
-    sym (rw (ne-eqb _ _ (c .before .if1 .left)) (ap (toZ w16) (field-out (args .s .now) (args .at + 2) 2 (lies-out _ (args .at + 2) 2 (omega arith) (omega (arith, c .if2 .taken))))))
+    sym (rw (ne-eqb _ _ (c .before .if1 .left))
+    (ap (toZ w16) (field-out (args .s .now) (args .at + 2) 2
+    (lies-out _ (args .at + 2) 2 (omega arith) (omega (arith, c .if2 .taken))))))
 
 returns-3 : tie.Need-returns-3
 unfolding elevationAt

@@ -10,7 +10,8 @@ use Rattle.big_endian.proofs.get_f32.Tie as tie
 
 returns : tie.Need-returns
 unfolding floatAt
-returns c = zero-by-zero binary32 ∙ sym (nan-pattern binary32 _ (c .if1 .taken)) ∙ ap (ofBits binary32) (c .before .get .ensures .bits)
+returns c = zero-by-zero binary32 ∙ sym (nan-pattern binary32 _ (c .if1 .taken))
+    ∙ ap (ofBits binary32) (c .before .get .ensures .bits)
 
 float-from-bits-result : tie.Need-float-from-bits-result
 float-from-bits-result c = number-pattern binary32 _ (c .if1 .left)

@@ -9,7 +9,8 @@ use Rattle.big_endian.proofs.get_f64.Tie as tie
 
 returns : tie.Need-returns
 unfolding doubleAt
-returns c = zero-by-zero binary64 ∙ sym (nan-pattern binary64 _ (c .if1 .taken)) ∙ ap (ofBits binary64) (c .before .get .ensures .bits)
+returns c = zero-by-zero binary64 ∙ sym (nan-pattern binary64 _ (c .if1 .taken))
+    ∙ ap (ofBits binary64) (c .before .get .ensures .bits)
 
 float-from-bits-result : tie.Need-float-from-bits-result
 float-from-bits-result c = number-pattern binary64 _ (c .if1 .left)

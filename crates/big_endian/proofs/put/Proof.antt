@@ -1,15 +1,18 @@
--- `big_endian::put` meets its contract. The digits stand from the last on, and what is left of the number has those before them. Assumes nothing.
+-- `big_endian::put` meets its contract. The digits stand from the last on, and what is left of the number has those
+-- before them. Assumes nothing.
 use mathlib.Core.Path.{_≡_, sym, ap, _∙_}
 use Prim.Native.Nat.{_+_, _-_, _/_, _^_, _≤_}
 use native.Mathlib.Omega.{arith}
 use borrow.Author.Tests.{not-true, not-false}
 use lib.ListN.{length}
-use Rattle.big_endian.proofs.Fields.{lies-true, written-out, putFrom, put-none, put-next, put-all, length-put, digits-left, all-left}
+use Rattle.big_endian.proofs.Fields.{lies-true, written-out, putFrom, put-none, put-next, put-all, length-put}
+use Rattle.big_endian.proofs.Fields.{digits-left, all-left}
 use Rattle.big_endian.proofs.put.Statement.{statement}
 use Rattle.big_endian.proofs.put.Tie as tie
 
 abbrev Inv-loop : tie.InvT-loop
-Inv-loop out₀ at count n rest₀ k₀ out rest k = (k ≤ count) × (count ≤ 8) × (at + count ≤ length out₀) × (rest ≡ n / 256 ^ (count - k)) × (out ≡ putFrom out₀ at count n k)
+Inv-loop out₀ at count n rest₀ k₀ out rest k = (k ≤ count) × (count ≤ 8) × (at + count ≤ length out₀)
+    × (rest ≡ n / 256 ^ (count - k)) × (out ≡ putFrom out₀ at count n k)
 
 abbrev μ-loop : tie.MeasureT-loop
 μ-loop out₀ at count n rest₀ k₀ out rest k = k
@@ -26,14 +29,20 @@ slice-write-out : tie.Need-slice-write-out Inv-loop μ-loop
 slice-write-out c =
     let start = c .before .before .before .before .before in
     let turn = c .before .loop in
-    let long : length (turn .out) ≡ length (start .args .out .now) = rw (turn .inv .4) (length-put _ _ _ _ _ (turn .inv .0) (turn .inv .2)) in
+    let long : length (turn .out) ≡ length (start .args .out .now) = rw (turn .inv .4)
+    (length-put _ _ _ _ _ (turn .inv .0) (turn .inv .2)) in
     omega arith
 
 loop-again : tie.Need-loop-again Inv-loop μ-loop
 loop-again c =
     let turn = c .before .loop in
-    let more = c .loop-test .taken in
-    (omega arith, turn .inv .1, turn .inv .2, rw (turn .inv .3) (digits-left _ _ _ more (turn .inv .0)), rw (turn .inv .4, turn .inv .3) (put-next _ _ _ _ _ more (turn .inv .0) (turn .inv .2)))
+    let more = c .loop-test .taken in (
+      omega arith,
+      turn .inv .1,
+      turn .inv .2,
+      rw (turn .inv .3) (digits-left _ _ _ more (turn .inv .0)),
+      rw (turn .inv .4, turn .inv .3) (put-next _ _ _ _ _ more (turn .inv .0) (turn .inv .2)),
+    )
 
 same-length : tie.Need-same-length Inv-loop μ-loop
 same-length c = let turn = c .before .loop in rw (turn .inv .4) (length-put _ _ _ _ _ (turn .inv .0) (turn .inv .2))

@@ -30,4 +30,5 @@ returns-2 c = search needs
 
 pub put-f32-spec : {M : Type 1} → statement M
 put-f32-spec =
-    tie.close (tie.spec (λ c κs. tt) (λ c. search needs) returns float-to-bits-put cast-put (λ c κs. tt) (λ c. search needs) returns-2)
+    tie.close (tie.spec (λ c κs. tt) (λ c. search needs) returns float-to-bits-put cast-put (λ c κs. tt)
+    (λ c. search needs) returns-2)

@@ -24,4 +24,5 @@ returns-2 c = search needs
 
 pub put-f64-spec : {M : Type 1} → statement M
 put-f64-spec =
-    tie.close (tie.spec (λ c κs. tt) (λ c. search needs) returns float-to-bits-put (λ c κs. tt) (λ c. search needs) returns-2)
+    tie.close (tie.spec (λ c κs. tt) (λ c. search needs) returns float-to-bits-put (λ c κs. tt) (λ c. search needs)
+    returns-2)

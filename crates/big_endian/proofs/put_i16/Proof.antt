@@ -11,12 +11,14 @@ use Rattle.big_endian.proofs.put_i16.Statement.{statement}
 use Rattle.big_endian.proofs.put_i16.Tie as tie
 
 sub-k : tie.Need-sub-k
-sub-k c = let fit = c .before .before .fits .z in rw (below-part w16 _ fit (c .if1 .taken)) (record { sfits = fit .sfits })
+sub-k c = let fit = c .before .before .fits .z in rw (below-part w16 _ fit (c .if1 .taken))
+    (record { sfits = fit .sfits })
 
 cast-put : tie.Need-cast-put
 cast-put c =
     let at-fits = c .before .before .before in
-    let fit = at-fits .fits .z in rw (below-whole w16 _ fit (c .before .if1 .taken)) (tt, let h = fit .sfits in omega arith)
+    let fit = at-fits .fits .z in rw (below-whole w16 _ fit (c .before .if1 .taken))
+    (tt, let h = fit .sfits in omega arith)
 
 sub-put : tie.Need-sub-put
 sub-put c =
@@ -31,12 +33,14 @@ returns c =
     let at-fits = at-if1 .before .before in
     let below = at-if1 .if1 .taken in
     let fit = at-fits .fits .z in
-    at-put .put .ensures ∙ ap (withField _ _ _) (ap (λ (y : ℤ). 65535 - natAbs y) (below-whole w16 _ fit below) ∙ below-bits w16 _ fit below)
+    at-put .put .ensures ∙ ap (withField _ _ _)
+    (ap (λ (y : ℤ). 65535 - natAbs y) (below-whole w16 _ fit below) ∙ below-bits w16 _ fit below)
 
 cast-put-2 : tie.Need-cast-put-2
 cast-put-2 c =
     let at-fits = c .before .before .before in
-    let fit = at-fits .fits .z in rw (above-part w16 _ fit (c .before .if1 .left)) (tt, let h = fit .sfits in omega arith)
+    let fit = at-fits .fits .z in rw (above-part w16 _ fit (c .before .if1 .left))
+    (tt, let h = fit .sfits in omega arith)
 
 returns-2 : tie.Need-returns-2
 unfolding withSigned
@@ -50,4 +54,5 @@ returns-2 c =
 
 pub put-i16-spec : {M : Type 1} → statement M
 put-i16-spec =
-    tie.close (tie.spec sub-k cast-put sub-put (λ c κs. tt) (λ c. search needs) returns cast-put-2 (λ c κs. tt) (λ c. search needs) returns-2)
+    tie.close (tie.spec sub-k cast-put sub-put (λ c κs. tt) (λ c. search needs) returns cast-put-2 (λ c κs. tt)
+    (λ c. search needs) returns-2)

@@ -10,7 +10,8 @@ use Rattle.channel.proofs.ambisonic_channel_count.Statement.{statement}
 use Rattle.channel.proofs.ambisonic_channel_count.Tie as tie
 
 returns : tie.Need-returns
-returns c = order-counted (c .before .before .args .order) true (sym (c .if1 .taken) ∙ c .before .refuses-order .ensures)
+returns c =
+    order-counted (c .before .before .args .order) true (sym (c .if1 .taken) ∙ c .before .refuses-order .ensures)
 
 -- past the test
 order-in : (c : tie.Else1) → refusesOrder (c .before .before .args .order) ≡ false

@@ -10,7 +10,8 @@ returns c =
     let at-speaker = c .before .before in
     let start = at-speaker .before in
     let a = start .args in
-    as-float (speakers (a .layout)) (a .channel) (speaker-turned (a .layout) (a .channel)) _ (at-speaker .speaker .ensures)
+    as-float (speakers (a .layout)) (a .channel) (speaker-turned (a .layout) (a .channel)) _
+    (at-speaker .speaker .ensures)
 
 pub speaker-azimuth-spec : {M : Type 1} → statement M
 speaker-azimuth-spec = tie.close (tie.spec (λ c κs. search needs) (λ c. search needs) returns)

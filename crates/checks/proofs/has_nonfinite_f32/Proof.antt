@@ -1,10 +1,12 @@
--- `checks::has_nonfinite_f32` meets its contract. The loop has passed no element that is NaN or infinite. Assumes nothing.
+-- `checks::has_nonfinite_f32` meets its contract. The loop has passed no element that is NaN or infinite. Assumes
+-- nothing.
 use mathlib.Core.Path.{_∙_}
 use Prim.Native.Nat.{_-_}
 use native.Mathlib.Omega.{arith}
 use lib.ListN.{length}
 use denote.Ref.{now}
-use Rattle.checks.proofs.Checks.{Passing, passing-none, wrong, sound-more, nonfinite-found, sound-all, placeOf, nonfinite-list}
+use Rattle.checks.proofs.Checks.{Passing, passing-none, wrong, sound-more, nonfinite-found, sound-all, placeOf}
+use Rattle.checks.proofs.Checks.{nonfinite-list}
 use Rattle.checks.proofs.has_nonfinite_f32.Statement.{statement}
 use Rattle.checks.proofs.has_nonfinite_f32.Tie as tie
 
@@ -25,7 +27,9 @@ returns c =
     let at = at-loop-test .before in
     let start = at .before .before in
     let xs = now (start .args .taps) in
-    nonfinite-found (placeOf xs) (length xs) (at .loop .k) _ (at-is-finite .is-finite .result) (at .loop .inv) (at-loop-test .loop-test .taken) (at-widen .widen .ensures .bits) (at-is-finite .is-finite .ensures) (c .if1 .taken) ∙ nonfinite-list xs
+    nonfinite-found (placeOf xs) (length xs) (at .loop .k) _ (at-is-finite .is-finite .result) (at .loop .inv)
+    (at-loop-test .loop-test .taken) (at-widen .widen .ensures .bits) (at-is-finite .is-finite .ensures)
+    (c .if1 .taken) ∙ nonfinite-list xs
 
 loop-again : tie.Need-loop-again Inv-loop μ-loop
 loop-again c =
@@ -35,7 +39,9 @@ loop-again c =
     let at = at-loop-test .before in
     let start = at .before .before in
     let xs = now (start .args .taps) in
-    sound-more (placeOf xs) (length xs) (at .loop .k) _ (at-is-finite .is-finite .result) (at .loop .inv) (at-loop-test .loop-test .taken) (at-widen .widen .ensures .bits) (at-is-finite .is-finite .ensures) (c .if1 .left)
+    sound-more (placeOf xs) (length xs) (at .loop .k) _ (at-is-finite .is-finite .result) (at .loop .inv)
+    (at-loop-test .loop-test .taken) (at-widen .widen .ensures .bits) (at-is-finite .is-finite .ensures)
+    (c .if1 .left)
 
 returns-2 : tie.Need-returns-2 Inv-loop μ-loop
 returns-2 c =

@@ -1,5 +1,6 @@
--- `cues::cue_at` meets its contract: a walk of its MIR, by hand. The place of `cues[i]` is i * 24 past the pointer; the slice is looked into, element i is taken out of the row, it is read whole, and it is put back.
--- The code has no check of the bound: it is the contract's to ask.
+-- `cues::cue_at` meets its contract: a walk of its MIR, by hand. The place of `cues[i]` is i * 24 past the pointer; the
+-- slice is looked into, element i is taken out of the row, it is read whole, and it is put back. The code has no check
+-- of the bound: it is the contract's to ask.
 -- Assumes nothing.
 use Rattle.walks.proofs.Kit.{refl, sym, ℕ, _<_, _*_, _^_, arith, List, [], _∷_, length, getD, URA, fullShare, named}
 use Rattle.walks.proofs.Kit.{w64, tyPtr, vint, vptr, Val, SProp, ent, Lft, GName, Share, ftrue, fat, flft, Memory}
@@ -33,7 +34,9 @@ vals = LL.vals T.the-type T′.the-laws
 offset-fits : (i n : ℕ) → i < n → n * 24 < 2 ^ 63 → i * 24 < 2 ^ 64
 offset-fits i n l g = omega (arith, l, g)
 
-module _ {M : Type 1} (𝓤 : URA M) (H : Heap 𝓤) (A : Atoms 𝓤) (W : Given 𝓤 H A) (at-mem : Memory → SProp 𝓤) (run : Routine → Fun 𝓤) (κ : Lft) (q : Share) (b o : ℕ) (γ : GName) (ys : List Cue) (i : ℕ) (gi : i < 2 ^ 64) (l : i < length ys) where
+module _ {M : Type 1} (𝓤 : URA M) (H : Heap 𝓤) (A : Atoms 𝓤) (W : Given 𝓤 H A) (at-mem : Memory → SProp 𝓤)
+    (run : Routine → Fun 𝓤) (κ : Lft) (q : Share) (b o : ℕ) (γ : GName) (ys : List Cue) (i : ℕ) (gi : i < 2 ^ 64)
+    (l : i < length ys) where
   abbrev Arg : Type 0
   Arg = RefT (List Cue) × (ℕ × Unit {0})
 
@@ -49,42 +52,74 @@ module _ {M : Type 1} (𝓤 : URA M) (H : Heap 𝓤) (A : Atoms 𝓤) (W : Given
   abbrev Post : Val → SProp 𝓤
   Post = walkOf 𝓤 H A f.ended stayed (f.clauses 𝓤 H A at-mem run) .post (((κ, tt), (q, tt), tt, x, at), tt)
 
-  exits : Is T.the-row elem (vals elem) → ent 𝓤 (⋆ 𝓤 H A (‵ (flft κ q) ∷ ‵ (ShrSlice (named 0) κ T.the-row .own (x .0) (at .0)) ∷ [])) (Post (LL.val T.the-type T′.the-laws elem))
+  exits : Is T.the-row elem (vals elem) → ent 𝓤
+      (⋆ 𝓤 H A (‵ (flft κ q) ∷ ‵ (ShrSlice (named 0) κ T.the-row .own (x .0) (at .0)) ∷ []))
+      (Post (LL.val T.the-type T′.the-laws elem))
   exits g =
       qed W (‵ (flft κ q) ∷ ‵ (ShrSlice (named 0) κ T.the-row .own (x .0) (at .0)) ∷ []) ∵
-      suffices ! _ (ends-at 𝓤 H A f.ended stayed (f.clauses 𝓤 H A at-mem run) W (((κ, tt), (q, tt), tt, x, at), tt) (LL.val T.the-type T′.the-laws elem) elem (tt, (tt, tt)) (tt, (tt, tt))) $ says ! refl $
-      nothing ! $ move ! (1 ∷ 0 ∷ []) $ join ! $ frame ! $ nothing ! $ owned ! usize (Is usize) (uint-makes 𝓤 H A W w64) i _ (refl, gi) $ fjoin ! $ move ! (1 ∷ 0 ∷ []) $ fjoin ! $ frame ! $
+      suffices ! _ (ends-at 𝓤 H A f.ended stayed (f.clauses 𝓤 H A at-mem run) W (((κ, tt), (q, tt), tt, x, at), tt)
+      (LL.val T.the-type T′.the-laws elem) elem (tt, (tt, tt)) (tt, (tt, tt))) $ says ! refl $
+      nothing ! $ move ! (1 ∷ 0 ∷ []) $ join ! $ frame ! $ nothing !
+      $ owned ! usize (Is usize) (uint-makes 𝓤 H A W w64) i _ (refl, gi) $ fjoin ! $ move ! (1 ∷ 0 ∷ []) $ fjoin !
+      $ frame ! $
       owned ! T.the-row (Is T.the-row) (LL.makes T.the-type T′.the-plain 𝓤 H A) elem _ g $ done !
 
   module _ (C : Calls 𝓤 H) (Λ : Loops 𝓤 H) where
-    walk : Room T.the-row (length ys) → ent 𝓤 (onEntry 𝓤 H A f.signature (κ, tt) (q, tt) x at) (WpFn 𝓤 H C Λ code.function (sliceVal (b, o) (length ys) ∷ vint w64 i ∷ []) Post)
+    walk : Room T.the-row (length ys) → ent 𝓤 (onEntry 𝓤 H A f.signature (κ, tt) (q, tt) x at)
+        (WpFn 𝓤 H C Λ code.function (sliceVal (b, o) (length ys) ∷ vint w64 i ∷ []) Post)
     walk gn =
-        qed W ((‵ (flft κ q) ⊛ ‵ ftrue) ∷ ‵ (owns (ShrSlice (named 0) κ T.the-row ∷ usize ∷ []) x at) ∷ []) ∵ enter ! C Λ code.function (sliceVal (b, o) (length ys) ∷ vint w64 i ∷ []) _ $
-        alloc1 ! (λ l₀. alloc1 ! (λ l₁. alloc1 ! (λ l₂. alloc1 ! (λ l₃. alloc1 ! (λ l₄. alloc1 ! (λ l₅. alloc0 ! $ params1 ! $
-        pass1 ! (init ! 8 refl (tt, (tt, (record { fits = gn .0 }, tt)))) $ pass1 ! (init ! 6 refl (tt, record { fits = gi })) $ pass0 ! $
-        assigns ! (bin ! (load ! (from ! (stop !)) (look ! 6 refl)) (lit ! tt) (record { fits = offset-fits i (length ys) l (gn .1) })) (from ! (stop !)) (init ! 4 refl (tt, record { fits = offset-fits i (length ys) l (gn .1) })) $
-        assigns ! (bin ! (load ! (from ! (fld ! refl (stop !))) (look-in ! 8 (sub ! 0 refl (whole !)))) (load ! (from ! (stop !)) (look ! 4 refl)) tt) (from ! (stop !)) (init ! 2 refl (tt, tt)) $
+        qed W ((‵ (flft κ q) ⊛ ‵ ftrue) ∷ ‵ (owns (ShrSlice (named 0) κ T.the-row ∷ usize ∷ []) x at) ∷ [])
+        ∵ enter ! C Λ code.function (sliceVal (b, o) (length ys) ∷ vint w64 i ∷ []) _ $
+        alloc1 ! (λ l₀. alloc1 !
+        (λ l₁. alloc1 ! (λ l₂. alloc1 ! (λ l₃. alloc1 ! (λ l₄. alloc1 ! (λ l₅. alloc0 ! $ params1 ! $
+        pass1 ! (init ! 8 refl (tt, (tt, (record { fits = gn .0 }, tt))))
+        $ pass1 ! (init ! 6 refl (tt, record { fits = gi })) $ pass0 ! $
+        assigns ! (bin ! (load ! (from ! (stop !)) (look ! 6 refl)) (lit ! tt)
+        (record { fits = offset-fits i (length ys) l (gn .1) })) (from ! (stop !))
+        (init ! 4 refl (tt, record { fits = offset-fits i (length ys) l (gn .1) })) $
+        assigns ! (bin ! (load ! (from ! (fld ! refl (stop !))) (look-in ! 8 (sub ! 0 refl (whole !))))
+        (load ! (from ! (stop !)) (look ! 4 refl)) tt) (from ! (stop !)) (init ! 2 refl (tt, tt)) $
         rewrite ! 2 (λ (p : ℕ). ‵ (fat fullShare tyPtr l₄ 0 (vptr b p))) (sym (place-is 24 o i)) refl $
-        move ! (13 ∷ []) $ fsplit ! $ fsplit ! $ move ! (1 ∷ []) $ fsplit ! $ move ! (16 ∷ []) $ split ! $ move ! (3 ∷ 0 ∷ []) $
-        looks-slice ! tt T.the-row (Is T.the-row) (shows 𝓤 H A T.the-row) vals (LL.tells T.the-type T′.the-laws) (LL.copy T.the-type T′.the-copy 𝓤 H A W) ys b o (λ q′.
-        elem-out ! T.the-row (Is T.the-row) (shows 𝓤 H A T.the-row) vals (LL.tells T.the-type T′.the-laws) q′ ys i nowhere b o l (λ g.
-        -- [cues[i]; what it owns; the others; what shuts; the fractured borrow; true; res; the slice's fact; i's; _5; …; _4; …; _3; …; _2; …; _1; …; _0; …]
-        assigns ! (of-opd ! (load ! (from ! (hop ! (look ! 11 refl) (stop !))) (look-raw ! 0 refl))) (from ! (stop !)) (init ! 9 refl (LL.lawful T.the-type T′.the-laws 𝓤 H A W .typed elem _ g .0)) $
-        assigns ! (of-opd ! (load ! (from ! (stop !)) (look ! 9 refl))) (from ! (stop !)) (init ! 19 refl (LL.lawful T.the-type T′.the-laws 𝓤 H A W .typed elem _ g .0)) $
+        move ! (13 ∷ []) $ fsplit ! $ fsplit ! $ move ! (1 ∷ []) $ fsplit ! $ move ! (16 ∷ []) $ split !
+        $ move ! (3 ∷ 0 ∷ []) $
+        looks-slice ! tt T.the-row (Is T.the-row) (shows 𝓤 H A T.the-row) vals (LL.tells T.the-type T′.the-laws)
+        (LL.copy T.the-type T′.the-copy 𝓤 H A W) ys b o (λ q′.
+        elem-out ! T.the-row (Is T.the-row) (shows 𝓤 H A T.the-row) vals (LL.tells T.the-type T′.the-laws) q′ ys i
+        nowhere b o l (λ g.
+        -- [cues[i]; what it owns; the others; what shuts; the fractured borrow; true; res; the slice's fact; i's; _5;
+        -- …; _4; …; _3; …; _2; …; _1; …; _0; …]
+        assigns ! (of-opd ! (load ! (from ! (hop ! (look ! 11 refl) (stop !))) (look-raw ! 0 refl))) (from ! (stop !))
+        (init ! 9 refl (LL.lawful T.the-type T′.the-laws 𝓤 H A W .typed elem _ g .0)) $
+        assigns ! (of-opd ! (load ! (from ! (stop !)) (look ! 9 refl))) (from ! (stop !))
+        (init ! 19 refl (LL.lawful T.the-type T′.the-laws 𝓤 H A W .typed elem _ g .0)) $
         elem-back ! T.the-row q′ ys i nowhere (vals elem) b o l $ shuts-slice ! tt T.the-row q′ ys b o $
-        returns ! (look ! 16 refl) $ forget ! 6 refl $ forget ! 8 refl $ forget ! 10 refl $ forget ! 12 refl $ forget ! 14 refl $ forget ! 16 refl $
-        move ! (16 ∷ 17 ∷ []) $ free1 ! $ move ! (14 ∷ 15 ∷ []) $ free1 ! $ move ! (12 ∷ 13 ∷ []) $ free1 ! $ move ! (10 ∷ 11 ∷ []) $ free1 ! $ move ! (8 ∷ 9 ∷ []) $ free1 ! $ move ! (6 ∷ 7 ∷ []) $ free1 ! $ free0 ! $
+        returns ! (look ! 16 refl) $ forget ! 6 refl $ forget ! 8 refl $ forget ! 10 refl $ forget ! 12 refl
+        $ forget ! 14 refl $ forget ! 16 refl $
+        move ! (16 ∷ 17 ∷ []) $ free1 ! $ move ! (14 ∷ 15 ∷ []) $ free1 ! $ move ! (12 ∷ 13 ∷ []) $ free1 !
+        $ move ! (10 ∷ 11 ∷ []) $ free1 ! $ move ! (8 ∷ 9 ∷ []) $ free1 ! $ move ! (6 ∷ 7 ∷ []) $ free1 !
+        $ free0 ! $
         move ! (3 ∷ 1 ∷ []) $ fjoin ! $ move ! (3 ∷ 0 ∷ []) $ fjoin ! $ keep ! (1 ∷ 0 ∷ []) $ by ! (exits g)))))))))
 
-module _ {M : Type 1} (𝓤 : URA M) (H : Heap 𝓤) (A : Atoms 𝓤) (W : Given 𝓤 H A) (at-mem : Memory → SProp 𝓤) (run : Routine → Fun 𝓤) where
-  cue-at-walks : (C : Calls 𝓤 H) (Λ : Loops 𝓤 H) → Walks 𝓤 H A f.ended stayed (WpFn 𝓤 H C Λ code.function) (f.clauses 𝓤 H A at-mem run)
-  cue-at-walks C Λ = walked 𝓤 H A f.ended stayed (f.clauses 𝓤 H A at-mem run) (WpFn 𝓤 H C Λ code.function) (λ κs. (slice-vals, (uint-vals w64, tt))) (λ κs. (shr-slice-tells (named 0) (κs .0) T.the-row, (uint-tells w64, tt)))
+module _ {M : Type 1} (𝓤 : URA M) (H : Heap 𝓤) (A : Atoms 𝓤) (W : Given 𝓤 H A) (at-mem : Memory → SProp 𝓤)
+    (run : Routine → Fun 𝓤) where
+  cue-at-walks : (C : Calls 𝓤 H) (Λ : Loops 𝓤 H) → Walks 𝓤 H A f.ended stayed (WpFn 𝓤 H C Λ code.function)
+      (f.clauses 𝓤 H A at-mem run)
+  cue-at-walks C Λ = walked 𝓤 H A f.ended stayed (f.clauses 𝓤 H A at-mem run) (WpFn 𝓤 H C Λ code.function)
+      (λ κs. (slice-vals, (uint-vals w64, tt)))
+      (λ κs. (shr-slice-tells (named 0) (κs .0) T.the-row, (uint-tells w64, tt)))
       (λ κs qs bounds a g are. needs 𝓤 (a .1 .0 < length (now (a .0))) _ (λ l.
-      walk 𝓤 H A W at-mem run (κs .0) (qs .0) (a .0 .ptr .0) (a .0 .ptr .1) (a .0 .name) (a .0 .now) (a .1 .0) (are .1 .0 .1) l C Λ (are .0 .0 .1)))
+      walk 𝓤 H A W at-mem run (κs .0) (qs .0) (a .0 .ptr .0) (a .0 .ptr .1) (a .0 .name) (a .0 .now) (a .1 .0)
+      (are .1 .0 .1) l C Λ (are .0 .0 .1)))
 
-cue-at-meets : {M : Type 1} (𝓤 : URA M) (H : Heap 𝓤) (A : Atoms 𝓤) → Given 𝓤 H A → (at-mem : Memory → SProp 𝓤) (run : Routine → Fun 𝓤) (𝓣 : Tables 𝓤 H)
+cue-at-meets : {M : Type 1} (𝓤 : URA M) (H : Heap 𝓤) (A : Atoms 𝓤) → Given 𝓤 H A
+    → (at-mem : Memory → SProp 𝓤) (run : Routine → Fun 𝓤) (𝓣 : Tables 𝓤 H)
     → Meets 𝓤 H A f.signature (WpFn 𝓤 H (𝓣 .C) (𝓣 .Λ) code.function) (f.spec 𝓤 H A at-mem run)
-cue-at-meets 𝓤 H A W at-mem run 𝓣 = walk-meets 𝓤 H A f.ended stayed W (goes-none-slice 𝓤 H A W 1 (0 ∷ []) tt (plain (λ _. T.the-row)) yes, (goes-none 𝓤 H A W 1 (λ _. usize) yes (λ κs x f. refl), tt)) (f.clauses 𝓤 H A at-mem run) (WpFn 𝓤 H (𝓣 .C) (𝓣 .Λ) code.function) (WpFn-mono 𝓤 H (W .laws) 𝓣 code.function) (cue-at-walks 𝓤 H A W at-mem run (𝓣 .C) (𝓣 .Λ))
+cue-at-meets 𝓤 H A W at-mem run 𝓣 = walk-meets 𝓤 H A f.ended stayed W (
+  goes-none-slice 𝓤 H A W 1 (0 ∷ []) tt (plain (λ _. T.the-row)) yes,
+  (goes-none 𝓤 H A W 1 (λ _. usize) yes (λ κs x f. refl), tt),
+) (f.clauses 𝓤 H A at-mem run)
+    (WpFn 𝓤 H (𝓣 .C) (𝓣 .Λ) code.function) (WpFn-mono 𝓤 H (W .laws) 𝓣 code.function)
+    (cue-at-walks 𝓤 H A W at-mem run (𝓣 .C) (𝓣 .Λ))
 
 pub cue-at-spec : {M : Type 1} → stated.statement M
 unfolding code.routine tablesOf

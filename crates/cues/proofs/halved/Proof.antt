@@ -6,11 +6,14 @@ use Rattle.cues.proofs.halved.Statement.{statement}
 use Rattle.cues.proofs.halved.Tie as tie
 
 returns : tie.Need-returns
-returns c = let a = c .before .before .args in simp (le-leb (a .cue .frame) (a .frame) (omega (arith, c .before .if1 .taken)))
+returns c =
+    let a = c .before .before .args in simp (le-leb (a .cue .frame) (a .frame) (omega (arith, c .before .if1 .taken)))
 
 returns-2 : tie.Need-returns-2
-returns-2 c = let a = c .before .before .args in simp (lt-leb (a .cue .frame) (a .frame) (omega (arith, c .before .if1 .left)))
+returns-2 c =
+    let a = c .before .before .args in simp (lt-leb (a .cue .frame) (a .frame) (omega (arith, c .before .if1 .left)))
 
 pub halved-spec : {M : Type 1} → statement M
 halved-spec =
-    tie.close (tie.spec (λ c. search needs) (λ c. search needs) (λ c. search needs) (λ c. search needs) (λ c. search needs) returns (λ c. search needs) (λ c. search needs) returns-2)
+    tie.close (tie.spec (λ c. search needs) (λ c. search needs) (λ c. search needs) (λ c. search needs)
+    (λ c. search needs) returns (λ c. search needs) (λ c. search needs) returns-2)

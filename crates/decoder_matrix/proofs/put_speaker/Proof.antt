@@ -20,7 +20,9 @@ returns c =
     let at-compute-sh-coefficients = at-put-row .before .before .before .before .before in
     let start = at-compute-sh-coefficients .before .before in
     let a = start .args in
-    first-put (now (a .weights)) _ (a .at) (a .channels) (a .scale) _ _ (ap (λ (r : Coefficients). r .gains) (at-compute-sh-coefficients .compute-sh-coefficients .ensures .bits)) (at-put-row .put-row .ensures)
+    first-put (now (a .weights)) _ (a .at) (a .channels) (a .scale) _ _
+    (ap (λ (r : Coefficients). r .gains) (at-compute-sh-coefficients .compute-sh-coefficients .ensures .bits))
+    (at-put-row .put-row .ensures)
 
 pub put-speaker-spec : {M : Type 1} → statement M
 put-speaker-spec =

@@ -16,13 +16,15 @@ use Rattle.decoder_matrix.proofs.put_speakers.Statement.{statement}
 use Rattle.decoder_matrix.proofs.put_speakers.Tie as tie
 
 abbrev Inv-loop : tie.InvT-loop
-Inv-loop order layout n channels weights₀ scale at₀ i₀ weights at i = Filling weights₀ channels n (rowBy order layout n channels) weights at i
+Inv-loop order layout n channels weights₀ scale at₀ i₀ weights at i =
+    Filling weights₀ channels n (rowBy order layout n channels) weights at i
 
 abbrev μ-loop : tie.MeasureT-loop
 μ-loop order layout n channels weights₀ scale at₀ i₀ weights at i = n - i
 
 loop-holds : tie.Need-loop-holds Inv-loop μ-loop
-loop-holds c = let a = c .before .before .args in filling-none (now (a .weights)) (a .channels) (a .n) (rowBy (a .order) (a .layout) (a .n) (a .channels))
+loop-holds c = let a = c .before .before .args in filling-none (now (a .weights)) (a .channels) (a .n)
+    (rowBy (a .order) (a .layout) (a .n) (a .channels))
 
 loop-again : tie.Need-loop-again Inv-loop μ-loop
 loop-again c =
@@ -32,10 +34,15 @@ loop-again c =
     let inverse = tested .before .before .inverse-root in
     let a = tested .before .before .before .before .args in
     let at = tested .before .loop in
-    filling-more (now (a .weights)) (a .channels) (a .n) (rowBy (a .order) (a .layout) (a .n) (a .channels)) (at .weights) (at .at) (at .i) (at .inv) (at-put-speaker .put-speaker .last .1 .1 .1 .1 .0) (omega arith) (tested .loop-test .taken)
+    filling-more (now (a .weights)) (a .channels) (a .n) (rowBy (a .order) (a .layout) (a .n) (a .channels))
+    (at .weights) (at .at) (at .i) (at .inv) (at-put-speaker .put-speaker .last .1 .1 .1 .1 .0) (omega arith)
+    (tested .loop-test .taken)
     (at-put-speaker .put-speaker .ensures
-    ∙ ap (λ (z : Float). sets (at .weights) (at .at) (scaled (inverse .result .value) (take (a .channels) (outcome (a .order) (towards z) .gains)))) (at-speaker-position .speaker-position .ensures)
-    ∙ ap (λ (s : Float). sets (at .weights) (at .at) (scaled s (take (a .channels) (outcome (a .order) (towards (azimuthBy (a .layout) (a .n) (at .i))) .gains))))
+    ∙ ap (λ (z : Float). sets (at .weights) (at .at)
+    (scaled (inverse .result .value) (take (a .channels) (outcome (a .order) (towards z) .gains))))
+    (at-speaker-position .speaker-position .ensures)
+    ∙ ap (λ (s : Float). sets (at .weights) (at .at)
+    (scaled s (take (a .channels) (outcome (a .order) (towards (azimuthBy (a .layout) (a .n) (at .i))) .gains))))
     (inverse-value (a .n) (inverse .result) (omega (arith, tested .loop-test .taken)) (inverse .ensures)))
 
 returns : tie.Need-returns Inv-loop μ-loop
@@ -43,7 +50,8 @@ returns c =
     let start = c .before .before .before .before in
     let a = start .args in
     let at = c .before .loop in
-    filling-all (now (a .weights)) (a .channels) (a .n) (rowBy (a .order) (a .layout) (a .n) (a .channels)) (at .weights) (at .at) (at .i) (at .inv) (c .loop-test .left)
+    filling-all (now (a .weights)) (a .channels) (a .n) (rowBy (a .order) (a .layout) (a .n) (a .channels))
+    (at .weights) (at .at) (at .i) (at .inv) (c .loop-test .left)
 
 pub put-speakers-spec : {M : Type 1} → statement M
 put-speakers-spec =

@@ -13,4 +13,5 @@ abbrev μ-loop : tie.MeasureT-loop
 pub write-often-spec : {M : Type 1} → statement M
 write-often-spec =
     tie.close
-    (tie.spec Inv-loop μ-loop (λ c. omega arith) (λ c κs. tt) (λ c. omega arith) (λ c. omega arith) (λ c. omega arith) (λ c. tt))
+    (tie.spec Inv-loop μ-loop (λ c. omega arith) (λ c κs. tt) (λ c. omega arith) (λ c. omega arith) (λ c. omega arith)
+    (λ c. tt))

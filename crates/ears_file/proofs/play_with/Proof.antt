@@ -42,7 +42,8 @@ slice-aggregate-play-all-2 : tie.Need-slice-aggregate-play-all-2
 slice-aggregate-play-all-2 c =
     let at-start = c .before .before .before .before .before .before .before .before in
     let begun = start at-start in
-    sym (length-take-le _ (begun .args .taps .now) (omega (arith, filters begun, taps-long _ _ (begun .pre .1 .1) (begun .pre .0))))
+    sym (length-take-le _ (begun .args .taps .now)
+    (omega (arith, filters begun, taps-long _ _ (begun .pre .1 .1) (begun .pre .0))))
 
 array-borrow-prefix-rings : tie.Need-array-borrow-prefix-rings
 array-borrow-prefix-rings c =
@@ -59,7 +60,8 @@ play-all-requires c κs =
     let new = c .before .before .before .before .before .before .before .before .before in
     let pre = start new .pre in (
       ready _ _ (pre .1 .1) (pre .0) _ (length-replicate 36 zero-float) _ (new .new-surround .ensures),
-      ap (λ (x : Float). take (new .new-surround .result .speakers * start new .args .read .length) (replicate 3072 x)) (zero-bits binary32)
+      ap (λ (x : Float). take (new .new-surround .result .speakers * start new .args .read .length) (replicate 3072 x))
+          (zero-bits binary32)
           ∙ take-replicate _ 3072 zero-float (cells new),
     )
 
@@ -67,7 +69,8 @@ returns : tie.Need-returns
 returns c =
     let new = c .before .before .before .before .before .before .before .before .before .before .before in
     let pre = start new .pre in
-    played-ends _ _ (pre .1 .1) (pre .0) _ (length-replicate 36 zero-float) _ (new .new-surround .ensures) _ (c .before .play-all .ensures)
+    played-ends _ _ (pre .1 .1) (pre .0) _ (length-replicate 36 zero-float) _ (new .new-surround .ensures) _
+    (c .before .play-all .ensures)
 
 pub play-with-spec : {M : Type 1} → statement M
 play-with-spec =

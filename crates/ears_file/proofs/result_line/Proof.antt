@@ -13,8 +13,10 @@ returns-2 c =
     let put = c .before .before in
     let test = put .before .before in
     let first = test .before .before .before in
-    let line = put .frames-line .ensures in
-    (told-played _ _ _ _ (first .if1 .left) (test .if2 .taken) line, line-counts _ _ _ _ (frames-short _ _) line (search needs))
+    let line = put .frames-line .ensures in (
+      told-played _ _ _ _ (first .if1 .left) (test .if2 .taken) line,
+      line-counts _ _ _ _ (frames-short _ _) line (search needs),
+    )
 
 returns-3 : tie.Need-returns-3
 returns-3 c =
@@ -22,8 +24,10 @@ returns-3 c =
     let nine = put .before .before in
     let test = nine .before .before in
     let first = test .before .before .before in
-    let line = put .refused-line .ensures in
-    (told-part-frame _ _ _ _ (first .if1 .left) (test .if2 .left) (nine .if3 .taken) line, line-counts _ _ _ _ (refused-short _) line (search needs))
+    let line = put .refused-line .ensures in (
+      told-part-frame _ _ _ _ (first .if1 .left) (test .if2 .left) (nine .if3 .taken) line,
+      line-counts _ _ _ _ (refused-short _) line (search needs),
+    )
 
 returns-4 : tie.Need-returns-4
 returns-4 c =
@@ -31,8 +35,10 @@ returns-4 c =
     let nine = put .before .before in
     let test = nine .before .before in
     let first = test .before .before .before in
-    let line = put .refused-at-line .ensures in
-    (told-bank _ _ _ _ (first .if1 .left) (test .if2 .left) (nine .if3 .left) line, line-counts _ _ _ _ (refused-at-short _ _) line (search needs))
+    let line = put .refused-at-line .ensures in (
+      told-bank _ _ _ _ (first .if1 .left) (test .if2 .left) (nine .if3 .left) line,
+      line-counts _ _ _ _ (refused-at-short _ _) line (search needs),
+    )
 
 pub result-line-spec : {M : Type 1} → statement M
 result-line-spec =

@@ -1,4 +1,5 @@
--- `ears_file::run` meets its contract: a bank that breaks the form, a failure, or a run with a good bank. Assumes nothing.
+-- `ears_file::run` meets its contract: a bank that breaks the form, a failure, or a run with a good bank. Assumes
+-- nothing.
 use lib.ListN.{length-replicate}
 use Rattle.formats.specs.Floats.{zero-float}
 use Rattle.ears_file.proofs.SetUp.{bank-refused, bank-answers}
@@ -11,18 +12,21 @@ returns : tie.Need-returns
 returns c =
     let test = c .before .before .before in
     let read = test .before .before .before .before .before .before .read-bank in
-    bank-refused _ _ (read .ensures) (length-replicate 8192 zero-float) (test .if1 .taken) _ _ (c .before .refused-bank .ensures) (c .done .ensures)
+    bank-refused _ _ (read .ensures) (length-replicate 8192 zero-float) (test .if1 .taken) _ _
+    (c .before .refused-bank .ensures) (c .done .ensures)
 
 play-with-requires : tie.Need-play-with-requires
 play-with-requires c κs =
     let before-2 = c .before .before .before .before in
-    let test = before-2 in (test .if1 .left, (_, test .before .before .before .before .before .before .read-bank .ensures))
+    let test = before-2 in
+    (test .if1 .left, (_, test .before .before .before .before .before .before .read-bank .ensures))
 
 returns-4 : tie.Need-returns-4
 returns-4 c =
     let played = c .before .before in
     let test = played .before .before .before .before .before in
-    bank-answers _ _ (test .before .before .before .before .before .before .read-bank .ensures) (test .if1 .left) _ (played .play-with .ensures)
+    bank-answers _ _ (test .before .before .before .before .before .before .read-bank .ensures) (test .if1 .left) _
+    (played .play-with .ensures)
 
 pub run-spec : {M : Type 1} → statement M
 run-spec =

@@ -15,4 +15,5 @@ returns-2 c =
     taken-filled _ _ _ _ (sym (fits .before .is-unfit .ensures) ∙ fits .if1 .left) (taken .take-frames .ensures)
 
 pub frames-from-bytes-spec : {M : Type 1} → statement M
-frames-from-bytes-spec = tie.close (tie.spec (λ c κs. search needs) returns (λ c κs. refl) (λ c. search needs) returns-2)
+frames-from-bytes-spec =
+    tie.close (tie.spec (λ c κs. search needs) returns (λ c κs. refl) (λ c. search needs) returns-2)

@@ -33,8 +33,11 @@ loop-again c =
     let at-loop = at-give-ears .before .before .before in
     let start = at-loop .before .before .before in
     let a = start .args in
-    let at = at-loop .loop in
-    (omega arith, giving-more (now (a .ears)) (a .stride) (now (a .out)) (at .n) (at .out) _ (omega arith) (at .inv .1) (at-give-ears .give-ears .ensures))
+    let at = at-loop .loop in (
+      omega arith,
+      giving-more (now (a .ears)) (a .stride) (now (a .out)) (at .n) (at .out) _ (omega arith) (at .inv .1)
+          (at-give-ears .give-ears .ensures),
+    )
 
 same-length : tie.Need-same-length Inv-loop μ-loop
 same-length c =

@@ -21,7 +21,8 @@ abbrev μ-loop : tie.MeasureT-loop
 μ-loop bytes n stride inputs₀ c₀ inputs c = 6 - c
 
 loop-holds : tie.Need-loop-holds Inv-loop μ-loop
-loop-holds c = let a = c .before .before .args in sampling-none (now (a .inputs)) (a .stride) (a .n) 6 (channel (now (a .bytes)))
+loop-holds c =
+    let a = c .before .before .args in sampling-none (now (a .inputs)) (a .stride) (a .n) 6 (channel (now (a .bytes)))
 
 loop-again : tie.Need-loop-again Inv-loop μ-loop
 loop-again c =
@@ -32,7 +33,8 @@ loop-again c =
     let start = at-loop .before .before .before in
     let a = start .args in
     let at = at-loop .loop in
-    sampling-more (now (a .inputs)) (a .stride) (a .n) 6 (channel (now (a .bytes))) (at .inputs) (at .c) (at .inv) _ _ (at-loop-test .loop-test .taken) (at-get-f32 .get-f32 .ensures) (at-put-sample .put-sample .ensures)
+    sampling-more (now (a .inputs)) (a .stride) (a .n) 6 (channel (now (a .bytes))) (at .inputs) (at .c) (at .inv) _ _
+    (at-loop-test .loop-test .taken) (at-get-f32 .get-f32 .ensures) (at-put-sample .put-sample .ensures)
 
 returns : tie.Need-returns Inv-loop μ-loop
 unfolding strided
@@ -40,7 +42,8 @@ returns c =
     let start = c .before .before .before .before in
     let a = start .args in
     let at = c .before .loop in
-    sampling-all (now (a .inputs)) (a .stride) (a .n) 6 (channel (now (a .bytes))) (at .inputs) (at .c) (at .inv) (c .loop-test .left)
+    sampling-all (now (a .inputs)) (a .stride) (a .n) 6 (channel (now (a .bytes))) (at .inputs) (at .c) (at .inv)
+    (c .loop-test .left)
 
 pub take-frame-spec : {M : Type 1} → statement M
 take-frame-spec =

@@ -25,7 +25,8 @@ abbrev μ-loop : tie.MeasureT-loop
 μ-loop bytes frames stride inputs₀ n₀ inputs n = frames - n
 
 loop-holds : tie.Need-loop-holds Inv-loop μ-loop
-loop-holds c = let a = c .before .before .args in framing-none (now (a .inputs)) (a .stride) (wholeIn 24 (now (a .bytes))) (frame (now (a .bytes)))
+loop-holds c = let a = c .before .before .args in framing-none (now (a .inputs)) (a .stride)
+    (wholeIn 24 (now (a .bytes))) (frame (now (a .bytes)))
 
 mul-from : tie.Need-mul-from Inv-loop μ-loop
 mul-from c = omega (arith, c .before .before .before .before .pre)
@@ -43,15 +44,18 @@ loop-again c =
     let a = loop .before .before .before .args in
     let at = loop .loop in
     let bytes = now (a .bytes) in
-    framing-more (now (a .inputs)) (a .stride) (wholeIn 24 bytes) (frame bytes) (at .inputs) (at .n) (at .inv) _ (omega (arith, loop .before .before .before .pre, taken .before .before .before .loop-test .taken))
-    (taken .take-frame .ensures ∙ ap (λ (part : List ℕ). withFrame (at .inputs) (a .stride) (at .n) (frameOf part)) (part-is (at .n * 24) 24 bytes))
+    framing-more (now (a .inputs)) (a .stride) (wholeIn 24 bytes) (frame bytes) (at .inputs) (at .n) (at .inv) _
+    (omega (arith, loop .before .before .before .pre, taken .before .before .before .loop-test .taken))
+    (taken .take-frame .ensures ∙ ap (λ (part : List ℕ). withFrame (at .inputs) (a .stride) (at .n) (frameOf part))
+    (part-is (at .n * 24) 24 bytes))
 
 returns : tie.Need-returns Inv-loop μ-loop
 returns c =
     let start = c .before .before .before .before in
     let a = start .args in
     let at = c .before .loop in
-    framing-all (now (a .inputs)) (a .stride) (wholeIn 24 (now (a .bytes))) (frame (now (a .bytes))) (at .inputs) (at .n) (at .inv) (omega (arith, start .pre, c .loop-test .left))
+    framing-all (now (a .inputs)) (a .stride) (wholeIn 24 (now (a .bytes))) (frame (now (a .bytes))) (at .inputs)
+    (at .n) (at .inv) (omega (arith, start .pre, c .loop-test .left))
 
 pub take-frames-spec : {M : Type 1} → statement M
 take-frames-spec =

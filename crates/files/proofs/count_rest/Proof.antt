@@ -1,4 +1,5 @@
--- `files::count_rest` is safe and ends: each turn counts a byte or more, up to as many as are asked for. Assumes nothing.
+-- `files::count_rest` is safe and ends: each turn counts a byte or more, up to as many as are asked for. Assumes
+-- nothing.
 use mathlib.Core.Path.{_≡_}
 use Prim.Native.Nat.{_-_}
 use native.Mathlib.Omega.{arith}

@@ -1,4 +1,5 @@
--- `files::fill` meets its contract. What has been read lies inside the list, and each turn reads a byte or more. Assumes nothing.
+-- `files::fill` meets its contract. What has been read lies inside the list, and each turn reads a byte or more.
+-- Assumes nothing.
 use mathlib.Core.Path.{_≡_, refl}
 use Prim.Native.Nat.{_-_, _≤_}
 use native.Mathlib.Omega.{arith}

@@ -20,15 +20,23 @@ module _ (c : tie.After-is-within) where
   version = c .is-within .ensures ∙ ap (within 1 2) (c .before .get .ensures .bits)
 
 returns : tie.Need-returns
-returns c = (sym (cond-false (6 + fieldAt (bytes (c .before)) 1 4) 1 (sym (version (c .before)) ∙ not-true _ (c .if1 .taken))), omega arith)
+returns c = (
+  sym (cond-false (6 + fieldAt (bytes (c .before)) 1 4) 1
+      (sym (version (c .before)) ∙ not-true _ (c .if1 .taken))),
+  omega arith,
+)
 
 returns-2 : tie.Need-returns-2
 returns-2 c =
     let test = c .before in
-    let named = ap (λ (n : ℕ). 6 + n) (c .get2 .ensures .bits) in
-    (named ∙ sym (cond-true (6 + fieldAt (bytes (test .before)) 1 4) 1 (sym (version (test .before)) ∙ not-false _ (test .if1 .left))), omega (arith, c .get2 .ensures .bound))
+    let named = ap (λ (n : ℕ). 6 + n) (c .get2 .ensures .bits) in (
+      named ∙ sym (cond-true (6 + fieldAt (bytes (test .before)) 1 4) 1
+          (sym (version (test .before)) ∙ not-false _ (test .if1 .left))),
+      omega (arith, c .get2 .ensures .bound),
+    )
 
 pub most-to-count-spec : {M : Type 1} → statement M
 most-to-count-spec =
     tie.close
-    (tie.spec (λ c κs. search needs) (λ c κs. search needs) returns (λ c κs. search needs) (λ c. search needs) returns-2)
+    (tie.spec (λ c κs. search needs) (λ c κs. search needs) returns (λ c κs. search needs) (λ c. search needs)
+    returns-2)

@@ -1,4 +1,5 @@
--- `files::open_out` meets its contract: what is answered was compared with standard error's number, or is negative. Assumes nothing.
+-- `files::open_out` meets its contract: what is answered was compared with standard error's number, or is negative.
+-- Assumes nothing.
 use mathlib.Core.Path.{_≡_, ap}
 use mathlib.Core.Bool.{Bool, true, false, true≢false}
 use Prim.Native.Nat.{ℕ, suc, _-_, _^_}
@@ -34,4 +35,5 @@ unfolding isNegative
 returns-3 c = λ e. true≢false (ap isNegative e)
 
 pub open-out-spec : {M : Type 1} → statement M
-open-out-spec = tie.close (tie.spec (λ c κs. search needs) returns (λ c κs. search needs) (λ c κs. search needs) returns-2 returns-3)
+open-out-spec = tie.close (tie.spec (λ c κs. search needs) returns (λ c κs. search needs) (λ c κs. search needs)
+    returns-2 returns-3)

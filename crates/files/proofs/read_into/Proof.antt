@@ -21,8 +21,11 @@ negative-none (negsuc n) most e = refl
 returns : tie.Need-returns
 returns c =
     let at-read = c .before .before .before .before in
-    let read = at-read .read in
-    (search needs, λ f. c .count .ensures .1 ∙ negative-none (toZ w64 (ofZ w64 (read .result))) (length (read .last .1 .0)) f)
+    let read = at-read .read in (
+      search needs,
+      λ f. c .count .ensures .1 ∙ negative-none (toZ w64 (ofZ w64 (read .result)))
+          (length (read .last .1 .0)) f,
+    )
 
 pub read-into-spec : {M : Type 1} → statement M
 read-into-spec = tie.close (tie.spec (λ c κs. search needs) (λ c κs. search needs) (λ c. search needs) returns)

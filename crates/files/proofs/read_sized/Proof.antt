@@ -12,7 +12,8 @@ returns c =
     let read = c .before .before .before .before in
     let least = read .before .before .before .before .before in
     let known = least .before .before in
-    sized-reads _ _ _ _ _ _ _ (known .before .pre) (λ i. known .shared-slice-known .given i .fits) (least .min .ensures) (read .read-start .ensures)
+    sized-reads _ _ _ _ _ _ _ (known .before .pre) (λ i. known .shared-slice-known .given i .fits) (least .min .ensures)
+    (read .read-start .ensures)
 
 pub read-sized-spec : {M : Type 1} → statement M
 read-sized-spec =

@@ -13,9 +13,11 @@ returns c =
     let ended = read .before .before in
     let least = ended .before in
     let args = least .before .before .args in
-    behind (args .held) (args .limit) (least .min .result) _ _ _ _ (least .min .ensures) (search needs) (omega (arith, read .read-into .ensures .0, ended .end-of-read .ensures)) (search needs)
+    behind (args .held) (args .limit) (least .min .result) _ _ _ _ (least .min .ensures) (search needs)
+    (omega (arith, read .read-into .ensures .0, ended .end-of-read .ensures)) (search needs)
     (read .read-into .ensures .1)
-    (take-put (least .min .result) (ended .end-of-read .result - least .min .result) (args .bytes .now) (read .read-into .last .1 .0) (omega (arith, least .min .ensures)))
+    (take-put (least .min .result) (ended .end-of-read .result - least .min .result) (args .bytes .now)
+    (read .read-into .last .1 .0) (omega (arith, least .min .ensures)))
 
 pub read-some-spec : {M : Type 1} → statement M
 read-some-spec =

@@ -19,7 +19,16 @@ use Rattle.hrtf.proofs.process.Tie as tie
 
 -- what is given, of any shape and of its own
 abbrev shaped : tie.Start → Shape → Call
-shaped c h = let a = c .args in record { shape = h; frames = a .frames; stride = a .stride; inputs = now (a .inputs); weights = now (a .weights); rows = now (a .row-of); taps = now (a .taps); ears = now (a .ears) }
+shaped c h = let a = c .args in record {
+  shape = h;
+  frames = a .frames;
+  stride = a .stride;
+  inputs = now (a .inputs);
+  weights = now (a .weights);
+  rows = now (a .row-of);
+  taps = now (a .taps);
+  ears = now (a .ears);
+}
 
 abbrev call : tie.Start → Call
 call c = shaped c (c .args .shape)
@@ -31,7 +40,8 @@ abbrev start : tie.After-refusal → tie.Start
 start c = c .before .before .before .before .before .before .before .before
 
 returns : tie.Need-returns
-returns c = promised-refused (call (start (c .before))) (state (start (c .before))) _ (c .before .refusal .ensures) (c .if1 .taken)
+returns c = promised-refused (call (start (c .before))) (state (start (c .before))) _ (c .before .refusal .ensures)
+    (c .if1 .taken)
 
 -- past the test of the refusal
 accepted : (c : tie.Else1) → refusalOf (call (start (c .before))) (state (start (c .before))) ≡ 0
@@ -46,11 +56,17 @@ block-requires : tie.Need-block-requires
 block-requires c κs =
     let scaled = c .before .before in
     let s = start (scaled .before .before) in
-    subst (λ (k : Scaled). ScaledReady k (s .args .desk .position) (now (s .args .row-of)) (now (s .args .taps)) (now (s .args .rings))) (sym (scaled .scale .ensures))
-    (record { factor = refl; ready = ready (call s) (state s) (accepted (scaled .before)); finite = taps-finite (call s) (state s) (accepted (scaled .before)) })
+    subst (λ (k : Scaled). ScaledReady k (s .args .desk .position) (now (s .args .row-of)) (now (s .args .taps))
+    (now (s .args .rings))) (sym (scaled .scale .ensures))
+    (record {
+      factor = refl;
+      ready = ready (call s) (state s) (accepted (scaled .before));
+      finite = taps-finite (call s) (state s) (accepted (scaled .before));
+    })
 
 -- the shape that was scaled is the call's own
-own-shape : (s : tie.Start) (k : Scaled) (rings₁ ears₁ : List Float) (d : Desk) (more : ℕ) → k ≡ scaledOf (s .args .shape)
+own-shape : (s : tie.Start) (k : Scaled) (rings₁ ears₁ : List Float) (d : Desk) (more : ℕ)
+    → k ≡ scaledOf (s .args .shape)
     → BlockPlayed (shaped s (k .shape)) (state s) rings₁ ears₁ d more
     → BlockPlayed (call s) (state s) rings₁ ears₁ d more
 own-shape s k rings₁ ears₁ d more e b = b ∙ ap (λ (v : Scaled). computed (shaped s (v .shape)) (state s)) e

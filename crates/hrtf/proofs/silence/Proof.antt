@@ -36,7 +36,8 @@ loop-again : tie.Need-loop-again Inv-loop μ-loop
 unfolding ofBits
 loop-again c =
     let l = now (c .before .before .args .rings) in
-    filling-more (λ k. zero-float) (length l) l (c .before .loop .rings) (c .before .loop .i) zero-float (c .before .loop .inv) (omega (arith, c .loop-test .taken, c .before .loop .inv .same)) (omega arith) refl
+    filling-more (λ k. zero-float) (length l) l (c .before .loop .rings) (c .before .loop .i) zero-float
+    (c .before .loop .inv) (omega (arith, c .loop-test .taken, c .before .loop .inv .same)) (omega arith) refl
 
 same-length : tie.Need-same-length Inv-loop μ-loop
 same-length c = c .before .loop .inv .same
@@ -44,7 +45,8 @@ same-length c = c .before .loop .inv .same
 returns : tie.Need-returns Inv-loop μ-loop
 returns c =
     let l = now (c .before .before .args .rings) in
-    filling-whole (λ k. zero-float) (length l) l (c .before .loop .rings) (c .before .loop .i) (c .before .loop .inv) (omega (arith, c .loop-test .left, c .before .loop .inv .same)) refl ∙ tab-constant 0 (length l) zero-float
+    filling-whole (λ k. zero-float) (length l) l (c .before .loop .rings) (c .before .loop .i) (c .before .loop .inv)
+    (omega (arith, c .loop-test .left, c .before .loop .inv .same)) refl ∙ tab-constant 0 (length l) zero-float
 
 pub silence-spec : {M : Type 1} → statement M
 silence-spec =

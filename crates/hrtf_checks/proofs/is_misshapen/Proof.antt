@@ -12,7 +12,8 @@ returns-2 : tie.Need-returns-2
 returns-2 c =
     let at-if1 = c .before .before in
     let at-is-outside = at-if1 .before in
-    or-next _ _ _ (sym (at-is-outside .is-outside .ensures) ∙ at-if1 .if1 .left) (or-yes _ _ (sym (c .before .is-outside2 .ensures) ∙ c .if2 .taken))
+    or-next _ _ _ (sym (at-is-outside .is-outside .ensures) ∙ at-if1 .if1 .left)
+    (or-yes _ _ (sym (c .before .is-outside2 .ensures) ∙ c .if2 .taken))
 
 returns-3 : tie.Need-returns-3
 returns-3 c =
@@ -20,7 +21,9 @@ returns-3 c =
     let at-is-outside2 = at-if2 .before in
     let at-if1 = at-is-outside2 .before in
     let at-is-outside = at-if1 .before in
-    or-next _ _ _ (sym (at-is-outside .is-outside .ensures) ∙ at-if1 .if1 .left) (or-next _ _ _ (sym (at-is-outside2 .is-outside2 .ensures) ∙ at-if2 .if2 .left) (or-yes _ _ (sym (c .before .is-outside3 .ensures) ∙ c .if3 .taken)))
+    or-next _ _ _ (sym (at-is-outside .is-outside .ensures) ∙ at-if1 .if1 .left)
+    (or-next _ _ _ (sym (at-is-outside2 .is-outside2 .ensures) ∙ at-if2 .if2 .left)
+    (or-yes _ _ (sym (c .before .is-outside3 .ensures) ∙ c .if3 .taken)))
 
 is-row-missing-requires : tie.Need-is-row-missing-requires
 is-row-missing-requires c κs =
@@ -36,7 +39,10 @@ returns-4 c =
     let at-is-outside2 = at-if2 .before in
     let at-if1 = at-is-outside2 .before in
     let at-is-outside = at-if1 .before in
-    or-next _ _ _ (sym (at-is-outside .is-outside .ensures) ∙ at-if1 .if1 .left) (or-next _ _ _ (sym (at-is-outside2 .is-outside2 .ensures) ∙ at-if2 .if2 .left) (or-next _ _ _ (sym (at-is-outside3 .is-outside3 .ensures) ∙ c .before .if3 .left) (c .is-row-missing .ensures)))
+    or-next _ _ _ (sym (at-is-outside .is-outside .ensures) ∙ at-if1 .if1 .left)
+    (or-next _ _ _ (sym (at-is-outside2 .is-outside2 .ensures) ∙ at-if2 .if2 .left)
+    (or-next _ _ _ (sym (at-is-outside3 .is-outside3 .ensures) ∙ c .before .if3 .left)
+    (c .is-row-missing .ensures)))
 
 pub is-misshapen-spec : {M : Type 1} → statement M
 is-misshapen-spec =

@@ -1,4 +1,5 @@
--- `hrtf_checks::is_row_missing` meets its contract. The loop has passed no speaker whose row isn't in the bank. Assumes nothing.
+-- `hrtf_checks::is_row_missing` meets its contract. The loop has passed no speaker whose row isn't in the bank. Assumes
+-- nothing.
 use Prim.Native.Nat.{_-_}
 use native.Mathlib.Omega.{arith}
 use borrow.Author.Tests.{le-leb, lt-leb}
@@ -23,17 +24,20 @@ returns c =
     let at-loop-test = c .before .before in
     let at-loop = at-loop-test .before in
     let start = at-loop .before in
-    let a = start .args in passing-found (λ i. leb (a .rows) (getD (now (a .row-of)) i 0)) (a .speakers) (at-loop .loop .s) (at-loop .loop .inv) (at-loop-test .loop-test .taken) (le-leb _ _ (c .if1 .taken))
+    let a = start .args in passing-found (λ i. leb (a .rows) (getD (now (a .row-of)) i 0)) (a .speakers)
+    (at-loop .loop .s) (at-loop .loop .inv) (at-loop-test .loop-test .taken) (le-leb _ _ (c .if1 .taken))
 
 loop-again : tie.Need-loop-again Inv-loop μ-loop
 loop-again c =
     let at-loop-test = c .before .before in
     let at-loop = at-loop-test .before in
     let start = at-loop .before in
-    let a = start .args in passing-more (λ i. leb (a .rows) (getD (now (a .row-of)) i 0)) (a .speakers) (at-loop .loop .s) (at-loop .loop .inv) (at-loop-test .loop-test .taken) (lt-leb _ _ (c .if1 .left))
+    let a = start .args in passing-more (λ i. leb (a .rows) (getD (now (a .row-of)) i 0)) (a .speakers)
+    (at-loop .loop .s) (at-loop .loop .inv) (at-loop-test .loop-test .taken) (lt-leb _ _ (c .if1 .left))
 
 returns-2 : tie.Need-returns-2 Inv-loop μ-loop
-returns-2 c = let a = c .before .before .args in passing-all (λ i. leb (a .rows) (getD (now (a .row-of)) i 0)) (a .speakers) (c .before .loop .s) (c .before .loop .inv) (c .loop-test .left)
+returns-2 c = let a = c .before .before .args in passing-all (λ i. leb (a .rows) (getD (now (a .row-of)) i 0))
+    (a .speakers) (c .before .loop .s) (c .before .loop .inv) (c .loop-test .left)
 
 pub is-row-missing-spec : {M : Type 1} → statement M
 is-row-missing-spec =

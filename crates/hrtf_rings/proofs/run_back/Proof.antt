@@ -36,7 +36,8 @@ loop-again : tie.Need-loop-again Inv-loop μ-loop
 loop-again c =
     let signal = c .before .before in
     let tested = signal .before .before in
-    running-more (tested .before .loop .inv) (tested .loop-test .taken) (signal .widen .ensures .bits) (c .widen2 .ensures .bits)
+    running-more (tested .before .loop .inv) (tested .loop-test .taken) (signal .widen .ensures .bits)
+    (c .widen2 .ensures .bits)
 
 returns : tie.Need-returns Inv-loop μ-loop
 returns c = running-all (c .before .loop .inv) (c .loop-test .left)

@@ -17,14 +17,16 @@ returns c =
     let at-is-outside = c .before .before in
     let start = at-is-outside .before .before in
     let a = start .args in
-    no-rows (a .whose) (a .speakers) (a .channels) (now (a .azimuths)) (now (a .elevations)) (a .rows) (now (a .weights)) (now (a .row-of)) _
+    no-rows (a .whose) (a .speakers) (a .channels) (now (a .azimuths)) (now (a .elevations)) (a .rows)
+    (now (a .weights)) (now (a .row-of)) _
     (sym (at-is-outside .is-outside .ensures) ∙ c .before .if1 .taken) (c .unarranged .ensures)
 
 returns-2 : tie.Need-returns-2
 returns-2 c =
     let past-rows = c .before .before in
     let a = past-rows .before .before .before .args in
-    no-azimuths (a .whose) (a .speakers) (a .channels) (now (a .azimuths)) (now (a .elevations)) (a .rows) (now (a .weights)) (now (a .row-of)) (rows-in past-rows) _ (c .before .if2 .taken)
+    no-azimuths (a .whose) (a .speakers) (a .channels) (now (a .azimuths)) (now (a .elevations)) (a .rows)
+    (now (a .weights)) (now (a .row-of)) (rows-in past-rows) _ (c .before .if2 .taken)
     (c .unarranged2 .ensures)
 
 returns-3 : tie.Need-returns-3
@@ -32,7 +34,8 @@ returns-3 c =
     let past-azimuths = c .before .before in
     let past-rows = past-azimuths .before in
     let a = past-rows .before .before .before .args in
-    no-elevations (a .whose) (a .speakers) (a .channels) (now (a .azimuths)) (now (a .elevations)) (a .rows) (now (a .weights)) (now (a .row-of)) (rows-in past-rows) (past-azimuths .if2 .left) _
+    no-elevations (a .whose) (a .speakers) (a .channels) (now (a .azimuths)) (now (a .elevations)) (a .rows)
+    (now (a .weights)) (now (a .row-of)) (rows-in past-rows) (past-azimuths .if2 .left) _
     (c .before .if3 .taken) (c .unarranged3 .ensures)
 
 returns-4 : tie.Need-returns-4
@@ -42,14 +45,17 @@ returns-4 c =
     let past-azimuths = past-elevations .before in
     let past-rows = past-azimuths .before in
     let a = past-rows .before .before .before .args in
-    no-weights (a .whose) (a .speakers) (a .channels) (now (a .azimuths)) (now (a .elevations)) (a .rows) (now (a .weights)) (now (a .row-of)) (rows-in past-rows) (past-azimuths .if2 .left)
-    (past-elevations .if3 .left) _ (ap not (sym (at-is-product .is-product .ensures)) ∙ c .before .if4 .taken) (c .unarranged4 .ensures)
+    no-weights (a .whose) (a .speakers) (a .channels) (now (a .azimuths)) (now (a .elevations)) (a .rows)
+    (now (a .weights)) (now (a .row-of)) (rows-in past-rows) (past-azimuths .if2 .left)
+    (past-elevations .if3 .left) _ (ap not (sym (at-is-product .is-product .ensures)) ∙ c .before .if4 .taken)
+    (c .unarranged4 .ensures)
 
 put-weights-requires : tie.Need-put-weights-requires
 put-weights-requires c κs = c .before .before .before .before .before .before .before .before .pre .1
 
 choose-rows-requires : tie.Need-choose-rows-requires
-choose-rows-requires c κs = c .before .before .before .before .before .before .before .before .before .before .before .before .pre .0
+choose-rows-requires c κs =
+    c .before .before .before .before .before .before .before .before .before .before .before .before .pre .0
 
 returns-5 : tie.Need-returns-5
 returns-5 c =
@@ -59,11 +65,14 @@ returns-5 c =
     let past-azimuths = past-elevations .before in
     let past-rows = past-azimuths .before in
     let a = past-rows .before .before .before .args in
-    arranged (a .whose) (a .speakers) (a .channels) (now (a .azimuths)) (now (a .elevations)) (a .rows) (now (a .weights)) (now (a .row-of)) (rows-in past-rows) (past-azimuths .if2 .left)
-    (past-elevations .if3 .left) _ _ (ap not (sym (past-weights .before .is-product .ensures)) ∙ past-weights .if4 .left) (after-weights .put-weights .ensures) (c .choose-rows .ensures)
+    arranged (a .whose) (a .speakers) (a .channels) (now (a .azimuths)) (now (a .elevations)) (a .rows)
+    (now (a .weights)) (now (a .row-of)) (rows-in past-rows) (past-azimuths .if2 .left)
+    (past-elevations .if3 .left) _ _ (ap not (sym (past-weights .before .is-product .ensures))
+    ∙ past-weights .if4 .left) (after-weights .put-weights .ensures) (c .choose-rows .ensures)
 
 pub arrange-spec : {M : Type 1} → statement M
 arrange-spec =
     tie.close
-    (tie.spec (λ c κs. tt) (λ c κs. tt) returns (λ c κs. tt) returns-2 (λ c κs. tt) returns-3 (λ c κs. tt) (λ c κs. tt) returns-4 put-weights-requires choose-rows-requires
+    (tie.spec (λ c κs. tt) (λ c κs. tt) returns (λ c κs. tt) returns-2 (λ c κs. tt) returns-3 (λ c κs. tt)
+    (λ c κs. tt) returns-4 put-weights-requires choose-rows-requires
     (λ c. search needs) returns-5)

@@ -18,8 +18,10 @@ returns c =
     let at-foa-position = at-compute-sh-coefficients-max-re .before in
     let start = at-foa-position .before in
     let a = start .args in
-    ap (λ (r : Weighted). getD (r .weights) (a .channel) nan) (at-compute-sh-coefficients-max-re .compute-sh-coefficients-max-re .ensures .bits)
-    ∙ ap (λ (d : Direction). getD (outcome (a .order) d .weights) (a .channel) nan) (ap (λ (p : Position). p .direction) (at-foa-position .foa-position .ensures) ∙ position-direction (a .s))
+    ap (λ (r : Weighted). getD (r .weights) (a .channel) nan)
+    (at-compute-sh-coefficients-max-re .compute-sh-coefficients-max-re .ensures .bits)
+    ∙ ap (λ (d : Direction). getD (outcome (a .order) d .weights) (a .channel) nan)
+    (ap (λ (p : Position). p .direction) (at-foa-position .foa-position .ensures) ∙ position-direction (a .s))
 
 returns-2 : tie.Need-returns-2
 unfolding ofBits div

@@ -14,10 +14,15 @@ returns : tie.Need-returns
 returns c =
     let at-ambisonic-channel-count = c .before .before .before in
     let start = at-ambisonic-channel-count .before .before in
-    let a = start .args in order-refused (a .order) (now (a .azimuths)) (now (a .elevations)) (a .rows) (now (a .weights)) (now (a .row-of)) _ (order-ill (a .order) _ (at-ambisonic-channel-count .ambisonic-channel-count .ensures) (c .before .if1 .taken)) (c .unarranged .ensures)
+    let a = start .args in order-refused (a .order) (now (a .azimuths)) (now (a .elevations)) (a .rows)
+    (now (a .weights)) (now (a .row-of)) _
+    (order-ill (a .order) _ (at-ambisonic-channel-count .ambisonic-channel-count .ensures)
+    (c .before .if1 .taken)) (c .unarranged .ensures)
 
 -- past the test of the order
-order-in : (c : tie.Else1) → (refusesOrder (c .before .before .before .before .args .order) ≡ false) × (c .before .before .ambisonic-channel-count .result .channels ≡ channelsOfOrder (c .before .before .before .before .args .order))
+order-in : (c : tie.Else1) → (refusesOrder (c .before .before .before .before .args .order) ≡ false)
+    × (c .before .before .ambisonic-channel-count .result .channels ≡ channelsOfOrder
+    (c .before .before .before .before .args .order))
 order-in c =
     let at-ambisonic-channel-count = c .before .before in
     let start = at-ambisonic-channel-count .before .before in
@@ -35,7 +40,8 @@ returns-2 c =
     let at-arrange = c .before .before in
     let past = at-arrange .before .before .before in
     let a = past .before .before .before .before .args in
-    order-arranged (a .order) (now (a .azimuths)) (now (a .elevations)) (a .rows) (now (a .weights)) (now (a .row-of)) _ (order-in past .0) (order-in past .1) _ (at-arrange .arrange .ensures)
+    order-arranged (a .order) (now (a .azimuths)) (now (a .elevations)) (a .rows) (now (a .weights)) (now (a .row-of)) _
+    (order-in past .0) (order-in past .1) _ (at-arrange .arrange .ensures)
 
 pub new-ambisonic-spec : {M : Type 1} → statement M
 new-ambisonic-spec =

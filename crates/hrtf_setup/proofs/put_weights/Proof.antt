@@ -16,7 +16,8 @@ abbrev μ-loop : tie.MeasureT-loop
 μ-loop weights₀ whose n i₀ weights i = length weights₀ - i
 
 loop-holds : tie.Need-loop-holds Inv-loop μ-loop
-loop-holds c = let a = c .before .args in filling-none (weightAt (a .whose) (a .n)) (length (now (a .weights))) (now (a .weights))
+loop-holds c =
+    let a = c .before .args in filling-none (weightAt (a .whose) (a .n)) (length (now (a .weights))) (now (a .weights))
 
 div-weight : tie.Need-div-weight Inv-loop μ-loop
 div-weight c = c .before .before .before .pre
@@ -42,7 +43,9 @@ loop-again c =
     let start = at-loop .before .before in
     let a = start .args in
     let l = at-loop .loop in
-    filling-more (weightAt (a .whose) (a .n)) (length (now (a .weights))) (now (a .weights)) (l .weights) (l .i) (c .weight .result) (l .inv) (omega (arith, c .before .loop-test .taken, l .inv .same)) (omega arith) (c .weight .ensures)
+    filling-more (weightAt (a .whose) (a .n)) (length (now (a .weights))) (now (a .weights)) (l .weights) (l .i)
+    (c .weight .result) (l .inv) (omega (arith, c .before .loop-test .taken, l .inv .same)) (omega arith)
+    (c .weight .ensures)
 
 same-length : tie.Need-same-length Inv-loop μ-loop
 same-length c = c .before .loop .inv .same
@@ -52,7 +55,8 @@ returns c =
     let start = c .before .before .before in
     let a = start .args in
     let l = c .before .loop in
-    filling-whole (weightAt (a .whose) (a .n)) (length (now (a .weights))) (now (a .weights)) (l .weights) (l .i) (l .inv) (omega (arith, c .loop-test .left, l .inv .same)) refl
+    filling-whole (weightAt (a .whose) (a .n)) (length (now (a .weights))) (now (a .weights)) (l .weights) (l .i)
+    (l .inv) (omega (arith, c .loop-test .left, l .inv .same)) refl
 
 pub put-weights-spec : {M : Type 1} → statement M
 put-weights-spec =

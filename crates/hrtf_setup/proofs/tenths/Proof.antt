@@ -19,28 +19,36 @@ cast-result c =
     let at-speaker-tenths = c .before .before in
     let known = at-speaker-tenths .before .before in
     let l = known .whose .given .0 .0 in
-    cast-fits (Of l) _ _ (tenths-are (at-speaker-tenths .speaker-tenths .ensures ∙ tenths-answered (speakers l) (known .before .before .args .s)))
+    cast-fits (Of l) _ _
+    (tenths-are (at-speaker-tenths .speaker-tenths .ensures
+    ∙ tenths-answered (speakers l) (known .before .before .args .s)))
 
 cast-result-2 : tie.Need-cast-result-2
 cast-result-2 c =
     let at-position-tenths = c .before .before in
     let known = at-position-tenths .before in
     let s = known .before .before .args .s in
-    cast-fits (Virtual (known .enum-told .given .0 .0)) s _ (tenths-are (at-position-tenths .position-tenths .ensures ∙ tenths-answered positions s))
+    cast-fits (Virtual (known .enum-told .given .0 .0)) s _
+    (tenths-are (at-position-tenths .position-tenths .ensures ∙ tenths-answered positions s))
 
 returns : tie.Need-returns
 returns c =
     let at-speaker-tenths = c .before .before in
     let known = at-speaker-tenths .before .before in
     let s = known .before .before .args .s in
-    cast-is (Of (known .whose .given .0 .0)) s _ (tenths-are (at-speaker-tenths .speaker-tenths .ensures ∙ tenths-answered (speakers (known .whose .given .0 .0)) s)) ∙ ap (λ (k : Speakers). tenthsAt k s) (sym (known .whose .given .1))
+    cast-is (Of (known .whose .given .0 .0)) s _
+    (tenths-are (at-speaker-tenths .speaker-tenths .ensures
+    ∙ tenths-answered (speakers (known .whose .given .0 .0)) s))
+    ∙ ap (λ (k : Speakers). tenthsAt k s) (sym (known .whose .given .1))
 
 returns-2 : tie.Need-returns-2
 returns-2 c =
     let at-position-tenths = c .before .before in
     let known = at-position-tenths .before in
     let s = known .before .before .args .s in
-    cast-is (Virtual (known .enum-told .given .0 .0)) s _ (tenths-are (at-position-tenths .position-tenths .ensures ∙ tenths-answered positions s)) ∙ ap (λ (k : Speakers). tenthsAt k s) (sym (known .enum-told .given .1))
+    cast-is (Virtual (known .enum-told .given .0 .0)) s _
+    (tenths-are (at-position-tenths .position-tenths .ensures ∙ tenths-answered positions s))
+    ∙ ap (λ (k : Speakers). tenthsAt k s) (sym (known .enum-told .given .1))
 
 pub tenths-spec : {M : Type 1} → statement M
 tenths-spec =

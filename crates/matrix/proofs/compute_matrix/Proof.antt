@@ -1,4 +1,5 @@
--- `matrix::compute_matrix` meets its contract: each constant table is the row of literals that specs/Rows.antt has, by computing. Assumes nothing.
+-- `matrix::compute_matrix` meets its contract: each constant table is the row of literals that specs/Rows.antt has, by
+-- computing. Assumes nothing.
 use mathlib.Core.Path.{sym, _∙_}
 use denote.Ref.{now}
 use lib.Ieee.{round, ofBits, neg}
@@ -13,7 +14,8 @@ use Rattle.matrix.proofs.compute_matrix.Tie as tie
 returns : tie.Need-returns
 returns c =
     let start = c .before .before .before in
-    let a = start .args in no-order (a .order) (now (a .weights)) (sym (c .before .refuses-order .ensures) ∙ c .if1 .taken)
+    let a = start .args in no-order (a .order) (now (a .weights))
+    (sym (c .before .refuses-order .ensures) ∙ c .if1 .taken)
 
 returns-2 : tie.Need-returns-2
 unfolding outcome rows hundredths round ofBits neg
@@ -37,7 +39,10 @@ returns-4 c =
     let at-put-ears3 = c .before .before in
     let past = at-put-ears3 .before .before .before .before in
     let a = past .before .before .before .before .before .args in
-    of-order (now (a .weights)) _ (third-order (a .order) (sym (past .before .before .before .refuses-order .ensures) ∙ past .before .before .if1 .left) (past .before .if2 .left) (past .if3 .left)) (at-put-ears3 .put-ears3 .ensures)
+    of-order (now (a .weights)) _
+    (third-order (a .order) (sym (past .before .before .before .refuses-order .ensures)
+    ∙ past .before .before .if1 .left) (past .before .if2 .left) (past .if3 .left))
+    (at-put-ears3 .put-ears3 .ensures)
 
 pub compute-matrix-spec : {M : Type 1} → statement M
 compute-matrix-spec =

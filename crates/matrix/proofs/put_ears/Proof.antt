@@ -20,7 +20,9 @@ returns-2 c =
     let at-if1 = at-inverse-root .before in
     let start = at-if1 .before .before .before .before in
     let a = start .args in
-    fits (now (a .left)) (now (a .right)) (now (a .weights)) _ _ _ (at-if1 .if1 .left) (inverse-value 2 _ (lit< tt) (at-inverse-root .inverse-root .ensures)) (at-put-row .put-row .ensures) (at-put-row2 .put-row2 .ensures)
+    fits (now (a .left)) (now (a .right)) (now (a .weights)) _ _ _ (at-if1 .if1 .left)
+    (inverse-value 2 _ (lit< tt) (at-inverse-root .inverse-root .ensures)) (at-put-row .put-row .ensures)
+    (at-put-row2 .put-row2 .ensures)
 
 pub put-ears-spec : {M : Type 1} → statement M
 put-ears-spec =

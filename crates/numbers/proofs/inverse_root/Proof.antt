@@ -33,9 +33,14 @@ returns-2 c =
     let n = start .args .n in
     record {
       bits =
-          (λ i. record { refusal = 0; value = div binary64 (fin false 1 (pos 0)) ((ap (λ (v : Rooted). v .value) (c .root .ensures .bits) ∙ root-value (float (pos n))) i) })
+          (λ i. record {
+            refusal = 0;
+            value = div binary64 (fin false 1 (pos 0))
+                ((ap (λ (v : Rooted). v .value) (c .root .ensures .bits) ∙ root-value (float (pos n))) i);
+          })
           ∙ sym (inverse-accepted n (at-if1 .if1 .left));
-      words = λ h r q. ap (λ (v : Rooted). div binary64 (fin false 1 (pos 0)) (v .value)) (c .root .ensures .bits ∙ sym (q .bits));
+      words = λ h r q. ap (λ (v : Rooted). div binary64 (fin false 1 (pos 0)) (v .value))
+          (c .root .ensures .bits ∙ sym (q .bits));
     }
 
 pub inverse-root-spec : {M : Type 1} → statement M

@@ -20,7 +20,8 @@ narrow-magnitude-requires c κs = (omega arith, (omega arith, no-nan-fields (c .
 
 -- the pattern b, read with its sign s
 signed : (b : ℕ) (s : Bool) → leb (2 ^ 63) b ≡ s
-    → toBits binary32 (narrowed (ofFields binary64 s (b % 2 ^ 63 / 2 ^ 52) (b % 2 ^ 52))) ≡ toBits binary32 (narrowed (ofBits binary64 b))
+    → toBits binary32 (narrowed (ofFields binary64 s (b % 2 ^ 63 / 2 ^ 52) (b % 2 ^ 52))) ≡ toBits binary32
+    (narrowed (ofBits binary64 b))
 signed b s e =
     ap (λ (v : Float). toBits binary32 (narrowed v))
     (sym (ofBits-fields binary64 b ∙ ap (λ (x : Bool). ofFields binary64 x (b % 2 ^ 63 / 2 ^ 52) (b % 2 ^ 52)) e))

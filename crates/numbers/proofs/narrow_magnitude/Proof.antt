@@ -15,7 +15,8 @@ use Rattle.numbers.proofs.narrow_magnitude.Tie as tie
 shifted : (c : tie.After-nearest-shift) → c .nearest-shift .result ≤ 2 ^ 24
 shifted c =
     let a = c .before .before .before in
-    le-trans (le-of-eq (c .nearest-shift .ensures)) (subnormal-digits true (a .args .e) (a .args .d) (a .pre .1 .0) (c .before .if2 .taken))
+    le-trans (le-of-eq (c .nearest-shift .ensures))
+    (subnormal-digits true (a .args .e) (a .args .d) (a .pre .1 .0) (c .before .if2 .taken))
 
 shifted-2 : (c : tie.After-nearest-shift2) → c .nearest-shift2 .result ≤ 2 ^ 24
 shifted-2 c =
@@ -29,7 +30,8 @@ add-n : tie.Need-add-n
 add-n c = omega (arith, shifted-2 c)
 
 returns : tie.Need-returns
-returns c = ((λ s. tiny s (c .before .args .e) (c .before .args .d) (c .before .pre .1 .0) (c .if1 .taken)), omega arith)
+returns c =
+    ((λ s. tiny s (c .before .args .e) (c .before .args .d) (c .before .pre .1 .0) (c .if1 .taken)), omega arith)
 
 returns-2 : tie.Need-returns-2
 returns-2 c =
@@ -44,18 +46,23 @@ returns-2 c =
 
 -- the pattern, cut at the infinity's
 cut : (c : tie.After-nearest-shift2) (s : Bool)
-    → toBits binary32 (narrowed (ofFields binary64 s (c .before .before .before .args .e) (c .before .before .before .args .d)))
-    ≡ cond s (2 ^ 31) 0 + min ((c .before .before .before .args .e - 897) * 2 ^ 23 + c .nearest-shift2 .result) (255 * 2 ^ 23)
+    → toBits binary32
+    (narrowed (ofFields binary64 s (c .before .before .before .args .e) (c .before .before .before .args .d)))
+    ≡ cond s (2 ^ 31) 0 + min ((c .before .before .before .args .e - 897) * 2 ^ 23 + c .nearest-shift2 .result)
+    (255 * 2 ^ 23)
 cut c s =
     let a = c .before .before .before in
     normal s (a .args .e) (a .args .d) (a .pre .1 .0) (c .before .if2 .left) (a .pre .0) (a .pre .1 .1)
-    ∙ ap (λ (x : ℕ). cond s (2 ^ 31) 0 + min ((a .args .e - 897) * 2 ^ 23 + x) (255 * 2 ^ 23)) (sym (c .nearest-shift2 .ensures))
+    ∙ ap (λ (x : ℕ). cond s (2 ^ 31) 0 + min ((a .args .e - 897) * 2 ^ 23 + x) (255 * 2 ^ 23))
+    (sym (c .nearest-shift2 .ensures))
 
 returns-3 : tie.Need-returns-3
-returns-3 c = ((λ s. cut (c .before) s ∙ ap (λ (x : ℕ). cond s (2 ^ 31) 0 + x) (min-eq-left (omega arith))), omega arith)
+returns-3 c =
+    ((λ s. cut (c .before) s ∙ ap (λ (x : ℕ). cond s (2 ^ 31) 0 + x) (min-eq-left (omega arith))), omega arith)
 
 returns-4 : tie.Need-returns-4
-returns-4 c = ((λ s. cut (c .before) s ∙ ap (λ (x : ℕ). cond s (2 ^ 31) 0 + x) (min-eq-right (c .if3 .left))), omega arith)
+returns-4 c =
+    ((λ s. cut (c .before) s ∙ ap (λ (x : ℕ). cond s (2 ^ 31) 0 + x) (min-eq-right (c .if3 .left))), omega arith)
 
 pub narrow-magnitude-spec : {M : Type 1} → statement M
 narrow-magnitude-spec =

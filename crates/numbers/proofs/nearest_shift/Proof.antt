@@ -1,4 +1,5 @@
--- `numbers::nearest_shift` meets its contract: u is 2 ^ t, and the three arms are the three cases of `closest`. Assumes nothing.
+-- `numbers::nearest_shift` meets its contract: u is 2 ^ t, and the three arms are the three cases of `closest`. Assumes
+-- nothing.
 use borrow.Author.Needs.{needs}
 use mathlib.Core.Path.{_≡_, sym, ap, _∙_, subst}
 use Prim.Native.Nat.{ℕ, _*_, _/_, _%_, _^_, _≤_, _<_}
@@ -52,7 +53,8 @@ add-result-2 : tie.Need-add-result-2
 add-result-2 c = omega (arith, q-lt (c .before .before))
 
 returns : tie.Need-returns
-returns c = sym (closest-lt (c .before .args .m) (unit (c .before .args .t)) (c .if1 .taken)) ∙ ap (λ (x : ℕ). closest (c .before .args .m) x) (is (c .before))
+returns c = sym (closest-lt (c .before .args .m) (unit (c .before .args .t)) (c .if1 .taken))
+    ∙ ap (λ (x : ℕ). closest (c .before .args .m) x) (is (c .before))
 
 returns-2 : tie.Need-returns-2
 returns-2 c =
@@ -62,7 +64,9 @@ returns-2 c =
 returns-3 : tie.Need-returns-3
 returns-3 c =
     let a = c .before .before .args in
-    add-one (a .m / unit (a .t)) ∙ sym (closest-gt (a .m) (unit (a .t)) (omega arith)) ∙ ap (λ (x : ℕ). closest (a .m) x) (is (c .before .before))
+    add-one (a .m / unit (a .t)) ∙ sym (closest-gt (a .m) (unit (a .t)) (omega arith))
+    ∙ ap (λ (x : ℕ). closest (a .m) x) (is (c .before .before))
 
 pub nearest-shift-spec : {M : Type 1} → statement M
-nearest-shift-spec = tie.close (tie.spec (λ c. search needs) div-q rem-r mul-r add-result add-result-2 returns returns-2 returns-3)
+nearest-shift-spec =
+    tie.close (tie.spec (λ c. search needs) div-q rem-r mul-r add-result add-result-2 returns returns-2 returns-3)

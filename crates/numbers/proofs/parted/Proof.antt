@@ -1,4 +1,5 @@
--- `numbers::parted` meets its contract: with or without a leading digit the pattern's number is m * 2 ^ e (`Aligned`), and so m * 4 ^ half. Assumes nothing.
+-- `numbers::parted` meets its contract: with or without a leading digit the pattern's number is m * 2 ^ e (`Aligned`),
+-- and so m * 4 ^ half. Assumes nothing.
 use Prim.Native.Nat.{ℕ, _+_, _-_, _<_, _^_, _%_, suc}
 use native.Mathlib.Omega.{arith}
 use mathlib.Core.Path.{_≡_, refl}
@@ -14,7 +15,8 @@ add-digits : tie.Need-add-digits
 add-digits c = omega (arith, mask-lt (c .args .bits) 52)
 
 -- where there is no leading digit, the count of zeros above the digits is from 12 to 63
-zeros : (c : tie.Then1) → (j : ℕ) × (leadingZeros 64 (bitAnd (c .before .args .bits) (2 ^ 52 - 1)) + suc j ≡ 64) × (j < 52)
+zeros : (c : tie.Then1) → (j : ℕ) × (leadingZeros 64 (bitAnd (c .before .args .bits) (2 ^ 52 - 1)) + suc j ≡ 64)
+    × (j < 52)
 zeros c =
     let b = c .before .args .bits in
     let t : bitAnd b (2 ^ 52 - 1) ≡ b % 2 ^ 52 = and-mask b 52 in
@@ -37,7 +39,8 @@ aligned : (c : tie.Joined1) → Aligned (c .before .args .bits) (c .if1 .digits)
 aligned c =
     let b = c .before .args .bits in
     let t = bitAnd b (2 ^ 52 - 1) in
-    ⊎-elim (λ w. rw (w .1, w .2) (aligned-low b t (leadingZeros 64 t) (c .before .pre .0) (w .0 .taken) (and-mask b 52) refl))
+    ⊎-elim (λ w. rw (w .1, w .2) (aligned-low b t (leadingZeros 64 t) (c .before .pre .0) (w .0 .taken)
+    (and-mask b 52) refl))
     (λ w. rw (w .1, w .2) (aligned-normal b t (c .before .pre .1) (w .0 .left) (and-mask b 52)))
     (c .if1 .came)
 
@@ -48,4 +51,5 @@ returns c =
     parted-of (start .args .bits) (at-if1 .if1 .digits) (at-if1 .if1 .e) (aligned at-if1)
 
 pub parted-spec : {M : Type 1} → statement M
-parted-spec = tie.close (tie.spec add-digits (λ c. search needs) cast-z sub-digits shl-digits sub-e (λ c. search needs) returns)
+parted-spec =
+    tie.close (tie.spec add-digits (λ c. search needs) cast-z sub-digits shl-digits sub-e (λ c. search needs) returns)

@@ -1,4 +1,5 @@
--- `numbers::whole_root` meets its contract: `Turn` is the invariant of its loop, and the turns that are left its measure. Assumes nothing.
+-- `numbers::whole_root` meets its contract: `Turn` is the invariant of its loop, and the turns that are left its
+-- measure. Assumes nothing.
 use Prim.Native.Nat.{_-_, _<_, _^_}
 use native.Mathlib.Omega.{arith}
 use mathlib.Core.Logic.{⊎-elim}
@@ -43,12 +44,16 @@ loop-again c =
     let start = at-loop .before in
     let l = at-loop .loop in
     let m = start .args .m in
-    ⊎-elim (λ w. rw (w .1, w .2) (one-digit m (l .left) (l .root) (l .rest) (l .i) (l .inv) (omega (arith, at-loop-test .loop-test .taken)) (w .0 .taken)))
-    (λ w. rw (w .1, w .2) (no-digit m (l .left) (l .root) (l .rest) (l .i) (l .inv) (omega (arith, at-loop-test .loop-test .taken)) (w .0 .left)))
+    ⊎-elim (λ w. rw (w .1, w .2) (one-digit m (l .left) (l .root) (l .rest) (l .i) (l .inv)
+    (omega (arith, at-loop-test .loop-test .taken)) (w .0 .taken)))
+    (λ w. rw (w .1, w .2) (no-digit m (l .left) (l .root) (l .rest) (l .i) (l .inv)
+    (omega (arith, at-loop-test .loop-test .taken)) (w .0 .left)))
     (c .if1 .came)
 
 returns : tie.Need-returns Inv-loop μ-loop
-returns c = last-turn (c .before .before .args .m) (c .before .loop .left) (c .before .loop .root) (c .before .loop .rest) (c .before .loop .i) (c .before .loop .inv) (c .loop-test .left)
+returns c = last-turn (c .before .before .args .m) (c .before .loop .left) (c .before .loop .root)
+    (c .before .loop .rest) (c .before .loop .i) (c .before .loop .inv) (c .loop-test .left)
 
 pub whole-root-spec : {M : Type 1} → statement M
-whole-root-spec = tie.close (tie.spec Inv-loop μ-loop loop-holds mul-next add-next mul-trial add-trial mul-root add-root (λ c. omega arith) (λ c. omega arith) loop-again returns)
+whole-root-spec = tie.close (tie.spec Inv-loop μ-loop loop-holds mul-next add-next mul-trial add-trial mul-root add-root
+    (λ c. omega arith) (λ c. omega arith) loop-again returns)

@@ -12,7 +12,11 @@ returns : tie.Need-returns
 returns c =
     let x = c .before .args .x in
     let e = c .f32-to-f64-with-nan .ensures in
-    record { bits = e; words = subst (λ (v : Float). T (fits binary64 v)) (sym e) (fits-widens x (passes (fits binary32 x) (c .before .good .0 .1))) }
+    record {
+      bits = e;
+      words = subst (λ (v : Float). T (fits binary64 v)) (sym e)
+          (fits-widens x (passes (fits binary32 x) (c .before .good .0 .1)));
+    }
 
 pub widen-spec : {M : Type 1} → statement M
 widen-spec = tie.close (tie.spec (λ c. search needs) returns)

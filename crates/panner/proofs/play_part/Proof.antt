@@ -12,7 +12,8 @@ use Rattle.panner.proofs.play_part.Statement.{statement}
 use Rattle.panner.proofs.play_part.Tie as tie
 
 abbrev Inv-loop : tie.InvT-loop
-Inv-loop out₀ stride from to planes gains input few n₀ out n = Parting out₀ stride from to (λ k. panned few gains (sampleAt input stride 0 k)) out n
+Inv-loop out₀ stride from to planes gains input few n₀ out n =
+    Parting out₀ stride from to (λ k. panned few gains (sampleAt input stride 0 k)) out n
 
 abbrev μ-loop : tie.MeasureT-loop
 μ-loop out₀ stride from to planes gains input few n₀ out n = to - n
@@ -21,7 +22,8 @@ loop-holds : tie.Need-loop-holds Inv-loop μ-loop
 loop-holds c =
     let start = c .before .before .before in
     let a = start .args in
-    parting-none (now (a .out)) (a .stride) (a .from) (a .to) (λ k. panned (c .min .result) (a .gains) (sampleAt (now (a .input)) (a .stride) 0 k))
+    parting-none (now (a .out)) (a .stride) (a .from) (a .to)
+    (λ k. panned (c .min .result) (a .gains) (sampleAt (now (a .input)) (a .stride) 0 k))
 
 pan-requires : tie.Need-pan-requires Inv-loop μ-loop
 pan-requires c κs = omega (arith, c .before .before .before .before .min .ensures)
@@ -38,9 +40,12 @@ loop-again c =
     let few = at-min .min .result in
     let at = at-loop .loop in
     let x = at-sample .sample in
-    parting-more (now (a .out)) (a .stride) (a .from) (a .to) (λ k. panned few (a .gains) (sampleAt (now (a .input)) (a .stride) 0 k)) (at .out) (at .n) (at .inv) (at-pan .pan .last .0)
+    parting-more (now (a .out)) (a .stride) (a .from) (a .to)
+    (λ k. panned few (a .gains) (sampleAt (now (a .input)) (a .stride) 0 k)) (at .out) (at .n) (at .inv)
+    (at-pan .pan .last .0)
     (omega (arith, at-loop-test .loop-test .taken))
-    (at-pan .pan .ensures ∙ ap (λ (y : Float). withFrame (at .out) (a .stride) (at .n) (panned few (a .gains) y)) (x .ensures))
+    (at-pan .pan .ensures ∙ ap (λ (y : Float). withFrame (at .out) (a .stride) (at .n) (panned few (a .gains) y))
+    (x .ensures))
 
 returns : tie.Need-returns Inv-loop μ-loop
 returns c =
@@ -49,8 +54,12 @@ returns c =
     let a = start .args in
     let at = c .before .loop in
     let few = at-min .min in
-    parting-all (now (a .out)) (a .stride) (a .from) (a .to) (λ k. panned (few .result) (a .gains) (sampleAt (now (a .input)) (a .stride) 0 k)) (at .out) (at .n) (at .inv) (c .loop-test .left)
-    ∙ ap (λ (m : ℕ). withFrames (now (a .out)) (a .stride) (a .from) (tab (a .from) (a .to - a .from) (λ k. panned m (a .gains) (sampleAt (now (a .input)) (a .stride) 0 k)))) (few .ensures)
+    parting-all (now (a .out)) (a .stride) (a .from) (a .to)
+    (λ k. panned (few .result) (a .gains) (sampleAt (now (a .input)) (a .stride) 0 k)) (at .out) (at .n) (at .inv)
+    (c .loop-test .left)
+    ∙ ap (λ (m : ℕ). withFrames (now (a .out)) (a .stride) (a .from)
+    (tab (a .from) (a .to - a .from) (λ k. panned m (a .gains) (sampleAt (now (a .input)) (a .stride) 0 k))))
+    (few .ensures)
 
 pub play-part-spec : {M : Type 1} → statement M
 play-part-spec =

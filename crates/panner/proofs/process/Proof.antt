@@ -13,7 +13,8 @@ returns c =
     let start = at-command-gains .before .before .before in
     let a = start .args in
     let g = at-command-gains .command-gains in
-    by-command (record { command = a .command; layout = a .layout; frames = a .frames; stride = a .stride }) (now (a .input)) (now (a .out)) (g .result) (g .ensures) (c .if1 .taken)
+    by-command (record { command = a .command; layout = a .layout; frames = a .frames; stride = a .stride })
+    (now (a .input)) (now (a .out)) (g .result) (g .ensures) (c .if1 .taken)
 
 returns-2 : tie.Need-returns-2
 returns-2 c =
@@ -22,7 +23,9 @@ returns-2 c =
     let start = at-command-gains .before .before .before in
     let a = start .args in
     let g = at-command-gains .command-gains in
-    by-length (record { command = a .command; layout = a .layout; frames = a .frames; stride = a .stride }) (now (a .input)) (now (a .out)) (g .result) (g .ensures) (at-if1 .if1 .left) (sym (c .before .is-block-unfit .ensures) ∙ c .if2 .taken)
+    by-length (record { command = a .command; layout = a .layout; frames = a .frames; stride = a .stride })
+    (now (a .input)) (now (a .out)) (g .result) (g .ensures) (at-if1 .if1 .left)
+    (sym (c .before .is-block-unfit .ensures) ∙ c .if2 .taken)
 
 returns-3 : tie.Need-returns-3
 returns-3 c =
@@ -32,7 +35,9 @@ returns-3 c =
     let start = at-command-gains .before .before .before in
     let a = start .args in
     let g = at-command-gains .command-gains in
-    by-frames (record { command = a .command; layout = a .layout; frames = a .frames; stride = a .stride }) (now (a .input)) (now (a .out)) (g .result) (g .ensures) (at-if1 .if1 .left) (sym (at-is-block-unfit .is-block-unfit .ensures) ∙ c .before .if2 .left) (omega (arith, c .if3 .taken))
+    by-frames (record { command = a .command; layout = a .layout; frames = a .frames; stride = a .stride })
+    (now (a .input)) (now (a .out)) (g .result) (g .ensures) (at-if1 .if1 .left)
+    (sym (at-is-block-unfit .is-block-unfit .ensures) ∙ c .before .if2 .left) (omega (arith, c .if3 .taken))
 
 returns-4 : tie.Need-returns-4
 returns-4 c =
@@ -45,8 +50,10 @@ returns-4 c =
     let start = at-command-gains .before .before .before in
     let a = start .args in
     let g = at-command-gains .command-gains in
-    plays (record { command = a .command; layout = a .layout; frames = a .frames; stride = a .stride }) (now (a .input)) (now (a .out)) (g .result) (g .ensures) (at-if1 .if1 .left)
-    (sym (at-is-block-unfit .is-block-unfit .ensures) ∙ at-if2 .if2 .left) (at-play-part .play-part .last .0) (omega (arith, at-if3 .if3 .left)) (at-play-part .play-part .ensures)
+    plays (record { command = a .command; layout = a .layout; frames = a .frames; stride = a .stride }) (now (a .input))
+    (now (a .out)) (g .result) (g .ensures) (at-if1 .if1 .left)
+    (sym (at-is-block-unfit .is-block-unfit .ensures) ∙ at-if2 .if2 .left) (at-play-part .play-part .last .0)
+    (omega (arith, at-if3 .if3 .left)) (at-play-part .play-part .ensures)
 
 pub process-spec : {M : Type 1} → statement M
 process-spec =

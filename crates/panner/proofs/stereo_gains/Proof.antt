@@ -15,7 +15,8 @@ returns c =
     let start = at-is-bad-layout .before in
     let a = start .args in
     let r = c .refused in
-    refused (Stereo (a .position)) (a .layout) (r .result) 2 (lit< tt) (r .ensures) (cond-true 2 _ (sym (at-is-bad-layout .is-bad-layout .ensures) ∙ c .before .if1 .taken))
+    refused (Stereo (a .position)) (a .layout) (r .result) 2 (lit< tt) (r .ensures)
+    (cond-true 2 _ (sym (at-is-bad-layout .is-bad-layout .ensures) ∙ c .before .if1 .taken))
 
 returns-2 : tie.Need-returns-2
 returns-2 c =
@@ -27,7 +28,8 @@ returns-2 c =
     let r = c .refused2 in
     let s = at-calculate-stereo-gains .calculate-stereo-gains in
     refused (Stereo (a .position)) (a .layout) (r .result) 3 (lit< tt) (r .ensures)
-    (stereo-refused (a .layout) (a .position) (s .result) (s .ensures) (sym (at-is-bad-layout .is-bad-layout .ensures) ∙ at-if1 .if1 .left) (c .before .if2 .taken))
+    (stereo-refused (a .layout) (a .position) (s .result) (s .ensures)
+    (sym (at-is-bad-layout .is-bad-layout .ensures) ∙ at-if1 .if1 .left) (c .before .if2 .taken))
 
 returns-3 : tie.Need-returns-3
 unfolding ofBits ofInt
@@ -38,7 +40,8 @@ returns-3 c =
     let start = at-is-bad-layout .before in
     let a = start .args in
     let s = at-calculate-stereo-gains .calculate-stereo-gains in
-    stereo-accepted (a .layout) (a .position) (s .result) (s .ensures) _ (sym (at-is-bad-layout .is-bad-layout .ensures) ∙ at-if1 .if1 .left) (c .if2 .left) refl
+    stereo-accepted (a .layout) (a .position) (s .result) (s .ensures) _
+    (sym (at-is-bad-layout .is-bad-layout .ensures) ∙ at-if1 .if1 .left) (c .if2 .left) refl
 
 pub stereo-gains-spec : {M : Type 1} → statement M
 stereo-gains-spec =

@@ -14,7 +14,8 @@ returns c =
     let a = start .args in
     let r = c .refused in
     let s = at-calculate-vbap-gains .calculate-vbap-gains in
-    refused (Surround (a .azimuth)) (a .layout) (r .result) (s .result .refusal) (omega (arith, c .before .if1 .taken)) (r .ensures) (sym (surround-refusal (a .layout) (a .azimuth) (s .result) (s .ensures)))
+    refused (Surround (a .azimuth)) (a .layout) (r .result) (s .result .refusal) (omega (arith, c .before .if1 .taken))
+    (r .ensures) (sym (surround-refusal (a .layout) (a .azimuth) (s .result) (s .ensures)))
 
 returns-2 : tie.Need-returns-2
 returns-2 c =
@@ -24,7 +25,8 @@ returns-2 c =
     let start = at-calculate-vbap-gains .before in
     let a = start .args in
     let s = at-calculate-vbap-gains .calculate-vbap-gains in
-    surround-accepted (a .layout) (a .azimuth) (s .result) (s .ensures) _ (at-channel-count .channel-count .result) (at-channel-count .channel-count .ensures) (at-if1 .if1 .left) refl
+    surround-accepted (a .layout) (a .azimuth) (s .result) (s .ensures) _ (at-channel-count .channel-count .result)
+    (at-channel-count .channel-count .ensures) (at-if1 .if1 .left) refl
 
 pub surround-gains-spec : {M : Type 1} → statement M
 surround-gains-spec =

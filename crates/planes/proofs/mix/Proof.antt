@@ -21,7 +21,8 @@ loop-holds : tie.Need-loop-holds Inv-loop μ-loop
 unfolding ofBits
 loop-holds c =
     let start = c .before .before .before in
-    let a = start .args in mixing-none (now (a .weights)) (now (a .inputs)) (a .stride) (a .frame) (c .onward .result) (c .onward .ensures)
+    let a = start .args in mixing-none (now (a .weights)) (now (a .inputs)) (a .stride) (a .frame) (c .onward .result)
+    (c .onward .ensures)
 
 loop-again : tie.Need-loop-again Inv-loop μ-loop
 loop-again c =
@@ -30,7 +31,8 @@ loop-again c =
     let at = at-loop-test .before in
     let start = at .before .before .before .before in
     let a = start .args in
-    mixing-more (now (a .weights)) (now (a .inputs)) (a .stride) (a .frame) (at .loop .sum) (at .loop .at) (at .loop .c) (at-value .value .result) (c .onward2 .result)
+    mixing-more (now (a .weights)) (now (a .inputs)) (a .stride) (a .frame) (at .loop .sum) (at .loop .at) (at .loop .c)
+    (at-value .value .result) (c .onward2 .result)
     (at .loop .inv) (at-loop-test .loop-test .taken) (at-value .value .ensures) (c .onward2 .ensures)
 
 returns : tie.Need-returns Inv-loop μ-loop
@@ -38,7 +40,8 @@ returns c =
     let at = c .before .before in
     let start = at .before .before .before .before in
     let a = start .args in
-    mixing-all (now (a .weights)) (now (a .inputs)) (a .stride) (a .frame) (at .loop .sum) (at .loop .at) (at .loop .c) (c .narrow .result) (at .loop .inv) (c .before .loop-test .left) (c .narrow .ensures .bits)
+    mixing-all (now (a .weights)) (now (a .inputs)) (a .stride) (a .frame) (at .loop .sum) (at .loop .at) (at .loop .c)
+    (c .narrow .result) (at .loop .inv) (c .before .loop-test .left) (c .narrow .ensures .bits)
 
 pub mix-spec : {M : Type 1} → statement M
 mix-spec =

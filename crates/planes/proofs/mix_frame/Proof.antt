@@ -11,7 +11,8 @@ use Rattle.planes.proofs.mix_frame.Statement.{statement}
 use Rattle.planes.proofs.mix_frame.Tie as tie
 
 abbrev Inv-loop : tie.InvT-loop
-Inv-loop out₀ out-stride out-frame outputs weights channels inputs stride frame damaged₀ o₀ out damaged o = Judging out₀ out-stride out-frame outputs (output weights channels inputs stride frame) out damaged o
+Inv-loop out₀ out-stride out-frame outputs weights channels inputs stride frame damaged₀ o₀ out damaged o =
+    Judging out₀ out-stride out-frame outputs (output weights channels inputs stride frame) out damaged o
 
 abbrev μ-loop : tie.MeasureT-loop
 μ-loop out₀ out-stride out-frame outputs weights channels inputs stride frame damaged₀ o₀ out damaged o = outputs - o
@@ -20,7 +21,8 @@ loop-holds : tie.Need-loop-holds Inv-loop μ-loop
 loop-holds c =
     let start = c .before .before .before in
     let a = start .args in
-    judging-none (now (a .out)) (a .out-stride) (a .out-frame) (a .outputs) (output (now (a .weights)) (a .channels) (now (a .inputs)) (a .stride) (a .frame))
+    judging-none (now (a .out)) (a .out-stride) (a .out-frame) (a .outputs)
+    (output (now (a .weights)) (a .channels) (now (a .inputs)) (a .stride) (a .frame))
 
 loop-again : tie.Need-loop-again Inv-loop μ-loop
 loop-again c =
@@ -31,20 +33,28 @@ loop-again c =
     let starts = ends .before in
     let at = starts .before .before in
     let a = at .before .before .before .before .args in
-    let judge = judged-by (at .loop .damaged) (c .if1 .damaged) (mixes .mix .result) (tested .before .widen .result) (tested .is-finite .result)
+    let judge = judged-by (at .loop .damaged) (c .if1 .damaged) (mixes .mix .result) (tested .before .widen .result)
+    (tested .is-finite .result)
     (tested .before .widen .ensures .bits) (tested .is-finite .ensures) in
-    judging-more (now (a .out)) (a .out-stride) (a .out-frame) (a .outputs) (output (now (a .weights)) (a .channels) (now (a .inputs)) (a .stride) (a .frame)) (at .loop .out) (at .loop .damaged) (at .loop .o) (at .loop .inv)
+    judging-more (now (a .out)) (a .out-stride) (a .out-frame) (a .outputs)
+    (output (now (a .weights)) (a .channels) (now (a .inputs)) (a .stride) (a .frame)) (at .loop .out)
+    (at .loop .damaged) (at .loop .o) (at .loop .inv)
     (mixes .mix .result) (put .put-sample .last .0) (c .if1 .damaged) (starts .before .loop-test .taken)
-    (output-is (now (a .weights)) (a .channels) (now (a .inputs)) (a .stride) (a .frame) (at .loop .o) (starts .place .result) (ends .onward .result) (mixes .mix .result) (starts .place .ensures) (ends .onward .ensures) (mixes .mix .ensures))
+    (output-is (now (a .weights)) (a .channels) (now (a .inputs)) (a .stride) (a .frame) (at .loop .o)
+    (starts .place .result) (ends .onward .result) (mixes .mix .result) (starts .place .ensures)
+    (ends .onward .ensures) (mixes .mix .ensures))
     (put .put-sample .ensures)
-    (⊎-elim (λ w. judge true (w .0 .taken) (w .1 ∙ sym (or-true (at .loop .damaged)))) (λ w. judge false (w .0 .left) (w .1 ∙ sym (or-false (at .loop .damaged)))) (c .if1 .came))
+    (⊎-elim (λ w. judge true (w .0 .taken) (w .1 ∙ sym (or-true (at .loop .damaged))))
+    (λ w. judge false (w .0 .left) (w .1 ∙ sym (or-false (at .loop .damaged)))) (c .if1 .came))
 
 returns : tie.Need-returns Inv-loop μ-loop
 returns c =
     let at-loop = c .before in
     let start = at-loop .before .before .before .before in
     let a = start .args in
-    judging-all (now (a .out)) (a .out-stride) (a .out-frame) (a .outputs) (output (now (a .weights)) (a .channels) (now (a .inputs)) (a .stride) (a .frame)) (at-loop .loop .out) (at-loop .loop .damaged) (at-loop .loop .o) (at-loop .loop .inv) (c .loop-test .left)
+    judging-all (now (a .out)) (a .out-stride) (a .out-frame) (a .outputs)
+    (output (now (a .weights)) (a .channels) (now (a .inputs)) (a .stride) (a .frame)) (at-loop .loop .out)
+    (at-loop .loop .damaged) (at-loop .loop .o) (at-loop .loop .inv) (c .loop-test .left)
 
 pub mix-frame-spec : {M : Type 1} → statement M
 mix-frame-spec =

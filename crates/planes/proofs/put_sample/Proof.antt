@@ -13,8 +13,10 @@ returns c = set-min (now (c .before .before .before .args .xs)) _ _ _ (c .before
 returns-2 : tie.Need-returns-2
 returns-2 c =
     let start = c .before .before .before in
-    let a = start .args in sym (set-out (now (a .xs)) _ (a .x) (c .if1 .left)) ∙ set-min (now (a .xs)) _ _ (a .x) (c .before .place .ensures)
+    let a = start .args in sym (set-out (now (a .xs)) _ (a .x) (c .if1 .left))
+    ∙ set-min (now (a .xs)) _ _ (a .x) (c .before .place .ensures)
 
 pub put-sample-spec : {M : Type 1} → statement M
 put-sample-spec =
-    tie.close (tie.spec (λ c κs. search needs) (λ c. search needs) (λ c. search needs) (λ c. search needs) returns returns-2)
+    tie.close (tie.spec (λ c κs. search needs) (λ c. search needs) (λ c. search needs) (λ c. search needs) returns
+    returns-2)

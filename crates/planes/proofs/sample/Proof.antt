@@ -18,7 +18,8 @@ returns-2 : tie.Need-returns-2
 unfolding ofBits div
 returns-2 c =
     let start = c .before .before .before in
-    sym (List·getD-eq-default (now (start .args .xs)) nan (c .if1 .left)) ∙ getD-min (now (start .args .xs)) _ _ nan (c .before .place .ensures)
+    sym (List·getD-eq-default (now (start .args .xs)) nan (c .if1 .left))
+    ∙ getD-min (now (start .args .xs)) _ _ nan (c .before .place .ensures)
 
 pub sample-spec : {M : Type 1} → statement M
 sample-spec =

@@ -1,7 +1,8 @@
 -- `probe::put_answer` meets its contract: by the operation. Assumes nothing.
 use mathlib.Core.Path.{_∙_}
 use native.Mathlib.Omega.{arith}
-use Rattle.probe.proofs.Meets.{of-numbers, of-bank, of-gains, of-matrix, of-planes, of-hrtf, of-setup, of-script, of-replay, of-conversions, of-sum, of-none}
+use Rattle.probe.proofs.Meets.{of-numbers, of-bank, of-gains, of-matrix, of-planes, of-hrtf, of-setup}
+use Rattle.probe.proofs.Meets.{of-script, of-replay, of-conversions, of-sum, of-none}
 use borrow.Author.Needs.{needs}
 use Rattle.probe.proofs.put_answer.Statement.{statement}
 use Rattle.probe.proofs.put_answer.Tie as tie
@@ -66,6 +67,8 @@ returns-13 c = of-none _ _ _ (λ h. omega arith)
 pub put-answer-spec : {M : Type 1} → statement M
 put-answer-spec =
     tie.close
-    (tie.spec (λ c κs. tt) (λ c κs. tt) (λ c κs. tt) (λ c κs. tt) (λ c κs. tt) (λ c κs. tt) (λ c κs. tt) (λ c κs. tt) (λ c κs. tt) (λ c κs. tt) (λ c κs. tt) (λ c. search needs) returns (λ c. search needs)
-    returns-2 (λ c. search needs) returns-3 (λ c. search needs) returns-4 (λ c. search needs) returns-5 (λ c. search needs) returns-6 (λ c. search needs) returns-7 (λ c. search needs) returns-8
+    (tie.spec (λ c κs. tt) (λ c κs. tt) (λ c κs. tt) (λ c κs. tt) (λ c κs. tt) (λ c κs. tt) (λ c κs. tt) (λ c κs. tt)
+    (λ c κs. tt) (λ c κs. tt) (λ c κs. tt) (λ c. search needs) returns (λ c. search needs)
+    returns-2 (λ c. search needs) returns-3 (λ c. search needs) returns-4 (λ c. search needs) returns-5
+    (λ c. search needs) returns-6 (λ c. search needs) returns-7 (λ c. search needs) returns-8
     (λ c. search needs) returns-9 (λ c. search needs) returns-10 (λ c. search needs) returns-11 returns-12 returns-13)

@@ -16,7 +16,8 @@ slice-aggregate-write-all : tie.Need-slice-aggregate-write-all
 slice-aggregate-write-all c =
     let at-put = c .before .before .before in
     let start = at-put .before .before .before .before .before in
-    simp length-take (omega (arith, at-put .put .kept .0, length-set (start .args .out .now) 0 (start .args .operation)))
+    simp length-take
+    (omega (arith, at-put .put .kept .0, length-set (start .args .out .now) 0 (start .args .operation)))
 
 same-length : tie.Need-same-length
 same-length c =
@@ -27,5 +28,6 @@ same-length c =
 pub write-answer-spec : {M : Type 1} → statement M
 write-answer-spec =
     tie.close
-    (tie.spec (λ c. search needs) (λ c. search needs) (λ c. search needs) (λ c. search needs) (λ c κs. tt) (λ c. search needs) slice-reshare-prefix-write-all
+    (tie.spec (λ c. search needs) (λ c. search needs) (λ c. search needs) (λ c. search needs) (λ c κs. tt)
+    (λ c. search needs) slice-reshare-prefix-write-all
     slice-aggregate-write-all (λ c κs. tt) same-length (λ c. search needs))

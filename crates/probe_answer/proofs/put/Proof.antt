@@ -13,7 +13,8 @@ use Rattle.probe_answer.proofs.put.Tie as tie
 
 -- past the test of the room
 module _ (c : tie.Else2) where
-  room : let args = c .before .before .before .before .args in leb (args .at + 1 * args .count) (length (args .out .now)) ≡ true
+  room : let args = c .before .before .before .before .args in leb (args .at + 1 * args .count)
+      (length (args .out .now)) ≡ true
   room = sym (c .before .has-room .ensures) ∙ not-false _ (c .if2 .left)
 
   inside : let args = c .before .before .before .before .args in args .at + 1 * args .count ≤ length (args .out .now)
@@ -23,7 +24,8 @@ returns : tie.Need-returns
 returns c = field-long _ _ _ _ (c .if1 .taken)
 
 returns-2 : tie.Need-returns-2
-returns-2 c = field-none _ _ _ _ (c .before .before .if1 .left) (sym (c .before .has-room .ensures) ∙ not-true _ (c .if2 .taken))
+returns-2 c =
+    field-none _ _ _ _ (c .before .before .if1 .left) (sym (c .before .has-room .ensures) ∙ not-true _ (c .if2 .taken))
 
 add-result : tie.Need-add-result
 add-result c = omega (arith, inside (c .before .before .before .before))

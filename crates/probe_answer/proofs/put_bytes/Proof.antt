@@ -13,7 +13,8 @@ abbrev μ-loop : tie.MeasureT-loop
 μ-loop list out₀ at i₀ out i = length list - i
 
 loop-again : tie.Need-loop-again Inv-loop μ-loop
-loop-again c = let turn = c .before .before .loop in bytes-more _ _ _ (turn .out) (turn .i) (turn .inv) (c .before .loop-test .taken)
+loop-again c = let turn = c .before .before .loop in bytes-more _ _ _ (turn .out) (turn .i) (turn .inv)
+    (c .before .loop-test .taken)
 
 pub put-bytes-spec : {M : Type 1} → statement M
 put-bytes-spec =
@@ -21,6 +22,7 @@ put-bytes-spec =
     (tie.spec Inv-loop μ-loop (λ c κs. tt)
     (λ c. bytes-none _ _ _ (c .before .has-room .ensures) (c .if1 .taken))
     (λ c. bytes-first _ _ _ (c .before .has-room .ensures) (c .if1 .left))
-    (λ c. omega arith) (λ c. omega arith) (λ c. omega (arith, put-kept _ _ _ _ _ _ _ (c .before .before .loop .inv))) (λ c. omega arith) (λ c. omega arith) loop-again (λ c. omega arith)
+    (λ c. omega arith) (λ c. omega arith) (λ c. omega (arith, put-kept _ _ _ _ _ _ _ (c .before .before .loop .inv)))
+    (λ c. omega arith) (λ c. omega arith) loop-again (λ c. omega arith)
     (λ c. put-kept _ _ _ _ _ _ _ (c .before .loop .inv))
     (λ c. bytes-all _ _ _ _ _ (c .before .loop .inv) (c .loop-test .left)))

@@ -20,7 +20,8 @@ loop-again c =
     let at-put-f32 = c .before .before in
     let at-loop-test = at-put-f32 .before .before .before in
     let at-loop = at-loop-test .before in
-    let turn = at-loop .loop in fields-more _ _ _ _ _ (turn .out) _ (turn .i) nan (omega arith) (turn .inv) (at-loop-test .loop-test .taken) (at-put-f32 .put-f32 .ensures)
+    let turn = at-loop .loop in fields-more _ _ _ _ _ (turn .out) _ (turn .i) nan (omega arith) (turn .inv)
+    (at-loop-test .loop-test .taken) (at-put-f32 .put-f32 .ensures)
 
 -- what the loop's places and counts take is arithmetic
 pub put-f32s-spec : {M : Type 1} → statement M
@@ -29,6 +30,7 @@ put-f32s-spec =
     (tie.spec Inv-loop μ-loop (λ c κs. tt)
     (λ c. fields-none _ _ _ _ _ (c .before .has-room .ensures) (c .if1 .taken))
     (λ c. fields-first _ _ _ _ _ (c .before .has-room .ensures) (c .if1 .left))
-    (λ c. omega arith) (λ c. omega arith) (λ c. omega arith) (λ c. omega arith) (λ c κs. tt) (λ c. omega arith) (λ c. omega arith) loop-again (λ c. omega arith) (λ c. omega arith)
+    (λ c. omega arith) (λ c. omega arith) (λ c. omega arith) (λ c. omega arith) (λ c κs. tt) (λ c. omega arith)
+    (λ c. omega arith) loop-again (λ c. omega arith) (λ c. omega arith)
     (λ c. put-kept _ _ _ _ _ _ _ (c .before .loop .inv))
     (λ c. fields-all _ _ _ _ _ _ _ (c .before .loop .inv) (c .loop-test .left)))

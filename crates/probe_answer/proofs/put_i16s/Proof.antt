@@ -28,8 +28,10 @@ loop-again c =
     let start = at-loop .before .before .before .before in
     let turn = at-loop .loop in
     let z = getD (start .args .list .now) (turn .i) (pos 0) in
-    let bits : ofZ w16 (toZ w16 (ofZ w16 z)) ≡ ofZ w16 z = ap (ofZ w16) (back w16 z (at-put-i16-arg2 .put-i16-arg2 .given)) in
-    fields-more _ _ _ _ _ (turn .out) _ (turn .i) (pos 0) (omega arith) (turn .inv) (at-loop-test .loop-test .taken) (at-put-i16 .put-i16 .ensures ∙ ap (withField _ _ 2) bits)
+    let bits : ofZ w16 (toZ w16 (ofZ w16 z)) ≡ ofZ w16 z = ap (ofZ w16)
+    (back w16 z (at-put-i16-arg2 .put-i16-arg2 .given)) in
+    fields-more _ _ _ _ _ (turn .out) _ (turn .i) (pos 0) (omega arith) (turn .inv) (at-loop-test .loop-test .taken)
+    (at-put-i16 .put-i16 .ensures ∙ ap (withField _ _ 2) bits)
 
 -- what the loop's places and counts take is arithmetic
 pub put-i16s-spec : {M : Type 1} → statement M
@@ -38,6 +40,7 @@ put-i16s-spec =
     (tie.spec Inv-loop μ-loop (λ c κs. tt)
     (λ c. fields-none _ _ _ _ _ (c .before .has-room .ensures) (c .if1 .taken))
     (λ c. fields-first _ _ _ _ _ (c .before .has-room .ensures) (c .if1 .left))
-    (λ c. omega arith) (λ c. omega arith) (λ c. omega arith) (λ c. omega arith) (λ c κs. tt) (λ c. omega arith) (λ c. omega arith) loop-again (λ c. omega arith) (λ c. omega arith)
+    (λ c. omega arith) (λ c. omega arith) (λ c. omega arith) (λ c. omega arith) (λ c κs. tt) (λ c. omega arith)
+    (λ c. omega arith) loop-again (λ c. omega arith) (λ c. omega arith)
     (λ c. put-kept _ _ _ _ _ _ _ (c .before .loop .inv))
     (λ c. fields-all _ _ _ _ _ _ _ (c .before .loop .inv) (c .loop-test .left)))

@@ -17,7 +17,8 @@ loop-again c =
     let at-put = c .before .before in
     let at-loop-test = at-put .before .before .before in
     let at-loop = at-loop-test .before in
-    let turn = at-loop .loop in fields-more _ _ _ _ _ (turn .out) _ (turn .i) 0 (omega arith) (turn .inv) (at-loop-test .loop-test .taken) (at-put .put .ensures)
+    let turn = at-loop .loop in fields-more _ _ _ _ _ (turn .out) _ (turn .i) 0 (omega arith) (turn .inv)
+    (at-loop-test .loop-test .taken) (at-put .put .ensures)
 
 -- what the loop's places and counts take is arithmetic
 pub put-usizes-spec : {M : Type 1} → statement M
@@ -26,6 +27,7 @@ put-usizes-spec =
     (tie.spec Inv-loop μ-loop (λ c κs. tt)
     (λ c. fields-none _ _ _ _ _ (c .before .has-room .ensures) (c .if1 .taken))
     (λ c. fields-first _ _ _ _ _ (c .before .has-room .ensures) (c .if1 .left))
-    (λ c. omega arith) (λ c. omega arith) (λ c. omega arith) (λ c. omega arith) (λ c κs. tt) (λ c. omega arith) (λ c. omega arith) loop-again (λ c. omega arith) (λ c. omega arith)
+    (λ c. omega arith) (λ c. omega arith) (λ c. omega arith) (λ c. omega arith) (λ c κs. tt) (λ c. omega arith)
+    (λ c. omega arith) loop-again (λ c. omega arith) (λ c. omega arith)
     (λ c. put-kept _ _ _ _ _ _ _ (c .before .loop .inv))
     (λ c. fields-all _ _ _ _ _ _ _ (c .before .loop .inv) (c .loop-test .left)))

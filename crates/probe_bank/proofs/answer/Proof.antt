@@ -37,8 +37,11 @@ returns-5 c =
     chosen answerOf 24 (at-turn2 .turn2 .ensures) (at-match .match .keys5)
 
 returns-6 : tie.Need-returns-6
-returns-6 c = let others = c .match .rest in of-none _ _ _ (others .0 .0 .0 .0 .1) (others .0 .0 .0 .1) (others .0 .0 .1) (others .0 .1) (others .1)
+returns-6 c = let others = c .match .rest in of-none _ _ _ (others .0 .0 .0 .0 .1) (others .0 .0 .0 .1)
+    (others .0 .0 .1) (others .0 .1) (others .1)
 
 pub answer-spec : {M : Type 1} → statement M
 answer-spec =
-    tie.close (tie.spec (λ c κs. tt) (λ c κs. tt) (λ c κs. tt) (λ c κs. tt) (λ c κs. tt) (λ c. search needs) returns (λ c. search needs) returns-2 (λ c. search needs) returns-3 (λ c. search needs) returns-4 (λ c. search needs) returns-5 returns-6)
+    tie.close (tie.spec (λ c κs. tt) (λ c κs. tt) (λ c κs. tt) (λ c κs. tt) (λ c κs. tt) (λ c. search needs) returns
+    (λ c. search needs) returns-2 (λ c. search needs) returns-3 (λ c. search needs) returns-4 (λ c. search needs)
+    returns-5 returns-6)

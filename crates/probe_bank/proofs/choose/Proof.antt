@@ -19,10 +19,12 @@ returns c =
     let after-lent2 = after-choose-from .before .before .before .before in
     let after-lent = after-lent2 .before in
     let args = after-lent .before .before .before .args in
-    choice-lent (now (args .args)) (now (args .out)) _ _ _ (lent-length _ _ _ (after-lent .lent .ensures)) (lent-length _ _ _ (after-lent2 .lent2 .ensures)) (after-choose-from .choose-from .ensures)
+    choice-lent (now (args .args)) (now (args .out)) _ _ _ (lent-length _ _ _ (after-lent .lent .ensures))
+    (lent-length _ _ _ (after-lent2 .lent2 .ensures)) (after-choose-from .choose-from .ensures)
 
 pub choose-spec : {M : Type 1} → statement M
 choose-spec =
     tie.close
-    (tie.spec (λ c κs. tt) (λ c κs. tt) (λ c. search needs) (λ c. lent-places _ _ _ (c .before .before .lent .ensures)) (λ c. search needs)
+    (tie.spec (λ c κs. tt) (λ c κs. tt) (λ c. search needs) (λ c. lent-places _ _ _ (c .before .before .lent .ensures))
+    (λ c. search needs)
     (λ c. lent-places _ _ _ (c .before .before .lent2 .ensures)) choose-from-requires (λ c. search needs) returns)

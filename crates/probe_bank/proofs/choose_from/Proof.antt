@@ -11,7 +11,8 @@ use Rattle.probe_bank.proofs.choose_from.Tie as tie
 returns : tie.Need-returns
 returns c =
     let start = c .before .before .before in
-    let args = start .args in choice-misfit (now (args .args)) (now (args .azimuths)) (now (args .elevations)) (now (args .out)) (c .if1 .taken)
+    let args = start .args in choice-misfit (now (args .args)) (now (args .azimuths)) (now (args .elevations))
+    (now (args .out)) (c .if1 .taken)
 
 returns-2 : tie.Need-returns-2
 returns-2 c =
@@ -26,12 +27,16 @@ returns-2 c =
     let args = past-if1 .before .before .before .args in
     let azimuth = after-get-i16 .get-i16 in
     let elevation = after-get-i162 .get-i162 in
-    choice-read (now (args .args)) (now (args .azimuths)) (now (args .elevations)) (now (args .out)) _ _ _ _ _ _ _ (past-if1 .if1 .left) (after-get-i16s .get-i16s .ensures)
-    (after-get-i16s2 .get-i16s2 .ensures) (after-number .number .ensures) (back w16 (azimuth .result) (azimuth .ok) ∙ azimuth .ensures) (back w16 (elevation .result) (elevation .ok) ∙ elevation .ensures)
+    choice-read (now (args .args)) (now (args .azimuths)) (now (args .elevations)) (now (args .out)) _ _ _ _ _ _ _
+    (past-if1 .if1 .left) (after-get-i16s .get-i16s .ensures)
+    (after-get-i16s2 .get-i16s2 .ensures) (after-number .number .ensures)
+    (back w16 (azimuth .result) (azimuth .ok) ∙ azimuth .ensures)
+    (back w16 (elevation .result) (elevation .ok) ∙ elevation .ensures)
     (after-nearest-row .nearest-row .ensures .bits) (at-put-refusal-and-number .put-refusal-and-number .ensures)
 
 pub choose-from-spec : {M : Type 1} → statement M
 choose-from-spec =
     tie.close
-    (tie.spec (λ c. search needs) (λ c. search needs) (λ c. search needs) (λ c. search needs) returns (λ c κs. tt) (λ c κs. tt) (λ c κs. tt) (λ c κs. tt) (λ c κs. tt) (λ c κs. tt)
+    (tie.spec (λ c. search needs) (λ c. search needs) (λ c. search needs) (λ c. search needs) returns (λ c κs. tt)
+    (λ c κs. tt) (λ c κs. tt) (λ c κs. tt) (λ c κs. tt) (λ c κs. tt)
     (λ c κs. tt) (λ c. search needs) (λ c. search needs) (λ c. search needs) returns-2)

@@ -13,7 +13,8 @@ use Rattle.probe_bank.proofs.put_lists.Tie as tie
 
 slice-aggregate-put-f32s : tie.Need-slice-aggregate-put-f32s
 slice-aggregate-put-f32s c =
-    let at-pre = c .before .before .before .before .before .before .before .before .before .before .before .before .before .before .before .before in
+    let at-pre =
+    c .before .before .before .before .before .before .before .before .before .before .before .before .before .before .before .before in
     sym (length-take-le _ _ (at-pre .pre .0))
 
 returns : tie.Need-returns
@@ -25,10 +26,13 @@ returns c =
     let after-put = after-put-i16s .before .before .before .before in
     let after-count-changed = after-put .before .before in
     let args = after-count-changed .before .before .before .args in
-    let changes = after-put .put .ensures ∙ ap (λ (n : ℕ). draft (args .at) (now (args .out)) then bytesOf 2 n) (after-count-changed .count-changed .ensures) in
-    let angles = behind _ (behind _ changes (after-put-i16s .put-i16s .ensures)) (after-put-i16s2 .put-i16s2 .ensures) in
+    let changes = after-put .put .ensures ∙ ap (λ (n : ℕ). draft (args .at) (now (args .out)) then bytesOf 2 n)
+    (after-count-changed .count-changed .ensures) in
+    let angles = behind _ (behind _ changes (after-put-i16s .put-i16s .ensures))
+    (after-put-i16s2 .put-i16s2 .ensures) in
     behind _ angles (at-put-f32s .put-f32s .ensures)
 
 pub put-lists-spec : {M : Type 1} → statement M
 put-lists-spec =
-    tie.close (tie.spec (λ c κs. search needs) (λ c κs. tt) (λ c κs. tt) (λ c κs. tt) slice-aggregate-put-f32s (λ c κs. tt) (λ c. search needs) returns)
+    tie.close (tie.spec (λ c κs. search needs) (λ c κs. tt) (λ c κs. tt) (λ c κs. tt) slice-aggregate-put-f32s
+    (λ c κs. tt) (λ c. search needs) returns)

@@ -15,8 +15,10 @@ returns c =
     let after-put = after-put2 .before .before .before .before in
     let after-first = after-put .before .before .before .before in
     let args = after-first .before .before .before .before .args in
-    let counts = behind _ (behind _ (after-first .put-refusal-and-number .ensures) (after-put .put .ensures)) (after-put2 .put2 .ensures) in
-    parts-behind (λ (d : Draft). thenLists d (args .shown) (now (args .azimuths)) (now (args .elevations)) (now (args .taps))) counts (at-put-lists .put-lists .ensures)
+    let counts = behind _ (behind _ (after-first .put-refusal-and-number .ensures) (after-put .put .ensures))
+    (after-put2 .put2 .ensures) in
+    parts-behind (λ (d : Draft). thenLists d (args .shown) (now (args .azimuths)) (now (args .elevations))
+    (now (args .taps))) counts (at-put-lists .put-lists .ensures)
 
 pub put-read-spec : {M : Type 1} → statement M
 put-read-spec =

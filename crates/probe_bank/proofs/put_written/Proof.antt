@@ -11,7 +11,8 @@ returns c =
     let at-put-bytes = c .before .before in
     let after-put = at-put-bytes .before .before .before .before in
     let after-first = after-put .before .before .before .before in
-    behind _ (behind _ (after-first .put-refusal-and-number .ensures) (after-put .put .ensures)) (at-put-bytes .put-bytes .ensures)
+    behind _ (behind _ (after-first .put-refusal-and-number .ensures) (after-put .put .ensures))
+    (at-put-bytes .put-bytes .ensures)
 
 pub put-written-spec : {M : Type 1} → statement M
 put-written-spec =

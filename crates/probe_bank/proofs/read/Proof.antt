@@ -29,12 +29,15 @@ returns-2 c =
     let after-lent = after-lent2 .before in
     let past-if1 = after-lent .before in
     let args = past-if1 .before .before .before .args in
-    read-lent (now (args .args)) (now (args .out)) _ _ _ _ (lent-length _ _ _ (after-lent .lent .ensures)) (lent-length _ _ _ (after-lent2 .lent2 .ensures))
+    read-lent (now (args .args)) (now (args .out)) _ _ _ _ (lent-length _ _ _ (after-lent .lent .ensures))
+    (lent-length _ _ _ (after-lent2 .lent2 .ensures))
     (lent-length _ _ _ (after-lent3 .lent3 .ensures)) (past-if1 .if1 .left) (after-read-into .read-into .ensures)
 
 pub read-spec : {M : Type 1} → statement M
 read-spec =
     tie.close
-    (tie.spec returns (λ c κs. tt) (λ c κs. tt) (λ c κs. tt) (λ c. search needs) (λ c. lent-places _ _ _ (c .before .before .before .lent .ensures)) (λ c. search needs)
-    (λ c. lent-places _ _ _ (c .before .before .before .lent2 .ensures)) (λ c. search needs) (λ c. lent-places _ _ _ (c .before .before .before .lent3 .ensures)) read-into-requires
+    (tie.spec returns (λ c κs. tt) (λ c κs. tt) (λ c κs. tt) (λ c. search needs)
+    (λ c. lent-places _ _ _ (c .before .before .before .lent .ensures)) (λ c. search needs)
+    (λ c. lent-places _ _ _ (c .before .before .before .lent2 .ensures)) (λ c. search needs)
+    (λ c. lent-places _ _ _ (c .before .before .before .lent3 .ensures)) read-into-requires
     (λ c. search needs) returns-2)

@@ -21,8 +21,10 @@ returns-2 c =
     let after-lent = after-turn-into .before .before .before in
     let past-if1 = after-lent .before in
     let args = past-if1 .before .before .before .args in
-    turn-lent (args .operation) (now (args .args)) (now (args .out)) _ _ (lent-length _ _ _ (after-lent .lent .ensures)) (past-if1 .if1 .left) (after-turn-into .turn-into .ensures)
+    turn-lent (args .operation) (now (args .args)) (now (args .out)) _ _ (lent-length _ _ _ (after-lent .lent .ensures))
+    (past-if1 .if1 .left) (after-turn-into .turn-into .ensures)
 
 pub turn-spec : {M : Type 1} → statement M
 turn-spec =
-    tie.close (tie.spec returns (λ c κs. tt) (λ c. search needs) (λ c. lent-places _ _ _ (c .before .lent .ensures)) turn-into-requires (λ c. search needs) returns-2)
+    tie.close (tie.spec returns (λ c κs. tt) (λ c. search needs) (λ c. lent-places _ _ _ (c .before .lent .ensures))
+    turn-into-requires (λ c. search needs) returns-2)

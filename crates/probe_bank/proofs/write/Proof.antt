@@ -27,12 +27,17 @@ returns c =
     let after-lent2 = after-lent3 .before in
     let after-lent = after-lent2 .before in
     let args = after-lent .before .before .before .args in
-    write-lent (now (args .args)) (now (args .out)) _ _ _ _ _ (lent-length _ _ _ (after-lent .lent .ensures)) (lent-length _ _ _ (after-lent2 .lent2 .ensures))
-    (lent-length _ _ _ (after-lent3 .lent3 .ensures)) (lent-length _ _ _ (after-lent4 .lent4 .ensures)) (after-write-into .write-into .ensures)
+    write-lent (now (args .args)) (now (args .out)) _ _ _ _ _ (lent-length _ _ _ (after-lent .lent .ensures))
+    (lent-length _ _ _ (after-lent2 .lent2 .ensures))
+    (lent-length _ _ _ (after-lent3 .lent3 .ensures)) (lent-length _ _ _ (after-lent4 .lent4 .ensures))
+    (after-write-into .write-into .ensures)
 
 pub write-spec : {M : Type 1} → statement M
 write-spec =
     tie.close
-    (tie.spec (λ c κs. tt) (λ c κs. tt) (λ c κs. tt) (λ c κs. tt) (λ c. search needs) (λ c. lent-places _ _ _ (c .before .before .before .before .lent .ensures)) (λ c. search needs)
-    (λ c. lent-places _ _ _ (c .before .before .before .before .lent2 .ensures)) (λ c. search needs) (λ c. lent-places _ _ _ (c .before .before .before .before .lent3 .ensures))
-    (λ c. search needs) (λ c. lent-places _ _ _ (c .before .before .before .before .lent4 .ensures)) write-into-requires (λ c. search needs) returns)
+    (tie.spec (λ c κs. tt) (λ c κs. tt) (λ c κs. tt) (λ c κs. tt) (λ c. search needs)
+    (λ c. lent-places _ _ _ (c .before .before .before .before .lent .ensures)) (λ c. search needs)
+    (λ c. lent-places _ _ _ (c .before .before .before .before .lent2 .ensures)) (λ c. search needs)
+    (λ c. lent-places _ _ _ (c .before .before .before .before .lent3 .ensures))
+    (λ c. search needs) (λ c. lent-places _ _ _ (c .before .before .before .before .lent4 .ensures)) write-into-requires
+    (λ c. search needs) returns)

@@ -10,7 +10,8 @@ returns : tie.Need-returns
 returns c =
     let start = c .before .before .before .before .before in
     let args = start .args in
-    write-misfit (now (args .args)) (now (args .azimuths)) (now (args .elevations)) (now (args .taps)) (length (now (args .file))) (now (args .out)) (c .if1 .taken)
+    write-misfit (now (args .args)) (now (args .azimuths)) (now (args .elevations)) (now (args .taps))
+    (length (now (args .file))) (now (args .out)) (c .if1 .taken)
 
 returns-2 : tie.Need-returns-2
 returns-2 c =
@@ -21,11 +22,15 @@ returns-2 c =
     let after-get-i16s = after-get-i16s2 .before .before .before in
     let past-if1 = after-get-i16s .before .before in
     let args = past-if1 .before .before .before .before .before .args in
-    write-read (now (args .args)) (now (args .azimuths)) (now (args .elevations)) (now (args .taps)) (length (now (args .file))) (now (args .out)) _ _ _ _ _ (past-if1 .if1 .left)
-    (after-get-i16s .get-i16s .ensures) (after-get-i16s2 .get-i16s2 .ensures) (after-get-f32s .get-f32s .ensures) (after-number .number .ensures) (after-write-from .write-from .ensures)
+    write-read (now (args .args)) (now (args .azimuths)) (now (args .elevations)) (now (args .taps))
+    (length (now (args .file))) (now (args .out)) _ _ _ _ _ (past-if1 .if1 .left)
+    (after-get-i16s .get-i16s .ensures) (after-get-i16s2 .get-i16s2 .ensures) (after-get-f32s .get-f32s .ensures)
+    (after-number .number .ensures) (after-write-from .write-from .ensures)
 
 pub write-into-spec : {M : Type 1} → statement M
 write-into-spec =
     tie.close
-    (tie.spec (λ c. search needs) (λ c. search needs) (λ c. search needs) (λ c. search needs) (λ c. search needs) (λ c. search needs) returns (λ c κs. tt) (λ c κs. tt) (λ c κs. tt)
-    (λ c κs. tt) (λ c κs. search needs) (λ c. search needs) (λ c. search needs) (λ c. search needs) (λ c. search needs) (λ c. search needs) returns-2)
+    (tie.spec (λ c. search needs) (λ c. search needs) (λ c. search needs) (λ c. search needs) (λ c. search needs)
+    (λ c. search needs) returns (λ c κs. tt) (λ c κs. tt) (λ c κs. tt)
+    (λ c κs. tt) (λ c κs. search needs) (λ c. search needs) (λ c. search needs) (λ c. search needs) (λ c. search needs)
+    (λ c. search needs) returns-2)

@@ -27,14 +27,19 @@ returns-2 c =
     let read = placed .before .before .before .before .before .before in
     let right = read .before .before .if1 .left in
     let a = read .before .before .before .before .before .before .args in
-    let layout = layout-read (now (a .args)) 10 _ _ _ (placed .layout .ensures) (placed .before .before .number2 .ensures) (placed .before .number3 .ensures) in
-    let weights = inside doubleAt 8 (now (a .args)) 19 (now (a .weights)) _ (read .get-f64s .ensures) (omega (arith, right)) in
-    answered (λ (r : WeightsAnswer). refusalAndDoubles (r .refusal) (r .weights) (now (a .out))) (19 + 8 * length (now (a .weights))) (now (a .args)) _ right
-    (called .compute-decoder-matrix .ensures .bits ∙ (λ i. outcome (placed .before .before .before .number .ensures i) (layout i) (weights i)))
+    let layout = layout-read (now (a .args)) 10 _ _ _ (placed .layout .ensures)
+    (placed .before .before .number2 .ensures) (placed .before .number3 .ensures) in
+    let weights = inside doubleAt 8 (now (a .args)) 19 (now (a .weights)) _ (read .get-f64s .ensures)
+    (omega (arith, right)) in
+    answered (λ (r : WeightsAnswer). refusalAndDoubles (r .refusal) (r .weights) (now (a .out)))
+    (19 + 8 * length (now (a .weights))) (now (a .args)) _ right
+    (called .compute-decoder-matrix .ensures .bits
+    ∙ (λ i. outcome (placed .before .before .before .number .ensures i) (layout i) (weights i)))
     (at-put-refusal-and-f64s .put-refusal-and-f64s .ensures)
 
 pub decoder-matrix-spec : {M : Type 1} → statement M
 decoder-matrix-spec =
     tie.close
-    (tie.spec (λ c. search needs) (λ c. search needs) returns (λ c κs. tt) (λ c κs. tt) (λ c κs. tt) (λ c κs. tt) (λ c κs. tt) (λ c κs. tt) (λ c κs. tt) (λ c. search needs)
+    (tie.spec (λ c. search needs) (λ c. search needs) returns (λ c κs. tt) (λ c κs. tt) (λ c κs. tt) (λ c κs. tt)
+    (λ c κs. tt) (λ c κs. tt) (λ c κs. tt) (λ c. search needs)
     (λ c. search needs) returns-2)

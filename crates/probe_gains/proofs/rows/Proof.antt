@@ -26,11 +26,14 @@ returns-2 c =
     let read = called .before .before .before .before .before in
     let right = read .before .before .if1 .left in
     let a = read .before .before .before .before .before .before .args in
-    let weights = inside doubleAt 8 (now (a .args)) 10 (now (a .weights)) _ (read .get-f64s .ensures) (omega (arith, right)) in
-    answered (λ (r : WeightsAnswer). refusalAndDoubles (r .refusal) (r .weights) (now (a .out))) (10 + 8 * length (now (a .weights))) (now (a .args)) _ right
+    let weights = inside doubleAt 8 (now (a .args)) 10 (now (a .weights)) _ (read .get-f64s .ensures)
+    (omega (arith, right)) in
+    answered (λ (r : WeightsAnswer). refusalAndDoubles (r .refusal) (r .weights) (now (a .out)))
+    (10 + 8 * length (now (a .weights))) (now (a .args)) _ right
     (called .compute-matrix .ensures ∙ (λ i. outcome (called .before .before .number .ensures i) (weights i)))
     (at-put-refusal-and-f64s .put-refusal-and-f64s .ensures)
 
 pub rows-spec : {M : Type 1} → statement M
 rows-spec =
-    tie.close (tie.spec (λ c. search needs) (λ c. search needs) returns (λ c κs. tt) (λ c κs. tt) (λ c κs. tt) (λ c κs. tt) (λ c. search needs) (λ c. search needs) returns-2)
+    tie.close (tie.spec (λ c. search needs) (λ c. search needs) returns (λ c κs. tt) (λ c κs. tt) (λ c κs. tt)
+    (λ c κs. tt) (λ c. search needs) (λ c. search needs) returns-2)

@@ -22,11 +22,14 @@ returns-2 c =
     let called = at-put-refusal-and-f64s .before .before .before .before in
     let placed = called .before .before in
     let a = placed .before .before .before .before .before .before .args in
-    let layout = layout-read (now (a .args)) 0 _ _ _ (placed .layout .ensures) (placed .before .before .number .ensures) (placed .before .number2 .ensures) in
-    answered (λ (r : SurroundGains). refusalAndDoubles (r .refusal) (r .gains) (now (a .out))) 17 (now (a .args)) _ (called .before .before .before .before .before .if1 .left)
+    let layout = layout-read (now (a .args)) 0 _ _ _ (placed .layout .ensures) (placed .before .before .number .ensures)
+    (placed .before .number2 .ensures) in
+    answered (λ (r : SurroundGains). refusalAndDoubles (r .refusal) (r .gains) (now (a .out))) 17 (now (a .args)) _
+    (called .before .before .before .before .before .if1 .left)
     (called .calculate-vbap-gains .ensures .bits ∙ (λ i. outcome (layout i) (called .before .get-f64 .ensures i)))
     (at-put-refusal-and-f64s .put-refusal-and-f64s .ensures)
 
 pub surround-spec : {M : Type 1} → statement M
 surround-spec =
-    tie.close (tie.spec returns (λ c κs. tt) (λ c κs. tt) (λ c κs. tt) (λ c κs. tt) (λ c κs. tt) (λ c. search needs) (λ c κs. tt) (λ c. search needs) returns-2)
+    tie.close (tie.spec returns (λ c κs. tt) (λ c κs. tt) (λ c κs. tt) (λ c κs. tt) (λ c κs. tt) (λ c. search needs)
+    (λ c κs. tt) (λ c. search needs) returns-2)

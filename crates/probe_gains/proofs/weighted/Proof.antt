@@ -20,10 +20,13 @@ returns-2 c =
     let at-put-refusal-and-f64s = c .before .before in
     let called = at-put-refusal-and-f64s .before .before .before .before in
     let a = called .before .before .before .before .before .before .args in
-    answered (λ (r : Weighted). refusalAndDoubles (r .refusal) (r .weights) (now (a .out))) 24 (now (a .args)) _ (called .before .before .before .if1 .left)
-    (called .compute-sh-coefficients-max-re .ensures .bits ∙ (λ i. outcome (called .before .before .number .ensures i) (called .before .direction .ensures i)))
+    answered (λ (r : Weighted). refusalAndDoubles (r .refusal) (r .weights) (now (a .out))) 24 (now (a .args)) _
+    (called .before .before .before .if1 .left)
+    (called .compute-sh-coefficients-max-re .ensures .bits
+    ∙ (λ i. outcome (called .before .before .number .ensures i) (called .before .direction .ensures i)))
     (at-put-refusal-and-f64s .put-refusal-and-f64s .ensures)
 
 pub weighted-spec : {M : Type 1} → statement M
 weighted-spec =
-    tie.close (tie.spec returns (λ c κs. tt) (λ c κs. tt) (λ c κs. tt) (λ c. search needs) (λ c κs. tt) (λ c. search needs) returns-2)
+    tie.close (tie.spec returns (λ c κs. tt) (λ c κs. tt) (λ c κs. tt) (λ c. search needs) (λ c κs. tt)
+    (λ c. search needs) returns-2)

@@ -30,8 +30,10 @@ returns-3 c =
 
 returns-4 : tie.Need-returns-4
 unfolding answerOf
-returns-4 c = let others = c .match .rest in sym (rw (ne-eqb _ _ (others .0 .0 .1), ne-eqb _ _ (others .0 .1), ne-eqb _ _ (others .1)))
+returns-4 c = let others = c .match .rest in
+    sym (rw (ne-eqb _ _ (others .0 .0 .1), ne-eqb _ _ (others .0 .1), ne-eqb _ _ (others .1)))
 
 pub answer-spec : {M : Type 1} → statement M
 answer-spec =
-    tie.close (tie.spec (λ c κs. tt) (λ c κs. tt) (λ c κs. tt) (λ c. search needs) returns (λ c. search needs) returns-2 (λ c. search needs) returns-3 returns-4)
+    tie.close (tie.spec (λ c κs. tt) (λ c κs. tt) (λ c κs. tt) (λ c. search needs) returns (λ c. search needs) returns-2
+    (λ c. search needs) returns-3 returns-4)

@@ -17,10 +17,12 @@ returns c =
     let after-convolve-lent = c .before .before .before .before in
     let asked = after-convolve-lent .before .before .before .before in
     let args = asked .before .before .before .before .args in
-    both-lent (now (args .args)) (now (args .out)) _ _ _ (lent-length _ _ _ (asked .before .lent .ensures)) (lent-length _ _ _ (asked .lent2 .ensures)) (after-convolve-lent .convolve-lent .ensures)
+    both-lent (now (args .args)) (now (args .out)) _ _ _ (lent-length _ _ _ (asked .before .lent .ensures))
+    (lent-length _ _ _ (asked .lent2 .ensures)) (after-convolve-lent .convolve-lent .ensures)
 
 pub convolve-spec : {M : Type 1} → statement M
 convolve-spec =
     tie.close
-    (tie.spec (λ c κs. tt) (λ c κs. tt) (λ c. search needs) slice-aggregate-convolve-lent (λ c. search needs) slice-aggregate-convolve-lent-2 (λ c κs. tt) (λ c. search needs)
+    (tie.spec (λ c κs. tt) (λ c κs. tt) (λ c. search needs) slice-aggregate-convolve-lent (λ c. search needs)
+    slice-aggregate-convolve-lent-2 (λ c κs. tt) (λ c. search needs)
     returns)

@@ -13,7 +13,8 @@ returns c =
     let start = after-number .before .before in
     let a = start .args in
     let long = start .good .0 .1 in
-    let second = place-number (now (a .args)) (omega arith) (a .at + 8) 8 (omega arith) (omega arith) (after-behind .behind .ensures) (c .number2 .ensures) in
+    let second = place-number (now (a .args)) (omega arith) (a .at + 8) 8 (omega arith) (omega arith)
+    (after-behind .behind .ensures) (c .number2 .ensures) in
     λ i. record { position = after-number .number .ensures i; «to_go» = second i }
 
 pub desk-spec : {M : Type 1} → statement M

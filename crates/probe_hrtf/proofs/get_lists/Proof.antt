@@ -22,12 +22,16 @@ returns c =
     let start = after-behind .before .before .before .before .before .before .before in
     let a = start .args in
     let long = start .good .0 .1 in
-    lists-got (now (a .args)) (a .at) (listed (now (a .inputs)) (now (a .weights)) (now (a .taps)) (now (a .rings)) (now (a .ears))) (omega arith)
-    (after-behind .behind .ensures) (after-behind2 .behind2 .ensures) (after-behind3 .behind3 .ensures) (after-behind4 .behind4 .ensures) (after-behind5 .behind5 .ensures)
-    (after-get-f32s .get-f32s .ensures) (after-get-f64s .get-f64s .ensures) (after-get-f32s2 .get-f32s2 .ensures) (after-get-f32s3 .get-f32s3 .ensures) (after-get-f32s4 .get-f32s4 .ensures)
+    lists-got (now (a .args)) (a .at)
+    (listed (now (a .inputs)) (now (a .weights)) (now (a .taps)) (now (a .rings)) (now (a .ears))) (omega arith)
+    (after-behind .behind .ensures) (after-behind2 .behind2 .ensures) (after-behind3 .behind3 .ensures)
+    (after-behind4 .behind4 .ensures) (after-behind5 .behind5 .ensures)
+    (after-get-f32s .get-f32s .ensures) (after-get-f64s .get-f64s .ensures) (after-get-f32s2 .get-f32s2 .ensures)
+    (after-get-f32s3 .get-f32s3 .ensures) (after-get-f32s4 .get-f32s4 .ensures)
 
 pub get-lists-spec : {M : Type 1} → statement M
 get-lists-spec =
     tie.close
-    (tie.spec (λ c κs. tt) (λ c κs. tt) (λ c κs. tt) (λ c κs. tt) (λ c κs. tt) (λ c κs. tt) (λ c κs. tt) (λ c κs. tt) (λ c κs. tt) (λ c κs. tt) (λ c. search needs) (λ c. search needs)
+    (tie.spec (λ c κs. tt) (λ c κs. tt) (λ c κs. tt) (λ c κs. tt) (λ c κs. tt) (λ c κs. tt) (λ c κs. tt) (λ c κs. tt)
+    (λ c κs. tt) (λ c κs. tt) (λ c. search needs) (λ c. search needs)
     (λ c. search needs) (λ c. search needs) (λ c. search needs) returns)

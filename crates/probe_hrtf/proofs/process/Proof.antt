@@ -28,13 +28,17 @@ returns c =
     let asked = after-process-lent .before .before .before .before .before .before .before in
     let args = asked .before .before .before .before .before .before .before .args in
     lists-lent (now (args .args)) (now (args .out))
-    (lent-of _ _ _ _ _ _ (lent-length _ _ _ (asked .before .before .before .before .lent .ensures)) (lent-length _ _ _ (asked .before .before .before .lent2 .ensures)) (lent-length _ _ _ (asked .before .before .lent3 .ensures))
+    (lent-of _ _ _ _ _ _ (lent-length _ _ _ (asked .before .before .before .before .lent .ensures))
+    (lent-length _ _ _ (asked .before .before .before .lent2 .ensures))
+    (lent-length _ _ _ (asked .before .before .lent3 .ensures))
     (lent-length _ _ _ (asked .before .lent4 .ensures)) (lent-length _ _ _ (asked .lent5 .ensures)))
     (after-process-lent .process-lent .ensures)
 
 pub process-spec : {M : Type 1} → statement M
 process-spec =
     tie.close
-    (tie.spec (λ c κs. tt) (λ c κs. tt) (λ c κs. tt) (λ c κs. tt) (λ c κs. tt) (λ c. search needs) slice-aggregate-process-lent (λ c. search needs) slice-aggregate-process-lent-2
-    (λ c. search needs) slice-aggregate-process-lent-3 (λ c. search needs) slice-aggregate-process-lent-4 (λ c. search needs) slice-aggregate-process-lent-5 (λ c κs. tt)
+    (tie.spec (λ c κs. tt) (λ c κs. tt) (λ c κs. tt) (λ c κs. tt) (λ c κs. tt) (λ c. search needs)
+    slice-aggregate-process-lent (λ c. search needs) slice-aggregate-process-lent-2
+    (λ c. search needs) slice-aggregate-process-lent-3 (λ c. search needs) slice-aggregate-process-lent-4
+    (λ c. search needs) slice-aggregate-process-lent-5 (λ c κs. tt)
     (λ c. search needs) returns)

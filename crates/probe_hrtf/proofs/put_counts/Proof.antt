@@ -13,8 +13,11 @@ returns c =
     let after-put2 = after-put3 .before .before .before .before in
     let after-put = after-put2 .before .before .before .before in
     let played = after-put .before .before .before .before .args .played in
-    parts-behind (λ (d : Draft). thenDesk d (played .desk)) (behind _ (behind _ (after-put .put .ensures) (after-put2 .put2 .ensures)) (after-put3 .put3 .ensures)) (at-put-desk .put-desk .ensures)
+    parts-behind (λ (d : Draft). thenDesk d (played .desk))
+    (behind _ (behind _ (after-put .put .ensures) (after-put2 .put2 .ensures)) (after-put3 .put3 .ensures))
+    (at-put-desk .put-desk .ensures)
 
 pub put-counts-spec : {M : Type 1} → statement M
 put-counts-spec =
-    tie.close (tie.spec (λ c. search needs) (λ c κs. tt) (λ c κs. tt) (λ c κs. tt) (λ c κs. tt) (λ c. search needs) returns)
+    tie.close (tie.spec (λ c. search needs) (λ c κs. tt) (λ c κs. tt) (λ c κs. tt) (λ c κs. tt) (λ c. search needs)
+    returns)

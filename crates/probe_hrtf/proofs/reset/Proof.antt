@@ -14,8 +14,10 @@ returns c =
     let at-reset-lent = c .before .before .before in
     let asked = at-reset-lent .before .before .before in
     let args = asked .before .before .before .args in
-    cells-lent (now (args .args)) (now (args .out)) _ _ (lent-length _ _ _ (asked .lent .ensures)) (at-reset-lent .reset-lent .ensures)
+    cells-lent (now (args .args)) (now (args .out)) _ _ (lent-length _ _ _ (asked .lent .ensures))
+    (at-reset-lent .reset-lent .ensures)
 
 pub reset-spec : {M : Type 1} → statement M
 reset-spec =
-    tie.close (tie.spec (λ c κs. tt) (λ c. search needs) slice-aggregate-reset-lent (λ c κs. tt) (λ c. search needs) returns)
+    tie.close (tie.spec (λ c κs. tt) (λ c. search needs) slice-aggregate-reset-lent (λ c κs. tt) (λ c. search needs)
+    returns)

@@ -6,7 +6,12 @@ returns : tie.Need-returns
 returns c =
     let at-number2 = c .before .before in
     let at-number = at-number2 .before in
-    λ i. record { channels = at-number .number .ensures i; speakers = at-number2 .number2 .ensures i; rows = c .before .number3 .ensures i; length = c .number4 .ensures i }
+    λ i. record {
+      channels = at-number .number .ensures i;
+      speakers = at-number2 .number2 .ensures i;
+      rows = c .before .number3 .ensures i;
+      length = c .number4 .ensures i;
+    }
 
 pub shape-spec : {M : Type 1} → statement M
 shape-spec =

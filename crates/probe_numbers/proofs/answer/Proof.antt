@@ -33,13 +33,16 @@ returns-4 : tie.Need-returns-4
 returns-4 c = c .before .before .sine-or-cosine .ensures ∙ either _ _ _ (omega arith) (omega arith)
 
 returns-5 : tie.Need-returns-5
-returns-5 c = let others = c .before .match .rest in not-chosen _ _ _ (others .0 .0 .1) (others .0 .1) (others .1) (λ e. omega arith) (λ e. omega arith)
+returns-5 c = let others = c .before .match .rest in not-chosen _ _ _ (others .0 .0 .1) (others .0 .1) (others .1)
+    (λ e. omega arith) (λ e. omega arith)
 
 returns-6 : tie.Need-returns-6
-returns-6 c = let others = c .before .before .match .rest in not-chosen _ _ _ (others .0 .0 .1) (others .0 .1) (others .1) (λ e. omega arith) (λ e. omega arith)
+returns-6 c = let others = c .before .before .match .rest in not-chosen _ _ _ (others .0 .0 .1) (others .0 .1)
+    (others .1) (λ e. omega arith) (λ e. omega arith)
 
 pub answer-spec : {M : Type 1} → statement M
 answer-spec =
     tie.close
-    (tie.spec (λ c κs. tt) (λ c κs. tt) (λ c κs. tt) (λ c κs. tt) (λ c. search needs) returns (λ c. search needs) returns-2 (λ c. search needs) returns-3 (λ c. search needs)
+    (tie.spec (λ c κs. tt) (λ c κs. tt) (λ c κs. tt) (λ c κs. tt) (λ c. search needs) returns (λ c. search needs)
+    returns-2 (λ c. search needs) returns-3 (λ c. search needs)
     returns-4 returns-5 returns-6)

@@ -22,10 +22,12 @@ returns-2 c =
     let at-put-f32s = c .before .before in
     let called = at-put-f32s .before .before .before in
     let a = called .before .before .before .before .before .args in
-    answered (λ (x : Float). none (now (a .out)) then floatBytes (x ∷ [])) 8 (now (a .args)) _ (called .before .before .if1 .left)
+    answered (λ (x : Float). none (now (a .out)) then floatBytes (x ∷ [])) 8 (now (a .args)) _
+    (called .before .before .if1 .left)
     (called .narrow .ensures .bits ∙ ap narrowed (called .before .get-f64 .ensures))
     (at-put-f32s .put-f32s .ensures)
 
 pub narrow-spec : {M : Type 1} → statement M
 narrow-spec =
-    tie.close (tie.spec returns (λ c κs. tt) (λ c κs. tt) (λ c. search needs) (λ c κs. tt) (λ c. search needs) returns-2)
+    tie.close (tie.spec returns (λ c κs. tt) (λ c κs. tt) (λ c. search needs) (λ c κs. tt) (λ c. search needs)
+    returns-2)

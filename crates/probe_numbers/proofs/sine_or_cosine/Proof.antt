@@ -21,10 +21,12 @@ returns-2 c =
     let at-put-refusal-and-f64s = c .before .before in
     let called = at-put-refusal-and-f64s .before .before .before in
     let a = called .before .before .before .before .before .args in
-    answered (λ (r : Answer). refusalAndDoubles (r .refusal) (r .value ∷ []) (now (a .out))) 8 (now (a .args)) _ (called .before .before .if1 .left)
+    answered (λ (r : Answer). refusalAndDoubles (r .refusal) (r .value ∷ []) (now (a .out))) 8 (now (a .args)) _
+    (called .before .before .if1 .left)
     (called .wave .ensures ∙ ap (outcome (waveOf (a .operation))) (called .before .get-f64 .ensures))
     (at-put-refusal-and-f64s .put-refusal-and-f64s .ensures)
 
 pub sine-or-cosine-spec : {M : Type 1} → statement M
 sine-or-cosine-spec =
-    tie.close (tie.spec returns (λ c κs. tt) (λ c κs. tt) (λ c. search needs) (λ c κs. tt) (λ c. search needs) returns-2)
+    tie.close (tie.spec returns (λ c κs. tt) (λ c κs. tt) (λ c. search needs) (λ c κs. tt) (λ c. search needs)
+    returns-2)

@@ -21,10 +21,12 @@ returns-2 c =
     let at-put-f64s = c .before .before in
     let called = at-put-f64s .before .before .before in
     let a = called .before .before .before .before .before .args in
-    answered (λ (x : Float). none (now (a .out)) then doubleBytes (x ∷ [])) 4 (now (a .args)) _ (called .before .before .if1 .left)
+    answered (λ (x : Float). none (now (a .out)) then doubleBytes (x ∷ [])) 4 (now (a .args)) _
+    (called .before .before .if1 .left)
     (called .widen .ensures .bits ∙ called .before .get-f32 .ensures)
     (at-put-f64s .put-f64s .ensures)
 
 pub widen-spec : {M : Type 1} → statement M
 widen-spec =
-    tie.close (tie.spec returns (λ c κs. tt) (λ c κs. tt) (λ c. search needs) (λ c κs. tt) (λ c. search needs) returns-2)
+    tie.close (tie.spec returns (λ c κs. tt) (λ c κs. tt) (λ c. search needs) (λ c κs. tt) (λ c. search needs)
+    returns-2)

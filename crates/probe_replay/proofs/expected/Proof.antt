@@ -12,7 +12,8 @@ returns c = sym (rw (eq-eqb _ _ (sym (c .before .number .ensures) ∙ c .if1 .ta
 returns-2 : tie.Need-returns-2
 returns-2 c =
     let past-if1 = c .before in
-    ap Stamp (c .get .ensures .bits) ∙ sym (rw (ne-eqb _ _ (λ e. past-if1 .if1 .left (past-if1 .before .number .ensures ∙ e))))
+    ap Stamp (c .get .ensures .bits)
+    ∙ sym (rw (ne-eqb _ _ (λ e. past-if1 .if1 .left (past-if1 .before .number .ensures ∙ e))))
 
 pub expected-spec : {M : Type 1} → statement M
 expected-spec =

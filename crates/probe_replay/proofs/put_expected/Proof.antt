@@ -1,4 +1,5 @@
--- `probe_replay::put_expected` meets its contract: each arm knows which it is, and puts one part behind the other. Assumes nothing.
+-- `probe_replay::put_expected` meets its contract: each arm knows which it is, and puts one part behind the other.
+-- Assumes nothing.
 use denote.Ref.{now}
 use mathlib.Core.Path.{sym, ap, _∙_}
 use Rattle.probe_answer.specs.Answers.{draft}
@@ -14,7 +15,8 @@ returns c =
     let after-put = after-put2 .before .before .before .before in
     let told = after-put .before .before in
     let a = told .before .before .before .args in
-    behind _ (after-put .put .ensures) (after-put2 .put2 .ensures) ∙ sym (ap (thenExpected (draft (a .at) (now (a .out)))) (told .enum-told .given .1))
+    behind _ (after-put .put .ensures) (after-put2 .put2 .ensures)
+    ∙ sym (ap (thenExpected (draft (a .at) (now (a .out)))) (told .enum-told .given .1))
 
 returns-2 : tie.Need-returns-2
 returns-2 c =
@@ -22,9 +24,11 @@ returns-2 c =
     let after-put3 = after-put4 .before .before .before .before in
     let told = after-put3 .before .before .before in
     let a = told .before .before .before .args in
-    behind _ (after-put3 .put3 .ensures) (after-put4 .put4 .ensures) ∙ sym (ap (thenExpected (draft (a .at) (now (a .out)))) (told .expected .given .1))
+    behind _ (after-put3 .put3 .ensures) (after-put4 .put4 .ensures)
+    ∙ sym (ap (thenExpected (draft (a .at) (now (a .out)))) (told .expected .given .1))
 
 pub put-expected-spec : {M : Type 1} → statement M
 put-expected-spec =
     tie.close
-    (tie.spec (λ c. search needs) (λ c κs. tt) (λ c κs. tt) (λ c. search needs) (λ c κs. tt) (λ c. search needs) (λ c κs. tt) (λ c. search needs) returns (λ c. search needs) returns-2)
+    (tie.spec (λ c. search needs) (λ c κs. tt) (λ c κs. tt) (λ c. search needs) (λ c κs. tt) (λ c. search needs)
+    (λ c κs. tt) (λ c. search needs) returns (λ c. search needs) returns-2)

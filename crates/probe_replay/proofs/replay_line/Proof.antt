@@ -14,9 +14,13 @@ returns c =
     let asked = after-replay-lent .before .before .before .before .before .before .before .before in
     let args = asked .before .before .before .before .before .before .before .before .args in
     let five =
-    lent-of _ _ _ _ _ _ (lent-length _ _ _ (asked .before .before .before .before .before .lent .ensures)) (lent-length _ _ _ (asked .before .before .before .before .lent2 .ensures))
-    (lent-length _ _ _ (asked .before .before .before .lent3 .ensures)) (lent-length _ _ _ (asked .before .before .lent4 .ensures)) (lent-length _ _ _ (asked .before .lent5 .ensures)) in
-    lists-lent (now (args .args)) (now (args .out)) five (lent-length _ _ _ (asked .lent6 .ensures)) (after-replay-lent .replay-lent .ensures)
+    lent-of _ _ _ _ _ _ (lent-length _ _ _ (asked .before .before .before .before .before .lent .ensures))
+    (lent-length _ _ _ (asked .before .before .before .before .lent2 .ensures))
+    (lent-length _ _ _ (asked .before .before .before .lent3 .ensures))
+    (lent-length _ _ _ (asked .before .before .lent4 .ensures))
+    (lent-length _ _ _ (asked .before .lent5 .ensures)) in
+    lists-lent (now (args .args)) (now (args .out)) five (lent-length _ _ _ (asked .lent6 .ensures))
+    (after-replay-lent .replay-lent .ensures)
 
 pub replay-line-spec : {M : Type 1} → statement M
 replay-line-spec =

@@ -1,4 +1,5 @@
--- `probe_request::behind` meets its contract: past the test of the room neither the product nor the sum passes the arguments. Assumes nothing.
+-- `probe_request::behind` meets its contract: past the test of the room neither the product nor the sum passes the
+-- arguments. Assumes nothing.
 use mathlib.Core.Path.{sym, _∙_}
 use Prim.Native.Nat.{_+_, _*_, _≤_}
 use native.Mathlib.Omega.{arith}
@@ -9,7 +10,8 @@ use Rattle.probe_request.proofs.Requests.{place-there, place-beyond}
 use Rattle.probe_request.proofs.behind.Statement.{statement}
 use Rattle.probe_request.proofs.behind.Tie as tie
 
-inside : (c : tie.Else1) → let a = c .before .before .before .args in a .at + a .width * a .count ≤ length (a .args .now)
+inside : (c : tie.Else1) → let a = c .before .before .before .args in a .at + a .width * a .count ≤ length
+    (a .args .now)
 inside c = leb-true _ _ (sym (c .before .has-room .ensures) ∙ not-false _ (c .if1 .left))
 
 returns : tie.Need-returns
@@ -21,4 +23,5 @@ returns c =
 
 pub behind-spec : {M : Type 1} → statement M
 behind-spec =
-    tie.close (tie.spec (λ c κs. tt) returns (λ c. omega (arith, inside c)) (λ c. omega (arith, inside c)) (λ c. sym (place-there _ _ (inside c))))
+    tie.close (tie.spec (λ c κs. tt) returns (λ c. omega (arith, inside c)) (λ c. omega (arith, inside c))
+    (λ c. sym (place-there _ _ (inside c))))

@@ -14,11 +14,13 @@ Inv-loop args at list₀ i₀ list i = Got wordAt 4 args at list₀ list i
 abbrev μ-loop : tie.MeasureT-loop
 μ-loop args at list₀ i₀ list i = length list₀ - i
 
-kept : (c : tie.At-loop Inv-loop μ-loop) → length (c .loop .list) ≡ length (c .before .before .before .before .before .args .list .now)
+kept : (c : tie.At-loop Inv-loop μ-loop) → length (c .loop .list)
+    ≡ length (c .before .before .before .before .before .args .list .now)
 kept c = get-kept _ _ _ _ _ _ _ (c .loop .inv)
 
 loop-again : tie.Need-loop-again Inv-loop μ-loop
-loop-again c = let turn = c .before .before .loop in get-more _ _ _ _ _ (turn .list) (turn .i) _ (turn .inv) (c .before .loop-test .taken) (c .get .ensures .bits)
+loop-again c = let turn = c .before .before .loop in get-more _ _ _ _ _ (turn .list) (turn .i) _ (turn .inv)
+    (c .before .loop-test .taken) (c .get .ensures .bits)
 
 -- what the loop's places and counts take, and that four bytes fit, is arithmetic
 pub get-u32s-spec : {M : Type 1} → statement M
@@ -27,7 +29,9 @@ get-u32s-spec =
     (tie.spec Inv-loop μ-loop (λ c κs. tt)
     (λ c. get-none _ _ _ _ _ (c .before .has-room .ensures) (c .if1 .taken))
     (λ c. get-first _ _ _ _ _ (c .before .has-room .ensures) (c .if1 .left))
-    (λ c. omega (arith, kept (c .before))) (λ c. omega (arith, kept (c .before))) (λ c κs. tt) (λ c. omega (arith, c .get .ensures .bound)) (λ c. omega (arith, kept (c .before .before)))
+    (λ c. omega (arith, kept (c .before))) (λ c. omega (arith, kept (c .before))) (λ c κs. tt)
+    (λ c. omega (arith, c .get .ensures .bound)) (λ c. omega (arith, kept (c .before .before)))
     (λ c. c .before .loop-test .taken)
-    (λ c. omega (arith, kept (c .before .before))) (λ c. omega (arith, kept (c .before .before))) loop-again (λ c. kept (c .before))
+    (λ c. omega (arith, kept (c .before .before))) (λ c. omega (arith, kept (c .before .before))) loop-again
+    (λ c. kept (c .before))
     (λ c. get-all _ _ _ _ _ _ _ (c .before .loop .inv) (c .loop-test .left)))

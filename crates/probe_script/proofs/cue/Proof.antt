@@ -10,7 +10,8 @@ returns c =
     let at-number = c .before .before in
     let start = at-number .before .before in
     let a = start .args in
-    cue-read (now (a .args)) (a .at) _ _ _ (at-number .number .ensures) (c .before .get-f64 .ensures) (c .get-f642 .ensures)
+    cue-read (now (a .args)) (a .at) _ _ _ (at-number .number .ensures) (c .before .get-f64 .ensures)
+    (c .get-f642 .ensures)
 
 pub cue-spec : {M : Type 1} → statement M
 cue-spec =

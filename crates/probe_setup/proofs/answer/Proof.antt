@@ -24,4 +24,5 @@ returns-3 c = sym (rw (ne-eqb _ _ (c .match .rest .0 .1), ne-eqb _ _ (c .match .
 
 pub answer-spec : {M : Type 1} → statement M
 answer-spec =
-    tie.close (tie.spec (λ c κs. search needs) (λ c κs. search needs) (λ c. search needs) returns (λ c. search needs) returns-2 returns-3)
+    tie.close (tie.spec (λ c κs. search needs) (λ c κs. search needs) (λ c. search needs) returns (λ c. search needs)
+    returns-2 returns-3)

@@ -15,7 +15,8 @@ returns c =
     let after-number = past-if1 .before in
     let a = after-number .before .before .before .args in
     as-wanted (a .operation) (now (a .args)) _ _ _ _ _ _ _ (at-new-surround .new-surround .ensures .bits)
-    (of-layout (a .operation) (now (a .args)) _ _ _ (past-if1 .if1 .taken) (after-layout .layout .ensures) (after-number2 .number2 .ensures) (after-number3 .number3 .ensures))
+    (of-layout (a .operation) (now (a .args)) _ _ _ (past-if1 .if1 .taken) (after-layout .layout .ensures)
+    (after-number2 .number2 .ensures) (after-number3 .number3 .ensures))
     (after-number .number .ensures)
 
 returns-2 : tie.Need-returns-2
@@ -26,8 +27,10 @@ returns-2 c =
     let after-number = past-if1 .before in
     let a = after-number .before .before .before .args in
     as-wanted (a .operation) (now (a .args)) _ _ _ _ _ _ _ (at-new-ambisonic .new-ambisonic .ensures .bits)
-    (of-order (a .operation) (now (a .args)) _ (past-if1 .if1 .left) (after-number4 .number4 .ensures)) (after-number .number .ensures)
+    (of-order (a .operation) (now (a .args)) _ (past-if1 .if1 .left) (after-number4 .number4 .ensures))
+    (after-number .number .ensures)
 
 pub arrange-spec : {M : Type 1} → statement M
 arrange-spec =
-    tie.close (tie.spec (λ c κs. tt) (λ c κs. tt) (λ c κs. tt) (λ c κs. tt) (λ c κs. tt) (λ c. search needs) returns (λ c κs. tt) (λ c κs. tt) (λ c. search needs) returns-2)
+    tie.close (tie.spec (λ c κs. tt) (λ c κs. tt) (λ c κs. tt) (λ c κs. tt) (λ c κs. tt) (λ c. search needs) returns
+    (λ c κs. tt) (λ c κs. tt) (λ c. search needs) returns-2)

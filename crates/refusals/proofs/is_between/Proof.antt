@@ -15,7 +15,8 @@ returns-2 : tie.Need-returns-2
 returns-2 c =
     let a = c .before .args in
     let fit = c .before .fits in
-    rw (toZ-ofZ (fit .z), toZ-ofZ (fit .high)) (sym (between-from (a .low) (a .high) (a .z) (rw (toZ-ofZ (fit .z), toZ-ofZ (fit .low)) at (c .if1 .left))))
+    rw (toZ-ofZ (fit .z), toZ-ofZ (fit .high))
+    (sym (between-from (a .low) (a .high) (a .z) (rw (toZ-ofZ (fit .z), toZ-ofZ (fit .low)) at (c .if1 .left))))
 
 pub is-between-spec : {M : Type 1} → statement M
 is-between-spec = tie.close (tie.spec returns returns-2)

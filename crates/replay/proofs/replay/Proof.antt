@@ -1,4 +1,5 @@
--- `replay::replay` meets its contract, which is that of `replay_in`: the block has as many places as its planes take. Assumes nothing.
+-- `replay::replay` meets its contract, which is that of `replay_in`: the block has as many places as its planes take.
+-- Assumes nothing.
 use mathlib.Core.Path.{sym, _∙_}
 use Prim.Native.Nat.{ℕ}
 use native.Mathlib.Omega.{arith}
@@ -14,19 +15,22 @@ abbrev channels : tie.After-places → ℕ
 channels c = c .before .before .before .before .before .before .before .before .args .shape .channels
 
 array-borrow-prefix-block : tie.Need-array-borrow-prefix-block
-array-borrow-prefix-block c = let asked = c .before .before in omega (arith, asked .places .ensures, places-below (channels asked))
+array-borrow-prefix-block c =
+    let asked = c .before .before in omega (arith, asked .places .ensures, places-below (channels asked))
 
 slice-aggregate-replay-in : tie.Need-slice-aggregate-replay-in
 slice-aggregate-replay-in c =
     let before-2 = c .before .before .before in
-    let asked = before-2 in sym (places-lent (asked .places .result) (channels asked) (ofBits binary32 0) (asked .places .ensures))
+    let asked = before-2 in sym (places-lent (asked .places .result) (channels asked) (ofBits binary32 0)
+    (asked .places .ensures))
 
 replay-in-requires : tie.Need-replay-in-requires
 replay-in-requires c κs =
     let before-2 = c .before .before .before .before in
     let asked = before-2 in (
       (
-        places-lent (asked .places .result) (channels asked) (ofBits binary32 0) (asked .places .ensures) ∙ asked .places .ensures,
+        places-lent (asked .places .result) (channels asked) (ofBits binary32 0) (asked .places .ensures)
+            ∙ asked .places .ensures,
         length-replicate 128 (ofBits binary32 0),
       ),
       asked .before .plan-in .ensures,
@@ -38,5 +42,6 @@ returns c = c .before .before .before .before .before .before .replay-in .ensure
 pub replay-spec : {M : Type 1} → statement M
 replay-spec =
     tie.close
-    (tie.spec (λ c κs. tt) (λ c κs. tt) array-borrow-prefix-block slice-aggregate-replay-in (λ c. search needs) replay-in-requires (λ c. search needs) (λ c. search needs)
+    (tie.spec (λ c κs. tt) (λ c κs. tt) array-borrow-prefix-block slice-aggregate-replay-in (λ c. search needs)
+    replay-in-requires (λ c. search needs) (λ c. search needs)
     returns)

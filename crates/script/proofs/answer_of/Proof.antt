@@ -10,7 +10,8 @@ returns : tie.Need-returns
 returns c =
     let a = c .before .before .args in
     let r = c .before .refusal-of in
-    ap (λ n. answerOf n 0) (r .ensures) ∙ sym (answered-refused (answerOf 0 (a .frames)) (λ n. answerOf n 0) _ (λ z. c .if1 .taken (r .ensures ∙ z)))
+    ap (λ n. answerOf n 0) (r .ensures)
+    ∙ sym (answered-refused (answerOf 0 (a .frames)) (λ n. answerOf n 0) _ (λ z. c .if1 .taken (r .ensures ∙ z)))
 
 returns-2 : tie.Need-returns-2
 returns-2 c =

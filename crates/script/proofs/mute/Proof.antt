@@ -16,7 +16,8 @@ abbrev μ-loop : tie.MeasureT-loop
 μ-loop out₀ stride frame planes p₀ out p = planes - p
 
 loop-holds : tie.Need-loop-holds Inv-loop μ-loop
-loop-holds c = let a = c .before .args in sampling-none (now (a .out)) (a .stride) (a .frame) (a .planes) (λ k. zero-float)
+loop-holds c =
+    let a = c .before .args in sampling-none (now (a .out)) (a .stride) (a .frame) (a .planes) (λ k. zero-float)
 
 loop-again : tie.Need-loop-again Inv-loop μ-loop
 unfolding ofBits ofInt
@@ -27,7 +28,8 @@ loop-again c =
     let start = at-loop .before .before in
     let a = start .args in
     let at = at-loop .loop in
-    sampling-more (now (a .out)) (a .stride) (a .frame) (a .planes) (λ k. zero-float) (at .out) (at .p) (at .inv) _ (at-put-sample .put-sample .last .0)
+    sampling-more (now (a .out)) (a .stride) (a .frame) (a .planes) (λ k. zero-float) (at .out) (at .p) (at .inv) _
+    (at-put-sample .put-sample .last .0)
     (at-loop-test .loop-test .taken) refl (at-put-sample .put-sample .ensures)
 
 returns : tie.Need-returns Inv-loop μ-loop
@@ -35,7 +37,8 @@ returns c =
     let start = c .before .before .before in
     let a = start .args in
     let at = c .before .loop in
-    sampling-all (now (a .out)) (a .stride) (a .frame) (a .planes) (λ k. zero-float) (at .out) (at .p) (at .inv) (c .loop-test .left)
+    sampling-all (now (a .out)) (a .stride) (a .frame) (a .planes) (λ k. zero-float) (at .out) (at .p) (at .inv)
+    (c .loop-test .left)
 
 pub mute-spec : {M : Type 1} → statement M
 mute-spec =

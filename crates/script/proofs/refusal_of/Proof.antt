@@ -1,7 +1,8 @@
 -- `script::refusal_of` meets its contract: `Answers`. Assumes nothing.
 use native.Mathlib.Omega.{arith}
 use borrow.Author.Needs.{needs}
-use Rattle.script.proofs.Meets.{by-order, by-direction, by-length, by-end, by-frames, by-rising, by-count, by-none}
+use Rattle.script.proofs.Meets.{by-order, by-direction, by-length, by-end, by-frames, by-rising, by-count}
+use Rattle.script.proofs.Meets.{by-none}
 use Rattle.script.proofs.refusal_of.Statement.{statement}
 use Rattle.script.proofs.refusal_of.Tie as tie
 
@@ -11,7 +12,8 @@ returns c =
     let start = at-ambisonic-channel-count .before in
     let a = start .args in
     let k = at-ambisonic-channel-count .ambisonic-channel-count in
-    by-order (record { order = a .order; first = a .first; frames = a .frames; stride = a .stride }) (a .judged) (a .inputs) (a .outs) (k .result) (k .ensures) (c .if1 .taken)
+    by-order (record { order = a .order; first = a .first; frames = a .frames; stride = a .stride }) (a .judged)
+    (a .inputs) (a .outs) (k .result) (k .ensures) (c .if1 .taken)
 
 returns-2 : tie.Need-returns-2
 returns-2 c =
@@ -20,7 +22,8 @@ returns-2 c =
     let start = at-ambisonic-channel-count .before in
     let a = start .args in
     let k = at-ambisonic-channel-count .ambisonic-channel-count in
-    by-direction (record { order = a .order; first = a .first; frames = a .frames; stride = a .stride }) (a .judged) (a .inputs) (a .outs) (k .result) (k .ensures) (at-if1 .if1 .left) (c .if2 .taken)
+    by-direction (record { order = a .order; first = a .first; frames = a .frames; stride = a .stride }) (a .judged)
+    (a .inputs) (a .outs) (k .result) (k .ensures) (at-if1 .if1 .left) (c .if2 .taken)
 
 returns-3 : tie.Need-returns-3
 returns-3 c =
@@ -31,7 +34,9 @@ returns-3 c =
     let start = at-ambisonic-channel-count .before in
     let a = start .args in
     let k = at-ambisonic-channel-count .ambisonic-channel-count in
-    by-length (record { order = a .order; first = a .first; frames = a .frames; stride = a .stride }) (a .judged) (a .inputs) (a .outs) (k .result) (k .ensures) (at-if1 .if1 .left) (at-if2 .if2 .left) (at-is-block-unfit .is-block-unfit .result) (at-is-block-unfit .is-block-unfit .ensures) (c .if3 .taken)
+    by-length (record { order = a .order; first = a .first; frames = a .frames; stride = a .stride }) (a .judged)
+    (a .inputs) (a .outs) (k .result) (k .ensures) (at-if1 .if1 .left) (at-if2 .if2 .left)
+    (at-is-block-unfit .is-block-unfit .result) (at-is-block-unfit .is-block-unfit .ensures) (c .if3 .taken)
 
 returns-4 : tie.Need-returns-4
 returns-4 c =
@@ -44,7 +49,11 @@ returns-4 c =
     let start = at-ambisonic-channel-count .before in
     let a = start .args in
     let k = at-ambisonic-channel-count .ambisonic-channel-count in
-    by-end (record { order = a .order; first = a .first; frames = a .frames; stride = a .stride }) (a .judged) (a .inputs) (a .outs) (k .result) (k .ensures) (at-if1 .if1 .left) (at-if2 .if2 .left) (at-is-block-unfit .is-block-unfit .result) (at-is-block-unfit .is-block-unfit .ensures) (at-if3 .if3 .left) (at-runs-past .runs-past .result) (at-runs-past .runs-past .ensures) (c .if4 .taken)
+    by-end (record { order = a .order; first = a .first; frames = a .frames; stride = a .stride }) (a .judged)
+    (a .inputs) (a .outs) (k .result) (k .ensures) (at-if1 .if1 .left) (at-if2 .if2 .left)
+    (at-is-block-unfit .is-block-unfit .result) (at-is-block-unfit .is-block-unfit .ensures)
+    (at-if3 .if3 .left) (at-runs-past .runs-past .result) (at-runs-past .runs-past .ensures)
+    (c .if4 .taken)
 
 returns-5 : tie.Need-returns-5
 returns-5 c =
@@ -57,7 +66,11 @@ returns-5 c =
     let start = at-ambisonic-channel-count .before in
     let a = start .args in
     let k = at-ambisonic-channel-count .ambisonic-channel-count in
-    by-frames (record { order = a .order; first = a .first; frames = a .frames; stride = a .stride }) (a .judged) (a .inputs) (a .outs) (k .result) (k .ensures) (at-if1 .if1 .left) (at-if2 .if2 .left) (at-is-block-unfit .is-block-unfit .result) (at-is-block-unfit .is-block-unfit .ensures) (at-if3 .if3 .left) (at-runs-past .runs-past .result) (at-runs-past .runs-past .ensures) (c .before .if4 .left) (omega (arith, c .if5 .taken))
+    by-frames (record { order = a .order; first = a .first; frames = a .frames; stride = a .stride }) (a .judged)
+    (a .inputs) (a .outs) (k .result) (k .ensures) (at-if1 .if1 .left) (at-if2 .if2 .left)
+    (at-is-block-unfit .is-block-unfit .result) (at-is-block-unfit .is-block-unfit .ensures)
+    (at-if3 .if3 .left) (at-runs-past .runs-past .result) (at-runs-past .runs-past .ensures)
+    (c .before .if4 .left) (omega (arith, c .if5 .taken))
 
 returns-6 : tie.Need-returns-6
 returns-6 c =
@@ -72,7 +85,11 @@ returns-6 c =
     let start = at-ambisonic-channel-count .before in
     let a = start .args in
     let k = at-ambisonic-channel-count .ambisonic-channel-count in
-    by-rising (record { order = a .order; first = a .first; frames = a .frames; stride = a .stride }) (a .judged) (a .inputs) (a .outs) (k .result) (k .ensures) (at-if1 .if1 .left) (at-if2 .if2 .left) (at-is-block-unfit .is-block-unfit .result) (at-is-block-unfit .is-block-unfit .ensures) (at-if3 .if3 .left) (at-runs-past .runs-past .result) (at-runs-past .runs-past .ensures) (at-if4 .if4 .left) (omega (arith, at-if5 .if5 .left)) (c .if6 .taken)
+    by-rising (record { order = a .order; first = a .first; frames = a .frames; stride = a .stride }) (a .judged)
+    (a .inputs) (a .outs) (k .result) (k .ensures) (at-if1 .if1 .left) (at-if2 .if2 .left)
+    (at-is-block-unfit .is-block-unfit .result) (at-is-block-unfit .is-block-unfit .ensures)
+    (at-if3 .if3 .left) (at-runs-past .runs-past .result) (at-runs-past .runs-past .ensures)
+    (at-if4 .if4 .left) (omega (arith, at-if5 .if5 .left)) (c .if6 .taken)
 
 returns-7 : tie.Need-returns-7
 returns-7 c =
@@ -88,7 +105,12 @@ returns-7 c =
     let start = at-ambisonic-channel-count .before in
     let a = start .args in
     let k = at-ambisonic-channel-count .ambisonic-channel-count in
-    by-count (record { order = a .order; first = a .first; frames = a .frames; stride = a .stride }) (a .judged) (a .inputs) (a .outs) (k .result) (k .ensures) (at-if1 .if1 .left) (at-if2 .if2 .left) (at-is-block-unfit .is-block-unfit .result) (at-is-block-unfit .is-block-unfit .ensures) (at-if3 .if3 .left) (at-runs-past .runs-past .result) (at-runs-past .runs-past .ensures) (at-if4 .if4 .left) (omega (arith, at-if5 .if5 .left)) (at-if6 .if6 .left) (omega (arith, c .if7 .taken))
+    by-count (record { order = a .order; first = a .first; frames = a .frames; stride = a .stride }) (a .judged)
+    (a .inputs) (a .outs) (k .result) (k .ensures) (at-if1 .if1 .left) (at-if2 .if2 .left)
+    (at-is-block-unfit .is-block-unfit .result) (at-is-block-unfit .is-block-unfit .ensures)
+    (at-if3 .if3 .left) (at-runs-past .runs-past .result) (at-runs-past .runs-past .ensures)
+    (at-if4 .if4 .left) (omega (arith, at-if5 .if5 .left)) (at-if6 .if6 .left)
+    (omega (arith, c .if7 .taken))
 
 returns-8 : tie.Need-returns-8
 returns-8 c =
@@ -104,7 +126,12 @@ returns-8 c =
     let start = at-ambisonic-channel-count .before in
     let a = start .args in
     let k = at-ambisonic-channel-count .ambisonic-channel-count in
-    by-none (record { order = a .order; first = a .first; frames = a .frames; stride = a .stride }) (a .judged) (a .inputs) (a .outs) (k .result) (k .ensures) (at-if1 .if1 .left) (at-if2 .if2 .left) (at-is-block-unfit .is-block-unfit .result) (at-is-block-unfit .is-block-unfit .ensures) (at-if3 .if3 .left) (at-runs-past .runs-past .result) (at-runs-past .runs-past .ensures) (at-if4 .if4 .left) (omega (arith, at-if5 .if5 .left)) (at-if6 .if6 .left) (omega (arith, c .if7 .left))
+    by-none (record { order = a .order; first = a .first; frames = a .frames; stride = a .stride }) (a .judged)
+    (a .inputs) (a .outs) (k .result) (k .ensures) (at-if1 .if1 .left) (at-if2 .if2 .left)
+    (at-is-block-unfit .is-block-unfit .result) (at-is-block-unfit .is-block-unfit .ensures)
+    (at-if3 .if3 .left) (at-runs-past .runs-past .result) (at-runs-past .runs-past .ensures)
+    (at-if4 .if4 .left) (omega (arith, at-if5 .if5 .left)) (at-if6 .if6 .left)
+    (omega (arith, c .if7 .left))
 
 pub refusal-of-spec : {M : Type 1} → statement M
 refusal-of-spec =

@@ -14,7 +14,8 @@ abbrev μ-loop : tie.MeasureT-loop
 μ-loop out₀ stride from to planes n₀ out n = to - n
 
 loop-holds : tie.Need-loop-holds Inv-loop μ-loop
-loop-holds c = let a = c .before .args in parting-none (now (a .out)) (a .stride) (a .from) (a .to) (λ k. silent (a .planes))
+loop-holds c =
+    let a = c .before .args in parting-none (now (a .out)) (a .stride) (a .from) (a .to) (λ k. silent (a .planes))
 
 loop-again : tie.Need-loop-again Inv-loop μ-loop
 loop-again c =
@@ -24,7 +25,8 @@ loop-again c =
     let start = at-loop .before .before in
     let a = start .args in
     let at = at-loop .loop in
-    parting-more (now (a .out)) (a .stride) (a .from) (a .to) (λ k. silent (a .planes)) (at .out) (at .n) (at .inv) (at-mute .mute .last .0)
+    parting-more (now (a .out)) (a .stride) (a .from) (a .to) (λ k. silent (a .planes)) (at .out) (at .n) (at .inv)
+    (at-mute .mute .last .0)
     (at-loop-test .loop-test .taken) (at-mute .mute .ensures)
 
 returns : tie.Need-returns Inv-loop μ-loop
@@ -32,7 +34,8 @@ returns c =
     let start = c .before .before .before in
     let a = start .args in
     let at = c .before .loop in
-    parting-all (now (a .out)) (a .stride) (a .from) (a .to) (λ k. silent (a .planes)) (at .out) (at .n) (at .inv) (c .loop-test .left)
+    parting-all (now (a .out)) (a .stride) (a .from) (a .to) (λ k. silent (a .planes)) (at .out) (at .n) (at .inv)
+    (c .loop-test .left)
 
 pub silence-spec : {M : Type 1} → statement M
 silence-spec =

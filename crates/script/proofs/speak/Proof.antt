@@ -19,8 +19,12 @@ returns c =
     let a = z .args in
     let to = at-until .until in
     let g = at-command-gains .command-gains in
-    let p = at-play-part .play-part in
-    (to .ensures, p .ensures ∙ ap (λ (fs : List (List Float)). withFrames (now (a .out)) (a .stride) (a .from) fs) (speaks-so (a .order) (a .held) (z .pre .1) (a .stride) (a .from) (to .result) (now (a .input)) (at-if1 .if1 .taken) (g .result) (g .ensures)))
+    let p = at-play-part .play-part in (
+      to .ensures,
+      p .ensures ∙ ap (λ (fs : List (List Float)). withFrames (now (a .out)) (a .stride) (a .from) fs)
+          (speaks-so (a .order) (a .held) (z .pre .1) (a .stride) (a .from) (to .result) (now (a .input))
+          (at-if1 .if1 .taken) (g .result) (g .ensures)),
+    )
 
 returns-2 : tie.Need-returns-2
 returns-2 c =
@@ -32,8 +36,12 @@ returns-2 c =
     let a = z .args in
     let to = at-until .until in
     let k = at-ambisonic-channel-count .ambisonic-channel-count in
-    let p = at-silence .silence in
-    (to .ensures, p .ensures ∙ ap (λ (fs : List (List Float)). withFrames (now (a .out)) (a .stride) (a .from) fs) (silent-so (a .order) (a .held) (z .pre .1) (a .stride) (a .from) (to .result) (now (a .input)) (at-if1 .if1 .left) (k .result) (k .ensures)))
+    let p = at-silence .silence in (
+      to .ensures,
+      p .ensures ∙ ap (λ (fs : List (List Float)). withFrames (now (a .out)) (a .stride) (a .from) fs)
+          (silent-so (a .order) (a .held) (z .pre .1) (a .stride) (a .from) (to .result) (now (a .input))
+          (at-if1 .if1 .left) (k .result) (k .ensures)),
+    )
 
 pub speak-spec : {M : Type 1} → statement M
 speak-spec =

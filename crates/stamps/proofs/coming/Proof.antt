@@ -26,7 +26,8 @@ returns-2 c =
     record {
       bits =
           c .coming-by .ensures
-          ∙ ap comingBy (difference-is _ _ _ (search needs) (search needs) (search needs) (c .before .wrapping-sub-u32 .ensures))
+          ∙ ap comingBy (difference-is _ _ _ (search needs) (search needs) (search needs)
+          (c .before .wrapping-sub-u32 .ensures))
           ∙ sym (ap (λ (x : Expected). comingOf x (at .args .stamp)) told);
       below = subst (λ (x : Expected). stampOf x < 2 ^ 32) (sym told) (search needs);
     }

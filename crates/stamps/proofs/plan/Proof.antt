@@ -5,7 +5,8 @@ use native.Mathlib.Omega.{arith}
 use borrow.Author.Needs.{needs}
 use borrow.Author.Tests.{not-true, not-false}
 use lib.ListN.{length}
-use Rattle.stamps.proofs.Planning.{Planning, planning-none, planning-room, planning-more, planning-stop, planning-all}
+use Rattle.stamps.proofs.Planning.{Planning, planning-none, planning-room, planning-more, planning-stop}
+use Rattle.stamps.proofs.Planning.{planning-all}
 use Rattle.stamps.proofs.plan.Statement.{statement}
 use Rattle.stamps.proofs.plan.Tie as tie
 
@@ -26,7 +27,8 @@ returns : tie.Need-returns Inv-loop μ-loop
 returns c =
     let on = c .before .before .before in
     let test = on .before .before in
-    c .unplanned .ensures ∙ planning-stop (test .before .loop .inv) (test .loop-test .taken) (on .plan-on .ensures) (not-true _ (c .before .if1 .taken))
+    c .unplanned .ensures ∙ planning-stop (test .before .loop .inv) (test .loop-test .taken) (on .plan-on .ensures)
+    (not-true _ (c .before .if1 .taken))
 
 loop-again : tie.Need-loop-again Inv-loop μ-loop
 loop-again c =
@@ -40,5 +42,6 @@ returns-2 c = planning-all (c .before .loop .inv) (c .loop-test .left)
 pub plan-spec : {M : Type 1} → statement M
 plan-spec =
     tie.close
-    (tie.spec Inv-loop μ-loop loop-holds (λ c. omega arith) (λ c. omega arith) plan-on-requires (λ c κs. search needs) returns (λ c. omega arith) (λ c. omega arith)
+    (tie.spec Inv-loop μ-loop loop-holds (λ c. omega arith) (λ c. omega arith) plan-on-requires (λ c κs. search needs)
+    returns (λ c. omega arith) (λ c. omega arith)
     loop-again returns-2)

@@ -29,4 +29,5 @@ returns-4 c = sym (ap shareOf (c .enum-told3 .given .1))
 pub share-of-spec : {M : Type 1} → statement M
 share-of-spec =
     tie.close
-    (tie.spec (λ c. search needs) (λ c. search needs) add-t4 (λ c. search needs) (λ c. search needs) returns returns-2 returns-3 returns-4)
+    (tie.spec (λ c. search needs) (λ c. search needs) add-t4 (λ c. search needs) (λ c. search needs) returns returns-2
+    returns-3 returns-4)

@@ -9,4 +9,5 @@ returns-2 : tie.Need-returns-2
 returns-2 c = c .one-on .ensures ∙ sym (ap skippedOf (c .before .before .expected .given .1))
 
 pub skipped-spec : {M : Type 1} → statement M
-skipped-spec = tie.close (tie.spec (λ c. search needs) (λ c. search needs) (λ c κs. search needs) (λ c. search needs) returns-2)
+skipped-spec =
+    tie.close (tie.spec (λ c. search needs) (λ c. search needs) (λ c κs. search needs) (λ c. search needs) returns-2)

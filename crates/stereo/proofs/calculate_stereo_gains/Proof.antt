@@ -16,9 +16,11 @@ unfolding ofBits ofInt
 returns-2 c =
     let at-clamped = c .before .before in
     let f = at-clamped .before in
-    plays _ _ _ _ (ap not (sym (f .before .is-finite .ensures)) ∙ f .if1 .left) (at-clamped .clamped .ensures) (c .before .cosine .ensures) (c .sine .ensures)
+    plays _ _ _ _ (ap not (sym (f .before .is-finite .ensures)) ∙ f .if1 .left) (at-clamped .clamped .ensures)
+    (c .before .cosine .ensures) (c .sine .ensures)
 
 pub calculate-stereo-gains-spec : {M : Type 1} → statement M
 calculate-stereo-gains-spec =
     tie.close
-    (tie.spec (λ c κs. search needs) returns (λ c κs. search needs) (λ c κs. search needs) (λ c κs. search needs) returns-2)
+    (tie.spec (λ c κs. search needs) returns (λ c κs. search needs) (λ c κs. search needs) (λ c κs. search needs)
+    returns-2)

@@ -20,7 +20,8 @@ returns-2 c =
     let start = at-is-low-frequency .before in
     let a = start .args in
     directed _ _ _ _ (at-is-low-frequency .is-low-frequency .ensures) _ _ (at-if1 .if1 .left)
-    (ap (λ (r : Angle). r .degrees) (c .before .speaker-azimuth .ensures ∙ degrees-answered (speakers (a .layout)) (a .channel))) (c .raw-gain .ensures)
+    (ap (λ (r : Angle). r .degrees) (c .before .speaker-azimuth .ensures
+    ∙ degrees-answered (speakers (a .layout)) (a .channel))) (c .raw-gain .ensures)
 
 pub channel-gain-spec : {M : Type 1} → statement M
 channel-gain-spec =

@@ -15,7 +15,8 @@ returns-2 c =
     let at-cosine = c .before .before in
     let x = at-cosine .before in
     let n = x .before .before in
-    lifted _ _ _ _ (n .before .place .ensures) (n .is-near .ensures) _ _ (x .before .if1 .left) (x .absolute-value .ensures) (at-cosine .cosine .ensures) (c .if2 .taken)
+    lifted _ _ _ _ (n .before .place .ensures) (n .is-near .ensures) _ _ (x .before .if1 .left)
+    (x .absolute-value .ensures) (at-cosine .cosine .ensures) (c .if2 .taken)
 
 returns-3 : tie.Need-returns-3
 unfolding ofBits ofInt
@@ -23,7 +24,8 @@ returns-3 c =
     let at-cosine = c .before .before in
     let x = at-cosine .before in
     let n = x .before .before in
-    kept _ _ _ _ (n .before .place .ensures) (n .is-near .ensures) _ _ (x .before .if1 .left) (x .absolute-value .ensures) (at-cosine .cosine .ensures) (c .if2 .left)
+    kept _ _ _ _ (n .before .place .ensures) (n .is-near .ensures) _ _ (x .before .if1 .left)
+    (x .absolute-value .ensures) (at-cosine .cosine .ensures) (c .if2 .left)
 
 pub raw-gain-spec : {M : Type 1} → statement M
 raw-gain-spec =

@@ -28,7 +28,8 @@ unfolding rawGains ofBits ofInt
 returns c =
     let a = c .before .before .args in
     let at = c .before .loop in
-    filling-all _ _ _ (at .gains) (at .c) (at .inv) (omega arith) ∙ first-filled (channelGain (a .layout) (a .azimuth)) (a .channels) 16 zero-float (omega arith)
+    filling-all _ _ _ (at .gains) (at .c) (at .inv) (omega arith)
+    ∙ first-filled (channelGain (a .layout) (a .azimuth)) (a .channels) 16 zero-float (omega arith)
 
 pub raw-gains-spec : {M : Type 1} → statement M
 raw-gains-spec =

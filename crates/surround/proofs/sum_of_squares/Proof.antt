@@ -22,7 +22,8 @@ loop-again : tie.Need-loop-again Inv-loop μ-loop
 loop-again c =
     let a = c .before .before .args in
     let at = c .before .loop in
-    summing-more (squareAt (a .t1)) (a .channels) (at .sum) (at .i) _ (at .inv) (omega (arith, c .loop-test .taken)) refl
+    summing-more (squareAt (a .t1)) (a .channels) (at .sum) (at .i) _ (at .inv) (omega (arith, c .loop-test .taken))
+    refl
 
 returns : tie.Need-returns Inv-loop μ-loop
 unfolding sumOf

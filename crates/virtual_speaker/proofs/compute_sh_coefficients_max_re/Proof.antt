@@ -11,7 +11,8 @@ returns : tie.Need-returns
 returns c =
     let at-compute-sh-coefficients = c .before .before .before in
     let s = at-compute-sh-coefficients .compute-sh-coefficients in
-    weighed-kept _ _ _ (s .ensures) _ (c .weigh .ensures ∙ ap (λ (k : Float). weigh k (s .result .gains)) (c .before .max-re-cosine .ensures))
+    weighed-kept _ _ _ (s .ensures) _
+    (c .weigh .ensures ∙ ap (λ (k : Float). weigh k (s .result .gains)) (c .before .max-re-cosine .ensures))
 
 pub compute-sh-coefficients-max-re-spec : {M : Type 1} → statement M
 compute-sh-coefficients-max-re-spec =

@@ -1,4 +1,5 @@
--- `virtual_speaker::max_re_cosine` meets its contract: the table holds the literals of specs/Computed.antt, by computing. Assumes nothing.
+-- `virtual_speaker::max_re_cosine` meets its contract: the table holds the literals of specs/Computed.antt, by
+-- computing. Assumes nothing.
 use mathlib.Core.Path.{sym, _∙_}
 use lib.Ieee.{ofBits, round}
 use borrow.Author.Needs.{needs}

@@ -13,7 +13,8 @@ use Rattle.virtual_speaker.proofs.weigh.Statement.{statement}
 use Rattle.virtual_speaker.proofs.weigh.Tie as tie
 
 abbrev Inv-loop : tie.InvT-loop
-Inv-loop c coeffs weights₀ i₀ weights i = Filling (λ k. mul binary64 (getD coeffs k nan) (weight c (degreeOf k))) 16 weights₀ weights i
+Inv-loop c coeffs weights₀ i₀ weights i =
+    Filling (λ k. mul binary64 (getD coeffs k nan) (weight c (degreeOf k))) 16 weights₀ weights i
 
 abbrev μ-loop : tie.MeasureT-loop
 μ-loop c coeffs weights₀ i₀ weights i = 16 - i
@@ -27,7 +28,8 @@ loop-again c =
     let start = at-loop .before in
     let a = start .args in
     let l = at-loop .loop in
-    filling-more _ 16 _ (l .weights) (l .i) _ (l .inv) (omega arith) (lit≤ tt) (ap (λ (w : Float). mul binary64 (getD (a .t1) (l .i) nan) w) (c .weight .ensures))
+    filling-more _ 16 _ (l .weights) (l .i) _ (l .inv) (omega arith) (lit≤ tt)
+    (ap (λ (w : Float). mul binary64 (getD (a .t1) (l .i) nan) w) (c .weight .ensures))
 
 returns : tie.Need-returns Inv-loop μ-loop
 unfolding weigh

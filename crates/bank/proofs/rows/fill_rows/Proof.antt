@@ -1,4 +1,5 @@
--- `bank::rows::fill_rows` meets its contract. The azimuths, the elevations and the taps of the rows read so far stand at the start of their lists. Assumes nothing.
+-- `bank::rows::fill_rows` meets its contract. The azimuths, the elevations and the taps of the rows read so far stand
+-- at the start of their lists. Assumes nothing.
 use mathlib.Core.Path.{_≡_, sym, ap, _∙_}
 use Prim.Native.Nat.{ℕ, _+_, _-_, _*_, _≤_}
 use native.Mathlib.Omega.{arith}
@@ -38,14 +39,16 @@ module _ (c : tie.At-loop Inv-loop μ-loop) where
   kept-azimuths =
       let start = c .before .before .before .before in
       let args = start .args in
-      fill-kept (λ k. signedAt (args .file .now) (9 + k * rowSize (args .version) (args .l))) _ 0 _ (c .loop .i) (c .loop .inv .1) (omega arith)
+      fill-kept (λ k. signedAt (args .file .now) (9 + k * rowSize (args .version) (args .l))) _ 0 _ (c .loop .i)
+      (c .loop .inv .1) (omega arith)
 
   kept-elevations : length (c .loop .elevations) ≡ length (c .before .before .before .before .args .elevations .now)
   unfolding strided
   kept-elevations =
       let start = c .before .before .before .before in
       let args = start .args in
-      fill-kept (λ k. elevationAt (args .version) (args .file .now) (9 + k * rowSize (args .version) (args .l))) _ 0 _ (c .loop .i) (c .loop .inv .2) (omega arith)
+      fill-kept (λ k. elevationAt (args .version) (args .file .now) (9 + k * rowSize (args .version) (args .l))) _ 0 _
+      (c .loop .i) (c .loop .inv .2) (omega arith)
 
   kept-taps : length (c .loop .taps) ≡ length (c .before .before .before .before .args .taps .now)
   kept-taps =
@@ -57,7 +60,12 @@ module _ (c : tie.At-loop Inv-loop μ-loop) where
 
 loop-holds : tie.Need-loop-holds Inv-loop μ-loop
 unfolding strided
-loop-holds c = (omega arith, sym (placed-none _ _), sym (placed-none _ _), sym (ap (placed _ _) (taps-none _ _ _ _) ∙ placed-none _ _))
+loop-holds c = (
+  omega arith,
+  sym (placed-none _ _),
+  sym (placed-none _ _),
+  sym (ap (placed _ _) (taps-none _ _ _ _) ∙ placed-none _ _),
+)
 
 loop-again : tie.Need-loop-again Inv-loop μ-loop
 loop-again c =
@@ -71,15 +79,21 @@ loop-again c =
     let inside = read .before .before .loop-test .taken in
     let at = read .before .row-at .ensures .0 in
     let v = args .version in
-    let azimuth = back w16 (read .get-i16 .result) (read .get-i16 .ok) ∙ read .get-i16 .ensures ∙ ap (signedAt (args .file .now)) at in
-    let elevation = back w16 (raised .elevation-at .result) (raised .elevation-at .ok) ∙ raised .elevation-at .ensures ∙ ap (elevationAt v (args .file .now)) at in
+    let azimuth = back w16 (read .get-i16 .result) (read .get-i16 .ok) ∙ read .get-i16 .ensures
+    ∙ ap (signedAt (args .file .now)) at in
+    let elevation = back w16 (raised .elevation-at .result) (raised .elevation-at .ok) ∙ raised .elevation-at .ensures
+    ∙ ap (elevationAt v (args .file .now)) at in
     let q = placed-at .tap-at in
     let place = at-taps v _ _ _ at (read .before .before .before .before .elevation-size .ensures .0) in
-    let taps = filled .fill-taps .ensures ∙ ap (λ (p : ℕ). placed (turn .taps) (q .result) (floatsAt (args .file .now) p (2 * args .l))) place in (
+    let taps = filled .fill-taps .ensures
+    ∙ ap (λ (p : ℕ). placed (turn .taps) (q .result) (floatsAt (args .file .now) p (2 * args .l))) place in (
       omega arith,
-      entry-more (signedAt (args .file .now)) (rowSize v (args .l)) (args .azimuths .now) (turn .azimuths) (turn .i) _ (turn .inv .1) (omega arith) azimuth,
-      entry-more (elevationAt v (args .file .now)) (rowSize v (args .l)) (args .elevations .now) (turn .elevations) (turn .i) _ (turn .inv .2) (omega arith) elevation,
-      row-more (args .file .now) v (args .l) (args .taps .now) (turn .taps) _ (turn .i) (q .result) (turn .inv .3) (q .ensures .0) (omega (arith, q .ensures .1)) taps,
+      entry-more (signedAt (args .file .now)) (rowSize v (args .l)) (args .azimuths .now) (turn .azimuths) (turn .i) _
+          (turn .inv .1) (omega arith) azimuth,
+      entry-more (elevationAt v (args .file .now)) (rowSize v (args .l)) (args .elevations .now) (turn .elevations)
+          (turn .i) _ (turn .inv .2) (omega arith) elevation,
+      row-more (args .file .now) v (args .l) (args .taps .now) (turn .taps) _ (turn .i) (q .result) (turn .inv .3)
+          (q .ensures .0) (omega (arith, q .ensures .1)) taps,
     )
 
 returns : tie.Need-returns Inv-loop μ-loop
@@ -88,7 +102,11 @@ returns c =
     let start = at-loop .before .before .before .before in
     let done : at-loop .loop .i ≡ start .args .n = omega arith in (
       at-loop .loop .inv .1 ∙ ap (placed _ _) (ap (strided _ _ _) done),
-      (at-loop .loop .inv .2 ∙ ap (placed _ _) (ap (strided _ _ _) done), at-loop .loop .inv .3 ∙ ap (placed _ _) (ap (tapsFrom _ _ _ _) done)),
+      (
+        at-loop .loop .inv .2 ∙ ap (placed _ _) (ap (strided _ _ _) done),
+        at-loop .loop .inv .3
+            ∙ ap (placed _ _) (ap (tapsFrom _ _ _ _) done),
+      ),
     )
 
 pub fill-rows-spec : {M : Type 1} → statement M

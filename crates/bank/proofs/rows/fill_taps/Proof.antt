@@ -23,7 +23,8 @@ unfolding strided
 kept c =
     let start = c .before .before .before in
     let args = start .args in
-    fill-kept (λ k. floatAt (args .file .now) (args .at + k * 4)) _ (args .q) _ (c .loop .k) (c .loop .inv .1) (omega arith)
+    fill-kept (λ k. floatAt (args .file .now) (args .at + k * 4)) _ (args .q) _ (c .loop .k) (c .loop .inv .1)
+    (omega arith)
 
 loop-holds : tie.Need-loop-holds Inv-loop μ-loop
 unfolding strided
@@ -38,8 +39,11 @@ loop-again c =
     let at-loop = c .before .before in
     let start = at-loop .before .before .before in
     let args = start .args in
-    let turn = at-loop .loop in
-    (omega arith, fill-more (λ k. floatAt (args .file .now) (args .at + k * 4)) (args .taps .now) (args .q) (turn .taps) (turn .k) _ (turn .inv .1) (omega arith) (c .get-f32 .ensures))
+    let turn = at-loop .loop in (
+      omega arith,
+      fill-more (λ k. floatAt (args .file .now) (args .at + k * 4)) (args .taps .now) (args .q) (turn .taps)
+          (turn .k) _ (turn .inv .1) (omega arith) (c .get-f32 .ensures),
+    )
 
 same-length : tie.Need-same-length Inv-loop μ-loop
 same-length c = kept (c .before)

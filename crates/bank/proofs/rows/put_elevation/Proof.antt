@@ -32,7 +32,8 @@ returns-2 c =
     let bits : ofZ w16 (toZ w16 (ofZ w16 (args .z))) ≡ ofZ w16 (args .z) = ap (ofZ w16) (toZ-ofZ (start .fits .z)) in
     let other = ne-eqb _ _ (at-if1 .if1 .left) in
     let room : args .at + 2 ≤ length (args .file .now) = rw other at (start .pre) in
-    let done = field-put (args .file .now) (put .last .0) (args .at) 2 _ (omega arith) room (put .ensures) ∙ ap (placed _ _) (ap (bytesOf 2) bits) in
+    let done = field-put (args .file .now) (put .last .0) (args .at) 2 _ (omega arith) room (put .ensures)
+    ∙ ap (placed _ _) (ap (bytesOf 2) bits) in
     rw other done
 
 pub put-elevation-spec : {M : Type 1} → statement M

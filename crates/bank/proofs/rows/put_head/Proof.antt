@@ -11,7 +11,8 @@ returns c =
     let second = third .before .before .before .before in
     let first = second .before .before .before .before in
     let start = first .before .before .before in
-    head-put _ _ _ _ _ _ _ _ _ (start .pre) (first .put .ensures) (second .put2 .ensures) (third .put3 .ensures) (fourth .put4 .ensures)
+    head-put _ _ _ _ _ _ _ _ _ (start .pre) (first .put .ensures) (second .put2 .ensures) (third .put3 .ensures)
+    (fourth .put4 .ensures)
 
 pub put-head-spec : {M : Type 1} → statement M
 put-head-spec =

@@ -31,19 +31,24 @@ returns c =
     let read = raised .before .before .before .before in
     let start = read .before .before .before .before in
     let args = start .args in
-    let bits : ofZ w16 (toZ w16 (ofZ w16 (args .azimuth))) ≡ ofZ w16 (args .azimuth) = ap (ofZ w16) (toZ-ofZ (start .fits .azimuth)) in
+    let bits : ofZ w16 (toZ w16 (ofZ w16 (args .azimuth))) ≡ ofZ w16 (args .azimuth) = ap (ofZ w16)
+    (toZ-ofZ (start .fits .azimuth)) in
     let azimuth = bytesOf 2 (ofZ w16 (args .azimuth)) in
     let elevation = elevationBytes (args .version) (args .elevation) in
     let row = take (2 * args .l) (drop (args .q) (args .taps .now)) in
     let long = length-part (args .taps .now) (args .q) (2 * args .l) (omega arith) in
     let size = length-elevation (args .version) (args .elevation) in
-    let one = field-put (args .file .now) (read .put-i16 .last .0) (args .at) 2 _ (omega arith) (omega arith) (read .put-i16 .ensures) ∙ ap (placed _ _) (ap (bytesOf 2) bits) in
+    let one = field-put (args .file .now) (read .put-i16 .last .0) (args .at) 2 _ (omega arith) (omega arith)
+    (read .put-i16 .ensures) ∙ ap (placed _ _) (ap (bytesOf 2) bits) in
     let up = raised .put-elevation in
     let two =
-    part-more (args .file .now) (read .put-i16 .last .0) (up .last .1 .1 .0) azimuth elevation (args .at) 2 (args .at + 2) one (length-bytes 2 _) refl (omega (arith, size))
-    (up .ensures ∙ ap (λ (z : ℤ). placed (read .put-i16 .last .0) (args .at + 2) (elevationBytes (args .version) z)) (toZ-ofZ (start .fits .elevation))) in
+    part-more (args .file .now) (read .put-i16 .last .0) (up .last .1 .1 .0) azimuth elevation (args .at) 2
+    (args .at + 2) one (length-bytes 2 _) refl (omega (arith, size))
+    (up .ensures ∙ ap (λ (z : ℤ). placed (read .put-i16 .last .0) (args .at + 2) (elevationBytes (args .version) z))
+    (toZ-ofZ (start .fits .elevation))) in
     let three =
-    part-more (args .file .now) (up .last .1 .1 .0) _ (azimuth ++ elevation) (floatBytes row) (args .at) (2 + elevationSize (args .version)) _ two
+    part-more (args .file .now) (up .last .1 .1 .0) _ (azimuth ++ elevation) (floatBytes row) (args .at)
+    (2 + elevationSize (args .version)) _ two
     (length-append azimuth elevation ∙ omega (arith, length-bytes 2 (ofZ w16 (args .azimuth)), size))
     (omega (arith, taps-put .before .elevation-size .ensures .0))
     (omega (arith, length-fieldBytes 4 (toBits binary32) row, long))

@@ -52,12 +52,18 @@ kept c =
     let start = c .before .before .before in
     let args = start .args in
     let turn = c .loop in
-    let long = length-rows (args .version) (pairs start) (args .l) (args .taps .now) (taps start) (turn .i) (omega (arith, count start, turn .inv .0)) in
+    let long = length-rows (args .version) (pairs start) (args .l) (args .taps .now) (taps start) (turn .i)
+    (omega (arith, count start, turn .inv .0)) in
     let reach = mul-le-mul-right (rowSize (args .version) (args .l)) (turn .inv .0) in
     ap length (turn .inv .1) ∙ length-placed _ _ _ (omega (arith, long, reach, start .pre .4))
 
 loop-holds : tie.Need-loop-holds Inv-loop μ-loop
-loop-holds c = (omega arith, sym (ap (placed _ _) (no-rows _ _ _) ∙ placed-none _ _), λ j h. absurd (omega arith), λ j h. absurd (omega arith))
+loop-holds c = (
+  omega arith,
+  sym (ap (placed _ _) (no-rows _ _ _) ∙ placed-none _ _),
+  λ j h. absurd (omega arith),
+  λ j h. absurd (omega arith),
+)
 
 put-row-requires : tie.Need-put-row-requires Inv-loop μ-loop
 put-row-requires c κs =
@@ -68,7 +74,8 @@ put-row-requires c κs =
     let args = start .args in
     let inside = at-loop-test .loop-test .taken in
     let taps = row-end (turn .loop .i) (length (args .azimuths .now)) (2 * args .l) _ inside refl in
-    let bytes = row-end (turn .loop .i) (length (args .azimuths .now)) (rowSize (args .version) (args .l)) _ inside refl in
+    let bytes = row-end (turn .loop .i) (length (args .azimuths .now)) (rowSize (args .version) (args .l)) _ inside
+    refl in
     let long = kept turn in
     omega (arith, c .before .tap-at .ensures, at-row-at .row-at .ensures)
 
@@ -87,14 +94,26 @@ loop-again c =
     let azimuth = back w16 (getD (args .azimuths .now) i (pos 0)) (first .put-row-arg .given) in
     let elevation = back w16 (getD (args .elevations .now) i (pos 0)) (call .before .before .put-row-arg2 .given) in
     let none : Pair = record { azimuth = pos 0; elevation = pos 0 } in
-    let pair : _≡_ {A = Pair} (record { azimuth = toZ w16 (ofZ w16 (getD (args .azimuths .now) i (pos 0))); elevation = toZ w16 (ofZ w16 (getD (args .elevations .now) i (pos 0))) }) (getD (pairs start) i none) =
-    (λ k. record { azimuth = azimuth k; elevation = elevation k }) ∙ sym (pair-of (args .azimuths .now) (args .elevations .now) i none inside (omega (arith, inside, start .pre .2))) in
-    let row = put .put-row .ensures ∙ ap (λ (p : Pair). placed (turn .loop .file) (at .result) (oneRow (args .version) p (args .l) (args .taps .now) (q .result))) pair in (
+    let pair : _≡_ {A = Pair}
+    (record {
+      azimuth = toZ w16 (ofZ w16 (getD (args .azimuths .now) i (pos 0)));
+      elevation = toZ w16 (ofZ w16 (getD (args .elevations .now) i (pos 0)));
+    }) (getD (pairs start) i none) =
+    (λ k. record { azimuth = azimuth k; elevation = elevation k })
+    ∙ sym (pair-of (args .azimuths .now) (args .elevations .now) i none inside
+    (omega (arith, inside, start .pre .2))) in
+    let row = put .put-row .ensures
+    ∙ ap (λ (p : Pair). placed (turn .loop .file) (at .result)
+    (oneRow (args .version) p (args .l) (args .taps .now) (q .result))) pair in (
       omega arith,
-      rows-more (args .version) (pairs start) (args .l) (args .taps .now) (taps start) (args .file .now) (turn .loop .file) _ none i (q .result) (at .result) (omega (arith, inside, count start)) (q .ensures .0) (at .ensures .0)
+      rows-more (args .version) (pairs start) (args .l) (args .taps .now) (taps start) (args .file .now)
+          (turn .loop .file) _ none i (q .result) (at .result) (omega (arith, inside, count start)) (q .ensures .0)
+          (at .ensures .0)
           (rw (count start) (start .pre .4)) (turn .loop .inv .1) row,
-      below-more (λ (j : ℕ). IsI16 (getD (args .azimuths .now) j (pos 0))) i (turn .loop .inv .2) (first .put-row-arg .given),
-      below-more (λ (j : ℕ). IsI16 (getD (args .elevations .now) j (pos 0))) i (turn .loop .inv .3) (call .before .before .put-row-arg2 .given),
+      below-more (λ (j : ℕ). IsI16 (getD (args .azimuths .now) j (pos 0))) i (turn .loop .inv .2)
+          (first .put-row-arg .given),
+      below-more (λ (j : ℕ). IsI16 (getD (args .elevations .now) j (pos 0))) i (turn .loop .inv .3)
+          (call .before .before .put-row-arg2 .given),
     )
 
 returns : tie.Need-returns Inv-loop μ-loop
@@ -103,11 +122,14 @@ returns c =
     let args = start .args in
     let turn = c .before .loop in
     let done : turn .i ≡ length (args .azimuths .now) = omega arith in
-    let all : take (turn .i) (pairs start) ≡ pairs start = ap (λ (k : ℕ). take k (pairs start)) (done ∙ sym (count start)) ∙ take-length (pairs start) in (
-      turn .inv .1 ∙ ap (λ (ps : List Pair). placed (args .file .now) 9 (rowBytes (args .version) ps (args .l) (args .taps .now))) all,
+    let all : take (turn .i) (pairs start) ≡ pairs start = ap (λ (k : ℕ). take k (pairs start))
+    (done ∙ sym (count start)) ∙ take-length (pairs start) in (
+      turn .inv .1 ∙ ap (λ (ps : List Pair). placed (args .file .now) 9
+          (rowBytes (args .version) ps (args .l) (args .taps .now))) all,
       (
         each-in IsI16 (pos 0) (args .azimuths .now) (omega arith) (λ j h. turn .inv .2 j (omega arith)),
-        each-in IsI16 (pos 0) (args .elevations .now) (omega arith) (λ j h. turn .inv .3 j (omega (arith, h, done, start .pre .2))),
+        each-in IsI16 (pos 0) (args .elevations .now) (omega arith)
+            (λ j h. turn .inv .3 j (omega (arith, h, done, start .pre .2))),
       ),
     )
 

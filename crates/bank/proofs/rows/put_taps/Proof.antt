@@ -24,10 +24,12 @@ kept c =
     let start = c .before .before .before in
     let args = start .args in
     let row = drop (args .q) (args .taps .now) in
-    write-kept 4 (toBits binary32) (args .file .now) (args .at) row _ (c .loop .k) (c .loop .inv .1) (omega (arith, length-drop (args .q) (args .taps .now))) (omega arith)
+    write-kept 4 (toBits binary32) (args .file .now) (args .at) row _ (c .loop .k) (c .loop .inv .1)
+    (omega (arith, length-drop (args .q) (args .taps .now))) (omega arith)
 
 loop-holds : tie.Need-loop-holds Inv-loop μ-loop
-loop-holds c = let args = c .before .before .args in (omega arith, write-none 4 (toBits binary32) (args .file .now) (args .at) (drop (args .q) (args .taps .now)))
+loop-holds c = let args = c .before .before .args in
+    (omega arith, write-none 4 (toBits binary32) (args .file .now) (args .at) (drop (args .q) (args .taps .now)))
 
 loop-again : tie.Need-loop-again Inv-loop μ-loop
 unfolding withFloat
@@ -38,8 +40,13 @@ loop-again c =
     let args = start .args in
     let turn = at-loop .loop in
     let row = drop (args .q) (args .taps .now) in
-    let tap = at-put-f32 .put-f32 .ensures ∙ ap (λ (x : Float). withField (turn .file) (args .at + 4 * turn .k) 4 (toBits binary32 x)) (sym (getD-drop (args .q) (args .taps .now) (turn .k) nan)) in
-    (omega arith, write-more 4 (toBits binary32) (args .file .now) (args .at) row (turn .file) _ nan (turn .k) (omega arith) (turn .inv .1) (omega (arith, length-drop (args .q) (args .taps .now))) (omega arith) tap)
+    let tap = at-put-f32 .put-f32 .ensures
+    ∙ ap (λ (x : Float). withField (turn .file) (args .at + 4 * turn .k) 4 (toBits binary32 x))
+    (sym (getD-drop (args .q) (args .taps .now) (turn .k) nan)) in (
+      omega arith,
+      write-more 4 (toBits binary32) (args .file .now) (args .at) row (turn .file) _ nan (turn .k)
+          (omega arith) (turn .inv .1) (omega (arith, length-drop (args .q) (args .taps .now))) (omega arith) tap,
+    )
 
 same-length : tie.Need-same-length Inv-loop μ-loop
 same-length c = kept (c .before)
@@ -50,7 +57,9 @@ returns c =
     let start = at-loop .before .before .before in
     let args = start .args in
     let done : at-loop .loop .k ≡ args .n = omega arith in
-    at-loop .loop .inv .1 ∙ ap (λ (k : ℕ). placed (args .file .now) (args .at) (floatBytes (take k (drop (args .q) (args .taps .now))))) done
+    at-loop .loop .inv .1
+    ∙ ap (λ (k : ℕ). placed (args .file .now) (args .at) (floatBytes (take k (drop (args .q) (args .taps .now)))))
+    done
 
 pub put-taps-spec : {M : Type 1} → statement M
 put-taps-spec =

@@ -10,8 +10,10 @@ use Rattle.bank.proofs.rows.row_at.Tie as tie
 
 -- what a row's size is, and how far the rows reach
 module _ (c : tie.After-row-size) where
-  at : 9 + c .before .args .i * c .row-size .result ≡ 9 + c .before .args .i * rowSize (c .before .args .version) (c .before .args .l)
-  at = ap (λ (n : ℕ). 9 + c .before .args .i * n) (one-size (c .before .args .version) _ _ (c .before .pre .1) (c .row-size .ensures .0))
+  at : 9 + c .before .args .i * c .row-size .result ≡ 9 + c .before .args .i * rowSize (c .before .args .version)
+      (c .before .args .l)
+  at = ap (λ (n : ℕ). 9 + c .before .args .i * n)
+      (one-size (c .before .args .version) _ _ (c .before .pre .1) (c .row-size .ensures .0))
 
   reach : c .before .args .i * c .row-size .result ≤ c .before .args .i * largestRow
   reach = mul-le-mul-left (c .before .args .i) (c .row-size .ensures .1)

@@ -1,4 +1,5 @@
--- `ears_file::input::play_all` meets its contract: before each step the record, the rings and the bytes stand for some line. Assumes nothing.
+-- `ears_file::input::play_all` meets its contract: before each step the record, the rings and the bytes stand for some
+-- line. Assumes nothing.
 use mathlib.Core.Path.{_≡_}
 use mathlib.Core.List.{List, [], _++_}
 use Prim.Native.Nat.{ℕ}
@@ -12,11 +13,14 @@ use Rattle.ears_file.proofs.input.play_all.Statement.{statement}
 use Rattle.ears_file.proofs.input.play_all.Tie as tie
 
 abbrev Inv-loop : tie.InvT-loop
-Inv-loop line out limit shape weights row-of taps rings₀ bytes₀ inputs₀ ears₀ text₀ progress₀ steps₀ rings bytes inputs ears text progress steps =
-    (length rings ≡ length rings₀) × ((come : List ℕ) × Stands (setupOf shape weights row-of taps) come progress rings bytes)
+Inv-loop line out limit shape weights row-of taps rings₀ bytes₀ inputs₀ ears₀ text₀ progress₀ steps₀ rings bytes inputs
+    ears text progress steps =
+    (length rings ≡ length rings₀)
+    × ((come : List ℕ) × Stands (setupOf shape weights row-of taps) come progress rings bytes)
 
 abbrev μ-loop : tie.MeasureT-loop
-μ-loop line out limit shape weights row-of taps rings₀ bytes₀ inputs₀ ears₀ text₀ progress₀ steps₀ rings bytes inputs ears text progress steps =
+μ-loop line out limit shape weights row-of taps rings₀ bytes₀ inputs₀ ears₀ text₀ progress₀ steps₀ rings bytes inputs
+    ears text progress steps =
     steps
 
 loop-holds : tie.Need-loop-holds Inv-loop μ-loop
@@ -36,7 +40,8 @@ returns-2 : tie.Need-returns-2 Inv-loop μ-loop
 returns-2 c =
     let step = c .before .before .before .before .before .before .before .before in
     let come = step .before .before .before .before .before .before .before .loop .inv .1 in
-    stands-ends _ _ _ _ _ (step .step .ensures .2 .stands (come .0) (come .1)) _ _ (c .before .at-end .ensures) (c .done .ensures)
+    stands-ends _ _ _ _ _ (step .step .ensures .2 .stands (come .0) (come .1)) _ _ (c .before .at-end .ensures)
+    (c .done .ensures)
 
 loop-again : tie.Need-loop-again Inv-loop μ-loop
 loop-again c =

@@ -11,7 +11,8 @@ returns c =
     none-further _ _ _ _ _ (read .ensures .keeps) _ _ _ (c .stopped .ensures)
 
 -- more bytes are there than were held
-went-on : (c : tie.Else1) → c .before .before .before .before .before .before .before .args .progress .held < c .before .before .read-some .result .size
+went-on : (c : tie.Else1) → c .before .before .before .before .before .before .before .args .progress .held
+    < c .before .before .read-some .result .size
 went-on c =
     let at-read-some = c .before .before in
     let at-pre = at-read-some .before .before .before .before .before in

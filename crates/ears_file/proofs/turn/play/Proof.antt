@@ -26,7 +26,11 @@ start c = taken c .before .before .before .before .before .before .before .befor
 
 -- the whole frames end where the bytes that have come end, or before
 whole : (c : tie.After-bytes-from-ears) → taken c .frames-from-bytes .result .frames * 24 ≤ start c .args .size
-whole c = omega (arith, taken-few _ _ _ _ (taken c .frames-from-bytes .ensures), length-take (start c .args .size) (now (start c .args .bytes)))
+whole c = omega (
+  arith,
+  taken-few _ _ _ _ (taken c .frames-from-bytes .ensures),
+  length-take (start c .args .size) (now (start c .args .bytes)),
+)
 
 mul-from : tie.Need-mul-from
 mul-from c = omega (arith, whole c, start c .pre .1 .1)
@@ -40,14 +44,22 @@ returns c =
     let put = kept .before .before in
     let block = put .before .before .before .before .before .before in
     let a = start put .args in
-    let inputs-long : length (now (a .inputs)) ≡ 6144 = omega (arith, taken put .before .frames-from-bytes-arg2 .given) in
+    let inputs-long : length (now (a .inputs)) ≡ 6144 = omega (
+      arith,
+      taken put .before .frames-from-bytes-arg2 .given,
+    ) in
     let ears-long : length (now (a .ears)) ≡ 2048 = omega (arith, block .before .process-arg4 .given) in
     let same-ears = block .process .kept .1 .1 .1 .1 .1 .1 .1 .1 .1 .0 in
     let out-long : length (now (a .out)) ≡ 8192 = omega (arith, put .before .bytes-from-ears-arg3 .given) in (
       turn-further _ _ _ _ (start put .pre .0) _ _ _ _ _ _ _ (start put .pre .1) inputs-long ears-long out-long
-          _ _ (taken put .frames-from-bytes .ensures) _ (block .process .ensures) same-ears _ _ (put .bytes-from-ears .ensures)
+          _ _ (taken put .frames-from-bytes .ensures) _ (block .process .ensures) same-ears _ _
+          (put .bytes-from-ears .ensures)
           _ (kept .keep-rest .ensures) _ _ (c .before .count-on .ensures) (c .count-on2 .ensures),
-      counts _ _ (omega (arith, given-few _ _ _ _ _ (put .bytes-from-ears .ensures), put .bytes-from-ears .kept .1 .1 .1 .0)),
+      counts _ _ (omega (
+        arith,
+        given-few _ _ _ _ _ (put .bytes-from-ears .ensures),
+        put .bytes-from-ears .kept .1 .1 .1 .0,
+      )),
     )
 
 pub play-spec : {M : Type 1} → statement M

@@ -20,8 +20,10 @@ unfolding decimal
 returns c =
     let at-put-part = c .before .before in
     let made = at-put-part .before .before .before in
-    let put = at-put-part .put-part .ensures in
-    (put-same (made .decimal .ensures .1 .1 ∙ fewest-digits 20 _ _ (few made) (made .decimal .ensures .1 .0)) put, omega (arith, put .ends, few made, made .decimal .ensures .0))
+    let put = at-put-part .put-part .ensures in (
+      put-same (made .decimal .ensures .1 .1 ∙ fewest-digits 20 _ _ (few made) (made .decimal .ensures .1 .0)) put,
+      omega (arith, put .ends, few made, made .decimal .ensures .0),
+    )
 
 pub put-number-spec : {M : Type 1} → statement M
 put-number-spec =

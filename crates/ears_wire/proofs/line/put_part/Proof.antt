@@ -14,8 +14,12 @@ returns c =
     let start = at-copy .before .before .before .before in
     let a = start .args in
     let copies = at-copy .copy in
-    record { ends = ap (λ (n : ℕ). a .at + n) (copies .ensures .0); filled = put-copied (now (a .out)) (now (a .part)) _ (a .at) (omega arith) (copies .ensures .1) }
+    record {
+      ends = ap (λ (n : ℕ). a .at + n) (copies .ensures .0);
+      filled = put-copied (now (a .out)) (now (a .part)) _ (a .at) (omega arith) (copies .ensures .1);
+    }
 
 pub put-part-spec : {M : Type 1} → statement M
 put-part-spec =
-    tie.close (tie.spec (λ c. search needs) (λ c. search needs) (λ c. search needs) (λ c κs. search needs) (λ c. search needs) (λ c. search needs) returns)
+    tie.close (tie.spec (λ c. search needs) (λ c. search needs) (λ c. search needs) (λ c κs. search needs)
+    (λ c. search needs) (λ c. search needs) returns)

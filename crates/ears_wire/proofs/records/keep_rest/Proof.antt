@@ -21,14 +21,16 @@ loop-again c =
     let least = at-loop .before in
     let a = least .before .before .args in
     let at = at-loop .loop in
-    kept-more (now (a .bytes)) (a .from) (least .min .result) (at .bytes) (at .i) (at .inv) (c .before .loop-test .taken)
+    kept-more (now (a .bytes)) (a .from) (least .min .result) (at .bytes) (at .i) (at .inv)
+    (c .before .loop-test .taken)
 
 returns : tie.Need-returns Inv-loop μ-loop
 returns c =
     let least = c .before .before in
     let a = least .before .before .args in
     let at = c .before .loop in
-    kept-all (now (a .bytes)) (a .from) (least .min .result) (at .bytes) (at .i) (at .inv) (a .to) (least .min .ensures) (c .loop-test .left)
+    kept-all (now (a .bytes)) (a .from) (least .min .result) (at .bytes) (at .i) (at .inv) (a .to) (least .min .ensures)
+    (c .loop-test .left)
 
 pub keep-rest-spec : {M : Type 1} → statement M
 keep-rest-spec =

@@ -50,7 +50,8 @@ returns c =
     let left = c .before .before in
     let ended = left .before .before in
     let start = ended .before .before .before .before .before in
-    adding-all (ended .before .loop .inv) (ended .loop-test .left) (ap (λ (k : Scaled). k .«inverse_root») (start .pre .factor))
+    adding-all (ended .before .loop .inv) (ended .loop-test .left)
+    (ap (λ (k : Scaled). k .«inverse_root») (start .pre .factor))
     (left .narrow .ensures .bits) (c .narrow2 .ensures .bits)
 
 pub ears-of-spec : {M : Type 1} → statement M

@@ -46,7 +46,13 @@ add-t30 c =
     let late = c .before in
     let put = stored (late .before .before .before) in
     let s = start put in
-    omega (arith, s .pre .1, s .pre .2, late .one-if-late .ensures, one-at-most (put .mix-frame .result || ltb 0 (s .args .desk .«to_go»)))
+    omega (
+      arith,
+      s .pre .1,
+      s .pre .2,
+      late .one-if-late .ensures,
+      one-at-most (put .mix-frame .result || ltb 0 (s .args .desk .«to_go»)),
+    )
 
 returns : tie.Need-returns
 returns c =
@@ -59,7 +65,8 @@ returns c =
     let a = s .args in
     turned (a .scaled .shape) (now (a .weights)) (now (a .row-of)) (now (a .taps)) (state s) (frame s)
     (a .stride) (a .played .frames) (now (a .ears)) _ _ _ _ _ (a .played .unsettled) _
-    (put .mix-frame .ensures) (heard .ears-of .ensures) (left-put .put-sample .ensures) (right-put .put-sample2 .ensures)
+    (put .mix-frame .ensures) (heard .ears-of .ensures) (left-put .put-sample .ensures)
+    (right-put .put-sample2 .ensures)
     (late .one-if-late .ensures)
 
 pub one-frame-spec : {M : Type 1} → statement M

@@ -8,11 +8,13 @@ use Rattle.hrtf.proofs.parts.of_speaker.Statement.{statement}
 use Rattle.hrtf.proofs.parts.of_speaker.Tie as tie
 
 -- the speaker's ring and its taps end inside the lent lists
-ring-inside : (c : tie.Start) → c .args .speaker * c .args .shape .length + c .args .shape .length ≤ length (now (c .args .rings))
+ring-inside : (c : tie.Start) → c .args .speaker * c .args .shape .length + c .args .shape .length ≤ length
+    (now (c .args .rings))
 ring-inside c = let a = c .args in ring-end (a .shape) (a .speaker) (a .row) (now (a .taps)) (now (a .rings)) (c .pre)
 
 taps-inside : (c : tie.Start)
-    → c .args .row * 2 * c .args .shape .length + c .args .shape .length + c .args .shape .length ≤ length (now (c .args .taps))
+    → c .args .row * 2 * c .args .shape .length + c .args .shape .length + c .args .shape .length ≤ length
+    (now (c .args .taps))
 taps-inside c = let a = c .args in taps-end (a .shape) (a .speaker) (a .row) (now (a .taps)) (now (a .rings)) (c .pre)
 
 row-inside : (c : tie.Start) → c .args .row * 2 < length (now (c .args .taps))

@@ -1,4 +1,5 @@
--- `hrtf::parts::run_back` meets its contract: `hrtf_rings`' `Running`, once for each ear; and `nan-heard`, at a NaN. Assumes nothing.
+-- `hrtf::parts::run_back` meets its contract: `hrtf_rings`' `Running`, once for each ear; and `nan-heard`, at a NaN.
+-- Assumes nothing.
 use Prim.Native.Nat.{_-_}
 use mathlib.Core.Path.{refl}
 use native.Mathlib.Omega.{arith}

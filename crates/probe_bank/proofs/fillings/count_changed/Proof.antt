@@ -1,4 +1,5 @@
--- `probe_bank::fillings::count_changed` meets its contract: what was counted, and what is left to count, make the whole. Assumes nothing.
+-- `probe_bank::fillings::count_changed` meets its contract: what was counted, and what is left to count, make the
+-- whole. Assumes nothing.
 use mathlib.Core.Path.{_≡_}
 use Prim.Native.Nat.{_+_, _-_, _≤_}
 use native.Mathlib.Omega.{arith}
@@ -23,7 +24,12 @@ add-count : tie.Need-add-count Inv-loop μ-loop
 add-count c =
     let at-loop = c .before .before .before in
     let start = at-loop .before .before in
-    omega (arith, c .changed .ensures, one-at-most (changedAt (at-loop .loop .i) (getD (start .args .list .now) (at-loop .loop .i) nan)))
+    omega (
+      arith,
+      c .changed .ensures,
+      one-at-most
+          (changedAt (at-loop .loop .i) (getD (start .args .list .now) (at-loop .loop .i) nan)),
+    )
 
 loop-again : tie.Need-loop-again Inv-loop μ-loop
 loop-again c =
@@ -32,7 +38,12 @@ loop-again c =
     let start = at-loop .before .before in
     let list = start .args .list .now in
     let i = at-loop .loop .i in
-    omega (arith, c .changed .ensures, one-at-most (changedAt i (getD list i nan)), count-more list i (at-loop-test .loop-test .taken))
+    omega (
+      arith,
+      c .changed .ensures,
+      one-at-most (changedAt i (getD list i nan)),
+      count-more list i (at-loop-test .loop-test .taken),
+    )
 
 returns : tie.Need-returns Inv-loop μ-loop
 returns c =
@@ -41,4 +52,5 @@ returns c =
 
 pub count-changed-spec : {M : Type 1} → statement M
 count-changed-spec =
-    tie.close (tie.spec Inv-loop μ-loop loop-holds (λ c. omega arith) (λ c. omega arith) (λ c κs. omega arith) add-count (λ c. omega arith) (λ c. omega arith) loop-again returns)
+    tie.close (tie.spec Inv-loop μ-loop loop-holds (λ c. omega arith) (λ c. omega arith) (λ c κs. omega arith) add-count
+    (λ c. omega arith) (λ c. omega arith) loop-again returns)

@@ -22,7 +22,8 @@ loop-holds c = let l = now (c .args .list) in filling-none byteFilling (length l
 loop-again : tie.Need-loop-again Inv-loop μ-loop
 loop-again c =
     let l = now (c .before .before .args .list) in
-    filling-more byteFilling (length l) l (c .before .loop .list) (c .before .loop .i) _ (c .before .loop .inv) (omega (arith, c .loop-test .taken, c .before .loop .inv .same)) (omega arith) refl
+    filling-more byteFilling (length l) l (c .before .loop .list) (c .before .loop .i) _ (c .before .loop .inv)
+    (omega (arith, c .loop-test .taken, c .before .loop .inv .same)) (omega arith) refl
 
 same-length : tie.Need-same-length Inv-loop μ-loop
 same-length c = c .before .loop .inv .same
@@ -30,10 +31,12 @@ same-length c = c .before .loop .inv .same
 returns : tie.Need-returns Inv-loop μ-loop
 returns c =
     let l = now (c .before .before .args .list) in
-    filling-whole byteFilling (length l) l (c .before .loop .list) (c .before .loop .i) (c .before .loop .inv) (omega (arith, c .loop-test .left, c .before .loop .inv .same)) refl
+    filling-whole byteFilling (length l) l (c .before .loop .list) (c .before .loop .i) (c .before .loop .inv)
+    (omega (arith, c .loop-test .left, c .before .loop .inv .same)) refl
 
 pub fill-bytes-spec : {M : Type 1} → statement M
 fill-bytes-spec =
     tie.close
-    (tie.spec Inv-loop μ-loop loop-holds (λ c. omega arith) (λ c. omega arith) (λ c. search needs) (λ c. omega arith) (λ c. omega arith) (λ c. omega arith) loop-again same-length
+    (tie.spec Inv-loop μ-loop loop-holds (λ c. omega arith) (λ c. omega arith) (λ c. search needs) (λ c. omega arith)
+    (λ c. omega arith) (λ c. omega arith) loop-again same-length
     returns)

@@ -24,7 +24,8 @@ loop-again c =
     let start = at-loop .before .before in
     let l = now (start .args .list) in
     let turn = at-loop .loop in
-    filling-more tapFilling (length l) l (turn .list) (turn .i) (c .filling .result) (turn .inv) (omega (arith, c .before .loop-test .taken, turn .inv .same)) (omega arith) (c .filling .ensures)
+    filling-more tapFilling (length l) l (turn .list) (turn .i) (c .filling .result) (turn .inv)
+    (omega (arith, c .before .loop-test .taken, turn .inv .same)) (omega arith) (c .filling .ensures)
 
 same-length : tie.Need-same-length Inv-loop μ-loop
 same-length c = c .before .loop .inv .same
@@ -34,8 +35,10 @@ returns c =
     let at-loop = c .before in
     let start = at-loop .before .before in
     let l = now (start .args .list) in
-    filling-whole tapFilling (length l) l (at-loop .loop .list) (at-loop .loop .i) (at-loop .loop .inv) (omega (arith, c .loop-test .left, at-loop .loop .inv .same)) refl
+    filling-whole tapFilling (length l) l (at-loop .loop .list) (at-loop .loop .i) (at-loop .loop .inv)
+    (omega (arith, c .loop-test .left, at-loop .loop .inv .same)) refl
 
 pub fill-f32s-spec : {M : Type 1} → statement M
 fill-f32s-spec =
-    tie.close (tie.spec Inv-loop μ-loop loop-holds (λ c κs. omega arith) (λ c. omega arith) (λ c. omega arith) (λ c. omega arith) (λ c. omega arith) loop-again same-length returns)
+    tie.close (tie.spec Inv-loop μ-loop loop-holds (λ c κs. omega arith) (λ c. omega arith) (λ c. omega arith)
+    (λ c. omega arith) (λ c. omega arith) loop-again same-length returns)

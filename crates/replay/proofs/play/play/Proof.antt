@@ -8,11 +8,14 @@ use Rattle.replay.proofs.play.play.Statement.{statement}
 use Rattle.replay.proofs.play.play.Tie as tie
 
 abbrev Inv-loop : tie.InvT-loop
-Inv-loop shape frames stride stamps inputs weights row-of taps rings₀ ear-stride ears₀ block₀ own₀ so-far₀ rings ears block own so-far =
-    LoopOverTable (lineOf shape frames stride stamps inputs weights row-of taps ear-stride) so-far₀ rings₀ ears₀ block₀ own₀ so-far rings ears block own
+Inv-loop shape frames stride stamps inputs weights row-of taps rings₀ ear-stride ears₀ block₀ own₀ so-far₀ rings ears
+    block own so-far =
+    LoopOverTable (lineOf shape frames stride stamps inputs weights row-of taps ear-stride) so-far₀ rings₀ ears₀ block₀
+    own₀ so-far rings ears block own
 
 abbrev μ-loop : tie.MeasureT-loop
-μ-loop shape frames stride stamps inputs weights row-of taps rings₀ ear-stride ears₀ block₀ own₀ so-far₀ rings ears block own so-far =
+μ-loop shape frames stride stamps inputs weights row-of taps rings₀ ear-stride ears₀ block₀ own₀ so-far₀ rings ears
+    block own so-far =
     leftIn (lineOf shape frames stride stamps inputs weights row-of taps ear-stride) so-far
 
 -- what is given
@@ -22,13 +25,25 @@ start c = c .before .before .before .before .before .before .before .before .bef
 loop-holds : tie.Need-loop-holds Inv-loop μ-loop
 loop-holds c =
     let s = c .before .before .before .before .before .before .before .before in
-    record { turns = turns-none (s .pre .1 .1 .within); rings-long = refl; ears-long = refl; block-long = refl; own-long = refl }
+    record {
+      turns =
+          turns-none (s .pre .1 .1 .within);
+      rings-long = refl;
+      ears-long = refl;
+      block-long = refl;
+      own-long = refl;
+    }
 
 turn-requires : tie.Need-turn-requires Inv-loop μ-loop
 turn-requires c κs =
     let at = c .before .before .before .before .before .before in
-    let s = start at in
-    (s .pre .0, (loop-kept (at .loop .inv) (s .pre .0) (s .pre .1 .0), turns-room (at .loop .inv .turns) (s .pre .1 .1)))
+    let s = start at in (
+      s .pre .0,
+      (
+        loop-kept (at .loop .inv) (s .pre .0) (s .pre .1 .0),
+        turns-room (at .loop .inv .turns) (s .pre .1 .1),
+      ),
+    )
 
 loop-less : tie.Need-loop-less Inv-loop μ-loop
 loop-less c =
@@ -55,4 +70,5 @@ returns c =
 pub play-spec : {M : Type 1} → statement M
 play-spec =
     tie.close
-    (tie.spec Inv-loop μ-loop loop-holds turn-requires loop-less loop-again (λ c. omega arith) (λ c. omega arith) (λ c. omega arith) (λ c. omega arith) returns)
+    (tie.spec Inv-loop μ-loop loop-holds turn-requires loop-less loop-again (λ c. omega arith) (λ c. omega arith)
+    (λ c. omega arith) (λ c. omega arith) returns)

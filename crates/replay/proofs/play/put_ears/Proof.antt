@@ -14,7 +14,8 @@ abbrev μ-loop : tie.MeasureT-loop
 μ-loop ears₀ ear-stride done own count n₀ ears n = count - n
 
 loop-holds : tie.Need-loop-holds Inv-loop μ-loop
-loop-holds c = let a = c .before .before .args in earing-none (now (a .ears)) (a .ear-stride) (a .done) (a .count) (frameAt (now (a .block-ears)) 64 2)
+loop-holds c = let a = c .before .before .args in earing-none (now (a .ears)) (a .ear-stride) (a .done) (a .count)
+    (frameAt (now (a .block-ears)) 64 2)
 
 loop-again : tie.Need-loop-again Inv-loop μ-loop
 loop-again c =
@@ -22,15 +23,18 @@ loop-again c =
     let test = put .before .before in
     let at = test .before in
     let a = at .before .before .before .args in
-    earing-more (now (a .ears)) (a .ear-stride) (a .done) (a .count) (frameAt (now (a .block-ears)) 64 2) (at .loop .ears) (at .loop .n) (at .loop .inv) _ (test .loop-test .taken) (put .put-pair .ensures)
+    earing-more (now (a .ears)) (a .ear-stride) (a .done) (a .count) (frameAt (now (a .block-ears)) 64 2)
+    (at .loop .ears) (at .loop .n) (at .loop .inv) _ (test .loop-test .taken) (put .put-pair .ensures)
 
 returns : tie.Need-returns Inv-loop μ-loop
 returns c =
     let at = c .before in
     let a = at .before .before .before .args in
-    earing-all (now (a .ears)) (a .ear-stride) (a .done) (a .count) (frameAt (now (a .block-ears)) 64 2) (at .loop .ears) (at .loop .n) (at .loop .inv) (c .loop-test .left)
+    earing-all (now (a .ears)) (a .ear-stride) (a .done) (a .count) (frameAt (now (a .block-ears)) 64 2)
+    (at .loop .ears) (at .loop .n) (at .loop .inv) (c .loop-test .left)
 
 pub put-ears-spec : {M : Type 1} → statement M
 put-ears-spec =
     tie.close
-    (tie.spec Inv-loop μ-loop loop-holds (λ c. omega arith) (λ c κs. tt) (λ c. omega arith) (λ c. omega arith) loop-again (λ c. omega arith) returns)
+    (tie.spec Inv-loop μ-loop loop-holds (λ c. omega arith) (λ c κs. tt) (λ c. omega arith) (λ c. omega arith)
+    loop-again (λ c. omega arith) returns)

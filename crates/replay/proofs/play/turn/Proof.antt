@@ -10,7 +10,8 @@ use Rattle.replay.proofs.play.turn.Tie as tie
 
 -- what is given
 abbrev line : tie.Start → Line
-line c = let a = c .args in lineOf (a .shape) (a .frames) (a .stride) (now (a .stamps)) (now (a .inputs)) (now (a .weights)) (now (a .row-of)) (now (a .taps)) (a .ear-stride)
+line c = let a = c .args in lineOf (a .shape) (a .frames) (a .stride) (now (a .stamps)) (now (a .inputs))
+    (now (a .weights)) (now (a .row-of)) (now (a .taps)) (a .ear-stride)
 
 abbrev start : tie.After-gather → tie.Start
 start c = c .before .before .before .before .before .before .before .before .before .before .before
@@ -35,11 +36,13 @@ rest-if-requires c κs =
     let got = proc .before .before .before .before .before .before in
     let s = start got in
     let a = s .args in
-    turn-resting (line s) (a .so-far) (got .gather .ensures) (s .pre .0) (s .pre .1 .0) (omega (arith, got .gather .kept)) (proc .process .ensures)
+    turn-resting (line s) (a .so-far) (got .gather .ensures) (s .pre .0) (s .pre .1 .0)
+    (omega (arith, got .gather .kept)) (proc .process .ensures)
 
 add-t39 : tie.Need-add-t39
 add-t39 c =
-    let before-2 = c .before .before .before .before .before .before .before .before .before .before .before .before .before .before .before .before .before .before .before .before in
+    let before-2 =
+    c .before .before .before .before .before .before .before .before .before .before .before .before .before .before .before .before .before .before .before .before in
     let got = before-2 in omega (arith, room got, start got .fits)
 
 add-t40 : tie.Need-add-t40
@@ -53,7 +56,8 @@ add-t40 c =
       room got,
       start got .fits,
       s .pre .1 .1 .few,
-      turn-few (line s) (a .so-far) (got .gather .ensures) (s .pre .0) (s .pre .1 .0) (omega (arith, got .gather .kept)) (proc .process .ensures),
+      turn-few (line s) (a .so-far) (got .gather .ensures) (s .pre .0) (s .pre .1 .0) (omega (arith, got .gather .kept))
+          (proc .process .ensures),
     )
 
 returns : tie.Need-returns
@@ -64,11 +68,14 @@ returns c =
     let got = proc .before .before .before .before .before .before in
     let s = start got in
     let a = s .args in
-    turn-made (line s) (a .so-far) (got .gather .ensures) (s .pre .0) (s .pre .1 .0) (omega (arith, got .gather .kept)) (proc .process .ensures)
-    (now (a .ears)) (put .put-ears .last .0) (rest .rest-if .last .1 .1 .1 .1 .0) (rest .rest-if .result) (put .put-ears .ensures) (rest .rest-if .ensures)
+    turn-made (line s) (a .so-far) (got .gather .ensures) (s .pre .0) (s .pre .1 .0) (omega (arith, got .gather .kept))
+    (proc .process .ensures)
+    (now (a .ears)) (put .put-ears .last .0) (rest .rest-if .last .1 .1 .1 .1 .0) (rest .rest-if .result)
+    (put .put-ears .ensures) (rest .rest-if .ensures)
 
 pub turn-spec : {M : Type 1} → statement M
 turn-spec =
     tie.close
-    (tie.spec gather-requires (λ c κs. tt) put-ears-requires rest-if-requires add-t39 add-t40 (λ c. omega arith) (λ c. omega arith) (λ c. omega arith) (λ c. omega arith)
+    (tie.spec gather-requires (λ c κs. tt) put-ears-requires rest-if-requires add-t39 add-t40 (λ c. omega arith)
+    (λ c. omega arith) (λ c. omega arith) (λ c. omega arith)
     returns)
