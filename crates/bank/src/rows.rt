@@ -62,7 +62,8 @@ pub(crate) fn fill_rows(
         (azimuthsFrom (now (file .entry)) version l 9 n) ⌝ }
     ensures elevations { λ _. ⌜ now (elevations .exit) ≡ placed (now (elevations .entry)) 0
         (elevationsFrom (now (file .entry)) version l 9 n) ⌝ }
-    ensures taps { λ _. ⌜ now (taps .exit) ≡ placed (now (taps .entry)) 0 (tapsFrom (now (file .entry)) version l 9 n) ⌝ }
+    ensures taps { λ _. ⌜ now (taps .exit) ≡ placed (now (taps .entry)) 0
+        (tapsFrom (now (file .entry)) version l 9 n) ⌝ }
 {
     let pair = 2 + bank_form::elevation_size(version);
     let mut i = 0;

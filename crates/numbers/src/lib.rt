@@ -44,7 +44,8 @@ fn nearest_shift(m: u64, t: u64) -> u64
 // unchanged: e is the field of the f64's exponent and d that of its digits.
 fn narrow_magnitude(e: u64, d: u64) -> u32
     requires { ⌜ e < 2048 ⌝ ∗ ⌜ d < 0x10_0000_0000_0000 ⌝ ∗ ⌜ (e ≡ 2047 → d ≡ 0) ⌝ }
-    ensures fields { λ r. ⌜ ((s : Bool) → toBits binary32 (narrowed (ofFields binary64 s e d)) ≡ cond s (top binary32) 0 + r) ⌝ }
+    ensures fields { λ r. ⌜ ((s : Bool) → toBits binary32 (narrowed (ofFields binary64 s e d))
+        ≡ cond s (top binary32) 0 + r) ⌝ }
     ensures small { λ r. ⌜ r ≤ 0x7f80_0000 ⌝ }
 {
     if e < 873 {

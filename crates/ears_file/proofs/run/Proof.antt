@@ -17,8 +17,7 @@ returns c =
 
 play-with-requires : tie.Need-play-with-requires
 play-with-requires c κs =
-    let before-2 = c .before .before .before .before in
-    let test = before-2 in
+    let test = c .before .before .before .before in
     (test .if1 .left, (_, test .before .before .before .before .before .before .read-bank .ensures))
 
 returns-4 : tie.Need-returns-4

@@ -8,8 +8,8 @@ use Rattle.harmonics.proofs.third_order.Tie as tie
 returns : tie.Need-returns
 unfolding upTo ofInt round ofBits
 returns c =
-    let at-second-order =
-    c .before .before .before .before .before .before .before .before .before .before .before .before .before .before in
+    let halfway = c .before .before .before .before .before .before .before in
+    let at-second-order = halfway .before .before .before .before .before .before .before in
     rw (at-second-order .second-order .ensures)
 
 pub third-order-spec : {M : Type 1} → statement M

@@ -36,8 +36,7 @@ returns c =
 returns-2 : tie.Need-returns-2
 returns-2 c =
     let at-if1 = c .before .before in
-    let before-2 = at-if1 .before in
-    let a = before-2 in (
+    let a = at-if1 .before in (
       (λ s.
           subnormal s (a .args .e) (a .args .d) (a .pre .1 .0) (at-if1 .if1 .left) (c .before .if2 .taken)
           ∙ ap (λ (x : ℕ). cond s (2 ^ 31) 0 + x) (sym (c .nearest-shift .ensures))),

@@ -13,8 +13,8 @@ use Rattle.probe_bank.proofs.put_lists.Tie as tie
 
 slice-aggregate-put-f32s : tie.Need-slice-aggregate-put-f32s
 slice-aggregate-put-f32s c =
-    let at-pre =
-    c .before .before .before .before .before .before .before .before .before .before .before .before .before .before .before .before in
+    let halfway = c .before .before .before .before .before .before .before .before in
+    let at-pre = halfway .before .before .before .before .before .before .before .before in
     sym (length-take-le _ _ (at-pre .pre .0))
 
 returns : tie.Need-returns

@@ -7,8 +7,9 @@ use Rattle.probe_planes.proofs.decode_lent.Tie as tie
 
 same-length : tie.Need-same-length
 same-length c =
-    let after-get-f64s =
-    c .before .before .before .before .before .before .before .before .before .before .before .before .before .before .before .before .before .before .before .before .before .before .before .before .before in
+    let third = c .before .before .before .before .before .before .before .before .before in
+    let two-thirds = third .before .before .before .before .before .before .before .before in
+    let after-get-f64s = two-thirds .before .before .before .before .before .before .before .before in
     after-get-f64s .get-f64s .kept .1 .1 .0
 
 returns : tie.Need-returns

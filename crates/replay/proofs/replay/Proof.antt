@@ -20,14 +20,13 @@ array-borrow-prefix-block c =
 
 slice-aggregate-replay-in : tie.Need-slice-aggregate-replay-in
 slice-aggregate-replay-in c =
-    let before-2 = c .before .before .before in
-    let asked = before-2 in sym (places-lent (asked .places .result) (channels asked) (ofBits binary32 0)
+    let asked = c .before .before .before in
+    sym (places-lent (asked .places .result) (channels asked) (ofBits binary32 0)
     (asked .places .ensures))
 
 replay-in-requires : tie.Need-replay-in-requires
 replay-in-requires c κs =
-    let before-2 = c .before .before .before .before in
-    let asked = before-2 in (
+    let asked = c .before .before .before .before in (
       (
         places-lent (asked .places .result) (channels asked) (ofBits binary32 0) (asked .places .ensures)
             ∙ asked .places .ensures,

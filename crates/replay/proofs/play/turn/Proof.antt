@@ -18,8 +18,8 @@ start c = c .before .before .before .before .before .before .before .before .bef
 
 gather-requires : tie.Need-gather-requires
 gather-requires c κs =
-    let before-2 = c .before .before .before .before .before .before .before .before .before .before in
-    let s = before-2 in (s .pre .1 .1 .within, (s .pre .0 .stamped, s .pre .1 .0 .blocked))
+    let s = c .before .before .before .before .before .before .before .before .before .before in
+    (s .pre .1 .1 .within, (s .pre .0 .stamped, s .pre .1 .0 .blocked))
 
 -- the frames that are gathered have room
 room : (c : tie.After-gather) → start c .args .so-far .done + c .gather .result .count ≤ start c .args .ear-stride
@@ -27,8 +27,8 @@ room c = let s = start c in turn-room (line s) (s .args .so-far) (c .gather .ens
 
 put-ears-requires : tie.Need-put-ears-requires
 put-ears-requires c κs =
-    let before-2 = c .before .before .before .before .before .before .before .before .before .before .before .before in
-    let got = before-2 in omega (arith, room got, start got .fits)
+    let got = c .before .before .before .before .before .before .before .before .before .before .before .before in
+    omega (arith, room got, start got .fits)
 
 rest-if-requires : tie.Need-rest-if-requires
 rest-if-requires c κs =
@@ -41,13 +41,14 @@ rest-if-requires c κs =
 
 add-t39 : tie.Need-add-t39
 add-t39 c =
-    let before-2 =
-    c .before .before .before .before .before .before .before .before .before .before .before .before .before .before .before .before .before .before .before .before in
-    let got = before-2 in omega (arith, room got, start got .fits)
+    let halfway = c .before .before .before .before .before .before .before .before .before .before in
+    let got = halfway .before .before .before .before .before .before .before .before .before .before in
+    omega (arith, room got, start got .fits)
 
 add-t40 : tie.Need-add-t40
 add-t40 c =
-    let proc = c .before .before .before .before .before .before .before .before .before .before .before .before .before .before .before .before in
+    let halfway = c .before .before .before .before .before .before .before .before in
+    let proc = halfway .before .before .before .before .before .before .before .before in
     let got = proc .before .before .before .before .before .before in
     let s = start got in
     let a = s .args in
