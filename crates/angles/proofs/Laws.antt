@@ -1,7 +1,7 @@
 -- What the crates above cite of sine and cosine, beside their promise: which angles are accepted, that the value is
 -- nearer than promised, and that of an angle that was rounded the value stands for the sine or cosine of the exact one.
 -- `w` is either wave. Assumes nothing.
-use mathlib.Core.Path.{_≡_, ap, _∙_, subst}
+use mathlib.Core.Path.{_≡_, sym, ap, _∙_, subst}
 use Prim.Native.Nat.{ℕ, _*_, _^_, _≤_, _<_}
 use native.Mathlib.Nat.{le-trans, suc-le-suc-iff}
 use native.Mathlib.Omega.{arith}

@@ -1,6 +1,6 @@
 -- What the promise of `run` rules out, whatever the bank and the line are: a refusal by another number than 9 and 13 to
 -- 20, a part frame with a place, a refusal with a count, a failure that ends as a run that was played, and more
--- unsettled frames than frames. And what that of `told` does. Assumes nothing.
+-- unsettled frames than frames. And what that of `result_line` does. Assumes nothing.
 use mathlib.Core.Path.{_≡_, sym, ap, _∙_}
 use mathlib.Core.Bool.{Bool, true, false, cond}
 use mathlib.Core.List.{List, [], _∷_}

@@ -1,5 +1,5 @@
--- No two answers of `told` meet its promise. Two of `run` do only with another bank, another line, or another failure
--- (docs/UNFIXED.md). Assumes nothing.
+-- No two answers of `result_line` meet its promise. Two of `run` do only with another bank, another line, or another
+-- failure (docs/UNFIXED.md). Assumes nothing.
 use mathlib.Core.Path.{_≡_, sym, _∙_}
 use denote.Triple.Entry.{Args}
 use Rattle.lists.specs.OneAnswer.{Lives, Answer, Allows, AllowsOneAnswer}
@@ -7,7 +7,7 @@ use Rattle.lists.proofs.Determined.{determined-by}
 use Rattle.ears_file.proofs.result_line
 use Rattle.ears_file.proofs.run
 
-result-line-unique : AllowsOneAnswer told.ended told.Reads.Learnt
+result-line-unique : AllowsOneAnswer result_line.ended result_line.Reads.Learnt
 result-line-unique κs a = determined-by (λ z h i. (h .0 i .size, (_, (h .0 i .out, _))))
 
 run-unique : (κs : Lives run.ended) (a : Args run.signature κs) (y z : Answer run.ended κs a)
