@@ -1,8 +1,8 @@
 -- The laws of fields, over the width: what a field that lies inside reads as and what writing one leaves, that reading
 -- gives what was written (`field-written`) and writing what was read changes nothing (`written-field`); and what stands
 -- at an offset, from what the list is from there on (`stands`, `stands-back`). Assumes nothing.
-use mathlib.Core.Path.{_≡_, refl, sym, ap, _∙_}
-use mathlib.Core.Bool.{Bool, true, false}
+use mathlib.Core.Path.{_≡_, sym, ap, _∙_}
+use mathlib.Core.Bool.{true, false}
 use mathlib.Core.List.{List, [], _∷_, _++_, append-assoc}
 use Prim.Native.Nat.{ℕ, zero, suc, _+_, _-_, _*_, _/_, _%_, _^_, _≤_, _<_}
 use native.Mathlib.Nat.{pow-suc, pow-le-pow-right, lt-of-lt-of-le, div-div-eq-div-mul, div-one}

@@ -13,7 +13,7 @@ use Rattle.channel.specs.Orders.{channelsOfOrder}
 use Rattle.planes.proofs.Planes.{length-with-frames}
 use Rattle.planes.proofs.Blocks.{block-accepted}
 use Rattle.cues.specs.declared.Cue.{Cue}
-use Rattle.script.specs.Rendering.{refusalOf as stretchRefusal, playedOf}
+use Rattle.script.specs.Rendering.{playedOf}
 use Rattle.script.specs.Promise.{answerOf, Block}
 use Rattle.script.specs.Stretches as Script
 use Rattle.script.proofs.Played.{room, long}

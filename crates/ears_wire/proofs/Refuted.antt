@@ -1,7 +1,7 @@
 -- What the promises rule out: samples that are lost, whatever they are, where a list is too short; a count that starts
 -- again or stays early; a rest that is not moved; and lines of other bytes. Assumes nothing.
 use mathlib.Core.Path.{_≡_, refl, sym, ap, _∙_}
-use mathlib.Core.Bool.{Bool, true, false}
+use mathlib.Core.Bool.{true, false}
 use mathlib.Core.List.{List, [], _∷_, _++_}
 use Prim.Native.Nat.{ℕ, zero, suc, _*_, _-_, _^_, _≤_, _<_}
 use native.Mathlib.Nat.{not-suc-le-zero, le-of-suc-le-suc}
@@ -12,6 +12,7 @@ use lib.ListN.{length, getD, take, drop}
 use lib.Ieee.{Float}
 use Rattle.lists.specs.Placed.{placed}
 use Rattle.lists.proofs.Placed.{placed-start}
+use Rattle.lists.proofs.Tests.{tested}
 use Rattle.checks.specs.Lengths.{unfit}
 use Rattle.ears_wire.specs.Records.{wholeIn}
 use Rattle.ears_wire.specs.Counting.{countedOn}

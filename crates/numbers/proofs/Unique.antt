@@ -1,10 +1,9 @@
 -- No two answers meet a promise. Of a conversion and of a root document 01's words alone allow one answer: the
 -- equations beside them are a help to callers and nothing that has to be believed. Assumes nothing.
 use mathlib.Core.Path.{_≡_}
-use mathlib.Core.Bool.{Bool, true, false}
+use mathlib.Core.Bool.{true, false}
 use Prim.Native.Nat.{ℕ, zero, suc}
 use native.Mathlib.Nat.{zero-lt-suc}
-use lib.IntN.{pos}
 use lib.Dec.{T, lt→ltb}
 use lib.Ieee.{Float, nan, inf, fin, Format, binary64, fits}
 use lib.Ieee.Positive.{positive}
@@ -12,9 +11,8 @@ use Rattle.lists.specs.OneAnswer.{OneAnswer, AllowsOneAnswer}
 use Rattle.lists.proofs.Determined.{determined-by}
 use Rattle.formats.proofs.Grid.{zero-written}
 use Rattle.numbers.specs.Conversions.{Narrows}
-use Rattle.numbers.specs.Roots.{rootless, NearestRoot}
-use Rattle.formats.specs.Floats.{zero-float}
 use Rattle.numbers.specs.Computed.{rootOf, rootAnswer}
+use Rattle.numbers.specs.Promise.{RootWords}
 use Rattle.numbers.specs.declared.Rooted.{Rooted}
 use Rattle.numbers.proofs.Narrows.{narrows-only}
 use Rattle.numbers.proofs.Middle.{root-only}
@@ -42,15 +40,13 @@ narrows-unique f x = determined-by (narrows-only f x)
 same : (r : Rooted) {n : ℕ} {v : Float} → (r .refusal ≡ n) × (r .value ≡ v) → r ≡ record { refusal = n; value = v }
 same r h = λ i. record { refusal = h .0 i; value = h .1 i }
 
-pub root-words : (x : Float) (r : Rooted) → T (fits binary64 x)
-    → (T (rootless x) → (r .refusal ≡ 10) × (r .value ≡ zero-float))
-    → ((s : Bool) → x ≡ fin s 0 (pos 0) → (r .refusal ≡ 0) × (r .value ≡ x))
-    → (T (positive x) → (r .refusal ≡ 0) × NearestRoot binary64 x (r .value)) → r ≡ rootAnswer x
+pub root-words : (x : Float) (r : Rooted) → T (fits binary64 x) → RootWords x r → r ≡ rootAnswer x
 unfolding rootOf
-root-words nan r h refused kept nearest = same r (refused tt)
-root-words (inf s) r h refused kept nearest = same r (refused tt)
-root-words (fin s zero e) r h refused kept nearest = same r (kept s (zero-written binary64 s e h))
-root-words (fin true (suc m) e) r h refused kept nearest = same r (refused tt)
-root-words (fin false (suc m) e) r h refused kept nearest =
+root-words nan r h words = same r (words .refused tt)
+root-words (inf s) r h words = same r (words .refused tt)
+root-words (fin s zero e) r h words = same r (words .kept s (zero-written binary64 s e h))
+root-words (fin true (suc m) e) r h words = same r (words .refused tt)
+root-words (fin false (suc m) e) r h words =
     let p : T (positive (fin false (suc m) e)) = lt→ltb 0 (suc m) (zero-lt-suc m) in
-    same r (nearest p .0, root-only binary64 (fin false (suc m) e) (r .value) h p (nearest p .1))
+    let near = words .nearest p in
+    same r (near .0, root-only binary64 (fin false (suc m) e) (r .value) h p (near .1))

@@ -15,7 +15,7 @@ use Rattle.walks.proofs.Kit.{_≡_, refl, sym, ap, subst, ℕ, suc, _-_, _<_, _
 use Rattle.walks.proofs.Kit.{Bool, false, List, [], _∷_, length, T, ltb→lt, nltb→le, lit<, Nat·lt-wfRel, Float}
 use Rattle.walks.proofs.Kit.{binary32, binary64, URA, fullShare, Ty, named, erased, imm, mut, w64, tyInt, tyBool}
 use Rattle.walks.proofs.Kit.{tyUnit, tyRef, tyFloat, tyArray, spell, Val, vint, vbool, vptr, hasTy, WT, SProp, ent}
-use Rattle.walks.proofs.Kit.{sep, id⊢, Lft, GName, Share, Fml, ftrue, fsep, fat, froom, fdies, flft, flent, Memory}
+use Rattle.walks.proofs.Kit.{sep, id⊢, Lft, GName, Share, Fml, ftrue, fsep, fat, flft, flent, Memory}
 use Rattle.walks.proofs.Kit.{Routine, Heap, Out, Env, afterSeq, afterBlock, afterTurn, Calls, Loops, Wp, atReturn}
 use Rattle.walks.proofs.Kit.{WpFn, Tables, Atoms, sem, Fun, fact, Lfts, AllOutlive, givenOf, tables, tablesOf}
 use Rattle.walks.proofs.Kit.{Given, Item, ‵, raw, _⊛_, mean, ⋆, some, later, runs, anyQ, atRet, Sq, _$_, _∵_, ! }
