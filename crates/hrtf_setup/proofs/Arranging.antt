@@ -237,7 +237,7 @@ module _ (order : ℕ) (azimuths elevations : List ℤ) (rows : ℕ) (weights : 
         words =
             record {
               arranges = a .words;
-              near = λ z s. outcome-kept order (positionOf s) .near
+              near = λ z s. outcome-kept order (positionOf s) .words
                   (position-accepted order s (offered (ofOrder order) azimuths elevations rows weights 0 refl z));
             };
       }
