@@ -67,10 +67,10 @@ module _ (l : Line) (x : Expected) (t : State) (ears : List Float) where
       let es = eventsIn l x in
       let sure = stands l x t (length ears) e in
       let count : unsettledBy u (t .desk .«to_go») [] es ≡ countedBy u t es = sym (counted-by-is u t es (sure .ringed)
-      (sure .position) (sure .waits)) in
-      let state : afterEvents u t es ≡ leftBy u t es = sym (left-by-is u t es (sure .ringed) (sure .position)) in
+      (sure .within) (sure .waits)) in
+      let state : afterEvents u t es ≡ leftBy u t es = sym (left-by-is u t es (sure .ringed) (sure .within)) in
       let sums : heardBy u (heldIn u t) es ≡ playedBy u t es = sym (played-by-held u t es (sure .ringed)
-      (sure .position)) in
+      (sure .within)) in
       λ i. answering (plannedOf x (stampsIn l)) (count i) (state i) (withFrames ears (l .earStride) 0 (sums i))
 
   pub outcome-computed : refusalIn l x t (length ears) ≡ 0 → outcome l x t ears ≡ computed
@@ -113,7 +113,7 @@ module _ (l : Line) (x : Expected) (t : State) (ears : List Float) where
         ∙ ap (framesOf (withFrames ears (l .earStride) 0 pairs) (l .earStride) 2) (sym all-heard)
         ∙ frames-read 2 ears (l .earStride) pairs (omega (arith, all-heard, fit .1)) (fit .0)
         (two-each-by (setupIn l) (heldIn (setupIn l) t) (eventsIn l x))
-        ∙ sym (played-by-held (setupIn l) t (eventsIn l x) (sure .ringed) (sure .position))
+        ∙ sym (played-by-held (setupIn l) t (eventsIn l x) (sure .ringed) (sure .within))
 
     -- frames of a plane beyond the count are unchanged
     pub beyond : (plane i : ℕ) → outIn x (stampsIn l) ≤ i → i < l .earStride
