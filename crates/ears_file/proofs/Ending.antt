@@ -28,7 +28,7 @@ use Rattle.files.proofs.Parts.{counts}
 -- bytes that are left are a part frame, and where none are left the end is the one that is given
 pub rest-refused : (e : Ended) (rest : ℕ) → (rest ≡ 0 → ⊥) → partFrame ≡ answered (restRefusal rest) e (λ n. partFrame)
 rest-refused e rest some =
-    answered-by e (λ n. partFrame) (restRefusal rest) 9 (lit< tt) (cond-true _ _ (ap not (ne-eqb rest 0 some)))
+    answered-by e (λ n. partFrame) (restRefusal rest) 9 (omega arith) (cond-true _ _ (ap not (ne-eqb rest 0 some)))
 
 pub rest-accepted : (e : Ended) (rest : ℕ) → rest ≡ 0 → e ≡ answered (restRefusal rest) e (λ n. partFrame)
 rest-accepted e rest none =
