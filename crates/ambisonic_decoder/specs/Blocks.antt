@@ -14,20 +14,20 @@ use Rattle.checks.specs.Finite.{hasNonfinite}
 use Rattle.checks.specs.Lengths.{blockUnfit}
 use Rattle.planes.specs.Planes.{frameAt}
 use Rattle.planes.specs.Sums.{mixedAll}
-use Rattle.ambisonic_decoder.specs.declared.Shape.{Shape}
+use Rattle.ambisonic_decoder.specs.declared.DecoderShape.{DecoderShape}
 
 -- the lengths of the weights, the inputs and the outputs
-abbrev pub misfit : Shape → ℕ → ℕ → ℕ → Bool
+abbrev pub misfit : DecoderShape → ℕ → ℕ → ℕ → Bool
 misfit s weights inputs out =
     blockUnfit inputs (s .channels) out (s .outputs) (s .stride) (s .frames)
     || not (eqb weights (s .outputs * s .channels))
 
-abbrev pub refusalOf : Shape → List Float → ℕ → ℕ → ℕ
+abbrev pub refusalOf : DecoderShape → List Float → ℕ → ℕ → ℕ
 refusalOf s weights inputs out =
     firstOf (2 when outside (s .outputs) 16 ∷ 2 when outside (s .channels) 16
     ∷ 5 when misfit s (length weights) inputs out ∷ 7 when hasNonfinite weights ∷ [])
 
 -- frame n of the outputs, of frame n of the inputs
-abbrev pub decoded : Shape → List Float → List Float → List (List Float)
+abbrev pub decoded : DecoderShape → List Float → List Float → List (List Float)
 decoded s weights inputs =
     tab 0 (s .frames) (λ n. mixedAll (s .outputs) (s .channels) weights (frameAt inputs (s .stride) (s .channels) n))

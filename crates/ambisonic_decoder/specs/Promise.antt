@@ -6,7 +6,7 @@ use lib.ListN.{length}
 use lib.Ieee.{Float}
 use Rattle.planes.specs.Blocks as Blocks
 use Rattle.planes.specs.Blocks.{blockOf}
-use Rattle.ambisonic_decoder.specs.declared.Shape.{Shape}
+use Rattle.ambisonic_decoder.specs.declared.DecoderShape.{DecoderShape}
 use Rattle.ambisonic_decoder.specs.declared.Decoded.{Decoded}
 use Rattle.ambisonic_decoder.specs.Blocks.{refusalOf, decoded}
 
@@ -17,9 +17,9 @@ answerOf refusal samples = record { refusal = refusal; samples = samples }
 abbrev pub Block : Type 0
 Block = Blocks.Block Decoded
 
-abbrev pub block : List Float → Shape → List Float → List Float → Block
+abbrev pub block : List Float → DecoderShape → List Float → List Float → Block
 block weights s inputs out = blockOf answerOf (refusalOf s weights (length inputs) (length out)) (s .frames) (s .stride)
     (decoded s weights inputs) out
 
-abbrev pub Processed : List Float → Shape → List Float → List Float → Decoded → List Float → Type 0
-Processed weights s inputs out answer after = record { answer = answer; out = after } ≡ block weights s inputs out
+abbrev pub DecoderPromise : List Float → DecoderShape → List Float → List Float → Decoded → List Float → Type 0
+DecoderPromise weights s inputs out answer after = record { answer = answer; out = after } ≡ block weights s inputs out

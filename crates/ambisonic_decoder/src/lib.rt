@@ -11,7 +11,7 @@ ghost use mathlib.Core.Path.{_≡_};
 ghost use Prim.Native.Nat.{_≤_};
 ghost use Rattle.planes.specs.Planes.{withFrames};
 ghost use Rattle.ambisonic_decoder.specs.Blocks.{misfit, refusalOf, decoded};
-ghost use Rattle.ambisonic_decoder.specs.Promise.{Processed};
+ghost use Rattle.ambisonic_decoder.specs.Promise.{DecoderPromise};
 
 // The refusal, and how many frames were played.
 pub struct Decoded {
@@ -20,7 +20,7 @@ pub struct Decoded {
 }
 
 // How many of each there are: outputs, channels, frames, and places in a plane.
-struct Shape {
+struct DecoderShape {
     outputs: usize,
     channels: usize,
     frames: usize,
@@ -28,7 +28,7 @@ struct Shape {
 }
 
 // Whether a lent length doesn't fit.
-fn is_misfit(shape: Shape, weights: usize, inputs: usize, out: usize) -> bool
+fn is_misfit(shape: DecoderShape, weights: usize, inputs: usize, out: usize) -> bool
     ensures { λ r. ⌜ r ≡ misfit shape weights inputs out ⌝ }
 {
     let outputs = shape.outputs;
@@ -40,7 +40,7 @@ fn is_misfit(shape: Shape, weights: usize, inputs: usize, out: usize) -> bool
 }
 
 // The first number whose test holds, or 0.
-fn refusal_of(shape: Shape, weights: &[f64], inputs: usize, out: usize) -> u8
+fn refusal_of(shape: DecoderShape, weights: &[f64], inputs: usize, out: usize) -> u8
     ensures { λ r. ⌜ r ≡ refusalOf shape (now (weights .entry)) inputs out ⌝ }
 {
     if refusals::is_outside(shape.outputs, 16) {
@@ -59,7 +59,7 @@ fn refusal_of(shape: Shape, weights: &[f64], inputs: usize, out: usize) -> u8
 }
 
 // Plays every frame.
-fn play(shape: Shape, weights: &[f64], inputs: &[f32], out: &mut [f32])
+fn play(shape: DecoderShape, weights: &[f64], inputs: &[f32], out: &mut [f32])
     ensures { λ _. ⌜ now (out .exit) ≡ withFrames (now (out .entry)) (shape .stride) 0
         (decoded shape (now (weights .entry)) (now (inputs .entry))) ⌝ }
 {
@@ -90,11 +90,11 @@ pub fn process(
     inputs: &[f32],
     out: &mut [f32],
 ) -> Decoded
-    ensures { λ r. ⌜ Processed (now (weights .entry))
+    ensures { λ r. ⌜ DecoderPromise (now (weights .entry))
         (record { outputs = outputs; channels = channels; frames = frames; stride = stride }) (now (inputs .entry))
         (now (out .entry)) r (now (out .exit)) ⌝ }
 {
-    let shape = Shape {
+    let shape = DecoderShape {
         outputs,
         channels,
         frames,

@@ -16,7 +16,7 @@ use Rattle.series.specs.Sums.{Wave}
 use Rattle.series.specs.Angles.{defined}
 use Rattle.series.proofs.Laws.{definedMost, defined-size, defined-carried}
 use Rattle.angles.specs.declared.Answer.{Answer}
-use Rattle.angles.specs.Promise.{refusalOf, Promise}
+use Rattle.angles.specs.Promise.{refusalOf, WavePromise}
 use Rattle.angles.proofs.Floats.{accepted-number}
 use Rattle.angles.proofs.Near.{computed-near}
 use Rattle.angles.proofs.Meets.{value-is}
@@ -37,7 +37,7 @@ rounded-accepted d {k} a c h =
     above : (p : ℕ) → 0 < p → 1 * 1 ≤ 1 * p
     above p h = omega arith
 
-module _ (w : Wave) (d : Float) (answer : Answer) (p : Promise w d answer) where
+module _ (w : Wave) (d : Float) (answer : Answer) (p : WavePromise w d answer) where
   -- ---- nearer than promised
   pub value-near : refusalOf d ≡ 0 → Within 50 (number (answer .value)) (defined w (number d))
   value-near h =

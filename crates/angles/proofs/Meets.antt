@@ -16,7 +16,7 @@ use Rattle.angles.specs.declared.Answer.{Answer}
 use Rattle.angles.specs.Limits.{limit, isInside}
 use Rattle.angles.specs.Computed.{turn, place, waveAt, computed}
 use Rattle.formats.specs.Floats.{zero-float}
-use Rattle.angles.specs.Promise.{isRefused, refusalOf, outcome, Promise}
+use Rattle.angles.specs.Promise.{isRefused, refusalOf, outcome, WavePromise}
 use Rattle.angles.proofs.Limits as Limits
 use Rattle.angles.proofs.Floats.{accepted-number, place-less}
 use Rattle.angles.proofs.Near.{computed-near}
@@ -42,7 +42,7 @@ module _ (w : Wave) (d : Float) where
   pub value-is : refusalOf d ≡ 0 → outcome w d .value ≡ computed w d
   value-is h = ap (λ (r : Answer). r .value) (outcome-accepted h)
 
-  pub outcome-kept : Promise w d (outcome w d)
+  pub outcome-kept : WavePromise w d (outcome w d)
   outcome-kept = record {
     bits = refl;
     words = λ h. record {
@@ -55,19 +55,20 @@ module _ (w : Wave) (d : Float) where
 
   -- ---- each keeps the promise: b is what the test said, a the place on the turn and v the value there
   pub refused-kept : (b : Bool) → b ≡ isInside limit d → not b ≡ true
-      → Promise w d (record { refusal = 3; value = zero-float })
+      → WavePromise w d (record { refusal = 3; value = zero-float })
   refused-kept b e h =
       let r : isRefused d ≡ true = refused-is d ∙ ap not (sym e) ∙ h in
-      subst (Promise w d)
+      subst (WavePromise w d)
       (sym (answered-by (accepting (computed w d)) refusing (refusalOf d) 3 (lit< tt) (cond-true 3 0 r)))
       outcome-kept
 
   pub accepted-kept : (b : Bool) (a : ℕ) (v : Float) → b ≡ isInside limit d → not b ≡ false → a ≡ place d
-      → v ≡ waveAt w a → Promise w d (record { refusal = 0; value = v })
+      → v ≡ waveAt w a → WavePromise w d (record { refusal = 0; value = v })
   unfolding computed
   accepted-kept b a v e h p q =
       let r : isRefused d ≡ false = refused-is d ∙ ap not (sym e) ∙ h in
-      subst (Promise w d) (outcome-accepted (cond-false 3 0 r) ∙ ap accepting (sym (q ∙ ap (waveAt w) p))) outcome-kept
+      subst (WavePromise w d) (outcome-accepted (cond-false 3 0 r) ∙ ap accepting (sym (q ∙ ap (waveAt w) p)))
+      outcome-kept
 
 -- ---- what its functions ask of each other on the way
 module _ (d : Float) where

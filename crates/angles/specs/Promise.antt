@@ -48,6 +48,6 @@ pub record AngleWords (w : Wave) (d value : Float) : Type 0 where
   pub exact : T (isMultiple (number d)) → value ≡ getD (exactly w) (quarters (number d)) zero-float
 
 -- every bit of the answer, and document 01's words
-pub record Promise (w : Wave) (d : Float) (answer : Answer) : Type 0 where
+pub record WavePromise (w : Wave) (d : Float) (answer : Answer) : Type 0 where
   pub bits : answer ≡ outcome w d
   pub words : refusalOf d ≡ 0 → AngleWords w d (answer .value)

@@ -175,7 +175,7 @@ enum Wave {
 
 // The sine or the cosine of d degrees. No NaN is from -1080 to 1080, and no infinity.
 fn of_degrees(wave: Wave, d: f64) -> Answer
-    ensures { λ r. ⌜ Said.Promise (Computed.waveOf wave) d r ⌝ }
+    ensures { λ r. ⌜ Said.WavePromise (Computed.waveOf wave) d r ⌝ }
 {
     if !is_inside(1080.0, d) {
         return Answer {
@@ -196,14 +196,14 @@ fn of_degrees(wave: Wave, d: f64) -> Answer
 
 // The sine of d degrees.
 pub fn sine(d: f64) -> Answer
-    ensures { λ r. ⌜ Said.Promise Sums.sine d r ⌝ }
+    ensures { λ r. ⌜ Said.WavePromise Sums.sine d r ⌝ }
 {
     of_degrees(Wave::Sine, d)
 }
 
 // The cosine of d degrees.
 pub fn cosine(d: f64) -> Answer
-    ensures { λ r. ⌜ Said.Promise Sums.cosine d r ⌝ }
+    ensures { λ r. ⌜ Said.WavePromise Sums.cosine d r ⌝ }
 {
     of_degrees(Wave::Cosine, d)
 }

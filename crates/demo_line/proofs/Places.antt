@@ -18,13 +18,13 @@ use Rattle.planes.proofs.Blocks.{block-accepted, block-refusal}
 use Rattle.panner.specs.declared.Command.the-variants.{Surround}
 use Rattle.panner.specs.declared.Panned.{Panned}
 use Rattle.panner.specs.Commands.{gainsOf}
-use Rattle.panner.specs.Blocks.{Shape, refusalOf, narrowedAll, panned, framesOf}
-use Rattle.panner.specs.Promise.{answerOf, Block, Processed}
+use Rattle.panner.specs.Blocks.{PannedShape, refusalOf, narrowedAll, panned, framesOf}
+use Rattle.panner.specs.Promise.{answerOf, Block, PannerPromise}
 use Rattle.demo_line.specs.declared.Placed.{Placed}
 use Rattle.demo_line.specs.Records.{commandAt, voiceAt, shapeAt, refusalAt, Places}
 
 -- what the panner is asked for at an azimuth
-abbrev shapeOf : Float → Shape
+abbrev shapeOf : Float → PannedShape
 shapeOf azimuth = record { command = Surround azimuth; layout = Surround51; frames = 32; stride = 32 }
 
 -- ---- what is promised of a record's bytes
@@ -53,11 +53,11 @@ module _ (bytes : List ℕ) where
 -- ---- what the panner answers to what was read of them, over planes that are lent
 module _ (bytes : List ℕ) (azimuth : Float) (voice out after : List Float) (answer : Panned)
     (azimuth-is : azimuth ≡ doubleAt bytes 0) (voice-is : voice ≡ voiceAt bytes) (long : length out ≡ 192)
-    (given : Processed (shapeOf azimuth) voice out answer after) where
-  promise : Processed (shapeAt bytes) (voiceAt bytes) out answer after
+    (given : PannerPromise (shapeOf azimuth) voice out answer after) where
+  promise : PannerPromise (shapeAt bytes) (voiceAt bytes) out answer after
   promise =
-      subst (λ (v : List Float). Processed (shapeAt bytes) v out answer after) voice-is
-      (subst (λ (a : Float). Processed (shapeOf a) voice out answer after) azimuth-is given)
+      subst (λ (v : List Float). PannerPromise (shapeAt bytes) v out answer after) voice-is
+      (subst (λ (a : Float). PannerPromise (shapeOf a) voice out answer after) azimuth-is given)
 
   abbrev refusal : ℕ
   refusal = refusalOf (shapeAt bytes) (length (voiceAt bytes)) (length out)

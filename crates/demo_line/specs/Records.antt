@@ -12,7 +12,7 @@ use Rattle.channel.specs.declared.Layout.the-variants.{Surround51}
 use Rattle.panner.specs.declared.Command.{Command}
 use Rattle.panner.specs.declared.Command.the-variants.{Surround}
 use Rattle.panner.specs.Commands.{noAngle, gainsOf, Promised}
-use Rattle.panner.specs.Blocks.{Shape, framesOf}
+use Rattle.panner.specs.Blocks.{PannedShape, framesOf}
 use Rattle.demo_line.specs.declared.Placed.{Placed}
 
 -- the azimuth stands first, and the samples behind it
@@ -23,7 +23,7 @@ abbrev pub voiceAt : List ℕ → List Float
 voiceAt bytes = floatsAt bytes 8 32
 
 -- what the panner is asked for beside the samples
-abbrev pub shapeAt : List ℕ → Shape
+abbrev pub shapeAt : List ℕ → PannedShape
 shapeAt bytes = record { command = commandAt bytes; layout = Surround51; frames = 32; stride = 32 }
 
 -- document 01, 'Refusal numbers', 3: "an angle [..] is NaN or infinite, or azimuth is outside -180..180"

@@ -20,7 +20,7 @@ use Rattle.script.specs.Rendering.{spoken}
 use Rattle.hrtf_history.specs.Setup.{Setup, SameFilters}
 use Rattle.hrtf_history.specs.Signals.{signal, damaged}
 use Rattle.hrtf_rings.specs.State.{State}
-use Rattle.hrtf_checks.specs.Call.{Call, setup, framesIn}
+use Rattle.hrtf_checks.specs.Call.{BlockCall, setup, framesIn}
 use Rattle.hrtf_checks.specs.Refusals.{refusalOf}
 use Rattle.hrtf_checks.proofs.Refusing.{some-speakers, weighed}
 use Rattle.hrtf_runs.specs.Runs.{next, fedBy, Alike, fedAll}
@@ -46,7 +46,7 @@ channel-damages u some weighed f c hc hf e =
 abbrev Weighed : Setup → Type 0
 Weighed u = (0 < u .speakers) × (length (u .weights) ≡ u .speakers * u .channels)
 
-weighed-by : (u : Setup) (c : Call) (t : State) → (refusalOf c t ≡ 0 → SameFilters (setup c) u) → (n : ℕ)
+weighed-by : (u : Setup) (c : BlockCall) (t : State) → (refusalOf c t ≡ 0 → SameFilters (setup c) u) → (n : ℕ)
     → refusalOf c t ≡ n → (fs : List (List Float)) → (0 < length fs → Weighed u)
     → 0 < length (fedBy (refusalOf c t) (framesIn c) ++ fs) → Weighed u
 weighed-by u c t a zero e fs k h =
@@ -56,7 +56,7 @@ weighed-by u c t a zero e fs k h =
     )
 weighed-by u c t a (suc n) e fs k h = k (subst (λ (m : ℕ). 0 < length (fedBy m (framesIn c) ++ fs)) e h)
 
-some-weighed : (u : Setup) (t : State) (cs : List Call) → Alike u t cs → 0 < length (fedAll t cs) → Weighed u
+some-weighed : (u : Setup) (t : State) (cs : List BlockCall) → Alike u t cs → 0 < length (fedAll t cs) → Weighed u
 some-weighed u t [] a h = absurd (not-suc-le-zero h)
 some-weighed u t (c ∷ cs) a h =
     weighed-by u c t (a .0) (refusalOf c t) refl (fedAll (next c t) cs) (some-weighed u (next c t) cs (a .1)) h

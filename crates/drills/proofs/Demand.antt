@@ -20,7 +20,7 @@ use Rattle.hrtf_history.specs.Signals.{damaged}
 use Rattle.hrtf_history.specs.History.{earSamples, upto}
 use Rattle.hrtf_rings.specs.State.{State}
 use Rattle.hrtf_rings.specs.Held.{stateOf}
-use Rattle.hrtf_checks.specs.Call.{Call}
+use Rattle.hrtf_checks.specs.Call.{BlockCall}
 use Rattle.hrtf.specs.Reset.{ResetOutcome}
 use Rattle.hrtf.proofs.Meets.{reset-by, reset-number}
 use Rattle.hrtf_runs.specs.Runs.{Alike, fedAll, soundedAll, end, unsettledCounts, sum}
@@ -106,7 +106,7 @@ module _ (u : Setup) (d : Drill) (h : Drilled u d) (n : ℕ) (l : n < length (en
 -- ---- (d)
 
 -- a reset leaves one state
-run-start : (u : Setup) (t : State) (cs : List Call) → Run u t cs → t ≡ stateOf u 0 0 []
+run-start : (u : Setup) (t : State) (cs : List BlockCall) → Run u t cs → t ≡ stateOf u 0 0 []
 run-start u t cs r = run-starts u t cs r .1 ∙ ap (λ (p : ℕ). stateOf u p 0 []) zeroed-position
   where
     zeroed-position : t .desk .position ≡ 0
@@ -116,7 +116,7 @@ run-start u t cs r = run-starts u t cs r .1 ∙ ap (λ (p : ℕ). stateOf u p 0 
         (sym (reset-number (r .desk) (u .speakers) (u .L) (r .rings) _ (r .reset))))
 
 -- so two runs that are fed the same are the same, also where each has its own reset
-run-same : (u : Setup) (t s : State) (cs ds : List Call) → Run u t cs → Run u s ds → fedAll t cs ≡ fedAll s ds
+run-same : (u : Setup) (t s : State) (cs ds : List BlockCall) → Run u t cs → Run u s ds → fedAll t cs ≡ fedAll s ds
     → (soundedAll t cs ≡ soundedAll s ds)
     × ((sum (unsettledCounts t cs) ≡ sum (unsettledCounts s ds)) × (end t cs ≡ end s ds))
 run-same u t s cs ds r q e =

@@ -15,7 +15,7 @@ use Rattle.script.specs.Promise.{answerOf, Block}
 use Rattle.script.specs.Stretches as Script
 use Rattle.hrtf_history.specs.Setup.{Setup, SameFilters}
 use Rattle.hrtf_rings.specs.State.{State}
-use Rattle.hrtf_checks.specs.Call.{Call, setup, framesIn}
+use Rattle.hrtf_checks.specs.Call.{BlockCall, setup, framesIn}
 use Rattle.hrtf_checks.specs.Refusals.{refusalOf}
 use Rattle.hrtf_runs.specs.Runs.{next, fedBy, fed, fedAll, Alike}
 use Rattle.drills.specs.Drills.{Planes, passing, outputs, leaves, inputs, takes}
@@ -62,7 +62,7 @@ module _ (cues : List Cue) (order : ℕ) where
 
 -- ---- the convolver
 module _ (u : Setup) where
-  fed-one : (c : Call) (t : State) (n : ℕ) → refusalOf c t ≡ n → (refusalOf c t ≡ 0 → SameFilters (setup c) u)
+  fed-one : (c : BlockCall) (t : State) (n : ℕ) → refusalOf c t ≡ n → (refusalOf c t ≡ 0 → SameFilters (setup c) u)
       → fed c t ≡ readAll (u .channels) (passing (refusalOf c t) (inputs c))
   fed-one c t zero e same =
       ap (λ (n : ℕ). fedBy n (framesIn c)) e
@@ -71,7 +71,7 @@ module _ (u : Setup) where
   fed-one c t (suc n) e same =
       ap (λ (n : ℕ). fedBy n (framesIn c)) e ∙ sym (read-by (u .channels) (inputs c) (refusalOf c t) (suc n) e)
 
-  pub fed-all : (t : State) (cs : List Call) → Alike u t cs → fedAll t cs ≡ readAll (u .channels) (takes t cs)
+  pub fed-all : (t : State) (cs : List BlockCall) → Alike u t cs → fedAll t cs ≡ readAll (u .channels) (takes t cs)
   fed-all t [] a = sym (joined-none (read (u .channels)))
   fed-all t (c ∷ cs) a =
       (λ i. fed-one c t (refusalOf c t) refl (a .0) i ++ fed-all (next c t) cs (a .1) i)

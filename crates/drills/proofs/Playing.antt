@@ -22,7 +22,7 @@ use Rattle.bank.specs.Reading.{ReadOutcome, bankFound}
 use Rattle.hrtf_desk.specs.declared.Desk.{Desk}
 use Rattle.hrtf_history.proofs.Filters.{same-filters}
 use Rattle.hrtf_rings.specs.State.{State}
-use Rattle.hrtf_checks.specs.Call.{Call}
+use Rattle.hrtf_checks.specs.Call.{BlockCall}
 use Rattle.hrtf.specs.Reset.{Resets}
 use Rattle.hrtf_setup.specs.Arrangement.{Wanted, Arrangement, arrangedBy, arrangement}
 use Rattle.hrtf_setup.specs.Arrangement as Arranging
@@ -133,7 +133,7 @@ module _ (r : ReadOutcome) (k : BankAccepted r) (d : Drill) (weights : List Floa
     (rested : Resets desk (o .answer .speakers) (r .answer .length) rings
     (record { answer = record { refusal = 0; desk = d .start .desk }; rings = d .start .rings }))
     (es : List (List Float)) (eared : Pairwise Eared (planesLeft d) es) where
-  abbrev calls : List Call
+  abbrev calls : List BlockCall
   calls = callsOf (bankFound r) o (planesLeft d) es
 
   counted : o .answer .channels ≡ channelsOfOrder (d .order)

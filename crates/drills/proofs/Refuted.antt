@@ -19,7 +19,7 @@ use Rattle.script.specs.DrillScript.{Before}
 use Rattle.hrtf_history.specs.Setup.{Setup}
 use Rattle.hrtf_history.specs.Signals.{damaged}
 use Rattle.hrtf_rings.proofs.Blocks.{fresh}
-use Rattle.hrtf_checks.specs.Call.{Call}
+use Rattle.hrtf_checks.specs.Call.{BlockCall}
 use Rattle.hrtf_checks.specs.Refusals.{refusalOf}
 use Rattle.hrtf.specs.Promise.{BlockOutcome, outcome, Processes}
 use Rattle.hrtf_runs.specs.Runs.{next, fed as fedTo, fedAll, sounded, soundedAll}
@@ -63,7 +63,7 @@ none-counted i (suc n) f h =
     ∙ none-counted (suc i) n f (λ k l. ap f (suc-add i k ∙ sym (add-suc i k)) ∙ h (suc k) (omega (arith, l)))
 
 -- a drill that begins with this call
-abbrev begun : Drill → Call → List Call → Drill
+abbrev begun : Drill → BlockCall → List BlockCall → Drill
 begun d c cs = record {
   cues = d .cues;
   order = d .order;
@@ -73,7 +73,7 @@ begun d c cs = record {
   plays = c ∷ cs;
 }
 
-module _ (u : Setup) (d : Drill) (c : Call) (cs : List Call) (h : Drilled u (begun d c cs)) (o : BlockOutcome)
+module _ (u : Setup) (d : Drill) (c : BlockCall) (cs : List BlockCall) (h : Drilled u (begun d c cs)) (o : BlockOutcome)
     (p : Processes c (d .start) o) where
   fed-among : length (fedTo c (d .start)) ≤ length (encoded d)
   fed-among = omega (
@@ -135,7 +135,7 @@ nan-counted o p = counted-before four one silent-call (refused-call ∷ one-call
     (λ n l. omega (arith, l, one-fed))
 
 -- other ears than another drill's, at frames that agree after encoding with the L-1 before them
-other-ears : (u : Setup) (d₁ d₂ : Drill) (c₁ c₂ : Call) (cs₁ cs₂ : List Call) → Drilled u (begun d₁ c₁ cs₁)
+other-ears : (u : Setup) (d₁ d₂ : Drill) (c₁ c₂ : BlockCall) (cs₁ cs₂ : List BlockCall) → Drilled u (begun d₁ c₁ cs₁)
     → Drilled u (begun d₂ c₂ cs₂)
     → (o₁ o₂ : BlockOutcome) → Processes c₁ (d₁ .start) o₁ → Processes c₂ (d₂ .start) o₂ → (n m : ℕ)
     → n < o₁ .answer .samples → m < o₂ .answer .samples → Agree u d₁ n d₂ m

@@ -30,7 +30,7 @@ use Rattle.hrtf_history.specs.History.{earOf, heard as heardAfter}
 use Rattle.hrtf_history.specs.Drill.{drill}
 use Rattle.hrtf_history.proofs.Filters.{same-filters}
 use Rattle.hrtf_rings.proofs.Blocks.{fresh}
-use Rattle.hrtf_checks.specs.Call.{Call}
+use Rattle.hrtf_checks.specs.Call.{BlockCall}
 use Rattle.hrtf_checks.specs.Refusals.{refusalOf}
 use Rattle.hrtf.specs.Promise.{outcome}
 use Rattle.hrtf.specs.Reset.{resetRefusal, Resets}
@@ -63,7 +63,7 @@ renders x =
     ∷ []
 
 -- a frame of so many samples, and its planes
-abbrev block : Float → ℕ → List Float → Call
+abbrev block : Float → ℕ → List Float → BlockCall
 block weight n planes =
     record {
       shape = record { channels = 4; speakers = 1; rows = 1; length = 2 };
@@ -78,17 +78,17 @@ block weight n planes =
 
 -- a frame of silence; a call with a NaN for a weight; and a frame of which the first channel and the last are w and the
 -- two between are y, with two of silence behind it
-abbrev pub silent-call : Call
+abbrev pub silent-call : BlockCall
 silent-call = block one-float 1 (replicate 4 zero-float)
 
-abbrev pub refused-call : Call
+abbrev pub refused-call : BlockCall
 refused-call = block nan 1 (replicate 4 one-float)
 
-abbrev sounding-call : Float → Float → Call
+abbrev sounding-call : Float → Float → BlockCall
 sounding-call w y = block one-float 3 (w ∷ zero-float ∷ zero-float ∷ y ∷ zero-float ∷ zero-float ∷ y ∷ zero-float
     ∷ zero-float ∷ w ∷ zero-float ∷ zero-float ∷ [])
 
-abbrev plays : Float → Float → List Call
+abbrev plays : Float → Float → List BlockCall
 plays w y = silent-call ∷ refused-call ∷ sounding-call w y ∷ []
 
 abbrev pub worked : List Cue → Float → Float → Float → Drill
@@ -156,10 +156,10 @@ infinite-rendered = refl
 abbrev pub one : Drill
 one = worked front one-float one-float zero-float
 
-abbrev pub one-call : Call
+abbrev pub one-call : BlockCall
 one-call = sounding-call one-float zero-float
 
-abbrev pub infinite-call : Call
+abbrev pub infinite-call : BlockCall
 infinite-call = sounding-call (inf false) nan
 
 abbrev pub infinite : Drill

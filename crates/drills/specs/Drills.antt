@@ -12,7 +12,7 @@ use Rattle.script.specs.Rendering.{rendered}
 use Rattle.script.specs.Stretches as Script
 use Rattle.hrtf_history.specs.Setup.{Setup}
 use Rattle.hrtf_rings.specs.State.{State}
-use Rattle.hrtf_checks.specs.Call.{Call}
+use Rattle.hrtf_checks.specs.Call.{BlockCall}
 use Rattle.hrtf_checks.specs.Refusals.{refusalOf}
 use Rattle.hrtf_runs.specs.Runs.{next, fedAll, soundedAll}
 use Rattle.hrtf_runs.specs.Demand.{Run}
@@ -25,7 +25,7 @@ pub record Drill : Type 0 where
   pub renders : List Script.RenderCall
   -- the rings and the desk before the first call of `process`, and the calls
   pub start : State
-  pub plays : List Call
+  pub plays : List BlockCall
 
 -- ---- the frames
 
@@ -82,10 +82,10 @@ abbrev pub planesLeft : Drill → List Planes
 planesLeft d = leaves (d .cues) (d .order) (d .first) (d .renders)
 
 -- the input planes that a call of `process` is lent, and those of calls one after another
-abbrev pub inputs : Call → Planes
+abbrev pub inputs : BlockCall → Planes
 inputs c = record { list = c .inputs; stride = c .stride; frames = c .frames }
 
-abbrev pub takes : State → List Call → List Planes
+abbrev pub takes : State → List BlockCall → List Planes
 takes t [] = []
 takes t (c ∷ cs) = passing (refusalOf c t) (inputs c) ++ takes (next c t) cs
 

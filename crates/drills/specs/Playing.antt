@@ -12,8 +12,8 @@ use Rattle.bank_form.specs.Bank as Form
 use Rattle.bank.specs.Reading.{ReadOutcome, bankFound}
 use Rattle.hrtf_desk.specs.declared.Desk.{Desk}
 use Rattle.hrtf_history.specs.Setup.{Setup}
-use Rattle.hrtf_checks.specs.declared.Shape.{Shape}
-use Rattle.hrtf_checks.specs.Call.{Call, setupOf}
+use Rattle.hrtf_checks.specs.declared.ConvolverShape.{ConvolverShape}
+use Rattle.hrtf_checks.specs.Call.{BlockCall, setupOf}
 use Rattle.hrtf.specs.Reset.{Resets}
 use Rattle.hrtf_setup.specs.Arrangement.{Arrangement}
 use Rattle.hrtf_setup.specs.Promise.{NewAmbisonic}
@@ -21,7 +21,7 @@ use Rattle.hrtf_runs.specs.NeverRefused.{BankAccepted, NoneRefused}
 use Rattle.drills.specs.Drills.{Drill, Drilled, Planes, planesLeft}
 
 -- the counts, weights and filters of a bank and of what a set-up left
-abbrev pub shapeOf : Form.Bank → Arrangement → Shape
+abbrev pub shapeOf : Form.Bank → Arrangement → ConvolverShape
 shapeOf b o =
     record { channels = o .answer .channels; speakers = o .answer .speakers; rows = Form.rows b; length = b .length }
 
@@ -30,7 +30,7 @@ setUp b o = setupOf (shapeOf b o) (o .weights) (o .rows) (b .taps)
 
 -- the call of `process` that is made of them, and is lent these planes and this list for the ears; and calls, one for
 -- each
-abbrev pub callOf : Form.Bank → Arrangement → Planes → List Float → Call
+abbrev pub callOf : Form.Bank → Arrangement → Planes → List Float → BlockCall
 callOf b o p ears = record {
   shape = shapeOf b o;
   frames = p .frames;
@@ -42,7 +42,7 @@ callOf b o p ears = record {
   ears = ears;
 }
 
-abbrev pub callsOf : Form.Bank → Arrangement → List Planes → List (List Float) → List Call
+abbrev pub callsOf : Form.Bank → Arrangement → List Planes → List (List Float) → List BlockCall
 callsOf b o [] es = []
 callsOf b o (p ∷ ps) [] = []
 callsOf b o (p ∷ ps) (e ∷ es) = callOf b o p e ∷ callsOf b o ps es

@@ -20,7 +20,7 @@ use Rattle.bank.specs.Reading.{ReadOutcome, readRefused, readBank}
 use Rattle.bank.proofs.Meets.{Lists, Accepted, read-good, read-bad}
 use Rattle.bank.proofs.Laws.{accepted-parts, accepted-is, read-is}
 use Rattle.hrtf_history.specs.Setup.{Setup}
-use Rattle.hrtf_checks.specs.declared.Shape.{Shape}
+use Rattle.hrtf_checks.specs.declared.ConvolverShape.{ConvolverShape}
 use Rattle.hrtf_checks.specs.Call.{setupOf}
 use Rattle.hrtf_setup.specs.Arrangement.{Arrangement, arrangedBy, arrangement}
 use Rattle.hrtf_setup.specs.Promise.{ofLayout, NewSurround}
@@ -40,7 +40,7 @@ abbrev zeros : List ℤ
 zeros = replicate 8 (pos 0)
 
 -- what is played with what was set up and what was read
-abbrev shapeOf : Arrangement → ReadOutcome → Shape
+abbrev shapeOf : Arrangement → ReadOutcome → ConvolverShape
 shapeOf a o = record {
   channels = a .answer .channels;
   speakers = a .answer .speakers;

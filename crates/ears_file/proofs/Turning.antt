@@ -20,8 +20,8 @@ use Rattle.hrtf_history.proofs.Pieces.{length-heard, two-each}
 use Rattle.hrtf_rings.specs.State.{State, StateFits}
 use Rattle.hrtf_rings.specs.Held.{Represents}
 use Rattle.hrtf_rings.proofs.Blocks.{rings-room, waits-few}
-use Rattle.hrtf_checks.specs.declared.Shape.{Shape}
-use Rattle.hrtf_checks.specs.Call.{Call, setupOf}
+use Rattle.hrtf_checks.specs.declared.ConvolverShape.{ConvolverShape}
+use Rattle.hrtf_checks.specs.Call.{BlockCall, setupOf}
 use Rattle.hrtf_checks.specs.Refusals.{refusalOf}
 use Rattle.hrtf.specs.Promise.{BlockOutcome, Processes, stateAfter}
 use Rattle.hrtf.proofs.Meets.{ears-over, unsettled-over}
@@ -53,7 +53,7 @@ counted-on : (count so-far more all now : ℕ) → count ≡ countedOn 0 so-far 
 counted-on count so-far more all now e f g = omega (arith, e, f, g)
 
 -- a block's call
-abbrev block : Shape → List Float → List ℕ → List Float → ℕ → List Float → List Float → Call
+abbrev block : ConvolverShape → List Float → List ℕ → List Float → ℕ → List Float → List Float → BlockCall
 block h weights rows taps n inputs ears =
     record {
       shape =
@@ -68,7 +68,7 @@ block h weights rows taps n inputs ears =
     }
 
 -- the calls of a turn: frames from bytes, a block, bytes from ears
-module _ (h : Shape) (weights : List Float) (rows : List ℕ) (taps : List Float)
+module _ (h : ConvolverShape) (weights : List Float) (rows : List ℕ) (taps : List Float)
     (ready : BlocksAccepted h weights rows taps)
     (p : Progress) (size : ℕ) (bytes : List ℕ) (inputs rings ears : List Float) (out : List ℕ)
     (sized : (p .held < size) × (size ≤ 24576) × (size ≤ length bytes))
@@ -85,7 +85,7 @@ module _ (h : Shape) (weights : List Float) (rows : List ℕ) (taps : List Float
   abbrev n : ℕ
   n = took .frames
 
-  abbrev call : Call
+  abbrev call : BlockCall
   call = block h weights rows taps n inputs₁ ears
 
   abbrev state : State

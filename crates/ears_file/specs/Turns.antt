@@ -11,7 +11,7 @@ use Rattle.hrtf_history.specs.Setup.{Setup}
 use Rattle.hrtf_history.specs.History.{unsettledIn, after}
 use Rattle.hrtf_rings.specs.State.{State, StateFits}
 use Rattle.hrtf_rings.specs.Held.{Represents}
-use Rattle.hrtf_checks.specs.declared.Shape.{Shape}
+use Rattle.hrtf_checks.specs.declared.ConvolverShape.{ConvolverShape}
 use Rattle.hrtf_checks.specs.Refusals.{refusalOf}
 use Rattle.ears_wire.specs.Records.{wholeIn, restIn}
 use Rattle.ears_wire.specs.Frames.{lineFrames}
@@ -23,7 +23,7 @@ use Rattle.ears_file.specs.Lines.{partFrame, restRefusal}
 use Rattle.ears_file.specs.Promise.{beyond}
 
 -- six channels, and the convolver refuses no block of up to 1,024 frames
-pub record BlocksAccepted (h : Shape) (weights : List Float) (rows : List ℕ) (taps : List Float) : Type 0 where
+pub record BlocksAccepted (h : ConvolverShape) (weights : List Float) (rows : List ℕ) (taps : List Float) : Type 0 where
   pub six : h .channels ≡ 6
   pub long : 0 < h .length
   pub accepts : (n : ℕ) (inputs ears : List Float) (t : State) → n ≤ 1024 → length inputs ≡ 6144 → length ears ≡ 2048

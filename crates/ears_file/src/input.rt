@@ -4,7 +4,7 @@ use crate::Ended;
 use crate::RunOutcome;
 use crate::turn::Progress;
 use crate::turn::Turn;
-use hrtf_checks::Shape;
+use hrtf_checks::ConvolverShape;
 ghost use mathlib.Core.Path.{_≡_};
 ghost use mathlib.Core.Bool.{true};
 ghost use mathlib.Core.List.{List};
@@ -56,7 +56,7 @@ fn step(
     line: i32,
     out: i32,
     limit: usize,
-    shape: Shape,
+    shape: ConvolverShape,
     weights: &[f64],
     row_of: &[usize; 8],
     taps: &[f32],
@@ -121,7 +121,7 @@ pub(crate) fn play_all(
     line: i32,
     out: i32,
     limit: usize,
-    shape: Shape,
+    shape: ConvolverShape,
     weights: &[f64],
     row_of: &[usize; 8],
     taps: &[f32],

@@ -10,7 +10,7 @@
 // bank and some line, whatever the system hands over; a bank that keeps the form is refused nowhere.
 use bank::BankRead;
 use channel::Layout;
-use hrtf_checks::Shape;
+use hrtf_checks::ConvolverShape;
 ghost use mathlib.Core.Path.{_≡_};
 ghost use mathlib.Core.Bool.{true, false};
 ghost use mathlib.Core.List.{List};
@@ -121,7 +121,7 @@ fn play_with(
         &mut weights,
         &mut row_of,
     );
-    let shape = Shape {
+    let shape = ConvolverShape {
         channels: arranged.channels,
         speakers: arranged.speakers,
         rows: read.rows,

@@ -3,7 +3,7 @@
 // whole stays for the next turn. All that is remembered between turns is one small record.
 //
 // The convolver judges each block once, and a set-up that is ready is never refused: so its refusal is not asked for.
-use hrtf_checks::Shape;
+use hrtf_checks::ConvolverShape;
 use hrtf_desk::Desk;
 ghost use mathlib.Core.Path.{_≡_};
 ghost use Prim.Native.Nat.{_≤_, _<_};
@@ -53,7 +53,7 @@ pub(crate) fn play(
     progress: Progress,
     size: usize,
     bytes: &mut [u8],
-    shape: Shape,
+    shape: ConvolverShape,
     inputs: &mut [f32; 6144],
     weights: &[f64],
     row_of: &[usize; 8],

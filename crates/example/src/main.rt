@@ -4,12 +4,13 @@ use channel::Layout;
 use harmonics::Direction;
 use libc::STDOUT_FILENO;
 use panner::Command;
-ghost use Rattle.panner.specs.Promise.{Processed};
+ghost use Rattle.panner.specs.Promise.{PannerPromise};
 
 // Plays four samples at a direction. The planes have four samples each, one plane after another.
 fn place(direction: Direction, voice: &[f32], planes: &mut [f32]) -> panner::Panned
     ensures { λ r.
-        ⌜ Processed (record { command = Command.Ambisonic direction 1; layout = Layout.Mono; frames = 4; stride = 4 })
+        ⌜ PannerPromise
+        (record { command = Command.Ambisonic direction 1; layout = Layout.Mono; frames = 4; stride = 4 })
         (now (voice .entry)) (now (planes .entry)) r (now (planes .exit)) ⌝ }
 {
     let command = Command::Ambisonic(direction, 1);

@@ -20,7 +20,8 @@ use Rattle.fractions.proofs.Within.{size-at-most}
 use Rattle.fractions.proofs.Number.{value-same, value-number}
 use Rattle.harmonics.specs.Formulas.{formulas}
 use Rattle.harmonics.specs.Computed.{wavesOf, upTo}
-use Rattle.harmonics.specs.Promise.{refusesAzimuth, refusesElevation, refusesDirection, refusalOf, Promise}
+use Rattle.harmonics.specs.Promise.{refusesAzimuth, refusesElevation, refusesDirection, refusalOf}
+use Rattle.harmonics.specs.Promise.{HarmonicsPromise}
 use Rattle.harmonics.specs.declared.Direction.{Direction}
 use Rattle.harmonics.specs.declared.Coefficients.{Coefficients}
 use Rattle.angles.proofs.Limits.{accepted-number, accepted-size, size-accepted}
@@ -72,7 +73,7 @@ pub accepted : (order : ℕ) (d : Direction) → refusesOrder order ≡ false �
     → refusalOf order d ≡ 0
 accepted order d n h = λ i. cond (n i) 1 (cond (h i) 3 0)
 
-module _ (order : ℕ) (d : Direction) (answer : Coefficients) (p : Promise order d answer) where
+module _ (order : ℕ) (d : Direction) (answer : Coefficients) (p : HarmonicsPromise order d answer) where
   pub refusal-is : answer .refusal ≡ refusalOf order d
   refusal-is = ap (λ (r : Coefficients). r .refusal) (p .bits) ∙ Kept.refusal-is order d
 

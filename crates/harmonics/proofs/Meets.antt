@@ -20,7 +20,7 @@ use Rattle.fractions.proofs.Within.{at-most-size, size-at-most}
 use Rattle.harmonics.specs.Formulas.{formulas}
 use Rattle.harmonics.specs.Computed.{wavesOf, upTo, gainsOf}
 use Rattle.harmonics.specs.Promise.{gainBits, refusesAzimuth, refusesElevation, refusesDirection, refusalOf}
-use Rattle.harmonics.specs.Promise.{silence, outcome, Promise}
+use Rattle.harmonics.specs.Promise.{silence, outcome, HarmonicsPromise}
 use Rattle.harmonics.specs.declared.Direction.{Direction}
 use Rattle.harmonics.specs.declared.Coefficients.{Coefficients}
 use Rattle.angles.proofs.Limits.{accepted-number, accepted-size}
@@ -82,7 +82,7 @@ module _ (order : ℕ) (d : Direction) where
       bounded d (a .azimuth) (a .azimuth-size) (a .elevation)
       (size-at-most (size-wider (at-most-size (a .elevation-size)) (lit≤ tt))) order (a .order-is)
 
-  pub outcome-kept : Promise order d (outcome order d)
+  pub outcome-kept : HarmonicsPromise order d (outcome order d)
   outcome-kept = record {
     bits = refl;
     words = λ h. subst (λ (xs : List Float). EachWithin gainBits xs
@@ -91,18 +91,18 @@ module _ (order : ℕ) (d : Direction) where
 
   -- ---- the three answers of the program
   pub order-refused : (r : Coefficients) → refusesOrder order ≡ true → r ≡ record { refusal = 1; gains = silence }
-      → Promise order d r
+      → HarmonicsPromise order d r
   order-refused r h e =
-      subst (Promise order d) (ap (λ (a : Bool). answer a (refusesDirection d)) h ∙ sym e) outcome-kept
+      subst (HarmonicsPromise order d) (ap (λ (a : Bool). answer a (refusesDirection d)) h ∙ sym e) outcome-kept
 
   pub direction-refused : (r : Coefficients) → refusesOrder order ≡ false → refusesDirection d ≡ true
-      → r ≡ record { refusal = 3; gains = silence } → Promise order d r
-  direction-refused r h k e = subst (Promise order d) ((λ i. answer (h i) (k i)) ∙ sym e) outcome-kept
+      → r ≡ record { refusal = 3; gains = silence } → HarmonicsPromise order d r
+  direction-refused r h k e = subst (HarmonicsPromise order d) ((λ i. answer (h i) (k i)) ∙ sym e) outcome-kept
 
   pub accepted-kept : (g : List Float) → refusesOrder order ≡ false → refusesDirection d ≡ false
-      → g ≡ gainsOf order (wavesOf d) → Promise order d (record { refusal = 0; gains = g })
+      → g ≡ gainsOf order (wavesOf d) → HarmonicsPromise order d (record { refusal = 0; gains = g })
   accepted-kept g h k e =
-      subst (Promise order d)
+      subst (HarmonicsPromise order d)
       ((λ i. answer (h i) (k i)) ∙ ap accepting
       (sym (e ∙ by-order (λ (n : ℕ). gainsOf n (wavesOf d) ≡ upTo n (wavesOf d)) refl refl refl order h)))
       outcome-kept

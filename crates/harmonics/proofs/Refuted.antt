@@ -14,7 +14,7 @@ use Rattle.series.specs.Angles.{turned, around, reduced, radians, isMultiple, q
 use Rattle.harmonics.specs.Formulas.{formulasOver}
 use Rattle.harmonics.specs.Computed.{wavesOf, upTo}
 use Rattle.angles.specs.Limits.{isInside, refusesAngle}
-use Rattle.harmonics.specs.Promise.{refusesAzimuth, refusesElevation, refusesDirection, silence, Promise}
+use Rattle.harmonics.specs.Promise.{refusesAzimuth, refusesElevation, refusesDirection, silence, HarmonicsPromise}
 use Rattle.harmonics.specs.declared.Direction.{Direction}
 use Rattle.harmonics.specs.declared.Coefficients.{Coefficients}
 use Rattle.harmonics.specs.Drill.{at}
@@ -23,38 +23,38 @@ refusal : Coefficients → ℕ
 refusal r = r .refusal
 
 -- it refuses every direction: the front is accepted
-refuses-always : Promise 1 (at 0 0) (record { refusal = 3; gains = silence }) → ⊥
+refuses-always : HarmonicsPromise 1 (at 0 0) (record { refusal = 3; gains = silence }) → ⊥
 unfolding refusal refusesAngle isInside lt le eq neg ofInt
 refuses-always p = let e : _≡_ {A = ℕ} 3 0 = ap refusal (p .bits) in omega arith
 
 -- it is silent: channel 0 is 1
-silent : Promise 1 (at 0 0) (record { refusal = 0; gains = silence }) → ⊥
+silent : HarmonicsPromise 1 (at 0 0) (record { refusal = 0; gains = silence }) → ⊥
 unfolding refusesAngle isInside lt le eq neg ofInt formulasOver
 silent p = le→leb _ _ (p .words refl .0 .near)
 
 -- it plays an order that it does not know as order 1, as 000 does
-falls-back : Promise 4 (at 0 0) (record { refusal = 0; gains = upTo 1 (wavesOf (at 0 0)) }) → ⊥
+falls-back : HarmonicsPromise 4 (at 0 0) (record { refusal = 0; gains = upTo 1 (wavesOf (at 0 0)) }) → ⊥
 unfolding refusal
 falls-back p = let e : _≡_ {A = ℕ} 0 1 = ap refusal (p .bits) in omega arith
 
 -- it plays an azimuth that is NaN as 0
-nan-in-front : Promise 1 (record { azimuth = nan; elevation = zero-float })
+nan-in-front : HarmonicsPromise 1 (record { azimuth = nan; elevation = zero-float })
     (record { refusal = 0; gains = upTo 1 (wavesOf (at 0 0)) }) → ⊥
 unfolding refusal refusesAngle
 nan-in-front p = let e : _≡_ {A = ℕ} 0 3 = ap refusal (p .bits) in omega arith
 
 -- it takes the ends of -180..180 and -90..90 for outside
-refuses-the-ends : Promise 1 (at 180 90) (record { refusal = 3; gains = silence }) → ⊥
+refuses-the-ends : HarmonicsPromise 1 (at 180 90) (record { refusal = 3; gains = silence }) → ⊥
 unfolding refusal refusesAngle isInside lt le eq neg ofInt
 refuses-the-ends p = let e : _≡_ {A = ℕ} 3 0 = ap refusal (p .bits) in omega arith
 
 -- of an order and a direction that are both refused it tells the direction
-direction-first : Promise 0 (at 181 0) (record { refusal = 3; gains = silence }) → ⊥
+direction-first : HarmonicsPromise 0 (at 181 0) (record { refusal = 3; gains = silence }) → ⊥
 unfolding refusal
 direction-first p = let e : _≡_ {A = ℕ} 3 1 = ap refusal (p .bits) in omega arith
 
 -- it keeps 33 binary places: channel 1 at 45 degrees, cut there, is more than 2^-34 too small
-cut-to-33-places : (w : Float) (g : List Float) → Promise 1 (at 45 0)
+cut-to-33-places : (w : Float) (g : List Float) → HarmonicsPromise 1 (at 45 0)
     (record { refusal = 0; gains = w ∷ fin false 6074000999 (negsuc 32) ∷ g }) → ⊥
 unfolding refusesAngle isInside lt le eq neg ofInt formulasOver defined isMultiple quarters turned reduced around
     radians sineSum term power factorial

@@ -47,7 +47,7 @@ outcome order d = answered (refusalOf order d) (record { refusal = 0; gains = up
     (λ n. record { refusal = n; gains = silence })
 
 -- every bit of the answer; and of the coefficients of an accepted direction how near each is to its formula
-pub record Promise (order : ℕ) (d : Direction) (answer : Coefficients) : Type 0 where
+pub record HarmonicsPromise (order : ℕ) (d : Direction) (answer : Coefficients) : Type 0 where
   pub bits : answer ≡ outcome order d
   pub words : refusalOf order d ≡ 0 → EachWithin gainBits (answer .gains)
       (formulas order (number (d .azimuth)) (number (d .elevation)))

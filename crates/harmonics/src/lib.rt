@@ -169,7 +169,7 @@ fn refused(refusal: u8) -> Coefficients
 
 // The coefficients of a direction, up to an order.
 pub fn compute_sh_coefficients(order: usize, direction: Direction) -> Coefficients
-    ensures { λ r. ⌜ Said.Promise order direction r ⌝ }
+    ensures { λ r. ⌜ Said.HarmonicsPromise order direction r ⌝ }
 {
     if channel::refuses_order(order) {
         return refused(1);

@@ -11,22 +11,22 @@ use Rattle.numbers.specs.Normalization.{inverseRoot}
 use Rattle.planes.proofs.Sums.{Summing, summing-none, summing-more, summing-all}
 use Rattle.hrtf_history.specs.History.{earOf}
 use Rattle.hrtf_rings.specs.Computed.{partOf}
-use Rattle.hrtf_checks.specs.declared.Shape.{Shape}
+use Rattle.hrtf_checks.specs.declared.ConvolverShape.{ConvolverShape}
 use Rattle.hrtf_checks.specs.Call.{setupOf}
 use Rattle.hrtf.specs.declared.parts.EarSums.{EarSums}
 use Rattle.hrtf.specs.Computed.{partsBy, earBy, earsBy}
 
 -- each speaker's part of an ear
-abbrev parts : Shape → ℕ → List ℕ → List Float → List Float → ℕ → ℕ → Float
+abbrev parts : ConvolverShape → ℕ → List ℕ → List Float → List Float → ℕ → ℕ → Float
 parts h p rows taps rings ear = partOf (setupOf h [] rows taps) ear p rings
 
 -- the parts of the speakers before s are added, each ear's to its own sum
-pub record Adding (h : Shape) (p : ℕ) (rows : List ℕ) (taps rings : List Float) (left right : Float)
+pub record Adding (h : ConvolverShape) (p : ℕ) (rows : List ℕ) (taps rings : List Float) (left right : Float)
     (s : ℕ) : Type 0 where
   pub to-left : Summing (parts h p rows taps rings 0) (h .speakers) left s
   pub to-right : Summing (parts h p rows taps rings 1) (h .speakers) right s
 
-module _ {h : Shape} {p : ℕ} {rows : List ℕ} {taps rings : List Float} where
+module _ {h : ConvolverShape} {p : ℕ} {rows : List ℕ} {taps rings : List Float} where
   pub adding-none : Adding h p rows taps rings zero-float zero-float 0
   adding-none =
       record {

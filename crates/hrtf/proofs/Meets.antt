@@ -24,7 +24,7 @@ use Rattle.hrtf_rings.specs.Computed.{left, played, counted}
 use Rattle.hrtf_rings.specs.Held.{heldIn, afterFrames, Represents}
 use Rattle.hrtf_rings.proofs.Blocks.{played-held, left-is, counted-is, played-heard, counted-told, left-kept}
 use Rattle.hrtf_rings.proofs.Blocks.{fresh-represents}
-use Rattle.hrtf_checks.specs.Call.{Call, setup, framesIn}
+use Rattle.hrtf_checks.specs.Call.{BlockCall, setup, framesIn}
 use Rattle.hrtf_checks.specs.Refusals.{refusalOf}
 use Rattle.hrtf.specs.Promise.{BlockOutcome, refused, accepted, outcomeBy, outcome, stateAfter, Processes}
 use Rattle.hrtf.specs.Reset.{resetChecks, resetRefusal, ResetOutcome, resetBy, resetOutcome, Resets}
@@ -33,12 +33,12 @@ use Rattle.hrtf_checks.proofs.Refusing.{ears-fit, waits, ready}
 
 -- ---- a call
 
-pub outcome-by : (c : Call) (t : State) (k : ℕ) → refusalOf c t ≡ k → outcome c t ≡ outcomeBy k c t
+pub outcome-by : (c : BlockCall) (t : State) (k : ℕ) → refusalOf c t ≡ k → outcome c t ≡ outcomeBy k c t
 unfolding outcome
 outcome-by c t k e = ap (λ (n : ℕ). outcomeBy n c t) e
 
 -- THE LAW: of every state in which a call is accepted, the program's steps make what is promised
-accepted-computed : (c : Call) (t : State) → refusalOf c t ≡ 0 → accepted c t ≡ computed c t
+accepted-computed : (c : BlockCall) (t : State) → refusalOf c t ≡ 0 → accepted c t ≡ computed c t
 accepted-computed c t e =
     let u = setup c in
     let room = ready c t e .ringed in
@@ -54,11 +54,11 @@ accepted-computed c t e =
       ears = withFrames (c .ears) (c .stride) 0 (sums i);
     }
 
-pub outcome-computed : (c : Call) (t : State) → refusalOf c t ≡ 0 → outcome c t ≡ computed c t
+pub outcome-computed : (c : BlockCall) (t : State) → refusalOf c t ≡ 0 → outcome c t ≡ computed c t
 outcome-computed c t e = outcome-by c t 0 e ∙ accepted-computed c t e
 
 -- the equation says it all
-promised : (c : Call) (t : State) (o : BlockOutcome) → o ≡ outcome c t → Processes c t o
+promised : (c : BlockCall) (t : State) (o : BlockOutcome) → o ≡ outcome c t → Processes c t o
 promised c t o e =
     record {
       bits = e;
@@ -68,7 +68,7 @@ promised c t o e =
 
 -- an accepted call over a past that rings and desk stand for: document 01's sums over it stand in the ear planes, and
 -- the count is over it
-module _ (c : Call) (t : State) (o : BlockOutcome) (p : Processes c t o) (past : List (List Float))
+module _ (c : BlockCall) (t : State) (o : BlockOutcome) (p : Processes c t o) (past : List (List Float))
     (r : Represents (setup c) past t) (z : refusalOf c t ≡ 0) where
   pub ears-over : o .ears ≡ withFrames (c .ears) (c .stride) 0 (heard (setup c) past (framesIn c))
   ears-over = ap (λ (q : BlockOutcome). q .ears) (p .bits ∙ outcome-computed c t z)
@@ -78,11 +78,13 @@ module _ (c : Call) (t : State) (o : BlockOutcome) (p : Processes c t o) (past :
   unsettled-over = ap (λ (q : BlockOutcome). q .answer .unsettled) (p .bits ∙ outcome-computed c t z)
       ∙ counted-told (setup c) past t r (framesIn c)
 
-pub promised-refused : (c : Call) (t : State) (n : ℕ) → n ≡ refusalOf c t → (n ≡ 0 → ⊥) → Processes c t (refused n c t)
+pub promised-refused : (c : BlockCall) (t : State) (n : ℕ) → n ≡ refusalOf c t → (n ≡ 0 → ⊥)
+    → Processes c t (refused n c t)
 promised-refused c t n e some = promised c t (refused n c t)
     (sym (outcome-by c t n (sym e) ∙ answered-refused (accepted c t) (λ k. refused k c t) n some))
 
-pub promised-accepted : (c : Call) (t : State) (rings₁ ears₁ : List Float) (desk₁ : Desk) (more : ℕ) → 0 ≡ refusalOf c t
+pub promised-accepted : (c : BlockCall) (t : State) (rings₁ ears₁ : List Float) (desk₁ : Desk) (more : ℕ)
+    → 0 ≡ refusalOf c t
     → BlockPlayed c t rings₁ ears₁ desk₁ more
     → Processes c t (record {
       answer =
@@ -100,7 +102,7 @@ promised-accepted c t rings₁ ears₁ desk₁ more e b =
     (b ∙ sym (outcome-computed c t (sym e)))
 
 -- zero frames change nothing
-pub none-played : (c : Call) (t : State) → refusalOf c t ≡ 0 → c .frames ≡ 0
+pub none-played : (c : BlockCall) (t : State) → refusalOf c t ≡ 0 → c .frames ≡ 0
     → outcome c t ≡ record {
       answer =
           record { refusal = 0; samples = c .frames; unsettled = 0; desk = t .desk };
@@ -123,13 +125,13 @@ none-played c t e z = outcome-computed c t e ∙ ap by (ap (framesOf (c .inputs)
         }
 
 -- two ear samples for each frame
-pub all-heard : (c : Call) (past : List (List Float)) → length (heard (setup c) past (framesIn c)) ≡ c .frames
+pub all-heard : (c : BlockCall) (past : List (List Float)) → length (heard (setup c) past (framesIn c)) ≡ c .frames
 all-heard c past = length-heard (setup c) past (framesIn c)
     ∙ length-tab 0 (c .frames) (frameAt (c .inputs) (c .stride) (c .shape .channels))
 
 -- the ear samples at frame n: document 01's sums over the call's signals up to it, newest first, and then those that
 -- the rings held
-pub ear-at : (c : Call) (t : State) → refusalOf c t ≡ 0 → (ear n : ℕ) → ear < 2 → n < c .frames
+pub ear-at : (c : BlockCall) (t : State) → refusalOf c t ≡ 0 → (ear n : ℕ) → ear < 2 → n < c .frames
     → sampleAt (outcome c t .ears) (c .stride) ear n ≡ getD
     (earSamples (setup c) (after (setup c) (heldIn (setup c) t) (take (suc n) (framesIn c)))) ear nan
 ear-at c t e ear n he hn =
@@ -145,7 +147,7 @@ ear-at c t e ear n he hn =
     ∙ ap (λ (l : List Float). getD l ear nan) (heard-from u past fs n [] (omega (arith, hn, many)))
 
 -- frames of a plane beyond the count are unchanged
-pub beyond : (c : Call) (t : State) → refusalOf c t ≡ 0 → (plane i : ℕ) → c .frames ≤ i → i < c .stride
+pub beyond : (c : BlockCall) (t : State) → refusalOf c t ≡ 0 → (plane i : ℕ) → c .frames ≤ i → i < c .stride
     → sampleAt (outcome c t .ears) (c .stride) plane i ≡ sampleAt (c .ears) (c .stride) plane i
 beyond c t e plane i h lt =
     ap (λ (o : BlockOutcome). sampleAt (o .ears) (c .stride) plane i) (outcome-by c t 0 e)

@@ -21,8 +21,8 @@ use Rattle.hrtf_history.specs.Signals.{signals}
 use Rattle.hrtf_rings.specs.State.{State}
 use Rattle.hrtf_rings.specs.Computed.{stored, ears, late, stepped, left, played, counted}
 use Rattle.hrtf_rings.proofs.RingsHoldHistory.{length-stored}
-use Rattle.hrtf_checks.specs.declared.Shape.{Shape}
-use Rattle.hrtf_checks.specs.Call.{Call, setupOf, setup, framesIn}
+use Rattle.hrtf_checks.specs.declared.ConvolverShape.{ConvolverShape}
+use Rattle.hrtf_checks.specs.Call.{BlockCall, setupOf, setup, framesIn}
 use Rattle.hrtf_checks.specs.Computed.{Ready}
 use Rattle.hrtf.specs.Promise.{BlockOutcome}
 use Rattle.hrtf.specs.declared.frames.EarSamples.{EarSamples}
@@ -30,7 +30,8 @@ use Rattle.hrtf.specs.Computed.{earsBy, FramePlayed, BlockPlayed}
 
 -- ---- one frame
 
-module _ (h : Shape) (weights : List Float) (rows : List ℕ) (taps : List Float) (t : State) (f : List Float) where
+module _ (h : ConvolverShape) (weights : List Float) (rows : List ℕ) (taps : List Float) (t : State)
+    (f : List Float) where
   abbrev u : Setup
   u = setupOf h weights rows taps
 
@@ -77,7 +78,7 @@ record Stage : Type 0 where
   pub ears : List Float
   pub count : ℕ
 
-module _ (c : Call) where
+module _ (c : BlockCall) where
   -- what comes out where frames n, n + 1, .. are played from there
   abbrev sounded : ℕ → Stage → ℕ → List (List Float) → BlockOutcome
   sounded n s more fs =
@@ -113,7 +114,7 @@ module _ (c : Call) where
       ap (λ (k : ℕ). sounded n s k (f ∷ fs))
       (sym (add-assoc (s .count) (one-late s f) (counted (setup c) (stepped (setup c) (s .state) f) fs)))
 
-pub record Playing (c : Call) (t : State) (rings ears₁ : List Float) (d : Desk) (count n : ℕ) : Type 0 where
+pub record Playing (c : BlockCall) (t : State) (rings ears₁ : List Float) (d : Desk) (count n : ℕ) : Type 0 where
   pub few : count ≤ n
   pub ready : Ready (c .shape) (d .position) (c .rows) (c .taps) rings
   pub room : length ears₁ ≡ length (c .ears)
@@ -123,7 +124,7 @@ pub record Playing (c : Call) (t : State) (rings ears₁ : List Float) (d : Desk
       (record { state = t; ears = c .ears; count = 0 })
       (record { state = record { rings = rings; desk = d }; ears = ears₁; count = count }) n
 
-module _ (c : Call) (t : State) where
+module _ (c : BlockCall) (t : State) where
   abbrev frame : ℕ → List Float
   frame = frameAt (c .inputs) (c .stride) (c .shape .channels)
 

@@ -14,7 +14,7 @@ use Rattle.lists.proofs.Tables.{length-tab}
 use Rattle.planes.specs.Planes.{frameAt}
 use Rattle.hrtf_desk.specs.declared.Desk.{Desk}
 use Rattle.hrtf_rings.specs.State.{State}
-use Rattle.hrtf_checks.specs.Call.{Call, framesIn}
+use Rattle.hrtf_checks.specs.Call.{BlockCall, framesIn}
 use Rattle.hrtf_checks.specs.Refusals.{refusalOf}
 use Rattle.hrtf_checks.proofs.Refusing.{ready}
 use Rattle.hrtf.specs.Promise.{BlockOutcome, Processes}
@@ -22,13 +22,13 @@ use Rattle.hrtf.specs.Reset.{resetRefusal, ResetOutcome, Resets}
 use Rattle.hrtf.proofs.Meets.{outcome-by, reset-by, reset-number}
 
 -- the stride for the frames
-stride-counted : (c : Call) (t : State) (o : BlockOutcome) → Processes c t o → refusalOf c t ≡ 0
+stride-counted : (c : BlockCall) (t : State) (o : BlockOutcome) → Processes c t o → refusalOf c t ≡ 0
     → (c .frames ≡ c .stride → ⊥) → o .answer .samples ≡ c .stride → ⊥
 stride-counted c t o p e other s =
     other (sym (ap (λ (q : BlockOutcome). q .answer .samples) (p .bits ∙ outcome-by c t 0 e)) ∙ s)
 
 -- the desk given in, after one frame round a ring of two cells or more
-desk-kept : (c : Call) (t : State) (o : BlockOutcome) → Processes c t o → refusalOf c t ≡ 0
+desk-kept : (c : BlockCall) (t : State) (o : BlockOutcome) → Processes c t o → refusalOf c t ≡ 0
     → c .frames ≡ 1 → 1 < c .shape .length → o .answer .desk ≡ t .desk → ⊥
 desk-kept c t o p e one long same =
     moved (t .desk .position) (c .shape .length) long (ready c t e .within)

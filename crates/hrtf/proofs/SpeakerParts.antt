@@ -22,7 +22,7 @@ use Rattle.planes.proofs.Sums.{dot-nan}
 use Rattle.hrtf_rings.specs.Unrolled.{unrolled}
 use Rattle.hrtf_rings.specs.Computed.{partBy}
 use Rattle.hrtf_rings.proofs.TwoRuns.{two-runs}
-use Rattle.hrtf_checks.specs.declared.Shape.{Shape}
+use Rattle.hrtf_checks.specs.declared.ConvolverShape.{ConvolverShape}
 use Rattle.hrtf.specs.declared.parts.EarSums.{EarSums}
 use Rattle.hrtf.specs.Computed.{TapsFor, dotEach, noSums, PartsInside, partsBy}
 
@@ -97,7 +97,7 @@ piece at n xs = take (at + n - at) (drop at xs)
 length-piece : (at n : ℕ) (xs : List Float) → at + n ≤ length xs → length (piece at n xs) ≡ n
 length-piece at n xs h = ap length (part-is at n xs) ∙ length-part xs at n h
 
-module _ (h : Shape) (s j : ℕ) (taps rings : List Float) (p : PartsInside h s j taps rings) where
+module _ (h : ConvolverShape) (s j : ℕ) (taps rings : List Float) (p : PartsInside h s j taps rings) where
   -- the left ear's taps come first, the right ear's right behind them
   right-behind : (j * 2 + 1) * h .length ≡ j * 2 * h .length + h .length
   right-behind = ap (λ (n : ℕ). n * h .length) (add-one (j * 2)) ∙ suc-mul (j * 2) (h .length)

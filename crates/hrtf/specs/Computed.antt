@@ -15,8 +15,8 @@ use Rattle.hrtf_desk.specs.declared.Desk.{Desk}
 use Rattle.hrtf_history.specs.Signals.{damaged}
 use Rattle.hrtf_rings.specs.State.{State}
 use Rattle.hrtf_rings.specs.Computed.{stored, partBy, ringEar, ears, late, left, played, counted}
-use Rattle.hrtf_checks.specs.declared.Shape.{Shape}
-use Rattle.hrtf_checks.specs.Call.{Call, setupOf, setup, framesIn}
+use Rattle.hrtf_checks.specs.declared.ConvolverShape.{ConvolverShape}
+use Rattle.hrtf_checks.specs.Call.{BlockCall, setupOf, setup, framesIn}
 use Rattle.hrtf_checks.specs.Computed.{Ready}
 use Rattle.hrtf.specs.declared.frames.Scaled.{Scaled}
 use Rattle.hrtf.specs.declared.frames.EarSamples.{EarSamples}
@@ -24,7 +24,7 @@ use Rattle.hrtf.specs.declared.parts.EarSums.{EarSums}
 use Rattle.hrtf.specs.Promise.{BlockOutcome}
 
 -- a shape with the factor of its ears' sums
-abbrev pub scaledOf : Shape → Scaled
+abbrev pub scaledOf : ConvolverShape → Scaled
 scaledOf h = record { shape = h; «inverse_root» = inverseRoot (h .speakers) }
 
 -- what playing asks: the factor is that of the shape; what an accepted call has made sure of; and that every tap is
@@ -50,7 +50,7 @@ abbrev pub noSums : EarSums
 noSums = record { left = zero-float; right = zero-float }
 
 -- where a speaker's ring stands, and the taps of a row
-pub record PartsInside (h : Shape) (s j : ℕ) (taps rings : List Float) : Type 0 where
+pub record PartsInside (h : ConvolverShape) (s j : ℕ) (taps rings : List Float) : Type 0 where
   pub ring : s < h .speakers
   pub row : j < h .rows
   pub tapped : length taps ≡ 2 * h .rows * h .length
@@ -59,21 +59,21 @@ pub record PartsInside (h : Shape) (s j : ℕ) (taps rings : List Float) : Type 
   pub finite : hasNonfinite taps ≡ false
 
 -- both ears' parts of speaker s with the taps of row j, where p is the cell that is written next
-abbrev pub partsBy : Shape → ℕ → ℕ → ℕ → List Float → List Float → EarSums
+abbrev pub partsBy : ConvolverShape → ℕ → ℕ → ℕ → List Float → List Float → EarSums
 partsBy h p s j taps rings =
     record { left = partBy (h .length) p s j 0 taps rings; right = partBy (h .length) p s j 1 taps rings }
 
 -- ---- one frame
 
 -- an ear's sample needs no weights
-abbrev pub earBy : Shape → List ℕ → List Float → ℕ → ℕ → List Float → Float
+abbrev pub earBy : ConvolverShape → List ℕ → List Float → ℕ → ℕ → List Float → Float
 earBy h rows taps side p rings = ringEar (setupOf h [] rows taps) side p rings
 
-abbrev pub earsBy : Shape → List ℕ → List Float → ℕ → List Float → EarSamples
+abbrev pub earsBy : ConvolverShape → List ℕ → List Float → ℕ → List Float → EarSamples
 earsBy h rows taps p rings = record { left = earBy h rows taps 0 p rings; right = earBy h rows taps 1 p rings }
 
 -- what one frame leaves, n having been played and `count` of them being unsettled
-pub record FramePlayed (h : Shape) (weights : List Float) (rows : List ℕ) (taps : List Float) (t : State)
+pub record FramePlayed (h : ConvolverShape) (weights : List Float) (rows : List ℕ) (taps : List Float) (t : State)
     (f : List Float) (stride n count : ℕ) (ears₀ rings₁ ears₁ : List Float) (n₁ count₁ : ℕ) (bad : Bool) : Type
     0 where
   pub ringed : rings₁ ≡ stored (setupOf h weights rows taps) t f
@@ -83,7 +83,7 @@ pub record FramePlayed (h : Shape) (weights : List Float) (rows : List ℕ) (tap
   pub damage : bad ≡ damaged (setupOf h weights rows taps) f
 
 -- what the steps of an accepted call make of it: the law `accepted-computed` ties this to the promise, in every state
-abbrev pub computed : Call → State → BlockOutcome
+abbrev pub computed : BlockCall → State → BlockOutcome
 computed c t =
     record {
       answer = record {
@@ -97,7 +97,7 @@ computed c t =
     }
 
 -- what a block leaves
-abbrev pub BlockPlayed : Call → State → List Float → List Float → Desk → ℕ → Type 0
+abbrev pub BlockPlayed : BlockCall → State → List Float → List Float → Desk → ℕ → Type 0
 BlockPlayed c t rings₁ ears₁ desk₁ more =
     record {
       answer = record { refusal = 0; samples = c .frames; unsettled = more; desk = desk₁ };

@@ -1,7 +1,7 @@
 // The frames of a block that is accepted, one after another in the order of time. A frame's signals are put
 // into the rings by `planes`, at the desk's position; then each ear's parts are added, speakers rising; then
 // the desk's record is changed where it stands.
-use hrtf_checks::Shape;
+use hrtf_checks::ConvolverShape;
 use hrtf_desk::Desk;
 ghost use mathlib.Core.Path.{_≡_};
 ghost use mathlib.Core.Bool.{cond, _||_};
@@ -25,12 +25,12 @@ pub(crate) struct Turn {
 
 // A shape, and 1.0 over the root of its speakers.
 pub(crate) struct Scaled {
-    pub(crate) shape: Shape,
+    pub(crate) shape: ConvolverShape,
     pub(crate) inverse_root: f64,
 }
 
 // The root is taken here, once for a block.
-pub(crate) fn scale(shape: Shape) -> Scaled
+pub(crate) fn scale(shape: ConvolverShape) -> Scaled
     requires { ⌜ (0 < shape .speakers) × (shape .speakers ≤ 8) ⌝ }
     ensures { λ r. ⌜ r ≡ scaledOf shape ⌝ }
 {

@@ -10,7 +10,7 @@
 // newest first, followed by those that were held; the rings left hold the newest L of these. What stands for
 // a past before the block stands for that past with the block's frames after it; what `reset` leaves stands
 // for none. Demand 3, over runs of many calls, is stated and shown in `hrtf_runs`.
-use hrtf_checks::Shape;
+use hrtf_checks::ConvolverShape;
 use hrtf_desk::Desk;
 ghost use mathlib.Core.Path.{_≡_};
 ghost use lib.ListN.{replicate};
@@ -38,7 +38,7 @@ pub struct Rested {
 // Plays the first frames of the input planes into the two ear planes, or refuses.
 pub fn process(
     desk: Desk,
-    shape: Shape,
+    shape: ConvolverShape,
     frames: usize,
     stride: usize,
     inputs: &[f32],

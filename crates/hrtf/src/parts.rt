@@ -2,7 +2,7 @@
 // its own order. The ring is worked through as two straight runs, so that no place in it is a remainder. A tap needs no
 // test for a NaN, since a block with one is refused (7) before it is played; a signal may be anything, and a NaN ends
 // the run.
-use hrtf_checks::Shape;
+use hrtf_checks::ConvolverShape;
 ghost use mathlib.Core.Path.{_≡_};
 ghost use mathlib.Core.List.{reverse};
 ghost use Prim.Native.Nat.{suc};
@@ -64,7 +64,7 @@ fn convolve_both(ring: &[f32], newest: usize, left: &[f32], right: &[f32]) -> Ea
 // One speaker's part of each ear's sum, the rings being just written at the position. Each ear's taps are handed on as
 // the part of the bank in which they stand.
 pub(crate) fn of_speaker(
-    shape: Shape,
+    shape: ConvolverShape,
     position: usize,
     speaker: usize,
     row: usize,

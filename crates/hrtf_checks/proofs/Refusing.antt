@@ -15,18 +15,18 @@ use Rattle.checks.specs.Lengths.{unfit, blockUnfit}
 use Rattle.checks.proofs.Checks.{or-off, both-off, any-off, is-equal, equal-passes, not-outside, planes-fit, fitted}
 use Rattle.hrtf_desk.specs.declared.Desk.{Desk}
 use Rattle.hrtf_rings.specs.State.{State}
-use Rattle.hrtf_checks.specs.declared.Shape.{Shape}
-use Rattle.hrtf_checks.specs.Call.{Call}
+use Rattle.hrtf_checks.specs.declared.ConvolverShape.{ConvolverShape}
+use Rattle.hrtf_checks.specs.Call.{BlockCall}
 use Rattle.hrtf_checks.specs.Computed.{Ready}
 use Rattle.hrtf_checks.specs.Refusals.{misshapen, misfit, deskOutOfRange, callChecks, refusalOf}
 
 -- a bank that is well shaped has at most 8 rows
-pub few-rows : (h : Shape) (rows : List ℕ) → misshapen h rows ≡ false → h .rows ≤ 8
+pub few-rows : (h : ConvolverShape) (rows : List ℕ) → misshapen h rows ≡ false → h .rows ≤ 8
 few-rows h rows e =
     not-outside (h .rows) 8 (or-off (outside (h .rows) 8) _ (or-off (outside (h .speakers) 8) _ e .1) .0) .1
 
 -- lists of the lengths that are asked for fit
-pub lengths-fit : (h : Shape) (frames stride inputs weights taps rings ears : ℕ) → frames ≤ stride
+pub lengths-fit : (h : ConvolverShape) (frames stride inputs weights taps rings ears : ℕ) → frames ≤ stride
     → inputs ≡ h .channels * stride → ears ≡ 2 * stride → rings ≡ h .speakers * h .length
     → weights ≡ h .speakers * h .channels → taps ≡ 2 * h .rows * h .length
     → misfit h frames stride inputs weights taps rings ears ≡ false
@@ -41,7 +41,7 @@ lengths-fit h frames stride inputs weights taps rings ears low ei ee er ew et =
 pub on-desk : (d : Desk) (L : ℕ) → d .position < L → d .«to_go» < L → deskOutOfRange d L ≡ false
 on-desk d L p w = both-off _ _ (lt-leb L (d .position) p) (lt-leb L (d .«to_go») w)
 
-module _ (c : Call) (t : State) where
+module _ (c : BlockCall) (t : State) where
   -- the number of the first test that fails
   pub refuse : (k : ℕ) → FirstAt k (callChecks c t) → numberAt k (callChecks c t) ≡ refusalOf c t
   unfolding refusalOf

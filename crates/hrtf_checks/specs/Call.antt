@@ -4,10 +4,10 @@ use mathlib.Core.List.{List}
 use lib.Ieee.{Float}
 use Rattle.planes.specs.Planes.{framesOf}
 use Rattle.hrtf_history.specs.Setup.{Setup}
-use Rattle.hrtf_checks.specs.declared.Shape.{Shape}
+use Rattle.hrtf_checks.specs.declared.ConvolverShape.{ConvolverShape}
 
-pub record Call : Type 0 where
-  pub shape : Shape
+pub record BlockCall : Type 0 where
+  pub shape : ConvolverShape
   pub frames : ℕ
   pub stride : ℕ
   pub inputs : List Float
@@ -16,7 +16,7 @@ pub record Call : Type 0 where
   pub taps : List Float
   pub ears : List Float
 
-abbrev pub setupOf : Shape → List Float → List ℕ → List Float → Setup
+abbrev pub setupOf : ConvolverShape → List Float → List ℕ → List Float → Setup
 setupOf h weights rows taps = record {
   channels = h .channels;
   speakers = h .speakers;
@@ -26,9 +26,9 @@ setupOf h weights rows taps = record {
   rows = rows;
 }
 
-abbrev pub setup : Call → Setup
+abbrev pub setup : BlockCall → Setup
 setup c = setupOf (c .shape) (c .weights) (c .rows) (c .taps)
 
 -- the frames of its input planes, in the order of time
-abbrev pub framesIn : Call → List (List Float)
+abbrev pub framesIn : BlockCall → List (List Float)
 framesIn c = framesOf (c .inputs) (c .stride) (c .shape .channels) (c .frames)

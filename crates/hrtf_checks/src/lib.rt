@@ -11,7 +11,7 @@ ghost use Rattle.hrtf_checks.specs.Refusals.{rowMissing, misshapen, misf
 
 // What stays the same from frame to frame: how many channels and speakers there are, how many rows the
 // bank has, and the length L of its filters.
-pub struct Shape {
+pub struct ConvolverShape {
     pub channels: usize,
     pub speakers: usize,
     pub rows: usize,
@@ -35,7 +35,7 @@ fn is_row_missing(row_of: &[usize; 8], speakers: usize, rows: usize) -> bool
 }
 
 // Whether speakers or bank rows are not 1..8, or channels not 1..16, or a speaker's row isn't in the bank.
-fn is_misshapen(shape: Shape, row_of: &[usize; 8]) -> bool
+fn is_misshapen(shape: ConvolverShape, row_of: &[usize; 8]) -> bool
     ensures { λ r. ⌜ r ≡ misshapen shape (now («row_of» .entry)) ⌝ }
 {
     let speakers = shape.speakers;
@@ -54,7 +54,7 @@ fn is_misshapen(shape: Shape, row_of: &[usize; 8]) -> bool
 
 // Whether a lent length doesn't fit. Products of lengths that may not fit in 64 bits are not formed.
 fn is_misfit(
-    shape: Shape,
+    shape: ConvolverShape,
     frames: usize,
     stride: usize,
     inputs: usize,
@@ -95,7 +95,7 @@ fn is_desk_out_of_range(desk: Desk, length: usize) -> bool
 // The number of the first test that holds; 0 where none does.
 pub fn refusal(
     desk: Desk,
-    shape: Shape,
+    shape: ConvolverShape,
     frames: usize,
     stride: usize,
     inputs: &[f32],

@@ -15,7 +15,7 @@ use Rattle.hrtf_rings.specs.Held.{heldIn, Represents}
 use Rattle.hrtf_rings.specs.Computed.{left, played, counted}
 use Rattle.hrtf_rings.proofs.Blocks.{played-held, counted-told, left-kept, played-append, left-append, counted-append}
 use Rattle.hrtf_rings.proofs.Filters.{played-alike, left-alike, counted-alike}
-use Rattle.hrtf_checks.specs.Call.{Call, setup, framesIn}
+use Rattle.hrtf_checks.specs.Call.{BlockCall, setup, framesIn}
 use Rattle.hrtf_checks.specs.Refusals.{refusalOf}
 use Rattle.hrtf_checks.proofs.Refusing.{ears-fit, ready}
 use Rattle.hrtf.specs.Promise.{BlockOutcome, outcomeBy, outcome, stateAfter}
@@ -25,12 +25,12 @@ use Rattle.hrtf_runs.specs.Runs.{next, fedBy, fed, sounded, Alike, fedAl
 
 -- ---- one call
 
-record Called (u : Setup) (t : State) (c : Call) : Type 0 where
+record Called (u : Setup) (t : State) (c : BlockCall) : Type 0 where
   pub sounds : sounded c t ≡ played u t (fed c t)
   pub counts : outcome c t .answer .unsettled ≡ counted u t (fed c t)
   pub leaves : next c t ≡ left u t (fed c t)
 
-called-by : (u : Setup) (t : State) (c : Call) → (refusalOf c t ≡ 0 → SameFilters (setup c) u) → (k : ℕ)
+called-by : (u : Setup) (t : State) (c : BlockCall) → (refusalOf c t ≡ 0 → SameFilters (setup c) u) → (k : ℕ)
     → refusalOf c t ≡ k → Called u t c
 called-by u t c same zero e =
     record {
@@ -70,13 +70,13 @@ called-by u t c same (suc k) e =
     fs : fed c t ≡ []
     fs = ap (λ (n : ℕ). fedBy n (framesIn c)) e
 
-called : (u : Setup) (t : State) (c : Call) → (refusalOf c t ≡ 0 → SameFilters (setup c) u) → Called u t c
+called : (u : Setup) (t : State) (c : BlockCall) → (refusalOf c t ≡ 0 → SameFilters (setup c) u) → Called u t c
 called u t c same = called-by u t c same (refusalOf c t) refl
 
 -- ---- calls one after another
 
 module _ (u : Setup) where
-  pub all-sounded : (t : State) (cs : List Call) → Alike u t cs → soundedAll t cs ≡ played u t (fedAll t cs)
+  pub all-sounded : (t : State) (cs : List BlockCall) → Alike u t cs → soundedAll t cs ≡ played u t (fedAll t cs)
   all-sounded t [] a = refl
   all-sounded t (c ∷ cs) a =
       let w = called u t c (a .0) in
@@ -85,14 +85,15 @@ module _ (u : Setup) where
       (all-sounded (next c t) cs (a .1) ∙ ap (λ (s : State). played u s (fedAll (next c t) cs)) (w .leaves))
       ∙ sym (played-append u t (fed c t) (fedAll (next c t) cs))
 
-  pub all-left : (t : State) (cs : List Call) → Alike u t cs → end t cs ≡ left u t (fedAll t cs)
+  pub all-left : (t : State) (cs : List BlockCall) → Alike u t cs → end t cs ≡ left u t (fedAll t cs)
   all-left t [] a = refl
   all-left t (c ∷ cs) a =
       let w = called u t c (a .0) in
       all-left (next c t) cs (a .1) ∙ ap (λ (s : State). left u s (fedAll (next c t) cs)) (w .leaves)
       ∙ sym (left-append u t (fed c t) (fedAll (next c t) cs))
 
-  pub all-counted : (t : State) (cs : List Call) → Alike u t cs → sum (unsettledCounts t cs) ≡ counted u t (fedAll t cs)
+  pub all-counted : (t : State) (cs : List BlockCall) → Alike u t cs
+      → sum (unsettledCounts t cs) ≡ counted u t (fedAll t cs)
   all-counted t [] a = refl
   all-counted t (c ∷ cs) a =
       let w = called u t c (a .0) in
@@ -102,11 +103,11 @@ module _ (u : Setup) where
       ∙ sym (counted-append u t (fed c t) (fedAll (next c t) cs))
 
   -- each call's count, over the past before it
-  abbrev pub owed : List (List Float) → State → List Call → List ℕ
+  abbrev pub owed : List (List Float) → State → List BlockCall → List ℕ
   owed past t [] = []
   owed past t (c ∷ cs) = unsettledIn u 0 past (fed c t) ∷ owed (after u past (fed c t)) (next c t) cs
 
-  pub all-owed : (past : List (List Float)) (t : State) (cs : List Call) → Represents u past t → Alike u t cs
+  pub all-owed : (past : List (List Float)) (t : State) (cs : List BlockCall) → Represents u past t → Alike u t cs
       → unsettledCounts t cs ≡ owed past t cs
   all-owed past t [] r a = refl
   all-owed past t (c ∷ cs) r a =

@@ -19,7 +19,7 @@ use Rattle.hrtf_history.proofs.Windows.{any-ago}
 use Rattle.hrtf_history.proofs.Silence.{damage-ago, after-is}
 use Rattle.hrtf_history.proofs.Pieces.{after-append}
 use Rattle.hrtf_rings.specs.State.{State}
-use Rattle.hrtf_checks.specs.Call.{Call}
+use Rattle.hrtf_checks.specs.Call.{BlockCall}
 use Rattle.hrtf_runs.specs.Runs.{next, fed, fedAll}
 use Rattle.hrtf_runs.specs.Demand.{frameAgo, damagedAmong, damagedCounts}
 use Rattle.hrtf_runs.proofs.Calls.{owed}
@@ -72,7 +72,7 @@ module _ (u : Setup) (finite : hasNonfinite (u .weights) ≡ false) where
             (append-assoc done (f ∷ []) (fs ++ rest)),
       )
 
-  pub owed-counts : (done : List (List Float)) (t : State) (cs : List Call)
+  pub owed-counts : (done : List (List Float)) (t : State) (cs : List BlockCall)
       → owed u (after u [] done) t cs ≡ damagedCounts u (done ++ fedAll t cs) (length done) t cs
   owed-counts done t [] = refl
   owed-counts done t (c ∷ cs) =

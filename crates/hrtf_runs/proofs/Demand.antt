@@ -20,7 +20,7 @@ use Rattle.hrtf_rings.specs.State.{State}
 use Rattle.hrtf_rings.specs.Computed.{left, played, counted}
 use Rattle.hrtf_rings.specs.Held.{Represents}
 use Rattle.hrtf_rings.proofs.Blocks.{played-heard}
-use Rattle.hrtf_checks.specs.Call.{Call}
+use Rattle.hrtf_checks.specs.Call.{BlockCall}
 use Rattle.hrtf.proofs.Meets.{reset-number}
 use Rattle.hrtf_runs.specs.Runs.{Alike, fedAll, soundedAll, unsettledCounts}
 use Rattle.hrtf_runs.specs.Demand.{Run, frameAgo, Agree, damagedAmong, damagedCounts, SameRun, Demand3}
@@ -28,19 +28,19 @@ use Rattle.hrtf_runs.proofs.Calls.{all-sounded, all-left, all-counted, 
 use Rattle.hrtf_runs.proofs.Counts.{upto-is, owed-counts}
 
 -- a run begins at the empty past
-pub run-starts : (u : Setup) (t : State) (cs : List Call) → Run u t cs → Represents u [] t
+pub run-starts : (u : Setup) (t : State) (cs : List BlockCall) → Run u t cs → Represents u [] t
 run-starts u t cs r =
     r .reset .words (sym (reset-number (r .desk) (u .speakers) (u .L) (r .rings) _ (r .reset))) u refl refl
 
 -- the whole run sounds as the frames that were fed, however it was cut
-pub run-heard : (u : Setup) (t : State) (cs : List Call) → Run u t cs → soundedAll t cs ≡ heard u [] (fedAll t cs)
+pub run-heard : (u : Setup) (t : State) (cs : List BlockCall) → Run u t cs → soundedAll t cs ≡ heard u [] (fedAll t cs)
 run-heard u t cs r = all-sounded u t cs (r .alike) ∙ played-heard u [] t (run-starts u t cs r) (fedAll t cs)
 
-run-all : (u : Setup) (t : State) (cs : List Call) → Run u t cs → length (soundedAll t cs) ≡ length (fedAll t cs)
+run-all : (u : Setup) (t : State) (cs : List BlockCall) → Run u t cs → length (soundedAll t cs) ≡ length (fedAll t cs)
 run-all u t cs r = ap length (run-heard u t cs r) ∙ length-heard u [] (fedAll t cs)
 
 -- (a)
-run-sums : (u : Setup) (t : State) (cs : List Call) → Run u t cs → (n : ℕ) → n < length (fedAll t cs)
+run-sums : (u : Setup) (t : State) (cs : List BlockCall) → Run u t cs → (n : ℕ) → n < length (fedAll t cs)
     → getD (soundedAll t cs) n [] ≡ earSamples u (upto u (fedAll t cs) n)
 run-sums u t cs r n h =
     ap (λ (l : List (List Float)). getD l n []) (run-heard u t cs r) ∙ heard-at u (fedAll t cs) n [] h
@@ -58,7 +58,7 @@ module _ (u : Setup) (finite : hasNonfinite (u .weights) ≡ false) where
   same-signals fs gs n m e k s hk hs = signal-is fs n k s hs ∙ ap (signal u s) (e k hk) ∙ sym (signal-is gs m k s hs)
 
 -- both have a damaged frame among the last L, or neither
-run-settled : (u : Setup) (t s : State) (cs ds : List Call) (n m : ℕ) → Agree u t cs n s ds m
+run-settled : (u : Setup) (t s : State) (cs ds : List BlockCall) (n m : ℕ) → Agree u t cs n s ds m
     → damagedAmong u (fedAll t cs) n ≡ damagedAmong u (fedAll s ds) m
 run-settled u t s cs ds n m e =
     ap any (tab-ext 0 (u .L) (λ k. damaged u (frameAgo u (fedAll t cs) n k))
@@ -66,7 +66,7 @@ run-settled u t s cs ds n m e =
 
 -- (b): two runs that agree on a frame and the L-1 frames before it give the same two ear samples there, whatever came
 -- earlier
-run-agree : (u : Setup) (t s : State) (cs ds : List Call) → Run u t cs → Run u s ds → (n m : ℕ)
+run-agree : (u : Setup) (t s : State) (cs ds : List BlockCall) → Run u t cs → Run u s ds → (n m : ℕ)
     → n < length (fedAll t cs) → m < length (fedAll s ds) → Agree u t cs n s ds m
     → getD (soundedAll t cs) n [] ≡ getD (soundedAll s ds) m []
 run-agree u t s cs ds r q n m hn hm e =
@@ -76,12 +76,12 @@ run-agree u t s cs ds r q n m hn hm e =
     ∙ sym (run-sums u s ds q m hm)
 
 -- (c)
-run-counts : (u : Setup) (t : State) (cs : List Call) → Run u t cs
+run-counts : (u : Setup) (t : State) (cs : List BlockCall) → Run u t cs
     → unsettledCounts t cs ≡ damagedCounts u (fedAll t cs) 0 t cs
 run-counts u t cs r = all-owed u [] t cs (run-starts u t cs r) (r .alike) ∙ owed-counts u (r .finite) [] t cs
 
 -- (d): cutting a run into blocks anywhere changes nothing. It needs no reset
-run-cut : (u : Setup) (t : State) (cs ds : List Call) → Alike u t cs → Alike u t ds → fedAll t cs ≡ fedAll t ds
+run-cut : (u : Setup) (t : State) (cs ds : List BlockCall) → Alike u t cs → Alike u t ds → fedAll t cs ≡ fedAll t ds
     → SameRun t cs ds
 run-cut u t cs ds a b e =
     record {

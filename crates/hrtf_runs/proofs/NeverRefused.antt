@@ -32,8 +32,8 @@ use Rattle.hrtf_history.specs.Setup.{Setup}
 use Rattle.hrtf_rings.specs.State.{State, StateFits}
 use Rattle.hrtf_rings.proofs.RingsHoldHistory.{left-fits}
 use Rattle.hrtf_rings.proofs.Blocks.{rings-room, waits-few}
-use Rattle.hrtf_checks.specs.declared.Shape.{Shape}
-use Rattle.hrtf_checks.specs.Call.{Call, setup, framesIn}
+use Rattle.hrtf_checks.specs.declared.ConvolverShape.{ConvolverShape}
+use Rattle.hrtf_checks.specs.Call.{BlockCall, setup, framesIn}
 use Rattle.hrtf_checks.specs.Refusals.{misshapen, misfit, deskOutOfRange, refusalOf}
 use Rattle.hrtf_checks.proofs.Refusing.{lengths-fit, on-desk, accept}
 use Rattle.hrtf.specs.Promise.{stateAfter}
@@ -58,7 +58,7 @@ taps-sound (x ∷ xs) e =
 
 -- ---- what is set up has counts and rows that the convolver takes
 
-abbrev shapeOf : ℕ → ℕ → Arrangement → Shape
+abbrev shapeOf : ℕ → ℕ → Arrangement → ConvolverShape
 shapeOf rows L o = record { channels = o .answer .channels; speakers = o .answer .speakers; rows = rows; length = L }
 
 pub well-shaped : (rows L : ℕ) (o : Arrangement) → Playable rows o → outside rows 8 ≡ false
@@ -73,23 +73,25 @@ well-shaped rows L o p few =
 
 -- ---- one call
 
-module _ (b : Bank) (v : valid b ≡ true) (o : Arrangement) (p : Playable (Form.rows b) o) (c : Call) (f : Fitted b o c)
+module _ (b : Bank) (v : valid b ≡ true) (o : Arrangement) (p : Playable (Form.rows b) o) (c : BlockCall)
+    (f : Fitted b o c)
     (t : State) (fits : StateFits (o .answer .speakers) (b .length) t) where
   form : Keeps b
   form = keeps b v
 
   shaped : misshapen (c .shape) (c .rows) ≡ false
-  shaped = ap (λ (h : Shape). misshapen h (c .rows)) (f .shape)
+  shaped = ap (λ (h : ConvolverShape). misshapen h (c .rows)) (f .shape)
       ∙ ap (misshapen (shapeOf (Form.rows b) (b .length) o)) (f .rows)
       ∙ well-shaped (Form.rows b) (b .length) o p (ap not (form .few))
 
   long : outside (c .shape .length) 512 ≡ false
-  long = ap (λ (h : Shape). outside (h .length) 512) (f .shape) ∙ ap not (form .short)
+  long = ap (λ (h : ConvolverShape). outside (h .length) 512) (f .shape) ∙ ap not (form .short)
 
   lists-fit : misfit (c .shape) (c .frames) (c .stride) (length (c .inputs)) (length (c .weights)) (length (c .taps))
       (length (t .rings)) (length (c .ears)) ≡ false
   lists-fit =
-      ap (λ (h : Shape). misfit h (c .frames) (c .stride) (length (c .inputs)) (length (c .weights)) (length (c .taps))
+      ap (λ (h : ConvolverShape). misfit h (c .frames) (c .stride) (length (c .inputs)) (length (c .weights))
+      (length (c .taps))
       (length (t .rings)) (length (c .ears))) (f .shape)
       ∙ lengths-fit (shapeOf (Form.rows b) (b .length) o) (c .frames) (c .stride) (length (c .inputs))
       (length (c .weights)) (length (c .taps)) (length (t .rings)) (length (c .ears)) (f .room) (f .inputs)
@@ -101,7 +103,7 @@ module _ (b : Bank) (v : valid b ≡ true) (o : Arrangement) (p : Playable (Form
       (ap hasNonfinite (f .taps) ∙ taps-sound (b .taps) (form .numbers))
 
   there : deskOutOfRange (t .desk) (c .shape .length) ≡ false
-  there = ap (λ (h : Shape). deskOutOfRange (t .desk) (h .length)) (f .shape)
+  there = ap (λ (h : ConvolverShape). deskOutOfRange (t .desk) (h .length)) (f .shape)
       ∙ on-desk (t .desk) (b .length) (fits .within) (fits .waits)
 
   pub set-up-accepted : refusalOf c t ≡ 0
@@ -109,7 +111,7 @@ module _ (b : Bank) (v : valid b ≡ true) (o : Arrangement) (p : Playable (Form
 
 -- ---- what a block leaves fits again
 
-pub next-fits : (speakers : ℕ) (c : Call) (t : State) → refusalOf c t ≡ 0 → StateFits speakers (c .shape .length) t
+pub next-fits : (speakers : ℕ) (c : BlockCall) (t : State) → refusalOf c t ≡ 0 → StateFits speakers (c .shape .length) t
     → StateFits speakers (c .shape .length) (next c t)
 next-fits speakers c t e r = subst (StateFits speakers (c .shape .length))
     (sym (ap stateAfter (outcome-computed c t e))) (left-fits (setup c) speakers t (framesIn c) r)
@@ -117,12 +119,13 @@ next-fits speakers c t e r = subst (StateFits speakers (c .shape .length))
 -- ---- and so every call of a run
 
 module _ (b : Bank) (v : valid b ≡ true) (o : Arrangement) (p : Playable (Form.rows b) o) where
-  pub never-refused : (cs : List Call) → AllFitted b o cs → (t : State) → StateFits (o .answer .speakers) (b .length) t
+  pub never-refused : (cs : List BlockCall) → AllFitted b o cs → (t : State)
+      → StateFits (o .answer .speakers) (b .length) t
       → NoneRefused t cs
   never-refused [] fs t r = tt
   never-refused (c ∷ cs) fs t r =
       let e = set-up-accepted b v o p c (fs .0) t r in
-      let long : c .shape .length ≡ b .length = ap (λ (h : Shape). h .length) (fs .0 .shape) in (
+      let long : c .shape .length ≡ b .length = ap (λ (h : ConvolverShape). h .length) (fs .0 .shape) in (
         e,
         never-refused cs (fs .1) (next c t)
             (subst (λ (L : ℕ). StateFits (o .answer .speakers) L (next c t)) long
@@ -225,7 +228,7 @@ module _ (file : List ℕ) (zs es : List ℤ) (xs : List Float) (r : ReadOutcome
       (e : o .answer .refusal ≡ 0)
       (d : Desk) (rings : List Float) (a : ResetOutcome)
       (rested : Resets d (o .answer .speakers) (r .answer .length) rings a) (z : a .answer .refusal ≡ 0)
-      (cs : List Call) (fs : AllFitted (bankFound r) o cs) where
+      (cs : List BlockCall) (fs : AllFitted (bankFound r) o cs) where
     plays : Playable (r .answer .rows) o → NoneRefused (record { rings = a .rings; desk = a .answer .desk }) cs
     plays p = never-refused (bankFound r) keeps-form o (subst (λ (n : ℕ). Playable n o) rows-are p) cs fs
         (record { rings = a .rings; desk = a .answer .desk })

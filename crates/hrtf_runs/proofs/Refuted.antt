@@ -21,7 +21,7 @@ use Rattle.hrtf_history.proofs.FiniteInputInfiniteSignal.{largest, two, loud-un
 use Rattle.hrtf_rings.specs.State.{State}
 use Rattle.hrtf_rings.specs.Held.{heldIn, Represents}
 use Rattle.hrtf_rings.proofs.Blocks.{fresh, fresh-represents}
-use Rattle.hrtf_checks.specs.Call.{Call, setup, framesIn}
+use Rattle.hrtf_checks.specs.Call.{BlockCall, setup, framesIn}
 use Rattle.hrtf_checks.specs.Refusals.{refusalOf}
 use Rattle.hrtf.specs.Promise.{BlockOutcome, outcome, Processes}
 use Rattle.hrtf.proofs.Meets.{ear-at, ears-over, unsettled-over}
@@ -39,7 +39,7 @@ unfolding isWhole
 half≢one e = true≢false (sym (ap isWhole e))
 
 -- the drill's samples in one block
-abbrev whole : Float → Call
+abbrev whole : Float → BlockCall
 whole x = block 3 (x ∷ zero-float ∷ zero-float ∷ []) one-float
 
 accepts : (x : Float) → refusalOf (whole x) (fresh drill) ≡ 0
@@ -56,7 +56,7 @@ refuses o p n e = suc-ne-zero n (sym e ∙ ap (λ (q : BlockOutcome). q .answer 
 
 -- no writing, of every call in every state: the ears unchanged, where one of the lent samples was not already document
 -- 01's sum
-unwritten : (c : Call) (t : State) (o : BlockOutcome) → Processes c t o → refusalOf c t ≡ 0 → (ear n : ℕ) → ear < 2
+unwritten : (c : BlockCall) (t : State) (o : BlockOutcome) → Processes c t o → refusalOf c t ≡ 0 → (ear n : ℕ) → ear < 2
     → n < c .frames
     → (sampleAt (c .ears) (c .stride) ear n ≡ getD
     (earSamples (setup c) (after (setup c) (heldIn (setup c) t) (take (suc n) (framesIn c)))) ear nan → ⊥)
@@ -67,7 +67,7 @@ unwritten c t o p e ear n he hn other same =
 
 -- drill 8 into any six lent cells
 module _ (a b c d e f : Float) where
-  abbrev into : Call
+  abbrev into : BlockCall
   into =
       record {
         shape = whole one-float .shape;
@@ -131,7 +131,7 @@ invented o p n other e = other (sym e ∙ count-is o p)
 -- ---- damage judged on the inputs
 
 -- the block of a finite sample, whose signal narrows to an infinite one
-loud : Call
+loud : BlockCall
 loud = block 1 (largest ∷ []) two
 
 loud-starts : Represents (setup loud) [] (fresh drill)

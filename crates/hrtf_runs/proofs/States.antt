@@ -13,7 +13,7 @@ use Rattle.planes.specs.Sums.{mixed}
 use Rattle.numbers.specs.Normalization.{inverseRoot}
 use Rattle.hrtf_history.specs.History.{earOf}
 use Rattle.hrtf_history.specs.Drill.{drill}
-use Rattle.hrtf_checks.specs.Call.{Call}
+use Rattle.hrtf_checks.specs.Call.{BlockCall}
 use Rattle.hrtf_checks.specs.Refusals.{refusalOf}
 use Rattle.hrtf.specs.Promise.{BlockOutcome, outcome}
 use Rattle.hrtf_runs.proofs.Worked.{block}
@@ -50,7 +50,7 @@ unfolding refusalOf outcome flatten mixed earOf inverseRoot rootOf rootUnits who
 minus-zeros = refl
 
 -- L = 3, every cell 0.0 and one frame to go: of two frames of silence the first is unsettled
-abbrev three : Call
+abbrev three : BlockCall
 three =
     record {
       shape = record { channels = 1; speakers = 1; rows = 1; length = 3 };

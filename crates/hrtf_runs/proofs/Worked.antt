@@ -18,7 +18,7 @@ use Rattle.hrtf_history.specs.Drill.{drill, samples}
 use Rattle.hrtf_history.proofs.Drill.{drill-8, drill-9-heard}
 use Rattle.hrtf_rings.specs.Held.{Represents}
 use Rattle.hrtf_rings.proofs.Blocks.{fresh, fresh-represents}
-use Rattle.hrtf_checks.specs.Call.{Call}
+use Rattle.hrtf_checks.specs.Call.{BlockCall}
 use Rattle.hrtf_checks.specs.Refusals.{refusalOf}
 use Rattle.hrtf.specs.Promise.{outcome}
 use Rattle.hrtf.specs.Reset.{resetRefusal, Resets}
@@ -28,7 +28,7 @@ use Rattle.hrtf_runs.specs.Demand.{Run}
 use Rattle.hrtf_runs.proofs.Demand.{run-heard}
 
 -- a call with the drill's filters: so many samples, and a weight
-abbrev pub block : ℕ → List Float → Float → Call
+abbrev pub block : ℕ → List Float → Float → BlockCall
 block n xs weight =
     record {
       shape = record { channels = 1; speakers = 1; rows = 1; length = 2 };
@@ -42,7 +42,7 @@ block n xs weight =
     }
 
 -- a sample, a call with a NaN for a weight, no frame at all, and two samples of silence
-abbrev calls : Float → List Call
+abbrev calls : Float → List BlockCall
 calls x = block 1 (x ∷ []) one-float ∷ block 1 (one-float ∷ []) nan ∷ block 0 [] one-float
     ∷ block 2 (zero-float ∷ zero-float ∷ []) one-float ∷ []
 

@@ -14,7 +14,7 @@ use Rattle.bank.specs.Reading.{ReadOutcome, Reads, bankFound}
 use Rattle.channel.specs.declared.Layout.{Layout}
 use Rattle.hrtf_desk.specs.declared.Desk.{Desk}
 use Rattle.hrtf_rings.specs.State.{State}
-use Rattle.hrtf_checks.specs.Call.{Call}
+use Rattle.hrtf_checks.specs.Call.{BlockCall}
 use Rattle.hrtf_checks.specs.Refusals.{refusalOf}
 use Rattle.hrtf.specs.Reset.{ResetOutcome, Resets}
 use Rattle.hrtf_setup.specs.Arrangement.{Wanted, Arrangement}
@@ -23,7 +23,7 @@ use Rattle.hrtf_runs.specs.Runs.{next}
 
 -- a call that is made of a bank and of what a set-up left: their counts, weights, rows and taps, and planes as long as
 -- its frames need
-pub record Fitted (b : Form.Bank) (o : Arrangement) (c : Call) : Type 0 where
+pub record Fitted (b : Form.Bank) (o : Arrangement) (c : BlockCall) : Type 0 where
   pub shape : c .shape ≡ record {
     channels = o .answer .channels;
     speakers = o .answer .speakers;
@@ -37,12 +37,12 @@ pub record Fitted (b : Form.Bank) (o : Arrangement) (c : Call) : Type 0 where
   pub inputs : length (c .inputs) ≡ o .answer .channels * c .stride
   pub ears : length (c .ears) ≡ 2 * c .stride
 
-abbrev pub AllFitted : Form.Bank → Arrangement → List Call → Type 0
+abbrev pub AllFitted : Form.Bank → Arrangement → List BlockCall → Type 0
 AllFitted b o [] = Unit {0}
 AllFitted b o (c ∷ cs) = Fitted b o c × AllFitted b o cs
 
 -- every call of a run is accepted
-abbrev pub NoneRefused : State → List Call → Type 0
+abbrev pub NoneRefused : State → List BlockCall → Type 0
 NoneRefused t [] = Unit {0}
 NoneRefused t (c ∷ cs) = (refusalOf c t ≡ 0) × NoneRefused (next c t) cs
 
@@ -62,7 +62,7 @@ abbrev pub AlwaysPlays : ReadOutcome → Arrangement → Type 0
 AlwaysPlays r o =
     (d : Desk) (rings : List Float) (t : State) → Resets d (o .answer .speakers) (r .answer .length) rings
     (record { answer = record { refusal = 0; desk = t .desk }; rings = t .rings })
-    → (cs : List Call) → AllFitted (bankFound r) o cs → NoneRefused t cs
+    → (cs : List BlockCall) → AllFitted (bankFound r) o cs → NoneRefused t cs
 
 pub record NeverRefused : Type 0 where
   -- a file that keeps the form is read, in either version

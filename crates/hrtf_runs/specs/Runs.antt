@@ -8,49 +8,49 @@ use Rattle.refusals.specs.Refusals.{answered}
 use Rattle.planes.specs.Planes.{framesOf}
 use Rattle.hrtf_history.specs.Setup.{Setup, SameFilters}
 use Rattle.hrtf_rings.specs.State.{State}
-use Rattle.hrtf_checks.specs.Call.{Call, setup, framesIn}
+use Rattle.hrtf_checks.specs.Call.{BlockCall, setup, framesIn}
 use Rattle.hrtf_checks.specs.Refusals.{refusalOf}
 use Rattle.hrtf.specs.Promise.{outcome, stateAfter}
 
 -- ---- one call
 
 -- the rings and the desk that it leaves
-abbrev pub next : Call → State → State
+abbrev pub next : BlockCall → State → State
 next c t = stateAfter (outcome c t)
 
 -- the frames that it feeds: those of its input planes, or none where it is refused
 abbrev pub fedBy : ℕ → List (List Float) → List (List Float)
 fedBy n fs = answered n fs (λ k. [])
 
-abbrev pub fed : Call → State → List (List Float)
+abbrev pub fed : BlockCall → State → List (List Float)
 fed c t = fedBy (refusalOf c t) (framesIn c)
 
 -- the ear samples of the frames that it says it played, read from the two ear planes as it leaves them: for each frame
 -- left, then right
-abbrev pub sounded : Call → State → List (List Float)
+abbrev pub sounded : BlockCall → State → List (List Float)
 sounded c t = framesOf (outcome c t .ears) (c .stride) 2 (outcome c t .answer .samples)
 
 -- ---- a run
 
 -- every call that is accepted has the counts, L, weights and filters of u; a call that is refused may hold anything
-abbrev pub Alike : Setup → State → List Call → Type 0
+abbrev pub Alike : Setup → State → List BlockCall → Type 0
 Alike u t [] = Unit {0}
 Alike u t (c ∷ cs) = (refusalOf c t ≡ 0 → SameFilters (setup c) u) × Alike u (next c t) cs
 
-abbrev pub fedAll : State → List Call → List (List Float)
+abbrev pub fedAll : State → List BlockCall → List (List Float)
 fedAll t [] = []
 fedAll t (c ∷ cs) = fed c t ++ fedAll (next c t) cs
 
-abbrev pub soundedAll : State → List Call → List (List Float)
+abbrev pub soundedAll : State → List BlockCall → List (List Float)
 soundedAll t [] = []
 soundedAll t (c ∷ cs) = sounded c t ++ soundedAll (next c t) cs
 
-abbrev pub end : State → List Call → State
+abbrev pub end : State → List BlockCall → State
 end t [] = t
 end t (c ∷ cs) = end (next c t) cs
 
 -- each call's unsettled count
-abbrev pub unsettledCounts : State → List Call → List ℕ
+abbrev pub unsettledCounts : State → List BlockCall → List ℕ
 unsettledCounts t [] = []
 unsettledCounts t (c ∷ cs) = outcome c t .answer .unsettled ∷ unsettledCounts (next c t) cs
 

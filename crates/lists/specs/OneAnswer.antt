@@ -22,11 +22,11 @@ module _ (T : Ended) where
   Claim = (κs : Lives) → Args (T .signature) κs → Res (T .signature) κs → AtExit T κs → Type 0
 
   -- everything that is handed back: the result, and what each argument that was lent to be written holds at the end
-  abbrev pub Answer : (κs : Lives) → Args (T .signature) κs → Type 0
-  Answer κs a = Res (T .signature) κs × Lasts T κs a
+  abbrev pub HandedBack : (κs : Lives) → Args (T .signature) κs → Type 0
+  HandedBack κs a = Res (T .signature) κs × Lasts T κs a
 
   -- the contract allows this answer
-  abbrev pub Allows : Claim → (κs : Lives) (a : Args (T .signature) κs) → Answer κs a → Type 0
+  abbrev pub Allows : Claim → (κs : Lives) (a : Args (T .signature) κs) → HandedBack κs a → Type 0
   Allows claim κs a z = claim κs a (z .0) (atExit T κs a (z .1))
 
   -- whatever the arguments are, it allows one answer

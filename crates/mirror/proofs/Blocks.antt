@@ -30,7 +30,7 @@ use Rattle.ambisonic_decoder.specs.Blocks.{refusalOf, decoded}
 use Rattle.ambisonic_decoder.specs.Promise.{answerOf, Block, block}
 use Rattle.matrix.specs.Mirror.{lateral, mirrored}
 use Rattle.matrix.proofs.Mirror.{getD-negated, tab-negated, length-negated}
-use Rattle.mirror.specs.Blocks.{PartnersSwap, Call, mirroredPlanes, MirrorCall, exchanged, BlocksMirror}
+use Rattle.mirror.specs.Blocks.{PartnersSwap, DecoderCall, mirroredPlanes, MirrorCall, exchanged, BlocksMirror}
 
 -- ---- a frame of mirrored planes is the mirrored frame
 
@@ -52,7 +52,7 @@ frame-mirrored xs stride planes n h =
 -- ---- the frames that a call plays
 
 module _ (outputs channels : ℕ) (weights : List Float) where
-  abbrev refusal : Call → ℕ
+  abbrev refusal : DecoderCall → ℕ
   refusal c = refusalOf (record { outputs = outputs; channels = channels; frames = c .frames; stride = c .stride })
       weights (length (c .inputs)) (length (c .out))
 
@@ -60,14 +60,14 @@ module _ (outputs channels : ℕ) (weights : List Float) where
   decodedOf frames stride inputs =
       decoded (record { outputs = outputs; channels = channels; frames = frames; stride = stride }) weights inputs
 
-  abbrev framesPut : Call → List (List Float)
+  abbrev framesPut : DecoderCall → List (List Float)
   framesPut c = decodedOf (c .frames) (c .stride) (c .inputs)
 
-  abbrev blockAt : Call → Block
+  abbrev blockAt : DecoderCall → Block
   blockAt c = block weights (record { outputs = outputs; channels = channels; frames = c .frames; stride = c .stride })
       (c .inputs) (c .out)
 
-  abbrev readFrom : Call → Block → List (List Float)
+  abbrev readFrom : DecoderCall → Block → List (List Float)
   readFrom c b = framesOf (b .out) (c .stride) outputs (b .answer .samples)
 
   -- the answer is told by the refusal and the frame count
@@ -77,7 +77,7 @@ module _ (outputs channels : ℕ) (weights : List Float) where
   answer-is (suc n) frames stride put out = refl
 
   -- where it is accepted the output planes fit
-  out-fits : (c : Call) → refusal c ≡ 0 → (c .frames ≤ c .stride) × (length (c .out) ≡ outputs * c .stride)
+  out-fits : (c : DecoderCall) → refusal c ≡ 0 → (c .frames ≤ c .stride) × (length (c .out) ≡ outputs * c .stride)
   out-fits c e =
       let inputs-unfit : Bool = unfit (length (c .inputs)) channels (c .stride) (c .frames) in
       let out-unfit : Bool = unfit (length (c .out)) outputs (c .stride) (c .frames) in
@@ -89,7 +89,7 @@ module _ (outputs channels : ℕ) (weights : List Float) where
       (or-off inputs-unfit out-unfit (or-off (inputs-unfit || out-unfit) weights-unfit lengths .0) .1)
 
   -- and the frames that were put are read back
-  played-accepted : (c : Call) → refusal c ≡ 0 → readFrom c (blockAt c) ≡ framesPut c
+  played-accepted : (c : DecoderCall) → refusal c ≡ 0 → readFrom c (blockAt c) ≡ framesPut c
   played-accepted c e =
       let put = framesPut c in
       let count : length put ≡ c .frames = length-tab 0 (c .frames) _ in
@@ -99,7 +99,7 @@ module _ (outputs channels : ℕ) (weights : List Float) where
       ∙ frames-read outputs (c .out) (c .stride) put (omega (arith, count, fits .0)) (fits .1)
       (λ j l. ap length (getD-tab 0 (c .frames) _ j [] (omega (arith, l, count))) ∙ length-tab 0 outputs _)
 
-  played-refused : (c : Call) → (refusal c ≡ 0 → ⊥) → readFrom c (blockAt c) ≡ []
+  played-refused : (c : DecoderCall) → (refusal c ≡ 0 → ⊥) → readFrom c (blockAt c) ≡ []
   played-refused c e =
       ap (readFrom c) (block-refused answerOf (c .frames) (c .stride) (framesPut c) (c .out) (refusal c) e)
 
@@ -129,7 +129,7 @@ module _ (outputs channels : ℕ) (weights : List Float) where
         ∙ sym (map-tab (exchanged outputs partner) 0 frames
         (λ (n : ℕ). mixedAll outputs channels weights (frameAt inputs stride channels n)))
 
-    module _ (c d : Call) (m : MirrorCall c d) where
+    module _ (c d : DecoderCall) (m : MirrorCall c d) where
       -- the second call is lent lists of the same lengths, so it is refused as the first is
       refusal-same : refusal d ≡ refusal c
       refusal-same = cc (

@@ -10,7 +10,7 @@ use Rattle.lists.specs.Tables.{tab, chunk}
 use Rattle.planes.specs.Planes.{framesOf}
 use Rattle.planes.specs.Sums.{mixed}
 use Rattle.ambisonic_decoder.specs.declared.Decoded.{Decoded}
-use Rattle.ambisonic_decoder.specs.Promise.{Processed}
+use Rattle.ambisonic_decoder.specs.Promise.{DecoderPromise}
 use Rattle.matrix.specs.Mirror.{lateral, negatedAt, mirrored}
 
 -- each output has a partner: what the output plays of a mirrored frame is what the partner plays of the frame, whatever
@@ -21,7 +21,7 @@ pub record PartnersSwap (outputs channels : ℕ) (weights : List Float) (partner
       → mixed (chunk channels o weights) (mirrored neg frame) ≡ mixed (chunk channels (partner o) weights) frame
 
 -- a call: what it is lent beside the weights, what it answers, and what the output planes hold then
-pub record Call : Type 0 where
+pub record DecoderCall : Type 0 where
   pub frames : ℕ
   pub stride : ℕ
   pub inputs : List Float
@@ -30,13 +30,13 @@ pub record Call : Type 0 where
   pub after : List Float
 
 -- it meets the promise of `ambisonic_decoder::process`
-abbrev pub Meets : ℕ → ℕ → List Float → Call → Type 0
+abbrev pub Meets : ℕ → ℕ → List Float → DecoderCall → Type 0
 Meets outputs channels weights c =
-    Processed weights (record { outputs = outputs; channels = channels; frames = c .frames; stride = c .stride })
+    DecoderPromise weights (record { outputs = outputs; channels = channels; frames = c .frames; stride = c .stride })
     (c .inputs) (c .out) (c .answer) (c .after)
 
 -- the frames that it says it played, read from the output planes as it leaves them
-abbrev pub played : ℕ → Call → List (List Float)
+abbrev pub played : ℕ → DecoderCall → List (List Float)
 played outputs c = framesOf (c .after) (c .stride) outputs (c .answer .samples)
 
 -- the planes of the lateral channels negated: place i stands in plane i / stride
@@ -44,7 +44,7 @@ abbrev pub mirroredPlanes : ℕ → List Float → List Float
 mirroredPlanes stride = negatedAt neg (λ (i : ℕ). lateral (i / stride)) 0
 
 -- the same call of the mirrored planes; its output planes may hold anything before it
-pub record MirrorCall (c d : Call) : Type 0 where
+pub record MirrorCall (c d : DecoderCall) : Type 0 where
   pub frames : d .frames ≡ c .frames
   pub stride : d .stride ≡ c .stride
   pub inputs : d .inputs ≡ mirroredPlanes (c .stride) (c .inputs)
@@ -57,7 +57,8 @@ exchanged outputs partner frame = tab 0 outputs (λ (o : ℕ). getD frame (partn
 -- of any two such calls of whatever meets the promise: they are refused with the same number or play as many frames,
 -- and each frame is exchanged
 pub record BlocksMirror (outputs channels : ℕ) (weights : List Float) (partner : ℕ → ℕ) : Type 0 where
-  pub answers : (c d : Call) → MirrorCall c d → Meets outputs channels weights c → Meets outputs channels weights d
+  pub answers : (c d : DecoderCall) → MirrorCall c d → Meets outputs channels weights c
+      → Meets outputs channels weights d
       → d .answer ≡ c .answer
-  pub plays : (c d : Call) → MirrorCall c d → Meets outputs channels weights c → Meets outputs channels weights d
+  pub plays : (c d : DecoderCall) → MirrorCall c d → Meets outputs channels weights c → Meets outputs channels weights d
       → played outputs d ≡ map (exchanged outputs partner) (played outputs c)

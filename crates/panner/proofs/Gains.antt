@@ -57,7 +57,7 @@ bad-layout l k e = ap (λ (x : Counted). not (eqb (x .refusal) 0)) e ∙ go (unc
     go false = refl
 
 -- ---- a stereo position
-module _ (l : Layout) (p : Float) (s : StereoGains) (h : Stereo.Pans p s) where
+module _ (l : Layout) (p : Float) (s : StereoGains) (h : Stereo.StereoPromise p s) where
   stereo-refusal : s .refusal ≡ cond (Stereo.isRefused p) 3 0
   unfolding Stereo.outcome
   stereo-refusal = ap (λ (x : StereoGains). x .refusal) (h .bits)
@@ -74,12 +74,12 @@ module _ (l : Layout) (p : Float) (s : StereoGains) (h : Stereo.Pans p s) where
     planes = λ k. ap (λ (x : Commanded). x .planes) e;
     gains = λ k. ap (λ (x : Commanded). x .gains) e
         ∙ ap (λ (x : StereoGains). x .left ∷ x .right ∷ replicate 14 zero-float) (h .bits);
-    promised = λ k. subst (Stereo.Pans p)
+    promised = λ k. subst (Stereo.StereoPromise p)
         (λ i. record { refusal = z i; left = h .bits i .left; right = h .bits i .right }) h;
   }
 
 -- ---- a surround azimuth
-module _ (l : Layout) (a : Float) (s : SurroundGains) (h : Surround.Pans l a s) where
+module _ (l : Layout) (a : Float) (s : SurroundGains) (h : Surround.SurroundPromise l a s) where
   pub surround-refusal : s .refusal ≡ commandRefusal (Surround a) l
   surround-refusal = ap (λ (x : SurroundGains). x .refusal) (h .bits) ∙ SurroundLaws.refusal-is l a
 
@@ -96,7 +96,8 @@ module _ (l : Layout) (a : Float) (s : SurroundGains) (h : Surround.Pans l a s) 
         refusal = ap (λ (x : Commanded). x .refusal) e ∙ sym (sym surround-refusal ∙ z);
         planes = λ k. count;
         gains = λ k. ap (λ (x : Commanded). x .gains) e ∙ ap (λ (x : SurroundGains). x .gains) (h .bits);
-        promised = λ k. subst (Surround.Pans l a) (λ i. record { refusal = z i; gains = h .bits i .gains }) h;
+        promised = λ k. subst (Surround.SurroundPromise l a) (λ i. record { refusal = z i; gains = h .bits i .gains })
+            h;
       }
 
 -- ---- a direction with an order
@@ -107,7 +108,7 @@ module _ (l : Layout) (d : Direction) (n : ℕ) where
   pub layout-refused : refusesOrder n ≡ false → isBadLayout l ≡ true → commandRefusal (Ambisonic d n) l ≡ 2
   layout-refused o b = cond-false 1 _ o ∙ cond-true 2 _ b
 
-  module _ (s : Coefficients) (h : Harmonics.Promise n d s) (o : refusesOrder n ≡ false)
+  module _ (s : Coefficients) (h : Harmonics.HarmonicsPromise n d s) (o : refusesOrder n ≡ false)
       (b : isBadLayout l ≡ false) where
     direction-is : s .refusal ≡ cond (Harmonics.refusesDirection d) 3 0
     direction-is = refusal-is n d s h ∙ cond-false 1 _ o
@@ -124,7 +125,8 @@ module _ (l : Layout) (d : Direction) (n : ℕ) where
       refusal = ap (λ (x : Commanded). x .refusal) e ∙ sym (command-is ∙ sym direction-is ∙ z);
       planes = λ k. ap (λ (x : Commanded). x .planes) e;
       gains = λ k. ap (λ (x : Commanded). x .gains) e ∙ ap (λ (x : Coefficients). x .gains) (h .bits);
-      promised = λ k. subst (Harmonics.Promise n d) (λ i. record { refusal = z i; gains = h .bits i .gains }) h;
+      promised = λ k. subst (Harmonics.HarmonicsPromise n d) (λ i. record { refusal = z i; gains = h .bits i .gains })
+          h;
     }
 
 -- ---- at most sixteen planes

@@ -21,10 +21,10 @@ use Rattle.panner.specs.declared.Command.{Command}
 use Rattle.panner.specs.declared.Commanded.{Commanded}
 use Rattle.panner.specs.declared.CommandGains.{CommandGains}
 use Rattle.panner.specs.Commands.{commandChecks, gainsOf}
-use Rattle.panner.specs.Blocks.{Shape, misfit, mostFrames, planesIn, blockChecks, refusalOf, narrowedAll}
+use Rattle.panner.specs.Blocks.{PannedShape, misfit, mostFrames, planesIn, blockChecks, refusalOf, narrowedAll}
 use Rattle.panner.specs.Blocks.{panned, framesOf}
 use Rattle.panner.specs.Halves.{pannedPart, gainsPlayed, noGains, Gained}
-use Rattle.panner.specs.Promise.{answerOf, Processed}
+use Rattle.panner.specs.Promise.{answerOf, PannerPromise}
 use Rattle.panner.specs.Computed.{commandRefusal, Commands}
 use Rattle.panner.proofs.Gains.{planes-most}
 use Rattle.panner.proofs.Halves.{gained-number, gained-accepted}
@@ -50,11 +50,11 @@ module _ (c : Command) (l : Layout) (g : Commanded) (G : Commands c l g) where
       }
 
 -- ---- a block
-module _ (s : Shape) (input out : List Float) where
+module _ (s : PannedShape) (input out : List Float) where
   abbrev refusal : ℕ
   refusal = refusalOf s (length input) (length out)
 
-  refused : (n : ℕ) → (n ≡ 0 → ⊥) → refusal ≡ n → Processed s input out (record { refusal = n; samples = 0 }) out
+  refused : (n : ℕ) → (n ≡ 0 → ⊥) → refusal ≡ n → PannerPromise s input out (record { refusal = n; samples = 0 }) out
   refused n h e = record {
     bits = refused-with answerOf (s .frames) (s .stride) (framesOf s input) out n refusal
         (sym e) h;
@@ -71,7 +71,7 @@ module _ (s : Shape) (input out : List Float) where
     number : g .refusal ≡ firstOf first
     number = gained-number (s .command) (s .layout) g G
 
-    pub by-command : (g .refusal ≡ 0 → ⊥) → Processed s input out (record { refusal = g .refusal; samples = 0 }) out
+    pub by-command : (g .refusal ≡ 0 → ⊥) → PannerPromise s input out (record { refusal = g .refusal; samples = 0 }) out
     by-command h = refused (g .refusal) h (first-refused first then (λ k. h (number ∙ k)) ∙ sym number)
 
     module _ (z : g .refusal ≡ 0) where
@@ -90,11 +90,11 @@ module _ (s : Shape) (input out : List Float) where
           gains-are
 
       pub by-length : misfit (length input) (length out) (g .planes) (s .stride) (s .frames) ≡ true
-          → Processed s input out (record { refusal = 5; samples = 0 }) out
+          → PannerPromise s input out (record { refusal = 5; samples = 0 }) out
       by-length m = refused 5 (λ e. omega arith) (goes ∙ cond-true 5 _ (sym misfit-is ∙ m))
 
       module _ (m : misfit (length input) (length out) (g .planes) (s .stride) (s .frames) ≡ false) where
-        pub by-frames : mostFrames < s .frames → Processed s input out (record { refusal = 6; samples = 0 }) out
+        pub by-frames : mostFrames < s .frames → PannerPromise s input out (record { refusal = 6; samples = 0 }) out
         by-frames h = refused 6 (λ e. omega arith)
             (goes ∙ cond-false 5 _ (sym misfit-is ∙ m) ∙ cond-true 6 0 (lt-ltb mostFrames (s .frames) h))
 
@@ -116,7 +116,7 @@ module _ (s : Shape) (input out : List Float) where
         pub plays : (after : List Float) → s .frames ≤ mostFrames
             → after ≡ withFrames out (s .stride) 0
             (pannedPart (s .stride) 0 (s .frames) (min (g .planes) 16) (g .gains) input)
-            → Processed s input out (record { refusal = 0; samples = s .frames }) after
+            → PannerPromise s input out (record { refusal = 0; samples = s .frames }) after
         plays after h w = record {
           bits = played-with answerOf (s .frames) (s .stride) (framesOf s input) out refusal after
               (goes ∙ cond-false 5 _ (sym misfit-is ∙ m) ∙ cond-false 6 0 (le-ltb mostFrames (s .frames) h))

@@ -20,14 +20,14 @@ use Rattle.planes.proofs.Planes.{with-frames-at, with-frames-other}
 use Rattle.lists.proofs.Tables.{length-tab, getD-tab}
 use Rattle.panner.specs.declared.Panned.{Panned}
 use Rattle.panner.specs.Commands.{commandChecks, gainsOf}
-use Rattle.panner.specs.Blocks.{Shape, mostFrames, planesIn, blockChecks, refusalOf, narrowedAll, panned}
+use Rattle.panner.specs.Blocks.{PannedShape, mostFrames, planesIn, blockChecks, refusalOf, narrowedAll, panned}
 use Rattle.panner.specs.Blocks.{framesOf}
 use Rattle.planes.proofs.Blocks.{block-refused, block-accepted, block-refusal}
-use Rattle.panner.specs.Promise.{answerOf, Block, Processed}
+use Rattle.panner.specs.Promise.{answerOf, Block, PannerPromise}
 use Rattle.panner.proofs.Gains.{planes-most}
 
-module _ (s : Shape) (input out : List Float) (answer : Panned) (after : List Float)
-    (P : Processed s input out answer after) where
+module _ (s : PannedShape) (input out : List Float) (answer : Panned) (after : List Float)
+    (P : PannerPromise s input out answer after) where
   abbrev refusal : ℕ
   refusal = refusalOf s (length input) (length out)
 

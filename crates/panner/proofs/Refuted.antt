@@ -24,21 +24,21 @@ use Rattle.panner.specs.declared.Command.{Command}
 use Rattle.panner.specs.declared.Command.the-variants.{Stereo, Ambisonic}
 use Rattle.panner.specs.declared.CommandGains.{CommandGains}
 use Rattle.panner.specs.Commands.{commandChecks}
-use Rattle.panner.specs.Blocks.{Shape, mostFrames}
-use Rattle.panner.specs.Promise.{Processed}
+use Rattle.panner.specs.Blocks.{PannedShape, mostFrames}
+use Rattle.panner.specs.Promise.{PannerPromise}
 use Rattle.panner.specs.Halves.{Gained, pannedPart}
 use Rattle.panner.proofs.Halves.{gained-number, gained-accepted, gained-refused}
 use Rattle.panner.proofs.Played.{refusal-is, all-counted, frames-most, every-frame}
 
 -- ---- it stops at 4,096 frames, and says nothing: a block with more is not accepted, whatever it holds
-stops-at-4096 : (s : Shape) (input out after : List Float) (n : ℕ) → mostFrames < s .frames
-    → Processed s input out (record { refusal = 0; samples = n }) after → ⊥
+stops-at-4096 : (s : PannedShape) (input out after : List Float) (n : ℕ) → mostFrames < s .frames
+    → PannerPromise s input out (record { refusal = 0; samples = n }) after → ⊥
 stops-at-4096 s input out after n h p =
     omega (arith, frames-most s input out (record { refusal = 0; samples = n }) after p refl)
 
 -- ---- it plays a wrong order as the first: order 4 is refused by 1
 order-4-played : (d : Direction) (l : Layout) (frames stride n : ℕ) (input out after : List Float)
-    → Processed (record { command = Ambisonic d 4; layout = l; frames = frames; stride = stride }) input out
+    → PannerPromise (record { command = Ambisonic d 4; layout = l; frames = frames; stride = stride }) input out
     (record { refusal = 0; samples = n }) after → ⊥
 order-4-played d l frames stride n input out after p =
     let e : _≡_ {A = ℕ} 0 1 = refusal-is
@@ -48,7 +48,7 @@ order-4-played d l frames stride n input out after p =
 
 -- ---- beside a stereo position too a Custom layout of seventeen channels is refused
 custom-17-played : (x : Float) (frames stride n : ℕ) (input out after : List Float)
-    → Processed (record { command = Stereo x; layout = Custom 17; frames = frames; stride = stride }) input out
+    → PannerPromise (record { command = Stereo x; layout = Custom 17; frames = frames; stride = stride }) input out
     (record { refusal = 0; samples = n }) after → ⊥
 custom-17-played x frames stride n input out after p =
     let e : _≡_ {A = ℕ} 0 2 = refusal-is
@@ -57,8 +57,8 @@ custom-17-played x frames stride n input out after p =
     omega arith
 
 -- ---- it counts the stride for the frames
-stride-counted : (s : Shape) (input out after : List Float) → (s .frames ≡ s .stride → ⊥)
-    → Processed s input out (record { refusal = 0; samples = s .stride }) after → ⊥
+stride-counted : (s : PannedShape) (input out after : List Float) → (s .frames ≡ s .stride → ⊥)
+    → PannerPromise s input out (record { refusal = 0; samples = s .stride }) after → ⊥
 stride-counted s input out after other p =
     other (sym (all-counted s input out (record { refusal = 0; samples = s .stride }) after p refl))
 
@@ -66,7 +66,7 @@ stride-counted s input out after other p =
 abbrev one : Float
 one = fin false 1 (pos 0)
 
-abbrev two-frames : Shape
+abbrev two-frames : PannedShape
 two-frames = record { command = Stereo (float (negsuc 99)); layout = Mono; frames = 2; stride = 2 }
 
 abbrev ones : List Float
@@ -75,7 +75,7 @@ ones = one ∷ one ∷ []
 abbrev zeros : List Float
 zeros = zero-float ∷ zero-float ∷ zero-float ∷ zero-float ∷ []
 
-second-left : (after : List Float) → Processed two-frames ones zeros (record { refusal = 0; samples = 2 }) after
+second-left : (after : List Float) → PannerPromise two-frames ones zeros (record { refusal = 0; samples = 2 }) after
     → positive (sampleAt after 2 0 1) ≡ true
 unfolding rounded round mul ofInt
 second-left after p =
@@ -83,12 +83,12 @@ second-left after p =
     (lit< tt) ∙ ap (λ (g : StereoGains). mul binary32 one (narrowed (g .left))) at-minus-100)
 
 -- it stops early, and keeps the tail that was there
-stops-early : Processed two-frames ones zeros (record { refusal = 0; samples = 2 })
+stops-early : PannerPromise two-frames ones zeros (record { refusal = 0; samples = 2 })
     (one ∷ zero-float ∷ zero-float ∷ zero-float ∷ []) → ⊥
 stops-early p = true≢false (sym (second-left _ p))
 
 -- it writes nothing
-silent : Processed two-frames ones zeros (record { refusal = 0; samples = 2 }) zeros → ⊥
+silent : PannerPromise two-frames ones zeros (record { refusal = 0; samples = 2 }) zeros → ⊥
 silent p = true≢false (sym (second-left _ p))
 
 -- ---- a command that is refused is given planes

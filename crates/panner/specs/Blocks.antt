@@ -17,7 +17,7 @@ use Rattle.panner.specs.declared.Command.{Command}
 use Rattle.panner.specs.Commands.{commandChecks, planesOf, gainsOf}
 
 -- what a block is asked for beside the samples
-pub record Shape : Type 0 where
+pub record PannedShape : Type 0 where
   pub command : Command
   pub layout : Layout
   pub frames : ℕ
@@ -30,15 +30,15 @@ misfit input out planes stride frames = blockUnfit input 1 out planes stride fra
 abbrev pub mostFrames : ℕ
 mostFrames = 4096
 
-abbrev pub planesIn : Shape → ℕ
+abbrev pub planesIn : PannedShape → ℕ
 planesIn s = planesOf (s .command) (s .layout)
 
 -- what is checked of a block: 1, 2 and 3 of its command, then its lengths and its frames
-abbrev pub blockChecks : Shape → ℕ → ℕ → List Check
+abbrev pub blockChecks : PannedShape → ℕ → ℕ → List Check
 blockChecks s input out =
     5 when misfit input out (planesIn s) (s .stride) (s .frames) ∷ 6 when ltb mostFrames (s .frames) ∷ []
 
-abbrev pub refusalOf : Shape → ℕ → ℕ → ℕ
+abbrev pub refusalOf : PannedShape → ℕ → ℕ → ℕ
 refusalOf s input out = firstOf (commandChecks (s .command) (s .layout) ++ blockChecks s input out)
 
 -- ---- what is played
@@ -54,6 +54,6 @@ panned planes gains x = tab 0 planes (λ p. mul binary32 x (getD gains p nan))
 abbrev pub pannedFrames : ℕ → ℕ → ℕ → List Float → List Float → List (List Float)
 pannedFrames stride frames planes gains input = tab 0 frames (λ n. panned planes gains (sampleAt input stride 0 n))
 
-abbrev pub framesOf : Shape → List Float → List (List Float)
+abbrev pub framesOf : PannedShape → List Float → List (List Float)
 framesOf s input =
     pannedFrames (s .stride) (s .frames) (planesIn s) (narrowedAll (gainsOf (s .command) (s .layout))) input

@@ -54,6 +54,6 @@ gainsOf (Ambisonic d n) l = Harmonics.outcome n d .gains
 -- what is promised of them, and how near they are to document 01's formulas
 abbrev pub Promised : Command → Layout → List Float → Type 0
 Promised (Stereo p) l g =
-    Stereo.Pans p (record { refusal = 0; left = getD g 0 zero-float; right = getD g 1 zero-float })
-Promised (Surround a) l g = Surround.Pans l a (record { refusal = 0; gains = g })
-Promised (Ambisonic d n) l g = Harmonics.Promise n d (record { refusal = 0; gains = g })
+    Stereo.StereoPromise p (record { refusal = 0; left = getD g 0 zero-float; right = getD g 1 zero-float })
+Promised (Surround a) l g = Surround.SurroundPromise l a (record { refusal = 0; gains = g })
+Promised (Ambisonic d n) l g = Harmonics.HarmonicsPromise n d (record { refusal = 0; gains = g })

@@ -18,7 +18,7 @@ ghost use Rattle.panner.specs.declared.Command.{Command};
 ghost use Rattle.panner.specs.Blocks.{panned, narrowedAll};
 ghost use Rattle.panner.specs.Halves.{pannedPart, Gained};
 ghost use Rattle.panner.specs.Computed.{Commands, isBadLayout};
-ghost use Rattle.panner.specs.Promise.{Processed};
+ghost use Rattle.panner.specs.Promise.{PannerPromise};
 
 pub enum Command {
     Stereo(f64),
@@ -217,7 +217,7 @@ pub fn process(
     input: &[f32],
     out: &mut [f32],
 ) -> Panned
-    ensures { λ r. ⌜ Processed (record { command = command; layout = layout; frames = frames; stride = stride })
+    ensures { λ r. ⌜ PannerPromise (record { command = command; layout = layout; frames = frames; stride = stride })
         (now (input .entry)) (now (out .entry)) r (now (out .exit)) ⌝ }
 {
     let played = command_gains(command, layout);

@@ -8,7 +8,7 @@ use lib.Ieee.{Float}
 use Rattle.big_endian.specs.Fields.{fieldAt}
 use Rattle.big_endian.specs.Lists.{floatBytes}
 use Rattle.hrtf_desk.specs.declared.Desk.{Desk}
-use Rattle.hrtf_checks.specs.declared.Shape.{Shape}
+use Rattle.hrtf_checks.specs.declared.ConvolverShape.{ConvolverShape}
 use Rattle.hrtf.specs.declared.BlockAnswer.{BlockAnswer}
 use Rattle.hrtf.specs.Promise.{BlockOutcome, outcome}
 use Rattle.probe_request.specs.Requests.{eightAt}
@@ -24,7 +24,8 @@ module _ (args out : List ℕ) (l : Lists) where
   -- ---- the call and what is put of it
 
   -- the numbers that are read are those of the request
-  module _ (h : Shape) (d : Desk) (frames stride : ℕ) (rows : List ℕ) (eh : h ≡ shapeAt args) (ed : d ≡ deskAt args 10)
+  module _ (h : ConvolverShape) (d : Desk) (frames stride : ℕ) (rows : List ℕ) (eh : h ≡ shapeAt args)
+      (ed : d ≡ deskAt args 10)
       (ef : frames ≡ fieldAt args 58 8) (es : stride ≡ fieldAt args 66 8)
       (er : rows ≡ eightAt args 74) (p : BlockAnswer) (rings₁ ears₁ : List Float)
       (is : record { answer = p; rings = rings₁; ears = ears₁ }

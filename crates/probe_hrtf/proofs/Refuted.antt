@@ -18,7 +18,7 @@ use Rattle.big_endian.proofs.Bytes.{length-bytes}
 use Rattle.big_endian.proofs.Fields.{lies-out, field-out}
 use Rattle.big_endian.proofs.Lists.{length-fieldBytes}
 use Rattle.hrtf_desk.specs.declared.Desk.{Desk}
-use Rattle.hrtf_checks.specs.declared.Shape.{Shape}
+use Rattle.hrtf_checks.specs.declared.ConvolverShape.{ConvolverShape}
 use Rattle.hrtf_checks.specs.Refusals.{refusalOf}
 use Rattle.hrtf.specs.Promise.{BlockOutcome, outcome}
 use Rattle.hrtf.specs.Reset.{ResetOutcome, resetRefusal, resetBy, resetOutcome}
@@ -114,14 +114,14 @@ module _ (args : List ℕ) where
     field-out args at 8 (lies-out (length args) at 8 (omega arith) short),
   )
 
-  module _ (r : Shape) (is : r ≡ shapeAt args) where
+  module _ (r : ConvolverShape) (is : r ≡ shapeAt args) where
     -- the speakers are read as the channels
     shape-swapped : (fieldAt args 26 8 ≡ fieldAt args 34 8 → ⊥) → r .channels ≡ fieldAt args 34 8 → ⊥
-    shape-swapped differs e = differs (sym (ap (λ (h : Shape). h .channels) is) ∙ e)
+    shape-swapped differs e = differs (sym (ap (λ (h : ConvolverShape). h .channels) is) ∙ e)
 
     -- the bank rows are read as L
     rows-for-L : (fieldAt args 50 8 ≡ fieldAt args 42 8 → ⊥) → r .length ≡ fieldAt args 42 8 → ⊥
-    rows-for-L differs e = differs (sym (ap (λ (h : Shape). h .length) is) ∙ e)
+    rows-for-L differs e = differs (sym (ap (λ (h : ConvolverShape). h .length) is) ∙ e)
 
   module _ (at : ℕ) (l : Lists) (r : ReadLists) (is : r ≡ readFrom args at l) where
     -- samples that lie inside only in part are filled

@@ -7,8 +7,8 @@ use Rattle.big_endian.specs.Fields.{fieldAt, floatAt, doubleAt}
 use Rattle.big_endian.specs.Lists.{floatsAt, doublesAt}
 use Rattle.hrtf_desk.specs.declared.Desk.{Desk}
 use Rattle.hrtf_rings.specs.State.{State}
-use Rattle.hrtf_checks.specs.declared.Shape.{Shape}
-use Rattle.hrtf_checks.specs.Call.{Call}
+use Rattle.hrtf_checks.specs.declared.ConvolverShape.{ConvolverShape}
+use Rattle.hrtf_checks.specs.Call.{BlockCall}
 use Rattle.probe_request.specs.Requests.{eightAt, samplesLent, weightsLent, cellsLent, placeIn, listAt}
 
 -- "ring position, frames-to-go .. (8 each)"
@@ -16,7 +16,7 @@ abbrev pub deskAt : List ℕ → ℕ → Desk
 deskAt args at = record { position = fieldAt args at 8; «to_go» = fieldAt args (at + 8) 8 }
 
 -- "channels, speakers, bank rows, L .. (8 each)"
-abbrev pub shapeAt : List ℕ → Shape
+abbrev pub shapeAt : List ℕ → ConvolverShape
 shapeAt args = record {
   channels = fieldAt args 26 8;
   speakers = fieldAt args 34 8;
@@ -119,7 +119,7 @@ abbrev pub blockEnd : Lent → ℕ
 blockEnd n = listsEnd 138 n
 
 -- "frames, stride (8 each), the bank row of each of eight speakers (8 each)", beside the lists
-abbrev pub callOf : List ℕ → Lists → Call
+abbrev pub callOf : List ℕ → Lists → BlockCall
 callOf args l =
     record {
       shape = shapeAt args;
@@ -135,7 +135,7 @@ callOf args l =
 abbrev pub stateOf : List ℕ → Lists → State
 stateOf args l = record { rings = l .rings; desk = deskAt args 10 }
 
-unfoldable pub callAt : List ℕ → Lent → Call
+unfoldable pub callAt : List ℕ → Lent → BlockCall
 callAt args n = callOf args (listsAt args 138 n)
 
 unfoldable pub stateAt : List ℕ → Lent → State

@@ -8,7 +8,7 @@
 // replay of a recording uses too (`probe_replay`): its requests begin as those for a block. Every public function
 // takes any input.
 use hrtf::BlockAnswer;
-use hrtf_checks::Shape;
+use hrtf_checks::ConvolverShape;
 use hrtf_desk::Desk;
 use probe_request::MOST_CELLS;
 use probe_request::MOST_SAMPLES;
@@ -42,10 +42,10 @@ pub fn desk(args: &[u8], at: usize) -> Desk
 }
 
 // The shape of a request for a block.
-pub fn shape(args: &[u8]) -> Shape
+pub fn shape(args: &[u8]) -> ConvolverShape
     ensures { λ r. ⌜ r ≡ shapeAt (now (args .entry)) ⌝ }
 {
-    Shape {
+    ConvolverShape {
         channels: probe_request::number(args, 26, 8),
         speakers: probe_request::number(args, 34, 8),
         rows: probe_request::number(args, 42, 8),

@@ -38,7 +38,7 @@ unfit-number false false true m f e = omega arith
 unfit-number false false false true f e = omega arith
 unfit-number false false false false f e = let z : _≡_ {A = ℕ} 0 1 = cc in absurd (omega arith)
 
-below-unfit : (s : Panner.Shape) (inputs outs : ℕ) → s .stride < s .frames
+below-unfit : (s : Panner.PannedShape) (inputs outs : ℕ) → s .stride < s .frames
     → 0 < Panner.refusalOf s inputs outs % 256 ^ 1
 below-unfit s inputs outs h =
     unfit-number (noOrder (s .command)) (notOffered (s .command) (s .layout)) (noAngle (s .command))

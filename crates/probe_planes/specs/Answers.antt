@@ -31,7 +31,7 @@ abbrev pub commandAt : List ℕ → Command
 commandAt args = commandOf (fieldAt args 4 1) (doubleAt args 5) (doubleAt args 13) (fieldAt args 21 8)
 
 -- then "layout (9), frames, stride (8 each)"
-abbrev pub panAt : List ℕ → Panner.Shape
+abbrev pub panAt : List ℕ → Panner.PannedShape
 panAt args = record {
   command = commandAt args;
   layout = layoutAt args 29;

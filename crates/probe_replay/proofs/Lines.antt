@@ -8,7 +8,7 @@ use lib.Ieee.{Float}
 use Rattle.big_endian.specs.Fields.{fieldAt}
 use Rattle.big_endian.specs.Lists.{floatBytes}
 use Rattle.hrtf_desk.specs.declared.Desk.{Desk}
-use Rattle.hrtf_checks.specs.declared.Shape.{Shape}
+use Rattle.hrtf_checks.specs.declared.ConvolverShape.{ConvolverShape}
 use Rattle.stamps.specs.declared.Expected.{Expected}
 use Rattle.replay.specs.declared.Replayed.{Replayed}
 use Rattle.replay.specs.Promise.{ReplayOutcome, outcome}
@@ -25,7 +25,8 @@ module _ (args out : List ℕ) (l : Lists) (stamps : List ℕ) where
   -- ---- the call and what is put of it
 
   -- the numbers that are read are those of the request
-  module _ (h : Shape) (d : Desk) (x : Expected) (frames stride earStride : ℕ) (rows : List ℕ) (eh : h ≡ shapeAt args)
+  module _ (h : ConvolverShape) (d : Desk) (x : Expected) (frames stride earStride : ℕ) (rows : List ℕ)
+      (eh : h ≡ shapeAt args)
       (ed : d ≡ deskAt args 10) (ex : x ≡ expectedAt args) (ef : frames ≡ fieldAt args 58 8)
       (es : stride ≡ fieldAt args 66 8) (ee : earStride ≡ fieldAt args 140 8) (er : rows ≡ eightAt args 74)
       (p : Replayed) (rings₁ ears₁ : List Float)

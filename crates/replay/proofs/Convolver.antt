@@ -19,8 +19,8 @@ use Rattle.hrtf_rings.specs.State.{State}
 use Rattle.hrtf_rings.specs.Held.{heldIn}
 use Rattle.hrtf_rings.specs.Computed.{left, played, counted}
 use Rattle.hrtf_rings.proofs.Blocks.{played-held}
-use Rattle.hrtf_checks.specs.declared.Shape.{Shape}
-use Rattle.hrtf_checks.specs.Call.{Call}
+use Rattle.hrtf_checks.specs.declared.ConvolverShape.{ConvolverShape}
+use Rattle.hrtf_checks.specs.Call.{BlockCall}
 use Rattle.hrtf_checks.specs.Refusals.{misshapen, refusalOf}
 use Rattle.hrtf_checks.proofs.Refusing.{lengths-fit, on-desk, accept}
 use Rattle.hrtf.specs.Promise.{BlockOutcome, stateAfter, Processes}
@@ -31,7 +31,7 @@ use Rattle.replay.specs.Heard.{rested}
 use Rattle.replay.specs.Computed.{stateWith, Good, Kept, Resting}
 
 -- the call for a block
-abbrev pub blockCall : Line → ℕ → List Float → List Float → Call
+abbrev pub blockCall : Line → ℕ → List Float → List Float → BlockCall
 blockCall l count block own =
     record {
       shape = l .shape;
@@ -91,7 +91,7 @@ module _ {l : Line} (good : Good l) {t : State} {count : ℕ} {block own : List 
 
 -- ---- a reset
 
-pub speakers-few : (h : Shape) (rows : List ℕ) → misshapen h rows ≡ false → outside (h .speakers) 8 ≡ false
+pub speakers-few : (h : ConvolverShape) (rows : List ℕ) → misshapen h rows ≡ false → outside (h .speakers) 8 ≡ false
 speakers-few h rows e = or-off (outside (h .speakers) 8) _ e .0
 
 pub reset-leaves : (d : Desk) (speakers L : ℕ) (rings : List Float) (o : ResetOutcome) → Resting speakers L rings

@@ -14,7 +14,7 @@ use Rattle.hrtf_desk.specs.declared.Desk.{Desk}
 use Rattle.hrtf_history.specs.Setup.{Setup}
 use Rattle.hrtf_rings.specs.State.{State, StateFits}
 use Rattle.hrtf_rings.specs.Computed.{ears, late, stepped}
-use Rattle.hrtf_checks.specs.declared.Shape.{Shape}
+use Rattle.hrtf_checks.specs.declared.ConvolverShape.{ConvolverShape}
 use Rattle.hrtf_checks.specs.Refusals.{misshapen}
 use Rattle.stamps.specs.declared.Expected.{Expected}
 use Rattle.stamps.specs.declared.Planned.{Planned}
@@ -34,7 +34,7 @@ use Rattle.replay.specs.declared.Replayed.{Replayed}
 use Rattle.replay.specs.declared.play.Turned.{Turned}
 
 -- a line, in the order of the code
-abbrev pub lineOf : Shape → ℕ → ℕ → List ℕ → List Float → List Float → List ℕ → List Float → ℕ → Line
+abbrev pub lineOf : ConvolverShape → ℕ → ℕ → List ℕ → List Float → List Float → List ℕ → List Float → ℕ → Line
 lineOf shape frames stride stamps inputs weights rows taps earStride =
     record {
       shape = shape;

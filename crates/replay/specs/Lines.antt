@@ -9,13 +9,13 @@ use Rattle.lists.specs.Tables.{tab}
 use Rattle.planes.specs.Planes.{frameAt}
 use Rattle.hrtf_history.specs.Setup.{Setup}
 use Rattle.hrtf_history.specs.Signals.{silence}
-use Rattle.hrtf_checks.specs.declared.Shape.{Shape}
+use Rattle.hrtf_checks.specs.declared.ConvolverShape.{ConvolverShape}
 use Rattle.hrtf_checks.specs.Call.{setupOf}
 use Rattle.stamps.specs.declared.Expected.{Expected}
 use Rattle.stamps.specs.Events.{Recorded, Event, eventsOf}
 
 pub record Line : Type 0 where
-  pub shape : Shape
+  pub shape : ConvolverShape
   pub frames : ℕ
   pub stride : ℕ
   pub stamps : List ℕ

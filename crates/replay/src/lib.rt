@@ -9,7 +9,7 @@
 // `replay` takes any input. Its promise (specs/Promise.antt) is one equation for the answer, the rings and the ears,
 // over the events of the recording, whatever the rings hold. What follows from it, demand 3 between resets and that
 // a recording may be cut anywhere, is shown in `replays`.
-use hrtf_checks::Shape;
+use hrtf_checks::ConvolverShape;
 use hrtf_desk::Desk;
 use play::Turned;
 use stamps::Expected;
@@ -124,7 +124,7 @@ fn replay_in(
     plan: Planned,
     desk: Desk,
     expected: Expected,
-    shape: Shape,
+    shape: ConvolverShape,
     frames: usize,
     stride: usize,
     stamps: &[u32],
@@ -187,7 +187,7 @@ fn replay_in(
 pub fn replay(
     desk: Desk,
     expected: Expected,
-    shape: Shape,
+    shape: ConvolverShape,
     frames: usize,
     stride: usize,
     stamps: &[u32],

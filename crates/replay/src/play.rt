@@ -5,7 +5,7 @@
 // `play` says by the events of the recording, one after another, what the rings, the desk and the ear planes hold
 // in the end, how many frames came out and how many of them are unsettled (specs/Computed.antt).
 use crate::gather::PLACES;
-use hrtf_checks::Shape;
+use hrtf_checks::ConvolverShape;
 use hrtf_desk::Desk;
 use stamps::Expected;
 ghost use mathlib.Core.Path.{_≡_};
@@ -76,7 +76,7 @@ fn rest_if(restart: bool, desk: Desk, speakers: usize, length: usize, rings: &mu
 // Gathers one block, plays it, puts its ears behind those before, and resets where a reset comes next.
 fn turn(
     so_far: Turned,
-    shape: Shape,
+    shape: ConvolverShape,
     frames: usize,
     stride: usize,
     stamps: &[u32],
@@ -143,7 +143,7 @@ fn turn(
 // Turns until the recording is over.
 pub(crate) fn play(
     first: Turned,
-    shape: Shape,
+    shape: ConvolverShape,
     frames: usize,
     stride: usize,
     stamps: &[u32],

@@ -41,7 +41,7 @@ module _ (s : Stretch) (cues : List Cue) (input out : List Float) (l : Layout) (
     (z : refusalOf s cues (length input) (length out) ≡ 0) (good : uncountable (channelsOf l) ≡ false)
     (in-list : i < length cues)
     (holds : (n : ℕ) → n < s .frames → voiceAt cues (s .first + n) ≡ speaking (getD cues i nowhere .direction)) where
-  abbrev shape : Panner.Shape
+  abbrev shape : Panner.PannedShape
   shape = record {
     command = Ambisonic (getD cues i nowhere .direction) (s .order);
     layout = l;

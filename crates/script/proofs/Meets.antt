@@ -111,7 +111,8 @@ promised-all order (c ∷ cs) o h =
     let d = c .direction in
     let off = or-off (refusesDirection d) (any (refusedOf cs)) h in
     let none : Harmonics.refusalOf order d ≡ 0 = accepted order d o (off .0) in (
-      subst (λ (n : ℕ). Harmonics.Promise order d (record { refusal = n; gains = Harmonics.outcome order d .gains }))
+      subst (λ (n : ℕ). Harmonics.HarmonicsPromise order d
+          (record { refusal = n; gains = Harmonics.outcome order d .gains }))
           (refusal-is order d (Harmonics.outcome order d) (outcome-kept order d) ∙ none) (outcome-kept order d),
       promised-all order cs o (off .1),
     )

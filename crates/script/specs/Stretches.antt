@@ -92,7 +92,7 @@ OneVoice cues f v [] = Unit {0}
 OneVoice cues f v (x ∷ xs) = (voiceAt cues f ≡ v) × OneVoice cues (f + 1) v xs
 
 module _ (order : ℕ) where
-  abbrev pub shapeIn : Separate → Panner.Shape
+  abbrev pub shapeIn : Separate → Panner.PannedShape
   shapeIn c =
       record { command = Ambisonic (c .direction) order; layout = c .layout; frames = c .frames; stride = c .stride }
 

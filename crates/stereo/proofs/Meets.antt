@@ -12,13 +12,13 @@ use Rattle.fractions.specs.Fraction.{number}
 use Rattle.fractions.proofs.Number.{finite-number}
 use Rattle.series.specs.Sums.{sine, cosine}
 use Rattle.angles.specs.declared.Answer.{Answer}
-use Rattle.angles.specs.Promise.{Promise}
+use Rattle.angles.specs.Promise.{WavePromise}
 use Rattle.stereo.specs.Computed.{clampedTo, angleFrom, angleOf}
-use Rattle.stereo.specs.Promise.{isRefused, refusalOf, played, refused, outcome, Pans}
+use Rattle.stereo.specs.Promise.{isRefused, refusalOf, played, refused, outcome, StereoPromise}
 use Rattle.stereo.proofs.Near.{gain-near}
 
 module _ (p : Float) where
-  pub refuses : isRefused p ≡ true → Pans p (refused 3)
+  pub refuses : isRefused p ≡ true → StereoPromise p (refused 3)
   unfolding outcome
   refuses r =
       let three : refusalOf p ≡ 3 = cond-true 3 0 r in
@@ -28,12 +28,12 @@ module _ (p : Float) where
       }
 
   -- c is the clamped position
-  pub plays : (c : Float) (l r : Answer) → isRefused p ≡ false → c ≡ clampedTo p → Promise cosine (angleFrom c) l
-      → Promise sine (angleFrom c) r → Pans p (record { refusal = 0; left = l .value; right = r .value })
+  pub plays : (c : Float) (l r : Answer) → isRefused p ≡ false → c ≡ clampedTo p → WavePromise cosine (angleFrom c) l
+      → WavePromise sine (angleFrom c) r → StereoPromise p (record { refusal = 0; left = l .value; right = r .value })
   unfolding outcome angleOf
   plays c l r h e a' b' =
-      let a = subst (λ (z : Float). Promise cosine (angleFrom z) l) e a' in
-      let b = subst (λ (z : Float). Promise sine (angleFrom z) r) e b' in
+      let a = subst (λ (z : Float). WavePromise cosine (angleFrom z) l) e a' in
+      let b = subst (λ (z : Float). WavePromise sine (angleFrom z) r) e b' in
       let P : 0 < number p .over = finite-number p (subst T (sym (not-false (finite p) h)) tt) in
       record {
         bits = (λ i. record { refusal = 0; left = a .bits i .value; right = b .bits i .value })

@@ -13,7 +13,7 @@ use Rattle.fractions.proofs.Expression.{held, _+'_, _*'_, _/'_, approximates, v
 use Rattle.series.specs.Sums.{Wave}
 use Rattle.series.specs.Angles.{defined}
 use Rattle.angles.specs.declared.Answer.{Answer}
-use Rattle.angles.specs.Promise.{Promise}
+use Rattle.angles.specs.Promise.{WavePromise}
 use Rattle.angles.proofs.Laws.{value-carried}
 use Rattle.stereo.specs.Angle.{clamped, angle}
 use Rattle.stereo.specs.Computed.{clampedTo, angleOf}
@@ -33,7 +33,7 @@ module _ (p : Float) (P : 0 < number p .over) where
   angle-near =
       approximates binary64 44 1079 1 ((value position +' held false 100 0) /' held false 200 0 *' held false 90 0) tt
 
-  pub gain-near : (w : Wave) (a : Answer) → Promise w (angleOf p) a
+  pub gain-near : (w : Wave) (a : Answer) → WavePromise w (angleOf p) a
       → Within stereoBits (number (a .value)) (defined w (angle (number p)))
   unfolding angle
   gain-near w a h =

@@ -46,6 +46,6 @@ pub record StereoWords (p : Float) (answer : StereoGains) : Type 0 where
   pub right : Within stereoBits (number (answer .right)) (definedSine (angle (number p)))
 
 -- every bit of the answer, and document 01's words
-pub record Pans (p : Float) (answer : StereoGains) : Type 0 where
+pub record StereoPromise (p : Float) (answer : StereoGains) : Type 0 where
   pub bits : answer ≡ outcome p
   pub words : refusalOf p ≡ 0 → StereoWords p answer

@@ -12,7 +12,7 @@
 //   the program's sine or cosine                      2^-50
 ghost use mathlib.Core.Path.{_≡_};
 ghost use Rattle.stereo.specs.Computed.{clampedTo};
-ghost use Rattle.stereo.specs.Promise.{Pans};
+ghost use Rattle.stereo.specs.Promise.{StereoPromise};
 
 pub struct StereoGains {
     pub refusal: u8,
@@ -33,7 +33,7 @@ fn clamped(position: f64) -> f64
 }
 
 pub fn calculate_stereo_gains(position: f64) -> StereoGains
-    ensures { λ r. ⌜ Pans position r ⌝ }
+    ensures { λ r. ⌜ StereoPromise position r ⌝ }
 {
     if !checks::is_finite(position) {
         return StereoGains {

@@ -22,7 +22,7 @@ use Rattle.harmonics.specs.Promise.{refusesAzimuth, silence}
 use Rattle.harmonics.proofs.Laws.{azimuth-number, azimuth-size}
 use Rattle.surround.specs.declared.SurroundGains.{SurroundGains}
 use Rattle.surround.specs.Computed.{rawGains, sumOf, dividedBy}
-use Rattle.surround.specs.Promise.{refusalOf, gainsOf, SurroundWords, Pans}
+use Rattle.surround.specs.Promise.{refusalOf, gainsOf, SurroundWords, SurroundPromise}
 use Rattle.surround.proofs.Gains.{gains}
 
 -- b is whether the layout is one that is offered
@@ -33,23 +33,24 @@ module _ (l : Layout) (a : Float) (b : Bool) (s : b ≡ surround l) where
   abbrev refusing : ℕ → SurroundGains
   refusing n = record { refusal = n; gains = silence }
 
-  refuses : (n : ℕ) (r : SurroundGains) → 0 < n → refusalOf l a ≡ n → r ≡ refusing n → Pans l a r
+  refuses : (n : ℕ) (r : SurroundGains) → 0 < n → refusalOf l a ≡ n → r ≡ refusing n → SurroundPromise l a r
   refuses n r o h e = record {
     bits = e ∙ answered-by (accepting (gainsOf l a)) refusing (refusalOf l a) n o h;
     words = λ k. absurd (not-accepted n o h k);
   }
 
-  pub no-layout : (r : SurroundGains) → not b ≡ true → r ≡ record { refusal = 2; gains = silence } → Pans l a r
+  pub no-layout : (r : SurroundGains) → not b ≡ true → r ≡ record { refusal = 2; gains = silence }
+      → SurroundPromise l a r
   no-layout r h e = refuses 2 r (lit< tt) (cond-true 2 _ (ap not (sym s) ∙ h)) e
 
   pub no-azimuth : (r : SurroundGains) → not b ≡ false → refusesAzimuth a ≡ true
-      → r ≡ record { refusal = 3; gains = silence } → Pans l a r
+      → r ≡ record { refusal = 3; gains = silence } → SurroundPromise l a r
   no-azimuth r h i e = refuses 3 r (lit< tt) (cond-false 2 _ (ap not (sym s) ∙ h) ∙ cond-true 3 0 i) e
 
   -- n channels, their raw gains, the sum of their squares and its root
   pub plays : (n : ℕ) (raw : List Float) (x : Float) (r : Rooted) (g : List Float) → not b ≡ false
       → refusesAzimuth a ≡ false → n ≡ counted l .channels → raw ≡ rawGains l a n → x ≡ sumOf n raw
-      → r ≡ rootAnswer x → g ≡ dividedBy (r .value) raw → Pans l a (record { refusal = 0; gains = g })
+      → r ≡ rootAnswer x → g ≡ dividedBy (r .value) raw → SurroundPromise l a (record { refusal = 0; gains = g })
   unfolding gainsOf ofInt
   plays n raw x r g h i en er es eo eg =
       let surrounds = sym s ∙ not-false b h in

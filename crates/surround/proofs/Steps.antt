@@ -9,7 +9,7 @@ use Rattle.series.specs.Sums.{cosine}
 use Rattle.angles.specs.declared.Answer.{Answer}
 use Rattle.angles.specs.Promise as Angles
 use Rattle.formats.specs.Floats.{zero-float}
-use Rattle.angles.specs.Promise.{Promise}
+use Rattle.angles.specs.Promise.{WavePromise}
 use Rattle.channel.specs.Layouts.{lowFrequency, azimuthOf}
 use Rattle.channel.specs.declared.Layout.{Layout}
 use Rattle.surround.specs.Computed.{absolute, notBelow, placeOf, isNear, wayOf, rawOf, channelGain}
@@ -25,7 +25,7 @@ module _ (a s t : Float) (b : Bool) (e : t ≡ placeOf a s) (n : b ≡ isNear a 
 
   -- x is the way to it, and g the cosine's answer
   module _ (x : Float) (g : Answer) (h : not b ≡ false) (w : x ≡ absolute (sub binary64 a t))
-      (p : Promise cosine x g) where
+      (p : WavePromise cosine x g) where
     value-is : g .value ≡ Angles.outcome cosine (wayOf a (placeOf a s)) .value
     unfolding wayOf
     value-is =

@@ -47,6 +47,6 @@ pub record SurroundWords (l : Layout) (a : Float) (g : ℕ → Float) : Type 0 w
   pub silent : (c : ℕ) → T (isSilent l (number a) c) → g c ≡ zero-float
 
 -- every bit of the answer, and what document 01 says of the gains of an accepted azimuth
-pub record Pans (l : Layout) (a : Float) (answer : SurroundGains) : Type 0 where
+pub record SurroundPromise (l : Layout) (a : Float) (answer : SurroundGains) : Type 0 where
   pub bits : answer ≡ outcome l a
   pub words : refusalOf l a ≡ 0 → SurroundWords l a (λ c. getD (answer .gains) c zero-float)

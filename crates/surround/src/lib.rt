@@ -18,7 +18,7 @@ ghost use mathlib.Core.Path.{_≡_};
 ghost use Prim.Native.Nat.{_≤_};
 ghost use Rattle.surround.specs.Computed.{absolute, placeOf, isNear, rawOf, channelGain, rawGains, sumOf};
 ghost use Rattle.surround.specs.Computed.{dividedBy};
-ghost use Rattle.surround.specs.Promise.{Pans};
+ghost use Rattle.surround.specs.Promise.{SurroundPromise};
 ghost use Rattle.harmonics.specs.Promise.{silence};
 
 pub struct SurroundGains {
@@ -132,7 +132,7 @@ fn refused(refusal: u8) -> SurroundGains
 }
 
 pub fn calculate_vbap_gains(layout: channel::Layout, azimuth: f64) -> SurroundGains
-    ensures { λ r. ⌜ Pans layout azimuth r ⌝ }
+    ensures { λ r. ⌜ SurroundPromise layout azimuth r ⌝ }
 {
     if !channel::is_surround(layout) {
         return refused(2);

@@ -24,7 +24,7 @@ use Rattle.harmonics.specs.declared.Direction.{Direction}
 use Rattle.harmonics.proofs.Laws.{accepted, direction-accepted, whole-accepted, elevation-accepted}
 use Rattle.virtual_speaker.specs.Weights.{weightedFormulas}
 use Rattle.virtual_speaker.specs.Computed.{weigh, weighted}
-use Rattle.virtual_speaker.specs.Promise.{weightBits, Promise, positionOf}
+use Rattle.virtual_speaker.specs.Promise.{weightBits, MaxRePromise, positionOf}
 use Rattle.virtual_speaker.specs.declared.Weighted.{Weighted}
 -- the direction of a position, also of what is none
 pub use Rattle.virtual_speaker.proofs.Positions.{position-direction}
@@ -38,7 +38,7 @@ each-sound k (x ∷ xs) (q ∷ qs) h = ap (λ (b : Bool). not b || hasNonfinite 
     (is-true (finite x) (number-finite x (h .0 .first))) ∙ each-sound k xs qs (h .1)
 each-sound k (x ∷ xs) [] h = absurd h
 
-module _ (order : ℕ) (d : Direction) (answer : Weighted) (p : Promise order d answer) where
+module _ (order : ℕ) (d : Direction) (answer : Weighted) (p : MaxRePromise order d answer) where
   -- the answer by its refusal
   abbrev by : ℕ → Weighted
   by n = answered n (record { refusal = 0; weights = weighted order d })

@@ -23,7 +23,7 @@ use Rattle.harmonics.specs.declared.Coefficients.{Coefficients}
 use Rattle.harmonics.proofs.Laws as Laws
 use Rattle.virtual_speaker.specs.Weights.{maxReCosine, degreeOf, weightedFormulas}
 use Rattle.virtual_speaker.specs.Computed.{cosineOf, weight, weigh, weighted}
-use Rattle.virtual_speaker.specs.Promise.{weightBits, outcome, Promise}
+use Rattle.virtual_speaker.specs.Promise.{weightBits, outcome, MaxRePromise}
 use Rattle.virtual_speaker.specs.declared.Weighted.{Weighted}
 use Rattle.virtual_speaker.proofs.Cosines.{cosine-near}
 use Rattle.virtual_speaker.proofs.Near.{weighted-near, each-tab}
@@ -70,7 +70,7 @@ module _ (order : ℕ) (d : Direction) where
   weights-are h = ap (λ (r : Weighted). r .weights)
       (answered-accepted (accepting (weighted order d)) refusing (refusalOf order d) h)
 
-  pub outcome-kept : Promise order d (outcome order d)
+  pub outcome-kept : MaxRePromise order d (outcome order d)
   unfolding weigh
   outcome-kept = record {
     bits = refl;
@@ -80,10 +80,10 @@ module _ (order : ℕ) (d : Direction) where
   }
 
   -- ---- the answer of the program
-  pub weighed-kept : (r : Coefficients) → Harmonics.Promise order d r → (w : List Float)
-      → w ≡ weigh (cosineOf order) (r .gains) → Promise order d (record { refusal = r .refusal; weights = w })
+  pub weighed-kept : (r : Coefficients) → Harmonics.HarmonicsPromise order d r → (w : List Float)
+      → w ≡ weigh (cosineOf order) (r .gains) → MaxRePromise order d (record { refusal = r .refusal; weights = w })
   weighed-kept r p w h =
-      subst (Promise order d)
+      subst (MaxRePromise order d)
       (sym ((λ i. record {
         refusal = p .bits i .refusal;
         weights = (h ∙ ap (λ (s : Coefficients). weigh (cosineOf order) (s .gains)) (p .bits)) i;

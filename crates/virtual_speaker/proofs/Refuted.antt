@@ -16,7 +16,7 @@ use Rattle.harmonics.specs.Formulas.{formulasOver}
 use Rattle.harmonics.specs.Promise.{silence}
 use Rattle.harmonics.specs.Drill.{at}
 use Rattle.harmonics.specs.declared.Direction.{Direction}
-use Rattle.virtual_speaker.specs.Promise.{Promise, positionAnswer}
+use Rattle.virtual_speaker.specs.Promise.{MaxRePromise, positionAnswer}
 use Rattle.virtual_speaker.specs.declared.Weighted.{Weighted}
 use Rattle.virtual_speaker.specs.declared.Position.{Position}
 
@@ -24,17 +24,17 @@ refusal : Weighted → ℕ
 refusal r = r .refusal
 
 -- it refuses every direction
-refuses-always : Promise 1 (at 0 0) (record { refusal = 3; weights = silence }) → ⊥
+refuses-always : MaxRePromise 1 (at 0 0) (record { refusal = 3; weights = silence }) → ⊥
 unfolding refusal refusesAngle isInside lt le eq neg ofInt
 refuses-always p = let e : _≡_ {A = ℕ} 3 0 = ap refusal (p .bits) in omega arith
 
 -- it takes order 4 for the third, as 003 does
-third-for-fourth : (ws : List Float) → Promise 4 (at 0 0) (record { refusal = 0; weights = ws }) → ⊥
+third-for-fourth : (ws : List Float) → MaxRePromise 4 (at 0 0) (record { refusal = 0; weights = ws }) → ⊥
 unfolding refusal
 third-for-fourth ws p = let e : _≡_ {A = ℕ} 0 1 = ap refusal (p .bits) in omega arith
 
 -- it takes 137.9 degrees for A, as the comment of 003 has it: the cosine of a quarter of that is 0.8243...
-by-the-comment : Promise 1 (at 0 0)
+by-the-comment : MaxRePromise 1 (at 0 0)
     (record {
       refusal = 0;
       weights = (float (pos 1) ∷ zero-float ∷ zero-float ∷ decimal 8243732515066312 ∷ [])
@@ -54,7 +54,7 @@ eighth-refused d h = let e : _≡_ {A = ℕ} 2 0 = ap (λ (r : Position). r .ref
 
 -- it rounds up to 33 binary places: the weight of channel 3, c itself, is then more than 2^-34 too large
 rounded-up-to-33-places : (w y z : Float) (ws : List Float)
-    → Promise 1 (at 0 0) (record { refusal = 0; weights = w ∷ y ∷ z ∷ fin false 1770517735 (negsuc 30) ∷ ws }) → ⊥
+    → MaxRePromise 1 (at 0 0) (record { refusal = 0; weights = w ∷ y ∷ z ∷ fin false 1770517735 (negsuc 30) ∷ ws }) → ⊥
 unfolding refusesAngle isInside lt le eq neg ofInt formulasOver defined isMultiple quarters turned cosineSum term power
     factorial
 rounded-up-to-33-places w y z ws p = le→leb _ _ (p .words refl .1 .1 .1 .0 .near)

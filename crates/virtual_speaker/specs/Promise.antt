@@ -23,7 +23,7 @@ outcome order d = answered (refusalOf order d) (record { refusal = 0; weights = 
     (λ n. record { refusal = n; weights = silence })
 
 -- every bit of the answer; and of the weighted coefficients of an accepted direction how near each is to its formula
-pub record Promise (order : ℕ) (d : Direction) (answer : Weighted) : Type 0 where
+pub record MaxRePromise (order : ℕ) (d : Direction) (answer : Weighted) : Type 0 where
   pub bits : answer ≡ outcome order d
   pub words : refusalOf order d ≡ 0 → EachWithin weightBits (answer .weights)
       (weightedFormulas order (number (d .azimuth)) (number (d .elevation)))

@@ -83,7 +83,7 @@ fn weigh(coeffs: [f64; 16], c: f64) -> [f64; 16]
 
 // The coefficients of a direction, up to an order, with max-rE weights. A refusal's zeros stay zeros.
 pub fn compute_sh_coefficients_max_re(order: usize, direction: Direction) -> Weighted
-    ensures { λ r. ⌜ Said.Promise order direction r ⌝ }
+    ensures { λ r. ⌜ Said.MaxRePromise order direction r ⌝ }
 {
     let coeffs = harmonics::compute_sh_coefficients(order, direction);
     let gains = coeffs.gains;

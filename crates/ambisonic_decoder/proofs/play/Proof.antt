@@ -7,12 +7,12 @@ use lib.Ieee.{Float}
 use Rattle.planes.specs.Planes.{frameAt}
 use Rattle.planes.specs.Sums.{mixedAll}
 use Rattle.planes.proofs.Framing.{Framing, framing-none, framing-more, framing-all}
-use Rattle.ambisonic_decoder.specs.declared.Shape.{Shape}
+use Rattle.ambisonic_decoder.specs.declared.DecoderShape.{DecoderShape}
 use Rattle.ambisonic_decoder.proofs.play.Statement.{statement}
 use Rattle.ambisonic_decoder.proofs.play.Tie as tie
 
 -- a frame of the outputs
-abbrev outputs-at : Shape → List Float → List Float → ℕ → List Float
+abbrev outputs-at : DecoderShape → List Float → List Float → ℕ → List Float
 outputs-at shape weights inputs n =
     mixedAll (shape .outputs) (shape .channels) weights (frameAt inputs (shape .stride) (shape .channels) n)
 

@@ -6,8 +6,8 @@ use lib.Ieee.{Float}
 use denote.Ref.{now}
 use Rattle.hrtf_desk.specs.declared.Desk.{Desk}
 use Rattle.hrtf_rings.specs.State.{State}
-use Rattle.hrtf_checks.specs.declared.Shape.{Shape}
-use Rattle.hrtf_checks.specs.Call.{Call}
+use Rattle.hrtf_checks.specs.declared.ConvolverShape.{ConvolverShape}
+use Rattle.hrtf_checks.specs.Call.{BlockCall}
 use Rattle.hrtf_checks.specs.Refusals.{refusalOf}
 use Rattle.hrtf_checks.proofs.Refusing.{some-speakers, taps-finite, ready}
 use Rattle.hrtf.specs.declared.frames.Scaled.{Scaled}
@@ -18,7 +18,7 @@ use Rattle.hrtf.proofs.process.Statement.{statement}
 use Rattle.hrtf.proofs.process.Tie as tie
 
 -- what is given, of any shape and of its own
-abbrev shaped : tie.Start → Shape → Call
+abbrev shaped : tie.Start → ConvolverShape → BlockCall
 shaped c h = let a = c .args in record {
   shape = h;
   frames = a .frames;
@@ -30,7 +30,7 @@ shaped c h = let a = c .args in record {
   ears = now (a .ears);
 }
 
-abbrev call : tie.Start → Call
+abbrev call : tie.Start → BlockCall
 call c = shaped c (c .args .shape)
 
 abbrev state : tie.Start → State

@@ -46,10 +46,10 @@ use Rattle.hrtf_desk.proofs.step.Symbol as step-def
 use Rattle.hrtf_desk.proofs.step.Symbol.{name as #hrtf-desk·step}
 use Rattle.hrtf_desk.proofs.step.Met as step-thm
 use Rattle.hrtf_rings.specs.State.{State}
-use Rattle.hrtf_checks.specs.declared.Shape.{Shape}
-use Rattle.hrtf_checks.specs.Call.{Call}
-use Rattle.hrtf_checks.proofs.Shape as S
-use Rattle.hrtf_checks.proofs.Shape.Laws as S′
+use Rattle.hrtf_checks.specs.declared.ConvolverShape.{ConvolverShape}
+use Rattle.hrtf_checks.specs.Call.{BlockCall}
+use Rattle.hrtf_checks.proofs.ConvolverShape as S
+use Rattle.hrtf_checks.proofs.ConvolverShape.Laws as S′
 use Rattle.hrtf.specs.declared.frames.Played.{Played}
 use Rattle.hrtf.specs.declared.frames.Turn.{Turn}
 use Rattle.hrtf.specs.declared.frames.Scaled.{Scaled}
@@ -199,7 +199,7 @@ module _ {M : Type 1} (𝓤 : URA M) (H : Heap 𝓤) (A : Atoms 𝓤) (W : Given
     (rings₀ : RefT (List Float)) (rings-room : Room f32 (length (rings₀ .now))) (ears₀ : RefT (List Float))
     (ears-room : Room f32 (length (ears₀ .now)))
     (ready : ScaledReady scaled (d₀ .position) (rows .now) (taps .now) (rings₀ .now)) where
-  abbrev shape : Shape
+  abbrev shape : ConvolverShape
   shape = scaled .shape
 
   -- ---- what is held: the tokens of the shared slices, what these own, and the rings and the ears as they were passed
@@ -318,7 +318,7 @@ module _ {M : Type 1} (𝓤 : URA M) (H : Heap 𝓤) (A : Atoms 𝓤) (W : Given
   arguments = desk-val d₀ ∷ LL.val K.the-type K′.the-laws scaled ∷ vint w64 frames ∷ vint w64 stride ∷ slice-val inputs
       ∷ slice-val weights ∷ row-val ∷ slice-val taps ∷ slice-val rings₀ ∷ slice-val ears₀ ∷ []
 
-  abbrev call : Call
+  abbrev call : BlockCall
   call = record {
     shape = shape;
     frames = frames;
