@@ -16,7 +16,7 @@ use Rattle.stamps.specs.declared.Expected.{Expected}
 use Rattle.stamps.specs.declared.Expected.the-variants.{Stamp}
 use Rattle.stamps.specs.Arrivals.{stampOf}
 use Rattle.stamps.specs.Counts.{outIn, lateIn, silentIn}
-use Rattle.replay.specs.Lines.{Line, stampsIn}
+use Rattle.replay.specs.Lines.{Recording, stampsIn}
 use Rattle.replay.specs.Promise.{ReplayOutcome, outcome, refusalIn, accepted, refused}
 use Rattle.probe_request.specs.Requests.{samplesLent}
 use Rattle.probe_answer.specs.Answers.{Draft, none}
@@ -86,7 +86,7 @@ module _ (args out : List ℕ) (r : Draft) (is : r ≡ answerOf 22 args out)
   abbrev lists : Lists
   lists = listsAt args 153 (lentOf args)
 
-  abbrev line : Line
+  abbrev line : Recording
   line = lineOf args lists (stampsAt args (lentOf args) (samplesLent args 138))
 
   abbrev x : Expected

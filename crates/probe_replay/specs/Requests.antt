@@ -8,7 +8,7 @@ use Rattle.big_endian.specs.Fields.{fieldAt}
 use Rattle.big_endian.specs.Lists.{strided}
 use Rattle.stamps.specs.declared.Expected.{Expected}
 use Rattle.stamps.specs.declared.Expected.the-variants.{First, Stamp}
-use Rattle.replay.specs.Lines.{Line}
+use Rattle.replay.specs.Lines.{Recording}
 use Rattle.replay.specs.Promise.{ReplayOutcome, outcome}
 use Rattle.probe_request.specs.Requests.{eightAt, wordAt}
 use Rattle.probe_hrtf.specs.Requests.{shapeAt, stateOf, Lent, Lists, listsEnd, listsAt}
@@ -29,7 +29,7 @@ stampsAt args n s = strided (wordAt args) 4 (stampsFrom n) s
 
 -- what is handed to `replay`: "frames, stride (8 each), the bank row of each of eight speakers (8 each)", "ear stride
 -- (8)", beside the lists; and what it makes of that
-abbrev pub lineOf : List ℕ → Lists → List ℕ → Line
+abbrev pub lineOf : List ℕ → Lists → List ℕ → Recording
 lineOf args l stamps =
     record {
       shape = shapeAt args;

@@ -19,7 +19,7 @@ use Rattle.stamps.specs.Counts.{outIn, plannedOf}
 use Rattle.stamps.specs.Events.{Event, eventsOf}
 use Rattle.stamps.proofs.Recordings.{feeds-out}
 use Rattle.replay.specs.declared.play.Turned.{Turned}
-use Rattle.replay.specs.Lines.{Line, setupIn, stampsIn, recordedAt, recordingIn, eventsIn}
+use Rattle.replay.specs.Lines.{Recording, setupIn, stampsIn, recordedAt, recordingIn, eventsIn}
 use Rattle.replay.specs.Heard.{heardBy, unsettledBy, afterBy, afterEvents}
 use Rattle.replay.specs.Promise.{refusalIn, ReplayOutcome, refused, accepted, outcome, stateAfter, Replays}
 use Rattle.replay.specs.Computed.{stateWith, planIn, leftBy, playedBy, countedBy, quiet, startOf, eventsAt, Turns}
@@ -27,7 +27,7 @@ use Rattle.replay.proofs.Judging.{stands, plan-is, stamps-are, fits-ear
 use Rattle.replay.proofs.Hearing.{length-heard-by, two-each-by, played-by-held, counted-by-is, left-by-is}
 use Rattle.replay.proofs.Hearing.{left-by-kept}
 
-module _ (l : Line) (x : Expected) (t : State) (ears : List Float) where
+module _ (l : Recording) (x : Expected) (t : State) (ears : List Float) where
   abbrev pub answeredBy : ℕ → ReplayOutcome
   answeredBy k = answered k (accepted l x t ears) (λ n. refused n x t ears)
 
@@ -154,7 +154,7 @@ module _ (l : Line) (x : Expected) (t : State) (ears : List Float) where
           earStride = l .earStride;
         })
       where
-        by : Line → ReplayOutcome
+        by : Recording → ReplayOutcome
         by m =
             answering (plannedOf x (stampsIn m)) (countedBy (setupIn m) t (eventsIn m x))
             (leftBy (setupIn m) t (eventsIn m x))

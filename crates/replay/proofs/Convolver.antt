@@ -26,12 +26,12 @@ use Rattle.hrtf_checks.proofs.Refusing.{lengths-fit, on-desk, accept}
 use Rattle.hrtf.specs.Promise.{BlockOutcome, stateAfter, Processes}
 use Rattle.hrtf.specs.Reset.{ResetOutcome, Resets}
 use Rattle.hrtf.proofs.Meets.{outcome-by, outcome-computed, reset-accepts, reset-by}
-use Rattle.replay.specs.Lines.{Line, setupIn}
+use Rattle.replay.specs.Lines.{Recording, setupIn}
 use Rattle.replay.specs.Heard.{rested}
 use Rattle.replay.specs.Computed.{stateWith, Good, Kept, Resting}
 
 -- the call for a block
-abbrev pub blockCall : Line → ℕ → List Float → List Float → BlockCall
+abbrev pub blockCall : Recording → ℕ → List Float → List Float → BlockCall
 blockCall l count block own =
     record {
       shape = l .shape;
@@ -44,7 +44,7 @@ blockCall l count block own =
       ears = own;
     }
 
-module _ {l : Line} (good : Good l) {t : State} {count : ℕ} {block own : List Float} (kept : Kept l t block own)
+module _ {l : Recording} (good : Good l) {t : State} {count : ℕ} {block own : List Float} (kept : Kept l t block own)
     (few : count ≤ 64) where
   block-accepted : refusalOf (blockCall l count block own) t ≡ 0
   block-accepted =

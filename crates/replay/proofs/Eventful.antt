@@ -15,7 +15,7 @@ use Rattle.hrtf_rings.proofs.RingsHoldHistory.{step-fits}
 use Rattle.hrtf_rings.proofs.Filters.{stepped-alike, played-alike, counted-alike}
 use Rattle.stamps.specs.Events.{Event, feed, restart}
 use Rattle.stamps.specs.Computed.{feedsIn}
-use Rattle.replay.specs.Lines.{Line, setupIn}
+use Rattle.replay.specs.Lines.{Recording, setupIn}
 use Rattle.replay.specs.Heard.{rested}
 use Rattle.replay.specs.Computed.{StateReady, leftBy, playedBy, countedBy, feeds}
 
@@ -119,7 +119,7 @@ length-feeds (s ∷ ss) (f ∷ fs) e = omega (arith, length-feeds ss fs (omega (
 
 -- ---- the state
 
-module _ (l : Line) where
+module _ (l : Recording) where
   rested-stands : (t : State) → 0 < l .shape .length → StateReady l t → StateReady l (rested t)
   rested-stands t h p =
       record { ringed = length-replicate (length (t .rings)) zero-float ∙ p .ringed; within = h; waits = h }

@@ -26,7 +26,7 @@ use Rattle.stamps.specs.Counts.{outIn, plannedOf, unplannedOf, planOf}
 use Rattle.stamps.specs.Events.{stampsOf}
 use Rattle.stamps.proofs.Recordings.{feeds-out}
 use Rattle.replay.specs.Computed.{quiet, startOf, Room, placesOf, planIn, picked, Good, StateReady, Kept}
-use Rattle.replay.specs.Lines.{Line, recordedAt, recordingIn, stampsIn}
+use Rattle.replay.specs.Lines.{Recording, recordedAt, recordingIn, stampsIn}
 use Rattle.replay.proofs.Convolver.{blockCall}
 use Rattle.replay.specs.Promise.{recordUnfit, listsUnfit, replayChecks, refusalIn}
 
@@ -61,11 +61,11 @@ fits-by false true c x p e = refl
 fits-by false false true x p e = e
 fits-by false false false x p e = refl
 
-abbrev planAt : Line → Expected → ℕ → Planned
+abbrev planAt : Recording → Expected → ℕ → Planned
 planAt l x ears =
     planIn x (l .frames) (l .stride) (l .stamps) (l .shape .channels) (length (l .inputs)) (l .earStride) ears
 
-plan-fits : (l : Line) (x : Expected) (ears : ℕ) → planAt l x ears .fits ≡ not (recordUnfit l x ears)
+plan-fits : (l : Recording) (x : Expected) (ears : ℕ) → planAt l x ears .fits ≡ not (recordUnfit l x ears)
 plan-fits l x ears =
     fits-by (blockUnfit (length (l .stamps)) 1 (length (l .inputs)) (l .shape .channels) (l .stride) (l .frames))
     (not (eqb ears (2 * l .earStride))) (leb (outIn x (stampsIn l)) (l .earStride)) x
@@ -88,14 +88,14 @@ places-lent n channels x e =
 places-are : (channels : ℕ) → channels ≤ 16 → placesOf channels ≡ channels * 64
 places-are channels h = ap (λ (b : Bool). cond b (channels * 64) 0) (le-leb channels 16 h)
 
-channels-few : (l : Line) → misshapen (l .shape) (l .rows) ≡ false → l .shape .channels ≤ 16
+channels-few : (l : Recording) → misshapen (l .shape) (l .rows) ≡ false → l .shape .channels ≤ 16
 channels-few l e =
     let a1 = or-off (outside (l .shape .speakers) 8) _ e in
     let a2 = or-off (outside (l .shape .rows) 8) _ (a1 .1) in
     let a3 = or-off (outside (l .shape .channels) 16) _ (a2 .1) in
     not-outside (l .shape .channels) 16 (a3 .0) .1
 
-module _ (l : Line) (x : Expected) (t : State) (ears : ℕ) where
+module _ (l : Recording) (x : Expected) (t : State) (ears : ℕ) where
   pub refusal-is : (block own : List Float) (judged : ℕ) (plan : Planned) → length block ≡ placesOf (l .shape .channels)
       → length own ≡ 2 * 64
       → judged ≡ refusalOf (blockCall l 0 block own) t → plan ≡ planAt l x ears

@@ -25,7 +25,7 @@ use Rattle.replay.specs.declared.gather.Gathered.{Gathered}
 use Rattle.replay.specs.Computed.{quiet, feeds, restarting, Gathers, eventsAt, Resting, restedIf, Room, Turns}
 use Rattle.replay.specs.Computed.{leftIn, Turn, stateWith, Good, StateReady, Kept, leftBy, playedBy, countedBy}
 use Rattle.replay.specs.declared.play.Turned.{Turned}
-use Rattle.replay.specs.Lines.{Line, setupIn, recordingIn}
+use Rattle.replay.specs.Lines.{Recording, setupIn, recordingIn}
 use Rattle.hrtf_rings.proofs.RingsHoldHistory.{left-fits}
 use Rattle.replay.proofs.Eventful.{left-by-append, played-by-append, counted-by-append, length-played-by}
 use Rattle.replay.proofs.Eventful.{counted-few, left-feeds, played-feeds, counted-feeds, feeds-feeds}
@@ -33,11 +33,11 @@ use Rattle.replay.proofs.Eventful.{length-feeds, left-by-stands}
 use Rattle.replay.proofs.Convolver.{blockCall, block-leaves, block-counts, block-sounds, speakers-few}
 
 -- a restart, or none, as the last event
-rested-by : (l : Line) (b : Bool) (t : State) → restedIf b t ≡ leftBy (setupIn l) t (restarting b)
+rested-by : (l : Recording) (b : Bool) (t : State) → restedIf b t ≡ leftBy (setupIn l) t (restarting b)
 rested-by l true t = refl
 rested-by l false t = refl
 
-silent-rest : (l : Line) (b : Bool) (t : State) → (playedBy (setupIn l) t (restarting b) ≡ [])
+silent-rest : (l : Recording) (b : Bool) (t : State) → (playedBy (setupIn l) t (restarting b) ≡ [])
     × ((countedBy (setupIn l) t (restarting b) ≡ 0) × (feedsIn (restarting b) ≡ 0))
 silent-rest l true t = (refl, (refl, refl))
 silent-rest l false t = (refl, (refl, refl))
@@ -46,12 +46,12 @@ length-restarting : (b : Bool) → length (restarting b) ≡ cond b 1 0
 length-restarting true = refl
 length-restarting false = refl
 
-pub some-length : (l : Line) → Good l → 0 < l .shape .length
+pub some-length : (l : Recording) → Good l → 0 < l .shape .length
 some-length l good = not-outside (l .shape .length) 512 (good .long) .0
 
 -- ---- one turn
 
-module _ (l : Line) (p : Turned) {g : Gathered} {block₁ : List Float}
+module _ (l : Recording) (p : Turned) {g : Gathered} {block₁ : List Float}
     (got : Gathers (recordingIn l) (l .shape .channels) (p .expected) (p .at) (l .frames) g block₁) where
   abbrev fs : List (List Float)
   fs = framesOf block₁ 64 (l .shape .channels) (g .count)
@@ -188,7 +188,7 @@ module _ (l : Line) (p : Turned) {g : Gathered} {block₁ : List Float}
 
 -- ---- turns one after another
 
-module _ {l : Line} {p : Turned} {rings ears : List Float} where
+module _ {l : Recording} {p : Turned} {rings ears : List Float} where
   pub turns-none : p .at ≤ l .frames → Turns l p rings ears p rings ears
   turns-none h = record {
     gone = [];
@@ -261,7 +261,7 @@ module _ {l : Line} {p : Turned} {rings ears : List Float} where
 
 -- ---- the loop: turns from the first place on, in lists that stay as long
 
-pub record LoopOverTable (l : Line) (p : Turned) (rings ears block own : List Float) (r : Turned)
+pub record LoopOverTable (l : Recording) (p : Turned) (rings ears block own : List Float) (r : Turned)
     (rings₁ ears₁ block₁ own₁ : List Float) : Type 0 where
   pub turns : Turns l p rings ears r rings₁ ears₁
   pub rings-long : length rings₁ ≡ length rings
@@ -269,7 +269,7 @@ pub record LoopOverTable (l : Line) (p : Turned) (rings ears block own : List Fl
   pub block-long : length block₁ ≡ length block
   pub own-long : length own₁ ≡ length own
 
-module _ {l : Line} {p : Turned} {rings ears block own : List Float} {r : Turned}
+module _ {l : Recording} {p : Turned} {rings ears block own : List Float} {r : Turned}
     {rings₁ ears₁ block₁ own₁ : List Float}
     (g : LoopOverTable l p rings ears block own r rings₁ ears₁ block₁ own₁) where
   pub loop-kept : Good l → Kept l (stateWith (p .desk) rings) block own

@@ -20,7 +20,7 @@ use Rattle.stamps.specs.declared.Expected.{Expected}
 use Rattle.stamps.specs.declared.Planned.{Planned}
 use Rattle.stamps.specs.Counts.{unplannedOf, planOf}
 use Rattle.stamps.specs.Events.{Event, feed, restart, Recorded, eventsOf}
-use Rattle.replay.specs.Lines.{Line, setupIn, recordingIn}
+use Rattle.replay.specs.Lines.{Recording, setupIn, recordingIn}
 use Rattle.replay.specs.Heard.{rested}
 use Rattle.formats.specs.Floats.{zero-float}
 use Rattle.planes.specs.Planes.{frameAt, framesOf, withFrame, withFrames}
@@ -34,7 +34,7 @@ use Rattle.replay.specs.declared.Replayed.{Replayed}
 use Rattle.replay.specs.declared.play.Turned.{Turned}
 
 -- a line, in the order of the code
-abbrev pub lineOf : ConvolverShape → ℕ → ℕ → List ℕ → List Float → List Float → List ℕ → List Float → ℕ → Line
+abbrev pub lineOf : ConvolverShape → ℕ → ℕ → List ℕ → List Float → List Float → List ℕ → List Float → ℕ → Recording
 lineOf shape frames stride stamps inputs weights rows taps earStride =
     record {
       shape = shape;
@@ -66,7 +66,7 @@ picked judged fits = cond (eqb judged 2) 2 (cond (eqb judged 4) 4 (cond fits jud
 
 -- ---- what the checks have made sure of
 
-pub record Good (l : Line) : Type 0 where
+pub record Good (l : Recording) : Type 0 where
   pub shaped : misshapen (l .shape) (l .rows) ≡ false
   pub long : outside (l .shape .length) 512 ≡ false
   pub weighted : length (l .weights) ≡ l .shape .speakers * l .shape .channels
@@ -75,10 +75,10 @@ pub record Good (l : Line) : Type 0 where
   pub stamped : l .frames ≤ length (l .stamps)
 
 -- of the state, and of the block and its ears
-abbrev pub StateReady : Line → State → Type 0
+abbrev pub StateReady : Recording → State → Type 0
 StateReady l t = StateFits (l .shape .speakers) (l .shape .length) t
 
-pub record Kept (l : Line) (t : State) (block own : List Float) : Type 0 where
+pub record Kept (l : Recording) (t : State) (block own : List Float) : Type 0 where
   pub state : StateReady l t
   pub blocked : length block ≡ l .shape .channels * 64
   pub eared : length own ≡ 2 * 64
@@ -179,7 +179,7 @@ answeredOf plan last =
     }
 
 -- what the recording does from frame k on
-abbrev pub eventsAt : Line → Expected → ℕ → List (Event (List Float))
+abbrev pub eventsAt : Recording → Expected → ℕ → List (Event (List Float))
 eventsAt l x k = eventsFrom (recordingIn l) (l .shape .channels) x k
 
 -- what a reset asks, and what it leaves where there is one
@@ -192,13 +192,13 @@ abbrev pub restedIf : Bool → State → State
 restedIf again t = cond again (rested t) t
 
 -- a place in the recording, with room for the frames that are still to come out
-pub record Room (l : Line) (p : Turned) : Type 0 where
+pub record Room (l : Recording) (p : Turned) : Type 0 where
   pub within : p .at ≤ l .frames
   pub room : p .done + feedsIn (eventsAt l (p .expected) (p .at)) ≤ l .earStride
   pub few : p .unsettled ≤ p .done
 
 -- from one place to another: the events between them are played
-pub record Turns (l : Line) (p : Turned) (rings ears : List Float) (r : Turned) (rings₁ ears₁ : List Float) : Type
+pub record Turns (l : Recording) (p : Turned) (rings ears : List Float) (r : Turned) (rings₁ ears₁ : List Float) : Type
     0 where
   pub gone : List (Event (List Float))
   pub split : eventsAt l (p .expected) (p .at) ≡ gone ++ eventsAt l (r .expected) (r .at)
@@ -209,10 +209,10 @@ pub record Turns (l : Line) (p : Turned) (rings ears : List Float) (r : Turned) 
   pub within : r .at ≤ l .frames
 
 -- what is left: events, and recorded frames
-abbrev pub leftIn : Line → Turned → ℕ
+abbrev pub leftIn : Recording → Turned → ℕ
 leftIn l p = length (eventsAt l (p .expected) (p .at)) + (l .frames - p .at)
 
-pub record Turn (l : Line) (p : Turned) (rings ears : List Float) (r : Turned) (rings₁ ears₁ : List Float) : Type
+pub record Turn (l : Recording) (p : Turned) (rings ears : List Float) (r : Turned) (rings₁ ears₁ : List Float) : Type
     0 where
   pub turns : Turns l p rings ears r rings₁ ears₁
   pub moves : p .at < l .frames → leftIn l r < leftIn l p

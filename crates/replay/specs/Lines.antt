@@ -14,7 +14,7 @@ use Rattle.hrtf_checks.specs.Call.{setupOf}
 use Rattle.stamps.specs.declared.Expected.{Expected}
 use Rattle.stamps.specs.Events.{Recorded, Event, eventsOf}
 
-pub record Line : Type 0 where
+pub record Recording : Type 0 where
   pub shape : ConvolverShape
   pub frames : ℕ
   pub stride : ℕ
@@ -25,11 +25,11 @@ pub record Line : Type 0 where
   pub taps : List Float
   pub earStride : ℕ
 
-abbrev pub setupIn : Line → Setup
+abbrev pub setupIn : Recording → Setup
 setupIn l = setupOf (l .shape) (l .weights) (l .rows) (l .taps)
 
 -- the stamps of the recorded frames
-abbrev pub stampsIn : Line → List ℕ
+abbrev pub stampsIn : Recording → List ℕ
 stampsIn l = take (l .frames) (l .stamps)
 
 -- recorded frame k of stamps and input planes: its stamp, and its samples
@@ -41,9 +41,9 @@ recordedAt stamps channels stride inputs k =
 abbrev pub recording : List ℕ → ℕ → ℕ → List Float → ℕ → List (Recorded (List Float))
 recording stamps channels stride inputs frames = tab 0 frames (recordedAt stamps channels stride inputs)
 
-abbrev pub recordingIn : Line → List (Recorded (List Float))
+abbrev pub recordingIn : Recording → List (Recorded (List Float))
 recordingIn l = recording (l .stamps) (l .shape .channels) (l .stride) (l .inputs) (l .frames)
 
 -- what they do, x being expected: frames that are fed, each with its stamp, and restarts
-abbrev pub eventsIn : Line → Expected → List (Event (List Float))
+abbrev pub eventsIn : Recording → Expected → List (Event (List Float))
 eventsIn l x = eventsOf (silence (setupIn l)) x (recordingIn l)

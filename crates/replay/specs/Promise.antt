@@ -20,26 +20,26 @@ use Rattle.stamps.specs.declared.Expected.{Expected}
 use Rattle.stamps.specs.Arrivals.{expectedAfter}
 use Rattle.stamps.specs.Counts.{outIn, lateIn, silentIn, resetsIn}
 use Rattle.replay.specs.declared.Replayed.{Replayed}
-use Rattle.replay.specs.Lines.{Line, setupIn, stampsIn, eventsIn}
+use Rattle.replay.specs.Lines.{Recording, setupIn, stampsIn, eventsIn}
 use Rattle.replay.specs.Heard.{heardBy, unsettledBy, afterBy, afterEvents}
 
 -- ---- refusals: 2, 4, 5, 7 and 8
 
 -- 5: the stamps are one plane, at the stride of the input planes; the ear planes are two, at a stride of their own, and
 -- it has room for the frames that come out
-abbrev pub recordUnfit : Line → Expected → ℕ → Bool
+abbrev pub recordUnfit : Recording → Expected → ℕ → Bool
 recordUnfit l x ears =
     blockUnfit (length (l .stamps)) 1 (length (l .inputs)) (l .shape .channels) (l .stride) (l .frames)
     || (not (eqb ears (2 * l .earStride)) || ltb (l .earStride) (outIn x (stampsIn l)))
 
 -- 5: "rings speakers x L, weights .. speakers x channels, taps 2 x bank rows x L"
-abbrev pub listsUnfit : Line → ℕ → Bool
+abbrev pub listsUnfit : Recording → ℕ → Bool
 listsUnfit l rings =
     not (eqb rings (l .shape .speakers * l .shape .length))
     || (not (eqb (length (l .weights)) (l .shape .speakers * l .shape .channels))
     || not (eqb (length (l .taps)) (2 * l .shape .rows * l .shape .length)))
 
-abbrev pub replayChecks : Line → Expected → State → ℕ → List Check
+abbrev pub replayChecks : Recording → Expected → State → ℕ → List Check
 replayChecks l x t ears =
     2 when misshapen (l .shape) (l .rows)
     ∷ 4 when outside (l .shape .length) 512
@@ -47,7 +47,7 @@ replayChecks l x t ears =
     ∷ 7 when (hasNonfinite (l .weights) || hasNonfinite (l .taps))
     ∷ 8 when deskOutOfRange (t .desk) (l .shape .length) ∷ []
 
-unfoldable pub refusalIn : Line → Expected → State → ℕ → ℕ
+unfoldable pub refusalIn : Recording → Expected → State → ℕ → ℕ
 refusalIn l x t ears = firstOf (replayChecks l x t ears)
 
 -- ---- the answer, and what the lent rings and ear planes hold
@@ -70,7 +70,7 @@ refused n x t ears = record { answer = refusedOf n (t .desk) x; rings = t .rings
 -- of the frames as fed, newest first, and then those that the rings held, whatever these are, up to the first restart;
 -- the unsettled count: over the same frames, from the frames to go that were given, none being to go after a restart;
 -- the rings and the desk: what the events leave
-abbrev pub accepted : Line → Expected → State → List Float → ReplayOutcome
+abbrev pub accepted : Recording → Expected → State → List Float → ReplayOutcome
 accepted l x t ears =
     record {
       answer =
@@ -88,7 +88,7 @@ accepted l x t ears =
       ears = withFrames ears (l .earStride) 0 (heardBy (setupIn l) (heldIn (setupIn l) t) (eventsIn l x));
     }
 
-unfoldable pub outcome : Line → Expected → State → List Float → ReplayOutcome
+unfoldable pub outcome : Recording → Expected → State → List Float → ReplayOutcome
 outcome l x t ears = answered (refusalIn l x t (length ears)) (accepted l x t ears) (λ n. refused n x t ears)
 
 -- the rings and the desk that it leaves
@@ -97,7 +97,7 @@ stateAfter o = record { rings = o .rings; desk = o .answer .desk }
 
 -- beside the equation: what stands for a past stands, after an accepted replay, for the frames fed since the last
 -- restart, and for that past before them where there was none
-pub record Replays (l : Line) (x : Expected) (t : State) (ears : List Float) (o : ReplayOutcome) : Type 0 where
+pub record Replays (l : Recording) (x : Expected) (t : State) (ears : List Float) (o : ReplayOutcome) : Type 0 where
   pub bits : o ≡ outcome l x t ears
   pub words : (past : List (List Float)) → Represents (setupIn l) past t → refusalIn l x t (length ears) ≡ 0
       → Represents (setupIn l) (afterBy (setupIn l) past (eventsIn l x)) (stateAfter o)

@@ -21,7 +21,7 @@ use Rattle.stamps.specs.Events.{Recorded, Event, eventsOf, stampsOf}
 use Rattle.stamps.proofs.Recordings.{added-cut, expected-cut, events-cut}
 use Rattle.hrtf_runs.specs.Runs.{sum}
 use Rattle.replay.specs.declared.Replayed.{Replayed}
-use Rattle.replay.specs.Lines.{Line, setupIn, recordingIn, eventsIn}
+use Rattle.replay.specs.Lines.{Recording, setupIn, recordingIn, eventsIn}
 use Rattle.replay.specs.Promise.{ReplayOutcome, refused, stateAfter}
 use Rattle.replay.specs.Computed.{leftBy, playedBy, countedBy}
 use Rattle.replay.proofs.Judging.{stamps-are}
@@ -66,7 +66,7 @@ called-by u p c same zero e =
       told = ap tellsOf made ∙ ap (plannedOf x) (sym (stamps-are l x t (length (c .ears)) e) ∙ ap stampsOf takes);
     }
   where
-    l : Line
+    l : Recording
     l = c .line
 
     x : Expected

@@ -22,7 +22,7 @@ use Rattle.hrtf_rings.proofs.Blocks.{fresh}
 use Rattle.stamps.specs.declared.Expected.{Expected}
 use Rattle.stamps.specs.declared.Expected.the-variants.{First, Stamp}
 use Rattle.stamps.specs.Arrivals.{comingBy}
-use Rattle.replay.specs.Lines.{Line, eventsIn}
+use Rattle.replay.specs.Lines.{Recording, eventsIn}
 use Rattle.replay.specs.Heard.{heardBy, unsettledBy}
 use Rattle.replay.specs.Promise.{refusalIn, ReplayOutcome, Replays}
 use Rattle.replay.proofs.Hearing.{played-by-heard, counted-by-told}
@@ -82,7 +82,7 @@ as-many-as-fit o p e = omega (
 )
 
 -- a weight that is NaN and room for eight: 5 comes before 7
-abbrev unfit : Line
+abbrev unfit : Recording
 unfit = record {
   shape = whole 8 .shape;
   frames = 8;
@@ -107,7 +107,7 @@ seven-first o p e = omega (
 -- ---- on small ones
 
 -- two frames with these stamps and samples
-abbrev two : ℕ → ℕ → Float → Float → ℕ → Line
+abbrev two : ℕ → ℕ → Float → Float → ℕ → Recording
 two s r x y room = line 2 (s ∷ r ∷ []) (x ∷ y ∷ []) room
 
 -- the unsettled count of two frames from rest that are not refused

@@ -24,7 +24,7 @@ use Rattle.hrtf.specs.Reset.{resetRefusal, Resets}
 use Rattle.hrtf.proofs.Meets.{reset-accepted}
 use Rattle.stamps.specs.declared.Expected.the-variants.{First, Stamp}
 use Rattle.stamps.specs.Arrivals.{comingBy}
-use Rattle.replay.specs.Lines.{Line, eventsIn}
+use Rattle.replay.specs.Lines.{Recording, eventsIn}
 use Rattle.replay.specs.Heard.{heardBy, unsettledBy}
 use Rattle.replay.specs.Promise.{refusalIn, ReplayOutcome, outcome, Replays}
 use Rattle.replay.proofs.Hearing.{played-by-heard, counted-by-told}
@@ -38,7 +38,7 @@ use Rattle.replays.proofs.Demand.{replay-demand-3}
 
 -- a line with the drill's filters, one channel and one speaker, L = 2: so many frames, and so much room in the ear
 -- planes
-abbrev pub line : ℕ → List ℕ → List Float → ℕ → Line
+abbrev pub line : ℕ → List ℕ → List Float → ℕ → Recording
 line frames stamps samples room =
     record {
       shape = record { channels = 1; speakers = 1; rows = 1; length = 2 };
@@ -52,7 +52,7 @@ line frames stamps samples room =
       earStride = room;
     }
 
-abbrev pub whole : ℕ → Line
+abbrev pub whole : ℕ → Recording
 whole room =
     line 8 (4294967294 ∷ 4294967295 ∷ 0 ∷ 3 ∷ 2 ∷ 4 ∷ 5000 ∷ 5001 ∷ [])
     (one-float ∷ nan ∷ zero-float ∷ float (pos 2) ∷ float (pos 9) ∷ float (pos 4) ∷ float (pos 8) ∷ one-float ∷ []) room

@@ -13,14 +13,14 @@ use Rattle.hrtf_rings.specs.State.{State}
 use Rattle.stamps.specs.declared.Expected.{Expected}
 use Rattle.stamps.specs.Events.{Recorded, Event, eventsOf, stampsOf}
 use Rattle.replay.specs.declared.Replayed.{Replayed}
-use Rattle.replay.specs.Lines.{Line, setupIn, recordingIn}
+use Rattle.replay.specs.Lines.{Recording, setupIn, recordingIn}
 use Rattle.replay.specs.Promise.{refusalIn, ReplayOutcome, outcome, stateAfter}
 
 -- ---- one call
 
 -- all that is handed to it but what is passed on
 pub record ReplayCall : Type 0 where
-  pub line : Line
+  pub line : Recording
   pub ears : List Float
 
 -- what is passed on

@@ -6,7 +6,7 @@ use lib.ListN.{length}
 use Rattle.hrtf_rings.specs.State.{State}
 use Rattle.replay.specs.declared.Replayed.{Replayed}
 use Rattle.replay.specs.declared.play.Turned.{Turned}
-use Rattle.replay.specs.Lines.{Line}
+use Rattle.replay.specs.Lines.{Recording}
 use Rattle.replay.specs.Promise.{refusalIn, Replays}
 use Rattle.replay.specs.Computed.{lineOf, stateWith, Good, Kept, Room, Turns}
 use Rattle.replay.proofs.Judging.{refusal-is, good, kept, room}
@@ -15,7 +15,7 @@ use Rattle.replay.proofs.replay_in.Statement.{statement}
 use Rattle.replay.proofs.replay_in.Tie as tie
 
 -- what is given
-abbrev line : tie.Start → Line
+abbrev line : tie.Start → Recording
 line c = let a = c .args in lineOf (a .shape) (a .frames) (a .stride) (now (a .stamps)) (now (a .inputs))
     (now (a .weights)) (now (a .row-of)) (now (a .taps)) (a .ear-stride)
 

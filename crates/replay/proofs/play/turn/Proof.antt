@@ -2,14 +2,14 @@
 use Prim.Native.Nat.{_+_, _≤_}
 use native.Mathlib.Omega.{arith}
 use denote.Ref.{now}
-use Rattle.replay.specs.Lines.{Line}
+use Rattle.replay.specs.Lines.{Recording}
 use Rattle.replay.specs.Computed.{lineOf}
 use Rattle.replay.proofs.Turning.{turn-room, turn-few, turn-resting, turn-made}
 use Rattle.replay.proofs.play.turn.Statement.{statement}
 use Rattle.replay.proofs.play.turn.Tie as tie
 
 -- what is given
-abbrev line : tie.Start → Line
+abbrev line : tie.Start → Recording
 line c = let a = c .args in lineOf (a .shape) (a .frames) (a .stride) (now (a .stamps)) (now (a .inputs))
     (now (a .weights)) (now (a .row-of)) (now (a .taps)) (a .ear-stride)
 
