@@ -1,4 +1,4 @@
--- The laws of the decoder matrix. Crates above cite `Answers`.
+-- The laws of the decoder matrix. Crates above cite `Meets`.
 mod Speakers
 mod Filling
 mod Near

@@ -17,7 +17,7 @@ use Rattle.channel.specs.Layouts.{channelsOf, azimuthOf, lowFrequency}
 use Rattle.channel.specs.Orders.{channelsOfOrder}
 use Rattle.decoder_matrix.specs.Speakers.{azimuthBy}
 use Rattle.decoder_matrix.specs.Matrix.{rowTowards}
-use Rattle.decoder_matrix.specs.Promise.{WeightsAnswer, checksOf, refusalOf, MatrixPromise}
+use Rattle.decoder_matrix.specs.Promise.{WeightsAnswer, checksOf, refusalOf, DecoderMatrixPromise}
 use Rattle.decoder_matrix.proofs.Meets.{row-is, weights-are}
 
 -- it is one of the speakers, and counts as 0 degrees
@@ -31,7 +31,7 @@ in-front Surround71 i e =
     (subst (λ (k : ℕ). k < 8) (sym (eqb-true i 3 e)) (lit< tt), ap (azimuthOf Surround71) (eqb-true i 3 e))
 in-front (Custom n) i e = absurd (true≢false (sym e))
 
-pub low-frequency-row : (order : ℕ) (l : Layout) (w : List Float) (r : WeightsAnswer) → MatrixPromise order l w r
+pub low-frequency-row : (order : ℕ) (l : Layout) (w : List Float) (r : WeightsAnswer) → DecoderMatrixPromise order l w r
     → refusalOf order l w ≡ 0 → (i : ℕ) → lowFrequency l i ≡ true
     → chunk (channelsOfOrder order) i (r .weights) ≡ rowTowards order (channelsOf l) (channelsOfOrder order)
     (float (pos 0))

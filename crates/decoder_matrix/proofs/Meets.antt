@@ -27,7 +27,8 @@ use Rattle.harmonics.specs.Promise as Harmonics
 use Rattle.harmonics.proofs.Laws.{outcome-kept, gains-length}
 use Rattle.decoder_matrix.specs.Speakers.{azimuthBy, towards}
 use Rattle.decoder_matrix.specs.Matrix.{rowBy, rowsBy, matrixOf, formulaAt}
-use Rattle.decoder_matrix.specs.Promise.{matrixBits, WeightsAnswer, checksOf, refusalOf, outcome, MatrixPromise}
+use Rattle.decoder_matrix.specs.Promise.{matrixBits, WeightsAnswer, checksOf, refusalOf, outcome}
+use Rattle.decoder_matrix.specs.Promise.{DecoderMatrixPromise}
 use Rattle.decoder_matrix.proofs.Near.{near}
 
 -- ---- the rows
@@ -67,7 +68,7 @@ module _ (order : ℕ) (l : Layout) (weights : List Float) where
   pub weights-are : refusalOf order l weights ≡ 0 → outcome order l weights .weights ≡ matrixOf order l
   weights-are = computed-weights (matrixOf order l) weights (refusalOf order l weights)
 
-  kept : MatrixPromise order l weights (outcome order l weights)
+  kept : DecoderMatrixPromise order l weights (outcome order l weights)
   kept = record {
     bits = refl;
     words = λ z i c h k.
@@ -80,31 +81,31 @@ module _ (order : ℕ) (l : Layout) (weights : List Float) where
 
   -- ---- the four answers of the program
   by-tests : (a b c : Bool) → refusesOrder order ≡ a → uncountable (channelsOf l) ≡ b → unlike ≡ c
-      → MatrixPromise order l weights (answer a b c)
-  by-tests a b c p q r = subst (MatrixPromise order l weights) (λ i. answer (p i) (q i) (r i)) kept
+      → DecoderMatrixPromise order l weights (answer a b c)
+  by-tests a b c p q r = subst (DecoderMatrixPromise order l weights) (λ i. answer (p i) (q i) (r i)) kept
 
-  pub order-refused : refusesOrder order ≡ true → MatrixPromise order l weights
+  pub order-refused : refusesOrder order ≡ true → DecoderMatrixPromise order l weights
       (record { refusal = 1; weights = weights })
   order-refused o = by-tests true (uncountable (channelsOf l)) unlike o refl refl
 
   pub layout-refused : refusesOrder order ≡ false → uncountable (channelsOf l) ≡ true
-      → MatrixPromise order l weights (record { refusal = 2; weights = weights })
+      → DecoderMatrixPromise order l weights (record { refusal = 2; weights = weights })
   layout-refused o u = by-tests false true unlike o u refl
 
   pub length-refused : refusesOrder order ≡ false → uncountable (channelsOf l) ≡ false
       → eqb (length weights) (channelsOf l * channelsOfOrder order) ≡ false
-      → MatrixPromise order l weights (record { refusal = 5; weights = weights })
+      → DecoderMatrixPromise order l weights (record { refusal = 5; weights = weights })
   length-refused o u e = by-tests false false true o u (ap not e)
 
   pub matrix-put : (after : List Float) → refusesOrder order ≡ false → uncountable (channelsOf l) ≡ false
       → eqb (length weights) (channelsOf l * channelsOfOrder order) ≡ true
       → after ≡ putRows (channelsOfOrder order) weights 0 (rowsBy order l (channelsOf l) (channelsOfOrder order))
-      → MatrixPromise order l weights (record { refusal = 0; weights = after })
+      → DecoderMatrixPromise order l weights (record { refusal = 0; weights = after })
   matrix-put after o u e h =
       let n = channelsOf l in
       let k = channelsOfOrder order in
       let rs = rowsBy order l n k in
-      subst (λ (xs : List Float). MatrixPromise order l weights (record { refusal = 0; weights = xs }))
+      subst (λ (xs : List Float). DecoderMatrixPromise order l weights (record { refusal = 0; weights = xs }))
       (sym (h ∙ put-joined k rs [] weights (all-rows order l n k (few-channels order o .1) 0 n)
       (eqb-true (length weights) (n * k) e ∙ ap (λ (m : ℕ). m * k) (sym (length-tab 0 n (rowBy order l n k))))))
       (by-tests false false false o u (ap not e))

@@ -27,7 +27,7 @@ use Rattle.harmonics.specs.Computed.{upTo}
 use Rattle.angles.specs.Limits.{isInside, refusesAngle}
 use Rattle.rows.specs.Rows.{computedBy}
 use Rattle.decoder_matrix.specs.Matrix.{rowTowards, matrixOf, formulaAt}
-use Rattle.decoder_matrix.specs.Promise.{matrixBits, WeightsAnswer, checksOf, refusalOf, MatrixPromise}
+use Rattle.decoder_matrix.specs.Promise.{matrixBits, WeightsAnswer, checksOf, refusalOf, DecoderMatrixPromise}
 use Rattle.decoder_matrix.proofs.LowFrequency.{low-frequency-row}
 
 -- the first weight of the row of 0 degrees, 1.0/root(n), is above 0
@@ -45,7 +45,8 @@ sounds Surround71 e = by-order
 sounds (Custom n) e = absurd (true≢false (sym e))
 
 -- a row of zeros for the LFE, because the panner gives it none
-pub low-frequency-silent : (order : ℕ) (l : Layout) (w : List Float) (r : WeightsAnswer) → MatrixPromise order l w r
+pub low-frequency-silent : (order : ℕ) (l : Layout) (w : List Float) (r : WeightsAnswer)
+    → DecoderMatrixPromise order l w r
     → refusalOf order l w ≡ 0 → surround l ≡ true
     → getD (chunk (channelsOfOrder order) 3 (r .weights)) 0 nan ≡ zero-float → ⊥
 low-frequency-silent order l w r p z e h =
@@ -55,7 +56,7 @@ low-frequency-silent order l w r p z e h =
     (sym (low-frequency-row order l w r p z 3 (ap (λ (b : Bool). cond b true false) e)))
     ∙ ap positive h)
 
-pub refuses-always : (w : List Float) → length w ≡ 24 → (r : WeightsAnswer) → MatrixPromise 1 Surround51 w r
+pub refuses-always : (w : List Float) → length w ≡ 24 → (r : WeightsAnswer) → DecoderMatrixPromise 1 Surround51 w r
     → r .refusal ≡ 5
     → ⊥
 refuses-always w long r p h = no
@@ -66,7 +67,7 @@ refuses-always w long r p h = no
     no h = omega arith
 
 -- a weight x of the first channel in the row of the first speaker, at order 1
-module _ (l : Layout) (w : List Float) (r : WeightsAnswer) (p : MatrixPromise 1 l w r) (x : Float)
+module _ (l : Layout) (w : List Float) (r : WeightsAnswer) (p : DecoderMatrixPromise 1 l w r) (x : Float)
     (h : getD (chunk 4 0 (r .weights)) 0 nan ≡ x) where
   -- it is within document 01's bound of the harmonic, 1, over the root of n
   weighs : refusalOf 1 l w ≡ 0 → 0 < channelsOf l → BySquares matrixBits (number x) (formulaAt 1 l 0 0)
@@ -75,14 +76,14 @@ module _ (l : Layout) (w : List Float) (r : WeightsAnswer) (p : MatrixPromise 1 
       (p .words z 0 0 some (lit< tt))
 
 -- 1/n for 1/root(n): a weight of 1/2 for two speakers
-pub over-n : (w : List Float) → length w ≡ 8 → (r : WeightsAnswer) → MatrixPromise 1 Stereo w r
+pub over-n : (w : List Float) → length w ≡ 8 → (r : WeightsAnswer) → DecoderMatrixPromise 1 Stereo w r
     → getD (chunk 4 0 (r .weights)) 0 nan ≡ fin false 1 (negsuc 0) → ⊥
 unfolding formulasOver
 over-n w long r p h = le→leb _ _
     (weighs Stereo w r p (fin false 1 (negsuc 0)) h (ap (λ (n : ℕ). cond (not (eqb n 8)) 5 0) long) (lit< tt) .above)
 
 -- off by 2^-32, twice what document 01 allows: a single speaker has a weight of 1
-pub off-by-twice : (w : List Float) → length w ≡ 4 → (r : WeightsAnswer) → MatrixPromise 1 Mono w r
+pub off-by-twice : (w : List Float) → length w ≡ 4 → (r : WeightsAnswer) → DecoderMatrixPromise 1 Mono w r
     → getD (chunk 4 0 (r .weights)) 0 nan ≡ fin false 4294967295 (negsuc 31) → ⊥
 unfolding formulasOver
 off-by-twice w long r p h = le→leb _ _

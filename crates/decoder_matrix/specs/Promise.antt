@@ -36,7 +36,7 @@ outcome order l weights = computedBy (refusalOf order l weights) (matrixOf order
 
 -- every bit; and of each weight of an accepted matrix, that of channel c in the row of speaker i, how near it is to the
 -- harmonic over the root of n
-pub record MatrixPromise (order : ℕ) (l : Layout) (weights : List Float) (r : WeightsAnswer) : Type 0 where
+pub record DecoderMatrixPromise (order : ℕ) (l : Layout) (weights : List Float) (r : WeightsAnswer) : Type 0 where
   pub bits : r ≡ outcome order l weights
   pub words : refusalOf order l weights ≡ 0 → (i c : ℕ) → i < channelsOf l → c < channelsOfOrder order
       → BySquares matrixBits (number (getD (chunk (channelsOfOrder order) i (r .weights)) c nan))

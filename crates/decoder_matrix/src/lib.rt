@@ -19,7 +19,7 @@ ghost use Rattle.harmonics.specs.Promise.{outcome};
 ghost use Rattle.decoder_matrix.specs.Speakers.{customAzimuth, turnedBack, azimuthBy, towards};
 ghost use Rattle.decoder_matrix.specs.Matrix.{rowsBy};
 ghost use Rattle.rows.specs.Computed.{putRows};
-ghost use Rattle.decoder_matrix.specs.Promise.{MatrixPromise};
+ghost use Rattle.decoder_matrix.specs.Promise.{DecoderMatrixPromise};
 
 // Where a speaker of a Custom layout sits: each operation is rounded once.
 fn custom_azimuth(n: u32, i: u32) -> f64
@@ -92,7 +92,7 @@ fn put_speakers(order: usize, layout: Layout, n: u32, channels: usize, weights: 
 
 // The matrix of an order and a layout, speakers x channels; the refusal.
 pub fn compute_decoder_matrix(order: usize, layout: Layout, weights: &mut [f64]) -> u8
-    ensures { λ r. ⌜ MatrixPromise order layout (now (weights .entry))
+    ensures { λ r. ⌜ DecoderMatrixPromise order layout (now (weights .entry))
         (record { refusal = r; weights = now (weights .exit) }) ⌝ }
 {
     let ambisonic = channel::ambisonic_channel_count(order);

@@ -18,7 +18,7 @@ use Rattle.ears_wire.proofs.Meets.{line-ends, line-empty}
 use Rattle.ears_file.specs.declared.Ended.{Ended}
 use Rattle.ears_file.specs.declared.RunOutcome.{RunOutcome}
 use Rattle.ears_file.specs.declared.turn.Progress.{Progress}
-use Rattle.ears_file.specs.Lines.{partFrame, restRefusal, endsAs, refusalLine, toldBy}
+use Rattle.ears_file.specs.Lines.{partFrame, restRefusal, endsAs, refusalLine, resultLine}
 use Rattle.ears_file.specs.Promise.{Ends, Answers}
 use Rattle.ears_file.specs.Turns.{Stands, endOf}
 use Rattle.files.proofs.Parts.{counts}
@@ -56,31 +56,32 @@ pub line-counts : (out line : List ℕ) (size : ℕ) (after : List ℕ) → leng
 line-counts out line size after short put same =
     counts size after (omega (arith, same, ap (λ (g : LineGiven). g .size) put, line-ends out line (omega arith)))
 
-told-by : (r : RunOutcome) (out line : List ℕ) (size : ℕ) (after : List ℕ) → toldBy r ≡ line → Lined out line size after
-    → Lined out (toldBy r) size after
+told-by : (r : RunOutcome) (out line : List ℕ) (size : ℕ) (after : List ℕ) → resultLine r ≡ line
+    → Lined out line size after
+    → Lined out (resultLine r) size after
 told-by r out line size after e put = subst (λ (l : List ℕ). Lined out l size after) (sym e) put
 
-pub told-failed : (r : RunOutcome) (out : List ℕ) → r .failed ≡ true → Lined out (toldBy r) 0 out
+pub told-failed : (r : RunOutcome) (out : List ℕ) → r .failed ≡ true → Lined out (resultLine r) 0 out
 told-failed r out e = told-by r out [] 0 out (cond-true _ _ e) (sym (line-empty out))
 
 -- a refusal, by whether it is of a part frame
 module _ (r : RunOutcome) (out : List ℕ) (size : ℕ) (after : List ℕ) (ran : r .failed ≡ false)
     (some : r .ended .refusal ≡ 0 → ⊥) where
-  refusal-line : toldBy r ≡ refusalLine (r .ended) (r .ended .refusal)
+  refusal-line : resultLine r ≡ refusalLine (r .ended) (r .ended .refusal)
   refusal-line = cond-false _ _ ran ∙ answered-refused _ (refusalLine (r .ended)) _ some
 
   pub told-part-frame : r .ended .refusal ≡ 9 → Lined out (refusedLine (r .ended .refusal)) size after
-      → Lined out (toldBy r) size after
+      → Lined out (resultLine r) size after
   told-part-frame nine put =
       told-by r out _ size after (refusal-line ∙ cond-true _ _ (eq-eqb (r .ended .refusal) 9 nine)) put
 
   pub told-bank : (r .ended .refusal ≡ 9 → ⊥) → Lined out (refusedAtLine (r .ended .refusal) (r .ended .place)) size
-      after → Lined out (toldBy r) size after
+      after → Lined out (resultLine r) size after
   told-bank other put =
       told-by r out _ size after (refusal-line ∙ cond-false _ _ (ne-eqb (r .ended .refusal) 9 other)) put
 
 pub told-played : (r : RunOutcome) (out : List ℕ) (size : ℕ) (after : List ℕ) → r .failed ≡ false
     → r .ended .refusal ≡ 0
-    → Lined out (framesLine (r .ended .frames) (r .ended .unsettled)) size after → Lined out (toldBy r) size after
+    → Lined out (framesLine (r .ended .frames) (r .ended .unsettled)) size after → Lined out (resultLine r) size after
 told-played r out size after e none put =
     told-by r out _ size after (cond-false _ _ e ∙ answered-accepted _ _ _ none) put

@@ -33,7 +33,8 @@ use Rattle.ears_wire.specs.Line.{refusedWord, refusedLine, refusedAtLine}
 use Rattle.ears_wire.proofs.Drill.{refused-fourteen}
 use Rattle.ears_wire.specs.Promise.{LineGiven, lineGiven, Lined}
 use Rattle.ears_wire.proofs.Meets.{line-accepted, line-empty}
-use Rattle.ears_file.specs.Lines.{setupWith, partFrame, refusedBank, restRefusal, itemTen, refusalLine, toldBy}
+use Rattle.ears_file.specs.Lines.{setupWith, partFrame, refusedBank, restRefusal, itemTen, refusalLine}
+use Rattle.ears_file.specs.Lines.{resultLine}
 use Rattle.ears_file.specs.Promise.{Answers}
 
 -- one of three ends
@@ -121,7 +122,7 @@ module _ (r : RunOutcome) (a : Answers r) where
 
 -- ---- what is told
 
-module _ (r : RunOutcome) (out : List ℕ) (size : ℕ) (after : List ℕ) (lined : Lined out (toldBy r) size after) where
+module _ (r : RunOutcome) (out : List ℕ) (size : ℕ) (after : List ℕ) (lined : Lined out (resultLine r) size after) where
   -- a line for a run that failed
   failed-run-has-a-line : r .failed ≡ true → (size ≡ 0 → ⊥) → ⊥
   failed-run-has-a-line f some =
@@ -131,12 +132,12 @@ module _ (r : RunOutcome) (out : List ℕ) (size : ℕ) (after : List ℕ) (line
   refusal-told-as-frames : r .failed ≡ false → r .ended .refusal ≡ 9 → 64 ≤ length out → getD after 0 0 ≡ 102 → ⊥
   unfolding refusedLine refusedWord
   refusal-told-as-frames f nine room e =
-      let told : toldBy r ≡ refusedLine 9 = cond-false _ _ f
+      let told : resultLine r ≡ refusedLine 9 = cond-false _ _ f
       ∙ answered-refused _ (refusalLine (r .ended)) _ (not-accepted 9 (omega arith) nine)
       ∙ ap (refusalLine (r .ended)) nine in
       let first : getD after 0 0 ≡ 114 =
       ap (λ (l : List ℕ). getD l 0 0)
-      (ap (λ (g : LineGiven). g .out) (lined ∙ line-accepted out (toldBy r) room) ∙ ap (placed out 0) told
+      (ap (λ (g : LineGiven). g .out) (lined ∙ line-accepted out (resultLine r) room) ∙ ap (placed out 0) told
       ∙ placed-start out (refusedLine 9)) in
       let same : _≡_ {A = ℕ} 102 114 = sym e ∙ first in omega (arith, same)
 
@@ -144,9 +145,9 @@ module _ (r : RunOutcome) (out : List ℕ) (size : ℕ) (after : List ℕ) (line
   bank-told-without-its-place : r .failed ≡ false → r .ended .refusal ≡ 14 → r .ended .place ≡ 1 → 64 ≤ length out
       → size ≡ 11 → ⊥
   bank-told-without-its-place f fourteen one room e =
-      let told : toldBy r ≡ refusedAtLine 14 1 =
+      let told : resultLine r ≡ refusedAtLine 14 1 =
       cond-false _ _ f ∙ answered-refused _ (refusalLine (r .ended)) _ (not-accepted 14 (omega arith) fourteen)
       ∙ ap (refusalLine (r .ended)) fourteen ∙ ap (refusedAtLine 14) one in
-      let long : size ≡ 16 = ap (λ (g : LineGiven). g .size) (lined ∙ line-accepted out (toldBy r) room)
+      let long : size ≡ 16 = ap (λ (g : LineGiven). g .size) (lined ∙ line-accepted out (resultLine r) room)
       ∙ ap length (told ∙ refused-fourteen) in
       let same : _≡_ {A = ℕ} 11 16 = sym e ∙ long in omega (arith, same)

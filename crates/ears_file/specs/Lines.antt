@@ -82,6 +82,6 @@ abbrev pub refusalLine : Ended → ℕ → List ℕ
 refusalLine e n = cond (eqb n 9) (refusedLine n) (refusedAtLine n (e .place))
 
 -- the line that a run is told by: none for one that failed
-abbrev pub toldBy : RunOutcome → List ℕ
-toldBy r = cond (r .failed) [] (answered (r .ended .refusal) (framesLine (r .ended .frames) (r .ended .unsettled))
+abbrev pub resultLine : RunOutcome → List ℕ
+resultLine r = cond (r .failed) [] (answered (r .ended .refusal) (framesLine (r .ended .frames) (r .ended .unsettled))
     (refusalLine (r .ended)))

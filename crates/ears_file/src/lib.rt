@@ -20,7 +20,7 @@ ghost use lib.ListN.{replicate};
 ghost use Rattle.io.specs.Counts.{Counts};
 ghost use Rattle.bank.specs.Reading.{bankFound};
 ghost use Rattle.ears_wire.specs.Promise.{Lined};
-ghost use Rattle.ears_file.specs.Lines.{setupWith, partFrame, refusedBank, endsAs, toldBy};
+ghost use Rattle.ears_file.specs.Lines.{setupWith, partFrame, refusedBank, endsAs, resultLine};
 ghost use Rattle.files.specs.Promise.{Found};
 ghost use Rattle.ears_file.specs.Promise.{Ends, Answers};
 
@@ -173,7 +173,7 @@ pub fn run(bank: &[u8], line: i32, out: &[u8], limit: usize) -> RunOutcome
 // Puts the line that a run is told by at the start of out, and answers its length: none for a run that failed,
 // which is told on standard error.
 pub fn result_line(run: RunOutcome, out: &mut [u8]) -> usize
-    ensures { λ r. ⌜ Lined (now (out .entry)) (toldBy run) r (now (out .exit)) ⌝ }
+    ensures { λ r. ⌜ Lined (now (out .entry)) (resultLine run) r (now (out .exit)) ⌝ }
     ensures room { λ r. ⌜ Counts r (now (out .exit)) ⌝ }
 {
     if run.failed {

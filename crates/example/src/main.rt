@@ -8,8 +8,7 @@ ghost use Rattle.panner.specs.Promise.{PannerPromise};
 
 // Plays four samples at a direction. The planes have four samples each, one plane after another.
 fn place(direction: Direction, voice: &[f32], planes: &mut [f32]) -> panner::Panned
-    ensures { λ r.
-        ⌜ PannerPromise
+    ensures { λ r. ⌜ PannerPromise
         (record { command = Command.Ambisonic direction 1; layout = Layout.Mono; frames = 4; stride = 4 })
         (now (voice .entry)) (now (planes .entry)) r (now (planes .exit)) ⌝ }
 {
@@ -28,9 +27,8 @@ fn main() {
         azimuth: 90.0,
         elevation: 0.0,
     };
-    let voice = [0.5f32; 4];
     let mut planes = [0.0f32; 16];
-    let panned = place(left, &voice, &mut planes);
+    let panned = place(left, &[0.5f32; 4], &mut planes);
     io::write_all(STDOUT_FILENO, b"refusal ");
     io::print_decimal(STDOUT_FILENO, panned.refusal as u64);
     tell(b" sounds ", planes[0]);

@@ -5,4 +5,4 @@
 // test that computes. Gains over a root are bounded by squares (`BySquares`).
 //
 // Definitions and laws alone: no function stands here. What a reader has to believe are specs/Fraction and
-// specs/Squares; proofs/Trials holds the definitions to closed cases.
+// specs/Squares; proofs/Worked holds the definitions to closed cases.

@@ -37,7 +37,7 @@ lengths-fit h frames stride inputs weights taps rings ears low ei ee er ew et =
     (both-off _ _ (equal-passes weights (h .speakers * h .channels) ew)
     (equal-passes taps (2 * h .rows * h .length) et)))
 
--- a desk whose numbers are below L is not deskOutOfRange
+-- a desk whose numbers are below L is in range
 pub on-desk : (d : Desk) (L : ℕ) → d .position < L → d .«to_go» < L → deskOutOfRange d L ≡ false
 on-desk d L p w = both-off _ _ (lt-leb L (d .position) p) (lt-leb L (d .«to_go») w)
 

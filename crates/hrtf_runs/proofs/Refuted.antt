@@ -1,7 +1,7 @@
--- Answers of another shape, which the promise of `process` refutes: writing nothing, in every call; and, on drill table
--- 8 and 9 played in one block into any lent planes, refusing always, silence, filtering the first frame and copying on,
--- the left ear's sum for both, stepping the desk before the ears are read, passing the input through, an unsettled
--- count of one's own, and damage judged on the inputs alone. Assumes nothing.
+-- Answers of another shape, which the promise of `process` refutes: writing nothing, and accepting L frames to go, in
+-- every call; and, on drill table 8 and 9 played in one block into any lent planes, refusing always, silence, filtering
+-- the first frame and copying on, the left ear's sum for both, stepping the desk before the ears are read, passing the
+-- input through, an unsettled count of one's own, and damage judged on the inputs alone. Assumes nothing.
 use mathlib.Core.Path.{_≡_, refl, sym, ap, _∙_}
 use mathlib.Core.Bool.{Bool, true, false, true≢false}
 use mathlib.Core.List.{List, [], _∷_}
@@ -23,6 +23,7 @@ use Rattle.hrtf_rings.specs.Held.{heldIn, Represents}
 use Rattle.hrtf_rings.proofs.Blocks.{fresh, fresh-represents}
 use Rattle.hrtf_checks.specs.Call.{BlockCall, setup, framesIn}
 use Rattle.hrtf_checks.specs.Refusals.{refusalOf}
+use Rattle.hrtf_checks.proofs.Refusing.{waits}
 use Rattle.hrtf.specs.Promise.{BlockOutcome, outcome, Processes}
 use Rattle.hrtf.proofs.Meets.{ear-at, ears-over, unsettled-over}
 use Rattle.hrtf_runs.proofs.Worked.{block, starts}
@@ -45,6 +46,12 @@ whole x = block 3 (x ∷ zero-float ∷ zero-float ∷ []) one-float
 accepts : (x : Float) → refusalOf (whole x) (fresh drill) ≡ 0
 unfolding refusalOf
 accepts x = refl
+
+-- ---- accepts a desk that no block leaves
+
+-- L frames to go, in every call and state: a block leaves L - 1 at most
+frames-to-go-of-all : (c : BlockCall) (t : State) → t .desk .«to_go» ≡ c .shape .length → refusalOf c t ≡ 0 → ⊥
+frames-to-go-of-all c t all e = omega (arith, all, waits c t e)
 
 -- ---- refuses always
 

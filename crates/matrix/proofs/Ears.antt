@@ -23,7 +23,7 @@ use Rattle.channel.specs.Orders.{refusesOrder, channelsOfOrder, byOrder}
 use Rattle.channel.proofs.Orders.{by-order, one-of-three}
 use Rattle.matrix.specs.Mirror.{lateral, mirrored}
 use Rattle.matrix.specs.Rows.{Ear, left, right, foa, soa, toa, placeOf, hundredths, literals, rows}
-use Rattle.matrix.specs.Promise.{WeightsAnswer, RowsPromise, refusalOf, outcome}
+use Rattle.matrix.specs.Promise.{WeightsAnswer, BinauralRowsPromise, refusalOf, outcome}
 use Rattle.matrix.specs.Ears.{other, earRow, earSignal, Mirrors}
 use Rattle.matrix.proofs.Mirror.{negated-twice, map-negated, products-negated}
 
@@ -112,7 +112,8 @@ module _ (n : ℕ) (order : refusesOrder n ≡ false) where
   mirrors = record { right-row = right-is; swaps = swap }
 
 -- so do the weights that any program leaves that meets the promise, which are these
-module _ (n : ℕ) (lent weights : List Float) (p : RowsPromise n lent (record { refusal = 0; weights = weights })) where
+module _ (n : ℕ) (lent weights : List Float)
+    (p : BinauralRowsPromise n lent (record { refusal = 0; weights = weights })) where
   accepted : refusalOf n lent ≡ 0
   unfolding outcome
   accepted = sym (ap (λ (o : WeightsAnswer). o .refusal) p ∙ computed-refusal (rows n) lent (refusalOf n lent))

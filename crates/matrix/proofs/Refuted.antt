@@ -20,7 +20,7 @@ use Rattle.planes.specs.Sums.{mixed}
 use Rattle.channel.specs.Layouts.{minus}
 use Rattle.matrix.specs.Mirror.{negatedAt}
 use Rattle.matrix.specs.Rows.{left, soa, toa, literals, rows}
-use Rattle.matrix.specs.Promise.{RowsPromise}
+use Rattle.matrix.specs.Promise.{BinauralRowsPromise}
 use Rattle.matrix.specs.Ears.{Mirrors}
 use Rattle.matrix.proofs.Mirror.{getD-negated}
 use Rattle.matrix.proofs.Ears.{computed-order, computed-rows}
@@ -41,7 +41,7 @@ not-opposite (inf s) f e = absurd (true≢false (sym f))
 not-opposite (fin s m e) f p = not-self s (ap negative p)
 
 other-sign : (n : ℕ) (lent : List Float) (k : ℕ) → k < length (rows n)
-    → RowsPromise n lent (record { refusal = 0; weights = negatedAt neg (λ (i : ℕ). eqb i k) 0 (rows n) }) → ⊥
+    → BinauralRowsPromise n lent (record { refusal = 0; weights = negatedAt neg (λ (i : ℕ). eqb i k) 0 (rows n) }) → ⊥
 unfolding neg
 other-sign n lent k h p =
     let wrong : List Float = negatedAt neg (λ (i : ℕ). eqb i k) 0 (rows n) in

@@ -19,5 +19,5 @@ refusalOf n weights = firstOf (1 when refusesOrder n ∷ 5 when not (eqb (length
 unfoldable pub outcome : ℕ → List Float → WeightsAnswer
 outcome n weights = computedBy (refusalOf n weights) (rows n) weights
 
-abbrev pub RowsPromise : ℕ → List Float → WeightsAnswer → Type 0
-RowsPromise n weights o = o ≡ outcome n weights
+abbrev pub BinauralRowsPromise : ℕ → List Float → WeightsAnswer → Type 0
+BinauralRowsPromise n weights o = o ≡ outcome n weights

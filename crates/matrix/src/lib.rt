@@ -10,7 +10,7 @@
 // It takes any input; its promise (specs/Promise.antt) is one equation for the refusal and the list. That the
 // ears swap is specs/Ears.antt.
 ghost use mathlib.Core.Path.{_≡_};
-ghost use Rattle.matrix.specs.Promise.{RowsPromise};
+ghost use Rattle.matrix.specs.Promise.{BinauralRowsPromise};
 ghost use Rattle.matrix.specs.Computed.{put};
 
 const FOA_LEFT: [f64; 4] = [0.5, 0.5, 0.1, 0.35];
@@ -76,7 +76,7 @@ fn put_ears(left: &[f64], right: &[f64], weights: &mut [f64]) -> u8
 
 // The binaural rows of an order; the refusal.
 pub fn compute_matrix(order: usize, weights: &mut [f64]) -> u8
-    ensures { λ r. ⌜ RowsPromise order (now (weights .entry))
+    ensures { λ r. ⌜ BinauralRowsPromise order (now (weights .entry))
         (record { refusal = r; weights = now (weights .exit) }) ⌝ }
 {
     if channel::refuses_order(order) {

@@ -9,7 +9,7 @@ use Rattle.planes.specs.Sums.{mixedAll}
 use Rattle.channel.specs.Orders.{channelsOfOrder}
 use Rattle.harmonics.specs.declared.Direction.{Direction}
 use Rattle.ambisonic_decoder.specs.Blocks.{refusalOf}
-use Rattle.matrix.specs.Promise.{RowsPromise}
+use Rattle.matrix.specs.Promise.{BinauralRowsPromise}
 use Rattle.matrix.specs.Ears.{Mirrors}
 use Rattle.mirror.specs.Partners.{otherEar}
 use Rattle.mirror.specs.Blocks.{exchanged, BlocksMirror}
@@ -33,5 +33,6 @@ pub record EarsSwap (n : ℕ) (weights : List Float) : Type 0 where
       (ears n weights (voice n d x))
 
 abbrev pub RowsSwapEars : Type 0
-RowsSwapEars = (n : ℕ) (lent weights : List Float) → RowsPromise n lent (record { refusal = 0; weights = weights })
+RowsSwapEars =
+    (n : ℕ) (lent weights : List Float) → BinauralRowsPromise n lent (record { refusal = 0; weights = weights })
     → EarsSwap n weights

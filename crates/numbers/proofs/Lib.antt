@@ -1,6 +1,6 @@
 -- The laws of conversions and roots. First those that hold in every format, then those of this program, whose digits
 -- are binary64's and binary32's. Crates above cite `Close` (how near a root is, by squares), `Zeros` (sums, products
--- and quotients of zeros), `Answers` (the value that is answered), `Normalization` (the inverse of a root), `Meets`
+-- and quotients of zeros), `RootAnswer` (the value that is answered), `Normalization` (the inverse of a root), `Meets`
 -- (what is computed meets document 01's words) and `Drill`.
 mod Rounded
 mod Narrows

@@ -1,6 +1,5 @@
 -- What the program computes: the values by which its answers are fixed bit for bit. Definitions only. Nobody has to
--- believe them: `Promises` ties each to document 01's words. What the steps of the program promise each other.
--- Definitions only, and none that a public promise cites.
+-- believe them: `Promise` ties each to document 01's words. `Parted` is what a step of the root promises another one.
 use mathlib.Core.Bool.{true, false, cond}
 use mathlib.Core.List.{[], _∷_}
 use Prim.Native.Nat.{ℕ, zero, suc, _-_, _*_, _/_, _^_, _≤_, _<_, _%_}

@@ -1,7 +1,7 @@
 -- The laws of the surround gains. Crates above cite `Laws` and `Drill`.
 mod Speakers
 mod Ways
-mod Steps
+mod RawSteps
 mod Raw
 mod Clear
 mod Gains

@@ -73,7 +73,7 @@ const KINDS: &[Kind] = &[
     Kind { name: "replay", make: replay::cases },
     Kind { name: "to version 2", make: turning::to_version_2 },
     Kind { name: "to version 1", make: turning::to_version_1 },
-    Kind { name: "convolve", make: hrtf_rings::cases },
+    Kind { name: "convolve", make: rings::cases },
     Kind { name: "malformed", make: malformed::inside },
 ];
 

@@ -3,7 +3,7 @@ use crate::drills;
 use crate::frame::{Case, Sink, exactly, request, send};
 use crate::random::Random;
 use crate::recording::REPLAY;
-use crate::hrtf_rings::CONVOLVE;
+use crate::rings::CONVOLVE;
 use crate::script::SCRIPT;
 use crate::turning::{TO_VERSION_1, TO_VERSION_2};
 

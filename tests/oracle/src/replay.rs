@@ -6,7 +6,7 @@ use crate::frame::{Case, Sink, exactly, request, send};
 use crate::malformed::WRONG_LENGTH;
 use crate::random::Random;
 use crate::recording::{FAULTS, Line, Outcome, REPLAY, SMALL, TURN, read};
-use crate::hrtf_rings::EVERY_KIND;
+use crate::rings::EVERY_KIND;
 use crate::rust::Convolver;
 
 /// No more samples or stamps than these can be lent.

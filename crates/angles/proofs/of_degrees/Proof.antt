@@ -1,4 +1,4 @@
--- `angles::of_degrees` meets its contract: `Kept`. Each arm knows which wave is asked for. Assumes nothing.
+-- `angles::of_degrees` meets its contract: `Meets`. Each arm knows which wave is asked for. Assumes nothing.
 use mathlib.Core.Path.{sym, ap, _∙_}
 use lib.Ieee.{ofBits, ofInt}
 use borrow.Author.Needs.{needs}

@@ -1,4 +1,4 @@
--- `hrtf::process` meets its contract: `Promised`, from the refusal and from what the block leaves. Assumes nothing.
+-- `hrtf::process` meets its contract: `Meets`, from the refusal and from what the block leaves. Assumes nothing.
 use mathlib.Core.Path.{_≡_, refl, sym, ap, _∙_, subst}
 use mathlib.Core.List.{List}
 use Prim.Native.Nat.{ℕ}

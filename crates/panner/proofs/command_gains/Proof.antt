@@ -1,4 +1,4 @@
--- `panner::command_gains` meets its contract: `Answers`. Assumes nothing.
+-- `panner::command_gains` meets its contract: `Meets`. Assumes nothing.
 use Rattle.panner.proofs.Meets.{gives-refused, gives-gains}
 use borrow.Author.Needs.{needs}
 use lib.Ieee.{ofBits, ofInt}

@@ -1,4 +1,4 @@
--- `panner::process` meets its contract: `Answers`. Assumes nothing.
+-- `panner::process` meets its contract: `Meets`. Assumes nothing.
 use mathlib.Core.Path.{sym, _∙_}
 use native.Mathlib.Omega.{arith}
 use denote.Ref.{now}

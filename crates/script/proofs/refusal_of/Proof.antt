@@ -1,4 +1,4 @@
--- `script::refusal_of` meets its contract: `Answers`. Assumes nothing.
+-- `script::refusal_of` meets its contract: `Meets`. Assumes nothing.
 use native.Mathlib.Omega.{arith}
 use borrow.Author.Needs.{needs}
 use Rattle.script.proofs.Meets.{by-order, by-direction, by-length, by-end, by-frames, by-rising, by-count}

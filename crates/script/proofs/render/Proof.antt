@@ -3,7 +3,7 @@
 -- for a lifetime of the turn, and takes them back (`Relent`). So the loop holds a `&[Cue]`, a `&[f32]` and a `&mut
 -- [f32]` at once. Its variant is what stands there with what is known of it (`Now`), ordered by how many frames are
 -- left. All that the proof knows of the five functions is that each meets its contract. What the loop comes to is
--- `Playing` and `Answers`. Assumes nothing.
+-- `Playing` and `Meets`. Assumes nothing.
 --     walk           from the entry to the loop: the locals, the parameters, and the calls of `judged` and `answer_of`
 --     turns          a turn of the loop: its test, and then `plays-segment` or `ends`
 -- A comment in brackets lists the context at its place. In `At` local _i is entry 2i, and its right to die entry 2i +

@@ -1,4 +1,4 @@
--- `script::runs_past` meets its contract: `Answers`. Assumes nothing.
+-- `script::runs_past` meets its contract: `Meets`. Assumes nothing.
 use mathlib.Core.Path.{sym}
 use Prim.Native.Nat.{_+_, _^_}
 use native.Mathlib.Omega.{arith}

@@ -1,4 +1,4 @@
--- `surround::calculate_vbap_gains` meets its contract: `Answers`. Assumes nothing.
+-- `surround::calculate_vbap_gains` meets its contract: `Meets`. Assumes nothing.
 use mathlib.Core.Path.{sym, ap, _∙_}
 use Rattle.channel.specs.declared.Counted.{Counted}
 use Rattle.surround.proofs.Meets.{no-layout, no-azimuth, plays, few-counted}

@@ -1,4 +1,4 @@
--- `replay::play::play` meets its contract: `Going`. Assumes nothing.
+-- `replay::play::play` meets its contract: `LoopOverTable`. Assumes nothing.
 use native.Mathlib.Nat.{le-antisymm}
 use native.Mathlib.Omega.{arith}
 use mathlib.Core.Path.{refl}
