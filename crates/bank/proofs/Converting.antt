@@ -124,7 +124,7 @@ module _ (from to : ℕ) (file out : List ℕ) where
 
 -- version 2 holds every bank that keeps the form
 pub holds-2 : (b : Bank) → Holds 2 b
-holds-2 b = record { known = refl; flat = λ e. absurd (omega (arith, e)) }
+holds-2 b = record { known = refl; levelled = λ e. absurd (omega (arith, e)) }
 
 pub converts-2 : (file out : List ℕ) (o : WriteOutcome) → AreBytes file → Converts 1 2 file out o
     → ToVersion2 file out o
@@ -163,7 +163,7 @@ converts-1 file out o bytes made = record {
           flat,
           t .0,
           record {
-            holds = record { known = refl; flat = λ one. flat };
+            holds = record { known = refl; levelled = λ one. flat };
             keeps = t .0 .keeps;
             bytes = ap (λ (w : WriteOutcome). w .file) (sym (t .2));
           },

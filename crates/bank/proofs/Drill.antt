@@ -46,7 +46,7 @@ pub bank-cut : fault (take 18 oneRowBytes) ≡ wrong 14 1
 bank-cut = cut-file
 
 file-1 : IsFile 1 oneRowBytes oneRow
-file-1 = record { holds = record { known = refl; flat = λ e. bank-level }; keeps = bank-keeps; bytes = bank-bytes }
+file-1 = record { holds = record { known = refl; levelled = λ e. bank-level }; keeps = bank-keeps; bytes = bank-bytes }
 
 file-2 : IsFile 2 oneRowBytes2 oneRow
 file-2 = record { holds = holds-2 oneRow; keeps = bank-keeps; bytes = bank-bytes-2 }

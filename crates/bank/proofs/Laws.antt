@@ -149,7 +149,7 @@ pub back-of-forward : (file out : List ℕ) (t : WriteOutcome) → ToVersion2 fi
     → ToVersion1 (t .file) back u → u ≡ handed file
 back-of-forward file out t forward e back u h turns =
     let f = forward .words .turned e in
-    turns .words .accepted (bankIn file) (f .1) (f .0 .holds .flat refl) (h ∙ ap length (sym (f .0 .bytes)))
+    turns .words .accepted (bankIn file) (f .1) (f .0 .holds .levelled refl) (h ∙ ap length (sym (f .0 .bytes)))
     ∙ ap handed (f .0 .bytes)
 
 pub forward-of-back : (file out : List ℕ) (t : WriteOutcome) → ToVersion1 file out t → t .answer .refusal ≡ 0

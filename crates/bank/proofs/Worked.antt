@@ -70,7 +70,7 @@ three-keep = refl
 
 three-1 : IsFile 1 threeBytes threeRows
 unfolding threeRows encode headBytes rowBytes pairsOf elevationBytes fieldBytes flatMap bytesOf toBits
-three-1 = record { holds = record { known = refl; flat = λ e. three-level }; keeps = three-keep; bytes = refl }
+three-1 = record { holds = record { known = refl; levelled = λ e. three-level }; keeps = three-keep; bytes = refl }
 
 three-2 : IsFile 2 threeBytes2 threeRows
 unfolding threeRows encode headBytes rowBytes pairsOf elevationBytes fieldBytes flatMap bytesOf toBits

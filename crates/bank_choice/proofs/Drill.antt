@@ -1,5 +1,5 @@
 -- Item 10 of the marked drill table, at elevation 0 throughout: with rows at 0 and 450 tenths, a speaker at 225 tenths
--- takes the first. It is document 01's choice (`flat-as-before`). Assumes nothing.
+-- takes the first. It is document 01's choice (`one-elevation-as-before`). Assumes nothing.
 use mathlib.Core.Path.{_≡_, refl, sym, _∙_}
 use mathlib.Core.Bool.{true}
 use mathlib.Core.List.{List, _∷_}
@@ -10,10 +10,10 @@ use lib.IntN.{ℤ, pos}
 use lib.ListN.{length, getD}
 use Rattle.bank_choice.specs.declared.Choice.{Choice}
 use Rattle.bank_choice.specs.Choice.{inTenths, isElevation, choiceRefusal, Chooses}
-use Rattle.bank_choice.specs.Nearest.{apart, TakesByAzimuth, Flat}
+use Rattle.bank_choice.specs.Nearest.{apart, TakesByAzimuth, OneElevation}
 use Rattle.bank_choice.proofs.Takes.{takes-one}
 use Rattle.bank_choice.proofs.Meets.{refusal-is}
-use Rattle.bank_choice.proofs.Level.{flat-as-before}
+use Rattle.bank_choice.proofs.Level.{one-elevation-as-before}
 
 -- of the first two places
 two : (P : ℕ → Type 0) → P 0 → P 1 → (j : ℕ) → j < 2 → P j
@@ -32,7 +32,7 @@ module _ (rest : List ℤ) (six : length rest ≡ 6) (heights : List ℤ) (six-h
   at-zero : (j : ℕ) → j < 2 → getD (pos 0 ∷ pos 0 ∷ heights) j (pos 0) ≡ pos 0
   at-zero = two (λ j. getD (pos 0 ∷ pos 0 ∷ heights) j (pos 0) ≡ pos 0) refl refl
 
-  both-level : Flat (pos 0 ∷ pos 0 ∷ heights) 2
+  both-level : OneElevation (pos 0 ∷ pos 0 ∷ heights) 2
   both-level i j h g = at-zero i h ∙ sym (at-zero j g)
 
   -- the row that document 01 names is the answer
@@ -41,7 +41,7 @@ module _ (rest : List ℤ) (six : length rest ≡ 6) (heights : List ℤ) (six-h
   as-before p h row t x =
       let none = refusal-is _ _ 2 p (pos 0) r x ∙ accepted p h in
       let same : r .row ≡ row = takes-one _ _ p (pos 0) 2 _ _ (x .words none)
-      (flat-as-before _ _ 2 p (pos 0) both-level row .1 t) in
+      (one-elevation-as-before _ _ 2 p (pos 0) both-level row .1 t) in
       (λ i. record { refusal = none i; row = same i })
 
   pub drill-tie : Chooses (pos 0 ∷ pos 450 ∷ rest) (pos 0 ∷ pos 0 ∷ heights) 2 (pos 225) (pos 0) r

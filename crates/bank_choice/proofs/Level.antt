@@ -6,10 +6,10 @@ use Prim.Native.Nat.{ℕ, _<_}
 use native.Mathlib.Decide.{decLt}
 use native.Mathlib.Omega.{arith}
 use lib.IntN.{ℤ}
-use Rattle.bank_choice.specs.Nearest.{away, elevationAway, Nearer, Takes, TakesByAzimuth, Flat}
-use Rattle.bank_choice.specs.Choice.{FlatAsBefore}
+use Rattle.bank_choice.specs.Nearest.{away, elevationAway, Nearer, Takes, TakesByAzimuth, OneElevation}
+use Rattle.bank_choice.specs.Choice.{OneElevationAsBefore}
 
-module _ (zs es : List ℤ) (n : ℕ) (p q : ℤ) (flat : Flat es n) where
+module _ (zs es : List ℤ) (n : ℕ) (p q : ℤ) (flat : OneElevation es n) where
   as-high : (i j : ℕ) → i < n → j < n → elevationAway es q i ≡ elevationAway es q j
   unfolding elevationAway
   as-high i j h g = rw (flat i j h g)
@@ -38,5 +38,5 @@ module _ (zs es : List ℤ) (n : ℕ) (p q : ℤ) (flat : Flat es n) where
         earliest = λ j h. inr (as-high r j inside (omega arith), t .earliest j h);
       }
 
-pub flat-as-before : FlatAsBefore
-flat-as-before zs es n p q flat r = (before zs es n p q flat r, after zs es n p q flat r)
+pub one-elevation-as-before : OneElevationAsBefore
+one-elevation-as-before zs es n p q flat r = (before zs es n p q flat r, after zs es n p q flat r)

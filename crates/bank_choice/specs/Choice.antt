@@ -13,7 +13,7 @@ use Rattle.refusals.specs.Ranges.{between}
 unfoldable pub use Rattle.refusals.specs.Ranges.{isElevation}
 use Rattle.refusals.specs.Refusals.{Check, _when_, firstOf, answered, outside}
 use Rattle.bank_choice.specs.declared.Choice.{Choice}
-use Rattle.bank_choice.specs.Nearest.{Takes, TakesByAzimuth, Flat}
+use Rattle.bank_choice.specs.Nearest.{Takes, TakesByAzimuth, OneElevation}
 use Rattle.bank_choice.specs.NearestComputed.{nearestFrom}
 
 -- a speaker's azimuth, -1800 .. 1800
@@ -46,6 +46,6 @@ abbrev pub ChoiceMeets : Type 0
 ChoiceMeets = (zs es : List ℤ) (p q : ℤ) (n : ℕ) → 1 ≤ n → Takes zs es n p q (nearestFrom zs es p q 0 1 (n - 1))
 
 -- where the rows stand at one elevation, the row taken is document 01's
-abbrev pub FlatAsBefore : Type 0
-FlatAsBefore = (zs es : List ℤ) (n : ℕ) (p q : ℤ) → Flat es n → (r : ℕ)
+abbrev pub OneElevationAsBefore : Type 0
+OneElevationAsBefore = (zs es : List ℤ) (n : ℕ) (p q : ℤ) → OneElevation es n → (r : ℕ)
     → (Takes zs es n p q r → TakesByAzimuth zs n p r) × (TakesByAzimuth zs n p r → Takes zs es n p q r)

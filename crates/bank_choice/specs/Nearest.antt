@@ -41,5 +41,5 @@ pub record TakesByAzimuth (zs : List ℤ) (n : ℕ) (p : ℤ) (r : ℕ) : Type 0
   pub earliest : (j : ℕ) → j < r → away zs p r < away zs p j
 
 -- the first n rows stand at one elevation
-abbrev pub Flat : List ℤ → ℕ → Type 0
-Flat es n = (i j : ℕ) → i < n → j < n → getD es i (pos 0) ≡ getD es j (pos 0)
+abbrev pub OneElevation : List ℤ → ℕ → Type 0
+OneElevation es n = (i j : ℕ) → i < n → j < n → getD es i (pos 0) ≡ getD es j (pos 0)

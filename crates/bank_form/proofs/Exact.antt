@@ -203,7 +203,7 @@ exactly s bytes = record {
   sound = λ e.
       let w = whole (length s) s (none-found s e) in
       record {
-        holds = record { known = w .head .version; flat = flat-in s };
+        holds = record { known = w .head .version; levelled = flat-in s };
         keeps = is-valid (bankIn s) (whole-keeps s w);
         bytes = write-read s bytes w;
       };

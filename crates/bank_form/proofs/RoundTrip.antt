@@ -46,7 +46,7 @@ use Rattle.bank_form.proofs.Walk.{Whole, taps-parted}
 -- an i16, which is 0 in version 1
 pub record FitsElevation (v : ℕ) (z : ℤ) : Type 0 where
   pub i16 : IsI16 z
-  pub flat : eqb v 1 ≡ true → z ≡ pos 0
+  pub levelled : eqb v 1 ≡ true → z ≡ pos 0
 
 pub length-elevation : (v : ℕ) (z : ℤ) → length (elevationBytes v z) ≡ elevationSize v
 unfolding elevationBytes
@@ -60,7 +60,8 @@ elevation-stands : (s : List ℕ) (v at : ℕ) (z : ℤ) (t : List ℕ) → Fits
     → drop (at + 2) s ≡ elevationBytes v z ++ t → (elevationAt v s at ≡ z) × (drop (tapsAt v at) s ≡ t)
 unfolding elevationBytes elevationAt signedAt
 elevation-stands s v at z t f e = tested (eqb v 1)
-    (λ k. let q : at + 2 + 0 ≡ at + 2 = omega arith in rw k (sym (f .flat k), ap (λ (n : ℕ). drop n s) q ∙ rw k at e))
+    (λ k. let q : at + 2 + 0 ≡ at + 2 = omega arith in rw k
+    (sym (f .levelled k), ap (λ (n : ℕ). drop n s) q ∙ rw k at e))
     (λ k. let here : SFits w16 z = record { sfits = f .i16 } in
     let a = stands s (at + 2) 2 (ofZ w16 z) t (omega arith) (fits-ofZ here .fits) (omega arith) (rw k at e) in
     rw k (ap (toZ w16) (a .value) ∙ toZ-ofZ here, a .after))
@@ -203,7 +204,7 @@ pairs-fit v (z ∷ zs) (e ∷ es) f g flat zero =
       azimuth = f 0;
       elevation = record {
         i16 = g 0;
-        flat = λ k. level-is e (and-eq-true-iff (isLevel e) (every isLevel es) .0 (flat k) .0);
+        levelled = λ k. level-is e (and-eq-true-iff (isLevel e) (every isLevel es) .0 (flat k) .0);
       };
     }
 pairs-fit v (z ∷ zs) (e ∷ es) f g flat (suc i) = pairs-fit v zs es (λ j. f (suc j)) (λ j. g (suc j))
@@ -302,7 +303,7 @@ read-write v b h =
     let d = stands s 7 2 l tail (omega arith) (omega (arith, h .short)) (omega arith) (c .after) in
     let count = length-pairs (b .azimuths) (b .elevations) paired in
     let fit = pairs-fit v (b .azimuths) (b .elevations) (h .azimuths) (h .elevations)
-    (λ e. h .holds .flat (eqb-true v 1 e)) in
+    (λ e. h .holds .levelled (eqb-true v 1 e)) in
     let r = rows-stand s v 9 (pairs b) l (b .taps) [] (h .count ∙ ap (λ (k : ℕ). k * (2 * l)) (sym count)) fit (h .taps)
     (d .after ∙ sym (append-nil tail)) in
     let pairs′ : pairsOf (azimuthsFrom s v l 9 n) (elevationsFrom s v l 9 n) ≡ pairs b = pairs-from s v l 9 n

@@ -12,7 +12,7 @@ use Rattle.bank_form.specs.Fault.{versionIn, bankIn, isFile}
 -- a bank that version v can hold: 1 has no elevations, so each of them is 0
 pub record Holds (v : ℕ) (b : Bank) : Type 0 where
   pub known : isVersion v ≡ true
-  pub flat : v ≡ 1 → level b ≡ true
+  pub levelled : v ≡ 1 → level b ≡ true
 
 -- s is the file of the bank b in version v
 pub record IsFile (v : ℕ) (s : List ℕ) (b : Bank) : Type 0 where

@@ -24,8 +24,8 @@ use Rattle.channel.specs.declared.Layout.{Layout}
 use Rattle.channel.specs.Layouts.{surround}
 use Rattle.channel.proofs.Orders.{by-order}
 use Rattle.channel.proofs.Counts.{surround-few}
-use Rattle.bank_choice.specs.Nearest.{TakesByAzimuth, Flat}
-use Rattle.bank_choice.proofs.Level.{flat-as-before}
+use Rattle.bank_choice.specs.Nearest.{TakesByAzimuth, OneElevation}
+use Rattle.bank_choice.proofs.Level.{one-elevation-as-before}
 use Rattle.virtual_speaker.specs.Promise.{outcome, positionOf}
 use Rattle.virtual_speaker.proofs.Laws.{outcome-kept, weights-length, weights-sound}
 use Rattle.hrtf_setup.specs.declared.Speakers.{Speakers}
@@ -82,9 +82,10 @@ module _ (w : Wanted) (azimuths elevations : List ℤ) (rows : ℕ) (weights : L
   accepted-of e = sym refusal-told ∙ e
 
   -- where the bank's rows stand at one elevation, each speaker takes the row that document 01 names
-  pub flat-rows : refusalOf w azimuths elevations rows weights ≡ 0 → Flat elevations rows → (s : ℕ)
+  pub one-elevation-rows : refusalOf w azimuths elevations rows weights ≡ 0 → OneElevation elevations rows → (s : ℕ)
       → TakesByAzimuth azimuths rows (tenthsAt (w .whose) s) (rowAt (w .whose) azimuths elevations rows s)
-  flat-rows z flat s = flat-as-before azimuths elevations rows (tenthsAt (w .whose) s) speakerElevation flat
+  one-elevation-rows z flat s =
+      one-elevation-as-before azimuths elevations rows (tenthsAt (w .whose) s) speakerElevation flat
       (rowAt (w .whose) azimuths elevations rows s) .0 (a .words .takes z s)
 
   module _ (few : Few w) (eight : length given ≡ 8) (z : refusalOf w azimuths elevations rows weights ≡ 0) where
