@@ -2,9 +2,10 @@
 -- then feeds nothing and leaves all as it was. Definitions only.
 use Prim.Native.Nat.{ℕ, _+_}
 use mathlib.Core.Path.{_≡_}
-use mathlib.Core.List.{List, [], _∷_, _++_}
+use mathlib.Core.List.{List, [], _∷_}
 use lib.Ieee.{Float}
 use Rattle.refusals.specs.Refusals.{answered}
+use Rattle.lists.specs.Calls.{lastState, ofEachCall, ofAllCalls, HoldsOfEachCall}
 use Rattle.planes.specs.Planes.{framesOf}
 use Rattle.hrtf_history.specs.Setup.{Setup, SameFilters}
 use Rattle.hrtf_rings.specs.State.{State}
@@ -34,25 +35,20 @@ sounded c t = framesOf (outcome c t .ears) (c .stride) 2 (outcome c t .answer .s
 
 -- every call that is accepted has the counts, L, weights and filters of u; a call that is refused may hold anything
 abbrev pub Alike : Setup → State → List BlockCall → Type 0
-Alike u t [] = Unit {0}
-Alike u t (c ∷ cs) = (refusalOf c t ≡ 0 → SameFilters (setup c) u) × Alike u (next c t) cs
+Alike u t cs = HoldsOfEachCall next (λ c t. refusalOf c t ≡ 0 → SameFilters (setup c) u) t cs
 
 abbrev pub fedAll : State → List BlockCall → List (List Float)
-fedAll t [] = []
-fedAll t (c ∷ cs) = fed c t ++ fedAll (next c t) cs
+fedAll t cs = ofAllCalls next fed t cs
 
 abbrev pub soundedAll : State → List BlockCall → List (List Float)
-soundedAll t [] = []
-soundedAll t (c ∷ cs) = sounded c t ++ soundedAll (next c t) cs
+soundedAll t cs = ofAllCalls next sounded t cs
 
 abbrev pub end : State → List BlockCall → State
-end t [] = t
-end t (c ∷ cs) = end (next c t) cs
+end t cs = lastState next t cs
 
 -- each call's unsettled count
 abbrev pub unsettledCounts : State → List BlockCall → List ℕ
-unsettledCounts t [] = []
-unsettledCounts t (c ∷ cs) = outcome c t .answer .unsettled ∷ unsettledCounts (next c t) cs
+unsettledCounts t cs = ofEachCall next (λ c t. outcome c t .answer .unsettled) t cs
 
 abbrev pub sum : List ℕ → ℕ
 sum [] = 0

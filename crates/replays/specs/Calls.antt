@@ -2,10 +2,11 @@
 -- be refused; it then takes nothing and leaves all as it was. Definitions only.
 use Prim.Native.Nat.{ℕ}
 use mathlib.Core.Path.{_≡_}
-use mathlib.Core.List.{List, [], _∷_, _++_}
+use mathlib.Core.List.{List, []}
 use lib.ListN.{length}
 use lib.Ieee.{Float}
 use Rattle.refusals.specs.Refusals.{answered}
+use Rattle.lists.specs.Calls.{lastState, ofEachCall, ofAllCalls, HoldsOfEachCall}
 use Rattle.planes.specs.Planes.{framesOf}
 use Rattle.hrtf_history.specs.Setup.{Setup, SameFilters}
 use Rattle.hrtf_history.specs.Signals.{silence}
@@ -53,26 +54,21 @@ sounded p c = framesOf (outcomeAt p c .ears) (c .line .earStride) 2 (outcomeAt p
 
 -- every call that is accepted has the counts, L, weights and filters of u; a call that is refused may hold anything
 abbrev pub Alike : Setup → Place → List ReplayCall → Type 0
-Alike u p [] = Unit {0}
-Alike u p (c ∷ cs) = (refusalAt p c ≡ 0 → SameFilters (setupIn (c .line)) u) × Alike u (next p c) cs
+Alike u p cs = HoldsOfEachCall (λ c p. next p c) (λ c p. refusalAt p c ≡ 0 → SameFilters (setupIn (c .line)) u) p cs
 
 -- the recorded list
 abbrev pub takenAll : Place → List ReplayCall → List (Recorded (List Float))
-takenAll p [] = []
-takenAll p (c ∷ cs) = taken p c ++ takenAll (next p c) cs
+takenAll p cs = ofAllCalls (λ c p. next p c) (λ c p. taken p c) p cs
 
 abbrev pub soundedAll : Place → List ReplayCall → List (List Float)
-soundedAll p [] = []
-soundedAll p (c ∷ cs) = sounded p c ++ soundedAll (next p c) cs
+soundedAll p cs = ofAllCalls (λ c p. next p c) (λ c p. sounded p c) p cs
 
 abbrev pub end : Place → List ReplayCall → Place
-end p [] = p
-end p (c ∷ cs) = end (next p c) cs
+end p cs = lastState (λ c p. next p c) p cs
 
 -- a count that each call answers
 abbrev pub counts : (Replayed → ℕ) → Place → List ReplayCall → List ℕ
-counts count p [] = []
-counts count p (c ∷ cs) = count (outcomeAt p c .answer) ∷ counts count (next p c) cs
+counts count p cs = ofEachCall (λ c p. next p c) (λ c p. count (outcomeAt p c .answer)) p cs
 
 -- the stamps of the recorded list, and what it does: the frames as fed, each with its stamp, and restarts
 abbrev pub stampsAll : Place → List ReplayCall → List ℕ

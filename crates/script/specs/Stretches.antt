@@ -11,6 +11,7 @@ use mathlib.Core.List.{List, [], _∷_, _++_, map}
 use lib.ListN.{length}
 use lib.Ieee.{Float}
 use Rattle.refusals.specs.Refusals.{answered}
+use Rattle.lists.specs.Calls.{ofAllCalls}
 use Rattle.lists.specs.Tables.{tab}
 use Rattle.channel.specs.Orders.{channelsOfOrder}
 use Rattle.channel.specs.declared.Layout.{Layout}
@@ -55,12 +56,10 @@ module _ (cues : List Cue) (order : ℕ) where
 
   -- ---- calls one after another
   abbrev pub fedAll : ℕ → List RenderCall → List Float
-  fedAll f [] = []
-  fedAll f (c ∷ cs) = fed c f ++ fedAll (next c f) cs
+  fedAll f cs = ofAllCalls next fed f cs
 
   abbrev pub soundedAll : ℕ → List RenderCall → List (List Float)
-  soundedAll f [] = []
-  soundedAll f (c ∷ cs) = sounded c f ++ soundedAll (next c f) cs
+  soundedAll f cs = ofAllCalls next sounded f cs
 
 -- ---- separate calls of the panner
 
