@@ -25,7 +25,7 @@ use Rattle.bank_form.proofs.RoundTrip.{Counted, length-elevation, length-head, 
 use Rattle.bank_form.proofs.RoundTrip.{rowBytes-snoc}
 use Rattle.lists.specs.Placed.{placed}
 use Rattle.lists.proofs.Filling.{fill-more}
-use Rattle.lists.proofs.Tables.{length-part, row-end}
+use Rattle.lists.proofs.Tables.{length-part, chunk-end}
 use Rattle.lists.proofs.Placed.{placed-on, placed-start, take-placed, length-placed}
 use Rattle.bank_form.specs.Fault.{rowTaps, tapsFrom}
 use Rattle.bank_form.proofs.Lists.{taps-snoc, length-taps}
@@ -58,9 +58,9 @@ module _ (s : List ℕ) (v l : ℕ) where
 -- ---- writing
 
 -- a row of its pair and its taps
-pub length-row : (v : ℕ) (p : Pair) (l : ℕ) (xs : List Float) (q : ℕ) → q + 2 * l ≤ length xs
+pub length-chunk : (v : ℕ) (p : Pair) (l : ℕ) (xs : List Float) (q : ℕ) → q + 2 * l ≤ length xs
     → length (oneRow v p l xs q) ≡ rowSize v l
-length-row v p l xs q h =
+length-chunk v p l xs q h =
     let taps = floatBytes (take (2 * l) (drop q xs)) in
     length-append (bytesOf 2 (ofZ w16 (p .azimuth))) (elevationBytes v (p .elevation) ++ taps)
     ∙ omega (
@@ -86,10 +86,10 @@ module _ (v : ℕ) (ps : List Pair) (l : ℕ) (xs : List Float) (count : length 
       → last ≡ placed out 9 (rowBytes v (take (i + 1) ps) l xs)
   rows-more out ys last d i q at h e f room g k =
       let p = getD ps i d in
-      let taps = row-end i (length ps) (2 * l) _ h refl in
-      let bytes = row-end i (length ps) (rowSize v l) _ h refl in
+      let taps = chunk-end i (length ps) (2 * l) _ h refl in
+      let bytes = chunk-end i (length ps) (rowSize v l) _ h refl in
       let front = length-rows i (omega arith) in
-      let row : length (oneRow v p l xs q) ≡ rowSize v l = length-row v p l xs q (omega arith) in
+      let row : length (oneRow v p l xs q) ≡ rowSize v l = length-chunk v p l xs q (omega arith) in
       let more : rowBytes v (take i ps) l xs ++ oneRow v p l xs q ≡ rowBytes v (take (i + 1) ps) l xs = rw (
         add-one i,
         e,

@@ -13,7 +13,7 @@ use lib.Ieee.Bits.{is-true}
 use lib.IntN.{ℤ}
 use lib.ListN.{length}
 use Rattle.lists.proofs.Tests.{tested}
-use Rattle.refusals.proofs.First.{answered-accepted, answered-refused, told-is}
+use Rattle.refusals.proofs.First.{answered-accepted, answered-refused, answered-number}
 use Rattle.refusals.specs.Ranges.{within}
 use Rattle.lists.specs.Placed.{placed}
 use Rattle.bank_form.specs.declared.Fault.{Fault}
@@ -51,7 +51,8 @@ module _ (zs es : List ℤ) (xs : List Float) where
   as-read f b e = sym (answered-accepted _ (λ k. readRefused f zs es xs) (f .refusal) e)
 
   pub as-told : (f : Fault) (b : Bank) → readAs f b zs es xs .answer .refusal ≡ f .refusal
-  as-told f b = told-is (readBank b zs es xs) (λ k. readRefused f zs es xs) (λ (o : ReadOutcome). o .answer .refusal)
+  as-told f b =
+      answered-number (readBank b zs es xs) (λ k. readRefused f zs es xs) (λ (o : ReadOutcome). o .answer .refusal)
       refl (f .refusal) refl
 
   -- the same refusal, and the same bank where there is none
@@ -292,7 +293,7 @@ module _ (v : ℕ) (b : Bank) (file : List ℕ) where
   written-as f e = sym (answered-accepted _ (λ k. writeRefused f file) (f .refusal) e)
 
   pub told-as : (f : Fault) → writeAs f v b file .answer .refusal ≡ f .refusal
-  told-as f = told-is (writeBank v b) (λ k. writeRefused f file) (λ (w : WriteOutcome). w .answer .refusal) refl
+  told-as f = answered-number (writeBank v b) (λ k. writeRefused f file) (λ (w : WriteOutcome). w .answer .refusal) refl
       (f .refusal) refl
 
   pub wrote : (n : ℕ) (last : List ℕ) → n ≡ length (encode v b) → last ≡ encode v b

@@ -7,7 +7,7 @@ use native.Mathlib.Decide.{decLt}
 use native.Mathlib.Omega.{arith}
 use lib.IntN.{ℤ}
 use Rattle.bank_choice.specs.Nearest.{apart, away, elevationAway, Nearer}
-use Rattle.bank_choice.specs.NearestComputed.{key}
+use Rattle.bank_choice.specs.Computed.{key}
 
 apart-small : (a b : ℤ) → apart a b ≤ 1800
 unfolding apart

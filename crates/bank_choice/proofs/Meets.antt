@@ -8,12 +8,12 @@ use borrow.Author.Tests.{eq-eqb, ne-eqb}
 use lib.IntN.{ℤ}
 use lib.ListN.{length}
 use Rattle.refusals.specs.Refusals.{outside}
-use Rattle.refusals.proofs.First.{answered-accepted, answered-by, told-is}
+use Rattle.refusals.proofs.First.{answered-accepted, answered-by, answered-number}
 use Rattle.refusals.proofs.Chains.{first-holds, off-accepts}
 use Rattle.bank_choice.specs.declared.Choice.{Choice}
 use Rattle.bank_choice.specs.Choice.{inTenths, isElevation, choiceChecks, choiceRefusal, chose, refusedWith}
 use Rattle.bank_choice.specs.Choice.{choiceOf, Chooses}
-use Rattle.bank_choice.specs.NearestComputed.{nearestFrom}
+use Rattle.bank_choice.specs.Computed.{nearestFrom}
 use Rattle.bank_choice.proofs.Takes.{takes}
 
 module _ (zs es : List ℤ) (n : ℕ) (p q : ℤ) where
@@ -21,7 +21,7 @@ module _ (zs es : List ℤ) (n : ℕ) (p q : ℤ) where
   pub refusal-is : (r : Choice) → Chooses zs es n p q r → r .refusal ≡ choiceRefusal zs es n p q
   unfolding choiceOf
   refusal-is r x = ap (λ (c : Choice). c .refusal) (x .bits)
-      ∙ told-is (chose _) refusedWith (λ (c : Choice). c .refusal) refl (choiceRefusal zs es n p q) refl
+      ∙ answered-number (chose _) refusedWith (λ (c : Choice). c .refusal) refl (choiceRefusal zs es n p q) refl
 
   refused : (k : ℕ) → 0 < k → choiceRefusal zs es n p q ≡ k → Chooses zs es n p q (refusedWith k)
   unfolding choiceOf

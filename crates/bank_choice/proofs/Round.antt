@@ -10,7 +10,7 @@ use lib.Signed.{mag, ltZ}
 use mir.Syntax.{w16}
 use mir.Val.{SFits, toZ, ofZ}
 use mir.Facts.{toZ-ofZ}
-use Rattle.bank_choice.specs.NearestComputed.{turnedUp}
+use Rattle.bank_choice.specs.Computed.{turnedUp}
 
 pub turned-below : (z : ℤ) → SFits w16 z → ltZ (toZ w16 (ofZ w16 z)) (pos 0) ≡ true → 35999 - mag z ≡ turnedUp z
 unfolding turnedUp

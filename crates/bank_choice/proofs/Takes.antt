@@ -13,7 +13,7 @@ use lib.IntN.{ℤ}
 use Rattle.lists.specs.OneAnswer.{OneAnswer}
 use Rattle.bank_choice.specs.Nearest.{Takes}
 use Rattle.bank_choice.specs.Choice.{ChoiceMeets}
-use Rattle.bank_choice.specs.NearestComputed.{key, nearer, nearestFrom}
+use Rattle.bank_choice.specs.Computed.{key, nearer, nearestFrom}
 use Rattle.bank_choice.proofs.KeyOrder.{key-nearer, nearer-key}
 
 module _ (zs es : List ℤ) (p q : ℤ) where

@@ -6,7 +6,7 @@ use lib.IntN.{ℤ, pos, negsuc}
 use lib.ListN.{take, replicate}
 use Rattle.bank_choice.specs.Choice.{inTenths, isElevation, choiceRefusal, chose, refusedWith, choiceOf}
 use Rattle.bank_choice.specs.Nearest.{apart, elevationAway}
-use Rattle.bank_choice.specs.NearestComputed.{key, nearer, nearestFrom}
+use Rattle.bank_choice.specs.Computed.{key, nearer, nearestFrom}
 
 -- lists of 8 that start with some rows
 abbrev eight : List ℤ → List ℤ

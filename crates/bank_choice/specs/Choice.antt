@@ -14,7 +14,7 @@ unfoldable pub use Rattle.refusals.specs.Ranges.{isElevation}
 use Rattle.refusals.specs.Refusals.{Check, _when_, firstOf, answered, outside}
 use Rattle.bank_choice.specs.declared.Choice.{Choice}
 use Rattle.bank_choice.specs.Nearest.{Takes, TakesByAzimuth, OneElevation}
-use Rattle.bank_choice.specs.NearestComputed.{nearestFrom}
+use Rattle.bank_choice.specs.Computed.{nearestFrom}
 
 -- a speaker's azimuth, -1800 .. 1800
 unfoldable pub inTenths : ℤ → Bool

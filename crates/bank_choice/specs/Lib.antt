@@ -1,4 +1,4 @@
 -- What row choice promises.
 pub mod Nearest
 pub mod Choice
-pub mod NearestComputed
+pub mod Computed

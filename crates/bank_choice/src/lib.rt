@@ -10,7 +10,7 @@ ghost use lib.IntN.{natAbs, _-ℤ_};
 ghost use lib.ListN.{length};
 ghost use Rattle.bank_choice.specs.Nearest.{apart};
 ghost use Rattle.bank_choice.specs.Choice.{Chooses};
-ghost use Rattle.bank_choice.specs.NearestComputed.{turnedUp, key, nearer, nearestFrom};
+ghost use Rattle.bank_choice.specs.Computed.{turnedUp, key, nearer, nearestFrom};
 
 // What a choice answers: a refusal, or 0 with the row.
 pub struct Choice {

@@ -26,7 +26,7 @@ use Rattle.bank_form.specs.FitsFields.{IsI16, IsFloat, FitsFields}
 use Rattle.bank_form.specs.Fault.{elevationsFrom, pairIn, pairsFrom, versionIn, rowsIn, lengthIn, bankIn, isNew}
 use Rattle.bank_form.specs.Fault.{sound, fault, isFile}
 use Rattle.bank_form.specs.File.{Holds, IsFile, Exactly}
-use Rattle.lists.proofs.ForAll.{each-every}
+use Rattle.lists.proofs.ForAll.{forall-every}
 use Rattle.bank_form.proofs.Lists.{every-none, every-more, length-taps, pairwise-before, before-pairwise}
 use Rattle.bank_form.proofs.Walk.{Whole, whole, nothing-found}
 use Rattle.bank_form.proofs.Pairs.{level-zero}
@@ -170,9 +170,9 @@ keeps-fits v b h k = record {
   );
   paired = k .paired;
   count = k .count ∙ omega arith;
-  azimuths = each-every IsI16 (pos 0) isAzimuth azimuth-small (omega arith) (b .azimuths) (k .azimuths);
-  elevations = each-every IsI16 (pos 0) isElevation elevation-small (omega arith) (b .elevations) (k .elevations);
-  taps = each-every IsFloat nan isTap tap-fits (nan-fits binary32) (b .taps) (k .numbers);
+  azimuths = forall-every IsI16 (pos 0) isAzimuth azimuth-small (omega arith) (b .azimuths) (k .azimuths);
+  elevations = forall-every IsI16 (pos 0) isElevation elevation-small (omega arith) (b .elevations) (k .elevations);
+  taps = forall-every IsFloat nan isTap tap-fits (nan-fits binary32) (b .taps) (k .numbers);
 }
 
 -- ---- exactly

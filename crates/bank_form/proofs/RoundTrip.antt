@@ -30,7 +30,7 @@ use Rattle.big_endian.proofs.Lists.{length-fieldBytes}
 use Rattle.refusals.proofs.Ranges.{within-true}
 use Rattle.lists.specs.Tables.{every}
 use Rattle.lists.specs.ForAll.{ForAll}
-use Rattle.lists.proofs.ForAll.{each-drop, each-take}
+use Rattle.lists.proofs.ForAll.{forall-drop, forall-take}
 use Rattle.bank_form.specs.Bank.{Bank, Pair, rows, pairs, pairsOf, isTap, isLevel}
 use Rattle.bank_form.specs.Version.{elevationSize, elevationBytes, elevationAt, rowSize, tapsAt, largestRow}
 use Rattle.bank_form.specs.Encoding.{rowBytes, allRows, headBytes, encode}
@@ -240,10 +240,10 @@ rows-stand s v p (pair ∷ ps) l xs t n g f e =
     let a = stands s p 2 bits (elevation ++ (mine ++ (others ++ t))) (omega arith) (fits-ofZ here .fits)
     (omega arith) e′ in
     let h = elevation-stands s v p (pair .elevation) (mine ++ (others ++ t)) (g 0 .elevation) (a .after) in
-    let b = taps-stand s (tapsAt v p) (take m xs) (others ++ t) (each-take IsFloat nan m xs (nan-fits binary32) f)
+    let b = taps-stand s (tapsAt v p) (take m xs) (others ++ t) (forall-take IsFloat nan m xs (nan-fits binary32) f)
     (h .1) in
     let rest = rows-stand s v (p + rowSize v l) ps l (drop m xs) t (omega (arith, length-drop m xs)) (λ i. g (suc i))
-    (each-drop IsFloat nan m xs f)
+    (forall-drop IsFloat nan m xs f)
     (from-there s (p + rowSize v l) (tapsAt v p + 4 * length (take m xs)) (others ++ t) (omega arith) (b .after)) in
     let z : signedAt s p ≡ pair .azimuth = ap (toZ w16) (a .value) ∙ toZ-ofZ here in
     let both : pairIn v s p ≡ pair = λ i. record { azimuth = z i; elevation = h .0 i } in

@@ -18,7 +18,7 @@ use Rattle.big_endian.specs.Bytes.{valueOf, bytesOf, IsByte, AreBytes}
 use Rattle.lists.specs.Placed.{placed}
 use Rattle.big_endian.specs.Fields.{lies, fieldAt, withField}
 use Rattle.lists.proofs.Tables.{length-part}
-use Rattle.lists.proofs.ForAll.{each-drop, each-take}
+use Rattle.lists.proofs.ForAll.{forall-drop, forall-take}
 use Rattle.lists.proofs.Placed.{placed-none, length-placed, store-before}
 use Rattle.big_endian.proofs.Bytes.{power-pos, length-bytes, digit, value-bytes, value-bytes-fits, value-below}
 use Rattle.big_endian.proofs.Bytes.{bytes-value, value-snoc}
@@ -58,7 +58,7 @@ module _ (s : List ℕ) (at count : ℕ) where
   field-lies h g = field-is (lies-in (length s) at count h g)
 
 part-are-bytes : (s : List ℕ) (at count : ℕ) → AreBytes s → AreBytes (take count (drop at s))
-part-are-bytes s at count h = each-take IsByte 0 count (drop at s) (omega arith) (each-drop IsByte 0 at s h)
+part-are-bytes s at count h = forall-take IsByte 0 count (drop at s) (omega arith) (forall-drop IsByte 0 at s h)
 
 pub field-below : (s : List ℕ) (at count : ℕ) → AreBytes s → fieldAt s at count < 256 ^ count
 field-below s at count h = tested (lies (length s) at count)

@@ -4,7 +4,7 @@ use mathlib.Core.Path.{_≡_, refl, sym, ap, _∙_}
 use mathlib.Core.Bool.{Bool, true, false, cond, false≢true}
 use Prim.Native.Nat.{ℕ, suc, _≤_, _<_}
 use lib.Dec.{lit<, lit≤}
-use Rattle.refusals.proofs.First.{passed, told-is}
+use Rattle.refusals.proofs.First.{passed, answered-number}
 use Rattle.channel.specs.Layouts.{countedBy, channelsOf, uncountable, counted, surround}
 use Rattle.channel.specs.declared.Layout.{Layout}
 use Rattle.channel.specs.declared.Layout.the-variants.{Mono, Stereo, Surround51, Surround71, Custom}
@@ -22,7 +22,7 @@ module _ (r : ℕ) (refused : Bool) (n : ℕ) (c : Counted) (e : c ≡ countedBy
   refusal-is : c .refusal ≡ cond refused (suc r) 0
   refusal-is =
       ap (λ (x : Counted). x .refusal) e
-      ∙ told-is (record { refusal = 0; channels = n }) (λ k. record { refusal = k; channels = 0 })
+      ∙ answered-number (record { refusal = 0; channels = n }) (λ k. record { refusal = k; channels = 0 })
       (λ (x : Counted). x .refusal) refl (cond refused (suc r) 0) refl
 
   pub well : c .refusal ≡ 0 → (refused ≡ false) × (c .channels ≡ n)

@@ -1,4 +1,5 @@
--- Chains of tests, gone through one by one, and loops that stop at the first test that holds. Assumes nothing.
+-- Laws of `||` over a list of tests, the invariant of a loop that stops at the first test that holds (`Passing`),
+-- and laws of lists of finite floats. Assumes nothing.
 use mathlib.Core.Path.{_≡_, refl, sym, ap, _∙_, subst}
 use mathlib.Core.Bool.{Bool, true, false, not, _||_}
 use mathlib.Core.List.{List, [], _∷_}
@@ -103,17 +104,17 @@ module _ (f : ℕ → Float) (n : ℕ) where
   looked-at : (s : ℕ) (x : Float) (b t : Bool) → x ≡ f s → b ≡ finite x → not b ≡ t → wrong f s ≡ t
   looked-at s x b t ex eb e = ap (λ (v : Float). not (finite v)) (sym ex) ∙ ap not (sym eb) ∙ e
 
-  pub sound-more : (s : ℕ) (x : Float) (b : Bool) → Passing (wrong f) n s → s < n → x ≡ f s → b ≡ finite x
+  pub finite-more : (s : ℕ) (x : Float) (b : Bool) → Passing (wrong f) n s → s < n → x ≡ f s → b ≡ finite x
       → not b ≡ false → Passing (wrong f) n (s + 1)
-  sound-more s x b p h ex eb e = passing-more (wrong f) n s p h (looked-at s x b false ex eb e)
+  finite-more s x b p h ex eb e = passing-more (wrong f) n s p h (looked-at s x b false ex eb e)
 
   pub nonfinite-found : (s : ℕ) (x : Float) (b : Bool) → Passing (wrong f) n s → s < n → x ≡ f s → b ≡ finite x
       → not b ≡ true → true ≡ hasNonfinite (tab 0 n f)
   nonfinite-found s x b p h ex eb e =
       passing-found (wrong f) n s p h (looked-at s x b true ex eb e) ∙ nonfinite-tab 0 n f
 
-  pub sound-all : (s : ℕ) → Passing (wrong f) n s → n ≤ s → false ≡ hasNonfinite (tab 0 n f)
-  sound-all s p h = passing-all (wrong f) n s p h ∙ nonfinite-tab 0 n f
+  pub finite-all : (s : ℕ) → Passing (wrong f) n s → n ≤ s → false ≡ hasNonfinite (tab 0 n f)
+  finite-all s p h = passing-all (wrong f) n s p h ∙ nonfinite-tab 0 n f
 
 -- the floats of a list
 abbrev pub placeOf : List Float → ℕ → Float
@@ -124,26 +125,26 @@ nonfinite-list xs = ap hasNonfinite (tab-getD xs nan)
 
 -- a place of a sound list is finite, and a list of finite places is sound
 
-pub sound-at : (xs : List Float) (i : ℕ) → hasNonfinite xs ≡ false → i < length xs → finite (getD xs i nan) ≡ true
-sound-at xs i e h =
+pub finite-at : (xs : List Float) (i : ℕ) → hasNonfinite xs ≡ false → i < length xs → finite (getD xs i nan) ≡ true
+finite-at xs i e h =
     not-false (finite (getD xs i nan))
     (ap (wrong (placeOf xs)) (sym (zero-add i)) ∙ any-off 0 (length xs) (wrong (placeOf xs))
     (nonfinite-tab 0 (length xs) (placeOf xs) ∙ nonfinite-list xs ∙ e) i h)
 
-pub sound-tab : (i n : ℕ) (f : ℕ → Float) → ((k : ℕ) → finite (f k) ≡ true) → hasNonfinite (tab i n f) ≡ false
-sound-tab i zero f e = refl
-sound-tab i (suc n) f e = ap (λ (b : Bool). not b || hasNonfinite (tab (suc i) n f)) (e i) ∙ sound-tab (suc i) n f e
+pub finite-tab : (i n : ℕ) (f : ℕ → Float) → ((k : ℕ) → finite (f k) ≡ true) → hasNonfinite (tab i n f) ≡ false
+finite-tab i zero f e = refl
+finite-tab i (suc n) f e = ap (λ (b : Bool). not b || hasNonfinite (tab (suc i) n f)) (e i) ∙ finite-tab (suc i) n f e
 
 -- what is sound is sound in its parts
 
-pub sound-take : (n : ℕ) (xs : List Float) → hasNonfinite xs ≡ false → hasNonfinite (take n xs) ≡ false
-sound-take zero xs h = refl
-sound-take (suc n) [] h = refl
-sound-take (suc n) (x ∷ xs) h =
+pub finite-take : (n : ℕ) (xs : List Float) → hasNonfinite xs ≡ false → hasNonfinite (take n xs) ≡ false
+finite-take zero xs h = refl
+finite-take (suc n) [] h = refl
+finite-take (suc n) (x ∷ xs) h =
     let o = or-off (not (finite x)) (hasNonfinite xs) h in
-    both-off (not (finite x)) (hasNonfinite (take n xs)) (o .0) (sound-take n xs (o .1))
+    both-off (not (finite x)) (hasNonfinite (take n xs)) (o .0) (finite-take n xs (o .1))
 
-pub sound-drop : (n : ℕ) (xs : List Float) → hasNonfinite xs ≡ false → hasNonfinite (drop n xs) ≡ false
-sound-drop zero xs h = h
-sound-drop (suc n) [] h = refl
-sound-drop (suc n) (x ∷ xs) h = sound-drop n xs (or-off (not (finite x)) (hasNonfinite xs) h .1)
+pub finite-drop : (n : ℕ) (xs : List Float) → hasNonfinite xs ≡ false → hasNonfinite (drop n xs) ≡ false
+finite-drop zero xs h = h
+finite-drop (suc n) [] h = refl
+finite-drop (suc n) (x ∷ xs) h = finite-drop n xs (or-off (not (finite x)) (hasNonfinite xs) h .1)

@@ -38,8 +38,8 @@ module _ (n a b : ℕ) where
         | no k ↦ ne-eqb (n / a) b k ∙ sym (ne-eqb n (a * b) (λ e. k (ap (λ (m : ℕ). m / a) e ∙ mul-div-right b h)))
       ]
 
-pub first-least : (a b : ℕ) → a < b → a ≡ min a b
-first-least a b h = omega arith
+pub min-first : (a b : ℕ) → a < b → a ≡ min a b
+min-first a b h = omega arith
 
-pub second-least : (a b : ℕ) → b ≤ a → b ≡ min a b
-second-least a b h = omega arith
+pub min-second : (a b : ℕ) → b ≤ a → b ≡ min a b
+min-second a b h = omega arith

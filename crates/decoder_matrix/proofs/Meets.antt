@@ -33,8 +33,8 @@ use Rattle.decoder_matrix.proofs.Near.{near}
 
 -- ---- the rows
 module _ (order : ℕ) (l : Layout) (n channels : ℕ) (m : channels ≤ 16) where
-  length-row : (i : ℕ) → length (rowBy order l n channels i) ≡ channels
-  length-row i =
+  length-chunk : (i : ℕ) → length (rowBy order l n channels i) ≡ channels
+  length-chunk i =
       let d = towards (azimuthBy l n i) in
       let g = Harmonics.outcome order d .gains in
       length-map (take channels g) (λ (x : Float). mul binary64 x (inverseRoot n)) ∙ length-take channels g
@@ -45,7 +45,7 @@ module _ (order : ℕ) (l : Layout) (n channels : ℕ) (m : channels ≤ 16) whe
 
   all-rows : (s k : ℕ) → AllOf channels (tab s k (rowBy order l n channels))
   all-rows s zero = tt
-  all-rows s (suc k) = (length-row s, all-rows (suc s) k)
+  all-rows s (suc k) = (length-chunk s, all-rows (suc s) k)
 
 module _ (order : ℕ) (l : Layout) (weights : List Float) where
   -- ---- the answer by its tests

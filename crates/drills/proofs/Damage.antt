@@ -10,7 +10,7 @@ use lib.ListN.{length, getD}
 use lib.Ieee.{Float, nan, binary32, mul}
 use lib.Ieee.Scale.{finite}
 use Rattle.lists.specs.Tables.{tab, chunk}
-use Rattle.lists.proofs.Tables.{length-tab, getD-tab, length-row}
+use Rattle.lists.proofs.Tables.{length-tab, getD-tab, length-chunk}
 use Rattle.checks.specs.Finite.{hasNonfinite}
 use Rattle.channel.specs.Orders.{channelsOfOrder}
 use Rattle.planes.proofs.Sums.{mixed-nan}
@@ -39,7 +39,7 @@ channel-damages : (u : Setup) → 0 < u .speakers → length (u .weights) ≡ u 
 channel-damages u some weighed f c hc hf e =
     first-nan (u .speakers) (λ s. signal u s f) some
     (mixed-nan (chunk (u .channels) 0 (u .weights)) f c hf
-    (subst (λ (n : ℕ). c < n) (sym (length-row (u .channels) 0 (u .speakers) (u .weights) some weighed)) hc) e)
+    (subst (λ (n : ℕ). c < n) (sym (length-chunk (u .channels) 0 (u .speakers) (u .weights) some weighed)) hc) e)
 
 -- ---- a run that is fed something has speakers, and weights for all of them
 

@@ -10,7 +10,7 @@ use native.Mathlib.Omega.{arith}
 use lib.ListN.{length, take, drop, length-append, length-drop, take-append-drop}
 use lib.Seq.{take-append-le, drop-append-le, drop-at, drop-drop, length-take-le}
 use Rattle.lists.specs.Tables.{tab, chunk}
-use Rattle.lists.proofs.Tables.{tab-ext, tab-append, tab-moved, row-end}
+use Rattle.lists.proofs.Tables.{tab-ext, tab-append, tab-moved, chunk-end}
 use Rattle.ears_wire.specs.Records.{wholeIn, eachIn, restIn}
 use Rattle.ears_wire.specs.Frames.{frameOf, lineFrames}
 
@@ -26,7 +26,7 @@ module _ (w : ℕ) (some : 0 < w) where
 
     row-first : (i : ℕ) → i < 0 + k → chunk w i (a ++ b) ≡ chunk w i a
     row-first i h =
-        let end = row-end i k w (length a) (omega arith) e in
+        let end = chunk-end i k w (length a) (omega arith) e in
         ap (take w) (drop-append-le (i * w) a b (omega (arith, end)))
         ∙ take-append-le w (drop (i * w) a) b (omega (arith, end, length-drop (i * w) a))
 

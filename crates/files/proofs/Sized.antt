@@ -9,7 +9,7 @@ use lib.Ieee.{Float}
 use lib.ListN.{length, take, replicate, length-append, length-take, length-replicate}
 use lib.Seq.{length-take-le, take-at}
 use Rattle.lists.proofs.Lists.{take-min}
-use Rattle.lists.proofs.ForAll.{each-take, each-append, each-replicate}
+use Rattle.lists.proofs.ForAll.{forall-take, forall-append, forall-replicate}
 use Rattle.big_endian.specs.Bytes.{IsByte, AreBytes}
 use Rattle.bank_form.specs.Version.{largest}
 use Rattle.bank_form.specs.FaultLaws.{Begins, TakenFrom}
@@ -53,8 +53,8 @@ module _ (bytes : List ℕ) (size : ℕ) (room : length bytes ≡ largest) where
 
   file-bytes : AreBytes bytes → AreBytes file
   unfolding file
-  file-bytes are = each-append IsByte 0 (take size bytes) (replicate (size - largest) 0)
-      (each-take IsByte 0 size bytes (omega arith) are) (each-replicate IsByte 0 (size - largest) (omega arith))
+  file-bytes are = forall-append IsByte 0 (take size bytes) (replicate (size - largest) 0)
+      (forall-take IsByte 0 size bytes (omega arith) are) (forall-replicate IsByte 0 (size - largest) (omega arith))
 
   pub sized-found : (zs es : List ℤ) (xs : List Float) (o : ReadOutcome) → ReadSized bytes size zs es xs o
       → Found zs es xs o

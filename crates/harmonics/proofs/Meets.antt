@@ -10,7 +10,7 @@ use lib.ListN.{length}
 use lib.Ieee.{Float, ofInt}
 use Rattle.formats.specs.Floats.{float}
 use Rattle.refusals.specs.Refusals.{_when_, answered}
-use Rattle.refusals.proofs.First.{or-off, answered-accepted, told-is}
+use Rattle.refusals.proofs.First.{or-off, answered-accepted, answered-number}
 use Rattle.refusals.proofs.Chains.{none-holds}
 use Rattle.channel.specs.Orders.{refusesOrder}
 use Rattle.channel.proofs.Orders.{by-order}
@@ -59,7 +59,7 @@ module _ (order : ℕ) (d : Direction) where
   answer a b = answered (cond a 1 (cond b 3 0)) (accepting (upTo order (wavesOf d))) refusing
 
   pub refusal-is : outcome order d .refusal ≡ refusalOf order d
-  refusal-is = told-is (accepting (upTo order (wavesOf d))) refusing (λ (r : Coefficients). r .refusal) refl
+  refusal-is = answered-number (accepting (upTo order (wavesOf d))) refusing (λ (r : Coefficients). r .refusal) refl
       (refusalOf order d) refl
 
   pub gains-are : refusalOf order d ≡ 0 → outcome order d .gains ≡ upTo order (wavesOf d)

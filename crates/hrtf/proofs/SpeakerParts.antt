@@ -15,8 +15,8 @@ use Rattle.formats.specs.Floats.{zero-float}
 use Rattle.formats.proofs.Patterns.{finite-no-nan}
 use Rattle.lists.specs.Tables.{chunk}
 use Rattle.lists.proofs.Lists.{getD-reverse}
-use Rattle.lists.proofs.Tables.{length-part, part-is, row-end}
-use Rattle.checks.proofs.Checks.{sound-at, sound-take, sound-drop}
+use Rattle.lists.proofs.Tables.{length-part, part-is, chunk-end}
+use Rattle.checks.proofs.Checks.{finite-at, finite-take, finite-drop}
 use Rattle.planes.specs.Sums.{dot}
 use Rattle.planes.proofs.Sums.{dot-nan}
 use Rattle.hrtf_rings.specs.Unrolled.{unrolled}
@@ -40,18 +40,18 @@ pub tap-casts : {cells taps : List Float} (k : ℕ) → TapsFor cells taps → k
     → Casts (getD taps k nan)
 tap-casts {taps = taps} k t h held =
     casts (getD taps k nan) held
-    (finite-no-nan (getD taps k nan) (sound-at taps k (t .finite) (omega (arith, t .each))))
+    (finite-no-nan (getD taps k nan) (finite-at taps k (t .finite) (omega (arith, t .each))))
 
 pub taps-before : {cells taps : List Float} (n : ℕ) → TapsFor cells taps → TapsFor (take n cells) (take n taps)
 taps-before {taps =
-    taps} n t = record { each = simp (length-take) (omega (arith, t .each)); finite = sound-take n taps (t .finite) }
+    taps} n t = record { each = simp (length-take) (omega (arith, t .each)); finite = finite-take n taps (t .finite) }
 
 pub taps-behind : {cells taps : List Float} (n : ℕ) → TapsFor cells taps
     → TapsFor (take (length cells - n) (drop n cells)) (take (length taps - n) (drop n taps))
 taps-behind {taps = taps} n t =
     record {
       each = simp (length-take, length-drop) (omega (arith, t .each));
-      finite = sound-take (length taps - n) (drop n taps) (sound-drop n taps (t .finite));
+      finite = finite-take (length taps - n) (drop n taps) (finite-drop n taps (t .finite));
     }
 
 -- a cell that is a NaN makes both sums one, wherever it stands
@@ -103,13 +103,13 @@ module _ (h : ConvolverShape) (s j : ℕ) (taps rings : List Float) (p : PartsIn
   right-behind = ap (λ (n : ℕ). n * h .length) (add-one (j * 2)) ∙ suc-mul (j * 2) (h .length)
 
   pub ring-end : s * h .length + h .length ≤ length rings
-  ring-end = row-end s (h .speakers) (h .length) (length rings) (p .ring) (p .ringed)
+  ring-end = chunk-end s (h .speakers) (h .length) (length rings) (p .ring) (p .ringed)
 
   pub taps-end : j * 2 * h .length + h .length + h .length ≤ length taps
   taps-end = omega (
     arith,
     right-behind,
-    row-end (j * 2 + 1) (2 * h .rows) (h .length) (length taps)
+    chunk-end (j * 2 + 1) (2 * h .rows) (h .length) (length taps)
         (omega (arith, p .row)) (p .tapped),
   )
 
@@ -140,7 +140,7 @@ module _ (h : ConvolverShape) (s j : ℕ) (taps rings : List Float) (p : PartsIn
       stand at e =
           record {
             each = length-piece at (h .length) taps e ∙ sym long;
-            finite = sound-take (at + h .length - at) (drop at taps) (sound-drop at taps (p .finite));
+            finite = finite-take (at + h .length - at) (drop at taps) (finite-drop at taps (p .finite));
           }
 
   -- and give the speaker's parts

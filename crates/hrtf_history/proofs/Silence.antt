@@ -9,7 +9,7 @@ use lib.Ieee.{Float}
 use lib.Ieee.Scale.{finite}
 use Rattle.formats.specs.Floats.{zero-float}
 use Rattle.checks.specs.Finite.{hasNonfinite}
-use Rattle.checks.proofs.Checks.{sound-tab, sound-take, sound-drop}
+use Rattle.checks.proofs.Checks.{finite-tab, finite-take, finite-drop}
 use Rattle.planes.proofs.Silence.{mixed-silence}
 use Rattle.hrtf_history.specs.Setup.{Setup, weightsOf}
 use Rattle.hrtf_history.specs.Signals.{signal, signals, damaged, silence}
@@ -19,10 +19,10 @@ use Rattle.hrtf_history.proofs.Signals.{signal-at}
 module _ (u : Setup) (w : hasNonfinite (u .weights) ≡ false) where
   signal-silence : (s : ℕ) → signal u s (silence u) ≡ zero-float
   signal-silence s = mixed-silence (u .channels) (weightsOf u s)
-      (sound-take (u .channels) (drop (s * u .channels) (u .weights)) (sound-drop (s * u .channels) (u .weights) w))
+      (finite-take (u .channels) (drop (s * u .channels) (u .weights)) (finite-drop (s * u .channels) (u .weights) w))
 
   pub silence-sound : damaged u (silence u) ≡ false
-  silence-sound = sound-tab 0 (u .speakers) (λ s. signal u s (silence u)) (λ s. ap finite (signal-silence s))
+  silence-sound = finite-tab 0 (u .speakers) (λ s. signal u s (silence u)) (λ s. ap finite (signal-silence s))
 
   -- a speaker's signal k frames ago, and the damage then, are those of the frame
   pub signal-ago : (past : List (List Float)) (k s : ℕ) → s < u .speakers

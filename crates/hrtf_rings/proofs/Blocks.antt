@@ -1,8 +1,6 @@
--- Frames played one after another. THE LAW OF EVERY STATE: from any rings as long as they have to be and any desk whose
--- numbers are below L, the program's steps give document 01's sums over the frames' signals and what the rings held
--- (`played-held`), leave the rings that hold the newest L of these (`left-is`), and count the frames that are unsettled
--- (`counted-is`). Then the same over a past that rings and desk stand for; what a reset leaves stands for none. And
--- frames played in two pieces give what the whole gives. Assumes nothing.
+-- From every state the program's steps give document 01's sums (`played-held`), leave rings with the newest L frames
+-- (`left-is`) and count the unsettled frames (`counted-is`). Then the same over a past that a state stands for, and
+-- over frames that are played in two pieces. Assumes nothing.
 use mathlib.Core.Path.{_≡_, refl, sym, ap, _∙_, subst}
 use mathlib.Core.Bool.{cond}
 use mathlib.Core.List.{List, [], _∷_, _++_, map, reverse}

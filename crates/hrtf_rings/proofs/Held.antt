@@ -10,7 +10,7 @@ use lib.Seq.{take-add, take-all, take-at, drop-at, drop-drop}
 use lib.Ieee.{Float, nan}
 use Rattle.formats.specs.Floats.{zero-float}
 use Rattle.lists.specs.Tables.{tab, chunk}
-use Rattle.lists.proofs.Tables.{length-tab, getD-tab, tab-ext, tab-is, length-row}
+use Rattle.lists.proofs.Tables.{length-tab, getD-tab, tab-ext, tab-is, length-chunk}
 use Rattle.hrtf_desk.specs.declared.Desk.{Desk}
 use Rattle.hrtf_history.specs.Setup.{Setup}
 use Rattle.hrtf_history.specs.History.{signalAgo, window}
@@ -88,7 +88,7 @@ module _ (u : Setup) (t : State) where
       (omega (arith, h, long)) lt)
     where
       long : length (unrolled (t .desk .position) (ring s)) ≡ u .L
-      long = length-unrolled (t .desk .position) (ring s) ∙ length-row (u .L) s (u .speakers) (t .rings) lt room
+      long = length-unrolled (t .desk .position) (ring s) ∙ length-chunk (u .L) s (u .speakers) (t .rings) lt room
 
   -- every state holds what is read out of it
   pub holds-held : length (t .rings) ≡ u .speakers * u .L → t .desk .position < u .L → Holds u (heldIn u t) t
@@ -115,7 +115,7 @@ module _ (u : Setup) (t : State) where
         ∙ rows-joined (u .L) (u .speakers) (t .rings) (r .room))
       where
         inside : (s : ℕ) → s < u .speakers → t .desk .position ≤ length (ring s)
-        inside s lt = omega (arith, r .within, length-row (u .L) s (u .speakers) (t .rings) lt (r .room))
+        inside s lt = omega (arith, r .within, length-chunk (u .L) s (u .speakers) (t .rings) lt (r .room))
 
 -- ---- `ringsOf` and `heldIn` undo each other
 

@@ -13,7 +13,7 @@ use Rattle.formats.specs.Floats.{zero-float}
 use Rattle.lists.specs.Tables.{any, chunk}
 use Rattle.checks.specs.Finite.{hasNonfinite}
 use Rattle.planes.specs.Sums.{dot}
-use Rattle.lists.proofs.Tables.{length-row}
+use Rattle.lists.proofs.Tables.{length-chunk}
 use Rattle.planes.proofs.Planes.{length-with-frame, row-with-frame}
 use Rattle.hrtf_desk.specs.declared.Desk.{Desk}
 use Rattle.hrtf_desk.proofs.DeskInRange.{desk-on, position-below, waits-below}
@@ -60,7 +60,7 @@ module _ (u : Setup) (past : List (List Float)) (t : State) (f : List Float) (r 
       x = signal u s f
 
       full : length ring ≡ u .L
-      full = length-row (u .L) s (u .speakers) (t .rings) lt (r .room)
+      full = length-chunk (u .L) s (u .speakers) (t .rings) lt (r .room)
 
   -- THE RING LEMMA: a frame keeps rings and desk holding the past, its signals before the rest
   pub kept : Holds u (signals u f ∷ past) (stepped u t f)
@@ -76,7 +76,7 @@ module _ (u : Setup) (past : List (List Float)) (t : State) (f : List Float) (r 
       same = length-stored u t f ∙ r .room
 
       full : (s : ℕ) → s < u .speakers → length (chunk (u .L) s (stored u t f)) ≡ u .L
-      full s lt = length-row (u .L) s (u .speakers) (stored u t f) lt same
+      full s lt = length-chunk (u .L) s (u .speakers) (stored u t f) lt same
 
       turn : (s : ℕ) → s < u .speakers
           → unrolled ((t .desk .position + 1) % u .L) (chunk (u .L) s (stored u t f))

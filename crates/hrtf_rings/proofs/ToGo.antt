@@ -1,5 +1,5 @@
--- The frames to go count the damage among the last L: more than j are to go exactly where a damaged frame is among the
--- newest L - 1 - j, or where more than j and all those frames were to go before them. Assumes nothing.
+-- More than j frames are to go exactly if a damaged one is among the newest L - 1 - j, or if more than j plus the
+-- number of these frames were to go before them (`to-go-any`). Assumes nothing.
 use mathlib.Core.Path.{_≡_, sym, ap, _∙_}
 use mathlib.Core.Logic.{⊎-elim}
 use mathlib.Core.Bool.{Bool, true, false, _||_}

@@ -1,5 +1,5 @@
--- Whatever stands in the rings is the signals of the last L frames: read out of a state, and put back. What frames
--- leave of a state, and when it stands for a past, in these words. Definitions only.
+-- What the rings hold: the signals of the last L frames (`heldIn`), the rings that hold a given past (`ringsOf`),
+-- what frames leave (`afterFrames`), and when a state stands for a past (`Represents`). Definitions only.
 use Prim.Native.Nat.{ℕ, _+_, _%_, _<_}
 use mathlib.Core.Path.{_≡_}
 use mathlib.Core.Bool.{Bool}

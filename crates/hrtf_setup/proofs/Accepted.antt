@@ -19,7 +19,7 @@ use Rattle.refusals.proofs.Chains.{off-accepts}
 use Rattle.lists.specs.Tables.{tab}
 use Rattle.checks.specs.Finite.{hasNonfinite}
 use Rattle.lists.proofs.Tables.{length-tab, getD-tab}
-use Rattle.checks.proofs.Checks.{equal-passes, sound-at, sound-tab}
+use Rattle.checks.proofs.Checks.{equal-passes, finite-at, finite-tab}
 use Rattle.channel.specs.declared.Layout.{Layout}
 use Rattle.channel.specs.Layouts.{surround}
 use Rattle.channel.proofs.Orders.{by-order}
@@ -49,7 +49,7 @@ weight-finite (Of l) s c h = own-finite s c
 weight-finite (Virtual order) s c h =
     let o = outcome order (positionOf s) in
     let kept = outcome-kept order (positionOf s) in
-    sound-at (o .weights) c (weights-sound order (positionOf s) o kept)
+    finite-at (o .weights) c (weights-sound order (positionOf s) o kept)
     (subst (λ (n : ℕ). c < n) (sym (weights-length order (positionOf s) o kept)) h)
 
 -- ---- what an accepted set-up leaves
@@ -120,7 +120,7 @@ module _ (w : Wanted) (azimuths elevations : List ℤ) (rows : ℕ) (weights : L
               ∙ length-tab 0 (w .speakers * w .channels) (weightAt (w .whose) (w .channels))
               ∙ sym (ap (λ (q : Arrangement). q .answer .speakers * q .answer .channels) is);
           sound = ap (λ (q : Arrangement). hasNonfinite (q .weights)) is
-              ∙ sound-tab 0 (w .speakers * w .channels) (weightAt (w .whose) (w .channels))
+              ∙ finite-tab 0 (w .speakers * w .channels) (weightAt (w .whose) (w .channels))
               (λ i. weight-finite (w .whose) _ (i % w .channels)
               (omega (arith, mod-lt i {m = w .channels} (few .1 .0), few .1 .1)));
           chosen = λ s h. let g : s < w .speakers = subst (λ (n : ℕ). s < n) (counted .0) h in

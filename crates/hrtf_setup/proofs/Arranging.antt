@@ -24,7 +24,7 @@ use Rattle.channel.specs.Orders.{refusesOrder, channelsOfOrder}
 use Rattle.channel.proofs.Counts.{surround-counted, surround-few}
 use Rattle.bank_choice.specs.declared.Choice.{Choice}
 use Rattle.bank_choice.specs.Nearest.{Takes}
-use Rattle.bank_choice.specs.NearestComputed.{nearestFrom}
+use Rattle.bank_choice.specs.Computed.{nearestFrom}
 use Rattle.bank_choice.specs.Choice.{isElevation, refusedWith, choiceOf}
 use Rattle.bank_choice.proofs.Takes.{takes}
 use Rattle.bank_choice.proofs.Meets.{none-refused}

@@ -17,7 +17,7 @@ use Rattle.channel.specs.declared.Layout.the-variants.{Mono, Stereo, Surround51
 use Rattle.channel.specs.Layouts.{surround}
 use Rattle.checks.proofs.Checks.{is-equal}
 use Rattle.bank_choice.specs.Nearest.{apart, elevationAway}
-use Rattle.bank_choice.specs.NearestComputed.{key, nearer, nearestFrom}
+use Rattle.bank_choice.specs.Computed.{key, nearer, nearestFrom}
 use Rattle.bank_choice.specs.Choice.{inTenths, isElevation, choiceRefusal, choiceOf}
 use Rattle.hrtf_setup.specs.declared.Speakers.the-variants.{Of, Virtual}
 use Rattle.hrtf_setup.specs.Speakers.{tenthsAt, rowAt, rowsOf}

@@ -1,5 +1,5 @@
--- An answer of which a promise says what it is equal to is determined: no two answers meet the promise. What every
--- uniqueness theorem cites. Assumes nothing.
+-- Where a promise says what the answer is equal to, it allows one answer (`determined-by`). Every uniqueness theorem
+-- cites this. Assumes nothing.
 use mathlib.Core.Path.{_≡_, sym, _∙_}
 use Rattle.lists.specs.OneAnswer.{OneAnswer}
 

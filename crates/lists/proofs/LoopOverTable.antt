@@ -1,6 +1,5 @@
--- A loop that goes through f 0, f 1, .., f (n - 1): what is left, gone on with from the state that it has come to,
--- gives what the whole gives from the first state. Every loop whose end is a definition by clauses over a table (a sum,
--- rows or frames that are put one behind another) keeps this. Assumes nothing.
+-- The invariant of a loop over f 0, .., f (n - 1): going on from the present state gives what the whole loop gives
+-- from the first one (`LoopOverTable`). Assumes nothing.
 use mathlib.Core.Path.{_≡_, sym, ap, _∙_}
 use mathlib.Core.List.{List, [], _∷_}
 use Prim.Native.Nat.{ℕ, suc, _+_, _-_, _≤_, _<_, zero-le}

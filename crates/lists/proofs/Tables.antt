@@ -108,11 +108,11 @@ module _ {A : Type 0} where
   part-is a n xs = ap (λ (k : ℕ). take k (drop a xs)) (add-sub-cancel-left a n)
 
 -- row i of m rows ends where they end, or before
-pub row-end : (i m n room : ℕ) → i < m → room ≡ m * n → i * n + n ≤ room
-row-end i m n room h e = omega (arith, mul-le-mul-right n h, suc-mul i n)
+pub chunk-end : (i m n room : ℕ) → i < m → room ≡ m * n → i * n + n ≤ room
+chunk-end i m n room h e = omega (arith, mul-le-mul-right n h, suc-mul i n)
 
-pub length-row : {A : Type 0} (n i m : ℕ) (xs : List A) → i < m → length xs ≡ m * n → length (chunk n i xs) ≡ n
-length-row n i m xs h e = length-part xs (i * n) n (row-end i m n (length xs) h e)
+pub length-chunk : {A : Type 0} (n i m : ℕ) (xs : List A) → i < m → length xs ≡ m * n → length (chunk n i xs) ≡ n
+length-chunk n i m xs h e = length-part xs (i * n) n (chunk-end i m n (length xs) h e)
 
 -- place n of row p of so many rows lies inside
 pub inside : (rows long p n room : ℕ) → p < rows → n < long → room ≡ rows * long → p * long + n < room

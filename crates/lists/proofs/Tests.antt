@@ -1,5 +1,4 @@
--- What is chosen by a test: the first where it holds, the second where it does not. What is to hold of it is shown
--- where the test holds, and where it does not. What is shown by comparing two numbers. And a list of tests that all
+-- Laws of `cond` (`cond-true`, `cond-false`), case splits on a test and on two numbers, and a list of tests that all
 -- hold. Assumes nothing.
 use mathlib.Core.Path.{_≡_, refl, ap}
 use mathlib.Core.Logic.{⊎-elim}

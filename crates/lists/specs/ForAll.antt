@@ -1,4 +1,4 @@
--- What is so of each element of a list. Definitions only.
+-- `ForAll P d xs`: P holds of every element of xs, and of d, which a read beyond the end gives. Definitions only.
 use Prim.Native.Nat.{ℕ}
 use mathlib.Core.List.{List}
 use lib.ListN.{getD}

@@ -1,4 +1,5 @@
--- Lists that are said by a rule for each place: the words "rising" and "one of" of document 01. Definitions only.
+-- Lists given by a rule for each index (`tab`), the i-th chunk of a list, and tests over a list (`every`, `any`,
+-- `count`): the words "rising" and "one of" of document 01. Definitions only.
 use Prim.Native.Nat.{ℕ, zero, suc, _+_, _*_}
 use mathlib.Core.Bool.{Bool, true, false, _&&_, _||_, cond}
 use mathlib.Core.List.{List, [], _∷_}
@@ -10,7 +11,7 @@ module _ {A : Type 0} where
   tab i zero f = []
   tab i (suc n) f = f i ∷ tab (suc i) n f
 
-  -- row i of a list that holds rows of n one after another
+  -- chunk i of a list that holds chunks of n elements one after another
   abbrev pub chunk : ℕ → ℕ → List A → List A
   chunk n i xs = take n (drop (i * n) xs)
 

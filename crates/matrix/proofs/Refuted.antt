@@ -13,7 +13,7 @@ use lib.Ieee.{Float, nan, inf, fin, neg, add, sum, mul, round}
 use lib.Ieee.Scale.{finite}
 use Rattle.numbers.specs.Conversions.{negative}
 use Rattle.numbers.specs.Computed.{rounded}
-use Rattle.checks.proofs.Checks.{sound-at}
+use Rattle.checks.proofs.Checks.{finite-at}
 use Rattle.rows.specs.Rows.{scaled}
 use Rattle.numbers.specs.Normalization.{inverseRoot}
 use Rattle.planes.specs.Sums.{mixed}
@@ -46,7 +46,7 @@ unfolding neg
 other-sign n lent k h p =
     let wrong : List Float = negatedAt neg (λ (i : ℕ). eqb i k) 0 (rows n) in
     let x : Float = getD (rows n) k nan in
-    not-opposite x (sound-at (rows n) k (rows-finite n (computed-order n lent wrong p)) h)
+    not-opposite x (finite-at (rows n) k (rows-finite n (computed-order n lent wrong p)) h)
     (sym (getD-negated neg (λ (i : ℕ). eqb i k) nan refl 0 (rows n) k
     ∙ ap (λ (b : Bool). cond b (neg x) x) (eq-eqb (0 + k) k (zero-add k)))
     ∙ ap (λ (w : List Float). getD w k nan) (computed-rows n lent wrong p))

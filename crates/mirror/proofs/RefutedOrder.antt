@@ -17,7 +17,7 @@ use lib.Ieee.{units, odd, fits, ofInt, toBits, ofBits}
 use lib.Ieee.Positive.{positive}
 use Rattle.lists.specs.Tables.{tab}
 use Rattle.lists.proofs.Tables.{getD-tab}
-use Rattle.lists.proofs.ForAll.{each-replicate}
+use Rattle.lists.proofs.ForAll.{forall-replicate}
 use Rattle.formats.specs.Floats.{zero-float, one-float, minus-one-float, literal}
 use Rattle.numbers.specs.Computed.{rounded, narrowed, rootOf, rootUnits, wholeRoot, rootIn}
 use Rattle.numbers.specs.Normalization.{inverseRoot}
@@ -58,7 +58,7 @@ setup n = record {
 }
 
 own-row : (n s : ℕ) → getD (setup n .rows) s 0 ≡ 0
-own-row n = each-replicate (λ (r : ℕ). r ≡ 0) 0 n refl
+own-row n = forall-replicate (λ (r : ℕ). r ≡ 0) 0 n refl
 
 same-taps : (n ear : ℕ) → ear < 2 → tapsIn 1 0 (otherEar ear) (setup n .taps) ≡ tapsIn 1 0 ear (setup n .taps)
 same-taps n zero e = refl

@@ -19,7 +19,7 @@ use Rattle.refusals.specs.Refusals.{firstOf, _when_, answered}
 use Rattle.lists.specs.Tables.{tab}
 use Rattle.lists.proofs.Tables.{length-tab, getD-tab, tab-ext}
 use Rattle.lists.proofs.Tests.{by-test}
-use Rattle.lists.proofs.ForAll.{each-replicate}
+use Rattle.lists.proofs.ForAll.{forall-replicate}
 use Rattle.formats.specs.Floats.{Held, zero-float, float}
 use Rattle.fractions.specs.Fraction.{magnitude, number, whole, AtMost}
 use Rattle.numbers.specs.Computed.{rootOf}
@@ -122,7 +122,7 @@ module _ (l : Layout) (e : surround l ≡ true) (a : Float) where
       go false r k = absurd (true≢false (sym k))
 
   quiet : (c : ℕ) → getD silence c zero-float ≡ zero-float
-  quiet = each-replicate (λ (x : Float). x ≡ zero-float) zero-float 16 refl
+  quiet = forall-replicate (λ (x : Float). x ≡ zero-float) zero-float 16 refl
 
   answer-across : (refusesAzimuth a ≡ false → sumAt (neg a) ≡ sumAt a) → GainsExchanged l a
   answer-across h = record {

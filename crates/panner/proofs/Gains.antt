@@ -9,7 +9,7 @@ use borrow.Author.Tests.{not-false}
 use lib.Dec.{eqb, lit≤}
 use lib.ListN.{replicate}
 use lib.Ieee.{Float}
-use Rattle.refusals.proofs.First.{passed, not-accepted, told-is}
+use Rattle.refusals.proofs.First.{passed, not-accepted, answered-number}
 use Rattle.lists.proofs.Tests.{cond-true, cond-false}
 use Rattle.channel.specs.Layouts.{channelsOf, uncountable, surround, countedBy, counted}
 use Rattle.channel.specs.Orders.{refusesOrder, channelsOfOrder}
@@ -61,7 +61,8 @@ module _ (l : Layout) (p : Float) (s : StereoGains) (h : Stereo.StereoPromise p 
   stereo-refusal : s .refusal ≡ cond (Stereo.isRefused p) 3 0
   unfolding Stereo.outcome
   stereo-refusal = ap (λ (x : StereoGains). x .refusal) (h .bits)
-      ∙ told-is (Stereo.played p) Stereo.refused (λ (x : StereoGains). x .refusal) refl (Stereo.refusalOf p) refl
+      ∙ answered-number (Stereo.played p) Stereo.refused (λ (x : StereoGains). x .refusal) refl (Stereo.refusalOf p)
+      refl
 
   pub stereo-refused : isBadLayout l ≡ false → (s .refusal ≡ 0 → ⊥) → commandRefusal (Stereo p) l ≡ 3
   stereo-refused b n = cond-false 2 _ b ∙ three (Stereo.isRefused p) (s .refusal) stereo-refusal n

@@ -1,5 +1,5 @@
--- All that is handed back for a block (`planes`, specs/Blocks.antt). Document 01: "Input samples may be any bit
--- pattern." Definitions only.
+-- What `panner::process` promises: the answer and every sample of the output planes. Document 01: "Input samples may
+-- be any bit pattern." Definitions only.
 use Prim.Native.Nat.{ℕ}
 use mathlib.Core.Path.{_≡_}
 use mathlib.Core.List.{List}

@@ -11,7 +11,7 @@ use lib.Seq.{getD-set-same, getD-set-other, getD-take, getD-drop, ext-getD}
 use lib.Ieee.{Float, nan}
 use Rattle.lists.specs.Tables.{tab, chunk}
 use Rattle.planes.specs.Planes.{sampleAt, frameAt, framesOf, withSample, withFrameFrom, withFrame, withFrames}
-use Rattle.lists.proofs.Tables.{tab-is, length-row, inside}
+use Rattle.lists.proofs.Tables.{tab-is, length-chunk, inside}
 
 -- ---- places
 
@@ -81,10 +81,10 @@ row-with-frame planes xs stride n f p hp hn e few =
     room m hm = inside planes stride p m (length xs) among hm e
 
     old-length : length (chunk stride p xs) ≡ stride
-    old-length = length-row stride p planes xs among e
+    old-length = length-chunk stride p planes xs among e
 
     new-length : length (chunk stride p (withFrame xs stride n f)) ≡ stride
-    new-length = length-row stride p planes (withFrame xs stride n f) among (length-with-frame 0 xs stride n f ∙ e)
+    new-length = length-chunk stride p planes (withFrame xs stride n f) among (length-with-frame 0 xs stride n f ∙ e)
 
     same-length : length (chunk stride p (withFrame xs stride n f)) ≡ length (set (chunk stride p xs) n (getD f p nan))
     same-length = new-length ∙ sym (length-set (chunk stride p xs) n (getD f p nan) ∙ old-length)

@@ -6,7 +6,7 @@ use Prim.Native.Nat.{ℕ, _%_, _^_, _≤_, _<_}
 use native.Mathlib.Omega.{arith}
 use lib.ListN.{length}
 use lib.Ieee.{Float, binary32, binary64, ofBits, toBits, nan}
-use Rattle.refusals.proofs.First.{told-is}
+use Rattle.refusals.proofs.First.{answered-number}
 use Rattle.formats.specs.Floats.{zero-float}
 use Rattle.numbers.specs.Computed as Numbers
 use Rattle.numbers.specs.declared.Rooted.{Rooted}
@@ -57,7 +57,7 @@ module _ (args out : List ℕ) (r : Draft) where
       let told = taken-told 8 args out r is eight
       (first-told (root .refusal) (doubleBytes (root .value ∷ []) ∷ []) out room) in
       let number : root .refusal ≡ Numbers.refusalOf (doubleAt args 0) =
-      told-is (record { refusal = 0; value = Numbers.rootOf binary64 (doubleAt args 0) })
+      answered-number (record { refusal = 0; value = Numbers.rootOf binary64 (doubleAt args 0) })
       (λ n. record { refusal = n; value = zero-float }) (λ (a : Rooted). a .refusal) refl
       (Numbers.refusalOf (doubleAt args 0)) refl in
       let k : root .refusal % 256 ^ 1 ≡ 10 = ap (λ (n : ℕ). n % 256 ^ 1) (number ∙ ten) in

@@ -16,7 +16,7 @@ use Rattle.stamps.specs.declared.Expected.{Expected}
 use Rattle.stamps.specs.declared.Expected.the-variants.{Stamp}
 use Rattle.stamps.specs.Arrivals.{stampOf}
 use Rattle.stamps.specs.Counts.{outIn, lateIn, silentIn}
-use Rattle.replay.specs.Lines.{Recording, stampsIn}
+use Rattle.replay.specs.Recording.{Recording, stampsIn}
 use Rattle.replay.specs.Promise.{ReplayOutcome, outcome, refusalIn, accepted, refused}
 use Rattle.probe_request.specs.Requests.{samplesLent}
 use Rattle.probe_answer.specs.Answers.{Draft, none}

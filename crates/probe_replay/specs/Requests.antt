@@ -8,7 +8,7 @@ use Rattle.big_endian.specs.Fields.{fieldAt}
 use Rattle.big_endian.specs.Lists.{strided}
 use Rattle.stamps.specs.declared.Expected.{Expected}
 use Rattle.stamps.specs.declared.Expected.the-variants.{First, Stamp}
-use Rattle.replay.specs.Lines.{Recording}
+use Rattle.replay.specs.Recording.{Recording}
 use Rattle.replay.specs.Promise.{ReplayOutcome, outcome}
 use Rattle.probe_request.specs.Requests.{eightAt, wordAt}
 use Rattle.probe_hrtf.specs.Requests.{shapeAt, stateOf, Lent, Lists, listsEnd, listsAt}

@@ -35,7 +35,7 @@ module _ {A : Type 0} (accepted : A) (refused : ℕ → A) where
   answered-by r n h e = ap refused (sym e) ∙ sym (answered-refused r (not-accepted n h e))
 
   -- and what an answer tells is the number that it is given by
-  pub told-is : (told : A → ℕ) → told accepted ≡ 0 → (r : ℕ) → told (refused r) ≡ r
+  pub answered-number : (told : A → ℕ) → told accepted ≡ 0 → (r : ℕ) → told (refused r) ≡ r
       → told (answered r accepted refused) ≡ r
-  told-is told none zero same = none
-  told-is told none (suc n) same = same
+  answered-number told none zero same = none
+  answered-number told none (suc n) same = same

@@ -26,7 +26,7 @@ use Rattle.hrtf_checks.proofs.Refusing.{lengths-fit, on-desk, accept}
 use Rattle.hrtf.specs.Promise.{BlockOutcome, stateAfter, Processes}
 use Rattle.hrtf.specs.Reset.{ResetOutcome, Resets}
 use Rattle.hrtf.proofs.Meets.{outcome-by, outcome-computed, reset-accepts, reset-by}
-use Rattle.replay.specs.Lines.{Recording, setupIn}
+use Rattle.replay.specs.Recording.{Recording, setupIn}
 use Rattle.replay.specs.Heard.{rested}
 use Rattle.replay.specs.Computed.{stateWith, Good, Kept, Resting}
 

@@ -15,7 +15,7 @@ use Rattle.hrtf_rings.proofs.RingsHoldHistory.{step-fits}
 use Rattle.hrtf_rings.proofs.Filters.{stepped-alike, played-alike, counted-alike}
 use Rattle.stamps.specs.Events.{Event, feed, restart}
 use Rattle.stamps.specs.Computed.{feedsIn}
-use Rattle.replay.specs.Lines.{Recording, setupIn}
+use Rattle.replay.specs.Recording.{Recording, setupIn}
 use Rattle.replay.specs.Heard.{rested}
 use Rattle.replay.specs.Computed.{StateReady, leftBy, playedBy, countedBy, feeds}
 

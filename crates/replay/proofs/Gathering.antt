@@ -25,7 +25,7 @@ use Rattle.stamps.specs.Arrivals.{Comes, comingOf, stampOf, thenOf, skippedOf}
 use Rattle.stamps.specs.Events.{Recorded, Event, feed, restart, eventsOf}
 use Rattle.stamps.proofs.Recordings.{events-late, events-next, events-jump, events-silent}
 use Rattle.replay.specs.declared.gather.Gathered.{Gathered}
-use Rattle.replay.specs.Lines.{recordedAt, recording}
+use Rattle.replay.specs.Recording.{recordedAt, recording}
 use Rattle.replay.specs.Computed.{quiet, goesOn, takenBy, filledBy, TakesFrame, feeds, restarting, eventsFrom}
 use Rattle.replay.specs.Computed.{Gathers}
 use Rattle.replay.proofs.Blocks.{block-more, feeds-more}

@@ -26,7 +26,7 @@ use Rattle.stamps.specs.Counts.{outIn, plannedOf, unplannedOf, planOf}
 use Rattle.stamps.specs.Events.{stampsOf}
 use Rattle.stamps.proofs.Recordings.{feeds-out}
 use Rattle.replay.specs.Computed.{quiet, startOf, Room, placesOf, planIn, picked, Good, StateReady, Kept}
-use Rattle.replay.specs.Lines.{Recording, recordedAt, recordingIn, stampsIn}
+use Rattle.replay.specs.Recording.{Recording, recordedAt, recordingIn, stampsIn}
 use Rattle.replay.proofs.Convolver.{blockCall}
 use Rattle.replay.specs.Promise.{recordUnfit, listsUnfit, replayChecks, refusalIn}
 

@@ -8,5 +8,5 @@ mod Convolver
 mod Turning
 pub mod Judging
 pub mod Hearing
-pub mod Answering
+pub mod Meets
 mod Unique

@@ -25,7 +25,7 @@ use Rattle.replay.specs.declared.gather.Gathered.{Gathered}
 use Rattle.replay.specs.Computed.{quiet, feeds, restarting, Gathers, eventsAt, Resting, restedIf, Room, Turns}
 use Rattle.replay.specs.Computed.{leftIn, Turn, stateWith, Good, StateReady, Kept, leftBy, playedBy, countedBy}
 use Rattle.replay.specs.declared.play.Turned.{Turned}
-use Rattle.replay.specs.Lines.{Recording, setupIn, recordingIn}
+use Rattle.replay.specs.Recording.{Recording, setupIn, recordingIn}
 use Rattle.hrtf_rings.proofs.RingsHoldHistory.{left-fits}
 use Rattle.replay.proofs.Eventful.{left-by-append, played-by-append, counted-by-append, length-played-by}
 use Rattle.replay.proofs.Eventful.{counted-few, left-feeds, played-feeds, counted-feeds, feeds-feeds}

@@ -1,5 +1,5 @@
 -- What the functions under `replay` ask and leave. Definitions only; they speak of the program, and nobody has to
--- believe them: the law `accepted-computed` (proofs/Answering.antt) ties them to the promise.
+-- believe them: the law `accepted-computed` (proofs/Meets.antt) ties them to the promise.
 use mathlib.Core.Path.{_≡_}
 use Prim.Native.Nat.{ℕ, _+_, _*_, _≤_, _<_, _^_, _-_}
 use mathlib.Core.Bool.{Bool, false, not, _||_, cond, true}
@@ -20,7 +20,7 @@ use Rattle.stamps.specs.declared.Expected.{Expected}
 use Rattle.stamps.specs.declared.Planned.{Planned}
 use Rattle.stamps.specs.Counts.{unplannedOf, planOf}
 use Rattle.stamps.specs.Events.{Event, feed, restart, Recorded, eventsOf}
-use Rattle.replay.specs.Lines.{Recording, setupIn, recordingIn}
+use Rattle.replay.specs.Recording.{Recording, setupIn, recordingIn}
 use Rattle.replay.specs.Heard.{rested}
 use Rattle.formats.specs.Floats.{zero-float}
 use Rattle.planes.specs.Planes.{frameAt, framesOf, withFrame, withFrames}

@@ -1,5 +1,5 @@
 -- The words of the promise of `replay`; then what the functions under it ask and leave.
-pub mod Lines
+pub mod Recording
 pub mod Heard
 pub mod Promise
 pub mod Computed

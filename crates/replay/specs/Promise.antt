@@ -20,7 +20,7 @@ use Rattle.stamps.specs.declared.Expected.{Expected}
 use Rattle.stamps.specs.Arrivals.{expectedAfter}
 use Rattle.stamps.specs.Counts.{outIn, lateIn, silentIn, resetsIn}
 use Rattle.replay.specs.declared.Replayed.{Replayed}
-use Rattle.replay.specs.Lines.{Recording, setupIn, stampsIn, eventsIn}
+use Rattle.replay.specs.Recording.{Recording, setupIn, stampsIn, eventsIn}
 use Rattle.replay.specs.Heard.{heardBy, unsettledBy, afterBy, afterEvents}
 
 -- ---- refusals: 2, 4, 5, 7 and 8

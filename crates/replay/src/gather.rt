@@ -11,7 +11,7 @@ ghost use mathlib.Core.Path.{_≡_};
 ghost use Prim.Native.Nat.{_*_, _≤_, _<_};
 ghost use lib.ListN.{length};
 ghost use Rattle.planes.specs.Planes.{frameAt, withFrame};
-ghost use Rattle.replay.specs.Lines.{recording};
+ghost use Rattle.replay.specs.Recording.{recording};
 ghost use Rattle.replay.specs.Computed.{quiet, goesOn, TakesFrame, Gathers};
 
 // The places of a plane of the block.

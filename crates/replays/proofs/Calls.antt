@@ -21,13 +21,13 @@ use Rattle.stamps.specs.Events.{Recorded, Event, eventsOf, stampsOf}
 use Rattle.stamps.proofs.Recordings.{added-cut, expected-cut, events-cut}
 use Rattle.hrtf_runs.specs.Runs.{sum}
 use Rattle.replay.specs.declared.Replayed.{Replayed}
-use Rattle.replay.specs.Lines.{Recording, setupIn, recordingIn, eventsIn}
+use Rattle.replay.specs.Recording.{Recording, setupIn, recordingIn, eventsIn}
 use Rattle.replay.specs.Promise.{ReplayOutcome, refused, stateAfter}
 use Rattle.replay.specs.Computed.{leftBy, playedBy, countedBy}
 use Rattle.replay.proofs.Judging.{stamps-are}
 use Rattle.replay.proofs.Eventful.{left-by-append, played-by-append, counted-by-append, left-by-alike}
 use Rattle.replay.proofs.Eventful.{played-by-alike, counted-by-alike}
-use Rattle.replay.proofs.Answering.{computed, outcome-by, outcome-computed, ears-read}
+use Rattle.replay.proofs.Meets.{computed, outcome-by, outcome-computed, ears-read}
 use Rattle.replays.specs.Calls.{ReplayCall, Place, refusalAt, outcomeAt, next, takenWhere, taken, sounded}
 use Rattle.replays.specs.Calls.{Alike, takenAll, soundedAll, end, counts, stampsAll, eventsAll}
 

@@ -22,11 +22,11 @@ use Rattle.hrtf_rings.proofs.Blocks.{fresh}
 use Rattle.stamps.specs.declared.Expected.{Expected}
 use Rattle.stamps.specs.declared.Expected.the-variants.{First, Stamp}
 use Rattle.stamps.specs.Arrivals.{comingBy}
-use Rattle.replay.specs.Lines.{Recording, eventsIn}
+use Rattle.replay.specs.Recording.{Recording, eventsIn}
 use Rattle.replay.specs.Heard.{heardBy, unsettledBy}
 use Rattle.replay.specs.Promise.{refusalIn, ReplayOutcome, Replays}
 use Rattle.replay.proofs.Hearing.{played-by-heard, counted-by-told}
-use Rattle.replay.proofs.Answering.{outcome-by, outcome-computed, ears-read}
+use Rattle.replay.proofs.Meets.{outcome-by, outcome-computed, ears-read}
 use Rattle.replays.proofs.Worked.{line, whole, planes, pair, eight-short, starts, sounds, unsettled, told}
 
 -- how many units a float has, or none

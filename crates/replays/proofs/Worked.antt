@@ -24,11 +24,11 @@ use Rattle.hrtf.specs.Reset.{resetRefusal, Resets}
 use Rattle.hrtf.proofs.Meets.{reset-accepted}
 use Rattle.stamps.specs.declared.Expected.the-variants.{First, Stamp}
 use Rattle.stamps.specs.Arrivals.{comingBy}
-use Rattle.replay.specs.Lines.{Recording, eventsIn}
+use Rattle.replay.specs.Recording.{Recording, eventsIn}
 use Rattle.replay.specs.Heard.{heardBy, unsettledBy}
 use Rattle.replay.specs.Promise.{refusalIn, ReplayOutcome, outcome, Replays}
 use Rattle.replay.proofs.Hearing.{played-by-heard, counted-by-told}
-use Rattle.replay.proofs.Answering.{outcome-computed, ears-read}
+use Rattle.replay.proofs.Meets.{outcome-computed, ears-read}
 use Rattle.hrtf_runs.specs.Runs.{sum}
 use Rattle.replay.specs.declared.Replayed.{Replayed}
 use Rattle.planes.specs.Planes.{framesOf}

@@ -14,7 +14,7 @@ use Rattle.hrtf_rings.specs.State.{State}
 use Rattle.stamps.specs.declared.Expected.{Expected}
 use Rattle.stamps.specs.Events.{Recorded, Event, eventsOf, stampsOf}
 use Rattle.replay.specs.declared.Replayed.{Replayed}
-use Rattle.replay.specs.Lines.{Recording, setupIn, recordingIn}
+use Rattle.replay.specs.Recording.{Recording, setupIn, recordingIn}
 use Rattle.replay.specs.Promise.{refusalIn, ReplayOutcome, outcome, stateAfter}
 
 -- ---- one call

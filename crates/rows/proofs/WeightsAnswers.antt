@@ -4,12 +4,13 @@ use Prim.Native.Nat.{ℕ}
 use mathlib.Core.Path.{_≡_, refl, ap}
 use mathlib.Core.List.{List}
 use lib.Ieee.{Float}
-use Rattle.refusals.proofs.First.{answered-accepted, told-is}
+use Rattle.refusals.proofs.First.{answered-accepted, answered-number}
 use Rattle.rows.specs.Rows.{WeightsAnswer, computedBy}
 
 module _ (made lent : List Float) (r : ℕ) where
   pub computed-refusal : computedBy r made lent .refusal ≡ r
-  computed-refusal = told-is (record { refusal = 0; weights = made }) (λ n. record { refusal = n; weights = lent })
+  computed-refusal =
+      answered-number (record { refusal = 0; weights = made }) (λ n. record { refusal = n; weights = lent })
       (λ (c : WeightsAnswer). c .refusal) refl r refl
 
   pub computed-weights : r ≡ 0 → computedBy r made lent .weights ≡ made

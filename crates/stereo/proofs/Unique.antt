@@ -1,5 +1,5 @@
--- No two answers meet the promise: it is the equation that leaves no room, where document 01's bound alone leaves 2 ^
--- -36 either way. Assumes nothing.
+-- The contract of `calculate_stereo_gains` allows one answer. Document 01's bound alone would allow every gain within
+-- 2 ^ -36. Assumes nothing.
 use Rattle.lists.specs.OneAnswer.{AllowsOneAnswer}
 use Rattle.lists.proofs.Determined.{determined-by}
 use Rattle.stereo.proofs.calculate_stereo_gains

@@ -1,5 +1,5 @@
 -- Document 02, E3, "The voice comes from the speaker it doesn't point at", mended: a voice at the azimuth of a speaker
--- is loudest there. A statement.
+-- is loudest there. Definitions only.
 use Prim.Native.Nat.{ℕ, _<_}
 use mathlib.Core.Path.{_≡_}
 use mathlib.Core.Bool.{true, false}

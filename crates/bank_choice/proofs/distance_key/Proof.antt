@@ -7,7 +7,7 @@ use mir.Syntax.{w16}
 use mir.Facts.{toZ-ofZ}
 use Rattle.big_endian.proofs.Signed.{back}
 use Rattle.bank_choice.specs.Nearest.{apart, elevationAway}
-use Rattle.bank_choice.specs.NearestComputed.{key}
+use Rattle.bank_choice.specs.Computed.{key}
 use borrow.Author.Needs.{needs}
 use Rattle.bank_choice.proofs.distance_key.Statement.{statement}
 use Rattle.bank_choice.proofs.distance_key.Tie as tie

@@ -2,7 +2,7 @@
 use mathlib.Core.Path.{_≡_}
 use Prim.Native.Nat.{ℕ}
 use mir.Facts.{toZ-ofZ}
-use Rattle.bank_choice.specs.NearestComputed.{key}
+use Rattle.bank_choice.specs.Computed.{key}
 use Rattle.bank_choice.proofs.Takes.{nearer-other, nearer-first}
 use borrow.Author.Needs.{needs}
 use Rattle.bank_choice.proofs.nearer_row.Statement.{statement}

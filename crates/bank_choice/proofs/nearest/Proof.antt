@@ -5,7 +5,7 @@ use native.Mathlib.Omega.{arith}
 use mir.Syntax.{w16}
 use mir.Val.{toZ, ofZ}
 use mir.Facts.{toZ-ofZ}
-use Rattle.bank_choice.specs.NearestComputed.{nearer, nearestFrom}
+use Rattle.bank_choice.specs.Computed.{nearer, nearestFrom}
 use Rattle.bank_choice.proofs.Takes.{nearer-below, nearest-next, nearest-end}
 use Rattle.bank_choice.proofs.nearest.Statement.{statement}
 use Rattle.bank_choice.proofs.nearest.Tie as tie

@@ -5,7 +5,7 @@ use Prim.Native.Nat.{_-_}
 use native.Mathlib.Omega.{arith}
 use lib.ListN.{length}
 use denote.Ref.{now}
-use Rattle.checks.proofs.Checks.{Passing, passing-none, wrong, sound-more, nonfinite-found, sound-all, placeOf}
+use Rattle.checks.proofs.Checks.{Passing, passing-none, wrong, finite-more, nonfinite-found, finite-all, placeOf}
 use Rattle.checks.proofs.Checks.{nonfinite-list}
 use Rattle.checks.proofs.has_nonfinite_f32.Statement.{statement}
 use Rattle.checks.proofs.has_nonfinite_f32.Tie as tie
@@ -24,10 +24,10 @@ returns c =
     let at-is-finite = c .before in
     let at-widen = at-is-finite .before in
     let at-loop-test = at-widen .before .before in
-    let at = at-loop-test .before in
-    let start = at .before .before in
+    let at-loop = at-loop-test .before in
+    let start = at-loop .before .before in
     let xs = now (start .args .taps) in
-    nonfinite-found (placeOf xs) (length xs) (at .loop .k) _ (at-is-finite .is-finite .result) (at .loop .inv)
+    nonfinite-found (placeOf xs) (length xs) (at-loop .loop .k) _ (at-is-finite .is-finite .result) (at-loop .loop .inv)
     (at-loop-test .loop-test .taken) (at-widen .widen .ensures .bits) (at-is-finite .is-finite .ensures)
     (c .if1 .taken) ∙ nonfinite-list xs
 
@@ -36,10 +36,10 @@ loop-again c =
     let at-is-finite = c .before in
     let at-widen = at-is-finite .before in
     let at-loop-test = at-widen .before .before in
-    let at = at-loop-test .before in
-    let start = at .before .before in
+    let at-loop = at-loop-test .before in
+    let start = at-loop .before .before in
     let xs = now (start .args .taps) in
-    sound-more (placeOf xs) (length xs) (at .loop .k) _ (at-is-finite .is-finite .result) (at .loop .inv)
+    finite-more (placeOf xs) (length xs) (at-loop .loop .k) _ (at-is-finite .is-finite .result) (at-loop .loop .inv)
     (at-loop-test .loop-test .taken) (at-widen .widen .ensures .bits) (at-is-finite .is-finite .ensures)
     (c .if1 .left)
 
@@ -48,7 +48,7 @@ returns-2 c =
     let at-loop = c .before in
     let start = at-loop .before .before in
     let xs = now (start .args .taps) in
-    sound-all (placeOf xs) (length xs) (at-loop .loop .k) (at-loop .loop .inv) (c .loop-test .left) ∙ nonfinite-list xs
+    finite-all (placeOf xs) (length xs) (at-loop .loop .k) (at-loop .loop .inv) (c .loop-test .left) ∙ nonfinite-list xs
 
 pub has-nonfinite-f32-spec : {M : Type 1} → statement M
 has-nonfinite-f32-spec =

@@ -5,7 +5,7 @@ use Prim.Native.Nat.{_-_}
 use native.Mathlib.Omega.{arith}
 use lib.ListN.{length}
 use denote.Ref.{now}
-use Rattle.checks.proofs.Checks.{Passing, passing-none, wrong, sound-more, nonfinite-found, sound-all, placeOf}
+use Rattle.checks.proofs.Checks.{Passing, passing-none, wrong, finite-more, nonfinite-found, finite-all, placeOf}
 use Rattle.checks.proofs.Checks.{nonfinite-list}
 use Rattle.checks.proofs.has_nonfinite_f64.Statement.{statement}
 use Rattle.checks.proofs.has_nonfinite_f64.Tie as tie
@@ -23,20 +23,20 @@ returns : tie.Need-returns Inv-loop μ-loop
 returns c =
     let at-is-finite = c .before in
     let at-loop-test = at-is-finite .before .before in
-    let at = at-loop-test .before in
-    let start = at .before .before in
+    let at-loop = at-loop-test .before in
+    let start = at-loop .before .before in
     let xs = now (start .args .weights) in
-    nonfinite-found (placeOf xs) (length xs) (at .loop .w) _ (at-is-finite .is-finite .result) (at .loop .inv)
+    nonfinite-found (placeOf xs) (length xs) (at-loop .loop .w) _ (at-is-finite .is-finite .result) (at-loop .loop .inv)
     (at-loop-test .loop-test .taken) refl (at-is-finite .is-finite .ensures) (c .if1 .taken) ∙ nonfinite-list xs
 
 loop-again : tie.Need-loop-again Inv-loop μ-loop
 loop-again c =
     let at-is-finite = c .before in
     let at-loop-test = at-is-finite .before .before in
-    let at = at-loop-test .before in
-    let start = at .before .before in
+    let at-loop = at-loop-test .before in
+    let start = at-loop .before .before in
     let xs = now (start .args .weights) in
-    sound-more (placeOf xs) (length xs) (at .loop .w) _ (at-is-finite .is-finite .result) (at .loop .inv)
+    finite-more (placeOf xs) (length xs) (at-loop .loop .w) _ (at-is-finite .is-finite .result) (at-loop .loop .inv)
     (at-loop-test .loop-test .taken) refl (at-is-finite .is-finite .ensures) (c .if1 .left)
 
 returns-2 : tie.Need-returns-2 Inv-loop μ-loop
@@ -44,7 +44,7 @@ returns-2 c =
     let at-loop = c .before in
     let start = at-loop .before .before in
     let xs = now (start .args .weights) in
-    sound-all (placeOf xs) (length xs) (at-loop .loop .w) (at-loop .loop .inv) (c .loop-test .left) ∙ nonfinite-list xs
+    finite-all (placeOf xs) (length xs) (at-loop .loop .w) (at-loop .loop .inv) (c .loop-test .left) ∙ nonfinite-list xs
 
 pub has-nonfinite-f64-spec : {M : Type 1} → statement M
 has-nonfinite-f64-spec =

@@ -28,20 +28,22 @@ loop-again : tie.Need-loop-again Inv-loop μ-loop
 loop-again c =
     let at-value = c .before .before in
     let at-loop-test = at-value .before in
-    let at = at-loop-test .before in
-    let start = at .before .before .before .before in
+    let at-loop = at-loop-test .before in
+    let start = at-loop .before .before .before .before in
     let a = start .args in
-    mixing-more (now (a .weights)) (now (a .inputs)) (a .stride) (a .frame) (at .loop .sum) (at .loop .at) (at .loop .c)
+    mixing-more (now (a .weights)) (now (a .inputs)) (a .stride) (a .frame) (at-loop .loop .sum) (at-loop .loop .at)
+    (at-loop .loop .c)
     (at-value .value .result) (c .onward2 .result)
-    (at .loop .inv) (at-loop-test .loop-test .taken) (at-value .value .ensures) (c .onward2 .ensures)
+    (at-loop .loop .inv) (at-loop-test .loop-test .taken) (at-value .value .ensures) (c .onward2 .ensures)
 
 returns : tie.Need-returns Inv-loop μ-loop
 returns c =
-    let at = c .before .before in
-    let start = at .before .before .before .before in
+    let at-loop = c .before .before in
+    let start = at-loop .before .before .before .before in
     let a = start .args in
-    mixing-all (now (a .weights)) (now (a .inputs)) (a .stride) (a .frame) (at .loop .sum) (at .loop .at) (at .loop .c)
-    (c .narrow .result) (at .loop .inv) (c .before .loop-test .left) (c .narrow .ensures .bits)
+    mixing-all (now (a .weights)) (now (a .inputs)) (a .stride) (a .frame) (at-loop .loop .sum) (at-loop .loop .at)
+    (at-loop .loop .c)
+    (c .narrow .result) (at-loop .loop .inv) (c .before .loop-test .left) (c .narrow .ensures .bits)
 
 pub mix-spec : {M : Type 1} → statement M
 mix-spec =

@@ -31,21 +31,22 @@ loop-again c =
     let mixes = put .before .before in
     let ends = mixes .before .before in
     let starts = ends .before in
-    let at = starts .before .before in
-    let a = at .before .before .before .before .args in
-    let judge = judged-by (at .loop .damaged) (c .if1 .damaged) (mixes .mix .result) (tested .before .widen .result)
+    let at-loop = starts .before .before in
+    let a = at-loop .before .before .before .before .args in
+    let judge = judged-by (at-loop .loop .damaged) (c .if1 .damaged) (mixes .mix .result)
+    (tested .before .widen .result)
     (tested .is-finite .result)
     (tested .before .widen .ensures .bits) (tested .is-finite .ensures) in
     judging-more (now (a .out)) (a .out-stride) (a .out-frame) (a .outputs)
-    (output (now (a .weights)) (a .channels) (now (a .inputs)) (a .stride) (a .frame)) (at .loop .out)
-    (at .loop .damaged) (at .loop .o) (at .loop .inv)
+    (output (now (a .weights)) (a .channels) (now (a .inputs)) (a .stride) (a .frame)) (at-loop .loop .out)
+    (at-loop .loop .damaged) (at-loop .loop .o) (at-loop .loop .inv)
     (mixes .mix .result) (put .put-sample .last .0) (c .if1 .damaged) (starts .before .loop-test .taken)
-    (output-is (now (a .weights)) (a .channels) (now (a .inputs)) (a .stride) (a .frame) (at .loop .o)
+    (output-is (now (a .weights)) (a .channels) (now (a .inputs)) (a .stride) (a .frame) (at-loop .loop .o)
     (starts .place .result) (ends .onward .result) (mixes .mix .result) (starts .place .ensures)
     (ends .onward .ensures) (mixes .mix .ensures))
     (put .put-sample .ensures)
-    (⊎-elim (λ w. judge true (w .0 .taken) (w .1 ∙ sym (or-true (at .loop .damaged))))
-    (λ w. judge false (w .0 .left) (w .1 ∙ sym (or-false (at .loop .damaged)))) (c .if1 .came))
+    (⊎-elim (λ w. judge true (w .0 .taken) (w .1 ∙ sym (or-true (at-loop .loop .damaged))))
+    (λ w. judge false (w .0 .left) (w .1 ∙ sym (or-false (at-loop .loop .damaged)))) (c .if1 .came))
 
 returns : tie.Need-returns Inv-loop μ-loop
 returns c =

@@ -1,7 +1,7 @@
 -- `probe_bank::answer` meets its contract: by the operation. Assumes nothing.
 use Rattle.probe_answer.proofs.Meets.{chosen}
 use Rattle.probe_bank.specs.Answers.{answerOf}
-use Rattle.probe_bank.proofs.Answering.{of-none}
+use Rattle.probe_bank.proofs.Meets.{of-none}
 use borrow.Author.Needs.{needs}
 use Rattle.probe_bank.proofs.answer.Statement.{statement}
 use Rattle.probe_bank.proofs.answer.Tie as tie

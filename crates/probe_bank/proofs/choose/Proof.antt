@@ -2,7 +2,7 @@
 use denote.Ref.{now}
 use lib.IntN.{pos}
 use Rattle.probe_request.proofs.Requests.{lent-places, lent-length, new-few}
-use Rattle.probe_bank.proofs.Answering.{choice-lent}
+use Rattle.probe_bank.proofs.Meets.{choice-lent}
 use borrow.Author.Needs.{needs}
 use Rattle.probe_bank.proofs.choose.Statement.{statement}
 use Rattle.probe_bank.proofs.choose.Tie as tie

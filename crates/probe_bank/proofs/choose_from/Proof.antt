@@ -3,7 +3,7 @@ use mathlib.Core.Path.{_∙_}
 use denote.Ref.{now}
 use mir.Syntax.{w16}
 use Rattle.big_endian.proofs.Signed.{back}
-use Rattle.probe_bank.proofs.Answering.{choice-misfit, choice-read}
+use Rattle.probe_bank.proofs.Meets.{choice-misfit, choice-read}
 use borrow.Author.Needs.{needs}
 use Rattle.probe_bank.proofs.choose_from.Statement.{statement}
 use Rattle.probe_bank.proofs.choose_from.Tie as tie

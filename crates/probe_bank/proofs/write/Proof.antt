@@ -3,7 +3,7 @@ use denote.Ref.{now}
 use lib.Ieee.{binary32, ofBits}
 use lib.IntN.{pos}
 use Rattle.probe_request.proofs.Requests.{lent-places, lent-length, new-few}
-use Rattle.probe_bank.proofs.Answering.{write-lent}
+use Rattle.probe_bank.proofs.Meets.{write-lent}
 use borrow.Author.Needs.{needs}
 use Rattle.probe_bank.proofs.write.Statement.{statement}
 use Rattle.probe_bank.proofs.write.Tie as tie

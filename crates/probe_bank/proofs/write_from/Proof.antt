@@ -1,5 +1,5 @@
 -- `probe_bank::write_from` meets its contract. Assumes nothing.
-use Rattle.probe_bank.proofs.Answering.{written}
+use Rattle.probe_bank.proofs.Meets.{written}
 use borrow.Author.Needs.{needs}
 use Rattle.probe_bank.proofs.write_from.Statement.{statement}
 use Rattle.probe_bank.proofs.write_from.Tie as tie

@@ -6,11 +6,11 @@ use lib.ListN.{length}
 use Rattle.hrtf_rings.specs.State.{State}
 use Rattle.replay.specs.declared.Replayed.{Replayed}
 use Rattle.replay.specs.declared.play.Turned.{Turned}
-use Rattle.replay.specs.Lines.{Recording}
+use Rattle.replay.specs.Recording.{Recording}
 use Rattle.replay.specs.Promise.{refusalIn, Replays}
 use Rattle.replay.specs.Computed.{lineOf, stateWith, Good, Kept, Room, Turns}
 use Rattle.replay.proofs.Judging.{refusal-is, good, kept, room}
-use Rattle.replay.proofs.Answering.{promised-refused, promised-accepted}
+use Rattle.replay.proofs.Meets.{promised-refused, promised-accepted}
 use Rattle.replay.proofs.replay_in.Statement.{statement}
 use Rattle.replay.proofs.replay_in.Tie as tie
 

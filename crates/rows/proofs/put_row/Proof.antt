@@ -20,19 +20,21 @@ loop-holds c = let a = c .args in none-put (now (a .row)) (a .scale) (now (a .we
 loop-again : tie.Need-loop-again Inv-loop μ-loop
 loop-again c =
     let at-loop-test = c .before .before in
-    let at = at-loop-test .before in
-    let start = at .before in
+    let at-loop = at-loop-test .before in
+    let start = at-loop .before in
     let a = start .args in
-    one-put (now (a .row)) (a .scale) (now (a .weights)) (a .at) (at .loop .weights) (at .loop .to) (at .loop .i)
-    (at .loop .inv) nan (at-loop-test .loop-test .taken)
+    one-put (now (a .row)) (a .scale) (now (a .weights)) (a .at) (at-loop .loop .weights) (at-loop .loop .to)
+    (at-loop .loop .i)
+    (at-loop .loop .inv) nan (at-loop-test .loop-test .taken)
 
 loop-again-2 : tie.Need-loop-again-2 Inv-loop μ-loop
 loop-again-2 c =
-    let at = c .before .before .before in
-    let start = at .before in
+    let at-loop = c .before .before .before in
+    let start = at-loop .before in
     let a = start .args in
-    one-left-out (now (a .row)) (a .scale) (now (a .weights)) (a .at) (at .loop .weights) (at .loop .to) (at .loop .i)
-    (at .loop .inv) (c .if1 .left)
+    one-left-out (now (a .row)) (a .scale) (now (a .weights)) (a .at) (at-loop .loop .weights) (at-loop .loop .to)
+    (at-loop .loop .i)
+    (at-loop .loop .inv) (c .if1 .left)
 
 same-length : tie.Need-same-length Inv-loop μ-loop
 same-length c = c .before .loop .inv .size
@@ -40,9 +42,10 @@ same-length c = c .before .loop .inv .size
 returns : tie.Need-returns Inv-loop μ-loop
 returns c =
     let a = c .before .before .args in
-    let at = c .before in
-    all-put (now (a .row)) (a .scale) (now (a .weights)) (a .at) (at .loop .weights) (at .loop .to) (at .loop .i)
-    (at .loop .inv) (c .loop-test .left)
+    let at-loop = c .before in
+    all-put (now (a .row)) (a .scale) (now (a .weights)) (a .at) (at-loop .loop .weights) (at-loop .loop .to)
+    (at-loop .loop .i)
+    (at-loop .loop .inv) (c .loop-test .left)
 
 pub put-row-spec : {M : Type 1} → statement M
 put-row-spec =

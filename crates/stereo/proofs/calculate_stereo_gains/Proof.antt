@@ -15,8 +15,8 @@ returns-2 : tie.Need-returns-2
 unfolding ofBits ofInt
 returns-2 c =
     let at-clamped = c .before .before in
-    let f = at-clamped .before in
-    plays _ _ _ _ (ap not (sym (f .before .is-finite .ensures)) ∙ f .if1 .left) (at-clamped .clamped .ensures)
+    let at-if1 = at-clamped .before in
+    plays _ _ _ _ (ap not (sym (at-if1 .before .is-finite .ensures)) ∙ at-if1 .if1 .left) (at-clamped .clamped .ensures)
     (c .before .cosine .ensures) (c .sine .ensures)
 
 pub calculate-stereo-gains-spec : {M : Type 1} → statement M

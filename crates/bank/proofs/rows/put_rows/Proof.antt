@@ -19,8 +19,8 @@ use Rattle.bank_form.specs.Encoding.{rowBytes}
 use Rattle.bank_form.specs.FitsFields.{IsI16}
 use Rattle.bank_form.proofs.Pairs.{length-pairs, pair-of}
 use Rattle.bank_form.proofs.RoundTrip.{oneRow}
-use Rattle.lists.proofs.Tables.{row-end}
-use Rattle.lists.proofs.ForAll.{each-in}
+use Rattle.lists.proofs.Tables.{chunk-end}
+use Rattle.lists.proofs.ForAll.{forall-in}
 use Rattle.bank.proofs.Fill.{no-rows, rows-more, length-rows}
 use Rattle.bank.proofs.rows.put_rows.Statement.{statement}
 use Rattle.bank.proofs.rows.put_rows.Tie as tie
@@ -73,8 +73,8 @@ put-row-requires c κs =
     let start = turn .before .before .before in
     let args = start .args in
     let inside = at-loop-test .loop-test .taken in
-    let taps = row-end (turn .loop .i) (length (args .azimuths .now)) (2 * args .l) _ inside refl in
-    let bytes = row-end (turn .loop .i) (length (args .azimuths .now)) (rowSize (args .version) (args .l)) _ inside
+    let taps = chunk-end (turn .loop .i) (length (args .azimuths .now)) (2 * args .l) _ inside refl in
+    let bytes = chunk-end (turn .loop .i) (length (args .azimuths .now)) (rowSize (args .version) (args .l)) _ inside
     refl in
     let long = kept turn in
     omega (arith, c .before .tap-at .ensures, at-row-at .row-at .ensures)
@@ -127,8 +127,8 @@ returns c =
       turn .inv .1 ∙ ap (λ (ps : List Pair). placed (args .file .now) 9
           (rowBytes (args .version) ps (args .l) (args .taps .now))) all,
       (
-        each-in IsI16 (pos 0) (args .azimuths .now) (omega arith) (λ j h. turn .inv .2 j (omega arith)),
-        each-in IsI16 (pos 0) (args .elevations .now) (omega arith)
+        forall-in IsI16 (pos 0) (args .azimuths .now) (omega arith) (λ j h. turn .inv .2 j (omega arith)),
+        forall-in IsI16 (pos 0) (args .elevations .now) (omega arith)
             (λ j h. turn .inv .3 j (omega (arith, h, done, start .pre .2))),
       ),
     )

@@ -2,7 +2,7 @@
 use mathlib.Core.Path.{sym, _∙_}
 use native.Mathlib.Omega.{arith}
 use denote.Ref.{now}
-use Rattle.replay.specs.Lines.{recording}
+use Rattle.replay.specs.Recording.{recording}
 use Rattle.replay.proofs.Gathering.{Gathering, leftOf, goes-on-is, gathering-none, gathering-more}
 use Rattle.replay.proofs.Gathering.{gathering-less, gathering-all}
 use Rattle.replay.proofs.gather.gather.Statement.{statement}
@@ -26,9 +26,9 @@ loop-holds c =
 take-one-requires : tie.Need-take-one-requires Inv-loop μ-loop
 take-one-requires c κs =
     let at-goes-on = c .before .before in
-    let at = at-goes-on .before in
-    let start = at .before .before .before .before in
-    let free = goes-on-is (at .loop .so-far) (start .args .frames)
+    let at-loop = at-goes-on .before in
+    let start = at-loop .before .before .before .before in
+    let free = goes-on-is (at-loop .loop .so-far) (start .args .frames)
     (sym (at-goes-on .goes-on .ensures) ∙ c .before .if1 .taken) in
     (free .1 .1, omega (arith, free .1 .0, start .pre .1 .0))
 
@@ -52,8 +52,8 @@ loop-again c =
 
 same-length : tie.Need-same-length Inv-loop μ-loop
 same-length c =
-    let at = c .before .before in
-    omega (arith, at .loop .inv .long, at .before .before .before .before .pre .1 .1)
+    let at-loop = c .before .before in
+    omega (arith, at-loop .loop .inv .long, at-loop .before .before .before .before .pre .1 .1)
 
 returns : tie.Need-returns Inv-loop μ-loop
 returns c =

@@ -22,19 +22,20 @@ loop-again : tie.Need-loop-again Inv-loop μ-loop
 loop-again c =
     let put = c .before .before in
     let read = put .before .before in
-    let at = read .before .before in
-    let a = at .before .before .before .args in
+    let at-loop = read .before .before in
+    let a = at-loop .before .before .before .args in
     sampling-more (now (a .block)) 64 (a .place) (a .channels)
-    (λ k. sampleAt (now (a .inputs)) (a .stride) k (a .frame)) (at .loop .block) (at .loop .p) (at .loop .inv) _
+    (λ k. sampleAt (now (a .inputs)) (a .stride) k (a .frame)) (at-loop .loop .block) (at-loop .loop .p)
+    (at-loop .loop .inv) _
     (put .put-sample .last .0) (read .before .loop-test .taken)
     (read .sample .ensures) (put .put-sample .ensures)
 
 returns : tie.Need-returns Inv-loop μ-loop
 returns c =
-    let at = c .before in
-    let a = at .before .before .before .args in
+    let at-loop = c .before in
+    let a = at-loop .before .before .before .args in
     sampling-all (now (a .block)) 64 (a .place) (a .channels) (λ k. sampleAt (now (a .inputs)) (a .stride) k (a .frame))
-    (at .loop .block) (at .loop .p) (at .loop .inv) (c .loop-test .left)
+    (at-loop .loop .block) (at-loop .loop .p) (at-loop .loop .inv) (c .loop-test .left)
 
 pub put-frame-spec : {M : Type 1} → statement M
 put-frame-spec =

@@ -23,18 +23,20 @@ loop-again : tie.Need-loop-again Inv-loop μ-loop
 unfolding lib.Ieee.ofBits
 loop-again c =
     let put = c .before .before in
-    let at = put .before .before .before in
-    let a = at .before .before .args in
-    sampling-more (now (a .block)) 64 (a .place) (a .channels) (λ k. zero-float) (at .loop .block) (at .loop .p)
-    (at .loop .inv) _ (put .put-sample .last .0) (put .before .before .loop-test .taken) refl
+    let at-loop = put .before .before .before in
+    let a = at-loop .before .before .args in
+    sampling-more (now (a .block)) 64 (a .place) (a .channels) (λ k. zero-float) (at-loop .loop .block)
+    (at-loop .loop .p)
+    (at-loop .loop .inv) _ (put .put-sample .last .0) (put .before .before .loop-test .taken) refl
     (put .put-sample .ensures)
 
 returns : tie.Need-returns Inv-loop μ-loop
 returns c =
-    let at = c .before in
-    let a = at .before .before .args in
-    sampling-all (now (a .block)) 64 (a .place) (a .channels) (λ k. zero-float) (at .loop .block) (at .loop .p)
-    (at .loop .inv) (c .loop-test .left)
+    let at-loop = c .before in
+    let a = at-loop .before .before .args in
+    sampling-all (now (a .block)) 64 (a .place) (a .channels) (λ k. zero-float) (at-loop .loop .block)
+    (at-loop .loop .p)
+    (at-loop .loop .inv) (c .loop-test .left)
     ∙ ap (withFrame (now (a .block)) 64 (a .place)) (tab-constant 0 (a .channels) zero-float)
 
 pub put-silence-spec : {M : Type 1} → statement M

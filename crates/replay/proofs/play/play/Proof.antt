@@ -36,12 +36,12 @@ loop-holds c =
 
 turn-requires : tie.Need-turn-requires Inv-loop μ-loop
 turn-requires c κs =
-    let at = c .before .before .before .before .before .before in
+    let at-loop = c .before .before .before .before .before .before in
     let s = start at in (
       s .pre .0,
       (
-        loop-kept (at .loop .inv) (s .pre .0) (s .pre .1 .0),
-        turns-room (at .loop .inv .turns) (s .pre .1 .1),
+        loop-kept (at-loop .loop .inv) (s .pre .0) (s .pre .1 .0),
+        turns-room (at-loop .loop .inv .turns) (s .pre .1 .1),
       ),
     )
 

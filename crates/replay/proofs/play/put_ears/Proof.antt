@@ -21,17 +21,17 @@ loop-again : tie.Need-loop-again Inv-loop μ-loop
 loop-again c =
     let put = c .before .before in
     let test = put .before .before in
-    let at = test .before in
-    let a = at .before .before .before .args in
+    let at-loop = test .before in
+    let a = at-loop .before .before .before .args in
     earing-more (now (a .ears)) (a .ear-stride) (a .done) (a .count) (frameAt (now (a .block-ears)) 64 2)
-    (at .loop .ears) (at .loop .n) (at .loop .inv) _ (test .loop-test .taken) (put .put-pair .ensures)
+    (at-loop .loop .ears) (at-loop .loop .n) (at-loop .loop .inv) _ (test .loop-test .taken) (put .put-pair .ensures)
 
 returns : tie.Need-returns Inv-loop μ-loop
 returns c =
-    let at = c .before in
-    let a = at .before .before .before .args in
+    let at-loop = c .before in
+    let a = at-loop .before .before .before .args in
     earing-all (now (a .ears)) (a .ear-stride) (a .done) (a .count) (frameAt (now (a .block-ears)) 64 2)
-    (at .loop .ears) (at .loop .n) (at .loop .inv) (c .loop-test .left)
+    (at-loop .loop .ears) (at-loop .loop .n) (at-loop .loop .inv) (c .loop-test .left)
 
 pub put-ears-spec : {M : Type 1} → statement M
 put-ears-spec =

@@ -2,7 +2,7 @@
 use Prim.Native.Nat.{_+_, _≤_}
 use native.Mathlib.Omega.{arith}
 use denote.Ref.{now}
-use Rattle.replay.specs.Lines.{Recording}
+use Rattle.replay.specs.Recording.{Recording}
 use Rattle.replay.specs.Computed.{lineOf}
 use Rattle.replay.proofs.Turning.{turn-room, turn-few, turn-resting, turn-made}
 use Rattle.replay.proofs.play.turn.Statement.{statement}

@@ -19,7 +19,7 @@ use Rattle.stamps.specs.Counts.{outIn, plannedOf}
 use Rattle.stamps.specs.Events.{Event, eventsOf}
 use Rattle.stamps.proofs.Recordings.{feeds-out}
 use Rattle.replay.specs.declared.play.Turned.{Turned}
-use Rattle.replay.specs.Lines.{Recording, setupIn, stampsIn, recordedAt, recordingIn, eventsIn}
+use Rattle.replay.specs.Recording.{Recording, setupIn, stampsIn, recordedAt, recordingIn, eventsIn}
 use Rattle.replay.specs.Heard.{heardBy, unsettledBy, afterBy, afterEvents}
 use Rattle.replay.specs.Promise.{refusalIn, ReplayOutcome, refused, accepted, outcome, stateAfter, Replays}
 use Rattle.replay.specs.Computed.{stateWith, planIn, leftBy, playedBy, countedBy, quiet, startOf, eventsAt, Turns}

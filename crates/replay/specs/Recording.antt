@@ -1,6 +1,6 @@
--- A recorded line as it is lent to one call, with all that stays the same through it; what is recorded there, and what
--- it does (document 02, E5: "The line recorder keeps 5.1 frames, each with a 32-bit stamp"). Definitions only. The
--- stamps are one plane, at the stride of the input planes; the ear planes have a stride of their own.
+-- The recording that one call of `replay` is lent (`Recording`), its stamps and frames, and the events that they make
+-- (document 02, E5: "The line recorder keeps 5.1 frames, each with a 32-bit stamp"). The stamps are one plane,
+-- at the stride of the input planes; the ear planes have a stride of their own. Definitions only.
 use Prim.Native.Nat.{ℕ}
 use mathlib.Core.List.{List}
 use lib.ListN.{getD, take}
