@@ -37,7 +37,7 @@ loop-holds c =
 turn-requires : tie.Need-turn-requires Inv-loop μ-loop
 turn-requires c κs =
     let at-loop = c .before .before .before .before .before .before in
-    let s = start at in (
+    let s = start at-loop in (
       s .pre .0,
       (
         loop-kept (at-loop .loop .inv) (s .pre .0) (s .pre .1 .0),
