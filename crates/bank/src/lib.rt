@@ -202,7 +202,7 @@ fn write_checked(
         × (length taps.now ≡ length azimuths.now * (2 * l))
         × (length file.old ≡ 9 + length azimuths.now * row_size 2 l) × (length made.old ≡ largest_file) }
     ensures { WritePromise (record {
-      azimuths = azimuths.entry.now;
+      azimuths = azimuths.now;
       elevations = elevations.now;
       length = l;
       taps = taps.now;
@@ -255,7 +255,7 @@ pub fn write(
     file: &mut [u8],
 ) -> BankWritten
     ensures { WritePromise (record {
-      azimuths = azimuths.entry.now;
+      azimuths = azimuths.now;
       elevations = elevations.now;
       length = length;
       taps = taps.now;
@@ -329,7 +329,7 @@ fn convert_bank(
         × (length taps.now ≡ length azimuths.now * (2 * l)) }
     ensures { record { answer = result; file = out.new } ≡ converted_bank version
         (record {
-          azimuths = azimuths.entry.now;
+          azimuths = azimuths.now;
           elevations = elevations.now;
           length = l;
           taps = taps.now;

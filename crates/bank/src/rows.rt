@@ -185,7 +185,7 @@ pub(crate) fn put_bank(
     ensures bytes { file.new ≡ placed file.old 0
         (encode version
         (record {
-          azimuths = azimuths.entry.now;
+          azimuths = azimuths.now;
           elevations = elevations.now;
           length = l;
           taps = taps.now;

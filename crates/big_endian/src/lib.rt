@@ -6,6 +6,8 @@
 // input: a field that does not lie inside the list reads as 0, and writing it changes nothing. That reading
 // gives what was written, and writing what was read the same bytes, is shown once over the width. `has_room`
 // is the one test of whether fields lie inside a list.
+#![tactic(auto)]
+
 ghost use Rattle.std.specs.Prelude.{◌≡◌, ◌+◌, ◌*◌, ◌<◌, leb};
 ghost use Rattle.big_endian.specs.Fields.{lies, Field, with_field, signed_at, with_signed, float_at, with_float};
 ghost use Rattle.big_endian.specs.Fields.{double_at, with_double};

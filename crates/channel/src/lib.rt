@@ -8,6 +8,8 @@
 //
 // Every function takes any input, and its answer is a definition of it (specs/Layouts.antt and
 // specs/Orders.antt, which say document 01).
+#![tactic(auto)]
+
 ghost use Rattle.std.specs.Prelude.{◌≡◌, pos, get_or};
 ghost use Rattle.channel.specs.Layouts.{channels_of, layout_channels, surround, low_frequency, speakers, missing};
 ghost use Rattle.channel.specs.Layouts.{degrees_of};

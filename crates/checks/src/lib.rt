@@ -7,6 +7,8 @@
 //
 // Its laws (proofs/Checks.antt) go through a chain of tests one by one, and through a loop that stops at the
 // first that holds.
+#![tactic(auto)]
+
 ghost use Rattle.std.specs.Prelude.{◌≡◌, ◌*◌, min, eqb};
 ghost use Rattle.std.specs.Float.Ieee.Scale.{finite};
 ghost use Rattle.checks.specs.Finite.{has_nonfinite};

@@ -4,3 +4,4 @@
 // conversions, the root and the rounding laws alike (proofs/). And the numbers that the code writes, 0.0 and
 // whole and decimal ones, have their definitions here (specs/). No function stands here. IEEE 754 itself is
 // the kit's (`lib.Ieee`).
+#![tactic(auto)]

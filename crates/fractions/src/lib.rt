@@ -6,3 +6,4 @@
 //
 // Definitions and laws alone: no function stands here. What a reader has to believe are specs/Fraction and
 // specs/Squares; proofs/Worked holds the definitions to closed cases.
+#![tactic(auto)]

@@ -1,7 +1,7 @@
 -- The names of the kit that the crates use, under one roof: a file of a crate that uses `lists` brings in by name what
 -- it needs of them.
 pub use Rattle.std.proofs.Common.{◌∙◌, ap, ap₂, subst, subst₂, sym, inl, inr, ⊎_elim, true≢false, append_assoc, append-nil, add_assoc, add_comm, add-mul, add-sub_of_le, add-suc, add-zero, div-add-mod', div-lt_iff_lt-mul, div-mul-le_self, div-one, eq-or-lt_of_le, eq-zero-or-pos, le-add_left, le-add_right, le_antisymm, le-div_iff_mul-le, le_of_eq, le_of_lt, le_of_mul-le-mul_right, le_of_suc-le-suc, le_refl, le_trans, lt_irrefl, lt_of_le_of_lt, lt_of_lt_of_le, lt_of_mul-lt-mul_right, lt_of_not-le, mod-eq_of_lt, mod-lt, mul-add, mul_assoc, mul_comm, mul-div_cancel, mul-le-mul, mul-le-mul_left, mul-le-mul_right, mul_left_comm, mul-lt-mul_of_pos_right, mul-one, mul-pos, mul_right_comm, mul-suc, mul-zero, ne_of_lt, not-le_of_lt, not-suc-le-zero, one-mul, pow-suc, sub-add_cancel, sub-eq-zero_of_le, sub-le, suc-add, suc-mul, suc-ne-zero, zero-add, zero-lt-suc, zero-mul, add-one, sub-one, arith, drop_of_length-le, length-append, length-drop, length-set, length-take, take-append-drop, drop_at, drop-cons, drop-drop, drop-set-lt, ext_get_or, get_or-append-add, get_or-drop, get_or-set_other, get_or-set_same, get_or-take, length-take-le, take-add, take_all, take_at, take-suc, take-suc-set, take-take, eqb→eq, leb→le, le→leb, lit<, lit≤, ltb→lt, lt→ltb, nltb→le, pow-add, pow_mono, pow_pos, shl_exact, shl_lt, rules, eq-eqb, eqb-true, le-leb, le-ltb, leb-false, leb-true, lt-ltb, ltb-false, ltb-true, ne_eqb}
-pub use Rattle.std.specs.Prelude.{◌≡◌, refl, ◌⊎◌, Bool, ◌&&◌, ◌||◌, cond, false, not, true, List, [], ◌++◌, ◌∷◌, map, reverse, drop, get_or, length, replicate, set, take, T, eqb, leb, ltb, ◌*ℤ◌, ◌-ℤ◌, nat_abs, negsuc, neg_ℤ, pos, ℤ, Float}
+pub use Rattle.std.specs.Prelude.{◌≡◌, ◌≢◌, refl, ◌⊎◌, Bool, ◌&&◌, ◌||◌, cond, false, not, true, List, [], ◌++◌, ◌∷◌, map, reverse, drop, get_or, length, replicate, set, take, T, eqb, leb, ltb, ◌*ℤ◌, ◌-ℤ◌, nat_abs, negsuc, neg_ℤ, pos, ℤ, Float}
 pub use Rattle.std.proofs.Math.Path.{fun_ext}
 pub use Rattle.std.proofs.Math.Logic.{⊎_map}
 pub use Rattle.std.specs.Bool.{beq as bool_beq}

@@ -48,6 +48,7 @@ whole_root_law n = root_in_law (size n) n
     (le_trans (grow (2 ^ size n) (pow_pos (size n))) (le_of_eq (sym (four_square (size n))))))
   where
     grow : (p : ℕ) → 0 < p → p ≤ p * p
+    grow zero h = elim h [ ]
     grow (suc p) h = omega (arith, suc-mul p (suc p))
 
 root_le : (a b r s : ℕ) → a ≤ b → WholeRoot a r → WholeRoot b s → r ≤ s

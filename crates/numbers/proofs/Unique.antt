@@ -12,21 +12,25 @@ use Rattle.numbers.specs.Promise.{RootWords}
 use Rattle.numbers.specs.declared.Rooted.{Rooted}
 use Rattle.numbers.proofs.Narrows.{narrows_only}
 use Rattle.numbers.proofs.Middle.{root_only}
-use Rattle.numbers.proofs.widen
-use Rattle.numbers.proofs.narrow
-use Rattle.numbers.proofs.root
-use Rattle.numbers.proofs.inverse_root
+use Rattle.numbers.specs.contracts.widen as widen
+use Rattle.numbers.proofs.widen.Reads as widen_reads
+use Rattle.numbers.specs.contracts.narrow as narrow
+use Rattle.numbers.proofs.narrow.Reads as narrow_reads
+use Rattle.numbers.specs.contracts.root as root
+use Rattle.numbers.proofs.root.Reads as root_reads
+use Rattle.numbers.specs.contracts.inverse_root as inverse_root
+use Rattle.numbers.proofs.inverse_root.Reads as inverse_root_reads
 
-pub widen_unique : AllowsOneAnswer widen.ended widen.Reads.Learnt
+pub widen_unique : AllowsOneAnswer widen.ended widen_reads.Learnt
 widen_unique κs a = determined_by (λ z h i. (h.bits i, _))
 
-pub narrow_unique : AllowsOneAnswer narrow.ended narrow.Reads.Learnt
+pub narrow_unique : AllowsOneAnswer narrow.ended narrow_reads.Learnt
 narrow_unique κs a = determined_by (λ z h i. (h.bits i, _))
 
-pub root_unique : AllowsOneAnswer root.ended root.Reads.Learnt
+pub root_unique : AllowsOneAnswer root.ended root_reads.Learnt
 root_unique κs a = determined_by (λ z h i. (h.bits i, _))
 
-inverse_root_unique : AllowsOneAnswer inverse_root.ended inverse_root.Reads.Learnt
+inverse_root_unique : AllowsOneAnswer inverse_root.ended inverse_root_reads.Learnt
 inverse_root_unique κs a = determined_by (λ z h i. (h.bits i, _))
 
 -- ---- by document 01's words alone

@@ -5,6 +5,8 @@
 // `root` takes an f64 to the f64 nearest its exact root, or refuses it with 10. `inverse_root` takes a count
 // to 1.0 over its root, by which the decoder matrix, the binaural rows and the convolver scale. Each promises
 // its answer by an equation and, beside it, what document 01 says of it: see specs/Promise.antt.
+#![tactic(auto)]
+
 ghost use Rattle.std.specs.Prelude.{◌≡◌, ◌+◌, ◌*◌, ◌^◌, ◌<◌, ◌≤◌, Bool, not, T, if◌then◌else◌, from_bits, to_bits};
 ghost use Rattle.std.specs.Float.{binary32, binary64};
 ghost use Rattle.std.specs.Float.Ieee.{top, of_fields, nan_bits};

@@ -5,6 +5,8 @@
 // frame's samples times weights, narrowed; and the words for what a refused and an accepted block give back.
 // Panner, decoder and convolver are made of these. Every public function takes any input and promises its
 // answer by an equation: what lies outside a list reads as NaN, and writing there changes nothing.
+#![tactic(auto)]
+
 ghost use Rattle.std.specs.Prelude.{◌≡◌, ◌+◌, ◌*◌, ◌≤◌, min, length, get_or};
 ghost use Rattle.std.specs.Float.{nan};
 ghost use Rattle.planes.specs.Planes.{sample_at, frame_at, with_sample, FramePut};

@@ -4,6 +4,8 @@
 // Which number is given is a definition that every promise cites, with the laws by which a proof goes through
 // the tests. Each operation makes its own tests, in the order that its list names; the tests of a range,
 // which nearly all of them make, stand here, take any numbers and promise their answer by an equation.
+#![tactic(auto)]
+
 ghost use Rattle.std.specs.Prelude.{◌≡◌};
 ghost use Rattle.refusals.specs.Ranges.{within, between};
 ghost use Rattle.refusals.specs.Refusals.{outside};

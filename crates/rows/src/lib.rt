@@ -6,6 +6,8 @@
 //
 // It takes any input and promises the list by an equation (specs/Rows.antt): what falls behind the end of the
 // list is left out.
+#![tactic(auto)]
+
 ghost use Rattle.std.specs.Prelude.{◌≡◌};
 ghost use Rattle.std.proofs.lemmas.List.Edits.{sets};
 ghost use Rattle.rows.specs.Rows.{scaled};

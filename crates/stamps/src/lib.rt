@@ -7,6 +7,8 @@
 //
 // The definitions over the recorded list (specs/Arrivals, specs/Counts, specs/Events) have no wrapping function in
 // them. Every public function takes any input.
+#![tactic(auto)]
+
 ghost use Rattle.std.specs.Prelude.{◌≡◌, ◌-◌, ◌^◌, ◌<◌, ◌≤◌};
 ghost use Rattle.stamps.specs.Arrivals.{following, coming_by, Comes, then_of, skipped_of};
 ghost use Rattle.stamps.specs.Counts.{unplanned_of, plan_of, silent_one};
