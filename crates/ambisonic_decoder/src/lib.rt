@@ -7,20 +7,22 @@
 // `process` takes any input. Its promise (specs/Promise.antt) is one equation for the refusal, the sample
 // count and the output planes: frame n of the outputs holds document 01's ordered sum of frame n of the
 // inputs, for each output, narrowed.
+#![tactic(auto)]
+
 ghost use Rattle.std.specs.Prelude.{◌≡◌, ◌≤◌};
 ghost use Rattle.planes.specs.Planes.{with_frames};
 ghost use Rattle.ambisonic_decoder.specs.Blocks.{decoder_unfit, refusal_of, decoded};
 ghost use Rattle.ambisonic_decoder.specs.Promise.{DecoderPromise};
 
 // The refusal, and how many frames were played.
-#[derive(Drop)]
+#[derive(Clone, Copy)]
 pub struct Decoded {
     pub refusal: u8,
     pub samples: usize,
 }
 
 // How many of each there are: outputs, channels, frames, and places in a plane.
-#[derive(Drop)]
+#[derive(Clone, Copy)]
 struct DecoderShape {
     outputs: usize,
     channels: usize,

@@ -2,15 +2,18 @@
 -- leaves none. Assumes nothing.
 use Rattle.lists.specs.OneAnswer.{AllowsOneAnswer}
 use Rattle.lists.proofs.Determined.{determined_by}
-use Rattle.angles.proofs.is_inside
-use Rattle.angles.proofs.sine
-use Rattle.angles.proofs.cosine
+use Rattle.angles.specs.contracts.is_inside as is_inside
+use Rattle.angles.proofs.is_inside.Reads as is_inside_reads
+use Rattle.angles.specs.contracts.sine as sine
+use Rattle.angles.proofs.sine.Reads as sine_reads
+use Rattle.angles.specs.contracts.cosine as cosine
+use Rattle.angles.proofs.cosine.Reads as cosine_reads
 
-is_inside_unique : AllowsOneAnswer is_inside.ended is_inside.Reads.Learnt
+is_inside_unique : AllowsOneAnswer is_inside.ended is_inside_reads.Learnt
 is_inside_unique κs a = determined_by (λ z h i. (h i, _))
 
-pub sine_unique : AllowsOneAnswer sine.ended sine.Reads.Learnt
+pub sine_unique : AllowsOneAnswer sine.ended sine_reads.Learnt
 sine_unique κs a = determined_by (λ z h i. (h.bits i, _))
 
-pub cosine_unique : AllowsOneAnswer cosine.ended cosine.Reads.Learnt
+pub cosine_unique : AllowsOneAnswer cosine.ended cosine_reads.Learnt
 cosine_unique κs a = determined_by (λ z h i. (h.bits i, _))

@@ -22,6 +22,8 @@
 //   the angle cut to a unit: 2^-54, and 2^-53 for crossing 180          192      192
 //   the sum in place of the exact value, at a multiple of 90: 2^-54      64       64
 //   together                                                            631      597
+#![tactic(auto)]
+
 ghost use Rattle.std.specs.Prelude.{◌≡◌, ◌-◌, ◌*◌, ◌^◌, ◌<◌, ◌≤◌, T};
 ghost use Rattle.angles.specs.Computed as Computed;
 ghost use Rattle.angles.specs.Limits as Limits;
@@ -30,7 +32,7 @@ ghost use Rattle.angles.specs.Promise as Said;
 ghost use Rattle.series.specs.Sums as Sums;
 
 // Refusal 3, or 0 and the value.
-#[derive(Drop)]
+#[derive(Clone, Copy)]
 pub struct Answer {
     pub refusal: u8,
     pub value: f64,
@@ -167,7 +169,7 @@ fn cosine_at(a: u64) -> f64
 }
 
 // Which of the two.
-#[derive(Drop)]
+#[derive(Clone, Copy)]
 enum Wave {
     Sine,
     Cosine,

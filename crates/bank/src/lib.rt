@@ -9,6 +9,8 @@
 // 1 as those that `to_version_2` makes. `read_start` is for a file of which a caller keeps the start alone,
 // because it is longer than any bank. `to_version_2` and `to_version_1` fill a lent output with the same bank in
 // the other version, the second only where every elevation is 0, and exactly then.
+#![tactic(auto)]
+
 ghost use Rattle.std.specs.Prelude.{◌≡◌, ◌&&◌, eqb, ◌+◌, ◌*◌, ◌^◌, ◌<◌, ◌≤◌, length, take};
 ghost use Rattle.bank_form.specs.Version.{row_size, largest_file};
 ghost use Rattle.bank_form.specs.Fault.{rows_in_of, length_in, bank_in, raised_from};
@@ -25,7 +27,7 @@ mod rows;
 
 // What reading answers: a refusal, with the offset of the field that is wrong (of 19, the file's size), or 0 with the
 // rows and L.
-#[derive(Drop)]
+#[derive(Clone, Copy)]
 pub struct BankRead {
     pub refusal: u8,
     pub offset: usize,
@@ -35,7 +37,7 @@ pub struct BankRead {
 
 // What writing and both conversions answer: a refusal, with the offset at which the field that is wrong stands or
 // would stand, or 0 with the bytes of the file.
-#[derive(Drop)]
+#[derive(Clone, Copy)]
 pub struct BankWritten {
     pub refusal: u8,
     pub offset: usize,

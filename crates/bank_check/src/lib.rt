@@ -6,6 +6,8 @@
 // none exactly if the bytes are those of a bank that keeps the form. `check_start` has the start of a file and
 // its size: as many bytes as the largest bank has, and the size, tell the fault of every file they were taken
 // from. `check_version` is for a file that has to be of one version, before it is turned into the other.
+#![tactic(auto)]
+
 ghost use Rattle.std.specs.Prelude.{◌≡◌, not, ◌+◌, ◌-◌, ◌*◌, ◌≤◌};
 ghost use Rattle.bank_form.specs.Bank.{differ};
 ghost use Rattle.bank_form.specs.Version.{largest_file, largest_row};

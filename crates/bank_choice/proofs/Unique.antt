@@ -6,9 +6,10 @@ use Rattle.bank_choice.specs.declared.Choice.{Choice}
 use Rattle.bank_choice.specs.Choice.{ChoicePromise}
 use Rattle.bank_choice.specs.Nearest.{Takes}
 use Rattle.bank_choice.proofs.Takes.{takes_one}
-use Rattle.bank_choice.proofs.nearest_row
+use Rattle.bank_choice.specs.contracts.nearest_row as nearest_row
+use Rattle.bank_choice.proofs.nearest_row.Reads as nearest_row_reads
 
-pub nearest_row_unique : AllowsOneAnswer nearest_row.ended nearest_row.Reads.Learnt
+pub nearest_row_unique : AllowsOneAnswer nearest_row.ended nearest_row_reads.Learnt
 nearest_row_unique κs a = determined_by (λ z h i. (h.bits i, _))
 
 -- by the documents' words alone

@@ -4,13 +4,15 @@
 // It takes any input. Its promise: the row is among the first rows, none of them is nearer to the speaker,
 // and each that comes before it is farther; where there is no such row to be had, the number of the refusal
 // and row 0. A row is nearer if its elevation is, or if that is as near and the shorter way round is less.
+#![tactic(auto)]
+
 ghost use Rattle.std.specs.Prelude.{◌≡◌, ◌-◌, ◌<◌, ◌≤◌, ◌%◌, min, nat_abs, ◌-ℤ◌, length};
 ghost use Rattle.bank_choice.specs.Nearest.{angle_apart};
 ghost use Rattle.bank_choice.specs.Choice.{ChoicePromise};
 ghost use Rattle.bank_choice.specs.Computed.{turned_up, key, nearer, nearest_from};
 
 // What a choice answers: a refusal, or 0 with the row.
-#[derive(Drop)]
+#[derive(Clone, Copy)]
 pub struct Choice {
     pub refusal: u8,
     pub row: usize,

@@ -10,12 +10,14 @@
 // is read and written the same bytes (proofs/RoundTrip.antt), that the walk finds nothing exactly if the
 // bytes are those of a bank that keeps the form (proofs/Exact.antt), and what the first fault depends on
 // (specs/FaultLaws.antt).
+#![tactic(auto)]
+
 ghost use Rattle.std.specs.Prelude.{◌≡◌, ◌≤◌, min};
 ghost use Rattle.bank_form.specs.Version.{elevation_size, elevation_at, row_size, largest_row};
 
 // The first field that breaks the form: the number that tells which, and the offset of its first byte; of 19, the
 // file's size. Both are 0 where none does.
-#[derive(Drop)]
+#[derive(Clone, Copy)]
 pub struct Fault {
     pub refusal: u8,
     pub offset: usize,

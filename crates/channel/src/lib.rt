@@ -16,7 +16,7 @@ ghost use Rattle.channel.specs.Layouts.{degrees_of};
 ghost use Rattle.channel.specs.Layouts.{azimuth_answer, tenths_answer, position_azimuth_answer, position_tenths_answer};
 ghost use Rattle.channel.specs.Orders.{refuses_order, counted_order};
 
-#[derive(Drop)]
+#[derive(Clone, Copy)]
 pub enum Layout {
     Mono,
     Stereo,
@@ -25,7 +25,7 @@ pub enum Layout {
     Custom(usize),
 }
 
-#[derive(Drop)]
+#[derive(Clone, Copy)]
 pub struct Counted {
     pub refusal: u8,
     pub channels: usize,
@@ -118,21 +118,21 @@ const SURROUND_71: [i32; 8] = [30, -30, 0, 0, 90, -90, 150, -150];
 const POSITIONS: [i32; 8] = [0, 45, 90, 135, 180, -135, -90, -45];
 
 // Where a speaker stands, in degrees; or refusal 2 and 0.0, where none stands in the table.
-#[derive(Drop)]
+#[derive(Clone, Copy)]
 pub struct Angle {
     pub refusal: u8,
     pub degrees: f64,
 }
 
 // The same in whole tenths of a degree.
-#[derive(Drop)]
+#[derive(Clone, Copy)]
 pub struct Tenths {
     pub refusal: u8,
     pub tenths: i32,
 }
 
 // An entry of a table, in whole degrees; or refusal 2 and 0, beyond its end.
-#[derive(Drop)]
+#[derive(Clone, Copy)]
 struct Entry {
     refusal: u8,
     degrees: i32,

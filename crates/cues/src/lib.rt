@@ -10,13 +10,15 @@
 //
 // `cue_at` alone reads the list. It, `judged` and `holding` hold a list of structs, and each is proved by a
 // walk of its code; what they compute is in the functions that they call.
+#![tactic(auto)]
+
 ghost use Rattle.std.specs.Prelude.{◌≡◌, ◌+◌, ◌^◌, ◌≤◌, ◌<◌, length, get_or};
 ghost use Rattle.cues.specs.Cues.{nowhere};
 ghost use Rattle.cues.specs.Computed.{rises_on, good_on, judged_on, whole_of, halved_of, left_of, held_of};
 ghost use Rattle.cues.specs.Promise.{judgement_of, FindPromise};
 
 // Where the voice is from a frame on.
-#[derive(Drop)]
+#[derive(Clone, Copy)]
 pub struct Cue {
     pub frame: u64,
     pub direction: harmonics::Direction,
@@ -32,7 +34,7 @@ fn cue_at(cues: &[Cue], i: usize) -> Cue
 
 // How many cues were judged, the frame of the last one, whether their frames rise strictly, and whether all
 // their directions are good ones. It is also what the judging goes on from, cue by cue.
-#[derive(Drop)]
+#[derive(Clone, Copy)]
 pub struct Judgement {
     pub seen: usize,
     pub last: u64,
@@ -97,7 +99,7 @@ pub fn judged(cues: &[Cue]) -> Judgement
 
 // The part of the list that is still searched and its middle, the direction of the cue before the part, and
 // the frame of the cue behind it, the largest there is where no cue stands behind it.
-#[derive(Drop)]
+#[derive(Clone, Copy)]
 struct Search {
     lo: usize,
     mid: usize,
@@ -152,7 +154,7 @@ fn halved(s: Search, cue: Cue, frame: u64) -> Search
 }
 
 // Whether a cue holds at a frame, its direction, and for how many frames from this one on nothing changes.
-#[derive(Drop)]
+#[derive(Clone, Copy)]
 pub struct Held {
     pub speaks: bool,
     pub direction: harmonics::Direction,

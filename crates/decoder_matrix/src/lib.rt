@@ -8,6 +8,8 @@
 // and the list, and beside it says of each weight that it is within 2^-33 of document 01's formula, by
 // squares. It comes from a harmonic within 2^-42, one root, one division and one product, 2^-53 each; with
 // 2^-41 for 2^-33 the same proof passes, and with 2^-42 it fails.
+#![tactic(auto)]
+
 ghost use Rattle.std.specs.Prelude.{◌≡◌, ◌≤◌, take};
 ghost use Rattle.std.proofs.lemmas.List.Edits.{sets};
 ghost use Rattle.rows.specs.Rows.{scaled};

@@ -11,6 +11,8 @@
 // `place` says what a record is played to, and its promise is one equation for all of it (specs/Records.antt). Of
 // what is read and written no contract can say anything, so the rest is proved safe and ending, and what the
 // program writes is compared.
+#![tactic(auto)]
+
 ghost use Rattle.std.specs.Prelude.{◌≡◌};
 ghost use mathlib.Core.List.{flat_map};
 ghost use Rattle.big_endian.specs.Lists.{float_bytes};
@@ -79,7 +81,7 @@ fn line_of(planes: &[f32]) -> [u8; LINE_BYTES]
 }
 
 // What a record is played to: the frames, or the refusal and no sound.
-#[derive(Drop)]
+#[derive(Clone, Copy)]
 struct Placed {
     refusal: u8,
     line: [u8; LINE_BYTES],

@@ -5,3 +5,4 @@
 // words and order, items 5 and 11 as document 02 changes them, over the definitions that the promises are
 // made of, and beside most of them what the program hands back; proofs/Table.antt shows them all. Everything
 // else is run and compared (tests/compare).
+#![tactic(auto)]

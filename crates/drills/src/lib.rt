@@ -13,3 +13,4 @@
 //
 // No function stands here. The statements are in specs/Demand.antt (`DrillDemand3`) and specs/Playing.antt
 // (`DrillPlays`), their proofs in proofs/.
+#![tactic(auto)]

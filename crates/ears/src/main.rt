@@ -4,6 +4,8 @@
 // It reads `bank.bin` and 5.1 frames on standard input, and writes `ears.raw`. With three arguments it takes
 // the names of the bank, of the line and of the output instead. `ears_file` does the work. The program
 // promises nothing of its own beyond being safe and ending.
+#![tactic(auto)]
+
 use ears_file::RunOutcome;
 use libc::{STDERR_FILENO, STDIN_FILENO, STDOUT_FILENO};
 

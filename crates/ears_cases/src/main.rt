@@ -5,6 +5,8 @@
 // The cases are played by file names. The banks and the lines are in data/, written by tests/ears-cases from
 // a model of its own; what is printed is compared with the file `stdout`. `ears_file` plays. The program
 // promises nothing of its own beyond being safe and ending.
+#![tactic(auto)]
+
 use libc::STDOUT_FILENO;
 
 // No run of the tests reads more at once.

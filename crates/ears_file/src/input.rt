@@ -13,7 +13,7 @@ use crate::{Ended, RunOutcome};
 use hrtf_checks::ConvolverShape;
 
 // What a step answers: whether the line is over, whether the system failed, and the turn.
-#[derive(Drop)]
+#[derive(Clone, Copy)]
 struct Stepped {
     over: bool,
     failed: bool,

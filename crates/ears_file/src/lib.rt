@@ -8,6 +8,8 @@
 // parts of any size: a buffer of fixed size holds what has come of a frame that is not whole yet. No contract
 // can name what is read or written. `run` promises that its answer is the one that item 10 gives for some
 // bank and some line, whatever the system hands over; a bank that keeps the form is refused nowhere.
+#![tactic(auto)]
+
 ghost use Rattle.std.specs.Prelude.{◌≡◌, true, false, List, Float, pos, replicate};
 ghost use Rattle.io.specs.Counts.{IsPrefixLen};
 ghost use Rattle.bank.specs.Reading.{bank_found};
@@ -24,7 +26,7 @@ mod input;
 mod turn;
 
 // How a run ended: refused, with the byte of the bank that is wrong, or 0 with the counts.
-#[derive(Drop)]
+#[derive(Clone, Copy)]
 pub struct Ended {
     pub refusal: u8,
     pub place: u64,
@@ -33,7 +35,7 @@ pub struct Ended {
 }
 
 // What a run answers: whether the system failed, and how it ended otherwise.
-#[derive(Drop)]
+#[derive(Clone, Copy)]
 pub struct RunOutcome {
     pub failed: bool,
     pub ended: Ended,

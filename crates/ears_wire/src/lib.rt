@@ -9,6 +9,8 @@
 // it fills, over the definitions of specs/. Planes and lists that have no room for every frame are refused
 // with 5, so that no sample is lost. That the records in a list of bytes are those of its two parts, wherever
 // it is cut, is a law over the record's size and over what it says (proofs/Cut.antt).
+#![tactic(auto)]
+
 ghost use Rattle.std.specs.Prelude.{◌≡◌, ◌+◌, ◌*◌, ◌≤◌, length};
 ghost use Rattle.lists.specs.Placed.{placed};
 ghost use Rattle.big_endian.specs.Lists.{float_bytes};
@@ -30,14 +32,14 @@ const FRAME: usize = 24;
 const EARS: usize = 8;
 
 // What taking frames answers: a refusal, or 0 and how many frames there are.
-#[derive(Drop)]
+#[derive(Clone, Copy)]
 pub struct Taken {
     pub refusal: u8,
     pub frames: usize,
 }
 
 // What giving ears answers: a refusal, or 0 and how many bytes they have.
-#[derive(Drop)]
+#[derive(Clone, Copy)]
 pub struct Given {
     pub refusal: u8,
     pub bytes: usize,

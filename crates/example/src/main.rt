@@ -1,5 +1,7 @@
 // Shows how the library is called: a voice at the left becomes the four planes of ambisonic order 1.
 // `place` promises what the panner promises of such a block: the refusal, the count and every sample.
+#![tactic(auto)]
+
 ghost use Rattle.panner.specs.Promise.{PannerPromise};
 
 use channel::Layout;

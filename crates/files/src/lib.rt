@@ -5,6 +5,8 @@
 // before them stay, and `read_bank` that its answer is what `bank::read` promises for the bytes of some
 // file. A file that is longer than any bank is judged whole all the same: its first bytes are kept, the rest
 // is counted, and `bank::read_start` tells what is wrong with it.
+#![tactic(auto)]
+
 ghost use Rattle.std.specs.Prelude.{◌≡◌, true, ◌+◌, ◌^◌, ◌≤◌, ◌<◌, max, pos, length};
 ghost use Rattle.io.specs.Counts.{IsPrefixLen};
 ghost use Rattle.bank_form.specs.Version.{largest_file};
@@ -16,7 +18,7 @@ use bank_form::LARGEST;
 use libc::STDERR_FILENO;
 
 // Whether a read failed, and how many bytes now stand in the buffer. One that failed has added none.
-#[derive(Drop)]
+#[derive(Clone, Copy)]
 pub struct Got {
     pub failed: bool,
     pub size: usize,

@@ -2,15 +2,18 @@
 -- leaves none. Assumes nothing.
 use Rattle.lists.specs.OneAnswer.{AllowsOneAnswer}
 use Rattle.lists.proofs.Determined.{determined_by}
-use Rattle.harmonics.proofs.refuses_azimuth
-use Rattle.harmonics.proofs.refuses_direction
-use Rattle.harmonics.proofs.compute_sh_coefficients
+use Rattle.harmonics.specs.contracts.refuses_azimuth as refuses_azimuth
+use Rattle.harmonics.proofs.refuses_azimuth.Reads as refuses_azimuth_reads
+use Rattle.harmonics.specs.contracts.refuses_direction as refuses_direction
+use Rattle.harmonics.proofs.refuses_direction.Reads as refuses_direction_reads
+use Rattle.harmonics.specs.contracts.compute_sh_coefficients as compute_sh_coefficients
+use Rattle.harmonics.proofs.compute_sh_coefficients.Reads as compute_sh_coefficients_reads
 
-pub refuses_azimuth_unique : AllowsOneAnswer refuses_azimuth.ended refuses_azimuth.Reads.Learnt
+pub refuses_azimuth_unique : AllowsOneAnswer refuses_azimuth.ended refuses_azimuth_reads.Learnt
 refuses_azimuth_unique κs a = determined_by (λ z h i. (h i, _))
 
-pub refuses_direction_unique : AllowsOneAnswer refuses_direction.ended refuses_direction.Reads.Learnt
+pub refuses_direction_unique : AllowsOneAnswer refuses_direction.ended refuses_direction_reads.Learnt
 refuses_direction_unique κs a = determined_by (λ z h i. (h i, _))
 
-pub compute_sh_coefficients_unique : AllowsOneAnswer compute_sh_coefficients.ended compute_sh_coefficients.Reads.Learnt
+pub compute_sh_coefficients_unique : AllowsOneAnswer compute_sh_coefficients.ended compute_sh_coefficients_reads.Learnt
 compute_sh_coefficients_unique κs a = determined_by (λ z h i. (h.bits i, _))

@@ -21,26 +21,28 @@
 //   channels 4, 5, 7, 8                                        58
 //   channels 9, 15                                            105
 //   channels 10, 14                                           131
+#![tactic(auto)]
+
 ghost use Rattle.std.specs.Prelude.{◌≡◌};
 ghost use Rattle.harmonics.specs.Computed as Computed;
 ghost use Rattle.harmonics.specs.Promise as Said;
 
 // Where a sound comes from, in degrees: azimuth 0 is the front and 90 the left, elevation 90 is above.
-#[derive(Drop)]
+#[derive(Clone, Copy)]
 pub struct Direction {
     pub azimuth: f64,
     pub elevation: f64,
 }
 
 // Refusal 1 or 3, or 0 and the coefficients.
-#[derive(Drop)]
+#[derive(Clone, Copy)]
 pub struct Coefficients {
     pub refusal: u8,
     pub gains: [f64; 16],
 }
 
 // The sines and cosines that the coefficients are made of.
-#[derive(Drop)]
+#[derive(Clone, Copy)]
 struct Waves {
     cos_el: f64,
     sin_el: f64,

@@ -43,7 +43,7 @@ pub(crate) fn scale(shape: ConvolverShape) -> Scaled
 }
 
 // The two samples of a frame.
-#[derive(Drop)]
+#[derive(Clone, Copy)]
 struct EarSamples {
     left: f32,
     right: f32,

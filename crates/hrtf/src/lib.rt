@@ -10,6 +10,8 @@
 // newest first, followed by those that were held; the rings left hold the newest L of these. What stands for
 // a past before the block stands for that past with the block's frames after it; what `reset` leaves stands
 // for none. Demand 3, over runs of many calls, is stated and shown in `hrtf_runs`.
+#![tactic(auto)]
+
 ghost use Rattle.std.specs.Prelude.{◌≡◌};
 ghost use lib.ListN.{replicate};
 ghost use Rattle.formats.specs.Floats.{zero_float};
@@ -23,7 +25,7 @@ mod frames;
 mod parts;
 
 // What a block answers: a refusal, or 0 with the frames played, how many of them are unsettled, and the desk.
-#[derive(Drop)]
+#[derive(Clone, Copy)]
 pub struct BlockAnswer {
     pub refusal: u8,
     pub samples: usize,
@@ -32,7 +34,7 @@ pub struct BlockAnswer {
 }
 
 // What a reset answers: a refusal and the desk given in, or 0 and a desk of zeros.
-#[derive(Drop)]
+#[derive(Clone, Copy)]
 pub struct Rested {
     pub refusal: u8,
     pub desk: Desk,

@@ -4,6 +4,8 @@
 // These are the numbers whose argument `hrtf::process` has. Each test is a function of its own, in document
 // 01's words; `refusal` gives the number of the first that holds, and 0 where none does. It takes any input,
 // and promises the number by an equation.
+#![tactic(auto)]
+
 ghost use Rattle.std.specs.Prelude.{◌≡◌, ◌≤◌};
 ghost use Rattle.hrtf_checks.specs.Refusals.{row_missing, misshapen, convolver_unfit, desk_out_of_range, refusal_of};
 
@@ -11,7 +13,7 @@ use hrtf_desk::Desk;
 
 // What stays the same from frame to frame: how many channels and speakers there are, how many rows the
 // bank has, and the length L of its filters.
-#[derive(Drop)]
+#[derive(Clone, Copy)]
 pub struct ConvolverShape {
     pub channels: usize,
     pub speakers: usize,

@@ -6,10 +6,12 @@
 // leaves L-1 frames to go. `stepped` is the form by value, and `step` changes a lent record where it stands:
 // the convolver's block lends it its own after each frame. They take any record, and promise the record one
 // frame on by an equation.
+#![tactic(auto)]
+
 ghost use Rattle.std.specs.Prelude.{◌≡◌, ◌<◌};
 ghost use Rattle.hrtf_desk.specs.Numbers.{to_go_next, stepped_of};
 
-#[derive(Drop)]
+#[derive(Clone, Copy)]
 pub struct Desk {
     pub position: usize,
     pub to_go: usize,

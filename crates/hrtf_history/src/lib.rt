@@ -5,3 +5,4 @@
 // function: the definitions (specs/) are what `hrtf` promises and what demand 3 is stated over, and the laws
 // (proofs/) say that an ear hears the last L frames and nothing else, that silence before the first frame is
 // silence like any other, and that frames may be taken in any number of pieces.
+#![tactic(auto)]

@@ -10,6 +10,8 @@
 // Whatever stands in the rings is the signals of the last L frames (specs/Held.antt). The laws (proofs/) say,
 // of every state: what frames give is document 01's sums over their signals and those that were held, and
 // what they leave holds the newest L of these.
+#![tactic(auto)]
+
 ghost use Rattle.std.specs.Prelude.{◌≡◌, suc, min, reverse};
 ghost use Rattle.formats.specs.Floats.{zero_float};
 ghost use Rattle.planes.specs.Sums.{dot};

@@ -13,3 +13,4 @@
 //
 // No function stands here. The statements are in specs/Demand.antt (`Demand3`) and specs/NeverRefused.antt,
 // their proofs in proofs/.
+#![tactic(auto)]

@@ -9,6 +9,8 @@
 // Both take any input. Their promises (specs/Promise.antt) are one equation for the answer and both lists,
 // and beside it: each speaker's row is the one that documents 01 and 02 name, each weight is its speaker's for
 // its channel, and a weighted coefficient is within 2^-34 of its formula.
+#![tactic(auto)]
+
 ghost use Rattle.std.specs.Prelude.{◌≡◌, ◌*◌, ◌/◌, ◌%◌, ◌≤◌, ◌<◌, length, get_or};
 ghost use Rattle.std.specs.Float.{nan};
 ghost use Rattle.lists.specs.Tables.{tab};
@@ -20,7 +22,7 @@ ghost use Rattle.hrtf_setup.specs.Promise.{NewSurroundPromise, NewAmbisonicPromi
 use channel::Layout;
 
 // What a set-up answers: a refusal, or 0 with the number of speakers and of channels.
-#[derive(Drop)]
+#[derive(Clone, Copy)]
 pub struct Arranged {
     pub refusal: u8,
     pub speakers: usize,
@@ -28,7 +30,7 @@ pub struct Arranged {
 }
 
 // Whose speakers: those of a layout, or the eight virtual ones of an order.
-#[derive(Drop)]
+#[derive(Clone, Copy)]
 enum Speakers {
     Of(Layout),
     Virtual(usize),

@@ -7,3 +7,4 @@
 // that are put in one after the other are one part, what a loop that fills a list or goes through a table has
 // done so far, what is chosen by a test, and that a promise which is an equation has one answer. No function
 // stands here.
+#![tactic(auto)]

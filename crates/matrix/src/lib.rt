@@ -9,6 +9,8 @@
 //
 // It takes any input; its promise (specs/Promise.antt) is one equation for the refusal and the list. That the
 // ears swap is specs/Ears.antt.
+#![tactic(auto)]
+
 ghost use Rattle.std.specs.Prelude.{◌≡◌};
 ghost use Rattle.matrix.specs.Promise.{BinauralRowsPromise};
 ghost use Rattle.matrix.specs.Computed.{rows_put};

@@ -12,3 +12,4 @@
 // tests/mirror; docs/ACCURACY.md has the table.
 //
 // No function stands here. The statements are in specs/, their proofs in proofs/.
+#![tactic(auto)]

@@ -93,14 +93,14 @@ pub fn narrow(x: f64) -> f32
     }
 }
 
-#[derive(Drop)]
+#[derive(Clone, Copy)]
 pub struct Rooted {
     pub refusal: u8,
     pub value: f64,
 }
 
 // A number digits * 4^half, its digits being 53 or 54 binary ones.
-#[derive(Drop)]
+#[derive(Clone, Copy)]
 struct Parts {
     pub digits: u64,
     pub half: u64,
@@ -181,7 +181,7 @@ pub fn root(x: f64) -> Rooted
 }
 
 // 1.0 over the root of n; or refusal 2 and 0.0.
-#[derive(Drop)]
+#[derive(Clone, Copy)]
 pub struct Inverse {
     pub refusal: u8,
     pub value: f64,

@@ -11,6 +11,8 @@
 // sample count and the output planes, and says beside it that the gains played are those that `stereo`,
 // `surround` and `harmonics` promise. A block of up to 4,096 frames is played to its last frame; a longer one
 // is refused, where panner.rs stops at 4,096 and leaves the old tail.
+#![tactic(auto)]
+
 ghost use Rattle.std.specs.Prelude.{◌≡◌, ◌≤◌, min};
 ghost use Rattle.planes.specs.Planes.{with_frame, with_frames};
 ghost use Rattle.panner.specs.declared.Command.{Command};
@@ -19,7 +21,7 @@ ghost use Rattle.panner.specs.Halves.{panned_part, CommandGainsPromise};
 ghost use Rattle.panner.specs.Computed.{CommandComputed, is_bad_layout};
 ghost use Rattle.panner.specs.Promise.{PannerPromise};
 
-#[derive(Drop)]
+#[derive(Clone, Copy)]
 pub enum Command {
     Stereo(f64),
     Surround(f64),
@@ -27,14 +29,14 @@ pub enum Command {
 }
 
 // The refusal, and how many frames were played.
-#[derive(Drop)]
+#[derive(Clone, Copy)]
 pub struct Panned {
     pub refusal: u8,
     pub samples: usize,
 }
 
 // What a command plays: the narrowed gains of so many planes, or its refusal.
-#[derive(Drop)]
+#[derive(Clone, Copy)]
 pub struct CommandGains {
     pub refusal: u8,
     pub planes: usize,
@@ -42,7 +44,7 @@ pub struct CommandGains {
 }
 
 // The same before the gains are narrowed.
-#[derive(Drop)]
+#[derive(Clone, Copy)]
 struct Commanded {
     refusal: u8,
     planes: usize,

@@ -7,6 +7,8 @@
 // What it puts into an answer is promised by an equation (specs/Answers.antt): the answer of the crate
 // `probe_..` that has the operation, which promises every byte. Of what is read and written no contract can
 // say anything, so the rest is proved safe and ending, and what it prints is compared.
+#![tactic(auto)]
+
 ghost use Rattle.std.specs.Prelude.{◌≡◌, ◌≤◌};
 ghost use Rattle.probe_answer.specs.Answers.{draft};
 ghost use Rattle.probe.specs.Answers.{answer_of};

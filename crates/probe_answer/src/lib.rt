@@ -3,6 +3,8 @@
 // Test code, and promised by equations all the same: an answer grows by the bytes of each part. A part that
 // has no room is left out, and the place behind it is behind every list, so that nothing that follows it is
 // put either. Every function takes any input.
+#![tactic(auto)]
+
 ghost use Rattle.std.specs.Prelude.{◌≡◌};
 ghost use Rattle.big_endian.specs.Lists.{signed_bytes, float_bytes, double_bytes, number_bytes};
 ghost use Rattle.probe_answer.specs.Answers.{draft, ◌then◌, then_field, refusal_and_doubles, played};

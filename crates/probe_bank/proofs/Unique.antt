@@ -1,7 +1,8 @@
 -- No two answers meet one promise: the count and the bytes, together. Assumes nothing.
 use Rattle.lists.specs.OneAnswer.{AllowsOneAnswer}
 use Rattle.lists.proofs.Determined.{determined_by}
-use Rattle.probe_bank.proofs.answer
+use Rattle.probe_bank.specs.contracts.answer as answer
+use Rattle.probe_bank.proofs.answer.Reads as answer_reads
 
-answer_unique : AllowsOneAnswer answer.ended answer.Reads.Learnt
+answer_unique : AllowsOneAnswer answer.ended answer_reads.Learnt
 answer_unique κs a = determined_by (λ z h i. ((h i).place, (_, (_, ((h i).bytes, _)))))

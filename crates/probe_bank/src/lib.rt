@@ -4,6 +4,8 @@
 // Test code, and promised by equations all the same: how many bytes are answered, and that they are the
 // refusal, the numbers and the lists that `bank` and `bank_choice` promise for what stands in the request, one
 // behind the other.
+#![tactic(auto)]
+
 ghost use Rattle.std.specs.Prelude.{◌≡◌, ◌≤◌, length};
 ghost use Rattle.probe_answer.specs.Answers.{draft};
 ghost use Rattle.probe_bank.specs.Answers.{refusal_and_number, then_lists, read_parts, read_into, read_answer};

@@ -6,6 +6,8 @@
 // `harmonics`, `virtual_speaker`, `stereo`, `surround` and `decoder_matrix` promise. No bytes, and the lent
 // ones as they were, where the operation is another one or the arguments have another length than it takes.
 // Every public function takes any input.
+#![tactic(auto)]
+
 ghost use Rattle.std.specs.Prelude.{◌≡◌, ◌≤◌, length};
 ghost use Rattle.probe_request.specs.Requests.{weights_lent};
 ghost use Rattle.probe_answer.specs.Answers.{draft};

@@ -7,6 +7,8 @@
 // operation takes. The desk, the shape and the five lists are read, and a desk is put, by functions that the
 // replay of a recording uses too (`probe_replay`): its requests begin as those for a block. Every public function
 // takes any input.
+#![tactic(auto)]
+
 ghost use Rattle.std.specs.Prelude.{◌≡◌, length};
 ghost use Rattle.hrtf.specs.Promise.{outcome};
 ghost use Rattle.probe_answer.specs.Answers.{draft};

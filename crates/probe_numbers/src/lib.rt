@@ -5,6 +5,8 @@
 // and what the lent bytes hold afterwards, is what PROBE.md says, over what `numbers` and `angles` promise.
 // No bytes, and the lent ones as they were, where the operation is another one or the arguments have another
 // length than it takes. Every function takes any input.
+#![tactic(auto)]
+
 ghost use Rattle.std.specs.Prelude.{◌≡◌};
 ghost use Rattle.angles.specs.Promise.{outcome};
 ghost use Rattle.probe_answer.specs.Answers.{draft};

@@ -5,6 +5,8 @@
 // `answer` puts what PROBE.md says, in its order, of the block that `panner` or `ambisonic_decoder` promises
 // for what stands in the request; and nothing where the arguments have not the length that the operation
 // takes, or where there is no such operation here. It takes any input.
+#![tactic(auto)]
+
 ghost use Rattle.std.specs.Prelude.{◌≡◌, ◌+◌, ◌*◌, length};
 ghost use Rattle.probe_answer.specs.Answers.{draft};
 ghost use Rattle.probe_planes.specs.Answers.{command_at, panned_answer, pan_answer, decoded_answer, decode_answer};

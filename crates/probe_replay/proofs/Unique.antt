@@ -1,8 +1,9 @@
 -- No two answers meet one promise. Assumes nothing.
 use Rattle.lists.specs.OneAnswer.{AllowsOneAnswer}
 use Rattle.lists.proofs.Determined.{determined_by}
-use Rattle.probe_replay.proofs.answer
+use Rattle.probe_replay.specs.contracts.answer as answer
+use Rattle.probe_replay.proofs.answer.Reads as answer_reads
 
 -- of the count and the bytes, together
-answer_unique : AllowsOneAnswer answer.ended answer.Reads.Learnt
+answer_unique : AllowsOneAnswer answer.ended answer_reads.Learnt
 answer_unique κs a = determined_by (λ z h i. ((h i).place, (_, (_, ((h i).bytes, _)))))

@@ -5,6 +5,8 @@
 // arguments, one part behind the other. There are 0 bytes, and the lent ones are as they were, for any other
 // operation and for arguments that have another length than the operation takes. A request begins as one for a
 // block of the convolver, and what is the same is read as there (`probe_hrtf`). `answer` takes any input.
+#![tactic(auto)]
+
 ghost use Rattle.std.specs.Prelude.{◌≡◌, length};
 ghost use Rattle.probe_answer.specs.Answers.{draft};
 ghost use Rattle.probe_hrtf.specs.Requests.{listed, lengths};

@@ -4,6 +4,8 @@
 // It also says how much room there is for the lists that a request lends. Test code, and promised by
 // equations all the same: a number that does not lie inside the arguments is 0, and a list that does not is
 // left as it was. Every function takes any input.
+#![tactic(auto)]
+
 ghost use Rattle.std.specs.Prelude.{◌≡◌, ◌+◌, ◌*◌, length};
 ghost use Rattle.big_endian.specs.Fields.{field_at, signed_at, float_at, double_at};
 ghost use Rattle.probe_request.specs.Requests.{layout_of, eight_at, lent_by, place_in, word_at, list_at};

@@ -8,6 +8,8 @@
 // here. It takes any input.
 //
 // `render_first` alone holds a list of structs, and is proved by a walk.
+#![tactic(auto)]
+
 ghost use Rattle.std.specs.Prelude.{◌≡◌, ◌+◌, ◌*◌, ◌^◌, ◌≤◌, ◌<◌, length, take};
 ghost use Rattle.script.specs.Promise.{RenderPromise};
 ghost use Rattle.probe_answer.specs.Answers.{draft};

@@ -4,6 +4,8 @@
 // Test code, and promised by equations all the same: `answer` puts what PROBE.md says, in its order, of the
 // arrangement that `hrtf_setup` promises for what stands in the request; and nothing where the arguments have
 // not the length that the operation takes, or where there is no such operation here. It takes any input.
+#![tactic(auto)]
+
 ghost use Rattle.std.specs.Prelude.{◌≡◌, ◌+◌, ◌*◌, ◌≤◌, length};
 ghost use Rattle.big_endian.specs.Fields.{field_at};
 ghost use Rattle.hrtf_setup.specs.Arrangement.{arrangement};

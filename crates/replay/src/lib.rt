@@ -9,6 +9,8 @@
 // `replay` takes any input. Its promise (specs/Promise.antt) is one equation for the answer, the rings and the ears,
 // over the events of the recording, whatever the rings hold. What follows from it, demand 3 between resets and that
 // a recording may be cut anywhere, is shown in `replays`.
+#![tactic(auto)]
+
 ghost use Rattle.std.specs.Prelude.{◌≡◌, ◌*◌};
 ghost use Rattle.std.proofs.Math.ListN as ListN;
 ghost use Rattle.replay.specs.Promise.{refused_replay, ReplayPromise};
@@ -25,7 +27,7 @@ mod play;
 // What a replay answers: a refusal, what was expected and the desk; or 0 with the frames that came out, how
 // many of them are unsettled, how many recorded frames were late, how many silent ones were put in, and how
 // many resets there were.
-#[derive(Drop)]
+#[derive(Clone, Copy)]
 pub struct Replayed {
     pub refusal: u8,
     pub samples: usize,

@@ -11,3 +11,4 @@
 //
 // No function stands here. The statement is `ReplayDemand3` in specs/Demand.antt, its proof in proofs/Demand.antt; the
 // worked recording is computed by the definitions in proofs/Worked.antt, and wrong answers are refuted on it.
+#![tactic(auto)]

@@ -10,6 +10,8 @@
 //
 // `render` holds a list of structs and is proved by a walk of its code; what it computes is in the functions
 // that it calls.
+#![tactic(auto)]
+
 ghost use Rattle.std.specs.Prelude.{◌≡◌, ◌+◌, ◌^◌, ◌≤◌, ◌<◌, min, ltb};
 ghost use Rattle.planes.specs.Planes.{with_frame, with_frames};
 ghost use Rattle.script.specs.Rendering.{silent, silent_part};
@@ -22,7 +24,7 @@ const MOST_FRAMES: usize = 4096;
 const MOST_CUES: usize = 256;
 
 // The refusal, and how many frames were played.
-#[derive(Drop)]
+#[derive(Clone, Copy)]
 pub struct Rendered {
     pub refusal: u8,
     pub samples: usize,

@@ -19,3 +19,4 @@
 // The sizes behind them, exactly computed: the sine's sum at 180 degrees is -2^-54.95 and the cosine's -1 +
 // 2^-58.18; at 90 they are 1 - 2^-83.91 and 2^-61.91; the coefficients of S² + C² - 1, all taken as positive,
 // make 2^-50.52 at half a turn.
+#![tactic(auto)]

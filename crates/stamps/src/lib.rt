@@ -15,14 +15,14 @@ ghost use Rattle.stamps.specs.Counts.{unplanned_of, plan_of, silent_one};
 ghost use Rattle.stamps.specs.Computed.{share_of, plan_on};
 
 // The stamp that comes next; before the first frame there is none.
-#[derive(Drop)]
+#[derive(Clone, Copy)]
 pub enum Expected {
     First,
     Stamp(u32),
 }
 
 // What a frame is: next; ahead, with so many missing before it (1 to 4,096); ahead by more; or late.
-#[derive(Drop)]
+#[derive(Clone, Copy)]
 pub enum Arrival {
     Next,
     Ahead(usize),
@@ -88,7 +88,7 @@ pub fn skipped(expected: Expected) -> Expected
 
 // What a recording comes to: whether the frames that come out fit in the room, how many they are, how many recorded
 // frames are late, how many silent frames are put in, how many resets there are, and what is expected then.
-#[derive(Drop)]
+#[derive(Clone, Copy)]
 pub struct Planned {
     pub fits: bool,
     pub out: usize,
@@ -113,7 +113,7 @@ pub fn unplanned(expected: Expected) -> Planned
 }
 
 // What one frame adds to the counts.
-#[derive(Drop)]
+#[derive(Clone, Copy)]
 struct Share {
     out: usize,
     late: usize,

@@ -10,11 +10,13 @@
 //   (p + 100) / 200 * 90, three operations rounded    2^-44.9 degrees
 //   the sine or cosine a degree's part off            a quarter of that, and 2^-52
 //   the program's sine or cosine                      2^-50
+#![tactic(auto)]
+
 ghost use Rattle.std.specs.Prelude.{◌≡◌};
 ghost use Rattle.stereo.specs.Computed.{clamped_to};
 ghost use Rattle.stereo.specs.Promise.{StereoPromise};
 
-#[derive(Drop)]
+#[derive(Clone, Copy)]
 pub struct StereoGains {
     pub refusal: u8,
     pub left: f64,

@@ -2,7 +2,8 @@
 -- -30 either way. Assumes nothing.
 use Rattle.lists.specs.OneAnswer.{AllowsOneAnswer}
 use Rattle.lists.proofs.Determined.{determined_by}
-use Rattle.surround.proofs.calculate_vbap_gains
+use Rattle.surround.specs.contracts.calculate_vbap_gains as calculate_vbap_gains
+use Rattle.surround.proofs.calculate_vbap_gains.Reads as calculate_vbap_gains_reads
 
-pub calculate_vbap_gains_unique : AllowsOneAnswer calculate_vbap_gains.ended calculate_vbap_gains.Reads.Learnt
+pub calculate_vbap_gains_unique : AllowsOneAnswer calculate_vbap_gains.ended calculate_vbap_gains_reads.Learnt
 calculate_vbap_gains_unique κs a = determined_by (λ z h i. (h.bits i, _))

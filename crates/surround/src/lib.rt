@@ -14,13 +14,15 @@
 //   the cosine there                                2^-47
 //   the sum of eight squares                        2^-42.9
 //   a gain, by squares, at a sum of 3/100           2^-37
+#![tactic(auto)]
+
 ghost use Rattle.std.specs.Prelude.{◌≡◌, ◌≤◌};
 ghost use Rattle.surround.specs.Computed.{absolute, turned_towards, is_near, raw_of, channel_gain, raw_gains, sum_of};
 ghost use Rattle.surround.specs.Computed.{divided_by};
 ghost use Rattle.surround.specs.Promise.{SurroundPromise};
 ghost use Rattle.harmonics.specs.Promise.{silent_gains};
 
-#[derive(Drop)]
+#[derive(Clone, Copy)]
 pub struct SurroundGains {
     pub refusal: u8,
     pub gains: [f64; 16],

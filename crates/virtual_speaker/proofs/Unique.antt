@@ -2,12 +2,14 @@
 -- leaves none. Assumes nothing.
 use Rattle.lists.specs.OneAnswer.{AllowsOneAnswer}
 use Rattle.lists.proofs.Determined.{determined_by}
-use Rattle.virtual_speaker.proofs.compute_sh_coefficients_max_re
-use Rattle.virtual_speaker.proofs.foa_position
+use Rattle.virtual_speaker.specs.contracts.compute_sh_coefficients_max_re as compute_sh_coefficients_max_re
+use Rattle.virtual_speaker.proofs.compute_sh_coefficients_max_re.Reads as compute_sh_coefficients_max_re_reads
+use Rattle.virtual_speaker.specs.contracts.foa_position as foa_position
+use Rattle.virtual_speaker.proofs.foa_position.Reads as foa_position_reads
 
 pub compute_sh_coefficients_max_re_unique : AllowsOneAnswer compute_sh_coefficients_max_re.ended
-    compute_sh_coefficients_max_re.Reads.Learnt
+    compute_sh_coefficients_max_re_reads.Learnt
 compute_sh_coefficients_max_re_unique κs a = determined_by (λ z h i. (h.bits i, _))
 
-pub foa_position_unique : AllowsOneAnswer foa_position.ended foa_position.Reads.Learnt
+pub foa_position_unique : AllowsOneAnswer foa_position.ended foa_position_reads.Learnt
 foa_position_unique κs a = determined_by (λ z h i. (h i, _))

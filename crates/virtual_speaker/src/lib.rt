@@ -19,6 +19,8 @@
 //   a coefficient of degree 0 or 1 times its weight           257
 //   of degree 2                                               258
 //   of degree 3                                               259
+#![tactic(auto)]
+
 ghost use Rattle.std.specs.Prelude.{◌≡◌};
 ghost use Rattle.virtual_speaker.specs.Weights.{degree_of};
 ghost use Rattle.virtual_speaker.specs.Computed as Computed;
@@ -27,14 +29,14 @@ ghost use Rattle.virtual_speaker.specs.Promise as Said;
 use harmonics::Direction;
 
 // Refusal 1 or 3, or 0 and the weighted coefficients.
-#[derive(Drop)]
+#[derive(Clone, Copy)]
 pub struct Weighted {
     pub refusal: u8,
     pub weights: [f64; 16],
 }
 
 // Refusal 2, or 0 and the direction of a virtual speaker.
-#[derive(Drop)]
+#[derive(Clone, Copy)]
 pub struct Position {
     pub refusal: u8,
     pub direction: Direction,

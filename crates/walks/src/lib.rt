@@ -5,3 +5,4 @@
 // a context and the head of a `while`, `Data` types that own only facts and what is said of each parameter,
 // `Calling` the entry, a call and the end of a function, for all parameters at once, `Relent` slices that are
 // lent again for a call and come back, `Prefix` the first elements of an array, lent without the rest.
+#![tactic(auto)]
