@@ -114,7 +114,7 @@ module _ (w : Wanted) (azimuths elevations : List ℤ) (rows : ℕ) (weights : L
       let off = none_holds (later_checks (w.speakers * w.channels) azimuths elevations rows weights) tt e in
       (off.0, is_equal (length azimuths) 8 off.1.0, is_equal (length elevations) 8 off.1.1.0)
 
-  -- a check with a number above 0 does not hold of a set_up_lem that is accepted
+  -- a check with a number above 0 does not hold of a set-up that is accepted
   pub offered : (n : ℕ) → w.check.number ≡ suc n → refusal_of w azimuths elevations rows weights ≡ 0
       → w.check.holds ≡ false
   unfolding refusal_of

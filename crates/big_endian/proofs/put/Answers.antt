@@ -6,7 +6,8 @@ use Rattle.big_endian.proofs.Fields.{digits_left, all_left}
 use Rattle.big_endian.proofs.put.Goals as goal
 
 pub returns-then-not-lies_inside : goal.returns-then-not-lies_inside
-returns-then-not-lies_inside c = sym (written_out _ _ _ _ (sym c.before.lies_inside.ensures ∙ c.if-not-lies_inside.true))
+returns-then-not-lies_inside c =
+    sym (written_out _ _ _ _ (sym c.before.lies_inside.ensures ∙ c.if-not-lies_inside.true))
 
 pub loop-k-init : goal.loop-k-init
 loop-k-init c =
