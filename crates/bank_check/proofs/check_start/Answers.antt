@@ -1,7 +1,7 @@
 -- `bank_check::check_start` meets its contract. Assumes nothing.
-use Rattle.lists.specs.Prelude.{◌≡◌, sym, ap, ap₂, ◌∙◌, List, ℕ}
+use Rattle.lists.specs.Prelude.{sym, ap, ap₂, ◌∙◌, ℕ}
 use Rattle.refusals.proofs.Ranges.{within_true}
-use Rattle.bank_form.specs.Fault.{rows_in_of, length_in, rows_fault, head_fault}
+use Rattle.bank_form.specs.Fault.{rows_in_of, length_in, rows_fault}
 use Rattle.bank_form.proofs.Walk.{same_number, Head, head_none, else_stop, else_on, fault_is}
 use Rattle.bank_check.proofs.Starts.{checked}
 use Rattle.bank_check.proofs.check_start.Goals as goal

@@ -1,5 +1,5 @@
 -- `bank_check::row_fault` meets its contract. Assumes nothing.
-use Rattle.lists.specs.Prelude.{◌≡◌, sym, ap, ◌∙◌, Bool, List, ℕ, ◌+◌, ◌*◌, arith, ℤ, ◌<◌, ◌^◌}
+use Rattle.lists.specs.Prelude.{◌≡◌, sym, ap, ◌∙◌, List, ℕ, ◌+◌, ◌*◌, arith, ℤ, ◌<◌, ◌^◌}
 use mir.Syntax.{w16}
 use lib.Signed.{mag}
 use mir.Val.{hbits, to_z, of_z}
@@ -7,8 +7,8 @@ use Rattle.big_endian.proofs.Signed.{back}
 use Rattle.big_endian.specs.Fields.{signed_at}
 use Rattle.bank_form.specs.Bank.{Pair, is_azimuth}
 use Rattle.bank_form.specs.Version.{taps_at, pair_at, elevation_at}
-use Rattle.bank_form.specs.Fault.{pair_in, wrong, field, taps_fault, is_new, row_fault}
-use Rattle.bank_form.proofs.Walk.{else_stop, else_on, unless_passes, unless_fails, behind_elevation, row_is}
+use Rattle.bank_form.specs.Fault.{pair_in, wrong, field, taps_fault, is_new}
+use Rattle.bank_form.proofs.Walk.{else_stop, else_on, unless_passes, unless_fails, row_is}
 use Rattle.bank_check.proofs.row_fault.Goals as goal
 
 pub returns-then-range-ne0 : goal.returns-then-range-ne0
@@ -64,6 +64,9 @@ pub returns : goal.returns
 unfolding is_azimuth
 returns c =
     let args = c.args in
+    let place : args.at + c.elevation_size.result ≡ pair_at args.version args.at =
+    ap (λ (n : ℕ). args.at + n) c.elevation_size.ensures.0 in
+    let there : args.at + c.elevation_size.result + 2 ≡ taps_at args.version args.at = omega (arith, place) in
     let read = c.get_i16-azimuth in
     let range : c.field_fault-range.result ≡ field args.size args.at 2 17 (is_azimuth (signed_at args.s.now args.at)) =
     c.field_fault-range.ensures ∙ ap (field _ _ _ _)
@@ -75,9 +78,6 @@ returns c =
     let new = is_new args.s.now args.version args.l (pair_in args.version args.s.now args.at) 9 args.i in
     let found : c.is_new.result ≡ new =
     c.is_new.ensures ∙ ap (λ (p : Pair). is_new args.s.now args.version args.l p 9 args.i) pair in
-    let place : args.at + c.elevation_size.result ≡ pair_at args.version args.at =
-    ap (λ (n : ℕ). args.at + n) c.elevation_size.ensures.0 in
-    let there : args.at + c.elevation_size.result + 2 ≡ taps_at args.version args.at = ap (λ (n : ℕ). n + 2) place in
     c.taps_fault.ensures
     ∙ ap (λ (p : ℕ). taps_fault args.size args.s.now p (2 * args.l)) there
     ∙ sym (behind ∙ unless_passes new 17 _ _ (sym found ∙ c.if-not-is_new.false))
