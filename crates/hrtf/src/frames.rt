@@ -9,7 +9,7 @@ use hrtf_checks::ConvolverShape;
 use hrtf_desk::Desk;
 
 // The frames played so far, how many of them are unsettled, and whether the last one is damaged.
-#[derive(Drop)]
+#[derive(Clone, Copy)]
 pub(crate) struct Played {
     pub(crate) frames: usize,
     pub(crate) unsettled: usize,
@@ -17,14 +17,14 @@ pub(crate) struct Played {
 }
 
 // The desk after a block, and how many of its frames are unsettled.
-#[derive(Drop)]
+#[derive(Clone, Copy)]
 pub(crate) struct Turn {
     pub(crate) desk: Desk,
     pub(crate) unsettled: usize,
 }
 
 // A shape, and 1.0 over the root of its speakers.
-#[derive(Drop)]
+#[derive(Clone, Copy)]
 pub(crate) struct Scaled {
     pub(crate) shape: ConvolverShape,
     pub(crate) inverse_root: f64,
