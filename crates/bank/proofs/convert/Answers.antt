@@ -31,7 +31,8 @@ module _ (from : ℕ) (file : List ℕ) (fault : Fault) (checked : VersionCheckP
   short = (within_true 1 512 (length_in file) form.short).1
 
   -- what is known once the lists are filled
-  module _ (read : ReadOutcome) (zs es : List ℤ) (xs : List Float) (filled : read ≡ read_bank (bank_in file) zs es xs) where
+  module _ (read : ReadOutcome) (zs es : List ℤ) (xs : List Float)
+      (filled : read ≡ read_bank (bank_in file) zs es xs) where
     same : bank_found read ≡ bank_in file
     same = ap bank_found filled ∙ found (bank_in file) _ _ _ form.paired form.count
 

@@ -10,7 +10,8 @@ few : (c : Else-not-is_within) → within 1 8 c.before.before.args.rows ≡ true
 few c = sym c.before.is_within.ensures ∙ c.if-not-is_within.false
 
 pub returns-then-not-is_within : goal.returns-then-not-is_within
-returns-then-not-is_within c = sym (unless_fails _ 15 5 _ (omega arith) (sym c.before.is_within.ensures ∙ c.if-not-is_within.true))
+returns-then-not-is_within c =
+    sym (unless_fails _ 15 5 _ (omega arith) (sym c.before.is_within.ensures ∙ c.if-not-is_within.true))
 
 pub returns-then-not-is_within-2 : goal.returns-then-not-is_within-2
 returns-then-not-is_within-2 c = sym (unless_passes _ 15 5 _ (few c.before.before)

@@ -26,7 +26,8 @@ module _ (azimuths elevations : List ℤ) (paired : length elevations ≡ length
   count : length pairs ≡ length azimuths
   count = length_pairs azimuths elevations paired
 
-  all_taps : (taps : List Float) (l : ℕ) → length taps ≡ length azimuths * (2 * l) → length taps ≡ length pairs * (2 * l)
+  all_taps : (taps : List Float) (l : ℕ) → length taps ≡ length azimuths * (2 * l)
+      → length taps ≡ length pairs * (2 * l)
   all_taps taps l counted = counted ∙ ap (λ (n : ℕ). n * (2 * l)) (sym count)
 
 pub loop-i-init : goal.loop-i-init
