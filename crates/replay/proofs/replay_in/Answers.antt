@@ -15,7 +15,8 @@ use Rattle.replay.proofs.replay_in.Goals as goal
 
 -- of a recording, what is expected, and rings, desk and ears: what a replay answers that is refused, or was played
 module _ (l : Recording) (x : Expected) (t : State) (ears : List Float) where
-  answers_refused : (n : ℕ) (r : Replayed) → r ≡ refused_replay n t.desk x → n ≡ refusal_in l x t (length ears) → (n ≡ 0 → ⊥)
+  answers_refused : (n : ℕ) (r : Replayed) → r ≡ refused_replay n t.desk x → n ≡ refusal_in l x t (length ears)
+      → (n ≡ 0 → ⊥)
       → ReplayPromise l x t ears (record { answer = r; rings = t.rings; ears = ears })
   answers_refused n r er en some =
       subst (λ (r : Replayed). ReplayPromise l x t ears (record { answer = r; rings = t.rings; ears = ears })) (sym er)
