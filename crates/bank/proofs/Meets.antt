@@ -172,7 +172,8 @@ module _ (zs es : List ℤ) (xs : List Float) where
 
 module _ (file : List ℕ) (zs es : List ℤ) (xs : List Float) where
   -- what stands in the lists once the rows are filled in
-  pub filled : (v n l : ℕ) (ys ts : List ℤ) (ws : List Float) → v ≡ version_in file → n ≡ rows_in_of file → l ≡ length_in file
+  pub filled : (v n l : ℕ) (ys ts : List ℤ) (ws : List Float) → v ≡ version_in file → n ≡ rows_in_of file
+      → l ≡ length_in file
       → ys ≡ placed zs 0 (azimuths_from file v l 9 n) → ts ≡ placed es 0 (elevations_from file v l 9 n)
       → ws ≡ placed xs 0 (taps_from file v l 9 n)
       → ◌≡◌ {A = ReadOutcome}

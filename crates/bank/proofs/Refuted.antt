@@ -177,7 +177,8 @@ back_refuses_always : (out : List ℕ) (w : WriteOutcome) → length out ≡ 19 
 back_refuses_always out w h t refuses = refuses (ap (λ (q : WriteOutcome). q.answer.refusal) (drill_back out w h t))
 
 -- a file with elevations is turned back, these being dropped
-elevations_dropped : (file out : List ℕ) (w : WriteOutcome) → ToVersion1Promise file out w → level (bank_in file) ≡ false
+elevations_dropped : (file out : List ℕ) (w : WriteOutcome) → ToVersion1Promise file out w
+    → level (bank_in file) ≡ false
     → w.answer.refusal ≡ 0 → ⊥
 elevations_dropped file out w t raised e = true≢false (sym (t.words.turned e).0 ∙ raised)
 

@@ -11,7 +11,8 @@ use Rattle.bank_form.specs.Version.{elevation_bytes}
 use Rattle.bank_form.specs.Encoding.{row_bytes, head_bytes, encode}
 use Rattle.bank_form.specs.Fault.{wrong}
 use Rattle.bank_form.specs.File.{IsFile}
-use Rattle.bank_form.proofs.Worked.{example2, one_at, version_2_with_1_in_front_forward, raised_back, elevation_901_back}
+use Rattle.bank_form.proofs.Worked.{example2, one_at, version_2_with_1_in_front_forward}
+use Rattle.bank_form.proofs.Worked.{raised_back, elevation_901_back}
 use Rattle.bank.specs.Writing.{WriteOutcome}
 use Rattle.bank.specs.Conversion.{conversion_refusal, ToVersion1Promise, ToVersion2Promise}
 use Rattle.bank.proofs.Converting.{holds_2, forward_told, back_told}

@@ -18,7 +18,8 @@ two P x y (suc (suc j)) h = absurd (omega arith)
 -- lists of 8 that start with rows at 0 and 450, at elevation 0; what stands beyond the two rows does not count
 module _ (rest : List ℤ) (six : length rest ≡ 6) (heights : List ℤ) (six-heights : length heights ≡ 6)
     (r : Choice) where
-  accepted : (p : ℤ) → in_tenths p ≡ true → choice_refusal (pos 0 ∷ pos 450 ∷ rest) (pos 0 ∷ pos 0 ∷ heights) 2 p (pos 0)
+  accepted : (p : ℤ) → in_tenths p ≡ true → choice_refusal (pos 0 ∷ pos 450 ∷ rest) (pos 0 ∷ pos 0 ∷ heights) 2 p
+      (pos 0)
       ≡ 0
   unfolding choice_refusal is_elevation
   accepted p h = rw (h, six, six-heights)

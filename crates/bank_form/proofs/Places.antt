@@ -67,5 +67,6 @@ module _ (size : ℕ) (s : List ℕ) where
 pub numbers_and_places : NumbersAndPlaces
 numbers_and_places s = fault_each (length s) s (Fine (length s)) (fine_each (length s) s)
 
-pub bytes_left : (s : List ℕ) → (fault s).refusal ≡ 14 → field_at s 1 4 ≡ length s - 5 → row_place s (rows_in_of s) < length s
+pub bytes_left : (s : List ℕ) → (fault s).refusal ≡ 14 → field_at s 1 4 ≡ length s - 5
+    → row_place s (rows_in_of s) < length s
 bytes_left s = fault_each (length s) s (Left (length s) s) (left_each (length s) s)

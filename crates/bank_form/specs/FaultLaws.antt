@@ -77,11 +77,13 @@ FieldPlaces = (s : List ℕ) → FieldPlace s (fault s)
 pub record ByteOrder : Type 0 where
   pub field_at_fault : (s t : List ℕ) → length t ≡ length s → (fault s ≡ sound → ⊥)
       → ((fault s).refusal ≡ 14 → field_at s 1 4 ≡ length s - 5 → ⊥)
-      → take ((fault s).offset + field_size (fault s).refusal) t ≡ take ((fault s).offset + field_size (fault s).refusal)
+      → take ((fault s).offset + field_size (fault s).refusal) t
+      ≡ take ((fault s).offset + field_size (fault s).refusal)
       s → fault t ≡ fault s
   pub bytes_left : (s : List ℕ) → (fault s).refusal ≡ 14 → field_at s 1 4 ≡ length s - 5
       → row_place s (rows_in_of s) < length s
-  pub last_row : (s t : List ℕ) → length t ≡ length s → take (row_place s (rows_in_of s)) t ≡ take (row_place s (rows_in_of s)) s
+  pub last_row : (s t : List ℕ) → length t ≡ length s → take (row_place s (rows_in_of s)) t
+      ≡ take (row_place s (rows_in_of s)) s
       → fault t ≡ fault s
 
 -- ---- the start of a file

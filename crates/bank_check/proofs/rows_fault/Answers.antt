@@ -25,8 +25,14 @@ loop-i-preserved c =
     let left : args.n - turn.i - 1 ≡ args.n - (turn.i + 1) = omega arith in
     let there = ap (λ (w : ℕ). turn.at + w) (sym turn.invariant.0) in
     let next = turn.invariant.4 ∙ rows_next _ _ _ _ _ _ _ more
-    ∙ else_on _ _ _ at_row_fault.row_fault-f.ensures c.if-f-ne0.false in
-    (turn.invariant.0, turn.invariant.1, omega arith, omega arith, next ∙ ap₂ (rows_fault _ _ _ _ (turn.i + 1)) there left)
+    ∙ else_on _ _ _ at_row_fault.row_fault-f.ensures c.if-f-ne0.false in (
+      turn.invariant.0,
+      turn.invariant.1,
+      omega arith,
+      omega arith,
+      next
+          ∙ ap₂ (rows_fault _ _ _ _ (turn.i + 1)) there left,
+    )
 
 pub returns-then-size-at : goal.returns-then-size-at
 returns-then-size-at c =
@@ -42,4 +48,5 @@ returns c =
     let start = at_loop.before.before.before in
     let turn = at_loop.loop-i in
     let done : start.args.n - turn.i ≡ 0 = omega arith in
-    sym (turn.invariant.4 ∙ ap (rows_fault _ _ _ _ _ _) done ∙ rows_end _ _ _ _ _ _ ∙ rw (ne_eqb _ _ c.if-size-at.false))
+    sym (turn.invariant.4 ∙ ap (rows_fault _ _ _ _ _ _) done ∙ rows_end _ _ _ _ _ _
+    ∙ rw (ne_eqb _ _ c.if-size-at.false))
