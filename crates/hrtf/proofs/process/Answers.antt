@@ -39,4 +39,5 @@ own_shape c t k rings₁ ears₁ d more e b =
 pub returns : goal.returns
 returns c =
     let accepted = sym c.refusal-refusal.ensures ∙ c.if-refusal-ne0.false in
-    promised_accepted _ _ _ _ _ _ (sym accepted) (own_shape _ _ c.scale.result _ _ _ _ c.scale.ensures c.block-turn.ensures)
+    promised_accepted _ _ _ _ _ _ (sym accepted)
+    (own_shape _ _ c.scale.result _ _ _ _ c.scale.ensures c.block-turn.ensures)
