@@ -6,7 +6,6 @@ use Rattle.refusals.specs.Refusals.{Check, first_of, outside}
 use Rattle.refusals.proofs.First.{passed, answered_accepted}
 use Rattle.lists.proofs.Tests.{cond_true, cond_false}
 use Rattle.refusals.proofs.Chains.{Off, FirstAt, number_at, first_holds, off_accepts, none_holds}
-use Rattle.fractions.specs.Fraction.{number}
 use Rattle.lists.specs.Tables.{tab}
 use Rattle.lists.proofs.Tables.{get_or_tab, inside}
 use Rattle.checks.proofs.Checks.{is_equal, not_outside}

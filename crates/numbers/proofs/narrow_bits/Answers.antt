@@ -11,7 +11,7 @@ use Rattle.numbers.proofs.narrow_bits.Goals as goal
 
 pub narrow_magnitude-n-requires : goal.narrow_magnitude-n-requires
 narrow_magnitude-n-requires c =
-    record { fact_1 = omega arith; fact_2 = omega arith; fact_3 = no_nan_fields c.args.b c.requires }
+    record { exponent = omega arith; digits = omega arith; no_nan = no_nan_fields c.args.b c.requires }
 
 -- the pattern b, read with its sign s
 signed : (b : ℕ) (s : Bool) → leb (2 ^ 63) b ≡ s

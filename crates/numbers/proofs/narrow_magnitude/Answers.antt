@@ -12,12 +12,12 @@ shifted : (c : After-nearest_shift) → c.nearest_shift.result ≤ 2 ^ 24
 shifted c =
     let a = c.before.before.before in
     le_trans (le_of_eq c.nearest_shift.ensures)
-    (subnormal_digits true a.args.e a.args.d a.requires.fact_2 c.before.if-e-lt897.true)
+    (subnormal_digits true a.args.e a.args.d a.requires.digits c.before.if-e-lt897.true)
 
 pub returns-then-e-lt873 : goal.returns-then-e-lt873
 returns-then-e-lt873 c =
     record {
-      fields = (λ s. tiny s c.before.args.e c.before.args.d c.before.requires.fact_2 c.if-e-lt873.true);
+      fields = (λ s. tiny s c.before.args.e c.before.args.d c.before.requires.digits c.if-e-lt873.true);
       small =
           omega arith;
     }
@@ -27,7 +27,7 @@ returns-then-e-lt897 c =
     let at_if1 = c.before.before in
     let a = at_if1.before in record {
       fields = (λ s.
-          subnormal s a.args.e a.args.d a.requires.fact_2 at_if1.if-e-lt873.false c.before.if-e-lt897.true
+          subnormal s a.args.e a.args.d a.requires.digits at_if1.if-e-lt873.false c.before.if-e-lt897.true
           ∙ ap (λ (x : ℕ). cond s (2 ^ 31) 0 + x) (sym c.nearest_shift.ensures));
       small = omega (arith, shifted c);
     }
@@ -40,7 +40,7 @@ cut : (c : After-nearest_shift-else-e-lt897) (s : Bool)
     (255 * 2 ^ 23)
 cut c s =
     let a = c.before.before.before in
-    normal s a.args.e a.args.d a.requires.fact_2 c.before.if-e-lt897.false a.requires.fact_1 a.requires.fact_3
+    normal s a.args.e a.args.d a.requires.digits c.before.if-e-lt897.false a.requires.exponent a.requires.no_nan
     ∙ ap (λ (x : ℕ). cond s (2 ^ 31) 0 + min ((a.args.e - 897) * 2 ^ 23 + x) (255 * 2 ^ 23))
     (sym c.nearest_shift-else-e-lt897.ensures)
 

@@ -20,8 +20,8 @@ pub parted-p-requires : goal.parted-p-requires
 parted-p-requires c =
     let s = c.before.before.before in
     record {
-      fact_1 = bits_positive s.args.x (held s) (rw (zero_bits binary64) at c.before.if-x-2.true);
-      fact_2 =
+      positive = bits_positive s.args.x (held s) (rw (zero_bits binary64) at c.before.if-x-2.true);
+      finite =
           c.if-bits-lt9218868437227405312.true;
     }
 

@@ -1,5 +1,5 @@
 -- `script::mute` meets its contract: `planes`' `Sampling`. Assumes nothing.
-use Rattle.lists.specs.Prelude.{◌-◌, refl, of_bits, of_int}
+use Rattle.lists.specs.Prelude.{refl, of_bits, of_int}
 use Rattle.formats.specs.Floats.{zero_float}
 use Rattle.planes.proofs.Framing.{sampling_more}
 use Rattle.script.proofs.mute.Goals as goal

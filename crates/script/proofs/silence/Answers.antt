@@ -1,5 +1,4 @@
 -- `script::silence` meets its contract: `panner`'s `Parts`. Assumes nothing.
-use Rattle.lists.specs.Prelude.{◌-◌}
 use Rattle.planes.proofs.Framing.{parting_more}
 use Rattle.script.specs.Rendering.{silent}
 use Rattle.script.proofs.silence.Goals as goal
