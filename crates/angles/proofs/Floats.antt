@@ -200,6 +200,8 @@ place_less (fin s m e) = mod-lt _ (lit< tt)
 quotient : (v : Float) (n : ℕ) → n < 2 ^ 53 → HasValue v false n 1
     → HasValue (div binary64 v (fin false 1 (pos 51))) false n (2 ^ 51)
 unfolding div
+quotient nan n h v = elim v [ ]
+quotient (inf _) n h v = elim v [ ]
 quotient (fin true m e) n h v = absurd (true≢false v.0)
 quotient (fin false m e) n h v = rw (← round_same binary64 false n (2 ^ 51) (m * up e * 1) (2 ^ 51 * down e) (lit< tt)
     (mul-pos (pow_pos 51) (down_pos e)) (mul_left_comm n (2 ^ 51) (down e) ∙ mul_comm (2 ^ 51) (n * down e)

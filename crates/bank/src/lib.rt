@@ -216,7 +216,7 @@ fn write_checked(
     if found.refusal != 0 {
         return unwritten(found.refusal, found.offset);
     }
-    bytes::copy(&made[..size], file);
+    file.copy_from_slice(&made[..size]);
     BankWritten {
         refusal: 0,
         offset: 0,

@@ -16,7 +16,7 @@ use Rattle.bank_form.specs.Version.{row_size, elevation_at}
 use Rattle.bank_form.specs.Encoding.{encode}
 use Rattle.bank_form.specs.FitsFields.{IsI16, IsFloat, FitsFields}
 use Rattle.bank_form.specs.Fault.{elevations_from, pair_in, pairs_from, version_in, rows_in_of, length_in, bank_in, is_new}
-use Rattle.bank_form.specs.Fault.{sound, fault, is_file}
+use Rattle.bank_form.specs.Fault.{fault, is_file}
 use Rattle.bank_form.specs.File.{Holds, IsFile, Exactly}
 use Rattle.lists.proofs.ForAll.{forall_every}
 use Rattle.bank_form.proofs.Lists.{every_none, every_more, length_taps, pairwise_before, before_pairwise}

@@ -53,7 +53,8 @@ module _ {A : Type 0} (w : ℕ) (bits : A → ℕ) where
   unfolding field_bytes
   field_bytes_none = joined_none bytes
 
-  pub field_bytes_more : (x : A) (xs : List A) → field_bytes w bits (x ∷ xs) ≡ bytes_of w (bits x) ++ field_bytes w bits xs
+  pub field_bytes_more : (x : A) (xs : List A) → field_bytes w bits (x ∷ xs) ≡ bytes_of w (bits x)
+      ++ field_bytes w bits xs
   unfolding field_bytes
   field_bytes_more = joined_more bytes
 
@@ -68,7 +69,8 @@ module _ {A : Type 0} (w : ℕ) (bits : A → ℕ) where
 
   pub field_bytes_two : (a b : A) → field_bytes w bits (a ∷ b ∷ []) ≡ bytes_of w (bits a) ++ bytes_of w (bits b)
   unfolding field_bytes
-  field_bytes_two a b = joined_more bytes a (b ∷ []) ∙ ap (λ (t : List ℕ). bytes_of w (bits a) ++ t) (joined_one bytes b)
+  field_bytes_two a b = joined_more bytes a (b ∷ [])
+      ∙ ap (λ (t : List ℕ). bytes_of w (bits a) ++ t) (joined_one bytes b)
 
   -- a loop that has put the first k elements from `at` on puts one more
   module _ (out : List ℕ) (at : ℕ) (xs : List A) where
@@ -80,7 +82,8 @@ module _ {A : Type 0} (w : ℕ) (bits : A → ℕ) where
 
     pub write_kept : (ys : List ℕ) (k : ℕ) → ys ≡ placed out at (field_bytes w bits (take k xs)) → k ≤ length xs
         → at + w * k ≤ length out → length ys ≡ length out
-    write_kept ys k e h g = ap length e ∙ length_placed out at (field_bytes w bits (take k xs)) (omega (arith, some k h))
+    write_kept ys k e h g = ap length e
+        ∙ length_placed out at (field_bytes w bits (take k xs)) (omega (arith, some k h))
 
     pub write_more : (ys last : List ℕ) (d : A) (k : ℕ) → w ≤ 8 → ys ≡ placed out at (field_bytes w bits (take k xs))
         → k < length xs → at + w * k + w ≤ length out

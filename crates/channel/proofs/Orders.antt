@@ -20,7 +20,8 @@ by_order_lem P a b c (suc (suc (suc (suc n)))) h =
 
 -- and of the last, what is neither of the others
 pub third_order : (n : ℕ) → refuses_order n ≡ false → (n ≡ 1 → ⊥) → (n ≡ 2 → ⊥) → n ≡ 3
-third_order = by_order_lem (λ (n : ℕ). (n ≡ 1 → ⊥) → (n ≡ 2 → ⊥) → n ≡ 3) (λ a b. absurd (a refl)) (λ a b. absurd (b refl))
+third_order = by_order_lem (λ (n : ℕ). (n ≡ 1 → ⊥) → (n ≡ 2 → ⊥) → n ≡ 3) (λ a b. absurd (a refl))
+    (λ a b. absurd (b refl))
     (λ a b. refl)
 
 -- what holds of three holds of the one that a number chooses, order or not
@@ -40,5 +41,6 @@ pub order_ill : (n : ℕ) (c : Counted) → c ≡ counted_order n → (c.refusal
 order_ill n = ill 0 (refuses_order n) (channels_of_order n)
 
 -- what the program answers, by the test
-pub order_counted : (n : ℕ) (b : Bool) → b ≡ refuses_order n → channels_answer 1 b (channels_of_order n) ≡ counted_order n
+pub order_counted : (n : ℕ) (b : Bool) → b ≡ refuses_order n → channels_answer 1 b (channels_of_order n)
+    ≡ counted_order n
 order_counted n b e = ap (λ (t : Bool). channels_answer 1 t (channels_of_order n)) e

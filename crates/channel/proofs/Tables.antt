@@ -86,11 +86,13 @@ module _ (table : List ℤ) (i : ℕ) where
       ≡ made (cond b 2 0) (degrees_at table i)) (leb (length table) i)
       (λ h. ap (made 2) (sym (get_or-eq_default table (pos 0) (leb-true (length table) i h)))) (λ h. refl)
 
-  pub degrees_answered_lem : degrees_answered ≡ record { refusal = missing table i; degrees = float (degrees_at table i) }
+  pub degrees_answered_lem : degrees_answered
+      ≡ record { refusal = missing table i; degrees = float (degrees_at table i) }
   unfolding of_int
   degrees_answered_lem = entry_answered (λ n z. record { refusal = n; degrees = float z })
 
-  pub tenths_answered_lem : tenths_answered ≡ record { refusal = missing table i; tenths = degrees_at table i *ℤ pos 10 }
+  pub tenths_answered_lem : tenths_answered
+      ≡ record { refusal = missing table i; tenths = degrees_at table i *ℤ pos 10 }
   tenths_answered_lem = entry_answered (λ n z. record { refusal = n; tenths = z *ℤ pos 10 })
 
   -- ---- as an f64 and in tenths, of an entry that was read

@@ -25,7 +25,8 @@ refuses_channels n = outside n 16
 
 -- n channels; or, where they are refused, the refusal and none
 abbrev pub channels_answer : ℕ → Bool → ℕ → Counted
-channels_answer refusal refused n = answered (first_of (refusal when refused ∷ [])) (record { refusal = 0; channels = n })
+channels_answer refusal refused n =
+    answered (first_of (refusal when refused ∷ [])) (record { refusal = 0; channels = n })
     (λ k. record { refusal = k; channels = 0 })
 
 abbrev pub layout_channels : Layout → Counted

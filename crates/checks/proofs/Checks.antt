@@ -2,7 +2,8 @@
 -- and laws of lists of finite floats. Assumes nothing.
 use Rattle.lists.specs.Prelude.{◌≡◌, refl, sym, ap, ◌∙◌, subst, Bool, true, false, not, ◌||◌, List, [], ◌∷◌, ℕ, zero}
 use Rattle.lists.specs.Prelude.{suc, ◌+◌, ◌-◌, ◌*◌, ◌≤◌, ◌<◌, zero-le, not-suc-le-zero, zero-add, add-zero, add-suc}
-use Rattle.lists.specs.Prelude.{suc-add, arith, length, get_or, take, drop, eqb, ltb, eq-eqb, le-ltb, eqb-true, not-false}
+use Rattle.lists.specs.Prelude.{suc-add, arith, length, get_or, take, drop, eqb, ltb, eq-eqb, le-ltb, eqb-true}
+use Rattle.lists.specs.Prelude.{not-false}
 use Rattle.lists.specs.Prelude.{ltb-false, Float, nan}
 use lib.Ieee.Scale.{finite}
 pub use Rattle.refusals.proofs.Counts.{not_outside, count_inside}
@@ -102,7 +103,8 @@ module _ (f : ℕ → Float) (n : ℕ) where
       → not b ≡ false → Passing (is_nonfinite_at f) n (s + 1)
   finite_more s x b p h ex eb e = passing_more (is_nonfinite_at f) n s p h (looked_at s x b false ex eb e)
 
-  pub nonfinite_found : (s : ℕ) (x : Float) (b : Bool) → Passing (is_nonfinite_at f) n s → s < n → x ≡ f s → b ≡ finite x
+  pub nonfinite_found : (s : ℕ) (x : Float) (b : Bool) → Passing (is_nonfinite_at f) n s → s < n → x ≡ f s → b
+      ≡ finite x
       → not b ≡ true → true ≡ has_nonfinite (tab 0 n f)
   nonfinite_found s x b p h ex eb e =
       passing_found (is_nonfinite_at f) n s p h (looked_at s x b true ex eb e) ∙ nonfinite_tab 0 n f

@@ -8,8 +8,7 @@
 // Both take any list. Halving finds the last cue not after a frame only where the frames rise; what it finds
 // in another list is promised too (specs/Promise.antt), and `script` refuses such a list.
 //
-// `cue_at` alone reads the list. It, `judged` and `holding` hold a list of structs, and each is proved by a
-// walk of its code; what they compute is in the functions that they call.
+// `cue_at` alone reads the list; what `judged` and `holding` compute is in the functions that they call.
 #![tactic(auto)]
 
 ghost use Rattle.std.specs.Prelude.{◌≡◌, ◌+◌, ◌^◌, ◌≤◌, ◌<◌, length, get_or};

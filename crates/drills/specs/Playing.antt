@@ -15,7 +15,7 @@ use Rattle.hrtf_setup.specs.Promise.{NewAmbisonicPromise}
 use Rattle.hrtf_runs.specs.NeverRefused.{shape_of, call_with, BankAccepted, NoneRefused}
 use Rattle.drills.specs.Drills.{Drill, Drilled, Planes, planes_left}
 
--- the set_up_lem of a bank and of what a set_up_lem left
+-- the set-up of a bank and of what a set-up left
 abbrev pub set_up : Form.Bank → Arrangement → Setup
 set_up b o = setup_of (shape_of b o) o.weights o.rows b.taps
 

@@ -188,7 +188,7 @@ module _ (xs : List Float) (o : ReadOutcome) (f : Found zeros zeros xs o) where
                 t (subst (λ (q : ReadOutcome). StateFits a.answer.speakers q.answer.length t) is fits);
           }
 
-      -- the set_up_lem is the one that item 10 gives for the bank that was read
+      -- the set-up is the one that item 10 gives for the bank that was read
       set_up_lem : setup_of (shape_of a o) a.weights a.rows (bank_found o).taps ≡ setup_with (bank_found o)
       unfolding b
       set_up_lem =

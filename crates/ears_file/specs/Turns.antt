@@ -1,4 +1,4 @@
--- One turn of the program: what it needs of the set_up_lem, what the record and the lists stand for before and after it,
+-- One turn of the program: what it needs of the set-up, what the record and the lists stand for before and after it,
 -- and what it puts out. Definitions only.
 use Rattle.lists.specs.Prelude.{◌≡◌, List, [], ◌++◌, ℕ, ◌≤◌, ◌<◌, length, take, Float}
 use Rattle.refusals.specs.Refusals.{answered}

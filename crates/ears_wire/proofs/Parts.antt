@@ -1,9 +1,9 @@
 -- Parts put one after another into a list, the line that stands at its start or not at all, and that the fewest digits
 -- are the decimal ones. Assumes nothing.
-use Rattle.lists.specs.Prelude.{◌≡◌, refl, sym, ap, ◌∙◌, List, [], ◌∷◌, ◌++◌, append_assoc, append-nil, ℕ, zero, suc}
+use Rattle.lists.specs.Prelude.{◌≡◌, refl, sym, ap, ◌∙◌, List, [], ◌∷◌, ◌++◌, append_assoc, ℕ, zero, suc}
 use Rattle.lists.specs.Prelude.{◌+◌, ◌-◌, ◌/◌, ◌%◌, ◌^◌, ◌≤◌, ◌<◌, pow-suc, pow-le-pow_right, one-le-pow, mod-eq_of_lt}
-use Rattle.lists.specs.Prelude.{zero-add, dec_lt, arith, lt-ltb, le-ltb, length, take, drop, length-append, length-drop}
-use Rattle.lists.specs.Prelude.{drop_of_length-le, take_all, take-length, drop-drop}
+use Rattle.lists.specs.Prelude.{zero-add, dec_lt, arith, lt-ltb, le-ltb, length, take, drop, length-append}
+use Rattle.lists.specs.Prelude.{drop-drop}
 use Rattle.io.specs.Digits.{last_digits, hex_digit_ascii, IsDigitCount}
 use Rattle.lists.specs.Placed.{placed}
 use Rattle.lists.proofs.Placed.{placed_on}
@@ -11,17 +11,13 @@ use Rattle.ears_wire.specs.Line.{decimal_by}
 use Rattle.ears_wire.specs.Promise.{Put, Lined}
 use Rattle.ears_wire.proofs.Meets.{line_refused, line_accepted}
 
--- a part that is copied into the rest of a list from `at` on
-pub put_copied : (out part ys : List ℕ) (at : ℕ) → at ≤ length out
-    → ys ≡ take (length part) part ++ drop (length part) (take (length out - at) (drop at out))
-    → take at out ++ (ys ++ drop (length out - at) (drop at out)) ≡ placed out at part
+-- a part that is copied into a list from `at` on
+pub put_copied : (out part ys : List ℕ) (at n : ℕ) → n ≡ length part → ys ≡ part
+    → take at out ++ (ys ++ drop n (drop at out)) ≡ placed out at part
 unfolding placed
-put_copied out part ys at h e =
-    let rest : length (drop at out) ≤ length out - at = omega (arith, length-drop at out) in
-    ap (λ (l : List ℕ). take at out ++ l)
-    (ap (λ (l : List ℕ). ys ++ l) (drop_of_length-le (drop at out) rest) ∙ append-nil ys ∙ e
-    ∙ rw (take-length part, take_all (length out - at) (drop at out) rest, drop-drop (length part) at out))
-    ∙ sym (append_assoc (take at out) part (drop (at + length part) out))
+put_copied out part ys at n long e =
+    rw (long, e, drop-drop (length part) at out)
+    (sym (append_assoc (take at out) part (drop (at + length part) out)))
 
 -- a part more, where the last one ended
 pub put_more : {out : List ℕ} {at : ℕ} {a : List ℕ} {end : ℕ} {ys b : List ℕ} {end₁ : ℕ} {last : List ℕ}

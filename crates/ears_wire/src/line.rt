@@ -12,7 +12,9 @@ fn put_part(out: &mut [u8], at: usize, part: &[u8]) -> usize
     requires { at + length part.now ≤ length out.old }
     ensures { Put out.old at part.now result out.new }
 {
-    at + bytes::copy(part, &mut out[at..])
+    let end = at + part.len();
+    out[at..end].copy_from_slice(part);
+    end
 }
 
 // Puts the digits of a number from `at` on, and answers where they end.

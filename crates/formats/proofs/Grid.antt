@@ -79,7 +79,8 @@ grid_or_small f w k g = go (dec_le k g.i)
         (pow_mono (omega (arith, two f, lt_of_not-le n)))))
 
 -- ---- a finite value that is not negative has a pattern below the infinity's
-pub finite_below : (f : Format) (m : ℕ) (e : ℤ) → T (fits f (fin false m e)) → to_bits f (fin false m e) < ones f * hid f
+pub finite_below : (f : Format) (m : ℕ) (e : ℤ) → T (fits f (fin false m e))
+    → to_bits f (fin false m e) < ones f * hid f
 finite_below f m e t =
     let u = held_units f false m e t in
     let p = prec f in

@@ -1,5 +1,6 @@
 -- Bit patterns of the values of a format f. A finite value is known by its sign and by how many of the format's
--- smallest values it is (`same_value`), which its fields tell (`fields_value`), and so is its pattern (`to_bits_value`).
+-- smallest values it is (`same_value`), which its fields tell (`fields_value`), and so is its pattern
+-- (`to_bits_value`).
 -- The pattern of q * 2 ^ k of them is one sum for subnormal and normal values, for a carry into the exponent and for an
 -- infinity alike (`units_bits`, read back by `of_bits_units`). Each holds in every format. Assumes nothing.
 use Rattle.lists.specs.Prelude.{◌≡◌, refl, sym, ap, ◌∙◌, subst, ◌⊎◌, ℕ, zero, suc, ◌+◌, ◌-◌, ◌*◌, ◌/◌, ◌%◌, ◌^◌, ◌≤◌}
@@ -8,7 +9,8 @@ use Rattle.lists.specs.Prelude.{add_assoc, mul_comm, mul-pos, zero-lt-suc, zero-
 use Rattle.lists.specs.Prelude.{mul-le-mul_right, mod-eq_of_lt, div-lt_iff_lt-mul, min-eq_left, min-eq_right, arith}
 use Rattle.lists.specs.Prelude.{Bool, true, false, not, cond, ◌&&◌, true≢false, ℤ, T, leb, ltb, eqb, leb→le, ltb→lt}
 use Rattle.lists.specs.Prelude.{lt-ltb, le-ltb, lt-leb, ne_eqb, pow-add, pow_pos, pow-lt, Float, nan, inf, fin, Format}
-use Rattle.lists.specs.Prelude.{binary32, binary64, prec, emax, low, up, down, size, odd, units, round, ne, fits, is_nan}
+use Rattle.lists.specs.Prelude.{binary32, binary64, prec, emax, low, up, down, size, odd, units, round, ne, fits}
+use Rattle.lists.specs.Prelude.{is_nan}
 use Rattle.lists.specs.Prelude.{hid, ones, top, of_fields, of_bits, to_bits, nan_bits}
 use lib.Ieee.Fits.{two, reach, two-le_pos, down_pos, odd-fits, inf-fits, and_l, and_r}
 use lib.Ieee.Bits.{of_bits-to_bits, nan_bits_is, nan_bits_above}

@@ -107,7 +107,8 @@ module _ (f : Format) where
   mul_unsigned_first (fin s zero e) (fin t n d) =
       zero_signs f (unlike s t) (unlike false t) _ _ (zero_size (up e) (n * up d)) (mul-pos (down_pos e) (down_pos d))
 
-  pub mul_unsigned : (x y : Float) → unsigned_zero (mul f x y) ≡ unsigned_zero (mul f (unsigned_zero x) (unsigned_zero y))
+  pub mul_unsigned : (x y : Float) → unsigned_zero (mul f x y)
+      ≡ unsigned_zero (mul f (unsigned_zero x) (unsigned_zero y))
   mul_unsigned x y =
       let u = unsigned_zero x in
       mul_unsigned_first x y

@@ -327,7 +327,8 @@ value {k} {b} {x} {q} h = known
     })
 
 -- a float that stands for itself, as a number that the caller gave
-abbrev pub itself : (x : Float) (most : Fraction) → 0 < (number x).over → AtMost (magnitude (number x)) most → Expression
+abbrev pub itself : (x : Float) (most : Fraction) → 0 < (number x).over → AtMost (magnitude (number x)) most
+    → Expression
 itself x m X h =
     value {k = 200} {b = m} {x = x} {q = number x} (record { near = within_refl 200 (number x) X; size = h })
 

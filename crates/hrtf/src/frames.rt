@@ -9,7 +9,7 @@ use hrtf_checks::ConvolverShape;
 use hrtf_desk::Desk;
 
 // The frames played so far, how many of them are unsettled, and whether the last one is damaged.
-#[derive(Drop)]
+#[derive(Clone, Copy)]
 pub(crate) struct Played {
     pub(crate) frames: usize,
     pub(crate) unsettled: usize,
@@ -17,14 +17,14 @@ pub(crate) struct Played {
 }
 
 // The desk after a block, and how many of its frames are unsettled.
-#[derive(Drop)]
+#[derive(Clone, Copy)]
 pub(crate) struct Turn {
     pub(crate) desk: Desk,
     pub(crate) unsettled: usize,
 }
 
 // A shape, and 1.0 over the root of its speakers.
-#[derive(Drop)]
+#[derive(Clone, Copy)]
 pub(crate) struct Scaled {
     pub(crate) shape: ConvolverShape,
     pub(crate) inverse_root: f64,
@@ -108,9 +108,9 @@ fn one_frame(
     requires { ScaledReady scaled desk.position row_of.now taps.now rings.old
         × (played.unsettled ≤ played.frames) × (suc played.frames < 2 ^ 64) }
     ensures { FramePlayed scaled.shape weights.now row_of.now taps.now
-        (record { rings = rings.entry.now; desk = desk })
+        (record { rings = rings.old; desk = desk })
         (frame_at inputs.now stride scaled.shape.channels played.frames) stride played.frames
-        played.unsettled ears.old rings.exit.now ears.new
+        played.unsettled ears.old rings.new ears.new
         result.frames result.unsettled result.damaged }
 {
     let shape = scaled.shape;
@@ -166,7 +166,7 @@ pub(crate) fn block(
           taps = taps.now;
           ears = ears.old;
         })
-        (record { rings = rings.entry.now; desk = desk }) rings.exit.now ears.new result.desk
+        (record { rings = rings.old; desk = desk }) rings.new ears.new result.desk
         result.unsettled }
 {
     let mut standing = desk;

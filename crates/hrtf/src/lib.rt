@@ -64,8 +64,8 @@ pub fn process(
           taps = taps.now;
           ears = ears.old;
         })
-        (record { rings = rings.entry.now; desk = desk })
-        (record { answer = result; rings = rings.exit.now; ears = ears.new }) }
+        (record { rings = rings.old; desk = desk })
+        (record { answer = result; rings = rings.new; ears = ears.new }) }
 {
     let refusal = hrtf_checks::refusal(
         desk, shape, frames, stride, inputs, weights, row_of, taps, rings, ears,

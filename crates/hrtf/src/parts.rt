@@ -9,7 +9,7 @@ ghost use Rattle.hrtf.specs.Computed.{TapsFor, dot_each, no_sums, PartsInside, p
 use hrtf_checks::ConvolverShape;
 
 // A sum for each ear.
-#[derive(Drop)]
+#[derive(Clone, Copy)]
 pub(crate) struct EarSums {
     pub(crate) left: f64,
     pub(crate) right: f64,

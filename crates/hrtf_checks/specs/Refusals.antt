@@ -25,7 +25,7 @@ convolver_unfit h frames stride inputs weights taps rings ears =
     block_unfit inputs h.channels ears 2 stride frames || (not (eqb rings (h.speakers * h.length))
     || (not (eqb weights (h.speakers * h.channels)) || not (eqb taps (2 * h.rows * h.length))))
 
--- 8: "ring position or frames_to_go is not below L"
+-- 8: "ring position or frames-to-go is not below L"
 abbrev pub desk_out_of_range : Desk → ℕ → Bool
 desk_out_of_range d L = leb L d.position || leb L d.to_go
 

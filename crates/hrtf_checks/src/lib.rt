@@ -119,7 +119,7 @@ pub fn refusal(
           taps = taps.now;
           ears = ears.now;
         })
-        (record { rings = rings.entry.now; desk = desk }) }
+        (record { rings = rings.now; desk = desk }) }
 {
     if is_misshapen(shape, row_of) {
         return 2;

@@ -205,7 +205,7 @@ module _ (file : List ℕ) (zs es : List ℤ) (xs : List Float) (r : ReadOutcome
       never_refused (bank_found r) keeps_form o (subst (λ (n : ℕ). Playable n o) rows_are p) cs fs t
       (reset_fits d o.answer.speakers r.answer.length rings _ rested refl)
 
--- what was promised of a set_up_lem that is not refused, and of a reset
+-- what was promised of a set-up that is not refused, and of a reset
 arrangement_accepted : (w : Wanted) (zs es : List ℤ) (n : ℕ) (weights : List Float) (given : List ℕ) (o : Arrangement)
     → ArrangePromise w zs es n weights given o → Arranging.refusal_of w zs es n weights ≡ 0
     → o.answer.refusal ≡ 0

@@ -16,7 +16,7 @@ use Rattle.hrtf_setup.specs.Arrangement.{Wanted, Arrangement}
 use Rattle.hrtf_setup.specs.Promise.{ArrangePromise, NewSurroundPromise, NewAmbisonicPromise}
 use Rattle.hrtf_runs.specs.Runs.{next}
 
--- the counts of a bank and of what a set_up_lem left, and a call that is made of them
+-- the counts of a bank and of what a set-up left, and a call that is made of them
 abbrev pub shape_of : Form.Bank → Arrangement → ConvolverShape
 shape_of b o =
     record { channels = o.answer.channels; speakers = o.answer.speakers; rows = Form.rows b; length = b.length }
@@ -63,7 +63,7 @@ pub record BankAccepted (r : ReadOutcome) : Type 0 where
   pub reads : ReadPromise file zs es xs r
   pub accepted : r.answer.refusal ≡ 0
 
--- whatever `hrtf::reset` accepts and leaves: no call that is made of that bank and set_up_lem is refused
+-- whatever `hrtf::reset` accepts and leaves: no call that is made of that bank and set-up is refused
 abbrev pub AlwaysPlays : ReadOutcome → Arrangement → Type 0
 AlwaysPlays r o =
     (d : Desk) (rings : List Float) (t : State) → ResetPromise d o.answer.speakers r.answer.length rings

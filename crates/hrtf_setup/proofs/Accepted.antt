@@ -1,4 +1,4 @@
--- What an accepted set_up_lem leaves fits the convolver: speakers and channels as many as it plays, finite weights, and for
+-- What an accepted set-up leaves fits the convolver: speakers and channels as many as it plays, finite weights, and for
 -- each speaker a row of the bank, which at one elevation is document 01's. And which set-ups are accepted. Assumes
 -- nothing.
 use Rattle.lists.specs.Prelude.{◌≡◌, refl, sym, ap, ◌∙◌, subst, Bool, true, false, cond, List, ◌∷◌, ℕ, zero, suc, ◌+◌}
@@ -43,7 +43,7 @@ weight_finite (Virtual order) s c h =
     finite_at o.weights c (weights_sound order (position_of s) o kept)
     (subst (λ (n : ℕ). c < n) (sym (weights_length order (position_of s) o kept)) h)
 
--- ---- what an accepted set_up_lem leaves
+-- ---- what an accepted set-up leaves
 
 pub record Playable (rows : ℕ) (o : Arrangement) : Type 0 where
   pub speakers : (0 < o.answer.speakers) × (o.answer.speakers ≤ 8)

@@ -6,7 +6,6 @@ use Rattle.refusals.specs.Refusals.{Check, first_of, outside}
 use Rattle.refusals.proofs.First.{passed, answered_accepted}
 use Rattle.lists.proofs.Tests.{cond_true, cond_false}
 use Rattle.refusals.proofs.Chains.{Off, FirstAt, number_at, first_holds, off_accepts, none_holds}
-use Rattle.fractions.specs.Fraction.{number}
 use Rattle.lists.specs.Tables.{tab}
 use Rattle.lists.proofs.Tables.{get_or_tab, inside}
 use Rattle.checks.proofs.Checks.{is_equal, not_outside}
@@ -114,7 +113,7 @@ module _ (w : Wanted) (azimuths elevations : List ℤ) (rows : ℕ) (weights : L
       let off = none_holds (later_checks (w.speakers * w.channels) azimuths elevations rows weights) tt e in
       (off.0, is_equal (length azimuths) 8 off.1.0, is_equal (length elevations) 8 off.1.1.0)
 
-  -- a check with a number above 0 does not hold of a set_up_lem that is accepted
+  -- a check with a number above 0 does not hold of a set-up that is accepted
   pub offered : (n : ℕ) → w.check.number ≡ suc n → refusal_of w azimuths elevations rows weights ≡ 0
       → w.check.holds ≡ false
   unfolding refusal_of

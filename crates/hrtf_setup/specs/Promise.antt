@@ -12,7 +12,7 @@ use Rattle.hrtf_setup.specs.declared.Speakers.TheVariants.{Of, Virtual}
 use Rattle.hrtf_setup.specs.Speakers.{tenths_at, speaker_elevation, row_at, weight_of}
 use Rattle.hrtf_setup.specs.Arrangement.{Wanted, refusal_of, Arrangement, arrangement}
 
--- of a set_up_lem that is accepted: every weight is its speaker's for its channel, and the row that the equation puts for a
+-- of a set-up that is accepted: every weight is its speaker's for its channel, and the row that the equation puts for a
 -- speaker is the one that documents 01 and 02 name for its azimuth and elevation
 pub record ArrangeWords (w : Wanted) (azimuths elevations : List ℤ) (rows : ℕ) (weights : List Float)
     (o : Arrangement) : Type 0 where

@@ -6,7 +6,8 @@ use mathlib.Core.List.{List, [], ◌∷◌, ◌++◌}
 use Prim.Native.Nat.{ℕ, zero, suc, ◌+◌, ◌<◌}
 use native.Mathlib.Decide.{dec_lt}
 use native.Mathlib.Omega.{arith}
-use lib.ListN.{length, get_or, take, drop, replicate, length-take, length-replicate, get_or-replicate, get_or-eq_default}
+use lib.ListN.{length, get_or, take, drop, replicate, length-take, length-replicate, get_or-replicate}
+use lib.ListN.{get_or-eq_default}
 use lib.Seq.{get_or-take, get_or-drop}
 use Rattle.lists.specs.Tables.{every}
 use Rattle.lists.specs.ForAll.{ForAll}

@@ -52,7 +52,8 @@ module _ {A : Type 0} where
   drop_take (suc k) (suc m) [] = sym (take-nil (suc m - suc k))
   drop_take (suc k) (suc m) (x ∷ xs) = drop_take k m xs ∙ ap (λ (n : ℕ). take n (drop k xs)) (sym (suc-sub-suc m k))
 
-  pub get_d_reverse : (l : List A) (k : ℕ) (d : A) → k < length l → get_or (reverse l) k d ≡ get_or l (length l - 1 - k) d
+  pub get_d_reverse : (l : List A) (k : ℕ) (d : A) → k < length l → get_or (reverse l) k d
+      ≡ get_or l (length l - 1 - k) d
   get_d_reverse [] k d h = absurd (not-suc-le-zero h)
   get_d_reverse (x ∷ xs) k d h =
       ap (λ (r : List A). get_or r k d) (reverse-cons x xs) ∙ ⊎_elim

@@ -70,7 +70,8 @@ module _ {A : Type 0} where
   -- a list is the table of what stands at its places
   pub tab_get_or : (xs : List A) (d : A) → tab 0 (length xs) (λ k. get_or xs k d) ≡ xs
   tab_get_or [] d = refl
-  tab_get_or (x ∷ xs) d = ap (λ (r : List A). x ∷ r) (tab_shift 0 (length xs) (λ k. get_or (x ∷ xs) k d) ∙ tab_get_or xs d)
+  tab_get_or (x ∷ xs) d =
+      ap (λ (r : List A). x ∷ r) (tab_shift 0 (length xs) (λ k. get_or (x ∷ xs) k d) ∙ tab_get_or xs d)
 
   pub tab_is : (xs : List A) (d : A) (f : ℕ → A) → ((k : ℕ) → k < length xs → f k ≡ get_or xs k d)
       → tab 0 (length xs) f ≡ xs

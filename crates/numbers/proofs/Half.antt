@@ -6,7 +6,7 @@ use Rattle.lists.specs.Prelude.{lt_of_not-le, lt_irrefl, zero-mul, mul-one, mul_
 use Rattle.lists.specs.Prelude.{add-mul, mul-le-mul, mul-le-mul_right, mul-lt-mul_of_pos_right, div-lt_iff_lt-mul}
 use Rattle.lists.specs.Prelude.{le-div_iff_mul-le, pow-succ', eq-zero-or-pos, eq_of_mul-eq-mul_right, one-mul, dec_le}
 use Rattle.lists.specs.Prelude.{arith, false, T, lit<, pow_pos, pow-add, pow_mono, pow-lt, shl_lt, Format, binary32}
-use Rattle.lists.specs.Prelude.{binary64, prec, emax, low, down, size, fits, hid}
+use Rattle.lists.specs.Prelude.{binary64, prec, emax, low, size, fits, hid}
 use lib.Arith.{lt_of_le-ne}
 use lib.Ieee.Digits.{size-lt, size-le, size_reaches}
 use lib.Ieee.Fits.{two, reach}

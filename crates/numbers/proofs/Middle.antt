@@ -1,4 +1,5 @@
--- `root_of` is the nearest value of the format to the exact root: of every value of the format, a negative one too, none
+-- `root_of` is the nearest value of the format to the exact root: of every value of the format, a negative one too,
+-- none
 -- but the root itself is as near (`root_nearest`), and nothing else has that property (`root_only`). The root lies on
 -- r's side of the middle between r and any other value; in units of the format's smallest value that is a matter of
 -- whole numbers. Assumes nothing.

@@ -15,14 +15,16 @@ use lib.Ieee.Scale.{round_same}
 use Rattle.fractions.proofs.Closest.{closest_le, closest_ge, closest_zero}
 use Rattle.fractions.proofs.Number.{by_value}
 use Rattle.formats.proofs.Digits.{drop_is}
-use Rattle.formats.proofs.Patterns.{some_digits, to_bits_inf, units_bits, digits, digits_normal, digits_lt, fields_value}
+use Rattle.formats.proofs.Patterns.{some_digits, to_bits_inf, units_bits, digits, digits_normal, digits_lt}
+use Rattle.formats.proofs.Patterns.{fields_value}
 use Rattle.formats.proofs.Patterns.{fields_inf, round_no_nan}
 use Rattle.numbers.specs.Computed.{rounded, narrowed}
 
 -- ---- M * 2 ^ j / 2 ^ L rounded: M is shifted by t once, and the pattern's field is k
 scaled_bits : (f : Format) (s : Bool) (M j k t L : ℕ) → j + low f + t ≡ L + k → M < 2 ^ (prec f + t)
     → (k ≡ 0) ⊎ (2 ^ (prec f - 1 + t) ≤ M)
-    → to_bits f (round f s (M * 2 ^ j) (2 ^ L)) ≡ cond s (top f) 0 + min (k * hid f + closest M (2 ^ t)) (ones f * hid f)
+    → to_bits f (round f s (M * 2 ^ j) (2 ^ L)) ≡ cond s (top f) 0 + min
+    (k * hid f + closest M (2 ^ t)) (ones f * hid f)
 scaled_bits f s M j k t L e h g =
     let p = prec f in
     let P : 0 < p = some_digits f in

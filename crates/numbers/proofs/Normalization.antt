@@ -14,7 +14,8 @@ pub inverse_refused : (n : ℕ) → n ≡ 0 → refusing 2 ≡ inverse_answer n
 inverse_refused n e = sym (ap inverse_answer e)
 
 pub inverse_accepted : (n : ℕ) → (n ≡ 0 → ⊥) → inverse_answer n ≡ record { refusal = 0; value = inverse_root_of n }
-inverse_accepted n h = answered_accepted (record { refusal = 0; value = inverse_root_of n }) refusing (inverse_refusal n)
+inverse_accepted n h =
+    answered_accepted (record { refusal = 0; value = inverse_root_of n }) refusing (inverse_refusal n)
     (cond_false 2 0 (ne_eqb n 0 h))
 
 pub inverse_value : (n : ℕ) (r : Inverse) → 0 < n → InverseRoot n r → r.value ≡ inverse_root_of n

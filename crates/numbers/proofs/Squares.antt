@@ -1,4 +1,5 @@
--- The whole root of a number: `whole_root n` is the largest r whose square is at most n (`whole_root_law`), and the only
+-- The whole root of a number: `whole_root n` is the largest r whose square is at most n (`whole_root_law`), and the
+-- only
 -- such r (`whole_root_unique`). Assumes nothing.
 use Rattle.lists.specs.Prelude.{◌≡◌, refl, sym, ap, ◌∙◌, ℕ, zero, suc, ◌+◌, ◌*◌, ◌/◌, ◌^◌, ◌≤◌, ◌<◌, zero-le, le_trans}
 use Rattle.lists.specs.Prelude.{le_of_eq, le_of_suc-le-suc, le_antisymm, lt_of_lt_of_le, lt_of_not-le, lt_irrefl}

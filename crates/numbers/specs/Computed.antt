@@ -36,7 +36,8 @@ whole_root n = root_in (size n) n
 
 -- ---- the root of a float. A positive x is n of the format's smallest values, and its root is the root of a = n * 2 ^
 -- low of them. That root has half as many digits as a, of which
--- the format keeps `prec` and drops k. Twice the root, in units of 2 ^ k, has the whole part r = whole_root (4 * a / 4 ^
+-- the format keeps `prec` and drops k. Twice the root, in units of 2 ^ k, has the whole part r = whole_root (4 * a / 4
+-- ^
 -- k), so (r + 1) / 2 is the whole number nearest to the root.
 abbrev pub drops : ℕ → ℕ → ℕ
 drops p a = suc (size a) / 2 - p

@@ -25,8 +25,8 @@ pub fn widen(x: f32) -> f64
 
 // m / 2^t to the nearest whole number, a tie to the even one.
 fn nearest_shift(m: u64, t: u64) -> u64
-    requires fact_1 { 1 ≤ t }
-    requires fact_2 { t ≤ 63 }
+    requires shifted { 1 ≤ t }
+    requires within_word { t ≤ 63 }
     ensures { result ≡ closest m (2 ^ t) }
 {
     let u: u64 = 1 << t;
@@ -44,9 +44,9 @@ fn nearest_shift(m: u64, t: u64) -> u64
 // The pattern of the f32 nearest to an f64 that is no NaN, without the sign, which goes with it
 // unchanged: e is the field of the f64's exponent and d that of its digits.
 fn narrow_magnitude(e: u64, d: u64) -> u32
-    requires fact_1 { e < 2048 }
-    requires fact_2 { d < 0x10_0000_0000_0000 }
-    requires fact_3 { (e ≡ 2047 → d ≡ 0) }
+    requires exponent { e < 2048 }
+    requires digits { d < 0x10_0000_0000_0000 }
+    requires no_nan { e ≡ 2047 → d ≡ 0 }
     ensures fields { (s : Bool) → to_bits binary32 (narrowed (of_fields binary64 s e d))
         ≡ (if s then top binary32 else 0) + result }
     ensures small { result ≤ 0x7f80_0000 }
@@ -108,8 +108,8 @@ struct Parts {
 
 // The number that the pattern of a positive finite f64 stands for, times 2^2148.
 fn parted(bits: u64) -> Parts
-    requires fact_1 { 0 < bits }
-    requires fact_2 { bits < 2047 * 2 ^ 52 }
+    requires positive { 0 < bits }
+    requires finite { bits < 2047 * 2 ^ 52 }
     ensures { Parted bits result.digits result.half }
 {
     let field = bits >> 52;

@@ -103,7 +103,8 @@ module _ (out₀ : List Float) (stride from to : ℕ) (f : ℕ → List Float) w
         → Parting out₀ stride from to f out₁ (n + 1)
     parting_more out₁ h e =
         record {
-          left = left_more (following stride) f to whole (λ k ys y. with_frame ys stride k y) (λ k ys y rest. refl) out n
+          left = left_more (following stride) f to whole (λ k ys y. with_frame ys stride k y) (λ k ys y rest. refl) out
+              n
               (f n) out₁ p.left h refl e;
           long = ap length e ∙ length_with_frame 0 out stride n (f n) ∙ p.long;
         }

@@ -48,7 +48,8 @@ with_frame_at p xs stride n (x ∷ f) zero lt hn room =
     ∙ ap (λ (q : ℕ). get_or (with_sample xs stride p n x) (q * stride + n) nan) (add-zero p)
     ∙ get_or-set_same xs (p * stride + n) x nan (rw add-zero at room)
 with_frame_at p xs stride n (x ∷ f) (suc k) lt hn room =
-    ap (λ (q : ℕ). get_or (with_frame_from (suc p) (with_sample xs stride p n x) stride n f) (q * stride + n) nan) (move p k)
+    ap (λ (q : ℕ). get_or (with_frame_from (suc p) (with_sample xs stride p n x) stride n f) (q * stride + n) nan)
+    (move p k)
     ∙ with_frame_at (suc p) (with_sample xs stride p n x) stride n f k (le_of_suc-le-suc lt) hn
     (rw (length-set, ← move p k) room)
 
@@ -81,10 +82,12 @@ row_with_frame planes xs stride n f p hp hn e few =
     new_length : length (chunk stride p (with_frame xs stride n f)) ≡ stride
     new_length = length_chunk stride p planes (with_frame xs stride n f) among (length_with_frame 0 xs stride n f ∙ e)
 
-    same_length : length (chunk stride p (with_frame xs stride n f)) ≡ length (set (chunk stride p xs) n (get_or f p nan))
+    same_length : length (chunk stride p (with_frame xs stride n f))
+        ≡ length (set (chunk stride p xs) n (get_or f p nan))
     same_length = new_length ∙ sym (length-set (chunk stride p xs) n (get_or f p nan) ∙ old_length)
 
-    read : (i : ℕ) → i < stride → get_or (chunk stride p (with_frame xs stride n f)) i nan ≡ get_or (with_frame xs stride n f)
+    read : (i : ℕ) → i < stride → get_or (chunk stride p (with_frame xs stride n f)) i nan
+        ≡ get_or (with_frame xs stride n f)
         (p * stride + i) nan
     read i h = get_or-take stride (drop (p * stride) (with_frame xs stride n f)) i nan h
         ∙ get_or-drop (p * stride) (with_frame xs stride n f) i nan

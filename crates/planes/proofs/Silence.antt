@@ -22,6 +22,7 @@ narrowed_zero : narrowed zero_float ≡ zero_float
 unfolding rounded round
 narrowed_zero = refl
 
-pub mixed_silence : (n : ℕ) (ws : List Float) → has_nonfinite ws ≡ false → mixed ws (replicate n zero_float) ≡ zero_float
+pub mixed_silence : (n : ℕ) (ws : List Float) → has_nonfinite ws ≡ false → mixed ws (replicate n zero_float)
+    ≡ zero_float
 unfolding mixed
 mixed_silence n ws h = ap narrowed (dot_silence n ws h) ∙ narrowed_zero

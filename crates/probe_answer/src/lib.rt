@@ -28,7 +28,7 @@ pub fn put(n: u64, count: usize, out: &mut [u8], at: usize) -> usize
 }
 
 pub fn put_bytes(list: &[u8], out: &mut [u8], at: usize) -> usize
-    ensures { draft result out.new ≡ draft at out.old then (λ x. x.now) list.entry }
+    ensures { draft result out.new ≡ draft at out.old then list.now }
 {
     if !big_endian::has_room(out.len(), at, 1, list.len()) {
         return NOWHERE;

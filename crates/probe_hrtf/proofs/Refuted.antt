@@ -57,7 +57,7 @@ module _ (args out : List ℕ) (r : Draft) (room : 9 ≤ length out) where
       (sym (ap (λ (n : ℕ). reset_by_of n d cells) refused))
       (second_told (suc k) 8 d.position (bytes_of 8 d.to_go ∷ float_bytes cells ∷ []) out (omega arith) room)
 
-  -- of a refused reset the desk is read where a block has it, and so the frames_to_go are told in the place of the ring
+  -- of a refused reset the desk is read where a block has it, and so the frames-to-go are told in the place of the ring
   -- position
   desk_at_the_place_of_a_block : (k : ℕ) → let cells = floats_at args 34 (cells_lent args 0) in r ≡ answer_of 18 args out
       → length args ≡ 34 + 4 * cells_lent args 0
@@ -94,7 +94,7 @@ module _ (args out : List ℕ) (r : Draft) (room : 9 ≤ length out) where
 -- ---- what a replay uses too
 
 module _ (args : List ℕ) where
-  -- the frames_to_go are read as the ring position
+  -- the frames-to-go are read as the ring position
   desk_swapped : (at : ℕ) (r : Desk) → r ≡ desk_at args at → (field_at args at 8 ≡ field_at args (at + 8) 8 → ⊥)
       → r.position ≡ field_at args (at + 8) 8 → ⊥
   desk_swapped at r is differs e = differs (sym (ap (λ (d : Desk). d.position) is) ∙ e)
@@ -129,7 +129,7 @@ module _ (args : List ℕ) where
         omega (arith, e, ap (λ (x : ReadLists). x.end) is, place_there (length args) (lists_end at (lengths l)) whole)
 
 module _ (d : Desk) (out : List ℕ) (r : Draft) where
-  -- the frames_to_go are put before the ring position
+  -- the frames-to-go are put before the ring position
   desk_put_swapped : (refusal : ℕ) → 9 ≤ length out → let before = none out then bytes_of 1 refusal in r
       ≡ then_desk before d → (d.position % 256 ^ 8 ≡ d.to_go % 256 ^ 8 → ⊥)
       → r ≡ then_desk before (record { position = d.to_go; to_go = d.position }) → ⊥
@@ -139,7 +139,7 @@ module _ (d : Desk) (out : List ℕ) (r : Draft) where
       differs (sym (told d.position d.to_go).value ∙ ap (λ (x : Draft). field_at x.bytes 1 8) (sym is ∙ e)
       ∙ (told d.to_go d.position).value)
 
-  -- the frames_to_go are left out
+  -- the frames-to-go are left out
   desk_half_put : (at : ℕ) → at + 16 ≤ length out → r ≡ then_desk (draft at out) d → r.place ≡ at + 8 → ⊥
   desk_half_put at room is e =
       let first = length_bytes 8 d.position in

@@ -14,13 +14,13 @@ use Rattle.probe_request.specs.Requests.{samples_lent, cells_lent}
 use Rattle.probe_answer.specs.Answers.{Draft, none, taking, ◌then◌}
 use Rattle.probe_hrtf.specs.Requests.{desk_at, Lengths, lent_of, block_end, call_at, state_at, sum_taps, sum_end}
 
--- "ring position, frames_to_go (8 each)"
+-- "ring position, frames-to-go (8 each)"
 abbrev pub then_desk : Draft → Desk → Draft
 then_desk d k = d then bytes_of 8 k.position then bytes_of 8 k.to_go
 
 -- ---- 17 convolver block
 
--- "refusal (1), samples, unsettled, ring position, frames_to_go (8 each)"
+-- "refusal (1), samples, unsettled, ring position, frames-to-go (8 each)"
 abbrev pub then_counts : Draft → BlockAnswer → Draft
 then_counts d p =
     then_desk (d then bytes_of 1 p.refusal then bytes_of 8 p.samples then bytes_of 8 p.unsettled) p.desk
@@ -39,11 +39,11 @@ block_answer args out = block_by (lent_of args) args out
 
 -- ---- 18 convolver reset
 
--- "refusal (1), ring position, frames_to_go (8 each), the r cells"
+-- "refusal (1), ring position, frames-to-go (8 each), the r cells"
 unfoldable pub reset_shown : ResetOutcome → List ℕ → Draft
 reset_shown o out = then_desk (none out then bytes_of 1 o.answer.refusal) o.answer.desk then float_bytes o.rings
 
--- "ring position, frames_to_go, speakers, L (8 each), the r cells (f32, 4 each)"
+-- "ring position, frames-to-go, speakers, L (8 each), the r cells (f32, 4 each)"
 unfoldable pub reset_by_of : ℕ → List ℕ → List ℕ → Draft
 reset_by_of r args out =
     taking (34 + 4 * r) args out

@@ -8,7 +8,7 @@ use Rattle.hrtf_checks.specs.declared.ConvolverShape.{ConvolverShape}
 use Rattle.hrtf_checks.specs.Call.{BlockCall}
 use Rattle.probe_request.specs.Requests.{eight_at, samples_lent, weights_lent, cells_lent, place_in, list_at}
 
--- "ring position, frames_to_go .. (8 each)"
+-- "ring position, frames-to-go .. (8 each)"
 abbrev pub desk_at : List ℕ → ℕ → Desk
 desk_at args at = record { position = field_at args at 8; to_go = field_at args (at + 8) 8 }
 

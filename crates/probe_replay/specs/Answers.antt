@@ -21,7 +21,7 @@ mark_of (Stamp s) = 1
 abbrev pub then_expected : Draft → Expected → Draft
 then_expected d x = d then bytes_of 1 (mark_of x) then bytes_of 4 (stamp_of x)
 
--- "refusal (1), samples, unsettled, late, silent, resets, ring position, frames_to_go (8 each)", and what is expected
+-- "refusal (1), samples, unsettled, late, silent, resets, ring position, frames-to-go (8 each)", and what is expected
 abbrev pub then_counts : Draft → Replayed → Draft
 then_counts d p =
     then_expected

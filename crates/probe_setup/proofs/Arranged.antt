@@ -1,4 +1,4 @@
--- The answer to a set_up_lem: of the arrangement that `hrtf_setup` promises for what the request gives, or none. Assumes
+-- The answer to a set-up: of the arrangement that `hrtf_setup` promises for what the request gives, or none. Assumes
 -- nothing.
 use Rattle.lists.specs.Prelude.{◌≡◌, sym, ap, ◌∙◌, List, ℕ, ◌+◌, ◌*◌, arith, ne_eqb, Float, ℤ, length}
 use Rattle.lists.proofs.Tests.{cond_false}

@@ -19,7 +19,7 @@ use Rattle.probe_answer.specs.Answers.{Draft}
 use Rattle.probe_answer.proofs.Standing.{Told, first_told, second_told, taken_told}
 use Rattle.probe_setup.specs.Answers.{shown, arranged_at, arranged_answer, set_up_answer, answer_of}
 
--- a set_up_lem gives its refusal
+-- a set-up gives its refusal
 module _ (w : Wanted) (azimuths elevations : List ℤ) (rows : ℕ) (weights : List Float) (given : List ℕ) where
   given_by : (n : ℕ) → (arranged_by n w.whose w.speakers w.channels azimuths elevations rows weights
       given).answer.refusal ≡ n

@@ -7,9 +7,6 @@
 // It takes any input; its promise (specs/Promise.antt) is one equation for the refusal, the sample count and
 // the output planes. The frames are gone through a segment at a time: `cues` finds the cue that holds and how
 // long it does, and its gains are computed once.
-//
-// `render` holds a list of structs and is proved by a walk of its code; what it computes is in the functions
-// that it calls.
 #![tactic(auto)]
 
 ghost use Rattle.std.specs.Prelude.{◌≡◌, ◌+◌, ◌^◌, ◌≤◌, ◌<◌, min, ltb};

@@ -26,7 +26,8 @@ value_size a b k zero cs x h = omega arith
 value_size a b k (suc m) [] x h = omega arith
 value_size a b k (suc m) (c ∷ cs) x h =
     rw (power_times k b m)
-    (size_step a b k (power_of k m) (power_of b m) (size c) (most m cs a b) c (x ⊠ value m cs x (k * b)) (bounded_size c)
+    (size_step a b k (power_of k m) (power_of b m) (size c) (most m cs a b) c (x ⊠ value m cs x (k * b))
+    (bounded_size c)
     (bounded_times x (value m cs x (k * b)) (k * a) (power_of k m * most m cs a b) h (value_size a b k m cs x h)))
 
 -- ---- how steep

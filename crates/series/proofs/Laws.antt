@@ -82,7 +82,8 @@ module _ (d : Fraction) (D : 0 < d.over) where
       close_within
       (close_sym
       (within_close
-      (within_same (defined_sine rest) (defined_cosine d) (defined_number sine rest rest_pos) (defined_number cosine d D)
+      (within_same (defined_sine rest) (defined_cosine d) (defined_number sine rest rest_pos)
+      (defined_number cosine d D)
       turned_round (defined_opposite cosine d D) (defined_quarter sine (opposite d) D))))
 
   -- at 0 up to 90 degrees it is not below 0, up to 2 ^ -50

@@ -61,7 +61,8 @@ sum_larger w x X e k i =
     let d = x.over in
     let v = value 29 cs (numerator x) d in
     subst (λ (n : ℕ). Same (sum w x) (quotient (value 29 cs (e · numerator x) n) (common * power_of n 29))) i
-    (same_trans (sum w x) (valued cs x) (quotient (value 29 cs (e · numerator x) (e * d)) (common * power_of (e * d) 29))
+    (same_trans (sum w x) (valued cs x)
+    (quotient (value 29 cs (e · numerator x) (e * d)) (common * power_of (e * d) 29))
     (valued_pos x X cs) (sum_valued x X w)
     (rw (value_larger e 29 cs (numerator x) d, power_times e d 29) (omega arith)))
 
@@ -183,7 +184,8 @@ squares : (k : ℕ) (z : Whole) → Bounded z (k * half) → Bounded
 unfolding bottom further
 squares k z h =
     rw (circle_is k z) at
-    (small_step (2 ^ 50) (most 58 circle half parts) common (power_of (k * parts) 29) (power_of k 58) (power_of parts 58)
+    (small_step (2 ^ 50) (most 58 circle half parts) common (power_of (k * parts) 29) (power_of k 58)
+    (power_of parts 58)
     (power_of (k * parts) 58) (value 58 circle z (k * parts))
     (power_further (k * parts) 29 29) (power_times k parts 58) circle_small (value_size half parts k 58 circle z h))
 

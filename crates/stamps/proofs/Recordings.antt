@@ -11,7 +11,8 @@ use Rattle.stamps.specs.declared.Arrival.{Arrival}
 use Rattle.stamps.specs.declared.Arrival.TheVariants.{Next, Ahead, Jump, Late}
 use Rattle.stamps.specs.Arrivals.{ahead, following, coming_by, coming_of, stamp_of, then_by, then_of, skipped_of}
 use Rattle.stamps.specs.Arrivals.{expected_after}
-use Rattle.stamps.specs.Counts.{added_up, out_in, late_in, silent_in, resets_in, planned_of, plan_of, out_one, reset_one}
+use Rattle.stamps.specs.Counts.{added_up, out_in, late_in, silent_in, resets_in, planned_of, plan_of, out_one}
+use Rattle.stamps.specs.Counts.{reset_one}
 use Rattle.stamps.specs.Events.{Recorded, Event, feed, restart, silences, events_by, events_one, events_of}
 use Rattle.stamps.specs.Events.{stamps_of, restarts_in, fed}
 use Rattle.stamps.specs.Computed.{feeds_in}
@@ -26,7 +27,8 @@ samples_and_late x (s ∷ ss) = omega (arith, one_balance (coming_of x s), sampl
 
 -- ---- cut anywhere: the counts, and what is expected
 
-pub expected_cut : (x : Expected) (ss ts : List ℕ) → expected_after x (ss ++ ts) ≡ expected_after (expected_after x ss) ts
+pub expected_cut : (x : Expected) (ss ts : List ℕ) → expected_after x (ss ++ ts)
+    ≡ expected_after (expected_after x ss) ts
 expected_cut x [] ts = refl
 expected_cut x (s ∷ ss) ts = expected_cut (then_of x s) ss ts
 

@@ -6,7 +6,6 @@ use Rattle.formats.specs.Floats.{zero_float}
 use Rattle.fractions.specs.Fraction.{number, EachWithin}
 use Rattle.channel.specs.Layouts.{positions, missing, position_azimuth}
 use Rattle.harmonics.specs.Promise.{refusal_of, silent_gains}
-use Rattle.harmonics.specs.Promise as Harmonics
 use Rattle.harmonics.specs.declared.Direction.{Direction}
 use Rattle.virtual_speaker.specs.Weights.{weighted_formulas}
 use Rattle.virtual_speaker.specs.Computed.{weighted}

@@ -1,4 +1,4 @@
-use Rattle.lists.specs.Prelude.{◌≡◌, ℕ, ◌+◌, ◌-◌, ◌*◌}
+use Rattle.lists.specs.Prelude.{◌≡◌, ℕ, ◌+◌, ◌*◌}
 use Rattle.angles.specs.Computed.{nest}
 use Rattle.angles.proofs.outermost.Given as goal
 

@@ -11,7 +11,10 @@ held c = subst T (sym c.well_formed.0.1) tt
 
 pub truncating_f64_to_u64-requires : goal.truncating_f64_to_u64-requires
 unfolding of_bits
-truncating_f64_to_u64-requires c = let k = upright_cut c.args.d (held c) c.requires in (k.above, k.under)
+truncating_f64_to_u64-requires c = let k = upright_cut c.args.d (held c) c.requires in record {
+  lower_bound = k.above;
+  upper_bound = k.under;
+}
 
 pub returns : goal.returns
 unfolding of_bits

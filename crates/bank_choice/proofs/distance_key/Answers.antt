@@ -1,5 +1,5 @@
 -- `bank_choice::distance_key` meets its contract. Assumes nothing.
-use Rattle.lists.specs.Prelude.{ap₂, ◌∙◌, arith, ℤ, pos, nat_abs, ◌-ℤ◌, get_or}
+use Rattle.lists.specs.Prelude.{ap₂, ◌∙◌, arith, ℤ, pos, nat_abs, ◌-ℤ◌, get_or, rules}
 use mir.Syntax.{w16}
 use mir.Facts.{to_z-of_z}
 use Rattle.big_endian.proofs.Signed.{back}
@@ -16,9 +16,9 @@ returns c =
     let a = start.args in
     let height = at_difference.difference-height.ensures.0
     ∙ ap₂ (λ (e q : ℤ). nat_abs (e -ℤ q))
-    (back w16 (get_or a.elevations.now a.j (pos 0)) at_difference_arg.difference-arg.given)
+    (back w16 (get_or a.elevations.now a.j (pos 0)) (search rules))
     (to_z-of_z start.ranges.elevation) in
     let round = c.tenths_apart-round.ensures.0
-    ∙ ap₂ angle_apart (back w16 (get_or a.azimuths.now a.j (pos 0)) c.before.tenths-apart-arg.given)
+    ∙ ap₂ angle_apart (back w16 (get_or a.azimuths.now a.j (pos 0)) (search rules))
     (to_z-of_z start.ranges.azimuth) in
     omega arith

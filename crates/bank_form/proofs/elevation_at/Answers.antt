@@ -24,5 +24,5 @@ returns-then-s-at c =
 pub returns : goal.returns
 unfolding elevation_at
 returns c =
-    let read = back w16 c.get_i16.result c.get_i16.type-inv ∙ c.get_i16.ensures in
+    let read = back w16 c.get_i16.result c.get_i16.type_inv ∙ c.get_i16.ensures in
     sym (rw (ne_eqb _ _ c.before.before.if-version-eq1.false) (sym read))

@@ -1,5 +1,5 @@
 -- `big_endian::get` meets its contract. What the loop has read is the value of the bytes passed. Assumes nothing.
-use Rattle.lists.specs.Prelude.{◌≡◌, refl, sym, ap, ◌∙◌, ℕ, ◌+◌, ◌-◌, ◌*◌, ◌<◌, arith}
+use Rattle.lists.specs.Prelude.{◌≡◌, refl, sym, ap, ◌∙◌, ℕ, ◌+◌, ◌*◌, ◌<◌, arith}
 use Rattle.lists.specs.Prelude.{length, take, drop}
 use Rattle.big_endian.specs.Bytes.{value_of}
 use Rattle.big_endian.proofs.Bytes.{power_pos}

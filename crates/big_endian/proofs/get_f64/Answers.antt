@@ -7,7 +7,8 @@ use Rattle.big_endian.proofs.get_f64.Goals as goal
 
 pub returns-then-n-gt9218868437227405312 : goal.returns-then-n-gt9218868437227405312
 unfolding double_at
-returns-then-n-gt9218868437227405312 c = nan_read binary64 _ _ c.if-n-gt9218868437227405312.true c.before.get-n.ensures.bits
+returns-then-n-gt9218868437227405312 c =
+    nan_read binary64 _ _ c.if-n-gt9218868437227405312.true c.before.get-n.ensures.bits
 
 pub float_from_bits-result : goal.float_from_bits-result
 unfolding double_at

@@ -1,12 +1,13 @@
 -- `big_endian::put` meets its contract. The digits stand from the last on, and what is left of the number has those
 -- before them. Assumes nothing.
-use Rattle.lists.specs.Prelude.{◌≡◌, sym, ap, ◌∙◌, ◌-◌, arith}
+use Rattle.lists.specs.Prelude.{◌≡◌, sym, ap, ◌∙◌, arith}
 use Rattle.big_endian.proofs.Fields.{lies_true, written_out, put_from, put_none, put_next, put_all}
 use Rattle.big_endian.proofs.Fields.{digits_left, all_left}
 use Rattle.big_endian.proofs.put.Goals as goal
 
 pub returns-then-not-lies_inside : goal.returns-then-not-lies_inside
-returns-then-not-lies_inside c = sym (written_out _ _ _ _ (sym c.before.lies_inside.ensures ∙ c.if-not-lies_inside.true))
+returns-then-not-lies_inside c =
+    sym (written_out _ _ _ _ (sym c.before.lies_inside.ensures ∙ c.if-not-lies_inside.true))
 
 pub loop-k-init : goal.loop-k-init
 loop-k-init c =

@@ -1,6 +1,6 @@
 -- `checks::has_nonfinite_f32` meets its contract. The loop has passed no element that is NaN or infinite. Assumes
 -- nothing.
-use Rattle.lists.specs.Prelude.{◌∙◌, ◌-◌, length}
+use Rattle.lists.specs.Prelude.{◌∙◌, length}
 use Rattle.checks.proofs.Checks.{finite_more, nonfinite_found, finite_all}
 use Rattle.checks.proofs.Checks.{element_at}
 use Rattle.checks.proofs.Checks.{nonfinite_list}

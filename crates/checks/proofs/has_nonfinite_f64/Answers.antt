@@ -1,6 +1,6 @@
 -- `checks::has_nonfinite_f64` meets its contract. The loop has passed no element that is NaN or infinite. Assumes
 -- nothing.
-use Rattle.lists.specs.Prelude.{refl, ◌∙◌, ◌-◌, length}
+use Rattle.lists.specs.Prelude.{refl, ◌∙◌, length}
 use Rattle.checks.proofs.Checks.{finite_more, nonfinite_found, finite_all}
 use Rattle.checks.proofs.Checks.{element_at}
 use Rattle.checks.proofs.Checks.{nonfinite_list}
@@ -16,7 +16,8 @@ returns-then-not-is_finite c =
     let xs = start.args.weights.now in
     nonfinite_found (element_at xs) (length xs) at_loop.loop-w.w _ at_is_finite.is_finite.result
     at_loop.loop-w.invariant
-    at_loop_test.loop-w-test.true refl at_is_finite.is_finite.ensures (ap not c.if-not-is_finite.true) ∙ nonfinite_list xs
+    at_loop_test.loop-w-test.true refl at_is_finite.is_finite.ensures (ap not c.if-not-is_finite.true)
+    ∙ nonfinite_list xs
 
 pub loop-w-preserved : goal.loop-w-preserved
 loop-w-preserved c = search finite_more

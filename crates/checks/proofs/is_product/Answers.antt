@@ -4,7 +4,6 @@ use Rattle.checks.proofs.Tests.{product_of_remainder, product_of_quotient}
 use Rattle.checks.proofs.is_product.Goals as goal
 
 pub returns : goal.returns
-
 returns c = let some : 0 < c.before.before.args.a = omega arith in product_of_quotient _ _ _ some c.if-n-a-ne0.false
 
 pub returns-then-n-a-ne0 : goal.returns-then-n-a-ne0

@@ -1,6 +1,7 @@
 -- `numbers::narrow` meets its contract: the bits of x are read back as x, and the result's as `narrowed x`, which is no
 -- NaN unless x is. Assumes nothing.
-use Rattle.lists.specs.Prelude.{◌≡◌, sym, ap, ◌∙◌, ℕ, not, T, Float, nan, binary32, binary64, fits, is_nan, div, of_bits}
+use Rattle.lists.specs.Prelude.{◌≡◌, sym, ap, ◌∙◌, ℕ, not, T, Float, nan, binary32, binary64, fits, is_nan, div}
+use Rattle.lists.specs.Prelude.{of_bits}
 use Rattle.lists.specs.Prelude.{to_bits}
 use lib.Ieee.Bits.{of_bits-to_bits}
 use lib.Ieee.Compare.{differs_from_itself}
@@ -22,7 +23,6 @@ number c = no_nan c.before.args.x c.if-x.false
 
 -- the pattern that the call returns
 pattern : (c : After-narrow_bits) → c.narrow_bits.result ≡ to_bits binary32 (narrowed c.before.before.args.x)
-
 pattern c = c.narrow_bits.ensures ∙ ap (λ (v : Float). to_bits binary32 (narrowed v))
     (of_bits-to_bits binary64 c.before.before.args.x (held c.before.before))
 

@@ -1,4 +1,5 @@
--- `numbers::narrow_bits` meets its contract: the fields are those by which `of_bits` reads the pattern. Assumes nothing.
+-- `numbers::narrow_bits` meets its contract: the fields are those by which `of_bits` reads the pattern. Assumes
+-- nothing.
 use Rattle.lists.specs.Prelude.{◌≡◌, sym, ap, ◌∙◌, ℕ, ◌/◌, ◌%◌, ◌^◌, zero-add, arith, Bool, true, false, leb}
 use Rattle.lists.specs.Prelude.{le→leb, Float, binary32, binary64, of_fields, of_bits, to_bits}
 use lib.Arith.{lt→nleb}
@@ -9,7 +10,8 @@ use Rattle.numbers.proofs.Narrowing.{no_nan_fields}
 use Rattle.numbers.proofs.narrow_bits.Goals as goal
 
 pub narrow_magnitude-n-requires : goal.narrow_magnitude-n-requires
-narrow_magnitude-n-requires c = record { fact_1 = omega arith; fact_2 = omega arith; fact_3 = no_nan_fields c.args.b c.requires }
+narrow_magnitude-n-requires c =
+    record { exponent = omega arith; digits = omega arith; no_nan = no_nan_fields c.args.b c.requires }
 
 -- the pattern b, read with its sign s
 signed : (b : ℕ) (s : Bool) → leb (2 ^ 63) b ≡ s

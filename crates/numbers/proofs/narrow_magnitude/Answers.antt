@@ -12,18 +12,25 @@ shifted : (c : After-nearest_shift) → c.nearest_shift.result ≤ 2 ^ 24
 shifted c =
     let a = c.before.before.before in
     le_trans (le_of_eq c.nearest_shift.ensures)
-    (subnormal_digits true a.args.e a.args.d a.requires.fact_2 c.before.if-e-lt897.true)
+    (subnormal_digits true a.args.e a.args.d a.requires.digits c.before.if-e-lt897.true)
 
 pub returns-then-e-lt873 : goal.returns-then-e-lt873
 returns-then-e-lt873 c =
-    record { fields = (λ s. tiny s c.before.args.e c.before.args.d c.before.requires.fact_2 c.if-e-lt873.true); small = omega arith }
+    record {
+      fields = (λ s. tiny s c.before.args.e c.before.args.d c.before.requires.digits c.if-e-lt873.true);
+      small =
+          omega arith;
+    }
 
 pub returns-then-e-lt897 : goal.returns-then-e-lt897
 returns-then-e-lt897 c =
     let at_if1 = c.before.before in
-    let a = at_if1.before in record { fields = (λ s.
-          subnormal s a.args.e a.args.d a.requires.fact_2 at_if1.if-e-lt873.false c.before.if-e-lt897.true
-          ∙ ap (λ (x : ℕ). cond s (2 ^ 31) 0 + x) (sym c.nearest_shift.ensures)); small = omega (arith, shifted c) }
+    let a = at_if1.before in record {
+      fields = (λ s.
+          subnormal s a.args.e a.args.d a.requires.digits at_if1.if-e-lt873.false c.before.if-e-lt897.true
+          ∙ ap (λ (x : ℕ). cond s (2 ^ 31) 0 + x) (sym c.nearest_shift.ensures));
+      small = omega (arith, shifted c);
+    }
 
 -- the pattern, cut at the infinity's
 cut : (c : After-nearest_shift-else-e-lt897) (s : Bool)
@@ -33,17 +40,25 @@ cut : (c : After-nearest_shift-else-e-lt897) (s : Bool)
     (255 * 2 ^ 23)
 cut c s =
     let a = c.before.before.before in
-    normal s a.args.e a.args.d a.requires.fact_2 c.before.if-e-lt897.false a.requires.fact_1 a.requires.fact_3
+    normal s a.args.e a.args.d a.requires.digits c.before.if-e-lt897.false a.requires.exponent a.requires.no_nan
     ∙ ap (λ (x : ℕ). cond s (2 ^ 31) 0 + min ((a.args.e - 897) * 2 ^ 23 + x) (255 * 2 ^ 23))
     (sym c.nearest_shift-else-e-lt897.ensures)
 
 pub returns-then-n-lt2139095040 : goal.returns-then-n-lt2139095040
 returns-then-n-lt2139095040 c =
-    record { fields = (λ s. cut c.before s ∙ ap (λ (x : ℕ). cond s (2 ^ 31) 0 + x) (min-eq_left (omega arith))); small = omega arith }
+    record {
+      fields = (λ s. cut c.before s ∙ ap (λ (x : ℕ). cond s (2 ^ 31) 0 + x) (min-eq_left (omega arith)));
+      small =
+          omega arith;
+    }
 
 pub returns-else-n-lt2139095040 : goal.returns-else-n-lt2139095040
 returns-else-n-lt2139095040 c =
-    record { fields = (λ s. cut c.before s ∙ ap (λ (x : ℕ). cond s (2 ^ 31) 0 + x) (min-eq_right c.if-n-lt2139095040.false)); small = omega arith }
+    record {
+      fields = (λ s. cut c.before s
+          ∙ ap (λ (x : ℕ). cond s (2 ^ 31) 0 + x) (min-eq_right c.if-n-lt2139095040.false));
+      small = omega arith;
+    }
 
 pub overflow_cast-result : goal.overflow_cast-result
 overflow_cast-result c = omega (arith, shifted c)

@@ -20,8 +20,13 @@ aligned : (c : Joined-field-eq0) → Aligned c.before.args.bits c.if-field-eq0.d
 aligned c =
     let b = c.before.args.bits in
     let t = bit_and b (2 ^ 52 - 1) in
-    elim c.if-field-eq0.branch [ then-field-eq0 w ↦ rw (w.digits-is, w.e-is) (aligned_low b t (count_leading_zeros 64 t) c.before.requires.fact_1 w.if-field-eq0.true
-    (and_mask b 52) refl) | else-field-eq0 w ↦ rw (w.digits-is, w.e-is) (aligned_normal b t c.before.requires.fact_2 w.if-field-eq0.false (and_mask b 52)) ]
+    elim c.if-field-eq0.branch [
+      | then-field-eq0 w ↦ rw (w.digits-is, w.e-is)
+          (aligned_low b t (count_leading_zeros 64 t) c.before.requires.positive w.if-field-eq0.true
+          (and_mask b 52) refl)
+      | else-field-eq0 w ↦ rw (w.digits-is, w.e-is)
+          (aligned_normal b t c.before.requires.finite w.if-field-eq0.false (and_mask b 52))
+    ]
 
 pub returns : goal.returns
 returns c =

@@ -19,7 +19,11 @@ returns-then-x c = let s = c.before in root_promised s.args.x _ (held s)
 pub parted-p-requires : goal.parted-p-requires
 parted-p-requires c =
     let s = c.before.before.before in
-    record { fact_1 = bits_positive s.args.x (held s) (rw (zero_bits binary64) at c.before.if-x-2.true); fact_2 = c.if-bits-lt9218868437227405312.true }
+    record {
+      positive = bits_positive s.args.x (held s) (rw (zero_bits binary64) at c.before.if-x-2.true);
+      finite =
+          c.if-bits-lt9218868437227405312.true;
+    }
 
 pub float_from_bits-result : goal.float_from_bits-result
 float_from_bits-result c =

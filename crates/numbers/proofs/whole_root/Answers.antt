@@ -1,6 +1,6 @@
 -- `numbers::whole_root` meets its contract: `Turn` is the invariant of its loop, and the turns that are left its
 -- measure. Assumes nothing.
-use Rattle.lists.specs.Prelude.{◌-◌, ◌<◌, ◌^◌, arith}
+use Rattle.lists.specs.Prelude.{◌<◌, ◌^◌, arith}
 use Rattle.numbers.proofs.Turns.{short_lt, no_digit, one_digit}
 use Rattle.numbers.proofs.whole_root.Goals.{At-loop-i, else-trial-next, then-trial-next}
 use Rattle.numbers.proofs.whole_root.Goals as goal
@@ -27,6 +27,10 @@ loop-i-preserved c =
     let start = at_loop.before in
     let l = at_loop.loop-i in
     let m = start.args.m in
-    elim c.if-trial-next.branch [ then-trial-next w ↦ rw (w.root-is, w.rest-is) (one_digit m l.left l.root l.rest l.i l.invariant
-    (omega (arith, at_loop_test.loop-i-test.true)) w.if-trial-next.true) | else-trial-next w ↦ rw (w.root-is, w.rest-is) (no_digit m l.left l.root l.rest l.i l.invariant
-    (omega (arith, at_loop_test.loop-i-test.true)) w.if-trial-next.false) ]
+    elim c.if-trial-next.branch [
+      | then-trial-next w ↦ rw (w.root-is, w.rest-is) (one_digit m l.left l.root l.rest l.i l.invariant
+          (omega (arith, at_loop_test.loop-i-test.true)) w.if-trial-next.true)
+      | else-trial-next w ↦ rw (w.root-is, w.rest-is)
+          (no_digit m l.left l.root l.rest l.i l.invariant
+          (omega (arith, at_loop_test.loop-i-test.true)) w.if-trial-next.false)
+    ]

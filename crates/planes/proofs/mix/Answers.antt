@@ -1,5 +1,4 @@
 -- `planes::mix` meets its contract: `Mixing`. Assumes nothing.
-use Rattle.lists.specs.Prelude.{◌-◌}
 use Rattle.planes.proofs.Mixing.{mixing_more, mixing_all}
 use Rattle.planes.proofs.mix.Goals as goal
 

@@ -1,5 +1,5 @@
 -- `planes::mix_frame` meets its contract: `Judging`. Assumes nothing.
-use Rattle.lists.specs.Prelude.{◌-◌, sym, ◌∙◌, true, false, or-true, or-false}
+use Rattle.lists.specs.Prelude.{sym, ◌∙◌, true, false, or-true, or-false}
 use Rattle.planes.proofs.Framing.{judged_by, judging_more}
 use Rattle.planes.proofs.Mixing.{output, output_is}
 use Rattle.lists.specs.Prelude.{ap, not}
@@ -27,4 +27,9 @@ loop-o-preserved c =
     starts.place-from.result ends.onward-to.result mixes.mix-x.result starts.place-from.ensures
     ends.onward-to.ensures mixes.mix-x.ensures)
     put.put_sample.ensures
-    (elim c.if-not-is_finite.branch [ then-not-is_finite w ↦ judge true (ap not w.if-not-is_finite.true) (w.damaged-is ∙ sym (or-true at_loop.loop-o.damaged)) | else-not-is_finite w ↦ judge false (ap not w.if-not-is_finite.false) (w.damaged-is ∙ sym (or-false at_loop.loop-o.damaged)) ])
+    (elim c.if-not-is_finite.branch [
+      | then-not-is_finite w ↦ judge true (ap not w.if-not-is_finite.true)
+          (w.damaged-is ∙ sym (or-true at_loop.loop-o.damaged))
+      | else-not-is_finite w ↦ judge false
+          (ap not w.if-not-is_finite.false) (w.damaged-is ∙ sym (or-false at_loop.loop-o.damaged))
+    ])

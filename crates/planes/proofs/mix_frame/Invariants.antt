@@ -5,7 +5,8 @@ use Rattle.planes.proofs.mix_frame.Given as goal
 
 abbrev pub invariant-loop-o : goal.invariant-loop-o
 invariant-loop-o l =
-    Judging l.initial.out l.out_stride l.out_frame l.outputs (output l.weights l.channels l.inputs l.stride l.frame) l.out l.damaged l.o
+    Judging l.initial.out l.out_stride l.out_frame l.outputs (output l.weights l.channels l.inputs l.stride l.frame)
+    l.out l.damaged l.o
 
 abbrev pub decreases-loop-o : goal.decreases-loop-o
 decreases-loop-o l = l.outputs - l.o

@@ -1,5 +1,4 @@
 -- `rows::put_row` meets its contract: `Putting`. Assumes nothing.
-use Rattle.lists.specs.Prelude.{◌-◌}
 use Rattle.rows.proofs.Putting.{one_left_out}
 use Rattle.rows.proofs.put_row.Goals as goal
 

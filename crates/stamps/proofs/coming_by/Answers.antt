@@ -11,7 +11,8 @@ pub returns-then-difference-le4096 : goal.returns-then-difference-le4096
 returns-then-difference-le4096 c = sym (difference_few c.before.before.args.difference (omega arith) (omega arith))
 
 pub returns-then-difference-lt2147483648 : goal.returns-then-difference-lt2147483648
-returns-then-difference-lt2147483648 c = sym (difference_more c.before.before.before.args.difference (omega arith) (omega arith))
+returns-then-difference-lt2147483648 c =
+    sym (difference_more c.before.before.before.args.difference (omega arith) (omega arith))
 
 pub returns : goal.returns
 returns c = sym (difference_half c.before.before.before.args.difference (omega arith))

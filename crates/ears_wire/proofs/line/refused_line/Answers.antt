@@ -1,0 +1,9 @@
+-- `ears_wire::line::refused_line` meets its contract. Assumes nothing.
+use Rattle.ears_wire.proofs.Parts.{lined_not, lined_put}
+use Rattle.ears_wire.proofs.line.refused_line.Goals as goal
+
+pub returns-then-out-lt-ROOM : goal.returns-then-out-lt-ROOM
+returns-then-out-lt-ROOM c = lined_not _ _ c.if-out-lt-ROOM.true
+
+pub returns : goal.returns
+returns c = search lined_put

@@ -1,0 +1,21 @@
+-- What stands at the loop's test, and what is known of it, is `Playing`; how many frames are left falls.
+use Rattle.lists.specs.Prelude.{◌-◌}
+use Rattle.hrtf.proofs.Playing.{Playing}
+use Rattle.hrtf.proofs.frames.block.Given as goal
+
+abbrev pub invariant-loop-played : goal.invariant-loop-played
+invariant-loop-played l =
+    Playing (record {
+      shape = l.scaled.shape;
+      frames = l.frames;
+      stride = l.stride;
+      inputs = l.inputs;
+      weights = l.weights;
+      rows = l.row_of;
+      taps = l.taps;
+      ears = l.initial.ears;
+    })
+    (record { rings = l.initial.rings; desk = l.fn.desk }) l.rings l.ears l.standing l.played.unsettled l.played.frames
+
+abbrev pub decreases-loop-played : goal.decreases-loop-played
+decreases-loop-played l = l.frames - l.played.frames
