@@ -1,5 +1,6 @@
 -- Of one file no two answers meet the promise of `read_bank`; which file it is no contract can name. Assumes nothing.
-use Rattle.lists.specs.Prelude.{◌≡◌, sym, ◌∙◌}
+use Rattle.std.specs.Prelude.{◌≡◌}
+use Rattle.lists.specs.Prelude.{sym, ◌∙◌}
 use denote.Triple.Entry.{Args}
 use Rattle.lists.specs.OneAnswer.{Lives, HandedBack, Allows}
 use Rattle.files.specs.contracts.read_bank as read_bank

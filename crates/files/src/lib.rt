@@ -15,12 +15,10 @@ ghost use Rattle.files.specs.Promise.{ReadBehind, ReadSized, Found};
 
 use bank::BankRead;
 use bank_form::LARGEST;
-use std::fs;
-use std::io;
 use std::io::Read;
 use std::os::fd::AsRawFd;
 use std::rt::Files;
-use std::str;
+use std::{fs, io, str};
 
 // The number of standard error.
 const STDERR: i32 = 2;
@@ -42,7 +40,12 @@ fn end_of_read(at: usize, limit: usize, size: usize) -> usize
 // Reads once behind the bytes that are held, which stay, and answers how many bytes now stand in the buffer; a read
 // that fails has added none. Where there is no room behind them it adds none, and `limit` 0 counts as 1: a read of no
 // bytes would look like the end of the file.
-pub fn read_some<R: Read>(file: &mut R, held: usize, limit: usize, bytes: &mut [u8]) -> io::Result<usize>
+pub fn read_some<R: Read>(
+    file: &mut R,
+    held: usize,
+    limit: usize,
+    bytes: &mut [u8],
+) -> io::Result<usize>
     ensures { MatchResult result
         (λ n. ReadBehind held limit bytes.old false n bytes.new)
         (λ _. ReadBehind held limit bytes.old true (min held (length bytes.old)) bytes.new) }
