@@ -1,6 +1,7 @@
 -- What a conversion answers at each of its tests, and what its answer says of the file (`converts_2`, `converts_1`).
 -- Assumes nothing.
-use Rattle.lists.specs.Prelude.{◌≡◌, refl, sym, ap, subst, ◌∙◌, true, false, true≢false, List, ⊎_elim, ℕ, arith, eq-eqb}
+use Rattle.std.specs.Prelude.{◌≡◌}
+use Rattle.lists.specs.Prelude.{refl, sym, ap, subst, ◌∙◌, true, false, true≢false, List, ⊎_elim, ℕ, arith, eq-eqb}
 use Rattle.lists.specs.Prelude.{ne_eqb, eqb-true, eqb, length}
 use Rattle.refusals.specs.Ranges.{within}
 use Rattle.refusals.proofs.Ranges.{within_true}
@@ -50,7 +51,8 @@ module _ (v : ℕ) (b : Bank) (out : List ℕ) where
         fault_accepted (write_bank v b) (λ f. write_refused f out) (output_fault v b out) (same_number (right h))
 
   -- an output without fault: no elevations that have no place, and the length of the new file
-  output_fits : (output_fault v b out).refusal ≡ 0 → ((raised_fault_at v b).refusal ≡ 0) × (length out ≡ length (encode v b))
+  output_fits : (output_fault v b out).refusal ≡ 0 → ((raised_fault_at v b).refusal ≡ 0) × (length out
+      ≡ length (encode v b))
   output_fits e =
       let both = else_none (raised_fault_at v b) sized e in (
         both.0,
@@ -68,7 +70,8 @@ module _ (from to : ℕ) (file out : List ℕ) where
       (conversion_refusal from to file out) r
       (sym (else_stop (fault_of from file) (output_fault to (bank_in file) out) r e bad)) bad
 
-  pub version_right : (fault_of from file).refusal ≡ 0 → converted_bank to (bank_in file) out ≡ conversion from to file out
+  pub version_right : (fault_of from file).refusal ≡ 0 → converted_bank to (bank_in file) out
+      ≡ conversion from to file out
   unfolding conversion conversion_refusal
   version_right none = ap (λ (f : Fault). write_as f to (bank_in file) out)
       (sym (else_on (fault_of from file) (output_fault to (bank_in file) out) (fault_of from file) refl none))
@@ -175,7 +178,8 @@ pub back_told : (file out : List ℕ) (f : Fault) → or_else (fault_of 2 file) 
 unfolding conversion_refusal
 back_told file out f e bad =
     sym (else_assoc (fault_of 2 file) (raised_fault_at 1 (bank_in file)) (sized 1 (bank_in file) out))
-    ∙ sym (else_stop (or_else (fault_of 2 file) (raised_fault_at 1 (bank_in file))) (sized 1 (bank_in file) out) f (sym e)
+    ∙ sym (else_stop (or_else (fault_of 2 file) (raised_fault_at 1 (bank_in file))) (sized 1 (bank_in file) out) f
+    (sym e)
     bad)
 
 -- a bank with elevations is told by 21

@@ -1,7 +1,7 @@
 -- What reading and writing answer at each of their tests, and what a caller learns from an answer. Assumes nothing.
-use Rattle.lists.specs.Prelude.{◌≡◌, refl, sym, ap, ap₂, ◌∙◌, Bool, true, false, ◌&&◌, and-eq-true_iff, List, ◌⊎◌, inl}
-use Rattle.lists.specs.Prelude.{inr, ℕ, zero, suc, ◌+◌, ◌-◌, ◌*◌, ◌^◌, ◌≤◌, ◌<◌, ℕ_discrete, arith, eq-eqb, ne_eqb}
-use Rattle.lists.specs.Prelude.{eqb-true, T, eqb, Float, ℤ, length}
+use Rattle.std.specs.Prelude.{◌≡◌, ◌&&◌, ◌⊎◌, ◌+◌, ◌-◌, ◌*◌, ◌^◌, ◌≤◌, ◌<◌}
+use Rattle.lists.specs.Prelude.{refl, sym, ap, ap₂, ◌∙◌, Bool, true, false, and-eq-true_iff, List, inl, inr, ℕ, zero}
+use Rattle.lists.specs.Prelude.{suc, ℕ_discrete, arith, eq-eqb, ne_eqb, eqb-true, T, eqb, Float, ℤ, length}
 use lib.Ieee.Bits.{is_true}
 use Rattle.lists.proofs.Tests.{test_cases}
 use Rattle.refusals.proofs.First.{answered_number}
@@ -172,7 +172,8 @@ module _ (zs es : List ℤ) (xs : List Float) where
 
 module _ (file : List ℕ) (zs es : List ℤ) (xs : List Float) where
   -- what stands in the lists once the rows are filled in
-  pub filled : (v n l : ℕ) (ys ts : List ℤ) (ws : List Float) → v ≡ version_in file → n ≡ rows_in_of file → l ≡ length_in file
+  pub filled : (v n l : ℕ) (ys ts : List ℤ) (ws : List Float) → v ≡ version_in file → n ≡ rows_in_of file
+      → l ≡ length_in file
       → ys ≡ placed zs 0 (azimuths_from file v l 9 n) → ts ≡ placed es 0 (elevations_from file v l 9 n)
       → ws ≡ placed xs 0 (taps_from file v l 9 n)
       → ◌≡◌ {A = ReadOutcome}

@@ -1,6 +1,7 @@
 -- Answers of another shape than the code's, each of which a worked input shows to break its promise. Assumes nothing.
-use Rattle.lists.specs.Prelude.{◌≡◌, refl, sym, ap, ◌∙◌, List, [], ◌∷◌, false, true≢false, ℕ, arith, Float, ℤ, pos}
-use Rattle.lists.specs.Prelude.{length, take, drop, replicate, get_or, length-replicate}
+use Rattle.std.specs.Prelude.{◌≡◌, ◌∷◌}
+use Rattle.lists.specs.Prelude.{refl, sym, ap, ◌∙◌, List, [], false, true≢false, ℕ, arith, Float, ℤ, pos, length, take}
+use Rattle.lists.specs.Prelude.{drop, replicate, get_or, length-replicate}
 use lib.Signed.{mag}
 use Rattle.lists.specs.Placed.{placed}
 use Rattle.big_endian.specs.Bytes.{bytes_of, AreBytes}
@@ -177,7 +178,8 @@ back_refuses_always : (out : List ℕ) (w : WriteOutcome) → length out ≡ 19 
 back_refuses_always out w h t refuses = refuses (ap (λ (q : WriteOutcome). q.answer.refusal) (drill_back out w h t))
 
 -- a file with elevations is turned back, these being dropped
-elevations_dropped : (file out : List ℕ) (w : WriteOutcome) → ToVersion1Promise file out w → level (bank_in file) ≡ false
+elevations_dropped : (file out : List ℕ) (w : WriteOutcome) → ToVersion1Promise file out w
+    → level (bank_in file) ≡ false
     → w.answer.refusal ≡ 0 → ⊥
 elevations_dropped file out w t raised e = true≢false (sym (t.words.turned e).0 ∙ raised)
 

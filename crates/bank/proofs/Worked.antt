@@ -1,7 +1,8 @@
 -- Worked conversions (document 02, E6): which refusal comes first, in whatever output, and three rows there and back.
 -- Assumes nothing.
-use Rattle.lists.specs.Prelude.{◌≡◌, refl, sym, ap, ◌∙◌, true, List, [], ◌∷◌, flat_map, ℕ, arith, to_bits, fits, pos}
-use Rattle.lists.specs.Prelude.{negsuc, length, set}
+use Rattle.std.specs.Prelude.{◌≡◌, ◌∷◌}
+use Rattle.lists.specs.Prelude.{refl, sym, ap, ◌∙◌, true, List, [], flat_map, ℕ, arith, to_bits, fits, pos, negsuc}
+use Rattle.lists.specs.Prelude.{length, set}
 use Rattle.formats.specs.Floats.{one_float, half_float}
 use Rattle.big_endian.specs.Bytes.{bytes_of}
 use Rattle.big_endian.specs.Lists.{field_bytes}
@@ -11,7 +12,8 @@ use Rattle.bank_form.specs.Version.{elevation_bytes}
 use Rattle.bank_form.specs.Encoding.{row_bytes, head_bytes, encode}
 use Rattle.bank_form.specs.Fault.{wrong}
 use Rattle.bank_form.specs.File.{IsFile}
-use Rattle.bank_form.proofs.Worked.{example2, one_at, version_2_with_1_in_front_forward, raised_back, elevation_901_back}
+use Rattle.bank_form.proofs.Worked.{example2, one_at, version_2_with_1_in_front_forward}
+use Rattle.bank_form.proofs.Worked.{raised_back, elevation_901_back}
 use Rattle.bank.specs.Writing.{WriteOutcome}
 use Rattle.bank.specs.Conversion.{conversion_refusal, ToVersion1Promise, ToVersion2Promise}
 use Rattle.bank.proofs.Converting.{holds_2, forward_told, back_told}

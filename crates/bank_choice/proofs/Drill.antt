@@ -1,7 +1,7 @@
 -- Item 10 of the marked drill table, at elevation 0 throughout: with rows at 0 and 450 tenths, a speaker at 225 tenths
 -- takes the first. It is document 01's choice (`one_elevation_as_before`). Assumes nothing.
-use Rattle.lists.specs.Prelude.{◌≡◌, refl, sym, ◌∙◌, true, List, ◌∷◌, ℕ, zero, suc, ◌<◌, arith, lit<, lit≤, ℤ, pos}
-use Rattle.lists.specs.Prelude.{length, get_or}
+use Rattle.std.specs.Prelude.{◌≡◌, ◌∷◌, ◌<◌}
+use Rattle.lists.specs.Prelude.{refl, sym, ◌∙◌, true, List, ℕ, zero, suc, arith, lit<, lit≤, ℤ, pos, length, get_or}
 use Rattle.bank_choice.specs.declared.Choice.{Choice}
 use Rattle.bank_choice.specs.Choice.{in_tenths, is_elevation, choice_refusal, ChoicePromise}
 use Rattle.bank_choice.specs.Nearest.{angle_apart, TakesByAzimuth, OneElevation}
@@ -18,7 +18,8 @@ two P x y (suc (suc j)) h = absurd (omega arith)
 -- lists of 8 that start with rows at 0 and 450, at elevation 0; what stands beyond the two rows does not count
 module _ (rest : List ℤ) (six : length rest ≡ 6) (heights : List ℤ) (six-heights : length heights ≡ 6)
     (r : Choice) where
-  accepted : (p : ℤ) → in_tenths p ≡ true → choice_refusal (pos 0 ∷ pos 450 ∷ rest) (pos 0 ∷ pos 0 ∷ heights) 2 p (pos 0)
+  accepted : (p : ℤ) → in_tenths p ≡ true → choice_refusal (pos 0 ∷ pos 450 ∷ rest) (pos 0 ∷ pos 0 ∷ heights) 2 p
+      (pos 0)
       ≡ 0
   unfolding choice_refusal is_elevation
   accepted p h = rw (h, six, six-heights)

@@ -1,6 +1,7 @@
 -- Lists that begin alike have the same fields there, and a walk finds the same in both where all its fields end there.
 -- Assumes nothing.
-use Rattle.lists.specs.Prelude.{◌≡◌, refl, ap, List, ℕ, zero, suc, ◌+◌, ◌*◌, ◌≤◌, mul-le-mul_right, arith, Float, eqb}
+use Rattle.std.specs.Prelude.{◌≡◌, ◌+◌, ◌*◌, ◌≤◌}
+use Rattle.lists.specs.Prelude.{refl, ap, List, ℕ, zero, suc, mul-le-mul_right, arith, Float, eqb}
 use lib.Ieee.Scale.{finite}
 use Rattle.lists.proofs.Tests.{test_cases}
 use Rattle.big_endian.specs.Fields.{signed_at, float_at}
@@ -54,7 +55,8 @@ module _ (k : ℕ) (s t : List ℕ) (same : SameStart k s t) where
     taps_agree at zero h = refl
     taps_agree at (suc n) h = rw (tap_agrees at (omega arith), taps_agree (at + 4) n (omega arith))
 
-    pub elevation_fault_agrees : (v at : ℕ) → taps_at v at ≤ k → elevation_fault size t v at ≡ elevation_fault size s v at
+    pub elevation_fault_agrees : (v at : ℕ) → taps_at v at ≤ k
+        → elevation_fault size t v at ≡ elevation_fault size s v at
     unfolding elevation_fault
     elevation_fault_agrees v at h = test_cases (eqb v 1) (λ e. rw e)
         (λ e. rw e (ap (field size (at + 2) 2 20) (field_elevation_agrees (at + 2) (rw e at h))))

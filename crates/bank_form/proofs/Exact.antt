@@ -1,7 +1,7 @@
 -- The walk finds nothing exactly if the bytes are those of a bank that keeps the form (`exactly`). Assumes nothing.
-use Rattle.lists.specs.Prelude.{◌≡◌, sym, ap, ◌∙◌, true, and-eq-true_iff, List, ℕ, zero, suc, ◌+◌, ◌*◌, ◌^◌, ◌<◌, arith}
-use Rattle.lists.specs.Prelude.{leb-true, eqb-true, eq-eqb, leb, eqb, Float, nan, binary32, fits, ℤ, pos, negsuc}
-use Rattle.lists.specs.Prelude.{length}
+use Rattle.std.specs.Prelude.{◌≡◌, ◌+◌, ◌*◌, ◌^◌, ◌<◌}
+use Rattle.lists.specs.Prelude.{sym, ap, ◌∙◌, true, and-eq-true_iff, List, ℕ, zero, suc, arith, leb-true, eqb-true}
+use Rattle.lists.specs.Prelude.{eq-eqb, leb, eqb, Float, nan, binary32, fits, ℤ, pos, negsuc, length}
 use lib.Ieee.Fits.{nan-fits}
 use lib.Ieee.Scale.{finite}
 use Rattle.big_endian.specs.Bytes.{AreBytes}
@@ -15,7 +15,8 @@ use Rattle.bank_form.specs.Bank.{valid, level}
 use Rattle.bank_form.specs.Version.{row_size, elevation_at}
 use Rattle.bank_form.specs.Encoding.{encode}
 use Rattle.bank_form.specs.FitsFields.{IsI16, IsFloat, FitsFields}
-use Rattle.bank_form.specs.Fault.{elevations_from, pair_in, pairs_from, version_in, rows_in_of, length_in, bank_in, is_new}
+use Rattle.bank_form.specs.Fault.{elevations_from, pair_in, pairs_from, version_in, rows_in_of}
+use Rattle.bank_form.specs.Fault.{length_in, bank_in, is_new}
 use Rattle.bank_form.specs.Fault.{fault, is_file}
 use Rattle.bank_form.specs.File.{Holds, IsFile, Exactly}
 use Rattle.lists.proofs.ForAll.{forall_every}
@@ -86,7 +87,8 @@ module _ (s : List ℕ) where
 
   pub paired_in : length (bank_in s).elevations ≡ rows (bank_in s)
   paired_in =
-      length_strided (elevation_at (version_in s) s) (row_size (version_in s) (length_in s)) 9 (rows_in_of s) ∙ sym rows_in
+      length_strided (elevation_at (version_in s) s) (row_size (version_in s) (length_in s)) 9 (rows_in_of s)
+      ∙ sym rows_in
 
   pub flat_in : version_in s ≡ 1 → level (bank_in s) ≡ true
   flat_in e = levels s (version_in s) (length_in s) 9 (rows_in_of s) e
@@ -125,7 +127,8 @@ module _ (s : List ℕ) where
       elevations = k.elevations;
       new = λ j h.
           let z : 0 + j ≡ j = omega arith in
-          rw z (pairwise_before (pair_in (version_in s) s) (row_size (version_in s) (length_in s)) differ 9 (rows_in_of s)
+          rw z (pairwise_before (pair_in (version_in s) s) (row_size (version_in s) (length_in s)) differ 9
+          (rows_in_of s)
           (ap (pairwise differ) (sym pairs_in) ∙ k.apart) j h);
       taps = k.numbers;
     };

@@ -1,6 +1,7 @@
 -- Checks run in byte order: what stands behind the field at fault changes nothing (`byte_order`). Assumes nothing.
-use Rattle.lists.specs.Prelude.{◌≡◌, refl, sym, ap, ◌∙◌, Bool, List, ℕ, zero, suc, ◌+◌, ◌-◌, ◌*◌, ◌≤◌, ◌<◌, le_refl}
-use Rattle.lists.specs.Prelude.{dec_lt, arith, eqb-true, eqb-false, eqb, length}
+use Rattle.std.specs.Prelude.{◌≡◌, ◌+◌, ◌-◌, ◌*◌, ◌≤◌, ◌<◌}
+use Rattle.lists.specs.Prelude.{refl, sym, ap, ◌∙◌, Bool, List, ℕ, zero, suc, le_refl, dec_lt, arith, eqb-true}
+use Rattle.lists.specs.Prelude.{eqb-false, eqb, length}
 use lib.Ieee.Scale.{finite}
 use Rattle.lists.proofs.Tests.{test_cases, by_test}
 use Rattle.big_endian.specs.Fields.{field_at}
@@ -74,7 +75,8 @@ module _ (size : ℕ) (s t : List ℕ) where
         elim (dec_lt size (at + field_size n)) [
           | yes k ↦ rw (field_short size at (field_size n) n good k, field_short size at (field_size n) n good' k)
               (record { after = λ w. omega arith; same = λ w g. refl })
-          | no k ↦ test_cases good (λ e. rw (field_good size at (field_size n) n good (omega arith) e) (kept_sound at _))
+          | no k ↦ test_cases good (λ e. rw (field_good size at (field_size n) n good (omega arith) e)
+              (kept_sound at _))
               (λ e. rw (field_bad size at (field_size n) n good (omega arith) e) (record {
                 after = λ w. omega arith;
                 same = λ w g. field_bad size at _ n good' (omega arith) (agrees g ∙ e);
@@ -97,7 +99,8 @@ module _ (size : ℕ) (s t : List ℕ) where
       kept_next at 18 _ _ h (λ g. ap finite (float_agrees (at + 4) s t g at (le_refl (at + 4)))) (omega arith) _ _
       (kept_taps (at + 4) n)
 
-  kept_elevation : (v at : ℕ) → at + 2 ≤ size → Kept (at + 2) (elevation_fault size s v at) (elevation_fault size t v at)
+  kept_elevation : (v at : ℕ) → at + 2 ≤ size → Kept (at + 2) (elevation_fault size s v at)
+      (elevation_fault size t v at)
   kept_elevation v at h =
       test_cases (eqb v 1) (λ e. rw (no_elevation size s v at e) (kept_sound (at + 2) _))
       (λ e. rw (elevation_field size s v at e, elevation_field size t v at e)
@@ -148,7 +151,8 @@ module _ (size : ℕ) (s t : List ℕ) where
       → Kept 9 (rows_fault size s (version_in s) (length_in s) 0 9 (rows_in_of s))
       (rows_fault size t (version_in t) (length_in t) 0 9 (rows_in_of t))
   kept_all e =
-      let k = kept_rows (head_none size s e).rest (version_in s) (length_in s) 0 9 (rows_in_of s) (head_none size s e).long
+      let k = kept_rows (head_none size s e).rest (version_in s) (length_in s) 0 9 (rows_in_of s)
+      (head_none size s e).long
       (omega arith) in
       record {
         after = k.after;

@@ -1,10 +1,10 @@
 -- The laws of the form: reading what was written gives the same bank (`read_write`), and writing what was read gives
 -- the same bytes (`write_read`). Assumes nothing.
-use Rattle.lists.specs.Prelude.{◌≡◌, refl, sym, ap, ◌∙◌, true, and-eq-true_iff, List, [], ◌∷◌, ◌++◌, map, append_assoc}
-use Rattle.lists.specs.Prelude.{append-nil, ℕ, zero, suc, ◌+◌, ◌-◌, ◌*◌, ◌^◌, ◌≤◌, ◌<◌, mul-le-mul, le_of_suc-le-suc}
-use Rattle.lists.specs.Prelude.{arith, Float, nan, binary32, fits, of_bits, to_bits, eqb-true, eqb, ℤ, pos, length, get_or}
-use Rattle.lists.specs.Prelude.{take, drop, length-append, length-drop, take-append-drop, drop_of_length-le, drop-drop}
-use Rattle.lists.specs.Prelude.{take_at, drop_at, length-take-le}
+use Rattle.std.specs.Prelude.{◌≡◌, ◌∷◌, ◌++◌, ◌+◌, ◌-◌, ◌*◌, ◌^◌, ◌≤◌, ◌<◌}
+use Rattle.lists.specs.Prelude.{refl, sym, ap, ◌∙◌, true, and-eq-true_iff, List, [], map, append_assoc, append-nil, ℕ}
+use Rattle.lists.specs.Prelude.{zero, suc, mul-le-mul, le_of_suc-le-suc, arith, Float, nan, binary32, fits, of_bits}
+use Rattle.lists.specs.Prelude.{to_bits, eqb-true, eqb, ℤ, pos, length, get_or, take, drop, length-append, length-drop}
+use Rattle.lists.specs.Prelude.{take-append-drop, drop_of_length-le, drop-drop, take_at, drop_at, length-take-le}
 use lib.Ieee.Bits.{of_bits-to_bits, to_bits-of_bits, to_bits-lt}
 use lib.Ieee.Fits.{nan-fits}
 use lib.Ieee.Scale.{finite}
@@ -77,7 +77,8 @@ elevation_stands s v at z t f e =
     test_cases (eqb v 1) (λ k. rw k (sym (f.levelled k), no_field s at ∙ rw k at e))
     (λ k. rw k (signed_stands s (at + 2) z t f.i16 (rw k at e)))
 
-elevation_forth : (s : List ℕ) (v at : ℕ) → AreBytes s → taps_at v at ≤ length s → elevation_bytes v (elevation_at v s at)
+elevation_forth : (s : List ℕ) (v at : ℕ) → AreBytes s → taps_at v at ≤ length s
+    → elevation_bytes v (elevation_at v s at)
     ++ drop (taps_at v at) s ≡ drop (at + 2) s
 unfolding elevation_bytes elevation_at
 elevation_forth s v at bytes h =
@@ -171,7 +172,8 @@ record TapsStand (s : List ℕ) (p : ℕ) (xs : List Float) (t : List ℕ) : Typ
   same : strided (float_at s) 4 p (length xs) ≡ xs
   after : drop (p + 4 * length xs) s ≡ t
 
-taps_stand : (s : List ℕ) (p : ℕ) (xs : List Float) (t : List ℕ) → ForAll IsFloat nan xs → drop p s ≡ float_bytes xs ++ t
+taps_stand : (s : List ℕ) (p : ℕ) (xs : List Float) (t : List ℕ) → ForAll IsFloat nan xs
+    → drop p s ≡ float_bytes xs ++ t
     → TapsStand s p xs t
 unfolding float_at
 taps_stand s p [] t f e = record {
@@ -328,7 +330,8 @@ unfolding float_at is_tap
 tap_back s p bytes h = to_bits-of_bits binary32 (field_at s p 4) (field_below s p 4 bytes)
     (finite_no_nan (float_at s p) ((and-eq-true_iff (fits binary32 (float_at s p)) (finite (float_at s p))).0 h).1)
 
-taps_forth : (s : List ℕ) (p k : ℕ) → AreBytes s → p + 4 * k ≤ length s → every is_tap (strided (float_at s) 4 p k) ≡ true
+taps_forth : (s : List ℕ) (p k : ℕ) → AreBytes s → p + 4 * k ≤ length s
+    → every is_tap (strided (float_at s) 4 p k) ≡ true
     → float_bytes (strided (float_at s) 4 p k) ++ drop (p + 4 * k) s ≡ drop p s
 taps_forth s p zero bytes h e = rw (strided_none (float_at s) 4 p, field_bytes_none 4 (to_bits binary32))
     (sym (from_there s p (p + 4 * 0) _ (omega arith) refl))
@@ -354,7 +357,8 @@ unfolding row_bytes
 rows_forth s v l p zero bytes size e =
     rw (strided_none (pair_in v s) (row_size v l) p) (sym (drop_of_length-le s {i = p} (omega arith)))
 rows_forth s v l p (suc n) bytes size e =
-    let both = (and-eq-true_iff (every is_tap (row_taps s v l p)) (every is_tap (taps_from s v l (p + row_size v l) n))).0
+    let both = (and-eq-true_iff (every is_tap (row_taps s v l p)) (every is_tap (taps_from s v l
+    (p + row_size v l) n))).0
     (sym (taps_parted s v l p n) ∙ e) in
     let long : length (row_taps s v l p) ≡ 2 * l = length_strided (float_at s) 4 (taps_at v p) (2 * l) in
     let q : taps_at v p + 4 * (2 * l) ≡ p + row_size v l = omega arith in

@@ -1,8 +1,8 @@
 -- One turn of each walk of specs/Fault.antt, and what a walk that finds nothing says. Assumes nothing.
-use Rattle.lists.specs.Prelude.{◌≡◌, refl, sym, ap, subst, subst₂, ◌∙◌, Bool, true, false, ◌&&◌, cond, and-eq-true_iff}
-use Rattle.lists.specs.Prelude.{List, ℕ, zero, suc, ◌+◌, ◌-◌, ◌*◌, ◌≤◌, ◌<◌, min, suc-le-suc, le_of_suc-le-suc}
-use Rattle.lists.specs.Prelude.{suc-ne-zero, sub-one, dec_lt, arith, eqb-true, eqb-false, lt-ltb, le-ltb, eq-eqb, ne_eqb}
-use Rattle.lists.specs.Prelude.{eqb, binary32, fits}
+use Rattle.std.specs.Prelude.{◌≡◌, ◌&&◌, ◌+◌, ◌-◌, ◌*◌, ◌≤◌, ◌<◌}
+use Rattle.lists.specs.Prelude.{refl, sym, ap, subst, subst₂, ◌∙◌, Bool, true, false, cond, and-eq-true_iff, List, ℕ}
+use Rattle.lists.specs.Prelude.{zero, suc, min, suc-le-suc, le_of_suc-le-suc, suc-ne-zero, sub-one, dec_lt, arith}
+use Rattle.lists.specs.Prelude.{eqb-true, eqb-false, lt-ltb, le-ltb, eq-eqb, ne_eqb, eqb, binary32, fits}
 use lib.Ieee.Bits.{is_true, of_bits-fits}
 use lib.Ieee.Scale.{finite}
 use Rattle.lists.proofs.Tests.{test_cases, by_test}
@@ -16,7 +16,8 @@ use Rattle.refusals.proofs.Ranges.{within_true, within_in}
 use Rattle.refusals.proofs.First.{answered_accepted, answered_refused}
 use Rattle.bank_form.specs.Bank.{Pair, is_azimuth, is_elevation, differ, is_tap}
 use Rattle.bank_form.specs.Version.{row_size, taps_at, pair_at, elevation_at}
-use Rattle.bank_form.specs.Fault.{azimuths_from, elevations_from, row_taps, taps_from, version_in, rows_in_of, length_in}
+use Rattle.bank_form.specs.Fault.{azimuths_from, elevations_from, row_taps, taps_from}
+use Rattle.bank_form.specs.Fault.{version_in, rows_in_of, length_in}
 use Rattle.bank_form.specs.Fault.{pair_in, sound, wrong, unless, or_else, field, taps_fault, is_new, elevation_fault}
 use Rattle.bank_form.specs.Fault.{row_fault, rows_fault, head_field, head_fault, fault_in}
 use Rattle.lists.proofs.Every.{every_append}
@@ -352,7 +353,9 @@ module _ (size : ℕ) (s : List ℕ) (v l : ℕ) where
         ends = ends ∙ omega arith;
         azimuths = azimuths.1;
         elevations = elevations.1;
-        new = λ j h. moved s v l (i + suc j) (i + 1 + j) (at + suc j * row_size v l) (at + row_size v l + j * row_size v l)
+        new =
+            λ j h. moved s v l (i + suc j) (i + 1 + j) (at + suc j * row_size v l)
+            (at + row_size v l + j * row_size v l)
             (omega arith) (omega arith) (r.new (suc j) (suc-le-suc h));
         taps = taps.1;
       }))

@@ -1,14 +1,16 @@
 -- Worked files and banks (document 02, E2 and E6): what is told of each, and at which byte. The short ones are
 -- computed; of a file of 40,000 bytes the start is. Assumes nothing.
-use Rattle.lists.specs.Prelude.{◌≡◌, refl, sym, ap, ◌∙◌, false, List, [], ◌∷◌, ◌++◌, map, ℕ, ◌*◌, ◌≤◌, ◌<◌, arith, fin}
-use Rattle.lists.specs.Prelude.{fits, of_fields, of_bits, ℤ, pos, length, take, set, replicate, take-length}
+use Rattle.std.specs.Prelude.{◌≡◌, ◌∷◌, ◌++◌, ◌*◌, ◌≤◌, ◌<◌}
+use Rattle.lists.specs.Prelude.{refl, sym, ap, ◌∙◌, false, List, [], map, ℕ, arith, fin, fits, of_fields, of_bits, ℤ}
+use Rattle.lists.specs.Prelude.{pos, length, take, set, replicate, take-length}
 use Rattle.big_endian.specs.Bytes.{value_of}
 use Rattle.big_endian.specs.Fields.{field_at, signed_at, float_at}
 use Rattle.big_endian.specs.Lists.{strided}
 use Rattle.bank_form.specs.declared.Fault.{Fault}
 use Rattle.bank_form.specs.Bank.{Bank, pairs_of, rows, is_azimuth, is_elevation, unlike, differ, is_tap, is_level}
 use Rattle.bank_form.specs.Version.{elevation_at}
-use Rattle.bank_form.specs.Fault.{rows_in_of, bank_in, elevation_fault, fault_of, raised_from, raised_fault, sound, wrong}
+use Rattle.bank_form.specs.Fault.{rows_in_of, bank_in, elevation_fault, fault_of, raised_from}
+use Rattle.bank_form.specs.Fault.{raised_fault, sound, wrong}
 use Rattle.bank_form.specs.Fault.{or_else, field, taps_fault, is_new, row_fault, rows_fault, head_field, head_fault}
 use Rattle.bank_form.specs.Fault.{fault_in, fault}
 use Rattle.bank_form.specs.FaultLaws.{row_place, Begins}
@@ -19,9 +21,9 @@ use Rattle.bank_form.proofs.Agree.{head_agrees, fault_agrees}
 
 -- what opens this opens every definition that a walk computes with
 walk : ℕ → List ℕ → Fault
-unfolding fault_in head_fault head_field rows_fault row_fault elevation_fault elevation_at is_new taps_fault field or_else
-    is_azimuth is_elevation unlike differ field_at signed_at float_at value_of strided of_bits of_fields fault_of raised_from
-    is_level
+unfolding fault_in head_fault head_field rows_fault row_fault elevation_fault elevation_at is_new taps_fault field
+    or_else is_azimuth is_elevation unlike differ field_at signed_at float_at value_of strided of_bits of_fields
+    fault_of raised_from is_level
 walk size s = fault_in size s
 
 -- ---- the example of document 01: "One row at 0, L = 1, left 1.0, right 0.5"

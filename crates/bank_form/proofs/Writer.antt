@@ -1,10 +1,10 @@
 -- The writer's fault is the reader's of the bytes that would be written (`writer_as_reader`), a bank that has its taps
 -- has none exactly if it keeps the form (`write_none`), and it is told by 15 to 18 and 20 (`writer_numbers`). Assumes
 -- nothing.
-use Rattle.lists.specs.Prelude.{◌≡◌, refl, sym, ap, ap₂, ◌∙◌, Bool, true, false, ◌&&◌, and-true, and-false, List, []}
-use Rattle.lists.specs.Prelude.{◌∷◌, ◌++◌, map, ◌⊎◌, inl, inr, ℕ, zero, suc, ◌+◌, ◌-◌, ◌*◌, ◌≤◌, add-one, arith, eq-eqb}
-use Rattle.lists.specs.Prelude.{eqb, Float, length, take, drop, length-drop, take-append-drop, drop_of_length-le}
-use Rattle.lists.specs.Prelude.{take_at, drop_at}
+use Rattle.std.specs.Prelude.{◌≡◌, ◌&&◌, ◌∷◌, ◌++◌, ◌⊎◌, ◌+◌, ◌-◌, ◌*◌, ◌≤◌}
+use Rattle.lists.specs.Prelude.{refl, sym, ap, ap₂, ◌∙◌, Bool, true, false, and-true, and-false, List, [], map, inl}
+use Rattle.lists.specs.Prelude.{inr, ℕ, zero, suc, add-one, arith, eq-eqb, eqb, Float, length, take, drop, length-drop}
+use Rattle.lists.specs.Prelude.{take-append-drop, drop_of_length-le, take_at, drop_at}
 use lib.Ieee.Scale.{finite}
 use Rattle.lists.proofs.Tests.{test_cases}
 use Rattle.big_endian.specs.Fields.{field_at, signed_at, float_at}
@@ -38,7 +38,8 @@ else_four a b c d e = cc (else_assoc a (or_else b (or_else c d)) e, else_assoc b
 -- ---- a file of the right size: the walk over it is the one over the bank that stands in it
 
 module _ (size : ℕ) (s : List ℕ) where
-  taps_as_written : (at n : ℕ) → at + 4 * n ≤ size → taps_fault size s at n ≡ taps_wrong at (strided (float_at s) 4 at n)
+  taps_as_written : (at n : ℕ) → at + 4 * n ≤ size → taps_fault size s at n
+      ≡ taps_wrong at (strided (float_at s) 4 at n)
   unfolding taps_fault taps_wrong
   taps_as_written at zero h = sym (ap (taps_wrong at) (strided_none (float_at s) 4 at))
   taps_as_written at (suc n) h =
@@ -76,7 +77,8 @@ module _ (size : ℕ) (s : List ℕ) where
         )
 
     rows_as_written : (i at n : ℕ) → at ≡ 9 + i * row_size v l → size ≡ at + n * row_size v l
-        → rows_fault size s v l i at n ≡ rows_wrong v (pairs_from s v l 9 i) (pairs_from s v l at n) l (taps_from s v l at n)
+        → rows_fault size s v l i at n ≡ rows_wrong v (pairs_from s v l 9 i) (pairs_from s v l at n) l
+        (taps_from s v l at n)
         at
     unfolding rows_fault rows_wrong
     rows_as_written i at zero e h = rw (eq-eqb size at (h ∙ omega arith), strided_none (pair_in v s) (row_size v l) at)
@@ -119,7 +121,8 @@ module _ (v : ℕ) (b : Bank) (s : List ℕ) (known : within 1 2 v ≡ true) (w 
         short,
       )
 
-  rows_of_bank : rows_fault (length s) s (version_in s) (length_in s) 0 9 (rows_in_of s) ≡ rows_wrong v [] (pairs b) b.length
+  rows_of_bank : rows_fault (length s) s (version_in s) (length_in s) 0 9 (rows_in_of s)
+      ≡ rows_wrong v [] (pairs b) b.length
       b.taps 9
   rows_of_bank =
       let u = version_in s in
@@ -142,7 +145,8 @@ writer_as_reader v b h = sym (written_fault v b (encode v b) h.holds.known (read
 clear_taps : (at : ℕ) (xs : List Float) → is_clear (taps_wrong at xs) ≡ every is_tap xs
 unfolding taps_wrong
 clear_taps at [] = refl
-clear_taps at (x ∷ xs) = clear_else _ _ ∙ ap₂ ◌&&◌ (clear_unless (is_tap x) 18 at (omega arith)) (clear_taps (at + 4) xs)
+clear_taps at (x ∷ xs) =
+    clear_else _ _ ∙ ap₂ ◌&&◌ (clear_unless (is_tap x) 18 at (omega arith)) (clear_taps (at + 4) xs)
 
 -- four walks one after another, and a fifth
 clear_four : (a b c d e : Fault) (x y z w : Bool) → is_clear a ≡ x → is_clear b ≡ y → is_clear c ≡ z → is_clear d ≡ w
@@ -203,7 +207,8 @@ clear_rows v before (p ∷ ps) l xs at n =
     (clear_unless new 17 (pair_at v at) (omega arith))
     (clear_taps (taps_at v at) (take m xs))
     ∙ rw (rest, new_behind before p ps, split)
-    (regroup (azimuth_of p) (elevation_of p) new (every is_tap (take m xs)) (every azimuth_of ps) (every elevation_of ps)
+    (regroup (azimuth_of p) (elevation_of p) new (every is_tap (take m xs)) (every azimuth_of ps)
+    (every elevation_of ps)
     (every (λ (w : Pair). every (λ (q : Pair). differ q w) before) ps) (every (differ p) ps) (pairwise differ ps)
     (every is_tap (drop m xs)))
 

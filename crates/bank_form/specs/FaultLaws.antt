@@ -1,7 +1,7 @@
 -- Document 02, E2 and E6: what the first fault of a bank depends on, and that the writer's is the reader's. Definitions
 -- only: proofs/Places.antt, FieldPlaces.antt, Order.antt, Start.antt, Writer.antt and Conversions.antt show them.
-use Rattle.lists.specs.Prelude.{◌≡◌, Bool, true, false, cond, ◌&&◌, ◌||◌, List, [], ◌⊎◌, ℕ, ◌+◌, ◌-◌, ◌*◌, ◌≤◌, ◌<◌, T}
-use Rattle.lists.specs.Prelude.{eqb, leb, ℤ, pos, length, take, get_or}
+use Rattle.std.specs.Prelude.{◌≡◌, ◌&&◌, ◌||◌, ◌⊎◌, ◌+◌, ◌-◌, ◌*◌, ◌≤◌, ◌<◌}
+use Rattle.lists.specs.Prelude.{Bool, true, false, cond, List, [], ℕ, T, eqb, leb, ℤ, pos, length, take, get_or}
 use Rattle.std.specs.Float.Ieee.Scale.{finite}
 use Rattle.big_endian.specs.Fields.{field_at, signed_at, float_at}
 use Rattle.lists.specs.Tables.{every}
@@ -77,11 +77,13 @@ FieldPlaces = (s : List ℕ) → FieldPlace s (fault s)
 pub record ByteOrder : Type 0 where
   pub field_at_fault : (s t : List ℕ) → length t ≡ length s → (fault s ≡ sound → ⊥)
       → ((fault s).refusal ≡ 14 → field_at s 1 4 ≡ length s - 5 → ⊥)
-      → take ((fault s).offset + field_size (fault s).refusal) t ≡ take ((fault s).offset + field_size (fault s).refusal)
+      → take ((fault s).offset + field_size (fault s).refusal) t
+      ≡ take ((fault s).offset + field_size (fault s).refusal)
       s → fault t ≡ fault s
   pub bytes_left : (s : List ℕ) → (fault s).refusal ≡ 14 → field_at s 1 4 ≡ length s - 5
       → row_place s (rows_in_of s) < length s
-  pub last_row : (s t : List ℕ) → length t ≡ length s → take (row_place s (rows_in_of s)) t ≡ take (row_place s (rows_in_of s)) s
+  pub last_row : (s t : List ℕ) → length t ≡ length s → take (row_place s (rows_in_of s)) t
+      ≡ take (row_place s (rows_in_of s)) s
       → fault t ≡ fault s
 
 -- ---- the start of a file

@@ -1,7 +1,8 @@
 -- The promise is kept: all of it holds of the answer that the definition gives, and so of the three answers that the
 -- program can give. Assumes nothing.
-use Rattle.lists.specs.Prelude.{◌≡◌, refl, sym, ap, ◌∙◌, subst, Bool, true, false, cond, List, [], ◌∷◌, ℕ, ◌<◌, pos}
-use Rattle.lists.specs.Prelude.{lit<, lit≤, length, Float, of_int}
+use Rattle.std.specs.Prelude.{◌≡◌, ◌∷◌, ◌<◌}
+use Rattle.lists.specs.Prelude.{refl, sym, ap, ◌∙◌, subst, Bool, true, false, cond, List, [], ℕ, pos, lit<, lit≤}
+use Rattle.lists.specs.Prelude.{length, Float, of_int}
 use Rattle.formats.specs.Floats.{float}
 use Rattle.refusals.specs.Refusals.{◌when◌, answered}
 use Rattle.refusals.proofs.First.{or_off, answered_accepted, answered_number}
@@ -84,7 +85,8 @@ module _ (order : ℕ) (d : Direction) where
   }
 
   -- ---- the three answers of the program
-  pub order_refused_lem : (r : Coefficients) → refuses_order order ≡ true → r ≡ record { refusal = 1; gains = silent_gains }
+  pub order_refused_lem : (r : Coefficients) → refuses_order order ≡ true
+      → r ≡ record { refusal = 1; gains = silent_gains }
       → HarmonicsPromise order d r
   order_refused_lem r h e =
       subst (HarmonicsPromise order d) (ap (λ (a : Bool). answer a (refuses_direction d)) h ∙ sym e) outcome_kept
@@ -98,5 +100,6 @@ module _ (order : ℕ) (d : Direction) where
   accepted_kept g h k e =
       subst (HarmonicsPromise order d)
       ((λ i. answer (h i) (k i)) ∙ ap accepting
-      (sym (e ∙ by_order_lem (λ (n : ℕ). harmonics_computed n (waves_of d) ≡ up_to n (waves_of d)) refl refl refl order h)))
+      (sym (e ∙ by_order_lem (λ (n : ℕ). harmonics_computed n (waves_of d) ≡ up_to n (waves_of d)) refl refl refl order
+      h)))
       outcome_kept

@@ -1,8 +1,9 @@
 -- Each computed coefficient is within 2 ^ -42 of document 01's formula, which is 5 in magnitude at most. The nine sines
 -- and cosines are known by the promise of `angles`, those of 2 and 3 times an angle carried from the rounded product to
 -- the exact one; the sixteen are then expressions over them, and their bound is computed. Assumes nothing.
-use Rattle.lists.specs.Prelude.{◌≡◌, refl, sym, ap, ◌∙◌, subst, subst₂, false, List, [], ◌∷◌, map, ℕ, ◌^◌, ◌≤◌, ◌<◌, T}
-use Rattle.lists.specs.Prelude.{lit≤, lit<, length, get_or, set, Float, binary64, mul, round, of_int}
+use Rattle.std.specs.Prelude.{◌≡◌, ◌∷◌, ◌^◌, ◌≤◌, ◌<◌}
+use Rattle.lists.specs.Prelude.{refl, sym, ap, ◌∙◌, subst, subst₂, false, List, [], map, ℕ, T, lit≤, lit<, length}
+use Rattle.lists.specs.Prelude.{get_or, set, Float, binary64, mul, round, of_int}
 use Rattle.channel.specs.Orders.{refuses_order}
 use Rattle.channel.proofs.Orders.{by_order_lem}
 use Rattle.lists.specs.Tables.{every}
@@ -157,7 +158,8 @@ module _ (d : Direction) (A : 0 < (number d.azimuth).over) (a : AtMost (magnitud
       record {
         near = subst₂ (EachWithin gain_bits) r e (each_within binary64 gain_bits (expressions n known) s);
         each = λ i x q h.
-            subst₂ (λ (xs : List Float) (qs : List Fraction). Approximates 42 (whole 5) (get_or xs i x) (get_or qs i q)) r e
+            subst₂ (λ (xs : List Float) (qs : List Fraction). Approximates 42 (whole 5) (get_or xs i x) (get_or qs i q))
+            r e
             (each_approximates binary64 42 5 1 (expressions n known) t i x q (subst (λ (k : ℕ). i < k) (sym l) h));
       }
 

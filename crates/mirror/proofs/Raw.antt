@@ -5,7 +5,7 @@ use Rattle.lists.specs.Prelude.{◌≡◌, refl, sym, ap, ◌∙◌, subst, Bool
 use Rattle.lists.specs.Prelude.{ℕ, zero, suc, ◌+◌, ◌*◌, ◌≤◌, zero-lt-suc, mul-pos, le_trans, arith, lt-ltb, le-ltb}
 use Rattle.lists.specs.Prelude.{dec_lt, ℤ, pos, negsuc, neg_ℤ, T, eqb, lit≤, lit<, length, get_or-eq_default, Float}
 use Rattle.lists.specs.Prelude.{nan, inf, fin, binary64, up, down, neg, add, sub, div, lt, le, eq, fits, of_int, round}
-use Rattle.lists.specs.Prelude.{size, span, climb, units, odd}
+use Rattle.lists.specs.Prelude.{size, span, climb, odd}
 use lib.Ieee.Scale.{finite}
 use lib.Ieee.Fits.{up_pos, down_pos, neg-fits, sub-fits, cond-fits}
 use lib.Ieee.Bits.{is_false}

@@ -1,7 +1,8 @@
 -- The gains of a command are those of the crate that computes them, and its refusal is theirs, in the panner's order.
 -- Assumes nothing.
-use Rattle.lists.specs.Prelude.{◌≡◌, refl, sym, ap, ◌∙◌, subst, Bool, true, false, not, cond, ◌∷◌, ℕ, ◌≤◌, ◌<◌, arith}
-use Rattle.lists.specs.Prelude.{not-false, eqb, lit≤, replicate, Float}
+use Rattle.std.specs.Prelude.{◌≡◌, ◌∷◌, ◌≤◌, ◌<◌}
+use Rattle.lists.specs.Prelude.{refl, sym, ap, ◌∙◌, subst, Bool, true, false, not, cond, ℕ, arith, not-false, eqb, lit≤}
+use Rattle.lists.specs.Prelude.{replicate, Float}
 use Rattle.refusals.proofs.First.{passed, not_accepted, answered_number}
 use Rattle.lists.proofs.Tests.{cond_true, cond_false}
 use Rattle.channel.specs.Layouts.{channels_of, refuses_channels, surround, channels_answer, layout_channels}
@@ -114,7 +115,8 @@ module _ (l : Layout) (d : Direction) (n : ℕ) where
     direction_refused k = command_is ∙ three (Harmonics.refuses_direction d) s.refusal direction_is k
 
     pub ambisonic_accepted : (g : Commanded) → s.refusal ≡ 0
-        → g ≡ record { refusal = 0; planes = channels_of_order n; gains = s.gains } → CommandComputed (Ambisonic d n) l g
+        → g ≡ record { refusal = 0; planes = channels_of_order n; gains = s.gains }
+        → CommandComputed (Ambisonic d n) l g
     ambisonic_accepted g z e = record {
       refusal = ap (λ (x : Commanded). x.refusal) e ∙ sym (command_is ∙ sym direction_is ∙ z);
       planes = λ k. ap (λ (x : Commanded). x.planes) e;

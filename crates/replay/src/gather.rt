@@ -17,7 +17,7 @@ pub(crate) const PLACES: usize = 64;
 
 // How many frames are in the block, the recorded frame that comes next, whether a reset comes before it, and what
 // is expected.
-#[derive(Drop)]
+#[derive(Clone, Copy)]
 pub(crate) struct Gathered {
     pub(crate) count: usize,
     pub(crate) at: usize,

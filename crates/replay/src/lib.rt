@@ -214,9 +214,9 @@ pub fn replay(
           ear_stride = ear_stride;
         })
         expected
-        (record { rings = rings.entry.now; desk = desk })
+        (record { rings = rings.old; desk = desk })
         ears.old
-        (record { answer = result; rings = rings.exit.now; ears = ears.new }) }
+        (record { answer = result; rings = rings.new; ears = ears.new }) }
 {
     let mut block = [0.0f32; 1024];
     let mut block_ears = [0.0f32; 128];

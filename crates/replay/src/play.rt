@@ -17,7 +17,7 @@ use stamps::Expected;
 
 // How far a recording is played: the desk, what is expected, the recorded frame that comes next, the frames that came
 // out, and how many of them are unsettled.
-#[derive(Drop)]
+#[derive(Clone, Copy)]
 pub(crate) struct Turned {
     pub(crate) desk: Desk,
     pub(crate) expected: Expected,

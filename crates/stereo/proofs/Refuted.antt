@@ -1,6 +1,7 @@
 -- Wrong ways to answer, each held against the promise at a position where it breaks it. Assumes nothing.
-use Rattle.lists.specs.Prelude.{◌≡◌, refl, ap, ◌∙◌, true, false, ℕ, ◌^◌, arith, le→leb, pos, negsuc, Float, inf, fin}
-use Rattle.lists.specs.Prelude.{round, of_int}
+use Rattle.std.specs.Prelude.{◌≡◌, ◌^◌}
+use Rattle.lists.specs.Prelude.{refl, ap, ◌∙◌, true, false, ℕ, arith, le→leb, pos, negsuc, Float, inf, fin, round}
+use Rattle.lists.specs.Prelude.{of_int}
 use Rattle.formats.specs.Floats.{zero_float, one_float, float, literal}
 use Rattle.series.specs.Sums.{cosine_sum, term, power, factorial}
 use Rattle.series.specs.Angles.{turned, around, reduced, radians, is_multiple, quarters, defined}
@@ -31,5 +32,6 @@ folded_back l p = le→leb _ _ (p.words refl).right.near
 
 -- it keeps 35 binary places: at 50 the cosine of 67.5 degrees, cut there, is more than 2^-36 too small
 cut_to_35_places : (r : Float) → StereoPromise (float (pos 50)) (accepted (fin false 13148902613 (negsuc 34)) r) → ⊥
-unfolding of_int clamped angle defined is_multiple quarters turned reduced around radians cosine_sum term power factorial
+unfolding of_int clamped angle defined is_multiple quarters turned reduced around radians cosine_sum term power
+    factorial
 cut_to_35_places r p = le→leb _ _ (p.words refl).left.near

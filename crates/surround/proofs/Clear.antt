@@ -2,7 +2,8 @@
 -- pair. So the sum of squares is 3 / 100 at least, the square of the cosine of 80 degrees being 0.0301. (The least sum
 -- is larger: that of 5.1 at 180 degrees is 1 + cos 140, 0.2339.., and that of 7.1 3 / 2. Document 01 asks only that it
 -- is never near 10 ^ -10.) Assumes nothing.
-use Rattle.lists.specs.Prelude.{◌≡◌, refl, sym, subst, true, ℕ, ◌<◌, mul-pos, arith, lit<, lit≤}
+use Rattle.std.specs.Prelude.{◌≡◌, ◌<◌}
+use Rattle.lists.specs.Prelude.{refl, sym, subst, true, ℕ, mul-pos, arith, lit<, lit≤}
 use Rattle.fractions.specs.Fraction.{Fraction, fraction, whole, magnitude, square, ◌⊖◌, Less, AtMost}
 use Rattle.fractions.proofs.Order.{at_most_trans, by_side}
 use Rattle.fractions.proofs.Compare.{is_less_lem}
@@ -42,7 +43,8 @@ module _ (a : Fraction) (p m : ℕ) (A : 0 < a.over) (H : AtMost (magnitude a) (
       (cosine_square_least apart D (omega arith) h, mul-pos N N)
 
 -- the sum is no less than the square of a channel's gain
-pub channel_in_sum : (l : Layout) (a : Fraction) (c : ℕ) → c < channels_of l → AtMost (square (raw_at l a c)) (sum_at l a)
+pub channel_in_sum : (l : Layout) (a : Fraction) (c : ℕ) → c < channels_of l
+    → AtMost (square (raw_at l a c)) (sum_at l a)
 channel_in_sum l a c h =
     let n = channels_of l in
     subst (λ (g : Fraction). AtMost (square g) (sum_at l a)) (get_or_table n (raw_at l a) c (whole 0) h)

@@ -1,7 +1,8 @@
 -- The worked bits of E3: the program's gains at azimuths where a speaker is pointed at, where it falls silent, and just
 -- short of that, on both layouts, by computing. Assumes nothing.
-use Rattle.lists.specs.Prelude.{◌≡◌, refl, false, List, [], ◌∷◌, ℕ, pos, negsuc, get_or, Float, nan, binary64, to_bits}
-use Rattle.lists.specs.Prelude.{of_bits, lt, le, eq, neg, add, sub, mul, div, of_int, round, size, units}
+use Rattle.std.specs.Prelude.{◌≡◌, ◌∷◌}
+use Rattle.lists.specs.Prelude.{refl, false, List, [], ℕ, pos, negsuc, get_or, Float, nan, binary64, to_bits, of_bits}
+use Rattle.lists.specs.Prelude.{lt, le, eq, neg, add, sub, mul, div, of_int, round, size, units}
 use Rattle.lists.specs.Tables.{tab}
 use Rattle.formats.specs.Floats.{float}
 use Rattle.fractions.specs.Fraction.{number}
@@ -45,7 +46,8 @@ worked :
     ∷ []
 unfolding to_bits of_bits refuses_angle is_inside surround_gains divided_by sum_of raw_gains channel_gain raw_of is_near
     turned_towards way_of
-    absolute not_below lt le eq add sub mul div neg round of_int wave_computed place cut_angle Angles.units turned cosine_at
+    absolute not_below lt le eq add sub mul div neg round of_int wave_computed place cut_angle Angles.units turned
+    cosine_at
     short
     times radian_units nesting nest rounded_units root_of whole_root size units
 worked = refl
@@ -58,8 +60,10 @@ next_above_minus60 = of_bits binary64 0xC04DFFFFFFFFFFFF
 -- exact gain is some 10 ^ -16
 rounded_to_90 : (get_or (bits Surround51 next_above_minus60) 0 1 ≡ 0)
     × (is_silent Surround51 (number next_above_minus60) 0 ≡ false)
-unfolding is_silent distance to_bits of_bits refuses_angle is_inside surround_gains divided_by sum_of raw_gains channel_gain raw_of
-    is_near turned_towards way_of absolute not_below lt le eq add sub mul div neg round of_int wave_computed place cut_angle
+unfolding is_silent distance to_bits of_bits refuses_angle is_inside surround_gains divided_by sum_of raw_gains
+    channel_gain raw_of
+    is_near turned_towards way_of absolute not_below lt le eq add sub mul div neg round of_int wave_computed place
+    cut_angle
     Angles.units
     turned cosine_at short times radian_units nesting nest rounded_units root_of whole_root size units
 rounded_to_90 = (refl, refl)

@@ -3,7 +3,8 @@
 -- Surround71 for surround"; "A refusal returns its number, [..] 0.0 for any number or gain". 'Gains', surround: "On
 -- these layouts that sum is never near 000's 1e-10 limit, which is to be proved. Within 2^-30, stated by squares".
 -- Definitions only.
-use Rattle.lists.specs.Prelude.{ℕ, ◌<◌, ◌≡◌, not, List, [], ◌∷◌, T, get_or, Float, binary64}
+use Rattle.std.specs.Prelude.{◌<◌, ◌≡◌, ◌∷◌}
+use Rattle.lists.specs.Prelude.{ℕ, not, List, [], T, get_or, Float, binary64}
 use Rattle.formats.specs.Floats.{zero_float}
 use Rattle.refusals.specs.Refusals.{first_of, ◌when◌, answered}
 use Rattle.fractions.specs.Fraction.{fraction, whole, number, AtMost}
@@ -25,7 +26,8 @@ refusal_of l a = first_of (2 when not (surround l) ∷ 3 when refuses_azimuth a 
 
 -- each raw gain over the root of the sum of squares
 unfoldable pub surround_gains : Layout → Float → List Float
-surround_gains l a = let raw = raw_gains l a (channels_of l) in divided_by (root_of binary64 (sum_of (channels_of l) raw)) raw
+surround_gains l a = let raw = raw_gains l a (channels_of l) in
+    divided_by (root_of binary64 (sum_of (channels_of l) raw)) raw
 
 abbrev pub outcome : Layout → Float → SurroundGains
 outcome l a = answered (refusal_of l a) (record { refusal = 0; gains = surround_gains l a })

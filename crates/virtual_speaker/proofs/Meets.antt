@@ -1,7 +1,8 @@
 -- The promise is kept: all of it holds of the answer that the definition gives, and the program gives that. Assumes
 -- nothing.
-use Rattle.lists.specs.Prelude.{◌≡◌, refl, sym, ap, ◌∙◌, subst, List, ℕ, zero, suc, ◌≤◌, ◌<◌, ltb, lit≤, get_or, Float}
-use Rattle.lists.specs.Prelude.{nan, binary64, mul, round, of_int}
+use Rattle.std.specs.Prelude.{◌≡◌, ◌≤◌, ◌<◌}
+use Rattle.lists.specs.Prelude.{refl, sym, ap, ◌∙◌, subst, List, ℕ, zero, suc, ltb, lit≤, get_or, Float, nan, binary64}
+use Rattle.lists.specs.Prelude.{mul, round, of_int}
 use Rattle.refusals.specs.Refusals.{answered}
 use Rattle.refusals.proofs.First.{answered_accepted}
 use Rattle.lists.proofs.Tests.{cond_cases}
@@ -52,7 +53,8 @@ module _ (order : ℕ) (d : Direction) where
       let o = Harmonics.outcome order d in
       let p = Laws.outcome_kept order d in
       weighted_near (cosine_near order (Laws.is_accepted order d h).order_is)
-      (subst (λ (xs : List Float). Approximates 42 (whole 5) (get_or xs i nan) (get_or (formulas order a e) i (whole 0)))
+      (subst (λ (xs : List Float). Approximates 42 (whole 5) (get_or xs i nan)
+      (get_or (formulas order a e) i (whole 0)))
       (Laws.gains_are order d o p h) (Laws.gain_near order d o p h i nan (whole 0) l))
       (degree_of i) (degree_most i)
 

@@ -1,5 +1,6 @@
 -- `bank::convert` meets its contract: what is read into the lists is the file's bank. Assumes nothing.
-use Rattle.lists.specs.Prelude.{◌≡◌, sym, ap, ◌∙◌, List, ℕ, ◌*◌, ◌≤◌, arith, Float, binary32, of_bits, ℤ, pos, length}
+use Rattle.std.specs.Prelude.{◌≡◌, ◌*◌, ◌≤◌}
+use Rattle.lists.specs.Prelude.{sym, ap, ◌∙◌, List, ℕ, arith, Float, binary32, of_bits, ℤ, pos, length}
 use Rattle.lists.specs.Prelude.{length-replicate, length-take-le, replicate, take, []}
 use Rattle.refusals.proofs.Ranges.{within_true}
 use Rattle.bank_form.specs.declared.Fault.{Fault}
@@ -31,7 +32,8 @@ module _ (from : ℕ) (file : List ℕ) (fault : Fault) (checked : VersionCheckP
   short = (within_true 1 512 (length_in file) form.short).1
 
   -- what is known once the lists are filled
-  module _ (read : ReadOutcome) (zs es : List ℤ) (xs : List Float) (filled : read ≡ read_bank (bank_in file) zs es xs) where
+  module _ (read : ReadOutcome) (zs es : List ℤ) (xs : List Float)
+      (filled : read ≡ read_bank (bank_in file) zs es xs) where
     same : bank_found read ≡ bank_in file
     same = ap bank_found filled ∙ found (bank_in file) _ _ _ form.paired form.count
 

@@ -1,5 +1,6 @@
 -- `bank::raised_fault` meets its contract. What is left to look at has the fault that all have. Assumes nothing.
-use Rattle.lists.specs.Prelude.{rules, ◌≡◌, sym, ap, ◌∙◌, ℕ, ◌+◌, arith, pos, drop, get_or}
+use Rattle.std.specs.Prelude.{◌≡◌, ◌+◌}
+use Rattle.lists.specs.Prelude.{rules, sym, ap, ◌∙◌, ℕ, arith, pos, drop, get_or}
 use mir.Syntax.{w16}
 use mir.Val.{to_z, of_z}
 use Rattle.big_endian.proofs.Signed.{back}
@@ -19,7 +20,8 @@ returns-then-elevations-i-ne0 c =
     let turn = at_loop.loop-i in
     let inside = at_loop_test.loop-i-test.true in
     let args = start.args in
-    let level = level_other (get_or args.elevations.now turn.i (pos 0)) (λ e. c.if-elevations-i-ne0.true (ap (of_z w16) e)) in
+    let level = level_other (get_or args.elevations.now turn.i (pos 0))
+    (λ e. c.if-elevations-i-ne0.true (ap (of_z w16) e)) in
     sym (turn.invariant.3 ∙ raised_next _ _ turn.i _ inside ∙ unless_fails _ 21 _ _ (omega arith) level)
 
 pub loop-i-preserved : goal.loop-i-preserved

@@ -7,7 +7,8 @@ use Rattle.bank_check.proofs.Starts.{checked}
 use Rattle.bank_check.proofs.check_start.Goals as goal
 
 pub returns-then-head-ne0 : goal.returns-then-head-ne0
-returns-then-head-ne0 c = checked _ _ _ (else_stop _ _ _ c.head_fault-head.ensures c.if-head-ne0.true ∙ sym (fault_is _ _))
+returns-then-head-ne0 c =
+    checked _ _ _ (else_stop _ _ _ c.head_fault-head.ensures c.if-head-ne0.true ∙ sym (fault_is _ _))
 
 -- past the check of the head the counts are small
 pub rows_fault-requires : goal.rows_fault-requires
@@ -25,6 +26,7 @@ returns c =
     let size = c.args.size in
     let rows =
     c.rows_fault.ensures
-    ∙ ap₂ (λ (l n : ℕ). rows_fault size start c.get-version.result l 0 9 n) c.get-length.ensures.bits c.get-rows.ensures.bits
+    ∙ ap₂ (λ (l n : ℕ). rows_fault size start c.get-version.result l 0 9 n) c.get-length.ensures.bits
+    c.get-rows.ensures.bits
     ∙ ap (λ (v : ℕ). rows_fault size start v (length_in start) 0 9 (rows_in_of start)) c.get-version.ensures.bits in
     checked _ _ _ (rows ∙ sym (fault_is _ _ ∙ else_on _ _ _ c.head_fault-head.ensures c.if-head-ne0.false))

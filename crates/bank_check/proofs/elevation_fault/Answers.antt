@@ -17,4 +17,5 @@ returns c =
     let at_if1 = at_get_i16.before in
     let read = at_get_i16.get_i16 in
     let good = c.before.is_between-good.ensures ∙ ap is_elevation (back w16 read.result read.type_inv ∙ read.ensures) in
-    c.field_fault.ensures ∙ ap (field _ _ _ _) good ∙ sym (elevation_field _ _ _ _ (ne_eqb _ _ at_if1.if-version-eq1.false))
+    c.field_fault.ensures ∙ ap (field _ _ _ _) good
+    ∙ sym (elevation_field _ _ _ _ (ne_eqb _ _ at_if1.if-version-eq1.false))

@@ -23,8 +23,10 @@ returns c =
     let start = first.before.before.before in
     let read = first.before.get_i16 in
     let call = c.before.elevation_at in
-    let azimuth = sym read.ensures ∙ sym (back w16 read.result read.type_inv) ∙ ap (to_z w16) first.if-get_i16-azimuth.false
+    let azimuth = sym read.ensures ∙ sym (back w16 read.result read.type_inv)
+    ∙ ap (to_z w16) first.if-get_i16-azimuth.false
     ∙ to_z-of_z start.ranges.azimuth in
-    let elevation = sym call.ensures ∙ sym (back w16 call.result call.type_inv) ∙ ap (to_z w16) c.if-elevation_at-elevation.false
+    let elevation = sym call.ensures ∙ sym (back w16 call.result call.type_inv)
+    ∙ ap (to_z w16) c.if-elevation_at-elevation.false
     ∙ to_z-of_z start.ranges.elevation in
     sym (ap not (differ_same _ _ azimuth elevation))

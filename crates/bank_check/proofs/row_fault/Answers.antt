@@ -1,5 +1,6 @@
 -- `bank_check::row_fault` meets its contract. Assumes nothing.
-use Rattle.lists.specs.Prelude.{◌≡◌, sym, ap, ◌∙◌, List, ℕ, ◌+◌, ◌*◌, arith, ℤ, ◌<◌, ◌^◌}
+use Rattle.std.specs.Prelude.{◌≡◌, ◌+◌, ◌*◌, ◌<◌, ◌^◌}
+use Rattle.lists.specs.Prelude.{sym, ap, ◌∙◌, List, ℕ, arith, ℤ}
 use mir.Syntax.{w16}
 use lib.Signed.{mag}
 use mir.Val.{hbits, to_z, of_z}
@@ -16,7 +17,8 @@ unfolding is_azimuth
 returns-then-range-ne0 c =
     let read = c.get_i16-azimuth in
     -- what the azimuth's field comes to
-    let range : c.field_fault-range.result ≡ field c.args.size c.args.at 2 17 (is_azimuth (signed_at c.args.s.now c.args.at)) =
+    let range : c.field_fault-range.result ≡ field c.args.size c.args.at 2 17
+    (is_azimuth (signed_at c.args.s.now c.args.at)) =
     c.field_fault-range.ensures ∙ ap (field _ _ _ _)
     (c.is_between.ensures ∙ ap is_azimuth (back w16 read.result read.type_inv ∙ read.ensures)) in
     else_stop _ _ _ range c.if-range-ne0.true ∙ sym (row_is _ _ _ _ _ _)
@@ -25,7 +27,8 @@ pub returns-then-height-ne0 : goal.returns-then-height-ne0
 unfolding is_azimuth
 returns-then-height-ne0 c =
     let read = c.get_i16-azimuth in
-    let range : c.field_fault-range.result ≡ field c.args.size c.args.at 2 17 (is_azimuth (signed_at c.args.s.now c.args.at)) =
+    let range : c.field_fault-range.result ≡ field c.args.size c.args.at 2 17
+    (is_azimuth (signed_at c.args.s.now c.args.at)) =
     c.field_fault-range.ensures ∙ ap (field _ _ _ _)
     (c.is_between.ensures ∙ ap is_azimuth (back w16 read.result read.type_inv ∙ read.ensures)) in
     else_stop _ _ _ c.elevation_fault-height.ensures c.if-height-ne0.true
@@ -34,7 +37,8 @@ returns-then-height-ne0 c =
 -- the rows before are asked whether they have this azimuth and this elevation
 pair_is : (s : List ℕ) (version at : ℕ) (z e : ℤ) → mag z < 2 ^ hbits w16 → mag e < 2 ^ hbits w16 → z ≡ signed_at s at
     → e ≡ elevation_at version s at
-    → ◌≡◌ {A = Pair} (record { azimuth = to_z w16 (of_z w16 z); elevation = to_z w16 (of_z w16 e) }) (pair_in version s at)
+    → ◌≡◌ {A = Pair} (record { azimuth = to_z w16 (of_z w16 z); elevation = to_z w16 (of_z w16 e) })
+    (pair_in version s at)
 pair_is s version at z e f g p q =
     let azimuth = back w16 z f ∙ p in
     let elevation = back w16 e g ∙ q in

@@ -1,5 +1,6 @@
 -- `bank_choice::nearest_row` meets its contract. Assumes nothing.
-use Rattle.lists.specs.Prelude.{◌≡◌, sym, ◌∙◌, arith, true, false}
+use Rattle.std.specs.Prelude.{◌≡◌}
+use Rattle.lists.specs.Prelude.{sym, ◌∙◌, arith, true, false}
 use mir.Facts.{to_z-of_z}
 use Rattle.refusals.specs.Refusals.{outside}
 use Rattle.refusals.proofs.Counts.{not_outside}
@@ -18,7 +19,8 @@ azimuth_in c =
     let at_fits = c.before.before.before.before in
     rw (to_z-of_z at_fits.ranges.azimuth) at (sym c.before.is_between.ensures ∙ c.if-not-is_between.false)
 
-elevation_in : (c : Else-not-is_between-2) → is_elevation c.before.before.before.before.before.before.args.elevation ≡ true
+elevation_in : (c : Else-not-is_between-2) → is_elevation c.before.before.before.before.before.before.args.elevation
+    ≡ true
 unfolding is_elevation
 elevation_in c =
     let at_fits = c.before.before.before.before.before.before in
@@ -45,7 +47,8 @@ returns-then-not-is_between-2 c =
     let level = at_is_between2.before in
     let far = rw (to_z-of_z level.before.before.before.before.ranges.elevation) at
     (sym at_is_between2.is_between-2.ensures ∙ c.before.if-not-is_between-2.true) in
-    rw c.unchosen-then-not-is_between-2.ensures (no_elevation _ _ _ _ _ (rows_in level.before.before) (azimuth_in level) far)
+    rw c.unchosen-then-not-is_between-2.ensures (no_elevation _ _ _ _ _ (rows_in level.before.before)
+    (azimuth_in level) far)
 
 pub returns-then-azimuths-ne8 : goal.returns-then-azimuths-ne8
 returns-then-azimuths-ne8 c =

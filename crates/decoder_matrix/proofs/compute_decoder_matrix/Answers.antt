@@ -1,5 +1,6 @@
 -- `decoder_matrix::compute_decoder_matrix` meets its contract. Assumes nothing.
-use Rattle.lists.specs.Prelude.{not, arith, ◌≡◌, sym, ap, ◌∙◌, false, ℕ, ◌*◌, ◌≤◌, not-true, not-false, eqb, length}
+use Rattle.std.specs.Prelude.{◌≡◌, ◌*◌, ◌≤◌}
+use Rattle.lists.specs.Prelude.{not, arith, sym, ap, ◌∙◌, false, ℕ, not-true, not-false, eqb, length}
 use Rattle.rows.specs.Computed.{put_rows}
 use Rattle.channel.specs.declared.Layout.{Layout}
 use Rattle.channel.specs.Layouts.{channels_of, refuses_channels}
@@ -10,6 +11,7 @@ use Rattle.decoder_matrix.specs.Matrix.{rows_by}
 use Rattle.decoder_matrix.proofs.Meets.{order_refused_lem, layout_refused_lem, length_refused, matrix_put}
 use Rattle.decoder_matrix.proofs.compute_decoder_matrix.Goals as goal
 
+-- an accepted layout has sixteen speakers at most
 few_speakers : (layout : Layout) (n : ℕ) → refuses_channels (channels_of layout) ≡ false → n ≡ channels_of layout
     → n ≤ 16
 few_speakers layout n f e = omega (arith, e, (not_outside (channels_of layout) 16 f).1)

@@ -1,5 +1,6 @@
 -- `hrtf::process` meets its contract: `Meets`, from the refusal and from what the block leaves. Assumes nothing.
-use Rattle.lists.specs.Prelude.{◌≡◌, refl, sym, ap, ◌∙◌, subst, List, ℕ, Float}
+use Rattle.std.specs.Prelude.{◌≡◌}
+use Rattle.lists.specs.Prelude.{refl, sym, ap, ◌∙◌, subst, List, ℕ, Float}
 use Rattle.hrtf_desk.specs.declared.Desk.{Desk}
 use Rattle.hrtf_rings.specs.State.{State}
 use Rattle.hrtf_checks.specs.Call.{BlockCall}
@@ -39,4 +40,5 @@ own_shape c t k rings₁ ears₁ d more e b =
 pub returns : goal.returns
 returns c =
     let accepted = sym c.refusal-refusal.ensures ∙ c.if-refusal-ne0.false in
-    promised_accepted _ _ _ _ _ _ (sym accepted) (own_shape _ _ c.scale.result _ _ _ _ c.scale.ensures c.block-turn.ensures)
+    promised_accepted _ _ _ _ _ _ (sym accepted)
+    (own_shape _ _ c.scale.result _ _ _ _ c.scale.ensures c.block-turn.ensures)

@@ -3,7 +3,8 @@ use Rattle.hrtf_rings.proofs.TwoRuns.{running_more, running_all}
 use Rattle.hrtf_rings.proofs.run_back.Goals as goal
 
 pub loop-k-preserved : goal.loop-k-preserved
-loop-k-preserved c = running_more c.loop-k.invariant c.loop-k-test.true c.widen.ensures.bits c.widen-in-loop-k.ensures.bits
+loop-k-preserved c =
+    running_more c.loop-k.invariant c.loop-k-test.true c.widen.ensures.bits c.widen-in-loop-k.ensures.bits
 
 pub returns : goal.returns
 returns c = running_all c.loop-k.invariant c.loop-k-test.false

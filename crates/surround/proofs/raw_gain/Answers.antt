@@ -1,7 +1,6 @@
 -- `surround::raw_gain` meets its contract: `RawSteps`. Assumes nothing.
-use Rattle.lists.specs.Prelude.{of_bits, of_int}
+use Rattle.lists.specs.Prelude.{of_bits, of_int, ap, not}
 use Rattle.surround.proofs.RawSteps.{far, lifted, kept}
-use Rattle.lists.specs.Prelude.{ap, not}
 use Rattle.surround.proofs.raw_gain.Goals as goal
 
 pub returns-then-gain : goal.returns-then-gain
@@ -24,4 +23,5 @@ returns c =
 
 pub returns-then-not-is_near : goal.returns-then-not-is_near
 unfolding of_bits of_int
-returns-then-not-is_near c = far _ _ _ _ c.before.before.place-place.ensures c.before.is_near.ensures (ap not c.if-not-is_near.true)
+returns-then-not-is_near c = far _ _ _ _ c.before.before.place-place.ensures c.before.is_near.ensures
+    (ap not c.if-not-is_near.true)

@@ -1,6 +1,7 @@
 -- `bank::rows::put_rows` meets its contract. The rows put so far stand behind the head. Assumes nothing.
-use Rattle.lists.specs.Prelude.{◌≡◌, refl, sym, ap, ◌∙◌, List, ℕ, ◌*◌, arith, pos, ℤ, Float, rules}
-use Rattle.lists.specs.Prelude.{length, get_or, take, take-length}
+use Rattle.std.specs.Prelude.{◌≡◌, ◌*◌}
+use Rattle.lists.specs.Prelude.{refl, sym, ap, ◌∙◌, List, ℕ, arith, pos, ℤ, Float, rules, length, get_or, take}
+use Rattle.lists.specs.Prelude.{take-length}
 use borrow.Author.Count.{below_more}
 use mir.Syntax.{w16}
 use mir.Val.{to_z, of_z}
@@ -26,7 +27,8 @@ module _ (azimuths elevations : List ℤ) (paired : length elevations ≡ length
   count : length pairs ≡ length azimuths
   count = length_pairs azimuths elevations paired
 
-  all_taps : (taps : List Float) (l : ℕ) → length taps ≡ length azimuths * (2 * l) → length taps ≡ length pairs * (2 * l)
+  all_taps : (taps : List Float) (l : ℕ) → length taps ≡ length azimuths * (2 * l)
+      → length taps ≡ length pairs * (2 * l)
   all_taps taps l counted = counted ∙ ap (λ (n : ℕ). n * (2 * l)) (sym count)
 
 pub loop-i-init : goal.loop-i-init
