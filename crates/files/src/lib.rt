@@ -15,6 +15,7 @@ ghost use Rattle.files.specs.Promise.{ReadBehind, ReadSized, Found};
 
 use bank::BankRead;
 use bank_form::LARGEST;
+use std::fs::OpenFile;
 use std::io::Read;
 use std::os::fd::AsRawFd;
 use std::rt::Files;
@@ -181,6 +182,23 @@ pub fn read_bank<R: Files>(
     let mut bytes = [0u8; LARGEST];
     let size = read_named(rt, path, &mut bytes);
     read_sized(&bytes, size, azimuths, elevations, taps)
+}
+
+// Closes a file that was written. Today's `close` tells no error, so what was written is brought to the disk first, which
+// tells it: a disk that is full, for one. What keeps nothing, as a pipe or a terminal, has nothing to bring there.
+pub fn close<F: OpenFile + Drop>(file: F) -> io::Result<()> {
+    match file.sync_all() {
+        Ok(()) => Ok(()),
+        Err(e) if e.kind() == io::ErrorKind::InvalidInput => Ok(()),
+        Err(e) if e.kind() == io::ErrorKind::Unsupported => Ok(()),
+        Err(e) => Err(e),
+    }
+}
+
+// Writes a line to standard error: what failed, as the caller names it, a colon and why.
+pub fn fail<R: Eprint>(rt: &R, what: &[u8], why: io::Error) {
+    let name = str::from_utf8(what).unwrap_or("a name that is not UTF-8");
+    let _ = eprintln!(rt; "{name}: {why}");
 }
 
 // Opens the file of a name for the ears and empties it. It never has the number of standard error, which the system
