@@ -1,7 +1,7 @@
 -- Events one after another, as the convolver plays them: in parts, and where frames are fed one after another. The
 -- state keeps what the checks ask of it. Assumes nothing.
 use Rattle.std.specs.Prelude.{◌≡◌, ◌∷◌, ◌++◌, ◌+◌, ◌≤◌, ◌<◌}
-use Rattle.lists.specs.Prelude.{refl, ap, ◌∙◌, List, [], suc, suc-ne-zero, arith, length, get_or, length-replicate}
+use Rattle.lists.specs.Prelude.{refl, sym, ap, ◌∙◌, List, [], ℕ, suc, suc-ne-zero, arith, length, get_or, length-replicate}
 use Rattle.lists.specs.Prelude.{Float}
 use Rattle.formats.specs.Floats.{zero_float}
 use Rattle.lists.proofs.Lists.{one_at_most}
@@ -11,11 +11,30 @@ use Rattle.hrtf_rings.specs.Computed.{ears_by_rings, is_unsettled_by_desk, stepp
 use Rattle.hrtf_rings.specs.Computed.{unsettled_count_by_desk}
 use Rattle.hrtf_rings.proofs.RingsHoldHistory.{step_fits}
 use Rattle.hrtf_rings.proofs.Filters.{stepped_alike, played_alike, counted_alike}
-use Rattle.stamps.specs.Events.{Event, feed, restart, restarts_in}
+use Rattle.stamps.specs.Events.{Event, feed, restart, restarts_in, fed, stamps_of}
 use Rattle.stamps.specs.Computed.{feeds_in}
 use Rattle.replay.specs.Recording.{Recording, setup_in}
 use Rattle.replay.specs.Heard.{rested}
 use Rattle.replay.specs.Computed.{StateReady, state_left_by, played_by, unsettled_played_by, frames_fed}
+use Rattle.replay.specs.Computed.{feeds}
+
+-- events that only feed are frames under their stamps, and the other way round
+pub feeds_fed : (es : List (Event (List Float))) → restarts_in es ≡ 0
+    → feeds (stamps_of (fed es)) (frames_fed es) ≡ es
+feeds_fed [] e = refl
+feeds_fed (feed s f ∷ es) e = ap (λ (l : List (Event (List Float))). feed s f ∷ l) (feeds_fed es e)
+feeds_fed (restart ∷ es) e = absurd (suc-ne-zero (restarts_in es) e)
+
+pub feeds_whole : (ss : List ℕ) (fs : List (List Float)) → restarts_in (feeds ss fs) ≡ 0
+feeds_whole [] fs = refl
+feeds_whole (s ∷ ss) [] = refl
+feeds_whole (s ∷ ss) (f ∷ fs) = feeds_whole ss fs
+
+pub feeds_put : (ss : List ℕ) (fs : List (List Float)) → length ss ≡ length fs → frames_fed (feeds ss fs) ≡ fs
+feeds_put [] [] e = refl
+feeds_put [] (f ∷ fs) e = absurd (suc-ne-zero (length fs) (sym e))
+feeds_put (s ∷ ss) [] e = absurd (suc-ne-zero (length ss) e)
+feeds_put (s ∷ ss) (f ∷ fs) e = ap (λ (l : List (List Float)). f ∷ l) (feeds_put ss fs (omega (arith, e)))
 
 abbrev Events : Type 0
 Events = List (Event (List Float))

@@ -142,6 +142,12 @@ pub record TakesFrame (stamps : List ℕ) (channels stride : ℕ) (inputs : List
 
 -- ---- gathering: a block
 
+-- frames that are fed, under these stamps
+abbrev pub feeds : List ℕ → List (List Float) → List (Event (List Float))
+feeds [] fs = []
+feeds (s ∷ ss) [] = []
+feeds (s ∷ ss) (f ∷ fs) = feed s f ∷ feeds ss fs
+
 -- the frames that events feed
 abbrev pub frames_fed : List (Event (List Float)) → List (List Float)
 frames_fed es = map (λ (r : Recorded (List Float)). r.frame) (fed es)
@@ -168,10 +174,17 @@ pub record Gathering (rs : List (Recorded (List Float))) (channels : ℕ) (x : E
   pub within : g.at ≤ frames
   pub long : length block ≡ channels * 64
 
--- where a recorded frame is left in the end, the block is full or a reset comes first
+-- the frames in the block, a reset if there is one, and what is left of the recording are what the recording does
 pub record Gathers (rs : List (Recorded (List Float))) (channels : ℕ) (x : Expected) (at frames : ℕ) (r : Gathered)
     (block : List Float) : Type 0 where
-  pub all : Gathering rs channels x at frames r block
+  pub stamps : List ℕ
+  pub as_many : length stamps ≡ r.count
+  pub split : events_from rs channels x at ≡ feeds stamps (frames_of block 64 channels r.count)
+      ++ (restarting r.restart ++ events_from rs channels r.expected r.at)
+  pub few : r.count ≤ 64
+  pub on : at ≤ r.at
+  pub within : r.at ≤ frames
+  -- where a recorded frame is left, the block is full or a reset comes first
   pub goes : r.at < frames → 0 < r.count + cond r.restart 1 0
 
 -- ---- turns: a block is gathered, played, and a reset made where one comes next
