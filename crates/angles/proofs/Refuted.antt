@@ -48,13 +48,15 @@ side_forgotten p = false≢true (ap sign ((p.words refl).exact tt))
 radians_taken : WavePromise sine (float (pos 1))
     (record { refusal = 0; value = fin false 3789648413623927 (negsuc 51) })
     → ⊥
-unfolding refuses_angle is_inside lt le eq neg of_int defined is_multiple quarters turned reduced around radians sine_sum
+unfolding refuses_angle is_inside lt le eq neg of_int defined is_multiple quarters turned reduced around radians
+    sine_sum
     term power factorial
 radians_taken p = le→leb _ _ (p.words refl).near.near
 
 -- it keeps 39 binary places: the sine of 2 degrees, cut there, is more than 2^-40 too small
 cut_to_39_places : WavePromise sine (float (pos 2)) (record { refusal = 0; value = fin false 19186201213 (negsuc 38) })
     → ⊥
-unfolding refuses_angle is_inside lt le eq neg of_int defined is_multiple quarters turned reduced around radians sine_sum
+unfolding refuses_angle is_inside lt le eq neg of_int defined is_multiple quarters turned reduced around radians
+    sine_sum
     term power factorial
 cut_to_39_places p = le→leb _ _ (p.words refl).near.near

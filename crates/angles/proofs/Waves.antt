@@ -112,7 +112,8 @@ module _ (r : ℕ) (h : r ≤ half) where
       (subst (λ (q : Fraction). Close one (fixed (times (radian_units r) v)) q 119) (⊗-opposite (angle r) z)
       (product v (opposite z) m (close_opposite d)))
 
-  pub cosine_close : Close one (signed (ltb one (outermost (radian_units r) 26)) (from_one (outermost (radian_units r) 26))
+  pub cosine_close : Close one
+      (signed (ltb one (outermost (radian_units r) 26)) (from_one (outermost (radian_units r) 26))
       one)
       (sum cosine (angle r)) 85
   unfolding x y

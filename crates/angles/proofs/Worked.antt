@@ -20,19 +20,22 @@ refused = record { refusal = 3; value = zero_float }
 
 -- ---- 0, 1 and -1 at multiples of 90, and 0 with no sign
 sine_90 : outcome sine (float (pos 90)) ≡ accepted one_float
-unfolding refuses_angle is_inside lt le eq wave_computed place cut_angle units turned sine_at short times radian_units nesting
+unfolding refuses_angle is_inside lt le eq wave_computed place cut_angle units turned sine_at short times radian_units
+    nesting
     nest rounded_units
     of_int div neg
 sine_90 = refl
 
 sine_180 : outcome sine (float (pos 180)) ≡ accepted (fin false 0 (pos 0))
-unfolding refuses_angle is_inside lt le eq wave_computed place cut_angle units turned sine_at short times radian_units nesting
+unfolding refuses_angle is_inside lt le eq wave_computed place cut_angle units turned sine_at short times radian_units
+    nesting
     nest rounded_units
     of_int div neg
 sine_180 = refl
 
 sine_270 : outcome sine (float (pos 270)) ≡ accepted minus_one_float
-unfolding refuses_angle is_inside lt le eq wave_computed place cut_angle units turned sine_at short times radian_units nesting
+unfolding refuses_angle is_inside lt le eq wave_computed place cut_angle units turned sine_at short times radian_units
+    nesting
     nest rounded_units
     of_int div neg
 sine_270 = refl
@@ -45,23 +48,27 @@ cosine_minus_540 = refl
 
 -- ---- between them
 sine_30 : to_bits binary64 (wave_computed sine (float (pos 30))) ≡ 0x3FE0000000000000
-unfolding wave_computed place cut_angle units turned sine_at short times radian_units nesting nest rounded_units of_int div
+unfolding wave_computed place cut_angle units turned sine_at short times radian_units nesting nest rounded_units of_int
+    div
     neg to_bits
 sine_30 = refl
 
 cosine_30 : to_bits binary64 (wave_computed cosine (float (pos 30))) ≡ 0x3FEBB67AE8584CAC
-unfolding wave_computed place cut_angle units turned cosine_at short times radian_units nesting nest rounded_units of_int div
+unfolding wave_computed place cut_angle units turned cosine_at short times radian_units nesting nest rounded_units
+    of_int div
     neg to_bits
 cosine_30 = refl
 
 sine_minus_1 : to_bits binary64 (wave_computed sine (float (negsuc 0))) ≡ 0xBF91DF0B2B89DD00
-unfolding wave_computed place cut_angle units turned sine_at short times radian_units nesting nest rounded_units of_int div
+unfolding wave_computed place cut_angle units turned sine_at short times radian_units nesting nest rounded_units of_int
+    div
     neg to_bits
 sine_minus_1 = refl
 
 -- ---- the ends of what is accepted: 1080 is, and the next float is not; no NaN is, and no infinity
 sine_1080 : outcome sine (float (pos 1080)) ≡ accepted zero_float
-unfolding refuses_angle is_inside lt le eq wave_computed place cut_angle units turned sine_at short times radian_units nesting
+unfolding refuses_angle is_inside lt le eq wave_computed place cut_angle units turned sine_at short times radian_units
+    nesting
     nest rounded_units
     of_int div neg
 sine_1080 = refl

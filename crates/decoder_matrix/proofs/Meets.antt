@@ -1,6 +1,7 @@
 -- The answers of `compute_decoder_matrix`, by the tests that were gone through. Assumes nothing.
 use Rattle.lists.specs.Prelude.{ℕ, zero, suc, ◌*◌, ◌≤◌, ◌<◌, arith, ◌≡◌, refl, sym, ap, ◌∙◌, subst, Bool, true, false}
-use Rattle.lists.specs.Prelude.{not, cond, List, [], eqb-true, eqb, length, get_or, take, length-take, length-map, Float}
+use Rattle.lists.specs.Prelude.{not, cond, List, [], eqb-true, eqb, length, get_or, take, length-take, length-map}
+use Rattle.lists.specs.Prelude.{Float}
 use Rattle.lists.specs.Prelude.{nan, binary64, mul}
 use Rattle.refusals.proofs.Chains.{none_holds}
 use Rattle.rows.specs.Rows.{computed_by}
@@ -47,7 +48,8 @@ module _ (order : ℕ) (l : Layout) (weights : List Float) where
 
   -- ---- what the definition gives keeps all of the promise
   pub row_is : (i : ℕ) → refuses_order order ≡ false → i < channels_of l
-      → chunk (channels_of_order order) i (matrix_of order l) ≡ row_by order l (channels_of l) (channels_of_order order) i
+      → chunk (channels_of_order order) i (matrix_of order l)
+      ≡ row_by order l (channels_of l) (channels_of_order order) i
   row_is i o h =
       let n = channels_of l in
       let k = channels_of_order order in

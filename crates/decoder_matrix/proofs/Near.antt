@@ -98,7 +98,8 @@ front : refuses_elevation (of_int binary64 (pos 0)) ≡ false
 unfolding refuses_angle is_inside of_int le neg
 front = refl
 
-module _ (order : ℕ) (l : Layout) (o : refuses_order order ≡ false) (u : refuses_channels (channels_of l) ≡ false) (i : ℕ)
+module _ (order : ℕ) (l : Layout) (o : refuses_order order ≡ false) (u : refuses_channels (channels_of l) ≡ false)
+    (i : ℕ)
     (h : i < channels_of l) where
   root : RootOf (2 ^ 53) (number (root_of binary64 (float (pos (channels_of l))))) (whole (channels_of l))
   root =

@@ -14,7 +14,8 @@ use Rattle.decoder_matrix.specs.Speakers.{azimuth_by, azimuth_at, towards}
 
 -- the row of an azimuth, one of n; of speaker i; and of every speaker
 abbrev pub row_towards : ℕ → ℕ → ℕ → Float → List Float
-row_towards order n channels azimuth = scaled (inverse_root_of n) (take channels (outcome order (towards azimuth)).gains)
+row_towards order n channels azimuth = scaled (inverse_root_of n)
+    (take channels (outcome order (towards azimuth)).gains)
 
 abbrev pub row_by : ℕ → Layout → ℕ → ℕ → ℕ → List Float
 row_by order l n channels i = row_towards order n channels (azimuth_by l n i)

@@ -47,7 +47,8 @@ unfolding formulas_over defined is_multiple quarters turned
 drill_1 = alike (formulas 3 (whole 0) (whole 0)) (front sn3d_h sn3d_m sn3d_q) tt
 
 pub drill_1_floats : SameNumbers (given 3 (at 0 0)) front_floats
-unfolding refuses_angle is_inside up_to waves_of sin cos lt le eq wave_computed place cut_angle units turned sine_at cosine_at
+unfolding refuses_angle is_inside up_to waves_of sin cos lt le eq wave_computed place cut_angle units turned sine_at
+    cosine_at
     short
     times radian_units nesting nest rounded_units of_int div neg add sub mul round
 drill_1_floats = alike (given 3 (at 0 0)) front_floats tt
@@ -57,7 +58,8 @@ unfolding formulas_over defined is_multiple quarters turned
 drill_2 = alike (formulas 1 (whole 90) (whole 0)) left_gains tt
 
 pub drill_2_floats : SameNumbers (given 1 (at 90 0)) left_gains
-unfolding refuses_angle is_inside up_to waves_of sin cos lt le eq wave_computed place cut_angle units turned sine_at cosine_at
+unfolding refuses_angle is_inside up_to waves_of sin cos lt le eq wave_computed place cut_angle units turned sine_at
+    cosine_at
     short
     times radian_units nesting nest rounded_units of_int div neg add sub mul round
 drill_2_floats = alike (given 1 (at 90 0)) left_gains tt
@@ -87,7 +89,8 @@ nought_times y Y =
 
 risen : (a : Float) → 0 < (number a).over → AtMost (magnitude (number a)) (whole 180)
     → Above (map number (up_to 3 (waves_of (record { azimuth = a; elevation = float (pos 90) }))))
-unfolding nought up_to waves_of sin cos refuses_angle is_inside lt le eq wave_computed place cut_angle units turned sine_at
+unfolding nought up_to waves_of sin cos refuses_angle is_inside lt le eq wave_computed place cut_angle units turned
+    sine_at
     cosine_at
     short times radian_units nesting nest rounded_units of_int div neg add sub mul round
 risen a A h = record { one = number_times sine; two = refl; three = number_times cosine; six = refl; twelve = refl }

@@ -84,7 +84,8 @@ module _ (order : ℕ) (d : Direction) where
   }
 
   -- ---- the three answers of the program
-  pub order_refused_lem : (r : Coefficients) → refuses_order order ≡ true → r ≡ record { refusal = 1; gains = silent_gains }
+  pub order_refused_lem : (r : Coefficients) → refuses_order order ≡ true
+      → r ≡ record { refusal = 1; gains = silent_gains }
       → HarmonicsPromise order d r
   order_refused_lem r h e =
       subst (HarmonicsPromise order d) (ap (λ (a : Bool). answer a (refuses_direction d)) h ∙ sym e) outcome_kept
@@ -98,5 +99,6 @@ module _ (order : ℕ) (d : Direction) where
   accepted_kept g h k e =
       subst (HarmonicsPromise order d)
       ((λ i. answer (h i) (k i)) ∙ ap accepting
-      (sym (e ∙ by_order_lem (λ (n : ℕ). harmonics_computed n (waves_of d) ≡ up_to n (waves_of d)) refl refl refl order h)))
+      (sym (e ∙ by_order_lem (λ (n : ℕ). harmonics_computed n (waves_of d) ≡ up_to n (waves_of d)) refl refl refl order
+      h)))
       outcome_kept

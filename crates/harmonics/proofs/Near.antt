@@ -157,7 +157,8 @@ module _ (d : Direction) (A : 0 < (number d.azimuth).over) (a : AtMost (magnitud
       record {
         near = subst₂ (EachWithin gain_bits) r e (each_within binary64 gain_bits (expressions n known) s);
         each = λ i x q h.
-            subst₂ (λ (xs : List Float) (qs : List Fraction). Approximates 42 (whole 5) (get_or xs i x) (get_or qs i q)) r e
+            subst₂ (λ (xs : List Float) (qs : List Fraction). Approximates 42 (whole 5) (get_or xs i x) (get_or qs i q))
+            r e
             (each_approximates binary64 42 5 1 (expressions n known) t i x q (subst (λ (k : ℕ). i < k) (sym l) h));
       }
 

@@ -24,8 +24,8 @@ zero_gain = whole 0
 
 -- ---- 1. Order 3 at (0,0). In floats h, m and q are the literals
 abbrev pub front : Fraction → Fraction → Fraction → List Fraction
-front h m q = whole 1 ∷ zero_gain ∷ zero_gain ∷ whole 1 ∷ zero_gain ∷ zero_gain ∷ opposite (fraction 1 0 2) ∷ zero_gain ∷ h
-    ∷ zero_gain ∷ zero_gain ∷ zero_gain
+front h m q = whole 1 ∷ zero_gain ∷ zero_gain ∷ whole 1 ∷ zero_gain ∷ zero_gain ∷ opposite (fraction 1 0 2) ∷ zero_gain
+    ∷ h ∷ zero_gain ∷ zero_gain ∷ zero_gain
     ∷ zero_gain ∷ opposite m ∷ zero_gain ∷ q ∷ []
 
 abbrev pub front_floats : List Fraction
@@ -34,8 +34,8 @@ front_floats =
 
 -- ---- 2. Order 1 at (90,0)
 abbrev pub left_gains : List Fraction
-left_gains = whole 1 ∷ whole 1 ∷ zero_gain ∷ zero_gain ∷ zero_gain ∷ zero_gain ∷ zero_gain ∷ zero_gain ∷ zero_gain ∷ zero_gain
-    ∷ zero_gain ∷ zero_gain ∷ zero_gain ∷ zero_gain ∷ zero_gain
+left_gains = whole 1 ∷ whole 1 ∷ zero_gain ∷ zero_gain ∷ zero_gain ∷ zero_gain ∷ zero_gain ∷ zero_gain ∷ zero_gain
+    ∷ zero_gain ∷ zero_gain ∷ zero_gain ∷ zero_gain ∷ zero_gain ∷ zero_gain
     ∷ zero_gain ∷ []
 
 -- ---- 3. Elevation 90, at any azimuth

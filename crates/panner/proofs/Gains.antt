@@ -114,7 +114,8 @@ module _ (l : Layout) (d : Direction) (n : ℕ) where
     direction_refused k = command_is ∙ three (Harmonics.refuses_direction d) s.refusal direction_is k
 
     pub ambisonic_accepted : (g : Commanded) → s.refusal ≡ 0
-        → g ≡ record { refusal = 0; planes = channels_of_order n; gains = s.gains } → CommandComputed (Ambisonic d n) l g
+        → g ≡ record { refusal = 0; planes = channels_of_order n; gains = s.gains }
+        → CommandComputed (Ambisonic d n) l g
     ambisonic_accepted g z e = record {
       refusal = ap (λ (x : Commanded). x.refusal) e ∙ sym (command_is ∙ sym direction_is ∙ z);
       planes = λ k. ap (λ (x : Commanded). x.planes) e;

@@ -36,20 +36,23 @@ right_at_250 = refl
 
 -- ---- the program's gains
 pub at_minus_100 : outcome (float (negsuc 99)) ≡ accepted one_float zero_float
-unfolding outcome angle_of clamped_to lt le eq add refuses_angle is_inside wave_computed place cut_angle units turned sine_at
+unfolding outcome angle_of clamped_to lt le eq add refuses_angle is_inside wave_computed place cut_angle units turned
+    sine_at
     cosine_at
     short times radian_units nesting nest rounded_units of_int mul div neg
 at_minus_100 = refl
 
 pub at_250 : outcome (float (pos 250)) ≡ accepted zero_float one_float
-unfolding outcome angle_of clamped_to lt le eq add refuses_angle is_inside wave_computed place cut_angle units turned sine_at
+unfolding outcome angle_of clamped_to lt le eq add refuses_angle is_inside wave_computed place cut_angle units turned
+    sine_at
     cosine_at
     short times radian_units nesting nest rounded_units of_int mul div neg
 at_250 = refl
 
 -- in the middle both are the cosine of 45 degrees, at a last place of 2 ^ -51
 in_the_middle : to_bits binary64 (outcome (float (pos 0))).left ≡ 0x3FE6A09E667F3BCC
-unfolding outcome angle_of clamped_to lt le eq add refuses_angle is_inside wave_computed place cut_angle units turned sine_at
+unfolding outcome angle_of clamped_to lt le eq add refuses_angle is_inside wave_computed place cut_angle units turned
+    sine_at
     cosine_at
     short times radian_units nesting nest rounded_units of_int mul div neg to_bits
 in_the_middle = refl

@@ -31,5 +31,6 @@ folded_back l p = le→leb _ _ (p.words refl).right.near
 
 -- it keeps 35 binary places: at 50 the cosine of 67.5 degrees, cut there, is more than 2^-36 too small
 cut_to_35_places : (r : Float) → StereoPromise (float (pos 50)) (accepted (fin false 13148902613 (negsuc 34)) r) → ⊥
-unfolding of_int clamped angle defined is_multiple quarters turned reduced around radians cosine_sum term power factorial
+unfolding of_int clamped angle defined is_multiple quarters turned reduced around radians cosine_sum term power
+    factorial
 cut_to_35_places r p = le→leb _ _ (p.words refl).left.near

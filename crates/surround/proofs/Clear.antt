@@ -42,7 +42,8 @@ module _ (a : Fraction) (p m : ℕ) (A : 0 < a.over) (H : AtMost (magnitude a) (
       (cosine_square_least apart D (omega arith) h, mul-pos N N)
 
 -- the sum is no less than the square of a channel's gain
-pub channel_in_sum : (l : Layout) (a : Fraction) (c : ℕ) → c < channels_of l → AtMost (square (raw_at l a c)) (sum_at l a)
+pub channel_in_sum : (l : Layout) (a : Fraction) (c : ℕ) → c < channels_of l
+    → AtMost (square (raw_at l a c)) (sum_at l a)
 channel_in_sum l a c h =
     let n = channels_of l in
     subst (λ (g : Fraction). AtMost (square g) (sum_at l a)) (get_or_table n (raw_at l a) c (whole 0) h)

@@ -46,25 +46,30 @@ unfolding raw_at raw_gain distance
 left_and_right = refl
 
 pub centre_loudest : Less (square (raw_at Surround51 (whole 0) 0)) (square (raw_at Surround51 (whole 0) 2))
-unfolding raw_at raw_gain distance defined is_multiple quarters turned reduced around Series.radians cosine_sum term power
+unfolding raw_at raw_gain distance defined is_multiple quarters turned reduced around Series.radians cosine_sum term
+    power
     factorial
 centre_loudest = lit< tt
 
 -- ---- the program's gains, bit for bit
 pub at_120 : outcome Surround51 (float (pos 120))
     ≡ record { refusal = 0; gains = gains51 zero_float zero_float zero_float one_float }
-unfolding refuses_angle is_inside surround_gains divided_by sum_of raw_gains channel_gain raw_of is_near turned_towards way_of
+unfolding refuses_angle is_inside surround_gains divided_by sum_of raw_gains channel_gain raw_of is_near turned_towards
+    way_of
     absolute
-    not_below lt le eq add sub mul div neg round of_int wave_computed place cut_angle Angles.units turned cosine_at short
+    not_below lt le eq add sub mul div neg round of_int wave_computed place cut_angle Angles.units turned cosine_at
+    short
     times
     radian_units nesting nest rounded_units root_of whole_root size units
 at_120 = refl
 
 pub at_0 : outcome Surround51 (float (pos 0))
     ≡ record { refusal = 0; gains = gains51 sides_at0 sides_at0 centre_at0 zero_float }
-unfolding of_bits refuses_angle is_inside surround_gains divided_by sum_of raw_gains channel_gain raw_of is_near turned_towards
+unfolding of_bits refuses_angle is_inside surround_gains divided_by sum_of raw_gains channel_gain raw_of is_near
+    turned_towards
     way_of absolute
-    not_below lt le eq add sub mul div neg round of_int wave_computed place cut_angle Angles.units turned cosine_at short
+    not_below lt le eq add sub mul div neg round of_int wave_computed place cut_angle Angles.units turned cosine_at
+    short
     times
     radian_units nesting nest rounded_units root_of whole_root size units
 at_0 = refl

@@ -102,7 +102,8 @@ module _ (l : Layout) (a : Float) (A : 0 < (number a).over) (H : AtMost (magnitu
     near : (c : ℕ) → c < n → BySquares surround_bits (number (div binary64 (channel_gain l a c) root)) (raw_at l q c)
         (sum_at l q)
     near c h =
-        normalised binary64 surround_bits most_gain least_root (channel_gain l a c) root (raw_at l q c) (sum_at l q) p.fine
+        normalised binary64 surround_bits most_gain least_root (channel_gain l a c) root (raw_at l q c) (sum_at l q)
+        p.fine
         (sound binary64 (gain c) tt).near root_law.positive
         (root_near (2 ^ 53) (number root) (lit≤ tt) root_law sum_near) sum_least (channel_in_sum l q c h)
 

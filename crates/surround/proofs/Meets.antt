@@ -51,7 +51,8 @@ module _ (l : Layout) (a : Float) (b : Bool) (s : b ≡ surround l) where
       let accepted : refusal_of l a ≡ 0 = cond_false 2 _ (ap not surrounds) ∙ cond_false 3 0 i in
       let raw_is : raw ≡ raw_gains l a (channels_of l) = er ∙ ap (raw_gains l a) count in
       let root_is : r.value ≡ root_of binary64 (sum_of (channels_of l) (raw_gains l a (channels_of l))) =
-      ap (λ (y : Rooted). y.value) eo ∙ root_value x ∙ ap (root_of binary64) (es ∙ (λ j. sum_of (count j) (raw_is j))) in
+      ap (λ (y : Rooted). y.value) eo ∙ root_value x
+      ∙ ap (root_of binary64) (es ∙ (λ j. sum_of (count j) (raw_is j))) in
       let gains_are : g ≡ surround_gains l a = eg ∙ (λ j. divided_by (root_is j) (raw_is j)) in
       record {
         bits = ap accepting gains_are

@@ -108,8 +108,8 @@ module _ (x : Float) (X : 0 < (number x).over) where
       (subst (λ (q : Fraction). 0 < q.over) (sym (number_neg x)) X) X
 
   -- ---- lifted to 0, near a number that is 0 at least, up to 2 ^ -50
-  zero_within : (q : Fraction) → Within raw_bits (number x) q → Less (number x) (whole 0) → AtMost (opposite (unit 50)) q
-      → Within raw_bits (number zero_float) q
+  zero_within : (q : Fraction) → Within raw_bits (number x) q → Less (number x) (whole 0)
+      → AtMost (opposite (unit 50)) q → Within raw_bits (number zero_float) q
   unfolding of_int
   zero_within q h s l = close_within
       (zero_near (number x) q (within_close h) (less_at_most (number x) (whole 0) s)
@@ -221,7 +221,8 @@ module _ (a s : Float) (p m : ℕ) (A : 0 < (number a).over) (H : AtMost (magnit
   raw_silent h = cond_false _ zero_float (raw_test ∙ h)
 
 -- ---- of a channel
-module _ (l : Layout) (a : Float) (c : ℕ) (A : 0 < (number a).over) (H : AtMost (magnitude (number a)) (whole 180)) where
+module _ (l : Layout) (a : Float) (c : ℕ) (A : 0 < (number a).over)
+    (H : AtMost (magnitude (number a)) (whole 180)) where
   -- what holds of a speaker that stands at a whole number holds of this one
   at_speaker : (P : Float → Fraction → Type 0)
       → ((s : Float) (p m : ℕ) → Stands s (fraction p m 1) → P s (fraction p m 1)) → P (azimuth_of l c) (speaker_at l c)
@@ -241,7 +242,8 @@ module _ (l : Layout) (a : Float) (c : ℕ) (A : 0 < (number a).over) (H : AtMos
       go false = at_speaker (λ (s : Float) (q : Fraction). Raw (raw_of a s) (raw_gain (number a) q))
           (λ s p m h. raw_gain_lem a s p m A H h)
 
-  pub channel_silent : is_less (distance (number a) (speaker_at l c)) (whole 90) ≡ false → channel_gain l a c ≡ zero_float
+  pub channel_silent : is_less (distance (number a) (speaker_at l c)) (whole 90) ≡ false
+      → channel_gain l a c ≡ zero_float
   unfolding channel_gain
   channel_silent h =
       cond_cases (λ (v : Float). v ≡ zero_float) (low_frequency l c) refl

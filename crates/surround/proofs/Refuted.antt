@@ -23,35 +23,40 @@ refuses_always p = let e : ◌≡◌ {A = ℕ} 3 0 = same_refusal p at_120 in om
 
 -- it is silent: Ls sounds alone, so that the square of its exact gain is 1
 silent : SurroundPromise Surround51 (float (pos 120)) (record { refusal = 0; gains = silent_gains }) → ⊥
-unfolding refuses_angle is_inside lt le eq neg of_int raw_at raw_gain distance defined is_multiple quarters turned reduced
+unfolding refuses_angle is_inside lt le eq neg of_int raw_at raw_gain distance defined is_multiple quarters turned
+    reduced
     around radians cosine_sum term power factorial
 silent p = le→leb _ _ ((p.words refl).near 4 (lit< tt)).above
 
 -- the speaker pointed at is silent, as the Rust has it: C at 0 degrees
 pointed_at_silent : (l r : Float) (g : List Float) → SurroundPromise Surround51 (float (pos 0))
     (record { refusal = 0; gains = l ∷ r ∷ zero_float ∷ g }) → ⊥
-unfolding refuses_angle is_inside lt le eq neg of_int raw_at raw_gain distance defined is_multiple quarters turned reduced
+unfolding refuses_angle is_inside lt le eq neg of_int raw_at raw_gain distance defined is_multiple quarters turned
+    reduced
     around radians cosine_sum term power factorial
 pointed_at_silent l r g p = le→leb _ _ ((p.words refl).near 2 (lit< tt)).above
 
 -- and L at 30 degrees, where trainees found the left speaker dead
 left_dead : (g : List Float) → SurroundPromise Surround51 (float (pos 30))
     (record { refusal = 0; gains = zero_float ∷ g }) → ⊥
-unfolding refuses_angle is_inside lt le eq neg of_int raw_at raw_gain distance defined is_multiple quarters turned reduced
+unfolding refuses_angle is_inside lt le eq neg of_int raw_at raw_gain distance defined is_multiple quarters turned
+    reduced
     around radians cosine_sum term power factorial
 left_dead g p = le→leb _ _ ((p.words refl).near 0 (lit< tt)).above
 
 -- the three in front share alike at 0 degrees: each has the f64 nearest to the root of 1/3
 equal_thirds : (l r : Float) (g : List Float) → SurroundPromise Surround51 (float (pos 0))
     (record { refusal = 0; gains = l ∷ r ∷ of_bits binary64 0x3FE279A74590331C ∷ g }) → ⊥
-unfolding of_bits refuses_angle is_inside lt le eq neg of_int raw_at raw_gain distance defined is_multiple quarters turned
+unfolding of_bits refuses_angle is_inside lt le eq neg of_int raw_at raw_gain distance defined is_multiple quarters
+    turned
     reduced around radians cosine_sum term power factorial
 equal_thirds l r g p = le→leb _ _ ((p.words refl).near 2 (lit< tt)).above
 
 -- the speaker pointed at sounds alone: L and R are less than 90 degrees away, and sound too
 centre_alone : (l r : Float) (g : List Float) → SurroundPromise Surround51 (float (pos 0))
     (record { refusal = 0; gains = l ∷ r ∷ one_float ∷ g }) → ⊥
-unfolding refuses_angle is_inside lt le eq neg of_int raw_at raw_gain distance defined is_multiple quarters turned reduced
+unfolding refuses_angle is_inside lt le eq neg of_int raw_at raw_gain distance defined is_multiple quarters turned
+    reduced
     around radians cosine_sum term power factorial
 centre_alone l r g p = le→leb _ _ ((p.words refl).near 2 (lit< tt)).below
 
@@ -70,6 +75,7 @@ azimuth_refused_by_2 g p = let e : ◌≡◌ {A = ℕ} 2 3 = same_refusal p beyo
 -- it is off by 2^-29, twice what document 01 allows: Ls sounds alone at 120 degrees, with a gain of 1
 off_by_twice : (l r c f : Float) (g : List Float) → SurroundPromise Surround51 (float (pos 120))
     (record { refusal = 0; gains = l ∷ r ∷ c ∷ f ∷ fin false 536870911 (negsuc 28) ∷ g }) → ⊥
-unfolding refuses_angle is_inside lt le eq neg of_int raw_at raw_gain distance defined is_multiple quarters turned reduced
+unfolding refuses_angle is_inside lt le eq neg of_int raw_at raw_gain distance defined is_multiple quarters turned
+    reduced
     around radians cosine_sum term power factorial
 off_by_twice l r c f g p = le→leb _ _ ((p.words refl).near 4 (lit< tt)).above

@@ -45,7 +45,8 @@ worked :
     ∷ []
 unfolding to_bits of_bits refuses_angle is_inside surround_gains divided_by sum_of raw_gains channel_gain raw_of is_near
     turned_towards way_of
-    absolute not_below lt le eq add sub mul div neg round of_int wave_computed place cut_angle Angles.units turned cosine_at
+    absolute not_below lt le eq add sub mul div neg round of_int wave_computed place cut_angle Angles.units turned
+    cosine_at
     short
     times radian_units nesting nest rounded_units root_of whole_root size units
 worked = refl
@@ -58,8 +59,10 @@ next_above_minus60 = of_bits binary64 0xC04DFFFFFFFFFFFF
 -- exact gain is some 10 ^ -16
 rounded_to_90 : (get_or (bits Surround51 next_above_minus60) 0 1 ≡ 0)
     × (is_silent Surround51 (number next_above_minus60) 0 ≡ false)
-unfolding is_silent distance to_bits of_bits refuses_angle is_inside surround_gains divided_by sum_of raw_gains channel_gain raw_of
-    is_near turned_towards way_of absolute not_below lt le eq add sub mul div neg round of_int wave_computed place cut_angle
+unfolding is_silent distance to_bits of_bits refuses_angle is_inside surround_gains divided_by sum_of raw_gains
+    channel_gain raw_of
+    is_near turned_towards way_of absolute not_below lt le eq add sub mul div neg round of_int wave_computed place
+    cut_angle
     Angles.units
     turned cosine_at short times radian_units nesting nest rounded_units root_of whole_root size units
 rounded_to_90 = (refl, refl)

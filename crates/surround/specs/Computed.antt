@@ -27,7 +27,8 @@ unfoldable pub way_of : Float → Float → Float
 way_of a t = absolute (sub binary64 a t)
 
 unfoldable pub raw_of : Float → Float → Float
-raw_of a s = cond (is_near a (turned_towards a s)) (not_below (Angles.outcome cosine (way_of a (turned_towards a s))).value)
+raw_of a s = cond (is_near a (turned_towards a s))
+    (not_below (Angles.outcome cosine (way_of a (turned_towards a s))).value)
     zero_float
 
 unfoldable pub channel_gain : Layout → Float → ℕ → Float

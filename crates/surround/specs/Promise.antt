@@ -25,7 +25,8 @@ refusal_of l a = first_of (2 when not (surround l) ∷ 3 when refuses_azimuth a 
 
 -- each raw gain over the root of the sum of squares
 unfoldable pub surround_gains : Layout → Float → List Float
-surround_gains l a = let raw = raw_gains l a (channels_of l) in divided_by (root_of binary64 (sum_of (channels_of l) raw)) raw
+surround_gains l a = let raw = raw_gains l a (channels_of l) in
+    divided_by (root_of binary64 (sum_of (channels_of l) raw)) raw
 
 abbrev pub outcome : Layout → Float → SurroundGains
 outcome l a = answered (refusal_of l a) (record { refusal = 0; gains = surround_gains l a })

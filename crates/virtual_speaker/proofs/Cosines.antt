@@ -15,5 +15,6 @@ near_series n t h = record { near = within_computed 54 (number (cosine_of n)) (m
 
 pub cosine_near : (n : ℕ) → refuses_order n ≡ false → Approximates 54 (whole 1) (cosine_of n) (max_re_cosine n)
 unfolding cosine_sum term power factorial round
-cosine_near = by_order_lem (λ (n : ℕ). Approximates 54 (whole 1) (cosine_of n) (max_re_cosine n)) (near_series 1 tt (lit≤ tt))
+cosine_near = by_order_lem (λ (n : ℕ). Approximates 54 (whole 1) (cosine_of n) (max_re_cosine n))
+    (near_series 1 tt (lit≤ tt))
     (near_series 2 tt (lit≤ tt)) (near_series 3 tt (lit≤ tt))

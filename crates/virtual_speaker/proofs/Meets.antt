@@ -52,7 +52,8 @@ module _ (order : ℕ) (d : Direction) where
       let o = Harmonics.outcome order d in
       let p = Laws.outcome_kept order d in
       weighted_near (cosine_near order (Laws.is_accepted order d h).order_is)
-      (subst (λ (xs : List Float). Approximates 42 (whole 5) (get_or xs i nan) (get_or (formulas order a e) i (whole 0)))
+      (subst (λ (xs : List Float). Approximates 42 (whole 5) (get_or xs i nan)
+      (get_or (formulas order a e) i (whole 0)))
       (Laws.gains_are order d o p h) (Laws.gain_near order d o p h i nan (whole 0) l))
       (degree_of i) (degree_most i)
 

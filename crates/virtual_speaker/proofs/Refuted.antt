@@ -33,7 +33,8 @@ by_the_comment : MaxRePromise 1 (at 0 0)
       weights = (float (pos 1) ∷ zero_float ∷ zero_float ∷ decimal 8243732515066312 ∷ [])
           ++ replicate 12 zero_float;
     }) → ⊥
-unfolding refuses_angle is_inside lt le eq neg round of_int formulas_over defined is_multiple quarters turned cosine_sum term
+unfolding refuses_angle is_inside lt le eq neg round of_int formulas_over defined is_multiple quarters turned cosine_sum
+    term
     power factorial
 by_the_comment p = le→leb _ _ (p.words refl).1.1.1.0.near
 
@@ -48,6 +49,7 @@ eighth_refused d h = let e : ◌≡◌ {A = ℕ} 2 0 = ap (λ (r : Position). r.
 -- it rounds up to 33 binary places: the weight of channel 3, c itself, is then more than 2^-34 too large
 rounded_up_to_33_places : (w y z : Float) (ws : List Float)
     → MaxRePromise 1 (at 0 0) (record { refusal = 0; weights = w ∷ y ∷ z ∷ fin false 1770517735 (negsuc 30) ∷ ws }) → ⊥
-unfolding refuses_angle is_inside lt le eq neg of_int formulas_over defined is_multiple quarters turned cosine_sum term power
+unfolding refuses_angle is_inside lt le eq neg of_int formulas_over defined is_multiple quarters turned cosine_sum term
+    power
     factorial
 rounded_up_to_33_places w y z ws p = le→leb _ _ (p.words refl).1.1.1.0.near

@@ -18,7 +18,8 @@ abbrev front : List Fraction
 front = (whole 1 ∷ zero_gain ∷ zero_gain ∷ number (decimal 8244615675902878) ∷ []) ++ replicate 12 zero_gain
 
 in_front : SameNumbers (map number (outcome 1 (at 0 0)).weights) front
-unfolding refuses_angle is_inside weigh up_to waves_of sin cos lt le eq wave_computed place cut_angle units turned sine_at
+unfolding refuses_angle is_inside weigh up_to waves_of sin cos lt le eq wave_computed place cut_angle units turned
+    sine_at
     cosine_at
     short times radian_units nesting nest rounded_units of_int div neg add sub mul round
 in_front = alike (map number (outcome 1 (at 0 0)).weights) front tt

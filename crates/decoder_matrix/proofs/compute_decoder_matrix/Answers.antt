@@ -10,6 +10,7 @@ use Rattle.decoder_matrix.specs.Matrix.{rows_by}
 use Rattle.decoder_matrix.proofs.Meets.{order_refused_lem, layout_refused_lem, length_refused, matrix_put}
 use Rattle.decoder_matrix.proofs.compute_decoder_matrix.Goals as goal
 
+-- an accepted layout has sixteen speakers at most
 few_speakers : (layout : Layout) (n : ℕ) → refuses_channels (channels_of layout) ≡ false → n ≡ channels_of layout
     → n ≤ 16
 few_speakers layout n f e = omega (arith, e, (not_outside (channels_of layout) 16 f).1)

@@ -8,7 +8,8 @@ unfolding of_bits of_int
 returns c =
     let at_clamped = c.before.before in
     let at_if1 = at_clamped.before in
-    plays _ _ _ _ (ap not (sym at_if1.before.is_finite.ensures) ∙ (ap not at_if1.if-not-is_finite.false)) at_clamped.clamped.ensures
+    plays _ _ _ _ (ap not (sym at_if1.before.is_finite.ensures) ∙ (ap not at_if1.if-not-is_finite.false))
+    at_clamped.clamped.ensures
     c.before.cosine-left.ensures c.sine-right.ensures
 
 pub returns-then-not-is_finite : goal.returns-then-not-is_finite

@@ -10,7 +10,8 @@ returns-then-speaker-azimuth c = sym (cond_true _ _ c.if-speaker-azimuth.true)
 
 pub returns-then-azimuth-speaker : goal.returns-then-azimuth-speaker
 unfolding turned_towards of_bits of_int
-returns-then-azimuth-speaker c = sym (cond_false _ _ c.before.if-speaker-azimuth.false ∙ cond_true _ _ c.if-azimuth-speaker.true)
+returns-then-azimuth-speaker c = sym
+    (cond_false _ _ c.before.if-speaker-azimuth.false ∙ cond_true _ _ c.if-azimuth-speaker.true)
 
 pub returns : goal.returns
 unfolding turned_towards of_bits of_int

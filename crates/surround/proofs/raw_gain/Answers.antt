@@ -24,4 +24,5 @@ returns c =
 
 pub returns-then-not-is_near : goal.returns-then-not-is_near
 unfolding of_bits of_int
-returns-then-not-is_near c = far _ _ _ _ c.before.before.place-place.ensures c.before.is_near.ensures (ap not c.if-not-is_near.true)
+returns-then-not-is_near c = far _ _ _ _ c.before.before.place-place.ensures c.before.is_near.ensures
+    (ap not c.if-not-is_near.true)
