@@ -2,7 +2,8 @@
 -- again, and what is read out of rings that hold a past is its last L frames. Assumes nothing.
 use Rattle.lists.specs.Prelude.{◌≡◌, sym, ap, ◌∙◌, List, [], ◌++◌, flatten, ℕ, zero, suc, ◌+◌, ◌*◌, ◌≤◌, ◌<◌}
 use Rattle.lists.specs.Prelude.{not-suc-le-zero, le_of_suc-le-suc, zero-add, add-zero, zero-mul, suc-mul, arith, length}
-use Rattle.lists.specs.Prelude.{get_or, take, drop, length-append, take-add, take_all, take_at, drop_at, drop-drop, Float}
+use Rattle.lists.specs.Prelude.{get_or, take, drop, length-append, take-add, take_all, take_at, drop_at, drop-drop}
+use Rattle.lists.specs.Prelude.{Float}
 use Rattle.lists.specs.Prelude.{nan}
 use Rattle.formats.specs.Floats.{zero_float}
 use Rattle.lists.specs.Tables.{tab, chunk}

@@ -1,6 +1,7 @@
 -- What the loop over a straight run keeps, and that two runs, one after the other, are the ring from its newest signal
 -- back round to the oldest. Assumes nothing.
-use Rattle.lists.specs.Prelude.{◌≡◌, refl, sym, ap, ◌∙◌, List, reverse, ℕ, ◌+◌, ◌-◌, ◌≤◌, ◌<◌, min, arith, length, get_or}
+use Rattle.lists.specs.Prelude.{◌≡◌, refl, sym, ap, ◌∙◌, List, reverse, ℕ, ◌+◌, ◌-◌, ◌≤◌, ◌<◌, min, arith, length}
+use Rattle.lists.specs.Prelude.{get_or}
 use Rattle.lists.specs.Prelude.{take, drop, length-reverse, length-drop, take_all, length-take-le, Float, nan, binary64}
 use Rattle.lists.specs.Prelude.{add, mul}
 use Rattle.formats.specs.Floats.{zero_float}

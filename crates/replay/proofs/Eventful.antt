@@ -22,7 +22,8 @@ Events = List (Event (List Float))
 module _ (u : Setup) where
   -- ---- in parts
 
-  pub left_by_append : (t : State) (es hs : Events) → state_left_by u t (es ++ hs) ≡ state_left_by u (state_left_by u t es) hs
+  pub left_by_append : (t : State) (es hs : Events) → state_left_by u t (es ++ hs)
+      ≡ state_left_by u (state_left_by u t es) hs
   left_by_append t [] hs = refl
   left_by_append t (feed s f ∷ es) hs = left_by_append (stepped u t f) es hs
   left_by_append t (restart ∷ es) hs = left_by_append (rested t) es hs
@@ -49,17 +50,20 @@ module _ (u : Setup) where
   -- no more are unsettled than come out
   pub counted_few : (t : State) (es : Events) → unsettled_played_by u t es ≤ feeds_in es
   counted_few t [] = omega arith
-  counted_few t (feed s f ∷ es) = omega (arith, one_at_most (is_unsettled_by_desk u t f), counted_few (stepped u t f) es)
+  counted_few t (feed s f ∷ es) =
+      omega (arith, one_at_most (is_unsettled_by_desk u t f), counted_few (stepped u t f) es)
   counted_few t (restart ∷ es) = counted_few (rested t) es
 
   -- ---- where nothing restarts, the frames that are fed are played one after another
 
-  pub left_feeds : (t : State) (es : Events) → restarts_in es ≡ 0 → state_left_by u t es ≡ state_left u t (frames_fed es)
+  pub left_feeds : (t : State) (es : Events) → restarts_in es ≡ 0 → state_left_by u t es
+      ≡ state_left u t (frames_fed es)
   left_feeds t [] e = refl
   left_feeds t (feed s f ∷ es) e = left_feeds (stepped u t f) es e
   left_feeds t (restart ∷ es) e = absurd (suc-ne-zero (restarts_in es) e)
 
-  pub played_feeds : (t : State) (es : Events) → restarts_in es ≡ 0 → played_by u t es ≡ played_by_rings u t (frames_fed es)
+  pub played_feeds : (t : State) (es : Events) → restarts_in es ≡ 0 → played_by u t es
+      ≡ played_by_rings u t (frames_fed es)
   played_feeds t [] e = refl
   played_feeds t (feed s f ∷ es) e =
       ap (λ (l : List (List Float)). ears_by_rings u t f ∷ l) (played_feeds (stepped u t f) es e)

@@ -2,7 +2,8 @@
 -- has all that playing asks. Assumes nothing.
 use Rattle.lists.specs.Prelude.{◌≡◌, refl, sym, ap, ◌∙◌, Bool, true, false, not, ◌||◌, cond, true≢false, List, [], ◌∷◌}
 use Rattle.lists.specs.Prelude.{ℕ, zero, suc, ◌*◌, ◌≤◌, zero-le, arith, leb-true, leb-false, le-leb, le-ltb, lt-ltb}
-use Rattle.lists.specs.Prelude.{ltb-false, eqb, leb, ltb, length, get_or, take, replicate, length-replicate, get_or-take}
+use Rattle.lists.specs.Prelude.{ltb-false, eqb, leb, ltb, length, get_or, take, replicate, length-replicate}
+use Rattle.lists.specs.Prelude.{get_or-take}
 use Rattle.lists.specs.Prelude.{length-take-le, Float}
 use Rattle.refusals.specs.Refusals.{first_of, ◌when◌, outside}
 use Rattle.refusals.proofs.Chains.{Off, none_holds}

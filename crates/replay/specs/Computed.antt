@@ -29,7 +29,8 @@ use Rattle.replay.specs.declared.Replayed.{Replayed}
 use Rattle.replay.specs.declared.play.Turned.{Turned}
 
 -- a recording, in the order of the code
-abbrev pub recording_of : ConvolverShape → ℕ → ℕ → List ℕ → List Float → List Float → List ℕ → List Float → ℕ → Recording
+abbrev pub recording_of : ConvolverShape → ℕ → ℕ → List ℕ → List Float → List Float → List ℕ → List Float → ℕ
+    → Recording
 recording_of shape frames stride stamps inputs weights rows taps ear_stride =
     record {
       shape = shape;
@@ -93,7 +94,8 @@ played_by u t (restart ∷ es) = played_by u (rested t) es
 
 abbrev pub unsettled_played_by : Setup → State → List (Event (List Float)) → ℕ
 unsettled_played_by u t [] = 0
-unsettled_played_by u t (feed s f ∷ es) = cond (is_unsettled_by_desk u t f) 1 0 + unsettled_played_by u (stepped u t f) es
+unsettled_played_by u t (feed s f ∷ es) =
+    cond (is_unsettled_by_desk u t f) 1 0 + unsettled_played_by u (stepped u t f) es
 unsettled_played_by u t (restart ∷ es) = unsettled_played_by u (rested t) es
 
 -- a frame of silence, as `silent_frame` of `hrtf_history`
