@@ -2,7 +2,8 @@
 -- coefficient, then narrowed." 'Refusal numbers': 2 when "channels not 1..16", which outputs are too; 5 when "a lent
 -- length doesn't fit: stride below the frame count, or a length other than planes x stride, [..] weights outputs (or
 -- speakers) x channels"; 7 when "a weight [..] is NaN or infinite". Definitions only.
-use Rattle.lists.specs.Prelude.{ℕ, ◌*◌, Bool, not, ◌||◌, List, [], ◌∷◌, eqb, length, Float}
+use Rattle.std.specs.Prelude.{◌*◌, ◌||◌, ◌∷◌}
+use Rattle.lists.specs.Prelude.{ℕ, Bool, not, List, [], eqb, length, Float}
 use Rattle.refusals.specs.Refusals.{first_of, ◌when◌, outside}
 use Rattle.lists.specs.Tables.{tab}
 use Rattle.checks.specs.Finite.{has_nonfinite}

@@ -1,5 +1,6 @@
 -- All that is handed back for a block (`planes`, specs/Blocks.antt). Definitions only.
-use Rattle.lists.specs.Prelude.{ℕ, ◌≡◌, List, length, Float}
+use Rattle.std.specs.Prelude.{◌≡◌}
+use Rattle.lists.specs.Prelude.{ℕ, List, length, Float}
 use Rattle.planes.specs.Blocks as Blocks
 use Rattle.planes.specs.Blocks.{block_of}
 use Rattle.ambisonic_decoder.specs.declared.DecoderShape.{DecoderShape}

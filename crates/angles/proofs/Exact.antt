@@ -1,9 +1,10 @@
 -- At the multiples of 90 the program's floats are exactly +0.0, 1.0 and -1.0: such an angle is a whole number of
 -- degrees, so that nothing is cut from it, and at the four places that it can be turned to the program's own numbers
 -- come out so, by computation. Assumes nothing.
-use Rattle.lists.specs.Prelude.{◌≡◌, refl, sym, ap, ◌∙◌, Bool, true, false, ℕ, ◌+◌, ◌*◌, ◌/◌, ◌%◌, ◌^◌, ◌<◌}
-use Rattle.lists.specs.Prelude.{add-mul-mod_self_left, mul-mod_right, div-add-mod', eq_of_mul-eq-mul_right, lt_irrefl}
-use Rattle.lists.specs.Prelude.{arith, T, eqb→eq, lit<, get_or, Float, nan, inf, fin, up, down, neg, div, of_int}
+use Rattle.std.specs.Prelude.{◌≡◌, ◌+◌, ◌*◌, ◌/◌, ◌%◌, ◌^◌, ◌<◌}
+use Rattle.lists.specs.Prelude.{refl, sym, ap, ◌∙◌, Bool, true, false, ℕ, add-mul-mod_self_left, mul-mod_right}
+use Rattle.lists.specs.Prelude.{div-add-mod', eq_of_mul-eq-mul_right, lt_irrefl, arith, T, eqb→eq, lit<, get_or, Float}
+use Rattle.lists.specs.Prelude.{nan, inf, fin, up, down, neg, div, of_int}
 use lib.Ieee.Fits.{down_pos}
 use Rattle.fractions.specs.Fraction.{fraction, signed, number, Same}
 use Rattle.fractions.proofs.Number.{signed_same}

@@ -1,8 +1,9 @@
 -- The program's numbers as fractions: a whole number v stands for v / 2 ^ 60, and what the program makes of numbers
 -- near exact ones is near what the exact ones make. Errors are counted in units of 2 ^ -60. Assumes nothing.
-use Rattle.lists.specs.Prelude.{◌≡◌, refl, Bool, ℕ, zero, suc, ◌+◌, ◌-◌, ◌*◌, ◌/◌, ◌≤◌, ◌<◌, le_of_lt, mul-pos}
-use Rattle.lists.specs.Prelude.{mul_comm, mul-le-mul_right, sub-zero, div-mul-le_self, lt-div-mul-add}
-use Rattle.lists.specs.Prelude.{div-div-eq-div-mul, arith, ltb, lit<, lit≤, pow_pos, ltb-true, ltb-false}
+use Rattle.std.specs.Prelude.{◌≡◌, ◌+◌, ◌-◌, ◌*◌, ◌/◌, ◌≤◌, ◌<◌}
+use Rattle.lists.specs.Prelude.{refl, Bool, ℕ, zero, suc, le_of_lt, mul-pos, mul_comm, mul-le-mul_right, sub-zero}
+use Rattle.lists.specs.Prelude.{div-mul-le_self, lt-div-mul-add, div-div-eq-div-mul, arith, ltb, lit<, lit≤, pow_pos}
+use Rattle.lists.specs.Prelude.{ltb-true, ltb-false}
 use Rattle.lists.proofs.Tests.{by_test}
 use Rattle.fractions.specs.Fraction.{Fraction, fraction, whole, signed, ◌⊖◌, ◌⊗◌, ◌⊘◌, Same}
 use Rattle.fractions.proofs.Order.{same_refl}

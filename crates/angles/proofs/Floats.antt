@@ -1,12 +1,13 @@
 -- The float ends of the program: which floats are from -1080 to 1080, that such an angle times 2 ^ 52 is exact, so that
 -- its units are what they should be, and that the result is the float of its number of units of 2 ^ -51. Assumes
 -- nothing.
-use Rattle.lists.specs.Prelude.{◌≡◌, refl, sym, ap, ◌∙◌, subst, ℕ, ◌+◌, ◌-◌, ◌*◌, ◌/◌, ◌%◌, ◌^◌, ◌≤◌, ◌<◌, zero-add}
-use Rattle.lists.specs.Prelude.{mod-lt, add-mod_right, zero-div, lt_of_lt_of_le, lt_irrefl, mul_comm, mul-one}
-use Rattle.lists.specs.Prelude.{mul_left_comm, div-lt_iff_lt-mul, mul-pos, eq_of_mul-eq-mul_right, div-eq_of_lt, arith}
-use Rattle.lists.specs.Prelude.{Bool, true, false, not, cond, true≢false, false≢true, T, eqb, lit<, lit≤, ltb→lt}
-use Rattle.lists.specs.Prelude.{nltb→le, lt→ltb, eqb→eq, ℤ, pos, pow_pos, Float, nan, inf, fin, binary64, up, down, lt}
-use Rattle.lists.specs.Prelude.{le, eq, neg, mul, div, round, of_int, to_unsigned, fits, ltb-false}
+use Rattle.std.specs.Prelude.{◌≡◌, ◌+◌, ◌-◌, ◌*◌, ◌/◌, ◌%◌, ◌^◌, ◌≤◌, ◌<◌}
+use Rattle.lists.specs.Prelude.{refl, sym, ap, ◌∙◌, subst, ℕ, zero-add, mod-lt, add-mod_right, zero-div, lt_of_lt_of_le}
+use Rattle.lists.specs.Prelude.{lt_irrefl, mul_comm, mul-one, mul_left_comm, div-lt_iff_lt-mul, mul-pos}
+use Rattle.lists.specs.Prelude.{eq_of_mul-eq-mul_right, div-eq_of_lt, arith, Bool, true, false, not, cond, true≢false}
+use Rattle.lists.specs.Prelude.{false≢true, T, eqb, lit<, lit≤, ltb→lt, nltb→le, lt→ltb, eqb→eq, ℤ, pos, pow_pos, Float}
+use Rattle.lists.specs.Prelude.{nan, inf, fin, binary64, up, down, lt, le, eq, neg, mul, div, round, of_int}
+use Rattle.lists.specs.Prelude.{to_unsigned, fits, ltb-false}
 use lib.Ieee.Fits.{and_l, and_r, and_i, down_pos}
 use lib.Ieee.Exact.{HasValue}
 use lib.Ieee.Nearest.{div_same}

@@ -1,8 +1,8 @@
 -- What the crates above cite of sine and cosine, beside their promise: which angles are accepted, that the value is
 -- nearer than promised, and that of an angle that was rounded the value stands for the sine or cosine of the exact one.
 -- `w` is either wave. Assumes nothing.
-use Rattle.lists.specs.Prelude.{◌≡◌, sym, ap, ◌∙◌, subst, ℕ, ◌*◌, ◌^◌, ◌≤◌, ◌<◌, le_trans, suc-le-suc_iff, arith, lit≤}
-use Rattle.lists.specs.Prelude.{Float, pow_pos}
+use Rattle.std.specs.Prelude.{◌≡◌, ◌*◌, ◌^◌, ◌≤◌, ◌<◌}
+use Rattle.lists.specs.Prelude.{sym, ap, ◌∙◌, subst, ℕ, le_trans, suc-le-suc_iff, arith, lit≤, Float, pow_pos}
 use Rattle.fractions.specs.Fraction.{Fraction, number, whole, magnitude, AtMost, Within}
 use Rattle.fractions.proofs.Approximates.{Approximates}
 use Rattle.fractions.proofs.Close.{Size, close_unit, size_near}

@@ -1,7 +1,8 @@
 -- The angles that are refused: those that are no number from -limit to limit. Said over the limit, a float that is a
 -- number, and so for an azimuth, an elevation and a sine's angle. Assumes nothing.
-use Rattle.lists.specs.Prelude.{◌≡◌, refl, sym, ap, ◌∙◌, subst, true, false, not, ◌<◌, lt_irrefl, T, Float, nan, inf}
-use Rattle.lists.specs.Prelude.{fin, lt, eq, le, neg, not-false}
+use Rattle.std.specs.Prelude.{◌≡◌, ◌<◌}
+use Rattle.lists.specs.Prelude.{refl, sym, ap, ◌∙◌, subst, true, false, not, lt_irrefl, T, Float, nan, inf, fin, lt, eq}
+use Rattle.lists.specs.Prelude.{le, neg, not-false}
 use lib.Ieee.Fits.{and_l, and_r, and_i}
 use lib.Ieee.Bits.{is_true}
 use lib.Ieee.Scale.{finite}

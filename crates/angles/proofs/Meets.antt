@@ -1,7 +1,8 @@
 -- The promise is kept: all of it holds of the answer that the definition gives, for either wave, and so of the two
 -- answers that the program can give. Assumes nothing.
-use Rattle.lists.specs.Prelude.{◌≡◌, refl, sym, ap, ◌∙◌, subst, Bool, true, false, not, ℕ, ◌<◌, T, lit<, lit≤, Float}
-use Rattle.lists.specs.Prelude.{of_int, not-false}
+use Rattle.std.specs.Prelude.{◌≡◌, ◌<◌}
+use Rattle.lists.specs.Prelude.{refl, sym, ap, ◌∙◌, subst, Bool, true, false, not, ℕ, T, lit<, lit≤, Float, of_int}
+use Rattle.lists.specs.Prelude.{not-false}
 use Rattle.lists.proofs.Tests.{cond_true, cond_false}
 use Rattle.refusals.proofs.First.{answered_accepted, answered_by_lem}
 use Rattle.fractions.specs.Fraction.{number, Within}

@@ -1,9 +1,10 @@
 -- The program's sine and cosine are within 2 ^ -50 of the defined ones at every angle that is a number. In units of 2 ^
 -- -60: 375 from the float to the sum at the place that the cut angle is turned to, 192 from there to the sum at the
 -- angle's own place, and 64 from there to the defined value, 631 of 1024. Assumes nothing.
-use Rattle.lists.specs.Prelude.{◌≡◌, refl, subst, Bool, true, false, not, cond, ℕ, ◌+◌, ◌-◌, ◌*◌, ◌/◌, ◌%◌, ◌^◌, ◌≤◌}
-use Rattle.lists.specs.Prelude.{◌<◌, le_of_lt, mod-lt, div-mul-le_self, lt-div-mul-add, arith, ltb, lit<, lit≤, ℤ}
-use Rattle.lists.specs.Prelude.{pow_pos, Float, fin, unlike, up, down, lt-ltb, le-ltb}
+use Rattle.std.specs.Prelude.{◌≡◌, ◌+◌, ◌-◌, ◌*◌, ◌/◌, ◌%◌, ◌^◌, ◌≤◌, ◌<◌}
+use Rattle.lists.specs.Prelude.{refl, subst, Bool, true, false, not, cond, ℕ, le_of_lt, mod-lt, div-mul-le_self}
+use Rattle.lists.specs.Prelude.{lt-div-mul-add, arith, ltb, lit<, lit≤, ℤ, pow_pos, Float, fin, unlike, up, down}
+use Rattle.lists.specs.Prelude.{lt-ltb, le-ltb}
 use lib.Ieee.Fits.{down_pos}
 use Rattle.fractions.specs.Fraction.{Fraction, fraction, opposite, signed, number, ◌⊗◌, Same, Within}
 use Rattle.fractions.proofs.Order.{same_refl, same_mul}

@@ -1,5 +1,6 @@
 -- Wrong ways to answer, each held against the promise at an angle where it breaks it. Assumes nothing.
-use Rattle.lists.specs.Prelude.{◌≡◌, refl, ap, Bool, true, false, true≢false, false≢true, ℕ, arith, le→leb, pos, negsuc}
+use Rattle.std.specs.Prelude.{◌≡◌}
+use Rattle.lists.specs.Prelude.{refl, ap, Bool, true, false, true≢false, false≢true, ℕ, arith, le→leb, pos, negsuc}
 use Rattle.lists.specs.Prelude.{Float, nan, inf, fin, lt, le, eq, neg, of_int}
 use lib.Ieee.Positive.{num}
 use Rattle.series.specs.Sums.{sine, cosine, sine_sum, term, power, factorial}

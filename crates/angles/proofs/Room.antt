@@ -1,7 +1,8 @@
 -- How large the program's numbers get, which is what its functions ask of each other. Assumes nothing.
-use Rattle.lists.specs.Prelude.{◌≡◌, sym, ap, subst, Bool, cond, ℕ, zero, suc, ◌+◌, ◌-◌, ◌*◌, ◌^◌, ◌≤◌, ◌<◌, le_refl}
-use Rattle.lists.specs.Prelude.{le_trans, le_of_eq, mul-pos, mul_comm, mul-le-mul, mul-le-mul_left, mul-le-mul_right}
-use Rattle.lists.specs.Prelude.{div-le_of_le-mul, arith, lit≤, shr_mono, le-leb, lt-leb}
+use Rattle.std.specs.Prelude.{◌≡◌, ◌+◌, ◌-◌, ◌*◌, ◌^◌, ◌≤◌, ◌<◌}
+use Rattle.lists.specs.Prelude.{sym, ap, subst, Bool, cond, ℕ, zero, suc, le_refl, le_trans, le_of_eq, mul-pos}
+use Rattle.lists.specs.Prelude.{mul_comm, mul-le-mul, mul-le-mul_left, mul-le-mul_right, div-le_of_le-mul, arith, lit≤}
+use Rattle.lists.specs.Prelude.{shr_mono, le-leb, lt-leb}
 use Rattle.lists.proofs.Tests.{by_at_most}
 use Rattle.angles.specs.Computed.{one, turn, half, degree_units, short, times, radian_units, nesting, nest}
 use Rattle.angles.specs.Computed.{outermost}

@@ -1,7 +1,8 @@
 -- The program's sums at a place on the turn: in units of 2 ^ -60 the sine is 119 away from the defined sum at that
 -- place, and the cosine 85. Assumes nothing.
-use Rattle.lists.specs.Prelude.{◌≡◌, refl, subst, Bool, true, false, ℕ, ◌+◌, ◌*◌, ◌/◌, ◌^◌, ◌≤◌, ◌<◌, le_trans}
-use Rattle.lists.specs.Prelude.{mul-le-mul_right, div-one, arith, ltb, lit<, lit≤, pow_pos}
+use Rattle.std.specs.Prelude.{◌≡◌, ◌+◌, ◌*◌, ◌/◌, ◌^◌, ◌≤◌, ◌<◌}
+use Rattle.lists.specs.Prelude.{refl, subst, Bool, true, false, ℕ, le_trans, mul-le-mul_right, div-one, arith, ltb}
+use Rattle.lists.specs.Prelude.{lit<, lit≤, pow_pos}
 use Rattle.fractions.specs.Fraction.{Fraction, fraction, whole, opposite, square, signed, ◌⊗◌, ◌⊘◌}
 use Rattle.fractions.proofs.Order.{same_refl, same_sym}
 use Rattle.fractions.proofs.Restate.{over_one, ⊗-opposite}

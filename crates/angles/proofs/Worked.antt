@@ -1,7 +1,8 @@
 -- Answers at some angles, by computation: exact ones at multiples of 90, bits between them, and the ends of what is
 -- accepted. Assumes nothing.
-use Rattle.lists.specs.Prelude.{◌≡◌, refl, true, false, pos, negsuc, Float, nan, inf, fin, binary64, lt, le, eq, neg}
-use Rattle.lists.specs.Prelude.{div, of_int, to_bits}
+use Rattle.std.specs.Prelude.{◌≡◌}
+use Rattle.lists.specs.Prelude.{refl, true, false, pos, negsuc, Float, nan, inf, fin, binary64, lt, le, eq, neg, div}
+use Rattle.lists.specs.Prelude.{of_int, to_bits}
 use Rattle.series.specs.Sums.{sine, cosine}
 use Rattle.series.specs.Angles.{turned}
 use Rattle.angles.specs.declared.Answer.{Answer}

@@ -1,8 +1,9 @@
 -- What the program computes, step by step, in whole numbers: angles in units of 2 ^ -52 degree, all else in units of 2
 -- ^ -60, and the last step in floats. Nobody has to believe it: specs/Promise.antt ties the results to the defined
 -- values. Definitions only.
-use Rattle.lists.specs.Prelude.{ℕ, zero, suc, ◌+◌, ◌-◌, ◌*◌, ◌/◌, ◌%◌, ◌^◌, Bool, false, not, ◌&&◌, cond, eqb, leb, ltb}
-use Rattle.lists.specs.Prelude.{pos, Float, nan, inf, fin, binary64, unlike, up, down, lt, neg, div, of_int}
+use Rattle.std.specs.Prelude.{◌+◌, ◌-◌, ◌*◌, ◌/◌, ◌%◌, ◌^◌, ◌&&◌}
+use Rattle.lists.specs.Prelude.{ℕ, zero, suc, Bool, false, not, cond, eqb, leb, ltb, pos, Float, nan, inf, fin}
+use Rattle.lists.specs.Prelude.{binary64, unlike, up, down, lt, neg, div, of_int}
 use Rattle.fractions.specs.Fraction.{Fraction, fraction, signed, gap}
 use Rattle.series.specs.Sums.{Wave, sine, cosine}
 use Rattle.series.specs.Angles.{turned}

@@ -2,7 +2,8 @@
 -- outside -1080..1080 degrees", and "A refusal returns its number, [..] 0.0 for any number". 'Angles': "The program's
 -- sine and cosine must be within 2^-40 of the defined sum at every accepted angle, and exactly 0, 1 or -1 at multiples
 -- of 90." Definitions only.
-use Rattle.lists.specs.Prelude.{ℕ, ◌≡◌, Bool, List, [], ◌∷◌, T, get_or, Float}
+use Rattle.std.specs.Prelude.{◌≡◌, ◌∷◌}
+use Rattle.lists.specs.Prelude.{ℕ, Bool, List, [], T, get_or, Float}
 use Rattle.refusals.specs.Refusals.{first_of, ◌when◌, answered}
 use Rattle.formats.specs.Floats.{zero_float, one_float, minus_one_float}
 use Rattle.fractions.specs.Fraction.{number, Within}

@@ -1,6 +1,7 @@
 -- What a conversion answers at each of its tests, and what its answer says of the file (`converts_2`, `converts_1`).
 -- Assumes nothing.
-use Rattle.lists.specs.Prelude.{◌≡◌, refl, sym, ap, subst, ◌∙◌, true, false, true≢false, List, ⊎_elim, ℕ, arith, eq-eqb}
+use Rattle.std.specs.Prelude.{◌≡◌}
+use Rattle.lists.specs.Prelude.{refl, sym, ap, subst, ◌∙◌, true, false, true≢false, List, ⊎_elim, ℕ, arith, eq-eqb}
 use Rattle.lists.specs.Prelude.{ne_eqb, eqb-true, eqb, length}
 use Rattle.refusals.specs.Ranges.{within}
 use Rattle.refusals.proofs.Ranges.{within_true}

@@ -2,8 +2,8 @@
 -- exactly the bytes of document 01 in version 1, and one elevation more in version 2, which is what is written; both
 -- read as that bank, at elevation 0; each turns into the other; and without the last byte those of document 01 are
 -- refused with 14 at 1. Assumes nothing.
-use Rattle.lists.specs.Prelude.{◌≡◌, refl, sym, ap, ◌∙◌, true, List, flat_map, ℕ, arith}
-use Rattle.lists.specs.Prelude.{Float, to_bits, fits, ℤ, length}
+use Rattle.std.specs.Prelude.{◌≡◌}
+use Rattle.lists.specs.Prelude.{refl, sym, ap, ◌∙◌, true, List, flat_map, ℕ, arith, Float, to_bits, fits, ℤ, length}
 use Rattle.lists.specs.Prelude.{take}
 use Rattle.big_endian.specs.Bytes.{bytes_of}
 use Rattle.big_endian.specs.Lists.{field_bytes}

@@ -1,9 +1,9 @@
 -- One turn of each loop that fills a lent list: what stood there after i rows, or k taps, stands there after one more.
 -- Assumes nothing.
-use Rattle.lists.specs.Prelude.{◌≡◌, refl, sym, ap, ◌∙◌, List, [], ◌++◌, append-nil, ℕ, ◌+◌, ◌*◌, ◌≤◌, ◌<◌, mul-le-mul}
-use Rattle.lists.specs.Prelude.{mul-le-mul_right, add-one, arith, Float, binary32, to_bits, ℤ}
-use Rattle.lists.specs.Prelude.{length, get_or, take, drop}
-use Rattle.lists.specs.Prelude.{set, length-append, drop_of_length-le, take-length, length-take-le}
+use Rattle.std.specs.Prelude.{◌≡◌, ◌++◌, ◌+◌, ◌*◌, ◌≤◌, ◌<◌}
+use Rattle.lists.specs.Prelude.{refl, sym, ap, ◌∙◌, List, [], append-nil, ℕ, mul-le-mul, mul-le-mul_right, add-one}
+use Rattle.lists.specs.Prelude.{arith, Float, binary32, to_bits, ℤ, length, get_or, take, drop, set, length-append}
+use Rattle.lists.specs.Prelude.{drop_of_length-le, take-length, length-take-le}
 use mir.Syntax.{w16}
 use mir.Val.{of_z}
 use Rattle.big_endian.specs.Bytes.{bytes_of}

@@ -4,8 +4,8 @@
 -- writing what was read gives the same bytes of a file of version 2 (`write_after_read`), and of one of version 1 those
 -- that turning it gives (`write_of_version_1`); a file of version 1 that was turned into version 2 is turned back to
 -- the same bytes (`back_of_forward`), and the other way round (`forward_of_back`). Assumes nothing.
-use Rattle.lists.specs.Prelude.{◌≡◌, refl, sym, ap, ◌∙◌, true, List, ℕ, ◌*◌, arith, eq-eqb, eqb-true, Float, ℤ, length}
-use Rattle.lists.specs.Prelude.{eqb}
+use Rattle.std.specs.Prelude.{◌≡◌, ◌*◌}
+use Rattle.lists.specs.Prelude.{refl, sym, ap, ◌∙◌, true, List, ℕ, arith, eq-eqb, eqb-true, Float, ℤ, length, eqb}
 use Rattle.lists.proofs.Placed.{take_placed}
 use Rattle.bank_form.specs.Bank.{Bank, rows, valid}
 use Rattle.bank_form.specs.Encoding.{encode}

@@ -1,7 +1,7 @@
 -- What reading and writing answer at each of their tests, and what a caller learns from an answer. Assumes nothing.
-use Rattle.lists.specs.Prelude.{◌≡◌, refl, sym, ap, ap₂, ◌∙◌, Bool, true, false, ◌&&◌, and-eq-true_iff, List, ◌⊎◌, inl}
-use Rattle.lists.specs.Prelude.{inr, ℕ, zero, suc, ◌+◌, ◌-◌, ◌*◌, ◌^◌, ◌≤◌, ◌<◌, ℕ_discrete, arith, eq-eqb, ne_eqb}
-use Rattle.lists.specs.Prelude.{eqb-true, T, eqb, Float, ℤ, length}
+use Rattle.std.specs.Prelude.{◌≡◌, ◌&&◌, ◌⊎◌, ◌+◌, ◌-◌, ◌*◌, ◌^◌, ◌≤◌, ◌<◌}
+use Rattle.lists.specs.Prelude.{refl, sym, ap, ap₂, ◌∙◌, Bool, true, false, and-eq-true_iff, List, inl, inr, ℕ, zero}
+use Rattle.lists.specs.Prelude.{suc, ℕ_discrete, arith, eq-eqb, ne_eqb, eqb-true, T, eqb, Float, ℤ, length}
 use lib.Ieee.Bits.{is_true}
 use Rattle.lists.proofs.Tests.{test_cases}
 use Rattle.refusals.proofs.First.{answered_number}

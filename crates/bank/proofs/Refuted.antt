@@ -1,6 +1,7 @@
 -- Answers of another shape than the code's, each of which a worked input shows to break its promise. Assumes nothing.
-use Rattle.lists.specs.Prelude.{◌≡◌, refl, sym, ap, ◌∙◌, List, [], ◌∷◌, false, true≢false, ℕ, arith, Float, ℤ, pos}
-use Rattle.lists.specs.Prelude.{length, take, drop, replicate, get_or, length-replicate}
+use Rattle.std.specs.Prelude.{◌≡◌, ◌∷◌}
+use Rattle.lists.specs.Prelude.{refl, sym, ap, ◌∙◌, List, [], false, true≢false, ℕ, arith, Float, ℤ, pos, length, take}
+use Rattle.lists.specs.Prelude.{drop, replicate, get_or, length-replicate}
 use lib.Signed.{mag}
 use Rattle.lists.specs.Placed.{placed}
 use Rattle.big_endian.specs.Bytes.{bytes_of, AreBytes}

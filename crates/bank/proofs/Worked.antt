@@ -1,7 +1,8 @@
 -- Worked conversions (document 02, E6): which refusal comes first, in whatever output, and three rows there and back.
 -- Assumes nothing.
-use Rattle.lists.specs.Prelude.{◌≡◌, refl, sym, ap, ◌∙◌, true, List, [], ◌∷◌, flat_map, ℕ, arith, to_bits, fits, pos}
-use Rattle.lists.specs.Prelude.{negsuc, length, set}
+use Rattle.std.specs.Prelude.{◌≡◌, ◌∷◌}
+use Rattle.lists.specs.Prelude.{refl, sym, ap, ◌∙◌, true, List, [], flat_map, ℕ, arith, to_bits, fits, pos, negsuc}
+use Rattle.lists.specs.Prelude.{length, set}
 use Rattle.formats.specs.Floats.{one_float, half_float}
 use Rattle.big_endian.specs.Bytes.{bytes_of}
 use Rattle.big_endian.specs.Lists.{field_bytes}

@@ -2,7 +2,8 @@
 -- if every elevation is 0, and exactly then. Each conversion gives 13 for the wrong version; an output not of the new
 -- file's length is 5, after 21. [..] 21 has elevations, in the backward conversion only, once the file is sound".
 -- Definitions only.
-use Rattle.lists.specs.Prelude.{◌≡◌, true, List, ℕ, eqb, ℤ, length}
+use Rattle.std.specs.Prelude.{◌≡◌}
+use Rattle.lists.specs.Prelude.{true, List, ℕ, eqb, ℤ, length}
 use Rattle.bank_form.specs.declared.Fault.{Fault}
 use Rattle.bank_form.specs.Bank.{Bank, level}
 use Rattle.bank_form.specs.Version.{without}

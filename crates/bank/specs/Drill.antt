@@ -1,6 +1,7 @@
 -- Document 01, 'Filter bank file' and 'Marked drill table' 11, the example: "One row at 0, L = 1, left 1.0, right 0.5",
 -- and its bytes; and those of version 2 (document 02, E6). Definitions only.
-use Rattle.lists.specs.Prelude.{ℕ, List, [], ◌∷◌, pos}
+use Rattle.std.specs.Prelude.{◌∷◌}
+use Rattle.lists.specs.Prelude.{ℕ, List, [], pos}
 use Rattle.formats.specs.Floats.{one_float, half_float}
 use Rattle.bank_form.specs.Bank.{Bank}
 

@@ -4,7 +4,8 @@
 -- of the first byte of the offending field". And 'Refusal numbers' of document 01: "A refusal returns its number,
 -- counts of 0, ..; lent memory stays the same." Definitions only. 5 comes before the numbers of a bank, and has no
 -- place.
-use Rattle.lists.specs.Prelude.{◌≡◌, ◌&&◌, List, ℕ, ◌*◌, T, eqb, Float, ℤ, length, take}
+use Rattle.std.specs.Prelude.{◌≡◌, ◌&&◌, ◌*◌}
+use Rattle.lists.specs.Prelude.{List, ℕ, T, eqb, Float, ℤ, length, take}
 use Rattle.refusals.specs.Refusals.{answered}
 use Rattle.lists.specs.Placed.{placed}
 use Rattle.big_endian.specs.Bytes.{AreBytes}

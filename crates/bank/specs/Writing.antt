@@ -2,7 +2,8 @@
 -- file's length. Other lengths are 5." Document 02, E6: "the writer takes one [elevation] per row and writes version
 -- 2"; E2: "The writer gives the same numbers, with the offset where the field would stand." And 'Refusal numbers' of
 -- document 01: "A refusal returns its number, counts of 0, ..; lent memory stays the same." Definitions only.
-use Rattle.lists.specs.Prelude.{◌≡◌, Bool, ◌&&◌, List, ℕ, ◌*◌, eqb, length}
+use Rattle.std.specs.Prelude.{◌≡◌, ◌&&◌, ◌*◌}
+use Rattle.lists.specs.Prelude.{Bool, List, ℕ, eqb, length}
 use Rattle.refusals.specs.Refusals.{answered}
 use Rattle.bank_form.specs.declared.Fault.{Fault}
 use Rattle.bank_form.specs.Bank.{Bank, rows}

@@ -1,6 +1,7 @@
 -- What the check of a file answers: the first fault in byte order (document 02, E2 and E6); there is none exactly if
 -- the bytes are a bank file (document 01, 'Filter bank file'). Definitions only.
-use Rattle.lists.specs.Prelude.{◌≡◌, List, ℕ, T, length}
+use Rattle.std.specs.Prelude.{◌≡◌}
+use Rattle.lists.specs.Prelude.{List, ℕ, T, length}
 use Rattle.bank_form.specs.declared.Fault.{Fault}
 use Rattle.bank_form.specs.Fault.{fault_in, fault, fault_of}
 use Rattle.bank_form.specs.FaultLaws.{TakenFrom, suffices}

@@ -1,7 +1,7 @@
 -- Item 10 of the marked drill table, at elevation 0 throughout: with rows at 0 and 450 tenths, a speaker at 225 tenths
 -- takes the first. It is document 01's choice (`one_elevation_as_before`). Assumes nothing.
-use Rattle.lists.specs.Prelude.{◌≡◌, refl, sym, ◌∙◌, true, List, ◌∷◌, ℕ, zero, suc, ◌<◌, arith, lit<, lit≤, ℤ, pos}
-use Rattle.lists.specs.Prelude.{length, get_or}
+use Rattle.std.specs.Prelude.{◌≡◌, ◌∷◌, ◌<◌}
+use Rattle.lists.specs.Prelude.{refl, sym, ◌∙◌, true, List, ℕ, zero, suc, arith, lit<, lit≤, ℤ, pos, length, get_or}
 use Rattle.bank_choice.specs.declared.Choice.{Choice}
 use Rattle.bank_choice.specs.Choice.{in_tenths, is_elevation, choice_refusal, ChoicePromise}
 use Rattle.bank_choice.specs.Nearest.{angle_apart, TakesByAzimuth, OneElevation}

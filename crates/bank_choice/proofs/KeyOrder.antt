@@ -1,6 +1,7 @@
 -- The key orders rows as the words do: the way round is at most 1800, so it never makes up for a tenth of elevation.
 -- Assumes nothing.
-use Rattle.lists.specs.Prelude.{inl, inr, ⊎_elim, List, ℕ, ◌≤◌, ◌<◌, dec_lt, arith, ℤ}
+use Rattle.std.specs.Prelude.{◌≤◌, ◌<◌}
+use Rattle.lists.specs.Prelude.{inl, inr, ⊎_elim, List, ℕ, dec_lt, arith, ℤ}
 use Rattle.bank_choice.specs.Nearest.{angle_apart, away, elevation_away, Nearer}
 use Rattle.bank_choice.specs.Computed.{key}
 

@@ -1,5 +1,6 @@
 -- Where the rows stand at one elevation the way round decides, as document 01 has it. Assumes nothing.
-use Rattle.lists.specs.Prelude.{◌≡◌, inr, ⊎_elim, List, ℕ, ◌<◌, dec_lt, arith, ℤ}
+use Rattle.std.specs.Prelude.{◌≡◌, ◌<◌}
+use Rattle.lists.specs.Prelude.{inr, ⊎_elim, List, ℕ, dec_lt, arith, ℤ}
 use Rattle.bank_choice.specs.Nearest.{away, elevation_away, Nearer, Takes, TakesByAzimuth, OneElevation}
 use Rattle.bank_choice.specs.Choice.{OneElevationAsBefore}
 

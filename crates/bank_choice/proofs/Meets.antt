@@ -1,6 +1,6 @@
 -- What row choice answers at each of its tests. Assumes nothing.
-use Rattle.lists.specs.Prelude.{◌≡◌, refl, sym, ap, ◌∙◌, true, false, not, List, ℕ, ◌-◌, ◌≤◌, ◌<◌, arith, eq-eqb}
-use Rattle.lists.specs.Prelude.{ne_eqb, ℤ, length}
+use Rattle.std.specs.Prelude.{◌≡◌, ◌-◌, ◌≤◌, ◌<◌}
+use Rattle.lists.specs.Prelude.{refl, sym, ap, ◌∙◌, true, false, not, List, ℕ, arith, eq-eqb, ne_eqb, ℤ, length}
 use Rattle.refusals.specs.Refusals.{outside}
 use Rattle.refusals.proofs.First.{answered_accepted, answered_by_lem, answered_number}
 use Rattle.refusals.proofs.Chains.{first_holds, off_accepts}

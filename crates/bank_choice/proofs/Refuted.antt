@@ -1,7 +1,8 @@
 -- Answers of another shape than the code's, each of which breaks the promise on a worked input or on every one. Assumes
 -- nothing.
-use Rattle.lists.specs.Prelude.{◌≡◌, refl, sym, ap, inl, inr, List, ◌∷◌, ℕ, ◌≤◌, ◌<◌, arith, eqb-true, not-false, lit<}
-use Rattle.lists.specs.Prelude.{ℤ, pos, negsuc, length}
+use Rattle.std.specs.Prelude.{◌≡◌, ◌∷◌, ◌≤◌, ◌<◌}
+use Rattle.lists.specs.Prelude.{refl, sym, ap, inl, inr, List, ℕ, arith, eqb-true, not-false, lit<, ℤ, pos, negsuc}
+use Rattle.lists.specs.Prelude.{length}
 use Rattle.refusals.proofs.Chains.{none_holds}
 use Rattle.bank_choice.specs.declared.Choice.{Choice}
 use Rattle.bank_choice.specs.Nearest.{angle_apart, elevation_away}

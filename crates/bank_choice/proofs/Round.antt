@@ -1,6 +1,7 @@
 -- Tenths ten turns up: their difference is the difference of the tenths. Assumes nothing.
-use Rattle.lists.specs.Prelude.{◌≡◌, refl, ap, ◌∙◌, true, false, true≢false, ℕ, zero, suc, ◌+◌, ◌-◌, ◌<◌, dec_lt, arith}
-use Rattle.lists.specs.Prelude.{lt-ltb, le-ltb, ltb-true, ℤ, pos, negsuc, nat_abs, sub_ℕ, ◌-ℤ◌}
+use Rattle.std.specs.Prelude.{◌≡◌, ◌+◌, ◌-◌, ◌<◌, ◌-ℤ◌}
+use Rattle.lists.specs.Prelude.{refl, ap, ◌∙◌, true, false, true≢false, ℕ, zero, suc, dec_lt, arith, lt-ltb, le-ltb}
+use Rattle.lists.specs.Prelude.{ltb-true, ℤ, pos, negsuc, nat_abs, sub_ℕ}
 use lib.Signed.{mag, lt_z}
 use mir.Syntax.{w16}
 use mir.Val.{SFits, to_z, of_z}

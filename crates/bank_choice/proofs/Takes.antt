@@ -1,6 +1,7 @@
 -- The walk finds the row that a speaker takes (`takes`), and there is only one (`takes_one`). Assumes nothing.
-use Rattle.lists.specs.Prelude.{◌≡◌, refl, Bool, true, false, cond, List, ℕ, zero, suc, ◌+◌, ◌-◌, ◌≤◌, ◌<◌, le_refl}
-use Rattle.lists.specs.Prelude.{dec_lt, sub-one, arith, lt-ltb, le-ltb, ltb, ℤ}
+use Rattle.std.specs.Prelude.{◌≡◌, ◌+◌, ◌-◌, ◌≤◌, ◌<◌}
+use Rattle.lists.specs.Prelude.{refl, Bool, true, false, cond, List, ℕ, zero, suc, le_refl, dec_lt, sub-one, arith}
+use Rattle.lists.specs.Prelude.{lt-ltb, le-ltb, ltb, ℤ}
 use Rattle.lists.specs.OneAnswer.{OneAnswer}
 use Rattle.bank_choice.specs.Nearest.{Takes}
 use Rattle.bank_choice.specs.Choice.{ChoiceMeets}

@@ -1,5 +1,6 @@
 -- No two answers meet the promise, and one that is accepted is the only row that the speaker takes. Assumes nothing.
-use Rattle.lists.specs.Prelude.{◌≡◌, List, ℕ, ℤ}
+use Rattle.std.specs.Prelude.{◌≡◌}
+use Rattle.lists.specs.Prelude.{List, ℕ, ℤ}
 use Rattle.lists.specs.OneAnswer.{AllowsOneAnswer}
 use Rattle.lists.proofs.Determined.{determined_by}
 use Rattle.bank_choice.specs.declared.Choice.{Choice}

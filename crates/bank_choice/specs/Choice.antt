@@ -2,7 +2,8 @@
 -- first 1..8 rows (else 2) of a list of 8 azimuths (else 5), the one nearest it .." Document 02, E6: "A speaker's
 -- elevation is given in whole tenths too, -900..900, else 3"; and of the elevations too there is a list of 8.
 -- Definitions only.
-use Rattle.lists.specs.Prelude.{◌≡◌, Bool, not, List, [], ◌∷◌, ℕ, ◌-◌, ◌≤◌, eqb, ℤ, pos, negsuc, length}
+use Rattle.std.specs.Prelude.{◌≡◌, ◌∷◌, ◌-◌, ◌≤◌}
+use Rattle.lists.specs.Prelude.{Bool, not, List, [], ℕ, eqb, ℤ, pos, negsuc, length}
 use Rattle.refusals.specs.Ranges.{between}
 unfoldable pub use Rattle.refusals.specs.Ranges.{is_elevation}
 use Rattle.refusals.specs.Refusals.{Check, ◌when◌, first_of, answered, outside}

@@ -1,7 +1,8 @@
 -- What the program computes: one number for how far a row is, the walk to the row where it is least, and tenths moved
 -- up so that none is below zero. Definitions only. Nobody has to believe them: the promise says beside the walk that
 -- the row it finds is the one that `Takes` names.
-use Rattle.lists.specs.Prelude.{cond, List, ℕ, zero, suc, ◌+◌, ◌-◌, ◌*◌, ltb, ℤ, pos, negsuc}
+use Rattle.std.specs.Prelude.{◌+◌, ◌-◌, ◌*◌}
+use Rattle.lists.specs.Prelude.{cond, List, ℕ, zero, suc, ltb, ℤ, pos, negsuc}
 use Rattle.bank_choice.specs.Nearest.{away, elevation_away}
 
 -- 1801 for each tenth of elevation, and the way round, which is at most 1800: so it is less exactly for a nearer row

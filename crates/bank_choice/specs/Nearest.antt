@@ -1,7 +1,8 @@
 -- Which row is the nearest. Document 01, 'Filter bank file': ".. takes .. the one nearest it by the difference modulo
 -- 3600, the shorter way round; on a tie the earlier row." Document 02, E6: "Row choice becomes least elevation
 -- distance, then the shorter way round, then the earlier row." Definitions only.
-use Rattle.lists.specs.Prelude.{◌≡◌, ◌⊎◌, List, ℕ, ◌-◌, ◌%◌, ◌≤◌, ◌<◌, min, ℤ, pos, nat_abs, ◌-ℤ◌, get_or}
+use Rattle.std.specs.Prelude.{◌≡◌, ◌⊎◌, ◌-◌, ◌%◌, ◌≤◌, ◌<◌, ◌-ℤ◌}
+use Rattle.lists.specs.Prelude.{List, ℕ, min, ℤ, pos, nat_abs, get_or}
 
 -- the difference modulo 3600, the shorter way round
 unfoldable pub angle_apart : ℤ → ℤ → ℕ

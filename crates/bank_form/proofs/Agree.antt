@@ -1,6 +1,7 @@
 -- Lists that begin alike have the same fields there, and a walk finds the same in both where all its fields end there.
 -- Assumes nothing.
-use Rattle.lists.specs.Prelude.{◌≡◌, refl, ap, List, ℕ, zero, suc, ◌+◌, ◌*◌, ◌≤◌, mul-le-mul_right, arith, Float, eqb}
+use Rattle.std.specs.Prelude.{◌≡◌, ◌+◌, ◌*◌, ◌≤◌}
+use Rattle.lists.specs.Prelude.{refl, ap, List, ℕ, zero, suc, mul-le-mul_right, arith, Float, eqb}
 use lib.Ieee.Scale.{finite}
 use Rattle.lists.proofs.Tests.{test_cases}
 use Rattle.big_endian.specs.Fields.{signed_at, float_at}

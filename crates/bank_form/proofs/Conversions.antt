@@ -1,9 +1,9 @@
 -- What is told of a file that is to be turned into another version (`conversion_fault`), and of a bank with elevations
 -- (`raised_exactly`, `raised_place`). Assumes nothing.
-use Rattle.lists.specs.Prelude.{◌≡◌, refl, sym, ap, ap₂, ◌∙◌, true, false, ◌&&◌, List, [], ◌∷◌, ◌⊎◌, inl, inr, ⊎_elim}
-use Rattle.lists.specs.Prelude.{ℕ, zero, suc, ◌+◌, ◌≤◌, ◌<◌, suc-le-suc, le_of_suc-le-suc}
-use Rattle.lists.specs.Prelude.{arith, dec_lt, ℤ, pos, length}
-use Rattle.lists.specs.Prelude.{drop, get_or, drop_of_length-le}
+use Rattle.std.specs.Prelude.{◌≡◌, ◌&&◌, ◌∷◌, ◌⊎◌, ◌+◌, ◌≤◌, ◌<◌}
+use Rattle.lists.specs.Prelude.{refl, sym, ap, ap₂, ◌∙◌, true, false, List, [], inl, inr, ⊎_elim, ℕ, zero, suc}
+use Rattle.lists.specs.Prelude.{suc-le-suc, le_of_suc-le-suc, arith, dec_lt, ℤ, pos, length, drop, get_or}
+use Rattle.lists.specs.Prelude.{drop_of_length-le}
 use Rattle.big_endian.proofs.Fields.{lies_out, field_out}
 use Rattle.lists.specs.Tables.{every}
 use Rattle.lists.proofs.Tests.{test_cases}

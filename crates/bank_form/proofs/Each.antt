@@ -1,7 +1,8 @@
 -- A walk over a file finds nothing, or a cut file, or a field that is wrong where it stands, or bytes behind the last
 -- row: what holds of each of these faults holds of the one that is told (`fault_each`). Assumes nothing.
-use Rattle.lists.specs.Prelude.{◌≡◌, refl, sym, ◌∙◌, Bool, false, true≢false, List, ℕ, zero, suc, ◌+◌, ◌-◌, ◌*◌, ◌≤◌}
-use Rattle.lists.specs.Prelude.{◌<◌, lt_of_le_of_ne, arith, eq-eqb, eqb-false, eqb}
+use Rattle.std.specs.Prelude.{◌≡◌, ◌+◌, ◌-◌, ◌*◌, ◌≤◌, ◌<◌}
+use Rattle.lists.specs.Prelude.{refl, sym, ◌∙◌, Bool, false, true≢false, List, ℕ, zero, suc, lt_of_le_of_ne, arith}
+use Rattle.lists.specs.Prelude.{eq-eqb, eqb-false, eqb}
 use lib.Ieee.Scale.{finite}
 use Rattle.lists.proofs.Tests.{test_cases}
 use Rattle.big_endian.specs.Fields.{field_at, float_at}

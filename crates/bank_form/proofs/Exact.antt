@@ -1,7 +1,7 @@
 -- The walk finds nothing exactly if the bytes are those of a bank that keeps the form (`exactly`). Assumes nothing.
-use Rattle.lists.specs.Prelude.{◌≡◌, sym, ap, ◌∙◌, true, and-eq-true_iff, List, ℕ, zero, suc, ◌+◌, ◌*◌, ◌^◌, ◌<◌, arith}
-use Rattle.lists.specs.Prelude.{leb-true, eqb-true, eq-eqb, leb, eqb, Float, nan, binary32, fits, ℤ, pos, negsuc}
-use Rattle.lists.specs.Prelude.{length}
+use Rattle.std.specs.Prelude.{◌≡◌, ◌+◌, ◌*◌, ◌^◌, ◌<◌}
+use Rattle.lists.specs.Prelude.{sym, ap, ◌∙◌, true, and-eq-true_iff, List, ℕ, zero, suc, arith, leb-true, eqb-true}
+use Rattle.lists.specs.Prelude.{eq-eqb, leb, eqb, Float, nan, binary32, fits, ℤ, pos, negsuc, length}
 use lib.Ieee.Fits.{nan-fits}
 use lib.Ieee.Scale.{finite}
 use Rattle.big_endian.specs.Bytes.{AreBytes}

@@ -1,6 +1,6 @@
 -- A fault is told at the first byte of a field that its number tells (`field_places`). Assumes nothing.
-use Rattle.lists.specs.Prelude.{◌≡◌, refl, ap, ◌∙◌, false, cond, List, ◌⊎◌, inl, inr, ℕ, ◌+◌, ◌*◌, ◌≤◌, ◌<◌, arith}
-use Rattle.lists.specs.Prelude.{eqb-false, eqb, length}
+use Rattle.std.specs.Prelude.{◌≡◌, ◌⊎◌, ◌+◌, ◌*◌, ◌≤◌, ◌<◌}
+use Rattle.lists.specs.Prelude.{refl, ap, ◌∙◌, false, cond, List, inl, inr, ℕ, arith, eqb-false, eqb, length}
 use lib.Ieee.Scale.{finite}
 use Rattle.big_endian.specs.Fields.{float_at}
 use Rattle.bank_form.specs.Version.{taps_at}

@@ -1,7 +1,8 @@
 -- The laws of `pairwise` and `taps_from`: what holds of the fields that stand a stride apart holds of their list, and
 -- the other way round. Assumes nothing.
-use Rattle.lists.specs.Prelude.{◌≡◌, refl, sym, ap, ◌∙◌, Bool, true, false, ◌&&◌, and-eq-true_iff, and-true, List, []}
-use Rattle.lists.specs.Prelude.{◌∷◌, ◌++◌, flat_map, ℕ, zero, suc, ◌+◌, ◌-◌, ◌*◌, ◌<◌, dec_lt, sub-one, arith, length}
+use Rattle.std.specs.Prelude.{◌≡◌, ◌&&◌, ◌∷◌, ◌++◌, ◌+◌, ◌-◌, ◌*◌, ◌<◌}
+use Rattle.lists.specs.Prelude.{refl, sym, ap, ◌∙◌, Bool, true, false, and-eq-true_iff, and-true, List, [], flat_map, ℕ}
+use Rattle.lists.specs.Prelude.{zero, suc, dec_lt, sub-one, arith, length}
 use Rattle.lists.specs.Tables.{every}
 use Rattle.lists.proofs.Every.{every_append}
 use Rattle.lists.proofs.Joined.{joined_none, joined_more, joined_snoc, length_joined}

@@ -1,6 +1,7 @@
 -- Checks run in byte order: what stands behind the field at fault changes nothing (`byte_order`). Assumes nothing.
-use Rattle.lists.specs.Prelude.{◌≡◌, refl, sym, ap, ◌∙◌, Bool, List, ℕ, zero, suc, ◌+◌, ◌-◌, ◌*◌, ◌≤◌, ◌<◌, le_refl}
-use Rattle.lists.specs.Prelude.{dec_lt, arith, eqb-true, eqb-false, eqb, length}
+use Rattle.std.specs.Prelude.{◌≡◌, ◌+◌, ◌-◌, ◌*◌, ◌≤◌, ◌<◌}
+use Rattle.lists.specs.Prelude.{refl, sym, ap, ◌∙◌, Bool, List, ℕ, zero, suc, le_refl, dec_lt, arith, eqb-true}
+use Rattle.lists.specs.Prelude.{eqb-false, eqb, length}
 use lib.Ieee.Scale.{finite}
 use Rattle.lists.proofs.Tests.{test_cases, by_test}
 use Rattle.big_endian.specs.Fields.{field_at}

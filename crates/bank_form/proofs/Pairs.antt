@@ -1,7 +1,8 @@
 -- What tests on two signed numbers say of two pairs, and how pairs are made of two lists. Assumes nothing.
-use Rattle.lists.specs.Prelude.{◌≡◌, refl, sym, ap, ◌∙◌, true, false, not, ◌||◌, or-true, true≢false, List, [], ◌∷◌}
-use Rattle.lists.specs.Prelude.{map, ℕ, zero, suc, ◌+◌, ◌<◌, le_refl, le_of_suc-le-suc, dec_lt, ℕ_discrete}
-use Rattle.lists.specs.Prelude.{lt_of_le_of_ne, arith, lt-ltb, le-ltb, ltb, ℤ, pos, negsuc, length, get_or}
+use Rattle.std.specs.Prelude.{◌≡◌, ◌||◌, ◌∷◌, ◌+◌, ◌<◌}
+use Rattle.lists.specs.Prelude.{refl, sym, ap, ◌∙◌, true, false, not, or-true, true≢false, List, [], map, ℕ, zero, suc}
+use Rattle.lists.specs.Prelude.{le_refl, le_of_suc-le-suc, dec_lt, ℕ_discrete, lt_of_le_of_ne, arith, lt-ltb, le-ltb}
+use Rattle.lists.specs.Prelude.{ltb, ℤ, pos, negsuc, length, get_or}
 use lib.Signed.{mag, lt_z}
 use Rattle.big_endian.specs.Lists.{strided}
 use Rattle.big_endian.proofs.Lists.{strided_none, strided_more}

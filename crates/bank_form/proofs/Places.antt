@@ -1,7 +1,7 @@
 -- Each fault has a number from 13 to 20 and a place in the file, 19 its end (`numbers_and_places`), and 14 is told of a
 -- length that is right only where bytes are left after the last row (`bytes_left`). Assumes nothing.
-use Rattle.lists.specs.Prelude.{◌≡◌, refl, sym, ◌∙◌, true, false, true≢false, List, ◌⊎◌, inl, inr, ℕ, ◌+◌, ◌-◌, ◌≤◌}
-use Rattle.lists.specs.Prelude.{◌<◌, arith, eq-eqb, eqb, length}
+use Rattle.std.specs.Prelude.{◌≡◌, ◌⊎◌, ◌+◌, ◌-◌, ◌≤◌, ◌<◌}
+use Rattle.lists.specs.Prelude.{refl, sym, ◌∙◌, true, false, true≢false, List, inl, inr, ℕ, arith, eq-eqb, eqb, length}
 use Rattle.big_endian.specs.Fields.{field_at}
 use Rattle.refusals.specs.Ranges.{within}
 use Rattle.refusals.proofs.Ranges.{within_in}

@@ -1,5 +1,6 @@
 -- Answers of another shape than the code's, each of which a worked input shows to break its promise. Assumes nothing.
-use Rattle.lists.specs.Prelude.{◌≡◌, ap, [], ◌∷◌, ℕ, ◌≤◌, min, arith, pos}
+use Rattle.std.specs.Prelude.{◌≡◌, ◌∷◌, ◌≤◌}
+use Rattle.lists.specs.Prelude.{ap, [], ℕ, min, arith, pos}
 use lib.Signed.{mag}
 use Rattle.big_endian.specs.Bytes.{value_of}
 use Rattle.big_endian.specs.Fields.{field_at, signed_at}

@@ -1,11 +1,10 @@
 -- The laws of the form: reading what was written gives the same bank (`read_write`), and writing what was read gives
 -- the same bytes (`write_read`). Assumes nothing.
-use Rattle.lists.specs.Prelude.{◌≡◌, refl, sym, ap, ◌∙◌, true, and-eq-true_iff, List, [], ◌∷◌, ◌++◌, map, append_assoc}
-use Rattle.lists.specs.Prelude.{append-nil, ℕ, zero, suc, ◌+◌, ◌-◌, ◌*◌, ◌^◌, ◌≤◌, ◌<◌, mul-le-mul, le_of_suc-le-suc}
-use Rattle.lists.specs.Prelude.{arith, Float, nan, binary32, fits, of_bits, to_bits, eqb-true}
-use Rattle.lists.specs.Prelude.{eqb, ℤ, pos, length, get_or}
-use Rattle.lists.specs.Prelude.{take, drop, length-append, length-drop, take-append-drop, drop_of_length-le, drop-drop}
-use Rattle.lists.specs.Prelude.{take_at, drop_at, length-take-le}
+use Rattle.std.specs.Prelude.{◌≡◌, ◌∷◌, ◌++◌, ◌+◌, ◌-◌, ◌*◌, ◌^◌, ◌≤◌, ◌<◌}
+use Rattle.lists.specs.Prelude.{refl, sym, ap, ◌∙◌, true, and-eq-true_iff, List, [], map, append_assoc, append-nil, ℕ}
+use Rattle.lists.specs.Prelude.{zero, suc, mul-le-mul, le_of_suc-le-suc, arith, Float, nan, binary32, fits, of_bits}
+use Rattle.lists.specs.Prelude.{to_bits, eqb-true, eqb, ℤ, pos, length, get_or, take, drop, length-append, length-drop}
+use Rattle.lists.specs.Prelude.{take-append-drop, drop_of_length-le, drop-drop, take_at, drop_at, length-take-le}
 use lib.Ieee.Bits.{of_bits-to_bits, to_bits-of_bits, to_bits-lt}
 use lib.Ieee.Fits.{nan-fits}
 use lib.Ieee.Scale.{finite}

@@ -1,8 +1,9 @@
 -- The start of a file and its size tell its fault (`start_suffices`): no field that is looked at ends behind the
 -- largest bank's last. Assumes nothing.
-use Rattle.lists.specs.Prelude.{◌≡◌, refl, sym, ap, ap₂, ◌∙◌, true, false, List, ◌⊎◌, inl, inr, ⊎_elim, ℕ, ◌+◌, ◌-◌}
-use Rattle.lists.specs.Prelude.{◌≤◌, ◌<◌, min, dec_lt, ℕ_discrete, arith, eqb-true, leb-true, eq-eqb, ne_eqb, le-leb}
-use Rattle.lists.specs.Prelude.{lt-leb, T, eqb, leb, length, length-take, take-length}
+use Rattle.std.specs.Prelude.{◌≡◌, ◌⊎◌, ◌+◌, ◌-◌, ◌≤◌, ◌<◌}
+use Rattle.lists.specs.Prelude.{refl, sym, ap, ap₂, ◌∙◌, true, false, List, inl, inr, ⊎_elim, ℕ, min, dec_lt}
+use Rattle.lists.specs.Prelude.{ℕ_discrete, arith, eqb-true, leb-true, eq-eqb, ne_eqb, le-leb, lt-leb, T, eqb, leb}
+use Rattle.lists.specs.Prelude.{length, length-take, take-length}
 use Rattle.lists.proofs.Tests.{test_cases}
 use Rattle.big_endian.specs.Fields.{field_at}
 use Rattle.refusals.specs.Ranges.{within}

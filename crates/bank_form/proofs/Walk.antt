@@ -1,9 +1,8 @@
 -- One turn of each walk of specs/Fault.antt, and what a walk that finds nothing says. Assumes nothing.
-use Rattle.lists.specs.Prelude.{◌≡◌, refl, sym, ap, subst, subst₂, ◌∙◌, Bool, true, false, ◌&&◌, cond, and-eq-true_iff}
-use Rattle.lists.specs.Prelude.{List, ℕ, zero, suc, ◌+◌, ◌-◌, ◌*◌, ◌≤◌, ◌<◌, min, suc-le-suc, le_of_suc-le-suc}
-use Rattle.lists.specs.Prelude.{suc-ne-zero, sub-one, dec_lt, arith, eqb-true, eqb-false}
-use Rattle.lists.specs.Prelude.{lt-ltb, le-ltb, eq-eqb, ne_eqb}
-use Rattle.lists.specs.Prelude.{eqb, binary32, fits}
+use Rattle.std.specs.Prelude.{◌≡◌, ◌&&◌, ◌+◌, ◌-◌, ◌*◌, ◌≤◌, ◌<◌}
+use Rattle.lists.specs.Prelude.{refl, sym, ap, subst, subst₂, ◌∙◌, Bool, true, false, cond, and-eq-true_iff, List, ℕ}
+use Rattle.lists.specs.Prelude.{zero, suc, min, suc-le-suc, le_of_suc-le-suc, suc-ne-zero, sub-one, dec_lt, arith}
+use Rattle.lists.specs.Prelude.{eqb-true, eqb-false, lt-ltb, le-ltb, eq-eqb, ne_eqb, eqb, binary32, fits}
 use lib.Ieee.Bits.{is_true, of_bits-fits}
 use lib.Ieee.Scale.{finite}
 use Rattle.lists.proofs.Tests.{test_cases, by_test}

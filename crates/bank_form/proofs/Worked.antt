@@ -1,7 +1,8 @@
 -- Worked files and banks (document 02, E2 and E6): what is told of each, and at which byte. The short ones are
 -- computed; of a file of 40,000 bytes the start is. Assumes nothing.
-use Rattle.lists.specs.Prelude.{◌≡◌, refl, sym, ap, ◌∙◌, false, List, [], ◌∷◌, ◌++◌, map, ℕ, ◌*◌, ◌≤◌, ◌<◌, arith, fin}
-use Rattle.lists.specs.Prelude.{fits, of_fields, of_bits, ℤ, pos, length, take, set, replicate, take-length}
+use Rattle.std.specs.Prelude.{◌≡◌, ◌∷◌, ◌++◌, ◌*◌, ◌≤◌, ◌<◌}
+use Rattle.lists.specs.Prelude.{refl, sym, ap, ◌∙◌, false, List, [], map, ℕ, arith, fin, fits, of_fields, of_bits, ℤ}
+use Rattle.lists.specs.Prelude.{pos, length, take, set, replicate, take-length}
 use Rattle.big_endian.specs.Bytes.{value_of}
 use Rattle.big_endian.specs.Fields.{field_at, signed_at, float_at}
 use Rattle.big_endian.specs.Lists.{strided}

@@ -1,10 +1,10 @@
 -- The writer's fault is the reader's of the bytes that would be written (`writer_as_reader`), a bank that has its taps
 -- has none exactly if it keeps the form (`write_none`), and it is told by 15 to 18 and 20 (`writer_numbers`). Assumes
 -- nothing.
-use Rattle.lists.specs.Prelude.{◌≡◌, refl, sym, ap, ap₂, ◌∙◌, Bool, true, false, ◌&&◌, and-true, and-false, List, []}
-use Rattle.lists.specs.Prelude.{◌∷◌, ◌++◌, map, ◌⊎◌, inl, inr, ℕ, zero, suc, ◌+◌, ◌-◌, ◌*◌, ◌≤◌, add-one, arith, eq-eqb}
-use Rattle.lists.specs.Prelude.{eqb, Float, length, take, drop, length-drop, take-append-drop, drop_of_length-le}
-use Rattle.lists.specs.Prelude.{take_at, drop_at}
+use Rattle.std.specs.Prelude.{◌≡◌, ◌&&◌, ◌∷◌, ◌++◌, ◌⊎◌, ◌+◌, ◌-◌, ◌*◌, ◌≤◌}
+use Rattle.lists.specs.Prelude.{refl, sym, ap, ap₂, ◌∙◌, Bool, true, false, and-true, and-false, List, [], map, inl}
+use Rattle.lists.specs.Prelude.{inr, ℕ, zero, suc, add-one, arith, eq-eqb, eqb, Float, length, take, drop, length-drop}
+use Rattle.lists.specs.Prelude.{take-append-drop, drop_of_length-le, take_at, drop_at}
 use lib.Ieee.Scale.{finite}
 use Rattle.lists.proofs.Tests.{test_cases}
 use Rattle.big_endian.specs.Fields.{field_at, signed_at, float_at}

@@ -1,8 +1,8 @@
 -- Document 01, 'Filter bank file': "row count 1..8", "azimuth in tenths of a degree, -1799..1800", "L is 1..512", "taps
 -- are finite", "2 x rows x L taps". Document 02, E6: "elevation in tenths, -900..900", "pairs of azimuth and elevation
 -- must differ, instead of azimuths". Definitions only.
-use Rattle.lists.specs.Prelude.{ℕ, ◌*◌, Bool, true, not, ◌&&◌, ◌||◌, List, [], ◌∷◌, eqb, Float, binary32, fits, ℤ, pos}
-use Rattle.lists.specs.Prelude.{negsuc}
+use Rattle.std.specs.Prelude.{◌*◌, ◌&&◌, ◌||◌, ◌∷◌}
+use Rattle.lists.specs.Prelude.{ℕ, Bool, true, not, List, [], eqb, Float, binary32, fits, ℤ, pos, negsuc}
 use Rattle.std.specs.Float.Ieee.Scale.{finite}
 use Rattle.std.proofs.Math.ListN as ListN
 use Rattle.std.specs.Int.Signed.{lt_z}

@@ -2,7 +2,8 @@
 -- 2-byte L; per row a signed 2-byte azimuth in tenths of a degree, -1799..1800, then L left taps, L right taps as f32
 -- bits. Big-endian, nothing after." Document 02, E6: "Bank version 2 puts a signed 2-byte elevation in tenths [..]
 -- after each azimuth". Definitions only.
-use Rattle.lists.specs.Prelude.{ℕ, ◌+◌, ◌*◌, List, [], ◌∷◌, ◌++◌, Float, length, take, drop}
+use Rattle.std.specs.Prelude.{◌+◌, ◌*◌, ◌∷◌, ◌++◌}
+use Rattle.lists.specs.Prelude.{ℕ, List, [], Float, length, take, drop}
 use Rattle.std.specs.Int.{w16}
 use Rattle.std.proofs.Common.{of_z}
 use Rattle.big_endian.specs.Bytes.{bytes_of}

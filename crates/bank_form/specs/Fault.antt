@@ -7,8 +7,8 @@
 -- stand; [..] 17 now means the azimuth out of range or the pair repeated, the latter checked at the elevation field
 -- after 20 and pointing at it (version 1: as before)." The walk is over a file of so many bytes, of which a list has
 -- all, or the first: `StartSuffices` of specs/FaultLaws.antt says how many of them are enough.
-use Rattle.lists.specs.Prelude.{ℕ, zero, suc, ◌+◌, ◌-◌, ◌*◌, Bool, cond, List, [], ◌∷◌, flat_map, ltb, eqb, Float, ℤ}
-use Rattle.lists.specs.Prelude.{length}
+use Rattle.std.specs.Prelude.{◌+◌, ◌-◌, ◌*◌, ◌∷◌}
+use Rattle.lists.specs.Prelude.{ℕ, zero, suc, Bool, cond, List, [], flat_map, ltb, eqb, Float, ℤ, length}
 use Rattle.std.specs.Float.Ieee.Scale.{finite}
 use Rattle.big_endian.specs.Fields.{field_at, signed_at, float_at}
 use Rattle.big_endian.specs.Lists.{strided, floats_at}

@@ -1,7 +1,7 @@
 -- Document 02, E2 and E6: what the first fault of a bank depends on, and that the writer's is the reader's. Definitions
 -- only: proofs/Places.antt, FieldPlaces.antt, Order.antt, Start.antt, Writer.antt and Conversions.antt show them.
-use Rattle.lists.specs.Prelude.{◌≡◌, Bool, true, false, cond, ◌&&◌, ◌||◌, List, [], ◌⊎◌, ℕ, ◌+◌, ◌-◌, ◌*◌, ◌≤◌, ◌<◌, T}
-use Rattle.lists.specs.Prelude.{eqb, leb, ℤ, pos, length, take, get_or}
+use Rattle.std.specs.Prelude.{◌≡◌, ◌&&◌, ◌||◌, ◌⊎◌, ◌+◌, ◌-◌, ◌*◌, ◌≤◌, ◌<◌}
+use Rattle.lists.specs.Prelude.{Bool, true, false, cond, List, [], ℕ, T, eqb, leb, ℤ, pos, length, take, get_or}
 use Rattle.std.specs.Float.Ieee.Scale.{finite}
 use Rattle.big_endian.specs.Fields.{field_at, signed_at, float_at}
 use Rattle.lists.specs.Tables.{every}

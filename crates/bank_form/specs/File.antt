@@ -1,6 +1,7 @@
 -- Document 01, 'Filter bank file', as a whole: a list of bytes is a bank file if it is the encoding of a bank that
 -- keeps the form; and document 02, E6, of its version. Definitions only.
-use Rattle.lists.specs.Prelude.{◌≡◌, true, List, ℕ}
+use Rattle.std.specs.Prelude.{◌≡◌}
+use Rattle.lists.specs.Prelude.{true, List, ℕ}
 use Rattle.bank_form.specs.Bank.{Bank, valid, level}
 use Rattle.bank_form.specs.Version.{is_version}
 use Rattle.bank_form.specs.Encoding.{encode}

@@ -1,5 +1,6 @@
 -- What lists of i16 and f32 are, and a bank that such lists hold. Definitions only.
-use Rattle.lists.specs.Prelude.{◌≡◌, ℕ, ◌+◌, ◌*◌, ◌^◌, ◌<◌, T, Float, nan, binary32, fits, ℤ, pos, length}
+use Rattle.std.specs.Prelude.{◌≡◌, ◌+◌, ◌*◌, ◌^◌, ◌<◌}
+use Rattle.lists.specs.Prelude.{ℕ, T, Float, nan, binary32, fits, ℤ, pos, length}
 use Rattle.std.specs.Int.Signed.{mag}
 use Rattle.lists.specs.ForAll.{ForAll}
 use Rattle.bank_form.specs.Bank.{Bank, rows}

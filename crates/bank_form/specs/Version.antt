@@ -1,7 +1,8 @@
 -- Document 02, E6: "Bank version 2 puts a signed 2-byte elevation in tenths [..] after each azimuth"; "Version 1 files
 -- are still read, at elevation 0". What hangs on the version of a file, which is a number, and the sizes that follow
 -- from it. Definitions only.
-use Rattle.lists.specs.Prelude.{ℕ, ◌+◌, ◌*◌, Bool, cond, List, [], eqb, ℤ, pos}
+use Rattle.std.specs.Prelude.{◌+◌, ◌*◌}
+use Rattle.lists.specs.Prelude.{ℕ, Bool, cond, List, [], eqb, ℤ, pos}
 use Rattle.std.specs.Int.{w16}
 use Rattle.std.proofs.Common.{of_z}
 use Rattle.refusals.specs.Ranges.{within}

@@ -2,7 +2,8 @@
 -- offset where the field would stand." Definitions only. Counts are judged as numbers, whether or not they fit the
 -- bytes that they would be written in. `WriterAsReader` of specs/FaultLaws.antt says that these are the reader's
 -- faults.
-use Rattle.lists.specs.Prelude.{ℕ, ◌+◌, ◌*◌, List, [], ◌∷◌, ◌++◌, Float, take, drop}
+use Rattle.std.specs.Prelude.{◌+◌, ◌*◌, ◌∷◌, ◌++◌}
+use Rattle.lists.specs.Prelude.{ℕ, List, [], Float, take, drop}
 use Rattle.bank_form.specs.declared.Fault.{Fault}
 use Rattle.lists.specs.Tables.{every}
 use Rattle.refusals.specs.Ranges.{within}

@@ -1,8 +1,8 @@
 -- The laws of numbers as bytes, over the width: the value of a number's bytes is the number (`value_bytes`), the bytes
 -- of a value are the bytes (`bytes_value`). Assumes nothing.
-use Rattle.lists.specs.Prelude.{◌≡◌, refl, sym, ap, ◌∙◌, List, [], ◌∷◌, ◌++◌, ℕ, zero, suc, ◌+◌, ◌-◌, ◌*◌, ◌/◌, ◌%◌}
-use Rattle.lists.specs.Prelude.{◌^◌, ◌<◌, pow-suc, one-le-pow, mod-eq_of_lt, mod-one, mul-add-div_right}
-use Rattle.lists.specs.Prelude.{mul-add-mod_self_right, arith, length, get_or, length-append}
+use Rattle.std.specs.Prelude.{◌≡◌, ◌∷◌, ◌++◌, ◌+◌, ◌-◌, ◌*◌, ◌/◌, ◌%◌, ◌^◌, ◌<◌}
+use Rattle.lists.specs.Prelude.{refl, sym, ap, ◌∙◌, List, [], ℕ, zero, suc, pow-suc, one-le-pow, mod-eq_of_lt, mod-one}
+use Rattle.lists.specs.Prelude.{mul-add-div_right, mul-add-mod_self_right, arith, length, get_or, length-append}
 use lib.Arith.{digits_div, mod-mul, digits_lt}
 use Rattle.big_endian.specs.Bytes.{value_of, bytes_of, AreBytes}
 

@@ -1,12 +1,12 @@
 -- The laws of fields, over the width: what a field that lies inside reads as and what writing one leaves, that reading
 -- gives what was written (`field_written`) and writing what was read changes nothing (`written_field`); and what stands
 -- at an offset, from what the list is from there on (`stands`, `stands_back`). Assumes nothing.
-use Rattle.lists.specs.Prelude.{◌≡◌, sym, ap, ◌∙◌, true, false, List, [], ◌∷◌, ◌++◌, append_assoc, ℕ, zero, suc, ◌+◌}
-use Rattle.lists.specs.Prelude.{◌-◌, ◌*◌, ◌/◌, ◌%◌, ◌^◌, ◌≤◌, ◌<◌, pow-suc, pow-le-pow_right, lt_of_lt_of_le}
-use Rattle.lists.specs.Prelude.{div-div-eq-div-mul, div-one, add-one, sub-one, arith, leb-true, le-leb, lt-leb, leb}
-use Rattle.lists.specs.Prelude.{length, get_or, take, drop, set, length-append, drop_of_length-le, length-drop}
-use Rattle.lists.specs.Prelude.{take-append-drop, take-suc, drop-cons, get_or-drop, drop-drop, take_at, drop_at}
-use Rattle.lists.specs.Prelude.{length-take-le}
+use Rattle.std.specs.Prelude.{◌≡◌, ◌∷◌, ◌++◌, ◌+◌, ◌-◌, ◌*◌, ◌/◌, ◌%◌, ◌^◌, ◌≤◌, ◌<◌}
+use Rattle.lists.specs.Prelude.{sym, ap, ◌∙◌, true, false, List, [], append_assoc, ℕ, zero, suc, pow-suc}
+use Rattle.lists.specs.Prelude.{pow-le-pow_right, lt_of_lt_of_le, div-div-eq-div-mul, div-one, add-one, sub-one, arith}
+use Rattle.lists.specs.Prelude.{leb-true, le-leb, lt-leb, leb, length, get_or, take, drop, set, length-append}
+use Rattle.lists.specs.Prelude.{drop_of_length-le, length-drop, take-append-drop, take-suc, drop-cons, get_or-drop}
+use Rattle.lists.specs.Prelude.{drop-drop, take_at, drop_at, length-take-le}
 use lib.Arith.{digits_lt}
 use Rattle.lists.proofs.Tests.{test_cases}
 use Rattle.big_endian.specs.Bytes.{value_of, bytes_of, IsByte, AreBytes}

@@ -1,7 +1,8 @@
 -- The laws of lists of fields, over the width and the reading or the bits: none, how many, one more, and one turn of a
 -- loop that puts them one after another. Assumes nothing.
-use Rattle.lists.specs.Prelude.{◌≡◌, refl, sym, ap, ◌∙◌, List, [], ◌∷◌, ◌++◌, ℕ, suc, ◌+◌, ◌*◌, ◌≤◌, ◌<◌, zero-add}
-use Rattle.lists.specs.Prelude.{mul_comm, add-one, arith, length, get_or, take, take-suc, length-take-le}
+use Rattle.std.specs.Prelude.{◌≡◌, ◌∷◌, ◌++◌, ◌+◌, ◌*◌, ◌≤◌, ◌<◌}
+use Rattle.lists.specs.Prelude.{refl, sym, ap, ◌∙◌, List, [], ℕ, suc, zero-add, mul_comm, add-one, arith, length}
+use Rattle.lists.specs.Prelude.{get_or, take, take-suc, length-take-le}
 use Rattle.lists.specs.Tables.{tab}
 use Rattle.lists.specs.Placed.{placed}
 use Rattle.lists.proofs.Tables.{length_tab, tab_ext, tab_shift, tab_snoc}

@@ -1,6 +1,7 @@
 -- What a NaN is made from and written as, in either format. Assumes nothing.
-use Rattle.lists.specs.Prelude.{◌≡◌, refl, sym, ap, ◌∙◌, true, ℕ, ◌+◌, ◌*◌, ◌/◌, ◌%◌, ◌<◌, Float, Format, binary32}
-use Rattle.lists.specs.Prelude.{binary64, nan, hid, ones, top, of_bits, to_bits, ne, div}
+use Rattle.std.specs.Prelude.{◌≡◌, ◌+◌, ◌*◌, ◌/◌, ◌%◌, ◌<◌}
+use Rattle.lists.specs.Prelude.{refl, sym, ap, ◌∙◌, true, ℕ, Float, Format, binary32, binary64, nan, hid, ones, top}
+use Rattle.lists.specs.Prelude.{of_bits, to_bits, ne, div}
 use lib.Ieee.Compare.{differs_from_itself}
 use Rattle.formats.proofs.Patterns.{nan_pattern}
 

@@ -1,6 +1,7 @@
 -- Wrong ways to read and write a field, each held against the promise on a few bytes. Assumes nothing.
-use Rattle.lists.specs.Prelude.{ℕ, arith, ◌≡◌, ap, Bool, true, false, true≢false, List, [], ◌∷◌, negsuc, Float, nan}
-use Rattle.lists.specs.Prelude.{inf, fin, of_bits, to_bits, get_or}
+use Rattle.std.specs.Prelude.{◌≡◌, ◌∷◌}
+use Rattle.lists.specs.Prelude.{ℕ, arith, ap, Bool, true, false, true≢false, List, [], negsuc, Float, nan, inf, fin}
+use Rattle.lists.specs.Prelude.{of_bits, to_bits, get_or}
 use lib.Ieee.Positive.{num}
 use lib.Signed.{mag}
 use Rattle.formats.specs.Floats.{one_float}

@@ -1,6 +1,7 @@
 -- Whether fields lie inside a list, decided by a quotient and a difference. Assumes nothing.
-use Rattle.lists.specs.Prelude.{◌≡◌, sym, ap, ◌∙◌, false, ℕ, ◌+◌, ◌-◌, ◌*◌, ◌/◌, ◌≤◌, ◌<◌, le-div_iff_mul-le}
-use Rattle.lists.specs.Prelude.{div-lt_iff_lt-mul, dec_lt, arith, le-leb, lt-leb, leb}
+use Rattle.std.specs.Prelude.{◌≡◌, ◌+◌, ◌-◌, ◌*◌, ◌/◌, ◌≤◌, ◌<◌}
+use Rattle.lists.specs.Prelude.{sym, ap, ◌∙◌, false, ℕ, le-div_iff_mul-le, div-lt_iff_lt-mul, dec_lt, arith, le-leb}
+use Rattle.lists.specs.Prelude.{lt-leb, leb}
 
 -- fields of no bytes take no room
 pub no_width : (size at width count : ℕ) → width ≡ 0 → leb at size ≡ leb (at + width * count) size

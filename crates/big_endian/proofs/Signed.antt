@@ -1,7 +1,8 @@
 -- A signed number and its bits, over the width, as code goes from one to the other: below zero through -1 - z, which is
 -- no less than zero. Assumes nothing.
-use Rattle.lists.specs.Prelude.{◌≡◌, refl, sym, ap, ◌∙◌, true, false, true≢false, ℕ, zero, suc, ◌-◌, ◌^◌, ◌≤◌, ◌<◌}
-use Rattle.lists.specs.Prelude.{arith, le-ltb, ltb-true, ℤ, pos, negsuc, ◌-ℤ◌}
+use Rattle.std.specs.Prelude.{◌≡◌, ◌-◌, ◌^◌, ◌≤◌, ◌<◌, ◌-ℤ◌}
+use Rattle.lists.specs.Prelude.{refl, sym, ap, ◌∙◌, true, false, true≢false, ℕ, zero, suc, arith, le-ltb, ltb-true, ℤ}
+use Rattle.lists.specs.Prelude.{pos, negsuc}
 use lib.Signed.{mag, lt_z}
 use mir.Syntax.{Width}
 use mir.Val.{bits, hbits, SFits, to_z, of_z}

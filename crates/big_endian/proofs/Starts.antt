@@ -1,7 +1,8 @@
 -- Two lists that begin alike have the same fields there. Assumes nothing.
-use Rattle.lists.specs.Prelude.{◌≡◌, refl, sym, ap, ◌∙◌, Bool, true, false, ◌&&◌, List, ℕ, ◌+◌, ◌≤◌, dec_lt, arith}
-use Rattle.lists.specs.Prelude.{le-leb, lt-leb, leb, binary32, of_bits, length, take, drop, length-take, length-take-le}
-use Rattle.lists.specs.Prelude.{take-take, take-add, drop_at}
+use Rattle.std.specs.Prelude.{◌≡◌, ◌&&◌, ◌+◌, ◌≤◌}
+use Rattle.lists.specs.Prelude.{refl, sym, ap, ◌∙◌, Bool, true, false, List, ℕ, dec_lt, arith, le-leb, lt-leb, leb}
+use Rattle.lists.specs.Prelude.{binary32, of_bits, length, take, drop, length-take, length-take-le, take-take, take-add}
+use Rattle.lists.specs.Prelude.{drop_at}
 use mir.Syntax.{w16}
 use mir.Val.{to_z}
 use Rattle.big_endian.specs.Bytes.{value_of}

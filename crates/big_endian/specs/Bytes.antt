@@ -1,6 +1,7 @@
 -- Document 01, 'Filter bank file' and item 10: "Big-endian". A number as bytes, the first byte the one that weighs
 -- most. Definitions only.
-use Rattle.lists.specs.Prelude.{ℕ, zero, suc, ◌+◌, ◌*◌, ◌/◌, ◌%◌, ◌^◌, ◌<◌, List, [], ◌∷◌, length}
+use Rattle.std.specs.Prelude.{◌+◌, ◌*◌, ◌/◌, ◌%◌, ◌^◌, ◌<◌, ◌∷◌}
+use Rattle.lists.specs.Prelude.{ℕ, zero, suc, List, [], length}
 use Rattle.lists.specs.ForAll.{ForAll}
 
 -- the number that a list of bytes stands for

@@ -1,8 +1,9 @@
 -- Document 01, 'Filter bank file' and item 10: the fields of a file, `count` bytes from the offset `at` on,
 -- "Big-endian", some "signed", some "f32 bits". Definitions only. A field has at most eight bytes. One that is longer,
 -- or does not lie inside the list, reads as 0, and writing it changes nothing.
-use Rattle.lists.specs.Prelude.{ℕ, ◌+◌, ◌^◌, ◌<◌, ◌≡◌, Bool, ◌&&◌, cond, List, leb, ℤ, Float, binary32, binary64}
-use Rattle.lists.specs.Prelude.{of_bits, to_bits, length, take, drop}
+use Rattle.std.specs.Prelude.{◌+◌, ◌^◌, ◌<◌, ◌≡◌, ◌&&◌}
+use Rattle.lists.specs.Prelude.{ℕ, Bool, cond, List, leb, ℤ, Float, binary32, binary64, of_bits, to_bits, length, take}
+use Rattle.lists.specs.Prelude.{drop}
 use Rattle.std.specs.Int.{w16}
 use Rattle.std.proofs.Common.{to_z, of_z}
 use Rattle.big_endian.specs.Bytes.{value_of, bytes_of}

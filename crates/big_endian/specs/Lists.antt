@@ -1,6 +1,7 @@
 -- Document 01, 'Filter bank file' and item 10: numbers that stand one after another, "Big-endian", samples "as f32
 -- bits". Definitions only.
-use Rattle.lists.specs.Prelude.{ℕ, ◌+◌, ◌*◌, List, flat_map, Float, binary32, binary64, to_bits, ℤ}
+use Rattle.std.specs.Prelude.{◌+◌, ◌*◌}
+use Rattle.lists.specs.Prelude.{ℕ, List, flat_map, Float, binary32, binary64, to_bits, ℤ}
 use Rattle.std.specs.Int.{w16}
 use Rattle.std.proofs.Common.{of_z}
 use Rattle.lists.specs.Tables.{tab}

@@ -1,7 +1,7 @@
 -- How many channels a layout has, by the test of their number; what a caller learns from a count, of a layout or of an
 -- order; and what holds of 5.1 and 7.1. Assumes nothing.
-use Rattle.lists.specs.Prelude.{◌≡◌, refl, sym, ap, ◌∙◌, Bool, true, false, cond, false≢true, ℕ, suc, ◌≤◌, ◌<◌, lit<}
-use Rattle.lists.specs.Prelude.{lit≤}
+use Rattle.std.specs.Prelude.{◌≡◌, ◌≤◌, ◌<◌}
+use Rattle.lists.specs.Prelude.{refl, sym, ap, ◌∙◌, Bool, true, false, cond, false≢true, ℕ, suc, lit<, lit≤}
 use Rattle.refusals.proofs.First.{passed, answered_number}
 use Rattle.channel.specs.Layouts.{channels_answer, channels_of, refuses_channels, layout_channels, surround}
 use Rattle.channel.specs.declared.Layout.{Layout}

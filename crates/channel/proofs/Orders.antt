@@ -1,7 +1,7 @@
 -- The orders 1, 2 and 3, the numbers that are none, a choice by the order, and how many channels an order has. Assumes
 -- nothing.
-use Rattle.lists.specs.Prelude.{◌≡◌, refl, sym, ap, ◌∙◌, Bool, true, false, true≢false, ℕ, zero, suc, ◌<◌, ◌≤◌, arith}
-use Rattle.lists.specs.Prelude.{eqb, lit<, lit≤}
+use Rattle.std.specs.Prelude.{◌≡◌, ◌<◌, ◌≤◌}
+use Rattle.lists.specs.Prelude.{refl, sym, ap, ◌∙◌, Bool, true, false, true≢false, ℕ, zero, suc, arith, eqb, lit<, lit≤}
 use Rattle.lists.proofs.Tests.{cond_cases}
 use Rattle.refusals.proofs.Counts.{count_above}
 use Rattle.channel.specs.Layouts.{channels_answer}

@@ -1,7 +1,8 @@
 -- Wrong answers of the look-ups, each held against the promise on an input where it breaks it: an angle, whatever it
 -- is, where no speaker stands in the table; a refusal of the last that is in it; an angle beside a refusal; the LFE
 -- behind; five channels of 5.1; and another number for what is no order. Assumes nothing.
-use Rattle.lists.specs.Prelude.{◌≡◌, refl, ap, Bool, true, true≢false, ℕ, arith, ℤ, pos, Float, of_int}
+use Rattle.std.specs.Prelude.{◌≡◌}
+use Rattle.lists.specs.Prelude.{refl, ap, Bool, true, true≢false, ℕ, arith, ℤ, pos, Float, of_int}
 use lib.Signed.{mag, lt_z}
 use lib.Ieee.Positive.{positive}
 use Rattle.formats.specs.Floats.{zero_float, float}

@@ -1,8 +1,8 @@
 -- The tables of angles: every entry lies from -180 to 180, by one test over each table, so that an entry and ten times
 -- an entry are i32s. Assumes nothing.
-use Rattle.lists.specs.Prelude.{◌≡◌, refl, sym, ap, ◌∙◌, subst, Bool, cond, List, ℕ, suc, ◌+◌, ◌*◌, ◌≤◌, ◌<◌, arith}
-use Rattle.lists.specs.Prelude.{leb-true, lt-leb, le-leb, T, leb, leb→le, ℤ, pos, negsuc, ◌*ℤ◌, neg_ℤ, length}
-use Rattle.lists.specs.Prelude.{get_or-eq_default, binary64, of_int}
+use Rattle.std.specs.Prelude.{◌≡◌, ◌+◌, ◌*◌, ◌≤◌, ◌<◌, ◌*ℤ◌}
+use Rattle.lists.specs.Prelude.{refl, sym, ap, ◌∙◌, subst, Bool, cond, List, ℕ, suc, arith, leb-true, lt-leb, le-leb, T}
+use Rattle.lists.specs.Prelude.{leb, leb→le, ℤ, pos, negsuc, neg_ℤ, length, get_or-eq_default, binary64, of_int}
 use mir.Syntax.{w16, w32}
 use mir.Val.{SFits, to_z, of_z}
 use mir.Facts.{sfits_widen, to_z-of_z}

@@ -2,8 +2,8 @@
 -- "speakers, in channel order. 5.1: 30, -30, 0, LFE, 110, -110. 7.1: 30, -30, 0, LFE, 90, -90, 150, -150"; decoder:
 -- "LFE takes the 0 degree row. Stereo is 30, -30; Mono 0"; and the eight positions of 003. Definitions only. Angles are
 -- whole degrees.
-use Rattle.lists.specs.Prelude.{ℕ, ◌-◌, Bool, true, false, cond, List, [], ◌∷◌, eqb, leb, ℤ, pos, negsuc, ◌*ℤ◌, length}
-use Rattle.lists.specs.Prelude.{get_or, Float}
+use Rattle.std.specs.Prelude.{◌-◌, ◌∷◌, ◌*ℤ◌}
+use Rattle.lists.specs.Prelude.{ℕ, Bool, true, false, cond, List, [], eqb, leb, ℤ, pos, negsuc, length, get_or, Float}
 use Rattle.formats.specs.Floats.{zero_float, float}
 use Rattle.refusals.specs.Refusals.{first_of, ◌when◌, answered, outside}
 use Rattle.channel.specs.declared.Layout.{Layout}

@@ -1,6 +1,7 @@
 -- Document 01, 'Refusal numbers': 1 is given exactly when "ambisonic order is not 1, 2 or 3"; and an order has (order +
 -- 1)² channels, those of the harmonics up to its degree. And a choice by the order. Definitions only.
-use Rattle.lists.specs.Prelude.{ℕ, ◌+◌, ◌*◌, Bool, cond, eqb}
+use Rattle.std.specs.Prelude.{◌+◌, ◌*◌}
+use Rattle.lists.specs.Prelude.{ℕ, Bool, cond, eqb}
 use Rattle.refusals.specs.Refusals.{outside}
 use Rattle.channel.specs.Layouts.{channels_answer}
 use Rattle.channel.specs.declared.Counted.{Counted}

@@ -1,10 +1,9 @@
 -- Laws of `||` over a list of tests, the invariant of a loop that stops at the first test that holds (`Passing`),
 -- and laws of lists of finite floats. Assumes nothing.
-use Rattle.lists.specs.Prelude.{◌≡◌, refl, sym, ap, ◌∙◌, subst, Bool, true, false, not, ◌||◌, List, [], ◌∷◌, ℕ, zero}
-use Rattle.lists.specs.Prelude.{suc, ◌+◌, ◌-◌, ◌*◌, ◌≤◌, ◌<◌, zero-le, not-suc-le-zero, zero-add, add-zero, add-suc}
-use Rattle.lists.specs.Prelude.{suc-add, arith, length, get_or, take, drop, eqb, ltb, eq-eqb, le-ltb, eqb-true}
-use Rattle.lists.specs.Prelude.{not-false}
-use Rattle.lists.specs.Prelude.{ltb-false, Float, nan}
+use Rattle.std.specs.Prelude.{◌≡◌, ◌||◌, ◌∷◌, ◌+◌, ◌-◌, ◌*◌, ◌≤◌, ◌<◌}
+use Rattle.lists.specs.Prelude.{refl, sym, ap, ◌∙◌, subst, Bool, true, false, not, List, [], ℕ, zero, suc, zero-le}
+use Rattle.lists.specs.Prelude.{not-suc-le-zero, zero-add, add-zero, add-suc, suc-add, arith, length, get_or, take}
+use Rattle.lists.specs.Prelude.{drop, eqb, ltb, eq-eqb, le-ltb, eqb-true, not-false, ltb-false, Float, nan}
 use lib.Ieee.Scale.{finite}
 pub use Rattle.refusals.proofs.Counts.{not_outside, count_inside}
 pub use Rattle.refusals.proofs.First.{or_off}

@@ -1,8 +1,8 @@
 -- Why the tests are right: a number is finite exactly if it lies between the infinities, and n is a * b exactly if a
 -- divides it b times. Assumes nothing.
-use Rattle.lists.specs.Prelude.{◌≡◌, refl, sym, ap, ◌∙◌, true, false, true≢false, false≢true, ℕ, ◌*◌, ◌/◌, ◌%◌, ◌<◌}
-use Rattle.lists.specs.Prelude.{div-add-mod', mul-mod_right, mul-div_right, ℕ_discrete, arith, eq-eqb, ne_eqb, eqb}
-use Rattle.lists.specs.Prelude.{Float, nan, inf, fin, lt}
+use Rattle.std.specs.Prelude.{◌≡◌, ◌*◌, ◌/◌, ◌%◌, ◌<◌}
+use Rattle.lists.specs.Prelude.{refl, sym, ap, ◌∙◌, true, false, true≢false, false≢true, ℕ, div-add-mod', mul-mod_right}
+use Rattle.lists.specs.Prelude.{mul-div_right, ℕ_discrete, arith, eq-eqb, ne_eqb, eqb, Float, nan, inf, fin, lt}
 use lib.Ieee.Scale.{finite}
 
 pub finite_above : (x : Float) → lt x (inf false) ≡ true → lt (inf true) x ≡ finite x

@@ -1,6 +1,7 @@
 -- Document 01, 'Refusal numbers' 5: "stride below the frame count, or a length other than planes x stride". Definitions
 -- only.
-use Rattle.lists.specs.Prelude.{ℕ, ◌*◌, Bool, not, ◌||◌, ltb, eqb}
+use Rattle.std.specs.Prelude.{◌*◌, ◌||◌}
+use Rattle.lists.specs.Prelude.{ℕ, Bool, not, ltb, eqb}
 
 -- stride below the frame count, or a length other than planes x stride
 abbrev pub unfit : ℕ → ℕ → ℕ → ℕ → Bool

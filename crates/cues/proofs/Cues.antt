@@ -1,7 +1,8 @@
 -- Laws of the definitions of specs/Cues.antt: what stands at a place of the frames, what follows where frames rise, and
 -- of the cues of a list none of which is refused. Assumes nothing.
-use Rattle.lists.specs.Prelude.{◌≡◌, refl, ap, ℕ, zero, suc, ◌<◌, ◌≤◌, not-suc-le-zero, le_of_suc-le-suc, arith, Bool}
-use Rattle.lists.specs.Prelude.{true, false, ◌&&◌, cond, List, [], ◌∷◌, length, get_or, ltb, leb, ltb-true}
+use Rattle.std.specs.Prelude.{◌≡◌, ◌<◌, ◌≤◌, ◌&&◌, ◌∷◌}
+use Rattle.lists.specs.Prelude.{refl, ap, ℕ, zero, suc, not-suc-le-zero, le_of_suc-le-suc, arith, Bool, true, false}
+use Rattle.lists.specs.Prelude.{cond, List, [], length, get_or, ltb, leb, ltb-true}
 use Rattle.lists.specs.Tables.{any}
 use Rattle.refusals.proofs.First.{or_off}
 use Rattle.harmonics.specs.Promise.{refuses_direction}

@@ -1,9 +1,9 @@
 -- The search by halving: how many frames from the first on are not after f (`up_to`), what a turn keeps, and that what
 -- is found at the end is the last cue not after f, by which document 02 says the voice. Assumes nothing.
-use Rattle.lists.specs.Prelude.{◌≡◌, refl, sym, ◌∙◌, ap, subst, ℕ, zero, suc, ◌+◌, ◌-◌, ◌/◌, ◌<◌, ◌≤◌, not-suc-le-zero}
-use Rattle.lists.specs.Prelude.{le_of_suc-le-suc, add-one, arith, Bool, true, false, cond, ◌⊎◌, inl, inr, ⊎_elim, List}
-use Rattle.lists.specs.Prelude.{[], ◌∷◌, length, get_or, ltb, leb, ltb-true, leb-true, leb-false, lt-ltb, le-ltb, lt-leb}
-use Rattle.lists.specs.Prelude.{le-leb}
+use Rattle.std.specs.Prelude.{◌≡◌, ◌+◌, ◌-◌, ◌/◌, ◌<◌, ◌≤◌, ◌⊎◌, ◌∷◌}
+use Rattle.lists.specs.Prelude.{refl, sym, ◌∙◌, ap, subst, ℕ, zero, suc, not-suc-le-zero, le_of_suc-le-suc, add-one}
+use Rattle.lists.specs.Prelude.{arith, Bool, true, false, cond, inl, inr, ⊎_elim, List, [], length, get_or, ltb, leb}
+use Rattle.lists.specs.Prelude.{ltb-true, leb-true, leb-false, lt-ltb, le-ltb, lt-leb, le-leb}
 use Rattle.lists.proofs.Lists.{less_or_at_most}
 use Rattle.cues.specs.declared.Cue.{Cue}
 use Rattle.cues.specs.declared.Search.{Search}

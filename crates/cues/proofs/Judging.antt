@@ -1,7 +1,7 @@
 -- The list judged cue by cue: what a run of `judged_on` from a state on comes to. Assumes nothing.
-use Rattle.lists.specs.Prelude.{◌≡◌, refl, sym, ◌∙◌, ap, ℕ, ◌+◌, ◌<◌, ◌≤◌, zero-add, add-one, arith, Bool, true, false}
-use Rattle.lists.specs.Prelude.{not, ◌&&◌, ◌||◌, cond, List, [], ◌∷◌, length, get_or, drop, drop-length, drop-cons, ltb}
-use Rattle.lists.specs.Prelude.{eqb, ne_eqb}
+use Rattle.std.specs.Prelude.{◌≡◌, ◌+◌, ◌<◌, ◌≤◌, ◌&&◌, ◌||◌, ◌∷◌}
+use Rattle.lists.specs.Prelude.{refl, sym, ◌∙◌, ap, ℕ, zero-add, add-one, arith, Bool, true, false, not, cond, List, []}
+use Rattle.lists.specs.Prelude.{length, get_or, drop, drop-length, drop-cons, ltb, eqb, ne_eqb}
 use Rattle.lists.specs.Tables.{any}
 use Rattle.harmonics.specs.Promise.{refuses_direction}
 use Rattle.cues.specs.declared.Cue.{Cue}

@@ -1,6 +1,7 @@
 -- Wrong ways to judge a list and to find a cue, each held against the promise, whatever the cues. Assumes nothing.
-use Rattle.lists.specs.Prelude.{◌≡◌, refl, sym, ap, ◌∙◌, Bool, true, false, not, ◌&&◌, true≢false, cond, List, [], ◌∷◌}
-use Rattle.lists.specs.Prelude.{ℕ, ◌+◌, ◌-◌, ◌≤◌, ◌<◌, arith, le-leb, lt-leb, lt-ltb, length, get_or}
+use Rattle.std.specs.Prelude.{◌≡◌, ◌&&◌, ◌∷◌, ◌+◌, ◌-◌, ◌≤◌, ◌<◌}
+use Rattle.lists.specs.Prelude.{refl, sym, ap, ◌∙◌, Bool, true, false, not, true≢false, cond, List, [], ℕ, arith}
+use Rattle.lists.specs.Prelude.{le-leb, lt-leb, lt-ltb, length, get_or}
 use Rattle.lists.specs.Tables.{any}
 use Rattle.harmonics.specs.declared.Direction.{Direction}
 use Rattle.harmonics.specs.Promise.{refuses_direction}

@@ -1,7 +1,7 @@
 -- What the steps of the program hand to each other: a list judged cue by cue, and the search by halving. `Promise` ties
 -- the search to document 02's words. Definitions only.
-use Rattle.lists.specs.Prelude.{ℕ, zero, suc, ◌+◌, ◌-◌, ◌/◌, Bool, false, not, ◌||◌, cond, List, ltb, leb, eqb, length}
-use Rattle.lists.specs.Prelude.{get_or}
+use Rattle.std.specs.Prelude.{◌+◌, ◌-◌, ◌/◌, ◌||◌}
+use Rattle.lists.specs.Prelude.{ℕ, zero, suc, Bool, false, not, cond, List, ltb, leb, eqb, length, get_or}
 use Rattle.harmonics.specs.declared.Direction.{Direction}
 use Rattle.harmonics.specs.Promise.{refuses_direction}
 use Rattle.cues.specs.declared.Cue.{Cue}

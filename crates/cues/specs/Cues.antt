@@ -1,7 +1,8 @@
 -- Document 02, E1: "a lent list of cues, each with a frame number and a direction. The direction at a frame is that of
 -- the last cue not after it, found by halving"; "11 a list whose frames don't rise strictly". Nothing here is of
 -- halving. Definitions only.
-use Rattle.lists.specs.Prelude.{ℕ, ◌-◌, ◌^◌, Bool, true, ◌&&◌, cond, List, [], ◌∷◌, ltb, leb}
+use Rattle.std.specs.Prelude.{◌-◌, ◌^◌, ◌&&◌, ◌∷◌}
+use Rattle.lists.specs.Prelude.{ℕ, Bool, true, cond, List, [], ltb, leb}
 use Rattle.formats.specs.Floats.{zero_float}
 use Rattle.harmonics.specs.declared.Direction.{Direction}
 use Rattle.harmonics.specs.Promise.{refuses_direction}

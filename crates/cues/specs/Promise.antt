@@ -1,6 +1,7 @@
 -- Document 02, E1: "The direction at a frame is that of the last cue not after it, found by halving". What a list is
 -- judged to be, and which cue holds at a frame, for how long. Definitions only.
-use Rattle.lists.specs.Prelude.{ℕ, ◌+◌, ◌<◌, ◌≡◌, true, not, cond, List, [], ◌∷◌, length}
+use Rattle.std.specs.Prelude.{◌+◌, ◌<◌, ◌≡◌, ◌∷◌}
+use Rattle.lists.specs.Prelude.{ℕ, true, not, cond, List, [], length}
 use Rattle.lists.specs.Tables.{any}
 use Rattle.cues.specs.declared.Cue.{Cue}
 use Rattle.cues.specs.declared.Judgement.{Judgement}

@@ -1,7 +1,8 @@
 -- Rows put speaker by speaker: those that are left, put where they belong, give the list that is promised. Assumes
 -- nothing.
-use Rattle.lists.specs.Prelude.{ℕ, ◌+◌, ◌-◌, ◌*◌, ◌≤◌, ◌<◌, zero-le, sub-zero, arith, ◌≡◌, refl, ap, ◌∙◌, List, length}
-use Rattle.lists.specs.Prelude.{take, drop, sets, length-sets, Float}
+use Rattle.std.specs.Prelude.{◌+◌, ◌-◌, ◌*◌, ◌≤◌, ◌<◌, ◌≡◌}
+use Rattle.lists.specs.Prelude.{ℕ, zero-le, sub-zero, arith, refl, ap, ◌∙◌, List, length, take, drop, sets, length-sets}
+use Rattle.lists.specs.Prelude.{Float}
 use Rattle.rows.specs.Rows.{scaled}
 use Rattle.rows.specs.Computed.{put_rows}
 use Rattle.lists.specs.Tables.{tab}

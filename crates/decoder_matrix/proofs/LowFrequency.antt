@@ -1,6 +1,7 @@
 -- Document 01, 'Gains', decoder matrix: "LFE takes the 0 degree row": so it is in every accepted matrix of a surround
 -- layout, at every order. Assumes nothing.
-use Rattle.lists.specs.Prelude.{ℕ, ◌<◌, ◌≡◌, sym, ap, ◌∙◌, subst, true, true≢false, List, eqb-true, lit<, pos, Float}
+use Rattle.std.specs.Prelude.{◌<◌, ◌≡◌}
+use Rattle.lists.specs.Prelude.{ℕ, sym, ap, ◌∙◌, subst, true, true≢false, List, eqb-true, lit<, pos, Float}
 use Rattle.formats.specs.Floats.{float}
 use Rattle.refusals.proofs.Chains.{none_holds}
 use Rattle.lists.specs.Tables.{chunk}

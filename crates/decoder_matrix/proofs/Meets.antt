@@ -1,8 +1,7 @@
 -- The answers of `compute_decoder_matrix`, by the tests that were gone through. Assumes nothing.
-use Rattle.lists.specs.Prelude.{ℕ, zero, suc, ◌*◌, ◌≤◌, ◌<◌, arith, ◌≡◌, refl, sym, ap, ◌∙◌, subst, Bool, true, false}
-use Rattle.lists.specs.Prelude.{not, cond, List, [], eqb-true, eqb, length, get_or, take, length-take, length-map}
-use Rattle.lists.specs.Prelude.{Float}
-use Rattle.lists.specs.Prelude.{nan, binary64, mul}
+use Rattle.std.specs.Prelude.{◌*◌, ◌≤◌, ◌<◌, ◌≡◌}
+use Rattle.lists.specs.Prelude.{ℕ, zero, suc, arith, refl, sym, ap, ◌∙◌, subst, Bool, true, false, not, cond, List, []}
+use Rattle.lists.specs.Prelude.{eqb-true, eqb, length, get_or, take, length-take, length-map, Float, nan, binary64, mul}
 use Rattle.refusals.proofs.Chains.{none_holds}
 use Rattle.rows.specs.Rows.{computed_by}
 use Rattle.fractions.specs.Fraction.{whole, number}

@@ -1,9 +1,10 @@
 -- Each weight of a matrix is as near its formula as is promised, by squares: the harmonic is known by its promise, the
 -- root of n by the root's, and the rest is one expression. Every speaker's azimuth is one that the harmonics take, by
 -- one test over the tables. Assumes nothing.
-use Rattle.lists.specs.Prelude.{ℕ, ◌^◌, ◌≤◌, ◌<◌, zero-le, arith, ◌≡◌, refl, sym, ap, ◌∙◌, subst, Bool, false, not}
-use Rattle.lists.specs.Prelude.{List, [], ◌∷◌, pos, T, eqb, eqb→eq, not-false, get_or, take, get_or-map, get_or-take}
-use Rattle.lists.specs.Prelude.{Float, nan, binary64, fits, round, of_int, sub, mul, div, lt, le, neg}
+use Rattle.std.specs.Prelude.{◌^◌, ◌≤◌, ◌<◌, ◌≡◌, ◌∷◌}
+use Rattle.lists.specs.Prelude.{ℕ, zero-le, arith, refl, sym, ap, ◌∙◌, subst, Bool, false, not, List, [], pos, T, eqb}
+use Rattle.lists.specs.Prelude.{eqb→eq, not-false, get_or, take, get_or-map, get_or-take, Float, nan, binary64, fits}
+use Rattle.lists.specs.Prelude.{round, of_int, sub, mul, div, lt, le, neg}
 use lib.Ieee.Positive.{positive}
 use Rattle.lists.proofs.Tests.{all, each_holds}
 use Rattle.fractions.specs.Fraction.{Fraction, fraction, number, whole}

@@ -1,8 +1,8 @@
 -- Wrong answers of another shape: an LFE that is silent, refuted at every order of 5.1 and 7.1; an answer that refuses
 -- always, on 5.1 at order 1; and weights that are too far off. Assumes nothing.
-use Rattle.lists.specs.Prelude.{ℕ, ◌<◌, arith, ◌≡◌, refl, sym, ap, subst, ◌∙◌, Bool, true, false, not, cond, true≢false}
-use Rattle.lists.specs.Prelude.{List, pos, negsuc, eqb, le→leb, lit<, length, get_or, Float, nan, fin, size, units}
-use Rattle.lists.specs.Prelude.{round}
+use Rattle.std.specs.Prelude.{◌<◌, ◌≡◌}
+use Rattle.lists.specs.Prelude.{ℕ, arith, refl, sym, ap, subst, ◌∙◌, Bool, true, false, not, cond, true≢false, List}
+use Rattle.lists.specs.Prelude.{pos, negsuc, eqb, le→leb, lit<, length, get_or, Float, nan, fin, size, units, round}
 use Rattle.lists.specs.Prelude.{of_int, le, neg, mul, div}
 use lib.Ieee.Positive.{positive}
 use Rattle.fractions.specs.Fraction.{whole, number}

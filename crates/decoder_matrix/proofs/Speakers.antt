@@ -1,5 +1,6 @@
 -- Where a speaker sits: by the table, or, of a Custom layout, as computed. Assumes nothing.
-use Rattle.lists.specs.Prelude.{ℕ, ◌≡◌, refl, sym, ap, ◌∙◌, Float}
+use Rattle.std.specs.Prelude.{◌≡◌}
+use Rattle.lists.specs.Prelude.{ℕ, refl, sym, ap, ◌∙◌, Float}
 use Rattle.channel.specs.declared.Layout.{Layout}
 use Rattle.channel.specs.declared.Layout.TheVariants.{Mono, Stereo, Surround51, Surround71, Custom}
 use Rattle.channel.specs.Layouts.{azimuth_of}

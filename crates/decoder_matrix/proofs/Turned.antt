@@ -1,7 +1,8 @@
 -- Where an azimuth of a Custom layout is above 180, turning it back by 360 is exact; so the speaker sits where document
 -- 01 puts it, seen from the other side. By one test over the tables. Assumes nothing.
-use Rattle.lists.specs.Prelude.{ℕ, ◌≤◌, ◌<◌, zero-le, arith, ◌≡◌, refl, sym, ◌∙◌, Bool, true, false, not, cond}
-use Rattle.lists.specs.Prelude.{eqb-true, not-false, pos, round, of_int, sub, mul, div, lt}
+use Rattle.std.specs.Prelude.{◌≤◌, ◌<◌, ◌≡◌}
+use Rattle.lists.specs.Prelude.{ℕ, zero-le, arith, refl, sym, ◌∙◌, Bool, true, false, not, cond, eqb-true, not-false}
+use Rattle.lists.specs.Prelude.{pos, round, of_int, sub, mul, div, lt}
 use Rattle.lists.proofs.Tests.{cond_true}
 use Rattle.fractions.specs.Fraction.{number, whole, ◌⊖◌, Same}
 use Rattle.lists.specs.Tables.{tab, any}

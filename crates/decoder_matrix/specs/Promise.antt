@@ -2,7 +2,8 @@
 -- a length is "other than [..] weights outputs (or speakers) x channels", and "lent memory stays the same". 'Gains',
 -- decoder matrix: "Within 2^-33, by squares in the same way on magnitudes, with the sign of the formula wherever the
 -- formula exceeds 2^-33 in magnitude." Definitions only.
-use Rattle.lists.specs.Prelude.{ℕ, ◌*◌, ◌<◌, ◌≡◌, not, List, [], ◌∷◌, eqb, length, get_or, Float, nan}
+use Rattle.std.specs.Prelude.{◌*◌, ◌<◌, ◌≡◌, ◌∷◌}
+use Rattle.lists.specs.Prelude.{ℕ, not, List, [], eqb, length, get_or, Float, nan}
 use Rattle.refusals.specs.Refusals.{Check, first_of, ◌when◌}
 use Rattle.fractions.specs.Fraction.{whole, number}
 use Rattle.fractions.specs.Squares.{BySquares}

@@ -7,7 +7,7 @@
 // is counted, and `bank::read_start` tells what is wrong with it.
 #![tactic(auto)]
 
-ghost use Rattle.std.specs.Prelude.{◌≡◌, true, ◌+◌, ◌^◌, ◌≤◌, ◌<◌, max, pos, length};
+ghost use Rattle.std.specs.Prelude.{◌≡◌, true, false, ◌+◌, ◌^◌, ◌≤◌, ◌<◌, min, max, pos, length, Some, IfOk, MatchResult};
 ghost use Rattle.io.specs.Counts.{IsPrefixLen};
 ghost use Rattle.bank_form.specs.Version.{largest_file};
 ghost use Rattle.bank_form.specs.FaultLaws.{bytes_that_matter};
@@ -15,14 +15,14 @@ ghost use Rattle.files.specs.Promise.{ReadBehind, ReadSized, Found};
 
 use bank::BankRead;
 use bank_form::LARGEST;
-use libc::STDERR_FILENO;
+use std::fs::OpenFile;
+use std::io::Read;
+use std::os::fd::AsRawFd;
+use std::rt::Files;
+use std::{fs, io, str};
 
-// Whether a read failed, and how many bytes now stand in the buffer. One that failed has added none.
-#[derive(Clone, Copy)]
-pub struct Got {
-    pub failed: bool,
-    pub size: usize,
-}
+// The number of standard error.
+const STDERR: i32 = 2;
 
 // Where a read that begins at `at` ends in a buffer of `size` bytes: `limit` bytes on, one at the least.
 fn end_of_read(at: usize, limit: usize, size: usize) -> usize
@@ -38,64 +38,56 @@ fn end_of_read(at: usize, limit: usize, size: usize) -> usize
     at + limit
 }
 
-// One read into a part of a buffer, in which nothing is held.
-fn read_into(file: i32, part: &mut [u8]) -> Got
-    ensures { (result.size ≤ length part.new) × (result.failed ≡ true → result.size ≡ 0) }
-{
-    let got = libc::read(file, part);
-    Got {
-        failed: got < 0,
-        size: io::count(got, part),
-    }
-}
-
-// Reads once behind the bytes that are held, which stay. Where there is no room behind them it adds none, and `limit`
-// 0 counts as 1: a read of no bytes would look like the end of the file.
-pub fn read_some(file: i32, held: usize, limit: usize, bytes: &mut [u8]) -> Got
-    ensures { ReadBehind held limit bytes.old result.failed result.size bytes.new }
+// Reads once behind the bytes that are held, which stay, and answers how many bytes now stand in the buffer; a read
+// that fails has added none. Where there is no room behind them it adds none, and `limit` 0 counts as 1: a read of no
+// bytes would look like the end of the file.
+pub fn read_some<R: Read>(
+    file: &mut R,
+    held: usize,
+    limit: usize,
+    bytes: &mut [u8],
+) -> io::Result<usize>
+    ensures { MatchResult result
+        (λ n. ReadBehind held limit bytes.old false n bytes.new)
+        (λ _. ReadBehind held limit bytes.old true (min held (length bytes.old)) bytes.new) }
 {
     let at = checks::min(held, bytes.len());
     let end = end_of_read(at, limit, bytes.len());
-    let got = read_into(file, &mut bytes[at..end]);
-    Got {
-        failed: got.failed,
-        size: at + got.size,
-    }
+    let got = file.read(&mut bytes[at..end])?;
+    Ok(at + got)
 }
 
 // Reads until the file ends or the list is full, and answers how many bytes came: none where a read fails.
-fn fill(file: i32, bytes: &mut [u8]) -> usize
+fn fill<R: Read>(file: &mut R, bytes: &mut [u8]) -> usize
     ensures { IsPrefixLen result bytes.new }
 {
     let mut at = 0;
     while at < bytes.len() {
-        let got = read_some(file, at, usize::MAX, bytes);
-        if got.failed {
+        let Ok(size) = read_some(file, at, usize::MAX, bytes) else {
             return 0;
-        }
-        if got.size == at {
+        };
+        if size == at {
             return at;
         }
-        at = got.size;
+        at = size;
     }
     at
 }
 
 // How many bytes a file has, of which so many were read: counted until it ends, or has `most`. None where a read fails.
-fn count_rest(file: i32, read: usize, most: usize) -> usize
+fn count_rest<R: Read>(file: &mut R, read: usize, most: usize) -> usize
     requires { most < 2 ^ 33 }
 {
     let mut space = [0u8; 4096];
     let mut size = read;
     while size < most {
-        let got = read_into(file, &mut space);
-        if got.failed {
+        let Ok(got) = file.read(&mut space) else {
             return 0;
-        }
-        if got.size == 0 {
+        };
+        if got == 0 {
             return size;
         }
-        size += got.size;
+        size += got;
     }
     size
 }
@@ -114,12 +106,38 @@ fn most_to_count(bytes: &[u8]) -> usize
 
 // Reads the first bytes of a file, as many as the list holds, and answers how many the file has, counted as far as that
 // makes a difference. One that cannot be read counts as a file of no bytes.
-fn read_first(file: i32, bytes: &mut [u8]) -> usize {
+fn read_first<R: Read>(file: &mut R, bytes: &mut [u8]) -> usize {
     let read = fill(file, bytes);
     if read < bytes.len() {
         return read;
     }
     count_rest(file, read, most_to_count(bytes))
+}
+
+// The system's names are text: one that is not UTF-8 is no file's.
+fn name_of(path: &[u8]) -> io::Result<&str> {
+    match str::from_utf8(path) {
+        Ok(name) => Ok(name),
+        Err(_) => Err(io::Error::new(io::ErrorKind::InvalidInput, "the name is not UTF-8")),
+    }
+}
+
+// Opens the file of a name for reading.
+pub fn open_read<R: Files>(rt: &R, path: &[u8]) -> io::Result<R::File> {
+    fs::open(rt, name_of(path)?)
+}
+
+// Opens the file of a name for writing and empties it, or makes it where it is missing.
+pub fn open_overwrite<R: Files>(rt: &R, path: &[u8]) -> io::Result<R::File> {
+    fs::create(rt, name_of(path)?)
+}
+
+// Reads the first bytes of the file of a name, as `read_first` does. One that is missing counts as a file of no bytes.
+fn read_named<R: Files>(rt: &R, path: &[u8], bytes: &mut [u8]) -> usize {
+    match open_read(rt, path) {
+        Ok(mut file) => read_first(&mut file, bytes),
+        Err(_) => 0,
+    }
 }
 
 // Reads the bank of a file of `size` bytes, whose first stand in a list that has room for the largest bank.
@@ -145,8 +163,9 @@ fn read_sized(
 }
 
 // Reads the bank of a name. One that is missing, or cannot be read, counts as a file of no bytes, which breaks the
-// form: from a name that cannot be opened no read succeeds.
-pub fn read_bank(
+// form.
+pub fn read_bank<R: Files>(
+    rt: &R,
     path: &[u8],
     azimuths: &mut [i16],
     elevations: &mut [i16],
@@ -160,27 +179,42 @@ pub fn read_bank(
           taps = taps.new;
         }) }
 {
-    let file = os::open_read(path);
     let mut bytes = [0u8; LARGEST];
-    let size = read_first(file, &mut bytes);
-    libc::close(file);
+    let size = read_named(rt, path, &mut bytes);
     read_sized(&bytes, size, azimuths, elevations, taps)
 }
 
-// Opens the file of a name for the ears and empties it; a negative number where that fails. It never has the number of
-// standard error, which the system would give it where that is closed: messages would stand among the samples. Then
-// the file is opened a second time.
-pub fn open_out(path: &[u8]) -> i32
-    ensures { result ≡ pos 2 → ⊥ }
+// Closes a file that was written. Today's `close` tells no error, so what was written is brought to the disk first, which
+// tells it: a disk that is full, for one. What keeps nothing, as a pipe or a terminal, has nothing to bring there.
+pub fn close<F: OpenFile + Drop>(file: F) -> io::Result<()> {
+    match file.sync_all() {
+        Ok(()) => Ok(()),
+        Err(e) if e.kind() == io::ErrorKind::InvalidInput => Ok(()),
+        Err(e) if e.kind() == io::ErrorKind::Unsupported => Ok(()),
+        Err(e) => Err(e),
+    }
+}
+
+// Writes a line to standard error: what failed, as the caller names it, a colon and why.
+pub fn fail<R: Eprint>(rt: &R, what: &[u8], why: io::Error) {
+    let name = str::from_utf8(what).unwrap_or("a name that is not UTF-8");
+    let _ = eprintln!(rt; "{name}: {why}");
+}
+
+// Opens the file of a name for the ears and empties it. It never has the number of standard error, which the system
+// would give it where that is closed: messages would stand among the samples. Then the file is opened a second time.
+pub fn open_out<R: Files>(rt: &R, path: &[u8]) -> io::Result<R::File>
+where
+    R::File: AsRawFd,
+    ensures { IfOk result (λ file. R.File.raw_fd file ≡ Some (pos 2) → ⊥) }
 {
-    let first = os::open_overwrite(path);
-    if first != STDERR_FILENO {
-        return first;
+    let first = open_overwrite(rt, path)?;
+    if first.as_raw_fd() != STDERR {
+        return Ok(first);
     }
-    let second = os::open_overwrite(path);
-    libc::close(first);
-    if second != STDERR_FILENO {
-        return second;
+    let second = open_overwrite(rt, path)?;
+    if second.as_raw_fd() != STDERR {
+        return Ok(second);
     }
-    -1
+    Err(io::Error::new(io::ErrorKind::Other, "the number of standard error"))
 }

@@ -1,8 +1,9 @@
 -- What a format holds is rounded to itself (`held_rounded`), and so, added to 0.0, it is itself but for the sign of a
 -- zero (`zero_and`). In every format. Assumes nothing.
-use Rattle.lists.specs.Prelude.{◌≡◌, refl, sym, ap, ◌∙◌, subst, Bool, false, ℕ, zero, suc, ◌*◌, ◌^◌, ◌<◌, zero-mul}
-use Rattle.lists.specs.Prelude.{mul_right_comm, mul-pos, eq_of_mul-eq-mul_right, arith, ℤ, pos, T, lit<, pow_pos, Float}
-use Rattle.lists.specs.Prelude.{nan, inf, fin, Format, low, up, down, round, add, fits}
+use Rattle.std.specs.Prelude.{◌≡◌, ◌*◌, ◌^◌, ◌<◌}
+use Rattle.lists.specs.Prelude.{refl, sym, ap, ◌∙◌, subst, Bool, false, ℕ, zero, suc, zero-mul, mul_right_comm, mul-pos}
+use Rattle.lists.specs.Prelude.{eq_of_mul-eq-mul_right, arith, ℤ, pos, T, lit<, pow_pos, Float, nan, inf, fin, Format}
+use Rattle.lists.specs.Prelude.{low, up, down, round, add, fits}
 use lib.Ieee.Fits.{down_pos, round-fits}
 use lib.Ieee.Exact.{round_exact}
 use lib.Ieee.Scale.{round_same, overflow}

@@ -1,10 +1,10 @@
 -- Whole numbers by their binary digits, at every number of digits p: how many digits a number has beyond p (`drop_is`),
 -- the pattern of q * 2 ^ k (`pack`), and where the patterns end (`under_end`, `past_end`). Assumes nothing.
-use Rattle.lists.specs.Prelude.{◌≡◌, sym, ap, ◌∙◌, subst, ◌⊎◌, inl, inr, ℕ, suc, ◌+◌, ◌-◌, ◌*◌, ◌/◌, ◌^◌, ◌≤◌, ◌<◌}
-use Rattle.lists.specs.Prelude.{le_trans, le_of_eq, lt_of_lt_of_le, lt_of_le_of_lt, lt_of_not-le, lt_irrefl}
-use Rattle.lists.specs.Prelude.{eq-or-lt_of_le, mul_assoc, mul_comm, mul-le-mul_right, lt_of_mul-lt-mul_right}
-use Rattle.lists.specs.Prelude.{le_of_mul-le-mul_right, mul-div_cancel, pow-succ', arith, pow-add, pow_pos, pow_mono}
-use Rattle.lists.specs.Prelude.{pow-lt, shl_lt, size}
+use Rattle.std.specs.Prelude.{◌≡◌, ◌⊎◌, ◌+◌, ◌-◌, ◌*◌, ◌/◌, ◌^◌, ◌≤◌, ◌<◌}
+use Rattle.lists.specs.Prelude.{sym, ap, ◌∙◌, subst, inl, inr, ℕ, suc, le_trans, le_of_eq, lt_of_lt_of_le}
+use Rattle.lists.specs.Prelude.{lt_of_le_of_lt, lt_of_not-le, lt_irrefl, eq-or-lt_of_le, mul_assoc, mul_comm}
+use Rattle.lists.specs.Prelude.{mul-le-mul_right, lt_of_mul-lt-mul_right, le_of_mul-le-mul_right, mul-div_cancel}
+use Rattle.lists.specs.Prelude.{pow-succ', arith, pow-add, pow_pos, pow_mono, pow-lt, shl_lt, size}
 use lib.Ieee.Digits.{size-lt, size-le}
 
 -- ---- powers of two are in the order of their exponents

@@ -1,8 +1,9 @@
 -- How many digits `round` drops of a fraction n / c of the format's smallest values: the whole part has `prec` digits
 -- above the k that are dropped, or none are dropped. Assumes nothing.
-use Rattle.lists.specs.Prelude.{◌≡◌, sym, subst, ◌⊎◌, inl, inr, ℕ, ◌+◌, ◌-◌, ◌*◌, ◌/◌, ◌^◌, ◌≤◌, ◌<◌, le_trans}
-use Rattle.lists.specs.Prelude.{le_of_eq, eq-zero-or-pos, mul_assoc, mul_comm, mul-pos, div-div-eq-div-mul}
-use Rattle.lists.specs.Prelude.{div-lt_iff_lt-mul, le-div_iff_mul-le, arith, pow_pos, pow-add, Format, prec, size, hid}
+use Rattle.std.specs.Prelude.{◌≡◌, ◌⊎◌, ◌+◌, ◌-◌, ◌*◌, ◌/◌, ◌^◌, ◌≤◌, ◌<◌}
+use Rattle.lists.specs.Prelude.{sym, subst, inl, inr, ℕ, le_trans, le_of_eq, eq-zero-or-pos, mul_assoc, mul_comm}
+use Rattle.lists.specs.Prelude.{mul-pos, div-div-eq-div-mul, div-lt_iff_lt-mul, le-div_iff_mul-le, arith, pow_pos}
+use Rattle.lists.specs.Prelude.{pow-add, Format, prec, size, hid}
 use lib.Ieee.Digits.{size_reaches}
 use lib.Ieee.Fits.{two, kept-lt}
 

@@ -1,7 +1,8 @@
 -- A sum and a product of two floats are the same either way round, in any format. Assumes nothing.
-use Rattle.lists.specs.Prelude.{◌≡◌, refl, sym, ap, ◌∙◌, Bool, true, false, ◌&&◌, cond, and-true, and-false, ℕ, ◌-◌}
-use Rattle.lists.specs.Prelude.{◌*◌, ◌<◌, mul_comm, add_comm, le_of_eq, le_of_lt, lt-ltb, le-ltb, ltb, eqb, Float, nan}
-use Rattle.lists.specs.Prelude.{inf, fin, Format, up, down, unlike, round, sum, add, mul}
+use Rattle.std.specs.Prelude.{◌≡◌, ◌&&◌, ◌-◌, ◌*◌, ◌<◌}
+use Rattle.lists.specs.Prelude.{refl, sym, ap, ◌∙◌, Bool, true, false, cond, and-true, and-false, ℕ, mul_comm, add_comm}
+use Rattle.lists.specs.Prelude.{le_of_eq, le_of_lt, lt-ltb, le-ltb, ltb, eqb, Float, nan, inf, fin, Format, up, down}
+use Rattle.lists.specs.Prelude.{unlike, round, sum, add, mul}
 use Rattle.lists.proofs.Tests.{order_cases}
 
 unlike_exchanged : (s t : Bool) → unlike s t ≡ unlike t s

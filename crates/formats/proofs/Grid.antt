@@ -1,11 +1,12 @@
 -- The numbers that a format holds, in units of its smallest value: each is c * 2 ^ i for a c of the format's digits,
 -- below the overflow (`Grid`, `held_units`). So each is a multiple of 2 ^ k, or too short to have `prec` digits above
 -- the k lowest (`grid_or_small`). Assumes nothing.
-use Rattle.lists.specs.Prelude.{◌≡◌, refl, sym, ap, ◌∙◌, subst, ◌⊎◌, inl, inr, ℕ, zero, suc, ◌+◌, ◌-◌, ◌*◌, ◌/◌, ◌^◌}
-use Rattle.lists.specs.Prelude.{◌≤◌, ◌<◌, lt_of_lt_of_le, lt_of_not-le, lt_of_mul-lt-mul_right, zero-mul, mul-one}
-use Rattle.lists.specs.Prelude.{one-mul, mul_assoc, mul-le-mul_right, mul-lt-mul_of_pos_right, sub-add_cancel, dec_le}
-use Rattle.lists.specs.Prelude.{arith, Bool, false, ℤ, pos, negsuc, T, pow_pos, pow-add, pow_mono, shl_lt, Float, fin}
-use Rattle.lists.specs.Prelude.{Format, prec, emax, low, up, down, size, fits, hid, ones, to_bits}
+use Rattle.std.specs.Prelude.{◌≡◌, ◌⊎◌, ◌+◌, ◌-◌, ◌*◌, ◌/◌, ◌^◌, ◌≤◌, ◌<◌}
+use Rattle.lists.specs.Prelude.{refl, sym, ap, ◌∙◌, subst, inl, inr, ℕ, zero, suc, lt_of_lt_of_le, lt_of_not-le}
+use Rattle.lists.specs.Prelude.{lt_of_mul-lt-mul_right, zero-mul, mul-one, one-mul, mul_assoc, mul-le-mul_right}
+use Rattle.lists.specs.Prelude.{mul-lt-mul_of_pos_right, sub-add_cancel, dec_le, arith, Bool, false, ℤ, pos, negsuc, T}
+use Rattle.lists.specs.Prelude.{pow_pos, pow-add, pow_mono, shl_lt, Float, fin, Format, prec, emax, low, up, down, size}
+use Rattle.lists.specs.Prelude.{fits, hid, ones, to_bits}
 use lib.Ieee.Digits.{size-le}
 use lib.Ieee.Fits.{two, reach, kept-lt}
 use lib.Ieee.Exact.{HasValue}

@@ -1,8 +1,9 @@
 -- A number written with all of its format's digits: n units, times 2 ^ l, is m * 2 ^ e for an m of exactly `prec`
 -- digits (`Scaled`). A pattern with a leading digit has that m already (`scaled_normal`), and in one without the digits
 -- are moved up (`scaled_low`). Assumes nothing.
-use Rattle.lists.specs.Prelude.{◌≡◌, sym, ap, ◌∙◌, subst, ℕ, suc, ◌+◌, ◌-◌, ◌*◌, ◌^◌, ◌≤◌, ◌<◌, le-add_right, mul-one}
-use Rattle.lists.specs.Prelude.{mul_assoc, mul-le-mul_right, arith, pow-add, shl_lt, Format, prec, hid}
+use Rattle.std.specs.Prelude.{◌≡◌, ◌+◌, ◌-◌, ◌*◌, ◌^◌, ◌≤◌, ◌<◌}
+use Rattle.lists.specs.Prelude.{sym, ap, ◌∙◌, subst, ℕ, suc, le-add_right, mul-one, mul_assoc, mul-le-mul_right, arith}
+use Rattle.lists.specs.Prelude.{pow-add, shl_lt, Format, prec, hid}
 use Rattle.formats.proofs.Patterns.{digits, digits_normal, twice_hid}
 
 pub record Scaled (f : Format) (n l m e : ℕ) : Type 0 where

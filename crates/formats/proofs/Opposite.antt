@@ -1,10 +1,10 @@
 -- A float and its opposite, but for the sign of a zero (`Opposite`). Comparing does not see that sign, and goes the
 -- other way round (`lt_opposite`); products, sums and differences of opposites are opposites (`mul_opposite`,
 -- `add_opposite`, `sub_opposite`). Assumes nothing.
-use Rattle.lists.specs.Prelude.{◌≡◌, refl, sym, ap, ◌∙◌, Bool, true, false, not, ◌&&◌, bool_beq, cond, and-true}
-use Rattle.lists.specs.Prelude.{and-false, ℕ, zero, suc, ◌+◌, ◌-◌, ◌*◌, ◌<◌, mul-pos, zero-add, le_of_lt, arith, lt-ltb}
-use Rattle.lists.specs.Prelude.{le-ltb, ltb, Float, nan, inf, fin, Format, up, down, round, neg, sum, add, sub, mul, lt}
-use Rattle.lists.specs.Prelude.{below}
+use Rattle.std.specs.Prelude.{◌≡◌, ◌&&◌, ◌+◌, ◌-◌, ◌*◌, ◌<◌}
+use Rattle.lists.specs.Prelude.{refl, sym, ap, ◌∙◌, Bool, true, false, not, bool_beq, cond, and-true, and-false, ℕ}
+use Rattle.lists.specs.Prelude.{zero, suc, mul-pos, zero-add, le_of_lt, arith, lt-ltb, le-ltb, ltb, Float, nan, inf}
+use Rattle.lists.specs.Prelude.{fin, Format, up, down, round, neg, sum, add, sub, mul, lt, below}
 use lib.Ieee.Fits.{down_pos}
 use Rattle.lists.proofs.Tests.{cond_cases, order_cases}
 use Rattle.formats.proofs.Signs.{neg_neg, round_negated, lt_negated, mul_negated_right}

@@ -3,15 +3,14 @@
 -- (`to_bits_value`).
 -- The pattern of q * 2 ^ k of them is one sum for subnormal and normal values, for a carry into the exponent and for an
 -- infinity alike (`units_bits`, read back by `of_bits_units`). Each holds in every format. Assumes nothing.
-use Rattle.lists.specs.Prelude.{◌≡◌, refl, sym, ap, ◌∙◌, subst, ◌⊎◌, ℕ, zero, suc, ◌+◌, ◌-◌, ◌*◌, ◌/◌, ◌%◌, ◌^◌, ◌≤◌}
-use Rattle.lists.specs.Prelude.{◌<◌, min, le_refl, le-suc, lt_of_lt_of_le, lt_of_le_of_lt, lt_irrefl, ne_of_lt}
-use Rattle.lists.specs.Prelude.{add_assoc, mul_comm, mul-pos, zero-lt-suc, zero-mod, zero-div, mul-div_cancel}
-use Rattle.lists.specs.Prelude.{mul-le-mul_right, mod-eq_of_lt, div-lt_iff_lt-mul, min-eq_left, min-eq_right, arith}
-use Rattle.lists.specs.Prelude.{Bool, true, false, not, cond, ◌&&◌, true≢false, ℤ, T, leb, ltb, eqb, leb→le, ltb→lt}
-use Rattle.lists.specs.Prelude.{lt-ltb, le-ltb, lt-leb, ne_eqb, pow-add, pow_pos, pow-lt, Float, nan, inf, fin, Format}
-use Rattle.lists.specs.Prelude.{binary32, binary64, prec, emax, low, up, down, size, odd, units, round, ne, fits}
-use Rattle.lists.specs.Prelude.{is_nan}
-use Rattle.lists.specs.Prelude.{hid, ones, top, of_fields, of_bits, to_bits, nan_bits}
+use Rattle.std.specs.Prelude.{◌≡◌, ◌⊎◌, ◌+◌, ◌-◌, ◌*◌, ◌/◌, ◌%◌, ◌^◌, ◌≤◌, ◌<◌, ◌&&◌}
+use Rattle.lists.specs.Prelude.{refl, sym, ap, ◌∙◌, subst, ℕ, zero, suc, min, le_refl, le-suc, lt_of_lt_of_le}
+use Rattle.lists.specs.Prelude.{lt_of_le_of_lt, lt_irrefl, ne_of_lt, add_assoc, mul_comm, mul-pos, zero-lt-suc}
+use Rattle.lists.specs.Prelude.{zero-mod, zero-div, mul-div_cancel, mul-le-mul_right, mod-eq_of_lt, div-lt_iff_lt-mul}
+use Rattle.lists.specs.Prelude.{min-eq_left, min-eq_right, arith, Bool, true, false, not, cond, true≢false, ℤ, T, leb}
+use Rattle.lists.specs.Prelude.{ltb, eqb, leb→le, ltb→lt, lt-ltb, le-ltb, lt-leb, ne_eqb, pow-add, pow_pos, pow-lt}
+use Rattle.lists.specs.Prelude.{Float, nan, inf, fin, Format, binary32, binary64, prec, emax, low, up, down, size, odd}
+use Rattle.lists.specs.Prelude.{units, round, ne, fits, is_nan, hid, ones, top, of_fields, of_bits, to_bits, nan_bits}
 use lib.Ieee.Fits.{two, reach, two-le_pos, down_pos, odd-fits, inf-fits, and_l, and_r}
 use lib.Ieee.Bits.{of_bits-to_bits, nan_bits_is, nan_bits_above}
 use lib.Ieee.Compare.{nan_differs}

@@ -2,10 +2,11 @@
 -- (`round_negated`), a factor gives the other product (`mul_negated`), whichever factor it is (`mul_either`), and a
 -- literal is the other one (`literal_negated`). Two opposites compare the other way round (`lt_negated`, `le_negated`).
 -- Signs of zeros and infinities are among them, and the one NaN stays. Assumes nothing.
-use Rattle.lists.specs.Prelude.{◌≡◌, refl, ap, ap₂, sym, ◌∙◌, subst, Bool, true, false, not, ◌&&◌, ◌||◌, bool_beq, cond}
-use Rattle.lists.specs.Prelude.{ℕ, zero, suc, ◌+◌, ◌*◌, ◌^◌, add_comm, eqb-true, eqb-false, ne_eqb, pos, negsuc, eqb}
-use Rattle.lists.specs.Prelude.{ltb, Float, nan, inf, fin, Format, binary64, prec, emax, low, mul, neg, unlike, odd}
-use Rattle.lists.specs.Prelude.{units, round, up, down, below, level, lt, eq, le}
+use Rattle.std.specs.Prelude.{◌≡◌, ◌&&◌, ◌||◌, ◌+◌, ◌*◌, ◌^◌}
+use Rattle.lists.specs.Prelude.{refl, ap, ap₂, sym, ◌∙◌, subst, Bool, true, false, not, bool_beq, cond, ℕ, zero, suc}
+use Rattle.lists.specs.Prelude.{add_comm, eqb-true, eqb-false, ne_eqb, pos, negsuc, eqb, ltb, Float, nan, inf, fin}
+use Rattle.lists.specs.Prelude.{Format, binary64, prec, emax, low, mul, neg, unlike, odd, units, round, up, down, below}
+use Rattle.lists.specs.Prelude.{level, lt, eq, le}
 use lib.Ieee.Scale.{finite}
 use Rattle.lists.proofs.Tests.{by_test}
 use Rattle.formats.specs.Floats.{literal}

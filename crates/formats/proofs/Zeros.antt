@@ -2,12 +2,13 @@
 -- what is added to a number that is no -0.0 may be a zero of either sign (`add_unsigned`); and such a sum of two
 -- numbers of the format is no -0.0 (`sum_unsigned`): it is a whole number of the format's smallest values, so it rounds
 -- to a zero only where it is one. Assumes nothing.
-use Rattle.lists.specs.Prelude.{◌≡◌, refl, sym, ap, ◌∙◌, subst, Bool, true, false, ◌&&◌, bool_beq, true≢false, ℕ, zero}
-use Rattle.lists.specs.Prelude.{suc, ◌+◌, ◌-◌, ◌*◌, ◌^◌, ◌≤◌, ◌<◌, zero-lt-suc, le_of_lt, zero-mul, mul_assoc, mul_comm}
-use Rattle.lists.specs.Prelude.{mul_right_comm, mul-pos, mul-sub, mul-le-mul_right, le_trans, le_of_eq, one-mul, arith}
-use Rattle.lists.specs.Prelude.{lt-ltb, le-ltb, ltb-true, ℤ, pos, T, ltb, lit<, pow_pos, pow-lt, Float, nan, inf, fin}
-use Rattle.lists.specs.Prelude.{Format, binary32, binary64, prec, emax, low, up, down, unlike, size, span, climb, odd}
-use Rattle.lists.specs.Prelude.{units, round, neg, sum, add, mul, fits}
+use Rattle.std.specs.Prelude.{◌≡◌, ◌&&◌, ◌+◌, ◌-◌, ◌*◌, ◌^◌, ◌≤◌, ◌<◌}
+use Rattle.lists.specs.Prelude.{refl, sym, ap, ◌∙◌, subst, Bool, true, false, bool_beq, true≢false, ℕ, zero, suc}
+use Rattle.lists.specs.Prelude.{zero-lt-suc, le_of_lt, zero-mul, mul_assoc, mul_comm, mul_right_comm, mul-pos, mul-sub}
+use Rattle.lists.specs.Prelude.{mul-le-mul_right, le_trans, le_of_eq, one-mul, arith, lt-ltb, le-ltb, ltb-true, ℤ, pos}
+use Rattle.lists.specs.Prelude.{T, ltb, lit<, pow_pos, pow-lt, Float, nan, inf, fin, Format, binary32, binary64, prec}
+use Rattle.lists.specs.Prelude.{emax, low, up, down, unlike, size, span, climb, odd, units, round, neg, sum, add, mul}
+use Rattle.lists.specs.Prelude.{fits}
 use lib.Ieee.Fits.{up_pos, down_pos, round_is}
 use lib.Ieee.Exact.{HasValue, round_exact}
 use lib.Ieee.Scale.{round_same}

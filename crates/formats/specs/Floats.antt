@@ -1,5 +1,6 @@
 -- Numbers as the code writes them. Definitions only. An f32 and the f64 that it widens to are one `Float`.
-use Rattle.lists.specs.Prelude.{ℕ, suc, ◌^◌, true, false, T, ℤ, pos, negsuc, Float, fin, binary64, round, of_int, fits}
+use Rattle.std.specs.Prelude.{◌^◌}
+use Rattle.lists.specs.Prelude.{ℕ, suc, true, false, T, ℤ, pos, negsuc, Float, fin, binary64, round, of_int, fits}
 
 -- x is an f64
 abbrev pub Held : Float → Type 0

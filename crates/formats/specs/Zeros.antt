@@ -1,6 +1,7 @@
 -- A float whose zero has no sign. Document 01's sums are "from 0.0", and see no sign of a zero that is added or
 -- multiplied: so two answers are compared without it where bits alone would differ in it. Definitions only.
-use Rattle.lists.specs.Prelude.{zero, suc, ◌≡◌, false, Float, nan, inf, fin, neg}
+use Rattle.std.specs.Prelude.{◌≡◌}
+use Rattle.lists.specs.Prelude.{zero, suc, false, Float, nan, inf, fin, neg}
 
 -- two floats are the same but for the sign of a zero when these are equal
 abbrev pub unsigned_zero : Float → Float

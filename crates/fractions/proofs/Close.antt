@@ -3,8 +3,9 @@
 -- L` that x ≥ L / W. Each is said by inequalities between whole numbers with no difference in them, which is what
 -- `ring` and omega want; proofs/Within.antt ties them to the words of specs/. Nobody has to believe them: a bound that
 -- is counted in them is handed over as a `Within`. Assumes nothing.
-use Rattle.lists.specs.Prelude.{ap, ℕ, suc, ◌+◌, ◌*◌, ◌/◌, ◌≤◌, ◌<◌, mul-pos, mul-le-mul, mul-le-mul_right}
-use Rattle.lists.specs.Prelude.{le_of_mul-le-mul_right, lt-div-mul-add, arith, lit<}
+use Rattle.std.specs.Prelude.{◌+◌, ◌*◌, ◌/◌, ◌≤◌, ◌<◌}
+use Rattle.lists.specs.Prelude.{ap, ℕ, suc, mul-pos, mul-le-mul, mul-le-mul_right, le_of_mul-le-mul_right}
+use Rattle.lists.specs.Prelude.{lt-div-mul-add, arith, lit<}
 use Rattle.fractions.specs.Fraction.{Fraction, fraction, whole, ◌⊕◌, ◌⊖◌, ◌⊗◌, opposite, Same, AtMost, gap}
 use Rattle.fractions.proofs.Ring.{ring}
 use Rattle.fractions.proofs.Order.{by_gap}

@@ -1,11 +1,12 @@
 -- a / b to the nearest whole number, a tie to the even one (`closest` of the kit): by its three cases, its bounds, and
 -- what makes it the nearest: no multiple of b is nearer to a (`rounded_best`), and if another is as near the number is
 -- even (`rounded_even`). Assumes nothing.
-use Rattle.lists.specs.Prelude.{◌≡◌, refl, sym, ap, ◌∙◌, subst, ◌⊎◌, inl, inr, ℕ, suc, ◌+◌, ◌*◌, ◌/◌, ◌%◌, ◌≤◌, ◌<◌}
-use Rattle.lists.specs.Prelude.{compare, Ordering, ordering_lt, ordering_eq, ordering_gt, le_trans, le_of_eq}
-use Rattle.lists.specs.Prelude.{eq-or-lt_of_le, mul-le-mul_right, le-div_iff_mul-le, div-lt_iff_lt-mul, mod-lt}
-use Rattle.lists.specs.Prelude.{mod-eq_of_lt, div-eq_of_lt, div-add-mod', suc-mul, ℕ_discrete, arith, not, T, is_le}
-use Rattle.lists.specs.Prelude.{compare_is_eq, leb→le, nleb→lt, eqb→eq, nearest}
+use Rattle.std.specs.Prelude.{◌≡◌, ◌⊎◌, ◌+◌, ◌*◌, ◌/◌, ◌%◌, ◌≤◌, ◌<◌}
+use Rattle.lists.specs.Prelude.{refl, sym, ap, ◌∙◌, subst, inl, inr, ℕ, suc, compare, Ordering, ordering_lt}
+use Rattle.lists.specs.Prelude.{ordering_eq, ordering_gt, le_trans, le_of_eq, eq-or-lt_of_le, mul-le-mul_right}
+use Rattle.lists.specs.Prelude.{le-div_iff_mul-le, div-lt_iff_lt-mul, mod-lt, mod-eq_of_lt, div-eq_of_lt, div-add-mod'}
+use Rattle.lists.specs.Prelude.{suc-mul, ℕ_discrete, arith, not, T, is_le, compare_is_eq, leb→le, nleb→lt, eqb→eq}
+use Rattle.lists.specs.Prelude.{nearest}
 use lib.Arith.{lt_of_le-ne}
 use lib.Ieee.Fits.{eq→eqb, nearest-le}
 use lib.Ieee.Nearest.{closest, nearest-ge}

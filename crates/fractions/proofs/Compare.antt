@@ -1,9 +1,10 @@
 -- Comparing two floats that are numbers compares the numbers, exactly: nothing is rounded. So a definition that goes by
 -- cases on fractions and a program that goes by cases on floats take the same way (`lt_number`, `le_number`). Assumes
 -- nothing.
-use Rattle.lists.specs.Prelude.{◌≡◌, refl, sym, ap, ◌∙◌, subst, Bool, true, false, not, ◌&&◌, ◌||◌, ℕ, ◌+◌, ◌*◌, ◌<◌}
-use Rattle.lists.specs.Prelude.{zero-le, le_of_lt, not-suc-le-zero, arith, ltb-true, ltb-false, eqb-true, not-true}
-use Rattle.lists.specs.Prelude.{lt-ltb, le-ltb, eq-eqb, ne_eqb, T, ltb, eqb, Float, up, down, below, level, lt, eq, le}
+use Rattle.std.specs.Prelude.{◌≡◌, ◌&&◌, ◌||◌, ◌+◌, ◌*◌, ◌<◌}
+use Rattle.lists.specs.Prelude.{refl, sym, ap, ◌∙◌, subst, Bool, true, false, not, ℕ, zero-le, le_of_lt}
+use Rattle.lists.specs.Prelude.{not-suc-le-zero, arith, ltb-true, ltb-false, eqb-true, not-true, lt-ltb, le-ltb, eq-eqb}
+use Rattle.lists.specs.Prelude.{ne_eqb, T, ltb, eqb, Float, up, down, below, level, lt, eq, le}
 use lib.Ieee.Bits.{is_true}
 use Rattle.lists.proofs.Tests.{order_cases}
 use Rattle.fractions.specs.Fraction.{Fraction, signed, number, Same, Less, is_less, AtMost}

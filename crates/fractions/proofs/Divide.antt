@@ -1,8 +1,9 @@
 -- Quotients by a number above zero: how large they are and how far apart, in units of 1 / W, where the divisor is L / W
 -- at least. And the laws of `Least`. Assumes nothing.
-use Rattle.lists.specs.Prelude.{sym, ap, subst, subst₂, ℕ, ◌+◌, ◌*◌, ◌≤◌, ◌<◌, le_trans, le_of_eq, le_of_lt}
-use Rattle.lists.specs.Prelude.{lt_of_lt_of_le, le-add_right, add-sub_of_le, sub-pos_iff_lt, mul-pos, mul_comm}
-use Rattle.lists.specs.Prelude.{mul-le-mul, mul-le-mul_right, le_of_mul-le-mul_right, lt_of_mul-lt-mul_right, arith}
+use Rattle.std.specs.Prelude.{◌+◌, ◌*◌, ◌≤◌, ◌<◌}
+use Rattle.lists.specs.Prelude.{sym, ap, subst, subst₂, ℕ, le_trans, le_of_eq, le_of_lt, lt_of_lt_of_le, le-add_right}
+use Rattle.lists.specs.Prelude.{add-sub_of_le, sub-pos_iff_lt, mul-pos, mul_comm, mul-le-mul, mul-le-mul_right}
+use Rattle.lists.specs.Prelude.{le_of_mul-le-mul_right, lt_of_mul-lt-mul_right, arith}
 use Rattle.fractions.specs.Fraction.{Fraction, fraction, whole, opposite, ◌⊕◌, ◌⊗◌, ◌⊘◌, Same, AtMost}
 use Rattle.fractions.proofs.Ring.{ring}
 use Rattle.fractions.proofs.Order.{same_sym, not_below_lem, left, plain, plain_same}

@@ -2,10 +2,11 @@
 -- the format's grid) is what its `Result` is, as a number (`result_exact`); ExactInFormat.antt shows of which fractions
 -- that is so. And rounding keeps the sign: what is not below 0 does not fall below it (`result_not_below`). Assumes
 -- nothing.
-use Rattle.lists.specs.Prelude.{◌≡◌, refl, sym, ap, ◌∙◌, subst, Bool, true, false, cond, ℕ, suc, ◌+◌, ◌*◌, ◌-◌, ◌^◌}
-use Rattle.lists.specs.Prelude.{◌≤◌, ◌<◌, zero-le, le_trans, le_of_eq, lt_of_lt_of_le, sub-add_cancel, sub-le}
-use Rattle.lists.specs.Prelude.{mul_assoc, zero-mul, le_of_mul-le-mul_right, arith, ltb, pow-add, pow_pos, pow_mono}
-use Rattle.lists.specs.Prelude.{shl_lt, Float, nan, inf, fin, Format, prec, emax, low, up, odd, round}
+use Rattle.std.specs.Prelude.{◌≡◌, ◌+◌, ◌*◌, ◌-◌, ◌^◌, ◌≤◌, ◌<◌}
+use Rattle.lists.specs.Prelude.{refl, sym, ap, ◌∙◌, subst, Bool, true, false, cond, ℕ, suc, zero-le, le_trans, le_of_eq}
+use Rattle.lists.specs.Prelude.{lt_of_lt_of_le, sub-add_cancel, sub-le, mul_assoc, zero-mul, le_of_mul-le-mul_right}
+use Rattle.lists.specs.Prelude.{arith, ltb, pow-add, pow_pos, pow_mono, shl_lt, Float, nan, inf, fin, Format, prec}
+use Rattle.lists.specs.Prelude.{emax, low, up, odd, round}
 use lib.Ieee.{units as written}
 use lib.Ieee.Fits.{reach, round_is}
 use lib.Ieee.Exact.{HasValue, odd_sign, round_exact}

@@ -1,9 +1,10 @@
 -- Numbers that a format holds, so that an operation which gives one is exact: the floats themselves, whole numbers of
 -- few enough digits, and a float times a power of two. Assumes nothing.
-use Rattle.lists.specs.Prelude.{◌≡◌, refl, sym, ap, ◌∙◌, Bool, false, ℕ, zero, suc, ◌+◌, ◌*◌, ◌^◌, ◌≤◌, ◌<◌}
-use Rattle.lists.specs.Prelude.{lt_of_lt_of_le, lt_of_le_of_lt, mul-one, mul_assoc, mul_comm, mul_right_comm, mul-pos}
-use Rattle.lists.specs.Prelude.{eq_of_mul-eq-mul_right, mul-le-mul_right, le_of_mul-le-mul_right, arith, T, lit<, ℤ}
-use Rattle.lists.specs.Prelude.{pow-add, pow-lt, shl_lt, Float, fin, Format, prec, emax, low, up, down, fits}
+use Rattle.std.specs.Prelude.{◌≡◌, ◌+◌, ◌*◌, ◌^◌, ◌≤◌, ◌<◌}
+use Rattle.lists.specs.Prelude.{refl, sym, ap, ◌∙◌, Bool, false, ℕ, zero, suc, lt_of_lt_of_le, lt_of_le_of_lt, mul-one}
+use Rattle.lists.specs.Prelude.{mul_assoc, mul_comm, mul_right_comm, mul-pos, eq_of_mul-eq-mul_right, mul-le-mul_right}
+use Rattle.lists.specs.Prelude.{le_of_mul-le-mul_right, arith, T, lit<, ℤ, pow-add, pow-lt, shl_lt, Float, fin, Format}
+use Rattle.lists.specs.Prelude.{prec, emax, low, up, down, fits}
 use Rattle.formats.proofs.Patterns.{held}
 use Rattle.formats.proofs.Grid.{held_units}
 use Rattle.fractions.specs.Fraction.{Fraction, whole, magnitude, number, ◌⊗◌, Same, AtMost, gap}

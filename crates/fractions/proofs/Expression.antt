@@ -2,12 +2,12 @@
 -- computed from it (`bound`). One theorem, `sound`, says that the bound holds; so the bound of a formula is an
 -- expression, the formula that `exact` of it is by computation, and `tt` (`within`). Errors are counted in units of 2 ^
 -- -100, which is fine enough for both formats. Assumes nothing.
-use Rattle.lists.specs.Prelude.{◌≡◌, refl, sym, ap, ◌∙◌, subst, List, [], ◌∷◌, map, Bool, true, false, ◌&&◌, cond, ℕ}
-use Rattle.lists.specs.Prelude.{zero, suc, ◌+◌, ◌*◌, ◌/◌, ◌^◌, ◌≤◌, ◌<◌, zero-le, lt_irrefl, not-suc-le-zero}
-use Rattle.lists.specs.Prelude.{le_of_suc-le-suc, le_of_lt, lt_of_le_of_lt, lt_of_not-le, sub-eq-zero_of_le}
-use Rattle.lists.specs.Prelude.{add-sub_of_le, zero-mul, zero-div, div-mul-le_self, dec_le, arith, T, leb, ltb, leb→le}
-use Rattle.lists.specs.Prelude.{ltb→lt, lit<, pow_pos, length, get_or, Float, Format, prec, emax, low, fits, round, neg}
-use Rattle.lists.specs.Prelude.{add, sub, mul, div}
+use Rattle.std.specs.Prelude.{◌≡◌, ◌∷◌, ◌&&◌, ◌+◌, ◌*◌, ◌/◌, ◌^◌, ◌≤◌, ◌<◌}
+use Rattle.lists.specs.Prelude.{refl, sym, ap, ◌∙◌, subst, List, [], map, Bool, true, false, cond, ℕ, zero, suc}
+use Rattle.lists.specs.Prelude.{zero-le, lt_irrefl, not-suc-le-zero, le_of_suc-le-suc, le_of_lt, lt_of_le_of_lt}
+use Rattle.lists.specs.Prelude.{lt_of_not-le, sub-eq-zero_of_le, add-sub_of_le, zero-mul, zero-div, div-mul-le_self}
+use Rattle.lists.specs.Prelude.{dec_le, arith, T, leb, ltb, leb→le, ltb→lt, lit<, pow_pos, length, get_or, Float}
+use Rattle.lists.specs.Prelude.{Format, prec, emax, low, fits, round, neg, add, sub, mul, div}
 use lib.Ieee.Fits.{and_l, and_r}
 use Rattle.lists.specs.Tables.{every}
 use Rattle.fractions.specs.Fraction.{Fraction, fraction, whole, opposite, magnitude, signed, number, ◌⊕◌, ◌⊖◌}

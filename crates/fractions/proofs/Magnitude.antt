@@ -1,6 +1,7 @@
 -- Magnitudes: |x| ≤ l says -l ≤ x ≤ l, |x| is x or -x by the sign, ||x| - |y|| ≤ |x - y|, and |x|² is x². So a law for
 -- numbers that are not below zero serves numbers of either sign. Assumes nothing.
-use Rattle.lists.specs.Prelude.{◌≡◌, ap, ℕ, ◌+◌, ◌*◌, ◌≤◌, ◌<◌, le_trans, le_of_eq, le-add_left, arith}
+use Rattle.std.specs.Prelude.{◌≡◌, ◌+◌, ◌*◌, ◌≤◌, ◌<◌}
+use Rattle.lists.specs.Prelude.{ap, ℕ, le_trans, le_of_eq, le-add_left, arith}
 use Rattle.fractions.specs.Fraction.{Fraction, whole, opposite, magnitude, square, Same, Less, AtMost, gap}
 use Rattle.fractions.proofs.Order.{not_below_lem, by_gap}
 use Rattle.fractions.proofs.Close.{Close}

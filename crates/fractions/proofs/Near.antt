@@ -1,9 +1,10 @@
 -- The calculus of errors: `Near W x q M E` says that x and q are numbers, |x - q| ≤ E / W and |q| ≤ M / W. A law for
 -- each operation of either format: from what is known of the operands it gives a bound for the result against the exact
 -- one, in whole numbers that compute. Assumes nothing.
-use Rattle.lists.specs.Prelude.{refl, Bool, true, false, ℕ, ◌+◌, ◌*◌, ◌-◌, ◌^◌, ◌≤◌, ◌<◌, zero-le, le_trans, le_of_eq}
-use Rattle.lists.specs.Prelude.{le_of_lt, mul-one, mul-pos, sub-pos_iff_lt, sub-add_cancel, lt_of_le_of_lt, arith, T}
-use Rattle.lists.specs.Prelude.{pow_pos, Float, Format, prec, low, round, neg, add, sub, mul, div}
+use Rattle.std.specs.Prelude.{◌+◌, ◌*◌, ◌-◌, ◌^◌, ◌≤◌, ◌<◌}
+use Rattle.lists.specs.Prelude.{refl, Bool, true, false, ℕ, zero-le, le_trans, le_of_eq, le_of_lt, mul-one, mul-pos}
+use Rattle.lists.specs.Prelude.{sub-pos_iff_lt, sub-add_cancel, lt_of_le_of_lt, arith, T, pow_pos, Float, Format, prec}
+use Rattle.lists.specs.Prelude.{low, round, neg, add, sub, mul, div}
 use Rattle.fractions.specs.Fraction.{Fraction, opposite, signed, number, ◌⊕◌, ◌⊖◌, ◌⊗◌, ◌⊘◌}
 use Rattle.fractions.proofs.Close.{Close, Size, Least, close_opposite, same_close, close_trans, close_add}
 use Rattle.fractions.proofs.Close.{close_mul, size_opposite, size_unit, size_near, size_add, size_mul, ceiling}

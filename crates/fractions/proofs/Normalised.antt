@@ -3,9 +3,9 @@
 -- (`normalised`), or times the inverse of one (`over_root`). The root enters by its law (`RootOf`, which a correctly
 -- rounded root has with P = 2 ^ prec), for s the float whose root was taken, itself near S (`root_near`). Assumes
 -- nothing.
-use Rattle.lists.specs.Prelude.{◌≡◌, Bool, false, ◌&&◌, List, [], ◌∷◌, ℕ, ◌+◌, ◌-◌, ◌*◌, ◌^◌, ◌≤◌, ◌<◌, le_trans}
-use Rattle.lists.specs.Prelude.{mul-pos, mul-le-mul_right, T, leb, ltb, leb→le, ltb→lt, lit<, lit≤, Float, Format}
-use Rattle.lists.specs.Prelude.{binary64, fits, round, mul, div}
+use Rattle.std.specs.Prelude.{◌≡◌, ◌&&◌, ◌∷◌, ◌+◌, ◌-◌, ◌*◌, ◌^◌, ◌≤◌, ◌<◌}
+use Rattle.lists.specs.Prelude.{Bool, false, List, [], ℕ, le_trans, mul-pos, mul-le-mul_right, T, leb, ltb, leb→le}
+use Rattle.lists.specs.Prelude.{ltb→lt, lit<, lit≤, Float, Format, binary64, fits, round, mul, div}
 use lib.Ieee.Fits.{and_l, and_r}
 use lib.Ieee.Positive.{positive, first_pos}
 use Rattle.lists.proofs.Tests.{all, each_holds}

@@ -1,8 +1,9 @@
 -- A float as a fraction: it is a number exactly if the float is finite, its sign goes with the float's, and a float
 -- that has the value of a fraction is that number (`value_same`). And how far two signed fractions are apart. Assumes
 -- nothing.
-use Rattle.lists.specs.Prelude.{◌≡◌, refl, Bool, true, false, not, ℕ, ◌+◌, ◌*◌, ◌<◌, lt_irrefl, arith, T, ltb→lt, ℤ}
-use Rattle.lists.specs.Prelude.{Float, nan, inf, fin, up, down, neg}
+use Rattle.std.specs.Prelude.{◌≡◌, ◌+◌, ◌*◌, ◌<◌}
+use Rattle.lists.specs.Prelude.{refl, Bool, true, false, not, ℕ, lt_irrefl, arith, T, ltb→lt, ℤ, Float, nan, inf, fin}
+use Rattle.lists.specs.Prelude.{up, down, neg}
 use lib.Ieee.Fits.{down_pos}
 use lib.Ieee.Exact.{HasValue}
 use lib.Ieee.Positive.{positive}

@@ -2,10 +2,10 @@
 -- quotient by a float above zero. `add`, `mul` and `div` hand `round` a sign and two whole numbers, which are told here
 -- to be those of `⊕`, `⊗` and `⊘`. What follows for the result's error is in Rounding.antt and Near.antt, and where it
 -- is exact in Exact.antt. Assumes nothing.
-use Rattle.lists.specs.Prelude.{◌≡◌, refl, sym, ap, ◌∙◌, subst, Bool, true, false, cond, ℕ, ◌+◌, ◌*◌, ◌-◌, ◌<◌, zero-le}
-use Rattle.lists.specs.Prelude.{lt_irrefl, not-le_of_lt, zero-mul, mul-pos, mul_comm, sub-zero, arith, T, ltb, lt→ltb}
-use Rattle.lists.specs.Prelude.{Float, nan, inf, fin, Format, up, down, unlike, round, sum, neg, add, sub, mul, div}
-use Rattle.lists.specs.Prelude.{ltb-false, ne_eqb}
+use Rattle.std.specs.Prelude.{◌≡◌, ◌+◌, ◌*◌, ◌-◌, ◌<◌}
+use Rattle.lists.specs.Prelude.{refl, sym, ap, ◌∙◌, subst, Bool, true, false, cond, ℕ, zero-le, lt_irrefl, not-le_of_lt}
+use Rattle.lists.specs.Prelude.{zero-mul, mul-pos, mul_comm, sub-zero, arith, T, ltb, lt→ltb, Float, nan, inf, fin}
+use Rattle.lists.specs.Prelude.{Format, up, down, unlike, round, sum, neg, add, sub, mul, div, ltb-false, ne_eqb}
 use lib.Ieee.Fits.{up_pos}
 use lib.Ieee.Positive.{positive, first_pos}
 use Rattle.lists.proofs.Tests.{by_test, by_less, cond_false}

@@ -1,9 +1,9 @@
 -- The laws of `Same`, `Less`, `AtMost` and `AsNear`: fractions that are the same number serve each other everywhere.
 -- Assumes nothing.
-use Rattle.lists.specs.Prelude.{◌≡◌, sym, ap, ◌∙◌, subst, Bool, ℕ, ◌+◌, ◌-◌, ◌*◌, ◌≤◌, ◌<◌, le_of_eq, le_of_lt}
-use Rattle.lists.specs.Prelude.{le_antisymm, lt_of_not-le, add-sub_of_le, mul-pos, mul-le-mul_right}
-use Rattle.lists.specs.Prelude.{le_of_mul-le-mul_right, lt_of_mul-lt-mul_right, mul-lt-mul_of_pos_right, dec_le, arith}
-use Rattle.lists.specs.Prelude.{T, eqb, eqb→eq}
+use Rattle.std.specs.Prelude.{◌≡◌, ◌+◌, ◌-◌, ◌*◌, ◌≤◌, ◌<◌}
+use Rattle.lists.specs.Prelude.{sym, ap, ◌∙◌, subst, Bool, ℕ, le_of_eq, le_of_lt, le_antisymm, lt_of_not-le}
+use Rattle.lists.specs.Prelude.{add-sub_of_le, mul-pos, mul-le-mul_right, le_of_mul-le-mul_right}
+use Rattle.lists.specs.Prelude.{lt_of_mul-lt-mul_right, mul-lt-mul_of_pos_right, dec_le, arith, T, eqb, eqb→eq}
 use Rattle.fractions.specs.Fraction.{Fraction, fraction, whole, opposite, ◌⊕◌, ◌⊗◌, Same, Less, AtMost, gap}
 use Rattle.fractions.specs.Fraction.{apart, AsNear}
 use Rattle.fractions.proofs.Ring.{ring}

@@ -2,7 +2,8 @@
 -- is a path, for `rw` and `ap`; a law that changes what stands under the line (distribution, a common factor) is a
 -- `Same`. With the congruences here and in Order.antt they tie the order in which a document writes a formula to the
 -- order in which a program computes it. Assumes nothing.
-use Rattle.lists.specs.Prelude.{◌≡◌, sym, ap, subst₂, ℕ, ◌+◌, ◌*◌, ◌-◌, ◌≤◌, sub-zero, add-sub_of_le, arith}
+use Rattle.std.specs.Prelude.{◌≡◌, ◌+◌, ◌*◌, ◌-◌, ◌≤◌}
+use Rattle.lists.specs.Prelude.{sym, ap, subst₂, ℕ, sub-zero, add-sub_of_le, arith}
 use Rattle.fractions.specs.Fraction.{Fraction, fraction, whole, opposite, square, ◌⊕◌, ◌⊖◌, ◌⊗◌, ◌⊘◌, Same}
 use Rattle.fractions.proofs.Ring.{ring}
 use Rattle.fractions.proofs.Order.{same_refl, same_add, same_mul, left}

@@ -1,9 +1,9 @@
 -- What the law by squares asks of a root: r is the root of s to one part in P (`RootOf`), so r² is within 3 s / P of s
 -- (`root_square`); from below, r is as large as S lets it be (`root_least`); and where G² ≤ S the quotient G / r is 1
 -- at most, and a little (`quotient_size`). Assumes nothing.
-use Rattle.lists.specs.Prelude.{◌≡◌, sym, subst, subst₂, ℕ, suc, ◌+◌, ◌*◌, ◌-◌, ◌≤◌, ◌<◌, le_of_lt, lt_of_not-le}
-use Rattle.lists.specs.Prelude.{add-sub_of_le, mul-pos, mul-le-mul, mul-le-mul_right, le_of_mul-le-mul_right}
-use Rattle.lists.specs.Prelude.{lt_of_mul-lt-mul_right, dec_le, arith}
+use Rattle.std.specs.Prelude.{◌≡◌, ◌+◌, ◌*◌, ◌-◌, ◌≤◌, ◌<◌}
+use Rattle.lists.specs.Prelude.{sym, subst, subst₂, ℕ, suc, le_of_lt, lt_of_not-le, add-sub_of_le, mul-pos, mul-le-mul}
+use Rattle.lists.specs.Prelude.{mul-le-mul_right, le_of_mul-le-mul_right, lt_of_mul-lt-mul_right, dec_le, arith}
 use Rattle.fractions.specs.Fraction.{Fraction, fraction, whole, square, ◌⊗◌, ◌⊘◌, Same, Less, AtMost, gap}
 use Rattle.fractions.proofs.Ring.{ring}
 use Rattle.fractions.proofs.Order.{same_refl, same_sym, same_mul, less_same, left, plain, plain_same, gap_times}

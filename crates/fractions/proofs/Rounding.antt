@@ -2,12 +2,12 @@
 -- finite value, which `Rounds` it (`round_rounds`), and so does the `Result` of an operation (`result_rounds`;
 -- Operations.antt has them). In units of 1 / W, a result of magnitude B / W is moved by `rounding f B` units at most
 -- (`rounds_close`). Assumes nothing.
-use Rattle.lists.specs.Prelude.{◌≡◌, refl, sym, ap, ◌∙◌, subst, subst₂, ◌⊎◌, inl, inr, Bool, true, false, cond, ℕ, suc}
-use Rattle.lists.specs.Prelude.{◌+◌, ◌*◌, ◌-◌, ◌/◌, ◌^◌, ◌≤◌, ◌<◌, le_trans, le_of_eq, mul_assoc, mul_comm}
-use Rattle.lists.specs.Prelude.{mul_left_comm, mul-pos, mul-le-mul_right, mul-le-mul_left, le_of_mul-le-mul_right}
-use Rattle.lists.specs.Prelude.{lt_of_mul-lt-mul_right, pow-suc, pow-succ', arith, List, [], ◌∷◌, T, leb, ltb, ltb→lt}
-use Rattle.lists.specs.Prelude.{leb→le, lit≤, pow-add, pow_pos, Float, Format, binary32, binary64, prec, emax, low, hid}
-use Rattle.lists.specs.Prelude.{size, round}
+use Rattle.std.specs.Prelude.{◌≡◌, ◌⊎◌, ◌+◌, ◌*◌, ◌-◌, ◌/◌, ◌^◌, ◌≤◌, ◌<◌, ◌∷◌}
+use Rattle.lists.specs.Prelude.{refl, sym, ap, ◌∙◌, subst, subst₂, inl, inr, Bool, true, false, cond, ℕ, suc, le_trans}
+use Rattle.lists.specs.Prelude.{le_of_eq, mul_assoc, mul_comm, mul_left_comm, mul-pos, mul-le-mul_right}
+use Rattle.lists.specs.Prelude.{mul-le-mul_left, le_of_mul-le-mul_right, lt_of_mul-lt-mul_right, pow-suc, pow-succ'}
+use Rattle.lists.specs.Prelude.{arith, List, [], T, leb, ltb, ltb→lt, leb→le, lit≤, pow-add, pow_pos, Float, Format}
+use Rattle.lists.specs.Prelude.{binary32, binary64, prec, emax, low, hid, size, round}
 use Rattle.lists.proofs.Tests.{all, each_holds}
 use lib.Ieee.Fits.{round_is}
 use lib.Ieee.Exact.{HasValue, units_val}

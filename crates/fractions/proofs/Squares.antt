@@ -2,10 +2,11 @@
 -- x is near G / r. Then x is `BySquares` of G / √S (`by_squares`), for G of either sign: the square of the exact G / √S
 -- lies between those of |x| - 2 ^ -k (0 if that is negative) and |x| + 2 ^ -k, and x has the sign of G unless G / √S is
 -- 2 ^ -k in magnitude at most. Assumes nothing.
-use Rattle.lists.specs.Prelude.{◌≡◌, refl, ap, ◌∙◌, inl, inr, Bool, List, [], ◌∷◌, ℕ, ◌+◌, ◌*◌, ◌-◌, ◌^◌, ◌≤◌, ◌<◌}
-use Rattle.lists.specs.Prelude.{le_trans, le_of_lt, lt_of_not-le, sub-add_cancel, sub-eq-zero_of_le, sub-pos_iff_lt}
-use Rattle.lists.specs.Prelude.{eq-zero-or-pos, mul-pos, mul-le-mul, mul-le-mul_right, le_of_mul-le-mul_right}
-use Rattle.lists.specs.Prelude.{lt_of_mul-lt-mul_right, dec_le, dec_lt, arith, T, leb, ltb, leb→le, ltb→lt, pow_pos}
+use Rattle.std.specs.Prelude.{◌≡◌, ◌∷◌, ◌+◌, ◌*◌, ◌-◌, ◌^◌, ◌≤◌, ◌<◌}
+use Rattle.lists.specs.Prelude.{refl, ap, ◌∙◌, inl, inr, Bool, List, [], ℕ, le_trans, le_of_lt, lt_of_not-le}
+use Rattle.lists.specs.Prelude.{sub-add_cancel, sub-eq-zero_of_le, sub-pos_iff_lt, eq-zero-or-pos, mul-pos, mul-le-mul}
+use Rattle.lists.specs.Prelude.{mul-le-mul_right, le_of_mul-le-mul_right, lt_of_mul-lt-mul_right, dec_le, dec_lt, arith}
+use Rattle.lists.specs.Prelude.{T, leb, ltb, leb→le, ltb→lt, pow_pos}
 use lib.Ieee.Positive.{first_pos}
 use Rattle.lists.proofs.Tests.{all, each_holds}
 use Rattle.fractions.specs.Fraction.{Fraction, fraction, square, unit, whole, ◌⊗◌, ◌⊘◌, Same, Less, AtMost, gap}

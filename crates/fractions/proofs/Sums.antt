@@ -1,6 +1,7 @@
 -- Sums of squares: such a sum is no less than each of the squares in it; and as an expression. Assumes nothing.
-use Rattle.lists.specs.Prelude.{List, [], ◌∷◌, ℕ, zero, suc, ◌*◌, ◌≤◌, ◌<◌, le_refl, mul-le-mul_right, le_of_suc-le-suc}
-use Rattle.lists.specs.Prelude.{not-suc-le-zero, arith, length, get_or}
+use Rattle.std.specs.Prelude.{◌∷◌, ◌*◌, ◌≤◌, ◌<◌}
+use Rattle.lists.specs.Prelude.{List, [], ℕ, zero, suc, le_refl, mul-le-mul_right, le_of_suc-le-suc, not-suc-le-zero}
+use Rattle.lists.specs.Prelude.{arith, length, get_or}
 use Rattle.fractions.specs.Fraction.{Fraction, whole, square, ◌⊕◌, AtMost}
 use Rattle.fractions.specs.Squares.{sum_from, sum_squares}
 use Rattle.fractions.proofs.Magnitude.{square_not_below}

@@ -1,9 +1,9 @@
 -- The laws of `Within`, and of a magnitude that is at most so much. The words of specs/ and the vocabulary of
 -- Close.antt say the same (`close_apart` and `apart_close`, `size_at_most` and `at_most_size`, `least_at_most` and
 -- `at_most_least`), and so a number `Within` another may be renamed and chained. Assumes nothing.
-use Rattle.lists.specs.Prelude.{◌≡◌, sym, ap, Bool, List, [], ◌∷◌, ℕ, suc, ◌+◌, ◌*◌, ◌^◌, ◌≤◌, ◌<◌, zero-le, le_trans}
-use Rattle.lists.specs.Prelude.{le_of_eq, add_comm, pow-succ', one-mul, mul-le-mul_right, arith, T, leb, ltb, leb→le}
-use Rattle.lists.specs.Prelude.{ltb→lt, pow_pos, pow_mono}
+use Rattle.std.specs.Prelude.{◌≡◌, ◌∷◌, ◌+◌, ◌*◌, ◌^◌, ◌≤◌, ◌<◌}
+use Rattle.lists.specs.Prelude.{sym, ap, Bool, List, [], ℕ, suc, zero-le, le_trans, le_of_eq, add_comm, pow-succ'}
+use Rattle.lists.specs.Prelude.{one-mul, mul-le-mul_right, arith, T, leb, ltb, leb→le, ltb→lt, pow_pos, pow_mono}
 use Rattle.lists.proofs.Tests.{all, each_holds}
 use Rattle.fractions.specs.Fraction.{Fraction, fraction, magnitude, whole, ◌⊖◌, Same, AtMost, gap, apart, Within}
 use Rattle.fractions.proofs.Order.{same_refl, gap_times}

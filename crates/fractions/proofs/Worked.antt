@@ -1,8 +1,9 @@
 -- Controls on the definitions of specs/, and on `Rounds` and `RootOf`, at closed numbers: what they say and what they
 -- do not, at the edge and past it. A definition that is wrong here would say the wrong thing everywhere. Assumes
 -- nothing.
-use Rattle.lists.specs.Prelude.{◌≡◌, refl, inl, inr, ⊎_elim, false, true, [], ◌∷◌, ℕ, ◌^◌, ◌<◌, lt_irrefl, le→leb, lit<}
-use Rattle.lists.specs.Prelude.{lit≤, pos, negsuc, nan, inf, fin, binary64}
+use Rattle.std.specs.Prelude.{◌≡◌, ◌∷◌, ◌^◌, ◌<◌}
+use Rattle.lists.specs.Prelude.{refl, inl, inr, ⊎_elim, false, true, [], ℕ, lt_irrefl, le→leb, lit<, lit≤, pos, negsuc}
+use Rattle.lists.specs.Prelude.{nan, inf, fin, binary64}
 use Rattle.fractions.specs.Fraction.{Fraction, fraction, whole, unit, number, opposite, magnitude, square, ◌⊕◌}
 use Rattle.fractions.specs.Fraction.{◌⊖◌, ◌⊗◌, ◌⊘◌, Same, Less, AtMost, Within}
 use Rattle.fractions.proofs.Rounding.{Rounds}

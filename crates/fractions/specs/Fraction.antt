@@ -1,8 +1,8 @@
 -- Signed fractions of whole numbers, and what a float is as one. Definitions only. A fraction is no more than its three
 -- numbers: it need not be in lowest terms, and two fractions that are the same number are `Same`, not equal. One whose
 -- `over` is 0 is no number: that is how a NaN and an infinity are told.
-use Rattle.lists.specs.Prelude.{ℕ, ◌+◌, ◌-◌, ◌*◌, ◌^◌, ◌≤◌, ◌<◌, ◌≡◌, Bool, cond, List, ltb, Float, nan, inf, fin, up}
-use Rattle.lists.specs.Prelude.{down}
+use Rattle.std.specs.Prelude.{◌+◌, ◌-◌, ◌*◌, ◌^◌, ◌≤◌, ◌<◌, ◌≡◌}
+use Rattle.lists.specs.Prelude.{ℕ, Bool, cond, List, ltb, Float, nan, inf, fin, up, down}
 use Rattle.lists.specs.Pairwise.{Pairwise}
 
 -- (plus - minus) / over

@@ -2,7 +2,8 @@
 -- Surround: "the gain is not below zero, and the square of the exact gain lies between the squares of this gain less
 -- 2^-30 (zero if that is negative) and plus 2^-30." Decoder matrix: "by squares in the same way on magnitudes, with the
 -- sign of the formula wherever the formula exceeds 2^-33 in magnitude." Definitions only.
-use Rattle.lists.specs.Prelude.{ℕ, ◌-◌, ◌<◌, List, [], ◌∷◌}
+use Rattle.std.specs.Prelude.{◌-◌, ◌<◌, ◌∷◌}
+use Rattle.lists.specs.Prelude.{ℕ, List, []}
 use Rattle.fractions.specs.Fraction.{Fraction, fraction, whole, unit, magnitude, square, ◌⊕◌, ◌⊖◌, ◌⊗◌, ◌⊘◌, Less}
 use Rattle.fractions.specs.Fraction.{AtMost}
 

@@ -2,9 +2,9 @@
 -- -0.5, h, -m, q; the rest 0. 2. Order 1 at (90,0): 1, 1, 0, 0. 3. Elevation 90: channels 2, 6, 12 are 1; 1 and 3 are
 -- 0." Each of the formulas, and of the floats that the program gives; at elevation 90 for every azimuth. Assumes
 -- nothing.
-use Rattle.lists.specs.Prelude.{◌≡◌, refl, sym, subst, Bool, true, false, ◌&&◌, List, [], ◌∷◌, map, ◌<◌, mul-pos, arith}
-use Rattle.lists.specs.Prelude.{T, lit<, lit≤, Float, fin, binary64, round, add, sub, mul, div, neg, lt, le, eq, of_int}
-use Rattle.lists.specs.Prelude.{pos}
+use Rattle.std.specs.Prelude.{◌≡◌, ◌&&◌, ◌∷◌, ◌<◌}
+use Rattle.lists.specs.Prelude.{refl, sym, subst, Bool, true, false, List, [], map, mul-pos, arith, T, lit<, lit≤}
+use Rattle.lists.specs.Prelude.{Float, fin, binary64, round, add, sub, mul, div, neg, lt, le, eq, of_int, pos}
 use lib.Ieee.Fits.{and_l, and_r}
 use Rattle.formats.specs.Floats.{float}
 use Rattle.fractions.specs.Fraction.{Fraction, number, whole, magnitude, ◌⊗◌, Same, AtMost}

@@ -1,7 +1,8 @@
 -- What the crates above cite of the coefficients, beside their promise: which orders and directions are accepted, that
 -- each coefficient is nearer its formula than promised, and how large the formula is. Assumes nothing.
-use Rattle.lists.specs.Prelude.{◌≡◌, sym, ap, ◌∙◌, subst, Bool, true, false, ◌||◌, cond, List, ℕ, ◌≤◌, ◌<◌, arith, pos}
-use Rattle.lists.specs.Prelude.{lit<, length, get_or, Float, binary64, round, of_int}
+use Rattle.std.specs.Prelude.{◌≡◌, ◌||◌, ◌≤◌, ◌<◌}
+use Rattle.lists.specs.Prelude.{sym, ap, ◌∙◌, subst, Bool, true, false, cond, List, ℕ, arith, pos, lit<, length, get_or}
+use Rattle.lists.specs.Prelude.{Float, binary64, round, of_int}
 use lib.Ieee.Exact.{HasValue}
 use lib.Ieee.Back.{round_whole}
 use Rattle.formats.specs.Floats.{float}

@@ -1,7 +1,8 @@
 -- The promise is kept: all of it holds of the answer that the definition gives, and so of the three answers that the
 -- program can give. Assumes nothing.
-use Rattle.lists.specs.Prelude.{◌≡◌, refl, sym, ap, ◌∙◌, subst, Bool, true, false, cond, List, [], ◌∷◌, ℕ, ◌<◌, pos}
-use Rattle.lists.specs.Prelude.{lit<, lit≤, length, Float, of_int}
+use Rattle.std.specs.Prelude.{◌≡◌, ◌∷◌, ◌<◌}
+use Rattle.lists.specs.Prelude.{refl, sym, ap, ◌∙◌, subst, Bool, true, false, cond, List, [], ℕ, pos, lit<, lit≤}
+use Rattle.lists.specs.Prelude.{length, Float, of_int}
 use Rattle.formats.specs.Floats.{float}
 use Rattle.refusals.specs.Refusals.{◌when◌, answered}
 use Rattle.refusals.proofs.First.{or_off, answered_accepted, answered_number}

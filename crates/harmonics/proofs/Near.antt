@@ -1,8 +1,9 @@
 -- Each computed coefficient is within 2 ^ -42 of document 01's formula, which is 5 in magnitude at most. The nine sines
 -- and cosines are known by the promise of `angles`, those of 2 and 3 times an angle carried from the rounded product to
 -- the exact one; the sixteen are then expressions over them, and their bound is computed. Assumes nothing.
-use Rattle.lists.specs.Prelude.{◌≡◌, refl, sym, ap, ◌∙◌, subst, subst₂, false, List, [], ◌∷◌, map, ℕ, ◌^◌, ◌≤◌, ◌<◌, T}
-use Rattle.lists.specs.Prelude.{lit≤, lit<, length, get_or, set, Float, binary64, mul, round, of_int}
+use Rattle.std.specs.Prelude.{◌≡◌, ◌∷◌, ◌^◌, ◌≤◌, ◌<◌}
+use Rattle.lists.specs.Prelude.{refl, sym, ap, ◌∙◌, subst, subst₂, false, List, [], map, ℕ, T, lit≤, lit<, length}
+use Rattle.lists.specs.Prelude.{get_or, set, Float, binary64, mul, round, of_int}
 use Rattle.channel.specs.Orders.{refuses_order}
 use Rattle.channel.proofs.Orders.{by_order_lem}
 use Rattle.lists.specs.Tables.{every}

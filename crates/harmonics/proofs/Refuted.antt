@@ -1,6 +1,7 @@
 -- Wrong ways to answer, each held against the promise on an input where it breaks it. Assumes nothing.
-use Rattle.lists.specs.Prelude.{◌≡◌, refl, sym, ap, ◌∙◌, Bool, true, false, true≢false, List, ◌∷◌, ℕ, arith, le→leb}
-use Rattle.lists.specs.Prelude.{negsuc, Float, nan, fin, lt, le, eq, neg, of_int}
+use Rattle.std.specs.Prelude.{◌≡◌, ◌∷◌}
+use Rattle.lists.specs.Prelude.{refl, sym, ap, ◌∙◌, Bool, true, false, true≢false, List, ℕ, arith, le→leb, negsuc}
+use Rattle.lists.specs.Prelude.{Float, nan, fin, lt, le, eq, neg, of_int}
 use Rattle.refusals.proofs.First.{or_off}
 use Rattle.formats.specs.Floats.{zero_float}
 use Rattle.series.specs.Sums.{sine_sum, term, power, factorial}

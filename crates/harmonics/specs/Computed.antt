@@ -1,6 +1,7 @@
 -- What the program computes, operation by operation, in f64. Nobody has to believe it: specs/Promise.antt ties the
 -- sixteen to document 01's formulas. Definitions only.
-use Rattle.lists.specs.Prelude.{ℕ, List, [], ◌∷◌, pos, Float, binary64, sub, mul}
+use Rattle.std.specs.Prelude.{◌∷◌}
+use Rattle.lists.specs.Prelude.{ℕ, List, [], pos, Float, binary64, sub, mul}
 use Rattle.formats.specs.Floats.{zero_float, one_float, half_float, float, decimal}
 use Rattle.series.specs.Sums.{sine, cosine}
 use Rattle.angles.specs.Promise.{outcome}

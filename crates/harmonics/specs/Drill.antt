@@ -1,7 +1,8 @@
 -- Document 01, 'Marked drill table', items 1 to 3: "1. Order 3 at (0,0): channels 0, 3, 6, 8, 13, 15 are 1, 1, -0.5, h,
 -- -m, q; the rest 0. 2. Order 1 at (90,0): 1, 1, 0, 0. 3. Elevation 90: channels 2, 6, 12 are 1; 1 and 3 are 0."
 -- Definitions only. A float is told by its number, since some of the zeros have a sign.
-use Rattle.lists.specs.Prelude.{ℕ, List, [], ◌∷◌, map, pos, get_or}
+use Rattle.std.specs.Prelude.{◌∷◌}
+use Rattle.lists.specs.Prelude.{ℕ, List, [], map, pos, get_or}
 use Rattle.lists.specs.Pairwise.{Pairwise}
 use Rattle.formats.specs.Floats.{float, decimal}
 use Rattle.fractions.specs.Fraction.{Fraction, fraction, number, whole, opposite, Same}

@@ -4,7 +4,8 @@
 -- cos a; 14: as 10 with cos 2a; 15: q cos³e cos 3a. The constants h, q, o, m are 0.8660254037844386,
 -- 0.7905694150420949, 1.9364916731037085, 0.6123724356957945." Over the defined sums, angles in degrees. Definitions
 -- only.
-use Rattle.lists.specs.Prelude.{ℕ, ◌^◌, List, [], ◌∷◌, ◌++◌, map, cond, leb}
+use Rattle.std.specs.Prelude.{◌^◌, ◌∷◌, ◌++◌}
+use Rattle.lists.specs.Prelude.{ℕ, List, [], map, cond, leb}
 use Rattle.fractions.specs.Fraction.{Fraction, fraction, whole, square, ◌⊖◌, ◌⊗◌, ◌⊘◌}
 use Rattle.series.specs.Angles.{defined_sine, defined_cosine}
 

@@ -2,7 +2,8 @@
 -- NaN or infinite, or azimuth is outside -180..180, elevation outside -90..90", and "A refusal returns its number, [..]
 -- 0.0 for any number or gain". 'Gains', harmonics: "Within 2^-34 of the formula over the defined sums." Definitions
 -- only.
-use Rattle.lists.specs.Prelude.{ℕ, ◌≡◌, Bool, ◌||◌, List, [], ◌∷◌, pos, replicate, Float}
+use Rattle.std.specs.Prelude.{◌≡◌, ◌||◌, ◌∷◌}
+use Rattle.lists.specs.Prelude.{ℕ, Bool, List, [], pos, replicate, Float}
 use Rattle.refusals.specs.Refusals.{first_of, ◌when◌, answered}
 use Rattle.channel.specs.Orders.{refuses_order}
 use Rattle.fractions.specs.Fraction.{number, EachWithin}

@@ -1,6 +1,7 @@
 -- The loop over the speakers: each ear's parts are added to its own sum, and the sums become the ears' samples. Assumes
 -- nothing.
-use Rattle.lists.specs.Prelude.{◌≡◌, ap, ◌∙◌, List, [], ℕ, ◌+◌, ◌≤◌, ◌<◌, get_or, Float, binary64, add, mul}
+use Rattle.std.specs.Prelude.{◌≡◌, ◌+◌, ◌≤◌, ◌<◌}
+use Rattle.lists.specs.Prelude.{ap, ◌∙◌, List, [], ℕ, get_or, Float, binary64, add, mul}
 use Rattle.formats.specs.Floats.{zero_float}
 use Rattle.numbers.specs.Computed.{narrowed}
 use Rattle.numbers.specs.Normalization.{inverse_root_of}

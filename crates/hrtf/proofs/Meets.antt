@@ -1,7 +1,8 @@
 -- From what the block leaves to what `process` promises, and from filled rings to what `reset` promises. What document
 -- 01 says besides of a call: zero frames change nothing, and frames beyond the count are as they were. Assumes nothing.
-use Rattle.lists.specs.Prelude.{◌≡◌, refl, sym, ap, ◌∙◌, subst, List, [], ℕ, zero, suc, ◌*◌, ◌≤◌, ◌<◌, zero-add, arith}
-use Rattle.lists.specs.Prelude.{length, get_or, replicate, take, Float, nan}
+use Rattle.std.specs.Prelude.{◌≡◌, ◌*◌, ◌≤◌, ◌<◌}
+use Rattle.lists.specs.Prelude.{refl, sym, ap, ◌∙◌, subst, List, [], ℕ, zero, suc, zero-add, arith, length, get_or}
+use Rattle.lists.specs.Prelude.{replicate, take, Float, nan}
 use Rattle.formats.specs.Floats.{zero_float}
 use Rattle.refusals.proofs.First.{answered_refused}
 use Rattle.refusals.proofs.Chains.{Off, FirstAt, number_at, first_holds, off_accepts, none_holds}

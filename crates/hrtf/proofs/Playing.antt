@@ -1,7 +1,8 @@
 -- What one frame makes of rings, ears and desk, and what the loop of `block` keeps: the frames that are left, played
 -- from here, give what the block promises. Assumes nothing.
-use Rattle.lists.specs.Prelude.{◌≡◌, refl, sym, ap, ◌∙◌, subst, Bool, ◌||◌, cond, List, [], ◌∷◌, ℕ, suc, ◌+◌, ◌≤◌, ◌<◌}
-use Rattle.lists.specs.Prelude.{zero-le, zero-add, add-zero, add_assoc, arith, ltb, length, Float}
+use Rattle.std.specs.Prelude.{◌≡◌, ◌||◌, ◌∷◌, ◌+◌, ◌≤◌, ◌<◌}
+use Rattle.lists.specs.Prelude.{refl, sym, ap, ◌∙◌, subst, Bool, cond, List, [], ℕ, suc, zero-le, zero-add, add-zero}
+use Rattle.lists.specs.Prelude.{add_assoc, arith, ltb, length, Float}
 use Rattle.planes.specs.Planes.{frame_at, with_sample, with_frame, FramePut, with_frames}
 use Rattle.lists.proofs.LoopOverTable.{LoopOverTable, loop-none, loop-more, loop-all}
 use Rattle.lists.proofs.Lists.{one_at_most}

@@ -1,7 +1,8 @@
 -- What the promises rule out whatever is played: a sample count of one's own, a desk that stays where one frame is
 -- played, a reset that leaves something in a ring or a frame to go, and one that takes nine speakers. Assumes nothing.
-use Rattle.lists.specs.Prelude.{◌≡◌, sym, ap, ◌∙◌, List, ⊎_elim, ℕ, suc, ◌+◌, ◌%◌, ◌≤◌, ◌<◌, suc-ne-zero, mod-eq_of_lt}
-use Rattle.lists.specs.Prelude.{mod_self, arith, length, get_or, get_or-replicate, Float, nan}
+use Rattle.std.specs.Prelude.{◌≡◌, ◌+◌, ◌%◌, ◌≤◌, ◌<◌}
+use Rattle.lists.specs.Prelude.{sym, ap, ◌∙◌, List, ⊎_elim, ℕ, suc, suc-ne-zero, mod-eq_of_lt, mod_self, arith, length}
+use Rattle.lists.specs.Prelude.{get_or, get_or-replicate, Float, nan}
 use Rattle.formats.specs.Floats.{zero_float}
 use Rattle.lists.proofs.Lists.{less_or_at_most}
 use Rattle.lists.proofs.Tables.{length_tab}

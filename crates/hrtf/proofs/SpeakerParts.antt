@@ -1,8 +1,9 @@
 -- Both ears' parts of one speaker: taps that go with cells, the two straight runs for each ear, and where a speaker's
 -- ring and taps stand in the lent lists. Assumes nothing.
-use Rattle.lists.specs.Prelude.{◌≡◌, sym, ap, ◌∙◌, not, ◌&&◌, List, reverse, ℕ, ◌+◌, ◌-◌, ◌*◌, ◌≤◌, ◌<◌, min, add-zero}
-use Rattle.lists.specs.Prelude.{mul-le-mul_left, mul-one, suc-mul, add-one, arith, T, length, get_or, take, drop}
-use Rattle.lists.specs.Prelude.{length-take, length-drop, length-reverse, Float, nan, binary32, binary64, is_nan, fits}
+use Rattle.std.specs.Prelude.{◌≡◌, ◌&&◌, ◌+◌, ◌-◌, ◌*◌, ◌≤◌, ◌<◌}
+use Rattle.lists.specs.Prelude.{sym, ap, ◌∙◌, not, List, reverse, ℕ, min, add-zero, mul-le-mul_left, mul-one, suc-mul}
+use Rattle.lists.specs.Prelude.{add-one, arith, T, length, get_or, take, drop, length-take, length-drop, length-reverse}
+use Rattle.lists.specs.Prelude.{Float, nan, binary32, binary64, is_nan, fits}
 use lib.Ieee.Fits.{and_i, fits_widens}
 use Rattle.formats.specs.Floats.{zero_float}
 use Rattle.formats.proofs.Patterns.{finite_no_nan}

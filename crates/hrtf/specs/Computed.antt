@@ -1,6 +1,7 @@
 -- What the functions under `process` ask and leave. Definitions only; they speak of the program, and nobody has to
 -- believe them.
-use Rattle.lists.specs.Prelude.{◌≡◌, ℕ, ◌+◌, ◌*◌, ◌<◌, Bool, false, cond, List, [], length, Float}
+use Rattle.std.specs.Prelude.{◌≡◌, ◌+◌, ◌*◌, ◌<◌}
+use Rattle.lists.specs.Prelude.{ℕ, Bool, false, cond, List, [], length, Float}
 use Rattle.formats.specs.Floats.{zero_float}
 use Rattle.checks.specs.Finite.{has_nonfinite}
 use Rattle.planes.specs.Planes.{with_frame, with_frames}

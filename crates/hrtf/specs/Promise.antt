@@ -2,7 +2,8 @@
 -- returns that number as its sample count. Zero frames is accepted and changes nothing. Frames of a plane beyond the
 -- count are unchanged"; "A refusal returns its number, counts of 0, .. and the state given in; lent memory stays the
 -- same." Definitions only.
-use Rattle.lists.specs.Prelude.{ℕ, ◌≡◌, List, [], Float}
+use Rattle.std.specs.Prelude.{◌≡◌}
+use Rattle.lists.specs.Prelude.{ℕ, List, [], Float}
 use Rattle.refusals.specs.Refusals.{answered}
 use Rattle.planes.specs.Planes.{with_frames}
 use Rattle.hrtf_history.specs.History.{heard, unsettled_in, after}

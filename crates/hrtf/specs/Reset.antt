@@ -1,5 +1,6 @@
 -- Document 01: "Reset makes every ring 0.0, both numbers 0", and of its refusals 2, 4 and 5. Definitions only.
-use Rattle.lists.specs.Prelude.{ℕ, ◌*◌, ◌≡◌, not, List, [], ◌∷◌, eqb, length, replicate, Float}
+use Rattle.std.specs.Prelude.{◌*◌, ◌≡◌, ◌∷◌}
+use Rattle.lists.specs.Prelude.{ℕ, not, List, [], eqb, length, replicate, Float}
 use Rattle.formats.specs.Floats.{zero_float}
 use Rattle.refusals.specs.Refusals.{Check, first_of, ◌when◌, answered, outside}
 use Rattle.hrtf_desk.specs.declared.Desk.{Desk}

@@ -1,7 +1,8 @@
 -- What the tests of a call show: which number is given, and that the lent lists of a call that none refuses fit.
 -- Assumes nothing.
-use Rattle.lists.specs.Prelude.{◌≡◌, sym, subst, Bool, false, not, ◌||◌, List, ℕ, ◌*◌, ◌≤◌, ◌<◌, zero-add, leb-false}
-use Rattle.lists.specs.Prelude.{lt-leb, leb, eqb, length, get_or}
+use Rattle.std.specs.Prelude.{◌≡◌, ◌||◌, ◌*◌, ◌≤◌, ◌<◌}
+use Rattle.lists.specs.Prelude.{sym, subst, Bool, false, not, List, ℕ, zero-add, leb-false, lt-leb, leb, eqb, length}
+use Rattle.lists.specs.Prelude.{get_or}
 use Rattle.refusals.specs.Refusals.{outside}
 use Rattle.refusals.proofs.Chains.{Off, FirstAt, number_at, first_holds, off_accepts, none_holds}
 use Rattle.checks.specs.Finite.{has_nonfinite}

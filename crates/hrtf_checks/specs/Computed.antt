@@ -1,6 +1,7 @@
 -- What playing a call asks, which the functions under `hrtf::process` go by. Definitions only; nobody has to believe
 -- them.
-use Rattle.lists.specs.Prelude.{ℕ, ◌*◌, ◌≤◌, ◌<◌, ◌≡◌, List, length, get_or, Float}
+use Rattle.std.specs.Prelude.{◌*◌, ◌≤◌, ◌<◌, ◌≡◌}
+use Rattle.lists.specs.Prelude.{ℕ, List, length, get_or, Float}
 use Rattle.hrtf_checks.specs.declared.ConvolverShape.{ConvolverShape}
 
 -- what a call that is accepted has made sure of: speakers, rows, taps, rings and position

@@ -1,5 +1,6 @@
 -- Document 01, 'Refusal numbers', those whose argument `process` has: 2, 4, 5, 7 and 8. Definitions only.
-use Rattle.lists.specs.Prelude.{ℕ, ◌*◌, Bool, not, ◌||◌, List, [], ◌∷◌, leb, eqb, length, get_or}
+use Rattle.std.specs.Prelude.{◌*◌, ◌||◌, ◌∷◌}
+use Rattle.lists.specs.Prelude.{ℕ, Bool, not, List, [], leb, eqb, length, get_or}
 use Rattle.refusals.specs.Refusals.{Check, first_of, ◌when◌, outside}
 use Rattle.lists.specs.Tables.{tab, any}
 use Rattle.checks.specs.Finite.{has_nonfinite}

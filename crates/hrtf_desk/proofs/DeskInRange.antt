@@ -1,5 +1,6 @@
 -- A desk whose position is below L goes on: its position stays below L, and so do its frames to go. Assumes nothing.
-use Rattle.lists.specs.Prelude.{ℕ, ◌+◌, ◌%◌, ◌<◌, ◌≡◌, sym, ap, subst, Bool, true, false, cond, mod-lt, arith, lt-ltb}
+use Rattle.std.specs.Prelude.{◌+◌, ◌%◌, ◌<◌, ◌≡◌}
+use Rattle.lists.specs.Prelude.{ℕ, sym, ap, subst, Bool, true, false, cond, mod-lt, arith, lt-ltb}
 use Rattle.hrtf_desk.specs.declared.Desk.{Desk}
 use Rattle.hrtf_desk.specs.Numbers.{to_go_next, stepped_of}
 

@@ -1,6 +1,7 @@
 -- Wrong ways to go a frame on, each held against the record that `step` promises, in a ring of two or three cells.
 -- Assumes nothing.
-use Rattle.lists.specs.Prelude.{ℕ, arith, ◌≡◌, ap, Bool, true, false}
+use Rattle.std.specs.Prelude.{◌≡◌}
+use Rattle.lists.specs.Prelude.{ℕ, arith, ap, Bool, true, false}
 use Rattle.hrtf_desk.specs.declared.Desk.{Desk}
 use Rattle.hrtf_desk.specs.Numbers.{stepped_of}
 

@@ -1,6 +1,7 @@
 -- The two numbers of the desk's record. Document 01: "Reset makes every ring 0.0, both numbers 0", "damage leaves L-1
 -- frames to go", and "one small record, changed where it stands after each frame". Definitions only.
-use Rattle.lists.specs.Prelude.{ℕ, ◌+◌, ◌-◌, ◌%◌, Bool, cond, ltb}
+use Rattle.std.specs.Prelude.{◌+◌, ◌-◌, ◌%◌}
+use Rattle.lists.specs.Prelude.{ℕ, Bool, cond, ltb}
 use Rattle.hrtf_desk.specs.declared.Desk.{Desk}
 
 -- both numbers 0

@@ -1,8 +1,9 @@
 -- Drill table 8 and 9: "One speaker, weight 1, L = 2, left taps 1, 0.5, right 0, 1, samples 1, 0, 0: left 1, 0.5, 0;
 -- right 0, 1, 0", and "The same with NaN, 0, 0: two unsettled, then 0 and 0." By computing the definitions. Assumes
 -- nothing.
-use Rattle.lists.specs.Prelude.{◌≡◌, refl, false, true, [], ◌∷◌, nan, add, mul, div, sum, round, size, span, climb}
-use Rattle.lists.specs.Prelude.{units, odd, of_int}
+use Rattle.std.specs.Prelude.{◌≡◌, ◌∷◌}
+use Rattle.lists.specs.Prelude.{refl, false, true, [], nan, add, mul, div, sum, round, size, span, climb, units, odd}
+use Rattle.lists.specs.Prelude.{of_int}
 use Rattle.formats.specs.Floats.{zero_float, one_float, half_float}
 use Rattle.numbers.specs.Computed.{rounded, root_of, root_units, whole_root, root_in}
 use Rattle.planes.specs.Sums.{mixed}

@@ -1,5 +1,6 @@
 -- Set-ups with the same filters: whatever looks at counts, L and weights alone is the same of the two. Assumes nothing.
-use Rattle.lists.specs.Prelude.{ℕ, ◌<◌, ◌≡◌, refl, sym, ap, ◌∙◌}
+use Rattle.std.specs.Prelude.{◌<◌, ◌≡◌}
+use Rattle.lists.specs.Prelude.{ℕ, refl, sym, ap, ◌∙◌}
 use Rattle.hrtf_history.specs.Setup.{Setup, SameFilters, taps_of}
 
 pub same_filters : (u : Setup) → SameFilters u u

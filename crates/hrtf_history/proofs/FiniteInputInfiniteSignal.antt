@@ -1,7 +1,8 @@
 -- Damage is judged on the signals: the largest f32, at a weight of 2.0, is a finite sample whose signal narrows to an
 -- infinite one. By computing the definitions. Assumes nothing.
-use Rattle.lists.specs.Prelude.{◌≡◌, refl, false, true, [], ◌∷◌, pos, Float, fin, add, mul, sum, round, size, span}
-use Rattle.lists.specs.Prelude.{climb, units, odd}
+use Rattle.std.specs.Prelude.{◌≡◌, ◌∷◌}
+use Rattle.lists.specs.Prelude.{refl, false, true, [], pos, Float, fin, add, mul, sum, round, size, span, climb, units}
+use Rattle.lists.specs.Prelude.{odd}
 use Rattle.numbers.specs.Computed.{rounded}
 use Rattle.checks.specs.Finite.{has_nonfinite}
 use Rattle.planes.specs.Sums.{mixed}

@@ -1,8 +1,9 @@
 -- The order of each sum tells: on worked numbers 1, 2^60 and -2^60 the document's order gives 0.0, where the other way
 -- round gives 1.0. And a signal is narrowed: 1 + 2^-24 is no f32; and the sum is times 1.0/root(speakers), which is not
 -- the same as divided by the root, or by that. By computing the definitions. Assumes nothing.
-use Rattle.lists.specs.Prelude.{◌≡◌, refl, true, false, cond, List, [], ◌∷◌, ◌++◌, reverse, pos, negsuc, eqb, Float}
-use Rattle.lists.specs.Prelude.{fin, binary64, add, mul, div, sum, round, size, span, climb, units, odd, of_int}
+use Rattle.std.specs.Prelude.{◌≡◌, ◌∷◌, ◌++◌}
+use Rattle.lists.specs.Prelude.{refl, true, false, cond, List, [], reverse, pos, negsuc, eqb, Float, fin, binary64, add}
+use Rattle.lists.specs.Prelude.{mul, div, sum, round, size, span, climb, units, odd, of_int}
 use Rattle.formats.specs.Floats.{zero_float, one_float, float}
 use Rattle.numbers.specs.Computed.{rounded, narrowed, root_of, root_units, whole_root, root_in}
 use Rattle.planes.specs.Sums.{dot, total, mixed}

@@ -1,8 +1,9 @@
 -- Frames taken in pieces: what is heard of two pieces is what is heard of the whole, frame by frame, and so is which
 -- frames are unsettled. Assumes nothing.
-use Rattle.lists.specs.Prelude.{◌≡◌, refl, sym, ap, ◌∙◌, subst, Bool, false, ◌||◌, or-false, List, [], ◌∷◌, ◌++◌, map}
-use Rattle.lists.specs.Prelude.{ℕ, zero, suc, ◌+◌, ◌*◌, ◌≤◌, ◌<◌, not-suc-le-zero, le_of_suc-le-suc, add-zero, arith}
-use Rattle.lists.specs.Prelude.{lt-leb, length, get_or, take, drop, Float}
+use Rattle.std.specs.Prelude.{◌≡◌, ◌||◌, ◌∷◌, ◌++◌, ◌+◌, ◌*◌, ◌≤◌, ◌<◌}
+use Rattle.lists.specs.Prelude.{refl, sym, ap, ◌∙◌, subst, Bool, false, or-false, List, [], map, ℕ, zero, suc}
+use Rattle.lists.specs.Prelude.{not-suc-le-zero, le_of_suc-le-suc, add-zero, arith, lt-leb, length, get_or, take, drop}
+use Rattle.lists.specs.Prelude.{Float}
 use Rattle.lists.specs.Tables.{tab, any, count}
 use Rattle.checks.specs.Finite.{has_nonfinite}
 use Rattle.planes.specs.Planes.{frames_of, with_frames}

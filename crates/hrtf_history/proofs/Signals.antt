@@ -1,5 +1,6 @@
 -- A frame has a signal for each speaker. Assumes nothing.
-use Rattle.lists.specs.Prelude.{◌≡◌, ap, ◌∙◌, List, ℕ, ◌<◌, zero-add, length, get_or, Float}
+use Rattle.std.specs.Prelude.{◌≡◌, ◌<◌}
+use Rattle.lists.specs.Prelude.{ap, ◌∙◌, List, ℕ, zero-add, length, get_or, Float}
 use Rattle.lists.proofs.Tables.{length_tab, get_or_tab}
 use Rattle.hrtf_history.specs.Setup.{Setup}
 use Rattle.hrtf_history.specs.Signals.{signal, signals}

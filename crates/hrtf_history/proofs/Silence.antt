@@ -1,7 +1,8 @@
 -- With finite weights a frame of silence has the signal 0.0 at every speaker, and is no damage. So silence before the
 -- first frame is silence like any other. Assumes nothing.
-use Rattle.lists.specs.Prelude.{◌≡◌, refl, sym, ap, ◌∙◌, Bool, false, ◌||◌, List, [], ◌∷◌, map, reverse_aux, ℕ, zero}
-use Rattle.lists.specs.Prelude.{suc, ◌*◌, ◌<◌, arith, take, drop, Float}
+use Rattle.std.specs.Prelude.{◌≡◌, ◌||◌, ◌∷◌, ◌*◌, ◌<◌}
+use Rattle.lists.specs.Prelude.{refl, sym, ap, ◌∙◌, Bool, false, List, [], map, reverse_aux, ℕ, zero, suc, arith, take}
+use Rattle.lists.specs.Prelude.{drop, Float}
 use lib.Ieee.Scale.{finite}
 use Rattle.formats.specs.Floats.{zero_float}
 use Rattle.lists.specs.Tables.{tab, any}

@@ -1,7 +1,8 @@
 -- The last L frames: a frame more goes before all but the oldest, and what an ear hears is known by them. Assumes
 -- nothing.
-use Rattle.lists.specs.Prelude.{◌≡◌, sym, ap, ◌∙◌, List, ◌∷◌, ℕ, zero, suc, ◌-◌, ◌<◌, not-suc-le-zero, sub-one, arith}
-use Rattle.lists.specs.Prelude.{get_or, take, Float, binary64, mul}
+use Rattle.std.specs.Prelude.{◌≡◌, ◌∷◌, ◌-◌, ◌<◌}
+use Rattle.lists.specs.Prelude.{sym, ap, ◌∙◌, List, ℕ, zero, suc, not-suc-le-zero, sub-one, arith, get_or, take, Float}
+use Rattle.lists.specs.Prelude.{binary64, mul}
 use Rattle.formats.specs.Floats.{zero_float}
 use Rattle.numbers.specs.Computed.{narrowed}
 use Rattle.lists.specs.Tables.{tab}

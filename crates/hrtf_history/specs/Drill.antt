@@ -1,6 +1,7 @@
 -- Document 01, 'Marked drill table' 8 and 9, what is played there: "One speaker, weight 1, L = 2, left taps 1, 0.5,
 -- right 0, 1, samples 1, 0, 0", and "The same with NaN, 0, 0". Definitions only.
-use Rattle.lists.specs.Prelude.{List, [], ◌∷◌, Float}
+use Rattle.std.specs.Prelude.{◌∷◌}
+use Rattle.lists.specs.Prelude.{List, [], Float}
 use Rattle.formats.specs.Floats.{zero_float, one_float, half_float}
 use Rattle.hrtf_history.specs.Setup.{Setup}
 

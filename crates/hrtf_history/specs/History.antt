@@ -3,9 +3,9 @@
 -- sample"; and, of the unsettled count, "equal to a definition over the last L frames of history". Definitions only. A
 -- past is the list of the signals of the frames so far, one for each speaker, the newest frame first. Before the first
 -- there was silence: every signal 0.0.
-use Rattle.lists.specs.Prelude.{ℕ, suc, ◌+◌, Bool, ◌||◌, List, [], ◌∷◌, map, reverse_aux, leb, length, get_or, take}
-use Rattle.lists.specs.Prelude.{Float}
-use Rattle.lists.specs.Prelude.{binary64, mul}
+use Rattle.std.specs.Prelude.{◌+◌, ◌||◌, ◌∷◌}
+use Rattle.lists.specs.Prelude.{ℕ, suc, Bool, List, [], map, reverse_aux, leb, length, get_or, take, Float, binary64}
+use Rattle.lists.specs.Prelude.{mul}
 use Rattle.formats.specs.Floats.{zero_float}
 use Rattle.numbers.specs.Computed.{narrowed}
 use Rattle.lists.specs.Tables.{tab, any, count}

@@ -1,7 +1,8 @@
 -- What stays the same from frame to frame: how many channels and speakers there are, the filters' length L, the weights
 -- (speakers x channels), the bank's taps (2 x bank rows x L: for each row L left taps and then L right taps), and the
 -- row of each speaker. Definitions only.
-use Rattle.lists.specs.Prelude.{ℕ, ◌+◌, ◌*◌, ◌<◌, ◌≡◌, List, get_or, Float}
+use Rattle.std.specs.Prelude.{◌+◌, ◌*◌, ◌<◌, ◌≡◌}
+use Rattle.lists.specs.Prelude.{ℕ, List, get_or, Float}
 use Rattle.lists.specs.Tables.{chunk}
 
 pub record Setup : Type 0 where

@@ -1,9 +1,10 @@
 -- From every state the program's steps give document 01's sums (`played_held`), leave rings with the newest L frames
 -- (`left_is`) and count the unsettled frames (`counted_is`). Then the same over a past that a state stands for, and
 -- over frames that are played in two pieces. Assumes nothing.
-use Rattle.lists.specs.Prelude.{◌≡◌, refl, sym, ap, ◌∙◌, subst, List, [], ◌∷◌, ◌++◌, map, reverse, ℕ, ◌+◌, ◌-◌, ◌*◌}
-use Rattle.lists.specs.Prelude.{◌%◌, ◌≤◌, ◌<◌, add-zero, mod-add-mod, mod-eq_of_lt, mul-le-mul_right, suc-mul, arith}
-use Rattle.lists.specs.Prelude.{length, take, replicate, length-replicate, Float}
+use Rattle.std.specs.Prelude.{◌≡◌, ◌∷◌, ◌++◌, ◌+◌, ◌-◌, ◌*◌, ◌%◌, ◌≤◌, ◌<◌}
+use Rattle.lists.specs.Prelude.{refl, sym, ap, ◌∙◌, subst, List, [], map, reverse, ℕ, add-zero, mod-add-mod}
+use Rattle.lists.specs.Prelude.{mod-eq_of_lt, mul-le-mul_right, suc-mul, arith, length, take, replicate}
+use Rattle.lists.specs.Prelude.{length-replicate, Float}
 use Rattle.formats.specs.Floats.{zero_float}
 use Rattle.lists.specs.Tables.{chunk, count}
 use Rattle.lists.proofs.Lists.{reverse_replicate, take_replicate, drop_replicate}

@@ -1,5 +1,6 @@
 -- Set-ups with the same filters do the same with the same rings and desk, frame by frame. Assumes nothing.
-use Rattle.lists.specs.Prelude.{ℕ, suc, ◌<◌, arith, ◌≡◌, refl, ap, ◌∙◌, List, [], ◌∷◌, Float}
+use Rattle.std.specs.Prelude.{◌<◌, ◌≡◌, ◌∷◌}
+use Rattle.lists.specs.Prelude.{ℕ, suc, arith, refl, ap, ◌∙◌, List, [], Float}
 use Rattle.formats.specs.Floats.{zero_float}
 use Rattle.lists.specs.Tables.{chunk, count}
 use Rattle.planes.specs.Sums.{dot}

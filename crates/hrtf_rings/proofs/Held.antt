@@ -1,10 +1,9 @@
 -- What is read out of rings and put back: every state holds what `held_in` reads out of it, `rings_of` gives the rings
 -- again, and what is read out of rings that hold a past is its last L frames. Assumes nothing.
-use Rattle.lists.specs.Prelude.{◌≡◌, sym, ap, ◌∙◌, List, [], ◌++◌, flatten, ℕ, zero, suc, ◌+◌, ◌*◌, ◌≤◌, ◌<◌}
-use Rattle.lists.specs.Prelude.{not-suc-le-zero, le_of_suc-le-suc, zero-add, add-zero, zero-mul, suc-mul, arith, length}
-use Rattle.lists.specs.Prelude.{get_or, take, drop, length-append, take-add, take_all, take_at, drop_at, drop-drop}
-use Rattle.lists.specs.Prelude.{Float}
-use Rattle.lists.specs.Prelude.{nan}
+use Rattle.std.specs.Prelude.{◌≡◌, ◌++◌, ◌+◌, ◌*◌, ◌≤◌, ◌<◌}
+use Rattle.lists.specs.Prelude.{sym, ap, ◌∙◌, List, [], flatten, ℕ, zero, suc, not-suc-le-zero, le_of_suc-le-suc}
+use Rattle.lists.specs.Prelude.{zero-add, add-zero, zero-mul, suc-mul, arith, length, get_or, take, drop, length-append}
+use Rattle.lists.specs.Prelude.{take-add, take_all, take_at, drop_at, drop-drop, Float, nan}
 use Rattle.formats.specs.Floats.{zero_float}
 use Rattle.lists.specs.Tables.{tab, chunk}
 use Rattle.lists.proofs.Tables.{length_tab, get_or_tab, tab_ext, tab_is, length_chunk}

@@ -2,9 +2,10 @@
 -- 3F800000, DD800000), newest at 0, taps 1, 1, 1. The promise gives 1.0 there, and each of these 0.0. The first two are
 -- equal to it in algebra, and the others where all taps are the same. And wrong lengths of the first run. Assumes
 -- nothing.
-use Rattle.lists.specs.Prelude.{ℕ, suc, min, arith, ◌≡◌, refl, sym, ap, ◌∙◌, true, false, true≢false, List, [], ◌∷◌}
-use Rattle.lists.specs.Prelude.{◌++◌, map, reverse, pos, take, drop, Float, fin, binary32, binary64, add, mul, sum}
-use Rattle.lists.specs.Prelude.{round, size, span, climb, units, odd, of_bits}
+use Rattle.std.specs.Prelude.{◌≡◌, ◌∷◌, ◌++◌}
+use Rattle.lists.specs.Prelude.{ℕ, suc, min, arith, refl, sym, ap, ◌∙◌, true, false, true≢false, List, [], map, reverse}
+use Rattle.lists.specs.Prelude.{pos, take, drop, Float, fin, binary32, binary64, add, mul, sum, round, size, span}
+use Rattle.lists.specs.Prelude.{climb, units, odd, of_bits}
 use lib.Ieee.Positive.{positive}
 use Rattle.formats.specs.Floats.{zero_float, one_float}
 use Rattle.planes.specs.Sums.{dot}

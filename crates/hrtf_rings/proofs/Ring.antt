@@ -1,11 +1,11 @@
 -- One ring, read from its newest signal: writing at the position puts a signal before all but the oldest, and the
 -- position after the last cell is the first. Assumes nothing.
-use Rattle.lists.specs.Prelude.{◌≡◌, sym, ap, ◌∙◌, ⊎_elim, List, [], ◌∷◌, ◌++◌, reverse, reverse-cons, reverse-append}
-use Rattle.lists.specs.Prelude.{reverse-reverse, append-nil, append_assoc, ℕ, suc, ◌+◌, ◌-◌, ◌%◌, ◌≤◌, ◌<◌}
-use Rattle.lists.specs.Prelude.{mod-eq_of_lt, mod_self, add-one, arith, length, get_or, set, take, drop, length-take}
-use Rattle.lists.specs.Prelude.{length-drop, length-append, length-reverse, take-append-drop, drop_of_length-le}
-use Rattle.lists.specs.Prelude.{take_all, take-suc-set, drop-set-lt, drop-cons, take_at, drop_at, length-take-le, Float}
-use Rattle.lists.specs.Prelude.{nan}
+use Rattle.std.specs.Prelude.{◌≡◌, ◌∷◌, ◌++◌, ◌+◌, ◌-◌, ◌%◌, ◌≤◌, ◌<◌}
+use Rattle.lists.specs.Prelude.{sym, ap, ◌∙◌, ⊎_elim, List, [], reverse, reverse-cons, reverse-append, reverse-reverse}
+use Rattle.lists.specs.Prelude.{append-nil, append_assoc, ℕ, suc, mod-eq_of_lt, mod_self, add-one, arith, length}
+use Rattle.lists.specs.Prelude.{get_or, set, take, drop, length-take, length-drop, length-append, length-reverse}
+use Rattle.lists.specs.Prelude.{take-append-drop, drop_of_length-le, take_all, take-suc-set, drop-set-lt, drop-cons}
+use Rattle.lists.specs.Prelude.{take_at, drop_at, length-take-le, Float, nan}
 use Rattle.lists.proofs.Lists.{less_or_at_most}
 use Rattle.hrtf_rings.specs.Unrolled.{unrolled}
 

@@ -1,7 +1,8 @@
 -- Rings hold a past: a frame keeps that so with its signals before the rest, and what is read out is document 01's sums
 -- over it. Desk and frames to go likewise. Assumes nothing.
-use Rattle.lists.specs.Prelude.{◌≡◌, sym, ap, ◌∙◌, subst, Bool, ◌||◌, cond, or_assoc, List, [], ◌∷◌, map, ℕ, suc, ◌+◌}
-use Rattle.lists.specs.Prelude.{◌-◌, ◌*◌, ◌%◌, ◌<◌, zero-add, arith, ltb, length, set, take, length-map, Float, nan}
+use Rattle.std.specs.Prelude.{◌≡◌, ◌||◌, ◌∷◌, ◌+◌, ◌-◌, ◌*◌, ◌%◌, ◌<◌}
+use Rattle.lists.specs.Prelude.{sym, ap, ◌∙◌, subst, Bool, cond, or_assoc, List, [], map, ℕ, suc, zero-add, arith, ltb}
+use Rattle.lists.specs.Prelude.{length, set, take, length-map, Float, nan}
 use Rattle.formats.specs.Floats.{zero_float}
 use Rattle.lists.specs.Tables.{any, chunk}
 use Rattle.checks.specs.Finite.{has_nonfinite}

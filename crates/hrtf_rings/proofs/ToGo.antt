@@ -1,8 +1,8 @@
 -- More than j frames are to go exactly if a damaged one is among the newest L - 1 - j, or if more than j plus the
 -- number of these frames were to go before them (`to_go_any`). Assumes nothing.
-use Rattle.lists.specs.Prelude.{◌≡◌, sym, ap, ◌∙◌, ⊎_elim, Bool, true, false, ◌||◌, List, [], ◌∷◌, ℕ, zero, suc, ◌+◌}
-use Rattle.lists.specs.Prelude.{◌-◌, ◌≤◌, ◌<◌, not-suc-le-zero, add-zero, sub-one, arith, lt-ltb, le-ltb, ltb, length}
-use Rattle.lists.specs.Prelude.{take, take-nil}
+use Rattle.std.specs.Prelude.{◌≡◌, ◌||◌, ◌∷◌, ◌+◌, ◌-◌, ◌≤◌, ◌<◌}
+use Rattle.lists.specs.Prelude.{sym, ap, ◌∙◌, ⊎_elim, Bool, true, false, List, [], ℕ, zero, suc, not-suc-le-zero}
+use Rattle.lists.specs.Prelude.{add-zero, sub-one, arith, lt-ltb, le-ltb, ltb, length, take, take-nil}
 use Rattle.lists.specs.Tables.{any}
 use Rattle.lists.proofs.Lists.{less_or_at_most}
 use Rattle.hrtf_rings.specs.Held.{to_go_after}

@@ -1,9 +1,8 @@
 -- What the loop over a straight run keeps, and that two runs, one after the other, are the ring from its newest signal
 -- back round to the oldest. Assumes nothing.
-use Rattle.lists.specs.Prelude.{◌≡◌, refl, sym, ap, ◌∙◌, List, reverse, ℕ, ◌+◌, ◌-◌, ◌≤◌, ◌<◌, min, arith, length}
-use Rattle.lists.specs.Prelude.{get_or}
-use Rattle.lists.specs.Prelude.{take, drop, length-reverse, length-drop, take_all, length-take-le, Float, nan, binary64}
-use Rattle.lists.specs.Prelude.{add, mul}
+use Rattle.std.specs.Prelude.{◌≡◌, ◌+◌, ◌-◌, ◌≤◌, ◌<◌}
+use Rattle.lists.specs.Prelude.{refl, sym, ap, ◌∙◌, List, reverse, ℕ, min, arith, length, get_or, take, drop}
+use Rattle.lists.specs.Prelude.{length-reverse, length-drop, take_all, length-take-le, Float, nan, binary64, add, mul}
 use Rattle.formats.specs.Floats.{zero_float}
 use Rattle.lists.proofs.Lists.{get_d_reverse, take_min, drop_min}
 use Rattle.lists.proofs.LoopOverTable.{LoopOverTable, loop-none, loop-more}

@@ -1,7 +1,8 @@
 -- What the program does, as a function of the rings and the desk that it is given. Definitions only. Nobody has to
 -- believe them: `played_held`, `left_is` and `counted_is` (proofs/Blocks.antt) tie them to the words of specs/Held.antt
 -- in every state.
-use Rattle.lists.specs.Prelude.{ℕ, suc, Bool, ◌||◌, List, [], ◌∷◌, ltb, get_or, Float}
+use Rattle.std.specs.Prelude.{◌||◌, ◌∷◌}
+use Rattle.lists.specs.Prelude.{ℕ, suc, Bool, List, [], ltb, get_or, Float}
 use Rattle.formats.specs.Floats.{zero_float}
 use Rattle.lists.specs.Tables.{chunk, count}
 use Rattle.planes.specs.Planes.{with_frame}

@@ -1,6 +1,7 @@
 -- What the rings hold: the signals of the last L frames (`held_in`), the rings that hold a given past (`rings_of`),
 -- what frames leave (`after_frames`), and when a state stands for a past (`Represents`). Definitions only.
-use Rattle.lists.specs.Prelude.{ℕ, ◌+◌, ◌%◌, ◌<◌, ◌≡◌, Bool, List, [], ◌∷◌, map, flatten, length, get_or, Float, nan}
+use Rattle.std.specs.Prelude.{◌+◌, ◌%◌, ◌<◌, ◌≡◌, ◌∷◌}
+use Rattle.lists.specs.Prelude.{ℕ, Bool, List, [], map, flatten, length, get_or, Float, nan}
 use Rattle.lists.specs.Tables.{tab, chunk}
 use Rattle.checks.specs.Finite.{has_nonfinite}
 use Rattle.hrtf_desk.specs.Numbers.{to_go_next}

@@ -1,5 +1,6 @@
 -- What a convolver keeps from frame to frame: the rings, speaker by speaker, and the desk's record. Definitions only.
-use Rattle.lists.specs.Prelude.{ℕ, ◌*◌, ◌<◌, ◌≡◌, List, length, Float}
+use Rattle.std.specs.Prelude.{◌*◌, ◌<◌, ◌≡◌}
+use Rattle.lists.specs.Prelude.{ℕ, List, length, Float}
 use Rattle.hrtf_desk.specs.declared.Desk.{Desk}
 
 pub record State : Type 0 where

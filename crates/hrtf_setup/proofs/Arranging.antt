@@ -1,7 +1,8 @@
 -- From the tests and the filled lists to what the set-ups promise. Assumes nothing.
-use Rattle.lists.specs.Prelude.{◌≡◌, refl, sym, ap, ◌∙◌, subst, true, false, not, cond, List, ℕ, suc, ◌+◌, ◌*◌, ◌/◌}
-use Rattle.lists.specs.Prelude.{◌%◌, ◌-◌, ◌≤◌, ◌<◌, zero-add, add-zero, mul-add-mod_self_right, mul-add-div_right}
-use Rattle.lists.specs.Prelude.{mod-eq_of_lt, div-eq_of_lt, arith, not-false, ℤ, length, get_or, Float, nan}
+use Rattle.std.specs.Prelude.{◌≡◌, ◌+◌, ◌*◌, ◌/◌, ◌%◌, ◌-◌, ◌≤◌, ◌<◌}
+use Rattle.lists.specs.Prelude.{refl, sym, ap, ◌∙◌, subst, true, false, not, cond, List, ℕ, suc, zero-add, add-zero}
+use Rattle.lists.specs.Prelude.{mul-add-mod_self_right, mul-add-div_right, mod-eq_of_lt, div-eq_of_lt, arith, not-false}
+use Rattle.lists.specs.Prelude.{ℤ, length, get_or, Float, nan}
 use Rattle.refusals.specs.Refusals.{Check, first_of, outside}
 use Rattle.refusals.proofs.First.{passed, answered_accepted}
 use Rattle.lists.proofs.Tests.{cond_true, cond_false}

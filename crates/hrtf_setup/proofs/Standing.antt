@@ -1,7 +1,7 @@
 -- Where speakers stand in tenths: from -1800 to 1800, by one test over each table of angles, so that row choice accepts
 -- them and an i16 holds them. Assumes nothing.
-use Rattle.lists.specs.Prelude.{◌≡◌, sym, ap, ◌∙◌, subst, true, ℕ, ◌+◌, ◌*◌, arith, le-leb, T, leb→le, ℤ, pos, negsuc}
-use Rattle.lists.specs.Prelude.{◌*ℤ◌, neg_ℤ, get_or}
+use Rattle.std.specs.Prelude.{◌≡◌, ◌+◌, ◌*◌, ◌*ℤ◌}
+use Rattle.lists.specs.Prelude.{sym, ap, ◌∙◌, subst, true, ℕ, arith, le-leb, T, leb→le, ℤ, pos, negsuc, neg_ℤ, get_or}
 use mir.Syntax.{w16, w32}
 use mir.Val.{SFits, to_z, of_z}
 use mir.Facts.{sfits_widen, to_z-of_z}

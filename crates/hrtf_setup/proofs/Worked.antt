@@ -1,8 +1,9 @@
 -- The promises can be met, and what they say of a small bank: rows at 30 and 0 degrees, 5.1. The LFE, which points
 -- nowhere, takes the row for 0 degrees. Where a row stands above the speakers, the level one is taken. Answers that
 -- refuse always, that leave the elevations out of account, or that accept seven of them are refuted. Assumes nothing.
-use Rattle.lists.specs.Prelude.{◌≡◌, refl, sym, ap, ◌∙◌, true, true≢false, List, [], ◌∷◌, ℕ, suc, ◌*◌, suc-ne-zero}
-use Rattle.lists.specs.Prelude.{arith, ℤ, pos, length, get_or, replicate, Float, nan}
+use Rattle.std.specs.Prelude.{◌≡◌, ◌∷◌, ◌*◌}
+use Rattle.lists.specs.Prelude.{refl, sym, ap, ◌∙◌, true, true≢false, List, [], ℕ, suc, suc-ne-zero, arith, ℤ, pos}
+use Rattle.lists.specs.Prelude.{length, get_or, replicate, Float, nan}
 use Rattle.refusals.proofs.Chains.{none_holds}
 use Rattle.lists.specs.Tables.{tab}
 use Rattle.channel.specs.declared.Layout.{Layout}

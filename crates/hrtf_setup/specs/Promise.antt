@@ -1,5 +1,6 @@
 -- What the two set-ups promise. Definitions only.
-use Rattle.lists.specs.Prelude.{ℕ, ◌+◌, ◌*◌, ◌<◌, ◌≡◌, not, List, ℤ, get_or, Float, nan}
+use Rattle.std.specs.Prelude.{◌+◌, ◌*◌, ◌<◌, ◌≡◌}
+use Rattle.lists.specs.Prelude.{ℕ, not, List, ℤ, get_or, Float, nan}
 use Rattle.refusals.specs.Refusals.{◌when◌}
 use Rattle.fractions.specs.Fraction.{number, EachWithin}
 use Rattle.channel.specs.declared.Layout.{Layout}

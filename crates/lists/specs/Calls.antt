@@ -1,5 +1,5 @@
 -- Calls one after another, each in the state that the one before it left. Definitions only.
-use Rattle.std.specs.Prelude.{List, [], ◌∷◌, ◌++◌}
+use Rattle.std.specs.Prelude.{◌∷◌, ◌++◌, List, []}
 
 -- next: the state that a call leaves
 module _ {S C : Type 0} (next : C → S → S) where

@@ -1,5 +1,5 @@
 -- Two lists, place by place. Definitions only.
-use Rattle.std.specs.Prelude.{List, [], ◌∷◌}
+use Rattle.std.specs.Prelude.{◌∷◌, List, []}
 
 module _ {A B : Type 0} where
   -- as many of the one as of the other, and R of the two in each place

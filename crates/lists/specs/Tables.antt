@@ -1,6 +1,6 @@
 -- Lists given by a rule for each index (`tab`), the i-th chunk of a list, and tests over a list (`every`, `any`,
 -- `count`): the words "rising" and "one of" of document 01. Definitions only.
-use Rattle.std.specs.Prelude.{ℕ, zero, suc, ◌+◌, ◌*◌, Bool, true, false, ◌&&◌, ◌||◌, cond, List, [], ◌∷◌, take, drop}
+use Rattle.std.specs.Prelude.{◌+◌, ◌*◌, ◌&&◌, ◌||◌, ◌∷◌, ℕ, zero, suc, Bool, true, false, cond, List, [], take, drop}
 
 module _ {A : Type 0} where
   -- f i, f (i + 1), .., n of them

@@ -1,9 +1,10 @@
 -- The right ear's weights are the left ear's with the lateral channels negated, bit for bit, and negating these
 -- channels of a frame swaps what the ears hear of it (`mirrors`). Shown once over the order: by order go only the
 -- lengths of the rows, and that no literal is 0, which has no opposite, by computing. Assumes nothing.
-use Rattle.lists.specs.Prelude.{◌≡◌, refl, sym, ap, ◌∙◌, subst, Bool, true, false, List, [], ◌∷◌, ◌++◌, map-map}
-use Rattle.lists.specs.Prelude.{map-append, append-nil, flatten, ℕ, zero, suc, T, lit<, ℤ, pos, negsuc, neg_ℤ, length}
-use Rattle.lists.specs.Prelude.{Float, binary64, mul, neg}
+use Rattle.std.specs.Prelude.{◌≡◌, ◌∷◌, ◌++◌}
+use Rattle.lists.specs.Prelude.{refl, sym, ap, ◌∙◌, subst, Bool, true, false, List, [], map-map, map-append, append-nil}
+use Rattle.lists.specs.Prelude.{flatten, ℕ, zero, suc, T, lit<, ℤ, pos, negsuc, neg_ℤ, length, Float, binary64, mul}
+use Rattle.lists.specs.Prelude.{neg}
 use Rattle.refusals.proofs.First.{passed}
 use Rattle.rows.proofs.WeightsAnswers.{computed_refusal, computed_weights}
 use Rattle.formats.specs.Floats.{zero_float, literal}

@@ -2,9 +2,9 @@
 -- place is read as it was or negated (`get_or_negated`), and a function that takes one negation to another takes such
 -- lists to such lists (`map_negated`). Of floats: to negate samples at some places gives the same products as to negate
 -- the weights there (`products_negated`), so that a weighted sum needs no law of sums. Assumes nothing.
-use Rattle.lists.specs.Prelude.{◌≡◌, refl, sym, ap, ◌∙◌, Bool, true, false, cond, List, [], ◌∷◌, ◌++◌, map, ℕ, zero}
-use Rattle.lists.specs.Prelude.{suc, ◌+◌, add-zero, add-suc, suc-add, T, length, get_or, take, Float, binary64, mul}
-use Rattle.lists.specs.Prelude.{neg}
+use Rattle.std.specs.Prelude.{◌≡◌, ◌∷◌, ◌++◌, ◌+◌}
+use Rattle.lists.specs.Prelude.{refl, sym, ap, ◌∙◌, Bool, true, false, cond, List, [], map, ℕ, zero, suc, add-zero}
+use Rattle.lists.specs.Prelude.{add-suc, suc-add, T, length, get_or, take, Float, binary64, mul, neg}
 use lib.Ieee.Fits.{and_l, and_r}
 use Rattle.formats.proofs.Signs.{mul_either}
 use Rattle.lists.specs.Tables.{tab, every}

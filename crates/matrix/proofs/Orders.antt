@@ -1,5 +1,6 @@
 -- The rows are those of the order; other numbers are no orders. Assumes nothing.
-use Rattle.lists.specs.Prelude.{ℕ, ◌*◌, ◌≡◌, sym, ap, ◌∙◌, Bool, true, not, List, [], ◌∷◌, eqb, length, Float}
+use Rattle.std.specs.Prelude.{◌*◌, ◌≡◌, ◌∷◌}
+use Rattle.lists.specs.Prelude.{ℕ, sym, ap, ◌∙◌, Bool, true, not, List, [], eqb, length, Float}
 use Rattle.refusals.specs.Refusals.{first_of, ◌when◌}
 use Rattle.channel.specs.Orders.{refuses_order, channels_of_order}
 use Rattle.rows.specs.Rows.{computed_by}

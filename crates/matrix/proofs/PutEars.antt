@@ -1,7 +1,7 @@
 -- Two rows put one behind the other fill a list of their length; another length is refused. Assumes nothing.
-use Rattle.lists.specs.Prelude.{ℕ, ◌+◌, arith, ◌≡◌, sym, ap, ◌∙◌, Bool, not, List, [], ◌∷◌, ◌++◌, append-nil}
-use Rattle.lists.specs.Prelude.{map-append, eq-eqb, ne_eqb, length, drop, length-drop, length-map, drop_of_length-le}
-use Rattle.lists.specs.Prelude.{sets, Float, binary64, mul}
+use Rattle.std.specs.Prelude.{◌+◌, ◌≡◌, ◌∷◌, ◌++◌}
+use Rattle.lists.specs.Prelude.{ℕ, arith, sym, ap, ◌∙◌, Bool, not, List, [], append-nil, map-append, eq-eqb, ne_eqb}
+use Rattle.lists.specs.Prelude.{length, drop, length-drop, length-map, drop_of_length-le, sets, Float, binary64, mul}
 use Rattle.refusals.specs.Refusals.{first_of, ◌when◌}
 use Rattle.numbers.specs.Normalization.{inverse_root_of}
 use Rattle.rows.specs.Rows.{scaled, computed_by}

@@ -1,8 +1,9 @@
 -- Wrong rows, each held against what E7 asks: no rows that differ from the promised ones in a sign are an answer,
 -- whichever weight it is, and those of 002 do not swap the ears. Assumes nothing.
-use Rattle.lists.specs.Prelude.{◌≡◌, refl, sym, ap, ◌∙◌, subst, Bool, true, false, not, cond, true≢false, List, [], ◌∷◌}
-use Rattle.lists.specs.Prelude.{◌++◌, ℕ, ◌+◌, ◌<◌, zero-add, eq-eqb, eqb, ℤ, pos, length, get_or, Float, nan, inf, fin}
-use Rattle.lists.specs.Prelude.{neg, add, sum, mul, round}
+use Rattle.std.specs.Prelude.{◌≡◌, ◌∷◌, ◌++◌, ◌+◌, ◌<◌}
+use Rattle.lists.specs.Prelude.{refl, sym, ap, ◌∙◌, subst, Bool, true, false, not, cond, true≢false, List, [], ℕ}
+use Rattle.lists.specs.Prelude.{zero-add, eq-eqb, eqb, ℤ, pos, length, get_or, Float, nan, inf, fin, neg, add, sum, mul}
+use Rattle.lists.specs.Prelude.{round}
 use lib.Ieee.Scale.{finite}
 use Rattle.numbers.specs.Conversions.{negative}
 use Rattle.numbers.specs.Computed.{rounded}

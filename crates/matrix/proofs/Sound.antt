@@ -1,6 +1,7 @@
 -- The rows of every order are finite, so that the decoder plays them: by computing them. Assumes nothing.
-use Rattle.lists.specs.Prelude.{ℕ, lit<, ◌≡◌, refl, ap, fun_ext, false, List, ◌++◌, negsuc, Float, fin, size, units}
-use Rattle.lists.specs.Prelude.{round, mul, div, of_int}
+use Rattle.std.specs.Prelude.{◌≡◌, ◌++◌}
+use Rattle.lists.specs.Prelude.{ℕ, lit<, refl, ap, fun_ext, false, List, negsuc, Float, fin, size, units, round, mul}
+use Rattle.lists.specs.Prelude.{div, of_int}
 use Rattle.numbers.specs.Computed.{root_of, whole_root}
 use Rattle.rows.specs.Rows.{scaled}
 use Rattle.lists.specs.Tables.{tab, any}

@@ -1,7 +1,8 @@
 -- The worked bits of E7: weights of the right ear, and what the two ears hear of a frame, as it is and mirrored, by
 -- computing. A source at (30, 20), which needs harmonics, is worked in the oracle. Assumes nothing.
-use Rattle.lists.specs.Prelude.{◌≡◌, ap, fun_ext, cond, List, [], ◌∷◌, map, ℕ, eqb, pos, get_or, Float, nan, binary32}
-use Rattle.lists.specs.Prelude.{binary64, to_bits, neg, add, mul, sum, round, of_int}
+use Rattle.std.specs.Prelude.{◌≡◌, ◌∷◌}
+use Rattle.lists.specs.Prelude.{ap, fun_ext, cond, List, [], map, ℕ, eqb, pos, get_or, Float, nan, binary32, binary64}
+use Rattle.lists.specs.Prelude.{to_bits, neg, add, mul, sum, round, of_int}
 use Rattle.formats.specs.Floats.{zero_float, one_float, half_float, minus_one_float, float}
 use Rattle.numbers.specs.Computed.{rounded}
 use Rattle.lists.specs.Tables.{tab}

@@ -1,6 +1,7 @@
 -- What the program does once the order has named two rows. Definitions only; that these are document 01's rows is what
 -- the proof of `compute_matrix` shows.
-use Rattle.lists.specs.Prelude.{ℕ, ◌+◌, not, List, [], ◌∷◌, ◌++◌, eqb, length, Float}
+use Rattle.std.specs.Prelude.{◌+◌, ◌∷◌, ◌++◌}
+use Rattle.lists.specs.Prelude.{ℕ, not, List, [], eqb, length, Float}
 use Rattle.refusals.specs.Refusals.{first_of, ◌when◌}
 use Rattle.rows.specs.Rows.{scaled, computed_by}
 use Rattle.numbers.specs.Normalization.{inverse_root_of}

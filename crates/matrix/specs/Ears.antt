@@ -2,7 +2,8 @@
 -- far as it reaches. Then prove, once over the order: negating those input channels swaps the two ear signals bit for
 -- bit, all NaNs as one." Said of the weights themselves and of single frames; of blocks it is said in `mirror`. It is
 -- shown in proofs/Ears.antt. Definitions only.
-use Rattle.lists.specs.Prelude.{ℕ, ◌≡◌, List, Float, neg}
+use Rattle.std.specs.Prelude.{◌≡◌}
+use Rattle.lists.specs.Prelude.{ℕ, List, Float, neg}
 use Rattle.lists.specs.Tables.{chunk}
 use Rattle.planes.specs.Sums.{mixed}
 use Rattle.channel.specs.Orders.{channels_of_order}

@@ -1,6 +1,7 @@
 -- Document 02, E7: "The right row becomes the left row with channels 1, 4, 5, 9, 10 and 11 negated, for every order as
 -- far as it reaches." Which channels these are, and what it is to be negated there. Definitions only.
-use Rattle.lists.specs.Prelude.{ℕ, suc, Bool, cond, List, [], ◌∷◌, eqb}
+use Rattle.std.specs.Prelude.{◌∷◌}
+use Rattle.lists.specs.Prelude.{ℕ, suc, Bool, cond, List, [], eqb}
 use Rattle.lists.specs.Tables.{any}
 
 -- channels 1, 4, 5, 9, 10 and 11

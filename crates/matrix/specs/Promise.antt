@@ -1,6 +1,7 @@
 -- Document 01, 'Refusal numbers': 1 is given exactly when "ambisonic order is not 1, 2 or 3", 5 when the length of the
 -- lent weights is other than outputs x channels; "lent memory stays the same" on a refusal. Definitions only.
-use Rattle.lists.specs.Prelude.{ℕ, ◌*◌, ◌≡◌, not, List, [], ◌∷◌, eqb, length, Float}
+use Rattle.std.specs.Prelude.{◌*◌, ◌≡◌, ◌∷◌}
+use Rattle.lists.specs.Prelude.{ℕ, not, List, [], eqb, length, Float}
 use Rattle.refusals.specs.Refusals.{first_of, ◌when◌}
 use Rattle.channel.specs.Orders.{refuses_order, channels_of_order}
 pub use Rattle.rows.specs.Rows.{WeightsAnswer}

@@ -2,7 +2,8 @@
 -- Bit-exact." Document 02, E7: "The right row becomes the left row with channels 1, 4, 5, 9, 10 and 11 negated, for
 -- every order as far as it reaches. [..] Document 01's rows follow." Definitions only. Every literal of 002 is a whole
 -- number of hundredths, so the left rows are written as those.
-use Rattle.lists.specs.Prelude.{ℕ, List, [], ◌∷◌, ◌++◌, map, ℤ, pos, neg_ℤ, Float}
+use Rattle.std.specs.Prelude.{◌∷◌, ◌++◌}
+use Rattle.lists.specs.Prelude.{ℕ, List, [], map, ℤ, pos, neg_ℤ, Float}
 use Rattle.formats.specs.Floats.{literal}
 use Rattle.channel.specs.Orders.{by_order}
 use Rattle.rows.specs.Rows.{scaled}

@@ -1,8 +1,9 @@
 -- The opposite angle is refused as the angle is, and its sine and cosine: it lies where what is left of the turn ends,
 -- so that the shorter way from 0 is the same and the half of the turn the other one. Assumes nothing.
-use Rattle.lists.specs.Prelude.{◌≡◌, refl, sym, ap, ap₂, ◌∙◌, subst, ◌⊎◌, inl, inr, Bool, true, false, not, ◌&&◌, ◌||◌}
-use Rattle.lists.specs.Prelude.{cond, and_comm, ℕ, ◌+◌, ◌-◌, ◌/◌, ◌%◌, ◌^◌, ◌<◌, arith, eqb, ltb, lit<, pos, Float, nan}
-use Rattle.lists.specs.Prelude.{inf, fin, binary64, unlike, neg, le, div, of_int, eqb-true, lt-ltb, le-ltb}
+use Rattle.std.specs.Prelude.{◌≡◌, ◌⊎◌, ◌&&◌, ◌||◌, ◌+◌, ◌-◌, ◌/◌, ◌%◌, ◌^◌, ◌<◌}
+use Rattle.lists.specs.Prelude.{refl, sym, ap, ap₂, ◌∙◌, subst, inl, inr, Bool, true, false, not, cond, and_comm, ℕ}
+use Rattle.lists.specs.Prelude.{arith, eqb, ltb, lit<, pos, Float, nan, inf, fin, binary64, unlike, neg, le, div}
+use Rattle.lists.specs.Prelude.{of_int, eqb-true, lt-ltb, le-ltb}
 use Rattle.lists.proofs.Tests.{by_test, by_at_most, order_cases}
 use Rattle.formats.specs.Floats.{zero_float}
 use Rattle.formats.proofs.Signs.{unlike_not, neg_neg, le_negated, finite_negated}

@@ -1,7 +1,8 @@
 -- Negating the lateral channels swaps the two ears, in each frame alone and in blocks (`ears_swap`): the right ear is
 -- the left one's partner. Assumes nothing.
-use Rattle.lists.specs.Prelude.{◌≡◌, refl, ap, ◌∙◌, Bool, false, not, ◌||◌, List, [], ◌∷◌, ℕ, zero, suc, ◌*◌, ◌≤◌, ◌<◌}
-use Rattle.lists.specs.Prelude.{arith, lit<, eqb, length, Float, neg}
+use Rattle.std.specs.Prelude.{◌≡◌, ◌||◌, ◌∷◌, ◌*◌, ◌≤◌, ◌<◌}
+use Rattle.lists.specs.Prelude.{refl, ap, ◌∙◌, Bool, false, not, List, [], ℕ, zero, suc, arith, lit<, eqb, length}
+use Rattle.lists.specs.Prelude.{Float, neg}
 use Rattle.lists.specs.Tables.{chunk}
 use Rattle.planes.specs.Sums.{mixed}
 use Rattle.refusals.specs.Refusals.{◌when◌, outside}

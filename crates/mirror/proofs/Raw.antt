@@ -1,11 +1,11 @@
 -- The raw gain of a speaker at an azimuth is that of the speaker across at the opposite azimuth, to the bit, at every
 -- float (`raw_opposite`, `raw_across`): the tests change places, the way to the speaker has the same size, and the
 -- cosine sees no sign of a zero. Assumes nothing.
-use Rattle.lists.specs.Prelude.{◌≡◌, refl, sym, ap, ◌∙◌, subst, Bool, true, false, not, cond, true≢false, List, [], ◌∷◌}
-use Rattle.lists.specs.Prelude.{ℕ, zero, suc, ◌+◌, ◌*◌, ◌≤◌, zero-lt-suc, mul-pos, le_trans, arith, lt-ltb, le-ltb}
-use Rattle.lists.specs.Prelude.{dec_lt, ℤ, pos, negsuc, neg_ℤ, T, eqb, lit≤, lit<, length, get_or-eq_default, Float}
-use Rattle.lists.specs.Prelude.{nan, inf, fin, binary64, up, down, neg, add, sub, div, lt, le, eq, fits, of_int, round}
-use Rattle.lists.specs.Prelude.{size, span, climb, odd}
+use Rattle.std.specs.Prelude.{◌≡◌, ◌∷◌, ◌+◌, ◌*◌, ◌≤◌}
+use Rattle.lists.specs.Prelude.{refl, sym, ap, ◌∙◌, subst, Bool, true, false, not, cond, true≢false, List, [], ℕ, zero}
+use Rattle.lists.specs.Prelude.{suc, zero-lt-suc, mul-pos, le_trans, arith, lt-ltb, le-ltb, dec_lt, ℤ, pos, negsuc}
+use Rattle.lists.specs.Prelude.{neg_ℤ, T, eqb, lit≤, lit<, length, get_or-eq_default, Float, nan, inf, fin, binary64}
+use Rattle.lists.specs.Prelude.{up, down, neg, add, sub, div, lt, le, eq, fits, of_int, round, size, span, climb, odd}
 use lib.Ieee.Scale.{finite}
 use lib.Ieee.Fits.{up_pos, down_pos, neg-fits, sub-fits, cond-fits}
 use lib.Ieee.Bits.{is_false}

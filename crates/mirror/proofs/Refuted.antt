@@ -1,8 +1,8 @@
 -- Readings of the mirrored gains that are wrong, each at a direction or a position where it fails, by computing.
 -- Assumes nothing.
-use Rattle.lists.specs.Prelude.{◌≡◌, refl, sym, ap, Bool, ◌||◌, true≢false, List, [], ◌∷◌, map, ℕ, arith, eqb, pos}
-use Rattle.lists.specs.Prelude.{negsuc, get_or, Float, nan, binary64, to_bits, size, round, add, sub, mul, div, neg, lt}
-use Rattle.lists.specs.Prelude.{le, eq, of_int}
+use Rattle.std.specs.Prelude.{◌≡◌, ◌||◌, ◌∷◌}
+use Rattle.lists.specs.Prelude.{refl, sym, ap, Bool, true≢false, List, [], map, ℕ, arith, eqb, pos, negsuc, get_or}
+use Rattle.lists.specs.Prelude.{Float, nan, binary64, to_bits, size, round, add, sub, mul, div, neg, lt, le, eq, of_int}
 use lib.Ieee as Ieee
 use Rattle.numbers.specs.Conversions.{negative}
 use Rattle.series.specs.Angles.{turned}

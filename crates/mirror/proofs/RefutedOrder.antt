@@ -3,10 +3,10 @@
 -- the eight virtual speakers, though all taps are 1.0. And just behind 120 degrees the gains of 7.1 are not those of
 -- the speakers across, nor, farther behind, are they as the f32 that are played. By computing the definitions. Assumes
 -- nothing.
-use Rattle.lists.specs.Prelude.{◌≡◌, refl, sym, ap, ◌∙◌, false, true≢false, List, [], ◌∷◌, ℕ, zero, suc, ◌<◌, arith}
-use Rattle.lists.specs.Prelude.{lit<, pos, negsuc, get_or, replicate, Float, fin, binary32, binary64, lt, le, eq, neg}
-use Rattle.lists.specs.Prelude.{add, sub, mul, div, sum, round, size, span, climb, units, odd, fits, of_int, to_bits}
-use Rattle.lists.specs.Prelude.{of_bits}
+use Rattle.std.specs.Prelude.{◌≡◌, ◌∷◌, ◌<◌}
+use Rattle.lists.specs.Prelude.{refl, sym, ap, ◌∙◌, false, true≢false, List, [], ℕ, zero, suc, arith, lit<, pos, negsuc}
+use Rattle.lists.specs.Prelude.{get_or, replicate, Float, fin, binary32, binary64, lt, le, eq, neg, add, sub, mul, div}
+use Rattle.lists.specs.Prelude.{sum, round, size, span, climb, units, odd, fits, of_int, to_bits, of_bits}
 use lib.Ieee.Positive.{positive}
 use Rattle.lists.specs.Tables.{tab}
 use Rattle.lists.proofs.Tables.{table_at}

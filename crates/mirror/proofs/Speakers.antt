@@ -1,9 +1,9 @@
 -- The rows and the weights of a speaker and of its partner. That the tables pair them is computed; 0 and 180 are their
 -- own opposites: -0.0 and -180.0 give the bits that 0.0 and 180.0 give. Assumes nothing.
-use Rattle.lists.specs.Prelude.{◌≡◌, refl, sym, ap, ◌∙◌, subst, Bool, true, false, not, ◌&&◌, ◌||◌, cond, true≢false}
-use Rattle.lists.specs.Prelude.{and-eq-true_iff, List, [], ◌∷◌, map, ℕ, ◌<◌, zero-add, eqb, pos, length, take, Float}
-use Rattle.lists.specs.Prelude.{binary64, lt, round, add, sub, mul, div, neg, of_int, of_bits, to_bits, eqb-true}
-use Rattle.lists.specs.Prelude.{not-false}
+use Rattle.std.specs.Prelude.{◌≡◌, ◌&&◌, ◌||◌, ◌∷◌, ◌<◌}
+use Rattle.lists.specs.Prelude.{refl, sym, ap, ◌∙◌, subst, Bool, true, false, not, cond, true≢false, and-eq-true_iff}
+use Rattle.lists.specs.Prelude.{List, [], map, ℕ, zero-add, eqb, pos, length, take, Float, binary64, lt, round, add}
+use Rattle.lists.specs.Prelude.{sub, mul, div, neg, of_int, of_bits, to_bits, eqb-true, not-false}
 use lib.Ieee.Fits.{cond-fits, neg-fits, sub-fits, of_int-fits}
 use lib.Ieee.Bits.{of_bits-to_bits}
 use Rattle.lists.specs.Tables.{tab, any}

@@ -1,10 +1,10 @@
 -- The gains of 5.1 at the opposite azimuth are those of the speakers across, bit for bit, and those of 7.1 as far as
 -- the limit (`surround_exchanged`): the raw gains are, and their squares add up to the same, since of each pair one is
 -- 0.0, or the sum before it is (`parts_exchanged`). Assumes nothing.
-use Rattle.lists.specs.Prelude.{◌≡◌, refl, sym, ap, ◌∙◌, inl, ⊎_map, Bool, true, false, not, cond, true≢false, List, []}
-use Rattle.lists.specs.Prelude.{◌∷◌, ℕ, suc, ◌<◌, dec_lt, arith, lt-ltb, le-ltb, ltb, lit<, pos, get_or}
-use Rattle.lists.specs.Prelude.{get_or-eq_default, Float, nan, binary64, neg, add, mul, div, sum, round, size, span}
-use Rattle.lists.specs.Prelude.{climb, units, odd, of_int}
+use Rattle.std.specs.Prelude.{◌≡◌, ◌∷◌, ◌<◌}
+use Rattle.lists.specs.Prelude.{refl, sym, ap, ◌∙◌, inl, ⊎_map, Bool, true, false, not, cond, true≢false, List, [], ℕ}
+use Rattle.lists.specs.Prelude.{suc, dec_lt, arith, lt-ltb, le-ltb, ltb, lit<, pos, get_or, get_or-eq_default, Float}
+use Rattle.lists.specs.Prelude.{nan, binary64, neg, add, mul, div, sum, round, size, span, climb, units, odd, of_int}
 use lib.Ieee.Fits.{mul-fits}
 use Rattle.refusals.specs.Refusals.{first_of, ◌when◌, answered}
 use Rattle.lists.specs.Tables.{tab}

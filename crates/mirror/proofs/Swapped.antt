@@ -1,9 +1,10 @@
 -- Lists of which one is the other negated at some places, but for the signs of zeros: joined, cut short, read at a
 -- place, put down by a rule, and multiplied or narrowed. Whatever the places are; and what is mixed of such lists.
 -- Assumes nothing.
-use Rattle.lists.specs.Prelude.{◌≡◌, refl, sym, ap, ap₂, ◌∙◌, Bool, true, false, cond, List, [], ◌∷◌, ◌++◌, map}
-use Rattle.lists.specs.Prelude.{map-append, ℕ, zero, suc, ◌+◌, ◌*◌, zero-add, zero-mul, length, get_or, take}
-use Rattle.lists.specs.Prelude.{get_or-map, Float, nan, inf, fin, Format, binary32, up, down, mul, neg}
+use Rattle.std.specs.Prelude.{◌≡◌, ◌∷◌, ◌++◌, ◌+◌, ◌*◌}
+use Rattle.lists.specs.Prelude.{refl, sym, ap, ap₂, ◌∙◌, Bool, true, false, cond, List, [], map, map-append, ℕ, zero}
+use Rattle.lists.specs.Prelude.{suc, zero-add, zero-mul, length, get_or, take, get_or-map, Float, nan, inf, fin, Format}
+use Rattle.lists.specs.Prelude.{binary32, up, down, mul, neg}
 use lib.Ieee.Fits.{down_pos}
 use Rattle.lists.specs.Tables.{tab}
 use Rattle.lists.proofs.Mapped.{map_take}

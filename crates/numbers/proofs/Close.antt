@@ -1,10 +1,10 @@
 -- How near the root is, by squares: it is the root to one part in P = 2 ^ prec (`RootOf`, `root_close`). The square of
 -- r * (1 - 1 / P) is below x, and the square of r * (1 + 1 / P) above it; and the root of a number above zero is above
 -- zero (`root_positive`). Assumes nothing.
-use Rattle.lists.specs.Prelude.{◌≡◌, sym, subst, false, ℕ, zero, suc, ◌-◌, ◌*◌, ◌^◌, ◌≤◌, ◌<◌, le_trans, le_of_eq}
-use Rattle.lists.specs.Prelude.{sub-pos_iff_lt, zero-lt-suc, mul-pos, mul-le-mul, mul-le-mul_right}
-use Rattle.lists.specs.Prelude.{mul-lt-mul_of_pos_right, lt_of_mul-lt-mul_left, arith, T, pow_pos, suc_ones, Float}
-use Rattle.lists.specs.Prelude.{Format, prec, low, fits}
+use Rattle.std.specs.Prelude.{◌≡◌, ◌-◌, ◌*◌, ◌^◌, ◌≤◌, ◌<◌}
+use Rattle.lists.specs.Prelude.{sym, subst, false, ℕ, zero, suc, le_trans, le_of_eq, sub-pos_iff_lt, zero-lt-suc}
+use Rattle.lists.specs.Prelude.{mul-pos, mul-le-mul, mul-le-mul_right, mul-lt-mul_of_pos_right, lt_of_mul-lt-mul_left}
+use Rattle.lists.specs.Prelude.{arith, T, pow_pos, suc_ones, Float, Format, prec, low, fits}
 use lib.Ieee.Positive.{positive, positive_of_value}
 use Rattle.fractions.specs.Fraction.{Fraction, fraction, signed, number, ◌⊗◌, square, Same, Less}
 use Rattle.fractions.proofs.Roots.{RootOf}

@@ -1,6 +1,7 @@
 -- Document 01, 'Marked drill table', items 6 and 7, and a few numbers more, from the definitions by computing. Assumes
 -- nothing.
-use Rattle.lists.specs.Prelude.{◌≡◌, refl, true, false, pos, negsuc, inf, fin, binary64, size, units, round, to_bits}
+use Rattle.std.specs.Prelude.{◌≡◌}
+use Rattle.lists.specs.Prelude.{refl, true, false, pos, negsuc, inf, fin, binary64, size, units, round, to_bits}
 use Rattle.numbers.specs.Computed.{rounded, narrowed, whole_root, root_of, root_answer}
 
 -- ---- item 6: the root of 4 is 2; 2 gives bits 3FF6A09E667F3BCD

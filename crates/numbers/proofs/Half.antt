@@ -1,12 +1,13 @@
 -- The root of n units, as a whole number of units, against the exact one, by squares: within half a unit in its last
 -- place (`half_unit`). Assumes nothing.
-use Rattle.lists.specs.Prelude.{◌≡◌, refl, sym, ap, ◌∙◌, subst, ◌⊎◌, inl, inr, ℕ, zero, suc, ◌+◌, ◌-◌, ◌*◌, ◌/◌, ◌%◌}
-use Rattle.lists.specs.Prelude.{◌^◌, ◌≤◌, ◌<◌, le_refl, le_trans, le_of_eq, lt_of_lt_of_le, lt_of_le_of_lt}
-use Rattle.lists.specs.Prelude.{lt_of_not-le, lt_irrefl, zero-mul, mul-one, mul_assoc, mul_left_comm, mul-mul-mul_comm}
-use Rattle.lists.specs.Prelude.{add-mul, mul-le-mul, mul-le-mul_right, mul-lt-mul_of_pos_right, div-lt_iff_lt-mul}
-use Rattle.lists.specs.Prelude.{le-div_iff_mul-le, pow-succ', eq-zero-or-pos, eq_of_mul-eq-mul_right, one-mul, dec_le}
-use Rattle.lists.specs.Prelude.{arith, false, T, lit<, pow_pos, pow-add, pow_mono, pow-lt, shl_lt, Format, binary32}
-use Rattle.lists.specs.Prelude.{binary64, prec, emax, low, size, fits, hid}
+use Rattle.std.specs.Prelude.{◌≡◌, ◌⊎◌, ◌+◌, ◌-◌, ◌*◌, ◌/◌, ◌%◌, ◌^◌, ◌≤◌, ◌<◌}
+use Rattle.lists.specs.Prelude.{refl, sym, ap, ◌∙◌, subst, inl, inr, ℕ, zero, suc, le_refl, le_trans, le_of_eq}
+use Rattle.lists.specs.Prelude.{lt_of_lt_of_le, lt_of_le_of_lt, lt_of_not-le, lt_irrefl, zero-mul, mul-one, mul_assoc}
+use Rattle.lists.specs.Prelude.{mul_left_comm, mul-mul-mul_comm, add-mul, mul-le-mul, mul-le-mul_right}
+use Rattle.lists.specs.Prelude.{mul-lt-mul_of_pos_right, div-lt_iff_lt-mul, le-div_iff_mul-le, pow-succ'}
+use Rattle.lists.specs.Prelude.{eq-zero-or-pos, eq_of_mul-eq-mul_right, one-mul, dec_le, arith, false, T, lit<, pow_pos}
+use Rattle.lists.specs.Prelude.{pow-add, pow_mono, pow-lt, shl_lt, Format, binary32, binary64, prec, emax, low, size}
+use Rattle.lists.specs.Prelude.{fits, hid}
 use lib.Arith.{lt_of_le-ne}
 use lib.Ieee.Digits.{size-lt, size-le, size_reaches}
 use lib.Ieee.Fits.{two, reach}

@@ -3,9 +3,10 @@
 -- but the root itself is as near (`root_nearest`), and nothing else has that property (`root_only`). The root lies on
 -- r's side of the middle between r and any other value; in units of the format's smallest value that is a matter of
 -- whole numbers. Assumes nothing.
-use Rattle.lists.specs.Prelude.{◌≡◌, ap, subst, ◌⊎◌, inl, inr, Bool, true, false, ℕ, suc, ◌+◌, ◌-◌, ◌*◌, ◌^◌, ◌≤◌, ◌<◌}
-use Rattle.lists.specs.Prelude.{le_trans, le_of_eq, le_of_lt, lt_of_lt_of_le, lt_of_le_of_lt, lt_of_not-le, lt_irrefl}
-use Rattle.lists.specs.Prelude.{mul-pos, mul-le-mul, mul-le-mul_right, mul-lt-mul_of_pos_right, lt_of_mul-lt-mul_right}
+use Rattle.std.specs.Prelude.{◌≡◌, ◌⊎◌, ◌+◌, ◌-◌, ◌*◌, ◌^◌, ◌≤◌, ◌<◌}
+use Rattle.lists.specs.Prelude.{ap, subst, inl, inr, Bool, true, false, ℕ, suc, le_trans, le_of_eq, le_of_lt}
+use Rattle.lists.specs.Prelude.{lt_of_lt_of_le, lt_of_le_of_lt, lt_of_not-le, lt_irrefl, mul-pos, mul-le-mul}
+use Rattle.lists.specs.Prelude.{mul-le-mul_right, mul-lt-mul_of_pos_right, lt_of_mul-lt-mul_right}
 use Rattle.lists.specs.Prelude.{eq_of_mul-eq-mul_right, add-zero, dec_le, arith, T, pow_pos, Float, nan, inf, fin}
 use Rattle.lists.specs.Prelude.{Format, prec, low, fits, hid}
 use lib.Ieee.Exact.{HasValue}

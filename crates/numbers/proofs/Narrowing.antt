@@ -1,13 +1,14 @@
 -- What `rounded` makes of an f64's fields, as a bit pattern. M * 2 ^ j / 2 ^ L is rounded by one shift of M, whether
 -- the result is subnormal, normal or an infinity (`scaled_bits`, in every format), and the three cases of
 -- `narrow_magnitude` are three such shifts, with the digits of binary64 and binary32. Assumes nothing.
-use Rattle.lists.specs.Prelude.{◌≡◌, refl, sym, ap, ◌∙◌, ◌⊎◌, inl, inr, Bool, true, false, not, ◌&&◌, cond, ℕ, ◌+◌, ◌-◌}
-use Rattle.lists.specs.Prelude.{◌*◌, ◌/◌, ◌%◌, ◌^◌, ◌≤◌, ◌<◌, min, le_trans, le_of_eq, lt_of_lt_of_le, eq-or-lt_of_le}
-use Rattle.lists.specs.Prelude.{mul_assoc, mul_comm, mul_left_comm, mul-pos, mul-le-mul_right, mul-lt-mul_of_pos_right}
-use Rattle.lists.specs.Prelude.{lt_of_mul-lt-mul_right, le_of_mul-le-mul_right, le-div_iff_mul-le, div-lt_iff_lt-mul}
-use Rattle.lists.specs.Prelude.{arith, T, eqb, eqb→eq, pow-add, pow_pos, pow_mono, Float, nan, inf, fin, Format}
-use Rattle.lists.specs.Prelude.{binary32, binary64, prec, low, up, down, size, units, round, fits, is_nan, hid, ones}
-use Rattle.lists.specs.Prelude.{top, of_fields, to_bits, nan_bits}
+use Rattle.std.specs.Prelude.{◌≡◌, ◌⊎◌, ◌&&◌, ◌+◌, ◌-◌, ◌*◌, ◌/◌, ◌%◌, ◌^◌, ◌≤◌, ◌<◌}
+use Rattle.lists.specs.Prelude.{refl, sym, ap, ◌∙◌, inl, inr, Bool, true, false, not, cond, ℕ, min, le_trans, le_of_eq}
+use Rattle.lists.specs.Prelude.{lt_of_lt_of_le, eq-or-lt_of_le, mul_assoc, mul_comm, mul_left_comm, mul-pos}
+use Rattle.lists.specs.Prelude.{mul-le-mul_right, mul-lt-mul_of_pos_right, lt_of_mul-lt-mul_right}
+use Rattle.lists.specs.Prelude.{le_of_mul-le-mul_right, le-div_iff_mul-le, div-lt_iff_lt-mul, arith, T, eqb, eqb→eq}
+use Rattle.lists.specs.Prelude.{pow-add, pow_pos, pow_mono, Float, nan, inf, fin, Format, binary32, binary64, prec, low}
+use Rattle.lists.specs.Prelude.{up, down, size, units, round, fits, is_nan, hid, ones, top, of_fields, to_bits}
+use Rattle.lists.specs.Prelude.{nan_bits}
 use lib.Ieee.Fits.{down_pos, eq→eqb, core, round_is, round-fits, nan-fits, inf-fits}
 use lib.Ieee.Exact.{HasValue}
 use lib.Ieee.Nearest.{closest, closest_same}

@@ -1,12 +1,12 @@
 -- `rounded` is what document 01 says of a conversion (`rounded_narrows`), and nothing else is (`narrows_only`). In
 -- every format. Assumes nothing.
-use Rattle.lists.specs.Prelude.{◌≡◌, refl, sym, ap, ◌∙◌, subst₂, ◌⊎◌, inl, inr, Bool, true, false, not, ◌&&◌, ◌||◌}
-use Rattle.lists.specs.Prelude.{cond, true≢false, ℕ, zero, suc, ◌+◌, ◌-◌, ◌*◌, ◌/◌, ◌%◌, ◌^◌, ◌≤◌, ◌<◌, le_trans}
-use Rattle.lists.specs.Prelude.{mul_assoc, mul_comm, mul-le-mul_right, le_of_mul-le-mul_right, lt_of_mul-lt-mul_right}
-use Rattle.lists.specs.Prelude.{eq_of_mul-eq-mul_right, le-add_right, suc-mul, min-eq_left, ℕ_discrete, arith, ℤ, T}
-use Rattle.lists.specs.Prelude.{leb, ltb, pow_pos, pow-add, suc_ones, Float, nan, inf, fin, Format, prec, emax, low, up}
-use Rattle.lists.specs.Prelude.{down, size, odd, units, fits, is_nan, hid, ones, top, to_bits, ltb-true, ltb-false}
-use Rattle.lists.specs.Prelude.{le-leb, lt-leb}
+use Rattle.std.specs.Prelude.{◌≡◌, ◌⊎◌, ◌&&◌, ◌||◌, ◌+◌, ◌-◌, ◌*◌, ◌/◌, ◌%◌, ◌^◌, ◌≤◌, ◌<◌}
+use Rattle.lists.specs.Prelude.{refl, sym, ap, ◌∙◌, subst₂, inl, inr, Bool, true, false, not, cond, true≢false, ℕ, zero}
+use Rattle.lists.specs.Prelude.{suc, le_trans, mul_assoc, mul_comm, mul-le-mul_right, le_of_mul-le-mul_right}
+use Rattle.lists.specs.Prelude.{lt_of_mul-lt-mul_right, eq_of_mul-eq-mul_right, le-add_right, suc-mul, min-eq_left}
+use Rattle.lists.specs.Prelude.{ℕ_discrete, arith, ℤ, T, leb, ltb, pow_pos, pow-add, suc_ones, Float, nan, inf, fin}
+use Rattle.lists.specs.Prelude.{Format, prec, emax, low, up, down, size, odd, units, fits, is_nan, hid, ones, top}
+use Rattle.lists.specs.Prelude.{to_bits, ltb-true, ltb-false, le-leb, lt-leb}
 use lib.Ieee.Fits.{two, reach, down_pos, round_is, nan-fits, inf-fits}
 use lib.Ieee.Exact.{HasValue, units_val}
 use lib.Ieee.Scale.{finite, overflow}

@@ -1,6 +1,7 @@
 -- The inverse of a root: what is answered for 0 and for any other number, and what a caller that asks for another
 -- takes. Assumes nothing.
-use Rattle.lists.specs.Prelude.{◌≡◌, sym, ap, ◌∙◌, ℕ, ◌<◌, arith, ne_eqb}
+use Rattle.std.specs.Prelude.{◌≡◌, ◌<◌}
+use Rattle.lists.specs.Prelude.{sym, ap, ◌∙◌, ℕ, arith, ne_eqb}
 use Rattle.refusals.proofs.First.{answered_accepted}
 use Rattle.lists.proofs.Tests.{cond_false}
 use Rattle.formats.specs.Floats.{zero_float}

@@ -1,8 +1,8 @@
 -- Wrong ways to convert, to take a root and to take the inverse of one, each held against document 01's words at a
 -- number where it breaks them. Assumes nothing.
-use Rattle.lists.specs.Prelude.{ℕ, ◌<◌, arith, ⊎_elim, ◌≡◌, refl, ap, ◌∙◌, true, false, not, true≢false, false≢true}
-use Rattle.lists.specs.Prelude.{le→leb, lit≤, pos, negsuc, Float, nan, inf, fin, binary32, binary64, fits, is_nan}
-use Rattle.lists.specs.Prelude.{to_bits}
+use Rattle.std.specs.Prelude.{◌<◌, ◌≡◌}
+use Rattle.lists.specs.Prelude.{ℕ, arith, ⊎_elim, refl, ap, ◌∙◌, true, false, not, true≢false, false≢true, le→leb, lit≤}
+use Rattle.lists.specs.Prelude.{pos, negsuc, Float, nan, inf, fin, binary32, binary64, fits, is_nan, to_bits}
 use lib.Ieee.Positive.{num}
 use lib.Ieee.Scale.{finite}
 use Rattle.formats.specs.Floats.{zero_float, one_float}

@@ -1,6 +1,7 @@
 -- The answer to the root of a float: a positive number is accepted, and the value is `root_of` of it, also where it is
 -- refused. Assumes nothing.
-use Rattle.lists.specs.Prelude.{◌≡◌, refl, true, false, zero, suc, T, Float, nan, inf, fin, binary64}
+use Rattle.std.specs.Prelude.{◌≡◌}
+use Rattle.lists.specs.Prelude.{refl, true, false, zero, suc, T, Float, nan, inf, fin, binary64}
 use lib.Ieee.Positive.{positive}
 use Rattle.numbers.specs.Computed.{root_of, refusal_of, root_answer}
 

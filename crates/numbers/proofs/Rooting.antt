@@ -1,13 +1,13 @@
 -- What a program computes against `root_of`, in every format: k, the number M under the root in units of 2 ^ k, four
 -- times, and r, its whole root. Then the root is (r + 1) / 2 times 2 ^ k units, and its pattern k * hid + (r + 1) / 2
 -- (`rooted`). Assumes nothing.
-use Rattle.lists.specs.Prelude.{◌≡◌, refl, sym, ap, ◌∙◌, subst, inr, ℕ, zero, suc, ◌+◌, ◌-◌, ◌*◌, ◌/◌, ◌%◌, ◌^◌, ◌≤◌}
-use Rattle.lists.specs.Prelude.{◌<◌, mod-lt, zero-lt-suc, mul-one, mul_assoc, mul-le-mul_left, le_trans, le_of_eq}
-use Rattle.lists.specs.Prelude.{le_of_suc-le-suc, le-suc, lt_of_lt_of_le, lt_of_le_of_lt, lt_of_not-le, lt_irrefl}
-use Rattle.lists.specs.Prelude.{le_of_mul-le-mul_left, lt_of_mul-lt-mul_left, mul-le-mul, mul-div_cancel}
-use Rattle.lists.specs.Prelude.{mul-le-mul_right, mul-lt-mul_of_pos_right, pow-succ', zero-add, min-eq_left, arith}
-use Rattle.lists.specs.Prelude.{true, false, T, lit<, pow_pos, pow_mono, pow-add, pow-lt, Float, nan, inf, fin, Format}
-use Rattle.lists.specs.Prelude.{prec, emax, low, down, size, units, hid, of_bits}
+use Rattle.std.specs.Prelude.{◌≡◌, ◌+◌, ◌-◌, ◌*◌, ◌/◌, ◌%◌, ◌^◌, ◌≤◌, ◌<◌}
+use Rattle.lists.specs.Prelude.{refl, sym, ap, ◌∙◌, subst, inr, ℕ, zero, suc, mod-lt, zero-lt-suc, mul-one, mul_assoc}
+use Rattle.lists.specs.Prelude.{mul-le-mul_left, le_trans, le_of_eq, le_of_suc-le-suc, le-suc, lt_of_lt_of_le}
+use Rattle.lists.specs.Prelude.{lt_of_le_of_lt, lt_of_not-le, lt_irrefl, le_of_mul-le-mul_left, lt_of_mul-lt-mul_left}
+use Rattle.lists.specs.Prelude.{mul-le-mul, mul-div_cancel, mul-le-mul_right, mul-lt-mul_of_pos_right, pow-succ'}
+use Rattle.lists.specs.Prelude.{zero-add, min-eq_left, arith, true, false, T, lit<, pow_pos, pow_mono, pow-add, pow-lt}
+use Rattle.lists.specs.Prelude.{Float, nan, inf, fin, Format, prec, emax, low, down, size, units, hid, of_bits}
 use lib.Ieee.Digits.{size-le}
 use lib.Ieee.Fits.{two, down_pos}
 use lib.Ieee.Exact.{HasValue}

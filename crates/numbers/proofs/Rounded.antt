@@ -3,12 +3,13 @@
 -- format's smallest value the fraction is n / c, of which k digits are dropped. So it is rounded to a multiple of U = c
 -- * 2 ^ k, and a value of the format is such a multiple or is too short to be near. Over every format, and in whole
 -- numbers: Narrows.antt says it of floats. Assumes nothing.
-use Rattle.lists.specs.Prelude.{◌≡◌, refl, sym, ap, ◌∙◌, subst, ◌⊎◌, inl, inr, ⊎_elim, ℕ, suc, ◌+◌, ◌*◌, ◌%◌, ◌^◌, ◌≤◌}
-use Rattle.lists.specs.Prelude.{◌<◌, le_trans, le_of_eq, le_of_lt, lt_of_lt_of_le, lt_irrefl, not-le_of_lt, le_antisymm}
-use Rattle.lists.specs.Prelude.{le_of_suc-le-suc, eq-or-lt_of_le, suc-mul, mul-le-mul, zero-mul, mul-one, mul_assoc}
-use Rattle.lists.specs.Prelude.{mul_comm, mul_left_comm, mul-pos, pow-suc, mul-le-mul_right, mul-le-mul_left}
-use Rattle.lists.specs.Prelude.{mul-lt-mul_of_pos_right, le_of_mul-le-mul_left, le_of_mul-le-mul_right}
-use Rattle.lists.specs.Prelude.{lt_of_mul-lt-mul_right, ℕ_discrete, dec_lt, arith, pow_pos, pow_mono, Format, prec, hid}
+use Rattle.std.specs.Prelude.{◌≡◌, ◌⊎◌, ◌+◌, ◌*◌, ◌%◌, ◌^◌, ◌≤◌, ◌<◌}
+use Rattle.lists.specs.Prelude.{refl, sym, ap, ◌∙◌, subst, inl, inr, ⊎_elim, ℕ, suc, le_trans, le_of_eq, le_of_lt}
+use Rattle.lists.specs.Prelude.{lt_of_lt_of_le, lt_irrefl, not-le_of_lt, le_antisymm, le_of_suc-le-suc, eq-or-lt_of_le}
+use Rattle.lists.specs.Prelude.{suc-mul, mul-le-mul, zero-mul, mul-one, mul_assoc, mul_comm, mul_left_comm, mul-pos}
+use Rattle.lists.specs.Prelude.{pow-suc, mul-le-mul_right, mul-le-mul_left, mul-lt-mul_of_pos_right}
+use Rattle.lists.specs.Prelude.{le_of_mul-le-mul_left, le_of_mul-le-mul_right, lt_of_mul-lt-mul_right, ℕ_discrete}
+use Rattle.lists.specs.Prelude.{dec_lt, arith, pow_pos, pow_mono, Format, prec, hid}
 use lib.Arith.{lt_of_le-ne}
 use lib.Ieee.Scale.{overflow}
 use lib.Ieee.Nearest.{closest}

@@ -1,10 +1,11 @@
 -- The whole root of a number: `whole_root n` is the largest r whose square is at most n (`whole_root_law`), and the
 -- only
 -- such r (`whole_root_unique`). Assumes nothing.
-use Rattle.lists.specs.Prelude.{◌≡◌, refl, sym, ap, ◌∙◌, ℕ, zero, suc, ◌+◌, ◌*◌, ◌/◌, ◌^◌, ◌≤◌, ◌<◌, zero-le, le_trans}
-use Rattle.lists.specs.Prelude.{le_of_eq, le_of_suc-le-suc, le_antisymm, lt_of_lt_of_le, lt_of_not-le, lt_irrefl}
-use Rattle.lists.specs.Prelude.{zero-lt-suc, mul-mul-mul_comm, mul-le-mul, suc-mul, mul-suc, pow-suc, one-le-pow}
-use Rattle.lists.specs.Prelude.{div-lt_iff_lt-mul, arith, pow_pos, pow-add, size}
+use Rattle.std.specs.Prelude.{◌≡◌, ◌+◌, ◌*◌, ◌/◌, ◌^◌, ◌≤◌, ◌<◌}
+use Rattle.lists.specs.Prelude.{refl, sym, ap, ◌∙◌, ℕ, zero, suc, zero-le, le_trans, le_of_eq, le_of_suc-le-suc}
+use Rattle.lists.specs.Prelude.{le_antisymm, lt_of_lt_of_le, lt_of_not-le, lt_irrefl, zero-lt-suc, mul-mul-mul_comm}
+use Rattle.lists.specs.Prelude.{mul-le-mul, suc-mul, mul-suc, pow-suc, one-le-pow, div-lt_iff_lt-mul, arith, pow_pos}
+use Rattle.lists.specs.Prelude.{pow-add, size}
 use lib.Ieee.Digits.{size-lt}
 use Rattle.lists.specs.OneAnswer.{OneAnswer}
 use Rattle.lists.proofs.Tests.{by_at_most}

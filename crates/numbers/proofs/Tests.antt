@@ -1,11 +1,12 @@
 -- What the program's tests of a float say of the root: zero, not above zero, infinite, and above zero. Each case ends
 -- in the one answer that `root_answer` gives, and that answer is what document 01 says (`root_promised`). Assumes
 -- nothing.
-use Rattle.lists.specs.Prelude.{◌≡◌, refl, sym, ap, ◌∙◌, subst, ◌⊎◌, inl, inr, Bool, true, false, not, ◌&&◌, ◌||◌}
-use Rattle.lists.specs.Prelude.{bool_beq, ℕ, zero, suc, ◌+◌, ◌-◌, ◌*◌, ◌/◌, ◌%◌, ◌^◌, ◌≤◌, ◌<◌, not-le_of_lt, lt_irrefl}
-use Rattle.lists.specs.Prelude.{zero-lt-suc, zero-mul, mul-one, mul-pos, mul_assoc, mul_left_comm, eq-zero-or-pos}
-use Rattle.lists.specs.Prelude.{pow-succ', add-one, arith, ℤ, pos, T, eqb, eqb→eq, ltb→lt, lt→ltb, pow-add, Float, nan}
-use Rattle.lists.specs.Prelude.{inf, fin, binary64, up, down, units, lt, eq, fits, is_nan, of_bits, nan_bits, to_bits}
+use Rattle.std.specs.Prelude.{◌≡◌, ◌⊎◌, ◌&&◌, ◌||◌, ◌+◌, ◌-◌, ◌*◌, ◌/◌, ◌%◌, ◌^◌, ◌≤◌, ◌<◌}
+use Rattle.lists.specs.Prelude.{refl, sym, ap, ◌∙◌, subst, inl, inr, Bool, true, false, not, bool_beq, ℕ, zero, suc}
+use Rattle.lists.specs.Prelude.{not-le_of_lt, lt_irrefl, zero-lt-suc, zero-mul, mul-one, mul-pos, mul_assoc}
+use Rattle.lists.specs.Prelude.{mul_left_comm, eq-zero-or-pos, pow-succ', add-one, arith, ℤ, pos, T, eqb, eqb→eq}
+use Rattle.lists.specs.Prelude.{ltb→lt, lt→ltb, pow-add, Float, nan, inf, fin, binary64, up, down, units, lt, eq, fits}
+use Rattle.lists.specs.Prelude.{is_nan, of_bits, nan_bits, to_bits}
 use denote.Floats.{passes}
 use lib.Ieee.Fits.{up_pos, and_l}
 use lib.Ieee.Bits.{of_bits-to_bits, nan_bits_is}

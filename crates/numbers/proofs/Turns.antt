@@ -1,8 +1,8 @@
 -- The steps of the program that computes a root: the invariant of the loop that takes two digits a turn (`Turn`), and
 -- the parts of a pattern (`Aligned`). The digits of binary64 and of a word of 64 bits enter here. Assumes nothing.
-use Rattle.lists.specs.Prelude.{◌≡◌, sym, ap, ◌∙◌, subst, ℕ, suc, ◌+◌, ◌-◌, ◌*◌, ◌/◌, ◌%◌, ◌^◌, ◌≤◌, ◌<◌, le_trans}
-use Rattle.lists.specs.Prelude.{lt_of_lt_of_le, lt_of_not-le, not-le_of_lt, mod-lt, mul_assoc, mul_comm, arith, pow_pos}
-use Rattle.lists.specs.Prelude.{pow_mono, pow-add, lit≤, binary64}
+use Rattle.std.specs.Prelude.{◌≡◌, ◌+◌, ◌-◌, ◌*◌, ◌/◌, ◌%◌, ◌^◌, ◌≤◌, ◌<◌}
+use Rattle.lists.specs.Prelude.{sym, ap, ◌∙◌, subst, ℕ, suc, le_trans, lt_of_lt_of_le, lt_of_not-le, not-le_of_lt}
+use Rattle.lists.specs.Prelude.{mod-lt, mul_assoc, mul_comm, arith, pow_pos, pow_mono, pow-add, lit≤, binary64}
 use lib.Count.{count_leading_zeros, leading_top}
 use Rattle.formats.proofs.Patterns.{digits}
 use Rattle.formats.proofs.Normal.{Scaled, scaled_normal, scaled_low}

@@ -1,6 +1,7 @@
 -- No two answers meet a promise. Of a conversion and of a root document 01's words alone allow one answer: the
 -- equations beside them are a help to callers and nothing that has to be believed. Assumes nothing.
-use Rattle.lists.specs.Prelude.{◌≡◌, true, false, ℕ, zero, suc, zero-lt-suc, T, lt→ltb, Float, nan, inf, fin, Format}
+use Rattle.std.specs.Prelude.{◌≡◌}
+use Rattle.lists.specs.Prelude.{true, false, ℕ, zero, suc, zero-lt-suc, T, lt→ltb, Float, nan, inf, fin, Format}
 use Rattle.lists.specs.Prelude.{binary64, fits}
 use lib.Ieee.Positive.{positive}
 use Rattle.lists.specs.OneAnswer.{OneAnswer, AllowsOneAnswer}

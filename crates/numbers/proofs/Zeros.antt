@@ -1,8 +1,9 @@
 -- Sums, products and quotients of the zeros of binary64: 0.0 times a finite number is a zero of some sign, 0.0 with a
 -- zero of either sign added is 0.0, and 0.0 over a number above 0 is 0.0. Assumes nothing.
-use Rattle.lists.specs.Prelude.{◌≡◌, refl, ap, ◌∙◌, Bool, true, false, ℕ, ◌*◌, zero-mul, mul-pos, lt_irrefl, ne_eqb, T}
-use Rattle.lists.specs.Prelude.{lit<, ℤ, pos, Float, fin, binary64, add, mul, div, round, sum, size, span, climb, units}
-use Rattle.lists.specs.Prelude.{odd, up, down, unlike}
+use Rattle.std.specs.Prelude.{◌≡◌, ◌*◌}
+use Rattle.lists.specs.Prelude.{refl, ap, ◌∙◌, Bool, true, false, ℕ, zero-mul, mul-pos, lt_irrefl, ne_eqb, T, lit<, ℤ}
+use Rattle.lists.specs.Prelude.{pos, Float, fin, binary64, add, mul, div, round, sum, size, span, climb, units, odd, up}
+use Rattle.lists.specs.Prelude.{down, unlike}
 use lib.Ieee.Fits.{up_pos, down_pos}
 use lib.Ieee.Positive.{positive}
 use Rattle.lists.proofs.Tests.{cond_false}

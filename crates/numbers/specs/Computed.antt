@@ -1,8 +1,9 @@
 -- What the program computes: the values by which its answers are fixed bit for bit. Definitions only. Nobody has to
 -- believe them: `Promise` ties each to document 01's words. `Parted` is what a step of the root promises
 -- another one, and no public promise cites it.
-use Rattle.lists.specs.Prelude.{true, false, cond, [], ◌∷◌, ℕ, zero, suc, ◌-◌, ◌*◌, ◌/◌, ◌^◌, ◌≤◌, ◌<◌, ◌%◌, leb, Float}
-use Rattle.lists.specs.Prelude.{nan, inf, fin, Format, binary32, binary64, prec, low, up, down, size, units, round, ◌≡◌}
+use Rattle.std.specs.Prelude.{◌∷◌, ◌-◌, ◌*◌, ◌/◌, ◌^◌, ◌≤◌, ◌<◌, ◌%◌, ◌≡◌}
+use Rattle.lists.specs.Prelude.{true, false, cond, [], ℕ, zero, suc, leb, Float, nan, inf, fin, Format, binary32}
+use Rattle.lists.specs.Prelude.{binary64, prec, low, up, down, size, units, round}
 use Rattle.refusals.specs.Refusals.{first_of, ◌when◌, answered}
 use Rattle.formats.specs.Floats.{zero_float}
 use Rattle.numbers.specs.Roots.{rootless}

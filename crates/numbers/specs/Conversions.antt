@@ -1,9 +1,9 @@
 -- Document 01, 'Conversions and roots': "f32 to f64 is exact. f64 to f32 takes the nearest, ties to the even one, with
 -- subnormals; too large gives infinity; the sign is kept, of zero too; a NaN gives a NaN." Definitions only. Subnormals
 -- need no word of their own: they are values of the format like any other.
-use Rattle.lists.specs.Prelude.{◌≡◌, Bool, true, false, ◌&&◌, ◌||◌, ℕ, suc, ◌+◌, ◌-◌, ◌*◌, ◌%◌, ◌^◌, T, leb, Float, nan}
-use Rattle.lists.specs.Prelude.{◌≢◌}
-use Rattle.lists.specs.Prelude.{inf, fin, Format, binary64, prec, emax, fits, is_nan, to_bits}
+use Rattle.std.specs.Prelude.{◌≡◌, ◌&&◌, ◌||◌, ◌+◌, ◌-◌, ◌*◌, ◌%◌, ◌^◌, ◌≢◌}
+use Rattle.lists.specs.Prelude.{Bool, true, false, ℕ, suc, T, leb, Float, nan, inf, fin, Format, binary64, prec, emax}
+use Rattle.lists.specs.Prelude.{fits, is_nan, to_bits}
 use Rattle.std.specs.Float.Ieee.Scale.{finite}
 use Rattle.fractions.specs.Fraction.{number, AsNear}
 

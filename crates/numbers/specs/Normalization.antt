@@ -1,7 +1,8 @@
 -- Document 01, 'Sums': "times 1.0/root(speakers)", and 'Gains': "times 1/root(n)", "times 1.0/root(2.0)". Definitions
 -- only. The root is the one that `numbers::root` promises, the f64 nearest the exact root; its inverse is one f64
 -- division.
-use Rattle.lists.specs.Prelude.{ℕ, ◌≡◌, [], ◌∷◌, eqb, pos, Float, binary64, div}
+use Rattle.std.specs.Prelude.{◌≡◌, ◌∷◌}
+use Rattle.lists.specs.Prelude.{ℕ, [], eqb, pos, Float, binary64, div}
 use Rattle.refusals.specs.Refusals.{first_of, ◌when◌, answered}
 use Rattle.formats.specs.Floats.{zero_float, one_float, float}
 use Rattle.numbers.specs.Computed.{root_of}

@@ -1,6 +1,7 @@
 -- What each public function promises: the answer by an equation, which leaves no second answer, and beside it what
 -- document 01 says of it. Definitions only.
-use Rattle.lists.specs.Prelude.{◌≡◌, Bool, pos, T, Float, fin, binary32, binary64, fits}
+use Rattle.std.specs.Prelude.{◌≡◌}
+use Rattle.lists.specs.Prelude.{Bool, pos, T, Float, fin, binary32, binary64, fits}
 use Rattle.std.specs.Float.Ieee.Positive.{positive}
 use Rattle.numbers.specs.Conversions.{Narrows}
 use Rattle.numbers.specs.Roots.{rootless, NearestRoot}

@@ -1,7 +1,8 @@
 -- Document 01, 'Conversions and roots': "The root of a finite number is the f64 nearest the exact root, said by squares
 -- of whole numbers; -0.0 gives -0.0." and refusal 10: "root of a NaN, an infinity or a number below zero". Definitions
 -- only.
-use Rattle.lists.specs.Prelude.{Bool, true, false, ◌⊎◌, zero, suc, T, Float, nan, inf, fin, Format, fits}
+use Rattle.std.specs.Prelude.{◌⊎◌}
+use Rattle.lists.specs.Prelude.{Bool, true, false, zero, suc, T, Float, nan, inf, fin, Format, fits}
 use Rattle.std.specs.Float.Ieee.Scale.{finite}
 use Rattle.fractions.specs.Fraction.{Fraction, whole, number, ◌⊕◌, ◌⊗◌, square, Less, AtMost}
 

@@ -1,7 +1,8 @@
 -- The gains of a command are those of the crate that computes them, and its refusal is theirs, in the panner's order.
 -- Assumes nothing.
-use Rattle.lists.specs.Prelude.{◌≡◌, refl, sym, ap, ◌∙◌, subst, Bool, true, false, not, cond, ◌∷◌, ℕ, ◌≤◌, ◌<◌, arith}
-use Rattle.lists.specs.Prelude.{not-false, eqb, lit≤, replicate, Float}
+use Rattle.std.specs.Prelude.{◌≡◌, ◌∷◌, ◌≤◌, ◌<◌}
+use Rattle.lists.specs.Prelude.{refl, sym, ap, ◌∙◌, subst, Bool, true, false, not, cond, ℕ, arith, not-false, eqb, lit≤}
+use Rattle.lists.specs.Prelude.{replicate, Float}
 use Rattle.refusals.proofs.First.{passed, not_accepted, answered_number}
 use Rattle.lists.proofs.Tests.{cond_true, cond_false}
 use Rattle.channel.specs.Layouts.{channels_of, refuses_channels, surround, channels_answer, layout_channels}

@@ -1,5 +1,6 @@
 -- What the promise of `command_gains` says of a command that is refused, and of one that is not. Assumes nothing.
-use Rattle.lists.specs.Prelude.{◌≡◌, refl, ap, ◌∙◌}
+use Rattle.std.specs.Prelude.{◌≡◌}
+use Rattle.lists.specs.Prelude.{refl, ap, ◌∙◌}
 use Rattle.refusals.specs.Refusals.{first_of}
 use Rattle.refusals.proofs.First.{answered_accepted, answered_refused, answered_number}
 use Rattle.channel.specs.declared.Layout.{Layout}

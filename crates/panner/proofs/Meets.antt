@@ -1,7 +1,7 @@
 -- The answers of `command_gains` and of `process` are those promised: refused by the command, by a length, by the
 -- number of frames, and played. Assumes nothing.
-use Rattle.lists.specs.Prelude.{◌≡◌, sym, ap, ◌∙◌, true, false, List, ℕ, ◌≤◌, ◌<◌, min, sub-zero, arith, lt-ltb, le-ltb}
-use Rattle.lists.specs.Prelude.{length, Float}
+use Rattle.std.specs.Prelude.{◌≡◌, ◌≤◌, ◌<◌}
+use Rattle.lists.specs.Prelude.{sym, ap, ◌∙◌, true, false, List, ℕ, min, sub-zero, arith, lt-ltb, le-ltb, length, Float}
 use Rattle.refusals.specs.Refusals.{Check, first_of}
 use Rattle.refusals.proofs.First.{answered_accepted, answered_refused}
 use Rattle.lists.proofs.Tests.{cond_true, cond_false}

@@ -1,7 +1,8 @@
 -- What the promise says of single samples: an accepted block plays every frame that it is given, in every plane, and
 -- counts them; beyond the count a plane is as it was; what is refused by a number is answered by it. Assumes nothing.
-use Rattle.lists.specs.Prelude.{◌≡◌, refl, sym, ap, ◌∙◌, false, List, [], ◌++◌, ℕ, ◌*◌, ◌≤◌, ◌<◌, zero-add, arith}
-use Rattle.lists.specs.Prelude.{ltb-false, length, get_or, Float, nan, binary32, mul}
+use Rattle.std.specs.Prelude.{◌≡◌, ◌++◌, ◌*◌, ◌≤◌, ◌<◌}
+use Rattle.lists.specs.Prelude.{refl, sym, ap, ◌∙◌, false, List, [], ℕ, zero-add, arith, ltb-false, length, get_or}
+use Rattle.lists.specs.Prelude.{Float, nan, binary32, mul}
 use Rattle.refusals.specs.Refusals.{Check}
 use Rattle.refusals.proofs.Chains.{Off, none_holds}
 use Rattle.numbers.specs.Computed.{narrowed}

@@ -1,6 +1,7 @@
 -- Wrong ways to answer, each held against the promise. Assumes nothing.
-use Rattle.lists.specs.Prelude.{◌≡◌, refl, sym, ap, ◌∙◌, true, false, true≢false, List, [], ◌∷◌, ℕ, ◌-◌, ◌≤◌, ◌<◌}
-use Rattle.lists.specs.Prelude.{arith, lit<, pos, negsuc, length, get_or, Float, fin, binary32, mul, round, of_int}
+use Rattle.std.specs.Prelude.{◌≡◌, ◌∷◌, ◌-◌, ◌≤◌, ◌<◌}
+use Rattle.lists.specs.Prelude.{refl, sym, ap, ◌∙◌, true, false, true≢false, List, [], ℕ, arith, lit<, pos, negsuc}
+use Rattle.lists.specs.Prelude.{length, get_or, Float, fin, binary32, mul, round, of_int}
 use lib.Ieee.Positive.{positive}
 use Rattle.refusals.specs.Refusals.{first_of}
 use Rattle.formats.specs.Floats.{zero_float, float}

@@ -1,7 +1,8 @@
 -- Document 01, 'Sums': "Panner: the f32 product of sample and narrowed gain." 'Refusal numbers': 5 when "a lent length
 -- doesn't fit: stride below the frame count, or a length other than planes x stride", 6 when "a panner block has more
 -- than 4,096 frames". Definitions only. The input is one plane.
-use Rattle.lists.specs.Prelude.{ℕ, Bool, List, [], ◌∷◌, ◌++◌, ltb, get_or, Float, nan, binary32, mul}
+use Rattle.std.specs.Prelude.{◌∷◌, ◌++◌}
+use Rattle.lists.specs.Prelude.{ℕ, Bool, List, [], ltb, get_or, Float, nan, binary32, mul}
 use Rattle.refusals.specs.Refusals.{Check, first_of, ◌when◌}
 use Rattle.numbers.specs.Computed.{narrowed}
 use Rattle.lists.specs.Tables.{tab}

@@ -2,7 +2,8 @@
 -- refuses ('Refusal numbers' 1, 2 and 3: "The panner offers Surround51 and Surround71 for surround"; Custom 0 or above
 -- 16 is 2 wherever a layout is handed in), how many planes it plays to, and with which gains ('Gains'). Definitions
 -- only.
-use Rattle.lists.specs.Prelude.{ℕ, Bool, false, not, List, [], ◌∷◌, get_or, replicate, Float}
+use Rattle.std.specs.Prelude.{◌∷◌}
+use Rattle.lists.specs.Prelude.{ℕ, Bool, false, not, List, [], get_or, replicate, Float}
 use Rattle.refusals.specs.Refusals.{Check, ◌when◌}
 use Rattle.channel.specs.Layouts.{channels_of, refuses_channels, surround}
 use Rattle.channel.specs.Orders.{refuses_order, channels_of_order}

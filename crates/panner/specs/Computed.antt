@@ -1,5 +1,6 @@
 -- What the steps of the program hand to each other. Definitions only, and none that the public promise cites.
-use Rattle.lists.specs.Prelude.{ℕ, ◌≡◌, Bool}
+use Rattle.std.specs.Prelude.{◌≡◌}
+use Rattle.lists.specs.Prelude.{ℕ, Bool}
 use Rattle.refusals.specs.Refusals.{first_of}
 use Rattle.channel.specs.Layouts.{channels_of, refuses_channels}
 use Rattle.channel.specs.declared.Layout.{Layout}

@@ -1,7 +1,8 @@
 -- What the two halves of `process` promise: the gains that a command plays with, and some frames of a block played.
 -- Document 01: "A refusal returns its number, counts of 0, 0.0 for any number or gain"; 'Sums': "Panner: the f32
 -- product of sample and narrowed gain." Definitions only.
-use Rattle.lists.specs.Prelude.{ℕ, ◌-◌, ◌≡◌, List, replicate, Float}
+use Rattle.std.specs.Prelude.{◌-◌, ◌≡◌}
+use Rattle.lists.specs.Prelude.{ℕ, List, replicate, Float}
 use Rattle.refusals.specs.Refusals.{first_of, answered}
 use Rattle.formats.specs.Floats.{zero_float}
 use Rattle.lists.specs.Tables.{tab}

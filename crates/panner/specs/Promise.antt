@@ -1,6 +1,7 @@
 -- What `panner::process` promises: the answer and every sample of the output planes. Document 01: "Input samples may
 -- be any bit pattern." Definitions only.
-use Rattle.lists.specs.Prelude.{ℕ, ◌≡◌, List, length, Float}
+use Rattle.std.specs.Prelude.{◌≡◌}
+use Rattle.lists.specs.Prelude.{ℕ, List, length, Float}
 use Rattle.planes.specs.Blocks as Blocks
 use Rattle.planes.specs.Blocks.{block_of}
 use Rattle.panner.specs.declared.Panned.{Panned}

@@ -1,5 +1,6 @@
 -- A block that is refused, and one that is played. Assumes nothing.
-use Rattle.lists.specs.Prelude.{ℕ, zero, suc, ◌≡◌, sym, ap, ◌∙◌, List, Float}
+use Rattle.std.specs.Prelude.{◌≡◌}
+use Rattle.lists.specs.Prelude.{ℕ, zero, suc, sym, ap, ◌∙◌, List, Float}
 use Rattle.refusals.proofs.First.{answered_accepted, answered_refused}
 use Rattle.planes.specs.Planes.{with_frames}
 use Rattle.planes.specs.Blocks.{Block, block_of}

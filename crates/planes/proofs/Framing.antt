@@ -1,7 +1,7 @@
 -- A frame put sample by sample, and judged by the way, and frames put one after another: those that are left, put where
 -- they belong, give the planes that are promised. Assumes nothing.
-use Rattle.lists.specs.Prelude.{ℕ, ◌+◌, ◌-◌, ◌≤◌, ◌<◌, arith, ◌≡◌, refl, sym, ap, ◌∙◌, Bool, false, not, ◌||◌, or-false}
-use Rattle.lists.specs.Prelude.{or_assoc, List, length, Float}
+use Rattle.std.specs.Prelude.{◌+◌, ◌-◌, ◌≤◌, ◌<◌, ◌≡◌, ◌||◌}
+use Rattle.lists.specs.Prelude.{ℕ, arith, refl, sym, ap, ◌∙◌, Bool, false, not, or-false, or_assoc, List, length, Float}
 use lib.Ieee.Scale.{finite}
 use Rattle.checks.specs.Finite.{has_nonfinite}
 use Rattle.lists.specs.Tables.{tab}

@@ -1,8 +1,8 @@
 -- What the loop of `mix` keeps: the sum of sample times weight over the channels so far. And what `mix_frame` puts: the
 -- sum over a row of the weights, which is handed on as a part. Assumes nothing.
-use Rattle.lists.specs.Prelude.{◌≡◌, sym, ap, ◌∙◌, List, ℕ, ◌+◌, ◌-◌, ◌*◌, ◌≤◌, ◌<◌, min, zero-mul, suc-mul, add-one}
-use Rattle.lists.specs.Prelude.{arith, length, get_or, take, drop, length-take, length-drop, Float, nan, binary64, add}
-use Rattle.lists.specs.Prelude.{mul}
+use Rattle.std.specs.Prelude.{◌≡◌, ◌+◌, ◌-◌, ◌*◌, ◌≤◌, ◌<◌}
+use Rattle.lists.specs.Prelude.{sym, ap, ◌∙◌, List, ℕ, min, zero-mul, suc-mul, add-one, arith, length, get_or, take}
+use Rattle.lists.specs.Prelude.{drop, length-take, length-drop, Float, nan, binary64, add, mul}
 use Rattle.formats.specs.Floats.{zero_float}
 use Rattle.numbers.specs.Computed.{narrowed}
 use Rattle.lists.specs.Tables.{chunk}

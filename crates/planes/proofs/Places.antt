@@ -1,6 +1,6 @@
 -- A place lies in a list exactly if a quotient says so, which is formed in the place of the product. Assumes nothing.
-use Rattle.lists.specs.Prelude.{◌≡◌, ℕ, ◌+◌, ◌-◌, ◌*◌, ◌/◌, ◌≤◌, ◌<◌, mul-zero, le-div_iff_mul-le, div-lt_iff_lt-mul}
-use Rattle.lists.specs.Prelude.{arith}
+use Rattle.std.specs.Prelude.{◌≡◌, ◌+◌, ◌-◌, ◌*◌, ◌/◌, ◌≤◌, ◌<◌}
+use Rattle.lists.specs.Prelude.{ℕ, mul-zero, le-div_iff_mul-le, div-lt_iff_lt-mul, arith}
 
 module _ (size stride plane frame : ℕ) where
   pub one_place : stride ≡ 0 → plane * stride + frame ≡ frame

@@ -1,8 +1,9 @@
 -- Laws of planes: frames that were written are read back, and everything else is as it was. Assumes nothing.
-use Rattle.lists.specs.Prelude.{◌≡◌, refl, sym, ap, ◌∙◌, List, [], ◌∷◌, ◌++◌, ℕ, zero, suc, ◌+◌, ◌*◌, ◌/◌, ◌%◌, ◌≤◌}
-use Rattle.lists.specs.Prelude.{◌<◌, suc-le-suc, not-suc-le-zero, le_of_suc-le-suc, add-zero, zero-add, suc-add}
-use Rattle.lists.specs.Prelude.{add-suc, ℕ_discrete, arith, length, get_or, set, drop, length-set, get_or-set_same}
-use Rattle.lists.specs.Prelude.{get_or-set_other, get_or-take, get_or-drop, ext_get_or, Float, nan}
+use Rattle.std.specs.Prelude.{◌≡◌, ◌∷◌, ◌++◌, ◌+◌, ◌*◌, ◌/◌, ◌%◌, ◌≤◌, ◌<◌}
+use Rattle.lists.specs.Prelude.{refl, sym, ap, ◌∙◌, List, [], ℕ, zero, suc, suc-le-suc, not-suc-le-zero}
+use Rattle.lists.specs.Prelude.{le_of_suc-le-suc, add-zero, zero-add, suc-add, add-suc, ℕ_discrete, arith, length}
+use Rattle.lists.specs.Prelude.{get_or, set, drop, length-set, get_or-set_same, get_or-set_other, get_or-take}
+use Rattle.lists.specs.Prelude.{get_or-drop, ext_get_or, Float, nan}
 use lib.Arith.{digits_div, digits_mod}
 use Rattle.lists.specs.Tables.{tab, chunk}
 use Rattle.planes.specs.Planes.{sample_at, frame_at, frames_of, with_sample, with_frame_from, with_frame, with_frames}

@@ -1,8 +1,9 @@
 -- Wrong answers of another shape, refuted on a worked frame of three channels with weights of 1.0: channels added from
 -- the last to the first, a sum that is narrowed at each channel, and damage judged on the sum before it is narrowed.
 -- Assumes nothing.
-use Rattle.lists.specs.Prelude.{◌≡◌, ap, true, false, true≢false, List, [], ◌∷◌, reverse, pos, Float, fin, binary64}
-use Rattle.lists.specs.Prelude.{add, mul, round, sum, size, span, climb, units, odd}
+use Rattle.std.specs.Prelude.{◌≡◌, ◌∷◌}
+use Rattle.lists.specs.Prelude.{ap, true, false, true≢false, List, [], reverse, pos, Float, fin, binary64, add, mul}
+use Rattle.lists.specs.Prelude.{round, sum, size, span, climb, units, odd}
 use lib.Ieee.Positive.{positive}
 use Rattle.formats.specs.Floats.{zero_float}
 use Rattle.numbers.specs.Computed.{rounded, narrowed}

@@ -1,7 +1,8 @@
 -- With finite weights a frame of silence gives 0.0: each product is a zero of some sign, and 0.0 with a zero of either
 -- sign added is 0.0. Assumes nothing.
-use Rattle.lists.specs.Prelude.{◌≡◌, refl, ap, ◌∙◌, false, true≢false, List, [], ◌∷◌, ℕ, zero, suc, replicate, Float}
-use Rattle.lists.specs.Prelude.{nan, inf, fin, binary64, add, round, unlike}
+use Rattle.std.specs.Prelude.{◌≡◌, ◌∷◌}
+use Rattle.lists.specs.Prelude.{refl, ap, ◌∙◌, false, true≢false, List, [], ℕ, zero, suc, replicate, Float, nan, inf}
+use Rattle.lists.specs.Prelude.{fin, binary64, add, round, unlike}
 use Rattle.formats.specs.Floats.{zero_float}
 use Rattle.numbers.specs.Computed.{rounded, narrowed}
 use Rattle.numbers.proofs.Zeros.{zero_times, zero_plus}

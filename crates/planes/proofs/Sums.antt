@@ -1,8 +1,8 @@
 -- Laws of the ordered sum: the loop that forms it, the products of two lists place by place, lists that are joined, and
 -- a NaN in one. Assumes nothing.
-use Rattle.lists.specs.Prelude.{◌≡◌, refl, sym, ap, ◌∙◌, List, [], ◌∷◌, ◌++◌, ℕ, zero, suc, ◌+◌, ◌≤◌, ◌<◌, min}
-use Rattle.lists.specs.Prelude.{not-suc-le-zero, le_of_suc-le-suc, arith, length, get_or, take, drop, Float, nan, inf}
-use Rattle.lists.specs.Prelude.{fin, binary64, add, mul}
+use Rattle.std.specs.Prelude.{◌≡◌, ◌∷◌, ◌++◌, ◌+◌, ◌≤◌, ◌<◌}
+use Rattle.lists.specs.Prelude.{refl, sym, ap, ◌∙◌, List, [], ℕ, zero, suc, min, not-suc-le-zero, le_of_suc-le-suc}
+use Rattle.lists.specs.Prelude.{arith, length, get_or, take, drop, Float, nan, inf, fin, binary64, add, mul}
 use Rattle.formats.specs.Floats.{zero_float}
 use Rattle.numbers.specs.Computed.{rounded, narrowed}
 use Rattle.lists.specs.Tables.{tab}

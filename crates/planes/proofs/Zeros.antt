@@ -1,6 +1,7 @@
 -- A sum begun at a number that is no -0.0 stays none, and so sees no sign of a zero, added or multiplied
 -- (`total_unsigned`, `dot_unsigned`); so does an output of a frame (`mixed_unsigned`). Assumes nothing.
-use Rattle.lists.specs.Prelude.{◌≡◌, refl, sym, ap, ◌∙◌, List, [], ◌∷◌, map, zero, suc, Float, nan, binary64, add, fits}
+use Rattle.std.specs.Prelude.{◌≡◌, ◌∷◌}
+use Rattle.lists.specs.Prelude.{refl, sym, ap, ◌∙◌, List, [], map, zero, suc, Float, nan, binary64, add, fits}
 use lib.Ieee.Fits.{nan-fits, add-fits, mul-fits}
 use Rattle.formats.specs.Floats.{Held, zero_float}
 use Rattle.numbers.specs.Computed.{narrowed}

@@ -1,7 +1,8 @@
 -- Document 01, 'What must change shape': "`&[&[S]]` becomes planes with a stride in one slice".
 -- Frame n of plane p stands at p x stride + n. Definitions only. A place outside the list reads as NaN, and writing
 -- there changes nothing.
-use Rattle.lists.specs.Prelude.{ℕ, suc, ◌+◌, ◌*◌, ◌≡◌, Bool, List, [], ◌∷◌, get_or, set, Float, nan}
+use Rattle.std.specs.Prelude.{◌+◌, ◌*◌, ◌≡◌, ◌∷◌}
+use Rattle.lists.specs.Prelude.{ℕ, suc, Bool, List, [], get_or, set, Float, nan}
 use Rattle.lists.specs.Tables.{tab}
 use Rattle.checks.specs.Finite.{has_nonfinite}
 

@@ -2,7 +2,8 @@
 -- narrowed", and of the convolver "the signal is the f64 sum from 0.0 over channels rising, narrowed to f32".
 -- Definitions only. An f32 and the f64 that it widens to are one `Float`, so widening is not written; `narrowed` is
 -- what `numbers::narrow` promises.
-use Rattle.lists.specs.Prelude.{ℕ, List, [], ◌∷◌, Float, binary64, add, mul}
+use Rattle.std.specs.Prelude.{◌∷◌}
+use Rattle.lists.specs.Prelude.{ℕ, List, [], Float, binary64, add, mul}
 use Rattle.formats.specs.Floats.{zero_float}
 use Rattle.numbers.specs.Computed.{narrowed}
 use Rattle.lists.specs.Tables.{tab, chunk}

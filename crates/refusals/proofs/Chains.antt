@@ -1,8 +1,8 @@
 -- Lists of checks: the number given is that of the first that holds; there is no refusal where none holds, and only
 -- there if no check has the number 0; and one list that goes on after another, which decides where the first refuses
 -- nothing. Assumes nothing.
-use Rattle.lists.specs.Prelude.{◌≡◌, refl, ◌∙◌, Bool, true, false, ◌&&◌, cond, List, [], ◌∷◌, ◌++◌, ℕ, zero, suc, T}
-use Rattle.lists.specs.Prelude.{ltb}
+use Rattle.std.specs.Prelude.{◌≡◌, ◌&&◌, ◌∷◌, ◌++◌}
+use Rattle.lists.specs.Prelude.{refl, ◌∙◌, Bool, true, false, cond, List, [], ℕ, zero, suc, T, ltb}
 use lib.Ieee.Fits.{and_l, and_r}
 use Rattle.refusals.specs.Refusals.{Check, first_of}
 use Rattle.refusals.proofs.First.{passed}

@@ -1,6 +1,7 @@
 -- The test of a count: what it says of one that passes, and which counts it refuses. Assumes nothing.
-use Rattle.lists.specs.Prelude.{◌≡◌, ap, ◌∙◌, true, false, not, ℕ, ◌≤◌, ◌<◌, dec_lt, arith, not-false, lt-leb, le-leb}
-use Rattle.lists.specs.Prelude.{lt-ltb, le-ltb, ltb}
+use Rattle.std.specs.Prelude.{◌≡◌, ◌≤◌, ◌<◌}
+use Rattle.lists.specs.Prelude.{ap, ◌∙◌, true, false, not, ℕ, dec_lt, arith, not-false, lt-leb, le-leb, lt-ltb, le-ltb}
+use Rattle.lists.specs.Prelude.{ltb}
 use Rattle.refusals.specs.Refusals.{outside}
 use Rattle.refusals.proofs.Ranges.{within_true, within_low, within_from, within_in}
 

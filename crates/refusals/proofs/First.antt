@@ -1,7 +1,8 @@
 -- Of the refusal numbers: 0 is given where no test holds, and one above it is no acceptance. And of what is answered by
 -- such a number. Assumes nothing.
-use Rattle.lists.specs.Prelude.{◌≡◌, refl, sym, ap, ◌∙◌, Bool, true, false, ◌||◌, cond, true≢false, ℕ, zero, suc, ◌<◌}
-use Rattle.lists.specs.Prelude.{suc-ne-zero, arith}
+use Rattle.std.specs.Prelude.{◌≡◌, ◌||◌, ◌<◌}
+use Rattle.lists.specs.Prelude.{refl, sym, ap, ◌∙◌, Bool, true, false, cond, true≢false, ℕ, zero, suc, suc-ne-zero}
+use Rattle.lists.specs.Prelude.{arith}
 use Rattle.refusals.specs.Refusals.{answered}
 
 -- where no number is given the first test does not hold, and the rest give none

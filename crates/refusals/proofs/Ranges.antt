@@ -1,7 +1,8 @@
 -- The tests of a range: what they say of a number that passes, and which they refuse, by the test of the lower end that
 -- comes first. Assumes nothing.
-use Rattle.lists.specs.Prelude.{◌≡◌, refl, sym, ◌∙◌, true, false, true≢false, and-eq-true_iff, ℕ, ◌≤◌, ◌<◌, leb-true}
-use Rattle.lists.specs.Prelude.{le-leb, lt-leb, ltb-true, ltb-false, leb, ℤ, pos, negsuc}
+use Rattle.std.specs.Prelude.{◌≡◌, ◌≤◌, ◌<◌}
+use Rattle.lists.specs.Prelude.{refl, sym, ◌∙◌, true, false, true≢false, and-eq-true_iff, ℕ, leb-true, le-leb, lt-leb}
+use Rattle.lists.specs.Prelude.{ltb-true, ltb-false, leb, ℤ, pos, negsuc}
 use lib.Signed.{lt_z, le_z}
 use Rattle.refusals.specs.Ranges.{within, between}
 

@@ -1,6 +1,7 @@
 -- Ranges, as document 01 writes them: "row count 1..8", "azimuth in tenths of a degree, -1799..1800". Both ends belong
 -- to the range. Definitions only.
-use Rattle.lists.specs.Prelude.{ℕ, Bool, ◌&&◌, leb, ℤ, pos, negsuc}
+use Rattle.std.specs.Prelude.{◌&&◌}
+use Rattle.lists.specs.Prelude.{ℕ, Bool, leb, ℤ, pos, negsuc}
 use Rattle.std.specs.Int.Signed.{le_z}
 
 abbrev pub within : ℕ → ℕ → ℕ → Bool

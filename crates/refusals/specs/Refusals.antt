@@ -2,7 +2,8 @@
 -- otherwise." Definitions only. An operation lists its tests in the order in which they are checked, each with its
 -- number. The order is that of the list, so that a number which has to stand elsewhere than its size says (as some of
 -- the later requests ask) is a matter of where it is written.
-use Rattle.lists.specs.Prelude.{ℕ, zero, suc, Bool, cond, not, List, [], ◌∷◌}
+use Rattle.std.specs.Prelude.{◌∷◌}
+use Rattle.lists.specs.Prelude.{ℕ, zero, suc, Bool, cond, not, List, []}
 use Rattle.refusals.specs.Ranges.{within}
 
 pub record Check : Type 0 where

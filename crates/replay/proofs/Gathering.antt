@@ -1,9 +1,9 @@
 -- The loop of `gather`: what is in the block and what is left of the recording are what the recording does, after each
 -- step; and something is left the less. Assumes nothing.
-use Rattle.lists.specs.Prelude.{◌≡◌, refl, sym, ap, ◌∙◌, subst, Bool, true, false, cond, List, [], ◌∷◌, ◌++◌}
-use Rattle.lists.specs.Prelude.{append_assoc, ℕ, ◌+◌, ◌-◌, ◌*◌, ◌^◌, ◌≤◌, ◌<◌, zero-le, le_refl, zero-add, suc-ne-zero}
-use Rattle.lists.specs.Prelude.{add-one, arith, ltb-true, ltb-false, leb, ltb, length, get_or, drop, length-replicate}
-use Rattle.lists.specs.Prelude.{drop-cons, Float}
+use Rattle.std.specs.Prelude.{◌≡◌, ◌∷◌, ◌++◌, ◌+◌, ◌-◌, ◌*◌, ◌^◌, ◌≤◌, ◌<◌}
+use Rattle.lists.specs.Prelude.{refl, sym, ap, ◌∙◌, subst, Bool, true, false, cond, List, [], append_assoc, ℕ, zero-le}
+use Rattle.lists.specs.Prelude.{le_refl, zero-add, suc-ne-zero, add-one, arith, ltb-true, ltb-false, leb, ltb, length}
+use Rattle.lists.specs.Prelude.{get_or, drop, length-replicate, drop-cons, Float}
 use Rattle.formats.specs.Floats.{zero_float}
 use Rattle.lists.proofs.Tests.{by_test, by_at_most}
 use Rattle.lists.proofs.Tables.{length_tab, get_or_tab}

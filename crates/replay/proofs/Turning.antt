@@ -1,7 +1,7 @@
 -- A turn, and turns one after another. Assumes nothing.
-use Rattle.lists.specs.Prelude.{◌≡◌, refl, sym, ap, ◌∙◌, subst, Bool, true, false, cond, ⊎_elim, List, [], ◌++◌}
-use Rattle.lists.specs.Prelude.{append_assoc, append-nil, ℕ, ◌+◌, ◌≤◌, ◌<◌, add-zero, arith, length, length-append}
-use Rattle.lists.specs.Prelude.{length-map, Float}
+use Rattle.std.specs.Prelude.{◌≡◌, ◌++◌, ◌+◌, ◌≤◌, ◌<◌}
+use Rattle.lists.specs.Prelude.{refl, sym, ap, ◌∙◌, subst, Bool, true, false, cond, ⊎_elim, List, [], append_assoc}
+use Rattle.lists.specs.Prelude.{append-nil, ℕ, add-zero, arith, length, length-append, length-map, Float}
 use Rattle.lists.proofs.Lists.{less_or_at_most}
 use Rattle.lists.proofs.Tables.{length_tab}
 use Rattle.checks.proofs.Checks.{not_outside}

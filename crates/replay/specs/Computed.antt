@@ -1,7 +1,8 @@
 -- What the functions under `replay` ask and leave. Definitions only; they speak of the program, and nobody has to
 -- believe them: the law `accepted_computed` (proofs/Meets.antt) ties them to the promise.
-use Rattle.lists.specs.Prelude.{◌≡◌, ℕ, ◌+◌, ◌*◌, ◌≤◌, ◌<◌, ◌^◌, ◌-◌, Bool, false, not, ◌||◌, cond, true, List, [], ◌∷◌}
-use Rattle.lists.specs.Prelude.{◌++◌, map, eqb, leb, ltb, length, take, get_or, drop, replicate, Float}
+use Rattle.std.specs.Prelude.{◌≡◌, ◌+◌, ◌*◌, ◌≤◌, ◌<◌, ◌^◌, ◌-◌, ◌||◌, ◌∷◌, ◌++◌}
+use Rattle.lists.specs.Prelude.{ℕ, Bool, false, not, cond, true, List, [], map, eqb, leb, ltb, length, take, get_or}
+use Rattle.lists.specs.Prelude.{drop, replicate, Float}
 use Rattle.refusals.specs.Refusals.{outside}
 use Rattle.checks.specs.Finite.{has_nonfinite}
 use Rattle.checks.specs.Lengths.{block_unfit}

@@ -1,9 +1,9 @@
 -- Rows of one length, put one behind another into a list that just has room for them, make the list of them joined; and
 -- each is found there again. Assumes nothing.
-use Rattle.lists.specs.Prelude.{ℕ, zero, suc, ◌+◌, ◌-◌, ◌*◌, ◌<◌, zero-mul, not-suc-le-zero, le_of_suc-le-suc, arith}
-use Rattle.lists.specs.Prelude.{◌≡◌, sym, ap, ◌∙◌, List, [], ◌∷◌, ◌++◌, flatten, append_assoc, length, get_or, take}
-use Rattle.lists.specs.Prelude.{drop}
-use Rattle.lists.specs.Prelude.{length-append, length-drop, drop_of_length-le, take-append_seam, drop-append-add}
+use Rattle.std.specs.Prelude.{◌+◌, ◌-◌, ◌*◌, ◌<◌, ◌≡◌, ◌∷◌, ◌++◌}
+use Rattle.lists.specs.Prelude.{ℕ, zero, suc, zero-mul, not-suc-le-zero, le_of_suc-le-suc, arith, sym, ap, ◌∙◌, List}
+use Rattle.lists.specs.Prelude.{[], flatten, append_assoc, length, get_or, take, drop, length-append, length-drop}
+use Rattle.lists.specs.Prelude.{drop_of_length-le, take-append_seam, drop-append-add}
 use Rattle.rows.specs.Computed.{put_rows}
 use Rattle.rows.proofs.PutAppends.{put_behind}
 

@@ -1,6 +1,7 @@
 -- Rows put one behind another: a row put where the finished ones end lengthens them. Assumes nothing.
-use Rattle.lists.specs.Prelude.{◌+◌, ◌≤◌, arith, ◌≡◌, ap, ◌∙◌, List, ◌++◌, length, drop, length-append, sets, sets-eq}
-use Rattle.lists.specs.Prelude.{take-append_seam, drop-append-add}
+use Rattle.std.specs.Prelude.{◌+◌, ◌≤◌, ◌≡◌, ◌++◌}
+use Rattle.lists.specs.Prelude.{arith, ap, ◌∙◌, List, length, drop, length-append, sets, sets-eq, take-append_seam}
+use Rattle.lists.specs.Prelude.{drop-append-add}
 
 pub put_behind : {A : Type 0} (done vs rest : List A) → length vs ≤ length rest
     → sets (done ++ rest) (length done) vs ≡ done ++ vs ++ drop (length vs) rest

@@ -1,8 +1,8 @@
 -- A row put number by number: the numbers that are left, put where they belong, give the list that is promised. Assumes
 -- nothing.
-use Rattle.lists.specs.Prelude.{ℕ, suc, ◌+◌, ◌≤◌, ◌<◌, add-one, le_trans, le-suc, ◌≡◌, refl, sym, ap, ◌∙◌, List, []}
-use Rattle.lists.specs.Prelude.{◌∷◌, length, get_or, set, drop, length-set, drop_of_length-le, sets, set_out, drop-cons}
-use Rattle.lists.specs.Prelude.{Float, binary64, mul}
+use Rattle.std.specs.Prelude.{◌+◌, ◌≤◌, ◌<◌, ◌≡◌, ◌∷◌}
+use Rattle.lists.specs.Prelude.{ℕ, suc, add-one, le_trans, le-suc, refl, sym, ap, ◌∙◌, List, [], length, get_or, set}
+use Rattle.lists.specs.Prelude.{drop, length-set, drop_of_length-le, sets, set_out, drop-cons, Float, binary64, mul}
 use Rattle.rows.specs.Rows.{scaled}
 
 -- what falls behind the end is left out

@@ -1,6 +1,7 @@
 -- What is answered where lent weights are filled: the refusal by which it is said, and the weights that an accepted
 -- call makes. Assumes nothing.
-use Rattle.lists.specs.Prelude.{ℕ, ◌≡◌, refl, ap, List, Float}
+use Rattle.std.specs.Prelude.{◌≡◌}
+use Rattle.lists.specs.Prelude.{ℕ, refl, ap, List, Float}
 use Rattle.refusals.proofs.First.{answered_accepted, answered_number}
 use Rattle.rows.specs.Rows.{WeightsAnswer, computed_by}
 

@@ -1,8 +1,9 @@
 -- A stretch in which one cue holds throughout is a block of the panner at that cue's command: the refusal, the count
 -- and the output planes, beside every layout that the panner takes. And any stretch, cut where its cues are, is what
 -- separate calls of the panner play, and 0.0 before the first cue. Assumes nothing.
-use Rattle.lists.specs.Prelude.{◌≡◌, refl, sym, ap, ◌∙◌, Bool, false, ◌||◌, cond, List, [], ◌∷◌, ◌++◌, map, ℕ, ◌+◌, ◌^◌}
-use Rattle.lists.specs.Prelude.{◌<◌, arith, ltb-false, le-ltb, le-leb, length, get_or, Float}
+use Rattle.std.specs.Prelude.{◌≡◌, ◌||◌, ◌∷◌, ◌++◌, ◌+◌, ◌^◌, ◌<◌}
+use Rattle.lists.specs.Prelude.{refl, sym, ap, ◌∙◌, Bool, false, cond, List, [], map, ℕ, arith, ltb-false, le-ltb}
+use Rattle.lists.specs.Prelude.{le-leb, length, get_or, Float}
 use Rattle.refusals.proofs.First.{or_off}
 use Rattle.refusals.proofs.Chains.{Off, off_accepts, none_holds}
 use Rattle.lists.specs.Tables.{tab, any}

@@ -1,7 +1,8 @@
 -- Samples can be cut so that in each part one voice holds: one a part at the least. So whatever calls play them are
 -- heard as calls of the panner. Assumes nothing.
-use Rattle.lists.specs.Prelude.{◌≡◌, refl, sym, ap, subst, ◌∙◌, false, List, [], ◌∷◌, ◌++◌, ℕ, ◌+◌, mul-one, arith}
-use Rattle.lists.specs.Prelude.{length, replicate, length-replicate, Float}
+use Rattle.std.specs.Prelude.{◌≡◌, ◌∷◌, ◌++◌, ◌+◌}
+use Rattle.lists.specs.Prelude.{refl, sym, ap, subst, ◌∙◌, false, List, [], ℕ, mul-one, arith, length, replicate}
+use Rattle.lists.specs.Prelude.{length-replicate, Float}
 use Rattle.refusals.proofs.Chains.{off_accepts}
 use Rattle.formats.specs.Floats.{zero_float}
 use Rattle.lists.specs.Tables.{any}

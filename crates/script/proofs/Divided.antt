@@ -1,7 +1,7 @@
 -- However a stretch is divided the frames are the same: samples in two parts, and calls one after another with refused
 -- ones between. Assumes nothing.
-use Rattle.lists.specs.Prelude.{◌≡◌, refl, sym, ap, ◌∙◌, List, [], ◌∷◌, ◌++◌, ℕ, zero, suc, ◌+◌, add-zero, arith}
-use Rattle.lists.specs.Prelude.{length, Float}
+use Rattle.std.specs.Prelude.{◌≡◌, ◌∷◌, ◌++◌, ◌+◌}
+use Rattle.lists.specs.Prelude.{refl, sym, ap, ◌∙◌, List, [], ℕ, zero, suc, add-zero, arith, length, Float}
 use Rattle.refusals.specs.Refusals.{answered}
 use Rattle.lists.proofs.Tables.{length_tab}
 use Rattle.channel.specs.Orders.{channels_of_order}

@@ -1,8 +1,8 @@
 -- The answer is the one promised: that the last frame is past the largest number; the whole, of a stretch that was
 -- refused and of one that was played; and that the gains of every cue are those promised. Assumes nothing.
-use Rattle.lists.specs.Prelude.{◌≡◌, refl, sym, ap, ◌∙◌, subst, Bool, true, false, not, ⊎_elim, List, [], ◌∷◌, ℕ, zero}
-use Rattle.lists.specs.Prelude.{suc, ◌+◌, ◌-◌, ◌^◌, ◌≤◌, ◌<◌, sub-zero, suc-ne-zero, arith, lt-ltb, le-ltb, ltb-false}
-use Rattle.lists.specs.Prelude.{not-false, ltb, length, Float}
+use Rattle.std.specs.Prelude.{◌≡◌, ◌∷◌, ◌+◌, ◌-◌, ◌^◌, ◌≤◌, ◌<◌}
+use Rattle.lists.specs.Prelude.{refl, sym, ap, ◌∙◌, subst, Bool, true, false, not, ⊎_elim, List, [], ℕ, zero, suc}
+use Rattle.lists.specs.Prelude.{sub-zero, suc-ne-zero, arith, lt-ltb, le-ltb, ltb-false, not-false, ltb, length, Float}
 use Rattle.refusals.specs.Refusals.{first_of, answered}
 use Rattle.refusals.proofs.First.{answered_accepted, or_off}
 use Rattle.refusals.proofs.Chains.{Off, none_holds}

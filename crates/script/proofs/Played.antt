@@ -1,8 +1,9 @@
 -- What the promise says of single samples: an accepted stretch plays every frame that it is given, in every plane, by
 -- the voice of its frame, and counts them; beyond the count a plane is as it was; what is refused by a number is
 -- answered by it; and before the first cue every output is 0.0. Assumes nothing.
-use Rattle.lists.specs.Prelude.{◌≡◌, refl, sym, ap, ◌∙◌, Bool, true, false, cond, List, [], ◌∷◌, ℕ, ◌+◌, ◌*◌, ◌≤◌, ◌<◌}
-use Rattle.lists.specs.Prelude.{zero-add, arith, ltb-false, lt-leb, not-false, length, get_or, Float, nan}
+use Rattle.std.specs.Prelude.{◌≡◌, ◌∷◌, ◌+◌, ◌*◌, ◌≤◌, ◌<◌}
+use Rattle.lists.specs.Prelude.{refl, sym, ap, ◌∙◌, Bool, true, false, cond, List, [], ℕ, zero-add, arith, ltb-false}
+use Rattle.lists.specs.Prelude.{lt-leb, not-false, length, get_or, Float, nan}
 use Rattle.refusals.specs.Refusals.{Check}
 use Rattle.refusals.proofs.First.{or_off}
 use Rattle.refusals.proofs.Chains.{Off, none_holds}

@@ -1,7 +1,7 @@
 -- A turn of `render`: what it asks of the functions that it calls, and that what it leaves is a stretch of which a
 -- segment more is played. Assumes nothing.
-use Rattle.lists.specs.Prelude.{◌≡◌, sym, ap, ◌∙◌, subst, Bool, true, cond, List, ℕ, ◌+◌, ◌-◌, ◌^◌, ◌≤◌, ◌<◌, min}
-use Rattle.lists.specs.Prelude.{arith, length, Float}
+use Rattle.std.specs.Prelude.{◌≡◌, ◌+◌, ◌-◌, ◌^◌, ◌≤◌, ◌<◌}
+use Rattle.lists.specs.Prelude.{sym, ap, ◌∙◌, subst, Bool, true, cond, List, ℕ, min, arith, length, Float}
 use Rattle.lists.proofs.Tables.{tab_from}
 use Rattle.planes.specs.Planes.{sample_at, with_frames}
 use Rattle.planes.proofs.Framing.{Parting, parting_part}

@@ -1,6 +1,7 @@
 -- Wrong ways to answer, each held against the promise. Assumes nothing.
-use Rattle.lists.specs.Prelude.{◌≡◌, refl, sym, ap, ◌∙◌, Bool, true, false, true≢false, List, [], ◌∷◌, ℕ, ◌+◌, ◌<◌}
-use Rattle.lists.specs.Prelude.{arith, lit<, pos, get_or, replicate, Float, nan, inf, fin}
+use Rattle.std.specs.Prelude.{◌≡◌, ◌∷◌, ◌+◌, ◌<◌}
+use Rattle.lists.specs.Prelude.{refl, sym, ap, ◌∙◌, Bool, true, false, true≢false, List, [], ℕ, arith, lit<, pos}
+use Rattle.lists.specs.Prelude.{get_or, replicate, Float, nan, inf, fin}
 use lib.Ieee.Positive.{positive}
 use Rattle.formats.specs.Floats.{zero_float, minus_one_float}
 use Rattle.channel.specs.Orders.{channels_of_order}

@@ -1,6 +1,7 @@
 -- What is put for a segment is what document 02 says of its frames: the panner's gains at the direction that holds, or
 -- 0.0 in the planes of the order. Assumes nothing.
-use Rattle.lists.specs.Prelude.{◌≡◌, refl, sym, ap, ◌∙◌, Bool, true, false, cond, List, ℕ, ◌-◌, min, arith, Float}
+use Rattle.std.specs.Prelude.{◌≡◌, ◌-◌}
+use Rattle.lists.specs.Prelude.{refl, sym, ap, ◌∙◌, Bool, true, false, cond, List, ℕ, min, arith, Float}
 use Rattle.refusals.specs.Refusals.{first_of}
 use Rattle.refusals.proofs.Chains.{off_accepts}
 use Rattle.lists.specs.Tables.{tab}

@@ -1,9 +1,9 @@
 -- A worked drill: order 1, a cue at frame 2 in front and one at frame 5 on the left, eight frames from 0 on. Each
 -- output by its bits, in one call, in two, and as calls of the panner between the cues; the third order's gains; and
 -- the numbers of calls that are refused. Assumes nothing.
-use Rattle.lists.specs.Prelude.{◌≡◌, refl, sym, ap, ◌∙◌, true, false, List, [], ◌∷◌, ◌++◌, map, ℕ, zero, suc, ◌-◌, ◌^◌}
-use Rattle.lists.specs.Prelude.{pos, replicate, Float, nan, inf, fin, binary32, of_bits, lt, le, eq, of_int, add, sub}
-use Rattle.lists.specs.Prelude.{mul, div, neg, round}
+use Rattle.std.specs.Prelude.{◌≡◌, ◌∷◌, ◌++◌, ◌-◌, ◌^◌}
+use Rattle.lists.specs.Prelude.{refl, sym, ap, ◌∙◌, true, false, List, [], map, ℕ, zero, suc, pos, replicate, Float}
+use Rattle.lists.specs.Prelude.{nan, inf, fin, binary32, of_bits, lt, le, eq, of_int, add, sub, mul, div, neg, round}
 use Rattle.formats.specs.Floats.{zero_float, one_float, minus_one_float, half_float}
 use Rattle.numbers.specs.Computed as Numbers
 use Rattle.series.specs.Angles.{turned}

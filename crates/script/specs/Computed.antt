@@ -1,5 +1,6 @@
 -- What the steps of the program hand to each other. Definitions only, and none that the public promise cites.
-use Rattle.lists.specs.Prelude.{ℕ, ◌-◌, ◌≡◌, true, false, not, List, Float}
+use Rattle.std.specs.Prelude.{◌-◌, ◌≡◌}
+use Rattle.lists.specs.Prelude.{ℕ, true, false, not, List, Float}
 use Rattle.refusals.specs.Refusals.{first_of, answered}
 use Rattle.lists.specs.Tables.{tab}
 use Rattle.planes.specs.Planes.{sample_at}

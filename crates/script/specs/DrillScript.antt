@@ -1,6 +1,7 @@
 -- Document 02, E1, sentence by sentence, beside what `RenderPromise` promises of one call: which cue holds, silence,
 -- more than one call, and the panner; it is shown in proofs/DrillScript.antt. Definitions only.
-use Rattle.lists.specs.Prelude.{ℕ, ◌+◌, ◌≤◌, ◌<◌, ◌≡◌, true, false, List, [], ◌∷◌, length, get_or, Float}
+use Rattle.std.specs.Prelude.{◌+◌, ◌≤◌, ◌<◌, ◌≡◌, ◌∷◌}
+use Rattle.lists.specs.Prelude.{ℕ, true, false, List, [], length, get_or, Float}
 use Rattle.formats.specs.Floats.{zero_float}
 use Rattle.channel.specs.Layouts.{channels_of, refuses_channels}
 use Rattle.lists.specs.Tables.{any}

@@ -2,7 +2,8 @@
 -- the largest is 5, one above 4,096 frames 6." "Refusals: 11 a list whose frames don't rise strictly, 12 a list longer
 -- than 256, after 10." What is played at a direction, and how many frames a block may have, are the panner's own words.
 -- Definitions only. The input is one plane.
-use Rattle.lists.specs.Prelude.{ℕ, ◌+◌, ◌-◌, ◌^◌, Bool, not, ◌||◌, List, [], ◌∷◌, ltb, length, Float}
+use Rattle.std.specs.Prelude.{◌+◌, ◌-◌, ◌^◌, ◌||◌, ◌∷◌}
+use Rattle.lists.specs.Prelude.{ℕ, Bool, not, List, [], ltb, length, Float}
 use Rattle.refusals.specs.Refusals.{Check, first_of, ◌when◌}
 use Rattle.formats.specs.Floats.{zero_float}
 use Rattle.lists.specs.Tables.{tab, any}

@@ -5,7 +5,8 @@
 -- to another drill: what it answers and leaves is the same, since nothing is held from call to call.) After frame 2 ^
 -- 64 - 1 no call of this drill follows, not even of no frames, since there is no such frame number. And parts in each
 -- of which one voice holds, each played by a call of the panner. Definitions only.
-use Rattle.lists.specs.Prelude.{ℕ, ◌+◌, ◌≡◌, List, [], ◌∷◌, ◌++◌, map, length, Float}
+use Rattle.std.specs.Prelude.{◌+◌, ◌≡◌, ◌∷◌, ◌++◌}
+use Rattle.lists.specs.Prelude.{ℕ, List, [], map, length, Float}
 use Rattle.refusals.specs.Refusals.{answered}
 use Rattle.lists.specs.Calls.{of_all_calls}
 use Rattle.lists.specs.Tables.{tab}

@@ -1,7 +1,7 @@
 -- How large a polynomial gets, how steep, and how far below 0: each law turns one computed number into a bound at every
 -- fraction x / (k b) of size a / b at most. Assumes nothing.
-use Rattle.lists.specs.Prelude.{subst, List, [], ◌∷◌, ℕ, zero, suc, ◌+◌, ◌*◌, ◌-◌, ◌≤◌, le_dest, mul-le-mul_left}
-use Rattle.lists.specs.Prelude.{mul-le-mul_right, arith}
+use Rattle.std.specs.Prelude.{◌∷◌, ◌+◌, ◌*◌, ◌-◌, ◌≤◌}
+use Rattle.lists.specs.Prelude.{subst, List, [], ℕ, zero, suc, le_dest, mul-le-mul_left, mul-le-mul_right, arith}
 use Rattle.series.proofs.Wholes.{Whole, ◌⊞◌, ◌⊟◌, ◌⊠◌, ◌·◌, size, Bounded, Equal, times_scale, bounded_size}
 use Rattle.series.proofs.Wholes.{bounded_scale, bounded_equal, bounded_times, equal_scale, difference_times}
 use Rattle.series.proofs.Wholes.{difference_common}

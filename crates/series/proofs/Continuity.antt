@@ -1,8 +1,9 @@
 -- How far apart the values at two angles are: |a - b| / 4 + 2 ^ -52 at most, wherever the angles lie. Between -180 and
 -- 180 that is how steep the sums are; from one side of 180 to the other the way goes over the sums at 180 and -180,
 -- which are 2 ^ -53 apart at most. Assumes nothing.
-use Rattle.lists.specs.Prelude.{◌≡◌, sym, ap, ◌∙◌, subst, ℕ, ◌+◌, ◌*◌, ◌^◌, ◌≤◌, ◌<◌, le_of_eq, le_of_lt, le_intro}
-use Rattle.lists.specs.Prelude.{le_dest, mul-pos, mul_comm, mul-le-mul_left, mul-le-mul_right, arith, lit≤, lit<}
+use Rattle.std.specs.Prelude.{◌≡◌, ◌+◌, ◌*◌, ◌^◌, ◌≤◌, ◌<◌}
+use Rattle.lists.specs.Prelude.{sym, ap, ◌∙◌, subst, ℕ, le_of_eq, le_of_lt, le_intro, le_dest, mul-pos, mul_comm}
+use Rattle.lists.specs.Prelude.{mul-le-mul_left, mul-le-mul_right, arith, lit≤, lit<}
 use Rattle.fractions.specs.Fraction.{Fraction, fraction, whole, opposite, Within}
 use Rattle.fractions.proofs.Ring.{ring}
 use Rattle.fractions.proofs.Order.{same_refl}

@@ -1,8 +1,9 @@
 -- The laws of the defined sine and cosine, for the crates above: angles are fractions of degrees, of any size and under
 -- any name, and no law asks on which side of 180 one lies, or whether it is a multiple of 90. `w` is either wave. Then
 -- how the sums stand for them, for a program that computes those. Assumes nothing.
-use Rattle.lists.specs.Prelude.{subst, [], ◌∷◌, ℕ, suc, ◌+◌, ◌*◌, ◌^◌, ◌≤◌, ◌<◌, mul-pos, mul-le-mul_right}
-use Rattle.lists.specs.Prelude.{two-pow-succ, arith, lit<, lit≤, pow_pos, pow_mono}
+use Rattle.std.specs.Prelude.{◌∷◌, ◌+◌, ◌*◌, ◌^◌, ◌≤◌, ◌<◌}
+use Rattle.lists.specs.Prelude.{subst, [], ℕ, suc, mul-pos, mul-le-mul_right, two-pow-succ, arith, lit<, lit≤, pow_pos}
+use Rattle.lists.specs.Prelude.{pow_mono}
 use Rattle.fractions.specs.Fraction.{Fraction, fraction, whole, unit, opposite, magnitude, square, ◌⊕◌, ◌⊖◌, Same}
 use Rattle.fractions.specs.Fraction.{AtMost, Within}
 use Rattle.fractions.specs.Squares.{sum_squares}

@@ -1,8 +1,9 @@
 -- The sine from below, as far as 90 degrees: from 10 degrees on it is 17363 / 100000 at least (the sine of 10 degrees
 -- is 0.17364..), and from 0 on it is not below 0. Each is one computed number: expanded around the angle where it
 -- begins, the sum lies above its first coefficient as far as 90 (`shortfall`). Assumes nothing.
-use Rattle.lists.specs.Prelude.{◌≡◌, refl, ap, subst, List, [], ◌∷◌, ℕ, ◌+◌, ◌-◌, ◌*◌, ◌/◌, ◌≤◌, ◌<◌, zero-le, le_of_lt}
-use Rattle.lists.specs.Prelude.{mul-pos, one-mul, mul-le-mul_right, le_of_mul-le-mul_left, arith, lit≤, lit<}
+use Rattle.std.specs.Prelude.{◌≡◌, ◌∷◌, ◌+◌, ◌-◌, ◌*◌, ◌/◌, ◌≤◌, ◌<◌}
+use Rattle.lists.specs.Prelude.{refl, ap, subst, List, [], ℕ, zero-le, le_of_lt, mul-pos, one-mul, mul-le-mul_right}
+use Rattle.lists.specs.Prelude.{le_of_mul-le-mul_left, arith, lit≤, lit<}
 use Rattle.fractions.specs.Fraction.{Fraction, fraction, whole, square, Same, AtMost}
 use Rattle.fractions.proofs.Order.{same_trans}
 use Rattle.fractions.proofs.Close.{Size, Least}

@@ -1,7 +1,8 @@
 -- The sums as a program evaluates them: x (1 - x^2 / (2 3) (1 - x^2 / (4 5) (1 - ...))), and so for the cosine. Assumes
 -- nothing.
-use Rattle.lists.specs.Prelude.{◌≡◌, refl, sym, ap, ◌∙◌, subst, Bool, true, false, not, List, [], ◌∷◌, ℕ, zero, suc}
-use Rattle.lists.specs.Prelude.{◌+◌, ◌*◌, ◌-◌, ◌<◌, mul-pos, sub-zero, add-one, add-two, arith, lit<}
+use Rattle.std.specs.Prelude.{◌≡◌, ◌∷◌, ◌+◌, ◌*◌, ◌-◌, ◌<◌}
+use Rattle.lists.specs.Prelude.{refl, sym, ap, ◌∙◌, subst, Bool, true, false, not, List, [], ℕ, zero, suc, mul-pos}
+use Rattle.lists.specs.Prelude.{sub-zero, add-one, add-two, arith, lit<}
 use Rattle.fractions.specs.Fraction.{Fraction, whole, square, ◌⊕◌, ◌⊖◌, ◌⊗◌, ◌⊘◌, Same}
 use Rattle.fractions.proofs.Order.{same_refl, same_trans}
 use Rattle.fractions.proofs.Restate.{equal, equal_same, over_one, same_sub, ⊕-assoc, ⊗-assoc, ⊗-comm, ⊗-one, one-⊗}

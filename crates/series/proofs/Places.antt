@@ -2,8 +2,9 @@
 -- ^ -54 at most away from the sums in whose stead they stand, so that what holds of the sums at the reduced angle holds
 -- of the defined values but for that; and the sum of their squares is 1, as that of the sums is up to 2 ^ -50. Assumes
 -- nothing.
-use Rattle.lists.specs.Prelude.{◌≡◌, refl, sym, subst, Bool, cond, [], ◌∷◌, ℕ, ◌*◌, ◌/◌, ◌%◌, ◌≤◌, ◌<◌, le_refl}
-use Rattle.lists.specs.Prelude.{mul-pos, mul-le-mul_right, arith, eqb, lit≤, lit<, get_or, eqb-true, eqb-false}
+use Rattle.std.specs.Prelude.{◌≡◌, ◌∷◌, ◌*◌, ◌/◌, ◌%◌, ◌≤◌, ◌<◌}
+use Rattle.lists.specs.Prelude.{refl, sym, subst, Bool, cond, [], ℕ, le_refl, mul-pos, mul-le-mul_right, arith, eqb}
+use Rattle.lists.specs.Prelude.{lit≤, lit<, get_or, eqb-true, eqb-false}
 use Rattle.lists.proofs.Tests.{by_test}
 use Rattle.fractions.specs.Fraction.{Fraction, fraction, whole, opposite, square, ◌⊕◌, Same, Within}
 use Rattle.fractions.proofs.Order.{same_refl, same_sym, same_mul}

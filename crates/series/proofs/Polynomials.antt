@@ -1,7 +1,8 @@
 -- Polynomials as lists of whole coefficients, the lowest first, evaluated at a fraction x / d over the one denominator
 -- d ^ m: at a sum, a product, a fraction written larger, and a place shifted. Its laws are equations of values. Assumes
 -- nothing.
-use Rattle.lists.specs.Prelude.{◌≡◌, refl, List, [], ◌∷◌, ℕ, zero, suc, ◌*◌, ◌<◌, mul-pos, arith, lit<}
+use Rattle.std.specs.Prelude.{◌≡◌, ◌∷◌, ◌*◌, ◌<◌}
+use Rattle.lists.specs.Prelude.{refl, List, [], ℕ, zero, suc, mul-pos, arith, lit<}
 use Rattle.series.proofs.Wholes.{Whole, nought, more, ◌⊞◌, ◌⊠◌, ◌·◌, by_parts}
 
 -- d ^ m and n + m, which unfold at a variable

@@ -1,7 +1,8 @@
 -- What a quarter turn more makes of the defined values: the sine becomes the cosine, and the cosine the opposite of the
 -- sine, up to 2 ^ -51. First for the sums from -180 to 180, where the law of the sums around 0 serves in front, and
 -- twice or three times over behind. Assumes nothing.
-use Rattle.lists.specs.Prelude.{◌≡◌, refl, ◌+◌, ◌*◌, ◌^◌, ◌≤◌, ◌<◌, mul-pos, dec_le, arith, lit<, lit≤}
+use Rattle.std.specs.Prelude.{◌≡◌, ◌+◌, ◌*◌, ◌^◌, ◌≤◌, ◌<◌}
+use Rattle.lists.specs.Prelude.{refl, mul-pos, dec_le, arith, lit<, lit≤}
 use Rattle.fractions.specs.Fraction.{Fraction, whole, opposite, ◌⊕◌, ◌⊖◌, Same, Within}
 use Rattle.fractions.proofs.Order.{same_refl, same_trans}
 use Rattle.fractions.proofs.Close.{Close, Size, close_sym, close_trans, close_opposite, close_same, close_wider}

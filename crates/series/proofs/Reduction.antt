@@ -1,10 +1,11 @@
 -- Reduction by 360: what `turned` and `reduced` of specs/Angles.antt give is what document 01 asks, and nothing else
 -- is. Two angles that are whole turns apart are turned to the same place, and two that are near each other to places
 -- that are as near, one way round or the other. Assumes nothing.
-use Rattle.lists.specs.Prelude.{◌≡◌, refl, sym, ap, ◌∙◌, subst, ◌⊎◌, inl, inr, ℕ, ◌+◌, ◌*◌, ◌-◌, ◌/◌, ◌%◌, ◌≤◌, ◌<◌}
-use Rattle.lists.specs.Prelude.{le_of_lt, not-le_of_lt, add-lt-add_of_lt_of_le, add_right_cancel, mul-suc, mul_comm}
-use Rattle.lists.specs.Prelude.{mul-le-mul_left, mul-le-mul_right, mul-lt-mul_of_pos_right, eq_of_mul-eq-mul_right}
-use Rattle.lists.specs.Prelude.{mod-lt, mod-eq_of_lt, div-add-mod, div-lt_iff_lt-mul, add-mul-mod_self_left, arith}
+use Rattle.std.specs.Prelude.{◌≡◌, ◌⊎◌, ◌+◌, ◌*◌, ◌-◌, ◌/◌, ◌%◌, ◌≤◌, ◌<◌}
+use Rattle.lists.specs.Prelude.{refl, sym, ap, ◌∙◌, subst, inl, inr, ℕ, le_of_lt, not-le_of_lt, add-lt-add_of_lt_of_le}
+use Rattle.lists.specs.Prelude.{add_right_cancel, mul-suc, mul_comm, mul-le-mul_left, mul-le-mul_right}
+use Rattle.lists.specs.Prelude.{mul-lt-mul_of_pos_right, eq_of_mul-eq-mul_right, mod-lt, mod-eq_of_lt, div-add-mod}
+use Rattle.lists.specs.Prelude.{div-lt_iff_lt-mul, add-mul-mod_self_left, arith}
 use borrow.Author.Count.{below_none, below_more}
 use Rattle.lists.proofs.Tests.{by_at_most, order_cases}
 use Rattle.fractions.specs.Fraction.{Fraction, fraction, whole, opposite, ◌⊕◌, Same, Less, AtMost}

@@ -1,8 +1,8 @@
 -- The laws of the two sums at fractions of radians, up to half a turn: how steep they are, that the sum of their
 -- squares is 1, and what a quarter turn more makes of them. P is half a turn. Assumes nothing.
-use Rattle.lists.specs.Prelude.{◌≡◌, refl, ap, ◌∙◌, subst, List, [], ◌∷◌, ℕ, ◌+◌, ◌*◌, ◌/◌, ◌^◌, ◌≤◌, ◌<◌, mul-pos}
-use Rattle.lists.specs.Prelude.{one-mul, mul_right_comm, mul-le-mul_left, mul-le-mul_right, le_of_mul-le-mul_left}
-use Rattle.lists.specs.Prelude.{arith, lit≤, lit<}
+use Rattle.std.specs.Prelude.{◌≡◌, ◌∷◌, ◌+◌, ◌*◌, ◌/◌, ◌^◌, ◌≤◌, ◌<◌}
+use Rattle.lists.specs.Prelude.{refl, ap, ◌∙◌, subst, List, [], ℕ, mul-pos, one-mul, mul_right_comm, mul-le-mul_left}
+use Rattle.lists.specs.Prelude.{mul-le-mul_right, le_of_mul-le-mul_left, arith, lit≤, lit<}
 use Rattle.fractions.specs.Fraction.{Fraction, fraction, whole, opposite, square, ◌⊕◌, Same, Within}
 use Rattle.fractions.proofs.Ring.{ring}
 use Rattle.fractions.proofs.Order.{same_sym, same_trans, same_add}

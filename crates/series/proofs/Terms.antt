@@ -1,9 +1,9 @@
 -- The sums, term by term: what is shown here of a sum holds because it holds of each term. The sum at another name of
 -- the same number, the sum at -x, and each sum as a polynomial with whole coefficients over 28!, to which Bounds.antt
 -- applies. Assumes nothing.
-use Rattle.lists.specs.Prelude.{◌≡◌, refl, ap, ◌∙◌, subst, Bool, true, false, not, ◌&&◌, bool_beq, List, [], ◌∷◌, ℕ}
-use Rattle.lists.specs.Prelude.{zero, suc, ◌*◌, ◌-◌, ◌/◌, ◌<◌, zero-le, mul-pos, sub-zero, zero-lt-suc, arith, T, eqb}
-use Rattle.lists.specs.Prelude.{eqb→eq, lit<}
+use Rattle.std.specs.Prelude.{◌≡◌, ◌&&◌, ◌∷◌, ◌*◌, ◌-◌, ◌/◌, ◌<◌}
+use Rattle.lists.specs.Prelude.{refl, ap, ◌∙◌, subst, Bool, true, false, not, bool_beq, List, [], ℕ, zero, suc, zero-le}
+use Rattle.lists.specs.Prelude.{mul-pos, sub-zero, zero-lt-suc, arith, T, eqb, eqb→eq, lit<}
 use lib.Ieee.Fits.{and_l, and_r}
 use Rattle.lists.specs.Tables.{every}
 use Rattle.fractions.specs.Fraction.{Fraction, fraction, whole, opposite, ◌⊕◌, ◌⊗◌, ◌⊘◌, Same}

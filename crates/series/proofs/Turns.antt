@@ -1,10 +1,11 @@
 -- What whole turns and the opposite angle make of the defined values, and which they are at 90 times a whole number.
 -- All exact: at a multiple of 90 by the exact values, elsewhere because the reduced angles are the same or opposite
 -- (180, the one angle whose opposite is reduced to itself, is a multiple of 90). Assumes nothing.
-use Rattle.lists.specs.Prelude.{◌≡◌, refl, sym, ap, ◌∙◌, subst, ◌⊎◌, inl, inr, Bool, cond, ℕ, ◌+◌, ◌*◌, ◌-◌, ◌/◌, ◌%◌}
-use Rattle.lists.specs.Prelude.{◌≤◌, ◌<◌, mul-one, mul_assoc, mul-div_cancel, le_dest, le_of_lt, add_comm, add-mul}
-use Rattle.lists.specs.Prelude.{zero-mul, zero-mod, mul-pos, mul-le-mul_right, mul-lt-mul_of_pos_right}
-use Rattle.lists.specs.Prelude.{eq_of_mul-eq-mul_right, mul-mod_left, arith, T, eqb→eq, lit<, eq-eqb}
+use Rattle.std.specs.Prelude.{◌≡◌, ◌⊎◌, ◌+◌, ◌*◌, ◌-◌, ◌/◌, ◌%◌, ◌≤◌, ◌<◌}
+use Rattle.lists.specs.Prelude.{refl, sym, ap, ◌∙◌, subst, inl, inr, Bool, cond, ℕ, mul-one, mul_assoc, mul-div_cancel}
+use Rattle.lists.specs.Prelude.{le_dest, le_of_lt, add_comm, add-mul, zero-mul, zero-mod, mul-pos, mul-le-mul_right}
+use Rattle.lists.specs.Prelude.{mul-lt-mul_of_pos_right, eq_of_mul-eq-mul_right, mul-mod_left, arith, T, eqb→eq, lit<}
+use Rattle.lists.specs.Prelude.{eq-eqb}
 use Rattle.fractions.specs.Fraction.{Fraction, fraction, whole, opposite, ◌⊕◌, Same}
 use Rattle.fractions.proofs.Order.{same_refl}
 use Rattle.series.specs.Sums.{Wave, sine, cosine}

@@ -2,7 +2,8 @@
 -- this crate's proofs, which no law that another crate cites speaks of. What they are good for: the laws of sums and
 -- products hold part by part, as equations of natural numbers, so that `rw` and `omega arith` serve, where fractions
 -- are only `Same`. Assumes nothing.
-use Rattle.lists.specs.Prelude.{◌≡◌, ap, ℕ, ◌+◌, ◌*◌, ◌≤◌, mul-le-mul_left, arith}
+use Rattle.std.specs.Prelude.{◌≡◌, ◌+◌, ◌*◌, ◌≤◌}
+use Rattle.lists.specs.Prelude.{ap, ℕ, mul-le-mul_left, arith}
 use Rattle.fractions.specs.Fraction.{gap}
 use Rattle.fractions.proofs.Close.{product_most}
 

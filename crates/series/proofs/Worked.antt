@@ -1,7 +1,8 @@
 -- Some values, by computation: that the sums are what they look like, some reduced angles, and the defined values at
 -- some angles. Whether a number is near a sum at a given fraction is decided by computing both (`within_computed`), so
 -- a crate above can have a cosine, as those of max-rE, as a literal. Assumes nothing.
-use Rattle.lists.specs.Prelude.{◌≡◌, refl, ◌^◌}
+use Rattle.std.specs.Prelude.{◌≡◌, ◌^◌}
+use Rattle.lists.specs.Prelude.{refl}
 use Rattle.fractions.specs.Fraction.{fraction, whole, opposite, Same, Within}
 use Rattle.series.specs.Sums.{factorial, power, term, sine_sum, cosine_sum}
 use Rattle.series.specs.Angles.{turned, around, reduced, radians, is_multiple, quarters, defined, defined_sine}

@@ -1,7 +1,8 @@
 -- Document 01, 'Angles': "The sine is defined over fractions of whole numbers: reduce by 360 into -180 < d <= 180, take
 -- x = d x 3141592653589793238 / (180 x 10^18), and sum [..]. At multiples of 90 the defined value is the exact 0, 1 or
 -- -1 instead." d is an angle in degrees, and any fraction of whole numbers. Definitions only.
-use Rattle.lists.specs.Prelude.{ℕ, ◌+◌, ◌-◌, ◌*◌, ◌/◌, ◌%◌, ◌^◌, Bool, cond, List, [], ◌∷◌, leb, eqb, get_or}
+use Rattle.std.specs.Prelude.{◌+◌, ◌-◌, ◌*◌, ◌/◌, ◌%◌, ◌^◌, ◌∷◌}
+use Rattle.lists.specs.Prelude.{ℕ, Bool, cond, List, [], leb, eqb, get_or}
 use Rattle.fractions.specs.Fraction.{Fraction, fraction, whole, opposite, ◌⊕◌, ◌⊗◌, Same, Less, AtMost}
 use Rattle.series.specs.Sums.{Wave, sine, cosine, sum}
 

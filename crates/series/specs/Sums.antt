@@ -1,6 +1,7 @@
 -- Document 01, 'Angles': "sum x - x^3/3! + ... up to x^27/27!; the cosine likewise to x^28/28!". x is an angle in
 -- radians, and any fraction of whole numbers. Definitions only.
-use Rattle.lists.specs.Prelude.{ℕ, zero, suc, ◌*◌}
+use Rattle.std.specs.Prelude.{◌*◌}
+use Rattle.lists.specs.Prelude.{ℕ, zero, suc}
 use Rattle.fractions.specs.Fraction.{Fraction, whole, ◌⊕◌, ◌⊖◌, ◌⊗◌, ◌⊘◌}
 
 unfoldable pub factorial : ℕ → ℕ

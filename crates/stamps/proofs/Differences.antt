@@ -1,6 +1,7 @@
 -- What a frame is by the wrapped difference, case by case. Assumes nothing.
-use Rattle.lists.specs.Prelude.{◌≡◌, refl, Bool, cond, ℕ, ◌+◌, ◌^◌, ◌≤◌, ◌<◌, suc-ne-zero, arith, eqb-true, eqb-false}
-use Rattle.lists.specs.Prelude.{ne_eqb, le-leb, lt-leb, lt-ltb, le-ltb, eqb, leb, ltb}
+use Rattle.std.specs.Prelude.{◌≡◌, ◌+◌, ◌^◌, ◌≤◌, ◌<◌}
+use Rattle.lists.specs.Prelude.{refl, Bool, cond, ℕ, suc-ne-zero, arith, eqb-true, eqb-false, ne_eqb, le-leb, lt-leb}
+use Rattle.lists.specs.Prelude.{lt-ltb, le-ltb, eqb, leb, ltb}
 use Rattle.lists.proofs.Tests.{by_test, by_less, by_at_most}
 use Rattle.stamps.specs.declared.Expected.{Expected}
 use Rattle.stamps.specs.declared.Expected.TheVariants.{First, Stamp}

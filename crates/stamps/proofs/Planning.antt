@@ -1,8 +1,9 @@
 -- The loop of `plan`: the counts so far and those of what is left are the counts of the whole, and no count so far
 -- passes the room or the frames gone through. Assumes nothing.
-use Rattle.lists.specs.Prelude.{◌≡◌, refl, sym, ap, ◌∙◌, subst, Bool, true, false, cond, List, [], ◌∷◌, ℕ, ◌+◌, ◌-◌}
-use Rattle.lists.specs.Prelude.{◌^◌, ◌≤◌, ◌<◌, zero-le, suc-ne-zero, add-one, arith, lt-ltb, le-ltb, le-leb, lt-leb}
-use Rattle.lists.specs.Prelude.{length, get_or, drop, drop_of_length-le, drop-cons}
+use Rattle.std.specs.Prelude.{◌≡◌, ◌∷◌, ◌+◌, ◌-◌, ◌^◌, ◌≤◌, ◌<◌}
+use Rattle.lists.specs.Prelude.{refl, sym, ap, ◌∙◌, subst, Bool, true, false, cond, List, [], ℕ, zero-le, suc-ne-zero}
+use Rattle.lists.specs.Prelude.{add-one, arith, lt-ltb, le-ltb, le-leb, lt-leb, length, get_or, drop, drop_of_length-le}
+use Rattle.lists.specs.Prelude.{drop-cons}
 use Rattle.lists.proofs.Tests.{by_less}
 use Rattle.stamps.specs.declared.Expected.{Expected}
 use Rattle.stamps.specs.declared.Arrival.{Arrival}

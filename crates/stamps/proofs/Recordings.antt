@@ -1,8 +1,9 @@
 -- Recordings: what a frame does, event by event; the counts are those of the events; a recording that is cut anywhere
 -- does what the whole does; and what comes out, with what is late, is what was recorded, with the silence. Assumes
 -- nothing.
-use Rattle.lists.specs.Prelude.{◌≡◌, refl, sym, ap, ◌∙◌, true, List, [], ◌∷◌, ◌++◌, append_assoc, ℕ, zero, suc, ◌+◌}
-use Rattle.lists.specs.Prelude.{◌^◌, ◌<◌, suc-ne-zero, add-one, arith, length}
+use Rattle.std.specs.Prelude.{◌≡◌, ◌∷◌, ◌++◌, ◌+◌, ◌^◌, ◌<◌}
+use Rattle.lists.specs.Prelude.{refl, sym, ap, ◌∙◌, true, List, [], append_assoc, ℕ, zero, suc, suc-ne-zero, add-one}
+use Rattle.lists.specs.Prelude.{arith, length}
 use Rattle.lists.proofs.Tests.{by_at_most}
 use Rattle.stamps.specs.declared.Expected.{Expected}
 use Rattle.stamps.specs.declared.Planned.{Planned}

@@ -1,5 +1,6 @@
 -- Wrong answers that the promises rule out. Assumes nothing.
-use Rattle.lists.specs.Prelude.{ℕ, ◌<◌, arith, ◌≡◌, sym, ap, ◌∙◌, true, true≢false, [], ◌∷◌}
+use Rattle.std.specs.Prelude.{◌<◌, ◌≡◌, ◌∷◌}
+use Rattle.lists.specs.Prelude.{ℕ, arith, sym, ap, ◌∙◌, true, true≢false, []}
 use Rattle.stamps.specs.declared.Expected.{Expected}
 use Rattle.stamps.specs.declared.Expected.TheVariants.{First, Stamp}
 use Rattle.stamps.specs.declared.Arrival.TheVariants.{Late}

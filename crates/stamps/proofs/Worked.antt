@@ -1,6 +1,7 @@
 -- Worked recordings: the counts at every boundary, and a recording that rolls over, loses frames, has a late one and
 -- jumps, event by event. Assumes nothing.
-use Rattle.lists.specs.Prelude.{ℕ, ◌≡◌, refl, true, [], ◌∷◌}
+use Rattle.std.specs.Prelude.{◌≡◌, ◌∷◌}
+use Rattle.lists.specs.Prelude.{ℕ, refl, true, []}
 use Rattle.stamps.specs.declared.Expected.TheVariants.{First, Stamp}
 use Rattle.stamps.specs.declared.Planned.{Planned}
 use Rattle.stamps.specs.Arrivals.{coming_by}

@@ -1,5 +1,6 @@
 -- Numbers that roll over at 2^32: the kit's wrapped difference is `ahead`, and how `ahead` goes on. Assumes nothing.
-use Rattle.lists.specs.Prelude.{◌≡◌, ℕ, ◌+◌, ◌%◌, ◌^◌, ◌<◌, arith}
+use Rattle.std.specs.Prelude.{◌≡◌, ◌+◌, ◌%◌, ◌^◌, ◌<◌}
+use Rattle.lists.specs.Prelude.{ℕ, arith}
 use Rattle.stamps.specs.Arrivals.{ahead, following}
 
 -- so far from e, going up and over, one comes to s

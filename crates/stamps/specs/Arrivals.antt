@@ -2,7 +2,8 @@
 -- 2^31 - 1 is ahead, the rest is late. .. An ahead frame has silence put in for the missing ones, at most 4,096; a
 -- larger gap resets the convolver and starts at that stamp. The first frame sets the stamp." Definitions only. A stamp
 -- is a number below 2^32.
-use Rattle.lists.specs.Prelude.{ℕ, ◌+◌, ◌-◌, ◌%◌, ◌^◌, ◌<◌, ◌≡◌, cond, List, [], ◌∷◌, eqb, leb, ltb}
+use Rattle.std.specs.Prelude.{◌+◌, ◌-◌, ◌%◌, ◌^◌, ◌<◌, ◌≡◌, ◌∷◌}
+use Rattle.lists.specs.Prelude.{ℕ, cond, List, [], eqb, leb, ltb}
 use Rattle.stamps.specs.declared.Expected.{Expected}
 use Rattle.stamps.specs.declared.Expected.TheVariants.{First, Stamp}
 use Rattle.stamps.specs.declared.Arrival.{Arrival}

@@ -1,6 +1,7 @@
 -- A plan with one frame more, and how many frames are fed. Definitions only; they speak of the program, and nobody has
 -- to believe them.
-use Rattle.lists.specs.Prelude.{ℕ, suc, ◌+◌, ◌-◌, true, cond, List, [], ◌∷◌, ltb}
+use Rattle.std.specs.Prelude.{◌+◌, ◌-◌, ◌∷◌}
+use Rattle.lists.specs.Prelude.{ℕ, suc, true, cond, List, [], ltb}
 use Rattle.stamps.specs.declared.Arrival.{Arrival}
 use Rattle.stamps.specs.declared.Planned.{Planned}
 use Rattle.stamps.specs.declared.Share.{Share}

@@ -1,7 +1,8 @@
 -- Document 02, E5: "Late frames are dropped and counted. An ahead frame has silence put in for the missing ones, at
 -- most 4,096; a larger gap resets the convolver .. Counts of late frames, silent frames and resets equal those of a
 -- plain definition over the recorded list." Definitions only, over the stamps of the recorded frames in their order.
-use Rattle.lists.specs.Prelude.{ℕ, ◌+◌, true, false, cond, List, [], ◌∷◌, leb}
+use Rattle.std.specs.Prelude.{◌+◌, ◌∷◌}
+use Rattle.lists.specs.Prelude.{ℕ, true, false, cond, List, [], leb}
 use Rattle.stamps.specs.declared.Expected.{Expected}
 use Rattle.stamps.specs.declared.Arrival.{Arrival}
 use Rattle.stamps.specs.declared.Arrival.TheVariants.{Next, Ahead, Jump, Late}

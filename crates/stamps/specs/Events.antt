@@ -2,7 +2,8 @@
 -- dropped .. An ahead frame has silence put in for the missing ones, at most 4,096; a larger gap resets the convolver
 -- and starts at that stamp. The first frame sets the stamp." Definitions only. They are the same for every kind F of
 -- frame; q is a frame of silence.
-use Rattle.lists.specs.Prelude.{ℕ, zero, suc, List, [], ◌∷◌, ◌++◌, map}
+use Rattle.std.specs.Prelude.{◌∷◌, ◌++◌}
+use Rattle.lists.specs.Prelude.{ℕ, zero, suc, List, [], map}
 use Rattle.stamps.specs.declared.Expected.{Expected}
 use Rattle.stamps.specs.declared.Arrival.{Arrival}
 use Rattle.stamps.specs.declared.Arrival.TheVariants.{Next, Ahead, Jump, Late}

@@ -1,7 +1,7 @@
 -- The program clamps a position where document 01's definition does: comparing floats compares the numbers. A clamped
 -- position is 100 at most in size. Assumes nothing.
-use Rattle.lists.specs.Prelude.{◌≡◌, refl, ◌∙◌, Bool, true, false, cond, ◌<◌, arith, lit<, lit≤, pos, negsuc, Float, lt}
-use Rattle.lists.specs.Prelude.{of_int}
+use Rattle.std.specs.Prelude.{◌≡◌, ◌<◌}
+use Rattle.lists.specs.Prelude.{refl, ◌∙◌, Bool, true, false, cond, arith, lit<, lit≤, pos, negsuc, Float, lt, of_int}
 use Rattle.lists.proofs.Tests.{by_less}
 use Rattle.fractions.specs.Fraction.{Fraction, whole, magnitude, number, is_less, AtMost}
 use Rattle.fractions.proofs.Compare.{lt_number}

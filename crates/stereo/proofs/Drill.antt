@@ -1,6 +1,7 @@
 -- Document 01, 'Marked drill table', item 4: "Stereo -100 gives 1, 0; 250 gives 0, 1", of the formulas as of the
 -- program's gains; the middle; and what is refused. By computing. Assumes nothing.
-use Rattle.lists.specs.Prelude.{◌≡◌, refl, true, pos, negsuc, Float, nan, inf, binary64, lt, le, eq, neg, add, mul, div}
+use Rattle.std.specs.Prelude.{◌≡◌}
+use Rattle.lists.specs.Prelude.{refl, true, pos, negsuc, Float, nan, inf, binary64, lt, le, eq, neg, add, mul, div}
 use Rattle.lists.specs.Prelude.{of_int, to_bits}
 use Rattle.fractions.specs.Fraction.{whole, number}
 use Rattle.series.specs.Angles.{turned, is_multiple, quarters, defined, defined_sine, defined_cosine}

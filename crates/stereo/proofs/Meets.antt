@@ -1,5 +1,6 @@
 -- The answers of the program are those promised: one that is refused, and one that is played. Assumes nothing.
-use Rattle.lists.specs.Prelude.{◌≡◌, sym, ◌∙◌, subst, true, false, ◌<◌, not-false, T, lit<, Float}
+use Rattle.std.specs.Prelude.{◌≡◌, ◌<◌}
+use Rattle.lists.specs.Prelude.{sym, ◌∙◌, subst, true, false, not-false, T, lit<, Float}
 use lib.Ieee.Scale.{finite}
 use Rattle.refusals.proofs.First.{not_accepted, answered_accepted, answered_by_lem}
 use Rattle.lists.proofs.Tests.{cond_true, cond_false}

@@ -1,6 +1,7 @@
 -- The angle is within 2 ^ -44 degrees of the exact one, and so the gains are within 2 ^ -44 of document 01's formula:
 -- the slope of sine and cosine carries them over. Assumes nothing.
-use Rattle.lists.specs.Prelude.{sym, ap, subst, false, ◌<◌, lit≤, Float, binary64, of_int}
+use Rattle.std.specs.Prelude.{◌<◌}
+use Rattle.lists.specs.Prelude.{sym, ap, subst, false, lit≤, Float, binary64, of_int}
 use Rattle.fractions.specs.Fraction.{Fraction, whole, number, ◌⊕◌, ◌⊗◌, ◌⊘◌, Within}
 use Rattle.fractions.proofs.Approximates.{Approximates}
 use Rattle.fractions.proofs.Restate.{⊗-comm}

@@ -1,6 +1,7 @@
 -- Wrong ways to answer, each held against the promise at a position where it breaks it. Assumes nothing.
-use Rattle.lists.specs.Prelude.{◌≡◌, refl, ap, ◌∙◌, true, false, ℕ, ◌^◌, arith, le→leb, pos, negsuc, Float, inf, fin}
-use Rattle.lists.specs.Prelude.{round, of_int}
+use Rattle.std.specs.Prelude.{◌≡◌, ◌^◌}
+use Rattle.lists.specs.Prelude.{refl, ap, ◌∙◌, true, false, ℕ, arith, le→leb, pos, negsuc, Float, inf, fin, round}
+use Rattle.lists.specs.Prelude.{of_int}
 use Rattle.formats.specs.Floats.{zero_float, one_float, float, literal}
 use Rattle.series.specs.Sums.{cosine_sum, term, power, factorial}
 use Rattle.series.specs.Angles.{turned, around, reduced, radians, is_multiple, quarters, defined}

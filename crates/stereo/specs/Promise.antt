@@ -1,6 +1,7 @@
 -- Document 01, 'Refusal numbers': 3 is given exactly when "an angle or position is NaN or infinite", and "A refusal
 -- returns its number, [..] 0.0 for any number or gain". 'Gains', stereo: "Within 2^-36." Definitions only.
-use Rattle.lists.specs.Prelude.{ℕ, ◌≡◌, Bool, not, [], ◌∷◌, Float}
+use Rattle.std.specs.Prelude.{◌≡◌, ◌∷◌}
+use Rattle.lists.specs.Prelude.{ℕ, Bool, not, [], Float}
 use Rattle.std.specs.Float.Ieee.Scale.{finite}
 use Rattle.refusals.specs.Refusals.{first_of, ◌when◌, answered}
 use Rattle.fractions.specs.Fraction.{number, Within}

@@ -2,7 +2,8 @@
 -- pair. So the sum of squares is 3 / 100 at least, the square of the cosine of 80 degrees being 0.0301. (The least sum
 -- is larger: that of 5.1 at 180 degrees is 1 + cos 140, 0.2339.., and that of 7.1 3 / 2. Document 01 asks only that it
 -- is never near 10 ^ -10.) Assumes nothing.
-use Rattle.lists.specs.Prelude.{◌≡◌, refl, sym, subst, true, ℕ, ◌<◌, mul-pos, arith, lit<, lit≤}
+use Rattle.std.specs.Prelude.{◌≡◌, ◌<◌}
+use Rattle.lists.specs.Prelude.{refl, sym, subst, true, ℕ, mul-pos, arith, lit<, lit≤}
 use Rattle.fractions.specs.Fraction.{Fraction, fraction, whole, magnitude, square, ◌⊖◌, Less, AtMost}
 use Rattle.fractions.proofs.Order.{at_most_trans, by_side}
 use Rattle.fractions.proofs.Compare.{is_less_lem}

@@ -1,7 +1,8 @@
 -- Document 02, E3, of document 01's drill item 5: "at 120 only Ls still sounds; at 0, C is now loudest, with L and R
 -- equal", of the formulas and of the program's gains, by computing. Assumes nothing.
-use Rattle.lists.specs.Prelude.{◌≡◌, refl, ◌∙◌, true, false, [], ◌∷◌, lit<, pos, nan, lt, le, eq, neg, add, sub, mul}
-use Rattle.lists.specs.Prelude.{div, of_int, of_bits, round, size, units}
+use Rattle.std.specs.Prelude.{◌≡◌, ◌∷◌}
+use Rattle.lists.specs.Prelude.{refl, ◌∙◌, true, false, [], lit<, pos, nan, lt, le, eq, neg, add, sub, mul, div, of_int}
+use Rattle.lists.specs.Prelude.{of_bits, round, size, units}
 use Rattle.fractions.specs.Fraction.{whole, square, ◌⊕◌, Less}
 use Rattle.fractions.proofs.Restate.{⊕-zero, zero-⊕}
 use Rattle.numbers.specs.Computed.{root_of, whole_root}

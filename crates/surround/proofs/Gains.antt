@@ -1,9 +1,10 @@
 -- The gains of an accepted azimuth: each raw gain over the root of the sum of squares is within 2 ^ -30, by squares, of
 -- document 01's; not below 0; and exactly 0.0 where the raw gain is. One law for any layout of which the tests pass;
 -- 5.1 and 7.1 pass them by computing. Assumes nothing.
-use Rattle.lists.specs.Prelude.{◌≡◌, refl, sym, ap, ◌∙◌, subst, subst₂, ◌⊎◌, inl, inr, Bool, true, false, ◌||◌, not}
-use Rattle.lists.specs.Prelude.{cond, ℕ, ◌+◌, ◌*◌, ◌/◌, ◌^◌, ◌≤◌, ◌<◌, arith, lt-ltb, le-ltb, T, leb, ltb, leb→le, lit<}
-use Rattle.lists.specs.Prelude.{lit≤, get_or, get_or-eq_default, Float, nan, binary64, fits, div, of_int}
+use Rattle.std.specs.Prelude.{◌≡◌, ◌⊎◌, ◌||◌, ◌+◌, ◌*◌, ◌/◌, ◌^◌, ◌≤◌, ◌<◌}
+use Rattle.lists.specs.Prelude.{refl, sym, ap, ◌∙◌, subst, subst₂, inl, inr, Bool, true, false, not, cond, ℕ, arith}
+use Rattle.lists.specs.Prelude.{lt-ltb, le-ltb, T, leb, ltb, leb→le, lit<, lit≤, get_or, get_or-eq_default, Float, nan}
+use Rattle.lists.specs.Prelude.{binary64, fits, div, of_int}
 use lib.Ieee.Fits.{add-fits}
 use lib.Ieee.Positive.{positive}
 use Rattle.formats.specs.Floats.{zero_float}

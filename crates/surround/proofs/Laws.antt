@@ -1,6 +1,7 @@
 -- What the crates above cite of the surround gains, beside their promise: the refusal of the answer that the definition
 -- gives. Assumes nothing.
-use Rattle.lists.specs.Prelude.{◌≡◌, refl, Float}
+use Rattle.std.specs.Prelude.{◌≡◌}
+use Rattle.lists.specs.Prelude.{refl, Float}
 use Rattle.refusals.proofs.First.{answered_number}
 use Rattle.channel.specs.declared.Layout.{Layout}
 use Rattle.harmonics.specs.Promise.{silent_gains}

@@ -1,6 +1,7 @@
 -- The answers of the program are those promised: refused by 2, by 3, and played. Assumes nothing.
-use Rattle.lists.specs.Prelude.{◌≡◌, sym, ap, ◌∙◌, subst, Bool, true, false, not, List, ℕ, ◌≤◌, ◌<◌, arith, not-false}
-use Rattle.lists.specs.Prelude.{lit<, get_or, Float, binary64, of_int}
+use Rattle.std.specs.Prelude.{◌≡◌, ◌≤◌, ◌<◌}
+use Rattle.lists.specs.Prelude.{sym, ap, ◌∙◌, subst, Bool, true, false, not, List, ℕ, arith, not-false, lit<, get_or}
+use Rattle.lists.specs.Prelude.{Float, binary64, of_int}
 use Rattle.formats.specs.Floats.{zero_float}
 use Rattle.refusals.proofs.First.{not_accepted, answered_accepted, answered_by_lem}
 use Rattle.lists.proofs.Tests.{cond_true, cond_false}

@@ -1,7 +1,8 @@
 -- A voice at the azimuth of a speaker is loudest there, by one computed test over the speakers of both layouts. Assumes
 -- nothing.
-use Rattle.lists.specs.Prelude.{◌≡◌, refl, sym, ap, ◌∙◌, subst, Bool, true, false, ◌&&◌, cond, and-eq-true_iff, List, ℕ}
-use Rattle.lists.specs.Prelude.{◌<◌, arith, T, eqb}
+use Rattle.std.specs.Prelude.{◌≡◌, ◌&&◌, ◌<◌}
+use Rattle.lists.specs.Prelude.{refl, sym, ap, ◌∙◌, subst, Bool, true, false, cond, and-eq-true_iff, List, ℕ, arith, T}
+use Rattle.lists.specs.Prelude.{eqb}
 use Rattle.lists.specs.Tables.{tab, every}
 use Rattle.lists.proofs.Tables.{length_tab, get_or_table}
 use Rattle.lists.proofs.Every.{every_at}

@@ -1,8 +1,9 @@
 -- The raw gain of a speaker is within 2 ^ -47 of document 02's, and not below 0: the place that the program turns the
 -- speaker to is exact, and so is its test of nearness; the way to it is rounded once, and the slope of the cosine
 -- carries that over. Assumes nothing.
-use Rattle.lists.specs.Prelude.{◌≡◌, refl, sym, ◌∙◌, subst, Bool, true, false, cond, ℕ, suc, ◌*◌, ◌^◌, ◌<◌, mul-pos}
-use Rattle.lists.specs.Prelude.{arith, lit≤, lit<, ℤ, pos, negsuc, Float, binary64, lt, neg, add, sub, of_int}
+use Rattle.std.specs.Prelude.{◌≡◌, ◌*◌, ◌^◌, ◌<◌}
+use Rattle.lists.specs.Prelude.{refl, sym, ◌∙◌, subst, Bool, true, false, cond, ℕ, suc, mul-pos, arith, lit≤, lit<, ℤ}
+use Rattle.lists.specs.Prelude.{pos, negsuc, Float, binary64, lt, neg, add, sub, of_int}
 use Rattle.lists.proofs.Tests.{by_test, cond_cases, by_less, cond_true, cond_false}
 use Rattle.fractions.specs.Fraction.{Fraction, fraction, whole, unit, opposite, magnitude, number, ◌⊕◌, ◌⊖◌, Same, Less}
 use Rattle.fractions.specs.Fraction.{AtMost, is_less, Within}

@@ -1,6 +1,6 @@
 -- The steps of `raw_gain` and `channel_gain` are those of the definitions. Assumes nothing.
-use Rattle.lists.specs.Prelude.{◌≡◌, sym, ap, ◌∙◌, Bool, true, false, not, ℕ, not-true, not-false, Float, binary64, lt}
-use Rattle.lists.specs.Prelude.{sub}
+use Rattle.std.specs.Prelude.{◌≡◌}
+use Rattle.lists.specs.Prelude.{sym, ap, ◌∙◌, Bool, true, false, not, ℕ, not-true, not-false, Float, binary64, lt, sub}
 use Rattle.lists.proofs.Tests.{cond_true, cond_false}
 use Rattle.series.specs.Sums.{cosine}
 use Rattle.angles.specs.declared.Answer.{Answer}

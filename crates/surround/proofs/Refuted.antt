@@ -1,6 +1,7 @@
 -- Wrong ways to answer, each held against the promise at an azimuth where it breaks it. Assumes nothing.
-use Rattle.lists.specs.Prelude.{◌≡◌, refl, ap, ◌∙◌, false, List, ◌∷◌, ℕ, arith, le→leb, lit<, pos, negsuc, Float, nan}
-use Rattle.lists.specs.Prelude.{fin, binary64, lt, le, eq, neg, of_int, of_bits}
+use Rattle.std.specs.Prelude.{◌≡◌, ◌∷◌}
+use Rattle.lists.specs.Prelude.{refl, ap, ◌∙◌, false, List, ℕ, arith, le→leb, lit<, pos, negsuc, Float, nan, fin}
+use Rattle.lists.specs.Prelude.{binary64, lt, le, eq, neg, of_int, of_bits}
 use Rattle.formats.specs.Floats.{zero_float, one_float, float}
 use Rattle.series.specs.Sums.{cosine_sum, term, power, factorial}
 use Rattle.series.specs.Angles.{turned, around, reduced, radians, is_multiple, quarters, defined}

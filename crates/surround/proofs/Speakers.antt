@@ -1,8 +1,8 @@
 -- Where the program adds whole numbers to the azimuth of a speaker nothing is rounded: by one computed test over the
 -- tables of speakers. Assumes nothing.
-use Rattle.lists.specs.Prelude.{Bool, List, [], ◌∷◌, ℕ, ◌+◌, ◌*◌, ◌<◌, T, leb, ltb, ltb→lt, leb→le, ℤ, pos, get_or}
-use Rattle.lists.specs.Prelude.{Float}
-use Rattle.lists.specs.Prelude.{binary64, add, sub, round, of_int}
+use Rattle.std.specs.Prelude.{◌∷◌, ◌+◌, ◌*◌, ◌<◌}
+use Rattle.lists.specs.Prelude.{Bool, List, [], ℕ, T, leb, ltb, ltb→lt, leb→le, ℤ, pos, get_or, Float, binary64, add}
+use Rattle.lists.specs.Prelude.{sub, round, of_int}
 use Rattle.lists.specs.Tables.{every}
 use Rattle.lists.proofs.Every.{every_holds}
 use Rattle.lists.proofs.Tests.{all, each_holds}

@@ -1,8 +1,9 @@
 -- The shorter way round, of numbers: from the place to which the program turns a speaker (itself, a turn on, or a turn
 -- back) the way to the azimuth is document 01's d, and whether it is less than 90 is told by comparing the azimuth with
 -- the ends. The speaker stands at the whole number p - m. Assumes nothing.
-use Rattle.lists.specs.Prelude.{◌≡◌, refl, sym, ap, ◌∙◌, subst, Bool, true, false, cond, ℕ, ◌+◌, ◌*◌, ◌≤◌, ◌<◌, mul-pos}
-use Rattle.lists.specs.Prelude.{mul-le-mul_right, arith, lit<}
+use Rattle.std.specs.Prelude.{◌≡◌, ◌+◌, ◌*◌, ◌≤◌, ◌<◌}
+use Rattle.lists.specs.Prelude.{refl, sym, ap, ◌∙◌, subst, Bool, true, false, cond, ℕ, mul-pos, mul-le-mul_right, arith}
+use Rattle.lists.specs.Prelude.{lit<}
 use Rattle.lists.proofs.Tests.{by_less, cond_true, cond_false}
 use Rattle.fractions.specs.Fraction.{Fraction, fraction, whole, magnitude, ◌⊕◌, ◌⊖◌, Same, Less, AtMost, is_less}
 use Rattle.fractions.proofs.Order.{same_refl, at_most_same}

@@ -1,7 +1,8 @@
 -- The worked bits of E3: the program's gains at azimuths where a speaker is pointed at, where it falls silent, and just
 -- short of that, on both layouts, by computing. Assumes nothing.
-use Rattle.lists.specs.Prelude.{◌≡◌, refl, false, List, [], ◌∷◌, ℕ, pos, negsuc, get_or, Float, nan, binary64, to_bits}
-use Rattle.lists.specs.Prelude.{of_bits, lt, le, eq, neg, add, sub, mul, div, of_int, round, size, units}
+use Rattle.std.specs.Prelude.{◌≡◌, ◌∷◌}
+use Rattle.lists.specs.Prelude.{refl, false, List, [], ℕ, pos, negsuc, get_or, Float, nan, binary64, to_bits, of_bits}
+use Rattle.lists.specs.Prelude.{lt, le, eq, neg, add, sub, mul, div, of_int, round, size, units}
 use Rattle.lists.specs.Tables.{tab}
 use Rattle.formats.specs.Floats.{float}
 use Rattle.fractions.specs.Fraction.{number}

@@ -1,6 +1,7 @@
 -- Document 02, E3: "Document 01's rule and case 5 change: at 120 only Ls still sounds; at 0, C is now loudest, with L
 -- and R equal." The floats that the program gives there. Definitions only.
-use Rattle.lists.specs.Prelude.{List, [], ◌∷◌, Float, binary64, of_bits}
+use Rattle.std.specs.Prelude.{◌∷◌}
+use Rattle.lists.specs.Prelude.{List, [], Float, binary64, of_bits}
 use Rattle.formats.specs.Floats.{zero_float}
 
 -- the sixteen gains of 5.1 where LFE and Rs are silent

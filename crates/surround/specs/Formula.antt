@@ -2,7 +2,8 @@
 -- than 90' is decided on exact values, not on a rounded difference. Then each is divided by the root of the sum of
 -- squares." Document 02, E3: "The raw gain becomes cos d for d < 90, else 0." Definitions only, over fractions of
 -- degrees: nothing is rounded here. The speakers of a layout are those of `channel`.
-use Rattle.lists.specs.Prelude.{ℕ, suc, Bool, not, ◌||◌, cond, List, leb, ℤ, pos, negsuc}
+use Rattle.std.specs.Prelude.{◌||◌}
+use Rattle.lists.specs.Prelude.{ℕ, suc, Bool, not, cond, List, leb, ℤ, pos, negsuc}
 use Rattle.fractions.specs.Fraction.{Fraction, whole, opposite, magnitude, ◌⊖◌, is_less}
 use Rattle.fractions.specs.Squares.{sum_squares}
 use Rattle.series.specs.Angles.{defined_cosine}

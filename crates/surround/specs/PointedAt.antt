@@ -1,6 +1,7 @@
 -- Document 02, E3, "The voice comes from the speaker it doesn't point at", mended: a voice at the azimuth of a speaker
 -- is loudest there. Definitions only.
-use Rattle.lists.specs.Prelude.{ℕ, ◌<◌, ◌≡◌, true, false, eqb}
+use Rattle.std.specs.Prelude.{◌<◌, ◌≡◌}
+use Rattle.lists.specs.Prelude.{ℕ, true, false, eqb}
 use Rattle.fractions.specs.Fraction.{whole, square, Same, Less}
 use Rattle.channel.specs.Layouts.{channels_of, low_frequency, surround}
 use Rattle.channel.specs.declared.Layout.{Layout}

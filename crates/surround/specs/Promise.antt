@@ -3,7 +3,8 @@
 -- Surround71 for surround"; "A refusal returns its number, [..] 0.0 for any number or gain". 'Gains', surround: "On
 -- these layouts that sum is never near 000's 1e-10 limit, which is to be proved. Within 2^-30, stated by squares".
 -- Definitions only.
-use Rattle.lists.specs.Prelude.{ℕ, ◌<◌, ◌≡◌, not, List, [], ◌∷◌, T, get_or, Float, binary64}
+use Rattle.std.specs.Prelude.{◌<◌, ◌≡◌, ◌∷◌}
+use Rattle.lists.specs.Prelude.{ℕ, not, List, [], T, get_or, Float, binary64}
 use Rattle.formats.specs.Floats.{zero_float}
 use Rattle.refusals.specs.Refusals.{first_of, ◌when◌, answered}
 use Rattle.fractions.specs.Fraction.{fraction, whole, number, AtMost}

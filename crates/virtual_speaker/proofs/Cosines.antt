@@ -1,5 +1,6 @@
 -- The three cosines: the f64s that stand for them are near the defined series, by computing it. Assumes nothing.
-use Rattle.lists.specs.Prelude.{◌≡◌, false, ℕ, T, lit≤, round}
+use Rattle.std.specs.Prelude.{◌≡◌}
+use Rattle.lists.specs.Prelude.{false, ℕ, T, lit≤, round}
 use Rattle.fractions.specs.Fraction.{number, whole, magnitude, AtMost}
 use Rattle.fractions.proofs.Approximates.{Approximates}
 use Rattle.fractions.proofs.Within.{is_within, within_computed}

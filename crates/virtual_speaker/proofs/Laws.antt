@@ -1,7 +1,8 @@
 -- What the crates above cite of the weighted coefficients, beside their promise: that all are finite, whether refused
 -- or not, and that the eight positions are accepted. Assumes nothing.
-use Rattle.lists.specs.Prelude.{◌≡◌, refl, ap, ◌∙◌, Bool, true, false, not, ◌||◌, List, [], ◌∷◌, ℕ, zero, suc, arith, T}
-use Rattle.lists.specs.Prelude.{lit<, lit≤, leb→le, ℤ, pos, negsuc, length, get_or, Float, binary64, of_int}
+use Rattle.std.specs.Prelude.{◌≡◌, ◌||◌, ◌∷◌}
+use Rattle.lists.specs.Prelude.{refl, ap, ◌∙◌, Bool, true, false, not, List, [], ℕ, zero, suc, arith, T, lit<, lit≤}
+use Rattle.lists.specs.Prelude.{leb→le, ℤ, pos, negsuc, length, get_or, Float, binary64, of_int}
 use lib.Ieee.Scale.{finite}
 use lib.Ieee.Bits.{is_true}
 use Rattle.refusals.specs.Refusals.{answered}

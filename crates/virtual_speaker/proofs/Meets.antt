@@ -1,7 +1,8 @@
 -- The promise is kept: all of it holds of the answer that the definition gives, and the program gives that. Assumes
 -- nothing.
-use Rattle.lists.specs.Prelude.{◌≡◌, refl, sym, ap, ◌∙◌, subst, List, ℕ, zero, suc, ◌≤◌, ◌<◌, ltb, lit≤, get_or, Float}
-use Rattle.lists.specs.Prelude.{nan, binary64, mul, round, of_int}
+use Rattle.std.specs.Prelude.{◌≡◌, ◌≤◌, ◌<◌}
+use Rattle.lists.specs.Prelude.{refl, sym, ap, ◌∙◌, subst, List, ℕ, zero, suc, ltb, lit≤, get_or, Float, nan, binary64}
+use Rattle.lists.specs.Prelude.{mul, round, of_int}
 use Rattle.refusals.specs.Refusals.{answered}
 use Rattle.refusals.proofs.First.{answered_accepted}
 use Rattle.lists.proofs.Tests.{cond_cases}

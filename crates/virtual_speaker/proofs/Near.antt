@@ -1,7 +1,7 @@
 -- Each weighted coefficient is within 2 ^ -41 of document 01's formula: a coefficient of `harmonics`, 2 ^ -42 from its
 -- formula and 5 in magnitude at most, times a power of a cosine that is 2 ^ -54 from the series. Assumes nothing.
-use Rattle.lists.specs.Prelude.{◌≡◌, refl, sym, ap, ◌∙◌, subst₂, false, ℕ, zero, suc, ◌+◌, ◌≤◌, ◌<◌, arith, T, Float}
-use Rattle.lists.specs.Prelude.{binary64, mul, round}
+use Rattle.std.specs.Prelude.{◌≡◌, ◌+◌, ◌≤◌, ◌<◌}
+use Rattle.lists.specs.Prelude.{refl, sym, ap, ◌∙◌, subst₂, false, ℕ, zero, suc, arith, T, Float, binary64, mul, round}
 use Rattle.fractions.specs.Fraction.{Fraction, number, whole, ◌⊗◌, Within, EachWithin}
 use Rattle.fractions.proofs.Approximates.{Approximates}
 use Rattle.fractions.proofs.Restate.{⊗-one, ⊗-comm}

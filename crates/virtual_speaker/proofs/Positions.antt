@@ -1,6 +1,7 @@
 -- The position of a virtual speaker, made of its azimuth; and its direction, which is 0 and 0 where there is none.
 -- Assumes nothing.
-use Rattle.lists.specs.Prelude.{◌≡◌, refl, sym, ap, ◌∙◌, ℕ, zero, suc}
+use Rattle.std.specs.Prelude.{◌≡◌}
+use Rattle.lists.specs.Prelude.{refl, sym, ap, ◌∙◌, ℕ, zero, suc}
 use Rattle.refusals.specs.Refusals.{answered}
 use Rattle.formats.specs.Floats.{zero_float}
 use Rattle.channel.specs.Layouts.{positions, missing, position_azimuth, position_azimuth_answer}

@@ -1,6 +1,7 @@
 -- Wrong ways to answer, each held against the promise on an input where it breaks it. Assumes nothing.
-use Rattle.lists.specs.Prelude.{◌≡◌, refl, ap, List, [], ◌∷◌, ◌++◌, ℕ, arith, le→leb, false, pos, negsuc, replicate}
-use Rattle.lists.specs.Prelude.{Float, fin, lt, le, eq, neg, round, of_int}
+use Rattle.std.specs.Prelude.{◌≡◌, ◌∷◌, ◌++◌}
+use Rattle.lists.specs.Prelude.{refl, ap, List, [], ℕ, arith, le→leb, false, pos, negsuc, replicate, Float, fin, lt, le}
+use Rattle.lists.specs.Prelude.{eq, neg, round, of_int}
 use Rattle.formats.specs.Floats.{zero_float, float, decimal}
 use Rattle.series.specs.Sums.{cosine_sum, term, power, factorial}
 use Rattle.series.specs.Angles.{turned, is_multiple, quarters, defined}

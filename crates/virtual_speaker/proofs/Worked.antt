@@ -1,5 +1,6 @@
 -- A worked answer, by computation. Assumes nothing.
-use Rattle.lists.specs.Prelude.{List, [], ◌∷◌, ◌++◌, map, replicate, lt, le, eq, neg, add, sub, mul, div, round, of_int}
+use Rattle.std.specs.Prelude.{◌∷◌, ◌++◌}
+use Rattle.lists.specs.Prelude.{List, [], map, replicate, lt, le, eq, neg, add, sub, mul, div, round, of_int}
 use Rattle.formats.specs.Floats.{decimal}
 use Rattle.fractions.specs.Fraction.{Fraction, number, whole}
 use Rattle.series.specs.Angles.{turned}

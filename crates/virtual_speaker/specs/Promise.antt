@@ -1,6 +1,7 @@
 -- Document 01, 'Gains', max-rE: "Within 2^-34 on the weighted coefficient"; 'Refusal numbers' 1 and 3, as harmonics has
 -- them, and 2; and item 7: the positions of 003, "all at 0° elevation". Definitions only.
-use Rattle.lists.specs.Prelude.{ℕ, ◌≡◌}
+use Rattle.std.specs.Prelude.{◌≡◌}
+use Rattle.lists.specs.Prelude.{ℕ}
 use Rattle.refusals.specs.Refusals.{answered}
 use Rattle.formats.specs.Floats.{zero_float}
 use Rattle.fractions.specs.Fraction.{number, EachWithin}

@@ -1,7 +1,8 @@
 -- Document 01, 'Gains': "max-rE (003): degree l of order N is weighted by c^l, c = cos(A/(2(N+1))) with A =
 -- 2.406184877014388 radians, over the same defined series." The angle is in radians already: the series is summed at it
 -- as it is. Definitions only.
-use Rattle.lists.specs.Prelude.{ℕ, ◌+◌, ◌*◌, ◌^◌, cond, List, ltb, get_or}
+use Rattle.std.specs.Prelude.{◌+◌, ◌*◌, ◌^◌}
+use Rattle.lists.specs.Prelude.{ℕ, cond, List, ltb, get_or}
 use Rattle.fractions.specs.Fraction.{Fraction, fraction, whole, ◌⊗◌, ◌⊘◌}
 use Rattle.series.specs.Sums.{cosine_sum, power}
 use Rattle.lists.specs.Tables.{tab}

@@ -1,4 +1,5 @@
-use Rattle.lists.specs.Prelude.{ℕ, ◌-◌, List, Float}
+use Rattle.std.specs.Prelude.{◌-◌}
+use Rattle.lists.specs.Prelude.{ℕ, List, Float}
 use Rattle.planes.specs.Planes.{frame_at}
 use Rattle.planes.specs.Sums.{mixed_all}
 use Rattle.planes.proofs.Framing.{Framing}

@@ -1,5 +1,6 @@
 -- `angles::is_inside` meets its contract. Assumes nothing.
-use Rattle.lists.specs.Prelude.{sym, ap, ◌∙◌, Bool, ◌&&◌, le}
+use Rattle.std.specs.Prelude.{◌&&◌}
+use Rattle.lists.specs.Prelude.{sym, ap, ◌∙◌, Bool, le}
 use Rattle.angles.specs.Limits.{is_inside}
 use Rattle.angles.proofs.is_inside.Goals as goal
 

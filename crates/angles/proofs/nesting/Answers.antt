@@ -1,5 +1,6 @@
 -- `angles::nesting` meets its contract. Assumes nothing.
-use Rattle.lists.specs.Prelude.{ap, ℕ, ◌+◌, ◌*◌, ◌/◌}
+use Rattle.std.specs.Prelude.{◌+◌, ◌*◌, ◌/◌}
+use Rattle.lists.specs.Prelude.{ap, ℕ}
 use Rattle.angles.specs.Computed.{nesting}
 use Rattle.angles.proofs.nesting.Goals as goal
 

@@ -1,6 +1,7 @@
 -- `angles::outermost` meets its contract. The loop's invariant: j and twice the nestings that are done make up `top`,
 -- and f is 1 less the nestings so far. Assumes nothing.
-use Rattle.lists.specs.Prelude.{◌≡◌, refl, sym, ap, ◌∙◌, subst, ℕ, suc, ◌+◌, ◌-◌, ◌*◌, ◌^◌, ◌≤◌, ◌<◌, arith}
+use Rattle.std.specs.Prelude.{◌≡◌, ◌+◌, ◌-◌, ◌*◌, ◌^◌, ◌≤◌, ◌<◌}
+use Rattle.lists.specs.Prelude.{refl, sym, ap, ◌∙◌, subst, ℕ, suc, arith}
 use Rattle.angles.specs.Computed.{one, times, nesting, nest}
 use Rattle.angles.proofs.Room.{nest_most, nesting_most, square_most}
 use Rattle.angles.proofs.outermost.Goals as goal

@@ -1,4 +1,5 @@
-use Rattle.lists.specs.Prelude.{◌≡◌, ℕ, ◌+◌, ◌*◌}
+use Rattle.std.specs.Prelude.{◌≡◌, ◌+◌, ◌*◌}
+use Rattle.lists.specs.Prelude.{ℕ}
 use Rattle.angles.specs.Computed.{nest}
 use Rattle.angles.proofs.outermost.Given as goal
 

@@ -1,6 +1,7 @@
 -- `angles::rounded` meets its contract. Assumes nothing.
-use Rattle.lists.specs.Prelude.{sym, ap, Bool, false, cond, ℕ, ◌+◌, ◌/◌, pos, eqb, Float, binary64}
-use Rattle.lists.specs.Prelude.{fin, of_bits, neg, div, of_int, eq-eqb, ne_eqb}
+use Rattle.std.specs.Prelude.{◌+◌, ◌/◌}
+use Rattle.lists.specs.Prelude.{sym, ap, Bool, false, cond, ℕ, pos, eqb, Float, binary64, fin, of_bits, neg, div}
+use Rattle.lists.specs.Prelude.{of_int, eq-eqb, ne_eqb}
 use Rattle.angles.specs.Computed.{rounded_units}
 use Rattle.angles.proofs.rounded.Goals as goal
 

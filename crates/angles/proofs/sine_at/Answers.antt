@@ -1,6 +1,7 @@
 -- `angles::sine_at` meets its contract: its steps are those of the definition, and none of its numbers is too large.
 -- Assumes nothing.
-use Rattle.lists.specs.Prelude.{sym, ap, ◌∙◌, subst, ℕ, ◌-◌, ◌^◌, ◌<◌, ltb, lit≤, Float, unlike}
+use Rattle.std.specs.Prelude.{◌-◌, ◌^◌, ◌<◌}
+use Rattle.lists.specs.Prelude.{sym, ap, ◌∙◌, subst, ℕ, ltb, lit≤, Float, unlike}
 use Rattle.angles.specs.Computed.{one, half, times, outermost, from_one, rounded_units, sine_at}
 use Rattle.angles.proofs.Room.{outermost_room, sine_room}
 use Rattle.angles.proofs.sine_at.Goals as goal

@@ -1,6 +1,7 @@
 -- `angles::times` meets its contract: the four products of halves, added column by column, make up a * b. Assumes
 -- nothing.
-use Rattle.lists.specs.Prelude.{◌≡◌, sym, ◌∙◌, ℕ, ◌+◌, ◌-◌, ◌*◌, ◌/◌, ◌%◌, ◌^◌, ◌≤◌, ◌<◌, mul-le-mul, arith, split}
+use Rattle.std.specs.Prelude.{◌≡◌, ◌+◌, ◌-◌, ◌*◌, ◌/◌, ◌%◌, ◌^◌, ◌≤◌, ◌<◌}
+use Rattle.lists.specs.Prelude.{sym, ◌∙◌, ℕ, mul-le-mul, arith, split}
 use Rattle.angles.specs.Computed.{times}
 use Rattle.angles.proofs.times.Goals.{Start}
 use Rattle.angles.proofs.times.Goals as goal

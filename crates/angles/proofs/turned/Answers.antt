@@ -1,6 +1,7 @@
 -- `angles::turned` meets its contract: an angle below 0 lies what its opposite's units are short of a turn. Assumes
 -- nothing.
-use Rattle.lists.specs.Prelude.{ap, ◌∙◌, ℕ, ◌-◌, ◌%◌, of_bits, of_int}
+use Rattle.std.specs.Prelude.{◌-◌, ◌%◌}
+use Rattle.lists.specs.Prelude.{ap, ◌∙◌, ℕ, of_bits, of_int}
 use Rattle.angles.specs.Computed.{turn}
 use Rattle.angles.proofs.Floats.{negated, itself}
 use Rattle.angles.proofs.turned.Goals as goal

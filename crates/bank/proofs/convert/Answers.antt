@@ -1,5 +1,6 @@
 -- `bank::convert` meets its contract: what is read into the lists is the file's bank. Assumes nothing.
-use Rattle.lists.specs.Prelude.{◌≡◌, sym, ap, ◌∙◌, List, ℕ, ◌*◌, ◌≤◌, arith, Float, binary32, of_bits, ℤ, pos, length}
+use Rattle.std.specs.Prelude.{◌≡◌, ◌*◌, ◌≤◌}
+use Rattle.lists.specs.Prelude.{sym, ap, ◌∙◌, List, ℕ, arith, Float, binary32, of_bits, ℤ, pos, length}
 use Rattle.lists.specs.Prelude.{length-replicate, length-take-le, replicate, take, []}
 use Rattle.refusals.proofs.Ranges.{within_true}
 use Rattle.bank_form.specs.declared.Fault.{Fault}

@@ -1,5 +1,6 @@
 -- `bank::convert_bank` meets its contract. Assumes nothing.
-use Rattle.lists.specs.Prelude.{◌≡◌, sym, ◌∙◌, length}
+use Rattle.std.specs.Prelude.{◌≡◌}
+use Rattle.lists.specs.Prelude.{sym, ◌∙◌, length}
 use Rattle.bank_form.specs.Bank.{Bank}
 use Rattle.bank_form.specs.Encoding.{encode}
 use Rattle.bank_form.proofs.Walk.{same_number}

@@ -1,5 +1,6 @@
 -- `bank::counts_fault` meets its contract. Assumes nothing.
-use Rattle.lists.specs.Prelude.{◌≡◌, sym, ◌∙◌, true, arith}
+use Rattle.std.specs.Prelude.{◌≡◌}
+use Rattle.lists.specs.Prelude.{sym, ◌∙◌, true, arith}
 use Rattle.refusals.specs.Ranges.{within}
 use Rattle.bank_form.proofs.Walk.{unless_passes, unless_fails}
 use Rattle.bank.proofs.counts_fault.Goals.{Else-not-is_within}

@@ -1,5 +1,6 @@
 -- `bank::raised_fault` meets its contract. What is left to look at has the fault that all have. Assumes nothing.
-use Rattle.lists.specs.Prelude.{rules, ◌≡◌, sym, ap, ◌∙◌, ℕ, ◌+◌, arith, pos, drop, get_or}
+use Rattle.std.specs.Prelude.{◌≡◌, ◌+◌}
+use Rattle.lists.specs.Prelude.{rules, sym, ap, ◌∙◌, ℕ, arith, pos, drop, get_or}
 use mir.Syntax.{w16}
 use mir.Val.{to_z, of_z}
 use Rattle.big_endian.proofs.Signed.{back}

@@ -1,4 +1,5 @@
-use Rattle.lists.specs.Prelude.{◌≡◌, ◌+◌, ◌-◌, ◌*◌, ◌≤◌, length, drop}
+use Rattle.std.specs.Prelude.{◌≡◌, ◌+◌, ◌-◌, ◌*◌, ◌≤◌}
+use Rattle.lists.specs.Prelude.{length, drop}
 use Rattle.bank_form.specs.Version.{row_size, largest_row}
 use Rattle.bank_form.specs.Fault.{raised_from}
 use Rattle.bank.proofs.raised_fault.Given as goal

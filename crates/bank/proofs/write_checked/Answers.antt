@@ -1,6 +1,7 @@
 -- `bank::write_checked` meets its contract. What was made is the encoding of the bank, whose first fault is the bank's.
 -- Assumes nothing.
-use Rattle.lists.specs.Prelude.{◌≡◌, sym, ap, ◌∙◌, List, ℕ, ◌+◌, ◌*◌, ◌≤◌, arith, length, take, pos, nan}
+use Rattle.std.specs.Prelude.{◌≡◌, ◌+◌, ◌*◌, ◌≤◌}
+use Rattle.lists.specs.Prelude.{sym, ap, ◌∙◌, List, ℕ, arith, length, take, pos, nan}
 use Rattle.lists.specs.ForAll.{ForAll}
 use Rattle.lists.specs.Placed.{placed}
 use Rattle.bank_form.specs.declared.Fault.{Fault}

@@ -1,5 +1,6 @@
 -- `bank_check::head_fault` meets its contract. Assumes nothing.
-use Rattle.lists.specs.Prelude.{◌≡◌, sym, ap₂, ◌∙◌, ℕ, ◌-◌, List}
+use Rattle.std.specs.Prelude.{◌≡◌, ◌-◌}
+use Rattle.lists.specs.Prelude.{sym, ap₂, ◌∙◌, ℕ, List}
 use Rattle.bank_form.specs.Fault.{head_field, head_fault}
 use Rattle.bank_form.proofs.Walk.{else_stop, else_on}
 use Rattle.bank_check.proofs.head_fault.Goals as goal

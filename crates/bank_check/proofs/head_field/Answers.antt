@@ -1,5 +1,6 @@
 -- `bank_check::head_field` meets its contract. Assumes nothing.
-use Rattle.lists.specs.Prelude.{◌≡◌, ap, ◌∙◌}
+use Rattle.std.specs.Prelude.{◌≡◌}
+use Rattle.lists.specs.Prelude.{ap, ◌∙◌}
 use Rattle.big_endian.specs.Fields.{field_at}
 use Rattle.refusals.specs.Ranges.{within}
 use Rattle.bank_form.specs.Fault.{field, head_field}

@@ -1,5 +1,6 @@
 -- `bank_check::is_new` meets its contract. The rows still to be looked at decide what all of them do. Assumes nothing.
-use Rattle.lists.specs.Prelude.{◌≡◌, sym, ap, ◌∙◌, Bool, ℕ, ◌+◌, ◌-◌, arith, ℤ, not-true, not-false}
+use Rattle.std.specs.Prelude.{◌≡◌, ◌+◌, ◌-◌}
+use Rattle.lists.specs.Prelude.{sym, ap, ◌∙◌, Bool, ℕ, arith, ℤ, not-true, not-false}
 use mir.Syntax.{w16}
 use mir.Val.{SFits, to_z, of_z}
 use mir.Facts.{to_z-of_z}

@@ -1,4 +1,4 @@
-use Rattle.lists.specs.Prelude.{◌≡◌, ◌+◌, ◌*◌, ◌≤◌}
+use Rattle.std.specs.Prelude.{◌≡◌, ◌+◌, ◌*◌, ◌≤◌}
 use Rattle.bank_form.specs.Version.{row_size, largest_file, largest_row}
 use Rattle.bank_form.specs.Fault.{is_new}
 use Rattle.bank_check.proofs.is_new.Given as goal

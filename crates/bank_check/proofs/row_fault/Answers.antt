@@ -1,5 +1,6 @@
 -- `bank_check::row_fault` meets its contract. Assumes nothing.
-use Rattle.lists.specs.Prelude.{◌≡◌, sym, ap, ◌∙◌, List, ℕ, ◌+◌, ◌*◌, arith, ℤ, ◌<◌, ◌^◌}
+use Rattle.std.specs.Prelude.{◌≡◌, ◌+◌, ◌*◌, ◌<◌, ◌^◌}
+use Rattle.lists.specs.Prelude.{sym, ap, ◌∙◌, List, ℕ, arith, ℤ}
 use mir.Syntax.{w16}
 use lib.Signed.{mag}
 use mir.Val.{hbits, to_z, of_z}

@@ -1,5 +1,6 @@
 -- `bank_check::rows_fault` meets its contract. What is left to walk has the fault that the whole has. Assumes nothing.
-use Rattle.lists.specs.Prelude.{◌≡◌, sym, ap, ap₂, ◌∙◌, ℕ, ◌+◌, ◌-◌, ◌<◌, arith, eq-eqb, ne_eqb}
+use Rattle.std.specs.Prelude.{◌≡◌, ◌+◌, ◌-◌, ◌<◌}
+use Rattle.lists.specs.Prelude.{sym, ap, ap₂, ◌∙◌, ℕ, arith, eq-eqb, ne_eqb}
 use Rattle.bank_form.specs.Fault.{rows_fault}
 use Rattle.bank_form.proofs.Walk.{else_stop, else_on, rows_next, rows_end}
 use Rattle.bank_check.proofs.rows_fault.Goals as goal

@@ -1,4 +1,4 @@
-use Rattle.lists.specs.Prelude.{◌≡◌, ◌+◌, ◌-◌, ◌*◌, ◌≤◌}
+use Rattle.std.specs.Prelude.{◌≡◌, ◌+◌, ◌-◌, ◌*◌, ◌≤◌}
 use Rattle.bank_form.specs.Version.{row_size, largest_row}
 use Rattle.bank_form.specs.Fault.{rows_fault}
 use Rattle.bank_check.proofs.rows_fault.Given as goal

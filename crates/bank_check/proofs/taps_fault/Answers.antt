@@ -1,5 +1,6 @@
 -- `bank_check::taps_fault` meets its contract. What is left to walk has the fault that the whole has. Assumes nothing.
-use Rattle.lists.specs.Prelude.{◌≡◌, sym, ap, ◌∙◌, arith}
+use Rattle.std.specs.Prelude.{◌≡◌}
+use Rattle.lists.specs.Prelude.{sym, ap, ◌∙◌, arith}
 use lib.Ieee.Scale.{finite}
 use Rattle.bank_form.specs.Fault.{field, taps_fault}
 use Rattle.bank_form.proofs.Walk.{else_stop, else_on, taps_next, taps_end}

@@ -1,4 +1,4 @@
-use Rattle.lists.specs.Prelude.{◌≡◌, ◌+◌, ◌*◌, ◌≤◌}
+use Rattle.std.specs.Prelude.{◌≡◌, ◌+◌, ◌*◌, ◌≤◌}
 use Rattle.bank_form.specs.Version.{largest_file}
 use Rattle.bank_form.specs.Fault.{taps_fault}
 use Rattle.bank_check.proofs.taps_fault.Given as goal

@@ -1,5 +1,6 @@
 -- `bank_choice::difference` meets its contract. Assumes nothing.
-use Rattle.lists.specs.Prelude.{◌≡◌, ℕ, ◌+◌, ◌-◌, arith, nat_abs, ◌-ℤ◌}
+use Rattle.std.specs.Prelude.{◌≡◌, ◌+◌, ◌-◌, ◌-ℤ◌}
+use Rattle.lists.specs.Prelude.{ℕ, arith, nat_abs}
 use Rattle.bank_choice.proofs.Round.{difference_is}
 use Rattle.bank_choice.proofs.difference.Goals.{After-turned_up-y}
 use Rattle.bank_choice.proofs.difference.Goals as goal

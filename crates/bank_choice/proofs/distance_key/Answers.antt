@@ -1,5 +1,6 @@
 -- `bank_choice::distance_key` meets its contract. Assumes nothing.
-use Rattle.lists.specs.Prelude.{ap₂, ◌∙◌, arith, ℤ, pos, nat_abs, ◌-ℤ◌, get_or, rules}
+use Rattle.std.specs.Prelude.{◌-ℤ◌}
+use Rattle.lists.specs.Prelude.{ap₂, ◌∙◌, arith, ℤ, pos, nat_abs, get_or, rules}
 use mir.Syntax.{w16}
 use mir.Facts.{to_z-of_z}
 use Rattle.big_endian.proofs.Signed.{back}

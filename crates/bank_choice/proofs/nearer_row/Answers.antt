@@ -1,5 +1,6 @@
 -- `bank_choice::nearer_row` meets its contract. Assumes nothing.
-use Rattle.lists.specs.Prelude.{◌≡◌, ℕ}
+use Rattle.std.specs.Prelude.{◌≡◌}
+use Rattle.lists.specs.Prelude.{ℕ}
 use mir.Facts.{to_z-of_z}
 use Rattle.bank_choice.specs.Computed.{key}
 use Rattle.bank_choice.proofs.Takes.{nearer_other, nearer_first}

@@ -1,5 +1,6 @@
 -- `bank_choice::nearest` meets its contract. What is left of the walk ends where the whole does. Assumes nothing.
-use Rattle.lists.specs.Prelude.{◌≡◌, sym, ap, ◌∙◌, ◌+◌, ◌-◌, ◌<◌, arith}
+use Rattle.std.specs.Prelude.{◌≡◌, ◌+◌, ◌-◌, ◌<◌}
+use Rattle.lists.specs.Prelude.{sym, ap, ◌∙◌, arith}
 use mir.Syntax.{w16}
 use mir.Val.{to_z, of_z}
 use mir.Facts.{to_z-of_z}

@@ -1,4 +1,4 @@
-use Rattle.lists.specs.Prelude.{◌≡◌, ◌-◌, ◌≤◌, ◌<◌}
+use Rattle.std.specs.Prelude.{◌≡◌, ◌-◌, ◌≤◌, ◌<◌}
 use Rattle.bank_choice.specs.Computed.{nearest_from}
 use Rattle.bank_choice.proofs.nearest.Given as goal
 

@@ -1,5 +1,6 @@
 -- `bank_choice::nearest_row` meets its contract. Assumes nothing.
-use Rattle.lists.specs.Prelude.{◌≡◌, sym, ◌∙◌, arith, true, false}
+use Rattle.std.specs.Prelude.{◌≡◌}
+use Rattle.lists.specs.Prelude.{sym, ◌∙◌, arith, true, false}
 use mir.Facts.{to_z-of_z}
 use Rattle.refusals.specs.Refusals.{outside}
 use Rattle.refusals.proofs.Counts.{not_outside}

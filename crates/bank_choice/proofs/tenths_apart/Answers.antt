@@ -1,5 +1,6 @@
 -- `bank_choice::tenths_apart` meets its contract. Assumes nothing.
-use Rattle.lists.specs.Prelude.{ap, ap₂, ◌∙◌, ℕ, ◌-◌, ◌%◌, min, ℤ}
+use Rattle.std.specs.Prelude.{◌-◌, ◌%◌}
+use Rattle.lists.specs.Prelude.{ap, ap₂, ◌∙◌, ℕ, min, ℤ}
 use mir.Facts.{to_z-of_z}
 use Rattle.bank_choice.specs.Nearest.{angle_apart}
 use Rattle.bank_choice.proofs.tenths_apart.Goals as goal

@@ -1,5 +1,6 @@
 -- `bank_form::elevation_at` meets its contract: an offset beyond the list reads as 0. Assumes nothing.
-use Rattle.lists.specs.Prelude.{sym, ap, ◌∙◌, ◌+◌, arith, eq-eqb, ne_eqb}
+use Rattle.std.specs.Prelude.{◌+◌}
+use Rattle.lists.specs.Prelude.{sym, ap, ◌∙◌, arith, eq-eqb, ne_eqb}
 use mir.Syntax.{w16}
 use mir.Val.{to_z}
 use Rattle.big_endian.specs.Fields.{signed_at}

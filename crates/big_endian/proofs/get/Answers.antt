@@ -1,6 +1,6 @@
 -- `big_endian::get` meets its contract. What the loop has read is the value of the bytes passed. Assumes nothing.
-use Rattle.lists.specs.Prelude.{◌≡◌, refl, sym, ap, ◌∙◌, ℕ, ◌+◌, ◌*◌, ◌<◌, arith}
-use Rattle.lists.specs.Prelude.{length, take, drop}
+use Rattle.std.specs.Prelude.{◌≡◌, ◌+◌, ◌*◌, ◌<◌}
+use Rattle.lists.specs.Prelude.{refl, sym, ap, ◌∙◌, ℕ, arith, length, take, drop}
 use Rattle.big_endian.specs.Bytes.{value_of}
 use Rattle.big_endian.proofs.Bytes.{power_pos}
 use Rattle.big_endian.proofs.Fields.{lies_true, field_out, field_lies, value_next, below_next, eight_fit}

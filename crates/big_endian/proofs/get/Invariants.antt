@@ -1,4 +1,4 @@
-use Rattle.lists.specs.Prelude.{◌≡◌, ◌+◌, ◌-◌, ◌^◌, ◌≤◌, ◌<◌}
+use Rattle.std.specs.Prelude.{◌≡◌, ◌+◌, ◌-◌, ◌^◌, ◌≤◌, ◌<◌}
 use Rattle.lists.specs.Prelude.{length, take, drop}
 use Rattle.big_endian.specs.Bytes.{value_of}
 use Rattle.big_endian.proofs.get.Given as goal

@@ -1,6 +1,7 @@
 -- `big_endian::put` meets its contract. The digits stand from the last on, and what is left of the number has those
 -- before them. Assumes nothing.
-use Rattle.lists.specs.Prelude.{◌≡◌, sym, ap, ◌∙◌, arith}
+use Rattle.std.specs.Prelude.{◌≡◌}
+use Rattle.lists.specs.Prelude.{sym, ap, ◌∙◌, arith}
 use Rattle.big_endian.proofs.Fields.{lies_true, written_out, put_from, put_none, put_next, put_all}
 use Rattle.big_endian.proofs.Fields.{digits_left, all_left}
 use Rattle.big_endian.proofs.put.Goals as goal

@@ -1,4 +1,5 @@
-use Rattle.lists.specs.Prelude.{◌≡◌, ◌+◌, ◌-◌, ◌/◌, ◌^◌, ◌≤◌, length}
+use Rattle.std.specs.Prelude.{◌≡◌, ◌+◌, ◌-◌, ◌/◌, ◌^◌, ◌≤◌}
+use Rattle.lists.specs.Prelude.{length}
 use Rattle.big_endian.proofs.Fields.{put_from}
 use Rattle.big_endian.proofs.put.Given as goal
 

@@ -1,5 +1,6 @@
 -- `big_endian::put_i16` meets its contract. Assumes nothing.
-use Rattle.lists.specs.Prelude.{ap, ◌∙◌, ◌-◌, ℤ, nat_abs}
+use Rattle.std.specs.Prelude.{◌-◌}
+use Rattle.lists.specs.Prelude.{ap, ◌∙◌, ℤ, nat_abs}
 use mir.Syntax.{w16}
 use Rattle.big_endian.specs.Fields.{with_signed, with_field}
 use Rattle.big_endian.proofs.Signed.{below_whole, below_bits, above_part, above_bits}

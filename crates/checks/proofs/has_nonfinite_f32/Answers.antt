@@ -1,10 +1,9 @@
 -- `checks::has_nonfinite_f32` meets its contract. The loop has passed no element that is NaN or infinite. Assumes
 -- nothing.
-use Rattle.lists.specs.Prelude.{◌∙◌, length}
+use Rattle.lists.specs.Prelude.{◌∙◌, length, ap, not}
 use Rattle.checks.proofs.Checks.{finite_more, nonfinite_found, finite_all}
 use Rattle.checks.proofs.Checks.{element_at}
 use Rattle.checks.proofs.Checks.{nonfinite_list}
-use Rattle.lists.specs.Prelude.{ap, not}
 use Rattle.checks.proofs.has_nonfinite_f32.Goals as goal
 
 pub returns-then-not-is_finite : goal.returns-then-not-is_finite

@@ -1,4 +1,5 @@
-use Rattle.lists.specs.Prelude.{◌-◌, length}
+use Rattle.std.specs.Prelude.{◌-◌}
+use Rattle.lists.specs.Prelude.{length}
 use Rattle.checks.proofs.Checks.{Passing, is_nonfinite_at}
 use Rattle.checks.proofs.Checks.{element_at}
 use Rattle.checks.proofs.has_nonfinite_f64.Given as goal

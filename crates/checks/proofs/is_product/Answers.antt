@@ -1,5 +1,6 @@
 -- `checks::is_product` meets its contract. Assumes nothing.
-use Rattle.lists.specs.Prelude.{◌<◌, arith}
+use Rattle.std.specs.Prelude.{◌<◌}
+use Rattle.lists.specs.Prelude.{arith}
 use Rattle.checks.proofs.Tests.{product_of_remainder, product_of_quotient}
 use Rattle.checks.proofs.is_product.Goals as goal
 

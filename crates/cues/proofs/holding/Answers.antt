@@ -1,5 +1,6 @@
 -- `cues::holding` meets its contract: `Halving`. Assumes nothing.
-use Rattle.lists.specs.Prelude.{arith, sym, ap, ◌∙◌, subst, ◌≤◌}
+use Rattle.std.specs.Prelude.{◌≤◌}
+use Rattle.lists.specs.Prelude.{arith, sym, ap, ◌∙◌, subst}
 use Rattle.cues.specs.declared.Cue.{Cue}
 use Rattle.cues.specs.declared.Search.{Search}
 use Rattle.cues.specs.Computed.{halved_of}

@@ -1,4 +1,4 @@
-use Rattle.lists.specs.Prelude.{◌-◌, ◌≤◌}
+use Rattle.std.specs.Prelude.{◌-◌, ◌≤◌}
 use Rattle.cues.proofs.Halving.{Halving}
 use Rattle.cues.proofs.holding.Given as goal
 

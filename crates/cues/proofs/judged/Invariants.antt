@@ -1,4 +1,5 @@
-use Rattle.lists.specs.Prelude.{◌-◌, length}
+use Rattle.std.specs.Prelude.{◌-◌}
+use Rattle.lists.specs.Prelude.{length}
 use Rattle.cues.proofs.Judging.{Judging}
 use Rattle.cues.proofs.judged.Given as goal
 

@@ -1,5 +1,6 @@
 -- `decoder_matrix::compute_decoder_matrix` meets its contract. Assumes nothing.
-use Rattle.lists.specs.Prelude.{not, arith, ◌≡◌, sym, ap, ◌∙◌, false, ℕ, ◌*◌, ◌≤◌, not-true, not-false, eqb, length}
+use Rattle.std.specs.Prelude.{◌≡◌, ◌*◌, ◌≤◌}
+use Rattle.lists.specs.Prelude.{not, arith, sym, ap, ◌∙◌, false, ℕ, not-true, not-false, eqb, length}
 use Rattle.rows.specs.Computed.{put_rows}
 use Rattle.channel.specs.declared.Layout.{Layout}
 use Rattle.channel.specs.Layouts.{channels_of, refuses_channels}

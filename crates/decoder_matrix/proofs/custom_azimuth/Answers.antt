@@ -1,7 +1,6 @@
 -- `decoder_matrix::custom_azimuth` meets its contract. Assumes nothing.
-use Rattle.lists.specs.Prelude.{of_bits, of_int}
+use Rattle.lists.specs.Prelude.{of_bits, of_int, rules}
 use Rattle.decoder_matrix.specs.Speakers.{custom_azimuth}
-use Rattle.lists.specs.Prelude.{rules}
 use Rattle.decoder_matrix.proofs.custom_azimuth.Goals as goal
 
 pub returns : goal.returns

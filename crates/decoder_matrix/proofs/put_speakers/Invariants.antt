@@ -1,4 +1,4 @@
-use Rattle.lists.specs.Prelude.{◌-◌}
+use Rattle.std.specs.Prelude.{◌-◌}
 use Rattle.decoder_matrix.specs.Matrix.{row_by}
 use Rattle.decoder_matrix.proofs.Filling.{Filling}
 use Rattle.decoder_matrix.proofs.put_speakers.Given as goal

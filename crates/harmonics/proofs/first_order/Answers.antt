@@ -1,7 +1,6 @@
 -- `harmonics::first_order` meets its contract. Assumes nothing.
-use Rattle.lists.specs.Prelude.{of_bits, of_int, round}
+use Rattle.lists.specs.Prelude.{of_bits, of_int, round, rules}
 use Rattle.harmonics.specs.Computed.{up_to}
-use Rattle.lists.specs.Prelude.{rules}
 use Rattle.harmonics.proofs.first_order.Goals as goal
 
 pub returns : goal.returns

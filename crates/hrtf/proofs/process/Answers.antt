@@ -1,5 +1,6 @@
 -- `hrtf::process` meets its contract: `Meets`, from the refusal and from what the block leaves. Assumes nothing.
-use Rattle.lists.specs.Prelude.{◌≡◌, refl, sym, ap, ◌∙◌, subst, List, ℕ, Float}
+use Rattle.std.specs.Prelude.{◌≡◌}
+use Rattle.lists.specs.Prelude.{refl, sym, ap, ◌∙◌, subst, List, ℕ, Float}
 use Rattle.hrtf_desk.specs.declared.Desk.{Desk}
 use Rattle.hrtf_rings.specs.State.{State}
 use Rattle.hrtf_checks.specs.Call.{BlockCall}

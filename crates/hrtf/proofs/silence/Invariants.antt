@@ -1,4 +1,5 @@
-use Rattle.lists.specs.Prelude.{◌-◌, length}
+use Rattle.std.specs.Prelude.{◌-◌}
+use Rattle.lists.specs.Prelude.{length}
 use Rattle.formats.specs.Floats.{zero_float}
 use Rattle.lists.proofs.Filling.{Filling}
 use Rattle.hrtf.proofs.silence.Given as goal

@@ -1,4 +1,5 @@
-use Rattle.lists.specs.Prelude.{◌-◌, leb, get_or}
+use Rattle.std.specs.Prelude.{◌-◌}
+use Rattle.lists.specs.Prelude.{leb, get_or}
 use Rattle.checks.proofs.Checks.{Passing}
 use Rattle.hrtf_checks.proofs.is_row_missing.Given as goal
 

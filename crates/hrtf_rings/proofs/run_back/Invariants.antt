@@ -1,4 +1,4 @@
-use Rattle.lists.specs.Prelude.{◌-◌}
+use Rattle.std.specs.Prelude.{◌-◌}
 use Rattle.hrtf_rings.proofs.TwoRuns.{Running}
 use Rattle.hrtf_rings.proofs.run_back.Given as goal
 

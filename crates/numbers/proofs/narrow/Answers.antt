@@ -1,7 +1,7 @@
 -- `numbers::narrow` meets its contract: the bits of x are read back as x, and the result's as `narrowed x`, which is no
 -- NaN unless x is. Assumes nothing.
-use Rattle.lists.specs.Prelude.{◌≡◌, sym, ap, ◌∙◌, ℕ, not, T, Float, nan, binary32, binary64, fits, is_nan, div}
-use Rattle.lists.specs.Prelude.{of_bits}
+use Rattle.std.specs.Prelude.{◌≡◌}
+use Rattle.lists.specs.Prelude.{sym, ap, ◌∙◌, ℕ, not, T, Float, nan, binary32, binary64, fits, is_nan, div, of_bits}
 use Rattle.lists.specs.Prelude.{to_bits}
 use lib.Ieee.Bits.{of_bits-to_bits}
 use lib.Ieee.Compare.{differs_from_itself}

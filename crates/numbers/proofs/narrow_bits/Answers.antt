@@ -1,7 +1,8 @@
 -- `numbers::narrow_bits` meets its contract: the fields are those by which `of_bits` reads the pattern. Assumes
 -- nothing.
-use Rattle.lists.specs.Prelude.{◌≡◌, sym, ap, ◌∙◌, ℕ, ◌/◌, ◌%◌, ◌^◌, zero-add, arith, Bool, true, false, leb}
-use Rattle.lists.specs.Prelude.{le→leb, Float, binary32, binary64, of_fields, of_bits, to_bits}
+use Rattle.std.specs.Prelude.{◌≡◌, ◌/◌, ◌%◌, ◌^◌}
+use Rattle.lists.specs.Prelude.{sym, ap, ◌∙◌, ℕ, zero-add, arith, Bool, true, false, leb, le→leb, Float, binary32}
+use Rattle.lists.specs.Prelude.{binary64, of_fields, of_bits, to_bits}
 use lib.Arith.{lt→nleb}
 use lib.Ieee.Bits.{is_true, is_false}
 use Rattle.numbers.specs.Computed.{narrowed}

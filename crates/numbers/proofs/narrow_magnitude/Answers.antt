@@ -1,7 +1,7 @@
 -- `numbers::narrow_magnitude` meets its contract: each arm is a case of `Narrowing`. Assumes nothing.
-use Rattle.lists.specs.Prelude.{◌≡◌, sym, ap, ◌∙◌, ℕ, ◌+◌, ◌-◌, ◌*◌, ◌^◌, ◌≤◌, min, le_trans, le_of_eq}
-use Rattle.lists.specs.Prelude.{min-eq_left, min-eq_right, arith, Bool, true, cond, binary32, binary64, of_fields}
-use Rattle.lists.specs.Prelude.{to_bits}
+use Rattle.std.specs.Prelude.{◌≡◌, ◌+◌, ◌-◌, ◌*◌, ◌^◌, ◌≤◌}
+use Rattle.lists.specs.Prelude.{sym, ap, ◌∙◌, ℕ, min, le_trans, le_of_eq, min-eq_left, min-eq_right, arith, Bool, true}
+use Rattle.lists.specs.Prelude.{cond, binary32, binary64, of_fields, to_bits}
 use Rattle.numbers.specs.Computed.{narrowed}
 use Rattle.numbers.proofs.Narrowing.{tiny, subnormal, normal, subnormal_digits}
 use Rattle.numbers.proofs.narrow_magnitude.Goals.{After-nearest_shift, After-nearest_shift-else-e-lt897}

@@ -1,6 +1,7 @@
 -- `numbers::parted` meets its contract: with or without a leading digit the pattern's number is m * 2 ^ e (`Aligned`),
 -- and so m * 4 ^ half. Assumes nothing.
-use Rattle.lists.specs.Prelude.{ℕ, ◌+◌, ◌-◌, ◌<◌, ◌^◌, ◌%◌, suc, arith, ◌≡◌, refl}
+use Rattle.std.specs.Prelude.{◌+◌, ◌-◌, ◌<◌, ◌^◌, ◌%◌, ◌≡◌}
+use Rattle.lists.specs.Prelude.{ℕ, suc, arith, refl}
 use lib.Bits.{bit_and, and_mask, mask_lt}
 use lib.Count.{count_leading_zeros}
 use Rattle.numbers.proofs.Turns.{Aligned, leading_bounds, aligned_normal, aligned_low, parted_of}

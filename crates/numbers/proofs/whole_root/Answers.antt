@@ -1,6 +1,7 @@
 -- `numbers::whole_root` meets its contract: `Turn` is the invariant of its loop, and the turns that are left its
 -- measure. Assumes nothing.
-use Rattle.lists.specs.Prelude.{◌<◌, ◌^◌, arith}
+use Rattle.std.specs.Prelude.{◌<◌, ◌^◌}
+use Rattle.lists.specs.Prelude.{arith}
 use Rattle.numbers.proofs.Turns.{short_lt, no_digit, one_digit}
 use Rattle.numbers.proofs.whole_root.Goals.{At-loop-i, else-trial-next, then-trial-next}
 use Rattle.numbers.proofs.whole_root.Goals as goal

@@ -1,4 +1,4 @@
-use Rattle.lists.specs.Prelude.{◌-◌}
+use Rattle.std.specs.Prelude.{◌-◌}
 use Rattle.numbers.proofs.Turns.{Turn}
 use Rattle.numbers.proofs.whole_root.Given as goal
 

@@ -1,4 +1,5 @@
-use Rattle.lists.specs.Prelude.{◌-◌, get_or, nan}
+use Rattle.std.specs.Prelude.{◌-◌}
+use Rattle.lists.specs.Prelude.{get_or, nan}
 use Rattle.numbers.specs.Computed.{narrowed}
 use Rattle.lists.proofs.Filling.{Filling}
 use Rattle.panner.proofs.narrowed.Given as goal

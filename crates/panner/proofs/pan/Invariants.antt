@@ -1,4 +1,5 @@
-use Rattle.lists.specs.Prelude.{◌-◌, get_or, nan, binary32, mul}
+use Rattle.std.specs.Prelude.{◌-◌}
+use Rattle.lists.specs.Prelude.{get_or, nan, binary32, mul}
 use Rattle.planes.proofs.Framing.{Sampling}
 use Rattle.panner.proofs.pan.Given as goal
 

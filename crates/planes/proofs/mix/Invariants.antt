@@ -1,4 +1,5 @@
-use Rattle.lists.specs.Prelude.{◌-◌, length}
+use Rattle.std.specs.Prelude.{◌-◌}
+use Rattle.lists.specs.Prelude.{length}
 use Rattle.planes.proofs.Mixing.{Mixing}
 use Rattle.planes.proofs.mix.Given as goal
 

@@ -1,8 +1,7 @@
 -- `planes::mix_frame` meets its contract: `Judging`. Assumes nothing.
-use Rattle.lists.specs.Prelude.{sym, ◌∙◌, true, false, or-true, or-false}
+use Rattle.lists.specs.Prelude.{sym, ◌∙◌, true, false, or-true, or-false, ap, not}
 use Rattle.planes.proofs.Framing.{judged_by, judging_more}
 use Rattle.planes.proofs.Mixing.{output, output_is}
-use Rattle.lists.specs.Prelude.{ap, not}
 use Rattle.planes.proofs.mix_frame.Goals.{else-not-is_finite, then-not-is_finite}
 use Rattle.planes.proofs.mix_frame.Goals as goal
 

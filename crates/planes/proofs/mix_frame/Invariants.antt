@@ -1,4 +1,4 @@
-use Rattle.lists.specs.Prelude.{◌-◌}
+use Rattle.std.specs.Prelude.{◌-◌}
 use Rattle.planes.proofs.Framing.{Judging}
 use Rattle.planes.proofs.Mixing.{output}
 use Rattle.planes.proofs.mix_frame.Given as goal

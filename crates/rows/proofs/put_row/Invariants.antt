@@ -1,4 +1,5 @@
-use Rattle.lists.specs.Prelude.{◌-◌, length}
+use Rattle.std.specs.Prelude.{◌-◌}
+use Rattle.lists.specs.Prelude.{length}
 use Rattle.rows.proofs.Putting.{Putting}
 use Rattle.rows.proofs.put_row.Given as goal
 

@@ -1,4 +1,4 @@
-use Rattle.lists.specs.Prelude.{◌-◌}
+use Rattle.std.specs.Prelude.{◌-◌}
 use Rattle.planes.proofs.Framing.{Parting}
 use Rattle.script.proofs.Meets.{frame_of}
 use Rattle.script.proofs.render.Given as goal

@@ -1,4 +1,4 @@
-use Rattle.lists.specs.Prelude.{◌-◌}
+use Rattle.std.specs.Prelude.{◌-◌}
 use Rattle.planes.proofs.Framing.{Parting}
 use Rattle.script.specs.Rendering.{silent}
 use Rattle.script.proofs.silence.Given as goal

@@ -1,4 +1,5 @@
-use Rattle.lists.specs.Prelude.{◌-◌, length}
+use Rattle.std.specs.Prelude.{◌-◌}
+use Rattle.lists.specs.Prelude.{length}
 use Rattle.stamps.proofs.Planning.{Planning}
 use Rattle.stamps.proofs.plan.Given as goal
 

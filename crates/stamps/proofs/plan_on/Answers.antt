@@ -1,5 +1,6 @@
 -- `stamps::plan_on` meets its contract. Assumes nothing.
-use Rattle.lists.specs.Prelude.{sym, subst, ◌≤◌}
+use Rattle.std.specs.Prelude.{◌≤◌}
+use Rattle.lists.specs.Prelude.{sym, subst}
 use Rattle.stamps.specs.declared.Arrival.{Arrival}
 use Rattle.stamps.specs.Counts.{silent_one}
 use Rattle.stamps.proofs.Differences.{silent_few}

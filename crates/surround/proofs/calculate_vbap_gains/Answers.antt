@@ -1,8 +1,7 @@
 -- `surround::calculate_vbap_gains` meets its contract: `Meets`. Assumes nothing.
-use Rattle.lists.specs.Prelude.{sym, ap, ◌∙◌}
+use Rattle.lists.specs.Prelude.{sym, ap, ◌∙◌, not}
 use Rattle.channel.specs.declared.Counted.{Counted}
 use Rattle.surround.proofs.Meets.{plays}
-use Rattle.lists.specs.Prelude.{not}
 use Rattle.surround.proofs.calculate_vbap_gains.Goals as goal
 
 pub returns : goal.returns

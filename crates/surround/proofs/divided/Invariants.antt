@@ -1,4 +1,5 @@
-use Rattle.lists.specs.Prelude.{◌-◌, get_or, nan, binary64, div}
+use Rattle.std.specs.Prelude.{◌-◌}
+use Rattle.lists.specs.Prelude.{get_or, nan, binary64, div}
 use Rattle.lists.proofs.Filling.{Filling}
 use Rattle.surround.proofs.divided.Given as goal
 

@@ -1,7 +1,6 @@
 -- `surround::raw_gain` meets its contract: `RawSteps`. Assumes nothing.
-use Rattle.lists.specs.Prelude.{of_bits, of_int}
+use Rattle.lists.specs.Prelude.{of_bits, of_int, ap, not}
 use Rattle.surround.proofs.RawSteps.{far, lifted, kept}
-use Rattle.lists.specs.Prelude.{ap, not}
 use Rattle.surround.proofs.raw_gain.Goals as goal
 
 pub returns-then-gain : goal.returns-then-gain

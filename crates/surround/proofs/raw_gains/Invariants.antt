@@ -1,4 +1,4 @@
-use Rattle.lists.specs.Prelude.{◌-◌}
+use Rattle.std.specs.Prelude.{◌-◌}
 use Rattle.surround.specs.Computed.{channel_gain}
 use Rattle.lists.proofs.Filling.{Filling}
 use Rattle.surround.proofs.raw_gains.Given as goal

@@ -1,4 +1,4 @@
-use Rattle.lists.specs.Prelude.{◌-◌}
+use Rattle.std.specs.Prelude.{◌-◌}
 use Rattle.planes.proofs.Sums.{Summing}
 use Rattle.surround.specs.Computed.{square_at}
 use Rattle.surround.proofs.sum_of_squares.Given as goal

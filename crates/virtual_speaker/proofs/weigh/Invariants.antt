@@ -1,4 +1,5 @@
-use Rattle.lists.specs.Prelude.{◌-◌, get_or, nan, binary64, mul}
+use Rattle.std.specs.Prelude.{◌-◌}
+use Rattle.lists.specs.Prelude.{get_or, nan, binary64, mul}
 use Rattle.lists.proofs.Filling.{Filling}
 use Rattle.virtual_speaker.specs.Weights.{degree_of}
 use Rattle.virtual_speaker.specs.Computed.{weight}

@@ -1,6 +1,7 @@
 -- `bank::rows::fill_rows` meets its contract. The azimuths, the elevations and the taps of the rows read so far stand
 -- at the start of their lists. Assumes nothing.
-use Rattle.lists.specs.Prelude.{◌≡◌, sym, ap, ◌∙◌, ℕ, ◌+◌, ◌*◌, arith}
+use Rattle.std.specs.Prelude.{◌≡◌, ◌+◌, ◌*◌}
+use Rattle.lists.specs.Prelude.{sym, ap, ◌∙◌, ℕ, arith}
 use mir.Syntax.{w16}
 use Rattle.big_endian.specs.Fields.{signed_at}
 use Rattle.lists.specs.Placed.{placed}

@@ -1,4 +1,4 @@
-use Rattle.lists.specs.Prelude.{◌≡◌, ◌-◌, ◌≤◌}
+use Rattle.std.specs.Prelude.{◌≡◌, ◌-◌, ◌≤◌}
 use Rattle.lists.specs.Placed.{placed}
 use Rattle.bank_form.specs.Fault.{azimuths_from, elevations_from, taps_from}
 use Rattle.bank.proofs.rows.fill_rows.Given as goal

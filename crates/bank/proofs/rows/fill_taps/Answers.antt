@@ -1,5 +1,6 @@
 -- `bank::rows::fill_taps` meets its contract. The taps read so far stand in the list from q on. Assumes nothing.
-use Rattle.lists.specs.Prelude.{sym, ◌+◌, ◌*◌, arith}
+use Rattle.std.specs.Prelude.{◌+◌, ◌*◌}
+use Rattle.lists.specs.Prelude.{sym, arith}
 use Rattle.big_endian.specs.Fields.{float_at}
 use Rattle.big_endian.specs.Lists.{strided}
 use Rattle.lists.proofs.Filling.{fill_more}

@@ -1,4 +1,4 @@
-use Rattle.lists.specs.Prelude.{◌≡◌, ◌-◌, ◌≤◌}
+use Rattle.std.specs.Prelude.{◌≡◌, ◌-◌, ◌≤◌}
 use Rattle.big_endian.specs.Fields.{float_at}
 use Rattle.lists.specs.Placed.{placed}
 use Rattle.big_endian.specs.Lists.{strided}

@@ -1,5 +1,6 @@
 -- `bank::rows::put_elevation` meets its contract. Assumes nothing.
-use Rattle.lists.specs.Prelude.{◌≡◌, sym, ap, ◌∙◌, ◌+◌, ◌≤◌, arith, eq-eqb, ne_eqb, length}
+use Rattle.std.specs.Prelude.{◌≡◌, ◌+◌, ◌≤◌}
+use Rattle.lists.specs.Prelude.{sym, ap, ◌∙◌, arith, eq-eqb, ne_eqb, length}
 use mir.Syntax.{w16}
 use mir.Val.{to_z, of_z}
 use mir.Facts.{to_z-of_z}

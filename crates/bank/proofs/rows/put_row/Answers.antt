@@ -1,6 +1,6 @@
 -- `bank::rows::put_row` meets its contract. Assumes nothing.
-use Rattle.lists.specs.Prelude.{◌≡◌, refl, ap, ◌∙◌, ◌++◌, append_assoc, ◌+◌, ◌*◌, arith, binary32, to_bits, ℤ, take}
-use Rattle.lists.specs.Prelude.{drop, length-append}
+use Rattle.std.specs.Prelude.{◌≡◌, ◌++◌, ◌+◌, ◌*◌}
+use Rattle.lists.specs.Prelude.{refl, ap, ◌∙◌, append_assoc, arith, binary32, to_bits, ℤ, take, drop, length-append}
 use mir.Syntax.{w16}
 use mir.Val.{to_z, of_z}
 use mir.Facts.{to_z-of_z}

@@ -1,6 +1,7 @@
 -- `bank::rows::put_rows` meets its contract. The rows put so far stand behind the head. Assumes nothing.
-use Rattle.lists.specs.Prelude.{◌≡◌, refl, sym, ap, ◌∙◌, List, ℕ, ◌*◌, arith, pos, ℤ, Float, rules}
-use Rattle.lists.specs.Prelude.{length, get_or, take, take-length}
+use Rattle.std.specs.Prelude.{◌≡◌, ◌*◌}
+use Rattle.lists.specs.Prelude.{refl, sym, ap, ◌∙◌, List, ℕ, arith, pos, ℤ, Float, rules, length, get_or, take}
+use Rattle.lists.specs.Prelude.{take-length}
 use borrow.Author.Count.{below_more}
 use mir.Syntax.{w16}
 use mir.Val.{to_z, of_z}

@@ -1,5 +1,5 @@
-use Rattle.lists.specs.Prelude.{◌≡◌, ℕ, ◌-◌, ◌≤◌, ◌<◌, pos}
-use Rattle.lists.specs.Prelude.{length, get_or, take}
+use Rattle.std.specs.Prelude.{◌≡◌, ◌-◌, ◌≤◌, ◌<◌}
+use Rattle.lists.specs.Prelude.{ℕ, pos, length, get_or, take}
 use Rattle.lists.specs.Placed.{placed}
 use Rattle.bank_form.specs.Bank.{pairs_of}
 use Rattle.bank_form.specs.Encoding.{row_bytes}

@@ -1,6 +1,6 @@
 -- `bank::rows::put_taps` meets its contract. The taps put so far stand in the file from `at` on. Assumes nothing.
-use Rattle.lists.specs.Prelude.{sym, ap, ◌∙◌, ◌+◌, ◌*◌, arith, Float, nan, binary32, to_bits}
-use Rattle.lists.specs.Prelude.{drop, length-drop, get_or-drop}
+use Rattle.std.specs.Prelude.{◌+◌, ◌*◌}
+use Rattle.lists.specs.Prelude.{sym, ap, ◌∙◌, arith, Float, nan, binary32, to_bits, drop, length-drop, get_or-drop}
 use Rattle.big_endian.specs.Fields.{with_float, with_field}
 use Rattle.big_endian.proofs.Lists.{write_none, write_more}
 use Rattle.bank.proofs.rows.put_taps.Goals as goal

@@ -1,4 +1,4 @@
-use Rattle.lists.specs.Prelude.{◌≡◌, ◌-◌, ◌≤◌}
+use Rattle.std.specs.Prelude.{◌≡◌, ◌-◌, ◌≤◌}
 use Rattle.lists.specs.Prelude.{take, drop}
 use Rattle.lists.specs.Placed.{placed}
 use Rattle.big_endian.specs.Lists.{float_bytes}

@@ -1,5 +1,5 @@
 -- What stands at the loop's test, and what is known of it, is `Playing`; how many frames are left falls.
-use Rattle.lists.specs.Prelude.{◌-◌}
+use Rattle.std.specs.Prelude.{◌-◌}
 use Rattle.hrtf.proofs.Playing.{Playing}
 use Rattle.hrtf.proofs.frames.block.Given as goal
 

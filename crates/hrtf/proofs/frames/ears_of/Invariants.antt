@@ -1,4 +1,5 @@
-use Rattle.lists.specs.Prelude.{suc, ◌-◌}
+use Rattle.std.specs.Prelude.{◌-◌}
+use Rattle.lists.specs.Prelude.{suc}
 use Rattle.hrtf.proofs.Ears.{Adding}
 use Rattle.hrtf.proofs.frames.ears_of.Given as goal
 

@@ -1,4 +1,5 @@
-use Rattle.lists.specs.Prelude.{◌-◌, length}
+use Rattle.std.specs.Prelude.{◌-◌}
+use Rattle.lists.specs.Prelude.{length}
 use Rattle.hrtf_rings.proofs.TwoRuns.{Running}
 use Rattle.hrtf.proofs.parts.run_back.Given as goal
 
