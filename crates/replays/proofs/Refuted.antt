@@ -22,7 +22,7 @@ use Rattle.replay.specs.Promise.{refusal_in, ReplayOutcome, ReplayPromise}
 use Rattle.replay.proofs.Hearing.{played_by_heard, counted_by_told}
 use Rattle.replay.proofs.Meets.{outcome_by_lem, outcome_computed, ears_read}
 use Rattle.hrtf_runs.proofs.Worked.{starts}
-use Rattle.replays.proofs.Worked.{line, whole, planes, pair, eight_short, sounds, unsettled, told}
+use Rattle.replays.proofs.Worked.{line, whole, planes, pair, eight_short, sounds, told}
 
 -- how many units a float has, or none
 units_of_of : Float → ℕ
