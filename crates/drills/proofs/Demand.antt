@@ -70,7 +70,8 @@ drill_settled : (u : Setup) (d e : Drill) → Drilled u d → Drilled u e → (n
     → damaged_among u (encoded d) n ≡ damaged_among u (encoded e) m
 drill_settled u d e h k n m =
     both_fed u d e h k
-    (λ fs gs. ((j : ℕ) → j < u.L → frame_ago u fs n j ≡ frame_ago u gs m j) → damaged_among u fs n ≡ damaged_among u gs m)
+    (λ fs gs. ((j : ℕ) → j < u.L → frame_ago u fs n j ≡ frame_ago u gs m j) → damaged_among u fs n
+    ≡ damaged_among u gs m)
     (demand_3.settled u d.start e.start d.plays e.plays n m)
 
 -- (c)

@@ -70,7 +70,8 @@ module _ (u : Setup) where
   fed_one c t (suc n) e same =
       ap (λ (n : ℕ). fed_by n (frames_in c)) e ∙ sym (read_by u.channels (inputs c) (refusal_of c t) (suc n) e)
 
-  pub fed_all_lem : (t : State) (cs : List BlockCall) → CallsAlike u t cs → fed_all t cs ≡ read_all u.channels (takes t cs)
+  pub fed_all_lem : (t : State) (cs : List BlockCall) → CallsAlike u t cs → fed_all t cs
+      ≡ read_all u.channels (takes t cs)
   fed_all_lem t [] a = sym (joined_none (read u.channels))
   fed_all_lem t (c ∷ cs) a =
       (λ i. fed_one c t (refusal_of c t) refl a.0 i ++ fed_all_lem (next c t) cs a.1 i)

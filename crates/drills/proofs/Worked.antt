@@ -177,13 +177,15 @@ unheard_drilled = drilled [] one_float zero_float zero_float refl
 
 pub one_heard : drill_heard one ≡ (zero_float ∷ zero_float ∷ []) ∷ (one_float ∷ zero_float ∷ [])
     ∷ (half_float ∷ one_float ∷ []) ∷ (zero_float ∷ zero_float ∷ []) ∷ []
-unfolding mixed ear_of inverse_root_of root_of root_units whole_root root_in Numbers.rounded add mul div ieee.sum round size span
+unfolding mixed ear_of inverse_root_of root_of root_units whole_root root_in Numbers.rounded add mul div ieee.sum round
+    size span
     climb units odd of_int
 one_heard = run_heard four (fresh four) (plays one_float zero_float) (run one_float zero_float)
     ∙ ap (heardAfter four []) (fed_is one_float zero_float)
 
 pub unheard_heard : drill_heard unheard ≡ replicate 4 (zero_float ∷ zero_float ∷ [])
-unfolding mixed ear_of inverse_root_of root_of root_units whole_root root_in Numbers.rounded add mul div ieee.sum round size span
+unfolding mixed ear_of inverse_root_of root_of root_units whole_root root_in Numbers.rounded add mul div ieee.sum round
+    size span
     climb units odd of_int
 unheard_heard = run_heard four (fresh four) (plays zero_float zero_float) (run zero_float zero_float)
     ∙ ap (heardAfter four []) (fed_is zero_float zero_float)
@@ -191,7 +193,8 @@ unheard_heard = run_heard four (fresh four) (plays zero_float zero_float) (run z
 -- the infinite sample: NaN for as long as the filters are, and then 0.0
 infinite_heard : drill_heard infinite ≡ (zero_float ∷ zero_float ∷ []) ∷ (nan ∷ nan ∷ []) ∷ (nan ∷ nan ∷ [])
     ∷ (zero_float ∷ zero_float ∷ []) ∷ []
-unfolding mixed ear_of inverse_root_of root_of root_units whole_root root_in Numbers.rounded add mul div ieee.sum round size span
+unfolding mixed ear_of inverse_root_of root_of root_units whole_root root_in Numbers.rounded add mul div ieee.sum round
+    size span
     climb units odd of_int
 infinite_heard = run_heard four (fresh four) (plays (inf false) nan) (run (inf false) nan)
     ∙ ap (heardAfter four []) (fed_is (inf false) nan)

@@ -34,7 +34,8 @@ pub run_starts : (u : Setup) (t : State) (cs : List BlockCall) → Run u t cs �
 run_starts u t cs r = reset_starts u r.desk r.rings _ r.reset refl
 
 -- the whole run sounds as the frames that were fed, however it was cut
-pub run_heard : (u : Setup) (t : State) (cs : List BlockCall) → Run u t cs → sounded_all t cs ≡ heard u [] (fed_all t cs)
+pub run_heard : (u : Setup) (t : State) (cs : List BlockCall) → Run u t cs → sounded_all t cs
+    ≡ heard u [] (fed_all t cs)
 run_heard u t cs r = all_sounded u t cs r.alike ∙ played_heard u [] t (run_starts u t cs r) (fed_all t cs)
 
 run_all : (u : Setup) (t : State) (cs : List BlockCall) → Run u t cs → length (sounded_all t cs) ≡ length (fed_all t cs)

@@ -34,7 +34,8 @@ one rings ears =
 other_weight : outcome (block 1 (one_float ∷ []) zero_float)
     (record { rings = half_float ∷ zero_float ∷ []; desk = record { position = 1; to_go = 0 } })
     ≡ one (half_float ∷ zero_float ∷ []) (quarter ∷ half_float ∷ [])
-unfolding refusal_of outcome flatten mixed ear_of inverse_root_of root_of root_units whole_root root_in rounded add mul div
+unfolding refusal_of outcome flatten mixed ear_of inverse_root_of root_of root_units whole_root root_in rounded add mul
+    div
     ieee.sum round size span climb units odd of_int
 other_weight = refl
 
@@ -42,7 +43,8 @@ other_weight = refl
 minus_zeros : outcome (block 1 (zero_float ∷ []) one_float)
     (record { rings = minus_zero ∷ minus_zero ∷ []; desk = record { position = 1; to_go = 0 } })
     ≡ one (minus_zero ∷ zero_float ∷ []) (zero_float ∷ zero_float ∷ [])
-unfolding refusal_of outcome flatten mixed ear_of inverse_root_of root_of root_units whole_root root_in rounded add mul div
+unfolding refusal_of outcome flatten mixed ear_of inverse_root_of root_of root_units whole_root root_in rounded add mul
+    div
     ieee.sum round size span climb units odd of_int
 minus_zeros = refl
 
@@ -66,6 +68,7 @@ one_to_go : outcome three (record { rings = replicate 3 zero_float; desk = recor
       rings = replicate 3 zero_float;
       ears = replicate 4 zero_float;
     }
-unfolding refusal_of outcome flatten mixed ear_of inverse_root_of root_of root_units whole_root root_in rounded add mul div
+unfolding refusal_of outcome flatten mixed ear_of inverse_root_of root_of root_units whole_root root_in rounded add mul
+    div
     ieee.sum round size span climb units odd of_int
 one_to_go = refl

@@ -50,7 +50,8 @@ pub record SameRun (t : State) (cs ds : List BlockCall) : Type 0 where
 
 pub record Demand3 : Type 0 where
   -- every frame that is fed is played
-  pub all : (u : Setup) (t : State) (cs : List BlockCall) → Run u t cs → length (sounded_all t cs) ≡ length (fed_all t cs)
+  pub all : (u : Setup) (t : State) (cs : List BlockCall) → Run u t cs → length (sounded_all t cs)
+      ≡ length (fed_all t cs)
   -- (a) "both ear samples at n are document 01's sums"
   pub sums : (u : Setup) (t : State) (cs : List BlockCall) → Run u t cs → (n : ℕ) → n < length (fed_all t cs)
       → get_or (sounded_all t cs) n [] ≡ ear_samples u (upto u (fed_all t cs) n)

@@ -182,7 +182,8 @@ module _ (l : Layout) (h : not (surround l) ≡ false) (n : ℕ) (counts : n ≡
       (omega (arith, e, f.1), omega (arith, e, f.0), omega (arith, e, f.1))
 
 module _ (l : Layout) (azimuths elevations : List ℤ) (rows : ℕ) (weights : List Float) (given : List ℕ) where
-  pub layout_refused_lem : (a : Arranged) → not (surround l) ≡ true → a ≡ record { refusal = 2; speakers = 0; channels = 0 }
+  pub layout_refused_lem : (a : Arranged) → not (surround l) ≡ true → a
+      ≡ record { refusal = 2; speakers = 0; channels = 0 }
       → NewSurroundPromise l azimuths elevations rows weights given
       (record { answer = a; weights = weights; rows = given })
   layout_refused_lem a h ea = not_offered (of_layout l) azimuths elevations rows weights given 1 refl a h ea

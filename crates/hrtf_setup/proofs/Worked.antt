@@ -80,7 +80,8 @@ refuses_order_lem given o p n e = suc-ne-zero n (sym e ∙ ap (λ (q : Arrangeme
 ignores_elevations : (o : Arrangement) → NewSurroundPromise Surround51 bank raised 2 (replicate 36 nan) (replicate 8 0)
     o
     → o.rows ≡ rows_of (Of Surround51) 6 bank flat 2 (replicate 8 0) → ⊥
-unfolding refusal_of bank flat raised arrangement choice_of choice_refusal in_tenths is_elevation nearest_from nearer key
+unfolding refusal_of bank flat raised arrangement choice_of choice_refusal in_tenths is_elevation nearest_from nearer
+    key
     elevation_away angle_apart
 ignores_elevations o p e = let z : ◌≡◌ {A = ℕ} 0 1 = ap (λ (l : List ℕ). get_or l 0 0)
     (sym e ∙ ap (λ (q : Arrangement). q.rows) p.bits) in omega arith

@@ -72,7 +72,8 @@ absolute_size (fin false (suc m) e) = ap unsigned_zero
     (cond_false (fin true (suc m) e) (fin false (suc m) e) (le-ltb (suc m * up e * 1) (0 * 1 * down e) (omega arith)))
 
 absolute_opposite : (x y : Float) → Opposite x y → unsigned_zero (absolute x) ≡ unsigned_zero (absolute y)
-absolute_opposite x y h = absolute_size x ∙ sym (size_unsigned x) ∙ ap size_of h ∙ size_unsigned (neg y) ∙ size_negated y
+absolute_opposite x y h = absolute_size x ∙ sym (size_unsigned x) ∙ ap size_of h ∙ size_unsigned (neg y)
+    ∙ size_negated y
     ∙ sym (absolute_size y)
 
 -- ---- its cosine
@@ -232,7 +233,8 @@ float_opposite (negsuc n) = ap unsigned_zero (sym (round_negated binary64 true (
 
 -- the places half a turn on and back are numbers, and the one on is not below the one back
 abbrev halves : ℤ → List Bool
-halves z = finite (on_half (float z)) ∷ finite (back_half (float z)) ∷ not (lt (on_half (float z)) (back_half (float z)))
+halves z = finite (on_half (float z)) ∷ finite (back_half (float z))
+    ∷ not (lt (on_half (float z)) (back_half (float z)))
     ∷ []
 
 halves_hold : (l : Layout) → surround l ≡ true → (c : ℕ) → T (all (halves (degrees_of l c)))

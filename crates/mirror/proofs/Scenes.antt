@@ -40,8 +40,10 @@ narrowed_swapped xs ys h =
 panned_swapped : (planes : ℕ) (x : Float) (gs hs : List Float) → Swapped gs hs
     → Swapped (panned planes gs x) (panned planes hs x)
 panned_swapped planes x gs hs h =
-    swapped_tab lateral 0 planes (λ (p : ℕ). mul binary32 x (get_or gs p nan)) (λ (p : ℕ). mul binary32 x (get_or hs p nan))
-    (λ p. swapped_by lateral (factor_odd binary32 x) p (get_or gs p nan) (get_or hs p nan) (swapped_at lateral gs hs h p))
+    swapped_tab lateral 0 planes (λ (p : ℕ). mul binary32 x (get_or gs p nan))
+    (λ (p : ℕ). mul binary32 x (get_or hs p nan))
+    (λ p. swapped_by lateral (factor_odd binary32 x) p (get_or gs p nan) (get_or hs p nan)
+    (swapped_at lateral gs hs h p))
 
 -- ---- partners are speakers of the layout, by computing
 

@@ -83,7 +83,8 @@ across_held a h = cond-fits binary64 (is_own a) a (neg a) h (neg-fits binary64 a
 
 -- a partner stands at the azimuth across: told from the bits, by computing
 is_across : (ℕ → Float) → List ℕ → ℕ → Bool
-is_across azimuth pairs i = eqb (to_bits binary64 (azimuth (partner_in pairs i))) (to_bits binary64 (across_of (azimuth i)))
+is_across azimuth pairs i =
+    eqb (to_bits binary64 (azimuth (partner_in pairs i))) (to_bits binary64 (across_of (azimuth i)))
 
 abbrev Paired : (ℕ → Float) → List ℕ → Type 0
 Paired azimuth pairs = any (tab 0 (length pairs) (λ (i : ℕ). not (is_across azimuth pairs i))) ≡ false
@@ -105,7 +106,8 @@ of_symmetric P all none n =
     (λ e. one_of (λ (k : ℕ). P k (custom_partners k)) symmetric all n e) (λ e. none n)
 
 layout_paired : (l : Layout) → Paired (azimuth_at l) (partners l)
-unfolding is_across across_of is_own to_bits custom_azimuth turned_back place cut_angle units turned neg lt add sub mul div
+unfolding is_across across_of is_own to_bits custom_azimuth turned_back place cut_angle units turned neg lt add sub mul
+    div
     round
     of_int
 layout_paired Mono = refl

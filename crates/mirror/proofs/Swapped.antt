@@ -111,7 +111,8 @@ module _ (named : ℕ → Bool) where
 
     pub swapped_map : (i : ℕ) (xs ys : List Float) → SwappedAt i xs ys → SwappedAt i (map f xs) (map f ys)
     swapped_map i xs ys h =
-        map_unsigned ys ∙ ap (map (λ (x : Float). unsigned_zero (f x))) h ∙ sym (map_unsigned (negated_at neg named i xs))
+        map_unsigned ys ∙ ap (map (λ (x : Float). unsigned_zero (f x))) h
+        ∙ sym (map_unsigned (negated_at neg named i xs))
         ∙ ap (map unsigned_zero) (map_negated_each neg neg f odd.negated named i xs)
 
 -- ---- mixed: a sum sees no sign of a zero, so that what is swapped gives the same bits as what is mirrored
@@ -123,4 +124,5 @@ mixed_weights xs ys frame h =
 
 pub mixed_frames : (weights xs ys : List Float) → Swapped xs ys → mixed weights ys ≡ mixed weights (mirrored neg xs)
 mixed_frames weights xs ys h =
-    mixed_unsigned weights ys ∙ ap (mixed (map unsigned_zero weights)) h ∙ sym (mixed_unsigned weights (mirrored neg xs))
+    mixed_unsigned weights ys ∙ ap (mixed (map unsigned_zero weights)) h
+    ∙ sym (mixed_unsigned weights (mirrored neg xs))

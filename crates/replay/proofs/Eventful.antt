@@ -1,7 +1,8 @@
 -- Events one after another, as the convolver plays them: in parts, and where frames are fed one after another. The
 -- state keeps what the checks ask of it. Assumes nothing.
 use Rattle.std.specs.Prelude.{◌≡◌, ◌∷◌, ◌++◌, ◌+◌, ◌≤◌, ◌<◌}
-use Rattle.lists.specs.Prelude.{refl, sym, ap, ◌∙◌, List, [], ℕ, suc, suc-ne-zero, arith, length, get_or, length-replicate}
+use Rattle.lists.specs.Prelude.{refl, sym, ap, ◌∙◌, List, [], ℕ, suc, suc-ne-zero, arith, length, get_or}
+use Rattle.lists.specs.Prelude.{length-replicate}
 use Rattle.lists.specs.Prelude.{Float}
 use Rattle.formats.specs.Floats.{zero_float}
 use Rattle.lists.proofs.Lists.{one_at_most}

@@ -225,7 +225,8 @@ module _ (stamps : List ℕ) (channels stride : ℕ) (inputs : List Float) (x : 
         ∙ sym (length-map (fed p.gone) (λ (r : Recorded (List Float)). r.frame)) ∙ ap length p.put
         ∙ length_tab 0 g.count (frame_at block 64 channels);
     split = p.split
-        ∙ ap (λ (es : List (Event (List Float))). es ++ (restarting g.restart ++ events_from rs channels g.expected g.at))
+        ∙ ap (λ (es : List (Event (List Float))). es
+        ++ (restarting g.restart ++ events_from rs channels g.expected g.at))
         (sym (feeds_fed p.gone p.whole) ∙ ap (feeds (stamps_of (fed p.gone))) p.put);
     few = p.few;
     on = p.on;

@@ -37,7 +37,8 @@ module _ (u : Setup) where
   -- ---- which frames are unsettled, nothing being to go
 
   pub each_by_append : (past : List (List Float)) (es hs : Events)
-      → unsettled_each_by u 0 past (es ++ hs) ≡ unsettled_each_by u 0 past es ++ unsettled_each_by u 0 (after_by u past es) hs
+      → unsettled_each_by u 0 past (es ++ hs) ≡ unsettled_each_by u 0 past es
+      ++ unsettled_each_by u 0 (after_by u past es) hs
   each_by_append past [] hs = refl
   each_by_append past (feed s f ∷ es) hs =
       ap (λ (bs : List Bool). unsettled u 0 (signals u f ∷ past) ∷ bs) (each_by_append (signals u f ∷ past) es hs)

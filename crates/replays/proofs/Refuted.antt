@@ -138,7 +138,8 @@ to_go_kept o p e = omega (arith, e, count_of 0 5000 nan one_float 2 o p refl)
 -- 0, then 2, with the samples 1 and 1: behind the 1 a half is heard of it, and not another 1
 held_is : heard_by drill [] (events_in (two 0 2 one_float one_float 3) First) ≡ pair one_float zero_float
     ∷ pair half_float one_float ∷ pair one_float zero_float ∷ []
-unfolding coming_by mixed ear_of inverse_root_of root_of root_units whole_root root_in rounded add mul div ieee.sum round size
+unfolding coming_by mixed ear_of inverse_root_of root_of root_units whole_root root_in rounded add mul div ieee.sum
+    round size
     span climb units odd of_int
 held_is = refl
 

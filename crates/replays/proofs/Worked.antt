@@ -83,7 +83,8 @@ unfolding round size span climb units odd of_int
 table_is = refl
 
 numbers_heard : heard_by drill [] (events_in (whole 9) First) ≡ numbers
-unfolding coming_by mixed ear_of inverse_root_of root_of root_units whole_root root_in rounded add mul div ieee.sum round size
+unfolding coming_by mixed ear_of inverse_root_of root_of root_units whole_root root_in rounded add mul div ieee.sum
+    round size
     span climb units odd of_int
 numbers_heard = refl
 

@@ -117,7 +117,8 @@ pub record SameReplay (p : Place) (cs ds : List ReplayCall) : Type 0 where
 -- over a past: the ear samples, the unsettled frames of all calls together, and the past that is stood for then
 pub record Over (u : Setup) (p : Place) (cs : List ReplayCall) (past : List (List Float)) : Type 0 where
   pub sounds : sounded_all p cs ≡ heard_by u past (events_all u p cs)
-  pub unsettled : sum_of_counts (counts (λ (r : Replayed). r.unsettled) p cs) ≡ unsettled_by u 0 past (events_all u p cs)
+  pub unsettled : sum_of_counts (counts (λ (r : Replayed). r.unsettled) p cs)
+      ≡ unsettled_by u 0 past (events_all u p cs)
   pub keeps : Represents u (after_by u past (events_all u p cs)) (end p cs).state
 
 pub record ReplayDemand3 : Type 0 where
@@ -137,7 +138,8 @@ pub record ReplayDemand3 : Type 0 where
       → get_or (sounded_all p cs) n [] ≡ ear_samples u (after_by u [] (upto_fed (events_all u p cs) n))
   -- so each part between restarts sounds as its frames do from a reset
   pub parts : (u : Setup) (p : Place) (cs : List ReplayCall) → Replay u p cs
-      → sounded_all p cs ≡ heard u [] (first_part (events_all u p cs)) ++ heard_parts u (later_parts (events_all u p cs))
+      → sounded_all p cs ≡ heard u [] (first_part (events_all u p cs))
+      ++ heard_parts u (later_parts (events_all u p cs))
   -- (b) "If they agree on frame n and the L-1 frames before it", they are "equal in both runs, whatever NaN or noise
   -- came earlier"
   pub equal : (u : Setup) (p q : Place) (cs ds : List ReplayCall) → Replay u p cs → Replay u q ds → (n m : ℕ)
