@@ -1,7 +1,8 @@
 -- DEMAND 3 ON THE FRAMES AFTER ENCODING. What the convolver is fed is what was encoded, so every sentence of `demand_3`
 -- of `hrtf_runs` reads on the encoded frames. Assumes nothing.
-use Rattle.lists.specs.Prelude.{◌≡◌, sym, ap, ◌∙◌, subst, Bool, true, false, List, [], ℕ, ◌+◌, ◌<◌, mul-pos, arith}
-use Rattle.lists.specs.Prelude.{length, get_or, Float, nan, inf, binary32, mul}
+use Rattle.std.specs.Prelude.{◌≡◌, ◌+◌, ◌<◌}
+use Rattle.lists.specs.Prelude.{sym, ap, ◌∙◌, subst, Bool, true, false, List, [], ℕ, mul-pos, arith, length, get_or}
+use Rattle.lists.specs.Prelude.{Float, nan, inf, binary32, mul}
 use Rattle.formats.specs.Floats.{zero_float}
 use Rattle.channel.specs.Orders.{channels_of_order}
 use Rattle.harmonics.specs.declared.Direction.{Direction}

@@ -1,5 +1,6 @@
 -- Planes that are lent to the convolver as `render` left them feed it the frames that `render` put. Assumes nothing.
-use Rattle.lists.specs.Prelude.{◌≡◌, refl, sym, ap, ◌∙◌, List, [], ◌∷◌, ◌++◌, flat_map, ℕ, zero, suc, suc-ne-zero, Float}
+use Rattle.std.specs.Prelude.{◌≡◌, ◌∷◌, ◌++◌}
+use Rattle.lists.specs.Prelude.{refl, sym, ap, ◌∙◌, List, [], flat_map, ℕ, zero, suc, suc-ne-zero, Float}
 use Rattle.refusals.specs.Refusals.{answered}
 use Rattle.lists.proofs.Joined.{joined_none, joined_one, joined_append}
 use Rattle.channel.specs.Orders.{channels_of_order}

@@ -1,7 +1,8 @@
 -- There are drills: planes that `render` left are taken by every convolver that was set up for the order from a good
 -- bank, and none of its calls is refused. Assumes nothing.
-use Rattle.lists.specs.Prelude.{◌≡◌, refl, sym, ap, ◌∙◌, subst, List, [], ◌∷◌, ◌++◌, map, ℕ, zero, suc, ◌*◌, ◌≤◌}
-use Rattle.lists.specs.Prelude.{suc-ne-zero, ℤ, length, replicate, length-replicate, Float}
+use Rattle.std.specs.Prelude.{◌≡◌, ◌∷◌, ◌++◌, ◌*◌, ◌≤◌}
+use Rattle.lists.specs.Prelude.{refl, sym, ap, ◌∙◌, subst, List, [], map, ℕ, zero, suc, suc-ne-zero, ℤ, length}
+use Rattle.lists.specs.Prelude.{replicate, length-replicate, Float}
 use Rattle.formats.specs.Floats.{zero_float}
 use Rattle.lists.specs.Pairwise.{Pairwise}
 use Rattle.channel.specs.Orders.{channels_of_order}

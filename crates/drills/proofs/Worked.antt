@@ -1,9 +1,9 @@
 -- The premises can be met: three drills worked out from the cues to the ears. Four samples at order 1, the first a NaN;
 -- two calls of `render` with a refused one between, and two calls of `process`, cut elsewhere, with a refused one
 -- between. By computing the definitions. Assumes nothing.
-use Rattle.lists.specs.Prelude.{◌≡◌, refl, sym, ap, ◌∙◌, false, List, [], ◌∷◌, flatten, ℕ, ◌*◌, suc-ne-zero, replicate}
-use Rattle.lists.specs.Prelude.{Float, nan, inf, lt, le, eq, of_int, add, sub, mul, div, neg, round, size, span, climb}
-use Rattle.lists.specs.Prelude.{units, odd}
+use Rattle.std.specs.Prelude.{◌≡◌, ◌∷◌, ◌*◌}
+use Rattle.lists.specs.Prelude.{refl, sym, ap, ◌∙◌, false, List, [], flatten, ℕ, suc-ne-zero, replicate, Float, nan}
+use Rattle.lists.specs.Prelude.{inf, lt, le, eq, of_int, add, sub, mul, div, neg, round, size, span, climb, units, odd}
 use lib.Ieee as ieee
 use Rattle.formats.specs.Floats.{zero_float, one_float, half_float}
 use Rattle.numbers.specs.Computed as Numbers

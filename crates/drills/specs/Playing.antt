@@ -1,7 +1,8 @@
 -- Document 02, E1: "Demand 3 reads on the frames after encoding." There are drills: a bank file is read, speakers are
 -- set up from it for the order, the rings are reset, and planes are lent to the convolver as `render` left them. None
 -- of these calls is refused (`DrillPlays`, shown in proofs/Playing.antt). Definitions only.
-use Rattle.lists.specs.Prelude.{ℕ, ◌*◌, ◌≡◌, List, [], ◌∷◌, map, length, replicate, Float}
+use Rattle.std.specs.Prelude.{◌*◌, ◌≡◌, ◌∷◌}
+use Rattle.lists.specs.Prelude.{ℕ, List, [], map, length, replicate, Float}
 use Rattle.formats.specs.Floats.{zero_float}
 use Rattle.lists.specs.Pairwise.{Pairwise}
 use Rattle.bank_form.specs.Bank as Form

@@ -1,7 +1,8 @@
 -- DEMAND 3. From a reset, however a run is cut into calls and whatever calls are refused between, what is heard is
 -- document 01's sums over the frames that were fed. Assumes nothing.
-use Rattle.lists.specs.Prelude.{◌≡◌, refl, sym, ap, ◌∙◌, false, List, [], map, reverse, ℕ, suc, ◌<◌, length, get_or, take}
-use Rattle.lists.specs.Prelude.{Float, arith}
+use Rattle.std.specs.Prelude.{◌≡◌, ◌<◌}
+use Rattle.lists.specs.Prelude.{refl, sym, ap, ◌∙◌, false, List, [], map, reverse, ℕ, suc, length, get_or, take, Float}
+use Rattle.lists.specs.Prelude.{arith}
 use Rattle.lists.specs.Tables.{any}
 use Rattle.lists.proofs.Tables.{tab_is}
 use Rattle.checks.specs.Finite.{has_nonfinite}

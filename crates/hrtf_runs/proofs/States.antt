@@ -1,7 +1,8 @@
 -- Calls in states that no run from a reset leads to, which the promise of `process` answers like any other. By
 -- computing the definitions. Assumes nothing.
-use Rattle.lists.specs.Prelude.{◌≡◌, refl, true, false, List, [], ◌∷◌, flatten, pos, negsuc, replicate, Float, fin, add}
-use Rattle.lists.specs.Prelude.{mul, div, round, size, span, climb, units, odd, of_int}
+use Rattle.std.specs.Prelude.{◌≡◌, ◌∷◌}
+use Rattle.lists.specs.Prelude.{refl, true, false, List, [], flatten, pos, negsuc, replicate, Float, fin, add, mul, div}
+use Rattle.lists.specs.Prelude.{round, size, span, climb, units, odd, of_int}
 use lib.Ieee as ieee
 use Rattle.formats.specs.Floats.{zero_float, one_float, half_float}
 use Rattle.numbers.specs.Computed.{rounded, root_of, root_units, whole_root, root_in}

@@ -1,5 +1,6 @@
 -- Demand 3, in the order of its words; it is shown in proofs/Demand.antt. Definitions only.
-use Rattle.lists.specs.Prelude.{ℕ, suc, ◌<◌, ◌≡◌, Bool, false, List, [], reverse, length, get_or, take, Float}
+use Rattle.std.specs.Prelude.{◌<◌, ◌≡◌}
+use Rattle.lists.specs.Prelude.{ℕ, suc, Bool, false, List, [], reverse, length, get_or, take, Float}
 use Rattle.lists.specs.Calls.{of_each_call}
 use Rattle.checks.specs.Finite.{has_nonfinite}
 use Rattle.hrtf_desk.specs.declared.Desk.{Desk}

@@ -1,7 +1,8 @@
 -- A bank file is read, speakers are set up from it, rings are reset, and blocks are played: where the file keeps the
 -- form, none of these is refused, whatever is heard (`NeverRefused`, shown in proofs/NeverRefused.antt). Definitions
 -- only.
-use Rattle.lists.specs.Prelude.{ℕ, ◌*◌, ◌≤◌, ◌<◌, ◌≡◌, false, List, [], ◌∷◌, length, ℤ, Float}
+use Rattle.std.specs.Prelude.{◌*◌, ◌≤◌, ◌<◌, ◌≡◌, ◌∷◌}
+use Rattle.lists.specs.Prelude.{ℕ, false, List, [], length, ℤ, Float}
 use Rattle.bank_form.specs.Bank as Form
 use Rattle.bank_form.specs.File.{IsFile}
 use Rattle.bank.specs.Reading.{ReadOutcome, ReadPromise, bank_found}

@@ -1,8 +1,8 @@
 -- DEMAND 3 FOR REPLAYS. However a recording is cut into calls and whatever calls are refused between, the counts are
 -- those of the definition over the recorded list, and what is heard from a reset is document 01's sums over the frames
 -- as fed since the last restart. Assumes nothing.
-use Rattle.lists.specs.Prelude.{◌≡◌, refl, sym, ap, ◌∙◌, subst, Bool, List, [], ◌∷◌, ◌++◌, ℕ, ◌+◌, ◌<◌, arith, length}
-use Rattle.lists.specs.Prelude.{get_or, length-map, Float}
+use Rattle.std.specs.Prelude.{◌≡◌, ◌∷◌, ◌++◌, ◌+◌, ◌<◌}
+use Rattle.lists.specs.Prelude.{refl, sym, ap, ◌∙◌, subst, Bool, List, [], ℕ, arith, length, get_or, length-map, Float}
 use Rattle.lists.specs.Tables.{count}
 use Rattle.hrtf_history.specs.Setup.{Setup}
 use Rattle.hrtf_history.specs.Signals.{silent_frame}

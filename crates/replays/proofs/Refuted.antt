@@ -2,8 +2,9 @@
 -- counted as a late frame, a late frame that is played, what was expected given back, a reset that keeps the history or
 -- the frames to go, the last sample held for the missing ones, silence that is always settled, damage by a late frame,
 -- as many frames as there is room for, and 7 before 5. Assumes nothing.
-use Rattle.lists.specs.Prelude.{◌≡◌, refl, sym, ap, ◌∙◌, false, List, [], ◌∷◌, ℕ, arith, pos, negsuc, get_or, length}
-use Rattle.lists.specs.Prelude.{Float, nan, inf, fin, add, mul, div, round, size, span, climb, units, odd, of_int}
+use Rattle.std.specs.Prelude.{◌≡◌, ◌∷◌}
+use Rattle.lists.specs.Prelude.{refl, sym, ap, ◌∙◌, false, List, [], ℕ, arith, pos, negsuc, get_or, length, Float, nan}
+use Rattle.lists.specs.Prelude.{inf, fin, add, mul, div, round, size, span, climb, units, odd, of_int}
 use lib.Ieee as ieee
 use Rattle.formats.specs.Floats.{zero_float, one_float, half_float, float}
 use Rattle.numbers.specs.Computed.{rounded, root_of, root_units, whole_root, root_in}

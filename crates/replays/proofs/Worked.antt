@@ -1,8 +1,9 @@
 -- The worked recording: it rolls over, has a damaged frame, two missing ones, a late one and a gap that resets. By
 -- computing the definitions; whoever meets the promise answers this. And the premises of demand 3 can be met: the
 -- recording from a reset in four calls, the second refused and the third of no frames. Assumes nothing.
-use Rattle.lists.specs.Prelude.{◌≡◌, refl, sym, ap, ◌∙◌, false, List, [], ◌∷◌, flatten, ℕ, ◌*◌, suc-ne-zero, pos}
-use Rattle.lists.specs.Prelude.{replicate, Float, nan, fin, add, mul, div, round, size, span, climb, units, odd, of_int}
+use Rattle.std.specs.Prelude.{◌≡◌, ◌∷◌, ◌*◌}
+use Rattle.lists.specs.Prelude.{refl, sym, ap, ◌∙◌, false, List, [], flatten, ℕ, suc-ne-zero, pos, replicate, Float}
+use Rattle.lists.specs.Prelude.{nan, fin, add, mul, div, round, size, span, climb, units, odd, of_int}
 use lib.Ieee as ieee
 use Rattle.formats.specs.Floats.{zero_float, one_float, float}
 use Rattle.numbers.specs.Computed.{rounded, root_of, root_units, whole_root, root_in}

@@ -1,7 +1,8 @@
 -- What document 02's E5 asks of a replay, in the order of its words; it is shown in proofs/Demand.antt: "Counts of late
 -- frames, silent frames and resets equal those of a plain definition over the recorded list", and "Demand 3 holds for
 -- the frames as fed, between resets". Definitions only.
-use Rattle.lists.specs.Prelude.{ℕ, zero, suc, ◌+◌, ◌<◌, ◌≡◌, Bool, false, List, [], ◌∷◌, ◌++◌, length, get_or, Float}
+use Rattle.std.specs.Prelude.{◌+◌, ◌<◌, ◌≡◌, ◌∷◌, ◌++◌}
+use Rattle.lists.specs.Prelude.{ℕ, zero, suc, Bool, false, List, [], length, get_or, Float}
 use Rattle.checks.specs.Finite.{has_nonfinite}
 use Rattle.hrtf_desk.specs.declared.Desk.{Desk}
 use Rattle.hrtf_history.specs.Setup.{Setup}
