@@ -1,5 +1,6 @@
 -- How a run ends, by what stands for the line, and how it is told. Assumes nothing.
-use Rattle.lists.specs.Prelude.{◌≡◌, refl, sym, ap, ◌∙◌, subst, true, false, not, List, [], ℕ, ◌≤◌, arith, eq-eqb}
+use Rattle.std.specs.Prelude.{◌≡◌, ◌≤◌}
+use Rattle.lists.specs.Prelude.{refl, sym, ap, ◌∙◌, subst, true, false, not, List, [], ℕ, arith, eq-eqb}
 use Rattle.lists.specs.Prelude.{ne_eqb, length, Float}
 use Rattle.lists.proofs.Tests.{cond_true, cond_false}
 use Rattle.io.specs.Counts.{IsPrefixLen}

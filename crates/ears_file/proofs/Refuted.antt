@@ -1,8 +1,9 @@
 -- What the promise of `run` rules out, whatever the bank and the line are: a refusal by another number than 9 and 13 to
 -- 20, a part frame with a place, a refusal with a count, a failure that ends as a run that was played, and more
 -- unsettled frames than frames. And what that of `result_line` does. Assumes nothing.
-use Rattle.lists.specs.Prelude.{◌≡◌, sym, ap, ◌∙◌, Bool, true, false, cond, List, [], ◌∷◌, ◌⊎◌, inl, inr, ⊎_elim, ℕ}
-use Rattle.lists.specs.Prelude.{zero, suc, ◌+◌, ◌≤◌, ◌<◌, arith, length, get_or, Float}
+use Rattle.std.specs.Prelude.{◌≡◌, ◌∷◌, ◌⊎◌, ◌+◌, ◌≤◌, ◌<◌}
+use Rattle.lists.specs.Prelude.{sym, ap, ◌∙◌, Bool, true, false, cond, List, [], inl, inr, ⊎_elim, ℕ}
+use Rattle.lists.specs.Prelude.{zero, suc, arith, length, get_or, Float}
 use Rattle.lists.proofs.Tests.{cond_true, cond_false}
 use Rattle.refusals.specs.Refusals.{answered}
 use Rattle.refusals.proofs.First.{not_accepted, answered_refused}

@@ -1,7 +1,8 @@
 -- Records in bytes that come in two parts, wherever they are cut: those of the first part, and then those of what the
 -- first part left over with the second behind it. So whoever takes whole records and keeps the rest takes the same
 -- ones, however the bytes come. One law for every size of a record, and for whatever it says. Assumes nothing.
-use Rattle.lists.specs.Prelude.{◌≡◌, sym, ap, ◌∙◌, List, [], ◌++◌, append_assoc, append-nil, ℕ, ◌+◌, ◌*◌, ◌/◌, ◌<◌}
+use Rattle.std.specs.Prelude.{◌≡◌, ◌++◌, ◌+◌, ◌*◌, ◌/◌, ◌<◌}
+use Rattle.lists.specs.Prelude.{sym, ap, ◌∙◌, List, [], append_assoc, append-nil, ℕ}
 use Rattle.lists.specs.Prelude.{add-zero, zero-add, add-mul, mul-add-div_right, mul-div_cancel, div-mul-le_self}
 use Rattle.lists.specs.Prelude.{lt-div-mul-add, div-eq_of_lt, arith, length, take, drop, length-append, length-drop}
 use Rattle.lists.specs.Prelude.{take-append-drop, take-append-le, drop-append-le, drop_at, drop-drop, length-take-le}

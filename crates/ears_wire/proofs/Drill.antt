@@ -1,5 +1,6 @@
 -- Document 01, item 10, and document 02, E2, worked: the lines, and a frame and its ears as bytes. Assumes nothing.
-use Rattle.lists.specs.Prelude.{◌≡◌, refl, true, false, [], ◌∷◌, flat_map, pos, negsuc, nan, fin, to_bits}
+use Rattle.std.specs.Prelude.{◌≡◌, ◌∷◌}
+use Rattle.lists.specs.Prelude.{refl, true, false, [], flat_map, pos, negsuc, nan, fin, to_bits}
 use Rattle.big_endian.specs.Bytes.{bytes_of}
 use Rattle.big_endian.specs.Lists.{field_bytes}
 use Rattle.ears_wire.specs.Ears.{ear_bytes}

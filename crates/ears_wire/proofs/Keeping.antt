@@ -1,5 +1,6 @@
 -- A part of a list moved to its start, byte by byte: what is still to be moved is as it was. Assumes nothing.
-use Rattle.lists.specs.Prelude.{◌≡◌, refl, sym, ap, ◌∙◌, List, [], ◌∷◌, ◌++◌, ℕ, ◌+◌, ◌-◌, ◌≤◌, ◌<◌, min, add-one}
+use Rattle.std.specs.Prelude.{◌≡◌, ◌∷◌, ◌++◌, ◌+◌, ◌-◌, ◌≤◌, ◌<◌}
+use Rattle.lists.specs.Prelude.{refl, sym, ap, ◌∙◌, List, [], ℕ, min, add-one}
 use Rattle.lists.specs.Prelude.{arith, length, get_or, set, take, drop, length-set, length-drop, take-suc, get_or-drop}
 use Rattle.lists.specs.Prelude.{get_or-append-add, length-take-le}
 use Rattle.lists.specs.Placed.{placed}

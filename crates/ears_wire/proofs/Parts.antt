@@ -1,7 +1,8 @@
 -- Parts put one after another into a list, the line that stands at its start or not at all, and that the fewest digits
 -- are the decimal ones. Assumes nothing.
-use Rattle.lists.specs.Prelude.{◌≡◌, refl, sym, ap, ◌∙◌, List, [], ◌∷◌, ◌++◌, append_assoc, ℕ, zero, suc}
-use Rattle.lists.specs.Prelude.{◌+◌, ◌-◌, ◌/◌, ◌%◌, ◌^◌, ◌≤◌, ◌<◌, pow-suc, pow-le-pow_right, one-le-pow, mod-eq_of_lt}
+use Rattle.std.specs.Prelude.{◌≡◌, ◌∷◌, ◌++◌, ◌+◌, ◌-◌, ◌/◌, ◌%◌, ◌^◌, ◌≤◌, ◌<◌}
+use Rattle.lists.specs.Prelude.{refl, sym, ap, ◌∙◌, List, [], append_assoc, ℕ, zero, suc}
+use Rattle.lists.specs.Prelude.{pow-suc, pow-le-pow_right, one-le-pow, mod-eq_of_lt}
 use Rattle.lists.specs.Prelude.{zero-add, dec_lt, arith, lt-ltb, le-ltb, length, take, drop, length-append}
 use Rattle.lists.specs.Prelude.{drop-drop}
 use Rattle.io.specs.Digits.{last_digits, hex_digit_ascii, IsDigitCount}

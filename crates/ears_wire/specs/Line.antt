@@ -1,7 +1,8 @@
 -- Document 01, item 10: the printed line, "`frames 3 unsettled 2` and a newline", or "`refused 9` only".
 -- Document 02, E2: "The program prints number and place, as `refused 14 at 1`".
 -- Definitions only. A line is a list of ASCII codes.
-use Rattle.lists.specs.Prelude.{ℕ, zero, suc, ◌+◌, ◌/◌, ◌%◌, cond, List, [], ◌∷◌, ◌++◌, ltb}
+use Rattle.std.specs.Prelude.{◌+◌, ◌/◌, ◌%◌, ◌∷◌, ◌++◌}
+use Rattle.lists.specs.Prelude.{ℕ, zero, suc, cond, List, [], ltb}
 
 -- the decimal digits of a number that has at most k of them, with no zero in front
 unfoldable pub decimal_by : ℕ → ℕ → List ℕ

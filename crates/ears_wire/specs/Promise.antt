@@ -1,6 +1,7 @@
 -- What each function hands back, and what the list that it fills holds. A refusal is document 01's 5, "a lent length
 -- doesn't fit", and leaves the list as it was. Definitions only.
-use Rattle.lists.specs.Prelude.{◌≡◌, ℕ, ◌+◌, ◌*◌, List, [], ◌∷◌, ltb, length, Float}
+use Rattle.std.specs.Prelude.{◌≡◌, ◌+◌, ◌*◌, ◌∷◌}
+use Rattle.lists.specs.Prelude.{ℕ, List, [], ltb, length, Float}
 use Rattle.refusals.specs.Refusals.{first_of, ◌when◌, answered}
 use Rattle.lists.specs.Placed.{placed}
 use Rattle.checks.specs.Lengths.{unfit}

@@ -1,6 +1,7 @@
 -- Records of n bytes each, in bytes that come in parts of any sizes: the whole ones, and the bytes behind them.
 -- Definitions only.
-use Rattle.lists.specs.Prelude.{ℕ, ◌*◌, ◌/◌, List, length, drop}
+use Rattle.std.specs.Prelude.{◌*◌, ◌/◌}
+use Rattle.lists.specs.Prelude.{ℕ, List, length, drop}
 use Rattle.lists.specs.Tables.{tab, chunk}
 
 -- how many whole records there are

@@ -1,6 +1,7 @@
 -- What the promise of `read_bank` rules out, whatever stands in the file: a refusal by another number than 5 and 13 to
 -- 20, and lists that are filled though the bank is refused. Assumes nothing.
-use Rattle.lists.specs.Prelude.{◌≡◌, refl, sym, ap, ◌∙◌, List, ⊎_elim, ◌≤◌, arith, ℤ, length, Float}
+use Rattle.std.specs.Prelude.{◌≡◌, ◌≤◌}
+use Rattle.lists.specs.Prelude.{refl, sym, ap, ◌∙◌, List, ⊎_elim, arith, ℤ, length, Float}
 use Rattle.bank_form.specs.Fault.{bank_in, fault}
 use Rattle.bank_form.specs.FaultLaws.{NumberAndPlace}
 use Rattle.bank_form.proofs.Walk.{same_number, fault_refused}

@@ -1,6 +1,7 @@
 -- Of one file no two answers meet the promise of `read_bank`; which file it is no contract can name. Whatever system
 -- the file is of: R, whose files are of the type F and whose folders of the type D. Assumes nothing.
-use Rattle.lists.specs.Prelude.{◌≡◌, sym, ◌∙◌}
+use Rattle.std.specs.Prelude.{◌≡◌}
+use Rattle.lists.specs.Prelude.{sym, ◌∙◌}
 use denote.Triple.Entry.{Args}
 use denote.RattleType.{RattleType}
 use denote.Param.Laws.{Laws}

@@ -1,5 +1,6 @@
 -- What a read leaves, and the bank that was found. Definitions only.
-use Rattle.lists.specs.Prelude.{◌≡◌, List, Bool, true, ℕ, ◌+◌, ◌≤◌, min, max, ℤ, length, take, Float}
+use Rattle.std.specs.Prelude.{◌≡◌, ◌+◌, ◌≤◌}
+use Rattle.lists.specs.Prelude.{List, Bool, true, ℕ, min, max, ℤ, length, take, Float}
 use Rattle.big_endian.specs.Bytes.{AreBytes}
 use Rattle.bank_form.specs.FaultLaws.{TakenFrom}
 use Rattle.bank.specs.Reading.{ReadOutcome, ReadPromise}

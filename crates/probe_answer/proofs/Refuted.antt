@@ -2,7 +2,8 @@
 -- room, over what stands before it, or of other bytes; entries of another number or width; a number of nine bytes; a
 -- refusal in two bytes, or under the numbers; and of a block, a count in four bytes, or more or fewer samples. Assumes
 -- nothing.
-use Rattle.lists.specs.Prelude.{◌≡◌, sym, ap, ◌∙◌, List, [], ◌∷◌, ℕ, ◌+◌, ◌-◌, ◌*◌, ◌%◌, ◌^◌, ◌≤◌, ◌<◌, mul-le-mul_left}
+use Rattle.std.specs.Prelude.{◌≡◌, ◌∷◌, ◌+◌, ◌-◌, ◌*◌, ◌%◌, ◌^◌, ◌≤◌, ◌<◌}
+use Rattle.lists.specs.Prelude.{sym, ap, ◌∙◌, List, [], ℕ, mul-le-mul_left}
 use Rattle.lists.specs.Prelude.{eq_of_mul-eq-mul_right, arith, le-leb, lt-leb, length, get_or, take, drop, replicate}
 use Rattle.lists.specs.Prelude.{length-replicate, get_or-replicate, take-take, drop-drop, Float, binary32, binary64}
 use Rattle.lists.specs.Prelude.{to_bits}

@@ -1,7 +1,8 @@
 -- What stands in an answer: a part that had room is there, and what is put behind it leaves it as it is. Assumes
 -- nothing.
-use Rattle.lists.specs.Prelude.{◌≡◌, refl, sym, ap, ◌∙◌, List, [], ◌∷◌, ◌++◌, append_assoc, ◌⊎◌, inl, inr, ⊎_elim, ℕ}
-use Rattle.lists.specs.Prelude.{zero, suc, ◌+◌, ◌*◌, ◌%◌, ◌^◌, ◌≤◌, ◌<◌, mul-zero, mul-suc, not-suc-le-zero}
+use Rattle.std.specs.Prelude.{◌≡◌, ◌∷◌, ◌++◌, ◌⊎◌, ◌+◌, ◌*◌, ◌%◌, ◌^◌, ◌≤◌, ◌<◌}
+use Rattle.lists.specs.Prelude.{refl, sym, ap, ◌∙◌, List, [], append_assoc, inl, inr, ⊎_elim, ℕ}
+use Rattle.lists.specs.Prelude.{zero, suc, mul-zero, mul-suc, not-suc-le-zero}
 use Rattle.lists.specs.Prelude.{le_of_suc-le-suc, arith, length, get_or, take, drop, length-append, take-append-le}
 use Rattle.lists.specs.Prelude.{drop-append-add, take-take, take_at, drop_at, length-take-le, Float, binary32, binary64}
 use Rattle.lists.specs.Prelude.{to_bits}

@@ -1,6 +1,7 @@
 -- How an answer is put together (docs/PROBE.md, 'Operations'): its parts stand one behind the other, from the start of
 -- the lent bytes on. Definitions only.
-use Rattle.lists.specs.Prelude.{ℕ, ◌+◌, cond, List, eqb, leb, Float, length}
+use Rattle.std.specs.Prelude.{◌+◌}
+use Rattle.lists.specs.Prelude.{ℕ, cond, List, eqb, leb, Float, length}
 use Rattle.big_endian.specs.Bytes.{bytes_of}
 use Rattle.lists.specs.Placed.{placed}
 use Rattle.big_endian.specs.Lists.{float_bytes, double_bytes}

@@ -1,5 +1,6 @@
 -- Which wave is asked for, and which of the five answers is given. Assumes nothing.
-use Rattle.lists.specs.Prelude.{◌≡◌, refl, sym, List, ℕ, ◌≤◌, eq-eqb, ne_eqb}
+use Rattle.std.specs.Prelude.{◌≡◌, ◌≤◌}
+use Rattle.lists.specs.Prelude.{refl, sym, List, ℕ, eq-eqb, ne_eqb}
 use Rattle.series.specs.Sums.{sine, cosine}
 use Rattle.probe_answer.specs.Answers.{none}
 use Rattle.probe_answer.proofs.Meets.{of_two}

@@ -1,6 +1,7 @@
 -- docs/PROBE.md, 'Operations', 1 to 5: the count of the bytes of an answer and what the lent bytes hold with it, in the
 -- order of the page. Definitions only.
-use Rattle.lists.specs.Prelude.{ℕ, cond, List, [], ◌∷◌, eqb}
+use Rattle.std.specs.Prelude.{◌∷◌}
+use Rattle.lists.specs.Prelude.{ℕ, cond, List, [], eqb}
 use Rattle.numbers.specs.Computed as Numbers
 use Rattle.series.specs.Sums.{Wave, sine, cosine}
 use Rattle.angles.specs.Promise as Angles

@@ -1,5 +1,6 @@
 -- What the fields of a request stand for (docs/PROBE.md, 'Operations'). Definitions only.
-use Rattle.lists.specs.Prelude.{ℕ, ◌+◌, ◌-◌, ◌*◌, ◌^◌, min, cond, List, eqb, leb, length}
+use Rattle.std.specs.Prelude.{◌+◌, ◌-◌, ◌*◌, ◌^◌}
+use Rattle.lists.specs.Prelude.{ℕ, min, cond, List, eqb, leb, length}
 use Rattle.big_endian.specs.Fields.{field_at}
 use Rattle.big_endian.specs.Lists.{strided}
 use Rattle.channel.specs.declared.Layout.{Layout}

@@ -1,5 +1,6 @@
 -- `ears_wire::give_ears` meets its contract: one store of four bytes after the other. Assumes nothing.
-use Rattle.lists.specs.Prelude.{ap, ◌∙◌, ◌*◌, arith}
+use Rattle.std.specs.Prelude.{◌*◌}
+use Rattle.lists.specs.Prelude.{ap, ◌∙◌, arith}
 use Rattle.big_endian.specs.Fields.{with_float}
 use Rattle.ears_wire.proofs.Ears.{both_stored}
 use Rattle.ears_wire.proofs.give_ears.Goals as goal

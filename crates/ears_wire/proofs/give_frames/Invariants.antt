@@ -1,4 +1,4 @@
-use Rattle.lists.specs.Prelude.{◌≡◌, ◌-◌, ◌≤◌}
+use Rattle.std.specs.Prelude.{◌≡◌, ◌-◌, ◌≤◌}
 use Rattle.lists.specs.Placed.{placed}
 use Rattle.planes.specs.Planes.{frames_of}
 use Rattle.ears_wire.specs.Ears.{ear_bytes}

@@ -1,4 +1,5 @@
-use Rattle.lists.specs.Prelude.{ℕ, ◌-◌, ◌*◌, List, Float}
+use Rattle.std.specs.Prelude.{◌-◌, ◌*◌}
+use Rattle.lists.specs.Prelude.{ℕ, List, Float}
 use Rattle.big_endian.specs.Fields.{float_at}
 use Rattle.planes.proofs.Framing.{Sampling}
 use Rattle.ears_wire.proofs.take_frame.Given as goal

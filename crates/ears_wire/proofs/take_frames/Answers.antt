@@ -1,5 +1,6 @@
 -- `ears_wire::take_frames` meets its contract: `Framing`, over the records. Assumes nothing.
-use Rattle.lists.specs.Prelude.{ap, ◌∙◌, ℕ, ◌*◌, arith, List}
+use Rattle.std.specs.Prelude.{◌*◌}
+use Rattle.lists.specs.Prelude.{ap, ◌∙◌, ℕ, arith, List}
 use Rattle.lists.proofs.Tables.{part_is}
 use Rattle.planes.specs.Planes.{with_frame}
 use Rattle.planes.proofs.Framing.{framing_more, framing_all}

@@ -1,4 +1,5 @@
-use Rattle.lists.specs.Prelude.{ℕ, ◌-◌, List, Float}
+use Rattle.std.specs.Prelude.{◌-◌}
+use Rattle.lists.specs.Prelude.{ℕ, List, Float}
 use Rattle.lists.specs.Tables.{chunk}
 use Rattle.planes.proofs.Framing.{Framing}
 use Rattle.ears_wire.specs.Records.{whole_in_of}

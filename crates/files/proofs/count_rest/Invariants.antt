@@ -1,4 +1,5 @@
-use Rattle.lists.specs.Prelude.{◌≡◌, ◌-◌, length}
+use Rattle.std.specs.Prelude.{◌≡◌, ◌-◌}
+use Rattle.lists.specs.Prelude.{length}
 use Rattle.files.proofs.count_rest.Given as goal
 
 abbrev pub invariant-loop-size : goal.invariant-loop-size

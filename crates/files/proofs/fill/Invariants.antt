@@ -1,4 +1,5 @@
-use Rattle.lists.specs.Prelude.{◌≡◌, ◌-◌, ◌≤◌, length}
+use Rattle.std.specs.Prelude.{◌≡◌, ◌-◌, ◌≤◌}
+use Rattle.lists.specs.Prelude.{length}
 use Rattle.files.proofs.fill.Given as goal
 
 abbrev pub invariant-loop-at : goal.invariant-loop-at

@@ -1,4 +1,5 @@
-use Rattle.lists.specs.Prelude.{◌-◌, length}
+use Rattle.std.specs.Prelude.{◌-◌}
+use Rattle.lists.specs.Prelude.{length}
 use Rattle.probe_answer.proofs.Putting.{PutBytes}
 use Rattle.probe_answer.proofs.put_bytes.Given as goal
 

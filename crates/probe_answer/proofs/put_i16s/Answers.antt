@@ -1,5 +1,6 @@
 -- `probe_answer::put_i16s` meets its contract: `Put`. Assumes nothing.
-use Rattle.lists.specs.Prelude.{◌≡◌, ap, ◌∙◌, arith, pos, get_or}
+use Rattle.std.specs.Prelude.{◌≡◌}
+use Rattle.lists.specs.Prelude.{ap, ◌∙◌, arith, pos, get_or}
 use mir.Syntax.{w16}
 use mir.Val.{to_z, of_z}
 use Rattle.big_endian.specs.Fields.{with_signed, with_field}

@@ -1,4 +1,5 @@
-use Rattle.lists.specs.Prelude.{◌-◌, length}
+use Rattle.std.specs.Prelude.{◌-◌}
+use Rattle.lists.specs.Prelude.{length}
 use Rattle.big_endian.specs.Lists.{number_bytes}
 use Rattle.probe_answer.proofs.Putting.{Put}
 use Rattle.probe_answer.proofs.put_usizes.Given as goal

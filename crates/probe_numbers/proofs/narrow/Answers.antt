@@ -1,5 +1,6 @@
 -- `probe_numbers::narrow` meets its contract. Assumes nothing.
-use Rattle.lists.specs.Prelude.{ℕ, List, [], ◌∷◌, Float}
+use Rattle.std.specs.Prelude.{◌∷◌}
+use Rattle.lists.specs.Prelude.{ℕ, List, [], Float}
 use Rattle.numbers.specs.Computed.{narrowed}
 use Rattle.big_endian.specs.Lists.{float_bytes}
 use Rattle.probe_answer.specs.Answers.{none, ◌then◌}

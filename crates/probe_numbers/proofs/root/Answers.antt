@@ -1,5 +1,6 @@
 -- `probe_numbers::root` meets its contract. Assumes nothing.
-use Rattle.lists.specs.Prelude.{ℕ, List, [], ◌∷◌}
+use Rattle.std.specs.Prelude.{◌∷◌}
+use Rattle.lists.specs.Prelude.{ℕ, List, []}
 use Rattle.numbers.specs.Computed as Numbers
 use Rattle.numbers.specs.declared.Rooted.{Rooted}
 use Rattle.probe_answer.specs.Answers.{refusal_and_doubles}

@@ -1,5 +1,6 @@
 -- `probe_numbers::sine_or_cosine` meets its contract. Assumes nothing.
-use Rattle.lists.specs.Prelude.{ℕ, List, [], ◌∷◌}
+use Rattle.std.specs.Prelude.{◌∷◌}
+use Rattle.lists.specs.Prelude.{ℕ, List, []}
 use Rattle.angles.specs.Promise.{outcome}
 use Rattle.angles.specs.declared.Answer.{Answer}
 use Rattle.probe_answer.specs.Answers.{refusal_and_doubles}

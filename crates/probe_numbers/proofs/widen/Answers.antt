@@ -1,5 +1,6 @@
 -- `probe_numbers::widen` meets its contract. Assumes nothing.
-use Rattle.lists.specs.Prelude.{ℕ, List, [], ◌∷◌, Float}
+use Rattle.std.specs.Prelude.{◌∷◌}
+use Rattle.lists.specs.Prelude.{ℕ, List, [], Float}
 use Rattle.big_endian.specs.Lists.{double_bytes}
 use Rattle.probe_answer.specs.Answers.{none, ◌then◌}
 use Rattle.probe_answer.proofs.Meets.{untaken, called}

@@ -1,5 +1,6 @@
 -- `probe_request::eight` meets its contract. Assumes nothing.
-use Rattle.lists.specs.Prelude.{◌≡◌, sym, ◌∙◌, List, [], ◌∷◌, ℕ, ◌+◌, ◌*◌, ◌<◌, arith, length, replicate}
+use Rattle.std.specs.Prelude.{◌≡◌, ◌∷◌, ◌+◌, ◌*◌, ◌<◌}
+use Rattle.lists.specs.Prelude.{sym, ◌∙◌, List, [], ℕ, arith, length, replicate}
 use Rattle.lists.proofs.Tables.{tab_ext, tab_constant}
 use Rattle.big_endian.specs.Fields.{field_at}
 use Rattle.big_endian.specs.Lists.{strided}

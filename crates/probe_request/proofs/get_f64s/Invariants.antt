@@ -1,4 +1,5 @@
-use Rattle.lists.specs.Prelude.{◌-◌, length}
+use Rattle.std.specs.Prelude.{◌-◌}
+use Rattle.lists.specs.Prelude.{length}
 use Rattle.big_endian.specs.Fields.{double_at}
 use Rattle.probe_request.proofs.Getting.{Got}
 use Rattle.probe_request.proofs.get_f64s.Given as goal

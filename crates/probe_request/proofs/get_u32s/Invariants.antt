@@ -1,4 +1,5 @@
-use Rattle.lists.specs.Prelude.{◌-◌, length}
+use Rattle.std.specs.Prelude.{◌-◌}
+use Rattle.lists.specs.Prelude.{length}
 use Rattle.probe_request.specs.Requests.{word_at}
 use Rattle.probe_request.proofs.Getting.{Got}
 use Rattle.probe_request.proofs.get_u32s.Given as goal

@@ -1,5 +1,6 @@
 -- `ears_wire::line::put_number` meets its contract: the fewest digits are the decimal ones. Assumes nothing.
-use Rattle.lists.specs.Prelude.{◌∙◌, ◌≤◌, arith}
+use Rattle.std.specs.Prelude.{◌≤◌}
+use Rattle.lists.specs.Prelude.{◌∙◌, arith}
 use Rattle.ears_wire.specs.Line.{decimal_digits}
 use Rattle.ears_wire.proofs.Parts.{fewest_digits, fewest_few, put_same}
 use Rattle.ears_wire.proofs.line.put_number.Goals as goal

@@ -1,5 +1,6 @@
 -- `ears_wire::line::put_two` meets its contract: each part stands where the last one ended. Assumes nothing.
-use Rattle.lists.specs.Prelude.{◌≡◌, List, ◌++◌, append_assoc, ℕ, arith}
+use Rattle.std.specs.Prelude.{◌≡◌, ◌++◌}
+use Rattle.lists.specs.Prelude.{List, append_assoc, ℕ, arith}
 use Rattle.ears_wire.specs.Line.{decimal_digits, newline}
 use Rattle.ears_wire.proofs.Parts.{put_more, put_same}
 use Rattle.ears_wire.proofs.line.put_two.Goals as goal

@@ -1,4 +1,4 @@
-use Rattle.lists.specs.Prelude.{◌+◌, ◌-◌}
+use Rattle.std.specs.Prelude.{◌+◌, ◌-◌}
 use Rattle.ears_wire.proofs.Keeping.{Kept}
 use Rattle.ears_wire.proofs.records.keep_rest.Given as goal
 
