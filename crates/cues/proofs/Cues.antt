@@ -44,7 +44,8 @@ least x (y ∷ ys) (suc i) h l = omega (
 )
 
 -- each is below the next, at any place
-pub next_above : (x : ℕ) (xs : List ℕ) (i : ℕ) → rises_from x xs ≡ true → i < length xs → get_or (x ∷ xs) i 0 < get_or xs i 0
+pub next_above : (x : ℕ) (xs : List ℕ) (i : ℕ) → rises_from x xs ≡ true → i < length xs
+    → get_or (x ∷ xs) i 0 < get_or xs i 0
 next_above x [] i h l = absurd (not-suc-le-zero l)
 next_above x (y ∷ ys) zero h l = ltb-true x y (and_left (ltb x y) (rises_from y ys) h)
 next_above x (y ∷ ys) (suc i) h l = next_above y ys i (and_right (ltb x y) (rises_from y ys) h) (le_of_suc-le-suc l)

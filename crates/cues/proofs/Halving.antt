@@ -46,7 +46,8 @@ below (x ∷ xs) f i u = by_test (λ j v. below xs f j v) i u (leb x f) refl
     by_test : ((j : ℕ) → j < up_to xs f → get_or xs j 0 ≤ f) → (j : ℕ) → j < up_to (x ∷ xs) f → (t : Bool) → leb x f ≡ t
         → get_or (x ∷ xs) j 0 ≤ f
     by_test ih zero v true e = leb-true x f e
-    by_test ih (suc j) v true e = ih j (le_of_suc-le-suc (subst (λ (t : Bool). suc j < cond t (suc (up_to xs f)) 0) e v))
+    by_test ih (suc j) v true e =
+        ih j (le_of_suc-le-suc (subst (λ (t : Bool). suc j < cond t (suc (up_to xs f)) 0) e v))
     by_test ih j v false e = absurd (not-suc-le-zero (subst (λ (t : Bool). j < cond t (suc (up_to xs f)) 0) e v))
 
 -- it stays the same up to the next frame, and if there is none for ever
@@ -55,14 +56,16 @@ up_to_same : (fs : List ℕ) (f g : ℕ) → f ≤ g → (up_to fs f < length fs
 up_to_same [] f g l n = refl
 up_to_same (x ∷ xs) f g l n = by_test (up_to_same xs f g l) (leb x f) refl
   where
-    by_test : ((up_to xs f < length xs → g < get_or xs (up_to xs f) 0) → up_to xs g ≡ up_to xs f) → (t : Bool) → leb x f ≡ t
+    by_test : ((up_to xs f < length xs → g < get_or xs (up_to xs f) 0) → up_to xs g ≡ up_to xs f) → (t : Bool) → leb x f
+        ≡ t
         → cond (leb x g) (suc (up_to xs g)) 0 ≡ cond (leb x f) (suc (up_to xs f)) 0
     by_test ih true e =
         let step : up_to (x ∷ xs) f ≡ suc (up_to xs f) = ap (λ (t : Bool). cond t (suc (up_to xs f)) 0) e in
         let next : up_to xs f < length xs → g < get_or xs (up_to xs f) 0 =
         λ m. subst (λ (k : ℕ). g < get_or (x ∷ xs) k 0) step
         (n (subst (λ (k : ℕ). k < suc (length xs)) (sym step) (omega (arith, m)))) in
-        ap (λ (t : Bool). cond t (suc (up_to xs g)) 0) (le-leb x g (omega (arith, l, leb-true x f e))) ∙ ap suc (ih next)
+        ap (λ (t : Bool). cond t (suc (up_to xs g)) 0) (le-leb x g (omega (arith, l, leb-true x f e)))
+        ∙ ap suc (ih next)
         ∙ sym step
     by_test ih false e =
         let step : up_to (x ∷ xs) f ≡ 0 = ap (λ (t : Bool). cond t (suc (up_to xs f)) 0) e in

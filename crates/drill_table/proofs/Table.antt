@@ -1,5 +1,6 @@
 -- The marked drill table, all eleven: each example is shown in the crate that it is about. Assumes nothing.
-use Rattle.lists.specs.Prelude.{◌≡◌, ap, ◌∙◌, pos, binary64, of_int, to_bits}
+use Rattle.std.specs.Prelude.{◌≡◌}
+use Rattle.lists.specs.Prelude.{ap, ◌∙◌, pos, binary64, of_int, to_bits}
 use Rattle.formats.specs.Floats.{float}
 use Rattle.numbers.specs.declared.Rooted.{Rooted}
 use Rattle.numbers.specs.Promise.{RootPromise}

@@ -1,8 +1,9 @@
 -- Document 01, 'Marked drill table': "These are shown to follow from the definitions as a single checked list." A field
 -- or more for each of the eleven: of the definition, and of what the program hands back, where the two are not the
 -- same. Definitions only.
-use Rattle.lists.specs.Prelude.{ℕ, ◌+◌, ◌^◌, ◌≡◌, true, false, List, [], ◌∷◌, ℤ, pos, negsuc, length, take, Float, nan}
-use Rattle.lists.specs.Prelude.{fin, binary64, to_bits}
+use Rattle.std.specs.Prelude.{◌+◌, ◌^◌, ◌≡◌, ◌∷◌}
+use Rattle.lists.specs.Prelude.{ℕ, true, false, List, [], ℤ, pos, negsuc, length, take, Float, nan, fin, binary64}
+use Rattle.lists.specs.Prelude.{to_bits}
 use Rattle.fractions.specs.Fraction.{Fraction, whole, number, square, Less}
 use Rattle.formats.specs.Floats.{zero_float, one_float, half_float, float}
 use Rattle.numbers.specs.declared.Rooted.{Rooted}

@@ -1,7 +1,8 @@
 -- A NaN in one channel damages a frame at all weights, since every sum over it is NaN; and so does a sample whose
 -- product with the gain of a channel is NaN. Assumes nothing.
-use Rattle.lists.specs.Prelude.{◌≡◌, refl, sym, ap, ◌∙◌, subst, true, not, ◌||◌, List, [], ◌∷◌, ◌++◌, ℕ, zero, suc, ◌+◌}
-use Rattle.lists.specs.Prelude.{◌*◌, ◌<◌, not-suc-le-zero, zero-add, arith, length, get_or, Float, nan, binary32, mul}
+use Rattle.std.specs.Prelude.{◌≡◌, ◌||◌, ◌∷◌, ◌++◌, ◌+◌, ◌*◌, ◌<◌}
+use Rattle.lists.specs.Prelude.{refl, sym, ap, ◌∙◌, subst, true, not, List, [], ℕ, zero, suc, not-suc-le-zero, zero-add}
+use Rattle.lists.specs.Prelude.{arith, length, get_or, Float, nan, binary32, mul}
 use lib.Ieee.Scale.{finite}
 use Rattle.lists.specs.Tables.{tab, chunk}
 use Rattle.lists.proofs.Tables.{length_tab, get_or_tab, length_chunk}

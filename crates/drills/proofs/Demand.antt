@@ -1,7 +1,8 @@
 -- DEMAND 3 ON THE FRAMES AFTER ENCODING. What the convolver is fed is what was encoded, so every sentence of `demand_3`
 -- of `hrtf_runs` reads on the encoded frames. Assumes nothing.
-use Rattle.lists.specs.Prelude.{◌≡◌, sym, ap, ◌∙◌, subst, Bool, true, false, List, [], ℕ, ◌+◌, ◌<◌, mul-pos, arith}
-use Rattle.lists.specs.Prelude.{length, get_or, Float, nan, inf, binary32, mul}
+use Rattle.std.specs.Prelude.{◌≡◌, ◌+◌, ◌<◌}
+use Rattle.lists.specs.Prelude.{sym, ap, ◌∙◌, subst, Bool, true, false, List, [], ℕ, mul-pos, arith, length, get_or}
+use Rattle.lists.specs.Prelude.{Float, nan, inf, binary32, mul}
 use Rattle.formats.specs.Floats.{zero_float}
 use Rattle.channel.specs.Orders.{channels_of_order}
 use Rattle.harmonics.specs.declared.Direction.{Direction}
@@ -69,7 +70,8 @@ drill_settled : (u : Setup) (d e : Drill) → Drilled u d → Drilled u e → (n
     → damaged_among u (encoded d) n ≡ damaged_among u (encoded e) m
 drill_settled u d e h k n m =
     both_fed u d e h k
-    (λ fs gs. ((j : ℕ) → j < u.L → frame_ago u fs n j ≡ frame_ago u gs m j) → damaged_among u fs n ≡ damaged_among u gs m)
+    (λ fs gs. ((j : ℕ) → j < u.L → frame_ago u fs n j ≡ frame_ago u gs m j) → damaged_among u fs n
+    ≡ damaged_among u gs m)
     (demand_3.settled u d.start e.start d.plays e.plays n m)
 
 -- (c)

@@ -1,5 +1,6 @@
 -- Planes that are lent to the convolver as `render` left them feed it the frames that `render` put. Assumes nothing.
-use Rattle.lists.specs.Prelude.{◌≡◌, refl, sym, ap, ◌∙◌, List, [], ◌∷◌, ◌++◌, flat_map, ℕ, zero, suc, suc-ne-zero, Float}
+use Rattle.std.specs.Prelude.{◌≡◌, ◌∷◌, ◌++◌}
+use Rattle.lists.specs.Prelude.{refl, sym, ap, ◌∙◌, List, [], flat_map, ℕ, zero, suc, suc-ne-zero, Float}
 use Rattle.refusals.specs.Refusals.{answered}
 use Rattle.lists.proofs.Joined.{joined_none, joined_one, joined_append}
 use Rattle.channel.specs.Orders.{channels_of_order}
@@ -69,7 +70,8 @@ module _ (u : Setup) where
   fed_one c t (suc n) e same =
       ap (λ (n : ℕ). fed_by n (frames_in c)) e ∙ sym (read_by u.channels (inputs c) (refusal_of c t) (suc n) e)
 
-  pub fed_all_lem : (t : State) (cs : List BlockCall) → CallsAlike u t cs → fed_all t cs ≡ read_all u.channels (takes t cs)
+  pub fed_all_lem : (t : State) (cs : List BlockCall) → CallsAlike u t cs → fed_all t cs
+      ≡ read_all u.channels (takes t cs)
   fed_all_lem t [] a = sym (joined_none (read u.channels))
   fed_all_lem t (c ∷ cs) a =
       (λ i. fed_one c t (refusal_of c t) refl a.0 i ++ fed_all_lem (next c t) cs a.1 i)

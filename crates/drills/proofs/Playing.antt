@@ -1,7 +1,8 @@
 -- There are drills: planes that `render` left are taken by every convolver that was set up for the order from a good
 -- bank, and none of its calls is refused. Assumes nothing.
-use Rattle.lists.specs.Prelude.{◌≡◌, refl, sym, ap, ◌∙◌, subst, List, [], ◌∷◌, ◌++◌, map, ℕ, zero, suc, ◌*◌, ◌≤◌}
-use Rattle.lists.specs.Prelude.{suc-ne-zero, ℤ, length, replicate, length-replicate, Float}
+use Rattle.std.specs.Prelude.{◌≡◌, ◌∷◌, ◌++◌, ◌*◌, ◌≤◌}
+use Rattle.lists.specs.Prelude.{refl, sym, ap, ◌∙◌, subst, List, [], map, ℕ, zero, suc, suc-ne-zero, ℤ, length}
+use Rattle.lists.specs.Prelude.{replicate, length-replicate, Float}
 use Rattle.formats.specs.Floats.{zero_float}
 use Rattle.lists.specs.Pairwise.{Pairwise}
 use Rattle.channel.specs.Orders.{channels_of_order}
@@ -72,6 +73,8 @@ module _ (b : Form.Bank) (o : Arrangement) where
   calls_fitted : (ps : List Planes) (es : List (List Float)) → AllFit o.answer.channels ps → Pairwise Eared ps es
       → AllFitted b o (calls_of b o ps es)
   calls_fitted [] [] h k = tt
+  calls_fitted [] (e ∷ es) h k = elim k [ ]
+  calls_fitted (p ∷ ps) [] h k = elim k [ ]
   calls_fitted (p ∷ ps) (e ∷ es) h k = (
     record {
       shape = refl;
@@ -88,12 +91,14 @@ module _ (b : Form.Bank) (o : Arrangement) where
   calls_alike : (t : State) (ps : List Planes) (es : List (List Float)) → CallsAlike (set_up b o) t (calls_of b o ps es)
   calls_alike t [] es = tt
   calls_alike t (p ∷ ps) [] = tt
-  calls_alike t (p ∷ ps) (e ∷ es) = (λ z. same_filters (set_up b o), calls_alike _ ps es)
+  calls_alike t (p ∷ ps) (e ∷ es) = (λ z. same_filters (set_up b o), calls_alike (next (drill_call b o p e) t) ps es)
 
   -- being accepted, they take them all
   calls_take : (t : State) (ps : List Planes) (es : List (List Float)) → Pairwise Eared ps es
       → NoneRefused t (calls_of b o ps es) → takes t (calls_of b o ps es) ≡ ps
   calls_take t [] [] k h = refl
+  calls_take t [] (e ∷ es) k h = elim k [ ]
+  calls_take t (p ∷ ps) [] k h = elim k [ ]
   calls_take t (p ∷ ps) (e ∷ es) k h =
       let c = drill_call b o p e in
       ap (λ (n : ℕ). passing n p ++ takes (next c t) (calls_of b o ps es)) h.0

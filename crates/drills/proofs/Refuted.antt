@@ -1,9 +1,10 @@
 -- Wrong readings of demand 3, and wrong answers in a drill, each held against what is promised: the samples before
 -- encoding compared, damage judged on them, a frame before the first cue counted as unsettled, an infinite sample at a
 -- gain of 0.0 counted otherwise, and other ears than those of a drill that agrees after encoding. Assumes nothing.
-use Rattle.lists.specs.Prelude.{◌≡◌, refl, sym, ap, ◌∙◌, subst, Bool, false, not, cond, true≢false, List, [], ◌∷◌, ℕ}
-use Rattle.lists.specs.Prelude.{zero, suc, ◌+◌, ◌<◌, ◌≤◌, suc-ne-zero, zero-add, add-zero, add-suc, suc-add, arith}
-use Rattle.lists.specs.Prelude.{lit<, length, get_or, length-append, get_or-append, Float, nan}
+use Rattle.std.specs.Prelude.{◌≡◌, ◌∷◌, ◌+◌, ◌<◌, ◌≤◌}
+use Rattle.lists.specs.Prelude.{refl, sym, ap, ◌∙◌, subst, Bool, false, not, cond, true≢false, List, [], ℕ, zero, suc}
+use Rattle.lists.specs.Prelude.{suc-ne-zero, zero-add, add-zero, add-suc, suc-add, arith, lit<, length, get_or}
+use Rattle.lists.specs.Prelude.{length-append, get_or-append, Float, nan}
 use lib.Ieee.Positive.{positive}
 use lib.Ieee.Scale.{finite}
 use Rattle.lists.specs.Tables.{tab, count}

@@ -1,8 +1,8 @@
 -- A frame that is encoded before the first cue is silence, and no damage, whatever its sample. Assumes nothing.
-use Rattle.lists.specs.Prelude.{◌≡◌, refl, sym, ap, ◌∙◌, subst, true, false, List, [], ◌∷◌, ◌++◌, reverse, ℕ, zero, suc}
-use Rattle.lists.specs.Prelude.{◌+◌, ◌<◌, not-suc-le-zero, le_of_suc-le-suc, add-zero, arith, length, get_or, take}
-use Rattle.lists.specs.Prelude.{replicate, length-replicate, get_or-replicate, get_or-take, length-take-le, ext_get_or, Float}
-use Rattle.lists.specs.Prelude.{nan}
+use Rattle.std.specs.Prelude.{◌≡◌, ◌∷◌, ◌++◌, ◌+◌, ◌<◌}
+use Rattle.lists.specs.Prelude.{refl, sym, ap, ◌∙◌, subst, true, false, List, [], reverse, ℕ, zero, suc}
+use Rattle.lists.specs.Prelude.{not-suc-le-zero, le_of_suc-le-suc, add-zero, arith, length, get_or, take, replicate}
+use Rattle.lists.specs.Prelude.{length-replicate, get_or-replicate, get_or-take, length-take-le, ext_get_or, Float, nan}
 use Rattle.refusals.specs.Refusals.{answered}
 use Rattle.formats.specs.Floats.{zero_float}
 use Rattle.lists.proofs.Lists.{reverse_replicate, replicate_at}

@@ -1,9 +1,9 @@
 -- The premises can be met: three drills worked out from the cues to the ears. Four samples at order 1, the first a NaN;
 -- two calls of `render` with a refused one between, and two calls of `process`, cut elsewhere, with a refused one
 -- between. By computing the definitions. Assumes nothing.
-use Rattle.lists.specs.Prelude.{◌≡◌, refl, sym, ap, ◌∙◌, false, List, [], ◌∷◌, flatten, ℕ, ◌*◌, suc-ne-zero, replicate}
-use Rattle.lists.specs.Prelude.{Float, nan, inf, lt, le, eq, of_int, add, sub, mul, div, neg, round, size, span, climb}
-use Rattle.lists.specs.Prelude.{units, odd}
+use Rattle.std.specs.Prelude.{◌≡◌, ◌∷◌, ◌*◌}
+use Rattle.lists.specs.Prelude.{refl, sym, ap, ◌∙◌, false, List, [], flatten, ℕ, suc-ne-zero, replicate, Float, nan}
+use Rattle.lists.specs.Prelude.{inf, lt, le, eq, of_int, add, sub, mul, div, neg, round, size, span, climb, units, odd}
 use lib.Ieee as ieee
 use Rattle.formats.specs.Floats.{zero_float, one_float, half_float}
 use Rattle.numbers.specs.Computed as Numbers
@@ -177,13 +177,15 @@ unheard_drilled = drilled [] one_float zero_float zero_float refl
 
 pub one_heard : drill_heard one ≡ (zero_float ∷ zero_float ∷ []) ∷ (one_float ∷ zero_float ∷ [])
     ∷ (half_float ∷ one_float ∷ []) ∷ (zero_float ∷ zero_float ∷ []) ∷ []
-unfolding mixed ear_of inverse_root_of root_of root_units whole_root root_in Numbers.rounded add mul div ieee.sum round size span
+unfolding mixed ear_of inverse_root_of root_of root_units whole_root root_in Numbers.rounded add mul div ieee.sum round
+    size span
     climb units odd of_int
 one_heard = run_heard four (fresh four) (plays one_float zero_float) (run one_float zero_float)
     ∙ ap (heardAfter four []) (fed_is one_float zero_float)
 
 pub unheard_heard : drill_heard unheard ≡ replicate 4 (zero_float ∷ zero_float ∷ [])
-unfolding mixed ear_of inverse_root_of root_of root_units whole_root root_in Numbers.rounded add mul div ieee.sum round size span
+unfolding mixed ear_of inverse_root_of root_of root_units whole_root root_in Numbers.rounded add mul div ieee.sum round
+    size span
     climb units odd of_int
 unheard_heard = run_heard four (fresh four) (plays zero_float zero_float) (run zero_float zero_float)
     ∙ ap (heardAfter four []) (fed_is zero_float zero_float)
@@ -191,7 +193,8 @@ unheard_heard = run_heard four (fresh four) (plays zero_float zero_float) (run z
 -- the infinite sample: NaN for as long as the filters are, and then 0.0
 infinite_heard : drill_heard infinite ≡ (zero_float ∷ zero_float ∷ []) ∷ (nan ∷ nan ∷ []) ∷ (nan ∷ nan ∷ [])
     ∷ (zero_float ∷ zero_float ∷ []) ∷ []
-unfolding mixed ear_of inverse_root_of root_of root_units whole_root root_in Numbers.rounded add mul div ieee.sum round size span
+unfolding mixed ear_of inverse_root_of root_of root_units whole_root root_in Numbers.rounded add mul div ieee.sum round
+    size span
     climb units odd of_int
 infinite_heard = run_heard four (fresh four) (plays (inf false) nan) (run (inf false) nan)
     ∙ ap (heardAfter four []) (fed_is (inf false) nan)

@@ -1,6 +1,7 @@
 -- Demand 3 on the frames after encoding, in the order of its words (`hrtf_runs`, specs/Demand.antt); it is shown in
 -- proofs/Demand.antt. Document 02, E1: "Demand 3 reads on the frames after encoding." Definitions only.
-use Rattle.lists.specs.Prelude.{ℕ, suc, ◌+◌, ◌<◌, ◌≡◌, Bool, true, false, List, [], length, get_or, Float, nan, inf}
+use Rattle.std.specs.Prelude.{◌+◌, ◌<◌, ◌≡◌}
+use Rattle.lists.specs.Prelude.{ℕ, suc, Bool, true, false, List, [], length, get_or, Float, nan, inf}
 use Rattle.formats.specs.Floats.{zero_float}
 use Rattle.channel.specs.Orders.{channels_of_order}
 use Rattle.channel.specs.declared.Layout.TheVariants.{Mono}

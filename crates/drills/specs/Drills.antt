@@ -1,7 +1,8 @@
 -- Document 02, E1: "Demand 3 reads on the frames after encoding." A drill is two lists of calls: `script::render`
 -- encodes samples into planes, one for each channel of the order, and `hrtf::process` plays such planes to the ears. A
 -- call of either kind may be refused; it then passes nothing on. Definitions only.
-use Rattle.lists.specs.Prelude.{ℕ, ◌≡◌, List, [], ◌∷◌, ◌++◌, Float}
+use Rattle.std.specs.Prelude.{◌≡◌, ◌∷◌, ◌++◌}
+use Rattle.lists.specs.Prelude.{ℕ, List, [], Float}
 use Rattle.refusals.specs.Refusals.{answered}
 use Rattle.channel.specs.Orders.{channels_of_order}
 use Rattle.cues.specs.declared.Cue.{Cue}

@@ -1,7 +1,8 @@
 -- Document 02, E1: "Demand 3 reads on the frames after encoding." There are drills: a bank file is read, speakers are
 -- set up from it for the order, the rings are reset, and planes are lent to the convolver as `render` left them. None
 -- of these calls is refused (`DrillPlays`, shown in proofs/Playing.antt). Definitions only.
-use Rattle.lists.specs.Prelude.{ℕ, ◌*◌, ◌≡◌, List, [], ◌∷◌, map, length, replicate, Float}
+use Rattle.std.specs.Prelude.{◌*◌, ◌≡◌, ◌∷◌}
+use Rattle.lists.specs.Prelude.{ℕ, List, [], map, length, replicate, Float}
 use Rattle.formats.specs.Floats.{zero_float}
 use Rattle.lists.specs.Pairwise.{Pairwise}
 use Rattle.bank_form.specs.Bank as Form
@@ -22,7 +23,16 @@ set_up b o = setup_of (shape_of b o) o.weights o.rows b.taps
 -- the call of `process` that is made of them, and is lent these planes and this list for the ears; and calls, one for
 -- each
 abbrev pub drill_call : Form.Bank → Arrangement → Planes → List Float → BlockCall
-drill_call b o p ears = call_with b o p.frames p.stride p.list ears
+drill_call b o p ears = record {
+  shape = shape_of b o;
+  frames = p.frames;
+  stride = p.stride;
+  inputs = p.list;
+  weights = o.weights;
+  rows = o.rows;
+  taps = b.taps;
+  ears = ears;
+}
 
 abbrev pub calls_of : Form.Bank → Arrangement → List Planes → List (List Float) → List BlockCall
 calls_of b o [] es = []

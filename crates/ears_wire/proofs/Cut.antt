@@ -2,10 +2,10 @@
 -- first part left over with the second behind it. So whoever takes whole records and keeps the rest takes the same
 -- ones, however the bytes come. One law for every size of a record, and for whatever it says. Assumes nothing.
 use Rattle.std.specs.Prelude.{◌≡◌, ◌++◌, ◌+◌, ◌*◌, ◌/◌, ◌<◌}
-use Rattle.lists.specs.Prelude.{sym, ap, ◌∙◌, List, [], append_assoc, append-nil, ℕ}
-use Rattle.lists.specs.Prelude.{add-zero, zero-add, add-mul, mul-add-div_right, mul-div_cancel, div-mul-le_self}
-use Rattle.lists.specs.Prelude.{lt-div-mul-add, div-eq_of_lt, arith, length, take, drop, length-append, length-drop}
-use Rattle.lists.specs.Prelude.{take-append-drop, take-append-le, drop-append-le, drop_at, drop-drop, length-take-le}
+use Rattle.lists.specs.Prelude.{sym, ap, ◌∙◌, List, [], append_assoc, append-nil, ℕ, add-zero, zero-add, add-mul}
+use Rattle.lists.specs.Prelude.{mul-add-div_right, mul-div_cancel, div-mul-le_self, lt-div-mul-add, div-eq_of_lt, arith}
+use Rattle.lists.specs.Prelude.{length, take, drop, length-append, length-drop, take-append-drop, take-append-le}
+use Rattle.lists.specs.Prelude.{drop-append-le, drop_at, drop-drop, length-take-le}
 use Rattle.lists.specs.Tables.{tab, chunk}
 use Rattle.lists.proofs.Tables.{tab_ext, tab_append, tab_moved, chunk_end}
 use Rattle.ears_wire.specs.Records.{whole_in_of, each_in, rest_in}

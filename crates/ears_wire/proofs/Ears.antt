@@ -1,7 +1,7 @@
 -- The bytes of frames: how many there are, one frame more, and what two stores of four bytes leave. Assumes nothing.
 use Rattle.std.specs.Prelude.{◌≡◌, ◌∷◌, ◌++◌, ◌+◌, ◌*◌, ◌≤◌}
-use Rattle.lists.specs.Prelude.{refl, sym, ap, ◌∙◌, List, [], flat_map, ℕ, zero, suc}
-use Rattle.lists.specs.Prelude.{zero-add, add-one, arith, length, length-append, Float, binary32, to_bits}
+use Rattle.lists.specs.Prelude.{refl, sym, ap, ◌∙◌, List, [], flat_map, ℕ, zero, suc, zero-add, add-one, arith, length}
+use Rattle.lists.specs.Prelude.{length-append, Float, binary32, to_bits}
 use Rattle.big_endian.specs.Bytes.{bytes_of}
 use Rattle.lists.specs.Placed.{placed}
 use Rattle.big_endian.specs.Fields.{with_float}

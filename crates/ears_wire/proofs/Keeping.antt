@@ -1,8 +1,7 @@
 -- A part of a list moved to its start, byte by byte: what is still to be moved is as it was. Assumes nothing.
 use Rattle.std.specs.Prelude.{◌≡◌, ◌∷◌, ◌++◌, ◌+◌, ◌-◌, ◌≤◌, ◌<◌}
-use Rattle.lists.specs.Prelude.{refl, sym, ap, ◌∙◌, List, [], ℕ, min, add-one}
-use Rattle.lists.specs.Prelude.{arith, length, get_or, set, take, drop, length-set, length-drop, take-suc, get_or-drop}
-use Rattle.lists.specs.Prelude.{get_or-append-add, length-take-le}
+use Rattle.lists.specs.Prelude.{refl, sym, ap, ◌∙◌, List, [], ℕ, min, add-one, arith, length, get_or, set, take, drop}
+use Rattle.lists.specs.Prelude.{length-set, length-drop, take-suc, get_or-drop, get_or-append-add, length-take-le}
 use Rattle.lists.specs.Placed.{placed}
 use Rattle.lists.proofs.Lists.{drop_take, take_min}
 use Rattle.lists.proofs.Placed.{placed_none, placed_start, store_on}

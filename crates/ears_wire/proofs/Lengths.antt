@@ -1,8 +1,8 @@
 -- How long a frame is, six samples; and how long a line: a number has at most twenty digits, so 59 bytes at the most.
 -- Assumes nothing.
 use Rattle.std.specs.Prelude.{◌≡◌, ◌∷◌, ◌++◌, ◌+◌, ◌/◌, ◌%◌, ◌≤◌, ◌<◌}
-use Rattle.lists.specs.Prelude.{ap, ◌∙◌, Bool, true, false, cond, List, [], ℕ, zero, suc}
-use Rattle.lists.specs.Prelude.{arith, ltb, length, get_or, length-append, Float}
+use Rattle.lists.specs.Prelude.{ap, ◌∙◌, Bool, true, false, cond, List, [], ℕ, zero, suc, arith, ltb, length, get_or}
+use Rattle.lists.specs.Prelude.{length-append, Float}
 use Rattle.lists.proofs.Tables.{length_tab, get_or_tab}
 use Rattle.big_endian.specs.Fields.{float_at}
 use Rattle.lists.specs.Tables.{chunk}

@@ -1,7 +1,7 @@
 -- Which answer is promised where the lists fit, and where they do not. Assumes nothing.
 use Rattle.std.specs.Prelude.{◌≡◌, ◌∷◌, ◌*◌, ◌/◌, ◌≤◌, ◌<◌}
-use Rattle.lists.specs.Prelude.{refl, sym, ap, ◌∙◌, Bool, true, false, List, [], ℕ, dec_lt}
-use Rattle.lists.specs.Prelude.{arith, lt-ltb, le-ltb, ltb, length, Float}
+use Rattle.lists.specs.Prelude.{refl, sym, ap, ◌∙◌, Bool, true, false, List, [], ℕ, dec_lt, arith, lt-ltb, le-ltb, ltb}
+use Rattle.lists.specs.Prelude.{length, Float}
 use Rattle.lists.proofs.Tests.{test_cases}
 use Rattle.refusals.specs.Refusals.{first_of, ◌when◌}
 use Rattle.lists.specs.Placed.{placed}

@@ -1,10 +1,9 @@
 -- Parts put one after another into a list, the line that stands at its start or not at all, and that the fewest digits
 -- are the decimal ones. Assumes nothing.
 use Rattle.std.specs.Prelude.{◌≡◌, ◌∷◌, ◌++◌, ◌+◌, ◌-◌, ◌/◌, ◌%◌, ◌^◌, ◌≤◌, ◌<◌}
-use Rattle.lists.specs.Prelude.{refl, sym, ap, ◌∙◌, List, [], append_assoc, ℕ, zero, suc}
-use Rattle.lists.specs.Prelude.{pow-suc, pow-le-pow_right, one-le-pow, mod-eq_of_lt}
-use Rattle.lists.specs.Prelude.{zero-add, dec_lt, arith, lt-ltb, le-ltb, length, take, drop, length-append}
-use Rattle.lists.specs.Prelude.{drop-drop}
+use Rattle.lists.specs.Prelude.{refl, sym, ap, ◌∙◌, List, [], append_assoc, ℕ, zero, suc, pow-suc, pow-le-pow_right}
+use Rattle.lists.specs.Prelude.{one-le-pow, mod-eq_of_lt, zero-add, dec_lt, arith, lt-ltb, le-ltb, length, take, drop}
+use Rattle.lists.specs.Prelude.{length-append, drop-drop}
 use Rattle.io.specs.Digits.{last_digits, hex_digit_ascii, IsDigitCount}
 use Rattle.lists.specs.Placed.{placed}
 use Rattle.lists.proofs.Placed.{placed_on}

@@ -1,8 +1,8 @@
 -- What the promises rule out: samples that are lost, whatever they are, where a list is too short; a count that starts
 -- again or stays early; a rest that is not moved; and lines of other bytes. Assumes nothing.
 use Rattle.std.specs.Prelude.{◌≡◌, ◌∷◌, ◌++◌, ◌*◌, ◌-◌, ◌^◌, ◌≤◌, ◌<◌}
-use Rattle.lists.specs.Prelude.{sym, ap, ◌∙◌, true, List, [], ℕ, arith, lit<}
-use Rattle.lists.specs.Prelude.{length, get_or, take, drop, get_or-append, Float}
+use Rattle.lists.specs.Prelude.{sym, ap, ◌∙◌, true, List, [], ℕ, arith, lit<, length, get_or, take, drop, get_or-append}
+use Rattle.lists.specs.Prelude.{Float}
 use Rattle.lists.specs.Placed.{placed}
 use Rattle.lists.proofs.Placed.{placed_start}
 use Rattle.lists.proofs.Tests.{test_cases}

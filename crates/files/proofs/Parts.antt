@@ -1,8 +1,7 @@
 -- What stands at the start of a list: a count of it that a caller can cut off, and what a read behind it keeps. Assumes
 -- nothing.
 use Rattle.std.specs.Prelude.{◌≡◌, ◌+◌, ◌≤◌}
-use Rattle.lists.specs.Prelude.{sym, ap, ◌∙◌, List, Bool, true, ℕ, min, max, arith, length, take}
-use Rattle.lists.specs.Prelude.{length-take-le}
+use Rattle.lists.specs.Prelude.{sym, ap, ◌∙◌, List, Bool, true, ℕ, min, max, arith, length, take, length-take-le}
 use Rattle.lists.proofs.Lists.{take_min}
 use Rattle.io.specs.Counts.{IsPrefixLen}
 use Rattle.files.specs.Promise.{ReadBehind}

@@ -1,7 +1,7 @@
 -- What is kept of a file, its first bytes and its size, is enough of it, and there is such a file. Assumes nothing.
 use Rattle.std.specs.Prelude.{◌≡◌, ◌++◌, ◌-◌}
-use Rattle.lists.specs.Prelude.{refl, sym, ◌∙◌, subst, inl, List, ℕ, min, arith, ℤ, Float, length}
-use Rattle.lists.specs.Prelude.{take, replicate, length-append, length-take, length-replicate, length-take-le, take_at}
+use Rattle.lists.specs.Prelude.{refl, sym, ◌∙◌, subst, inl, List, ℕ, min, arith, ℤ, Float, length, take, replicate}
+use Rattle.lists.specs.Prelude.{length-append, length-take, length-replicate, length-take-le, take_at}
 use Rattle.lists.proofs.Lists.{take_min}
 use Rattle.lists.proofs.ForAll.{forall_take, forall_append, forall_replicate}
 use Rattle.big_endian.specs.Bytes.{IsByte, AreBytes}

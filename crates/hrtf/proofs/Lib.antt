@@ -1,5 +1,5 @@
--- Laws that crates above cite: of what a call hands back. Then those of this crate's loops and of its walk by hand,
--- that no two answers meet one promise, and wrong answers.
+-- Laws that crates above cite: of what a call hands back. Then those of this crate's loops, that no two answers meet
+-- one promise, and wrong answers.
 pub mod Meets
 mod SpeakerParts
 mod Ears

@@ -181,4 +181,5 @@ module _ (c : BlockCall) (t : State) where
     playing_all h =
         ap (λ (k : ℕ). sounded c n now_stands k []) (sym (add-zero count))
         ∙ loop-all (onward c) frame c.frames first now_stands n p.goes h
-        ∙ ap (λ (k : ℕ). sounded c 0 first k (frames_in c)) (zero-add (unsettled_count_by_desk (setup c) t (frames_in c)))
+        ∙ ap (λ (k : ℕ). sounded c 0 first k (frames_in c))
+        (zero-add (unsettled_count_by_desk (setup c) t (frames_in c)))

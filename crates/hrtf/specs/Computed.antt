@@ -10,7 +10,8 @@ use Rattle.numbers.specs.Normalization.{inverse_root_of}
 use Rattle.hrtf_desk.specs.declared.Desk.{Desk}
 use Rattle.hrtf_history.specs.Signals.{damaged}
 use Rattle.hrtf_rings.specs.State.{State}
-use Rattle.hrtf_rings.specs.Computed.{stored, part_by, ring_ear, ears_by_rings, is_unsettled_by_desk, state_left, played_by_rings}
+use Rattle.hrtf_rings.specs.Computed.{stored, part_by, ring_ear, ears_by_rings, is_unsettled_by_desk, state_left}
+use Rattle.hrtf_rings.specs.Computed.{played_by_rings}
 use Rattle.hrtf_rings.specs.Computed.{unsettled_count_by_desk}
 use Rattle.hrtf_checks.specs.declared.ConvolverShape.{ConvolverShape}
 use Rattle.hrtf_checks.specs.Call.{BlockCall, setup_of, setup, frames_in}

@@ -13,7 +13,8 @@ use Rattle.hrtf_history.specs.Drill.{drill, samples}
 
 pub drill_8 : heard drill [] (samples one_float) ≡ (one_float ∷ zero_float ∷ []) ∷ (half_float ∷ one_float ∷ [])
     ∷ (zero_float ∷ zero_float ∷ []) ∷ []
-unfolding mixed ear_of inverse_root_of root_of root_units whole_root root_in rounded add mul div sum round size span climb units
+unfolding mixed ear_of inverse_root_of root_of root_units whole_root root_in rounded add mul div sum round size span
+    climb units
     odd of_int
 drill_8 = refl
 
@@ -23,7 +24,8 @@ drill_9 = refl
 
 pub drill_9_heard : heard drill [] (samples nan) ≡ (nan ∷ nan ∷ []) ∷ (nan ∷ nan ∷ []) ∷ (zero_float ∷ zero_float ∷ [])
     ∷ []
-unfolding mixed ear_of inverse_root_of root_of root_units whole_root root_in rounded add mul div sum round size span climb units
+unfolding mixed ear_of inverse_root_of root_of root_units whole_root root_in rounded add mul div sum round size span
+    climb units
     odd of_int
 drill_9_heard = refl
 

@@ -69,7 +69,8 @@ sounding : Float
 sounding = fin false 0x197BB9E0258965 (negsuc 51)
 
 times_the_inverse : ear_of 2 (λ s. cond (eqb s 0) sounding zero_float) ≡ fin false 0x2409F1 (negsuc 20)
-unfolding sounding ear_of inverse_root_of root_of root_units whole_root root_in rounded add mul div sum round size span climb
+unfolding sounding ear_of inverse_root_of root_of root_units whole_root root_in rounded add mul div sum round size
+    span climb
     units odd of_int
 times_the_inverse = refl
 
@@ -79,5 +80,6 @@ unfolding sounding root_of root_units whole_root root_in rounded div sum round s
 divided_by_the_root = refl
 
 divided_by_the_inverse : narrowed (div binary64 sounding (inverse_root_of 2)) ≡ fin false 0x9027C5 (negsuc 21)
-unfolding sounding inverse_root_of root_of root_units whole_root root_in rounded div sum round size span climb units odd of_int
+unfolding sounding inverse_root_of root_of root_units whole_root root_in rounded div sum round size span climb units
+    odd of_int
 divided_by_the_inverse = refl

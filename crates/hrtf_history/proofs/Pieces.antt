@@ -81,7 +81,8 @@ module _ (u : Setup) where
   length_each go past (f ∷ fs) = ap suc (length_each go (signals u f ∷ past) fs)
 
   -- that of frame n
-  pub each_at : (past fs : List (List Float)) (n : ℕ) (d : Bool) → n < length fs → get_or (unsettled_each u 0 past fs) n d
+  pub each_at : (past fs : List (List Float)) (n : ℕ) (d : Bool) → n < length fs
+      → get_or (unsettled_each u 0 past fs) n d
       ≡ any (take u.L (map has_nonfinite (after u past (take (suc n) fs))))
   each_at past [] n d h = absurd (not-suc-le-zero h)
   each_at past (f ∷ fs) zero d h = unsettled_by_lem (signals u f) past

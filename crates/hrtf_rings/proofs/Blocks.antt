@@ -161,6 +161,7 @@ module _ (u : Setup) where
   left_append t (f ∷ fs) gs = left_append (stepped u t f) fs gs
 
   pub counted_append : (t : State) (fs gs : List (List Float))
-      → unsettled_count_by_desk u t (fs ++ gs) ≡ unsettled_count_by_desk u t fs + unsettled_count_by_desk u (state_left u t fs) gs
+      → unsettled_count_by_desk u t (fs ++ gs) ≡ unsettled_count_by_desk u t fs
+      + unsettled_count_by_desk u (state_left u t fs) gs
   counted_append t [] gs = omega arith
   counted_append t (f ∷ fs) gs = omega (arith, counted_append (stepped u t f) fs gs)

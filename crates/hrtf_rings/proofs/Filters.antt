@@ -9,7 +9,8 @@ use Rattle.hrtf_history.proofs.Windows.{ear_of_ext}
 use Rattle.hrtf_history.proofs.Filters.{moved, moved_is, moved_filters}
 use Rattle.hrtf_rings.specs.Unrolled.{unrolled}
 use Rattle.hrtf_rings.specs.State.{State}
-use Rattle.hrtf_rings.specs.Computed.{part_of, ring_ear, stored, ears_by_rings, is_unsettled_by_desk, stepped, state_left}
+use Rattle.hrtf_rings.specs.Computed.{part_of, ring_ear, stored, ears_by_rings, is_unsettled_by_desk, stepped}
+use Rattle.hrtf_rings.specs.Computed.{state_left}
 use Rattle.hrtf_rings.specs.Computed.{played_by_rings, unsettled_by_desk}
 use Rattle.hrtf_rings.specs.Computed.{unsettled_count_by_desk}
 
@@ -49,5 +50,6 @@ module _ (u v : Setup) (a : SameFilters u v) where
     ap (λ (s : State). unsettled_by_desk u s fs) (stepped_alike t f) ∙ late_alike (stepped v t f) fs,
   )
 
-  pub counted_alike : (t : State) (fs : List (List Float)) → unsettled_count_by_desk u t fs ≡ unsettled_count_by_desk v t fs
+  pub counted_alike : (t : State) (fs : List (List Float)) → unsettled_count_by_desk u t fs
+      ≡ unsettled_count_by_desk v t fs
   counted_alike t fs = ap count (late_alike t fs)

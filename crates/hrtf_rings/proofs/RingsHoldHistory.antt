@@ -19,7 +19,8 @@ use Rattle.hrtf_history.proofs.Signals.{length_signals, signal_at}
 use Rattle.hrtf_rings.specs.Unrolled.{unrolled}
 use Rattle.hrtf_rings.specs.State.{State, StateFits}
 use Rattle.hrtf_rings.specs.Held.{to_go_after}
-use Rattle.hrtf_rings.specs.Computed.{stored, part_of, ring_ear, ears_by_rings, is_unsettled_by_desk, stepped, state_left}
+use Rattle.hrtf_rings.specs.Computed.{stored, part_of, ring_ear, ears_by_rings, is_unsettled_by_desk, stepped}
+use Rattle.hrtf_rings.specs.Computed.{state_left}
 use Rattle.hrtf_rings.proofs.Ring.{unrolled_set, unrolled_wrapped}
 use Rattle.hrtf_rings.proofs.ToGo.{to_go_any, any_take_cons}
 use Rattle.hrtf_rings.proofs.Held.{Holds}

@@ -27,7 +27,8 @@ to_go_any n go [] j k h e =
 to_go_any n go (true ∷ bs) j zero h e =
     le-ltb j (n - 1) (omega arith) ∙ sym (le-ltb (j + suc (length bs)) go (omega arith))
 to_go_any n go (true ∷ bs) j (suc k) h e = lt-ltb j (n - 1) (omega arith)
-to_go_any n go (false ∷ bs) j zero h e = ltb_pred j (to_go_after n go bs) ∙ to_go_any n go bs (suc j) zero h (omega arith)
+to_go_any n go (false ∷ bs) j zero h e =
+    ltb_pred j (to_go_after n go bs) ∙ to_go_any n go bs (suc j) zero h (omega arith)
     ∙ ap (λ (i : ℕ). ltb i go) (omega arith)
 to_go_any n go (false ∷ bs) j (suc k) h e =
     ltb_pred j (to_go_after n go bs) ∙ to_go_any n go bs (suc j) k h (omega arith)

@@ -1,7 +1,7 @@
 -- One call, accepted or refused, and calls one after another: what is sounded, counted and left is what the frames that
 -- were fed give, one by one. Assumes nothing.
-use Rattle.lists.specs.Prelude.{◌≡◌, refl, sym, ap, ◌∙◌, subst, List, [], ◌∷◌, ◌++◌, ℕ, zero, suc, ◌+◌, Bool, length}
-use Rattle.lists.specs.Prelude.{Float}
+use Rattle.std.specs.Prelude.{◌≡◌, ◌∷◌, ◌++◌, ◌+◌}
+use Rattle.lists.specs.Prelude.{refl, sym, ap, ◌∙◌, subst, List, [], ℕ, zero, suc, Bool, length, Float}
 use Rattle.lists.specs.Calls.{of_each_call}
 use Rattle.lists.specs.Tables.{count}
 use Rattle.lists.proofs.Tables.{length_tab}

@@ -1,13 +1,15 @@
 -- DEMAND 3. From a reset, however a run is cut into calls and whatever calls are refused between, what is heard is
 -- document 01's sums over the frames that were fed. Assumes nothing.
-use Rattle.lists.specs.Prelude.{◌≡◌, refl, sym, ap, ◌∙◌, false, List, [], map, reverse, ℕ, suc, ◌<◌, length, get_or, take}
-use Rattle.lists.specs.Prelude.{Float, arith}
-use Rattle.lists.specs.Tables.{any}
+use Rattle.std.specs.Prelude.{◌≡◌, ◌<◌, ◌∷◌, ◌+◌}
+use Rattle.lists.specs.Prelude.{refl, sym, ap, ◌∙◌, false, List, [], map, reverse, ℕ, suc, length, get_or, take, Float}
+use Rattle.lists.specs.Prelude.{arith}
+use Rattle.lists.specs.Calls.{of_each_call}
+use Rattle.lists.specs.Tables.{any, tab, count}
 use Rattle.lists.proofs.Tables.{tab_is}
 use Rattle.checks.specs.Finite.{has_nonfinite}
 use Rattle.hrtf_desk.specs.declared.Desk.{Desk}
 use Rattle.hrtf_history.specs.Setup.{Setup}
-use Rattle.hrtf_history.specs.History.{ear_samples, heard, unsettled_each, upto}
+use Rattle.hrtf_history.specs.History.{ear_samples, heard, unsettled_each, upto, flagged_counts}
 use Rattle.hrtf_history.proofs.Silence.{ears_agree, damaged_last_lem, damage_agrees, after_is}
 use Rattle.hrtf_history.proofs.Pieces.{length_heard, heard_at, length_each, each_at, Told}
 use Rattle.hrtf_rings.specs.State.{State}
@@ -17,7 +19,7 @@ use Rattle.hrtf_rings.proofs.Blocks.{played_heard}
 use Rattle.hrtf_checks.specs.Call.{BlockCall}
 use Rattle.hrtf.specs.Reset.{ResetOutcome, ResetPromise}
 use Rattle.hrtf.proofs.Meets.{reset_number}
-use Rattle.hrtf_runs.specs.Runs.{CallsAlike, fed_all, sounded_all, unsettled_counts}
+use Rattle.hrtf_runs.specs.Runs.{CallsAlike, next, fed, fed_all, sounded_all, unsettled_counts}
 use Rattle.hrtf_runs.specs.Demand.{Run, FramesAgree, damaged_among, damaged_counts, SameRun, Demand3}
 use Rattle.hrtf_runs.proofs.Calls.{all_sounded, all_left, all_counted, all_flagged}
 
@@ -32,7 +34,8 @@ pub run_starts : (u : Setup) (t : State) (cs : List BlockCall) → Run u t cs �
 run_starts u t cs r = reset_starts u r.desk r.rings _ r.reset refl
 
 -- the whole run sounds as the frames that were fed, however it was cut
-pub run_heard : (u : Setup) (t : State) (cs : List BlockCall) → Run u t cs → sounded_all t cs ≡ heard u [] (fed_all t cs)
+pub run_heard : (u : Setup) (t : State) (cs : List BlockCall) → Run u t cs → sounded_all t cs
+    ≡ heard u [] (fed_all t cs)
 run_heard u t cs r = all_sounded u t cs r.alike ∙ played_heard u [] t (run_starts u t cs r) (fed_all t cs)
 
 run_all : (u : Setup) (t : State) (cs : List BlockCall) → Run u t cs → length (sounded_all t cs) ≡ length (fed_all t cs)
@@ -73,10 +76,20 @@ flags_told u finite fs =
     ∙ ap (λ (past : List (List Float)). any (take u.L (map has_nonfinite past))) (after_is u (take (suc n) fs) [])
     ∙ damaged_last_lem u finite (reverse (take (suc n) fs)))))
 
+-- the counts by that rule are those of the calls, one after another
+counts_are : (u : Setup) (fs : List (List Float)) (n : ℕ) (t : State) (cs : List BlockCall)
+    → flagged_counts (damaged_among u fs) n (of_each_call next (λ c t. length (fed c t)) t cs)
+    ≡ damaged_counts u fs n t cs
+counts_are u fs n t [] = refl
+counts_are u fs n t (c ∷ cs) =
+    ap (λ (l : List ℕ). count (tab n (length (fed c t)) (damaged_among u fs)) ∷ l)
+    (counts_are u fs (n + length (fed c t)) (next c t) cs)
+
 run_counts : (u : Setup) (t : State) (cs : List BlockCall) → Run u t cs
     → unsettled_counts t cs ≡ damaged_counts u (fed_all t cs) 0 t cs
 run_counts u t cs r = all_flagged u (damaged_among u (fed_all t cs)) 0 [] t cs (run_starts u t cs r) r.alike
     (flags_told u r.finite (fed_all t cs))
+    ∙ counts_are u (fed_all t cs) 0 t cs
 
 -- (d): cutting a run into blocks anywhere changes nothing. It needs no reset
 run_cut : (u : Setup) (t : State) (cs ds : List BlockCall) → CallsAlike u t cs → CallsAlike u t ds

@@ -1,9 +1,10 @@
 -- A bank that keeps the form is never refused: `set_up_accepted` of one call, `never_refused` of every call of a run,
 -- and `never_refused_from` from the bank file on; and before the first call the set-ups and the reset accept it too.
 -- Assumes nothing.
-use Rattle.lists.specs.Prelude.{◌≡◌, refl, sym, ap, ◌∙◌, subst, true, false, not, and-eq-true_iff, List, [], ◌∷◌, ℕ}
-use Rattle.lists.specs.Prelude.{◌*◌, ◌≤◌, ◌<◌, zero-add, arith, lt-leb, leb, ℤ, length, get_or, replicate}
-use Rattle.lists.specs.Prelude.{length-replicate, Float, binary32, fits}
+use Rattle.std.specs.Prelude.{◌≡◌, ◌∷◌, ◌*◌, ◌≤◌, ◌<◌}
+use Rattle.lists.specs.Prelude.{refl, sym, ap, ◌∙◌, subst, true, false, not, and-eq-true_iff, List, [], ℕ, zero-add}
+use Rattle.lists.specs.Prelude.{arith, lt-leb, leb, ℤ, length, get_or, replicate, length-replicate, Float, binary32}
+use Rattle.lists.specs.Prelude.{fits}
 use lib.Ieee.Scale.{finite}
 use Rattle.refusals.specs.Refusals.{outside}
 use Rattle.formats.specs.Floats.{zero_float}

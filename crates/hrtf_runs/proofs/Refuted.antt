@@ -2,8 +2,9 @@
 -- every call; and, on drill table 8 and 9 played in one block into any lent planes, refusing always, silence, filtering
 -- the first frame and copying on, the left ear's sum for both, stepping the desk before the ears are read, passing the
 -- input through, an unsettled count of one's own, and damage judged on the inputs alone. Assumes nothing.
-use Rattle.lists.specs.Prelude.{◌≡◌, refl, sym, ap, ◌∙◌, Bool, true, false, true≢false, List, [], ◌∷◌, ℕ, suc, ◌<◌}
-use Rattle.lists.specs.Prelude.{suc-ne-zero, arith, get_or, take, replicate, pos, negsuc, Float, nan, inf, fin}
+use Rattle.std.specs.Prelude.{◌≡◌, ◌∷◌, ◌<◌}
+use Rattle.lists.specs.Prelude.{refl, sym, ap, ◌∙◌, Bool, true, false, true≢false, List, [], ℕ, suc, suc-ne-zero, arith}
+use Rattle.lists.specs.Prelude.{get_or, take, replicate, pos, negsuc, Float, nan, inf, fin}
 use lib.Ieee.Positive.{positive}
 use Rattle.formats.specs.Floats.{zero_float, one_float, half_float}
 use Rattle.planes.specs.Planes.{sample_at, with_frames}

@@ -1,7 +1,8 @@
 -- Calls in states that no run from a reset leads to, which the promise of `process` answers like any other. By
 -- computing the definitions. Assumes nothing.
-use Rattle.lists.specs.Prelude.{◌≡◌, refl, true, false, List, [], ◌∷◌, flatten, pos, negsuc, replicate, Float, fin, add}
-use Rattle.lists.specs.Prelude.{mul, div, round, size, span, climb, units, odd, of_int}
+use Rattle.std.specs.Prelude.{◌≡◌, ◌∷◌}
+use Rattle.lists.specs.Prelude.{refl, true, false, List, [], flatten, pos, negsuc, replicate, Float, fin, add, mul, div}
+use Rattle.lists.specs.Prelude.{round, size, span, climb, units, odd, of_int}
 use lib.Ieee as ieee
 use Rattle.formats.specs.Floats.{zero_float, one_float, half_float}
 use Rattle.numbers.specs.Computed.{rounded, root_of, root_units, whole_root, root_in}
@@ -33,7 +34,8 @@ one rings ears =
 other_weight : outcome (block 1 (one_float ∷ []) zero_float)
     (record { rings = half_float ∷ zero_float ∷ []; desk = record { position = 1; to_go = 0 } })
     ≡ one (half_float ∷ zero_float ∷ []) (quarter ∷ half_float ∷ [])
-unfolding refusal_of outcome flatten mixed ear_of inverse_root_of root_of root_units whole_root root_in rounded add mul div
+unfolding refusal_of outcome flatten mixed ear_of inverse_root_of root_of root_units whole_root root_in rounded add mul
+    div
     ieee.sum round size span climb units odd of_int
 other_weight = refl
 
@@ -41,7 +43,8 @@ other_weight = refl
 minus_zeros : outcome (block 1 (zero_float ∷ []) one_float)
     (record { rings = minus_zero ∷ minus_zero ∷ []; desk = record { position = 1; to_go = 0 } })
     ≡ one (minus_zero ∷ zero_float ∷ []) (zero_float ∷ zero_float ∷ [])
-unfolding refusal_of outcome flatten mixed ear_of inverse_root_of root_of root_units whole_root root_in rounded add mul div
+unfolding refusal_of outcome flatten mixed ear_of inverse_root_of root_of root_units whole_root root_in rounded add mul
+    div
     ieee.sum round size span climb units odd of_int
 minus_zeros = refl
 
@@ -65,6 +68,7 @@ one_to_go : outcome three (record { rings = replicate 3 zero_float; desk = recor
       rings = replicate 3 zero_float;
       ears = replicate 4 zero_float;
     }
-unfolding refusal_of outcome flatten mixed ear_of inverse_root_of root_of root_units whole_root root_in rounded add mul div
+unfolding refusal_of outcome flatten mixed ear_of inverse_root_of root_of root_units whole_root root_in rounded add mul
+    div
     ieee.sum round size span climb units odd of_int
 one_to_go = refl

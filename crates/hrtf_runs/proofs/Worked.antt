@@ -1,7 +1,8 @@
 -- (e) The premises can be met: drill table 8 and 9 played from a reset in four calls, the second refused and the third
 -- of no frames. Assumes nothing.
-use Rattle.lists.specs.Prelude.{◌≡◌, refl, ap, ◌∙◌, List, [], ◌∷◌, flatten, ℕ, ◌*◌, suc-ne-zero, arith, replicate}
-use Rattle.lists.specs.Prelude.{Float, nan, add, mul, round, size, span, climb, units, odd}
+use Rattle.std.specs.Prelude.{◌≡◌, ◌∷◌, ◌*◌}
+use Rattle.lists.specs.Prelude.{refl, ap, ◌∙◌, List, [], flatten, ℕ, suc-ne-zero, arith, replicate, Float, nan, add}
+use Rattle.lists.specs.Prelude.{mul, round, size, span, climb, units, odd}
 use lib.Ieee as ieee
 use Rattle.formats.specs.Floats.{zero_float, one_float, half_float}
 use Rattle.numbers.specs.Computed.{rounded}

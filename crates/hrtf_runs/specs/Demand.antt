@@ -1,10 +1,12 @@
 -- Demand 3, in the order of its words; it is shown in proofs/Demand.antt. Definitions only.
-use Rattle.lists.specs.Prelude.{ℕ, suc, ◌<◌, ◌≡◌, Bool, false, List, [], reverse, length, get_or, take, Float}
-use Rattle.lists.specs.Calls.{of_each_call}
+use Rattle.std.specs.Prelude.{◌+◌, ◌<◌, ◌≡◌, ◌∷◌}
+use Rattle.lists.specs.Prelude.{ℕ, suc, Bool, false, List, [], reverse, length, get_or, take, Float}
+use Rattle.lists.specs.Tables.{tab, any, count}
 use Rattle.checks.specs.Finite.{has_nonfinite}
 use Rattle.hrtf_desk.specs.declared.Desk.{Desk}
 use Rattle.hrtf_history.specs.Setup.{Setup}
-use Rattle.hrtf_history.specs.History.{ear_samples, upto, frame_back, damaged_last, flagged_counts}
+use Rattle.hrtf_history.specs.Signals.{damaged, silent_frame}
+use Rattle.hrtf_history.specs.History.{ear_samples, upto}
 use Rattle.hrtf_rings.specs.State.{State}
 use Rattle.hrtf_checks.specs.Call.{BlockCall}
 use Rattle.hrtf.specs.Reset.{ResetPromise}
@@ -23,7 +25,7 @@ pub record Run (u : Setup) (t : State) (cs : List BlockCall) : Type 0 where
 
 -- the frame k frames before frame n: "silence before the first"
 abbrev pub frame_ago : Setup → List (List Float) → ℕ → ℕ → List Float
-frame_ago u fs n k = frame_back u (reverse (take (suc n) fs)) k
+frame_ago u fs n k = get_or (reverse (take (suc n) fs)) k (silent_frame u)
 
 -- frame n of one run and frame m of another, and the L-1 frames before each, agree
 abbrev pub FramesAgree : Setup → State → List BlockCall → ℕ → State → List BlockCall → ℕ → Type 0
@@ -31,12 +33,14 @@ FramesAgree u t cs n s ds m = (k : ℕ) → k < u.L → frame_ago u (fed_all t c
 
 -- "a damaged frame among those L", frame n and the L-1 frames before it
 abbrev pub damaged_among : Setup → List (List Float) → ℕ → Bool
-damaged_among u fs n = damaged_last u (reverse (take (suc n) fs))
+damaged_among u fs n = any (tab 0 u.L (λ k. damaged u (frame_ago u fs n k)))
 
 -- of each call the number of its frames that have one: fs are the frames of the whole run, n of which were fed before
 -- the call
 abbrev pub damaged_counts : Setup → List (List Float) → ℕ → State → List BlockCall → List ℕ
-damaged_counts u fs n t cs = flagged_counts (damaged_among u fs) n (of_each_call next (λ c t. length (fed c t)) t cs)
+damaged_counts u fs n t [] = []
+damaged_counts u fs n t (c ∷ cs) =
+    count (tab n (length (fed c t)) (damaged_among u fs)) ∷ damaged_counts u fs (n + length (fed c t)) (next c t) cs
 
 -- two runs from the same rings and desk sound the same, count the same in all, and leave the same
 pub record SameRun (t : State) (cs ds : List BlockCall) : Type 0 where
@@ -46,7 +50,8 @@ pub record SameRun (t : State) (cs ds : List BlockCall) : Type 0 where
 
 pub record Demand3 : Type 0 where
   -- every frame that is fed is played
-  pub all : (u : Setup) (t : State) (cs : List BlockCall) → Run u t cs → length (sounded_all t cs) ≡ length (fed_all t cs)
+  pub all : (u : Setup) (t : State) (cs : List BlockCall) → Run u t cs → length (sounded_all t cs)
+      ≡ length (fed_all t cs)
   -- (a) "both ear samples at n are document 01's sums"
   pub sums : (u : Setup) (t : State) (cs : List BlockCall) → Run u t cs → (n : ℕ) → n < length (fed_all t cs)
       → get_or (sounded_all t cs) n [] ≡ ear_samples u (upto u (fed_all t cs) n)

@@ -1,7 +1,8 @@
 -- A bank file is read, speakers are set up from it, rings are reset, and blocks are played: where the file keeps the
 -- form, none of these is refused, whatever is heard (`NeverRefused`, shown in proofs/NeverRefused.antt). Definitions
 -- only.
-use Rattle.lists.specs.Prelude.{ℕ, ◌*◌, ◌≤◌, ◌<◌, ◌≡◌, false, List, [], ◌∷◌, length, ℤ, Float}
+use Rattle.std.specs.Prelude.{◌*◌, ◌≤◌, ◌<◌, ◌≡◌, ◌∷◌}
+use Rattle.lists.specs.Prelude.{ℕ, false, List, [], length, ℤ, Float}
 use Rattle.bank_form.specs.Bank as Form
 use Rattle.bank_form.specs.File.{IsFile}
 use Rattle.bank.specs.Reading.{ReadOutcome, ReadPromise, bank_found}
@@ -35,7 +36,12 @@ call_with b o frames stride inputs ears = record {
 
 -- such a call, its planes being as long as its frames need
 pub record Fitted (b : Form.Bank) (o : Arrangement) (c : BlockCall) : Type 0 where
-  pub shape : c.shape ≡ shape_of b o
+  pub shape : c.shape ≡ record {
+    channels = o.answer.channels;
+    speakers = o.answer.speakers;
+    rows = Form.rows b;
+    length = b.length;
+  }
   pub weights : c.weights ≡ o.weights
   pub rows : c.rows ≡ o.rows
   pub taps : c.taps ≡ b.taps

@@ -1,6 +1,7 @@
 -- A run: calls of `process` one after another, the rings and the desk passed on untouched. A call may be refused; it
 -- then feeds nothing and leaves all as it was. Definitions only.
-use Rattle.lists.specs.Prelude.{ℕ, ◌+◌, ◌≡◌, List, [], ◌∷◌, Float}
+use Rattle.std.specs.Prelude.{◌+◌, ◌≡◌, ◌∷◌}
+use Rattle.lists.specs.Prelude.{ℕ, List, [], Float}
 use Rattle.refusals.specs.Refusals.{answered}
 use Rattle.lists.specs.Calls.{last_state, of_each_call, of_all_calls, HoldsOfEachCall}
 use Rattle.planes.specs.Planes.{frames_of}

@@ -1,9 +1,10 @@
 -- What an accepted set-up leaves fits the convolver: speakers and channels as many as it plays, finite weights, and for
 -- each speaker a row of the bank, which at one elevation is document 01's. And which set-ups are accepted. Assumes
 -- nothing.
-use Rattle.lists.specs.Prelude.{◌≡◌, refl, sym, ap, ◌∙◌, subst, Bool, true, false, cond, List, ◌∷◌, ℕ, zero, suc, ◌+◌}
-use Rattle.lists.specs.Prelude.{◌*◌, ◌%◌, ◌≤◌, ◌<◌, zero-add, mod-lt, arith, not-false, eqb, lit<, lit≤, ℤ, pos, length}
-use Rattle.lists.specs.Prelude.{get_or, drop, get_or-append, sets, sets-eq, Float, fin}
+use Rattle.std.specs.Prelude.{◌≡◌, ◌∷◌, ◌+◌, ◌*◌, ◌%◌, ◌≤◌, ◌<◌}
+use Rattle.lists.specs.Prelude.{refl, sym, ap, ◌∙◌, subst, Bool, true, false, cond, List, ℕ, zero, suc, zero-add}
+use Rattle.lists.specs.Prelude.{mod-lt, arith, not-false, eqb, lit<, lit≤, ℤ, pos, length, get_or, drop, get_or-append}
+use Rattle.lists.specs.Prelude.{sets, sets-eq, Float, fin}
 use lib.Ieee.Scale.{finite}
 use Rattle.refusals.specs.Refusals.{outside}
 use Rattle.refusals.proofs.Chains.{off_accepts}

@@ -1,7 +1,8 @@
 -- From the tests and the filled lists to what the set-ups promise. Assumes nothing.
-use Rattle.lists.specs.Prelude.{◌≡◌, refl, sym, ap, ◌∙◌, subst, true, false, not, cond, List, ℕ, suc, ◌+◌, ◌*◌, ◌/◌}
-use Rattle.lists.specs.Prelude.{◌%◌, ◌-◌, ◌≤◌, ◌<◌, zero-add, add-zero, mul-add-mod_self_right, mul-add-div_right}
-use Rattle.lists.specs.Prelude.{mod-eq_of_lt, div-eq_of_lt, arith, not-false, ℤ, length, get_or, Float, nan}
+use Rattle.std.specs.Prelude.{◌≡◌, ◌+◌, ◌*◌, ◌/◌, ◌%◌, ◌-◌, ◌≤◌, ◌<◌}
+use Rattle.lists.specs.Prelude.{refl, sym, ap, ◌∙◌, subst, true, false, not, cond, List, ℕ, suc, zero-add, add-zero}
+use Rattle.lists.specs.Prelude.{mul-add-mod_self_right, mul-add-div_right, mod-eq_of_lt, div-eq_of_lt, arith, not-false}
+use Rattle.lists.specs.Prelude.{ℤ, length, get_or, Float, nan}
 use Rattle.refusals.specs.Refusals.{Check, first_of, outside}
 use Rattle.refusals.proofs.First.{passed, answered_accepted}
 use Rattle.lists.proofs.Tests.{cond_true, cond_false}
@@ -181,7 +182,8 @@ module _ (l : Layout) (h : not (surround l) ≡ false) (n : ℕ) (counts : n ≡
       (omega (arith, e, f.1), omega (arith, e, f.0), omega (arith, e, f.1))
 
 module _ (l : Layout) (azimuths elevations : List ℤ) (rows : ℕ) (weights : List Float) (given : List ℕ) where
-  pub layout_refused_lem : (a : Arranged) → not (surround l) ≡ true → a ≡ record { refusal = 2; speakers = 0; channels = 0 }
+  pub layout_refused_lem : (a : Arranged) → not (surround l) ≡ true → a
+      ≡ record { refusal = 2; speakers = 0; channels = 0 }
       → NewSurroundPromise l azimuths elevations rows weights given
       (record { answer = a; weights = weights; rows = given })
   layout_refused_lem a h ea = not_offered (of_layout l) azimuths elevations rows weights given 1 refl a h ea

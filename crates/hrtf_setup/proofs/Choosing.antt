@@ -1,6 +1,7 @@
 -- What the loop of `choose_rows` keeps: the rows of the speakers that are left, put in their places, give the list that
 -- is promised. Assumes nothing.
-use Rattle.lists.specs.Prelude.{◌≡◌, refl, List, ℕ, ◌+◌, ◌≤◌, ◌<◌, ℤ, set, sets}
+use Rattle.std.specs.Prelude.{◌≡◌, ◌+◌, ◌≤◌, ◌<◌}
+use Rattle.lists.specs.Prelude.{refl, List, ℕ, ℤ, set, sets}
 use Rattle.lists.proofs.LoopOverTable.{LoopOverTable, loop-none, loop-more, loop-all}
 use Rattle.hrtf_setup.specs.declared.Speakers.{Speakers}
 use Rattle.hrtf_setup.specs.Speakers.{row_at, rows_of}

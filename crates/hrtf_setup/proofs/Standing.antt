@@ -1,7 +1,7 @@
 -- Where speakers stand in tenths: from -1800 to 1800, by one test over each table of angles, so that row choice accepts
 -- them and an i16 holds them. Assumes nothing.
-use Rattle.lists.specs.Prelude.{◌≡◌, sym, ap, ◌∙◌, subst, true, ℕ, ◌+◌, ◌*◌, arith, le-leb, T, leb→le, ℤ, pos, negsuc}
-use Rattle.lists.specs.Prelude.{◌*ℤ◌, neg_ℤ, get_or}
+use Rattle.std.specs.Prelude.{◌≡◌, ◌+◌, ◌*◌, ◌*ℤ◌}
+use Rattle.lists.specs.Prelude.{sym, ap, ◌∙◌, subst, true, ℕ, arith, le-leb, T, leb→le, ℤ, pos, negsuc, neg_ℤ, get_or}
 use mir.Syntax.{w16, w32}
 use mir.Val.{SFits, to_z, of_z}
 use mir.Facts.{sfits_widen, to_z-of_z}
@@ -30,7 +30,8 @@ fits_16 (Virtual order) s = tenths_fit_16 (get_or positions s (pos 0)) (position
 
 module _ (k : Speakers) (s : ℕ) (z : ℤ) (e : z ≡ tenths_at k s) where
   held : to_z w32 (of_z w32 z) ≡ tenths_at k s
-  held = ap (λ (y : ℤ). to_z w32 (of_z w32 y)) e ∙ to_z-of_z {w = w32} (sfits_widen {w = w16} {w' = w32} tt (fits_16 k s))
+  held = ap (λ (y : ℤ). to_z w32 (of_z w32 y)) e
+      ∙ to_z-of_z {w = w32} (sfits_widen {w = w16} {w' = w32} tt (fits_16 k s))
 
   pub cast_fits : SFits w16 (to_z w32 (of_z w32 z))
   cast_fits = subst (SFits w16) (sym held) (fits_16 k s)

@@ -1,8 +1,9 @@
 -- The promises can be met, and what they say of a small bank: rows at 30 and 0 degrees, 5.1. The LFE, which points
 -- nowhere, takes the row for 0 degrees. Where a row stands above the speakers, the level one is taken. Answers that
 -- refuse always, that leave the elevations out of account, or that accept seven of them are refuted. Assumes nothing.
-use Rattle.lists.specs.Prelude.{◌≡◌, refl, sym, ap, ◌∙◌, true, true≢false, List, [], ◌∷◌, ℕ, suc, ◌*◌, suc-ne-zero}
-use Rattle.lists.specs.Prelude.{arith, ℤ, pos, length, get_or, replicate, Float, nan}
+use Rattle.std.specs.Prelude.{◌≡◌, ◌∷◌, ◌*◌}
+use Rattle.lists.specs.Prelude.{refl, sym, ap, ◌∙◌, true, true≢false, List, [], ℕ, suc, suc-ne-zero, arith, ℤ, pos}
+use Rattle.lists.specs.Prelude.{length, get_or, replicate, Float, nan}
 use Rattle.refusals.proofs.Chains.{none_holds}
 use Rattle.lists.specs.Tables.{tab}
 use Rattle.channel.specs.declared.Layout.{Layout}
@@ -79,7 +80,8 @@ refuses_order_lem given o p n e = suc-ne-zero n (sym e ∙ ap (λ (q : Arrangeme
 ignores_elevations : (o : Arrangement) → NewSurroundPromise Surround51 bank raised 2 (replicate 36 nan) (replicate 8 0)
     o
     → o.rows ≡ rows_of (Of Surround51) 6 bank flat 2 (replicate 8 0) → ⊥
-unfolding refusal_of bank flat raised arrangement choice_of choice_refusal in_tenths is_elevation nearest_from nearer key
+unfolding refusal_of bank flat raised arrangement choice_of choice_refusal in_tenths is_elevation nearest_from nearer
+    key
     elevation_away angle_apart
 ignores_elevations o p e = let z : ◌≡◌ {A = ℕ} 0 1 = ap (λ (l : List ℕ). get_or l 0 0)
     (sym e ∙ ap (λ (q : Arrangement). q.rows) p.bits) in omega arith

@@ -1,6 +1,7 @@
 -- Everything that a set-up hands back, by its refusal: first what the operation offers, then 2 (bank rows not 1..8) and
 -- 5 (a list of azimuths or of elevations that is not of 8, weights other than speakers x channels). Definitions only.
-use Rattle.lists.specs.Prelude.{ℕ, ◌*◌, not, List, [], ◌∷◌, eqb, ℤ, length, Float}
+use Rattle.std.specs.Prelude.{◌*◌, ◌∷◌}
+use Rattle.lists.specs.Prelude.{ℕ, not, List, [], eqb, ℤ, length, Float}
 use Rattle.refusals.specs.Refusals.{Check, first_of, ◌when◌, answered, outside}
 use Rattle.lists.specs.Tables.{tab}
 use Rattle.hrtf_setup.specs.declared.Arranged.{Arranged}

@@ -1,5 +1,6 @@
 -- What the two set-ups promise. Definitions only.
-use Rattle.lists.specs.Prelude.{ℕ, ◌+◌, ◌*◌, ◌<◌, ◌≡◌, not, List, ℤ, get_or, Float, nan}
+use Rattle.std.specs.Prelude.{◌+◌, ◌*◌, ◌<◌, ◌≡◌}
+use Rattle.lists.specs.Prelude.{ℕ, not, List, ℤ, get_or, Float, nan}
 use Rattle.refusals.specs.Refusals.{◌when◌}
 use Rattle.fractions.specs.Fraction.{number, EachWithin}
 use Rattle.channel.specs.declared.Layout.{Layout}
@@ -29,12 +30,24 @@ pub record ArrangePromise (w : Wanted) (azimuths elevations : List ℤ) (rows : 
 
 -- 2: "the layout isn't one the operation offers"; a speaker for each channel
 abbrev pub of_layout : Layout → Wanted
-of_layout l = record { check = 2 when not (surround l); whose = Of l; speakers = channels_of l; channels = channels_of l }
+of_layout l = record {
+  check = 2 when not (surround l);
+  whose = Of l;
+  speakers = channels_of l;
+  channels =
+      channels_of l;
+}
 
 -- 1: "ambisonic order is not 1, 2 or 3"; eight speakers, and the order's channels
 abbrev pub of_order : ℕ → Wanted
 of_order order =
-    record { check = 1 when refuses_order order; whose = Virtual order; speakers = 8; channels = channels_of_order order }
+    record {
+      check = 1 when refuses_order order;
+      whose = Virtual order;
+      speakers = 8;
+      channels =
+          channels_of_order order;
+    }
 
 abbrev pub NewSurroundPromise : Layout → List ℤ → List ℤ → ℕ → List Float → List ℕ → Arrangement → Type 0
 NewSurroundPromise l azimuths elevations rows weights given o = ArrangePromise (of_layout l) azimuths elevations rows

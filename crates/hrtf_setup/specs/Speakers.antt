@@ -1,7 +1,8 @@
 -- Document 01, 'Sums': "A surround weight is 1.0 at its own channel and 0.0 elsewhere", "LFE uses the 0 degree
 -- filters"; the virtual speakers of 003 stand at eight positions, and their weights are the weighted coefficients
 -- there. Where the speakers stand, the bank row of each, and its weights. Definitions only.
-use Rattle.lists.specs.Prelude.{ℕ, ◌/◌, ◌%◌, cond, List, eqb, ℤ, pos, get_or, sets, Float, nan}
+use Rattle.std.specs.Prelude.{◌/◌, ◌%◌}
+use Rattle.lists.specs.Prelude.{ℕ, cond, List, eqb, ℤ, pos, get_or, sets, Float, nan}
 use Rattle.formats.specs.Floats.{zero_float, one_float}
 use Rattle.lists.specs.Tables.{tab}
 use Rattle.channel.specs.Layouts.{tenths_of, position_tenths}

@@ -61,7 +61,8 @@ weights_opposite n =
     map-map (λ (x : Float). mul binary64 x (inverse_root_of 2)) (λ (z : ℤ). literal z 100) (mirrored neg_ℤ zs)
     ∙ map_negated neg_ℤ neg weight is_not0 weight_opposite lateral 0 zs
     (one_of_three (λ (zs : List ℤ). T (every is_not0 zs)) tt tt tt n)
-    ∙ ap (mirrored neg) (sym (map-map (λ (x : Float). mul binary64 x (inverse_root_of 2)) (λ (z : ℤ). literal z 100) zs))
+    ∙ ap (mirrored neg)
+    (sym (map-map (λ (x : Float). mul binary64 x (inverse_root_of 2)) (λ (z : ℤ). literal z 100) zs))
 
 -- each has a weight for each channel
 length_weights : (e : Ear) (n : ℕ) → refuses_order n ≡ false → length (weights n e) ≡ channels_of_order n
@@ -95,7 +96,8 @@ module _ (n : ℕ) (order : refuses_order n ≡ false) where
   right_is = ear_row_lem right ∙ weights_opposite n ∙ ap (mirrored neg) (sym (ear_row_lem left))
 
   -- the mirrored frame at the left ear, and so, a frame being its mirrored one mirrored, at the right ear
-  at_left : (frame : List Float) → ear_signal n (binaural_rows n) left (mirrored neg frame) ≡ ear_signal n (binaural_rows n)
+  at_left : (frame : List Float) → ear_signal n (binaural_rows n) left (mirrored neg frame)
+      ≡ ear_signal n (binaural_rows n)
       right frame
   at_left frame = sym (ap (λ (w : List Float). mixed w frame) right_is
       ∙ mixed_mirrored (ear_row n (binaural_rows n) left) frame)

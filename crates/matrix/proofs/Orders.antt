@@ -14,5 +14,6 @@ pub no_order : (n : ℕ) (w : List Float) → refuses_order n ≡ true
     → BinauralRowsPromise n w (record { refusal = 1; weights = w })
 unfolding outcome
 no_order n w e =
-    sym (ap (λ (t : Bool). computed_by (first_of (1 when t ∷ 5 when not (eqb (length w) (2 * channels_of_order n)) ∷ []))
+    sym (ap (λ (t : Bool). computed_by (first_of (1 when t ∷ 5 when not (eqb (length w) (2 * channels_of_order n))
+    ∷ []))
     (binaural_rows n) w) e)

@@ -64,7 +64,8 @@ third_of002 = pos 42 ∷ minus 42 ∷ pos 8 ∷ pos 30 ∷ minus 22 ∷ pos 7 �
 abbrev rows_of : List ℤ → List ℤ → Float → List Float
 rows_of ls rs f = scaled f (literals ls ++ literals rs)
 
-by_half : (n : ℕ) (ls rs : List ℤ) → Mirrors n (rows_of ls rs (inverse_root_of 2)) → Mirrors n (rows_of ls rs root_of_half)
+by_half : (n : ℕ) (ls rs : List ℤ) → Mirrors n (rows_of ls rs (inverse_root_of 2))
+    → Mirrors n (rows_of ls rs root_of_half)
 by_half n ls rs = subst (λ (f : Float). Mirrors n (rows_of ls rs f)) inverse_root_two
 
 second_of_002 : Mirrors 2 (rows_of soa second_of002 (inverse_root_of 2)) → ⊥

@@ -11,5 +11,6 @@ abbrev lengths_refusal : List Float → List Float → List Float → ℕ
 lengths_refusal left right weights = first_of (5 when not (eqb (length weights) (length left + length right)) ∷ [])
 
 abbrev pub rows_put : List Float → List Float → List Float → WeightsAnswer
-rows_put left right weights = computed_by (lengths_refusal left right weights) (scaled (inverse_root_of 2) (left ++ right))
+rows_put left right weights =
+    computed_by (lengths_refusal left right weights) (scaled (inverse_root_of 2) (left ++ right))
     weights

@@ -9,7 +9,8 @@ use Rattle.rows.specs.Rows.{computed_by}
 use Rattle.matrix.specs.Rows.{binaural_rows}
 
 abbrev pub refusal_of : ℕ → List Float → ℕ
-refusal_of n weights = first_of (1 when refuses_order n ∷ 5 when not (eqb (length weights) (2 * channels_of_order n)) ∷ [])
+refusal_of n weights =
+    first_of (1 when refuses_order n ∷ 5 when not (eqb (length weights) (2 * channels_of_order n)) ∷ [])
 
 unfoldable pub outcome : ℕ → List Float → WeightsAnswer
 outcome n weights = computed_by (refusal_of n weights) (binaural_rows n) weights

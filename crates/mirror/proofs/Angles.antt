@@ -1,8 +1,9 @@
 -- The opposite angle is refused as the angle is, and its sine and cosine: it lies where what is left of the turn ends,
 -- so that the shorter way from 0 is the same and the half of the turn the other one. Assumes nothing.
-use Rattle.lists.specs.Prelude.{◌≡◌, refl, sym, ap, ap₂, ◌∙◌, subst, ◌⊎◌, inl, inr, Bool, true, false, not, ◌&&◌, ◌||◌}
-use Rattle.lists.specs.Prelude.{cond, and_comm, ℕ, ◌+◌, ◌-◌, ◌/◌, ◌%◌, ◌^◌, ◌<◌, arith, eqb, ltb, lit<, pos, Float, nan}
-use Rattle.lists.specs.Prelude.{inf, fin, binary64, unlike, neg, le, div, of_int, eqb-true, lt-ltb, le-ltb}
+use Rattle.std.specs.Prelude.{◌≡◌, ◌⊎◌, ◌&&◌, ◌||◌, ◌+◌, ◌-◌, ◌/◌, ◌%◌, ◌^◌, ◌<◌}
+use Rattle.lists.specs.Prelude.{refl, sym, ap, ap₂, ◌∙◌, subst, inl, inr, Bool, true, false, not, cond, and_comm, ℕ}
+use Rattle.lists.specs.Prelude.{arith, eqb, ltb, lit<, pos, Float, nan, inf, fin, binary64, unlike, neg, le, div}
+use Rattle.lists.specs.Prelude.{of_int, eqb-true, lt-ltb, le-ltb}
 use Rattle.lists.proofs.Tests.{by_test, by_at_most, order_cases}
 use Rattle.formats.specs.Floats.{zero_float}
 use Rattle.formats.proofs.Signs.{unlike_not, neg_neg, le_negated, finite_negated}
@@ -107,7 +108,8 @@ rounded_negated b size =
     signed_either true n v h =
         by_test (λ (q : Bool). unsigned_zero v ≡ unsigned_zero (neg (cond q v (neg v)))) (eqb n 0)
         (λ e. h (eqb-true n 0 e)) (λ e. ap unsigned_zero (sym (neg_neg v)))
-    signed_either false n v h = by_test (λ (q : Bool). unsigned_zero (cond q v (neg v)) ≡ unsigned_zero (neg v)) (eqb n 0)
+    signed_either false n v h =
+        by_test (λ (q : Bool). unsigned_zero (cond q v (neg v)) ≡ unsigned_zero (neg v)) (eqb n 0)
         (λ e. h (eqb-true n 0 e)) (λ e. refl)
 
 -- by whether it lies in the far half of the turn, and the shorter way from 0 in radians
@@ -119,7 +121,8 @@ unfolding sine_by
 sine_by_negated far x =
     let over : Bool = ltb one (outermost x 25) in
     let size : ℕ = times x (from_one (outermost x 25)) in
-    ap (λ (b : Bool). unsigned_zero (rounded_units b size)) (unlike_not far over) ∙ rounded_negated (unlike far over) size
+    ap (λ (b : Bool). unsigned_zero (rounded_units b size)) (unlike_not far over)
+    ∙ rounded_negated (unlike far over) size
 
 -- at 0 and at half a turn, where the opposite angle lies in the same place, the sine is 0
 abbrev Sineless : ℕ → Type 0
@@ -173,7 +176,8 @@ angle_mirrors d = record {
   cosine = ap₂ value_by (refused_negated limit d) (cosine_opposite (places_opposite d));
   sine =
       ap (λ (b : Bool). unsigned_zero (value_by b (wave_computed sine (neg d)))) (refused_negated limit d)
-      ∙ opposite_by (is_refused d) (wave_computed sine d) (wave_computed sine (neg d)) (sine_opposite (places_opposite d));
+      ∙ opposite_by (is_refused d) (wave_computed sine d) (wave_computed sine (neg d))
+      (sine_opposite (places_opposite d));
 }
   where
     opposite_by : (b : Bool) (v v' : Float) → unsigned_zero v' ≡ unsigned_zero (neg v)

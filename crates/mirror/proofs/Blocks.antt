@@ -1,8 +1,9 @@
 -- Where outputs have partners, the frames of a block of mirrored planes are those of the block exchanged
 -- (`blocks_mirror`). Nothing of sums is needed: the frames that the second call reads are the mirrored frames. Assumes
 -- nothing.
-use Rattle.lists.specs.Prelude.{◌≡◌, refl, sym, ap, ◌∙◌, Bool, not, ◌||◌, cond, List, [], ◌∷◌, map, ℕ, zero, suc, ◌+◌}
-use Rattle.lists.specs.Prelude.{◌*◌, ◌/◌, ◌≤◌, ◌<◌, zero-add, ℕ_discrete, arith, eqb, length, get_or, Float, nan, neg}
+use Rattle.std.specs.Prelude.{◌≡◌, ◌||◌, ◌∷◌, ◌+◌, ◌*◌, ◌/◌, ◌≤◌, ◌<◌}
+use Rattle.lists.specs.Prelude.{refl, sym, ap, ◌∙◌, Bool, not, cond, List, [], map, ℕ, zero, suc, zero-add, ℕ_discrete}
+use Rattle.lists.specs.Prelude.{arith, eqb, length, get_or, Float, nan, neg}
 use lib.Arith.{digits_div}
 use Rattle.refusals.specs.Refusals.{Check, ◌when◌, outside, answered}
 use Rattle.refusals.proofs.First.{or_off}

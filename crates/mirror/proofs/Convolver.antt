@@ -1,7 +1,7 @@
 -- The other ear adds the parts of the speakers across, in the order of the speakers (`across_parts`). So it hears what
 -- the one heard wherever these parts may be exchanged (`heard_by_other_ear`). Assumes nothing.
-use Rattle.lists.specs.Prelude.{◌≡◌, refl, sym, ap, ◌∙◌, subst, List, ◌∷◌, ℕ, zero, suc, ◌≤◌, ◌<◌, arith, Float}
-use Rattle.lists.specs.Prelude.{binary64, mul}
+use Rattle.std.specs.Prelude.{◌≡◌, ◌∷◌, ◌≤◌, ◌<◌}
+use Rattle.lists.specs.Prelude.{refl, sym, ap, ◌∙◌, subst, List, ℕ, zero, suc, arith, Float, binary64, mul}
 use Rattle.lists.specs.Tables.{tab}
 use Rattle.lists.proofs.Tables.{tab_from, tab_ext}
 use Rattle.formats.specs.Floats.{Held, zero_float}

@@ -1,8 +1,8 @@
 -- The gains of a mirrored direction. Each lateral channel is a product whose last factor is a sine of the azimuth, or
 -- of twice or three times it; no other channel has such a factor. Assumes nothing.
-use Rattle.lists.specs.Prelude.{◌≡◌, refl, ap, ap₂, ◌∙◌, Bool, true, false, ◌||◌, cond, List, ◌∷◌, ◌++◌, map, ℕ, zero}
-use Rattle.lists.specs.Prelude.{suc, ◌+◌, leb, pos, length, length-append, length-map, get_or, Float, nan, binary64, mul}
-use Rattle.lists.specs.Prelude.{neg}
+use Rattle.std.specs.Prelude.{◌≡◌, ◌||◌, ◌∷◌, ◌++◌, ◌+◌}
+use Rattle.lists.specs.Prelude.{refl, ap, ap₂, ◌∙◌, Bool, true, false, cond, List, map, ℕ, zero, suc, leb, pos, length}
+use Rattle.lists.specs.Prelude.{length-append, length-map, get_or, Float, nan, binary64, mul, neg}
 use Rattle.formats.specs.Floats.{zero_float, float}
 use Rattle.formats.proofs.Signs.{mul_negated_right}
 use Rattle.formats.proofs.Opposite.{mul_opposite}

@@ -1,7 +1,8 @@
 -- Negating the lateral channels swaps the two ears, in each frame alone and in blocks (`ears_swap`): the right ear is
 -- the left one's partner. Assumes nothing.
-use Rattle.lists.specs.Prelude.{◌≡◌, refl, ap, ◌∙◌, Bool, false, not, ◌||◌, List, [], ◌∷◌, ℕ, zero, suc, ◌*◌, ◌≤◌, ◌<◌}
-use Rattle.lists.specs.Prelude.{arith, lit<, eqb, length, Float, neg}
+use Rattle.std.specs.Prelude.{◌≡◌, ◌||◌, ◌∷◌, ◌*◌, ◌≤◌, ◌<◌}
+use Rattle.lists.specs.Prelude.{refl, ap, ◌∙◌, Bool, false, not, List, [], ℕ, zero, suc, arith, lit<, eqb, length}
+use Rattle.lists.specs.Prelude.{Float, neg}
 use Rattle.lists.specs.Tables.{chunk}
 use Rattle.planes.specs.Sums.{mixed}
 use Rattle.refusals.specs.Refusals.{◌when◌, outside}
@@ -24,7 +25,8 @@ use Rattle.mirror.specs.Ears.{RowsSwapEars}
 use Rattle.mirror.proofs.Blocks.{blocks_mirror}
 use Rattle.mirror.proofs.Scenes.{scenes_mirror}
 
-ears_partners : (n : ℕ) (weights : List Float) → Mirrors n weights → PartnersSwap 2 (channels_of_order n) weights other_ear
+ears_partners : (n : ℕ) (weights : List Float) → Mirrors n weights
+    → PartnersSwap 2 (channels_of_order n) weights other_ear
 ears_partners n weights m = record { inside = inside; swaps = swap }
   where
     inside : (o : ℕ) → o < 2 → other_ear o < 2
@@ -41,7 +43,8 @@ ears_partners n weights m = record { inside = inside; swaps = swap }
 module _ (n : ℕ) (order : refuses_order n ≡ false) (weights : List Float) (same : weights ≡ binaural_rows n) where
   long : length weights ≡ 2 * channels_of_order n
   unfolding binaural_rows hundredths
-  long = ap length same ∙ by_order_lem (λ (m : ℕ). length (binaural_rows m) ≡ 2 * channels_of_order m) refl refl refl n order
+  long = ap length same
+      ∙ by_order_lem (λ (m : ℕ). length (binaural_rows m) ≡ 2 * channels_of_order m) refl refl refl n order
 
   fits_accepted : (frames stride inputs out : ℕ) → frames ≤ stride → inputs ≡ channels_of_order n * stride
       → out ≡ 2 * stride

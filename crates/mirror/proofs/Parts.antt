@@ -1,7 +1,7 @@
 -- The first two parts of a sum may be exchanged (`total_exchanged`), and a later pair where one of it is 0.0, or the
 -- sum before it is (`next_pair`, `parts_exchanged`). Assumes nothing.
-use Rattle.lists.specs.Prelude.{◌≡◌, refl, sym, ap, ◌∙◌, ◌⊎◌, inl, inr, List, [], ◌∷◌, ℕ, zero, suc, Float, nan}
-use Rattle.lists.specs.Prelude.{binary64, add}
+use Rattle.std.specs.Prelude.{◌≡◌, ◌⊎◌, ◌∷◌}
+use Rattle.lists.specs.Prelude.{refl, sym, ap, ◌∙◌, inl, inr, List, [], ℕ, zero, suc, Float, nan, binary64, add}
 use lib.Ieee.Fits.{nan-fits, add-fits}
 use Rattle.lists.specs.Tables.{tab}
 use Rattle.lists.specs.ForAll.{ForAll}

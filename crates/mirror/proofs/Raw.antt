@@ -1,11 +1,11 @@
 -- The raw gain of a speaker at an azimuth is that of the speaker across at the opposite azimuth, to the bit, at every
 -- float (`raw_opposite`, `raw_across`): the tests change places, the way to the speaker has the same size, and the
 -- cosine sees no sign of a zero. Assumes nothing.
-use Rattle.lists.specs.Prelude.{◌≡◌, refl, sym, ap, ◌∙◌, subst, Bool, true, false, not, cond, true≢false, List, [], ◌∷◌}
-use Rattle.lists.specs.Prelude.{ℕ, zero, suc, ◌+◌, ◌*◌, ◌≤◌, zero-lt-suc, mul-pos, le_trans, arith, lt-ltb, le-ltb}
-use Rattle.lists.specs.Prelude.{dec_lt, ℤ, pos, negsuc, neg_ℤ, T, eqb, lit≤, lit<, length, get_or-eq_default, Float}
-use Rattle.lists.specs.Prelude.{nan, inf, fin, binary64, up, down, neg, add, sub, div, lt, le, eq, fits, of_int, round}
-use Rattle.lists.specs.Prelude.{size, span, climb, odd}
+use Rattle.std.specs.Prelude.{◌≡◌, ◌∷◌, ◌+◌, ◌*◌, ◌≤◌}
+use Rattle.lists.specs.Prelude.{refl, sym, ap, ◌∙◌, subst, Bool, true, false, not, cond, true≢false, List, [], ℕ, zero}
+use Rattle.lists.specs.Prelude.{suc, zero-lt-suc, mul-pos, le_trans, arith, lt-ltb, le-ltb, dec_lt, ℤ, pos, negsuc}
+use Rattle.lists.specs.Prelude.{neg_ℤ, T, eqb, lit≤, lit<, length, get_or-eq_default, Float, nan, inf, fin, binary64}
+use Rattle.lists.specs.Prelude.{up, down, neg, add, sub, div, lt, le, eq, fits, of_int, round, size, span, climb, odd}
 use lib.Ieee.Scale.{finite}
 use lib.Ieee.Fits.{up_pos, down_pos, neg-fits, sub-fits, cond-fits}
 use lib.Ieee.Bits.{is_false}
@@ -72,7 +72,8 @@ absolute_size (fin false (suc m) e) = ap unsigned_zero
     (cond_false (fin true (suc m) e) (fin false (suc m) e) (le-ltb (suc m * up e * 1) (0 * 1 * down e) (omega arith)))
 
 absolute_opposite : (x y : Float) → Opposite x y → unsigned_zero (absolute x) ≡ unsigned_zero (absolute y)
-absolute_opposite x y h = absolute_size x ∙ sym (size_unsigned x) ∙ ap size_of h ∙ size_unsigned (neg y) ∙ size_negated y
+absolute_opposite x y h = absolute_size x ∙ sym (size_unsigned x) ∙ ap size_of h ∙ size_unsigned (neg y)
+    ∙ size_negated y
     ∙ sym (absolute_size y)
 
 -- ---- its cosine
@@ -232,7 +233,8 @@ float_opposite (negsuc n) = ap unsigned_zero (sym (round_negated binary64 true (
 
 -- the places half a turn on and back are numbers, and the one on is not below the one back
 abbrev halves : ℤ → List Bool
-halves z = finite (on_half (float z)) ∷ finite (back_half (float z)) ∷ not (lt (on_half (float z)) (back_half (float z)))
+halves z = finite (on_half (float z)) ∷ finite (back_half (float z))
+    ∷ not (lt (on_half (float z)) (back_half (float z)))
     ∷ []
 
 halves_hold : (l : Layout) → surround l ≡ true → (c : ℕ) → T (all (halves (degrees_of l c)))

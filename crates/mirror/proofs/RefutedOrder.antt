@@ -3,10 +3,10 @@
 -- the eight virtual speakers, though all taps are 1.0. And just behind 120 degrees the gains of 7.1 are not those of
 -- the speakers across, nor, farther behind, are they as the f32 that are played. By computing the definitions. Assumes
 -- nothing.
-use Rattle.lists.specs.Prelude.{◌≡◌, refl, sym, ap, ◌∙◌, false, true≢false, List, [], ◌∷◌, ℕ, zero, suc, ◌<◌, arith}
-use Rattle.lists.specs.Prelude.{lit<, pos, negsuc, get_or, replicate, Float, fin, binary32, binary64, lt, le, eq, neg}
-use Rattle.lists.specs.Prelude.{add, sub, mul, div, sum, round, size, span, climb, units, odd, fits, of_int, to_bits}
-use Rattle.lists.specs.Prelude.{of_bits}
+use Rattle.std.specs.Prelude.{◌≡◌, ◌∷◌, ◌<◌}
+use Rattle.lists.specs.Prelude.{refl, sym, ap, ◌∙◌, false, true≢false, List, [], ℕ, zero, suc, arith, lit<, pos, negsuc}
+use Rattle.lists.specs.Prelude.{get_or, replicate, Float, fin, binary32, binary64, lt, le, eq, neg, add, sub, mul, div}
+use Rattle.lists.specs.Prelude.{sum, round, size, span, climb, units, odd, fits, of_int, to_bits, of_bits}
 use lib.Ieee.Positive.{positive}
 use Rattle.lists.specs.Tables.{tab}
 use Rattle.lists.proofs.Tables.{table_at}
@@ -19,7 +19,8 @@ use Rattle.angles.specs.Computed.{wave_computed, place, cut_angle, cosine_at, sh
 use Rattle.angles.specs.Computed as Angles
 use Rattle.angles.specs.Limits.{is_inside, refuses_angle}
 use Rattle.channel.specs.declared.Layout.TheVariants.{Surround71}
-use Rattle.surround.specs.Computed.{absolute, not_below, turned_towards, is_near, way_of, raw_of, channel_gain, raw_gains}
+use Rattle.surround.specs.Computed.{absolute, not_below, turned_towards, is_near, way_of, raw_of, channel_gain}
+use Rattle.surround.specs.Computed.{raw_gains}
 use Rattle.surround.specs.Computed.{sum_of}
 use Rattle.surround.specs.Computed.{divided_by}
 use Rattle.surround.specs.Promise.{surround_gains, outcome}
@@ -84,7 +85,8 @@ module _ (across : ℕ → ℕ) (n : ℕ) (signals exchanged : List Float)
 
 -- 5.1: C, Ls and Rs sound
 five_one_heard : Heard across_from 6 → ⊥
-unfolding ear_of inverse_root_of root_of root_units whole_root root_in rounded add mul div sum round size span climb units odd
+unfolding ear_of inverse_root_of root_of root_units whole_root root_in rounded add mul div sum round size span climb
+    units odd
     of_int
 five_one_heard h =
     true≢false
@@ -94,7 +96,8 @@ five_one_heard h =
 
 -- 7.1: C and the rear speakers
 seven_one_heard : Heard across_from 8 → ⊥
-unfolding ear_of inverse_root_of root_of root_units whole_root root_in rounded add mul div sum round size span climb units odd
+unfolding ear_of inverse_root_of root_of root_units whole_root root_in rounded add mul div sum round size span climb
+    units odd
     of_int
 seven_one_heard h =
     true≢false
@@ -105,7 +108,8 @@ seven_one_heard h =
 
 -- the eight virtual speakers: those at 0, 45 and -45 degrees
 virtual_heard : Heard (partner_in position_partners) 8 → ⊥
-unfolding ear_of inverse_root_of root_of root_units whole_root root_in rounded add mul div sum round size span climb units odd
+unfolding ear_of inverse_root_of root_of root_units whole_root root_in rounded add mul div sum round size span climb
+    units odd
     of_int
 virtual_heard h =
     true≢false
@@ -130,10 +134,12 @@ between = of_bits binary64 0x4063B28E85FEEDC8
 worked : to_bits binary64 (gain behind120 6) ∷ to_bits binary64 (gain (neg behind120) 7)
     ∷ to_bits binary32 (narrowed (gain between 4)) ∷ to_bits binary32 (narrowed (gain (neg between) 5)) ∷ []
     ≡ 0x3FE6A4437134DA81 ∷ 0x3FE6A4437134DA82 ∷ 0x3E9F70CD ∷ 0x3E9F70CE ∷ []
-unfolding to_bits of_bits rounded refuses_angle is_inside surround_gains divided_by sum_of raw_gains channel_gain raw_of is_near
+unfolding to_bits of_bits rounded refuses_angle is_inside surround_gains divided_by sum_of raw_gains channel_gain raw_of
+    is_near
     turned_towards
     way_of absolute not_below lt le eq add
-    sub mul div neg round of_int wave_computed place cut_angle Angles.units turned cosine_at short times radian_units nesting
+    sub mul div neg round of_int wave_computed place cut_angle Angles.units turned cosine_at short times radian_units
+    nesting
     nest
     Angles.rounded_units root_of whole_root size units
 worked = refl

@@ -1,8 +1,9 @@
 -- What is played of a mirrored scene: the voice that the panner puts, through weights whose outputs have partners;
 -- blocks through the decoder matrix of a layout; the signals of virtual speakers. Bit for bit, since no sum sees the
 -- sign of a zero. Assumes nothing.
-use Rattle.lists.specs.Prelude.{◌≡◌, refl, sym, ap, ◌∙◌, subst, true, false, List, [], ℕ, ◌<◌, ltb-true, ltb, length}
-use Rattle.lists.specs.Prelude.{get_or, Float, nan, binary32, mul, neg}
+use Rattle.std.specs.Prelude.{◌≡◌, ◌<◌}
+use Rattle.lists.specs.Prelude.{refl, sym, ap, ◌∙◌, subst, true, false, List, [], ℕ, ltb-true, ltb, length, get_or}
+use Rattle.lists.specs.Prelude.{Float, nan, binary32, mul, neg}
 use Rattle.lists.specs.Tables.{chunk, every}
 use Rattle.lists.proofs.Every.{every_at}
 use Rattle.lists.proofs.Tables.{tab_ext}
@@ -39,8 +40,10 @@ narrowed_swapped xs ys h =
 panned_swapped : (planes : ℕ) (x : Float) (gs hs : List Float) → Swapped gs hs
     → Swapped (panned planes gs x) (panned planes hs x)
 panned_swapped planes x gs hs h =
-    swapped_tab lateral 0 planes (λ (p : ℕ). mul binary32 x (get_or gs p nan)) (λ (p : ℕ). mul binary32 x (get_or hs p nan))
-    (λ p. swapped_by lateral (factor_odd binary32 x) p (get_or gs p nan) (get_or hs p nan) (swapped_at lateral gs hs h p))
+    swapped_tab lateral 0 planes (λ (p : ℕ). mul binary32 x (get_or gs p nan))
+    (λ (p : ℕ). mul binary32 x (get_or hs p nan))
+    (λ p. swapped_by lateral (factor_odd binary32 x) p (get_or gs p nan) (get_or hs p nan)
+    (swapped_at lateral gs hs h p))
 
 -- ---- partners are speakers of the layout, by computing
 

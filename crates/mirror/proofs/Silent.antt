@@ -2,8 +2,9 @@
 -- (`silent_behind`). So in 5.1 both surround speakers sound only where the front ones are silent (`settled_51`), and in
 -- 7.1 of the side speakers one is silent (`sides_71`), and of the rear ones as far as the limit (`rear_71`). Assumes
 -- nothing.
-use Rattle.lists.specs.Prelude.{◌≡◌, refl, sym, ap, ◌∙◌, subst, ◌⊎◌, inl, inr, Bool, false, cond, ◌<◌, arith, ℤ, pos}
-use Rattle.lists.specs.Prelude.{negsuc, Float, binary64, neg, add, sub, lt, of_int, round}
+use Rattle.std.specs.Prelude.{◌≡◌, ◌⊎◌, ◌<◌}
+use Rattle.lists.specs.Prelude.{refl, sym, ap, ◌∙◌, subst, inl, inr, Bool, false, cond, arith, ℤ, pos, negsuc, Float}
+use Rattle.lists.specs.Prelude.{binary64, neg, add, sub, lt, of_int, round}
 use Rattle.lists.proofs.Tests.{cond_cases, cond_false}
 use Rattle.formats.specs.Floats.{zero_float, float}
 use Rattle.fractions.specs.Fraction.{fraction, whole, magnitude, number, AtMost}

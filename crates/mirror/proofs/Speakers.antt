@@ -1,9 +1,9 @@
 -- The rows and the weights of a speaker and of its partner. That the tables pair them is computed; 0 and 180 are their
 -- own opposites: -0.0 and -180.0 give the bits that 0.0 and 180.0 give. Assumes nothing.
-use Rattle.lists.specs.Prelude.{◌≡◌, refl, sym, ap, ◌∙◌, subst, Bool, true, false, not, ◌&&◌, ◌||◌, cond, true≢false}
-use Rattle.lists.specs.Prelude.{and-eq-true_iff, List, [], ◌∷◌, map, ℕ, ◌<◌, zero-add, eqb, pos, length, take, Float}
-use Rattle.lists.specs.Prelude.{binary64, lt, round, add, sub, mul, div, neg, of_int, of_bits, to_bits, eqb-true}
-use Rattle.lists.specs.Prelude.{not-false}
+use Rattle.std.specs.Prelude.{◌≡◌, ◌&&◌, ◌||◌, ◌∷◌, ◌<◌}
+use Rattle.lists.specs.Prelude.{refl, sym, ap, ◌∙◌, subst, Bool, true, false, not, cond, true≢false, and-eq-true_iff}
+use Rattle.lists.specs.Prelude.{List, [], map, ℕ, zero-add, eqb, pos, length, take, Float, binary64, lt, round, add}
+use Rattle.lists.specs.Prelude.{sub, mul, div, neg, of_int, of_bits, to_bits, eqb-true, not-false}
 use lib.Ieee.Fits.{cond-fits, neg-fits, sub-fits, of_int-fits}
 use lib.Ieee.Bits.{of_bits-to_bits}
 use Rattle.lists.specs.Tables.{tab, any}
@@ -83,7 +83,8 @@ across_held a h = cond-fits binary64 (is_own a) a (neg a) h (neg-fits binary64 a
 
 -- a partner stands at the azimuth across: told from the bits, by computing
 is_across : (ℕ → Float) → List ℕ → ℕ → Bool
-is_across azimuth pairs i = eqb (to_bits binary64 (azimuth (partner_in pairs i))) (to_bits binary64 (across_of (azimuth i)))
+is_across azimuth pairs i =
+    eqb (to_bits binary64 (azimuth (partner_in pairs i))) (to_bits binary64 (across_of (azimuth i)))
 
 abbrev Paired : (ℕ → Float) → List ℕ → Type 0
 Paired azimuth pairs = any (tab 0 (length pairs) (λ (i : ℕ). not (is_across azimuth pairs i))) ≡ false
@@ -105,7 +106,8 @@ of_symmetric P all none n =
     (λ e. one_of (λ (k : ℕ). P k (custom_partners k)) symmetric all n e) (λ e. none n)
 
 layout_paired : (l : Layout) → Paired (azimuth_at l) (partners l)
-unfolding is_across across_of is_own to_bits custom_azimuth turned_back place cut_angle units turned neg lt add sub mul div
+unfolding is_across across_of is_own to_bits custom_azimuth turned_back place cut_angle units turned neg lt add sub mul
+    div
     round
     of_int
 layout_paired Mono = refl

@@ -1,10 +1,10 @@
 -- The gains of 5.1 at the opposite azimuth are those of the speakers across, bit for bit, and those of 7.1 as far as
 -- the limit (`surround_exchanged`): the raw gains are, and their squares add up to the same, since of each pair one is
 -- 0.0, or the sum before it is (`parts_exchanged`). Assumes nothing.
-use Rattle.lists.specs.Prelude.{◌≡◌, refl, sym, ap, ◌∙◌, inl, ⊎_map, Bool, true, false, not, cond, true≢false, List, []}
-use Rattle.lists.specs.Prelude.{◌∷◌, ℕ, suc, ◌<◌, dec_lt, arith, lt-ltb, le-ltb, ltb, lit<, pos, get_or}
-use Rattle.lists.specs.Prelude.{get_or-eq_default, Float, nan, binary64, neg, add, mul, div, sum, round, size, span}
-use Rattle.lists.specs.Prelude.{climb, units, odd, of_int}
+use Rattle.std.specs.Prelude.{◌≡◌, ◌∷◌, ◌<◌}
+use Rattle.lists.specs.Prelude.{refl, sym, ap, ◌∙◌, inl, ⊎_map, Bool, true, false, not, cond, true≢false, List, [], ℕ}
+use Rattle.lists.specs.Prelude.{suc, dec_lt, arith, lt-ltb, le-ltb, ltb, lit<, pos, get_or, get_or-eq_default, Float}
+use Rattle.lists.specs.Prelude.{nan, binary64, neg, add, mul, div, sum, round, size, span, climb, units, odd, of_int}
 use lib.Ieee.Fits.{mul-fits}
 use Rattle.refusals.specs.Refusals.{first_of, ◌when◌, answered}
 use Rattle.lists.specs.Tables.{tab}
@@ -51,7 +51,8 @@ below : (n : ℕ) → tab 0 8 (λ c. ltb (across_from c) n) ≡ tab 0 8 (λ c. l
     → ltb (across_from c) n ≡ ltb c n
 below n e = tabled 8 _ _ e (λ c h. ap (λ (k : ℕ). ltb k n) (across_beyond c h))
 
-below_channels : (l : Layout) → surround l ≡ true → (c : ℕ) → ltb (across_from c) (channels_of l) ≡ ltb c (channels_of l)
+below_channels : (l : Layout) → surround l ≡ true → (c : ℕ) → ltb (across_from c) (channels_of l)
+    ≡ ltb c (channels_of l)
 below_channels =
     by_surround (λ (l : Layout). (c : ℕ) → ltb (across_from c) (channels_of l) ≡ ltb c (channels_of l)) (below 6 refl)
     (below 8 refl)
@@ -86,7 +87,8 @@ module _ (l : Layout) (e : surround l ≡ true) (a : Float) where
   squares_across : sum_at (neg a) ≡ total zero_float (tab 0 (channels_of l) (λ c. square_at (raw a) (across_from c)))
   unfolding sum_of
   squares_across =
-      ap (total zero_float) (tab_ext 0 (channels_of l) (square_at (raw (neg a))) (λ c. square_at (raw a) (across_from c))
+      ap (total zero_float)
+      (tab_ext 0 (channels_of l) (square_at (raw (neg a))) (λ c. square_at (raw a) (across_from c))
       (λ c h. ap (λ (g : Float). mul binary64 g g)
       (ap (λ (k : ℕ). get_or (raw (neg a)) k nan) (sym (across_twice c)) ∙ raw_table (across_from c))))
 
@@ -94,7 +96,8 @@ module _ (l : Layout) (e : surround l ≡ true) (a : Float) where
       ≡ get_or (surround_gains l a) c zero_float
   unfolding surround_gains divided_by
   gains_across h =
-      table_across (place (neg a)) (place a) zero_float (λ c. λ i. div binary64 (raw_table c i) (root_of binary64 (h i)))
+      table_across (place (neg a)) (place a) zero_float
+      (λ c. λ i. div binary64 (raw_table c i) (root_of binary64 (h i)))
     where
       place : Float → ℕ → Float
       place b k = div binary64 (get_or (raw b) k nan) (root_of binary64 (sum_at b))
@@ -105,7 +108,8 @@ module _ (l : Layout) (e : surround l ≡ true) (a : Float) where
   answer_is b = go (surround l) (refuses_azimuth b) e
     where
       go : (s r : Bool) → s ≡ true → (answered {A = SurroundGains} (first_of (2 when not s ∷ 3 when r ∷ []))
-          (record { refusal = 0; gains = surround_gains l b }) (λ n. record { refusal = n; gains = silent_gains })).gains
+          (record { refusal = 0; gains = surround_gains l b })
+          (λ n. record { refusal = n; gains = silent_gains })).gains
           ≡ cond r silent_gains (surround_gains l b)
       go true true k = refl
       go true false k = refl
@@ -138,7 +142,8 @@ module _ (xs : List Float) where
   unfolding mul round size span climb units odd
   square_silent c z = ap (λ (g : Float). mul binary64 g g) z
 
-  pair_silent : (n : ℕ) → OneZero (get_or xs n nan) (get_or xs (suc n) nan) → OneZero (square_at xs n) (square_at xs (suc n))
+  pair_silent : (n : ℕ) → OneZero (get_or xs n nan) (get_or xs (suc n) nan)
+      → OneZero (square_at xs n) (square_at xs (suc n))
   pair_silent n = ⊎_map (square_silent n) (square_silent (suc n))
 
   silent_before : get_or xs 0 nan ≡ zero_float → get_or xs 1 nan ≡ zero_float → get_or xs 2 nan ≡ zero_float

@@ -1,9 +1,10 @@
 -- Lists of which one is the other negated at some places, but for the signs of zeros: joined, cut short, read at a
 -- place, put down by a rule, and multiplied or narrowed. Whatever the places are; and what is mixed of such lists.
 -- Assumes nothing.
-use Rattle.lists.specs.Prelude.{◌≡◌, refl, sym, ap, ap₂, ◌∙◌, Bool, true, false, cond, List, [], ◌∷◌, ◌++◌, map}
-use Rattle.lists.specs.Prelude.{map-append, ℕ, zero, suc, ◌+◌, ◌*◌, zero-add, zero-mul, length, get_or, take}
-use Rattle.lists.specs.Prelude.{get_or-map, Float, nan, inf, fin, Format, binary32, up, down, mul, neg}
+use Rattle.std.specs.Prelude.{◌≡◌, ◌∷◌, ◌++◌, ◌+◌, ◌*◌}
+use Rattle.lists.specs.Prelude.{refl, sym, ap, ap₂, ◌∙◌, Bool, true, false, cond, List, [], map, map-append, ℕ, zero}
+use Rattle.lists.specs.Prelude.{suc, zero-add, zero-mul, length, get_or, take, get_or-map, Float, nan, inf, fin, Format}
+use Rattle.lists.specs.Prelude.{binary32, up, down, mul, neg}
 use lib.Ieee.Fits.{down_pos}
 use Rattle.lists.specs.Tables.{tab}
 use Rattle.lists.proofs.Mapped.{map_take}
@@ -110,7 +111,8 @@ module _ (named : ℕ → Bool) where
 
     pub swapped_map : (i : ℕ) (xs ys : List Float) → SwappedAt i xs ys → SwappedAt i (map f xs) (map f ys)
     swapped_map i xs ys h =
-        map_unsigned ys ∙ ap (map (λ (x : Float). unsigned_zero (f x))) h ∙ sym (map_unsigned (negated_at neg named i xs))
+        map_unsigned ys ∙ ap (map (λ (x : Float). unsigned_zero (f x))) h
+        ∙ sym (map_unsigned (negated_at neg named i xs))
         ∙ ap (map unsigned_zero) (map_negated_each neg neg f odd.negated named i xs)
 
 -- ---- mixed: a sum sees no sign of a zero, so that what is swapped gives the same bits as what is mirrored
@@ -122,4 +124,5 @@ mixed_weights xs ys frame h =
 
 pub mixed_frames : (weights xs ys : List Float) → Swapped xs ys → mixed weights ys ≡ mixed weights (mirrored neg xs)
 mixed_frames weights xs ys h =
-    mixed_unsigned weights ys ∙ ap (mixed (map unsigned_zero weights)) h ∙ sym (mixed_unsigned weights (mirrored neg xs))
+    mixed_unsigned weights ys ∙ ap (mixed (map unsigned_zero weights)) h
+    ∙ sym (mixed_unsigned weights (mirrored neg xs))

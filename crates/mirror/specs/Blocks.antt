@@ -1,7 +1,8 @@
 -- Document 02, E7: "negating those input channels swaps the two ear signals bit for bit, all NaNs as one". What it is
 -- for blocks of the decoder: any weights whose outputs have partners, of which the two ears are one case, and two calls
 -- of `ambisonic_decoder::process`, the second lent the input planes with those channels negated. Definitions only.
-use Rattle.lists.specs.Prelude.{ℕ, ◌/◌, ◌<◌, ◌≡◌, List, map, length, get_or, Float, nan, neg}
+use Rattle.std.specs.Prelude.{◌/◌, ◌<◌, ◌≡◌}
+use Rattle.lists.specs.Prelude.{ℕ, List, map, length, get_or, Float, nan, neg}
 use Rattle.lists.specs.Tables.{tab, chunk}
 use Rattle.planes.specs.Planes.{frames_of}
 use Rattle.planes.specs.Sums.{mixed}

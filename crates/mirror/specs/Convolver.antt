@@ -2,7 +2,8 @@
 -- with it: whether the other ear then hears what the one heard, bit for bit. It does where no speakers but the first
 -- two are exchanged; in 5.1 and 7.1 it does where of each later pair one part is 0.0, or those before it add up to 0.0,
 -- and else it need not. Shown in proofs/Convolver.antt, and refuted in proofs/RefutedOrder.antt. Definitions only.
-use Rattle.lists.specs.Prelude.{ℕ, ◌≤◌, ◌<◌, ◌≡◌, List, Float}
+use Rattle.std.specs.Prelude.{◌≤◌, ◌<◌, ◌≡◌}
+use Rattle.lists.specs.Prelude.{ℕ, List, Float}
 use Rattle.channel.specs.declared.Layout.TheVariants.{Stereo}
 use Rattle.hrtf_history.specs.Setup.{Setup, taps_of}
 use Rattle.hrtf_history.specs.History.{signal_ago, part, ear_sample}

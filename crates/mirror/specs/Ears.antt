@@ -1,7 +1,8 @@
 -- Document 02, E7: "negating those input channels swaps the two ear signals bit for bit, all NaNs as one", of the
 -- weights that an accepted `compute_matrix` left, whatever was lent to it. The right row is in `Mirrors` of `matrix`.
 -- It is shown in proofs/Ears.antt. Definitions only.
-use Rattle.lists.specs.Prelude.{ℕ, ◌*◌, ◌≤◌, ◌≡◌, List, Float}
+use Rattle.std.specs.Prelude.{◌*◌, ◌≤◌, ◌≡◌}
+use Rattle.lists.specs.Prelude.{ℕ, List, Float}
 use Rattle.planes.specs.Sums.{mixed_all}
 use Rattle.channel.specs.Orders.{channels_of_order}
 use Rattle.harmonics.specs.declared.Direction.{Direction}

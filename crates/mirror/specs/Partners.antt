@@ -2,7 +2,8 @@
 -- 110, -110. 7.1: 30, -30, 0, LFE, 90, -90, 150, -150. [..] Stereo is 30, -30; Mono 0; Custom speaker i sits at i x
 -- (360/n) - 90", and the eight positions of 003: 0, 45, 90, 135, 180, -135, -90, -45. Definitions only. That these
 -- stand at opposite azimuths is computed in proofs/Speakers.antt.
-use Rattle.lists.specs.Prelude.{ℕ, zero, suc, ◌+◌, ◌-◌, ◌/◌, ◌%◌, cond, List, [], ◌∷◌, map, eqb, get_or, take}
+use Rattle.std.specs.Prelude.{◌+◌, ◌-◌, ◌/◌, ◌%◌, ◌∷◌}
+use Rattle.lists.specs.Prelude.{ℕ, zero, suc, cond, List, [], map, eqb, get_or, take}
 use Rattle.lists.specs.Tables.{tab, any}
 use Rattle.channel.specs.declared.Layout.{Layout}
 use Rattle.channel.specs.declared.Layout.TheVariants.{Mono, Stereo, Surround51, Surround71, Custom}

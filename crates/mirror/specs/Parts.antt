@@ -1,7 +1,8 @@
 -- Document 01, 'Sums': parts are added "from 0.0", in one order. Of these the first two may be exchanged, and later
 -- ones may not, but where one of the two is 0.0, or those before them add up to 0.0. Shown in proofs/Parts.antt, and
 -- refuted of later ones in proofs/RefutedOrder.antt. Definitions only.
-use Rattle.lists.specs.Prelude.{ℕ, suc, ◌≡◌, ◌⊎◌, List, [], ◌∷◌, Float}
+use Rattle.std.specs.Prelude.{◌≡◌, ◌⊎◌, ◌∷◌}
+use Rattle.lists.specs.Prelude.{ℕ, suc, List, [], Float}
 use Rattle.formats.specs.Floats.{Held, zero_float}
 use Rattle.lists.specs.Tables.{tab}
 use Rattle.planes.specs.Sums.{total}

@@ -1,6 +1,7 @@
 -- Document 02, E7: "Swap a scene left for right and the ears don't swap." A scene is swapped by negating the azimuth of
 -- each voice. What the program then computes: which bits change, and which stay. Definitions only.
-use Rattle.lists.specs.Prelude.{ℕ, ◌-◌, ◌%◌, ◌<◌, ◌≡◌, false, List, map, length, take, Float, neg}
+use Rattle.std.specs.Prelude.{◌-◌, ◌%◌, ◌<◌, ◌≡◌}
+use Rattle.lists.specs.Prelude.{ℕ, false, List, map, length, take, Float, neg}
 use Rattle.channel.specs.declared.Layout.{Layout}
 use Rattle.channel.specs.declared.Layout.TheVariants.{Mono}
 use Rattle.channel.specs.Layouts.{channels_of, positions}

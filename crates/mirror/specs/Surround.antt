@@ -3,7 +3,8 @@
 -- bit: of the raw gains in both layouts, of the gains in 5.1. In 7.1 not so far back that both rear speakers sound with
 -- a side one: their squares are then added the other way round. Shown in proofs/Surround.antt, and refuted behind that
 -- in proofs/RefutedOrder.antt. Definitions only.
-use Rattle.lists.specs.Prelude.{ℕ, ◌≡◌, true, false, pos, get_or, Float, neg}
+use Rattle.std.specs.Prelude.{◌≡◌}
+use Rattle.lists.specs.Prelude.{ℕ, true, false, pos, get_or, Float, neg}
 use Rattle.formats.specs.Floats.{zero_float, float}
 use Rattle.angles.specs.Limits.{refuses_angle}
 use Rattle.channel.specs.Layouts.{surround}

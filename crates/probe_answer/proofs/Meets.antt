@@ -2,8 +2,7 @@
 -- (`then_cut`) with all that would follow it (`cut_then`). And when an answer is given at all (`taken`, `untaken`,
 -- `answered`), and to which operation (`chosen`). Assumes nothing.
 use Rattle.std.specs.Prelude.{◌≡◌, ◌+◌, ◌≤◌, ◌<◌}
-use Rattle.lists.specs.Prelude.{sym, ap, ◌∙◌, List, ℕ, dec_lt, arith, le-leb, lt-leb, eq-eqb, ne_eqb}
-use Rattle.lists.specs.Prelude.{length}
+use Rattle.lists.specs.Prelude.{sym, ap, ◌∙◌, List, ℕ, dec_lt, arith, le-leb, lt-leb, eq-eqb, ne_eqb, length}
 use Rattle.lists.specs.Placed.{placed}
 use Rattle.probe_answer.specs.Answers.{Draft, draft, none, taking, nowhere, cut, ◌then◌}
 

@@ -1,9 +1,9 @@
 -- A loop that puts a list into an answer, over the width and the bytes of an element: how it begins, one turn, and what
 -- it leaves; and one field. Assumes nothing.
 use Rattle.std.specs.Prelude.{◌≡◌, ◌∷◌, ◌++◌, ◌+◌, ◌*◌, ◌≤◌, ◌<◌}
-use Rattle.lists.specs.Prelude.{sym, ap, ◌∙◌, Bool, true, false, not, List, [], ℕ}
-use Rattle.lists.specs.Prelude.{mul-le-mul_left, add-one, arith, leb-true, leb-false, le-leb, lt-leb, not-true}
-use Rattle.lists.specs.Prelude.{not-false, leb, length, get_or, take, set, take-suc, take_all, length-take-le}
+use Rattle.lists.specs.Prelude.{sym, ap, ◌∙◌, Bool, true, false, not, List, [], ℕ, mul-le-mul_left, add-one, arith}
+use Rattle.lists.specs.Prelude.{leb-true, leb-false, le-leb, lt-leb, not-true, not-false, leb, length, get_or, take}
+use Rattle.lists.specs.Prelude.{set, take-suc, take_all, length-take-le}
 use Rattle.big_endian.specs.Bytes.{bytes_of}
 use Rattle.big_endian.specs.Fields.{with_field}
 use Rattle.lists.specs.Placed.{placed}

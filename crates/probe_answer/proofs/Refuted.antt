@@ -3,10 +3,9 @@
 -- refusal in two bytes, or under the numbers; and of a block, a count in four bytes, or more or fewer samples. Assumes
 -- nothing.
 use Rattle.std.specs.Prelude.{◌≡◌, ◌∷◌, ◌+◌, ◌-◌, ◌*◌, ◌%◌, ◌^◌, ◌≤◌, ◌<◌}
-use Rattle.lists.specs.Prelude.{sym, ap, ◌∙◌, List, [], ℕ, mul-le-mul_left}
-use Rattle.lists.specs.Prelude.{eq_of_mul-eq-mul_right, arith, le-leb, lt-leb, length, get_or, take, drop, replicate}
-use Rattle.lists.specs.Prelude.{length-replicate, get_or-replicate, take-take, drop-drop, Float, binary32, binary64}
-use Rattle.lists.specs.Prelude.{to_bits}
+use Rattle.lists.specs.Prelude.{sym, ap, ◌∙◌, List, [], ℕ, mul-le-mul_left, eq_of_mul-eq-mul_right, arith, le-leb}
+use Rattle.lists.specs.Prelude.{lt-leb, length, get_or, take, drop, replicate, length-replicate, get_or-replicate}
+use Rattle.lists.specs.Prelude.{take-take, drop-drop, Float, binary32, binary64, to_bits}
 use Rattle.lists.proofs.Tests.{cond_true, cond_false}
 use Rattle.lists.specs.Placed.{placed}
 use Rattle.lists.proofs.Placed.{take_placed}

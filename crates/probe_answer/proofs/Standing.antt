@@ -1,11 +1,10 @@
 -- What stands in an answer: a part that had room is there, and what is put behind it leaves it as it is. Assumes
 -- nothing.
 use Rattle.std.specs.Prelude.{◌≡◌, ◌∷◌, ◌++◌, ◌⊎◌, ◌+◌, ◌*◌, ◌%◌, ◌^◌, ◌≤◌, ◌<◌}
-use Rattle.lists.specs.Prelude.{refl, sym, ap, ◌∙◌, List, [], append_assoc, inl, inr, ⊎_elim, ℕ}
-use Rattle.lists.specs.Prelude.{zero, suc, mul-zero, mul-suc, not-suc-le-zero}
-use Rattle.lists.specs.Prelude.{le_of_suc-le-suc, arith, length, get_or, take, drop, length-append, take-append-le}
-use Rattle.lists.specs.Prelude.{drop-append-add, take-take, take_at, drop_at, length-take-le, Float, binary32, binary64}
-use Rattle.lists.specs.Prelude.{to_bits}
+use Rattle.lists.specs.Prelude.{refl, sym, ap, ◌∙◌, List, [], append_assoc, inl, inr, ⊎_elim, ℕ, zero, suc, mul-zero}
+use Rattle.lists.specs.Prelude.{mul-suc, not-suc-le-zero, le_of_suc-le-suc, arith, length, get_or, take, drop}
+use Rattle.lists.specs.Prelude.{length-append, take-append-le, drop-append-add, take-take, take_at, drop_at}
+use Rattle.lists.specs.Prelude.{length-take-le, Float, binary32, binary64, to_bits}
 use Rattle.lists.specs.Placed.{placed}
 use Rattle.lists.proofs.Placed.{length_placed}
 use Rattle.lists.proofs.Lists.{less_or_at_most, drop_take}

@@ -1,8 +1,8 @@
 -- What the promise rules out, of every request of the right length: a number read from a later byte, an answer behind
 -- the start, and a refused root that is told as an accepted one. Assumes nothing.
 use Rattle.std.specs.Prelude.{◌≡◌, ◌∷◌, ◌%◌, ◌^◌, ◌≤◌, ◌<◌}
-use Rattle.lists.specs.Prelude.{refl, sym, ap, ◌∙◌, List, [], ℕ, arith, length, Float}
-use Rattle.lists.specs.Prelude.{binary32, binary64, of_bits, to_bits, nan}
+use Rattle.lists.specs.Prelude.{refl, sym, ap, ◌∙◌, List, [], ℕ, arith, length, Float, binary32, binary64, of_bits}
+use Rattle.lists.specs.Prelude.{to_bits, nan}
 use Rattle.refusals.proofs.First.{answered_number}
 use Rattle.formats.specs.Floats.{zero_float}
 use Rattle.numbers.specs.Computed as Numbers

@@ -1,8 +1,8 @@
 -- A loop that fills a list with what stands in the arguments, over the reading and the width: how it begins, one turn,
 -- and what it leaves. Assumes nothing.
 use Rattle.std.specs.Prelude.{◌≡◌, ◌+◌, ◌*◌, ◌≤◌, ◌<◌}
-use Rattle.lists.specs.Prelude.{refl, sym, ◌∙◌, Bool, true, false, not, List, ℕ, le_refl}
-use Rattle.lists.specs.Prelude.{arith, leb-true, le-leb, not-true, not-false, leb, length, set}
+use Rattle.lists.specs.Prelude.{refl, sym, ◌∙◌, Bool, true, false, not, List, ℕ, le_refl, arith, leb-true, le-leb}
+use Rattle.lists.specs.Prelude.{not-true, not-false, leb, length, set}
 use Rattle.lists.proofs.Filling.{Filling, filling_none, filling_more, filling_whole}
 use Rattle.big_endian.specs.Lists.{strided}
 use Rattle.probe_request.specs.Requests.{list_at}

@@ -1,8 +1,8 @@
 -- What the promises rule out: a number or an entry from elsewhere or of another width, more lent than there is, a place
 -- behind another part, another layout, and a list that is filled though it does not lie inside. Assumes nothing.
 use Rattle.std.specs.Prelude.{◌≡◌, ◌∷◌, ◌+◌, ◌-◌, ◌*◌, ◌^◌, ◌≤◌, ◌<◌}
-use Rattle.lists.specs.Prelude.{sym, ap, ◌∙◌, List, [], ⊎_elim, ℕ, zero-add}
-use Rattle.lists.specs.Prelude.{arith, lt-leb, ne_eqb, ℤ, Float, of_bits, length, get_or}
+use Rattle.lists.specs.Prelude.{sym, ap, ◌∙◌, List, [], ⊎_elim, ℕ, zero-add, arith, lt-leb, ne_eqb, ℤ, Float, of_bits}
+use Rattle.lists.specs.Prelude.{length, get_or}
 use lib.Ieee.Positive.{num}
 use lib.Signed.{mag}
 use Rattle.lists.proofs.Tests.{cond_false}

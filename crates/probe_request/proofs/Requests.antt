@@ -1,9 +1,8 @@
 -- What a request gives: a list that lies inside the arguments is what stands there, a layout is its byte and its n, a
 -- list is lent at the length that is asked for, up to the room, and lists stand one behind the other. Assumes nothing.
 use Rattle.std.specs.Prelude.{◌≡◌, ◌+◌, ◌-◌, ◌*◌, ◌^◌, ◌≤◌, ◌<◌}
-use Rattle.lists.specs.Prelude.{sym, ap, ◌∙◌, Bool, true, false, not, List, ⊎_elim, ℕ}
-use Rattle.lists.specs.Prelude.{min, arith, le-leb, lt-leb, not-true, not-false, leb, length, take, replicate}
-use Rattle.lists.specs.Prelude.{length-take, length-replicate}
+use Rattle.lists.specs.Prelude.{sym, ap, ◌∙◌, Bool, true, false, not, List, ⊎_elim, ℕ, min, arith, le-leb, lt-leb}
+use Rattle.lists.specs.Prelude.{not-true, not-false, leb, length, take, replicate, length-take, length-replicate}
 use Rattle.lists.proofs.Lists.{less_or_at_most}
 use Rattle.big_endian.specs.Fields.{field_at}
 use Rattle.big_endian.specs.Lists.{strided}

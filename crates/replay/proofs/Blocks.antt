@@ -1,6 +1,7 @@
 -- A frame more in a block. Assumes nothing.
-use Rattle.lists.specs.Prelude.{◌≡◌, refl, sym, ap, ◌∙◌, List, [], ◌∷◌, ◌++◌, ℕ, zero, suc, ◌+◌, ◌*◌, ◌<◌, zero-add}
-use Rattle.lists.specs.Prelude.{add-zero, add-one, arith, length, get_or, Float, nan}
+use Rattle.std.specs.Prelude.{◌≡◌, ◌∷◌, ◌++◌, ◌+◌, ◌*◌, ◌<◌}
+use Rattle.lists.specs.Prelude.{refl, sym, ap, ◌∙◌, List, [], ℕ, zero, suc, zero-add, add-zero, add-one, arith, length}
+use Rattle.lists.specs.Prelude.{get_or, Float, nan}
 use Rattle.lists.specs.Tables.{tab}
 use Rattle.lists.proofs.Tables.{tab_ext, tab_snoc, tab_is}
 use Rattle.planes.specs.Planes.{sample_at, frame_at, frames_of, with_frame}

@@ -1,6 +1,7 @@
 -- What is used of the convolver: a block of its own is not refused, what `hrtf::process` leaves of it, by its equation,
 -- and what `hrtf::reset` leaves. All that this crate knows of `hrtf` is said here. Assumes nothing.
-use Rattle.lists.specs.Prelude.{◌≡◌, sym, ap, ◌∙◌, List, ℕ, ◌*◌, ◌≤◌, length, Float}
+use Rattle.std.specs.Prelude.{◌≡◌, ◌*◌, ◌≤◌}
+use Rattle.lists.specs.Prelude.{sym, ap, ◌∙◌, List, ℕ, length, Float}
 use Rattle.checks.proofs.Checks.{equal_passes}
 use Rattle.lists.proofs.Tables.{length_tab}
 use Rattle.planes.specs.Planes.{frame_at, frames_of}

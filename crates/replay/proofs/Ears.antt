@@ -1,5 +1,6 @@
 -- The block's ears are put behind those that stand in the ear planes. Assumes nothing.
-use Rattle.lists.specs.Prelude.{◌≡◌, refl, sym, ap, ◌∙◌, List, ℕ, ◌+◌, ◌≤◌, ◌<◌, add-zero, add-suc, length, Float}
+use Rattle.std.specs.Prelude.{◌≡◌, ◌+◌, ◌≤◌, ◌<◌}
+use Rattle.lists.specs.Prelude.{refl, sym, ap, ◌∙◌, List, ℕ, add-zero, add-suc, length, Float}
 use Rattle.lists.specs.Tables.{tab}
 use Rattle.lists.proofs.LoopOverTable.{LoopOverTable, loop-none, loop-more, loop-all, loop-kept}
 use Rattle.planes.specs.Planes.{sample_at, frame_at, with_sample, with_frame, with_frames}

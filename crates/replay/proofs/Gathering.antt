@@ -1,9 +1,9 @@
 -- The loop of `gather`: what is in the block and what is left of the recording are what the recording does, after each
 -- step; and something is left the less. Assumes nothing.
-use Rattle.lists.specs.Prelude.{◌≡◌, refl, sym, ap, ◌∙◌, subst, Bool, true, false, cond, List, [], ◌∷◌, ◌++◌}
-use Rattle.lists.specs.Prelude.{append_assoc, ℕ, ◌+◌, ◌-◌, ◌*◌, ◌^◌, ◌≤◌, ◌<◌, zero-le, le_refl, zero-add, suc-ne-zero}
-use Rattle.lists.specs.Prelude.{add-one, arith, ltb-true, ltb-false, leb, ltb, length, get_or, drop, length-replicate}
-use Rattle.lists.specs.Prelude.{drop-cons, Float}
+use Rattle.std.specs.Prelude.{◌≡◌, ◌∷◌, ◌++◌, ◌+◌, ◌-◌, ◌*◌, ◌^◌, ◌≤◌, ◌<◌}
+use Rattle.lists.specs.Prelude.{refl, sym, ap, ◌∙◌, subst, Bool, true, false, cond, List, [], append_assoc, ℕ, zero-le}
+use Rattle.lists.specs.Prelude.{le_refl, zero-add, suc-ne-zero, add-one, arith, ltb-true, ltb-false, leb, ltb, length}
+use Rattle.lists.specs.Prelude.{get_or, drop, length-map, length-replicate, drop-cons, Float}
 use Rattle.formats.specs.Floats.{zero_float}
 use Rattle.lists.proofs.Tests.{by_test, by_at_most}
 use Rattle.lists.proofs.Tables.{length_tab, get_or_tab}
@@ -14,14 +14,15 @@ use Rattle.stamps.specs.declared.Expected.TheVariants.{Stamp}
 use Rattle.stamps.specs.declared.Arrival.{Arrival}
 use Rattle.stamps.specs.declared.Arrival.TheVariants.{Next, Ahead, Jump, Late}
 use Rattle.stamps.specs.Arrivals.{Comes, coming_of, stamp_of, skipped_of}
-use Rattle.stamps.specs.Events.{Recorded, Event, feed, restart, events_of}
+use Rattle.stamps.specs.Events.{Recorded, Event, feed, restart, events_of, fed, stamps_of}
 use Rattle.stamps.proofs.Recordings.{restarts_append, events_late, events_next, events_jump, events_silent}
 use Rattle.replay.specs.declared.gather.Gathered.{Gathered}
 use Rattle.replay.specs.Recording.{recorded_at, recording}
 use Rattle.replay.specs.Computed.{silent_frame_of, is_gathering_on, gathered_by, filled_by, TakesFrame, restarting}
 use Rattle.replay.specs.Computed.{events_from, Gathering}
-use Rattle.replay.specs.Computed.{Gathers}
+use Rattle.replay.specs.Computed.{Gathers, feeds}
 use Rattle.replay.proofs.Blocks.{block_more, fed_append}
+use Rattle.replay.proofs.Eventful.{feeds_fed}
 
 -- ---- one step
 
@@ -218,4 +219,17 @@ module _ (stamps : List ℕ) (channels stride : ℕ) (inputs : List Float) (x : 
 
   pub gathering_all : {g : Gathered} {block : List Float} → Gathering rs channels x at frames g block
       → is_gathering_on g frames ≡ false → Gathers rs channels x at frames g block
-  gathering_all {g} p off = record { all = p; goes = goes_off_is g frames off }
+  gathering_all {g} {block} p off = record {
+    stamps = stamps_of (fed p.gone);
+    as_many = length-map (fed p.gone) (λ (r : Recorded (List Float)). r.stamp)
+        ∙ sym (length-map (fed p.gone) (λ (r : Recorded (List Float)). r.frame)) ∙ ap length p.put
+        ∙ length_tab 0 g.count (frame_at block 64 channels);
+    split = p.split
+        ∙ ap (λ (es : List (Event (List Float))). es
+        ++ (restarting g.restart ++ events_from rs channels g.expected g.at))
+        (sym (feeds_fed p.gone p.whole) ∙ ap (feeds (stamps_of (fed p.gone))) p.put);
+    few = p.few;
+    on = p.on;
+    within = p.within;
+    goes = goes_off_is g frames off;
+  }

@@ -2,8 +2,9 @@
 -- convolver does with events is document 01's sums over the frames as fed (`played_by_held`), leaves what the words say
 -- (`left_by_is`), and counts the frames that are unsettled (`counted_by_is`). Then the same over a past that rings and
 -- desk stand for. Assumes nothing.
-use Rattle.lists.specs.Prelude.{◌≡◌, refl, sym, ap, ◌∙◌, subst, List, [], ◌∷◌, ◌++◌, map, ℕ, zero, suc, ◌*◌, ◌<◌}
-use Rattle.lists.specs.Prelude.{not-suc-le-zero, le_of_suc-le-suc, arith, length, get_or, replicate, Float}
+use Rattle.std.specs.Prelude.{◌≡◌, ◌∷◌, ◌++◌, ◌*◌, ◌<◌}
+use Rattle.lists.specs.Prelude.{refl, sym, ap, ◌∙◌, subst, List, [], map, ℕ, zero, suc, not-suc-le-zero}
+use Rattle.lists.specs.Prelude.{le_of_suc-le-suc, arith, length, get_or, replicate, Float}
 use Rattle.formats.specs.Floats.{zero_float}
 use Rattle.checks.specs.Finite.{has_nonfinite}
 use Rattle.hrtf_desk.specs.Numbers.{zeroed}

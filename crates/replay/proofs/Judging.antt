@@ -1,9 +1,9 @@
 -- How a replay is judged: the number that is picked is the first of one ordered list, and a replay that is not refused
 -- has all that playing asks. Assumes nothing.
-use Rattle.lists.specs.Prelude.{◌≡◌, refl, sym, ap, ◌∙◌, Bool, true, false, not, ◌||◌, cond, true≢false, List, [], ◌∷◌}
-use Rattle.lists.specs.Prelude.{ℕ, zero, suc, ◌*◌, ◌≤◌, zero-le, arith, leb-true, leb-false, le-leb, le-ltb, lt-ltb}
-use Rattle.lists.specs.Prelude.{ltb-false, eqb, leb, ltb, length, get_or, take, replicate, length-replicate, get_or-take}
-use Rattle.lists.specs.Prelude.{length-take-le, Float}
+use Rattle.std.specs.Prelude.{◌≡◌, ◌||◌, ◌∷◌, ◌*◌, ◌≤◌}
+use Rattle.lists.specs.Prelude.{refl, sym, ap, ◌∙◌, Bool, true, false, not, cond, true≢false, List, [], ℕ, zero, suc}
+use Rattle.lists.specs.Prelude.{zero-le, arith, leb-true, leb-false, le-leb, le-ltb, lt-ltb, ltb-false, eqb, leb, ltb}
+use Rattle.lists.specs.Prelude.{length, get_or, take, replicate, length-replicate, get_or-take, length-take-le, Float}
 use Rattle.refusals.specs.Refusals.{first_of, ◌when◌, outside}
 use Rattle.refusals.proofs.Chains.{Off, none_holds}
 use Rattle.lists.specs.Tables.{tab}

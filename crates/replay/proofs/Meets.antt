@@ -1,6 +1,7 @@
 -- From the judgement and the turns to what `replay` promises. Assumes nothing.
-use Rattle.lists.specs.Prelude.{◌≡◌, sym, ap, ◌∙◌, subst, List, [], ◌++◌, append-nil, ℕ, ◌≤◌, ◌<◌, zero-add, arith}
-use Rattle.lists.specs.Prelude.{length, drop_of_length-le, Float}
+use Rattle.std.specs.Prelude.{◌≡◌, ◌++◌, ◌≤◌, ◌<◌}
+use Rattle.lists.specs.Prelude.{sym, ap, ◌∙◌, subst, List, [], append-nil, ℕ, zero-add, arith, length}
+use Rattle.lists.specs.Prelude.{drop_of_length-le, Float}
 use Rattle.refusals.specs.Refusals.{answered}
 use Rattle.refusals.proofs.First.{answered_refused}
 use Rattle.lists.proofs.Tables.{length_tab}

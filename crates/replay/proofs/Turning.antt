@@ -1,7 +1,7 @@
 -- A turn, and turns one after another. Assumes nothing.
-use Rattle.lists.specs.Prelude.{◌≡◌, refl, sym, ap, ◌∙◌, subst, Bool, true, false, cond, ⊎_elim, List, [], ◌++◌}
-use Rattle.lists.specs.Prelude.{append_assoc, append-nil, ℕ, ◌+◌, ◌≤◌, ◌<◌, add-zero, arith, length, length-append}
-use Rattle.lists.specs.Prelude.{length-map, Float}
+use Rattle.std.specs.Prelude.{◌≡◌, ◌++◌, ◌+◌, ◌≤◌, ◌<◌}
+use Rattle.lists.specs.Prelude.{refl, sym, ap, ◌∙◌, subst, Bool, true, false, cond, ⊎_elim, List, [], append_assoc}
+use Rattle.lists.specs.Prelude.{append-nil, ℕ, add-zero, arith, length, length-append, length-map, Float}
 use Rattle.lists.proofs.Lists.{less_or_at_most}
 use Rattle.lists.proofs.Tables.{length_tab}
 use Rattle.checks.proofs.Checks.{not_outside}
@@ -14,19 +14,19 @@ use Rattle.hrtf_rings.specs.Computed.{state_left, played_by_rings, unsettled_cou
 use Rattle.hrtf_checks.proofs.Refusing.{shaped}
 use Rattle.hrtf.specs.declared.BlockAnswer.{BlockAnswer}
 use Rattle.hrtf.specs.Promise.{ProcessPromise}
-use Rattle.stamps.specs.Events.{Recorded, Event, fed}
+use Rattle.stamps.specs.Events.{Recorded, Event, fed, restarts_in}
 use Rattle.stamps.specs.Computed.{feeds_in}
 use Rattle.stamps.proofs.Recordings.{feeds_append, length_fed}
 use Rattle.replay.specs.declared.gather.Gathered.{Gathered}
 use Rattle.replay.specs.Computed.{silent_frame_of, restarting, Gathers, events_at, ResetFits, rested_if, EarsFit}
-use Rattle.replay.specs.Computed.{TurnsPlayed}
+use Rattle.replay.specs.Computed.{TurnsPlayed, feeds, frames_fed}
 use Rattle.replay.specs.Computed.{left_in, TurnPlayed, state_with, RecordingChecked, StateReady, BlockAndStateFit}
 use Rattle.replay.specs.Computed.{state_left_by, played_by, unsettled_played_by}
 use Rattle.replay.specs.declared.play.Turned.{Turned}
 use Rattle.replay.specs.Recording.{Recording, setup_in, recording_in}
 use Rattle.replay.proofs.Eventful.{left_by_append, played_by_append, counted_by_append, length_played_by}
 use Rattle.replay.proofs.Eventful.{counted_few, left_feeds, played_feeds, counted_feeds, length_events}
-use Rattle.replay.proofs.Eventful.{left_by_stands}
+use Rattle.replay.proofs.Eventful.{left_by_stands, feeds_whole, feeds_put}
 use Rattle.replay.proofs.Convolver.{block_call, block_leaves, block_counts, block_sounds}
 
 -- a restart, or none, as the last event
@@ -56,7 +56,14 @@ module _ (l : Recording) (p : Turned) {g : Gathered} {block₁ : List Float}
 
   -- the events of the block, and then a restart or none
   abbrev fed_ones : List (Event (List Float))
-  fed_ones = got.all.gone
+  fed_ones = feeds got.stamps fs
+
+  -- they feed the frames of the block, and nothing restarts among them
+  whole : restarts_in fed_ones ≡ 0
+  whole = feeds_whole got.stamps fs
+
+  put : frames_fed fed_ones ≡ fs
+  put = feeds_put got.stamps fs (got.as_many ∙ sym (length_tab 0 g.count (frame_at block₁ 64 l.shape.channels)))
 
   abbrev last : List (Event (List Float))
   last = restarting g.restart
@@ -65,13 +72,13 @@ module _ (l : Recording) (p : Turned) {g : Gathered} {block₁ : List Float}
   gone = fed_ones ++ last
 
   parted : events_at l p.expected p.at ≡ gone ++ events_at l g.expected g.at
-  parted = got.all.split ∙ sym (append_assoc fed_ones last (events_at l g.expected g.at))
+  parted = got.split ∙ sym (append_assoc fed_ones last (events_at l g.expected g.at))
 
   fed_ones_are : feeds_in fed_ones ≡ g.count
   fed_ones_are =
       sym (length-map (fed fed_ones) (λ (r : Recorded (List Float)). r.frame)
       ∙ length_fed (silent_frame_of l.shape.channels) fed_ones)
-      ∙ ap length got.all.put ∙ length_tab 0 g.count (frame_at block₁ 64 l.shape.channels)
+      ∙ ap length put ∙ length_tab 0 g.count (frame_at block₁ 64 l.shape.channels)
 
   fed_gone : feeds_in gone ≡ g.count
   fed_gone = feeds_append (silent_frame_of l.shape.channels) fed_ones last
@@ -104,27 +111,27 @@ module _ (l : Recording) (p : Turned) {g : Gathered} {block₁ : List Float}
       u = setup_in l
 
       leaves : state_with a.desk rings₁ ≡ state_left_by u t fed_ones
-      leaves = block_leaves good kept₁ got.all.few plays
-          ∙ sym (left_feeds u t fed_ones got.all.whole ∙ ap (state_left u t) got.all.put)
+      leaves = block_leaves good kept₁ got.few plays
+          ∙ sym (left_feeds u t fed_ones whole ∙ ap (state_left u t) put)
 
       counts_gone : a.unsettled ≡ unsettled_played_by u t gone
       counts_gone =
-          block_counts good kept₁ got.all.few plays
+          block_counts good kept₁ got.few plays
           ∙ sym (counted_by_append u t fed_ones last
           ∙ omega (
             arith,
             (silent_rest l (state_left_by u t fed_ones) g.restart).1,
-            counted_feeds u t fed_ones got.all.whole ∙ ap (unsettled_count_by_desk u t) got.all.put,
+            counted_feeds u t fed_ones whole ∙ ap (unsettled_count_by_desk u t) put,
           ))
 
       sounds_gone : frames_of own₁ 64 2 g.count ≡ played_by u t gone
       sounds_gone =
-          block_sounds good kept₁ got.all.few plays
+          block_sounds good kept₁ got.few plays
           ∙ sym (played_by_append u t fed_ones last
           ∙ ap (λ (r : List (List Float)). played_by u t fed_ones ++ r)
           (silent_rest l (state_left_by u t fed_ones) g.restart).0
           ∙ append-nil (played_by u t fed_ones)
-          ∙ played_feeds u t fed_ones got.all.whole ∙ ap (played_by_rings u t) got.all.put)
+          ∙ played_feeds u t fed_ones whole ∙ ap (played_by_rings u t) put)
 
       -- no more are unsettled than were played
       pub turn_few : a.unsettled ≤ g.count
@@ -165,7 +172,7 @@ module _ (l : Recording) (p : Turned) {g : Gathered} {block₁ : List Float}
                   sounds = ee ∙ ap (with_frames ears l.ear_stride p.done) sounds_gone;
                   out = ap (λ (n : ℕ). p.done + n) (sym fed_gone);
                   counts = ap (λ (n : ℕ). p.unsettled + n) counts_gone;
-                  within = got.all.within;
+                  within = got.within;
                 };
             moves = moved;
           }
@@ -173,13 +180,13 @@ module _ (l : Recording) (p : Turned) {g : Gathered} {block₁ : List Float}
           events_fewer : length (events_at l p.expected p.at)
               ≡ g.count + (cond g.restart 1 0 + length (events_at l g.expected g.at))
           events_fewer =
-              ap length got.all.split
+              ap length got.split
               ∙ length-append fed_ones (last ++ events_at l g.expected g.at)
               ∙ omega (
                 arith,
                 length_events fed_ones,
                 fed_ones_are,
-                got.all.whole,
+                whole,
                 length-append last (events_at l g.expected g.at),
                 (restarting_is g.restart).1,
               )
@@ -187,7 +194,7 @@ module _ (l : Recording) (p : Turned) {g : Gathered} {block₁ : List Float}
           moved : p.at < l.frames → left_in l (then d) < left_in l p
           moved lt =
               ⊎_elim
-              (λ (on : g.at < l.frames). omega (arith, events_fewer, got.goes on, got.all.on, lt))
+              (λ (on : g.at < l.frames). omega (arith, events_fewer, got.goes on, got.on, lt))
               (λ (over : l.frames ≤ g.at). omega (arith, events_fewer, over, lt))
               (less_or_at_most g.at l.frames)
 

@@ -1,7 +1,8 @@
 -- What the functions under `replay` ask and leave. Definitions only; they speak of the program, and nobody has to
 -- believe them: the law `accepted_computed` (proofs/Meets.antt) ties them to the promise.
-use Rattle.lists.specs.Prelude.{◌≡◌, ℕ, ◌+◌, ◌*◌, ◌≤◌, ◌<◌, ◌^◌, ◌-◌, Bool, false, not, ◌||◌, cond, true, List, [], ◌∷◌}
-use Rattle.lists.specs.Prelude.{◌++◌, map, eqb, leb, ltb, length, take, get_or, drop, replicate, Float}
+use Rattle.std.specs.Prelude.{◌≡◌, ◌+◌, ◌*◌, ◌≤◌, ◌<◌, ◌^◌, ◌-◌, ◌||◌, ◌∷◌, ◌++◌}
+use Rattle.lists.specs.Prelude.{ℕ, Bool, false, not, cond, true, List, [], map, eqb, leb, ltb, length, take, get_or}
+use Rattle.lists.specs.Prelude.{drop, replicate, Float}
 use Rattle.refusals.specs.Refusals.{outside}
 use Rattle.checks.specs.Finite.{has_nonfinite}
 use Rattle.checks.specs.Lengths.{block_unfit}
@@ -29,7 +30,8 @@ use Rattle.replay.specs.declared.Replayed.{Replayed}
 use Rattle.replay.specs.declared.play.Turned.{Turned}
 
 -- a recording, in the order of the code
-abbrev pub recording_of : ConvolverShape → ℕ → ℕ → List ℕ → List Float → List Float → List ℕ → List Float → ℕ → Recording
+abbrev pub recording_of : ConvolverShape → ℕ → ℕ → List ℕ → List Float → List Float → List ℕ → List Float → ℕ
+    → Recording
 recording_of shape frames stride stamps inputs weights rows taps ear_stride =
     record {
       shape = shape;
@@ -93,7 +95,8 @@ played_by u t (restart ∷ es) = played_by u (rested t) es
 
 abbrev pub unsettled_played_by : Setup → State → List (Event (List Float)) → ℕ
 unsettled_played_by u t [] = 0
-unsettled_played_by u t (feed s f ∷ es) = cond (is_unsettled_by_desk u t f) 1 0 + unsettled_played_by u (stepped u t f) es
+unsettled_played_by u t (feed s f ∷ es) =
+    cond (is_unsettled_by_desk u t f) 1 0 + unsettled_played_by u (stepped u t f) es
 unsettled_played_by u t (restart ∷ es) = unsettled_played_by u (rested t) es
 
 -- a frame of silence, as `silent_frame` of `hrtf_history`
@@ -139,6 +142,12 @@ pub record TakesFrame (stamps : List ℕ) (channels stride : ℕ) (inputs : List
 
 -- ---- gathering: a block
 
+-- frames that are fed, under these stamps
+abbrev pub feeds : List ℕ → List (List Float) → List (Event (List Float))
+feeds [] fs = []
+feeds (s ∷ ss) [] = []
+feeds (s ∷ ss) (f ∷ fs) = feed s f ∷ feeds ss fs
+
 -- the frames that events feed
 abbrev pub frames_fed : List (Event (List Float)) → List (List Float)
 frames_fed es = map (λ (r : Recorded (List Float)). r.frame) (fed es)
@@ -165,10 +174,17 @@ pub record Gathering (rs : List (Recorded (List Float))) (channels : ℕ) (x : E
   pub within : g.at ≤ frames
   pub long : length block ≡ channels * 64
 
--- where a recorded frame is left in the end, the block is full or a reset comes first
+-- the frames in the block, a reset if there is one, and what is left of the recording are what the recording does
 pub record Gathers (rs : List (Recorded (List Float))) (channels : ℕ) (x : Expected) (at frames : ℕ) (r : Gathered)
     (block : List Float) : Type 0 where
-  pub all : Gathering rs channels x at frames r block
+  pub stamps : List ℕ
+  pub as_many : length stamps ≡ r.count
+  pub split : events_from rs channels x at ≡ feeds stamps (frames_of block 64 channels r.count)
+      ++ (restarting r.restart ++ events_from rs channels r.expected r.at)
+  pub few : r.count ≤ 64
+  pub on : at ≤ r.at
+  pub within : r.at ≤ frames
+  -- where a recorded frame is left, the block is full or a reset comes first
   pub goes : r.at < frames → 0 < r.count + cond r.restart 1 0
 
 -- ---- turns: a block is gathered, played, and a reset made where one comes next

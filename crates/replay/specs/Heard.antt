@@ -2,7 +2,8 @@
 -- resets"). Definitions only, in the words of `hrtf_history` and `hrtf_rings`: silence that was put in is a frame like
 -- any other, and a restart leaves what a reset of the convolver leaves. A past is the list of the signals of the frames
 -- fed since the last restart, the newest first.
-use Rattle.lists.specs.Prelude.{ℕ, Bool, List, [], ◌∷◌, Float}
+use Rattle.std.specs.Prelude.{◌∷◌}
+use Rattle.lists.specs.Prelude.{ℕ, Bool, List, [], Float}
 use Rattle.lists.specs.Tables.{count}
 use Rattle.hrtf_history.specs.Setup.{Setup}
 use Rattle.hrtf_history.specs.Signals.{signals}

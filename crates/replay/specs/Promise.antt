@@ -1,7 +1,8 @@
 -- Everything that a call of `replay` hands back (document 02, E5). "Counts of late frames, silent frames and resets
 -- equal those of a plain definition over the recorded list. Ear planes shorter than the frames that come out are
 -- refused with 5 before anything is played." Definitions only.
-use Rattle.lists.specs.Prelude.{ℕ, ◌*◌, ◌≡◌, Bool, not, ◌||◌, List, [], ◌∷◌, eqb, ltb, length, Float}
+use Rattle.std.specs.Prelude.{◌*◌, ◌≡◌, ◌||◌, ◌∷◌}
+use Rattle.lists.specs.Prelude.{ℕ, Bool, not, List, [], eqb, ltb, length, Float}
 use Rattle.refusals.specs.Refusals.{Check, first_of, ◌when◌, answered, outside}
 use Rattle.checks.specs.Finite.{has_nonfinite}
 use Rattle.checks.specs.Lengths.{block_unfit}

@@ -1,7 +1,8 @@
 -- One call, accepted or refused, and calls one after another: what is sounded, counted and left is what the events of
 -- the recorded list give, one by one. Assumes nothing.
-use Rattle.lists.specs.Prelude.{◌≡◌, refl, sym, ap, ◌∙◌, true, List, [], ◌∷◌, ◌++◌, map-append, ℕ, zero, suc, arith}
-use Rattle.lists.specs.Prelude.{length, replicate, Float}
+use Rattle.std.specs.Prelude.{◌≡◌, ◌∷◌, ◌++◌}
+use Rattle.lists.specs.Prelude.{refl, sym, ap, ◌∙◌, true, List, [], map-append, ℕ, zero, suc, arith, length, replicate}
+use Rattle.lists.specs.Prelude.{Float}
 use Rattle.formats.specs.Floats.{zero_float}
 use Rattle.planes.specs.Planes.{frames_of}
 use Rattle.hrtf_history.specs.Setup.{Setup, SameFilters}

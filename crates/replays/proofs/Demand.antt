@@ -1,9 +1,9 @@
 -- DEMAND 3 FOR REPLAYS. However a recording is cut into calls and whatever calls are refused between, the counts are
 -- those of the definition over the recorded list, and what is heard from a reset is document 01's sums over the frames
 -- as fed since the last restart. Assumes nothing.
-use Rattle.lists.specs.Prelude.{◌≡◌, refl, sym, ap, ◌∙◌, subst, Bool, List, [], ◌∷◌, ◌++◌, ℕ, ◌+◌, ◌<◌, arith, length}
-use Rattle.lists.specs.Prelude.{get_or, length-map, Float}
-use Rattle.lists.specs.Tables.{count}
+use Rattle.std.specs.Prelude.{◌≡◌, ◌∷◌, ◌++◌, ◌+◌, ◌<◌}
+use Rattle.lists.specs.Prelude.{refl, sym, ap, ◌∙◌, subst, Bool, List, [], ℕ, arith, length, get_or, length-map, Float}
+use Rattle.lists.specs.Tables.{count, tab}
 use Rattle.hrtf_history.specs.Setup.{Setup}
 use Rattle.hrtf_history.specs.Signals.{silent_frame}
 use Rattle.hrtf_history.specs.History.{ear_samples, heard, flagged_counts}
@@ -14,7 +14,7 @@ use Rattle.stamps.specs.declared.Expected.{Expected}
 use Rattle.stamps.specs.declared.Planned.{Planned}
 use Rattle.stamps.specs.Arrivals.{expected_after}
 use Rattle.stamps.specs.Counts.{out_one, late_one, silent_one, reset_one, out_in, late_in, silent_in, resets_in}
-use Rattle.stamps.specs.Events.{Recorded, fed, events_of, stamps_of}
+use Rattle.stamps.specs.Events.{Recorded, Event, fed, events_of, stamps_of}
 use Rattle.stamps.proofs.Recordings.{samples_and_late, feeds_out, restarts_resets, length_fed}
 use Rattle.replay.specs.declared.Replayed.{Replayed}
 use Rattle.replay.specs.Heard.{heard_by, unsettled_each_by, after_by}
@@ -175,10 +175,19 @@ counts_on u flag n past p (c ∷ cs) a r e =
           parts.1,
     )
 
+-- the counts by that rule are those of the calls, one after another
+counts_are : (u : Setup) (es : List (Event (List Float))) (n : ℕ) (p : Place) (cs : List ReplayCall)
+    → flagged_counts (damaged_among u es) n (counts (λ (r : Replayed). r.samples) p cs) ≡ damaged_counts u es n p cs
+counts_are u es n p [] = refl
+counts_are u es n p (c ∷ cs) =
+    ap (λ (l : List ℕ). count (tab n (outcome_at p c).answer.samples (damaged_among u es)) ∷ l)
+    (counts_are u es (n + (outcome_at p c).answer.samples) (next p c) cs)
+
 replay_unsettled : (u : Setup) (p : Place) (cs : List ReplayCall) → Replay u p cs
     → counts (λ (r : Replayed). r.unsettled) p cs ≡ damaged_counts u (events_all u p cs) 0 p cs
 replay_unsettled u p cs r = counts_on u (damaged_among u (events_all u p cs)) 0 [] p cs r.alike
     (replay_starts u p cs r) (flags_told u r.finite (events_all u p cs))
+    ∙ counts_are u (events_all u p cs) 0 p cs
 
 pub replay_demand_3 : ReplayDemand3
 replay_demand_3 =

@@ -1,7 +1,8 @@
 -- The frames as fed, one by one: what is heard at each, its past since the last restart, whether there is damage among
 -- the last L; and the parts between restarts. Assumes nothing.
-use Rattle.lists.specs.Prelude.{◌≡◌, refl, sym, ap, ◌∙◌, Bool, false, List, [], ◌∷◌, ◌++◌, map, ℕ, zero, suc, ◌<◌}
-use Rattle.lists.specs.Prelude.{not-suc-le-zero, le_of_suc-le-suc, arith, length, get_or, take, Float}
+use Rattle.std.specs.Prelude.{◌≡◌, ◌∷◌, ◌++◌, ◌<◌}
+use Rattle.lists.specs.Prelude.{refl, sym, ap, ◌∙◌, Bool, false, List, [], map, ℕ, zero, suc, not-suc-le-zero}
+use Rattle.lists.specs.Prelude.{le_of_suc-le-suc, arith, length, get_or, take, Float}
 use Rattle.lists.specs.Tables.{any}
 use Rattle.lists.proofs.Tables.{tab_is}
 use Rattle.checks.specs.Finite.{has_nonfinite}
@@ -36,7 +37,8 @@ module _ (u : Setup) where
   -- ---- which frames are unsettled, nothing being to go
 
   pub each_by_append : (past : List (List Float)) (es hs : Events)
-      → unsettled_each_by u 0 past (es ++ hs) ≡ unsettled_each_by u 0 past es ++ unsettled_each_by u 0 (after_by u past es) hs
+      → unsettled_each_by u 0 past (es ++ hs) ≡ unsettled_each_by u 0 past es
+      ++ unsettled_each_by u 0 (after_by u past es) hs
   each_by_append past [] hs = refl
   each_by_append past (feed s f ∷ es) hs =
       ap (λ (bs : List Bool). unsettled u 0 (signals u f ∷ past) ∷ bs) (each_by_append (signals u f ∷ past) es hs)

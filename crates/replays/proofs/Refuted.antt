@@ -2,8 +2,9 @@
 -- counted as a late frame, a late frame that is played, what was expected given back, a reset that keeps the history or
 -- the frames to go, the last sample held for the missing ones, silence that is always settled, damage by a late frame,
 -- as many frames as there is room for, and 7 before 5. Assumes nothing.
-use Rattle.lists.specs.Prelude.{◌≡◌, refl, sym, ap, ◌∙◌, false, List, [], ◌∷◌, ℕ, arith, pos, negsuc, get_or, length}
-use Rattle.lists.specs.Prelude.{Float, nan, inf, fin, add, mul, div, round, size, span, climb, units, odd, of_int}
+use Rattle.std.specs.Prelude.{◌≡◌, ◌∷◌}
+use Rattle.lists.specs.Prelude.{refl, sym, ap, ◌∙◌, false, List, [], ℕ, arith, pos, negsuc, get_or, length, Float, nan}
+use Rattle.lists.specs.Prelude.{inf, fin, add, mul, div, round, size, span, climb, units, odd, of_int}
 use lib.Ieee as ieee
 use Rattle.formats.specs.Floats.{zero_float, one_float, half_float, float}
 use Rattle.numbers.specs.Computed.{rounded, root_of, root_units, whole_root, root_in}
@@ -22,7 +23,7 @@ use Rattle.replay.specs.Promise.{refusal_in, ReplayOutcome, ReplayPromise}
 use Rattle.replay.proofs.Hearing.{played_by_heard, counted_by_told}
 use Rattle.replay.proofs.Meets.{outcome_by_lem, outcome_computed, ears_read}
 use Rattle.hrtf_runs.proofs.Worked.{starts}
-use Rattle.replays.proofs.Worked.{line, whole, planes, pair, eight_short, sounds, unsettled, told}
+use Rattle.replays.proofs.Worked.{line, whole, planes, pair, eight_short, sounds, told}
 
 -- how many units a float has, or none
 units_of_of : Float → ℕ
@@ -137,7 +138,8 @@ to_go_kept o p e = omega (arith, e, count_of 0 5000 nan one_float 2 o p refl)
 -- 0, then 2, with the samples 1 and 1: behind the 1 a half is heard of it, and not another 1
 held_is : heard_by drill [] (events_in (two 0 2 one_float one_float 3) First) ≡ pair one_float zero_float
     ∷ pair half_float one_float ∷ pair one_float zero_float ∷ []
-unfolding coming_by mixed ear_of inverse_root_of root_of root_units whole_root root_in rounded add mul div ieee.sum round size
+unfolding coming_by mixed ear_of inverse_root_of root_of root_units whole_root root_in rounded add mul div ieee.sum
+    round size
     span climb units odd of_int
 held_is = refl
 

@@ -1,8 +1,9 @@
 -- The worked recording: it rolls over, has a damaged frame, two missing ones, a late one and a gap that resets. By
 -- computing the definitions; whoever meets the promise answers this. And the premises of demand 3 can be met: the
 -- recording from a reset in four calls, the second refused and the third of no frames. Assumes nothing.
-use Rattle.lists.specs.Prelude.{◌≡◌, refl, ap, ◌∙◌, List, [], ◌∷◌, flatten, ℕ, ◌*◌, suc-ne-zero, pos, length, replicate}
-use Rattle.lists.specs.Prelude.{Float, nan, add, mul, div, round, size, span, climb, units, odd, of_int}
+use Rattle.std.specs.Prelude.{◌≡◌, ◌∷◌, ◌*◌}
+use Rattle.lists.specs.Prelude.{refl, sym, ap, ◌∙◌, false, List, [], flatten, ℕ, suc-ne-zero, pos, replicate, Float}
+use Rattle.lists.specs.Prelude.{nan, fin, add, mul, div, round, size, span, climb, units, odd, of_int}
 use lib.Ieee as ieee
 use Rattle.formats.specs.Floats.{zero_float, one_float, float}
 use Rattle.numbers.specs.Computed.{rounded, root_of, root_units, whole_root, root_in}
@@ -19,7 +20,7 @@ use Rattle.replay.specs.Recording.{Recording, events_in}
 use Rattle.replay.specs.Heard.{heard_by, unsettled_by}
 use Rattle.replay.specs.Promise.{refusal_in, ReplayOutcome, outcome, ReplayPromise}
 use Rattle.replay.proofs.Hearing.{played_by_heard, counted_by_told}
-use Rattle.replay.proofs.Meets.{outcome_computed, ears_read}
+use Rattle.replay.proofs.Meets.{computed, outcome_computed, ears_read}
 use Rattle.hrtf_runs.proofs.Worked.{starts, rested}
 use Rattle.replay.specs.declared.Replayed.{Replayed}
 use Rattle.planes.specs.Planes.{frames_of}
@@ -70,10 +71,34 @@ pub eight_short : refusal_in (whole 8) First (fresh drill) 16 ≡ 5
 unfolding refusal_in coming_by of_int
 eight_short = refl
 
-heard_is : heard_by drill [] (events_in (whole 9) First) ≡ table
-unfolding coming_by mixed ear_of inverse_root_of root_of root_units whole_root root_in rounded add mul div ieee.sum round size
+-- the table with its numbers computed: two sides that both compute are compared call by call, which takes too long
+abbrev numbers : List (List Float)
+numbers =
+    pair one_float zero_float ∷ pair nan nan ∷ pair nan nan ∷ pair zero_float zero_float ∷ pair zero_float zero_float
+    ∷ pair (fin false 1 (pos 1)) zero_float ∷ pair (fin false 5 (pos 0)) (fin false 1 (pos 1))
+    ∷ pair (fin false 1 (pos 3)) zero_float ∷ pair (fin false 5 (pos 0)) (fin false 1 (pos 3)) ∷ []
+
+table_is : table ≡ numbers
+unfolding round size span climb units odd of_int
+table_is = refl
+
+numbers_heard : heard_by drill [] (events_in (whole 9) First) ≡ numbers
+unfolding coming_by mixed ear_of inverse_root_of root_of root_units whole_root root_in rounded add mul div ieee.sum
+    round size
     span climb units odd of_int
-heard_is = refl
+numbers_heard = refl
+
+heard_is : heard_by drill [] (events_in (whole 9) First) ≡ table
+heard_is = numbers_heard ∙ sym table_is
+
+-- and what the cells then hold
+cells_left : (computed (whole 9) First (fresh drill) (planes 9)).rings ≡ fin false 1 (pos 3) ∷ one_float ∷ []
+unfolding coming_by mixed rounded add mul ieee.sum round size span climb units odd of_int
+cells_left = refl
+
+eight_is : float (pos 8) ≡ fin false 1 (pos 3)
+unfolding round size span climb units odd of_int
+eight_is = refl
 
 unsettled_is : unsettled_by drill 0 [] (events_in (whole 9) First) ≡ 2
 unfolding coming_by mixed rounded add mul ieee.sum round size span climb units odd of_int
@@ -102,7 +127,11 @@ module _ (o : ReplayOutcome) (p : ReplayPromise (whole 9) First (fresh drill) (p
   left =
       let made = p.bits ∙ outcome_computed (whole 9) First (fresh drill) (planes 9) nine_fit in (
         ap (λ (q : ReplayOutcome). q.answer.refusal) made,
-        (ap (λ (q : ReplayOutcome). q.rings) made, ap (λ (q : ReplayOutcome). q.answer.desk) made),
+        (
+          ap (λ (q : ReplayOutcome). q.rings) made ∙ cells_left
+              ∙ ap (λ (x : Float). x ∷ one_float ∷ []) (sym eight_is),
+          ap (λ (q : ReplayOutcome). q.answer.desk) made,
+        ),
       )
 
   pub told : (o.answer.samples ≡ 9)

@@ -1,11 +1,14 @@
 -- What document 02's E5 asks of a replay, in the order of its words; it is shown in proofs/Demand.antt: "Counts of late
 -- frames, silent frames and resets equal those of a plain definition over the recorded list", and "Demand 3 holds for
 -- the frames as fed, between resets". Definitions only.
-use Rattle.lists.specs.Prelude.{ℕ, zero, suc, ◌+◌, ◌<◌, ◌≡◌, Bool, false, List, [], ◌∷◌, ◌++◌, length, get_or, Float}
+use Rattle.std.specs.Prelude.{◌+◌, ◌<◌, ◌≡◌, ◌∷◌, ◌++◌}
+use Rattle.lists.specs.Prelude.{ℕ, zero, suc, Bool, false, List, [], length, get_or, Float}
+use Rattle.lists.specs.Tables.{tab, any, count}
 use Rattle.checks.specs.Finite.{has_nonfinite}
 use Rattle.hrtf_desk.specs.declared.Desk.{Desk}
 use Rattle.hrtf_history.specs.Setup.{Setup}
-use Rattle.hrtf_history.specs.History.{ear_samples, heard, frame_back, damaged_last, flagged_counts}
+use Rattle.hrtf_history.specs.Signals.{damaged, silent_frame}
+use Rattle.hrtf_history.specs.History.{ear_samples, heard}
 use Rattle.hrtf_rings.specs.Held.{Represents}
 use Rattle.hrtf.specs.Reset.{ResetPromise}
 use Rattle.stamps.specs.Arrivals.{expected_after}
@@ -15,6 +18,7 @@ use Rattle.hrtf_runs.specs.Runs.{sum_of_counts}
 use Rattle.replay.specs.declared.Replayed.{Replayed}
 use Rattle.replay.specs.Heard.{heard_by, unsettled_by, after_by}
 use Rattle.replays.specs.Calls.{ReplayCall, Place, ReplayCallsAlike, taken_all, sounded_all, end, counts}
+use Rattle.replays.specs.Calls.{outcome_at, next}
 use Rattle.replays.specs.Calls.{stamps_all, events_all}
 
 -- ---- the frames as fed
@@ -34,16 +38,18 @@ fed_since past (restart ∷ es) = fed_since [] es
 
 -- the frame k frames before frame n as fed: silence before the first since the last restart
 abbrev pub frame_ago : Setup → List (Event (List Float)) → ℕ → ℕ → List Float
-frame_ago u es n k = frame_back u (fed_since [] (upto_fed es n)) k
+frame_ago u es n k = get_or (fed_since [] (upto_fed es n)) k (silent_frame u)
 
 -- "a damaged frame among those L", frame n as fed and the L-1 before it
 abbrev pub damaged_among : Setup → List (Event (List Float)) → ℕ → Bool
-damaged_among u es n = damaged_last u (fed_since [] (upto_fed es n))
+damaged_among u es n = any (tab 0 u.L (λ k. damaged u (frame_ago u es n k)))
 
 -- of each call the number of its frames that have one: es are the events of the whole replay, n frames having come out
 -- before the call
 abbrev pub damaged_counts : Setup → List (Event (List Float)) → ℕ → Place → List ReplayCall → List ℕ
-damaged_counts u es n p cs = flagged_counts (damaged_among u es) n (counts (λ (r : Replayed). r.samples) p cs)
+damaged_counts u es n p [] = []
+damaged_counts u es n p (c ∷ cs) = count (tab n (outcome_at p c).answer.samples (damaged_among u es))
+    ∷ damaged_counts u es (n + (outcome_at p c).answer.samples) (next p c) cs
 
 -- the frames between restarts, in the order of time: before the first, and after each
 abbrev pub first_part : List (Event (List Float)) → List (List Float)
@@ -111,7 +117,8 @@ pub record SameReplay (p : Place) (cs ds : List ReplayCall) : Type 0 where
 -- over a past: the ear samples, the unsettled frames of all calls together, and the past that is stood for then
 pub record Over (u : Setup) (p : Place) (cs : List ReplayCall) (past : List (List Float)) : Type 0 where
   pub sounds : sounded_all p cs ≡ heard_by u past (events_all u p cs)
-  pub unsettled : sum_of_counts (counts (λ (r : Replayed). r.unsettled) p cs) ≡ unsettled_by u 0 past (events_all u p cs)
+  pub unsettled : sum_of_counts (counts (λ (r : Replayed). r.unsettled) p cs)
+      ≡ unsettled_by u 0 past (events_all u p cs)
   pub keeps : Represents u (after_by u past (events_all u p cs)) (end p cs).state
 
 pub record ReplayDemand3 : Type 0 where
@@ -131,7 +138,8 @@ pub record ReplayDemand3 : Type 0 where
       → get_or (sounded_all p cs) n [] ≡ ear_samples u (after_by u [] (upto_fed (events_all u p cs) n))
   -- so each part between restarts sounds as its frames do from a reset
   pub parts : (u : Setup) (p : Place) (cs : List ReplayCall) → Replay u p cs
-      → sounded_all p cs ≡ heard u [] (first_part (events_all u p cs)) ++ heard_parts u (later_parts (events_all u p cs))
+      → sounded_all p cs ≡ heard u [] (first_part (events_all u p cs))
+      ++ heard_parts u (later_parts (events_all u p cs))
   -- (b) "If they agree on frame n and the L-1 frames before it", they are "equal in both runs, whatever NaN or noise
   -- came earlier"
   pub equal : (u : Setup) (p q : Place) (cs ds : List ReplayCall) → Replay u p cs → Replay u q ds → (n m : ℕ)

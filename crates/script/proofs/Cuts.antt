@@ -64,7 +64,8 @@ module _ (order : ℕ) (good : refuses_order order ≡ false) where
 
       fit : Panner.panner_unfit 1 (length (replicate (channels_of_order order) zero_float)) (channels_of_order order) 1
           1 ≡ false
-      fit = planes_fit (length (replicate (channels_of_order order) zero_float)) (channels_of_order order) 1 1 (omega arith)
+      fit = planes_fit (length (replicate (channels_of_order order) zero_float)) (channels_of_order order) 1 1
+          (omega arith)
           (length-replicate (channels_of_order order) zero_float ∙ sym (mul-one (channels_of_order order)))
 
   module _ (cues : List Cue) (sound : any (refused_each cues) ≡ false) where

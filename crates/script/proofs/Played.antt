@@ -113,7 +113,8 @@ module _ (s : Stretch) (cues : List Cue) (input out : List Float)
   out_tail m p h k = ap (λ (b : RenderedBlock). sample_at b.out s.stride p m) block_is
       ∙ with_frames_other out s.stride 0 played p m k (omega (arith, size, room)) (λ i l e. omega (arith, size))
 
-pub nobody_before : (cues : List Cue) (f : ℕ) → rises (numbers_of cues) ≡ true → Before cues f → voice_at cues f ≡ nobody
+pub nobody_before : (cues : List Cue) (f : ℕ) → rises (numbers_of cues) ≡ true → Before cues f → voice_at cues f
+    ≡ nobody
 nobody_before [] f h b = refl
 nobody_before (c ∷ cs) f h b =
     ap (λ (t : Bool). or_later (cond t (speaking c.direction) nobody) (voice_at cs f)) (lt-leb c.frame f b)

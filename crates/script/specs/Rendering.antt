@@ -62,7 +62,8 @@ silent_part from to planes = tab from (to - from) (λ n. silent planes)
 -- one sample, by the voice: at a direction what the panner plays at its command
 abbrev pub spoken : ℕ → Voice → Float → List Float
 spoken order nobody x = silent (channels_of_order order)
-spoken order (speaking d) x = panned (channels_of_order order) (narrowed_all (gains_of_command (Ambisonic d order) Mono)) x
+spoken order (speaking d) x =
+    panned (channels_of_order order) (narrowed_all (gains_of_command (Ambisonic d order) Mono)) x
 
 -- one sample after another, from the frame f on
 abbrev pub rendered : List Cue → ℕ → ℕ → List Float → List (List Float)

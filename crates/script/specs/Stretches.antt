@@ -107,7 +107,8 @@ module _ (order : ℕ) where
   -- parts one after another from the frame f on, cut so that in each one voice holds
   abbrev pub Cut : List Cue → ℕ → List Part → Type 0
   Cut cues f [] = Unit {0}
-  Cut cues f (p ∷ ps) = Accepted p × OneVoice cues f (voice_in p) (samples_in p) × Cut cues (f + length (samples_in p)) ps
+  Cut cues f (p ∷ ps) = Accepted p × OneVoice cues f (voice_in p) (samples_in p)
+      × Cut cues (f + length (samples_in p)) ps
 
   abbrev pub sounded_parts : List Part → List (List Float)
   sounded_parts [] = []

@@ -15,22 +15,23 @@
 use types.Logic.{Logic, sem}
 use denote.Ref.{Bor}
 use Rattle.walks.proofs.Kit.{refl, sym, ap, subst, ℕ, suc, List, [], ◌∷◌, Ura, full_share, Val, SProp, ent, sep}
-use Rattle.walks.proofs.Kit.{emp, id⊢, via, snd∗, flft, froom, fdies, Heap, Env, Calls, Loops, sem, fact}
+use Rattle.walks.proofs.Kit.{emp, id⊢, via, snd∗, flft, froom, fdies, Heap, Env, Calls, Loops, fact}
 use Rattle.walks.proofs.Kit.{Lfts, AllOutlive, Item, ‵, raw, ◌⊛◌, ⋆, some, later, ◌$◌, by, move, drop}
 use Rattle.walks.proofs.Kit.{use1, split, pick, await, forget, free0, free1, alloc0, alloc1, FmC, RattleType}
 use Rattle.walks.proofs.Kit.{owns, Is, shows, only, heard, peeks, Triple, calls_at, calls_at_last, Args}
 use Rattle.walks.proofs.Kit.{Contract, triple_of, Lasts, lasts, runs, T, has_ty, WT, WpFn, Sq, at_ret, on_entry, Lft}
-use Rattle.walks.proofs.Kit.{RefT, ShrSlice, ShrRef, shr_slice_copy, shr_copy, qed, ◌∵◌, !, enter}
+use Rattle.walks.proofs.Kit.{ShrSlice, ShrRef, shr_slice_copy, shr_copy, qed, ◌∵◌, !, enter}
 use mathlib.Core.Option.{Option, none, some as just}
 use Prim.Native.Nat.{zero}
-use mir.Syntax.{Fn, Lifetime, Name, Place, place, assign, return, Opd as Operand, Rv as RValue, Body, Local, local, seq}
+use mir.Syntax.{Callee as Name, Fn, Lifetime, Place, place, assign, return, Opd as Operand, Rv as RValue, Body, Local}
+use mir.Syntax.{local, seq}
 use mir.Syntax.{call}
 use base.Logic.{comm∗, assoc∗, assoc', mono_l, mono_r, emp∗, wand, wand_i, guard_i}
 use prog.Wp.{pass, params}
 use types.Kit.{Goal, prop, Post, Soaks, Seq, Step, step, allocs, frees, lands, settles, mean, push, pop}
 use types.Run.{Opds, Rv, returns, look}
 use contract.Lifetimes.{Shares, toks}
-use denote.RattleType.{Denots, Valss, flat}
+use denote.RattleType.{Denots, Valss, flat, RowLaws}
 use denote.Laws.{Copy}
 use denote.Signature.{Signature, type_at, types_at}
 use denote.Triple.Entry.{Res}
@@ -57,7 +58,7 @@ values (R ∷ Rs) a hs = (its hs.0, values Rs a.1 hs.1)
 
 module _ {M : Type 1} {𝓤 : Ura M} where
   abbrev pub given1 : {R : RattleType} {x : R.Denot} → Has R x → List (Item 𝓤) → List (Item 𝓤)
-  given1 {R} {x} (had vs) Γ = ‵ (R.own x vs) ∷ Γ
+  given1 {R} {x} (had vs) Γ = ‵ (R.own_val x vs) ∷ Γ
   given1 {R} {x} (made d is) Γ = Γ
 
   -- what is held of the parameters, and then Γ
@@ -94,22 +95,22 @@ module _ {M : Type 1} {𝓤 : Ura M} (𝓛 : Logic 𝓤) where
       (push 𝓛 (‵ (flft κs.0 qs.0)) (tokens n κs.1 qs.1 Γ)))
 
   one_in : {R : RattleType} {x : R.Denot} (h : Has R x) (Γ : List (Item 𝓤))
-      → ent 𝓤 (⋆ 𝓛 (given1 h Γ)) (sep 𝓤 (sem 𝓛 (R.own x (its h))) (⋆ 𝓛 Γ))
-  one_in {R} {x} (had vs) Γ = pop 𝓛 (‵ (R.own x vs)) Γ
+      → ent 𝓤 (⋆ 𝓛 (given1 h Γ)) (sep 𝓤 (sem 𝓛 (R.own_val x (its h))) (⋆ 𝓛 Γ))
+  one_in {R} {x} (had vs) Γ = pop 𝓛 (‵ (R.own_val x vs)) Γ
   one_in {R} {x} (made d is) Γ =
       via 𝓤 (sep 𝓤 (emp 𝓤) (⋆ 𝓛 Γ)) (emp∗ 𝓤 (⋆ 𝓛 Γ))
       (mono_l 𝓤 (⋆ 𝓛 Γ) (d.makes 𝓛 x (d.val x ∷ []) is))
 
   one_out : {R : RattleType} {x : R.Denot} (h : Has R x) (Γ : List (Item 𝓤))
-      → ent 𝓤 (sep 𝓤 (sem 𝓛 (R.own x (its h))) (⋆ 𝓛 Γ)) (⋆ 𝓛 (given1 h Γ))
-  one_out {R} {x} (had vs) Γ = push 𝓛 (‵ (R.own x vs)) Γ
-  one_out {R} {x} (made d is) Γ = snd∗ 𝓤 (sem 𝓛 (R.own x (d.val x ∷ []))) (⋆ 𝓛 Γ)
+      → ent 𝓤 (sep 𝓤 (sem 𝓛 (R.own_val x (its h))) (⋆ 𝓛 Γ)) (⋆ 𝓛 (given1 h Γ))
+  one_out {R} {x} (had vs) Γ = push 𝓛 (‵ (R.own_val x vs)) Γ
+  one_out {R} {x} (made d is) Γ = snd∗ 𝓤 (sem 𝓛 (R.own_val x (d.val x ∷ []))) (⋆ 𝓛 Γ)
 
   given_in : (Rs : List RattleType) (a : Denots Rs) (hs : Hass Rs a) (Γ : List (Item 𝓤))
       → ent 𝓤 (⋆ 𝓛 (given Rs a hs Γ)) (sep 𝓤 (sem 𝓛 (owns Rs a (values Rs a hs))) (⋆ 𝓛 Γ))
   given_in [] a hs Γ = emp∗ 𝓤 (⋆ 𝓛 Γ)
   given_in (R ∷ Rs) a hs Γ =
-      let P : SProp 𝓤 = sem 𝓛 (R.own a.0 (its hs.0)) in
+      let P : SProp 𝓤 = sem 𝓛 (R.own_val a.0 (its hs.0)) in
       let Q : SProp 𝓤 = sem 𝓛 (owns Rs a.1 (values Rs a.1 hs.1)) in
       via 𝓤 (sep 𝓤 P (⋆ 𝓛 (given Rs a.1 hs.1 Γ))) (one_in hs.0 (given Rs a.1 hs.1 Γ))
       (via 𝓤 (sep 𝓤 P (sep 𝓤 Q (⋆ 𝓛 Γ))) (mono_r 𝓤 P (given_in Rs a.1 hs.1 Γ)) (assoc' 𝓤 P Q (⋆ 𝓛 Γ)))
@@ -118,7 +119,7 @@ module _ {M : Type 1} {𝓤 : Ura M} (𝓛 : Logic 𝓤) where
       → ent 𝓤 (sep 𝓤 (sem 𝓛 (owns Rs a (values Rs a hs))) (⋆ 𝓛 Γ)) (⋆ 𝓛 (given Rs a hs Γ))
   given_out [] a hs Γ = snd∗ 𝓤 (emp 𝓤) (⋆ 𝓛 Γ)
   given_out (R ∷ Rs) a hs Γ =
-      let P : SProp 𝓤 = sem 𝓛 (R.own a.0 (its hs.0)) in
+      let P : SProp 𝓤 = sem 𝓛 (R.own_val a.0 (its hs.0)) in
       let Q : SProp 𝓤 = sem 𝓛 (owns Rs a.1 (values Rs a.1 hs.1)) in
       via 𝓤 (sep 𝓤 P (sep 𝓤 Q (⋆ 𝓛 Γ))) (assoc∗ 𝓤 P Q (⋆ 𝓛 Γ))
       (via 𝓤 (sep 𝓤 P (⋆ 𝓛 (given Rs a.1 hs.1 Γ))) (mono_r 𝓤 P (given_out Rs a.1 hs.1 Γ))
@@ -155,28 +156,29 @@ module _ {M : Type 1} {𝓤 : Ura M} {𝓛 : Logic 𝓤} {K : Type 0} {Γ : List
 pub makes : {M : Type 1} {𝓤 : Ura M} {𝓛 : Logic 𝓤} {K : Type 0} {Γ : List (Item 𝓤)}
     {G : Goal 𝓤 𝓛.H}
     → K → {R : RattleType} (d : Data R) (x : R.Denot) → Is R x (d.val x ∷ [])
-    → Step K 𝓛 (‵ (R.own x (d.val x ∷ [])) ∷ Γ) G Γ G
+    → Step K 𝓛 (‵ (R.own_val x (d.val x ∷ [])) ∷ Γ) G Γ G
 makes {M} {𝓤} {𝓛} {K} {Γ} {G} t {R} d x is =
     step (λ s. by t (via 𝓤 (sep 𝓤 (emp 𝓤) (⋆ 𝓛 Γ)) (emp∗ 𝓤 (⋆ 𝓛 Γ))
-    (via 𝓤 (sep 𝓤 (sem 𝓛 (R.own x (d.val x ∷ []))) (⋆ 𝓛 Γ))
+    (via 𝓤 (sep 𝓤 (sem 𝓛 (R.own_val x (d.val x ∷ []))) (⋆ 𝓛 Γ))
     (mono_l 𝓤 (⋆ 𝓛 Γ) (d.makes 𝓛 x (d.val x ∷ []) is))
-    (via 𝓤 (⋆ 𝓛 (‵ (R.own x (d.val x ∷ [])) ∷ Γ)) (push 𝓛 (‵ (R.own x (d.val x ∷ []))) Γ) s.prf))))
+    (via 𝓤 (⋆ 𝓛 (‵ (R.own_val x (d.val x ∷ [])) ∷ Γ)) (push 𝓛 (‵ (R.own_val x (d.val x ∷ []))) Γ) s.prf))))
 
 -- what a shared slice, or a shared reference, owns, twice
 module _ {M : Type 1} {𝓤 : Ura M} {𝓛 : Logic 𝓤} {K : Type 0} {Γ : List (Item 𝓤)}
     {G : Goal 𝓤 𝓛.H} where
   twice : K → (R : RattleType) → Copy 𝓛 R → (x : R.Denot) (vs : List Val)
-      → Step K 𝓛 (‵ (R.own x vs) ∷ ‵ (R.own x vs) ∷ Γ) G (‵ (R.own x vs) ∷ Γ) G
-  twice t R cp x vs = step (λ s. use1 𝓛 (‵ (R.own x vs) ⊛ ‵ (R.own x vs)) (cp.twice x vs) $ split t $ s)
+      → Step K 𝓛 (‵ (R.own_val x vs) ∷ ‵ (R.own_val x vs) ∷ Γ) G (‵ (R.own_val x vs) ∷ Γ) G
+  twice t R cp x vs = step (λ s. use1 𝓛 (‵ (R.own_val x vs) ⊛ ‵ (R.own_val x vs)) (cp.twice x vs) $ split t $ s)
 
-  pub copied : K → (ℓ : Lifetime) (κ : Lft) (R : RattleType) (x : Bor (List R.Denot)) (vs : List Val)
+  pub copied : K → (ℓ : Lifetime) (κ : Lft) (R : RattleType) → RowLaws R → (x : Bor (List R.Denot)) (vs : List Val)
       → Step K 𝓛 (‵ ((ShrSlice ℓ κ R).own_val x vs) ∷ ‵ ((ShrSlice ℓ κ R).own_val x vs) ∷ Γ) G
       (‵ ((ShrSlice ℓ κ R).own_val x vs) ∷ Γ) G
-  copied t ℓ κ R = twice t (ShrSlice ℓ κ R) (shr_slice_copy 𝓛 ℓ κ R)
+  copied t ℓ κ R laws = twice t (ShrSlice ℓ κ R) (shr_slice_copy 𝓛 ℓ κ R laws)
 
-  pub copied_ref : K → (ℓ : Lifetime) (κ : Lft) (R : RattleType) (x : Bor R.Denot) (vs : List Val)
-      → Step K 𝓛 (‵ ((ShrRef ℓ κ R).own_val x vs) ∷ ‵ ((ShrRef ℓ κ R).own_val x vs) ∷ Γ) G (‵ ((ShrRef ℓ κ R).own_val x vs) ∷ Γ) G
-  copied_ref t ℓ κ R = twice t (ShrRef ℓ κ R) (shr_copy 𝓛 ℓ κ R)
+  pub copied_ref : K → (ℓ : Lifetime) (κ : Lft) (R : RattleType) → RowLaws R → (x : Bor R.Denot) (vs : List Val)
+      → Step K 𝓛 (‵ ((ShrRef ℓ κ R).own_val x vs) ∷ ‵ ((ShrRef ℓ κ R).own_val x vs)
+      ∷ Γ) G (‵ ((ShrRef ℓ κ R).own_val x vs) ∷ Γ) G
+  copied_ref t ℓ κ R laws = twice t (ShrRef ℓ κ R) (shr_copy 𝓛 ℓ κ R laws)
 
 -- a call of the function T, with the clauses c, at the lifetimes κs and the arguments a
 module _ (T : Ended) (κs : Lfts T.signature.lifetimes) where
@@ -231,7 +233,7 @@ module _ {M : Type 1} {𝓤 : Ura M} {𝓛 : Logic 𝓤} {K : Type 0} {Γ : List
   gives t G soaks d φ says k v =
       let n : ℕ = T.signature.lifetimes in
       let R : RattleType = Result T κs in
-      use1 𝓛 (later (some (λ (r : Res T.signature κs). (raw (toks 𝓛 n κs qs) ⊛ ‵ (R.own r (v ∷ []))) ⊛
+      use1 𝓛 (later (some (λ (r : Res T.signature κs). (raw (toks 𝓛 n κs qs) ⊛ ‵ (R.own_val r (v ∷ []))) ⊛
       some (λ (ws : Lasts T κs a). ‵ (lasts T κs a ws) ⊛ raw ((c κs a).ensures g r (at_exit T κs a ws)))))) (id⊢ 𝓤 _)
       $ await t (soaks v) $ pick t (λ r. split t $ move t (1 ∷ []) $ pick t (λ ws. split t $ move t (1 ∷ [])
       $ use1 𝓛 (raw (fact 𝓤 (φ r ws))) (says r ws) $ heard t (φ r ws) (λ e. move t (1 ∷ []) $ split t $ move t (1 ∷ [])

@@ -11,7 +11,7 @@ use denote.Ref.{shr_vals}
 use Rattle.walks.proofs.Kit.{◌≡◌, refl, sym, subst, ℕ, List, [], ◌∷◌, Ura, w64, Val, vint, vbool, vunit, ent}
 use Rattle.walks.proofs.Kit.{sep, ftrue, WpFn, Tables, Lfts, AllOutlive, WpFn-mono}
 use Rattle.walks.proofs.Kit.{RattleType, Is, uint_Tells, uint_Makes, uint_Lawful, bool_Tells, bool_Makes, usize}
-use Rattle.walks.proofs.Kit.{bool, slice-vals, ptr-vals, shr_Tells, shr_slice_Tells, mut_slice_Tells, plain}
+use Rattle.walks.proofs.Kit.{bool, shr_Tells, shr_slice_Tells, mut_slice_Tells, plain}
 use Rattle.walks.proofs.Kit.{Meets, Args, on_entry, Stays, stay_none, stay_none_slice, stay_none_ref, stay_slice}
 use Rattle.walks.proofs.Kit.{gave_slice, walk_of, AllGo, Goes-none, Goes-none_slice, Goes-none_ref, Goes-slice}
 use Rattle.walks.proofs.Kit.{Goes-gave_slice, walked, walk_Meets, yes, Triple, triple_of, entered}
@@ -19,7 +19,8 @@ use Rattle.walks.proofs.Kit.{tables, tables_of}
 use mir.Syntax.{Fn}
 use prog.Wp.{Closed}
 use prog.Model.{Model}
-use prog.Routine.{Name, Env as Names}
+use mir.Syntax.{Callee as Name}
+use prog.Routine.{Env as Names}
 use contract.Running.{Running}
 use contract.Lifetimes.{Shares}
 use denote.RattleType.{flat, Valss}

@@ -8,7 +8,7 @@ pub use lib.ListN.{get_or, length, take}
 pub use lib.Dec.{T, lit<, ltb, ltb→lt, nltb→le}
 pub use lib.Ieee.{Float}
 pub use seplogic.Ra.Ura.{Ura}
-pub use seplogic.Ra.TreeShare.{full_share}
+pub use base.Fraction.{full_share}
 pub use mir.Syntax.{Ty, erased, imm, named, ty_ptr, ty_ref, w64}
 pub use mir.Val.{Val, WT, has_ty, vbool, vint, vptr, vunit}
 pub use base.Logic.{SProp, emp, ent, ex_e, fst∗, id⊢, sep, snd∗, via}
@@ -21,8 +21,8 @@ pub use ghost.Atoms.{Atoms, meaning}
 pub use contract.Monad.{Fun, fact}
 pub use contract.Lifetimes.{AllOutlive, Lfts}
 unfoldable pub use contract.Running.{tables_of}
-pub use contract.Running.{given_of, tables}
-pub use types.Kit.{ !, Given, Item, Sq, ◌$◌, ◌∵◌, ◌⊛◌, any_q, at_ret, await, by, done, drop, feq_i, feq_l, fjoin, fjoin3}
+pub use contract.Running.{tables}
+pub use types.Kit.{ !, Item, Sq, ◌$◌, ◌∵◌, ◌⊛◌, any_q, at_ret, await, by, done, drop, feq_i, feq_l, fjoin, fjoin3}
 pub use types.Kit.{fpack, fpick, frame, fsplit, fsplit3, join, keep, later, move, pick, prop, qed, raw, rewrite, runs}
 pub use types.Kit.{some, split, suffices, use1, use2, use3, ‵, ⋆}
 pub use types.Part.{agg, look_in, sub, whole}
@@ -39,7 +39,8 @@ pub use denote.Plain.{bool_Makes, bool_Tells, bool_vals, uint_Lawful, uint_Makes
 pub use denote.Builtin.{bool, f32, f64, u64, usize}
 pub use denote.Array.{Array, Array-Lawful, Array-Makes, Array-Tells, array_vals}
 pub use denote.Ref.{MutRef, Bor, MutBor, ShrRef, mut_Tells, shr_vals, mut_vals, shr_copy, shr_Tells}
-pub use denote.Slice.{Room, ShrSlice, finally, mut_slice_Tells, shr_slice_copy, shr_slice_Tells, shr_slice_vals, mut_slice_vals, slice_ty}
+pub use denote.Slice.{Room, ShrSlice, finally, mut_slice_Tells, shr_slice_copy, shr_slice_Tells, shr_slice_vals}
+pub use denote.Slice.{mut_slice_vals, slice_ty}
 pub use denote.Slice.{slice_val}
 pub use denote.Lend.{lends_ref, lends_shr_slice, ref_back}
 pub use denote.Signature.{plain}

@@ -21,8 +21,8 @@ use Prim.Native.Nat.{ℕ}
 use mathlib.Core.List.{List, [], ◌∷◌}
 use lib.ListN.{length}
 use seplogic.Ra.Ura.{Ura}
-use seplogic.Ra.TreeShare.PosShare
-use seplogic.Ra.TreeShare.{full_share}
+use base.Fraction.{full_share}
+use base.Fraction as Fraction
 use mir.Syntax.{erased}
 use mir.Val.{Val}
 use base.Logic.{SProp, ent, sep, wand, all, all_e, id⊢, via, snd∗}
@@ -54,23 +54,23 @@ abbrev value : Hold → Val
 value h = slice_val h.passed.ref_ptr (length h.passed.now)
 
 abbrev pub refers : (h : Hold) → GName → Elems h → MutBor (Elems h)
-refers h δ xs = record { ref_ptr = h.passed.ptr; ghost_name = δ; now = xs }
+refers h δ xs = record { ref_ptr = h.passed.ref_ptr; ghost_name = δ; now = xs }
 
 abbrev pub loan : (h : Hold) → Lft → GName → Elems h → Fml
 loan h κ δ xs = (MutSlice erased κ h.of).own_val (refers h δ xs) (value h ∷ [])
 
 abbrev pub mine : (h : Hold) → Elems h → Fml
-mine h xs = loan h h.life h.passed.name xs
+mine h xs = loan h h.life h.passed.ghost_name xs
 
 abbrev pub told : (h : Hold) → GName → Elems h → Elems h → Fml
 told h δ xs zs = fsep (finally h.of δ zs) (feq ℕ (length zs) (length xs))
 
 -- a token's two halves
 abbrev pub half : Share
-half = PosShare.left full_share
+half = Fraction.left full_share
 
 abbrev pub rest : Share
-rest = PosShare.right full_share
+rest = Fraction.right full_share
 
 module _ {M : Type 1} {𝓤 : Ura M} (𝓛 : Logic 𝓤) where
   open 𝓛 use {H}
@@ -89,11 +89,11 @@ module _ {M : Type 1} {𝓤 : Ura M} (𝓛 : Logic 𝓤) where
       → ent 𝓤 (mean 𝓛 (held h xs)) (mean 𝓛 (later (some (Lent h ν xs))))
   lends h ν xs =
       let E = h.of in
-      let b = h.passed.ptr.0 in
-      let o = h.passed.ptr.1 in
+      let b = h.passed.ref_ptr.0 in
+      let o = h.passed.ref_ptr.1 in
       let n = length xs in
       qed 𝓛 (held h xs ∷ []) ∵ updating ! $ split ! $ move ! (1 ∷ []) $ fsplit !
-      $ pure_l ! (mut_slice_at E (refers h h.passed.name xs) (value h ∷ []))
+      $ pure_l ! (mut_slice_at E (refers h h.passed.ghost_name xs) (value h ∷ []))
       (λ fit. fsplit ! $ opens_slice ! tt E xs b o $
       use1 𝓛 (later
       (some (λ (δ : GName). ‵ ((MutSlice erased (ν ∷ []) E).own_val (refers h δ xs) (slice_val (b, o) n ∷ [])) ⊛ ‵
@@ -111,7 +111,7 @@ module _ {M : Type 1} {𝓤 : Ura M} (𝓛 : Logic 𝓤) where
       (𝓛.laws.⇛_mono _ _ (via 𝓤 (sem 𝓛 (cells (mem E) zs b o)) (snd∗ 𝓤 (sem 𝓛 (feq ℕ (length zs) n)) _)
       (whole_out 𝓛 E zs b o)))) $ await ! tt $
       closes_slice ! tt E xs zs e b o $ at_once ! $ move ! (2 ∷ []) $ frame ! $ fjoin ! $
-      pure_i ! (mut_slice_at E (refers h h.passed.name zs) (value h ∷ [])) (tt, (tt, tt))
+      pure_i ! (mut_slice_at E (refers h h.passed.ghost_name zs) (value h ∷ [])) (tt, (tt, tt))
       (fit.0 ∙ ap (λ (m : ℕ). slice_val (b, o) m ∷ []) (sym e), subst (Room E) (sym e) fit.1) $ fjoin !
       $ done !))))
 

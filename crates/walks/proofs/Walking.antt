@@ -14,11 +14,11 @@ use Prim.Native.Nat.{ℕ, zero, suc, ◌+◌, ◌<◌}
 use mathlib.Core.Bool.{Bool, true, false, not}
 use mathlib.Core.List.{List, [], ◌∷◌}
 use seplogic.Ra.Ura.{Ura}
-use seplogic.Ra.TreeShare.{full_share}
+use base.Fraction.{full_share}
 use lib.Dec.{T}
 use mathlib.Core.Option.{some}
 use mir.Syntax.{Ty, Opd as Operand, Rv as RValue, field, Body, place, copy, skip, seq, assign, block, loop, cond}
-use mir.Syntax.{switch, exit, return, call}
+use mir.Syntax.{switch, exit, return, call, call_v, lend_static, unreachable}
 use mir.Val.{Val, WT, has_ty, vbool}
 use base.Fml.{Share, fat, froom, fdies}
 use prog.Wp.{Env, Calls, Loops, Out, next, Tables, Wp, after_turn, after_block, after_seq, at_return, exits, spot_of}
@@ -49,6 +49,9 @@ after_one (switch c arms) = skip
 after_one (exit n) = skip
 after_one return = skip
 after_one (call f xs p) = skip
+after_one (call_v f xs p m) = skip
+after_one (lend_static x p m) = skip
+after_one unreachable = skip
 
 abbrev pub behind : ℕ → Body → Body
 behind zero b = b

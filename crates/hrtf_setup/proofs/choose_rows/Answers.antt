@@ -1,5 +1,6 @@
 -- `hrtf_setup::choose_rows` meets its contract: `Choosing`. Assumes nothing.
-use Rattle.lists.specs.Prelude.{◌≡◌, ap, ◌∙◌, ℤ}
+use Rattle.std.specs.Prelude.{◌≡◌}
+use Rattle.lists.specs.Prelude.{ap, ◌∙◌, ℤ}
 use mir.Syntax.{w16}
 use mir.Val.{to_z, of_z}
 use Rattle.bank_choice.specs.declared.Choice.{Choice}

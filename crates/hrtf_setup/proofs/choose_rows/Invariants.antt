@@ -1,4 +1,4 @@
-use Rattle.lists.specs.Prelude.{◌-◌}
+use Rattle.std.specs.Prelude.{◌-◌}
 use Rattle.hrtf_setup.proofs.Choosing.{Choosing}
 use Rattle.hrtf_setup.proofs.choose_rows.Given as goal
 

@@ -1,4 +1,5 @@
-use Rattle.lists.specs.Prelude.{◌-◌, length}
+use Rattle.std.specs.Prelude.{◌-◌}
+use Rattle.lists.specs.Prelude.{length}
 use Rattle.lists.proofs.Filling.{Filling}
 use Rattle.hrtf_setup.specs.Speakers.{weight_at}
 use Rattle.hrtf_setup.proofs.put_weights.Given as goal

@@ -1,8 +1,7 @@
 -- `probe_answer::put` meets its contract. Assumes nothing.
 use Rattle.std.specs.Prelude.{◌+◌, ◌*◌, ◌≤◌}
-use Rattle.lists.specs.Prelude.{arith, length}
+use Rattle.lists.specs.Prelude.{arith, length, ap, not}
 use Rattle.probe_answer.proofs.Putting.{room_inside, field_none, field_all}
-use Rattle.lists.specs.Prelude.{ap, not}
 use Rattle.probe_answer.proofs.put.Goals as goal
 
 pub overflow_add-result : goal.overflow_add-result

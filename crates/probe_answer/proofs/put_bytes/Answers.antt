@@ -1,7 +1,6 @@
 -- `probe_answer::put_bytes` meets its contract: `PutBytes`. Assumes nothing.
-use Rattle.lists.specs.Prelude.{refl, arith}
+use Rattle.lists.specs.Prelude.{refl, arith, ap, not}
 use Rattle.probe_answer.proofs.Putting.{put_first, put_none, bytes_more, bytes_all}
-use Rattle.lists.specs.Prelude.{ap, not}
 use Rattle.probe_answer.proofs.put_bytes.Goals as goal
 
 pub returns-then-not-has_room : goal.returns-then-not-has_room

@@ -1,5 +1,6 @@
 -- `replay::replay_in` meets its contract: judged first, and played in turns where nothing is refused. Assumes nothing.
-use Rattle.lists.specs.Prelude.{◌≡◌, sym, subst, ◌∙◌, length, List, ℕ, Float}
+use Rattle.std.specs.Prelude.{◌≡◌}
+use Rattle.lists.specs.Prelude.{sym, subst, ◌∙◌, length, List, ℕ, Float}
 use Rattle.hrtf_rings.specs.State.{State}
 use Rattle.stamps.specs.declared.Expected.{Expected}
 use Rattle.stamps.specs.declared.Planned.{Planned}

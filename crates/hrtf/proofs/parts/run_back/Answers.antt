@@ -15,15 +15,15 @@ returns-then-cell c =
     (differs_from_itself _ (passes _ c.if-cell.true))
 
 pub float_to_float-signal : goal.float_to_float-signal
-float_to_float-signal c = casts _ c.row_known-1.given (no_nan _ c.if-cell.false)
+float_to_float-signal c = casts _ (c.type_inv.cells _) (no_nan _ c.if-cell.false)
 
 pub float_to_float-to_left : goal.float_to_float-to_left
 float_to_float-to_left c =
-    tap_casts _ c.requires.0 (omega arith) c.row_known-in-loop-k-1.given
+    tap_casts _ c.requires.0 (omega arith) (c.type_inv.left c.loop-k.k)
 
 pub float_to_float-to_right : goal.float_to_float-to_right
 float_to_float-to_right c =
-    tap_casts _ c.requires.1 (omega arith) c.row_known-in-loop-k-2-1.given
+    tap_casts _ c.requires.1 (omega arith) (c.type_inv.right c.loop-k.k)
 
 pub loop-k-preserved : goal.loop-k-preserved
 loop-k-preserved c =

@@ -1,4 +1,4 @@
-use Rattle.lists.specs.Prelude.{◌-◌}
+use Rattle.std.specs.Prelude.{◌-◌}
 use Rattle.planes.specs.Planes.{sample_at}
 use Rattle.planes.proofs.Framing.{Sampling}
 use Rattle.replay.proofs.gather.put_frame.Given as goal

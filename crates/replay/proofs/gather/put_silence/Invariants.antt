@@ -1,4 +1,4 @@
-use Rattle.lists.specs.Prelude.{◌-◌}
+use Rattle.std.specs.Prelude.{◌-◌}
 use Rattle.formats.specs.Floats.{zero_float}
 use Rattle.planes.proofs.Framing.{Sampling}
 use Rattle.replay.proofs.gather.put_silence.Given as goal

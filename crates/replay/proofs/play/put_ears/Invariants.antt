@@ -1,4 +1,4 @@
-use Rattle.lists.specs.Prelude.{◌-◌}
+use Rattle.std.specs.Prelude.{◌-◌}
 use Rattle.planes.specs.Planes.{frame_at}
 use Rattle.replay.proofs.Ears.{Earing}
 use Rattle.replay.proofs.play.put_ears.Given as goal
