@@ -58,7 +58,7 @@ pub fn read_some<R: Read>(
 }
 
 // Reads until the file ends or the list is full, and answers how many bytes came: none where a read fails.
-fn fill<R: Read>(file: &mut R, bytes: &mut [u8]) -> usize
+pub fn fill<R: Read>(file: &mut R, bytes: &mut [u8]) -> usize
     ensures { IsPrefixLen result bytes.new }
 {
     let mut at = 0;
