@@ -1,5 +1,6 @@
 -- The answers to a record are those promised: an azimuth refused, and frames played. Assumes nothing.
-use Rattle.lists.specs.Prelude.{◌≡◌, refl, sym, ap, subst, ◌∙◌, List, [], flat_map, ℕ, ◌<◌, lit≤, Float, length, get_or}
+use Rattle.std.specs.Prelude.{◌≡◌, ◌<◌}
+use Rattle.lists.specs.Prelude.{refl, sym, ap, subst, ◌∙◌, List, [], flat_map, ℕ, lit≤, Float, length, get_or}
 use Rattle.lists.specs.Prelude.{replicate}
 use Rattle.refusals.proofs.First.{answered_accepted, answered_refused}
 use Rattle.lists.proofs.Tables.{get_or_tab}
@@ -41,7 +42,8 @@ module _ (bytes : List ℕ) where
   abbrev refusing : ℕ → Placed
   refusing n = record { refusal = n; line = replicate 768 0 }
 
-  pub refused_is : (r : Placed) → Places bytes r → (demo_refusal_at bytes ≡ 0 → ⊥) → r ≡ refusing (demo_refusal_at bytes)
+  pub refused_is : (r : Placed) → Places bytes r → (demo_refusal_at bytes ≡ 0 → ⊥) → r
+      ≡ refusing (demo_refusal_at bytes)
   refused_is r p h = p.bits ∙ answered_refused playing refusing (demo_refusal_at bytes) h
 
   pub played_is : (r : Placed) → Places bytes r → demo_refusal_at bytes ≡ 0 → r ≡ playing

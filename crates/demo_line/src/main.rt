@@ -6,22 +6,22 @@
 // writes 32 frames of six f32 (L, R, C, LFE, Ls, Rs), 768 bytes: what `panner::process` plays. It ends at the
 // end of the input, for which a read that fails counts too. A part record there, an azimuth that is refused,
 // more than 2^20 records, or an output that cannot be written ends it with a message on standard error, and
-// nothing more is written. The language gives a program no exit status to tell it by.
+// nothing more is written; the status is 0 all the same.
 //
 // `place` says what a record is played to, and its promise is one equation for all of it (specs/Records.antt). Of
 // what is read and written no contract can say anything, so the rest is proved safe and ending, and what the
 // program writes is compared.
 #![tactic(auto)]
 
-ghost use Rattle.std.specs.Prelude.{◌≡◌};
+ghost use Rattle.std.specs.Prelude.{◌≡◌, ◌≤◌, length};
 ghost use mathlib.Core.List.{flat_map};
 ghost use Rattle.big_endian.specs.Lists.{float_bytes};
 ghost use Rattle.planes.specs.Planes.{frames_of};
 ghost use Rattle.demo_line.specs.Records.{demo_voice_at, Places};
 
 use channel::Layout;
-use libc::{STDERR_FILENO, STDIN_FILENO, STDOUT_FILENO};
 use panner::Command;
+use std::io::Read;
 
 // How many samples of the voice a record has, the channels that they are played to, and the samples of those.
 const FRAMES: usize = 32;
@@ -42,16 +42,6 @@ const LINE_BYTES: usize = SAMPLE_BYTES * SAMPLES;
 // A proved loop has to end, and nothing says that the input does. So many records are eleven minutes of
 // voice at 48,000 samples a second, more than a demonstration has.
 const MOST_RECORDS: usize = 1048576;
-
-fn say(text: &[u8]) {
-    io::write_all(STDERR_FILENO, text);
-}
-
-fn say_number(before: &[u8], number: u64, after: &[u8]) {
-    say(before);
-    io::print_decimal(STDERR_FILENO, number);
-    say(after);
-}
 
 // The samples of the voice stand behind the azimuth.
 fn voice_of(bytes: &[u8]) -> [f32; FRAMES]
@@ -115,40 +105,55 @@ fn place(bytes: &[u8]) -> Placed
 }
 
 // Plays a whole record; whether to go on.
-fn play(record: &[u8]) -> bool {
+fn play(rt: &HostRuntime, record: &[u8]) -> bool {
     let placed = place(record);
     if placed.refusal != 0 {
-        say_number(b"demo_line: refused ", placed.refusal as u64, b"\n");
+        let refusal = placed.refusal;
+        let _ = eprintln!(rt; "demo_line: refused {refusal}");
         return false;
     }
-    if !io::write_all(STDOUT_FILENO, &placed.line) {
-        say(b"demo_line: standard output cannot be written\n");
+    if rt.write_all(&placed.line).is_err() {
+        let _ = eprintln!(rt; "demo_line: standard output cannot be written");
         return false;
     }
     true
 }
 
+// Reads until the list is full, the input ends or a read fails, and answers how many bytes came.
+fn read_full<R: Read>(input: &mut R, bytes: &mut [u8]) -> usize
+    ensures { result ≤ length bytes.new }
+{
+    let mut at = 0;
+    while at < bytes.len() {
+        match input.read(&mut bytes[at..]) {
+            Ok(n) if n > 0 => at += n,
+            _ => return at,
+        }
+    }
+    at
+}
+
 // Reads record n, counted from 0, and plays it; whether to go on.
-fn play_next(n: usize) -> bool {
+fn play_next(rt: &HostRuntime, n: usize) -> bool {
     let mut record = [0u8; RECORD_BYTES];
-    let got = io::read_full(STDIN_FILENO, &mut record);
+    let got = read_full(&mut rt.stdin(), &mut record);
     if got == 0 {
         return false;
     }
     if n == MOST_RECORDS {
-        say_number(b"demo_line: more than ", MOST_RECORDS as u64, b" records\n");
+        let _ = eprintln!(rt; "demo_line: more than {MOST_RECORDS} records");
         return false;
     }
     if got < RECORD_BYTES {
-        say(b"demo_line: a part record at the end\n");
+        let _ = eprintln!(rt; "demo_line: a part record at the end");
         return false;
     }
-    play(&record)
+    play(rt, &record)
 }
 
-fn main() {
+fn main(rt: HostRuntime) {
     let mut n = 0;
-    while n <= MOST_RECORDS && play_next(n) {
+    while n <= MOST_RECORDS && play_next(&rt, n) {
         n += 1;
     }
 }

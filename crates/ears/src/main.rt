@@ -6,51 +6,67 @@
 // promises nothing of its own beyond being safe and ending.
 #![tactic(auto)]
 
+ghost use Rattle.std.specs.Prelude.{◌≤◌, length, IfSome};
+
 use ears_file::RunOutcome;
-use libc::{STDERR_FILENO, STDIN_FILENO, STDOUT_FILENO};
+use std::env::FillError;
+use std::rt::Env;
 
 // As many bytes as the buffer has room for are read at a time.
 const NO_LIMIT: usize = usize::MAX;
 
 // Prints the line of a run; one that failed has none.
-fn tell(run: RunOutcome) {
+fn tell(rt: &HostRuntime, run: RunOutcome) {
     let mut text = [0u8; 64];
     let n = ears_file::result_line(run, &mut text);
-    if !io::write_all(STDOUT_FILENO, &text[..n]) {
-        os::fail(b"standard output");
+    if let Err(e) = rt.write_all(&text[..n]) {
+        files::fail(rt, b"standard output", e);
     }
 }
 
 // Plays by the names that the arguments give. Where the line cannot be opened the output is emptied all the same.
-fn play_named(bank: &[u8], line: &[u8], out: &[u8]) {
-    let from = os::open_read(line);
-    if from < 0 {
-        os::fail(line);
-        let to = os::open_overwrite(out);
-        if 0 <= to {
-            libc::close(to);
+fn play_named(rt: &HostRuntime, bank: &[u8], line: &[u8], out: &[u8]) {
+    match files::open_read(rt, line) {
+        Ok(mut from) => tell(rt, ears_file::run(rt, bank, &mut from, out, NO_LIMIT)),
+        Err(e) => {
+            files::fail(rt, line, e);
+            let _ = files::open_overwrite(rt, out);
         }
-        return;
     }
-    tell(ears_file::run(bank, from, out, NO_LIMIT));
-    libc::close(from);
 }
 
-fn main() {
-    let arguments = os::arg_count();
-    if arguments < 2 {
-        tell(ears_file::run(b"bank.bin", STDIN_FILENO, b"ears.raw", NO_LIMIT));
-        return;
+// Puts an argument at the start of a buffer, and answers how many bytes it has, if it is there. One that has no room
+// has none: no file has so long a name.
+fn argument(rt: &HostRuntime, i: usize, buf: &mut [u8]) -> Option<usize>
+    ensures { IfSome result (λ n. n ≤ length buf.new) }
+{
+    match rt.arg(i, buf) {
+        Ok(n) => Some(n),
+        Err(FillError::TooLong) => Some(0),
+        Err(FillError::NotPresent) => None,
     }
-    if arguments != 4 {
-        io::write_all(STDERR_FILENO, b"usage: ears [BANK LINE OUT]\n");
-        return;
+}
+
+fn main(rt: HostRuntime) {
+    let mut bank = [0u8; 4096];
+    let mut line = [0u8; 4096];
+    let mut out = [0u8; 4096];
+    let mut beyond = [0u8; 1];
+    let n = argument(&rt, 1, &mut bank);
+    let m = argument(&rt, 2, &mut line);
+    let k = argument(&rt, 3, &mut out);
+    let more = argument(&rt, 4, &mut beyond);
+    match (n, m, k, more) {
+        (None, _, _, _) => {
+            let mut input = rt.stdin();
+            tell(
+                &rt,
+                ears_file::run(&rt, b"bank.bin", &mut input, b"ears.raw", NO_LIMIT),
+            );
+        }
+        (Some(n), Some(m), Some(k), None) => play_named(&rt, &bank[..n], &line[..m], &out[..k]),
+        _ => {
+            let _ = eprintln!(rt; "usage: ears [BANK LINE OUT]");
+        }
     }
-    let mut bank = io::buffer();
-    let mut line = io::buffer();
-    let mut out = io::buffer();
-    let n = os::arg(1, &mut bank);
-    let m = os::arg(2, &mut line);
-    let k = os::arg(3, &mut out);
-    play_named(&bank[..n], &line[..m], &out[..k]);
 }

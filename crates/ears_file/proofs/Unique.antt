@@ -1,8 +1,22 @@
--- No two answers of `result_line` meet its promise. Two of `run` do only with another bank, another line, or another
--- failure (docs/UNFIXED.md). Assumes nothing.
-use Rattle.lists.specs.Prelude.{◌≡◌, sym, ◌∙◌}
+-- No two answers of `result_line` meet its promise. Two of `run` do only with another bank, another line or another
+-- failure; how the reader is left no contract says (docs/UNFIXED.md). Whatever system the files are of: R, whose files
+-- are
+-- of the type F and whose folders of the type D; and whatever reader the line comes from: L. Assumes nothing.
+use Rattle.std.specs.Prelude.{◌≡◌}
+use Rattle.lists.specs.Prelude.{sym, ◌∙◌}
 use denote.Triple.Entry.{Args}
-use Rattle.lists.specs.OneAnswer.{Lives, HandedBack, Allows, AllowsOneAnswer}
+use denote.Triple.Clauses.{Ended}
+use denote.RattleType.{RattleType}
+use denote.Param.Laws.{Laws}
+use mir.Syntax.{Dict}
+use Rattle.std.specs.declared.fd.AsRawFd as AsRawFd
+use Rattle.std.specs.declared.fs.files.Files as Files
+use Rattle.std.specs.declared.fs.files.OpenFile as OpenFile
+use Rattle.std.specs.declared.io.traits.Read as Read
+use Rattle.std.specs.declared.io.traits.Seek as Seek
+use Rattle.std.specs.declared.io.traits.Write as Write
+use Rattle.std.specs.declared.io.Eprint as Eprint
+use Rattle.lists.specs.OneAnswer.{Lives, HandedBack, Allows, Claim, AllowsOneAnswer}
 use Rattle.lists.proofs.Determined.{determined_by}
 use Rattle.ears_file.specs.contracts.result_line as result_line
 use Rattle.ears_file.proofs.result_line.Reads as result_line_reads
@@ -12,9 +26,24 @@ use Rattle.ears_file.proofs.run.Reads as run_reads
 result_line_unique : AllowsOneAnswer result_line.ended result_line_reads.Learnt
 result_line_unique κs a = determined_by (λ z h i. ((h.0 i).size, (_, ((h.0 i).out, _))))
 
-run_unique : (κs : Lives run.ended) (a : Args run.signature κs) (y z : HandedBack run.ended κs a)
-    (p : Allows run.ended run_reads.Learnt κs a y) (q : Allows run.ended run_reads.Learnt κs a z)
-    → p.bank ≡ q.bank → p.ends.line ≡ q.ends.line → y.0.failed ≡ z.0.failed → y ≡ z
-run_unique κs a y z p q bank line failed =
-    let same : y.0.ended ≡ z.0.ended = p.ends.bits ∙ cc (bank, line, failed) ∙ sym q.ends.bits in
-    λ i. (record { failed = failed i; ended = same i }, _)
+module _ (R L F D : RattleType) (R-laws : Laws R) (L-laws : Laws L) (F-laws : Laws F) (D-laws : Laws D)
+    (files : Files.Ghosts R.Denot F.Denot D.Denot) (files-dict : Dict) (read : Read.Ghosts F.Denot) (read-dict : Dict)
+    (write : Write.Ghosts F.Denot) (write-dict : Dict) (seek : Seek.Ghosts F.Denot) (seek-dict : Dict)
+    (opened : OpenFile.Ghosts F.Denot) (opened-dict : Dict) (folder : Read.Ghosts D.Denot) (folder-dict : Dict)
+    (told : Eprint.Ghosts R.Denot) (told-dict : Dict) (reader : Read.Ghosts L.Denot) (reader-dict : Dict)
+    (numbered : AsRawFd.Ghosts F.Denot) (numbered-dict : Dict) (drop-file drop-folder : Dict) where
+  abbrev ended : Ended
+  ended = run.ended R L F D files files-dict read read-dict write write-dict seek seek-dict opened opened-dict folder
+      folder-dict told told-dict reader reader-dict numbered numbered-dict drop-file drop-folder
+
+  abbrev Learnt : Claim ended
+  Learnt = run_reads.Learnt R L F D R-laws L-laws F-laws D-laws files files-dict read read-dict write write-dict seek
+      seek-dict opened opened-dict folder folder-dict told told-dict reader reader-dict numbered numbered-dict
+      drop-file drop-folder
+
+  run_unique : (κs : Lives ended) (a : Args (run.signature R L F D) κs) (y z : HandedBack ended κs a)
+      (p : Allows ended Learnt κs a y) (q : Allows ended Learnt κs a z)
+      → p.bank ≡ q.bank → p.ends.line ≡ q.ends.line → y.0.failed ≡ z.0.failed → y.0 ≡ z.0
+  run_unique κs a y z p q bank line failed =
+      let same : y.0.ended ≡ z.0.ended = p.ends.bits ∙ cc (bank, line, failed) ∙ sym q.ends.bits in
+      λ i. record { failed = failed i; ended = same i }

@@ -2,7 +2,8 @@
 -- line. [..] Empty input prints `frames 0 unsettled 0`. [..] a part frame at the end prints `refused 9` only". Document
 -- 02, E2, of a bad bank: "9 is no longer given for a bank, only for a part frame. The program prints number and place,
 -- as `refused 14 at 1`; a missing bank is read as empty." Definitions only.
-use Rattle.lists.specs.Prelude.{ℕ, cond, not, List, [], ◌∷◌, eqb, pos, length, replicate}
+use Rattle.std.specs.Prelude.{◌∷◌}
+use Rattle.lists.specs.Prelude.{ℕ, cond, not, List, [], eqb, pos, length, replicate}
 use Rattle.refusals.specs.Refusals.{first_of, ◌when◌, answered}
 use Rattle.channel.specs.declared.Layout.TheVariants.{Surround51}
 use Rattle.bank_form.specs.Bank.{Bank, rows}

@@ -1,6 +1,7 @@
 -- What a run promises: what the system hands over no contract can name, so it is said that there are such bytes. And
 -- that a line may be cut anywhere. Definitions only.
-use Rattle.lists.specs.Prelude.{◌≡◌, cond, List, [], ◌∷◌, ◌++◌, flatten, ℕ}
+use Rattle.std.specs.Prelude.{◌≡◌, ◌∷◌, ◌++◌}
+use Rattle.lists.specs.Prelude.{cond, List, [], flatten, ℕ}
 use Rattle.hrtf_history.specs.Setup.{Setup}
 use Rattle.hrtf_history.specs.History.{heard, after}
 use Rattle.ears_wire.specs.Records.{rest_in}

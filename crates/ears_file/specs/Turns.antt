@@ -1,6 +1,7 @@
 -- One turn of the program: what it needs of the set-up, what the record and the lists stand for before and after it,
 -- and what it puts out. Definitions only.
-use Rattle.lists.specs.Prelude.{◌≡◌, List, [], ◌++◌, ℕ, ◌≤◌, ◌<◌, length, take, Float}
+use Rattle.std.specs.Prelude.{◌≡◌, ◌++◌, ◌≤◌, ◌<◌}
+use Rattle.lists.specs.Prelude.{List, [], ℕ, length, take, Float}
 use Rattle.refusals.specs.Refusals.{answered}
 use Rattle.hrtf_desk.specs.Numbers.{zeroed}
 use Rattle.hrtf_history.specs.Setup.{Setup}

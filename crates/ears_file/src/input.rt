@@ -11,6 +11,7 @@ ghost use Rattle.ears_file.specs.Turns.{BlocksAccepted, end_of, Further};
 use crate::turn::{Progress, Turn};
 use crate::{Ended, RunOutcome};
 use hrtf_checks::ConvolverShape;
+use std::io::{Read, Write};
 
 // What a step answers: whether the line is over, whether the system failed, and the turn.
 #[derive(Clone, Copy)]
@@ -20,13 +21,10 @@ struct Stepped {
     turn: Turn,
 }
 
-// Nothing more came: the line is over, or a read of it failed, which is told.
+// Nothing more came: the line is over, or a read of it failed, which has been told.
 fn stopped(failed: bool, progress: Progress) -> Stepped
     ensures { result ≡ record { over = true; failed = failed; turn = record { progress = progress; bytes = 0 } } }
 {
-    if failed {
-        os::fail(b"ears: reading the line");
-    }
     Stepped {
         over: true,
         failed,
@@ -35,21 +33,24 @@ fn stopped(failed: bool, progress: Progress) -> Stepped
 }
 
 // Writes the first bytes of a list, and answers whether that failed, which is told.
-fn write_some(out: i32, size: usize, text: &[u8]) -> bool
+fn write_some<E: Eprint, W: Write>(rt: &E, out: &mut W, size: usize, text: &[u8]) -> bool
     requires { IsPrefixLen size text.now }
 {
-    if io::write_all(out, &text[..size]) {
-        return false;
+    match out.write_all(&text[..size]) {
+        Ok(()) => false,
+        Err(e) => {
+            files::fail(rt, b"ears: writing the ears", e);
+            true
+        }
     }
-    os::fail(b"ears: writing the ears");
-    true
 }
 
 // Reads, plays and writes once: a part more has come, of no bytes exactly where the line is over.
-fn step(
+fn step<E: Eprint, L: Read, W: Write>(
+    rt: &E,
     progress: Progress,
-    line: i32,
-    out: i32,
+    line: &mut L,
+    out: &mut W,
     limit: usize,
     shape: ConvolverShape,
     weights: &[f64],
@@ -69,14 +70,20 @@ fn step(
         text.new }
 {
     let held = progress.held;
-    let got = files::read_some(line, held, limit, bytes);
-    if got.size == held {
-        return stopped(got.failed, progress);
+    let size = match files::read_some(line, held, limit, bytes) {
+        Ok(size) => size,
+        Err(e) => {
+            files::fail(rt, b"ears: reading the line", e);
+            return stopped(true, progress);
+        }
+    };
+    if size == held {
+        return stopped(false, progress);
     }
     let turn = crate::turn::play(
-        progress, got.size, bytes, shape, inputs, weights, row_of, taps, rings, ears, text,
+        progress, size, bytes, shape, inputs, weights, row_of, taps, rings, ears, text,
     );
-    let failed = write_some(out, turn.bytes, text);
+    let failed = write_some(rt, out, turn.bytes, text);
     Stepped {
         over: false,
         failed,
@@ -101,9 +108,10 @@ fn at_end(progress: Progress) -> Ended
 
 // Plays the whole line, step by step, until it is over. A proved loop has to end, and nothing says that the line does:
 // so the steps are counted down from a number that no run uses up.
-pub(crate) fn play_all(
-    line: i32,
-    out: i32,
+pub(crate) fn play_all<E: Eprint, L: Read, W: Write>(
+    rt: &E,
+    line: &mut L,
+    out: &mut W,
     limit: usize,
     shape: ConvolverShape,
     weights: &[f64],
@@ -124,6 +132,7 @@ pub(crate) fn play_all(
     let mut steps = u64::MAX;
     while 0 < steps {
         let step = step(
+            rt,
             progress,
             line,
             out,

@@ -21,6 +21,9 @@ ghost use Rattle.ears_file.specs.Promise.{Ends, Answers};
 use bank::BankRead;
 use channel::Layout;
 use hrtf_checks::ConvolverShape;
+use std::io::{Read, Write};
+use std::os::fd::AsRawFd;
+use std::rt::Files;
 
 mod input;
 mod turn;
@@ -89,13 +92,14 @@ fn done(ended: Ended) -> RunOutcome
 
 // Plays the whole line with a bank that was read and keeps the form: six speakers are set up by it, and rings of the
 // cells that they need are silent.
-fn play_with(
+fn play_with<E: Eprint, L: Read, W: Write>(
+    rt: &E,
     read: BankRead,
     azimuths: &[i16],
     elevations: &[i16],
     taps: &[f32],
-    line: i32,
-    out: i32,
+    line: &mut L,
+    out: &mut W,
     limit: usize,
 ) -> RunOutcome
     requires refusal_value { read.refusal ≡ 0 }
@@ -130,6 +134,7 @@ fn play_with(
     let cells = arranged.speakers * read.length;
     let mut rings = [0.0f32; 3072];
     input::play_all(
+        rt,
         line,
         out,
         limit,
@@ -143,27 +148,44 @@ fn play_with(
 
 // Plays the line that is open as `line` with the bank of a name, into the file of a name. No more than `limit`
 // bytes are read at a time: the program lets its buffer decide, and the tests try other cuts.
-pub fn run(bank: &[u8], line: i32, out: &[u8], limit: usize) -> RunOutcome
+pub fn run<R: Files + Eprint, L: Read>(
+    rt: &R,
+    bank: &[u8],
+    line: &mut L,
+    out: &[u8],
+    limit: usize,
+) -> RunOutcome
+where
+    R::File: AsRawFd,
     ensures { Answers result }
 {
     let mut azimuths = [0i16; 8];
     let mut elevations = [0i16; 8];
     let mut taps = [0.0f32; 8192];
-    let read = files::read_bank(bank, &mut azimuths, &mut elevations, &mut taps);
-    let to = files::open_out(out);
+    let read = files::read_bank(rt, bank, &mut azimuths, &mut elevations, &mut taps);
+    let opened = files::open_out(rt, out);
     if read.refusal != 0 {
-        if 0 <= to {
-            libc::close(to);
-        }
         return done(refused_bank(read));
     }
-    if to < 0 {
-        os::fail(out);
-        return failed();
-    }
-    let run = play_with(read, &azimuths, &elevations, &taps, line, to, limit);
-    if libc::close(to) < 0 {
-        os::fail(out);
+    let mut to = match opened {
+        Ok(file) => file,
+        Err(e) => {
+            files::fail(rt, out, e);
+            return failed();
+        }
+    };
+    let run = play_with(
+        rt,
+        read,
+        &azimuths,
+        &elevations,
+        &taps,
+        line,
+        &mut to,
+        limit,
+    );
+    if let Err(e) = files::close(to) {
+        files::fail(rt, out, e);
         return failed();
     }
     run

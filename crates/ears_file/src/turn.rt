@@ -13,7 +13,7 @@ use hrtf_desk::Desk;
 
 // What is remembered between turns: the desk, how many bytes of a frame that has not come whole stand at the
 // start of the buffer, and how many frames were played and how many of them are unsettled.
-#[derive(Drop)]
+#[derive(Clone, Copy)]
 pub(crate) struct Progress {
     pub(crate) desk: Desk,
     pub(crate) held: usize,
@@ -22,7 +22,7 @@ pub(crate) struct Progress {
 }
 
 // What a turn answers: the progress, and how many bytes are put out.
-#[derive(Drop)]
+#[derive(Clone, Copy)]
 pub(crate) struct Turn {
     pub(crate) progress: Progress,
     pub(crate) bytes: usize,

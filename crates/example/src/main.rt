@@ -6,8 +6,8 @@ ghost use Rattle.panner.specs.Promise.{PannerPromise};
 
 use channel::Layout;
 use harmonics::Direction;
-use libc::STDOUT_FILENO;
 use panner::Command;
+use std::io;
 
 // Plays four samples at a direction. The planes have four samples each, one plane after another.
 fn place(direction: Direction, voice: &[f32], planes: &mut [f32]) -> panner::Panned
@@ -19,24 +19,22 @@ fn place(direction: Direction, voice: &[f32], planes: &mut [f32]) -> panner::Pan
     panner::process(command, Layout::Mono, 4, 4, voice, planes)
 }
 
-// Prints a word, and 1 if a sample sounds, else 0.
-fn tell(word: &[u8], sample: f32) {
-    io::write_all(STDOUT_FILENO, word);
-    io::print_decimal(STDOUT_FILENO, (sample != 0.0) as u64);
+// 1 if a sample sounds, else 0.
+fn sounds(sample: f32) -> u8 {
+    (sample != 0.0) as u8
 }
 
-fn main() {
+fn main(rt: HostRuntime) -> io::Result<()> {
     let left = Direction {
         azimuth: 90.0,
         elevation: 0.0,
     };
     let mut planes = [0.0f32; 16];
     let panned = place(left, &[0.5f32; 4], &mut planes);
-    io::write_all(STDOUT_FILENO, b"refusal ");
-    io::print_decimal(STDOUT_FILENO, panned.refusal as u64);
-    tell(b" sounds ", planes[0]);
-    tell(b" ", planes[4]);
-    tell(b" ", planes[8]);
-    tell(b" ", planes[12]);
-    io::write_all(STDOUT_FILENO, b"\n");
+    let refusal = panned.refusal;
+    let w = sounds(planes[0]);
+    let y = sounds(planes[4]);
+    let z = sounds(planes[8]);
+    let x = sounds(planes[12]);
+    println!(rt; "refusal {refusal} sounds {w} {y} {z} {x}")
 }

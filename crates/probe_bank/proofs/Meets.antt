@@ -1,6 +1,7 @@
 -- What is put is the answer of each operation. Assumes nothing.
-use Rattle.lists.specs.Prelude.{◌≡◌, sym, ap, ◌∙◌, List, ℕ, ◌+◌, ◌-◌, ◌*◌, ◌≤◌, ◌<◌, arith, le-leb, lt-leb, ne_eqb, ℤ}
-use Rattle.lists.specs.Prelude.{Float, length, take, drop, length-drop, take_all}
+use Rattle.std.specs.Prelude.{◌≡◌, ◌+◌, ◌-◌, ◌*◌, ◌≤◌, ◌<◌}
+use Rattle.lists.specs.Prelude.{sym, ap, ◌∙◌, List, ℕ, arith, le-leb, lt-leb, ne_eqb, ℤ, Float, length, take, drop}
+use Rattle.lists.specs.Prelude.{length-drop, take_all}
 use Rattle.big_endian.specs.Fields.{field_at, signed_at, float_at}
 use Rattle.bank_form.specs.Bank.{Bank}
 use Rattle.bank.specs.Reading.{ReadOutcome, read_outcome}
@@ -45,7 +46,8 @@ read_short args out h = sym (rw (lt-leb 6 (length args) h))
 -- ---- 7 bank write
 
 pub written : (bank : Bank) (b : ℕ) (file : List ℕ) (o : WriteOutcome) (out : List ℕ) (d : Draft)
-    → file ≡ filled_with byte_filling b → o ≡ write_outcome bank file → d ≡ write_parts o out → d ≡ write_from bank b out
+    → file ≡ filled_with byte_filling b → o ≡ write_outcome bank file → d ≡ write_parts o out
+    → d ≡ write_from bank b out
 unfolding write_from
 written bank b file o out d filled e put = put ∙ cc
 

@@ -1,8 +1,9 @@
 -- What the promise rules out: of a bank to read the rows in the place of the offset, any answer to a bank to write
 -- whose lists are not as long as it says, on a worked request a speaker from one byte early, and of a file that is
 -- turned what is told of one of another version. Assumes nothing.
-use Rattle.lists.specs.Prelude.{◌≡◌, refl, sym, ap, ◌∙◌, List, [], ◌∷◌, ◌++◌, ℕ, ◌+◌, ◌*◌, ◌%◌, ◌^◌, ◌≤◌, arith, le-leb}
-use Rattle.lists.specs.Prelude.{length, take, drop, replicate, length-drop}
+use Rattle.std.specs.Prelude.{◌≡◌, ◌∷◌, ◌++◌, ◌+◌, ◌*◌, ◌%◌, ◌^◌, ◌≤◌}
+use Rattle.lists.specs.Prelude.{refl, sym, ap, ◌∙◌, List, [], ℕ, arith, le-leb, length, take, drop, replicate}
+use Rattle.lists.specs.Prelude.{length-drop}
 use Rattle.lists.proofs.Tests.{cond_true}
 use Rattle.big_endian.specs.Bytes.{value_of, bytes_of}
 use Rattle.big_endian.specs.Fields.{field_at, signed_at}
@@ -59,7 +60,8 @@ ahead = 8 ∷ 8 ∷ 0 ∷ 0 ∷ 0 ∷ 0 ∷ 0 ∷ 0 ∷ 0 ∷ 8 ∷ replicate 36
 
 -- the speaker's azimuth is read one byte early, and so refused
 speaker_one_byte_early : (out : List ℕ) (r : Draft) → 1 ≤ length out → r ≡ answer_of 8 ahead out
-    → r ≡ choice_parts (choice_of (signeds_at ahead 14 8) (signeds_at ahead 30 8) 8 (signed_at ahead 9) (signed_at ahead 12))
+    → r ≡ choice_parts
+    (choice_of (signeds_at ahead 14 8) (signeds_at ahead 30 8) 8 (signed_at ahead 9) (signed_at ahead 12))
     out → ⊥
 unfolding choose_from field_at signed_at value_of strided choice_of choice_refusal in_tenths is_elevation
 speaker_one_byte_early out r room is e =

@@ -1,6 +1,7 @@
 -- What is answered to requests 6 to 8, 23 and 24, in the words and the order of docs/PROBE.md, 'Operations'.
 -- Definitions only.
-use Rattle.lists.specs.Prelude.{ℕ, ◌+◌, ◌*◌, cond, List, eqb, leb, Float, ℤ, length, take, drop}
+use Rattle.std.specs.Prelude.{◌+◌, ◌*◌}
+use Rattle.lists.specs.Prelude.{ℕ, cond, List, eqb, leb, Float, ℤ, length, take, drop}
 use Rattle.big_endian.specs.Bytes.{bytes_of}
 use Rattle.big_endian.specs.Fields.{field_at, signed_at}
 use Rattle.big_endian.specs.Lists.{signed_bytes, float_bytes, signeds_at, floats_at}
@@ -91,8 +92,8 @@ choice_parts r out = refusal_and_number r.refusal r.row out
 -- "rows (8), the speaker's azimuth and elevation in tenths (2 each), the a azimuths (2 each), the e elevations (2
 -- each)"
 abbrev pub choice_by : List ℕ → ℕ → ℕ → Choice
-choice_by args a e = choice_of (signeds_at args 14 a) (signeds_at args (14 + 2 * a) e) (field_at args 2 8) (signed_at args 10)
-    (signed_at args 12)
+choice_by args a e = choice_of (signeds_at args 14 a) (signeds_at args (14 + 2 * a) e) (field_at args 2 8)
+    (signed_at args 10) (signed_at args 12)
 
 unfoldable pub choose_from : List ℕ → ℕ → ℕ → List ℕ → Draft
 choose_from args a e out = taking (14 + 2 * a + 2 * e) args out (choice_parts (choice_by args a e) out)
@@ -112,7 +113,8 @@ turn_into operation args b out = write_parts (turned_by operation (drop 2 args) 
 
 -- "b: bytes lent for the output (2)"
 unfoldable pub turn_answer : ℕ → List ℕ → List ℕ → Draft
-turn_answer operation args out = cond (leb 2 (length args)) (turn_into operation args (bytes_lent args 0) out) (none out)
+turn_answer operation args out =
+    cond (leb 2 (length args)) (turn_into operation args (bytes_lent args 0) out) (none out)
 
 -- ---- every operation of the family
 

@@ -1,7 +1,7 @@
 -- What lists and buffers hold before a call, and what is counted after it (docs/PROBE.md, 'Operations'). Definitions
 -- only.
-use Rattle.lists.specs.Prelude.{ℕ, ◌+◌, ◌-◌, ◌*◌, ◌%◌, Bool, List, Float, nan, binary32, of_int, ne, ℤ, pos, length}
-use Rattle.lists.specs.Prelude.{get_or}
+use Rattle.std.specs.Prelude.{◌+◌, ◌-◌, ◌*◌, ◌%◌}
+use Rattle.lists.specs.Prelude.{ℕ, Bool, List, Float, nan, binary32, of_int, ne, ℤ, pos, length, get_or}
 use Rattle.lists.specs.Tables.{tab, count}
 
 -- "Before the call the lists that a bank is read into are filled, entry i of the azimuths, of the elevations and of the

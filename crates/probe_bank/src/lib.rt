@@ -137,7 +137,7 @@ fn write_from(
     requires { length file.old ≤ 33000 }
     ensures { draft result out.new
         ≡ write_from (record {
-          azimuths = azimuths.entry.now;
+          azimuths = azimuths.now;
           elevations = elevations.now;
           length = l;
           taps = taps.now;

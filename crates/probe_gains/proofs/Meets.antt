@@ -1,5 +1,6 @@
 -- Which of the six answers is given. Assumes nothing.
-use Rattle.lists.specs.Prelude.{◌≡◌, ◌∙◌, List, ◌⊎◌, inl, inr, ⊎_elim, ℕ, eq-eqb, ne_eqb}
+use Rattle.std.specs.Prelude.{◌≡◌, ◌⊎◌}
+use Rattle.lists.specs.Prelude.{◌∙◌, List, inl, inr, ⊎_elim, ℕ, eq-eqb, ne_eqb}
 use Rattle.probe_request.specs.Requests.{weights_lent}
 use Rattle.probe_answer.specs.Answers.{Draft, none}
 use Rattle.probe_gains.specs.Answers.{rows_answer, decoder_answer, matrix_answer, answer_of}

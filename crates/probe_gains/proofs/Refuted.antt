@@ -1,7 +1,8 @@
 -- What the promise rules out: of every request for the decoder matrix the rows, and at the left end the right gain
 -- before the left one. Assumes nothing.
-use Rattle.lists.specs.Prelude.{◌≡◌, refl, sym, ap, ◌∙◌, List, [], ◌∷◌, ℕ, ◌+◌, ◌*◌, ◌%◌, ◌^◌, ◌≤◌, arith, length}
-use Rattle.lists.specs.Prelude.{Float, nan, binary64, of_int, of_bits, of_fields, to_bits}
+use Rattle.std.specs.Prelude.{◌≡◌, ◌∷◌, ◌+◌, ◌*◌, ◌%◌, ◌^◌, ◌≤◌}
+use Rattle.lists.specs.Prelude.{refl, sym, ap, ◌∙◌, List, [], ℕ, arith, length, Float, nan, binary64, of_int, of_bits}
+use Rattle.lists.specs.Prelude.{of_fields, to_bits}
 use Rattle.big_endian.specs.Bytes.{value_of}
 use Rattle.big_endian.specs.Fields.{field_at, double_at}
 use Rattle.big_endian.specs.Lists.{double_bytes, doubles_at}

@@ -1,6 +1,7 @@
 -- docs/PROBE.md, 'Operations', 9 to 13 and 15: the count of the bytes of an answer and what the lent bytes hold with
 -- it, in the order of the page. Definitions only.
-use Rattle.lists.specs.Prelude.{ℕ, ◌+◌, ◌*◌, cond, List, [], ◌∷◌, eqb}
+use Rattle.std.specs.Prelude.{◌+◌, ◌*◌, ◌∷◌}
+use Rattle.lists.specs.Prelude.{ℕ, cond, List, [], eqb}
 use Rattle.big_endian.specs.Fields.{field_at, double_at}
 use Rattle.big_endian.specs.Lists.{doubles_at}
 use Rattle.harmonics.specs.declared.Direction.{Direction}

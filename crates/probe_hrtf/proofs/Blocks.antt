@@ -1,5 +1,6 @@
 -- A block: what is read is played, and its outcome is put, each from the one before. Assumes nothing.
-use Rattle.lists.specs.Prelude.{◌≡◌, ap, ◌∙◌, List, ℕ, ◌-◌, ◌^◌, ◌<◌, arith, length, Float}
+use Rattle.std.specs.Prelude.{◌≡◌, ◌-◌, ◌^◌, ◌<◌}
+use Rattle.lists.specs.Prelude.{ap, ◌∙◌, List, ℕ, arith, length, Float}
 use Rattle.big_endian.specs.Fields.{field_at}
 use Rattle.big_endian.specs.Lists.{float_bytes}
 use Rattle.hrtf_desk.specs.declared.Desk.{Desk}

@@ -1,5 +1,6 @@
 -- The five lists of a request: read one behind the other, they are what stands there. Assumes nothing.
-use Rattle.lists.specs.Prelude.{◌≡◌, refl, ap, ◌∙◌, List, ℕ, ◌+◌, ◌-◌, ◌*◌, ◌^◌, ◌≤◌, ◌<◌, arith, length, Float}
+use Rattle.std.specs.Prelude.{◌≡◌, ◌+◌, ◌-◌, ◌*◌, ◌^◌, ◌≤◌, ◌<◌}
+use Rattle.lists.specs.Prelude.{refl, ap, ◌∙◌, List, ℕ, arith, length, Float}
 use Rattle.big_endian.specs.Fields.{float_at, double_at}
 use Rattle.probe_request.specs.Requests.{samples_lent, weights_lent, cells_lent, place_in, list_at}
 use Rattle.probe_request.proofs.Requests.{inside, place_behind, place_list, place_no_end}
@@ -9,7 +10,8 @@ use Rattle.probe_hrtf.specs.Requests.{Lengths, lent_of, Lists, listed, lengths, 
 use Rattle.probe_hrtf.specs.Requests.{ears_from, lists_end, lists_at, ReadLists, read_from}
 
 -- as many are lent as is asked for
-pub lent_of_lem : (args : List ℕ) {i w t r e : ℕ} → i ≡ samples_lent args 0 → w ≡ weights_lent args 2 → t ≡ samples_lent args 4
+pub lent_of_lem : (args : List ℕ) {i w t r e : ℕ} → i ≡ samples_lent args 0 → w ≡ weights_lent args 2
+    → t ≡ samples_lent args 4
     → r ≡ cells_lent args 6 → e ≡ samples_lent args 8
     → record { inputs = i; weights = w; taps = t; rings = r; ears = e } ≡ lent_of args
 lent_of_lem args is ws ts rs es = λ k. record { inputs = is k; weights = ws k; taps = ts k; rings = rs k; ears = es k }

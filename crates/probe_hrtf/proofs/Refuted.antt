@@ -1,8 +1,9 @@
 -- What the promise rules out: of every accepted block the unsettled count in the place of the samples, of every refused
 -- reset the desk of a block, and of no cells a sum of -0.0; and a desk, a shape or lists that are read or put
 -- otherwise. Assumes nothing.
-use Rattle.lists.specs.Prelude.{◌≡◌, sym, ap, ◌∙◌, subst, true, List, [], ◌∷◌, ℕ, suc, ◌+◌, ◌*◌, ◌%◌, ◌^◌, ◌≤◌, ◌<◌}
-use Rattle.lists.specs.Prelude.{arith, lt-leb, length, pos, Float, fin, nan, binary64, to_bits}
+use Rattle.std.specs.Prelude.{◌≡◌, ◌∷◌, ◌+◌, ◌*◌, ◌%◌, ◌^◌, ◌≤◌, ◌<◌}
+use Rattle.lists.specs.Prelude.{sym, ap, ◌∙◌, subst, true, List, [], ℕ, suc, arith, lt-leb, length, pos, Float, fin}
+use Rattle.lists.specs.Prelude.{nan, binary64, to_bits}
 use Rattle.formats.specs.Floats.{zero_float}
 use Rattle.big_endian.specs.Bytes.{bytes_of}
 use Rattle.big_endian.specs.Fields.{field_at}
@@ -25,7 +26,8 @@ use Rattle.probe_answer.proofs.Standing.{Told, then_same, same_entry, parts_room
 use Rattle.probe_hrtf.specs.Requests.{desk_at, shape_at, lent_of, Lists, ReadLists, lengths, lists_end, read_from}
 use Rattle.probe_hrtf.specs.Requests.{block_end, call_at, state_at, sum_end}
 use Rattle.probe_hrtf.specs.Answers as Answers
-use Rattle.probe_hrtf.specs.Answers.{then_desk, block_shown, block_by, reset_shown, sum_at, sum_shown, sum_by, answer_of}
+use Rattle.probe_hrtf.specs.Answers.{then_desk, block_shown, block_by, reset_shown, sum_at, sum_shown, sum_by}
+use Rattle.probe_hrtf.specs.Answers.{answer_of}
 
 module _ (args out : List ℕ) (r : Draft) (room : 9 ≤ length out) where
   -- of an accepted block the unsettled count is told in the place of the samples
@@ -59,7 +61,8 @@ module _ (args out : List ℕ) (r : Draft) (room : 9 ≤ length out) where
 
   -- of a refused reset the desk is read where a block has it, and so the frames-to-go are told in the place of the ring
   -- position
-  desk_at_the_place_of_a_block : (k : ℕ) → let cells = floats_at args 34 (cells_lent args 0) in r ≡ answer_of 18 args out
+  desk_at_the_place_of_a_block : (k : ℕ) → let cells = floats_at args 34 (cells_lent args 0) in
+      r ≡ answer_of 18 args out
       → length args ≡ 34 + 4 * cells_lent args 0
       → reset_refusal (field_at args 18 8) (field_at args 26 8) cells ≡ suc k
       → (field_at args 2 8 % 256 ^ 8 ≡ field_at args 10 8 % 256 ^ 8 → ⊥)
@@ -75,7 +78,8 @@ module _ (args out : List ℕ) (r : Draft) (room : 9 ≤ length out) where
       ∙ ap (λ (d : Draft). field_at d.bytes 1 8) e ∙ (told 10).value)
 
   -- of no cells the sum is told as -0.0, as where it does not begin at 0.0
-  no_cells_minus_zero : r ≡ answer_of 25 args out → cells_lent args 0 ≡ 0 → length args ≡ sum_end 0 (samples_lent args 2)
+  no_cells_minus_zero : r ≡ answer_of 25 args out → cells_lent args 0 ≡ 0
+      → length args ≡ sum_end 0 (samples_lent args 2)
       → r ≡ sum_shown (fin true 0 (pos 0)) out → ⊥
   unfolding answer_of sum_by sum_at strided to_bits
   no_cells_minus_zero is none_lent long e =

@@ -1,5 +1,6 @@
 -- A reset: what is read is reset, and its outcome is put, each from the one before. Assumes nothing.
-use Rattle.lists.specs.Prelude.{◌≡◌, ◌∙◌, List, ℕ, ◌+◌, ◌-◌, ◌*◌, ◌^◌, ◌<◌, arith, length, Float}
+use Rattle.std.specs.Prelude.{◌≡◌, ◌+◌, ◌-◌, ◌*◌, ◌^◌, ◌<◌}
+use Rattle.lists.specs.Prelude.{◌∙◌, List, ℕ, arith, length, Float}
 use Rattle.big_endian.specs.Bytes.{bytes_of}
 use Rattle.big_endian.specs.Fields.{field_at, float_at}
 use Rattle.big_endian.specs.Lists.{float_bytes, floats_at}
@@ -17,7 +18,8 @@ pub rested : (args out : List ℕ) (rings : List Float) {rings₁ rings₂ : Lis
     {d : Desk} {speakers L p : ℕ}
     → c ≡ b then float_bytes rings₂ → b ≡ then_desk a r.desk → a ≡ none out then bytes_of 1 r.refusal
     → record { answer = r; rings = rings₂ } ≡ reset_outcome d speakers L rings₁ → d ≡ desk_at args 2
-    → speakers ≡ field_at args 18 8 → L ≡ field_at args 26 8 → rings₁ ≡ list_at float_at 4 args 34 rings → length args ≡ p
+    → speakers ≡ field_at args 18 8 → L ≡ field_at args 26 8 → rings₁ ≡ list_at float_at 4 args 34 rings
+    → length args ≡ p
     → p ≡ place_in (length args) (34 + 4 * length rings) → length args < 2 ^ 64 - 1
     → c ≡ reset_by_of (length rings) args out
 unfolding reset_shown reset_by_of

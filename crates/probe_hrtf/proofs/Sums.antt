@@ -1,5 +1,6 @@
 -- A sum: what is read is summed, and the sum is put, each from the one before. Assumes nothing.
-use Rattle.lists.specs.Prelude.{◌≡◌, ◌∙◌, List, ℕ, ◌-◌, ◌*◌, ◌^◌, ◌+◌, ◌<◌, arith, length, Float}
+use Rattle.std.specs.Prelude.{◌≡◌, ◌-◌, ◌*◌, ◌^◌, ◌+◌, ◌<◌}
+use Rattle.lists.specs.Prelude.{◌∙◌, List, ℕ, arith, length, Float}
 use Rattle.big_endian.specs.Fields.{field_at, float_at}
 use Rattle.probe_request.specs.Requests.{samples_lent, cells_lent, place_in, list_at}
 use Rattle.probe_request.proofs.Requests.{inside, place_behind, place_list, place_end, place_no_end}

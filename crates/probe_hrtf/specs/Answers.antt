@@ -1,5 +1,6 @@
 -- What is answered to a request for the convolver (docs/PROBE.md, 'Operations', 17, 18 and 25). Definitions only.
-use Rattle.lists.specs.Prelude.{ℕ, suc, ◌+◌, ◌*◌, cond, List, [], ◌∷◌, eqb, Float}
+use Rattle.std.specs.Prelude.{◌+◌, ◌*◌, ◌∷◌}
+use Rattle.lists.specs.Prelude.{ℕ, suc, cond, List, [], eqb, Float}
 use Rattle.formats.specs.Floats.{zero_float}
 use Rattle.big_endian.specs.Bytes.{bytes_of}
 use Rattle.big_endian.specs.Fields.{field_at}

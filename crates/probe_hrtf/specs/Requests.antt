@@ -1,5 +1,6 @@
 -- What stands in a request for the convolver (docs/PROBE.md, 'Operations', 17, 18 and 25). Definitions only.
-use Rattle.lists.specs.Prelude.{ℕ, ◌+◌, ◌*◌, List, length, Float}
+use Rattle.std.specs.Prelude.{◌+◌, ◌*◌}
+use Rattle.lists.specs.Prelude.{ℕ, List, length, Float}
 use Rattle.big_endian.specs.Fields.{field_at, float_at, double_at}
 use Rattle.big_endian.specs.Lists.{floats_at, doubles_at}
 use Rattle.hrtf_desk.specs.declared.Desk.{Desk}

@@ -30,9 +30,11 @@ module _ (args out : List ℕ) (r : Draft) where
       let later = double_bytes (float_at args 1 ∷ []) in
       let same : first ≡ later = then_same (none out) first later (size _ ∙ sym (size _))
       (omega (arith, size (float_at args 0))) (taken 4 args out _ four ∙ sym is ∙ e) in
-      let bits : to_bits binary64 (float_at args 0) % 256 ^ 8 ≡ to_bits binary64 (float_at args 1) % 256 ^ 8 = same_entry 8
+      let bits : to_bits binary64 (float_at args 0) % 256 ^ 8 ≡ to_bits binary64 (float_at args 1) % 256 ^ 8 =
+      same_entry 8
       (to_bits binary64) (float_at args 0 ∷ []) (float_at args 1 ∷ []) 0 nan (omega arith) (omega arith) same in
-      let none : to_bits binary64 (float_at args 1) % 256 ^ 8 ≡ 0 = ap (λ (n : ℕ). to_bits binary64 (of_bits binary32 n) %
+      let none : to_bits binary64 (float_at args 1) % 256 ^ 8 ≡ 0 =
+      ap (λ (n : ℕ). to_bits binary64 (of_bits binary32 n) %
       256 ^ 8) late in
       omega (arith, bits, none)
 

@@ -1,6 +1,7 @@
 -- The answer to a decoder block: of the block that `ambisonic_decoder` promises for what the request gives, or none.
 -- Assumes nothing.
-use Rattle.lists.specs.Prelude.{◌≡◌, ap, ◌∙◌, List, ℕ, ◌+◌, ◌*◌, arith, Float, length}
+use Rattle.std.specs.Prelude.{◌≡◌, ◌+◌, ◌*◌}
+use Rattle.lists.specs.Prelude.{ap, ◌∙◌, List, ℕ, arith, Float, length}
 use Rattle.big_endian.specs.Fields.{field_at, float_at, double_at}
 use Rattle.ambisonic_decoder.specs.declared.Decoded.{Decoded}
 use Rattle.ambisonic_decoder.specs.Promise.{DecodedBlock, decoded_block}
@@ -14,7 +15,8 @@ module _ (args out : List ℕ) where
   pub decode_plays : (weights inputs planes weighed before after last : List Float) (outputs channels frames stride : ℕ)
       (r : Decoded) (d : Draft)
       → length args ≡ 38 + 8 * length weights + 4 * length inputs + 4 * length planes
-      → weighed ≡ list_at double_at 8 args 38 weights → before ≡ list_at float_at 4 args (38 + 8 * length weights) inputs
+      → weighed ≡ list_at double_at 8 args 38 weights → before
+      ≡ list_at float_at 4 args (38 + 8 * length weights) inputs
       → after ≡ list_at float_at 4 args (38 + 8 * length weights + 4 * length inputs) planes
       → outputs ≡ field_at args 6 8 → channels ≡ field_at args 14 8 → frames ≡ field_at args 22 8
       → stride ≡ field_at args 30 8
@@ -38,12 +40,14 @@ module _ (args out : List ℕ) where
   decode_none w i o first second third h =
       untaken _ args out (decoded_answer args w i o out) h ∙ (λ j. decode_lent args (first j) (second j) (third j) out)
 
-  pub decode_some : (d : Draft) (w i o : ℕ) → w ≡ weights_lent args 0 → i ≡ samples_lent args 2 → o ≡ samples_lent args 4
+  pub decode_some : (d : Draft) (w i o : ℕ) → w ≡ weights_lent args 0 → i ≡ samples_lent args 2 → o
+      ≡ samples_lent args 4
       → length args ≡ 38 + 8 * w + 4 * i + 4 * o
       → d ≡ decoded_answer args w i o out → d ≡ decode_answer args out
   unfolding decode_answer
   decode_some d w i o first second third h e =
-      e ∙ taken _ args out (decoded_answer args w i o out) h ∙ (λ j. decode_lent args (first j) (second j) (third j) out)
+      e ∙ taken _ args out (decoded_answer args w i o out) h
+      ∙ (λ j. decode_lent args (first j) (second j) (third j) out)
 
 -- the lists lent are as long as they are to be
 pub decode_fits : (n w i o k l m : ℕ) → w ≡ k → i ≡ l → o ≡ m → n ≡ 38 + 8 * w + 4 * i + 4 * o

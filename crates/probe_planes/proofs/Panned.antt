@@ -1,6 +1,7 @@
 -- The answer to a panner block: of the block that `panner` promises for what the request gives, or none. Assumes
 -- nothing.
-use Rattle.lists.specs.Prelude.{◌≡◌, sym, ap, ◌∙◌, List, ℕ, ◌+◌, ◌*◌, arith, ne_eqb, Float, length}
+use Rattle.std.specs.Prelude.{◌≡◌, ◌+◌, ◌*◌}
+use Rattle.lists.specs.Prelude.{sym, ap, ◌∙◌, List, ℕ, arith, ne_eqb, Float, length}
 use Rattle.big_endian.specs.Fields.{field_at, float_at, double_at}
 use Rattle.channel.specs.declared.Layout.{Layout}
 use Rattle.panner.specs.declared.Command.{Command}
@@ -15,19 +16,20 @@ use Rattle.probe_planes.specs.Answers.{command_at, panned_answer, pan_lent, pan_
 
 -- ---- the command
 
-module _ (args : List ℕ) {angle : Float} {which : ℕ} (w : which ≡ field_at args 4 1) (a : angle ≡ double_at args 5) where
-  pub stereo : which ≡ 0 → Stereo angle ≡ command_at args
-  stereo h = ap Stereo a ∙ sym (rw (sym w ∙ h))
+module _ (args : List ℕ) {angle : Float} {which : ℕ} (w : which ≡ field_at args 4 1) (a : angle ≡ double_at args 5)
+  where
+    pub stereo : which ≡ 0 → Stereo angle ≡ command_at args
+    stereo h = ap Stereo a ∙ sym (rw (sym w ∙ h))
 
-  pub surround : which ≡ 1 → Surround angle ≡ command_at args
-  surround h = ap Surround a ∙ sym (rw (sym w ∙ h))
+    pub surround : which ≡ 1 → Surround angle ≡ command_at args
+    surround h = ap Surround a ∙ sym (rw (sym w ∙ h))
 
-  pub direction : {elevation : Float} {order : ℕ} → elevation ≡ double_at args 13 → order ≡ field_at args 21 8
-      → (which ≡ 0 → ⊥) → (which ≡ 1 → ⊥)
-      → Ambisonic (record { azimuth = angle; elevation = elevation }) order ≡ command_at args
-  direction e n g h =
-      (λ i. Ambisonic (record { azimuth = a i; elevation = e i }) (n i))
-      ∙ sym (rw (ne_eqb (field_at args 4 1) 0 (λ z. g (w ∙ z)), ne_eqb (field_at args 4 1) 1 (λ z. h (w ∙ z))))
+    pub direction : {elevation : Float} {order : ℕ} → elevation ≡ double_at args 13 → order ≡ field_at args 21 8
+        → (which ≡ 0 → ⊥) → (which ≡ 1 → ⊥)
+        → Ambisonic (record { azimuth = angle; elevation = elevation }) order ≡ command_at args
+    direction e n g h =
+        (λ i. Ambisonic (record { azimuth = a i; elevation = e i }) (n i))
+        ∙ sym (rw (ne_eqb (field_at args 4 1) 0 (λ z. g (w ∙ z)), ne_eqb (field_at args 4 1) 1 (λ z. h (w ∙ z))))
 
 -- ---- the block
 

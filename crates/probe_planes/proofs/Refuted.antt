@@ -1,7 +1,8 @@
 -- What the promise rules out: a panner block whose stride is below its frames told as played, and the inputs of a
 -- refused decoder block shown in the place of its outputs. Assumes nothing.
-use Rattle.lists.specs.Prelude.{◌≡◌, refl, sym, ap, ◌∙◌, Bool, true, false, List, [], ◌∷◌, ℕ, zero, suc, ◌+◌, ◌*◌, ◌%◌}
-use Rattle.lists.specs.Prelude.{◌^◌, ◌≤◌, ◌<◌, arith, lt-ltb, ltb, length, Float}
+use Rattle.std.specs.Prelude.{◌≡◌, ◌∷◌, ◌+◌, ◌*◌, ◌%◌, ◌^◌, ◌≤◌, ◌<◌}
+use Rattle.lists.specs.Prelude.{refl, sym, ap, ◌∙◌, Bool, true, false, List, [], ℕ, zero, suc, arith, lt-ltb, ltb}
+use Rattle.lists.specs.Prelude.{length, Float}
 use Rattle.refusals.specs.Refusals.{first_of, ◌when◌}
 use Rattle.refusals.proofs.First.{answered_accepted, answered_refused}
 use Rattle.big_endian.specs.Bytes.{bytes_of}
@@ -23,7 +24,8 @@ use Rattle.probe_planes.specs.Answers.{decode_answer, answer_of}
 -- ---- 14 panner block
 
 -- a block that does not fit is refused
-unfit_number : (a b c m f : Bool) → m ≡ true → 0 < first_of (1 when a ∷ 2 when b ∷ 3 when c ∷ 5 when m ∷ 6 when f ∷ []) %
+unfit_number : (a b c m f : Bool) → m ≡ true
+    → 0 < first_of (1 when a ∷ 2 when b ∷ 3 when c ∷ 5 when m ∷ 6 when f ∷ []) %
     256 ^ 1
 unfit_number true b c m f e = omega arith
 unfit_number false true c m f e = omega arith
@@ -48,7 +50,8 @@ stride_below_the_frames args out r is long room below e =
     let i = samples_lent args 0 in
     let o = samples_lent args 2 in
     let b = panned args i o in
-    let number = Panner.refusal_of (pan_at args) (length (floats_at args 54 i)) (length (floats_at args (54 + 4 * i) o)) in
+    let number = Panner.refusal_of (pan_at args) (length (floats_at args 54 i)) (length (floats_at args (54 + 4 * i) o))
+    in
     let some : 0 < number % 256 ^ 1 = below_unfit (pan_at args) _ _ below in
     let refused : b.answer.refusal ≡ number = ap (λ (x : Panning.PannedBlock). x.answer.refusal)
     (answered_refused _ _ number (λ z. omega (arith, some, z))) in

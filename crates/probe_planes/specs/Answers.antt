@@ -1,6 +1,7 @@
 -- What is answered to requests for blocks (docs/PROBE.md, operations 14 and 16), in its words and order. Definitions
 -- only.
-use Rattle.lists.specs.Prelude.{ℕ, ◌+◌, ◌*◌, cond, List, eqb, Float}
+use Rattle.std.specs.Prelude.{◌+◌, ◌*◌}
+use Rattle.lists.specs.Prelude.{ℕ, cond, List, eqb, Float}
 use Rattle.big_endian.specs.Fields.{field_at, double_at}
 use Rattle.big_endian.specs.Lists.{floats_at, doubles_at}
 use Rattle.panner.specs.declared.Command.{Command}

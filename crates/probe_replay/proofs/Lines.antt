@@ -1,5 +1,6 @@
 -- A recorded line: what is read is replayed, and its outcome is put, each from the one before. Assumes nothing.
-use Rattle.lists.specs.Prelude.{◌≡◌, ◌∙◌, List, ℕ, ◌+◌, ◌-◌, ◌*◌, ◌^◌, ◌<◌, arith, length, Float}
+use Rattle.std.specs.Prelude.{◌≡◌, ◌+◌, ◌-◌, ◌*◌, ◌^◌, ◌<◌}
+use Rattle.lists.specs.Prelude.{◌∙◌, List, ℕ, arith, length, Float}
 use Rattle.big_endian.specs.Fields.{field_at}
 use Rattle.big_endian.specs.Lists.{float_bytes}
 use Rattle.hrtf_desk.specs.declared.Desk.{Desk}
@@ -64,7 +65,8 @@ module _ (args out : List ℕ) (inputs weights taps rings ears : List Float) (st
         let full : length args ≡ behind_all = place_end args short behind_all ends h in
         let lists = lists_standing args 153 l read (omega arith) in
         let stamped = inside word_at 4 args (stamps_from (lengths l)) stamps stamps₁
-        (place_list args short word_at 4 (stamps_from (lengths l)) stamps (read_end args 153 l read) es) (omega arith) in
+        (place_list args short word_at 4 (stamps_from (lengths l)) stamps (read_end args 153 l read) es) (omega arith)
+        in
         shown ∙ (λ k. line_shown (outcome_of args (lists k) (stamped k)) out) ∙ taken behind_all args out _ full
 
 pub lists_lent : (args out : List ℕ) {d : Draft} {n : Lengths} {s : ℕ} → d ≡ line_by n s args out → n ≡ lent_of args

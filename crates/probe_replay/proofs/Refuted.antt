@@ -1,7 +1,8 @@
 -- What the promise rules out, of every request: of an accepted replay the frames handed in for those that come out, and
 -- the silent ones for the late ones; of a refused one frames that come out, and a stamp that is forgotten; and an
 -- answer to another operation. Assumes nothing.
-use Rattle.lists.specs.Prelude.{◌≡◌, sym, ap, ◌∙◌, List, [], ◌∷◌, ℕ, ◌%◌, ◌^◌, ◌≤◌, arith, ne_eqb, length}
+use Rattle.std.specs.Prelude.{◌≡◌, ◌∷◌, ◌%◌, ◌^◌, ◌≤◌}
+use Rattle.lists.specs.Prelude.{sym, ap, ◌∙◌, List, [], ℕ, arith, ne_eqb, length}
 use Rattle.refusals.proofs.First.{answered_accepted, answered_refused}
 use Rattle.big_endian.specs.Bytes.{bytes_of}
 use Rattle.big_endian.specs.Fields.{field_at}

@@ -1,6 +1,7 @@
 -- What stands in a request for the replay of a recorded line (docs/PROBE.md, 'Operations', 22). Its first 138 bytes are
 -- those of a block (`probe_hrtf`). Definitions only.
-use Rattle.lists.specs.Prelude.{ℕ, ◌+◌, ◌*◌, cond, List, eqb}
+use Rattle.std.specs.Prelude.{◌+◌, ◌*◌}
+use Rattle.lists.specs.Prelude.{ℕ, cond, List, eqb}
 use Rattle.big_endian.specs.Fields.{field_at}
 use Rattle.big_endian.specs.Lists.{strided}
 use Rattle.stamps.specs.declared.Expected.{Expected}

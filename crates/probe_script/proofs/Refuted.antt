@@ -1,7 +1,8 @@
 -- What the promise rules out: the frames of a stretch at one cue too many counted, and all outputs lent shown where
 -- some are asked for. Assumes nothing.
-use Rattle.lists.specs.Prelude.{◌≡◌, refl, sym, ap, ◌∙◌, true, List, [], ◌∷◌, ℕ, zero, suc, ◌+◌, ◌*◌, ◌%◌, ◌^◌, ◌≤◌}
-use Rattle.lists.specs.Prelude.{◌<◌, arith, length, replicate, length-replicate, Float}
+use Rattle.std.specs.Prelude.{◌≡◌, ◌∷◌, ◌+◌, ◌*◌, ◌%◌, ◌^◌, ◌≤◌, ◌<◌}
+use Rattle.lists.specs.Prelude.{refl, sym, ap, ◌∙◌, true, List, [], ℕ, zero, suc, arith, length, replicate}
+use Rattle.lists.specs.Prelude.{length-replicate, Float}
 use Rattle.lists.proofs.Tables.{length_part}
 use Rattle.big_endian.specs.Fields.{field_at}
 use Rattle.big_endian.specs.Lists.{float_bytes, floats_at}

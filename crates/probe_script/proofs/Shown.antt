@@ -1,8 +1,9 @@
 -- The answer to a stretch of a drill script: the cues that a request gives are read, the block that `script` promises
 -- for them is shown in part, or there is no answer. Assumes nothing.
-use Rattle.lists.specs.Prelude.{◌≡◌, sym, ap, ◌∙◌, Bool, true, false, ◌&&◌, not, and-eq-true_iff, List, ⊎_elim, ℕ, ◌+◌}
-use Rattle.lists.specs.Prelude.{◌-◌, ◌*◌, ◌≤◌, ◌<◌, arith, le-leb, lt-leb, leb-true, not-true, not-false, leb, length}
-use Rattle.lists.specs.Prelude.{take, drop, replicate, length-take, length-replicate, Float}
+use Rattle.std.specs.Prelude.{◌≡◌, ◌&&◌, ◌+◌, ◌-◌, ◌*◌, ◌≤◌, ◌<◌}
+use Rattle.lists.specs.Prelude.{sym, ap, ◌∙◌, Bool, true, false, not, and-eq-true_iff, List, ⊎_elim, ℕ, arith, le-leb}
+use Rattle.lists.specs.Prelude.{lt-leb, leb-true, not-true, not-false, leb, length, take, drop, replicate, length-take}
+use Rattle.lists.specs.Prelude.{length-replicate, Float}
 use Rattle.lists.proofs.Tests.{cond_true, cond_false}
 use Rattle.lists.proofs.Lists.{less_or_at_most, take_replicate}
 use Rattle.lists.proofs.Tables.{take_tab, part_is}

@@ -1,6 +1,7 @@
 -- What is answered to a request for a stretch of a drill script (docs/PROBE.md, operation 21), in its words and order.
 -- Definitions only.
-use Rattle.lists.specs.Prelude.{ℕ, ◌+◌, ◌*◌, Bool, ◌&&◌, cond, List, eqb, leb, take, drop, replicate, Float}
+use Rattle.std.specs.Prelude.{◌+◌, ◌*◌, ◌&&◌}
+use Rattle.lists.specs.Prelude.{ℕ, Bool, cond, List, eqb, leb, take, drop, replicate, Float}
 use Rattle.big_endian.specs.Fields.{field_at, float_at, double_at}
 use Rattle.big_endian.specs.Lists.{strided, floats_at}
 use Rattle.cues.specs.declared.Cue.{Cue}
@@ -58,7 +59,8 @@ script_lent args c i o at n out = cond (fits c o at n)
 -- "c: cues, i: input samples lent, o: output samples lent, at: the first output sample to show, n: how many to show (2
 -- each)"; "n counts as 16,380 where it is more"
 unfoldable pub script_answer : List ℕ → List ℕ → Draft
-script_answer args out = script_lent args (field_at args 0 2) (samples_lent args 2) (field_at args 4 2) (field_at args 6 2)
+script_answer args out =
+    script_lent args (field_at args 0 2) (samples_lent args 2) (field_at args 4 2) (field_at args 6 2)
     (lent_by args 8 2 16380) out
 
 -- no other operation is answered here

@@ -7,7 +7,7 @@
 // outputs are asked for than there is room for, or outputs that are not lent, or where there is no such operation
 // here. It takes any input.
 //
-// `render_first` alone holds a list of structs, and is proved by a walk.
+// `render_first` alone lends a list of structs: the first cues of the array.
 #![tactic(auto)]
 
 ghost use Rattle.std.specs.Prelude.{◌≡◌, ◌+◌, ◌*◌, ◌^◌, ◌≤◌, ◌<◌, length, take};

@@ -1,6 +1,7 @@
 -- The answer to a set-up: of the arrangement that `hrtf_setup` promises for what the request gives, or none. Assumes
 -- nothing.
-use Rattle.lists.specs.Prelude.{◌≡◌, sym, ap, ◌∙◌, List, ℕ, ◌+◌, ◌*◌, arith, ne_eqb, Float, ℤ, length}
+use Rattle.std.specs.Prelude.{◌≡◌, ◌+◌, ◌*◌}
+use Rattle.lists.specs.Prelude.{sym, ap, ◌∙◌, List, ℕ, arith, ne_eqb, Float, ℤ, length}
 use Rattle.lists.proofs.Tests.{cond_false}
 use Rattle.big_endian.specs.Fields.{field_at, signed_at, double_at}
 use Rattle.channel.specs.declared.Layout.{Layout}

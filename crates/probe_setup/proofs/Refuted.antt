@@ -1,7 +1,8 @@
 -- What the promise rules out of every request for an order: a refused order answered as a layout is, and of an accepted
 -- one the channels before the speakers. Assumes nothing.
-use Rattle.lists.specs.Prelude.{◌≡◌, refl, sym, ap, ◌∙◌, Bool, true, false, not, List, [], ◌∷◌, ℕ, zero, suc, ◌+◌, ◌*◌}
-use Rattle.lists.specs.Prelude.{◌%◌, ◌^◌, ◌≤◌, arith, eqb, ℤ, length, Float}
+use Rattle.std.specs.Prelude.{◌≡◌, ◌∷◌, ◌+◌, ◌*◌, ◌%◌, ◌^◌, ◌≤◌}
+use Rattle.lists.specs.Prelude.{refl, sym, ap, ◌∙◌, Bool, true, false, not, List, [], ℕ, zero, suc, arith, eqb, ℤ}
+use Rattle.lists.specs.Prelude.{length, Float}
 use Rattle.refusals.specs.Refusals.{first_of, ◌when◌, outside}
 use Rattle.refusals.proofs.First.{passed, answered_accepted}
 use Rattle.lists.proofs.Tests.{cond_true}
@@ -77,7 +78,8 @@ module _ (args out : List ℕ) (r : Draft) where
   refusal_by wanted = refusal_of wanted (signeds_at args 84 azimuths) (signeds_at args (84 + 2 * azimuths) elevations)
       (field_at args 4 8) (doubles_at args (84 + 2 * azimuths + 2 * elevations) weights)
 
-  module _ (is : r ≡ answer_of 20 args out) (long : length args ≡ 84 + 2 * azimuths + 2 * elevations + 8 * weights) where
+  module _ (is : r ≡ answer_of 20 args out)
+      (long : length args ≡ 84 + 2 * azimuths + 2 * elevations + 8 * weights) where
     -- a refused order is answered as a layout is
     twenty_with_a_layout : 1 ≤ length out → refuses_order order ≡ true
         → r ≡ arranged_answer 19 args 84 azimuths elevations weights out → ⊥

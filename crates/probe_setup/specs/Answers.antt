@@ -1,6 +1,7 @@
 -- What is answered to requests for setting up the convolver (docs/PROBE.md, operations 19 and 20), in its words and
 -- order. Definitions only.
-use Rattle.lists.specs.Prelude.{ℕ, ◌+◌, ◌*◌, cond, List, eqb}
+use Rattle.std.specs.Prelude.{◌+◌, ◌*◌}
+use Rattle.lists.specs.Prelude.{ℕ, cond, List, eqb}
 use Rattle.big_endian.specs.Bytes.{bytes_of}
 use Rattle.big_endian.specs.Fields.{field_at}
 use Rattle.big_endian.specs.Lists.{double_bytes, number_bytes, signeds_at, doubles_at}

@@ -1,0 +1,11 @@
+use Rattle.std.specs.Prelude.{◌-◌}
+use Rattle.lists.specs.Prelude.{length}
+use Rattle.lists.proofs.Filling.{Filling}
+use Rattle.probe_bank.specs.Fillings.{tap_filling}
+use Rattle.probe_bank.proofs.fillings.fill_f32s.Given as goal
+
+abbrev pub invariant-loop-i : goal.invariant-loop-i
+invariant-loop-i l = Filling tap_filling (length l.initial.list) l.initial.list l.list l.i
+
+abbrev pub decreases-loop-i : goal.decreases-loop-i
+decreases-loop-i l = length l.initial.list - l.i

@@ -1,0 +1,18 @@
+-- `probe_bank::fillings::fill_i16s` meets its contract: `Filling`. Assumes nothing.
+use Rattle.lists.specs.Prelude.{arith, refl}
+use mir.Syntax.{w16}
+use mir.ValLaws.{to_z_pos}
+use Rattle.lists.proofs.Filling.{filling_none, filling_more, filling_whole}
+use Rattle.probe_bank.specs.Fillings.{angle_filling}
+use Rattle.probe_bank.proofs.fillings.fill_i16s.Goals as goal
+
+pub loop-i-preserved : goal.loop-i-preserved
+loop-i-preserved c = let turn = c.loop-i in filling_more angle_filling _ _ turn.list turn.i _ turn.invariant
+    (omega arith) (omega arith) (to_z_pos w16 _ (omega arith))
+
+pub returns : goal.returns
+returns c = let turn = c.loop-i in filling_whole angle_filling _ _ turn.list turn.i turn.invariant
+    (omega arith) refl
+
+pub loop-i-init : goal.loop-i-init
+loop-i-init c = filling_none _ _ _

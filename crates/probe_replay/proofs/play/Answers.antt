@@ -1,0 +1,11 @@
+-- `probe_replay::play` meets its contract: what is handed to the replay stands in the arguments, and its outcome is put
+-- part by part. Assumes nothing.
+use Rattle.probe_replay.proofs.Lines.{played}
+use Rattle.probe_replay.proofs.play.Goals as goal
+
+pub returns : goal.returns
+returns c =
+    played _ _ _ _ _ _ _ _ c.put_f32s.ensures c.put_f32s-after_rings.ensures
+    c.put_counts-after_counts.ensures c.replay-played.ensures.bits c.shape.ensures
+    c.desk.ensures c.expected.ensures c.number.ensures
+    c.number-2.ensures c.number-3.ensures c.eight-row_of.ensures
