@@ -17,4 +17,4 @@ returns c =
     plays (record { command = a.command; layout = a.layout; frames = a.frames; stride = a.stride }) a.input.now
     a.out.now g.result g.ensures at_if1.if-played-ne0.false
     (sym at_is_block_unfit.is_block_unfit.ensures ∙ at_if2.if-is_block_unfit.false) at_play_part.play_part.new.out
-    (omega (arith, at_if3.if-frames-gt4096.false)) at_play_part.play_part.ensures
+    (omega arith) at_play_part.play_part.ensures
