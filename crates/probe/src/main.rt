@@ -9,11 +9,11 @@
 // say anything, so the rest is proved safe and ending, and what it prints is compared.
 #![tactic(auto)]
 
-ghost use Rattle.std.specs.Prelude.{◌≡◌, ◌≤◌};
+ghost use Rattle.std.specs.Prelude.{◌≡◌, ◌≤◌, length};
 ghost use Rattle.probe_answer.specs.Answers.{draft};
 ghost use Rattle.probe.specs.Answers.{answer_of};
 
-use libc::{STDIN_FILENO, STDOUT_FILENO};
+use std::io::Read;
 
 // What is wrong with a request that no operation answers.
 const NO_SUCH_OPERATION: u8 = 1;
@@ -28,7 +28,7 @@ const ENDS_INSIDE: u8 = 4;
 const HEAD: usize = 5;
 
 // Writes the answer whose `count` bytes stand in out after the head.
-fn write_answer(operation: u8, count: usize, out: &mut [u8]) -> bool {
+fn write_answer(rt: &HostRuntime, operation: u8, count: usize, out: &mut [u8]) -> bool {
     if out.len() < HEAD {
         return false;
     }
@@ -38,15 +38,15 @@ fn write_answer(operation: u8, count: usize, out: &mut [u8]) -> bool {
     out[0] = operation;
     big_endian::put(out, 1, 4, count as u64);
     let end = HEAD + count;
-    io::write_all(STDOUT_FILENO, &out[..end])
+    rt.write_all(&out[..end]).is_ok()
 }
 
-fn write_malformed(reason: u8, out: &mut [u8]) -> bool {
+fn write_malformed(rt: &HostRuntime, reason: u8, out: &mut [u8]) -> bool {
     if out.len() <= HEAD {
         return false;
     }
     out[HEAD] = reason;
-    write_answer(0, 1, out)
+    write_answer(rt, 0, 1, out)
 }
 
 // Puts the answer to a request into out, by the family that has the operation: how many bytes, 0 where the
@@ -79,36 +79,50 @@ fn is_operation(operation: u8) -> bool {
 }
 
 // Answers a request whose arguments are all there.
-fn answer(operation: u8, args: &[u8], out: &mut [u8]) -> bool {
+fn answer(rt: &HostRuntime, operation: u8, args: &[u8], out: &mut [u8]) -> bool {
     if out.len() < HEAD {
         return false;
     }
     if !is_operation(operation) {
-        return write_malformed(NO_SUCH_OPERATION, out);
+        return write_malformed(rt, NO_SUCH_OPERATION, out);
     }
     let count = put_answer(operation, args, &mut out[HEAD..]);
     if count == 0 {
-        return write_malformed(WRONG_LENGTH, out);
+        return write_malformed(rt, WRONG_LENGTH, out);
     }
-    write_answer(operation, count, out)
+    write_answer(rt, operation, count, out)
+}
+
+// Reads until the list is full, the input ends or a read fails, and answers how many bytes came.
+fn read_full<R: Read>(input: &mut R, bytes: &mut [u8]) -> usize
+    ensures { result ≤ length bytes.new }
+{
+    let mut at = 0;
+    while at < bytes.len() {
+        match input.read(&mut bytes[at..]) {
+            Ok(n) if n > 0 => at += n,
+            _ => return at,
+        }
+    }
+    at
 }
 
 // Reads past one part of arguments that are longer than any operation takes: how many are left, or the
 // same number where the input has ended.
-fn skip_some(left: usize, args: &mut [u8]) -> usize
+fn skip_some(rt: &HostRuntime, left: usize, args: &mut [u8]) -> usize
     ensures { result ≤ left }
 {
     if left < args.len() {
-        return left - io::read_full(STDIN_FILENO, &mut args[..left]);
+        return left - read_full(&mut rt.stdin(), &mut args[..left]);
     }
-    left - io::read_full(STDIN_FILENO, args)
+    left - read_full(&mut rt.stdin(), args)
 }
 
 // Reads past such arguments; whether they were all there.
-fn skip(length: usize, args: &mut [u8]) -> bool {
+fn skip(rt: &HostRuntime, length: usize, args: &mut [u8]) -> bool {
     let mut left = length;
     while 0 < left {
-        let rest = skip_some(left, args);
+        let rest = skip_some(rt, left, args);
         if rest == left {
             return false;
         }
@@ -118,39 +132,39 @@ fn skip(length: usize, args: &mut [u8]) -> bool {
 }
 
 // Reads one request and answers it; whether to go on.
-fn one(args: &mut [u8], out: &mut [u8]) -> bool {
+fn one(rt: &HostRuntime, args: &mut [u8], out: &mut [u8]) -> bool {
     let mut head = [0u8; 5];
-    let got = io::read_full(STDIN_FILENO, &mut head);
+    let got = read_full(&mut rt.stdin(), &mut head);
     if got == 0 {
         return false;
     }
     if got < 5 {
-        write_malformed(ENDS_INSIDE, out);
+        write_malformed(rt, ENDS_INSIDE, out);
         return false;
     }
     let length = big_endian::get(&head, 1, 4) as usize;
     if args.len() < length {
-        if !skip(length, args) {
-            write_malformed(ENDS_INSIDE, out);
+        if !skip(rt, length, args) {
+            write_malformed(rt, ENDS_INSIDE, out);
             return false;
         }
-        return write_malformed(TOO_LONG, out);
+        return write_malformed(rt, TOO_LONG, out);
     }
-    let got = io::read_full(STDIN_FILENO, &mut args[..length]);
+    let got = read_full(&mut rt.stdin(), &mut args[..length]);
     if got < length {
-        write_malformed(ENDS_INSIDE, out);
+        write_malformed(rt, ENDS_INSIDE, out);
         return false;
     }
-    answer(head[0], &args[..length], out)
+    answer(rt, head[0], &args[..length], out)
 }
 
-fn main() {
+fn main(rt: HostRuntime) {
     let mut args = [0u8; 65536];
     let mut out = [0u8; 65536];
     // A proved loop has to end, and nothing says that the input does. So the turns are counted down
     // from a number that no run uses up.
     let mut turns = u64::MAX;
-    while 0 < turns && one(&mut args, &mut out) {
+    while 0 < turns && one(&rt, &mut args, &mut out) {
         turns -= 1;
     }
 }
