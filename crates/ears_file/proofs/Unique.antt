@@ -1,5 +1,5 @@
--- No two answers of `result_line` meet its promise. Two of `run` do only with another bank, another line, another
--- failure, or a reader that is left as another (docs/UNFIXED.md). Whatever system the files are of: R, whose files are
+-- No two answers of `result_line` meet its promise. Two of `run` do only with another bank, another line or another
+-- failure; how the reader is left no contract says (docs/UNFIXED.md). Whatever system the files are of: R, whose files are
 -- of the type F and whose folders of the type D; and whatever reader the line comes from: L. Assumes nothing.
 use Rattle.std.specs.Prelude.{◌≡◌}
 use Rattle.lists.specs.Prelude.{sym, ◌∙◌}
@@ -42,7 +42,7 @@ module _ (R L F D : RattleType) (R-laws : Laws R) (L-laws : Laws L) (F-laws : La
 
   run_unique : (κs : Lives ended) (a : Args (run.signature R L F D) κs) (y z : HandedBack ended κs a)
       (p : Allows ended Learnt κs a y) (q : Allows ended Learnt κs a z)
-      → p.bank ≡ q.bank → p.ends.line ≡ q.ends.line → y.0.failed ≡ z.0.failed → y.1 ≡ z.1 → y ≡ z
-  run_unique κs a y z p q bank line failed left =
+      → p.bank ≡ q.bank → p.ends.line ≡ q.ends.line → y.0.failed ≡ z.0.failed → y.0 ≡ z.0
+  run_unique κs a y z p q bank line failed =
       let same : y.0.ended ≡ z.0.ended = p.ends.bits ∙ cc (bank, line, failed) ∙ sym q.ends.bits in
-      λ i. (record { failed = failed i; ended = same i }, left i)
+      λ i. record { failed = failed i; ended = same i }

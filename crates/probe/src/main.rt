@@ -13,7 +13,7 @@ ghost use Rattle.std.specs.Prelude.{◌≡◌, ◌≤◌, length};
 ghost use Rattle.probe_answer.specs.Answers.{draft};
 ghost use Rattle.probe.specs.Answers.{answer_of};
 
-use std::io::Read;
+use std::io::{Read, Write};
 
 // What is wrong with a request that no operation answers.
 const NO_SUCH_OPERATION: u8 = 1;
@@ -26,6 +26,20 @@ const ENDS_INSIDE: u8 = 4;
 
 // An answer begins with the operation and its length, in five bytes.
 const HEAD: usize = 5;
+
+// Reads until the input ends or the list is full: how many bytes came. A read that fails counts as the end.
+fn read_full<R: Read>(input: &mut R, bytes: &mut [u8]) -> usize
+    ensures { result ≤ length bytes.new }
+{
+    let mut at = 0;
+    while at < bytes.len() {
+        match input.read(&mut bytes[at..]) {
+            Ok(n) if n > 0 => at += n,
+            _ => return at,
+        }
+    }
+    at
+}
 
 // Writes the answer whose `count` bytes stand in out after the head.
 fn write_answer(rt: &HostRuntime, operation: u8, count: usize, out: &mut [u8]) -> bool {
@@ -93,36 +107,22 @@ fn answer(rt: &HostRuntime, operation: u8, args: &[u8], out: &mut [u8]) -> bool 
     write_answer(rt, operation, count, out)
 }
 
-// Reads until the list is full, the input ends or a read fails, and answers how many bytes came.
-fn read_full<R: Read>(input: &mut R, bytes: &mut [u8]) -> usize
-    ensures { result ≤ length bytes.new }
-{
-    let mut at = 0;
-    while at < bytes.len() {
-        match input.read(&mut bytes[at..]) {
-            Ok(n) if n > 0 => at += n,
-            _ => return at,
-        }
-    }
-    at
-}
-
 // Reads past one part of arguments that are longer than any operation takes: how many are left, or the
 // same number where the input has ended.
-fn skip_some(rt: &HostRuntime, left: usize, args: &mut [u8]) -> usize
+fn skip_some<R: Read>(input: &mut R, left: usize, args: &mut [u8]) -> usize
     ensures { result ≤ left }
 {
     if left < args.len() {
-        return left - read_full(&mut rt.stdin(), &mut args[..left]);
+        return left - read_full(input, &mut args[..left]);
     }
-    left - read_full(&mut rt.stdin(), args)
+    left - read_full(input, args)
 }
 
 // Reads past such arguments; whether they were all there.
-fn skip(rt: &HostRuntime, length: usize, args: &mut [u8]) -> bool {
+fn skip<R: Read>(input: &mut R, length: usize, args: &mut [u8]) -> bool {
     let mut left = length;
     while 0 < left {
-        let rest = skip_some(rt, left, args);
+        let rest = skip_some(input, left, args);
         if rest == left {
             return false;
         }
@@ -144,7 +144,7 @@ fn one(rt: &HostRuntime, args: &mut [u8], out: &mut [u8]) -> bool {
     }
     let length = big_endian::get(&head, 1, 4) as usize;
     if args.len() < length {
-        if !skip(rt, length, args) {
+        if !skip(&mut rt.stdin(), length, args) {
             write_malformed(rt, ENDS_INSIDE, out);
             return false;
         }

@@ -1,6 +1,7 @@
 use Rattle.std.specs.Prelude.{◌≡◌, length}
 use Rattle.probe.proofs.main.Given as goal
 
+-- both buffers keep their length, and the turns that are left fall
 abbrev pub invariant-loop-turns : goal.invariant-loop-turns
 invariant-loop-turns l = (65536 ≡ length l.args) × (65536 ≡ length l.out)
 
