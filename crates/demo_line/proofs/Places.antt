@@ -1,5 +1,6 @@
 -- The answers to a record are those promised: an azimuth refused, and frames played. Assumes nothing.
-use Rattle.lists.specs.Prelude.{◌≡◌, refl, sym, ap, subst, ◌∙◌, List, [], flat_map, ℕ, ◌<◌, lit≤, Float, length, get_or}
+use Rattle.std.specs.Prelude.{◌≡◌, ◌<◌}
+use Rattle.lists.specs.Prelude.{refl, sym, ap, subst, ◌∙◌, List, [], flat_map, ℕ, lit≤, Float, length, get_or}
 use Rattle.lists.specs.Prelude.{replicate}
 use Rattle.refusals.proofs.First.{answered_accepted, answered_refused}
 use Rattle.lists.proofs.Tables.{get_or_tab}

@@ -1,5 +1,6 @@
 -- Wrong answers to a record, each held against the promise. Assumes nothing.
-use Rattle.lists.specs.Prelude.{◌≡◌, refl, sym, ap, ◌∙◌, Bool, true, List, [], ◌∷◌, ◌++◌, flat_map, ℕ, arith, pos, Float}
+use Rattle.std.specs.Prelude.{◌≡◌, ◌∷◌, ◌++◌}
+use Rattle.lists.specs.Prelude.{refl, sym, ap, ◌∙◌, Bool, true, List, [], flat_map, ℕ, arith, pos, Float}
 use Rattle.lists.specs.Prelude.{mul, round, of_int, of_bits, to_bits, get_or, replicate}
 use Rattle.refusals.specs.Refusals.{first_of, ◌when◌}
 use Rattle.formats.specs.Floats.{zero_float, one_float, float}

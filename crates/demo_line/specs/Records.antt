@@ -1,6 +1,7 @@
 -- What a record is played to: by `panner`, to 5.1 (document 01, item 4; document 02, E3). Definitions only.
 -- A record is an azimuth, eight bytes, then 32 samples of the voice, four bytes each. What is missing of it reads as 0.
-use Rattle.lists.specs.Prelude.{ℕ, ◌≡◌, List, [], ◌∷◌, flat_map, Float, replicate}
+use Rattle.std.specs.Prelude.{◌≡◌, ◌∷◌}
+use Rattle.lists.specs.Prelude.{ℕ, List, [], flat_map, Float, replicate}
 use Rattle.refusals.specs.Refusals.{first_of, ◌when◌, answered}
 use Rattle.big_endian.specs.Fields.{double_at}
 use Rattle.big_endian.specs.Lists.{floats_at, float_bytes}

@@ -1,4 +1,4 @@
-use Rattle.lists.specs.Prelude.{◌/◌, ◌%◌, ◌-◌}
+use Rattle.std.specs.Prelude.{◌/◌, ◌%◌, ◌-◌}
 use Rattle.planes.specs.Planes.{sample_at}
 use Rattle.demo_line.proofs.Line.{Begun}
 use Rattle.demo_line.proofs.line_of.Given as goal

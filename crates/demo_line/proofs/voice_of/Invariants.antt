@@ -1,4 +1,4 @@
-use Rattle.lists.specs.Prelude.{◌+◌, ◌*◌, ◌-◌}
+use Rattle.std.specs.Prelude.{◌+◌, ◌*◌, ◌-◌}
 use Rattle.lists.proofs.Filling.{Filling}
 use Rattle.big_endian.specs.Fields.{float_at}
 use Rattle.demo_line.proofs.voice_of.Given as goal
