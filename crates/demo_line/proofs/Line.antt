@@ -1,8 +1,7 @@
 -- A line that is put together sample by sample: how it begins, one sample more, and the whole of it. Assumes nothing.
 use Rattle.std.specs.Prelude.{◌≡◌, ◌++◌, ◌+◌, ◌*◌, ◌/◌, ◌%◌, ◌≤◌, ◌<◌}
-use Rattle.lists.specs.Prelude.{refl, sym, ap, ◌∙◌, List, flat_map, append-nil, ℕ}
-use Rattle.lists.specs.Prelude.{zero-add, arith, Float, nan, binary32, to_bits, length, take, drop, drop-length}
-use Rattle.lists.specs.Prelude.{take-length}
+use Rattle.lists.specs.Prelude.{refl, sym, ap, ◌∙◌, List, flat_map, append-nil, ℕ, zero-add, arith, Float, nan}
+use Rattle.lists.specs.Prelude.{binary32, to_bits, length, take, drop, drop-length, take-length}
 use Rattle.lists.specs.Tables.{tab}
 use Rattle.lists.specs.Placed.{placed}
 use Rattle.lists.proofs.Tables.{length_tab, get_or_tab}

@@ -42,7 +42,8 @@ module _ (bytes : List ℕ) where
   abbrev refusing : ℕ → Placed
   refusing n = record { refusal = n; line = replicate 768 0 }
 
-  pub refused_is : (r : Placed) → Places bytes r → (demo_refusal_at bytes ≡ 0 → ⊥) → r ≡ refusing (demo_refusal_at bytes)
+  pub refused_is : (r : Placed) → Places bytes r → (demo_refusal_at bytes ≡ 0 → ⊥) → r
+      ≡ refusing (demo_refusal_at bytes)
   refused_is r p h = p.bits ∙ answered_refused playing refusing (demo_refusal_at bytes) h
 
   pub played_is : (r : Placed) → Places bytes r → demo_refusal_at bytes ≡ 0 → r ≡ playing

@@ -1,7 +1,7 @@
 -- Wrong answers to a record, each held against the promise. Assumes nothing.
 use Rattle.std.specs.Prelude.{◌≡◌, ◌∷◌, ◌++◌}
-use Rattle.lists.specs.Prelude.{refl, sym, ap, ◌∙◌, Bool, true, List, [], flat_map, ℕ, arith, pos, Float}
-use Rattle.lists.specs.Prelude.{mul, round, of_int, of_bits, to_bits, get_or, replicate}
+use Rattle.lists.specs.Prelude.{refl, sym, ap, ◌∙◌, Bool, true, List, [], flat_map, ℕ, arith, pos, Float, mul, round}
+use Rattle.lists.specs.Prelude.{of_int, of_bits, to_bits, get_or, replicate}
 use Rattle.refusals.specs.Refusals.{first_of, ◌when◌}
 use Rattle.formats.specs.Floats.{zero_float, one_float, float}
 use Rattle.numbers.specs.Computed.{rounded}

@@ -10,7 +10,7 @@
 ghost use Rattle.std.specs.Prelude.{◌≤◌, length};
 
 use std::fs::File;
-use std::io::Write;
+use std::io::{Read, Write};
 
 // No run of the tests reads more at once.
 const NO_LIMIT: usize = 65536;
@@ -32,6 +32,20 @@ fn say_bytes(rt: &HostRuntime, bytes: &[u8]) {
     }
 }
 
+// Reads until the file ends or the list is full: how many bytes came. A read that fails counts as the end.
+fn read_full<R: Read>(input: &mut R, bytes: &mut [u8]) -> usize
+    ensures { result ≤ length bytes.new }
+{
+    let mut at = 0;
+    while at < bytes.len() {
+        match input.read(&mut bytes[at..]) {
+            Ok(n) if n > 0 => at += n,
+            _ => return at,
+        }
+    }
+    at
+}
+
 // What the output holds, as far as it has 4,096 bytes.
 fn say_file(rt: &HostRuntime, path: &[u8]) {
     let Ok(mut file) = files::open_read(rt, path) else {
@@ -39,7 +53,7 @@ fn say_file(rt: &HostRuntime, path: &[u8]) {
         return;
     };
     let mut space = [0u8; 4096];
-    let n = files::fill(&mut file, &mut space);
+    let n = read_full(&mut file, &mut space);
     let _ = print!(rt; "{n}");
     say(rt, b" bytes\n");
     say_bytes(rt, &space[..n]);
@@ -250,7 +264,7 @@ fn read_named(rt: &HostRuntime, path: &[u8], bytes: &mut [u8]) -> usize
     ensures { result ≤ length bytes.new }
 {
     match files::open_read(rt, path) {
-        Ok(mut file) => files::fill(&mut file, bytes),
+        Ok(mut file) => read_full(&mut file, bytes),
         Err(_) => 0,
     }
 }

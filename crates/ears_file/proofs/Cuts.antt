@@ -1,8 +1,7 @@
 -- The same ears wherever the line is cut: `cut_anywhere`; and what a part more adds to the past, the ears and the
 -- counts of a line. Assumes nothing.
 use Rattle.std.specs.Prelude.{◌≡◌, ◌∷◌, ◌++◌, ◌+◌}
-use Rattle.lists.specs.Prelude.{sym, ap, ◌∙◌, List, [], flatten, flat_map, append-nil, append_assoc, ℕ}
-use Rattle.lists.specs.Prelude.{arith, Float}
+use Rattle.lists.specs.Prelude.{sym, ap, ◌∙◌, List, [], flatten, flat_map, append-nil, append_assoc, ℕ, arith, Float}
 use Rattle.hrtf_history.specs.Setup.{Setup}
 use Rattle.hrtf_history.specs.History.{heard, unsettled_in, after}
 use Rattle.hrtf_history.proofs.Pieces.{after_append, heard_append, unsettled_append}

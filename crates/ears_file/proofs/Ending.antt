@@ -1,7 +1,7 @@
 -- How a run ends, by what stands for the line, and how it is told. Assumes nothing.
 use Rattle.std.specs.Prelude.{◌≡◌, ◌≤◌}
-use Rattle.lists.specs.Prelude.{refl, sym, ap, ◌∙◌, subst, true, false, not, List, [], ℕ, arith, eq-eqb}
-use Rattle.lists.specs.Prelude.{ne_eqb, length, Float}
+use Rattle.lists.specs.Prelude.{refl, sym, ap, ◌∙◌, subst, true, false, not, List, [], ℕ, arith, eq-eqb, ne_eqb, length}
+use Rattle.lists.specs.Prelude.{Float}
 use Rattle.lists.proofs.Tests.{cond_true, cond_false}
 use Rattle.io.specs.Counts.{IsPrefixLen}
 use Rattle.refusals.specs.Refusals.{answered}
@@ -21,15 +21,18 @@ use Rattle.files.proofs.Parts.{counts}
 -- ---- ends
 
 -- bytes that are left are a part frame, and where none are left the end is the one that is given
-pub rest_refused : (e : Ended) (rest : ℕ) → (rest ≡ 0 → ⊥) → part_frame ≡ answered (rest_refusal rest) e (λ n. part_frame)
+pub rest_refused : (e : Ended) (rest : ℕ) → (rest ≡ 0 → ⊥) → part_frame
+    ≡ answered (rest_refusal rest) e (λ n. part_frame)
 rest_refused e rest some =
-    answered_by_lem e (λ n. part_frame) (rest_refusal rest) 9 (omega arith) (cond_true _ _ (ap not (ne_eqb rest 0 some)))
+    answered_by_lem e (λ n. part_frame) (rest_refusal rest) 9 (omega arith)
+    (cond_true _ _ (ap not (ne_eqb rest 0 some)))
 
 pub rest_accepted : (e : Ended) (rest : ℕ) → rest ≡ 0 → e ≡ answered (rest_refusal rest) e (λ n. part_frame)
 rest_accepted e rest none =
     sym (answered_accepted e (λ n. part_frame) (rest_refusal rest) (cond_false _ _ (ap not (eq-eqb rest 0 none))))
 
-pub failed_ends : (end : List ℕ → Ended) (r : RunOutcome) → r ≡ record { failed = true; ended = part_frame } → Ends end r
+pub failed_ends : (end : List ℕ → Ended) (r : RunOutcome) → r ≡ record { failed = true; ended = part_frame }
+    → Ends end r
 failed_ends end r e = subst (Ends end) (sym e) (record { line = []; bits = refl })
 
 pub failed_answers : (r : RunOutcome) → r ≡ record { failed = true; ended = part_frame } → Answers r

@@ -2,8 +2,8 @@
 -- 20, a part frame with a place, a refusal with a count, a failure that ends as a run that was played, and more
 -- unsettled frames than frames. And what that of `result_line` does. Assumes nothing.
 use Rattle.std.specs.Prelude.{◌≡◌, ◌∷◌, ◌⊎◌, ◌+◌, ◌≤◌, ◌<◌}
-use Rattle.lists.specs.Prelude.{sym, ap, ◌∙◌, Bool, true, false, cond, List, [], inl, inr, ⊎_elim, ℕ}
-use Rattle.lists.specs.Prelude.{zero, suc, arith, length, get_or, Float}
+use Rattle.lists.specs.Prelude.{sym, ap, ◌∙◌, Bool, true, false, cond, List, [], inl, inr, ⊎_elim, ℕ, zero, suc, arith}
+use Rattle.lists.specs.Prelude.{length, get_or, Float}
 use Rattle.lists.proofs.Tests.{cond_true, cond_false}
 use Rattle.refusals.specs.Refusals.{answered}
 use Rattle.refusals.proofs.First.{not_accepted, answered_refused}
@@ -119,32 +119,33 @@ module _ (r : RunOutcome) (a : Answers r) where
 
 -- ---- what is told
 
-module _ (r : RunOutcome) (out : List ℕ) (size : ℕ) (after : List ℕ) (lined : Lined out (result_line r) size after) where
-  -- a line for a run that failed
-  failed_run_has_a_line : r.failed ≡ true → (size ≡ 0 → ⊥) → ⊥
-  failed_run_has_a_line f some =
-      some (ap (λ (g : LineGiven). g.size) (lined ∙ ap (line_given out) (cond_true _ _ f) ∙ line_empty out))
+module _ (r : RunOutcome) (out : List ℕ) (size : ℕ) (after : List ℕ) (lined : Lined out (result_line r) size after)
+  where
+    -- a line for a run that failed
+    failed_run_has_a_line : r.failed ≡ true → (size ≡ 0 → ⊥) → ⊥
+    failed_run_has_a_line f some =
+        some (ap (λ (g : LineGiven). g.size) (lined ∙ ap (line_given out) (cond_true _ _ f) ∙ line_empty out))
 
-  -- a refusal told as a count: its first letter is an r, and not an f
-  refusal_told_as_frames : r.failed ≡ false → r.ended.refusal ≡ 9 → 64 ≤ length out → get_or after 0 0 ≡ 102 → ⊥
-  unfolding refused_line refused_word
-  refusal_told_as_frames f nine room e =
-      let told : result_line r ≡ refused_line 9 = cond_false _ _ f
-      ∙ answered_refused _ (refusal_line r.ended) _ (not_accepted 9 (omega arith) nine)
-      ∙ ap (refusal_line r.ended) nine in
-      let first : get_or after 0 0 ≡ 114 =
-      ap (λ (l : List ℕ). get_or l 0 0)
-      (ap (λ (g : LineGiven). g.out) (lined ∙ line_accepted out (result_line r) room) ∙ ap (placed out 0) told
-      ∙ placed_start out (refused_line 9)) in
-      let same : ◌≡◌ {A = ℕ} 102 114 = sym e ∙ first in omega (arith, same)
+    -- a refusal told as a count: its first letter is an r, and not an f
+    refusal_told_as_frames : r.failed ≡ false → r.ended.refusal ≡ 9 → 64 ≤ length out → get_or after 0 0 ≡ 102 → ⊥
+    unfolding refused_line refused_word
+    refusal_told_as_frames f nine room e =
+        let told : result_line r ≡ refused_line 9 = cond_false _ _ f
+        ∙ answered_refused _ (refusal_line r.ended) _ (not_accepted 9 (omega arith) nine)
+        ∙ ap (refusal_line r.ended) nine in
+        let first : get_or after 0 0 ≡ 114 =
+        ap (λ (l : List ℕ). get_or l 0 0)
+        (ap (λ (g : LineGiven). g.out) (lined ∙ line_accepted out (result_line r) room) ∙ ap (placed out 0) told
+        ∙ placed_start out (refused_line 9)) in
+        let same : ◌≡◌ {A = ℕ} 102 114 = sym e ∙ first in omega (arith, same)
 
-  -- a bank's refusal told without its place: `refused 14` and a newline has eleven bytes, `refused 14 at 1` sixteen
-  bank_told_without_its_place : r.failed ≡ false → r.ended.refusal ≡ 14 → r.ended.place ≡ 1 → 64 ≤ length out
-      → size ≡ 11 → ⊥
-  bank_told_without_its_place f fourteen one room e =
-      let told : result_line r ≡ refused_at_line 14 1 =
-      cond_false _ _ f ∙ answered_refused _ (refusal_line r.ended) _ (not_accepted 14 (omega arith) fourteen)
-      ∙ ap (refusal_line r.ended) fourteen ∙ ap (refused_at_line 14) one in
-      let long : size ≡ 16 = ap (λ (g : LineGiven). g.size) (lined ∙ line_accepted out (result_line r) room)
-      ∙ ap length (told ∙ refused_fourteen) in
-      let same : ◌≡◌ {A = ℕ} 11 16 = sym e ∙ long in omega (arith, same)
+    -- a bank's refusal told without its place: `refused 14` and a newline has eleven bytes, `refused 14 at 1` sixteen
+    bank_told_without_its_place : r.failed ≡ false → r.ended.refusal ≡ 14 → r.ended.place ≡ 1 → 64 ≤ length out
+        → size ≡ 11 → ⊥
+    bank_told_without_its_place f fourteen one room e =
+        let told : result_line r ≡ refused_at_line 14 1 =
+        cond_false _ _ f ∙ answered_refused _ (refusal_line r.ended) _ (not_accepted 14 (omega arith) fourteen)
+        ∙ ap (refusal_line r.ended) fourteen ∙ ap (refused_at_line 14) one in
+        let long : size ≡ 16 = ap (λ (g : LineGiven). g.size) (lined ∙ line_accepted out (result_line r) room)
+        ∙ ap length (told ∙ refused_fourteen) in
+        let same : ◌≡◌ {A = ℕ} 11 16 = sym e ∙ long in omega (arith, same)

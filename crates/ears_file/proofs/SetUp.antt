@@ -1,8 +1,8 @@
 -- A bank that was found and keeps the form is set up for 5.1, and the convolver refuses no block with it: `ready`.
 -- Assumes nothing.
 use Rattle.std.specs.Prelude.{◌≡◌, ◌*◌, ◌≤◌, ◌<◌}
-use Rattle.lists.specs.Prelude.{refl, sym, ap, ◌∙◌, subst, true, false, cond, List, [], ℕ}
-use Rattle.lists.specs.Prelude.{mul-le-mul, arith, ℤ, pos, length, replicate, length-take, Float}
+use Rattle.lists.specs.Prelude.{refl, sym, ap, ◌∙◌, subst, true, false, cond, List, [], ℕ, mul-le-mul, arith, ℤ, pos}
+use Rattle.lists.specs.Prelude.{length, replicate, length-take, Float}
 use Rattle.refusals.proofs.First.{answered_accepted, answered_refused}
 use Rattle.lists.proofs.Placed.{length_placed}
 use Rattle.checks.proofs.Checks.{not_outside}

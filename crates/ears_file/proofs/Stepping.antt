@@ -1,9 +1,8 @@
 -- A step of the loop: a read keeps what stands for the line, nothing more is a part of no bytes, and silence stands for
 -- a line of none. Assumes nothing.
 use Rattle.std.specs.Prelude.{◌≡◌, ◌++◌, ◌*◌, ◌≤◌, ◌<◌}
-use Rattle.lists.specs.Prelude.{refl, sym, ap, ◌∙◌, subst, Bool, true, false, List, [], flat_map, append-nil}
-use Rattle.lists.specs.Prelude.{ℕ, arith, ne_eqb, eqb, length, take, drop, replicate, length-take}
-use Rattle.lists.specs.Prelude.{length-drop, Float}
+use Rattle.lists.specs.Prelude.{refl, sym, ap, ◌∙◌, subst, Bool, true, false, List, [], flat_map, append-nil, ℕ, arith}
+use Rattle.lists.specs.Prelude.{ne_eqb, eqb, length, take, drop, replicate, length-take, length-drop, Float}
 use Rattle.formats.specs.Floats.{zero_float}
 use Rattle.lists.specs.Tables.{tab, chunk}
 use Rattle.hrtf_desk.specs.Numbers.{zeroed}

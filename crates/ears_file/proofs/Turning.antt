@@ -1,8 +1,8 @@
 -- What a turn leaves, from what `ears_wire` and `hrtf` promise: `turn_further`. Where something stands for a line the
 -- convolver does not refuse. Assumes nothing.
 use Rattle.std.specs.Prelude.{◌≡◌, ◌++◌, ◌+◌, ◌-◌, ◌*◌, ◌≤◌, ◌<◌}
-use Rattle.lists.specs.Prelude.{sym, ap, ◌∙◌, subst, List, [], ℕ, arith, length}
-use Rattle.lists.specs.Prelude.{take, drop, length-drop, take-append-drop, take-take, length-take-le, Float}
+use Rattle.lists.specs.Prelude.{sym, ap, ◌∙◌, subst, List, [], ℕ, arith, length, take, drop, length-drop}
+use Rattle.lists.specs.Prelude.{take-append-drop, take-take, length-take-le, Float}
 use Rattle.lists.specs.Tables.{chunk}
 use Rattle.lists.specs.Placed.{placed}
 use Rattle.lists.proofs.Placed.{take_placed}

@@ -1,5 +1,6 @@
 -- No two answers of `result_line` meet its promise. Two of `run` do only with another bank, another line or another
--- failure; how the reader is left no contract says (docs/UNFIXED.md). Whatever system the files are of: R, whose files are
+-- failure; how the reader is left no contract says (docs/UNFIXED.md). Whatever system the files are of: R, whose files
+-- are
 -- of the type F and whose folders of the type D; and whatever reader the line comes from: L. Assumes nothing.
 use Rattle.std.specs.Prelude.{◌≡◌}
 use Rattle.lists.specs.Prelude.{sym, ◌∙◌}

@@ -46,7 +46,8 @@ module _ (w : ℕ) (some : 0 < w) where
     rest_both : rest_in w (a ++ b) ≡ rest_in w b
     rest_both =
         ap (λ (m : ℕ). drop m (a ++ b)) (ap (λ (n : ℕ). n * w) whole_both ∙ add-mul k (whole_in_of w b) w)
-        ∙ sym (drop-drop (whole_in_of w b * w) (k * w) (a ++ b)) ∙ ap (drop (whole_in_of w b * w)) (drop_at a b (k * w) e)
+        ∙ sym (drop-drop (whole_in_of w b * w) (k * w) (a ++ b))
+        ∙ ap (drop (whole_in_of w b * w)) (drop_at a b (k * w) e)
 
   -- wherever the bytes are cut
   module _ (s t : List ℕ) where

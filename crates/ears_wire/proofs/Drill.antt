@@ -26,7 +26,8 @@ unfolding refused_line refused_word newline decimal_digits decimal_by
 refused_nine = refl
 
 -- `refused 14 at 1` and a newline
-pub refused_fourteen : refused_at_line 14 1 ≡ 114 ∷ 101 ∷ 102 ∷ 117 ∷ 115 ∷ 101 ∷ 100 ∷ 32 ∷ 49 ∷ 52 ∷ 32 ∷ 97 ∷ 116 ∷ 32
+pub refused_fourteen : refused_at_line 14 1 ≡ 114 ∷ 101 ∷ 102 ∷ 117 ∷ 115 ∷ 101 ∷ 100 ∷ 32 ∷ 49 ∷ 52 ∷ 32 ∷ 97 ∷ 116
+    ∷ 32
     ∷ 49 ∷ 10 ∷ []
 unfolding refused_at_line refused_word at_word newline decimal_digits decimal_by
 refused_fourteen = refl

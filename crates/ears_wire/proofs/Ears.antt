@@ -29,7 +29,8 @@ both_stored out one two at a b h e f =
     let four = length_bytes 4 (to_bits binary32 a) in
     let long : length one ≡ length out = ap length first ∙ length_placed out at (bytes_of 4 (to_bits binary32 a))
     (omega arith) in
-    part_more out one two (bytes_of 4 (to_bits binary32 a)) (bytes_of 4 (to_bits binary32 b)) at 4 (at + 4) first four refl
+    part_more out one two (bytes_of 4 (to_bits binary32 a)) (bytes_of 4 (to_bits binary32 b)) at 4 (at + 4) first four
+    refl
     (omega (arith, length_bytes 4 (to_bits binary32 b)))
     (field_put one two (at + 4) 4 (to_bits binary32 b) (omega arith) (omega arith) f)
     ∙ ap (placed out at) (sym (field_bytes_two 4 (to_bits binary32) a b))
@@ -66,7 +67,9 @@ module _ (ears : List Float) (stride : ℕ) (out : List ℕ) where
       (omega (arith, length_field_bytes 4 (to_bits binary32) (frame_at ears stride 2 n))) f
       ∙ ap (placed out 0) more
 
-  pub giving_long : (n : ℕ) (ys : List ℕ) → n * 8 ≤ length out → ys ≡ placed out 0 (ear_bytes (frames_of ears stride 2 n))
+  pub giving_long : (n : ℕ) (ys : List ℕ) → n * 8 ≤ length out → ys
+      ≡ placed out 0 (ear_bytes (frames_of ears stride 2 n))
       → length ys ≡ length out
   giving_long n ys h e =
-      ap length e ∙ length_placed out 0 (ear_bytes (frames_of ears stride 2 n)) (omega (arith, length_ears ears stride n))
+      ap length e ∙ length_placed out 0 (ear_bytes (frames_of ears stride 2 n))
+      (omega (arith, length_ears ears stride n))

@@ -16,7 +16,8 @@ use Rattle.ears_wire.specs.Line.{frames_line, refused_line, refused_at_line}
 pub six_each : (bytes : List ℕ) (n : ℕ) → n < length (line_frames bytes) → length (get_or (line_frames bytes) n []) ≡ 6
 six_each bytes n h =
     let frame : ℕ → List Float = λ i. frame_of (chunk 24 i bytes) in
-    ap length (get_or_tab 0 (whole_in_of 24 bytes) frame n [] (omega (arith, length_tab 0 (whole_in_of 24 bytes) frame)))
+    ap length (get_or_tab 0 (whole_in_of 24 bytes) frame n []
+    (omega (arith, length_tab 0 (whole_in_of 24 bytes) frame)))
     ∙ length_strided (float_at (chunk 24 (0 + n) bytes)) 4 0 6
 
 -- one digit, or one more than the number's tenth has

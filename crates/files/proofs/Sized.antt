@@ -48,7 +48,8 @@ module _ (bytes : List ℕ) (size : ℕ) (room : length bytes ≡ largest_file) 
   file_bytes : AreBytes bytes → AreBytes file
   unfolding file
   file_bytes are = forall_append IsByte 0 (take size bytes) (replicate (size - largest_file) 0)
-      (forall_take IsByte 0 size bytes (omega arith) are) (forall_replicate IsByte 0 (size - largest_file) (omega arith))
+      (forall_take IsByte 0 size bytes (omega arith) are)
+      (forall_replicate IsByte 0 (size - largest_file) (omega arith))
 
   pub sized_found : (zs es : List ℤ) (xs : List Float) (o : ReadOutcome) → ReadSized bytes size zs es xs o
       → Found zs es xs o

@@ -7,7 +7,8 @@
 // is counted, and `bank::read_start` tells what is wrong with it.
 #![tactic(auto)]
 
-ghost use Rattle.std.specs.Prelude.{◌≡◌, true, false, ◌+◌, ◌^◌, ◌≤◌, ◌<◌, min, max, pos, length, Some, IfOk, MatchResult};
+ghost use Rattle.std.specs.Prelude.{◌≡◌, true, false, ◌+◌, ◌^◌, ◌≤◌, ◌<◌, min, max, pos, length, Some, IfOk};
+ghost use Rattle.std.specs.Prelude.{MatchResult};
 ghost use Rattle.io.specs.Counts.{IsPrefixLen};
 ghost use Rattle.bank_form.specs.Version.{largest_file};
 ghost use Rattle.bank_form.specs.FaultLaws.{bytes_that_matter};
@@ -58,7 +59,7 @@ pub fn read_some<R: Read>(
 }
 
 // Reads until the file ends or the list is full, and answers how many bytes came: none where a read fails.
-pub fn fill<R: Read>(file: &mut R, bytes: &mut [u8]) -> usize
+fn fill<R: Read>(file: &mut R, bytes: &mut [u8]) -> usize
     ensures { IsPrefixLen result bytes.new }
 {
     let mut at = 0;
@@ -184,7 +185,8 @@ pub fn read_bank<R: Files>(
     read_sized(&bytes, size, azimuths, elevations, taps)
 }
 
-// Closes a file that was written. Today's `close` tells no error, so what was written is brought to the disk first, which
+// Closes a file that was written. Today's `close` tells no error, so what was written is brought to the disk first,
+// which
 // tells it: a disk that is full, for one. What keeps nothing, as a pipe or a terminal, has nothing to bring there.
 pub fn close<F: OpenFile + Drop>(file: F) -> io::Result<()> {
     match file.sync_all() {

@@ -40,7 +40,8 @@ module _ (operation : ℕ) (args out : List ℕ) where
   unfolding answer_of
   of_matrix e = rw e
 
-  pub of_planes : (operation ≡ 14) ⊎ (operation ≡ 16) → Planes.answer_of operation args out ≡ answer_of operation args out
+  pub of_planes : (operation ≡ 14) ⊎ (operation ≡ 16) → Planes.answer_of operation args out
+      ≡ answer_of operation args out
   unfolding answer_of
   of_planes = ⊎_elim (λ e. rw e) (λ e. rw e)
 
@@ -71,7 +72,8 @@ module _ (operation : ℕ) (args out : List ℕ) where
   unfolding answer_of
   of_replay e = rw e
 
-  pub of_conversions : 23 ≤ operation → operation ≤ 24 → Bank.answer_of operation args out ≡ answer_of operation args out
+  pub of_conversions : 23 ≤ operation → operation ≤ 24 → Bank.answer_of operation args out
+      ≡ answer_of operation args out
   unfolding answer_of
   of_conversions l h =
       elim (dec_lt operation 24) [

@@ -85,7 +85,8 @@ module _ (list out : List ℕ) (at : ℕ) where
   bytes_more {ys} {i} p h =
       let inside = p.inside in
       let some = length-take-le i list (omega arith) in
-      let more : take i list ++ (get_or list i 0 ∷ []) ≡ take (i + 1) list = rw (add-one i) (sym (take-suc list i 0 h)) in
+      let more : take i list ++ (get_or list i 0 ∷ []) ≡ take (i + 1) list =
+      rw (add-one i) (sym (take-suc list i 0 h)) in
       record {
         inside = inside;
         few = omega arith;

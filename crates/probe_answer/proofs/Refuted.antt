@@ -42,7 +42,8 @@ module _ (d : Draft) (part : List ℕ) (r : Draft) (is : r ≡ d then part) wher
         → r ≡ d then replicate (length part) (get_or part 0 0) → ⊥
     first_repeated i h differs =
         other_bytes (replicate (length part) (get_or part 0 0)) (length-replicate (length part) (get_or part 0 0))
-        (λ e. differs (sym (get_or-replicate (length part) i (get_or part 0 0) 0 h) ∙ ap (λ (l : List ℕ). get_or l i 0) e))
+        (λ e. differs (sym (get_or-replicate (length part) i (get_or part 0 0) 0 h)
+        ∙ ap (λ (l : List ℕ). get_or l i 0) e))
 
     -- more bytes are put than the part has, or fewer
     other_size : (q : List ℕ) → length d.bytes < nowhere → (length part ≡ length q → ⊥) → r ≡ d then q → ⊥
@@ -75,7 +76,8 @@ module _ {A : Type 0} (w : ℕ) (bits : A → ℕ) (d : Draft) (list : List A) (
   other_width : (v : ℕ) → (w ≡ v → ⊥) → 0 < length list → length d.bytes < nowhere
       → r ≡ d then field_bytes v bits list → ⊥
   other_width v other some h =
-      other_size d (field_bytes w bits list) r is (omega (arith, length_field_bytes w bits list)) (field_bytes v bits list)
+      other_size d (field_bytes w bits list) r is (omega (arith, length_field_bytes w bits list))
+      (field_bytes v bits list)
       h
       (λ s. other (eq_of_mul-eq-mul_right (length list) some w v
       (sym (length_field_bytes w bits list) ∙ s ∙ length_field_bytes v bits list)))
@@ -106,7 +108,8 @@ module _ (refusal : ℕ) (list : List Float) (out : List ℕ) (r : Draft) (is : 
       let size = length_field_bytes 8 (to_bits binary64) list in
       let one = length_bytes 1 refusal in
       let two = length_bytes 2 refusal in
-      other_length (bytes_of 1 refusal ∷ double_bytes list ∷ []) (bytes_of 2 refusal ∷ double_bytes list ∷ []) (none out)
+      other_length (bytes_of 1 refusal ∷ double_bytes list ∷ []) (bytes_of 2 refusal ∷ double_bytes list ∷ [])
+      (none out)
       (omega arith) h (λ s. omega arith) (sym is ∙ e)
 
   -- the numbers are put over the refusal

@@ -176,7 +176,8 @@ parts_further : (ps : List (List ℕ)) (d : Draft) (n : ℕ) → n ≤ d.place �
 parts_further [] d n h k = h
 parts_further (p ∷ ps) d n h k = parts_further ps (d then p) n (then_further d p n h k) k
 
-pub counted : (refusal : ℕ) (ps : List (List ℕ)) (out : List ℕ) → 0 < (parts (none out then bytes_of 1 refusal) ps).place
+pub counted : (refusal : ℕ) (ps : List (List ℕ)) (out : List ℕ)
+    → 0 < (parts (none out then bytes_of 1 refusal) ps).place
 counted refusal ps out =
     let one = length_bytes 1 refusal in
     parts_further ps (none out then bytes_of 1 refusal) 1

@@ -56,7 +56,8 @@ module _ (args : List ℕ) (at most r : ℕ) where
   two_bytes_always : 0 < most → 0 < field_at args at 1 → length args < at + 2 → r ≡ lent_by args at 1 most
       → r ≡ lent_by args at 2 most → ⊥
   two_bytes_always room some short is two =
-      let none : 0 < field_at args at 2 → ⊥ = cut_number args at 2 (field_at args at 2) (λ i. field_at args at 2) short in
+      let none : 0 < field_at args at 2 → ⊥ =
+      cut_number args at 2 (field_at args at 2) (λ i. field_at args at 2) short in
       none (omega arith)
 
 -- ---- places

@@ -53,7 +53,8 @@ module _ (args : List ℕ) (short : length args < 2 ^ 64 - 1) where
   size = length args
 
   -- what stands behind it
-  pub place_behind : (at k : ℕ) {p q : ℕ} → p ≡ place_in size at → q ≡ place_in size (p + k) → q ≡ place_in size (at + k)
+  pub place_behind : (at k : ℕ) {p q : ℕ} → p ≡ place_in size at → q ≡ place_in size (p + k) → q ≡ place_in
+      size (at + k)
   place_behind at k e f =
       f
       ∙ ap (λ (n : ℕ). place_in size (n + k)) e

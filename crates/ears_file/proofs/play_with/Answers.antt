@@ -1,7 +1,7 @@
 -- `ears_file::play_with` meets its contract: what was found is set up, and ready. Assumes nothing.
 use Rattle.std.specs.Prelude.{◌*◌}
-use Rattle.lists.specs.Prelude.{sym, ap, ◌∙◌, arith, take, replicate, length-replicate}
-use Rattle.lists.specs.Prelude.{length-take-le, Float, binary32, of_bits}
+use Rattle.lists.specs.Prelude.{sym, ap, ◌∙◌, arith, take, replicate, length-replicate, length-take-le, Float, binary32}
+use Rattle.lists.specs.Prelude.{of_bits}
 use Rattle.formats.proofs.Patterns.{zero_bits}
 use Rattle.formats.specs.Floats.{zero_float}
 use Rattle.lists.proofs.Lists.{take_replicate}

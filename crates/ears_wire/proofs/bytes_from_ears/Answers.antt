@@ -15,5 +15,6 @@ returns c =
     let given = c.before.before in
     let room = given.before.before in
     let fits = room.before in
-    given_filled _ _ _ _ _ (sym fits.before.is_unfit.ensures ∙ fits.if-is_unfit.false) (omega (arith, room.if-out-frames.false))
+    given_filled _ _ _ _ _ (sym fits.before.is_unfit.ensures ∙ fits.if-is_unfit.false)
+    (omega (arith, room.if-out-frames.false))
     given.give_frames.ensures

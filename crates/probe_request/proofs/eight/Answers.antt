@@ -18,7 +18,8 @@ none s at n h = tab_ext 0 n (λ k. field_at s (at + k * 8) 8) (λ k. 0)
 far : (s : List ℕ) (at : ℕ) → length s < at → ◌≡◌ {A = List ℕ} (replicate 8 0) (eight_at s at)
 far s at h = sym (none s at 8 h)
 
-near : (s : List ℕ) (at a b c d e f g h : ℕ) → a ≡ field_at s at 8 → b ≡ field_at s (at + 8) 8 → c ≡ field_at s (at + 16) 8
+near : (s : List ℕ) (at a b c d e f g h : ℕ) → a ≡ field_at s at 8 → b ≡ field_at s (at + 8) 8 → c
+    ≡ field_at s (at + 16) 8
     → d ≡ field_at s (at + 24) 8 → e ≡ field_at s (at + 32) 8 → f ≡ field_at s (at + 40) 8 → g ≡ field_at s (at + 48) 8
     → h ≡ field_at s (at + 56) 8 → ◌≡◌ {A = List ℕ} (a ∷ b ∷ c ∷ d ∷ e ∷ f ∷ g ∷ h ∷ []) (eight_at s at)
 unfolding strided

@@ -13,7 +13,8 @@ pub loop-i-init : goal.loop-i-init
 loop-i-init c = search (get_first signed_at 2)
 
 pub loop-i-preserved : goal.loop-i-preserved
-loop-i-preserved c = get_more _ _ _ _ _ c.before.before.loop-i.invariant c.before.loop-i-test.true (back w16 c.get_i16.result c.get_i16.type_inv ∙ c.get_i16.ensures)
+loop-i-preserved c = get_more _ _ _ _ _ c.before.before.loop-i.invariant c.before.loop-i-test.true
+    (back w16 c.get_i16.result c.get_i16.type_inv ∙ c.get_i16.ensures)
 
 pub returns : goal.returns
 returns c = search (get_all signed_at 2)
