@@ -9,7 +9,8 @@ use Rattle.bank_form.specs.declared.Fault.{Fault}
 use Rattle.bank_form.specs.Bank.{is_azimuth, is_elevation, unlike, differ, is_level}
 use Rattle.bank_form.specs.Version.{elevation_at}
 use Rattle.bank_form.specs.Fault.{bank_in, elevation_fault, fault_of, raised_from, raised_fault, sound, wrong, or_else}
-use Rattle.bank_form.specs.Fault.{field, taps_fault, is_new, row_fault, rows_fault, head_field, head_fault, fault_in, fault}
+use Rattle.bank_form.specs.Fault.{field, taps_fault, is_new, row_fault, rows_fault, head_field, head_fault, fault_in}
+use Rattle.bank_form.specs.Fault.{fault}
 use Rattle.bank_form.proofs.Worked.{head2, row2, example2, row_at, one_at}
 
 -- what opens this opens every definition that a walk computes with
