@@ -1,2 +1,3 @@
 -- That the marked drill table holds.
 pub mod Table
+mod BankCases

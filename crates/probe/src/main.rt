@@ -13,7 +13,7 @@ ghost use Rattle.std.specs.Prelude.{◌≡◌, ◌≤◌, length};
 ghost use Rattle.probe_answer.specs.Answers.{draft};
 ghost use Rattle.probe.specs.Answers.{answer_of};
 
-use std::io::{Read, Write};
+use std::io::Read;
 
 // What is wrong with a request that no operation answers.
 const NO_SUCH_OPERATION: u8 = 1;

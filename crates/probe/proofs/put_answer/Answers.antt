@@ -1,5 +1,5 @@
 -- `probe::put_answer` meets its contract: by the operation. Assumes nothing.
-use Rattle.std.proofs.Common.{◌∙◌, arith}
+use Rattle.std.proofs.Common.{◌∙◌, arith, rules}
 use Rattle.probe.proofs.Meets.{of_numbers, of_bank, of_gains, of_matrix, of_planes, of_hrtf, of_setup}
 use Rattle.probe.proofs.Meets.{of_script, of_replay, of_conversions, of_sum, of_none}
 use Rattle.probe.proofs.put_answer.Goals as goal
@@ -28,16 +28,16 @@ returns-in-6-to-8 c = c.answer-in-6-to-8.ensures ∙ of_bank _ _ _ (omega arith)
 pub returns-in-9-to-13 : goal.returns-in-9-to-13
 returns-in-9-to-13 c = c.answer-in-9-to-13.ensures ∙ of_gains _ _ _ (omega arith) (omega arith)
 
+pub returns-in-17 : goal.returns-in-17
+returns-in-17 c =
+    c.answer-in-17.ensures
+    ∙ of_hrtf _ _ _ (search rules) (λ e. omega arith) (omega arith) (omega arith)
+
 pub returns-in-19 : goal.returns-in-19
 returns-in-19 c = c.answer-in-19.ensures ∙ of_setup _ _ _ (omega arith) (omega arith)
 
 pub returns-in-23 : goal.returns-in-23
 returns-in-23 c = c.answer-in-23.ensures ∙ of_conversions _ _ _ (omega arith) (omega arith)
-
-pub returns-in-17 : goal.returns-in-17
-returns-in-17 c =
-    let others = c.in-17.in_default-own.rest.0.0.0 in
-    c.answer-in-17.ensures ∙ of_hrtf _ _ _ others.0.1 others.1 (omega arith) (omega arith)
 
 pub returns-in_default : goal.returns-in_default
 returns-in_default c = of_none _ _ _ (λ h. omega arith)
