@@ -199,8 +199,8 @@ fn bad_rows(rt: &HostRuntime) {
     );
 }
 
-// The same line however it is cut, and through filters that are longer than it.
-fn cuts(rt: &HostRuntime) {
+// A line through filters that are longer than it, and through others at once.
+fn uncut(rt: &HostRuntime) {
     case(
         rt,
         b"ramps through the largest bank",
@@ -215,6 +215,10 @@ fn cuts(rt: &HostRuntime) {
         b"ramps.line",
         NO_LIMIT,
     );
+}
+
+// The same line however it is cut.
+fn cuts(rt: &HostRuntime) {
     case(
         rt,
         b"ramps, a byte at a time",
@@ -365,6 +369,7 @@ fn main(rt: HostRuntime) {
     bad_heads(&rt);
     bad_rows(&rt);
     long_banks(&rt);
+    uncut(&rt);
     cuts(&rt);
     long_cuts(&rt);
     bearings(&rt);

@@ -185,9 +185,9 @@ pub fn read_bank<R: Files>(
     read_sized(&bytes, size, azimuths, elevations, taps)
 }
 
-// Closes a file that was written. Today's `close` tells no error, so what was written is brought to the disk first,
-// which
-// tells it: a disk that is full, for one. What keeps nothing, as a pipe or a terminal, has nothing to bring there.
+// Closes a file that was written. Rattle's own `close` tells no error, so what was written is brought to the disk
+// first, which tells it: a disk that is full, for one. What keeps nothing, as a pipe or a terminal, has nothing to
+// bring there.
 pub fn close<F: OpenFile + Drop>(file: F) -> io::Result<()> {
     match file.sync_all() {
         Ok(()) => Ok(()),
