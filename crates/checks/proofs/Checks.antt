@@ -2,11 +2,12 @@
 -- and laws of lists of finite floats. Assumes nothing.
 use Rattle.std.specs.Prelude.{◌≡◌, ◌||◌, ◌∷◌, ◌+◌, ◌-◌, ◌*◌, ◌≤◌, ◌<◌}
 use Rattle.lists.specs.Prelude.{refl, sym, ap, ◌∙◌, subst, Bool, true, false, not, List, [], ℕ, zero, suc, zero-le}
-use Rattle.lists.specs.Prelude.{not-suc-le-zero, zero-add, add-zero, add-suc, suc-add, arith, length, get_or, take}
+use Rattle.lists.specs.Prelude.{not-suc-le-zero, zero-add, add-zero, add-suc, suc-add, arith, length, get_or, take, map}
 use Rattle.lists.specs.Prelude.{drop, eqb, ltb, eq-eqb, le-ltb, eqb-true, not-false, ltb-false, Float, nan}
 use lib.Ieee.Scale.{finite}
 pub use Rattle.refusals.proofs.Counts.{not_outside, count_inside}
 pub use Rattle.refusals.proofs.First.{or_off}
+use Rattle.std.specs.List.{list_any}
 use Rattle.lists.specs.Tables.{tab, any}
 use Rattle.checks.specs.Finite.{has_nonfinite}
 use Rattle.checks.specs.Lengths.{unfit}
@@ -86,30 +87,23 @@ module _ (f : ℕ → Bool) (n : ℕ) where
 
 -- ---- floats that are NaN or infinite
 
-abbrev pub is_nonfinite_at : (ℕ → Float) → ℕ → Bool
+-- of what is counted as a number by a function, as `any` finds it
+pub nonfinite_any : {A : Type 0} (number : A → Float) (xs : List A)
+    → list_any (λ x. not (finite (number x))) xs ≡ has_nonfinite (map number xs)
+nonfinite_any number [] = refl
+nonfinite_any number (x ∷ xs) = ap (λ (b : Bool). not (finite (number x)) || b) (nonfinite_any number xs)
+
+-- what is a number itself
+pub nonfinite_of : (xs : List Float) → has_nonfinite (map (λ (x : Float). x) xs) ≡ has_nonfinite xs
+nonfinite_of [] = refl
+nonfinite_of (x ∷ xs) = ap (λ (b : Bool). not (finite x) || b) (nonfinite_of xs)
+
+abbrev is_nonfinite_at : (ℕ → Float) → ℕ → Bool
 is_nonfinite_at f k = not (finite (f k))
 
 nonfinite_tab : (i n : ℕ) (f : ℕ → Float) → any (tab i n (is_nonfinite_at f)) ≡ has_nonfinite (tab i n f)
 nonfinite_tab i zero f = refl
 nonfinite_tab i (suc n) f = ap (λ (b : Bool). is_nonfinite_at f i || b) (nonfinite_tab (suc i) n f)
-
--- the loop that stops at the first of them: x is the one looked at, and b whether it was found finite
-module _ (f : ℕ → Float) (n : ℕ) where
-  looked_at : (s : ℕ) (x : Float) (b t : Bool) → x ≡ f s → b ≡ finite x → not b ≡ t → is_nonfinite_at f s ≡ t
-  looked_at s x b t ex eb e = ap (λ (v : Float). not (finite v)) (sym ex) ∙ ap not (sym eb) ∙ e
-
-  pub finite_more : (s : ℕ) (x : Float) (b : Bool) → Passing (is_nonfinite_at f) n s → s < n → x ≡ f s → b ≡ finite x
-      → not b ≡ false → Passing (is_nonfinite_at f) n (s + 1)
-  finite_more s x b p h ex eb e = passing_more (is_nonfinite_at f) n s p h (looked_at s x b false ex eb e)
-
-  pub nonfinite_found : (s : ℕ) (x : Float) (b : Bool) → Passing (is_nonfinite_at f) n s → s < n → x ≡ f s → b
-      ≡ finite x
-      → not b ≡ true → true ≡ has_nonfinite (tab 0 n f)
-  nonfinite_found s x b p h ex eb e =
-      passing_found (is_nonfinite_at f) n s p h (looked_at s x b true ex eb e) ∙ nonfinite_tab 0 n f
-
-  pub finite_all : (s : ℕ) → Passing (is_nonfinite_at f) n s → n ≤ s → false ≡ has_nonfinite (tab 0 n f)
-  finite_all s p h = passing_all (is_nonfinite_at f) n s p h ∙ nonfinite_tab 0 n f
 
 -- the floats of a list
 abbrev pub element_at : List Float → ℕ → Float

@@ -1,22 +1,16 @@
 -- Why the tests are right: a number is finite exactly if it lies between the infinities, and n is a * b exactly if a
 -- divides it b times. Assumes nothing.
 use Rattle.std.specs.Prelude.{◌≡◌, ◌*◌, ◌/◌, ◌%◌, ◌<◌}
-use Rattle.lists.specs.Prelude.{refl, sym, ap, ◌∙◌, true, false, true≢false, false≢true, ℕ, div-add-mod', mul-mod_right}
-use Rattle.lists.specs.Prelude.{mul-div_right, ℕ_discrete, arith, eq-eqb, ne_eqb, eqb, Float, nan, inf, fin, lt}
+use Rattle.lists.specs.Prelude.{refl, sym, ap, ◌∙◌, false, ℕ, div-add-mod', mul-mod_right}
+use Rattle.lists.specs.Prelude.{mul-div_right, ℕ_discrete, arith, eq-eqb, ne_eqb, eqb, Float, nan, inf, fin}
+use Rattle.std.specs.Float.{float_is_finite}
 use lib.Ieee.Scale.{finite}
 
-pub finite_above : (x : Float) → lt x (inf false) ≡ true → lt (inf true) x ≡ finite x
-unfolding lt
-finite_above nan h = refl
-finite_above (inf true) h = refl
-finite_above (inf false) h = absurd (false≢true h)
-finite_above (fin s m e) h = refl
-
-pub not_finite : (x : Float) → lt x (inf false) ≡ false → false ≡ finite x
-unfolding lt
-not_finite nan h = refl
-not_finite (inf s) h = refl
-not_finite (fin s m e) h = absurd (true≢false h)
+pub finite_is : (x : Float) → float_is_finite x ≡ finite x
+unfolding float_is_finite
+finite_is nan = refl
+finite_is (inf s) = refl
+finite_is (fin s m e) = refl
 
 module _ (n a b : ℕ) where
   pub product_of_zero : a ≡ 0 → eqb n 0 ≡ eqb n (a * b)

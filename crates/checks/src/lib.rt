@@ -5,11 +5,13 @@
 // a number, or one of a list, is NaN or infinite. And the smaller of two counts. The tests of a range are in
 // `refusals`. Every function takes any input and promises its answer by an equation.
 //
+// Weights are f64 and taps f32: one function looks through either, by the number that each element is.
+//
 // Its laws (proofs/Checks.antt) go through a chain of tests one by one, and through a loop that stops at the
 // first that holds.
 #![tactic(auto)]
 
-ghost use Rattle.std.specs.Prelude.{◌≡◌, ◌*◌, min, eqb};
+ghost use Rattle.std.specs.Prelude.{◌≡◌, ◌*◌, Float, map, min, eqb};
 ghost use Rattle.std.specs.Float.Ieee.Scale.{finite};
 ghost use Rattle.checks.specs.Finite.{has_nonfinite};
 ghost use Rattle.checks.specs.Lengths.{unfit, block_unfit};
@@ -18,38 +20,39 @@ ghost use Rattle.checks.specs.Lengths.{unfit, block_unfit};
 pub fn is_finite(x: f64) -> bool
     ensures { result ≡ finite x }
 {
-    if x < 1.0 / 0.0 {
-        return -1.0 / 0.0 < x;
-    }
-    false
+    x.is_finite()
 }
 
-// Whether one of the weights is NaN or infinite.
-pub fn has_nonfinite_f64(weights: &[f64]) -> bool
-    ensures { result ≡ has_nonfinite weights.now }
-{
-    let mut w = 0;
-    while w < weights.len() {
-        if !is_finite(weights[w]) {
-            return true;
-        }
-        w += 1;
-    }
-    false
+// A float of either width: the weights are f64, and the taps f32.
+pub trait Sample: Copy {
+    ghost number: { Self → Float };
+
+    // The same number as an f64, which has every f32.
+    fn widened(self) -> f64
+        ensures { result ≡ number self };
 }
 
-// Whether one of the taps is NaN or infinite.
-pub fn has_nonfinite_f32(taps: &[f32]) -> bool
-    ensures { result ≡ has_nonfinite taps.now }
-{
-    let mut k = 0;
-    while k < taps.len() {
-        if !is_finite(numbers::widen(taps[k])) {
-            return true;
-        }
-        k += 1;
+impl Sample for f64 {
+    ghost number = { λ x. x };
+
+    fn widened(self) -> f64 {
+        self
     }
-    false
+}
+
+impl Sample for f32 {
+    ghost number = { λ x. x };
+
+    fn widened(self) -> f64 {
+        numbers::widen(self)
+    }
+}
+
+// Whether one of the weights or taps is NaN or infinite.
+pub fn has_nonfinite<T: Sample>(list: &[T]) -> bool
+    ensures { result ≡ has_nonfinite (map T.number list.now) }
+{
+    list.iter().any(|x| !is_finite(x.widened()))
 }
 
 // Whether n is a times b, which may not fit and is not formed.
@@ -93,11 +96,9 @@ pub fn is_block_unfit(
 }
 
 // The smaller of two counts.
+// Kept: the edits the_larger_one and the_second_always, and min_unique, which docs/TRUST.md names, hold it.
 pub fn min(a: usize, b: usize) -> usize
     ensures { result ≡ min a b }
 {
-    if a < b {
-        return a;
-    }
-    b
+    a.min(b)
 }

@@ -9,8 +9,9 @@ use native.Mathlib.Numerals.{add-one}
 use native.Mathlib.Omega.{arith}
 use borrow.Author.Tests.{lt-ltb, le-ltb}
 use lib.Dec.{ltb}
-use lib.ListN.{length, set, drop, replicate, length-set}
+use lib.ListN.{length, get_or, set, drop, replicate, length-set}
 use lib.Seq.{drop-length}
+use Rattle.std.proofs.lemmas.List.{get_or-append_right, get_or-drop}
 use Rattle.lists.specs.Tables.{tab}
 use Rattle.lists.specs.Placed.{placed}
 use Rattle.lists.proofs.Lists.{drop_replicate}
@@ -66,6 +67,15 @@ module _ {A : Type 0} (f : ℕ → A) (n : ℕ) (l₀ : List A) where
         same = length-set l i x ∙ p.same;
         filled = ap (λ (k : ℕ). set l k x) (sym (zero-add i)) ∙ fill_more f l₀ 0 l i x p.filled (omega arith) e;
       }
+
+  -- what is still to be filled is as it was
+  pub filling_ahead : (l : List A) (i k : ℕ) (d : A) → Filling f n l₀ l i → i ≤ k → get_or l k d ≡ get_or l₀ k d
+  filling_ahead l i k d p h =
+      let at : i + (k - i) ≡ k = omega arith in
+      ap (λ (m : List A). get_or m k d) (p.filled ∙ placed_start l₀ (tab 0 i f)
+      ∙ ap (λ (m : ℕ). tab 0 i f ++ drop m l₀) (length_tab 0 i f))
+      ∙ get_or-append_right (tab 0 i f) (drop i l₀) i k d (length_tab 0 i f) h
+      ∙ get_or-drop i l₀ (k - i) d ∙ ap (λ (m : ℕ). get_or l₀ m d) at
 
   pub filling_all : (l : List A) (i : ℕ) → Filling f n l₀ l i → n ≤ i → l ≡ tab 0 n f ++ drop n l₀
   filling_all l i p h =

@@ -7,7 +7,7 @@ pub mod Silence
 pub mod Zeros
 pub mod Framing
 pub mod Blocks
-mod Places
 mod Mixing
 mod Refuted
 mod Unique
+pub mod Played

@@ -18,26 +18,14 @@ fn onward(at: usize, step: usize, size: usize) -> usize
     requires { at ≤ size }
     ensures { result ≡ min (at + step) size }
 {
-    if step < size - at {
-        return at + step;
-    }
-    size
+    at + step.min(size - at)
 }
 
 // Where a sample stands, or the list's end where it lies beyond.
 fn place(size: usize, stride: usize, plane: usize, frame: usize) -> usize
     ensures { result ≡ min (plane * stride + frame) size }
 {
-    if size <= frame {
-        return size;
-    }
-    if stride == 0 {
-        return frame;
-    }
-    if (size - 1 - frame) / stride < plane {
-        return size;
-    }
-    plane * stride + frame
+    onward(plane.saturating_mul(stride).min(size), frame, size)
 }
 
 // What stands at a place, widened.
@@ -78,11 +66,9 @@ fn mix(weights: &[f64], inputs: &[f32], stride: usize, frame: usize) -> f32
 {
     let mut sum = 0.0;
     let mut at = onward(0, frame, inputs.len());
-    let mut c = 0;
-    while c < weights.len() {
-        sum = sum + value(inputs, at) * weights[c];
+    for weight in weights {
+        sum = sum + value(inputs, at) * *weight;
         at = onward(at, stride, inputs.len());
-        c += 1;
     }
     numbers::narrow(sum)
 }
@@ -104,8 +90,7 @@ pub fn mix_frame(
         out.new result }
 {
     let mut damaged = false;
-    let mut o = 0;
-    while o < outputs {
+    for o in 0..outputs {
         let from = place(weights.len(), channels, o, 0);
         let to = onward(from, channels, weights.len());
         let x = mix(&weights[from..to], inputs, stride, frame);
@@ -113,7 +98,6 @@ pub fn mix_frame(
         if !checks::is_finite(numbers::widen(x)) {
             damaged = true;
         }
-        o += 1;
     }
     damaged
 }

@@ -3,4 +3,5 @@ pub mod First
 pub mod Chains
 pub mod Ranges
 pub mod Counts
+pub mod Numbers
 mod Unique

@@ -17,12 +17,9 @@ pub fn put_row(row: &[f64], scale: f64, weights: &mut [f64], at: usize)
     ensures { weights.new ≡ sets weights.old at (scaled scale row.now) }
 {
     let mut to = at;
-    let mut i = 0;
-    while i < row.len() {
-        let weight = row[i] * scale;
-        i += 1;
+    for x in row {
         if to < weights.len() {
-            weights[to] = weight;
+            weights[to] = *x * scale;
             to += 1;
         }
     }

@@ -3,8 +3,8 @@ use Rattle.std.specs.Prelude.{◌≡◌, ◌+◌, ◌^◌, ◌≤◌, ◌<◌}
 use Rattle.lists.specs.Prelude.{refl, Bool, cond, ℕ, suc-ne-zero, arith, eqb-true, eqb-false, ne_eqb, le-leb, lt-leb}
 use Rattle.lists.specs.Prelude.{lt-ltb, le-ltb, eqb, leb, ltb}
 use Rattle.lists.proofs.Tests.{by_test, by_less, by_at_most}
-use Rattle.stamps.specs.declared.Expected.{Expected}
-use Rattle.stamps.specs.declared.Expected.TheVariants.{First, Stamp}
+use Rattle.stamps.specs.Arrivals.{Expected}
+use Rattle.std.specs.Prelude.{None, Some}
 use Rattle.stamps.specs.declared.Arrival.{Arrival}
 use Rattle.stamps.specs.declared.Arrival.TheVariants.{Next, Ahead, Jump, Late}
 use Rattle.stamps.specs.Arrivals.{ahead, coming_by, coming_of}
@@ -66,6 +66,6 @@ one_reset Jump = omega arith
 one_reset Late = omega arith
 
 pub silent_few : (x : Expected) (s : ℕ) → silent_one (coming_of x s) ≤ 4096
-silent_few First s = omega arith
-silent_few (Stamp e) s = by_difference (λ c. silent_one c ≤ 4096) (ahead e s) (λ z. omega arith) (λ a b. b)
+silent_few None s = omega arith
+silent_few (Some e) s = by_difference (λ c. silent_one c ≤ 4096) (ahead e s) (λ z. omega arith) (λ a b. b)
     (λ a b. omega arith) (λ a. omega arith)

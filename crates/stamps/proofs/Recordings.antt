@@ -2,12 +2,12 @@
 -- does what the whole does; and what comes out, with what is late, is what was recorded, with the silence. Assumes
 -- nothing.
 use Rattle.std.specs.Prelude.{◌≡◌, ◌∷◌, ◌++◌, ◌+◌, ◌^◌, ◌<◌}
-use Rattle.lists.specs.Prelude.{refl, sym, ap, ◌∙◌, true, List, [], append_assoc, ℕ, zero, suc, suc-ne-zero, add-one}
+use Rattle.lists.specs.Prelude.{refl, sym, ap, ◌∙◌, List, [], append_assoc, ℕ, zero, suc, suc-ne-zero, add-one}
 use Rattle.lists.specs.Prelude.{arith, length}
 use Rattle.lists.proofs.Tests.{by_at_most}
-use Rattle.stamps.specs.declared.Expected.{Expected}
+use Rattle.stamps.specs.Arrivals.{Expected}
 use Rattle.stamps.specs.declared.Planned.{Planned}
-use Rattle.stamps.specs.declared.Expected.TheVariants.{First, Stamp}
+use Rattle.std.specs.Prelude.{Option, None, Some}
 use Rattle.stamps.specs.declared.Arrival.{Arrival}
 use Rattle.stamps.specs.declared.Arrival.TheVariants.{Next, Ahead, Jump, Late}
 use Rattle.stamps.specs.Arrivals.{ahead, following, coming_by, coming_of, stamp_of, then_by, then_of, skipped_of}
@@ -110,8 +110,8 @@ module _ {F : Type 0} (q : F) where
 
     -- late: nothing
     pub events_late : (x : Expected) → coming_of x r.stamp ≡ Late → events_of q x (r ∷ rs) ≡ events_of q x rs
-    events_late First k = absurd (suc-ne-zero 0 (cc))
-    events_late (Stamp e) k = events_are (Stamp e) Late k
+    events_late None k = absurd (suc-ne-zero 0 (cc))
+    events_late (Some e) k = events_are (Some e) Late k
 
     -- next: the frame itself
     pub events_next : (x : Expected) → coming_of x r.stamp ≡ Next → events_of q x (r ∷ rs) ≡ feed r.stamp r.frame
@@ -121,28 +121,28 @@ module _ {F : Type 0} (q : F) where
 
     -- a jump: a restart, and the frame is the one expected
     pub events_jump : (x : Expected) → r.stamp < 2 ^ 32 → coming_of x r.stamp ≡ Jump
-        → events_of q x (r ∷ rs) ≡ restart ∷ events_of q (Stamp r.stamp) (r ∷ rs)
-    events_jump First hs k = absurd (suc-ne-zero 0 (cc))
-    events_jump (Stamp e) hs k =
-        events_are (Stamp e) Jump k
+        → events_of q x (r ∷ rs) ≡ restart ∷ events_of q (Some r.stamp) (r ∷ rs)
+    events_jump None hs k = absurd (suc-ne-zero 0 (cc))
+    events_jump (Some e) hs k =
+        events_are (Some e) Jump k
         ∙ ap (λ (es : List (Event F)). restart ∷ es)
-        (sym (events_are (Stamp r.stamp) Next (ap coming_by (ahead_none r.stamp hs) ∙ difference_none)))
+        (sym (events_are (Some r.stamp) Next (ap coming_by (ahead_none r.stamp hs) ∙ difference_none)))
 
     -- ahead: one silent frame under the stamp that is expected, and then one less is missing
     pub events_ahead : (e d : ℕ) → e < 2 ^ 32 → r.stamp < 2 ^ 32 → coming_by (ahead e r.stamp) ≡ Ahead d
-        → events_of q (Stamp e) (r ∷ rs) ≡ feed e q ∷ events_of q (Stamp (following e)) (r ∷ rs)
+        → events_of q (Some e) (r ∷ rs) ≡ feed e q ∷ events_of q (Some (following e)) (r ∷ rs)
     events_ahead e zero he hs k = absurd (omega (arith, ahead_difference (ahead e r.stamp) 0 k))
     events_ahead e (suc zero) he hs k =
         let known = ahead_difference (ahead e r.stamp) 1 k in
-        events_are (Stamp e) (Ahead 1) k
+        events_are (Some e) (Ahead 1) k
         ∙ ap (λ (es : List (Event F)). feed e q ∷ es)
-        (sym (events_are (Stamp (following e)) Next
+        (sym (events_are (Some (following e)) Next
         (ap coming_by (ahead_less e r.stamp 0 he hs known.0) ∙ difference_none)))
     events_ahead e (suc (suc n)) he hs k =
         let known = ahead_difference (ahead e r.stamp) (suc (suc n)) k in
-        events_are (Stamp e) (Ahead (suc (suc n))) k
+        events_are (Some e) (Ahead (suc (suc n))) k
         ∙ ap (λ (es : List (Event F)). feed e q ∷ es)
-        (sym (events_are (Stamp (following e)) (Ahead (suc n))
+        (sym (events_are (Some (following e)) (Ahead (suc n))
         (ap coming_by (ahead_less e r.stamp (suc n) he hs (known.0 ∙ sym (add-one (suc n))))
         ∙ difference_few (suc n) (omega arith) (omega (arith, known)))))
 
@@ -150,19 +150,18 @@ module _ {F : Type 0} (q : F) where
     pub events_silent : (x : Expected) (d : ℕ) → stamp_of x < 2 ^ 32 → r.stamp < 2 ^ 32
         → coming_of x r.stamp ≡ Ahead d
         → events_of q x (r ∷ rs) ≡ feed (stamp_of x) q ∷ events_of q (skipped_of x) (r ∷ rs)
-    events_silent First d hx hs k = absurd (suc-ne-zero 0 (cc))
-    events_silent (Stamp e) d hx hs k = events_ahead e d hx hs k
+    events_silent None d hx hs k = absurd (suc-ne-zero 0 (cc))
+    events_silent (Some e) d hx hs k = events_ahead e d hx hs k
 
 -- ---- an accepted plan: its counts are the definition's, of the stamps and of the events
 
-pub plan_counts : {F : Type 0} (q : F) (x : Expected) (rs : List (Recorded F)) (room : ℕ)
-    → (plan_of x (stamps_of rs) room).fits ≡ true
-    → (plan_of x (stamps_of rs) room ≡ planned_of x (stamps_of rs))
-    × (((plan_of x (stamps_of rs) room).out ≡ feeds_in (events_of q x rs))
-    × ((plan_of x (stamps_of rs) room).resets ≡ restarts_in (events_of q x rs)))
-plan_counts q x rs room =
-    by_at_most (λ (p : Planned). p.fits ≡ true → (p ≡ planned_of x (stamps_of rs))
+pub plan_counts : {F : Type 0} (q : F) (x : Expected) (rs : List (Recorded F)) (room : ℕ) (p : Planned)
+    → plan_of x (stamps_of rs) room ≡ Some p
+    → (p ≡ planned_of x (stamps_of rs))
+    × ((p.out ≡ feeds_in (events_of q x rs)) × (p.resets ≡ restarts_in (events_of q x rs)))
+plan_counts q x rs room p =
+    by_at_most (λ (y : Option Planned). y ≡ Some p → (p ≡ planned_of x (stamps_of rs))
     × ((p.out ≡ feeds_in (events_of q x rs)) × (p.resets ≡ restarts_in (events_of q x rs))))
     (out_in x (stamps_of rs)) room
-    (λ h t. (refl, (sym (feeds_out q x rs), sym (restarts_resets q x rs))))
+    (λ h t. (cc, (cc (feeds_out q x rs), cc (restarts_resets q x rs))))
     (λ h t. absurd (suc-ne-zero 0 (cc)))

@@ -7,8 +7,6 @@ use Rattle.stamps.specs.contracts.then_expected as then_expected
 use Rattle.stamps.proofs.then_expected.Reads as then_expected_reads
 use Rattle.stamps.specs.contracts.skipped as skipped
 use Rattle.stamps.proofs.skipped.Reads as skipped_reads
-use Rattle.stamps.specs.contracts.unplanned as unplanned
-use Rattle.stamps.proofs.unplanned.Reads as unplanned_reads
 use Rattle.stamps.specs.contracts.plan as plan
 use Rattle.stamps.proofs.plan.Reads as plan_reads
 
@@ -20,9 +18,6 @@ then_expected_unique κs a = determined_by (λ z h i. (h i, _))
 
 skipped_unique : AllowsOneAnswer skipped.ended skipped_reads.Learnt
 skipped_unique κs a = determined_by (λ z h i. (h i, _))
-
-unplanned_unique : AllowsOneAnswer unplanned.ended unplanned_reads.Learnt
-unplanned_unique κs a = determined_by (λ z h i. (h i, _))
 
 plan_unique : AllowsOneAnswer plan.ended plan_reads.Learnt
 plan_unique κs a = determined_by (λ z h i. (h i, _))

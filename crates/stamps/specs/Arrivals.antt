@@ -4,10 +4,13 @@
 -- is a number below 2^32.
 use Rattle.std.specs.Prelude.{◌+◌, ◌-◌, ◌%◌, ◌^◌, ◌<◌, ◌≡◌, ◌∷◌}
 use Rattle.lists.specs.Prelude.{ℕ, cond, List, [], eqb, leb, ltb}
-use Rattle.stamps.specs.declared.Expected.{Expected}
-use Rattle.stamps.specs.declared.Expected.TheVariants.{First, Stamp}
+use Rattle.std.specs.Prelude.{Option, None, Some}
 use Rattle.stamps.specs.declared.Arrival.{Arrival}
 use Rattle.stamps.specs.declared.Arrival.TheVariants.{Next, Ahead, Jump, Late}
+
+-- the stamp that comes next; before the first frame there is none
+abbrev pub Expected : Type 0
+Expected = Option ℕ
 
 -- how far s is from e, going up and over from 2^32 - 1 to 0
 abbrev pub ahead : ℕ → ℕ → ℕ
@@ -23,13 +26,13 @@ coming_by d = cond (eqb d 0) Next (cond (leb d 4096) (Ahead d) (cond (ltb d (2 ^
 
 -- the first frame is next, whatever its stamp
 abbrev pub coming_of : Expected → ℕ → Arrival
-coming_of First s = Next
-coming_of (Stamp e) s = coming_by (ahead e s)
+coming_of None s = Next
+coming_of (Some e) s = coming_by (ahead e s)
 
 -- the stamp that is expected, which is a number below 2^32
 abbrev pub stamp_of : Expected → ℕ
-stamp_of First = 0
-stamp_of (Stamp e) = e
+stamp_of None = 0
+stamp_of (Some e) = e
 
 -- what `coming` promises: which kind it is, and that what is expected is below 2^32, which a caller that passes an enum
 -- on cannot see of its number
@@ -39,9 +42,9 @@ pub record Comes (x : Expected) (s : ℕ) (r : Arrival) : Type 0 where
 
 -- what is expected after a frame: a late one changes nothing
 abbrev pub then_by : Arrival → Expected → ℕ → Expected
-then_by Next x s = Stamp (following s)
-then_by (Ahead d) x s = Stamp (following s)
-then_by Jump x s = Stamp (following s)
+then_by Next x s = Some (following s)
+then_by (Ahead d) x s = Some (following s)
+then_by Jump x s = Some (following s)
 then_by Late x s = x
 
 abbrev pub then_of : Expected → ℕ → Expected
@@ -49,8 +52,8 @@ then_of x s = then_by (coming_of x s) x s
 
 -- and after a missing frame
 abbrev pub skipped_of : Expected → Expected
-skipped_of First = First
-skipped_of (Stamp e) = Stamp (following e)
+skipped_of None = None
+skipped_of (Some e) = Some (following e)
 
 -- and after frames with these stamps
 abbrev pub expected_after : Expected → List ℕ → Expected

@@ -2,8 +2,9 @@
 -- most 4,096; a larger gap resets the convolver .. Counts of late frames, silent frames and resets equal those of a
 -- plain definition over the recorded list." Definitions only, over the stamps of the recorded frames in their order.
 use Rattle.std.specs.Prelude.{◌+◌, ◌∷◌}
-use Rattle.lists.specs.Prelude.{ℕ, true, false, cond, List, [], leb}
-use Rattle.stamps.specs.declared.Expected.{Expected}
+use Rattle.std.specs.Prelude.{Option, None, Some}
+use Rattle.lists.specs.Prelude.{ℕ, cond, List, [], leb}
+use Rattle.stamps.specs.Arrivals.{Expected}
 use Rattle.stamps.specs.declared.Arrival.{Arrival}
 use Rattle.stamps.specs.declared.Arrival.TheVariants.{Next, Ahead, Jump, Late}
 use Rattle.stamps.specs.declared.Planned.{Planned}
@@ -56,10 +57,9 @@ silent_in = added_up silent_one
 abbrev pub resets_in : Expected → List ℕ → ℕ
 resets_in = added_up reset_one
 
--- what a recording comes to, and what is told of one that does not fit
+-- what a recording comes to
 abbrev pub planned_of : Expected → List ℕ → Planned
 planned_of x ss = record {
-  fits = true;
   out = out_in x ss;
   late = late_in x ss;
   silent = silent_in x ss;
@@ -67,8 +67,6 @@ planned_of x ss = record {
   expected = expected_after x ss;
 }
 
-abbrev pub unplanned_of : Expected → Planned
-unplanned_of x = record { fits = false; out = 0; late = 0; silent = 0; resets = 0; expected = x }
-
-abbrev pub plan_of : Expected → List ℕ → ℕ → Planned
-plan_of x ss room = cond (leb (out_in x ss) room) (planned_of x ss) (unplanned_of x)
+-- nothing where the frames that come out do not fit in the room
+abbrev pub plan_of : Expected → List ℕ → ℕ → Option Planned
+plan_of x ss room = cond (leb (out_in x ss) room) (Some (planned_of x ss)) None

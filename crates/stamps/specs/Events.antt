@@ -4,7 +4,7 @@
 -- frame; q is a frame of silence.
 use Rattle.std.specs.Prelude.{◌∷◌, ◌++◌}
 use Rattle.lists.specs.Prelude.{ℕ, zero, suc, List, [], map}
-use Rattle.stamps.specs.declared.Expected.{Expected}
+use Rattle.stamps.specs.Arrivals.{Expected}
 use Rattle.stamps.specs.declared.Arrival.{Arrival}
 use Rattle.stamps.specs.declared.Arrival.TheVariants.{Next, Ahead, Jump, Late}
 use Rattle.stamps.specs.Arrivals.{following, coming_of, stamp_of, then_of}

@@ -2,7 +2,8 @@
 //
 // Document 02, E5, of the line recorder: "each with a 32-bit stamp that rolls over to zero. A frame is
 // next, ahead or late by the wrapped difference from the expected stamp: 0 is next, 1 to 2^31 - 1 is ahead, the
-// rest is late." What is expected goes in and comes back by value, so that a recording may be cut anywhere.
+// rest is late." The stamp that is expected, none before the first frame, goes in and comes back by value, so that
+// a recording may be cut anywhere.
 // `plan` tells from the stamps alone how many frames come out of a recording, before anything is played.
 //
 // The definitions over the recorded list (specs/Arrivals, specs/Counts, specs/Events) have no wrapping function in
@@ -11,15 +12,8 @@
 
 ghost use Rattle.std.specs.Prelude.{◌≡◌, ◌-◌, ◌^◌, ◌<◌, ◌≤◌};
 ghost use Rattle.stamps.specs.Arrivals.{following, coming_by, Comes, then_of, skipped_of};
-ghost use Rattle.stamps.specs.Counts.{unplanned_of, plan_of, silent_one};
+ghost use Rattle.stamps.specs.Counts.{plan_of, silent_one};
 ghost use Rattle.stamps.specs.Computed.{share_of, plan_on};
-
-// The stamp that comes next; before the first frame there is none.
-#[derive(Clone, Copy)]
-pub enum Expected {
-    First,
-    Stamp(u32),
-}
 
 // What a frame is: next; ahead, with so many missing before it (1 to 4,096); ahead by more; or late.
 #[derive(Clone, Copy)]
@@ -47,69 +41,48 @@ fn coming_by(difference: u32) -> Arrival
 }
 
 // What a frame with this stamp is.
-pub fn coming(expected: Expected, stamp: u32) -> Arrival
+pub fn coming(expected: Option<u32>, stamp: u32) -> Arrival
     ensures { Comes expected stamp result }
 {
     match expected {
-        Expected::First => Arrival::Next,
-        Expected::Stamp(e) => coming_by(std::num::wrapping_sub_u32(stamp, e)),
+        None => Arrival::Next,
+        Some(e) => coming_by(std::num::wrapping_sub_u32(stamp, e)),
     }
 }
 
 // The stamp after this one.
-fn one_on(stamp: u32) -> Expected
-    ensures { result ≡ Expected.Stamp (following stamp) }
+fn one_on(stamp: u32) -> u32
+    ensures { result ≡ following stamp }
 {
-    Expected::Stamp(std::num::wrapping_add_u32(stamp, 1))
+    std::num::wrapping_add_u32(stamp, 1)
 }
 
 // What is expected after a frame with this stamp; where it is late, what was.
-pub fn then_expected(expected: Expected, stamp: u32) -> Expected
+pub fn then_expected(expected: Option<u32>, stamp: u32) -> Option<u32>
     ensures { result ≡ then_of expected stamp }
 {
-    let what = coming(expected, stamp);
-    match what {
-        Arrival::Next => one_on(stamp),
-        Arrival::Ahead(_) => one_on(stamp),
-        Arrival::Jump => one_on(stamp),
+    match coming(expected, stamp) {
+        Arrival::Next | Arrival::Ahead(_) | Arrival::Jump => Some(one_on(stamp)),
         Arrival::Late => expected,
     }
 }
 
 // What is expected once the missing frame with the expected stamp has been put in.
-pub fn skipped(expected: Expected) -> Expected
+pub fn skipped(expected: Option<u32>) -> Option<u32>
     ensures { result ≡ skipped_of expected }
 {
-    match expected {
-        Expected::First => Expected::First,
-        Expected::Stamp(e) => one_on(e),
-    }
+    expected.map(one_on)
 }
 
-// What a recording comes to: whether the frames that come out fit in the room, how many they are, how many recorded
-// frames are late, how many silent frames are put in, how many resets there are, and what is expected then.
+// What a recording comes to: how many frames come out, how many recorded frames are late, how many silent frames are
+// put in, how many resets there are, and what is expected then.
 #[derive(Clone, Copy)]
 pub struct Planned {
-    pub fits: bool,
     pub out: usize,
     pub late: usize,
     pub silent: usize,
     pub resets: usize,
-    pub expected: Expected,
-}
-
-// What is told of a recording that does not fit: no counts, and what was expected.
-pub fn unplanned(expected: Expected) -> Planned
-    ensures { result ≡ unplanned_of expected }
-{
-    Planned {
-        fits: false,
-        out: 0,
-        late: 0,
-        silent: 0,
-        resets: 0,
-        expected,
-    }
+    pub expected: Option<u32>,
 }
 
 // What one frame adds to the counts.
@@ -156,7 +129,7 @@ fn share_of(what: Arrival) -> Share
 
 // One frame more, if the room suffices: what is left of the room is compared, and no count of frames that come out
 // is formed that passes it.
-fn plan_on(plan: Planned, stamp: u32, room: usize) -> Planned
+fn plan_on(plan: Planned, stamp: u32, room: usize) -> Option<Planned>
     requires { (plan.out ≤ room)
         × ((plan.silent ≤ plan.out) × ((plan.late < 2 ^ 64 - 1) × (plan.resets < 2 ^ 64 - 1))) }
     ensures { result ≡ plan_on plan stamp room }
@@ -166,39 +139,31 @@ fn plan_on(plan: Planned, stamp: u32, room: usize) -> Planned
     let what = coming(expected, stamp);
     let share = share_of(what);
     if room - out < share.out {
-        return unplanned(expected);
+        return None;
     }
     let next = then_expected(expected, stamp);
-    Planned {
-        fits: true,
+    Some(Planned {
         out: out + share.out,
         late: plan.late + share.late,
         silent: plan.silent + share.silent,
         resets: plan.resets + share.resets,
         expected: next,
-    }
+    })
 }
 
-// What a recording with these stamps comes to. Where the room does not suffice: no counts, and what was expected.
-pub fn plan(expected: Expected, stamps: &[u32], room: usize) -> Planned
+// What a recording with these stamps comes to; nothing where the frames that come out do not fit in the room.
+pub fn plan(expected: Option<u32>, stamps: &[u32], room: usize) -> Option<Planned>
     ensures { result ≡ plan_of expected stamps.now room }
 {
     let mut so_far = Planned {
-        fits: true,
         out: 0,
         late: 0,
         silent: 0,
         resets: 0,
         expected,
     };
-    let mut i = 0;
-    while i < stamps.len() {
-        let stamp = stamps[i];
-        so_far = plan_on(so_far, stamp, room);
-        if !so_far.fits {
-            return unplanned(expected);
-        }
-        i += 1;
+    for stamp in stamps {
+        so_far = plan_on(so_far, *stamp, room)?;
     }
-    so_far
+    Some(so_far)
 }

@@ -2,8 +2,8 @@
 use Rattle.planes.proofs.Mixing.{mixing_more, mixing_all}
 use Rattle.planes.proofs.mix.Goals as goal
 
-pub loop-c-preserved : goal.loop-c-preserved
-loop-c-preserved c = search mixing_more
+pub loop-weight-preserved : goal.loop-weight-preserved
+loop-weight-preserved c = search mixing_more
 
 pub returns : goal.returns
 returns c = search mixing_all

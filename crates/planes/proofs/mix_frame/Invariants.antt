@@ -1,4 +1,3 @@
-use Rattle.std.specs.Prelude.{◌-◌}
 use Rattle.planes.proofs.Framing.{Judging}
 use Rattle.planes.proofs.Mixing.{output}
 use Rattle.planes.proofs.mix_frame.Given as goal
@@ -7,6 +6,3 @@ abbrev pub invariant-loop-o : goal.invariant-loop-o
 invariant-loop-o l =
     Judging l.initial.out l.out_stride l.out_frame l.outputs (output l.weights l.channels l.inputs l.stride l.frame)
     l.out l.damaged l.o
-
-abbrev pub decreases-loop-o : goal.decreases-loop-o
-decreases-loop-o l = l.outputs - l.o

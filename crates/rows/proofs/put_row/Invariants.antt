@@ -1,10 +1,6 @@
-use Rattle.std.specs.Prelude.{◌-◌}
-use Rattle.lists.specs.Prelude.{length}
-use Rattle.rows.proofs.Putting.{Putting}
+use Rattle.std.specs.Prelude.{◌≡◌}
+use Rattle.rows.proofs.Putting.{left}
 use Rattle.rows.proofs.put_row.Given as goal
 
-abbrev pub invariant-loop-i : goal.invariant-loop-i
-invariant-loop-i l = Putting l.row l.scale l.initial.weights l.at l.weights l.to l.i
-
-abbrev pub decreases-loop-i : goal.decreases-loop-i
-decreases-loop-i l = length l.row - l.i
+abbrev pub invariant-loop-x : goal.invariant-loop-x
+invariant-loop-x l = left l.row l.scale l.weights l.to l.x-index ≡ left l.row l.scale l.initial.weights l.at 0
