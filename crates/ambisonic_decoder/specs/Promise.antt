@@ -2,10 +2,12 @@
 use Rattle.std.specs.Prelude.{◌≡◌}
 use Rattle.lists.specs.Prelude.{ℕ, List, length, Float}
 use Rattle.planes.specs.Blocks as Blocks
-use Rattle.planes.specs.Blocks.{block_of}
+use Rattle.planes.specs.Blocks.{block_of, Played}
 use Rattle.ambisonic_decoder.specs.declared.DecoderShape.{DecoderShape}
-use Rattle.ambisonic_decoder.specs.declared.Decoded.{Decoded}
 use Rattle.ambisonic_decoder.specs.Blocks.{refusal_of, decoded}
+
+abbrev pub Decoded : Type 0
+Decoded = Played
 
 abbrev pub answer_of : ℕ → ℕ → Decoded
 answer_of refusal samples = record { refusal = refusal; samples = samples }

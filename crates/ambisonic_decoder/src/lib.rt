@@ -10,16 +10,13 @@
 #![tactic(auto)]
 
 ghost use Rattle.std.specs.Prelude.{◌≡◌, ◌≤◌};
+ghost use Rattle.refusals.specs.Numbers.{number_in};
 ghost use Rattle.planes.specs.Planes.{with_frames};
+ghost use Rattle.planes.specs.Blocks.{played};
 ghost use Rattle.ambisonic_decoder.specs.Blocks.{decoder_unfit, refusal_of, decoded};
 ghost use Rattle.ambisonic_decoder.specs.Promise.{DecoderPromise};
 
-// The refusal, and how many frames were played.
-#[derive(Clone, Copy)]
-pub struct Decoded {
-    pub refusal: u8,
-    pub samples: usize,
-}
+use refusals::Refusal;
 
 // How many of each there are: outputs, channels, frames, and places in a plane.
 #[derive(Clone, Copy)]
@@ -42,23 +39,23 @@ fn is_misfit(shape: DecoderShape, weights: usize, inputs: usize, out: usize) -> 
     !checks::is_product(weights, outputs, channels)
 }
 
-// The first number whose test holds, or 0.
-fn refusal_of(shape: DecoderShape, weights: &[f64], inputs: usize, out: usize) -> u8
-    ensures { result ≡ refusal_of shape weights.now inputs out }
+// Refuses by the first test that holds.
+fn check(shape: DecoderShape, weights: &[f64], inputs: usize, out: usize) -> Result<(), Refusal>
+    ensures { number_in result ≡ refusal_of shape weights.now inputs out }
 {
     if refusals::is_outside(shape.outputs, 16) {
-        return 2;
+        return Err(Refusal::Count);
     }
     if refusals::is_outside(shape.channels, 16) {
-        return 2;
+        return Err(Refusal::Count);
     }
     if is_misfit(shape, weights.len(), inputs, out) {
-        return 5;
+        return Err(Refusal::Misfit);
     }
-    if checks::has_nonfinite_f64(weights) {
-        return 7;
+    if checks::has_nonfinite(weights) {
+        return Err(Refusal::NotFinite);
     }
-    0
+    Ok(())
 }
 
 // Plays every frame.
@@ -66,8 +63,7 @@ fn play(shape: DecoderShape, weights: &[f64], inputs: &[f32], out: &mut [f32])
     ensures { out.new ≡ with_frames out.old shape.stride 0
         (decoded shape weights.now inputs.now) }
 {
-    let mut n = 0;
-    while n < shape.frames {
+    for n in 0..shape.frames {
         planes::mix_frame(
             out,
             shape.stride,
@@ -79,7 +75,6 @@ fn play(shape: DecoderShape, weights: &[f64], inputs: &[f32], out: &mut [f32])
             shape.stride,
             n,
         );
-        n += 1;
     }
 }
 
@@ -92,10 +87,10 @@ pub fn process(
     stride: usize,
     inputs: &[f32],
     out: &mut [f32],
-) -> Decoded
+) -> Result<usize, Refusal>
     ensures { DecoderPromise weights.now
         (record { outputs = outputs; channels = channels; frames = frames; stride = stride }) inputs.now
-        out.old result out.new }
+        out.old (played result) out.new }
 {
     let shape = DecoderShape {
         outputs,
@@ -103,16 +98,7 @@ pub fn process(
         frames,
         stride,
     };
-    let refusal = refusal_of(shape, weights, inputs.len(), out.len());
-    if refusal != 0 {
-        return Decoded {
-            refusal,
-            samples: 0,
-        };
-    }
+    check(shape, weights, inputs.len(), out.len())?;
     play(shape, weights, inputs, out);
-    Decoded {
-        refusal: 0,
-        samples: frames,
-    }
+    Ok(frames)
 }

@@ -10,7 +10,7 @@ use Rattle.fractions.proofs.Within.{within_close, within_weaken, at_most_size, s
 use Rattle.series.specs.Sums.{Wave}
 use Rattle.series.specs.Angles.{defined}
 use Rattle.series.proofs.Laws.{defined_most, defined_size, defined_carried}
-use Rattle.angles.specs.declared.Answer.{Answer}
+use Rattle.angles.specs.Promise.{Answer}
 use Rattle.angles.specs.Promise.{refusal_of, WavePromise}
 use Rattle.angles.proofs.Floats.{accepted_number}
 use Rattle.angles.proofs.Near.{computed_near}
@@ -22,7 +22,7 @@ pub use Rattle.angles.proofs.Meets.{outcome_kept}
 pub use Rattle.angles.proofs.Floats.{accepted}
 
 -- ---- so is an angle rounded from one of 1079
-rounded_accepted : (d : Float) {k : ℕ} (a : Fraction) → Within k (number d) a → AtMost (magnitude a) (whole 1079)
+pub rounded_accepted : (d : Float) {k : ℕ} (a : Fraction) → Within k (number d) a → AtMost (magnitude a) (whole 1079)
     → refusal_of d ≡ 0
 rounded_accepted d {k} a c h =
     let n : Size 1 (number d) 1080 = size_near (close_unit (pow_pos k) (above (2 ^ k) (pow_pos k)) (within_close c))

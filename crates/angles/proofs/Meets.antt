@@ -2,14 +2,13 @@
 -- answers that the program can give. Assumes nothing.
 use Rattle.std.specs.Prelude.{◌≡◌, ◌<◌}
 use Rattle.lists.specs.Prelude.{refl, sym, ap, ◌∙◌, subst, Bool, true, false, not, ℕ, T, lit<, lit≤, Float, of_int}
-use Rattle.lists.specs.Prelude.{not-false}
 use Rattle.lists.proofs.Tests.{cond_true, cond_false}
 use Rattle.refusals.proofs.First.{answered_accepted, answered_by_lem}
 use Rattle.fractions.specs.Fraction.{number, Within}
 use Rattle.fractions.proofs.Within.{within_weaken}
 use Rattle.series.specs.Sums.{Wave}
 use Rattle.series.specs.Angles.{defined}
-use Rattle.angles.specs.declared.Answer.{Answer}
+use Rattle.angles.specs.Promise.{Answer}
 use Rattle.angles.specs.Limits.{limit, is_inside}
 use Rattle.angles.specs.Computed.{turn, place, wave_at, wave_computed}
 use Rattle.formats.specs.Floats.{zero_float}
@@ -50,27 +49,27 @@ module _ (w : Wave) (d : Float) where
     };
   }
 
-  -- ---- each keeps the promise: b is what the test said, a the place on the turn and v the value there
-  pub refused_kept : (b : Bool) → b ≡ is_inside limit d → not b ≡ true
-      → WavePromise w d (record { refusal = 3; value = zero_float })
-  refused_kept b e h =
-      let r : is_refused d ≡ true = refused_is d ∙ ap not (sym e) ∙ h in
+  -- ---- each keeps the promise: n is the number of the refusal, a the place on the turn and v the value there
+  pub refused_kept : (n : ℕ) → (is_inside limit d ≡ false) × (n ≡ 3) → WavePromise w d (refusing n)
+  refused_kept n f =
+      let r : is_refused d ≡ true = refused_is d ∙ ap not f.0 in
       subst (WavePromise w d)
-      (sym (answered_by_lem (accepting (wave_computed w d)) refusing (refusal_of d) 3 (lit< tt) (cond_true 3 0 r)))
+      (sym (answered_by_lem (accepting (wave_computed w d)) refusing (refusal_of d) 3 (lit< tt) (cond_true 3 0 r))
+      ∙ ap refusing (sym f.1))
       outcome_kept
 
-  pub accepted_kept : (b : Bool) (a : ℕ) (v : Float) → b ≡ is_inside limit d → not b ≡ false → a ≡ place d
-      → v ≡ wave_at w a → WavePromise w d (record { refusal = 0; value = v })
+  pub accepted_kept : (a : ℕ) (v : Float) → (is_inside limit d ≡ true) × (a ≡ place d) → v ≡ wave_at w a
+      → WavePromise w d (accepting v)
   unfolding wave_computed
-  accepted_kept b a v e h p q =
-      let r : is_refused d ≡ false = refused_is d ∙ ap not (sym e) ∙ h in
-      subst (WavePromise w d) (outcome_accepted (cond_false 3 0 r) ∙ ap accepting (sym (q ∙ ap (wave_at w) p)))
+  accepted_kept a v f q =
+      let r : is_refused d ≡ false = refused_is d ∙ ap not f.0 in
+      subst (WavePromise w d) (outcome_accepted (cond_false 3 0 r) ∙ ap accepting (sym (q ∙ ap (wave_at w) f.1)))
       outcome_kept
 
 -- ---- what its functions ask of each other on the way
 module _ (d : Float) where
-  pub inside : (b : Bool) → b ≡ is_inside limit d → not b ≡ false → T (is_inside limit d)
-  inside b e h = subst T (sym (sym e ∙ not-false b h)) tt
+  pub inside : (b : Bool) → b ≡ is_inside limit d → b ≡ true → T (is_inside limit d)
+  inside b e h = subst T (sym (sym e ∙ h)) tt
 
   pub placed : (a : ℕ) → a ≡ place d → a < turn
   placed a e = subst (λ (n : ℕ). n < turn) (sym e) (place_less d)

@@ -5,7 +5,7 @@ use Rattle.lists.specs.Prelude.{Float, nan, inf, fin, lt, le, eq, neg, of_int}
 use lib.Ieee.Positive.{num}
 use Rattle.series.specs.Sums.{sine, cosine, sine_sum, term, power, factorial}
 use Rattle.series.specs.Angles.{turned, around, reduced, radians, is_multiple, quarters, defined}
-use Rattle.angles.specs.declared.Answer.{Answer}
+use Rattle.angles.specs.Promise.{Answer}
 use Rattle.angles.specs.Limits.{is_inside, refuses_angle}
 use Rattle.formats.specs.Floats.{zero_float, one_float, float}
 use Rattle.angles.specs.Promise.{WavePromise}

@@ -5,7 +5,7 @@ use Rattle.lists.specs.Prelude.{refl, true, false, pos, negsuc, Float, nan, inf,
 use Rattle.lists.specs.Prelude.{of_int, to_bits}
 use Rattle.series.specs.Sums.{sine, cosine}
 use Rattle.series.specs.Angles.{turned}
-use Rattle.angles.specs.declared.Answer.{Answer}
+use Rattle.angles.specs.Promise.{Answer}
 use Rattle.angles.specs.Computed.{units, cut_angle, place, short, times, radian_units, nesting, nest, rounded_units}
 use Rattle.angles.specs.Computed.{sine_at}
 use Rattle.angles.specs.Computed.{cosine_at, wave_computed}

@@ -9,8 +9,6 @@ use Rattle.series.specs.Sums.{Wave, sine, cosine}
 use Rattle.series.specs.Angles.{turned}
 use Rattle.formats.specs.Floats.{zero_float}
 use Rattle.angles.specs.Limits.{limit, is_inside}
-use Rattle.angles.specs.declared.Wave.{Wave as Asked}
-use Rattle.angles.specs.declared.Wave.TheVariants.{Sine, Cosine}
 
 abbrev pub one : ℕ
 one = 2 ^ 60
@@ -92,11 +90,6 @@ cosine_at a =
     let x = radian_units (short a) in
     let g = outermost x 26 in
     rounded_units (ltb one g) (from_one g)
-
--- which of the two is asked for
-abbrev pub wave_of : Asked → Wave
-wave_of Sine = sine
-wave_of Cosine = cosine
 
 abbrev pub wave_at : Wave → ℕ → Float
 wave_at sine a = sine_at a

@@ -9,7 +9,7 @@ use Rattle.formats.specs.Floats.{zero_float, one_float, minus_one_float}
 use Rattle.fractions.specs.Fraction.{number, Within}
 use Rattle.series.specs.Sums.{Wave, sine, cosine}
 use Rattle.series.specs.Angles.{is_multiple, quarters, defined}
-use Rattle.angles.specs.declared.Answer.{Answer}
+use Rattle.refusals.specs.Numbers.{Told}
 use Rattle.angles.specs.Limits.{limit, refuses_angle}
 use Rattle.angles.specs.Computed.{wave_computed}
 
@@ -31,6 +31,9 @@ refusal_of d = first_of (3 when is_refused d ∷ [])
 abbrev pub exactly : Wave → List Float
 exactly sine = zero_float ∷ one_float ∷ zero_float ∷ minus_one_float ∷ []
 exactly cosine = one_float ∷ zero_float ∷ minus_one_float ∷ zero_float ∷ []
+
+abbrev pub Answer : Type 0
+Answer = Told Float
 
 abbrev pub outcome : Wave → Float → Answer
 outcome w d = answered (refusal_of d) (record { refusal = 0; value = wave_computed w d })

@@ -24,19 +24,16 @@
 //   together                                                            631      597
 #![tactic(auto)]
 
-ghost use Rattle.std.specs.Prelude.{◌≡◌, ◌-◌, ◌*◌, ◌^◌, ◌<◌, ◌≤◌, T};
+ghost use Rattle.std.specs.Prelude.{◌≡◌, ◌-◌, ◌*◌, ◌^◌, ◌<◌, ◌≤◌, T, MatchResult, true, false};
+ghost use Rattle.formats.specs.Floats.{zero_float};
+ghost use Rattle.refusals.specs.Numbers.{told, number_of};
 ghost use Rattle.angles.specs.Computed as Computed;
 ghost use Rattle.angles.specs.Limits as Limits;
 ghost use Rattle.angles.specs.Limits.{is_inside};
 ghost use Rattle.angles.specs.Promise as Said;
 ghost use Rattle.series.specs.Sums as Sums;
 
-// Refusal 3, or 0 and the value.
-#[derive(Clone, Copy)]
-pub struct Answer {
-    pub refusal: u8,
-    pub value: f64,
-}
+use refusals::Refusal;
 
 // 1 in units of 2^-60.
 const ONE: u64 = 0x1000_0000_0000_0000;
@@ -79,13 +76,12 @@ fn outermost(x: u64, top: u64) -> u64
     ensures { result ≡ Computed.outermost x top }
 {
     let y = times(x, x);
+    let last = top % 2;
     let mut f = ONE;
-    let mut j = top;
-    while j > 1 {
-        f = ONE - nesting(y, f, j);
-        j -= 2;
+    for n in (0..top / 2).rev() {
+        f = ONE - nesting(y, f, last + 2 + 2 * n);
     }
-    nesting(y, f, j)
+    nesting(y, f, last)
 }
 
 // Whether an angle is from -limit to limit.
@@ -168,44 +164,27 @@ fn cosine_at(a: u64) -> f64
     rounded(g > ONE, from_one(g))
 }
 
-// Which of the two.
-#[derive(Clone, Copy)]
-enum Wave {
-    Sine,
-    Cosine,
-}
-
-// The sine or the cosine of d degrees. No NaN is from -1080 to 1080, and no infinity.
-fn of_degrees(wave: Wave, d: f64) -> Answer
-    ensures { Said.WavePromise (Computed.wave_of wave) d result }
+// The place of d degrees on the turn. No NaN is from -1080 to 1080, and no infinity.
+fn place_of(d: f64) -> Result<u64, Refusal>
+    ensures { MatchResult result (λ a. (is_inside Limits.limit d ≡ true) × (a ≡ Computed.place d))
+        (λ r. (is_inside Limits.limit d ≡ false) × (number_of r ≡ 3)) }
 {
     if !is_inside(1080.0, d) {
-        return Answer {
-            refusal: 3,
-            value: 0.0,
-        };
+        return Err(Refusal::Angle);
     }
-    let a = turned(d);
-    let value = match wave {
-        Wave::Sine => sine_at(a),
-        Wave::Cosine => cosine_at(a),
-    };
-    Answer {
-        refusal: 0,
-        value: value,
-    }
+    Ok(turned(d))
 }
 
 // The sine of d degrees.
-pub fn sine(d: f64) -> Answer
-    ensures { Said.WavePromise Sums.sine d result }
+pub fn sine(d: f64) -> Result<f64, Refusal>
+    ensures { Said.WavePromise Sums.sine d (told zero_float result) }
 {
-    of_degrees(Wave::Sine, d)
+    Ok(sine_at(place_of(d)?))
 }
 
 // The cosine of d degrees.
-pub fn cosine(d: f64) -> Answer
-    ensures { Said.WavePromise Sums.cosine d result }
+pub fn cosine(d: f64) -> Result<f64, Refusal>
+    ensures { Said.WavePromise Sums.cosine d (told zero_float result) }
 {
-    of_degrees(Wave::Cosine, d)
+    Ok(cosine_at(place_of(d)?))
 }

@@ -1,12 +1,16 @@
 -- The orders 1, 2 and 3, the numbers that are none, a choice by the order, and how many channels an order has. Assumes
 -- nothing.
-use Rattle.std.specs.Prelude.{◌≡◌, ◌<◌, ◌≤◌}
+use Rattle.std.specs.Prelude.{◌≡◌, ◌<◌, ◌≤◌, Err}
 use Rattle.lists.specs.Prelude.{refl, sym, ap, ◌∙◌, Bool, true, false, true≢false, ℕ, zero, suc, arith, eqb, lit<, lit≤}
 use Rattle.lists.proofs.Tests.{cond_cases}
 use Rattle.refusals.proofs.Counts.{count_above}
+use Rattle.refusals.specs.declared.Refusal.{Refusal}
+use Rattle.refusals.specs.declared.Refusal.TheVariants.{Order}
+use Rattle.refusals.specs.Numbers.{number_of}
+use Rattle.refusals.proofs.Numbers.{number_above, number_apart}
 use Rattle.channel.specs.Layouts.{channels_answer}
 use Rattle.channel.specs.Orders.{refuses_order, channels_of_order, counted_order, by_order}
-use Rattle.channel.specs.declared.Counted.{Counted}
+use Rattle.channel.specs.Layouts.{CountTold, count_told}
 use Rattle.channel.proofs.Counts.{well, ill}
 
 -- what holds of 1, 2 and 3 holds of every order that is not refused
@@ -33,14 +37,25 @@ pub few_channels : (n : ℕ) → refuses_order n ≡ false → (0 < channels_of_
 few_channels = by_order_lem (λ (n : ℕ). (0 < channels_of_order n) × (channels_of_order n ≤ 16)) (lit< tt, lit≤ tt)
     (lit< tt, lit≤ tt) (lit< tt, lit≤ tt)
 
-pub order_well : (n : ℕ) (c : Counted) → c ≡ counted_order n → c.refusal ≡ 0
+pub order_well : (n : ℕ) (c : CountTold) → c ≡ counted_order n → c.refusal ≡ 0
     → (refuses_order n ≡ false) × (c.channels ≡ channels_of_order n)
 order_well n = well 0 (refuses_order n) (channels_of_order n)
 
-pub order_ill : (n : ℕ) (c : Counted) → c ≡ counted_order n → (c.refusal ≡ 0 → ⊥) → refuses_order n ≡ true
+pub order_ill : (n : ℕ) (c : CountTold) → c ≡ counted_order n → (c.refusal ≡ 0 → ⊥) → refuses_order n ≡ true
 order_ill n = ill 0 (refuses_order n) (channels_of_order n)
 
 -- what the program answers, by the test
 pub order_counted : (n : ℕ) (b : Bool) → b ≡ refuses_order n → channels_answer 1 b (channels_of_order n)
     ≡ counted_order n
 order_counted n b e = ap (λ (t : Bool). channels_answer 1 t (channels_of_order n)) e
+
+-- who is told a refusal knows why
+pub order_refused : (n : ℕ) (r : Refusal) → count_told (Err r) ≡ counted_order n
+    → (refuses_order n ≡ true) × (r ≡ Order)
+order_refused n r e =
+    let above : 0 < number_of r = number_above r in
+    let h = order_ill n (count_told (Err r)) e (λ z. omega arith) in (
+      h,
+      number_apart r Order (ap (λ (c : CountTold). c.refusal)
+          (e ∙ ap (λ (t : Bool). channels_answer 1 t (channels_of_order n)) h)),
+    )

@@ -12,9 +12,9 @@ use Rattle.channel.specs.Layouts.{position_tenths_answer}
 use Rattle.channel.specs.Orders.{counted_order}
 use Rattle.channel.specs.declared.Layout.{Layout}
 use Rattle.channel.specs.declared.Layout.TheVariants.{Stereo, Surround51, Surround71, Custom}
-use Rattle.channel.specs.declared.Counted.{Counted}
-use Rattle.channel.specs.declared.Angle.{Angle}
-use Rattle.channel.specs.declared.Tenths.{Tenths}
+use Rattle.channel.specs.Layouts.{CountTold}
+use Rattle.channel.specs.Layouts.{Angle}
+use Rattle.channel.specs.Layouts.{Tenths}
 use Rattle.channel.proofs.Counts.{by_surround}
 
 abbrev angle : ℕ → Float → Angle
@@ -102,9 +102,9 @@ low_frequency_filters_behind = by_surround (λ (l : Layout). tenths 0 (pos 1800)
     above a = lt_z (pos 0) a.tenths
 
 -- ---- 5.1 has six channels
-five_channels_of_51 : ◌≡◌ {A = Counted} (record { refusal = 0; channels = 5 }) (layout_channels Surround51) → ⊥
-five_channels_of_51 h = let e : ◌≡◌ {A = ℕ} 5 6 = ap (λ (c : Counted). c.channels) h in omega arith
+five_channels_of_51 : ◌≡◌ {A = CountTold} (record { refusal = 0; channels = 5 }) (layout_channels Surround51) → ⊥
+five_channels_of_51 h = let e : ◌≡◌ {A = ℕ} 5 6 = ap (λ (c : CountTold). c.channels) h in omega arith
 
 -- ---- what is no order is refused with 1, and not as a layout is
-order_refused_as_layout : (n : ℕ) → ◌≡◌ {A = Counted} (record { refusal = 2; channels = n }) (counted_order 4) → ⊥
-order_refused_as_layout n h = let e : ◌≡◌ {A = ℕ} 2 1 = ap (λ (c : Counted). c.refusal) h in omega arith
+order_refused_as_layout : (n : ℕ) → ◌≡◌ {A = CountTold} (record { refusal = 2; channels = n }) (counted_order 4) → ⊥
+order_refused_as_layout n h = let e : ◌≡◌ {A = ℕ} 2 1 = ap (λ (c : CountTold). c.refusal) h in omega arith

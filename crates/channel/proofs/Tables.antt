@@ -1,22 +1,21 @@
 -- The tables of angles: every entry lies from -180 to 180, by one test over each table, so that an entry and ten times
 -- an entry are i32s. Assumes nothing.
-use Rattle.std.specs.Prelude.{◌≡◌, ◌+◌, ◌*◌, ◌≤◌, ◌<◌, ◌*ℤ◌}
-use Rattle.lists.specs.Prelude.{refl, sym, ap, ◌∙◌, subst, Bool, cond, List, ℕ, suc, arith, leb-true, lt-leb, le-leb, T}
-use Rattle.lists.specs.Prelude.{leb, leb→le, ℤ, pos, negsuc, neg_ℤ, length, get_or-eq_default, binary64, of_int}
+use Rattle.std.specs.Prelude.{◌≡◌, ◌+◌, ◌*◌, ◌*ℤ◌}
+use Rattle.lists.specs.Prelude.{refl, sym, ap, subst, Bool, cond, List, ℕ, suc, arith, leb-true, T}
+use Rattle.lists.specs.Prelude.{leb, leb→le, ℤ, pos, negsuc, neg_ℤ, length, get_or-eq_default, of_int}
 use mir.Syntax.{w16, w32}
 use mir.Val.{SFits, to_z, of_z}
 use mir.Facts.{sfits_widen, to_z-of_z}
 use Rattle.lists.specs.Tables.{every}
 use Rattle.lists.proofs.Every.{every_holds}
-use Rattle.lists.proofs.Tests.{cond_true, cond_false, by_test}
+use Rattle.lists.proofs.Tests.{by_test}
 use Rattle.refusals.specs.Refusals.{answered}
 use Rattle.formats.specs.Floats.{zero_float, float}
 use Rattle.channel.specs.Layouts.{speakers, positions, degrees_at, missing, degrees_of}
 use Rattle.channel.specs.declared.Layout.{Layout}
 use Rattle.channel.specs.declared.Layout.TheVariants.{Mono, Stereo, Surround51, Surround71, Custom}
-use Rattle.channel.specs.declared.Angle.{Angle}
-use Rattle.channel.specs.declared.Tenths.{Tenths}
-use Rattle.channel.specs.declared.Entry.{Entry}
+use Rattle.channel.specs.Layouts.{Angle}
+use Rattle.channel.specs.Layouts.{Tenths}
 
 -- from -180 to 180
 abbrev pub turned : ℤ → Bool
@@ -57,19 +56,6 @@ back z t = to_z-of_z {w = w32} (fits z t)
 
 -- ---- what a table gives at a place
 module _ (table : List ℤ) (i : ℕ) where
-  abbrev pub entry_of : Entry
-  entry_of = record { refusal = missing table i; degrees = degrees_at table i }
-
-  pub entry_there : (z : ℤ) → i < length table → z ≡ degrees_at table i
-      → ◌≡◌ {A = Entry} (record { refusal = 0; degrees = z }) entry_of
-  entry_there z h e = λ k. record { refusal = sym (cond_false 2 0 (lt-leb (length table) i h)) k; degrees = e k }
-
-  pub entry_missing : length table ≤ i → ◌≡◌ {A = Entry} (record { refusal = 2; degrees = pos 0 }) entry_of
-  entry_missing h = λ k. record {
-    refusal = sym (cond_true 2 0 (le-leb (length table) i h)) k;
-    degrees = sym (get_or-eq_default table (pos 0) h) k;
-  }
-
   -- ---- what is answered is made of the entry, since beyond the end of a table its entry is 0
   abbrev degrees_answered : Angle
   degrees_answered = answered (missing table i) (record { refusal = 0; degrees = float (degrees_at table i) })
@@ -94,29 +80,3 @@ module _ (table : List ℤ) (i : ℕ) where
   pub tenths_answered_lem : tenths_answered
       ≡ record { refusal = missing table i; tenths = degrees_at table i *ℤ pos 10 }
   tenths_answered_lem = entry_answered (λ n z. record { refusal = n; tenths = z *ℤ pos 10 })
-
-  -- ---- as an f64 and in tenths, of an entry that was read
-  module _ (turned-there : T (turned (degrees_at table i))) (r : Entry) (e : r ≡ entry_of) where
-    abbrev again : ℤ → ℤ
-    again z = to_z w32 (of_z w32 z)
-
-    read_back : again r.degrees ≡ degrees_at table i
-    read_back = ap (λ (x : Entry). again x.degrees) e ∙ back (degrees_at table i) turned-there
-
-    refusal_is : r.refusal ≡ missing table i
-    refusal_is = ap (λ (x : Entry). x.refusal) e
-
-    pub as_float : record { refusal = r.refusal; degrees = of_int binary64 (again r.degrees) } ≡ degrees_answered
-    as_float = (λ k. record { refusal = refusal_is k; degrees = float (read_back k) }) ∙ sym degrees_answered_lem
-
-    pub tenths_held : SFits w32 (again r.degrees *ℤ pos 10)
-    tenths_held =
-        subst (λ (x : ℤ). SFits w32 (x *ℤ pos 10)) (sym read_back) (tenths_fit (degrees_at table i) turned-there)
-
-    pub in_tenths_lem : record { refusal = r.refusal; tenths = again (again r.degrees *ℤ pos 10) } ≡ tenths_answered
-    in_tenths_lem =
-        (λ k. record {
-          refusal = refusal_is k;
-          tenths = (ap (λ (x : ℤ). again (x *ℤ pos 10)) read_back
-              ∙ to_z-of_z {w = w32} (tenths_fit (degrees_at table i) turned-there)) k;
-        }) ∙ sym tenths_answered_lem

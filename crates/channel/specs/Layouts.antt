@@ -4,13 +4,40 @@
 -- whole degrees.
 use Rattle.std.specs.Prelude.{◌-◌, ◌∷◌, ◌*ℤ◌}
 use Rattle.lists.specs.Prelude.{ℕ, Bool, true, false, cond, List, [], eqb, leb, ℤ, pos, negsuc, length, get_or, Float}
+use Rattle.lists.specs.Prelude.{ltb}
 use Rattle.formats.specs.Floats.{zero_float, float}
 use Rattle.refusals.specs.Refusals.{first_of, ◌when◌, answered, outside}
+use Rattle.std.specs.Prelude.{Result, Option, Some, None}
+use Rattle.refusals.specs.Numbers.{number_in, value_in}
+use Rattle.refusals.specs.declared.Refusal.{Refusal}
 use Rattle.channel.specs.declared.Layout.{Layout}
 use Rattle.channel.specs.declared.Layout.TheVariants.{Mono, Stereo, Surround51, Surround71, Custom}
-use Rattle.channel.specs.declared.Counted.{Counted}
-use Rattle.channel.specs.declared.Angle.{Angle}
-use Rattle.channel.specs.declared.Tenths.{Tenths}
+
+-- ---- what is answered: a refusal number, 0 where it is accepted, and beside it how many channels, or where a speaker
+-- stands in degrees or tenths; nothing beside a refusal
+
+pub record CountTold : Type 0 where
+  pub refusal : ℕ
+  pub channels : ℕ
+
+pub record Angle : Type 0 where
+  pub refusal : ℕ
+  pub degrees : Float
+
+pub record Tenths : Type 0 where
+  pub refusal : ℕ
+  pub tenths : ℤ
+
+abbrev pub count_told : Result ℕ Refusal → CountTold
+count_told r = record { refusal = number_in r; channels = value_in 0 r }
+
+abbrev pub angle_told : Result Float Refusal → Angle
+angle_told r = record { refusal = number_in r; degrees = value_in zero_float r }
+
+abbrev pub tenths_told : Result ℤ Refusal → Tenths
+tenths_told r = record { refusal = number_in r; tenths = value_in (pos 0) r }
+
+-- ---- layouts
 
 abbrev pub channels_of : Layout → ℕ
 channels_of Mono = 1
@@ -24,12 +51,12 @@ abbrev pub refuses_channels : ℕ → Bool
 refuses_channels n = outside n 16
 
 -- n channels; or, where they are refused, the refusal and none
-abbrev pub channels_answer : ℕ → Bool → ℕ → Counted
+abbrev pub channels_answer : ℕ → Bool → ℕ → CountTold
 channels_answer refusal refused n =
     answered (first_of (refusal when refused ∷ [])) (record { refusal = 0; channels = n })
     (λ k. record { refusal = k; channels = 0 })
 
-abbrev pub layout_channels : Layout → Counted
+abbrev pub layout_channels : Layout → CountTold
 layout_channels l = channels_answer 2 (refuses_channels (channels_of l)) (channels_of l)
 
 abbrev pub surround : Layout → Bool
@@ -63,6 +90,10 @@ positions = pos 0 ∷ pos 45 ∷ pos 90 ∷ pos 135 ∷ pos 180 ∷ minus 135 �
 -- place i of a table, and 0 beyond its end: "A refusal returns its number, [..] 0.0 for any number"
 abbrev pub degrees_at : List ℤ → ℕ → ℤ
 degrees_at table i = get_or table i (pos 0)
+
+-- place i, where the table has it
+abbrev pub entry_at : List ℤ → ℕ → Option ℤ
+entry_at table i = cond (ltb i (length table)) (Some (degrees_at table i)) None
 
 -- "the layout isn't one the operation offers", or a count is out of its range: the table has no such place. No place of
 -- a Custom layout is in it.

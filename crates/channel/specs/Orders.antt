@@ -4,7 +4,7 @@ use Rattle.std.specs.Prelude.{◌+◌, ◌*◌}
 use Rattle.lists.specs.Prelude.{ℕ, Bool, cond, eqb}
 use Rattle.refusals.specs.Refusals.{outside}
 use Rattle.channel.specs.Layouts.{channels_answer}
-use Rattle.channel.specs.declared.Counted.{Counted}
+use Rattle.channel.specs.Layouts.{CountTold}
 
 abbrev pub refuses_order : ℕ → Bool
 refuses_order n = outside n 3
@@ -12,7 +12,7 @@ refuses_order n = outside n 3
 abbrev pub channels_of_order : ℕ → ℕ
 channels_of_order n = (n + 1) * (n + 1)
 
-abbrev pub counted_order : ℕ → Counted
+abbrev pub counted_order : ℕ → CountTold
 counted_order n = channels_answer 1 (refuses_order n) (channels_of_order n)
 
 -- one of three, by the order: what is no order is refused, and gets the third

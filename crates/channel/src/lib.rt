@@ -10,11 +10,13 @@
 // specs/Orders.antt, which say document 01).
 #![tactic(auto)]
 
-ghost use Rattle.std.specs.Prelude.{◌≡◌, pos, get_or};
-ghost use Rattle.channel.specs.Layouts.{channels_of, layout_channels, surround, low_frequency, speakers, missing};
-ghost use Rattle.channel.specs.Layouts.{degrees_of};
+ghost use Rattle.std.specs.Prelude.{◌≡◌};
+ghost use Rattle.channel.specs.Layouts.{count_told, angle_told, tenths_told, channels_of, layout_channels, surround};
+ghost use Rattle.channel.specs.Layouts.{low_frequency, speakers, entry_at};
 ghost use Rattle.channel.specs.Layouts.{azimuth_answer, tenths_answer, position_azimuth_answer, position_tenths_answer};
 ghost use Rattle.channel.specs.Orders.{refuses_order, counted_order};
+
+use refusals::Refusal;
 
 #[derive(Clone, Copy)]
 pub enum Layout {
@@ -23,12 +25,6 @@ pub enum Layout {
     Surround51,
     Surround71,
     Custom(usize),
-}
-
-#[derive(Clone, Copy)]
-pub struct Counted {
-    pub refusal: u8,
-    pub channels: usize,
 }
 
 // How many channels a layout would have.
@@ -45,20 +41,14 @@ fn channels(layout: Layout) -> usize
 }
 
 // How many channels a layout has; 2 for a Custom of 0 or above 16.
-pub fn channel_count(layout: Layout) -> Counted
-    ensures { result ≡ layout_channels layout }
+pub fn channel_count(layout: Layout) -> Result<usize, Refusal>
+    ensures { count_told result ≡ layout_channels layout }
 {
     let n = channels(layout);
     if refusals::is_outside(n, 16) {
-        return Counted {
-            refusal: 2,
-            channels: 0,
-        };
+        return Err(Refusal::Count);
     }
-    Counted {
-        refusal: 0,
-        channels: n,
-    }
+    Ok(n)
 }
 
 // Whether an ambisonic order is not 1, 2 or 3.
@@ -69,19 +59,13 @@ pub fn refuses_order(order: usize) -> bool
 }
 
 // How many channels an ambisonic order has; 1 for what is no order.
-pub fn ambisonic_channel_count(order: usize) -> Counted
-    ensures { result ≡ counted_order order }
+pub fn ambisonic_channel_count(order: usize) -> Result<usize, Refusal>
+    ensures { count_told result ≡ counted_order order }
 {
     if refuses_order(order) {
-        return Counted {
-            refusal: 1,
-            channels: 0,
-        };
+        return Err(Refusal::Order);
     }
-    Counted {
-        refusal: 0,
-        channels: (order + 1) * (order + 1),
-    }
+    Ok((order + 1) * (order + 1))
 }
 
 // Whether the surround panner offers the layout.
@@ -117,99 +101,55 @@ const SURROUND_71: [i32; 8] = [30, -30, 0, 0, 90, -90, 150, -150];
 
 const POSITIONS: [i32; 8] = [0, 45, 90, 135, 180, -135, -90, -45];
 
-// Where a speaker stands, in degrees; or refusal 2 and 0.0, where none stands in the table.
-#[derive(Clone, Copy)]
-pub struct Angle {
-    pub refusal: u8,
-    pub degrees: f64,
-}
-
-// The same in whole tenths of a degree.
-#[derive(Clone, Copy)]
-pub struct Tenths {
-    pub refusal: u8,
-    pub tenths: i32,
-}
-
-// An entry of a table, in whole degrees; or refusal 2 and 0, beyond its end.
-#[derive(Clone, Copy)]
-struct Entry {
-    refusal: u8,
-    degrees: i32,
-}
-
-fn look_up(table: &[i32], i: usize) -> Entry
-    ensures { result ≡ record { refusal = missing table.now i; degrees = get_or table.now i (pos 0) } }
+// An entry of a table, in whole degrees, if it has so many.
+fn look_up(table: &[i32], i: usize) -> Option<i32>
+    ensures { result ≡ entry_at table.now i }
 {
-    if i < table.len() {
-        return Entry {
-            refusal: 0,
-            degrees: table[i],
-        };
-    }
-    Entry {
-        refusal: 2,
-        degrees: 0,
-    }
+    table.get(i).copied()
 }
 
 // The speaker of a channel. Those of a Custom layout stand in no table: `decoder_matrix` computes them.
-fn speaker(layout: Layout, channel: usize) -> Entry
-    ensures { result ≡ record { refusal = missing (speakers layout) channel; degrees = degrees_of layout channel } }
+fn speaker(layout: Layout, channel: usize) -> Option<i32>
+    ensures { result ≡ entry_at (speakers layout) channel }
 {
     match layout {
         Layout::Mono => look_up(&MONO, channel),
         Layout::Stereo => look_up(&STEREO, channel),
         Layout::Surround51 => look_up(&SURROUND_51, channel),
         Layout::Surround71 => look_up(&SURROUND_71, channel),
-        Layout::Custom(_) => Entry {
-            refusal: 2,
-            degrees: 0,
-        },
+        Layout::Custom(_) => None,
     }
 }
 
 // Where the speaker of a channel stands, in degrees; 2 for a channel that the layout does not have, and for
 // those of a Custom layout.
-pub fn speaker_azimuth(layout: Layout, channel: usize) -> Angle
-    ensures { result ≡ azimuth_answer layout channel }
+pub fn speaker_azimuth(layout: Layout, channel: usize) -> Result<f64, Refusal>
+    ensures { angle_told result ≡ azimuth_answer layout channel }
 {
-    let found = speaker(layout, channel);
-    Angle {
-        refusal: found.refusal,
-        degrees: found.degrees as f64,
-    }
+    let degrees = speaker(layout, channel).ok_or(Refusal::Count)?;
+    Ok(degrees as f64)
 }
 
 // The same in whole tenths.
-pub fn speaker_tenths(layout: Layout, channel: usize) -> Tenths
-    ensures { result ≡ tenths_answer layout channel }
+pub fn speaker_tenths(layout: Layout, channel: usize) -> Result<i32, Refusal>
+    ensures { tenths_told result ≡ tenths_answer layout channel }
 {
-    let found = speaker(layout, channel);
-    Tenths {
-        refusal: found.refusal,
-        tenths: found.degrees * 10,
-    }
+    let degrees = speaker(layout, channel).ok_or(Refusal::Count)?;
+    Ok(degrees * 10)
 }
 
 // Where virtual speaker i stands, in degrees; 2 beyond the eight.
-pub fn position_azimuth(i: usize) -> Angle
-    ensures { result ≡ position_azimuth_answer i }
+pub fn position_azimuth(i: usize) -> Result<f64, Refusal>
+    ensures { angle_told result ≡ position_azimuth_answer i }
 {
-    let position = look_up(&POSITIONS, i);
-    Angle {
-        refusal: position.refusal,
-        degrees: position.degrees as f64,
-    }
+    let degrees = look_up(&POSITIONS, i).ok_or(Refusal::Count)?;
+    Ok(degrees as f64)
 }
 
 // The same in whole tenths.
-pub fn position_tenths(i: usize) -> Tenths
-    ensures { result ≡ position_tenths_answer i }
+pub fn position_tenths(i: usize) -> Result<i32, Refusal>
+    ensures { tenths_told result ≡ position_tenths_answer i }
 {
-    let position = look_up(&POSITIONS, i);
-    Tenths {
-        refusal: position.refusal,
-        tenths: position.degrees * 10,
-    }
+    let degrees = look_up(&POSITIONS, i).ok_or(Refusal::Count)?;
+    Ok(degrees * 10)
 }

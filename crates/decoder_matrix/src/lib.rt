@@ -10,8 +10,9 @@
 // 2^-41 for 2^-33 the same proof passes, and with 2^-42 it fails.
 #![tactic(auto)]
 
-ghost use Rattle.std.specs.Prelude.{◌≡◌, ◌≤◌, take};
+ghost use Rattle.std.specs.Prelude.{◌≡◌, ◌≤◌, ◌<◌, take};
 ghost use Rattle.std.proofs.lemmas.List.Edits.{sets};
+ghost use Rattle.refusals.specs.Numbers.{number_in};
 ghost use Rattle.rows.specs.Rows.{scaled};
 ghost use Rattle.harmonics.specs.Promise.{outcome};
 ghost use Rattle.decoder_matrix.specs.Speakers.{custom_azimuth, turned_back, azimuth_by, towards};
@@ -21,6 +22,7 @@ ghost use Rattle.decoder_matrix.specs.Promise.{DecoderMatrixPromise};
 
 use channel::Layout;
 use harmonics::Direction;
+use refusals::Refusal;
 
 // Where a speaker of a Custom layout sits: each operation is rounded once.
 fn custom_azimuth(n: u32, i: u32) -> f64
@@ -47,8 +49,7 @@ fn speaker_position(layout: Layout, n: u32, i: u32) -> f64
     if let Layout::Custom(_) = layout {
         return turned_back(custom_azimuth(n, i));
     }
-    let found = channel::speaker_azimuth(layout, i as usize);
-    found.degrees
+    channel::speaker_azimuth(layout, i as usize).unwrap_or(0.0)
 }
 
 // Puts the row of a speaker: the first channels of its harmonics, times the scale.
@@ -68,46 +69,39 @@ fn put_speaker(
         azimuth,
         elevation: 0.0,
     };
-    let coefficients = harmonics::compute_sh_coefficients(order, direction);
-    let gains = coefficients.gains;
-    rows::put_row(&gains[0..channels], scale, weights, at);
+    let gains = harmonics::compute_sh_coefficients(order, direction).unwrap_or([0.0; 16]);
+    rows::put_row(&gains[..channels], scale, weights, at);
 }
 
 // Puts the rows of the n speakers, one behind another.
 fn put_speakers(order: usize, layout: Layout, n: u32, channels: usize, weights: &mut [f64])
-    requires { (n ≤ 16) × (channels ≤ 16) }
+    requires { (0 < n) × (n ≤ 16) × (channels ≤ 16) }
     ensures { weights.new ≡ put_rows channels weights.old 0
         (rows_by order layout n channels) }
 {
-    let inverse = numbers::inverse_root(n);
-    let scale = inverse.value;
+    let scale = numbers::inverse_root(n).unwrap();
     let mut at = 0;
-    let mut i = 0;
-    while i < n {
+    for i in 0..n {
         let azimuth = speaker_position(layout, n, i);
         put_speaker(order, azimuth, channels, scale, weights, at);
         at += channels;
-        i += 1;
     }
 }
 
-// The matrix of an order and a layout, speakers x channels; the refusal.
-pub fn compute_decoder_matrix(order: usize, layout: Layout, weights: &mut [f64]) -> u8
+// The matrix of an order and a layout, speakers x channels.
+pub fn compute_decoder_matrix(
+    order: usize,
+    layout: Layout,
+    weights: &mut [f64],
+) -> Result<(), Refusal>
     ensures { DecoderMatrixPromise order layout weights.old
-        (record { refusal = result; weights = weights.new }) }
+        (record { refusal = number_in result; weights = weights.new }) }
 {
-    let ambisonic = channel::ambisonic_channel_count(order);
-    if ambisonic.refusal != 0 {
-        return 1;
+    let channels = channel::ambisonic_channel_count(order)?;
+    let speakers = channel::channel_count(layout)?;
+    if !checks::is_product(weights.len(), speakers, channels) {
+        return Err(Refusal::Misfit);
     }
-    let counted = channel::channel_count(layout);
-    if counted.refusal != 0 {
-        return 2;
-    }
-    let channels = ambisonic.channels;
-    if !checks::is_product(weights.len(), counted.channels, channels) {
-        return 5;
-    }
-    put_speakers(order, layout, counted.channels as u32, channels, weights);
-    0
+    put_speakers(order, layout, speakers as u32, channels, weights);
+    Ok(())
 }

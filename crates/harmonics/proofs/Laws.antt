@@ -17,7 +17,7 @@ use Rattle.harmonics.specs.Computed.{waves_of, up_to}
 use Rattle.harmonics.specs.Promise.{refuses_azimuth, refuses_elevation, refuses_direction, refusal_of}
 use Rattle.harmonics.specs.Promise.{HarmonicsPromise}
 use Rattle.harmonics.specs.declared.Direction.{Direction}
-use Rattle.harmonics.specs.declared.Coefficients.{Coefficients}
+use Rattle.harmonics.specs.Promise.{Coefficients}
 use Rattle.angles.proofs.Limits.{accepted_number, accepted_size, size_accepted}
 use Rattle.harmonics.proofs.Meets as Kept
 -- what is known of an order and a direction that are accepted

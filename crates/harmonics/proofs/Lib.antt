@@ -5,3 +5,4 @@ pub mod Laws
 mod Unique
 pub mod Drill
 mod Refuted
+pub mod Coefficients

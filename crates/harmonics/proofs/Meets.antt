@@ -17,7 +17,7 @@ use Rattle.harmonics.specs.Computed.{waves_of, up_to, harmonics_computed}
 use Rattle.harmonics.specs.Promise.{gain_bits, refuses_azimuth, refuses_elevation, refuses_direction, refusal_of}
 use Rattle.harmonics.specs.Promise.{silent_gains, outcome, HarmonicsPromise}
 use Rattle.harmonics.specs.declared.Direction.{Direction}
-use Rattle.harmonics.specs.declared.Coefficients.{Coefficients}
+use Rattle.harmonics.specs.Promise.{Coefficients}
 use Rattle.angles.proofs.Limits.{accepted_number, accepted_size}
 use Rattle.harmonics.proofs.Near.{Bounded, bounded}
 

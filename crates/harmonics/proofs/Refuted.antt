@@ -12,7 +12,7 @@ use Rattle.angles.specs.Limits.{is_inside, refuses_angle}
 use Rattle.harmonics.specs.Promise.{refuses_azimuth, refuses_elevation, refuses_direction, silent_gains}
 use Rattle.harmonics.specs.Promise.{HarmonicsPromise}
 use Rattle.harmonics.specs.declared.Direction.{Direction}
-use Rattle.harmonics.specs.declared.Coefficients.{Coefficients}
+use Rattle.harmonics.specs.Promise.{Coefficients}
 use Rattle.harmonics.specs.Drill.{at}
 
 refusal : Coefficients → ℕ

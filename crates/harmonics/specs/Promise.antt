@@ -2,9 +2,11 @@
 -- NaN or infinite, or azimuth is outside -180..180, elevation outside -90..90", and "A refusal returns its number, [..]
 -- 0.0 for any number or gain". 'Gains', harmonics: "Within 2^-34 of the formula over the defined sums." Definitions
 -- only.
-use Rattle.std.specs.Prelude.{◌≡◌, ◌||◌, ◌∷◌}
+use Rattle.std.specs.Prelude.{◌≡◌, ◌||◌, ◌∷◌, Result}
 use Rattle.lists.specs.Prelude.{ℕ, Bool, List, [], pos, replicate, Float}
 use Rattle.refusals.specs.Refusals.{first_of, ◌when◌, answered}
+use Rattle.refusals.specs.Numbers.{number_in, value_in}
+use Rattle.refusals.specs.declared.Refusal.{Refusal}
 use Rattle.channel.specs.Orders.{refuses_order}
 use Rattle.fractions.specs.Fraction.{number, EachWithin}
 use Rattle.angles.specs.Limits.{refuses_angle}
@@ -12,7 +14,6 @@ use Rattle.formats.specs.Floats.{zero_float, float}
 use Rattle.harmonics.specs.Formulas.{formulas}
 use Rattle.harmonics.specs.Computed.{waves_of, up_to}
 use Rattle.harmonics.specs.declared.Direction.{Direction}
-use Rattle.harmonics.specs.declared.Coefficients.{Coefficients}
 
 -- within 2 ^ -gainBits: the place to change it at
 abbrev pub gain_bits : ℕ
@@ -36,6 +37,13 @@ refusal_of order d = first_of (1 when refuses_order order ∷ 3 when refuses_dir
 
 abbrev pub silent_gains : List Float
 silent_gains = replicate 16 zero_float
+
+pub record Coefficients : Type 0 where
+  pub refusal : ℕ
+  pub gains : List Float
+
+abbrev pub coefficients : Result (List Float) Refusal → Coefficients
+coefficients r = record { refusal = number_in r; gains = value_in silent_gains r }
 
 abbrev pub outcome : ℕ → Direction → Coefficients
 outcome order d = answered (refusal_of order d) (record { refusal = 0; gains = up_to order (waves_of d) })

@@ -27,18 +27,13 @@ ghost use Rattle.std.specs.Prelude.{◌≡◌};
 ghost use Rattle.harmonics.specs.Computed as Computed;
 ghost use Rattle.harmonics.specs.Promise as Said;
 
+use refusals::Refusal;
+
 // Where a sound comes from, in degrees: azimuth 0 is the front and 90 the left, elevation 90 is above.
 #[derive(Clone, Copy)]
 pub struct Direction {
     pub azimuth: f64,
     pub elevation: f64,
-}
-
-// Refusal 1 or 3, or 0 and the coefficients.
-#[derive(Clone, Copy)]
-pub struct Coefficients {
-    pub refusal: u8,
-    pub gains: [f64; 16],
 }
 
 // The sines and cosines that the coefficients are made of.
@@ -79,13 +74,13 @@ pub fn refuses_direction(direction: Direction) -> bool
 fn sin(angle: f64) -> f64
     ensures { result ≡ Computed.sin angle }
 {
-    angles::sine(angle).value
+    angles::sine(angle).unwrap_or(0.0)
 }
 
 fn cos(angle: f64) -> f64
     ensures { result ≡ Computed.cos angle }
 {
-    angles::cosine(angle).value
+    angles::cosine(angle).unwrap_or(0.0)
 }
 
 fn waves_of(direction: Direction) -> Waves
@@ -163,27 +158,15 @@ fn gains_of(order: usize, w: Waves) -> [f64; 16]
     third_order(w)
 }
 
-fn refused(refusal: u8) -> Coefficients
-    ensures { result ≡ record { refusal = refusal; gains = Said.silent_gains } }
-{
-    Coefficients {
-        refusal: refusal,
-        gains: [0.0; 16],
-    }
-}
-
 // The coefficients of a direction, up to an order.
-pub fn compute_sh_coefficients(order: usize, direction: Direction) -> Coefficients
-    ensures { Said.HarmonicsPromise order direction result }
+pub fn compute_sh_coefficients(order: usize, direction: Direction) -> Result<[f64; 16], Refusal>
+    ensures { Said.HarmonicsPromise order direction (Said.coefficients result) }
 {
     if channel::refuses_order(order) {
-        return refused(1);
+        return Err(Refusal::Order);
     }
     if refuses_direction(direction) {
-        return refused(3);
+        return Err(Refusal::Angle);
     }
-    Coefficients {
-        refusal: 0,
-        gains: gains_of(order, waves_of(direction)),
-    }
+    Ok(gains_of(order, waves_of(direction)))
 }

@@ -12,8 +12,11 @@
 #![tactic(auto)]
 
 ghost use Rattle.std.specs.Prelude.{◌≡◌};
+ghost use Rattle.refusals.specs.Numbers.{number_in};
 ghost use Rattle.matrix.specs.Promise.{BinauralRowsPromise};
 ghost use Rattle.matrix.specs.Computed.{rows_put};
+
+use refusals::Refusal;
 
 const FOA_LEFT: [f64; 4] = [0.5, 0.5, 0.1, 0.35];
 
@@ -32,28 +35,27 @@ const TOA_RIGHT: [f64; 16] = [
     0.10,
 ];
 
-// Puts the left ear's row and then the right ear's, times 1.0/root(2.0); the refusal.
-fn put_ears(left: &[f64], right: &[f64], weights: &mut [f64]) -> u8
-    ensures { record { refusal = result; weights = weights.new } ≡ rows_put left.now
+// Puts the left ear's row and then the right ear's, times 1.0/root(2.0).
+fn put_ears(left: &[f64], right: &[f64], weights: &mut [f64]) -> Result<(), Refusal>
+    ensures { record { refusal = number_in result; weights = weights.new } ≡ rows_put left.now
         right.now weights.old }
 {
     if weights.len() != left.len() + right.len() {
-        return 5;
+        return Err(Refusal::Misfit);
     }
-    let inverse = numbers::inverse_root(2);
-    let scale = inverse.value;
+    let scale = numbers::inverse_root(2).unwrap();
     rows::put_row(left, scale, weights, 0);
     rows::put_row(right, scale, weights, left.len());
-    0
+    Ok(())
 }
 
-// The binaural rows of an order; the refusal.
-pub fn compute_matrix(order: usize, weights: &mut [f64]) -> u8
+// The binaural rows of an order.
+pub fn compute_matrix(order: usize, weights: &mut [f64]) -> Result<(), Refusal>
     ensures { BinauralRowsPromise order weights.old
-        (record { refusal = result; weights = weights.new }) }
+        (record { refusal = number_in result; weights = weights.new }) }
 {
     if channel::refuses_order(order) {
-        return 1;
+        return Err(Refusal::Order);
     }
     if order == 1 {
         return put_ears(&FOA_LEFT, &FOA_RIGHT, weights);

@@ -10,7 +10,7 @@ use Rattle.numbers.specs.Conversions.{Narrows, negative, too_large_of}
 use Rattle.numbers.specs.Roots.{NearestRoot}
 use Rattle.numbers.specs.Promise.{RootPromise}
 use Rattle.numbers.specs.Normalization.{InverseRoot}
-use Rattle.numbers.specs.declared.Inverse.{Inverse}
+use Rattle.numbers.specs.Normalization.{Inverse}
 use Rattle.numbers.proofs.Normalization.{inverse_accepted}
 
 -- ---- narrowing

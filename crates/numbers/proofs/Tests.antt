@@ -19,7 +19,7 @@ use Rattle.numbers.specs.Roots.{rootless}
 use Rattle.formats.specs.Floats.{zero_float}
 use Rattle.numbers.specs.Computed.{WholeRoot, root_units, root_of, refusal_of, root_answer, Parted}
 use Rattle.numbers.specs.Promise.{RootPromise}
-use Rattle.numbers.specs.declared.Rooted.{Rooted}
+use Rattle.numbers.specs.Computed.{Rooted}
 use Rattle.numbers.proofs.Rooting.{root_of_value, rooted, root_digits}
 use Rattle.numbers.proofs.Middle.{root_nearest}
 use Rattle.numbers.proofs.RootAnswer.{root_accepted}

@@ -1,16 +1,19 @@
 -- No two answers meet a promise. Of a conversion and of a root document 01's words alone allow one answer: the
 -- equations beside them are a help to callers and nothing that has to be believed. Assumes nothing.
 use Rattle.std.specs.Prelude.{◌≡◌}
-use Rattle.lists.specs.Prelude.{true, false, ℕ, zero, suc, zero-lt-suc, T, lt→ltb, Float, nan, inf, fin, Format}
+use Rattle.lists.specs.Prelude.{sym, ◌∙◌, true, false, ℕ, zero, suc, zero-lt-suc, T, lt→ltb, Float, nan, inf, fin}
+use Rattle.lists.specs.Prelude.{Format}
 use Rattle.lists.specs.Prelude.{binary64, fits}
 use lib.Ieee.Positive.{positive}
 use Rattle.lists.specs.OneAnswer.{OneAnswer, AllowsOneAnswer}
 use Rattle.lists.proofs.Determined.{determined_by}
+use Rattle.formats.specs.Floats.{zero_float}
+use Rattle.refusals.proofs.Numbers.{told_once}
 use Rattle.formats.proofs.Grid.{zero_written}
 use Rattle.numbers.specs.Conversions.{Narrows}
 use Rattle.numbers.specs.Computed.{root_of, root_answer}
 use Rattle.numbers.specs.Promise.{RootWords}
-use Rattle.numbers.specs.declared.Rooted.{Rooted}
+use Rattle.numbers.specs.Computed.{Rooted}
 use Rattle.numbers.proofs.Narrows.{narrows_only}
 use Rattle.numbers.proofs.Middle.{root_only}
 use Rattle.numbers.specs.contracts.widen as widen
@@ -29,10 +32,10 @@ pub narrow_unique : AllowsOneAnswer narrow.ended narrow_reads.Learnt
 narrow_unique κs a = determined_by (λ z h i. (h.bits i, _))
 
 pub root_unique : AllowsOneAnswer root.ended root_reads.Learnt
-root_unique κs a = determined_by (λ z h i. (h.bits i, _))
+root_unique κs a x y p q = λ i. (told_once zero_float x.0 y.0 (p.bits ∙ sym q.bits) i, _)
 
 inverse_root_unique : AllowsOneAnswer inverse_root.ended inverse_root_reads.Learnt
-inverse_root_unique κs a = determined_by (λ z h i. (h.bits i, _))
+inverse_root_unique κs a x y p q = λ i. (told_once zero_float x.0 y.0 (p.bits ∙ sym q.bits) i, _)
 
 -- ---- by document 01's words alone
 pub narrows_unique : (f : Format) (x : Float) → OneAnswer (Narrows f x)

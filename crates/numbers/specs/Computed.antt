@@ -7,7 +7,7 @@ use Rattle.lists.specs.Prelude.{binary64, prec, low, up, down, size, units, roun
 use Rattle.refusals.specs.Refusals.{first_of, ◌when◌, answered}
 use Rattle.formats.specs.Floats.{zero_float}
 use Rattle.numbers.specs.Roots.{rootless}
-use Rattle.numbers.specs.declared.Rooted.{Rooted}
+use Rattle.refusals.specs.Numbers.{Told}
 use Rattle.formats.proofs.Patterns.{digits}
 
 -- ---- conversions: `fin s m e` is the fraction m * up e / down e with the sign s, and `round` is the kit's
@@ -60,6 +60,10 @@ root_of f (fin false (suc m) e) = root_units f (suc m * up e * 2 ^ low f / down 
 
 abbrev pub refusal_of : Float → ℕ
 refusal_of x = first_of (10 when rootless x ∷ [])
+
+-- a root, or 10 and 0.0
+abbrev pub Rooted : Type 0
+Rooted = Told Float
 
 abbrev pub root_answer : Float → Rooted
 root_answer x = answered (refusal_of x) (record { refusal = 0; value = root_of binary64 x })

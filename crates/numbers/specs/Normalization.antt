@@ -7,8 +7,8 @@ use Rattle.refusals.specs.Refusals.{first_of, ◌when◌, answered}
 use Rattle.formats.specs.Floats.{zero_float, one_float, float}
 use Rattle.numbers.specs.Computed.{root_of}
 use Rattle.numbers.specs.Promise.{RootPromise}
-use Rattle.numbers.specs.declared.Rooted.{Rooted}
-use Rattle.numbers.specs.declared.Inverse.{Inverse}
+use Rattle.refusals.specs.Numbers.{Told}
+use Rattle.numbers.specs.Computed.{Rooted}
 
 unfoldable pub inverse_root_of : ℕ → Float
 unfolding div root_of
@@ -19,6 +19,9 @@ abbrev pub inverse_refusal : ℕ → ℕ
 inverse_refusal n = first_of (2 when eqb n 0 ∷ [])
 
 -- "A refusal returns its number, [..] 0.0 for any number"
+abbrev pub Inverse : Type 0
+Inverse = Told Float
+
 abbrev pub inverse_answer : ℕ → Inverse
 inverse_answer n = answered (inverse_refusal n) (record { refusal = 0; value = inverse_root_of n })
     (λ r. record { refusal = r; value = zero_float })

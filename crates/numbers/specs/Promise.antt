@@ -7,7 +7,7 @@ use Rattle.numbers.specs.Conversions.{Narrows}
 use Rattle.numbers.specs.Roots.{rootless, NearestRoot}
 use Rattle.formats.specs.Floats.{zero_float}
 use Rattle.numbers.specs.Computed.{narrowed, root_of, root_answer}
-use Rattle.numbers.specs.declared.Rooted.{Rooted}
+use Rattle.numbers.specs.Computed.{Rooted}
 
 pub record NarrowPromise (x r : Float) : Type 0 where
   pub bits : r ≡ narrowed x

@@ -11,11 +11,15 @@ ghost use Rattle.std.specs.Prelude.{◌≡◌, ◌+◌, ◌*◌, ◌^◌, ◌<�
 ghost use Rattle.std.specs.Float.{binary32, binary64};
 ghost use Rattle.std.specs.Float.Ieee.{top, of_fields, nan_bits};
 ghost use Rattle.std.specs.Float.Ieee.Nearest.{closest};
+ghost use Rattle.formats.specs.Floats.{zero_float};
+ghost use Rattle.refusals.specs.Numbers.{told};
 ghost use Rattle.numbers.specs.Conversions.{Widens};
 ghost use Rattle.numbers.specs.Computed.{narrowed, WholeRoot};
 ghost use Rattle.numbers.specs.Computed.{Parted};
 ghost use Rattle.numbers.specs.Promise.{NarrowPromise, RootPromise};
 ghost use Rattle.numbers.specs.Normalization.{InverseRoot};
+
+use refusals::Refusal;
 
 pub fn widen(x: f32) -> f64
     ensures { Widens x result }
@@ -85,18 +89,11 @@ fn narrow_bits(b: u64) -> u32
 pub fn narrow(x: f64) -> f32
     ensures { NarrowPromise x result }
 {
-    if x != x {
-        // A NaN alone differs from itself.
+    if x.is_nan() {
         0.0 / 0.0
     } else {
         f32::from_bits(narrow_bits(f64::to_bits(x)))
     }
-}
-
-#[derive(Clone, Copy)]
-pub struct Rooted {
-    pub refusal: u8,
-    pub value: f64,
 }
 
 // A number digits * 4^half, its digits being 53 or 54 binary ones.
@@ -137,30 +134,25 @@ fn whole_root(m: u64) -> u64
     let mut left = m << 10;
     let mut root: u64 = 0;
     let mut rest: u64 = 0;
-    let mut i: u64 = 0;
-    while i < 54 {
+    for _ in 0..54u64 {
         let next = rest * 4 + (left >> 62);
         let trial = root * 4 + 1;
-        left = left << 2;
-        root = root * 2;
+        left <<= 2;
+        root *= 2;
         rest = next;
         if trial <= next {
             root += 1;
             rest = next - trial;
         }
-        i += 1;
     }
     root
 }
 
-pub fn root(x: f64) -> Rooted
-    ensures { RootPromise x result }
+pub fn root(x: f64) -> Result<f64, Refusal>
+    ensures { RootPromise x (told zero_float result) }
 {
     if x == 0.0 {
-        return Rooted {
-            refusal: 0,
-            value: x,
-        };
+        return Ok(x);
     }
     if x > 0.0 {
         let bits = f64::to_bits(x);
@@ -168,40 +160,20 @@ pub fn root(x: f64) -> Rooted
             let p = parted(bits);
             // Twice the root, cut to a whole number: half of the next number is the root rounded.
             let r = whole_root(p.digits);
-            return Rooted {
-                refusal: 0,
-                value: f64::from_bits((p.half - 26) * 0x10_0000_0000_0000 + (r + 1) / 2),
-            };
+            return Ok(f64::from_bits((p.half - 26) * 0x10_0000_0000_0000 + (r + 1) / 2));
         }
     }
-    Rooted {
-        refusal: 10,
-        value: 0.0,
-    }
-}
-
-// 1.0 over the root of n; or refusal 2 and 0.0.
-#[derive(Clone, Copy)]
-pub struct Inverse {
-    pub refusal: u8,
-    pub value: f64,
+    Err(Refusal::Rootless)
 }
 
 // 1.0 over the root of n; 2 for an n of 0.
-pub fn inverse_root(n: u32) -> Inverse
-    ensures { InverseRoot n result }
+pub fn inverse_root(n: u32) -> Result<f64, Refusal>
+    ensures { InverseRoot n (told zero_float result) }
 {
     if n == 0 {
-        return Inverse {
-            refusal: 2,
-            value: 0.0,
-        };
+        return Err(Refusal::Count);
     }
     let number = n as f64;
-    let rooted = root(number);
-    let root = rooted.value;
-    Inverse {
-        refusal: 0,
-        value: 1.0 / root,
-    }
+    let root = root(number).unwrap();
+    Ok(1.0 / root)
 }

@@ -10,12 +10,11 @@ use Rattle.angles.specs.Computed.{sine_at, cosine_at}
 use Rattle.angles.specs.Computed.{wave_computed}
 use Rattle.formats.specs.Floats.{zero_float, one_float, float}
 use Rattle.angles.specs.Limits.{is_inside, refuses_angle}
-use Rattle.stereo.specs.declared.StereoGains.{StereoGains}
 use Rattle.stereo.specs.Angle.{clamped, angle}
 use Rattle.stereo.specs.Computed.{clamped_to, angle_of}
-use Rattle.stereo.specs.Promise.{refused, outcome}
+use Rattle.stereo.specs.Promise.{StereoAnswer, refused, outcome}
 
-abbrev pub accepted : Float → Float → StereoGains
+abbrev pub accepted : Float → Float → StereoAnswer
 accepted l r = record { refusal = 0; left = l; right = r }
 
 -- ---- the formulas

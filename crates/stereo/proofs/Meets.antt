@@ -1,17 +1,21 @@
 -- The answers of the program are those promised: one that is refused, and one that is played. Assumes nothing.
-use Rattle.std.specs.Prelude.{◌≡◌, ◌<◌}
-use Rattle.lists.specs.Prelude.{sym, ◌∙◌, subst, true, false, not-false, T, lit<, Float}
+use Rattle.std.specs.Prelude.{◌≡◌, ◌<◌, Result, IsOk}
+use Rattle.lists.specs.Prelude.{sym, ◌∙◌, ap, subst, true, false, not-false, T, lit<, Float}
 use lib.Ieee.Scale.{finite}
+use Rattle.formats.specs.Floats.{zero_float}
+use Rattle.refusals.specs.Numbers.{told}
+use Rattle.refusals.specs.declared.Refusal.{Refusal}
+use Rattle.refusals.proofs.Numbers.{accepted_ok}
 use Rattle.refusals.proofs.First.{not_accepted, answered_accepted, answered_by_lem}
 use Rattle.lists.proofs.Tests.{cond_true, cond_false}
 use Rattle.fractions.specs.Fraction.{number}
 use Rattle.fractions.proofs.Number.{finite_number}
-use Rattle.series.specs.Sums.{sine, cosine}
-use Rattle.angles.specs.declared.Answer.{Answer}
+use Rattle.series.specs.Sums.{Wave, sine, cosine}
+use Rattle.angles.specs.Promise.{Answer}
 use Rattle.angles.specs.Promise.{WavePromise}
 use Rattle.stereo.specs.Computed.{clamped_to, angle_from, angle_of}
 use Rattle.stereo.specs.Promise.{is_refused, refusal_of, played, refused, outcome, StereoPromise}
-use Rattle.stereo.proofs.Near.{gain_near}
+use Rattle.stereo.proofs.Near.{angle_accepted, gain_near}
 
 module _ (p : Float) where
   pub refuses : is_refused p ≡ true → StereoPromise p (refused 3)
@@ -22,6 +26,15 @@ module _ (p : Float) where
         bits = answered_by_lem (played p) refused (refusal_of p) 3 (lit< tt) three;
         words = λ k. absurd (not_accepted 3 (lit< tt) three k);
       }
+
+  -- of a position that is not refused the angle is not either
+  pub wave_accepted : (w : Wave) (c : Float) (r : Result Float Refusal) → is_refused p ≡ false → c ≡ clamped_to p
+      → WavePromise w (angle_from c) (told zero_float r) → IsOk r
+  unfolding angle_of
+  wave_accepted w c r h e a' =
+      let a = subst (λ (z : Float). WavePromise w (angle_from z) (told zero_float r)) e a' in
+      let P : 0 < (number p).over = finite_number p (subst T (sym (not-false (finite p) h)) tt) in
+      accepted_ok r (ap (λ (x : Answer). x.refusal) (a.bits ∙ answered_accepted _ _ _ (angle_accepted p P)))
 
   -- c is the clamped position
   pub plays : (c : Float) (l r : Answer) → is_refused p ≡ false → c ≡ clamped_to p → WavePromise cosine (angle_from c) l

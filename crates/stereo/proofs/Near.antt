@@ -1,6 +1,6 @@
 -- The angle is within 2 ^ -44 degrees of the exact one, and so the gains are within 2 ^ -44 of document 01's formula:
 -- the slope of sine and cosine carries them over. Assumes nothing.
-use Rattle.std.specs.Prelude.{◌<◌}
+use Rattle.std.specs.Prelude.{◌≡◌, ◌<◌}
 use Rattle.lists.specs.Prelude.{sym, ap, subst, false, lit≤, Float, binary64, of_int}
 use Rattle.fractions.specs.Fraction.{Fraction, whole, number, ◌⊕◌, ◌⊗◌, ◌⊘◌, Within}
 use Rattle.fractions.proofs.Approximates.{Approximates}
@@ -9,9 +9,9 @@ use Rattle.fractions.proofs.Within.{within_refl, within_equal, within_weaken}
 use Rattle.fractions.proofs.Expression.{held, ◌+'◌, ◌*'◌, ◌/'◌, approximates, value}
 use Rattle.series.specs.Sums.{Wave}
 use Rattle.series.specs.Angles.{defined}
-use Rattle.angles.specs.declared.Answer.{Answer}
-use Rattle.angles.specs.Promise.{WavePromise}
-use Rattle.angles.proofs.Laws.{value_carried}
+use Rattle.angles.specs.Promise.{Answer}
+use Rattle.angles.specs.Promise.{refusal_of, WavePromise}
+use Rattle.angles.proofs.Laws.{rounded_accepted, value_carried}
 use Rattle.stereo.specs.Angle.{clamped, angle}
 use Rattle.stereo.specs.Computed.{clamped_to, angle_of}
 use Rattle.stereo.specs.Promise.{stereo_bits}
@@ -29,6 +29,9 @@ module _ (p : Float) (P : 0 < (number p).over) where
   unfolding angle_of of_int
   angle_near =
       approximates binary64 44 1079 1 ((value position +' held false 100 0) /' held false 200 0 *' held false 90 0) tt
+
+  pub angle_accepted : refusal_of (angle_of p) ≡ 0
+  angle_accepted = rounded_accepted (angle_of p) _ angle_near.near angle_near.size
 
   pub gain_near : (w : Wave) (a : Answer) → WavePromise w (angle_of p) a
       → Within stereo_bits (number a.value) (defined w (angle (number p)))

@@ -5,20 +5,19 @@ use Rattle.lists.specs.Prelude.{of_int}
 use Rattle.formats.specs.Floats.{zero_float, one_float, float, literal}
 use Rattle.series.specs.Sums.{cosine_sum, term, power, factorial}
 use Rattle.series.specs.Angles.{turned, around, reduced, radians, is_multiple, quarters, defined}
-use Rattle.stereo.specs.declared.StereoGains.{StereoGains}
 use Rattle.stereo.specs.Angle.{clamped, angle}
-use Rattle.stereo.specs.Promise.{refused, StereoPromise}
+use Rattle.stereo.specs.Promise.{StereoAnswer, refused, StereoPromise}
 use Rattle.stereo.proofs.Drill.{accepted, at_minus_100, of_infinity}
 
 -- it refuses every position
 refuses_always : StereoPromise (float (negsuc 99)) (refused 3) → ⊥
 refuses_always p =
-    let e : ◌≡◌ {A = ℕ} 3 0 = ap (λ (g : StereoGains). g.refusal) (p.bits ∙ at_minus_100) in omega arith
+    let e : ◌≡◌ {A = ℕ} 3 0 = ap (λ (g : StereoAnswer). g.refusal) (p.bits ∙ at_minus_100) in omega arith
 
 -- it plays an infinite position as the end that it lies beyond
 infinity_played : StereoPromise (inf true) (accepted one_float zero_float) → ⊥
 infinity_played p =
-    let e : ◌≡◌ {A = ℕ} 0 3 = ap (λ (g : StereoGains). g.refusal) (p.bits ∙ of_infinity) in omega arith
+    let e : ◌≡◌ {A = ℕ} 0 3 = ap (λ (g : StereoAnswer). g.refusal) (p.bits ∙ of_infinity) in omega arith
 
 -- it is silent
 silent : StereoPromise (float (negsuc 99)) (accepted zero_float zero_float) → ⊥

@@ -13,45 +13,25 @@
 #![tactic(auto)]
 
 ghost use Rattle.std.specs.Prelude.{◌≡◌};
-ghost use Rattle.stereo.specs.Computed.{clamped_to};
-ghost use Rattle.stereo.specs.Promise.{StereoPromise};
+ghost use Rattle.stereo.specs.Promise.{StereoPromise, steered};
+
+use refusals::Refusal;
 
 #[derive(Clone, Copy)]
 pub struct StereoGains {
-    pub refusal: u8,
     pub left: f64,
     pub right: f64,
 }
 
-fn clamped(position: f64) -> f64
-    ensures { result ≡ clamped_to position }
-{
-    if position < -100.0 {
-        return -100.0;
-    }
-    if 100.0 < position {
-        return 100.0;
-    }
-    position
-}
-
-pub fn calculate_stereo_gains(position: f64) -> StereoGains
-    ensures { StereoPromise position result }
+pub fn calculate_stereo_gains(position: f64) -> Result<StereoGains, Refusal>
+    ensures { StereoPromise position (steered result) }
 {
     if !checks::is_finite(position) {
-        return StereoGains {
-            refusal: 3,
-            left: 0.0,
-            right: 0.0,
-        };
+        return Err(Refusal::Angle);
     }
-    let normalized = (clamped(position) + 100.0) / 200.0;
+    let normalized = (position.clamp(-100.0, 100.0) + 100.0) / 200.0;
     let angle = normalized * 90.0;
-    let left = angles::cosine(angle);
-    let right = angles::sine(angle);
-    StereoGains {
-        refusal: 0,
-        left: left.value,
-        right: right.value,
-    }
+    let left = angles::cosine(angle).unwrap();
+    let right = angles::sine(angle).unwrap();
+    Ok(StereoGains { left, right })
 }

@@ -200,6 +200,12 @@ passes_71 a A H = record {
   small = lit≤ tt;
 }
 
+-- so the sum of the squares has a root
+pub sum_above_zero : (l : Layout) (a : Float) → surround l ≡ true → 0 < (number a).over
+    → AtMost (magnitude (number a)) (whole 180) → T (positive (sum_of (channels_of l) (raw_gains l a (channels_of l))))
+sum_above_zero l a e A H =
+    sum_positive l a A H e (by_surround (λ (l : Layout). Passes l a A H) (passes_51 a A H) (passes_71 a A H) l e)
+
 pub gains : (l : Layout) (a : Float) → surround l ≡ true → 0 < (number a).over
     → AtMost (magnitude (number a)) (whole 180) → SurroundWords l a (λ c. get_or (surround_gains l a) c zero_float)
 gains l a e A H =

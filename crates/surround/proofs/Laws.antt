@@ -5,7 +5,7 @@ use Rattle.lists.specs.Prelude.{refl, Float}
 use Rattle.refusals.proofs.First.{answered_number}
 use Rattle.channel.specs.declared.Layout.{Layout}
 use Rattle.harmonics.specs.Promise.{silent_gains}
-use Rattle.surround.specs.declared.SurroundGains.{SurroundGains}
+use Rattle.surround.specs.Promise.{SurroundGains}
 use Rattle.surround.specs.Promise.{refusal_of, surround_gains, outcome}
 
 pub refusal_is : (l : Layout) (a : Float) → (outcome l a).refusal ≡ refusal_of l a

@@ -3,7 +3,7 @@ use Rattle.std.specs.Prelude.{◌≡◌}
 use Rattle.lists.specs.Prelude.{sym, ap, ◌∙◌, Bool, true, false, not, ℕ, not-true, not-false, Float, binary64, lt, sub}
 use Rattle.lists.proofs.Tests.{cond_true, cond_false}
 use Rattle.series.specs.Sums.{cosine}
-use Rattle.angles.specs.declared.Answer.{Answer}
+use Rattle.angles.specs.Promise.{Answer}
 use Rattle.angles.specs.Promise as Angles
 use Rattle.formats.specs.Floats.{zero_float}
 use Rattle.angles.specs.Promise.{WavePromise}

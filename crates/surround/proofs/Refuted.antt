@@ -8,7 +8,7 @@ use Rattle.series.specs.Angles.{turned, around, reduced, radians, is_multiple, q
 use Rattle.angles.specs.Limits.{is_inside, refuses_angle}
 use Rattle.channel.specs.declared.Layout.{Layout}
 use Rattle.channel.specs.declared.Layout.TheVariants.{Stereo, Surround51, Surround71, Custom}
-use Rattle.surround.specs.declared.SurroundGains.{SurroundGains}
+use Rattle.surround.specs.Promise.{SurroundGains}
 use Rattle.harmonics.specs.Promise.{silent_gains}
 use Rattle.surround.specs.Formula.{distance, raw_gain, raw_at}
 use Rattle.surround.specs.Promise.{SurroundPromise, outcome}

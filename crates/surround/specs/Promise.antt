@@ -12,8 +12,7 @@ use Rattle.fractions.specs.Squares.{BySquares}
 use Rattle.numbers.specs.Computed.{root_of}
 use Rattle.channel.specs.Layouts.{channels_of, surround}
 use Rattle.channel.specs.declared.Layout.{Layout}
-use Rattle.harmonics.specs.Promise.{refuses_azimuth, silent_gains}
-use Rattle.surround.specs.declared.SurroundGains.{SurroundGains}
+use Rattle.harmonics.specs.Promise.{refuses_azimuth, silent_gains, Coefficients}
 use Rattle.surround.specs.Formula.{raw_at, sum_at, is_silent}
 use Rattle.surround.specs.Computed.{raw_gains, sum_of, divided_by}
 
@@ -28,6 +27,10 @@ refusal_of l a = first_of (2 when not (surround l) ∷ 3 when refuses_azimuth a 
 unfoldable pub surround_gains : Layout → Float → List Float
 surround_gains l a = let raw = raw_gains l a (channels_of l) in
     divided_by (root_of binary64 (sum_of (channels_of l) raw)) raw
+
+-- the gains of the channels, or a refusal and silence
+abbrev pub SurroundGains : Type 0
+SurroundGains = Coefficients
 
 abbrev pub outcome : Layout → Float → SurroundGains
 outcome l a = answered (refusal_of l a) (record { refusal = 0; gains = surround_gains l a })

@@ -20,14 +20,11 @@ ghost use Rattle.std.specs.Prelude.{◌≡◌, ◌≤◌};
 ghost use Rattle.surround.specs.Computed.{absolute, turned_towards, is_near, raw_of, channel_gain, raw_gains, sum_of};
 ghost use Rattle.surround.specs.Computed.{divided_by};
 ghost use Rattle.surround.specs.Promise.{SurroundPromise};
-ghost use Rattle.harmonics.specs.Promise.{silent_gains};
+ghost use Rattle.harmonics.specs.Promise.{coefficients};
 
-#[derive(Clone, Copy)]
-pub struct SurroundGains {
-    pub refusal: u8,
-    pub gains: [f64; 16],
-}
+use refusals::Refusal;
 
+// Kept: `x.abs()` takes -0.0 to 0.0, and the promise, which fixes each bit by this way, keeps its sign.
 fn absolute_value(x: f64) -> f64
     ensures { result ≡ absolute x }
 {
@@ -54,10 +51,7 @@ fn place(azimuth: f64, speaker: f64) -> f64
 fn is_near(azimuth: f64, place: f64) -> bool
     ensures { result ≡ is_near azimuth place }
 {
-    if place - 90.0 < azimuth {
-        return azimuth < place + 90.0;
-    }
-    false
+    place - 90.0 < azimuth && azimuth < place + 90.0
 }
 
 // The gain of a speaker before it is divided.
@@ -68,11 +62,12 @@ fn raw_gain(azimuth: f64, speaker: f64) -> f64
     if !is_near(azimuth, place) {
         return 0.0;
     }
-    let gain = angles::cosine(absolute_value(azimuth - place));
-    if gain.value < 0.0 {
+    let gain = angles::cosine(absolute_value(azimuth - place)).unwrap_or(0.0);
+    // Kept: `max` leaves open which of -0.0 and 0.0 it answers, and the promise fixes each bit.
+    if gain < 0.0 {
         return 0.0;
     }
-    gain.value
+    gain
 }
 
 // The same of a channel: the LFE's is 0.0.
@@ -82,8 +77,8 @@ fn channel_gain(layout: channel::Layout, azimuth: f64, channel: usize) -> f64
     if channel::is_low_frequency(layout, channel) {
         return 0.0;
     }
-    let speaker = channel::speaker_azimuth(layout, channel);
-    raw_gain(azimuth, speaker.degrees)
+    let speaker = channel::speaker_azimuth(layout, channel).unwrap_or(0.0);
+    raw_gain(azimuth, speaker)
 }
 
 fn raw_gains(layout: channel::Layout, azimuth: f64, channels: usize) -> [f64; 16]
@@ -91,10 +86,8 @@ fn raw_gains(layout: channel::Layout, azimuth: f64, channels: usize) -> [f64; 16
     ensures { result ≡ raw_gains layout azimuth channels }
 {
     let mut gains = [0.0; 16];
-    let mut c = 0;
-    while c < channels {
-        gains[c] = channel_gain(layout, azimuth, c);
-        c += 1;
+    for (c, gain) in gains[..channels].iter_mut().enumerate() {
+        *gain = channel_gain(layout, azimuth, c);
     }
     gains
 }
@@ -104,10 +97,8 @@ fn sum_of_squares(gains: [f64; 16], channels: usize) -> f64
     ensures { result ≡ sum_of channels gains }
 {
     let mut sum = 0.0;
-    let mut i = 0;
-    while i < channels {
-        sum = sum + gains[i] * gains[i];
-        i += 1;
+    for gain in &gains[..channels] {
+        sum += gain * gain;
     }
     sum
 }
@@ -115,38 +106,24 @@ fn sum_of_squares(gains: [f64; 16], channels: usize) -> f64
 fn divided(raw: [f64; 16], root: f64) -> [f64; 16]
     ensures { result ≡ divided_by root raw }
 {
-    let mut gains = [0.0; 16];
-    let mut c = 0;
-    while c < 16 {
-        gains[c] = raw[c] / root;
-        c += 1;
+    let mut gains = raw;
+    for gain in &mut gains {
+        *gain /= root;
     }
     gains
 }
 
-fn refused(refusal: u8) -> SurroundGains
-    ensures { result ≡ record { refusal = refusal; gains = silent_gains } }
-{
-    SurroundGains {
-        refusal: refusal,
-        gains: [0.0; 16],
-    }
-}
-
-pub fn calculate_vbap_gains(layout: channel::Layout, azimuth: f64) -> SurroundGains
-    ensures { SurroundPromise layout azimuth result }
+pub fn calculate_vbap_gains(layout: channel::Layout, azimuth: f64) -> Result<[f64; 16], Refusal>
+    ensures { SurroundPromise layout azimuth (coefficients result) }
 {
     if !channel::is_surround(layout) {
-        return refused(2);
+        return Err(Refusal::Count);
     }
     if harmonics::refuses_azimuth(azimuth) {
-        return refused(3);
+        return Err(Refusal::Angle);
     }
-    let counted = channel::channel_count(layout);
-    let raw = raw_gains(layout, azimuth, counted.channels);
-    let root = numbers::root(sum_of_squares(raw, counted.channels));
-    SurroundGains {
-        refusal: 0,
-        gains: divided(raw, root.value),
-    }
+    let channels = channel::channel_count(layout).unwrap();
+    let raw = raw_gains(layout, azimuth, channels);
+    let root = numbers::root(sum_of_squares(raw, channels)).unwrap();
+    Ok(divided(raw, root))
 }

@@ -19,7 +19,7 @@ use Rattle.harmonics.proofs.Laws.{accepted, direction_accepted, whole_accepted, 
 use Rattle.virtual_speaker.specs.Weights.{weighted_formulas}
 use Rattle.virtual_speaker.specs.Computed.{weigh, weighted}
 use Rattle.virtual_speaker.specs.Promise.{weight_bits, MaxRePromise, position_of}
-use Rattle.virtual_speaker.specs.declared.Weighted.{Weighted}
+use Rattle.virtual_speaker.specs.Promise.{Weighted}
 -- the direction of a position, also of what is none
 pub use Rattle.virtual_speaker.proofs.Positions.{position_direction}
 -- the promise holds of the answer that the definition gives

@@ -16,12 +16,12 @@ use Rattle.harmonics.specs.Computed.{waves_of, up_to}
 use Rattle.harmonics.specs.Promise.{refusal_of, silent_gains}
 use Rattle.harmonics.specs.Promise as Harmonics
 use Rattle.harmonics.specs.declared.Direction.{Direction}
-use Rattle.harmonics.specs.declared.Coefficients.{Coefficients}
+use Rattle.harmonics.specs.Promise.{Coefficients}
 use Rattle.harmonics.proofs.Laws as Laws
 use Rattle.virtual_speaker.specs.Weights.{max_re_cosine, degree_of, weighted_formulas}
 use Rattle.virtual_speaker.specs.Computed.{cosine_of, weight, weigh, weighted}
 use Rattle.virtual_speaker.specs.Promise.{weight_bits, outcome, MaxRePromise}
-use Rattle.virtual_speaker.specs.declared.Weighted.{Weighted}
+use Rattle.virtual_speaker.specs.Promise.{Weighted}
 use Rattle.virtual_speaker.proofs.Cosines.{cosine_near}
 use Rattle.virtual_speaker.proofs.Near.{weighted_near, each_tab}
 

@@ -5,10 +5,10 @@ use Rattle.lists.specs.Prelude.{refl, sym, ap, ◌∙◌, ℕ, zero, suc}
 use Rattle.refusals.specs.Refusals.{answered}
 use Rattle.formats.specs.Floats.{zero_float}
 use Rattle.channel.specs.Layouts.{positions, missing, position_azimuth, position_azimuth_answer}
-use Rattle.channel.specs.declared.Angle.{Angle}
+use Rattle.channel.specs.Layouts.{Angle}
 use Rattle.channel.proofs.Tables.{degrees_answered_lem}
 use Rattle.virtual_speaker.specs.Promise.{position_of, position_answer}
-use Rattle.virtual_speaker.specs.declared.Position.{Position}
+use Rattle.virtual_speaker.specs.Promise.{Position}
 
 -- all at 0 degrees elevation
 abbrev made : Angle → Position

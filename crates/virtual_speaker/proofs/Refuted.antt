@@ -11,8 +11,8 @@ use Rattle.harmonics.specs.Promise.{silent_gains}
 use Rattle.harmonics.specs.Drill.{at}
 use Rattle.harmonics.specs.declared.Direction.{Direction}
 use Rattle.virtual_speaker.specs.Promise.{MaxRePromise, position_answer}
-use Rattle.virtual_speaker.specs.declared.Weighted.{Weighted}
-use Rattle.virtual_speaker.specs.declared.Position.{Position}
+use Rattle.virtual_speaker.specs.Promise.{Weighted}
+use Rattle.virtual_speaker.specs.Promise.{Position}
 
 refusal : Weighted → ℕ
 refusal r = r.refusal

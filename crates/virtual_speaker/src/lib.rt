@@ -27,20 +27,7 @@ ghost use Rattle.virtual_speaker.specs.Computed as Computed;
 ghost use Rattle.virtual_speaker.specs.Promise as Said;
 
 use harmonics::Direction;
-
-// Refusal 1 or 3, or 0 and the weighted coefficients.
-#[derive(Clone, Copy)]
-pub struct Weighted {
-    pub refusal: u8,
-    pub weights: [f64; 16],
-}
-
-// Refusal 2, or 0 and the direction of a virtual speaker.
-#[derive(Clone, Copy)]
-pub struct Position {
-    pub refusal: u8,
-    pub direction: Direction,
-}
+use refusals::Refusal;
 
 // cos(A/(2(N+1))) for an order N of 1, 2 and 3.
 const COSINES: [f64; 3] = [0.8244615675902878, 0.9206590873000569, 0.9551077341301053];
@@ -48,67 +35,54 @@ const COSINES: [f64; 3] = [0.8244615675902878, 0.9206590873000569, 0.95510773413
 fn max_re_cosine(order: usize) -> f64
     ensures { result ≡ Computed.cosine_of order }
 {
-    if order == 1 {
-        return COSINES[0];
+    match order {
+        1 => COSINES[0],
+        2 => COSINES[1],
+        _ => COSINES[2],
     }
-    if order == 2 {
-        return COSINES[1];
-    }
-    COSINES[2]
 }
 
 // The weight of a channel, by its degree: l² to (l+1)² - 1 are of degree l.
 fn weight(c: f64, channel: usize) -> f64
     ensures { result ≡ Computed.weight c (degree_of channel) }
 {
-    if channel < 1 {
-        return 1.0;
+    match channel {
+        0 => 1.0,
+        1..=3 => c,
+        4..=8 => c * c,
+        _ => c * c * c,
     }
-    if channel < 4 {
-        return c;
-    }
-    if channel < 9 {
-        return c * c;
-    }
-    c * c * c
 }
 
 // Each coefficient times its weight.
 fn weigh(coeffs: [f64; 16], c: f64) -> [f64; 16]
     ensures { result ≡ Computed.weigh c coeffs }
 {
-    let mut weights = [0.0; 16];
-    let mut i = 0;
-    while i < 16 {
-        weights[i] = coeffs[i] * weight(c, i);
-        i += 1;
+    let mut weights = coeffs;
+    for (channel, coefficient) in weights.iter_mut().enumerate() {
+        *coefficient *= weight(c, channel);
     }
     weights
 }
 
-// The coefficients of a direction, up to an order, with max-rE weights. A refusal's zeros stay zeros.
-pub fn compute_sh_coefficients_max_re(order: usize, direction: Direction) -> Weighted
-    ensures { Said.MaxRePromise order direction result }
+// The coefficients of a direction, up to an order, with max-rE weights.
+pub fn compute_sh_coefficients_max_re(
+    order: usize,
+    direction: Direction,
+) -> Result<[f64; 16], Refusal>
+    ensures { Said.MaxRePromise order direction (Said.weighing result) }
 {
-    let coeffs = harmonics::compute_sh_coefficients(order, direction);
-    let gains = coeffs.gains;
-    Weighted {
-        refusal: coeffs.refusal,
-        weights: weigh(gains, max_re_cosine(order)),
-    }
+    let coeffs = harmonics::compute_sh_coefficients(order, direction)?;
+    Ok(weigh(coeffs, max_re_cosine(order)))
 }
 
-// Where virtual speaker i stands; or 2 and the direction 0.0, 0.0 beyond the eight.
-pub fn foa_position(i: usize) -> Position
-    ensures { result ≡ Said.position_answer i }
+// Where virtual speaker i stands; 2 beyond the eight.
+pub fn foa_position(i: usize) -> Result<Direction, Refusal>
+    ensures { Said.positioned result ≡ Said.position_answer i }
 {
-    let found = channel::position_azimuth(i);
-    let direction = Direction {
-        azimuth: found.degrees,
+    let azimuth = channel::position_azimuth(i)?;
+    Ok(Direction {
+        azimuth,
         elevation: 0.0,
-    };
-    Position {
-        refusal: found.refusal,
-        direction,
-    }
+    })
 }

@@ -1,4 +1,3 @@
-use Rattle.std.specs.Prelude.{◌-◌}
 use Rattle.lists.specs.Prelude.{ℕ, List, Float}
 use Rattle.planes.specs.Planes.{frame_at}
 use Rattle.planes.specs.Sums.{mixed_all}
@@ -14,6 +13,3 @@ outputs_at shape weights inputs n =
 abbrev pub invariant-loop-n : goal.invariant-loop-n
 invariant-loop-n l =
     Framing l.initial.out l.shape.stride l.shape.frames (outputs_at l.shape l.weights l.inputs) l.out l.n
-
-abbrev pub decreases-loop-n : goal.decreases-loop-n
-decreases-loop-n l = l.shape.frames - l.n

@@ -1,59 +1,49 @@
--- `angles::outermost` meets its contract. The loop's invariant: j and twice the nestings that are done make up `top`,
--- and f is 1 less the nestings so far. Assumes nothing.
+-- `angles::outermost` meets its contract. The loop's invariant: f is 1 less the nestings so far, of which n are left.
+-- Assumes nothing.
 use Rattle.std.specs.Prelude.{◌≡◌, ◌+◌, ◌-◌, ◌*◌, ◌^◌, ◌≤◌, ◌<◌}
-use Rattle.lists.specs.Prelude.{refl, sym, ap, ◌∙◌, subst, ℕ, suc, arith}
+use Rattle.lists.specs.Prelude.{sym, ap, ◌∙◌, subst, ℕ, suc, arith}
 use Rattle.angles.specs.Computed.{one, times, nesting, nest}
 use Rattle.angles.proofs.Room.{nest_most, nesting_most, square_most}
 use Rattle.angles.proofs.outermost.Goals as goal
 
-f_most : (y f j n : ℕ) → f ≡ nest y (j + 2) n → f ≤ one
-f_most y f j n e = subst (λ (x : ℕ). x ≤ one) (sym e) (nest_most y (j + 2) n)
-
-start : (y j : ℕ) → nest y j 0 ≡ one
+start : (y j n : ℕ) → n ≡ 0 → one ≡ nest y j n
 unfolding nest
-start y j = refl
+start y j n e = ap (nest y j) (sym e)
 
-again : (y f j n : ℕ) → 1 < j → f ≡ nest y (j + 2) n → one - nesting y f j ≡ nest y (j - 2 + 2) (suc n)
+again : (y f r n h : ℕ) → 0 < n → n ≤ h → f ≡ nest y (r + 2 + 2 * n) (h - n)
+    → one - nesting y f (r + 2 + 2 * (n - 1)) ≡ nest y (r + 2 + 2 * (n - 1)) (h - (n - 1))
 unfolding nest
-again y f j n h e = ap (λ (x : ℕ). one - nesting y x j) e ∙ ap (λ (x : ℕ). nest y x (suc n)) (omega arith)
+again y f r n h l m e =
+    let below : r + 2 + 2 * n ≡ r + 2 + 2 * (n - 1) + 2 = omega arith in
+    let more : suc (h - n) ≡ h - (n - 1) = omega arith in
+    ap (λ (x : ℕ). one - nesting y x (r + 2 + 2 * (n - 1))) (e ∙ ap (λ (j : ℕ). nest y j (h - n)) below)
+    ∙ ap (nest y (r + 2 + 2 * (n - 1))) more
 
 -- what `nesting` asks at every turn, and after the last
-asked : (x top y f j n : ℕ) → x * x ≤ 12 * 2 ^ 120 → top ≤ 26 → y ≡ times x x → j + 2 * n ≡ top → f ≡ nest y (j + 2) n
+asked : (x y f j k n : ℕ) → x * x ≤ 12 * 2 ^ 120 → y ≡ times x x → f ≡ nest y k n → j ≤ 26
     → (y ≤ 12 * 2 ^ 60) × (f ≤ 2 ^ 60) × (j ≤ 26)
-asked x top y f j n h k d e g =
-    (subst (λ (z : ℕ). z ≤ 12 * one) (sym d) (square_most x h), f_most y f j n g, omega arith)
+asked x y f j k n h d e m =
+    (subst (λ (z : ℕ). z ≤ 12 * one) (sym d) (square_most x h), subst (λ (z : ℕ). z ≤ one) (sym e) (nest_most y k n), m)
 
-pub loop-j-init : goal.loop-j-init
-loop-j-init c = (0, omega arith, sym (start c.times-y.result (c.before.args.top + 2)))
+pub loop-n-init : goal.loop-n-init
+loop-n-init c = start c.times-y.result _ _ (omega arith)
 
 pub nesting-f-requires : goal.nesting-f-requires
 nesting-f-requires c =
-    let s = c.before.before in
-    let i = c.before.loop-j.invariant in
-    asked _ _ _ _ _ i.0 s.before.requires.0 s.before.requires.1 s.times-y.ensures i.1 i.2
+    asked c.args.x _ _ _ _ _ c.requires.0 c.times-y.ensures c.loop-n.invariant (omega (arith, c.requires.1))
 
 pub overflow_sub-f : goal.overflow_sub-f
 overflow_sub-f c =
-    let l = c.before.before in
-    let s = l.before in
-    let i = l.loop-j.invariant in
-    let a = asked _ _ _ _ _ i.0 s.before.requires.0 s.before.requires.1 s.times-y.ensures i.1 i.2 in
+    let a = asked c.args.x c.times-y.result c.loop-n.f 0 _ _ c.requires.0 c.times-y.ensures c.loop-n.invariant
+    (omega arith) in
     subst (λ (x : ℕ). x ≤ one) (sym c.nesting-f.ensures)
-    (nesting_most s.times-y.result l.loop-j.f l.loop-j.j a.0 a.1 c.before.loop-j-test.true)
+    (nesting_most c.times-y.result c.loop-n.f _ a.0 a.1 (omega arith))
 
-pub loop-j-preserved : goal.loop-j-preserved
-loop-j-preserved c =
-    let l = c.before.before in
-    let i = l.loop-j.invariant in
-    let t : 1 < l.loop-j.j = c.before.loop-j-test.true in (
-      suc i.0,
-      omega (arith, i.1, t),
-      ap (λ (x : ℕ). one - x) c.nesting-f.ensures
-          ∙ again l.before.times-y.result l.loop-j.f l.loop-j.j i.0 t i.2,
-    )
+pub loop-n-preserved : goal.loop-n-preserved
+loop-n-preserved c =
+    ap (λ (x : ℕ). one - x) c.nesting-f.ensures
+    ∙ again c.times-y.result c.loop-n.f _ c.loop-n.n _ c.loop-n-test.true c.loop-n.auto.n c.loop-n.invariant
 
 pub nesting-requires : goal.nesting-requires
 nesting-requires c =
-    let s = c.before.before in
-    let i = c.before.loop-j.invariant in
-    asked _ _ _ _ _ i.0 s.before.requires.0 s.before.requires.1 s.times-y.ensures i.1 i.2
+    asked c.args.x _ _ _ _ _ c.requires.0 c.times-y.ensures c.loop-n.invariant (omega (arith, c.requires.1))

@@ -1,10 +1,6 @@
-use Rattle.std.specs.Prelude.{◌≡◌, ◌+◌, ◌*◌}
-use Rattle.lists.specs.Prelude.{ℕ}
+use Rattle.std.specs.Prelude.{◌≡◌, ◌+◌, ◌-◌, ◌*◌, ◌/◌}
 use Rattle.angles.specs.Computed.{nest}
 use Rattle.angles.proofs.outermost.Given as goal
 
-abbrev pub invariant-loop-j : goal.invariant-loop-j
-invariant-loop-j l = (n : ℕ) × (l.j + 2 * n ≡ l.top) × (l.f ≡ nest l.y (l.j + 2) n)
-
-abbrev pub decreases-loop-j : goal.decreases-loop-j
-decreases-loop-j l = l.j
+abbrev pub invariant-loop-n : goal.invariant-loop-n
+invariant-loop-n l = l.f ≡ nest l.y (l.last + 2 + 2 * l.n) (l.top / 2 - l.n)

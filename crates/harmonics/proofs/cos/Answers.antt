@@ -1,9 +1,9 @@
 -- `harmonics::cos` meets its contract. Assumes nothing.
-use Rattle.lists.specs.Prelude.{ap}
-use Rattle.angles.specs.declared.Answer.{Answer}
+use Rattle.lists.specs.Prelude.{ap, ◌∙◌, of_bits}
+use Rattle.angles.specs.Promise.{Answer}
 use Rattle.harmonics.specs.Computed.{cos}
 use Rattle.harmonics.proofs.cos.Goals as goal
 
 pub returns : goal.returns
-unfolding cos
-returns c = ap (λ (r : Answer). r.value) c.cosine.ensures.bits
+unfolding cos of_bits
+returns c = c.unwrap_or.ensures ∙ ap (λ (r : Answer). r.value) c.cosine.ensures.bits

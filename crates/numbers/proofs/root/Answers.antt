@@ -1,6 +1,6 @@
 -- `numbers::root` meets its contract: by the tests of the float, and above zero by the parts of its pattern and the
 -- whole root of the first. Assumes nothing.
-use Rattle.lists.specs.Prelude.{◌∙◌, T, binary64, fits}
+use Rattle.lists.specs.Prelude.{◌∙◌, T, binary64, fits, of_bits}
 use denote.Floats.{passes}
 use Rattle.formats.proofs.Patterns.{zero_bits}
 use Rattle.numbers.proofs.Tests.{zero_answer, root_promised, when_zero, when_not_above}
@@ -47,6 +47,7 @@ returns-then-bits-lt9218868437227405312 c =
     w.whole_root-r.ensures)
 
 pub returns-else-bits-lt9218868437227405312 : goal.returns-else-bits-lt9218868437227405312
+unfolding of_bits
 returns-else-bits-lt9218868437227405312 c =
     let s = c.before.before.before in
     root_promised s.args.x _ (held s)
@@ -54,6 +55,7 @@ returns-else-bits-lt9218868437227405312 c =
     c.if-bits-lt9218868437227405312.false)
 
 pub returns-else-x-2 : goal.returns-else-x-2
+unfolding of_bits
 returns-else-x-2 c =
     let s = c.before.before in
     root_promised s.args.x _ (held s)

@@ -1,8 +1,9 @@
 -- `surround::raw_gains` meets its contract: `lists`' `Filling`. Assumes nothing.
-use Rattle.lists.specs.Prelude.{◌∙◌, arith, of_bits, of_int}
+use Rattle.std.specs.Prelude.{◌++◌}
+use Rattle.lists.specs.Prelude.{◌∙◌, ap, arith, length-take, drop, replicate, List, Float, of_bits, of_int}
 use Rattle.formats.specs.Floats.{zero_float}
 use Rattle.surround.specs.Computed.{channel_gain, raw_gains}
-use Rattle.lists.proofs.Filling.{first_filled, filling_none, filling_more, filling_all}
+use Rattle.lists.proofs.Filling.{first_filled, filling_none, filling_more, filling_whole}
 use Rattle.surround.proofs.raw_gains.Goals as goal
 
 pub loop-c-init : goal.loop-c-init
@@ -10,13 +11,16 @@ loop-c-init c = filling_none _ _ _
 
 pub loop-c-preserved : goal.loop-c-preserved
 loop-c-preserved c =
-    let at = c.before.before.loop-c in
-    filling_more _ _ _ at.gains at.c _ at.invariant (omega arith) (omega arith) c.channel_gain.ensures
+    let at = c.loop-c in
+    filling_more _ _ _ at.gain-items at.c _ at.invariant (omega (arith, length-take {A = Float}))
+    (omega (arith, length-take {A = Float})) c.channel_gain.ensures
 
 pub returns : goal.returns
 unfolding raw_gains of_bits of_int
 returns c =
-    let a = c.before.before.args in
-    let at = c.before.loop-c in
-    filling_all _ _ _ at.gains at.c at.invariant (omega arith)
+    let a = c.args in
+    let at = c.loop-c in
+    ap (λ (l : List Float). l ++ drop a.channels (replicate 16 zero_float))
+    (filling_whole _ a.channels _ at.gain-items at.c at.invariant
+    (omega (arith, length-take {A = Float})) (omega (arith, length-take {A = Float})))
     ∙ first_filled (channel_gain a.layout a.azimuth) a.channels 16 zero_float (omega arith)

@@ -1,19 +1,19 @@
 -- `virtual_speaker::max_re_cosine` meets its contract: the table holds the literals of specs/Computed.antt, by
 -- computing. Assumes nothing.
-use Rattle.lists.specs.Prelude.{sym, ◌∙◌, of_bits, round, eq-eqb, ne_eqb}
-use Rattle.lists.proofs.Tests.{cond_true, cond_false}
+use Rattle.lists.specs.Prelude.{sym, arith, ap, ◌∙◌, of_bits, round, ne_eqb}
+use Rattle.lists.proofs.Tests.{cond_false}
+use Rattle.virtual_speaker.specs.Computed.{cosine_of}
 use Rattle.virtual_speaker.proofs.max_re_cosine.Goals as goal
 
-pub returns-then-order-eq1 : goal.returns-then-order-eq1
+pub returns-in-1 : goal.returns-in-1
 unfolding of_bits round
-returns-then-order-eq1 c = sym (cond_true _ _ (eq-eqb _ 1 c.if-order-eq1.true))
+returns-in-1 c = ap cosine_of (sym c.in-1.is)
 
-pub returns-then-order-eq2 : goal.returns-then-order-eq2
+pub returns-in-2 : goal.returns-in-2
 unfolding of_bits round
-returns-then-order-eq2 c = sym
-    (cond_false _ _ (ne_eqb _ 1 c.before.if-order-eq1.false) ∙ cond_true _ _ (eq-eqb _ 2 c.if-order-eq2.true))
+returns-in-2 c = ap cosine_of (sym c.in-2.is)
 
-pub returns : goal.returns
+pub returns-in_default : goal.returns-in_default
 unfolding of_bits round
-returns c = sym (cond_false _ _ (ne_eqb _ 1 c.before.if-order-eq1.false)
-    ∙ cond_false _ _ (ne_eqb _ 2 c.if-order-eq2.false))
+returns-in_default c = sym (cond_false _ _ (ne_eqb c.args.order 1 (omega arith))
+    ∙ cond_false _ _ (ne_eqb c.args.order 2 (omega arith)))
