@@ -1,14 +1,14 @@
 -- The search by halving: how many frames from the first on are not after f (`up_to`), what a turn keeps, and that what
 -- is found at the end is the last cue not after f, by which document 02 says the voice. Assumes nothing.
-use Rattle.std.specs.Prelude.{◌≡◌, ◌+◌, ◌-◌, ◌/◌, ◌<◌, ◌≤◌, ◌⊎◌, ◌∷◌}
+use Rattle.std.specs.Prelude.{◌≡◌, ◌+◌, ◌-◌, ◌/◌, ◌<◌, ◌≤◌, ◌⊎◌, ◌∷◌, Some}
 use Rattle.lists.specs.Prelude.{refl, sym, ◌∙◌, ap, subst, ℕ, zero, suc, not-suc-le-zero, le_of_suc-le-suc, add-one}
 use Rattle.lists.specs.Prelude.{arith, Bool, true, false, cond, inl, inr, ⊎_elim, List, [], length, get_or, ltb, leb}
 use Rattle.lists.specs.Prelude.{ltb-true, leb-true, leb-false, lt-ltb, le-ltb, lt-leb, le-leb}
 use Rattle.lists.proofs.Lists.{less_or_at_most}
 use Rattle.cues.specs.declared.Cue.{Cue}
 use Rattle.cues.specs.declared.Search.{Search}
-use Rattle.cues.specs.Cues.{Voice, nobody, speaking, numbers_of, rises_from, rises, or_later, voice_at, until_next}
-use Rattle.cues.specs.Cues.{nowhere, always}
+use Rattle.cues.specs.Cues.{Voice, nobody, speaking, numbers_of, rises_from, rises, or_later, voice_at, voice_from}
+use Rattle.cues.specs.Cues.{until_next, nowhere, always}
 use Rattle.cues.specs.Computed.{search_of, whole_of, halved_of, searched, left_of, held_of, found_of}
 use Rattle.cues.specs.Promise.{FindWords, FindPromise}
 use Rattle.cues.proofs.Cues.{frame_is, frames_length, and_left, and_right, tail_rises, least}
@@ -169,7 +169,7 @@ holds_between cs f i h l a b = voice_last cs f h ∙ ap (last_of cs) count
 pub next_after : (s : Search) (c : Cue) (f : ℕ) → f ≤ s.next → f ≤ (halved_of s c f).next
 next_after s c f h = by_test (leb c.frame f) refl
   where
-    by_test : (t : Bool) → leb c.frame f ≡ t → f ≤ (cond t (search_of (s.mid + 1) s.hi c.direction s.next)
+    by_test : (t : Bool) → leb c.frame f ≡ t → f ≤ (cond t (search_of (s.mid + 1) s.hi (Some c.direction) s.next)
         (search_of s.lo s.mid s.direction c.frame)).next
     by_test true e = h
     by_test false e = omega (arith, leb-false c.frame f e)
@@ -210,7 +210,7 @@ pub record Halving (cs : List Cue) (f : ℕ) (s : Search) : Type 0 where
   pub low : rises (numbers_of cs) ≡ true → s.lo ≤ up_to (numbers_of cs) f
   pub high : up_to (numbers_of cs) f ≤ s.hi
   pub room : s.hi ≤ length cs
-  pub before : 0 < s.lo → s.direction ≡ (get_or cs (s.lo - 1) nowhere).direction
+  pub before : voice_from s.direction ≡ last_of cs s.lo
   pub behind : s.hi < length cs → s.next ≡ (get_or cs s.hi nowhere).frame
 
 module _ (cs : List Cue) (f : ℕ) where
@@ -224,7 +224,7 @@ module _ (cs : List Cue) (f : ℕ) where
     low = λ h. omega arith;
     high = subst (λ (n : ℕ). up_to fs f ≤ n) (frames_length cs) (up_to_most fs f);
     room = omega arith;
-    before = λ l. absurd (not-suc-le-zero l);
+    before = refl;
     behind = λ l. absurd (nothing l);
   }
     where
@@ -272,9 +272,9 @@ module _ (cs : List Cue) (f : ℕ) where
     shorter : (halved_of s mid f).hi - (halved_of s mid f).lo < s.hi - s.lo
     shorter = by_test (leb mid.frame f)
       where
-        by_test : (t : Bool) → (cond t (search_of (s.mid + 1) s.hi mid.direction s.next)
+        by_test : (t : Bool) → (cond t (search_of (s.mid + 1) s.hi (Some mid.direction) s.next)
             (search_of s.lo s.mid s.direction mid.frame)).hi - (cond t
-            (search_of (s.mid + 1) s.hi mid.direction s.next)
+            (search_of (s.mid + 1) s.hi (Some mid.direction) s.next)
             (search_of s.lo s.mid s.direction mid.frame)).lo < s.hi - s.lo
         by_test true = omega (arith, mid_least, mid_below)
         by_test false = omega (arith, mid_least, mid_below)
@@ -286,9 +286,6 @@ module _ (cs : List Cue) (f : ℕ) where
       shorter,
     )
       where
-        one_less : s.mid ≡ s.mid + 1 - 1
-        one_less = omega arith
-
         by_test : (t : Bool) → leb mid.frame f ≡ t → Coming cs f (halved_of s mid f) → Halving cs f (halved_of s mid f)
         by_test true e c = subst (Halving cs f) (sym to) (record {
           middle = refl;
@@ -296,12 +293,12 @@ module _ (cs : List Cue) (f : ℕ) where
           low = λ h. let u = up h (leb-true _ _ e) in omega (arith, u);
           high = k.high;
           room = k.room;
-          before = λ q. ap (λ (n : ℕ). (get_or cs n nowhere).direction) one_less;
+          before = ap (last_of cs) (sym (add-one s.mid));
           behind = k.behind;
         })
           where
-            to : halved_of s mid f ≡ search_of (s.mid + 1) s.hi mid.direction s.next
-            to = ap (λ (t : Bool). cond t (search_of (s.mid + 1) s.hi mid.direction s.next)
+            to : halved_of s mid f ≡ search_of (s.mid + 1) s.hi (Some mid.direction) s.next
+            to = ap (λ (t : Bool). cond t (search_of (s.mid + 1) s.hi (Some mid.direction) s.next)
                 (search_of s.lo s.mid s.direction mid.frame)) e
         by_test false e c = subst (Halving cs f) (sym to) (record {
           middle = refl;
@@ -314,7 +311,7 @@ module _ (cs : List Cue) (f : ℕ) where
         })
           where
             to : halved_of s mid f ≡ search_of s.lo s.mid s.direction mid.frame
-            to = ap (λ (t : Bool). cond t (search_of (s.mid + 1) s.hi mid.direction s.next)
+            to = ap (λ (t : Bool). cond t (search_of (s.mid + 1) s.hi (Some mid.direction) s.next)
                 (search_of s.lo s.mid s.direction mid.frame)) e
 
   -- at the end the count is known, and so the cue that holds, and the next
@@ -324,16 +321,6 @@ module _ (cs : List Cue) (f : ℕ) where
 
     ends : s.hi ≡ s.lo
     ends = let a = k.low h in let b = k.high in omega (arith, over, a, b)
-
-    voice_is : (n : ℕ) → n ≡ s.lo → cond (ltb 0 n) (speaking s.direction) nobody ≡ last_of cs n
-    voice_is zero e = refl
-    voice_is (suc n) e = ap (λ (t : Bool). cond t (speaking s.direction) nobody) (lt-ltb 0 (suc n) (omega arith))
-        ∙ ap speaking (k.before (subst (λ (m : ℕ). 0 < m) e (omega arith))
-        ∙ ap (λ (m : ℕ). (get_or cs (m - 1) nowhere).direction) (sym e)
-        ∙ ap (λ (m : ℕ). (get_or cs m nowhere).direction) one_less)
-      where
-        one_less : suc n - 1 ≡ n
-        one_less = omega arith
 
     -- the next cue, where there is one
     next_is : s.lo < length cs → s.next ≡ get_or fs (up_to fs f) 0
@@ -367,7 +354,7 @@ module _ (cs : List Cue) (f : ℕ) where
 
     halving_holds : FindWords cs f (held_of s (length cs) f)
     halving_holds = record {
-      voice = voice_is s.lo refl ∙ ap (last_of cs) count ∙ sym (voice_last cs f h);
+      voice = k.before ∙ ap (last_of cs) count ∙ sym (voice_last cs f h);
       until = ⊎_elim
           (λ (n : s.lo < length cs). left_next n ∙ ap (λ (m : ℕ). m - f) (next_is n)
           ∙ sym (until_at fs f

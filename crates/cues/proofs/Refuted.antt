@@ -1,5 +1,5 @@
 -- Wrong ways to judge a list and to find a cue, each held against the promise, whatever the cues. Assumes nothing.
-use Rattle.std.specs.Prelude.{◌≡◌, ◌&&◌, ◌∷◌, ◌+◌, ◌-◌, ◌≤◌, ◌<◌}
+use Rattle.std.specs.Prelude.{◌≡◌, ◌&&◌, ◌∷◌, ◌+◌, ◌-◌, ◌≤◌, ◌<◌, Some, None}
 use Rattle.lists.specs.Prelude.{refl, sym, ap, ◌∙◌, Bool, true, false, not, true≢false, cond, List, [], ℕ, arith}
 use Rattle.lists.specs.Prelude.{le-leb, lt-leb, lt-ltb, length, get_or}
 use Rattle.lists.specs.Tables.{any}
@@ -41,16 +41,15 @@ speaks nobody = false
 speaks (speaking d) = true
 
 -- it lets a cue hold from the frame after its own on
-silent_at_its_frame : (c : Cue) (d : Direction) (left : ℕ)
-    → FindPromise (c ∷ []) c.frame (record { speaks = false; direction = d; left = left }) → ⊥
-silent_at_its_frame c d left p =
+silent_at_its_frame : (c : Cue) (left : ℕ) → FindPromise (c ∷ []) c.frame (record { direction = None; left = left }) → ⊥
+silent_at_its_frame c left p =
     true≢false (sym
     (ap speaks ((p.words refl).voice ∙ ap (λ (t : Bool). cond t (speaking c.direction) nobody)
     (le-leb c.frame c.frame (omega arith)))))
 
 -- it lets the first cue hold before its frame
 speaks_before_the_first : (c : Cue) (f : ℕ) (d : Direction) (left : ℕ) → f < c.frame
-    → FindPromise (c ∷ []) f (record { speaks = true; direction = d; left = left }) → ⊥
+    → FindPromise (c ∷ []) f (record { direction = Some d; left = left }) → ⊥
 speaks_before_the_first c f d left l p = true≢false
     (ap speaks ((p.words refl).voice ∙ ap (λ (t : Bool). cond t (speaking c.direction) nobody)
     (lt-leb c.frame f l)))

@@ -1,6 +1,6 @@
 -- What the steps of the program hand to each other: a list judged cue by cue, and the search by halving. `Promise` ties
 -- the search to document 02's words. Definitions only.
-use Rattle.std.specs.Prelude.{◌+◌, ◌-◌, ◌/◌, ◌||◌}
+use Rattle.std.specs.Prelude.{◌+◌, ◌-◌, ◌/◌, ◌||◌, Option, Some, None}
 use Rattle.lists.specs.Prelude.{ℕ, zero, suc, Bool, false, not, cond, List, ltb, leb, eqb, length, get_or}
 use Rattle.harmonics.specs.declared.Direction.{Direction}
 use Rattle.harmonics.specs.Promise.{refuses_direction}
@@ -26,17 +26,17 @@ judged_on s c = record {
   good = good_on s.good c.direction;
 }
 
--- ---- the search: a part of the list from lo to before hi, its middle, the direction of the cue before it and the
--- frame of the cue behind it, or a number that no frame passes
+-- ---- the search: a part of the list from lo to before hi, its middle, the direction of the cue before it, where one
+-- stands there, and the frame of the cue behind it, or a number that no frame passes
 
-abbrev pub search_of : ℕ → ℕ → Direction → ℕ → Search
+abbrev pub search_of : ℕ → ℕ → Option Direction → ℕ → Search
 search_of lo hi d next = record { lo = lo; mid = lo + (hi - lo) / 2; hi = hi; direction = d; next = next }
 
 abbrev pub whole_of : ℕ → Search
-whole_of count = record { lo = 0; mid = count / 2; hi = count; direction = nowhere.direction; next = always }
+whole_of count = record { lo = 0; mid = count / 2; hi = count; direction = None; next = always }
 
 abbrev pub halved_of : Search → Cue → ℕ → Search
-halved_of s c f = cond (leb c.frame f) (search_of (s.mid + 1) s.hi c.direction s.next)
+halved_of s c f = cond (leb c.frame f) (search_of (s.mid + 1) s.hi (Some c.direction) s.next)
     (search_of s.lo s.mid s.direction c.frame)
 
 -- so many turns of it at most
@@ -48,7 +48,7 @@ abbrev pub left_of : ℕ → ℕ → ℕ → ℕ → ℕ
 left_of lo count next f = cond (leb count lo) always (next - f)
 
 abbrev pub held_of : Search → ℕ → ℕ → Held
-held_of s count f = record { speaks = ltb 0 s.lo; direction = s.direction; left = left_of s.lo count s.next f }
+held_of s count f = record { direction = s.direction; left = left_of s.lo count s.next f }
 
 -- what halving comes to, in a list that rises and in any other; as many turns as there are cues are enough, since each
 -- leaves a shorter part

@@ -1,7 +1,7 @@
 -- Document 02, E1: "a lent list of cues, each with a frame number and a direction. The direction at a frame is that of
 -- the last cue not after it, found by halving"; "11 a list whose frames don't rise strictly". Nothing here is of
 -- halving. Definitions only.
-use Rattle.std.specs.Prelude.{◌-◌, ◌^◌, ◌&&◌, ◌∷◌}
+use Rattle.std.specs.Prelude.{◌-◌, ◌^◌, ◌&&◌, ◌∷◌, Option, Some, None}
 use Rattle.lists.specs.Prelude.{ℕ, Bool, true, cond, List, [], ltb, leb}
 use Rattle.formats.specs.Floats.{zero_float}
 use Rattle.harmonics.specs.declared.Direction.{Direction}
@@ -30,6 +30,11 @@ rises (x ∷ xs) = rises_from x xs
 pub data Voice : Type 0 where
   nobody : Voice
   speaking : Direction → Voice
+
+-- of a direction, where there is one
+abbrev pub voice_from : Option Direction → Voice
+voice_from None = nobody
+voice_from (Some d) = speaking d
 
 -- the second, if there is one
 abbrev pub or_later : Voice → Voice → Voice

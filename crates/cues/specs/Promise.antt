@@ -1,12 +1,12 @@
 -- Document 02, E1: "The direction at a frame is that of the last cue not after it, found by halving". What a list is
 -- judged to be, and which cue holds at a frame, for how long. Definitions only.
 use Rattle.std.specs.Prelude.{◌+◌, ◌<◌, ◌≡◌, ◌∷◌}
-use Rattle.lists.specs.Prelude.{ℕ, true, not, cond, List, [], length}
+use Rattle.lists.specs.Prelude.{ℕ, true, not, List, [], length}
 use Rattle.lists.specs.Tables.{any}
 use Rattle.cues.specs.declared.Cue.{Cue}
 use Rattle.cues.specs.declared.Judgement.{Judgement}
 use Rattle.cues.specs.declared.Held.{Held}
-use Rattle.cues.specs.Cues.{numbers_of, refused_each, rises, Voice, nobody, speaking, voice_at, until_next}
+use Rattle.cues.specs.Cues.{numbers_of, refused_each, rises, Voice, voice_from, voice_at, until_next}
 use Rattle.cues.specs.Computed.{found_of}
 
 -- the last number of a list, or x where it has none
@@ -25,7 +25,7 @@ judgement_of cues = record {
 }
 
 abbrev pub voice_of : Held → Voice
-voice_of h = cond h.speaks (speaking h.direction) nobody
+voice_of h = voice_from h.direction
 
 -- document 02's voice at a frame, and how many frames there are up to the next cue: this one at least, and for all of
 -- them the voice stays

@@ -8,7 +8,7 @@
 // Both take any list. Halving finds the last cue not after a frame only where the frames rise; what it finds
 // in another list is promised too (specs/Promise.antt), and `script` refuses such a list.
 //
-// `cue_at` alone reads the list; what `judged` and `holding` compute is in the functions that they call.
+// `judged` and `holding` read the list; what they compute is in the functions that they call.
 #![tactic(auto)]
 
 ghost use Rattle.std.specs.Prelude.{◌≡◌, ◌+◌, ◌^◌, ◌≤◌, ◌<◌, length, get_or};
@@ -23,7 +23,7 @@ pub struct Cue {
     pub direction: harmonics::Direction,
 }
 
-// A whole cue: the one function that reads the list.
+// A whole cue.
 fn cue_at(cues: &[Cue], i: usize) -> Cue
     requires { i < length cues.now }
     ensures { result ≡ get_or cues.now i nowhere }
@@ -44,22 +44,13 @@ pub struct Judgement {
 fn rises_on(seen: usize, last: u64, rising: bool, frame: u64) -> bool
     ensures { result ≡ rises_on seen last rising frame }
 {
-    if !rising {
-        return false;
-    }
-    if seen == 0 {
-        return true;
-    }
-    last < frame
+    rising && (seen == 0 || last < frame)
 }
 
 fn good_on(good: bool, direction: harmonics::Direction) -> bool
     ensures { result ≡ good_on good direction }
 {
-    if !good {
-        return false;
-    }
-    !harmonics::refuses_direction(direction)
+    good && !harmonics::refuses_direction(direction)
 }
 
 // One cue further.
@@ -90,35 +81,31 @@ pub fn judged(cues: &[Cue]) -> Judgement
         rising: true,
         good: true,
     };
-    while s.seen < cues.len() {
-        s = judged_on(s, cue_at(cues, s.seen));
+    for cue in cues {
+        s = judged_on(s, *cue);
     }
     s
 }
 
-// The part of the list that is still searched and its middle, the direction of the cue before the part, and
-// the frame of the cue behind it, the largest there is where no cue stands behind it.
+// The part of the list that is still searched and its middle, the direction of the cue before the part, where
+// one stands there, and the frame of the cue behind it, the largest there is where none stands behind it.
 #[derive(Clone, Copy)]
 struct Search {
     lo: usize,
     mid: usize,
     hi: usize,
-    direction: harmonics::Direction,
+    direction: Option<harmonics::Direction>,
     next: u64,
 }
 
 fn whole_of(count: usize) -> Search
     ensures { result ≡ whole_of count }
 {
-    let front = harmonics::Direction {
-        azimuth: 0.0,
-        elevation: 0.0,
-    };
     Search {
         lo: 0,
         mid: count / 2,
         hi: count,
-        direction: front,
+        direction: None,
         next: u64::MAX,
     }
 }
@@ -128,35 +115,28 @@ fn halved(s: Search, cue: Cue, frame: u64) -> Search
     requires { (s.lo ≤ s.mid) × (s.mid < s.hi) }
     ensures { result ≡ halved_of s cue frame }
 {
-    let lo = s.lo;
     let mid = s.mid;
-    let hi = s.hi;
-    let at = cue.frame;
-    if at <= frame {
-        let direction = cue.direction;
+    if cue.frame <= frame {
         return Search {
             lo: mid + 1,
-            mid: mid + 1 + (hi - (mid + 1)) / 2,
-            hi: hi,
-            direction: direction,
-            next: s.next,
+            mid: mid + 1 + (s.hi - (mid + 1)) / 2,
+            direction: Some(cue.direction),
+            ..s
         };
     }
-    let direction = s.direction;
     Search {
-        lo: lo,
-        mid: lo + (mid - lo) / 2,
+        mid: s.lo + (mid - s.lo) / 2,
         hi: mid,
-        direction: direction,
-        next: at,
+        next: cue.frame,
+        ..s
     }
 }
 
-// Whether a cue holds at a frame, its direction, and for how many frames from this one on nothing changes.
+// The direction of the cue that holds at a frame, if one does, and for how many frames from this one on nothing
+// changes.
 #[derive(Clone, Copy)]
 pub struct Held {
-    pub speaks: bool,
-    pub direction: harmonics::Direction,
+    pub direction: Option<harmonics::Direction>,
     pub left: u64,
 }
 
@@ -175,17 +155,14 @@ fn held_of(s: Search, count: usize, frame: u64) -> Held
     requires { frame ≤ s.next }
     ensures { result ≡ held_of s count frame }
 {
-    let lo = s.lo;
-    let direction = s.direction;
-    let left = left_of(lo, count, s.next, frame);
     Held {
-        speaks: 0 < lo,
-        direction: direction,
-        left: left,
+        direction: s.direction,
+        left: left_of(s.lo, count, s.next, frame),
     }
 }
 
 // Finds the last cue not after a frame, by halving.
+// Kept: `partition_point` says nothing of a list that does not rise, and the promise holds of every list.
 pub fn holding(cues: &[Cue], frame: u64) -> Held
     ensures { FindPromise cues.now frame result }
 {

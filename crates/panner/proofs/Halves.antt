@@ -5,14 +5,13 @@ use Rattle.refusals.specs.Refusals.{first_of}
 use Rattle.refusals.proofs.First.{answered_accepted, answered_refused, answered_number}
 use Rattle.channel.specs.declared.Layout.{Layout}
 use Rattle.panner.specs.declared.Command.{Command}
-use Rattle.panner.specs.declared.CommandGains.{CommandGains}
 use Rattle.panner.specs.Commands.{command_checks}
-use Rattle.panner.specs.Halves.{gains_played, refused_gains, CommandGainsPromise}
+use Rattle.panner.specs.Halves.{GainsAnswer, gains_played, refused_gains, CommandGainsPromise}
 
-module _ (c : Command) (l : Layout) (g : CommandGains) (G : CommandGainsPromise c l g) where
+module _ (c : Command) (l : Layout) (g : GainsAnswer) (G : CommandGainsPromise c l g) where
   pub gained_number : g.refusal ≡ first_of (command_checks c l)
-  gained_number = ap (λ (r : CommandGains). r.refusal) G.bits
-      ∙ answered_number (gains_played c l) refused_gains (λ (r : CommandGains). r.refusal) refl
+  gained_number = ap (λ (r : GainsAnswer). r.refusal) G.bits
+      ∙ answered_number (gains_played c l) refused_gains (λ (r : GainsAnswer). r.refusal) refl
       (first_of (command_checks c l))
       refl
 

@@ -11,20 +11,18 @@ use Rattle.channel.specs.declared.Layout.{Layout}
 use Rattle.planes.specs.Planes.{sample_at, with_frames}
 use Rattle.planes.proofs.Blocks.{refused_with_lem, played_with}
 use Rattle.panner.specs.declared.Command.{Command}
-use Rattle.panner.specs.declared.Commanded.{Commanded}
-use Rattle.panner.specs.declared.CommandGains.{CommandGains}
 use Rattle.panner.specs.Commands.{command_checks, gains_of_command}
 use Rattle.panner.specs.Blocks.{PannedShape, panner_unfit, most_frames, planes_in, block_checks, refusal_of}
 use Rattle.panner.specs.Blocks.{narrowed_all}
 use Rattle.panner.specs.Blocks.{panned, frames_panned}
-use Rattle.panner.specs.Halves.{panned_part, gains_played, refused_gains, CommandGainsPromise}
+use Rattle.panner.specs.Halves.{GainsAnswer, panned_part, gains_played, refused_gains, CommandGainsPromise}
 use Rattle.panner.specs.Promise.{answer_of, PannerPromise}
-use Rattle.panner.specs.Computed.{command_refusal, CommandComputed}
+use Rattle.panner.specs.Computed.{CommandAnswer, command_refusal, CommandComputed}
 use Rattle.panner.proofs.Gains.{planes_most}
 use Rattle.panner.proofs.Halves.{gained_number, gained_accepted}
 
 -- ---- what a command plays
-module _ (c : Command) (l : Layout) (g : Commanded) (G : CommandComputed c l g) where
+module _ (c : Command) (l : Layout) (g : CommandAnswer) (G : CommandComputed c l g) where
   pub gives_refused : (g.refusal ≡ 0 → ⊥) → CommandGainsPromise c l (refused_gains g.refusal)
   gives_refused h = record {
     bits = ap refused_gains G.refusal
@@ -55,7 +53,7 @@ module _ (s : PannedShape) (input out : List Float) where
     words = λ k. absurd (h (sym e ∙ k));
   }
 
-  module _ (g : CommandGains) (G : CommandGainsPromise s.command s.layout g) where
+  module _ (g : GainsAnswer) (G : CommandGainsPromise s.command s.layout g) where
     abbrev first : List Check
     first = command_checks s.command s.layout
 
@@ -81,7 +79,7 @@ module _ (s : PannedShape) (input out : List Float) where
       misfit_is : panner_unfit (length input) (length out) g.planes s.stride s.frames ≡ panner_unfit
           (length input)
           (length out) (planes_in s) s.stride s.frames
-      misfit_is = ap (λ (r : CommandGains). panner_unfit (length input) (length out) r.planes s.stride s.frames)
+      misfit_is = ap (λ (r : GainsAnswer). panner_unfit (length input) (length out) r.planes s.stride s.frames)
           gains_are
 
       pub by_length : panner_unfit (length input) (length out) g.planes s.stride s.frames ≡ true
@@ -101,7 +99,7 @@ module _ (s : PannedShape) (input out : List Float) where
             let off = none_holds first tt accepted in
             let most = planes_most s.command s.layout off.0 off.1.0 in
             let few : min (planes_in s) 16 ≡ planes_in s = omega (arith, most) in
-            ap (λ (r : CommandGains). with_frames out s.stride 0
+            ap (λ (r : GainsAnswer). with_frames out s.stride 0
             (panned_part s.stride 0 s.frames (min r.planes 16) r.gains input)) gains_are
             ∙ (λ i. with_frames out s.stride 0
             (tab 0 (sub-zero s.frames i)

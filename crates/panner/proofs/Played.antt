@@ -12,12 +12,11 @@ use Rattle.planes.specs.Planes.{sample_at, with_frames}
 use Rattle.checks.proofs.Checks.{or_off, fitted}
 use Rattle.planes.proofs.Planes.{with_frames_at, with_frames_other}
 use Rattle.lists.proofs.Tables.{length_tab, get_or_table}
-use Rattle.panner.specs.declared.Panned.{Panned}
 use Rattle.panner.specs.Commands.{command_checks, gains_of_command}
 use Rattle.panner.specs.Blocks.{PannedShape, most_frames, planes_in, block_checks, refusal_of, narrowed_all, panned}
 use Rattle.panner.specs.Blocks.{frames_panned}
 use Rattle.planes.proofs.Blocks.{block_refused, block_accepted, block_refusal}
-use Rattle.panner.specs.Promise.{answer_of, PannedBlock, PannerPromise}
+use Rattle.panner.specs.Promise.{Panned, answer_of, PannedBlock, PannerPromise}
 use Rattle.panner.proofs.Gains.{planes_most}
 
 module _ (s : PannedShape) (input out : List Float) (answer : Panned) (after : List Float)

@@ -11,16 +11,15 @@ use Rattle.planes.specs.Planes.{sample_at, with_frames}
 use Rattle.planes.proofs.Planes.{with_frames_other}
 use Rattle.channel.specs.declared.Layout.{Layout}
 use Rattle.channel.specs.declared.Layout.TheVariants.{Mono, Custom}
-use Rattle.stereo.specs.declared.StereoGains.{StereoGains}
+use Rattle.stereo.specs.Promise.{StereoAnswer}
 use Rattle.stereo.proofs.Drill.{at_minus_100}
 use Rattle.harmonics.specs.declared.Direction.{Direction}
 use Rattle.panner.specs.declared.Command.{Command}
 use Rattle.panner.specs.declared.Command.TheVariants.{Stereo, Ambisonic}
-use Rattle.panner.specs.declared.CommandGains.{CommandGains}
 use Rattle.panner.specs.Commands.{command_checks}
 use Rattle.panner.specs.Blocks.{PannedShape, most_frames}
 use Rattle.panner.specs.Promise.{PannerPromise}
-use Rattle.panner.specs.Halves.{CommandGainsPromise, panned_part}
+use Rattle.panner.specs.Halves.{GainsAnswer, CommandGainsPromise, panned_part}
 use Rattle.panner.proofs.Halves.{gained_number, gained_accepted, gained_refused}
 use Rattle.panner.proofs.Played.{refusal_is, all_counted, frames_most, every_frame}
 
@@ -74,7 +73,7 @@ second_left : (after : List Float) → PannerPromise two_frames ones zeros (reco
 unfolding rounded round mul of_int
 second_left after p =
     ap positive (every_frame two_frames ones zeros (record { refusal = 0; samples = 2 }) after p refl 1 0 (lit< tt)
-    (lit< tt) ∙ ap (λ (g : StereoGains). mul binary32 one (narrowed g.left)) at_minus_100)
+    (lit< tt) ∙ ap (λ (g : StereoAnswer). mul binary32 one (narrowed g.left)) at_minus_100)
 
 -- it stops early, and keeps the tail that was there
 stops_early : PannerPromise two_frames ones zeros (record { refusal = 0; samples = 2 })
@@ -86,10 +85,10 @@ silent : PannerPromise two_frames ones zeros (record { refusal = 0; samples = 2 
 silent p = true≢false (sym (second_left _ p))
 
 -- ---- a command that is refused is given planes
-planes_though_refused : (c : Command) (l : Layout) (answer : CommandGains) → (first_of (command_checks c l) ≡ 0 → ⊥)
+planes_though_refused : (c : Command) (l : Layout) (answer : GainsAnswer) → (first_of (command_checks c l) ≡ 0 → ⊥)
     → CommandGainsPromise c l answer → (answer.planes ≡ 0 → ⊥) → ⊥
 planes_though_refused c l answer refused p other =
-    other (ap (λ (r : CommandGains). r.planes) (gained_refused c l answer p refused))
+    other (ap (λ (r : GainsAnswer). r.planes) (gained_refused c l answer p refused))
 
 -- ---- the left gain of a command stands in the second place: at -100 the first plane has it
 left_in_the_second_place : (gs : List Float) → CommandGainsPromise (Stereo (float (negsuc 99))) Mono
@@ -97,11 +96,11 @@ left_in_the_second_place : (gs : List Float) → CommandGainsPromise (Stereo (fl
 unfolding rounded round of_int
 left_in_the_second_place gs p =
     let c = Stereo (float (negsuc 99)) in
-    let g : CommandGains = record { refusal = 0; planes = 2; gains = zero_float ∷ gs } in
+    let g : GainsAnswer = record { refusal = 0; planes = 2; gains = zero_float ∷ gs } in
     true≢false
-    (sym (ap (λ (r : CommandGains). positive (get_or r.gains 0 zero_float))
+    (sym (ap (λ (r : GainsAnswer). positive (get_or r.gains 0 zero_float))
     (gained_accepted c Mono g p (sym (gained_number c Mono g p)))
-    ∙ ap (λ (r : StereoGains). positive (narrowed r.left)) at_minus_100))
+    ∙ ap (λ (r : StereoAnswer). positive (narrowed r.left)) at_minus_100))
 
 -- ---- a part plays frames before its first
 frame_before_the_part : (out after : List Float) (stride from to planes : ℕ) (gains input : List Float)

@@ -3,10 +3,12 @@
 use Rattle.std.specs.Prelude.{◌≡◌}
 use Rattle.lists.specs.Prelude.{ℕ, List, length, Float}
 use Rattle.planes.specs.Blocks as Blocks
-use Rattle.planes.specs.Blocks.{block_of}
-use Rattle.panner.specs.declared.Panned.{Panned}
+use Rattle.planes.specs.Blocks.{block_of, Played}
 use Rattle.panner.specs.Commands.{gains_of_command, GainsPromised}
 use Rattle.panner.specs.Blocks.{PannedShape, refusal_of, frames_panned}
+
+abbrev pub Panned : Type 0
+Panned = Played
 
 abbrev pub answer_of : ℕ → ℕ → Panned
 answer_of refusal samples = record { refusal = refusal; samples = samples }

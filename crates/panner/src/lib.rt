@@ -15,11 +15,14 @@
 
 ghost use Rattle.std.specs.Prelude.{◌≡◌, ◌≤◌, min};
 ghost use Rattle.planes.specs.Planes.{with_frame, with_frames};
+ghost use Rattle.planes.specs.Blocks.{played};
 ghost use Rattle.panner.specs.declared.Command.{Command};
 ghost use Rattle.panner.specs.Blocks.{panned, narrowed_all};
-ghost use Rattle.panner.specs.Halves.{panned_part, CommandGainsPromise};
-ghost use Rattle.panner.specs.Computed.{CommandComputed, is_bad_layout};
+ghost use Rattle.panner.specs.Halves.{panned_part, gained, CommandGainsPromise};
+ghost use Rattle.panner.specs.Computed.{commanded, CommandComputed};
 ghost use Rattle.panner.specs.Promise.{PannerPromise};
+
+use refusals::Refusal;
 
 #[derive(Clone, Copy)]
 pub enum Command {
@@ -28,17 +31,9 @@ pub enum Command {
     Ambisonic(harmonics::Direction, usize),
 }
 
-// The refusal, and how many frames were played.
-#[derive(Clone, Copy)]
-pub struct Panned {
-    pub refusal: u8,
-    pub samples: usize,
-}
-
-// What a command plays: the narrowed gains of so many planes, or its refusal.
+// What a command plays: the narrowed gains of so many planes.
 #[derive(Clone, Copy)]
 pub struct CommandGains {
-    pub refusal: u8,
     pub planes: usize,
     pub gains: [f32; 16],
 }
@@ -46,93 +41,45 @@ pub struct CommandGains {
 // The same before the gains are narrowed.
 #[derive(Clone, Copy)]
 struct Commanded {
-    refusal: u8,
     planes: usize,
     gains: [f64; 16],
 }
 
-fn refused(refusal: u8) -> Commanded
-    ensures { result.refusal ≡ refusal }
+// A layout that has no channels, or too many, is refused, though it does not matter here.
+fn stereo_gains(layout: channel::Layout, position: f64) -> Result<Commanded, Refusal>
+    ensures { CommandComputed (Command.Stereo position) layout (commanded result) }
 {
-    Commanded {
-        refusal: refusal,
-        planes: 0,
-        gains: [0.0; 16],
-    }
-}
-
-// Whether a layout is a Custom of 0 or above 16.
-fn is_bad_layout(layout: channel::Layout) -> bool
-    ensures { result ≡ is_bad_layout layout }
-{
-    let counted = channel::channel_count(layout);
-    counted.refusal != 0
-}
-
-fn stereo_gains(layout: channel::Layout, position: f64) -> Commanded
-    ensures { CommandComputed (Command.Stereo position) layout result }
-{
-    if is_bad_layout(layout) {
-        return refused(2);
-    }
-    let stereo = stereo::calculate_stereo_gains(position);
-    if stereo.refusal != 0 {
-        return refused(3);
-    }
+    channel::channel_count(layout)?;
+    let stereo = stereo::calculate_stereo_gains(position)?;
     let mut gains = [0.0; 16];
     gains[0] = stereo.left;
     gains[1] = stereo.right;
-    Commanded {
-        refusal: 0,
-        planes: 2,
-        gains: gains,
-    }
+    Ok(Commanded { planes: 2, gains })
 }
 
-fn surround_gains(layout: channel::Layout, azimuth: f64) -> Commanded
-    ensures { CommandComputed (Command.Surround azimuth) layout result }
+fn surround_gains(layout: channel::Layout, azimuth: f64) -> Result<Commanded, Refusal>
+    ensures { CommandComputed (Command.Surround azimuth) layout (commanded result) }
 {
-    let surround = surround::calculate_vbap_gains(layout, azimuth);
-    if surround.refusal != 0 {
-        return refused(surround.refusal);
-    }
-    let counted = channel::channel_count(layout);
-    let gains = surround.gains;
-    Commanded {
-        refusal: 0,
-        planes: counted.channels,
-        gains: gains,
-    }
+    let planes = channel::channel_count(layout)?;
+    let gains = surround::calculate_vbap_gains(layout, azimuth)?;
+    Ok(Commanded { planes, gains })
 }
 
 fn ambisonic_gains(
     layout: channel::Layout,
     direction: harmonics::Direction,
     order: usize,
-) -> Commanded
-    ensures { CommandComputed (Command.Ambisonic direction order) layout result }
+) -> Result<Commanded, Refusal>
+    ensures { CommandComputed (Command.Ambisonic direction order) layout (commanded result) }
 {
-    let ambisonic = channel::ambisonic_channel_count(order);
-    if ambisonic.refusal != 0 {
-        return refused(1);
-    }
-    if is_bad_layout(layout) {
-        return refused(2);
-    }
-    let coefficients = harmonics::compute_sh_coefficients(order, direction);
-    if coefficients.refusal != 0 {
-        return refused(3);
-    }
-    let gains = coefficients.gains;
-    Commanded {
-        refusal: 0,
-        planes: ambisonic.channels,
-        gains: gains,
-    }
+    let planes = channel::ambisonic_channel_count(order)?;
+    channel::channel_count(layout)?;
+    let gains = harmonics::compute_sh_coefficients(order, direction)?;
+    Ok(Commanded { planes, gains })
 }
 
-fn gains_of(command: Command, layout: channel::Layout) -> Commanded
-    ensures { CommandComputed command layout result }
+fn gains_of(command: Command, layout: channel::Layout) -> Result<Commanded, Refusal>
+    ensures { CommandComputed command layout (commanded result) }
 {
     match command {
         Command::Stereo(position) => stereo_gains(layout, position),
@@ -144,13 +91,7 @@ fn gains_of(command: Command, layout: channel::Layout) -> Commanded
 fn narrowed(gains: [f64; 16]) -> [f32; 16]
     ensures { result ≡ narrowed_all gains }
 {
-    let mut narrow = [0.0f32; 16];
-    let mut p = 0;
-    while p < 16 {
-        narrow[p] = numbers::narrow(gains[p]);
-        p += 1;
-    }
-    narrow
+    gains.map(|gain| numbers::narrow(gain))
 }
 
 // Plays one sample to a frame of the output planes.
@@ -158,31 +99,19 @@ fn pan(out: &mut [f32], stride: usize, frame: usize, planes: usize, gains: [f32;
     requires { planes ≤ 16 }
     ensures { out.new ≡ with_frame out.old stride frame (panned planes gains x) }
 {
-    let mut p = 0;
-    while p < planes {
-        planes::put_sample(out, stride, p, frame, x * gains[p]);
-        p += 1;
+    for (p, gain) in gains[..planes].iter().enumerate() {
+        planes::put_sample(out, stride, p, frame, x * gain);
     }
 }
 
-// What a command plays beside a layout; one that is refused plays to no plane.
-pub fn command_gains(command: Command, layout: channel::Layout) -> CommandGains
-    ensures { CommandGainsPromise command layout result }
+// What a command plays beside a layout.
+pub fn command_gains(command: Command, layout: channel::Layout) -> Result<CommandGains, Refusal>
+    ensures { CommandGainsPromise command layout (gained result) }
 {
-    let commanded = gains_of(command, layout);
-    if commanded.refusal != 0 {
-        return CommandGains {
-            refusal: commanded.refusal,
-            planes: 0,
-            gains: [0.0f32; 16],
-        };
-    }
-    let gains = commanded.gains;
-    CommandGains {
-        refusal: 0,
-        planes: commanded.planes,
-        gains: narrowed(gains),
-    }
+    let commanded = gains_of(command, layout)?;
+    let planes = commanded.planes;
+    let gains = narrowed(commanded.gains);
+    Ok(CommandGains { planes, gains })
 }
 
 // Plays the frames from one to before another, to sixteen planes at most.
@@ -199,8 +128,7 @@ pub fn play_part(
         (panned_part stride from to (min planes 16) gains input.now) }
 {
     let few = checks::min(planes, 16);
-    let mut n = from;
-    while n < to {
+    for n in from..to {
         pan(
             out,
             stride,
@@ -209,7 +137,6 @@ pub fn play_part(
             gains,
             planes::sample(input, stride, 0, n),
         );
-        n += 1;
     }
 }
 
@@ -221,33 +148,17 @@ pub fn process(
     stride: usize,
     input: &[f32],
     out: &mut [f32],
-) -> Panned
+) -> Result<usize, Refusal>
     ensures { PannerPromise (record { command = command; layout = layout; frames = frames; stride = stride })
-        input.now out.old result out.new }
+        input.now out.old (played result) out.new }
 {
-    let played = command_gains(command, layout);
-    if played.refusal != 0 {
-        return Panned {
-            refusal: played.refusal,
-            samples: 0,
-        };
-    }
+    let played = command_gains(command, layout)?;
     if checks::is_block_unfit(input.len(), 1, out.len(), played.planes, stride, frames) {
-        return Panned {
-            refusal: 5,
-            samples: 0,
-        };
+        return Err(Refusal::Misfit);
     }
     if 4096 < frames {
-        return Panned {
-            refusal: 6,
-            samples: 0,
-        };
+        return Err(Refusal::Frames);
     }
-    let gains = played.gains;
-    play_part(out, stride, 0, frames, played.planes, gains, input);
-    Panned {
-        refusal: 0,
-        samples: frames,
-    }
+    play_part(out, stride, 0, frames, played.planes, played.gains, input);
+    Ok(frames)
 }

@@ -18,10 +18,9 @@ use Rattle.panner.specs.Blocks.{panner_unfit}
 use Rattle.planes.proofs.Framing.{Parting, parting_all}
 use Rattle.cues.specs.declared.Cue.{Cue}
 use Rattle.cues.specs.declared.Judgement.{Judgement}
-use Rattle.script.specs.declared.Rendered.{Rendered}
 use Rattle.cues.specs.Cues.{numbers_of, refused_each, rises, voice_at}
 use Rattle.script.specs.Rendering.{Stretch, runs_past, checks_of, refusal_of, spoken, rendered, samples_of, played_of}
-use Rattle.script.specs.Promise.{answer_of, rendered_block, AllPromised, RenderPromise}
+use Rattle.script.specs.Promise.{Rendered, answer_of, rendered_block, AllPromised, RenderPromise}
 use Rattle.cues.specs.Promise.{judgement_of}
 use Rattle.script.specs.Computed.{refusal_by, answer_by}
 

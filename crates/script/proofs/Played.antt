@@ -18,10 +18,9 @@ use Rattle.planes.proofs.Planes.{with_frames_at, with_frames_other, frames_read}
 use Rattle.planes.proofs.Blocks.{block_refused, block_accepted, block_refusal}
 use Rattle.panner.specs.Blocks.{panner_unfit}
 use Rattle.cues.specs.declared.Cue.{Cue}
-use Rattle.script.specs.declared.Rendered.{Rendered}
 use Rattle.cues.specs.Cues.{Voice, nobody, speaking, numbers_of, refused_each, rises, or_later, voice_at}
 use Rattle.script.specs.Rendering.{Stretch, runs_past, most_cues, checks_of, refusal_of, spoken, played_of}
-use Rattle.script.specs.Promise.{answer_of, RenderedBlock, rendered_block, RenderPromise}
+use Rattle.script.specs.Promise.{Rendered, answer_of, RenderedBlock, rendered_block, RenderPromise}
 use Rattle.script.specs.DrillScript.{Before}
 use Rattle.cues.proofs.Halving.{none_left}
 use Rattle.script.proofs.Meets.{frame_of, played_is}

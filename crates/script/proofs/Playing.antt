@@ -1,7 +1,7 @@
 -- A turn of `render`: what it asks of the functions that it calls, and that what it leaves is a stretch of which a
 -- segment more is played. Assumes nothing.
 use Rattle.std.specs.Prelude.{◌≡◌, ◌+◌, ◌-◌, ◌^◌, ◌≤◌, ◌<◌}
-use Rattle.lists.specs.Prelude.{sym, ap, ◌∙◌, subst, Bool, true, cond, List, ℕ, min, arith, length, Float}
+use Rattle.lists.specs.Prelude.{sym, ap, ◌∙◌, subst, true, List, ℕ, min, arith, length, Float}
 use Rattle.lists.proofs.Tables.{tab_from}
 use Rattle.planes.specs.Planes.{sample_at, with_frames}
 use Rattle.planes.proofs.Framing.{Parting, parting_part}
@@ -9,8 +9,8 @@ use Rattle.cues.specs.declared.Cue.{Cue}
 use Rattle.cues.specs.declared.Held.{Held}
 use Rattle.cues.specs.declared.Judgement.{Judgement}
 use Rattle.cues.proofs.Cues.{Good, voice_good}
-use Rattle.script.specs.declared.Rendered.{Rendered}
-use Rattle.cues.specs.Cues.{Voice, nobody, speaking, numbers_of, rises, voice_at}
+use Rattle.cues.specs.Cues.{Voice, voice_from, numbers_of, rises, voice_at}
+use Rattle.script.specs.Promise.{Rendered}
 use Rattle.script.specs.Rendering.{Stretch, refusal_of, spoken}
 use Rattle.cues.specs.Promise.{judgement_of, voice_of, FindWords, FindPromise}
 use Rattle.script.specs.Computed.{Speakable, Spoken, answer_by}
@@ -40,8 +40,7 @@ module _ (s : Stretch) (cues : List Cue) (input out : List Float) (j : Judgement
       omega (arith, less),
       record {
         order_good = good_order s cues input out j J answer e accepted;
-        direction_good = λ on. subst Good
-            (sym H.voice ∙ ap (λ (t : Bool). cond t (speaking h.direction) nobody) on)
+        direction_good = λ d on. subst Good (sym H.voice ∙ ap voice_from on)
             (voice_good cues f (none_refused s cues input out j J answer e accepted));
       },
     )

@@ -9,9 +9,8 @@ use Rattle.planes.specs.Planes.{sample_at}
 use Rattle.harmonics.specs.Drill.{at}
 use Rattle.cues.specs.declared.Cue.{Cue}
 use Rattle.cues.specs.Cues.{voice_at}
-use Rattle.script.specs.declared.Rendered.{Rendered}
 use Rattle.script.specs.Rendering.{Stretch, spoken}
-use Rattle.script.specs.Promise.{RenderPromise}
+use Rattle.script.specs.Promise.{Rendered, RenderPromise}
 use Rattle.script.proofs.Played.{refusal_is, refused_unchanged, all_counted, every_frame, before_the_first}
 use Rattle.script.proofs.Worked.{cue, cues, samples, worked, asked, level, wrong, equal_frames, level_257}
 use Rattle.script.proofs.Worked.{unreached}

@@ -1,7 +1,8 @@
 -- No two answers meet the promise. Assumes nothing.
-use Rattle.lists.specs.Prelude.{refl}
+use Rattle.lists.specs.Prelude.{refl, sym, ap, ◌∙◌}
 use Rattle.lists.specs.OneAnswer.{AllowsOneAnswer, States}
-use Rattle.lists.proofs.Determined.{determined_by}
+use Rattle.planes.proofs.Played.{played_apart}
+use Rattle.script.specs.Promise.{RenderedBlock}
 use Rattle.script.specs.contracts.render
 
 -- what `render` ensures
@@ -11,4 +12,8 @@ render_states = record { claim = _; stated = λ w κs a r e. refl }
 
 -- the answer and what the output planes hold
 pub render_unique : AllowsOneAnswer render.ended render_states.claim
-render_unique κs a = determined_by (λ z h i. ((h.bits i).answer, (_, (_, (_, (_, (_, (_, ((h.bits i).out, _)))))))))
+render_unique κs a x y p q =
+    let same = p.bits ∙ sym q.bits in λ i. (
+      played_apart x.0 y.0 (ap (λ (b : RenderedBlock). b.answer) same) i,
+      (_, (_, (_, (_, (_, (_, ((same i).out, _))))))),
+    )

@@ -12,9 +12,8 @@ use Rattle.panner.specs.declared.Command.TheVariants.{Ambisonic}
 use Rattle.panner.specs.Promise as Panner
 use Rattle.cues.specs.declared.Cue.{Cue}
 use Rattle.cues.specs.Cues.{speaking, numbers_of, refused_each, rises, voice_at, nowhere}
-use Rattle.script.specs.declared.Rendered.{Rendered}
 use Rattle.script.specs.Rendering.{Stretch, refusal_of, rendered}
-use Rattle.script.specs.Promise.{answer_of, RenderedBlock, rendered_block, RenderPromise}
+use Rattle.script.specs.Promise.{Rendered, answer_of, RenderedBlock, rendered_block, RenderPromise}
 use Rattle.script.specs.Stretches.{RenderCall, fed_all, sounded_all, Part, Cut, sounded_parts, samples_parts}
 
 -- the frame is before every cue of a list that rises

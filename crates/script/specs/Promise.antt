@@ -3,13 +3,15 @@
 use Rattle.std.specs.Prelude.{◌≡◌, ◌∷◌}
 use Rattle.lists.specs.Prelude.{ℕ, List, [], length, Float}
 use Rattle.planes.specs.Blocks as Blocks
-use Rattle.planes.specs.Blocks.{block_of}
+use Rattle.planes.specs.Blocks.{block_of, Played}
 use Rattle.channel.specs.declared.Layout.TheVariants.{Mono}
 use Rattle.panner.specs.declared.Command.TheVariants.{Ambisonic}
 use Rattle.panner.specs.Commands.{gains_of_command, GainsPromised}
 use Rattle.cues.specs.declared.Cue.{Cue}
-use Rattle.script.specs.declared.Rendered.{Rendered}
 use Rattle.script.specs.Rendering.{Stretch, refusal_of, played_of}
+
+abbrev pub Rendered : Type 0
+Rendered = Played
 
 abbrev pub answer_of : ℕ → ℕ → Rendered
 answer_of refusal samples = record { refusal = refusal; samples = samples }

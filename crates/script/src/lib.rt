@@ -10,22 +10,19 @@
 #![tactic(auto)]
 
 ghost use Rattle.std.specs.Prelude.{◌≡◌, ◌+◌, ◌^◌, ◌≤◌, ◌<◌, min, ltb};
+ghost use Rattle.refusals.specs.Numbers.{number_in};
 ghost use Rattle.planes.specs.Planes.{with_frame, with_frames};
+ghost use Rattle.planes.specs.Blocks.{played};
 ghost use Rattle.script.specs.Rendering.{silent, silent_part};
 ghost use Rattle.script.specs.Promise.{RenderPromise};
-ghost use Rattle.script.specs.Computed.{Speakable, Spoken, refusal_by, answer_by};
+ghost use Rattle.script.specs.Computed.{Speakable, Spoken, refusal_by};
+
+use refusals::Refusal;
 
 // As many as a panner block may have.
 const MOST_FRAMES: usize = 4096;
 
 const MOST_CUES: usize = 256;
-
-// The refusal, and how many frames were played.
-#[derive(Clone, Copy)]
-pub struct Rendered {
-    pub refusal: u8,
-    pub samples: usize,
-}
 
 fn frame_of(first: u64, done: usize) -> u64
     requires { first + done < 2 ^ 64 }
@@ -39,20 +36,15 @@ fn until(from: usize, frames: usize, left: u64) -> usize
     requires { from ≤ frames }
     ensures { result ≡ min (from + left) frames }
 {
-    if left < (frames - from) as u64 {
-        return from + left as usize;
-    }
-    frames
+    from + (left as usize).min(frames - from)
 }
 
 // Puts 0.0 in each plane of a frame.
 fn mute(out: &mut [f32], stride: usize, frame: usize, planes: usize)
     ensures { out.new ≡ with_frame out.old stride frame (silent planes) }
 {
-    let mut p = 0;
-    while p < planes {
+    for p in 0..planes {
         planes::put_sample(out, stride, p, frame, 0.0);
-        p += 1;
     }
 }
 
@@ -60,10 +52,8 @@ fn mute(out: &mut [f32], stride: usize, frame: usize, planes: usize)
 fn silence(out: &mut [f32], stride: usize, from: usize, to: usize, planes: usize)
     ensures { out.new ≡ with_frames out.old stride from (silent_part from to planes) }
 {
-    let mut n = from;
-    while n < to {
+    for n in from..to {
         mute(out, stride, n, planes);
-        n += 1;
     }
 }
 
@@ -82,18 +72,15 @@ fn speak(
         × (out.new ≡ with_frames out.old stride from
         (Spoken order held stride from result input.now)) }
 {
-    let speaks = held.speaks;
-    let direction = held.direction;
     let to = until(from, frames, held.left);
-    if speaks {
+    if let Some(direction) = held.direction {
         let command = panner::Command::Ambisonic(direction, order);
-        let played = panner::command_gains(command, channel::Layout::Mono);
-        let gains = played.gains;
-        panner::play_part(out, stride, from, to, played.planes, gains, input);
+        let played = panner::command_gains(command, channel::Layout::Mono).unwrap();
+        panner::play_part(out, stride, from, to, played.planes, played.gains, input);
         return to;
     }
-    let counted = channel::ambisonic_channel_count(order);
-    silence(out, stride, from, to, counted.channels);
+    let planes = channel::ambisonic_channel_count(order).unwrap();
+    silence(out, stride, from, to, planes);
     to
 }
 
@@ -107,7 +94,8 @@ fn runs_past(first: u64, frames: usize) -> bool
     u64::MAX - first < (frames - 1) as u64
 }
 
-fn refusal_of(
+// Refuses by the first test that holds, before anything is played.
+fn check(
     order: usize,
     judged: cues::Judgement,
     first: u64,
@@ -115,59 +103,30 @@ fn refusal_of(
     stride: usize,
     inputs: usize,
     outs: usize,
-) -> u8
-    ensures { result ≡ refusal_by (record { order = order; first = first; frames = frames; stride = stride }) judged
-        inputs outs }
+) -> Result<(), Refusal>
+    ensures { number_in result ≡ refusal_by (record { order = order; first = first; frames = frames; stride = stride })
+        judged inputs outs }
 {
-    let counted = channel::ambisonic_channel_count(order);
-    if counted.refusal != 0 {
-        return 1;
-    }
+    let channels = channel::ambisonic_channel_count(order)?;
     if !judged.good {
-        return 3;
+        return Err(Refusal::Angle);
     }
-    if checks::is_block_unfit(inputs, 1, outs, counted.channels, stride, frames) {
-        return 5;
+    if checks::is_block_unfit(inputs, 1, outs, channels, stride, frames) {
+        return Err(Refusal::Misfit);
     }
     if runs_past(first, frames) {
-        return 5;
+        return Err(Refusal::Misfit);
     }
     if MOST_FRAMES < frames {
-        return 6;
+        return Err(Refusal::Frames);
     }
     if !judged.rising {
-        return 11;
+        return Err(Refusal::CueOrder);
     }
     if MOST_CUES < judged.seen {
-        return 12;
+        return Err(Refusal::CueCount);
     }
-    0
-}
-
-// The answer, known before anything is played.
-fn answer_of(
-    order: usize,
-    judged: cues::Judgement,
-    first: u64,
-    frames: usize,
-    stride: usize,
-    inputs: usize,
-    outs: usize,
-) -> Rendered
-    ensures { result ≡ answer_by (record { order = order; first = first; frames = frames; stride = stride }) judged
-        inputs outs }
-{
-    let refusal = refusal_of(order, judged, first, frames, stride, inputs, outs);
-    if refusal != 0 {
-        return Rendered {
-            refusal: refusal,
-            samples: 0,
-        };
-    }
-    Rendered {
-        refusal: 0,
-        samples: frames,
-    }
+    Ok(())
 }
 
 // Plays a stretch of one input plane, from the frame `first` on, at the directions of the cues, or refuses it.
@@ -179,16 +138,17 @@ pub fn render(
     stride: usize,
     input: &[f32],
     out: &mut [f32],
-) -> Rendered
+) -> Result<usize, Refusal>
     ensures { RenderPromise (record { order = order; first = first; frames = frames; stride = stride })
-        cues.now input.now out.old result out.new }
+        cues.now input.now out.old (played result) out.new }
 {
-    let found = cues::judged(cues);
-    let answer = answer_of(order, found, first, frames, stride, input.len(), out.len());
+    let judged = cues::judged(cues);
+    check(order, judged, first, frames, stride, input.len(), out.len())?;
     let mut done = 0;
-    while done < answer.samples {
+    // Kept: a turn plays a segment of any length, so that the frames are no range to go through.
+    while done < frames {
         let held = cues::holding(cues, frame_of(first, done));
-        done = speak(&mut *out, stride, done, answer.samples, order, held, input);
+        done = speak(&mut *out, stride, done, frames, order, held, input);
     }
-    answer
+    Ok(frames)
 }

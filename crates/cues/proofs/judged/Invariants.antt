@@ -1,10 +1,6 @@
-use Rattle.std.specs.Prelude.{◌-◌}
-use Rattle.lists.specs.Prelude.{length}
+use Rattle.std.specs.Prelude.{◌≡◌}
 use Rattle.cues.proofs.Judging.{Judging}
 use Rattle.cues.proofs.judged.Given as goal
 
-abbrev pub invariant-loop-s : goal.invariant-loop-s
-invariant-loop-s l = Judging l.cues l.s
-
-abbrev pub decreases-loop-s : goal.decreases-loop-s
-decreases-loop-s l = length l.cues - l.s.seen
+abbrev pub invariant-loop-cue : goal.invariant-loop-cue
+invariant-loop-cue l = record { place : l.s.seen ≡ l.cue-index; so_far : Judging l.cues l.s }

@@ -1,15 +1,15 @@
--- `panner::narrowed` meets its contract: `Filling`. Assumes nothing.
-use Rattle.lists.specs.Prelude.{arith, lit≤}
-use Rattle.lists.proofs.Filling.{filling_none, filling_more, filling_whole}
+-- `panner::narrowed` meets its contract: what the map gives at each place. Assumes nothing.
+use Rattle.std.specs.Prelude.{◌≡◌}
+use Rattle.lists.specs.Prelude.{sym, ◌∙◌, arith, rules, ext_get_or, get_or, nan}
+use Rattle.numbers.specs.Computed.{narrowed}
+use Rattle.lists.proofs.Tables.{get_or_table}
 use Rattle.panner.proofs.narrowed.Goals as goal
 
-pub loop-p-init : goal.loop-p-init
-loop-p-init c = filling_none _ 16 _
-
-pub loop-p-preserved : goal.loop-p-preserved
-loop-p-preserved c =
-    let at = c.before.before.loop-p in
-    filling_more _ 16 _ at.narrow at.p _ at.invariant (omega arith) (lit≤ tt) c.narrow.ensures.bits
-
 pub returns : goal.returns
-returns c = search filling_whole
+returns c =
+    let m = c.map.ensures.items in
+    ext_get_or nan c.map.result _ (search (rules, m.long))
+    (λ i h.
+    let z = m.at i nan nan (omega (arith, m.long)) in
+    let e : get_or c.map.result i nan ≡ narrowed (get_or c.args.gains i nan) = search rules in
+    e ∙ sym (get_or_table 16 (λ k. narrowed (get_or c.args.gains k nan)) i nan (omega (arith, m.long))))

@@ -1,16 +1,14 @@
 -- `panner::pan` meets its contract: `planes`' `Sampling`. Assumes nothing.
-use Rattle.lists.specs.Prelude.{refl, get_or, nan, binary32, mul}
+use Rattle.std.specs.Prelude.{◌<◌}
+use Rattle.lists.specs.Prelude.{ap, arith, length-take, get_or, get_or-take, nan, Float, binary32, mul}
 use Rattle.planes.proofs.Framing.{sampling_more}
 use Rattle.panner.proofs.pan.Goals as goal
 
 pub loop-p-preserved : goal.loop-p-preserved
 loop-p-preserved c =
-    let at_put_sample = c.before.before in
-    let at_loop_test = at_put_sample.before.before in
-    let at_loop = at_loop_test.before in
-    let start = at_loop.before.before in
-    let a = start.args in
-    let at = at_loop.loop-p in
+    let a = c.args in
+    let at = c.loop-p in
+    let h : at.p < a.planes = omega (arith, c.loop-p-test.true, length-take {A = Float}) in
     sampling_more a.out.now a.stride a.frame a.planes (λ k. mul binary32 a.x (get_or a.gains k nan))
-    at.out at.p at.invariant _ at_put_sample.put_sample.new.xs
-    at_loop_test.loop-p-test.true refl at_put_sample.put_sample.ensures
+    at.out at.p at.invariant _ c.put_sample.new.xs h
+    (ap (mul binary32 a.x) (get_or-take a.planes a.gains at.p nan h)) c.put_sample.ensures

@@ -1,30 +1,22 @@
 -- `panner::stereo_gains` meets its contract: `Gains`. Assumes nothing.
-use Rattle.lists.specs.Prelude.{refl, sym, ◌∙◌, lit<, of_bits, of_int}
-use Rattle.panner.specs.declared.Command.TheVariants.{Stereo}
-use Rattle.panner.proofs.Gains.{refused, stereo_refused, stereo_accepted}
+use Rattle.lists.specs.Prelude.{refl, of_bits, of_int}
+use Rattle.std.proofs.lemmas.Result.{err_from_is_err_and}
+use Rattle.channel.proofs.Counts.{channels_accepted}
+use Rattle.panner.proofs.Gains.{stereo_by_layout, stereo_by_position, stereo_accepted}
 use Rattle.panner.proofs.stereo_gains.Goals as goal
 
-pub returns-then-stereo-ne0 : goal.returns-then-stereo-ne0
-returns-then-stereo-ne0 c =
-    let at_calculate_stereo_gains = c.before.before.before in
-    let at_if1 = at_calculate_stereo_gains.before in
-    let at_is_bad_layout = at_if1.before in
-    let start = at_is_bad_layout.before in
-    let a = start.args in
-    let r = c.refused-then-stereo-ne0 in
-    let s = at_calculate_stereo_gains.calculate_stereo_gains-stereo in
-    refused (Stereo a.position) a.layout r.result 3 (lit< tt) r.ensures
-    (stereo_refused a.layout a.position s.result s.ensures
-    (sym at_is_bad_layout.is_bad_layout.ensures ∙ at_if1.if-is_bad_layout.false) c.before.if-stereo-ne0.true)
+pub returns-in_err-channel_count : goal.returns-in_err-channel_count
+returns-in_err-channel_count c =
+    let p = err_from_is_err_and c.from_residual.result c.from_residual.ensures.1 in
+    rw (p.1, p.2) (stereo_by_layout c.args.layout c.args.position _ c.in_err-channel_count.ensures)
+
+pub returns-in_err-stereo : goal.returns-in_err-stereo
+returns-in_err-stereo c =
+    let p = err_from_is_err_and c.from_residual-in_err-stereo.result c.from_residual-in_err-stereo.ensures.1 in
+    rw (p.1, p.2) (stereo_by_position c.args.layout c.args.position _
+    (channels_accepted c.args.layout _ c.in_ok-channel_count.ensures refl).0 c.in_err-stereo.ensures)
 
 pub returns : goal.returns
 unfolding of_bits of_int
-returns c =
-    let at_calculate_stereo_gains = c.before.before in
-    let at_if1 = at_calculate_stereo_gains.before in
-    let at_is_bad_layout = at_if1.before in
-    let start = at_is_bad_layout.before in
-    let a = start.args in
-    let s = at_calculate_stereo_gains.calculate_stereo_gains-stereo in
-    stereo_accepted a.layout a.position s.result s.ensures _
-    (sym at_is_bad_layout.is_bad_layout.ensures ∙ at_if1.if-is_bad_layout.false) c.if-stereo-ne0.false refl
+returns c = stereo_accepted c.args.layout c.args.position _ c.in_ok-stereo.ensures _
+    (channels_accepted c.args.layout _ c.in_ok-channel_count.ensures refl).0 refl refl

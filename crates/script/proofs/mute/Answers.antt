@@ -7,12 +7,7 @@ use Rattle.script.proofs.mute.Goals as goal
 pub loop-p-preserved : goal.loop-p-preserved
 unfolding of_bits of_int
 loop-p-preserved c =
-    let at_put_sample = c.before.before in
-    let at_loop_test = at_put_sample.before.before in
-    let at_loop = at_loop_test.before in
-    let start = at_loop.before.before in
-    let a = start.args in
-    let at = at_loop.loop-p in
-    sampling_more a.out.now a.stride a.frame a.planes (λ k. zero_float) at.out at.p at.invariant _
-    at_put_sample.put_sample.new.xs
-    at_loop_test.loop-p-test.true refl at_put_sample.put_sample.ensures
+    let a = c.args in
+    let at = c.loop-p in
+    sampling_more a.out.now a.stride a.frame a.planes (λ k. zero_float) at.out at.p at.invariant _ c.put_sample.new.xs
+    c.loop-p-test.true refl c.put_sample.ensures

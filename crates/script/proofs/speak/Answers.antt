@@ -1,21 +1,22 @@
 -- `script::speak` meets its contract: `Segments`. Assumes nothing.
-use Rattle.lists.specs.Prelude.{ap, ◌∙◌, List, Float}
+use Rattle.std.specs.Prelude.{Result}
+use Rattle.lists.specs.Prelude.{ap, ◌∙◌, subst, List, Float}
+use Rattle.refusals.specs.declared.Refusal.{Refusal}
 use Rattle.planes.specs.Planes.{with_frames}
-use Rattle.script.proofs.Segments.{speaks_so, silent_so}
+use Rattle.channel.specs.declared.Layout.TheVariants.{Mono}
+use Rattle.panner.specs.declared.CommandGains.{CommandGains}
+use Rattle.panner.specs.declared.Command.TheVariants.{Ambisonic}
+use Rattle.panner.specs.Halves.{gained, CommandGainsPromise}
+use Rattle.script.proofs.Segments.{speaks_so}
 use Rattle.script.proofs.speak.Goals as goal
 
-pub returns-then-speaks : goal.returns-then-speaks
-returns-then-speaks c = (
-  c.until-to.ensures,
-  c.play_part.ensures ∙ ap (λ (fs : List (List Float)). with_frames c.args.out.now c.args.stride c.args.from fs)
-      (speaks_so c.args.order c.args.held c.requires.1 c.args.stride c.args.from c.until-to.result c.args.input.now
-      c.if-speaks.true c.command_gains-played.result c.command_gains-played.ensures),
-)
-
-pub returns : goal.returns
-returns c = (
-  c.until-to.ensures,
-  c.silence.ensures ∙ ap (λ (fs : List (List Float)). with_frames c.args.out.now c.args.stride c.args.from fs)
-      (silent_so c.args.order c.args.held c.requires.1 c.args.stride c.args.from c.until-to.result c.args.input.now
-      c.if-speaks.false c.ambisonic_channel_count-counted.result c.ambisonic_channel_count-counted.ensures),
-)
+pub returns-in-Some : goal.returns-in-Some
+returns-in-Some c =
+    let a = c.args in (
+      c.until-to.ensures,
+      c.play_part.ensures ∙ ap (λ (fs : List (List Float)). with_frames a.out.now a.stride a.from fs)
+          (speaks_so a.order a.held c.requires.1 c.in-Some.direction c.in-Some.is _
+          (subst (λ (r : Result CommandGains Refusal). CommandGainsPromise (Ambisonic c.in-Some.direction a.order) Mono
+          (gained r)) c.unwrap-played.ensures c.command_gains.ensures)
+          a.stride a.from c.until-to.result a.input.now),
+    )
