@@ -6,7 +6,7 @@ use Rattle.lists.specs.Prelude.{ne_eqb, eqb-true, eqb, length}
 use Rattle.refusals.specs.Ranges.{within}
 use Rattle.refusals.proofs.Ranges.{within_true}
 use Rattle.big_endian.specs.Bytes.{AreBytes}
-use Rattle.bank_form.specs.declared.Fault.{Fault}
+use Rattle.bank_form.specs.Fault.{Fault}
 use Rattle.bank_form.specs.Bank.{Bank, level}
 use Rattle.bank_form.specs.Encoding.{encode}
 use Rattle.bank_form.specs.Fault.{version_in, bank_in, sound, wrong, or_else, unless, head_field, fault, fault_of}

@@ -3,7 +3,8 @@
 use Rattle.std.specs.Prelude.{◌≡◌, ◌++◌, ◌+◌, ◌*◌, ◌≤◌, ◌<◌}
 use Rattle.lists.specs.Prelude.{refl, sym, ap, ◌∙◌, List, [], append-nil, ℕ, mul-le-mul, mul-le-mul_right, add-one}
 use Rattle.lists.specs.Prelude.{arith, Float, binary32, to_bits, ℤ, length, get_or, take, drop, set, length-append}
-use Rattle.lists.specs.Prelude.{drop_of_length-le, take-length, length-take-le}
+use Rattle.lists.specs.Prelude.{append_assoc, drop-drop, drop_of_length-le, take-length, length-take-le}
+use borrow.Rule.Slice.PartMut.{put_mid}
 use mir.Syntax.{w16}
 use mir.Val.{of_z}
 use Rattle.big_endian.specs.Bytes.{bytes_of}
@@ -132,6 +133,11 @@ made_file out made part size h e = ap (take size) e ∙ take_placed out part siz
 -- all of a list, copied into one as long
 pub copied : (src dst : List ℕ) → length src ≡ length dst → take (length src) src ++ drop (length src) dst ≡ src
 copied src dst h = rw (take-length src, drop_of_length-le dst {i = length src} (omega arith)) (append-nil src)
+
+-- a part of a list, given back as other elements
+pub part_placed : {A : Type 0} (xs ys : List A) (at n : ℕ) → length ys ≡ n → put_mid at n xs ys ≡ placed xs at ys
+unfolding placed
+part_placed xs ys at n h = sym (rw (h, append_assoc, drop-drop) refl)
 
 -- a list as long as another, put over it
 pub placed_all : (out part : List ℕ) → length out ≡ length part → placed out 0 part ≡ part

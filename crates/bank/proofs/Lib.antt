@@ -4,7 +4,7 @@ pub mod Meets
 pub mod Converting
 pub mod Laws
 pub mod Drill
-mod Unique
+pub mod Unique
 mod Worked
 mod Refuted
 mod Fill

@@ -7,7 +7,7 @@ use Rattle.lists.proofs.Tests.{test_cases}
 use Rattle.refusals.proofs.First.{answered_number}
 use Rattle.refusals.specs.Ranges.{within}
 use Rattle.lists.specs.Placed.{placed}
-use Rattle.bank_form.specs.declared.Fault.{Fault}
+use Rattle.bank_form.specs.Fault.{Fault}
 use Rattle.bank_form.specs.Bank.{Bank, rows}
 use Rattle.bank_form.specs.Encoding.{encode}
 use Rattle.bank_form.specs.Version.{row_size}

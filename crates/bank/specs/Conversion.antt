@@ -4,7 +4,7 @@
 -- Definitions only.
 use Rattle.std.specs.Prelude.{◌≡◌}
 use Rattle.lists.specs.Prelude.{true, List, ℕ, eqb, ℤ, length}
-use Rattle.bank_form.specs.declared.Fault.{Fault}
+use Rattle.bank_form.specs.Fault.{Fault}
 use Rattle.bank_form.specs.Bank.{Bank, level}
 use Rattle.bank_form.specs.Version.{without}
 use Rattle.bank_form.specs.Encoding.{encode}

@@ -4,17 +4,31 @@
 -- of the first byte of the offending field". And 'Refusal numbers' of document 01: "A refusal returns its number,
 -- counts of 0, ..; lent memory stays the same." Definitions only. 5 comes before the numbers of a bank, and has no
 -- place.
-use Rattle.std.specs.Prelude.{◌≡◌, ◌&&◌, ◌*◌}
+use Rattle.std.specs.Prelude.{◌≡◌, ◌&&◌, ◌*◌, Result, Ok, Err}
 use Rattle.lists.specs.Prelude.{List, ℕ, T, eqb, Float, ℤ, length, take}
 use Rattle.refusals.specs.Refusals.{answered}
 use Rattle.lists.specs.Placed.{placed}
 use Rattle.big_endian.specs.Bytes.{AreBytes}
-use Rattle.bank_form.specs.declared.Fault.{Fault}
+use Rattle.bank_form.specs.Fault.{Fault}
 use Rattle.bank_form.specs.Bank.{Bank, rows}
 use Rattle.bank_form.specs.Fault.{bank_in, or_else, unless, fault_in, fault}
 use Rattle.bank_form.specs.FaultLaws.{TakenFrom, suffices}
 use Rattle.bank_form.specs.File.{Exactly}
-use Rattle.bank.specs.declared.BankRead.{BankRead}
+use Rattle.refusals.specs.Numbers.{number_of}
+use Rattle.bank_form.specs.declared.Fault.{Fault as FaultFound}
+use Rattle.bank.specs.declared.BankRead.{BankRead as Counts}
+
+-- what reading answers: a refusal, with the offset of the field that is wrong (of 19, the file's size), or 0 with the
+-- rows and L
+pub record BankRead : Type 0 where
+  pub refusal : ℕ
+  pub offset : ℕ
+  pub rows : ℕ
+  pub length : ℕ
+
+abbrev pub read_answer : Result Counts FaultFound → BankRead
+read_answer (Ok n) = record { refusal = 0; offset = 0; rows = n.rows; length = n.length }
+read_answer (Err f) = record { refusal = number_of f.refusal; offset = f.offset; rows = 0; length = 0 }
 
 -- what a call leaves: its answer, and the lists that it was lent
 pub record ReadOutcome : Type 0 where

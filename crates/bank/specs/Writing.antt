@@ -2,15 +2,27 @@
 -- file's length. Other lengths are 5." Document 02, E6: "the writer takes one [elevation] per row and writes version
 -- 2"; E2: "The writer gives the same numbers, with the offset where the field would stand." And 'Refusal numbers' of
 -- document 01: "A refusal returns its number, counts of 0, ..; lent memory stays the same." Definitions only.
-use Rattle.std.specs.Prelude.{◌≡◌, ◌&&◌, ◌*◌}
+use Rattle.std.specs.Prelude.{◌≡◌, ◌&&◌, ◌*◌, Result, Ok, Err}
 use Rattle.lists.specs.Prelude.{Bool, List, ℕ, eqb, length}
 use Rattle.refusals.specs.Refusals.{answered}
-use Rattle.bank_form.specs.declared.Fault.{Fault}
+use Rattle.bank_form.specs.Fault.{Fault}
 use Rattle.bank_form.specs.Bank.{Bank, rows}
 use Rattle.bank_form.specs.Encoding.{encode}
 use Rattle.bank_form.specs.Fault.{or_else, unless}
 use Rattle.bank_form.specs.WriteFault.{write_fault}
-use Rattle.bank.specs.declared.BankWritten.{BankWritten}
+use Rattle.refusals.specs.Numbers.{number_of}
+use Rattle.bank_form.specs.declared.Fault.{Fault as FaultFound}
+
+-- what writing and both conversions answer: a refusal, with the offset at which the field that is wrong stands or would
+-- stand, or 0 with the bytes of the file
+pub record BankWritten : Type 0 where
+  pub refusal : ℕ
+  pub offset : ℕ
+  pub bytes : ℕ
+
+abbrev pub written_answer : Result ℕ FaultFound → BankWritten
+written_answer (Ok n) = record { refusal = 0; offset = 0; bytes = n }
+written_answer (Err f) = record { refusal = number_of f.refusal; offset = f.offset; bytes = 0 }
 
 -- what a call leaves: its answer, and the buffer that it was lent
 pub record WriteOutcome : Type 0 where

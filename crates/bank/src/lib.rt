@@ -11,64 +11,33 @@
 // the other version, the second only where every elevation is 0, and exactly then.
 #![tactic(auto)]
 
-ghost use Rattle.std.specs.Prelude.{◌≡◌, ◌&&◌, eqb, ◌+◌, ◌*◌, ◌^◌, ◌<◌, ◌≤◌, length, take};
+ghost use Rattle.std.specs.Prelude.{◌≡◌, Ok, ◌&&◌, eqb, ◌+◌, ◌*◌, ◌^◌, ◌<◌, ◌≤◌, length, take};
 ghost use Rattle.bank_form.specs.Version.{row_size, largest_file};
-ghost use Rattle.bank_form.specs.Fault.{rows_in_of, length_in, bank_in, raised_from};
+ghost use Rattle.bank_form.specs.Fault.{found, rows_in_of, length_in, bank_in, raised_from};
 ghost use Rattle.bank_form.specs.WriteFault.{counts_fault};
 ghost use Rattle.bank_form.specs.FaultLaws.{suffices};
-ghost use Rattle.bank.specs.Reading.{read_bank, ReadStartPromise, ReadPromise};
-ghost use Rattle.bank.specs.Writing.{WritePromise};
+ghost use Rattle.bank.specs.Reading.{read_answer, read_bank, ReadStartPromise, ReadPromise};
+ghost use Rattle.bank.specs.Writing.{written_answer, WritePromise};
 ghost use Rattle.bank.specs.Conversion.{raised_for, converted_bank, ConversionPromise, ToVersion1Promise};
 ghost use Rattle.bank.specs.Conversion.{ToVersion2Promise};
 
 use bank_form::{Fault, LARGEST};
+use refusals::Refusal;
 
 mod rows;
 
-// What reading answers: a refusal, with the offset of the field that is wrong (of 19, the file's size), or 0 with the
-// rows and L.
+// What reading answers: the rows and L.
 #[derive(Clone, Copy)]
 pub struct BankRead {
-    pub refusal: u8,
-    pub offset: usize,
     pub rows: usize,
     pub length: usize,
 }
 
-// What writing and both conversions answer: a refusal, with the offset at which the field that is wrong stands or
-// would stand, or 0 with the bytes of the file.
-#[derive(Clone, Copy)]
-pub struct BankWritten {
-    pub refusal: u8,
-    pub offset: usize,
-    pub bytes: usize,
-}
-
-// A lent length that doesn't fit is refused with this number. It has no place in a file.
-const UNFIT: u8 = 5;
-
-// A refusal to read.
-fn unread(refusal: u8, offset: usize) -> BankRead
-    ensures { result ≡ record { refusal = refusal; offset = offset; rows = 0; length = 0 } }
-{
-    BankRead {
-        refusal,
-        offset,
-        rows: 0,
-        length: 0,
-    }
-}
-
-// A refusal to write.
-fn unwritten(refusal: u8, offset: usize) -> BankWritten
-    ensures { result ≡ record { refusal = refusal; offset = offset; bytes = 0 } }
-{
-    BankWritten {
-        refusal,
-        offset,
-        bytes: 0,
-    }
-}
+// A lent length that doesn't fit is refused by this. It has no place in a file.
+const MISFIT: Fault = Fault {
+    refusal: Refusal::Misfit,
+    offset: 0,
+};
 
 // Whether the lists that reading is lent have their lengths.
 fn lists_fit(azimuths: usize, elevations: usize, taps: usize) -> bool
@@ -106,7 +75,7 @@ fn fill_bank(
     requires { (rows_in_of file.now ≤ 8) × (length_in file.now ≤ 512) × (length azimuths.old ≡ 8)
         × (length elevations.old ≡ 8) × (length taps.old ≡ 8192) }
     ensures { record {
-      answer = result;
+      answer = read_answer (Ok result);
       azimuths = azimuths.new;
       elevations = elevations.new;
       taps = taps.new;
@@ -117,53 +86,50 @@ fn fill_bank(
     let rows = big_endian::get(file, 5, 2) as usize;
     let length = big_endian::get(file, 7, 2) as usize;
     rows::fill_rows(file, version, length, rows, azimuths, elevations, taps);
-    BankRead {
-        refusal: 0,
-        offset: 0,
-        rows,
-        length,
-    }
+    BankRead { rows, length }
 }
 
 // Reads a file of `size` bytes that begins with these into lists of 8 azimuths, 8 elevations and 8,192 taps,
 // once all of it is known to keep the form. The start is the whole file, or as many of its first bytes as the
 // largest bank has, or more: a longer file is no bank, and its start and its size tell what is wrong with it.
-// Any other start, and one longer than `size`, is refused with 5.
+// Any other start, and one longer than `size`, is a misfit.
 pub fn read_start(
     start: &[u8],
     size: usize,
     azimuths: &mut [i16],
     elevations: &mut [i16],
     taps: &mut [f32],
-) -> BankRead
+) -> Result<BankRead, Fault>
     ensures { ReadStartPromise start.now size azimuths.old elevations.old
         taps.old
         (record {
-          answer = result;
+          answer = read_answer result;
           azimuths = azimuths.new;
           elevations = elevations.new;
           taps = taps.new;
         }) }
 {
     if !lists_fit(azimuths.len(), elevations.len(), taps.len()) {
-        return unread(UNFIT, 0);
+        return Err(MISFIT);
     }
     if !is_enough(start.len(), size) {
-        return unread(UNFIT, 0);
+        return Err(MISFIT);
     }
-    let fault = bank_check::check_start(start, size);
-    if fault.refusal != 0 {
-        return unread(fault.refusal, fault.offset);
-    }
-    fill_bank(start, azimuths, elevations, taps)
+    bank_check::check_start(start, size)?;
+    Ok(fill_bank(start, azimuths, elevations, taps))
 }
 
 // Reads a file into lists of 8 azimuths, 8 elevations and 8,192 taps, once all of it is known to keep the form.
-pub fn read(file: &[u8], azimuths: &mut [i16], elevations: &mut [i16], taps: &mut [f32]) -> BankRead
+pub fn read(
+    file: &[u8],
+    azimuths: &mut [i16],
+    elevations: &mut [i16],
+    taps: &mut [f32],
+) -> Result<BankRead, Fault>
     ensures { ReadPromise file.now azimuths.old elevations.old
         taps.old
         (record {
-          answer = result;
+          answer = read_answer result;
           azimuths = azimuths.new;
           elevations = elevations.new;
           taps = taps.new;
@@ -199,7 +165,7 @@ fn write_checked(
     taps: &[f32],
     file: &mut [u8],
     made: &mut [u8],
-) -> BankWritten
+) -> Result<usize, Fault>
     requires { (l ≤ 512) × (length azimuths.now ≤ 8) × (length elevations.now ≡ length azimuths.now)
         × (length taps.now ≡ length azimuths.now * (2 * l))
         × (length file.old ≡ 9 + length azimuths.now * row_size 2 l) × (length made.old ≡ largest_file) }
@@ -208,43 +174,33 @@ fn write_checked(
       elevations = elevations.now;
       length = l;
       taps = taps.now;
-    }) file.old (record { answer = result; file = file.new }) }
+    }) file.old (record { answer = written_answer result; file = file.new }) }
 {
     let size = file.len();
     rows::put_bank(2, azimuths, elevations, l, taps, made, size);
-    let found = bank_check::check_file(&made[..size]);
-    if found.refusal != 0 {
-        return unwritten(found.refusal, found.offset);
-    }
+    bank_check::check_file(&made[..size])?;
     file.copy_from_slice(&made[..size]);
-    BankWritten {
-        refusal: 0,
-        offset: 0,
-        bytes: size,
-    }
+    Ok(size)
 }
 
 // What is wrong with a row count and an L, judged as numbers: they need not fit the bytes that they would be
 // written in.
-fn counts_fault(rows: usize, l: usize) -> Fault
-    ensures { result ≡ counts_fault rows l }
+fn check_counts(rows: usize, l: usize) -> Result<(), Fault>
+    ensures { found result ≡ counts_fault rows l }
 {
     if !refusals::is_within(rows, 1, 8) {
-        return Fault {
-            refusal: 15,
+        return Err(Fault {
+            refusal: Refusal::RowCount,
             offset: 5,
-        };
+        });
     }
     if !refusals::is_within(l, 1, 512) {
-        return Fault {
-            refusal: 16,
+        return Err(Fault {
+            refusal: Refusal::TapCount,
             offset: 7,
-        };
+        });
     }
-    Fault {
-        refusal: 0,
-        offset: 0,
-    }
+    Ok(())
 }
 
 // Writes the file of a bank in version 2, with an azimuth and an elevation for each row, into a buffer of its
@@ -255,13 +211,13 @@ pub fn write(
     length: usize,
     taps: &[f32],
     file: &mut [u8],
-) -> BankWritten
+) -> Result<usize, Fault>
     ensures { WritePromise (record {
       azimuths = azimuths.now;
       elevations = elevations.now;
       length = length;
       taps = taps.now;
-    }) file.old (record { answer = result; file = file.new }) }
+    }) file.old (record { answer = written_answer result; file = file.new }) }
 {
     if !lengths_fit(
         azimuths.len(),
@@ -270,52 +226,39 @@ pub fn write(
         taps.len(),
         file.len(),
     ) {
-        return unwritten(UNFIT, 0);
+        return Err(MISFIT);
     }
-    let counts = counts_fault(azimuths.len(), length);
-    if counts.refusal != 0 {
-        return unwritten(counts.refusal, counts.offset);
-    }
+    check_counts(azimuths.len(), length)?;
     let mut made = [0u8; LARGEST];
     write_checked(azimuths, elevations, length, taps, file, &mut made)
 }
 
 // The first elevation that is not 0, told where a file of version 2 has it.
-fn raised_fault(elevations: &[i16], l: usize) -> Fault
+fn check_level(elevations: &[i16], l: usize) -> Result<(), Fault>
     requires { (l ≤ 512) × (length elevations.now ≤ 8) }
-    ensures { result ≡ raised_from l 9 elevations.now }
+    ensures { found result ≡ raised_from l 9 elevations.now }
 {
     let row = bank_form::row_size(2, l);
-    let mut at = 9;
-    let mut i = 0;
-    while i < elevations.len() {
-        if elevations[i] != 0 {
-            return Fault {
-                refusal: 21,
-                offset: at + 2,
-            };
+    for (i, elevation) in elevations.iter().enumerate() {
+        if *elevation != 0 {
+            return Err(Fault {
+                refusal: Refusal::Raised,
+                offset: 9 + i * row + 2,
+            });
         }
-        at += row;
-        i += 1;
     }
-    Fault {
-        refusal: 0,
-        offset: 0,
-    }
+    Ok(())
 }
 
 // What is wrong with elevations in a file of a version: version 1 has no place for them.
-fn elevations_fault(version: usize, elevations: &[i16], l: usize) -> Fault
+fn check_elevations(version: usize, elevations: &[i16], l: usize) -> Result<(), Fault>
     requires { (l ≤ 512) × (length elevations.now ≤ 8) }
-    ensures { result ≡ raised_for version l elevations.now }
+    ensures { found result ≡ raised_for version l elevations.now }
 {
     if version == 1 {
-        return raised_fault(elevations, l);
+        return check_level(elevations, l);
     }
-    Fault {
-        refusal: 0,
-        offset: 0,
-    }
+    Ok(())
 }
 
 // Puts a bank that keeps the form into an output of the length that its file has in a version.
@@ -326,10 +269,10 @@ fn convert_bank(
     l: usize,
     taps: &[f32],
     out: &mut [u8],
-) -> BankWritten
+) -> Result<usize, Fault>
     requires { (l ≤ 512) × (length azimuths.now ≤ 8) × (length elevations.now ≡ length azimuths.now)
         × (length taps.now ≡ length azimuths.now * (2 * l)) }
-    ensures { record { answer = result; file = out.new } ≡ converted_bank version
+    ensures { record { answer = written_answer result; file = out.new } ≡ converted_bank version
         (record {
           azimuths = azimuths.now;
           elevations = elevations.now;
@@ -337,37 +280,27 @@ fn convert_bank(
           taps = taps.now;
         }) out.old }
 {
-    let raised = elevations_fault(version, elevations, l);
-    if raised.refusal != 0 {
-        return unwritten(raised.refusal, raised.offset);
-    }
+    check_elevations(version, elevations, l)?;
     let size = rows::row_at(version, azimuths.len(), l);
     if out.len() != size {
-        return unwritten(UNFIT, 0);
+        return Err(MISFIT);
     }
     rows::put_bank(version, azimuths, elevations, l, taps, out, size);
-    BankWritten {
-        refusal: 0,
-        offset: 0,
-        bytes: size,
-    }
+    Ok(size)
 }
 
 // Turns a file of one version into another.
-fn convert(file: &[u8], from: usize, to: usize, out: &mut [u8]) -> BankWritten
+fn convert(file: &[u8], from: usize, to: usize, out: &mut [u8]) -> Result<usize, Fault>
     ensures { ConversionPromise from to file.now out.old
-        (record { answer = result; file = out.new }) }
+        (record { answer = written_answer result; file = out.new }) }
 {
-    let wrong = bank_check::check_version(file, from);
-    if wrong.refusal != 0 {
-        return unwritten(wrong.refusal, wrong.offset);
-    }
+    bank_check::check_version(file, from)?;
     let mut azimuths = [0i16; 8];
     let mut elevations = [0i16; 8];
     let mut taps = [0.0f32; 8192];
-    let found = fill_bank(file, &mut azimuths, &mut elevations, &mut taps);
-    let n = found.rows;
-    let l = found.length;
+    let read = fill_bank(file, &mut azimuths, &mut elevations, &mut taps);
+    let n = read.rows;
+    let l = read.length;
     convert_bank(
         to,
         &azimuths[..n],
@@ -379,17 +312,17 @@ fn convert(file: &[u8], from: usize, to: usize, out: &mut [u8]) -> BankWritten
 }
 
 // Turns a file of version 1 into one of version 2, which has the elevation 0 for each row.
-pub fn to_version_2(file: &[u8], out: &mut [u8]) -> BankWritten
+pub fn to_version_2(file: &[u8], out: &mut [u8]) -> Result<usize, Fault>
     ensures { ToVersion2Promise file.now out.old
-        (record { answer = result; file = out.new }) }
+        (record { answer = written_answer result; file = out.new }) }
 {
     convert(file, 1, 2, out)
 }
 
 // Turns a file of version 2 back into one of version 1. That can be had only if every elevation is 0.
-pub fn to_version_1(file: &[u8], out: &mut [u8]) -> BankWritten
+pub fn to_version_1(file: &[u8], out: &mut [u8]) -> Result<usize, Fault>
     ensures { ToVersion1Promise file.now out.old
-        (record { answer = result; file = out.new }) }
+        (record { answer = written_answer result; file = out.new }) }
 {
     convert(file, 2, 1, out)
 }

@@ -30,15 +30,13 @@ fn tap_at(i: usize, l: usize) -> usize
     i * (2 * l)
 }
 
-// Fills n taps, which stand from `at` on, into the list from q on.
-fn fill_taps(file: &[u8], at: usize, n: usize, taps: &mut [f32], q: usize)
-    requires { (at + 4 * n ≤ largest_file) × (q + n ≤ length taps.old) }
-    ensures { taps.new ≡ placed taps.old q (strided (float_at file.now) 4 at n) }
+// Fills a list of taps, which stand one after another from `at` on.
+fn fill_taps(file: &[u8], at: usize, taps: &mut [f32])
+    requires { at + 4 * length taps.old ≤ largest_file }
+    ensures { taps.new ≡ strided (float_at file.now) 4 at (length taps.old) }
 {
-    let mut k = 0;
-    while k < n {
-        taps[q + k] = big_endian::get_f32(file, at + k * 4);
-        k += 1;
+    for (k, tap) in taps.iter_mut().enumerate() {
+        *tap = big_endian::get_f32(file, at + k * 4);
     }
 }
 
@@ -62,26 +60,22 @@ pub(crate) fn fill_rows(
         (taps_from file.now version l 9 n) }
 {
     let pair = 2 + bank_form::elevation_size(version);
-    let mut i = 0;
-    while i < n {
+    for i in 0..n {
         let at = row_at(version, i, l);
         azimuths[i] = big_endian::get_i16(file, at);
         elevations[i] = bank_form::elevation_at(file, version, at);
-        fill_taps(file, at + pair, 2 * l, taps, tap_at(i, l));
-        i += 1;
+        let first = tap_at(i, l);
+        fill_taps(file, at + pair, &mut taps[first..first + 2 * l]);
     }
 }
 
-// Puts n taps of the list, from q on, into the file from `at` on.
-fn put_taps(taps: &[f32], q: usize, n: usize, file: &mut [u8], at: usize)
-    requires { (q + n ≤ length taps.now) × (at + 4 * n ≤ length file.old) }
-    ensures { file.new ≡ placed file.old at
-        (float_bytes (take n (drop q taps.now))) }
+// Puts taps into the file, one after another from `at` on.
+fn put_taps(taps: &[f32], file: &mut [u8], at: usize)
+    requires { at + 4 * length taps.now ≤ length file.old }
+    ensures { file.new ≡ placed file.old at (float_bytes taps.now) }
 {
-    let mut k = 0;
-    while k < n {
-        big_endian::put_f32(file, at + 4 * k, taps[q + k]);
-        k += 1;
+    for (k, tap) in taps.iter().enumerate() {
+        big_endian::put_f32(file, at + 4 * k, *tap);
     }
 }
 
@@ -96,31 +90,15 @@ fn put_elevation(version: usize, z: i16, file: &mut [u8], at: usize)
     big_endian::put_i16(file, at, z);
 }
 
-// Puts a row at an offset: its azimuth, its elevation, and 2 * l taps of the list from q on.
-fn put_row(
-    version: usize,
-    azimuth: i16,
-    elevation: i16,
-    l: usize,
-    taps: &[f32],
-    q: usize,
-    file: &mut [u8],
-    at: usize,
-)
-    requires { (l ≤ 512) × (q + 2 * l ≤ length taps.now) × (at + row_size version l ≤ length file.old) }
+// Puts a row at an offset: its azimuth, its elevation, and its taps.
+fn put_row(version: usize, azimuth: i16, elevation: i16, taps: &[f32], file: &mut [u8], at: usize)
+    requires { at + (2 + elevation_size version + 4 * length taps.now) ≤ length file.old }
     ensures { file.new ≡ placed file.old at
-        (bytes_of 2 (of_z w16 azimuth)
-        ++ (elevation_bytes version elevation ++ float_bytes (take (2 * l) (drop q taps.now)))) }
+        (bytes_of 2 (of_z w16 azimuth) ++ (elevation_bytes version elevation ++ float_bytes taps.now)) }
 {
     big_endian::put_i16(file, at, azimuth);
     put_elevation(version, elevation, file, at + 2);
-    put_taps(
-        taps,
-        q,
-        2 * l,
-        file,
-        at + 2 + bank_form::elevation_size(version),
-    );
+    put_taps(taps, file, at + 2 + bank_form::elevation_size(version));
 }
 
 // Puts the rows of a bank behind the head. That each azimuth and each elevation is one of sixteen bits is known once it
@@ -141,20 +119,17 @@ fn put_rows(
     ensures azimuths { ForAll IsI16 (pos 0) azimuths.now }
     ensures elevations { ForAll IsI16 (pos 0) elevations.now }
 {
-    let mut i = 0;
-    while i < azimuths.len() {
+    for (i, azimuth) in azimuths.iter().enumerate() {
         let at = row_at(version, i, l);
+        let from = tap_at(i, l);
         put_row(
             version,
-            azimuths[i],
+            *azimuth,
             elevations[i],
-            l,
-            taps,
-            tap_at(i, l),
+            &taps[from..from + 2 * l],
             file,
             at,
         );
-        i += 1;
     }
 }
 

@@ -1,7 +1,7 @@
 -- Answers of `check_version` that its promise rules out, of every file in another version. Assumes nothing.
 use Rattle.std.specs.Prelude.{◌≡◌, ◌≤◌}
 use Rattle.lists.specs.Prelude.{sym, ◌∙◌, List, ℕ, arith, length}
-use Rattle.bank_form.specs.declared.Fault.{Fault}
+use Rattle.bank_form.specs.Fault.{Fault}
 use Rattle.bank_form.specs.Fault.{version_in, wrong}
 use Rattle.bank_form.proofs.Walk.{same_number}
 use Rattle.bank_form.proofs.Conversions.{conversion_fault}

@@ -1,7 +1,7 @@
 -- What the check of a start says of every file that begins so, and of the whole file. Assumes nothing.
 use Rattle.std.specs.Prelude.{◌≡◌}
 use Rattle.lists.specs.Prelude.{◌∙◌, List, ℕ}
-use Rattle.bank_form.specs.declared.Fault.{Fault}
+use Rattle.bank_form.specs.Fault.{Fault}
 use Rattle.bank_form.specs.Fault.{fault_in}
 use Rattle.bank_form.proofs.Start.{start_suffices}
 use Rattle.bank_check.specs.Checked.{StartCheckPromise}

@@ -2,7 +2,7 @@
 -- the bytes are a bank file (document 01, 'Filter bank file'). Definitions only.
 use Rattle.std.specs.Prelude.{◌≡◌}
 use Rattle.lists.specs.Prelude.{List, ℕ, T, length}
-use Rattle.bank_form.specs.declared.Fault.{Fault}
+use Rattle.bank_form.specs.Fault.{Fault}
 use Rattle.bank_form.specs.Fault.{fault_in, fault, fault_of}
 use Rattle.bank_form.specs.FaultLaws.{TakenFrom, suffices}
 use Rattle.bank_form.specs.File.{Exactly}

@@ -2,7 +2,7 @@
 -- takes the first. It is document 01's choice (`one_elevation_as_before`). Assumes nothing.
 use Rattle.std.specs.Prelude.{◌≡◌, ◌∷◌, ◌<◌}
 use Rattle.lists.specs.Prelude.{refl, sym, ◌∙◌, true, List, ℕ, zero, suc, arith, lit<, lit≤, ℤ, pos, length, get_or}
-use Rattle.bank_choice.specs.declared.Choice.{Choice}
+use Rattle.bank_choice.specs.Choice.{Choice}
 use Rattle.bank_choice.specs.Choice.{in_tenths, is_elevation, choice_refusal, ChoicePromise}
 use Rattle.bank_choice.specs.Nearest.{angle_apart, TakesByAzimuth, OneElevation}
 use Rattle.bank_choice.proofs.Takes.{takes_one}

@@ -6,7 +6,6 @@ pub mod Takes
 pub mod Level
 pub mod Meets
 pub mod Drill
-mod Round
 mod Unique
 mod Worked
 mod Refuted

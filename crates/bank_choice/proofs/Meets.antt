@@ -4,7 +4,7 @@ use Rattle.lists.specs.Prelude.{refl, sym, ap, ◌∙◌, true, false, not, List
 use Rattle.refusals.specs.Refusals.{outside}
 use Rattle.refusals.proofs.First.{answered_accepted, answered_by_lem, answered_number}
 use Rattle.refusals.proofs.Chains.{first_holds, off_accepts}
-use Rattle.bank_choice.specs.declared.Choice.{Choice}
+use Rattle.bank_choice.specs.Choice.{Choice}
 use Rattle.bank_choice.specs.Choice.{in_tenths, is_elevation, choice_checks, choice_refusal, chose, refused_with}
 use Rattle.bank_choice.specs.Choice.{choice_of, ChoicePromise}
 use Rattle.bank_choice.specs.Computed.{nearest_from}

@@ -4,7 +4,7 @@ use Rattle.std.specs.Prelude.{◌≡◌, ◌∷◌, ◌≤◌, ◌<◌}
 use Rattle.lists.specs.Prelude.{refl, sym, ap, inl, inr, List, ℕ, arith, eqb-true, not-false, lit<, ℤ, pos, negsuc}
 use Rattle.lists.specs.Prelude.{length}
 use Rattle.refusals.proofs.Chains.{none_holds}
-use Rattle.bank_choice.specs.declared.Choice.{Choice}
+use Rattle.bank_choice.specs.Choice.{Choice}
 use Rattle.bank_choice.specs.Nearest.{angle_apart, elevation_away}
 use Rattle.bank_choice.specs.Choice.{choice_checks, choice_refusal, ChoicePromise}
 use Rattle.bank_choice.proofs.Meets.{refusal_is}

@@ -2,7 +2,7 @@
 -- elevation; and which number comes first. Assumes nothing.
 use Rattle.std.specs.Prelude.{◌≡◌, ◌∷◌, ◌++◌}
 use Rattle.lists.specs.Prelude.{refl, List, [], map, ℕ, ℤ, pos, negsuc, take, replicate}
-use Rattle.bank_choice.specs.declared.Choice.{Choice}
+use Rattle.bank_choice.specs.Choice.{Choice}
 use Rattle.bank_choice.specs.Choice.{in_tenths, is_elevation, choice_refusal, chose, refused_with, choice_of}
 use Rattle.bank_choice.specs.Nearest.{angle_apart, elevation_away}
 use Rattle.bank_choice.specs.Computed.{key, nearer, nearest_from}

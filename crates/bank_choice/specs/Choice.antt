@@ -2,14 +2,23 @@
 -- first 1..8 rows (else 2) of a list of 8 azimuths (else 5), the one nearest it .." Document 02, E6: "A speaker's
 -- elevation is given in whole tenths too, -900..900, else 3"; and of the elevations too there is a list of 8.
 -- Definitions only.
-use Rattle.std.specs.Prelude.{◌≡◌, ◌∷◌, ◌-◌, ◌≤◌}
+use Rattle.std.specs.Prelude.{◌≡◌, ◌∷◌, ◌-◌, ◌≤◌, Result}
 use Rattle.lists.specs.Prelude.{Bool, not, List, [], ℕ, eqb, ℤ, pos, negsuc, length}
 use Rattle.refusals.specs.Ranges.{between}
 unfoldable pub use Rattle.refusals.specs.Ranges.{is_elevation}
+use Rattle.refusals.specs.declared.Refusal.{Refusal}
+use Rattle.refusals.specs.Numbers.{number_in, value_in}
 use Rattle.refusals.specs.Refusals.{Check, ◌when◌, first_of, answered, outside}
-use Rattle.bank_choice.specs.declared.Choice.{Choice}
 use Rattle.bank_choice.specs.Nearest.{Takes, TakesByAzimuth, OneElevation}
 use Rattle.bank_choice.specs.Computed.{nearest_from}
+
+-- what a choice answers: a refusal's number and row 0, or 0 with the row
+pub record Choice : Type 0 where
+  pub refusal : ℕ
+  pub row : ℕ
+
+abbrev pub choice : Result ℕ Refusal → Choice
+choice r = record { refusal = number_in r; row = value_in 0 r }
 
 -- a speaker's azimuth, -1800 .. 1800
 unfoldable pub in_tenths : ℤ → Bool

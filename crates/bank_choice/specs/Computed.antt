@@ -19,7 +19,7 @@ unfoldable pub nearest_from : List ℤ → List ℤ → ℤ → ℤ → ℕ → 
 nearest_from zs es p q best j zero = best
 nearest_from zs es p q best j (suc k) = nearest_from zs es p q (nearer zs es p q best j) (j + 1) k
 
--- ten turns up
+-- ten turns up; no contract cites it, since the program takes std's `abs_diff` of two tenths
 unfoldable pub turned_up : ℤ → ℕ
 turned_up (pos n) = 36000 + n
 turned_up (negsuc n) = 35999 - n

@@ -2,50 +2,22 @@
 // 'Filter bank file', its second paragraph, and document 02, E6).
 //
 // It takes any input. Its promise: the row is among the first rows, none of them is nearer to the speaker,
-// and each that comes before it is farther; where there is no such row to be had, the number of the refusal
-// and row 0. A row is nearer if its elevation is, or if that is as near and the shorter way round is less.
+// and each that comes before it is farther; where there is no such row to be had, the refusal. A row is nearer
+// if its elevation is, or if that is as near and the shorter way round is less.
 #![tactic(auto)]
 
 ghost use Rattle.std.specs.Prelude.{◌≡◌, ◌-◌, ◌<◌, ◌≤◌, ◌%◌, min, nat_abs, ◌-ℤ◌, length};
 ghost use Rattle.bank_choice.specs.Nearest.{angle_apart};
-ghost use Rattle.bank_choice.specs.Choice.{ChoicePromise};
-ghost use Rattle.bank_choice.specs.Computed.{turned_up, key, nearer, nearest_from};
+ghost use Rattle.bank_choice.specs.Choice.{choice, ChoicePromise};
+ghost use Rattle.bank_choice.specs.Computed.{key, nearer, nearest_from};
 
-// What a choice answers: a refusal, or 0 with the row.
-#[derive(Clone, Copy)]
-pub struct Choice {
-    pub refusal: u8,
-    pub row: usize,
-}
-
-// A refusal to choose.
-fn unchosen(refusal: u8) -> Choice
-    ensures { result ≡ record { refusal = refusal; row = 0 } }
-{
-    Choice { refusal, row: 0 }
-}
-
-// A number of tenths, ten turns up, so that it is not below zero.
-fn turned_up(z: i16) -> usize
-    ensures { (result ≡ turned_up z) × (result < 72000) }
-{
-    if z < 0 {
-        let k = -1 - z;
-        return 35999 - (k as usize);
-    }
-    36000 + (z as usize)
-}
+use refusals::Refusal;
 
 // The plain difference of two numbers of tenths.
 fn difference(a: i16, b: i16) -> usize
     ensures { (result ≡ nat_abs (a -ℤ b)) × (result < 72000) }
 {
-    let x = turned_up(a);
-    let y = turned_up(b);
-    if x < y {
-        return y - x;
-    }
-    x - y
+    usize::from(a.abs_diff(b))
 }
 
 // The shorter way round of a difference.
@@ -53,13 +25,11 @@ fn shorter(d: usize) -> usize
     ensures { (result ≡ min (d % 3600) (3600 - d % 3600)) × (result ≤ 1800) }
 {
     let m = d % 3600;
-    if m <= 1800 {
-        return m;
-    }
-    3600 - m
+    m.min(3600 - m)
 }
 
 // How far two azimuths are apart.
+#[tactic(auto, unfolding(crate::specs::Nearest::angle_apart))]
 fn tenths_apart(a: i16, b: i16) -> usize
     ensures { (result ≡ angle_apart a b) × (result ≤ 1800) }
 {
@@ -68,6 +38,7 @@ fn tenths_apart(a: i16, b: i16) -> usize
 
 // How far row j is from a speaker, as one number: a tenth of elevation counts for more than any way round,
 // which is at most 1800.
+#[tactic(auto, unfolding(crate::specs::Computed::key, crate::specs::Nearest::elevation_away))]
 fn distance_key(
     azimuths: &[i16],
     elevations: &[i16],
@@ -84,6 +55,7 @@ fn distance_key(
 }
 
 // Of two rows the nearer to a speaker, and the one named first where they are as near.
+#[tactic(auto, unfolding(crate::specs::Computed::nearer))]
 fn nearer_row(
     azimuths: &[i16],
     elevations: &[i16],
@@ -110,10 +82,8 @@ fn nearest(azimuths: &[i16], elevations: &[i16], n: usize, azimuth: i16, elevati
     ensures { result ≡ nearest_from azimuths.now elevations.now azimuth elevation 0 1 (n - 1) }
 {
     let mut best = 0;
-    let mut j = 1;
-    while j < n {
+    for j in 1..n {
         best = nearer_row(azimuths, elevations, azimuth, elevation, best, j);
-        j += 1;
     }
     best
 }
@@ -125,24 +95,23 @@ pub fn nearest_row(
     rows: usize,
     azimuth: i16,
     elevation: i16,
-) -> Choice
-    ensures { ChoicePromise azimuths.now elevations.now rows azimuth elevation result }
+) -> Result<usize, Refusal>
+    ensures { ChoicePromise azimuths.now elevations.now rows azimuth elevation (choice result) }
 {
     if refusals::is_outside(rows, 8) {
-        return unchosen(2);
+        return Err(Refusal::Count);
     }
     if !refusals::is_between(azimuth, -1800, 1800) {
-        return unchosen(3);
+        return Err(Refusal::Angle);
     }
     if !refusals::is_between(elevation, -900, 900) {
-        return unchosen(3);
+        return Err(Refusal::Angle);
     }
     if azimuths.len() != 8 {
-        return unchosen(5);
+        return Err(Refusal::Misfit);
     }
     if elevations.len() != 8 {
-        return unchosen(5);
+        return Err(Refusal::Misfit);
     }
-    let row = nearest(azimuths, elevations, rows, azimuth, elevation);
-    Choice { refusal: 0, row }
+    Ok(nearest(azimuths, elevations, rows, azimuth, elevation))
 }

@@ -7,7 +7,7 @@ use lib.Ieee.Scale.{finite}
 use Rattle.lists.proofs.Tests.{test_cases}
 use Rattle.big_endian.specs.Fields.{field_at, float_at}
 use Rattle.refusals.specs.Ranges.{within}
-use Rattle.bank_form.specs.declared.Fault.{Fault}
+use Rattle.bank_form.specs.Fault.{Fault}
 use Rattle.bank_form.specs.Version.{row_size, taps_at, pair_at}
 use Rattle.bank_form.specs.Fault.{version_in, rows_in_of, length_in, pair_in, is_new, elevation_fault, sound, wrong}
 use Rattle.bank_form.specs.Fault.{or_else, field, taps_fault, row_fault, rows_fault, head_field, head_fault}

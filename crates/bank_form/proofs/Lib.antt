@@ -2,6 +2,7 @@
 pub mod Lists
 pub mod Pairs
 pub mod Walk
+pub mod Found
 pub mod RoundTrip
 pub mod Exact
 pub mod Writer

@@ -5,7 +5,7 @@ use Rattle.lists.specs.Prelude.{refl, sym, ◌∙◌, true, false, true≢false,
 use Rattle.big_endian.specs.Fields.{field_at}
 use Rattle.refusals.specs.Ranges.{within}
 use Rattle.refusals.proofs.Ranges.{within_in}
-use Rattle.bank_form.specs.declared.Fault.{Fault}
+use Rattle.bank_form.specs.Fault.{Fault}
 use Rattle.bank_form.specs.Fault.{rows_in_of, sound, wrong, fault}
 use Rattle.bank_form.specs.FaultLaws.{field_size, NumberAndPlace, NumbersAndPlaces, row_place}
 use Rattle.bank_form.proofs.Each.{EachFault, fault_each}

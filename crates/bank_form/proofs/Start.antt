@@ -8,7 +8,7 @@ use Rattle.lists.proofs.Tests.{test_cases}
 use Rattle.big_endian.specs.Fields.{field_at}
 use Rattle.refusals.specs.Ranges.{within}
 use Rattle.refusals.proofs.Ranges.{within_true, within_low}
-use Rattle.bank_form.specs.declared.Fault.{Fault}
+use Rattle.bank_form.specs.Fault.{Fault}
 use Rattle.bank_form.specs.Version.{largest_file}
 use Rattle.bank_form.specs.Fault.{version_in, rows_in_of, length_in, sound, wrong, or_else, head_fault, head_field}
 use Rattle.bank_form.specs.Fault.{fault_in, fault}

@@ -8,7 +8,7 @@ use lib.Ieee.Scale.{finite}
 use Rattle.lists.proofs.Tests.{test_cases, by_test}
 use Rattle.big_endian.specs.Fields.{field_at, signed_at, float_at}
 use Rattle.big_endian.specs.Lists.{strided}
-use Rattle.bank_form.specs.declared.Fault.{Fault}
+use Rattle.bank_form.specs.Fault.{Fault}
 use Rattle.lists.specs.Tables.{every}
 use Rattle.refusals.specs.Ranges.{within}
 use Rattle.refusals.specs.Refusals.{answered}

@@ -6,7 +6,7 @@ use Rattle.lists.specs.Prelude.{pos, length, take, set, replicate, take-length}
 use Rattle.big_endian.specs.Bytes.{value_of}
 use Rattle.big_endian.specs.Fields.{field_at, signed_at, float_at}
 use Rattle.big_endian.specs.Lists.{strided}
-use Rattle.bank_form.specs.declared.Fault.{Fault}
+use Rattle.bank_form.specs.Fault.{Fault}
 use Rattle.bank_form.specs.Bank.{Bank, pairs_of, rows, is_azimuth, is_elevation, unlike, differ, is_tap, is_level}
 use Rattle.bank_form.specs.Version.{elevation_at}
 use Rattle.bank_form.specs.Fault.{rows_in_of, bank_in, elevation_fault, fault_of, raised_from}

@@ -14,7 +14,7 @@ use Rattle.lists.specs.Tables.{every}
 use Rattle.lists.proofs.Every.{every_append}
 use Rattle.refusals.specs.Ranges.{within}
 use Rattle.refusals.proofs.Ranges.{within_in}
-use Rattle.bank_form.specs.declared.Fault.{Fault}
+use Rattle.bank_form.specs.Fault.{Fault}
 use Rattle.bank_form.specs.Bank.{Bank, Pair, rows, pairs, is_azimuth, is_elevation, differ, is_tap, pairwise, valid}
 use Rattle.bank_form.specs.Version.{row_size, taps_at, pair_at, elevation_at}
 use Rattle.bank_form.specs.Encoding.{encode}

@@ -7,12 +7,13 @@
 -- stand; [..] 17 now means the azimuth out of range or the pair repeated, the latter checked at the elevation field
 -- after 20 and pointing at it (version 1: as before)." The walk is over a file of so many bytes, of which a list has
 -- all, or the first: `StartSuffices` of specs/FaultLaws.antt says how many of them are enough.
-use Rattle.std.specs.Prelude.{◌+◌, ◌-◌, ◌*◌, ◌∷◌}
+use Rattle.std.specs.Prelude.{◌+◌, ◌-◌, ◌*◌, ◌∷◌, Result, Ok, Err}
 use Rattle.lists.specs.Prelude.{ℕ, zero, suc, Bool, cond, List, [], flat_map, ltb, eqb, Float, ℤ, length}
 use Rattle.std.specs.Float.Ieee.Scale.{finite}
 use Rattle.big_endian.specs.Fields.{field_at, signed_at, float_at}
 use Rattle.big_endian.specs.Lists.{strided, floats_at}
-use Rattle.bank_form.specs.declared.Fault.{Fault}
+use Rattle.refusals.specs.Numbers.{number_of}
+use Rattle.bank_form.specs.declared.Fault.{Fault as FaultFound}
 use Rattle.lists.specs.Tables.{every}
 use Rattle.refusals.specs.Ranges.{within}
 use Rattle.refusals.specs.Refusals.{answered}
@@ -60,6 +61,19 @@ abbrev pub pairs_from : List ℕ → ℕ → ℕ → ℕ → ℕ → List Pair
 pairs_from s v l at n = strided (pair_in v s) (row_size v l) at n
 
 -- ---- faults
+
+-- the number that tells which field breaks the form, and the offset of its first byte; both are 0 where none does
+pub record Fault : Type 0 where
+  pub refusal : ℕ
+  pub offset : ℕ
+
+-- the fault that code hands on by its refusal's name, and what a search for one answers
+abbrev pub told_as_number : FaultFound → Fault
+told_as_number f = record { refusal = number_of f.refusal; offset = f.offset }
+
+abbrev pub found : {A : Type 0} → Result A FaultFound → Fault
+found (Ok a) = record { refusal = 0; offset = 0 }
+found (Err f) = told_as_number f
 
 abbrev pub sound : Fault
 sound = record { refusal = 0; offset = 0 }

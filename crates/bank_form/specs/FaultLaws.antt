@@ -6,7 +6,7 @@ use Rattle.std.specs.Float.Ieee.Scale.{finite}
 use Rattle.big_endian.specs.Fields.{field_at, signed_at, float_at}
 use Rattle.lists.specs.Tables.{every}
 use Rattle.refusals.specs.Ranges.{within}
-use Rattle.bank_form.specs.declared.Fault.{Fault}
+use Rattle.bank_form.specs.Fault.{Fault}
 use Rattle.bank_form.specs.Bank.{Bank, is_azimuth, is_elevation, is_level, level}
 use Rattle.bank_form.specs.Version.{is_version, row_size, taps_at, pair_at, largest_file}
 use Rattle.bank_form.specs.Encoding.{encode}

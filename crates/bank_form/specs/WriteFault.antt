@@ -4,7 +4,7 @@
 -- faults.
 use Rattle.std.specs.Prelude.{◌+◌, ◌*◌, ◌∷◌, ◌++◌}
 use Rattle.lists.specs.Prelude.{ℕ, List, [], Float, take, drop}
-use Rattle.bank_form.specs.declared.Fault.{Fault}
+use Rattle.bank_form.specs.Fault.{Fault}
 use Rattle.lists.specs.Tables.{every}
 use Rattle.refusals.specs.Ranges.{within}
 use Rattle.bank_form.specs.Bank.{Bank, Pair, rows, pairs, is_azimuth, is_elevation, differ, is_tap}

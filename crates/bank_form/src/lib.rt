@@ -15,11 +15,13 @@
 ghost use Rattle.std.specs.Prelude.{◌≡◌, ◌≤◌, min};
 ghost use Rattle.bank_form.specs.Version.{elevation_size, elevation_at, row_size, largest_row};
 
-// The first field that breaks the form: the number that tells which, and the offset of its first byte; of 19, the
-// file's size. Both are 0 where none does.
+use refusals::Refusal;
+
+// The first field that breaks the form: the refusal that tells which, and the offset of its first byte; of `Cut`, the
+// file's size.
 #[derive(Clone, Copy)]
 pub struct Fault {
-    pub refusal: u8,
+    pub refusal: Refusal,
     pub offset: usize,
 }
 
@@ -44,11 +46,7 @@ pub fn elevation_size(version: usize) -> usize
 pub fn row_size(version: usize, l: usize) -> usize
     ensures { (result ≡ row_size version (min l 512)) × (result ≤ largest_row) }
 {
-    let elevation = elevation_size(version);
-    if l < MOST_TAPS {
-        return 2 + elevation + 8 * l;
-    }
-    2 + elevation + 8 * MOST_TAPS
+    2 + elevation_size(version) + 8 * l.min(MOST_TAPS)
 }
 
 // The elevation of the row at an offset. Version 1 has none, which is 0; one that does not lie in the list reads as 0.

@@ -12,12 +12,6 @@ ghost use Rattle.std.specs.Prelude.{◌≡◌, ◌+◌, ◌*◌, ◌<◌, leb};
 ghost use Rattle.big_endian.specs.Fields.{lies, Field, with_field, signed_at, with_signed, float_at, with_float};
 ghost use Rattle.big_endian.specs.Fields.{double_at, with_double};
 
-fn wide(b: u8) -> u64
-    ensures { (result ≡ b) × (result < 256) }
-{
-    b as u64
-}
-
 // Whether `count` fields of `width` bytes, from `at` on, lie inside a list of `size` bytes. Neither the product
 // nor the sum is formed before it is known to fit.
 pub fn has_room(size: usize, at: usize, width: usize, count: usize) -> bool
@@ -50,10 +44,8 @@ pub fn get(s: &[u8], at: usize, count: usize) -> u64
         return 0;
     }
     let mut n: u64 = 0;
-    let mut i = 0;
-    while i < count {
-        n = n * 256 + wide(s[at + i]);
-        i += 1;
+    for b in &s[at..at + count] {
+        n = n * 256 + u64::from(*b);
     }
     n
 }
@@ -66,11 +58,9 @@ pub fn put(out: &mut [u8], at: usize, count: usize, n: u64)
         return;
     }
     let mut rest = n;
-    let mut k = count;
-    while 0 < k {
-        k -= 1;
+    for k in (0..count).rev() {
         out[at + k] = (rest % 256) as u8;
-        rest = rest / 256;
+        rest /= 256;
     }
 }
 
@@ -98,6 +88,7 @@ pub fn put_i16(out: &mut [u8], at: usize, z: i16)
     put(out, at, 2, z as u64);
 }
 
+// Kept: an f32's and an f64's functions are two: a trait of six members over both is longer than they, and no plainer.
 // The f32 whose bits stand in four bytes from `at` on. A pattern of a NaN has no f32 of its own in the
 // language, so it gives a NaN.
 pub fn get_f32(s: &[u8], at: usize) -> f32
@@ -111,14 +102,15 @@ pub fn get_f32(s: &[u8], at: usize) -> f32
 }
 
 // Puts the bits of an f32 in four bytes from `at` on, of a NaN always the same ones.
+#[tactic(auto, using(crate::proofs::Patterns::nan_written), unfolding(crate::specs::Fields::with_float))]
 pub fn put_f32(out: &mut [u8], at: usize, x: f32)
     ensures { out.new ≡ with_float out.old at x }
 {
-    if x != x {
+    if x.is_nan() {
         put(out, at, 4, 0x7fc0_0000);
         return;
     }
-    put(out, at, 4, f32::to_bits(x) as u64);
+    put(out, at, 4, u64::from(x.to_bits()));
 }
 
 // The f64 whose bits stand in eight bytes from `at` on; a pattern of a NaN gives a NaN.
@@ -133,12 +125,13 @@ pub fn get_f64(s: &[u8], at: usize) -> f64
 }
 
 // Puts the bits of an f64 in eight bytes from `at` on, of a NaN always the same ones.
+#[tactic(auto, using(crate::proofs::Patterns::nan_written), unfolding(crate::specs::Fields::with_double))]
 pub fn put_f64(out: &mut [u8], at: usize, x: f64)
     ensures { out.new ≡ with_double out.old at x }
 {
-    if x != x {
+    if x.is_nan() {
         put(out, at, 8, 0x7ff8_0000_0000_0000);
         return;
     }
-    put(out, at, 8, f64::to_bits(x));
+    put(out, at, 8, x.to_bits());
 }

@@ -1,12 +1,13 @@
 -- `bank::convert` meets its contract: what is read into the lists is the file's bank. Assumes nothing.
 use Rattle.std.specs.Prelude.{◌≡◌, ◌*◌, ◌≤◌}
-use Rattle.lists.specs.Prelude.{sym, ap, ◌∙◌, List, ℕ, arith, Float, binary32, of_bits, ℤ, pos, length}
+use Rattle.lists.specs.Prelude.{refl, sym, ap, ◌∙◌, List, ℕ, arith, Float, binary32, of_bits, ℤ, pos, length}
 use Rattle.lists.specs.Prelude.{length-replicate, length-take-le, replicate, take, []}
 use Rattle.refusals.proofs.Ranges.{within_true}
-use Rattle.bank_form.specs.declared.Fault.{Fault}
+use Rattle.bank_form.specs.Fault.{Fault}
 use Rattle.bank_form.specs.Bank.{Bank, rows}
 use Rattle.bank_form.specs.Fault.{length_in, bank_in, fault_of}
 use Rattle.bank_form.proofs.Walk.{same_number}
+use Rattle.bank_form.proofs.Found.{handed, told_bad}
 use Rattle.bank_form.proofs.Exact.{Keeps, keeps, is_file_lem, rows_in}
 use Rattle.bank_check.specs.Checked.{VersionCheckPromise}
 use Rattle.bank.specs.Reading.{ReadOutcome, bank_found, read_bank}
@@ -65,14 +66,15 @@ module _ (xs : List Float) (made : length xs ≡ length (replicate {A = Float} 8
   taps_found : (n : ℕ) → n ≤ 8192 → length (take n xs) ≡ n
   taps_found n h = length-take-le n xs (of_all n h)
 
-pub returns-then-wrong-ne0 : goal.returns-then-wrong-ne0
-returns-then-wrong-ne0 c =
-    rw c.unwritten.ensures (version_told _ _ _ _ _ c.check_version-wrong.ensures.bits c.if-wrong-ne0.true)
+pub returns-in_err-check_version : goal.returns-in_err-check_version
+returns-in_err-check_version c =
+    rw (handed c.from_residual.result _ c.from_residual.ensures.1)
+    (version_told _ _ _ _ _ c.in_err-check_version.ensures.bits (told_bad c.in_err-check_version.field-0.0))
 
-pub fill_bank-found-requires : goal.fill_bank-found-requires
-fill_bank-found-requires c = (
-  omega (arith, few _ _ _ c.check_version-wrong.ensures c.if-wrong-ne0.false, rows_in c.args.file.now),
-  short _ _ _ c.check_version-wrong.ensures c.if-wrong-ne0.false,
+pub fill_bank-read-requires : goal.fill_bank-read-requires
+fill_bank-read-requires c = (
+  omega (arith, few _ _ _ c.in_ok-check_version.ensures refl, rows_in c.args.file.now),
+  short _ _ _ c.in_ok-check_version.ensures refl,
   length-replicate {A = ℤ} 8 (pos 0),
   length-replicate {A = ℤ} 8 (pos 0),
   length-replicate {A = Float} 8192 (of_bits binary32 0),
@@ -80,56 +82,56 @@ fill_bank-found-requires c = (
 
 pub slice_bounds-azimuths-end : goal.slice_bounds-azimuths-end
 slice_bounds-azimuths-end c =
-    let read = c.fill_bank-found in
-    let n = rows_few _ _ _ c.check_version-wrong.ensures c.if-wrong-ne0.false _ _ _ _ read.ensures in
+    let read = c.fill_bank-read in
+    let n = rows_few _ _ _ c.in_ok-check_version.ensures refl _ _ _ _ read.ensures in
     of_eight _ read.auto.azimuths _ n
 
 pub slice_bounds-convert_bank-end : goal.slice_bounds-convert_bank-end
 slice_bounds-convert_bank-end c =
-    let read = c.fill_bank-found in
-    let n = rows_few _ _ _ c.check_version-wrong.ensures c.if-wrong-ne0.false _ _ _ _ read.ensures in
+    let read = c.fill_bank-read in
+    let n = rows_few _ _ _ c.in_ok-check_version.ensures refl _ _ _ _ read.ensures in
     sym (rows_found _ read.auto.azimuths _ n)
 
 pub slice_bounds-elevations-end : goal.slice_bounds-elevations-end
 slice_bounds-elevations-end c =
-    let read = c.fill_bank-found in
-    let n = rows_few _ _ _ c.check_version-wrong.ensures c.if-wrong-ne0.false _ _ _ _ read.ensures in
+    let read = c.fill_bank-read in
+    let n = rows_few _ _ _ c.in_ok-check_version.ensures refl _ _ _ _ read.ensures in
     of_eight _ read.auto.elevations _ n
 
 pub slice_bounds-convert_bank-end-2 : goal.slice_bounds-convert_bank-end-2
 slice_bounds-convert_bank-end-2 c =
-    let read = c.fill_bank-found in
-    let n = rows_few _ _ _ c.check_version-wrong.ensures c.if-wrong-ne0.false _ _ _ _ read.ensures in
+    let read = c.fill_bank-read in
+    let n = rows_few _ _ _ c.in_ok-check_version.ensures refl _ _ _ _ read.ensures in
     sym (rows_found _ read.auto.elevations _ n)
 
 pub overflow_mul-taps : goal.overflow_mul-taps
 overflow_mul-taps c =
-    let n = rows_few _ _ _ c.check_version-wrong.ensures c.if-wrong-ne0.false _ _ _ _ c.fill_bank-found.ensures in
+    let n = rows_few _ _ _ c.in_ok-check_version.ensures refl _ _ _ _ c.fill_bank-read.ensures in
     omega (arith, n)
 
 pub overflow_mul-taps-2 : goal.overflow_mul-taps-2
 overflow_mul-taps-2 c =
-    let k = reach _ _ _ c.check_version-wrong.ensures c.if-wrong-ne0.false _ _ _ _ c.fill_bank-found.ensures in
+    let k = reach _ _ _ c.in_ok-check_version.ensures refl _ _ _ _ c.fill_bank-read.ensures in
     omega (arith, k)
 
 pub slice_bounds-taps-end : goal.slice_bounds-taps-end
 slice_bounds-taps-end c =
-    let read = c.fill_bank-found in
-    let k = reach _ _ _ c.check_version-wrong.ensures c.if-wrong-ne0.false _ _ _ _ read.ensures in
+    let read = c.fill_bank-read in
+    let k = reach _ _ _ c.in_ok-check_version.ensures refl _ _ _ _ read.ensures in
     of_all _ read.auto.taps _ k
 
 pub slice_bounds-convert_bank-end-3 : goal.slice_bounds-convert_bank-end-3
 slice_bounds-convert_bank-end-3 c =
-    let read = c.fill_bank-found in
-    let k = reach _ _ _ c.check_version-wrong.ensures c.if-wrong-ne0.false _ _ _ _ read.ensures in
+    let read = c.fill_bank-read in
+    let k = reach _ _ _ c.in_ok-check_version.ensures refl _ _ _ _ read.ensures in
     sym (taps_found _ read.auto.taps _ k)
 
 pub convert_bank-requires : goal.convert_bank-requires
 convert_bank-requires c =
-    let read = c.fill_bank-found in
-    let n = rows_few _ _ _ c.check_version-wrong.ensures c.if-wrong-ne0.false _ _ _ _ read.ensures in
-    let l = taps_few _ _ _ c.check_version-wrong.ensures c.if-wrong-ne0.false _ _ _ _ read.ensures in
-    let k = reach _ _ _ c.check_version-wrong.ensures c.if-wrong-ne0.false _ _ _ _ read.ensures in
+    let read = c.fill_bank-read in
+    let n = rows_few _ _ _ c.in_ok-check_version.ensures refl _ _ _ _ read.ensures in
+    let l = taps_few _ _ _ c.in_ok-check_version.ensures refl _ _ _ _ read.ensures in
+    let k = reach _ _ _ c.in_ok-check_version.ensures refl _ _ _ _ read.ensures in
     let rows = rows_found _ read.auto.azimuths _ n in
     let raised = rows_found _ read.auto.elevations _ n in
     let taps = taps_found _ read.auto.taps _ k in (
@@ -142,7 +144,7 @@ convert_bank-requires c =
 pub returns : goal.returns
 returns c =
     let args = c.args in
-    let read = same _ _ _ c.check_version-wrong.ensures c.if-wrong-ne0.false _ _ _ _ c.fill_bank-found.ensures in
+    let read = same _ _ _ c.in_ok-check_version.ensures refl _ _ _ _ c.fill_bank-read.ensures in
     c.convert_bank.ensures ∙ ap (λ (b : Bank). converted_bank args.to b args.out.now) read
     ∙ version_right args.from args.to args.file.now args.out.now
-    (none _ _ _ c.check_version-wrong.ensures c.if-wrong-ne0.false)
+    (none _ _ _ c.in_ok-check_version.ensures refl)

@@ -4,14 +4,15 @@ use Rattle.lists.specs.Prelude.{sym, ◌∙◌, length}
 use Rattle.bank_form.specs.Bank.{Bank}
 use Rattle.bank_form.specs.Encoding.{encode}
 use Rattle.bank_form.proofs.Walk.{same_number}
+use Rattle.bank_form.proofs.Found.{handed, told_bad}
 use Rattle.bank_form.proofs.RoundTrip.{length_encode}
 use Rattle.bank.proofs.Meets.{wrote}
 use Rattle.bank.proofs.Converting.{raised_fault_at, raised_told, other_length, right_length}
 use Rattle.bank.proofs.Fill.{placed_all}
 use Rattle.bank.proofs.convert_bank.Goals as goal
 
-pub returns-then-raised-ne0 : goal.returns-then-raised-ne0
-returns-then-raised-ne0 c =
+pub returns-in_err-check_elevations : goal.returns-in_err-check_elevations
+returns-in_err-check_elevations c =
     let args = c.args in
     let given : Bank = record {
       azimuths = args.azimuths.now;
@@ -19,7 +20,9 @@ returns-then-raised-ne0 c =
       length = args.l;
       taps = args.taps.now;
     } in
-    rw c.unwritten.ensures (raised_told args.version given _ _ c.elevations_fault-raised.ensures c.if-raised-ne0.true)
+    rw (handed c.from_residual.result _ c.from_residual.ensures.1)
+    (raised_told args.version given _ _ c.in_err-check_elevations.ensures
+    (told_bad c.in_err-check_elevations.field-0.0))
 
 pub returns-then-out-size : goal.returns-then-out-size
 returns-then-out-size c =
@@ -33,9 +36,8 @@ returns-then-out-size c =
     let size : c.row_at-size.result ≡ length (encode args.version bank) = c.row_at-size.ensures.0
     ∙ sym (length_encode args.version bank (record { paired = c.requires.2; count = c.requires.3 })) in
     let none : (raised_fault_at args.version bank).refusal ≡ 0 =
-    same_number (sym c.elevations_fault-raised.ensures) ∙ c.if-raised-ne0.false in
-    rw c.unwritten-then-out-size.ensures
-    (other_length _ bank _ none (λ e. c.if-out-size.true (e ∙ sym size)))
+    same_number (sym c.in_ok-check_elevations.ensures) in
+    other_length _ bank _ none (λ e. c.if-out-size.true (e ∙ sym size))
 
 pub returns : goal.returns
 returns c =
@@ -51,7 +53,7 @@ returns c =
     let size : c.row_at-size.result ≡ length (encode v bank) = c.row_at-size.ensures.0
     ∙ sym (length_encode v bank (record { paired = c.requires.2; count = c.requires.3 })) in
     let none : (raised_fault_at v bank).refusal ≡ 0 =
-    same_number (sym c.elevations_fault-raised.ensures) ∙ c.if-raised-ne0.false in
+    same_number (sym c.in_ok-check_elevations.ensures) in
     let long = c.if-out-size.false ∙ size in
     wrote v bank out _ _ size (c.put_bank.ensures.bytes ∙ placed_all out (encode v bank) long)
     ∙ right_length v bank out none long

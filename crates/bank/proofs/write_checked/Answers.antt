@@ -4,7 +4,7 @@ use Rattle.std.specs.Prelude.{◌≡◌, ◌+◌, ◌*◌, ◌≤◌}
 use Rattle.lists.specs.Prelude.{sym, ap, ◌∙◌, List, ℕ, arith, length, take, pos, nan}
 use Rattle.lists.specs.ForAll.{ForAll}
 use Rattle.lists.specs.Placed.{placed}
-use Rattle.bank_form.specs.declared.Fault.{Fault}
+use Rattle.bank_form.specs.Fault.{Fault}
 use Rattle.bank_form.specs.Bank.{Bank, rows}
 use Rattle.bank_form.specs.Encoding.{encode}
 use Rattle.bank_form.specs.Version.{row_size, largest_file}
@@ -13,6 +13,7 @@ use Rattle.bank_form.specs.FitsFields.{FitsFields, IsI16, IsFloat}
 use Rattle.bank_form.specs.WriteFault.{write_fault}
 use Rattle.bank_form.proofs.Writer.{writer_as_reader}
 use Rattle.bank_form.proofs.Walk.{same_number}
+use Rattle.bank_form.proofs.Found.{handed, told_bad}
 use Rattle.bank_form.proofs.RoundTrip.{Counted, length_encode, rows_reach}
 use Rattle.bank.proofs.Converting.{holds_2}
 use Rattle.bank.proofs.Meets.{LengthsFit, breaks, written, wrote}
@@ -66,11 +67,11 @@ module _ (b : Bank) (file out made : List ℕ) (few : rows b ≤ 8) (short : b.l
     }
 
     -- what the check of it found
-    found : (r : Fault) → r ≡ fault (take (length file) made) → r ≡ write_fault 2 b
-    found r e = e ∙ ap fault same ∙ sym (writer_as_reader 2 b held)
+    judged : (r : Fault) → r ≡ fault (take (length file) made) → r ≡ write_fault 2 b
+    judged r e = e ∙ ap fault same ∙ sym (writer_as_reader 2 b held)
 
-pub returns-then-found-ne0 : goal.returns-then-found-ne0
-returns-then-found-ne0 c =
+pub returns-in_err-check_file : goal.returns-in_err-check_file
+returns-in_err-check_file c =
     let args = c.args in
     let bank : Bank = record {
       azimuths = args.azimuths.now;
@@ -82,11 +83,11 @@ returns-then-found-ne0 c =
     let put = c.put_bank in
     let counted : Counted bank = record { paired = c.requires.2; count = c.requires.3 } in
     let all : length put.new.file ≡ largest_file = put.auto.file ∙ c.requires.5 in
-    let wrong = found bank file args.made.now put.new.file c.requires.1 c.requires.0 counted c.requires.4 all
-    put.ensures.bytes put.ensures.azimuths put.ensures.elevations c.type_inv.taps _ c.check_file-found.ensures.bits in
-    rw c.unwritten.ensures
+    let wrong = judged bank file args.made.now put.new.file c.requires.1 c.requires.0 counted c.requires.4 all
+    put.ensures.bytes put.ensures.azimuths put.ensures.elevations c.type_inv.taps _ c.in_err-check_file.ensures.bits in
+    rw (handed c.from_residual.result _ c.from_residual.ensures.1)
     (breaks bank file (lengths bank file args.made.now put.new.file c.requires.1 c.requires.0 counted c.requires.4 all
-    put.ensures.bytes) _ wrong c.if-found-ne0.true)
+    put.ensures.bytes) _ wrong (told_bad c.in_err-check_file.field-0.0))
 
 pub returns : goal.returns
 returns c =
@@ -101,9 +102,9 @@ returns c =
     let put = c.put_bank in
     let counted : Counted bank = record { paired = c.requires.2; count = c.requires.3 } in
     let all : length put.new.file ≡ largest_file = put.auto.file ∙ c.requires.5 in
-    let good = found bank file args.made.now put.new.file c.requires.1 c.requires.0 counted c.requires.4 all
-    put.ensures.bytes put.ensures.azimuths put.ensures.elevations c.type_inv.taps _ c.check_file-found.ensures.bits in
-    let none = same_number (sym good) ∙ c.if-found-ne0.false in
+    let good = judged bank file args.made.now put.new.file c.requires.1 c.requires.0 counted c.requires.4 all
+    put.ensures.bytes put.ensures.azimuths put.ensures.elevations c.type_inv.taps _ c.in_ok-check_file.ensures.bits in
+    let none = same_number (sym good) in
     let copy = c.copy_from_slice.ensures.after ∙ same bank file args.made.now put.new.file c.requires.1 c.requires.0
     counted c.requires.4 all put.ensures.bytes in
     let fit = lengths bank file args.made.now put.new.file c.requires.1 c.requires.0 counted c.requires.4 all

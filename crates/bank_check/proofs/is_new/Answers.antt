@@ -1,10 +1,11 @@
 -- `bank_check::is_new` meets its contract. The rows still to be looked at decide what all of them do. Assumes nothing.
-use Rattle.std.specs.Prelude.{◌≡◌, ◌+◌, ◌-◌}
-use Rattle.lists.specs.Prelude.{sym, ap, ◌∙◌, Bool, ℕ, arith, ℤ, not-true, not-false}
+use Rattle.std.specs.Prelude.{◌≡◌, ◌+◌, ◌-◌, ◌*◌, ◌<◌}
+use Rattle.lists.specs.Prelude.{sym, ap, ap₂, ◌∙◌, ℕ, arith, ℤ, not-true, not-false}
 use mir.Syntax.{w16}
 use mir.Val.{SFits, to_z, of_z}
 use mir.Facts.{to_z-of_z}
 use Rattle.bank_form.specs.Bank.{Pair}
+use Rattle.bank_form.specs.Version.{row_size}
 use Rattle.bank_form.specs.Fault.{is_new}
 use Rattle.bank_form.proofs.Walk.{new_met, new_next, new_end}
 use Rattle.bank_check.proofs.is_new.Goals as goal
@@ -19,24 +20,25 @@ kept z e f g = λ i. record { azimuth = to_z-of_z f i; elevation = to_z-of_z g i
 
 pub returns-then-is_pair : goal.returns-then-is_pair
 returns-then-is_pair c =
-    let turn = c.loop-k in
     let same = kept _ _ c.ranges.azimuth c.ranges.elevation in
+    let more : 0 < c.args.i - c.loop-k.k = omega arith in
     let met = not-true _ (sym c.is_pair.ensures ∙ c.if-is_pair.true) in
-    sym (rw same at (turn.invariant.3 ∙ new_met _ _ _ _ _ _ c.loop-k-test.true met))
+    sym (rw same at (c.loop-k.invariant ∙ new_met _ _ _ _ _ _ more met))
 
 pub loop-k-preserved : goal.loop-k-preserved
 loop-k-preserved c =
     let args = c.args in
-    let turn = c.loop-k in
+    let k = c.loop-k.k in
+    let row : c.row_size-row.result ≡ row_size args.version args.l = omega (arith, c.row_size-row.ensures) in
+    let more : 0 < args.i - k = omega arith in
+    let there : 9 + k * c.row_size-row.result + row_size args.version args.l ≡ 9 + (k + 1) * c.row_size-row.result =
+    omega (arith, row) in
+    let left : args.i - k - 1 ≡ args.i - (k + 1) = omega arith in
     let other = not-false _ (sym c.is_pair.ensures ∙ c.if-is_pair.false) in
-    let there : ℕ → Bool = λ w. is_new args.s.now args.version args.l
-    (wanted (of_z w16 args.azimuth) (of_z w16 args.elevation)) (turn.at + w) (turn.k - 1) in
-    let next = turn.invariant.3 ∙ new_next _ _ _ _ _ _ c.loop-k-test.true other in
-    (turn.invariant.0, turn.invariant.1, omega arith, next ∙ ap there (sym turn.invariant.0))
+    c.loop-k.invariant ∙ new_next _ _ _ _ _ _ more other ∙ ap₂ (is_new _ _ _ _) there left
 
 pub returns : goal.returns
 returns c =
-    let turn = c.loop-k in
     let same = kept _ _ c.ranges.azimuth c.ranges.elevation in
-    let done : turn.k ≡ 0 = omega arith in
-    sym (rw same at (turn.invariant.3 ∙ ap (is_new _ _ _ _ _) done ∙ new_end _ _ _ _ _))
+    let done : c.args.i - c.loop-k.k ≡ 0 = omega arith in
+    sym (rw same at (c.loop-k.invariant ∙ ap (is_new _ _ _ _ _) done ∙ new_end _ _ _ _ _))

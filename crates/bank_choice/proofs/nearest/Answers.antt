@@ -19,9 +19,7 @@ loop-j-preserved c =
     turn.j = c.nearer_row-best.ensures in
     let count : args.n - turn.j - 1 ≡ args.n - (turn.j + 1) = omega arith in (
       rw found (nearer_below _ _ p q turn.best turn.j args.n turn.invariant.0 c.loop-j-test.true),
-      omega arith,
-      omega arith,
-      turn.invariant.3 ∙ nearest_next _ _ p q turn.best turn.j (args.n - turn.j) more ∙ rw (count, found),
+      turn.invariant.1 ∙ nearest_next _ _ p q turn.best turn.j (args.n - turn.j) more ∙ rw (count, found),
     )
 
 pub returns : goal.returns
@@ -29,4 +27,4 @@ returns c =
     let turn = c.loop-j in
     let done : c.args.n - turn.j ≡ 0 = omega arith in
     sym (rw (to_z-of_z c.ranges.azimuth, to_z-of_z c.ranges.elevation) at
-    (turn.invariant.3 ∙ ap (nearest_from _ _ _ _ _ _) done ∙ nearest_end _ _ _ _ _ _))
+    (turn.invariant.1 ∙ ap (nearest_from _ _ _ _ _ _) done ∙ nearest_end _ _ _ _ _ _))

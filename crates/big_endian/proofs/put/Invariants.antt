@@ -6,6 +6,3 @@ use Rattle.big_endian.proofs.put.Given as goal
 abbrev pub invariant-loop-k : goal.invariant-loop-k
 invariant-loop-k l = (l.k ≤ l.count) × (l.count ≤ 8) × (l.at + l.count ≤ length l.initial.out)
     × (l.rest ≡ l.n / 256 ^ (l.count - l.k)) × (l.out ≡ put_from l.initial.out l.at l.count l.n l.k)
-
-abbrev pub decreases-loop-k : goal.decreases-loop-k
-decreases-loop-k l = l.k

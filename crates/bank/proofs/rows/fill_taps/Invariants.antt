@@ -1,11 +1,9 @@
-use Rattle.std.specs.Prelude.{◌≡◌, ◌-◌, ◌≤◌}
+use Rattle.std.specs.Prelude.{◌+◌, ◌*◌}
+use Rattle.lists.specs.Prelude.{ℕ, length}
 use Rattle.big_endian.specs.Fields.{float_at}
-use Rattle.lists.specs.Placed.{placed}
-use Rattle.big_endian.specs.Lists.{strided}
+use Rattle.lists.proofs.Filling.{Filling}
 use Rattle.bank.proofs.rows.fill_taps.Given as goal
 
 abbrev pub invariant-loop-k : goal.invariant-loop-k
-invariant-loop-k l = (l.k ≤ l.n) × (l.taps ≡ placed l.initial.taps l.q (strided (float_at l.file) 4 l.at l.k))
-
-abbrev pub decreases-loop-k : goal.decreases-loop-k
-decreases-loop-k l = l.n - l.k
+invariant-loop-k l =
+    Filling (λ (k : ℕ). float_at l.file (l.at + k * 4)) (length l.initial.taps) l.initial.taps l.taps l.k

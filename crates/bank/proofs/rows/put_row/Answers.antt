@@ -1,6 +1,6 @@
 -- `bank::rows::put_row` meets its contract. Assumes nothing.
-use Rattle.std.specs.Prelude.{◌≡◌, ◌++◌, ◌+◌, ◌*◌}
-use Rattle.lists.specs.Prelude.{refl, ap, ◌∙◌, append_assoc, arith, binary32, to_bits, ℤ, take, drop, length-append}
+use Rattle.std.specs.Prelude.{◌≡◌, ◌++◌, ◌+◌}
+use Rattle.lists.specs.Prelude.{refl, ap, ◌∙◌, append_assoc, arith, binary32, to_bits, ℤ, length-append}
 use mir.Syntax.{w16}
 use mir.Val.{to_z, of_z}
 use mir.Facts.{to_z-of_z}
@@ -10,7 +10,6 @@ use Rattle.lists.specs.Placed.{placed}
 use Rattle.big_endian.specs.Lists.{float_bytes}
 use Rattle.big_endian.proofs.Bytes.{length_bytes}
 use Rattle.big_endian.proofs.Fields.{field_put}
-use Rattle.lists.proofs.Tables.{length_part}
 use Rattle.big_endian.proofs.Lists.{part_more, length_field_bytes}
 use Rattle.bank_form.specs.Version.{elevation_size, elevation_bytes}
 use Rattle.bank_form.proofs.RoundTrip.{length_elevation}
@@ -24,8 +23,6 @@ returns c =
     (to_z-of_z c.ranges.azimuth) in
     let azimuth = bytes_of 2 (of_z w16 args.azimuth) in
     let elevation = elevation_bytes args.version args.elevation in
-    let row = take (2 * args.l) (drop args.q args.taps.now) in
-    let long = length_part args.taps.now args.q (2 * args.l) (omega arith) in
     let size = length_elevation args.version args.elevation in
     let one = field_put args.file.now c.put_i16.new.out args.at 2 _ (omega arith) (omega arith)
     c.put_i16.ensures ∙ ap (placed _ _) (ap (bytes_of 2) bits) in
@@ -36,10 +33,10 @@ returns c =
     (up.ensures ∙ ap (λ (z : ℤ). placed c.put_i16.new.out (args.at + 2) (elevation_bytes args.version z))
     (to_z-of_z c.ranges.elevation)) in
     let three =
-    part_more args.file.now up.new.file _ (azimuth ++ elevation) (float_bytes row) args.at
+    part_more args.file.now up.new.file _ (azimuth ++ elevation) (float_bytes args.taps.now) args.at
     (2 + elevation_size args.version) _ two
     (length-append azimuth elevation ∙ omega (arith, length_bytes 2 (of_z w16 args.azimuth), size))
     (omega (arith, c.elevation_size.ensures.0))
-    (omega (arith, length_field_bytes 4 (to_bits binary32) row, long))
+    (omega (arith, length_field_bytes 4 (to_bits binary32) args.taps.now))
     c.put_taps.ensures in
-    three ∙ ap (placed _ _) (append_assoc azimuth elevation (float_bytes row))
+    three ∙ ap (placed _ _) (append_assoc azimuth elevation (float_bytes args.taps.now))

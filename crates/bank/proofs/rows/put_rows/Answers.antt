@@ -1,6 +1,6 @@
 -- `bank::rows::put_rows` meets its contract. The rows put so far stand behind the head. Assumes nothing.
-use Rattle.std.specs.Prelude.{◌≡◌, ◌*◌}
-use Rattle.lists.specs.Prelude.{refl, sym, ap, ◌∙◌, List, ℕ, arith, pos, ℤ, Float, rules, length, get_or, take}
+use Rattle.std.specs.Prelude.{◌≡◌, ◌+◌, ◌-◌, ◌*◌}
+use Rattle.lists.specs.Prelude.{sym, ap, ◌∙◌, List, ℕ, arith, pos, ℤ, Float, rules, length, get_or, take}
 use Rattle.lists.specs.Prelude.{take-length}
 use borrow.Author.Count.{below_more}
 use mir.Syntax.{w16}
@@ -9,13 +9,10 @@ use Rattle.lists.specs.Placed.{placed}
 use Rattle.lists.proofs.Placed.{placed_none}
 use Rattle.big_endian.proofs.Signed.{back}
 use Rattle.bank_form.specs.Bank.{Pair, pairs_of}
-use Rattle.bank_form.specs.Version.{row_size}
 use Rattle.bank_form.specs.Encoding.{row_bytes}
 use Rattle.bank_form.specs.FitsFields.{IsI16}
 use Rattle.bank_form.proofs.Pairs.{length_pairs, pair_of}
 use Rattle.bank_form.proofs.RoundTrip.{one_row}
-use Rattle.lists.proofs.Tables.{chunk_end}
-use Rattle.lists.proofs.ForAll.{forall_in}
 use Rattle.bank.proofs.Fill.{no_rows, rows_more}
 use Rattle.bank.proofs.rows.put_rows.Goals as goal
 
@@ -33,23 +30,14 @@ module _ (azimuths elevations : List ℤ) (paired : length elevations ≡ length
 
 pub loop-i-init : goal.loop-i-init
 loop-i-init c = (
-  omega arith,
   sym (ap (placed _ _) (no_rows _ _ _) ∙ placed_none _ _),
   λ j h. absurd (omega arith),
   λ j h. absurd (omega arith),
 )
 
-pub put_row-requires : goal.put_row-requires
-put_row-requires c =
-    let args = c.args in
-    let inside = c.loop-i-test.true in
-    let taps = chunk_end c.loop-i.i (length args.azimuths.now) (2 * args.l) _ inside refl in
-    let bytes = chunk_end c.loop-i.i (length args.azimuths.now) (row_size args.version args.l) _ inside refl in
-    omega (arith, c.tap_at.ensures, c.row_at-at.ensures)
-
 pub loop-i-preserved : goal.loop-i-preserved
 loop-i-preserved c =
-    let q = c.tap_at in
+    let from = c.tap_at-from in
     let at = c.row_at-at in
     let args = c.args in
     let turn = c.loop-i in
@@ -71,30 +59,24 @@ loop-i-preserved c =
     (λ k. record { azimuth = azimuth k; elevation = elevation k })
     ∙ sym (pair_of args.azimuths.now args.elevations.now i none inside
     (omega (arith, inside, c.requires.2))) in
-    let row = c.put_row.ensures
+    let width : from.result + 2 * args.l - from.result ≡ 2 * args.l = omega arith in
+    let row = rw width at c.put_row.ensures
     ∙ ap (λ (p : Pair). placed turn.file at.result
-    (one_row args.version p args.l args.taps.now q.result)) pair in (
-      omega arith,
+    (one_row args.version p args.l args.taps.now from.result)) pair in (
       rows_more args.version ps args.l args.taps.now taps args.file.now
-          turn.file _ none i q.result at.result (omega (arith, inside, many)) q.ensures.0
+          turn.file _ none i from.result at.result (omega (arith, inside, many)) from.ensures.0
           at.ensures.0
-          (rw many c.requires.4) turn.invariant.1 row,
-      below_more (λ (j : ℕ). IsI16 (get_or args.azimuths.now j (pos 0))) i turn.invariant.2 near,
-      below_more (λ (j : ℕ). IsI16 (get_or args.elevations.now j (pos 0))) i turn.invariant.3 high,
+          (rw many c.requires.4) turn.invariant.0 row,
+      below_more (λ (j : ℕ). IsI16 (get_or args.azimuths.now j (pos 0))) i turn.invariant.1 near,
+      below_more (λ (j : ℕ). IsI16 (get_or args.elevations.now j (pos 0))) i turn.invariant.2 high,
     )
 
-pub returns : goal.returns
-returns c =
+pub returns-clause-bytes : goal.returns-clause-bytes
+returns-clause-bytes c =
     let args = c.args in
-    let turn = c.loop-i in
     let ps = pairs_of args.azimuths.now args.elevations.now in
     let many = count args.azimuths.now args.elevations.now c.requires.2 in
-    let done : turn.i ≡ length args.azimuths.now = omega arith in
-    let all : take turn.i ps ≡ ps = ap (λ (k : ℕ). take k ps) (done ∙ sym many) ∙ take-length ps in
-    record {
-      bytes = turn.invariant.1 ∙ ap (λ (ps : List Pair). placed args.file.now 9
-          (row_bytes args.version ps args.l args.taps.now)) all;
-      azimuths = forall_in IsI16 (pos 0) args.azimuths.now (omega arith) (λ j h. turn.invariant.2 j (omega arith));
-      elevations = forall_in IsI16 (pos 0) args.elevations.now (omega arith)
-          (λ j h. turn.invariant.3 j (omega (arith, h, done, c.requires.2)));
-    }
+    let done : c.loop-i.i ≡ length args.azimuths.now = omega arith in
+    let all : take c.loop-i.i ps ≡ ps = ap (λ (k : ℕ). take k ps) (done ∙ sym many) ∙ take-length ps in
+    c.loop-i.invariant.0 ∙ ap (λ (ps : List Pair). placed args.file.now 9
+    (row_bytes args.version ps args.l args.taps.now)) all

@@ -1,10 +1,10 @@
--- `bank::counts_fault` meets its contract. Assumes nothing.
+-- `bank::check_counts` meets its contract. Assumes nothing.
 use Rattle.std.specs.Prelude.{◌≡◌}
 use Rattle.lists.specs.Prelude.{sym, ◌∙◌, true, arith}
 use Rattle.refusals.specs.Ranges.{within}
 use Rattle.bank_form.proofs.Walk.{unless_passes, unless_fails}
-use Rattle.bank.proofs.counts_fault.Goals.{Else-not-is_within}
-use Rattle.bank.proofs.counts_fault.Goals as goal
+use Rattle.bank.proofs.check_counts.Goals.{Else-not-is_within}
+use Rattle.bank.proofs.check_counts.Goals as goal
 
 -- past the test of the row count
 few : (c : Else-not-is_within) → within 1 8 c.before.before.args.rows ≡ true
