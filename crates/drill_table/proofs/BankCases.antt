@@ -5,7 +5,7 @@ use Rattle.lists.specs.Prelude.{refl, List, [], ℕ, set, of_bits, of_fields}
 use Rattle.big_endian.specs.Bytes.{value_of}
 use Rattle.big_endian.specs.Fields.{field_at, signed_at, float_at}
 use Rattle.big_endian.specs.Lists.{strided}
-use Rattle.bank_form.specs.declared.Fault.{Fault}
+use Rattle.bank_form.specs.Fault.{Fault}
 use Rattle.bank_form.specs.Bank.{is_azimuth, is_elevation, unlike, differ, is_level}
 use Rattle.bank_form.specs.Version.{elevation_at}
 use Rattle.bank_form.specs.Fault.{bank_in, elevation_fault, fault_of, raised_from, raised_fault, sound, wrong, or_else}

@@ -2,7 +2,7 @@
 use Rattle.std.specs.Prelude.{◌≡◌}
 use Rattle.lists.specs.Prelude.{ap, ◌∙◌, pos, binary64, of_int, to_bits}
 use Rattle.formats.specs.Floats.{float}
-use Rattle.numbers.specs.declared.Rooted.{Rooted}
+use Rattle.numbers.specs.Computed.{Rooted}
 use Rattle.numbers.specs.Promise.{RootPromise}
 use Rattle.numbers.proofs.Drill.{root_four, root_two, tie_down, tie_up}
 use Rattle.harmonics.proofs.Drill.{drill_1, drill_1_floats, drill_2, drill_2_floats, drill_3, drill_3_floats}

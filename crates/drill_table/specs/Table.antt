@@ -6,7 +6,7 @@ use Rattle.lists.specs.Prelude.{ℕ, true, false, List, [], ℤ, pos, negsuc, le
 use Rattle.lists.specs.Prelude.{to_bits}
 use Rattle.fractions.specs.Fraction.{Fraction, whole, number, square, Less}
 use Rattle.formats.specs.Floats.{zero_float, one_float, half_float, float}
-use Rattle.numbers.specs.declared.Rooted.{Rooted}
+use Rattle.numbers.specs.Computed.{Rooted}
 use Rattle.numbers.specs.Promise.{NarrowPromise, RootPromise}
 use Rattle.series.specs.Angles.{defined_sine, defined_cosine}
 use Rattle.lists.specs.Tables.{tab}
@@ -21,7 +21,7 @@ use Rattle.surround.specs.Promise as Surround
 use Rattle.surround.specs.Drill.{gains51, sides_at0, centre_at0}
 use Rattle.hrtf_history.specs.History.{heard, unsettled_each, unsettled_in}
 use Rattle.hrtf_history.specs.Drill.{drill, samples}
-use Rattle.bank_choice.specs.declared.Choice.{Choice}
+use Rattle.bank_choice.specs.Choice.{Choice}
 use Rattle.bank_choice.specs.Choice.{ChoicePromise}
 use Rattle.bank.specs.Reading.{ReadOutcome, read_bank, read_refused, ReadPromise}
 use Rattle.bank.specs.Writing.{WriteOutcome, WritePromise}

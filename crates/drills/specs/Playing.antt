@@ -13,7 +13,7 @@ use Rattle.hrtf_checks.specs.Call.{BlockCall, setup_of}
 use Rattle.hrtf.specs.Reset.{ResetPromise}
 use Rattle.hrtf_setup.specs.Arrangement.{Arrangement}
 use Rattle.hrtf_setup.specs.Promise.{NewAmbisonicPromise}
-use Rattle.hrtf_runs.specs.NeverRefused.{shape_of, call_with, BankAccepted, NoneRefused}
+use Rattle.hrtf_runs.specs.NeverRefused.{shape_of, BankAccepted, NoneRefused}
 use Rattle.drills.specs.Drills.{Drill, Drilled, Planes, planes_left}
 
 -- the set-up of a bank and of what a set-up left

@@ -4,6 +4,9 @@ use Rattle.std.specs.Prelude.{◌≡◌, ◌*◌, ◌≤◌, ◌<◌}
 use Rattle.lists.specs.Prelude.{refl, sym, ap, ◌∙◌, subst, List, [], ℕ, zero, suc, zero-add, arith, length, get_or}
 use Rattle.lists.specs.Prelude.{replicate, take, Float, nan}
 use Rattle.formats.specs.Floats.{zero_float}
+use Rattle.refusals.specs.Numbers.{number_of}
+use Rattle.refusals.specs.declared.Refusal.{Refusal}
+use Rattle.refusals.proofs.Numbers.{number_above}
 use Rattle.refusals.proofs.First.{answered_refused}
 use Rattle.refusals.proofs.Chains.{Off, FirstAt, number_at, first_holds, off_accepts, none_holds}
 use Rattle.planes.specs.Planes.{sample_at, frame_at, frames_of, with_frames}
@@ -76,6 +79,10 @@ module _ (c : BlockCall) (t : State) (o : BlockOutcome) (p : ProcessPromise c t 
   pub unsettled_over : o.answer.unsettled ≡ unsettled_in (setup c) 0 past (frames_in c)
   unsettled_over = ap (λ (q : BlockOutcome). q.answer.unsettled) (p.bits ∙ outcome_computed c t z)
       ∙ counted_told (setup c) past t r (frames_in c)
+
+-- a refusal has a number
+pub has_number : (r : Refusal) → number_of r ≡ 0 → ⊥
+has_number r e = let above : 0 < number_of r = number_above r in omega arith
 
 pub promised_refused : (c : BlockCall) (t : State) (n : ℕ) → n ≡ refusal_of c t → (n ≡ 0 → ⊥)
     → ProcessPromise c t (refused n c t)
@@ -178,8 +185,8 @@ module _ (d : Desk) (speakers L : ℕ) (rings : List Float) where
   reset_fits e = let off = none_holds (reset_checks speakers L rings) tt e in
       ((not_outside L 512 off.1.0).0, is_equal (length rings) (speakers * L) off.1.1.0)
 
-  reset_told : (o : ResetOutcome) → o ≡ reset_outcome d speakers L rings → ResetPromise d speakers L rings o
-  reset_told o e =
+  reset_promised : (o : ResetOutcome) → o ≡ reset_outcome d speakers L rings → ResetPromise d speakers L rings o
+  reset_promised o e =
       record {
         bits = e;
         words = λ z u es eL. subst
@@ -206,12 +213,13 @@ module _ (d : Desk) (speakers L : ℕ) (rings : List Float) where
   pub reset_refused : (k : ℕ) → reset_refusal speakers L rings ≡ suc k
       → ResetPromise d speakers L rings (record { answer = record { refusal = suc k; desk = d }; rings = rings })
   reset_refused k e =
-      reset_told (record { answer = record { refusal = suc k; desk = d }; rings = rings }) (sym (reset_by (suc k) e))
+      reset_promised (record { answer = record { refusal = suc k; desk = d }; rings = rings })
+      (sym (reset_by (suc k) e))
 
   pub reset_accepted : (rings₁ : List Float) → reset_refusal speakers L rings ≡ 0
       → rings₁ ≡ replicate (length rings) zero_float
       → ResetPromise d speakers L rings (record { answer = record { refusal = 0; desk = zeroed }; rings = rings₁ })
   reset_accepted rings₁ e f =
-      reset_told (record { answer = record { refusal = 0; desk = zeroed }; rings = rings₁ })
+      reset_promised (record { answer = record { refusal = 0; desk = zeroed }; rings = rings₁ })
       (ap (λ (l : List Float). record { answer = record { refusal = 0; desk = zeroed }; rings = l }) f
       ∙ sym (reset_by 0 e))

@@ -44,14 +44,14 @@ module _ (h : ConvolverShape) (weights : List Float) (rows : List ℕ) (taps : L
       }
 
   pub turned : (stride n : ℕ) (ears₀ rings₁ : List Float) (bad : Bool) (both : EarSamples) (ears₁ ears₂ : List Float)
-      (count one : ℕ)
+      (late : Bool)
       → FramePut t.rings h.length t.desk.position (signals u f) rings₁ bad
       → both ≡ ears_by h rows taps (suc t.desk.position) rings₁
       → ears₁ ≡ with_sample ears₀ stride 0 n both.left
       → ears₂ ≡ with_sample ears₁ stride 1 n both.right
-      → one ≡ cond (bad || ltb 0 t.desk.to_go) 1 0
-      → FramePlayed h weights rows taps t f stride n count ears₀ rings₁ ears₂ (n + 1) (count + one) bad
-  turned stride n ears₀ rings₁ bad both ears₁ ears₂ count one put eb e₁ e₂ eo =
+      → late ≡ (bad || ltb 0 t.desk.to_go)
+      → FramePlayed h weights rows taps t f stride n ears₀ rings₁ ears₂ late bad
+  turned stride n ears₀ rings₁ bad both ears₁ ears₂ late put eb e₁ e₂ el =
       record {
         ringed = put.put;
         eared =
@@ -59,9 +59,7 @@ module _ (h : ConvolverShape) (weights : List Float) (rows : List ℕ) (taps : L
             ∙ ap (λ (ys : List Float). with_sample ys stride 1 n both.right) e₁
             ∙ ap (λ (b : EarSamples). with_sample (with_sample ears₀ stride 0 n b.left) stride 1 n b.right)
             (eb ∙ ap (ears_by h rows taps (suc t.desk.position)) put.put);
-        more = refl;
-        counts = ap (λ (k : ℕ). count + k)
-            (eo ∙ ap (λ (b : Bool). cond (b || ltb 0 t.desk.to_go) 1 0) put.damage);
+        unsettled = el ∙ ap (λ (b : Bool). b || ltb 0 t.desk.to_go) put.damage;
         damage = put.damage;
       }
 
@@ -139,43 +137,43 @@ module _ (c : BlockCall) (t : State) where
     now_stands = record { state = st; ears = ears₁; count = count }
 
     -- a frame further, the record changed after it
-    pub playing_more : (rings₂ ears₂ : List Float) (d₂ : Desk) (count₂ n₂ : ℕ) (bad : Bool) → n < c.frames
-        → FramePlayed c.shape c.weights c.rows c.taps st (frame n) c.stride n count ears₁ rings₂ ears₂ n₂
-        count₂ bad
+    pub playing_more : (rings₂ ears₂ : List Float) (d₂ : Desk) (one : ℕ) (late bad : Bool) → n < c.frames
+        → FramePlayed c.shape c.weights c.rows c.taps st (frame n) c.stride n ears₁ rings₂ ears₂ late bad
+        → one ≡ cond late 1 0
         → d₂ ≡ stepped_of c.shape.length bad d
-        → Playing c t rings₂ ears₂ d₂ count₂ n₂
-    playing_more rings₂ ears₂ d₂ count₂ n₂ bad h e ed =
-        subst (λ (k : ℕ). Playing c t rings₂ ears₂ d₂ count₂ k) (sym e.more) on_by_one
+        → Playing c t rings₂ ears₂ d₂ (count + one) (n + 1)
+    playing_more rings₂ ears₂ d₂ one late bad h e eo ed =
+        record {
+          few = omega (arith, p.few, counts, one_at_most (is_unsettled_by_desk (setup c) st (frame n)));
+          ready =
+              record {
+                few = p.ready.few;
+                chosen = p.ready.chosen;
+                tapped = p.ready.tapped;
+                ringed = long ∙ p.ready.ringed;
+                within = subst (λ (b : Desk). b.position < c.shape.length) (sym ed)
+                    (position_below c.shape.length bad d p.ready.within);
+              };
+          room = ap length e.eared ∙ length_with_frame 0 ears₁ c.stride n (ears_by_rings (setup c) st (frame n))
+              ∙ p.room;
+          same = long ∙ p.same;
+          goes = loop-more (onward c) frame c.frames first (staged c) (takes c) now_stands n (frame n) _
+              p.goes h refl stands;
+        }
       where
+        counts : one ≡ one_late c now_stands (frame n)
+        counts = eo ∙ ap (λ (b : Bool). cond b 1 0) e.unsettled
+
         desked : d₂ ≡ (stepped (setup c) st (frame n)).desk
         desked = ed ∙ ap (λ (b : Bool). stepped_of c.shape.length b d) e.damage
 
-        stands : ◌≡◌ {A = Stage} (record { state = record { rings = rings₂; desk = d₂ }; ears = ears₂; count = count₂ })
+        stands : ◌≡◌ {A = Stage}
+            (record { state = record { rings = rings₂; desk = d₂ }; ears = ears₂; count = count + one })
             (staged c n now_stands (frame n))
-        stands = cc (e.ringed, desked, e.eared, e.counts)
+        stands = cc (e.ringed, desked, e.eared, counts)
 
         long : length rings₂ ≡ length rings
         long = ap length e.ringed ∙ length_stored (setup c) st (frame n)
-
-        on_by_one : Playing c t rings₂ ears₂ d₂ count₂ (n + 1)
-        on_by_one =
-            record {
-              few = omega (arith, p.few, e.counts, one_at_most (is_unsettled_by_desk (setup c) st (frame n)));
-              ready =
-                  record {
-                    few = p.ready.few;
-                    chosen = p.ready.chosen;
-                    tapped = p.ready.tapped;
-                    ringed = long ∙ p.ready.ringed;
-                    within = subst (λ (b : Desk). b.position < c.shape.length) (sym ed)
-                        (position_below c.shape.length bad d p.ready.within);
-                  };
-              room = ap length e.eared ∙ length_with_frame 0 ears₁ c.stride n (ears_by_rings (setup c) st (frame n))
-                  ∙ p.room;
-              same = long ∙ p.same;
-              goes = loop-more (onward c) frame c.frames first (staged c) (takes c) now_stands n (frame n) _
-                  p.goes h refl stands;
-            }
 
     pub playing_all : c.frames ≤ n → BlockPlayed c t rings ears₁ d count
     playing_all h =

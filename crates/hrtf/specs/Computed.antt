@@ -1,7 +1,7 @@
 -- What the functions under `process` ask and leave. Definitions only; they speak of the program, and nobody has to
 -- believe them.
-use Rattle.std.specs.Prelude.{◌≡◌, ◌+◌, ◌*◌, ◌<◌}
-use Rattle.lists.specs.Prelude.{ℕ, Bool, false, cond, List, [], length, Float}
+use Rattle.std.specs.Prelude.{◌≡◌, ◌*◌, ◌<◌}
+use Rattle.lists.specs.Prelude.{ℕ, Bool, false, List, [], length, Float}
 use Rattle.formats.specs.Floats.{zero_float}
 use Rattle.checks.specs.Finite.{has_nonfinite}
 use Rattle.planes.specs.Planes.{with_frame, with_frames}
@@ -70,14 +70,12 @@ ear_by h rows taps side p rings = ring_ear (setup_of h [] rows taps) side p ring
 abbrev pub ears_by : ConvolverShape → List ℕ → List Float → ℕ → List Float → EarSamples
 ears_by h rows taps p rings = record { left = ear_by h rows taps 0 p rings; right = ear_by h rows taps 1 p rings }
 
--- what one frame leaves, n having been played and `count` of them being unsettled
+-- what frame n leaves, put behind those before it in the ear planes
 pub record FramePlayed (h : ConvolverShape) (weights : List Float) (rows : List ℕ) (taps : List Float) (t : State)
-    (f : List Float) (stride n count : ℕ) (ears₀ rings₁ ears₁ : List Float) (n₁ count₁ : ℕ) (bad : Bool) : Type
-    0 where
+    (f : List Float) (stride n : ℕ) (ears₀ rings₁ ears₁ : List Float) (late bad : Bool) : Type 0 where
   pub ringed : rings₁ ≡ stored (setup_of h weights rows taps) t f
   pub eared : ears₁ ≡ with_frame ears₀ stride n (ears_by_rings (setup_of h weights rows taps) t f)
-  pub more : n₁ ≡ n + 1
-  pub counts : count₁ ≡ count + cond (is_unsettled_by_desk (setup_of h weights rows taps) t f) 1 0
+  pub unsettled : late ≡ is_unsettled_by_desk (setup_of h weights rows taps) t f
   pub damage : bad ≡ damaged (setup_of h weights rows taps) f
 
 -- what the steps of an accepted call make of it: the law `accepted_computed` ties this to the promise, in every state

@@ -2,10 +2,13 @@
 -- returns that number as its sample count. Zero frames is accepted and changes nothing. Frames of a plane beyond the
 -- count are unchanged"; "A refusal returns its number, counts of 0, .. and the state given in; lent memory stays the
 -- same." Definitions only.
-use Rattle.std.specs.Prelude.{◌≡◌}
+use Rattle.std.specs.Prelude.{◌≡◌, Result}
 use Rattle.lists.specs.Prelude.{ℕ, List, [], Float}
 use Rattle.refusals.specs.Refusals.{answered}
+use Rattle.refusals.specs.Numbers.{number_in, value_in}
+use Rattle.refusals.specs.declared.Refusal.{Refusal}
 use Rattle.planes.specs.Planes.{with_frames}
+use Rattle.hrtf_desk.specs.declared.Desk.{Desk}
 use Rattle.hrtf_history.specs.History.{heard, unsettled_in, after}
 use Rattle.hrtf_rings.specs.State.{State}
 use Rattle.hrtf_rings.specs.Held.{held_in, after_frames, Represents}
@@ -13,9 +16,29 @@ use Rattle.hrtf.specs.declared.BlockAnswer.{BlockAnswer}
 use Rattle.hrtf_checks.specs.Call.{BlockCall, setup, frames_in}
 use Rattle.hrtf_checks.specs.Refusals.{refusal_of}
 
+-- what is told of a block: the number, how many frames were played and how many of them are unsettled, and the desk
+pub record BlockTold : Type 0 where
+  pub refusal : ℕ
+  pub samples : ℕ
+  pub unsettled : ℕ
+  pub desk : Desk
+
+-- a refused block: counts of 0, and the desk given in
+abbrev pub unplayed : Desk → BlockAnswer
+unplayed d = record { samples = 0; unsettled = 0; desk = d }
+
+abbrev pub block_told : Desk → Result BlockAnswer Refusal → BlockTold
+block_told d r =
+    record {
+      refusal = number_in r;
+      samples = (value_in (unplayed d) r).samples;
+      unsettled = (value_in (unplayed d) r).unsettled;
+      desk = (value_in (unplayed d) r).desk;
+    }
+
 -- the answer, and what the lent rings and ear planes hold
 pub record BlockOutcome : Type 0 where
-  pub answer : BlockAnswer
+  pub answer : BlockTold
   pub rings : List Float
   pub ears : List Float
 

@@ -1,19 +1,18 @@
 // The frames of a block that is accepted, one after another in the order of time. A frame's signals are put
 // into the rings by `planes`, at the desk's position; then each ear's parts are added, speakers rising; then
 // the desk's record is changed where it stands.
-ghost use Rattle.std.specs.Prelude.{◌≡◌, cond, ◌||◌, suc, ◌≤◌, ◌<◌, ◌^◌, ltb};
+ghost use Rattle.std.specs.Prelude.{◌≡◌, ◌||◌, suc, ◌≤◌, ◌<◌, ltb};
 ghost use Rattle.planes.specs.Planes.{frame_at};
 ghost use Rattle.hrtf.specs.Computed.{scaled_of, ScaledReady, ears_by, FramePlayed, BlockPlayed};
 
 use hrtf_checks::ConvolverShape;
 use hrtf_desk::Desk;
 
-// The frames played so far, how many of them are unsettled, and whether the last one is damaged.
+// Whether a frame that was played is unsettled, and whether it is damaged.
 #[derive(Clone, Copy)]
-pub(crate) struct Played {
-    pub(crate) frames: usize,
-    pub(crate) unsettled: usize,
-    pub(crate) damaged: bool,
+struct PlayedFrame {
+    unsettled: bool,
+    damaged: bool,
 }
 
 // The desk after a block, and how many of its frames are unsettled.
@@ -35,10 +34,10 @@ pub(crate) fn scale(shape: ConvolverShape) -> Scaled
     requires { (0 < shape.speakers) × (shape.speakers ≤ 8) }
     ensures { result ≡ scaled_of shape }
 {
-    let inverse = numbers::inverse_root(shape.speakers as u32);
+    let inverse_root = numbers::inverse_root(shape.speakers as u32).unwrap();
     Scaled {
         shape,
-        inverse_root: inverse.value,
+        inverse_root,
     }
 }
 
@@ -65,13 +64,10 @@ fn ears_of(
     let speakers = shape.speakers;
     let mut left = 0.0;
     let mut right = 0.0;
-    let mut s = 0;
-    while s < speakers {
-        let row = row_of[s];
-        let parts = crate::parts::of_speaker(shape, position, s, row, taps, rings);
+    for (s, row) in row_of[..speakers].iter().enumerate() {
+        let parts = crate::parts::of_speaker(shape, position, s, *row, taps, rings);
         left = left + parts.left;
         right = right + parts.right;
-        s += 1;
     }
     EarSamples {
         left: numbers::narrow(left * scaled.inverse_root),
@@ -79,22 +75,16 @@ fn ears_of(
     }
 }
 
-// One for a frame that is damaged, or has frames to go before it.
-fn one_if_late(damaged: bool, to_go: usize) -> usize
-    ensures { result ≡ cond (damaged || ltb 0 to_go) 1 0 }
+// Whether a frame is damaged, or has frames to go before it.
+fn is_late(damaged: bool, to_go: usize) -> bool
+    ensures { result ≡ (damaged || ltb 0 to_go) }
 {
-    if damaged {
-        return 1;
-    }
-    if 0 < to_go {
-        return 1;
-    }
-    0
+    damaged || 0 < to_go
 }
 
-// The next frame of the planes, with the desk's record as it stands before it.
+// Frame n of the planes, with the desk's record as it stands before it.
 fn one_frame(
-    played: Played,
+    n: usize,
     desk: Desk,
     scaled: Scaled,
     stride: usize,
@@ -104,21 +94,18 @@ fn one_frame(
     taps: &[f32],
     rings: &mut [f32],
     ears: &mut [f32],
-) -> Played
-    requires { ScaledReady scaled desk.position row_of.now taps.now rings.old
-        × (played.unsettled ≤ played.frames) × (suc played.frames < 2 ^ 64) }
+) -> PlayedFrame
+    requires { ScaledReady scaled desk.position row_of.now taps.now rings.old }
     ensures { FramePlayed scaled.shape weights.now row_of.now taps.now
         (record { rings = rings.old; desk = desk })
-        (frame_at inputs.now stride scaled.shape.channels played.frames) stride played.frames
-        played.unsettled ears.old rings.new ears.new
-        result.frames result.unsettled result.damaged }
+        (frame_at inputs.now stride scaled.shape.channels n) stride n ears.old rings.new ears.new
+        result.unsettled result.damaged }
 {
     let shape = scaled.shape;
     let speakers = shape.speakers;
     let length = shape.length;
     let position = desk.position;
     let to_go = desk.to_go;
-    let n = played.frames;
     let damaged = planes::mix_frame(
         rings,
         length,
@@ -133,9 +120,8 @@ fn one_frame(
     let heard = ears_of(scaled, position, row_of, taps, rings);
     planes::put_sample(ears, stride, 0, n, heard.left);
     planes::put_sample(ears, stride, 1, n, heard.right);
-    Played {
-        frames: n + 1,
-        unsettled: played.unsettled + one_if_late(damaged, to_go),
+    PlayedFrame {
+        unsettled: is_late(damaged, to_go),
         damaged,
     }
 }
@@ -170,19 +156,16 @@ pub(crate) fn block(
         result.unsettled }
 {
     let mut standing = desk;
-    let mut played = Played {
-        frames: 0,
-        unsettled: 0,
-        damaged: false,
-    };
-    while played.frames < frames {
-        played = one_frame(
-            played, standing, scaled, stride, inputs, weights, row_of, taps, rings, ears,
+    let mut unsettled = 0;
+    for n in 0..frames {
+        let played = one_frame(
+            n, standing, scaled, stride, inputs, weights, row_of, taps, rings, ears,
         );
+        unsettled += usize::from(played.unsettled);
         hrtf_desk::step(&mut standing, scaled.shape.length, played.damaged);
     }
     Turn {
         desk: standing,
-        unsettled: played.unsettled,
+        unsettled,
     }
 }

@@ -13,30 +13,21 @@
 #![tactic(auto)]
 
 ghost use Rattle.std.specs.Prelude.{◌≡◌};
-ghost use lib.ListN.{replicate};
-ghost use Rattle.formats.specs.Floats.{zero_float};
-ghost use Rattle.hrtf.specs.Promise.{ProcessPromise};
-ghost use Rattle.hrtf.specs.Reset.{ResetPromise};
+ghost use Rattle.hrtf.specs.Promise.{ProcessPromise, block_told};
+ghost use Rattle.hrtf.specs.Reset.{ResetPromise, reset_told};
 
 use hrtf_checks::ConvolverShape;
 use hrtf_desk::Desk;
+use refusals::Refusal;
 
 mod frames;
 mod parts;
 
-// What a block answers: a refusal, or 0 with the frames played, how many of them are unsettled, and the desk.
+// What an accepted block answers: the frames played, how many of them are unsettled, and the desk.
 #[derive(Clone, Copy)]
 pub struct BlockAnswer {
-    pub refusal: u8,
     pub samples: usize,
     pub unsettled: usize,
-    pub desk: Desk,
-}
-
-// What a reset answers: a refusal and the desk given in, or 0 and a desk of zeros.
-#[derive(Clone, Copy)]
-pub struct Rested {
-    pub refusal: u8,
     pub desk: Desk,
 }
 
@@ -52,7 +43,7 @@ pub fn process(
     taps: &[f32],
     rings: &mut [f32],
     ears: &mut [f32],
-) -> BlockAnswer
+) -> Result<BlockAnswer, Refusal>
     ensures { ProcessPromise
         (record {
           shape = shape;
@@ -65,18 +56,12 @@ pub fn process(
           ears = ears.old;
         })
         (record { rings = rings.old; desk = desk })
-        (record { answer = result; rings = rings.new; ears = ears.new }) }
+        (record { answer = block_told desk result; rings = rings.new; ears = ears.new }) }
 {
-    let refusal = hrtf_checks::refusal(
+    if let Some(refusal) = hrtf_checks::refusal(
         desk, shape, frames, stride, inputs, weights, row_of, taps, rings, ears,
-    );
-    if refusal != 0 {
-        return BlockAnswer {
-            refusal,
-            samples: 0,
-            unsettled: 0,
-            desk,
-        };
+    ) {
+        return Err(refusal);
     }
     let turn = frames::block(
         desk,
@@ -90,45 +75,30 @@ pub fn process(
         rings,
         ears,
     );
-    let left = turn.desk;
-    BlockAnswer {
-        refusal: 0,
+    Ok(BlockAnswer {
         samples: frames,
         unsettled: turn.unsettled,
-        desk: left,
-    }
+        desk: turn.desk,
+    })
 }
 
-fn silence(rings: &mut [f32])
-    ensures { rings.new ≡ replicate (lib.ListN.length rings.old) zero_float }
-{
-    let mut i = 0;
-    while i < rings.len() {
-        rings[i] = 0.0;
-        i += 1;
-    }
-}
-
-// Every ring 0.0, both numbers 0.
-pub fn reset(desk: Desk, speakers: usize, length: usize, rings: &mut [f32]) -> Rested
+// Every ring 0.0, both numbers 0. The desk given in is the caller's still where the reset is refused.
+pub fn reset(desk: Desk, speakers: usize, length: usize, rings: &mut [f32]) -> Result<Desk, Refusal>
     ensures { ResetPromise desk speakers length rings.old
-        (record { answer = result; rings = rings.new }) }
+        (record { answer = reset_told desk result; rings = rings.new }) }
 {
     if refusals::is_outside(speakers, 8) {
-        return Rested { refusal: 2, desk };
+        return Err(Refusal::Count);
     }
     if refusals::is_outside(length, 512) {
-        return Rested { refusal: 4, desk };
+        return Err(Refusal::FilterLength);
     }
     if !checks::is_product(rings.len(), speakers, length) {
-        return Rested { refusal: 5, desk };
+        return Err(Refusal::Misfit);
     }
-    silence(rings);
-    Rested {
-        refusal: 0,
-        desk: Desk {
-            position: 0,
-            to_go: 0,
-        },
-    }
+    rings.fill(0.0);
+    Ok(Desk {
+        position: 0,
+        to_go: 0,
+    })
 }

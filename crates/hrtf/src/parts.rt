@@ -20,11 +20,12 @@ fn run_back(cells: &[f32], left: &[f32], right: &[f32], sums: EarSums) -> EarSum
     requires { TapsFor cells.now left.now × TapsFor cells.now right.now }
     ensures { result ≡ dot_each sums (reverse cells.now) left.now right.now }
 {
+    // Kept: `hrtf_rings`' run for one ear, called twice, would read and widen each signal twice and not end at a NaN.
+    // Kept: an index, since zips of cells and both ears' taps would ask three ends at each step of the hottest loop.
     let n = cells.len();
     let mut to_left = sums.left;
     let mut to_right = sums.right;
-    let mut k = 0;
-    while k < n {
+    for k in 0..n {
         let i = n - 1 - k;
         let cell = cells[i];
         if cell != cell {
@@ -37,7 +38,6 @@ fn run_back(cells: &[f32], left: &[f32], right: &[f32], sums: EarSums) -> EarSum
         let signal = cell as f64;
         to_left = to_left + signal * (left[k] as f64);
         to_right = to_right + signal * (right[k] as f64);
-        k += 1;
     }
     EarSums {
         left: to_left,

@@ -1,15 +1,17 @@
-// Decides whether a call of the convolver is refused, and with which number: 2, 4, 5, 7 or 8 (document 01,
-// 'Refusal numbers').
+// Decides whether a call of the convolver is refused, and why: by 2, 4, 5, 7 or 8 of document 01 ('Refusal
+// numbers').
 //
-// These are the numbers whose argument `hrtf::process` has. Each test is a function of its own, in document
-// 01's words; `refusal` gives the number of the first that holds, and 0 where none does. It takes any input,
+// These are the refusals whose argument `hrtf::process` has. Each test is a function of its own, in document
+// 01's words; `refusal` gives that of the first that holds, and none where none does. It takes any input,
 // and promises the number by an equation.
 #![tactic(auto)]
 
 ghost use Rattle.std.specs.Prelude.{◌≡◌, ◌≤◌};
+ghost use Rattle.refusals.specs.Numbers.{number_found};
 ghost use Rattle.hrtf_checks.specs.Refusals.{row_missing, misshapen, convolver_unfit, desk_out_of_range, refusal_of};
 
 use hrtf_desk::Desk;
+use refusals::Refusal;
 
 // What stays the same from frame to frame: how many channels and speakers there are, how many rows the
 // bank has, and the length L of its filters.
@@ -26,15 +28,7 @@ fn is_row_missing(row_of: &[usize; 8], speakers: usize, rows: usize) -> bool
     requires { speakers ≤ 8 }
     ensures { result ≡ row_missing row_of.now speakers rows }
 {
-    let mut s = 0;
-    while s < speakers {
-        let row = row_of[s];
-        if rows <= row {
-            return true;
-        }
-        s += 1;
-    }
-    false
+    row_of[..speakers].iter().any(|row| rows <= *row)
 }
 
 // Whether speakers or bank rows are not 1..8, or channels not 1..16, or a speaker's row isn't in the bank.
@@ -95,7 +89,7 @@ fn is_desk_out_of_range(desk: Desk, length: usize) -> bool
     length <= to_go
 }
 
-// The number of the first test that holds; 0 where none does.
+// The refusal of the first test that holds.
 pub fn refusal(
     desk: Desk,
     shape: ConvolverShape,
@@ -107,8 +101,8 @@ pub fn refusal(
     taps: &[f32],
     rings: &[f32],
     ears: &[f32],
-) -> u8
-    ensures { result ≡ refusal_of
+) -> Option<Refusal>
+    ensures { number_found result ≡ refusal_of
         (record {
           shape = shape;
           frames = frames;
@@ -122,10 +116,10 @@ pub fn refusal(
         (record { rings = rings.now; desk = desk }) }
 {
     if is_misshapen(shape, row_of) {
-        return 2;
+        return Some(Refusal::Count);
     }
     if refusals::is_outside(shape.length, 512) {
-        return 4;
+        return Some(Refusal::FilterLength);
     }
     if is_misfit(
         shape,
@@ -137,16 +131,16 @@ pub fn refusal(
         rings.len(),
         ears.len(),
     ) {
-        return 5;
+        return Some(Refusal::Misfit);
     }
-    if checks::has_nonfinite_f64(weights) {
-        return 7;
+    if checks::has_nonfinite(weights) {
+        return Some(Refusal::NotFinite);
     }
-    if checks::has_nonfinite_f32(taps) {
-        return 7;
+    if checks::has_nonfinite(taps) {
+        return Some(Refusal::NotFinite);
     }
     if is_desk_out_of_range(desk, shape.length) {
-        return 8;
+        return Some(Refusal::Desk);
     }
-    0
+    None
 }

@@ -25,10 +25,7 @@ fn left_to_go(to_go: usize, length: usize, damaged: bool) -> usize
     if damaged {
         return length - 1;
     }
-    if to_go == 0 {
-        return 0;
-    }
-    to_go - 1
+    to_go.saturating_sub(1)
 }
 
 // One frame on. Where the position is not below the length, the record is as it was.
@@ -50,7 +47,5 @@ fn stepped(desk: Desk, length: usize, damaged: bool) -> Desk
 pub fn step(desk: &mut Desk, length: usize, damaged: bool)
     ensures { desk.new ≡ stepped_of length damaged desk.old }
 {
-    let was = *desk;
-    let is = stepped(was, length, damaged);
-    *desk = is;
+    *desk = stepped(*desk, length, damaged);
 }

@@ -22,6 +22,7 @@ ghost use Rattle.hrtf_rings.specs.Unrolled.{unrolled};
 pub fn cells_up_to(newest: usize, n: usize) -> usize
     ensures { result ≡ min (suc newest) n }
 {
+    // Kept: as `(newest + 1).min(n)` the sum may not fit in 64 bits; here it is formed below n alone.
     if n <= newest {
         return n;
     }
@@ -33,16 +34,10 @@ pub fn cells_up_to(newest: usize, n: usize) -> usize
 fn run_back(cells: &[f32], taps: &[f32], sum: f64) -> f64
     ensures { result ≡ dot sum (reverse cells.now) taps.now }
 {
-    let n = cells.len();
-    let count = checks::min(n, taps.len());
-    let mut total = sum;
-    let mut k = 0;
-    while k < count {
-        let i = n - 1 - k;
-        total = total + numbers::widen(cells[i]) * numbers::widen(taps[k]);
-        k += 1;
-    }
-    total
+    cells.iter().rev().zip(taps).fold(
+        sum,
+        |total, (cell, tap)| total + numbers::widen(*cell) * numbers::widen(*tap),
+    )
 }
 
 // An ear's part of one speaker: its ring, whose newest signal stands in the cell `newest`, back round to the
@@ -52,7 +47,7 @@ pub fn convolve(ring: &[f32], newest: usize, taps: &[f32]) -> f64
     ensures { result ≡ dot zero_float (unrolled (suc newest) ring.now) taps.now }
 {
     let split = cells_up_to(newest, ring.len());
-    let used = checks::min(split, taps.len());
+    let used = split.min(taps.len());
     let first = run_back(&ring[..split], &taps[..used], 0.0);
     run_back(&ring[split..], &taps[used..], first)
 }

@@ -14,7 +14,7 @@ use Rattle.channel.specs.declared.Layout.{Layout}
 use Rattle.channel.specs.Layouts.{channels_of, layout_channels, surround}
 use Rattle.channel.specs.Orders.{refuses_order, channels_of_order}
 use Rattle.channel.proofs.Counts.{surround_counted, surround_few}
-use Rattle.bank_choice.specs.declared.Choice.{Choice}
+use Rattle.bank_choice.specs.Choice.{Choice}
 use Rattle.bank_choice.specs.Nearest.{Takes}
 use Rattle.bank_choice.specs.Computed.{nearest_from}
 use Rattle.bank_choice.specs.Choice.{is_elevation, refused_with, choice_of}
@@ -22,7 +22,7 @@ use Rattle.bank_choice.proofs.Takes.{takes}
 use Rattle.bank_choice.proofs.Meets.{none_refused}
 use Rattle.virtual_speaker.specs.Promise.{position_of}
 use Rattle.virtual_speaker.proofs.Laws.{outcome_kept, position_accepted}
-use Rattle.hrtf_setup.specs.declared.Arranged.{Arranged}
+use Rattle.hrtf_setup.specs.Arrangement.{SetupAnswer}
 use Rattle.hrtf_setup.specs.declared.Speakers.{Speakers}
 use Rattle.hrtf_setup.specs.declared.Speakers.TheVariants.{Of, Virtual}
 use Rattle.hrtf_setup.specs.Speakers.{tenths_at, speaker_elevation, row_at, rows_of, weight_of, weight_at}
@@ -72,12 +72,12 @@ module _ (k : Speakers) (speakers channels : ℕ) (azimuths elevations : List �
   by n e = ap (λ (m : ℕ). arranged_by m k speakers channels azimuths elevations rows weights given) e
 
   -- refused with the number of the first test that holds, and both lists as they were
-  pub refused_at : (i n : ℕ) (a : Arranged) → number_at i tests ≡ suc n → FirstAt i tests
+  pub refused_at : (i n : ℕ) (a : SetupAnswer) → number_at i tests ≡ suc n → FirstAt i tests
       → a ≡ record { refusal = suc n; speakers = 0; channels = 0 }
       → record { answer = a; weights = weights; rows = given } ≡ arranged_by later k speakers channels azimuths
       elevations rows weights given
   unfolding later_refusal
-  refused_at i n a e h ea = ap (λ (b : Arranged). record { answer = b; weights = weights; rows = given }) ea
+  refused_at i n a e h ea = ap (λ (b : SetupAnswer). record { answer = b; weights = weights; rows = given }) ea
       ∙ sym (by (suc n) (first_holds i tests h ∙ e))
 
   pub arranged : (weights₁ : List Float) (rows₁ : List ℕ) → Off tests
@@ -151,14 +151,14 @@ module _ (w : Wanted) (azimuths elevations : List ℤ) (rows : ℕ) (weights : L
         }
 
     -- the first check decides
-    not_offered : (n : ℕ) → w.check.number ≡ suc n → (a : Arranged) → w.check.holds ≡ true
+    not_offered : (n : ℕ) → w.check.number ≡ suc n → (a : SetupAnswer) → w.check.holds ≡ true
         → a ≡ record { refusal = suc n; speakers = 0; channels = 0 }
         → ArrangePromise w azimuths elevations rows weights given
         (record { answer = a; weights = weights; rows = given })
     unfolding refusal_of
     not_offered n en a h ea =
         arranges n en (record { answer = a; weights = weights; rows = given })
-        (ap (λ (b : Arranged). record { answer = b; weights = weights; rows = given }) ea
+        (ap (λ (b : SetupAnswer). record { answer = b; weights = weights; rows = given }) ea
         ∙ sym (by_wanted (suc n) (cond_true w.check.number _ h ∙ en)))
 
     -- or leaves it to what both do
@@ -182,7 +182,7 @@ module _ (l : Layout) (h : not (surround l) ≡ false) (n : ℕ) (counts : n ≡
       (omega (arith, e, f.1), omega (arith, e, f.0), omega (arith, e, f.1))
 
 module _ (l : Layout) (azimuths elevations : List ℤ) (rows : ℕ) (weights : List Float) (given : List ℕ) where
-  pub layout_refused_lem : (a : Arranged) → not (surround l) ≡ true → a
+  pub layout_refused_lem : (a : SetupAnswer) → not (surround l) ≡ true → a
       ≡ record { refusal = 2; speakers = 0; channels = 0 }
       → NewSurroundPromise l azimuths elevations rows weights given
       (record { answer = a; weights = weights; rows = given })
@@ -212,7 +212,7 @@ module _ (order : ℕ) (azimuths elevations : List ℤ) (rows : ℕ) (weights : 
             };
       }
 
-  pub order_refused_lem : (a : Arranged) → refuses_order order ≡ true
+  pub order_refused_lem : (a : SetupAnswer) → refuses_order order ≡ true
       → a ≡ record { refusal = 1; speakers = 0; channels = 0 }
       → NewAmbisonicPromise order azimuths elevations rows weights given
       (record { answer = a; weights = weights; rows = given })

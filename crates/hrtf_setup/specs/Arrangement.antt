@@ -4,6 +4,9 @@ use Rattle.std.specs.Prelude.{◌*◌, ◌∷◌}
 use Rattle.lists.specs.Prelude.{ℕ, not, List, [], eqb, ℤ, length, Float}
 use Rattle.refusals.specs.Refusals.{Check, first_of, ◌when◌, answered, outside}
 use Rattle.lists.specs.Tables.{tab}
+use Rattle.std.specs.Prelude.{Result}
+use Rattle.refusals.specs.Numbers.{number_in, value_in}
+use Rattle.refusals.specs.declared.Refusal.{Refusal}
 use Rattle.hrtf_setup.specs.declared.Arranged.{Arranged}
 use Rattle.hrtf_setup.specs.declared.Speakers.{Speakers}
 use Rattle.hrtf_setup.specs.Speakers.{rows_of, weight_at}
@@ -27,9 +30,22 @@ unfoldable pub refusal_of : Wanted → List ℤ → List ℤ → ℕ → List Fl
 refusal_of w azimuths elevations rows weights =
     first_of (w.check ∷ later_checks (w.speakers * w.channels) azimuths elevations rows weights)
 
+-- what is told of a set-up: the number, and how many speakers and channels it has, none where it is refused
+pub record SetupAnswer : Type 0 where
+  pub refusal : ℕ
+  pub speakers : ℕ
+  pub channels : ℕ
+
+abbrev pub none : Arranged
+none = record { speakers = 0; channels = 0 }
+
+abbrev pub setup_answer : Result Arranged Refusal → SetupAnswer
+setup_answer r =
+    record { refusal = number_in r; speakers = (value_in none r).speakers; channels = (value_in none r).channels }
+
 -- the answer, and what the two lists hold
 pub record Arrangement : Type 0 where
-  pub answer : Arranged
+  pub answer : SetupAnswer
   pub weights : List Float
   pub rows : List ℕ
 

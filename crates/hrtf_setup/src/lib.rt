@@ -16,15 +16,16 @@ ghost use Rattle.std.specs.Float.{nan};
 ghost use Rattle.lists.specs.Tables.{tab};
 ghost use Rattle.virtual_speaker.specs.Promise as Weighing;
 ghost use Rattle.hrtf_setup.specs.Speakers.{tenths_at, rows_of, one_if, weight_of, weight_at};
-ghost use Rattle.hrtf_setup.specs.Arrangement.{later_refusal, arranged_by};
+ghost use Rattle.hrtf_setup.specs.Arrangement.{setup_answer, later_refusal, arranged_by};
 ghost use Rattle.hrtf_setup.specs.Promise.{NewSurroundPromise, NewAmbisonicPromise};
 
 use channel::Layout;
+use harmonics::Direction;
+use refusals::Refusal;
 
-// What a set-up answers: a refusal, or 0 with the number of speakers and of channels.
+// How many speakers and channels a set-up has.
 #[derive(Clone, Copy)]
 pub struct Arranged {
-    pub refusal: u8,
     pub speakers: usize,
     pub channels: usize,
 }
@@ -36,23 +37,13 @@ enum Speakers {
     Virtual(usize),
 }
 
-fn unarranged(refusal: u8) -> Arranged
-    ensures { result ≡ record { refusal = refusal; speakers = 0; channels = 0 } }
-{
-    Arranged {
-        refusal,
-        speakers: 0,
-        channels: 0,
-    }
-}
-
 // Where a speaker stands, in whole tenths of a degree.
 fn tenths(whose: Speakers, s: usize) -> i16
     ensures { result ≡ tenths_at whose s }
 {
     match whose {
-        Speakers::Of(layout) => channel::speaker_tenths(layout, s).tenths as i16,
-        Speakers::Virtual(_) => channel::position_tenths(s).tenths as i16,
+        Speakers::Of(layout) => channel::speaker_tenths(layout, s).unwrap_or(0) as i16,
+        Speakers::Virtual(_) => channel::position_tenths(s).unwrap_or(0) as i16,
     }
 }
 
@@ -69,13 +60,18 @@ fn choose_rows(
     ensures { row_of.new ≡ rows_of whose speakers azimuths.now elevations.now rows
         row_of.old }
 {
-    let mut s = 0;
-    while s < speakers {
-        let choice = bank_choice::nearest_row(azimuths, elevations, rows, tenths(whose, s), 0);
-        row_of[s] = choice.row;
-        s += 1;
+    for (s, row) in row_of[..speakers].iter_mut().enumerate() {
+        *row = bank_choice::nearest_row(azimuths, elevations, rows, tenths(whose, s), 0).unwrap_or(
+            0,
+        );
     }
 }
+
+// Where what is no speaker counts as standing.
+const FRONT: Direction = Direction {
+    azimuth: 0.0,
+    elevation: 0.0,
+};
 
 fn own_channel(s: usize, channel: usize) -> f64
     ensures { result ≡ one_if s channel }
@@ -90,9 +86,9 @@ fn own_channel(s: usize, channel: usize) -> f64
 fn coefficient(order: usize, s: usize, channel: usize) -> f64
     ensures { result ≡ get_or (Weighing.outcome order (Weighing.position_of s)).weights channel nan }
 {
-    let position = virtual_speaker::foa_position(s);
-    let speaker = virtual_speaker::compute_sh_coefficients_max_re(order, position.direction);
-    let weights = speaker.weights;
+    let direction = virtual_speaker::foa_position(s).unwrap_or(FRONT);
+    let weights = virtual_speaker::compute_sh_coefficients_max_re(order, direction);
+    let weights = weights.unwrap_or([0.0; 16]);
     if channel < 16 {
         return weights[channel];
     }
@@ -114,10 +110,8 @@ fn put_weights(weights: &mut [f64], whose: Speakers, n: usize)
     requires { 0 < n }
     ensures { weights.new ≡ tab 0 (length weights.old) (weight_at whose n) }
 {
-    let mut i = 0;
-    while i < weights.len() {
-        weights[i] = weight(whose, i / n, i % n);
-        i += 1;
+    for (i, place) in weights.iter_mut().enumerate() {
+        *place = weight(whose, i / n, i % n);
     }
 }
 
@@ -131,32 +125,28 @@ fn arrange(
     rows: usize,
     weights: &mut [f64],
     row_of: &mut [usize; 8],
-) -> Arranged
+) -> Result<Arranged, Refusal>
     requires { (speakers ≤ 8) × (0 < channels) × (channels ≤ 16) }
-    ensures { record { answer = result; weights = weights.new; rows = row_of.new }
+    ensures { record { answer = setup_answer result; weights = weights.new; rows = row_of.new }
         ≡ arranged_by (later_refusal (speakers * channels) azimuths.now elevations.now rows
         weights.old) whose speakers channels azimuths.now elevations.now rows
         weights.old row_of.old }
 {
     if refusals::is_outside(rows, 8) {
-        return unarranged(2);
+        return Err(Refusal::Count);
     }
     if azimuths.len() != 8 {
-        return unarranged(5);
+        return Err(Refusal::Misfit);
     }
     if elevations.len() != 8 {
-        return unarranged(5);
+        return Err(Refusal::Misfit);
     }
     if !checks::is_product(weights.len(), speakers, channels) {
-        return unarranged(5);
+        return Err(Refusal::Misfit);
     }
     put_weights(weights, whose, channels);
     choose_rows(row_of, whose, speakers, azimuths, elevations, rows);
-    Arranged {
-        refusal: 0,
-        speakers,
-        channels,
-    }
+    Ok(Arranged { speakers, channels })
 }
 
 // The weights and the bank rows of a surround layout's speakers.
@@ -167,17 +157,16 @@ pub fn new_surround(
     rows: usize,
     weights: &mut [f64],
     row_of: &mut [usize; 8],
-) -> Arranged
+) -> Result<Arranged, Refusal>
     ensures { NewSurroundPromise layout azimuths.now elevations.now rows
         weights.old
         row_of.old
-        (record { answer = result; weights = weights.new; rows = row_of.new }) }
+        (record { answer = setup_answer result; weights = weights.new; rows = row_of.new }) }
 {
     if !channel::is_surround(layout) {
-        return unarranged(2);
+        return Err(Refusal::Count);
     }
-    let counted = channel::channel_count(layout);
-    let n = counted.channels;
+    let n = channel::channel_count(layout).unwrap();
     arrange(
         Speakers::Of(layout),
         n,
@@ -198,17 +187,13 @@ pub fn new_ambisonic(
     rows: usize,
     weights: &mut [f64],
     row_of: &mut [usize; 8],
-) -> Arranged
+) -> Result<Arranged, Refusal>
     ensures { NewAmbisonicPromise order azimuths.now elevations.now rows
         weights.old
         row_of.old
-        (record { answer = result; weights = weights.new; rows = row_of.new }) }
+        (record { answer = setup_answer result; weights = weights.new; rows = row_of.new }) }
 {
-    let counted = channel::ambisonic_channel_count(order);
-    if counted.refusal != 0 {
-        return unarranged(1);
-    }
-    let n = counted.channels;
+    let n = channel::ambisonic_channel_count(order)?;
     arrange(
         Speakers::Virtual(order),
         8,

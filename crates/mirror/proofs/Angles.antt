@@ -16,7 +16,7 @@ use Rattle.angles.specs.Computed.{outermost}
 use Rattle.angles.specs.Computed.{from_one, rounded_units, sine_at, cosine_at, wave_computed}
 use Rattle.angles.specs.Limits.{limit, is_inside, refuses_angle}
 use Rattle.refusals.specs.Refusals.{answered}
-use Rattle.angles.specs.declared.Answer.{Answer}
+use Rattle.angles.specs.Promise.{Answer}
 use Rattle.angles.specs.Promise.{is_refused}
 use Rattle.harmonics.specs.Computed.{sin, cos}
 use Rattle.formats.specs.Zeros.{unsigned_zero}

@@ -11,8 +11,8 @@ use Rattle.matrix.specs.Mirror.{lateral}
 use Rattle.harmonics.specs.Computed.{sin, cos, ◌·◌, waves_of, up_to}
 use Rattle.harmonics.specs.Promise as Harmonics
 use Rattle.harmonics.specs.declared.Direction.{Direction}
-use Rattle.harmonics.specs.declared.Coefficients.{Coefficients}
-use Rattle.virtual_speaker.specs.declared.Weighted.{Weighted}
+use Rattle.harmonics.specs.Promise.{Coefficients}
+use Rattle.virtual_speaker.specs.Promise.{Weighted}
 use Rattle.refusals.specs.Refusals.{answered}
 use Rattle.virtual_speaker.specs.Weights.{degree_of}
 use Rattle.virtual_speaker.specs.Computed.{cosine_of, weight, weigh}

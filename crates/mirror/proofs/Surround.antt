@@ -23,7 +23,7 @@ use Rattle.channel.specs.declared.Layout.TheVariants.{Surround51, Surround71}
 use Rattle.channel.proofs.Counts.{by_surround}
 use Rattle.harmonics.specs.Promise.{refuses_azimuth, silent_gains}
 use Rattle.surround.specs.Computed.{channel_gain, raw_gains, square_at, sum_of, divided_by}
-use Rattle.surround.specs.declared.SurroundGains.{SurroundGains}
+use Rattle.surround.specs.Promise.{SurroundGains}
 use Rattle.surround.specs.Promise.{surround_gains, outcome}
 use Rattle.surround.proofs.Laws.{refusal_is}
 use Rattle.mirror.specs.Partners.{across_from}

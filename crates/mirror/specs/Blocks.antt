@@ -6,7 +6,7 @@ use Rattle.lists.specs.Prelude.{ℕ, List, map, length, get_or, Float, nan, neg}
 use Rattle.lists.specs.Tables.{tab, chunk}
 use Rattle.planes.specs.Planes.{frames_of}
 use Rattle.planes.specs.Sums.{mixed}
-use Rattle.ambisonic_decoder.specs.declared.Decoded.{Decoded}
+use Rattle.ambisonic_decoder.specs.Promise.{Decoded}
 use Rattle.ambisonic_decoder.specs.Promise.{DecoderPromise}
 use Rattle.matrix.specs.Mirror.{lateral, negated_at, mirrored}
 

@@ -1,7 +1,10 @@
 -- What is used of the convolver: a block of its own is not refused, what `hrtf::process` leaves of it, by its equation,
 -- and what `hrtf::reset` leaves. All that this crate knows of `hrtf` is said here. Assumes nothing.
-use Rattle.std.specs.Prelude.{◌≡◌, ◌*◌, ◌≤◌}
-use Rattle.lists.specs.Prelude.{sym, ap, ◌∙◌, List, ℕ, length, Float}
+use Rattle.std.specs.Prelude.{◌≡◌, ◌*◌, ◌≤◌, Result, Ok, IsOk}
+use Rattle.lists.specs.Prelude.{sym, ap, ◌∙◌, subst, List, ℕ, length, Float}
+use Rattle.refusals.specs.Numbers.{value_in}
+use Rattle.refusals.specs.declared.Refusal.{Refusal}
+use Rattle.refusals.proofs.Numbers.{accepted_ok}
 use Rattle.checks.proofs.Checks.{equal_passes}
 use Rattle.lists.proofs.Tables.{length_tab}
 use Rattle.planes.specs.Planes.{frame_at, frames_of}
@@ -14,8 +17,9 @@ use Rattle.hrtf_rings.proofs.Blocks.{played_held}
 use Rattle.hrtf_checks.specs.Call.{BlockCall}
 use Rattle.hrtf_checks.specs.Refusals.{refusal_of}
 use Rattle.hrtf_checks.proofs.Refusing.{lengths_fit_lem, on_desk, accept}
-use Rattle.hrtf.specs.Promise.{BlockOutcome, state_after, ProcessPromise}
-use Rattle.hrtf.specs.Reset.{ResetOutcome, ResetPromise}
+use Rattle.hrtf.specs.declared.BlockAnswer.{BlockAnswer}
+use Rattle.hrtf.specs.Promise.{BlockOutcome, block_told, state_after, ProcessPromise}
+use Rattle.hrtf.specs.Reset.{ResetOutcome, reset_told, reset_by_of, ResetPromise}
 use Rattle.hrtf.proofs.Meets.{outcome_by_lem, outcome_computed, reset_accepts, reset_by}
 use Rattle.replay.specs.Recording.{Recording, setup_in}
 use Rattle.replay.specs.Heard.{rested}
@@ -55,6 +59,14 @@ module _ {l : Recording} (good : RecordingChecked l) {t : State} {count : ℕ} {
         ),
       ))
 
+  -- so there is an answer
+  pub block_ok : (r : Result BlockAnswer Refusal) {rings₁ own₁ : List Float}
+      → ProcessPromise (block_call l count block own) t
+      (record { answer = block_told t.desk r; rings = rings₁; ears = own₁ }) → IsOk r
+  block_ok r p =
+      accepted_ok r (ap (λ (o : BlockOutcome). o.answer.refusal)
+      (p.bits ∙ outcome_computed (block_call l count block own) t block_accepted))
+
   module _ {o : BlockOutcome} (p : ProcessPromise (block_call l count block own) t o) where
     abbrev fs : List (List Float)
     fs = frames_of block 64 l.shape.channels count
@@ -74,12 +86,29 @@ module _ {l : Recording} (good : RecordingChecked l) {t : State} {count : ℕ} {
         (length_tab 0 count (frame_at block 64 l.shape.channels)) few kept.eared
         ∙ sym (played_held (setup_in l) t fs kept.state.ringed kept.state.within)
 
+-- what is promised of an answer that is accepted, said of what it holds
+pub block_promised : {c : BlockCall} {t : State} {r : Result BlockAnswer Refusal} {a : BlockAnswer}
+    {rings ears : List Float} → r ≡ Ok a
+    → ProcessPromise c t (record { answer = block_told t.desk r; rings = rings; ears = ears })
+    → ProcessPromise c t (record { answer = block_told t.desk (Ok a); rings = rings; ears = ears })
+block_promised {c} {t} {rings = rings} {ears = ears} e =
+    subst (λ (r : Result BlockAnswer Refusal). ProcessPromise c t
+    (record { answer = block_told t.desk r; rings = rings; ears = ears })) e
+
 -- ---- a reset
 
-pub reset_leaves : (d : Desk) (speakers L : ℕ) (rings : List Float) (o : ResetOutcome) → ResetFits speakers L rings
-    → ResetPromise d speakers L rings o
-    → state_with o.answer.desk o.rings ≡ rested (state_with d rings)
-reset_leaves d speakers L rings o r p =
-    let none = reset_accepts speakers L rings
-    (r.few, (r.long, (equal_passes (length rings) (speakers * L) r.ringed, tt))) in
-    ap (λ (a : ResetOutcome). state_with a.answer.desk a.rings) (p.bits ∙ reset_by d speakers L rings 0 none)
+module _ (d : Desk) (speakers L : ℕ) (rings : List Float) (r : Result Desk Refusal) {rings₁ : List Float}
+    (fits : ResetFits speakers L rings)
+    (p : ResetPromise d speakers L rings (record { answer = reset_told d r; rings = rings₁ })) where
+  done : record { answer = reset_told d r; rings = rings₁ } ≡ reset_by_of 0 d rings
+  done = p.bits
+      ∙ reset_by d speakers L rings 0 (reset_accepts speakers L rings
+      (fits.few, (fits.long, (equal_passes (length rings) (speakers * L) fits.ringed, tt))))
+
+  pub reset_ok : IsOk r
+  reset_ok = accepted_ok r (ap (λ (o : ResetOutcome). o.answer.refusal) done)
+
+  pub reset_leaves : {e : Desk} → r ≡ Ok e → state_with e rings₁ ≡ rested (state_with d rings)
+  reset_leaves is =
+      ap (λ (q : Result Desk Refusal). state_with (value_in d q) rings₁) (sym is)
+      ∙ ap (λ (o : ResetOutcome). state_with o.answer.desk o.rings) done

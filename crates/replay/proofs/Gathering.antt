@@ -9,8 +9,8 @@ use Rattle.lists.proofs.Tests.{by_test, by_at_most}
 use Rattle.lists.proofs.Tables.{length_tab, get_or_tab}
 use Rattle.planes.specs.Planes.{frame_at, with_frame}
 use Rattle.planes.proofs.Planes.{length_with_frame}
-use Rattle.stamps.specs.declared.Expected.{Expected}
-use Rattle.stamps.specs.declared.Expected.TheVariants.{Stamp}
+use Rattle.stamps.specs.Arrivals.{Expected}
+use Rattle.std.specs.Prelude.{Some}
 use Rattle.stamps.specs.declared.Arrival.{Arrival}
 use Rattle.stamps.specs.declared.Arrival.TheVariants.{Next, Ahead, Jump, Late}
 use Rattle.stamps.specs.Arrivals.{Comes, coming_of, stamp_of, skipped_of}
@@ -141,7 +141,7 @@ module _ (stamps : List ℕ) (channels stride : ℕ) (inputs : List Float) (x : 
             ∙ ap (λ (l : List (Recorded (List Float))). first (Ahead d) ++ events_of q (skipped_of g.expected) l)
             (sym here)
         arm Jump k = events_jump q r after g.expected low k
-            ∙ ap (λ (l : List (Recorded (List Float))). restart ∷ events_of q (Stamp s) l) (sym here)
+            ∙ ap (λ (l : List (Recorded (List Float))). restart ∷ events_of q (Some s) l) (sym here)
         arm Late k = events_late q r after g.expected k
 
     -- no reset so far

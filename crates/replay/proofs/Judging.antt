@@ -15,9 +15,10 @@ use Rattle.checks.proofs.Checks.{or_off, both_off, is_equal, not_outside, planes
 use Rattle.hrtf_rings.specs.State.{State}
 use Rattle.hrtf_checks.specs.Refusals.{misshapen, desk_out_of_range, call_checks, refusal_of}
 use Rattle.hrtf_checks.proofs.Refusing.{shaped, lists_fitted, desk_in}
-use Rattle.stamps.specs.declared.Expected.{Expected}
+use Rattle.std.specs.Prelude.{Option, None, Some, is_some}
+use Rattle.stamps.specs.Arrivals.{Expected}
 use Rattle.stamps.specs.declared.Planned.{Planned}
-use Rattle.stamps.specs.Counts.{out_in, planned_of, unplanned_of, plan_of}
+use Rattle.stamps.specs.Counts.{out_in, planned_of, plan_of}
 use Rattle.stamps.specs.Events.{stamps_of}
 use Rattle.stamps.proofs.Recordings.{feeds_out}
 use Rattle.replay.specs.Computed.{silent_frame_of, start_of, EarsFit, places_of, plan_in, refusal_picked}
@@ -50,22 +51,22 @@ over_is : (room n : ℕ) → ltb room n ≡ not (leb n room)
 over_is room n = by_test (λ (b : Bool). ltb room n ≡ not b) (leb n room) (λ e. le-ltb room n (leb-true n room e))
     (λ e. lt-ltb room n (leb-false n room e))
 
-fits_by : (a b c : Bool) (x : Expected) (p : Planned) → p.fits ≡ true
-    → (cond (a || b) (unplanned_of x) (cond c p (unplanned_of x))).fits ≡ not (a || (b || not c))
-fits_by true b c x p e = refl
-fits_by false true c x p e = refl
-fits_by false false true x p e = e
-fits_by false false false x p e = refl
+fits_by : (a b c : Bool) (p : Planned)
+    → is_some (cond (a || b) None (cond c (Some p) None)) ≡ not (a || (b || not c))
+fits_by true b c p = refl
+fits_by false true c p = refl
+fits_by false false true p = refl
+fits_by false false false p = refl
 
-abbrev plan_at : Recording → Expected → ℕ → Planned
+abbrev plan_at : Recording → Expected → ℕ → Option Planned
 plan_at l x ears =
     plan_in x l.frames l.stride l.stamps l.shape.channels (length l.inputs) l.ear_stride ears
 
-plan_fits : (l : Recording) (x : Expected) (ears : ℕ) → (plan_at l x ears).fits ≡ not (record_unfit l x ears)
+plan_fits : (l : Recording) (x : Expected) (ears : ℕ) → is_some (plan_at l x ears) ≡ not (record_unfit l x ears)
 plan_fits l x ears =
     fits_by (block_unfit (length l.stamps) 1 (length l.inputs) l.shape.channels l.stride l.frames)
-    (not (eqb ears (2 * l.ear_stride))) (leb (out_in x (stamps_in l)) l.ear_stride) x
-    (planned_of x (stamps_in l)) refl
+    (not (eqb ears (2 * l.ear_stride))) (leb (out_in x (stamps_in l)) l.ear_stride)
+    (planned_of x (stamps_in l))
     ∙ ap (λ (d : Bool). not (block_unfit (length l.stamps) 1 (length l.inputs) l.shape.channels l.stride
     l.frames || (not (eqb ears (2 * l.ear_stride)) || d)))
     (sym (over_is l.ear_stride (out_in x (stamps_in l))))
@@ -88,15 +89,16 @@ channels_few : (l : Recording) → misshapen l.shape l.rows ≡ false → l.shap
 channels_few l e = (not_outside l.shape.channels 16 (shaped l.shape l.rows e).2).1
 
 module _ (l : Recording) (x : Expected) (t : State) (ears : ℕ) where
-  pub refusal_is : (block own : List Float) (judged : ℕ) (plan : Planned) → length block ≡ places_of l.shape.channels
+  pub refusal_is : (block own : List Float) (judged : ℕ) (plan : Option Planned)
+      → length block ≡ places_of l.shape.channels
       → length own ≡ 2 * 64
       → judged ≡ refusal_of (block_call l 0 block own) t → plan ≡ plan_at l x ears
-      → refusal_picked judged plan.fits ≡ refusal_in l x t ears
+      → refusal_picked judged (is_some plan) ≡ refusal_in l x t ears
   unfolding refusal_of refusal_in
   refusal_is block own judged plan eb eo ej ep =
-      ap (λ (n : ℕ). refusal_picked n plan.fits) ej
+      ap (λ (n : ℕ). refusal_picked n (is_some plan)) ej
       ∙ ap (refusal_picked (first_of (call_checks (block_call l 0 block own) t)))
-      (ap (λ (p : Planned). p.fits) ep ∙ plan_fits l x ears)
+      (ap (λ (p : Option Planned). is_some p) ep ∙ plan_fits l x ears)
       ∙ picked_first (misshapen l.shape l.rows) (outside l.shape.length 512)
       (block_unfit (length block) l.shape.channels (length own) 2 64 0)
       (lists_unfit l (length t.rings)) (record_unfit l x ears) (has_nonfinite l.weights || has_nonfinite l.taps)
@@ -189,11 +191,11 @@ module _ (l : Recording) (x : Expected) (t : State) (ears : ℕ) where
     )
 
     -- the plan is the recording's
-    pub plan_is : (plan : Planned) → plan ≡ plan_at l x ears → plan ≡ planned_of x (stamps_in l)
+    pub plan_is : (plan : Option Planned) → plan ≡ plan_at l x ears → plan ≡ Some (planned_of x (stamps_in l))
     plan_is plan ep =
         ep
-        ∙ ap (λ (b : Bool). cond b (unplanned_of x) (plan_of x (stamps_in l) l.ear_stride))
+        ∙ ap (λ (b : Bool). cond b None (plan_of x (stamps_in l) l.ear_stride))
         (both_off _ _ record_fits.0 record_fits.1.0)
-        ∙ ap (λ (b : Bool). cond b (planned_of x (stamps_in l)) (unplanned_of x))
+        ∙ ap (λ (b : Bool). cond b (Some (planned_of x (stamps_in l))) None)
         (le-leb (out_in x (stamps_in l)) l.ear_stride
         (ltb-false l.ear_stride (out_in x (stamps_in l)) record_fits.1.1))

@@ -9,7 +9,8 @@ use Rattle.planes.specs.Planes.{sample_at, frames_of, with_frames}
 use Rattle.planes.proofs.Planes.{with_frames_other, frames_read}
 use Rattle.hrtf_rings.specs.State.{State}
 use Rattle.hrtf_rings.specs.Held.{held_in, Represents}
-use Rattle.stamps.specs.declared.Expected.{Expected}
+use Rattle.std.specs.Prelude.{Some}
+use Rattle.stamps.specs.Arrivals.{Expected}
 use Rattle.stamps.specs.declared.Planned.{Planned}
 use Rattle.stamps.specs.Counts.{out_in, planned_of}
 use Rattle.stamps.specs.Events.{Event, events_of}
@@ -178,12 +179,13 @@ module _ (l : Recording) (x : Expected) (t : State) (ears : List Float) where
     all_gone = sym (turns.split ∙ ap (λ (es : List (Event (List Float))). turns.gone ++ es) nothing_left
         ∙ append-nil turns.gone)
 
-    pub promised_accepted : (plan : Planned) → plan ≡ plan_in x l.frames l.stride l.stamps l.shape.channels
+    pub promised_accepted : (plan : Planned) → Some plan ≡ plan_in x l.frames l.stride l.stamps l.shape.channels
         (length l.inputs) l.ear_stride (length ears)
         → ReplayPromise l x t ears (answering plan last.unsettled (state_with last.desk rings₁) ears₁)
     promised_accepted plan ep =
         let u = setup_in l in
-        let planned : plan ≡ planned_of x (stamps_in l) = plan_is l x t (length ears) e plan ep in
+        let planned : plan ≡ planned_of x (stamps_in l) =
+        cc (plan_is l x t (length ears) e (Some plan) ep) in
         let counts : last.unsettled ≡ unsettled_played_by u t (events_in l x) = turns.counts
         ∙ zero-add (unsettled_played_by u t turns.gone) ∙ ap (unsettled_played_by u t) all_gone in
         let leaves : state_with last.desk rings₁ ≡ state_left_by u t (events_in l x) = turns.leaves

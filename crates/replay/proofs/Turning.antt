@@ -1,5 +1,5 @@
 -- A turn, and turns one after another. Assumes nothing.
-use Rattle.std.specs.Prelude.{◌≡◌, ◌++◌, ◌+◌, ◌≤◌, ◌<◌}
+use Rattle.std.specs.Prelude.{Result, IsOk, ◌≡◌, ◌++◌, ◌+◌, ◌≤◌, ◌<◌}
 use Rattle.lists.specs.Prelude.{refl, sym, ap, ◌∙◌, subst, Bool, true, false, cond, ⊎_elim, List, [], append_assoc}
 use Rattle.lists.specs.Prelude.{append-nil, ℕ, add-zero, arith, length, length-append, length-map, Float}
 use Rattle.lists.proofs.Lists.{less_or_at_most}
@@ -12,8 +12,9 @@ use Rattle.hrtf_history.specs.Setup.{Setup}
 use Rattle.hrtf_rings.specs.State.{State}
 use Rattle.hrtf_rings.specs.Computed.{state_left, played_by_rings, unsettled_count_by_desk}
 use Rattle.hrtf_checks.proofs.Refusing.{shaped}
+use Rattle.refusals.specs.declared.Refusal.{Refusal}
 use Rattle.hrtf.specs.declared.BlockAnswer.{BlockAnswer}
-use Rattle.hrtf.specs.Promise.{ProcessPromise}
+use Rattle.hrtf.specs.Promise.{BlockTold, block_told, ProcessPromise}
 use Rattle.stamps.specs.Events.{Recorded, Event, fed, restarts_in}
 use Rattle.stamps.specs.Computed.{feeds_in}
 use Rattle.stamps.proofs.Recordings.{feeds_append, length_fed}
@@ -27,7 +28,7 @@ use Rattle.replay.specs.Recording.{Recording, setup_in, recording_in}
 use Rattle.replay.proofs.Eventful.{left_by_append, played_by_append, counted_by_append, length_played_by}
 use Rattle.replay.proofs.Eventful.{counted_few, left_feeds, played_feeds, counted_feeds, length_events}
 use Rattle.replay.proofs.Eventful.{left_by_stands, feeds_whole, feeds_put}
-use Rattle.replay.proofs.Convolver.{block_call, block_leaves, block_counts, block_sounds}
+use Rattle.replay.proofs.Convolver.{block_call, block_ok, block_leaves, block_counts, block_sounds}
 
 -- a restart, or none, as the last event
 module _ (l : Recording) (t : State) where
@@ -104,7 +105,13 @@ module _ (l : Recording) (p : Turned) {g : Gathered} {block₁ : List Float}
     kept₁ : BlockAndStateFit l t block₁ own
     kept₁ = record { state = kept.state; blocked = same ∙ kept.blocked; eared = kept.eared }
 
-    module _ {a : BlockAnswer} {rings₁ own₁ : List Float}
+    -- the block is played
+    pub turn_ok : (r : Result BlockAnswer Refusal) {rings₁ own₁ : List Float}
+        → ProcessPromise (block_call l g.count block₁ own) t
+        (record { answer = block_told p.desk r; rings = rings₁; ears = own₁ }) → IsOk r
+    turn_ok = block_ok good kept₁ got.few
+
+    module _ {a : BlockTold} {rings₁ own₁ : List Float}
         (plays : ProcessPromise (block_call l g.count block₁ own) t
         (record { answer = a; rings = rings₁; ears = own₁ })) where
       abbrev u : Setup

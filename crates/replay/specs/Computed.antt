@@ -12,15 +12,15 @@ use Rattle.hrtf_rings.specs.State.{State, StateFits}
 use Rattle.hrtf_rings.specs.Computed.{ears_by_rings, is_unsettled_by_desk, stepped}
 use Rattle.hrtf_checks.specs.declared.ConvolverShape.{ConvolverShape}
 use Rattle.hrtf_checks.specs.Refusals.{misshapen}
-use Rattle.stamps.specs.declared.Expected.{Expected}
+use Rattle.stamps.specs.Arrivals.{Expected}
 use Rattle.stamps.specs.declared.Planned.{Planned}
-use Rattle.stamps.specs.Counts.{unplanned_of, plan_of}
+use Rattle.stamps.specs.Counts.{plan_of}
 use Rattle.stamps.specs.Events.{Event, feed, restart, Recorded, events_of, restarts_in, fed}
 use Rattle.replay.specs.Recording.{Recording, setup_in, recording_in}
 use Rattle.replay.specs.Heard.{rested}
 use Rattle.formats.specs.Floats.{zero_float}
 use Rattle.planes.specs.Planes.{frame_at, frames_of, with_frame, with_frames}
-use Rattle.stamps.specs.declared.Expected.TheVariants.{Stamp}
+use Rattle.std.specs.Prelude.{Option, None, Some}
 use Rattle.stamps.specs.declared.Arrival.{Arrival}
 use Rattle.stamps.specs.declared.Arrival.TheVariants.{Next, Ahead, Jump, Late}
 use Rattle.stamps.specs.Arrivals.{coming_of, stamp_of, then_of, skipped_of}
@@ -53,10 +53,10 @@ state_with d rings = record { rings = rings; desk = d }
 abbrev pub places_of : ℕ → ℕ
 places_of channels = cond (leb channels 16) (channels * 64) 0
 
-abbrev pub plan_in : Expected → ℕ → ℕ → List ℕ → ℕ → ℕ → ℕ → ℕ → Planned
+abbrev pub plan_in : Expected → ℕ → ℕ → List ℕ → ℕ → ℕ → ℕ → ℕ → Option Planned
 plan_in x frames stride stamps channels inputs ear_stride ears =
     cond (block_unfit (length stamps) 1 inputs channels stride frames || not (eqb ears (2 * ear_stride)))
-    (unplanned_of x)
+    None
     (plan_of x (take frames stamps) ear_stride)
 
 abbrev pub refusal_picked : ℕ → Bool → ℕ
@@ -103,6 +103,10 @@ unsettled_played_by u t (restart ∷ es) = unsettled_played_by u (rested t) es
 abbrev pub silent_frame_of : ℕ → List Float
 silent_frame_of channels = replicate channels zero_float
 
+-- what a source answers is f, at every place that there can be
+abbrev pub Gives : (ℕ → Float → Type 0) → (ℕ → Float) → Type 0
+Gives answers f = (p : ℕ) (x : Float) → p < 2 ^ 64 → answers p x → x ≡ f p
+
 -- ---- gathering: one step
 
 abbrev pub is_gathering_on : Gathered → ℕ → Bool
@@ -122,7 +126,7 @@ gathered_by (Ahead d) g s = record {
   expected = skipped_of
       g.expected;
 }
-gathered_by Jump g s = record { count = g.count; at = g.at; restart = true; expected = Stamp s }
+gathered_by Jump g s = record { count = g.count; at = g.at; restart = true; expected = Some s }
 gathered_by Late g s = record { count = g.count; at = g.at + 1; restart = false; expected = g.expected }
 
 -- f and q: the recorded frame, and silence
@@ -196,7 +200,6 @@ start_of d x = record { desk = d; expected = x; at = 0; done = 0; unsettled = 0 
 abbrev pub answered_of : Planned → Turned → Replayed
 answered_of plan last =
     record {
-      refusal = 0;
       samples = plan.out;
       unsettled = last.unsettled;
       late = plan.late;

@@ -1,9 +1,11 @@
 -- Everything that a call of `replay` hands back (document 02, E5). "Counts of late frames, silent frames and resets
 -- equal those of a plain definition over the recorded list. Ear planes shorter than the frames that come out are
 -- refused with 5 before anything is played." Definitions only.
-use Rattle.std.specs.Prelude.{◌*◌, ◌≡◌, ◌||◌, ◌∷◌}
+use Rattle.std.specs.Prelude.{◌*◌, ◌≡◌, ◌||◌, ◌∷◌, Result}
 use Rattle.lists.specs.Prelude.{ℕ, Bool, not, List, [], eqb, ltb, length, Float}
 use Rattle.refusals.specs.Refusals.{Check, first_of, ◌when◌, answered, outside}
+use Rattle.refusals.specs.Numbers.{number_in, value_in}
+use Rattle.refusals.specs.declared.Refusal.{Refusal}
 use Rattle.checks.specs.Finite.{has_nonfinite}
 use Rattle.checks.specs.Lengths.{block_unfit}
 use Rattle.planes.specs.Planes.{with_frames}
@@ -11,7 +13,7 @@ use Rattle.hrtf_desk.specs.declared.Desk.{Desk}
 use Rattle.hrtf_rings.specs.State.{State}
 use Rattle.hrtf_rings.specs.Held.{held_in, Represents}
 use Rattle.hrtf_checks.specs.Refusals.{misshapen, desk_out_of_range}
-use Rattle.stamps.specs.declared.Expected.{Expected}
+use Rattle.stamps.specs.Arrivals.{Expected}
 use Rattle.stamps.specs.Arrivals.{expected_after}
 use Rattle.stamps.specs.Counts.{out_in, late_in, silent_in, resets_in}
 use Rattle.replay.specs.declared.Replayed.{Replayed}
@@ -47,13 +49,44 @@ refusal_in l x t ears = first_of (replay_checks l x t ears)
 
 -- ---- the answer, and what the lent rings and ear planes hold
 
+-- what is told of a replay: the number, the five counts, the desk, and what is expected
+pub record ReplayTold : Type 0 where
+  pub refusal : ℕ
+  pub samples : ℕ
+  pub unsettled : ℕ
+  pub late : ℕ
+  pub silent : ℕ
+  pub resets : ℕ
+  pub desk : Desk
+  pub expected : Expected
+
+-- a refused replay: counts of 0, the desk given in, and what was expected
+abbrev pub unreplayed : Desk → Expected → Replayed
+unreplayed d x = record { samples = 0; unsettled = 0; late = 0; silent = 0; resets = 0; desk = d; expected = x }
+
+abbrev pub told_of : ℕ → Replayed → ReplayTold
+told_of n r =
+    record {
+      refusal = n;
+      samples = r.samples;
+      unsettled = r.unsettled;
+      late = r.late;
+      silent = r.silent;
+      resets = r.resets;
+      desk = r.desk;
+      expected = r.expected;
+    }
+
+abbrev pub replay_told : Desk → Expected → Result Replayed Refusal → ReplayTold
+replay_told d x r = told_of (number_in r) (value_in (unreplayed d x) r)
+
 pub record ReplayOutcome : Type 0 where
-  pub answer : Replayed
+  pub answer : ReplayTold
   pub rings : List Float
   pub ears : List Float
 
 -- "A refusal returns its number, counts of 0, .. and the state given in"
-abbrev pub refused_replay : ℕ → Desk → Expected → Replayed
+abbrev pub refused_replay : ℕ → Desk → Expected → ReplayTold
 refused_replay n d x =
     record { refusal = n; samples = 0; unsettled = 0; late = 0; silent = 0; resets = 0; desk = d; expected = x }
 

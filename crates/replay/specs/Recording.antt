@@ -9,7 +9,7 @@ use Rattle.hrtf_history.specs.Setup.{Setup}
 use Rattle.hrtf_history.specs.Signals.{silent_frame}
 use Rattle.hrtf_checks.specs.declared.ConvolverShape.{ConvolverShape}
 use Rattle.hrtf_checks.specs.Call.{setup_of}
-use Rattle.stamps.specs.declared.Expected.{Expected}
+use Rattle.stamps.specs.Arrivals.{Expected}
 use Rattle.stamps.specs.Events.{Recorded, Event, events_of}
 
 pub record Recording : Type 0 where

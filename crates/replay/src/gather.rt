@@ -5,12 +5,14 @@
 // for a block and not for each frame. `gather` goes on from a place of the recording; the frames in the block,
 // the reset if there is one, and what the rest of the recording does, are together what the recording does from
 // that place on (specs/Computed.antt).
-ghost use Rattle.std.specs.Prelude.{◌≡◌, ◌*◌, ◌≤◌, ◌<◌, length};
-ghost use Rattle.planes.specs.Planes.{frame_at, with_frame};
+ghost use Rattle.std.specs.Prelude.{◌≡◌, ◌*◌, ◌≤◌, ◌<◌, ℕ, length};
+ghost use Rattle.std.specs.Float.{Float};
+ghost use Rattle.lists.specs.Tables.{tab};
+ghost use Rattle.planes.specs.Planes.{with_frame};
 ghost use Rattle.replay.specs.Recording.{recording};
-ghost use Rattle.replay.specs.Computed.{silent_frame_of, is_gathering_on, TakesFrame, Gathers};
+ghost use Rattle.replay.specs.Computed.{Gives, is_gathering_on, TakesFrame, Gathers};
 
-use stamps::{Arrival, Expected};
+use stamps::Arrival;
 
 // The places of a plane of the block.
 pub(crate) const PLACES: usize = 64;
@@ -22,37 +24,17 @@ pub(crate) struct Gathered {
     pub(crate) count: usize,
     pub(crate) at: usize,
     pub(crate) restart: bool,
-    pub(crate) expected: Expected,
+    pub(crate) expected: Option<u32>,
 }
 
-// Puts a recorded frame into the block.
-fn put_frame(
-    block: &mut [f32],
-    place: usize,
-    channels: usize,
-    inputs: &[f32],
-    stride: usize,
-    frame: usize,
-)
-    ensures { block.new ≡ with_frame block.old 64 place
-        (frame_at inputs.now stride channels frame) }
+// Puts a frame into the block: the sample that the source gives for each channel.
+fn put_frame<F: Fn(usize) -> f32>(block: &mut [f32], place: usize, channels: usize, source: F)
+    requires { F.IsAlwaysCallable source }
+    ensures { (f : ℕ → Float) → Gives (F.post source) f
+        → block.new ≡ with_frame block.old 64 place (tab 0 channels f) }
 {
-    let mut p = 0;
-    while p < channels {
-        let x = planes::sample(inputs, stride, p, frame);
-        planes::put_sample(block, PLACES, p, place, x);
-        p += 1;
-    }
-}
-
-// Puts a frame of silence into the block.
-fn put_silence(block: &mut [f32], place: usize, channels: usize)
-    ensures { block.new ≡ with_frame block.old 64 place (silent_frame_of channels) }
-{
-    let mut p = 0;
-    while p < channels {
-        planes::put_sample(block, PLACES, p, place, 0.0);
-        p += 1;
+    for p in 0..channels {
+        planes::put_sample(block, PLACES, p, place, source(p));
     }
 }
 
@@ -76,7 +58,12 @@ fn take_one(
     let what = stamps::coming(expected, stamp);
     match what {
         Arrival::Next => {
-            put_frame(block, count, channels, inputs, stride, at);
+            put_frame(
+                block,
+                count,
+                channels,
+                |p| planes::sample(inputs, stride, p, at),
+            );
             let next = stamps::then_expected(expected, stamp);
             Gathered {
                 count: count + 1,
@@ -86,7 +73,7 @@ fn take_one(
             }
         }
         Arrival::Ahead(_) => {
-            put_silence(block, count, channels);
+            put_frame(block, count, channels, |_| 0.0);
             let next = stamps::skipped(expected);
             Gathered {
                 count: count + 1,
@@ -99,7 +86,7 @@ fn take_one(
             count,
             at,
             restart: true,
-            expected: Expected::Stamp(stamp),
+            expected: Some(stamp),
         },
         Arrival::Late => Gathered {
             count,
@@ -125,7 +112,7 @@ fn goes_on(so_far: Gathered, frames: usize) -> bool
 
 // Gathers the frames as they are fed, from the recorded frame `at` on.
 pub(crate) fn gather(
-    expected: Expected,
+    expected: Option<u32>,
     at: usize,
     frames: usize,
     stamps: &[u32],
@@ -144,6 +131,7 @@ pub(crate) fn gather(
         restart: false,
         expected,
     };
+    // Kept: how many steps there are comes out as the stamps are read, so that no range or iterator counts them.
     while goes_on(so_far, frames) {
         so_far = take_one(so_far, stamps, channels, stride, inputs, block);
     }

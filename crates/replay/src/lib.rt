@@ -11,32 +11,32 @@
 // a recording may be cut anywhere, is shown in `replays`.
 #![tactic(auto)]
 
-ghost use Rattle.std.specs.Prelude.{◌≡◌, ◌*◌};
+ghost use Rattle.std.specs.Prelude.{◌≡◌, ◌*◌, Some, IfOk, is_some};
+ghost use Rattle.refusals.specs.Numbers.{number_in, number_found};
 ghost use Rattle.std.proofs.Math.ListN as ListN;
-ghost use Rattle.replay.specs.Promise.{refused_replay, ReplayPromise};
+ghost use Rattle.replay.specs.Promise.{replay_told, ReplayPromise};
 ghost use Rattle.replay.specs.Computed.{recording_of, state_with, places_of, plan_in, refusal_picked, answered_of};
 
 use hrtf_checks::ConvolverShape;
 use hrtf_desk::Desk;
 use play::Turned;
-use stamps::{Expected, Planned};
+use refusals::Refusal;
+use stamps::Planned;
 
 mod gather;
 mod play;
 
-// What a replay answers: a refusal, what was expected and the desk; or 0 with the frames that came out, how
-// many of them are unsettled, how many recorded frames were late, how many silent ones were put in, and how
-// many resets there were.
+// What an accepted replay answers: the frames that came out, how many of them are unsettled, how many recorded frames
+// were late, how many silent ones were put in, how many resets there were, the desk, and what is expected.
 #[derive(Clone, Copy)]
 pub struct Replayed {
-    pub refusal: u8,
     pub samples: usize,
     pub unsettled: usize,
     pub late: usize,
     pub silent: usize,
     pub resets: usize,
     pub desk: Desk,
-    pub expected: Expected,
+    pub expected: Option<u32>,
 }
 
 // How many places of the block its planes take. More channels than 16 are refused.
@@ -49,9 +49,10 @@ fn places(channels: usize) -> usize
     0
 }
 
-// What the recording comes to; it does not fit where stamps, inputs or ears have another length than they should.
+// What the recording comes to; nothing where it does not fit, or where stamps, inputs or ears have another length
+// than they should.
 fn plan_in(
-    expected: Expected,
+    expected: Option<u32>,
     frames: usize,
     stride: usize,
     stamps: &[u32],
@@ -59,47 +60,33 @@ fn plan_in(
     inputs: usize,
     ear_stride: usize,
     ears: usize,
-) -> Planned
+) -> Option<Planned>
     ensures { result ≡ plan_in expected frames stride stamps.now channels inputs ear_stride ears }
 {
     if checks::is_block_unfit(stamps.len(), 1, inputs, channels, stride, frames) {
-        return stamps::unplanned(expected);
+        return None;
     }
     if !checks::is_product(ears, 2, ear_stride) {
-        return stamps::unplanned(expected);
+        return None;
     }
     stamps::plan(expected, &stamps[..frames], ear_stride)
 }
 
-// The first number that is given: the convolver's 2 and 4, then 5 where the recording does not fit, then its others.
-fn picked_of(judged: u8, fits: bool) -> u8
-    ensures { result ≡ refusal_picked judged fits }
+// The plan of a replay that is not refused. Where the recording does not fit, the convolver's 2 and 4 come before 5.
+fn accepted_plan(judged: Option<Refusal>, plan: Option<Planned>) -> Result<Planned, Refusal>
+    ensures refusal { number_in result ≡ refusal_picked (number_found judged) (is_some plan) }
+    ensures planned { IfOk result (λ p. plan ≡ Some p) }
 {
-    if judged == 2 {
-        return 2;
-    }
-    if judged == 4 {
-        return 4;
-    }
-    if fits {
-        return judged;
-    }
-    5
-}
-
-// What a replay answers that is refused.
-fn refused(refusal: u8, desk: Desk, expected: Expected) -> Replayed
-    ensures { result ≡ refused_replay refusal desk expected }
-{
-    Replayed {
-        refusal,
-        samples: 0,
-        unsettled: 0,
-        late: 0,
-        silent: 0,
-        resets: 0,
-        desk,
-        expected,
+    match plan {
+        Some(plan) => match judged {
+            Some(refusal) => Err(refusal),
+            None => Ok(plan),
+        },
+        None => match judged {
+            Some(Refusal::Count) => Err(Refusal::Count),
+            Some(Refusal::FilterLength) => Err(Refusal::FilterLength),
+            _ => Err(Refusal::Misfit),
+        },
     }
 }
 
@@ -107,25 +94,22 @@ fn refused(refusal: u8, desk: Desk, expected: Expected) -> Replayed
 fn answered(plan: Planned, last: Turned) -> Replayed
     ensures { result ≡ answered_of plan last }
 {
-    let left = last.desk;
-    let next = plan.expected;
     Replayed {
-        refusal: 0,
         samples: plan.out,
         unsettled: last.unsettled,
         late: plan.late,
         silent: plan.silent,
         resets: plan.resets,
-        desk: left,
-        expected: next,
+        desk: last.desk,
+        expected: plan.expected,
     }
 }
 
 // Replays what is planned, with a block and its ears that are lent; what they hold does not matter.
 fn replay_in(
-    plan: Planned,
+    plan: Option<Planned>,
     desk: Desk,
-    expected: Expected,
+    expected: Option<u32>,
     shape: ConvolverShape,
     frames: usize,
     stride: usize,
@@ -139,7 +123,7 @@ fn replay_in(
     ears: &mut [f32],
     block: &mut [f32],
     block_ears: &mut [f32],
-) -> Replayed
+) -> Result<Replayed, Refusal>
     requires block_value { (ListN.length block.old ≡ places_of shape.channels)
         × (ListN.length block_ears.old ≡ 2 * 64) }
     requires plan_value { plan ≡ plan_in expected frames stride stamps.now shape.channels (ListN.length inputs.now)
@@ -148,7 +132,7 @@ fn replay_in(
         weights.now
         row_of.now taps.now ear_stride)
         expected (state_with desk rings.old) ears.old
-        (record { answer = result; rings = rings.new; ears = ears.new }) }
+        (record { answer = replay_told desk expected result; rings = rings.new; ears = ears.new }) }
 {
     let judged = hrtf_checks::refusal(
         desk,
@@ -162,10 +146,7 @@ fn replay_in(
         rings,
         block_ears,
     );
-    let refusal = picked_of(judged, plan.fits);
-    if refusal != 0 {
-        return refused(refusal, desk, expected);
-    }
+    let plan = accepted_plan(judged, plan)?;
     let last = play::play(
         play::start(desk, expected),
         shape,
@@ -182,13 +163,13 @@ fn replay_in(
         block,
         block_ears,
     );
-    answered(plan, last)
+    Ok(answered(plan, last))
 }
 
 // Replays the first frames of a recording into the two ear planes, or refuses.
 pub fn replay(
     desk: Desk,
-    expected: Expected,
+    expected: Option<u32>,
     shape: ConvolverShape,
     frames: usize,
     stride: usize,
@@ -200,7 +181,7 @@ pub fn replay(
     rings: &mut [f32],
     ear_stride: usize,
     ears: &mut [f32],
-) -> Replayed
+) -> Result<Replayed, Refusal>
     ensures { ReplayPromise
         (record {
           shape = shape;
@@ -216,7 +197,7 @@ pub fn replay(
         expected
         (record { rings = rings.old; desk = desk })
         ears.old
-        (record { answer = result; rings = rings.new; ears = ears.new }) }
+        (record { answer = replay_told desk expected result; rings = rings.new; ears = ears.new }) }
 {
     let mut block = [0.0f32; 1024];
     let mut block_ears = [0.0f32; 128];

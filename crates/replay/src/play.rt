@@ -13,21 +13,20 @@ ghost use Rattle.replay.specs.Computed.{TurnPlayed};
 use crate::gather::PLACES;
 use hrtf_checks::ConvolverShape;
 use hrtf_desk::Desk;
-use stamps::Expected;
 
 // How far a recording is played: the desk, what is expected, the recorded frame that comes next, the frames that came
 // out, and how many of them are unsettled.
 #[derive(Clone, Copy)]
 pub(crate) struct Turned {
     pub(crate) desk: Desk,
-    pub(crate) expected: Expected,
+    pub(crate) expected: Option<u32>,
     pub(crate) at: usize,
     pub(crate) done: usize,
     pub(crate) unsettled: usize,
 }
 
 // Where a replay starts.
-pub(crate) fn start(desk: Desk, expected: Expected) -> Turned
+pub(crate) fn start(desk: Desk, expected: Option<u32>) -> Turned
     ensures { result ≡ start_of desk expected }
 {
     Turned {
@@ -56,10 +55,8 @@ fn put_ears(ears: &mut [f32], ear_stride: usize, done: usize, block_ears: &[f32]
     ensures { ears.new ≡ with_frames ears.old ear_stride done
         (frames_of block_ears.now 64 2 count) }
 {
-    let mut n = 0;
-    while n < count {
+    for n in 0..count {
         put_pair(ears, ear_stride, done + n, block_ears, n);
-        n += 1;
     }
 }
 
@@ -69,8 +66,7 @@ fn rest_if(restart: bool, desk: Desk, speakers: usize, length: usize, rings: &mu
     ensures { state_with result rings.new ≡ rested_if restart (state_with desk rings.old) }
 {
     if restart {
-        let rested = hrtf::reset(desk, speakers, length, rings);
-        return rested.desk;
+        return hrtf::reset(desk, speakers, length, rings).unwrap();
     }
     desk
 }
@@ -120,7 +116,8 @@ fn turn(
     let count = got.count;
     let played = hrtf::process(
         desk, shape, count, PLACES, block, weights, row_of, taps, rings, block_ears,
-    );
+    )
+    .unwrap();
     put_ears(ears, ear_stride, done, block_ears, count);
     let left = played.desk;
     let rested = rest_if(got.restart, left, shape.speakers, shape.length, rings);
@@ -166,6 +163,7 @@ pub(crate) fn play(
     ensures over { result.at ≡ frames }
 {
     let mut so_far = first;
+    // Kept: a turn takes as many recorded frames as fit its block, so that no range or iterator counts the turns.
     while so_far.at < frames {
         so_far = turn(
             so_far, shape, frames, stride, stamps, inputs, weights, row_of, taps, rings,

@@ -1,14 +1,14 @@
 -- One call, accepted or refused, and calls one after another: what is sounded, counted and left is what the events of
 -- the recorded list give, one by one. Assumes nothing.
 use Rattle.std.specs.Prelude.{◌≡◌, ◌∷◌, ◌++◌}
-use Rattle.lists.specs.Prelude.{refl, sym, ap, ◌∙◌, true, List, [], map-append, ℕ, zero, suc, arith, length, replicate}
+use Rattle.lists.specs.Prelude.{refl, sym, ap, ◌∙◌, List, [], map-append, ℕ, zero, suc, arith, length, replicate}
 use Rattle.lists.specs.Prelude.{Float}
 use Rattle.formats.specs.Floats.{zero_float}
 use Rattle.planes.specs.Planes.{frames_of}
 use Rattle.hrtf_history.specs.Setup.{Setup, SameFilters}
 use Rattle.hrtf_history.specs.Signals.{silent_frame}
 use Rattle.hrtf_rings.specs.State.{State}
-use Rattle.stamps.specs.declared.Expected.{Expected}
+use Rattle.stamps.specs.Arrivals.{Expected}
 use Rattle.stamps.specs.declared.Arrival.{Arrival}
 use Rattle.stamps.specs.declared.Planned.{Planned}
 use Rattle.stamps.specs.Arrivals.{expected_after}
@@ -16,7 +16,7 @@ use Rattle.stamps.specs.Counts.{added_up, planned_of}
 use Rattle.stamps.specs.Events.{Recorded, Event, events_of, stamps_of}
 use Rattle.stamps.proofs.Recordings.{added_cut, expected_cut, events_cut}
 use Rattle.hrtf_runs.specs.Runs.{sum_of_counts}
-use Rattle.replay.specs.declared.Replayed.{Replayed}
+use Rattle.replay.specs.Promise.{ReplayTold}
 use Rattle.replay.specs.Recording.{Recording, setup_in, recording_in, events_in}
 use Rattle.replay.specs.Promise.{ReplayOutcome, refused, replay_state_after}
 use Rattle.replay.specs.Computed.{state_left_by, played_by, unsettled_played_by}
@@ -36,7 +36,6 @@ events u p c = events_of (silent_frame u) p.expected (taken p c)
 -- what it tells of them, as a plan tells it
 abbrev tells_of : ReplayOutcome → Planned
 tells_of o = let r = o.answer in record {
-  fits = true;
   out = r.samples;
   late = r.late;
   silent = r.silent;
@@ -127,7 +126,8 @@ module _ (u : Setup) where
       ∙ played_by_append u p.state (events u p c) (events_all u (next p c) cs))
 
   pub all_unsettled : (p : Place) (cs : List ReplayCall) → ReplayCallsAlike u p cs
-      → sum_of_counts (counts (λ (r : Replayed). r.unsettled) p cs) ≡ unsettled_played_by u p.state (events_all u p cs)
+      → sum_of_counts (counts (λ (r : ReplayTold). r.unsettled) p cs)
+      ≡ unsettled_played_by u p.state (events_all u p cs)
   all_unsettled p [] a = refl
   all_unsettled p (c ∷ cs) a =
       let w = called u p c a.0 in
@@ -159,7 +159,7 @@ module _ (u : Setup) where
       ∙ expected_cut p.expected (stamps_of (taken p c)) (stamps_all (next p c) cs))
 
   -- a count that a call tells by what each stamp adds is told by all calls together
-  pub all_counted : (count : Replayed → ℕ) (one : Arrival → ℕ)
+  pub all_counted : (count : ReplayTold → ℕ) (one : Arrival → ℕ)
       → ((p : Place) (c : ReplayCall) → Called u p c → count (outcome_at p c).answer ≡ added_up one p.expected
       (stamps_of (taken p c)))
       → (p : Place) (cs : List ReplayCall) → ReplayCallsAlike u p cs

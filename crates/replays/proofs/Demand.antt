@@ -10,13 +10,13 @@ use Rattle.hrtf_history.specs.History.{ear_samples, heard, flagged_counts}
 use Rattle.hrtf_history.proofs.Silence.{damage_agrees}
 use Rattle.hrtf_history.proofs.Pieces.{Told, told_append}
 use Rattle.hrtf_rings.specs.Held.{Represents}
-use Rattle.stamps.specs.declared.Expected.{Expected}
+use Rattle.stamps.specs.Arrivals.{Expected}
 use Rattle.stamps.specs.declared.Planned.{Planned}
 use Rattle.stamps.specs.Arrivals.{expected_after}
 use Rattle.stamps.specs.Counts.{out_one, late_one, silent_one, reset_one, out_in, late_in, silent_in, resets_in}
 use Rattle.stamps.specs.Events.{Recorded, Event, fed, events_of, stamps_of}
 use Rattle.stamps.proofs.Recordings.{samples_and_late, feeds_out, restarts_resets, length_fed}
-use Rattle.replay.specs.declared.Replayed.{Replayed}
+use Rattle.replay.specs.Promise.{ReplayTold}
 use Rattle.replay.specs.Heard.{heard_by, unsettled_each_by, after_by}
 use Rattle.replay.specs.Computed.{state_left_by, played_by, unsettled_played_by}
 use Rattle.replay.proofs.Eventful.{length_played_by}
@@ -36,21 +36,21 @@ use Rattle.replays.proofs.Fed.{heard_by_at, length_each_by, each_by_append, part
 
 module _ (u : Setup) where
   all_late : (p : Place) (cs : List ReplayCall) → ReplayCallsAlike u p cs
-      → sum_of_counts (counts (λ (r : Replayed). r.late) p cs) ≡ late_in p.expected (stamps_all p cs)
-  all_late = all_counted u (λ (r : Replayed). r.late) late_one (λ p c w. ap (λ (q : Planned). q.late) w.told)
+      → sum_of_counts (counts (λ (r : ReplayTold). r.late) p cs) ≡ late_in p.expected (stamps_all p cs)
+  all_late = all_counted u (λ (r : ReplayTold). r.late) late_one (λ p c w. ap (λ (q : Planned). q.late) w.told)
 
   all_silent : (p : Place) (cs : List ReplayCall) → ReplayCallsAlike u p cs
-      → sum_of_counts (counts (λ (r : Replayed). r.silent) p cs) ≡ silent_in p.expected (stamps_all p cs)
+      → sum_of_counts (counts (λ (r : ReplayTold). r.silent) p cs) ≡ silent_in p.expected (stamps_all p cs)
   all_silent =
-      all_counted u (λ (r : Replayed). r.silent) silent_one (λ p c w. ap (λ (q : Planned). q.silent) w.told)
+      all_counted u (λ (r : ReplayTold). r.silent) silent_one (λ p c w. ap (λ (q : Planned). q.silent) w.told)
 
   all_resets : (p : Place) (cs : List ReplayCall) → ReplayCallsAlike u p cs
-      → sum_of_counts (counts (λ (r : Replayed). r.resets) p cs) ≡ resets_in p.expected (stamps_all p cs)
-  all_resets = all_counted u (λ (r : Replayed). r.resets) reset_one (λ p c w. ap (λ (q : Planned). q.resets) w.told)
+      → sum_of_counts (counts (λ (r : ReplayTold). r.resets) p cs) ≡ resets_in p.expected (stamps_all p cs)
+  all_resets = all_counted u (λ (r : ReplayTold). r.resets) reset_one (λ p c w. ap (λ (q : Planned). q.resets) w.told)
 
   all_samples : (p : Place) (cs : List ReplayCall) → ReplayCallsAlike u p cs
-      → sum_of_counts (counts (λ (r : Replayed). r.samples) p cs) ≡ out_in p.expected (stamps_all p cs)
-  all_samples = all_counted u (λ (r : Replayed). r.samples) out_one (λ p c w. ap (λ (q : Planned). q.out) w.told)
+      → sum_of_counts (counts (λ (r : ReplayTold). r.samples) p cs) ≡ out_in p.expected (stamps_all p cs)
+  all_samples = all_counted u (λ (r : ReplayTold). r.samples) out_one (λ p c w. ap (λ (q : Planned). q.out) w.told)
 
   -- as many frames are fed as come out
   fed_out : (x : Expected) (rs : List (Recorded (List Float)))
@@ -158,7 +158,8 @@ replay_settled u p q cs ds n m =
 -- (c): each call's count, over a past that rings and desk stand for, where a rule tells which frames are unsettled
 counts_on : (u : Setup) (flag : ℕ → Bool) (n : ℕ) (past : List (List Float)) (p : Place) (cs : List ReplayCall)
     → ReplayCallsAlike u p cs → Represents u past p.state → Told flag n (unsettled_each_by u 0 past (events_all u p cs))
-    → counts (λ (r : Replayed). r.unsettled) p cs ≡ flagged_counts flag n (counts (λ (r : Replayed). r.samples) p cs)
+    → counts (λ (r : ReplayTold). r.unsettled) p cs
+    ≡ flagged_counts flag n (counts (λ (r : ReplayTold). r.samples) p cs)
 counts_on u flag n past p [] a r e = refl
 counts_on u flag n past p (c ∷ cs) a r e =
     let w = called u p c a.0 in
@@ -177,14 +178,14 @@ counts_on u flag n past p (c ∷ cs) a r e =
 
 -- the counts by that rule are those of the calls, one after another
 counts_are : (u : Setup) (es : List (Event (List Float))) (n : ℕ) (p : Place) (cs : List ReplayCall)
-    → flagged_counts (damaged_among u es) n (counts (λ (r : Replayed). r.samples) p cs) ≡ damaged_counts u es n p cs
+    → flagged_counts (damaged_among u es) n (counts (λ (r : ReplayTold). r.samples) p cs) ≡ damaged_counts u es n p cs
 counts_are u es n p [] = refl
 counts_are u es n p (c ∷ cs) =
     ap (λ (l : List ℕ). count (tab n (outcome_at p c).answer.samples (damaged_among u es)) ∷ l)
     (counts_are u es (n + (outcome_at p c).answer.samples) (next p c) cs)
 
 replay_unsettled : (u : Setup) (p : Place) (cs : List ReplayCall) → Replay u p cs
-    → counts (λ (r : Replayed). r.unsettled) p cs ≡ damaged_counts u (events_all u p cs) 0 p cs
+    → counts (λ (r : ReplayTold). r.unsettled) p cs ≡ damaged_counts u (events_all u p cs) 0 p cs
 replay_unsettled u p cs r = counts_on u (damaged_among u (events_all u p cs)) 0 [] p cs r.alike
     (replay_starts u p cs r) (flags_told u r.finite (events_all u p cs))
     ∙ counts_are u (events_all u p cs) 0 p cs

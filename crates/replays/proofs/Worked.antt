@@ -14,7 +14,7 @@ use Rattle.hrtf_history.specs.History.{ear_of}
 use Rattle.hrtf_history.specs.Drill.{drill}
 use Rattle.hrtf_history.proofs.Filters.{same_filters}
 use Rattle.hrtf_rings.proofs.Blocks.{fresh}
-use Rattle.stamps.specs.declared.Expected.TheVariants.{First, Stamp}
+use Rattle.std.specs.Prelude.{None, Some}
 use Rattle.stamps.specs.Arrivals.{coming_by}
 use Rattle.replay.specs.Recording.{Recording, events_in}
 use Rattle.replay.specs.Heard.{heard_by, unsettled_by}
@@ -22,7 +22,7 @@ use Rattle.replay.specs.Promise.{refusal_in, ReplayOutcome, outcome, ReplayPromi
 use Rattle.replay.proofs.Hearing.{played_by_heard, counted_by_told}
 use Rattle.replay.proofs.Meets.{computed, outcome_computed, ears_read}
 use Rattle.hrtf_runs.proofs.Worked.{starts, rested}
-use Rattle.replay.specs.declared.Replayed.{Replayed}
+use Rattle.replay.specs.Promise.{ReplayTold}
 use Rattle.planes.specs.Planes.{frames_of}
 use Rattle.replays.specs.Calls.{ReplayCall, Place, ReplayCallsAlike, taken_all, counts}
 use Rattle.replays.specs.Demand.{Replay, SameReplay}
@@ -63,11 +63,11 @@ table =
     ∷ pair (float (pos 5)) (float (pos 8)) ∷ []
 
 -- room for nine is accepted, and for eight is not
-pub nine_fit : refusal_in (whole 9) First (fresh drill) 18 ≡ 0
+pub nine_fit : refusal_in (whole 9) None (fresh drill) 18 ≡ 0
 unfolding refusal_in coming_by of_int
 nine_fit = refl
 
-pub eight_short : refusal_in (whole 8) First (fresh drill) 16 ≡ 5
+pub eight_short : refusal_in (whole 8) None (fresh drill) 16 ≡ 5
 unfolding refusal_in coming_by of_int
 eight_short = refl
 
@@ -82,17 +82,17 @@ table_is : table ≡ numbers
 unfolding round size span climb units odd of_int
 table_is = refl
 
-numbers_heard : heard_by drill [] (events_in (whole 9) First) ≡ numbers
+numbers_heard : heard_by drill [] (events_in (whole 9) None) ≡ numbers
 unfolding coming_by mixed ear_of inverse_root_of root_of root_units whole_root root_in rounded add mul div ieee.sum
     round size
     span climb units odd of_int
 numbers_heard = refl
 
-heard_is : heard_by drill [] (events_in (whole 9) First) ≡ table
+heard_is : heard_by drill [] (events_in (whole 9) None) ≡ table
 heard_is = numbers_heard ∙ sym table_is
 
 -- and what the cells then hold
-cells_left : (computed (whole 9) First (fresh drill) (planes 9)).rings ≡ fin false 1 (pos 3) ∷ one_float ∷ []
+cells_left : (computed (whole 9) None (fresh drill) (planes 9)).rings ≡ fin false 1 (pos 3) ∷ one_float ∷ []
 unfolding coming_by mixed rounded add mul ieee.sum round size span climb units odd of_int
 cells_left = refl
 
@@ -100,32 +100,32 @@ eight_is : float (pos 8) ≡ fin false 1 (pos 3)
 unfolding round size span climb units odd of_int
 eight_is = refl
 
-unsettled_is : unsettled_by drill 0 [] (events_in (whole 9) First) ≡ 2
+unsettled_is : unsettled_by drill 0 [] (events_in (whole 9) None) ≡ 2
 unfolding coming_by mixed rounded add mul ieee.sum round size span climb units odd of_int
 unsettled_is = refl
 
 -- ---- so whoever meets the promise answers this
 
-module _ (o : ReplayOutcome) (p : ReplayPromise (whole 9) First (fresh drill) (planes 9) o) where
+module _ (o : ReplayOutcome) (p : ReplayPromise (whole 9) None (fresh drill) (planes 9) o) where
   pub sounds : frames_of o.ears 9 2 o.answer.samples ≡ table
   sounds =
       ap (λ (q : ReplayOutcome). frames_of q.ears 9 2 q.answer.samples) p.bits
-      ∙ ears_read (whole 9) First (fresh drill) (planes 9) nine_fit
-      ∙ played_by_heard drill [] (fresh drill) starts (events_in (whole 9) First)
+      ∙ ears_read (whole 9) None (fresh drill) (planes 9) nine_fit
+      ∙ played_by_heard drill [] (fresh drill) starts (events_in (whole 9) None)
       ∙ heard_is
 
   pub unsettled : o.answer.unsettled ≡ 2
   unsettled =
       ap (λ (q : ReplayOutcome). q.answer.unsettled)
-      (p.bits ∙ outcome_computed (whole 9) First (fresh drill) (planes 9) nine_fit)
-      ∙ counted_by_told drill [] (fresh drill) starts (events_in (whole 9) First)
+      (p.bits ∙ outcome_computed (whole 9) None (fresh drill) (planes 9) nine_fit)
+      ∙ counted_by_told drill [] (fresh drill) starts (events_in (whole 9) None)
       ∙ unsettled_is
 
   -- accepted; both cells hold what was played since the reset, the newest last, and nothing is to go
   pub left : (o.answer.refusal ≡ 0) × ((o.rings ≡ float (pos 8) ∷ one_float ∷ []) × (o.answer.desk ≡ zeroed))
   unfolding coming_by mixed rounded add mul ieee.sum round size span climb units odd of_int
   left =
-      let made = p.bits ∙ outcome_computed (whole 9) First (fresh drill) (planes 9) nine_fit in (
+      let made = p.bits ∙ outcome_computed (whole 9) None (fresh drill) (planes 9) nine_fit in (
         ap (λ (q : ReplayOutcome). q.answer.refusal) made,
         (
           ap (λ (q : ReplayOutcome). q.rings) made ∙ cells_left
@@ -136,10 +136,10 @@ module _ (o : ReplayOutcome) (p : ReplayPromise (whole 9) First (fresh drill) (p
 
   pub told : (o.answer.samples ≡ 9)
       × ((o.answer.late ≡ 1)
-      × ((o.answer.silent ≡ 2) × ((o.answer.resets ≡ 1) × (o.answer.expected ≡ Stamp 5002))))
+      × ((o.answer.silent ≡ 2) × ((o.answer.resets ≡ 1) × (o.answer.expected ≡ Some 5002))))
   unfolding coming_by
   told =
-      let made = p.bits ∙ outcome_computed (whole 9) First (fresh drill) (planes 9) nine_fit in (
+      let made = p.bits ∙ outcome_computed (whole 9) None (fresh drill) (planes 9) nine_fit in (
         ap (λ (q : ReplayOutcome). q.answer.samples) made,
         (
           ap (λ (q : ReplayOutcome). q.answer.late) made,
@@ -154,7 +154,7 @@ module _ (o : ReplayOutcome) (p : ReplayPromise (whole 9) First (fresh drill) (p
 -- should have; no frame; and the other six
 
 abbrev pub place : Place
-place = record { expected = First; state = fresh drill }
+place = record { expected = None; state = fresh drill }
 
 abbrev pub calls : List ReplayCall
 calls =
@@ -196,12 +196,12 @@ in_four = replay_demand_3.cut drill place calls once alike (λ e. same_filters d
 
 -- the second and the third call count nothing and leave the frame to go, so that the first frame of the fourth is
 -- unsettled
-each_unsettled : counts (λ (r : Replayed). r.unsettled) place calls ≡ 1 ∷ 0 ∷ 0 ∷ 1 ∷ []
+each_unsettled : counts (λ (r : ReplayTold). r.unsettled) place calls ≡ 1 ∷ 0 ∷ 0 ∷ 1 ∷ []
 unfolding refusal_in outcome coming_by flatten mixed rounded add mul ieee.sum round size span climb units odd of_int
 each_unsettled = refl
 
 -- ---- stamp 0 with a NaN, then 3: four frames come out, and the silent one behind the NaN is unsettled with it
 
-behind_a_nan : unsettled_by drill 0 [] (events_in (line 2 (0 ∷ 3 ∷ []) (nan ∷ one_float ∷ []) 4) First) ≡ 2
+behind_a_nan : unsettled_by drill 0 [] (events_in (line 2 (0 ∷ 3 ∷ []) (nan ∷ one_float ∷ []) 4) None) ≡ 2
 unfolding coming_by mixed rounded add mul ieee.sum round size span climb units odd of_int
 behind_a_nan = refl

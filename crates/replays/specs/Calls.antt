@@ -8,9 +8,9 @@ use Rattle.planes.specs.Planes.{frames_of}
 use Rattle.hrtf_history.specs.Setup.{Setup, SameFilters}
 use Rattle.hrtf_history.specs.Signals.{silent_frame}
 use Rattle.hrtf_rings.specs.State.{State}
-use Rattle.stamps.specs.declared.Expected.{Expected}
+use Rattle.stamps.specs.Arrivals.{Expected}
 use Rattle.stamps.specs.Events.{Recorded, Event, events_of, stamps_of}
-use Rattle.replay.specs.declared.Replayed.{Replayed}
+use Rattle.replay.specs.Promise.{ReplayTold}
 use Rattle.replay.specs.Recording.{Recording, setup_in, recording_in}
 use Rattle.replay.specs.Promise.{refusal_in, ReplayOutcome, outcome, replay_state_after}
 
@@ -65,7 +65,7 @@ abbrev pub end : Place → List ReplayCall → Place
 end p cs = last_state (λ c p. next p c) p cs
 
 -- a count that each call answers
-abbrev pub counts : (Replayed → ℕ) → Place → List ReplayCall → List ℕ
+abbrev pub counts : (ReplayTold → ℕ) → Place → List ReplayCall → List ℕ
 counts count p cs = of_each_call (λ c p. next p c) (λ c p. count (outcome_at p c).answer) p cs
 
 -- the stamps of the recorded list, and what it does: the frames as fed, each with its stamp, and restarts

@@ -15,7 +15,7 @@ use Rattle.stamps.specs.Arrivals.{expected_after}
 use Rattle.stamps.specs.Counts.{out_in, late_in, silent_in, resets_in}
 use Rattle.stamps.specs.Events.{Event, feed, restart, restarts_in, fed}
 use Rattle.hrtf_runs.specs.Runs.{sum_of_counts}
-use Rattle.replay.specs.declared.Replayed.{Replayed}
+use Rattle.replay.specs.Promise.{ReplayTold}
 use Rattle.replay.specs.Heard.{heard_by, unsettled_by, after_by}
 use Rattle.replays.specs.Calls.{ReplayCall, Place, ReplayCallsAlike, taken_all, sounded_all, end, counts}
 use Rattle.replays.specs.Calls.{outcome_at, next}
@@ -86,38 +86,38 @@ ReplayFramesAgree u p cs n q ds m = (k : ℕ) → k < u.L
 
 -- the counts of all calls together, by the definitions over the recorded list and over its events
 pub record Counted (u : Setup) (p : Place) (cs : List ReplayCall) : Type 0 where
-  pub late : sum_of_counts (counts (λ (r : Replayed). r.late) p cs) ≡ late_in p.expected (stamps_all p cs)
-  pub silent : sum_of_counts (counts (λ (r : Replayed). r.silent) p cs) ≡ silent_in p.expected (stamps_all p cs)
-  pub resets : sum_of_counts (counts (λ (r : Replayed). r.resets) p cs) ≡ resets_in p.expected (stamps_all p cs)
-  pub samples : sum_of_counts (counts (λ (r : Replayed). r.samples) p cs) ≡ out_in p.expected (stamps_all p cs)
+  pub late : sum_of_counts (counts (λ (r : ReplayTold). r.late) p cs) ≡ late_in p.expected (stamps_all p cs)
+  pub silent : sum_of_counts (counts (λ (r : ReplayTold). r.silent) p cs) ≡ silent_in p.expected (stamps_all p cs)
+  pub resets : sum_of_counts (counts (λ (r : ReplayTold). r.resets) p cs) ≡ resets_in p.expected (stamps_all p cs)
+  pub samples : sum_of_counts (counts (λ (r : ReplayTold). r.samples) p cs) ≡ out_in p.expected (stamps_all p cs)
   -- the frames that came out are those that were fed, and the resets are the restarts
-  pub fed : sum_of_counts (counts (λ (r : Replayed). r.samples) p cs) ≡ length (fed (events_all u p cs))
-  pub restarted : sum_of_counts (counts (λ (r : Replayed). r.resets) p cs) ≡ restarts_in (events_all u p cs)
+  pub fed : sum_of_counts (counts (λ (r : ReplayTold). r.samples) p cs) ≡ length (fed (events_all u p cs))
+  pub restarted : sum_of_counts (counts (λ (r : ReplayTold). r.resets) p cs) ≡ restarts_in (events_all u p cs)
   -- every recorded frame came out or was late, and what came out besides is silence
-  pub balance : sum_of_counts (counts (λ (r : Replayed). r.samples) p cs) + sum_of_counts
-      (counts (λ (r : Replayed). r.late) p cs)
-      ≡ length (taken_all p cs) + sum_of_counts (counts (λ (r : Replayed). r.silent) p cs)
+  pub balance : sum_of_counts (counts (λ (r : ReplayTold). r.samples) p cs) + sum_of_counts
+      (counts (λ (r : ReplayTold). r.late) p cs)
+      ≡ length (taken_all p cs) + sum_of_counts (counts (λ (r : ReplayTold). r.silent) p cs)
   pub expected : (end p cs).expected ≡ expected_after p.expected (stamps_all p cs)
 
 -- two replays from the same place sound the same, count the same in all, and leave the same
 pub record SameReplay (p : Place) (cs ds : List ReplayCall) : Type 0 where
   pub sounds : sounded_all p cs ≡ sounded_all p ds
-  pub samples : sum_of_counts (counts (λ (r : Replayed). r.samples) p cs) ≡ sum_of_counts
-      (counts (λ (r : Replayed). r.samples) p ds)
-  pub unsettled : sum_of_counts (counts (λ (r : Replayed). r.unsettled) p cs)
-      ≡ sum_of_counts (counts (λ (r : Replayed). r.unsettled) p ds)
-  pub late : sum_of_counts (counts (λ (r : Replayed). r.late) p cs) ≡ sum_of_counts
-      (counts (λ (r : Replayed). r.late) p ds)
-  pub silent : sum_of_counts (counts (λ (r : Replayed). r.silent) p cs) ≡ sum_of_counts
-      (counts (λ (r : Replayed). r.silent) p ds)
-  pub resets : sum_of_counts (counts (λ (r : Replayed). r.resets) p cs) ≡ sum_of_counts
-      (counts (λ (r : Replayed). r.resets) p ds)
+  pub samples : sum_of_counts (counts (λ (r : ReplayTold). r.samples) p cs) ≡ sum_of_counts
+      (counts (λ (r : ReplayTold). r.samples) p ds)
+  pub unsettled : sum_of_counts (counts (λ (r : ReplayTold). r.unsettled) p cs)
+      ≡ sum_of_counts (counts (λ (r : ReplayTold). r.unsettled) p ds)
+  pub late : sum_of_counts (counts (λ (r : ReplayTold). r.late) p cs) ≡ sum_of_counts
+      (counts (λ (r : ReplayTold). r.late) p ds)
+  pub silent : sum_of_counts (counts (λ (r : ReplayTold). r.silent) p cs) ≡ sum_of_counts
+      (counts (λ (r : ReplayTold). r.silent) p ds)
+  pub resets : sum_of_counts (counts (λ (r : ReplayTold). r.resets) p cs) ≡ sum_of_counts
+      (counts (λ (r : ReplayTold). r.resets) p ds)
   pub leaves : end p cs ≡ end p ds
 
 -- over a past: the ear samples, the unsettled frames of all calls together, and the past that is stood for then
 pub record Over (u : Setup) (p : Place) (cs : List ReplayCall) (past : List (List Float)) : Type 0 where
   pub sounds : sounded_all p cs ≡ heard_by u past (events_all u p cs)
-  pub unsettled : sum_of_counts (counts (λ (r : Replayed). r.unsettled) p cs)
+  pub unsettled : sum_of_counts (counts (λ (r : ReplayTold). r.unsettled) p cs)
       ≡ unsettled_by u 0 past (events_all u p cs)
   pub keeps : Represents u (after_by u past (events_all u p cs)) (end p cs).state
 
@@ -150,7 +150,7 @@ pub record ReplayDemand3 : Type 0 where
       → damaged_among u (events_all u p cs) n ≡ damaged_among u (events_all u q ds) m
   -- (c) "Each call's unsettled count is exactly the number of its frames with a damaged frame among those L"
   pub unsettled : (u : Setup) (p : Place) (cs : List ReplayCall) → Replay u p cs
-      → counts (λ (r : Replayed). r.unsettled) p cs ≡ damaged_counts u (events_all u p cs) 0 p cs
+      → counts (λ (r : ReplayTold). r.unsettled) p cs ≡ damaged_counts u (events_all u p cs) 0 p cs
   -- (d) "each cut into blocks anywhere": the same recorded list, cut as it may be, and refused calls where they may be;
   -- from any rings and desk
   pub cut : (u : Setup) (p : Place) (cs ds : List ReplayCall) → ReplayCallsAlike u p cs → ReplayCallsAlike u p ds

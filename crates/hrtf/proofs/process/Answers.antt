@@ -8,15 +8,15 @@ use Rattle.hrtf_checks.specs.Refusals.{refusal_of}
 use Rattle.hrtf_checks.proofs.Refusing.{some_speakers, taps_finite, ready}
 use Rattle.hrtf.specs.declared.frames.Scaled.{Scaled}
 use Rattle.hrtf.specs.Computed.{scaled_of, ScaledReady, block_computed, BlockPlayed}
-use Rattle.hrtf.proofs.Meets.{promised_refused, promised_accepted}
+use Rattle.hrtf.proofs.Meets.{has_number, promised_refused, promised_accepted}
 use Rattle.hrtf.proofs.process.Goals as goal
 
-pub returns-then-refusal-ne0 : goal.returns-then-refusal-ne0
-returns-then-refusal-ne0 c = promised_refused _ _ _ c.refusal-refusal.ensures c.if-refusal-ne0.true
+pub returns-in-Some : goal.returns-in-Some
+returns-in-Some c = promised_refused _ _ _ c.in-Some.ensures (has_number _)
 
 pub scale-requires : goal.scale-requires
 scale-requires c =
-    let accepted = sym c.refusal-refusal.ensures ∙ c.if-refusal-ne0.false in
+    let accepted = sym c.in_default.ensures in
     (some_speakers _ _ accepted, (ready _ _ accepted).few)
 
 -- a call that is accepted is ready at the shape that was scaled
@@ -27,7 +27,7 @@ scaled_ready c t k accepted e =
     (record { factor = refl; ready = ready c t accepted; finite = taps_finite c t accepted })
 
 pub block-turn-requires : goal.block-turn-requires
-block-turn-requires c = scaled_ready _ _ _ (sym c.refusal-refusal.ensures ∙ c.if-refusal-ne0.false) c.scale.ensures
+block-turn-requires c = scaled_ready _ _ _ (sym c.in_default.ensures) c.scale.ensures
 
 -- the shape that was scaled is the call's own
 own_shape : (c : BlockCall) (t : State) (k : Scaled) (rings₁ ears₁ : List Float) (d : Desk) (more : ℕ)
@@ -39,6 +39,5 @@ own_shape c t k rings₁ ears₁ d more e b =
 
 pub returns : goal.returns
 returns c =
-    let accepted = sym c.refusal-refusal.ensures ∙ c.if-refusal-ne0.false in
-    promised_accepted _ _ _ _ _ _ (sym accepted)
+    promised_accepted _ _ _ _ _ _ c.in_default.ensures
     (own_shape _ _ c.scale.result _ _ _ _ c.scale.ensures c.block-turn.ensures)

@@ -1,5 +1,5 @@
 -- `hrtf::reset` meets its contract. Assumes nothing.
-use Rattle.lists.specs.Prelude.{sym, ap, ◌∙◌, not}
+use Rattle.lists.specs.Prelude.{sym, ap, ◌∙◌, not, of_bits}
 use Rattle.hrtf.proofs.Meets.{reset_refuses, reset_accepts, reset_refused, reset_accepted}
 use Rattle.hrtf.proofs.reset.Goals as goal
 
@@ -30,6 +30,7 @@ returns-then-not-is_product c =
     ))
 
 pub returns : goal.returns
+unfolding of_bits
 returns c =
     let a = c.args in
     reset_accepted a.desk a.speakers a.length a.rings.now _
@@ -40,4 +41,4 @@ returns c =
         (ap not (sym c.is_product.ensures) ∙ (ap not c.if-not-is_product.false), tt),
       ),
     ))
-    c.silence.ensures
+    (c.fill.ensures.after (λ y same. same))

@@ -8,14 +8,14 @@ pub returns-then-is_outside : goal.returns-then-is_outside
 returns-then-is_outside c =
     let a = c.args in
     refused_at a.whose a.speakers a.channels a.azimuths.now a.elevations.now a.rows a.weights.now a.row_of.now 0 1 _
-    refl (sym c.is_outside.ensures ∙ c.if-is_outside.true) c.unarranged.ensures
+    refl (sym c.is_outside.ensures ∙ c.if-is_outside.true) refl
 
 pub returns-then-azimuths-ne8 : goal.returns-then-azimuths-ne8
 returns-then-azimuths-ne8 c =
     let a = c.args in
     refused_at a.whose a.speakers a.channels a.azimuths.now a.elevations.now a.rows a.weights.now a.row_of.now 1 4 _
     refl (sym c.is_outside.ensures ∙ c.if-is_outside.false, ap not (ne_eqb _ 8 c.if-azimuths-ne8.true))
-    c.unarranged-then-azimuths-ne8.ensures
+    refl
 
 pub returns-then-elevations-ne8 : goal.returns-then-elevations-ne8
 returns-then-elevations-ne8 c =
@@ -24,7 +24,7 @@ returns-then-elevations-ne8 c =
     refl (
       sym c.is_outside.ensures ∙ c.if-is_outside.false,
       (equal_passes _ 8 c.if-azimuths-ne8.false, ap not (ne_eqb _ 8 c.if-elevations-ne8.true)),
-    ) c.unarranged-then-elevations-ne8.ensures
+    ) refl
 
 pub returns-then-not-is_product : goal.returns-then-not-is_product
 returns-then-not-is_product c =
@@ -39,7 +39,7 @@ returns-then-not-is_product c =
           ap not (sym c.is_product.ensures) ∙ ap not c.if-not-is_product.true,
         ),
       ),
-    ) c.unarranged-then-not-is_product.ensures
+    ) refl
 
 pub returns : goal.returns
 returns c =

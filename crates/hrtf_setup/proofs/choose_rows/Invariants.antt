@@ -1,10 +1,9 @@
-use Rattle.std.specs.Prelude.{◌-◌}
-use Rattle.hrtf_setup.proofs.Choosing.{Choosing}
+use Rattle.lists.specs.Prelude.{length}
+use Rattle.lists.proofs.Filling.{Filling}
+use Rattle.hrtf_setup.specs.Speakers.{row_at}
 use Rattle.hrtf_setup.proofs.choose_rows.Given as goal
 
 abbrev pub invariant-loop-s : goal.invariant-loop-s
 invariant-loop-s l =
-    Choosing l.whose l.speakers l.azimuths l.elevations l.rows l.initial.row_of l.row_of l.s
-
-abbrev pub decreases-loop-s : goal.decreases-loop-s
-decreases-loop-s l = l.speakers - l.s
+    Filling (row_at l.whose l.azimuths l.elevations l.rows) (length l.initial.row-items) l.initial.row-items l.row-items
+    l.s

@@ -1,4 +1,3 @@
-use Rattle.std.specs.Prelude.{◌-◌}
 use Rattle.lists.specs.Prelude.{length}
 use Rattle.lists.proofs.Filling.{Filling}
 use Rattle.hrtf_setup.specs.Speakers.{weight_at}
@@ -6,6 +5,3 @@ use Rattle.hrtf_setup.proofs.put_weights.Given as goal
 
 abbrev pub invariant-loop-i : goal.invariant-loop-i
 invariant-loop-i l = Filling (weight_at l.whose l.n) (length l.initial.weights) l.initial.weights l.weights l.i
-
-abbrev pub decreases-loop-i : goal.decreases-loop-i
-decreases-loop-i l = length l.initial.weights - l.i

@@ -1,10 +1,9 @@
--- What stands at the loop's test, and what is known of it, is `Playing`; how many frames are left falls.
-use Rattle.std.specs.Prelude.{◌-◌}
+-- What stands at the loop's test, and what is known of it, is `Playing`.
 use Rattle.hrtf.proofs.Playing.{Playing}
 use Rattle.hrtf.proofs.frames.block.Given as goal
 
-abbrev pub invariant-loop-played : goal.invariant-loop-played
-invariant-loop-played l =
+abbrev pub invariant-loop-n : goal.invariant-loop-n
+invariant-loop-n l =
     Playing (record {
       shape = l.scaled.shape;
       frames = l.frames;
@@ -15,7 +14,4 @@ invariant-loop-played l =
       taps = l.taps;
       ears = l.initial.ears;
     })
-    (record { rings = l.initial.rings; desk = l.fn.desk }) l.rings l.ears l.standing l.played.unsettled l.played.frames
-
-abbrev pub decreases-loop-played : goal.decreases-loop-played
-decreases-loop-played l = l.frames - l.played.frames
+    (record { rings = l.initial.rings; desk = l.fn.desk }) l.rings l.ears l.standing l.unsettled l.n

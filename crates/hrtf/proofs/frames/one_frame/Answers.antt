@@ -7,8 +7,8 @@ pub returns : goal.returns
 returns c =
     let a = c.args in
     turned a.scaled.shape a.weights.now a.row_of.now a.taps.now (record { rings = a.rings.now; desk = a.desk })
-    (frame_at a.inputs.now a.stride a.scaled.shape.channels a.played.frames)
-    a.stride a.played.frames a.ears.now _ _ _ _ _ a.played.unsettled _
+    (frame_at a.inputs.now a.stride a.scaled.shape.channels a.n)
+    a.stride a.n a.ears.now _ _ _ _ _ _
     c.mix_frame-damaged.ensures c.ears_of-heard.ensures c.put_sample.ensures
     c.put_sample-2.ensures
-    c.one_if_late.ensures
+    c.is_late.ensures

@@ -32,6 +32,6 @@ loop-k-preserved c =
 
 pub returns : goal.returns
 returns c =
-    let left = running_all c.loop-k.invariant.0 c.loop-k-test.false in
-    let right = running_all c.loop-k.invariant.1 c.loop-k-test.false in
+    let left = running_all c.loop-k.invariant.0 (omega arith) in
+    let right = running_all c.loop-k.invariant.1 (omega arith) in
     λ i. record { left = left i; right = right i }
