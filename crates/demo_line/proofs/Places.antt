@@ -13,11 +13,11 @@ use Rattle.planes.specs.Planes.{sample_at, with_frames}
 use Rattle.planes.proofs.Planes.{frames_read}
 use Rattle.planes.proofs.Blocks.{block_accepted, block_refusal}
 use Rattle.panner.specs.declared.Command.TheVariants.{Surround}
-use Rattle.panner.specs.declared.Panned.{Panned}
+use Rattle.panner.specs.Promise.{Panned}
 use Rattle.panner.specs.Commands.{gains_of_command}
 use Rattle.panner.specs.Blocks.{PannedShape, refusal_of, narrowed_all, panned, frames_panned}
 use Rattle.panner.specs.Promise.{answer_of, PannedBlock, PannerPromise}
-use Rattle.demo_line.specs.declared.Placed.{Placed}
+use Rattle.demo_line.specs.Records.{Placed}
 use Rattle.demo_line.specs.Records.{demo_command_at, demo_voice_at, demo_shape_at, demo_refusal_at, Places}
 
 -- what the panner is asked for at an azimuth

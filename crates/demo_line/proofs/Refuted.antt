@@ -9,13 +9,13 @@ use Rattle.big_endian.specs.Bytes.{value_of, bytes_of}
 use Rattle.big_endian.specs.Fields.{field_at, float_at, double_at}
 use Rattle.big_endian.specs.Lists.{strided, field_bytes, float_bytes, double_bytes}
 use Rattle.channel.specs.declared.Layout.TheVariants.{Surround51}
-use Rattle.surround.specs.declared.SurroundGains.{SurroundGains}
+use Rattle.surround.specs.Promise.{SurroundGains}
 use Rattle.surround.specs.Promise.{outcome}
 use Rattle.surround.proofs.Laws.{refusal_is}
 use Rattle.surround.proofs.Drill.{at_120}
 use Rattle.panner.specs.Commands.{angle_refused}
 use Rattle.panner.specs.Blocks.{narrowed_all, panned_frames}
-use Rattle.demo_line.specs.declared.Placed.{Placed}
+use Rattle.demo_line.specs.Records.{Placed}
 use Rattle.demo_line.specs.Records.{demo_command_at, demo_voice_at, demo_refusal_at, Places}
 use Rattle.demo_line.proofs.Places.{refused_is, played_is}
 

@@ -10,7 +10,9 @@ use Rattle.panner.specs.declared.Command.{Command}
 use Rattle.panner.specs.declared.Command.TheVariants.{Surround}
 use Rattle.panner.specs.Commands.{angle_refused, gains_of_command, GainsPromised}
 use Rattle.panner.specs.Blocks.{PannedShape, frames_panned}
-use Rattle.demo_line.specs.declared.Placed.{Placed}
+use Rattle.std.specs.Prelude.{Result}
+use Rattle.refusals.specs.Numbers.{number_in, value_in}
+use Rattle.refusals.specs.declared.Refusal.{Refusal}
 
 -- the azimuth stands first, and the samples behind it
 abbrev pub demo_command_at : List ℕ → Command
@@ -29,6 +31,13 @@ demo_refusal_at bytes = first_of (3 when angle_refused (demo_command_at bytes) �
 
 -- the frames that the panner plays, one after the other, each a sample of L, R, C, LFE, Ls and Rs; or the refusal and
 -- no sound
+pub record Placed : Type 0 where
+  pub refusal : ℕ
+  pub line : List ℕ
+
+abbrev pub line_told : Result (List ℕ) Refusal → Placed
+line_told r = record { refusal = number_in r; line = value_in (replicate 768 0) r }
+
 abbrev pub placed_at : List ℕ → Placed
 placed_at bytes =
     answered (demo_refusal_at bytes)

@@ -8,7 +8,7 @@
 
 ghost use Rattle.std.specs.Prelude.{◌≤◌, length, IfSome};
 
-use ears_file::RunOutcome;
+use ears_file::{RunCounts, RunError};
 use std::env::FillError;
 use std::rt::Env;
 
@@ -16,7 +16,7 @@ use std::rt::Env;
 const NO_LIMIT: usize = usize::MAX;
 
 // Prints the line of a run; one that failed has none.
-fn tell(rt: &HostRuntime, run: RunOutcome) {
+fn tell(rt: &HostRuntime, run: Result<RunCounts, RunError>) {
     let mut text = [0u8; 64];
     let n = ears_file::result_line(run, &mut text);
     if let Err(e) = rt.write_all(&text[..n]) {

@@ -37,6 +37,9 @@ fn read_full<R: Read>(input: &mut R, bytes: &mut [u8]) -> usize
     ensures { result ≤ length bytes.new }
 {
     let mut at = 0;
+    // Kept: a `for` has no count here, since each turn goes on by as many bytes as came. And as in
+    // `demo_line` and `probe`: docs/DECISIONS.md, on `read_full`, has three times eight lines, for want
+    // of a promise for one.
     while at < bytes.len() {
         match input.read(&mut bytes[at..]) {
             Ok(n) if n > 0 => at += n,
@@ -249,20 +252,6 @@ fn cuts(rt: &HostRuntime) {
     );
 }
 
-// Whether two lists begin with the same bytes, as many as each was filled with.
-fn is_same(a: &[u8], n: usize, b: &[u8], m: usize) -> bool {
-    if n != m {
-        return false;
-    }
-    if a.len() < n {
-        return false;
-    }
-    if b.len() < n {
-        return false;
-    }
-    a[..n] == b[..n]
-}
-
 // Reads the file of a name, as far as the list has room: none of it, where it cannot be read.
 fn read_named(rt: &HostRuntime, path: &[u8], bytes: &mut [u8]) -> usize
     ensures { result ≤ length bytes.new }
@@ -280,7 +269,7 @@ fn compare(rt: &HostRuntime, a: &[u8], b: &[u8]) {
     let n = read_named(rt, a, &mut one);
     let m = read_named(rt, b, &mut two);
     let _ = print!(rt; "{n}");
-    if is_same(&one, n, &two, m) {
+    if one[..n] == two[..m] {
         say(rt, b" bytes, the same\n");
         return;
     }

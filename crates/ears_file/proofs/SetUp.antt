@@ -1,6 +1,6 @@
 -- A bank that was found and keeps the form is set up for 5.1, and the convolver refuses no block with it: `ready`.
 -- Assumes nothing.
-use Rattle.std.specs.Prelude.{◌≡◌, ◌*◌, ◌≤◌, ◌<◌}
+use Rattle.std.specs.Prelude.{◌≡◌, ◌*◌, ◌≤◌, ◌<◌, Result, Ok}
 use Rattle.lists.specs.Prelude.{refl, sym, ap, ◌∙◌, subst, true, false, cond, List, [], ℕ, mul-le-mul, arith, ℤ, pos}
 use Rattle.lists.specs.Prelude.{length, replicate, length-take, Float}
 use Rattle.refusals.proofs.First.{answered_accepted, answered_refused}
@@ -16,14 +16,16 @@ use Rattle.bank.proofs.Laws.{accepted_parts, accepted_is, read_is}
 use Rattle.hrtf_history.specs.Setup.{Setup}
 use Rattle.hrtf_checks.specs.declared.ConvolverShape.{ConvolverShape}
 use Rattle.hrtf_checks.specs.Call.{setup_of}
-use Rattle.hrtf_setup.specs.Arrangement.{Arrangement, arranged_by, arrangement}
+use Rattle.refusals.specs.declared.Refusal.{Refusal}
+use Rattle.hrtf_setup.specs.declared.Arranged.{Arranged}
+use Rattle.hrtf_setup.specs.Arrangement.{setup_answer, Arrangement, arranged_by, arrangement}
 use Rattle.hrtf_setup.specs.Promise.{of_layout, NewSurroundPromise}
 use Rattle.hrtf_setup.proofs.Accepted.{Playable, surround_playable}
 use Rattle.bank.specs.Reading.{bank_found}
 use Rattle.hrtf_rings.specs.State.{StateFits}
 use Rattle.hrtf_runs.proofs.NeverRefused.{few_rows, short_filters, good_bank_set_up, set_up_accepted}
-use Rattle.ears_file.specs.declared.Ended.{Ended}
-use Rattle.ears_file.specs.declared.RunOutcome.{RunOutcome}
+use Rattle.ears_file.specs.Lines.{Ended}
+use Rattle.ears_file.specs.Lines.{RunOutcome}
 use Rattle.ears_file.specs.Lines.{arranged, setup_with, part_frame, refused_bank, ends_as, item_ten}
 use Rattle.files.specs.Promise.{Found}
 use Rattle.ears_file.specs.Promise.{Ends, Answers}
@@ -41,6 +43,17 @@ shape_of a o = record {
   rows = o.answer.rows;
   length = o.answer.length;
 }
+
+-- what is promised of a set-up whose answer is known
+pub new_known : {zs es : List ℤ} {n : ℕ} {weights ws : List Float} {given rs : List ℕ} {r : Result Arranged Refusal}
+    {v : Arranged}
+    → NewSurroundPromise Surround51 zs es n weights given (record { answer = setup_answer r; weights = ws; rows = rs })
+    → r ≡ Ok v
+    → NewSurroundPromise Surround51 zs es n weights given
+    (record { answer = setup_answer (Ok v); weights = ws; rows = rs })
+new_known {zs} {es} {n} {weights} {ws} {given} {rs} p e =
+    subst (λ (q : Result Arranged Refusal). NewSurroundPromise Surround51 zs es n weights given
+    (record { answer = setup_answer q; weights = ws; rows = rs })) e p
 
 module _ (xs : List Float) (o : ReadOutcome) (f : Found zeros zeros xs o) where
   lists : length xs ≡ 8192 → Lists zeros zeros xs
@@ -144,6 +157,9 @@ module _ (xs : List Float) (o : ReadOutcome) (f : Found zeros zeros xs o) where
           (good_bank_set_up f.file zeros zeros xs o f.reads good (of_layout Surround51) weights refl size)
           ∙ ap (λ (q : ReadOutcome). arranged_by 0 whose 6 6 q.azimuths q.elevations q.answer.rows weights
           (replicate 8 0)) is
+
+      pub set_up_kept : a.answer.refusal ≡ 0
+      set_up_kept = ap (λ (q : Arrangement). q.answer.refusal) arranged_is
 
       pub cells_fit : a.answer.speakers * o.answer.length ≤ 3072
       cells_fit =

@@ -3,6 +3,8 @@
 use Rattle.std.specs.Prelude.{◌≡◌, ◌++◌, ◌*◌, ◌≤◌, ◌<◌}
 use Rattle.lists.specs.Prelude.{refl, sym, ap, ◌∙◌, subst, Bool, true, false, List, [], flat_map, append-nil, ℕ, arith}
 use Rattle.lists.specs.Prelude.{ne_eqb, eqb, length, take, drop, replicate, length-take, length-drop, Float}
+use Rattle.std.specs.declared.option.Option.{Option}
+use Rattle.std.specs.declared.option.Option.TheVariants.{Some}
 use Rattle.formats.specs.Floats.{zero_float}
 use Rattle.lists.specs.Tables.{tab, chunk}
 use Rattle.hrtf_desk.specs.Numbers.{zeroed}
@@ -13,11 +15,10 @@ use Rattle.hrtf_rings.proofs.Blocks.{fresh_represents}
 use Rattle.ears_wire.specs.Ears.{ear_bytes}
 use Rattle.ears_wire.specs.Records.{whole_in_of, rest_in}
 use Rattle.ears_wire.specs.Frames.{frame_of, line_frames}
-use Rattle.ears_file.specs.declared.input.Stepped.{Stepped}
 use Rattle.ears_file.specs.declared.turn.Progress.{Progress}
 use Rattle.ears_file.specs.declared.turn.Turn.{Turn}
 use Rattle.ears_file.specs.Promise.{bytes_beyond}
-use Rattle.ears_file.specs.Turns.{at_start, Stands, Further}
+use Rattle.ears_file.specs.Turns.{at_start, turn_or_none, Stands, Further}
 
 -- fewer bytes are held than a frame has
 pub holds_few : (u : Setup) (line : List ℕ) (p : Progress) (rings : List Float) (bytes : List ℕ)
@@ -37,6 +38,14 @@ start_stands u p rings bytes some e silent =
       frames = refl;
       unsettled = refl;
     })
+
+-- what a step that leaves a turn goes on to
+pub went_on : (u : Setup) (p : Progress) (rings : List Float) (bytes part : List ℕ) (step : Option Turn) (r : Turn)
+    {rings₁ : List Float} {bytes₁ out₁ : List ℕ} → step ≡ Some r
+    → Further u p rings bytes part (turn_or_none p step) rings₁ bytes₁ out₁ → (line : List ℕ)
+    → Stands u line p rings bytes → Stands u (line ++ part) r.progress rings₁ bytes₁
+went_on u p rings bytes part step r {rings₁} {bytes₁} {out₁} e f =
+    (subst (λ (s : Option Turn). Further u p rings bytes part (turn_or_none p s) rings₁ bytes₁ out₁) e f).stands
 
 -- ---- a read
 
@@ -85,15 +94,12 @@ module _ (u : Setup) (p : Progress) (rings : List Float) (bytes read : List ℕ)
       sym (ap (λ (fs : List (List Float)). ear_bytes (heard u (after u [] (line_frames line)) fs)) none)
 
   -- nothing more came
-  pub none_further : (r : Stepped) (failed : Bool) (out₁ : List ℕ)
-      → r ≡ record { over = true; failed = failed; turn = record { progress = p; bytes = 0 } }
-      → FurtherBy r.over r.turn rings read out₁
-  none_further r failed out₁ e =
-      subst (λ (q : Stepped). FurtherBy q.over q.turn rings read out₁) (sym e) (
-        [],
-        refl,
-        record {
-          stands = λ line s. subst (λ (bs : List ℕ). Stands u bs p rings read) (sym (append-nil line)) (stays line s);
-          put = λ line s. none_beyond line;
-        },
-      )
+  pub none_further : (out₁ : List ℕ) → FurtherBy true (record { progress = p; bytes = 0 }) rings read out₁
+  none_further out₁ = (
+    [],
+    refl,
+    record {
+      stands = λ line s. subst (λ (bs : List ℕ). Stands u bs p rings read) (sym (append-nil line)) (stays line s);
+      put = λ line s. none_beyond line;
+    },
+  )

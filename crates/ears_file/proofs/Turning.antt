@@ -1,6 +1,6 @@
 -- What a turn leaves, from what `ears_wire` and `hrtf` promise: `turn_further`. Where something stands for a line the
 -- convolver does not refuse. Assumes nothing.
-use Rattle.std.specs.Prelude.{◌≡◌, ◌++◌, ◌+◌, ◌-◌, ◌*◌, ◌≤◌, ◌<◌}
+use Rattle.std.specs.Prelude.{◌≡◌, ◌++◌, ◌+◌, ◌-◌, ◌*◌, ◌≤◌, ◌<◌, Result, IsOk}
 use Rattle.lists.specs.Prelude.{sym, ap, ◌∙◌, subst, List, [], ℕ, arith, length, take, drop, length-drop}
 use Rattle.lists.specs.Prelude.{take-append-drop, take-take, length-take-le, Float}
 use Rattle.lists.specs.Tables.{chunk}
@@ -24,9 +24,10 @@ use Rattle.hrtf.proofs.Meets.{ears_over, unsettled_over}
 use Rattle.ears_wire.specs.Records.{whole_in_of, rest_in}
 use Rattle.ears_wire.specs.Frames.{frame_of, line_frames}
 use Rattle.ears_wire.specs.Ears.{ear_bytes}
-use Rattle.ears_wire.specs.declared.Taken.{Taken}
-use Rattle.ears_wire.specs.declared.Given.{Given}
-use Rattle.ears_wire.specs.Promise.{FramesTaken, frames_taken, EarsGiven, ears_given}
+use Rattle.refusals.specs.declared.Refusal.{Refusal}
+use Rattle.refusals.proofs.Numbers.{accepted_ok}
+use Rattle.ears_wire.specs.Promise.{Taken, Given, taken_told, given_told, FramesTaken}
+use Rattle.ears_wire.specs.Promise.{frames_taken, EarsGiven, ears_given}
 use Rattle.ears_wire.proofs.Meets.{taken_accepted, given_accepted}
 use Rattle.ears_wire.proofs.Cut.{cut_rest}
 use Rattle.ears_wire.proofs.Ears.{length_ears}
@@ -63,6 +64,28 @@ block h weights rows taps n inputs ears =
       ears = ears;
     }
 
+-- the planes have room for every frame of so many bytes, and the list of bytes for its ears
+frames_room : (size : ℕ) (bytes : List ℕ) → size ≤ 24576 → size ≤ length bytes
+    → whole_in_of 24 (take size bytes) ≤ 1024
+frames_room size bytes most long = omega (arith, length-take-le size bytes long)
+
+pub frames_ok : (size : ℕ) (bytes : List ℕ) (inputs inputs₁ : List Float) (r : Result ℕ Refusal) → size ≤ 24576
+    → size ≤ length bytes → length inputs ≡ 6144
+    → record { answer = taken_told r; inputs = inputs₁ } ≡ frames_taken (take size bytes) 1024 inputs → IsOk r
+frames_ok size bytes inputs inputs₁ r most long inputs_long e =
+    accepted_ok r (ap (λ (f : FramesTaken). f.answer.refusal)
+    (e ∙ taken_accepted (take size bytes) 1024 inputs
+    (planes_fit (length inputs) 6 1024 (whole_in_of 24 (take size bytes)) (frames_room size bytes most long)
+    inputs_long)))
+
+pub ears_ok : (ears : List Float) (n : ℕ) (out out₁ : List ℕ) (r : Result ℕ Refusal) → n ≤ 1024
+    → length ears ≡ 2048 → length out ≡ 8192
+    → record { answer = given_told r; out = out₁ } ≡ ears_given ears 1024 n out → IsOk r
+ears_ok ears n out out₁ r few ears_long out_long e =
+    accepted_ok r (ap (λ (g : EarsGiven). g.answer.refusal)
+    (e ∙ given_accepted ears 1024 n out (planes_fit (length ears) 2 1024 n few ears_long)
+    (omega (arith, few, out_long))))
+
 -- the calls of a turn: frames from bytes, a block, bytes from ears
 module _ (h : ConvolverShape) (weights : List Float) (rows : List ℕ) (taps : List Float)
     (ready : BlocksAccepted h weights rows taps)
@@ -70,11 +93,11 @@ module _ (h : ConvolverShape) (weights : List Float) (rows : List ℕ) (taps : L
     (sized : (p.held < size) × (size ≤ 24576) × (size ≤ length bytes))
     (inputs_long : length inputs ≡ 6144) (ears_long : length ears ≡ 2048) (out_long : length out ≡ 8192)
     (took : Taken) (inputs₁ : List Float)
-    (taken : record { answer = took; inputs = inputs₁ } ≡ frames_taken (take size bytes) 1024 inputs)
+    (taken_lem : record { answer = took; inputs = inputs₁ } ≡ frames_taken (take size bytes) 1024 inputs)
     (o : BlockOutcome) (processes : ProcessPromise (block h weights rows taps took.frames inputs₁ ears)
     (record { rings = rings; desk = p.desk }) o)
     (ears-kept : length o.ears ≡ length ears) (gave : Given) (out₁ : List ℕ)
-    (given : record { answer = gave; out = out₁ } ≡ ears_given o.ears 1024 took.frames out) where
+    (given_lem : record { answer = gave; out = out₁ } ≡ ears_given o.ears 1024 took.frames out) where
   abbrev u : Setup
   u = setup_of h weights rows taps
 
@@ -101,7 +124,7 @@ module _ (h : ConvolverShape) (weights : List Float) (rows : List ℕ) (taps : L
       })
   taken_is =
       let room : whole_in_of 24 (take size bytes) ≤ 1024 = omega (arith, come_long, sized.1) in
-      taken ∙ taken_accepted (take size bytes) 1024 inputs
+      taken_lem ∙ taken_accepted (take size bytes) 1024 inputs
       (planes_fit (length inputs) 6 1024 (whole_in_of 24 (take size bytes)) room inputs_long)
 
   count : n ≡ whole_in_of 24 (take size bytes)
@@ -119,7 +142,7 @@ module _ (h : ConvolverShape) (weights : List Float) (rows : List ℕ) (taps : L
         out = placed out 0 (ear_bytes (frames_of o.ears 1024 2 n));
       })
   given_is =
-      given ∙ given_accepted o.ears 1024 n out (planes_fit (length o.ears) 2 1024 n few (ears-kept ∙ ears_long))
+      given_lem ∙ given_accepted o.ears 1024 n out (planes_fit (length o.ears) 2 1024 n few (ears-kept ∙ ears_long))
       (omega (arith, few, out_long))
 
   pub put_long : gave.bytes ≡ n * 8

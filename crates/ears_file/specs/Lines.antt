@@ -2,13 +2,12 @@
 -- line. [..] Empty input prints `frames 0 unsettled 0`. [..] a part frame at the end prints `refused 9` only". Document
 -- 02, E2, of a bad bank: "9 is no longer given for a bank, only for a part frame. The program prints number and place,
 -- as `refused 14 at 1`; a missing bank is read as empty." Definitions only.
-use Rattle.std.specs.Prelude.{◌∷◌}
-use Rattle.lists.specs.Prelude.{ℕ, cond, not, List, [], eqb, pos, length, replicate}
+use Rattle.std.specs.Prelude.{◌∷◌, Result, Ok, Err}
+use Rattle.lists.specs.Prelude.{ℕ, Bool, true, false, cond, not, List, [], eqb, pos, length, replicate}
 use Rattle.refusals.specs.Refusals.{first_of, ◌when◌, answered}
 use Rattle.channel.specs.declared.Layout.TheVariants.{Surround51}
 use Rattle.bank_form.specs.Bank.{Bank, rows}
-use Rattle.bank_form.specs.declared.Fault.{Fault}
-use Rattle.bank_form.specs.Fault.{bank_in, fault}
+use Rattle.bank_form.specs.Fault.{Fault, bank_in, fault, told_as_number}
 use Rattle.bank.specs.Reading.{ReadOutcome, read_bank}
 use Rattle.hrtf_history.specs.Setup.{Setup}
 use Rattle.hrtf_history.specs.History.{heard, unsettled_in}
@@ -18,9 +17,22 @@ use Rattle.ears_wire.specs.Ears.{ear_bytes}
 use Rattle.ears_wire.specs.Records.{whole_in_of, rest_in}
 use Rattle.ears_wire.specs.Frames.{line_frames}
 use Rattle.ears_wire.specs.Line.{frames_line, refused_line, refused_at_line}
-use Rattle.ears_file.specs.declared.Ended.{Ended}
-use Rattle.ears_file.specs.declared.RunOutcome.{RunOutcome}
 use Rattle.ears_wire.specs.Counting.{counted_on}
+use Rattle.ears_file.specs.declared.RunCounts.{RunCounts}
+use Rattle.ears_file.specs.declared.RunError.{RunError}
+use Rattle.ears_file.specs.declared.RunError.TheVariants.{Failed, Refused}
+
+-- how a run ended: refused, with the byte of the bank that is wrong, or 0 with the counts
+pub record Ended : Type 0 where
+  pub refusal : ℕ
+  pub place : ℕ
+  pub frames : ℕ
+  pub unsettled : ℕ
+
+-- and whether the system failed
+pub record RunOutcome : Type 0 where
+  pub failed : Bool
+  pub ended : Ended
 
 -- what a bank is read into: lists of eight zeros
 abbrev pub read_in : Bank → ReadOutcome
@@ -51,6 +63,16 @@ part_frame = record { refusal = 9; place = 0; frames = 0; unsettled = 0 }
 
 abbrev pub refused_bank : Fault → Ended
 refused_bank f = record { refusal = f.refusal; place = f.offset; frames = 0; unsettled = 0 }
+
+-- what is told of a run
+abbrev pub outcome_of : Result RunCounts RunError → RunOutcome
+outcome_of (Ok c) =
+    record {
+      failed = false;
+      ended = record { refusal = 0; place = 0; frames = c.frames; unsettled = c.unsettled };
+    }
+outcome_of (Err Failed) = record { failed = true; ended = part_frame }
+outcome_of (Err (Refused f)) = record { failed = false; ended = refused_bank (told_as_number f) }
 
 -- 9: bytes are left behind the whole frames
 abbrev pub rest_refusal : ℕ → ℕ

@@ -2,6 +2,8 @@
 -- and what it puts out. Definitions only.
 use Rattle.std.specs.Prelude.{◌≡◌, ◌++◌, ◌≤◌, ◌<◌}
 use Rattle.lists.specs.Prelude.{List, [], ℕ, length, take, Float}
+use Rattle.std.specs.declared.option.Option.{Option}
+use Rattle.std.specs.declared.option.Option.TheVariants.{Some, None}
 use Rattle.refusals.specs.Refusals.{answered}
 use Rattle.hrtf_desk.specs.Numbers.{zeroed}
 use Rattle.hrtf_history.specs.Setup.{Setup}
@@ -12,7 +14,7 @@ use Rattle.hrtf_checks.specs.declared.ConvolverShape.{ConvolverShape}
 use Rattle.hrtf_checks.specs.Refusals.{refusal_of}
 use Rattle.ears_wire.specs.Records.{whole_in_of, rest_in}
 use Rattle.ears_wire.specs.Frames.{line_frames}
-use Rattle.ears_file.specs.declared.Ended.{Ended}
+use Rattle.ears_file.specs.Lines.{Ended}
 use Rattle.ears_file.specs.declared.turn.Progress.{Progress}
 use Rattle.ears_file.specs.declared.turn.Turn.{Turn}
 use Rattle.ears_wire.specs.Counting.{counted_on}
@@ -44,6 +46,11 @@ at_start = record { desk = zeroed; held = 0; frames = 0; unsettled = 0 }
 abbrev pub end_of : Progress → Ended
 end_of p = answered (rest_refusal p.held)
     (record { refusal = 0; place = 0; frames = p.frames; unsettled = p.unsettled }) (λ n. part_frame)
+
+-- the turn of a step: where the line is over there is none, and nothing changes
+abbrev pub turn_or_none : Progress → Option Turn → Turn
+turn_or_none p (Some r) = r
+turn_or_none p None = record { progress = p; bytes = 0 }
 
 -- the record, the rings and the bytes that are held stand for all that has come of a line
 pub record Stands (u : Setup) (line : List ℕ) (p : Progress) (rings : List Float) (bytes : List ℕ) : Type 0 where

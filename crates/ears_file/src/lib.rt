@@ -10,17 +10,21 @@
 // bank and some line, whatever the system hands over; a bank that keeps the form is refused nowhere.
 #![tactic(auto)]
 
-ghost use Rattle.std.specs.Prelude.{◌≡◌, true, false, List, Float, pos, replicate};
+ghost use Rattle.std.specs.Prelude.{List, Float, pos, replicate, Ok, Err};
 ghost use Rattle.io.specs.Counts.{IsPrefixLen};
-ghost use Rattle.bank.specs.Reading.{bank_found};
+ghost use Rattle.refusals.specs.Numbers.{number_of};
+ghost use Rattle.bank_form.specs.Fault.{told_as_number};
+ghost use Rattle.bank.specs.Reading.{bank_found, read_answer};
 ghost use Rattle.ears_wire.specs.Promise.{Lined};
-ghost use Rattle.ears_file.specs.Lines.{setup_with, part_frame, refused_bank, ends_as, result_line};
+ghost use Rattle.ears_file.specs.Lines.{setup_with, refused_bank, ends_as, outcome_of, refusal_line, result_line};
 ghost use Rattle.files.specs.Promise.{Found};
 ghost use Rattle.ears_file.specs.Promise.{Ends, Answers};
 
 use bank::BankRead;
+use bank_form::Fault;
 use channel::Layout;
 use hrtf_checks::ConvolverShape;
+use refusals::Refusal;
 use std::io::{Read, Write};
 use std::os::fd::AsRawFd;
 use std::rt::Files;
@@ -28,66 +32,19 @@ use std::rt::Files;
 mod input;
 mod turn;
 
-// How a run ended: refused, with the byte of the bank that is wrong, or 0 with the counts.
+// How many frames a run played, and how many of them are unsettled.
 #[derive(Clone, Copy)]
-pub struct Ended {
-    pub refusal: u8,
-    pub place: u64,
+pub struct RunCounts {
     pub frames: u64,
     pub unsettled: u64,
 }
 
-// What a run answers: whether the system failed, and how it ended otherwise.
+// Why a run played no whole line: the system failed, which has been told; or the bank was refused, with the byte that
+// is wrong, or the line for a part frame, which has no place.
 #[derive(Clone, Copy)]
-pub struct RunOutcome {
-    pub failed: bool,
-    pub ended: Ended,
-}
-
-// The number of a part frame, which is told without a place.
-const PART_FRAME: u8 = 9;
-
-// A line that ends inside a frame.
-fn part_frame() -> Ended
-    ensures { result ≡ part_frame }
-{
-    Ended {
-        refusal: PART_FRAME,
-        place: 0,
-        frames: 0,
-        unsettled: 0,
-    }
-}
-
-// A bank that was not read: what is wrong with it, and at which byte.
-fn refused_bank(read: BankRead) -> Ended
-    ensures { result ≡ refused_bank (record { refusal = read.refusal; offset = read.offset }) }
-{
-    Ended {
-        refusal: read.refusal,
-        place: read.offset as u64,
-        frames: 0,
-        unsettled: 0,
-    }
-}
-
-// The system failed, which has been told.
-fn failed() -> RunOutcome
-    ensures { result ≡ record { failed = true; ended = part_frame } }
-{
-    RunOutcome {
-        failed: true,
-        ended: part_frame(),
-    }
-}
-
-fn done(ended: Ended) -> RunOutcome
-    ensures { result ≡ record { failed = false; ended = ended } }
-{
-    RunOutcome {
-        failed: false,
-        ended,
-    }
+pub enum RunError {
+    Failed,
+    Refused(Fault),
 }
 
 // Plays the whole line with a bank that was read and keeps the form: six speakers are set up by it, and rings of the
@@ -101,18 +58,22 @@ fn play_with<E: Eprint, L: Read, W: Write>(
     line: &mut L,
     out: &mut W,
     limit: usize,
-) -> RunOutcome
-    requires refusal_value { read.refusal ≡ 0 }
-    requires found { (before : List Float) × Found (replicate 8 (pos 0)) (replicate 8 (pos 0)) before
-        (record { answer = read; azimuths = azimuths.now; elevations = elevations.now; taps = taps.now }) }
-    ensures { Ends (ends_as
-        (setup_with (bank_found
+) -> Result<RunCounts, RunError>
+    requires { (before : List Float) × Found (replicate 8 (pos 0)) (replicate 8 (pos 0)) before
         (record {
-          answer = read;
+          answer = read_answer (Ok read);
           azimuths = azimuths.now;
           elevations = elevations.now;
           taps = taps.now;
-        })))) result }
+        }) }
+    ensures { Ends (ends_as
+        (setup_with (bank_found
+        (record {
+          answer = read_answer (Ok read);
+          azimuths = azimuths.now;
+          elevations = elevations.now;
+          taps = taps.now;
+        })))) (outcome_of result) }
 {
     let mut weights = [0.0f64; 36];
     let mut row_of = [0usize; 8];
@@ -123,7 +84,8 @@ fn play_with<E: Eprint, L: Read, W: Write>(
         read.rows,
         &mut weights,
         &mut row_of,
-    );
+    )
+    .unwrap();
     let shape = ConvolverShape {
         channels: arranged.channels,
         speakers: arranged.speakers,
@@ -154,24 +116,25 @@ pub fn run<R: Files + Eprint, L: Read>(
     line: &mut L,
     out: &[u8],
     limit: usize,
-) -> RunOutcome
+) -> Result<RunCounts, RunError>
 where
     R::File: AsRawFd,
-    ensures { Answers result }
+    ensures { Answers (outcome_of result) }
 {
     let mut azimuths = [0i16; 8];
     let mut elevations = [0i16; 8];
     let mut taps = [0.0f32; 8192];
     let read = files::read_bank(rt, bank, &mut azimuths, &mut elevations, &mut taps);
     let opened = files::open_out(rt, out);
-    if read.refusal != 0 {
-        return done(refused_bank(read));
-    }
+    let read = match read {
+        Ok(read) => read,
+        Err(fault) => return Err(RunError::Refused(fault)),
+    };
     let mut to = match opened {
         Ok(file) => file,
         Err(e) => {
             files::fail(rt, out, e);
-            return failed();
+            return Err(RunError::Failed);
         }
     };
     let run = play_with(
@@ -186,26 +149,43 @@ where
     );
     if let Err(e) = files::close(to) {
         files::fail(rt, out, e);
-        return failed();
+        return Err(RunError::Failed);
     }
     run
 }
 
-// Puts the line that a run is told by at the start of out, and answers its length: none for a run that failed,
-// which is told on standard error.
-pub fn result_line(run: RunOutcome, out: &mut [u8]) -> usize
-    ensures lined { Lined out.old (result_line run) result out.new }
+// Puts the line of a refusal: with its place, but for a part frame.
+fn refusal_line(fault: Fault, out: &mut [u8]) -> usize
+    ensures lined { Lined out.old
+        (refusal_line (refused_bank (told_as_number fault)) (number_of fault.refusal)) result out.new }
     ensures room { IsPrefixLen result out.new }
 {
-    if run.failed {
-        return 0;
+    let number = fault.refusal.number();
+    match fault.refusal {
+        Refusal::PartFrame => ears_wire::refused_line(number, out),
+        _ => ears_wire::refused_at_line(number, fault.offset as u64, out),
     }
-    let ended = run.ended;
-    if ended.refusal == 0 {
-        return ears_wire::frames_line(ended.frames, ended.unsettled, out);
+}
+
+// Puts the line of a run that played no whole line: none where the system failed.
+fn error_line(error: RunError, out: &mut [u8]) -> usize
+    ensures lined { Lined out.old (result_line (outcome_of (Err error))) result out.new }
+    ensures room { IsPrefixLen result out.new }
+{
+    match error {
+        RunError::Failed => 0,
+        RunError::Refused(fault) => refusal_line(fault, out),
     }
-    if ended.refusal == PART_FRAME {
-        return ears_wire::refused_line(ended.refusal, out);
+}
+
+// Puts the line that a run is told by at the start of out, and answers its length: none for a run that failed,
+// which is told on standard error.
+pub fn result_line(run: Result<RunCounts, RunError>, out: &mut [u8]) -> usize
+    ensures lined { Lined out.old (result_line (outcome_of run)) result out.new }
+    ensures room { IsPrefixLen result out.new }
+{
+    match run {
+        Ok(counts) => ears_wire::frames_line(counts.frames, counts.unsettled, out),
+        Err(error) => error_line(error, out),
     }
-    ears_wire::refused_at_line(ended.refusal, ended.place, out)
 }

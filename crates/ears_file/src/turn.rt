@@ -8,6 +8,7 @@ ghost use Rattle.io.specs.Counts.{IsPrefixLen};
 ghost use Rattle.hrtf_checks.specs.Call.{setup_of};
 ghost use Rattle.ears_file.specs.Turns.{at_start, BlocksAccepted, Further};
 
+use hrtf::BlockAnswer;
 use hrtf_checks::ConvolverShape;
 use hrtf_desk::Desk;
 
@@ -71,12 +72,16 @@ pub(crate) fn play(
     ensures room { IsPrefixLen result.bytes out.new }
 {
     let desk = progress.desk;
-    let taken = ears_wire::frames_from_bytes(&bytes[..size], BLOCK, inputs);
-    let frames = taken.frames;
+    let frames = ears_wire::frames_from_bytes(&bytes[..size], BLOCK, inputs).unwrap();
     let played = hrtf::process(
         desk, shape, frames, BLOCK, inputs, weights, row_of, taps, rings, ears,
     );
-    let given = ears_wire::bytes_from_ears(ears, BLOCK, frames, out);
+    let played = played.unwrap_or(BlockAnswer {
+        samples: 0,
+        unsettled: 0,
+        desk,
+    });
+    let given = ears_wire::bytes_from_ears(ears, BLOCK, frames, out).unwrap();
     let from = frames * FRAME;
     ears_wire::keep_rest(bytes, from, size);
     let next = played.desk;
@@ -87,6 +92,6 @@ pub(crate) fn play(
             frames: ears_wire::count_on(progress.frames, frames),
             unsettled: ears_wire::count_on(progress.unsettled, played.unsettled),
         },
-        bytes: given.bytes,
+        bytes: given,
     }
 }

@@ -2,17 +2,26 @@
 -- doesn't fit", and leaves the list as it was. Definitions only.
 use Rattle.std.specs.Prelude.{◌≡◌, ◌+◌, ◌*◌, ◌∷◌}
 use Rattle.lists.specs.Prelude.{ℕ, List, [], ltb, length, Float}
+use Rattle.std.specs.Prelude.{Result}
 use Rattle.refusals.specs.Refusals.{first_of, ◌when◌, answered}
+use Rattle.refusals.specs.Numbers.{number_in, value_in}
+use Rattle.refusals.specs.declared.Refusal.{Refusal}
 use Rattle.lists.specs.Placed.{placed}
 use Rattle.checks.specs.Lengths.{unfit}
 use Rattle.planes.specs.Planes.{frames_of, with_frames}
-use Rattle.ears_wire.specs.declared.Taken.{Taken}
-use Rattle.ears_wire.specs.declared.Given.{Given}
 use Rattle.ears_wire.specs.Records.{whole_in_of}
 use Rattle.ears_wire.specs.Frames.{line_frames}
 use Rattle.ears_wire.specs.Ears.{ear_bytes}
 
 -- ---- frames from bytes: every whole frame stands in the planes
+
+-- the refusal, or 0 and how many frames there are
+pub record Taken : Type 0 where
+  pub refusal : ℕ
+  pub frames : ℕ
+
+abbrev pub taken_told : Result ℕ Refusal → Taken
+taken_told r = record { refusal = number_in r; frames = value_in 0 r }
 
 pub record FramesTaken : Type 0 where
   pub answer : Taken
@@ -35,6 +44,14 @@ unfoldable pub frames_taken : List ℕ → ℕ → List Float → FramesTaken
 frames_taken bytes stride inputs = taken_by (taken_refusal bytes stride inputs) bytes stride inputs
 
 -- ---- bytes from ears: those of every frame stand at the start, and beyond them the list is as it was
+
+-- the refusal, or 0 and how many bytes they have
+pub record Given : Type 0 where
+  pub refusal : ℕ
+  pub bytes : ℕ
+
+abbrev pub given_told : Result ℕ Refusal → Given
+given_told r = record { refusal = number_in r; bytes = value_in 0 r }
 
 pub record EarsGiven : Type 0 where
   pub answer : Given

@@ -18,7 +18,9 @@ ghost use Rattle.planes.specs.Planes.{frame_at, frames_of, with_frame, with_fram
 ghost use Rattle.ears_wire.specs.Records.{whole_in_of};
 ghost use Rattle.ears_wire.specs.Frames.{frame_of, line_frames};
 ghost use Rattle.ears_wire.specs.Ears.{ear_bytes};
-ghost use Rattle.ears_wire.specs.Promise.{frames_taken, ears_given};
+ghost use Rattle.ears_wire.specs.Promise.{taken_told, frames_taken, given_told, ears_given};
+
+use refusals::Refusal;
 
 mod line;
 mod records;
@@ -31,29 +33,13 @@ const FRAME: usize = 24;
 
 const EARS: usize = 8;
 
-// What taking frames answers: a refusal, or 0 and how many frames there are.
-#[derive(Clone, Copy)]
-pub struct Taken {
-    pub refusal: u8,
-    pub frames: usize,
-}
-
-// What giving ears answers: a refusal, or 0 and how many bytes they have.
-#[derive(Clone, Copy)]
-pub struct Given {
-    pub refusal: u8,
-    pub bytes: usize,
-}
-
 // Puts the six samples of a record into the planes, as frame n.
 fn take_frame(bytes: &[u8], n: usize, stride: usize, inputs: &mut [f32])
     ensures { inputs.new ≡ with_frame inputs.old stride n (frame_of bytes.now) }
 {
-    let mut c = 0;
-    while c < 6 {
+    for c in 0..6 {
         let x = big_endian::get_f32(bytes, c * 4);
         planes::put_sample(inputs, stride, c, n, x);
-        c += 1;
     }
 }
 
@@ -63,29 +49,25 @@ fn take_frames(bytes: &[u8], frames: usize, stride: usize, inputs: &mut [f32])
     ensures { inputs.new ≡ with_frames inputs.old stride 0
         (line_frames bytes.now) }
 {
-    let mut n = 0;
-    while n < frames {
+    for n in 0..frames {
         let from = n * FRAME;
         let to = from + FRAME;
         take_frame(&bytes[from..to], n, stride, inputs);
-        n += 1;
     }
 }
 
-// Puts the whole frames of the bytes into six planes, or refuses planes that have no room for them.
-pub fn frames_from_bytes(bytes: &[u8], stride: usize, inputs: &mut [f32]) -> Taken
-    ensures { record { answer = result; inputs = inputs.new } ≡ frames_taken bytes.now stride
+// Puts the whole frames of the bytes into six planes, or refuses planes that have no room for them. Answers how many
+// there are.
+pub fn frames_from_bytes(bytes: &[u8], stride: usize, inputs: &mut [f32]) -> Result<usize, Refusal>
+    ensures { record { answer = taken_told result; inputs = inputs.new } ≡ frames_taken bytes.now stride
         inputs.old }
 {
     let frames = bytes.len() / FRAME;
     if checks::is_unfit(inputs.len(), 6, stride, frames) {
-        return Taken {
-            refusal: 5,
-            frames: 0,
-        };
+        return Err(Refusal::Misfit);
     }
     take_frames(bytes, frames, stride, inputs);
-    Taken { refusal: 0, frames }
+    Ok(frames)
 }
 
 // Puts the two ears of frame n, left then right, where they belong.
@@ -107,34 +89,28 @@ fn give_frames(ears: &[f32], stride: usize, frames: usize, out: &mut [u8])
     ensures { out.new ≡ placed out.old 0
         (ear_bytes (frames_of ears.now stride 2 frames)) }
 {
-    let mut n = 0;
-    while n < frames {
+    for n in 0..frames {
         give_ears(ears, stride, n, out);
-        n += 1;
     }
 }
 
 // Puts the ears of the first frames at the start of out, or refuses planes that have not so many and a list that has
-// no room for them.
-pub fn bytes_from_ears(ears: &[f32], stride: usize, frames: usize, out: &mut [u8]) -> Given
-    ensures { record { answer = result; out = out.new } ≡ ears_given ears.now stride frames
+// no room for them. Answers how many bytes they have.
+pub fn bytes_from_ears(
+    ears: &[f32],
+    stride: usize,
+    frames: usize,
+    out: &mut [u8],
+) -> Result<usize, Refusal>
+    ensures { record { answer = given_told result; out = out.new } ≡ ears_given ears.now stride frames
         out.old }
 {
     if checks::is_unfit(ears.len(), 2, stride, frames) {
-        return Given {
-            refusal: 5,
-            bytes: 0,
-        };
+        return Err(Refusal::Misfit);
     }
     if out.len() / EARS < frames {
-        return Given {
-            refusal: 5,
-            bytes: 0,
-        };
+        return Err(Refusal::Misfit);
     }
     give_frames(ears, stride, frames, out);
-    Given {
-        refusal: 0,
-        bytes: frames * EARS,
-    }
+    Ok(frames * EARS)
 }

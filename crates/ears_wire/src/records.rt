@@ -8,11 +8,9 @@ ghost use Rattle.ears_wire.specs.Counting.{counted_on};
 pub fn keep_rest(bytes: &mut [u8], from: usize, to: usize)
     ensures { bytes.new ≡ placed bytes.old 0 (drop from (take to bytes.old)) }
 {
-    let end = checks::min(to, bytes.len());
-    let mut i = 0;
-    while from + i < end {
-        bytes[i] = bytes[from + i];
-        i += 1;
+    let end = to.min(bytes.len());
+    if from < end {
+        bytes.copy_within(from..end, 0);
     }
 }
 
@@ -20,9 +18,5 @@ pub fn keep_rest(bytes: &mut [u8], from: usize, to: usize)
 pub fn count_on(count: u64, more: usize) -> u64
     ensures { result ≡ counted_on count more }
 {
-    let n = more as u64;
-    if u64::MAX - count < n {
-        return u64::MAX;
-    }
-    count + n
+    count.saturating_add(more as u64)
 }

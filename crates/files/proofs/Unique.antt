@@ -1,7 +1,7 @@
 -- Of one file no two answers meet the promise of `read_bank`; which file it is no contract can name. Whatever system
 -- the file is of: R, whose files are of the type F and whose folders of the type D. Assumes nothing.
 use Rattle.std.specs.Prelude.{◌≡◌}
-use Rattle.lists.specs.Prelude.{sym, ◌∙◌}
+use Rattle.lists.specs.Prelude.{ap, sym, ◌∙◌}
 use denote.Triple.Entry.{Args}
 use denote.RattleType.{RattleType}
 use denote.Param.Laws.{Laws}
@@ -13,6 +13,8 @@ use Rattle.std.specs.declared.io.traits.Seek as Seek
 use Rattle.std.specs.declared.io.traits.Write as Write
 use Rattle.lists.specs.OneAnswer.{Lives, HandedBack, Allows, Claim}
 use denote.Triple.Clauses.{Ended}
+use Rattle.bank.specs.Reading.{ReadOutcome}
+use Rattle.bank.proofs.Unique.{read_apart}
 use Rattle.files.specs.contracts.read_bank as read_bank
 use Rattle.files.proofs.read_bank.Reads as read_bank_reads
 
@@ -33,4 +35,7 @@ module _ (R F D : RattleType) (R-laws : Laws R) (F-laws : Laws F) (D-laws : Laws
       (p : Allows ended Learnt κs a y) (q : Allows ended Learnt κs a z) → p.file ≡ q.file → y ≡ z
   read_bank_unique κs a y z p q same =
       let e = p.reads.bits ∙ cc same ∙ sym q.reads.bits in
-      λ i. ((e i).answer, (_, (_, ((e i).azimuths, ((e i).elevations, ((e i).taps, _))))))
+      λ i. (
+        read_apart y.0 z.0 (ap (λ (o : ReadOutcome). o.answer) e) i,
+        (_, (_, ((e i).azimuths, ((e i).elevations, ((e i).taps, _))))),
+      )

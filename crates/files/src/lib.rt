@@ -12,10 +12,11 @@ ghost use Rattle.std.specs.Prelude.{MatchResult};
 ghost use Rattle.io.specs.Counts.{IsPrefixLen};
 ghost use Rattle.bank_form.specs.Version.{largest_file};
 ghost use Rattle.bank_form.specs.FaultLaws.{bytes_that_matter};
+ghost use Rattle.bank.specs.Reading.{read_answer};
 ghost use Rattle.files.specs.Promise.{ReadBehind, ReadSized, Found};
 
 use bank::BankRead;
-use bank_form::LARGEST;
+use bank_form::{Fault, LARGEST};
 use std::fs::OpenFile;
 use std::io::Read;
 use std::os::fd::AsRawFd;
@@ -30,13 +31,7 @@ fn end_of_read(at: usize, limit: usize, size: usize) -> usize
     requires { at ≤ size }
     ensures { (at ≤ result) × (result ≤ size) × (result ≤ at + max 1 limit) × (at < size → at < result) }
 {
-    if size - at <= limit {
-        return size;
-    }
-    if limit == 0 {
-        return at + 1;
-    }
-    at + limit
+    at + limit.max(1).min(size - at)
 }
 
 // Reads once behind the bytes that are held, which stay, and answers how many bytes now stand in the buffer; a read
@@ -52,45 +47,43 @@ pub fn read_some<R: Read>(
         (λ n. ReadBehind held limit bytes.old false n bytes.new)
         (λ _. ReadBehind held limit bytes.old true (min held (length bytes.old)) bytes.new) }
 {
-    let at = checks::min(held, bytes.len());
+    let at = held.min(bytes.len());
     let end = end_of_read(at, limit, bytes.len());
     let got = file.read(&mut bytes[at..end])?;
     Ok(at + got)
 }
 
-// Reads until the file ends or the list is full, and answers how many bytes came: none where a read fails.
-fn fill<R: Read>(file: &mut R, bytes: &mut [u8]) -> usize
-    ensures { IsPrefixLen result bytes.new }
+// Reads until the file ends or the list is full, and answers how many bytes came.
+fn fill<R: Read>(file: &mut R, bytes: &mut [u8]) -> io::Result<usize>
+    ensures { IfOk result (λ n. IsPrefixLen n bytes.new) }
 {
     let mut at = 0;
+    // Kept: a `for` has no count here, since each turn goes on by as many bytes as came.
     while at < bytes.len() {
-        let Ok(size) = read_some(file, at, usize::MAX, bytes) else {
-            return 0;
-        };
+        let size = read_some(file, at, usize::MAX, bytes)?;
         if size == at {
-            return at;
+            return Ok(at);
         }
         at = size;
     }
-    at
+    Ok(at)
 }
 
-// How many bytes a file has, of which so many were read: counted until it ends, or has `most`. None where a read fails.
-fn count_rest<R: Read>(file: &mut R, read: usize, most: usize) -> usize
+// How many bytes a file has, of which so many were read: counted until it ends, or has `most`.
+fn count_rest<R: Read>(file: &mut R, read: usize, most: usize) -> io::Result<usize>
     requires { most < 2 ^ 33 }
 {
     let mut space = [0u8; 4096];
     let mut size = read;
+    // Kept: a `for` has no count here either.
     while size < most {
-        let Ok(got) = file.read(&mut space) else {
-            return 0;
-        };
+        let got = file.read(&mut space)?;
         if got == 0 {
-            return size;
+            return Ok(size);
         }
         size += got;
     }
-    size
+    Ok(size)
 }
 
 // How many bytes of a file that begins with these can make a difference. A wrong version is told whatever comes after
@@ -106,11 +99,11 @@ fn most_to_count(bytes: &[u8]) -> usize
 }
 
 // Reads the first bytes of a file, as many as the list holds, and answers how many the file has, counted as far as that
-// makes a difference. One that cannot be read counts as a file of no bytes.
-fn read_first<R: Read>(file: &mut R, bytes: &mut [u8]) -> usize {
-    let read = fill(file, bytes);
+// makes a difference.
+fn read_first<R: Read>(file: &mut R, bytes: &mut [u8]) -> io::Result<usize> {
+    let read = fill(file, bytes)?;
     if read < bytes.len() {
-        return read;
+        return Ok(read);
     }
     count_rest(file, read, most_to_count(bytes))
 }
@@ -133,12 +126,10 @@ pub fn open_overwrite<R: Files>(rt: &R, path: &[u8]) -> io::Result<R::File> {
     fs::create(rt, name_of(path)?)
 }
 
-// Reads the first bytes of the file of a name, as `read_first` does. One that is missing counts as a file of no bytes.
-fn read_named<R: Files>(rt: &R, path: &[u8], bytes: &mut [u8]) -> usize {
-    match open_read(rt, path) {
-        Ok(mut file) => read_first(&mut file, bytes),
-        Err(_) => 0,
-    }
+// Reads the first bytes of the file of a name, as `read_first` does.
+fn read_named<R: Files>(rt: &R, path: &[u8], bytes: &mut [u8]) -> io::Result<usize> {
+    let mut file = open_read(rt, path)?;
+    read_first(&mut file, bytes)
 }
 
 // Reads the bank of a file of `size` bytes, whose first stand in a list that has room for the largest bank.
@@ -148,18 +139,18 @@ fn read_sized(
     azimuths: &mut [i16],
     elevations: &mut [i16],
     taps: &mut [f32],
-) -> BankRead
+) -> Result<BankRead, Fault>
     requires { length bytes.now ≡ largest_file }
     ensures { ReadSized bytes.now size azimuths.old elevations.old
         taps.old
         (record {
-          answer = result;
+          answer = read_answer result;
           azimuths = azimuths.new;
           elevations = elevations.new;
           taps = taps.new;
         }) }
 {
-    let n = checks::min(size, bytes.len());
+    let n = size.min(bytes.len());
     bank::read_start(&bytes[..n], size, azimuths, elevations, taps)
 }
 
@@ -171,17 +162,17 @@ pub fn read_bank<R: Files>(
     azimuths: &mut [i16],
     elevations: &mut [i16],
     taps: &mut [f32],
-) -> BankRead
+) -> Result<BankRead, Fault>
     ensures { Found azimuths.old elevations.old taps.old
         (record {
-          answer = result;
+          answer = read_answer result;
           azimuths = azimuths.new;
           elevations = elevations.new;
           taps = taps.new;
         }) }
 {
     let mut bytes = [0u8; LARGEST];
-    let size = read_named(rt, path, &mut bytes);
+    let size = read_named(rt, path, &mut bytes).unwrap_or(0);
     read_sized(&bytes, size, azimuths, elevations, taps)
 }
 

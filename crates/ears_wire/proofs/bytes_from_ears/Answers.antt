@@ -4,17 +4,13 @@ use Rattle.ears_wire.proofs.Meets.{given_unfit, given_short, given_filled}
 use Rattle.ears_wire.proofs.bytes_from_ears.Goals as goal
 
 pub returns-then-is_unfit : goal.returns-then-is_unfit
-returns-then-is_unfit c = sym (given_unfit _ _ _ _ (sym c.before.is_unfit.ensures ∙ c.if-is_unfit.true))
+returns-then-is_unfit c = sym (given_unfit _ _ _ _ (sym c.is_unfit.ensures ∙ c.if-is_unfit.true))
 
 pub returns-then-out-frames : goal.returns-then-out-frames
 returns-then-out-frames c =
-    sym (given_short _ _ _ _ (sym c.before.before.is_unfit.ensures ∙ c.before.if-is_unfit.false) c.if-out-frames.true)
+    sym (given_short _ _ _ _ (sym c.is_unfit.ensures ∙ c.if-is_unfit.false) c.if-out-frames.true)
 
 pub returns : goal.returns
 returns c =
-    let given = c.before.before in
-    let room = given.before.before in
-    let fits = room.before in
-    given_filled _ _ _ _ _ (sym fits.before.is_unfit.ensures ∙ fits.if-is_unfit.false)
-    (omega (arith, room.if-out-frames.false))
-    given.give_frames.ensures
+    given_filled _ _ _ _ _ (sym c.is_unfit.ensures ∙ c.if-is_unfit.false) (omega (arith, c.if-out-frames.false))
+    c.give_frames.ensures

@@ -1,4 +1,4 @@
-use Rattle.std.specs.Prelude.{◌-◌, ◌*◌}
+use Rattle.std.specs.Prelude.{◌*◌}
 use Rattle.lists.specs.Prelude.{ℕ, List, Float}
 use Rattle.big_endian.specs.Fields.{float_at}
 use Rattle.planes.proofs.Framing.{Sampling}
@@ -10,6 +10,3 @@ channel bytes c = float_at bytes (c * 4)
 
 abbrev pub invariant-loop-c : goal.invariant-loop-c
 invariant-loop-c l = Sampling l.initial.inputs l.stride l.n 6 (channel l.bytes) l.inputs l.c
-
-abbrev pub decreases-loop-c : goal.decreases-loop-c
-decreases-loop-c l = 6 - l.c

@@ -1,4 +1,3 @@
-use Rattle.std.specs.Prelude.{◌-◌}
 use Rattle.lists.specs.Prelude.{ℕ, List, Float}
 use Rattle.lists.specs.Tables.{chunk}
 use Rattle.planes.proofs.Framing.{Framing}
@@ -12,6 +11,3 @@ frame bytes n = frame_of (chunk 24 n bytes)
 
 abbrev pub invariant-loop-n : goal.invariant-loop-n
 invariant-loop-n l = Framing l.initial.inputs l.stride (whole_in_of 24 l.bytes) (frame l.bytes) l.inputs l.n
-
-abbrev pub decreases-loop-n : goal.decreases-loop-n
-decreases-loop-n l = l.frames - l.n

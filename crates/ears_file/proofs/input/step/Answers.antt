@@ -4,15 +4,12 @@ use Rattle.lists.specs.Prelude.{sym, lt_of_le_of_ne, arith}
 use Rattle.ears_file.proofs.Stepping.{read_further, none_further}
 use Rattle.ears_file.proofs.input.step.Goals as goal
 
-pub returns-in-Err : goal.returns-in-Err
-returns-in-Err g c = none_further _ _ _ _ _ c.in-Err.ensures.keeps _ _ _ c.stopped.ensures
+pub returns-then-size-held-clause-further : goal.returns-then-size-held-clause-further
+returns-then-size-held-clause-further g c =
+    none_further _ _ _ _ _ c.in-Ok.ensures.keeps _
 
-pub returns-then-size-held : goal.returns-then-size-held
-returns-then-size-held g c =
-    none_further _ _ _ _ _ c.in-Ok.ensures.keeps _ _ _ c.stopped-then-size-held.ensures
-
-pub returns : goal.returns
-returns g c =
+pub returns-clause-further : goal.returns-clause-further
+returns-clause-further g c =
     let read = c.in-Ok.ensures in
     -- more bytes are there than were held
     let went_on : c.args.progress.held < c.in-Ok.size =
