@@ -9,29 +9,35 @@
 // say anything, so the rest is proved safe and ending, and what it prints is compared.
 #![tactic(auto)]
 
-ghost use Rattle.std.specs.Prelude.{◌≡◌, ◌≤◌, length};
+ghost use Rattle.std.specs.Prelude.{◌≡◌, ◌≤◌, length, IfOk};
 ghost use Rattle.probe_answer.specs.Answers.{draft};
 ghost use Rattle.probe.specs.Answers.{answer_of};
 
 use std::io::Read;
 
-// What is wrong with a request that no operation answers.
-const NO_SUCH_OPERATION: u8 = 1;
+// What is wrong with a request that no operation answers, by the number that is told.
+#[derive(Clone, Copy, PartialEq, Eq)]
+enum Malformed {
+    NoSuchOperation = 1,
+    WrongLength = 2,
+    TooLong = 3,
+    EndsInside = 4,
+}
 
-const WRONG_LENGTH: u8 = 2;
-
-const TOO_LONG: u8 = 3;
-
-const ENDS_INSIDE: u8 = 4;
-
-// An answer begins with the operation and its length, in five bytes.
+// A request and an answer begin with the operation and the length of what follows, in five bytes.
 const HEAD: usize = 5;
+
+// Room for the arguments, and for an answer.
+const ROOM: usize = 65536;
 
 // Reads until the input ends or the list is full: how many bytes came. A read that fails counts as the end.
 fn read_full<R: Read>(input: &mut R, bytes: &mut [u8]) -> usize
     ensures { result ≤ length bytes.new }
 {
     let mut at = 0;
+    // Kept: a `for` has no count here, since each turn goes on by as many bytes as came. And as in
+    // `demo_line` and `ears_cases`: docs/DECISIONS.md, on `read_full`, has three times eight lines, for want
+    // of a promise for one.
     while at < bytes.len() {
         match input.read(&mut bytes[at..]) {
             Ok(n) if n > 0 => at += n,
@@ -41,25 +47,18 @@ fn read_full<R: Read>(input: &mut R, bytes: &mut [u8]) -> usize
     at
 }
 
-// Writes the answer whose `count` bytes stand in out after the head.
-fn write_answer(rt: &HostRuntime, operation: u8, count: usize, out: &mut [u8]) -> bool {
-    if out.len() < HEAD {
-        return false;
-    }
-    if out.len() - HEAD < count {
+// Writes the answer whose `count` bytes stand in out after the head; whether that went.
+fn write_answer(rt: &HostRuntime, operation: u8, count: usize, out: &mut [u8; ROOM]) -> bool {
+    if ROOM - HEAD < count {
         return false;
     }
     out[0] = operation;
     big_endian::put(out, 1, 4, count as u64);
-    let end = HEAD + count;
-    rt.write_all(&out[..end]).is_ok()
+    rt.write_all(&out[..HEAD + count]).is_ok()
 }
 
-fn write_malformed(rt: &HostRuntime, reason: u8, out: &mut [u8]) -> bool {
-    if out.len() <= HEAD {
-        return false;
-    }
-    out[HEAD] = reason;
+fn write_malformed(rt: &HostRuntime, what: Malformed, out: &mut [u8; ROOM]) -> bool {
+    out[HEAD] = what as u8;
     write_answer(rt, 0, 1, out)
 }
 
@@ -86,25 +85,18 @@ fn put_answer(operation: u8, args: &[u8], out: &mut [u8]) -> usize
 
 // Whether there is such an operation.
 fn is_operation(operation: u8) -> bool {
-    match operation {
-        1..=25 => true,
-        _ => false,
-    }
+    matches!(operation, 1..=25)
 }
 
-// Answers a request whose arguments are all there.
-fn answer(rt: &HostRuntime, operation: u8, args: &[u8], out: &mut [u8]) -> bool {
-    if out.len() < HEAD {
-        return false;
-    }
+// Puts the answer to a request whose arguments are all there behind the head: how many bytes.
+fn answer(operation: u8, args: &[u8], out: &mut [u8; ROOM]) -> Result<usize, Malformed> {
     if !is_operation(operation) {
-        return write_malformed(rt, NO_SUCH_OPERATION, out);
+        return Err(Malformed::NoSuchOperation);
     }
-    let count = put_answer(operation, args, &mut out[HEAD..]);
-    if count == 0 {
-        return write_malformed(rt, WRONG_LENGTH, out);
+    match put_answer(operation, args, &mut out[HEAD..]) {
+        0 => Err(Malformed::WrongLength),
+        count => Ok(count),
     }
-    write_answer(rt, operation, count, out)
 }
 
 // Reads past one part of arguments that are longer than any operation takes: how many are left, or the
@@ -118,53 +110,71 @@ fn skip_some<R: Read>(input: &mut R, left: usize, args: &mut [u8]) -> usize
     left - read_full(input, args)
 }
 
-// Reads past such arguments; whether they were all there.
-fn skip<R: Read>(input: &mut R, length: usize, args: &mut [u8]) -> bool {
+// Reads past such arguments.
+fn skip<R: Read>(input: &mut R, length: usize, args: &mut [u8]) -> Result<(), Malformed> {
     let mut left = length;
+    // Kept: a `for` has no count here either.
     while 0 < left {
         let rest = skip_some(input, left, args);
         if rest == left {
-            return false;
+            return Err(Malformed::EndsInside);
         }
         left = rest;
     }
-    true
+    Ok(())
+}
+
+// Reads `count` bytes of arguments.
+fn read_args<R: Read>(input: &mut R, count: usize, args: &mut [u8]) -> Result<(), Malformed>
+    ensures { IfOk result (λ _. count ≤ length args.old) }
+{
+    if args.len() < count {
+        skip(input, count, args)?;
+        return Err(Malformed::TooLong);
+    }
+    if read_full(input, &mut args[..count]) < count {
+        return Err(Malformed::EndsInside);
+    }
+    Ok(())
+}
+
+// Reads the arguments behind a head, and puts the answer: how many bytes.
+fn respond<R: Read>(
+    input: &mut R,
+    head: &[u8; HEAD],
+    args: &mut [u8; ROOM],
+    out: &mut [u8; ROOM],
+) -> Result<usize, Malformed> {
+    let length = big_endian::get(head, 1, 4) as usize;
+    read_args(input, length, args)?;
+    answer(head[0], &args[..length], out)
 }
 
 // Reads one request and answers it; whether to go on.
-fn one(rt: &HostRuntime, args: &mut [u8], out: &mut [u8]) -> bool {
-    let mut head = [0u8; 5];
+fn one(rt: &HostRuntime, args: &mut [u8; ROOM], out: &mut [u8; ROOM]) -> bool {
+    let mut head = [0u8; HEAD];
     let got = read_full(&mut rt.stdin(), &mut head);
     if got == 0 {
         return false;
     }
-    if got < 5 {
-        write_malformed(rt, ENDS_INSIDE, out);
+    if got < HEAD {
+        write_malformed(rt, Malformed::EndsInside, out);
         return false;
     }
-    let length = big_endian::get(&head, 1, 4) as usize;
-    if args.len() < length {
-        if !skip(&mut rt.stdin(), length, args) {
-            write_malformed(rt, ENDS_INSIDE, out);
-            return false;
-        }
-        return write_malformed(rt, TOO_LONG, out);
+    match respond(&mut rt.stdin(), &head, args, out) {
+        Ok(count) => write_answer(rt, head[0], count, out),
+        Err(what) => write_malformed(rt, what, out) && what != Malformed::EndsInside,
     }
-    let got = read_full(&mut rt.stdin(), &mut args[..length]);
-    if got < length {
-        write_malformed(rt, ENDS_INSIDE, out);
-        return false;
-    }
-    answer(rt, head[0], &args[..length], out)
 }
 
 fn main(rt: HostRuntime) {
-    let mut args = [0u8; 65536];
-    let mut out = [0u8; 65536];
-    // A proved loop has to end, and nothing says that the input does. So the turns are counted down
-    // from a number that no run uses up.
-    let mut turns = u64::MAX;
-    while 0 < turns && one(&rt, &mut args, &mut out) {
-        turns -= 1;
+    let mut args = [0u8; ROOM];
+    let mut out = [0u8; ROOM];
+    // A proved loop has to end, and nothing says that the input does. So the turns are counted up to
+    // a number that no run uses up.
+    for _ in 0..u64::MAX {
+        if !one(&rt, &mut args, &mut out) {
+            return;
+        }
     }
 }

@@ -1,26 +1,75 @@
 -- What is put is the answer of each operation. Assumes nothing.
-use Rattle.std.specs.Prelude.{◌≡◌, ◌+◌, ◌-◌, ◌*◌, ◌≤◌, ◌<◌}
-use Rattle.lists.specs.Prelude.{sym, ap, ◌∙◌, List, ℕ, arith, le-leb, lt-leb, ne_eqb, ℤ, Float, length, take, drop}
-use Rattle.lists.specs.Prelude.{length-drop, take_all}
+use Rattle.std.specs.Prelude.{◌≡◌, ◌+◌, ◌-◌, ◌*◌, ◌≤◌, ◌<◌, Result, Ok, Err}
+use Rattle.std.specs.Result.{result_unwrap_or}
+use Rattle.lists.specs.Prelude.{refl, sym, ap, ◌∙◌, List, ℕ, arith, le-leb, lt-leb, ne_eqb, ℤ, Float, length, take}
+use Rattle.lists.specs.Prelude.{drop, length-drop, take_all}
 use Rattle.big_endian.specs.Fields.{field_at, signed_at, float_at}
 use Rattle.bank_form.specs.Bank.{Bank}
-use Rattle.bank.specs.Reading.{ReadOutcome, read_outcome}
-use Rattle.bank.specs.Writing.{WriteOutcome, write_outcome}
-use Rattle.bank_choice.specs.declared.Choice.{Choice}
+use Rattle.bank_form.specs.Fault.{found}
+use Rattle.bank_form.specs.declared.Fault.{Fault as FaultFound}
+use Rattle.bank.specs.declared.BankRead.{BankRead as Counts}
+use Rattle.bank.specs.Reading.{ReadOutcome, read_outcome, read_answer as read_answer_of}
+use Rattle.bank.specs.Writing.{WriteOutcome, write_outcome, written_answer}
+use Rattle.bank_choice.specs.Choice.{Choice}
 use Rattle.bank_choice.specs.Choice.{choice_of}
 use Rattle.lists.proofs.Tables.{length_tab}
 use Rattle.probe_request.specs.Requests.{lent_by, azimuths_lent, samples_lent, list_at}
-use Rattle.probe_answer.specs.Answers.{Draft, none}
+use Rattle.probe_answer.specs.Answers.{Draft, none, ◌then◌, then_field}
 use Rattle.probe_answer.proofs.Meets.{taken, untaken, answered}
 use Rattle.probe_request.proofs.Requests.{inside}
 use Rattle.probe_bank.specs.Fillings.{angle_filling, tap_filling, byte_filling, filled_with}
-use Rattle.probe_bank.specs.Answers.{bytes_lent, read_parts, read_into, read_answer, bank_at, write_parts, write_from}
-use Rattle.probe_bank.specs.Answers.{write_into, write_answer, choice_parts, choose_from, choose_answer, turned_by}
-use Rattle.probe_bank.specs.Answers.{turn_into, turn_answer, answer_of}
+use Rattle.probe_bank.specs.Answers.{bytes_lent, refusal_and_number, then_lists, read_parts, read_into, read_answer}
+use Rattle.probe_bank.specs.Answers.{bank_at, write_parts, write_from, write_into, write_answer, choice_parts}
+use Rattle.probe_bank.specs.Answers.{choose_from, choose_answer, turned_by, turn_into, turn_answer, answer_of}
 
 -- the file that stands behind k bytes of arguments
 pub file_rest : (k : ℕ) (args : List ℕ) → take (length args - k) (drop k args) ≡ drop k args
 file_rest k args = take_all (length args - k) (drop k args) (simp length-drop (omega arith))
+
+-- ---- what is told of an answer about a file
+
+-- beside a fault of reading
+abbrev nothing : Counts
+nothing = record { rows = 0; length = 0 }
+
+read_told : (r : Result Counts FaultFound) → record {
+  refusal = (found r).refusal;
+  offset = (found r).offset;
+  rows = (result_unwrap_or r nothing).rows;
+  length = (result_unwrap_or r nothing).length;
+} ≡ read_answer_of r
+read_told (Ok n) = refl
+read_told (Err f) = refl
+
+written_told : (r : Result ℕ FaultFound) → record {
+  refusal = (found r).refusal;
+  offset = (found r).offset;
+  bytes = result_unwrap_or r 0;
+} ≡ written_answer r
+written_told (Ok n) = refl
+written_told (Err f) = refl
+
+module _ (out : List ℕ) {a b : Draft} where
+  pub read_shown : (r : Result Counts FaultFound) {read : Counts} {c d : Draft} (s : ℕ) (zs es : List ℤ)
+      (xs : List Float) → read ≡ result_unwrap_or r nothing
+      → a ≡ refusal_and_number (found r).refusal (found r).offset out → b ≡ then_field a 4 read.rows
+      → c ≡ then_field b 4 read.length → d ≡ then_lists c s zs es xs
+      → d ≡ read_parts (record { answer = read_answer_of r; azimuths = zs; elevations = es; taps = xs }) s out
+  unfolding read_parts
+  read_shown r s zs es xs is first second third lists =
+      let rows = second ∙ (λ i. then_field (first i) 4 (is i).rows) in
+      let length = third ∙ (λ i. then_field (rows i) 4 (is i).length) in
+      lists ∙ (λ i. then_lists (length i) s zs es xs)
+      ∙ (λ i. read_parts (record { answer = read_told r i; azimuths = zs; elevations = es; taps = xs }) s out)
+
+  pub written_shown : (r : Result ℕ FaultFound) {bytes : ℕ} {c : Draft} (file : List ℕ) → bytes ≡ result_unwrap_or r 0
+      → a ≡ refusal_and_number (found r).refusal (found r).offset out → b ≡ then_field a 4 bytes
+      → c ≡ b then file
+      → c ≡ write_parts (record { answer = written_answer r; file = file }) out
+  unfolding write_parts
+  written_shown r file is first second rest =
+      let bytes = second ∙ (λ i. then_field (first i) 4 (is i)) in
+      rest ∙ (λ i. bytes i then file) ∙ (λ i. write_parts (record { answer = written_told r i; file = file }) out)
 
 -- ---- 6 bank read
 

@@ -9,7 +9,7 @@ use Rattle.bank_form.specs.Bank.{Bank}
 use Rattle.bank.specs.Reading.{ReadOutcome, read_outcome}
 use Rattle.bank.specs.Writing.{WriteOutcome, write_outcome}
 use Rattle.bank.specs.Conversion.{conversion}
-use Rattle.bank_choice.specs.declared.Choice.{Choice}
+use Rattle.bank_choice.specs.Choice.{Choice}
 use Rattle.bank_choice.specs.Choice.{choice_of}
 use Rattle.probe_request.specs.Requests.{lent_by, azimuths_lent, samples_lent}
 use Rattle.probe_answer.specs.Answers.{Draft, none, taking, ◌then◌}

@@ -7,12 +7,16 @@
 #![tactic(auto)]
 
 ghost use Rattle.std.specs.Prelude.{◌≡◌, ◌≤◌, length};
+ghost use Rattle.bank_form.specs.Fault.{found};
+ghost use Rattle.bank.specs.Reading as Reading;
+ghost use Rattle.bank.specs.Writing.{written_answer};
 ghost use Rattle.probe_answer.specs.Answers.{draft};
 ghost use Rattle.probe_bank.specs.Answers.{refusal_and_number, then_lists, read_parts, read_into, read_answer};
 ghost use Rattle.probe_bank.specs.Answers.{write_parts, write_from, write_into, write_answer, choose_from};
 ghost use Rattle.probe_bank.specs.Answers.{choose_answer, turned_by, turn_into, turn_answer, answer_of};
 
-use bank::{BankRead, BankWritten};
+use bank::BankRead;
+use bank_form::Fault;
 use probe_request::{MOST_AZIMUTHS, MOST_SAMPLES};
 
 mod fillings;
@@ -20,12 +24,26 @@ mod fillings;
 // Room for a file: more than the largest has.
 const MOST_BYTES: usize = 33000;
 
+// What stands beside a fault in the place of the rows and L.
+const NOTHING: BankRead = BankRead { rows: 0, length: 0 };
+
 // Puts what every answer begins with: a refusal and a number.
 fn put_refusal_and_number(refusal: u8, n: usize, out: &mut [u8]) -> usize
     ensures { draft result out.new ≡ refusal_and_number refusal n out.old }
 {
     let a = probe_answer::put(refusal as u64, 1, out, 0);
     probe_answer::put(n as u64, 4, out, a)
+}
+
+// Puts that of an answer about a file: the refusal and the offset of a fault, 0 and 0 where there is none.
+fn put_fault<T: Copy>(answer: Result<T, Fault>, out: &mut [u8]) -> usize
+    ensures { draft result out.new ≡ refusal_and_number (found answer).refusal
+        (found answer).offset out.old }
+{
+    match answer {
+        Ok(_) => put_refusal_and_number(0, 0, out),
+        Err(fault) => put_refusal_and_number(fault.refusal.number(), fault.offset, out),
+    }
 }
 
 // Puts what the lists hold: how many taps from one on have changed, the azimuths, the elevations, and the taps before
@@ -43,14 +61,14 @@ fn put_lists(
         elevations.now taps.now }
 {
     let a = probe_answer::put(fillings::count_changed(taps, shown), 2, out, at);
-    let b = probe_answer::put_i16s(azimuths, out, a);
-    let c = probe_answer::put_i16s(elevations, out, b);
-    probe_answer::put_f32s(&taps[..shown], out, c)
+    let b = probe_answer::put_list(azimuths, out, a);
+    let c = probe_answer::put_list(elevations, out, b);
+    probe_answer::put_list(&taps[..shown], out, c)
 }
 
 // Puts what reading answered, and what the lists hold after it.
 fn put_read(
-    r: BankRead,
+    answer: Result<BankRead, Fault>,
     azimuths: &[i16],
     elevations: &[i16],
     taps: &[f32],
@@ -60,15 +78,16 @@ fn put_read(
     requires { (shown ≤ length taps.now) × (length taps.now ≤ 8200) }
     ensures { draft result out.new
         ≡ read_parts (record {
-          answer = r;
+          answer = Reading.read_answer answer;
           azimuths = azimuths.now;
           elevations = elevations.now;
           taps = taps.now;
         }) shown out.old }
 {
-    let a = put_refusal_and_number(r.refusal, r.offset, out);
-    let b = probe_answer::put(r.rows as u64, 4, out, a);
-    let c = probe_answer::put(r.length as u64, 4, out, b);
+    let read = answer.unwrap_or(NOTHING);
+    let a = put_fault(answer, out);
+    let b = probe_answer::put(read.rows as u64, 4, out, a);
+    let c = probe_answer::put(read.length as u64, 4, out, b);
     put_lists(azimuths, elevations, taps, shown, out, c)
 }
 
@@ -85,12 +104,12 @@ fn read_into(
     ensures { draft result out.new ≡ read_into args.now (length azimuths.old)
         (length elevations.old) (length taps.old) out.old }
 {
-    fillings::fill_i16s(azimuths);
-    fillings::fill_i16s(elevations);
-    fillings::fill_f32s(taps);
-    let r = bank::read(&args[6..], azimuths, elevations, taps);
+    fillings::fill(azimuths);
+    fillings::fill(elevations);
+    fillings::fill(taps);
+    let answer = bank::read(&args[6..], azimuths, elevations, taps);
     let shown = probe_request::lent(args, 4, 2, taps.len());
-    put_read(r, azimuths, elevations, taps, shown, out)
+    put_read(answer, azimuths, elevations, taps, shown, out)
 }
 
 // Lends as much of each list as the arguments say first; so do `write`, `choose` and `turn`.
@@ -116,12 +135,12 @@ fn read(args: &[u8], out: &mut [u8]) -> usize
 }
 
 // Puts what writing or turning a file answered, and the buffer as it stands after it.
-fn put_written(r: BankWritten, file: &[u8], out: &mut [u8]) -> usize
-    ensures { draft result out.new ≡ write_parts (record { answer = r; file = file.now })
-        out.old }
+fn put_written(answer: Result<usize, Fault>, file: &[u8], out: &mut [u8]) -> usize
+    ensures { draft result out.new ≡ write_parts
+        (record { answer = written_answer answer; file = file.now }) out.old }
 {
-    let a = put_refusal_and_number(r.refusal, r.offset, out);
-    let b = probe_answer::put(r.bytes as u64, 4, out, a);
+    let a = put_fault(answer, out);
+    let b = probe_answer::put(answer.unwrap_or(0) as u64, 4, out, a);
     probe_answer::put_bytes(file, out, b)
 }
 
@@ -143,9 +162,9 @@ fn write_from(
           taps = taps.now;
         }) (length file.old) out.old }
 {
-    fillings::fill_bytes(file);
-    let r = bank::write(azimuths, elevations, l, taps, file);
-    put_written(r, file, out)
+    fillings::fill(file);
+    let answer = bank::write(azimuths, elevations, l, taps, file);
+    put_written(answer, file, out)
 }
 
 // The azimuths, the elevations and the taps of the bank stand in the arguments behind the four lengths and L.
@@ -168,9 +187,9 @@ fn write_into(
     if args.len() != taps_at + 4 * taps.len() {
         return 0;
     }
-    probe_request::get_i16s(args, 14, azimuths);
-    probe_request::get_i16s(args, elevations_at, elevations);
-    probe_request::get_f32s(args, taps_at, taps);
+    probe_request::get_list(args, 14, azimuths);
+    probe_request::get_list(args, elevations_at, elevations);
+    probe_request::get_list(args, taps_at, taps);
     let l = probe_request::number(args, 6, 8);
     write_from(azimuths, elevations, l, taps, file, out)
 }
@@ -206,13 +225,13 @@ fn choose_from(args: &[u8], azimuths: &mut [i16], elevations: &mut [i16], out: &
     if args.len() != elevations_at + 2 * elevations.len() {
         return 0;
     }
-    probe_request::get_i16s(args, 14, azimuths);
-    probe_request::get_i16s(args, elevations_at, elevations);
+    probe_request::get_list(args, 14, azimuths);
+    probe_request::get_list(args, elevations_at, elevations);
     let rows = probe_request::number(args, 2, 8);
     let azimuth = big_endian::get_i16(args, 10);
     let elevation = big_endian::get_i16(args, 12);
-    let r = bank_choice::nearest_row(azimuths, elevations, rows, azimuth, elevation);
-    put_refusal_and_number(r.refusal, r.row, out)
+    let answer = bank_choice::nearest_row(azimuths, elevations, rows, azimuth, elevation);
+    put_refusal_and_number(refusals::number_in(answer), answer.unwrap_or(0), out)
 }
 
 fn choose(args: &[u8], out: &mut [u8]) -> usize
@@ -226,9 +245,9 @@ fn choose(args: &[u8], out: &mut [u8]) -> usize
 }
 
 // 23 turns a file of version 1 into one of version 2, 24 one of version 2 back.
-fn turned(operation: u8, file: &[u8], output: &mut [u8]) -> BankWritten
-    ensures { record { answer = result; file = output.new } ≡ turned_by operation file.now
-        output.old }
+fn turned(operation: u8, file: &[u8], output: &mut [u8]) -> Result<usize, Fault>
+    ensures { record { answer = written_answer result; file = output.new } ≡ turned_by operation
+        file.now output.old }
 {
     if operation == 23 {
         return bank::to_version_2(file, output);
@@ -242,9 +261,9 @@ fn turn_into(operation: u8, args: &[u8], output: &mut [u8], out: &mut [u8]) -> u
     ensures { draft result out.new ≡ turn_into operation args.now (length output.old)
         out.old }
 {
-    fillings::fill_bytes(output);
-    let r = turned(operation, &args[2..], output);
-    put_written(r, output, out)
+    fillings::fill(output);
+    let answer = turned(operation, &args[2..], output);
+    put_written(answer, output, out)
 }
 
 fn turn(operation: u8, args: &[u8], out: &mut [u8]) -> usize

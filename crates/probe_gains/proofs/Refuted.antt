@@ -7,7 +7,7 @@ use Rattle.big_endian.specs.Bytes.{value_of}
 use Rattle.big_endian.specs.Fields.{field_at, double_at}
 use Rattle.big_endian.specs.Lists.{double_bytes, doubles_at}
 use Rattle.decoder_matrix.specs.Promise as Decoder
-use Rattle.stereo.specs.declared.StereoGains.{StereoGains}
+use Rattle.stereo.specs.Promise.{StereoAnswer}
 use Rattle.stereo.proofs.Drill.{at_minus_100}
 use Rattle.probe_request.specs.Requests.{layout_at, weights_lent}
 use Rattle.probe_answer.specs.Answers.{Draft, refusal_and_doubles}
@@ -40,7 +40,7 @@ left_and_right_exchanged : (out : List ℕ) (r : Draft) → r ≡ answer_of 12 l
     → r ≡ refusal_and_doubles 0 (off ∷ on ∷ []) out → ⊥
 unfolding answer_of stereo_answer double_at field_at value_of of_bits to_bits of_fields of_int
 left_and_right_exchanged out r is room e =
-    let shown : StereoGains → Draft = λ g. refusal_and_doubles g.refusal (g.left ∷ g.right ∷ []) out in
+    let shown : StereoAnswer → Draft = λ g. refusal_and_doubles g.refusal (g.left ∷ g.right ∷ []) out in
     let left_first : r ≡ refusal_and_doubles 0 (on ∷ off ∷ []) out = is ∙ sym (taken 8 left_end out _ refl)
     ∙ ap shown at_minus_100 in
     let same = doubles_known 0 (on ∷ off ∷ []) (off ∷ on ∷ []) out refl room (sym left_first ∙ e) in

@@ -17,6 +17,13 @@ ghost use Rattle.probe_gains.specs.Answers.{answer_of};
 
 use harmonics::Direction;
 use probe_request::MOST_WEIGHTS;
+use stereo::StereoGains;
+
+// What stands beside a refusal of a position.
+const SILENT: StereoGains = StereoGains {
+    left: 0.0,
+    right: 0.0,
+};
 
 // The binaural rows of an order, put over the weights that stand in the arguments after their count and the order.
 fn rows(args: &[u8], weights: &mut [f64], out: &mut [u8]) -> usize
@@ -27,9 +34,9 @@ fn rows(args: &[u8], weights: &mut [f64], out: &mut [u8]) -> usize
     if args.len() != 10 + 8 * weights.len() {
         return 0;
     }
-    probe_request::get_f64s(args, 10, weights);
-    let refusal = matrix::compute_matrix(probe_request::number(args, 2, 8), weights);
-    probe_answer::put_refusal_and_f64s(refusal, weights, out)
+    probe_request::get_list(args, 10, weights);
+    let answer = matrix::compute_matrix(probe_request::number(args, 2, 8), weights);
+    probe_answer::put_refusal_and_f64s(refusals::number_in(answer), weights, out)
 }
 
 // The matrix of a layout, put over the weights that stand in the arguments after their count, the order and the layout.
@@ -41,14 +48,14 @@ fn decoder_matrix(args: &[u8], weights: &mut [f64], out: &mut [u8]) -> usize
     if args.len() != 19 + 8 * weights.len() {
         return 0;
     }
-    probe_request::get_f64s(args, 19, weights);
+    probe_request::get_list(args, 19, weights);
     let order = probe_request::number(args, 2, 8);
     let layout = probe_request::layout(
         probe_request::number(args, 10, 1),
         probe_request::number(args, 11, 8),
     );
-    let refusal = decoder_matrix::compute_decoder_matrix(order, layout, weights);
-    probe_answer::put_refusal_and_f64s(refusal, weights, out)
+    let answer = decoder_matrix::compute_decoder_matrix(order, layout, weights);
+    probe_answer::put_refusal_and_f64s(refusals::number_in(answer), weights, out)
 }
 
 fn matrix(operation: u8, args: &[u8], weights: &mut [f64], out: &mut [u8]) -> usize
@@ -90,9 +97,9 @@ fn coefficients(args: &[u8], out: &mut [u8]) -> usize
         return 0;
     }
     let order = probe_request::number(args, 0, 8);
-    let r = harmonics::compute_sh_coefficients(order, direction(args));
-    let gains = r.gains;
-    probe_answer::put_refusal_and_f64s(r.refusal, &gains, out)
+    let answer = harmonics::compute_sh_coefficients(order, direction(args));
+    let gains = answer.unwrap_or([0.0; 16]);
+    probe_answer::put_refusal_and_f64s(refusals::number_in(answer), &gains, out)
 }
 
 // The same with max-rE weights.
@@ -103,9 +110,9 @@ fn weighted(args: &[u8], out: &mut [u8]) -> usize
         return 0;
     }
     let order = probe_request::number(args, 0, 8);
-    let r = virtual_speaker::compute_sh_coefficients_max_re(order, direction(args));
-    let weights = r.weights;
-    probe_answer::put_refusal_and_f64s(r.refusal, &weights, out)
+    let answer = virtual_speaker::compute_sh_coefficients_max_re(order, direction(args));
+    let weights = answer.unwrap_or([0.0; 16]);
+    probe_answer::put_refusal_and_f64s(refusals::number_in(answer), &weights, out)
 }
 
 // The left and the right gain of a position.
@@ -115,9 +122,10 @@ fn stereo(args: &[u8], out: &mut [u8]) -> usize
     if args.len() != 8 {
         return 0;
     }
-    let r = stereo::calculate_stereo_gains(big_endian::get_f64(args, 0));
-    let gains = [r.left, r.right];
-    probe_answer::put_refusal_and_f64s(r.refusal, &gains, out)
+    let answer = stereo::calculate_stereo_gains(big_endian::get_f64(args, 0));
+    let gains = answer.unwrap_or(SILENT);
+    let gains = [gains.left, gains.right];
+    probe_answer::put_refusal_and_f64s(refusals::number_in(answer), &gains, out)
 }
 
 // The gains of an azimuth on a layout.
@@ -131,9 +139,9 @@ fn surround(args: &[u8], out: &mut [u8]) -> usize
         probe_request::number(args, 0, 1),
         probe_request::number(args, 1, 8),
     );
-    let r = surround::calculate_vbap_gains(layout, big_endian::get_f64(args, 9));
-    let gains = r.gains;
-    probe_answer::put_refusal_and_f64s(r.refusal, &gains, out)
+    let answer = surround::calculate_vbap_gains(layout, big_endian::get_f64(args, 9));
+    let gains = answer.unwrap_or([0.0; 16]);
+    probe_answer::put_refusal_and_f64s(refusals::number_in(answer), &gains, out)
 }
 
 // Puts the answer to a request into out, and answers how many bytes it has.

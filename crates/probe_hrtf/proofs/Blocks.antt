@@ -5,8 +5,7 @@ use Rattle.big_endian.specs.Fields.{field_at}
 use Rattle.big_endian.specs.Lists.{float_bytes}
 use Rattle.hrtf_desk.specs.declared.Desk.{Desk}
 use Rattle.hrtf_checks.specs.declared.ConvolverShape.{ConvolverShape}
-use Rattle.hrtf.specs.declared.BlockAnswer.{BlockAnswer}
-use Rattle.hrtf.specs.Promise.{outcome}
+use Rattle.hrtf.specs.Promise.{BlockTold, outcome}
 use Rattle.probe_request.specs.Requests.{eight_at}
 use Rattle.probe_request.proofs.Requests.{place_end}
 use Rattle.probe_answer.specs.Answers.{Draft, none, ◌then◌}
@@ -21,7 +20,7 @@ module _ (args out : List ℕ) (inputs weights taps rings ears : List Float) whe
   l = listed inputs weights taps rings ears
 
   -- the numbers that are read are those of the request, and what is made of them is put
-  pub played : {a b c : Draft} {p : BlockAnswer} {rings₁ ears₁ : List Float} {h : ConvolverShape} {d : Desk}
+  pub played : {a b c : Draft} {p : BlockTold} {rings₁ ears₁ : List Float} {h : ConvolverShape} {d : Desk}
       {frames stride : ℕ} {rows : List ℕ}
       → c ≡ b then float_bytes ears₁ → b ≡ a then float_bytes rings₁ → a ≡ then_counts (none out) p
       → record { answer = p; rings = rings₁; ears = ears₁ }

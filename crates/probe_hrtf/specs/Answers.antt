@@ -8,8 +8,7 @@ use Rattle.big_endian.specs.Lists.{float_bytes, double_bytes, floats_at}
 use Rattle.planes.specs.Sums.{dot}
 use Rattle.hrtf_desk.specs.declared.Desk.{Desk}
 use Rattle.hrtf_rings.specs.Unrolled.{unrolled}
-use Rattle.hrtf.specs.declared.BlockAnswer.{BlockAnswer}
-use Rattle.hrtf.specs.Promise.{BlockOutcome, outcome}
+use Rattle.hrtf.specs.Promise.{BlockTold, BlockOutcome, outcome}
 use Rattle.hrtf.specs.Reset.{ResetOutcome, reset_outcome}
 use Rattle.probe_request.specs.Requests.{samples_lent, cells_lent}
 use Rattle.probe_answer.specs.Answers.{Draft, none, taking, ◌then◌}
@@ -22,7 +21,7 @@ then_desk d k = d then bytes_of 8 k.position then bytes_of 8 k.to_go
 -- ---- 17 convolver block
 
 -- "refusal (1), samples, unsettled, ring position, frames-to-go (8 each)"
-abbrev pub then_counts : Draft → BlockAnswer → Draft
+abbrev pub then_counts : Draft → BlockTold → Draft
 then_counts d p =
     then_desk (d then bytes_of 1 p.refusal then bytes_of 8 p.samples then bytes_of 8 p.unsettled) p.desk
 

@@ -10,7 +10,7 @@
 #![tactic(auto)]
 
 ghost use Rattle.std.specs.Prelude.{◌≡◌, length};
-ghost use Rattle.hrtf.specs.Promise.{outcome};
+ghost use Rattle.hrtf.specs.Promise.{outcome, block_told};
 ghost use Rattle.probe_answer.specs.Answers.{draft};
 ghost use Rattle.probe_hrtf.specs.Requests.{desk_at, shape_at, listed, lengths, read_from, call_of, state_of};
 ghost use Rattle.probe_hrtf.specs.Answers.{then_desk, then_counts, block_shown, block_by, block_answer, reset_by_of};
@@ -20,6 +20,7 @@ use hrtf::BlockAnswer;
 use hrtf_checks::ConvolverShape;
 use hrtf_desk::Desk;
 use probe_request::{MOST_CELLS, MOST_SAMPLES, MOST_WEIGHTS};
+use refusals::Refusal;
 
 // Where the lists begin in a request for a block: behind five lengths, the desk, the four counts of the shape,
 // frames and stride, and the rows of the eight speakers.
@@ -61,14 +62,20 @@ pub fn put_desk(desk: Desk, out: &mut [u8], at: usize) -> usize
     probe_answer::put(desk.to_go as u64, 8, out, after_position)
 }
 
-fn put_counts(played: BlockAnswer, out: &mut [u8]) -> usize
-    ensures { draft result out.new ≡ then_counts (draft 0 out.old) played }
+// Puts what is told of a block: of a refused one counts of 0, and the desk that was given.
+fn put_counts(given: Desk, played: Result<BlockAnswer, Refusal>, out: &mut [u8]) -> usize
+    ensures { draft result out.new ≡ then_counts (draft 0 out.old) (block_told given played) }
 {
-    let after_refusal = probe_answer::put(played.refusal as u64, 1, out, 0);
-    let after_samples = probe_answer::put(played.samples as u64, 8, out, after_refusal);
-    let after_unsettled = probe_answer::put(played.unsettled as u64, 8, out, after_samples);
-    let left = played.desk;
-    put_desk(left, out, after_unsettled)
+    let unplayed = BlockAnswer {
+        samples: 0,
+        unsettled: 0,
+        desk: given,
+    };
+    let told = played.unwrap_or(unplayed);
+    let after_refusal = probe_answer::put(refusals::number_in(played) as u64, 1, out, 0);
+    let after_samples = probe_answer::put(told.samples as u64, 8, out, after_refusal);
+    let after_unsettled = probe_answer::put(told.unsettled as u64, 8, out, after_samples);
+    put_desk(told.desk, out, after_unsettled)
 }
 
 // Plays the block, the lists being read.
@@ -88,8 +95,9 @@ fn play(
         out.old }
 {
     let row_of = probe_request::eight(args, 74);
+    let given = desk(args, 10);
     let played = hrtf::process(
-        desk(args, 10),
+        given,
         shape(args),
         probe_request::number(args, 58, 8),
         probe_request::number(args, 66, 8),
@@ -100,9 +108,9 @@ fn play(
         rings,
         ears,
     );
-    let after_counts = put_counts(played, out);
-    let after_rings = probe_answer::put_f32s(rings, out, after_counts);
-    probe_answer::put_f32s(ears, out, after_rings)
+    let after_counts = put_counts(given, played, out);
+    let after_rings = probe_answer::put_list(rings, out, after_counts);
+    probe_answer::put_list(ears, out, after_rings)
 }
 
 // Fills five lists with what stands in the arguments from `at` on, one behind the other, and answers the
@@ -130,11 +138,11 @@ pub fn get_lists(
     let at_rings = probe_request::behind(args, at_taps, 4, taps.len());
     let at_ears = probe_request::behind(args, at_rings, 4, rings.len());
     let end = probe_request::behind(args, at_ears, 4, ears.len());
-    probe_request::get_f32s(args, at, inputs);
-    probe_request::get_f64s(args, at_weights, weights);
-    probe_request::get_f32s(args, at_taps, taps);
-    probe_request::get_f32s(args, at_rings, rings);
-    probe_request::get_f32s(args, at_ears, ears);
+    probe_request::get_list(args, at, inputs);
+    probe_request::get_list(args, at_weights, weights);
+    probe_request::get_list(args, at_taps, taps);
+    probe_request::get_list(args, at_rings, rings);
+    probe_request::get_list(args, at_ears, ears);
     end
 }
 
@@ -192,17 +200,17 @@ fn reset_lent(args: &[u8], rings: &mut [f32], out: &mut [u8]) -> usize
     if args.len() != probe_request::behind(args, CELLS, 4, rings.len()) {
         return 0;
     }
-    probe_request::get_f32s(args, CELLS, rings);
+    probe_request::get_list(args, CELLS, rings);
+    let given = desk(args, 2);
     let rested = hrtf::reset(
-        desk(args, 2),
+        given,
         probe_request::number(args, 18, 8),
         probe_request::number(args, 26, 8),
         rings,
     );
-    let after_refusal = probe_answer::put(rested.refusal as u64, 1, out, 0);
-    let left = rested.desk;
-    let after_desk = put_desk(left, out, after_refusal);
-    probe_answer::put_f32s(rings, out, after_desk)
+    let after_refusal = probe_answer::put(refusals::number_in(rested) as u64, 1, out, 0);
+    let after_desk = put_desk(rested.unwrap_or(given), out, after_refusal);
+    probe_answer::put_list(rings, out, after_desk)
 }
 
 // Lends as many cells as the arguments say first, behind which stand the desk, the speakers and L.
@@ -223,10 +231,10 @@ fn convolve_lent(args: &[u8], ring: &mut [f32], taps: &mut [f32], out: &mut [u8]
     if args.len() != probe_request::behind(args, at_taps, 4, taps.len()) {
         return 0;
     }
-    probe_request::get_f32s(args, RING, ring);
-    probe_request::get_f32s(args, at_taps, taps);
+    probe_request::get_list(args, RING, ring);
+    probe_request::get_list(args, at_taps, taps);
     let sum = [hrtf_rings::convolve(ring, probe_request::number(args, 4, 8), taps)];
-    probe_answer::put_f64s(&sum, out, 0)
+    probe_answer::put_list(&sum, out, 0)
 }
 
 // Lends as many cells and taps as the arguments say first, behind which stand the newest, and then the two lists.

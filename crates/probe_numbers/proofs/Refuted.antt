@@ -6,7 +6,7 @@ use Rattle.lists.specs.Prelude.{to_bits, nan}
 use Rattle.refusals.proofs.First.{answered_number}
 use Rattle.formats.specs.Floats.{zero_float}
 use Rattle.numbers.specs.Computed as Numbers
-use Rattle.numbers.specs.declared.Rooted.{Rooted}
+use Rattle.numbers.specs.Computed.{Rooted}
 use Rattle.big_endian.specs.Fields.{field_at, float_at, double_at}
 use Rattle.big_endian.specs.Lists.{float_bytes, double_bytes}
 use Rattle.big_endian.proofs.Fields.{lies_out, field_out}

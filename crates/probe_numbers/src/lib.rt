@@ -11,9 +11,11 @@ ghost use Rattle.std.specs.Prelude.{◌≡◌};
 ghost use Rattle.angles.specs.Promise.{outcome};
 ghost use Rattle.probe_answer.specs.Answers.{draft};
 ghost use Rattle.probe_numbers.specs.Answers.{widen_answer, narrow_answer, root_answer, wave_of, wave_answer};
+ghost use Rattle.formats.specs.Floats.{zero_float};
+ghost use Rattle.refusals.specs.Numbers.{told};
 ghost use Rattle.probe_numbers.specs.Answers.{answer_of};
 
-use angles::Answer;
+use refusals::Refusal;
 
 fn widen(args: &[u8], out: &mut [u8]) -> usize
     ensures { draft result out.new ≡ widen_answer args.now out.old }
@@ -22,7 +24,7 @@ fn widen(args: &[u8], out: &mut [u8]) -> usize
         return 0;
     }
     let value = [numbers::widen(big_endian::get_f32(args, 0))];
-    probe_answer::put_f64s(&value, out, 0)
+    probe_answer::put_list(&value, out, 0)
 }
 
 fn narrow(args: &[u8], out: &mut [u8]) -> usize
@@ -32,7 +34,7 @@ fn narrow(args: &[u8], out: &mut [u8]) -> usize
         return 0;
     }
     let value = [numbers::narrow(big_endian::get_f64(args, 0))];
-    probe_answer::put_f32s(&value, out, 0)
+    probe_answer::put_list(&value, out, 0)
 }
 
 fn root(args: &[u8], out: &mut [u8]) -> usize
@@ -41,14 +43,14 @@ fn root(args: &[u8], out: &mut [u8]) -> usize
     if args.len() != 8 {
         return 0;
     }
-    let r = numbers::root(big_endian::get_f64(args, 0));
-    let value = [r.value];
-    probe_answer::put_refusal_and_f64s(r.refusal, &value, out)
+    let answer = numbers::root(big_endian::get_f64(args, 0));
+    let value = [answer.unwrap_or(0.0)];
+    probe_answer::put_refusal_and_f64s(refusals::number_in(answer), &value, out)
 }
 
 // 4 is the sine, and 5 the cosine.
-fn wave(operation: u8, degrees: f64) -> Answer
-    ensures { result ≡ outcome (wave_of operation) degrees }
+fn wave(operation: u8, degrees: f64) -> Result<f64, Refusal>
+    ensures { told zero_float result ≡ outcome (wave_of operation) degrees }
 {
     if operation == 4 {
         return angles::sine(degrees);
@@ -62,9 +64,9 @@ fn sine_or_cosine(operation: u8, args: &[u8], out: &mut [u8]) -> usize
     if args.len() != 8 {
         return 0;
     }
-    let r = wave(operation, big_endian::get_f64(args, 0));
-    let value = [r.value];
-    probe_answer::put_refusal_and_f64s(r.refusal, &value, out)
+    let answer = wave(operation, big_endian::get_f64(args, 0));
+    let value = [answer.unwrap_or(0.0)];
+    probe_answer::put_refusal_and_f64s(refusals::number_in(answer), &value, out)
 }
 
 // Puts the answer to a request into out, and answers how many bytes it has.

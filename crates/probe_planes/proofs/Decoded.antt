@@ -3,7 +3,7 @@
 use Rattle.std.specs.Prelude.{◌≡◌, ◌+◌, ◌*◌}
 use Rattle.lists.specs.Prelude.{ap, ◌∙◌, List, ℕ, arith, Float, length}
 use Rattle.big_endian.specs.Fields.{field_at, float_at, double_at}
-use Rattle.ambisonic_decoder.specs.declared.Decoded.{Decoded}
+use Rattle.ambisonic_decoder.specs.Promise.{Decoded}
 use Rattle.ambisonic_decoder.specs.Promise.{DecodedBlock, decoded_block}
 use Rattle.probe_request.specs.Requests.{samples_lent, weights_lent, list_at}
 use Rattle.probe_answer.specs.Answers.{Draft, none, played}

@@ -6,7 +6,7 @@ use Rattle.big_endian.specs.Fields.{field_at, float_at, double_at}
 use Rattle.channel.specs.declared.Layout.{Layout}
 use Rattle.panner.specs.declared.Command.{Command}
 use Rattle.panner.specs.declared.Command.TheVariants.{Stereo, Surround, Ambisonic}
-use Rattle.panner.specs.declared.Panned.{Panned}
+use Rattle.panner.specs.Promise.{Panned}
 use Rattle.panner.specs.Promise.{PannedBlock, panned_block}
 use Rattle.probe_request.specs.Requests.{layout_of, samples_lent, list_at}
 use Rattle.probe_answer.specs.Answers.{Draft, none, played}

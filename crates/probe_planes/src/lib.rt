@@ -44,8 +44,8 @@ fn pan_lent(args: &[u8], input: &mut [f32], planes: &mut [f32], out: &mut [u8]) 
         (length planes.old) out.old }
 {
     let planes_at = 54 + 4 * input.len();
-    probe_request::get_f32s(args, 54, input);
-    probe_request::get_f32s(args, planes_at, planes);
+    probe_request::get_list(args, 54, input);
+    probe_request::get_list(args, planes_at, planes);
     let panned = panner::process(
         command(args),
         probe_request::layout(
@@ -57,7 +57,12 @@ fn pan_lent(args: &[u8], input: &mut [f32], planes: &mut [f32], out: &mut [u8]) 
         input,
         planes,
     );
-    probe_answer::put_played(panned.refusal, panned.samples, planes, out)
+    probe_answer::put_played(
+        refusals::number_in(panned),
+        panned.unwrap_or(0),
+        planes,
+        out,
+    )
 }
 
 // Lends as many samples as the arguments say first.
@@ -90,9 +95,9 @@ fn decode_lent(
 {
     let inputs_at = 38 + 8 * weights.len();
     let planes_at = inputs_at + 4 * inputs.len();
-    probe_request::get_f64s(args, 38, weights);
-    probe_request::get_f32s(args, inputs_at, inputs);
-    probe_request::get_f32s(args, planes_at, planes);
+    probe_request::get_list(args, 38, weights);
+    probe_request::get_list(args, inputs_at, inputs);
+    probe_request::get_list(args, planes_at, planes);
     let decoded = ambisonic_decoder::process(
         weights,
         probe_request::number(args, 6, 8),
@@ -102,7 +107,12 @@ fn decode_lent(
         inputs,
         planes,
     );
-    probe_answer::put_played(decoded.refusal, decoded.samples, planes, out)
+    probe_answer::put_played(
+        refusals::number_in(decoded),
+        decoded.unwrap_or(0),
+        planes,
+        out,
+    )
 }
 
 // Lends as many weights and samples as the arguments say first.

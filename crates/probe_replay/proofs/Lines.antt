@@ -5,9 +5,8 @@ use Rattle.big_endian.specs.Fields.{field_at}
 use Rattle.big_endian.specs.Lists.{float_bytes}
 use Rattle.hrtf_desk.specs.declared.Desk.{Desk}
 use Rattle.hrtf_checks.specs.declared.ConvolverShape.{ConvolverShape}
-use Rattle.stamps.specs.declared.Expected.{Expected}
-use Rattle.replay.specs.declared.Replayed.{Replayed}
-use Rattle.replay.specs.Promise.{outcome}
+use Rattle.stamps.specs.Arrivals.{Expected}
+use Rattle.replay.specs.Promise.{ReplayTold, outcome}
 use Rattle.probe_request.specs.Requests.{eight_at, samples_lent, word_at, place_in, list_at}
 use Rattle.probe_request.proofs.Requests.{inside, place_behind, place_list, place_end, place_no_end}
 use Rattle.probe_answer.specs.Answers.{Draft, none, ◌then◌}
@@ -22,7 +21,8 @@ module _ (args out : List ℕ) (inputs weights taps rings ears : List Float) (st
   l = listed inputs weights taps rings ears
 
   -- the numbers that are read are those of the request, and what is made of them is put
-  pub played : {a b c : Draft} {p : Replayed} {rings₁ ears₁ : List Float} {h : ConvolverShape} {d : Desk} {x : Expected}
+  pub played : {a b c : Draft} {p : ReplayTold} {rings₁ ears₁ : List Float} {h : ConvolverShape} {d : Desk}
+      {x : Expected}
       {frames stride ear_stride : ℕ} {rows : List ℕ}
       → c ≡ b then float_bytes ears₁ → b ≡ a then float_bytes rings₁ → a ≡ then_counts (none out) p
       → record { answer = p; rings = rings₁; ears = ears₁ }

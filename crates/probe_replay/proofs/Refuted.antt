@@ -8,8 +8,8 @@ use Rattle.big_endian.specs.Bytes.{bytes_of}
 use Rattle.big_endian.specs.Fields.{field_at}
 use Rattle.big_endian.specs.Lists.{float_bytes}
 use Rattle.big_endian.proofs.Bytes.{length_bytes}
-use Rattle.stamps.specs.declared.Expected.{Expected}
-use Rattle.stamps.specs.declared.Expected.TheVariants.{Stamp}
+use Rattle.stamps.specs.Arrivals.{Expected}
+use Rattle.std.specs.Prelude.{Some}
 use Rattle.stamps.specs.Arrivals.{stamp_of}
 use Rattle.stamps.specs.Counts.{out_in, late_in, silent_in}
 use Rattle.replay.specs.Recording.{Recording, stamps_in}
@@ -128,7 +128,7 @@ module _ (args out : List ℕ) (r : Draft) (is : r ≡ answer_of 22 args out)
         some (shown (samples_told o out (omega arith)) ∙ ap (λ (y : ReplayOutcome). y.answer.samples % 256 ^ 8) left)
 
     -- the stamp that was expected is forgotten
-    stamp_forgotten : (s : ℕ) → x ≡ Stamp s → (s % 256 ^ 4 ≡ 0 → ⊥) → field_at r.bytes 58 4 ≡ 0 → ⊥
+    stamp_forgotten : (s : ℕ) → x ≡ Some s → (s % 256 ^ 4 ≡ 0 → ⊥) → field_at r.bytes 58 4 ≡ 0 → ⊥
     stamp_forgotten s known some e =
         some (sym (shown (stamp_told o out room) ∙ ap (λ (y : ReplayOutcome). stamp_of y.answer.expected % 256 ^ 4)
         left ∙ ap (λ (y : Expected). stamp_of y % 256 ^ 4) known) ∙ e)

@@ -2,11 +2,10 @@
 use Rattle.lists.specs.Prelude.{ℕ, cond, List, eqb}
 use Rattle.big_endian.specs.Bytes.{bytes_of}
 use Rattle.big_endian.specs.Lists.{float_bytes}
-use Rattle.stamps.specs.declared.Expected.{Expected}
-use Rattle.stamps.specs.declared.Expected.TheVariants.{First, Stamp}
+use Rattle.stamps.specs.Arrivals.{Expected}
+use Rattle.std.specs.Prelude.{None, Some}
 use Rattle.stamps.specs.Arrivals.{stamp_of}
-use Rattle.replay.specs.declared.Replayed.{Replayed}
-use Rattle.replay.specs.Promise.{ReplayOutcome}
+use Rattle.replay.specs.Promise.{ReplayTold, ReplayOutcome}
 use Rattle.probe_request.specs.Requests.{samples_lent}
 use Rattle.probe_answer.specs.Answers.{Draft, none, taking, ◌then◌}
 use Rattle.probe_hrtf.specs.Requests.{Lengths, lent_of}
@@ -15,14 +14,14 @@ use Rattle.probe_replay.specs.Requests.{line_end, outcome_at}
 
 -- "expected (1: 0 for none, 1 for a stamp; and 4: the stamp, or 0)"
 abbrev pub mark_of : Expected → ℕ
-mark_of First = 0
-mark_of (Stamp s) = 1
+mark_of None = 0
+mark_of (Some s) = 1
 
 abbrev pub then_expected : Draft → Expected → Draft
 then_expected d x = d then bytes_of 1 (mark_of x) then bytes_of 4 (stamp_of x)
 
 -- "refusal (1), samples, unsettled, late, silent, resets, ring position, frames-to-go (8 each)", and what is expected
-abbrev pub then_counts : Draft → Replayed → Draft
+abbrev pub then_counts : Draft → ReplayTold → Draft
 then_counts d p =
     then_expected
     (then_desk

@@ -4,8 +4,8 @@ use Rattle.std.specs.Prelude.{◌+◌, ◌*◌}
 use Rattle.lists.specs.Prelude.{ℕ, cond, List, eqb}
 use Rattle.big_endian.specs.Fields.{field_at}
 use Rattle.big_endian.specs.Lists.{strided}
-use Rattle.stamps.specs.declared.Expected.{Expected}
-use Rattle.stamps.specs.declared.Expected.TheVariants.{First, Stamp}
+use Rattle.stamps.specs.Arrivals.{Expected}
+use Rattle.std.specs.Prelude.{None, Some}
 use Rattle.replay.specs.Recording.{Recording}
 use Rattle.replay.specs.Promise.{ReplayOutcome, outcome}
 use Rattle.probe_request.specs.Requests.{eight_at, word_at}
@@ -13,7 +13,7 @@ use Rattle.probe_hrtf.specs.Requests.{shape_at, state_of, Lengths, Lists, lists_
 
 -- "expected: 0 where none is, any other number where the next four bytes are (1), that stamp (4)"
 abbrev pub expected_at : List ℕ → Expected
-expected_at args = cond (eqb (field_at args 148 1) 0) First (Stamp (field_at args 149 4))
+expected_at args = cond (eqb (field_at args 148 1) 0) None (Some (field_at args 149 4))
 
 -- "the s stamps (4 each)", behind the five lists, and where they end
 abbrev pub stamps_from : Lengths → ℕ

@@ -8,57 +8,73 @@
 #![tactic(auto)]
 
 ghost use Rattle.std.specs.Prelude.{◌≡◌, length};
+ghost use Rattle.replay.specs.Promise.{replay_told};
 ghost use Rattle.probe_answer.specs.Answers.{draft};
 ghost use Rattle.probe_hrtf.specs.Requests.{listed, lengths};
 ghost use Rattle.probe_replay.specs.Requests.{expected_at, outcome_of};
 ghost use Rattle.probe_replay.specs.Answers.{then_expected, then_counts, line_shown, line_by, line_answer, answer_of};
 
+use hrtf_desk::Desk;
 use probe_request::{MOST_CELLS, MOST_SAMPLES, MOST_WEIGHTS};
+use refusals::Refusal;
 use replay::Replayed;
-use stamps::Expected;
 
 // Where the lists begin: behind what a request for a block has before its lists, the number of stamps, the ear
 // stride, and what is expected.
 const LISTS: usize = 153;
 
 // What is expected: a byte, 0 where there is no stamp, and the stamp.
-fn expected(args: &[u8]) -> Expected
+fn expected(args: &[u8]) -> Option<u32>
     ensures { result ≡ expected_at args.now }
 {
     if probe_request::number(args, 148, 1) == 0 {
-        return Expected::First;
+        return None;
     }
-    Expected::Stamp(big_endian::get(args, 149, 4) as u32)
+    Some(big_endian::get(args, 149, 4) as u32)
 }
 
-fn put_expected(expected: Expected, out: &mut [u8], at: usize) -> usize
+fn put_expected(expected: Option<u32>, out: &mut [u8], at: usize) -> usize
     ensures { draft result out.new ≡ then_expected (draft at out.old) expected }
 {
     match expected {
-        Expected::First => {
+        None => {
             let after_mark = probe_answer::put(0, 1, out, at);
             probe_answer::put(0, 4, out, after_mark)
         }
-        Expected::Stamp(stamp) => {
+        Some(stamp) => {
             let after_mark = probe_answer::put(1, 1, out, at);
             probe_answer::put(stamp as u64, 4, out, after_mark)
         }
     }
 }
 
-fn put_counts(played: Replayed, out: &mut [u8]) -> usize
-    ensures { draft result out.new ≡ then_counts (draft 0 out.old) played }
+// Puts what is told of a replay: of a refused one counts of 0, and the desk and the stamp that were given.
+fn put_counts(
+    given: Desk,
+    awaited: Option<u32>,
+    played: Result<Replayed, Refusal>,
+    out: &mut [u8],
+) -> usize
+    ensures { draft result out.new ≡ then_counts (draft 0 out.old) (replay_told given awaited played) }
 {
-    let after_refusal = probe_answer::put(played.refusal as u64, 1, out, 0);
-    let after_samples = probe_answer::put(played.samples as u64, 8, out, after_refusal);
-    let after_unsettled = probe_answer::put(played.unsettled as u64, 8, out, after_samples);
-    let after_late = probe_answer::put(played.late as u64, 8, out, after_unsettled);
-    let after_silent = probe_answer::put(played.silent as u64, 8, out, after_late);
-    let after_resets = probe_answer::put(played.resets as u64, 8, out, after_silent);
-    let left = played.desk;
-    let after_desk = probe_hrtf::put_desk(left, out, after_resets);
-    let next = played.expected;
-    put_expected(next, out, after_desk)
+    let unplayed = Replayed {
+        samples: 0,
+        unsettled: 0,
+        late: 0,
+        silent: 0,
+        resets: 0,
+        desk: given,
+        expected: awaited,
+    };
+    let told = played.unwrap_or(unplayed);
+    let after_refusal = probe_answer::put(refusals::number_in(played) as u64, 1, out, 0);
+    let after_samples = probe_answer::put(told.samples as u64, 8, out, after_refusal);
+    let after_unsettled = probe_answer::put(told.unsettled as u64, 8, out, after_samples);
+    let after_late = probe_answer::put(told.late as u64, 8, out, after_unsettled);
+    let after_silent = probe_answer::put(told.silent as u64, 8, out, after_late);
+    let after_resets = probe_answer::put(told.resets as u64, 8, out, after_silent);
+    let after_desk = probe_hrtf::put_desk(told.desk, out, after_resets);
+    put_expected(told.expected, out, after_desk)
 }
 
 // Replays, the lists being read.
@@ -79,9 +95,11 @@ fn play(
         out.old }
 {
     let row_of = probe_request::eight(args, 74);
+    let given = probe_hrtf::desk(args, 10);
+    let awaited = expected(args);
     let played = replay::replay(
-        probe_hrtf::desk(args, 10),
-        expected(args),
+        given,
+        awaited,
         probe_hrtf::shape(args),
         probe_request::number(args, 58, 8),
         probe_request::number(args, 66, 8),
@@ -94,9 +112,9 @@ fn play(
         probe_request::number(args, 140, 8),
         ears,
     );
-    let after_counts = put_counts(played, out);
-    let after_rings = probe_answer::put_f32s(rings, out, after_counts);
-    probe_answer::put_f32s(ears, out, after_rings)
+    let after_counts = put_counts(given, awaited, played, out);
+    let after_rings = probe_answer::put_list(rings, out, after_counts);
+    probe_answer::put_list(ears, out, after_rings)
 }
 
 // Replays where the arguments have the length of all lists, whatever they held.
@@ -119,7 +137,7 @@ fn replay_lent(
     if args.len() != probe_request::behind(args, at_stamps, 4, stamps.len()) {
         return 0;
     }
-    probe_request::get_u32s(args, at_stamps, stamps);
+    probe_request::get_list(args, at_stamps, stamps);
     play(args, inputs, weights, taps, rings, ears, stamps, out)
 }
 

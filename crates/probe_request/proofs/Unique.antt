@@ -1,6 +1,13 @@
 -- No two answers meet one promise. Assumes nothing.
+use mir.Syntax.{Dict}
+use denote.Param.Laws.{IsCopy, Laws}
+use denote.RattleType.{RattleType}
+use Rattle.std.specs.declared.clone.Clone as Clone
 use Rattle.lists.specs.OneAnswer.{AllowsOneAnswer}
 use Rattle.lists.proofs.Determined.{determined_by}
+use Rattle.probe_request.specs.declared.Field.{Ghosts}
+use Rattle.probe_request.specs.contracts.get_list as get_list
+use Rattle.probe_request.proofs.get_list.Reads as get_list_reads
 use Rattle.probe_request.specs.contracts.number as number
 use Rattle.probe_request.proofs.number.Reads as number_reads
 use Rattle.probe_request.specs.contracts.lent as lent
@@ -11,14 +18,6 @@ use Rattle.probe_request.specs.contracts.eight as eight
 use Rattle.probe_request.proofs.eight.Reads as eight_reads
 use Rattle.probe_request.specs.contracts.behind as behind
 use Rattle.probe_request.proofs.behind.Reads as behind_reads
-use Rattle.probe_request.specs.contracts.get_i16s as get_i16s
-use Rattle.probe_request.proofs.get_i16s.Reads as get_i16s_reads
-use Rattle.probe_request.specs.contracts.get_f32s as get_f32s
-use Rattle.probe_request.proofs.get_f32s.Reads as get_f32s_reads
-use Rattle.probe_request.specs.contracts.get_f64s as get_f64s
-use Rattle.probe_request.proofs.get_f64s.Reads as get_f64s_reads
-use Rattle.probe_request.specs.contracts.get_u32s as get_u32s
-use Rattle.probe_request.proofs.get_u32s.Reads as get_u32s_reads
 
 number_unique : AllowsOneAnswer number.ended number_reads.Learnt
 number_unique κs a = determined_by (λ z h i. (h i, _))
@@ -35,14 +34,9 @@ eight_unique κs a = determined_by (λ z h i. (h i, _))
 behind_unique : AllowsOneAnswer behind.ended behind_reads.Learnt
 behind_unique κs a = determined_by (λ z h i. (h i, _))
 
-get_i16s_unique : AllowsOneAnswer get_i16s.ended get_i16s_reads.Learnt
-get_i16s_unique κs a = determined_by (λ z h i. (_, (_, (_, (h i, _)))))
-
-get_f32s_unique : AllowsOneAnswer get_f32s.ended get_f32s_reads.Learnt
-get_f32s_unique κs a = determined_by (λ z h i. (_, (_, (_, (h i, _)))))
-
-get_f64s_unique : AllowsOneAnswer get_f64s.ended get_f64s_reads.Learnt
-get_f64s_unique κs a = determined_by (λ z h i. (_, (_, (_, (h i, _)))))
-
-get_u32s_unique : AllowsOneAnswer get_u32s.ended get_u32s_reads.Learnt
-get_u32s_unique κs a = determined_by (λ z h i. (_, (_, (_, (h i, _)))))
+-- of a list of any fields
+module _ (T : RattleType) (laws : Laws T) (copy : IsCopy T) (field : Ghosts T.Denot) (dict : Dict)
+    (cloned : Clone.Ghosts T.Denot) (clone : Dict) where
+  get_list_unique : AllowsOneAnswer (get_list.ended T field dict cloned clone)
+      (get_list_reads.Learnt T laws copy field dict cloned clone)
+  get_list_unique κs a = determined_by (λ z h i. (_, (_, (_, (h i, _)))))

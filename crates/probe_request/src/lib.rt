@@ -6,7 +6,7 @@
 // left as it was. Every function takes any input.
 #![tactic(auto)]
 
-ghost use Rattle.std.specs.Prelude.{◌≡◌, ◌+◌, ◌*◌, length};
+ghost use Rattle.std.specs.Prelude.{◌≡◌, ◌+◌, ◌*◌, ℕ, List, length};
 ghost use Rattle.big_endian.specs.Fields.{field_at, signed_at, float_at, double_at};
 ghost use Rattle.probe_request.specs.Requests.{layout_of, eight_at, lent_by, place_in, word_at, list_at};
 
@@ -80,55 +80,76 @@ pub fn behind(args: &[u8], at: usize, width: usize, count: usize) -> usize
     at + width * count
 }
 
-// Each of these four fills a list with what stands in the arguments from `at` on.
-pub fn get_i16s(args: &[u8], at: usize, list: &mut [i16])
-    ensures { list.new ≡ list_at signed_at 2 args.now at list.old }
-{
-    if !big_endian::has_room(args.len(), at, 2, list.len()) {
-        return;
-    }
-    let mut i = 0;
-    while i < list.len() {
-        list[i] = big_endian::get_i16(args, at + i * 2);
-        i += 1;
+// What a request holds lists of: each entry stands there in `WIDTH` bytes.
+pub trait Field: Copy {
+    const WIDTH: usize;
+
+    ghost WIDTH: { ℕ };
+
+    ghost read: { List ℕ → ℕ → Self };
+
+    fn get_from(args: &[u8], at: usize) -> Self
+        ensures { result ≡ read args.now at };
+}
+
+impl Field for i16 {
+    const WIDTH: usize = 2;
+
+    ghost WIDTH = { 2 };
+
+    ghost read = { signed_at };
+
+    fn get_from(args: &[u8], at: usize) -> i16 {
+        big_endian::get_i16(args, at)
     }
 }
 
-pub fn get_f32s(args: &[u8], at: usize, list: &mut [f32])
-    ensures { list.new ≡ list_at float_at 4 args.now at list.old }
-{
-    if !big_endian::has_room(args.len(), at, 4, list.len()) {
-        return;
-    }
-    let mut i = 0;
-    while i < list.len() {
-        list[i] = big_endian::get_f32(args, at + i * 4);
-        i += 1;
+impl Field for f32 {
+    const WIDTH: usize = 4;
+
+    ghost WIDTH = { 4 };
+
+    ghost read = { float_at };
+
+    fn get_from(args: &[u8], at: usize) -> f32 {
+        big_endian::get_f32(args, at)
     }
 }
 
-pub fn get_f64s(args: &[u8], at: usize, list: &mut [f64])
-    ensures { list.new ≡ list_at double_at 8 args.now at list.old }
-{
-    if !big_endian::has_room(args.len(), at, 8, list.len()) {
-        return;
-    }
-    let mut i = 0;
-    while i < list.len() {
-        list[i] = big_endian::get_f64(args, at + i * 8);
-        i += 1;
+impl Field for f64 {
+    const WIDTH: usize = 8;
+
+    ghost WIDTH = { 8 };
+
+    ghost read = { double_at };
+
+    fn get_from(args: &[u8], at: usize) -> f64 {
+        big_endian::get_f64(args, at)
     }
 }
 
-pub fn get_u32s(args: &[u8], at: usize, list: &mut [u32])
-    ensures { list.new ≡ list_at word_at 4 args.now at list.old }
+impl Field for u32 {
+    const WIDTH: usize = 4;
+
+    ghost WIDTH = { 4 };
+
+    ghost read = { word_at };
+
+    fn get_from(args: &[u8], at: usize) -> u32 {
+        big_endian::get(args, at, 4) as u32
+    }
+}
+
+// Fills a list with what stands in the arguments from `at` on.
+pub fn get_list<T: Field>(args: &[u8], at: usize, list: &mut [T])
+    ensures { list.new ≡ list_at T.read T.WIDTH args.now at list.old }
 {
-    if !big_endian::has_room(args.len(), at, 4, list.len()) {
+    if !big_endian::has_room(args.len(), at, T::WIDTH, list.len()) {
         return;
     }
-    let mut i = 0;
-    while i < list.len() {
-        list[i] = big_endian::get(args, at + i * 4, 4) as u32;
-        i += 1;
+    let mut place = at;
+    for entry in list.iter_mut() {
+        *entry = T::get_from(args, place);
+        place += T::WIDTH;
     }
 }

@@ -10,7 +10,7 @@ use Rattle.lists.proofs.Tables.{take_tab, part_is}
 use Rattle.big_endian.specs.Fields.{field_at, float_at, double_at}
 use Rattle.big_endian.specs.Lists.{strided}
 use Rattle.cues.specs.declared.Cue.{Cue}
-use Rattle.script.specs.declared.Rendered.{Rendered}
+use Rattle.script.specs.Promise.{Rendered}
 use Rattle.script.specs.Promise.{RenderedBlock, rendered_block}
 use Rattle.probe_request.specs.Requests.{samples_lent, lent_by, list_at}
 use Rattle.probe_request.proofs.Requests.{inside}

@@ -11,6 +11,7 @@
 #![tactic(auto)]
 
 ghost use Rattle.std.specs.Prelude.{◌≡◌, ◌+◌, ◌*◌, ◌^◌, ◌≤◌, ◌<◌, length, take};
+ghost use Rattle.planes.specs.Blocks.{played};
 ghost use Rattle.script.specs.Promise.{RenderPromise};
 ghost use Rattle.probe_answer.specs.Answers.{draft};
 ghost use Rattle.probe_script.specs.Answers.{cue_at, cues_at, fits, rendered, rendered_answer, script_answer};
@@ -19,7 +20,8 @@ ghost use Rattle.probe_script.specs.Answers.{answer_of};
 use cues::Cue;
 use harmonics::Direction;
 use probe_request::MOST_SAMPLES;
-use script::Rendered;
+use refusals::Refusal;
+use std::array;
 
 // One more than a list may have, so that one which is too long can be lent.
 const MOST_CUES: usize = 257;
@@ -49,15 +51,7 @@ fn cue(args: &[u8], at: usize) -> Cue
 fn all_cues(args: &[u8]) -> [Cue; MOST_CUES]
     ensures { result ≡ cues_at args.now 257 }
 {
-    let one = cue(args, 46);
-    let mut list = [one; MOST_CUES];
-    let mut k = 0;
-    while k < MOST_CUES {
-        let next = cue(args, 46 + k * 24);
-        list[k] = next;
-        k += 1;
-    }
-    list
+    array::from_fn(|k| cue(args, 46 + k * 24))
 }
 
 // Renders at the first cues of an array.
@@ -70,21 +64,26 @@ fn render_first(
     stride: usize,
     input: &[f32],
     out: &mut [f32],
-) -> Rendered
+) -> Result<usize, Refusal>
     requires { count ≤ 257 }
     ensures { RenderPromise (record { order = order; first = first; frames = frames; stride = stride })
-        (take count cues) input.now out.old result out.new }
+        (take count cues) input.now out.old (played result) out.new }
 {
     script::render(&cues[..count], order, first, frames, stride, input, out)
 }
 
 // Renders a stretch at so many cues: what the input lent held before does not matter.
-fn render_lent(args: &[u8], count: usize, input: &mut [f32], planes: &mut [f32]) -> Rendered
+fn render_lent(
+    args: &[u8],
+    count: usize,
+    input: &mut [f32],
+    planes: &mut [f32],
+) -> Result<usize, Refusal>
     requires { (count ≤ 257) × (length args.now ≡ 46 + 24 * count + 4 * length input.old) }
-    ensures { record { answer = result; out = planes.new } ≡ rendered args.now count
+    ensures { record { answer = played result; out = planes.new } ≡ rendered args.now count
         (length input.old) planes.old }
 {
-    probe_request::get_f32s(args, 46 + 24 * count, input);
+    probe_request::get_list(args, 46 + 24 * count, input);
     render_first(
         all_cues(args),
         count,
@@ -112,24 +111,16 @@ fn show_lent(
     ensures { draft result out.new ≡ rendered_answer args.now count (length input.old)
         planes.old at n out.old }
 {
-    let played = render_lent(args, count, input, planes);
-    probe_answer::put_played(played.refusal, played.samples, &planes[at..at + n], out)
+    let answer = render_lent(args, count, input, planes);
+    let shown = &planes[at..at + n];
+    probe_answer::put_played(refusals::number_in(answer), answer.unwrap_or(0), shown, out)
 }
 
 // Whether there is room for so many cues and outputs, and the part that is shown lies inside those.
 fn fits_room(count: usize, o: usize, at: usize, n: usize) -> bool
     ensures { result ≡ fits count o at n }
 {
-    if MOST_CUES < count {
-        return false;
-    }
-    if MOST_OUTPUTS < o {
-        return false;
-    }
-    if o < at {
-        return false;
-    }
-    n <= o - at
+    count <= MOST_CUES && o <= MOST_OUTPUTS && at <= o && n <= o - at
 }
 
 // Lends as many samples as the arguments say first, the outputs all holding the one that the request gives.

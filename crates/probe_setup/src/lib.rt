@@ -8,24 +8,37 @@
 
 ghost use Rattle.std.specs.Prelude.{◌≡◌, ◌+◌, ◌*◌, ◌≤◌, length};
 ghost use Rattle.big_endian.specs.Fields.{field_at};
-ghost use Rattle.hrtf_setup.specs.Arrangement.{arrangement};
+ghost use Rattle.hrtf_setup.specs.Arrangement.{arrangement, setup_answer};
 ghost use Rattle.probe_answer.specs.Answers.{draft};
 ghost use Rattle.probe_setup.specs.Answers.{shown, wanted_at, arranged_answer, set_up_answer, answer_of};
 
 use hrtf_setup::Arranged;
 use probe_request::{MOST_AZIMUTHS, MOST_WEIGHTS};
+use refusals::Refusal;
+
+// What a refused set-up has.
+const NOTHING: Arranged = Arranged {
+    speakers: 0,
+    channels: 0,
+};
 
 // Puts the answer, and the rows and the weights as they stand.
-fn put_arranged(arranged: Arranged, row_of: &[usize; 8], weights: &[f64], out: &mut [u8]) -> usize
+fn put_arranged(
+    answer: Result<Arranged, Refusal>,
+    row_of: &[usize; 8],
+    weights: &[f64],
+    out: &mut [u8],
+) -> usize
     ensures { draft result out.new ≡ shown
-        (record { answer = arranged; weights = weights.now; rows = row_of.now })
+        (record { answer = setup_answer answer; weights = weights.now; rows = row_of.now })
         out.old }
 {
-    let a = probe_answer::put(arranged.refusal as u64, 1, out, 0);
+    let arranged = answer.unwrap_or(NOTHING);
+    let a = probe_answer::put(refusals::number_in(answer) as u64, 1, out, 0);
     let b = probe_answer::put(arranged.speakers as u64, 8, out, a);
     let c = probe_answer::put(arranged.channels as u64, 8, out, b);
-    let d = probe_answer::put_usizes(row_of, out, c);
-    probe_answer::put_f64s(weights, out, d)
+    let d = probe_answer::put_list(row_of, out, c);
+    probe_answer::put_list(weights, out, d)
 }
 
 // 19 sets up a layout, 20 the virtual speakers for an order, which stands in the same place.
@@ -36,8 +49,8 @@ fn arrange(
     elevations: &[i16],
     weights: &mut [f64],
     row_of: &mut [usize; 8],
-) -> Arranged
-    ensures { record { answer = result; weights = weights.new; rows = row_of.new }
+) -> Result<Arranged, Refusal>
+    ensures { record { answer = setup_answer result; weights = weights.new; rows = row_of.new }
         ≡ arrangement (wanted_at operation args.now) azimuths.now elevations.now
         (field_at args.now 4 8) weights.old row_of.old }
 {
@@ -71,9 +84,9 @@ fn set_up_lent(
 {
     let elevations_at = at + 2 * azimuths.len();
     let weights_at = elevations_at + 2 * elevations.len();
-    probe_request::get_i16s(args, at, azimuths);
-    probe_request::get_i16s(args, elevations_at, elevations);
-    probe_request::get_f64s(args, weights_at, weights);
+    probe_request::get_list(args, at, azimuths);
+    probe_request::get_list(args, elevations_at, elevations);
+    probe_request::get_list(args, weights_at, weights);
     let mut row_of = probe_request::eight(args, 12);
     let arranged = arrange(operation, args, azimuths, elevations, weights, &mut row_of);
     put_arranged(arranged, &row_of, weights, out)

@@ -4,8 +4,8 @@ use Rattle.probe_bank.proofs.read_into.Goals as goal
 
 pub returns : goal.returns
 returns c =
-    let read = c.read-r in
+    let read = c.read-answer in
     let args = c.args.args.now in
-    read_put args _ _ _ _ _ _ _ _ _ _ _ (file_rest 6 args) c.fill_i16s.ensures
-    c.fill_i16s-2.ensures c.fill_f32s.ensures read.ensures.bits
+    read_put args _ _ _ _ _ _ _ _ _ _ _ (file_rest 6 args) c.fill.ensures
+    c.fill-2.ensures c.fill-3.ensures read.ensures.bits
     read.auto.taps c.lent-shown.ensures c.put_read.ensures

@@ -5,5 +5,5 @@ use Rattle.probe_bank.proofs.turn_into.Goals as goal
 pub returns : goal.returns
 returns c =
     let args = c.args.args.now in
-    turn_put _ args _ _ c.put_written.ensures c.turned-r.ensures (file_rest 2 args)
-    c.fill_bytes.ensures
+    turn_put _ args _ _ c.put_written.ensures c.turned-answer.ensures (file_rest 2 args)
+    c.fill.ensures

@@ -8,7 +8,7 @@ returns c =
     let args = c.args in
     write_read args.args.now args.azimuths.now args.elevations.now args.taps.now
     (length args.file.now) args.out.now _ _ _ _ _ c.if-args-taps_at.false
-    c.get_i16s.ensures c.get_i16s-2.ensures c.get_f32s.ensures
+    c.get_list.ensures c.get_list-2.ensures c.get_list-3.ensures
     c.number-l.ensures c.write_from.ensures
 
 pub returns-then-args-taps_at : goal.returns-then-args-taps_at

@@ -1,7 +1,6 @@
 -- `probe_gains::coefficients` meets its contract. Assumes nothing.
-use Rattle.lists.specs.Prelude.{ℕ, List}
-use Rattle.harmonics.specs.declared.Coefficients.{Coefficients}
-use Rattle.harmonics.specs.Promise.{outcome}
+use Rattle.lists.specs.Prelude.{◌∙◌, ℕ, List, of_bits}
+use Rattle.harmonics.specs.Promise.{Coefficients, outcome}
 use Rattle.probe_answer.specs.Answers.{refusal_and_doubles}
 use Rattle.probe_answer.proofs.Meets.{untaken, called_two}
 use Rattle.probe_gains.specs.Answers.{harmonics_answer}
@@ -12,6 +11,11 @@ unfolding harmonics_answer
 returns-then-args-ne24 c = search untaken
 
 pub returns : goal.returns
-unfolding harmonics_answer
+unfolding harmonics_answer of_bits
 returns c =
-    search (called_two (λ (r : Coefficients) (out : List ℕ). refusal_and_doubles r.refusal r.gains out) outcome)
+    let a = c.args in
+    called_two (λ (r : Coefficients) (out : List ℕ). refusal_and_doubles r.refusal r.gains out) outcome
+    24 a.args.now a.out.now
+    (c.put_refusal_and_f64s.ensures
+    ∙ (λ i. refusal_and_doubles (c.number_in.ensures i) (c.unwrap_or-gains.ensures i) a.out.now))
+    c.compute_sh_coefficients-answer.ensures.bits c.number-order.ensures c.direction.ensures c.if-args-ne24.false

@@ -19,9 +19,10 @@ returns c =
     let a = c.args in
     let right = c.if-args-weights.false in
     let layout = layout_read a.args.now 10 _ _ _ c.layout-layout.ensures c.number.ensures c.number-2.ensures in
-    let weights = inside double_at 8 a.args.now 19 a.weights.now _ c.get_f64s.ensures (omega (arith, right)) in
+    let weights = inside double_at 8 a.args.now 19 a.weights.now _ c.get_list.ensures (omega (arith, right)) in
     answered (λ (r : WeightsAnswer). refusal_and_doubles r.refusal r.weights a.out.now)
     (19 + 8 * length a.weights.now) a.args.now _ right
-    (c.compute_decoder_matrix-refusal.ensures.bits
+    (c.compute_decoder_matrix-answer.ensures.bits
     ∙ (λ i. outcome (c.number-order.ensures i) (layout i) (weights i)))
-    c.put_refusal_and_f64s.ensures
+    (c.put_refusal_and_f64s.ensures
+    ∙ (λ i. refusal_and_doubles (c.number_in.ensures i) c.compute_decoder_matrix-answer.new.weights a.out.now))

@@ -18,8 +18,9 @@ unfolding rows_answer
 returns c =
     let a = c.args in
     let right = c.if-args-weights.false in
-    let weights = inside double_at 8 a.args.now 10 a.weights.now _ c.get_f64s.ensures (omega (arith, right)) in
+    let weights = inside double_at 8 a.args.now 10 a.weights.now _ c.get_list.ensures (omega (arith, right)) in
     answered (λ (r : WeightsAnswer). refusal_and_doubles r.refusal r.weights a.out.now)
     (10 + 8 * length a.weights.now) a.args.now _ right
-    (c.compute_matrix-refusal.ensures ∙ (λ i. outcome (c.number.ensures i) (weights i)))
-    c.put_refusal_and_f64s.ensures
+    (c.compute_matrix-answer.ensures ∙ (λ i. outcome (c.number.ensures i) (weights i)))
+    (c.put_refusal_and_f64s.ensures
+    ∙ (λ i. refusal_and_doubles (c.number_in.ensures i) c.compute_matrix-answer.new.weights a.out.now))

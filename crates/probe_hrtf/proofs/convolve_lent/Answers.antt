@@ -15,6 +15,6 @@ pub returns : goal.returns
 returns c =
     let long = c.well_formed.0.1 in
     summed c.args.args.now _ _ _ c.behind.ensures c.behind-at_taps.ensures
-    (omega arith) c.if-args-behind.false c.put_f64s.ensures
+    (omega arith) c.if-args-behind.false c.put_list.ensures
     c.convolve.ensures c.number.ensures
-    c.get_f32s.ensures c.get_f32s-2.ensures
+    c.get_list.ensures c.get_list-2.ensures

@@ -12,5 +12,5 @@ returns c =
     (listed a.inputs.now a.weights.now a.taps.now a.rings.now a.ears.now) (omega arith)
     c.behind-at_weights.ensures c.behind-at_taps.ensures c.behind-at_rings.ensures
     c.behind-at_ears.ensures c.behind-end.ensures
-    c.get_f32s.ensures c.get_f64s.ensures c.get_f32s-2.ensures
-    c.get_f32s-3.ensures c.get_f32s-4.ensures
+    c.get_list.ensures c.get_list-2.ensures c.get_list-3.ensures
+    c.get_list-4.ensures c.get_list-5.ensures

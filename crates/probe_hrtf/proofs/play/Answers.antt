@@ -5,7 +5,7 @@ use Rattle.probe_hrtf.proofs.play.Goals as goal
 
 pub returns : goal.returns
 returns c =
-    played _ _ _ _ _ _ _ c.put_f32s.ensures c.put_f32s-after_rings.ensures
+    played _ _ _ _ _ _ _ c.put_list.ensures c.put_list-after_rings.ensures
     c.put_counts-after_counts.ensures c.process-played.ensures.bits c.shape.ensures
-    c.desk.ensures c.number.ensures c.number-2.ensures
+    c.desk-given.ensures c.number.ensures c.number-2.ensures
     c.eight-row_of.ensures

@@ -15,8 +15,8 @@ returns-then-args-behind c =
 pub returns : goal.returns
 returns c =
     let long = c.well_formed.0.1 in
-    rested c.args.args.now _ _ c.put_f32s.ensures c.put_desk-after_desk.ensures
+    rested c.args.args.now _ _ c.put_list.ensures c.put_desk-after_desk.ensures
     c.put-after_refusal.ensures
-    c.reset-rested.ensures.bits c.desk.ensures c.number.ensures
-    c.number-2.ensures c.get_f32s.ensures c.if-args-behind.false
+    c.reset-rested.ensures.bits c.number_in.ensures c.unwrap_or.ensures c.desk-given.ensures c.number.ensures
+    c.number-2.ensures c.get_list.ensures c.if-args-behind.false
     c.behind.ensures (omega arith)

@@ -14,5 +14,5 @@ pub returns : goal.returns
 returns c =
     let long = c.well_formed.0.1 in
     lists_played c.args.args.now _ _ _ _ _ _ c.args.stamps.now (omega arith)
-    c.get_lists-at_stamps.ensures c.behind.ensures c.if-args-behind.false c.get_u32s.ensures
+    c.get_lists-at_stamps.ensures c.behind.ensures c.if-args-behind.false c.get_list.ensures
     c.play.ensures
