@@ -55,15 +55,10 @@ fn take_one(
     let count = so_far.count;
     let expected = so_far.expected;
     let stamp = stamps[at];
-    let what = stamps::coming(expected, stamp);
-    match what {
+    match stamps::coming(expected, stamp) {
         Arrival::Next => {
-            put_frame(
-                block,
-                count,
-                channels,
-                |p| planes::sample(inputs, stride, p, at),
-            );
+            let recorded = |p| planes::sample(inputs, stride, p, at);
+            put_frame(block, count, channels, recorded);
             let next = stamps::then_expected(expected, stamp);
             Gathered {
                 count: count + 1,

@@ -11,7 +11,7 @@ pub returns-in-Ahead : goal.returns-in-Ahead
 unfolding of_bits
 returns-in-Ahead c =
     let a = c.args in
-    took _ _ _ _ _ _ _ _ (Ahead _) _ _ c.coming-what.ensures refl
+    took _ _ _ _ _ _ _ _ (Ahead _) _ _ c.coming.ensures refl
     (omega (arith, c.type_inv.stamps c.args.so_far.at)) c.in-Ahead.is (cc)
     (c.put_frame-in-Ahead.ensures (λ p. zero_float) (λ p x lt h. search rules)
     ∙ ap (with_frame a.block.now 64 a.so_far.count) (tab_constant 0 a.channels zero_float))
