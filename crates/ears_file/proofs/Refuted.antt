@@ -21,8 +21,8 @@ use Rattle.hrtf_history.specs.Signals.{signals}
 use Rattle.hrtf_history.specs.History.{unsettled, unsettled_in}
 use Rattle.ears_wire.specs.Records.{whole_in_of, rest_in}
 use Rattle.ears_wire.specs.Frames.{frame_of, line_frames}
-use Rattle.ears_file.specs.Lines.{Ended}
-use Rattle.ears_file.specs.Lines.{RunOutcome}
+use Rattle.ears_file.specs.declared.Ended.{Ended}
+use Rattle.ears_file.specs.declared.RunOutcome.{RunOutcome}
 use Rattle.ears_wire.specs.Counting.{counted_on}
 use Rattle.ears_wire.specs.Line.{refused_word, refused_line, refused_at_line}
 use Rattle.ears_wire.proofs.Drill.{refused_fourteen}

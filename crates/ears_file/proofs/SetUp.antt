@@ -24,8 +24,8 @@ use Rattle.hrtf_setup.proofs.Accepted.{Playable, surround_playable}
 use Rattle.bank.specs.Reading.{bank_found}
 use Rattle.hrtf_rings.specs.State.{StateFits}
 use Rattle.hrtf_runs.proofs.NeverRefused.{few_rows, short_filters, good_bank_set_up, set_up_accepted}
-use Rattle.ears_file.specs.Lines.{Ended}
-use Rattle.ears_file.specs.Lines.{RunOutcome}
+use Rattle.ears_file.specs.declared.Ended.{Ended}
+use Rattle.ears_file.specs.declared.RunOutcome.{RunOutcome}
 use Rattle.ears_file.specs.Lines.{arranged, setup_with, part_frame, refused_bank, ends_as, item_ten}
 use Rattle.files.specs.Promise.{Found}
 use Rattle.ears_file.specs.Promise.{Ends, Answers}

@@ -1,6 +1,6 @@
 -- A step of the loop: a read keeps what stands for the line, nothing more is a part of no bytes, and silence stands for
 -- a line of none. Assumes nothing.
-use Rattle.std.specs.Prelude.{◌≡◌, ◌++◌, ◌*◌, ◌≤◌, ◌<◌}
+use Rattle.std.specs.Prelude.{◌≡◌, ◌++◌, ◌*◌, ◌≤◌, ◌<◌, Result, Ok, Err, IfErr}
 use Rattle.lists.specs.Prelude.{refl, sym, ap, ◌∙◌, subst, Bool, true, false, List, [], flat_map, append-nil, ℕ, arith}
 use Rattle.lists.specs.Prelude.{ne_eqb, eqb, length, take, drop, replicate, length-take, length-drop, Float}
 use Rattle.std.specs.declared.option.Option.{Option}
@@ -46,6 +46,14 @@ pub went_on : (u : Setup) (p : Progress) (rings : List Float) (bytes part : List
     → Stands u line p rings bytes → Stands u (line ++ part) r.progress rings₁ bytes₁
 went_on u p rings bytes part step r {rings₁} {bytes₁} {out₁} e f =
     (subst (λ (s : Option Turn). Further u p rings bytes part (turn_or_none p s) rings₁ bytes₁ out₁) e f).stands
+
+-- what a step goes on to, it has gone on to where it then fails
+pub failing_further : {A E : Type 0} {u : Setup} {p : Progress} {rings : List Float} {bytes part : List ℕ} {r : Turn}
+    {rings₁ : List Float} {bytes₁ out₁ : List ℕ} (x : Result A E)
+    → Further u p rings bytes part r rings₁ bytes₁ out₁
+    → IfErr x (λ e. (part : List ℕ) × (turn : Turn) × Further u p rings bytes part turn rings₁ bytes₁ out₁)
+failing_further (Ok a) f = tt
+failing_further {part = part} {r = r} (Err e) f = (part, r, f)
 
 -- ---- a read
 

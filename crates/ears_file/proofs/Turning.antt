@@ -19,8 +19,9 @@ use Rattle.hrtf_rings.proofs.Blocks.{rings_room, waits_few}
 use Rattle.hrtf_checks.specs.declared.ConvolverShape.{ConvolverShape}
 use Rattle.hrtf_checks.specs.Call.{BlockCall, setup_of}
 use Rattle.hrtf_checks.specs.Refusals.{refusal_of}
-use Rattle.hrtf.specs.Promise.{BlockOutcome, ProcessPromise, state_after}
-use Rattle.hrtf.proofs.Meets.{ears_over, unsettled_over}
+use Rattle.hrtf.specs.declared.BlockAnswer.{BlockAnswer}
+use Rattle.hrtf.specs.Promise.{BlockOutcome, block_told, ProcessPromise, state_after}
+use Rattle.hrtf.proofs.Meets.{process_ok, ears_over, unsettled_over}
 use Rattle.ears_wire.specs.Records.{whole_in_of, rest_in}
 use Rattle.ears_wire.specs.Frames.{frame_of, line_frames}
 use Rattle.ears_wire.specs.Ears.{ear_bytes}
@@ -40,7 +41,7 @@ use Rattle.ears_file.specs.Turns.{BlocksAccepted, Stands, Further}
 use Rattle.ears_file.proofs.Cuts.{past_more, unsettled_more, whole_more}
 
 -- rings and a desk that stand for a past fit
-represents_fits : (u : Setup) (past : List (List Float)) (t : State) → Represents u past t
+pub represents_fits : (u : Setup) (past : List (List Float)) (t : State) → Represents u past t
     → StateFits u.speakers u.L t
 represents_fits u past t r = record { ringed = rings_room u past t r; within = r.0; waits = waits_few u past t r }
 
@@ -77,6 +78,17 @@ frames_ok size bytes inputs inputs₁ r most long inputs_long e =
     (e ∙ taken_accepted (take size bytes) 1024 inputs
     (planes_fit (length inputs) 6 1024 (whole_in_of 24 (take size bytes)) (frames_room size bytes most long)
     inputs_long)))
+
+-- with a set-up that is ready and a state that fits no block is refused
+pub block_ok : (h : ConvolverShape) (weights : List Float) (rows : List ℕ) (taps : List Float)
+    → BlocksAccepted h weights rows taps → (n : ℕ) (inputs ears : List Float) (t : State) → n ≤ 1024
+    → length inputs ≡ 6144 → length ears ≡ 2048 → StateFits h.speakers h.length t
+    → (r : Result BlockAnswer Refusal) {rings₁ ears₁ : List Float}
+    → ProcessPromise (block h weights rows taps n inputs ears) t
+    (record { answer = block_told t.desk r; rings = rings₁; ears = ears₁ }) → IsOk r
+block_ok h weights rows taps ready n inputs ears t few inputs_long ears_long fits r p =
+    process_ok (block h weights rows taps n inputs ears) t r
+    (ready.accepts n inputs ears t few inputs_long ears_long fits) p
 
 pub ears_ok : (ears : List Float) (n : ℕ) (out out₁ : List ℕ) (r : Result ℕ Refusal) → n ≤ 1024
     → length ears ≡ 2048 → length out ≡ 8192

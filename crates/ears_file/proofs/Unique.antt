@@ -7,8 +7,9 @@ use Rattle.lists.specs.Prelude.{refl, sym, ap, ◌∙◌, false≢true}
 use denote.Triple.Entry.{Args}
 use denote.Triple.Clauses.{Ended}
 use denote.RattleType.{RattleType}
-use denote.Param.Laws.{Laws}
+use denote.Param.Laws.{IsCopy, Laws}
 use mir.Syntax.{Dict}
+use Rattle.std.specs.declared.clone.Clone as Clone
 use Rattle.std.specs.declared.fd.AsRawFd as AsRawFd
 use Rattle.std.specs.declared.fs.files.Files as Files
 use Rattle.std.specs.declared.fs.files.OpenFile as OpenFile
@@ -23,14 +24,20 @@ use Rattle.hrtf.proofs.Meets.{has_number}
 use Rattle.ears_file.specs.declared.RunCounts.{RunCounts}
 use Rattle.ears_file.specs.declared.RunError.{RunError}
 use Rattle.ears_file.specs.declared.RunError.TheVariants.{Failed, Refused}
-use Rattle.ears_file.specs.Lines.{Ended as RunEnd, outcome_of}
+use Rattle.ears_file.specs.declared.ToOutcome as ToOutcome
+use Rattle.ears_file.specs.declared.Ended.{Ended as RunEnd}
+use Rattle.ears_file.specs.Lines.{outcome_of}
 use Rattle.ears_file.specs.contracts.result_line as result_line
 use Rattle.ears_file.proofs.result_line.Reads as result_line_reads
 use Rattle.ears_file.specs.contracts.run as run
 use Rattle.ears_file.proofs.run.Reads as run_reads
 
-result_line_unique : AllowsOneAnswer result_line.ended result_line_reads.Learnt
-result_line_unique κs a = determined_by (λ z h i. ((h.0 i).size, (_, ((h.0 i).out, _))))
+-- of what `run` answers, and of its numbers
+module _ (T : RattleType) (laws : Laws T) (copy : IsCopy T) (outcome : ToOutcome.Ghosts T.Denot) (dict : Dict)
+    (cloned : Clone.Ghosts T.Denot) (clone : Dict) where
+  result_line_unique : AllowsOneAnswer (result_line.ended T outcome dict cloned clone)
+      (result_line_reads.Learnt T laws copy outcome dict cloned clone)
+  result_line_unique κs a = determined_by (λ z h i. ((h.0 i).size, (_, ((h.0 i).out, _))))
 
 -- what is told of a run is known by whether it failed and how it ended
 outcome_apart : (x y : Result RunCounts RunError) → (outcome_of x).failed ≡ (outcome_of y).failed

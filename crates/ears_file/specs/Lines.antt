@@ -3,7 +3,7 @@
 -- 02, E2, of a bad bank: "9 is no longer given for a bank, only for a part frame. The program prints number and place,
 -- as `refused 14 at 1`; a missing bank is read as empty." Definitions only.
 use Rattle.std.specs.Prelude.{◌∷◌, Result, Ok, Err}
-use Rattle.lists.specs.Prelude.{ℕ, Bool, true, false, cond, not, List, [], eqb, pos, length, replicate}
+use Rattle.lists.specs.Prelude.{ℕ, true, false, cond, not, List, [], eqb, pos, length, replicate}
 use Rattle.refusals.specs.Refusals.{first_of, ◌when◌, answered}
 use Rattle.channel.specs.declared.Layout.TheVariants.{Surround51}
 use Rattle.bank_form.specs.Bank.{Bank, rows}
@@ -18,21 +18,11 @@ use Rattle.ears_wire.specs.Records.{whole_in_of, rest_in}
 use Rattle.ears_wire.specs.Frames.{line_frames}
 use Rattle.ears_wire.specs.Line.{frames_line, refused_line, refused_at_line}
 use Rattle.ears_wire.specs.Counting.{counted_on}
+use Rattle.ears_file.specs.declared.Ended.{Ended}
+use Rattle.ears_file.specs.declared.RunOutcome.{RunOutcome}
 use Rattle.ears_file.specs.declared.RunCounts.{RunCounts}
 use Rattle.ears_file.specs.declared.RunError.{RunError}
 use Rattle.ears_file.specs.declared.RunError.TheVariants.{Failed, Refused}
-
--- how a run ended: refused, with the byte of the bank that is wrong, or 0 with the counts
-pub record Ended : Type 0 where
-  pub refusal : ℕ
-  pub place : ℕ
-  pub frames : ℕ
-  pub unsettled : ℕ
-
--- and whether the system failed
-pub record RunOutcome : Type 0 where
-  pub failed : Bool
-  pub ended : Ended
 
 -- what a bank is read into: lists of eight zeros
 abbrev pub read_in : Bank → ReadOutcome

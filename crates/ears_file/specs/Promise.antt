@@ -7,8 +7,8 @@ use Rattle.hrtf_history.specs.History.{heard, after}
 use Rattle.ears_wire.specs.Records.{rest_in}
 use Rattle.ears_wire.specs.Frames.{line_frames}
 use Rattle.ears_wire.specs.Ears.{ear_bytes}
-use Rattle.ears_file.specs.Lines.{Ended}
-use Rattle.ears_file.specs.Lines.{RunOutcome}
+use Rattle.ears_file.specs.declared.Ended.{Ended}
+use Rattle.ears_file.specs.declared.RunOutcome.{RunOutcome}
 use Rattle.ears_file.specs.Lines.{ears_of, part_frame, item_ten}
 
 -- a run ends as some line does; one that failed ends as one with a part frame, and is told apart

@@ -14,7 +14,7 @@ use Rattle.hrtf_checks.specs.declared.ConvolverShape.{ConvolverShape}
 use Rattle.hrtf_checks.specs.Refusals.{refusal_of}
 use Rattle.ears_wire.specs.Records.{whole_in_of, rest_in}
 use Rattle.ears_wire.specs.Frames.{line_frames}
-use Rattle.ears_file.specs.Lines.{Ended}
+use Rattle.ears_file.specs.declared.Ended.{Ended}
 use Rattle.ears_file.specs.declared.turn.Progress.{Progress}
 use Rattle.ears_file.specs.declared.turn.Turn.{Turn}
 use Rattle.ears_wire.specs.Counting.{counted_on}

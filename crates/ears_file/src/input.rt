@@ -2,8 +2,10 @@
 // promises that some bytes more have come, and the loop that its answer is that of some line.
 ghost use Rattle.std.specs.Prelude.{◌≡◌, false, List, ℕ, ◌*◌, ◌<◌, eqb, is_none, length, replicate, IfOk, IfErr};
 ghost use Rattle.ears_file.specs.declared.RunError.{RunError};
+ghost use Rattle.ears_file.specs.declared.turn.Turn.{Turn};
 ghost use Rattle.io.specs.Counts.{IsPrefixLen};
 ghost use Rattle.formats.specs.Floats.{zero_float};
+ghost use Rattle.hrtf_rings.specs.State.{StateFits};
 ghost use Rattle.hrtf_checks.specs.Call.{setup_of};
 ghost use Rattle.ears_file.specs.Lines.{ends_as, outcome_of};
 ghost use Rattle.ears_file.specs.Promise.{Ends};
@@ -36,7 +38,7 @@ fn write_some<E: Eprint, W: Write>(
 }
 
 // Reads, plays and writes once, and answers the turn: a part more has come. Where none has, the line is over, and there
-// is no turn.
+// is no turn. Where a read or a write fails, a part more has come all the same.
 fn step<E: Eprint, L: Read, W: Write>(
     rt: &E,
     progress: Progress,
@@ -54,8 +56,13 @@ fn step<E: Eprint, L: Read, W: Write>(
     text: &mut [u8; 8192],
 ) -> Result<Option<Turn>, RunError>
     requires blocks_accepted { BlocksAccepted shape weights.now row_of.now taps.now }
+    requires state_fits { StateFits shape.speakers shape.length (record { rings = rings.old; desk = progress.desk }) }
     requires held_bound { progress.held < 24 }
     ensures failed { IfErr result (λ e. e ≡ RunError.Failed) }
+    ensures failed_further { IfErr result (λ e. (part : List ℕ) × (turn : Turn)
+        × Further (setup_of shape weights.now row_of.now taps.now)
+        progress rings.old bytes.old part turn rings.new bytes.new
+        text.new) }
     ensures further { IfOk result (λ turn. (part : List ℕ) × (is_none turn ≡ eqb (length part) 0)
         × Further (setup_of shape weights.now row_of.now taps.now)
         progress rings.old bytes.old part (turn_or_none progress turn) rings.new bytes.new

@@ -10,13 +10,13 @@
 // bank and some line, whatever the system hands over; a bank that keeps the form is refused nowhere.
 #![tactic(auto)]
 
-ghost use Rattle.std.specs.Prelude.{List, Float, pos, replicate, Ok, Err};
+ghost use Rattle.std.specs.Prelude.{◌≡◌, List, Float, pos, replicate, Ok};
 ghost use Rattle.io.specs.Counts.{IsPrefixLen};
-ghost use Rattle.refusals.specs.Numbers.{number_of};
 ghost use Rattle.bank_form.specs.Fault.{told_as_number};
 ghost use Rattle.bank.specs.Reading.{bank_found, read_answer};
 ghost use Rattle.ears_wire.specs.Promise.{Lined};
-ghost use Rattle.ears_file.specs.Lines.{setup_with, refused_bank, ends_as, outcome_of, refusal_line, result_line};
+ghost use Rattle.ears_file.specs.declared.RunOutcome.{RunOutcome};
+ghost use Rattle.ears_file.specs.Lines.{setup_with, refused_bank, ends_as, outcome_of, result_line};
 ghost use Rattle.files.specs.Promise.{Found};
 ghost use Rattle.ears_file.specs.Promise.{Ends, Answers};
 
@@ -45,6 +45,38 @@ pub struct RunCounts {
 pub enum RunError {
     Failed,
     Refused(Fault),
+}
+
+// How a run ended, by document 01's number: refused, with the byte of the bank that is wrong, or 0 with the counts.
+// Kept: `result_line` promises the line of any numbers, and not of those alone that a `Result` of `run` has.
+#[derive(Clone, Copy)]
+pub struct Ended {
+    pub refusal: u8,
+    pub place: u64,
+    pub frames: u64,
+    pub unsettled: u64,
+}
+
+// What is told of a run: whether the system failed, and how it ended otherwise.
+#[derive(Clone, Copy)]
+pub struct RunOutcome {
+    pub failed: bool,
+    pub ended: Ended,
+}
+
+// The number of a part frame, which is told without a place.
+const PART_FRAME: u8 = 9;
+
+// An end with no counts.
+fn refused_at(refusal: Refusal, offset: usize) -> Ended
+    ensures { result ≡ refused_bank (told_as_number (record { refusal = refusal; offset = offset })) }
+{
+    Ended {
+        refusal: refusal.number(),
+        place: offset as u64,
+        frames: 0,
+        unsettled: 0,
+    }
 }
 
 // Plays the whole line with a bank that was read and keeps the form: six speakers are set up by it, and rings of the
@@ -154,38 +186,72 @@ where
     run
 }
 
-// Puts the line of a refusal: with its place, but for a part frame.
-fn refusal_line(fault: Fault, out: &mut [u8]) -> usize
-    ensures lined { Lined out.old
-        (refusal_line (refused_bank (told_as_number fault)) (number_of fault.refusal)) result out.new }
-    ensures room { IsPrefixLen result out.new }
-{
-    let number = fault.refusal.number();
-    match fault.refusal {
-        Refusal::PartFrame => ears_wire::refused_line(number, out),
-        _ => ears_wire::refused_at_line(number, fault.offset as u64, out),
+// What a run is told by: what `run` answers, or its numbers.
+pub trait ToOutcome: Copy {
+    ghost outcome: { Self → RunOutcome };
+
+    // The same in numbers.
+    fn to_outcome(self) -> RunOutcome
+        ensures { result ≡ outcome self };
+}
+
+impl ToOutcome for RunOutcome {
+    ghost outcome = { λ r. r };
+
+    fn to_outcome(self) -> RunOutcome {
+        self
     }
 }
 
-// Puts the line of a run that played no whole line: none where the system failed.
-fn error_line(error: RunError, out: &mut [u8]) -> usize
-    ensures lined { Lined out.old (result_line (outcome_of (Err error))) result out.new }
+impl ToOutcome for Result<RunCounts, RunError> {
+    ghost outcome = { outcome_of };
+
+    fn to_outcome(self) -> RunOutcome {
+        match self {
+            Ok(counts) => RunOutcome {
+                failed: false,
+                ended: Ended {
+                    refusal: 0,
+                    place: 0,
+                    frames: counts.frames,
+                    unsettled: counts.unsettled,
+                },
+            },
+            Err(RunError::Failed) => RunOutcome {
+                failed: true,
+                ended: refused_at(Refusal::PartFrame, 0),
+            },
+            Err(RunError::Refused(fault)) => RunOutcome {
+                failed: false,
+                ended: refused_at(fault.refusal, fault.offset),
+            },
+        }
+    }
+}
+
+// Puts the line of an outcome: none for a run that failed, and a refusal with its place, but for a part frame.
+fn outcome_line(run: RunOutcome, out: &mut [u8]) -> usize
+    ensures lined { Lined out.old (result_line run) result out.new }
     ensures room { IsPrefixLen result out.new }
 {
-    match error {
-        RunError::Failed => 0,
-        RunError::Refused(fault) => refusal_line(fault, out),
+    if run.failed {
+        return 0;
     }
+    let ended = run.ended;
+    if ended.refusal == 0 {
+        return ears_wire::frames_line(ended.frames, ended.unsettled, out);
+    }
+    if ended.refusal == PART_FRAME {
+        return ears_wire::refused_line(ended.refusal, out);
+    }
+    ears_wire::refused_at_line(ended.refusal, ended.place, out)
 }
 
 // Puts the line that a run is told by at the start of out, and answers its length: none for a run that failed,
 // which is told on standard error.
-pub fn result_line(run: Result<RunCounts, RunError>, out: &mut [u8]) -> usize
-    ensures lined { Lined out.old (result_line (outcome_of run)) result out.new }
+pub fn result_line<T: ToOutcome>(run: T, out: &mut [u8]) -> usize
+    ensures lined { Lined out.old (result_line (T.outcome run)) result out.new }
     ensures room { IsPrefixLen result out.new }
 {
-    match run {
-        Ok(counts) => ears_wire::frames_line(counts.frames, counts.unsettled, out),
-        Err(error) => error_line(error, out),
-    }
+    outcome_line(run.to_outcome(), out)
 }

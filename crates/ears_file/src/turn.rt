@@ -2,13 +2,13 @@
 // frames are played by the convolver, the ears go out as bytes, and what is left of a frame that has not come
 // whole stays for the next turn. All that is remembered between turns is one small record.
 //
-// The convolver judges each block once, and a set-up that is ready is never refused: so its refusal is not asked for.
+// The convolver judges each block once, and with a set-up that is ready and a state that fits none is refused.
 ghost use Rattle.std.specs.Prelude.{◌≡◌, ◌≤◌, ◌<◌, length, take, drop};
 ghost use Rattle.io.specs.Counts.{IsPrefixLen};
+ghost use Rattle.hrtf_rings.specs.State.{StateFits};
 ghost use Rattle.hrtf_checks.specs.Call.{setup_of};
 ghost use Rattle.ears_file.specs.Turns.{at_start, BlocksAccepted, Further};
 
-use hrtf::BlockAnswer;
 use hrtf_checks::ConvolverShape;
 use hrtf_desk::Desk;
 
@@ -65,6 +65,7 @@ pub(crate) fn play(
     out: &mut [u8; 8192],
 ) -> Turn
     requires blocks_accepted { BlocksAccepted shape weights.now row_of.now taps.now }
+    requires state_fits { StateFits shape.speakers shape.length (record { rings = rings.old; desk = progress.desk }) }
     requires held_lt_size { (progress.held < size) × (size ≤ 24576) × (size ≤ length bytes.old) }
     ensures further { Further (setup_of shape weights.now row_of.now taps.now)
         progress rings.old bytes.old (drop progress.held (take size bytes.old))
@@ -75,12 +76,8 @@ pub(crate) fn play(
     let frames = ears_wire::frames_from_bytes(&bytes[..size], BLOCK, inputs).unwrap();
     let played = hrtf::process(
         desk, shape, frames, BLOCK, inputs, weights, row_of, taps, rings, ears,
-    );
-    let played = played.unwrap_or(BlockAnswer {
-        samples: 0,
-        unsettled: 0,
-        desk,
-    });
+    )
+    .unwrap();
     let given = ears_wire::bytes_from_ears(ears, BLOCK, frames, out).unwrap();
     let from = frames * FRAME;
     ears_wire::keep_rest(bytes, from, size);

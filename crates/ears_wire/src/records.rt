@@ -8,7 +8,7 @@ ghost use Rattle.ears_wire.specs.Counting.{counted_on};
 pub fn keep_rest(bytes: &mut [u8], from: usize, to: usize)
     ensures { bytes.new ≡ placed bytes.old 0 (drop from (take to bytes.old)) }
 {
-    let end = to.min(bytes.len());
+    let end = checks::min(to, bytes.len());
     if from < end {
         bytes.copy_within(from..end, 0);
     }

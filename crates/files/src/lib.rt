@@ -47,7 +47,7 @@ pub fn read_some<R: Read>(
         (λ n. ReadBehind held limit bytes.old false n bytes.new)
         (λ _. ReadBehind held limit bytes.old true (min held (length bytes.old)) bytes.new) }
 {
-    let at = held.min(bytes.len());
+    let at = checks::min(held, bytes.len());
     let end = end_of_read(at, limit, bytes.len());
     let got = file.read(&mut bytes[at..end])?;
     Ok(at + got)
@@ -150,7 +150,7 @@ fn read_sized(
           taps = taps.new;
         }) }
 {
-    let n = size.min(bytes.len());
+    let n = checks::min(size, bytes.len());
     bank::read_start(&bytes[..n], size, azimuths, elevations, taps)
 }
 

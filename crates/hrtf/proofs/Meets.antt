@@ -1,12 +1,12 @@
 -- From what the block leaves to what `process` promises, and from filled rings to what `reset` promises. What document
 -- 01 says besides of a call: zero frames change nothing, and frames beyond the count are as they were. Assumes nothing.
-use Rattle.std.specs.Prelude.{◌≡◌, ◌*◌, ◌≤◌, ◌<◌}
+use Rattle.std.specs.Prelude.{◌≡◌, ◌*◌, ◌≤◌, ◌<◌, Result, Ok, IsOk}
 use Rattle.lists.specs.Prelude.{refl, sym, ap, ◌∙◌, subst, List, [], ℕ, zero, suc, zero-add, arith, length, get_or}
 use Rattle.lists.specs.Prelude.{replicate, take, Float, nan}
 use Rattle.formats.specs.Floats.{zero_float}
 use Rattle.refusals.specs.Numbers.{number_of}
 use Rattle.refusals.specs.declared.Refusal.{Refusal}
-use Rattle.refusals.proofs.Numbers.{number_above}
+use Rattle.refusals.proofs.Numbers.{number_above, accepted_ok}
 use Rattle.refusals.proofs.First.{answered_refused}
 use Rattle.refusals.proofs.Chains.{Off, FirstAt, number_at, first_holds, off_accepts, none_holds}
 use Rattle.planes.specs.Planes.{sample_at, frame_at, frames_of, with_frames}
@@ -25,7 +25,9 @@ use Rattle.hrtf_rings.proofs.Blocks.{played_held, left_is, counted_is, played_he
 use Rattle.hrtf_rings.proofs.Blocks.{fresh_represents}
 use Rattle.hrtf_checks.specs.Call.{BlockCall, setup, frames_in}
 use Rattle.hrtf_checks.specs.Refusals.{refusal_of}
-use Rattle.hrtf.specs.Promise.{BlockOutcome, refused, accepted, outcome_by, outcome, state_after, ProcessPromise}
+use Rattle.hrtf.specs.declared.BlockAnswer.{BlockAnswer}
+use Rattle.hrtf.specs.Promise.{BlockOutcome, block_told, refused, accepted, outcome_by, outcome, state_after}
+use Rattle.hrtf.specs.Promise.{ProcessPromise}
 use Rattle.hrtf.specs.Reset.{reset_checks, reset_refusal, ResetOutcome, reset_by_of, reset_outcome, ResetPromise}
 use Rattle.hrtf.specs.Computed.{block_computed, BlockPlayed}
 use Rattle.hrtf_checks.proofs.Refusing.{ears_fit, waits, ready}
@@ -106,6 +108,21 @@ promised_accepted c t rings₁ ears₁ desk₁ more e b =
       ears = ears₁;
     })
     (b ∙ sym (outcome_computed c t (sym e)))
+
+-- a call that is not refused has an answer
+pub process_ok : (c : BlockCall) (t : State) (r : Result BlockAnswer Refusal) {rings ears : List Float}
+    → refusal_of c t ≡ 0
+    → ProcessPromise c t (record { answer = block_told t.desk r; rings = rings; ears = ears }) → IsOk r
+process_ok c t r e p = accepted_ok r (ap (λ (o : BlockOutcome). o.answer.refusal) (p.bits ∙ outcome_computed c t e))
+
+-- what is promised of an answer that is accepted, said of what it holds
+pub block_promised : {c : BlockCall} {t : State} {r : Result BlockAnswer Refusal} {a : BlockAnswer}
+    {rings ears : List Float} → r ≡ Ok a
+    → ProcessPromise c t (record { answer = block_told t.desk r; rings = rings; ears = ears })
+    → ProcessPromise c t (record { answer = block_told t.desk (Ok a); rings = rings; ears = ears })
+block_promised {c} {t} {rings = rings} {ears = ears} e =
+    subst (λ (r : Result BlockAnswer Refusal). ProcessPromise c t
+    (record { answer = block_told t.desk r; rings = rings; ears = ears })) e
 
 -- zero frames change nothing
 pub none_played : (c : BlockCall) (t : State) → refusal_of c t ≡ 0 → c.frames ≡ 0

@@ -47,7 +47,7 @@ pub fn convolve(ring: &[f32], newest: usize, taps: &[f32]) -> f64
     ensures { result ≡ dot zero_float (unrolled (suc newest) ring.now) taps.now }
 {
     let split = cells_up_to(newest, ring.len());
-    let used = split.min(taps.len());
+    let used = checks::min(split, taps.len());
     let first = run_back(&ring[..split], &taps[..used], 0.0);
     run_back(&ring[split..], &taps[used..], first)
 }

@@ -1,7 +1,7 @@
 -- What is used of the convolver: a block of its own is not refused, what `hrtf::process` leaves of it, by its equation,
 -- and what `hrtf::reset` leaves. All that this crate knows of `hrtf` is said here. Assumes nothing.
 use Rattle.std.specs.Prelude.{◌≡◌, ◌*◌, ◌≤◌, Result, Ok, IsOk}
-use Rattle.lists.specs.Prelude.{sym, ap, ◌∙◌, subst, List, ℕ, length, Float}
+use Rattle.lists.specs.Prelude.{sym, ap, ◌∙◌, List, ℕ, length, Float}
 use Rattle.refusals.specs.Numbers.{value_in}
 use Rattle.refusals.specs.declared.Refusal.{Refusal}
 use Rattle.refusals.proofs.Numbers.{accepted_ok}
@@ -20,7 +20,7 @@ use Rattle.hrtf_checks.proofs.Refusing.{lengths_fit_lem, on_desk, accept}
 use Rattle.hrtf.specs.declared.BlockAnswer.{BlockAnswer}
 use Rattle.hrtf.specs.Promise.{BlockOutcome, block_told, state_after, ProcessPromise}
 use Rattle.hrtf.specs.Reset.{ResetOutcome, reset_told, reset_by_of, ResetPromise}
-use Rattle.hrtf.proofs.Meets.{outcome_by_lem, outcome_computed, reset_accepts, reset_by}
+use Rattle.hrtf.proofs.Meets.{outcome_by_lem, outcome_computed, process_ok, reset_accepts, reset_by}
 use Rattle.replay.specs.Recording.{Recording, setup_in}
 use Rattle.replay.specs.Heard.{rested}
 use Rattle.replay.specs.Computed.{state_with, RecordingChecked, BlockAndStateFit, ResetFits}
@@ -63,9 +63,7 @@ module _ {l : Recording} (good : RecordingChecked l) {t : State} {count : ℕ} {
   pub block_ok : (r : Result BlockAnswer Refusal) {rings₁ own₁ : List Float}
       → ProcessPromise (block_call l count block own) t
       (record { answer = block_told t.desk r; rings = rings₁; ears = own₁ }) → IsOk r
-  block_ok r p =
-      accepted_ok r (ap (λ (o : BlockOutcome). o.answer.refusal)
-      (p.bits ∙ outcome_computed (block_call l count block own) t block_accepted))
+  block_ok r p = process_ok (block_call l count block own) t r block_accepted p
 
   module _ {o : BlockOutcome} (p : ProcessPromise (block_call l count block own) t o) where
     abbrev fs : List (List Float)
@@ -85,15 +83,6 @@ module _ {l : Recording} (good : RecordingChecked l) {t : State} {count : ℕ} {
         ∙ heard_read (setup_in l) (held_in (setup_in l) t) fs own 64 count
         (length_tab 0 count (frame_at block 64 l.shape.channels)) few kept.eared
         ∙ sym (played_held (setup_in l) t fs kept.state.ringed kept.state.within)
-
--- what is promised of an answer that is accepted, said of what it holds
-pub block_promised : {c : BlockCall} {t : State} {r : Result BlockAnswer Refusal} {a : BlockAnswer}
-    {rings ears : List Float} → r ≡ Ok a
-    → ProcessPromise c t (record { answer = block_told t.desk r; rings = rings; ears = ears })
-    → ProcessPromise c t (record { answer = block_told t.desk (Ok a); rings = rings; ears = ears })
-block_promised {c} {t} {rings = rings} {ears = ears} e =
-    subst (λ (r : Result BlockAnswer Refusal). ProcessPromise c t
-    (record { answer = block_told t.desk r; rings = rings; ears = ears })) e
 
 -- ---- a reset
 

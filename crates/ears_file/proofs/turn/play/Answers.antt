@@ -1,16 +1,12 @@
 -- `ears_file::turn::play` meets its contract: `turn_further`, from the four calls. Assumes nothing.
-use Rattle.std.specs.Prelude.{◌≡◌, ◌-◌, ◌*◌, ◌≤◌}
-use Rattle.lists.specs.Prelude.{sym, ap, ◌∙◌, subst, arith, length, take, drop, length-take}
+use Rattle.std.specs.Prelude.{◌≡◌, ◌≤◌}
+use Rattle.lists.specs.Prelude.{sym, ap, ◌∙◌, arith, length, length-take}
 use Rattle.files.proofs.Parts.{counts}
 use Rattle.refusals.specs.Numbers.{value_in}
-use Rattle.hrtf.specs.declared.BlockAnswer.{BlockAnswer}
-use Rattle.hrtf_checks.specs.Call.{setup_of}
-use Rattle.hrtf_desk.specs.declared.Desk.{Desk}
-use Rattle.ears_wire.specs.Counting.{counted_on}
+use Rattle.hrtf.proofs.Meets.{block_promised}
 use Rattle.ears_wire.specs.Promise.{taken_told, given_told}
 use Rattle.ears_wire.proofs.Meets.{taken_few, given_few}
-use Rattle.ears_file.specs.Turns.{Further}
-use Rattle.ears_file.proofs.Turning.{frames_ok, ears_ok, turn_further}
+use Rattle.ears_file.proofs.Turning.{frames_ok, block_ok, ears_ok, turn_further}
 use Rattle.ears_file.proofs.turn.play.Goals as goal
 
 pub unwrap-frames-requires : goal.unwrap-frames-requires
@@ -39,6 +35,21 @@ overflow_sub-result c =
       length-take c.args.size c.args.bytes.now,
     )
 
+pub unwrap-played-requires : goal.unwrap-played-requires
+unwrap-played-requires c =
+    let a = c.args in
+    let few : c.unwrap-frames.result ≤ 1024 = omega (
+      arith,
+      taken_few _ _ _ _ c.frames_from_bytes.ensures,
+      ap (value_in 0) c.unwrap-frames.ensures,
+      length-take c.args.size c.args.bytes.now,
+      c.requires.held_lt_size,
+    ) in
+    let inputs_long : length c.frames_from_bytes.new.inputs ≡ 6144 = omega (arith, c.frames_from_bytes.auto.inputs) in
+    let ears_long : length a.ears.now ≡ 2048 = omega arith in
+    let ready = c.requires.blocks_accepted in
+    block_ok _ _ _ _ ready _ _ _ _ few inputs_long ears_long c.requires.state_fits _ c.process.ensures
+
 pub unwrap-given-requires : goal.unwrap-given-requires
 unwrap-given-requires c =
     let few : c.unwrap-frames.result ≤ 1024 = omega (
@@ -48,7 +59,7 @@ unwrap-given-requires c =
       length-take c.args.size c.args.bytes.now,
       c.requires.held_lt_size,
     ) in
-    let ears_long : length c.process-played.new.ears ≡ 2048 = omega (arith, c.process-played.auto.ears) in
+    let ears_long : length c.process.new.ears ≡ 2048 = omega (arith, c.process.auto.ears) in
     let out_long : length c.args.out.now ≡ 8192 = omega arith in
     ears_ok _ _ _ _ _ few ears_long out_long c.bytes_from_ears.ensures
 
@@ -64,23 +75,9 @@ returns c =
     ∙ c.bytes_from_ears.ensures in
     record {
       further =
-          subst (λ (d : Desk). Further (setup_of a.shape a.weights.now a.row_of.now a.taps.now) a.progress a.rings.now
-          a.bytes.now (drop a.progress.held (take a.size a.bytes.now))
-          (record {
-            progress = record {
-              desk = d;
-              held = a.size - c.unwrap-frames.result * 24;
-              frames = c.count_on.result;
-              unsettled = c.count_on-2.result;
-            };
-            bytes = c.unwrap-given.result;
-          }) c.process-played.new.rings c.keep_rest.new.bytes c.bytes_from_ears.new.out)
-          (ap (λ (b : BlockAnswer). b.desk) (sym c.unwrap_or-played.ensures))
-          (turn_further _ _ _ _ c.requires.blocks_accepted _ _ _ _ _ _ _ c.requires.held_lt_size inputs_long ears_long
-          out_long _ _ took _ c.process-played.ensures c.process-played.auto.ears _ _ gave _ c.keep_rest.ensures _ _
-          c.count_on.ensures
-          (c.count_on-2.ensures
-          ∙ ap (λ (b : BlockAnswer). counted_on a.progress.unsettled b.unsettled) c.unwrap_or-played.ensures));
+          turn_further _ _ _ _ c.requires.blocks_accepted _ _ _ _ _ _ _ c.requires.held_lt_size inputs_long ears_long
+          out_long _ _ took _ (block_promised c.unwrap-played.ensures c.process.ensures) c.process.auto.ears _ _ gave _
+          c.keep_rest.ensures _ _ c.count_on.ensures c.count_on-2.ensures;
       room =
           counts _ _
           (omega (

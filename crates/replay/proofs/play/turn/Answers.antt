@@ -1,7 +1,7 @@
 -- `replay::play::turn` meets its contract: `Turning`. Assumes nothing.
 use Rattle.lists.specs.Prelude.{arith}
+use Rattle.hrtf.proofs.Meets.{block_promised}
 use Rattle.replay.specs.Computed.{recording_of}
-use Rattle.replay.proofs.Convolver.{block_promised}
 use Rattle.replay.proofs.Turning.{turn_room, turn_ok, turn_few, turn_made}
 use Rattle.replay.proofs.play.turn.Goals as goal
 
