@@ -25,7 +25,18 @@ fn onward(at: usize, step: usize, size: usize) -> usize
 fn place(size: usize, stride: usize, plane: usize, frame: usize) -> usize
     ensures { result ≡ min (plane * stride + frame) size }
 {
-    onward(plane.saturating_mul(stride).min(size), frame, size)
+    // Kept: with a product that saturates in place of the quotient, silence takes half as long again, or more: the
+    // quotient is the same for all planes of a frame, and is formed once for them.
+    if size <= frame {
+        return size;
+    }
+    if stride == 0 {
+        return frame;
+    }
+    if (size - 1 - frame) / stride < plane {
+        return size;
+    }
+    plane * stride + frame
 }
 
 // What stands at a place, widened.
