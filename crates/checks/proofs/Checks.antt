@@ -1,8 +1,9 @@
 -- Laws of `||` over a list of tests, the invariant of a loop that stops at the first test that holds (`Passing`),
 -- and laws of lists of finite floats. Assumes nothing.
-use Rattle.std.specs.Prelude.{◌≡◌, ◌||◌, ◌∷◌, ◌+◌, ◌-◌, ◌*◌, ◌≤◌, ◌<◌}
+use Rattle.std.specs.Prelude.{◌≡◌, ◌||◌, ◌∷◌, ◌+◌, ◌-◌, ◌*◌, ◌≤◌, ◌<◌, slice_index_or}
 use Rattle.lists.specs.Prelude.{refl, sym, ap, ◌∙◌, subst, Bool, true, false, not, List, [], ℕ, zero, suc, zero-le}
-use Rattle.lists.specs.Prelude.{not-suc-le-zero, zero-add, add-zero, add-suc, suc-add, arith, length, get_or, take, map}
+use Rattle.lists.specs.Prelude.{not-suc-le-zero, add-one, zero-add, add-zero, add-suc}
+use Rattle.lists.specs.Prelude.{suc-add, arith, length, get_or, take, map}
 use Rattle.lists.specs.Prelude.{drop, eqb, ltb, eq-eqb, le-ltb, eqb-true, not-false, ltb-false, Float, nan}
 use lib.Ieee.Scale.{finite}
 pub use Rattle.refusals.proofs.Counts.{not_outside, count_inside}
@@ -92,6 +93,39 @@ pub nonfinite_any : {A : Type 0} (number : A → Float) (xs : List A)
     → list_any (λ x. not (finite (number x))) xs ≡ has_nonfinite (map number xs)
 nonfinite_any number [] = refl
 nonfinite_any number (x ∷ xs) = ap (λ (b : Bool). not (finite (number x)) || b) (nonfinite_any number xs)
+
+-- the same of what is left of a list at a place, before its element is looked at and after
+module _ {A : Type 0} (number : A → Float) where
+  abbrev pub left_nonfinite : List A → ℕ → Bool
+  left_nonfinite xs i = has_nonfinite (map number (drop i xs))
+
+  left_more : (xs : List A) (i : ℕ) (x : A) → i < length xs → x ≡ slice_index_or xs i x
+      → left_nonfinite xs i ≡ (not (finite (number x)) || left_nonfinite xs (suc i))
+  left_more [] i x h e = absurd (not-suc-le-zero h)
+  left_more (y ∷ xs) zero x h e = ap (λ (z : A). not (finite (number z)) || has_nonfinite (map number xs)) (sym e)
+  left_more (y ∷ xs) (suc i) x h e = left_more xs i x (omega arith) e
+
+  pub left_found : (xs : List A) (i : ℕ) (x : A) → left_nonfinite xs i ≡ has_nonfinite (map number xs)
+      → i < length xs → x ≡ slice_index_or xs i x → finite (number x) ≡ false → true ≡ has_nonfinite (map number xs)
+  left_found xs i x same h e bad =
+      or_yes (not (finite (number x))) (left_nonfinite xs (suc i)) (ap not bad) ∙ sym (left_more xs i x h e) ∙ same
+
+  pub left_passed : (xs : List A) (i : ℕ) (x : A) → left_nonfinite xs i ≡ has_nonfinite (map number xs)
+      → i < length xs → x ≡ slice_index_or xs i x → finite (number x) ≡ true
+      → left_nonfinite xs (i + 1) ≡ has_nonfinite (map number xs)
+  left_passed xs i x same h e good =
+      ap (left_nonfinite xs) (add-one i)
+      ∙ sym (ap (λ (b : Bool). not b || left_nonfinite xs (suc i)) good) ∙ sym (left_more xs i x h e) ∙ same
+
+  none_left : (xs : List A) (i : ℕ) → length xs ≤ i → left_nonfinite xs i ≡ false
+  none_left [] zero h = refl
+  none_left [] (suc i) h = refl
+  none_left (y ∷ xs) zero h = absurd (not-suc-le-zero h)
+  none_left (y ∷ xs) (suc i) h = none_left xs i (omega arith)
+
+  pub left_all : (xs : List A) (i : ℕ) → left_nonfinite xs i ≡ has_nonfinite (map number xs) → length xs ≤ i
+      → false ≡ has_nonfinite (map number xs)
+  left_all xs i same h = sym (none_left xs i h) ∙ same
 
 -- what is a number itself
 pub nonfinite_of : (xs : List Float) → has_nonfinite (map (λ (x : Float). x) xs) ≡ has_nonfinite xs

@@ -1,15 +1,19 @@
--- `checks::has_nonfinite` meets its contract: `any` finds a number that is not finite. Assumes nothing.
-use Rattle.lists.specs.Prelude.{◌∙◌, not, rules}
-use Rattle.std.proofs.lemmas.Iterator.{YieldsList-from_slice}
-use Rattle.std.proofs.lemmas.Iterator.Search.{any_from_yields_List}
+-- `checks::has_nonfinite` meets its contract: none of the elements that the loop has passed is NaN or infinite. Assumes
+-- nothing.
+use Rattle.lists.specs.Prelude.{sym, ap, ◌∙◌}
 use lib.Ieee.Scale.{finite}
-use Rattle.checks.proofs.Checks.{nonfinite_any}
+use Rattle.checks.proofs.Checks.{left_found, left_passed, left_all}
 use Rattle.checks.proofs.has_nonfinite.Goals as goal
 
+pub returns-then-not-is_finite : goal.returns-then-not-is_finite
+returns-then-not-is_finite g c =
+    left_found g.T.Sample.number _ _ _ c.loop-x.invariant c.loop-x-test.true c.x-item.is
+    (ap finite (sym c.widened.ensures) ∙ sym c.is_finite.ensures ∙ c.if-not-is_finite.true)
+
+pub loop-x-preserved : goal.loop-x-preserved
+loop-x-preserved g c =
+    left_passed g.T.Sample.number _ _ _ c.loop-x.invariant c.loop-x-test.true c.x-item.is
+    (ap finite (sym c.widened.ensures) ∙ sym c.is_finite.ensures ∙ c.if-not-is_finite.false)
+
 pub returns : goal.returns
-returns g c =
-    let number = g.T.Sample.number in
-    any_from_yields_List (λ x. not (finite (number x))) _ _ c.any.result c.any.ensures.ran
-    (YieldsList-from_slice c.args.list.now cc)
-    (λ x b q k. search rules)
-    ∙ nonfinite_any number c.args.list.now
+returns g c = left_all g.T.Sample.number _ _ c.loop-x.invariant c.loop-x-test.false
