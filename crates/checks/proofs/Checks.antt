@@ -1,5 +1,5 @@
--- Laws of `||` over a list of tests, the invariant of a loop that stops at the first test that holds (`Passing`),
--- and laws of lists of finite floats. Assumes nothing.
+-- Laws of `||` over a list of tests, with a record for a loop that stops at the first test that holds (`Passing`, which
+-- no loop has now), and laws of lists of finite floats, whole and as a loop leaves them. Assumes nothing.
 use Rattle.std.specs.Prelude.{◌≡◌, ◌||◌, ◌∷◌, ◌+◌, ◌-◌, ◌*◌, ◌≤◌, ◌<◌, slice_index_or}
 use Rattle.lists.specs.Prelude.{refl, sym, ap, ◌∙◌, subst, Bool, true, false, not, List, [], ℕ, zero, suc, zero-le}
 use Rattle.lists.specs.Prelude.{not-suc-le-zero, add-one, zero-add, add-zero, add-suc}
