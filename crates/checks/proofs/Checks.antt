@@ -1,14 +1,15 @@
--- Laws of `||` over a list of tests, with a record for a loop that stops at the first test that holds (`Passing`, which
--- no loop has now), and laws of lists of finite floats, whole and as a loop leaves them. Assumes nothing.
+-- Laws of `||` over a list of tests, the invariant of a loop that stops at the first test that holds (`Passing`),
+-- and laws of lists of finite floats. Assumes nothing.
 use Rattle.std.specs.Prelude.{◌≡◌, ◌||◌, ◌∷◌, ◌+◌, ◌-◌, ◌*◌, ◌≤◌, ◌<◌, slice_index_or}
 use Rattle.lists.specs.Prelude.{refl, sym, ap, ◌∙◌, subst, Bool, true, false, not, List, [], ℕ, zero, suc, zero-le}
-use Rattle.lists.specs.Prelude.{not-suc-le-zero, add-one, zero-add, add-zero, add-suc}
-use Rattle.lists.specs.Prelude.{suc-add, arith, length, get_or, take, map}
+use Rattle.lists.specs.Prelude.{not-suc-le-zero, zero-add, add-zero, add-suc, suc-add, arith, length, get_or, take, map}
+use Rattle.lists.specs.Prelude.{length-map}
 use Rattle.lists.specs.Prelude.{drop, eqb, ltb, eq-eqb, le-ltb, eqb-true, not-false, ltb-false, Float, nan}
 use lib.Ieee.Scale.{finite}
 pub use Rattle.refusals.proofs.Counts.{not_outside, count_inside}
 pub use Rattle.refusals.proofs.First.{or_off}
 use Rattle.std.specs.List.{list_any}
+use Rattle.std.proofs.lemmas.List.{get_or-map}
 use Rattle.lists.specs.Tables.{tab, any}
 use Rattle.checks.specs.Finite.{has_nonfinite}
 use Rattle.checks.specs.Lengths.{unfit}
@@ -94,50 +95,35 @@ pub nonfinite_any : {A : Type 0} (number : A → Float) (xs : List A)
 nonfinite_any number [] = refl
 nonfinite_any number (x ∷ xs) = ap (λ (b : Bool). not (finite (number x)) || b) (nonfinite_any number xs)
 
--- the same of what is left of a list at a place, before its element is looked at and after
-module _ {A : Type 0} (number : A → Float) where
-  abbrev pub left_nonfinite : List A → ℕ → Bool
-  left_nonfinite xs i = has_nonfinite (map number (drop i xs))
-
-  left_more : (xs : List A) (i : ℕ) (x : A) → i < length xs → x ≡ slice_index_or xs i x
-      → left_nonfinite xs i ≡ (not (finite (number x)) || left_nonfinite xs (suc i))
-  left_more [] i x h e = absurd (not-suc-le-zero h)
-  left_more (y ∷ xs) zero x h e = ap (λ (z : A). not (finite (number z)) || has_nonfinite (map number xs)) (sym e)
-  left_more (y ∷ xs) (suc i) x h e = left_more xs i x (omega arith) e
-
-  pub left_found : (xs : List A) (i : ℕ) (x : A) → left_nonfinite xs i ≡ has_nonfinite (map number xs)
-      → i < length xs → x ≡ slice_index_or xs i x → finite (number x) ≡ false → true ≡ has_nonfinite (map number xs)
-  left_found xs i x same h e bad =
-      or_yes (not (finite (number x))) (left_nonfinite xs (suc i)) (ap not bad) ∙ sym (left_more xs i x h e) ∙ same
-
-  pub left_passed : (xs : List A) (i : ℕ) (x : A) → left_nonfinite xs i ≡ has_nonfinite (map number xs)
-      → i < length xs → x ≡ slice_index_or xs i x → finite (number x) ≡ true
-      → left_nonfinite xs (i + 1) ≡ has_nonfinite (map number xs)
-  left_passed xs i x same h e good =
-      ap (left_nonfinite xs) (add-one i)
-      ∙ sym (ap (λ (b : Bool). not b || left_nonfinite xs (suc i)) good) ∙ sym (left_more xs i x h e) ∙ same
-
-  none_left : (xs : List A) (i : ℕ) → length xs ≤ i → left_nonfinite xs i ≡ false
-  none_left [] zero h = refl
-  none_left [] (suc i) h = refl
-  none_left (y ∷ xs) zero h = absurd (not-suc-le-zero h)
-  none_left (y ∷ xs) (suc i) h = none_left xs i (omega arith)
-
-  pub left_all : (xs : List A) (i : ℕ) → left_nonfinite xs i ≡ has_nonfinite (map number xs) → length xs ≤ i
-      → false ≡ has_nonfinite (map number xs)
-  left_all xs i same h = sym (none_left xs i h) ∙ same
-
 -- what is a number itself
 pub nonfinite_of : (xs : List Float) → has_nonfinite (map (λ (x : Float). x) xs) ≡ has_nonfinite xs
 nonfinite_of [] = refl
 nonfinite_of (x ∷ xs) = ap (λ (b : Bool). not (finite x) || b) (nonfinite_of xs)
 
-abbrev is_nonfinite_at : (ℕ → Float) → ℕ → Bool
+abbrev pub is_nonfinite_at : (ℕ → Float) → ℕ → Bool
 is_nonfinite_at f k = not (finite (f k))
 
 nonfinite_tab : (i n : ℕ) (f : ℕ → Float) → any (tab i n (is_nonfinite_at f)) ≡ has_nonfinite (tab i n f)
 nonfinite_tab i zero f = refl
 nonfinite_tab i (suc n) f = ap (λ (b : Bool). is_nonfinite_at f i || b) (nonfinite_tab (suc i) n f)
+
+-- the loop that stops at the first of them: x is the one looked at, and b whether it was found finite
+module _ (f : ℕ → Float) (n : ℕ) where
+  looked_at : (s : ℕ) (x : Float) (b t : Bool) → x ≡ f s → b ≡ finite x → not b ≡ t → is_nonfinite_at f s ≡ t
+  looked_at s x b t ex eb e = ap (λ (v : Float). not (finite v)) (sym ex) ∙ ap not (sym eb) ∙ e
+
+  pub finite_more : (s : ℕ) (x : Float) (b : Bool) → Passing (is_nonfinite_at f) n s → s < n → x ≡ f s → b ≡ finite x
+      → not b ≡ false → Passing (is_nonfinite_at f) n (s + 1)
+  finite_more s x b p h ex eb e = passing_more (is_nonfinite_at f) n s p h (looked_at s x b false ex eb e)
+
+  pub nonfinite_found : (s : ℕ) (x : Float) (b : Bool) → Passing (is_nonfinite_at f) n s → s < n → x ≡ f s → b
+      ≡ finite x
+      → not b ≡ true → true ≡ has_nonfinite (tab 0 n f)
+  nonfinite_found s x b p h ex eb e =
+      passing_found (is_nonfinite_at f) n s p h (looked_at s x b true ex eb e) ∙ nonfinite_tab 0 n f
+
+  pub finite_all : (s : ℕ) → Passing (is_nonfinite_at f) n s → n ≤ s → false ≡ has_nonfinite (tab 0 n f)
+  finite_all s p h = passing_all (is_nonfinite_at f) n s p h ∙ nonfinite_tab 0 n f
 
 -- the floats of a list
 abbrev pub element_at : List Float → ℕ → Float
@@ -145,6 +131,16 @@ element_at xs k = get_or xs k nan
 
 pub nonfinite_list : (xs : List Float) → has_nonfinite (tab 0 (length xs) (element_at xs)) ≡ has_nonfinite xs
 nonfinite_list xs = ap has_nonfinite (tab_get_or xs nan)
+
+-- the numbers of a list, each of which is what a function makes of the element that a loop is at
+module _ {A : Type 0} (number : A → Float) (xs : List A) where
+  pub number_at : (i : ℕ) (x : A) → i < length xs → x ≡ slice_index_or xs i x → number x ≡ element_at (map number xs) i
+  number_at i x h e = ap number e ∙ sym (get_or-map number xs i x nan h)
+
+  pub nonfinite_numbers : has_nonfinite (tab 0 (length xs) (element_at (map number xs))) ≡ has_nonfinite (map number xs)
+  nonfinite_numbers =
+      ap (λ (n : ℕ). has_nonfinite (tab 0 n (element_at (map number xs)))) (sym (length-map xs number))
+      ∙ nonfinite_list (map number xs)
 
 -- a place of a sound list is finite, and a list of finite places is sound
 
